@@ -1,0 +1,9 @@
+pub mod Blocks
+pub mod Parts
+pub mod Transforms
+pub mod Chroma
+pub mod Modes
+pub mod References
+pub mod Filters
+pub mod Vectors
+pub mod BlockOrder

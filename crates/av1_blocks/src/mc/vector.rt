@@ -1,0 +1,145 @@
+//! The arithmetic of motion vectors, component by component.
+#![tactic(auto)]
+
+ghost use Rattle.std.specs.Prelude.{◌≡◌, ◌<◌, ◌≤◌, ◌^◌, ◌↔◌, pos, IsTrue};
+ghost use Rattle.av1_blocks.specs.Vectors.{
+  FitsVector,
+  added,
+  scaled,
+  shifted_right,
+  to_fullpel,
+  IsFullpel,
+  IsNoLonger,
+  IsValidComponent,
+  IsValid,
+};
+
+use crate::context::{MV_LOW, MV_UPP};
+use crate::mc::MotionVector;
+use std::ops::{Add, Mul, Shl, Shr};
+
+impl MotionVector {
+    /// The vector cut to whole samples, toward zero.
+    #[inline]
+    pub fn quantize_to_fullpel(self) -> Self
+        ensures value { result ≡ to_fullpel self }
+        ensures whole { IsFullpel result }
+        ensures nearer { IsNoLonger result self }
+        ensures once { to_fullpel result ≡ result }
+    {
+        MotionVector {
+            row: self.row / 8 * 8,
+            col: self.col / 8 * 8,
+        }
+    }
+
+    /// Nothing moves.
+    #[inline]
+    pub fn is_zero(self) -> bool
+        ensures { IsTrue result ↔ ((self.row ≡ pos 0) × (self.col ≡ pos 0)) }
+    {
+        self.row == 0 && self.col == 0
+    }
+
+    /// Both components lie strictly between -16384 and 16384, as those of every vector in a
+    /// bitstream do.
+    #[inline]
+    pub fn is_valid(self) -> bool
+        ensures { IsTrue result ↔ IsValid self }
+    {
+        is_valid_component(self.row) && is_valid_component(self.col)
+    }
+}
+
+/// Strictly between the bounds of a component.
+#[inline]
+fn is_valid_component(component: i16) -> bool
+    ensures { IsTrue result ↔ IsValidComponent component }
+{
+    MV_LOW < component as i32 && (component as i32) < MV_UPP
+}
+
+/// Both components are multiplied; the products have to fit 16 bits.
+impl Mul<i16> for MotionVector {
+    type Output = MotionVector;
+
+    ghost can_mul = { λ v factor. FitsVector (scaled v factor) };
+
+    ghost mul_gives = { λ v factor product. product ≡ scaled v factor };
+
+    #[inline]
+    fn mul(self, rhs: i16) -> MotionVector {
+        MotionVector {
+            row: self.row * rhs,
+            col: self.col * rhs,
+        }
+    }
+}
+
+/// Both components are multiplied; the factor and the products have to fit 16 bits with a sign.
+impl Mul<u16> for MotionVector {
+    type Output = MotionVector;
+
+    ghost can_mul = { λ v factor. (factor ≤ 32767) × FitsVector (scaled v (pos factor)) };
+
+    ghost mul_gives = { λ v factor product. product ≡ scaled v (pos factor) };
+
+    #[inline]
+    fn mul(self, rhs: u16) -> MotionVector {
+        MotionVector {
+            row: self.row * rhs as i16,
+            col: self.col * rhs as i16,
+        }
+    }
+}
+
+/// Both components are shifted to the right by less than 16 bits, and rounded down.
+impl Shr<u8> for MotionVector {
+    type Output = MotionVector;
+
+    ghost can_shr = { λ _ amount. amount < 16 };
+
+    ghost shr_gives = { λ v amount shifted. shifted ≡ shifted_right v amount };
+
+    #[inline]
+    fn shr(self, rhs: u8) -> MotionVector {
+        MotionVector {
+            row: self.row >> rhs,
+            col: self.col >> rhs,
+        }
+    }
+}
+
+/// Both components are shifted to the left by less than 16 bits; the results have to fit 16 bits.
+impl Shl<u8> for MotionVector {
+    type Output = MotionVector;
+
+    ghost can_shl = { λ v amount. (amount < 16) × FitsVector (scaled v (pos (2 ^ amount))) };
+
+    ghost shl_gives = { λ v amount shifted. shifted ≡ scaled v (pos (2 ^ amount)) };
+
+    #[inline]
+    fn shl(self, rhs: u8) -> MotionVector {
+        MotionVector {
+            row: self.row << rhs,
+            col: self.col << rhs,
+        }
+    }
+}
+
+/// The vectors are added; the sums have to fit 16 bits.
+impl Add<MotionVector> for MotionVector {
+    type Output = MotionVector;
+
+    ghost can_add = { λ v w. FitsVector (added v w) };
+
+    ghost add_gives = { λ v w sum. sum ≡ added v w };
+
+    #[inline]
+    fn add(self, rhs: MotionVector) -> MotionVector {
+        MotionVector {
+            row: self.row + rhs.row,
+            col: self.col + rhs.col,
+        }
+    }
+}

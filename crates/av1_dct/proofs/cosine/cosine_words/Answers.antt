@@ -1,0 +1,13 @@
+use Rattle.std.proofs.Common.{arith, sym, subst, List, ℤ, ap, ◌*◌}
+use Rattle.std.proofs.lemmas.List.{length-take-le}
+use Rattle.av1_dct.specs.Arithmetic.{AllFit}
+use Rattle.av1_dct.proofs.Places.{places-fit, cosine_words}
+use Rattle.av1_dct.proofs.Fits.{all-fit}
+use Rattle.av1_dct.proofs.cosine.cosine_words.Goals as goal
+
+pub run_network-requires-clause-fit : goal.run_network-requires-clause-fit
+run_network-requires-clause-fit g c = λ i h. let P : List ℤ → Type 0 = λ zs. AllFit 20 zs in subst P (sym (c.reorder.ensures i h)) (places-fit c.args.k _ (all-fit c.args.range 20 _ c.requires.range_in.1 (c.requires.fit i h)))
+
+pub returns-clause-value : goal.returns-clause-value
+returns-clause-value g c = λ i h.
+    cosine_words g.W.Word.lane_of i c.args.range c.args.k (2 * c.power-n.result) c.args.input.now c.args.output.now c.reorder.new.output c.run_network.new.w (ap (λ n. 2 * n) c.power-n.ensures.value) (omega arith) (omega (arith, c.run_network.auto.w, c.reorder.auto.output, length-take-le (2 * c.power-n.result) c.args.output.now (omega arith))) (c.reorder.ensures i h) (c.run_network.ensures.value i h)

@@ -1,0 +1,5 @@
+pub mod Arithmetic
+pub mod Operations
+pub mod Cosine
+pub mod InPlace
+pub mod Word

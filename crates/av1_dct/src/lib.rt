@@ -1,0 +1,29 @@
+//! Inverse cosine transforms of 4, 8, 16, 32 and 64 values: the inverse DCT process of the AV1 specification, with the weights, the
+//! rounding and the wrapped sums of rav1e.
+//!
+//! The crate stands on nothing but the standard library. It promises to the two-dimensional transforms above it:
+//!
+//! - `av1_idct4` to `av1_idct64` give `cosine` of `specs/Cosine.antt` for their length, and leave the rest of `output` as it was.
+//!   `cosine_words` is the one function behind them, for every length and every `Word`: an `i32`, or eight of them side by side.
+//! - `half_btf` and `clamp_value`, the arithmetic of every network, are those of `specs/Operations.antt` and `specs/Arithmetic.antt`.
+//! - Three laws, each on a function with an empty body: a transform adds and subtracts its two halves, zeros give zeros, and at 18
+//!   bits nothing wraps.
+//!
+//! A transform works in place on `output`, in the order of reversed places, and needs no memory of its own.
+#![tactic(auto)]
+
+mod arithmetic;
+mod cosine;
+mod inverse;
+mod laws;
+mod steps;
+#[cfg(test)]
+mod tests;
+mod weights;
+mod word;
+
+pub use arithmetic::{clamp_value, half_btf};
+pub use cosine::cosine_words;
+pub use inverse::{av1_idct4, av1_idct8, av1_idct16, av1_idct32, av1_idct64};
+pub use laws::{cosine_adds_halves, cosine_never_wraps, cosine_of_zeros};
+pub use word::Word;

@@ -1,0 +1,9 @@
+pub mod Fits
+pub mod Update
+pub mod Paint
+pub mod Regions
+pub mod Planes
+pub mod Arithmetic
+pub mod Gather
+pub mod Padding
+pub mod Slices

@@ -1,0 +1,114 @@
+-- The steps of a loop that paints a rectangle row by row, and of one that paints a row sample by sample.
+use Rattle.std.proofs.Common.{ℕ, ◌+◌, ◌-◌, ◌*◌, ◌/◌, ◌%◌, ◌<◌, ◌≤◌, ◌≡◌, List, length, get_or, set, refl, ap, arith, ◌∙◌, sym, cond, ◌⊎◌, leb, ltb, inl, inr}
+use Rattle.std.proofs.lemmas.List.{places, get_or-set_same, get_or-set_other, length-set, get_or_default}
+use Rattle.std.proofs.lemmas.Bool.Decides.{nat_tests}
+use Rattle.std.proofs.lemmas.Bool.{cases_eq, cases_lt, cases_order}
+use Rattle.std.proofs.lemmas.Nat.{div-mul-add, mod-mul-add}
+use Rattle.av1_frame.specs.declared.plane_region.StoredArea.{StoredArea}
+use Rattle.av1_frame.specs.Samples.{with_part, part, paint, paint_row, painted_at, corner}
+use Rattle.av1_frame.proofs.Fits.{row_end_le}
+use Rattle.av1_frame.proofs.Update.{update_is, length-update, get_or-update}
+
+-- no sample of a row is painted yet
+pub paint_row_none : {X : Type 0} (g : ℕ → X → X) (s : List X) → s ≡ paint_row 0 g s
+unfolding paint_row
+paint_row_none g s = update_is _ s s refl (λ k d l. grind (arith, nat_tests))
+
+-- one more sample of a row
+pub paint_row_more : {X : Type 0} (c : ℕ) (g : ℕ → X → X) (s : List X) (v : X) → c < length s → v ≡ g c (get_or s c v) → set (paint_row c g s) c v ≡ paint_row (c + 1) g s
+unfolding paint_row
+paint_row_more c g s v h e =
+    update_is _ s (set (paint_row c g s) c v) (grind (arith, length-set, length-update)) (λ k d l. grind (arith, nat_tests, get_or-set_same, get_or-set_other, get_or-update, length-update, get_or_default, cases_eq k c))
+
+-- the same, where the sample x was read from the row t before
+pub paint_row_step : {X : Type 0} (c : ℕ) (g : ℕ → X → X) (s t : List X) (x v : X) → t ≡ paint_row c g s → c < length s → x ≡ get_or t c x → v ≡ g c x → set t c v ≡ paint_row (c + 1) g s
+unfolding paint_row
+paint_row_step c g s t x v a h e r =
+    let y : x ≡ get_or s c x = e ∙ ap (λ u. get_or u c x) a ∙ (get_or-update _ s c x h ∙ grind (arith, nat_tests)) in
+    ap (λ u. set u c v) a ∙ paint_row_more c g s v h (r ∙ ap (g c) (y ∙ get_or_default s c x v h))
+
+-- a painted rectangle leaves the number of samples
+pub length_paint : {X : Type 0} (stride : ℕ) (a : StoredArea) (f : ℕ → ℕ → X → X) (s : List X) → length (paint stride a f s) ≡ length s
+unfolding paint
+length_paint stride a f s = length-update _ s
+
+-- a part that is written back leaves it too
+pub length_with_part : {X : Type 0} (i : ℕ) (s ws : List X) → length (with_part i s ws) ≡ length s
+length_with_part i s ws = length-update _ s
+
+-- no row of a rectangle is painted yet
+pub paint_none : {X : Type 0} (stride : ℕ) (a : StoredArea) (w : ℕ) (f : ℕ → ℕ → X → X) (s : List X) → s ≡ paint stride (corner a w 0) f s
+unfolding paint
+paint_none stride a w f s = update_is _ s s refl (λ k d l. grind (arith, nat_tests))
+
+-- the sample of a row that is painted, past its start at i
+row_elem : {X : Type 0} (i n w k : ℕ) (g : ℕ → X → X) (s : List X) (d : X) → i ≤ k → k < length s → w ≤ n → i + n ≤ length s → get_or (paint_row w g (part i n s)) (k - i) (get_or s k d) ≡ cond (ltb (k - i) w) (g (k - i) (get_or s k d)) (get_or s k d)
+unfolding paint_row
+row_elem i n w k g s d h l q e = grind (arith, nat_tests, places, get_or-update, length-update)
+
+-- each sample after such a row is written back
+with_row : {X : Type 0} (i n w k : ℕ) (g : ℕ → X → X) (s : List X) (d : X) → w ≤ n → i + n ≤ length s → k < length s → get_or (with_part i s (paint_row w g (part i n s))) k d ≡ cond (leb i k) (cond (ltb (k - i) w) (g (k - i) (get_or s k d)) (get_or s k d)) (get_or s k d)
+unfolding paint_row
+with_row i n w k g s d q e l =
+    get_or-update _ s k d l ∙ elim (cases_lt k i) [
+      | inl b ↦ grind (arith, nat_tests)
+      | inr b ↦ (let r = row_elem i n w k g s d b l q e in grind (arith, nat_tests))
+    ]
+
+-- the sample at row q and column p, when row r is painted
+row_painted : {X : Type 0} (stride : ℕ) (a : StoredArea) (w r k p q : ℕ) (f : ℕ → ℕ → X → X) (u v : X) → a.x + w ≤ stride → p < stride → k ≡ q * stride + p → u ≡ painted_at (corner a w r) f p q v → cond (leb ((a.y + r) * stride + a.x) k) (cond (ltb (k - ((a.y + r) * stride + a.x)) w) (f r (k - ((a.y + r) * stride + a.x)) u) u) u ≡ painted_at (corner a w (r + 1)) f p q v
+row_painted stride a w r k p q f u v h l e t =
+    elim (cases_order q (a.y + r)) [
+      | inl b ↦ (let m : q * stride ≡ (a.y + r) * stride = ap (λ n. n * stride) b in grind (arith, nat_tests))
+      | inr (inl b) ↦ (let m = row_end_le q (a.y + r) stride stride _ refl b (omega arith) in grind (arith, nat_tests))
+      | inr (inr b) ↦ (let m = row_end_le (a.y + r) q stride stride _ refl b (omega arith) in grind (arith, nat_tests))
+    ]
+
+-- one more row of a rectangle
+pub paint_more : {X : Type 0} (stride : ℕ) (a : StoredArea) (w r n : ℕ) (f : ℕ → ℕ → X → X) (s : List X) → 0 < stride → a.x + n ≤ stride → w ≤ n → (a.y + r) * stride + a.x + n ≤ length s → with_part ((a.y + r) * stride + a.x) (paint stride (corner a w r) f s) (paint_row w (f r) (part ((a.y + r) * stride + a.x) n (paint stride (corner a w r) f s))) ≡ paint stride (corner a w (r + 1)) f s
+unfolding paint paint_row
+paint_more stride a w r n f s z p q h =
+    update_is _ s _ (grind (arith, length-update)) (λ k d l. let e : k ≡ k / stride * stride + k % stride = omega arith in
+    with_row _ n w k (f r) (paint stride (corner a w r) f s) d q (omega (arith, length-update)) (omega (arith, length-update)) ∙ row_painted stride a w r k (k % stride) (k / stride) f _ _ (omega arith) (omega arith) e (get_or-update _ s k d l))
+
+-- the sample at column p of row q of a painted rectangle, and of all else
+pub paint_at : {X : Type 0} (stride : ℕ) (a : StoredArea) (f : ℕ → ℕ → X → X) (s : List X) (p q : ℕ) (d : X) → p < stride → q * stride + p < length s → get_or (paint stride a f s) (q * stride + p) d ≡ painted_at a f p q (get_or s (q * stride + p) d)
+unfolding paint
+paint_at stride a f s p q d h l =
+    get_or-update _ s (q * stride + p) d l ∙ rw (div-mul-add q stride p h, mod-mul-add q stride p h) refl
+
+pub paint_inside : {X : Type 0} (stride : ℕ) (a : StoredArea) (f : ℕ → ℕ → X → X) (s : List X) (r c : ℕ) (d : X) → r < a.height → c < a.width → a.x + a.width ≤ stride → (a.y + r) * stride + (a.x + c) < length s → get_or (paint stride a f s) ((a.y + r) * stride + (a.x + c)) d ≡ f r c (get_or s ((a.y + r) * stride + (a.x + c)) d)
+paint_inside stride a f s r c d h e w l =
+    let t = paint_at stride a f s (a.x + c) (a.y + r) d (omega arith) l in grind (arith, nat_tests)
+
+same_at : {X : Type 0} (a : StoredArea) (p q : ℕ) (f g : ℕ → ℕ → X → X) (v : X) → ((r c : ℕ) (v : X) → r < a.height → c < a.width → f r c v ≡ g r c v) → painted_at a f p q v ≡ painted_at a g p q v
+same_at a p q f g v e =
+    elim (cases_lt p a.x) [
+      | inl b ↦ grind (arith, nat_tests)
+      | inr b ↦ elim (cases_lt p (a.x + a.width)) [
+        | inr c ↦ grind (arith, nat_tests)
+        | inl c ↦ elim (cases_lt q a.y) [
+          | inl d ↦ grind (arith, nat_tests)
+          | inr d ↦ elim (cases_lt q (a.y + a.height)) [
+            | inr h ↦ grind (arith, nat_tests)
+            | inl h ↦ (let t = e (q - a.y) (p - a.x) v (omega arith) (omega arith) in grind (arith, nat_tests))
+          ]
+        ]
+      ]
+    ]
+
+-- two changes that agree in the rectangle paint the same
+pub paint_same : {X : Type 0} (stride : ℕ) (a : StoredArea) (f g : ℕ → ℕ → X → X) (s : List X) → ((r c : ℕ) (v : X) → r < a.height → c < a.width → f r c v ≡ g r c v) → paint stride a f s ≡ paint stride a g s
+unfolding paint
+paint_same stride a f g s e =
+    update_is _ s _ (length-update _ s) (λ k d l. get_or-update _ s k d l ∙ same_at a (k % stride) (k / stride) f g (get_or s k d) e)
+
+nothing_at : {X : Type 0} (a : StoredArea) (p q : ℕ) (f : ℕ → ℕ → X → X) (v : X) → (a.width ≡ 0) ⊎ (a.height ≡ 0) → painted_at a f p q v ≡ v
+nothing_at a p q f v (inl e) = grind (arith, nat_tests)
+nothing_at a p q f v (inr e) = grind (arith, nat_tests)
+
+-- a rectangle with no samples
+pub paint_empty : {X : Type 0} (stride : ℕ) (a : StoredArea) (f : ℕ → ℕ → X → X) (s : List X) → (a.width ≡ 0) ⊎ (a.height ≡ 0) → paint stride a f s ≡ s
+unfolding paint
+paint_empty stride a f s e =
+    sym (update_is _ s s refl (λ k d l. sym (nothing_at a (k % stride) (k / stride) f (get_or s k d) e)))

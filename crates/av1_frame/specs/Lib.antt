@@ -1,0 +1,7 @@
+pub mod Arithmetic
+pub mod Samples
+pub mod Areas
+pub mod Planes
+pub mod Regions
+pub mod Slices
+pub mod Frames

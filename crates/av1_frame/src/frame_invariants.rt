@@ -1,0 +1,77 @@
+//! What is the same for all blocks of a frame.
+
+ghost use Rattle.std.specs.Prelude.{◌≡◌, ◌/◌, ◌%◌, ◌<◌, ◌≤◌, IfOk, All, None, Some, slice_set, slice_index_or, replicate};
+ghost use Rattle.std.specs.Option.{option_map};
+ghost use Rattle.av1_frame.specs.Frames.{new_frame, slot_plane};
+
+use crate::pixel::Pixel;
+use crate::plane::Plane;
+use crate::slots::{Slot, Slots};
+use av1_blocks::{FilterMode, OutOfMemory};
+use std::alloc::Global;
+
+/// What is the same for all blocks of a frame: its size, its depth, how it is predicted, and eight slots
+/// for the planes of frames before it.
+#[derive(Drop)]
+pub struct FrameInvariants<T> {
+    /// How many cells of 4 luma samples the frame is wide.
+    pub w_in_b: usize,
+    /// How many cells of 4 luma samples the frame is high.
+    pub h_in_b: usize,
+    /// The interpolation filter.
+    pub default_filter: FilterMode,
+    /// The depth of samples.
+    pub bit_depth: usize,
+    /// Whether the edges of directional prediction are filtered.
+    pub enable_intra_edge_filter: bool,
+    /// The slot of each reference frame, from `LAST_FRAME` to `ALTREF_FRAME`.
+    pub ref_frames: [u8; 7],
+    slots: Slots<T>,
+}
+
+impl<T: Pixel> FrameInvariants<T> {
+    /// A frame of `width` by `height` luma samples, with all slots empty.
+    pub fn new(
+        alloc: Global,
+        width: usize,
+        height: usize,
+        default_filter: FilterMode,
+        bit_depth: usize,
+        enable_intra_edge_filter: bool,
+        ref_frames: [u8; 7],
+    ) -> Result<FrameInvariants<T>, OutOfMemory>
+        requires whole_columns { width % 8 ≡ 0 }
+        requires few_columns { width ≤ 65536 }
+        requires whole_rows { height % 8 ≡ 0 }
+        requires few_rows { height ≤ 65536 }
+        requires slots { All (λ slot. slot < 8) ref_frames }
+        ensures { IfOk result (λ fi. fi ≡ new_frame width height default_filter bit_depth enable_intra_edge_filter ref_frames) }
+    {
+        Ok(FrameInvariants {
+            w_in_b: width / 4,
+            h_in_b: height / 4,
+            default_filter,
+            bit_depth,
+            enable_intra_edge_filter,
+            ref_frames,
+            slots: Slots::new(alloc)?,
+        })
+    }
+
+    /// Puts the planes of a frame into slot `slot`.
+    pub fn set_slot(&mut self, slot: usize, y: Plane<T>, u: Plane<T>, v: Plane<T>)
+        requires { slot < 8 }
+        ensures { self.new ≡ record self.old { slots = slice_set self.old.slots slot (Some (record { y = y; u = u; v = v })) } }
+    {
+        self.slots.set(slot, Slot { y, u, v });
+    }
+
+    /// Plane `p` (0 for luma, 1 and 2 for chroma) of the frame in slot `slot`, where there is one.
+    pub fn slot(&self, slot: usize, p: usize) -> Option<&Plane<T>>
+        requires slot { slot < 8 }
+        requires plane { p < 3 }
+        ensures { option_map (λ plane. plane.now) result ≡ slot_plane self.now slot p }
+    {
+        self.slots.get(slot).map(|frame| frame.plane(p))
+    }
+}

@@ -1,0 +1,46 @@
+//! Samples, planes of them, and the rectangles in a plane that predictions and transforms read and write.
+//!
+//! The crate stands on the standard library and on `av1_blocks`, for the names of modes, references and filters. Its modules,
+//! names and values are those of rav1e, and of v_frame on which that stands.
+//!
+//! To the crates above it promises:
+//! - `Pixel` and `Coefficient` are numbers of a fixed width: number and value go back and forth, and samples are ordered as
+//!   their numbers are.
+//! - A row of a region or of a slice is the plane's samples.
+//! - What is written through a region stands in the plane when the borrow ends, and all other samples, the settings and the
+//!   rectangle stay. A call that writes says so in one equation, `output.new ≡ painted output.old width height f`, where
+//!   `f row column old` is the new sample (`specs/Regions.antt`). For a caller that counts from the first visible sample the
+//!   same is `painted_plane` (`specs/Planes.antt`), and `proofs/Planes.antt` reads it sample by sample.
+//! - `Plane::pad` leaves every visible sample, and after it a stored place outside is the nearest visible sample.
+//! - A slot of `FrameInvariants` holds the planes that were put there last.
+//!
+//! Nothing allocates but the constructors that take an allocator: a plane is one allocation. Regions and slices are slice
+//! arithmetic, and padding moves whole rows.
+//!
+//! Columns, rows, sides and pads are counted in samples, of the plane at hand. The visible rectangle of a plane lies in its
+//! storage, with pads round it; `xdec` and `ydec` are 1 where the plane has half of luma's columns or rows. Cells, in
+//! `BlockOffset`, are squares of 4 luma samples.
+#![tactic(auto)]
+
+mod block_unit;
+mod frame_invariants;
+mod math;
+mod pad;
+mod pixel;
+mod plane;
+mod plane_region;
+mod plane_slice;
+mod slots;
+mod storage;
+#[cfg(test)]
+mod tests;
+mod tile_state;
+
+pub use block_unit::{BlockOffset, TileBlockOffset};
+pub use frame_invariants::FrameInvariants;
+pub use math::{clamp, round_shift};
+pub use pixel::{Coefficient, Pixel, coefficient_laws, pixel_laws};
+pub use plane::{Plane, PlaneConfig, PlaneOffset};
+pub use plane_region::{Area, OuterArea, PlaneRegion, PlaneRegionMut, Rect};
+pub use plane_slice::PlaneSlice;
+pub use tile_state::{CodedBlockInfo, TileRect, TileStateMut};

@@ -1,0 +1,311 @@
+//! Rectangles of a plane, to read and to write.
+
+ghost use Rattle.std.specs.Prelude.{◌≡◌, ℕ, ◌+◌, ◌-◌, ◌*◌, ◌^◌, ◌<◌, ◌≤◌, length, pos, ◌≤ℤ◌};
+ghost use Rattle.std.specs.Borrow.{sem};
+ghost use Rattle.av1_frame.specs.Samples.{row_of};
+ghost use Rattle.av1_frame.specs.Areas.{area_from, from_origin, rect_of, LiesIn, IsPartOf};
+ghost use Rattle.av1_frame.specs.Regions.{LendsRow, LendsSub, InStorage, IsReadable, stored, with_place, with_outer, outer_area};
+
+use crate::block_unit::BlockOffset;
+use crate::pixel::Pixel;
+use crate::plane::{Plane, PlaneConfig};
+use crate::storage::part_of;
+
+/// A rectangle of a plane, in samples, counted from the first visible one.
+#[derive(Clone, Copy, Debug, PartialEq, Eq)]
+pub struct Rect {
+    /// The first column.
+    pub x: isize,
+    /// The first row.
+    pub y: isize,
+    /// How many columns.
+    pub width: usize,
+    /// How many rows.
+    pub height: usize,
+}
+
+/// Which rectangle of a plane or of a region is meant.
+#[derive(Clone, Copy, Debug, PartialEq, Eq)]
+pub enum Area {
+    /// A rectangle in samples, counted from the plane's first visible sample or from the region's first.
+    Rect {
+        /// The first column.
+        x: isize,
+        /// The first row.
+        y: isize,
+        /// How many columns.
+        width: usize,
+        /// How many rows.
+        height: usize,
+    },
+    /// All from the cell `bo` of 4 luma samples on, to the right and lower end of storage or of the region.
+    BlockStartingAt {
+        /// The cell.
+        bo: BlockOffset,
+    },
+}
+
+/// A rectangle of storage: its columns and rows count from the first stored sample.
+#[derive(Clone, Copy, Debug, PartialEq, Eq)]
+pub(crate) struct StoredArea {
+    pub(crate) x: usize,
+    pub(crate) y: usize,
+    pub(crate) width: usize,
+    pub(crate) height: usize,
+}
+
+impl StoredArea {
+    /// Storage from the first visible sample on.
+    pub(crate) fn from_origin(plane_cfg: PlaneConfig) -> StoredArea
+        requires columns { plane_cfg.xorigin ≤ plane_cfg.stride }
+        requires rows { plane_cfg.yorigin ≤ plane_cfg.alloc_height }
+        ensures { result ≡ from_origin plane_cfg }
+    {
+        StoredArea {
+            x: plane_cfg.xorigin,
+            y: plane_cfg.yorigin,
+            width: plane_cfg.stride - plane_cfg.xorigin,
+            height: plane_cfg.alloc_height - plane_cfg.yorigin,
+        }
+    }
+
+    /// The rectangle that `area` names, which counts from the first sample of this one.
+    pub(crate) fn part(self, plane_cfg: PlaneConfig, area: Area) -> StoredArea
+        requires few_columns { plane_cfg.stride < 2 ^ 63 }
+        requires few_rows { plane_cfg.alloc_height < 2 ^ 63 }
+        requires xdec { plane_cfg.xdec ≤ 1 }
+        requires ydec { plane_cfg.ydec ≤ 1 }
+        requires columns { self.x + self.width ≤ plane_cfg.stride }
+        requires rows { self.y + self.height ≤ plane_cfg.alloc_height }
+        requires area { LiesIn 0 0 plane_cfg self area }
+        ensures { result ≡ area_from plane_cfg self area }
+    {
+        match area {
+            Area::Rect {
+                x,
+                y,
+                width,
+                height,
+            } => StoredArea {
+                x: (self.x as isize + x) as usize,
+                y: (self.y as isize + y) as usize,
+                width,
+                height,
+            },
+            Area::BlockStartingAt { bo } => {
+                let x = (bo.x >> plane_cfg.xdec) * 4;
+                let y = (bo.y >> plane_cfg.ydec) * 4;
+                StoredArea {
+                    x: self.x + x,
+                    y: self.y + y,
+                    width: self.width - x,
+                    height: self.height - y,
+                }
+            }
+        }
+    }
+
+    /// The same rectangle, counted from the first visible sample.
+    pub(crate) fn rect(self, plane_cfg: PlaneConfig) -> Rect
+        requires x { self.x < 2 ^ 63 }
+        requires y { self.y < 2 ^ 63 }
+        requires xorigin { plane_cfg.xorigin < 2 ^ 63 }
+        requires yorigin { plane_cfg.yorigin < 2 ^ 63 }
+        ensures { result ≡ rect_of plane_cfg self }
+    {
+        Rect {
+            x: self.x as isize - plane_cfg.xorigin as isize,
+            y: self.y as isize - plane_cfg.yorigin as isize,
+            width: self.width,
+            height: self.height,
+        }
+    }
+}
+
+/// The rectangle that a region had before it was narrowed, for `PlaneRegionMut::restore`.
+#[derive(Clone, Copy, Debug, PartialEq, Eq)]
+pub struct OuterArea {
+    place: StoredArea,
+    rect: Rect,
+}
+
+/// A rectangle of a plane, to read.
+#[derive(Clone, Copy)]
+pub struct PlaneRegion<'a, T> {
+    pub(crate) plane: &'a Plane<T>,
+    /// The plane's settings.
+    pub plane_cfg: PlaneConfig,
+    pub(crate) place: StoredArea,
+    pub(crate) rect: Rect,
+}
+
+/// A rectangle of a plane, to read and to write: what is written stands in the plane when the borrow ends.
+#[derive(Drop)]
+pub struct PlaneRegionMut<'a, T> {
+    pub(crate) plane: &'a mut Plane<T>,
+    /// The plane's settings.
+    pub plane_cfg: PlaneConfig,
+    pub(crate) place: StoredArea,
+    pub(crate) rect: Rect,
+}
+
+impl<'a, T: Pixel> PlaneRegion<'a, T> {
+    /// The rectangle, counted from the plane's first visible sample.
+    pub fn rect(&self) -> &Rect
+        ensures { result.now ≡ self.now.rect }
+    {
+        &self.rect
+    }
+
+    /// Row `y` of the rectangle, from its first row on.
+    #[tactic(auto, using(crate::proofs::Fits::row_end_le))]
+    pub fn row(&self, y: usize) -> &[T]
+        requires in_area { y < self.now.place.height }
+        requires fits { IsReadable self.now }
+        ensures value { result.now ≡ row_of self.now.plane_cfg.stride self.now.place y self.now.plane.now.samples }
+        ensures len { length result.now ≡ self.now.place.width }
+    {
+        let start = (self.place.y + y) * self.plane_cfg.stride + self.place.x;
+        part_of(self.plane.as_slice(), start, self.place.width)
+    }
+
+    /// The rectangle `area` of this one. A `Rect` counts from the region's first sample.
+    pub fn subregion(&self, area: Area) -> PlaneRegion<'_, T>
+        requires fits { IsReadable self.now }
+        requires area { IsPartOf self.now.plane_cfg self.now.place area }
+        ensures plane { result.plane.now ≡ self.now.plane.now }
+        ensures place { result.place ≡ area_from self.now.plane_cfg self.now.place area }
+        ensures cfg { result.plane_cfg ≡ self.now.plane_cfg }
+        ensures fits { IsReadable result }
+    {
+        let plane_cfg = self.plane_cfg;
+        let place = self.place.part(plane_cfg, area);
+        PlaneRegion {
+            plane: self.plane,
+            plane_cfg,
+            place,
+            rect: place.rect(plane_cfg),
+        }
+    }
+}
+
+impl<'a, T: Pixel> PlaneRegionMut<'a, T> {
+    /// The rectangle, counted from the plane's first visible sample.
+    pub fn rect(&self) -> &Rect
+        ensures { result.now ≡ self.now.rect }
+    {
+        &self.rect
+    }
+
+    /// Row `y` of the rectangle, from its first row on.
+    #[tactic(auto, using(crate::proofs::Fits::row_end_le))]
+    pub fn row(&self, y: usize) -> &[T]
+        requires in_area { y < self.now.place.height }
+        requires fits { InStorage self.now }
+        ensures value { result.now ≡ row_of self.now.plane_cfg.stride self.now.place y (stored self.now) }
+        ensures len { length result.now ≡ self.now.place.width }
+    {
+        let start = (self.place.y + y) * self.plane_cfg.stride + self.place.x;
+        part_of(self.plane.as_slice(), start, self.place.width)
+    }
+
+    /// Row `y` of the rectangle, from its first row on, to write.
+    #[tactic(auto, using(crate::proofs::Fits::row_end_le))]
+    pub fn row_mut(&mut self, y: usize) -> &mut [T]
+        requires in_area { y < self.old.place.height }
+        requires fits { InStorage self.old }
+        ensures* writes_back { sem 𝓛 (LendsRow T.row self.entry y result) }
+        ensures value { result.now ≡ row_of self.old.plane_cfg.stride self.old.place y (stored self.old) }
+        ensures len { length result.now ≡ self.old.place.width }
+    {
+        let start = (self.place.y + y) * self.plane_cfg.stride + self.place.x;
+        let width = self.place.width;
+        self.plane.part_mut(start, width)
+    }
+
+    /// The same rectangle, to read.
+    pub fn as_const(&self) -> PlaneRegion<'_, T>
+        requires { InStorage self.now }
+        ensures plane { result.plane.now ≡ self.now.plane.now }
+        ensures place { result.place ≡ self.now.place }
+        ensures cfg { result.plane_cfg ≡ self.now.plane_cfg }
+        ensures fits { IsReadable result }
+    {
+        PlaneRegion {
+            plane: &*self.plane,
+            plane_cfg: self.plane_cfg,
+            place: self.place,
+            rect: self.rect,
+        }
+    }
+
+    /// The rectangle `area` of this one, to read. A `Rect` counts from the region's first sample.
+    pub fn subregion(&self, area: Area) -> PlaneRegion<'_, T>
+        requires fits { InStorage self.now }
+        requires area { IsPartOf self.now.plane_cfg self.now.place area }
+        ensures plane { result.plane.now ≡ self.now.plane.now }
+        ensures place { result.place ≡ area_from self.now.plane_cfg self.now.place area }
+        ensures cfg { result.plane_cfg ≡ self.now.plane_cfg }
+        ensures fits { IsReadable result }
+    {
+        let plane_cfg = self.plane_cfg;
+        let place = self.place.part(plane_cfg, area);
+        PlaneRegion {
+            plane: &*self.plane,
+            plane_cfg,
+            place,
+            rect: place.rect(plane_cfg),
+        }
+    }
+
+    /// The rectangle `area` of this one, to read and write: what is written stands in the region when the
+    /// borrow ends. A `Rect` counts from the region's first sample.
+    ///
+    /// Proofs cannot follow a region that was made here into another call that writes: `narrow` serves there.
+    pub fn subregion_mut(&mut self, area: Area) -> PlaneRegionMut<'_, T>
+        requires fits { InStorage self.old }
+        requires area { IsPartOf self.old.plane_cfg self.old.place area }
+        ensures* writes_back { sem 𝓛 (LendsSub T.row self.entry result) }
+        ensures plane { result.plane.now ≡ self.old.plane.now }
+        ensures place { result.place ≡ area_from self.old.plane_cfg self.old.place area }
+        ensures cfg { result.plane_cfg ≡ self.old.plane_cfg }
+        ensures fits { InStorage result }
+    {
+        let plane_cfg = self.plane_cfg;
+        let place = self.place.part(plane_cfg, area);
+        let rect = place.rect(plane_cfg);
+        PlaneRegionMut {
+            plane: &mut *self.plane,
+            plane_cfg,
+            place,
+            rect,
+        }
+    }
+
+    /// Makes the region the rectangle `area` of itself, and answers what it was: `restore` undoes this.
+    /// A `Rect` counts from the region's first sample.
+    pub fn narrow(&mut self, area: Area) -> OuterArea
+        requires fits { InStorage self.old }
+        requires area { IsPartOf self.old.plane_cfg self.old.place area }
+        ensures outer { result ≡ outer_area self.old }
+        ensures after { self.new ≡ with_place self.old (area_from self.old.plane_cfg self.old.place area) }
+        ensures fits { InStorage self.new }
+    {
+        let outer = OuterArea {
+            place: self.place,
+            rect: self.rect,
+        };
+        let place = self.place.part(self.plane_cfg, area);
+        self.rect = place.rect(self.plane_cfg);
+        self.place = place;
+        outer
+    }
+
+    /// Makes the region the rectangle that it was before `narrow`.
+    pub fn restore(&mut self, outer: OuterArea)
+        ensures { self.new ≡ with_outer self.old outer }
+    {
+        self.place = outer.place;
+        self.rect = outer.rect;
+    }
+}

@@ -1,0 +1,83 @@
+//! The samples of a plane, one row after another.
+
+ghost use Rattle.std.specs.Prelude.{◌≡◌, ℕ, ◌+◌, ◌<◌, ◌≤◌, ◌^◌, length, replicate, IfOk};
+ghost use Rattle.std.specs.Borrow.{sem};
+ghost use Rattle.av1_frame.specs.Samples.{part, with_part};
+ghost use Rattle.av1_frame.specs.Planes.{LendsPart};
+
+use crate::pixel::Pixel;
+use std::alloc::{AllocError, Global};
+use std::marker::Model;
+
+/// Samples in one allocation. Contracts see their list.
+#[derive(Drop)]
+pub(crate) struct Storage<T> {
+    samples: Vec<T>,
+}
+
+impl<T> Model for Storage<T> {
+    ghost use Rattle.std.specs.Prelude.{List};
+
+    ghost Value = { List T };
+
+    ghost view = { λ s. s.samples.items };
+}
+
+impl<T> Storage<T> {
+    /// All the samples.
+    pub(crate) fn as_slice(&self) -> &[T]
+        ensures { result.now ≡ self.now }
+    {
+        self.samples.as_slice()
+    }
+
+    /// The `width` samples from the place `start` on, to write.
+    pub(crate) fn part_mut(&mut self, start: usize, width: usize) -> &mut [T]
+        requires { start + width ≤ length self.old }
+        ensures* writes_back { sem 𝓛 (LendsPart T.row self.entry start result) }
+        ensures value { result.now ≡ part start width self.old }
+        ensures len { length result.now ≡ width }
+    {
+        self.samples.slice_mut(start..start + width)
+    }
+}
+
+impl<T: Pixel> Storage<T> {
+    /// Copies the `width` samples from the place `from` on to the place `to` on.
+    pub(crate) fn copy_part(&mut self, from: usize, to: usize, width: usize)
+        requires from { from + width ≤ length self.old }
+        requires to { to + width ≤ length self.old }
+        ensures { self.new ≡ with_part to self.old (part from width self.old) }
+    {
+        self.samples
+            .as_mut_slice()
+            .copy_within(from..from + width, to);
+    }
+
+    /// `n` samples of the number 0.
+    pub(crate) fn zeros(alloc: Global, n: usize) -> Result<Storage<T>, AllocError>
+        ensures { IfOk result (λ s. s ≡ replicate n (T.pixel 0)) }
+    {
+        let mut samples = Vec::new(alloc);
+        samples.resize(n, T::from_u32(0))?;
+        Ok(Storage { samples })
+    }
+
+    /// The samples of `s`.
+    pub(crate) fn from_slice(alloc: Global, s: &[T]) -> Result<Storage<T>, AllocError>
+        ensures { IfOk result (λ t. t ≡ s.now) }
+    {
+        let mut samples = Vec::new(alloc);
+        samples.extend_from_slice(s)?;
+        Ok(Storage { samples })
+    }
+}
+
+/// The `width` samples of `s` from the place `start` on.
+pub(crate) fn part_of<T>(s: &[T], start: usize, width: usize) -> &[T]
+    requires { start + width ≤ length s.now }
+    ensures value { result.now ≡ part start width s.now }
+    ensures len { length result.now ≡ width }
+{
+    &s[start..start + width]
+}

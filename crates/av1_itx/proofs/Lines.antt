@@ -1,0 +1,79 @@
+-- Rows and columns of a list that stands row by row.
+use Rattle.std.proofs.Common.{ℕ, cond, ltb, ◌≡◌, ◌==◌, ◌+◌, ◌-◌, ◌*◌, ◌<◌, ◌≤◌, ℤ, pos, List, map, length, set, get_or, arith, ap, sym, refl, ◌∙◌, inl, inr, get_or-set_other, get_or-set_same}
+use Rattle.std.proofs.lemmas.Bool.{cases_lt, cases_eq, cases_order}
+use Rattle.std.proofs.lemmas.Bool.Decides.{nat_tests}
+use Rattle.std.proofs.lemmas.List.{get_or-map}
+use Rattle.std.proofs.Math.Nat.{mul-le-mul_right}
+use Rattle.av1_frame.proofs.Fits.{row_end_le}
+use Rattle.av1_dct.specs.Arithmetic.{at}
+use Rattle.av1_dct.proofs.Groups.{put, put-low, put-mid}
+
+pub place_in : (r c w h : ℕ) → r < h → c < w → r * w + c < h * w
+place_in r c w h hr hc = let e = row_end_le r h w (c + 1) (h * w) refl hr (omega arith) in omega arith
+
+-- places of different rows differ
+pub place_before : (r c w q : ℕ) → r < q → c < w → r * w + c < q * w
+place_before r c w q hr hc = place_in r c w q hr hc
+
+pub same_place : (r q w c d : ℕ) → c < w → d < w → r * w + c ≡ q * w + d → (r ≡ q) × (c ≡ d)
+same_place r q w c d hc hd e =
+    elim (cases_order r q) [
+      | inl b ↦ (b, (let m : r * w ≡ q * w = ap (λ n. n * w) b in omega arith))
+      | inr (inl b) ↦ absurd (let m = place_before r c w q b hc in omega arith)
+      | inr (inr b) ↦ absurd (let m = place_before q d w r b hd in omega arith)
+    ]
+
+-- one more row of w places
+pub rows_more : (w q n : ℕ) (f : ℕ → ℕ → ℤ) (buf out : List ℤ) → ((r c : ℕ) → r < q → c < w → at buf (r * w + c) ≡ f r c) → n ≡ w → length out ≡ w → q * w + w ≤ length buf → ((c : ℕ) → c < w → at out c ≡ f q c) → (r c : ℕ) → r < q + 1 → c < w → at (put (q * w) n buf out) (r * w + c) ≡ f r c
+rows_more w q n f buf out before is_n len room here = λ r c hr hc.
+    elim (cases_lt r q) [
+      | inl b ↦ put-low (q * w) n buf out (r * w + c) (place_before r c w q b hc) (omega arith) ∙ before r c b hc
+      | inr b ↦ (let e : r ≡ q = omega arith in let m : r * w ≡ q * w = ap (λ k. k * w) e in let d : r * w + c - q * w ≡ c = omega arith in put-mid (q * w) n buf out (r * w + c) (omega arith) (omega arith) (omega arith) ∙ ap (at out) d ∙ here c hc ∙ ap (λ k. f k c) (sym e))
+    ]
+
+-- one more place of column c
+pub column_step : (w c n k : ℕ) (old buf done : List ℤ) (v : ℤ) → c < w → k < n → length buf ≡ n * w → v ≡ at done k
+    → ((r q : ℕ) → r < n → q < w → at buf (r * w + q) ≡ cond (q == c) (cond (ltb r k) (at done r) (at old (r * w + q))) (at old (r * w + q)))
+    → (r q : ℕ) → r < n → q < w → at (set buf (k * w + c) v) (r * w + q) ≡ cond (q == c) (cond (ltb r (k + 1)) (at done r) (at old (r * w + q))) (at old (r * w + q))
+column_step w c n k old buf done v hc hk len is inv = λ r q hr hq.
+    let i = inv r q hr hq in
+    let inside = place_in k c w n hk hc in
+    let same = same_place r k w q c hq hc in
+    elim (cases_eq (r * w + q) (k * w + c)) [
+      | inl e ↦ (let s = same e in let t : at (set buf (k * w + c) v) (r * w + q) ≡ v = ap (at (set buf (k * w + c) v)) e ∙ get_or-set_same buf (k * w + c) v (pos 0) (omega arith) in grind (arith, nat_tests, s.0, s.1))
+      | inr e ↦ (let t : at (set buf (k * w + c) v) (r * w + q) ≡ at buf (r * w + q) = grind (arith, get_or-set_other) in grind (arith, nat_tests))
+    ]
+
+-- the rest of the rows, where it is zeros
+pub rows_end : (w q n h : ℕ) (f : ℕ → ℕ → ℤ) (buf out : List ℤ) → ((r c : ℕ) → r < q → c < w → at buf (r * w + c) ≡ f r c) → q ≤ h → length buf ≡ h * w → n ≡ length buf - q * w → length out ≡ n → ((i : ℕ) → at out i ≡ pos 0) → ((r c : ℕ) → q ≤ r → f r c ≡ pos 0) → (r c : ℕ) → r < h → c < w → at (put (q * w) n buf out) (r * w + c) ≡ f r c
+rows_end w q n h f buf out before le len is_n out_len zero none = λ r c hr hc.
+    let inside = place_in r c w h hr hc in
+    let room = mul-le-mul_right w le in
+    elim (cases_lt r q) [
+      | inl b ↦ put-low (q * w) n buf out (r * w + c) (place_before r c w q b hc) (omega arith) ∙ before r c b hc
+      | inr b ↦ (let m = mul-le-mul_right w b in put-mid (q * w) n buf out (r * w + c) (omega arith) (omega arith) (omega arith) ∙ zero _ ∙ sym (none r c b))
+    ]
+
+-- one more column
+pub columns_more : (w c h : ℕ) (new old done : List ℤ) (F G : ℕ → ℕ → ℤ) → ((r q : ℕ) → r < h → q < w → at old (r * w + q) ≡ cond (ltb q c) (F r q) (G r q)) → ((r q : ℕ) → r < h → q < w → at new (r * w + q) ≡ cond (q == c) (at done r) (at old (r * w + q))) → ((r : ℕ) → r < h → at done r ≡ F r c) → (r q : ℕ) → r < h → q < w → at new (r * w + q) ≡ cond (ltb q (c + 1)) (F r q) (G r q)
+columns_more w c h new old done F G before now here = λ r q hr hq.
+    let a = before r q hr hq in
+    let b = now r q hr hq in
+    let d = here r hr in
+    elim (cases_order q c) [
+      | inl e ↦ (let s : F r q ≡ F r c = ap (F r) e in grind (arith, nat_tests))
+      | inr (inl e) ↦ grind (arith, nat_tests)
+      | inr (inr e) ↦ grind (arith, nat_tests)
+    ]
+
+-- what a function of an element that was read is
+pub read_at : {X : Type 0} (f : X → ℤ) (xs : List X) (q : ℕ) (x : X) → q < length xs → x ≡ get_or xs q x → f x ≡ at (map f xs) q
+read_at f xs q x h e = ap f e ∙ sym (get_or-map f xs q x (pos 0) h)
+
+-- column c of a buffer whose columns below c were written
+pub column_kept : (w c h : ℕ) (buf old : List ℤ) (F : ℕ → ℕ → ℤ) → ((r q : ℕ) → r < h → q < w → at buf (r * w + q) ≡ cond (ltb q c) (F r q) (at old (r * w + q))) → c < w → (r : ℕ) → r < h → at buf (r * w + c) ≡ at old (r * w + c)
+column_kept w c h buf old F inv hc r hr = let i = inv r c hr hc in grind (arith, nat_tests)
+
+-- and of one whose columns were all written
+pub column_written : (w c h : ℕ) (buf old : List ℤ) (F : ℕ → ℕ → ℤ) → ((r q : ℕ) → r < h → q < w → at buf (r * w + q) ≡ cond (ltb q c) (F r q) (at old (r * w + q))) → w ≤ c → (r q : ℕ) → r < h → q < w → at buf (r * w + q) ≡ F r q
+column_written w c h buf old F inv le r q hr hq = let i = inv r q hr hq in grind (arith, nat_tests)

@@ -1,0 +1,151 @@
+-- The rows and the columns of a block.
+use Rattle.std.proofs.Common.{ℕ, Bool, true, false, cond, ltb, ◌≡◌, ◌≤◌, ◌<◌, ◌+◌, ◌*◌, ◌/◌, ◌^◌, ℤ, pos, ◌*ℤ◌, List, ◌++◌, take, length, All, arith, ap, sym, subst, ◌∙◌, refl, inl, inr}
+use Rattle.std.specs.Int.{int_shr}
+use Rattle.std.proofs.lemmas.Bool.{cases_lt}
+use Rattle.std.proofs.lemmas.Bool.Decides.{nat_tests}
+use Rattle.std.proofs.lemmas.List.{take_at}
+use Rattle.std.proofs.lemmas.Nat.{pow_pos}
+use Rattle.std.proofs.Math.Nat.{div-eq_of_lt}
+use Rattle.av1_blocks.specs.declared.transform.TxSize.{TxSize}
+use Rattle.av1_blocks.specs.declared.transform.TxType.{TxType}
+use Rattle.av1_blocks.specs.Transforms.{tx_width, tx_height}
+use Rattle.av1_dct.specs.Arithmetic.{at, FitsBits, clamp_value}
+use Rattle.av1_dct.specs.Cosine.{by_index}
+use Rattle.av1_dct.proofs.Zero.{IsZero, clamp-zero, cond-zero, by_index-zero}
+use Rattle.av1_frame.specs.Arithmetic.{round_shift}
+use Rattle.av1_itx.specs.declared.kinds.TxType1D.{TxType1D}
+use Rattle.av1_itx.specs.Kinds.{row_kind, column_kind}
+use Rattle.av1_itx.specs.Networks.{network}
+use Rattle.av1_itx.specs.Residue.{coded, row_value, row_input, row_power, row_range, row_shift, is_two_to_one, is_lossless, transformed_row, column_input, column_network, column_power, column_range, column_shift, transformed_column, residue}
+use Rattle.av1_itx.proofs.Fills.{by_index-ext, length-by_index}
+use Rattle.av1_dct.proofs.Fits.{zero_fits, clamp_value-fits, all-fit}
+use Rattle.av1_itx.proofs.Widths.{by_index-all}
+use Rattle.av1_itx.proofs.Outputs.{network-fits}
+use Rattle.av1_itx.proofs.Zeros.{network-zero, zero_line}
+
+-- an input of a row, in the coded part and past it
+pub input_is : (size : TxSize) (type : TxType) (depth : ℕ) (cs : List ℤ) (r c : ℕ) → c < coded (tx_width size) → row_value size type depth (at cs (c * coded (tx_height size) + r)) ≡ row_input size type depth cs r c
+unfolding row_input
+input_is size type depth cs r c h = grind (arith, nat_tests)
+
+pub input_past : (size : TxSize) (type : TxType) (depth : ℕ) (cs : List ℤ) (r c : ℕ) → coded (tx_width size) ≤ c → pos 0 ≡ row_input size type depth cs r c
+unfolding row_input
+input_past size type depth cs r c h = grind (arith, nat_tests)
+
+input-fits : (size : TxSize) (type : TxType) (depth : ℕ) (cs : List ℤ) (r c : ℕ) → FitsBits (row_range depth) (row_input size type depth cs r c)
+unfolding row_input row_value
+input-fits size type depth cs r c = elim (ltb c (coded (tx_width size))) as (λ b. FitsBits (row_range depth) (cond b (row_value size type depth (at cs (c * coded (tx_height size) + r))) (pos 0))) [ true ↦ clamp_value-fits _ (row_range depth) (omega arith) | false ↦ zero_fits (row_range depth) ]
+
+pub inputs-fit : (size : TxSize) (type : TxType) (depth : ℕ) (cs : List ℤ) (r : ℕ) → All (FitsBits (row_range depth)) (by_index (tx_width size) (row_input size type depth cs r))
+inputs-fit size type depth cs r = by_index-all (FitsBits (row_range depth)) _ _ (λ c h. input-fits size type depth cs r c)
+
+pub row_is : (size : TxSize) (type : TxType) (depth : ℕ) (cs : List ℤ) (r c : ℕ) → r < coded (tx_height size) → at (network (row_kind type) (row_range depth) (row_power size) (by_index (tx_width size) (row_input size type depth cs r))) c ≡ at (transformed_row size type depth cs r) c
+unfolding transformed_row
+row_is size type depth cs r c h = grind (arith, nat_tests)
+
+pub row_past : (size : TxSize) (type : TxType) (depth : ℕ) (cs : List ℤ) (r c : ℕ) → coded (tx_height size) ≤ r → at (transformed_row size type depth cs r) c ≡ pos 0
+unfolding transformed_row
+row_past size type depth cs r c h = grind (arith, nat_tests)
+
+-- a row of zeros
+pub row_zero : (size : TxSize) (type : TxType) (depth : ℕ) (cs line : List ℤ) (r c : ℕ) → r < coded (tx_height size) → line ≡ by_index (tx_width size) (row_input size type depth cs r) → IsZero line → pos 0 ≡ at (transformed_row size type depth cs r) c
+row_zero size type depth cs line r c h is z =
+    let n = network-zero (row_kind type) (row_range depth) (row_power size) line z in
+    sym (n.at c) ∙ ap (λ l. at (network (row_kind type) (row_range depth) (row_power size) l) c) is ∙ row_is size type depth cs r c h
+
+pub row-fits : (size : TxSize) (type : TxType) (depth : ℕ) (cs : List ℤ) (r c : ℕ) → depth ≤ 12 → FitsBits 24 (at (transformed_row size type depth cs r) c)
+row-fits size type depth cs r c h =
+    let P : ℤ → Type 0 = λ z. FitsBits 24 z in
+    elim (cases_lt r (coded (tx_height size))) [
+      | inl b ↦ subst P (row_is size type depth cs r c b) (network-fits (row_kind type) (row_range depth) (row_power size) _ (omega arith) (all-fit (row_range depth) 20 _ (omega arith) (inputs-fit size type depth cs r)) c)
+      | inr b ↦ subst P (sym (row_past size type depth cs r c b)) (zero_fits 24)
+    ]
+
+-- what a column takes
+pub column_inputs-fit : (n s range : ℕ) (f : ℕ → ℤ) → All (FitsBits range) (by_index n (λ r. clamp_value (round_shift (f r) s) range))
+column_inputs-fit n s range f = by_index-all (FitsBits range) _ _ (λ r h. clamp_value-fits _ range (omega arith))
+
+pub column-fits : (size : TxSize) (type : TxType) (depth : ℕ) (f : ℕ → ℤ) (r : ℕ) → depth ≤ 12 → FitsBits 24 (at (column_network size type depth f) r)
+unfolding column_network
+column-fits size type depth f r h = network-fits (column_kind type) (column_range depth) (column_power size) _ (omega arith) (all-fit (column_range depth) 20 _ (omega arith) (column_inputs-fit (tx_height size) (row_shift size) (column_range depth) f)) r
+
+pub column_network-is : (size : TxSize) (type : TxType) (depth : ℕ) (f : ℕ → ℤ) → network (column_kind type) (column_range depth) (column_power size) (column_input size depth f) ≡ column_network size type depth f
+unfolding column_network
+column_network-is size type depth f = refl
+
+pub column_ext : (size : TxSize) (type : TxType) (depth : ℕ) (f g : ℕ → ℤ) → ((r : ℕ) → r < tx_height size → f r ≡ g r) → column_network size type depth f ≡ column_network size type depth g
+unfolding column_network
+column_ext size type depth f g h =
+    ap (network (column_kind type) (column_range depth) (column_power size)) (by_index-ext _ _ _ (λ r l. ap (λ z. clamp_value (round_shift z (row_shift size)) (column_range depth)) (h r l)))
+
+-- both passes
+pub residue_is : (size : TxSize) (type : TxType) (depth : ℕ) (cs : List ℤ) (f : ℕ → ℤ) (r c : ℕ) (z : ℤ) → z ≡ at (column_network size type depth f) r → ((y : ℕ) → y < tx_height size → f y ≡ at (transformed_row size type depth cs y) c) → round_shift z (column_shift type) ≡ residue size type depth cs r c
+unfolding residue transformed_column
+residue_is size type depth cs f r c z is h =
+    ap (λ v. round_shift v (column_shift type)) (is ∙ ap (λ l. at l r) (column_ext size type depth f _ h))
+
+-- a column that was gathered and run
+pub column_made : (size : TxSize) (type : TxType) (depth w c h k shift range n : ℕ) (kind : TxType1D) (buf old rest rest2 line out : List ℤ) → h ≡ tx_height size → k ≡ column_power size → shift ≡ row_shift size → range ≡ column_range depth → kind ≡ column_kind type → n ≡ h → line ≡ by_index n (λ r. clamp_value (round_shift (at buf (r * w + c)) shift) range) → length out ≡ h → out ≡ network kind range k (take h (line ++ rest)) → ((r : ℕ) → r < h → at buf (r * w + c) ≡ at old (r * w + c)) → (r : ℕ) → at (take h (out ++ rest2)) r ≡ at (column_network size type depth (λ y. at old (y * w + c))) r
+column_made size type depth w c h k shift range n kind buf old rest rest2 line out eh ehp es er ek en is_line lo is_out same r =
+    let len : length line ≡ h = ap length is_line ∙ length-by_index n _ ∙ en in
+    let l1 : line ≡ by_index (tx_height size) (λ y. clamp_value (round_shift (at buf (y * w + c)) (row_shift size)) (column_range depth)) =
+    is_line
+    ∙ ap (λ m. by_index m (λ y. clamp_value (round_shift (at buf (y * w + c)) shift) range)) (en ∙ eh)
+    ∙ ap (λ s. by_index (tx_height size) (λ y. clamp_value (round_shift (at buf (y * w + c)) s) range)) es
+    ∙ ap (λ g. by_index (tx_height size) (λ y. clamp_value (round_shift (at buf (y * w + c)) (row_shift size)) g)) er in
+    let o : out ≡ network (column_kind type) (column_range depth) (column_power size) line =
+    is_out
+    ∙ ap (λ t. network t range k (take h (line ++ rest))) ek
+    ∙ ap (λ g. network (column_kind type) g k (take h (line ++ rest))) er
+    ∙ ap (λ p. network (column_kind type) (column_range depth) p (take h (line ++ rest))) ehp
+    ∙ ap (network (column_kind type) (column_range depth) (column_power size)) (take_at line rest h len) in
+    ap (λ l. at l r) (
+    take_at out rest2 h lo ∙ o
+    ∙ ap (network (column_kind type) (column_range depth) (column_power size)) l1
+    ∙ column_network-is size type depth (λ y. at buf (y * w + c))
+    ∙ column_ext size type depth _ _ (λ y l. same y (omega arith)))
+
+pub gathered-fit : (h n s range : ℕ) (f : ℕ → ℤ) (line rest : List ℤ) → n ≡ h → line ≡ by_index n (λ r. clamp_value (round_shift (f r) s) range) → All (FitsBits range) (take h (line ++ rest))
+gathered-fit h n s range f line rest en is =
+    let P : List ℤ → Type 0 = λ zs. All (FitsBits range) zs in
+    let len : length line ≡ h = ap length is ∙ length-by_index n _ ∙ en in
+    subst P (sym (take_at line rest h len ∙ is)) (column_inputs-fit n s range f)
+
+-- a coefficient by how its block is scaled
+pub row_value-is : (size : TxSize) (type : TxType) (depth : ℕ) (t l : Bool) (v z : ℤ) → t ≡ is_two_to_one size → l ≡ is_lossless type → z ≡ clamp_value (cond t (round_shift (pos 2896 *ℤ v) 12) (cond l (int_shr v 2) v)) (row_range depth) → z ≡ row_value size type depth v
+unfolding row_value
+row_value-is size type depth t l v z et el is =
+    is ∙ ap (λ b. clamp_value (cond b (round_shift (pos 2896 *ℤ v) 12) (cond l (int_shr v 2) v)) (row_range depth)) et
+    ∙ ap (λ b. clamp_value (cond (is_two_to_one size) (round_shift (pos 2896 *ℤ v) 12) (cond b (int_shr v 2) v)) (row_range depth)) el
+
+row_value-zero : (size : TxSize) (type : TxType) (depth : ℕ) → row_value size type depth (pos 0) ≡ pos 0
+unfolding row_value
+row_value-zero size type depth = clamp-zero _ (row_range depth) (cond-zero (is_two_to_one size) _ _ refl (cond-zero (is_lossless type) _ _ refl refl))
+
+half_below : (n : ℕ) → 0 < n → 0 + n / 2 < n
+half_below n h = omega arith
+
+shifted-zero : (z : ℤ) (b : ℕ) → z ≡ pos 0 → round_shift z b ≡ pos 0
+shifted-zero z b h =
+    let some = pow_pos b in
+    let small : (0 + 2 ^ b / 2) / 2 ^ b ≡ 0 = div-eq_of_lt (half_below (2 ^ b) some) in
+    ap (λ y. round_shift y b) h ∙ ap pos small
+
+input-zero : (size : TxSize) (type : TxType) (depth : ℕ) (cs : List ℤ) (r c : ℕ) → IsZero cs → row_input size type depth cs r c ≡ pos 0
+unfolding row_input
+input-zero size type depth cs r c z = cond-zero (ltb c (coded (tx_width size))) _ _ (ap (row_value size type depth) (z.at _) ∙ row_value-zero size type depth) refl
+
+row-zero : (size : TxSize) (type : TxType) (depth : ℕ) (cs : List ℤ) (r c : ℕ) → IsZero cs → at (transformed_row size type depth cs r) c ≡ pos 0
+row-zero size type depth cs r c z =
+    elim (cases_lt r (coded (tx_height size))) [
+      | inl b ↦ (let n = network-zero (row_kind type) (row_range depth) (row_power size) (by_index (tx_width size) (row_input size type depth cs r)) (by_index-zero _ _ (λ x. input-zero size type depth cs r x z)) in sym (row_is size type depth cs r c b) ∙ n.at c)
+      | inr b ↦ row_past size type depth cs r c b
+    ]
+
+-- the residue of coefficients that are all zero
+pub residue-zero : (size : TxSize) (type : TxType) (depth : ℕ) (cs : List ℤ) (r c : ℕ) → All (λ z. z ≡ pos 0) cs → residue size type depth cs r c ≡ pos 0
+unfolding residue transformed_column column_network
+residue-zero size type depth cs r c h =
+    let z = zero_line cs (λ i l. h i (pos 0) l) in
+    let n = network-zero (column_kind type) (column_range depth) (column_power size) _ (by_index-zero (tx_height size) _ (λ y. clamp-zero _ (column_range depth) (shifted-zero _ (row_shift size) (row-zero size type depth cs y c z)))) in
+    shifted-zero _ (column_shift type) (n.at r)

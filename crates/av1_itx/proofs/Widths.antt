@@ -1,0 +1,45 @@
+-- Numbers of few bits, and lists of them.
+use Rattle.std.proofs.Common.{ℕ, zero, suc, ◌≡◌, ◌≤◌, ◌-◌, ◌^◌, ◌<◌, ℤ, pos, List, [], ◌∷◌, take, reverse, length, All, arith, ap, sym, subst, ◌∙◌, inl, inr}
+use Rattle.std.proofs.lemmas.Bool.{cases_lt}
+use Rattle.std.proofs.lemmas.List.{take_all, get_or_past, get_or-reverse, length-reverse}
+use Rattle.std.proofs.lemmas.List.Elements.{All-from_get_or}
+use Rattle.std.proofs.Math.Pow.{pow_mono}
+use Rattle.av1_dct.specs.Arithmetic.{at, AllFit, FitsBits}
+use Rattle.av1_dct.specs.Cosine.{by_index}
+use Rattle.av1_dct.proofs.Fits.{zero_fits, all-fit}
+use Rattle.av1_dct.proofs.Places.{at-by_index}
+use Rattle.av1_itx.proofs.Fills.{length-by_index}
+
+only : (a : ℕ) (z : ℤ) → FitsBits a z → (i : ℕ) → i < 1 → FitsBits a (at (z ∷ []) i)
+only a z f zero h = f
+only a z f (suc i) h = absurd (omega arith)
+
+-- more bits
+pub wider : (a b : ℕ) (z : ℤ) → a ≤ b → FitsBits a z → FitsBits b z
+wider a b z h f = all-fit a b (z ∷ []) h (All-from_get_or (FitsBits a) (z ∷ []) (pos 0) (only a z f)) 0
+
+pub by_index-all : (P : ℤ → Type 0) (n : ℕ) (f : ℕ → ℤ) → ((i : ℕ) → i < n → P (f i)) → All P (by_index n f)
+by_index-all P n f h = All-from_get_or P (by_index n f) (pos 0) (λ i l. let g : i < n = omega (arith, length-by_index n f) in subst P (sym (at-by_index n f i g)) (h i g))
+
+-- a call on slices of just the transform's length
+pub whole_is : (n : ℕ) (f : List ℤ → List ℤ) (xs ys : List ℤ) → length xs ≡ n → length ys ≡ n → take n ys ≡ f (take n xs) → ys ≡ f xs
+whole_is n f xs ys lx ly e = sym (take_all n ys (omega arith)) ∙ e ∙ ap f (take_all n xs (omega arith))
+
+pub four_fit : (b : ℕ) (x y z w : ℤ) → FitsBits b x → FitsBits b y → FitsBits b z → FitsBits b w → AllFit b (x ∷ y ∷ z ∷ w ∷ [])
+four_fit b x y z w hx hy hz hw zero = hx
+four_fit b x y z w hx hy hz hw (suc zero) = hy
+four_fit b x y z w hx hy hz hw (suc (suc zero)) = hz
+four_fit b x y z w hx hy hz hw (suc (suc (suc zero))) = hw
+four_fit b x y z w hx hy hz hw (suc (suc (suc (suc i)))) = zero_fits b
+
+pub reverse-fits : (b : ℕ) (xs : List ℤ) → AllFit b xs → AllFit b (reverse xs)
+reverse-fits b xs f = λ i.
+    let P : ℤ → Type 0 = λ z. FitsBits b z in
+    elim (cases_lt i (length xs)) [
+      | inl h ↦ subst P (sym (get_or-reverse xs i (pos 0) h)) (f (length xs - 1 - i))
+      | inr h ↦ subst P (sym (get_or_past (reverse xs) i (pos 0) (omega (arith, length-reverse xs)))) (zero_fits b)
+    ]
+
+-- what fits a depth fits a greater one
+pub below_depth : (v d b : ℕ) → v < 2 ^ d → d ≤ b → v < 2 ^ b
+below_depth v d b h e = let m = pow_mono {i = d} {j = b} e in omega arith

@@ -1,0 +1,13 @@
+use Rattle.std.proofs.Common.{arith, ◌∙◌, take}
+use Rattle.std.proofs.lemmas.List.{length-take-le, take_at, drop_at}
+use Rattle.av1_dct.proofs.Fits.{all-fit}
+use Rattle.av1_itx.proofs.identity.av1_iidentity16.Goals as goal
+
+pub identity_of-requires-clause-fit : goal.identity_of-requires-clause-fit
+identity_of-requires-clause-fit c = all-fit 20 20 (take 16 c.args.input.now) (omega arith) c.requires.fit
+
+pub returns-clause-value : goal.returns-clause-value
+returns-clause-value c = take_at _ _ 16 (c.identity_of.auto.output ∙ length-take-le 16 c.args.output.now c.requires.output_len) ∙ c.identity_of.ensures
+
+pub returns-clause-rest : goal.returns-clause-rest
+returns-clause-rest c = drop_at _ _ 16 (c.identity_of.auto.output ∙ length-take-le 16 c.args.output.now c.requires.output_len)

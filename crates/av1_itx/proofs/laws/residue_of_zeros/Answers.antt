@@ -1,0 +1,5 @@
+use Rattle.av1_itx.proofs.Passes.{residue-zero}
+use Rattle.av1_itx.proofs.laws.residue_of_zeros.Goals as goal
+
+pub returns : goal.returns
+returns c = residue-zero

@@ -1,0 +1,104 @@
+-- The 2D inverse transform process of the AV1 specification: an inverse transform along each row of coefficients, then one down each column.
+use Rattle.std.specs.Prelude.{ℕ, ◌+◌, ◌-◌, ◌*◌, ◌==◌, ◌||◌, nat_lt, min, max, if◌then◌else◌, Bool, true, false, ℤ, pos, ◌*ℤ◌, List, []}
+use Rattle.std.specs.Int.{int_shr}
+use Rattle.av1_blocks.specs.declared.transform.TxSize.{TxSize}
+use Rattle.av1_blocks.specs.declared.transform.TxSize.TheVariants.{TX_4X4, TX_8X8, TX_16X16, TX_32X32, TX_64X64, TX_4X8, TX_8X4, TX_8X16, TX_16X8, TX_16X32, TX_32X16, TX_32X64, TX_64X32, TX_4X16, TX_16X4, TX_8X32, TX_32X8, TX_16X64, TX_64X16}
+use Rattle.av1_blocks.specs.declared.transform.TxType.{TxType}
+use Rattle.av1_blocks.specs.declared.transform.TxType.TheVariants.{WHT_WHT}
+use Rattle.av1_blocks.specs.Blocks.{side_log2}
+use Rattle.av1_blocks.specs.Transforms.{tx_width, tx_height}
+use Rattle.av1_dct.specs.Arithmetic.{at, clamp_value}
+use Rattle.av1_dct.specs.Cosine.{by_index}
+use Rattle.av1_frame.specs.Arithmetic.{round_shift}
+use Rattle.av1_itx.specs.Kinds.{row_kind, column_kind}
+use Rattle.av1_itx.specs.Networks.{network}
+
+-- the lossless type
+abbrev pub is_lossless : TxType → Bool
+is_lossless WHT_WHT = true
+is_lossless type = false
+
+-- one side is twice the other
+abbrev pub is_two_to_one : TxSize → Bool
+is_two_to_one size = (tx_width size == 2 * tx_height size) || (tx_height size == 2 * tx_width size)
+
+-- how many of n rows or columns have coefficients
+abbrev pub coded : ℕ → ℕ
+coded n = min n 32
+
+-- how many coefficients a block has
+abbrev pub coded_area : TxSize → ℕ
+coded_area size = coded (tx_width size) * coded (tx_height size)
+
+-- rows have 2^(k+1) values and columns 2^(l+1): these are k and l
+abbrev pub row_power : TxSize → ℕ
+row_power size = side_log2 (tx_width size) - 1
+
+abbrev pub column_power : TxSize → ℕ
+column_power size = side_log2 (tx_height size) - 1
+
+-- Transform_Row_Shift: by how many bits values are rounded between the rows and the columns
+abbrev pub row_shift : TxSize → ℕ
+row_shift TX_4X4 = 0
+row_shift TX_8X8 = 1
+row_shift TX_16X16 = 2
+row_shift TX_32X32 = 2
+row_shift TX_64X64 = 2
+row_shift TX_4X8 = 0
+row_shift TX_8X4 = 0
+row_shift TX_8X16 = 1
+row_shift TX_16X8 = 1
+row_shift TX_16X32 = 1
+row_shift TX_32X16 = 1
+row_shift TX_32X64 = 1
+row_shift TX_64X32 = 1
+row_shift TX_4X16 = 1
+row_shift TX_16X4 = 1
+row_shift TX_8X32 = 2
+row_shift TX_32X8 = 2
+row_shift TX_16X64 = 2
+row_shift TX_64X16 = 2
+
+-- and after the columns
+abbrev pub column_shift : TxType → ℕ
+column_shift type = if is_lossless type then 0 else 4
+
+-- how many bits the values of rows and of columns are clamped to
+abbrev pub row_range : ℕ → ℕ
+row_range depth = depth + 8
+
+abbrev pub column_range : ℕ → ℕ
+column_range depth = max (depth + 6) 16
+
+-- a coefficient as the rows take it: scaled by the square root of one half in a block of two to one, by a quarter in a lossless one
+unfoldable pub row_value : TxSize → TxType → ℕ → ℤ → ℤ
+row_value size type depth z =
+    clamp_value (if is_two_to_one size then round_shift (pos 2896 *ℤ z) 12 else if is_lossless type then int_shr z 2 else z) (row_range depth)
+
+-- what the row r takes at column c: coefficients stand column by column, and there are none from row and column 32 on
+unfoldable pub row_input : TxSize → TxType → ℕ → List ℤ → ℕ → ℕ → ℤ
+row_input size type depth coefficients r c =
+    if nat_lt c (coded (tx_width size)) then row_value size type depth (at coefficients (c * coded (tx_height size) + r)) else pos 0
+
+-- row r after its transform; the rows from 32 on are all zeros, which is what places past a list's end read as
+unfoldable pub transformed_row : TxSize → TxType → ℕ → List ℤ → ℕ → List ℤ
+transformed_row size type depth coefficients r =
+    if nat_lt r (coded (tx_height size))
+    then network (row_kind type) (row_range depth) (row_power size) (by_index (tx_width size) (row_input size type depth coefficients r))
+    else []
+
+-- what a column takes whose values after the rows are f 0, f 1, ..
+abbrev pub column_input : TxSize → ℕ → (ℕ → ℤ) → List ℤ
+column_input size depth f = by_index (tx_height size) (λ r. clamp_value (round_shift (f r) (row_shift size)) (column_range depth))
+
+-- such a column after its transform
+unfoldable pub column_network : TxSize → TxType → ℕ → (ℕ → ℤ) → List ℤ
+column_network size type depth f = network (column_kind type) (column_range depth) (column_power size) (column_input size depth f)
+
+-- column c after its transform
+unfoldable pub transformed_column : TxSize → TxType → ℕ → List ℤ → ℕ → List ℤ
+transformed_column size type depth coefficients c = column_network size type depth (λ r. at (transformed_row size type depth coefficients r) c)
+
+-- The residue of a block's coefficients: what is added to the sample at row r and column c.
+unfoldable pub residue : TxSize → TxType → ℕ → List ℤ → ℕ → ℕ → ℤ
+residue size type depth coefficients r c = round_shift (at (transformed_column size type depth coefficients c) r) (column_shift type)

@@ -1,0 +1,83 @@
+//! The inverse identity transforms.
+
+ghost use Rattle.std.specs.Prelude.{◌≡◌, ℕ, ◌*◌, ◌^◌, ◌<◌, ◌≤◌, length, take, drop};
+ghost use Rattle.std.specs.List.{All};
+ghost use Rattle.av1_dct.specs.Arithmetic.{AllFit, FitsBits};
+ghost use Rattle.av1_itx.specs.Identity.{identity, scaled};
+
+use av1_dct::half_btf;
+
+// What a value of 2^(k+1) becomes.
+fn scaled_of(k: usize, z: i32) -> i32
+    requires k_in { (1 ≤ k) × (k ≤ 4) }
+    requires fits { FitsBits 20 z }
+    ensures { result ≡ scaled k z }
+{
+    if k == 1 {
+        return half_btf(5793, z, 0, 0, 12);
+    }
+    if k == 2 {
+        return 2 * z;
+    }
+    if k == 3 {
+        return half_btf(11586, z, 0, 0, 12);
+    }
+    4 * z
+}
+
+pub(crate) fn identity_of(k: usize, input: &[i32], output: &mut [i32])
+    requires k_in { (1 ≤ k) × (k ≤ 4) }
+    requires input_len { length input.now ≡ 2 * 2 ^ k }
+    requires output_len { length output.old ≡ 2 * 2 ^ k }
+    requires fit { AllFit 20 input.now }
+    ensures { output.new ≡ identity k input.now }
+{
+    for i in 0..output.len() {
+        output[i] = scaled_of(k, input[i]);
+    }
+}
+
+/// The inverse identity transform of 4 values: each is scaled by the square root of 2. The rest of `output` stays, and `_range` is
+/// not read.
+pub fn av1_iidentity4(input: &[i32], output: &mut [i32], _range: usize)
+    requires input_len { 4 ≤ length input.now }
+    requires output_len { 4 ≤ length output.old }
+    requires fit { All (FitsBits 20) (take 4 input.now) }
+    ensures value { take 4 output.new ≡ identity 1 (take 4 input.now) }
+    ensures rest { drop 4 output.new ≡ drop 4 output.old }
+{
+    identity_of(1, &input[..4], &mut output[..4]);
+}
+
+/// The same of 8 values, scaled by 2.
+pub fn av1_iidentity8(input: &[i32], output: &mut [i32], _range: usize)
+    requires input_len { 8 ≤ length input.now }
+    requires output_len { 8 ≤ length output.old }
+    requires fit { All (FitsBits 20) (take 8 input.now) }
+    ensures value { take 8 output.new ≡ identity 2 (take 8 input.now) }
+    ensures rest { drop 8 output.new ≡ drop 8 output.old }
+{
+    identity_of(2, &input[..8], &mut output[..8]);
+}
+
+/// The same of 16 values, scaled by twice the square root of 2.
+pub fn av1_iidentity16(input: &[i32], output: &mut [i32], _range: usize)
+    requires input_len { 16 ≤ length input.now }
+    requires output_len { 16 ≤ length output.old }
+    requires fit { All (FitsBits 20) (take 16 input.now) }
+    ensures value { take 16 output.new ≡ identity 3 (take 16 input.now) }
+    ensures rest { drop 16 output.new ≡ drop 16 output.old }
+{
+    identity_of(3, &input[..16], &mut output[..16]);
+}
+
+/// The same of 32 values, scaled by 4.
+pub fn av1_iidentity32(input: &[i32], output: &mut [i32], _range: usize)
+    requires input_len { 32 ≤ length input.now }
+    requires output_len { 32 ≤ length output.old }
+    requires fit { All (FitsBits 20) (take 32 input.now) }
+    ensures value { take 32 output.new ≡ identity 4 (take 32 input.now) }
+    ensures rest { drop 32 output.new ≡ drop 32 output.old }
+{
+    identity_of(4, &input[..32], &mut output[..32]);
+}

@@ -1,0 +1,260 @@
+//! The inverse transform of a block, added to its samples.
+
+ghost use Rattle.std.specs.Prelude.{◌≡◌, ℕ, ◌⊎◌, ◌+◌, ◌-◌, ◌*◌, ◌^◌, ◌<◌, ◌≤◌, IsTrue, OnOk, OnErr, ℤ, pos, ◌+ℤ◌, length, map, vec_len};
+ghost use Rattle.av1_blocks.specs.declared.transform.TxSize.TheVariants.{TX_4X4};
+ghost use Rattle.av1_blocks.specs.declared.transform.TxType.TheVariants.{WHT_WHT};
+ghost use Rattle.av1_blocks.specs.Transforms.{tx_width, tx_height, valid_av1_transform};
+ghost use Rattle.av1_dct.specs.Arithmetic.{at, FitsBits};
+ghost use Rattle.av1_frame.specs.Arithmetic.{clip, round_shift};
+ghost use Rattle.av1_frame.specs.Samples.{paint_row};
+ghost use Rattle.av1_frame.specs.Regions.{InStorage, painted};
+ghost use Rattle.av1_itx.specs.Kinds.{column_kind, row_kind};
+ghost use Rattle.av1_itx.specs.Networks.{HasNetwork};
+ghost use Rattle.av1_itx.specs.Residue.{coded_area, column_power, column_shift, residue, row_power};
+
+use crate::columns::column_pass;
+use crate::rows::row_pass;
+use av1_blocks::{OutOfMemory, TxSize, TxType};
+use av1_frame::{Pixel, PlaneRegionMut, round_shift};
+use std::alloc::Global;
+
+/// The values of one block between its passes, and of one row or column.
+#[derive(Drop)]
+pub struct TxScratch {
+    buffer: Vec<i32>,
+    line: [i32; 64],
+    done: [i32; 64],
+    ghost long: { vec_len buffer ≡ 4096 },
+}
+
+impl TxScratch {
+    /// Room for every size, 64x64 included.
+    pub fn new(alloc: Global) -> Result<TxScratch, OutOfMemory> {
+        let buffer = vec![in alloc; 0; 4096]?;
+        Ok(TxScratch {
+            buffer,
+            line: [0; 64],
+            done: [0; 64],
+        })
+    }
+}
+
+// The nearest number of a sample.
+fn clip_to(sum: i32, bd: usize) -> u32
+    requires { bd ≤ 16 }
+    ensures value { result ≡ clip bd sum }
+    ensures fits { result < 2 ^ bd }
+{
+    let top = (1 << bd) - 1;
+    if sum < 0 {
+        0
+    } else if sum as u32 > top {
+        top
+    } else {
+        sum as u32
+    }
+}
+
+// The sample v with z, rounded, added.
+fn add_one<T: Pixel>(v: T, z: i32, shift: usize, bd: usize) -> T
+    requires depth_in { bd ≤ T.BITS }
+    requires shift_in { shift ≤ 4 }
+    requires fits { FitsBits 24 z }
+    ensures { result ≡ T.pixel (clip bd (pos (T.num v) +ℤ round_shift z shift)) }
+{
+    let sum = v.to_i32() + round_shift(z, shift);
+    T::from_u32(clip_to(sum, bd))
+}
+
+// Adds the values from `start` on to the row's first w samples.
+#[tactic(auto, using(av1_frame::proofs::Paint::paint_row_none, av1_frame::proofs::Paint::paint_row_step))]
+fn add_row<T: Pixel>(
+    samples: &mut [T],
+    buffer: &[i32],
+    start: usize,
+    w: usize,
+    shift: usize,
+    bd: usize,
+)
+    requires row_long { w ≤ length samples.old }
+    requires buffer_long { start + w ≤ length buffer.now }
+    requires depth_in { bd ≤ T.BITS }
+    requires shift_in { shift ≤ 4 }
+    requires fit { (c : ℕ) → c < w → FitsBits 24 (at buffer.now (start + c)) }
+    ensures { samples.new ≡ paint_row w (λ c v. T.pixel (clip bd (pos (T.num v) +ℤ round_shift (at buffer.now (start + c)) shift))) samples.old }
+{
+    for c in 0..w {
+        samples[c] = add_one(samples[c], buffer[start + c], shift, bd);
+    }
+}
+
+// Adds the values, row by row, to the region's first h rows and w columns.
+#[tactic(auto, using(av1_frame::proofs::Regions::painted_none, av1_frame::proofs::Regions::painted_in_storage, av1_frame::proofs::Regions::painted_more, av1_frame::proofs::Fits::row_end_le))]
+fn add_rows<T: Pixel>(
+    output: &mut PlaneRegionMut<'_, T>,
+    buffer: &[i32],
+    w: usize,
+    h: usize,
+    shift: usize,
+    bd: usize,
+)
+    requires storage { InStorage output.old }
+    requires columns { w ≤ output.old.place.width }
+    requires rows { h ≤ output.old.place.height }
+    requires buffer_long { length buffer.now ≡ h * w }
+    requires depth_in { bd ≤ T.BITS }
+    requires shift_in { shift ≤ 4 }
+    requires fit { (r c : ℕ) → r < h → c < w → FitsBits 24 (at buffer.now (r * w + c)) }
+    ensures painted { output.new ≡ painted output.old w h (λ r c v. T.pixel (clip bd (pos (T.num v) +ℤ round_shift (at buffer.now (r * w + c)) shift))) }
+    ensures storage { InStorage output.new }
+{
+    for r in 0..h {
+        add_row(output.row_mut(r), buffer, r * w, w, shift, bd);
+    }
+}
+
+fn column_shift_of(tx_type: TxType) -> usize
+    ensures value { result ≡ column_shift tx_type }
+    ensures small { result ≤ 4 }
+{
+    if matches!(tx_type, TxType::WHT_WHT) {
+        0
+    } else {
+        4
+    }
+}
+
+// The inverse transform over a buffer of just the block's size.
+fn add_block<T: Pixel>(
+    buffer: &mut [i32],
+    line: &mut [i32],
+    done: &mut [i32],
+    input: &[T::Coeff],
+    output: &mut PlaneRegionMut<'_, T>,
+    tx_size: TxSize,
+    tx_type: TxType,
+    bd: usize,
+)
+    requires depth_in { (8 ≤ bd) × (bd ≤ 12) }
+    requires depth_fits { bd ≤ T.BITS }
+    requires rows_run { HasNetwork (row_kind tx_type) (row_power tx_size) }
+    requires columns_run { HasNetwork (column_kind tx_type) (column_power tx_size) }
+    requires buffer_len { length buffer.old ≡ tx_height tx_size * tx_width tx_size }
+    requires line_len { 64 ≤ length line.old }
+    requires done_len { 64 ≤ length done.old }
+    requires input_len { coded_area tx_size ≤ length input.now }
+    requires input_fits { (i : ℕ) → i < coded_area tx_size → FitsBits (bd + 8) (at (map T.Coeff.val input.now) i) }
+    requires storage { InStorage output.old }
+    requires columns { tx_width tx_size ≤ output.old.place.width }
+    requires rows { tx_height tx_size ≤ output.old.place.height }
+    ensures painted { output.new ≡ painted output.old (tx_width tx_size) (tx_height tx_size) (λ r c v. T.pixel (clip bd (pos (T.num v) +ℤ residue tx_size tx_type bd (map T.Coeff.val input.now) r c))) }
+    ensures storage { InStorage output.new }
+{
+    row_pass(input, line, buffer, tx_size, tx_type, bd);
+    column_pass(buffer, line, done, tx_size, tx_type, bd);
+    let shift = column_shift_of(tx_type);
+    add_rows(output, buffer, tx_size.width(), tx_size.height(), shift, bd);
+}
+
+// The same over a whole buffer.
+fn add_over<T: Pixel>(
+    buffer: &mut [i32],
+    line: &mut [i32],
+    done: &mut [i32],
+    input: &[T::Coeff],
+    output: &mut PlaneRegionMut<'_, T>,
+    tx_size: TxSize,
+    tx_type: TxType,
+    bd: usize,
+)
+    requires depth_in { (8 ≤ bd) × (bd ≤ 12) }
+    requires depth_fits { bd ≤ T.BITS }
+    requires rows_run { HasNetwork (row_kind tx_type) (row_power tx_size) }
+    requires columns_run { HasNetwork (column_kind tx_type) (column_power tx_size) }
+    requires buffer_len { 4096 ≤ length buffer.old }
+    requires line_len { 64 ≤ length line.old }
+    requires done_len { 64 ≤ length done.old }
+    requires input_len { coded_area tx_size ≤ length input.now }
+    requires input_fits { (i : ℕ) → i < coded_area tx_size → FitsBits (bd + 8) (at (map T.Coeff.val input.now) i) }
+    requires storage { InStorage output.old }
+    requires columns { tx_width tx_size ≤ output.old.place.width }
+    requires rows { tx_height tx_size ≤ output.old.place.height }
+    ensures painted { output.new ≡ painted output.old (tx_width tx_size) (tx_height tx_size) (λ r c v. T.pixel (clip bd (pos (T.num v) +ℤ residue tx_size tx_type bd (map T.Coeff.val input.now) r c))) }
+    ensures storage { InStorage output.new }
+{
+    let places = tx_size.height() * tx_size.width();
+    add_block(
+        &mut buffer[..places],
+        line,
+        done,
+        input,
+        output,
+        tx_size,
+        tx_type,
+        bd,
+    );
+}
+
+/// Adds the residue of coefficients to the first rows and columns of `output`, and clips: the specification's "2D inverse transform
+/// process" and the addition of "Reconstruction".
+///
+/// The coefficient of row r and column c stands at `c * min(height, 32) + r` of `input`; the rows and columns from 32 on have none.
+/// All samples outside the transform's sides stay.
+pub fn inverse_transform_add_with<T: Pixel>(
+    scratch: &mut TxScratch,
+    input: &[T::Coeff],
+    output: &mut PlaneRegionMut<'_, T>,
+    tx_size: TxSize,
+    tx_type: TxType,
+    bd: usize,
+)
+    requires depth_in { (bd ≡ 8) ⊎ ((bd ≡ 10) ⊎ (bd ≡ 12)) }
+    requires depth_fits { bd ≤ T.BITS }
+    requires valid { IsTrue (valid_av1_transform tx_size tx_type) }
+    requires lossless { tx_type ≡ WHT_WHT → tx_size ≡ TX_4X4 }
+    requires input_len { coded_area tx_size ≤ length input.now }
+    requires input_fits { (i : ℕ) → i < coded_area tx_size → FitsBits (bd + 8) (at (map T.Coeff.val input.now) i) }
+    requires storage { InStorage output.old }
+    requires columns { tx_width tx_size ≤ output.old.place.width }
+    requires rows { tx_height tx_size ≤ output.old.place.height }
+    ensures painted { output.new ≡ painted output.old (tx_width tx_size) (tx_height tx_size) (λ r c v. T.pixel (clip bd (pos (T.num v) +ℤ residue tx_size tx_type bd (map T.Coeff.val input.now) r c))) }
+    ensures storage { InStorage output.new }
+{
+    add_over(
+        scratch.buffer.as_mut_slice(),
+        &mut scratch.line,
+        &mut scratch.done,
+        input,
+        output,
+        tx_size,
+        tx_type,
+        bd,
+    );
+}
+
+/// The same over scratch of its own. Where memory is refused, no sample changes.
+pub fn inverse_transform_add<T: Pixel>(
+    alloc: Global,
+    input: &[T::Coeff],
+    output: &mut PlaneRegionMut<'_, T>,
+    tx_size: TxSize,
+    tx_type: TxType,
+    bd: usize,
+) -> Result<(), OutOfMemory>
+    requires depth_in { (bd ≡ 8) ⊎ ((bd ≡ 10) ⊎ (bd ≡ 12)) }
+    requires depth_fits { bd ≤ T.BITS }
+    requires valid { IsTrue (valid_av1_transform tx_size tx_type) }
+    requires lossless { tx_type ≡ WHT_WHT → tx_size ≡ TX_4X4 }
+    requires input_len { coded_area tx_size ≤ length input.now }
+    requires input_fits { (i : ℕ) → i < coded_area tx_size → FitsBits (bd + 8) (at (map T.Coeff.val input.now) i) }
+    requires storage { InStorage output.old }
+    requires columns { tx_width tx_size ≤ output.old.place.width }
+    requires rows { tx_height tx_size ≤ output.old.place.height }
+    ensures painted { OnOk result (output.new ≡ painted output.old (tx_width tx_size) (tx_height tx_size) (λ r c v. T.pixel (clip bd (pos (T.num v) +ℤ residue tx_size tx_type bd (map T.Coeff.val input.now) r c)))) }
+    ensures refused { OnErr result (output.new ≡ output.old) }
+    ensures storage { InStorage output.new }
+{
+    let mut scratch = TxScratch::new(alloc)?;
+    inverse_transform_add_with(&mut scratch, input, output, tx_size, tx_type, bd);
+    Ok(())
+}

@@ -1,0 +1,55 @@
+//! Laws of the transforms, each a function that does nothing and ensures it.
+
+ghost use Rattle.std.specs.Prelude.{◌≡◌, ℕ, ◌*◌, ◌^◌, ◌≤◌, IsTrue, ℤ, pos, List, length, replicate, reverse};
+ghost use Rattle.std.specs.List.{All};
+ghost use Rattle.av1_blocks.specs.declared.transform.TxSize.{TxSize};
+ghost use Rattle.av1_blocks.specs.declared.transform.TxSize.TheVariants.{TX_4X4};
+ghost use Rattle.av1_blocks.specs.declared.transform.TxType.{TxType};
+ghost use Rattle.av1_blocks.specs.declared.transform.TxType.TheVariants.{WHT_WHT};
+ghost use Rattle.av1_blocks.specs.Transforms.{valid_av1_transform};
+ghost use Rattle.av1_dct.specs.Arithmetic.{FitsBits};
+ghost use Rattle.av1_dct.specs.Operations.{AreRight32, Operations};
+ghost use Rattle.av1_itx.specs.declared.kinds.TxType1D.{TxType1D};
+ghost use Rattle.av1_itx.specs.declared.kinds.TxType1D.TheVariants.{ADST, FLIPADST};
+ghost use Rattle.av1_itx.specs.Kinds.{column_kind, row_kind};
+ghost use Rattle.av1_itx.specs.Walsh.{walsh};
+ghost use Rattle.av1_itx.specs.Networks.{HasNetwork, network, network_with};
+ghost use Rattle.av1_itx.specs.Residue.{column_input, column_power, column_range, residue, row_power};
+
+/// A law: coefficients that are all zero have no residue, whatever the size, the type and the depth. So a block without coefficients
+/// needs no inverse transform.
+pub fn residue_of_zeros()
+    ensures { (size : TxSize) (type : TxType) (depth : ℕ) (coefficients : List ℤ) (r c : ℕ) → All (λ z. z ≡ pos 0) coefficients → residue size type depth coefficients r c ≡ pos 0 }
+{}
+
+/// A law: every inverse transform of zeros gives zeros. So a row of zeros need not be transformed.
+pub fn networks_of_zeros()
+    ensures { (kind : TxType1D) (range k : ℕ) → HasNetwork kind k → network kind range k (replicate (2 * 2 ^ k) (pos 0)) ≡ replicate (2 * 2 ^ k) (pos 0) }
+{}
+
+/// A law: the outputs of a flipped sine transform are those of the plain one in reverse order.
+pub fn flipped_is_reversed()
+    ensures { (range k : ℕ) (x : List ℤ) → network FLIPADST range k x ≡ reverse (network ADST range k x) }
+{}
+
+/// A law: the outputs of the Walsh-Hadamard transform determine its inputs.
+pub fn walsh_loses_nothing()
+    ensures { (x y : List ℤ) → length x ≡ 4 → length y ≡ 4 → walsh x ≡ walsh y → x ≡ y }
+{}
+
+/// A law: a type that may be used at a size has a transform of just the length of its rows and one of that of its columns.
+pub fn valid_types_have_networks()
+    ensures { (size : TxSize) (type : TxType) → IsTrue (valid_av1_transform size type) → (type ≡ WHT_WHT → size ≡ TX_4X4) → HasNetwork (row_kind type) (row_power size) × HasNetwork (column_kind type) (column_power size) }
+{}
+
+/// A law: where every input is a number of 18 signed bits and the range is at most 18, no sum and no product of an inverse transform
+/// leaves 32 bits. Operations that may give any number at all where a result does not fit still give the same outputs.
+pub fn networks_never_wrap()
+    ensures { (ops : Operations) → AreRight32 ops → (kind : TxType1D) (range k : ℕ) (x : List ℤ) → range ≤ 18 → All (FitsBits 18) x → network_with ops kind range k x ≡ network kind range k x }
+{}
+
+/// A law: at depths up to 12 the transforms of the columns have such inputs and such a range, whatever the rows gave.
+pub fn columns_never_wrap()
+    ensures range { (depth : ℕ) → depth ≤ 12 → column_range depth ≤ 18 }
+    ensures inputs { (size : TxSize) (depth : ℕ) (f : ℕ → ℤ) → depth ≤ 12 → All (FitsBits 18) (column_input size depth f) }
+{}

@@ -1,0 +1,64 @@
+-- Triples and leaves that are looked at one after the other.
+use Rattle.std.proofs.Common.{◌≡◌, ℕ, ◌+◌, ◌≤◌, ◌<◌, Bool, true, false, ◌&&◌, List, ◌∷◌, length, drop, get_or, Option, Some, None, refl, ◌∙◌, arith, add-one, drop-cons}
+use Rattle.std.specs.Prelude.{slice_get}
+use Rattle.std.proofs.lemmas.List.{drop_all}
+use Rattle.std.proofs.lemmas.Option.{slice_get_within, get_or_from_slice_get, slice_get-get_or}
+use Rattle.av1_plan.specs.declared.header.Header.{Header}
+use Rattle.av1_plan.specs.declared.geometry.PlaneArea.{PlaneArea}
+use Rattle.av1_plan.specs.declared.leaf.Triple.{Triple}
+use Rattle.av1_plan.specs.declared.error.InvalidKind.{InvalidKind}
+use Rattle.av1_plan.specs.declared.leaf.Leaf.{Leaf}
+use Rattle.av1_plan.specs.Plan.{leaf_value, leaf_values}
+use Rattle.av1_plan.proofs.Spans.{stored_leaf, length-leaf_values}
+use Rattle.av1_plan.specs.Validity.{is_coefficient, is_behind, are_coefficients, fault_of, fault_from}
+
+-- the item at a place, in front of those behind it
+front : {A : Type 0} (xs : List A) (i : ℕ) (d : A) → i < length xs → drop i xs ≡ get_or xs i d ∷ drop (i + 1) xs
+front xs i d lt = rw (add-one, drop-cons xs i d) refl
+
+pub triple_fits : (h : Header) (p : ℕ) (a : PlaneArea) (before : Option Triple) (triples : List Triple) (i : ℕ) (d : Triple) → i < length triples
+    → is_coefficient h p a (get_or triples i d) ≡ true → is_behind before (get_or triples i d) ≡ true
+    → are_coefficients h p a before (drop i triples) ≡ are_coefficients h p a (Some (get_or triples i d)) (drop (i + 1) triples)
+unfolding are_coefficients
+triple_fits h p a before triples i d lt fits behind = rw (front triples i d lt, fits, behind) refl
+
+pub triple_unfit : (h : Header) (p : ℕ) (a : PlaneArea) (before : Option Triple) (triples : List Triple) (i : ℕ) (d : Triple) → i < length triples
+    → is_coefficient h p a (get_or triples i d) ≡ false → are_coefficients h p a before (drop i triples) ≡ false
+unfolding are_coefficients
+triple_unfit h p a before triples i d lt unfit = rw (front triples i d lt, unfit) refl
+
+neither : (a b : Bool) → (a && false && b) ≡ false
+neither true b = refl
+neither false b = refl
+
+pub triple_not_behind : (h : Header) (p : ℕ) (a : PlaneArea) (before : Option Triple) (triples : List Triple) (i : ℕ) (d : Triple) → i < length triples
+    → is_behind before (get_or triples i d) ≡ false → are_coefficients h p a before (drop i triples) ≡ false
+unfolding are_coefficients
+triple_not_behind h p a before triples i d lt not_behind = rw (front triples i d lt, not_behind) (neither (is_coefficient h p a (get_or triples i d)) _)
+
+pub triples_end : (h : Header) (p : ℕ) (a : PlaneArea) (before : Option Triple) (triples : List Triple) (i : ℕ) → length triples ≤ i → are_coefficients h p a before (drop i triples) ≡ true
+unfolding are_coefficients
+triples_end h p a before triples i le = rw (drop_all i triples le) refl
+
+-- ---- leaves
+
+item_front : {A : Type 0} (xs : List A) (i : ℕ) (x : A) → slice_get xs i ≡ Some x → drop i xs ≡ x ∷ drop (i + 1) xs
+item_front xs i x e = front xs i x (slice_get_within xs i x e) ∙ rw (get_or_from_slice_get xs i x x e) refl
+
+leaf_front : (triples : List Triple) (leaves : List Leaf) (i : ℕ) (d : Leaf) → i < length leaves
+    → drop i (leaf_values triples leaves) ≡ leaf_value triples (get_or leaves i d) ∷ drop (i + 1) (leaf_values triples leaves)
+leaf_front triples leaves i d lt = item_front (leaf_values triples leaves) i _ (stored_leaf triples leaves i (get_or leaves i d) (slice_get-get_or leaves i d lt))
+
+pub leaf_valid : (h : Header) (triples : List Triple) (leaves : List Leaf) (i : ℕ) (d : Leaf) → i < length leaves → fault_of h (leaf_value triples (get_or leaves i d)) ≡ None
+    → fault_from h i (drop i (leaf_values triples leaves)) ≡ fault_from h (i + 1) (drop (i + 1) (leaf_values triples leaves))
+unfolding fault_from
+leaf_valid h triples leaves i d lt valid = rw (leaf_front triples leaves i d lt, valid) refl
+
+pub leaf_faulty : (h : Header) (triples : List Triple) (leaves : List Leaf) (i : ℕ) (d : Leaf) (kind : InvalidKind) → i < length leaves → fault_of h (leaf_value triples (get_or leaves i d)) ≡ Some kind
+    → fault_from h i (drop i (leaf_values triples leaves)) ≡ Some (record { leaf = i; kind = kind })
+unfolding fault_from
+leaf_faulty h triples leaves i d kind lt faulty = rw (leaf_front triples leaves i d lt, faulty) refl
+
+pub leaves_end : (h : Header) (triples : List Triple) (leaves : List Leaf) (i : ℕ) → length leaves ≤ i → fault_from h i (drop i (leaf_values triples leaves)) ≡ None
+unfolding fault_from
+leaves_end h triples leaves i le = rw (drop_all i (leaf_values triples leaves) (omega (arith, length-leaf_values triples leaves))) refl

@@ -1,0 +1,14 @@
+pub mod Formats
+pub mod Spelled
+pub mod Fields
+pub mod Lists
+pub mod Triples
+pub mod Blocks
+pub mod Answers
+pub mod Narrow
+pub mod Spans
+pub mod Signed
+pub mod Faults
+pub mod Pieces
+pub mod FourLeaves
+pub mod EveryPlan

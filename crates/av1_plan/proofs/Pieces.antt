@@ -1,0 +1,66 @@
+-- What the pieces of a spelled format spell: a format that goes on behind another is spelled where each of the two is.
+use Rattle.std.proofs.Common.{◌≡◌, ℕ, suc, ◌+◌, List, [], ◌∷◌, ◌++◌, refl, sym, ap, subst, ◌∙◌}
+use Rattle.std.proofs.lemmas.List.{append-nil}
+use Rattle.av1_plan.specs.Format.{Kind, Format, done, asks, IsAdmitted, ◌>>=◌, nothing, lone, ◌++>◌, in_turn}
+use Rattle.av1_plan.specs.Spelling.{Spells, IsSpelled}
+
+done_by : {A : Type 0} (x y : A) (vs : List ℕ) → Spells (done x) vs y → x ≡ y
+done_by x y [] s = s
+done_by x y (v ∷ vs) s = absurd s
+
+-- a format that asks for nothing has its own value
+pub spelled_done : {A : Type 0} (x y : A) → IsSpelled (done x) y → x ≡ y
+spelled_done x y s = done_by x y s.values s.spells
+
+asks_by : {A : Type 0} (k : Kind) (next : ℕ → Format A) (y : A) (vs : List ℕ) → Spells (asks k next) vs y → (v : ℕ) × IsAdmitted k v × IsSpelled (next v) y
+asks_by k next y [] s = absurd s
+asks_by k next y (v ∷ vs) s = (v, s.0, record { values = vs; spells = s.1 })
+
+-- a field has an admitted value that is built, and spells what its value decides
+pub spelled_asks : {A : Type 0} (k : Kind) (next : ℕ → Format A) (y : A) → IsSpelled (asks k next) y → (v : ℕ) × IsAdmitted k v × IsSpelled (next v) y
+spelled_asks k next y s = asks_by k next y s.values s.spells
+
+bind_by : {A B : Type 0} (f : Format A) (g : A → Format B) (y : B) (vs : List ℕ) → Spells (f >>= g) vs y → (x : A) × IsSpelled f x × IsSpelled (g x) y
+bind_by (done x) g y vs s = (x, record { values = []; spells = refl }, record { values = vs; spells = s })
+bind_by (asks k next) g y [] s = absurd s
+bind_by (asks k next) g y (v ∷ vs) s =
+    let (x, front, behind) = bind_by (next v) g y vs s.1 in
+    (x, record { values = v ∷ front.values; spells = (s.0, front.spells) }, behind)
+
+-- one format and then another
+pub spelled_bind : {A B : Type 0} (f : Format A) (g : A → Format B) (y : B) → IsSpelled (f >>= g) y → (x : A) × IsSpelled f x × IsSpelled (g x) y
+spelled_bind f g y s = bind_by f g y s.values s.spells
+
+-- no item
+pub spelled_nothing : {A : Type 0} (zs : List A) → IsSpelled nothing zs → [] ≡ zs
+spelled_nothing zs s = spelled_done [] zs s
+
+-- one item
+pub spelled_lone : {A : Type 0} (f : Format A) (zs : List A) → IsSpelled (lone f) zs → (x : A) × IsSpelled f x × (x ∷ [] ≡ zs)
+spelled_lone f zs s =
+    let (x, front, rest) = spelled_bind f (λ x. done (x ∷ [])) zs s in
+    (x, front, spelled_done (x ∷ []) zs rest)
+
+-- the items of one format, and behind them those of the other
+pub spelled_both : {A : Type 0} (f g : Format (List A)) (zs : List A) → IsSpelled (f ++> g) zs → (xs ys : List A) × IsSpelled f xs × IsSpelled g ys × (xs ++ ys ≡ zs)
+spelled_both f g zs s =
+    let (xs, front, rest) = spelled_bind f (λ xs. g >>= λ ys. done (xs ++ ys)) zs s in
+    let (ys, behind, end) = spelled_bind g (λ ys. done (xs ++ ys)) zs rest in
+    (xs, ys, front, behind, spelled_done (xs ++ ys) zs end)
+
+-- none in turn
+pub spelled_no_turn : {A : Type 0} (f : ℕ → Format (List A)) (i : ℕ) (zs : List A) → IsSpelled (in_turn f i 0) zs → [] ≡ zs
+unfolding in_turn
+spelled_no_turn f i zs s = spelled_nothing zs s
+
+-- one in turn, and then the others
+pub spelled_turn : {A : Type 0} (f : ℕ → Format (List A)) (i n : ℕ) (zs : List A) → IsSpelled (in_turn f i (suc n)) zs → (xs ys : List A) × IsSpelled (f i) xs × IsSpelled (in_turn f (i + 1) n) ys × (xs ++ ys ≡ zs)
+unfolding in_turn
+spelled_turn f i n zs s = spelled_both (f i) (in_turn f (i + 1) n) zs s
+
+-- a single turn
+pub spelled_one_turn : {A : Type 0} (f : ℕ → Format (List A)) (i : ℕ) (zs : List A) → IsSpelled (in_turn f i 1) zs → IsSpelled (f i) zs
+spelled_one_turn f i zs s =
+    let (xs, ys, front, behind, is) = spelled_turn f i 0 zs s in
+    let none = spelled_no_turn f (i + 1) ys behind in
+    subst (λ (t : List _). IsSpelled (f i) t) (sym (append-nil xs) ∙ ap (λ (t : List _). xs ++ t) none ∙ is) front

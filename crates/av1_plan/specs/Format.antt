@@ -1,0 +1,120 @@
+-- Formats of bytes: which fields a text has, one after the other, where each value may decide what is asked for next.
+use Rattle.std.specs.Prelude.{◌==◌, zero, suc, ℕ, ◌+◌, ◌<◌, ◌^◌, Bool, true, IsTrue, ◌&&◌, List, [], ◌∷◌, ◌++◌, length, take, drop, Result, Ok, Err, nat_le, if◌then◌else◌}
+use Rattle.std.specs.Int.{Width, byte_len, from_le_bytes}
+use Rattle.std.specs.Int.{w8, w16, w32}
+
+-- how many bytes a field has
+pub data Length : Type 0 where
+  one two four : Length
+
+-- the same as a width of integers
+abbrev pub width : Length → Width
+width one = w8
+width two = w16
+width four = w32
+
+-- the numbers of a field of this length lie below
+abbrev pub limit : Length → ℕ
+limit one = 2 ^ 8
+limit two = 2 ^ 16
+limit four = 2 ^ 32
+
+-- the kind of a field: how many bytes it has (a number, little-endian), which numbers are admitted, and which of these are
+-- built yet
+pub record Kind : Type 0 where
+  pub size : Length
+  pub admits : ℕ → Bool
+  pub built : ℕ → Bool
+
+-- what is asked for: nothing more, or a field of this kind, and then what its value decides
+pub data Format (A : Type 0) : Type 0 where
+  done : A → Format A
+  asks : Kind → (ℕ → Format A) → Format A
+
+-- a value that a field of this kind may have
+pub record IsAdmitted (k : Kind) (v : ℕ) : Type 0 where
+  pub fits : v < limit k.size
+  pub admitted : IsTrue (k.admits v)
+  pub built : IsTrue (k.built v)
+
+-- one format, and then the one that its value decides
+infixl 10 ◌>>=◌
+abbrev pub ◌>>=◌ : {A B : Type 0} → Format A → (A → Format B) → Format B
+(done x) >>= f = f x
+(asks k next) >>= f = asks k (λ v. next v >>= f)
+
+-- one field alone
+abbrev pub field : Kind → Format ℕ
+field k = asks k (λ v. done v)
+
+-- any number of this length
+abbrev pub any : Length → Kind
+any size = record { size = size; admits = λ _. true; built = λ _. true }
+
+-- ---- formats of lists
+
+-- no item
+abbrev pub nothing : {A : Type 0} → Format (List A)
+nothing = done []
+
+-- one item
+abbrev pub lone : {A : Type 0} → Format A → Format (List A)
+lone f = f >>= λ x. done (x ∷ [])
+
+-- the items of one format, and behind them those of the other
+infixl 20 ◌++>◌
+abbrev pub ◌++>◌ : {A : Type 0} → Format (List A) → Format (List A) → Format (List A)
+f ++> g = f >>= λ xs. g >>= λ ys. done (xs ++ ys)
+
+-- f i, f (i + 1) and so on, n of them
+unfoldable pub in_turn : {A : Type 0} → (ℕ → Format (List A)) → ℕ → ℕ → Format (List A)
+in_turn f i zero = nothing
+in_turn f i (suc n) = f i ++> in_turn f (i + 1) n
+
+-- ---- reading from left to right
+
+-- why a reading stopped, and the place of the field at which it did
+pub data Fault : Type 0 where
+  malformed : ℕ → Fault
+  not_built : ℕ → Fault
+
+-- the place of the next field, and the bytes from there on
+pub record Input : Type 0 where
+  pub at : ℕ
+  pub rest : List ℕ
+
+-- the next step of a reading, unless it has stopped
+abbrev pub on_ok : {A B : Type 0} → Result A Fault → (A → Result B Fault) → Result B Fault
+on_ok (Ok x) f = f x
+on_ok (Err fault) f = Err fault
+
+-- the number at the front and what is left; malformed where it is cut or not admitted, not_built where it is admitted but
+-- not built yet
+unfoldable pub read_field : Kind → Input → Result (ℕ × Input) Fault
+read_field k i =
+    let n = byte_len (width k.size) in
+    let value = from_le_bytes (width k.size) (take n i.rest) in
+    if nat_le n (length i.rest) && k.admits value then
+    (if k.built value then Ok (value, record { at = i.at + n; rest = drop n i.rest }) else Err (not_built i.at))
+    else Err (malformed i.at)
+
+-- the value that the front spells, and what is left
+abbrev pub read : {A : Type 0} → Format A → Input → Result (A × Input) Fault
+read (done x) i = Ok (x, i)
+read (asks k next) i = on_ok (read_field k i) (λ p. read (next p.0) p.1)
+
+-- reads more items, behind those that were read before
+unfoldable pub add : {A : Type 0} → Format (List A) → List A × Input → Result (List A × Input) Fault
+add f s = on_ok (read f s.1) (λ p. Ok (s.0 ++ p.0, p.1))
+
+-- the value, where no byte is left
+abbrev pub ended : {A : Type 0} → A × Input → Result A Fault
+ended p = if length p.1.rest == 0 then Ok p.0 else Err (malformed p.1.at)
+
+-- the value that all of the bytes spell
+abbrev pub read_all : {A : Type 0} → Format A → Input → Result A Fault
+read_all f i = on_ok (read f i) ended
+
+-- bytes of which nothing is read yet
+abbrev pub start : List ℕ → Input
+start bytes = record { at = 0; rest = bytes }

@@ -1,0 +1,99 @@
+-- What of each plane a leaf covers. Planes are counted 0 for Y, 1 for U and 2 for V.
+use Rattle.std.specs.Prelude.{ℕ, zero, suc, ◌+◌, ◌*◌, ◌/◌, ◌%◌, ◌^◌, Bool, ◌==◌, ◌&&◌, ◌||◌, not, nat_lt, if◌then◌else◌, Option, Some, None, List}
+use Rattle.std.specs.List.{filter_map, range_with_len}
+use Rattle.std.specs.Result.{result_unwrap_or}
+use Rattle.av1_blocks.specs.declared.partition.BlockSize.{BlockSize}
+use Rattle.av1_blocks.specs.declared.transform.TxSize.{TxSize}
+use Rattle.av1_blocks.specs.Blocks.{block_width, block_height}
+use Rattle.av1_blocks.specs.Chroma.{subsampled_size, largest_chroma_tx_size}
+use Rattle.av1_blocks.specs.Transforms.{tx_width, tx_height}
+use Rattle.av1_plan.specs.declared.header.Header.{Header}
+use Rattle.av1_plan.specs.declared.geometry.PlaneArea.{PlaneArea}
+use Rattle.av1_plan.specs.declared.geometry.TransformBlock.{TransformBlock}
+
+-- ---- planes
+
+-- the logarithm to base 2 of how many luma columns a sample of plane p stands for: 1 in the chroma of 4:2:0 and 4:2:2
+unfoldable pub xdec : Header → ℕ → ℕ
+xdec h zero = 0
+xdec h (suc p) = if nat_lt h.sampling 2 then 1 else 0
+
+-- the same of luma rows: 1 in the chroma of 4:2:0
+unfoldable pub ydec : Header → ℕ → ℕ
+ydec h zero = 0
+ydec h (suc p) = if h.sampling == 0 then 1 else 0
+
+-- the columns of the visible plane p, in samples
+unfoldable pub plane_width : Header → ℕ → ℕ
+plane_width h p = h.width / 2 ^ xdec h p
+
+-- the rows of the visible plane p, in samples
+unfoldable pub plane_height : Header → ℕ → ℕ
+plane_height h p = h.height / 2 ^ ydec h p
+
+-- how many samples plane p has
+abbrev pub plane_len : Header → ℕ → ℕ
+plane_len h p = plane_width h p * plane_height h p
+
+-- whether a slot carries reference planes: its bit of the mask is set
+unfoldable pub has_slot : Header → ℕ → Bool
+has_slot h slot = h.mask / 2 ^ slot % 2 == 1
+
+-- whether a sample of luma lies in the frame
+unfoldable pub is_inside : Header → ℕ → ℕ → Bool
+is_inside h x y = nat_lt x h.width && nat_lt y h.height
+
+-- ---- leaves
+
+-- whether a leaf at a place (x, y) in luma carries chroma: in a halved direction a leaf of side 4 at an even cell does not, and
+-- the one behind it carries chroma for both (`HasChroma` of the AV1 specification)
+unfoldable pub carries_chroma : Header → ℕ → ℕ → BlockSize → Bool
+carries_chroma h x y size = not (xdec h 1 == 1 && block_width size == 4 && x / 4 % 2 == 0) && not (ydec h 1 == 1 && block_height size == 4 && y / 4 % 2 == 0)
+
+-- whether it covers a part of plane p
+unfoldable pub covers_plane : Header → ℕ → ℕ → BlockSize → ℕ → Bool
+covers_plane h x y size p = p == 0 || carries_chroma h x y size
+
+-- where the leaf's rectangle in plane p begins: in chroma at a cell of 4 samples
+unfoldable pub plane_place : ℕ → ℕ → ℕ → ℕ
+plane_place zero z dec = z
+plane_place (suc p) z dec = z / 4 / 2 ^ dec * 4
+
+-- its size there: the block's own in luma, and in chroma the decimated one (where that is refused, so is the leaf)
+unfoldable pub plane_size : Header → BlockSize → ℕ → BlockSize
+plane_size h size p = result_unwrap_or (subsampled_size size (xdec h p) (ydec h p)) size
+
+-- the size of its transforms there: the leaf's in luma, and in chroma the largest
+unfoldable pub plane_tx_size : Header → BlockSize → TxSize → ℕ → TxSize
+plane_tx_size h size tx_size zero = tx_size
+plane_tx_size h size tx_size (suc p) = largest_chroma_tx_size size (xdec h (suc p)) (ydec h (suc p))
+
+-- the rectangle in plane p of a leaf that covers a part of it, and the size of its transforms
+unfoldable pub plane_area : Header → ℕ → ℕ → BlockSize → TxSize → ℕ → PlaneArea
+plane_area h x y size tx_size p = record { x = plane_place p x (xdec h p); y = plane_place p y (ydec h p); size = plane_size h size p; tx_size = plane_tx_size h size tx_size p }
+
+-- ---- transform blocks, numbered in raster order over the whole rectangle
+
+-- how many stand side by side
+unfoldable pub blocks_across : PlaneArea → ℕ
+blocks_across a = block_width a.size / tx_width a.tx_size
+
+-- how many there are
+unfoldable pub block_count : PlaneArea → ℕ
+block_count a = blocks_across a * (block_height a.size / tx_height a.tx_size)
+
+-- where block n begins in the plane
+unfoldable pub block_at : PlaneArea → ℕ → TransformBlock
+block_at a n = record { x = a.x + n % blocks_across a * tx_width a.tx_size; y = a.y + n / blocks_across a * tx_height a.tx_size }
+
+-- whether there is a block n, and it begins in the visible plane p
+unfoldable pub has_block : Header → ℕ → PlaneArea → ℕ → Bool
+has_block h p a n = nat_lt n (block_count a) && nat_lt (block_at a n).x (plane_width h p) && nat_lt (block_at a n).y (plane_height h p)
+
+-- block n, where there is one that begins in the visible plane p
+unfoldable pub transform_block : Header → ℕ → PlaneArea → ℕ → Option TransformBlock
+transform_block h p a n = if has_block h p a n then Some (block_at a n) else None
+
+-- the blocks of a rectangle: those that begin outside the visible plane keep their number and are left out
+unfoldable pub transform_blocks : Header → ℕ → PlaneArea → List TransformBlock
+transform_blocks h p a = filter_map (transform_block h p a) (range_with_len 0 (block_count a))

@@ -1,0 +1,290 @@
+-- The plan grammar: the fields of a plan, in their order. Numbers are little-endian.
+use Rattle.std.specs.Prelude.{codes, zero, suc, ◌+◌, ◌*◌, ◌/◌, ◌%◌, ◌^◌, ◌&&◌, ◌||◌, slice_index_or, Option, Some, None, nat_lt, nat_le, ℕ, ◌≤◌, IsTrue, Bool, true, false, ◌==◌, if◌then◌else◌, List, [], ◌∷◌}
+use Rattle.std.specs.List.{list_all}
+use Rattle.std.specs.Int.{w8, w16, w32, cast_signed, is_in_range, from_le_bytes}
+use Rattle.av1_blocks.specs.declared.mc.FilterMode.TheVariants.{REGULAR}
+use Rattle.av1_blocks.specs.declared.mc.TheConstants.FilterMode as filter_modes
+use Rattle.av1_blocks.specs.declared.mc.MotionVector.{MotionVector}
+use Rattle.av1_blocks.specs.declared.partition.BlockSize.{BlockSize}
+use Rattle.av1_blocks.specs.declared.partition.BlockSize.TheVariants.{BLOCK_4X4, BLOCK_4X8, BLOCK_8X4, BLOCK_8X8, BLOCK_8X16, BLOCK_16X8, BLOCK_16X16, BLOCK_16X32, BLOCK_32X16, BLOCK_32X32, BLOCK_32X64, BLOCK_64X32, BLOCK_64X64}
+use Rattle.av1_blocks.specs.declared.partition.RefType.{RefType}
+use Rattle.av1_blocks.specs.declared.partition.RefType.TheVariants.{INTRA_FRAME}
+use Rattle.av1_blocks.specs.declared.partition.TheConstants.RefType as references_by_number
+use Rattle.av1_blocks.specs.declared.predict.PredictionMode.{PredictionMode}
+use Rattle.av1_blocks.specs.declared.predict.PredictionMode.TheVariants.{DC_PRED}
+use Rattle.av1_blocks.specs.declared.predict.TheConstants.PredictionMode as modes
+use Rattle.av1_blocks.specs.declared.transform.TxSize.{TxSize}
+use Rattle.av1_blocks.specs.declared.transform.TxSize.TheVariants.{TX_4X4}
+use Rattle.av1_blocks.specs.declared.transform.TheConstants.TxSize as tx_sizes
+use Rattle.av1_blocks.specs.declared.transform.TxType.{TxType}
+use Rattle.av1_blocks.specs.declared.transform.TxType.TheVariants.{DCT_DCT}
+use Rattle.av1_blocks.specs.declared.transform.TheConstants.TxType as tx_types
+use Rattle.av1_plan.specs.Format.{Length, one, two, four, Kind, Format, done, ◌>>=◌, field, any, nothing, lone, ◌++>◌, in_turn}
+use Rattle.av1_plan.specs.Built.{is_built}
+use Rattle.av1_plan.specs.Geometry.{plane_len, has_slot, is_inside, carries_chroma, plane_tx_size}
+use Rattle.av1_plan.specs.Plan.{LeafValue, PlanValue}
+use Rattle.av1_plan.specs.declared.built.Field.{Field}
+use Rattle.av1_plan.specs.declared.built.Field.TheVariants as fields
+use Rattle.av1_plan.specs.declared.header.Header.{Header}
+use Rattle.av1_plan.specs.declared.leaf.Triple.{Triple}
+use Rattle.av1_plan.specs.declared.leaf.ChromaMode.{ChromaMode}
+use Rattle.av1_plan.specs.declared.leaf.ChromaMode.TheVariants.{Plain, Cfl}
+use Rattle.av1_plan.specs.declared.leaf.LeafKind.{LeafKind}
+use Rattle.av1_plan.specs.declared.leaf.LeafKind.TheVariants.{Intra, Single, Compound}
+
+-- ---- kinds of fields
+
+-- a number of this length that passes a test
+abbrev pub where_ : Length → Field → (ℕ → Bool) → Kind
+where_ size name admits = record { size = size; admits = admits; built = is_built name }
+
+-- a byte from first to last
+abbrev pub byte_from : Field → ℕ → ℕ → Kind
+byte_from name first last = where_ one name (is_in_range first last)
+
+-- a signed byte
+abbrev pub signed_byte : Field → Kind
+signed_byte name = byte_from name 0 255
+
+-- two bytes, any number
+abbrev pub half : Field → Kind
+half name = where_ two name (λ _. true)
+
+-- ---- what stands before the leaves
+
+-- the four letters at the front
+abbrev pub magic : Kind
+magic = where_ four fields.Other (λ v. v == from_le_bytes w32 (codes "RPL1"))
+
+-- a side of a frame, in samples of luma
+abbrev pub is_side : ℕ → Bool
+is_side v = v % 8 == 0 && is_in_range 8 2048 v
+
+-- bits of a sample
+abbrev pub is_depth : ℕ → Bool
+is_depth v = v == 8 || v == 10 || v == 12
+
+-- the values of a header are admitted
+pub record IsAdmittedHeader (h : Header) : Type 0 where
+  pub width : IsTrue (is_side h.width)
+  pub height : IsTrue (is_side h.height)
+  pub depth : IsTrue (is_depth h.depth)
+  pub sampling : h.sampling ≤ 2
+  pub slots : IsTrue (list_all (λ slot. nat_le slot 7) h.slots)
+
+-- the slots that LAST, LAST2, LAST3, GOLDEN, BWDREF, ALTREF2 and ALTREF name
+unfoldable pub slots : Format (List ℕ)
+slots = do
+  last ← field (byte_from fields.Other 0 7)
+  last_2 ← field (byte_from fields.Other 0 7)
+  last_3 ← field (byte_from fields.Other 0 7)
+  golden ← field (byte_from fields.Other 0 7)
+  backward ← field (byte_from fields.Other 0 7)
+  alternate_2 ← field (byte_from fields.Other 0 7)
+  alternate ← field (byte_from fields.Other 0 7)
+  done (last ∷ last_2 ∷ last_3 ∷ golden ∷ backward ∷ alternate_2 ∷ alternate ∷ [])
+
+-- the frame and what holds for all leaves
+unfoldable pub header : Format Header
+header = do
+  _ ← field magic
+  width ← field (where_ two fields.Width is_side)
+  height ← field (where_ two fields.Height is_side)
+  depth ← field (where_ one fields.Depth is_depth)
+  sampling ← field (byte_from fields.Sampling 0 2)
+  filter ← field (byte_from fields.Other 0 3)
+  edge_filter ← field (byte_from fields.Other 0 1)
+  slots ← slots
+  mask ← field (byte_from fields.Mask 0 255)
+  done (record { width = width; height = height; depth = depth; sampling = sampling; filter = slice_index_or filter_modes.ALL filter REGULAR; edge_filter = edge_filter == 1; slots = slots; mask = mask })
+
+-- a sample of a reference: one byte at depth 8, else two
+abbrev pub sample : ℕ → Kind
+sample depth = if depth == 8 then byte_from fields.Other 0 255 else where_ two fields.Other (λ v. nat_lt v (2 ^ depth))
+
+-- the samples of a plane of this many, row by row
+unfoldable pub plane : ℕ → ℕ → Format (List ℕ)
+plane depth len = in_turn (λ _. lone (field (sample depth))) 0 len
+
+-- the three planes of a reference
+unfoldable pub reference : Header → Format (List (List ℕ))
+reference h = do
+  y ← plane h.depth (plane_len h 0)
+  u ← plane h.depth (plane_len h 1)
+  v ← plane h.depth (plane_len h 2)
+  done (y ∷ u ∷ v ∷ [])
+
+-- the planes of a slot, where it carries planes
+unfoldable pub slot_planes : Header → ℕ → Format (Option (List (List ℕ)))
+slot_planes h slot = if has_slot h slot then (reference h >>= λ planes. done (Some planes)) else done None
+
+-- the eight slots, rising
+unfoldable pub references : Header → Format (List (Option (List (List ℕ))))
+references h = in_turn (λ slot. lone (slot_planes h slot)) 0 8
+
+-- ---- leaves
+
+-- down and right, in eighths of a sample
+unfoldable pub vector : Format MotionVector
+vector = do
+  row ← field (half fields.Vector)
+  col ← field (half fields.Vector)
+  done (record { row = cast_signed w16 row; col = cast_signed w16 col })
+
+-- a reference frame, from LAST to ALTREF
+unfoldable pub reference_frame : Format RefType
+reference_frame = do
+  number ← field (byte_from fields.Reference 1 7)
+  done (slice_index_or references_by_number.ALL number INTRA_FRAME)
+
+-- an intra mode and its angle step, or the two weights of chroma from luma
+unfoldable pub chroma_mode : Format ChromaMode
+chroma_mode = do
+  mode ← field (byte_from fields.ChromaMode 0 13)
+  if mode == 13 then (do
+    u ← field (signed_byte fields.Alpha)
+    v ← field (signed_byte fields.Alpha)
+    done (Cfl (cast_signed w8 u) (cast_signed w8 v))) else (do
+      step ← field (signed_byte fields.AngleStep)
+      done (Plain (slice_index_or modes.ALL mode DC_PRED) (cast_signed w8 step)))
+
+-- an intra leaf: an angle step, and the chroma mode where chroma is carried
+unfoldable pub intra : Bool → PredictionMode → Format LeafKind
+intra has_chroma mode = do
+  step ← field (signed_byte fields.AngleStep)
+  if has_chroma then (do
+    chroma ← chroma_mode
+    done (Intra mode (cast_signed w8 step) (Some chroma))) else
+      done (Intra mode (cast_signed w8 step) None)
+
+-- a leaf predicted from one reference
+unfoldable pub single : PredictionMode → Format LeafKind
+single mode = do
+  reference ← reference_frame
+  mv ← vector
+  done (Single mode reference mv)
+
+-- a leaf predicted from two references
+unfoldable pub compound : PredictionMode → Format LeafKind
+compound mode = do
+  reference ← reference_frame
+  mv ← vector
+  second ← reference_frame
+  second_mv ← vector
+  done (Compound mode (reference ∷ second ∷ []) (mv ∷ second_mv ∷ []))
+
+-- the luma mode, and what it asks for
+unfoldable pub leaf_kind : Bool → Format LeafKind
+leaf_kind has_chroma = do
+  number ← field (byte_from fields.LumaMode 0 33)
+  if nat_lt number 14 then intra has_chroma (slice_index_or modes.ALL number DC_PRED)
+      else if nat_lt number 20 then single (slice_index_or modes.ALL number DC_PRED)
+      else compound (slice_index_or modes.ALL number DC_PRED)
+
+-- the size of the luma transforms
+unfoldable pub tx_size : Format TxSize
+tx_size = do
+  number ← field (byte_from fields.LumaTransform 0 18)
+  done (slice_index_or tx_sizes.ALL number TX_4X4)
+
+-- the type of the luma or the chroma transforms
+unfoldable pub tx_type : Format TxType
+tx_type = do
+  number ← field (byte_from fields.TransformType 0 16)
+  done (slice_index_or tx_types.ALL number DCT_DCT)
+
+-- the type of the chroma transforms, where chroma is carried
+unfoldable pub uv_type : Bool → Format (Option TxType)
+uv_type true = tx_type >>= λ t. done (Some t)
+uv_type false = done None
+
+-- a coefficient: its block, its place there and its value
+unfoldable pub triple : Format Triple
+triple = do
+  block ← field (any one)
+  place ← field (any two)
+  value ← field (any four)
+  done (record { block = block; place = place; value = cast_signed w32 value })
+
+-- a count, and so many triples
+unfoldable pub triples : Field → Format (List Triple)
+triples name = do
+  count ← field (half name)
+  in_turn (λ _. lone triple) 0 count
+
+-- the triples of U and of V, where chroma is carried, by the size of its transforms
+unfoldable pub chroma_triples : Bool → TxSize → Format (List (List Triple))
+chroma_triples true size = do
+  u ← triples (fields.ChromaCount size)
+  v ← triples (fields.ChromaCount size)
+  done (u ∷ v ∷ [])
+chroma_triples false size = done ([] ∷ [] ∷ [])
+
+-- a leaf of this size at this place
+unfoldable pub leaf : Header → BlockSize → ℕ → ℕ → Format LeafValue
+leaf h size x y = do
+  kind ← leaf_kind (carries_chroma h x y size)
+  tx_size ← tx_size
+  tx_type ← tx_type
+  uv_type ← uv_type (carries_chroma h x y size)
+  luma ← triples fields.Other
+  chroma ← chroma_triples (carries_chroma h x y size) (plane_tx_size h size tx_size 1)
+  done (record { x = x; y = y; size = size; kind = kind; tx_size = tx_size; tx_type = tx_type; uv_type = uv_type; triples = luma ∷ chroma })
+
+-- ---- nodes
+
+-- half the side of a node of this level, which has side 4 * 2 ^ level
+abbrev pub half_side : ℕ → ℕ
+half_side level = 2 * 2 ^ level
+
+-- the size of a leaf that is a whole node of this level
+unfoldable pub whole_size : ℕ → BlockSize
+whole_size level = slice_index_or (BLOCK_4X4 ∷ BLOCK_8X8 ∷ BLOCK_16X16 ∷ BLOCK_32X32 ∷ BLOCK_64X64 ∷ []) level BLOCK_4X4
+
+-- the size of the upper and the lower half of a node
+unfoldable pub wide_size : ℕ → BlockSize
+wide_size level = slice_index_or (BLOCK_4X4 ∷ BLOCK_8X4 ∷ BLOCK_16X8 ∷ BLOCK_32X16 ∷ BLOCK_64X32 ∷ []) level BLOCK_4X4
+
+-- the size of the left and the right half of a node
+unfoldable pub tall_size : ℕ → BlockSize
+tall_size level = slice_index_or (BLOCK_4X4 ∷ BLOCK_4X8 ∷ BLOCK_8X16 ∷ BLOCK_16X32 ∷ BLOCK_32X64 ∷ []) level BLOCK_4X4
+
+-- a part whose corner lies outside the frame isn't in the plan
+abbrev pub inside : Header → ℕ → ℕ → Format (List LeafValue) → Format (List LeafValue)
+inside h x y f = if is_inside h x y then f else nothing
+
+-- a part that is a leaf
+unfoldable pub part : Header → BlockSize → ℕ → ℕ → Format (List LeafValue)
+part h size x y = inside h x y (lone (leaf h size x y))
+
+-- the parts of a node of this level by its mark (none, horizontal, vertical, split), where quarter gives the part of half the
+-- side at a place
+unfoldable pub parts : Header → ℕ → (ℕ → ℕ → Format (List LeafValue)) → ℕ → ℕ → ℕ → Format (List LeafValue)
+parts h level quarter x y zero = part h (whole_size level) x y
+parts h level quarter x y (suc zero) = part h (wide_size level) x y ++> part h (wide_size level) x (y + half_side level)
+parts h level quarter x y (suc (suc zero)) = part h (tall_size level) x y ++> part h (tall_size level) (x + half_side level) y
+parts h level quarter x y (suc (suc (suc mark))) = quarter x y ++> quarter (x + half_side level) y ++> quarter x (y + half_side level) ++> quarter (x + half_side level) (y + half_side level)
+
+-- a part of side 4 * 2 ^ level: a 4x4 leaf at level 0, else a node
+unfoldable pub block : Header → ℕ → ℕ → ℕ → Format (List LeafValue)
+block h zero x y = part h BLOCK_4X4 x y
+block h (suc level) x y = inside h x y (do
+  mark ← field (byte_from fields.Mark 0 3)
+  parts h (suc level) (block h level) x y mark)
+
+-- the superblocks, of side 64, whose corner lies in the frame: one row of them
+unfoldable pub superblock_row : Header → ℕ → Format (List LeafValue)
+superblock_row h row = in_turn (λ col. block h 4 (64 * col) (64 * row)) 0 ((h.width + 63) / 64)
+
+-- all of them, in raster order
+unfoldable pub superblocks : Header → Format (List LeafValue)
+superblocks h = in_turn (superblock_row h) 0 ((h.height + 63) / 64)
+
+-- ---- the whole
+
+unfoldable pub plan : Format PlanValue
+plan = do
+  header ← header
+  references ← references header
+  leaves ← superblocks header
+  done (record { header = header; references = references; leaves = leaves })

@@ -1,0 +1,10 @@
+pub mod Format
+pub mod Spelling
+pub mod Built
+pub mod Geometry
+pub mod Plan
+pub mod Validity
+pub mod Grammar
+pub mod Reading
+pub mod Parsing
+pub mod Answer

@@ -1,0 +1,39 @@
+-- What the functions that read give: words of private contracts.
+use Rattle.std.specs.Prelude.{◌≡◌, ℕ, ◌+◌, ◌≤◌, ◌^◌, List, length, take, drop, Result, Ok, Err}
+use Rattle.av1_plan.specs.declared.error.PlanError.{PlanError}
+use Rattle.av1_plan.specs.declared.error.PlanError.TheVariants as errors
+use Rattle.av1_plan.specs.declared.reader.Reader.{Reader}
+use Rattle.av1_plan.specs.declared.leaf.Triple.{Triple}
+use Rattle.av1_plan.specs.Format.{Fault, malformed, not_built, Input}
+
+-- the error is the fault of the reading, or memory ran out
+abbrev pub Fails : {Y : Type 0} → PlanError → Result Y Fault → Type 0
+Fails errors.Memory reading = Unit {0}
+Fails (errors.Malformed at) reading = reading ≡ Err (malformed at)
+Fails (errors.NotBuilt at) reading = reading ≡ Err (not_built at)
+
+-- what a function returned, seen by view, is what reading gives, unless memory ran out
+abbrev pub Gives : {X Y : Type 0} → (X → Y) → Result X PlanError → Result Y Fault → Type 0
+Gives view (Ok x) reading = reading ≡ Ok (view x)
+Gives view (Err e) reading = Fails e reading
+
+-- where a reader stands
+abbrev pub input : Reader → Input
+input r = record { at = r.at; rest = r.rest.now }
+
+-- every place from here to the end fits
+abbrev pub Fits : Reader → Type 0
+Fits r = r.at + length r.rest.now ≤ 2 ^ 26
+
+-- the place went on, and the end is where it was
+abbrev pub Moves : Reader → Reader → Type 0
+Moves r s = (s.at + length s.rest.now ≡ r.at + length r.rest.now) × (r.at ≤ s.at)
+
+-- new has n triples more than old, at its end
+pub record Extends (old new : List Triple) (n : ℕ) : Type 0 where
+  pub front : take (length old) new ≡ old
+  pub count : length new ≡ length old + n
+
+-- the n triples that came behind old
+abbrev pub added : List Triple → List Triple → ℕ → List Triple
+added old new n = take n (drop (length old) new)

@@ -1,0 +1,147 @@
+-- Which leaves are valid: the six reasons for which one is refused.
+use Rattle.std.specs.Prelude.{ℕ, ℤ, pos, neg_ℤ, int_lt, ◌+◌, ◌-◌, ◌*◌, ◌^◌, Bool, true, ◌==◌, ◌&&◌, ◌||◌, not, nat_lt, nat_le, nat_abs, min, if◌then◌else◌, Option, Some, None, List, [], ◌∷◌, slice_index_or, is_ok}
+use Rattle.std.specs.List.{list_all}
+use Rattle.av1_blocks.specs.declared.mc.MotionVector.{MotionVector}
+use Rattle.av1_blocks.specs.declared.partition.BlockSize.{BlockSize}
+use Rattle.av1_blocks.specs.declared.partition.RefType.{RefType}
+use Rattle.av1_blocks.specs.declared.predict.PredictionMode.{PredictionMode}
+use Rattle.av1_blocks.specs.declared.transform.TxSize.{TxSize}
+use Rattle.av1_blocks.specs.declared.transform.TxType.{TxType}
+use Rattle.av1_blocks.specs.Blocks.{block_width, block_height}
+use Rattle.av1_blocks.specs.Chroma.{subsampled_size}
+use Rattle.av1_blocks.specs.Modes.{is_cfl, is_directional}
+use Rattle.av1_blocks.specs.References.{reference_number}
+use Rattle.av1_blocks.specs.Transforms.{tx_number, tx_width, tx_height, tx_type_number, valid_av1_transform}
+use Rattle.av1_plan.specs.declared.header.Header.{Header}
+use Rattle.av1_plan.specs.declared.geometry.PlaneArea.{PlaneArea}
+use Rattle.av1_plan.specs.declared.leaf.Triple.{Triple}
+use Rattle.av1_plan.specs.declared.leaf.ChromaMode.{ChromaMode}
+use Rattle.av1_plan.specs.declared.leaf.ChromaMode.TheVariants.{Plain, Cfl}
+use Rattle.av1_plan.specs.declared.leaf.LeafKind.{LeafKind}
+use Rattle.av1_plan.specs.declared.leaf.LeafKind.TheVariants.{Intra, Single, Compound}
+use Rattle.av1_plan.specs.declared.error.Invalid.{Invalid}
+use Rattle.av1_plan.specs.declared.error.InvalidKind.{InvalidKind}
+use Rattle.av1_plan.specs.declared.error.InvalidKind.TheVariants as kinds
+use Rattle.av1_plan.specs.Geometry.{xdec, ydec, has_slot, carries_chroma, plane_tx_size, plane_area, has_block}
+use Rattle.av1_plan.specs.Plan.{LeafValue, PlanValue}
+
+-- ---- sizes and transforms
+
+-- chroma of a leaf of this size has a size of its own
+unfoldable pub has_block_size : Header → BlockSize → Bool
+has_block_size h size = is_ok (subsampled_size size (xdec h 1) (ydec h 1))
+
+-- a transform of this size may be of this type; the Walsh-Hadamard transform is for 4x4 alone
+unfoldable pub is_transform : TxSize → TxType → Bool
+is_transform size type = valid_av1_transform size type && (not (tx_type_number type == 16) || tx_number size == 0)
+
+-- luma's transforms are no longer than the leaf, and all are of a type that their size has
+unfoldable pub has_transforms : Header → BlockSize → TxSize → TxType → Option TxType → Bool
+has_transforms h size tx_size tx_type (Some uv_type) = nat_le (tx_width tx_size) (block_width size) && nat_le (tx_height tx_size) (block_height size) && is_transform tx_size tx_type && is_transform (plane_tx_size h size tx_size 1) uv_type
+has_transforms h size tx_size tx_type None = nat_le (tx_width tx_size) (block_width size) && nat_le (tx_height tx_size) (block_height size) && is_transform tx_size tx_type
+
+-- ---- modes
+
+-- an angle step from -3 to 3, and 0 on a mode without an angle
+unfoldable pub is_step : PredictionMode → ℤ → Bool
+is_step mode step = nat_le (nat_abs step) 3 && (nat_abs step == 0 || is_directional mode)
+
+-- the two weights lie from -16 to 16, and no side of the leaf is past 32
+unfoldable pub is_chroma_from_luma : BlockSize → ℤ → ℤ → Bool
+is_chroma_from_luma size u v = nat_le (nat_abs u) 16 && nat_le (nat_abs v) 16 && nat_le (block_width size) 32 && nat_le (block_height size) 32
+
+-- a chroma mode that a leaf of this size may have
+unfoldable pub is_chroma_mode : BlockSize → ChromaMode → Bool
+is_chroma_mode size (Plain mode step) = is_step mode step
+is_chroma_mode size (Cfl u v) = is_chroma_from_luma size u v
+
+-- an inter leaf has no side under 8
+unfoldable pub is_inter_size : BlockSize → Bool
+is_inter_size size = nat_le 8 (block_width size) && nat_le 8 (block_height size)
+
+-- the modes fit the leaf: chroma from luma is no luma mode
+unfoldable pub has_modes : BlockSize → LeafKind → Bool
+has_modes size (Intra mode step (Some chroma)) = not (is_cfl mode) && is_step mode step && is_chroma_mode size chroma
+has_modes size (Intra mode step None) = not (is_cfl mode) && is_step mode step
+has_modes size (Single mode reference mv) = is_inter_size size
+has_modes size (Compound mode references mvs) = is_inter_size size
+
+-- ---- vectors and references
+
+-- both components lie strictly between -16384 and 16384
+unfoldable pub is_valid_vector : MotionVector → Bool
+is_valid_vector v = nat_lt (nat_abs v.row) 16384 && nat_lt (nat_abs v.col) 16384
+
+-- all vectors of a leaf do
+unfoldable pub has_vectors : LeafKind → Bool
+has_vectors (Intra mode step chroma) = true
+has_vectors (Single mode reference mv) = is_valid_vector mv
+has_vectors (Compound mode references mvs) = list_all is_valid_vector mvs
+
+-- the slot that a reference names carries planes: reference n, from 1 to 7, names the header's slot in place n - 1
+unfoldable pub has_reference : Header → RefType → Bool
+has_reference h reference = let slot = slice_index_or h.slots (reference_number reference - 1) 8 in nat_lt slot 8 && has_slot h slot
+
+-- all references of a leaf do
+unfoldable pub has_references : Header → LeafKind → Bool
+has_references h (Intra mode step chroma) = true
+has_references h (Single mode reference mv) = has_reference h reference
+has_references h (Compound mode references mvs) = list_all (has_reference h) references
+
+-- ---- coefficients
+
+-- a number that fits so many signed bits
+unfoldable pub fits_signed : ℕ → ℤ → Bool
+fits_signed bits v = not (int_lt v (neg_ℤ (pos (2 ^ (bits - 1))))) && int_lt v (pos (2 ^ (bits - 1)))
+
+-- how many coefficients a transform block has: of a side past 32 only the first 32
+unfoldable pub coefficient_count : TxSize → ℕ
+coefficient_count t = min (tx_width t) 32 * min (tx_height t) 32
+
+-- the triple names a block that begins in the visible plane, a place of it, and a number of depth + 8 signed bits
+unfoldable pub is_coefficient : Header → ℕ → PlaneArea → Triple → Bool
+is_coefficient h p a t = has_block h p a t.block && nat_lt t.place (coefficient_count a.tx_size) && fits_signed (h.depth + 8) t.value
+
+-- it stands behind another: in a later block, or at a later place of the same
+unfoldable pub is_behind : Option Triple → Triple → Bool
+is_behind None t = true
+is_behind (Some s) t = nat_lt s.block t.block || (s.block == t.block && nat_lt s.place t.place)
+
+-- the triples behind one (or the first ones) are coefficients, and rise strictly by block and place
+unfoldable pub are_coefficients : Header → ℕ → PlaneArea → Option Triple → List Triple → Bool
+are_coefficients h p a before [] = true
+are_coefficients h p a before (t ∷ triples) = is_coefficient h p a t && is_behind before t && are_coefficients h p a (Some t) triples
+
+-- the leaf's triples in plane p
+unfoldable pub has_plane_coefficients : Header → LeafValue → ℕ → Bool
+has_plane_coefficients h l p = are_coefficients h p (plane_area h l.x l.y l.size l.tx_size p) None (slice_index_or l.triples p [])
+
+-- the leaf's triples in all planes that it covers
+unfoldable pub has_coefficients : Header → LeafValue → Bool
+has_coefficients h l = has_plane_coefficients h l 0 && (not (carries_chroma h l.x l.y l.size) || (has_plane_coefficients h l 1 && has_plane_coefficients h l 2))
+
+-- ---- faults
+
+-- the first reason, in this order, for which a leaf is refused
+unfoldable pub fault_of : Header → LeafValue → Option InvalidKind
+fault_of h l =
+    if not (has_block_size h l.size) then Some kinds.InvalidBlockSize
+    else (if not (has_transforms h l.size l.tx_size l.tx_type l.uv_type) then Some kinds.Transform
+    else (if not (has_modes l.size l.kind) then Some kinds.Mode
+    else (if not (has_vectors l.kind) then Some kinds.Vector
+    else (if not (has_references h l.kind) then Some kinds.MissingReference
+    else (if not (has_coefficients h l) then Some kinds.Coefficient else None)))))
+
+-- the fault of leaf n, where it has one, else the fault of a later leaf
+abbrev pub or_later : ℕ → Option InvalidKind → Option Invalid → Option Invalid
+or_later n (Some kind) later = Some (record { leaf = n; kind = kind })
+or_later n None later = later
+
+-- the first fault of leaves that are numbered from n on
+unfoldable pub fault_from : Header → ℕ → List LeafValue → Option Invalid
+fault_from h n [] = None
+fault_from h n (l ∷ leaves) = or_later n (fault_of h l) (fault_from h (n + 1) leaves)
+
+-- the first faulty leaf of a plan and its first reason; a plan is valid where there is none
+abbrev pub first_fault : PlanValue → Option Invalid
+first_fault p = fault_from p.header 0 p.leaves

@@ -1,0 +1,52 @@
+//! The parts of a plan.
+
+use crate::header::Header;
+use crate::leaf::{Leaf, Triple};
+use crate::plan::Plan;
+
+impl Plan {
+    ghost use Rattle.std.specs.Prelude.{◌≡◌, ◌<◌, ◌↔◌, length, IfSome, IfNone, IsSome, IsTrue, Some, None};
+    ghost use Rattle.av1_plan.specs.Answer.{plan_value, stored_leaves};
+    ghost use Rattle.av1_plan.specs.Geometry.{has_slot};
+    ghost use Rattle.av1_plan.specs.Plan.{reference_of, triples_of};
+
+    /// The frame, and what holds for all leaves.
+    pub fn header(&self) -> &Header
+        ensures { result.now ≡ (plan_value self.now).header }
+    {
+        &self.header
+    }
+
+    /// The leaves, in coding order.
+    pub fn leaves(&self) -> &[Leaf]
+        ensures { result.now ≡ stored_leaves self.now }
+    {
+        &self.leaves
+    }
+
+    /// The samples of plane `p` of a slot, row by row: None exactly where the slot carries no planes.
+    pub fn reference(&self, slot: usize, p: usize) -> Option<&[u16]>
+        requires slot { slot < 8 }
+        requires plane { p < 3 }
+        ensures present { IsSome result ↔ IsTrue (has_slot (plan_value self.now).header slot) }
+        ensures some { IfSome result (λ s. reference_of (plan_value self.now) slot p ≡ Some s.now) }
+        ensures none { IfNone result (reference_of (plan_value self.now) slot p ≡ None) }
+    {
+        let planes = self.references[slot].as_ref()?;
+        match p {
+            0 => Some(&planes.y),
+            1 => Some(&planes.u),
+            _ => Some(&planes.v),
+        }
+    }
+
+    /// The triples of a leaf in plane `p`, the leaf counted from 0 in coding order.
+    pub fn triples(&self, leaf: usize, p: usize) -> &[Triple]
+        requires leaf { leaf < length (stored_leaves self.now) }
+        requires plane { p < 3 }
+        ensures { result.now ≡ triples_of (plan_value self.now) leaf p }
+    {
+        let (start, count) = self.leaves[leaf].triples_span(p);
+        &self.triples[start..start + count]
+    }
+}

@@ -1,0 +1,321 @@
+//! Which plans are valid.
+
+ghost use Rattle.std.specs.Prelude.{◌≡◌, ◌+◌, ◌<◌, ◌≤◌, length, map, OnOk, IfErr, Some, None, slice_get, ◌&&◌, not, pos, neg_ℤ, int_lt, ◌≤ℤ◌};
+ghost use Rattle.av1_plan.specs.Answer.{plan_value, stored_leaves, stored_triples};
+ghost use Rattle.av1_plan.specs.Plan.{leaf_value};
+ghost use Rattle.av1_plan.specs.Validity.{
+  has_block_size,
+  is_transform,
+  has_transforms,
+  is_step,
+  is_chroma_from_luma,
+  is_chroma_mode,
+  is_inter_size,
+  has_modes,
+  is_valid_vector,
+  has_vectors,
+  has_reference,
+  has_references,
+  fits_signed,
+  coefficient_count,
+  is_coefficient,
+  is_behind,
+  are_coefficients,
+  has_plane_coefficients,
+  has_coefficients,
+  fault_of,
+  first_fault,
+};
+
+use crate::error::{Invalid, InvalidKind};
+use crate::geometry::{PlaneArea, plane_tx_size};
+use crate::header::Header;
+use crate::leaf::{ChromaMode, Leaf, LeafKind, Triple};
+use crate::plan::Plan;
+use av1_blocks::transform::valid_av1_transform;
+use av1_blocks::{BlockSize, MotionVector, PredictionMode, RefType, TxSize, TxType};
+
+/// Whether chroma of a leaf of this size has a size of its own.
+#[tactic(auto, unfolding(crate::specs::Validity::has_block_size))]
+fn has_block_size(header: &Header, size: BlockSize) -> bool
+    ensures { result ≡ has_block_size header.now size }
+{
+    size.subsampled_size(header.xdec(1), header.ydec(1)).is_ok()
+}
+
+/// Whether a transform of this size may be of this type.
+#[tactic(auto, unfolding(crate::specs::Validity::is_transform))]
+fn is_transform(tx_size: TxSize, tx_type: TxType) -> bool
+    ensures { result ≡ is_transform tx_size tx_type }
+{
+    valid_av1_transform(tx_size, tx_type) && (tx_type.number() != 16 || tx_size.number() == 0)
+}
+
+/// Whether a leaf's transforms fit it and are of a type that their size has.
+#[tactic(auto, unfolding(crate::specs::Validity::has_transforms))]
+fn has_transforms(
+    header: &Header,
+    size: BlockSize,
+    tx_size: TxSize,
+    tx_type: TxType,
+    uv_type: Option<TxType>,
+) -> bool
+    ensures { result ≡ has_transforms header.now size tx_size tx_type uv_type }
+{
+    let fits = tx_size.width() <= size.width() && tx_size.height() <= size.height();
+    let luma = fits && is_transform(tx_size, tx_type);
+    match uv_type {
+        Some(uv_type) => luma && is_transform(plane_tx_size(header, size, tx_size, 1), uv_type),
+        None => luma,
+    }
+}
+
+/// Whether a mode may have this angle step.
+#[tactic(auto, unfolding(crate::specs::Validity::is_step))]
+fn is_step(mode: PredictionMode, step: i8) -> bool
+    ensures { result ≡ is_step mode step }
+{
+    let steps = step.unsigned_abs();
+    steps <= 3 && (steps == 0 || mode.is_directional())
+}
+
+/// Whether a leaf of this size may be predicted from luma with these weights.
+#[tactic(auto, unfolding(crate::specs::Validity::is_chroma_from_luma))]
+fn is_chroma_from_luma(size: BlockSize, alpha_u: i8, alpha_v: i8) -> bool
+    ensures { result ≡ is_chroma_from_luma size alpha_u alpha_v }
+{
+    alpha_u.unsigned_abs() <= 16 && alpha_v.unsigned_abs() <= 16 && size.cfl_allowed()
+}
+
+/// Whether a leaf of this size may have this chroma mode.
+#[tactic(auto, unfolding(crate::specs::Validity::is_chroma_mode))]
+fn is_chroma_mode(size: BlockSize, chroma: ChromaMode) -> bool
+    ensures { result ≡ is_chroma_mode size chroma }
+{
+    match chroma {
+        ChromaMode::Plain { mode, step } => is_step(mode, step),
+        ChromaMode::Cfl { alpha_u, alpha_v } => is_chroma_from_luma(size, alpha_u, alpha_v),
+    }
+}
+
+/// Whether an inter leaf may have this size.
+#[tactic(auto, unfolding(crate::specs::Validity::is_inter_size))]
+fn is_inter_size(size: BlockSize) -> bool
+    ensures { result ≡ is_inter_size size }
+{
+    8 <= size.width() && 8 <= size.height()
+}
+
+/// Whether a leaf of this size may have these modes.
+#[tactic(auto, unfolding(crate::specs::Validity::has_modes))]
+fn has_modes(size: BlockSize, kind: LeafKind) -> bool
+    ensures { result ≡ has_modes size kind }
+{
+    match kind {
+        LeafKind::Intra {
+            mode,
+            step,
+            chroma: Some(chroma),
+        } => !mode.is_cfl() && is_step(mode, step) && is_chroma_mode(size, chroma),
+        LeafKind::Intra {
+            mode,
+            step,
+            chroma: None,
+        } => !mode.is_cfl() && is_step(mode, step),
+        LeafKind::Single { .. } | LeafKind::Compound { .. } => is_inter_size(size),
+    }
+}
+
+/// Whether a vector is one that a bitstream may hold.
+#[tactic(auto, unfolding(crate::specs::Validity::is_valid_vector))]
+fn is_valid_vector(mv: MotionVector) -> bool
+    ensures { result ≡ is_valid_vector mv }
+{
+    mv.row.unsigned_abs() < 16384 && mv.col.unsigned_abs() < 16384
+}
+
+/// Whether a leaf's vectors are ones that a bitstream may hold.
+#[tactic(auto, unfolding(crate::specs::Validity::has_vectors))]
+fn has_vectors(kind: LeafKind) -> bool
+    ensures { result ≡ has_vectors kind }
+{
+    match kind {
+        LeafKind::Intra { .. } => true,
+        LeafKind::Single { mv, .. } => is_valid_vector(mv),
+        LeafKind::Compound { mvs, .. } => {
+            let [first, second] = mvs;
+            is_valid_vector(first) && is_valid_vector(second)
+        }
+    }
+}
+
+/// Whether the slot that a reference names carries planes.
+#[tactic(auto, unfolding(crate::specs::Validity::has_reference))]
+fn has_reference(header: &Header, reference: RefType) -> bool
+    ensures { result ≡ has_reference header.now reference }
+{
+    let place = usize::from(reference.number().saturating_sub(1));
+    let slot = match header.slots.get(place) {
+        Some(slot) => usize::from(*slot),
+        None => 8,
+    };
+    slot < 8 && header.has_slot(slot)
+}
+
+/// Whether the slots that a leaf's references name carry planes.
+#[tactic(auto, unfolding(crate::specs::Validity::has_references))]
+fn has_references(header: &Header, kind: &LeafKind) -> bool
+    ensures { result ≡ has_references header.now kind.now }
+{
+    match kind {
+        LeafKind::Intra { .. } => true,
+        LeafKind::Single { reference, .. } => has_reference(header, *reference),
+        LeafKind::Compound { references, .. } => {
+            references
+                .iter()
+                .all(|reference| has_reference(header, *reference))
+        }
+    }
+}
+
+/// Whether a number lies from `-limit` to below `limit`.
+fn is_within(value: i32, limit: i32) -> bool
+    requires { pos 0 ≤ℤ limit }
+    ensures { result ≡ (not (int_lt value (neg_ℤ limit)) && int_lt value limit) }
+{
+    -limit <= value && value < limit
+}
+
+/// Whether a number fits `depth + 8` signed bits.
+fn fits_depth(depth: u8, value: i32) -> bool
+    requires { depth ≤ 12 }
+    ensures { result ≡ fits_signed (depth + 8) value }
+{
+    is_within(value, 1 << (depth + 7))
+}
+
+/// How many coefficients a transform block has.
+#[tactic(auto, unfolding(crate::specs::Validity::coefficient_count))]
+fn coefficient_count(tx_size: TxSize) -> usize
+    ensures { result ≡ coefficient_count tx_size }
+{
+    tx_size.width().min(32) * tx_size.height().min(32)
+}
+
+/// Whether a triple names a block of the area that begins in the visible plane `p`, a place of it and a number in range.
+#[tactic(auto, unfolding(crate::specs::Validity::is_coefficient, crate::specs::Geometry::transform_block))]
+fn is_coefficient(header: &Header, p: usize, area: &PlaneArea, triple: &Triple) -> bool
+    requires { header.now.depth ≤ 12 }
+    ensures { result ≡ is_coefficient header.now p area.now triple.now }
+{
+    let block = area.transform_block(header, p, usize::from(triple.block));
+    block.is_some()
+        && usize::from(triple.place) < coefficient_count(area.tx_size)
+        && fits_depth(header.depth, triple.value)
+}
+
+/// Whether a triple may stand behind another.
+#[tactic(auto, unfolding(crate::specs::Validity::is_behind))]
+fn is_behind(before: Option<Triple>, triple: &Triple) -> bool
+    ensures { result ≡ is_behind before triple.now }
+{
+    match before {
+        Some(before) => {
+            before.block < triple.block
+                || (before.block == triple.block && before.place < triple.place)
+        }
+        None => true,
+    }
+}
+
+/// Whether these triples of plane `p` are coefficients of the area's blocks, and rise strictly by block and place.
+#[tactic(auto, using(crate::proofs::Faults::triples_end))]
+fn are_coefficients(header: &Header, p: usize, area: &PlaneArea, triples: &[Triple]) -> bool
+    requires { header.now.depth ≤ 12 }
+    ensures { result ≡ are_coefficients header.now p area.now None triples.now }
+{
+    let mut before = None;
+    for triple in triples {
+        if !is_coefficient(header, p, area, triple) {
+            return false;
+        }
+        if !is_behind(before, triple) {
+            return false;
+        }
+        before = Some(*triple);
+    }
+    true
+}
+
+/// Whether the triples in plane `p` of leaf number `i` are coefficients.
+#[tactic(auto, using(crate::proofs::Spans::triples_of_leaf), unfolding(crate::specs::Validity::has_plane_coefficients))]
+fn has_plane_coefficients(plan: &Plan, i: usize, leaf: &Leaf, p: usize) -> bool
+    requires stored { slice_get (stored_leaves plan.now) i ≡ Some leaf.now }
+    requires plane { p < 3 }
+    ensures { result ≡ has_plane_coefficients (plan_value plan.now).header (leaf_value (stored_triples plan.now) leaf.now) p }
+{
+    let header = plan.header();
+    let area = leaf.plane_area(header, p);
+    are_coefficients(header, p, &area, plan.triples(i, p))
+}
+
+/// Whether the triples of leaf number `i` are coefficients in all planes that it covers.
+#[tactic(auto, unfolding(crate::specs::Validity::has_coefficients))]
+fn has_coefficients(plan: &Plan, i: usize, leaf: &Leaf) -> bool
+    requires { slice_get (stored_leaves plan.now) i ≡ Some leaf.now }
+    ensures { result ≡ has_coefficients (plan_value plan.now).header (leaf_value (stored_triples plan.now) leaf.now) }
+{
+    let carries_chroma = leaf.carries_chroma(plan.header());
+    has_plane_coefficients(plan, i, leaf, 0)
+        && (!carries_chroma
+            || (has_plane_coefficients(plan, i, leaf, 1)
+                && has_plane_coefficients(plan, i, leaf, 2)))
+}
+
+/// The first reason for which leaf number `i` is refused.
+#[tactic(auto, unfolding(crate::specs::Validity::fault_of))]
+fn fault_of(plan: &Plan, i: usize, leaf: &Leaf) -> Option<InvalidKind>
+    requires { slice_get (stored_leaves plan.now) i ≡ Some leaf.now }
+    ensures { result ≡ fault_of (plan_value plan.now).header (leaf_value (stored_triples plan.now) leaf.now) }
+{
+    let header = plan.header();
+    if !has_block_size(header, leaf.size) {
+        Some(InvalidKind::InvalidBlockSize)
+    } else if !has_transforms(header, leaf.size, leaf.tx_size, leaf.tx_type, leaf.uv_type) {
+        Some(InvalidKind::Transform)
+    } else if !has_modes(leaf.size, leaf.kind) {
+        Some(InvalidKind::Mode)
+    } else if !has_vectors(leaf.kind) {
+        Some(InvalidKind::Vector)
+    } else if !has_references(header, &leaf.kind) {
+        Some(InvalidKind::MissingReference)
+    } else if !has_coefficients(plan, i, leaf) {
+        Some(InvalidKind::Coefficient)
+    } else {
+        None
+    }
+}
+
+/// Whether every leaf of a plan is valid.
+///
+/// # Errors
+///
+/// The first faulty leaf in coding order, and the first reason for which it is refused.
+#[tactic(auto, using(crate::proofs::Faults::leaves_end))]
+pub fn check_plan(plan: &Plan) -> Result<(), Invalid>
+    ensures ok { OnOk result (first_fault (plan_value plan.now) ≡ None) }
+    ensures err { IfErr result (λ fault. first_fault (plan_value plan.now) ≡ Some fault) }
+{
+    for (i, leaf) in plan.leaves().iter().enumerate() {
+        if let Some(kind) = fault_of(plan, i, leaf) {
+            return Err(Invalid {
+                leaf: i as u32,
+                kind,
+            });
+        }
+    }
+    Ok(())
+}
+
+#[cfg(test)]
+mod tests;

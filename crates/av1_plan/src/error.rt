@@ -1,0 +1,57 @@
+//! Why bytes are no plan, and why a plan is not valid.
+
+ghost use Rattle.std.specs.Prelude.{◌≡◌};
+ghost use Rattle.av1_plan.specs.declared.error.PlanError.TheVariants.{Memory};
+
+use std::alloc::{AllocError, AllocFailed};
+
+/// Why bytes were not read as a plan.
+#[derive(Copy, Clone, Debug, PartialEq, Eq)]
+pub enum PlanError {
+    /// The field that begins at byte `at` is cut, has a value that is not admitted, or is left over after the end.
+    Malformed { at: u32 },
+    /// The field that begins at byte `at` has a value that the format admits and this crate does not build yet.
+    NotBuilt { at: u32 },
+    /// Memory ran out.
+    Memory,
+}
+
+impl From<AllocError> for PlanError {
+    ghost from_gives = { λ _ e. e ≡ Memory };
+
+    fn from(_refused: AllocError) -> PlanError {
+        PlanError::Memory
+    }
+}
+
+impl<T: Drop> From<AllocFailed<T>> for PlanError {
+    ghost from_gives = { λ _ e. e ≡ Memory };
+
+    fn from(_refused: AllocFailed<T>) -> PlanError {
+        PlanError::Memory
+    }
+}
+
+/// The reasons for which a leaf is refused, in the order in which they are looked for.
+#[derive(Copy, Clone, Debug, PartialEq, Eq)]
+pub enum InvalidKind {
+    /// Chroma of the leaf's size has no size of its own.
+    InvalidBlockSize,
+    /// A transform is longer than its leaf, or of a type that its size does not have.
+    Transform,
+    /// A mode, an angle step or an alpha that its leaf cannot have.
+    Mode,
+    /// A motion vector out of range.
+    Vector,
+    /// A reference to a slot without planes.
+    MissingReference,
+    /// A coefficient out of order, out of its block or out of range.
+    Coefficient,
+}
+
+/// The first faulty leaf of a plan, counted from 0 in coding order, and the first reason for which it is refused.
+#[derive(Copy, Clone, Debug, PartialEq, Eq)]
+pub struct Invalid {
+    pub leaf: u32,
+    pub kind: InvalidKind,
+}

@@ -1,0 +1,231 @@
+//! What of each plane a leaf covers.
+//!
+//! Planes are counted 0 for Y, 1 for U and 2 for V. The check and the reconstruction take a leaf's geometry from here alone.
+
+ghost use Rattle.std.specs.Prelude.{◌≡◌, ◌≤◌, ◌<◌};
+ghost use Rattle.av1_plan.specs.Geometry.{carries_chroma, covers_plane, plane_place, plane_size, plane_tx_size, plane_area};
+
+use crate::header::Header;
+use crate::leaf::Leaf;
+use av1_blocks::transform::coded_tx_size;
+use av1_blocks::{BlockSize, TxSize};
+
+/// The rectangle of a leaf in a plane.
+#[derive(Copy, Clone, Debug, PartialEq, Eq)]
+pub struct PlaneArea {
+    /// The column of its first sample in the plane.
+    pub x: u16,
+    /// The row of its first sample in the plane.
+    pub y: u16,
+    /// Its sides, in samples of the plane.
+    pub size: BlockSize,
+    /// The size of its transforms.
+    pub tx_size: TxSize,
+}
+
+/// Where a transform block begins in its plane.
+#[derive(Copy, Clone, Debug, PartialEq, Eq)]
+pub struct TransformBlock {
+    /// The column of its first sample.
+    pub x: usize,
+    /// The row of its first sample.
+    pub y: usize,
+}
+
+impl Header {
+    ghost use Rattle.std.specs.Prelude.{◌≡◌, ◌≤◌, ◌<◌};
+    ghost use Rattle.av1_plan.specs.Geometry.{xdec, ydec, plane_width, plane_height, plane_len, has_slot, is_inside};
+
+    /// The logarithm to base 2 of how many luma columns a sample of plane `p` stands for.
+    #[tactic(auto, unfolding(crate::specs::Geometry::xdec))]
+    pub fn xdec(&self, p: usize) -> usize
+        ensures value { result ≡ xdec self.now p }
+        ensures small { result ≤ 1 }
+    {
+        if p > 0 && self.sampling < 2 { 1 } else { 0 }
+    }
+
+    /// The logarithm to base 2 of how many luma rows a sample of plane `p` stands for.
+    #[tactic(auto, unfolding(crate::specs::Geometry::ydec))]
+    pub fn ydec(&self, p: usize) -> usize
+        ensures value { result ≡ ydec self.now p }
+        ensures small { result ≤ 1 }
+    {
+        if p > 0 && self.sampling == 0 { 1 } else { 0 }
+    }
+
+    /// The columns of the visible plane `p`, in samples.
+    #[tactic(auto, unfolding(crate::specs::Geometry::plane_width))]
+    pub fn plane_width(&self, p: usize) -> usize
+        ensures value { result ≡ plane_width self.now p }
+        ensures small { result ≤ self.now.width }
+    {
+        usize::from(self.width) >> self.xdec(p)
+    }
+
+    /// The rows of the visible plane `p`, in samples.
+    #[tactic(auto, unfolding(crate::specs::Geometry::plane_height))]
+    pub fn plane_height(&self, p: usize) -> usize
+        ensures value { result ≡ plane_height self.now p }
+        ensures small { result ≤ self.now.height }
+    {
+        usize::from(self.height) >> self.ydec(p)
+    }
+
+    /// How many samples the visible plane `p` has.
+    pub fn plane_len(&self, p: usize) -> usize
+        ensures { result ≡ plane_len self.now p }
+    {
+        self.plane_width(p) * self.plane_height(p)
+    }
+
+    /// Whether a slot carries reference planes.
+    #[tactic(auto, unfolding(crate::specs::Geometry::has_slot))]
+    pub fn has_slot(&self, slot: usize) -> bool
+        requires { slot < 8 }
+        ensures { result ≡ has_slot self.now slot }
+    {
+        (self.mask >> slot) % 2 == 1
+    }
+
+    /// Whether a sample of luma lies in the frame.
+    #[tactic(auto, unfolding(crate::specs::Geometry::is_inside))]
+    pub fn holds(&self, x: u16, y: u16) -> bool
+        ensures { result ≡ is_inside self.now x y }
+    {
+        x < self.width && y < self.height
+    }
+}
+
+/// Whether a leaf of this size, at this place in luma samples, carries chroma. In a halved direction a leaf of side 4 at an
+/// even cell does not; the one behind it carries the chroma of both.
+#[tactic(auto, unfolding(crate::specs::Geometry::carries_chroma))]
+pub fn carries_chroma(header: &Header, x: u16, y: u16, size: BlockSize) -> bool
+    ensures { result ≡ carries_chroma header.now x y size }
+{
+    let skips_column = header.xdec(1) == 1 && size.width() == 4 && x / 4 % 2 == 0;
+    let skips_row = header.ydec(1) == 1 && size.height() == 4 && y / 4 % 2 == 0;
+    !skips_column && !skips_row
+}
+
+/// The size of a leaf's rectangle in plane `p`.
+#[tactic(auto, unfolding(crate::specs::Geometry::plane_size))]
+fn plane_size(header: &Header, size: BlockSize, p: usize) -> BlockSize
+    ensures { result ≡ plane_size header.now size p }
+{
+    match size.subsampled_size(header.xdec(p), header.ydec(p)) {
+        Ok(plane_size) => plane_size,
+        Err(_) => size,
+    }
+}
+
+/// The size of the transforms of a leaf in plane `p`, where `tx_size` is that of its luma transforms. A leaf whose size has no
+/// size in chroma is refused by `check_plan`; here its luma size stands for it.
+#[tactic(auto, unfolding(crate::specs::Geometry::plane_tx_size, crate::specs::Geometry::plane_size))]
+pub fn plane_tx_size(header: &Header, size: BlockSize, tx_size: TxSize, p: usize) -> TxSize
+    ensures { result ≡ plane_tx_size header.now size tx_size p }
+{
+    if p == 0 {
+        tx_size
+    } else {
+        coded_tx_size(plane_size(header, size, p).tx_size())
+    }
+}
+
+/// Where a leaf's rectangle in plane `p` begins, in one direction: `luma` is its place in luma samples.
+#[tactic(auto, unfolding(crate::specs::Geometry::plane_place))]
+fn plane_place(p: usize, luma: u16, decimation: usize) -> u16
+    requires { decimation ≤ 1 }
+    ensures { result ≡ plane_place p luma decimation }
+{
+    if p == 0 {
+        luma
+    } else {
+        (luma / 4 >> decimation) * 4
+    }
+}
+
+impl Leaf {
+    ghost use Rattle.std.specs.Prelude.{◌≡◌};
+    ghost use Rattle.av1_plan.specs.Geometry.{carries_chroma, covers_plane, plane_area};
+
+    /// Whether the leaf carries chroma.
+    pub fn carries_chroma(&self, header: &Header) -> bool
+        ensures { result ≡ carries_chroma header.now self.now.x self.now.y self.now.size }
+    {
+        carries_chroma(header, self.x, self.y, self.size)
+    }
+
+    /// Whether the leaf covers a part of plane `p`: of Y always, of U and V where it carries chroma.
+    #[tactic(auto, unfolding(crate::specs::Geometry::covers_plane))]
+    pub fn covers_plane(&self, header: &Header, p: usize) -> bool
+        ensures { result ≡ covers_plane header.now self.now.x self.now.y self.now.size p }
+    {
+        p == 0 || self.carries_chroma(header)
+    }
+
+    /// The leaf's rectangle in plane `p`, where it covers a part of it.
+    #[tactic(auto, unfolding(crate::specs::Geometry::plane_area))]
+    pub fn plane_area(&self, header: &Header, p: usize) -> PlaneArea
+        ensures { result ≡ plane_area header.now self.now.x self.now.y self.now.size self.now.tx_size p }
+    {
+        PlaneArea {
+            x: plane_place(p, self.x, header.xdec(p)),
+            y: plane_place(p, self.y, header.ydec(p)),
+            size: plane_size(header, self.size, p),
+            tx_size: plane_tx_size(header, self.size, self.tx_size, p),
+        }
+    }
+}
+
+impl PlaneArea {
+    ghost use Rattle.std.specs.Prelude.{◌≡◌, ◌<◌, ◌≤◌};
+    ghost use Rattle.av1_plan.specs.Geometry.{blocks_across, block_count, block_at, has_block, transform_block};
+
+    /// How many transform blocks stand side by side.
+    #[tactic(auto, unfolding(crate::specs::Geometry::blocks_across))]
+    fn blocks_across(&self) -> usize
+        ensures value { result ≡ blocks_across self.now }
+        ensures small { result ≤ 32 }
+    {
+        self.size.width() / self.tx_size.width()
+    }
+
+    /// How many transform blocks the rectangle has, those outside the visible plane counted too.
+    #[tactic(auto, unfolding(crate::specs::Geometry::block_count))]
+    pub fn block_count(&self) -> usize
+        ensures value { result ≡ block_count self.now }
+        ensures small { result ≤ 1024 }
+    {
+        self.blocks_across() * (self.size.height() / self.tx_size.height())
+    }
+
+    /// Where transform block `n` begins, the blocks numbered in raster order over the whole rectangle.
+    #[tactic(auto, unfolding(crate::specs::Geometry::block_at, crate::specs::Geometry::block_count))]
+    fn block_at(&self, n: usize) -> TransformBlock
+        requires { n < block_count self.now }
+        ensures { result ≡ block_at self.now n }
+    {
+        let across = self.blocks_across();
+        TransformBlock {
+            x: usize::from(self.x) + n % across * self.tx_size.width(),
+            y: usize::from(self.y) + n / across * self.tx_size.height(),
+        }
+    }
+
+    /// Transform block `n`, where there is one that begins in the visible plane `p`.
+    #[tactic(auto, unfolding(crate::specs::Geometry::transform_block, crate::specs::Geometry::has_block))]
+    pub fn transform_block(&self, header: &Header, p: usize, n: usize) -> Option<TransformBlock>
+        ensures { result ≡ transform_block header.now p self.now n }
+    {
+        if n >= self.block_count() {
+            return None;
+        }
+        let block = self.block_at(n);
+        if block.x < header.plane_width(p) && block.y < header.plane_height(p) {
+            Some(block)
+        } else {
+            None
+        }
+    }
+}

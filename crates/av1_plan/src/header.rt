@@ -1,0 +1,24 @@
+//! What stands before the leaves of a plan.
+
+use av1_blocks::FilterMode;
+
+/// The frame that a plan is for, and what holds for all its leaves.
+#[derive(Copy, Clone, Debug, PartialEq, Eq)]
+pub struct Header {
+    /// Columns of luma samples, a multiple of 8 from 8 to 2048.
+    pub width: u16,
+    /// Rows of luma samples, a multiple of 8 from 8 to 2048.
+    pub height: u16,
+    /// Bits of a sample: 8, 10 or 12.
+    pub depth: u8,
+    /// 0 for 4:2:0, 1 for 4:2:2 and 2 for 4:4:4.
+    pub sampling: u8,
+    /// The interpolation filter of motion compensation.
+    pub filter: FilterMode,
+    /// Whether intra edges are filtered.
+    pub edge_filter: bool,
+    /// For each reference from LAST to ALTREF the slot that it names, from 0 to 7.
+    pub slots: [u8; 7],
+    /// The slots that carry planes: bit s is slot s.
+    pub mask: u8,
+}

@@ -1,0 +1,41 @@
+//! Plans: the block decisions of a frame, as bytes, and which of them are valid.
+//!
+//! A plan says of a frame how it is cut into leaves, how each leaf is predicted, and which coefficients are added. The crate
+//! reads plans from bytes, checks them, and works out what of each plane a leaf covers. It stands on `av1_blocks` alone, for
+//! the words of block decisions. To the crates above it promises:
+//!
+//! - `parse_plan` reads exactly the bytes that the plan grammar (`specs/Grammar.antt`) spells, and of any others names the
+//!   first field that is cut, not admitted or left over (`Malformed`), or not built yet (`NotBuilt`). It is linear in the
+//!   bytes and takes no memory for a leaf of its own: leaves lie in one list, and their coefficients in another.
+//! - A `Plan` keeps as a fact that a complete proper list of fields spells it.
+//! - `check_plan` accepts exactly the plans of which no leaf is faulty, and else names the first faulty leaf and the first
+//!   of its reasons (`specs/Validity.antt`).
+//! - A leaf's rectangle in a plane, the size of its transforms there and the blocks that begin in the frame are worked out
+//!   here alone (`specs/Geometry.antt`), for the check and for the reconstruction.
+//!
+//! Which values are built so far is one predicate (`specs/Built.antt`), and one function.
+#![tactic(auto)]
+
+mod access;
+mod built;
+mod check;
+mod error;
+mod geometry;
+mod header;
+mod leaf;
+mod nodes;
+mod parse;
+mod plan;
+mod planes;
+mod reader;
+
+pub use check::check_plan;
+pub use error::{Invalid, InvalidKind, PlanError};
+pub use geometry::{PlaneArea, TransformBlock, carries_chroma, plane_tx_size};
+pub use header::Header;
+pub use leaf::{ChromaMode, Leaf, LeafKind, Triple};
+pub use parse::parse_plan;
+pub use plan::Plan;
+
+#[cfg(test)]
+mod tests;

@@ -1,0 +1,229 @@
+//! Reading the leaves of a plan, node by node.
+
+ghost use Rattle.std.specs.Prelude.{◌≡◌, ◌*◌, ◌≤◌, ◌^◌};
+ghost use Rattle.av1_plan.specs.Grammar.{half_side, whole_size, wide_size, tall_size};
+
+use crate::built::Field;
+use crate::error::PlanError;
+use crate::header::Header;
+use crate::leaf::{Leaf, Triple};
+use crate::reader::Reader;
+use av1_blocks::BlockSize;
+use std::alloc::Global;
+
+/// The leaves and triples that were read, and what is left of the bytes.
+#[derive(Drop)]
+pub struct Parser<'a> {
+    pub reader: Reader<'a>,
+    pub leaves: Vec<Leaf>,
+    pub triples: Vec<Triple>,
+}
+
+impl<'a> Parser<'a> {
+    ghost use Rattle.std.specs.Prelude.{◌≡◌, ◌+◌, ◌*◌, ◌<◌, ◌≤◌, ◌^◌, ◌-◌, length, IfOk, OnOk, []};
+    ghost use Rattle.av1_plan.specs.Format.{add, lone, read};
+    ghost use Rattle.av1_plan.specs.Grammar.{part, block, parts, superblock_row, superblocks};
+    ghost use Rattle.av1_plan.specs.Reading.{Gives, Fits, input};
+    ghost use Rattle.av1_plan.specs.Parsing.{state, IsSound};
+
+    /// The leaf at this place, if that lies in the frame.
+    #[tactic(auto, using(crate::proofs::Formats::adding), unfolding(crate::specs::Grammar::part))]
+    fn part(&mut self, header: &Header, size: BlockSize, x: u16, y: u16) -> Result<(), PlanError>
+        requires { IsSound self.old }
+        ensures read { Gives (λ _. state self.new) result (add (part header.now size x y) (state self.old)) }
+        ensures sound { OnOk result (IsSound self.new) }
+    {
+        if !header.holds(x, y) {
+            return Ok(());
+        }
+        let leaf = self.reader.leaf(header, size, x, y, &mut self.triples)?;
+        self.leaves.push(leaf)?;
+        Ok(())
+    }
+
+    /// The part of side `4 << level` at this place, if that lies in the frame: a leaf at level 0, else a node.
+    #[cycle(blocks)]
+    #[tactic(auto, using(crate::proofs::Blocks::blocks))]
+    fn block(&mut self, header: &Header, level: u8, x: u16, y: u16) -> Result<(), PlanError>
+        requires sound { IsSound self.old }
+        requires level { level ≤ 4 }
+        requires x { x + 128 * level ≤ 4096 }
+        requires y { y + 128 * level ≤ 4096 }
+        ensures read { Gives (λ _. state self.new) result (add (block header.now level x y) (state self.old)) }
+        ensures sound { OnOk result (IsSound self.new) }
+    {
+        if level == 0 {
+            return self.part(header, BlockSize::BLOCK_4X4, x, y);
+        }
+        if !header.holds(x, y) {
+            return Ok(());
+        }
+        let mark = self.reader.byte(Field::Mark, 0, 3)?;
+        self.parts(header, level, mark, x, y)
+    }
+
+    /// The parts of a node of side `4 << level` with this mark.
+    #[cycle(blocks)]
+    #[tactic(auto, using(crate::proofs::Blocks::marks))]
+    fn parts(
+        &mut self,
+        header: &Header,
+        level: u8,
+        mark: u8,
+        x: u16,
+        y: u16,
+    ) -> Result<(), PlanError>
+        requires sound { IsSound self.old }
+        requires mark { mark ≤ 3 }
+        requires level { (0 < level) × (level ≤ 4) }
+        requires x { x + 128 * level ≤ 4096 }
+        requires y { y + 128 * level ≤ 4096 }
+        ensures read { Gives (λ _. state self.new) result (add (parts header.now level (block header.now (level - 1)) x y mark) (state self.old)) }
+        ensures sound { OnOk result (IsSound self.new) }
+    {
+        let half = half_side(level);
+        let right = x + half;
+        let below = y + half;
+        match mark {
+            0 => self.part(header, whole_size(level), x, y),
+            1 => {
+                self.part(header, wide_size(level), x, y)?;
+                self.part(header, wide_size(level), x, below)
+            }
+            2 => {
+                self.part(header, tall_size(level), x, y)?;
+                self.part(header, tall_size(level), right, y)
+            }
+            _ => {
+                self.block(header, level - 1, x, y)?;
+                self.block(header, level - 1, right, y)?;
+                self.block(header, level - 1, x, below)?;
+                self.block(header, level - 1, right, below)
+            }
+        }
+    }
+
+    /// The superblocks of a row.
+    #[tactic(auto, using(crate::proofs::Formats::turns), unfolding(crate::specs::Grammar::superblock_row))]
+    fn superblock_row(&mut self, header: &Header, row: u16) -> Result<(), PlanError>
+        requires sound { IsSound self.old }
+        requires width { header.now.width ≤ 2048 }
+        requires row { 64 * row ≤ 2048 }
+        ensures read { Gives (λ _. state self.new) result (add (superblock_row header.now row) (state self.old)) }
+        ensures sound { OnOk result (IsSound self.new) }
+    {
+        for col in 0..(header.width + 63) / 64 {
+            self.block(header, 4, 64 * col, 64 * row)?;
+        }
+        Ok(())
+    }
+
+    /// The superblocks of a frame.
+    #[tactic(auto, using(crate::proofs::Formats::turns), unfolding(crate::specs::Grammar::superblocks))]
+    fn superblocks(&mut self, header: &Header) -> Result<(), PlanError>
+        requires sound { IsSound self.old }
+        requires width { header.now.width ≤ 2048 }
+        requires height { header.now.height ≤ 2048 }
+        ensures read { Gives (λ _. state self.new) result (add (superblocks header.now) (state self.old)) }
+        ensures sound { OnOk result (IsSound self.new) }
+    {
+        for row in 0..(header.height + 63) / 64 {
+            self.superblock_row(header, row)?;
+        }
+        Ok(())
+    }
+
+    /// No leaves yet.
+    fn new(alloc: Global, reader: Reader<'a>) -> Parser<'a>
+        requires { Fits reader }
+        ensures sound { IsSound result }
+        ensures state { state result ≡ ([], input reader.entry) }
+    {
+        Parser {
+            reader,
+            leaves: Vec::new(alloc),
+            triples: Vec::new(alloc),
+        }
+    }
+
+    /// Reads the leaves of a frame.
+    #[tactic(auto, using(crate::proofs::Lists::collects))]
+    pub fn parse(
+        alloc: Global,
+        reader: Reader<'a>,
+        header: &Header,
+    ) -> Result<Parser<'a>, PlanError>
+        requires fits { Fits reader }
+        requires width { header.now.width ≤ 2048 }
+        requires height { header.now.height ≤ 2048 }
+        ensures read { Gives (λ p. state p) result (read (superblocks header.now) (input reader.entry)) }
+        ensures sound { IfOk result (λ p. IsSound p) }
+    {
+        let mut parser = Parser::new(alloc, reader);
+        parser.superblocks(header)?;
+        Ok(parser)
+    }
+}
+
+/// Half the side of a node of this level, which has side `4 << level`.
+fn half_side(level: u8) -> u16
+    requires { level ≤ 4 }
+    ensures value { result ≡ half_side level }
+    ensures small { result ≤ 32 }
+{
+    2 << level
+}
+
+/// The sizes of a leaf that is a whole node, by the node's level.
+const WHOLE_SIZES: [BlockSize; 5] = [
+    BlockSize::BLOCK_4X4,
+    BlockSize::BLOCK_8X8,
+    BlockSize::BLOCK_16X16,
+    BlockSize::BLOCK_32X32,
+    BlockSize::BLOCK_64X64,
+];
+
+/// The sizes of the upper and the lower half of a node, by the node's level.
+const WIDE_SIZES: [BlockSize; 5] = [
+    BlockSize::BLOCK_4X4,
+    BlockSize::BLOCK_8X4,
+    BlockSize::BLOCK_16X8,
+    BlockSize::BLOCK_32X16,
+    BlockSize::BLOCK_64X32,
+];
+
+/// The sizes of the left and the right half of a node, by the node's level.
+const TALL_SIZES: [BlockSize; 5] = [
+    BlockSize::BLOCK_4X4,
+    BlockSize::BLOCK_4X8,
+    BlockSize::BLOCK_8X16,
+    BlockSize::BLOCK_16X32,
+    BlockSize::BLOCK_32X64,
+];
+
+/// The size of a leaf that is a whole node of this level.
+#[tactic(auto, unfolding(crate::specs::Grammar::whole_size))]
+fn whole_size(level: u8) -> BlockSize
+    requires { level ≤ 4 }
+    ensures { result ≡ whole_size level }
+{
+    WHOLE_SIZES[usize::from(level)]
+}
+
+/// The size of the upper and the lower half of a node of this level.
+#[tactic(auto, unfolding(crate::specs::Grammar::wide_size))]
+fn wide_size(level: u8) -> BlockSize
+    requires { level ≤ 4 }
+    ensures { result ≡ wide_size level }
+{
+    WIDE_SIZES[usize::from(level)]
+}
+
+/// The size of the left and the right half of a node of this level.
+#[tactic(auto, unfolding(crate::specs::Grammar::tall_size))]
+fn tall_size(level: u8) -> BlockSize
+    requires { level ≤ 4 }
+    ensures { result ≡ tall_size level }
+{
+    TALL_SIZES[usize::from(level)]
+}

@@ -1,0 +1,59 @@
+//! Reading a plan from bytes.
+
+ghost use Rattle.std.specs.Prelude.{◌≡◌, ◌≤◌, ◌^◌, length, IfOk, MatchResult};
+ghost use Rattle.av1_plan.specs.declared.error.PlanError.TheVariants.{Memory};
+ghost use Rattle.av1_plan.specs.Answer.{plan_value, FailsAs};
+ghost use Rattle.av1_plan.specs.Format.{start, read_all};
+ghost use Rattle.av1_plan.specs.Grammar.{plan};
+ghost use Rattle.av1_plan.specs.Plan.{PlanValue};
+ghost use Rattle.av1_plan.specs.Reading.{Gives};
+ghost use Rattle.av1_plan.specs.Spelling.{AreText, AreRefused};
+
+use crate::error::PlanError;
+use crate::nodes::Parser;
+use crate::plan::Plan;
+use crate::reader::Reader;
+use std::alloc::Global;
+
+/// The plan that these bytes are, read from left to right.
+#[tactic(auto, using(crate::proofs::Lists::collects), unfolding(crate::specs::Grammar::plan))]
+fn read_plan(alloc: Global, bytes: &[u8]) -> Result<Plan, PlanError>
+    requires { length bytes.now ≤ 2 ^ 26 }
+    ensures { Gives (λ p. plan_value p) result (read_all plan (start bytes.now)) }
+{
+    let mut reader = Reader { rest: bytes, at: 0 };
+    let header = reader.header()?;
+    let references = reader.references(alloc, &header)?;
+    let parser = Parser::parse(alloc, reader, &header)?;
+    if !parser.reader.rest.is_empty() {
+        return Err(PlanError::Malformed {
+            at: parser.reader.at,
+        });
+    }
+    let Parser {
+        reader: _,
+        leaves,
+        triples,
+    } = parser;
+    Ok(Plan {
+        header,
+        references,
+        leaves,
+        triples,
+    })
+}
+
+/// The plan that these bytes spell, by the plan grammar.
+///
+/// `Malformed` and `NotBuilt` name the start of the first field at which the bytes stop being a plan of built fields.
+pub fn parse_plan(alloc: Global, bytes: &[u8]) -> Result<Plan, PlanError>
+    requires { length bytes.now ≤ 2 ^ 26 }
+    // The bytes are exactly the fields of a complete proper list, which spells the plan.
+    ensures found { IfOk result (λ p. AreText plan bytes.now (plan_value p)) }
+    // No complete proper list has these bytes, and the longest proper list at their front ends at `at`.
+    ensures refused { FailsAs result (λ fault. AreRefused plan bytes.now fault) }
+    // What is spelled so is read, unless memory runs out.
+    ensures only { (p : PlanValue) → AreText plan bytes.now p → MatchResult result (λ x. plan_value x ≡ p) (λ e. e ≡ Memory) }
+{
+    read_plan(alloc, bytes)
+}

@@ -1,0 +1,9 @@
+//! The reference planes of a plan.
+
+/// The planes of a slot, each row by row without padding.
+#[derive(Debug, Drop)]
+pub struct Planes {
+    pub y: Vec<u16>,
+    pub u: Vec<u16>,
+    pub v: Vec<u16>,
+}

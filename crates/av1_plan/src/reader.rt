@@ -1,0 +1,121 @@
+//! Reading fields from the front of the bytes.
+
+mod header;
+mod leaf;
+mod references;
+
+use crate::built::{Field, is_built};
+use crate::error::PlanError;
+
+/// What is left of the bytes.
+#[derive(Drop)]
+pub struct Reader<'a> {
+    pub rest: &'a [u8],
+    /// The place of the next byte.
+    pub at: u32,
+}
+
+impl<'a> Reader<'a> {
+    ghost use Rattle.std.specs.Prelude.{◌≡◌, ◌+◌, ◌<◌, ◌≤◌, ◌^◌, length, IfOk, OnOk};
+    ghost use Rattle.av1_plan.specs.Format.{one, two, four, any, read_field};
+    ghost use Rattle.av1_plan.specs.Grammar.{byte_from, half};
+    ghost use Rattle.av1_plan.specs.Reading.{Gives, input, Fits, Moves};
+
+    fn malformed<T>(&self) -> Result<T, PlanError>
+        ensures { result ≡ Err (PlanError.Malformed self.now.at) }
+    {
+        Err(PlanError::Malformed { at: self.at })
+    }
+
+    /// Any byte.
+    #[tactic(auto, unfolding(crate::specs::Format::read_field))]
+    fn any_byte(&mut self) -> Result<u8, PlanError>
+        requires { Fits self.old }
+        ensures read { Gives (λ x. (x, input self.new)) result (read_field (any one) (input self.old)) }
+        ensures takes { OnOk result (self.old.at < self.new.at) }
+        ensures moves { Moves self.old self.new }
+    {
+        match self.rest {
+            [value, rest @ ..] => {
+                self.rest = rest;
+                self.at += 1;
+                Ok(*value)
+            }
+            _ => self.malformed(),
+        }
+    }
+
+    /// Any number of two bytes.
+    #[tactic(auto, unfolding(crate::specs::Format::read_field))]
+    fn any_half(&mut self) -> Result<u16, PlanError>
+        requires { Fits self.old }
+        ensures read { Gives (λ x. (x, input self.new)) result (read_field (any two) (input self.old)) }
+        ensures takes { OnOk result (self.old.at < self.new.at) }
+        ensures moves { Moves self.old self.new }
+    {
+        match self.rest {
+            [a, b, rest @ ..] => {
+                let value = u16::from_le_bytes([*a, *b]);
+                self.rest = rest;
+                self.at += 2;
+                Ok(value)
+            }
+            _ => self.malformed(),
+        }
+    }
+
+    /// Any number of four bytes.
+    #[tactic(auto, unfolding(crate::specs::Format::read_field))]
+    fn any_word(&mut self) -> Result<u32, PlanError>
+        requires { Fits self.old }
+        ensures read { Gives (λ x. (x, input self.new)) result (read_field (any four) (input self.old)) }
+        ensures takes { OnOk result (self.old.at < self.new.at) }
+        ensures moves { Moves self.old self.new }
+    {
+        match self.rest {
+            [a, b, c, d, rest @ ..] => {
+                let value = u32::from_le_bytes([*a, *b, *c, *d]);
+                self.rest = rest;
+                self.at += 4;
+                Ok(value)
+            }
+            _ => self.malformed(),
+        }
+    }
+
+    /// A byte from `first` to `last`.
+    #[tactic(auto, using(crate::proofs::Narrow::narrow))]
+    pub fn byte(&mut self, field: Field, first: u8, last: u8) -> Result<u8, PlanError>
+        requires { Fits self.old }
+        ensures read { Gives (λ x. (x, input self.new)) result (read_field (byte_from field first last) (input self.old)) }
+        ensures takes { OnOk result (self.old.at < self.new.at) }
+        ensures moves { Moves self.old self.new }
+        ensures range { IfOk result (λ x. (first ≤ x) × (x ≤ last)) }
+    {
+        let at = self.at;
+        let value = self.any_byte()?;
+        if value < first || last < value {
+            Err(PlanError::Malformed { at })
+        } else if is_built(field, u32::from(value)) {
+            Ok(value)
+        } else {
+            Err(PlanError::NotBuilt { at })
+        }
+    }
+
+    /// Two bytes, any number.
+    #[tactic(auto, using(crate::proofs::Narrow::narrow))]
+    fn half(&mut self, field: Field) -> Result<u16, PlanError>
+        requires { Fits self.old }
+        ensures read { Gives (λ x. (x, input self.new)) result (read_field (half field) (input self.old)) }
+        ensures moves { Moves self.old self.new }
+    {
+        let at = self.at;
+        let value = self.any_half()?;
+        if is_built(field, u32::from(value)) {
+            Ok(value)
+        } else {
+            Err(PlanError::NotBuilt { at })
+        }
+    }
+}

@@ -1,0 +1,127 @@
+//! Reading what stands before the reference samples.
+
+use crate::built::{Field, is_built};
+use crate::error::PlanError;
+use crate::header::Header;
+use crate::reader::Reader;
+use av1_blocks::FilterMode;
+
+impl<'a> Reader<'a> {
+    ghost use Rattle.std.specs.Prelude.{◌≡◌, ◌≤◌, nat_le, IfOk, IsTrue};
+    ghost use Rattle.std.specs.List.{list_all};
+    ghost use Rattle.av1_plan.specs.declared.built.Field.TheVariants as fields;
+    ghost use Rattle.av1_plan.specs.Format.{one, two, read_field, read};
+    ghost use Rattle.av1_plan.specs.Grammar.{where_, magic, is_side, is_depth, slots, header, IsAdmittedHeader};
+    ghost use Rattle.av1_plan.specs.Reading.{Gives, input, Fits, Moves};
+
+    /// The four letters at the front.
+    #[tactic(auto, using(crate::proofs::Narrow::narrow), unfolding(crate::specs::Built::is_built))]
+    fn magic(&mut self) -> Result<u32, PlanError>
+        requires { Fits self.old }
+        ensures read { Gives (λ x. (x, input self.new)) result (read_field magic (input self.old)) }
+        ensures moves { Moves self.old self.new }
+    {
+        let at = self.at;
+        let value = self.any_word()?;
+        if value == u32::from_le_bytes(*b"RPL1") {
+            Ok(value)
+        } else {
+            Err(PlanError::Malformed { at })
+        }
+    }
+
+    /// A side of the frame.
+    #[tactic(auto, using(crate::proofs::Narrow::narrow))]
+    fn side(&mut self, field: Field) -> Result<u16, PlanError>
+        requires { Fits self.old }
+        ensures read { Gives (λ x. (x, input self.new)) result (read_field (where_ two field is_side) (input self.old)) }
+        ensures moves { Moves self.old self.new }
+        ensures admitted { IfOk result (λ x. IsTrue (is_side x)) }
+    {
+        let at = self.at;
+        let value = self.any_half()?;
+        if value % 8 != 0 || value < 8 || 2048 < value {
+            Err(PlanError::Malformed { at })
+        } else if is_built(field, u32::from(value)) {
+            Ok(value)
+        } else {
+            Err(PlanError::NotBuilt { at })
+        }
+    }
+
+    /// The bits of a sample.
+    #[tactic(auto, using(crate::proofs::Narrow::narrow))]
+    fn depth(&mut self) -> Result<u8, PlanError>
+        requires { Fits self.old }
+        ensures read { Gives (λ x. (x, input self.new)) result (read_field (where_ one fields.Depth is_depth) (input self.old)) }
+        ensures moves { Moves self.old self.new }
+        ensures admitted { IfOk result (λ x. IsTrue (is_depth x)) }
+    {
+        let at = self.at;
+        let value = self.any_byte()?;
+        if value != 8 && value != 10 && value != 12 {
+            Err(PlanError::Malformed { at })
+        } else if is_built(Field::Depth, u32::from(value)) {
+            Ok(value)
+        } else {
+            Err(PlanError::NotBuilt { at })
+        }
+    }
+
+    /// The slots of the seven references.
+    #[tactic(auto, unfolding(crate::specs::Grammar::slots))]
+    fn slots(&mut self) -> Result<[u8; 7], PlanError>
+        requires { Fits self.old }
+        ensures read { Gives (λ x. (x, input self.new)) result (read slots (input self.old)) }
+        ensures admitted { IfOk result (λ x. IsTrue (list_all (λ slot. nat_le slot 7) x)) }
+        ensures moves { Moves self.old self.new }
+    {
+        let last = self.byte(Field::Other, 0, 7)?;
+        let last_2 = self.byte(Field::Other, 0, 7)?;
+        let last_3 = self.byte(Field::Other, 0, 7)?;
+        let golden = self.byte(Field::Other, 0, 7)?;
+        let backward = self.byte(Field::Other, 0, 7)?;
+        let alternate_2 = self.byte(Field::Other, 0, 7)?;
+        let alternate = self.byte(Field::Other, 0, 7)?;
+        Ok([
+            last,
+            last_2,
+            last_3,
+            golden,
+            backward,
+            alternate_2,
+            alternate,
+        ])
+    }
+
+    /// What stands before the reference samples.
+    #[tactic(auto, using(crate::proofs::Formats::read_bind), unfolding(crate::specs::Grammar::header))]
+    pub fn header(&mut self) -> Result<Header, PlanError>
+        requires { Fits self.old }
+        ensures read { Gives (λ x. (x, input self.new)) result (read header (input self.old)) }
+        ensures moves { Moves self.old self.new }
+        ensures admitted { IfOk result IsAdmittedHeader }
+        ensures small { IfOk result (λ h. (h.width ≤ 2048) × (h.height ≤ 2048) × (h.depth ≤ 12)) }
+    {
+        self.magic()?;
+        let width = self.side(Field::Width)?;
+        let height = self.side(Field::Height)?;
+        let depth = self.depth()?;
+        let sampling = self.byte(Field::Sampling, 0, 2)?;
+        let filter = self.byte(Field::Other, 0, 3)?;
+        let filter = FilterMode::ALL[usize::from(filter)];
+        let edge_filter = self.byte(Field::Other, 0, 1)? == 1;
+        let slots = self.slots()?;
+        let mask = self.byte(Field::Mask, 0, 255)?;
+        Ok(Header {
+            width,
+            height,
+            depth,
+            sampling,
+            filter,
+            edge_filter,
+            slots,
+            mask,
+        })
+    }
+}

@@ -1,0 +1,118 @@
+//! Reading the reference samples.
+
+use crate::built::Field;
+use crate::error::PlanError;
+use crate::header::Header;
+use crate::planes::Planes;
+use crate::reader::Reader;
+use std::alloc::Global;
+
+impl<'a> Reader<'a> {
+    ghost use Rattle.std.specs.Prelude.{◌≡◌, ◌+◌, ◌*◌, ◌≤◌, ◌<◌, ◌^◌, length, IfOk, vec_len, is_some};
+    ghost use Rattle.av1_plan.specs.Format.{read_field, read};
+    ghost use Rattle.av1_plan.specs.Grammar.{sample, plane, reference, slot_planes, references};
+    ghost use Rattle.av1_plan.specs.Plan.{planes_value, slot_value, slot_values, ArePresent};
+    ghost use Rattle.av1_plan.specs.Geometry.{has_slot};
+    ghost use Rattle.av1_plan.specs.Reading.{Gives, input, Fits, Moves};
+
+    /// A sample.
+    #[tactic(auto, using(crate::proofs::Narrow::narrow), unfolding(crate::specs::Built::is_built))]
+    fn sample(&mut self, depth: u8) -> Result<u16, PlanError>
+        requires fits { Fits self.old }
+        requires depth { depth ≤ 12 }
+        ensures read { Gives (λ x. (x, input self.new)) result (read_field (sample depth) (input self.old)) }
+        ensures moves { Moves self.old self.new }
+    {
+        let at = self.at;
+        if depth == 8 {
+            let value = self.byte(Field::Other, 0, 255)?;
+            return Ok(u16::from(value));
+        }
+        let value = self.any_half()?;
+        if value < 1u16 << depth {
+            Ok(value)
+        } else {
+            Err(PlanError::Malformed { at })
+        }
+    }
+
+    /// The samples of a plane.
+    #[tactic(auto, using(crate::proofs::Lists::collects), unfolding(crate::specs::Grammar::plane))]
+    fn plane(&mut self, alloc: Global, depth: u8, len: usize) -> Result<Vec<u16>, PlanError>
+        requires fits { Fits self.old }
+        requires depth { depth ≤ 12 }
+        ensures read { Gives (λ x. (x.items, input self.new)) result (read (plane depth len) (input self.old)) }
+        ensures moves { Moves self.old self.new }
+    {
+        let mut samples = Vec::new(alloc);
+        for _ in 0..len {
+            let sample = self.sample(depth)?;
+            samples.push(sample)?;
+        }
+        Ok(samples)
+    }
+
+    /// The three planes of a slot.
+    #[tactic(auto, using(crate::proofs::Formats::read_bind), unfolding(crate::specs::Grammar::reference))]
+    fn reference(&mut self, alloc: Global, header: &Header) -> Result<Planes, PlanError>
+        requires fits { Fits self.old }
+        requires depth { header.now.depth ≤ 12 }
+        requires width { header.now.width ≤ 2048 }
+        requires height { header.now.height ≤ 2048 }
+        ensures read { Gives (λ x. (planes_value x, input self.new)) result (read (reference header.now) (input self.old)) }
+        ensures moves { Moves self.old self.new }
+    {
+        let y = self.plane(alloc, header.depth, header.plane_len(0))?;
+        let u = self.plane(alloc, header.depth, header.plane_len(1))?;
+        let v = self.plane(alloc, header.depth, header.plane_len(2))?;
+        Ok(Planes { y, u, v })
+    }
+
+    /// The planes of a slot, where the mask has it.
+    #[tactic(auto, using(crate::proofs::Formats::read_bind), unfolding(crate::specs::Grammar::slot_planes))]
+    fn slot_planes(
+        &mut self,
+        alloc: Global,
+        header: &Header,
+        slot: usize,
+    ) -> Result<Option<Planes>, PlanError>
+        requires fits { Fits self.old }
+        requires slot { slot < 8 }
+        requires depth { header.now.depth ≤ 12 }
+        requires width { header.now.width ≤ 2048 }
+        requires height { header.now.height ≤ 2048 }
+        ensures read { Gives (λ x. (slot_value x, input self.new)) result (read (slot_planes header.now slot) (input self.old)) }
+        ensures present { IfOk result (λ x. is_some x ≡ has_slot header.now slot) }
+        ensures moves { Moves self.old self.new }
+    {
+        if header.has_slot(slot) {
+            let planes = self.reference(alloc, header)?;
+            return Ok(Some(planes));
+        }
+        Ok(None)
+    }
+
+    /// The planes of the eight slots.
+    #[tactic(auto, using(crate::proofs::Lists::collects), unfolding(crate::specs::Grammar::references))]
+    pub fn references(
+        &mut self,
+        alloc: Global,
+        header: &Header,
+    ) -> Result<Vec<Option<Planes>>, PlanError>
+        requires fits { Fits self.old }
+        requires depth { header.now.depth ≤ 12 }
+        requires width { header.now.width ≤ 2048 }
+        requires height { header.now.height ≤ 2048 }
+        ensures read { Gives (λ x. (slot_values x.items, input self.new)) result (read (references header.now) (input self.old)) }
+        ensures moves { Moves self.old self.new }
+        ensures count { IfOk result (λ x. vec_len x ≡ 8) }
+        ensures present { IfOk result (λ x. ArePresent header.now x.items 8) }
+    {
+        let mut slots = Vec::new(alloc);
+        for slot in 0..8 {
+            let planes = self.slot_planes(alloc, header, slot)?;
+            slots.push(planes)?;
+        }
+        Ok(slots)
+    }
+}

@@ -1,0 +1,5 @@
+pub mod Outcomes
+pub mod Reconstructing
+pub mod Rows
+pub mod SampleBytes
+pub mod Statuses

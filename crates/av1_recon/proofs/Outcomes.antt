@@ -1,0 +1,124 @@
+-- Bytes come to one outcome.
+use Rattle.std.proofs.Common.{◌≡◌, ℕ, ◌<◌, ◌≤◌, List, length, Option, Some, None, Result, Ok, Err, refl, sym, ap, subst, ◌∙◌, arith}
+use Rattle.std.specs.Prelude.{⊤, IsOk, IfSome}
+use Rattle.av1_plan.specs.Format.{Format, Fault, malformed, not_built}
+use Rattle.av1_plan.specs.Grammar.{plan}
+use Rattle.av1_plan.specs.Plan.{PlanValue}
+use Rattle.av1_plan.specs.Spelling.{AreText, AreRefused, place}
+use Rattle.av1_plan.specs.Validity.{first_fault}
+use Rattle.av1_plan.specs.declared.error.Invalid.{Invalid}
+use Rattle.av1_plan.proofs.Spelled.{all_again}
+use Rattle.av1_streams.specs.Streams.{max_plan_bytes}
+use Rattle.av1_tile.specs.Walk.{planes_of}
+use Rattle.av1_recon.specs.declared.error.ReconError.{ReconError}
+use Rattle.av1_recon.specs.declared.error.ReconError.TheVariants.{ReadFault, TooLong, Malformed, NotBuilt, Invalid as InvalidLeaf, WriteFault, Memory}
+use Rattle.av1_recon.specs.Errors.{invalid_error}
+use Rattle.av1_recon.specs.Outcomes.{Outcome, Answer, ArePlan, ComesTo, Tells}
+
+abbrev ok : {A E : Type 0} → A → Result A E
+ok x = Ok x
+
+ok_is : {A E : Type 0} (x y : A) → ok {E = E} x ≡ ok y → x ≡ y
+ok_is x y e = cc
+
+-- a text is that of one plan
+plan_is : (bytes : List ℕ) (a b : PlanValue) → AreText plan bytes a → AreText plan bytes b → a ≡ b
+plan_is bytes a b p q = ok_is {E = Fault} a b (sym (all_again plan bytes a p) ∙ all_again plan bytes b q)
+
+place_le : {A : Type 0} (f : Format A) (bytes : List ℕ) (a b : Fault) → AreRefused f bytes a → AreRefused f bytes b → place a ≤ place b
+place_le f bytes a b p q =
+    let (vs, proper, front, len) = p.first.reached in
+    omega (arith, len, q.first.longest vs proper front)
+
+same_place : {A : Type 0} (f : Format A) (bytes : List ℕ) (a b : Fault) → AreRefused f bytes a → AreRefused f bytes b → place a ≡ place b
+same_place f bytes a b p q = omega (arith, place_le f bytes a b p q, place_le f bytes b a q p)
+
+-- what stands at that place is built or it is not
+apart : {A : Type 0} (f : Format A) (bytes : List ℕ) (x y : ℕ) → AreRefused f bytes (malformed x) → AreRefused f bytes (not_built y) → ⊥
+apart f bytes x y p q =
+    let (vs, proper, (rest, is), len) = p.first.reached in
+    p.why vs rest proper is len (q.why vs rest proper is (len ∙ same_place f bytes (malformed x) (not_built y) p q))
+
+-- bytes are refused for one fault
+fault_is : {A : Type 0} (f : Format A) (bytes : List ℕ) (a b : Fault) → AreRefused f bytes a → AreRefused f bytes b → a ≡ b
+fault_is f bytes (malformed x) (malformed y) p q = ap malformed (same_place f bytes (malformed x) (malformed y) p q)
+fault_is f bytes (malformed x) (not_built y) p q = absurd (apart f bytes x y p q)
+fault_is f bytes (not_built x) (malformed y) p q = absurd (apart f bytes y x q p)
+fault_is f bytes (not_built x) (not_built y) p q = ap not_built (same_place f bytes (not_built x) (not_built y) p q)
+
+-- what bytes are to the grammar: too many, no text, or a text
+pub data Reading : Type 0 where
+  long : Reading
+  refused : Fault → Reading
+  read : PlanValue → Reading
+
+abbrev IsReading : List ℕ → Reading → Type 0
+IsReading bytes long = max_plan_bytes < length bytes
+IsReading bytes (refused fault) = (length bytes ≤ max_plan_bytes) × AreRefused plan bytes fault
+IsReading bytes (read value) = ArePlan bytes value
+
+reading_is : (bytes : List ℕ) (a b : Reading) → IsReading bytes a → IsReading bytes b → a ≡ b
+reading_is bytes long long p q = refl
+reading_is bytes long (refused d) p q = absurd (omega (arith, p, q.0))
+reading_is bytes long (read v) p q = absurd (omega (arith, p, q.0))
+reading_is bytes (refused d) long p q = absurd (omega (arith, p.0, q))
+reading_is bytes (refused d) (refused e) p q = ap refused (fault_is plan bytes d e p.1 q.1)
+reading_is bytes (refused d) (read v) p q = absurd (p.1.no_text v q.1)
+reading_is bytes (read v) long p q = absurd (omega (arith, p.0, q))
+reading_is bytes (read v) (refused d) p q = absurd (q.1.no_text v p.1)
+reading_is bytes (read v) (read w) p q = ap read (plan_is bytes v w p.1 q.1)
+
+abbrev fault_error : Fault → ReconError
+fault_error (malformed at) = Malformed at
+fault_error (not_built at) = NotBuilt at
+
+abbrev judged_as : PlanValue → Option Invalid → Outcome
+judged_as value None = Ok (planes_of value)
+judged_as value (Some fault) = Err (invalid_error fault)
+
+abbrev judged : Reading → Outcome
+judged long = Err TooLong
+judged (refused fault) = Err (fault_error fault)
+judged (read value) = judged_as value (first_fault value)
+
+-- an outcome follows from a reading
+of_reading : (bytes : List ℕ) (outcome : Outcome) → ComesTo bytes outcome → (r : Reading) × IsReading bytes r × (outcome ≡ judged r)
+of_reading bytes (Ok planes) (value, are, valid, e) = (read value, are, ap ok e ∙ sym (ap (judged_as value) valid))
+of_reading bytes (Err TooLong) c = (long, c, refl)
+of_reading bytes (Err (Malformed at)) c = (refused (malformed at), c, refl)
+of_reading bytes (Err (NotBuilt at)) c = (refused (not_built at), c, refl)
+of_reading bytes (Err (InvalidLeaf leaf kind)) (value, are, fault) = (read value, are, sym (ap (judged_as value) fault))
+of_reading bytes (Err ReadFault) c = absurd c
+of_reading bytes (Err WriteFault) c = absurd c
+of_reading bytes (Err Memory) c = absurd c
+
+-- bytes come to one outcome
+pub comes_once : (bytes : List ℕ) (a b : Outcome) → ComesTo bytes a → ComesTo bytes b → b ≡ a
+comes_once bytes a b p q =
+    let (r, s, e) = of_reading bytes a p in
+    let (t, u, f) = of_reading bytes b q in
+    f ∙ ap judged (reading_is bytes t r u s) ∙ sym e
+
+-- what an answer says of what the bytes come to
+abbrev pub Shows : List ℕ → Answer → Type 0
+Shows bytes (Ok done) = (planes : List ℕ) × ComesTo bytes (Ok planes)
+Shows bytes (Err WriteFault) = (planes : List ℕ) × ComesTo bytes (Ok planes)
+Shows bytes (Err ReadFault) = ⊤
+Shows bytes (Err Memory) = ⊤
+Shows bytes (Err e) = ComesTo bytes (Err e)
+
+-- and then they come to nothing else
+pub tells : (bytes : List ℕ) (answer : Answer) → Shows bytes answer → (outcome : Outcome) → ComesTo bytes outcome → Tells answer outcome
+tells bytes (Ok done) (planes, p) outcome q = subst IsOk (sym (comes_once bytes (Ok planes) outcome p q)) refl
+tells bytes (Err WriteFault) (planes, p) outcome q = subst IsOk (sym (comes_once bytes (Ok planes) outcome p q)) refl
+tells bytes (Err ReadFault) p outcome q = tt
+tells bytes (Err Memory) p outcome q = tt
+tells bytes (Err TooLong) p outcome q = comes_once bytes (Err TooLong) outcome p q
+tells bytes (Err (Malformed at)) p outcome q = comes_once bytes (Err (Malformed at)) outcome p q
+tells bytes (Err (NotBuilt at)) p outcome q = comes_once bytes (Err (NotBuilt at)) outcome p q
+tells bytes (Err (InvalidLeaf leaf kind)) p outcome q = comes_once bytes (Err (InvalidLeaf leaf kind)) outcome p q
+
+-- what holds of the bytes that were read holds of the bytes that the source told
+pub of_left : (left : Option (List ℕ)) (bytes : List ℕ) (P : List ℕ → Type 0) → IfSome left (λ told. bytes ≡ told) → P bytes → IfSome left P
+of_left None bytes P e p = tt
+of_left (Some told) bytes P e p = subst P e p

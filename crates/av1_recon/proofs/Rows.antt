@@ -1,0 +1,129 @@
+-- Planes by rows, and rows by pieces.
+use Rattle.std.proofs.Common.{◌≡◌, ℕ, zero, suc, ◌+◌, ◌-◌, ◌<◌, Option, List, [], ◌∷◌, ◌++◌, map, take, drop, refl, sym, ap, subst, ◌∙◌, append_assoc, append-nil, take-append-drop, arith}
+use Rattle.std.specs.List.{flat_map, range_with_len}
+use Rattle.std.specs.Io.KnownBytes.{Appends}
+use Rattle.std.proofs.KnownBytes.{Appends-trans}
+use Rattle.std.proofs.lemmas.Grind.{flat_map-append}
+use Rattle.std.proofs.lemmas.List.{map-append}
+use Rattle.std.proofs.lemmas.List.Folds.{flat_map-map}
+use lib.Seq.{take-add}
+use Rattle.av1_plan.specs.Geometry.{plane_height}
+use Rattle.av1_plan.specs.declared.header.Header.{Header}
+use Rattle.av1_streams.specs.Streams.{AppendsPrefix}
+use Rattle.av1_streams.proofs.Prefixes.{AppendsPrefix-first, AppendsPrefix-after}
+use Rattle.av1_tile.specs.Parts.{frame_of, component}
+use Rattle.av1_tile.specs.State.{Picture, state_header, shown, state_row}
+use Rattle.av1_tile.specs.Walk.{plane_bytes, sample_bytes}
+
+-- ---- pieces of a row
+
+-- the bytes of samples at a depth
+abbrev pub bytes_of : {T : Type 0} → (T → ℕ) → ℕ → List T → List ℕ
+bytes_of num depth row = flat_map (sample_bytes depth) (map num row)
+
+bytes_of-append : {T : Type 0} (num : T → ℕ) (depth : ℕ) (xs ys : List T) → bytes_of num depth (xs ++ ys) ≡ bytes_of num depth xs ++ bytes_of num depth ys
+bytes_of-append num depth xs ys = ap (flat_map (sample_bytes depth)) (map-append num xs ys) ∙ flat_map-append (sample_bytes depth) (map num xs) (map num ys)
+
+-- after the samples before a place, those of the next piece
+pub Appends-piece : {T : Type 0} (num : T → ℕ) (depth : ℕ) (row : List T) (a b c : Option (List ℕ)) (at n count : ℕ) (bytes : List ℕ) → n ≡ count
+    → Appends a b (bytes_of num depth (take at row)) → bytes ≡ bytes_of num depth (take n (drop at row)) → Appends b c bytes → Appends a c (bytes_of num depth (take (at + count) row))
+Appends-piece num depth row a b c at n count bytes same before piece next =
+    let whole : bytes_of num depth (take at row) ++ bytes ≡ bytes_of num depth (take (at + count) row) =
+    ap (λ l. bytes_of num depth (take at row) ++ l) piece ∙ sym (bytes_of-append num depth (take at row) (take n (drop at row)))
+    ∙ ap (bytes_of num depth) (sym (take-add at n row) ∙ ap (λ (k : ℕ). take (at + k) row) same) in
+    subst (Appends a c) whole (Appends-trans a b c _ _ before next)
+
+-- a prefix of the bytes of the next piece
+pub AppendsPrefix-piece : {T : Type 0} (num : T → ℕ) (depth : ℕ) (row : List T) (a b c : Option (List ℕ)) (at n : ℕ) (bytes : List ℕ)
+    → Appends a b (bytes_of num depth (take at row)) → bytes ≡ bytes_of num depth (take n (drop at row)) → AppendsPrefix b c bytes → AppendsPrefix a c (bytes_of num depth row)
+AppendsPrefix-piece num depth row a b c at n bytes before piece next =
+    let rest = drop n (drop at row) in
+    let whole : bytes_of num depth (take at row) ++ (bytes ++ bytes_of num depth rest) ≡ bytes_of num depth row =
+    ap (λ l. bytes_of num depth (take at row) ++ (l ++ bytes_of num depth rest)) piece
+    ∙ ap (λ l. bytes_of num depth (take at row) ++ l) (sym (bytes_of-append num depth (take n (drop at row)) rest) ∙ ap (bytes_of num depth) (take-append-drop n (drop at row)))
+    ∙ sym (bytes_of-append num depth (take at row) (drop at row)) ∙ ap (bytes_of num depth) (take-append-drop at row) in
+    AppendsPrefix-after a b c _ bytes (bytes_of num depth rest) _ whole before next
+
+-- ---- rows of a plane
+
+-- the bytes of a row of a plane
+abbrev pub row_bytes : {T : Type 0} → (T → ℕ) → Picture T → ℕ → ℕ → List ℕ
+row_bytes num s p y = flat_map (sample_bytes (state_header s).depth) (state_row num s p y)
+
+-- the bytes of the first rows of a plane
+abbrev pub rows_below : {T : Type 0} → (T → ℕ) → Picture T → ℕ → ℕ → List ℕ
+rows_below num s p n = flat_map (row_bytes num s p) (range_with_len 0 n)
+
+range-append : (a m n : ℕ) → range_with_len a (m + n) ≡ range_with_len a m ++ range_with_len (a + m) n
+range-append a zero n =
+    let none : 0 + n ≡ n = omega arith in
+    let same : a + 0 ≡ a = omega arith in
+    rw (none, same) refl
+range-append a (suc m) n =
+    let more : suc m + n ≡ suc (m + n) = omega arith in
+    let place : a + suc m ≡ a + 1 + m = omega arith in
+    rw (more, place) (ap (λ l. a ∷ l) (range-append (a + 1) m n))
+
+flat_map-flat_map : {A B C : Type 0} (g : B → List C) (f : A → List B) (xs : List A) → flat_map g (flat_map f xs) ≡ flat_map (λ x. flat_map g (f x)) xs
+flat_map-flat_map g f [] = refl
+flat_map-flat_map g f (x ∷ xs) = flat_map-append g (f x) (flat_map f xs) ∙ ap (λ l. flat_map g (f x) ++ l) (flat_map-flat_map g f xs)
+
+-- the rows above a place, that row, and those below it
+rows_split : {T : Type 0} (num : T → ℕ) (s : Picture T) (p y n : ℕ) → rows_below num s p (y + (1 + n)) ≡ rows_below num s p y ++ (row_bytes num s p y ++ flat_map (row_bytes num s p) (range_with_len (y + 1) n))
+rows_split num s p y n =
+    let from : 0 + y ≡ y = omega arith in
+    let one : 1 + n ≡ suc n = omega arith in
+    ap (flat_map (row_bytes num s p)) (range-append 0 y (1 + n) ∙ ap (λ l. range_with_len 0 y ++ l) (rw (from, one) refl))
+    ∙ flat_map-append (row_bytes num s p) (range_with_len 0 y) (y ∷ range_with_len (y + 1) n)
+
+-- a row as it was lent, at the depth of the header that was lent
+pub row_is : {T : Type 0} (num : T → ℕ) (s : Picture T) (p y : ℕ) (h : Header) (row : List T) → h ≡ state_header s → map num row ≡ state_row num s p y → bytes_of num h.depth row ≡ row_bytes num s p y
+row_is num s p y h row same is = ap (flat_map (sample_bytes h.depth)) is ∙ ap (λ (k : Header). flat_map (sample_bytes k.depth) (state_row num s p y)) same
+
+-- one row more
+pub Appends-row : {T : Type 0} (num : T → ℕ) (s : Picture T) (p y : ℕ) (a b c : Option (List ℕ)) → Appends a b (rows_below num s p y) → Appends b c (row_bytes num s p y) → Appends a c (rows_below num s p (y + 1))
+Appends-row num s p y a b c before next =
+    subst (Appends a c) (sym (rows_split num s p y 0 ∙ ap (λ l. rows_below num s p y ++ l) (append-nil (row_bytes num s p y)))) (Appends-trans a b c _ _ before next)
+
+-- how many rows the header that was lent has
+pub height_is : {T : Type 0} (s : Picture T) (p n : ℕ) (h : Header) → n ≡ plane_height h p → h ≡ state_header s → n ≡ (frame_of (state_header s) p).height
+height_is s p n h rows same = rows ∙ ap (λ (k : Header). plane_height k p) same
+
+-- all rows are the plane
+pub rows_are_plane : {T : Type 0} (num : T → ℕ) (s : Picture T) (p n m : ℕ) → n ≡ m → m ≡ (frame_of (state_header s) p).height → rows_below num s p n ≡ plane_bytes (frame_of (state_header s) p) (shown num s (component p))
+rows_are_plane num s p n m same e =
+    let all = range_with_len 0 (frame_of (state_header s) p).height in
+    let line : ℕ → List ℕ = λ y. state_row num s p y in
+    let bytes = sample_bytes (state_header s).depth in
+    ap (rows_below num s p) same ∙ ap (rows_below num s p) e ∙ sym (ap (flat_map bytes) (flat_map-map line (λ y. y) all) ∙ flat_map-flat_map bytes line all)
+
+-- a prefix of the next row
+pub AppendsPrefix-row : {T : Type 0} (num : T → ℕ) (s : Picture T) (p y n : ℕ) (a b c : Option (List ℕ)) → n ≡ (frame_of (state_header s) p).height → y < n
+    → Appends a b (rows_below num s p y) → AppendsPrefix b c (row_bytes num s p y) → AppendsPrefix a c (plane_bytes (frame_of (state_header s) p) (shown num s (component p)))
+AppendsPrefix-row num s p y n a b c e within before next =
+    let count : y + (1 + (n - y - 1)) ≡ n = omega arith in
+    let whole = sym (rows_split num s p y (n - y - 1)) ∙ rows_are_plane num s p _ n count e in
+    AppendsPrefix-after a b c (rows_below num s p y) (row_bytes num s p y) _ _ whole before next
+
+-- ---- planes of a picture
+
+-- all of it is a prefix too
+pub AppendsPrefix-all : (a b : Option (List ℕ)) (bytes : List ℕ) → Appends a b bytes → AppendsPrefix a b bytes
+AppendsPrefix-all a b bytes done = (bytes, [], append-nil bytes, done)
+
+-- a prefix of the first of three parts
+pub AppendsPrefix-one : (a b : Option (List ℕ)) (y u v : List ℕ) → AppendsPrefix a b y → AppendsPrefix a b (y ++ u ++ v)
+AppendsPrefix-one a b y u v first = AppendsPrefix-first a b y (u ++ v) _ (sym (append_assoc y u v)) first
+
+-- the first, and a prefix of the second
+pub AppendsPrefix-two : (a b c : Option (List ℕ)) (y u v : List ℕ) → Appends a b y → AppendsPrefix b c u → AppendsPrefix a c (y ++ u ++ v)
+AppendsPrefix-two a b c y u v first second = AppendsPrefix-after a b c y u v _ (sym (append_assoc y u v)) first second
+
+-- the first two, and a prefix of the third
+pub AppendsPrefix-three : (a b c d : Option (List ℕ)) (y u v : List ℕ) → Appends a b y → Appends b c u → AppendsPrefix c d v → AppendsPrefix a d (y ++ u ++ v)
+AppendsPrefix-three a b c d y u v first second third =
+    AppendsPrefix-after a c d (y ++ u) v [] _ (ap (λ l. y ++ u ++ l) (append-nil v)) (Appends-trans a b c y u first second) third
+
+-- all three
+pub Appends-three : (a b c d : Option (List ℕ)) (y u v : List ℕ) → Appends a b y → Appends b c u → Appends c d v → Appends a d (y ++ u ++ v)
+Appends-three a b c d y u v first second third = Appends-trans a c d (y ++ u) v (Appends-trans a b c y u first second) third

@@ -1,0 +1,7 @@
+use Rattle.std.proofs.Common.{◌≡◌, take}
+use Rattle.std.specs.List.{flat_map}
+use Rattle.av1_tile.specs.Walk.{sample_bytes}
+use Rattle.av1_recon.proofs.samples.pack_one.Given as goal
+
+abbrev pub invariant-loop-i : goal.invariant-loop-i
+invariant-loop-i g l = take l.i l.bytes ≡ flat_map (λ s. sample_bytes 8 (g.T.Pixel.num s)) (take l.i l.samples)

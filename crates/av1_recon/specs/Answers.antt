@@ -1,0 +1,54 @@
+-- The exit status and the line of each answer.
+use Rattle.std.specs.Prelude.{ℕ, List, [], ◌++◌, Option, Ok, Err, codes, decimal}
+use Rattle.std.specs.Io.KnownBytes.{Appends}
+use Rattle.av1_plan.specs.declared.error.InvalidKind.{InvalidKind}
+use Rattle.av1_plan.specs.declared.error.InvalidKind.TheVariants as kinds
+use Rattle.av1_streams.specs.Faults.{Rose}
+use Rattle.av1_streams.specs.Streams.{AppendsPrefix}
+use Rattle.av1_recon.specs.declared.error.ReconError.{ReconError}
+use Rattle.av1_recon.specs.declared.error.ReconError.TheVariants.{ReadFault, TooLong, Malformed, NotBuilt, Invalid, WriteFault, Memory}
+use Rattle.av1_recon.specs.Outcomes.{Answer}
+
+-- the exit status of an answer
+abbrev pub status_of : Answer → ℕ
+status_of (Ok done) = 0
+status_of (Err TooLong) = 2
+status_of (Err (Malformed at)) = 2
+status_of (Err (NotBuilt at)) = 2
+status_of (Err (Invalid leaf kind)) = 2
+status_of (Err Memory) = 3
+status_of (Err ReadFault) = 4
+status_of (Err WriteFault) = 5
+
+-- the words for a fault of a leaf
+abbrev pub kind_words : InvalidKind → List ℕ
+kind_words kinds.InvalidBlockSize = codes "block size"
+kind_words kinds.Transform = codes "transform"
+kind_words kinds.Mode = codes "mode"
+kind_words kinds.Vector = codes "vector"
+kind_words kinds.MissingReference = codes "missing reference"
+kind_words kinds.Coefficient = codes "coefficient"
+
+-- the words for an error
+abbrev pub error_words : ReconError → List ℕ
+error_words ReadFault = codes "read fault"
+error_words TooLong = codes "too long"
+error_words (Malformed at) = codes "malformed at " ++ decimal at
+error_words (NotBuilt at) = codes "not built at " ++ decimal at
+error_words (Invalid leaf kind) = codes "invalid leaf " ++ decimal leaf ++ codes ": " ++ kind_words kind
+error_words WriteFault = codes "write fault"
+error_words Memory = codes "out of memory"
+
+-- the line for an answer, none for Ok
+abbrev pub line_of : Answer → List ℕ
+line_of (Ok done) = []
+line_of (Err e) = error_words e ++ codes "\n"
+
+-- the line for words that are no command
+abbrev pub usage : List ℕ
+usage = codes "usage: recon [make N | sum N]\n"
+
+-- The line stands on the sink, or a prefix of it where a write failed.
+pub record Says {E : Type 0} (taken : E → Option (List ℕ)) (faults : E → ℕ) (sink sink' : E) (line : List ℕ) : Type 0 where
+  pub prefix : AppendsPrefix (taken sink) (taken sink') line
+  pub whole : ¬ Rose (faults sink) (faults sink') → Appends (taken sink) (taken sink') line

@@ -1,0 +1,4 @@
+pub mod Errors
+pub mod Outcomes
+pub mod Answers
+pub mod Commands

@@ -1,0 +1,29 @@
+//! Where the bytes of a plan come from, and where the bytes of planes go.
+//!
+//! A [`Source`] gives bytes and a [`Sink`] takes them, in pieces of any size, and each counts its
+//! faults. [`read_plan_bytes`] reads a source to its end, and [`write_bytes`] writes all of a slice,
+//! or a prefix of it up to a fault. Both are generic, so what they promise holds of standard input
+//! and output ([`ReadSource`], [`WriteSink`]) as of memory ([`SliceSource`], [`MemSink`]), whose
+//! calls fail on request. A [`Line`] is a line of text for such a sink, built without memory.
+//!
+//! It stands on std, and takes the answer for want of memory from `av1_blocks`.
+//!
+//! Promised to the layer above: every call returns. Where a source or a sink tells its bytes, the
+//! clauses say which were taken from it and which stand on it after every answer, the failing ones
+//! too. Counts of faults never fall, and an answer that blames a fault comes only where the count
+//! rose, or stands at the last value of a `u64`.
+#![tactic(auto)]
+
+mod line;
+mod read;
+mod sink;
+mod source;
+#[cfg(test)]
+mod tests;
+mod write;
+
+pub use line::{LINE_BYTES, Line};
+pub use read::{MAX_PLAN_BYTES, ReadError, read_plan_bytes};
+pub use sink::{MemSink, Sink, WriteSink};
+pub use source::{Failed, ReadSource, SliceSource, Source};
+pub use write::{WriteFault, write_bytes};

@@ -1,0 +1,94 @@
+//! The bytes of a plan, read to their end.
+ghost use Rattle.std.specs.Prelude.{◌≡◌, ◌+◌, ◌<◌, ◌≤◌, length, take, drop, IsErrOf, IfOk, IfSome, OnOk, OnErr, vec_len};
+ghost use Rattle.std.specs.Io.KnownBytes.{Consumes, Keeps, IsAtEnd};
+ghost use Rattle.av1_streams.specs.Faults.{HasCause, Rose};
+ghost use Rattle.av1_streams.specs.Streams.{Takes, TakesAtMost, max_plan_bytes};
+ghost use Rattle.av1_streams.specs.declared.read.ReadError.TheVariants.{Memory};
+
+use crate::{Failed, Source};
+use std::alloc::{AllocError, Global};
+
+/// The most bytes that a plan has: 64 MiB.
+pub const MAX_PLAN_BYTES: usize = 1 << 26;
+
+// What the first read asks for, as much as a pipe holds.
+const FIRST_READ: usize = 1 << 16;
+
+/// Why the bytes of a plan could not be read.
+#[derive(Clone, Copy, Debug, PartialEq, Eq)]
+pub enum ReadError {
+    /// A read failed.
+    ReadFault,
+    /// The source gave a byte past the longest plan.
+    TooLong,
+    /// An allocation was refused.
+    Memory,
+}
+
+impl From<AllocError> for ReadError {
+    ghost from_gives = { λ _ e. e ≡ Memory };
+
+    fn from(_: AllocError) -> Self {
+        ReadError::Memory
+    }
+}
+
+/// All that the source has left, read to its end, at most [`MAX_PLAN_BYTES`]. Each read asks for as
+/// much as there is room for. The first that fails ends the call.
+pub fn read_plan_bytes<R: Source>(alloc: Global, source: &mut R) -> Result<Vec<u8>, ReadError>
+    ensures bytes { IfOk result (λ bytes. IfSome (R.left source.old) (λ left. bytes.items ≡ left)) }
+    ensures end { OnOk result (IsAtEnd (R.left source.new)) }
+    ensures short { IfOk result (λ bytes. length bytes.items ≤ max_plan_bytes) }
+
+    // It takes at most a byte past the longest plan, and `TooLong` comes where it took that byte.
+    ensures taken { TakesAtMost (max_plan_bytes + 1) (R.left source.old) (R.left source.new) }
+    ensures too_long { IsErrOf result ReadError.TooLong → Takes (max_plan_bytes + 1) (R.left source.old) (R.left source.new) }
+    ensures longer { IsErrOf result ReadError.TooLong → IfSome (R.left source.old) (λ left. max_plan_bytes < length left) }
+
+    // `ReadFault` comes only where a read failed.
+    ensures read_fault { IsErrOf result ReadError.ReadFault → Rose (R.faults source.old) (R.faults source.new) }
+    ensures later { R.faults source.old ≤ R.faults source.new }
+{
+    let mut bytes = Vec::new(alloc);
+    let mut filled = 0;
+    'reading: while filled <= MAX_PLAN_BYTES {
+        make_room(&mut bytes, filled)?;
+        match read_at(source, &mut bytes, filled) {
+            Ok(0) => {
+                bytes.truncate(filled);
+                return Ok(bytes);
+            }
+            Ok(count) => filled += count,
+            Err(Failed) => return Err(ReadError::ReadFault),
+        }
+    }
+    Err(ReadError::TooLong)
+}
+
+// Makes `bytes` longer than what is filled of it, by zeros: twice as long, where it is full.
+fn make_room(bytes: &mut Vec<u8>, filled: usize) -> Result<(), AllocError>
+    requires within { filled ≤ vec_len bytes.old }
+    requires short { filled ≤ max_plan_bytes }
+    requires limit { vec_len bytes.old ≤ max_plan_bytes + 1 }
+    ensures room { OnOk result (filled < vec_len bytes.new) }
+    ensures limit { vec_len bytes.new ≤ max_plan_bytes + 1 }
+    ensures front { take filled bytes.new.items ≡ take filled bytes.old.items }
+{
+    if filled < bytes.len() {
+        return Ok(());
+    }
+    bytes.resize((2 * filled).clamp(FIRST_READ, MAX_PLAN_BYTES + 1), 0)
+}
+
+// One read into what stands behind the filled part.
+fn read_at<R: Source>(source: &mut R, bytes: &mut [u8], filled: usize) -> Result<usize, Failed>
+    requires { filled < length bytes.old }
+    ensures front { take filled bytes.new ≡ take filled bytes.old }
+    ensures fits { IfOk result (λ count. filled + count ≤ length bytes.new) }
+    ensures ok { IfOk result (λ count. Consumes (R.left source.old) (R.left source.new) (take count (drop filled bytes.new))) }
+    ensures end { IfOk result (λ count. count ≡ 0 → IsAtEnd (R.left source.new)) }
+    ensures err { OnErr result (Keeps (R.left source.old) (R.left source.new)) }
+    ensures cause { HasCause (R.faults source.old) (R.faults source.new) result }
+{
+    source.read(&mut bytes[filled..])
+}

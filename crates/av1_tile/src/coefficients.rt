@@ -1,0 +1,57 @@
+//! The coefficients of a transform block, from the triples of its leaf.
+
+ghost use Rattle.std.specs.Prelude.{◌≡◌, ℕ, ◌≤◌, ◌<◌, ◌-◌, ◌^◌, length, map, pos, neg_ℤ, ◌≤ℤ◌, ◌<ℤ◌, All, replicate, slice_set, if◌then◌else◌};
+ghost use Rattle.std.specs.List.{fold};
+ghost use Rattle.av1_itx.specs.Residue.{coded_area};
+ghost use Rattle.av1_tile.specs.Walk.{with_triple};
+ghost use Rattle.av1_dct.specs.Arithmetic.{FitsBits};
+
+use av1_blocks::TxSize;
+use av1_frame::Coefficient;
+use av1_plan::Triple;
+
+/// How many coefficients of a block are coded: those of its first 32 columns and rows.
+pub fn coded_count(tx_size: TxSize) -> usize
+    ensures value { result ≡ coded_area tx_size }
+    ensures most { result ≤ 1024 }
+{
+    tx_size.width().min(32) * tx_size.height().min(32)
+}
+
+/// Each coefficient becomes 0.
+fn clear<C: Coefficient>(coefficients: &mut [C])
+    ensures { map C.val coefficients.new ≡ replicate (length coefficients.old) (pos 0) }
+{
+    for coefficient in coefficients.iter_mut() {
+        *coefficient = C::from_i32(0);
+    }
+}
+
+/// Puts a value at its place, if it is one of this block.
+fn put_value<C: Coefficient>(coefficients: &mut [C], is_here: bool, place: usize, value: i32)
+    requires place { place < length coefficients.old }
+    requires value { FitsBits C.BITS value }
+    ensures { map C.val coefficients.new ≡ (if is_here then slice_set (map C.val coefficients.old) place value else map C.val coefficients.old) }
+{
+    if is_here {
+        coefficients[place] = C::from_i32(value);
+    }
+}
+
+/// The coefficients of the block numbered `block`: the values of its triples at their places, and 0 at all others.
+pub fn load_coefficients<C: Coefficient>(coefficients: &mut [C], block: usize, triples: &[Triple])
+    requires places { All (λ (t : Triple). t.place < length coefficients.old) triples.now }
+    requires values { All (λ (t : Triple). FitsBits C.BITS t.value) triples.now }
+    ensures { map C.val coefficients.new ≡ fold (with_triple block) (replicate (length coefficients.old) (pos 0)) triples.now }
+{
+    clear(coefficients);
+    for triple in triples {
+        let Triple {
+            block: number,
+            place,
+            value,
+        } = *triple;
+        let is_here = usize::from(number) == block;
+        put_value(coefficients, is_here, usize::from(place), value);
+    }
+}

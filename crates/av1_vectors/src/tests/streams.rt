@@ -1,0 +1,26 @@
+// The whole path over a reader and a writer.
+use super::support::{PLAN, PLANES, are_planes};
+use av1_recon::{ReadSource, ReconError, WriteSink, reconstruct_plan};
+use std::test::Fail;
+
+#[test]
+fn a_reader_gives_a_plan_and_a_writer_takes_its_planes(rt: HostRuntime) -> Result<(), Fail> {
+    let mut planes = [0; PLANES];
+    let mut source = ReadSource::new(PLAN.as_slice());
+    let mut sink = WriteSink::new(planes.as_mut_slice());
+    let answer = reconstruct_plan(rt.alloc(), &mut source, &mut sink);
+    assert_eq!(rt; answer, Ok(()));
+    assert!(rt; are_planes(&planes, 131));
+    Ok(())
+}
+
+#[test]
+fn a_writer_that_takes_no_more_is_a_write_fault(rt: HostRuntime) -> Result<(), Fail> {
+    let mut front = [0; 10];
+    let mut source = ReadSource::new(PLAN.as_slice());
+    let mut sink = WriteSink::new(front.as_mut_slice());
+    let answer = reconstruct_plan(rt.alloc(), &mut source, &mut sink);
+    assert_eq!(rt; answer, Err(ReconError::WriteFault));
+    assert_eq!(rt; front, [131; 10]);
+    Ok(())
+}
