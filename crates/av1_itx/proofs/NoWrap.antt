@@ -1,11 +1,11 @@
 -- Inputs of 18 bits and a range up to 18: none of a transform's sums and products leaves 32 bits.
-use Rattle.std.proofs.Common.{unsigned_abs, ℕ, zero, suc, ◌≡◌, ◌+◌, ◌-◌, ◌*◌, ◌/◌, ◌^◌, ◌≤◌, ◌%◌, ◌==◌, nat_lt, max, true, false, cond, ℤ, pos, negsuc, neg_ℤ, ◌+ℤ◌, ◌-ℤ◌, ◌*ℤ◌, List, [], ◌∷◌, reverse, All, arith, ap, refl, sym, ◌∙◌, w32, FitsSigned}
+use Rattle.std.proofs.Common.{unsigned_abs, ℕ, zero, suc, ◌≡◌, ◌+◌, ◌-◌, ◌*◌, ◌/◌, ◌^◌, ◌≤◌, ◌%◌, ◌==◌, nat_lt, max, true, false, cond, ℤ, pos, negsuc, ◌+ℤ◌, ◌-ℤ◌, ◌*ℤ◌, List, [], ◌∷◌, reverse, All, arith, ap, refl, sym, ◌∙◌, w32, FitsSigned}
 use Rattle.std.specs.Int.{int_shr}
 use Rattle.std.proofs.lemmas.Int.{ints, int_wrap_fits, unsigned_abs-mul}
 use Rattle.std.proofs.Math.Nat.{mul-le-mul}
 use Rattle.av1_dct.specs.Arithmetic.{AllFit, FitsBits, at, clamp_value, round12}
 use Rattle.av1_dct.specs.Operations.{Operations, AreRight32}
-use Rattle.av1_dct.specs.Cosine.{by_index, cos128}
+use Rattle.av1_dct.specs.Cosine.{by_index}
 use Rattle.av1_dct.proofs.Fits.{all-fit, by_index-fits, clamp_value-fits, cond-fits}
 use Rattle.av1_dct.proofs.NoWrap.{Weight, cos128-small, neg-small, turn-same, plus-same, minus-same, by_index-same, cond-same, no_wrap}
 use Rattle.av1_blocks.specs.declared.transform.TxSize.{TxSize}
@@ -18,8 +18,8 @@ use Rattle.av1_itx.specs.Identity.{scaled_with, scaled, identity_with}
 use Rattle.av1_itx.specs.Walsh.{walsh_with, walsh}
 use Rattle.av1_itx.specs.Networks.{network_with, network}
 use Rattle.av1_itx.specs.Residue.{column_input, column_range, row_shift}
-use Rattle.av1_itx.proofs.Widths.{wider, by_index-all}
-use Rattle.av1_itx.proofs.Steps.{start-fits, sum-fits}
+use Rattle.av1_itx.proofs.Widths.{by_index-all}
+use Rattle.av1_itx.proofs.Steps.{start-fits}
 use Rattle.av1_itx.proofs.Outputs.{half-fits, rounds-fit}
 
 -- both weights of a turn are small

@@ -1,9 +1,9 @@
 -- What the transforms give: numbers of 24 bits, where their inputs have 20.
-use Rattle.std.proofs.Common.{ℕ, zero, suc, ◌≤◌, ◌-◌, ◌*◌, ◌%◌, ◌^◌, ◌==◌, ℤ, pos, negsuc, neg_ℤ, ◌+ℤ◌, ◌-ℤ◌, ◌*ℤ◌, List, [], ◌∷◌, arith, w32, FitsSigned}
+use Rattle.std.proofs.Common.{ℕ, zero, suc, ◌≤◌, ◌-◌, ◌*◌, ◌%◌, ◌^◌, ◌==◌, ℤ, pos, negsuc, ◌+ℤ◌, ◌-ℤ◌, ◌*ℤ◌, List, arith, w32, FitsSigned}
 use Rattle.std.specs.Int.{int_shr}
 use Rattle.std.proofs.lemmas.Int.{ints, SFits-int_wrap}
 use Rattle.av1_dct.specs.Arithmetic.{at, FitsBits, AllFit, round12}
-use Rattle.av1_dct.specs.Cosine.{by_index, cosine, cosine_with}
+use Rattle.av1_dct.specs.Cosine.{by_index}
 use Rattle.av1_dct.proofs.Fits.{by_index-fits, cond-fits}
 use Rattle.av1_dct.proofs.Halves.{cosine-fits}
 use Rattle.av1_itx.specs.declared.kinds.TxType1D.{TxType1D}

@@ -16,17 +16,26 @@ use Rattle.av1_frame.specs.Arithmetic.{round_shift}
 use Rattle.av1_itx.specs.declared.kinds.TxType1D.{TxType1D}
 use Rattle.av1_itx.specs.Kinds.{row_kind, column_kind}
 use Rattle.av1_itx.specs.Networks.{network}
-use Rattle.av1_itx.specs.Residue.{coded, row_value, row_input, row_power, row_range, row_shift, is_two_to_one, is_lossless, transformed_row, column_input, column_network, column_power, column_range, column_shift, transformed_column, residue}
+use Rattle.av1_itx.specs.Residue.{coded, coded_area, row_value, row_input, row_power, row_range, row_shift, is_two_to_one, is_lossless, transformed_row, column_input, column_network, column_power, column_range, column_shift, transformed_column, residue}
 use Rattle.av1_itx.proofs.Fills.{by_index-ext, length-by_index}
 use Rattle.av1_dct.proofs.Fits.{zero_fits, clamp_value-fits, all-fit}
 use Rattle.av1_itx.proofs.Widths.{by_index-all}
+use Rattle.av1_itx.proofs.Lines.{place_in}
 use Rattle.av1_itx.proofs.Outputs.{network-fits}
 use Rattle.av1_itx.proofs.Zeros.{network-zero, zero_line}
 
--- an input of a row, in the coded part and past it
-pub input_is : (size : TxSize) (type : TxType) (depth : ℕ) (cs : List ℤ) (r c : ℕ) → c < coded (tx_width size) → row_value size type depth (at cs (c * coded (tx_height size) + r)) ≡ row_input size type depth cs r c
+-- the place of a coefficient is one of the block's
+pub coded_place : (size : TxSize) (r c rows : ℕ) → rows ≡ coded (tx_height size) → c < coded (tx_width size) → r < coded (tx_height size) → c * rows + r < coded_area size
+coded_place size r c rows e hc hr = subst (λ n. c * n + r < coded_area size) (sym e) (place_in c r (coded (tx_height size)) (coded (tx_width size)) hc hr)
+
+input_in : (size : TxSize) (type : TxType) (depth : ℕ) (cs : List ℤ) (r c : ℕ) → c < coded (tx_width size) → row_value size type depth (at cs (c * coded (tx_height size) + r)) ≡ row_input size type depth cs r c
 unfolding row_input
-input_is size type depth cs r c h = grind (arith, nat_tests)
+input_in size type depth cs r c h = grind (arith, nat_tests)
+
+-- an input of a row, in the coded part and past it
+pub input_is : (size : TxSize) (type : TxType) (depth : ℕ) (cs : List ℤ) (r c rows : ℕ) (v z : ℤ) → rows ≡ coded (tx_height size) → c < coded (tx_width size) → v ≡ at cs (c * rows + r) → z ≡ row_value size type depth v → z ≡ row_input size type depth cs r c
+input_is size type depth cs r c rows v z e h is made =
+    made ∙ ap (row_value size type depth) (is ∙ ap (λ n. at cs (c * n + r)) e) ∙ input_in size type depth cs r c h
 
 pub input_past : (size : TxSize) (type : TxType) (depth : ℕ) (cs : List ℤ) (r c : ℕ) → coded (tx_width size) ≤ c → pos 0 ≡ row_input size type depth cs r c
 unfolding row_input

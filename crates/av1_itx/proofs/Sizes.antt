@@ -1,10 +1,10 @@
 -- Which transforms each size has.
-use Rattle.std.proofs.Common.{true, false, ◌≡◌, ◌≤◌, ◌*◌, ◌^◌, IsTrue, arith, ap, refl}
+use Rattle.std.proofs.Common.{true, false, ◌≡◌, ◌≤◌, IsTrue, arith, ap, refl}
 use Rattle.av1_blocks.specs.declared.transform.TxSize.{TxSize}
 use Rattle.av1_blocks.specs.declared.transform.TxSize.TheVariants.{TX_4X4, TX_8X8, TX_16X16, TX_32X32, TX_64X64, TX_4X8, TX_8X4, TX_8X16, TX_16X8, TX_16X32, TX_32X16, TX_32X64, TX_64X32, TX_4X16, TX_16X4, TX_8X32, TX_32X8, TX_16X64, TX_64X16}
 use Rattle.av1_blocks.specs.declared.transform.TxType.{TxType}
 use Rattle.av1_blocks.specs.declared.transform.TxType.TheVariants.{DCT_DCT, ADST_DCT, DCT_ADST, ADST_ADST, FLIPADST_DCT, DCT_FLIPADST, FLIPADST_FLIPADST, ADST_FLIPADST, FLIPADST_ADST, IDTX, V_DCT, H_DCT, V_ADST, H_ADST, V_FLIPADST, H_FLIPADST, WHT_WHT}
-use Rattle.av1_blocks.specs.Transforms.{tx_width, tx_height, valid_av1_transform}
+use Rattle.av1_blocks.specs.Transforms.{valid_av1_transform}
 use Rattle.av1_itx.specs.Kinds.{row_kind, column_kind}
 use Rattle.av1_itx.specs.Networks.{HasNetwork}
 use Rattle.av1_itx.specs.Residue.{row_power, column_power}

@@ -1,5 +1,5 @@
 -- Values shifted by a signed number of bits.
-use Rattle.std.specs.Prelude.{ℕ, zero, suc, ◌^◌, ◌/◌, ℤ, pos, negsuc, ◌+ℤ◌, ◌*ℤ◌, ◌<ℤ◌}
+use Rattle.std.specs.Prelude.{zero, suc, ◌^◌, ◌/◌, ℤ, pos, negsuc, ◌+ℤ◌, ◌*ℤ◌, ◌<ℤ◌}
 use Rattle.av1_dct.specs.Arithmetic.{wrap32}
 use Rattle.av1_frame.specs.Arithmetic.{round_shift}
 

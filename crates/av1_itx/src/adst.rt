@@ -162,7 +162,7 @@ fn add_product(sum: i32, weight: i32, x: i32) -> i32
     sum.wrapping_add(weight.wrapping_mul(x))
 }
 
-fn rounded(sum: i32) -> i32
+fn round12(sum: i32) -> i32
     ensures { result ≡ round12 sum }
 {
     sum.wrapping_add(2048) >> 12
@@ -178,10 +178,10 @@ fn adst4_of(input: &[i32], output: &mut [i32])
     let first = add_product(add_product(add_product(0, 1321, x0), 3803, x2), 2482, x3);
     let second = add_product(add_product(add_product(0, 2482, x0), -1321, x2), -3803, x3);
     let third = add_product(0, 3344, x1);
-    output[0] = rounded(add_product(first, 1, third));
-    output[1] = rounded(add_product(second, 1, third));
-    output[2] = rounded(add_product(0, 3344, x0 - x2 + x3));
-    output[3] = rounded(add_product(add_product(first, 1, second), -1, third));
+    output[0] = round12(add_product(first, 1, third));
+    output[1] = round12(add_product(second, 1, third));
+    output[2] = round12(add_product(0, 3344, x0 - x2 + x3));
+    output[3] = round12(add_product(add_product(first, 1, second), -1, third));
 }
 
 /// The inverse asymmetric sine transform of 2^(k+1) values.

@@ -15,7 +15,7 @@ ghost use Rattle.av1_itx.specs.Residue.{coded_area, column_power, column_shift, 
 use crate::columns::column_pass;
 use crate::rows::row_pass;
 use av1_blocks::{OutOfMemory, TxSize, TxType};
-use av1_frame::{Pixel, PlaneRegionMut, round_shift};
+use av1_frame::{Pixel, PlaneRegionMut, clamp, round_shift};
 use std::alloc::Global;
 
 /// The values of one block between its passes, and of one row or column.
@@ -45,14 +45,7 @@ fn clip_to(sum: i32, bd: usize) -> u32
     ensures value { result ≡ clip bd sum }
     ensures fits { result < 2 ^ bd }
 {
-    let top = (1 << bd) - 1;
-    if sum < 0 {
-        0
-    } else if sum as u32 > top {
-        top
-    } else {
-        sum as u32
-    }
+    clamp(sum, 0, (1 << bd) - 1) as u32
 }
 
 // The sample v with z, rounded, added.

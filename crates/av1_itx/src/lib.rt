@@ -1,4 +1,22 @@
-//! Inverse transforms of blocks.
+//! Inverse transforms of blocks, bit for bit those of the AV1 specification: from the coefficients of a block to what is added to
+//! its samples.
+//!
+//! The crate stands on `av1_blocks` for the sizes and types of transforms, on `av1_dct` for the inverse cosine transforms and the
+//! arithmetic of all of them, and on `av1_frame` for samples and the regions that they lie in. It promises to the walk above it:
+//!
+//! - `inverse_transform_add_with` turns each sample of a block into itself plus `residue` of `specs/Residue.antt`, clipped to the
+//!   depth, and leaves all other samples as they were. It runs over a `TxScratch` that is made once, allocates nothing and always
+//!   succeeds. `inverse_transform_add` makes its own scratch; where memory is refused it changes nothing.
+//! - `av1_iadst4`, `av1_iflipadst16`, `av1_iidentity32`, `av1_iwht4` and their like give the definitions of `specs/Adst.antt`,
+//!   `specs/Identity.antt` and `specs/Walsh.antt` on the first values of a slice, and leave the rest of `output`.
+//! - the laws, functions that do nothing: zeros have no residue and are not changed by any transform, a flipped transform is the
+//!   plain one reversed, the Walsh-Hadamard transform loses nothing, every valid type has its two transforms, and nothing wraps at
+//!   32 bits where inputs and range have 18, as those of the columns always do.
+//!
+//! A block is one of `TxSize`'s, `w` columns by `h` rows of samples. Its coefficients stand column by column, at most 32 of each
+//! column and 32 columns: that of row r and column c at `c * min(h, 32) + r`. `bd` is the depth of the samples in bits, and `range`
+//! the number of bits that values within a transform are clamped to. At a depth of 12 sums of the rows can leave 32 bits; they wrap
+//! there, as in rav1e, and the definitions say so.
 #![tactic(auto)]
 
 mod adst;
@@ -10,6 +28,8 @@ mod laws;
 mod networks;
 mod rows;
 mod shift;
+#[cfg(test)]
+mod tests;
 mod walsh;
 
 pub use adst::{
@@ -19,8 +39,8 @@ pub use identity::{av1_iidentity4, av1_iidentity8, av1_iidentity16, av1_iidentit
 pub use inverse::{TxScratch, inverse_transform_add, inverse_transform_add_with};
 pub use kinds::{TxType1D, get_1d_tx_types};
 pub use laws::{
-    columns_never_wrap, flipped_is_reversed, networks_never_wrap, networks_of_zeros, residue_of_zeros,
-    valid_types_have_networks, walsh_loses_nothing,
+    columns_never_wrap, flipped_is_reversed, networks_never_wrap, networks_of_zeros,
+    residue_of_zeros, valid_types_have_networks, walsh_loses_nothing,
 };
 pub use shift::av1_round_shift_array;
 pub use walsh::av1_iwht4;

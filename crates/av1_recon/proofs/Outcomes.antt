@@ -1,13 +1,17 @@
--- Bytes come to one outcome.
-use Rattle.std.proofs.Common.{◌≡◌, ℕ, ◌<◌, ◌≤◌, List, length, Option, Some, None, Result, Ok, Err, refl, sym, ap, subst, ◌∙◌, arith}
-use Rattle.std.specs.Prelude.{⊤, IsOk, IfSome}
-use Rattle.av1_plan.specs.Format.{Format, Fault, malformed, not_built}
+-- Bytes come to some outcome, and to one alone.
+use Rattle.std.proofs.Common.{◌≡◌, inl, inr, ℕ, ◌<◌, ◌≤◌, ◌^◌, List, length, Option, Some, None, Result, Ok, Err, refl, sym, ap, subst, ◌∙◌, arith}
+use Rattle.std.specs.Prelude.{⊤, All, IsOk, IfSome}
+use Rattle.std.proofs.lemmas.Bool.{cases_lt}
+use Rattle.std.proofs.lemmas.List.{get_or_past}
+use Rattle.std.proofs.lemmas.List.Elements.{All-get_or}
+use Rattle.av1_plan.specs.Format.{Format, Fault, malformed, not_built, start, read_all}
 use Rattle.av1_plan.specs.Grammar.{plan}
 use Rattle.av1_plan.specs.Plan.{PlanValue}
 use Rattle.av1_plan.specs.Spelling.{AreText, AreRefused, place}
 use Rattle.av1_plan.specs.Validity.{first_fault}
 use Rattle.av1_plan.specs.declared.error.Invalid.{Invalid}
-use Rattle.av1_plan.proofs.Spelled.{all_again}
+use Rattle.av1_plan.proofs.Fields.{AreBytes}
+use Rattle.av1_plan.proofs.Spelled.{all_again, all_found, all_refused}
 use Rattle.av1_streams.specs.Streams.{max_plan_bytes}
 use Rattle.av1_tile.specs.Walk.{planes_of}
 use Rattle.av1_recon.specs.declared.error.ReconError.{ReconError}
@@ -98,6 +102,28 @@ comes_once bytes a b p q =
     let (r, s, e) = of_reading bytes a p in
     let (t, u, f) = of_reading bytes b q in
     f ∙ ap judged (reading_is bytes t r u s) ∙ sym e
+
+of_plan : (bytes : List ℕ) (value : PlanValue) → ArePlan bytes value → (fault : Option Invalid) → first_fault value ≡ fault → (outcome : Outcome) × ComesTo bytes outcome
+of_plan bytes value are None e = (Ok (planes_of value), (value, are, e, refl))
+of_plan bytes value are (Some fault) e = (Err (InvalidLeaf fault.leaf fault.kind), (value, are, e))
+
+of_result : (bytes : List ℕ) → AreBytes bytes → length bytes ≤ max_plan_bytes → (result : Result PlanValue Fault) → read_all plan (start bytes) ≡ result → (outcome : Outcome) × ComesTo bytes outcome
+of_result bytes fits short (Ok value) e = of_plan bytes value (short, all_found plan bytes value fits e) (first_fault value) refl
+of_result bytes fits short (Err (malformed at)) e = (Err (Malformed at), (short, all_refused plan bytes (malformed at) fits e))
+of_result bytes fits short (Err (not_built at)) e = (Err (NotBuilt at), (short, all_refused plan bytes (not_built at) fits e))
+
+byte_fits : (bytes : List ℕ) → All (λ byte. byte < 2 ^ 8) bytes → AreBytes bytes
+byte_fits bytes fits i = elim (cases_lt i (length bytes)) [
+  | inl within ↦ All-get_or (λ byte. byte < 2 ^ 8) bytes i 0 within fits
+  | inr past ↦ rw (get_or_past bytes i 0 past) (omega arith)
+]
+
+-- bytes come to some outcome
+pub comes_to_some : (bytes : List ℕ) → All (λ byte. byte < 2 ^ 8) bytes → (outcome : Outcome) × ComesTo bytes outcome
+comes_to_some bytes fits = elim (cases_lt max_plan_bytes (length bytes)) [
+  | inl over ↦ (Err TooLong, over)
+  | inr short ↦ of_result bytes (byte_fits bytes fits) short (read_all plan (start bytes)) refl
+]
 
 -- what an answer says of what the bytes come to
 abbrev pub Shows : List ℕ → Answer → Type 0

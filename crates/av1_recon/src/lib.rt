@@ -16,6 +16,7 @@
 mod answer;
 mod command;
 mod error;
+mod laws;
 mod planes;
 mod program;
 mod reconstruct;
@@ -29,6 +30,7 @@ pub use av1_streams::{
 pub use av1_tile::{TileState, reconstruct_tile};
 pub use command::Command;
 pub use error::ReconError;
+pub use laws::outcome_laws;
 pub use planes::write_planes;
 pub use program::run;
 pub use reconstruct::reconstruct_plan;

@@ -13,10 +13,20 @@ use crate::answer::{report, say};
 use crate::{Command, Sink, Source, reconstruct_plan};
 use std::alloc::Global;
 
-/// Does what the words after the program's name ask for, and gives the exit status: without words a plan is read from `source`
-/// and its planes are written to `out`. Every status but 0 has its line on `err`, or a prefix of it where a write failed there.
+/// Does what the words after the program's name ask for, and gives the exit status. Without words a plan is read from `source`
+/// and its planes are written to `out`; any words are no command so far.
 ///
-/// 0 is Ok; 1 that the words are no command; 2 that the plan is refused; 3 want of memory; 4 a failed read; 5 a failed write.
+/// | status | where | line on `err` |
+/// |---|---|---|
+/// | 0 | the planes were written | none |
+/// | 1 | the words are no command | `usage: recon [make N \| sum N]` |
+/// | 2 | the plan is refused | `too long`, `malformed at N`, `not built at N` or `invalid leaf N: K` |
+/// | 3 | memory ran out | `out of memory` |
+/// | 4 | a read failed | `read fault` |
+/// | 5 | a write failed | `write fault` |
+///
+/// K is `block size`, `transform`, `mode`, `vector`, `missing reference` or `coefficient`. Where a write to `err` failed a prefix
+/// of the line stands, and the status stays.
 pub fn run<R: Source, W: Sink, E: Sink>(
     alloc: Global,
     words: &[String],

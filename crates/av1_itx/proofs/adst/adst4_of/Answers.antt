@@ -47,14 +47,14 @@ returns c =
     let g5 : FitsSigned w32 c.add_product-second.result = search rules in
     let g6 : FitsSigned w32 c.add_product-third.result = search rules in
     let g7 : FitsSigned w32 c.add_product-5.result = search rules in
-    let g8 : FitsSigned w32 c.rounded.result = search rules in
+    let g8 : FitsSigned w32 c.round12.result = search rules in
     let g9 : FitsSigned w32 c.add_product-6.result = search rules in
-    let g10 : FitsSigned w32 c.rounded-2.result = search rules in
+    let g10 : FitsSigned w32 c.round12-2.result = search rules in
     let g11 : FitsSigned w32 c.add_product-7.result = search rules in
-    let g12 : FitsSigned w32 c.rounded-3.result = search rules in
+    let g12 : FitsSigned w32 c.round12-3.result = search rules in
     let g13 : FitsSigned w32 c.add_product-8.result = search rules in
     let g14 : FitsSigned w32 c.add_product-9.result = search rules in
-    let g15 : FitsSigned w32 c.rounded-4.result = search rules in
+    let g15 : FitsSigned w32 c.round12-4.result = search rules in
     let e0 = simp to_z-of_z at c.add_product.ensures in
     let e1 = simp to_z-of_z at c.add_product-2.ensures in
     let e2 = simp to_z-of_z at c.add_product-first.ensures in
@@ -63,14 +63,14 @@ returns c =
     let e5 = simp to_z-of_z at c.add_product-second.ensures in
     let e6 = simp to_z-of_z at c.add_product-third.ensures in
     let e7 = simp to_z-of_z at c.add_product-5.ensures in
-    let e8 = simp to_z-of_z at c.rounded.ensures in
+    let e8 = simp to_z-of_z at c.round12.ensures in
     let e9 = simp to_z-of_z at c.add_product-6.ensures in
-    let e10 = simp to_z-of_z at c.rounded-2.ensures in
+    let e10 = simp to_z-of_z at c.round12-2.ensures in
     let e11 = simp to_z-of_z at c.add_product-7.ensures in
-    let e12 = simp to_z-of_z at c.rounded-3.ensures in
+    let e12 = simp to_z-of_z at c.round12-3.ensures in
     let e13 = simp to_z-of_z at c.add_product-8.ensures in
     let e14 = simp to_z-of_z at c.add_product-9.ensures in
-    let e15 = simp to_z-of_z at c.rounded-4.ensures in
+    let e15 = simp to_z-of_z at c.round12-4.ensures in
     set4 c.args.output.now _ _ _ _ c.requires.output_len
     ∙ adst4_is x c.add_product-first.result c.add_product-second.result c.add_product-third.result c.add_product-5.result c.add_product-6.result c.add_product-7.result c.add_product-8.result c.add_product-9.result _ _ _ _
     (three (pos 1321) (at x 0) (pos 3803) (at x 2) (pos 2482) (at x 3) c.add_product.result c.add_product-2.result c.add_product-first.result e0 e1 e2)

@@ -1,4 +1,4 @@
-use Rattle.std.proofs.Common.{arith, rules, ◌≡◌, ◌+◌, ◌*◌, ◌%◌, ◌∙◌, ap, refl, get_or, pos, neg_ℤ, ◌-ℤ◌, to_z, of_z, w32, FitsSigned}
+use Rattle.std.proofs.Common.{arith, rules, ◌≡◌, ◌+◌, ◌*◌, ◌%◌, ◌∙◌, ap, refl, get_or, pos, ◌-ℤ◌, to_z, of_z, w32, FitsSigned}
 use Rattle.std.proofs.lemmas.Int.{ints, to_z-of_z}
 use Rattle.av1_dct.specs.Arithmetic.{at}
 use Rattle.av1_dct.specs.Cosine.{by_index}

@@ -1,4 +1,4 @@
-use Rattle.std.proofs.Common.{arith, rules, ◌≡◌, ◌<ℤ◌, ◌∙◌, ap, sym, subst, pos, take, drop, length, List, ℤ, All, unsigned_abs, of_z, to_z, w8}
+use Rattle.std.proofs.Common.{arith, ◌≡◌, ◌<ℤ◌, ◌∙◌, ap, sym, subst, pos, take, List, ℤ, All, unsigned_abs, w8}
 use Rattle.std.proofs.lemmas.Int.{ints, to_z-of_z}
 use Rattle.std.proofs.lemmas.List.{take_min}
 use Rattle.av1_itx.specs.Shift.{SumFits}

@@ -1,4 +1,4 @@
-use Rattle.std.proofs.Common.{arith, rules, ap, sym, set, refl, ◌∙◌, pos, w32, FitsSigned}
+use Rattle.std.proofs.Common.{arith, rules, ap, set, ◌∙◌, pos, w32, FitsSigned}
 use Rattle.std.proofs.lemmas.Int.{to_z-of_z}
 use Rattle.std.proofs.lemmas.List.{get_or_default}
 use Rattle.std.proofs.lemmas.List.Edits.{map_over_more}

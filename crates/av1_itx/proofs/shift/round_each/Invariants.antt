@@ -1,5 +1,4 @@
-use Rattle.std.proofs.Common.{◌≡◌, ◌++◌, ◌^◌, ◌*ℤ◌, pos, map, take, drop}
-use Rattle.av1_dct.specs.Arithmetic.{wrap32}
+use Rattle.std.proofs.Common.{◌≡◌, ◌++◌, map, take, drop}
 use Rattle.av1_frame.specs.Arithmetic.{round_shift}
 use Rattle.av1_itx.proofs.shift.round_each.Given as goal
 

@@ -1,6 +1,5 @@
 use Rattle.std.proofs.Common.{◌≡◌, ◌++◌, ◌^◌, ◌*ℤ◌, pos, map, take, drop}
 use Rattle.av1_dct.specs.Arithmetic.{wrap32}
-use Rattle.av1_frame.specs.Arithmetic.{round_shift}
 use Rattle.av1_itx.proofs.shift.shift_each_left.Given as goal
 
 abbrev pub invariant-loop-i : goal.invariant-loop-i
