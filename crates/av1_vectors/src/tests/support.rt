@@ -70,7 +70,7 @@ pub fn attempt_run(
 
 /// Whether these are planes of one luma value, with chroma at 128.
 pub fn are_planes(bytes: &[u8], luma: u8) -> bool {
-    bytes.len() == PLANES
-        && bytes[..64].iter().all(|sample| *sample == luma)
-        && bytes[64..].iter().all(|sample| *sample == 128)
+    let mut planes = [128; PLANES];
+    planes[..64].fill(luma);
+    bytes == planes.as_slice()
 }
