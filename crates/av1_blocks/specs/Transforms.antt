@@ -1,5 +1,5 @@
 -- The sides of transforms in samples of their plane, their types, and which go together.
-use Rattle.std.specs.Prelude.{◌≡◌, ℕ, ◌==◌, ◌||◌, min, max, Bool, true, false, List, [], ◌∷◌, if◌then◌else◌}
+use Rattle.std.specs.Prelude.{◌≡◌, ℕ, ◌*◌, ◌==◌, ◌||◌, min, max, Bool, true, false, List, [], ◌∷◌, if◌then◌else◌}
 use Rattle.av1_blocks.specs.declared.partition.BlockSize.{BlockSize}
 use Rattle.av1_blocks.specs.declared.partition.BlockSize.TheVariants.{BLOCK_4X4, BLOCK_4X8, BLOCK_8X4, BLOCK_8X8, BLOCK_8X16, BLOCK_16X8, BLOCK_16X16, BLOCK_16X32, BLOCK_32X16, BLOCK_32X32, BLOCK_32X64, BLOCK_64X32, BLOCK_64X64, BLOCK_64X128, BLOCK_128X64, BLOCK_128X128, BLOCK_4X16, BLOCK_16X4, BLOCK_8X32, BLOCK_32X8, BLOCK_16X64, BLOCK_64X16}
 use Rattle.av1_blocks.specs.declared.transform.TxSize.{TxSize}
@@ -181,6 +181,14 @@ coded_tx_size TX_32X64 = TX_32X32
 coded_tx_size TX_16X64 = TX_16X32
 coded_tx_size TX_64X16 = TX_32X16
 coded_tx_size t = t
+
+-- How many of n rows or columns of a transform have coefficients.
+abbrev pub coded : ℕ → ℕ
+coded n = min n 32
+
+-- How many coefficients a transform has: those of its first 32 columns and rows.
+abbrev pub coded_area : TxSize → ℕ
+coded_area size = coded (tx_width size) * coded (tx_height size)
 
 -- The number of a type.
 abbrev pub tx_type_number : TxType → ℕ

@@ -12,6 +12,7 @@ ghost use Rattle.av1_blocks.specs.Transforms.{
   tx_sqr,
   tx_sqr_up,
   tx_block_size,
+  coded_area,
   coded_tx_size,
 };
 
@@ -138,6 +139,15 @@ impl TxSize {
         ensures { result ≡ tx_height self / 4 }
     {
         self.height() >> MI_SIZE_LOG2
+    }
+
+    /// The number of coefficients: those of the first 32 columns and rows.
+    #[inline]
+    pub fn coded_area(self) -> usize
+        ensures value { result ≡ coded_area self }
+        ensures most { result ≤ 1024 }
+    {
+        self.width().min(32) * self.height().min(32)
     }
 
     /// The block of the same sides.
