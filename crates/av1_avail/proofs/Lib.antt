@@ -1,0 +1,11 @@
+pub mod Multiples
+pub mod Shift
+pub mod SquareOrder
+mod Parts
+mod Halved
+mod Superblocks
+mod TableOrder
+mod Climbs
+mod BitOrder
+mod Centre
+mod StripeTables

@@ -1,0 +1,45 @@
+-- What rav1e answers from the bits of a block's place, without a table: its columns and rows are counted in cells.
+use Rattle.std.specs.Prelude.{ℕ, zero, suc, not, ◌-◌, Bool, true, false, ◌/◌, ◌%◌, ◌^◌, max, ◌==◌, nat_lt, ◌&&◌, ◌||◌, if◌then◌else◌}
+use Rattle.av1_blocks.specs.declared.partition.BlockSize.{BlockSize}
+use Rattle.av1_blocks.specs.Blocks.{block_width, block_height, side_log2}
+
+-- Bit k of n is set.
+abbrev pub bit : (n k : ℕ) → Bool
+bit n k = n / 2 ^ k % 2 == 1
+
+-- Of the last n of the low four bits, from the lowest up: those of x are set as far as one that is set in y too.
+abbrev pub climbs : (n x y : ℕ) → Bool
+climbs zero x y = false
+climbs (suc n) x y = bit x (3 - n) && (bit y (3 - n) || climbs n x y)
+
+-- The logarithm to base 2 of the width in cells.
+abbrev pub columns_log : BlockSize → ℕ
+columns_log b = side_log2 (block_width b) - 2
+
+-- The logarithm to base 2 of the height in cells.
+abbrev pub rows_log : BlockSize → ℕ
+rows_log b = side_log2 (block_height b) - 2
+
+-- The logarithm to base 2 of the greater side in cells.
+abbrev pub side_log : BlockSize → ℕ
+side_log b = max (columns_log b) (rows_log b)
+
+-- The answer above right of the block at column x and row y. Never for a block with a side of 128. Never for the lower of two blocks that
+-- are wider than high, and always for the left of two that are higher than wide. Else it is so unless the bits of the column from the
+-- block's greater side up are set as far as one that is set in the row too.
+unfoldable pub bits_top_right : BlockSize → (x y : ℕ) → Bool
+bits_top_right b x y =
+    if nat_lt 4 (side_log b) || nat_lt (rows_log b) (columns_log b) && bit y (rows_log b) then false
+    else (if nat_lt (columns_log b) (rows_log b) && not (bit x (columns_log b)) then true else not (climbs (4 - side_log b) x y))
+
+-- The answer below left. Never for a block with a side of 128. Always for the upper of two blocks that are wider than high, and never for
+-- the right of two that are higher than wide. Else it is so where the bits of the column from the block's greater side up are clear as
+-- far as one that is clear in the row too.
+unfoldable pub bits_bottom_left : BlockSize → (x y : ℕ) → Bool
+bits_bottom_left b x y =
+    if nat_lt 4 (side_log b) then false
+    else
+    (if nat_lt (rows_log b) (columns_log b) && not (bit y (rows_log b)) then true
+    else
+    (if nat_lt (columns_log b) (rows_log b) && bit x (columns_log b) then false
+    else climbs (4 - side_log b) (15 - x % 16) (15 - y % 16)))

@@ -1,0 +1,7 @@
+pub mod Order
+pub mod Cells
+pub mod Tables
+pub mod Availability
+pub mod Bits
+pub mod Agreement
+pub mod Stripes

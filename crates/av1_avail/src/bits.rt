@@ -1,0 +1,94 @@
+//! The answers from the bits of a block's place.
+
+ghost use Rattle.std.specs.Prelude.{◌≡◌, ◌-◌, ◌%◌};
+ghost use Rattle.av1_avail.specs.Agreement.{bottom_left_earlier, IsNearSquare, top_right_earlier};
+ghost use Rattle.av1_avail.specs.Bits.{bit, bits_bottom_left, bits_top_right, climbs};
+
+use crate::superblock::{SUPERBLOCK_CELLS, SUPERBLOCK_LOG2};
+use av1_blocks::BlockSize;
+use av1_frame::TileBlockOffset;
+
+/// Whether the bits of `x` from `shift` up are set as far as one that is set in `y` too, among the low four.
+#[inline]
+fn climbs_from(x: usize, y: usize, shift: usize) -> bool
+    ensures { result ≡ climbs (4 - shift) x y }
+{
+    for k in shift..SUPERBLOCK_LOG2 {
+        if (x >> k) & 1 == 0 {
+            return false;
+        }
+        if (y >> k) & 1 == 1 {
+            return true;
+        }
+    }
+    false
+}
+
+/// Whether the cell above right of a block is coded before it, by the bits of its place.
+#[inline]
+#[tactic(auto, unfolding(crate::specs::Bits::bits_top_right))]
+fn top_right_by_bits(bo: TileBlockOffset, bsize: BlockSize) -> bool
+    ensures { result ≡ bits_top_right bsize bo.0.x bo.0.y }
+{
+    let width = bsize.width_mi_log2();
+    let height = bsize.height_mi_log2();
+    let side = width.max(height);
+    if side > SUPERBLOCK_LOG2 || height < width && (bo.0.y >> height) & 1 == 1 {
+        return false;
+    }
+    if width < height && (bo.0.x >> width) & 1 == 0 {
+        return true;
+    }
+    !climbs_from(bo.0.x, bo.0.y, side)
+}
+
+/// Whether the cell below left of a block is coded before it, by the bits of its place.
+#[inline]
+#[tactic(auto, unfolding(crate::specs::Bits::bits_bottom_left))]
+fn bottom_left_by_bits(bo: TileBlockOffset, bsize: BlockSize) -> bool
+    ensures { result ≡ bits_bottom_left bsize bo.0.x bo.0.y }
+{
+    let width = bsize.width_mi_log2();
+    let height = bsize.height_mi_log2();
+    let side = width.max(height);
+    if side > SUPERBLOCK_LOG2 {
+        return false;
+    }
+    if height < width && (bo.0.y >> height) & 1 == 0 {
+        return true;
+    }
+    if width < height && (bo.0.x >> width) & 1 == 1 {
+        return false;
+    }
+    climbs_from(
+        SUPERBLOCK_CELLS - 1 - bo.0.x % SUPERBLOCK_CELLS,
+        SUPERBLOCK_CELLS - 1 - bo.0.y % SUPERBLOCK_CELLS,
+        side,
+    )
+}
+
+/// Whether the cell right of a block and one row above it is coded before it. The block holds the cell `bo`, counted from its tile's
+/// first cell, among others of its size from there on.
+///
+/// No frame edge enters. For squares and 2:1 sizes up to 64 the answer is that of coding order, and the same as that of `has_top_right`
+/// for a transform as large as the block. For the 4:1 sizes it is rav1e's answer and may differ from both; for sizes with a side of 128
+/// it is no.
+pub fn has_tr(bo: TileBlockOffset, bsize: BlockSize) -> bool
+    ensures by_bits { result ≡ bits_top_right bsize bo.0.x bo.0.y }
+    ensures by_order { IsNearSquare bsize → result ≡ top_right_earlier bsize bo.0.x bo.0.y }
+{
+    top_right_by_bits(bo, bsize)
+}
+
+/// Whether the cell left of a block and one row below it is coded before it. The block holds the cell `bo`, counted from its tile's
+/// first cell, among others of its size from there on.
+///
+/// No frame edge enters. For squares and 2:1 sizes up to 64 the answer is that of coding order, and the same as that of
+/// `has_bottom_left` for a transform as large as the block. For the 4:1 sizes it is rav1e's answer and may differ from both; for sizes
+/// with a side of 128 it is no.
+pub fn has_bl(bo: TileBlockOffset, bsize: BlockSize) -> bool
+    ensures by_bits { result ≡ bits_bottom_left bsize bo.0.x bo.0.y }
+    ensures by_order { IsNearSquare bsize → result ≡ bottom_left_earlier bsize bo.0.x bo.0.y }
+{
+    bottom_left_by_bits(bo, bsize)
+}

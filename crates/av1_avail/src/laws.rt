@@ -1,0 +1,29 @@
+//! Laws of coding order and of the tables, each a function that does nothing and ensures it.
+
+ghost use Rattle.std.specs.Prelude.{◌≡◌, ℕ, ◌<◌, ◌*◌, ◌^◌, ◌%◌};
+ghost use Rattle.av1_blocks.specs.declared.partition.BlockSize.{BlockSize};
+ghost use Rattle.av1_avail.specs.Order.{AreInTurn};
+ghost use Rattle.av1_avail.specs.Stripes.{
+  IsUpright,
+  IsFlat,
+  IsInRaster,
+  upright_top_right,
+  flat_top_right,
+  upright_bottom_left,
+  flat_bottom_left,
+};
+ghost use Rattle.av1_avail.specs.Tables.{block_bit, top_right_table, bottom_left_table};
+
+/// A law: the quarters of an aligned square, with sides of 1 to 8 cells, are coded one after another.
+pub fn quarters_are_in_turn()
+    ensures { (k nx ny : ℕ) → k < 4 → nx % (2 * 2 ^ k) ≡ 0 → ny % (2 * 2 ^ k) ≡ 0 → AreInTurn (2 ^ k) nx ny }
+{}
+
+/// A law: the lists of the 4:1 sizes follow from the lists of the squares of their greater sides, whose stripes they are. In the first
+/// column of the raster nothing is asked below left of a flat stripe.
+pub fn stripes_follow_squares()
+    ensures upright_top_right { (b square : BlockSize) (row column : ℕ) → IsUpright b square → IsInRaster b row column → block_bit (top_right_table b) b row column ≡ upright_top_right square row column }
+    ensures flat_top_right { (b square : BlockSize) (row column : ℕ) → IsFlat b square → IsInRaster b row column → block_bit (top_right_table b) b row column ≡ flat_top_right square row column }
+    ensures upright_bottom_left { (b square : BlockSize) (row column : ℕ) → IsUpright b square → IsInRaster b row column → block_bit (bottom_left_table b) b row column ≡ upright_bottom_left square row column }
+    ensures flat_bottom_left { (b square : BlockSize) (row column : ℕ) → IsFlat b square → IsInRaster b row column → 0 < column → block_bit (bottom_left_table b) b row column ≡ flat_bottom_left square row column }
+{}
