@@ -100,3 +100,8 @@ pub take-fits : {W : Type 0} (lane : W → ℕ → ℤ) (i n : ℕ) (w : List W)
 take-fits {W} lane i n w fit =
     let P : List ℤ → Type 0 = λ zs. AllFit 20 zs in
     subst P (take-map (λ (x : W). lane x i) n w) (part_fits 0 n (column lane i w) (column lane i w) fit (λ j h. refl))
+
+pub drop-fits : {W : Type 0} (lane : W → ℕ → ℤ) (i n : ℕ) (w : List W) → AllFit 20 (column lane i w) → AllFit 20 (column lane i (drop n w))
+drop-fits {W} lane i n w fit = λ j.
+    let P : ℤ → Type 0 = λ z. FitsBits 20 z in
+    subst P (sym (ap (λ zs. at zs j) (sym (drop-map (λ (x : W). lane x i) n w)) ∙ get_or-drop n (column lane i w) j (pos 0))) (fit (n + j))

@@ -1,6 +1,5 @@
 pub mod Powers
 pub mod Runs
-pub mod Reordered
 pub mod Mirror
 pub mod Tables
 pub mod Outer

@@ -1,15 +1,15 @@
-use Rattle.std.proofs.Common.{ℕ, zero, suc, false, ◌≡◌, ◌+◌, ◌-◌, ◌*◌, ◌/◌, ◌%◌, ◌^◌, ◌<◌, ◌≤◌, ℤ, pos, List, ◌++◌, map, take, drop, set, length, get_or, arith, ap, sym, subst, refl, ◌∙◌, mod-lt, pow-add}
-use Rattle.std.proofs.lemmas.List.{map-set, length-map, length-take, length-drop, get_or-take, get_or-drop, get_or-map, take_at, take_all, take-map, length-take-le}
+use Rattle.std.proofs.Common.{ℕ, zero, suc, false, ◌≡◌, ◌+◌, ◌-◌, ◌*◌, ◌/◌, ◌%◌, ◌^◌, ◌<◌, ◌≤◌, ℤ, pos, List, ◌++◌, map, take, drop, set, length, get_or, arith, ap, sym, subst, refl, ◌∙◌}
+use Rattle.std.proofs.lemmas.List.{map-set, length-map, length-take, length-drop, get_or-take, get_or-drop, get_or-map, take_at, take-map}
 use Rattle.std.proofs.lemmas.List.FromFn.{fill_by_all, get_or-map-range_with_len, length-map-range_with_len}
 use Rattle.std.proofs.lemmas.List.Edits.{fill_by_more}
 use Rattle.std.proofs.lemmas.Nat.{shl-shr}
 use Rattle.std.proofs.Math.Pow.{pow_mono}
-use Rattle.std.proofs.Math.Nat.{pow-suc, mul_comm, mod-eq_of_lt}
-use Rattle.std.proofs.lemmas.Nat.{mod-mul-add, div-mul-add, pow_pos, shr_below}
+use Rattle.std.proofs.Math.Nat.{pow-suc, mul_comm}
+use Rattle.std.proofs.lemmas.Nat.{mod-mul-add, div-mul-add}
 use Rattle.av1_dct.specs.Arithmetic.{AllFit, at}
 use Rattle.av1_dct.specs.Word.{column}
 use Rattle.av1_dct.specs.Cosine.{by_index, brev, outer_turn, mirror_sum, rounds, evens, odds, cosine, cosine_with, odd_half_with}
-use Rattle.av1_dct.proofs.Reordered.{network}
+use Rattle.av1_dct.specs.InPlace.{network}
 use Rattle.av1_dct.specs.declared.weights.TheConstants.{REVERSED}
 use Rattle.av1_dct.proofs.Fits.{by_index-fits}
 use Rattle.av1_dct.proofs.Tables.{REVERSED_is, brev-lt, brev-suc, brev-add}
@@ -50,35 +50,6 @@ first_half m g zs is = fill_by_all g (take m zs) m (pos 0) (omega (arith, length
 second_half : (m : ℕ) (g : ℕ → ℤ) (zs : List ℤ) → zs ≡ by_index (2 * m) g → drop m zs ≡ by_index m (λ p. g (m + p))
 second_half m g zs is = fill_by_all (λ p. g (m + p)) (drop m zs) m (pos 0) (omega (arith, length-drop m zs, ap length is, length-map-range_with_len g 0 (2 * m))) (λ p h. get_or-drop m zs p (pos 0) ∙ ap (λ ys. at ys (m + p)) is ∙ at-by_index (2 * m) g (m + p) (omega arith))
 
--- the lowest bit becomes the highest
-brev-low : (k q b : ℕ) → q < 2 ^ k → b < 2 → brev (suc k) (2 * q + b) ≡ 2 ^ k * b + brev k q
-unfolding brev
-brev-low zero q b hq hb = omega (arith, mod-eq_of_lt hb)
-brev-low (suc k) q b hq hb =
-    let c = q / 2 ^ k in
-    let r = q % 2 ^ k in
-    let some = pow_pos k in
-    let small : r < 2 ^ k = mod-lt q some in
-    let twice = pow-suc 2 k in
-    let split : 2 * q + b ≡ c * 2 ^ suc k + (2 * r + b) = omega (arith, ap (λ n. c * n) twice) in
-    let fits : 2 * r + b < 2 ^ suc k = omega arith in
-    ap (λ n. 2 * brev (suc k) n + (2 * q + b) / 2 ^ suc k) (ap (λ n. n % 2 ^ suc k) split ∙ mod-mul-add c (2 ^ suc k) (2 * r + b) fits)
-    ∙ ap (λ n. 2 * n + (2 * q + b) / 2 ^ suc k) (brev-low k r b small hb)
-    ∙ ap (λ n. 2 * (2 ^ k * b + brev k r) + n) (ap (λ n. n / 2 ^ suc k) split ∙ div-mul-add c (2 ^ suc k) (2 * r + b) fits)
-    ∙ omega (arith, ap (λ n. n * b) twice)
-
--- reversed twice
-pub brev-brev : (k p : ℕ) → p < 2 ^ k → brev k (brev k p) ≡ p
-unfolding brev
-brev-brev zero p h = omega arith
-brev-brev (suc k) p h =
-    let some = pow_pos k in
-    let small : p % 2 ^ k < 2 ^ k = mod-lt p some in
-    let high : p / 2 ^ k < 2 ^ 1 = shr_below p 1 k (omega (arith, pow-add 2 1 k, pow-suc 2 k)) in
-    brev-low k (brev k (p % 2 ^ k)) (p / 2 ^ k) (brev-lt k (p % 2 ^ k) small) high
-    ∙ ap (λ n. 2 ^ k * (p / 2 ^ k) + n) (brev-brev k (p % 2 ^ k) small)
-    ∙ omega arith
-
 -- the network on reversed places is the cosine network
 pub cosine_is : (range k : ℕ) (x : List ℤ) → cosine range k x ≡ network range k (by_index (2 * 2 ^ k) (λ p. at x (brev (suc k) p)))
 unfolding cosine_with odd_half_with network brev
@@ -96,35 +67,19 @@ cosine_is range (suc k) x =
     ap (λ zs. by_index (2 * m) (mirror_sum range false m (zs ++ rounds range (suc k) k (by_index m (outer_turn (suc k) (by_index m (λ p. at (odds m x) (brev (suc k) p)))))))) (cosine_is range k (evens m x) ∙ ap (network range k) even)
     ∙ ap (λ zs. by_index (2 * m) (mirror_sum range false m (network range k (take m (by_index (2 * m) g)) ++ rounds range (suc k) k (by_index m (outer_turn (suc k) zs))))) odd
 
--- reordered twice
-reordered_twice : (k : ℕ) (w : List ℤ) → 2 * 2 ^ k ≤ length w → by_index (2 * 2 ^ k) (λ p. at (by_index (2 * 2 ^ k) (λ q. at w (brev (suc k) q))) (brev (suc k) p)) ≡ take (2 * 2 ^ k) w
-reordered_twice k w len =
-    let n = 2 * 2 ^ k in
-    let back = by_index n (λ p. at w (brev (suc k) p)) in
-    let twice : 2 ^ suc k ≡ n = omega (arith, pow-suc 2 k) in
-    sym (fill_by_all (λ p. at back (brev (suc k) p)) (take n w) n (pos 0) (length-take-le n w len) (λ p h.
-    let lt : p < 2 ^ suc k = omega arith in
-    get_or-take n w p (pos 0) h
-    ∙ sym (at-by_index n (λ q. at w (brev (suc k) q)) (brev (suc k) p) (omega (arith, brev-lt (suc k) p lt)) ∙ ap (at w) (brev-brev (suc k) p lt))))
-
-pub network_is : (range k : ℕ) (w : List ℤ) → length w ≡ 2 * 2 ^ k → network range k w ≡ cosine range k (by_index (2 * 2 ^ k) (λ p. at w (brev (suc k) p)))
-network_is range k w len =
-    let n = 2 * 2 ^ k in
-    let back = by_index n (λ p. at w (brev (suc k) p)) in
-    sym (cosine_is range k back ∙ ap (network range k) (reordered_twice k w (omega arith) ∙ take_all n w (omega arith)))
-
 pub places_taken : (k : ℕ) (x : List ℤ) → by_index (2 * 2 ^ k) (λ p. at x (brev (suc k) p)) ≡ by_index (2 * 2 ^ k) (λ p. at (take (2 * 2 ^ k) x) (brev (suc k) p))
 places_taken k x = by_index-ext (2 * 2 ^ k) _ _ (λ p h. sym (get_or-take (2 * 2 ^ k) x (brev (suc k) p) (pos 0) (omega (arith, brev-lt (suc k) p (let w : p < 2 ^ suc k = omega (arith, pow-suc 2 k) in w), pow-suc 2 k))))
 
 pub places-fit : (k : ℕ) (x : List ℤ) → AllFit 20 (take (2 * 2 ^ k) x) → AllFit 20 (by_index (2 * 2 ^ k) (λ p. at x (brev (suc k) p)))
 places-fit k x fit = let P : List ℤ → Type 0 = λ zs. AllFit 20 zs in subst P (sym (places_taken k x)) (by_index-fits _ _ (λ p. fit (brev (suc k) p)))
 
-pub cosine_words : {W : Type 0} (lane : W → ℕ → ℤ) (i range k n : ℕ) (input old reordered new : List W) → n ≡ 2 * 2 ^ k → n ≤ length input → length new ≡ n → column lane i reordered ≡ by_index (2 * 2 ^ k) (λ p. at (column lane i input) (brev (suc k) p)) → column lane i new ≡ cosine range k (by_index (2 * 2 ^ k) (λ p. at (column lane i reordered) (brev (suc k) p))) → take (2 * 2 ^ k) (column lane i (new ++ drop n old)) ≡ cosine range k (take (2 * 2 ^ k) (column lane i input))
-cosine_words {W} lane i range k n input old reordered new is_n long len is_r is_new =
+pub cosine_words : {W : Type 0} (lane : W → ℕ → ℤ) (i range k n : ℕ) (input old reordered new : List W) → n ≡ 2 * 2 ^ k → length new ≡ n → column lane i reordered ≡ by_index (2 * 2 ^ k) (λ p. at (column lane i input) (brev (suc k) p)) → column lane i new ≡ network range k (column lane i reordered) → take (2 * 2 ^ k) (column lane i (new ++ drop n old)) ≡ cosine range k (take (2 * 2 ^ k) (column lane i input))
+cosine_words {W} lane i range k n input old reordered new is_n len is_r is_new =
     let g = λ (x : W). lane x i in
     take-map g (2 * 2 ^ k) (new ++ drop n old)
     ∙ ap (map g) (take_at new (drop n old) (2 * 2 ^ k) (len ∙ is_n))
-    ∙ is_new ∙ ap (cosine range k) (by_index-ext (2 * 2 ^ k) _ _ (λ p h. ap (λ zs. at zs (brev (suc k) p)) is_r) ∙ reordered_twice k (column lane i input) (omega (arith, length-map input g)))
+    ∙ is_new ∙ ap (network range k) (is_r ∙ places_taken k (column lane i input))
+    ∙ sym (cosine_is range k (take (2 * 2 ^ k) (column lane i input)))
 
 -- a word that was read
 pub column_get : {W : Type 0} (lane : W → ℕ → ℤ) (i : ℕ) (v : List W) (q : ℕ) (x : W) → q < length v → x ≡ get_or v q x → lane x i ≡ at (column lane i v) q

@@ -8,6 +8,7 @@ const INV_COS_BIT: usize = 12;
 /// One half of a butterfly rotation (the AV1 specification's butterfly functions): `w0 * in0 + w1 * in1`, whose weights have `bit`
 /// fractional bits, rounded to a whole number, a half upward. The sum wraps at 32 bits, as it does in rav1e: on valid
 /// streams of 12-bit samples it may, and the outputs then are those of the wrapped sum.
+#[inline(always)]
 pub fn half_btf(w0: i32, in0: i32, w1: i32, in1: i32, bit: usize) -> i32
     requires { bit ≡ 12 }
     ensures { result ≡ half_btf w0 in0 w1 in1 }
@@ -17,6 +18,7 @@ pub fn half_btf(w0: i32, in0: i32, w1: i32, in1: i32, bit: usize) -> i32
 }
 
 // The greatest number of `bit` signed bits, and the least.
+#[inline(always)]
 pub(crate) fn limits(bit: usize) -> (i32, i32)
     requires { (1 ≤ bit) × (bit ≤ 32) }
     ensures top { result.0 ≡ pos (2 ^ (bit - 1) - 1) }
@@ -27,6 +29,7 @@ pub(crate) fn limits(bit: usize) -> (i32, i32)
 }
 
 /// The number of `bit` signed bits that is nearest to `value`.
+#[inline(always)]
 pub fn clamp_value(value: i32, bit: usize) -> i32
     requires { (1 ≤ bit) × (bit ≤ 32) }
     ensures { result ≡ clamp_value value bit }

@@ -2,37 +2,122 @@ ghost use Rattle.std.specs.Prelude.{◌≡◌, ℕ, ◌+◌, ◌*◌, ◌^◌, �
 ghost use Rattle.std.specs.List.{All};
 ghost use Rattle.av1_dct.specs.Arithmetic.{at, AllFit, FitsBits};
 ghost use Rattle.av1_dct.specs.Word.{column};
+ghost use Rattle.av1_dct.specs.InPlace.{joined, network};
 ghost use Rattle.av1_dct.specs.Cosine.{by_index, brev, cosine};
 
 use crate::steps::{sum_mirrored, turn_outer, turn_rounds};
 use crate::weights::{power, reversed_place, weight_of};
 use crate::word::Word;
 
+// The transform of 2 words.
+#[inline(always)]
+fn network_2<W: Word>(w: &mut [W])
+    requires len { length w.old ≡ 2 }
+    ensures { (range i : ℕ) → i < W.LANES → column W.lane_of i w.new ≡ network range 0 (column W.lane_of i w.old) }
+{
+    let c = weight_of(32);
+    let (x, y) = (w[0], w[1]);
+    w[0] = W::turn(c, x, c, y);
+    w[1] = W::turn(c, x, -c, y);
+}
+
+// From the transform of the even inputs in the first half of 2^(K+1) words, and the odd inputs in the second, to that of all.
+#[inline]
+fn join_halves<W: Word, const K: usize>(w: &mut [W], range: usize)
+    requires range_in { (8 ≤ range) × (range ≤ 20) }
+    requires k_in { (1 ≤ K) × (K ≤ 5) }
+    requires len { length w.old ≡ 2 * 2 ^ K }
+    requires fit { (i : ℕ) → i < W.LANES → AllFit 20 (column W.lane_of i w.old) }
+    ensures { (i : ℕ) → i < W.LANES → column W.lane_of i w.new ≡ joined range K (column W.lane_of i w.old) }
+{
+    let odd = &mut w[power(K)..];
+    turn_outer(K, odd);
+    turn_rounds::<W, K>(odd, range);
+    sum_mirrored(false, w, range);
+}
+
+// The transform of 4 words.
+#[inline(always)]
+fn network_4<W: Word>(w: &mut [W], range: usize)
+    requires range_in { (8 ≤ range) × (range ≤ 20) }
+    requires len { length w.old ≡ 4 }
+    requires fit { (i : ℕ) → i < W.LANES → AllFit 20 (column W.lane_of i w.old) }
+    ensures { (i : ℕ) → i < W.LANES → column W.lane_of i w.new ≡ network range 1 (column W.lane_of i w.old) }
+{
+    network_2(&mut w[..2]);
+    join_halves::<W, 1>(w, range);
+}
+
+// The transform of 8 words.
+#[inline(always)]
+fn network_8<W: Word>(w: &mut [W], range: usize)
+    requires range_in { (8 ≤ range) × (range ≤ 20) }
+    requires len { length w.old ≡ 8 }
+    requires fit { (i : ℕ) → i < W.LANES → AllFit 20 (column W.lane_of i w.old) }
+    ensures { (i : ℕ) → i < W.LANES → column W.lane_of i w.new ≡ network range 2 (column W.lane_of i w.old) }
+{
+    network_4(&mut w[..4], range);
+    join_halves::<W, 2>(w, range);
+}
+
+// The transform of 16 words.
+#[inline(always)]
+fn network_16<W: Word>(w: &mut [W], range: usize)
+    requires range_in { (8 ≤ range) × (range ≤ 20) }
+    requires len { length w.old ≡ 16 }
+    requires fit { (i : ℕ) → i < W.LANES → AllFit 20 (column W.lane_of i w.old) }
+    ensures { (i : ℕ) → i < W.LANES → column W.lane_of i w.new ≡ network range 3 (column W.lane_of i w.old) }
+{
+    network_8(&mut w[..8], range);
+    join_halves::<W, 3>(w, range);
+}
+
+// The transform of 32 words.
+#[inline(always)]
+fn network_32<W: Word>(w: &mut [W], range: usize)
+    requires range_in { (8 ≤ range) × (range ≤ 20) }
+    requires len { length w.old ≡ 32 }
+    requires fit { (i : ℕ) → i < W.LANES → AllFit 20 (column W.lane_of i w.old) }
+    ensures { (i : ℕ) → i < W.LANES → column W.lane_of i w.new ≡ network range 4 (column W.lane_of i w.old) }
+{
+    network_16(&mut w[..16], range);
+    join_halves::<W, 4>(w, range);
+}
+
+// The transform of 64 words.
+#[inline(always)]
+fn network_64<W: Word>(w: &mut [W], range: usize)
+    requires range_in { (8 ≤ range) × (range ≤ 20) }
+    requires len { length w.old ≡ 64 }
+    requires fit { (i : ℕ) → i < W.LANES → AllFit 20 (column W.lane_of i w.old) }
+    ensures { (i : ℕ) → i < W.LANES → column W.lane_of i w.new ≡ network range 5 (column W.lane_of i w.old) }
+{
+    network_32(&mut w[..32], range);
+    join_halves::<W, 5>(w, range);
+}
+
 // The transform of 2^(k+1) words that stand in the order of their reversed places: the even inputs make the first half of them.
+// Each length has a function of its own, so that the compiler knows its angles and places as numbers.
+#[inline(always)]
 fn run_network<W: Word>(k: usize, w: &mut [W], range: usize)
     requires range_in { (8 ≤ range) × (range ≤ 20) }
     requires k_in { k ≤ 5 }
     requires len { length w.old ≡ 2 * 2 ^ k }
     requires fit { (i : ℕ) → i < W.LANES → AllFit 20 (column W.lane_of i w.old) }
-    ensures value { (i : ℕ) → i < W.LANES → column W.lane_of i w.new ≡ cosine range k (by_index (2 * 2 ^ k) (λ p. at (column W.lane_of i w.old) (brev (suc k) p))) }
-    ensures fit { (i : ℕ) → i < W.LANES → AllFit 20 (column W.lane_of i w.new) }
+    ensures { (i : ℕ) → i < W.LANES → column W.lane_of i w.new ≡ network range k (column W.lane_of i w.old) }
 {
-    if k == 0 {
-        let c = weight_of(32);
-        let (x, y) = (w[0], w[1]);
-        w[0] = W::turn(c, x, c, y);
-        w[1] = W::turn(c, x, -c, y);
-        return;
+    match k {
+        0 => network_2(w),
+        1 => network_4(w, range),
+        2 => network_8(w, range),
+        3 => network_16(w, range),
+        4 => network_32(w, range),
+        _ => network_64(w, range),
     }
-    let m = power(k);
-    run_network(k - 1, &mut w[..m], range);
-    let odd = &mut w[m..];
-    turn_outer(k, odd);
-    turn_rounds(k, odd, range);
-    sum_mirrored(false, w, range);
 }
 
 // Writes the first 2^(k+1) words of `input` in the order of their reversed places.
+#[inline(always)]
 fn reorder<W: Word>(k: usize, input: &[W], output: &mut [W])
     requires k_in { k ≤ 5 }
     requires input_len { 2 * 2 ^ k ≤ length input.now }
@@ -47,6 +132,7 @@ fn reorder<W: Word>(k: usize, input: &[W], output: &mut [W])
 /// The inverse cosine transform of 2^(k+1) words, in each lane (the inverse DCT process of the AV1 specification, lane by lane):
 /// the first 2^(k+1) words of `output` become that of the first 2^(k+1) words of `input`, and the rest of `output` stays.
 /// Sums are clamped to `range` signed bits.
+#[inline(always)]
 pub fn cosine_words<W: Word>(k: usize, input: &[W], output: &mut [W], range: usize)
     requires range_in { (8 ≤ range) × (range ≤ 20) }
     requires k_in { k ≤ 5 }

@@ -1,4 +1,4 @@
-ghost use Rattle.std.specs.Prelude.{◌≡◌, ℕ, ◌+◌, ◌-◌, ◌*◌, ◌/◌, ◌^◌, ◌<◌, ◌≤◌, length};
+ghost use Rattle.std.specs.Prelude.{◌≡◌, ℕ, ◌+◌, ◌-◌, ◌*◌, ◌/◌, ◌^◌, ◌<◌, ◌≤◌, min, ℤ, List, length};
 ghost use Rattle.av1_dct.specs.Arithmetic.{AllFit};
 ghost use Rattle.av1_dct.specs.Word.{column};
 ghost use Rattle.av1_dct.specs.InPlace.{inner_run};
@@ -8,6 +8,7 @@ use crate::weights::{inner_angle, outer_angle, power, weight_of};
 use crate::word::Word;
 
 // Step 1: butterfly rotations of each place of the lower half with its mirror image.
+#[inline(always)]
 pub(crate) fn turn_outer<W: Word>(k: usize, v: &mut [W])
     requires k_in { (1 ≤ k) × (k ≤ 5) }
     requires len { length v.old ≡ 2 ^ k }
@@ -26,6 +27,7 @@ pub(crate) fn turn_outer<W: Word>(k: usize, v: &mut [W])
 
 // Hadamard rotations: each place of the lower half and its mirror image become their clamped sum and difference, where `odd` the
 // other way round.
+#[inline(always)]
 pub(crate) fn sum_mirrored<W: Word>(odd: bool, w: &mut [W], range: usize)
     requires range_in { (8 ≤ range) × (range ≤ 20) }
     requires even { 2 * (length w.old / 2) ≡ length w.old }
@@ -48,6 +50,7 @@ pub(crate) fn sum_mirrored<W: Word>(odd: bool, w: &mut [W], range: usize)
 }
 
 // Step 2: Hadamard rotations in each group of 2h places, in each second group the other way round.
+#[inline(always)]
 fn sum_groups<W: Word>(h: usize, groups: usize, v: &mut [W], range: usize)
     requires range_in { (8 ≤ range) × (range ≤ 20) }
     requires some { 1 ≤ h }
@@ -62,6 +65,7 @@ fn sum_groups<W: Word>(h: usize, groups: usize, v: &mut [W], range: usize)
 }
 
 // Step 3 at the second quarter of the group d of 4h places, where h = 2^j.
+#[inline(always)]
 fn turn_second_quarter<W: Word>(k: usize, j: usize, d: usize, v: &mut [W])
     requires j_in { j + 2 ≤ k }
     requires k_in { k ≤ 5 }
@@ -82,6 +86,7 @@ fn turn_second_quarter<W: Word>(k: usize, j: usize, d: usize, v: &mut [W])
 }
 
 // Step 3 at the third quarter of the group d of 4h places, where h = 2^j.
+#[inline(always)]
 fn turn_third_quarter<W: Word>(k: usize, j: usize, d: usize, v: &mut [W])
     requires j_in { j + 3 ≤ k }
     requires k_in { k ≤ 5 }
@@ -102,6 +107,7 @@ fn turn_third_quarter<W: Word>(k: usize, j: usize, d: usize, v: &mut [W])
 }
 
 // Step 3, in groups of 4h places of the lower half. The last size has half a group there, and so no third quarter.
+#[inline(always)]
 fn turn_inner<W: Word>(k: usize, j: usize, v: &mut [W])
     requires j_in { j + 2 ≤ k }
     requires k_in { k ≤ 5 }
@@ -118,17 +124,36 @@ fn turn_inner<W: Word>(k: usize, j: usize, v: &mut [W])
     }
 }
 
-// Steps 2 and 3 in turn, for groups of 2, 4, .. places.
-pub(crate) fn turn_rounds<W: Word>(k: usize, v: &mut [W], range: usize)
+// Round J, after those before it: steps 2 and 3 for groups of 2^(J+1) places. There are K - 1 rounds; past the last it does nothing.
+#[inline]
+fn run_round<W: Word, const K: usize, const J: usize>(v: &mut [W], range: usize)
     requires range_in { (8 ≤ range) × (range ≤ 20) }
-    requires k_in { (1 ≤ k) × (k ≤ 5) }
-    requires len { length v.old ≡ 2 ^ k }
+    requires k_in { (1 ≤ K) × (K ≤ 5) }
+    requires j_in { J ≤ 3 }
+    requires len { length v.old ≡ 2 ^ K }
     requires fit { (i : ℕ) → i < W.LANES → AllFit 20 (column W.lane_of i v.old) }
-    ensures value { (i : ℕ) → i < W.LANES → column W.lane_of i v.new ≡ rounds range k (k - 1) (column W.lane_of i v.old) }
+    ensures value { (i : ℕ) (u : List ℤ) → i < W.LANES → column W.lane_of i v.old ≡ rounds range K (min J (K - 1)) u → column W.lane_of i v.new ≡ rounds range K (min (J + 1) (K - 1)) u }
     ensures fit { (i : ℕ) → i < W.LANES → AllFit 20 (column W.lane_of i v.new) }
 {
-    for j in 0..k - 1 {
-        sum_groups(power(j), power(k - 1 - j), v, range);
-        turn_inner(k, j, v);
+    if K < J + 2 {
+        return;
     }
+    sum_groups(power(J), power(K - 1 - J), v, range);
+    turn_inner(K, J, v);
+}
+
+// Steps 2 and 3 in turn, for groups of 2, 4, .. places: all rounds, written out so that the compiler knows their places as numbers.
+#[inline(always)]
+pub(crate) fn turn_rounds<W: Word, const K: usize>(v: &mut [W], range: usize)
+    requires range_in { (8 ≤ range) × (range ≤ 20) }
+    requires k_in { (1 ≤ K) × (K ≤ 5) }
+    requires len { length v.old ≡ 2 ^ K }
+    requires fit { (i : ℕ) → i < W.LANES → AllFit 20 (column W.lane_of i v.old) }
+    ensures value { (i : ℕ) → i < W.LANES → column W.lane_of i v.new ≡ rounds range K (K - 1) (column W.lane_of i v.old) }
+    ensures fit { (i : ℕ) → i < W.LANES → AllFit 20 (column W.lane_of i v.new) }
+{
+    run_round::<W, K, 0>(v, range);
+    run_round::<W, K, 1>(v, range);
+    run_round::<W, K, 2>(v, range);
+    run_round::<W, K, 3>(v, range);
 }

@@ -17,6 +17,7 @@ const REVERSED: [usize; 64] = [
 ];
 
 // The weight of an angle, its cosine. Its sine is the weight of 64 - a.
+#[inline(always)]
 pub(crate) fn weight_of(a: usize) -> i32
     requires { a < 64 }
     ensures value { result ≡ cos128 a }
@@ -25,6 +26,7 @@ pub(crate) fn weight_of(a: usize) -> i32
     COSPI_INV[a]
 }
 
+#[inline(always)]
 pub(crate) fn power(j: usize) -> usize
     requires { j ≤ 5 }
     ensures value { result ≡ 2 ^ j }
@@ -34,6 +36,7 @@ pub(crate) fn power(j: usize) -> usize
 }
 
 // The angle by which step 1 turns place p of 2^k.
+#[inline(always)]
 pub(crate) fn outer_angle(k: usize, p: usize) -> usize
     requires k_in { (1 ≤ k) × (k ≤ 5) }
     requires p_in { p < 2 ^ k }
@@ -44,6 +47,7 @@ pub(crate) fn outer_angle(k: usize, p: usize) -> usize
 }
 
 // The angle by which step 3 turns the places of group d, of 2^(j+2) places.
+#[inline(always)]
 pub(crate) fn inner_angle(k: usize, j: usize, d: usize) -> usize
     requires j_in { j + 2 ≤ k }
     requires k_in { k ≤ 5 }
@@ -55,6 +59,7 @@ pub(crate) fn inner_angle(k: usize, j: usize, d: usize) -> usize
 }
 
 // The place, among 2^(k+1), whose bits are those of p in the other order.
+#[inline(always)]
 pub(crate) fn reversed_place(k: usize, p: usize) -> usize
     requires k_in { k ≤ 5 }
     requires p_in { p < 2 * 2 ^ k }

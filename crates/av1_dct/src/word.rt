@@ -55,26 +55,32 @@ impl Word for i32 {
 
     ghost lane_of = { λ x _. x };
 
+    #[inline(always)]
     fn splat(v: i32) -> i32 {
         v
     }
 
+    #[inline(always)]
     fn lane(self, i: usize) -> i32 {
         self
     }
 
+    #[inline(always)]
     fn plus(self, o: i32) -> i32 {
         self + o
     }
 
+    #[inline(always)]
     fn minus(self, o: i32) -> i32 {
         self - o
     }
 
+    #[inline(always)]
     fn turn(w0: i32, a: i32, w1: i32, b: i32) -> i32 {
         half_btf(w0, a, w1, b, 12)
     }
 
+    #[inline(always)]
     fn clamp_to(self, range: usize) -> i32 {
         clamp_value(self, range)
     }
@@ -87,31 +93,37 @@ impl Word for i32x8 {
 
     ghost lane_of = { lane_of_vector };
 
+    #[inline(always)]
     fn splat(v: i32) -> i32x8 {
         i32x8::splat(v)
     }
 
+    #[inline(always)]
     fn lane(self, i: usize) -> i32 {
         let lanes = self.to_array();
         lanes[i]
     }
 
     // The two arrays tell the proof that each lane is an i32.
+    #[inline(always)]
     fn plus(self, o: i32x8) -> i32x8 {
         let (_a, _b) = (self.to_array(), o.to_array());
         self + o
     }
 
+    #[inline(always)]
     fn minus(self, o: i32x8) -> i32x8 {
         let (_a, _b) = (self.to_array(), o.to_array());
         self - o
     }
 
+    #[inline(always)]
     fn turn(w0: i32, a: i32x8, w1: i32, b: i32x8) -> i32x8 {
         let (_a, _b) = (a.to_array(), b.to_array());
         (i32x8::splat(w0) * a + i32x8::splat(w1) * b + i32x8::splat(2048)) >> i32x8::splat(12)
     }
 
+    #[inline(always)]
     fn clamp_to(self, range: usize) -> i32x8 {
         let (top, low) = limits(range);
         let _a = self.to_array();

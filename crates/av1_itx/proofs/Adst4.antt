@@ -1,19 +1,12 @@
 -- The sine transform of 4 values.
-use Rattle.std.proofs.Common.{◌≡◌, ◌+◌, ◌*◌, ◌%◌, ◌^◌, ◌<◌, ℤ, pos, negsuc, ◌+ℤ◌, ◌-ℤ◌, ◌*ℤ◌, List, [], ◌∷◌, length, set, arith, ap, sym, refl, ◌∙◌, w32, to_z, of_z, FitsSigned}
+use Rattle.std.proofs.Common.{◌≡◌, ◌+◌, ◌*◌, ◌%◌, ◌^◌, ◌<◌, ℤ, pos, negsuc, ◌+ℤ◌, ◌-ℤ◌, ◌*ℤ◌, List, [], ◌∷◌, arith, ap, sym, ◌∙◌, w32, to_z, of_z, FitsSigned}
 use Rattle.std.specs.Int.{int_shr, int_wrap}
 use Rattle.std.specs.Int.Signed.{shr_z}
 use Rattle.av1_dct.proofs.Turns.{shifted}
 use Rattle.std.proofs.lemmas.Int.{ints, to_z-of_z, SFits-int_wrap, wrapping_add-bits, wrapping_add_onto, wrapping_mul_is, int_wrap-add_left, int_wrap-add_right, int_wrap-mul_right}
 use Rattle.av1_dct.specs.Arithmetic.{at, round12, wrap32}
+use Rattle.av1_itx.proofs.Fills.{four_same}
 use Rattle.av1_itx.specs.Adst.{adst4, adst4_with, weighted_with}
-
-pub set4 : (o : List ℤ) (a b c d : ℤ) → length o ≡ 4 → set (set (set (set o 0 a) 1 b) 2 c) 3 d ≡ a ∷ b ∷ c ∷ d ∷ []
-set4 [] a b c d h = absurd (omega (arith, h))
-set4 (x ∷ []) a b c d h = absurd (omega (arith, h))
-set4 (x ∷ y ∷ []) a b c d h = absurd (omega (arith, h))
-set4 (x ∷ y ∷ z ∷ []) a b c d h = absurd (omega (arith, h))
-set4 (x ∷ y ∷ z ∷ w ∷ []) a b c d h = refl
-set4 (x ∷ y ∷ z ∷ w ∷ u ∷ us) a b c d h = absurd (omega (arith, h))
 
 pub product_is : (s w x : ℤ) → FitsSigned w32 s → FitsSigned w32 w → FitsSigned w32 x → to_z w32 ((of_z w32 s + of_z w32 w * of_z w32 x % 4294967296) % 4294967296) ≡ wrap32 (s +ℤ w *ℤ x)
 product_is s w x fs fw fx =
@@ -58,9 +51,6 @@ Second x s = s ≡ wrap32 (pos 0 +ℤ pos 2482 *ℤ at x 0 +ℤ negsuc 1320 *ℤ
 abbrev pub Third : (x : List ℤ) → ℤ → Type 0
 Third x s = s ≡ wrap32 (pos 0 +ℤ pos 3344 *ℤ at x 1)
 
-four_is : (x y z w x' y' z' w' : ℤ) → x ≡ x' → y ≡ y' → z ≡ z' → w ≡ w' → x ∷ y ∷ z ∷ w ∷ [] ≡ x' ∷ y' ∷ z' ∷ w' ∷ []
-four_is x y z w x' y' z' w' hx hy hz hw = cc
-
 first_sum : (x0 x1 x2 x3 : ℤ) → pos 0 +ℤ pos 1321 *ℤ x0 +ℤ pos 3803 *ℤ x2 +ℤ pos 2482 *ℤ x3 +ℤ pos 1 *ℤ (pos 0 +ℤ pos 3344 *ℤ x1) ≡ pos 1321 *ℤ x0 +ℤ pos 3344 *ℤ x1 +ℤ pos 3803 *ℤ x2 +ℤ pos 2482 *ℤ x3
 first_sum x0 x1 x2 x3 = omega (arith, ints)
 
@@ -89,7 +79,7 @@ adst4_is x s0 s1 s2 pa pb pc pd pe a b c d h0 h1 h2 ea ha eb hb ec hc ed ee hd =
     let t0 = pos 0 +ℤ pos 1321 *ℤ x0 +ℤ pos 3803 *ℤ x2 +ℤ pos 2482 *ℤ x3 in
     let t1 = pos 0 +ℤ pos 2482 *ℤ x0 +ℤ negsuc 1320 *ℤ x2 +ℤ negsuc 3802 *ℤ x3 in
     let t2 = pos 0 +ℤ pos 3344 *ℤ x1 in
-    four_is a b c d _ _ _ _
+    four_same a b c d _ _ _ _
     (rounded_is a pa (t0 +ℤ pos 1 *ℤ t2) (pos 1321 *ℤ x0 +ℤ pos 3344 *ℤ x1 +ℤ pos 3803 *ℤ x2 +ℤ pos 2482 *ℤ x3) (one_wrapped s0 t0 pa (pos 1) s2 t2 h0 h2 ea) (first_sum x0 x1 x2 x3) ha)
     (rounded_is b pb (t1 +ℤ pos 1 *ℤ t2) (pos 2482 *ℤ x0 +ℤ pos 3344 *ℤ x1 +ℤ negsuc 1320 *ℤ x2 +ℤ negsuc 3802 *ℤ x3) (one_wrapped s1 t1 pb (pos 1) s2 t2 h1 h2 eb) (second_sum x0 x1 x2 x3) hb)
     (rounded_is c pc (pos 0 +ℤ pos 3344 *ℤ (x0 -ℤ x2 +ℤ x3)) (pos 3344 *ℤ (x0 -ℤ x2 +ℤ x3)) ec (no_more _) hc)

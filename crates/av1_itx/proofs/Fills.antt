@@ -1,7 +1,8 @@
 -- Lists that a loop fills from the front, in place.
-use Rattle.std.proofs.Common.{ℕ, ◌≡◌, ◌+◌, ◌*◌, ◌<◌, ◌≤◌, ℤ, pos, List, take, drop, length, set, arith, sym, subst, refl, ◌∙◌, inl, inr, get_or-set_other}
+use Rattle.std.proofs.Common.{ℕ, ◌≡◌, ◌+◌, ◌*◌, ◌<◌, ◌≤◌, ℤ, pos, List, [], ◌∷◌, map, take, drop, length, set, get_or, arith, ap, sym, subst, refl, ◌∙◌, inl, inr, get_or-set_other}
+use Rattle.std.specs.List.{range_with_len}
 use Rattle.std.proofs.lemmas.Bool.{cases_lt}
-use Rattle.std.proofs.lemmas.List.FromFn.{fill_by_all, length-map-range_with_len}
+use Rattle.std.proofs.lemmas.List.FromFn.{fill_by_all, get_or-map-range_with_len, length-map-range_with_len}
 use Rattle.std.proofs.lemmas.Grind.{get_or-set_at}
 use Rattle.std.proofs.lemmas.List.{length-set, length-take, length-drop}
 use Rattle.av1_dct.specs.Arithmetic.{at, AllFit, FitsBits}
@@ -69,3 +70,19 @@ pub pair_fits : (b : ℕ) (old v : List ℤ) (p q : ℕ) → at v p ≡ at old p
 pair_fits b old v p q ep eq fit =
     let P : ℤ → Type 0 = λ z. FitsBits b z in
     (subst P (sym ep) (fit p), subst P (sym eq) (fit q))
+
+pub four_same : (x y z w x' y' z' w' : ℤ) → x ≡ x' → y ≡ y' → z ≡ z' → w ≡ w' → x ∷ y ∷ z ∷ w ∷ [] ≡ x' ∷ y' ∷ z' ∷ w' ∷ []
+four_same x y z w x' y' z' w' hx hy hz hw = cc
+
+-- four places written
+pub set4 : (o : List ℤ) (a b c d : ℤ) → length o ≡ 4 → set (set (set (set o 0 a) 1 b) 2 c) 3 d ≡ a ∷ b ∷ c ∷ d ∷ []
+set4 [] a b c d h = absurd (omega (arith, h))
+set4 (x ∷ []) a b c d h = absurd (omega (arith, h))
+set4 (x ∷ y ∷ []) a b c d h = absurd (omega (arith, h))
+set4 (x ∷ y ∷ z ∷ []) a b c d h = absurd (omega (arith, h))
+set4 (x ∷ y ∷ z ∷ w ∷ []) a b c d h = refl
+set4 (x ∷ y ∷ z ∷ w ∷ u ∷ us) a b c d h = absurd (omega (arith, h))
+
+-- a table of f 0, f 1, ..
+pub listed : {X : Type 0} (f : ℕ → X) (xs : List X) (n : ℕ) (d : X) → xs ≡ map f (range_with_len 0 n) → (p : ℕ) → p < n → get_or xs p d ≡ f p
+listed f xs n d e p h = ap (λ t. get_or t p d) e ∙ get_or-map-range_with_len f 0 n p p d h (omega arith)

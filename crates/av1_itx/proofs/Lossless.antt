@@ -3,17 +3,15 @@ use Rattle.std.proofs.Common.{◌≡◌, ℤ, ◌+ℤ◌, ◌-ℤ◌, List, [], 
 use Rattle.std.specs.Int.{int_shr}
 use Rattle.std.proofs.lemmas.Int.{ints}
 use Rattle.av1_dct.specs.Arithmetic.{at}
+use Rattle.av1_itx.proofs.Fills.{four_same}
 use Rattle.av1_itx.specs.Walsh.{walsh, walsh_with}
-
-four-same : (x y z w x' y' z' w' : ℤ) → x ≡ x' → y ≡ y' → z ≡ z' → w ≡ w' → x ∷ y ∷ z ∷ w ∷ [] ≡ x' ∷ y' ∷ z' ∷ w' ∷ []
-four-same x y z w x' y' z' w' hx hy hz hw = cc
 
 -- the values, from the half h and the outputs
 solved : (a b c d a' b' c' d' h h' : ℤ) → (a +ℤ b -ℤ (c -ℤ d) ≡ a' +ℤ b' -ℤ (c' -ℤ d') → h ≡ h') → a +ℤ b -ℤ (h -ℤ d) ≡ a' +ℤ b' -ℤ (h' -ℤ d') → h -ℤ d ≡ h' -ℤ d' → h -ℤ b ≡ h' -ℤ b' → c -ℤ d +ℤ (h -ℤ b) ≡ c' -ℤ d' +ℤ (h' -ℤ b') → a ∷ b ∷ c ∷ d ∷ [] ≡ a' ∷ b' ∷ c' ∷ d' ∷ []
 solved a b c d a' b' c' d' h h' half e0 e1 e2 e3 =
     let same : a +ℤ b -ℤ (c -ℤ d) ≡ a' +ℤ b' -ℤ (c' -ℤ d') = omega (arith, ints) in
     let g = half same in
-    four-same a b c d a' b' c' d' (omega (arith, ints)) (omega (arith, ints)) (omega (arith, ints)) (omega (arith, ints))
+    four_same a b c d a' b' c' d' (omega (arith, ints)) (omega (arith, ints)) (omega (arith, ints)) (omega (arith, ints))
 
 pub determined : (x y : List ℤ) → length x ≡ 4 → length y ≡ 4 → walsh x ≡ walsh y → x ≡ y
 unfolding walsh_with

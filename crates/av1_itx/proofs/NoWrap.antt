@@ -1,5 +1,5 @@
 -- Inputs of 18 bits and a range up to 18: none of a transform's sums and products leaves 32 bits.
-use Rattle.std.proofs.Common.{unsigned_abs, ℕ, zero, suc, ◌≡◌, ◌+◌, ◌-◌, ◌*◌, ◌/◌, ◌^◌, ◌≤◌, ◌%◌, ◌==◌, nat_lt, max, true, false, cond, ℤ, pos, negsuc, ◌+ℤ◌, ◌-ℤ◌, ◌*ℤ◌, List, [], ◌∷◌, reverse, All, arith, ap, refl, sym, ◌∙◌, w32, FitsSigned}
+use Rattle.std.proofs.Common.{unsigned_abs, ℕ, zero, suc, ◌≡◌, ◌+◌, ◌-◌, ◌*◌, ◌/◌, ◌^◌, ◌≤◌, ◌%◌, ◌==◌, nat_lt, max, true, false, cond, ℤ, pos, negsuc, ◌+ℤ◌, ◌-ℤ◌, ◌*ℤ◌, List, reverse, All, arith, ap, refl, sym, ◌∙◌, w32, FitsSigned}
 use Rattle.std.specs.Int.{int_shr}
 use Rattle.std.proofs.lemmas.Int.{ints, int_wrap_fits, unsigned_abs-mul}
 use Rattle.std.proofs.Math.Nat.{mul-le-mul}
@@ -11,6 +11,7 @@ use Rattle.av1_dct.proofs.NoWrap.{Weight, cos128-small, neg-small, turn-same, pl
 use Rattle.av1_blocks.specs.declared.transform.TxSize.{TxSize}
 use Rattle.av1_blocks.specs.Transforms.{tx_height}
 use Rattle.av1_frame.specs.Arithmetic.{round_shift}
+use Rattle.av1_itx.proofs.Fills.{four_same}
 use Rattle.av1_itx.specs.declared.kinds.TxType1D.{TxType1D}
 use Rattle.av1_itx.specs.declared.kinds.TxType1D.TheVariants.{DCT, ADST, FLIPADST, IDENTITY, WHT}
 use Rattle.av1_itx.specs.Adst.{turned_with, turned, turn_weights, back_weights, start_weights, round_weights, adst_in, adst_start_with, adst_start, adst_sum_with, adst_sum, adst_turn_with, adst_turn, adst_rounds_with, adst_rounds, adst_out_with, adst_out, out_place, adst_more_with, adst_more, weighted_with, weighted, adst4_with, adst4, adst_with, adst}
@@ -53,9 +54,6 @@ product w x n h f =
     let b : unsigned_abs x ≤ 131072 = omega (arith, ints, f.low, f.high) in
     let p = mul-le-mul h b in
     omega (arith, unsigned_abs-mul w x, p)
-
-four-same : (x y z w x' y' z' w' : ℤ) → x ≡ x' → y ≡ y' → z ≡ z' → w ≡ w' → x ∷ y ∷ z ∷ w ∷ [] ≡ x' ∷ y' ∷ z' ∷ w' ∷ []
-four-same x y z w x' y' z' w' hx hy hz hw = cc
 
 module _ (ops : Operations) (right : AreRight32 ops) where
   turned-same : (w : ℤ × ℤ) (v : List ℤ) (i : ℕ) → Weights w → AllFit 18 v → turned_with ops w.0 w.1 v i ≡ turned w.0 w.1 v i
@@ -151,7 +149,7 @@ module _ (ops : Operations) (right : AreRight32 ops) where
   adst4-same : (x : List ℤ) → AllFit 18 x → adst4_with ops x ≡ adst4 x
   unfolding adst4_with
   adst4-same x h =
-      four-same _ _ _ _ _ _ _ _
+      four_same _ _ _ _ _ _ _ _
       (weighted-same (pos 1321) (pos 3344) (pos 3803) (pos 2482) x (omega arith) h)
       (weighted-same (pos 2482) (pos 3344) (negsuc 1320) (negsuc 3802) x (omega arith) h)
       (third-same (at x 0) (at x 2) (at x 3) (h 0) (h 2) (h 3))

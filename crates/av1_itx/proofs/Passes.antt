@@ -8,7 +8,7 @@ use Rattle.std.proofs.lemmas.Nat.{pow_pos}
 use Rattle.std.proofs.Math.Nat.{div-eq_of_lt}
 use Rattle.av1_blocks.specs.declared.transform.TxSize.{TxSize}
 use Rattle.av1_blocks.specs.declared.transform.TxType.{TxType}
-use Rattle.av1_blocks.specs.Transforms.{tx_width, tx_height}
+use Rattle.av1_blocks.specs.Transforms.{tx_width, tx_height, coded, coded_area}
 use Rattle.av1_dct.specs.Arithmetic.{at, FitsBits, clamp_value}
 use Rattle.av1_dct.specs.Cosine.{by_index}
 use Rattle.av1_dct.proofs.Zero.{IsZero, clamp-zero, cond-zero, by_index-zero}
@@ -16,7 +16,7 @@ use Rattle.av1_frame.specs.Arithmetic.{round_shift}
 use Rattle.av1_itx.specs.declared.kinds.TxType1D.{TxType1D}
 use Rattle.av1_itx.specs.Kinds.{row_kind, column_kind}
 use Rattle.av1_itx.specs.Networks.{network}
-use Rattle.av1_itx.specs.Residue.{coded, coded_area, row_value, row_input, row_power, row_range, row_shift, is_two_to_one, is_lossless, transformed_row, column_input, column_network, column_power, column_range, column_shift, transformed_column, residue}
+use Rattle.av1_itx.specs.Residue.{row_value, row_input, row_power, row_range, row_shift, is_two_to_one, is_lossless, transformed_row, column_input, column_network, column_power, column_range, column_shift, transformed_column, residue}
 use Rattle.av1_itx.proofs.Fills.{by_index-ext, length-by_index}
 use Rattle.av1_dct.proofs.Fits.{zero_fits, clamp_value-fits, all-fit}
 use Rattle.av1_itx.proofs.Widths.{by_index-all}

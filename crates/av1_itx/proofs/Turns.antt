@@ -80,9 +80,6 @@ cos-positive a =
       | inr h ↦ (let P : ℤ → Type 0 = λ z. pos 0 ≤ℤ z in subst P (sym (get_or_past cos128_lookup a (pos 0) h)) (omega (arith, ints)))
     ]
 
-pub turn_weights-fit : (a : ℕ) → FitsBits 20 (turn_weights a).0
-turn_weights-fit a = cos-fits a
-
 pub round_weights-fit : (s p : ℕ) → FitsBits 20 (round_weights s p).0
 round_weights-fit s p =
     let a = turn_weights (64 / s * (4 * p + 1)) in

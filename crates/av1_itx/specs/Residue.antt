@@ -1,12 +1,12 @@
 -- The 2D inverse transform process of the AV1 specification: an inverse transform along each row of coefficients, then one down each column.
-use Rattle.std.specs.Prelude.{ℕ, ◌+◌, ◌-◌, ◌*◌, ◌==◌, ◌||◌, nat_lt, min, max, if◌then◌else◌, Bool, true, false, ℤ, pos, ◌*ℤ◌, List, []}
+use Rattle.std.specs.Prelude.{ℕ, ◌+◌, ◌-◌, ◌*◌, ◌==◌, ◌||◌, nat_lt, max, if◌then◌else◌, Bool, true, false, ℤ, pos, ◌*ℤ◌, List, []}
 use Rattle.std.specs.Int.{int_shr}
 use Rattle.av1_blocks.specs.declared.transform.TxSize.{TxSize}
 use Rattle.av1_blocks.specs.declared.transform.TxSize.TheVariants.{TX_4X4, TX_8X8, TX_16X16, TX_32X32, TX_64X64, TX_4X8, TX_8X4, TX_8X16, TX_16X8, TX_16X32, TX_32X16, TX_32X64, TX_64X32, TX_4X16, TX_16X4, TX_8X32, TX_32X8, TX_16X64, TX_64X16}
 use Rattle.av1_blocks.specs.declared.transform.TxType.{TxType}
 use Rattle.av1_blocks.specs.declared.transform.TxType.TheVariants.{WHT_WHT}
 use Rattle.av1_blocks.specs.Blocks.{side_log2}
-use Rattle.av1_blocks.specs.Transforms.{tx_width, tx_height}
+use Rattle.av1_blocks.specs.Transforms.{tx_width, tx_height, coded}
 use Rattle.av1_dct.specs.Arithmetic.{at, clamp_value}
 use Rattle.av1_dct.specs.Cosine.{by_index}
 use Rattle.av1_frame.specs.Arithmetic.{round_shift}
@@ -21,14 +21,6 @@ is_lossless type = false
 -- one side is twice the other
 abbrev pub is_two_to_one : TxSize → Bool
 is_two_to_one size = (tx_width size == 2 * tx_height size) || (tx_height size == 2 * tx_width size)
-
--- how many of n rows or columns have coefficients
-abbrev pub coded : ℕ → ℕ
-coded n = min n 32
-
--- how many coefficients a block has
-abbrev pub coded_area : TxSize → ℕ
-coded_area size = coded (tx_width size) * coded (tx_height size)
 
 -- rows have 2^(k+1) values and columns 2^(l+1): these are k and l
 abbrev pub row_power : TxSize → ℕ

@@ -5,6 +5,7 @@ ghost use Rattle.std.specs.List.{All};
 ghost use Rattle.av1_dct.specs.Arithmetic.{AllFit, FitsBits};
 ghost use Rattle.av1_itx.specs.Identity.{identity, scaled};
 
+use av1_blocks::SQRT2;
 use av1_dct::half_btf;
 
 // What a value of 2^(k+1) becomes.
@@ -14,13 +15,13 @@ fn scaled_of(k: usize, z: i32) -> i32
     ensures { result ≡ scaled k z }
 {
     if k == 1 {
-        return half_btf(5793, z, 0, 0, 12);
+        return half_btf(SQRT2, z, 0, 0, 12);
     }
     if k == 2 {
         return 2 * z;
     }
     if k == 3 {
-        return half_btf(11586, z, 0, 0, 12);
+        return half_btf(2 * SQRT2, z, 0, 0, 12);
     }
     4 * z
 }

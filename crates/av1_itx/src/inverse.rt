@@ -3,14 +3,14 @@
 ghost use Rattle.std.specs.Prelude.{◌≡◌, ℕ, ◌⊎◌, ◌+◌, ◌-◌, ◌*◌, ◌^◌, ◌<◌, ◌≤◌, IsTrue, OnOk, OnErr, ℤ, pos, ◌+ℤ◌, length, map, vec_len};
 ghost use Rattle.av1_blocks.specs.declared.transform.TxSize.TheVariants.{TX_4X4};
 ghost use Rattle.av1_blocks.specs.declared.transform.TxType.TheVariants.{WHT_WHT};
-ghost use Rattle.av1_blocks.specs.Transforms.{tx_width, tx_height, valid_av1_transform};
+ghost use Rattle.av1_blocks.specs.Transforms.{tx_width, tx_height, coded_area, valid_av1_transform};
 ghost use Rattle.av1_dct.specs.Arithmetic.{at, FitsBits};
 ghost use Rattle.av1_frame.specs.Arithmetic.{clip, round_shift};
 ghost use Rattle.av1_frame.specs.Samples.{paint_row};
 ghost use Rattle.av1_frame.specs.Regions.{InStorage, painted};
 ghost use Rattle.av1_itx.specs.Kinds.{column_kind, row_kind};
 ghost use Rattle.av1_itx.specs.Networks.{HasNetwork};
-ghost use Rattle.av1_itx.specs.Residue.{coded_area, column_power, column_shift, residue, row_power};
+ghost use Rattle.av1_itx.specs.Residue.{column_power, column_shift, residue, row_power};
 
 use crate::columns::column_pass;
 use crate::rows::row_pass;

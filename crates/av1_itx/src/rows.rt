@@ -2,19 +2,19 @@
 
 ghost use Rattle.std.specs.Prelude.{◌≡◌, ℕ, ◌+◌, ◌*◌, ◌<◌, ◌≤◌, ◌↔◌, if◌then◌else◌, IsTrue, EachIndex, ℤ, pos, ◌*ℤ◌, length, map};
 ghost use Rattle.std.specs.Int.{int_shr};
-ghost use Rattle.av1_blocks.specs.Transforms.{tx_width, tx_height};
+ghost use Rattle.av1_blocks.specs.Transforms.{tx_width, tx_height, coded, coded_area};
 ghost use Rattle.av1_dct.specs.Arithmetic.{at, clamp_value, FitsBits};
 ghost use Rattle.av1_dct.specs.Cosine.{by_index};
 ghost use Rattle.av1_frame.specs.Arithmetic.{round_shift};
 ghost use Rattle.av1_itx.specs.Kinds.{row_kind};
 ghost use Rattle.av1_itx.specs.Networks.{HasNetwork};
-ghost use Rattle.av1_itx.specs.Residue.{coded, coded_area, is_lossless, is_two_to_one, row_input, row_power, row_range, transformed_row};
+ghost use Rattle.av1_itx.specs.Residue.{is_lossless, is_two_to_one, row_input, row_power, row_range, transformed_row};
 
 use crate::kinds::get_1d_tx_types;
 use crate::networks::run_network;
-use av1_blocks::{TxSize, TxType};
+use av1_blocks::{INV_SQRT2, SQRT2_BITS, TxSize, TxType};
 use av1_dct::clamp_value;
-use av1_frame::Coefficient;
+use av1_frame::{Coefficient, round_shift};
 
 /// How the coefficients of a block are scaled before its rows are transformed.
 #[derive(Copy, Clone)]
@@ -42,7 +42,7 @@ fn scaled(v: i32, scaling: Scaling) -> i32
     ensures { result ≡ (if scaling.two_to_one then round_shift (pos 2896 *ℤ v) 12 else if scaling.lossless then int_shr v 2 else v) }
 {
     if scaling.two_to_one {
-        return (v * 2896 + 2048) >> 12;
+        return round_shift(v * INV_SQRT2, SQRT2_BITS);
     }
     if scaling.lossless {
         return v >> 2;

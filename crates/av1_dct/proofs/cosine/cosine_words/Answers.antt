@@ -10,4 +10,4 @@ run_network-requires-clause-fit g c = λ i h. let P : List ℤ → Type 0 = λ z
 
 pub returns-clause-value : goal.returns-clause-value
 returns-clause-value g c = λ i h.
-    cosine_words g.W.Word.lane_of i c.args.range c.args.k (2 * c.power-n.result) c.args.input.now c.args.output.now c.reorder.new.output c.run_network.new.w (ap (λ n. 2 * n) c.power-n.ensures.value) (omega arith) (omega (arith, c.run_network.auto.w, c.reorder.auto.output, length-take-le (2 * c.power-n.result) c.args.output.now (omega arith))) (c.reorder.ensures i h) (c.run_network.ensures.value i h)
+    cosine_words g.W.Word.lane_of i c.args.range c.args.k (2 * c.power-n.result) c.args.input.now c.args.output.now c.reorder.new.output c.run_network.new.w (ap (λ n. 2 * n) c.power-n.ensures.value) (omega (arith, c.run_network.auto.w, c.reorder.auto.output, length-take-le (2 * c.power-n.result) c.args.output.now (omega arith))) (c.reorder.ensures i h) (c.run_network.ensures i h)

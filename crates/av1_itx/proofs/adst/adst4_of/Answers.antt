@@ -1,7 +1,8 @@
 use Rattle.std.proofs.Common.{arith, rules, pos, negsuc, ◌∙◌, ◌+ℤ◌, ◌-ℤ◌, w32, FitsSigned}
 use Rattle.std.proofs.lemmas.Int.{ints, to_z-of_z}
 use Rattle.av1_dct.specs.Arithmetic.{at}
-use Rattle.av1_itx.proofs.Adst4.{set4, three, adst4_is}
+use Rattle.av1_itx.proofs.Fills.{set4}
+use Rattle.av1_itx.proofs.Adst4.{three, adst4_is}
 use Rattle.av1_itx.proofs.adst.adst4_of.Goals as goal
 
 pub overflow_sub-x0 : goal.overflow_sub-x0

@@ -1,8 +1,7 @@
 use Rattle.std.proofs.Common.{arith, rules, ◌≡◌, ◌+◌, ◌*◌, ◌∙◌, sym, subst, map, w32, FitsSigned, ℤ}
 use Rattle.std.proofs.lemmas.Int.{to_z-of_z}
-use Rattle.av1_blocks.specs.Transforms.{tx_width, tx_height}
+use Rattle.av1_blocks.specs.Transforms.{tx_width, tx_height, coded}
 use Rattle.av1_dct.specs.Arithmetic.{at, FitsBits}
-use Rattle.av1_itx.specs.Residue.{coded}
 use Rattle.av1_itx.proofs.Fills.{fill_more, filled}
 use Rattle.av1_itx.proofs.Lines.{read_at}
 use Rattle.av1_itx.proofs.Passes.{coded_place, input_is, input_past, row_value-is}

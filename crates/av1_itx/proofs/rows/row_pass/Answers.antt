@@ -1,9 +1,9 @@
 use Rattle.std.proofs.Common.{arith, ℕ, ◌≡◌, ◌≤◌, ◌+◌, ◌-◌, ◌*◌, ◌∙◌, ap, sym, subst, map, length, min}
 use Rattle.std.proofs.Math.Nat.{mul-le-mul_right}
-use Rattle.av1_blocks.specs.Transforms.{tx_width, tx_height}
+use Rattle.av1_blocks.specs.Transforms.{tx_width, tx_height, coded}
 use Rattle.av1_dct.specs.Arithmetic.{at}
 use Rattle.av1_dct.proofs.Groups.{put}
-use Rattle.av1_itx.specs.Residue.{coded, transformed_row}
+use Rattle.av1_itx.specs.Residue.{transformed_row}
 use Rattle.av1_itx.proofs.Fills.{part_len}
 use Rattle.av1_itx.proofs.Lines.{rows_more, rows_end}
 use Rattle.av1_itx.proofs.Passes.{row_past}

@@ -1,7 +1,7 @@
 use Rattle.std.proofs.Common.{arith, rules, ◌∙◌, w32, FitsSigned, ◌+ℤ◌, ◌-ℤ◌}
 use Rattle.std.proofs.lemmas.Int.{ints, to_z-of_z}
 use Rattle.av1_dct.specs.Arithmetic.{at}
-use Rattle.av1_itx.proofs.Adst4.{set4}
+use Rattle.av1_itx.proofs.Fills.{set4}
 use Rattle.av1_itx.proofs.Small.{walsh_is}
 use Rattle.av1_itx.proofs.walsh.walsh_of.Goals as goal
 
