@@ -10,5 +10,9 @@ pub mod Spans
 pub mod Signed
 pub mod Faults
 pub mod Pieces
-pub mod FourLeaves
-pub mod EveryPlan
+pub mod BuiltFrame
+pub mod BuiltLeaves
+pub mod NodeLeaves
+pub mod BuiltPlans
+pub mod CodingOrder
+pub mod ValidLeaves

@@ -1,6 +1,5 @@
 -- What the pieces of a spelled format spell: a format that goes on behind another is spelled where each of the two is.
-use Rattle.std.proofs.Common.{◌≡◌, ℕ, suc, ◌+◌, List, [], ◌∷◌, ◌++◌, refl, sym, ap, subst, ◌∙◌}
-use Rattle.std.proofs.lemmas.List.{append-nil}
+use Rattle.std.proofs.Common.{◌≡◌, ℕ, suc, ◌+◌, Bool, true, false, if◌then◌else◌, List, [], ◌∷◌, ◌++◌, ◌⊎◌, inl, inr, refl}
 use Rattle.av1_plan.specs.Format.{Kind, Format, done, asks, IsAdmitted, ◌>>=◌, nothing, lone, ◌++>◌, in_turn}
 use Rattle.av1_plan.specs.Spelling.{Spells, IsSpelled}
 
@@ -58,9 +57,7 @@ pub spelled_turn : {A : Type 0} (f : ℕ → Format (List A)) (i n : ℕ) (zs : 
 unfolding in_turn
 spelled_turn f i n zs s = spelled_both (f i) (in_turn f (i + 1) n) zs s
 
--- a single turn
-pub spelled_one_turn : {A : Type 0} (f : ℕ → Format (List A)) (i : ℕ) (zs : List A) → IsSpelled (in_turn f i 1) zs → IsSpelled (f i) zs
-spelled_one_turn f i zs s =
-    let (xs, ys, front, behind, is) = spelled_turn f i 0 zs s in
-    let none = spelled_no_turn f (i + 1) ys behind in
-    subst (λ (t : List _). IsSpelled (f i) t) (sym (append-nil xs) ∙ ap (λ (t : List _). xs ++ t) none ∙ is) front
+-- what stands only where a test holds
+pub spelled_where : {A : Type 0} (b : Bool) (f : Format (List A)) (zs : List A) → IsSpelled (if b then f else nothing) zs → ((b ≡ true) × IsSpelled f zs) ⊎ ((b ≡ false) × ([] ≡ zs))
+spelled_where true f zs s = inl (refl, s)
+spelled_where false f zs s = inr (refl, spelled_nothing zs s)

@@ -21,7 +21,7 @@ use Rattle.av1_blocks.specs.declared.transform.TxType.TheVariants.{DCT_DCT}
 use Rattle.av1_blocks.specs.declared.transform.TheConstants.TxType as tx_types
 use Rattle.av1_plan.specs.Format.{Length, one, two, four, Kind, Format, done, ◌>>=◌, field, any, nothing, lone, ◌++>◌, in_turn}
 use Rattle.av1_plan.specs.Built.{is_built}
-use Rattle.av1_plan.specs.Geometry.{plane_len, has_slot, is_inside, carries_chroma, plane_tx_size}
+use Rattle.av1_plan.specs.Geometry.{plane_len, has_slot, is_inside, carries_chroma}
 use Rattle.av1_plan.specs.Plan.{LeafValue, PlanValue}
 use Rattle.av1_plan.specs.declared.built.Field.{Field}
 use Rattle.av1_plan.specs.declared.built.Field.TheVariants as fields
@@ -88,9 +88,9 @@ slots = do
 unfoldable pub header : Format Header
 header = do
   _ ← field magic
-  width ← field (where_ two fields.Width is_side)
-  height ← field (where_ two fields.Height is_side)
-  depth ← field (where_ one fields.Depth is_depth)
+  width ← field (where_ two fields.Other is_side)
+  height ← field (where_ two fields.Other is_side)
+  depth ← field (where_ one fields.Other is_depth)
   sampling ← field (byte_from fields.Sampling 0 2)
   filter ← field (byte_from fields.Other 0 3)
   edge_filter ← field (byte_from fields.Other 0 1)
@@ -184,13 +184,13 @@ leaf_kind has_chroma = do
 -- the size of the luma transforms
 unfoldable pub tx_size : Format TxSize
 tx_size = do
-  number ← field (byte_from fields.LumaTransform 0 18)
+  number ← field (byte_from fields.Other 0 18)
   done (slice_index_or tx_sizes.ALL number TX_4X4)
 
 -- the type of the luma or the chroma transforms
 unfoldable pub tx_type : Format TxType
 tx_type = do
-  number ← field (byte_from fields.TransformType 0 16)
+  number ← field (byte_from fields.Other 0 16)
   done (slice_index_or tx_types.ALL number DCT_DCT)
 
 -- the type of the chroma transforms, where chroma is carried
@@ -207,18 +207,18 @@ triple = do
   done (record { block = block; place = place; value = cast_signed w32 value })
 
 -- a count, and so many triples
-unfoldable pub triples : Field → Format (List Triple)
-triples name = do
-  count ← field (half name)
+unfoldable pub triples : Format (List Triple)
+triples = do
+  count ← field (any two)
   in_turn (λ _. lone triple) 0 count
 
--- the triples of U and of V, where chroma is carried, by the size of its transforms
-unfoldable pub chroma_triples : Bool → TxSize → Format (List (List Triple))
-chroma_triples true size = do
-  u ← triples (fields.ChromaCount size)
-  v ← triples (fields.ChromaCount size)
+-- the triples of U and of V, where chroma is carried
+unfoldable pub chroma_triples : Bool → Format (List (List Triple))
+chroma_triples true = do
+  u ← triples
+  v ← triples
   done (u ∷ v ∷ [])
-chroma_triples false size = done ([] ∷ [] ∷ [])
+chroma_triples false = done ([] ∷ [] ∷ [])
 
 -- a leaf of this size at this place
 unfoldable pub leaf : Header → BlockSize → ℕ → ℕ → Format LeafValue
@@ -227,8 +227,8 @@ leaf h size x y = do
   tx_size ← tx_size
   tx_type ← tx_type
   uv_type ← uv_type (carries_chroma h x y size)
-  luma ← triples fields.Other
-  chroma ← chroma_triples (carries_chroma h x y size) (plane_tx_size h size tx_size 1)
+  luma ← triples
+  chroma ← chroma_triples (carries_chroma h x y size)
   done (record { x = x; y = y; size = size; kind = kind; tx_size = tx_size; tx_type = tx_type; uv_type = uv_type; triples = luma ∷ chroma })
 
 -- ---- nodes
@@ -269,7 +269,7 @@ parts h level quarter x y (suc (suc (suc mark))) = quarter x y ++> quarter (x + 
 unfoldable pub block : Header → ℕ → ℕ → ℕ → Format (List LeafValue)
 block h zero x y = part h BLOCK_4X4 x y
 block h (suc level) x y = inside h x y (do
-  mark ← field (byte_from fields.Mark 0 3)
+  mark ← field (byte_from fields.Other 0 3)
   parts h (suc level) (block h level) x y mark)
 
 -- the superblocks, of side 64, whose corner lies in the frame: one row of them

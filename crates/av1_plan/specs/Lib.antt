@@ -3,6 +3,8 @@ pub mod Spelling
 pub mod Built
 pub mod Geometry
 pub mod Plan
+pub mod Tree
+pub mod CodingOrder
 pub mod Validity
 pub mod Grammar
 pub mod Reading

@@ -1,5 +1,5 @@
 -- Which leaves are valid: the six reasons for which one is refused.
-use Rattle.std.specs.Prelude.{ℕ, ℤ, pos, neg_ℤ, int_lt, ◌+◌, ◌-◌, ◌*◌, ◌^◌, Bool, true, ◌==◌, ◌&&◌, ◌||◌, not, nat_lt, nat_le, nat_abs, min, if◌then◌else◌, Option, Some, None, List, [], ◌∷◌, slice_index_or, is_ok}
+use Rattle.std.specs.Prelude.{ℕ, ℤ, pos, neg_ℤ, int_lt, ◌+◌, ◌-◌, ◌^◌, Bool, true, ◌==◌, ◌&&◌, ◌||◌, not, nat_lt, nat_le, nat_abs, if◌then◌else◌, Option, Some, None, List, [], ◌∷◌, slice_index_or, is_ok}
 use Rattle.std.specs.List.{list_all}
 use Rattle.av1_blocks.specs.declared.mc.MotionVector.{MotionVector}
 use Rattle.av1_blocks.specs.declared.partition.BlockSize.{BlockSize}
@@ -11,7 +11,7 @@ use Rattle.av1_blocks.specs.Blocks.{block_width, block_height}
 use Rattle.av1_blocks.specs.Chroma.{subsampled_size}
 use Rattle.av1_blocks.specs.Modes.{is_cfl, is_directional}
 use Rattle.av1_blocks.specs.References.{reference_number}
-use Rattle.av1_blocks.specs.Transforms.{tx_number, tx_width, tx_height, tx_type_number, valid_av1_transform}
+use Rattle.av1_blocks.specs.Transforms.{tx_number, tx_width, tx_height, tx_type_number, coded_area, valid_av1_transform}
 use Rattle.av1_plan.specs.declared.header.Header.{Header}
 use Rattle.av1_plan.specs.declared.geometry.PlaneArea.{PlaneArea}
 use Rattle.av1_plan.specs.declared.leaf.Triple.{Triple}
@@ -94,13 +94,9 @@ has_references h (Compound mode references mvs) = list_all (has_reference h) ref
 unfoldable pub fits_signed : ℕ → ℤ → Bool
 fits_signed bits v = not (int_lt v (neg_ℤ (pos (2 ^ (bits - 1))))) && int_lt v (pos (2 ^ (bits - 1)))
 
--- how many coefficients a transform block has: of a side past 32 only the first 32
-unfoldable pub coefficient_count : TxSize → ℕ
-coefficient_count t = min (tx_width t) 32 * min (tx_height t) 32
-
 -- the triple names a block that begins in the visible plane, a place of it, and a number of depth + 8 signed bits
 unfoldable pub is_coefficient : Header → ℕ → PlaneArea → Triple → Bool
-is_coefficient h p a t = has_block h p a t.block && nat_lt t.place (coefficient_count a.tx_size) && fits_signed (h.depth + 8) t.value
+is_coefficient h p a t = has_block h p a t.block && nat_lt t.place (coded_area a.tx_size) && fits_signed (h.depth + 8) t.value
 
 -- it stands behind another: in a later block, or at a later place of the same
 unfoldable pub is_behind : Option Triple → Triple → Bool

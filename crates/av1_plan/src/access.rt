@@ -7,6 +7,8 @@ use crate::plan::Plan;
 impl Plan {
     ghost use Rattle.std.specs.Prelude.{◌≡◌, ◌<◌, ◌↔◌, length, IfSome, IfNone, IsSome, IsTrue, Some, None};
     ghost use Rattle.av1_plan.specs.Answer.{plan_value, stored_leaves};
+    ghost use Rattle.std.specs.List.{All};
+    ghost use Rattle.av1_plan.specs.CodingOrder.{IsOnGrid, AreInCodingOrder};
     ghost use Rattle.av1_plan.specs.Geometry.{has_slot};
     ghost use Rattle.av1_plan.specs.Plan.{reference_of, triples_of};
 
@@ -17,9 +19,11 @@ impl Plan {
         &self.header
     }
 
-    /// The leaves, in coding order.
+    /// The leaves, in coding order: those of one tree of marks for each superblock.
     pub fn leaves(&self) -> &[Leaf]
-        ensures { result.now ≡ stored_leaves self.now }
+        ensures items { result.now ≡ stored_leaves self.now }
+        ensures places { All (IsOnGrid (plan_value self.now).header) (plan_value self.now).leaves }
+        ensures order { ∥ AreInCodingOrder (plan_value self.now).header (λ l. l) (plan_value self.now).leaves ∥₁ }
     {
         &self.leaves
     }

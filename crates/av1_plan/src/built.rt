@@ -6,23 +6,13 @@
 ghost use Rattle.std.specs.Prelude.{◌≡◌};
 ghost use Rattle.av1_plan.specs.Built.{is_built};
 
-use av1_blocks::TxSize;
-
 /// A field of a plan, as far as it decides which of its values are built.
 #[derive(Copy, Clone, Debug, PartialEq, Eq)]
 pub enum Field {
-    /// The frame's width.
-    Width,
-    /// The frame's height.
-    Height,
-    /// The number of bits of a sample.
-    Depth,
     /// The subsampling of chroma.
     Sampling,
     /// The mask of the slots that carry reference planes.
     Mask,
-    /// A node's mark.
-    Mark,
     /// A leaf's luma mode.
     LumaMode,
     /// A leaf's chroma mode.
@@ -35,12 +25,6 @@ pub enum Field {
     Reference,
     /// A row or a column of a motion vector.
     Vector,
-    /// The size of a leaf's luma transforms.
-    LumaTransform,
-    /// The type of a leaf's luma or chroma transforms.
-    TransformType,
-    /// How many triples a leaf has in U or in V, where chroma's transforms are of this size.
-    ChromaCount(TxSize),
     /// Any other field: all its values are built.
     Other,
 }
@@ -51,13 +35,10 @@ pub fn is_built(field: Field, value: u32) -> bool
     ensures { result ≡ is_built field value }
 {
     match field {
-        Field::Width | Field::Height | Field::Depth => value == 8,
         Field::Sampling => value == 2,
-        Field::Mark => value == 3,
         Field::LumaMode | Field::ChromaMode => value <= 2,
-        Field::Mask | Field::AngleStep | Field::LumaTransform | Field::TransformType => value == 0,
+        Field::Mask | Field::AngleStep => value == 0,
         Field::Alpha | Field::Reference | Field::Vector => false,
-        Field::ChromaCount(tx_size) => tx_size.number() == 0 || value == 0,
         Field::Other => true,
     }
 }

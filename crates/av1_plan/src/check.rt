@@ -17,7 +17,6 @@ ghost use Rattle.av1_plan.specs.Validity.{
   has_reference,
   has_references,
   fits_signed,
-  coefficient_count,
   is_coefficient,
   is_behind,
   are_coefficients,
@@ -194,14 +193,6 @@ fn fits_depth(depth: u8, value: i32) -> bool
     is_within(value, 1 << (depth + 7))
 }
 
-/// How many coefficients a transform block has.
-#[tactic(auto, unfolding(crate::specs::Validity::coefficient_count))]
-fn coefficient_count(tx_size: TxSize) -> usize
-    ensures { result ≡ coefficient_count tx_size }
-{
-    tx_size.width().min(32) * tx_size.height().min(32)
-}
-
 /// Whether a triple names a block of the area that begins in the visible plane `p`, a place of it and a number in range.
 #[tactic(auto, unfolding(crate::specs::Validity::is_coefficient, crate::specs::Geometry::transform_block))]
 fn is_coefficient(header: &Header, p: usize, area: &PlaneArea, triple: &Triple) -> bool
@@ -210,7 +201,7 @@ fn is_coefficient(header: &Header, p: usize, area: &PlaneArea, triple: &Triple) 
 {
     let block = area.transform_block(header, p, usize::from(triple.block));
     block.is_some()
-        && usize::from(triple.place) < coefficient_count(area.tx_size)
+        && usize::from(triple.place) < area.tx_size.coded_area()
         && fits_depth(header.depth, triple.value)
 }
 

@@ -7,7 +7,8 @@
 //! - `parse_plan` reads exactly the bytes that the plan grammar (`specs/Grammar.antt`) spells, and of any others names the
 //!   first field that is cut, not admitted or left over (`Malformed`), or not built yet (`NotBuilt`). It is linear in the
 //!   bytes and takes no memory for a leaf of its own: leaves lie in one list, and their coefficients in another.
-//! - A `Plan` keeps as a fact that a complete proper list of fields spells it.
+//! - A `Plan` keeps as a fact that a complete proper list of fields spells it. Its leaves stand in coding order: they are those
+//!   of one tree of marks for each superblock of the frame (`specs/Tree.antt`, `specs/CodingOrder.antt`).
 //! - `check_plan` accepts exactly the plans of which no leaf is faulty, and else names the first faulty leaf and the first
 //!   of its reasons (`specs/Validity.antt`).
 //! - A leaf's rectangle in a plane, the size of its transforms there and the blocks that begin in the frame are worked out

@@ -58,7 +58,7 @@ impl<'a> Parser<'a> {
         if !header.holds(x, y) {
             return Ok(());
         }
-        let mark = self.reader.byte(Field::Mark, 0, 3)?;
+        let mark = self.reader.byte(Field::Other, 0, 3)?;
         self.parts(header, level, mark, x, y)
     }
 

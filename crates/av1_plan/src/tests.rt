@@ -9,6 +9,12 @@ const FOUR_LEAVES: [u8; 83] = [
     0, 0, 0, 0, 0, 0, 0, 0, 0, 0, 0, 0, 0, 0, 0, 0, 0, 0, 0, 0, 0, 0,
 ];
 
+/// 16x8, 4:4:4, depth 10, the upper half of a node of side 16, whose lower half lies outside the frame, and a byte more.
+const ONE_HALF: [u8; 37] = [
+    82, 80, 76, 49, 16, 0, 8, 0, 10, 2, 0, 0, 0, 0, 0, 0, 0, 0, 0, 0, 3, 3, 1, 2, 0, 0, 0, 8, 1, 0,
+    0, 0, 0, 0, 0, 0, 0,
+];
+
 /// 8x8, 4:2:0, depth 8, one leaf of 64x64.
 const ONE_LEAF_420: [u8; 34] = [
     82, 80, 76, 49, 8, 0, 8, 0, 8, 0, 0, 0, 0, 0, 0, 0, 0, 0, 0, 0, 0, 0, 0, 0, 0, 4, 0, 0, 0, 0,
@@ -60,6 +66,21 @@ fn four_leaves_are_read_in_coding_order(rt: HostRuntime) -> Result<(), Fail> {
 }
 
 #[test]
+fn a_part_outside_the_frame_is_not_in_the_plan(rt: HostRuntime) -> Result<(), Fail> {
+    let plan = parse_plan(rt.alloc(), &ONE_HALF[..36])?;
+    assert_eq!(rt; plan.leaves().len(), 1);
+    let leaf = plan.leaves()[0];
+    assert_eq!(rt;
+        (leaf.size, leaf.tx_size, leaf.tx_type),
+        (BlockSize::BLOCK_16X8, TxSize::TX_16X8, TxType::ADST_DCT)
+    );
+
+    let left_over = parse_plan(rt.alloc(), &ONE_HALF).err();
+    assert!(rt; left_over == Some(PlanError::Malformed { at: 36 }));
+    Ok(())
+}
+
+#[test]
 fn a_cut_field_and_a_byte_left_over_are_malformed(rt: HostRuntime) {
     let cut = parse_plan(rt.alloc(), &FOUR_LEAVES[..82]).err();
     assert!(rt; cut == Some(PlanError::Malformed { at: 81 }));
@@ -78,16 +99,7 @@ fn a_value_that_is_not_built_is_told_from_one_that_is_not_admitted(rt: HostRunti
     let sampling = parse_plan(rt.alloc(), &ONE_LEAF_420).err();
     assert!(rt; sampling == Some(PlanError::NotBuilt { at: 9 }));
 
-    let changes = [
-        (4, 16),
-        (8, 10),
-        (19, 1),
-        (20, 0),
-        (24, 13),
-        (25, 1),
-        (28, 1),
-        (30, 1),
-    ];
+    let changes = [(9, 1), (19, 1), (24, 13), (25, 1), (26, 3), (27, 1)];
     for (at, value) in changes {
         let mut bytes = FOUR_LEAVES;
         bytes[at as usize % 83] = value;
@@ -104,6 +116,7 @@ fn a_value_that_is_not_built_is_told_from_one_that_is_not_admitted(rt: HostRunti
         (24, 34),
         (26, 14),
         (28, 19),
+        (29, 17),
     ];
     for (at, value) in changes {
         let mut bytes = FOUR_LEAVES;

@@ -1,6 +1,6 @@
 //! Reading what stands before the reference samples.
 
-use crate::built::{Field, is_built};
+use crate::built::Field;
 use crate::error::PlanError;
 use crate::header::Header;
 use crate::reader::Reader;
@@ -31,10 +31,10 @@ impl<'a> Reader<'a> {
     }
 
     /// A side of the frame.
-    #[tactic(auto, using(crate::proofs::Narrow::narrow))]
-    fn side(&mut self, field: Field) -> Result<u16, PlanError>
+    #[tactic(auto, using(crate::proofs::Narrow::narrow), unfolding(crate::specs::Built::is_built))]
+    fn side(&mut self) -> Result<u16, PlanError>
         requires { Fits self.old }
-        ensures read { Gives (λ x. (x, input self.new)) result (read_field (where_ two field is_side) (input self.old)) }
+        ensures read { Gives (λ x. (x, input self.new)) result (read_field (where_ two fields.Other is_side) (input self.old)) }
         ensures moves { Moves self.old self.new }
         ensures admitted { IfOk result (λ x. IsTrue (is_side x)) }
     {
@@ -42,18 +42,16 @@ impl<'a> Reader<'a> {
         let value = self.any_half()?;
         if value % 8 != 0 || value < 8 || 2048 < value {
             Err(PlanError::Malformed { at })
-        } else if is_built(field, u32::from(value)) {
-            Ok(value)
         } else {
-            Err(PlanError::NotBuilt { at })
+            Ok(value)
         }
     }
 
     /// The bits of a sample.
-    #[tactic(auto, using(crate::proofs::Narrow::narrow))]
+    #[tactic(auto, using(crate::proofs::Narrow::narrow), unfolding(crate::specs::Built::is_built))]
     fn depth(&mut self) -> Result<u8, PlanError>
         requires { Fits self.old }
-        ensures read { Gives (λ x. (x, input self.new)) result (read_field (where_ one fields.Depth is_depth) (input self.old)) }
+        ensures read { Gives (λ x. (x, input self.new)) result (read_field (where_ one fields.Other is_depth) (input self.old)) }
         ensures moves { Moves self.old self.new }
         ensures admitted { IfOk result (λ x. IsTrue (is_depth x)) }
     {
@@ -61,10 +59,8 @@ impl<'a> Reader<'a> {
         let value = self.any_byte()?;
         if value != 8 && value != 10 && value != 12 {
             Err(PlanError::Malformed { at })
-        } else if is_built(Field::Depth, u32::from(value)) {
-            Ok(value)
         } else {
-            Err(PlanError::NotBuilt { at })
+            Ok(value)
         }
     }
 
@@ -104,8 +100,8 @@ impl<'a> Reader<'a> {
         ensures small { IfOk result (λ h. (h.width ≤ 2048) × (h.height ≤ 2048) × (h.depth ≤ 12)) }
     {
         self.magic()?;
-        let width = self.side(Field::Width)?;
-        let height = self.side(Field::Height)?;
+        let width = self.side()?;
+        let height = self.side()?;
         let depth = self.depth()?;
         let sampling = self.byte(Field::Sampling, 0, 2)?;
         let filter = self.byte(Field::Other, 0, 3)?;

@@ -2,7 +2,7 @@
 
 use crate::built::Field;
 use crate::error::PlanError;
-use crate::geometry::{carries_chroma, plane_tx_size};
+use crate::geometry::carries_chroma;
 use crate::header::Header;
 use crate::leaf::{ChromaMode, Leaf, LeafKind, Triple};
 use crate::reader::Reader;
@@ -131,7 +131,7 @@ impl<'a> Reader<'a> {
         ensures read { Gives (λ x. (x, input self.new)) result (read tx_size (input self.old)) }
         ensures moves { Moves self.old self.new }
     {
-        let number = self.byte(Field::LumaTransform, 0, 18)?;
+        let number = self.byte(Field::Other, 0, 18)?;
         Ok(TxSize::ALL[usize::from(number)])
     }
 
@@ -141,7 +141,7 @@ impl<'a> Reader<'a> {
         ensures read { Gives (λ x. (x, input self.new)) result (read tx_type (input self.old)) }
         ensures moves { Moves self.old self.new }
     {
-        let number = self.byte(Field::TransformType, 0, 16)?;
+        let number = self.byte(Field::Other, 0, 16)?;
         Ok(TxType::ALL[usize::from(number)])
     }
 
@@ -193,29 +193,27 @@ impl<'a> Reader<'a> {
     }
 
     /// Reads a count and so many triples, puts them behind the others, and gives the count.
-    fn triples(&mut self, field: Field, into: &mut Vec<Triple>) -> Result<u16, PlanError>
+    fn triples(&mut self, into: &mut Vec<Triple>) -> Result<u16, PlanError>
         requires { Fits self.old }
-        ensures read { Gives (λ n. (added into.old.items into.new.items n, input self.new)) result (read (triples field) (input self.old)) }
+        ensures read { Gives (λ n. (added into.old.items into.new.items n, input self.new)) result (read triples (input self.old)) }
         ensures extends { IfOk result (λ n. Extends into.old.items into.new.items n) }
         ensures moves { Moves self.old self.new }
         ensures room { length into.new.items + self.old.at ≤ length into.old.items + self.new.at }
     {
-        let count = self.half(field)?;
+        let count = self.any_half()?;
         self.more_triples(count, into)?;
         Ok(count)
     }
 
-    /// Reads the triples of both chroma planes, whose transforms are of this size, where the leaf carries chroma, and gives
-    /// their counts.
+    /// Reads the triples of both chroma planes, where the leaf carries chroma, and gives their counts.
     #[tactic(auto, using(crate::proofs::Formats::read_bind), unfolding(crate::specs::Grammar::chroma_triples))]
     fn chroma_triples(
         &mut self,
         has_chroma: bool,
-        tx_size: TxSize,
         into: &mut Vec<Triple>,
     ) -> Result<(u16, u16), PlanError>
         requires { Fits self.old }
-        ensures read { Gives (λ ns. (cut into.new.items (length into.old.items) (ns.0 ∷ ns.1 ∷ []), input self.new)) result (read (chroma_triples has_chroma tx_size) (input self.old)) }
+        ensures read { Gives (λ ns. (cut into.new.items (length into.old.items) (ns.0 ∷ ns.1 ∷ []), input self.new)) result (read (chroma_triples has_chroma) (input self.old)) }
         ensures extends { IfOk result (λ ns. Extends into.old.items into.new.items (ns.0 + ns.1)) }
         ensures moves { Moves self.old self.new }
         ensures room { length into.new.items + self.old.at ≤ length into.old.items + self.new.at }
@@ -223,8 +221,8 @@ impl<'a> Reader<'a> {
         if !has_chroma {
             return Ok((0, 0));
         }
-        let u = self.triples(Field::ChromaCount(tx_size), into)?;
-        let v = self.triples(Field::ChromaCount(tx_size), into)?;
+        let u = self.triples(into)?;
+        let v = self.triples(into)?;
         Ok((u, v))
     }
 
@@ -253,9 +251,8 @@ impl<'a> Reader<'a> {
         let tx_type = self.tx_type()?;
         let uv_type = self.uv_type(has_chroma)?;
         let first = into.len() as u32;
-        let luma = self.triples(Field::Other, into)?;
-        let uv_size = plane_tx_size(header, size, tx_size, 1);
-        let (u, v) = self.chroma_triples(has_chroma, uv_size, into)?;
+        let luma = self.triples(into)?;
+        let (u, v) = self.chroma_triples(has_chroma, into)?;
         Ok(Leaf {
             x,
             y,

@@ -5,13 +5,13 @@ use Rattle.av1_plan.proofs.check.check_plan.Goals as goal
 pub returns-in-Some-clause-err : goal.returns-in-Some-clause-err
 returns-in-Some-clause-err c =
     let p = c.args.plan.now in
-    let faulty = rw c.leaves-leaf-items.ensures at (sym c.fault_of.ensures ∙ c.in-Some.is) in
-    let within = rw c.leaves-leaf-items.ensures at c.loop-i-test.true in
+    let faulty = rw c.leaves-leaf-items.ensures.items at (sym c.fault_of.ensures ∙ c.in-Some.is) in
+    let within = rw c.leaves-leaf-items.ensures.items at c.loop-i-test.true in
     sym c.loop-i.invariant ∙ leaf_faulty p.header p.triples.items p.leaves.items c.loop-i.i _ c.in-Some.kind within faulty
 
 pub loop-i-preserved : goal.loop-i-preserved
 loop-i-preserved c =
     let p = c.args.plan.now in
-    let valid = rw c.leaves-leaf-items.ensures at (sym c.fault_of.ensures ∙ c.in_default.is) in
-    let within = rw c.leaves-leaf-items.ensures at c.loop-i-test.true in
+    let valid = rw c.leaves-leaf-items.ensures.items at (sym c.fault_of.ensures ∙ c.in_default.is) in
+    let within = rw c.leaves-leaf-items.ensures.items at c.loop-i-test.true in
     sym (leaf_valid p.header p.triples.items p.leaves.items c.loop-i.i _ within valid) ∙ c.loop-i.invariant

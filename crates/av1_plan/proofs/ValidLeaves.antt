@@ -1,0 +1,157 @@
+-- What holds of the leaves of a valid plan: each passes all six tests, its transforms fit it, and its triples fit their blocks.
+use Rattle.std.proofs.Common.{ℕ, zero, suc, ◌+◌, ◌≡◌, ◌≤◌, ◌<◌, nat_lt, Bool, true, false, ◌&&◌, ◌||◌, not, if◌then◌else◌, List, [], ◌∷◌, Option, Some, None, All, slice_index_or, refl, subst, arith}
+use Rattle.std.specs.Prelude.{nat_le}
+use Rattle.std.proofs.lemmas.Bool.{and_parts, ltb-true, leb-true}
+use Rattle.av1_blocks.specs.declared.partition.BlockSize.{BlockSize}
+use Rattle.av1_blocks.specs.declared.transform.TxSize.{TxSize}
+use Rattle.av1_blocks.specs.declared.transform.TxType.{TxType}
+use Rattle.av1_blocks.specs.Blocks.{block_width, block_height}
+use Rattle.av1_blocks.specs.Transforms.{tx_width, tx_height, coded_area}
+use Rattle.av1_plan.specs.declared.error.Invalid.{Invalid}
+use Rattle.av1_plan.specs.declared.error.InvalidKind.{InvalidKind}
+use Rattle.av1_plan.specs.declared.error.InvalidKind.TheVariants as kinds
+use Rattle.av1_plan.specs.declared.geometry.PlaneArea.{PlaneArea}
+use Rattle.av1_plan.specs.declared.header.Header.{Header}
+use Rattle.av1_plan.specs.declared.leaf.Triple.{Triple}
+use Rattle.av1_plan.specs.Geometry.{carries_chroma, plane_tx_size, plane_area, has_block}
+use Rattle.av1_plan.specs.Plan.{LeafValue, PlanValue}
+use Rattle.av1_plan.specs.Validity.{fits_signed, is_coefficient, is_behind, are_coefficients, has_plane_coefficients, has_coefficients, has_block_size, is_transform, has_transforms, has_modes, has_vectors, has_references, fault_of, or_later, fault_from, first_fault}
+
+-- ---- the six tests
+
+pub record IsValidLeaf (h : Header) (l : LeafValue) : Type 0 where
+  pub size : has_block_size h l.size ≡ true
+  pub transforms : has_transforms h l.size l.tx_size l.tx_type l.uv_type ≡ true
+  pub modes : has_modes l.size l.kind ≡ true
+  pub vectors : has_vectors l.kind ≡ true
+  pub references : has_references h l.kind ≡ true
+  pub coefficients : has_coefficients h l ≡ true
+
+no_fault : (b : Bool) (kind : InvalidKind) (later : Option InvalidKind) → (if not b then Some kind else later) ≡ None → (b ≡ true) × (later ≡ None)
+no_fault true kind later e = (refl, e)
+no_fault false kind later e = absurd cc
+
+pub valid_leaf : (h : Header) (l : LeafValue) → fault_of h l ≡ None → IsValidLeaf h l
+unfolding fault_of
+valid_leaf h l e =
+    let coefficients = if not (has_coefficients h l) then Some kinds.Coefficient else None in
+    let references = if not (has_references h l.kind) then Some kinds.MissingReference else coefficients in
+    let vectors = if not (has_vectors l.kind) then Some kinds.Vector else references in
+    let modes = if not (has_modes l.size l.kind) then Some kinds.Mode else vectors in
+    let transforms = if not (has_transforms h l.size l.tx_size l.tx_type l.uv_type) then Some kinds.Transform else modes in
+    let (size, e1) = no_fault (has_block_size h l.size) kinds.InvalidBlockSize transforms e in
+    let (fits, e2) = no_fault (has_transforms h l.size l.tx_size l.tx_type l.uv_type) kinds.Transform modes e1 in
+    let (mode, e3) = no_fault (has_modes l.size l.kind) kinds.Mode vectors e2 in
+    let (vector, e4) = no_fault (has_vectors l.kind) kinds.Vector references e3 in
+    let (reference, e5) = no_fault (has_references h l.kind) kinds.MissingReference coefficients e4 in
+    let (coefficient, _) = no_fault (has_coefficients h l) kinds.Coefficient None e5 in
+    record { size = size; transforms = fits; modes = mode; vectors = vector; references = reference; coefficients = coefficient }
+
+none_later : (n : ℕ) (fault : Option InvalidKind) (later : Option Invalid) → or_later n fault later ≡ None → (fault ≡ None) × (later ≡ None)
+none_later n None later e = (refl, e)
+none_later n (Some kind) later e = absurd cc
+
+faultless : (h : Header) (n : ℕ) (leaves : List LeafValue) → fault_from h n leaves ≡ None → All (λ l. fault_of h l ≡ None) leaves
+unfolding fault_from
+faultless h n [] e k d within = absurd (omega arith)
+faultless h n (l ∷ leaves) e zero d within = (none_later n (fault_of h l) (fault_from h (n + 1) leaves) e).0
+faultless h n (l ∷ leaves) e (suc k) d within = faultless h (n + 1) leaves (none_later n (fault_of h l) (fault_from h (n + 1) leaves) e).1 k d (omega arith)
+
+-- the leaves of a valid plan
+pub valid_leaves : (p : PlanValue) → first_fault p ≡ None → All (IsValidLeaf p.header) p.leaves
+valid_leaves p e k d within = valid_leaf p.header _ (faultless p.header 0 p.leaves e k d within)
+
+-- ---- transforms
+
+-- luma's transforms are no longer than the leaf, and all types exist at their sizes
+pub record HasFittingTransforms (h : Header) (l : LeafValue) : Type 0 where
+  pub width : tx_width l.tx_size ≤ block_width l.size
+  pub height : tx_height l.tx_size ≤ block_height l.size
+  pub luma : is_transform l.tx_size l.tx_type ≡ true
+  pub chroma : (t : TxType) → l.uv_type ≡ Some t → is_transform (plane_tx_size h l.size l.tx_size 1) t ≡ true
+
+luma_fits : (h : Header) (size : BlockSize) (tx_size : TxSize) (tx_type : TxType) (uv_type : Option TxType) → has_transforms h size tx_size tx_type uv_type ≡ true
+    → (nat_le (tx_width tx_size) (block_width size) && nat_le (tx_height tx_size) (block_height size) && is_transform tx_size tx_type) ≡ true
+unfolding has_transforms
+luma_fits h size tx_size tx_type None e = e
+luma_fits h size tx_size tx_type (Some t) e = (and_parts (nat_le (tx_width tx_size) (block_width size) && nat_le (tx_height tx_size) (block_height size) && is_transform tx_size tx_type) (is_transform (plane_tx_size h size tx_size 1) t) e).0
+
+chroma_fits : (h : Header) (size : BlockSize) (tx_size : TxSize) (tx_type t : TxType) → has_transforms h size tx_size tx_type (Some t) ≡ true → is_transform (plane_tx_size h size tx_size 1) t ≡ true
+unfolding has_transforms
+chroma_fits h size tx_size tx_type t e = (and_parts (nat_le (tx_width tx_size) (block_width size) && nat_le (tx_height tx_size) (block_height size) && is_transform tx_size tx_type) (is_transform (plane_tx_size h size tx_size 1) t) e).1
+
+pub fitting_transforms : (h : Header) (l : LeafValue) → IsValidLeaf h l → HasFittingTransforms h l
+fitting_transforms h l valid =
+    let (sides, luma) = and_parts (nat_le (tx_width l.tx_size) (block_width l.size) && nat_le (tx_height l.tx_size) (block_height l.size)) (is_transform l.tx_size l.tx_type) (luma_fits h l.size l.tx_size l.tx_type l.uv_type valid.transforms) in
+    let (width, height) = and_parts (nat_le (tx_width l.tx_size) (block_width l.size)) (nat_le (tx_height l.tx_size) (block_height l.size)) sides in
+    record {
+      width = leb-true (tx_width l.tx_size) (block_width l.size) width;
+      height = leb-true (tx_height l.tx_size) (block_height l.size) height;
+      luma = luma;
+      chroma = λ t is. chroma_fits h l.size l.tx_size l.tx_type t (subst (λ (u : Option TxType). has_transforms h l.size l.tx_size l.tx_type u ≡ true) is valid.transforms);
+    }
+
+-- ---- triples
+
+-- the triple names a block that begins in the visible plane p, one of its coefficients, and a number of depth + 8 bits
+pub record IsFittingTriple (h : Header) (p : ℕ) (a : PlaneArea) (t : Triple) : Type 0 where
+  pub block : has_block h p a t.block ≡ true
+  pub place : t.place < coded_area a.tx_size
+  pub value : fits_signed (h.depth + 8) t.value ≡ true
+
+fitting_triple : (h : Header) (p : ℕ) (a : PlaneArea) (t : Triple) → is_coefficient h p a t ≡ true → IsFittingTriple h p a t
+unfolding is_coefficient
+fitting_triple h p a t e =
+    let (stands, value) = and_parts (has_block h p a t.block && nat_lt t.place (coded_area a.tx_size)) (fits_signed (h.depth + 8) t.value) e in
+    let (block, place) = and_parts (has_block h p a t.block) (nat_lt t.place (coded_area a.tx_size)) stands in
+    record { block = block; place = ltb-true t.place (coded_area a.tx_size) place; value = value }
+
+-- what the first triple passes, and what the others do
+pub first_and_rest : (h : Header) (p : ℕ) (a : PlaneArea) (before : Option Triple) (t : Triple) (triples : List Triple) → are_coefficients h p a before (t ∷ triples) ≡ true
+    → (is_coefficient h p a t ≡ true) × (is_behind before t ≡ true) × (are_coefficients h p a (Some t) triples ≡ true)
+unfolding are_coefficients
+first_and_rest h p a before t triples e =
+    let (front, rest) = and_parts (is_coefficient h p a t && is_behind before t) (are_coefficients h p a (Some t) triples) e in
+    let (fits, behind) = and_parts (is_coefficient h p a t) (is_behind before t) front in
+    (fits, behind, rest)
+
+fitting_list : (h : Header) (p : ℕ) (a : PlaneArea) (before : Option Triple) (triples : List Triple) → are_coefficients h p a before triples ≡ true → All (IsFittingTriple h p a) triples
+fitting_list h p a before [] e k d within = absurd (omega arith)
+fitting_list h p a before (t ∷ triples) e zero d within = let (fits, _, _) = first_and_rest h p a before t triples e in fitting_triple h p a t fits
+fitting_list h p a before (t ∷ triples) e (suc k) d within = let (_, _, rest) = first_and_rest h p a before t triples e in fitting_list h p a (Some t) triples rest k d (omega arith)
+
+-- the leaf's triples in plane p do
+abbrev pub FitIn : Header → LeafValue → ℕ → Type 0
+FitIn h l p = All (IsFittingTriple h p (plane_area h l.x l.y l.size l.tx_size p)) (slice_index_or l.triples p [])
+
+-- and those in each plane of which it covers a part
+pub record HasFittingTriples (h : Header) (l : LeafValue) : Type 0 where
+  pub y : FitIn h l 0
+  pub u : carries_chroma h l.x l.y l.size ≡ true → FitIn h l 1
+  pub v : carries_chroma h l.x l.y l.size ≡ true → FitIn h l 2
+
+where_carried : (c u v : Bool) → (not c || (u && v)) ≡ true → c ≡ true → (u ≡ true) × (v ≡ true)
+where_carried true u v e carried = and_parts u v e
+where_carried false u v e carried = absurd cc
+
+-- the tests that a leaf's triples pass, in each plane of which it covers a part
+pub record HasPassed (h : Header) (l : LeafValue) : Type 0 where
+  pub y : has_plane_coefficients h l 0 ≡ true
+  pub u : carries_chroma h l.x l.y l.size ≡ true → has_plane_coefficients h l 1 ≡ true
+  pub v : carries_chroma h l.x l.y l.size ≡ true → has_plane_coefficients h l 2 ≡ true
+
+pub passed_planes : (h : Header) (l : LeafValue) → has_coefficients h l ≡ true → HasPassed h l
+unfolding has_coefficients
+passed_planes h l e =
+    let (luma, chroma) = and_parts (has_plane_coefficients h l 0) (not (carries_chroma h l.x l.y l.size) || (has_plane_coefficients h l 1 && has_plane_coefficients h l 2)) e in
+    let both = where_carried (carries_chroma h l.x l.y l.size) (has_plane_coefficients h l 1) (has_plane_coefficients h l 2) chroma in
+    record { y = luma; u = λ carried. (both carried).0; v = λ carried. (both carried).1 }
+
+fit_in : (h : Header) (l : LeafValue) (p : ℕ) → has_plane_coefficients h l p ≡ true → FitIn h l p
+unfolding has_plane_coefficients
+fit_in h l p e = fitting_list h p (plane_area h l.x l.y l.size l.tx_size p) None (slice_index_or l.triples p []) e
+
+pub fitting_triples : (h : Header) (l : LeafValue) → IsValidLeaf h l → HasFittingTriples h l
+fitting_triples h l valid =
+    let passed = passed_planes h l valid.coefficients in
+    record { y = fit_in h l 0 passed.y; u = λ carried. fit_in h l 1 (passed.u carried); v = λ carried. fit_in h l 2 (passed.v carried) }

@@ -1,0 +1,36 @@
+-- The leaves of a plan stand in coding order: they are those of trees of marks, one tree for each superblock of the frame.
+-- AV1 specification: decode partition syntax.
+use Rattle.std.specs.Prelude.{◌≡◌, ℕ, ◌+◌, ◌*◌, ◌/◌, ◌%◌, ◌≤◌, true, List, length, map}
+use Rattle.av1_blocks.specs.Blocks.{block_width, block_height}
+use Rattle.av1_plan.specs.declared.header.Header.{Header}
+use Rattle.av1_plan.specs.Geometry.{is_inside}
+use Rattle.av1_plan.specs.Plan.{LeafValue}
+use Rattle.av1_plan.specs.Tree.{Block, Placed, Tree, frame_leaves}
+
+-- the cells of 4 by 4 luma samples that a leaf covers
+abbrev pub cells_of : LeafValue → Block
+cells_of l = record { x = l.x / 4; y = l.y / 4; columns = block_width l.size / 4; rows = block_height l.size / 4 }
+
+-- a leaf in its place, and what code says of it
+abbrev pub placed : {A : Type 0} → (LeafValue → A) → LeafValue → Placed A
+placed code l = record { block = cells_of l; content = code l }
+
+-- the leaf begins in the frame, at a cell and at a multiple of its sides, and ends in the superblock in which it begins
+pub record IsOnGrid (h : Header) (l : LeafValue) : Type 0 where
+  pub cell_x : l.x % 4 ≡ 0
+  pub cell_y : l.y % 4 ≡ 0
+  pub side_x : l.x % block_width l.size ≡ 0
+  pub side_y : l.y % block_height l.size ≡ 0
+  pub end_x : l.x % 64 + block_width l.size ≤ 64
+  pub end_y : l.y % 64 + block_height l.size ≤ 64
+  pub within : is_inside h l.x l.y ≡ true
+
+-- how many superblocks of 16 by 16 cells begin in a frame of so many columns and rows of cells
+abbrev pub superblock_count : (columns rows : ℕ) → ℕ
+superblock_count columns rows = (columns + 15) / 16 * ((rows + 15) / 16)
+
+-- the leaves, each with what code says of it, are those of so many trees
+abbrev pub AreInCodingOrder : {A : Type 0} → Header → (LeafValue → A) → List LeafValue → Type 0
+AreInCodingOrder {A} h code leaves =
+    (trees : List (Tree A 4)) × (length trees ≡ superblock_count (h.width / 4) (h.height / 4))
+    × (frame_leaves (h.width / 4) (h.height / 4) trees ≡ map (placed code) leaves)
