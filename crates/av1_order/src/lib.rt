@@ -1,0 +1,22 @@
+//! Coding order: what is written of a plane before a rectangle of it is predicted is told by places alone.
+//!
+//! An intra prediction reads the samples round its rectangle as far as they are written. An encoder keeps no record of that: it finds
+//! out by places. This crate is the theory that allows it, for every partition of every frame, in planes of every sampling. It has no
+//! code, only laws, each stated in `specs/` and ensured by a function that does nothing. It stands on `av1_avail` for the order of
+//! cells, and on `av1_plan` for leaves. To the walk above it promises:
+//!
+//! - The leaves of a frame lie on their grid and tile it (`specs/Leaves.antt`).
+//! - The steps of a plane (`specs/Steps.antt`) find written just the units that places tell (`specs/Places.antt`), and so of the samples
+//!   round them all that lies above and to the left, and of the runs above right and below left all or nothing (`specs/Samples.antt`).
+//!   In the end each visible sample is written.
+//! - What `has_top_right` and `has_bottom_left` of `av1_avail` ask is answered by whether those runs are written (`specs/Asked.antt`).
+//! - The steps of a plan's leaves are their transform blocks, and each plane of a valid plan is such a plane (`specs/Plans.antt`).
+#![tactic(auto)]
+
+mod laws;
+
+pub use laws::{
+    edges_are_told_by_places, leaves_lie_on_their_grid, leaves_tile_the_frame,
+    order_is_told_by_places, planes_are_written, plans_are_frames, questions_are_answered_by_order,
+    steps_are_transform_blocks,
+};
