@@ -97,7 +97,7 @@ not_true : IsTrue false → ⊥
 not_true h = cc
 
 -- the modes that are built
-built : (mode : PredictionMode) → IsPredicted mode → (mode ≡ DC_PRED) ⊎ ((mode ≡ V_PRED) ⊎ (mode ≡ H_PRED))
+pub built : (mode : PredictionMode) → IsPredicted mode → (mode ≡ DC_PRED) ⊎ ((mode ≡ V_PRED) ⊎ (mode ≡ H_PRED))
 built DC_PRED h = inl refl
 built V_PRED h = inr (inl refl)
 built H_PRED h = inr (inr refl)

@@ -1,6 +1,8 @@
 -- The sides of a block as lists of numbers, and sums of them.
-use Rattle.std.proofs.Common.{ℕ, ◌+◌, ◌-◌, ◌*◌, ◌/◌, ◌%◌, ◌^◌, ◌<◌, ◌≤◌, ◌≡◌, List, [], ◌∷◌, ◌++◌, length, get_or, take, drop, map, sum, ap, arith, ◌∙◌, sym}
-use Rattle.std.proofs.lemmas.List.{get_or-map, get_or-take, get_or-drop, length-map, length-append}
+use Rattle.std.proofs.Common.{ℕ, ◌+◌, ◌-◌, ◌*◌, ◌/◌, ◌%◌, ◌^◌, ◌<◌, ◌≤◌, ◌≡◌, List, [], ◌∷◌, ◌++◌, length, get_or, set, take, drop, map, sum, ap, arith, ◌∙◌, sym, inl, inr}
+use Rattle.std.proofs.lemmas.Bool.{cases_lt}
+use Rattle.std.proofs.lemmas.Grind.{get_or-set_at}
+use Rattle.std.proofs.lemmas.List.{get_or-map, get_or-set_other, get_or-take, get_or-drop, length-map, length-append}
 use Rattle.std.proofs.lemmas.List.FromFn.{fill_by_all}
 use Rattle.std.proofs.lemmas.List.Sums.{sum_by_more, sum_by-append, sum-map}
 use Rattle.std.proofs.lemmas.Nat.{pow-add}
@@ -14,6 +16,13 @@ pub listed_is : {T : Type 0} (num : T → ℕ) (f : ℕ → ℕ) (xs : List T) (
 listed_is num f [] n e h = fill_by_all f [] n 0 e (λ k l. absurd (omega arith))
 listed_is num f (x ∷ xs) n e h =
     fill_by_all f (map num (x ∷ xs)) n 0 (length-map (x ∷ xs) num ∙ e) (λ k l. get_or-map num (x ∷ xs) k x 0 (omega arith) ∙ h k x l)
+
+-- one more sample whose number is known
+pub set_shown : {T : Type 0} (num : T → ℕ) (xs : List T) (i : ℕ) (v : T) (f : ℕ → ℕ) → num v ≡ f i → i < length xs → ((k : ℕ) (d : T) → k < i → num (get_or xs k d) ≡ f k) → (k : ℕ) (d : T) → k < i + 1 → num (get_or (set xs i v) k d) ≡ f k
+set_shown num xs i v f here l before k d h = elim (cases_lt k i) [
+  | inl e ↦ ap num (get_or-set_other xs i k v d (λ s. absurd (omega (arith, s)))) ∙ before k d e
+  | inr e ↦ let same : k ≡ i = omega arith in ap num (get_or-set_at xs i k v d same l) ∙ here ∙ ap f (sym same)
+]
 
 -- a sample of a part
 pub part_sample : {T : Type 0} (num : T → ℕ) (s : List T) (i n m j : ℕ) (d : T) → m < n → i + n ≤ length s → j ≡ i + m → num (get_or (part i n s) m d) ≡ get_or (map num s) j 0

@@ -73,6 +73,11 @@ block_is h plane a n b e =
     let r = ends_in u (block_height a.size) (n / w) (row_below w d n l) in
     record { begins_x = omega (arith, x, ex); begins_y = omega (arith, y, ey); columns = omega (arith, c, ex); rows = omega (arith, r, ey) }
 
+-- where it begins
+pub block_found : (h : Header) (plane : ℕ) (a : PlaneArea) (n : ℕ) (b : TransformBlock) → transform_block h plane a n ≡ Some b → block_at a n ≡ b
+unfolding transform_block
+block_found h plane a n b e = (some_when _ _ b e).1
+
 -- a block lies in storage where its part does
 pub block_fits : {T : Type 0} (frame : Frame) (p : Plane T) (h : Header) (part : Part) (triples : List Triple) (b : TransformBlock) → Stores frame p → PartFits p.plane_cfg h part triples → IsBlock h part.plane part.area b → InPlane (block_area part b) p
 block_fits frame p h part triples b s f i =

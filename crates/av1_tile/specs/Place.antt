@@ -1,19 +1,20 @@
 -- What one step does to the planes in memory, where edges are read by place: no record is kept of what was written.
-use Rattle.std.specs.Prelude.{ℕ, ◌+◌, ◌-◌, ◌<◌, ◌≤◌, ◌≡◌, ◌≢◌, [], ◌∷◌, true, List, All, IsTrue, min, nat_lt, if◌then◌else◌, pos}
+use Rattle.std.specs.Prelude.{ℕ, ◌+◌, ◌-◌, ◌/◌, ◌^◌, ◌<◌, ◌≤◌, ◌≡◌, [], ◌∷◌, true, List, All, IsTrue, min, nat_lt, if◌then◌else◌, pos, length, slice_index_or}
+use Rattle.std.specs.Int.{next_multiple_of}
 use Rattle.av1_blocks.specs.declared.predict.PredictionMode.{PredictionMode}
+use Rattle.av1_blocks.specs.declared.transform.TxSize.TheVariants.{TX_4X4}
 use Rattle.av1_blocks.specs.declared.transform.TxType.TheVariants.{WHT_WHT}
 use Rattle.av1_blocks.specs.Blocks.{block_width, block_height}
-use Rattle.av1_blocks.specs.Transforms.{valid_av1_transform}
+use Rattle.av1_blocks.specs.Transforms.{coded_area, valid_av1_transform}
 use Rattle.av1_dct.specs.Arithmetic.{FitsBits}
 use Rattle.av1_frame.specs.declared.plane.Plane.{Plane}
 use Rattle.av1_frame.specs.declared.plane.PlaneConfig.{PlaneConfig}
 use Rattle.av1_frame.specs.Areas.{VisibleArea}
 use Rattle.av1_frame.specs.Planes.{sample_at, painted_plane, InPlane, IsWhole}
-use Rattle.av1_itx.specs.Residue.{coded_area}
 use Rattle.av1_plan.specs.declared.header.Header.{Header}
 use Rattle.av1_plan.specs.declared.leaf.Leaf.{Leaf}
 use Rattle.av1_plan.specs.declared.leaf.Triple.{Triple}
-use Rattle.av1_plan.specs.Geometry.{carries_chroma}
+use Rattle.av1_plan.specs.Geometry.{xdec, ydec, plane_width, plane_height, carries_chroma}
 use Rattle.av1_plan.specs.Plan.{LeafValue}
 use Rattle.av1_tile.specs.declared.frame.Frame.{Frame}
 use Rattle.av1_tile.specs.declared.part.Block.{Block}
@@ -85,6 +86,17 @@ pub record StoresAll {T : Type 0} (h : Header) (planes : Planes T) : Type 0 wher
   pub u : Stores (frame_of h 1) planes.u
   pub v : Stores (frame_of h 2) planes.v
 
+-- a plane of these settings has storage for plane `plane` of the frame in whole superblocks, which have sides of 64 luma samples
+pub record HasRoomIn (h : Header) (plane : ℕ) (cfg : PlaneConfig) : Type 0 where
+  pub columns : cfg.xorigin + next_multiple_of (plane_width h plane) (64 / 2 ^ xdec h plane) ≤ cfg.stride
+  pub rows : cfg.yorigin + next_multiple_of (plane_height h plane) (64 / 2 ^ ydec h plane) ≤ cfg.alloc_height
+
+-- and so has each plane
+pub record HasRoom {T : Type 0} (h : Header) (planes : Planes T) : Type 0 where
+  pub y : HasRoomIn h 0 planes.y.plane_cfg
+  pub u : HasRoomIn h 1 planes.u.plane_cfg
+  pub v : HasRoomIn h 2 planes.v.plane_cfg
+
 -- planes laid out alike
 pub record SameLayout {T : Type 0} (p q : Planes T) : Type 0 where
   pub y : q.y.plane_cfg ≡ p.y.plane_cfg
@@ -96,15 +108,20 @@ pub record TripleFits (depth : ℕ) (part : Part) (t : Triple) : Type 0 where
   pub place : t.place < coded_area part.area.tx_size
   pub value : FitsBits (depth + 8) t.value
 
--- a part that is reconstructed: it lies in a plane's storage, its mode and its transforms are built, and its triples fit
+-- the triples rise by their blocks
+abbrev pub AreRising : List Triple → Type 0
+AreRising triples = (i j : ℕ) (d : Triple) → i ≤ j → j < length triples → (slice_index_or triples i d).block ≤ (slice_index_or triples j d).block
+
+-- a part that is reconstructed: it lies in a plane's storage, its mode and its transforms are built, and its triples fit and rise
 pub record PartFits (cfg : PlaneConfig) (h : Header) (part : Part) (triples : List Triple) : Type 0 where
   pub columns : cfg.xorigin + (part.area.x + block_width part.area.size) ≤ cfg.stride
   pub rows : cfg.yorigin + (part.area.y + block_height part.area.size) ≤ cfg.alloc_height
   pub mode : IsPredicted part.mode
   pub step : part.step ≡ pos 0
   pub transform : IsTrue (valid_av1_transform part.area.tx_size part.tx_type)
-  pub lossy : part.tx_type ≢ WHT_WHT
+  pub lossless : part.tx_type ≡ WHT_WHT → part.area.tx_size ≡ TX_4X4
   pub coefficients : All (TripleFits h.depth part) triples
+  pub rising : AreRising triples
 
 -- a leaf and its triples in each plane
 abbrev pub leaf_with : Leaf → List Triple → List Triple → List Triple → LeafValue

@@ -5,7 +5,7 @@ use Rattle.av1_tile.specs.declared.planes.Planes.{Planes}
 use Rattle.av1_tile.specs.Canvas.{Component}
 use Rattle.av1_tile.specs.Edge.{listed}
 use Rattle.av1_tile.specs.Parts.{component, frame_of}
-use Rattle.av1_tile.specs.Place.{plane_of, StoresAll}
+use Rattle.av1_tile.specs.Place.{plane_of, StoresAll, HasRoom}
 use Rattle.av1_frame.specs.Planes.{sample_at}
 
 -- what callers see of a state: the header that it was made for, and its planes
@@ -16,9 +16,10 @@ pub record Picture (T : Type 0) : Type 0 where
 abbrev pub state_header : {T : Type 0} → Picture T → Header
 state_header s = s.header
 
--- the planes store the frame
-abbrev pub IsSound : {T : Type 0} → Picture T → Type 0
-IsSound s = StoresAll s.header s.planes
+-- the planes store the frame, in whole superblocks
+pub record IsSound {T : Type 0} (s : Picture T) : Type 0 where
+  pub stores : StoresAll s.header s.planes
+  pub room : HasRoom s.header s.planes
 
 -- the number of the sample at column x of row y of a plane
 abbrev pub shown : {T : Type 0} → (T → ℕ) → Picture T → Component → ℕ → ℕ → ℕ

@@ -3,9 +3,10 @@
 use Rattle.std.specs.Prelude.{ℕ, ◌/◌, ◌%◌, ◌==◌, List, [], ◌∷◌, ◌++◌, Bool, if◌then◌else◌, ℤ, pos, ◌+ℤ◌, Some, option_map, replicate, slice_set}
 use Rattle.std.specs.List.{fold, flat_map}
 use Rattle.av1_blocks.specs.declared.transform.TxSize.{TxSize}
+use Rattle.av1_blocks.specs.Transforms.{coded_area}
 use Rattle.av1_frame.specs.Areas.{VisibleArea}
 use Rattle.av1_frame.specs.Arithmetic.{clip}
-use Rattle.av1_itx.specs.Residue.{residue, coded_area}
+use Rattle.av1_itx.specs.Residue.{residue}
 use Rattle.av1_plan.specs.declared.header.Header.{Header}
 use Rattle.av1_plan.specs.declared.leaf.Triple.{Triple}
 use Rattle.av1_plan.specs.Plan.{PlanValue}

@@ -1,7 +1,8 @@
 //! One transform block: its prediction, and its residue.
 
-ghost use Rattle.std.specs.Prelude.{◌≡◌, ◌≢◌, ◌⊎◌, ℕ, ◌+◌, ◌-◌, ◌*◌, ◌^◌, ◌<◌, ◌≤◌, length, All, IsTrue, pos};
+ghost use Rattle.std.specs.Prelude.{◌≡◌, ◌⊎◌, ℕ, ◌+◌, ◌-◌, ◌*◌, ◌^◌, ◌<◌, ◌≤◌, length, All, IsTrue, pos};
 ghost use Rattle.av1_blocks.specs.Transforms.{tx_width, tx_height, valid_av1_transform};
+ghost use Rattle.av1_blocks.specs.declared.transform.TxSize.TheVariants.{TX_4X4};
 ghost use Rattle.av1_blocks.specs.declared.transform.TxType.TheVariants.{WHT_WHT};
 ghost use Rattle.av1_frame.specs.Planes.{InPlane, painted_plane};
 ghost use Rattle.av1_frame.specs.Regions.{InStorage, painted};
@@ -9,8 +10,9 @@ ghost use Rattle.av1_tile.specs.Predictors.{predicted, IsPredicted};
 ghost use Rattle.av1_tile.specs.Place.{area_of, placed_edge, Stores, TripleFits};
 ghost use Rattle.av1_tile.specs.Walk.{added, block_residue};
 
-use crate::coefficients::{coded_count, load_coefficients};
-use crate::edge::{prepare_above, prepare_left, reads_left};
+use crate::clip::clip_rows;
+use crate::coefficients::load_coefficients;
+use crate::edge::{half_range, prepare_above, prepare_left, reads_left};
 use crate::frame::Frame;
 use crate::part::{Block, Part, visible_area};
 use crate::predict::predict_intra;
@@ -61,7 +63,8 @@ pub fn predict_block<T: Pixel>(
     );
 }
 
-/// Adds a block's residue to the first rows and columns of the region; `coefficients` is room for its coefficients.
+/// Adds a block's residue to the first rows and columns of the region; `coefficients` is room for its coefficients. Where no triples are
+/// given the residue is zero, and the samples are clipped alone.
 fn add_residue<T: Pixel>(
     output: &mut PlaneRegionMut<'_, T>,
     coefficients: &mut [T::Coeff],
@@ -78,18 +81,24 @@ fn add_residue<T: Pixel>(
     requires depths { (frame.depth ≡ 8) ⊎ ((frame.depth ≡ 10) ⊎ (frame.depth ≡ 12)) }
     requires room { length coefficients.old ≡ 1024 }
     requires valid { IsTrue (valid_av1_transform part.now.area.tx_size part.now.tx_type) }
-    requires lossy { part.now.tx_type ≢ WHT_WHT }
+    requires lossless { part.now.tx_type ≡ WHT_WHT → part.now.area.tx_size ≡ TX_4X4 }
     requires triples { All (TripleFits frame.depth part.now) triples.now }
     ensures painted { output.new ≡ painted output.old (tx_width part.now.area.tx_size) (tx_height part.now.area.tx_size) (λ r c v. T.pixel (added frame (T.num v) (block_residue frame part.now triples.now number r c))) }
     ensures fits { InStorage output.new }
 {
-    let count = coded_count(part.area.tx_size);
+    let tx_size = part.area.tx_size;
+    if triples.is_empty() {
+        let half = half_range(frame);
+        clip_rows(output, half + half - 1, tx_size.width(), tx_size.height());
+        return;
+    }
+    let count = tx_size.coded_area();
     load_coefficients(&mut coefficients[..count], number, triples);
     inverse_transform_add_with(
         scratch,
         &coefficients[..count],
         output,
-        part.area.tx_size,
+        tx_size,
         part.tx_type,
         frame.depth,
     );
@@ -113,7 +122,7 @@ pub fn add_block<T: Pixel>(
     requires height { block.height ≡ tx_height part.now.area.tx_size }
     requires room { length coefficients.old ≡ 1024 }
     requires valid { IsTrue (valid_av1_transform part.now.area.tx_size part.now.tx_type) }
-    requires lossy { part.now.tx_type ≢ WHT_WHT }
+    requires lossless { part.now.tx_type ≡ WHT_WHT → part.now.area.tx_size ≡ TX_4X4 }
     requires triples { All (TripleFits frame.depth part.now) triples.now }
     ensures { plane.new ≡ painted_plane plane.old (area_of block) (λ r c v. T.pixel (added frame (T.num v) (block_residue frame part.now triples.now block.number r c))) }
 {

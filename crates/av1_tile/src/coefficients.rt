@@ -2,21 +2,11 @@
 
 ghost use Rattle.std.specs.Prelude.{◌≡◌, ℕ, ◌≤◌, ◌<◌, ◌-◌, ◌^◌, length, map, pos, neg_ℤ, ◌≤ℤ◌, ◌<ℤ◌, All, replicate, slice_set, if◌then◌else◌};
 ghost use Rattle.std.specs.List.{fold};
-ghost use Rattle.av1_itx.specs.Residue.{coded_area};
 ghost use Rattle.av1_tile.specs.Walk.{with_triple};
 ghost use Rattle.av1_dct.specs.Arithmetic.{FitsBits};
 
-use av1_blocks::TxSize;
 use av1_frame::Coefficient;
 use av1_plan::Triple;
-
-/// How many coefficients of a block are coded: those of its first 32 columns and rows.
-pub fn coded_count(tx_size: TxSize) -> usize
-    ensures value { result ≡ coded_area tx_size }
-    ensures most { result ≤ 1024 }
-{
-    tx_size.width().min(32) * tx_size.height().min(32)
-}
 
 /// Each coefficient becomes 0.
 fn clear<C: Coefficient>(coefficients: &mut [C])

@@ -86,8 +86,9 @@ fn copy_column<T: Pixel>(left: &mut [T], plane: &Plane<T>, frame: Frame, x: usiz
     ensures { map T.num left.new ≡ listed (length left.old) (λ i. sample_at T.num plane.now x (y + min i (frame.height - y - 1))) }
 {
     let last = frame.height - y - 1;
+    let column = plane.region(visible_area(x, y, 1, last + 1));
     for i in 0..left.len() {
-        left[i] = sample_of(plane, frame, x, y + i.min(last));
+        left[i] = column.row(i.min(last))[0];
     }
 }
 

@@ -84,9 +84,9 @@ fn pred_flat<T: Pixel>(output: &mut PlaneRegionMut<'_, T>, value: T, width: usiz
     }
 }
 
-/// The sum of at most 64 samples.
-fn sum_of<T: Pixel>(samples: &[T]) -> u32
-    requires { length samples.now ≤ 64 }
+/// The sum of at most 65,536 samples.
+pub fn sum_of<T: Pixel>(samples: &[T]) -> u32
+    requires { length samples.now ≤ 65536 }
     ensures value { result ≡ sum (map T.num samples.now) }
     ensures bound { result + length samples.now ≤ length samples.now * 2 ^ T.BITS }
     ensures small { result ≤ length samples.now * 65535 }

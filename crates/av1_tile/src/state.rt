@@ -5,7 +5,7 @@ ghost use Rattle.av1_frame.specs.Planes.{sample_at};
 ghost use Rattle.av1_tile.specs.Edge.{listed};
 ghost use Rattle.av1_plan.specs.Geometry.{plane_width, plane_height};
 ghost use Rattle.av1_tile.specs.Parts.{frame_of};
-ghost use Rattle.av1_tile.specs.Place.{Stores};
+ghost use Rattle.av1_tile.specs.Place.{Stores, HasRoomIn};
 
 use crate::buffers::Buffers;
 use crate::frame::Frame;
@@ -44,7 +44,8 @@ fn plane_of_frame<T: Pixel>(
     requires rows { 0 < plane_height header.now p }
     requires few_rows { plane_height header.now p ≤ 65536 }
     requires depth { 8 ≤ header.now.depth }
-    ensures { IfOk result (λ plane. Stores (frame_of header.now p) plane) }
+    ensures stores { IfOk result (λ plane. Stores (frame_of header.now p) plane) }
+    ensures room { IfOk result (λ plane. HasRoomIn header.now p plane.plane_cfg) }
 {
     Plane::new(
         alloc,

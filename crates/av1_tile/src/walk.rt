@@ -1,6 +1,6 @@
 //! The walk: over the blocks of a part, the parts of a leaf and the leaves of a plan.
 
-ghost use Rattle.std.specs.Prelude.{◌≡◌, ◌⊎◌, ℕ, ◌+◌, ◌<◌, ◌≤◌, length, [], All};
+ghost use Rattle.std.specs.Prelude.{◌≡◌, ◌≢◌, ◌⊎◌, ℕ, ◌+◌, ◌<◌, ◌≤◌, length, slice_index_or, [], All};
 ghost use Rattle.std.specs.List.{fold};
 ghost use Rattle.av1_plan.specs.Geometry.{block_count};
 ghost use Rattle.av1_tile.specs.Parts.{component, frame_of, part_of};
@@ -73,7 +73,21 @@ fn reconstruct_block<T: Pixel>(
     );
 }
 
-/// The blocks of a part, in raster order.
+/// How many triples at the front are of block `block`.
+fn leading_count(triples: &[Triple], block: usize) -> usize
+    ensures within { result ≤ length triples.now }
+    ensures own { (k : ℕ) (d : Triple) → k < result → (slice_index_or triples.now k d).block ≡ block }
+    ensures end { (d : Triple) → result < length triples.now → (slice_index_or triples.now result d).block ≢ block }
+{
+    for count in 0..triples.len() {
+        if usize::from(triples[count].block) != block {
+            return count;
+        }
+    }
+    triples.len()
+}
+
+/// The blocks of a part, in raster order. Triples rise by their blocks, so that those of a block follow one another.
 #[tactic(auto, using(crate::proofs::Loops::fold_joined_none, crate::proofs::Loops::fold_joined_more))]
 pub fn reconstruct_part<T: Pixel>(
     plane: &mut Plane<T>,
@@ -90,8 +104,11 @@ pub fn reconstruct_part<T: Pixel>(
     ensures stores { Stores (frame_of header.now part.now.plane) plane.new }
     ensures config { plane.new.plane_cfg ≡ plane.old.plane_cfg }
 {
+    let mut at = 0;
     for n in 0..part.area.block_count() {
-        reconstruct_block(plane, buffers, header, part, triples, n);
+        let end = at + leading_count(&triples[at..], n);
+        reconstruct_block(plane, buffers, header, part, &triples[at..end], n);
+        at = end;
     }
 }
 

@@ -24,14 +24,14 @@ pub reconstruct_leaf-requires-clause-fits : goal.reconstruct_leaf-requires-claus
 unfolding no_leaf
 reconstruct_leaf-requires-clause-fits g c =
     let plan = c.args.plan.now in
-    let a = is_leaf_at plan c.loop-index.index c.leaves.result.now no_leaf _ _ _ c.leaves.ensures (omega (arith, ap length c.leaves.ensures, ap length c.leaves-index-end.ensures)) c.triples.ensures c.triples-in-loop-index.ensures c.triples-in-loop-index-2.ensures in
+    let a = is_leaf_at plan c.loop-index.index c.leaves.result.now no_leaf _ _ _ c.leaves.ensures.items (omega (arith, ap length c.leaves.ensures.items, ap length c.leaves-index-end.ensures.items)) c.triples.ensures c.triples-in-loop-index.ensures c.triples-in-loop-index-2.ensures in
     turn_fits plan c.loop-index.index _ _ _ _ c.header.result.now c.args.planes.now c.loop-index.planes a c.header.ensures c.loop-index.invariant.layout c.requires.fits
 
 pub loop-index-preserved : goal.loop-index-preserved
 unfolding no_leaf
 loop-index-preserved g c =
     let plan = c.args.plan.now in
-    let a = is_leaf_at plan c.loop-index.index c.leaves.result.now no_leaf _ _ _ c.leaves.ensures (omega (arith, ap length c.leaves.ensures, ap length c.leaves-index-end.ensures)) c.triples.ensures c.triples-in-loop-index.ensures c.triples-in-loop-index-2.ensures in
+    let a = is_leaf_at plan c.loop-index.index c.leaves.result.now no_leaf _ _ _ c.leaves.ensures.items (omega (arith, ap length c.leaves.ensures.items, ap length c.leaves-index-end.ensures.items)) c.triples.ensures c.triples-in-loop-index.ensures c.triples-in-loop-index-2.ensures in
     let r = c.reconstruct_leaf.ensures in
     record {
       walked = turn_walked g.T.Pixel.num g.T.Pixel.pixel plan c.loop-index.index _ _ _ _ c.header.result.now c.args.planes.now c.loop-index.planes c.reconstruct_leaf.new.planes a c.header.ensures c.loop-index.invariant.walked r.walked;
@@ -43,5 +43,5 @@ pub returns-clause-walked : goal.returns-clause-walked
 returns-clause-walked g c =
     let plan = c.args.plan.now in
     let all = (plan_value plan).leaves in
-    let past : length all ≤ c.loop-index.index = omega (arith, length_leaves (stored_triples plan) (stored_leaves plan), ap length c.leaves-index-end.ensures) in
+    let past : length all ≤ c.loop-index.index = omega (arith, length_leaves (stored_triples plan) (stored_leaves plan), ap length c.leaves-index-end.ensures.items) in
     c.loop-index.invariant.walked ∙ ap (λ (ls : List LeafValue). fold (fast_step g.T.Pixel.num g.T.Pixel.pixel (plan_value plan).header) c.args.planes.now (steps (plan_value plan).header ls)) (take_all c.loop-index.index all past)

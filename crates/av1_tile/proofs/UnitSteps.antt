@@ -1,0 +1,274 @@
+-- The steps of a plane as the theory of coding order counts them: each prediction, in units of 4 by 4 samples.
+use Rattle.std.proofs.Common.{ℕ, zero, suc, ◌+◌, ◌-◌, ◌*◌, ◌/◌, ◌%◌, ◌^◌, ◌<◌, ◌≤◌, ◌≡◌, max, Bool, true, false, if◌then◌else◌, List, [], ◌∷◌, ◌++◌, map, Option, Some, None, refl, ap, arith, ◌∙◌, sym}
+use Rattle.std.specs.List.{flat_map, filter_map, range_with_len, cons_option, AllByRecursion}
+use Rattle.std.proofs.lemmas.Grind.{flat_map-append}
+use Rattle.std.proofs.lemmas.List.{append-nil, map-append}
+use Rattle.av1_blocks.specs.Blocks.{block_width, block_height}
+use Rattle.av1_blocks.specs.Transforms.{tx_width, tx_height}
+use Rattle.av1_blocks.specs.declared.partition.BlockSize.{BlockSize}
+use Rattle.av1_blocks.specs.declared.partition.BlockSize.TheVariants.{BLOCK_4X4}
+use Rattle.av1_frame.specs.Areas.{VisibleArea}
+use Rattle.av1_order.specs.Plans.{IsWholeFrame, is_inter, coding_in, steps_in}
+use Rattle.av1_order.specs.Steps as order
+use Rattle.av1_order.specs.Steps.{Coding, widened}
+use Rattle.av1_order.proofs.PlanBlocks.{units_in, numbered_in, column_of, row_of, begins, block_is, leaf_numbered, uncovered}
+use Rattle.av1_order.proofs.Plans.{halved_x, halved_y, luma_x, luma_y, place_is, in_plane_block}
+use Rattle.av1_plan.proofs.ValidLeaves.{IsValidLeaf}
+use Rattle.av1_plan.specs.CodingOrder.{IsOnGrid, cells_of, placed}
+use Rattle.av1_plan.specs.Geometry.{xdec, ydec, carries_chroma, covers_plane, plane_size, plane_tx_size, plane_area, block_count}
+use Rattle.av1_plan.specs.Plan.{LeafValue}
+use Rattle.av1_plan.specs.Tree.{Block}
+use Rattle.av1_plan.specs.declared.geometry.TransformBlock.{TransformBlock}
+use Rattle.av1_plan.specs.declared.header.Header.{Header}
+use Rattle.av1_plan.specs.declared.leaf.Triple.{Triple}
+use Rattle.av1_tile.specs.declared.part.Part.{Part}
+use Rattle.av1_tile.specs.Canvas.{Component, Y, U, V, is_same}
+use Rattle.av1_tile.specs.Parts.{number, part_of, triples_in}
+use Rattle.av1_tile.specs.Steps.{Step, predict, add, PlaneStep, joined, block_area, block_steps, steps_at, part_steps, in_component, component_steps, leaf_steps, steps}
+
+-- the prediction of the rectangle a of a part, in units; sx and sy are 1 where the plane is halved
+abbrev pub unit_step : (sx sy : ℕ) → Part → VisibleArea → order.Step
+unit_step sx sy part a = record {
+  block = record {
+    x = part.area.x / 4 * 2 ^ sx;
+    y = part.area.y / 4 * 2 ^ sy;
+    columns = block_width part.area.size / 4 * 2 ^ sx;
+    rows = block_height part.area.size / 4 * 2 ^ sy;
+  };
+  right = (a.x - part.area.x) / 4;
+  down = (a.y - part.area.y) / 4;
+  columns = a.width / 4;
+  rows = a.height / 4;
+}
+
+-- a step in plane j, where it is a prediction in plane k
+abbrev pub unit_in : (sx sy : ℕ) → (k j : Component) → Step → List order.Step
+unit_in sx sy k j (predict part a) = if is_same k j then unit_step sx sy part a ∷ [] else []
+unit_in sx sy k j (add part triples block a) = []
+
+abbrev pub unit_of : (sx sy : ℕ) → Component → PlaneStep → List order.Step
+unit_of sx sy k s = unit_in sx sy k s.component s.step
+
+-- the predictions in plane k
+abbrev pub units : (sx sy : ℕ) → Component → List PlaneStep → List order.Step
+units sx sy k steps = flat_map (unit_of sx sy k) steps
+
+pub same_component : (k : Component) → is_same k k ≡ true
+same_component Y = refl
+same_component U = refl
+same_component V = refl
+
+-- ---- blocks in units
+
+abbrev unit_at : Block → (right down columns rows : ℕ) → order.Step
+unit_at b r d w t = record { block = b; right = r; down = d; columns = w; rows = t }
+
+step_same : (b b' : Block) (r r' d d' w w' t t' : ℕ) → b ≡ b' → r ≡ r' → d ≡ d' → w ≡ w' → t ≡ t' → unit_at b r d w t ≡ unit_at b' r' d' w' t'
+step_same b b' r r' d d' w w' t t' hb hr hd hw ht = cc
+
+abbrev cells_at : (x y columns rows : ℕ) → Block
+cells_at x y w t = record { x = x; y = y; columns = w; rows = t }
+
+block_same : (x x' y y' w w' t t' : ℕ) → x ≡ x' → y ≡ y' → w ≡ w' → t ≡ t' → cells_at x y w t ≡ cells_at x' y' w' t'
+block_same x x' y y' w w' t t' hx hy hw ht = cc
+
+-- a place that was rounded down to whole units, in cells
+place_cells : (s z a : ℕ) → s ≤ 1 → a ≡ 4 * ((z - z % 2 ^ s) / 2 ^ s) → a / 4 * 2 ^ s ≡ z - z % 2 ^ s
+place_cells zero z a h e = omega (arith, e)
+place_cells (suc zero) z a h e = omega (arith, e)
+place_cells (suc (suc s)) z a h e = absurd (omega arith)
+
+widened_width : (size : BlockSize) (s : ℕ) → s ≤ 1 → max (block_width size / 4) (2 ^ s) / 2 ^ s * 2 ^ s ≡ max (block_width size / 4) (2 ^ s)
+widened_width size zero h = omega arith
+widened_width size (suc zero) h = halved size
+  where
+    halved : (size : BlockSize) → max (block_width size / 4) 2 / 2 * 2 ≡ max (block_width size / 4) 2
+    halved BLOCK_4X4 = refl
+    halved _ = refl
+widened_width size (suc (suc s)) h = absurd (omega arith)
+
+widened_height : (size : BlockSize) (s : ℕ) → s ≤ 1 → max (block_height size / 4) (2 ^ s) / 2 ^ s * 2 ^ s ≡ max (block_height size / 4) (2 ^ s)
+widened_height size zero h = omega arith
+widened_height size (suc zero) h = halved size
+  where
+    halved : (size : BlockSize) → max (block_height size / 4) 2 / 2 * 2 ≡ max (block_height size / 4) 2
+    halved BLOCK_4X4 = refl
+    halved _ = refl
+widened_height size (suc (suc s)) h = absurd (omega arith)
+
+side_cells : (m c n : ℕ) → m ≡ 4 * c → c * n ≡ m / 4 * n
+side_cells m c n e = ap (λ z. z * n) (omega (arith, e))
+
+from_place : (a u c : ℕ) → a ≡ 4 * u → (4 * (u + c) - a) / 4 ≡ c
+from_place a u c e = omega (arith, e)
+
+-- ---- the steps of a part
+
+-- steps of one plane, one piece behind the other
+units_joined : (sx sy : ℕ) (k : Component) (f : ℕ → List Step) (ns : List ℕ) → units sx sy k (in_component k (flat_map f ns)) ≡ flat_map (λ n. units sx sy k (in_component k (f n))) ns
+units_joined sx sy k f [] = refl
+units_joined sx sy k f (n ∷ ns) =
+    ap (flat_map (unit_of sx sy k)) (map-append _ (f n) (flat_map f ns)) ∙ flat_map-append (unit_of sx sy k) (in_component k (f n)) (in_component k (flat_map f ns)) ∙ ap (λ l. units sx sy k (in_component k (f n)) ++ l) (units_joined sx sy k f ns)
+
+-- the steps of a block, if there is one
+units_block : (sx sy : ℕ) (k : Component) (part : Part) (triples : List Triple) (n : ℕ) (t : Bool) (block : TransformBlock)
+    → units sx sy k (in_component k (block_steps part triples n (if t then Some block else None))) ≡ (if t then unit_step sx sy part (block_area part block) ∷ [] else [])
+units_block sx sy k part triples n true block = rw (same_component k) refl
+units_block sx sy k part triples n false block = refl
+
+-- steps of another plane
+other_units : (sx sy : ℕ) (k j : Component) → is_same k j ≡ false → (steps : List Step) → units sx sy k (in_component j steps) ≡ []
+other_units sx sy k j e [] = refl
+other_units sx sy k j e (predict part a ∷ steps) = rw (e, other_units sx sy k j e steps) refl
+other_units sx sy k j e (add part triples block a ∷ steps) = other_units sx sy k j e steps
+
+-- one step or none
+chosen : (t : Bool) (s : order.Step) → (if t then s ∷ [] else []) ≡ cons_option (if t then Some s else None) []
+chosen true s = refl
+chosen false s = refl
+
+joined_option : {A : Type 0} (o : Option A) (xs : List A) → cons_option o [] ++ xs ≡ cons_option o xs
+joined_option (Some x) xs = refl
+joined_option None xs = refl
+
+-- pieces of one item or none each
+pieces_kept : {A : Type 0} (f : ℕ → List A) (g : ℕ → Option A) (a n : ℕ) → ((i : ℕ) → i < a + n → f i ≡ cons_option (g i) []) → flat_map f (range_with_len a n) ≡ filter_map g (range_with_len a n)
+pieces_kept f g a zero same = refl
+pieces_kept f g a (suc n) same =
+    ap (λ l. l ++ flat_map f (range_with_len (a + 1) n)) (same a (omega arith)) ∙ ap (λ l. cons_option (g a) [] ++ l) (pieces_kept f g (a + 1) n (λ i h. same i (omega arith))) ∙ joined_option (g a) (filter_map g (range_with_len (a + 1) n))
+
+-- a leaf that is predicted block by block, in plane k of a frame
+module _ (h : Header) (k : Component) (leaf : LeafValue) (frame : IsWholeFrame h) (grid : IsOnGrid h leaf) (valid : IsValidLeaf h leaf) where
+  abbrev sx : ℕ
+  sx = xdec h (number k)
+
+  abbrev sy : ℕ
+  sy = ydec h (number k)
+
+  abbrev coding : Coding
+  coding = coding_in h (number k) leaf
+
+  abbrev part : Part
+  part = part_of h k leaf
+
+  halved_down : sy ≤ 1
+  halved_down = omega (arith, halved_x h (number k), halved_y h (number k))
+
+  pub part_x : part.area.x ≡ 4 * (units_in h (number k) leaf frame grid valid).x
+  unfolding plane_area
+  part_x = place_is (number k) leaf.x sx (halved_x h (number k)) (luma_x h (number k)) grid.cell_x
+
+  pub part_y : part.area.y ≡ 4 * (units_in h (number k) leaf frame grid valid).y
+  unfolding plane_area
+  part_y = place_is (number k) leaf.y sy halved_down (luma_y h (number k)) grid.cell_y
+
+  pub part_columns : block_width part.area.size ≡ 4 * (units_in h (number k) leaf frame grid valid).columns
+  unfolding plane_area plane_size
+  part_columns = (in_plane_block h leaf.size (number k) valid.size).width
+
+  pub part_rows : block_height part.area.size ≡ 4 * (units_in h (number k) leaf frame grid valid).rows
+  unfolding plane_area plane_size
+  part_rows = (in_plane_block h leaf.size (number k) valid.size).height
+
+  pub part_tx_size : part.area.tx_size ≡ plane_tx_size h leaf.size leaf.tx_size (number k)
+  unfolding plane_area
+  part_tx_size = refl
+
+  -- a block that begins at a place in units
+  unit_is : (i j : ℕ) → unit_step sx sy part (block_area part (record { x = 4 * ((units_in h (number k) leaf frame grid valid).x + i); y = 4 * ((units_in h (number k) leaf frame grid valid).y + j) })) ≡ unit_at (widened sx sy (cells_of leaf)) i j coding.columns coding.rows
+  unit_is i j =
+      let b = widened sx sy (cells_of leaf) in
+      let columns : block_width part.area.size / 4 * 2 ^ sx ≡ b.columns = sym (side_cells _ _ (2 ^ sx) part_columns) ∙ widened_width leaf.size sx (halved_x h (number k)) in
+      let rows : block_height part.area.size / 4 * 2 ^ sy ≡ b.rows = sym (side_cells _ _ (2 ^ sy) part_rows) ∙ widened_height leaf.size sy halved_down in
+      step_same _ b _ i _ j _ coding.columns _ coding.rows
+      (block_same _ b.x _ b.y _ b.columns _ b.rows (place_cells sx (leaf.x / 4) _ (halved_x h (number k)) part_x) (place_cells sy (leaf.y / 4) _ halved_down part_y) columns rows)
+      (from_place _ _ i part_x) (from_place _ _ j part_y) (ap (λ t. tx_width t / 4) part_tx_size) (ap (λ t. tx_height t / 4) part_tx_size)
+
+  number_units : (triples : List Triple) (n : ℕ) → n < block_count part.area → units sx sy k (in_component k (steps_at h part triples n)) ≡ cons_option (numbered_in h (number k) leaf frame grid valid n) []
+  unfolding steps_at
+  number_units triples n lt =
+      let x = column_of h (number k) leaf frame grid valid n * coding.columns in
+      let y = row_of h (number k) leaf frame grid valid n * coding.rows in
+      let u = units_in h (number k) leaf frame grid valid in
+      let begins_there = begins h (number k) leaf frame grid valid n in
+      ap (λ o. units sx sy k (in_component k (block_steps part triples n o))) (block_is h (number k) leaf frame grid valid n lt)
+      ∙ units_block sx sy k part triples n begins_there (record { x = 4 * (u.x + x); y = 4 * (u.y + y) })
+      ∙ ap (λ s. if begins_there then s ∷ [] else []) (unit_is x y)
+      ∙ chosen begins_there (unit_at (widened sx sy (cells_of leaf)) x y coding.columns coding.rows)
+
+  -- its steps are those of the theory
+  part_units : (triples : List Triple) → is_inter leaf.kind ≡ false → covers_plane h leaf.x leaf.y leaf.size (number k) ≡ true → units sx sy k (in_component k (part_steps h part triples)) ≡ steps_in h (number k) leaf
+  unfolding joined
+  part_units triples intra covered =
+      units_joined sx sy k (steps_at h part triples) (range_with_len 0 (block_count part.area))
+      ∙ pieces_kept (λ n. units sx sy k (in_component k (steps_at h part triples n))) (numbered_in h (number k) leaf frame grid valid) 0 (block_count part.area) (λ n lt. number_units triples n (omega arith))
+      ∙ sym (leaf_numbered h (number k) leaf frame grid valid intra covered)
+
+-- ---- the steps of leaves
+
+-- a leaf covers a part of luma, and of chroma where it carries it
+abbrev pub covers : Component → Bool → Bool
+covers Y carried = true
+covers U carried = carried
+covers V carried = carried
+
+module _ (h : Header) (sx sy : ℕ) (leaf : LeafValue) where
+  abbrev component_units : (k j : Component) → List order.Step
+  component_units k j = units sx sy k (component_steps h leaf j)
+
+  other_none : (k j : Component) → is_same k j ≡ false → component_units k j ≡ []
+  other_none k j e = other_units sx sy k j e (part_steps h (part_of h j leaf) (triples_in j leaf))
+
+  three : (k : Component) → units sx sy k (flat_map (component_steps h leaf) (Y ∷ U ∷ V ∷ [])) ≡ component_units k Y ++ (component_units k U ++ component_units k V)
+  three k =
+      let u = unit_of sx sy k in
+      let a = component_steps h leaf Y in
+      let b = component_steps h leaf U in
+      let c = component_steps h leaf V in
+      flat_map-append u a (b ++ (c ++ [])) ∙ ap (λ l. flat_map u a ++ l) (flat_map-append u b (c ++ []) ∙ ap (λ l. flat_map u b ++ flat_map u l) (append-nil c))
+
+  one : (k : Component) → units sx sy k (flat_map (component_steps h leaf) (Y ∷ [])) ≡ component_units k Y
+  one k = ap (units sx sy k) (append-nil (component_steps h leaf Y))
+
+  carried_units : (k : Component) (t : Bool) → units sx sy k (flat_map (component_steps h leaf) (if t then Y ∷ U ∷ V ∷ [] else Y ∷ [])) ≡ (if covers k t then component_units k k else [])
+  carried_units Y true = three Y ∙ ap (λ l. component_units Y Y ++ l) (ap (λ l. l ++ component_units Y V) (other_none Y U refl) ∙ other_none Y V refl) ∙ append-nil (component_units Y Y)
+  carried_units Y false = one Y
+  carried_units U true = three U ∙ ap (λ l. l ++ (component_units U U ++ component_units U V)) (other_none U Y refl) ∙ ap (λ l. component_units U U ++ l) (other_none U V refl) ∙ append-nil (component_units U U)
+  carried_units U false = one U ∙ other_none U Y refl
+  carried_units V true = three V ∙ ap (λ l. l ++ (component_units V U ++ component_units V V)) (other_none V Y refl) ∙ ap (λ l. l ++ component_units V V) (other_none V U refl)
+  carried_units V false = one V ∙ other_none V Y refl
+
+  -- a leaf's steps in plane k
+  leaf_only : (k : Component) → units sx sy k (leaf_steps h leaf) ≡ (if covers k (carries_chroma h leaf.x leaf.y leaf.size) then component_units k k else [])
+  unfolding leaf_steps
+  leaf_only k = carried_units k (carries_chroma h leaf.x leaf.y leaf.size)
+
+covers_is : (h : Header) (k : Component) (leaf : LeafValue) → covers_plane h leaf.x leaf.y leaf.size (number k) ≡ covers k (carries_chroma h leaf.x leaf.y leaf.size)
+unfolding covers_plane
+covers_is h Y leaf = refl
+covers_is h U leaf = refl
+covers_is h V leaf = refl
+
+-- a leaf of a frame that is predicted block by block
+pub record IsCodedLeaf (h : Header) (leaf : LeafValue) : Type 0 where
+  pub frame : IsWholeFrame h
+  pub grid : IsOnGrid h leaf
+  pub valid : IsValidLeaf h leaf
+  pub intra : is_inter leaf.kind ≡ false
+
+-- its steps in plane k are those of the theory
+leaf_units : (h : Header) (k : Component) (leaf : LeafValue) → IsCodedLeaf h leaf → units (xdec h (number k)) (ydec h (number k)) k (leaf_steps h leaf) ≡ steps_in h (number k) leaf
+leaf_units h k leaf is = leaf_only h (xdec h (number k)) (ydec h (number k)) leaf k ∙ go (covers k (carries_chroma h leaf.x leaf.y leaf.size)) (covers_is h k leaf)
+  where
+    go : (t : Bool) → covers_plane h leaf.x leaf.y leaf.size (number k) ≡ t → (if t then component_units h (xdec h (number k)) (ydec h (number k)) leaf k k else []) ≡ steps_in h (number k) leaf
+    go true e = part_units h k leaf is.frame is.grid is.valid (triples_in k leaf) is.intra e
+    go false e = sym (uncovered h (number k) leaf is.frame is.grid is.valid e)
+
+-- and those of all leaves
+pub plan_units : (h : Header) (k : Component) (leaves : List LeafValue) → AllByRecursion (IsCodedLeaf h) leaves
+    → units (xdec h (number k)) (ydec h (number k)) k (steps h leaves) ≡ order.plane_steps (xdec h (number k)) (ydec h (number k)) (h.width / 4) (h.height / 4) (map (placed (coding_in h (number k))) leaves)
+plan_units h k [] are = refl
+plan_units h k (leaf ∷ leaves) are =
+    let u = unit_of (xdec h (number k)) (ydec h (number k)) k in
+    flat_map-append u (leaf_steps h leaf) (steps h leaves) ∙ ap (λ l. l ++ units (xdec h (number k)) (ydec h (number k)) k (steps h leaves)) (leaf_units h k leaf are.0)
+    ∙ ap (λ l. steps_in h (number k) leaf ++ l) (plan_units h k leaves are.1)
