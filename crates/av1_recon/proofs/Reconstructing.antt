@@ -25,7 +25,8 @@ shows bytes (Err (Malformed at)) P Q ok refused prefix = refused tt
 shows bytes (Err (NotBuilt at)) P Q ok refused prefix = refused tt
 shows bytes (Err (InvalidLeaf leaf kind)) P Q ok refused prefix = refused tt
 
-if_err : {P Q : ReconError → Type 0} (answer : Answer) → ((e : ReconError) → P e → Q e) → IfErr answer P → IfErr answer Q
+-- an error's fact by another
+pub if_err : {P Q : ReconError → Type 0} (answer : Answer) → ((e : ReconError) → P e → Q e) → IfErr answer P → IfErr answer Q
 if_err (Ok done) f p = tt
 if_err (Err e) f p = f e p
 
@@ -50,7 +51,8 @@ leaves_end (Err (Malformed at)) left left' n e = e
 leaves_end (Err (NotBuilt at)) left left' n e = e
 leaves_end (Err (InvalidLeaf leaf kind)) left left' n e = e
 
-no_read_fault : {A : Type 0} (answer : Answer) → IfErr answer (λ e. (e ≢ ReadFault) × (e ≢ TooLong)) → IsErrOf answer ReadFault → A
+-- reading that ended did not fail
+pub no_read_fault : {A : Type 0} (answer : Answer) → IfErr answer (λ e. (e ≢ ReadFault) × (e ≢ TooLong)) → IsErrOf answer ReadFault → A
 no_read_fault (Ok done) n h = absurd cc
 no_read_fault (Err e) n h = let same : e ≡ ReadFault = cc in absurd (n.0 same)
 
