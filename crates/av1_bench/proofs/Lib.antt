@@ -1,0 +1,3 @@
+pub mod Benching
+pub mod SamplesByBytes
+pub mod Summing
