@@ -1,5 +1,8 @@
 // What bad input, failing reads and failing writes get.
-use super::support::{HALVED_PLAN, PLAN, PLANES, TRIPLE, are_planes, attempt};
+use super::support::{
+    CHROMA_TYPE, FIRST_SIZE, FLAT_PLAN, HALVED_PLAN, ONE_TRIPLE, PLAN, PLANES, SIZE, TRIPLE, TYPE,
+    WIDE_PLAN, are_planes, attempt,
+};
 use av1_recon::{
     InvalidKind, MAX_PLAN_BYTES, MemSink, ReconError, SliceSource, Source, reconstruct_plan,
 };
@@ -37,6 +40,47 @@ fn a_coefficient_past_its_block_or_its_range_is_invalid(rt: HostRuntime) -> Resu
         assert_eq!(rt; answer, Err(ReconError::Invalid { leaf: 0, kind }));
         assert!(rt; taken.is_empty());
     }
+    Ok(())
+}
+
+#[test]
+fn a_block_that_begins_outside_the_frame_has_no_coefficients(rt: HostRuntime) -> Result<(), Fail> {
+    for block in [2, 8] {
+        let mut plan = WIDE_PLAN;
+        plan[ONE_TRIPLE] = block;
+        let (answer, _) = attempt(rt.alloc(), &plan, &[], PLANES)?;
+        let kind = InvalidKind::Coefficient;
+        assert_eq!(rt; answer, Err(ReconError::Invalid { leaf: 0, kind }));
+    }
+    Ok(())
+}
+
+#[test]
+fn a_transform_that_does_not_fit_is_invalid(rt: HostRuntime) -> Result<(), Fail> {
+    let mut longer = PLAN;
+    longer[FIRST_SIZE] = 1;
+    let mut lossless = FLAT_PLAN;
+    lossless[SIZE] = 1;
+    lossless[TYPE] = 16;
+    let mut chroma = FLAT_PLAN;
+    chroma[CHROMA_TYPE] = 16;
+    for plan in [longer.as_slice(), lossless.as_slice(), chroma.as_slice()] {
+        let (answer, _) = attempt(rt.alloc(), plan, &[], PLANES)?;
+        let kind = InvalidKind::Transform;
+        assert_eq!(rt; answer, Err(ReconError::Invalid { leaf: 0, kind }));
+    }
+    Ok(())
+}
+
+#[test]
+fn a_second_mark_is_refused_at_its_place(rt: HostRuntime) -> Result<(), Fail> {
+    let mut plan = Vec::from_slice(rt.alloc(), &FLAT_PLAN)?;
+    plan.extend_from_slice(&FLAT_PLAN[20..])?;
+    plan[4] = 72;
+    plan[34] = 4;
+    let (answer, taken) = attempt(rt.alloc(), &plan, &[], PLANES)?;
+    assert_eq!(rt; answer, Err(ReconError::Malformed { at: 34 }));
+    assert!(rt; taken.is_empty());
     Ok(())
 }
 

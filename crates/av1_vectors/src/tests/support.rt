@@ -21,8 +21,37 @@ pub const HALVED_PLAN: [u8; 34] = [
     0, 0, 0, 0, 4, 0, 0, 0, 0, 0, 0, 0, 0, // the leaf
 ];
 
+/// An 8x8 frame in 4:4:4 at depth 8 with one leaf of 64x64, predicted by DC in blocks of 4x4.
+pub const FLAT_PLAN: [u8; 34] = [
+    0x52, 0x50, 0x4C, 0x31, 8, 0, 8, 0, 8, 2, 0, 0, 0, 0, 0, 0, 0, 0, 0, 0, // the header
+    0, // the mark
+    0, 0, 0, 0, 0, 0, 0, 0, 0, 0, 0, 0, 0, // the leaf
+];
+
+/// A 16x8 frame with one leaf of 64x64 in transforms of 8x8, of which the second has the coefficient 100 at place 0.
+pub const WIDE_PLAN: [u8; 41] = [
+    0x52, 0x50, 0x4C, 0x31, 16, 0, 8, 0, 8, 2, 0, 0, 0, 0, 0, 0, 0, 0, 0, 0, // the header
+    0, // the mark
+    0, 0, 0, 0, 1, 0, 0, 1, 0, 1, 0, 0, 100, 0, 0, 0, 0, 0, 0, 0, // the leaf
+];
+
+/// Where the depth of a plan stands, and of a plan of one leaf the size and the types of its transforms and its first triple.
+pub const DEPTH: usize = 8;
+
+pub const SIZE: usize = 25;
+
+pub const TYPE: usize = 26;
+
+pub const CHROMA_TYPE: usize = 27;
+
+pub const ONE_TRIPLE: usize = 30;
+
 /// Where the modes of the first two leaves stand, and the first leaf's count of luma triples and the triple.
 pub const FIRST_MODE: usize = 24;
+
+pub const FIRST_SIZE: usize = 28;
+
+pub const FIRST_TYPE: usize = 29;
 
 pub const TRIPLE_COUNT: usize = 31;
 
