@@ -11,7 +11,7 @@ use Rattle.av1_dct.specs.Arithmetic.{at, clamp_value}
 use Rattle.av1_dct.specs.Cosine.{by_index}
 use Rattle.av1_frame.specs.Arithmetic.{round_shift}
 use Rattle.av1_itx.specs.Kinds.{row_kind, column_kind}
-use Rattle.av1_itx.specs.Networks.{network}
+use Rattle.av1_itx.specs.Networks.{HasNetwork, network}
 
 -- the lossless type
 abbrev pub is_lossless : TxType → Bool
@@ -28,6 +28,10 @@ row_power size = side_log2 (tx_width size) - 1
 
 abbrev pub column_power : TxSize → ℕ
 column_power size = side_log2 (tx_height size) - 1
+
+-- both transforms of a type exist: one of the length of the size's rows, one of the length of its columns
+abbrev pub HasNetworks : TxSize → TxType → Type 0
+HasNetworks size type = HasNetwork (row_kind type) (row_power size) × HasNetwork (column_kind type) (column_power size)
 
 -- Transform_Row_Shift: by how many bits values are rounded between the rows and the columns
 abbrev pub row_shift : TxSize → ℕ

@@ -1,12 +1,12 @@
 //! Laws of the transforms, each a function that does nothing and ensures it.
 
-ghost use Rattle.std.specs.Prelude.{◌≡◌, ℕ, ◌*◌, ◌^◌, ◌≤◌, IsTrue, ℤ, pos, List, length, replicate, reverse};
+ghost use Rattle.std.specs.Prelude.{◌≡◌, ℕ, ◌*◌, ◌^◌, ◌≤◌, ◌↔◌, IsTrue, max, ℤ, pos, List, length, replicate, reverse};
 ghost use Rattle.std.specs.List.{All};
 ghost use Rattle.av1_blocks.specs.declared.transform.TxSize.{TxSize};
 ghost use Rattle.av1_blocks.specs.declared.transform.TxSize.TheVariants.{TX_4X4};
 ghost use Rattle.av1_blocks.specs.declared.transform.TxType.{TxType};
 ghost use Rattle.av1_blocks.specs.declared.transform.TxType.TheVariants.{WHT_WHT};
-ghost use Rattle.av1_blocks.specs.Transforms.{valid_av1_transform};
+ghost use Rattle.av1_blocks.specs.Transforms.{tx_width, tx_height, valid_av1_transform};
 ghost use Rattle.av1_dct.specs.Arithmetic.{FitsBits};
 ghost use Rattle.av1_dct.specs.Operations.{AreRight32, Operations};
 ghost use Rattle.av1_itx.specs.declared.kinds.TxType1D.{TxType1D};
@@ -14,7 +14,7 @@ ghost use Rattle.av1_itx.specs.declared.kinds.TxType1D.TheVariants.{ADST, FLIPAD
 ghost use Rattle.av1_itx.specs.Kinds.{column_kind, row_kind};
 ghost use Rattle.av1_itx.specs.Walsh.{walsh};
 ghost use Rattle.av1_itx.specs.Networks.{HasNetwork, network, network_with};
-ghost use Rattle.av1_itx.specs.Residue.{column_input, column_power, column_range, residue, row_power};
+ghost use Rattle.av1_itx.specs.Residue.{HasNetworks, column_input, column_range, residue};
 
 /// A law: coefficients that are all zero have no residue, whatever the size, the type and the depth. So a block without coefficients
 /// needs no inverse transform.
@@ -37,9 +37,11 @@ pub fn walsh_loses_nothing()
     ensures { (x y : List ℤ) → length x ≡ 4 → length y ≡ 4 → walsh x ≡ walsh y → x ≡ y }
 {}
 
-/// A law: a type that may be used at a size has a transform of just the length of its rows and one of that of its columns.
-pub fn valid_types_have_networks()
-    ensures { (size : TxSize) (type : TxType) → IsTrue (valid_av1_transform size type) → (type ≡ WHT_WHT → size ≡ TX_4X4) → HasNetwork (row_kind type) (row_power size) × HasNetwork (column_kind type) (column_power size) }
+/// A law: the types that may be used at a size are just those whose two transforms exist there, but that rows and columns take
+/// transforms of one kind where a side has 32 samples or more (the format has no others there, `V_DCT` at 32x32 among them), and
+/// that the lossless type is for 4x4 alone.
+pub fn valid_types_are_those_that_run()
+    ensures { (size : TxSize) (type : TxType) → (IsTrue (valid_av1_transform size type) × (type ≡ WHT_WHT → size ≡ TX_4X4)) ↔ (HasNetworks size type × (32 ≤ max (tx_width size) (tx_height size) → row_kind type ≡ column_kind type)) }
 {}
 
 /// A law: where every input is a number of 18 signed bits and the range is at most 18, no sum and no product of an inverse transform

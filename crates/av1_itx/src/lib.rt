@@ -40,7 +40,7 @@ pub use inverse::{TxScratch, inverse_transform_add, inverse_transform_add_with};
 pub use kinds::{TxType1D, get_1d_tx_types};
 pub use laws::{
     columns_never_wrap, flipped_is_reversed, networks_never_wrap, networks_of_zeros,
-    residue_of_zeros, valid_types_have_networks, walsh_loses_nothing,
+    residue_of_zeros, valid_types_are_those_that_run, walsh_loses_nothing,
 };
 pub use shift::av1_round_shift_array;
 pub use walsh::av1_iwht4;
