@@ -1,0 +1,7 @@
+pub mod Sides
+pub mod Paeth
+pub mod Smooth
+pub mod Neighbours
+pub mod Angles
+pub mod EdgeFilter
+pub mod Upsampling

@@ -1,0 +1,121 @@
+//! The filter of a side before it is interpolated.
+
+ghost use Rattle.std.specs.Prelude.{◌≡◌, ℕ, ◌+◌, ◌-◌, ◌/◌, ◌^◌, ◌<◌, ◌≤◌, [], ◌∷◌, length, unsigned_abs, true, false};
+ghost use Rattle.av1_frame.specs.Samples.{paint_row};
+ghost use Rattle.av1_intra.specs.Sides.{entries, numbers};
+ghost use Rattle.av1_intra.specs.EdgeFilter.{filter_strength, kernel, weighted, filtered};
+
+use av1_frame::Pixel;
+
+/// How strongly a side of a block of `width` by `height` samples is smoothed, from 0 for not at all to 3. `smooth_filter` says
+/// that a neighbour has a smooth mode, and `angle_delta` is how far the angle is from the side's own, 90 above and 180 on the
+/// left, in degrees.
+///
+/// Without `smooth_filter`, sides that sum to 25 to 32 are smoothed even where the angle is less than 4 degrees off.
+///
+/// AV1 specification: intra edge filter strength selection process.
+#[tactic(auto, using(std::proofs::lemmas::Bool::Decides::nat_tests))]
+pub fn select_ief_strength(
+    width: usize,
+    height: usize,
+    smooth_filter: bool,
+    angle_delta: isize,
+) -> u8
+    requires { width + height < 2 ^ 64 }
+    ensures value { result ≡ filter_strength (width + height) smooth_filter (unsigned_abs angle_delta) }
+    ensures at_most { result ≤ 3 }
+{
+    let sides = width + height;
+    let delta = angle_delta.unsigned_abs();
+    if smooth_filter {
+        smooth_strength(sides, delta)
+    } else {
+        plain_strength(sides, delta)
+    }
+}
+
+/// The strength beside a neighbour with a smooth mode.
+#[tactic(auto, using(std::proofs::lemmas::Bool::Decides::nat_tests))]
+fn smooth_strength(sides: usize, delta: usize) -> u8
+    ensures value { result ≡ filter_strength sides true delta }
+    ensures at_most { result ≤ 3 }
+{
+    match (sides, delta) {
+        (..=8, 64..) => 2,
+        (..=8, 40..) => 1,
+        (..=8, _) => 0,
+        (..=16, 48..) => 2,
+        (..=16, 20..) => 1,
+        (..=16, _) => 0,
+        (..=24, ..4) => 0,
+        _ => 3,
+    }
+}
+
+/// The strength where no neighbour has one.
+#[tactic(auto, using(std::proofs::lemmas::Bool::Decides::nat_tests))]
+fn plain_strength(sides: usize, delta: usize) -> u8
+    ensures value { result ≡ filter_strength sides false delta }
+    ensures at_most { result ≤ 3 }
+{
+    match (sides, delta) {
+        (..=8, 56..) => 1,
+        (..=8, _) => 0,
+        (..=16, 40..) => 1,
+        (..=16, _) => 0,
+        (..=32, 32..) => 3,
+        (..=24, 16..) => 2,
+        (..=24, 8..) => 1,
+        (..=24, _) => 0,
+        (..=32, 4..) => 2,
+        (..=32, _) => 1,
+        _ => 3,
+    }
+}
+
+/// Five samples by the weights of `strength`, rounded.
+#[tactic(auto, using(std::proofs::lemmas::Bool::Decides::nat_tests))]
+fn smoothed(strength: u8, a: u32, b: u32, c: u32, d: u32, e: u32) -> u32
+    requires strength { (1 ≤ strength) × (strength ≤ 3) }
+    requires a { a < 2 ^ 16 }
+    requires b { b < 2 ^ 16 }
+    requires c { c < 2 ^ 16 }
+    requires d { d < 2 ^ 16 }
+    requires e { e < 2 ^ 16 }
+    ensures value { result ≡ (weighted (kernel strength) 0 (entries (a ∷ b ∷ c ∷ d ∷ e ∷ [])) + 8) / 16 }
+    ensures within { (top : ℕ) → a < top → b < top → c < top → d < top → e < top → result < top }
+{
+    let sum = match strength {
+        1 => 4 * (b + d) + 8 * c,
+        2 => 5 * (b + d) + 6 * c,
+        _ => 2 * (a + e) + 4 * (b + c + d),
+    };
+    (sum + 8) / 16
+}
+
+/// Smooths the entries of `edge` from 1 to `size - 1` by the kernel of `strength`, from 1 to 3; strength 0 changes nothing.
+/// Entry 0 is the corner and stays, as all entries from `size` on do. Past either end of the first `size` entries its last one
+/// is repeated.
+///
+/// AV1 specification: intra edge filter process.
+pub fn filter_edge<T: Pixel>(size: usize, strength: u8, edge: &mut [T])
+    requires strength { strength ≤ 3 }
+    requires size { size ≤ length edge.old }
+    requires short { length edge.old ≤ 257 }
+    ensures { edge.new ≡ paint_row size (λ e _. T.pixel (filtered (size - 1) strength (numbers T.num edge.old) e)) edge.old }
+{
+    if strength == 0 || size <= 1 {
+        return;
+    }
+    let last = size - 1;
+    let mut a = edge[0].to_u32();
+    let mut b = a;
+    for i in 1..size {
+        let c = edge[i].to_u32();
+        let d = edge[last.min(i + 1)].to_u32();
+        let e = edge[last.min(i + 2)].to_u32();
+        edge[i] = T::from_u32(smoothed(strength, a, b, c, d, e));
+        a = b;
+        b = c;
+    }
+}

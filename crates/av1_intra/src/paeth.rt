@@ -1,0 +1,84 @@
+//! Paeth prediction: each sample is the nearest of its three neighbours.
+//!
+//! AV1 specification: basic intra prediction process.
+
+ghost use Rattle.std.specs.Prelude.{◌≡◌, ℕ, ◌+◌, ◌-◌, ◌*◌, ◌^◌, ◌<◌, ◌≤◌, length, ◌⊎◌};
+ghost use Rattle.av1_frame.specs.Samples.{paint_row};
+ghost use Rattle.av1_frame.specs.Regions.{InStorage, painted};
+ghost use Rattle.av1_intra.specs.Sides.{numbers, from_top};
+ghost use Rattle.av1_intra.specs.Paeth.{paeth};
+
+use crate::samples::number_at;
+use av1_frame::{Pixel, PlaneRegionMut};
+
+/// The one of `left`, `above` and `corner` that is nearest to `above + left - corner`.
+#[tactic(auto, using(std::proofs::lemmas::Bool::Decides::nat_tests), unfolding(crate::specs::Paeth::paeth))]
+fn nearest(above: u32, left: u32, corner: u32) -> u32
+    requires above { above < 2 ^ 16 }
+    requires left { left < 2 ^ 16 }
+    requires corner { corner < 2 ^ 16 }
+    ensures value { result ≡ paeth above left corner }
+    ensures one { (result ≡ above) ⊎ ((result ≡ left) ⊎ (result ≡ corner)) }
+{
+    let left_off = above.abs_diff(corner);
+    let above_off = left.abs_diff(corner);
+    let corner_off = (above + left).abs_diff(2 * corner);
+    if left_off <= above_off && left_off <= corner_off {
+        left
+    } else if above_off <= corner_off {
+        above
+    } else {
+        corner
+    }
+}
+
+/// The first `width` samples of a row beside the sample at place `k` of `left`.
+#[tactic(auto, using(av1_frame::proofs::Paint::paint_row_none, av1_frame::proofs::Paint::paint_row_more))]
+fn paeth_row<T: Pixel>(
+    row: &mut [T],
+    above: &[T],
+    left: &[T],
+    k: usize,
+    above_left: T,
+    width: usize,
+)
+    requires row_long { width ≤ length row.old }
+    requires above_long { width ≤ length above.now }
+    requires left_long { k < length left.now }
+    ensures { row.new ≡ paint_row width (λ c _. T.pixel (paeth (numbers T.num above.now c) (numbers T.num left.now k) (T.num above_left))) row.old }
+{
+    let side = number_at(left, k);
+    let corner = above_left.to_u32();
+    for c in 0..width {
+        row[c] = T::from_u32(nearest(number_at(above, c), side, corner));
+    }
+}
+
+/// Predicts the first `height` rows and `width` columns of `output`: each sample becomes the one of the sample `above` its
+/// column, the `left` one of its row and the corner `above_left` that is nearest to the first two less the third.
+///
+/// `above` runs from the left, and `left` from the bottom up: its sample at `height - 1` is that of the first row. Samples past
+/// the first `width` and `height` are not read.
+#[tactic(auto, using(av1_frame::proofs::Regions::painted_none, av1_frame::proofs::Regions::painted_in_storage, av1_frame::proofs::Regions::painted_more))]
+pub fn pred_paeth<T: Pixel>(
+    output: &mut PlaneRegionMut<'_, T>,
+    above: &[T],
+    left: &[T],
+    above_left: T,
+    width: usize,
+    height: usize,
+)
+    requires fits { InStorage output.old }
+    requires columns { width ≤ output.old.place.width }
+    requires rows { height ≤ output.old.place.height }
+    requires above_long { width ≤ length above.now }
+    requires left_long { height ≤ length left.now }
+    ensures painted { output.new ≡ painted output.old width height
+        (λ r c _. T.pixel (paeth (numbers T.num above.now c) (from_top T.num height left.now r) (T.num above_left))) }
+    ensures fits { InStorage output.new }
+{
+    for r in 0..height {
+        let k = height - 1 - r;
+        paeth_row(output.row_mut(r), above, left, k, above_left, width);
+    }
+}

@@ -1,0 +1,230 @@
+//! Smooth prediction: each sample is a weighted mean of those on the sides.
+//!
+//! AV1 specification: smooth intra prediction process.
+
+ghost use Rattle.std.specs.Prelude.{◌≡◌, ℕ, ◌+◌, ◌-◌, ◌*◌, ◌/◌, ◌^◌, ◌<◌, ◌≤◌, length, slice_index};
+ghost use Rattle.av1_frame.specs.Samples.{paint_row};
+ghost use Rattle.av1_frame.specs.Regions.{InStorage, painted};
+ghost use Rattle.av1_intra.specs.Sides.{numbers, from_top, IsBlockSide};
+ghost use Rattle.av1_intra.specs.Smooth.{weights, mix, smooth, smooth_v, smooth_h};
+
+use crate::samples::number_at;
+use av1_frame::{Pixel, PlaneRegionMut};
+
+const WEIGHTS_4: [u8; 4] = [255, 149, 85, 64];
+
+const WEIGHTS_8: [u8; 8] = [255, 197, 146, 105, 73, 50, 37, 32];
+
+const WEIGHTS_16: [u8; 16] = [
+    255, 225, 196, 170, 145, 123, 102, 84, 68, 54, 43, 33, 26, 20, 17, 16,
+];
+
+const WEIGHTS_32: [u8; 32] = [
+    255, 240, 225, 210, 196, 182, 169, 157, 145, 133, 122, 111, 101, 92, 83, 74, 66, 59, 52, 45,
+    39, 34, 29, 25, 21, 17, 14, 12, 10, 9, 8, 8,
+];
+
+const WEIGHTS_64: [u8; 64] = [
+    255, 248, 240, 233, 225, 218, 210, 203, 196, 189, 182, 176, 169, 163, 156, 150, 144, 138, 133,
+    127, 121, 116, 111, 106, 101, 96, 91, 86, 82, 77, 73, 69, 65, 61, 57, 54, 50, 47, 44, 41, 38,
+    35, 32, 29, 27, 25, 22, 20, 18, 16, 15, 13, 12, 10, 9, 8, 7, 6, 6, 5, 5, 4, 4, 4,
+];
+
+/// The weights of the places of a side of `n` samples, in 256ths, from the first place on.
+#[tactic(auto, using(std::proofs::lemmas::Bool::Decides::nat_tests), unfolding(crate::specs::Smooth::weights))]
+fn smooth_weights(n: usize) -> &'static [u8]
+    requires { IsBlockSide n }
+    ensures value { result.now ≡ weights n }
+    ensures len { length result.now ≡ n }
+{
+    match n {
+        4 => &WEIGHTS_4,
+        8 => &WEIGHTS_8,
+        16 => &WEIGHTS_16,
+        32 => &WEIGHTS_32,
+        _ => &WEIGHTS_64,
+    }
+}
+
+/// 256 times the mean of `a`, by `weight` in 256ths, and `b`.
+#[tactic(auto, using(crate::proofs::Mixes::mix_within))]
+fn mixed(weight: u8, a: u32, b: u32) -> u32
+    requires a { a < 2 ^ 16 }
+    requires b { b < 2 ^ 16 }
+    ensures value { result ≡ mix weight a b }
+    ensures few { result < 2 ^ 24 }
+    ensures within { (top : ℕ) → a < top → b < top → result + 256 ≤ 256 * top }
+{
+    let weight = u32::from(weight);
+    weight * a + (256 - weight) * b
+}
+
+/// The first `width` samples of row `r` of a block.
+#[tactic(auto, using(av1_frame::proofs::Paint::paint_row_none, av1_frame::proofs::Paint::paint_row_more))]
+fn smooth_row<T: Pixel>(
+    row: &mut [T],
+    above: &[T],
+    left: &[T],
+    row_weights: &[u8],
+    column_weights: &[u8],
+    r: usize,
+    width: usize,
+    height: usize,
+)
+    requires row_long { width ≤ length row.old }
+    requires some_columns { 0 < width }
+    requires above_long { width ≤ length above.now }
+    requires left_long { height ≤ length left.now }
+    requires r { r < height }
+    requires row_weights { height ≤ length row_weights.now }
+    requires column_weights { width ≤ length column_weights.now }
+    ensures { row.new ≡ paint_row width (λ c _. T.pixel ((mix (slice_index row_weights.now r) (numbers T.num above.now c) (numbers T.num left.now 0) + mix (slice_index column_weights.now c) (numbers T.num left.now (height - 1 - r)) (numbers T.num above.now (width - 1)) + 256) / 512)) row.old }
+{
+    let bottom = number_at(left, 0);
+    let side = number_at(left, height - 1 - r);
+    let right = number_at(above, width - 1);
+    let row_weight = row_weights[r];
+    for c in 0..width {
+        let down = mixed(row_weight, number_at(above, c), bottom);
+        let across = mixed(column_weights[c], side, right);
+        row[c] = T::from_u32((down + across + 256) / 512);
+    }
+}
+
+/// The first `width` samples of a row, from the samples above it and the lowest one on the left.
+#[tactic(auto, using(av1_frame::proofs::Paint::paint_row_none, av1_frame::proofs::Paint::paint_row_more))]
+fn smooth_v_row<T: Pixel>(row: &mut [T], above: &[T], left: &[T], weight: u8, width: usize)
+    requires row_long { width ≤ length row.old }
+    requires above_long { width ≤ length above.now }
+    requires left_long { 0 < length left.now }
+    ensures { row.new ≡ paint_row width (λ c _. T.pixel ((mix weight (numbers T.num above.now c) (numbers T.num left.now 0) + 128) / 256)) row.old }
+{
+    let bottom = number_at(left, 0);
+    for c in 0..width {
+        let down = mixed(weight, number_at(above, c), bottom);
+        row[c] = T::from_u32((down + 128) / 256);
+    }
+}
+
+/// The first `width` samples of a row, from the sample at place `k` of `left` and the last one above.
+#[tactic(auto, using(av1_frame::proofs::Paint::paint_row_none, av1_frame::proofs::Paint::paint_row_more))]
+fn smooth_h_row<T: Pixel>(
+    row: &mut [T],
+    above: &[T],
+    left: &[T],
+    weights: &[u8],
+    k: usize,
+    width: usize,
+)
+    requires row_long { width ≤ length row.old }
+    requires some_columns { 0 < width }
+    requires above_long { width ≤ length above.now }
+    requires left_long { k < length left.now }
+    requires weights { width ≤ length weights.now }
+    ensures { row.new ≡ paint_row width (λ c _. T.pixel ((mix (slice_index weights.now c) (numbers T.num left.now k) (numbers T.num above.now (width - 1)) + 128) / 256)) row.old }
+{
+    let side = number_at(left, k);
+    let right = number_at(above, width - 1);
+    for c in 0..width {
+        let across = mixed(weights[c], side, right);
+        row[c] = T::from_u32((across + 128) / 256);
+    }
+}
+
+/// Predicts the first `height` rows and `width` columns of `output`: each sample becomes the mean of that of `pred_smooth_v`
+/// and that of `pred_smooth_h`, rounded once.
+///
+/// `above` runs from the left, and `left` from the bottom up: its first sample is that of the lowest row. Samples past the
+/// first `width` and `height` are not read.
+#[tactic(auto, using(av1_frame::proofs::Regions::painted_none, av1_frame::proofs::Regions::painted_in_storage, av1_frame::proofs::Regions::painted_more))]
+pub fn pred_smooth<T: Pixel>(
+    output: &mut PlaneRegionMut<'_, T>,
+    above: &[T],
+    left: &[T],
+    width: usize,
+    height: usize,
+)
+    requires fits { InStorage output.old }
+    requires columns { width ≤ output.old.place.width }
+    requires rows { height ≤ output.old.place.height }
+    requires width { IsBlockSide width }
+    requires height { IsBlockSide height }
+    requires above_long { width ≤ length above.now }
+    requires left_long { height ≤ length left.now }
+    ensures painted { output.new ≡ painted output.old width height
+        (λ r c _. T.pixel (smooth width height (numbers T.num above.now) (from_top T.num height left.now) r c)) }
+    ensures fits { InStorage output.new }
+{
+    let row_weights = smooth_weights(height);
+    let column_weights = smooth_weights(width);
+    for r in 0..height {
+        smooth_row(
+            output.row_mut(r),
+            above,
+            left,
+            row_weights,
+            column_weights,
+            r,
+            width,
+            height,
+        );
+    }
+}
+
+/// Predicts the first `height` rows and `width` columns of `output`: each sample becomes a mean of the sample in its row of
+/// `left` and the last one `above`, which weighs the more the further to the right the column is.
+///
+/// `above` runs from the left, and `left` from the bottom up. Samples past the first `width` and `height` are not read.
+#[tactic(auto, using(av1_frame::proofs::Regions::painted_none, av1_frame::proofs::Regions::painted_in_storage, av1_frame::proofs::Regions::painted_more))]
+pub fn pred_smooth_h<T: Pixel>(
+    output: &mut PlaneRegionMut<'_, T>,
+    above: &[T],
+    left: &[T],
+    width: usize,
+    height: usize,
+)
+    requires fits { InStorage output.old }
+    requires columns { width ≤ output.old.place.width }
+    requires rows { height ≤ output.old.place.height }
+    requires width { IsBlockSide width }
+    requires above_long { width ≤ length above.now }
+    requires left_long { height ≤ length left.now }
+    ensures painted { output.new ≡ painted output.old width height
+        (λ r c _. T.pixel (smooth_h width (numbers T.num above.now) (from_top T.num height left.now) r c)) }
+    ensures fits { InStorage output.new }
+{
+    let weights = smooth_weights(width);
+    for r in 0..height {
+        let k = height - 1 - r;
+        smooth_h_row(output.row_mut(r), above, left, weights, k, width);
+    }
+}
+
+/// Predicts the first `height` rows and `width` columns of `output`: each sample becomes a mean of the sample in its column
+/// of `above` and the lowest one on the left, which weighs the more the further down the row is.
+///
+/// `above` runs from the left, and `left` from the bottom up: its first sample is the lowest. Samples past the first `width`
+/// and `height` are not read.
+#[tactic(auto, using(av1_frame::proofs::Regions::painted_none, av1_frame::proofs::Regions::painted_in_storage, av1_frame::proofs::Regions::painted_more))]
+pub fn pred_smooth_v<T: Pixel>(
+    output: &mut PlaneRegionMut<'_, T>,
+    above: &[T],
+    left: &[T],
+    width: usize,
+    height: usize,
+)
+    requires fits { InStorage output.old }
+    requires columns { width ≤ output.old.place.width }
+    requires rows { height ≤ output.old.place.height }
+    requires height { IsBlockSide height }
+    requires above_long { width ≤ length above.now }
+    requires left_long { height ≤ length left.now }
+    ensures painted { output.new ≡ painted output.old width height
+        (λ r c _. T.pixel (smooth_v height (numbers T.num above.now) (from_top T.num height left.now) r c)) }
+    ensures fits { InStorage output.new }
+{
+    let weights = smooth_weights(height);
+    for r in 0..height {
+        smooth_v_row(output.row_mut(r), above, left, weights[r], width);
+    }
+}
