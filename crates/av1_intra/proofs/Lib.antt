@@ -3,3 +3,7 @@ pub mod Depth
 pub mod RowReads
 pub mod Filter
 pub mod Doubled
+pub mod SideEntries
+pub mod Derivatives
+pub mod Ranges
+pub mod Places

@@ -28,3 +28,11 @@ near_mode p (angle ∷ angles) = (nat_le (distance p angle) 9 && distance p angl
 -- whether an edge is interpolated along the angle p: one that a mode and its step give, or one with a derivative; 90 and 180 copy the edge
 unfoldable pub is_interpolated : ℕ → Bool
 is_interpolated p = not (derivative p == 0) || (near_mode p mode_angles && not (p == 90 || p == 180))
+
+-- the derivatives of an angle between 90 and 180, from either side
+pub record ArePair (dx dy : ℕ) : Type 0 where
+  pub above : 0 < dx
+  pub left : 0 < dy
+  pub product : dx * dy ≤ 4096
+  pub few_above : dx ≤ 4096
+  pub few_left : dy ≤ 4096

@@ -5,3 +5,4 @@ pub mod Neighbours
 pub mod Angles
 pub mod EdgeFilter
 pub mod Upsampling
+pub mod Directional

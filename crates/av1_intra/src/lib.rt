@@ -2,14 +2,18 @@
 #![tactic(auto)]
 
 mod angle;
+mod directional;
 mod edge_filter;
+mod interpolation;
 mod neighbours;
 mod paeth;
+mod prepared_side;
 mod samples;
 mod smooth;
 mod upsampling;
 
 pub use angle::dr_intra_derivative;
+pub use directional::pred_directional;
 pub use edge_filter::{filter_edge, select_ief_strength};
 pub use neighbours::IntraEdgeFilterParameters;
 pub use paeth::pred_paeth;

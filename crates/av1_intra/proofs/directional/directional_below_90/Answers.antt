@@ -1,0 +1,35 @@
+use Rattle.std.proofs.Common.{◌≡◌, ℕ, ◌+◌, ◌*◌, min, map, take, arith, ap, ◌∙◌, subst, sym}
+use mathlib.Core.Path.{fun_ext}
+use Rattle.av1_frame.specs.Regions.{painted}
+use Rattle.av1_intra.specs.Sides.{Side, entries, distance}
+use Rattle.av1_intra.specs.Directional.{side, below_90, prepared, doubling, Within}
+use Rattle.av1_intra.proofs.Derivatives.{below_90_few}
+use Rattle.av1_intra.proofs.SideEntries.{side_within, prepared_within}
+use Rattle.av1_intra.proofs.Ranges.{is_below_90}
+use Rattle.av1_intra.proofs.directional.directional_below_90.Goals as goal
+
+pub rows_below_90-requires-clause-dx : goal.rows_below_90-requires-clause-dx
+rows_below_90-requires-clause-dx g c =
+    let h = below_90_few c.args.block.p_angle c.requires.angle c.requires.range in omega arith
+
+pub rows_below_90-requires-clause-within : goal.rows_below_90-requires-clause-within
+rows_below_90-requires-clause-within g c =
+    let b = c.args.block in
+    let w = side_within g.T.Pixel.num b.bit_depth (b.width + b.height) c.args.corner c.args.above.now c.requires.corner_within c.requires.above_within in
+    subst (Within b.bit_depth) (sym c.prepared_above-above.ensures.numbers) (prepared_within b.bit_depth b.smooth_filter _ _ _ _ _ w)
+
+pub returns-clause-painted : goal.returns-clause-painted
+returns-clause-painted g c = λ left.
+    let out = c.args.output.now in
+    let b = c.args.block in
+    let s = b.width + b.height in
+    let A = side (g.T.Pixel.num c.args.corner) (take s (map g.T.Pixel.num c.args.above.now)) in
+    let P = λ (n : ℕ). prepared b.bit_depth b.smooth_filter s (distance b.p_angle 90) (n + b.height) s A in
+    let E : entries c.prepared_above-above.result.numbers ≡ P (min b.width b.visible_columns) = c.prepared_above-above.ensures.numbers ∙ ap P c.min.ensures in
+    let F = λ (B : Side) (u dx i j : ℕ). below_90 b.bit_depth B u s ((i + 1) * dx + 64) j in
+    let G = λ (f : ℕ → ℕ → ℕ). painted out b.width b.height (λ i j _. g.T.Pixel.pixel (f i j)) in
+    c.rows_below_90.ensures.painted
+    ∙ ap (λ (B : Side). G (F B c.prepared_above-above.result.doubling c.dr_intra_derivative-dx.result)) E
+    ∙ ap (λ (u : ℕ). G (F (P (min b.width b.visible_columns)) u c.dr_intra_derivative-dx.result)) c.prepared_above-above.ensures.doubling
+    ∙ ap (λ (dx : ℕ). G (F (P (min b.width b.visible_columns)) (doubling b.smooth_filter s (distance b.p_angle 90)) dx)) c.dr_intra_derivative-dx.ensures
+    ∙ ap G (fun_ext (λ i. fun_ext (λ j. is_below_90 b (g.T.Pixel.num c.args.corner) (map g.T.Pixel.num c.args.above.now) left i j c.requires.range)))

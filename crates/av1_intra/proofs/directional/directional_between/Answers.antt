@@ -1,0 +1,48 @@
+use Rattle.std.proofs.Common.{◌≡◌, ℕ, ◌+◌, ◌-◌, min, map, take, reverse, ap, ◌∙◌, subst, sym}
+use mathlib.Core.Path.{fun_ext}
+use Rattle.av1_frame.specs.Regions.{painted}
+use Rattle.av1_intra.specs.Sides.{Side, entries, distance}
+use Rattle.av1_intra.specs.Angles.{derivative, ArePair}
+use Rattle.av1_intra.specs.Directional.{side, between, prepared, doubling}
+use Rattle.av1_intra.proofs.Derivatives.{between_pair}
+use Rattle.av1_intra.proofs.Ranges.{is_between}
+use Rattle.av1_intra.proofs.directional.directional_between.Goals as goal
+
+pub rows_between-requires-clause-pair : goal.rows_between-requires-clause-pair
+rows_between-requires-clause-pair g c =
+    let p = c.args.block.p_angle in
+    let h = between_pair p c.requires.angle c.requires.low c.requires.high in
+    subst (ArePair c.dr_intra_derivative-dx.result) (sym c.dr_intra_derivative-dy.ensures) (subst (λ n. ArePair n (derivative (p - 90))) (sym c.dr_intra_derivative-dx.ensures) h)
+
+pub returns-clause-painted : goal.returns-clause-painted
+returns-clause-painted g c =
+    let out = c.args.output.now in
+    let b = c.args.block in
+    let p = b.p_angle in
+    let s = b.width + b.height in
+    let m = min b.width b.visible_columns in
+    let n = min b.height b.visible_rows in
+    let above = map g.T.Pixel.num c.args.above.now in
+    let left = reverse (map g.T.Pixel.num c.args.left.now) in
+    let A = side (g.T.Pixel.num c.args.corner) (take b.width above) in
+    let L = side (g.T.Pixel.num c.args.corner) (take b.height left) in
+    let P = λ (m : ℕ). prepared b.bit_depth b.smooth_filter s (distance p 90) m b.width A in
+    let Q = λ (n : ℕ). prepared b.bit_depth b.smooth_filter s (distance p 180) n b.height L in
+    let U = doubling b.smooth_filter s (distance p 90) in
+    let V = doubling b.smooth_filter s (distance p 180) in
+    let x = c.prepared_above-above in
+    let y = c.prepared_left-left in
+    let E : entries x.result.numbers ≡ P m = x.ensures.numbers ∙ ap P c.min-columns.ensures in
+    let D : entries y.result.numbers ≡ Q n = y.ensures.numbers ∙ ap Q c.min-rows.ensures in
+    let F = λ (B : Side) (u : ℕ) (C : Side) (v dx dy i j : ℕ). between b.bit_depth B u C v dx dy i j in
+    let G = λ (f : ℕ → ℕ → ℕ). painted out b.width b.height (λ i j _. g.T.Pixel.pixel (f i j)) in
+    let dx = c.dr_intra_derivative-dx in
+    let dy = c.dr_intra_derivative-dy in
+    c.rows_between.ensures.painted
+    ∙ ap (λ (B : Side). G (F B x.result.doubling (entries y.result.numbers) y.result.doubling dx.result dy.result)) E
+    ∙ ap (λ (u : ℕ). G (F (P m) u (entries y.result.numbers) y.result.doubling dx.result dy.result)) x.ensures.doubling
+    ∙ ap (λ (B : Side). G (F (P m) U B y.result.doubling dx.result dy.result)) D
+    ∙ ap (λ (u : ℕ). G (F (P m) U (Q n) u dx.result dy.result)) y.ensures.doubling
+    ∙ ap (λ (d : ℕ). G (F (P m) U (Q n) V d dy.result)) dx.ensures
+    ∙ ap (λ (d : ℕ). G (F (P m) U (Q n) V (derivative (180 - p)) d)) dy.ensures
+    ∙ ap G (fun_ext (λ i. fun_ext (λ j. is_between b (g.T.Pixel.num c.args.corner) above left i j c.requires.low c.requires.high)))

@@ -1,0 +1,37 @@
+use Rattle.std.proofs.Common.{◌≡◌, ℕ, ◌+◌, ◌*◌, min, map, take, reverse, arith, ap, ◌∙◌}
+use mathlib.Core.Path.{fun_ext}
+use Rattle.av1_frame.specs.Regions.{painted}
+use Rattle.av1_intra.specs.Sides.{Side, entries, distance}
+use Rattle.av1_intra.specs.Directional.{side, at, prepared, doubling}
+use Rattle.av1_intra.proofs.Derivatives.{past_180_few}
+use Rattle.av1_intra.proofs.Ranges.{is_past_180}
+use Rattle.av1_intra.proofs.directional.directional_past_180.Goals as goal
+
+pub overflow_sub-block : goal.overflow_sub-block
+overflow_sub-block g c =
+    let h = past_180_few c.args.block.p_angle c.requires.angle c.requires.range in omega arith
+
+pub prepared_left-left-requires-clause-angle : goal.prepared_left-left-requires-clause-angle
+prepared_left-left-requires-clause-angle g c =
+    let h = past_180_few c.args.block.p_angle c.requires.angle c.requires.range in omega arith
+
+pub rows_past_180-requires-clause-dy : goal.rows_past_180-requires-clause-dy
+rows_past_180-requires-clause-dy g c =
+    let h = past_180_few c.args.block.p_angle c.requires.angle c.requires.range in omega arith
+
+pub returns-clause-painted : goal.returns-clause-painted
+returns-clause-painted g c = λ above.
+    let out = c.args.output.now in
+    let b = c.args.block in
+    let s = b.width + b.height in
+    let left = reverse (map g.T.Pixel.num c.args.left.now) in
+    let L = side (g.T.Pixel.num c.args.corner) (take (b.height + b.width) left) in
+    let P = λ (n : ℕ). prepared b.bit_depth b.smooth_filter s (distance b.p_angle 180) (n + b.width) (b.height + b.width) L in
+    let E : entries c.prepared_left-left.result.numbers ≡ P (min b.height b.visible_rows) = c.prepared_left-left.ensures.numbers ∙ ap P c.min.ensures in
+    let F = λ (B : Side) (u dy i j : ℕ). at b.bit_depth B u ((j + 1) * dy + 64) i in
+    let G = λ (f : ℕ → ℕ → ℕ). painted out b.width b.height (λ i j _. g.T.Pixel.pixel (f i j)) in
+    c.rows_past_180.ensures.painted
+    ∙ ap (λ (B : Side). G (F B c.prepared_left-left.result.doubling c.dr_intra_derivative-dy.result)) E
+    ∙ ap (λ (u : ℕ). G (F (P (min b.height b.visible_rows)) u c.dr_intra_derivative-dy.result)) c.prepared_left-left.ensures.doubling
+    ∙ ap (λ (dy : ℕ). G (F (P (min b.height b.visible_rows)) (doubling b.smooth_filter s (distance b.p_angle 180)) dy)) c.dr_intra_derivative-dy.ensures
+    ∙ ap G (fun_ext (λ i. fun_ext (λ j. is_past_180 b (g.T.Pixel.num c.args.corner) above left i j c.requires.range)))

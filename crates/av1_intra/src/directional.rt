@@ -1,0 +1,248 @@
+//! Directional prediction: a sample is what a line through it meets on a side.
+//!
+//! AV1 specification: directional intra prediction process.
+
+ghost use Rattle.std.specs.Prelude.{◌≡◌, ℕ, ◌+◌, ◌-◌, ◌*◌, ◌^◌, ◌<◌, ◌≤◌, length, List, All, map, reverse, if◌then◌else◌, nat_lt, IsTrue, pos, ◌-ℤ◌, ◌<ℤ◌, ◌≤ℤ◌, FitsSigned};
+ghost use Rattle.std.specs.Int.{w64};
+ghost use Rattle.std.specs.Option.{option_map};
+ghost use Rattle.av1_frame.specs.Regions.{InStorage, painted};
+ghost use Rattle.av1_intra.specs.Sides.{numbers};
+ghost use Rattle.av1_intra.specs.Neighbours.{uses_smooth_filter};
+ghost use Rattle.av1_intra.specs.Angles.{is_interpolated};
+ghost use Rattle.av1_intra.specs.Directional.{block_at, directional};
+
+use crate::angle::dr_intra_derivative;
+use crate::interpolation::{rows_below_90, rows_between, rows_past_180};
+use crate::neighbours::IntraEdgeFilterParameters;
+use crate::prepared_side::{prepared_above, prepared_left};
+use av1_frame::{Pixel, PlaneRegionMut};
+
+/// A block that is predicted along a direction.
+#[derive(Clone, Copy, Debug, PartialEq, Eq)]
+pub(crate) struct DirectionalBlock {
+    /// The angle, in degrees.
+    pub(crate) p_angle: usize,
+    /// How many columns it has.
+    pub(crate) width: usize,
+    /// How many rows it has.
+    pub(crate) height: usize,
+    /// The depth of its samples, in bits.
+    pub(crate) bit_depth: usize,
+    /// Whether a neighbour has a smooth mode, where the edge filter is on.
+    pub(crate) smooth_filter: Option<bool>,
+    /// How many visible columns of the plane there are from its first on.
+    pub(crate) visible_columns: usize,
+    /// How many visible rows of the plane there are from its first on.
+    pub(crate) visible_rows: usize,
+}
+
+/// The samples of an angle below 90.
+fn directional_below_90<T: Pixel>(
+    output: &mut PlaneRegionMut<'_, T>,
+    above: &[T],
+    corner: T,
+    block: DirectionalBlock,
+)
+    requires fits { InStorage output.old }
+    requires columns { block.width ≤ output.old.place.width }
+    requires rows { block.height ≤ output.old.place.height }
+    requires width { block.width ≤ 64 }
+    requires height { block.height ≤ 64 }
+    requires angle { IsTrue (is_interpolated block.p_angle) }
+    requires range { block.p_angle < 90 }
+    requires long { block.width + block.height ≤ length above.now }
+    requires depth { block.bit_depth ≤ T.BITS }
+    requires above_within { All (λ v. T.num v < 2 ^ block.bit_depth) above.now }
+    requires corner_within { T.num corner < 2 ^ block.bit_depth }
+    ensures painted { (left : List ℕ) → output.new ≡ painted output.old block.width block.height (λ i j _. T.pixel (directional block (T.num corner) (map T.num above.now) left i j)) }
+    ensures fits { InStorage output.new }
+{
+    let dx = dr_intra_derivative(block.p_angle);
+    let places = block.width + block.height;
+    let smoothed = block.width.min(block.visible_columns) + block.height;
+    let above = prepared_above(above, corner, block, smoothed, places);
+    rows_below_90(
+        output,
+        &above,
+        dx,
+        block.width,
+        block.height,
+        block.bit_depth,
+    );
+}
+
+/// The samples of an angle between 90 and 180.
+fn directional_between<T: Pixel>(
+    output: &mut PlaneRegionMut<'_, T>,
+    above: &[T],
+    left: &[T],
+    corner: T,
+    block: DirectionalBlock,
+)
+    requires fits { InStorage output.old }
+    requires columns { block.width ≤ output.old.place.width }
+    requires rows { block.height ≤ output.old.place.height }
+    requires width { block.width ≤ 64 }
+    requires height { block.height ≤ 64 }
+    requires angle { IsTrue (is_interpolated block.p_angle) }
+    requires low { 90 < block.p_angle }
+    requires high { block.p_angle < 180 }
+    requires above_long { block.width ≤ length above.now }
+    requires left_long { block.height ≤ length left.now }
+    requires depth { block.bit_depth ≤ T.BITS }
+    ensures painted { output.new ≡ painted output.old block.width block.height (λ i j _. T.pixel (directional block (T.num corner) (map T.num above.now) (reverse (map T.num left.now)) i j)) }
+    ensures fits { InStorage output.new }
+{
+    let dx = dr_intra_derivative(180 - block.p_angle);
+    let dy = dr_intra_derivative(block.p_angle - 90);
+    let columns = block.width.min(block.visible_columns);
+    let above = prepared_above(above, corner, block, columns, block.width);
+    let rows = block.height.min(block.visible_rows);
+    let left = prepared_left(left, corner, block, rows, block.height);
+    rows_between(
+        output,
+        &above,
+        &left,
+        dx,
+        dy,
+        block.width,
+        block.height,
+        block.bit_depth,
+    );
+}
+
+/// The samples of an angle past 180.
+fn directional_past_180<T: Pixel>(
+    output: &mut PlaneRegionMut<'_, T>,
+    left: &[T],
+    corner: T,
+    block: DirectionalBlock,
+)
+    requires fits { InStorage output.old }
+    requires columns { block.width ≤ output.old.place.width }
+    requires rows { block.height ≤ output.old.place.height }
+    requires width { block.width ≤ 64 }
+    requires height { block.height ≤ 64 }
+    requires angle { IsTrue (is_interpolated block.p_angle) }
+    requires range { 180 < block.p_angle }
+    requires long { block.height + block.width ≤ length left.now }
+    requires depth { block.bit_depth ≤ T.BITS }
+    ensures painted { (above : List ℕ) → output.new ≡ painted output.old block.width block.height (λ i j _. T.pixel (directional block (T.num corner) above (reverse (map T.num left.now)) i j)) }
+    ensures fits { InStorage output.new }
+{
+    let dy = dr_intra_derivative(270 - block.p_angle);
+    let places = block.height + block.width;
+    let smoothed = block.height.min(block.visible_rows) + block.width;
+    let left = prepared_left(left, corner, block, smoothed, places);
+    rows_past_180(
+        output,
+        &left,
+        dy,
+        block.width,
+        block.height,
+        block.bit_depth,
+    );
+}
+
+/// The samples of a block, by the range in which its angle lies.
+fn predict_block<T: Pixel>(
+    output: &mut PlaneRegionMut<'_, T>,
+    above: &[T],
+    left: &[T],
+    corner: T,
+    block: DirectionalBlock,
+)
+    requires fits { InStorage output.old }
+    requires columns { block.width ≤ output.old.place.width }
+    requires rows { block.height ≤ output.old.place.height }
+    requires width { block.width ≤ 64 }
+    requires height { block.height ≤ 64 }
+    requires angle { IsTrue (is_interpolated block.p_angle) }
+    requires above_long { block.p_angle < 180 → block.width + (if nat_lt block.p_angle 90 then block.height else 0) ≤ length above.now }
+    requires left_long { 90 < block.p_angle → block.height + (if nat_lt 180 block.p_angle then block.width else 0) ≤ length left.now }
+    requires depth { block.bit_depth ≤ T.BITS }
+    requires above_within { All (λ v. T.num v < 2 ^ block.bit_depth) above.now }
+    requires corner_within { T.num corner < 2 ^ block.bit_depth }
+    ensures painted { output.new ≡ painted output.old block.width block.height (λ i j _. T.pixel (directional block (T.num corner) (map T.num above.now) (reverse (map T.num left.now)) i j)) }
+    ensures fits { InStorage output.new }
+{
+    if block.p_angle < 90 {
+        directional_below_90(output, above, corner, block);
+    } else if block.p_angle < 180 {
+        directional_between(output, above, left, corner, block);
+    } else {
+        directional_past_180(output, left, corner, block);
+    }
+}
+
+/// Whether a neighbour is smooth, where the edge filter is on.
+fn smooth_choice(ief_params: Option<IntraEdgeFilterParameters>) -> Option<bool>
+    ensures { result ≡ option_map uses_smooth_filter ief_params }
+{
+    match ief_params {
+        Some(parameters) => Some(parameters.use_smooth_filter()),
+        None => None,
+    }
+}
+
+/// How many of `visible` samples there are from `first` on, which counts from the first of them and may lie before it.
+fn visible_from(visible: usize, first: isize) -> usize
+    requires visible { visible < 2 ^ 63 }
+    requires fits { FitsSigned w64 (pos visible -ℤ first) }
+    ensures { (origin place : ℕ) → first ≡ pos place -ℤ pos origin → result ≡ origin + visible - place }
+{
+    (visible as isize - first).max(0) as usize
+}
+
+/// Predicts the first `height` rows and `width` columns of `output` along the angle `p_angle`, in degrees: one that a directional
+/// mode and an angle step from -3 to 3 give, but for 90 and 180, which copy a side.
+///
+/// Below 90 degrees a sample is what its line meets on the side `above`, past 180 on the side `left`, and between them on the one
+/// that it meets first. The line meets a side between two samples, and the prediction is between these two, in 32nds.
+///
+/// `above` runs from the left: `width` samples, and below 90 degrees `height` more. `left` runs from the bottom up, and its last
+/// sample is that of the first row: `height` samples, and past 180 degrees `width` more before them. `top_left` is the corner.
+/// A side that the angle doesn't meet is not read.
+///
+/// With `ief_params` the sides are first smoothed and doubled, as the angle, the block's sides and the neighbours ask. Of the
+/// places beside the block only those are smoothed that lie in the plane's visible columns and rows.
+///
+/// AV1 specification: directional intra prediction process.
+pub fn pred_directional<T: Pixel>(
+    output: &mut PlaneRegionMut<'_, T>,
+    above: &[T],
+    left: &[T],
+    top_left: &[T],
+    p_angle: usize,
+    width: usize,
+    height: usize,
+    bit_depth: usize,
+    ief_params: Option<IntraEdgeFilterParameters>,
+)
+    requires fits { InStorage output.old }
+    requires columns { width ≤ output.old.place.width }
+    requires rows { height ≤ output.old.place.height }
+    requires width { width ≤ 64 }
+    requires height { height ≤ 64 }
+    requires angle { IsTrue (is_interpolated p_angle) }
+    requires above_long { p_angle < 180 → width + (if nat_lt p_angle 90 then height else 0) ≤ length above.now }
+    requires left_long { 90 < p_angle → height + (if nat_lt 180 p_angle then width else 0) ≤ length left.now }
+    requires corner { 0 < length top_left.now }
+    requires depth { bit_depth ≤ T.BITS }
+    requires above_within { All (λ v. T.num v < 2 ^ bit_depth) above.now }
+    requires corner_within { All (λ v. T.num v < 2 ^ bit_depth) top_left.now }
+    ensures painted { output.new ≡ painted output.old width height
+        (λ i j _. T.pixel (directional (block_at output.old p_angle width height bit_depth ief_params) (numbers T.num top_left.now 0) (map T.num above.now) (reverse (map T.num left.now)) i j)) }
+    ensures fits { InStorage output.new }
+{
+    let block = DirectionalBlock {
+        p_angle,
+        width,
+        height,
+        bit_depth,
+        smooth_filter: smooth_choice(ief_params),
+        visible_columns: visible_from(output.plane_cfg.width, output.rect().x),
+        visible_rows: visible_from(output.plane_cfg.height, output.rect().y),
+    };
+    predict_block(output, above, left, top_left[0], block);
+}

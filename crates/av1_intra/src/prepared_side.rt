@@ -1,0 +1,182 @@
+//! A side of a block as directional prediction reads it: filtered and doubled as the angle asks.
+
+ghost use Rattle.std.specs.Prelude.{◌≡◌, ℕ, ◌+◌, ◌-◌, ◌*◌, ◌/◌, ◌%◌, ◌^◌, ◌<◌, ◌≤◌, length, map, take, reverse, if◌then◌else◌, min, Bool, IsTrue};
+ghost use Rattle.av1_intra.specs.Sides.{entries, distance};
+ghost use Rattle.av1_intra.specs.EdgeFilter.{filtered};
+ghost use Rattle.av1_intra.specs.Upsampling.{upsampled};
+ghost use Rattle.av1_intra.specs.Directional.{side, at, prepared, doubling};
+
+use crate::directional::DirectionalBlock;
+use crate::edge_filter::{filter_edge, select_ief_strength};
+use crate::upsampling::{select_ief_upsample, upsample_edge};
+use av1_frame::Pixel;
+
+/// How many entries a side has at most: a corner and 128 places, doubled.
+const ENTRIES: usize = 257;
+
+/// A side of a block, ready to interpolate.
+#[derive(Drop)]
+pub(crate) struct PreparedSide {
+    /// The corner, then the places away from it, and zeros after these.
+    pub(crate) numbers: [u16; ENTRIES],
+    /// 1 where the places are doubled, else 0.
+    pub(crate) doubling: usize,
+}
+
+/// The corner and the first `count` places above, as numbers, and zeros after these.
+#[tactic(auto, using(av1_frame::proofs::Paint::paint_row_none, av1_frame::proofs::Paint::paint_row_more))]
+fn above_numbers<T: Pixel>(corner: T, above: &[T], count: usize) -> [u16; ENTRIES]
+    requires few { count ≤ 128 }
+    requires long { count ≤ length above.now }
+    ensures { entries result ≡ side (T.num corner) (take count (map T.num above.now)) }
+{
+    let mut numbers = [0u16; ENTRIES];
+    numbers[0] = corner.to_u32() as u16;
+    for k in 0..count {
+        numbers[k + 1] = above[k].to_u32() as u16;
+    }
+    numbers
+}
+
+/// The corner and the first `count` places on the left, the last sample of `left` first, and zeros after these.
+#[tactic(auto, using(av1_frame::proofs::Paint::paint_row_none, av1_frame::proofs::Paint::paint_row_more))]
+fn left_numbers<T: Pixel>(corner: T, left: &[T], count: usize) -> [u16; ENTRIES]
+    requires few { count ≤ 128 }
+    requires long { count ≤ length left.now }
+    ensures { entries result ≡ side (T.num corner) (take count (reverse (map T.num left.now))) }
+{
+    let last = left.len();
+    let mut numbers = [0u16; ENTRIES];
+    numbers[0] = corner.to_u32() as u16;
+    for k in 0..count {
+        numbers[k + 1] = left[last - 1 - k].to_u32() as u16;
+    }
+    numbers
+}
+
+/// Smooths the first `smoothed` places and then doubles the first `places`.
+fn prepare(
+    numbers: &mut [u16; ENTRIES],
+    smoothed: usize,
+    places: usize,
+    strength: u8,
+    double: bool,
+    bit_depth: usize,
+)
+    requires strength { strength ≤ 3 }
+    requires smoothed { smoothed ≤ 128 }
+    requires places { IsTrue double → places ≤ 61 }
+    requires depth { bit_depth ≤ 16 }
+    ensures { entries numbers.new ≡ (if double then upsampled bit_depth places (filtered smoothed strength (entries numbers.old)) else filtered smoothed strength (entries numbers.old)) }
+{
+    filter_edge(smoothed + 1, strength, numbers);
+    if double {
+        upsample_edge(places, numbers, bit_depth);
+    }
+}
+
+/// Prepares the side at the angle `straight` as the block's edge filter asks, and tells whether it was doubled, by 1 or 0.
+fn filter_side(
+    numbers: &mut [u16; ENTRIES],
+    block: DirectionalBlock,
+    straight: usize,
+    smoothed: usize,
+    places: usize,
+) -> usize
+    requires smoothed { smoothed ≤ 128 }
+    requires places { places ≤ block.width + block.height }
+    requires sides { block.width + block.height ≤ 128 }
+    requires angle { block.p_angle < 300 }
+    requires straight { straight < 300 }
+    requires depth { block.bit_depth ≤ 16 }
+    ensures numbers { entries numbers.new ≡ prepared block.bit_depth block.smooth_filter (block.width + block.height) (distance block.p_angle straight) smoothed places (entries numbers.old) }
+    ensures doubling { result ≡ doubling block.smooth_filter (block.width + block.height) (distance block.p_angle straight) }
+    ensures one { result ≤ 1 }
+{
+    match block.smooth_filter {
+        None => 0,
+        Some(smooth) => {
+            let delta = block.p_angle as isize - straight as isize;
+            let strength = select_ief_strength(block.width, block.height, smooth, delta);
+            let double = select_ief_upsample(block.width, block.height, smooth, delta);
+            prepare(
+                numbers,
+                smoothed,
+                places,
+                strength,
+                double,
+                block.bit_depth,
+            );
+            usize::from(double)
+        }
+    }
+}
+
+/// The side above with its first `places` places, of which the first `smoothed` are smoothed.
+pub(crate) fn prepared_above<T: Pixel>(
+    above: &[T],
+    corner: T,
+    block: DirectionalBlock,
+    smoothed: usize,
+    places: usize,
+) -> PreparedSide
+    requires smoothed { smoothed ≤ 128 }
+    requires places { places ≤ block.width + block.height }
+    requires sides { block.width + block.height ≤ 128 }
+    requires long { places ≤ length above.now }
+    requires angle { block.p_angle < 300 }
+    requires depth { block.bit_depth ≤ 16 }
+    ensures numbers { entries result.numbers ≡ prepared block.bit_depth block.smooth_filter (block.width + block.height) (distance block.p_angle 90) smoothed places (side (T.num corner) (take places (map T.num above.now))) }
+    ensures doubling { result.doubling ≡ doubling block.smooth_filter (block.width + block.height) (distance block.p_angle 90) }
+    ensures one { result.doubling ≤ 1 }
+{
+    let mut numbers = above_numbers(corner, above, places);
+    let doubling = filter_side(&mut numbers, block, 90, smoothed, places);
+    PreparedSide { numbers, doubling }
+}
+
+/// The left side with its first `places` places from the top down, of which the first `smoothed` are smoothed.
+pub(crate) fn prepared_left<T: Pixel>(
+    left: &[T],
+    corner: T,
+    block: DirectionalBlock,
+    smoothed: usize,
+    places: usize,
+) -> PreparedSide
+    requires smoothed { smoothed ≤ 128 }
+    requires places { places ≤ block.width + block.height }
+    requires sides { block.width + block.height ≤ 128 }
+    requires long { places ≤ length left.now }
+    requires angle { block.p_angle < 300 }
+    requires depth { block.bit_depth ≤ 16 }
+    ensures numbers { entries result.numbers ≡ prepared block.bit_depth block.smooth_filter (block.width + block.height) (distance block.p_angle 180) smoothed places (side (T.num corner) (take places (reverse (map T.num left.now)))) }
+    ensures doubling { result.doubling ≡ doubling block.smooth_filter (block.width + block.height) (distance block.p_angle 180) }
+    ensures one { result.doubling ≤ 1 }
+{
+    let mut numbers = left_numbers(corner, left, places);
+    let doubling = filter_side(&mut numbers, block, 180, smoothed, places);
+    PreparedSide { numbers, doubling }
+}
+
+impl PreparedSide {
+    /// The number at `n / 64` of a place past the corner, `k` places further.
+    #[tactic(auto, unfolding(crate::specs::Directional::at))]
+    pub(crate) fn interpolated(&self, n: usize, k: usize, bit_depth: usize) -> u32
+        requires one { self.now.doubling ≤ 1 }
+        requires n { n < 2 ^ 20 }
+        requires k { k < 2 ^ 20 }
+        requires inside { n / 2 ^ (6 - self.now.doubling) + k * 2 ^ self.now.doubling + 1 ≤ 256 }
+        requires depth { bit_depth ≤ 16 }
+        ensures value { result ≡ at bit_depth (entries self.now.numbers) self.now.doubling n k }
+        ensures fits { result < 2 ^ bit_depth }
+    {
+        let u = self.doubling;
+        let first = (n >> (6 - u)) + (k << u);
+        let z = ((n << u) / 2 % 32) as u32;
+        let near = u32::from(self.numbers[first]);
+        let far = u32::from(self.numbers[first + 1]);
+        let number = (near * (32 - z) + far * z + 16) / 32;
+        let top = (1 << bit_depth) - 1;
+        if number < top { number } else { top }
+    }
+}
