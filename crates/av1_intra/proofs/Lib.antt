@@ -7,3 +7,5 @@ pub mod SideEntries
 pub mod Derivatives
 pub mod Ranges
 pub mod Places
+pub mod RowParts
+pub mod Lines

@@ -35,12 +35,13 @@ block_at r p w h depth parameters = record {
 abbrev pub side : ℕ → List ℕ → Side
 side corner places = entries (corner ∷ places)
 
--- The number at n/64 of a place past the corner, k places further, from the side E: between two entries, by how near they are. u is 1 where E is doubled, else 0.
+-- the number between the entries e and e + 1 of the side E, z 32nds past the first, rounded and clipped to the depth
+abbrev pub blend : ℕ → Side → ℕ → ℕ → ℕ
+blend depth E e z = min ((E e * (32 - z) + E (e + 1) * z + 16) / 32) (2 ^ depth - 1)
+
+-- The number at n/64 of a place past the corner, k places further, of the side E; u is 1 where E is doubled, else 0.
 unfoldable pub at : ℕ → Side → ℕ → ℕ → ℕ → ℕ
-at depth E u n k =
-    let b = n / 2 ^ (6 - u) + k * 2 ^ u in
-    let z = n * 2 ^ u / 2 % 32 in
-    min ((E b * (32 - z) + E (b + 1) * z + 16) / 32) (2 ^ depth - 1)
+at depth E u n k = blend depth E (n / 2 ^ (6 - u) + k * 2 ^ u) (n * 2 ^ u / 2 % 32)
 
 -- An angle below 90, in column j of the row whose line meets the side above at n/64 past the corner; past the last of its s places that is repeated.
 unfoldable pub below_90 : ℕ → Side → ℕ → ℕ → ℕ → ℕ → ℕ

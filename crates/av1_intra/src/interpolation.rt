@@ -19,73 +19,58 @@ fn sample_of<T: Pixel>(number: u32, bit_depth: usize) -> T
     T::from_u32(number)
 }
 
-/// The number in column `j` of a row whose line meets the side above at `n / 64` of a place past the corner; past the last of its
-/// `sides` places that is repeated.
-#[tactic(auto, using(std::proofs::lemmas::Bool::Decides::nat_tests, crate::proofs::Derivatives::doubled_few), unfolding(crate::specs::Directional::below_90))]
-fn number_below_90(above: &PreparedSide, sides: usize, n: usize, j: usize, bit_depth: usize) -> u32
-    requires one { above.now.doubling ≤ 1 }
-    requires sides { sides ≤ 128 }
-    requires n { n < 2 ^ 20 }
-    requires j { j < 2 ^ 20 }
-    requires depth { bit_depth ≤ 16 }
-    requires within { Within bit_depth (entries above.now.numbers) }
-    ensures value { result ≡ below_90 bit_depth (entries above.now.numbers) above.now.doubling sides n j }
-    ensures fits { result < 2 ^ bit_depth }
-{
-    let u = above.doubling;
-    let last = sides << u;
-    if (n >> (6 - u)) + (j << u) < last {
-        above.interpolated(n, j, bit_depth)
-    } else {
-        u32::from(above.numbers[last])
-    }
-}
-
-/// The number at row `i` and column `j`, from the side above or from the left one.
-#[tactic(auto, using(std::proofs::lemmas::Bool::Decides::nat_tests, crate::proofs::Derivatives::second_branch), unfolding(crate::specs::Directional::between))]
-fn number_between(
-    above: &PreparedSide,
-    left: &PreparedSide,
-    dx: usize,
-    dy: usize,
-    i: usize,
-    j: usize,
-    bit_depth: usize,
-) -> u32
-    requires above_one { above.now.doubling ≤ 1 }
-    requires left_one { left.now.doubling ≤ 1 }
-    requires pair { ArePair dx dy }
-    requires i { i < 64 }
-    requires j { j < 64 }
-    requires depth { bit_depth ≤ 16 }
-    ensures value { result ≡ between bit_depth (entries above.now.numbers) above.now.doubling (entries left.now.numbers) left.now.doubling dx dy i j }
-    ensures fits { result < 2 ^ bit_depth }
-{
-    let line = (i + 1) * dx;
-    let place = 64 * (j + 1);
-    if line <= place {
-        above.interpolated(place - line, 0, bit_depth)
-    } else {
-        left.interpolated(64 * (i + 1) - (j + 1) * dy, 0, bit_depth)
-    }
-}
-
-/// The number at row `i` and column `j`, from the left side.
-#[tactic(auto, using(crate::proofs::Derivatives::past_180_inside))]
-fn number_past_180(left: &PreparedSide, dy: usize, i: usize, j: usize, bit_depth: usize) -> u32
-    requires one { left.now.doubling ≤ 1 }
-    requires dy { dy ≤ 40 }
-    requires i { i < 64 }
-    requires j { j < 64 }
-    requires depth { bit_depth ≤ 16 }
-    ensures value { result ≡ at bit_depth (entries left.now.numbers) left.now.doubling ((j + 1) * dy + 64) i }
-    ensures fits { result < 2 ^ bit_depth }
-{
-    left.interpolated((j + 1) * dy + 64, i, bit_depth)
-}
-
-/// The first `width` samples of a row whose line meets the side above at `n / 64` of a place past the corner.
+/// Each sample of the row becomes `value`.
 #[tactic(auto, using(av1_frame::proofs::Paint::paint_row_none, av1_frame::proofs::Paint::paint_row_more))]
+fn fill_row<T: Pixel>(row: &mut [T], value: T)
+    ensures { row.new ≡ paint_row (length row.old) (λ _ _. value) row.old }
+{
+    for k in 0..row.len() {
+        row[k] = value;
+    }
+}
+
+/// The samples of a row from the place on that its line meets at `n / 64` past the corner. `DOUBLING` is that of the side, known
+/// to the compiler.
+#[tactic(auto, using(av1_frame::proofs::Paint::paint_row_none, av1_frame::proofs::Paint::paint_row_more), unfolding(crate::specs::Directional::at))]
+fn interpolate_by<T: Pixel, const DOUBLING: usize>(
+    row: &mut [T],
+    side: &PreparedSide,
+    n: usize,
+    bit_depth: usize,
+)
+    requires one { DOUBLING ≤ 1 }
+    requires n { n < 2 ^ 20 }
+    requires short { length row.old ≤ 64 }
+    requires inside { 0 < length row.old → n / 2 ^ (6 - DOUBLING) + length row.old * 2 ^ DOUBLING ≤ 256 + DOUBLING }
+    requires depth { bit_depth ≤ T.BITS }
+    ensures { row.new ≡ paint_row (length row.old) (λ k _. T.pixel (at bit_depth (entries side.now.numbers) DOUBLING n k)) row.old }
+{
+    let first = n >> (6 - DOUBLING);
+    let z = ((n << DOUBLING) / 2 % 32) as u32;
+    for k in 0..row.len() {
+        row[k] = sample_of(side.blended(first + (k << DOUBLING), z, bit_depth), bit_depth);
+    }
+}
+
+/// The samples of a row from the place on that its line meets at `n / 64` past the corner.
+fn interpolate_row<T: Pixel>(row: &mut [T], side: &PreparedSide, n: usize, bit_depth: usize)
+    requires one { side.now.doubling ≤ 1 }
+    requires n { n < 2 ^ 20 }
+    requires short { length row.old ≤ 64 }
+    requires inside { 0 < length row.old → n / 2 ^ (6 - side.now.doubling) + length row.old * 2 ^ side.now.doubling ≤ 256 + side.now.doubling }
+    requires depth { bit_depth ≤ T.BITS }
+    ensures { row.new ≡ paint_row (length row.old) (λ k _. T.pixel (at bit_depth (entries side.now.numbers) side.now.doubling n k)) row.old }
+{
+    if side.doubling == 0 {
+        interpolate_by::<T, 0>(row, side, n, bit_depth);
+    } else {
+        interpolate_by::<T, 1>(row, side, n, bit_depth);
+    }
+}
+
+/// The first `width` samples of a row whose line meets the side above at `n / 64` of a place past the corner; past the last of its
+/// `sides` places that is repeated.
+#[tactic(auto, unfolding(crate::specs::Directional::below_90))]
 fn row_below_90<T: Pixel>(
     row: &mut [T],
     above: &PreparedSide,
@@ -103,13 +88,33 @@ fn row_below_90<T: Pixel>(
     requires within { Within bit_depth (entries above.now.numbers) }
     ensures { row.new ≡ paint_row width (λ j _. T.pixel (below_90 bit_depth (entries above.now.numbers) above.now.doubling sides n j)) row.old }
 {
-    for j in 0..width {
-        row[j] = sample_of(number_below_90(above, sides, n, j, bit_depth), bit_depth);
+    let u = above.doubling;
+    let last = sides << u;
+    let count = width.min((last.saturating_sub(n >> (6 - u)) + u) >> u);
+    interpolate_row(&mut row[..count], above, n, bit_depth);
+    let end = sample_of(u32::from(above.numbers[last]), bit_depth);
+    fill_row(&mut row[count..width], end);
+}
+
+/// The samples of row `i` that the left side gives at an angle between 90 and 180.
+#[tactic(auto, using(av1_frame::proofs::Paint::paint_row_none, av1_frame::proofs::Paint::paint_row_more))]
+fn row_from_left<T: Pixel>(row: &mut [T], left: &PreparedSide, dy: usize, i: usize, bit_depth: usize)
+    requires one { left.now.doubling ≤ 1 }
+    requires dy { dy ≤ 4096 }
+    requires i { i < 64 }
+    requires short { length row.old ≤ 64 }
+    requires inside { length row.old * dy ≤ 64 * (i + 1) }
+    requires depth { bit_depth ≤ T.BITS }
+    ensures { row.new ≡ paint_row (length row.old) (λ j _. T.pixel (at bit_depth (entries left.now.numbers) left.now.doubling (64 * (i + 1) - (j + 1) * dy) 0)) row.old }
+{
+    for j in 0..row.len() {
+        let n = 64 * (i + 1) - (j + 1) * dy;
+        row[j] = sample_of(left.interpolated(n, 0, bit_depth), bit_depth);
     }
 }
 
-/// The first `width` samples of row `i` at an angle between 90 and 180.
-#[tactic(auto, using(av1_frame::proofs::Paint::paint_row_none, av1_frame::proofs::Paint::paint_row_more))]
+/// The first `width` samples of row `i` at an angle between 90 and 180: the first of them from the left side, the others from the
+/// side above.
 fn row_between<T: Pixel>(
     row: &mut [T],
     above: &PreparedSide,
@@ -129,16 +134,17 @@ fn row_between<T: Pixel>(
     requires depth { bit_depth ≤ T.BITS }
     ensures { row.new ≡ paint_row width (λ j _. T.pixel (between bit_depth (entries above.now.numbers) above.now.doubling (entries left.now.numbers) left.now.doubling dx dy i j)) row.old }
 {
-    for j in 0..width {
-        row[j] = sample_of(
-            number_between(above, left, dx, dy, i, j, bit_depth),
-            bit_depth,
-        );
+    let line = (i + 1) * dx;
+    let split = width.min((line - 1) / 64);
+    row_from_left(&mut row[..split], left, dy, i, bit_depth);
+    if split < width {
+        let n = 64 * (split + 1) - line;
+        interpolate_row(&mut row[split..width], above, n, bit_depth);
     }
 }
 
 /// The first `width` samples of row `i` at an angle past 180.
-#[tactic(auto, using(av1_frame::proofs::Paint::paint_row_none, av1_frame::proofs::Paint::paint_row_more))]
+#[tactic(auto, using(av1_frame::proofs::Paint::paint_row_none, av1_frame::proofs::Paint::paint_row_more, crate::proofs::Derivatives::past_180_inside))]
 fn row_past_180<T: Pixel>(
     row: &mut [T],
     left: &PreparedSide,
@@ -156,7 +162,8 @@ fn row_past_180<T: Pixel>(
     ensures { row.new ≡ paint_row width (λ j _. T.pixel (at bit_depth (entries left.now.numbers) left.now.doubling ((j + 1) * dy + 64) i)) row.old }
 {
     for j in 0..width {
-        row[j] = sample_of(number_past_180(left, dy, i, j, bit_depth), bit_depth);
+        let n = (j + 1) * dy + 64;
+        row[j] = sample_of(left.interpolated(n, i, bit_depth), bit_depth);
     }
 }
 

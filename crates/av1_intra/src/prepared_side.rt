@@ -4,7 +4,7 @@ ghost use Rattle.std.specs.Prelude.{◌≡◌, ℕ, ◌+◌, ◌-◌, ◌*◌, �
 ghost use Rattle.av1_intra.specs.Sides.{entries, distance};
 ghost use Rattle.av1_intra.specs.EdgeFilter.{filtered};
 ghost use Rattle.av1_intra.specs.Upsampling.{upsampled};
-ghost use Rattle.av1_intra.specs.Directional.{side, at, prepared, doubling};
+ghost use Rattle.av1_intra.specs.Directional.{side, blend, at, prepared, doubling};
 
 use crate::directional::DirectionalBlock;
 use crate::edge_filter::{filter_edge, select_ief_strength};
@@ -159,6 +159,21 @@ pub(crate) fn prepared_left<T: Pixel>(
 }
 
 impl PreparedSide {
+    /// The number between the entries `e` and `e + 1`, `z` 32nds past the first.
+    pub(crate) fn blended(&self, e: usize, z: u32, bit_depth: usize) -> u32
+        requires e { e < 256 }
+        requires z { z < 32 }
+        requires depth { bit_depth ≤ 16 }
+        ensures value { result ≡ blend bit_depth (entries self.now.numbers) e z }
+        ensures fits { result < 2 ^ bit_depth }
+    {
+        let near = u32::from(self.numbers[e]);
+        let far = u32::from(self.numbers[e + 1]);
+        let number = (near * (32 - z) + far * z + 16) / 32;
+        let top = (1 << bit_depth) - 1;
+        if number < top { number } else { top }
+    }
+
     /// The number at `n / 64` of a place past the corner, `k` places further.
     #[tactic(auto, unfolding(crate::specs::Directional::at))]
     pub(crate) fn interpolated(&self, n: usize, k: usize, bit_depth: usize) -> u32
@@ -171,12 +186,10 @@ impl PreparedSide {
         ensures fits { result < 2 ^ bit_depth }
     {
         let u = self.doubling;
-        let first = (n >> (6 - u)) + (k << u);
-        let z = ((n << u) / 2 % 32) as u32;
-        let near = u32::from(self.numbers[first]);
-        let far = u32::from(self.numbers[first + 1]);
-        let number = (near * (32 - z) + far * z + 16) / 32;
-        let top = (1 << bit_depth) - 1;
-        if number < top { number } else { top }
+        self.blended(
+            (n >> (6 - u)) + (k << u),
+            ((n << u) / 2 % 32) as u32,
+            bit_depth,
+        )
     }
 }
