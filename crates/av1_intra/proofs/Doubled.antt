@@ -1,7 +1,8 @@
 -- The numbers of a side that is doubled.
-use Rattle.std.proofs.Common.{ℕ, ◌+◌, ◌-◌, ◌*◌, ◌/◌, ◌%◌, ◌<◌, ◌≤◌, ◌≡◌, ◌^◌, List, length, get_or, refl, ap, arith, ◌∙◌, sym, min}
+use Rattle.std.proofs.Common.{ℕ, ◌+◌, ◌-◌, ◌*◌, ◌/◌, ◌%◌, ◌<◌, ◌≤◌, ◌≡◌, List, length, get_or, refl, ap, arith, ◌∙◌, sym, min, pos}
 use Rattle.std.proofs.lemmas.Bool.Decides.{nat_tests}
 use Rattle.std.proofs.lemmas.List.{get_or-map}
+use Rattle.av1_frame.specs.Arithmetic.{clip}
 use Rattle.av1_intra.specs.Sides.{Side, numbers}
 use Rattle.av1_intra.specs.Upsampling.{upsampled}
 
@@ -12,13 +13,13 @@ doubled_even depth m e r A h q =
     let b : 2 * e % 2 ≡ 0 = omega arith in
     q ∙ sym (ap A a) ∙ grind (arith, nat_tests)
 
-pub doubled_odd : (depth m e r a b c d : ℕ) (A : Side) → e < m → a ≡ A (e - 1) → b ≡ A e → c ≡ A (e + 1) → d ≡ A (min m (e + 2)) → r ≡ min ((9 * b + 9 * c + 8 - (a + d)) / 16) (2 ^ depth - 1) → r ≡ upsampled depth m A (2 * e + 1)
+pub doubled_odd : (depth m e r a b c d : ℕ) (A : Side) → e < m → a ≡ A (e - 1) → b ≡ A e → c ≡ A (e + 1) → d ≡ A (min m (e + 2)) → r ≡ clip depth (pos ((9 * b + 9 * c + 8 - (a + d)) / 16)) → r ≡ upsampled depth m A (2 * e + 1)
 unfolding upsampled
 doubled_odd depth m e r a b c d A h ha hb hc hd q =
     let x : (2 * e + 1) / 2 ≡ e = omega arith in
     let y : (2 * e + 1) % 2 ≡ 1 = omega arith in
-    let f = λ (h : ℕ). min ((9 * A h + 9 * A (h + 1) + 8 - (A (h - 1) + A (min (h + 2) m))) / 16) (2 ^ depth - 1) in
-    let z : r ≡ f e = q ∙ ap (λ v. min ((9 * v + 9 * c + 8 - (a + d)) / 16) (2 ^ depth - 1)) hb ∙ ap (λ v. min ((9 * A e + 9 * v + 8 - (a + d)) / 16) (2 ^ depth - 1)) hc ∙ ap (λ v. min ((9 * A e + 9 * A (e + 1) + 8 - (v + d)) / 16) (2 ^ depth - 1)) ha ∙ ap (λ v. min ((9 * A e + 9 * A (e + 1) + 8 - (A (e - 1) + v)) / 16) (2 ^ depth - 1)) (hd ∙ ap A (omega arith)) in
+    let f = λ (h : ℕ). clip depth (pos ((9 * A h + 9 * A (h + 1) + 8 - (A (h - 1) + A (min (h + 2) m))) / 16)) in
+    let z : r ≡ f e = q ∙ ap (λ v. clip depth (pos ((9 * v + 9 * c + 8 - (a + d)) / 16))) hb ∙ ap (λ v. clip depth (pos ((9 * A e + 9 * v + 8 - (a + d)) / 16))) hc ∙ ap (λ v. clip depth (pos ((9 * A e + 9 * A (e + 1) + 8 - (v + d)) / 16))) ha ∙ ap (λ v. clip depth (pos ((9 * A e + 9 * A (e + 1) + 8 - (A (e - 1) + v)) / 16))) (hd ∙ ap A (omega arith)) in
     z ∙ sym (ap f x) ∙ grind (arith, nat_tests)
 
 pub doubled_first : {X : Type 0} (num : X → ℕ) (pixel : ℕ → X) (depth m : ℕ) (old : List X) (d : X) → ((x : X) → pixel (num x) ≡ x) → 0 < length old → pixel (upsampled depth m (numbers num old) 0) ≡ get_or old 0 d

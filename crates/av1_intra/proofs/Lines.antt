@@ -1,8 +1,9 @@
 -- Where lines meet a side, sample by sample of a row.
-use Rattle.std.proofs.Common.{ℕ, ◌+◌, ◌-◌, ◌*◌, ◌/◌, ◌%◌, ◌^◌, ◌<◌, ◌≤◌, ◌≡◌, ap, arith, ◌∙◌, sym, inl, inr, min, subst, mul_assoc}
+use Rattle.std.proofs.Common.{ℕ, ◌+◌, ◌-◌, ◌*◌, ◌/◌, ◌%◌, ◌^◌, ◌<◌, ◌≤◌, ◌≡◌, ap, arith, ◌∙◌, sym, inl, inr, subst, mul_assoc, pos}
 use Rattle.std.proofs.lemmas.Bool.Decides.{nat_tests}
 use Rattle.std.proofs.lemmas.Bool.{cases_eq}
 use Rattle.std.proofs.Math.Nat.{mul-lt-mul_of_pos_right, mul-le-mul_left}
+use Rattle.av1_frame.specs.Arithmetic.{clip}
 use Rattle.av1_intra.specs.Sides.{Side}
 use Rattle.av1_intra.specs.Angles.{ArePair}
 use Rattle.av1_intra.specs.Directional.{blend, at, below_90, between}
@@ -59,7 +60,7 @@ pub interpolated_column : (depth : ℕ) (E : Side) (u s n j : ℕ) → u ≤ 1 �
 unfolding below_90
 interpolated_column depth E u s n j h l = let b = column_before u s n j h l in grind (arith, nat_tests)
 
-pub repeated_column : (depth : ℕ) (E : Side) (u s n j : ℕ) → u ≤ 1 → columns_before u s n ≤ j → E (s * 2 ^ u) ≡ below_90 depth E u s n j
+pub repeated_column : (depth : ℕ) (E : Side) (u s n j : ℕ) → u ≤ 1 → columns_before u s n ≤ j → clip depth (pos (E (s * 2 ^ u))) ≡ below_90 depth E u s n j
 unfolding below_90
 repeated_column depth E u s n j h l = let b = column_past u s n j h l in grind (arith, nat_tests)
 

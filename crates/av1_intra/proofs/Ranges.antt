@@ -1,9 +1,7 @@
 -- The sample of each range of angles.
-use Rattle.std.proofs.Common.{ℕ, ◌+◌, ◌-◌, ◌*◌, ◌<◌, ◌/◌, ◌≤◌, ◌∙◌, ◌+ℤ◌, negsuc, sym, ap, inl, inr, ◌≡◌, List, take, true, false, refl, arith, ltb, min, pos, ◌-ℤ◌, unsigned_abs, add-zero, to_z, of_z, w64}
+use Rattle.std.proofs.Common.{ℕ, ◌+◌, ◌-◌, ◌*◌, ◌<◌, ◌≡◌, List, take, true, false, refl, arith, ltb, min, ◌-ℤ◌, unsigned_abs, add-zero, to_z, of_z, w64}
 use Rattle.std.proofs.lemmas.Bool.Decides.{nat_tests}
-use Rattle.std.proofs.lemmas.Bool.{cases_lt}
 use Rattle.std.proofs.lemmas.Int.{ints}
-use Rattle.std.specs.Int.{int_shr}
 use Rattle.av1_intra.specs.Sides.{distance}
 use Rattle.av1_intra.specs.Angles.{derivative}
 use Rattle.av1_intra.specs.Directional.{side, directional, below_90, between, at, prepared, doubling}
@@ -35,27 +33,3 @@ module _ (b : DirectionalBlock) (corner : ℕ) (above left : List ℕ) (i j : �
       let u : ltb b.p_angle 180 ≡ false = grind (arith, nat_tests) in
       let v : ltb 180 b.p_angle ≡ true = grind (arith, nat_tests) in
       rw (t, u, v) refl
-
-sub_low : (n k : ℕ) → n < k → pos n -ℤ pos k ≡ negsuc (k - n - 1)
-sub_low n k h = grind (arith, ints)
-
-sub_high : (n k : ℕ) → k ≤ n → pos n -ℤ pos k ≡ pos (n - k)
-sub_high n k h = grind (arith, ints)
-
--- A place n/64 past the corner is that of the signed index n - 64, which counts from place 0: entry 2^u is place 0.
-pub signed_entry : (n : ℕ) → int_shr (pos n -ℤ pos 64) 6 +ℤ pos 1 ≡ pos (n / 64)
-signed_entry n =
-    elim (cases_lt n 64) [
-      | inl b ↦ ap (λ z. int_shr z 6 +ℤ pos 1) (sub_low n 64 b) ∙ (let e : (64 - n - 1) / 64 ≡ 0 = omega arith in let f : n / 64 ≡ 0 = omega arith in ap (λ k. negsuc k +ℤ pos 1) e ∙ ap pos (sym f))
-      | inr b ↦ ap (λ z. int_shr z 6 +ℤ pos 1) (sub_high n 64 b) ∙ (let e : (n - 64) / 64 + 1 ≡ n / 64 = omega arith in ap pos e)
-    ]
-
-pub signed_entry_doubled : (n : ℕ) → int_shr (pos n -ℤ pos 64) 5 +ℤ pos 2 ≡ pos (n / 32)
-signed_entry_doubled n =
-    elim (cases_lt n 64) [
-      | inl b ↦ ap (λ z. int_shr z 5 +ℤ pos 2) (sub_low n 64 b) ∙ elim (cases_lt n 32) [
-        | inl c ↦ (let e : (64 - n - 1) / 32 ≡ 1 = omega arith in let f : n / 32 ≡ 0 = omega arith in ap (λ k. negsuc k +ℤ pos 2) e ∙ ap pos (sym f))
-        | inr c ↦ (let e : (64 - n - 1) / 32 ≡ 0 = omega arith in let f : n / 32 ≡ 1 = omega arith in ap (λ k. negsuc k +ℤ pos 2) e ∙ ap pos (sym f))
-      ]
-      | inr b ↦ ap (λ z. int_shr z 5 +ℤ pos 2) (sub_high n 64 b) ∙ (let e : (n - 64) / 32 + 2 ≡ n / 32 = omega arith in ap pos e)
-    ]

@@ -1,6 +1,6 @@
 -- Directions of prediction, in degrees: 90 points straight up, 180 to the left.
 -- AV1 specification: directional intra prediction process (Dr_Intra_Derivative, Mode_To_Angle).
-use Rattle.std.specs.Prelude.{ℕ, ◌+◌, ◌%◌, ◌*◌, ◌<◌, ◌≤◌, ◌==◌, List, [], ◌∷◌, Bool, false, not, ◌&&◌, ◌||◌, nat_le, if◌then◌else◌}
+use Rattle.std.specs.Prelude.{ℕ, ◌%◌, ◌*◌, ◌<◌, ◌≤◌, ◌==◌, List, [], ◌∷◌, Bool, false, not, ◌&&◌, ◌||◌, nat_le, if◌then◌else◌}
 use Rattle.av1_intra.specs.Sides.{distance}
 
 -- the number beside a in a table of pairs, and 0 where a has none

@@ -1,8 +1,9 @@
 -- The samples of a block that is predicted along a direction.
 -- AV1 specification: directional intra prediction process.
 -- A side gives a number for each entry here: entry 0 is the corner, and entry k + 1 is place k.
-use Rattle.std.specs.Prelude.{ℕ, ◌+◌, ◌-◌, ◌*◌, ◌/◌, ◌%◌, ◌^◌, ◌<◌, List, ◌∷◌, take, Bool, nat_le, nat_lt, if◌then◌else◌, min, Option, None, Some}
+use Rattle.std.specs.Prelude.{ℕ, ◌+◌, ◌-◌, ◌*◌, ◌/◌, ◌%◌, ◌^◌, List, ◌∷◌, take, Bool, nat_le, nat_lt, if◌then◌else◌, min, Option, None, Some, pos}
 use Rattle.std.specs.Option.{option_map}
+use Rattle.av1_frame.specs.Arithmetic.{clip}
 use Rattle.av1_frame.specs.declared.plane_region.PlaneRegionMut.{PlaneRegionMut}
 use Rattle.av1_intra.specs.Sides.{Side, entries, distance}
 use Rattle.av1_intra.specs.Neighbours.{uses_smooth_filter}
@@ -37,7 +38,7 @@ side corner places = entries (corner ∷ places)
 
 -- the number between the entries e and e + 1 of the side E, z 32nds past the first, rounded and clipped to the depth
 abbrev pub blend : ℕ → Side → ℕ → ℕ → ℕ
-blend depth E e z = min ((E e * (32 - z) + E (e + 1) * z + 16) / 32) (2 ^ depth - 1)
+blend depth E e z = clip depth (pos ((E e * (32 - z) + E (e + 1) * z + 16) / 32))
 
 -- The number at n/64 of a place past the corner, k places further, of the side E; u is 1 where E is doubled, else 0.
 unfoldable pub at : ℕ → Side → ℕ → ℕ → ℕ → ℕ
@@ -46,7 +47,7 @@ at depth E u n k = blend depth E (n / 2 ^ (6 - u) + k * 2 ^ u) (n * 2 ^ u / 2 % 
 -- An angle below 90, in column j of the row whose line meets the side above at n/64 past the corner; past the last of its s places that is repeated.
 unfoldable pub below_90 : ℕ → Side → ℕ → ℕ → ℕ → ℕ → ℕ
 below_90 depth E u s n j =
-    if nat_lt (n / 2 ^ (6 - u) + j * 2 ^ u) (s * 2 ^ u) then at depth E u n j else E (s * 2 ^ u)
+    if nat_lt (n / 2 ^ (6 - u) + j * 2 ^ u) (s * 2 ^ u) then at depth E u n j else clip depth (pos (E (s * 2 ^ u)))
 
 -- An angle between 90 and 180, at row i and column j: the line meets the side above, or else the left side.
 unfoldable pub between : ℕ → Side → ℕ → Side → ℕ → ℕ → ℕ → ℕ → ℕ → ℕ
@@ -87,7 +88,3 @@ directional b corner above left i j =
     if nat_lt p 90 then below_90 b.bit_depth Ea ua s ((i + 1) * derivative p + 64) j
     else if nat_lt p 180 then between b.bit_depth Ea ua El ul (derivative (180 - p)) (derivative (p - 90)) i j
     else at b.bit_depth El ul ((j + 1) * derivative (270 - p) + 64) i
-
--- each number of a side fits the depth
-abbrev pub Within : ℕ → Side → Type 0
-Within depth E = (e : ℕ) → E e < 2 ^ depth

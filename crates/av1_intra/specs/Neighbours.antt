@@ -1,5 +1,5 @@
 -- What the edge filter is told of a block's neighbours. AV1 specification: intra filter type process.
-use Rattle.std.specs.Prelude.{ℕ, zero, suc, Bool, true, false, ◌==◌, ◌||◌, ◌&&◌, List, [], ◌∷◌, Option, None, Some}
+use Rattle.std.specs.Prelude.{ℕ, zero, suc, Bool, true, false, ◌==◌, ◌||◌, ◌&&◌, List, ◌∷◌, Option, Some}
 use Rattle.std.specs.Option.{option_map}
 use Rattle.av1_blocks.specs.declared.predict.PredictionMode.{PredictionMode}
 use Rattle.av1_blocks.specs.declared.predict.PredictionMode.TheVariants.{SMOOTH_PRED, SMOOTH_V_PRED, SMOOTH_H_PRED}

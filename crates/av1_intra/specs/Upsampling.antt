@@ -1,5 +1,6 @@
 -- Doubling the places of a side before it is interpolated.
-use Rattle.std.specs.Prelude.{ℕ, ◌+◌, ◌-◌, ◌*◌, ◌/◌, ◌%◌, ◌^◌, ◌==◌, Bool, ◌&&◌, nat_le, nat_lt, if◌then◌else◌, min}
+use Rattle.std.specs.Prelude.{ℕ, ◌+◌, ◌-◌, ◌*◌, ◌/◌, ◌%◌, ◌==◌, Bool, ◌&&◌, nat_le, nat_lt, if◌then◌else◌, min, pos}
+use Rattle.av1_frame.specs.Arithmetic.{clip}
 use Rattle.av1_intra.specs.Sides.{Side}
 
 -- Whether a side is doubled, by the sum s of the block's sides, whether a neighbour is smooth, and how far the angle is from the side's own, d degrees.
@@ -7,11 +8,11 @@ use Rattle.av1_intra.specs.Sides.{Side}
 abbrev pub is_upsampled : ℕ → Bool → ℕ → Bool
 is_upsampled s smooth d = (nat_le 1 d && nat_le d 39) && nat_le s (if smooth then 8 else 16)
 
--- Twice as many entries for the corner and the first m places: entry 2e is what entry e was, and between it and the next stands a number that four of the entries give, clipped to the depth. All entries past 2m stay.
+-- Twice as many entries for the corner and the first m places: entry 2e is what entry e was, and between it and the next stands a number that four of the entries give, clipped to the depth; a difference below 0 counts as 0. All entries past 2m stay.
 -- AV1 specification: intra edge upsample process.
 unfoldable pub upsampled : ℕ → ℕ → Side → Side
 upsampled depth m A = λ e.
     let h = e / 2 in
     if nat_lt (2 * m) e then A e
     else if e % 2 == 0 then A h
-    else min ((9 * A h + 9 * A (h + 1) + 8 - (A (h - 1) + A (min (h + 2) m))) / 16) (2 ^ depth - 1)
+    else clip depth (pos ((9 * A h + 9 * A (h + 1) + 8 - (A (h - 1) + A (min (h + 2) m))) / 16))

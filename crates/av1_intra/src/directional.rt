@@ -2,7 +2,7 @@
 //!
 //! AV1 specification: directional intra prediction process.
 
-ghost use Rattle.std.specs.Prelude.{◌≡◌, ℕ, ◌+◌, ◌-◌, ◌*◌, ◌^◌, ◌<◌, ◌≤◌, length, List, All, map, reverse, if◌then◌else◌, nat_lt, IsTrue, pos, ◌-ℤ◌, ◌<ℤ◌, ◌≤ℤ◌, FitsSigned};
+ghost use Rattle.std.specs.Prelude.{◌≡◌, ℕ, ◌+◌, ◌-◌, ◌*◌, ◌^◌, ◌<◌, ◌≤◌, length, List, map, reverse, if◌then◌else◌, nat_lt, IsTrue, pos, ◌-ℤ◌, ◌<ℤ◌, ◌≤ℤ◌, FitsSigned};
 ghost use Rattle.std.specs.Int.{w64};
 ghost use Rattle.std.specs.Option.{option_map};
 ghost use Rattle.av1_frame.specs.Regions.{InStorage, painted};
@@ -52,8 +52,6 @@ fn directional_below_90<T: Pixel>(
     requires range { block.p_angle < 90 }
     requires long { block.width + block.height ≤ length above.now }
     requires depth { block.bit_depth ≤ T.BITS }
-    requires above_within { All (λ v. T.num v < 2 ^ block.bit_depth) above.now }
-    requires corner_within { T.num corner < 2 ^ block.bit_depth }
     ensures painted { (left : List ℕ) → output.new ≡ painted output.old block.width block.height (λ i j _. T.pixel (directional block (T.num corner) (map T.num above.now) left i j)) }
     ensures fits { InStorage output.new }
 {
@@ -161,8 +159,6 @@ fn predict_block<T: Pixel>(
     requires above_long { block.p_angle < 180 → block.width + (if nat_lt block.p_angle 90 then block.height else 0) ≤ length above.now }
     requires left_long { 90 < block.p_angle → block.height + (if nat_lt 180 block.p_angle then block.width else 0) ≤ length left.now }
     requires depth { block.bit_depth ≤ T.BITS }
-    requires above_within { All (λ v. T.num v < 2 ^ block.bit_depth) above.now }
-    requires corner_within { T.num corner < 2 ^ block.bit_depth }
     ensures painted { output.new ≡ painted output.old block.width block.height (λ i j _. T.pixel (directional block (T.num corner) (map T.num above.now) (reverse (map T.num left.now)) i j)) }
     ensures fits { InStorage output.new }
 {
@@ -202,7 +198,7 @@ fn visible_from(visible: usize, first: isize) -> usize
 ///
 /// `above` runs from the left: `width` samples, and below 90 degrees `height` more. `left` runs from the bottom up, and its last
 /// sample is that of the first row: `height` samples, and past 180 degrees `width` more before them. `top_left` is the corner.
-/// A side that the angle doesn't meet is not read.
+/// A side that the angle doesn't meet is not read. What is predicted is clipped to the depth.
 ///
 /// With `ief_params` the sides are first smoothed and doubled, as the angle, the block's sides and the neighbours ask. Of the
 /// places beside the block only those are smoothed that lie in the plane's visible columns and rows.
@@ -229,8 +225,6 @@ pub fn pred_directional<T: Pixel>(
     requires left_long { 90 < p_angle → height + (if nat_lt 180 p_angle then width else 0) ≤ length left.now }
     requires corner { 0 < length top_left.now }
     requires depth { bit_depth ≤ T.BITS }
-    requires above_within { All (λ v. T.num v < 2 ^ bit_depth) above.now }
-    requires corner_within { All (λ v. T.num v < 2 ^ bit_depth) top_left.now }
     ensures painted { output.new ≡ painted output.old width height
         (λ i j _. T.pixel (directional (block_at output.old p_angle width height bit_depth ief_params) (numbers T.num top_left.now 0) (map T.num above.now) (reverse (map T.num left.now)) i j)) }
     ensures fits { InStorage output.new }

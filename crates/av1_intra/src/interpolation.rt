@@ -5,9 +5,10 @@ ghost use Rattle.av1_frame.specs.Samples.{paint_row};
 ghost use Rattle.av1_frame.specs.Regions.{InStorage, painted};
 ghost use Rattle.av1_intra.specs.Sides.{entries};
 ghost use Rattle.av1_intra.specs.Angles.{ArePair};
-ghost use Rattle.av1_intra.specs.Directional.{at, below_90, between, Within};
+ghost use Rattle.av1_intra.specs.Directional.{at, below_90, between};
 
 use crate::prepared_side::PreparedSide;
+use crate::samples::clipped;
 use av1_frame::{Pixel, PlaneRegionMut};
 
 /// The sample of a number within the depth.
@@ -48,7 +49,10 @@ fn interpolate_by<T: Pixel, const DOUBLING: usize>(
     let first = n >> (6 - DOUBLING);
     let z = ((n << DOUBLING) / 2 % 32) as u32;
     for k in 0..row.len() {
-        row[k] = sample_of(side.blended(first + (k << DOUBLING), z, bit_depth), bit_depth);
+        row[k] = sample_of(
+            side.blended(first + (k << DOUBLING), z, bit_depth),
+            bit_depth,
+        );
     }
 }
 
@@ -85,20 +89,25 @@ fn row_below_90<T: Pixel>(
     requires sides { sides ≤ 128 }
     requires n { n < 2 ^ 20 }
     requires depth { bit_depth ≤ T.BITS }
-    requires within { Within bit_depth (entries above.now.numbers) }
     ensures { row.new ≡ paint_row width (λ j _. T.pixel (below_90 bit_depth (entries above.now.numbers) above.now.doubling sides n j)) row.old }
 {
     let u = above.doubling;
     let last = sides << u;
     let count = width.min((last.saturating_sub(n >> (6 - u)) + u) >> u);
     interpolate_row(&mut row[..count], above, n, bit_depth);
-    let end = sample_of(u32::from(above.numbers[last]), bit_depth);
-    fill_row(&mut row[count..width], end);
+    let end = clipped(u32::from(above.numbers[last]), bit_depth);
+    fill_row(&mut row[count..width], sample_of(end, bit_depth));
 }
 
 /// The samples of row `i` that the left side gives at an angle between 90 and 180.
 #[tactic(auto, using(av1_frame::proofs::Paint::paint_row_none, av1_frame::proofs::Paint::paint_row_more))]
-fn row_from_left<T: Pixel>(row: &mut [T], left: &PreparedSide, dy: usize, i: usize, bit_depth: usize)
+fn row_from_left<T: Pixel>(
+    row: &mut [T],
+    left: &PreparedSide,
+    dy: usize,
+    i: usize,
+    bit_depth: usize,
+)
     requires one { left.now.doubling ≤ 1 }
     requires dy { dy ≤ 4096 }
     requires i { i < 64 }
@@ -185,7 +194,6 @@ pub(crate) fn rows_below_90<T: Pixel>(
     requires one { above.now.doubling ≤ 1 }
     requires dx { dx ≤ 1023 }
     requires depth { bit_depth ≤ T.BITS }
-    requires within { Within bit_depth (entries above.now.numbers) }
     ensures painted { output.new ≡ painted output.old width height (λ i j _. T.pixel (below_90 bit_depth (entries above.now.numbers) above.now.doubling (width + height) ((i + 1) * dx + 64) j)) }
     ensures fits { InStorage output.new }
 {
@@ -221,16 +229,7 @@ pub(crate) fn rows_between<T: Pixel>(
     ensures fits { InStorage output.new }
 {
     for i in 0..height {
-        row_between(
-            output.row_mut(i),
-            above,
-            left,
-            dx,
-            dy,
-            i,
-            width,
-            bit_depth,
-        );
+        row_between(output.row_mut(i), above, left, dx, dy, i, width, bit_depth);
     }
 }
 

@@ -74,11 +74,7 @@ fn is_intra(types: Option<[RefType; 2]>) -> bool
 }
 
 /// Whether a neighbour is smooth in a plane.
-fn is_smooth_in(
-    plane: usize,
-    types: Option<[RefType; 2]>,
-    mode: Option<PredictionMode>,
-) -> bool
+fn is_smooth_in(plane: usize, types: Option<[RefType; 2]>, mode: Option<PredictionMode>) -> bool
     ensures { result ≡ is_smooth_in plane types mode }
 {
     is_smooth(mode) && (plane == 0 || is_intra(types))

@@ -8,6 +8,7 @@ ghost use Rattle.av1_intra.specs.Directional.{side, blend, at, prepared, doublin
 
 use crate::directional::DirectionalBlock;
 use crate::edge_filter::{filter_edge, select_ief_strength};
+use crate::samples::clipped;
 use crate::upsampling::{select_ief_upsample, upsample_edge};
 use av1_frame::Pixel;
 
@@ -99,14 +100,7 @@ fn filter_side(
             let delta = block.p_angle as isize - straight as isize;
             let strength = select_ief_strength(block.width, block.height, smooth, delta);
             let double = select_ief_upsample(block.width, block.height, smooth, delta);
-            prepare(
-                numbers,
-                smoothed,
-                places,
-                strength,
-                double,
-                block.bit_depth,
-            );
+            prepare(numbers, smoothed, places, strength, double, block.bit_depth);
             usize::from(double)
         }
     }
@@ -169,9 +163,7 @@ impl PreparedSide {
     {
         let near = u32::from(self.numbers[e]);
         let far = u32::from(self.numbers[e + 1]);
-        let number = (near * (32 - z) + far * z + 16) / 32;
-        let top = (1 << bit_depth) - 1;
-        if number < top { number } else { top }
+        clipped((near * (32 - z) + far * z + 16) / 32, bit_depth)
     }
 
     /// The number at `n / 64` of a place past the corner, `k` places further.

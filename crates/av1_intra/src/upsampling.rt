@@ -1,10 +1,12 @@
 //! Doubling the places of a side before it is interpolated.
 
-ghost use Rattle.std.specs.Prelude.{◌≡◌, ℕ, ◌+◌, ◌-◌, ◌*◌, ◌/◌, ◌^◌, ◌<◌, ◌≤◌, length, unsigned_abs, min};
+ghost use Rattle.std.specs.Prelude.{◌≡◌, ℕ, ◌+◌, ◌-◌, ◌*◌, ◌/◌, ◌^◌, ◌<◌, ◌≤◌, length, unsigned_abs, pos};
+ghost use Rattle.av1_frame.specs.Arithmetic.{clip};
 ghost use Rattle.av1_frame.specs.Samples.{paint_row};
 ghost use Rattle.av1_intra.specs.Sides.{numbers};
 ghost use Rattle.av1_intra.specs.Upsampling.{is_upsampled, upsampled};
 
+use crate::samples::clipped;
 use av1_frame::Pixel;
 
 /// Whether a side of a block of `width` by `height` samples is doubled: it is where the block is small and the angle less than
@@ -33,12 +35,10 @@ fn halfway(a: u32, b: u32, c: u32, d: u32, bit_depth: usize) -> u32
     requires c { c < 2 ^ 16 }
     requires d { d < 2 ^ 16 }
     requires depth { bit_depth ≤ 16 }
-    ensures value { result ≡ min ((9 * b + 9 * c + 8 - (a + d)) / 16) (2 ^ bit_depth - 1) }
+    ensures value { result ≡ clip bit_depth (pos ((9 * b + 9 * c + 8 - (a + d)) / 16)) }
     ensures fits { result < 2 ^ bit_depth }
 {
-    let top = (1 << bit_depth) - 1;
-    let number = (9 * b + 9 * c + 8).saturating_sub(a + d) / 16;
-    if number < top { number } else { top }
+    clipped((9 * b + 9 * c + 8).saturating_sub(a + d) / 16, bit_depth)
 }
 
 /// Doubles the first `size + 1` entries of `edge`, of which entry 0 is the corner: entry e moves to 2e, and a number halfway

@@ -1,22 +1,15 @@
-use Rattle.std.proofs.Common.{◌≡◌, ℕ, ◌+◌, ◌*◌, min, map, take, arith, ap, ◌∙◌, subst, sym}
+use Rattle.std.proofs.Common.{◌≡◌, ℕ, ◌+◌, ◌*◌, min, map, take, arith, ap, ◌∙◌}
 use mathlib.Core.Path.{fun_ext}
 use Rattle.av1_frame.specs.Regions.{painted}
 use Rattle.av1_intra.specs.Sides.{Side, entries, distance}
-use Rattle.av1_intra.specs.Directional.{side, below_90, prepared, doubling, Within}
+use Rattle.av1_intra.specs.Directional.{side, below_90, prepared, doubling}
 use Rattle.av1_intra.proofs.Derivatives.{below_90_few}
-use Rattle.av1_intra.proofs.SideEntries.{side_within, prepared_within}
 use Rattle.av1_intra.proofs.Ranges.{is_below_90}
 use Rattle.av1_intra.proofs.directional.directional_below_90.Goals as goal
 
 pub rows_below_90-requires-clause-dx : goal.rows_below_90-requires-clause-dx
 rows_below_90-requires-clause-dx g c =
     let h = below_90_few c.args.block.p_angle c.requires.angle c.requires.range in omega arith
-
-pub rows_below_90-requires-clause-within : goal.rows_below_90-requires-clause-within
-rows_below_90-requires-clause-within g c =
-    let b = c.args.block in
-    let w = side_within g.T.Pixel.num b.bit_depth (b.width + b.height) c.args.corner c.args.above.now c.requires.corner_within c.requires.above_within in
-    subst (Within b.bit_depth) (sym c.prepared_above-above.ensures.numbers) (prepared_within b.bit_depth b.smooth_filter _ _ _ _ _ w)
 
 pub returns-clause-painted : goal.returns-clause-painted
 returns-clause-painted g c = λ left.

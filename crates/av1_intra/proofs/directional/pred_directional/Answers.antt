@@ -1,4 +1,4 @@
-use Rattle.std.proofs.Common.{◌≡◌, ℕ, ◌+◌, ◌-◌, map, reverse, arith, ap, ◌∙◌, sym, Bool, Option, to_z, of_z, w64}
+use Rattle.std.proofs.Common.{◌≡◌, ℕ, map, reverse, arith, ap, ◌∙◌, sym, Bool, Option, to_z, of_z, w64}
 use Rattle.std.specs.Option.{option_map}
 use Rattle.std.proofs.lemmas.List.{get_or-map}
 use Rattle.av1_frame.specs.Regions.{painted}

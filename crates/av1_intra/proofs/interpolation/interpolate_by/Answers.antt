@@ -1,4 +1,4 @@
-use Rattle.std.proofs.Common.{ℕ, ◌≡◌, set, arith, ap, ◌∙◌}
+use Rattle.std.proofs.Common.{ℕ, set, arith, ap, ◌∙◌}
 use Rattle.av1_frame.proofs.Paint.{paint_row_more}
 use Rattle.av1_intra.specs.Sides.{entries}
 use Rattle.av1_intra.specs.Directional.{at}

@@ -1,5 +1,6 @@
-use Rattle.std.proofs.Common.{ℕ, ◌≡◌, ◌+◌, ◌-◌, ◌*◌, ◌/◌, ◌^◌, ◌≤◌, length, get_or, take, min, arith, ap, ◌∙◌, sym, subst}
+use Rattle.std.proofs.Common.{ℕ, ◌≡◌, ◌+◌, ◌-◌, ◌*◌, ◌/◌, ◌^◌, ◌≤◌, length, get_or, take, min, arith, ap, ◌∙◌, sym, subst, pos}
 use Rattle.std.proofs.lemmas.List.{places}
+use Rattle.av1_frame.specs.Arithmetic.{clip}
 use Rattle.av1_intra.specs.Sides.{entries}
 use Rattle.av1_intra.specs.Directional.{at, below_90}
 use Rattle.av1_intra.proofs.Derivatives.{doubled_few}
@@ -36,4 +37,4 @@ returns g c =
     let F = λ (k : ℕ) (_v : _). g.T.Pixel.pixel (at depth E u n k) in
     let G = λ (k : ℕ) (_v : _). g.T.Pixel.pixel (below_90 depth E u s n k) in
     let front = painted_front m _ F G c.args.row.now c.interpolate_row.new.row (omega (arith, M)) (grind (arith, places)) c.interpolate_row.ensures (λ k v l. ap g.T.Pixel.pixel (interpolated_column depth E u s n k c.requires.one (omega (arith, M)))) in
-    painted_rest m _ w (λ _ _. c.sample_of-end.result) G c.args.row.now _ c.fill_row.new.row (omega (arith, M)) c.requires.row_long (grind (arith, places)) front c.fill_row.ensures (λ k v l. c.sample_of-end.ensures ∙ ap g.T.Pixel.pixel (c.from.ensures ∙ ap (λ e. get_or c.args.above.now.numbers e 0) last ∙ repeated_column depth E u s n (m + k) c.requires.one (omega (arith, M))))
+    painted_rest m _ w (λ _ _. c.sample_of.result) G c.args.row.now _ c.fill_row.new.row (omega (arith, M)) c.requires.row_long (grind (arith, places)) front c.fill_row.ensures (λ k v l. c.sample_of.ensures ∙ ap g.T.Pixel.pixel (c.clipped-end.ensures.value ∙ ap (λ v. clip depth (pos v)) (c.from.ensures ∙ ap (λ e. get_or c.args.above.now.numbers e 0) last) ∙ repeated_column depth E u s n (m + k) c.requires.one (omega (arith, M))))
