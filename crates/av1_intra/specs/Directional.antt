@@ -40,14 +40,18 @@ side corner places = entries (corner ∷ places)
 abbrev pub blend : ℕ → Side → ℕ → ℕ → ℕ
 blend depth E e z = clip depth (pos ((E e * (32 - z) + E (e + 1) * z + 16) / 32))
 
--- The number at n/64 of a place past the corner, k places further, of the side E; u is 1 where E is doubled, else 0.
+-- the entry at n/64 of a place past the corner, k places further; u is 1 where the side is doubled, else 0
+abbrev pub entry : ℕ → ℕ → ℕ → ℕ
+entry u n k = n / 2 ^ (6 - u) + k * 2 ^ u
+
+-- the number at that place of the side E
 unfoldable pub at : ℕ → Side → ℕ → ℕ → ℕ → ℕ
-at depth E u n k = blend depth E (n / 2 ^ (6 - u) + k * 2 ^ u) (n * 2 ^ u / 2 % 32)
+at depth E u n k = blend depth E (entry u n k) (n * 2 ^ u / 2 % 32)
 
 -- An angle below 90, in column j of the row whose line meets the side above at n/64 past the corner; past the last of its s places that is repeated.
 unfoldable pub below_90 : ℕ → Side → ℕ → ℕ → ℕ → ℕ → ℕ
 below_90 depth E u s n j =
-    if nat_lt (n / 2 ^ (6 - u) + j * 2 ^ u) (s * 2 ^ u) then at depth E u n j else clip depth (pos (E (s * 2 ^ u)))
+    if nat_lt (entry u n j) (s * 2 ^ u) then at depth E u n j else clip depth (pos (E (s * 2 ^ u)))
 
 -- An angle between 90 and 180, at row i and column j: the line meets the side above, or else the left side.
 unfoldable pub between : ℕ → Side → ℕ → Side → ℕ → ℕ → ℕ → ℕ → ℕ → ℕ
@@ -61,30 +65,44 @@ abbrev pub filter_choice : {X : Type 0} → Option Bool → X → (Bool → X) �
 filter_choice None x f = x
 filter_choice (Some smooth) x f = f smooth
 
--- 1 where a side is doubled, else 0; s is the sum of the block's sides, and d how far the angle is from the side's own
-abbrev pub doubling : Option Bool → ℕ → ℕ → ℕ
-doubling filter s d = filter_choice filter 0 (λ smooth. if is_upsampled s smooth d then 1 else 0)
+-- 1 where a side of the block b is doubled, else 0; the angle is d degrees from the side's own
+abbrev pub doubling : DirectionalBlock → ℕ → ℕ
+doubling b d = filter_choice b.smooth_filter 0 (λ smooth. if is_upsampled (b.width + b.height) smooth d then 1 else 0)
 
--- the side A as samples are interpolated from it: n of its places are smoothed, and then m are doubled
-unfoldable pub prepared : ℕ → Option Bool → ℕ → ℕ → ℕ → ℕ → Side → Side
-prepared depth filter s d n m A =
-    filter_choice filter A (λ smooth.
-    let F = filtered n (filter_strength s smooth d) A in
-    if is_upsampled s smooth d then upsampled depth m F else F)
+-- the side A of the block b as samples are interpolated from it: n of its places are smoothed, and then m are doubled
+unfoldable pub prepared : DirectionalBlock → ℕ → ℕ → ℕ → Side → Side
+prepared b d n m A =
+    filter_choice b.smooth_filter A (λ smooth.
+    let F = filtered n (filter_strength (b.width + b.height) smooth d) A in
+    if is_upsampled (b.width + b.height) smooth d then upsampled b.bit_depth m F else F)
 
--- The sample at row i and column j of the block b. The places above run from the left, those on the left from the top. More of them are read above where the angle is below 90, and on the left where it is past 180.
+-- how many places past the block's own are read: above where the angle is below 90, and on the left where it is past 180
+abbrev pub more_above : DirectionalBlock → ℕ
+more_above b = if nat_lt b.p_angle 90 then b.height else 0
+
+abbrev pub more_left : DirectionalBlock → ℕ
+more_left b = if nat_lt 180 b.p_angle then b.width else 0
+
+-- The side above, prepared: the block's own places count as far as they are visible where the side is smoothed. The places run from the left.
+abbrev pub above_side : DirectionalBlock → ℕ → List ℕ → Side
+above_side b corner above =
+    let places = b.width + more_above b in
+    prepared b (distance b.p_angle 90) (min b.width b.visible_columns + more_above b) places (side corner (take places above))
+
+-- The left side in the same way. The places run from the top.
+abbrev pub left_side : DirectionalBlock → ℕ → List ℕ → Side
+left_side b corner left =
+    let places = b.height + more_left b in
+    prepared b (distance b.p_angle 180) (min b.height b.visible_rows + more_left b) places (side corner (take places left))
+
+-- the sample at row i and column j of the block b
 unfoldable pub directional : DirectionalBlock → ℕ → List ℕ → List ℕ → ℕ → ℕ → ℕ
 directional b corner above left i j =
     let p = b.p_angle in
-    let s = b.width + b.height in
-    let more_above = if nat_lt p 90 then b.height else 0 in
-    let more_left = if nat_lt 180 p then b.width else 0 in
-    let A = side corner (take (b.width + more_above) above) in
-    let L = side corner (take (b.height + more_left) left) in
-    let Ea = prepared b.bit_depth b.smooth_filter s (distance p 90) (min b.width b.visible_columns + more_above) (b.width + more_above) A in
-    let El = prepared b.bit_depth b.smooth_filter s (distance p 180) (min b.height b.visible_rows + more_left) (b.height + more_left) L in
-    let ua = doubling b.smooth_filter s (distance p 90) in
-    let ul = doubling b.smooth_filter s (distance p 180) in
-    if nat_lt p 90 then below_90 b.bit_depth Ea ua s ((i + 1) * derivative p + 64) j
+    let Ea = above_side b corner above in
+    let El = left_side b corner left in
+    let ua = doubling b (distance p 90) in
+    let ul = doubling b (distance p 180) in
+    if nat_lt p 90 then below_90 b.bit_depth Ea ua (b.width + b.height) ((i + 1) * derivative p + 64) j
     else if nat_lt p 180 then between b.bit_depth Ea ua El ul (derivative (180 - p)) (derivative (p - 90)) i j
     else at b.bit_depth El ul ((j + 1) * derivative (270 - p) + 64) i

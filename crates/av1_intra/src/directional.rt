@@ -18,7 +18,7 @@ use crate::prepared_side::{prepared_above, prepared_left};
 use av1_frame::{Pixel, PlaneRegionMut};
 
 /// A block that is predicted along a direction.
-#[derive(Clone, Copy, Debug, PartialEq, Eq)]
+#[derive(Clone, Copy)]
 pub(crate) struct DirectionalBlock {
     /// The angle, in degrees.
     pub(crate) p_angle: usize,

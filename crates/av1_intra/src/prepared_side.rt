@@ -90,8 +90,8 @@ fn filter_side(
     requires angle { block.p_angle < 300 }
     requires straight { straight < 300 }
     requires depth { block.bit_depth ≤ 16 }
-    ensures numbers { entries numbers.new ≡ prepared block.bit_depth block.smooth_filter (block.width + block.height) (distance block.p_angle straight) smoothed places (entries numbers.old) }
-    ensures doubling { result ≡ doubling block.smooth_filter (block.width + block.height) (distance block.p_angle straight) }
+    ensures numbers { entries numbers.new ≡ prepared block (distance block.p_angle straight) smoothed places (entries numbers.old) }
+    ensures doubling { result ≡ doubling block (distance block.p_angle straight) }
     ensures one { result ≤ 1 }
 {
     match block.smooth_filter {
@@ -120,8 +120,8 @@ pub(crate) fn prepared_above<T: Pixel>(
     requires long { places ≤ length above.now }
     requires angle { block.p_angle < 300 }
     requires depth { block.bit_depth ≤ 16 }
-    ensures numbers { entries result.numbers ≡ prepared block.bit_depth block.smooth_filter (block.width + block.height) (distance block.p_angle 90) smoothed places (side (T.num corner) (take places (map T.num above.now))) }
-    ensures doubling { result.doubling ≡ doubling block.smooth_filter (block.width + block.height) (distance block.p_angle 90) }
+    ensures numbers { entries result.numbers ≡ prepared block (distance block.p_angle 90) smoothed places (side (T.num corner) (take places (map T.num above.now))) }
+    ensures doubling { result.doubling ≡ doubling block (distance block.p_angle 90) }
     ensures one { result.doubling ≤ 1 }
 {
     let mut numbers = above_numbers(corner, above, places);
@@ -143,8 +143,8 @@ pub(crate) fn prepared_left<T: Pixel>(
     requires long { places ≤ length left.now }
     requires angle { block.p_angle < 300 }
     requires depth { block.bit_depth ≤ 16 }
-    ensures numbers { entries result.numbers ≡ prepared block.bit_depth block.smooth_filter (block.width + block.height) (distance block.p_angle 180) smoothed places (side (T.num corner) (take places (reverse (map T.num left.now)))) }
-    ensures doubling { result.doubling ≡ doubling block.smooth_filter (block.width + block.height) (distance block.p_angle 180) }
+    ensures numbers { entries result.numbers ≡ prepared block (distance block.p_angle 180) smoothed places (side (T.num corner) (take places (reverse (map T.num left.now)))) }
+    ensures doubling { result.doubling ≡ doubling block (distance block.p_angle 180) }
     ensures one { result.doubling ≤ 1 }
 {
     let mut numbers = left_numbers(corner, left, places);

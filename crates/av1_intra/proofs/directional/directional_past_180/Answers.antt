@@ -26,12 +26,12 @@ returns-clause-painted g c = λ above.
     let s = b.width + b.height in
     let left = reverse (map g.T.Pixel.num c.args.left.now) in
     let L = side (g.T.Pixel.num c.args.corner) (take (b.height + b.width) left) in
-    let P = λ (n : ℕ). prepared b.bit_depth b.smooth_filter s (distance b.p_angle 180) (n + b.width) (b.height + b.width) L in
+    let P = λ (n : ℕ). prepared b (distance b.p_angle 180) (n + b.width) (b.height + b.width) L in
     let E : entries c.prepared_left-left.result.numbers ≡ P (min b.height b.visible_rows) = c.prepared_left-left.ensures.numbers ∙ ap P c.min.ensures in
     let F = λ (B : Side) (u dy i j : ℕ). at b.bit_depth B u ((j + 1) * dy + 64) i in
     let G = λ (f : ℕ → ℕ → ℕ). painted out b.width b.height (λ i j _. g.T.Pixel.pixel (f i j)) in
     c.rows_past_180.ensures.painted
     ∙ ap (λ (B : Side). G (F B c.prepared_left-left.result.doubling c.dr_intra_derivative-dy.result)) E
     ∙ ap (λ (u : ℕ). G (F (P (min b.height b.visible_rows)) u c.dr_intra_derivative-dy.result)) c.prepared_left-left.ensures.doubling
-    ∙ ap (λ (dy : ℕ). G (F (P (min b.height b.visible_rows)) (doubling b.smooth_filter s (distance b.p_angle 180)) dy)) c.dr_intra_derivative-dy.ensures
+    ∙ ap (λ (dy : ℕ). G (F (P (min b.height b.visible_rows)) (doubling b (distance b.p_angle 180)) dy)) c.dr_intra_derivative-dy.ensures
     ∙ ap G (fun_ext (λ i. fun_ext (λ j. is_past_180 b (g.T.Pixel.num c.args.corner) above left i j c.requires.range)))

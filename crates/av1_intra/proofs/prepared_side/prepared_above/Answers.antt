@@ -1,9 +1,8 @@
-use Rattle.std.proofs.Common.{◌+◌, ap, ◌∙◌}
+use Rattle.std.proofs.Common.{ap, ◌∙◌}
 use Rattle.av1_intra.specs.Sides.{Side, distance}
 use Rattle.av1_intra.specs.Directional.{prepared}
 use Rattle.av1_intra.proofs.prepared_side.prepared_above.Goals as goal
 
 pub returns-clause-numbers : goal.returns-clause-numbers
 returns-clause-numbers g c =
-    let b = c.args.block in
-    c.filter_side-doubling.ensures.numbers ∙ ap (λ (A : Side). prepared b.bit_depth b.smooth_filter (b.width + b.height) (distance b.p_angle 90) c.args.smoothed c.args.places A) c.above_numbers-numbers.ensures
+    c.filter_side-doubling.ensures.numbers ∙ ap (λ (A : Side). prepared c.args.block (distance c.args.block.p_angle 90) c.args.smoothed c.args.places A) c.above_numbers-numbers.ensures
