@@ -7,11 +7,11 @@ use Rattle.std.proofs.Common.{mul_assoc}
 use Rattle.av1_intra.specs.Angles.{derivative, is_interpolated, ArePair}
 
 -- whether f holds of each number below n
-abbrev each_below : (ℕ → Bool) → ℕ → Bool
+abbrev pub each_below : (ℕ → Bool) → ℕ → Bool
 each_below f zero = true
 each_below f (suc n) = f n && each_below f n
 
-one_below : (f : ℕ → Bool) (n k : ℕ) → each_below f n ≡ true → k < n → f k ≡ true
+pub one_below : (f : ℕ → Bool) (n k : ℕ) → each_below f n ≡ true → k < n → f k ≡ true
 one_below f zero k h l = absurd (omega arith)
 one_below f (suc n) k h l =
     let a : (f n ≡ true) × (each_below f n ≡ true) = and_parts (f n) (each_below f n) h in

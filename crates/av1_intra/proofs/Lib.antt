@@ -9,3 +9,4 @@ pub mod Ranges
 pub mod Places
 pub mod RowParts
 pub mod Lines
+pub mod ModeAngles

@@ -1,6 +1,8 @@
 -- Directions of prediction, in degrees: 90 points straight up, 180 to the left.
 -- AV1 specification: directional intra prediction process (Dr_Intra_Derivative, Mode_To_Angle).
-use Rattle.std.specs.Prelude.{ℕ, ◌%◌, ◌*◌, ◌<◌, ◌≤◌, ◌==◌, List, [], ◌∷◌, Bool, false, not, ◌&&◌, ◌||◌, nat_le, if◌then◌else◌}
+use Rattle.std.specs.Prelude.{ℕ, ◌%◌, ◌*◌, ◌<◌, ◌≤◌, ◌==◌, List, [], ◌∷◌, Bool, false, not, ◌&&◌, ◌||◌, nat_le, if◌then◌else◌, map, unsigned_abs}
+use Rattle.av1_blocks.specs.declared.predict.PredictionMode.TheVariants.{V_PRED, H_PRED, D45_PRED, D135_PRED, D113_PRED, D157_PRED, D203_PRED, D67_PRED}
+use Rattle.av1_blocks.specs.Modes.{intra_mode_to_angle}
 use Rattle.av1_intra.specs.Sides.{distance}
 
 -- the number beside a in a table of pairs, and 0 where a has none
@@ -18,7 +20,8 @@ derivative a = beside a derivatives
 
 -- the angles of the directional modes
 abbrev pub mode_angles : List ℕ
-mode_angles = 45 ∷ 67 ∷ 90 ∷ 113 ∷ 135 ∷ 157 ∷ 180 ∷ 203 ∷ []
+mode_angles =
+    map (λ mode. unsigned_abs (intra_mode_to_angle mode)) (D45_PRED ∷ D67_PRED ∷ V_PRED ∷ D113_PRED ∷ D135_PRED ∷ D157_PRED ∷ H_PRED ∷ D203_PRED ∷ [])
 
 -- whether p is at most three steps of 3 degrees from one of these angles
 abbrev pub near_mode : ℕ → List ℕ → Bool

@@ -9,7 +9,7 @@
 //! - `filter_edge` and `upsample_edge` prepare a side in a slice, entry by entry, and leave the rest of the slice.
 //! - `select_ief_strength`, `select_ief_upsample` and `dr_intra_derivative` are their tables, and `IntraEdgeFilterParameters` tells
 //!   whether a neighbour has a smooth mode.
-//! - `lines_meet_their_sides`, a law: every entry of a side that a direction reads is there.
+//! - the laws: every entry of a side that a direction reads is there, and the modes have angles that `pred_directional` admits.
 //!
 //! Nothing allocates, and nothing is refused: what a call needs stands in its `requires`. Sides are counted in samples and angles
 //! in degrees: 90 points straight up, and 180 to the left. A side above runs from the left, and a left one is stored from the
@@ -33,7 +33,7 @@ mod upsampling;
 pub use angle::dr_intra_derivative;
 pub use directional::pred_directional;
 pub use edge_filter::{filter_edge, select_ief_strength};
-pub use laws::lines_meet_their_sides;
+pub use laws::{lines_meet_their_sides, modes_have_angles};
 pub use neighbours::IntraEdgeFilterParameters;
 pub use paeth::pred_paeth;
 pub use smooth::{pred_smooth, pred_smooth_h, pred_smooth_v};
