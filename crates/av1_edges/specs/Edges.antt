@@ -1,0 +1,130 @@
+-- The edge round a transform's samples, as it is read from a region by place.
+-- AV1 specification: intra prediction process: general; transform block syntax (haveAboveRt, haveBelowLft).
+use Rattle.std.specs.Prelude.{◌≡◌, ℕ, ◌+◌, ◌-◌, ◌*◌, ◌^◌, ◌<◌, ◌≤◌, List, Bool, ◌&&◌, ◌||◌, nat_lt, min, if◌then◌else◌, map, slice_index, Option, unsigned_abs}
+use Rattle.av1_blocks.specs.declared.predict.PredictionMode.{PredictionMode}
+use Rattle.av1_blocks.specs.declared.predict.IntraParam.{IntraParam}
+use Rattle.av1_blocks.specs.declared.partition.BlockSize.{BlockSize}
+use Rattle.av1_blocks.specs.declared.transform.TxSize.{TxSize}
+use Rattle.av1_blocks.specs.Chroma.{supersample_chroma_bsize}
+use Rattle.av1_blocks.specs.Transforms.{tx_width, tx_height}
+use Rattle.av1_frame.specs.declared.plane.PlaneConfig.{PlaneConfig}
+use Rattle.av1_frame.specs.declared.plane.PlaneOffset.{PlaneOffset}
+use Rattle.av1_frame.specs.declared.block_unit.TileBlockOffset.{TileBlockOffset}
+use Rattle.av1_frame.specs.declared.plane_region.PlaneRegion.{PlaneRegion}
+use Rattle.av1_frame.specs.Samples.{row_start}
+use Rattle.av1_frame.specs.Regions.{IsReadable}
+use Rattle.av1_avail.specs.Availability.{table_top_right, table_bottom_left}
+use Rattle.av1_avail.specs.Cells.{transform_columns, transform_rows}
+use Rattle.av1_edges.specs.declared.parts.Parts.{Parts}
+use Rattle.av1_edges.specs.declared.place.Place.{Place}
+use Rattle.av1_edges.specs.Parts.{prepared_parts, step_of}
+use Rattle.av1_edges.specs.Sides.{base, listed, where_asked, taken, above_at, left_at, corner_at, smoothed}
+
+-- ---- the region
+
+-- the number of the sample at column x of row y of the region, counted from its first
+abbrev pub region_sample : {T : Type 0} → (T → ℕ) → PlaneRegion T → ℕ → ℕ → ℕ
+region_sample num r x y = slice_index (map num r.plane.now.samples) (row_start r.plane_cfg.stride r.place y + x)
+
+-- how many of its columns and rows lie in the visible plane
+abbrev pub visible_columns : {T : Type 0} → PlaneRegion T → ℕ
+visible_columns r = min r.place.width (r.plane_cfg.xorigin + r.plane_cfg.width - r.place.x)
+
+abbrev pub visible_rows : {T : Type 0} → PlaneRegion T → ℕ
+visible_rows r = min r.place.height (r.plane_cfg.yorigin + r.plane_cfg.height - r.place.y)
+
+-- the region lies in storage and begins in the visible plane
+pub record BeginsVisible {T : Type 0} (r : PlaneRegion T) : Type 0 where
+  pub readable : IsReadable r
+  pub left : r.plane_cfg.xorigin ≤ r.place.x
+  pub top : r.plane_cfg.yorigin ≤ r.place.y
+  pub right : r.place.x < r.plane_cfg.xorigin + r.plane_cfg.width
+  pub bottom : r.place.y < r.plane_cfg.yorigin + r.plane_cfg.height
+
+-- the place's first sample lies in that part, and its units in the block are few
+pub record PlaceFits {T : Type 0} (r : PlaneRegion T) (at : Place) : Type 0 where
+  pub column : at.x < visible_columns r
+  pub row : at.y < visible_rows r
+  pub few_columns : at.bx * transform_columns at.tx_size < 2 ^ 16
+  pub few_rows : at.by * transform_rows at.tx_size < 2 ^ 16
+
+-- the place of a transform of a block, whose first sample is at po
+abbrev pub place_of : TileBlockOffset → (bx by : ℕ) → BlockSize → PlaneOffset → TxSize → Place
+place_of partition_bo bx by partition_size po tx_size = record {
+  x = unsigned_abs po.x;
+  y = unsigned_abs po.y;
+  tx_size = tx_size;
+  partition_bo = partition_bo;
+  partition_size = partition_size;
+  bx = bx;
+  by = by;
+}
+
+-- ---- what is coded before the transform
+
+-- the row or column before a transform lies in the tile, where the transform begins `offset` units after the first unit of a block that
+-- begins at the cell `cell`, in a plane of this decimation
+abbrev pub has_before : (offset cell decimation : ℕ) → Bool
+has_before offset cell decimation = nat_lt 0 offset || nat_lt decimation cell
+
+-- the samples above right of it may be taken
+abbrev pub has_above_right : {T : Type 0} → PlaneRegion T → Place → Bool
+has_above_right r at =
+    let cfg = r.plane_cfg in
+    let block = supersample_chroma_bsize at.partition_size cfg.xdec cfg.ydec in
+    let column = at.bx * transform_columns at.tx_size in
+    let row = at.by * transform_rows at.tx_size in
+    has_before row at.partition_bo.0.y cfg.ydec && nat_lt (at.x + tx_width at.tx_size) (visible_columns r) && table_top_right block at.partition_bo.0.x at.partition_bo.0.y (transform_columns at.tx_size) row column cfg.xdec
+
+-- the samples below left of it may be taken
+abbrev pub has_below_left : {T : Type 0} → PlaneRegion T → Place → Bool
+has_below_left r at =
+    let cfg = r.plane_cfg in
+    let block = supersample_chroma_bsize at.partition_size cfg.xdec cfg.ydec in
+    let column = at.bx * transform_columns at.tx_size in
+    let row = at.by * transform_rows at.tx_size in
+    nat_lt (at.y + tx_height at.tx_size) (visible_rows r) && has_before column at.partition_bo.0.x cfg.xdec && table_bottom_left block at.partition_bo.0.x at.partition_bo.0.y (transform_rows at.tx_size) row column cfg.xdec cfg.ydec
+
+-- ---- the edge
+
+-- the samples round a transform: above it from left to right, to its left from the top down, and the one above and left of it
+pub record Edge : Type 0 where
+  pub above : List ℕ
+  pub left : List ℕ
+  pub corner : ℕ
+
+-- how many samples above it, and to its left, are taken: past the transform at most as many as its lesser side
+abbrev pub taken_above : {T : Type 0} → PlaneRegion T → Place → Bool → ℕ
+taken_above r at goes_on =
+    taken (visible_columns r) at.x (tx_width at.tx_size) goes_on (min (tx_width at.tx_size) (tx_height at.tx_size))
+
+abbrev pub taken_left : {T : Type 0} → PlaneRegion T → Place → Bool → ℕ
+taken_left r at goes_on =
+    taken (visible_rows r) at.y (tx_height at.tx_size) goes_on (min (tx_width at.tx_size) (tx_height at.tx_size))
+
+-- how many places the side above has: as many as the transform has columns, and with what is above right as many more as it has rows
+abbrev pub above_places : Parts → TxSize → ℕ
+above_places parts tx_size = tx_width tx_size + where_asked parts.above_right (tx_height tx_size)
+
+-- how many the left side has, where it is prepared: as many as the transform has rows, and with what is below left as many more as it has
+-- columns
+abbrev pub left_places : Parts → TxSize → ℕ
+left_places parts tx_size = where_asked parts.left (tx_height tx_size) + where_asked parts.below_left (tx_width tx_size)
+
+-- the edge of which these parts are prepared
+unfoldable pub edge_of_parts : {T : Type 0} → (T → ℕ) → PlaneRegion T → Place → (depth : ℕ) → Parts → Edge
+edge_of_parts num r at depth parts =
+    let sample = region_sample num r in
+    let above = above_at sample (base depth) at.x at.y (taken_above r at (parts.above_right && has_above_right r at)) in
+    let left = left_at sample (base depth) at.x at.y (taken_left r at (parts.below_left && has_below_left r at)) in
+    let corner = if parts.corner then corner_at sample (base depth) at.x at.y else base depth in
+    record {
+      above = listed (above_places parts at.tx_size) above;
+      left = listed (left_places parts at.tx_size) left;
+      corner = if parts.smoothed then smoothed (left 0) corner (above 0) else corner;
+    }
+
+-- the edge of a mode, where one is named
+abbrev pub prepared_edge : {T : Type 0} → (T → ℕ) → PlaneRegion T → Place → (depth : ℕ) → Option PredictionMode → (filter : Bool) → IntraParam → Edge
+prepared_edge num r at depth mode filter param =
+    edge_of_parts num r at depth (prepared_parts filter mode (step_of param) at.x at.y (tx_width at.tx_size) (tx_height at.tx_size))

@@ -1,0 +1,46 @@
+-- What stands at each place round a block. `sample x y` is the number of the sample at column x of row y.
+-- AV1 specification: intra prediction process: general, the preparation of the arrays AboveRow and LeftCol.
+use Rattle.std.specs.Prelude.{ℕ, zero, suc, ◌+◌, ◌-◌, ◌*◌, ◌/◌, ◌^◌, List, Bool, nat_lt, min, if◌then◌else◌, map}
+use Rattle.std.specs.List.{range_with_len}
+
+-- half of the range of samples of this depth
+abbrev pub base : ℕ → ℕ
+base depth = 128 * 2 ^ (depth - 8)
+
+-- n where b, else 0
+abbrev pub where_asked : Bool → ℕ → ℕ
+where_asked b n = if b then n else 0
+
+-- f 0, .., f (n - 1)
+abbrev pub listed : {A : Type 0} → ℕ → (ℕ → A) → List A
+listed n f = map f (range_with_len 0 n)
+
+-- how many samples of a side are taken, whose `count` places begin at `first`: those before `limit`, and, where the side goes on, of a
+-- run behind them too
+abbrev pub taken : (limit first count : ℕ) → Bool → (run : ℕ) → ℕ
+taken limit first count goes_on run = min count (limit - first) + where_asked goes_on (min run (limit - first - count))
+
+-- place j above a block at column x of row y: a sample of the row above it, and past the last one that is taken that one again; in the
+-- first row the sample to the left of the block
+abbrev pub above_at : (ℕ → ℕ → ℕ) → (base x y taken : ℕ) → ℕ → ℕ
+above_at sample base x y taken j =
+    if nat_lt 0 y then sample (x + min j (taken - 1)) (y - 1)
+    else (if nat_lt 0 x then sample (x - 1) 0 else base - 1)
+
+-- place i to the left of it, counted from the top down: the same of the column to the left of it, and in the first column the sample
+-- above the block
+abbrev pub left_at : (ℕ → ℕ → ℕ) → (base x y taken : ℕ) → ℕ → ℕ
+left_at sample base x y taken i =
+    if nat_lt 0 x then sample (x - 1) (y + min i (taken - 1))
+    else (if nat_lt 0 y then sample 0 (y - 1) else base + 1)
+
+-- the corner above and to the left of it
+abbrev pub corner_at : (ℕ → ℕ → ℕ) → (base x y : ℕ) → ℕ
+corner_at sample base zero zero = base
+corner_at sample base (suc x) zero = sample x 0
+corner_at sample base zero (suc y) = sample 0 y
+corner_at sample base (suc x) (suc y) = sample x y
+
+-- the corner, smoothed by the first sample to the left and the first above (the filter corner process)
+abbrev pub smoothed : (left corner above : ℕ) → ℕ
+smoothed left corner above = (5 * left + 6 * corner + 5 * above + 8) / 16

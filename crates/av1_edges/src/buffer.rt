@@ -1,0 +1,56 @@
+//! Where an edge is prepared.
+
+ghost use Rattle.std.specs.Prelude.{◌≡◌, IfOk, vec_len};
+ghost use Rattle.av1_edges.specs.Counts.{counted};
+
+use av1_blocks::OutOfMemory;
+use av1_frame::Pixel;
+use std::alloc::{AllocError, Global};
+
+/// The most places on one side of an edge: two sides of the largest transform.
+pub(crate) const LONGEST_EDGE: usize = 128;
+
+/// Room for the samples round a transform: 128 to its left from the bottom up, the corner, and 128 above it.
+#[derive(Drop)]
+pub struct IntraEdgeBuffer<T> {
+    pub(crate) samples: Vec<T>,
+    pub(crate) prepared: u64,
+    pub(crate) ghost whole: { vec_len samples ≡ 257 },
+}
+
+/// As many samples of the number 0.
+fn samples<T: Pixel>(alloc: Global, count: usize) -> Result<Vec<T>, AllocError>
+    ensures { IfOk result (λ v. vec_len v ≡ count) }
+{
+    let mut samples = Vec::with_capacity(alloc, count)?;
+    for _i in 0..count {
+        samples.push(T::from_u32(0))?;
+    }
+    Ok(samples)
+}
+
+impl<T: Pixel> IntraEdgeBuffer<T> {
+    /// A buffer in which no edge has been prepared.
+    pub fn new(alloc: Global) -> Result<IntraEdgeBuffer<T>, OutOfMemory>
+        ensures { IfOk result (λ buffer. buffer.prepared ≡ 0) }
+    {
+        Ok(IntraEdgeBuffer {
+            samples: samples(alloc, 2 * LONGEST_EDGE + 1)?,
+            prepared: 0,
+        })
+    }
+
+    /// How many edges have been prepared here, up to the last value of a `u64`.
+    pub fn prepared(&self) -> u64
+        ensures { result ≡ self.now.prepared }
+    {
+        self.prepared
+    }
+
+    /// Counts one more edge.
+    pub(crate) fn count(&mut self)
+        ensures { self.new ≡ record self.old { prepared = counted self.old.prepared } }
+    {
+        self.prepared = self.prepared.saturating_add(1);
+    }
+}

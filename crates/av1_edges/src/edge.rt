@@ -1,0 +1,38 @@
+//! The samples round a transform.
+
+ghost use Rattle.std.specs.Prelude.{◌≡◌, length};
+
+use av1_frame::Pixel;
+
+/// The samples round a transform.
+#[derive(Clone, Copy)]
+pub struct IntraEdge<'a, T> {
+    pub(crate) left: &'a [T],
+    pub(crate) top_left: &'a [T],
+    pub(crate) above: &'a [T],
+}
+
+impl<'a, T: Pixel> IntraEdge<'a, T> {
+    /// An edge of these samples: those to the left from the bottom up, the corner, and those above.
+    pub fn from_slices(left: &'a [T], top_left: &'a [T], above: &'a [T]) -> IntraEdge<'a, T>
+        requires { length top_left.now ≡ 1 }
+        ensures left { result.left.now ≡ left.now }
+        ensures top_left { result.top_left.now ≡ top_left.now }
+        ensures above { result.above.now ≡ above.now }
+    {
+        IntraEdge {
+            left,
+            top_left,
+            above,
+        }
+    }
+
+    /// The samples to the left from the bottom up, the corner, and the samples above.
+    pub fn as_slices(&self) -> (&'a [T], &'a [T], &'a [T])
+        ensures left { result.0.now ≡ self.now.left.now }
+        ensures top_left { result.1.now ≡ self.now.top_left.now }
+        ensures above { result.2.now ≡ self.now.above.now }
+    {
+        (self.left, self.top_left, self.above)
+    }
+}

@@ -1,0 +1,154 @@
+//! The samples round a block, read from its region by place.
+//!
+//! AV1 specification: intra prediction process: general, the preparation of the arrays AboveRow and LeftCol.
+
+ghost use Rattle.std.specs.Prelude.{◌≡◌, ℕ, ◌+◌, ◌-◌, ◌*◌, ◌^◌, ◌<◌, ◌≤◌, length, slice_index_or, min, map, reverse, if◌then◌else◌};
+ghost use Rattle.av1_edges.specs.Sides.{base, listed, above_at, left_at, corner_at, smoothed};
+ghost use Rattle.av1_edges.specs.Edges.{BeginsVisible, region_sample, visible_columns, visible_rows};
+
+use av1_frame::{Pixel, PlaneRegion};
+
+/// Each sample of the row becomes `value`.
+fn fill_with<T: Pixel>(row: &mut [T], value: T)
+    ensures { (k : ℕ) (d : T) → k < length row.new → slice_index_or row.new k d ≡ value }
+{
+    for sample in row.iter_mut() {
+        *sample = value;
+    }
+}
+
+/// The row becomes the samples of `source`, and then the last of them again and again.
+fn extend_from<T: Pixel>(row: &mut [T], source: &[T])
+    requires some { 0 < length source.now }
+    requires room { length source.now ≤ length row.old }
+    ensures { (k : ℕ) (d : T) → k < length row.new → slice_index_or row.new k d ≡ slice_index_or source.now (min k (length source.now - 1)) d }
+{
+    let count = source.len();
+    let last = source[count - 1];
+    row[..count].copy_from_slice(source);
+    fill_with(&mut row[count..], last);
+}
+
+/// Half of the range of samples of this depth.
+fn half_range(bit_depth: usize) -> u32
+    requires low { 8 ≤ bit_depth }
+    requires high { bit_depth ≤ 16 }
+    ensures value { result ≡ base bit_depth }
+    ensures room { result + result ≡ 2 ^ bit_depth }
+    ensures some { 128 ≤ result }
+{
+    128 << (bit_depth - 8)
+}
+
+/// The sample at column `x` of row `y` of the region.
+fn sample_of<T: Pixel>(dst: &PlaneRegion<'_, T>, x: usize, y: usize) -> T
+    requires begins { BeginsVisible dst.now }
+    requires column { x < visible_columns dst.now }
+    requires row { y < visible_rows dst.now }
+    ensures { T.num result ≡ region_sample T.num dst.now x y }
+{
+    dst.row(y)[x]
+}
+
+/// The side above a block at column `x` of row `y`, as wide as `above`, of which `taken` samples are taken.
+pub(crate) fn fill_above<T: Pixel>(
+    above: &mut [T],
+    dst: &PlaneRegion<'_, T>,
+    x: usize,
+    y: usize,
+    taken: usize,
+    bit_depth: usize,
+)
+    requires some { 0 < taken }
+    requires room { taken ≤ length above.old }
+    requires begins { BeginsVisible dst.now }
+    requires columns { x + taken ≤ visible_columns dst.now }
+    requires row { y < visible_rows dst.now }
+    requires low { 8 ≤ bit_depth }
+    requires depth { bit_depth ≤ T.BITS }
+    ensures { map T.num above.new ≡ listed (length above.old) (above_at (region_sample T.num dst.now) (base bit_depth) x y taken) }
+{
+    if y > 0 {
+        extend_from(above, &dst.row(y - 1)[x..x + taken]);
+    } else if x > 0 {
+        fill_with(above, sample_of(dst, x - 1, 0));
+    } else {
+        fill_with(above, T::from_u32(half_range(bit_depth) - 1));
+    }
+}
+
+/// The samples of column `x` from row `y` on, as many as `left`, from the bottom up.
+fn copy_column<T: Pixel>(left: &mut [T], dst: &PlaneRegion<'_, T>, x: usize, y: usize)
+    requires begins { BeginsVisible dst.now }
+    requires column { x < visible_columns dst.now }
+    requires rows { y + length left.old ≤ visible_rows dst.now }
+    ensures { (k : ℕ) (d : T) → k < length left.new → T.num (slice_index_or left.new k d) ≡ region_sample T.num dst.now x (y + (length left.old - 1 - k)) }
+{
+    let count = left.len();
+    for i in 0..count {
+        left[i] = dst.row(y + (count - 1 - i))[x];
+    }
+}
+
+/// The side to the left of a block at column `x` of row `y`, from the bottom up, as high as `left`, of which
+/// `taken` samples are taken.
+pub(crate) fn fill_left<T: Pixel>(
+    left: &mut [T],
+    dst: &PlaneRegion<'_, T>,
+    x: usize,
+    y: usize,
+    taken: usize,
+    bit_depth: usize,
+)
+    requires some { 0 < taken }
+    requires room { 0 < x → taken ≤ length left.old }
+    requires begins { BeginsVisible dst.now }
+    requires column { x < visible_columns dst.now }
+    requires rows { y + taken ≤ visible_rows dst.now }
+    requires low { 8 ≤ bit_depth }
+    requires depth { bit_depth ≤ T.BITS }
+    ensures { map T.num left.new ≡ reverse (listed (length left.old) (left_at (region_sample T.num dst.now) (base bit_depth) x y taken)) }
+{
+    if x > 0 {
+        let rest = left.len() - taken;
+        let (below, inside) = left.split_at_mut(rest);
+        copy_column(inside, dst, x - 1, y);
+        fill_with(below, inside[0]);
+    } else if y > 0 {
+        fill_with(left, sample_of(dst, 0, y - 1));
+    } else {
+        fill_with(left, T::from_u32(half_range(bit_depth) + 1));
+    }
+}
+
+/// The corner of a block at column `x` of row `y` where it is asked for, else half of the samples' range.
+pub(crate) fn corner_of<T: Pixel>(
+    dst: &PlaneRegion<'_, T>,
+    x: usize,
+    y: usize,
+    asked: bool,
+    bit_depth: usize,
+) -> T
+    requires begins { BeginsVisible dst.now }
+    requires column { x < visible_columns dst.now }
+    requires row { y < visible_rows dst.now }
+    requires low { 8 ≤ bit_depth }
+    requires depth { bit_depth ≤ T.BITS }
+    ensures { T.num result ≡ (if asked then corner_at (region_sample T.num dst.now) (base bit_depth) x y else base bit_depth) }
+{
+    if asked && x + y > 0 {
+        sample_of(dst, x.saturating_sub(1), y.saturating_sub(1))
+    } else {
+        T::from_u32(half_range(bit_depth))
+    }
+}
+
+/// The corner, smoothed by the first samples to the left and above.
+///
+/// AV1 specification: filter corner process.
+pub(crate) fn smooth_corner<T: Pixel>(left: T, corner: T, above: T) -> T
+    ensures { T.num result ≡ smoothed (T.num left) (T.num corner) (T.num above) }
+{
+    let sum = 5 * left.to_u32() + 6 * corner.to_u32() + 5 * above.to_u32();
+    T::from_u32((sum + 8) >> 4)
+}

@@ -1,0 +1,185 @@
+//! The call that prepares an edge.
+
+ghost use Rattle.std.specs.Prelude.{◌≡◌, ℕ, ◌+◌, ◌-◌, ◌*◌, ◌<◌, ◌≤◌, [], ◌∷◌, true, length, map, reverse, pos, ◌≤ℤ◌, vec_len};
+ghost use Rattle.std.specs.Borrow.{sem};
+ghost use Rattle.av1_blocks.specs.Transforms.{tx_width, tx_height};
+ghost use Rattle.av1_frame.specs.Samples.{part};
+ghost use Rattle.av1_edges.specs.Buffers.{CountsOne};
+ghost use Rattle.av1_edges.specs.Edges.{BeginsVisible, PlaceFits, place_of, edge_of_parts, prepared_edge, above_places, left_places};
+
+use crate::buffer::{IntraEdgeBuffer, LONGEST_EDGE};
+use crate::edge::IntraEdge;
+use crate::fill::{corner_of, fill_above, fill_left, smooth_corner};
+use crate::parts::Parts;
+use crate::place::Place;
+use av1_blocks::{BlockSize, IntraParam, PredictionMode, TxSize};
+use av1_frame::{Pixel, PlaneOffset, PlaneRegion, TileBlockOffset};
+
+/// How many places the side above a transform has.
+fn above_places(parts: Parts, tx_size: TxSize) -> usize
+    ensures value { result ≡ above_places parts tx_size }
+    ensures some { 0 < result }
+    ensures most { result ≤ 128 }
+{
+    if parts.above_right {
+        tx_size.width() + tx_size.height()
+    } else {
+        tx_size.width()
+    }
+}
+
+/// How many places the side to its left has.
+fn left_places(parts: Parts, tx_size: TxSize) -> usize
+    ensures value { result ≡ left_places parts tx_size }
+    ensures some { parts.left ≡ true → 0 < result }
+    ensures most { result ≤ 128 }
+{
+    let own = if parts.left { tx_size.height() } else { 0 };
+    if parts.below_left {
+        own + tx_size.width()
+    } else {
+        own
+    }
+}
+
+/// The corner of the edge, whose sides are these.
+fn edge_corner<T: Pixel>(
+    left: &[T],
+    above: &[T],
+    dst: &PlaneRegion<'_, T>,
+    at: Place,
+    bit_depth: usize,
+    parts: Parts,
+) -> T
+    requires begins { BeginsVisible dst.now }
+    requires fits { PlaceFits dst.now at }
+    requires low { 8 ≤ bit_depth }
+    requires depth { bit_depth ≤ T.BITS }
+    requires left_some { parts.smoothed ≡ true → 0 < length left.now }
+    requires above_some { 0 < length above.now }
+    requires left { map T.num left.now ≡ reverse (edge_of_parts T.num dst.now at bit_depth parts).left }
+    requires above { map T.num above.now ≡ (edge_of_parts T.num dst.now at bit_depth parts).above }
+    ensures { T.num result ≡ (edge_of_parts T.num dst.now at bit_depth parts).corner }
+{
+    let corner = corner_of(dst, at.x, at.y, parts.corner, bit_depth);
+    if parts.smoothed {
+        smooth_corner(left[left.len() - 1], corner, above[0])
+    } else {
+        corner
+    }
+}
+
+/// The samples of an edge of `parts`, where they stand in a buffer.
+fn fill_edge<T: Pixel>(
+    samples: &mut [T],
+    dst: &PlaneRegion<'_, T>,
+    at: Place,
+    bit_depth: usize,
+    parts: Parts,
+)
+    requires whole { length samples.old ≡ 257 }
+    requires begins { BeginsVisible dst.now }
+    requires fits { PlaceFits dst.now at }
+    requires low { 8 ≤ bit_depth }
+    requires depth { bit_depth ≤ T.BITS }
+    requires inside { 0 < at.x → parts.left ≡ true }
+    requires smooth { parts.smoothed ≡ true → parts.left ≡ true }
+    ensures left { let n = left_places parts at.tx_size in map T.num (part (128 - n) n samples.new) ≡ reverse (edge_of_parts T.num dst.now at bit_depth parts).left }
+    ensures corner { map T.num (part 128 1 samples.new) ≡ (edge_of_parts T.num dst.now at bit_depth parts).corner ∷ [] }
+    ensures above { map T.num (part 129 (above_places parts at.tx_size) samples.new) ≡ (edge_of_parts T.num dst.now at bit_depth parts).above }
+{
+    let left_places = left_places(parts, at.tx_size);
+    let above_places = above_places(parts, at.tx_size);
+    let (_, samples) = samples.split_at_mut(LONGEST_EDGE - left_places);
+    let (left, samples) = samples.split_at_mut(left_places);
+    let (corner, samples) = samples.split_at_mut(1);
+    let (above, _) = samples.split_at_mut(above_places);
+    let taken_left = at.taken_left(dst, parts.below_left);
+    fill_left(left, dst, at.x, at.y, taken_left, bit_depth);
+    let taken_above = at.taken_above(dst, parts.above_right);
+    fill_above(above, dst, at.x, at.y, taken_above, bit_depth);
+    corner[0] = edge_corner(left, above, dst, at, bit_depth, parts);
+}
+
+/// The edge in a buffer, of so many places to the left and above.
+fn edge_in<T: Pixel>(edge_buf: &IntraEdgeBuffer<T>, left: usize, above: usize) -> IntraEdge<'_, T>
+    requires few_left { left ≤ 128 }
+    requires few_above { above ≤ 128 }
+    ensures left { result.left.now ≡ part (128 - left) left edge_buf.now.samples.items }
+    ensures corner { result.top_left.now ≡ part 128 1 edge_buf.now.samples.items }
+    ensures above { result.above.now ≡ part 129 above edge_buf.now.samples.items }
+{
+    let samples = edge_buf.samples.as_slice();
+    IntraEdge {
+        left: &samples[LONGEST_EDGE - left..LONGEST_EDGE],
+        top_left: &samples[LONGEST_EDGE..LONGEST_EDGE + 1],
+        above: &samples[LONGEST_EDGE + 1..LONGEST_EDGE + 1 + above],
+    }
+}
+
+/// The place of a transform of a block, whose first sample is at `po`.
+fn place_of(
+    partition_bo: TileBlockOffset,
+    bx: usize,
+    by: usize,
+    partition_size: BlockSize,
+    po: PlaneOffset,
+    tx_size: TxSize,
+) -> Place
+    requires column { pos 0 ≤ℤ po.x }
+    requires row { pos 0 ≤ℤ po.y }
+    ensures { result ≡ place_of partition_bo bx by partition_size po tx_size }
+{
+    Place {
+        x: po.x as usize,
+        y: po.y as usize,
+        tx_size,
+        partition_bo,
+        partition_size,
+        bx,
+        by,
+    }
+}
+
+pub fn get_intra_edges<'a, T: Pixel>(
+    edge_buf: &'a mut IntraEdgeBuffer<T>,
+    dst: &PlaneRegion<'_, T>,
+    partition_bo: TileBlockOffset,
+    bx: usize,
+    by: usize,
+    partition_size: BlockSize,
+    po: PlaneOffset,
+    tx_size: TxSize,
+    bit_depth: usize,
+    opt_mode: Option<PredictionMode>,
+    enable_intra_edge_filter: bool,
+    intra_param: IntraParam,
+) -> IntraEdge<'a, T>
+    requires begins { BeginsVisible dst.now }
+    requires column { pos 0 ≤ℤ po.x }
+    requires row { pos 0 ≤ℤ po.y }
+    requires fits { PlaceFits dst.now (place_of partition_bo bx by partition_size po tx_size) }
+    requires low { 8 ≤ bit_depth }
+    requires depth { bit_depth ≤ T.BITS }
+    ensures* count { sem 𝓛 (CountsOne T.row edge_buf.entry) }
+    ensures left { map T.num result.left.now ≡ reverse (prepared_edge T.num dst.now (place_of partition_bo bx by partition_size po tx_size) bit_depth opt_mode enable_intra_edge_filter intra_param).left }
+    ensures corner { map T.num result.top_left.now ≡ (prepared_edge T.num dst.now (place_of partition_bo bx by partition_size po tx_size) bit_depth opt_mode enable_intra_edge_filter intra_param).corner ∷ [] }
+    ensures above { map T.num result.above.now ≡ (prepared_edge T.num dst.now (place_of partition_bo bx by partition_size po tx_size) bit_depth opt_mode enable_intra_edge_filter intra_param).above }
+{
+    let at = place_of(partition_bo, bx, by, partition_size, po, tx_size);
+    let parts = Parts::prepared(
+        enable_intra_edge_filter,
+        opt_mode,
+        intra_param,
+        at.x,
+        at.y,
+        tx_size,
+    );
+    edge_buf.count();
+    fill_edge(edge_buf.samples.as_mut_slice(), dst, at, bit_depth, parts);
+    edge_in(
+        edge_buf,
+        left_places(parts, at.tx_size),
+        above_places(parts, at.tx_size),
+    )
+}
