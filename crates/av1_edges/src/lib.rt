@@ -7,6 +7,8 @@ mod fill;
 mod intra_edges;
 mod parts;
 mod place;
+#[cfg(test)]
+mod tests;
 
 pub use buffer::IntraEdgeBuffer;
 pub use edge::IntraEdge;

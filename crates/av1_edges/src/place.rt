@@ -29,7 +29,7 @@ pub(crate) struct Place {
 }
 
 /// How many columns of the region lie in the visible plane.
-fn visible_columns<T: Pixel>(dst: &PlaneRegion<'_, T>) -> usize
+pub(crate) fn visible_columns<T: Pixel>(dst: &PlaneRegion<'_, T>) -> usize
     requires { BeginsVisible dst.now }
     ensures { result ≡ visible_columns dst.now }
 {
@@ -38,7 +38,7 @@ fn visible_columns<T: Pixel>(dst: &PlaneRegion<'_, T>) -> usize
 }
 
 /// How many rows of the region lie in the visible plane.
-fn visible_rows<T: Pixel>(dst: &PlaneRegion<'_, T>) -> usize
+pub(crate) fn visible_rows<T: Pixel>(dst: &PlaneRegion<'_, T>) -> usize
     requires { BeginsVisible dst.now }
     ensures { result ≡ visible_rows dst.now }
 {

@@ -26,10 +26,12 @@ returns g c =
     let samples = c.fill_edge.new.samples in
     let kept : c.count.new.self.samples.len ≡ length samples = omega arith in
     let old = c.count.new.self.samples.items in
-    let l = c.count.new.self.samples.len in
-    ((refl, λ _. tt, ap (λ (b : IntraEdgeBuffer _). b.prepared) c.count.ensures), record {
-      count = tt;
-      left = lent_part num (λ n. 128 - n) _ samples old l _ _ e.left kept c.left_places.ensures.value ∙ f.left ∙ ap (λ (t : Edge). reverse t.left) same;
-      corner = lent_part num (λ n. 128) _ samples old l 1 1 e.corner kept refl ∙ f.corner ∙ ap (λ (t : Edge). t.corner ∷ []) same;
-      above = lent_part num (λ n. 129) _ samples old l _ _ e.above kept c.above_places.ensures.value ∙ f.above ∙ ap (λ (t : Edge). t.above) same;
-    })
+    let l = c.count.new.self.samples.len in (
+      (refl, λ _. tt, ap (λ (b : IntraEdgeBuffer _). b.prepared) c.count.ensures),
+      record {
+        count = tt;
+        left = lent_part num (λ n. 128 - n) _ samples old l _ _ e.left kept c.left_places.ensures.value ∙ f.left ∙ ap (λ (t : Edge). reverse t.left) same;
+        corner = lent_part num (λ n. 128) _ samples old l 1 1 e.corner kept refl ∙ f.corner ∙ ap (λ (t : Edge). t.corner ∷ []) same;
+        above = lent_part num (λ n. 129) _ samples old l _ _ e.above kept c.above_places.ensures.value ∙ f.above ∙ ap (λ (t : Edge). t.above) same;
+      },
+    )
