@@ -1,3 +1,4 @@
 pub mod Lists
 pub mod Samples
 pub mod Parted
+pub mod WholePlane

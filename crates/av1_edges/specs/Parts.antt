@@ -25,15 +25,17 @@ step_of param = pos 0
 abbrev pub angle : PredictionMode → ℤ → ℤ
 angle mode step = intra_mode_to_angle mode +ℤ pos 3 *ℤ step
 
--- the samples to the left: the mean of nothing but what is above serves at the left end
+-- the samples to the left of a block at column x; the modes that take a mean do without them at the left end
 abbrev pub asks_left : PredictionMode → ℕ → Bool
 asks_left DC_PRED x = nat_lt 0 x
 asks_left UV_CFL_PRED x = nat_lt 0 x
 asks_left mode x = true
 
+-- the samples below those to the left: past the angle of straight to the right
 abbrev pub asks_below_left : PredictionMode → ℤ → Bool
 asks_below_left mode step = is_directional mode && int_lt (pos 180) (angle mode step)
 
+-- the samples to the right of those above: before the angle of straight down
 abbrev pub asks_above_right : PredictionMode → ℤ → Bool
 asks_above_right mode step = is_directional mode && int_lt (angle mode step) (pos 90)
 
@@ -41,6 +43,7 @@ asks_above_right mode step = is_directional mode && int_lt (angle mode step) (po
 abbrev pub is_slanted : ℤ → Bool
 is_slanted p = not (int_eq p (pos 90)) && not (int_eq p (pos 180))
 
+-- the corner
 abbrev pub asks_corner : PredictionMode → ℤ → Bool
 asks_corner PAETH_PRED step = true
 asks_corner mode step = is_directional mode && is_slanted (angle mode step)

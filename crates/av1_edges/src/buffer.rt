@@ -7,10 +7,11 @@ use av1_blocks::OutOfMemory;
 use av1_frame::Pixel;
 use std::alloc::{AllocError, Global};
 
-/// The most places on one side of an edge: two sides of the largest transform.
+/// The most places on one side of an edge: twice the side of the largest transform.
 pub(crate) const LONGEST_EDGE: usize = 128;
 
-/// Room for the samples round a transform: 128 to its left from the bottom up, the corner, and 128 above it.
+/// Room for the samples round a transform, 257 of them: 128 to its left from the bottom up, the corner, and 128 above it from left to
+/// right. It counts the edges that are prepared in it.
 #[derive(Drop)]
 pub struct IntraEdgeBuffer<T> {
     pub(crate) samples: Vec<T>,

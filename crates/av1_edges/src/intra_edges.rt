@@ -15,7 +15,7 @@ use crate::place::Place;
 use av1_blocks::{BlockSize, IntraParam, PredictionMode, TxSize};
 use av1_frame::{Pixel, PlaneOffset, PlaneRegion, TileBlockOffset};
 
-/// How many places the side above a transform has.
+/// How many places the side above a transform has: with what is above right as many more as it has rows.
 fn above_places(parts: Parts, tx_size: TxSize) -> usize
     ensures value { result ≡ above_places parts tx_size }
     ensures some { 0 < result }
@@ -28,7 +28,7 @@ fn above_places(parts: Parts, tx_size: TxSize) -> usize
     }
 }
 
-/// How many places the side to its left has.
+/// How many places the side to its left has: with what is below left as many more as it has columns.
 fn left_places(parts: Parts, tx_size: TxSize) -> usize
     ensures value { result ≡ left_places parts tx_size }
     ensures some { parts.left ≡ true → 0 < result }
@@ -42,7 +42,7 @@ fn left_places(parts: Parts, tx_size: TxSize) -> usize
     }
 }
 
-/// The corner of the edge, whose sides are these.
+/// The corner of the edge of `parts` whose sides are these, smoothed where that is asked for.
 fn edge_corner<T: Pixel>(
     left: &[T],
     above: &[T],
@@ -69,7 +69,8 @@ fn edge_corner<T: Pixel>(
     }
 }
 
-/// The samples of an edge of `parts`, where they stand in a buffer.
+/// Fills the samples of a buffer with the edge of `parts`: the left side ends before the corner, which stands in the middle, and the
+/// side above begins behind it.
 fn fill_edge<T: Pixel>(
     samples: &mut [T],
     dst: &PlaneRegion<'_, T>,
@@ -141,6 +142,23 @@ fn place_of(
     }
 }
 
+/// Prepares the samples round a transform, in `edge_buf`.
+///
+/// The transform has the size `tx_size` and its first sample at `po`, counted from the first sample of the region `dst`. Of the region
+/// only what lies in the visible plane is read. The transform is the one in column `bx` and row `by` of its block, counted in
+/// transforms; the block has the luma size `partition_size` and begins at the cell `partition_bo` of the tile.
+///
+/// The side above holds the row above the transform from its first column on, as many samples as it is wide; the side to the left holds
+/// the column before it, as many as it is high. At the region's upper end the former is the sample to the left of the transform, and at
+/// the left end the latter is the sample above it, again and again; where there is neither, they are half of the range of samples of
+/// `bit_depth` less 1 and plus 1. What continues them, where the angle of `opt_mode` and `intra_param` asks for it, is taken as far as
+/// the lesser side of the transform, where `has_top_right` or `has_bottom_left` says that it is coded before. Past the last sample that
+/// is taken, and at the ends of the region, that one is repeated.
+///
+/// The corner is half of the range unless the mode asks for it. Where `enable_intra_edge_filter` is set, it is smoothed for an angle
+/// between 90 and 180 degrees and sides that come to 24 or more.
+///
+/// AV1 specification: intra prediction process: general; for the smoothing filter corner process.
 pub fn get_intra_edges<'a, T: Pixel>(
     edge_buf: &'a mut IntraEdgeBuffer<T>,
     dst: &PlaneRegion<'_, T>,
