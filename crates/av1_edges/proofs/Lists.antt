@@ -1,8 +1,8 @@
 -- Lists of samples and of their numbers.
-use Rattle.std.proofs.Common.{ℕ, ◌+◌, ◌-◌, ◌*◌, ◌^◌, ◌<◌, ◌≤◌, ◌≡◌, List, [], ◌∷◌, ◌++◌, length, get_or, set, take, drop, map, reverse, min, ap, arith, ◌∙◌, sym, inl, inr}
+use Rattle.std.proofs.Common.{ℕ, ◌+◌, ◌-◌, ◌<◌, ◌≤◌, ◌≡◌, List, [], ◌∷◌, ◌++◌, length, get_or, set, take, drop, map, reverse, min, ap, arith, ◌∙◌, sym, inl, inr}
 use Rattle.std.proofs.lemmas.Bool.{cases_lt}
 use Rattle.std.proofs.lemmas.Grind.{get_or-set_at}
-use Rattle.std.proofs.lemmas.List.{get_or-map, get_or-set_other, get_or-take, get_or-drop, get_or-reverse, get_or_append_left, get_or-append-add, length-map, length-reverse, length-append, length-set, append_assoc}
+use Rattle.std.proofs.lemmas.List.{get_or-map, get_or-set_other, get_or-take, get_or-drop, get_or-reverse, get_or_append_left, get_or-append-add, length-map, length-reverse, length-append}
 use Rattle.std.proofs.lemmas.List.FromFn.{fill_by_all, length-map-range_with_len, get_or-map-range_with_len}
 use Rattle.std.proofs.Math.Seq.{drop-append_seam, take-append_seam}
 use Rattle.av1_frame.specs.Samples.{part}

@@ -1,5 +1,5 @@
 -- The parts of an edge where they stand in a buffer.
-use Rattle.std.proofs.Common.{ℕ, ◌+◌, ◌-◌, ◌≡◌, List, [], ◌∷◌, ◌++◌, length, get_or, map, set, reverse, ◌<◌, ap, arith, ◌∙◌, sym, Bool, true, false, ◌&&◌, cond}
+use Rattle.std.proofs.Common.{ℕ, ◌+◌, ◌-◌, ◌≡◌, List, ◌++◌, length, get_or, map, reverse, ◌<◌, ap, arith, ◌∙◌, sym, Bool, true, false, ◌&&◌, cond}
 use Rattle.std.proofs.lemmas.List.{length-append, append_assoc}
 use Rattle.av1_frame.specs.declared.plane_region.PlaneRegion.{PlaneRegion}
 use Rattle.av1_frame.specs.Samples.{part}

@@ -1,13 +1,12 @@
 -- Samples read through a region, and half of their range.
-use Rattle.std.proofs.Common.{ℕ, ◌+◌, ◌-◌, ◌*◌, ◌/◌, ◌%◌, ◌^◌, ◌<◌, ◌≤◌, ◌≡◌, List, length, get_or, take, drop, min, map, zero, suc, ap, arith, ◌∙◌, sym}
+use Rattle.std.proofs.Common.{ℕ, ◌+◌, ◌-◌, ◌*◌, ◌%◌, ◌^◌, ◌<◌, ◌≤◌, ◌≡◌, List, length, get_or, take, drop, min, ap, arith, ◌∙◌}
 use Rattle.std.proofs.lemmas.List.{get_or-take, get_or-drop, length-take-le, length-drop}
 use Rattle.std.proofs.lemmas.Nat.{pow-add}
 use Rattle.std.proofs.Math.Nat.{pow-le-pow_right}
 use Rattle.av1_frame.specs.declared.plane_region.PlaneRegion.{PlaneRegion}
 use Rattle.av1_frame.specs.Samples.{row_of, row_start}
 use Rattle.av1_frame.proofs.Fits.{row_fits}
-use Rattle.av1_edges.specs.Edges.{BeginsVisible, region_sample, visible_columns, visible_rows}
-use Rattle.av1_edges.specs.Sides.{corner_at}
+use Rattle.av1_edges.specs.Edges.{BeginsVisible, region_sample}
 use Rattle.av1_edges.proofs.Lists.{part_sample}
 
 -- column c of row y of a region

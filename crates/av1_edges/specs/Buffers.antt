@@ -1,5 +1,5 @@
 -- What a call that prepares an edge leaves of its buffer.
-use Rattle.std.specs.Prelude.{◌≡◌, ℕ}
+use Rattle.std.specs.Prelude.{◌≡◌}
 use Rattle.std.specs.Io.BufRead.{Rests}
 use Rattle.std.specs.Borrow.{MutBor, Fml, RattleType}
 use Rattle.av1_edges.specs.declared.buffer.IntraEdgeBuffer.{IntraEdgeBuffer}

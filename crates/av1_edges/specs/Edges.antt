@@ -1,13 +1,12 @@
 -- The edge round a transform's samples, as it is read from a region by place.
 -- AV1 specification: intra prediction process: general; transform block syntax (haveAboveRt, haveBelowLft).
-use Rattle.std.specs.Prelude.{◌≡◌, ℕ, ◌+◌, ◌-◌, ◌*◌, ◌^◌, ◌<◌, ◌≤◌, List, Bool, ◌&&◌, ◌||◌, nat_lt, min, if◌then◌else◌, map, slice_index, Option, unsigned_abs}
+use Rattle.std.specs.Prelude.{ℕ, ◌+◌, ◌-◌, ◌*◌, ◌^◌, ◌<◌, ◌≤◌, List, Bool, ◌&&◌, ◌||◌, nat_lt, min, if◌then◌else◌, map, slice_index, Option, unsigned_abs}
 use Rattle.av1_blocks.specs.declared.predict.PredictionMode.{PredictionMode}
 use Rattle.av1_blocks.specs.declared.predict.IntraParam.{IntraParam}
 use Rattle.av1_blocks.specs.declared.partition.BlockSize.{BlockSize}
 use Rattle.av1_blocks.specs.declared.transform.TxSize.{TxSize}
 use Rattle.av1_blocks.specs.Chroma.{supersample_chroma_bsize}
 use Rattle.av1_blocks.specs.Transforms.{tx_width, tx_height}
-use Rattle.av1_frame.specs.declared.plane.PlaneConfig.{PlaneConfig}
 use Rattle.av1_frame.specs.declared.plane.PlaneOffset.{PlaneOffset}
 use Rattle.av1_frame.specs.declared.block_unit.TileBlockOffset.{TileBlockOffset}
 use Rattle.av1_frame.specs.declared.plane_region.PlaneRegion.{PlaneRegion}

@@ -1,4 +1,4 @@
-use Rattle.std.proofs.Common.{arith, ap, ◌∙◌, ◌≡◌, ◌-◌, ◌+◌, length, min}
+use Rattle.std.proofs.Common.{arith, ap, ◌∙◌, ◌-◌}
 use Rattle.std.proofs.lemmas.Bool.Decides.{nat_tests}
 use Rattle.av1_edges.proofs.Lists.{listed_is}
 use Rattle.av1_edges.proofs.Samples.{cut_shown, half_below}

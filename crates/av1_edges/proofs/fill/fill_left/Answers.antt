@@ -1,4 +1,4 @@
-use Rattle.std.proofs.Common.{ℕ, arith, ap, ◌∙◌, ◌≡◌, ◌<◌, ◌-◌, ◌+◌, length, min, get_or}
+use Rattle.std.proofs.Common.{ℕ, arith, ap, ◌∙◌, ◌≡◌, ◌<◌, ◌-◌, ◌+◌, length}
 use Rattle.std.proofs.lemmas.Bool.Decides.{nat_tests}
 use Rattle.av1_edges.specs.Edges.{region_sample}
 use Rattle.av1_edges.specs.Sides.{base, left_at}

@@ -1,4 +1,4 @@
-use Rattle.std.proofs.Common.{ap, arith, ◌∙◌, ◌++◌, map, set, length}
+use Rattle.std.proofs.Common.{ap, arith, ◌∙◌, map, set, length}
 use Rattle.std.proofs.lemmas.List.{length-set}
 use Rattle.av1_edges.proofs.Lists.{part_between, one_set}
 use Rattle.av1_edges.proofs.Parted.{left_is, above_is, second_part, third_part}

@@ -1,4 +1,4 @@
-use Rattle.std.proofs.Common.{ap, refl, ◌∙◌, ◌≡◌, ℕ, ◌-◌, length, map, reverse, [], ◌∷◌, sym, subst, arith}
+use Rattle.std.proofs.Common.{ap, refl, ◌∙◌, ◌≡◌, ◌-◌, length, reverse, [], ◌∷◌, sym, subst, arith}
 use Rattle.av1_blocks.specs.Transforms.{tx_width, tx_height}
 use Rattle.av1_edges.specs.declared.parts.Parts.{Parts}
 use Rattle.av1_edges.specs.declared.place.Place.{Place}
