@@ -20,26 +20,27 @@ listed n f = map f (range_with_len 0 n)
 abbrev pub taken : (limit first count : ℕ) → Bool → (run : ℕ) → ℕ
 taken limit first count goes_on run = min count (limit - first) + where_asked goes_on (min run (limit - first - count))
 
--- place j above a block at column x of row y: a sample of the row above it, and past the last one that is taken that one again; in the
--- first row the sample to the left of the block
-abbrev pub above_at : (ℕ → ℕ → ℕ) → (base x y taken : ℕ) → ℕ → ℕ
-above_at sample base x y taken j =
-    if nat_lt 0 y then sample (x + min j (taken - 1)) (y - 1)
-    else (if nat_lt 0 x then sample (x - 1) 0 else base - 1)
+-- place j above a block at column x of row y, of whose row above n samples are taken: one of these, and past the last that one again; in
+-- the first row the sample to the left of the block; and where there is neither, half of the range less 1
+abbrev pub above_at : (ℕ → ℕ → ℕ) → (half x y n : ℕ) → ℕ → ℕ
+above_at sample half x y n j =
+    if nat_lt 0 y then sample (x + min j (n - 1)) (y - 1)
+    else (if nat_lt 0 x then sample (x - 1) 0 else half - 1)
 
--- place i to the left of it, counted from the top down: the same of the column to the left of it, and in the first column the sample
--- above the block
-abbrev pub left_at : (ℕ → ℕ → ℕ) → (base x y taken : ℕ) → ℕ → ℕ
-left_at sample base x y taken i =
-    if nat_lt 0 x then sample (x - 1) (y + min i (taken - 1))
-    else (if nat_lt 0 y then sample 0 (y - 1) else base + 1)
+-- place i to the left of it, counted from the top down: the same of the column to the left of it; in the first column the sample above the
+-- block; and where there is neither, half of the range plus 1
+abbrev pub left_at : (ℕ → ℕ → ℕ) → (half x y n : ℕ) → ℕ → ℕ
+left_at sample half x y n i =
+    if nat_lt 0 x then sample (x - 1) (y + min i (n - 1))
+    else (if nat_lt 0 y then sample 0 (y - 1) else half + 1)
 
--- the corner above and to the left of it
-abbrev pub corner_at : (ℕ → ℕ → ℕ) → (base x y : ℕ) → ℕ
-corner_at sample base zero zero = base
-corner_at sample base (suc x) zero = sample x 0
-corner_at sample base zero (suc y) = sample 0 y
-corner_at sample base (suc x) (suc y) = sample x y
+-- the corner above and to the left of it: in the first row the sample to the left of the block, in the first column the one above it,
+-- and where there is neither half of the range
+abbrev pub corner_at : (ℕ → ℕ → ℕ) → (half x y : ℕ) → ℕ
+corner_at sample half zero zero = half
+corner_at sample half (suc x) zero = sample x 0
+corner_at sample half zero (suc y) = sample 0 y
+corner_at sample half (suc x) (suc y) = sample x y
 
 -- the corner, smoothed by the first sample to the left and the first above (the filter corner process)
 abbrev pub smoothed : (left corner above : ℕ) → ℕ

@@ -2,7 +2,7 @@
 //!
 //! AV1 specification: intra prediction process: general, the preparation of the arrays AboveRow and LeftCol.
 
-ghost use Rattle.std.specs.Prelude.{◌≡◌, ℕ, ◌+◌, ◌-◌, ◌*◌, ◌^◌, ◌<◌, ◌≤◌, length, slice_index_or, min, map, reverse, if◌then◌else◌};
+ghost use Rattle.std.specs.Prelude.{◌≡◌, ℕ, ◌+◌, ◌-◌, ◌^◌, ◌<◌, ◌≤◌, length, slice_index_or, min, map, reverse, if◌then◌else◌};
 ghost use Rattle.av1_edges.specs.Sides.{base, listed, above_at, left_at, corner_at, smoothed};
 ghost use Rattle.av1_edges.specs.Edges.{BeginsVisible, region_sample, visible_columns, visible_rows};
 

@@ -1,8 +1,7 @@
 //! The call that prepares an edge.
 
-ghost use Rattle.std.specs.Prelude.{◌≡◌, ℕ, ◌+◌, ◌-◌, ◌*◌, ◌<◌, ◌≤◌, [], ◌∷◌, true, length, map, reverse, pos, ◌≤ℤ◌, vec_len};
+ghost use Rattle.std.specs.Prelude.{◌≡◌, ◌-◌, ◌<◌, ◌≤◌, [], ◌∷◌, true, length, map, reverse, pos, ◌≤ℤ◌};
 ghost use Rattle.std.specs.Borrow.{sem};
-ghost use Rattle.av1_blocks.specs.Transforms.{tx_width, tx_height};
 ghost use Rattle.av1_frame.specs.Samples.{part};
 ghost use Rattle.av1_edges.specs.Buffers.{CountsOne};
 ghost use Rattle.av1_edges.specs.Edges.{BeginsVisible, PlaceFits, place_of, edge_of_parts, prepared_edge, above_places, left_places};
@@ -153,7 +152,7 @@ fn place_of(
 /// the left end the latter is the sample above it, again and again; where there is neither, they are half of the range of samples of
 /// `bit_depth` less 1 and plus 1. What continues them, where the angle of `opt_mode` and `intra_param` asks for it, is taken as far as
 /// the lesser side of the transform, where `has_top_right` or `has_bottom_left` says that it is coded before. Past the last sample that
-/// is taken, and at the ends of the region, that one is repeated.
+/// is taken, and at the ends of the region, that one is repeated. The left side is empty for a mode that takes a mean, at the left end.
 ///
 /// The corner is half of the range unless the mode asks for it. Where `enable_intra_edge_filter` is set, it is smoothed for an angle
 /// between 90 and 180 degrees and sides that come to 24 or more.

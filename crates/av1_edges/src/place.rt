@@ -1,6 +1,6 @@
 //! Where a transform stands, and which samples round it are coded before it.
 
-ghost use Rattle.std.specs.Prelude.{◌≡◌, ℕ, ◌+◌, ◌-◌, ◌*◌, ◌<◌, ◌≤◌, ◌&&◌};
+ghost use Rattle.std.specs.Prelude.{◌≡◌, ◌+◌, ◌<◌, ◌≤◌, ◌&&◌};
 ghost use Rattle.av1_blocks.specs.Transforms.{tx_width, tx_height};
 ghost use Rattle.av1_edges.specs.Sides.{taken, where_asked};
 ghost use Rattle.av1_edges.specs.Edges.{BeginsVisible, PlaceFits, visible_columns, visible_rows, has_before, has_above_right, has_below_left, taken_above, taken_left};
