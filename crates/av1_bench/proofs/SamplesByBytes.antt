@@ -7,7 +7,7 @@ use Rattle.std.proofs.lemmas.List.FromFn.{length-map-range_with_len}
 use Rattle.av1_plan.specs.declared.header.Header.{Header}
 use Rattle.av1_tile.specs.declared.frame.Frame.{Frame}
 use Rattle.av1_tile.specs.Canvas.{Component, Y, U, V}
-use Rattle.av1_tile.specs.Edge.{listed}
+use Rattle.av1_edges.specs.Sides.{listed}
 use Rattle.av1_tile.specs.Parts.{number, frame_of}
 use Rattle.av1_tile.specs.Walk.{by_rows, plane_bytes, visible}
 

@@ -9,7 +9,7 @@ ghost use Rattle.av1_edges.specs.Edges.{BeginsVisible, region_sample, visible_co
 use av1_frame::{Pixel, PlaneRegion};
 
 /// Each sample of the row becomes `value`.
-fn fill_with<T: Pixel>(row: &mut [T], value: T)
+pub fn fill_with<T: Pixel>(row: &mut [T], value: T)
     ensures { (k : ℕ) (d : T) → k < length row.new → slice_index_or row.new k d ≡ value }
 {
     for sample in row.iter_mut() {
@@ -18,7 +18,7 @@ fn fill_with<T: Pixel>(row: &mut [T], value: T)
 }
 
 /// The row becomes the samples of `source`, and then the last of them again and again.
-fn extend_from<T: Pixel>(row: &mut [T], source: &[T])
+pub fn extend_from<T: Pixel>(row: &mut [T], source: &[T])
     requires some { 0 < length source.now }
     requires room { length source.now ≤ length row.old }
     ensures { (k : ℕ) (d : T) → k < length row.new → slice_index_or row.new k d ≡ slice_index_or source.now (min k (length source.now - 1)) d }
@@ -30,7 +30,7 @@ fn extend_from<T: Pixel>(row: &mut [T], source: &[T])
 }
 
 /// Half of the range of samples of this depth.
-fn half_range(bit_depth: usize) -> u32
+pub fn half_range(bit_depth: usize) -> u32
     requires low { 8 ≤ bit_depth }
     requires high { bit_depth ≤ 16 }
     ensures value { result ≡ base bit_depth }

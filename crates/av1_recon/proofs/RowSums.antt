@@ -6,7 +6,7 @@ use Rattle.std.proofs.lemmas.List.FromFn.{sum_by-map-range_with_len_more, length
 use Rattle.std.proofs.lemmas.List.Sums.{sum_by-append, sum_by-cons}
 use Rattle.av1_plan.specs.Geometry.{plane_width}
 use Rattle.av1_plan.specs.declared.header.Header.{Header}
-use Rattle.av1_tile.specs.Edge.{listed}
+use Rattle.av1_edges.specs.Sides.{listed}
 use Rattle.av1_tile.specs.Parts.{frame_of, component}
 use Rattle.av1_tile.specs.State.{Picture, state_header, shown, state_row}
 use Rattle.av1_tile.specs.Walk.{by_rows}

@@ -12,7 +12,10 @@ use Rattle.av1_frame.specs.Planes.{sample_at}
 use Rattle.av1_tile.specs.declared.frame.Frame.{Frame}
 use Rattle.av1_tile.specs.declared.part.Part.{Part}
 use Rattle.av1_tile.specs.Canvas.{Written}
-use Rattle.av1_tile.specs.Edge.{Edge, edge, effective, base, known, known_above, known_left, place, first_above, first_left, listed, where_asked, asks_left, asks_above_right, asks_below_left, asks_corner, smooths_corner, above_side, left_side}
+use Rattle.av1_edges.specs.Edges.{Edge}
+use Rattle.av1_edges.specs.Parts.{effective, asks_left, asks_above_right, asks_below_left, asks_corner, smooths_corner}
+use Rattle.av1_edges.specs.Sides.{base, listed, where_asked}
+use Rattle.av1_tile.specs.Edge.{edge, known, known_above, known_left, place, first_above, first_left, above_side, left_side}
 use Rattle.av1_tile.specs.Place.{Stores, placed_above, placed_left, placed_edge}
 use Rattle.av1_tile.specs.Predictors.{predicted, IsPredicted}
 use Rattle.av1_tile.specs.Walk.{prediction}
@@ -79,19 +82,19 @@ corner_base s c m k b e f = ap (λ t. cond t m (cond c k b)) e ∙ ap (λ t. con
 
 -- a mode that the corner is not smoothed for, whatever the edge filter
 abbrev Unsmoothed : PredictionMode → Type 0
-Unsmoothed mode = (filter : Bool) (a : VisibleArea) → smooths_corner filter mode (pos 0) a ≡ false
+Unsmoothed mode = (filter : Bool) (w h : ℕ) → smooths_corner filter mode (pos 0) w h ≡ false
 
 dc_unsmoothed : Unsmoothed DC_PRED
-dc_unsmoothed true a = refl
-dc_unsmoothed false a = refl
+dc_unsmoothed true w h = refl
+dc_unsmoothed false w h = refl
 
 v_unsmoothed : Unsmoothed V_PRED
-v_unsmoothed true a = refl
-v_unsmoothed false a = refl
+v_unsmoothed true w h = refl
+v_unsmoothed false w h = refl
 
 h_unsmoothed : Unsmoothed H_PRED
-h_unsmoothed true a = refl
-h_unsmoothed false a = refl
+h_unsmoothed true w h = refl
+h_unsmoothed false w h = refl
 
 not_true : IsTrue false → ⊥
 not_true h = cc
@@ -158,18 +161,18 @@ module _ {T : Type 0} (num : T → ℕ) (frame : Frame) (p : Plane T) (written :
         listed_where (asks_left mode a.x) a.height (where_asked (asks_below_left mode step) a.width) _ _ (ap (λ b. where_asked b a.width) e) (listed_same a.height _ _ (λ k h. left_same a.x a.y a.height m k near.begins_x near.begins_y (omega arith) h near.left (λ i j u v. near.above i j (omega (arith, v)) (omega (arith, v, near.some_columns)) (omega (arith, v, near.begins_x)) u)))
 
     -- for a mode that asks for neither corner nor for what continues a side
-    edge_is : (filter : Bool) (mode : PredictionMode) (step : ℤ) → asks_above_right mode step ≡ false → asks_below_left mode step ≡ false → asks_corner mode step ≡ false → smooths_corner filter mode step a ≡ false → edge frame filter written mode step a ≡ placed_edge num frame p mode a
+    edge_is : (filter : Bool) (mode : PredictionMode) (step : ℤ) → asks_above_right mode step ≡ false → asks_below_left mode step ≡ false → asks_corner mode step ≡ false → smooths_corner filter mode step a.width a.height ≡ false → edge frame filter written mode step a ≡ placed_edge num frame p mode a
     unfolding edge
     edge_is filter mode step r b c s =
-        same_edge _ _ _ _ _ _ (above_side_same mode step r) (left_side_same mode step b) (corner_base _ _ _ _ (base frame) s c)
+        same_edge _ _ _ _ _ _ (above_side_same mode step r) (left_side_same mode step b) (corner_base _ _ _ _ (base frame.depth) s c)
 
     edge_same : (filter : Bool) (mode : PredictionMode) → IsPredicted mode → edge frame filter written mode (pos 0) a ≡ placed_edge num frame p mode a
     edge_same filter mode h =
         let P : PredictionMode → Type 0 = λ m. edge frame filter written m (pos 0) a ≡ placed_edge num frame p m a in
         elim (built mode h) [
-          | inl e ↦ subst P (sym e) (edge_is filter DC_PRED (pos 0) refl refl refl (dc_unsmoothed filter a))
-          | inr (inl e) ↦ subst P (sym e) (edge_is filter V_PRED (pos 0) refl refl refl (v_unsmoothed filter a))
-          | inr (inr e) ↦ subst P (sym e) (edge_is filter H_PRED (pos 0) refl refl refl (h_unsmoothed filter a))
+          | inl e ↦ subst P (sym e) (edge_is filter DC_PRED (pos 0) refl refl refl (dc_unsmoothed filter a.width a.height))
+          | inr (inl e) ↦ subst P (sym e) (edge_is filter V_PRED (pos 0) refl refl refl (v_unsmoothed filter a.width a.height))
+          | inr (inr e) ↦ subst P (sym e) (edge_is filter H_PRED (pos 0) refl refl refl (h_unsmoothed filter a.width a.height))
         ]
 
     -- what a part is predicted by, for the modes that are built

@@ -16,7 +16,7 @@ use Rattle.av1_plan.specs.Validity.{first_fault}
 use Rattle.av1_plan.proofs.BuiltPlans.{plan_frame}
 use Rattle.av1_tile.specs.declared.frame.Frame.{Frame}
 use Rattle.av1_tile.specs.declared.planes.Planes.{Planes}
-use Rattle.av1_tile.specs.Edge.{listed}
+use Rattle.av1_edges.specs.Sides.{listed}
 use Rattle.av1_tile.specs.Place.{Stores, StoresAll, HasRoom, HasRoomIn, SameLayout, fast_step}
 use Rattle.av1_tile.specs.State.{Picture, IsSound, shown, state_header}
 use Rattle.av1_tile.specs.Steps.{steps}

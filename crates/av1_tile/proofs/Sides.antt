@@ -8,7 +8,7 @@ use Rattle.std.proofs.lemmas.List.Sums.{sum_by_more, sum_by-append, sum-map}
 use Rattle.std.proofs.lemmas.Nat.{pow-add}
 use Rattle.std.proofs.Math.Nat.{pow-le-pow_right}
 use Rattle.av1_frame.specs.Samples.{part}
-use Rattle.av1_tile.specs.Edge.{listed}
+use Rattle.av1_edges.specs.Sides.{listed}
 use Rattle.av1_tile.specs.Predictors.{mean}
 
 -- samples whose numbers are f 0, f 1, ..

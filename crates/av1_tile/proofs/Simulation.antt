@@ -15,7 +15,8 @@ use Rattle.av1_plan.specs.Plan.{PlanValue}
 use Rattle.av1_tile.specs.declared.frame.Frame.{Frame}
 use Rattle.av1_tile.specs.declared.planes.Planes.{Planes}
 use Rattle.av1_tile.specs.Canvas.{Component, Y, U, V, Written, Canvas, is_same, blank, turned, drawn, with_written}
-use Rattle.av1_tile.specs.Edge.{listed, sample_of}
+use Rattle.av1_edges.specs.Sides.{listed}
+use Rattle.av1_tile.specs.Edge.{sample_of}
 use Rattle.av1_tile.specs.Parts.{number, frame_of}
 use Rattle.av1_tile.specs.Steps.{Step, predict, add, PlaneStep, steps}
 use Rattle.av1_tile.specs.Walk.{added, block_residue, slow_in, slow_step, slow_walk, plane_bytes, sample_bytes, visible, planes_of}

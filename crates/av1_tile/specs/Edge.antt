@@ -4,49 +4,14 @@ use Rattle.std.specs.Prelude.{ℕ, zero, suc, ◌+◌, ◌-◌, ◌*◌, ◌/◌
 use Rattle.std.specs.Option.{unwrap_or}
 use Rattle.std.specs.List.{range_with_len}
 use Rattle.av1_blocks.specs.declared.predict.PredictionMode.{PredictionMode}
-use Rattle.av1_blocks.specs.declared.predict.PredictionMode.TheVariants.{DC_PRED, V_PRED, H_PRED, PAETH_PRED, UV_CFL_PRED}
-use Rattle.av1_blocks.specs.Modes.{is_directional, intra_mode_to_angle}
 use Rattle.av1_frame.specs.Areas.{VisibleArea}
+use Rattle.av1_edges.specs.Edges.{Edge}
+use Rattle.av1_edges.specs.Parts.{asks_left, asks_below_left, asks_above_right, asks_corner, smooths_corner}
+use Rattle.av1_edges.specs.Sides.{base, listed, where_asked, smoothed}
 use Rattle.av1_tile.specs.declared.frame.Frame.{Frame}
 use Rattle.av1_tile.specs.Canvas.{Written}
 
--- ---- what a mode asks for
-
--- the mode that a block at column x of row y is predicted by: at the frame's left and upper side Paeth prediction has fewer neighbours
-abbrev pub effective : PredictionMode → ℕ → ℕ → PredictionMode
-effective PAETH_PRED zero zero = DC_PRED
-effective PAETH_PRED zero (suc y) = V_PRED
-effective PAETH_PRED (suc x) zero = H_PRED
-effective mode x y = mode
-
--- the angle of a directional mode in degrees: three more for each step
-abbrev pub angle : PredictionMode → ℤ → ℤ
-angle mode step = intra_mode_to_angle mode +ℤ pos 3 *ℤ step
-
-abbrev pub asks_left : PredictionMode → ℕ → Bool
-asks_left DC_PRED x = nat_lt 0 x
-asks_left UV_CFL_PRED x = nat_lt 0 x
-asks_left mode x = true
-
-abbrev pub asks_below_left : PredictionMode → ℤ → Bool
-asks_below_left mode step = is_directional mode && int_lt (pos 180) (angle mode step)
-
-abbrev pub asks_above_right : PredictionMode → ℤ → Bool
-asks_above_right mode step = is_directional mode && int_lt (angle mode step) (pos 90)
-
--- neither straight down nor straight to the right
-abbrev pub is_slanted : ℤ → Bool
-is_slanted p = (int_lt p (pos 90) || int_lt (pos 90) p) && (int_lt p (pos 180) || int_lt (pos 180) p)
-
-abbrev pub asks_corner : PredictionMode → ℤ → Bool
-asks_corner PAETH_PRED step = true
-asks_corner mode step = is_directional mode && is_slanted (angle mode step)
-
 -- ---- what is known
-
--- half of the samples' range
-abbrev pub base : Frame → ℕ
-base frame = 128 * 2 ^ (frame.depth - 8)
 
 -- a sample that was written, else 0
 abbrev pub sample_of : Option ℕ → ℕ
@@ -75,36 +40,22 @@ place sample first (suc i) = unwrap_or (sample (suc i)) (place sample first i)
 
 -- what the first place above a block at column x holds where nothing is known there
 abbrev pub first_above : Frame → Written → ℕ → ℕ
-first_above frame written zero = base frame - 1
+first_above frame written zero = base frame.depth - 1
 first_above frame written (suc x) = sample_of (written x 0)
 
 -- what the first place to the left of a block at row y holds where nothing is known there
 abbrev pub first_left : Frame → Written → ℕ → ℕ
-first_left frame written zero = base frame + 1
+first_left frame written zero = base frame.depth + 1
 first_left frame written (suc y) = sample_of (written 0 y)
 
 -- the corner of a block at column x of row y, where it is asked for
 abbrev pub corner_sample : Frame → Written → ℕ → ℕ → ℕ
-corner_sample frame written zero zero = base frame
+corner_sample frame written zero zero = base frame.depth
 corner_sample frame written (suc x) zero = sample_of (written x 0)
 corner_sample frame written zero (suc y) = sample_of (written 0 y)
 corner_sample frame written (suc x) (suc y) = sample_of (known frame written x y)
 
 -- ---- the edge
-
--- the samples round a block: above it from left to right, to its left from the top down, and the one above and left of it
-pub record Edge : Type 0 where
-  pub above : List ℕ
-  pub left : List ℕ
-  pub corner : ℕ
-
--- f 0, .., f (n - 1)
-abbrev pub listed : {A : Type 0} → ℕ → (ℕ → A) → List A
-listed n f = map f (range_with_len 0 n)
-
--- n where b, else 0
-abbrev pub where_asked : Bool → ℕ → ℕ
-where_asked b n = if b then n else 0
 
 -- the samples above the block, as far as its mode reaches
 abbrev pub reach_above : Frame → Written → PredictionMode → ℤ → VisibleArea → ℕ → Option ℕ
@@ -124,22 +75,14 @@ abbrev pub left_side : Frame → Written → PredictionMode → ℤ → VisibleA
 left_side frame written mode step a =
     listed (where_asked (asks_left mode a.x) a.height + where_asked (asks_below_left mode step) a.width) (place (reach_left frame written mode step a) (first_left frame written a.y))
 
--- where the edge filter smooths the corner: between straight down and straight to the right, on large blocks
-abbrev pub smooths_corner : Bool → PredictionMode → ℤ → VisibleArea → Bool
-smooths_corner filter mode step a =
-    filter && is_directional mode && int_lt (pos 90) (angle mode step) && int_lt (angle mode step) (pos 180) && nat_le 24 (a.width + a.height)
-
-abbrev pub smoothed : List ℕ → List ℕ → ℕ → ℕ
-smoothed left above corner = (5 * slice_index left 0 + 6 * corner + 5 * slice_index above 0 + 8) / 16
-
 -- the edge of the block a, for a mode that is in effect there; filter says whether the edge filter is on
 unfoldable pub edge : Frame → Bool → Written → PredictionMode → ℤ → VisibleArea → Edge
 edge frame filter written mode step a =
     let above = above_side frame written mode step a in
     let left = left_side frame written mode step a in
-    let corner = if asks_corner mode step then corner_sample frame written a.x a.y else base frame in
+    let corner = if asks_corner mode step then corner_sample frame written a.x a.y else base frame.depth in
     record {
       above = above;
       left = left;
-      corner = if smooths_corner filter mode step a then smoothed left above corner else corner;
+      corner = if smooths_corner filter mode step a.width a.height then smoothed (slice_index left 0) corner (slice_index above 0) else corner;
     }

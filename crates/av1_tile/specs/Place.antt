@@ -21,7 +21,9 @@ use Rattle.av1_tile.specs.declared.part.Block.{Block}
 use Rattle.av1_tile.specs.declared.part.Part.{Part}
 use Rattle.av1_tile.specs.declared.planes.Planes.{Planes}
 use Rattle.av1_tile.specs.Canvas.{Component, Y, U, V}
-use Rattle.av1_tile.specs.Edge.{Edge, base, listed, asks_left}
+use Rattle.av1_edges.specs.Edges.{Edge}
+use Rattle.av1_edges.specs.Parts.{asks_left}
+use Rattle.av1_edges.specs.Sides.{above_at, base, left_at, listed}
 use Rattle.av1_tile.specs.Predictors.{predicted, IsPredicted}
 use Rattle.av1_tile.specs.Parts.{number, frame_of, part_of, triples_in}
 use Rattle.av1_tile.specs.Steps.{Step, predict, add, PlaneStep}
@@ -31,24 +33,20 @@ use Rattle.av1_tile.specs.Walk.{added, block_residue}
 abbrev pub area_of : Block → VisibleArea
 area_of b = record { x = b.x; y = b.y; width = b.width; height = b.height }
 
--- place j above a block at column x of row y: the sample there, past the frame the last one in it
+-- the places above a block at column x of row y, of a plane's samples as far as the frame goes
 abbrev pub placed_above : {T : Type 0} → (T → ℕ) → Frame → Plane T → ℕ → ℕ → ℕ → ℕ
-placed_above num frame p x y j =
-    if nat_lt 0 y then sample_at num p (x + min j (frame.width - x - 1)) (y - 1)
-    else (if nat_lt 0 x then sample_at num p (x - 1) 0 else base frame - 1)
+placed_above num frame p x y = above_at (sample_at num p) (base frame.depth) x y (frame.width - x)
 
--- place i to the left of it
+-- the places to the left of it, from the top down
 abbrev pub placed_left : {T : Type 0} → (T → ℕ) → Frame → Plane T → ℕ → ℕ → ℕ → ℕ
-placed_left num frame p x y i =
-    if nat_lt 0 x then sample_at num p (x - 1) (y + min i (frame.height - y - 1))
-    else (if nat_lt 0 y then sample_at num p 0 (y - 1) else base frame + 1)
+placed_left num frame p x y = left_at (sample_at num p) (base frame.depth) x y (frame.height - y)
 
 -- the edge of the block a, for a mode that reads the samples above and to the left of it alone
 abbrev pub placed_edge : {T : Type 0} → (T → ℕ) → Frame → Plane T → PredictionMode → VisibleArea → Edge
 placed_edge num frame p mode a = record {
   above = listed a.width (placed_above num frame p a.x a.y);
   left = if asks_left mode a.x then listed a.height (placed_left num frame p a.x a.y) else [];
-  corner = base frame;
+  corner = base frame.depth;
 }
 
 -- the frame lies in the plane, whose samples fill its rows

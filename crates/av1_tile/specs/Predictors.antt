@@ -5,7 +5,8 @@ use Rattle.av1_blocks.specs.declared.predict.PredictionMode.{PredictionMode}
 use Rattle.av1_blocks.specs.declared.predict.PredictionMode.TheVariants.{DC_PRED, V_PRED, H_PRED}
 use Rattle.av1_frame.specs.Areas.{VisibleArea}
 use Rattle.av1_tile.specs.declared.frame.Frame.{Frame}
-use Rattle.av1_tile.specs.Edge.{Edge, base}
+use Rattle.av1_edges.specs.Edges.{Edge}
+use Rattle.av1_edges.specs.Sides.{base}
 
 -- the mean, rounded to the nearest number
 abbrev pub mean : List ℕ → ℕ
@@ -13,7 +14,7 @@ mean xs = (sum xs + length xs / 2) / length xs
 
 -- DC: the mean of the sides that lie in the frame, for a block at column x of row y
 abbrev pub dc : Frame → ℕ → ℕ → Edge → ℕ
-dc frame zero zero e = base frame
+dc frame zero zero e = base frame.depth
 dc frame zero (suc y) e = mean e.above
 dc frame (suc x) zero e = mean e.left
 dc frame (suc x) (suc y) e = mean (e.left ++ e.above)

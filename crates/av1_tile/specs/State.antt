@@ -3,7 +3,7 @@ use Rattle.std.specs.Prelude.{ℕ, List}
 use Rattle.av1_plan.specs.declared.header.Header.{Header}
 use Rattle.av1_tile.specs.declared.planes.Planes.{Planes}
 use Rattle.av1_tile.specs.Canvas.{Component}
-use Rattle.av1_tile.specs.Edge.{listed}
+use Rattle.av1_edges.specs.Sides.{listed}
 use Rattle.av1_tile.specs.Parts.{component, frame_of}
 use Rattle.av1_tile.specs.Place.{plane_of, StoresAll, HasRoom}
 use Rattle.av1_frame.specs.Planes.{sample_at}

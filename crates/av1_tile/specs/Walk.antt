@@ -13,7 +13,9 @@ use Rattle.av1_plan.specs.Plan.{PlanValue}
 use Rattle.av1_tile.specs.declared.frame.Frame.{Frame}
 use Rattle.av1_tile.specs.declared.part.Part.{Part}
 use Rattle.av1_tile.specs.Canvas.{Component, Y, U, V, Written, Canvas, blank, drawn, with_written}
-use Rattle.av1_tile.specs.Edge.{effective, edge, listed, sample_of}
+use Rattle.av1_edges.specs.Parts.{effective}
+use Rattle.av1_edges.specs.Sides.{listed}
+use Rattle.av1_tile.specs.Edge.{edge, sample_of}
 use Rattle.av1_tile.specs.Predictors.{predicted}
 use Rattle.av1_tile.specs.Parts.{number, frame_of}
 use Rattle.av1_tile.specs.Steps.{Step, predict, add, PlaneStep, steps}

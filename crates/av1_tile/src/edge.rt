@@ -7,45 +7,15 @@
 
 ghost use Rattle.std.specs.Prelude.{◌≡◌, ℕ, ◌+◌, ◌-◌, ◌*◌, ◌^◌, ◌<◌, ◌≤◌, length, slice_index_or, min, map};
 ghost use Rattle.av1_frame.specs.Planes.{sample_at};
-ghost use Rattle.av1_tile.specs.Edge.{base, listed, asks_left};
+ghost use Rattle.av1_edges.specs.Parts.{asks_left};
+ghost use Rattle.av1_edges.specs.Sides.{base, listed};
 ghost use Rattle.av1_tile.specs.Place.{placed_above, placed_left, Stores};
 
 use crate::frame::Frame;
 use crate::part::visible_area;
 use av1_blocks::PredictionMode;
+use av1_edges::{extend_from, fill_with, half_range};
 use av1_frame::{Pixel, Plane};
-
-/// Each sample of the row becomes `value`.
-fn fill_with<T: Pixel>(row: &mut [T], value: T)
-    ensures { (k : ℕ) (d : T) → k < length row.new → slice_index_or row.new k d ≡ value }
-{
-    for sample in row.iter_mut() {
-        *sample = value;
-    }
-}
-
-/// The row becomes the samples of `source`, and then the last of them again and again.
-fn extend_from<T: Pixel>(row: &mut [T], source: &[T])
-    requires some { 0 < length source.now }
-    requires room { length source.now ≤ length row.old }
-    ensures { (k : ℕ) (d : T) → k < length row.new → slice_index_or row.new k d ≡ slice_index_or source.now (min k (length source.now - 1)) d }
-{
-    let count = source.len();
-    let last = source[count - 1];
-    row[..count].copy_from_slice(source);
-    fill_with(&mut row[count..], last);
-}
-
-/// Half of the samples' range.
-pub fn half_range(frame: Frame) -> u32
-    requires low { 8 ≤ frame.depth }
-    requires high { frame.depth ≤ 16 }
-    ensures value { result ≡ base frame }
-    ensures room { result + result ≡ 2 ^ frame.depth }
-    ensures some { 128 ≤ result }
-{
-    128 << (frame.depth - 8)
-}
 
 /// The sample at column `x` of row `y`.
 fn sample_of<T: Pixel>(plane: &Plane<T>, frame: Frame, x: usize, y: usize) -> T
@@ -74,7 +44,7 @@ pub fn prepare_above<T: Pixel>(above: &mut [T], plane: &Plane<T>, frame: Frame, 
     } else if x > 0 {
         fill_with(above, sample_of(plane, frame, x - 1, 0));
     } else {
-        fill_with(above, T::from_u32(half_range(frame) - 1));
+        fill_with(above, T::from_u32(half_range(frame.depth) - 1));
     }
 }
 
@@ -105,7 +75,7 @@ pub fn prepare_left<T: Pixel>(left: &mut [T], plane: &Plane<T>, frame: Frame, x:
     } else if y > 0 {
         fill_with(left, sample_of(plane, frame, 0, y - 1));
     } else {
-        fill_with(left, T::from_u32(half_range(frame) + 1));
+        fill_with(left, T::from_u32(half_range(frame.depth) + 1));
     }
 }
 

@@ -2,7 +2,7 @@
 
 ghost use Rattle.std.specs.Prelude.{◌≡◌, ◌<◌, ◌≤◌, IfOk, map};
 ghost use Rattle.av1_frame.specs.Planes.{sample_at};
-ghost use Rattle.av1_tile.specs.Edge.{listed};
+ghost use Rattle.av1_edges.specs.Sides.{listed};
 ghost use Rattle.av1_plan.specs.Geometry.{plane_width, plane_height};
 ghost use Rattle.av1_tile.specs.Parts.{frame_of};
 ghost use Rattle.av1_tile.specs.Place.{Stores, HasRoomIn};
