@@ -1,0 +1,170 @@
+-- Sums of weighted values, as the machine forms them, and how great they are.
+use Rattle.std.proofs.Common.{ℕ, zero, suc, ◌+◌, ◌-◌, ◌*◌, ◌/◌, ◌%◌, ◌^◌, ◌<◌, ◌≤◌, ◌≡◌, ◌∙◌, ap, refl, sym, subst, arith, ℤ, pos, negsuc, ◌+ℤ◌, ◌-ℤ◌, ◌*ℤ◌, neg_ℤ, ◌≤ℤ◌, ◌<ℤ◌, List, [], ◌∷◌, length, take, drop, get_or, w16, w32, to_z, of_z, FitsSigned}
+use Rattle.std.proofs.lemmas.Int.{ints, to_z-of_z, to_z_pos}
+use Rattle.std.proofs.lemmas.List.{places}
+use Rattle.std.proofs.lemmas.Nat.{mul-le}
+use Rattle.std.proofs.Math.Nat.{mod-eq_of_lt}
+use Rattle.std.proofs.Math.Pow.{pow_mono}
+use Rattle.av1_inter.specs.Filters.{gains, losses, IsFilter}
+use Rattle.av1_frame.specs.Arithmetic.{round_shift}
+use Rattle.av1_inter.specs.Motion.{entry, extra_bits, finer_at, sum_to, weighted}
+use Rattle.av1_inter.specs.Rows.{IsWithin}
+
+-- a sum and a product on the machine
+pub sum_is : (s t v : ℤ) → FitsSigned w32 s → FitsSigned w32 t → FitsSigned w32 v → FitsSigned w32 (t *ℤ v) → to_z w32 (of_z w32 s) +ℤ to_z w32 (of_z w32 (to_z w32 (of_z w32 t) *ℤ to_z w32 (of_z w32 v))) ≡ s +ℤ t *ℤ v
+sum_is s t v fs ft fv fp =
+    ap (λ z. z +ℤ to_z w32 (of_z w32 (to_z w32 (of_z w32 t) *ℤ to_z w32 (of_z w32 v)))) (to_z-of_z w32 s fs)
+    ∙ ap (λ z. s +ℤ to_z w32 (of_z w32 (z *ℤ to_z w32 (of_z w32 v)))) (to_z-of_z w32 t ft)
+    ∙ ap (λ z. s +ℤ to_z w32 (of_z w32 (t *ℤ z))) (to_z-of_z w32 v fv)
+    ∙ ap (λ z. s +ℤ z) (to_z-of_z w32 (t *ℤ v) fp)
+
+-- a sample, shifted to the left
+pub shifted_is : (z : ℤ) (n b : ℕ) → z ≡ pos n → n < 2 ^ 16 → b ≤ 4 → to_z w32 (of_z w32 z * 2 ^ b % 4294967296) ≡ pos (n * 2 ^ b)
+shifted_is z n b e h l =
+    let p : 2 ^ b ≤ 2 ^ 4 = pow_mono {i = b} {j = 4} l in
+    let m : n * 2 ^ b ≤ 2 ^ 16 * 2 ^ 4 = mul-le n (2 ^ b) (2 ^ 16) (2 ^ 4) (omega arith) p in
+    let small : n * 2 ^ b < 4294967296 = omega arith in
+    ap (λ y. to_z w32 (of_z w32 y * 2 ^ b % 4294967296)) e ∙ ap (to_z w32) (mod-eq_of_lt small) ∙ to_z_pos w32 (n * 2 ^ b) (omega arith)
+
+-- two prepared values and their biases
+pub averaged_sum : (a b p x y q : ℤ) → x ≡ to_z w16 (of_z w16 a) → y ≡ to_z w16 (of_z w16 b) → q ≡ p → FitsSigned w16 a → FitsSigned w16 b → IsWithin 8192 p → to_z w32 (of_z w32 (to_z w32 (of_z w32 (to_z w32 (of_z w32 x) +ℤ to_z w32 (of_z w32 y))) +ℤ to_z w32 (of_z w32 (pos 2 *ℤ to_z w32 (of_z w32 q))))) ≡ a +ℤ b +ℤ pos 2 *ℤ p
+averaged_sum a b p x y q ea eb ep fa fb w = omega (arith, ints, w.low, w.high, ea, eb, ep, fa, fb)
+
+-- a value less its bias, in 16 bits
+pub stored_is : (r b x y : ℤ) → x ≡ r → y ≡ b → FitsSigned w32 x → IsWithin 8192 b → FitsSigned w16 (r -ℤ b) → to_z w16 (of_z w16 (to_z w32 (of_z w32 (to_z w32 (of_z w32 x) -ℤ to_z w32 (of_z w32 y))))) ≡ r -ℤ b
+stored_is r b x y er eb fr w f = omega (arith, ints, er, eb, fr, w.low, w.high, f)
+
+-- z is from -a to b
+pub record Between (a b : ℕ) (z : ℤ) : Type 0 where
+  pub low : neg_ℤ (pos a) ≤ℤ z
+  pub high : z ≤ℤ pos b
+
+-- a weight's part of the positive ones, and of the negative ones
+abbrev gain : ℤ → ℕ
+gain (pos n) = n
+gain (negsuc n) = 0
+
+abbrev loss : ℤ → ℕ
+loss (pos n) = 0
+loss (negsuc n) = suc n
+
+product_between : (t v : ℤ) (a b : ℕ) → Between a b v → Between (gain t * a + loss t * b) (gain t * b + loss t * a) (t *ℤ v)
+product_between (pos n) (pos m) a b h =
+    let k : n * m ≤ n * b = mul-le n m n b (omega arith) (omega (arith, ints, h.high)) in
+    record { low = omega (arith, ints, k); high = omega (arith, ints, k) }
+product_between (pos n) (negsuc m) a b h =
+    let k : n * suc m ≤ n * a = mul-le n (suc m) n a (omega arith) (omega (arith, ints, h.low)) in
+    record { low = omega (arith, ints, k); high = omega (arith, ints, k) }
+product_between (negsuc n) (pos m) a b h =
+    let k : suc n * m ≤ suc n * b = mul-le (suc n) m (suc n) b (omega arith) (omega (arith, ints, h.high)) in
+    record { low = omega (arith, ints, k); high = omega (arith, ints, k) }
+product_between (negsuc n) (negsuc m) a b h =
+    let k : suc n * suc m ≤ suc n * a = mul-le (suc n) (suc m) (suc n) a (omega arith) (omega (arith, ints, h.low)) in
+    record { low = omega (arith, ints, k); high = omega (arith, ints, k) }
+
+gains_more : (taps : List ℤ) (k : ℕ) → k < length taps → gains (take (suc k) taps) ≡ gains (take k taps) + gain (entry taps k)
+gains_more [] k h = absurd (omega arith)
+gains_more (pos n ∷ xs) zero h = omega arith
+gains_more (negsuc n ∷ xs) zero h = refl
+gains_more (pos n ∷ xs) (suc k) h = let e = gains_more xs k (omega arith) in omega (arith, e)
+gains_more (negsuc n ∷ xs) (suc k) h = gains_more xs k (omega arith)
+
+losses_more : (taps : List ℤ) (k : ℕ) → k < length taps → losses (take (suc k) taps) ≡ losses (take k taps) + loss (entry taps k)
+losses_more [] k h = absurd (omega arith)
+losses_more (pos n ∷ xs) zero h = refl
+losses_more (negsuc n ∷ xs) zero h = omega arith
+losses_more (pos n ∷ xs) (suc k) h = losses_more xs k (omega arith)
+losses_more (negsuc n ∷ xs) (suc k) h = let e = losses_more xs k (omega arith) in omega (arith, e)
+
+gains_part : (taps : List ℤ) (k : ℕ) → gains (take k taps) ≤ gains taps
+gains_part taps zero = omega arith
+gains_part [] (suc k) = omega arith
+gains_part (pos n ∷ xs) (suc k) = let e = gains_part xs k in omega (arith, e)
+gains_part (negsuc n ∷ xs) (suc k) = gains_part xs k
+
+losses_part : (taps : List ℤ) (k : ℕ) → losses (take k taps) ≤ losses taps
+losses_part taps zero = omega arith
+losses_part [] (suc k) = omega arith
+losses_part (pos n ∷ xs) (suc k) = losses_part xs k
+losses_part (negsuc n ∷ xs) (suc k) = let e = losses_part xs k in omega (arith, e)
+
+-- two bounds that are added
+both_between : (G g L l a b : ℕ) (s p : ℤ) → Between (G * a + L * b) (G * b + L * a) s → Between (g * a + l * b) (g * b + l * a) p → Between ((G + g) * a + (L + l) * b) ((G + g) * b + (L + l) * a) (s +ℤ p)
+both_between G g L l a b s p h k =
+    let low : (G + g) * a + (L + l) * b ≡ (G * a + L * b) + (g * a + l * b) = grind arith in
+    let high : (G + g) * b + (L + l) * a ≡ (G * b + L * a) + (g * b + l * a) = grind arith in
+    record { low = omega (arith, ints, low, h.low, k.low); high = omega (arith, ints, high, h.high, k.high) }
+
+partial_between : (taps : List ℤ) (value : ℕ → ℤ) (a b k : ℕ) → k ≤ length taps → ((t : ℕ) → t < length taps → Between a b (value t)) → Between (gains (take k taps) * a + losses (take k taps) * b) (gains (take k taps) * b + losses (take k taps) * a) (sum_to k (λ t. entry taps t *ℤ value t))
+unfolding sum_to
+partial_between taps value a b zero h v = record { low = omega (arith, ints); high = omega (arith, ints) }
+partial_between taps value a b (suc k) h v =
+    let s = both_between _ _ _ _ a b _ _ (partial_between taps value a b k (omega arith) v) (product_between (entry taps k) (value k) a b (v k (omega arith))) in
+    rw (gains_more taps k (omega arith), losses_more taps k (omega arith)) s
+
+fits_of : (z : ℤ) → neg_ℤ (pos (2 ^ 30)) ≤ℤ z → z ≤ℤ pos (2 ^ 30) → FitsSigned w32 z
+fits_of (pos n) l h = record { sfits = omega (arith, ints, h) }
+fits_of (negsuc n) l h = record { sfits = omega (arith, ints, l) }
+
+-- a filter's sums, also of its first taps alone, over values from -a to b
+pub filter_between : (taps : List ℤ) (value : ℕ → ℤ) (a b k : ℕ) → IsFilter taps → k ≤ 8 → ((t : ℕ) → t < 8 → Between a b (value t)) → Between (184 * a + 56 * b) (184 * b + 56 * a) (sum_to k (λ t. entry taps t *ℤ value t))
+filter_between taps value a b k f h v =
+    let s = partial_between taps value a b k (omega (arith, f.size)) (λ t l. v t (omega (arith, f.size))) in
+    let g : gains (take k taps) ≤ 184 = omega (arith, gains_part taps k, f.gains) in
+    let l : losses (take k taps) ≤ 56 = omega (arith, losses_part taps k, f.losses) in
+    let ga = mul-le _ a 184 a g (omega arith) in
+    let gb = mul-le _ b 184 b g (omega arith) in
+    let la = mul-le _ a 56 a l (omega arith) in
+    let lb = mul-le _ b 56 b l (omega arith) in
+    record { low = omega (arith, ints, s.low, ga, lb); high = omega (arith, ints, s.high, gb, la) }
+
+-- the same over small values
+pub filter_small : (taps : List ℤ) (value : ℕ → ℤ) (k : ℕ) → IsFilter taps → k ≤ 8 → ((t : ℕ) → t < 8 → IsWithin (2 ^ 22) (value t)) → IsWithin (2 ^ 30) (sum_to k (λ t. entry taps t *ℤ value t))
+filter_small taps value k f h v =
+    let s = filter_between taps value (2 ^ 22) (2 ^ 22) k f h (λ t l. let w = v t l in record { low = w.low; high = w.high }) in
+    record { low = omega (arith, ints, s.low); high = omega (arith, ints, s.high) }
+
+-- each product of a filter
+pub product_small : (taps : List ℤ) (t : ℕ) (v : ℤ) → IsFilter taps → t < 8 → IsWithin (2 ^ 22) v → FitsSigned w32 (entry taps t *ℤ v)
+product_small taps t v f h w =
+    let p = product_between (entry taps t) v (2 ^ 22) (2 ^ 22) (record { low = w.low; high = w.high }) in
+    let more = gains_more taps t (omega (arith, f.size)) in
+    let less = losses_more taps t (omega (arith, f.size)) in
+    let g : gain (entry taps t) ≤ 184 = omega (arith, more, gains_part taps (suc t), f.gains) in
+    let l : loss (entry taps t) ≤ 56 = omega (arith, less, losses_part taps (suc t), f.losses) in
+    fits_of _ (omega (arith, ints, p.low, p.high, g, l)) (omega (arith, ints, p.low, p.high, g, l))
+
+-- the term after those of a sum
+pub next_fits : (taps : List ℤ) (value : ℕ → ℤ) (t : ℕ) (s p : ℤ) → IsFilter taps → t < 8 → ((i : ℕ) → i < 8 → IsWithin (2 ^ 22) (value i)) → s ≡ sum_to t (λ i. entry taps i *ℤ value i) → p ≡ entry taps t *ℤ value t → FitsSigned w32 (s +ℤ p)
+unfolding sum_to
+next_fits taps value t s p f h v es ep =
+    let w = filter_small taps value (suc t) f (omega arith) v in
+    fits_of _ (omega (arith, ints, w.low, es, ep)) (omega (arith, ints, w.high, es, ep))
+
+pub next_is : (term : ℕ → ℤ) (t : ℕ) (z s p : ℤ) → z ≡ s +ℤ p → s ≡ sum_to t term → p ≡ term t → z ≡ sum_to (t + 1) term
+unfolding sum_to
+next_is term t z s p e es ep =
+    let n : suc t ≡ t + 1 = omega arith in
+    e ∙ ap (λ u. u +ℤ p) es ∙ ap (λ u. sum_to t term +ℤ u) ep ∙ ap (λ i. sum_to i term) n
+
+pub sum_none : (term : ℕ → ℤ) → sum_to 0 term ≡ pos 0
+unfolding sum_to
+sum_none term = refl
+
+-- terms that agree
+pub sum_same : (n : ℕ) (f g : ℕ → ℤ) → ((t : ℕ) → t < n → f t ≡ g t) → sum_to n f ≡ sum_to n g
+unfolding sum_to
+sum_same zero f g h = refl
+sum_same (suc n) f g h = ap (λ u. u +ℤ f n) (sum_same n f g (λ t l. h t (omega arith))) ∙ ap (λ u. sum_to n g +ℤ u) (h n (omega arith))
+
+pub weighted_same : (taps : List ℤ) (f g : ℕ → ℤ) → ((t : ℕ) → t < 8 → f t ≡ g t) → weighted taps f ≡ weighted taps g
+weighted_same taps f g h = sum_same 8 _ _ (λ t l. ap (λ u. entry taps t *ℤ u) (h t l))
+
+-- column c of a row depends on eight samples
+pub finer_same : (depth fraction : ℕ) (taps : List ℤ) (f g : ℕ → ℕ) (c : ℕ) → ((t : ℕ) → t < 8 → f (c + t) ≡ g (c + t)) → finer_at depth fraction taps f c ≡ finer_at depth fraction taps g c
+finer_same depth zero taps f g c h = ap (λ n. pos (n * 2 ^ extra_bits depth)) (h 3 (omega arith))
+finer_same depth (suc k) taps f g c h = ap (λ z. round_shift z (7 - extra_bits depth)) (weighted_same taps _ _ (λ t l. ap pos (h t l)))
+
+-- the rest of a line, from t on
+pub line_from : (s : List ℤ) (t c : ℕ) → c + t < length s → entry (take (length s - t) (drop t s)) c ≡ entry s (c + t)
+line_from s t c h = let e : t + c ≡ c + t = omega arith in grind (arith, places, e)

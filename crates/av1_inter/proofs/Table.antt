@@ -1,0 +1,84 @@
+-- The weights of every filter are in bounds, by computing over the table.
+use Rattle.std.proofs.Common.{ℕ, zero, suc, ◌+◌, ◌<◌, ◌≤◌, ◌≡◌, ◌∙◌, ap, refl, sym, arith, Bool, true, ◌&&◌, nat_eq, nat_le, List, [], length, slice_index_or, inl, inr, subst, ℤ, pos, negsuc, ◌≤ℤ◌, ◌<ℤ◌, unsigned_abs, w32, to_z, of_z, FitsSigned}
+use Rattle.std.proofs.lemmas.Bool.{cases_lt, cases_eq}
+use Rattle.std.proofs.lemmas.Bool.Decides.{nat_tests}
+use Rattle.std.proofs.lemmas.Int.{ints, to_z-of_z}
+use Rattle.av1_blocks.specs.declared.mc.FilterMode.{FilterMode}
+use Rattle.av1_blocks.specs.declared.mc.FilterMode.TheVariants.{REGULAR, SMOOTH, SHARP, BILINEAR, SWITCHABLE}
+use Rattle.av1_blocks.specs.Filters.{filter_number, subpel_filters}
+use Rattle.av1_inter.specs.declared.filter.Filter.{Filter}
+use Rattle.av1_inter.specs.Filters.{family, filter_of, gains, IsFilter, losses, short_family}
+
+-- p holds of each number below n
+abbrev all_below : ℕ → (ℕ → Bool) → Bool
+all_below zero p = true
+all_below (suc n) p = p n && all_below n p
+
+both_true : (a b : Bool) → (a && b) ≡ true → (a ≡ true) × (b ≡ true)
+both_true a b e = grind (arith, nat_tests)
+
+below_is : (n : ℕ) (p : ℕ → Bool) (k : ℕ) → all_below n p ≡ true → k < n → p k ≡ true
+below_is zero p k e h = absurd (omega arith)
+below_is (suc n) p k e h =
+    let b = both_true (p n) (all_below n p) e in
+    elim (cases_eq k n) [
+      | inl same ↦ ap p same ∙ b.0
+      | inr other ↦ below_is n p k b.1 (omega arith)
+    ]
+
+abbrev row_at : ℕ → ℕ → List ℤ
+row_at k f = slice_index_or (slice_index_or subpel_filters k []) f []
+
+abbrev is_filter : List ℤ → Bool
+is_filter taps = nat_eq (length taps) 8 && (nat_le (gains taps) 184 && nat_le (losses taps) 56)
+
+all_filters : all_below 6 (λ k. all_below 16 (λ f. is_filter (row_at k f))) ≡ true
+all_filters = refl
+
+equal_is : (m n : ℕ) → nat_eq m n ≡ true → m ≡ n
+equal_is m n e = grind (arith, nat_tests)
+
+at_most_is : (m n : ℕ) → nat_le m n ≡ true → m ≤ n
+at_most_is m n e = grind (arith, nat_tests)
+
+row_is_filter : (k f : ℕ) → k < 6 → f < 16 → IsFilter (row_at k f)
+row_is_filter k f h l =
+    let e = below_is 16 (λ i. is_filter (row_at k i)) f (below_is 6 (λ j. all_below 16 (λ i. is_filter (row_at j i))) k all_filters h) l in
+    let b = both_true (nat_eq (length (row_at k f)) 8) (nat_le (gains (row_at k f)) 184 && nat_le (losses (row_at k f)) 56) e in
+    let d = both_true (nat_le (gains (row_at k f)) 184) (nat_le (losses (row_at k f)) 56) b.1 in
+    record { size = equal_is _ _ b.0; gains = at_most_is _ _ d.0; losses = at_most_is _ _ d.1 }
+
+number_small : (mode : FilterMode) → filter_number mode < 6
+number_small REGULAR = omega arith
+number_small SMOOTH = omega arith
+number_small SHARP = omega arith
+number_small BILINEAR = omega arith
+number_small SWITCHABLE = omega arith
+
+short_small : (mode : FilterMode) → short_family mode < 6
+short_small REGULAR = omega arith
+short_small SMOOTH = omega arith
+short_small SHARP = omega arith
+short_small BILINEAR = omega arith
+short_small SWITCHABLE = omega arith
+
+family_small : (mode : FilterMode) (side : ℕ) → family mode side < 6
+family_small mode side =
+    let n = number_small mode in
+    let s = short_small mode in
+    elim (cases_lt 4 side) [ inl h ↦ grind (arith, nat_tests) | inr h ↦ grind (arith, nat_tests) ]
+
+-- the filter of each mode at each fraction
+pub filter_of_is_filter : (mode : FilterMode) (fraction side : ℕ) → fraction < 16 → IsFilter (filter_of mode fraction side).taps
+filter_of_is_filter mode fraction side h = row_is_filter (family mode side) fraction (family_small mode side) h
+
+-- the filter that was made for a machine's fraction
+pub made_is : (mode : FilterMode) (z : ℤ) (side : ℕ) (f : Filter) → FitsSigned w32 z → f ≡ filter_of mode (unsigned_abs (to_z w32 (of_z w32 z))) side → f ≡ filter_of mode (unsigned_abs z) side
+made_is mode z side f h e = e ∙ ap (λ y. filter_of mode (unsigned_abs y) side) (to_z-of_z w32 z h)
+
+fraction_small : (z : ℤ) → pos 0 ≤ℤ z → z <ℤ pos 16 → unsigned_abs z < 16
+fraction_small (pos n) l h = omega (arith, ints)
+fraction_small (negsuc n) l h = absurd (omega (arith, ints))
+
+pub made_is_filter : (mode : FilterMode) (z : ℤ) (side : ℕ) (f : Filter) → FitsSigned w32 z → (pos 0 ≤ℤ z) × (z <ℤ pos 16) → f ≡ filter_of mode (unsigned_abs (to_z w32 (of_z w32 z))) side → IsFilter f.taps
+made_is_filter mode z side f h r e = subst (λ (u : Filter). IsFilter u.taps) (sym (made_is mode z side f h e)) (filter_of_is_filter mode (unsigned_abs z) side (fraction_small z r.0 r.1))

@@ -1,0 +1,4 @@
+pub mod Filters
+pub mod Motion
+pub mod Rows
+pub mod Places

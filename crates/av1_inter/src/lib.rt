@@ -1,0 +1,30 @@
+//! Motion compensation: the samples of a block from those of a reference, moved by a vector to a sixteenth of a sample.
+//!
+//! AV1 specification: block inter prediction process, rounding variables derivation process.
+//!
+//! The crate stands on `av1_blocks`, for the interpolation filters, and on `av1_frame`, for planes, regions and slices. Its functions
+//! have the names and the values of rav1e's.
+//!
+//! To the crates above it promises:
+//! - `put_8tap` turns each sample of a block into `single` of `specs/Motion.antt`, over the stored samples round the block's place in
+//!   the reference, and leaves all others.
+//! - `prep_8tap` writes `prepared` of them row by row to the first entries of a buffer, and leaves the others.
+//! - `mc_avg` turns each sample of a block into `averaged` of two prepared values.
+//!
+//! No call allocates or can fail. Sides and places are counted in samples, fractions in sixteenths of a sample. A filter has eight
+//! taps, so a block needs 3 stored columns and rows before it and 4 after it, at every fraction.
+#![tactic(auto)]
+
+mod average;
+mod filter;
+mod lines;
+mod prepare;
+mod put;
+mod rounding;
+#[cfg(test)]
+mod tests;
+mod window;
+
+pub use average::mc_avg;
+pub use prepare::prep_8tap;
+pub use put::put_8tap;
