@@ -30,30 +30,30 @@ sum_4 taps s (suc k) = let e = sum_4 taps s k in let t = times_4 (entry taps k) 
 shr_2048 : (z : ℤ) → shr_z (pos 16 *ℤ z +ℤ pos 1024) 2048 ≡ shr_z (z +ℤ pos 64) 128
 shr_2048 z = shr_at (z +ℤ pos 64) (pos 16 *ℤ z +ℤ pos 1024) (omega (arith, ints))
   where
-  shr_at : (w v : ℤ) → v ≡ pos 16 *ℤ w → shr_z v 2048 ≡ shr_z w 128
-  shr_at (pos m) v e = ap (λ u. shr_z u 2048) e ∙ ap pos (omega arith)
-  shr_at (negsuc m) v e = ap (λ u. shr_z u 2048) (e ∙ (let k : pos 16 *ℤ negsuc m ≡ negsuc (16 * m + 15) = omega (arith, ints) in k)) ∙ ap negsuc (omega arith)
+    shr_at : (w v : ℤ) → v ≡ pos 16 *ℤ w → shr_z v 2048 ≡ shr_z w 128
+    shr_at (pos m) v e = ap (λ u. shr_z u 2048) e ∙ ap pos (omega arith)
+    shr_at (negsuc m) v e = ap (λ u. shr_z u 2048) (e ∙ (let k : pos 16 *ℤ negsuc m ≡ negsuc (16 * m + 15) = omega (arith, ints) in k)) ∙ ap negsuc (omega arith)
 
 shr_512 : (z : ℤ) → shr_z (pos 4 *ℤ z +ℤ pos 256) 512 ≡ shr_z (z +ℤ pos 64) 128
 shr_512 z = shr_at (z +ℤ pos 64) (pos 4 *ℤ z +ℤ pos 256) (omega (arith, ints))
   where
-  shr_at : (w v : ℤ) → v ≡ pos 4 *ℤ w → shr_z v 512 ≡ shr_z w 128
-  shr_at (pos m) v e = ap (λ u. shr_z u 512) e ∙ ap pos (omega arith)
-  shr_at (negsuc m) v e = ap (λ u. shr_z u 512) (e ∙ (let k : pos 4 *ℤ negsuc m ≡ negsuc (4 * m + 3) = omega (arith, ints) in k)) ∙ ap negsuc (omega arith)
+    shr_at : (w v : ℤ) → v ≡ pos 4 *ℤ w → shr_z v 512 ≡ shr_z w 128
+    shr_at (pos m) v e = ap (λ u. shr_z u 512) e ∙ ap pos (omega arith)
+    shr_at (negsuc m) v e = ap (λ u. shr_z u 512) (e ∙ (let k : pos 4 *ℤ negsuc m ≡ negsuc (4 * m + 3) = omega (arith, ints) in k)) ∙ ap negsuc (omega arith)
 
 shr_128_of_16 : (z : ℤ) → shr_z (pos 16 *ℤ z +ℤ pos 64) 128 ≡ shr_z (z +ℤ pos 4) 8
 shr_128_of_16 z = shr_at (z +ℤ pos 4) (pos 16 *ℤ z +ℤ pos 64) (omega (arith, ints))
   where
-  shr_at : (w v : ℤ) → v ≡ pos 16 *ℤ w → shr_z v 128 ≡ shr_z w 8
-  shr_at (pos m) v e = ap (λ u. shr_z u 128) e ∙ ap pos (omega arith)
-  shr_at (negsuc m) v e = ap (λ u. shr_z u 128) (e ∙ (let k : pos 16 *ℤ negsuc m ≡ negsuc (16 * m + 15) = omega (arith, ints) in k)) ∙ ap negsuc (omega arith)
+    shr_at : (w v : ℤ) → v ≡ pos 16 *ℤ w → shr_z v 128 ≡ shr_z w 8
+    shr_at (pos m) v e = ap (λ u. shr_z u 128) e ∙ ap pos (omega arith)
+    shr_at (negsuc m) v e = ap (λ u. shr_z u 128) (e ∙ (let k : pos 16 *ℤ negsuc m ≡ negsuc (16 * m + 15) = omega (arith, ints) in k)) ∙ ap negsuc (omega arith)
 
 shr_128_of_4 : (z : ℤ) → shr_z (pos 4 *ℤ z +ℤ pos 64) 128 ≡ shr_z (z +ℤ pos 16) 32
 shr_128_of_4 z = shr_at (z +ℤ pos 16) (pos 4 *ℤ z +ℤ pos 64) (omega (arith, ints))
   where
-  shr_at : (w v : ℤ) → v ≡ pos 4 *ℤ w → shr_z v 128 ≡ shr_z w 32
-  shr_at (pos m) v e = ap (λ u. shr_z u 128) e ∙ ap pos (omega arith)
-  shr_at (negsuc m) v e = ap (λ u. shr_z u 128) (e ∙ (let k : pos 4 *ℤ negsuc m ≡ negsuc (4 * m + 3) = omega (arith, ints) in k)) ∙ ap negsuc (omega arith)
+    shr_at : (w v : ℤ) → v ≡ pos 4 *ℤ w → shr_z v 128 ≡ shr_z w 32
+    shr_at (pos m) v e = ap (λ u. shr_z u 128) e ∙ ap pos (omega arith)
+    shr_at (negsuc m) v e = ap (λ u. shr_z u 128) (e ∙ (let k : pos 4 *ℤ negsuc m ≡ negsuc (4 * m + 3) = omega (arith, ints) in k)) ∙ ap negsuc (omega arith)
 
 -- samples that are moved to the finer bits, summed and rounded back
 put_down : (depth : ℕ) → IsDepth depth → (taps : List ℤ) (s : ℕ → ℕ) → round_shift (weighted taps (λ t. pos (s t * 2 ^ extra_bits depth))) (7 + extra_bits depth) ≡ round_shift (weighted taps (λ t. pos (s t))) 7

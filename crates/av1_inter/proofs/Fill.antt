@@ -59,8 +59,8 @@ written_more w r f old now new h row others =
       done = λ q c a b. elim (cases_eq q r) [
         | inl e ↦ rw e (row c b)
         | inr e ↦ (let m : (q + 1) * w ≤ r * w = mul-le-mul_right w (let n : q + 1 ≤ r = omega arith in n) in
-          let s : (q + 1) * w ≡ q * w + w = grind arith in
-          others (q * w + c) (inl (omega (arith, m, s, b))) ∙ h.done q c (omega arith) b)
+            let s : (q + 1) * w ≡ q * w + w = grind arith in
+            others (q * w + c) (inl (omega (arith, m, s, b))) ∙ h.done q c (omega arith) b)
       ];
       rest = λ i b. let s : (r + 1) * w ≡ r * w + w = grind arith in others i (inr (omega (arith, s, b))) ∙ h.rest i (omega (arith, s, b));
     }

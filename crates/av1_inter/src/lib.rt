@@ -18,6 +18,8 @@
 mod average;
 mod filter;
 mod lines;
+mod moved;
+mod predict;
 mod prepare;
 mod put;
 mod rounding;
@@ -26,5 +28,6 @@ mod tests;
 mod window;
 
 pub use average::mc_avg;
+pub use predict::predict_inter_single;
 pub use prepare::prep_8tap;
 pub use put::put_8tap;

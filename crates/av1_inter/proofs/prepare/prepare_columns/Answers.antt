@@ -17,7 +17,7 @@ prepare_row-requires-clause-fit g c = λ q h.
 pub loop-r-preserved : goal.loop-r-preserved
 loop-r-preserved g c = record {
   written = written_more c.args.width c.loop-r.r _ _ _ _ c.loop-r.invariant.written (λ q h. c.prepare_row.ensures.value q h ∙ ap (λ z. round_shift z 7 -ℤ bias c.args.bit_depth) (c.next_sums.ensures.value q h)) c.prepare_row.ensures.others;
-  kept = λ j q a b l. c.next_sums.ensures.kept j q a (omega arith) l
+  kept = λ j q a b l. c.next_sums.ensures.kept j q a (omega arith) l;
 }
 
 pub returns-clause-value : goal.returns-clause-value

@@ -11,5 +11,5 @@ invariant-loop-r g l =
     let samples = samples_from g.T.Pixel.num l.corner in
     record {
       written : AreWritten l.width l.r (λ r c. round_shift (down_finer l.bit_depth l.across l.down samples r c) 7 -ℤ bias l.bit_depth) l.initial.tmp l.tmp;
-      kept : Keeps l.rows l.r (l.r + 7) l.width (finer l.bit_depth l.across samples)
+      kept : Keeps l.rows l.r (l.r + 7) l.width (finer l.bit_depth l.across samples);
     }

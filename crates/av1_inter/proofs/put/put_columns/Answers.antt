@@ -16,8 +16,8 @@ loop-r-preserved g c =
     let f = down_finer c.args.bit_depth c.args.across.now c.args.down.now (samples_from g.T.Pixel.num c.args.corner) c.loop-r.r in
     record {
       painted = painted_more c.args.dst.now c.loop-r.dst c.args.width c.loop-r.r _ _ _ c.loop-r.invariant.painted c.requires.fits c.requires.columns (omega arith) c.row_mut.ensures.value
-      (put_sums g.T.Pixel.pixel c.args.bit_depth _ (7 + extra_bits c.args.bit_depth) c.args.width _ f _ _ (ap (λ n. 7 + n) c.extra_bits-bits.ensures.value) c.next_sums.ensures.value c.put_row.ensures);
-      kept = λ j q a b l. c.next_sums.ensures.kept j q a (omega arith) l
+          (put_sums g.T.Pixel.pixel c.args.bit_depth _ (7 + extra_bits c.args.bit_depth) c.args.width _ f _ _ (ap (λ n. 7 + n) c.extra_bits-bits.ensures.value) c.next_sums.ensures.value c.put_row.ensures);
+      kept = λ j q a b l. c.next_sums.ensures.kept j q a (omega arith) l;
     }
 
 pub returns-clause-fits : goal.returns-clause-fits

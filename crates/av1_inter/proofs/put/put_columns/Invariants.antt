@@ -11,5 +11,5 @@ invariant-loop-r g l =
     let samples = samples_from g.T.Pixel.num l.corner in
     record {
       painted : l.dst ≡ painted l.initial.dst l.width l.r (λ r c _. g.T.Pixel.pixel (clip l.bit_depth (round_shift (down_finer l.bit_depth l.across l.down samples r c) (7 + extra_bits l.bit_depth))));
-      kept : Keeps l.rows l.r (l.r + 7) l.width (finer l.bit_depth l.across samples)
+      kept : Keeps l.rows l.r (l.r + 7) l.width (finer l.bit_depth l.across samples);
     }

@@ -1,0 +1,151 @@
+-- Where a vector leads, and what stands there.
+use Rattle.std.proofs.Common.{ℕ, zero, suc, ◌+◌, ◌-◌, ◌*◌, ◌^◌, ◌<◌, ◌≤◌, ◌≡◌, ◌∙◌, ap, refl, sym, subst, arith, ℤ, pos, negsuc, ◌+ℤ◌, ◌-ℤ◌, ◌≤ℤ◌, ◌<ℤ◌, neg_ℤ, FitsSigned, List, w16, w32, w64, to_z, of_z, unsigned_abs}
+use Rattle.std.specs.Int.{int_min, int_max, saturate_signed}
+use Rattle.std.proofs.lemmas.Int.{ints, clamps, to_z-of_z}
+use Rattle.av1_blocks.specs.declared.mc.MotionVector.{MotionVector}
+use Rattle.av1_frame.specs.Arithmetic.{clip, round_shift}
+use Rattle.av1_frame.specs.declared.plane.Plane.{Plane}
+use Rattle.av1_frame.specs.Planes.{sample_at}
+use Rattle.av1_frame.specs.declared.plane_slice.PlaneSlice.{PlaneSlice}
+use Rattle.av1_frame.specs.Slices.{IsStoredPlace, nearest_visible, stored_sample, within_pads}
+use Rattle.av1_inter.specs.declared.filter.Filter.{Filter}
+use Rattle.av1_inter.specs.Motion.{bias, extra_bits, prepared, single, single_at, unbiased_at}
+use Rattle.av1_inter.specs.Places.{corner_of, IsStoredFrom, samples_from}
+use Rattle.av1_blocks.specs.declared.mc.FilterMode.{FilterMode}
+use Rattle.av1_inter.specs.Filters.{filter_of}
+use Rattle.av1_inter.specs.Reference.{IsPadded, IsReference, moved, nearest_sample, sixteenths, whole_part}
+use Rattle.av1_inter.proofs.Sums.{finer_same, weighted_same}
+
+-- a place that is no number of the machine lies past the pads, as the nearest such number does
+saturated_pads : (z : ℤ) (pad side : ℕ) → pad < 2 ^ 63 → side < 2 ^ 63 → within_pads (saturate_signed w64 z) pad side ≡ within_pads z pad side
+saturated_pads (pos n) pad side h k = omega (arith, ints, clamps)
+saturated_pads (negsuc n) pad side h k = omega (arith, ints, clamps)
+
+nearest_is : (n : ℕ) (z : ℤ) → 0 < n → pos (nearest_visible n z) ≡ int_min (int_max z (pos 0)) (pos n -ℤ pos 1)
+nearest_is n (pos i) h = omega (arith, ints, clamps)
+nearest_is n (negsuc i) h = omega (arith, ints, clamps)
+
+same_number : (a b : ℕ) → pos a ≡ pos b → a ≡ b
+same_number a b e = omega (arith, ints, e)
+
+-- within the pads of a place that stays within them, all is as round the place itself
+clamped_nearest : (z : ℤ) (pad side c : ℕ) → c < pad → 0 < side → nearest_visible side (within_pads z pad side +ℤ pos c) ≡ nearest_visible side (z +ℤ pos c)
+clamped_nearest z pad side c h k =
+    let a = nearest_is side (within_pads z pad side +ℤ pos c) k in
+    let b = nearest_is side (z +ℤ pos c) k in
+    let e : int_min (int_max (within_pads z pad side +ℤ pos c) (pos 0)) (pos side -ℤ pos 1) ≡ int_min (int_max (z +ℤ pos c) (pos 0)) (pos side -ℤ pos 1) = omega (arith, ints, clamps) in
+    same_number _ _ (a ∙ e ∙ sym b)
+
+pads_low : (z : ℤ) (pad side : ℕ) → neg_ℤ (pos pad) ≤ℤ within_pads z pad side
+pads_low z pad side = omega (arith, ints, clamps)
+
+pads_high : (z : ℤ) (pad side : ℕ) → within_pads z pad side ≤ℤ pos side
+pads_high z pad side = omega (arith, ints, clamps)
+
+-- blocks whose samples agree
+module _ (depth : ℕ) (across down : Filter) (s t : ℕ → ℕ → ℕ) (w h r c : ℕ) (in_rows : r < h) (in_columns : c < w) (same : (x y : ℕ) → x < w + 7 → y < h + 7 → s x y ≡ t x y) where
+  single_at_same : (fx fy : ℕ) → single_at depth fx fy across down s r c ≡ single_at depth fx fy across down t r c
+  single_at_same zero zero = same (c + 3) (r + 3) (omega arith) (omega arith)
+  single_at_same zero (suc k) = ap (λ z. clip depth (round_shift z 7)) (weighted_same down.taps _ _ (λ i l. ap pos (same (c + 3) (r + i) (omega arith) (omega arith))))
+  single_at_same (suc j) zero = ap (λ z. clip depth (round_shift z (extra_bits depth))) (finer_same depth across.fraction across.taps _ _ c (λ i l. same (c + i) (r + 3) (omega arith) (omega arith)))
+  single_at_same (suc j) (suc k) = ap (λ z. clip depth (round_shift z (7 + extra_bits depth))) (weighted_same down.taps _ _ (λ i l. finer_same depth across.fraction across.taps _ _ c (λ m n. same (c + m) (r + i) (omega arith) (omega arith))))
+
+  pub single_same : single depth across down s r c ≡ single depth across down t r c
+  single_same = single_at_same across.fraction down.fraction
+
+  unbiased_at_same : (fx fy : ℕ) → unbiased_at depth fx fy across down s r c ≡ unbiased_at depth fx fy across down t r c
+  unbiased_at_same fx zero = finer_same depth across.fraction across.taps _ _ c (λ i l. same (c + i) (r + 3) (omega arith) (omega arith))
+  unbiased_at_same zero (suc k) = ap (λ z. round_shift z (7 - extra_bits depth)) (weighted_same down.taps _ _ (λ i l. ap pos (same (c + 3) (r + i) (omega arith) (omega arith))))
+  unbiased_at_same (suc j) (suc k) = ap (λ z. round_shift z 7) (weighted_same down.taps _ _ (λ i l. finer_same depth across.fraction across.taps _ _ c (λ m n. same (c + m) (r + i) (omega arith) (omega arith))))
+
+  pub prepared_same : prepared depth across down s r c ≡ prepared depth across down t r c
+  prepared_same = ap (λ z. z -ℤ bias depth) (unbiased_at_same across.fraction down.fraction)
+
+-- fewer columns and rows
+pub fewer : {T : Type 0} (place : PlaneSlice T) (m n w h : ℕ) → w ≤ m → h ≤ n → IsStoredFrom place m n → IsStoredFrom place w h
+fewer place m n w h a b s = record { whole = s.whole; left = s.left; right = omega (arith, ints, s.right); top = s.top; bottom = omega (arith, ints, s.bottom) }
+
+-- a place that was clamped to the pads
+abbrev pub clamped_of : {T : Type 0} → PlaneSlice T → PlaneSlice T
+clamped_of place =
+    let cfg = place.plane.now.plane_cfg in
+    record place { x = within_pads place.x cfg.xpad cfg.width; y = within_pads place.y cfg.ypad cfg.height }
+
+module _ {T : Type 0} (num : T → ℕ) (place : PlaneSlice T) (zx zy : ℤ) (at_x : place.x ≡ saturate_signed w64 zx) (at_y : place.y ≡ saturate_signed w64 zy) (padded : IsPadded num place.plane.now) where
+  clamped_stored : IsStoredFrom (clamped_of place) place.plane.now.plane_cfg.xpad place.plane.now.plane_cfg.ypad
+  clamped_stored =
+      let w = padded.whole in
+      let cfg = place.plane.now.plane_cfg in
+      let a = pads_low place.x cfg.xpad cfg.width in
+      let b = pads_high place.x cfg.xpad cfg.width in
+      let d = pads_low place.y cfg.ypad cfg.height in
+      let e = pads_high place.y cfg.ypad cfg.height in
+      record { whole = w; left = omega (arith, ints, a, w.left_pad); right = omega (arith, ints, b, w.visible_columns); top = omega (arith, ints, d, w.top_pad); bottom = omega (arith, ints, e, w.visible_rows) }
+
+  clamped_samples : (c r : ℕ) → c < place.plane.now.plane_cfg.xpad → r < place.plane.now.plane_cfg.ypad → samples_from num (clamped_of place) c r ≡ nearest_sample num place.plane.now (zx +ℤ pos c) (zy +ℤ pos r)
+  clamped_samples c r h k =
+      let w = padded.whole in
+      let p = place.plane.now in
+      let cfg = p.plane_cfg in
+      let s = clamped_stored in
+      let stored : IsStoredPlace cfg (within_pads place.x cfg.xpad cfg.width +ℤ pos c) (within_pads place.y cfg.ypad cfg.height +ℤ pos r) = record { left = omega (arith, ints, s.left); right = omega (arith, ints, s.right, h); top = omega (arith, ints, s.top); bottom = omega (arith, ints, s.bottom, k) } in
+      let x = ap (λ z. nearest_visible cfg.width (within_pads z cfg.xpad cfg.width +ℤ pos c)) at_x ∙ ap (λ z. nearest_visible cfg.width (z +ℤ pos c)) (saturated_pads zx cfg.xpad cfg.width (omega (arith, w.visible_columns, w.few_columns)) (omega (arith, w.visible_columns, w.few_columns))) ∙ clamped_nearest zx cfg.xpad cfg.width c h w.some_columns in
+      let y = ap (λ z. nearest_visible cfg.height (within_pads z cfg.ypad cfg.height +ℤ pos r)) at_y ∙ ap (λ z. nearest_visible cfg.height (z +ℤ pos r)) (saturated_pads zy cfg.ypad cfg.height (omega (arith, w.visible_rows, w.few_rows)) (omega (arith, w.visible_rows, w.few_rows))) ∙ clamped_nearest zy cfg.ypad cfg.height r k w.some_rows in
+      padded.samples _ _ stored ∙ ap (λ m. sample_at num p m (nearest_visible cfg.height (within_pads place.y cfg.ypad cfg.height +ℤ pos r))) x ∙ ap (λ n. sample_at num p (nearest_visible cfg.width (zx +ℤ pos c)) n) y
+
+-- what the steps to a moved block give
+pub record IsMoved {T : Type 0} (num : T → ℕ) (plane : Plane T) (corner : PlaneSlice T) (zx zy : ℤ) : Type 0 where
+  pub stored : IsStoredFrom corner plane.plane_cfg.xpad plane.plane_cfg.ypad
+  pub samples : (c r : ℕ) → c < plane.plane_cfg.xpad → r < plane.plane_cfg.ypad → samples_from num corner c r ≡ nearest_sample num plane (zx +ℤ pos c) (zy +ℤ pos r)
+
+back_again : (z : ℤ) → z +ℤ pos 3 -ℤ pos 3 ≡ z
+back_again z = omega (arith, ints)
+
+corner_again : {T : Type 0} (clamped result : PlaneSlice T) → result ≡ record clamped { x = clamped.x +ℤ pos 3; y = clamped.y +ℤ pos 3 } → corner_of result ≡ clamped
+corner_again {T} clamped result e =
+    ap corner_of e ∙ ap (λ z. record clamped { x = z; y = clamped.y +ℤ pos 3 -ℤ pos 3 }) (back_again clamped.x) ∙ ap (λ z. record clamped { y = z }) (back_again clamped.y)
+
+pub moved_is : {T : Type 0} (num : T → ℕ) (plane : Plane T) (place clamped result : PlaneSlice T) (zx zy : ℤ) → place.plane.now ≡ plane → place.x ≡ saturate_signed w64 zx → place.y ≡ saturate_signed w64 zy → clamped ≡ clamped_of place → result ≡ record clamped { x = clamped.x +ℤ pos 3; y = clamped.y +ℤ pos 3 } → IsPadded num plane → IsMoved num plane (corner_of result) zx zy
+moved_is {T} num plane place clamped result zx zy of x y c r =
+    subst (λ (p : Plane T). IsPadded num p → IsMoved num p (corner_of result) zx zy) of (λ padded.
+    subst (λ (s : PlaneSlice T). IsMoved num place.plane.now s zx zy) (sym (corner_again clamped result r ∙ c)) (record { stored = clamped_stored num place zx zy x y padded; samples = clamped_samples num place zx zy x y padded }))
+
+fits_64 : (z : ℤ) → neg_ℤ (pos (2 ^ 63)) ≤ℤ z → z <ℤ pos (2 ^ 63) → FitsSigned w64 z
+fits_64 (pos n) l h = record { sfits = omega (arith, ints, h) }
+fits_64 (negsuc n) l h = record { sfits = omega (arith, ints, l) }
+
+-- a clamped place can be moved by 3
+pub clamped_room : (z z' : ℤ) (pad pad' side side' : ℕ) → z' ≡ within_pads z pad side → pad ≡ pad' → side ≡ side' → (pad' < 2 ^ 63) × (side' + 3 < 2 ^ 63) → FitsSigned w64 (z' +ℤ pos 3)
+clamped_room z z' pad pad' side side' e p s h =
+    let l = pads_low z pad side in
+    let k = pads_high z pad side in
+    fits_64 (z' +ℤ pos 3) (omega (arith, ints, e, l, p, h.0)) (omega (arith, ints, e, k, s, h.1))
+
+-- the places and fractions of a component, as they are passed
+pub placed_is : (r x m : ℤ) (d e : ℕ) → FitsSigned w64 r → FitsSigned w64 x → FitsSigned w16 m → d ≡ e → r ≡ saturate_signed w64 (to_z w64 (of_z w64 x) +ℤ (whole_part (to_z w16 (of_z w16 m)) d -ℤ pos 3)) → to_z w64 (of_z w64 r) ≡ saturate_signed w64 (x +ℤ (whole_part m e -ℤ pos 3))
+placed_is r x m d e fr fx fm s h =
+    to_z-of_z w64 r fr ∙ h ∙ ap (λ z. saturate_signed w64 (z +ℤ (whole_part (to_z w16 (of_z w16 m)) d -ℤ pos 3))) (to_z-of_z w64 x fx)
+    ∙ ap (λ z. saturate_signed w64 (x +ℤ (whole_part z d -ℤ pos 3))) (to_z-of_z w16 m fm) ∙ ap (λ n. saturate_signed w64 (x +ℤ (whole_part m n -ℤ pos 3))) s
+
+pub fraction_is : (r m : ℤ) (d e : ℕ) → FitsSigned w32 r → FitsSigned w16 m → d ≡ e → r ≡ pos (sixteenths (to_z w16 (of_z w16 m)) d) → unsigned_abs (to_z w32 (of_z w32 r)) ≡ sixteenths m e
+fraction_is r m d e fr fm s h =
+    ap unsigned_abs (to_z-of_z w32 r fr ∙ h) ∙ ap (λ z. sixteenths z d) (to_z-of_z w16 m fm) ∙ ap (λ n. sixteenths m n) s
+
+pub single_is : (depth : ℕ) (mode : FilterMode) (w h fx gx fy gy : ℕ) (s t : ℕ → ℕ → ℕ) → fx ≡ gx → fy ≡ gy → ((x y : ℕ) → x < w + 7 → y < h + 7 → s x y ≡ t x y) → (r c : ℕ) → r < h → c < w → single depth (filter_of mode fx w) (filter_of mode fy h) s r c ≡ single depth (filter_of mode gx w) (filter_of mode gy h) t r c
+single_is depth mode w h fx gx fy gy s t ex ey same r c in_rows in_columns =
+    ap (λ n. single depth (filter_of mode n w) (filter_of mode fy h) s r c) ex ∙ ap (λ n. single depth (filter_of mode gx w) (filter_of mode n h) s r c) ey
+    ∙ single_same depth (filter_of mode gx w) (filter_of mode gy h) s t w h r c in_rows in_columns same
+
+pub prepared_is : (depth : ℕ) (mode : FilterMode) (w h fx gx fy gy : ℕ) (s t : ℕ → ℕ → ℕ) → fx ≡ gx → fy ≡ gy → ((x y : ℕ) → x < w + 7 → y < h + 7 → s x y ≡ t x y) → (r c : ℕ) → r < h → c < w → prepared depth (filter_of mode fx w) (filter_of mode fy h) s r c ≡ prepared depth (filter_of mode gx w) (filter_of mode gy h) t r c
+prepared_is depth mode w h fx gx fy gy s t ex ey same r c in_rows in_columns =
+    ap (λ n. prepared depth (filter_of mode n w) (filter_of mode fy h) s r c) ex ∙ ap (λ n. prepared depth (filter_of mode gx w) (filter_of mode n h) s r c) ey
+    ∙ prepared_same depth (filter_of mode gx w) (filter_of mode gy h) s t w h r c in_rows in_columns same
+
+visible_below : (n : ℕ) (z : ℤ) → 0 < n → nearest_visible n z < n
+visible_below n (pos i) h = omega arith
+visible_below n (negsuc i) h = h
+
+-- samples of a reference lie within its depth, wherever a vector leads
+pub moved_within : {T : Type 0} (num : T → ℕ) (plane : Plane T) (depth width height : ℕ) → IsReference num plane depth width height → (x y : ℤ) (mv : MotionVector) (c r : ℕ) → moved num plane x y mv c r < 2 ^ depth
+moved_within num plane depth width height s x y mv c r =
+    s.within _ _ (visible_below plane.plane_cfg.width _ s.padded.whole.some_columns) (visible_below plane.plane_cfg.height _ s.padded.whole.some_rows)

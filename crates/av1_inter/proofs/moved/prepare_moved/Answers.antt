@@ -1,0 +1,24 @@
+use Rattle.std.proofs.Common.{arith, rules, ap, ◌≡◌, ◌∙◌, sym, subst, ℕ, ◌^◌, ◌<◌, ◌+◌, ℤ, w16, w32, FitsSigned}
+use Rattle.av1_frame.specs.declared.plane.PlaneConfig.{PlaneConfig}
+use Rattle.av1_inter.specs.Places.{corner_of, samples_from}
+use Rattle.av1_inter.specs.Reference.{moved}
+use Rattle.av1_inter.proofs.Vectors.{fraction_is, moved_within, prepared_is}
+use Rattle.av1_inter.proofs.moved.prepare_moved.Goals as goal
+
+pub prep_8tap-requires-clause-within : goal.prep_8tap-requires-clause-within
+prep_8tap-requires-clause-within g c = λ x y h k.
+    subst (λ (n : ℕ). n < 2 ^ c.args.bit_depth) (sym (c.moved_slice-src.ensures.samples x y (omega (arith, c.requires.reference.xpad)) (omega (arith, c.requires.reference.ypad)))) (moved_within g.T.Pixel.num c.args.plane.now c.args.bit_depth c.args.width c.args.height c.requires.reference c.args.at.x c.args.at.y c.args.mv x y)
+
+pub returns : goal.returns
+returns g c = λ r q l h.
+    let num = g.T.Pixel.num in
+    let cfg = c.args.plane.now.plane_cfg in
+    let ex : c.config-cfg.result.xdec ≡ cfg.xdec = ap (λ (d : PlaneConfig). d.xdec) c.config-cfg.ensures in
+    let ey : c.config-cfg.result.ydec ≡ cfg.ydec = ap (λ (d : PlaneConfig). d.ydec) c.config-cfg.ensures in
+    let fc : FitsSigned w16 c.args.mv.col = search rules in
+    let fr : FitsSigned w16 c.args.mv.row = search rules in
+    let rx : FitsSigned w32 c.sixteenths-col_frac.result = search rules in
+    let ry : FitsSigned w32 c.sixteenths-row_frac.result = search rules in
+    c.prep_8tap.ensures.value r q l h ∙ prepared_is c.args.bit_depth c.args.mode c.args.width c.args.height _ _ _ _ (samples_from num (corner_of c.moved_slice-src.result)) (moved num c.args.plane.now c.args.at.x c.args.at.y c.args.mv)
+    (fraction_is _ c.args.mv.col _ cfg.xdec rx fc ex c.sixteenths-col_frac.ensures.value) (fraction_is _ c.args.mv.row _ cfg.ydec ry fr ey c.sixteenths-row_frac.ensures.value)
+    (λ x y a b. c.moved_slice-src.ensures.samples x y (omega (arith, c.requires.reference.xpad)) (omega (arith, c.requires.reference.ypad))) r q l h

@@ -1,0 +1,62 @@
+-- What a vector reads of a reference: block inter prediction process, motion vector scaling process at a scale of one.
+use Rattle.std.specs.Prelude.{◌≡◌, ℕ, ◌+◌, ◌-◌, ◌^◌, ◌<◌, ◌≤◌, ℤ, pos, ◌+ℤ◌, ◌-ℤ◌, ◌*ℤ◌, unsigned_abs, slice_index, Some}
+use Rattle.std.specs.Int.{int_shr, int_rem_euclid}
+use Rattle.av1_blocks.specs.declared.mc.FilterMode.{FilterMode}
+use Rattle.av1_blocks.specs.declared.mc.MotionVector.{MotionVector}
+use Rattle.av1_blocks.specs.declared.partition.RefType.{RefType}
+use Rattle.av1_blocks.specs.References.{reference_number}
+use Rattle.av1_frame.specs.declared.frame_invariants.FrameInvariants.{FrameInvariants}
+use Rattle.av1_frame.specs.Frames.{slot_plane}
+use Rattle.av1_frame.specs.declared.plane.Plane.{Plane}
+use Rattle.av1_frame.specs.Planes.{IsWhole, sample_at}
+use Rattle.av1_frame.specs.Slices.{IsStoredPlace, nearest_visible, stored_sample}
+use Rattle.av1_inter.specs.Filters.{filter_of}
+use Rattle.av1_inter.specs.Motion.{prepared, single}
+
+-- the whole samples that a component of a vector, in eighths of a luma sample, moves a block in a plane of this decimation
+abbrev pub whole_part : ℤ → (decimation : ℕ) → ℤ
+whole_part component decimation = int_shr component (3 + decimation)
+
+-- and the sixteenths of a sample beyond them
+abbrev pub sixteenths : ℤ → (decimation : ℕ) → ℕ
+sixteenths component decimation = unsigned_abs (int_rem_euclid (component *ℤ pos (2 ^ (1 - decimation))) (pos 16))
+
+-- the visible sample that is nearest to column x and row y
+abbrev pub nearest_sample : {T : Type 0} → (T → ℕ) → Plane T → (x y : ℤ) → ℕ
+nearest_sample num plane x y = sample_at num plane (nearest_visible plane.plane_cfg.width x) (nearest_visible plane.plane_cfg.height y)
+
+-- the samples round a block at column x and row y that a vector moves, counted from 3 columns left of and 3 rows above its first one
+abbrev pub moved : {T : Type 0} → (T → ℕ) → Plane T → (x y : ℤ) → MotionVector → (c r : ℕ) → ℕ
+moved num plane x y mv c r = nearest_sample num plane (x +ℤ (whole_part mv.col plane.plane_cfg.xdec -ℤ pos 3) +ℤ pos c) (y +ℤ (whole_part mv.row plane.plane_cfg.ydec -ℤ pos 3) +ℤ pos r)
+
+-- a plane whose stored samples outside the visible ones are those of the nearest visible places
+pub record IsPadded {T : Type 0} (num : T → ℕ) (plane : Plane T) : Type 0 where
+  pub whole : IsWhole plane
+  pub samples : (x y : ℤ) → IsStoredPlace plane.plane_cfg x y → stored_sample num plane x y ≡ nearest_sample num plane x y
+
+-- such a plane, with samples of this depth and pads for a block of these sides
+pub record IsReference {T : Type 0} (num : T → ℕ) (plane : Plane T) (depth width height : ℕ) : Type 0 where
+  pub padded : IsPadded num plane
+  pub within : (x y : ℕ) → x < plane.plane_cfg.width → y < plane.plane_cfg.height → sample_at num plane x y < 2 ^ depth
+  pub xpad : width + 7 ≤ plane.plane_cfg.xpad
+  pub ypad : height + 7 ≤ plane.plane_cfg.ypad
+
+-- the sample at row r and column c of a block of these sides that is predicted from one reference
+abbrev pub moved_single : {T : Type 0} → (T → ℕ) → (depth : ℕ) → FilterMode → Plane T → (x y : ℤ) → MotionVector → (width height : ℕ) → (r c : ℕ) → ℕ
+moved_single num depth mode plane x y mv width height =
+    let cfg = plane.plane_cfg in
+    single depth (filter_of mode (sixteenths mv.col cfg.xdec) width) (filter_of mode (sixteenths mv.row cfg.ydec) height) (moved num plane x y mv)
+
+-- and what is prepared there of one of two
+abbrev pub moved_prepared : {T : Type 0} → (T → ℕ) → (depth : ℕ) → FilterMode → Plane T → (x y : ℤ) → MotionVector → (width height : ℕ) → (r c : ℕ) → ℤ
+moved_prepared num depth mode plane x y mv width height =
+    let cfg = plane.plane_cfg in
+    prepared depth (filter_of mode (sixteenths mv.col cfg.xdec) width) (filter_of mode (sixteenths mv.row cfg.ydec) height) (moved num plane x y mv)
+
+-- the slot of a reference
+abbrev pub slot_of : {T : Type 0} → FrameInvariants T → RefType → ℕ
+slot_of fi reference = slice_index fi.ref_frames (reference_number reference - 1)
+
+-- the plane of a reference, where its slot is filled, is one for a block of these sides
+abbrev pub HasReference : {T : Type 0} → (T → ℕ) → FrameInvariants T → RefType → (p width height : ℕ) → Type 0
+HasReference {T} num fi reference p width height = (plane : Plane T) → slot_plane fi (slot_of fi reference) p ≡ Some plane → IsReference num plane fi.bit_depth width height

@@ -1,0 +1,107 @@
+//! A block of a padded reference, moved by a vector.
+//!
+//! AV1 specification: block inter prediction process, motion vector scaling process at a scale of one.
+
+ghost use Rattle.std.specs.Prelude.{◌≡◌, ℕ, ◌+◌, ◌*◌, ◌≤◌, ◌<◌, pos, ◌+ℤ◌, ◌-ℤ◌, length};
+ghost use Rattle.std.specs.Int.{saturate_signed, w64};
+ghost use Rattle.av1_frame.specs.Regions.{InStorage, painted};
+ghost use Rattle.av1_inter.specs.Motion.{entry};
+ghost use Rattle.av1_inter.specs.Places.{corner_of, IsDepth, IsStoredFrom, samples_from};
+ghost use Rattle.av1_inter.specs.Reference.{IsPadded, IsReference, moved, moved_prepared, moved_single, sixteenths, whole_part};
+
+use crate::prepare::prep_8tap;
+use crate::put::put_8tap;
+use av1_blocks::{FilterMode, MotionVector};
+use av1_frame::{Pixel, Plane, PlaneOffset, PlaneRegionMut, PlaneSlice};
+
+/// The sixteenths of a sample of a vector's component, in eighths of a luma sample.
+fn sixteenths(component: i16, decimation: usize) -> i32
+    requires { decimation ≤ 1 }
+    ensures value { result ≡ pos (sixteenths component decimation) }
+    ensures small { sixteenths component decimation < 16 }
+{
+    let scale = if decimation == 0 { 2 } else { 1 };
+    (i32::from(component) * scale).rem_euclid(16)
+}
+
+/// The column or row 3 before the one to which a component moves `at`, or the nearest to it that is a number.
+fn moved_place(at: isize, component: i16, decimation: usize) -> isize
+    requires { decimation ≤ 1 }
+    ensures { result ≡ saturate_signed w64 (at +ℤ (whole_part component decimation -ℤ pos 3)) }
+{
+    at.saturating_add(isize::from(component >> (3 + decimation)) - 3)
+}
+
+/// The place to which a vector moves a block at `at`. Past the pads all samples are those at the frame's side, so it stays within them.
+fn moved_slice<T: Pixel>(plane: &Plane<T>, at: PlaneOffset, mv: MotionVector) -> PlaneSlice<'_, T>
+    requires padded { IsPadded T.num plane.now }
+    requires xpad { 3 ≤ plane.now.plane_cfg.xpad }
+    requires ypad { 3 ≤ plane.now.plane_cfg.ypad }
+    ensures stored { let cfg = plane.now.plane_cfg in IsStoredFrom (corner_of result) cfg.xpad cfg.ypad }
+    ensures samples { let cfg = plane.now.plane_cfg in (c r : ℕ) → c < cfg.xpad → r < cfg.ypad → samples_from T.num (corner_of result) c r ≡ moved T.num plane.now at.x at.y mv c r }
+{
+    let cfg = plane.config();
+    let corner = PlaneOffset {
+        x: moved_place(at.x, mv.col, cfg.xdec),
+        y: moved_place(at.y, mv.row, cfg.ydec),
+    };
+    plane.slice(corner).clamp().subslice(3, 3)
+}
+
+/// Predicts a block at `at` from one reference.
+pub(crate) fn put_moved<T: Pixel>(
+    dst: &mut PlaneRegionMut<'_, T>,
+    plane: &Plane<T>,
+    at: PlaneOffset,
+    mv: MotionVector,
+    width: usize,
+    height: usize,
+    mode: FilterMode,
+    bit_depth: usize,
+)
+    requires fits { InStorage dst.old }
+    requires columns { width ≤ dst.old.place.width }
+    requires rows { height ≤ dst.old.place.height }
+    requires wide { width ≤ 128 }
+    requires high { height ≤ 128 }
+    requires depth { IsDepth bit_depth }
+    requires depth_fits { bit_depth ≤ T.BITS }
+    requires reference { IsReference T.num plane.now bit_depth width height }
+    ensures painted { dst.new ≡ painted dst.old width height (λ r c _. T.pixel (moved_single T.num bit_depth mode plane.now at.x at.y mv width height r c)) }
+    ensures fits { InStorage dst.new }
+{
+    let cfg = plane.config();
+    let col_frac = sixteenths(mv.col, cfg.xdec);
+    let row_frac = sixteenths(mv.row, cfg.ydec);
+    let src = moved_slice(plane, at, mv);
+    put_8tap(
+        dst, src, width, height, col_frac, row_frac, mode, mode, bit_depth,
+    );
+}
+
+/// Prepares a block at `at` from one of two references.
+pub(crate) fn prepare_moved<T: Pixel>(
+    tmp: &mut [i16],
+    plane: &Plane<T>,
+    at: PlaneOffset,
+    mv: MotionVector,
+    width: usize,
+    height: usize,
+    mode: FilterMode,
+    bit_depth: usize,
+)
+    requires tmp_long { height * width ≤ length tmp.old }
+    requires wide { width ≤ 128 }
+    requires high { height ≤ 128 }
+    requires depth { IsDepth bit_depth }
+    requires reference { IsReference T.num plane.now bit_depth width height }
+    ensures { (r c : ℕ) → r < height → c < width → entry tmp.new (r * width + c) ≡ moved_prepared T.num bit_depth mode plane.now at.x at.y mv width height r c }
+{
+    let cfg = plane.config();
+    let col_frac = sixteenths(mv.col, cfg.xdec);
+    let row_frac = sixteenths(mv.row, cfg.ydec);
+    let src = moved_slice(plane, at, mv);
+    prep_8tap(
+        tmp, src, width, height, col_frac, row_frac, mode, mode, bit_depth,
+    );
+}
