@@ -1,9 +1,10 @@
 -- What a vector reads of a reference: block inter prediction process, motion vector scaling process at a scale of one.
-use Rattle.std.specs.Prelude.{◌≡◌, ℕ, ◌+◌, ◌-◌, ◌^◌, ◌<◌, ◌≤◌, ℤ, pos, ◌+ℤ◌, ◌-ℤ◌, ◌*ℤ◌, unsigned_abs, slice_index, Some}
+use Rattle.std.specs.Prelude.{◌≡◌, ℕ, ◌+◌, ◌-◌, ◌^◌, ◌<◌, ◌≤◌, ℤ, pos, ◌+ℤ◌, ◌-ℤ◌, ◌*ℤ◌, unsigned_abs, slice_index, slice_index_or, List, Some, ◌≢◌, Bool, true, false}
 use Rattle.std.specs.Int.{int_shr, int_rem_euclid}
 use Rattle.av1_blocks.specs.declared.mc.FilterMode.{FilterMode}
 use Rattle.av1_blocks.specs.declared.mc.MotionVector.{MotionVector}
 use Rattle.av1_blocks.specs.declared.partition.RefType.{RefType}
+use Rattle.av1_blocks.specs.declared.partition.RefType.TheVariants.{INTRA_FRAME, NONE_FRAME}
 use Rattle.av1_blocks.specs.References.{reference_number}
 use Rattle.av1_frame.specs.declared.frame_invariants.FrameInvariants.{FrameInvariants}
 use Rattle.av1_frame.specs.Frames.{slot_plane}
@@ -60,3 +61,23 @@ slot_of fi reference = slice_index fi.ref_frames (reference_number reference - 1
 -- the plane of a reference, where its slot is filled, is one for a block of these sides
 abbrev pub HasReference : {T : Type 0} → (T → ℕ) → FrameInvariants T → RefType → (p width height : ℕ) → Type 0
 HasReference {T} num fi reference p width height = (plane : Plane T) → slot_plane fi (slot_of fi reference) p ≡ Some plane → IsReference num plane fi.bit_depth width height
+
+-- the first or second of two references, and of two vectors
+abbrev pub reference_of : List RefType → ℕ → RefType
+reference_of references i = slice_index_or references i INTRA_FRAME
+
+abbrev pub vector_of : List MotionVector → ℕ → MotionVector
+vector_of mvs i = slice_index_or mvs i (record { row = pos 0; col = pos 0 })
+
+-- a block of these sides can be predicted from a reference in plane p
+pub record IsServed {T : Type 0} (num : T → ℕ) (fi : FrameInvariants T) (reference : RefType) (p width height : ℕ) : Type 0 where
+  pub inter : reference ≢ INTRA_FRAME
+  pub some : reference ≢ NONE_FRAME
+  pub slot : slot_of fi reference < 8
+  pub plane : HasReference num fi reference p width height
+
+-- whether it is a reference to another frame
+abbrev pub is_reference : RefType → Bool
+is_reference INTRA_FRAME = false
+is_reference NONE_FRAME = false
+is_reference _ = true

@@ -16,6 +16,7 @@
 #![tactic(auto)]
 
 mod average;
+mod buffers;
 mod filter;
 mod lines;
 mod moved;
@@ -28,6 +29,7 @@ mod tests;
 mod window;
 
 pub use average::mc_avg;
-pub use predict::predict_inter_single;
+pub use buffers::InterCompoundBuffers;
+pub use predict::{predict_inter, predict_inter_compound, predict_inter_single};
 pub use prepare::prep_8tap;
 pub use put::put_8tap;

@@ -2,15 +2,18 @@
 //!
 //! AV1 specification: inter prediction process, block inter prediction process.
 
-ghost use Rattle.std.specs.Prelude.{◌≡◌, ◌≢◌, ℕ, ◌+◌, ◌*◌, ◌^◌, ◌≤◌, ◌<◌, false, Some, pos, ◌+ℤ◌, length, FitsSigned};
+ghost use Rattle.std.specs.Prelude.{◌≡◌, ◌≢◌, ℕ, ◌+◌, ◌*◌, ◌^◌, ◌≤◌, ◌<◌, true, false, Some, pos, ◌+ℤ◌, length, FitsSigned};
 ghost use Rattle.std.specs.Int.{w64};
 ghost use Rattle.av1_frame.specs.Frames.{slot_plane};
 ghost use Rattle.av1_frame.specs.Regions.{InStorage, painted};
 ghost use Rattle.av1_blocks.specs.Modes.{is_intra};
+ghost use Rattle.av1_inter.specs.Motion.{averaged, entry};
 ghost use Rattle.av1_inter.specs.Places.{IsDepth};
-ghost use Rattle.av1_inter.specs.Reference.{HasReference, moved_single, slot_of};
+ghost use Rattle.av1_inter.specs.Reference.{is_reference, IsServed, moved_prepared, moved_single, reference_of, slot_of, vector_of};
 
-use crate::moved::put_moved;
+use crate::average::mc_avg;
+use crate::buffers::InterCompoundBuffers;
+use crate::moved::{prepare_moved, put_moved};
 use av1_blocks::{MotionVector, PredictionMode, RefType};
 use av1_frame::{FrameInvariants, Pixel, PlaneOffset, PlaneRegionMut, TileRect};
 
@@ -21,6 +24,13 @@ fn slot_of<T: Pixel>(fi: &FrameInvariants<T>, reference: RefType) -> usize
     ensures { result ≡ slot_of fi.now reference }
 {
     fi.ref_frames[reference.to_index()] as usize
+}
+
+/// Whether it is a reference to another frame.
+fn is_reference(reference: RefType) -> bool
+    ensures { result ≡ is_reference reference }
+{
+    !matches!(reference, RefType::INTRA_FRAME | RefType::NONE_FRAME)
 }
 
 /// Predicts a block from one reference: each sample of the first `height` rows and `width` columns of `dst` becomes that of plane `p`
@@ -52,10 +62,7 @@ pub fn predict_inter_single<T: Pixel>(
     requires high { height ≤ 128 }
     requires depth { IsDepth fi.now.bit_depth }
     requires depth_fits { fi.now.bit_depth ≤ T.BITS }
-    requires inter { ref_frame ≢ RefType.INTRA_FRAME }
-    requires some { ref_frame ≢ RefType.NONE_FRAME }
-    requires slot { slot_of fi.now ref_frame < 8 }
-    requires reference { HasReference T.num fi.now ref_frame p width height }
+    requires reference { IsServed T.num fi.now ref_frame p width height }
     ensures painted { (plane : _) → slot_plane fi.now (slot_of fi.now ref_frame) p ≡ Some plane → dst.new ≡ painted dst.old width height
         (λ r c _. T.pixel (moved_single T.num fi.now.bit_depth fi.now.default_filter plane (pos tile_rect.x +ℤ po.x) (pos tile_rect.y +ℤ po.y) mv width height r c)) }
     ensures fits { InStorage dst.new }
@@ -65,5 +72,184 @@ pub fn predict_inter_single<T: Pixel>(
     if let Some(plane) = fi.slot(slot_of(fi, ref_frame), p) {
         let filter = fi.default_filter;
         put_moved(dst, plane, at, mv, width, height, filter, fi.bit_depth);
+    }
+}
+
+/// Prepares a block from one of two references, where its slot is filled.
+fn prepare_from<T: Pixel>(
+    tmp: &mut [i16],
+    fi: &FrameInvariants<T>,
+    p: usize,
+    at: PlaneOffset,
+    width: usize,
+    height: usize,
+    reference: RefType,
+    mv: MotionVector,
+)
+    requires tmp_long { height * width ≤ length tmp.old }
+    requires plane { p < 3 }
+    requires wide { width ≤ 128 }
+    requires high { height ≤ 128 }
+    requires depth { IsDepth fi.now.bit_depth }
+    requires reference { IsServed T.num fi.now reference p width height }
+    ensures { (plane : _) → slot_plane fi.now (slot_of fi.now reference) p ≡ Some plane → (r c : ℕ) → r < height → c < width → entry tmp.new (r * width + c) ≡ moved_prepared T.num fi.now.bit_depth fi.now.default_filter plane at.x at.y mv width height r c }
+{
+    if let Some(plane) = fi.slot(slot_of(fi, reference), p) {
+        let filter = fi.default_filter;
+        prepare_moved(tmp, plane, at, mv, width, height, filter, fi.bit_depth);
+    }
+}
+
+/// Predicts a block from two references, over room for what is prepared of each.
+fn predict_over<T: Pixel>(
+    tmp1: &mut [i16],
+    tmp2: &mut [i16],
+    fi: &FrameInvariants<T>,
+    p: usize,
+    at: PlaneOffset,
+    dst: &mut PlaneRegionMut<'_, T>,
+    width: usize,
+    height: usize,
+    ref_frames: [RefType; 2],
+    mvs: [MotionVector; 2],
+)
+    requires first_long { height * width ≤ length tmp1.old }
+    requires second_long { height * width ≤ length tmp2.old }
+    requires plane { p < 3 }
+    requires fits { InStorage dst.old }
+    requires columns { width ≤ dst.old.place.width }
+    requires rows { height ≤ dst.old.place.height }
+    requires wide { width ≤ 128 }
+    requires high { height ≤ 128 }
+    requires depth { IsDepth fi.now.bit_depth }
+    requires depth_fits { fi.now.bit_depth ≤ T.BITS }
+    requires first { IsServed T.num fi.now (reference_of ref_frames 0) p width height }
+    requires second { IsServed T.num fi.now (reference_of ref_frames 1) p width height }
+    ensures painted { (first second : _) → slot_plane fi.now (slot_of fi.now (reference_of ref_frames 0)) p ≡ Some first → slot_plane fi.now (slot_of fi.now (reference_of ref_frames 1)) p ≡ Some second →
+        dst.new ≡ painted dst.old width height (λ r c _. T.pixel (averaged fi.now.bit_depth
+            (moved_prepared T.num fi.now.bit_depth fi.now.default_filter first at.x at.y (vector_of mvs 0) width height r c)
+            (moved_prepared T.num fi.now.bit_depth fi.now.default_filter second at.x at.y (vector_of mvs 1) width height r c))) }
+    ensures fits { InStorage dst.new }
+{
+    let [first, second] = ref_frames;
+    let [first_mv, second_mv] = mvs;
+    prepare_from(tmp1, fi, p, at, width, height, first, first_mv);
+    prepare_from(tmp2, fi, p, at, width, height, second, second_mv);
+    let bit_depth = fi.bit_depth;
+    mc_avg(dst, tmp1, tmp2, width, height, bit_depth);
+}
+
+/// Predicts a block from two references: each sample of the first `height` rows and `width` columns of `dst` becomes the average of the
+/// two that `predict_inter_single` interpolates, which are rounded only then. Conditions and places are those of `predict_inter_single`;
+/// `buffer` holds the prepared blocks afterwards.
+pub fn predict_inter_compound<T: Pixel>(
+    mode: PredictionMode,
+    fi: &FrameInvariants<T>,
+    tile_rect: TileRect,
+    p: usize,
+    po: PlaneOffset,
+    dst: &mut PlaneRegionMut<'_, T>,
+    width: usize,
+    height: usize,
+    ref_frames: [RefType; 2],
+    mvs: [MotionVector; 2],
+    buffer: &mut InterCompoundBuffers,
+)
+    requires mode { is_intra mode ≡ false }
+    requires tile { (tile_rect.x < 2 ^ 63) × (tile_rect.y < 2 ^ 63) }
+    requires column { FitsSigned w64 (pos tile_rect.x +ℤ po.x) }
+    requires row { FitsSigned w64 (pos tile_rect.y +ℤ po.y) }
+    requires plane { p < 3 }
+    requires fits { InStorage dst.old }
+    requires columns { width ≤ dst.old.place.width }
+    requires rows { height ≤ dst.old.place.height }
+    requires wide { width ≤ 128 }
+    requires high { height ≤ 128 }
+    requires depth { IsDepth fi.now.bit_depth }
+    requires depth_fits { fi.now.bit_depth ≤ T.BITS }
+    requires first { IsServed T.num fi.now (reference_of ref_frames 0) p width height }
+    requires second { IsServed T.num fi.now (reference_of ref_frames 1) p width height }
+    ensures painted { (first second : _) → slot_plane fi.now (slot_of fi.now (reference_of ref_frames 0)) p ≡ Some first → slot_plane fi.now (slot_of fi.now (reference_of ref_frames 1)) p ≡ Some second →
+        let x = pos tile_rect.x +ℤ po.x in
+        let y = pos tile_rect.y +ℤ po.y in
+        dst.new ≡ painted dst.old width height (λ r c _. T.pixel (averaged fi.now.bit_depth
+            (moved_prepared T.num fi.now.bit_depth fi.now.default_filter first x y (vector_of mvs 0) width height r c)
+            (moved_prepared T.num fi.now.bit_depth fi.now.default_filter second x y (vector_of mvs 1) width height r c))) }
+    ensures fits { InStorage dst.new }
+{
+    prove!(!mode.is_intra());
+    let at = tile_rect.to_frame_plane_offset(po);
+    predict_over(
+        buffer.first.as_mut_slice(),
+        buffer.second.as_mut_slice(),
+        fi,
+        p,
+        at,
+        dst,
+        width,
+        height,
+        ref_frames,
+        mvs,
+    );
+}
+
+/// Predicts a block from one reference, or from two where the second is one: neither `INTRA_FRAME` nor `NONE_FRAME`.
+pub fn predict_inter<T: Pixel>(
+    mode: PredictionMode,
+    fi: &FrameInvariants<T>,
+    tile_rect: TileRect,
+    p: usize,
+    po: PlaneOffset,
+    dst: &mut PlaneRegionMut<'_, T>,
+    width: usize,
+    height: usize,
+    ref_frames: [RefType; 2],
+    mvs: [MotionVector; 2],
+    compound_buffer: &mut InterCompoundBuffers,
+)
+    requires mode { is_intra mode ≡ false }
+    requires tile { (tile_rect.x < 2 ^ 63) × (tile_rect.y < 2 ^ 63) }
+    requires column { FitsSigned w64 (pos tile_rect.x +ℤ po.x) }
+    requires row { FitsSigned w64 (pos tile_rect.y +ℤ po.y) }
+    requires plane { p < 3 }
+    requires fits { InStorage dst.old }
+    requires columns { width ≤ dst.old.place.width }
+    requires rows { height ≤ dst.old.place.height }
+    requires wide { width ≤ 128 }
+    requires high { height ≤ 128 }
+    requires depth { IsDepth fi.now.bit_depth }
+    requires depth_fits { fi.now.bit_depth ≤ T.BITS }
+    requires first { IsServed T.num fi.now (reference_of ref_frames 0) p width height }
+    requires second { is_reference (reference_of ref_frames 1) ≡ true → IsServed T.num fi.now (reference_of ref_frames 1) p width height }
+    ensures single { is_reference (reference_of ref_frames 1) ≡ false → (plane : _) → slot_plane fi.now (slot_of fi.now (reference_of ref_frames 0)) p ≡ Some plane → dst.new ≡ painted dst.old width height
+        (λ r c _. T.pixel (moved_single T.num fi.now.bit_depth fi.now.default_filter plane (pos tile_rect.x +ℤ po.x) (pos tile_rect.y +ℤ po.y) (vector_of mvs 0) width height r c)) }
+    ensures compound { is_reference (reference_of ref_frames 1) ≡ true → (first second : _) → slot_plane fi.now (slot_of fi.now (reference_of ref_frames 0)) p ≡ Some first → slot_plane fi.now (slot_of fi.now (reference_of ref_frames 1)) p ≡ Some second →
+        let x = pos tile_rect.x +ℤ po.x in
+        let y = pos tile_rect.y +ℤ po.y in
+        dst.new ≡ painted dst.old width height (λ r c _. T.pixel (averaged fi.now.bit_depth
+            (moved_prepared T.num fi.now.bit_depth fi.now.default_filter first x y (vector_of mvs 0) width height r c)
+            (moved_prepared T.num fi.now.bit_depth fi.now.default_filter second x y (vector_of mvs 1) width height r c))) }
+    ensures fits { InStorage dst.new }
+{
+    let [first, second] = ref_frames;
+    let [mv, _] = mvs;
+    if is_reference(second) {
+        predict_inter_compound(
+            mode,
+            fi,
+            tile_rect,
+            p,
+            po,
+            dst,
+            width,
+            height,
+            ref_frames,
+            mvs,
+            compound_buffer,
+        );
+    } else {
+        predict_inter_single(
+            mode, fi, tile_rect, p, po, dst, width, height, first, mv,
+        );
     }
 }

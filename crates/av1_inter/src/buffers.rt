@@ -1,0 +1,27 @@
+//! Room for the two prepared blocks of a compound prediction.
+
+ghost use Rattle.std.specs.Prelude.{◌≡◌, vec_len};
+
+use av1_blocks::OutOfMemory;
+use std::alloc::Global;
+
+/// How many entries the greatest block has.
+const BUFFER_SIZE: usize = 128 * 128;
+
+/// The prepared values of a block from each of two references. It is made once, and each compound prediction writes it anew.
+#[derive(Debug, Drop)]
+pub struct InterCompoundBuffers {
+    pub(crate) first: Vec<i16>,
+    pub(crate) second: Vec<i16>,
+    ghost first_long: { vec_len first ≡ 16384 },
+    ghost second_long: { vec_len second ≡ 16384 },
+}
+
+impl InterCompoundBuffers {
+    /// Two buffers of 16,384 entries, all 0.
+    pub fn new(alloc: Global) -> Result<InterCompoundBuffers, OutOfMemory> {
+        let first = vec![in alloc; 0; BUFFER_SIZE]?;
+        let second = vec![in alloc; 0; BUFFER_SIZE]?;
+        Ok(InterCompoundBuffers { first, second })
+    }
+}
