@@ -6,3 +6,4 @@ pub mod Reach
 pub mod Table
 pub mod Cases
 pub mod Vectors
+pub mod Blocks

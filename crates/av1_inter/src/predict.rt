@@ -127,8 +127,8 @@ fn predict_over<T: Pixel>(
     requires second { IsServed T.num fi.now (reference_of ref_frames 1) p width height }
     ensures painted { (first second : _) → slot_plane fi.now (slot_of fi.now (reference_of ref_frames 0)) p ≡ Some first → slot_plane fi.now (slot_of fi.now (reference_of ref_frames 1)) p ≡ Some second →
         dst.new ≡ painted dst.old width height (λ r c _. T.pixel (averaged fi.now.bit_depth
-            (moved_prepared T.num fi.now.bit_depth fi.now.default_filter first at.x at.y (vector_of mvs 0) width height r c)
-            (moved_prepared T.num fi.now.bit_depth fi.now.default_filter second at.x at.y (vector_of mvs 1) width height r c))) }
+        (moved_prepared T.num fi.now.bit_depth fi.now.default_filter first at.x at.y (vector_of mvs 0) width height r c)
+        (moved_prepared T.num fi.now.bit_depth fi.now.default_filter second at.x at.y (vector_of mvs 1) width height r c))) }
     ensures fits { InStorage dst.new }
 {
     let [first, second] = ref_frames;
@@ -173,8 +173,8 @@ pub fn predict_inter_compound<T: Pixel>(
         let x = pos tile_rect.x +ℤ po.x in
         let y = pos tile_rect.y +ℤ po.y in
         dst.new ≡ painted dst.old width height (λ r c _. T.pixel (averaged fi.now.bit_depth
-            (moved_prepared T.num fi.now.bit_depth fi.now.default_filter first x y (vector_of mvs 0) width height r c)
-            (moved_prepared T.num fi.now.bit_depth fi.now.default_filter second x y (vector_of mvs 1) width height r c))) }
+        (moved_prepared T.num fi.now.bit_depth fi.now.default_filter first x y (vector_of mvs 0) width height r c)
+        (moved_prepared T.num fi.now.bit_depth fi.now.default_filter second x y (vector_of mvs 1) width height r c))) }
     ensures fits { InStorage dst.new }
 {
     prove!(!mode.is_intra());
@@ -227,8 +227,8 @@ pub fn predict_inter<T: Pixel>(
         let x = pos tile_rect.x +ℤ po.x in
         let y = pos tile_rect.y +ℤ po.y in
         dst.new ≡ painted dst.old width height (λ r c _. T.pixel (averaged fi.now.bit_depth
-            (moved_prepared T.num fi.now.bit_depth fi.now.default_filter first x y (vector_of mvs 0) width height r c)
-            (moved_prepared T.num fi.now.bit_depth fi.now.default_filter second x y (vector_of mvs 1) width height r c))) }
+        (moved_prepared T.num fi.now.bit_depth fi.now.default_filter first x y (vector_of mvs 0) width height r c)
+        (moved_prepared T.num fi.now.bit_depth fi.now.default_filter second x y (vector_of mvs 1) width height r c))) }
     ensures fits { InStorage dst.new }
 {
     let [first, second] = ref_frames;
@@ -248,8 +248,6 @@ pub fn predict_inter<T: Pixel>(
             compound_buffer,
         );
     } else {
-        predict_inter_single(
-            mode, fi, tile_rect, p, po, dst, width, height, first, mv,
-        );
+        predict_inter_single(mode, fi, tile_rect, p, po, dst, width, height, first, mv);
     }
 }

@@ -1,1 +1,872 @@
-//! Worked samples.
+//! Worked samples, and answers of rav1e's own functions to the same calls.
+
+ghost use Rattle.std.specs.Prelude.{◌≡◌, ℕ, ◌^◌, ◌≤◌, ◌<◌, pos, ◌≤ℤ◌, ◌<ℤ◌, length, map, slice_index};
+ghost use Rattle.av1_frame.specs.Regions.{InStorage};
+ghost use Rattle.av1_inter.specs.Places.{IsDepth};
+
+use crate::{mc_avg, prep_8tap, put_8tap};
+use av1_blocks::{FilterMode, OutOfMemory};
+use av1_frame::{Pixel, Plane, PlaneOffset, PlaneRegionMut};
+use std::alloc::Global;
+use std::test::Fail;
+
+/// The sample at place `k` of a reference: any of the depth for an even seed, the least or the greatest for an odd one.
+fn sample(k: usize, seed: usize, depth: usize) -> usize
+    requires place { k < 256 }
+    requires seed { seed ≤ 100 }
+    requires depth { depth ≤ 12 }
+    ensures { result < 2 ^ depth }
+{
+    let h = (k * k % 4093) * 31 + k * 17 + seed * 101;
+    if seed % 2 == 0 {
+        h % (1 << depth)
+    } else if h / 3 % 2 == 0 {
+        0
+    } else {
+        (1 << depth) - 1
+    }
+}
+
+/// 16 rows of 16 samples of 8 bits.
+fn samples_of_8_bits(seed: usize) -> [u8; 256]
+    requires { seed ≤ 100 }
+    ensures { (k : ℕ) → k < 256 → slice_index result k < 2 ^ 8 }
+{
+    let mut samples = [0; 256];
+    for k in 0..256 {
+        samples[k] = sample(k, seed, 8) as u8;
+    }
+    samples
+}
+
+/// The same of any depth.
+fn samples_of_16_bits(seed: usize, depth: usize) -> [u16; 256]
+    requires seed { seed ≤ 100 }
+    requires depth { depth ≤ 12 }
+    ensures { (k : ℕ) → k < 256 → slice_index result k < 2 ^ depth }
+{
+    let mut samples = [0; 256];
+    for k in 0..256 {
+        samples[k] = sample(k, seed, depth) as u16;
+    }
+    samples
+}
+
+/// One number of the samples of a row and those before it.
+fn add_row<T: Pixel>(row: &[T], before: u64) -> u64
+    requires { before < 1000003 }
+    ensures { result < 1000003 }
+{
+    let mut sum = before;
+    for sample in row {
+        sum = (sum * 31 + u64::from(sample.to_u32())) % 1000003;
+    }
+    sum
+}
+
+/// One number of all samples of a region.
+fn digest<T: Pixel>(region: &PlaneRegionMut<'_, T>) -> u64
+    requires { InStorage region.now }
+{
+    let mut sum = 0;
+    for y in 0..region.rect().height {
+        sum = add_row(region.row(y), sum);
+    }
+    sum
+}
+
+/// One number of prepared values.
+fn digest_of_values(values: &[i16]) -> u64 {
+    let mut sum = 0;
+    for value in values {
+        sum = (sum * 31 + (i64::from(*value) + 32768) as u64) % 1000003;
+    }
+    sum
+}
+
+/// How a block of at most 8x8 samples is interpolated.
+#[derive(Clone, Copy)]
+struct Motion {
+    width: usize,
+    height: usize,
+    col_frac: i32,
+    row_frac: i32,
+    mode_x: FilterMode,
+    mode_y: FilterMode,
+}
+
+/// The block at column 3 and row 3 of 16 rows of 16 samples, predicted in the corner of a blank one of 9 rows of 9.
+fn put_case<T: Pixel>(
+    alloc: Global,
+    samples: &[T],
+    blank: &[T],
+    motion: Motion,
+    depth: usize,
+) -> Result<u64, OutOfMemory>
+    requires size { length samples.now ≡ 256 }
+    requires blank { length blank.now ≡ 81 }
+    requires within { (k : ℕ) → k < 256 → slice_index (map T.num samples.now) k < 2 ^ depth }
+    requires depth { IsDepth depth }
+    requires depth_fits { depth ≤ T.BITS }
+    requires width { motion.width ≤ 8 }
+    requires height { motion.height ≤ 8 }
+    requires col_frac { (pos 0 ≤ℤ motion.col_frac) × (motion.col_frac <ℤ pos 16) }
+    requires row_frac { (pos 0 ≤ℤ motion.row_frac) × (motion.row_frac <ℤ pos 16) }
+{
+    let reference = Plane::from_slice(alloc, samples, 16)?;
+    let mut plane = Plane::from_slice(alloc, blank, 9)?;
+    let mut dst = plane.as_region_mut();
+    let src = reference.slice(PlaneOffset { x: 3, y: 3 });
+    put_8tap(
+        &mut dst,
+        src,
+        motion.width,
+        motion.height,
+        motion.col_frac,
+        motion.row_frac,
+        motion.mode_x,
+        motion.mode_y,
+        depth,
+    );
+    Ok(digest(&dst))
+}
+
+/// The same block, prepared at the start of 65 entries.
+fn prepared<T: Pixel>(
+    alloc: Global,
+    samples: &[T],
+    motion: Motion,
+    depth: usize,
+) -> Result<[i16; 65], OutOfMemory>
+    requires size { length samples.now ≡ 256 }
+    requires within { (k : ℕ) → k < 256 → slice_index (map T.num samples.now) k < 2 ^ depth }
+    requires depth { IsDepth depth }
+    requires width { motion.width ≤ 8 }
+    requires height { motion.height ≤ 8 }
+    requires col_frac { (pos 0 ≤ℤ motion.col_frac) × (motion.col_frac <ℤ pos 16) }
+    requires row_frac { (pos 0 ≤ℤ motion.row_frac) × (motion.row_frac <ℤ pos 16) }
+{
+    let reference = Plane::from_slice(alloc, samples, 16)?;
+    let mut tmp = [7; 65];
+    let src = reference.slice(PlaneOffset { x: 3, y: 3 });
+    prep_8tap(
+        &mut tmp,
+        src,
+        motion.width,
+        motion.height,
+        motion.col_frac,
+        motion.row_frac,
+        motion.mode_x,
+        motion.mode_y,
+        depth,
+    );
+    Ok(tmp)
+}
+
+/// The average of two prepared blocks, in the corner of a blank one.
+fn average_case<T: Pixel>(
+    alloc: Global,
+    first: &[i16],
+    second: &[i16],
+    blank: &[T],
+    width: usize,
+    height: usize,
+    depth: usize,
+) -> Result<u64, OutOfMemory>
+    requires first { length first.now ≡ 65 }
+    requires second { length second.now ≡ 65 }
+    requires blank { length blank.now ≡ 81 }
+    requires depth { IsDepth depth }
+    requires depth_fits { depth ≤ T.BITS }
+    requires width { width ≤ 8 }
+    requires height { height ≤ 8 }
+{
+    let mut plane = Plane::from_slice(alloc, blank, 9)?;
+    let mut dst = plane.as_region_mut();
+    mc_avg(&mut dst, first, second, width, height, depth);
+    Ok(digest(&dst))
+}
+
+/// A block, the seed of its reference, and what rav1e's functions give for it: one number of the predicted samples and one of the
+/// prepared values.
+#[derive(Clone, Copy)]
+struct Case {
+    motion: Motion,
+    seed: usize,
+    put: u64,
+    prep: u64,
+}
+
+/// Whether both functions give what the case says, in 8 bits.
+fn holds_in_8_bits(alloc: Global, case: Case) -> Result<bool, OutOfMemory> {
+    let motion = case.motion;
+    if case.seed > 100 || motion.width > 8 || motion.height > 8 {
+        return Ok(false);
+    }
+    if motion.col_frac < 0 || motion.col_frac > 15 || motion.row_frac < 0 || motion.row_frac > 15 {
+        return Ok(false);
+    }
+    let samples = samples_of_8_bits(case.seed);
+    let put = put_case::<u8>(alloc, &samples, &[7; 81], motion, 8)?;
+    let tmp = prepared(alloc, &samples, motion, 8)?;
+    Ok(put == case.put && digest_of_values(&tmp) == case.prep)
+}
+
+/// The same of a depth in 16 bits.
+fn holds_in_16_bits(alloc: Global, case: Case, depth: usize) -> Result<bool, OutOfMemory> {
+    let motion = case.motion;
+    if case.seed > 100 || motion.width > 8 || motion.height > 8 {
+        return Ok(false);
+    }
+    if motion.col_frac < 0 || motion.col_frac > 15 || motion.row_frac < 0 || motion.row_frac > 15 {
+        return Ok(false);
+    }
+    if depth != 8 && depth != 10 && depth != 12 {
+        return Ok(false);
+    }
+    let samples = samples_of_16_bits(case.seed, depth);
+    let put = put_case::<u16>(alloc, &samples, &[7; 81], motion, depth)?;
+    let tmp = prepared(alloc, &samples, motion, depth)?;
+    Ok(put == case.put && digest_of_values(&tmp) == case.prep)
+}
+
+/// Samples as they stand, one filter alone and both.
+#[test]
+fn cases_of_8_bits(rt: HostRuntime) -> Result<(), Fail> {
+    let cases = [
+        Case {
+            motion: Motion {
+                width: 4,
+                height: 4,
+                col_frac: 0,
+                row_frac: 0,
+                mode_x: FilterMode::REGULAR,
+                mode_y: FilterMode::SHARP,
+            },
+            seed: 0,
+            put: 621085,
+            prep: 878876,
+        },
+        Case {
+            motion: Motion {
+                width: 4,
+                height: 2,
+                col_frac: 0,
+                row_frac: 5,
+                mode_x: FilterMode::SHARP,
+                mode_y: FilterMode::BILINEAR,
+            },
+            seed: 4,
+            put: 526238,
+            prep: 307537,
+        },
+        Case {
+            motion: Motion {
+                width: 8,
+                height: 4,
+                col_frac: 8,
+                row_frac: 0,
+                mode_x: FilterMode::SWITCHABLE,
+                mode_y: FilterMode::SWITCHABLE,
+            },
+            seed: 1,
+            put: 622374,
+            prep: 403925,
+        },
+        Case {
+            motion: Motion {
+                width: 2,
+                height: 8,
+                col_frac: 11,
+                row_frac: 3,
+                mode_x: FilterMode::SMOOTH,
+                mode_y: FilterMode::SMOOTH,
+            },
+            seed: 5,
+            put: 323837,
+            prep: 672986,
+        },
+        Case {
+            motion: Motion {
+                width: 8,
+                height: 8,
+                col_frac: 8,
+                row_frac: 8,
+                mode_x: FilterMode::BILINEAR,
+                mode_y: FilterMode::SHARP,
+            },
+            seed: 2,
+            put: 600809,
+            prep: 630634,
+        },
+        Case {
+            motion: Motion {
+                width: 4,
+                height: 4,
+                col_frac: 15,
+                row_frac: 1,
+                mode_x: FilterMode::REGULAR,
+                mode_y: FilterMode::BILINEAR,
+            },
+            seed: 6,
+            put: 103670,
+            prep: 766575,
+        },
+        Case {
+            motion: Motion {
+                width: 4,
+                height: 2,
+                col_frac: 0,
+                row_frac: 8,
+                mode_x: FilterMode::SHARP,
+                mode_y: FilterMode::REGULAR,
+            },
+            seed: 3,
+            put: 407075,
+            prep: 828243,
+        },
+        Case {
+            motion: Motion {
+                width: 8,
+                height: 4,
+                col_frac: 4,
+                row_frac: 12,
+                mode_x: FilterMode::SWITCHABLE,
+                mode_y: FilterMode::SMOOTH,
+            },
+            seed: 0,
+            put: 12614,
+            prep: 202338,
+        },
+    ];
+    for case in &cases {
+        assert!(rt; holds_in_8_bits(rt.alloc(), *case)?);
+    }
+    Ok(())
+}
+
+/// The same in 16 bits, with sharp filters between the least and the greatest samples at the end.
+#[test]
+fn cases_of_16_bits_at_depth_8(rt: HostRuntime) -> Result<(), Fail> {
+    let cases = [
+        Case {
+            motion: Motion {
+                width: 8,
+                height: 8,
+                col_frac: 0,
+                row_frac: 0,
+                mode_x: FilterMode::REGULAR,
+                mode_y: FilterMode::SHARP,
+            },
+            seed: 1,
+            put: 520426,
+            prep: 284660,
+        },
+        Case {
+            motion: Motion {
+                width: 4,
+                height: 4,
+                col_frac: 0,
+                row_frac: 5,
+                mode_x: FilterMode::SHARP,
+                mode_y: FilterMode::BILINEAR,
+            },
+            seed: 5,
+            put: 489135,
+            prep: 641918,
+        },
+        Case {
+            motion: Motion {
+                width: 4,
+                height: 2,
+                col_frac: 8,
+                row_frac: 0,
+                mode_x: FilterMode::SWITCHABLE,
+                mode_y: FilterMode::REGULAR,
+            },
+            seed: 2,
+            put: 568017,
+            prep: 492371,
+        },
+        Case {
+            motion: Motion {
+                width: 8,
+                height: 4,
+                col_frac: 11,
+                row_frac: 3,
+                mode_x: FilterMode::SMOOTH,
+                mode_y: FilterMode::SMOOTH,
+            },
+            seed: 6,
+            put: 289777,
+            prep: 586596,
+        },
+        Case {
+            motion: Motion {
+                width: 2,
+                height: 8,
+                col_frac: 8,
+                row_frac: 8,
+                mode_x: FilterMode::BILINEAR,
+                mode_y: FilterMode::SHARP,
+            },
+            seed: 3,
+            put: 176244,
+            prep: 857711,
+        },
+        Case {
+            motion: Motion {
+                width: 8,
+                height: 8,
+                col_frac: 15,
+                row_frac: 1,
+                mode_x: FilterMode::REGULAR,
+                mode_y: FilterMode::SWITCHABLE,
+            },
+            seed: 0,
+            put: 150548,
+            prep: 119223,
+        },
+        Case {
+            motion: Motion {
+                width: 4,
+                height: 4,
+                col_frac: 0,
+                row_frac: 8,
+                mode_x: FilterMode::SHARP,
+                mode_y: FilterMode::REGULAR,
+            },
+            seed: 4,
+            put: 825032,
+            prep: 33915,
+        },
+        Case {
+            motion: Motion {
+                width: 4,
+                height: 2,
+                col_frac: 4,
+                row_frac: 12,
+                mode_x: FilterMode::SWITCHABLE,
+                mode_y: FilterMode::SMOOTH,
+            },
+            seed: 1,
+            put: 142910,
+            prep: 664461,
+        },
+        Case {
+            motion: Motion {
+                width: 8,
+                height: 8,
+                col_frac: 8,
+                row_frac: 8,
+                mode_x: FilterMode::SHARP,
+                mode_y: FilterMode::SHARP,
+            },
+            seed: 1,
+            put: 457255,
+            prep: 447107,
+        },
+        Case {
+            motion: Motion {
+                width: 8,
+                height: 8,
+                col_frac: 8,
+                row_frac: 8,
+                mode_x: FilterMode::SHARP,
+                mode_y: FilterMode::SHARP,
+            },
+            seed: 3,
+            put: 749830,
+            prep: 994135,
+        },
+        Case {
+            motion: Motion {
+                width: 8,
+                height: 8,
+                col_frac: 8,
+                row_frac: 8,
+                mode_x: FilterMode::SHARP,
+                mode_y: FilterMode::SHARP,
+            },
+            seed: 5,
+            put: 383668,
+            prep: 489476,
+        },
+    ];
+    for case in &cases {
+        assert!(rt; holds_in_16_bits(rt.alloc(), *case, 8)?);
+    }
+    Ok(())
+}
+
+/// The same in 16 bits, with sharp filters between the least and the greatest samples at the end.
+#[test]
+fn cases_of_16_bits_at_depth_10(rt: HostRuntime) -> Result<(), Fail> {
+    let cases = [
+        Case {
+            motion: Motion {
+                width: 2,
+                height: 8,
+                col_frac: 0,
+                row_frac: 0,
+                mode_x: FilterMode::SMOOTH,
+                mode_y: FilterMode::SHARP,
+            },
+            seed: 2,
+            put: 581875,
+            prep: 405210,
+        },
+        Case {
+            motion: Motion {
+                width: 8,
+                height: 8,
+                col_frac: 0,
+                row_frac: 5,
+                mode_x: FilterMode::BILINEAR,
+                mode_y: FilterMode::SWITCHABLE,
+            },
+            seed: 6,
+            put: 480285,
+            prep: 417644,
+        },
+        Case {
+            motion: Motion {
+                width: 4,
+                height: 4,
+                col_frac: 8,
+                row_frac: 0,
+                mode_x: FilterMode::REGULAR,
+                mode_y: FilterMode::REGULAR,
+            },
+            seed: 3,
+            put: 902829,
+            prep: 593137,
+        },
+        Case {
+            motion: Motion {
+                width: 4,
+                height: 2,
+                col_frac: 11,
+                row_frac: 3,
+                mode_x: FilterMode::SHARP,
+                mode_y: FilterMode::SMOOTH,
+            },
+            seed: 0,
+            put: 371840,
+            prep: 421939,
+        },
+        Case {
+            motion: Motion {
+                width: 8,
+                height: 4,
+                col_frac: 8,
+                row_frac: 8,
+                mode_x: FilterMode::SWITCHABLE,
+                mode_y: FilterMode::BILINEAR,
+            },
+            seed: 4,
+            put: 989456,
+            prep: 952625,
+        },
+        Case {
+            motion: Motion {
+                width: 2,
+                height: 8,
+                col_frac: 15,
+                row_frac: 1,
+                mode_x: FilterMode::SMOOTH,
+                mode_y: FilterMode::SWITCHABLE,
+            },
+            seed: 1,
+            put: 83982,
+            prep: 593281,
+        },
+        Case {
+            motion: Motion {
+                width: 8,
+                height: 8,
+                col_frac: 0,
+                row_frac: 8,
+                mode_x: FilterMode::BILINEAR,
+                mode_y: FilterMode::REGULAR,
+            },
+            seed: 5,
+            put: 360441,
+            prep: 20466,
+        },
+        Case {
+            motion: Motion {
+                width: 4,
+                height: 4,
+                col_frac: 4,
+                row_frac: 12,
+                mode_x: FilterMode::REGULAR,
+                mode_y: FilterMode::SHARP,
+            },
+            seed: 2,
+            put: 939510,
+            prep: 457972,
+        },
+        Case {
+            motion: Motion {
+                width: 8,
+                height: 8,
+                col_frac: 8,
+                row_frac: 8,
+                mode_x: FilterMode::SHARP,
+                mode_y: FilterMode::SHARP,
+            },
+            seed: 1,
+            put: 248729,
+            prep: 661277,
+        },
+        Case {
+            motion: Motion {
+                width: 8,
+                height: 8,
+                col_frac: 8,
+                row_frac: 8,
+                mode_x: FilterMode::SHARP,
+                mode_y: FilterMode::SHARP,
+            },
+            seed: 3,
+            put: 77713,
+            prep: 825573,
+        },
+        Case {
+            motion: Motion {
+                width: 8,
+                height: 8,
+                col_frac: 8,
+                row_frac: 8,
+                mode_x: FilterMode::SHARP,
+                mode_y: FilterMode::SHARP,
+            },
+            seed: 5,
+            put: 992121,
+            prep: 630903,
+        },
+    ];
+    for case in &cases {
+        assert!(rt; holds_in_16_bits(rt.alloc(), *case, 10)?);
+    }
+    Ok(())
+}
+
+/// The same in 16 bits, with sharp filters between the least and the greatest samples at the end.
+#[test]
+fn cases_of_16_bits_at_depth_12(rt: HostRuntime) -> Result<(), Fail> {
+    let cases = [
+        Case {
+            motion: Motion {
+                width: 8,
+                height: 4,
+                col_frac: 0,
+                row_frac: 0,
+                mode_x: FilterMode::SMOOTH,
+                mode_y: FilterMode::BILINEAR,
+            },
+            seed: 3,
+            put: 437080,
+            prep: 612495,
+        },
+        Case {
+            motion: Motion {
+                width: 2,
+                height: 8,
+                col_frac: 0,
+                row_frac: 5,
+                mode_x: FilterMode::BILINEAR,
+                mode_y: FilterMode::SWITCHABLE,
+            },
+            seed: 0,
+            put: 742019,
+            prep: 2143,
+        },
+        Case {
+            motion: Motion {
+                width: 8,
+                height: 8,
+                col_frac: 8,
+                row_frac: 0,
+                mode_x: FilterMode::REGULAR,
+                mode_y: FilterMode::REGULAR,
+            },
+            seed: 4,
+            put: 569886,
+            prep: 823562,
+        },
+        Case {
+            motion: Motion {
+                width: 4,
+                height: 4,
+                col_frac: 11,
+                row_frac: 3,
+                mode_x: FilterMode::SHARP,
+                mode_y: FilterMode::SHARP,
+            },
+            seed: 1,
+            put: 201649,
+            prep: 679391,
+        },
+        Case {
+            motion: Motion {
+                width: 4,
+                height: 2,
+                col_frac: 8,
+                row_frac: 8,
+                mode_x: FilterMode::SWITCHABLE,
+                mode_y: FilterMode::BILINEAR,
+            },
+            seed: 5,
+            put: 318214,
+            prep: 367119,
+        },
+        Case {
+            motion: Motion {
+                width: 8,
+                height: 4,
+                col_frac: 15,
+                row_frac: 1,
+                mode_x: FilterMode::SMOOTH,
+                mode_y: FilterMode::SWITCHABLE,
+            },
+            seed: 2,
+            put: 47147,
+            prep: 545658,
+        },
+        Case {
+            motion: Motion {
+                width: 2,
+                height: 8,
+                col_frac: 0,
+                row_frac: 8,
+                mode_x: FilterMode::BILINEAR,
+                mode_y: FilterMode::SMOOTH,
+            },
+            seed: 6,
+            put: 405021,
+            prep: 860747,
+        },
+        Case {
+            motion: Motion {
+                width: 8,
+                height: 8,
+                col_frac: 4,
+                row_frac: 12,
+                mode_x: FilterMode::REGULAR,
+                mode_y: FilterMode::SHARP,
+            },
+            seed: 3,
+            put: 481588,
+            prep: 895236,
+        },
+        Case {
+            motion: Motion {
+                width: 8,
+                height: 8,
+                col_frac: 8,
+                row_frac: 8,
+                mode_x: FilterMode::SHARP,
+                mode_y: FilterMode::SHARP,
+            },
+            seed: 1,
+            put: 157631,
+            prep: 618100,
+        },
+        Case {
+            motion: Motion {
+                width: 8,
+                height: 8,
+                col_frac: 8,
+                row_frac: 8,
+                mode_x: FilterMode::SHARP,
+                mode_y: FilterMode::SHARP,
+            },
+            seed: 3,
+            put: 755595,
+            prep: 944585,
+        },
+        Case {
+            motion: Motion {
+                width: 8,
+                height: 8,
+                col_frac: 8,
+                row_frac: 8,
+                mode_x: FilterMode::SHARP,
+                mode_y: FilterMode::SHARP,
+            },
+            seed: 5,
+            put: 613444,
+            prep: 958430,
+        },
+    ];
+    for case in &cases {
+        assert!(rt; holds_in_16_bits(rt.alloc(), *case, 12)?);
+    }
+    Ok(())
+}
+
+/// Two prepared blocks of a depth of 10.
+#[test]
+fn average_at_depth_10(rt: HostRuntime) -> Result<(), Fail> {
+    let motion = Motion {
+        width: 8,
+        height: 4,
+        col_frac: 3,
+        row_frac: 5,
+        mode_x: FilterMode::SHARP,
+        mode_y: FilterMode::REGULAR,
+    };
+    let first = prepared(rt.alloc(), &samples_of_16_bits(1, 10), motion, 10)?;
+    let motion = Motion {
+        width: 8,
+        height: 4,
+        col_frac: 0,
+        row_frac: 8,
+        mode_x: FilterMode::SMOOTH,
+        mode_y: FilterMode::SHARP,
+    };
+    let second = prepared(rt.alloc(), &samples_of_16_bits(4, 10), motion, 10)?;
+    assert!(rt; average_case::<u16>(rt.alloc(), &first, &second, &[7; 81], 8, 4, 10)? == 403226);
+    Ok(())
+}
+
+/// The sample where `k` is 53, the one at column 5 of row 3, and 0 elsewhere.
+fn only_at_53(k: usize, sample: u8) -> u8 {
+    if k == 53 { sample } else { 0 }
+}
+
+/// 16 rows of 16 samples, of which one is not 0.
+fn one_sample(sample: u8) -> [u8; 256]
+    ensures { (k : ℕ) → k < 256 → slice_index result k < 2 ^ 8 }
+{
+    let mut samples = [0; 256];
+    for k in 0..256 {
+        samples[k] = only_at_53(k, sample);
+    }
+    samples
+}
+
+/// One number of a block of 4 columns, half way past samples of which the one at column 2 alone is not 0.
+fn four_columns(alloc: Global, sample: u8) -> Result<u64, OutOfMemory> {
+    let samples = one_sample(sample);
+    let motion = Motion {
+        width: 4,
+        height: 4,
+        col_frac: 8,
+        row_frac: 0,
+        mode_x: FilterMode::SHARP,
+        mode_y: FilterMode::SHARP,
+    };
+    put_case::<u8>(alloc, &samples, &[0; 81], motion, 8)
+}
+
+/// The filter of sides up to 4 is not the sharp one of longer sides, and sums are rounded twice: the first row is `9 41 41 9`, and
+/// `1 2 2 1` of a sample of 5.
+#[test]
+fn short_sides_and_two_roundings(rt: HostRuntime) -> Result<(), Fail> {
+    assert!(rt; four_columns(rt.alloc(), 100)? == 306275);
+    assert!(rt; four_columns(rt.alloc(), 5)? == 236180);
+    Ok(())
+}
