@@ -1,5 +1,5 @@
 -- A block at column 3 and row 3 of a plane of 16 rows of 16 samples.
-use Rattle.std.proofs.Common.{ℕ, ◌+◌, ◌*◌, ◌/◌, ◌^◌, ◌<◌, ◌≤◌, ◌≡◌, ◌∙◌, ap, sym, subst, arith, ℤ, pos, ◌+ℤ◌, ◌-ℤ◌, unsigned_abs, List, length, map, slice_index}
+use Rattle.std.proofs.Common.{ℕ, ◌+◌, ◌*◌, ◌^◌, ◌<◌, ◌≤◌, ◌≡◌, ◌∙◌, ap, sym, subst, arith, pos, ◌+ℤ◌, ◌-ℤ◌, unsigned_abs, List, map, slice_index}
 use Rattle.std.proofs.lemmas.Int.{ints}
 use Rattle.av1_frame.specs.declared.plane.Plane.{Plane}
 use Rattle.av1_frame.specs.declared.plane_slice.PlaneSlice.{PlaneSlice}

@@ -1,13 +1,13 @@
 -- The four cases of the fractions: where only one filter runs, the other's rounding loses nothing.
-use Rattle.std.proofs.Common.{ℕ, zero, suc, ◌+◌, ◌-◌, ◌*◌, ◌/◌, ◌^◌, ◌<◌, ◌≤◌, ◌≡◌, ◌≢◌, ◌∙◌, ap, refl, sym, subst, arith, ℤ, pos, negsuc, ◌+ℤ◌, ◌-ℤ◌, ◌*ℤ◌, ◌≤ℤ◌, ◌<ℤ◌, unsigned_abs, List, inl, inr, w64, FitsSigned}
+use Rattle.std.proofs.Common.{ℕ, zero, suc, ◌+◌, ◌-◌, ◌*◌, ◌^◌, ◌<◌, ◌≡◌, ◌≢◌, ◌∙◌, ap, refl, sym, subst, arith, ℤ, pos, negsuc, ◌+ℤ◌, ◌-ℤ◌, ◌*ℤ◌, ◌≤ℤ◌, List, inl, inr, w64, FitsSigned}
 use Rattle.std.specs.Int.Signed.{shr_z}
 use Rattle.std.proofs.lemmas.Int.{ints}
 use Rattle.av1_frame.specs.Arithmetic.{clip, round_shift}
 use Rattle.av1_inter.specs.declared.filter.Filter.{Filter}
-use Rattle.av1_inter.specs.Motion.{bias, prepared, down_finer, down_samples, entry, extra_bits, finer, finer_at, single, single_at, sum_to, unbiased_at, weighted}
+use Rattle.av1_inter.specs.Motion.{bias, prepared, down_finer, entry, extra_bits, finer, finer_at, single, single_at, sum_to, unbiased_at, weighted}
 use Rattle.av1_inter.specs.Places.{AreWithinDepth, corner_of, IsDepth, IsStoredFrom, samples_from}
 use Rattle.av1_frame.specs.declared.plane_slice.PlaneSlice.{PlaneSlice}
-use Rattle.av1_inter.proofs.Sums.{sum_same, weighted_same}
+use Rattle.av1_inter.proofs.Sums.{weighted_same}
 
 times_16 : (a : ℤ) (s : ℕ) → a *ℤ pos (s * 16) ≡ pos 16 *ℤ (a *ℤ pos s)
 times_16 (pos n) s = let k : n * (s * 16) ≡ 16 * (n * s) = grind arith in omega (arith, ints, k)

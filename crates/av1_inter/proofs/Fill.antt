@@ -1,8 +1,7 @@
 -- Loops that write the entries of a list one after another.
-use Rattle.std.proofs.Common.{ℕ, subst, ◌*◌, ◌+◌, ◌<◌, ◌≤◌, ◌≡◌, ◌⊎◌, ℤ, pos, List, length, set, get_or, refl, arith, ◌∙◌, sym, inl, inr, get_or-set_other, get_or-set_same}
+use Rattle.std.proofs.Common.{ℕ, subst, ◌*◌, ◌+◌, ◌<◌, ◌≤◌, ◌≡◌, ◌⊎◌, ℤ, List, length, set, refl, arith, ◌∙◌, inl, inr, get_or-set_other}
 use Rattle.std.proofs.Math.Nat.{mul-le-mul_right}
-use Rattle.std.proofs.lemmas.List.{length-set}
-use Rattle.std.proofs.lemmas.Bool.{cases_lt, cases_eq}
+use Rattle.std.proofs.lemmas.Bool.{cases_eq}
 use Rattle.std.proofs.lemmas.Grind.{get_or-set_at}
 use Rattle.av1_inter.specs.Motion.{entry}
 

@@ -1,11 +1,11 @@
 -- How great the values between the filters are, and that what is prepared fits 16 bits.
-use Rattle.std.proofs.Common.{ℕ, zero, suc, ◌+◌, ◌-◌, ◌*◌, ◌/◌, ◌^◌, ◌<◌, ◌≤◌, ◌≡◌, ◌∙◌, ap, refl, sym, subst, arith, ℤ, pos, negsuc, ◌+ℤ◌, ◌-ℤ◌, ◌≤ℤ◌, neg_ℤ, List, inl, inr, w16, FitsSigned}
+use Rattle.std.proofs.Common.{ℕ, zero, suc, ◌+◌, ◌*◌, ◌^◌, ◌<◌, ◌≤◌, ◌≡◌, ◌∙◌, ap, sym, subst, arith, ℤ, pos, negsuc, ◌+ℤ◌, ◌-ℤ◌, ◌≤ℤ◌, neg_ℤ, List, inl, inr, w16, FitsSigned}
 use Rattle.std.specs.Int.Signed.{shr_z}
 use Rattle.std.proofs.lemmas.Int.{ints}
 use Rattle.av1_frame.specs.Arithmetic.{round_shift}
 use Rattle.av1_inter.specs.Filters.{IsFilter}
 use Rattle.av1_inter.specs.declared.filter.Filter.{Filter}
-use Rattle.av1_inter.specs.Motion.{bias, down_finer, entry, finer_at, weighted}
+use Rattle.av1_inter.specs.Motion.{bias, down_finer, finer_at, weighted}
 use Rattle.av1_inter.specs.Places.{IsDepth}
 use Rattle.av1_inter.specs.Rows.{IsWithin}
 use Rattle.av1_inter.proofs.Sums.{Between, filter_between}

@@ -1,5 +1,5 @@
 -- The weights of every filter are in bounds, by computing over the table.
-use Rattle.std.proofs.Common.{ℕ, zero, suc, ◌+◌, ◌<◌, ◌≤◌, ◌≡◌, ◌∙◌, ap, refl, sym, arith, Bool, true, ◌&&◌, nat_eq, nat_le, List, [], length, slice_index_or, inl, inr, subst, ℤ, pos, negsuc, ◌≤ℤ◌, ◌<ℤ◌, unsigned_abs, w32, to_z, of_z, FitsSigned}
+use Rattle.std.proofs.Common.{ℕ, zero, suc, ◌<◌, ◌≤◌, ◌≡◌, ◌∙◌, ap, refl, sym, arith, Bool, true, ◌&&◌, nat_eq, nat_le, List, [], length, slice_index_or, inl, inr, subst, ℤ, pos, negsuc, ◌≤ℤ◌, ◌<ℤ◌, unsigned_abs, w32, to_z, of_z, FitsSigned}
 use Rattle.std.proofs.lemmas.Bool.{cases_lt, cases_eq}
 use Rattle.std.proofs.lemmas.Bool.Decides.{nat_tests}
 use Rattle.std.proofs.lemmas.Int.{ints, to_z-of_z}

@@ -1,13 +1,14 @@
 -- Where a vector leads, and what stands there.
-use Rattle.std.proofs.Common.{ℕ, zero, suc, ◌+◌, ◌-◌, ◌*◌, ◌^◌, ◌<◌, ◌≤◌, ◌≡◌, ◌∙◌, ap, refl, sym, subst, arith, ℤ, pos, negsuc, ◌+ℤ◌, ◌-ℤ◌, ◌≤ℤ◌, ◌<ℤ◌, neg_ℤ, FitsSigned, List, w16, w32, w64, to_z, of_z, unsigned_abs}
+use Rattle.std.proofs.Common.{ℕ, zero, suc, ◌+◌, ◌-◌, ◌^◌, ◌<◌, ◌≤◌, ◌≡◌, ◌∙◌, ap, sym, subst, arith, ℤ, pos, negsuc, ◌+ℤ◌, ◌-ℤ◌, ◌≤ℤ◌, ◌<ℤ◌, neg_ℤ, FitsSigned, w16, w32, w64, to_z, of_z, unsigned_abs}
 use Rattle.std.specs.Int.{int_min, int_max, saturate_signed}
 use Rattle.std.proofs.lemmas.Int.{ints, clamps, to_z-of_z}
 use Rattle.av1_blocks.specs.declared.mc.MotionVector.{MotionVector}
 use Rattle.av1_frame.specs.Arithmetic.{clip, round_shift}
 use Rattle.av1_frame.specs.declared.plane.Plane.{Plane}
-use Rattle.av1_frame.specs.Planes.{sample_at}
+use Rattle.av1_frame.specs.Planes.{IsWhole, padded, sample_at}
+use Rattle.av1_frame.proofs.Slices.{padded_sample, padded_whole}
 use Rattle.av1_frame.specs.declared.plane_slice.PlaneSlice.{PlaneSlice}
-use Rattle.av1_frame.specs.Slices.{IsStoredPlace, nearest_visible, stored_sample, within_pads}
+use Rattle.av1_frame.specs.Slices.{IsStoredPlace, nearest_visible, within_pads}
 use Rattle.av1_inter.specs.declared.filter.Filter.{Filter}
 use Rattle.av1_inter.specs.Motion.{bias, extra_bits, prepared, single, single_at, unbiased_at}
 use Rattle.av1_inter.specs.Places.{corner_of, IsStoredFrom, samples_from}
@@ -71,10 +72,10 @@ clamped_of place =
     let cfg = place.plane.now.plane_cfg in
     record place { x = within_pads place.x cfg.xpad cfg.width; y = within_pads place.y cfg.ypad cfg.height }
 
-module _ {T : Type 0} (num : T → ℕ) (place : PlaneSlice T) (zx zy : ℤ) (at_x : place.x ≡ saturate_signed w64 zx) (at_y : place.y ≡ saturate_signed w64 zy) (padded : IsPadded num place.plane.now) where
+module _ {T : Type 0} (num : T → ℕ) (place : PlaneSlice T) (zx zy : ℤ) (at_x : place.x ≡ saturate_signed w64 zx) (at_y : place.y ≡ saturate_signed w64 zy) (is_padded : IsPadded num place.plane.now) where
   clamped_stored : IsStoredFrom (clamped_of place) place.plane.now.plane_cfg.xpad place.plane.now.plane_cfg.ypad
   clamped_stored =
-      let w = padded.whole in
+      let w = is_padded.whole in
       let cfg = place.plane.now.plane_cfg in
       let a = pads_low place.x cfg.xpad cfg.width in
       let b = pads_high place.x cfg.xpad cfg.width in
@@ -84,14 +85,14 @@ module _ {T : Type 0} (num : T → ℕ) (place : PlaneSlice T) (zx zy : ℤ) (at
 
   clamped_samples : (c r : ℕ) → c < place.plane.now.plane_cfg.xpad → r < place.plane.now.plane_cfg.ypad → samples_from num (clamped_of place) c r ≡ nearest_sample num place.plane.now (zx +ℤ pos c) (zy +ℤ pos r)
   clamped_samples c r h k =
-      let w = padded.whole in
+      let w = is_padded.whole in
       let p = place.plane.now in
       let cfg = p.plane_cfg in
       let s = clamped_stored in
       let stored : IsStoredPlace cfg (within_pads place.x cfg.xpad cfg.width +ℤ pos c) (within_pads place.y cfg.ypad cfg.height +ℤ pos r) = record { left = omega (arith, ints, s.left); right = omega (arith, ints, s.right, h); top = omega (arith, ints, s.top); bottom = omega (arith, ints, s.bottom, k) } in
       let x = ap (λ z. nearest_visible cfg.width (within_pads z cfg.xpad cfg.width +ℤ pos c)) at_x ∙ ap (λ z. nearest_visible cfg.width (z +ℤ pos c)) (saturated_pads zx cfg.xpad cfg.width (omega (arith, w.visible_columns, w.few_columns)) (omega (arith, w.visible_columns, w.few_columns))) ∙ clamped_nearest zx cfg.xpad cfg.width c h w.some_columns in
       let y = ap (λ z. nearest_visible cfg.height (within_pads z cfg.ypad cfg.height +ℤ pos r)) at_y ∙ ap (λ z. nearest_visible cfg.height (z +ℤ pos r)) (saturated_pads zy cfg.ypad cfg.height (omega (arith, w.visible_rows, w.few_rows)) (omega (arith, w.visible_rows, w.few_rows))) ∙ clamped_nearest zy cfg.ypad cfg.height r k w.some_rows in
-      padded.samples _ _ stored ∙ ap (λ m. sample_at num p m (nearest_visible cfg.height (within_pads place.y cfg.ypad cfg.height +ℤ pos r))) x ∙ ap (λ n. sample_at num p (nearest_visible cfg.width (zx +ℤ pos c)) n) y
+      is_padded.samples _ _ stored ∙ ap (λ m. sample_at num p m (nearest_visible cfg.height (within_pads place.y cfg.ypad cfg.height +ℤ pos r))) x ∙ ap (λ n. sample_at num p (nearest_visible cfg.width (zx +ℤ pos c)) n) y
 
 -- what the steps to a moved block give
 pub record IsMoved {T : Type 0} (num : T → ℕ) (plane : Plane T) (corner : PlaneSlice T) (zx zy : ℤ) : Type 0 where
@@ -107,8 +108,8 @@ corner_again {T} clamped result e =
 
 pub moved_is : {T : Type 0} (num : T → ℕ) (plane : Plane T) (place clamped result : PlaneSlice T) (zx zy : ℤ) → place.plane.now ≡ plane → place.x ≡ saturate_signed w64 zx → place.y ≡ saturate_signed w64 zy → clamped ≡ clamped_of place → result ≡ record clamped { x = clamped.x +ℤ pos 3; y = clamped.y +ℤ pos 3 } → IsPadded num plane → IsMoved num plane (corner_of result) zx zy
 moved_is {T} num plane place clamped result zx zy of x y c r =
-    subst (λ (p : Plane T). IsPadded num p → IsMoved num p (corner_of result) zx zy) of (λ padded.
-    subst (λ (s : PlaneSlice T). IsMoved num place.plane.now s zx zy) (sym (corner_again clamped result r ∙ c)) (record { stored = clamped_stored num place zx zy x y padded; samples = clamped_samples num place zx zy x y padded }))
+    subst (λ (p : Plane T). IsPadded num p → IsMoved num p (corner_of result) zx zy) of (λ is_padded.
+    subst (λ (s : PlaneSlice T). IsMoved num place.plane.now s zx zy) (sym (corner_again clamped result r ∙ c)) (record { stored = clamped_stored num place zx zy x y is_padded; samples = clamped_samples num place zx zy x y is_padded }))
 
 fits_64 : (z : ℤ) → neg_ℤ (pos (2 ^ 63)) ≤ℤ z → z <ℤ pos (2 ^ 63) → FitsSigned w64 z
 fits_64 (pos n) l h = record { sfits = omega (arith, ints, h) }
@@ -149,3 +150,17 @@ visible_below n (negsuc i) h = h
 pub moved_within : {T : Type 0} (num : T → ℕ) (plane : Plane T) (depth width height : ℕ) → IsReference num plane depth width height → (x y : ℤ) (mv : MotionVector) (c r : ℕ) → moved num plane x y mv c r < 2 ^ depth
 moved_within num plane depth width height s x y mv c r =
     s.within _ _ (visible_below plane.plane_cfg.width _ s.padded.whole.some_columns) (visible_below plane.plane_cfg.height _ s.padded.whole.some_rows)
+
+-- the visible samples of a padded plane are those that it had
+visible_stays : {T : Type 0} (num : T → ℕ) (p : Plane T) (x y : ℕ) → IsWhole p → x < p.plane_cfg.width → y < p.plane_cfg.height → sample_at num (padded p) x y ≡ sample_at num p x y
+visible_stays num p x y h a b =
+    let stored : IsStoredPlace p.plane_cfg (pos x) (pos y) = record { left = omega (arith, ints); right = omega (arith, ints, a, h.visible_columns); top = omega (arith, ints); bottom = omega (arith, ints, b, h.visible_rows) } in
+    padded_sample num p (pos x) (pos y) h stored ∙ ap (λ m. sample_at num p m (nearest_visible p.plane_cfg.height (pos y))) (let e : nearest_visible p.plane_cfg.width (pos x) ≡ x = omega arith in e) ∙ ap (λ n. sample_at num p x n) (let e : nearest_visible p.plane_cfg.height (pos y) ≡ y = omega arith in e)
+
+-- what `pad` leaves is padded
+pub padded_is_padded : {T : Type 0} (num : T → ℕ) (p q : Plane T) → q ≡ padded p → IsWhole p → IsPadded num q
+padded_is_padded {T} num p q e h =
+    subst (λ (u : Plane T). IsPadded num u) (sym e) (record {
+      whole = padded_whole p h;
+      samples = λ x y s. padded_sample num p x y h s ∙ sym (visible_stays num p _ _ h (visible_below p.plane_cfg.width x h.some_columns) (visible_below p.plane_cfg.height y h.some_rows));
+    })

@@ -1,5 +1,5 @@
 -- The rows that are kept while a block is filtered down its columns.
-use Rattle.std.specs.Prelude.{◌≡◌, ℕ, ◌+◌, ◌%◌, ◌≤◌, ◌<◌, List, [], slice_index_or, ℤ, pos, neg_ℤ, ◌≤ℤ◌}
+use Rattle.std.specs.Prelude.{◌≡◌, ℕ, ◌%◌, ◌≤◌, ◌<◌, List, [], slice_index_or, ℤ, pos, neg_ℤ, ◌≤ℤ◌}
 use Rattle.av1_inter.specs.Motion.{entry}
 
 -- z is at most n in magnitude

@@ -10,9 +10,13 @@
 //!   the reference, and leaves all others.
 //! - `prep_8tap` writes `prepared` of them row by row to the first entries of a buffer, and leaves the others.
 //! - `mc_avg` turns each sample of a block into `averaged` of two prepared values.
+//! - `predict_inter_single`, `predict_inter_compound` and `predict_inter` do the same over the planes in a frame's slots, moved by
+//!   vectors: `moved_single` and `moved_prepared` of `specs/Reference.antt`. The planes are padded, and whatever the vector, a place
+//!   outside reads the nearest visible sample. What an empty slot leaves is not said.
 //!
-//! No call allocates or can fail. Sides and places are counted in samples, fractions in sixteenths of a sample. A filter has eight
-//! taps, so a block needs 3 stored columns and rows before it and 4 after it, at every fraction.
+//! No intermediate value wraps, and every prepared value fits 16 bits. No call but `InterCompoundBuffers::new` allocates, and no other
+//! can fail. Sides and places are counted in samples, vectors in eighths of a luma sample, fractions in sixteenths of a sample. A filter
+//! has eight taps, so a block needs 3 stored columns and rows before it and 4 after it, at every fraction.
 #![tactic(auto)]
 
 mod average;

@@ -1,4 +1,4 @@
-use Rattle.std.proofs.Common.{arith, rules, ◌≡◌, ◌+ℤ◌, ◌*ℤ◌, ◌∙◌, ap, sym, subst, w32, FitsSigned, ℤ}
+use Rattle.std.proofs.Common.{arith, rules, ◌+ℤ◌, ◌*ℤ◌, ◌∙◌, ap, sym, subst, w32, FitsSigned, ℤ}
 use Rattle.std.proofs.lemmas.Int.{to_z-of_z}
 use Rattle.av1_inter.specs.Motion.{entry}
 use Rattle.av1_inter.proofs.Fill.{done_more}

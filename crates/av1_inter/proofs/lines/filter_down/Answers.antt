@@ -1,6 +1,6 @@
-use Rattle.std.proofs.Common.{arith, rules, ℕ, ◌≡◌, ◌+◌, ◌<◌, ◌*ℤ◌, ◌∙◌, ap, sym, subst, w32, FitsSigned, ℤ, to_z, of_z}
+use Rattle.std.proofs.Common.{arith, rules, ◌+◌, ◌*ℤ◌, ◌∙◌, ap, sym, subst, w32, FitsSigned, ℤ}
 use Rattle.std.proofs.lemmas.Int.{to_z-of_z}
-use Rattle.av1_inter.specs.Motion.{entry, sum_to}
+use Rattle.av1_inter.specs.Motion.{entry}
 use Rattle.av1_inter.specs.Rows.{IsWithin, kept}
 use Rattle.av1_inter.proofs.Sums.{filter_small, next_fits, next_is, product_small, sum_none}
 use Rattle.av1_inter.proofs.lines.filter_down.Goals as goal

@@ -1,5 +1,4 @@
-use Rattle.std.proofs.Common.{arith, rules, ap, ◌≡◌, ◌∙◌, w16, w64, FitsSigned, ℤ, pos, ◌+ℤ◌, ◌-ℤ◌}
-use Rattle.std.proofs.lemmas.Int.{ints}
+use Rattle.std.proofs.Common.{arith, rules, ap, ◌≡◌, ◌∙◌, w16, w64, FitsSigned, pos, ◌+ℤ◌, ◌-ℤ◌}
 use Rattle.av1_frame.specs.declared.plane.Plane.{Plane}
 use Rattle.av1_frame.specs.declared.plane.PlaneConfig.{PlaneConfig}
 use Rattle.av1_frame.specs.declared.plane_slice.PlaneSlice.{PlaneSlice}

@@ -1,4 +1,4 @@
-use Rattle.std.proofs.Common.{arith, rules, ap, ◌≡◌, ◌∙◌, sym, subst, ℕ, ◌^◌, ◌<◌, ◌+◌, ℤ, w16, w32, FitsSigned}
+use Rattle.std.proofs.Common.{arith, rules, ap, ◌≡◌, ◌∙◌, sym, subst, ℕ, ◌^◌, ◌<◌, w16, w32, FitsSigned}
 use Rattle.av1_frame.specs.declared.plane.PlaneConfig.{PlaneConfig}
 use Rattle.av1_inter.specs.Places.{corner_of, samples_from}
 use Rattle.av1_inter.specs.Reference.{moved}

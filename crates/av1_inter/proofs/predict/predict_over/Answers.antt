@@ -1,4 +1,4 @@
-use Rattle.std.proofs.Common.{arith, ap, ◌∙◌, ℕ, ◌+◌, ◌*◌}
+use Rattle.std.proofs.Common.{ap, ◌∙◌, ◌+◌, ◌*◌}
 use Rattle.av1_frame.proofs.Regions.{painted_same}
 use Rattle.av1_inter.specs.Motion.{averaged, entry}
 use Rattle.av1_inter.specs.Reference.{moved_prepared, vector_of}

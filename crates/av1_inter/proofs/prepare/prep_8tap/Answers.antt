@@ -1,4 +1,4 @@
-use Rattle.std.proofs.Common.{arith, ℕ, ◌+◌, ◌∙◌, ap, ℤ, ◌≡◌}
+use Rattle.std.proofs.Common.{ℕ, ◌∙◌, ap, ℤ, ◌≡◌}
 use Rattle.av1_frame.specs.declared.plane_slice.PlaneSlice.{PlaneSlice}
 use Rattle.av1_inter.specs.declared.filter.Filter.{Filter}
 use Rattle.av1_inter.specs.Motion.{prepared}

@@ -1,4 +1,4 @@
-use Rattle.std.proofs.Common.{arith, ◌+◌, ◌-ℤ◌, ◌∙◌, ap, ℤ, sym, subst, w16, FitsSigned}
+use Rattle.std.proofs.Common.{arith, ◌-ℤ◌, ◌∙◌, ap, ℤ, sym, subst, w16, FitsSigned}
 use Rattle.av1_frame.specs.Arithmetic.{round_shift}
 use Rattle.av1_inter.specs.Motion.{bias}
 use Rattle.av1_inter.specs.Places.{samples_from}

@@ -1,7 +1,6 @@
 use Rattle.std.proofs.Common.{arith, ◌+◌, ◌-ℤ◌, ◌∙◌, ap, ℤ, sym, subst, w16, FitsSigned}
 use Rattle.std.proofs.lemmas.Int.{ints}
-use Rattle.av1_frame.specs.Arithmetic.{round_shift}
-use Rattle.av1_inter.specs.Motion.{bias, entry, finer}
+use Rattle.av1_inter.specs.Motion.{bias}
 use Rattle.av1_inter.specs.Places.{samples_from}
 use Rattle.av1_inter.proofs.Fill.{written_all, written_more, written_none}
 use Rattle.av1_inter.proofs.Reach.{finer_fits, finer_within, round_0}

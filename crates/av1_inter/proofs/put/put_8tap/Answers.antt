@@ -1,12 +1,11 @@
-use Rattle.std.proofs.Common.{arith, ℕ, ◌+◌, ◌∙◌, ◌≡◌, ap, unsigned_abs}
+use Rattle.std.proofs.Common.{ℕ, ◌∙◌, ◌≡◌, ap}
 use Rattle.av1_frame.specs.declared.plane_slice.PlaneSlice.{PlaneSlice}
 use Rattle.av1_frame.specs.Regions.{painted}
 use Rattle.av1_frame.specs.declared.plane_region.PlaneRegionMut.{PlaneRegionMut}
 use Rattle.av1_frame.proofs.Regions.{painted_same}
 use Rattle.av1_inter.specs.declared.filter.Filter.{Filter}
-use Rattle.av1_inter.specs.Filters.{filter_of}
 use Rattle.av1_inter.specs.Motion.{single}
-use Rattle.av1_inter.specs.Places.{corner_of, samples_from}
+use Rattle.av1_inter.specs.Places.{samples_from}
 use Rattle.av1_inter.proofs.Cases.{corner_fits, corner_is, corner_within, single_across, single_copy, single_down}
 use Rattle.av1_inter.proofs.Table.{made_is, made_is_filter}
 use Rattle.av1_inter.proofs.put.put_8tap.Goals as goal

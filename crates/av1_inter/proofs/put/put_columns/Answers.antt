@@ -1,4 +1,4 @@
-use Rattle.std.proofs.Common.{arith, ◌+◌, ◌∙◌, ap, sym}
+use Rattle.std.proofs.Common.{arith, ◌+◌, ap, sym}
 use Rattle.av1_frame.proofs.Regions.{painted_none, painted_in_storage, painted_more}
 use Rattle.av1_inter.specs.Motion.{down_finer, extra_bits}
 use Rattle.av1_inter.specs.Places.{samples_from}

@@ -1,8 +1,7 @@
-use Rattle.std.proofs.Common.{arith, ◌+◌, ◌∙◌, ℤ, sym, subst}
+use Rattle.std.proofs.Common.{arith, ◌+◌, ◌∙◌}
 use Rattle.std.proofs.lemmas.Int.{ints}
 use Rattle.av1_frame.proofs.Regions.{painted_more}
 use Rattle.av1_inter.specs.Places.{samples_from}
-use Rattle.av1_inter.specs.Rows.{IsWithin}
 use Rattle.av1_inter.proofs.Reach.{finer_within}
 use Rattle.av1_inter.proofs.Rows.{finer_of_row, put_finer}
 use Rattle.av1_inter.proofs.put.put_rows.Goals as goal

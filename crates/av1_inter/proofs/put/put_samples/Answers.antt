@@ -1,4 +1,4 @@
-use Rattle.std.proofs.Common.{arith, ◌∙◌, ◌+◌, ap, get_or, length, sym}
+use Rattle.std.proofs.Common.{arith, ◌∙◌, ◌+◌}
 use Rattle.av1_frame.proofs.Regions.{painted_more}
 use Rattle.av1_inter.proofs.Rows.{copied_is, paint_row_same, row_long}
 use Rattle.av1_inter.proofs.put.put_samples.Goals as goal

@@ -1,4 +1,4 @@
-use Rattle.std.proofs.Common.{subst, sym, ℕ, List, ◌<◌, ◌^◌, map, slice_index}
+use Rattle.std.proofs.Common.{subst, sym, ℕ, List, ◌<◌, slice_index}
 use Rattle.std.proofs.lemmas.List.{map-id}
 use Rattle.av1_inter.proofs.tests.four_columns.Goals as goal
 

@@ -1,4 +1,3 @@
-use Rattle.std.proofs.Common.{arith}
 use Rattle.av1_inter.proofs.Blocks.{block_within}
 use Rattle.av1_inter.proofs.tests.prepared.Goals as goal
 

@@ -1,4 +1,4 @@
-use Rattle.std.proofs.Common.{ℕ, ◌<◌, ◌^◌, slice_index}
+use Rattle.std.proofs.Common.{ℕ, ◌<◌, slice_index}
 use Rattle.av1_inter.proofs.tests.samples_of_8_bits.Given as goal
 
 abbrev pub invariant-loop-k : goal.invariant-loop-k

@@ -1,5 +1,4 @@
-use Rattle.std.proofs.Common.{arith, ap, ◌∙◌, ◌+◌, ◌%◌, ◌<◌, length, get_or-set_same, List, ℤ}
-use Rattle.av1_inter.specs.Motion.{entry}
+use Rattle.std.proofs.Common.{arith, ◌∙◌, ◌+◌, ◌%◌, ◌<◌, length, get_or-set_same}
 use Rattle.av1_inter.proofs.Sums.{finer_same}
 use Rattle.av1_inter.proofs.Rows.{row_sample}
 use Rattle.av1_inter.proofs.window.keep_row.Goals as goal
