@@ -7,3 +7,4 @@ pub mod Table
 pub mod Cases
 pub mod Vectors
 pub mod Blocks
+pub mod Bytes

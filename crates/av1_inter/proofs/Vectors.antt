@@ -152,7 +152,7 @@ moved_within num plane depth width height s x y mv c r =
     s.within _ _ (visible_below plane.plane_cfg.width _ s.padded.whole.some_columns) (visible_below plane.plane_cfg.height _ s.padded.whole.some_rows)
 
 -- the visible samples of a padded plane are those that it had
-visible_stays : {T : Type 0} (num : T → ℕ) (p : Plane T) (x y : ℕ) → IsWhole p → x < p.plane_cfg.width → y < p.plane_cfg.height → sample_at num (padded p) x y ≡ sample_at num p x y
+pub visible_stays : {T : Type 0} (num : T → ℕ) (p : Plane T) (x y : ℕ) → IsWhole p → x < p.plane_cfg.width → y < p.plane_cfg.height → sample_at num (padded p) x y ≡ sample_at num p x y
 visible_stays num p x y h a b =
     let stored : IsStoredPlace p.plane_cfg (pos x) (pos y) = record { left = omega (arith, ints); right = omega (arith, ints, a, h.visible_columns); top = omega (arith, ints); bottom = omega (arith, ints, b, h.visible_rows) } in
     padded_sample num p (pos x) (pos y) h stored ∙ ap (λ m. sample_at num p m (nearest_visible p.plane_cfg.height (pos y))) (let e : nearest_visible p.plane_cfg.width (pos x) ≡ x = omega arith in e) ∙ ap (λ n. sample_at num p x n) (let e : nearest_visible p.plane_cfg.height (pos y) ≡ y = omega arith in e)

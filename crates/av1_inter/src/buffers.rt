@@ -1,6 +1,6 @@
 //! Room for the two prepared blocks of a compound prediction.
 
-ghost use Rattle.std.specs.Prelude.{◌≡◌, vec_len};
+ghost use Rattle.std.specs.Prelude.{◌≡◌, IfOk, pos, replicate, vec_len};
 
 use av1_blocks::OutOfMemory;
 use std::alloc::Global;
@@ -19,7 +19,10 @@ pub struct InterCompoundBuffers {
 
 impl InterCompoundBuffers {
     /// Two buffers of 16,384 entries, all 0.
-    pub fn new(alloc: Global) -> Result<InterCompoundBuffers, OutOfMemory> {
+    pub fn new(alloc: Global) -> Result<InterCompoundBuffers, OutOfMemory>
+        ensures first { IfOk result (λ buffers. buffers.first.items ≡ replicate 16384 (pos 0)) }
+        ensures second { IfOk result (λ buffers. buffers.second.items ≡ replicate 16384 (pos 0)) }
+    {
         let first = vec![in alloc; 0; BUFFER_SIZE]?;
         let second = vec![in alloc; 0; BUFFER_SIZE]?;
         Ok(InterCompoundBuffers { first, second })

@@ -1,12 +1,13 @@
 //! Worked samples, and answers of rav1e's own functions to the same calls.
 
-ghost use Rattle.std.specs.Prelude.{◌≡◌, ℕ, ◌^◌, ◌≤◌, ◌<◌, pos, ◌≤ℤ◌, ◌<ℤ◌, length, map, slice_index};
+ghost use Rattle.std.specs.Prelude.{◌≡◌, ℕ, ◌^◌, ◌≤◌, ◌<◌, pos, ◌≤ℤ◌, ◌<ℤ◌, length, map, slice_index, All, IfOk, true};
 ghost use Rattle.av1_frame.specs.Regions.{InStorage};
 ghost use Rattle.av1_inter.specs.Places.{IsDepth};
+ghost use Rattle.av1_inter.specs.Reference.{is_reference, IsReference, IsServed};
 
-use crate::{mc_avg, prep_8tap, put_8tap};
-use av1_blocks::{FilterMode, OutOfMemory};
-use av1_frame::{Pixel, Plane, PlaneOffset, PlaneRegionMut};
+use crate::{InterCompoundBuffers, mc_avg, predict_inter, prep_8tap, put_8tap};
+use av1_blocks::{FilterMode, MotionVector, OutOfMemory, PredictionMode, RefType};
+use av1_frame::{FrameInvariants, Pixel, Plane, PlaneOffset, PlaneRegionMut, TileRect};
 use std::alloc::Global;
 use std::test::Fail;
 
@@ -868,5 +869,119 @@ fn four_columns(alloc: Global, sample: u8) -> Result<u64, OutOfMemory> {
 fn short_sides_and_two_roundings(rt: HostRuntime) -> Result<(), Fail> {
     assert!(rt; four_columns(rt.alloc(), 100)? == 306275);
     assert!(rt; four_columns(rt.alloc(), 5)? == 236180);
+    Ok(())
+}
+
+/// A padded plane of as many rows as `row` has samples, each of them `row`: a reference for blocks of up to 8x8 samples.
+#[tactic(auto, using(av1_frame::proofs::Planes::written_whole, crate::proofs::Bytes::written_within))]
+fn padded_plane(alloc: Global, row: &[u8], decimation: usize) -> Result<Plane<u8>, OutOfMemory>
+    requires some { 0 < length row.now }
+    requires few { length row.now ≤ 8 }
+    requires decimation { decimation ≤ 1 }
+    requires within { All (λ sample. sample < 256) row.now }
+    ensures { IfOk result (λ plane. IsReference (λ sample. sample) plane 8 8 8) }
+{
+    let side = row.len();
+    let mut plane = Plane::new(alloc, side, side, decimation, decimation, 16, 16)?;
+    for y in 0..side {
+        let mut region = plane.as_region_mut();
+        region.row_mut(y).copy_from_slice(row);
+    }
+    plane.pad();
+    Ok(plane)
+}
+
+/// A frame of 8x8 luma samples, each of whose references has luma rows `0 10 20 .. 70` and chroma rows `0 20 40 60`.
+fn frame(alloc: Global) -> Result<FrameInvariants<u8>, OutOfMemory>
+    ensures depth { IfOk result (λ fi. fi.bit_depth ≡ 8) }
+    ensures served { IfOk result (λ fi. (p side : ℕ) → side ≤ 8 → IsServed (λ sample. sample) fi RefType.LAST_FRAME p side side) }
+{
+    let y = padded_plane(alloc, &[0, 10, 20, 30, 40, 50, 60, 70], 0)?;
+    let u = padded_plane(alloc, &[0, 20, 40, 60], 1)?;
+    let v = padded_plane(alloc, &[0, 20, 40, 60], 1)?;
+    let mut fi = FrameInvariants::new(alloc, 8, 8, FilterMode::REGULAR, 8, true, [0; 7])?;
+    fi.set_slot(0, y, u, v);
+    Ok(fi)
+}
+
+/// Whether a region has as many rows as `row` has samples, each of them `row`.
+fn all_rows_are(region: &PlaneRegionMut<'_, u8>, row: &[u8]) -> bool
+    requires { InStorage region.now }
+{
+    let height = region.rect().height;
+    for y in 0..height {
+        if region.row(y) != row {
+            return false;
+        }
+    }
+    height == row.len()
+}
+
+/// Whether each row of the first block of plane `p`, with sides as long as `row`, is predicted as `row`: from `LAST_FRAME` alone, or
+/// from it twice where `second` is that too, moved to the right by `cols` eighths of a luma sample.
+fn predicts(
+    alloc: Global,
+    p: usize,
+    second: RefType,
+    cols: [i16; 2],
+    row: &[u8],
+) -> Result<bool, OutOfMemory>
+    requires plane { p < 3 }
+    requires second { is_reference second ≡ true → second ≡ RefType.LAST_FRAME }
+    requires some { 0 < length row.now }
+    requires few { length row.now ≤ 8 }
+{
+    let side = row.len();
+    let fi = frame(alloc)?;
+    let mut buffers = InterCompoundBuffers::new(alloc)?;
+    let mut plane = Plane::new(alloc, side, side, 0, 0, 0, 0)?;
+    let mut dst = plane.as_region_mut();
+    let tile_rect = TileRect {
+        x: 0,
+        y: 0,
+        width: side,
+        height: side,
+    };
+    predict_inter(
+        PredictionMode::NEWMV,
+        &fi,
+        tile_rect,
+        p,
+        PlaneOffset { x: 0, y: 0 },
+        &mut dst,
+        side,
+        side,
+        [RefType::LAST_FRAME, second],
+        cols.map(|col| MotionVector { row: 0, col }),
+        &mut buffers,
+    );
+    Ok(all_rows_are(&dst, row))
+}
+
+/// A whole luma sample to the right is half a sample of chroma, and the last column is repeated.
+#[test]
+fn a_reference_moved_by_a_sample(rt: HostRuntime) -> Result<(), Fail> {
+    let none = RefType::NONE_FRAME;
+    let luma = [10, 20, 30, 40, 50, 60, 70, 70];
+    assert!(rt; predicts(rt.alloc(), 0, none, [8, 0], &luma)?);
+    assert!(rt; predicts(rt.alloc(), 1, none, [8, 0], &[8, 30, 52, 62])?);
+    assert!(rt; predicts(rt.alloc(), 2, none, [8, 0], &[8, 30, 52, 62])?);
+    Ok(())
+}
+
+/// A vector far past a side reads the nearest column.
+#[test]
+fn a_reference_moved_far_outside(rt: HostRuntime) -> Result<(), Fail> {
+    let none = RefType::NONE_FRAME;
+    assert!(rt; predicts(rt.alloc(), 0, none, [-16000, 0], &[0; 8])?);
+    assert!(rt; predicts(rt.alloc(), 0, none, [16000, 0], &[70; 8])?);
+    Ok(())
+}
+
+/// The average of a reference that stays and the same one moved by a sample.
+#[test]
+fn two_references_are_averaged(rt: HostRuntime) -> Result<(), Fail> {
+    let luma = [5, 15, 25, 35, 45, 55, 65, 70];
+    assert!(rt; predicts(rt.alloc(), 0, RefType::LAST_FRAME, [0, 8], &luma)?);
     Ok(())
 }
