@@ -85,6 +85,16 @@ fn digest_of_values(values: &[i16]) -> u64 {
     sum
 }
 
+const REGULAR: FilterMode = FilterMode::REGULAR;
+
+const SMOOTH: FilterMode = FilterMode::SMOOTH;
+
+const SHARP: FilterMode = FilterMode::SHARP;
+
+const BILINEAR: FilterMode = FilterMode::BILINEAR;
+
+const SWITCHABLE: FilterMode = FilterMode::SWITCHABLE;
+
 /// How a block of at most 8x8 samples is interpolated.
 #[derive(Clone, Copy)]
 struct Motion {
@@ -198,6 +208,34 @@ struct Case {
     prep: u64,
 }
 
+/// The case of a block of these columns and rows, with its fractions and filters along a row and down a column.
+fn expected(
+    sides: [usize; 2],
+    fractions: [i32; 2],
+    modes: [FilterMode; 2],
+    seed: usize,
+    put: u64,
+    prep: u64,
+) -> Case {
+    let [width, height] = sides;
+    let [col_frac, row_frac] = fractions;
+    let [mode_x, mode_y] = modes;
+    let motion = Motion {
+        width,
+        height,
+        col_frac,
+        row_frac,
+        mode_x,
+        mode_y,
+    };
+    Case {
+        motion,
+        seed,
+        put,
+        prep,
+    }
+}
+
 /// Whether both functions give what the case says, in 8 bits.
 fn holds_in_8_bits(alloc: Global, case: Case) -> Result<bool, OutOfMemory> {
     let motion = case.motion;
@@ -235,110 +273,14 @@ fn holds_in_16_bits(alloc: Global, case: Case, depth: usize) -> Result<bool, Out
 #[test]
 fn cases_of_8_bits(rt: HostRuntime) -> Result<(), Fail> {
     let cases = [
-        Case {
-            motion: Motion {
-                width: 4,
-                height: 4,
-                col_frac: 0,
-                row_frac: 0,
-                mode_x: FilterMode::REGULAR,
-                mode_y: FilterMode::SHARP,
-            },
-            seed: 0,
-            put: 621085,
-            prep: 878876,
-        },
-        Case {
-            motion: Motion {
-                width: 4,
-                height: 2,
-                col_frac: 0,
-                row_frac: 5,
-                mode_x: FilterMode::SHARP,
-                mode_y: FilterMode::BILINEAR,
-            },
-            seed: 4,
-            put: 526238,
-            prep: 307537,
-        },
-        Case {
-            motion: Motion {
-                width: 8,
-                height: 4,
-                col_frac: 8,
-                row_frac: 0,
-                mode_x: FilterMode::SWITCHABLE,
-                mode_y: FilterMode::SWITCHABLE,
-            },
-            seed: 1,
-            put: 622374,
-            prep: 403925,
-        },
-        Case {
-            motion: Motion {
-                width: 2,
-                height: 8,
-                col_frac: 11,
-                row_frac: 3,
-                mode_x: FilterMode::SMOOTH,
-                mode_y: FilterMode::SMOOTH,
-            },
-            seed: 5,
-            put: 323837,
-            prep: 672986,
-        },
-        Case {
-            motion: Motion {
-                width: 8,
-                height: 8,
-                col_frac: 8,
-                row_frac: 8,
-                mode_x: FilterMode::BILINEAR,
-                mode_y: FilterMode::SHARP,
-            },
-            seed: 2,
-            put: 600809,
-            prep: 630634,
-        },
-        Case {
-            motion: Motion {
-                width: 4,
-                height: 4,
-                col_frac: 15,
-                row_frac: 1,
-                mode_x: FilterMode::REGULAR,
-                mode_y: FilterMode::BILINEAR,
-            },
-            seed: 6,
-            put: 103670,
-            prep: 766575,
-        },
-        Case {
-            motion: Motion {
-                width: 4,
-                height: 2,
-                col_frac: 0,
-                row_frac: 8,
-                mode_x: FilterMode::SHARP,
-                mode_y: FilterMode::REGULAR,
-            },
-            seed: 3,
-            put: 407075,
-            prep: 828243,
-        },
-        Case {
-            motion: Motion {
-                width: 8,
-                height: 4,
-                col_frac: 4,
-                row_frac: 12,
-                mode_x: FilterMode::SWITCHABLE,
-                mode_y: FilterMode::SMOOTH,
-            },
-            seed: 0,
-            put: 12614,
-            prep: 202338,
-        },
+        expected([4, 4], [0, 0], [REGULAR, SHARP], 0, 621085, 878876),
+        expected([4, 2], [0, 5], [SHARP, BILINEAR], 4, 526238, 307537),
+        expected([8, 4], [8, 0], [SWITCHABLE, SWITCHABLE], 1, 622374, 403925),
+        expected([2, 8], [11, 3], [SMOOTH, SMOOTH], 5, 323837, 672986),
+        expected([8, 8], [8, 8], [BILINEAR, SHARP], 2, 600809, 630634),
+        expected([4, 4], [15, 1], [REGULAR, BILINEAR], 6, 103670, 766575),
+        expected([4, 2], [0, 8], [SHARP, REGULAR], 3, 407075, 828243),
+        expected([8, 4], [4, 12], [SWITCHABLE, SMOOTH], 0, 12614, 202338),
     ];
     for case in &cases {
         assert!(rt; holds_in_8_bits(rt.alloc(), *case)?);
@@ -350,149 +292,17 @@ fn cases_of_8_bits(rt: HostRuntime) -> Result<(), Fail> {
 #[test]
 fn cases_of_16_bits_at_depth_8(rt: HostRuntime) -> Result<(), Fail> {
     let cases = [
-        Case {
-            motion: Motion {
-                width: 8,
-                height: 8,
-                col_frac: 0,
-                row_frac: 0,
-                mode_x: FilterMode::REGULAR,
-                mode_y: FilterMode::SHARP,
-            },
-            seed: 1,
-            put: 520426,
-            prep: 284660,
-        },
-        Case {
-            motion: Motion {
-                width: 4,
-                height: 4,
-                col_frac: 0,
-                row_frac: 5,
-                mode_x: FilterMode::SHARP,
-                mode_y: FilterMode::BILINEAR,
-            },
-            seed: 5,
-            put: 489135,
-            prep: 641918,
-        },
-        Case {
-            motion: Motion {
-                width: 4,
-                height: 2,
-                col_frac: 8,
-                row_frac: 0,
-                mode_x: FilterMode::SWITCHABLE,
-                mode_y: FilterMode::REGULAR,
-            },
-            seed: 2,
-            put: 568017,
-            prep: 492371,
-        },
-        Case {
-            motion: Motion {
-                width: 8,
-                height: 4,
-                col_frac: 11,
-                row_frac: 3,
-                mode_x: FilterMode::SMOOTH,
-                mode_y: FilterMode::SMOOTH,
-            },
-            seed: 6,
-            put: 289777,
-            prep: 586596,
-        },
-        Case {
-            motion: Motion {
-                width: 2,
-                height: 8,
-                col_frac: 8,
-                row_frac: 8,
-                mode_x: FilterMode::BILINEAR,
-                mode_y: FilterMode::SHARP,
-            },
-            seed: 3,
-            put: 176244,
-            prep: 857711,
-        },
-        Case {
-            motion: Motion {
-                width: 8,
-                height: 8,
-                col_frac: 15,
-                row_frac: 1,
-                mode_x: FilterMode::REGULAR,
-                mode_y: FilterMode::SWITCHABLE,
-            },
-            seed: 0,
-            put: 150548,
-            prep: 119223,
-        },
-        Case {
-            motion: Motion {
-                width: 4,
-                height: 4,
-                col_frac: 0,
-                row_frac: 8,
-                mode_x: FilterMode::SHARP,
-                mode_y: FilterMode::REGULAR,
-            },
-            seed: 4,
-            put: 825032,
-            prep: 33915,
-        },
-        Case {
-            motion: Motion {
-                width: 4,
-                height: 2,
-                col_frac: 4,
-                row_frac: 12,
-                mode_x: FilterMode::SWITCHABLE,
-                mode_y: FilterMode::SMOOTH,
-            },
-            seed: 1,
-            put: 142910,
-            prep: 664461,
-        },
-        Case {
-            motion: Motion {
-                width: 8,
-                height: 8,
-                col_frac: 8,
-                row_frac: 8,
-                mode_x: FilterMode::SHARP,
-                mode_y: FilterMode::SHARP,
-            },
-            seed: 1,
-            put: 457255,
-            prep: 447107,
-        },
-        Case {
-            motion: Motion {
-                width: 8,
-                height: 8,
-                col_frac: 8,
-                row_frac: 8,
-                mode_x: FilterMode::SHARP,
-                mode_y: FilterMode::SHARP,
-            },
-            seed: 3,
-            put: 749830,
-            prep: 994135,
-        },
-        Case {
-            motion: Motion {
-                width: 8,
-                height: 8,
-                col_frac: 8,
-                row_frac: 8,
-                mode_x: FilterMode::SHARP,
-                mode_y: FilterMode::SHARP,
-            },
-            seed: 5,
-            put: 383668,
-            prep: 489476,
-        },
+        expected([8, 8], [0, 0], [REGULAR, SHARP], 1, 520426, 284660),
+        expected([4, 4], [0, 5], [SHARP, BILINEAR], 5, 489135, 641918),
+        expected([4, 2], [8, 0], [SWITCHABLE, REGULAR], 2, 568017, 492371),
+        expected([8, 4], [11, 3], [SMOOTH, SMOOTH], 6, 289777, 586596),
+        expected([2, 8], [8, 8], [BILINEAR, SHARP], 3, 176244, 857711),
+        expected([8, 8], [15, 1], [REGULAR, SWITCHABLE], 0, 150548, 119223),
+        expected([4, 4], [0, 8], [SHARP, REGULAR], 4, 825032, 33915),
+        expected([4, 2], [4, 12], [SWITCHABLE, SMOOTH], 1, 142910, 664461),
+        expected([8, 8], [8, 8], [SHARP, SHARP], 1, 457255, 447107),
+        expected([8, 8], [8, 8], [SHARP, SHARP], 3, 749830, 994135),
+        expected([8, 8], [8, 8], [SHARP, SHARP], 5, 383668, 489476),
     ];
     for case in &cases {
         assert!(rt; holds_in_16_bits(rt.alloc(), *case, 8)?);
@@ -504,149 +314,17 @@ fn cases_of_16_bits_at_depth_8(rt: HostRuntime) -> Result<(), Fail> {
 #[test]
 fn cases_of_16_bits_at_depth_10(rt: HostRuntime) -> Result<(), Fail> {
     let cases = [
-        Case {
-            motion: Motion {
-                width: 2,
-                height: 8,
-                col_frac: 0,
-                row_frac: 0,
-                mode_x: FilterMode::SMOOTH,
-                mode_y: FilterMode::SHARP,
-            },
-            seed: 2,
-            put: 581875,
-            prep: 405210,
-        },
-        Case {
-            motion: Motion {
-                width: 8,
-                height: 8,
-                col_frac: 0,
-                row_frac: 5,
-                mode_x: FilterMode::BILINEAR,
-                mode_y: FilterMode::SWITCHABLE,
-            },
-            seed: 6,
-            put: 480285,
-            prep: 417644,
-        },
-        Case {
-            motion: Motion {
-                width: 4,
-                height: 4,
-                col_frac: 8,
-                row_frac: 0,
-                mode_x: FilterMode::REGULAR,
-                mode_y: FilterMode::REGULAR,
-            },
-            seed: 3,
-            put: 902829,
-            prep: 593137,
-        },
-        Case {
-            motion: Motion {
-                width: 4,
-                height: 2,
-                col_frac: 11,
-                row_frac: 3,
-                mode_x: FilterMode::SHARP,
-                mode_y: FilterMode::SMOOTH,
-            },
-            seed: 0,
-            put: 371840,
-            prep: 421939,
-        },
-        Case {
-            motion: Motion {
-                width: 8,
-                height: 4,
-                col_frac: 8,
-                row_frac: 8,
-                mode_x: FilterMode::SWITCHABLE,
-                mode_y: FilterMode::BILINEAR,
-            },
-            seed: 4,
-            put: 989456,
-            prep: 952625,
-        },
-        Case {
-            motion: Motion {
-                width: 2,
-                height: 8,
-                col_frac: 15,
-                row_frac: 1,
-                mode_x: FilterMode::SMOOTH,
-                mode_y: FilterMode::SWITCHABLE,
-            },
-            seed: 1,
-            put: 83982,
-            prep: 593281,
-        },
-        Case {
-            motion: Motion {
-                width: 8,
-                height: 8,
-                col_frac: 0,
-                row_frac: 8,
-                mode_x: FilterMode::BILINEAR,
-                mode_y: FilterMode::REGULAR,
-            },
-            seed: 5,
-            put: 360441,
-            prep: 20466,
-        },
-        Case {
-            motion: Motion {
-                width: 4,
-                height: 4,
-                col_frac: 4,
-                row_frac: 12,
-                mode_x: FilterMode::REGULAR,
-                mode_y: FilterMode::SHARP,
-            },
-            seed: 2,
-            put: 939510,
-            prep: 457972,
-        },
-        Case {
-            motion: Motion {
-                width: 8,
-                height: 8,
-                col_frac: 8,
-                row_frac: 8,
-                mode_x: FilterMode::SHARP,
-                mode_y: FilterMode::SHARP,
-            },
-            seed: 1,
-            put: 248729,
-            prep: 661277,
-        },
-        Case {
-            motion: Motion {
-                width: 8,
-                height: 8,
-                col_frac: 8,
-                row_frac: 8,
-                mode_x: FilterMode::SHARP,
-                mode_y: FilterMode::SHARP,
-            },
-            seed: 3,
-            put: 77713,
-            prep: 825573,
-        },
-        Case {
-            motion: Motion {
-                width: 8,
-                height: 8,
-                col_frac: 8,
-                row_frac: 8,
-                mode_x: FilterMode::SHARP,
-                mode_y: FilterMode::SHARP,
-            },
-            seed: 5,
-            put: 992121,
-            prep: 630903,
-        },
+        expected([2, 8], [0, 0], [SMOOTH, SHARP], 2, 581875, 405210),
+        expected([8, 8], [0, 5], [BILINEAR, SWITCHABLE], 6, 480285, 417644),
+        expected([4, 4], [8, 0], [REGULAR, REGULAR], 3, 902829, 593137),
+        expected([4, 2], [11, 3], [SHARP, SMOOTH], 0, 371840, 421939),
+        expected([8, 4], [8, 8], [SWITCHABLE, BILINEAR], 4, 989456, 952625),
+        expected([2, 8], [15, 1], [SMOOTH, SWITCHABLE], 1, 83982, 593281),
+        expected([8, 8], [0, 8], [BILINEAR, REGULAR], 5, 360441, 20466),
+        expected([4, 4], [4, 12], [REGULAR, SHARP], 2, 939510, 457972),
+        expected([8, 8], [8, 8], [SHARP, SHARP], 1, 248729, 661277),
+        expected([8, 8], [8, 8], [SHARP, SHARP], 3, 77713, 825573),
+        expected([8, 8], [8, 8], [SHARP, SHARP], 5, 992121, 630903),
     ];
     for case in &cases {
         assert!(rt; holds_in_16_bits(rt.alloc(), *case, 10)?);
@@ -658,149 +336,17 @@ fn cases_of_16_bits_at_depth_10(rt: HostRuntime) -> Result<(), Fail> {
 #[test]
 fn cases_of_16_bits_at_depth_12(rt: HostRuntime) -> Result<(), Fail> {
     let cases = [
-        Case {
-            motion: Motion {
-                width: 8,
-                height: 4,
-                col_frac: 0,
-                row_frac: 0,
-                mode_x: FilterMode::SMOOTH,
-                mode_y: FilterMode::BILINEAR,
-            },
-            seed: 3,
-            put: 437080,
-            prep: 612495,
-        },
-        Case {
-            motion: Motion {
-                width: 2,
-                height: 8,
-                col_frac: 0,
-                row_frac: 5,
-                mode_x: FilterMode::BILINEAR,
-                mode_y: FilterMode::SWITCHABLE,
-            },
-            seed: 0,
-            put: 742019,
-            prep: 2143,
-        },
-        Case {
-            motion: Motion {
-                width: 8,
-                height: 8,
-                col_frac: 8,
-                row_frac: 0,
-                mode_x: FilterMode::REGULAR,
-                mode_y: FilterMode::REGULAR,
-            },
-            seed: 4,
-            put: 569886,
-            prep: 823562,
-        },
-        Case {
-            motion: Motion {
-                width: 4,
-                height: 4,
-                col_frac: 11,
-                row_frac: 3,
-                mode_x: FilterMode::SHARP,
-                mode_y: FilterMode::SHARP,
-            },
-            seed: 1,
-            put: 201649,
-            prep: 679391,
-        },
-        Case {
-            motion: Motion {
-                width: 4,
-                height: 2,
-                col_frac: 8,
-                row_frac: 8,
-                mode_x: FilterMode::SWITCHABLE,
-                mode_y: FilterMode::BILINEAR,
-            },
-            seed: 5,
-            put: 318214,
-            prep: 367119,
-        },
-        Case {
-            motion: Motion {
-                width: 8,
-                height: 4,
-                col_frac: 15,
-                row_frac: 1,
-                mode_x: FilterMode::SMOOTH,
-                mode_y: FilterMode::SWITCHABLE,
-            },
-            seed: 2,
-            put: 47147,
-            prep: 545658,
-        },
-        Case {
-            motion: Motion {
-                width: 2,
-                height: 8,
-                col_frac: 0,
-                row_frac: 8,
-                mode_x: FilterMode::BILINEAR,
-                mode_y: FilterMode::SMOOTH,
-            },
-            seed: 6,
-            put: 405021,
-            prep: 860747,
-        },
-        Case {
-            motion: Motion {
-                width: 8,
-                height: 8,
-                col_frac: 4,
-                row_frac: 12,
-                mode_x: FilterMode::REGULAR,
-                mode_y: FilterMode::SHARP,
-            },
-            seed: 3,
-            put: 481588,
-            prep: 895236,
-        },
-        Case {
-            motion: Motion {
-                width: 8,
-                height: 8,
-                col_frac: 8,
-                row_frac: 8,
-                mode_x: FilterMode::SHARP,
-                mode_y: FilterMode::SHARP,
-            },
-            seed: 1,
-            put: 157631,
-            prep: 618100,
-        },
-        Case {
-            motion: Motion {
-                width: 8,
-                height: 8,
-                col_frac: 8,
-                row_frac: 8,
-                mode_x: FilterMode::SHARP,
-                mode_y: FilterMode::SHARP,
-            },
-            seed: 3,
-            put: 755595,
-            prep: 944585,
-        },
-        Case {
-            motion: Motion {
-                width: 8,
-                height: 8,
-                col_frac: 8,
-                row_frac: 8,
-                mode_x: FilterMode::SHARP,
-                mode_y: FilterMode::SHARP,
-            },
-            seed: 5,
-            put: 613444,
-            prep: 958430,
-        },
+        expected([8, 4], [0, 0], [SMOOTH, BILINEAR], 3, 437080, 612495),
+        expected([2, 8], [0, 5], [BILINEAR, SWITCHABLE], 0, 742019, 2143),
+        expected([8, 8], [8, 0], [REGULAR, REGULAR], 4, 569886, 823562),
+        expected([4, 4], [11, 3], [SHARP, SHARP], 1, 201649, 679391),
+        expected([4, 2], [8, 8], [SWITCHABLE, BILINEAR], 5, 318214, 367119),
+        expected([8, 4], [15, 1], [SMOOTH, SWITCHABLE], 2, 47147, 545658),
+        expected([2, 8], [0, 8], [BILINEAR, SMOOTH], 6, 405021, 860747),
+        expected([8, 8], [4, 12], [REGULAR, SHARP], 3, 481588, 895236),
+        expected([8, 8], [8, 8], [SHARP, SHARP], 1, 157631, 618100),
+        expected([8, 8], [8, 8], [SHARP, SHARP], 3, 755595, 944585),
+        expected([8, 8], [8, 8], [SHARP, SHARP], 5, 613444, 958430),
     ];
     for case in &cases {
         assert!(rt; holds_in_16_bits(rt.alloc(), *case, 12)?);
