@@ -4,7 +4,7 @@ pub mod SquareOrder
 mod Parts
 mod Halved
 mod Superblocks
-mod TableOrder
+pub mod TableOrder
 mod Climbs
 mod BitOrder
 mod Centre

@@ -11,7 +11,7 @@ use Rattle.av1_blocks.specs.Blocks.{block_width, block_height}
 use Rattle.av1_avail.specs.Cells.{block_columns, block_rows, transform_columns, transform_rows}
 use Rattle.av1_avail.specs.Availability.{table_top_right, table_bottom_left}
 use Rattle.av1_avail.specs.Order.{next_before, is_before_in_block, is_in, is_earlier, interleaved}
-use Rattle.av1_avail.specs.Agreement.{IsTile, run_length, top_right_before, bottom_left_before}
+use Rattle.av1_avail.specs.Agreement.{TablesFollowOrder, IsTile, run_length, top_right_before, bottom_left_before}
 use Rattle.av1_avail.proofs.Superblocks.{start, column_start, row_start, top_right_before-start, bottom_left_before-start}
 use Rattle.av1_avail.proofs.Parts.{all_five}
 use Rattle.av1_avail.proofs.Multiples.{all_multiples, all_multiples_at, where_true}
@@ -103,3 +103,9 @@ module _ (b : BlockSize) (t : TxSize) (x y r c sx sy i : ℕ) (tile : IsTile b t
   bottom_left_by_order =
       let placed = rw ((column_start b x).2, (row_start b y).2) at (size_agrees_at bottom_left_answer bottom_left_before (bottom_left_agrees b t)) in
       placed ∙ sym (bottom_left_before-start b tile.small t r c sx sy i tile.halved_x tile.halved_y x y)
+
+pub tables_follow : TablesFollowOrder
+tables_follow b t x y r c sx sy tile = record {
+  top_right = λ i near. top_right_by_order b t x y r c sx sy i tile near;
+  bottom_left = λ i near. bottom_left_by_order b t x y r c sx sy i tile near;
+}

@@ -5,6 +5,7 @@ use Rattle.av1_blocks.specs.declared.partition.BlockSize.{BlockSize}
 use Rattle.av1_blocks.specs.declared.transform.TxSize.{TxSize}
 use Rattle.av1_blocks.specs.Blocks.{block_width, block_height}
 use Rattle.av1_blocks.specs.Transforms.{tx_width, tx_height}
+use Rattle.av1_avail.specs.Availability.{table_top_right, table_bottom_left}
 use Rattle.av1_avail.specs.Cells.{block_columns, block_rows, transform_columns, transform_rows, corner}
 use Rattle.av1_avail.specs.Order.{is_earlier, next_before}
 
@@ -46,6 +47,18 @@ bottom_left_before b x y t row_off col_off ss_x ss_y i =
     let by = corner (block_rows b) y in
     next_before bx by (block_columns b) (block_rows b) ss_x ss_y (transform_rows t) row_off col_off
     (bx / 2 ^ ss_x + col_off - 1) (by / 2 ^ ss_y + row_off + transform_rows t + i)
+
+-- Of each unit of the runs past a transform, the tables answer what coding order says.
+pub record TablesAnswerOrder (b : BlockSize) (t : TxSize) (x y row_off col_off ss_x ss_y : ℕ) : Type 0 where
+  pub top_right : (i : ℕ) → i < run_length t
+      → table_top_right b x y (transform_columns t) row_off col_off ss_x ≡ top_right_before b x y t row_off col_off ss_x ss_y i
+  pub bottom_left : (i : ℕ) → i < run_length t
+      → table_bottom_left b x y (transform_rows t) row_off col_off ss_x ss_y ≡ bottom_left_before b x y t row_off col_off ss_x ss_y i
+
+-- They do for every transform that tiles a block with sides up to 64.
+abbrev pub TablesFollowOrder : Type 0
+TablesFollowOrder =
+    (b : BlockSize) (t : TxSize) (x y row_off col_off ss_x ss_y : ℕ) → IsTile b t row_off col_off ss_x ss_y → TablesAnswerOrder b t x y row_off col_off ss_x ss_y
 
 -- No side of the block is longer than 64 samples, and none more than twice the other.
 pub record IsNearSquare (b : BlockSize) : Type 0 where

@@ -5,3 +5,4 @@ pub mod Availability
 pub mod Bits
 pub mod Agreement
 pub mod Stripes
+pub mod Asked

@@ -2,6 +2,7 @@
 
 ghost use Rattle.std.specs.Prelude.{◌≡◌, ℕ, ◌<◌, ◌*◌, ◌^◌, ◌%◌};
 ghost use Rattle.av1_blocks.specs.declared.partition.BlockSize.{BlockSize};
+ghost use Rattle.av1_avail.specs.Agreement.{TablesFollowOrder};
 ghost use Rattle.av1_avail.specs.Order.{AreInTurn};
 ghost use Rattle.av1_avail.specs.Stripes.{
   IsUpright,
@@ -26,4 +27,10 @@ pub fn stripes_follow_squares()
     ensures flat_top_right { (b square : BlockSize) (row column : ℕ) → IsFlat b square → IsInRaster b row column → block_bit (top_right_table b) b row column ≡ flat_top_right square row column }
     ensures upright_bottom_left { (b square : BlockSize) (row column : ℕ) → IsUpright b square → IsInRaster b row column → block_bit (bottom_left_table b) b row column ≡ upright_bottom_left square row column }
     ensures flat_bottom_left { (b square : BlockSize) (row column : ℕ) → IsFlat b square → IsInRaster b row column → 0 < column → block_bit (bottom_left_table b) b row column ≡ flat_bottom_left square row column }
+{}
+
+/// A law: for each transform that tiles a block with sides up to 64, in a plane halved or not, the tables answer what coding order says of
+/// every unit of the run above right of it, and of the one below left of it.
+pub fn tables_follow_order()
+    ensures { TablesFollowOrder }
 {}

@@ -26,5 +26,5 @@ mod tests;
 
 pub use availability::{has_bottom_left, has_top_right};
 pub use bits::{has_bl, has_tr};
-pub use laws::{quarters_are_in_turn, stripes_follow_squares};
+pub use laws::{quarters_are_in_turn, stripes_follow_squares, tables_follow_order};
 pub use tables::{get_has_bl_table, get_has_tr_table};

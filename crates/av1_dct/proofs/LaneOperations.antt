@@ -2,7 +2,7 @@ use Rattle.std.proofs.Common.{ℕ, Bool, true, false, cond, subst, neg_ℤ, ◌�
 use Rattle.std.specs.Int.{int_min, int_max}
 use Rattle.std.specs.Simd.Lanes.{zip2, sel_l, top}
 use Rattle.std.specs.Int.Signed.{shr_z, lt_z}
-use Rattle.std.proofs.lemmas.List.{get_or-map}
+use Rattle.std.proofs.lemmas.List.{get_or-map, length-map}
 use Rattle.std.proofs.lemmas.Simd.{get_or-zip2, length-zip2, get_or-replicate, get_or-sel_l, length-sel_l, tops_compared}
 use Rattle.std.proofs.lemmas.Int.{ints, to_z-of_z, of_z-to_z}
 use Rattle.av1_dct.specs.Arithmetic.{clamp_value}
@@ -116,3 +116,14 @@ lane_clamp range high low xs i h eh el fh fl bx =
     let m_small : get_or m i 0 < 2 ^ 32 = subst (λ (n : ℕ). n < 2 ^ 32) (sym a.0) (cond-lt _ x (get_or hs i 0) (2 ^ 32) (bits_at xs i h bx) (omega (arith, hi, of_z-lt high fh))) in
     let r_small : get_or r i 0 < 2 ^ 32 = subst (λ (n : ℕ). n < 2 ^ 32) (sym b.0) (cond-lt _ (get_or ls i 0) (get_or m i 0) (2 ^ 32) (omega (arith, lo, of_z-lt low fl)) m_small) in
     lane_made r i (omega (arith, b.1)) r_small ∙ z_r ∙ ap (λ v. int_max v (int_min (to_z w32 x) high)) el ∙ ap (λ v. int_max (neg_ℤ (pos (2 ^ (range - 1)))) (int_min (to_z w32 x) v)) eh
+
+-- a vector whose lanes were read stays as it is
+pub stored : (v : List ℤ) (i : ℕ) → i < 8 → Bits (map (of_z w32) v) → lane_of_vector (map (to_z w32) (map (of_z w32) v)) i ≡ lane_of_vector v i
+unfolding lane_of_vector
+stored v i h b = let bs = map (of_z w32) v in lane_made bs i (omega (arith, b.eight)) (bits_at bs i h b)
+
+-- a lane of eight numbers
+pub lane_from : (v : List ℤ) (i : ℕ) (z : ℤ) → i < 8 → length v ≡ 8 → get_or v i (pos 0) ≡ z → FitsSigned w32 z → lane_of_vector (map (to_z w32) (map (of_z w32) v)) i ≡ z
+lane_from v i z h len is f =
+    let e : get_or (map (of_z w32) v) i 0 ≡ of_z w32 z = get_or-map (of_z w32) v i (pos 0) 0 (omega arith) ∙ ap (of_z w32) is in
+    lane_made (map (of_z w32) v) i (omega (arith, length-map v (of_z w32))) (omega (arith, e, of_z-lt z f)) ∙ ap (to_z w32) e ∙ to_z-of_z w32 z f

@@ -1,4 +1,5 @@
 pub mod Powers
+pub mod Lengths
 pub mod Runs
 pub mod Mirror
 pub mod Tables

@@ -3,7 +3,7 @@ ghost use Rattle.std.specs.List.{All};
 ghost use Rattle.av1_dct.specs.Arithmetic.{at, AllFit, FitsBits};
 ghost use Rattle.av1_dct.specs.Word.{column};
 ghost use Rattle.av1_dct.specs.InPlace.{joined, network};
-ghost use Rattle.av1_dct.specs.Cosine.{by_index, brev, cosine};
+ghost use Rattle.av1_dct.specs.Cosine.{by_index, brev, cosine, IsLength};
 
 use crate::steps::{sum_mirrored, turn_outer, turn_rounds};
 use crate::weights::{power, reversed_place, weight_of};
@@ -22,7 +22,7 @@ fn network_2<W: Word>(w: &mut [W])
 }
 
 // From the transform of the even inputs in the first half of 2^(K+1) words, and the odd inputs in the second, to that of all.
-#[inline]
+#[inline(always)]
 fn join_halves<W: Word, const K: usize>(w: &mut [W], range: usize)
     requires range_in { (8 ≤ range) × (range ≤ 20) }
     requires k_in { (1 ≤ K) × (K ≤ 5) }
@@ -31,7 +31,7 @@ fn join_halves<W: Word, const K: usize>(w: &mut [W], range: usize)
     ensures { (i : ℕ) → i < W.LANES → column W.lane_of i w.new ≡ joined range K (column W.lane_of i w.old) }
 {
     let odd = &mut w[power(K)..];
-    turn_outer(K, odd);
+    turn_outer::<W, K>(odd);
     turn_rounds::<W, K>(odd, range);
     sum_mirrored(false, w, range);
 }
@@ -96,18 +96,17 @@ fn network_64<W: Word>(w: &mut [W], range: usize)
     join_halves::<W, 5>(w, range);
 }
 
-// The transform of 2^(k+1) words that stand in the order of their reversed places: the even inputs make the first half of them.
+// The transform of 2^(K+1) words that stand in the order of their reversed places: the even inputs make the first half of them.
 // Each length has a function of its own, so that the compiler knows its angles and places as numbers.
 #[inline(always)]
-fn run_network<W: Word>(k: usize, w: &mut [W], range: usize)
+fn run_network<W: Word, const K: usize>(w: &mut [W], range: usize)
     requires range_in { (8 ≤ range) × (range ≤ 20) }
-    requires k_in { k ≤ 5 }
-    requires len { length w.old ≡ 2 * 2 ^ k }
+    requires k_in { (1 ≤ K) × (K ≤ 5) }
+    requires len { length w.old ≡ 2 * 2 ^ K }
     requires fit { (i : ℕ) → i < W.LANES → AllFit 20 (column W.lane_of i w.old) }
-    ensures { (i : ℕ) → i < W.LANES → column W.lane_of i w.new ≡ network range k (column W.lane_of i w.old) }
+    ensures { (i : ℕ) → i < W.LANES → column W.lane_of i w.new ≡ network range K (column W.lane_of i w.old) }
 {
-    match k {
-        0 => network_2(w),
+    match K {
         1 => network_4(w, range),
         2 => network_8(w, range),
         3 => network_16(w, range),
@@ -116,34 +115,56 @@ fn run_network<W: Word>(k: usize, w: &mut [W], range: usize)
     }
 }
 
-// Writes the first 2^(k+1) words of `input` in the order of their reversed places.
+// Writes the first 2^(K+1) words of `input` in the order of their reversed places.
 #[inline(always)]
-fn reorder<W: Word>(k: usize, input: &[W], output: &mut [W])
-    requires k_in { k ≤ 5 }
-    requires input_len { 2 * 2 ^ k ≤ length input.now }
-    requires output_len { length output.old ≡ 2 * 2 ^ k }
-    ensures { (i : ℕ) → i < W.LANES → column W.lane_of i output.new ≡ by_index (2 * 2 ^ k) (λ p. at (column W.lane_of i input.now) (brev (suc k) p)) }
+fn reorder<W: Word, const K: usize>(input: &[W], output: &mut [W])
+    requires k_in { K ≤ 5 }
+    requires input_len { 2 * 2 ^ K ≤ length input.now }
+    requires output_len { length output.old ≡ 2 * 2 ^ K }
+    ensures { (i : ℕ) → i < W.LANES → column W.lane_of i output.new ≡ by_index (2 * 2 ^ K) (λ p. at (column W.lane_of i input.now) (brev (suc K) p)) }
 {
     for p in 0..output.len() {
-        output[p] = input[reversed_place(k, p)];
+        output[p] = input[reversed_place(K, p)];
     }
 }
 
-/// The inverse cosine transform of 2^(k+1) words, in each lane (the inverse DCT process of the AV1 specification, lane by lane):
-/// the first 2^(k+1) words of `output` become that of the first 2^(k+1) words of `input`, and the rest of `output` stays.
-/// Sums are clamped to `range` signed bits.
-#[inline(always)]
-pub fn cosine_words<W: Word>(k: usize, input: &[W], output: &mut [W], range: usize)
+// The transform of N = 2^(K+1) words. Both are constants of each instance, so every loop has its length and its weights as numbers.
+fn cosine_of<W: Word, const K: usize, const N: usize>(input: &[W], output: &mut [W], range: usize)
     requires range_in { (8 ≤ range) × (range ≤ 20) }
-    requires k_in { k ≤ 5 }
-    requires input_len { 2 * 2 ^ k ≤ length input.now }
-    requires output_len { 2 * 2 ^ k ≤ length output.old }
-    requires fit { (i : ℕ) → i < W.LANES → All (FitsBits range) (take (2 * 2 ^ k) (column W.lane_of i input.now)) }
-    ensures value { (i : ℕ) → i < W.LANES → take (2 * 2 ^ k) (column W.lane_of i output.new) ≡ cosine range k (take (2 * 2 ^ k) (column W.lane_of i input.now)) }
-    ensures rest { drop (2 * 2 ^ k) output.new ≡ drop (2 * 2 ^ k) output.old }
+    requires k_in { (1 ≤ K) × (K ≤ 5) }
+    requires n_in { N ≡ 2 * 2 ^ K }
+    requires input_len { 2 * 2 ^ K ≤ length input.now }
+    requires output_len { 2 * 2 ^ K ≤ length output.old }
+    requires fit { (i : ℕ) → i < W.LANES → All (FitsBits range) (take (2 * 2 ^ K) (column W.lane_of i input.now)) }
+    ensures value { (i : ℕ) → i < W.LANES → take (2 * 2 ^ K) (column W.lane_of i output.new) ≡ cosine range K (take (2 * 2 ^ K) (column W.lane_of i input.now)) }
+    ensures rest { drop (2 * 2 ^ K) output.new ≡ drop (2 * 2 ^ K) output.old }
 {
-    let n = 2 * power(k);
-    let part = &mut output[..n];
-    reorder(k, input, part);
-    run_network(k, part, range);
+    let part = &mut output[..N];
+    reorder::<W, K>(input, part);
+    run_network::<W, K>(part, range);
+}
+
+/// The inverse cosine transform of `n` words, in each lane (the inverse DCT process of the AV1 specification, lane by lane): the
+/// first n words of `output` become that of the first n words of `input`, and the rest of `output` stays. Here n is 2^(k+1). Sums
+/// are clamped to `range` signed bits.
+///
+/// `_work` is room for a transform that does not run in place. This one does, within `output`, and leaves it as it is.
+#[inline(always)]
+pub fn cosine_words<W: Word>(n: usize, input: &[W], _work: &mut [W], output: &mut [W], range: usize)
+    requires range_in { (8 ≤ range) × (range ≤ 20) }
+    requires n_in { IsLength n }
+    requires input_len { n ≤ length input.now }
+    requires work_len { 4 * n ≤ length _work.old }
+    requires output_len { n ≤ length output.old }
+    requires fit { (i : ℕ) → i < W.LANES → All (FitsBits range) (take n (column W.lane_of i input.now)) }
+    ensures value { (k i : ℕ) → i < W.LANES → n ≡ 2 * 2 ^ k → take n (column W.lane_of i output.new) ≡ cosine range k (take n (column W.lane_of i input.now)) }
+    ensures rest { drop n output.new ≡ drop n output.old }
+{
+    match n {
+        4 => cosine_of::<W, 1, 4>(input, output, range),
+        8 => cosine_of::<W, 2, 8>(input, output, range),
+        16 => cosine_of::<W, 3, 16>(input, output, range),
+        32 => cosine_of::<W, 4, 32>(input, output, range),
+        _ => cosine_of::<W, 5, 64>(input, output, range),
+    }
 }

@@ -9,15 +9,15 @@ use crate::word::Word;
 
 // Step 1: butterfly rotations of each place of the lower half with its mirror image.
 #[inline(always)]
-pub(crate) fn turn_outer<W: Word>(k: usize, v: &mut [W])
-    requires k_in { (1 ≤ k) × (k ≤ 5) }
-    requires len { length v.old ≡ 2 ^ k }
-    ensures { (i : ℕ) → i < W.LANES → column W.lane_of i v.new ≡ by_index (2 ^ k) (outer_turn k (column W.lane_of i v.old)) }
+pub(crate) fn turn_outer<W: Word, const K: usize>(v: &mut [W])
+    requires k_in { (1 ≤ K) × (K ≤ 5) }
+    requires len { length v.old ≡ 2 ^ K }
+    ensures { (i : ℕ) → i < W.LANES → column W.lane_of i v.new ≡ by_index (2 ^ K) (outer_turn K (column W.lane_of i v.old)) }
 {
     let m = v.len();
     for p in 0..m / 2 {
         let q = m - 1 - p;
-        let a = outer_angle(k, p);
+        let a = outer_angle(K, p);
         let (c, s) = (weight_of(64 - a), weight_of(a));
         let (x, y) = (v[p], v[q]);
         v[p] = W::turn(c, x, -s, y);
@@ -64,18 +64,18 @@ fn sum_groups<W: Word>(h: usize, groups: usize, v: &mut [W], range: usize)
     }
 }
 
-// Step 3 at the second quarter of the group d of 4h places, where h = 2^j.
+// Step 3 at the second quarter of the group d of 4h places, where h = 2^J.
 #[inline(always)]
-fn turn_second_quarter<W: Word>(k: usize, j: usize, d: usize, v: &mut [W])
-    requires j_in { j + 2 ≤ k }
-    requires k_in { k ≤ 5 }
-    requires d_in { d < 2 ^ (k - j - 3) }
-    requires len { length v.old ≡ 2 ^ k }
-    ensures { (i : ℕ) → i < W.LANES → column W.lane_of i v.new ≡ by_index (2 ^ k) (inner_run k j (d * (4 * 2 ^ j) + 2 ^ j) (column W.lane_of i v.old)) }
+fn turn_second_quarter<W: Word, const K: usize, const J: usize>(d: usize, v: &mut [W])
+    requires j_in { J + 2 ≤ K }
+    requires k_in { K ≤ 5 }
+    requires d_in { d < 2 ^ (K - J - 3) }
+    requires len { length v.old ≡ 2 ^ K }
+    ensures { (i : ℕ) → i < W.LANES → column W.lane_of i v.new ≡ by_index (2 ^ K) (inner_run K J (d * (4 * 2 ^ J) + 2 ^ J) (column W.lane_of i v.old)) }
 {
-    let h = power(j);
+    let h = power(J);
     let start = d * (4 * h) + h;
-    let b = inner_angle(k, j, d);
+    let b = inner_angle(K, J, d);
     let (c, s) = (weight_of(64 - b), weight_of(b));
     for p in start..start + h {
         let q = v.len() - 1 - p;
@@ -85,18 +85,18 @@ fn turn_second_quarter<W: Word>(k: usize, j: usize, d: usize, v: &mut [W])
     }
 }
 
-// Step 3 at the third quarter of the group d of 4h places, where h = 2^j.
+// Step 3 at the third quarter of the group d of 4h places, where h = 2^J.
 #[inline(always)]
-fn turn_third_quarter<W: Word>(k: usize, j: usize, d: usize, v: &mut [W])
-    requires j_in { j + 3 ≤ k }
-    requires k_in { k ≤ 5 }
-    requires d_in { d < 2 ^ (k - j - 3) }
-    requires len { length v.old ≡ 2 ^ k }
-    ensures { (i : ℕ) → i < W.LANES → column W.lane_of i v.new ≡ by_index (2 ^ k) (inner_run k j (d * (4 * 2 ^ j) + 2 * 2 ^ j) (column W.lane_of i v.old)) }
+fn turn_third_quarter<W: Word, const K: usize, const J: usize>(d: usize, v: &mut [W])
+    requires j_in { J + 3 ≤ K }
+    requires k_in { K ≤ 5 }
+    requires d_in { d < 2 ^ (K - J - 3) }
+    requires len { length v.old ≡ 2 ^ K }
+    ensures { (i : ℕ) → i < W.LANES → column W.lane_of i v.new ≡ by_index (2 ^ K) (inner_run K J (d * (4 * 2 ^ J) + 2 * 2 ^ J) (column W.lane_of i v.old)) }
 {
-    let h = power(j);
+    let h = power(J);
     let start = d * (4 * h) + 2 * h;
-    let b = inner_angle(k, j, d);
+    let b = inner_angle(K, J, d);
     let (c, s) = (weight_of(64 - b), weight_of(b));
     for p in start..start + h {
         let q = v.len() - 1 - p;
@@ -108,24 +108,24 @@ fn turn_third_quarter<W: Word>(k: usize, j: usize, d: usize, v: &mut [W])
 
 // Step 3, in groups of 4h places of the lower half. The last size has half a group there, and so no third quarter.
 #[inline(always)]
-fn turn_inner<W: Word>(k: usize, j: usize, v: &mut [W])
-    requires j_in { j + 2 ≤ k }
-    requires k_in { k ≤ 5 }
-    requires len { length v.old ≡ 2 ^ k }
-    ensures { (i : ℕ) → i < W.LANES → column W.lane_of i v.new ≡ by_index (2 ^ k) (inner_turn k j (column W.lane_of i v.old)) }
+fn turn_inner<W: Word, const K: usize, const J: usize>(v: &mut [W])
+    requires j_in { J + 2 ≤ K }
+    requires k_in { K ≤ 5 }
+    requires len { length v.old ≡ 2 ^ K }
+    ensures { (i : ℕ) → i < W.LANES → column W.lane_of i v.new ≡ by_index (2 ^ K) (inner_turn K J (column W.lane_of i v.old)) }
 {
-    if j + 2 == k {
-        turn_second_quarter(k, j, 0, v);
+    if J + 2 == K {
+        turn_second_quarter::<W, K, J>(0, v);
         return;
     }
-    for d in 0..power(k - j - 3) {
-        turn_second_quarter(k, j, d, v);
-        turn_third_quarter(k, j, d, v);
+    for d in 0..power(K - J - 3) {
+        turn_second_quarter::<W, K, J>(d, v);
+        turn_third_quarter::<W, K, J>(d, v);
     }
 }
 
 // Round J, after those before it: steps 2 and 3 for groups of 2^(J+1) places. There are K - 1 rounds; past the last it does nothing.
-#[inline]
+#[inline(always)]
 fn run_round<W: Word, const K: usize, const J: usize>(v: &mut [W], range: usize)
     requires range_in { (8 ≤ range) × (range ≤ 20) }
     requires k_in { (1 ≤ K) × (K ≤ 5) }
@@ -139,7 +139,7 @@ fn run_round<W: Word, const K: usize, const J: usize>(v: &mut [W], range: usize)
         return;
     }
     sum_groups(power(J), power(K - 1 - J), v, range);
-    turn_inner(K, J, v);
+    turn_inner::<W, K, J>(v);
 }
 
 // Steps 2 and 3 in turn, for groups of 2, 4, .. places: all rounds, written out so that the compiler knows their places as numbers.

@@ -1,11 +1,13 @@
-ghost use Rattle.std.specs.Prelude.{◌≤◌, IsTrue};
+ghost use Rattle.std.specs.Prelude.{◌≡◌, ℕ, ◌<◌, ◌≤◌, IfOk, IsTrue, take, vec_len};
 ghost use Rattle.std.specs.List.{All};
 ghost use Rattle.av1_dct.specs.Arithmetic.{FitsBits};
+ghost use Rattle.av1_dct.specs.Word.{column, lane_of_vector};
 
 use crate::{
-    Word, av1_idct4, av1_idct8, av1_idct16, av1_idct32, av1_idct64, clamp_value, cosine_words,
-    half_btf,
+    LaneCount, Word, av1_idct4, av1_idct8, av1_idct16, av1_idct32, av1_idct64, clamp_value,
+    cosine_lanes, half_btf,
 };
+use std::alloc::{AllocError, Global};
 use std::simd::prelude::*;
 use std::test::Fail;
 
@@ -181,17 +183,58 @@ fn answers_of_rav1e_64(rt: HostRuntime) {
     );
 }
 
+// The lanes of a test fit 16 bits already, so this changes none of them. It tells the proof that they fit.
+fn clamped(lanes: [i32; 8]) -> i32x8
+    ensures { (i : ℕ) → i < 8 → FitsBits 16 (lane_of_vector result i) }
+{
+    let word = <i32x8 as Word>::clamp_to(i32x8::from_array(lanes), 16);
+    let _lanes = word.to_array();
+    word
+}
+
+fn four_words(
+    alloc: Global,
+    a: [i32; 8],
+    b: [i32; 8],
+    c: [i32; 8],
+    d: [i32; 8],
+) -> Result<Vec<i32x8>, AllocError>
+    ensures { IfOk result (λ v. (vec_len v ≡ 4) × ((i : ℕ) → i < 8 → All (FitsBits 16) (take 4 (column lane_of_vector i v.items)))) }
+{
+    let (x, y, z, w) = (clamped(a), clamped(b), clamped(c), clamped(d));
+    let (_, _, _, _) = (x.to_array(), y.to_array(), z.to_array(), w.to_array());
+    let mut words = Vec::new(alloc);
+    words.push(x)?;
+    words.push(y)?;
+    words.push(z)?;
+    words.push(w)?;
+    Ok(words)
+}
+
 #[test]
 fn eight_lanes_answer_as_eight_transforms(rt: HostRuntime) -> Result<(), Fail> {
-    let mut input = Vec::new(rt.alloc());
-    let (hundred, none) = (<i32x8 as Word>::splat(100), <i32x8 as Word>::splat(0));
-    let (_, _) = (hundred.to_array(), none.to_array());
-    input.push(hundred)?;
-    input.push(none)?;
+    let none = <i32x8 as Word>::splat(0);
+    let input = four_words(
+        rt.alloc(),
+        [0, -32768, 86, 0, 5486, 119, 1, 0],
+        [0, 32767, 202, 0, 28757, -116, -484, 0],
+        [1223, 32767, 0, 0, -6519, 1834, -97, 0],
+        [0, -32768, -13, 15408, 25809, -5649, 1003, 0],
+    )?;
+    let mut work = Vec::new(rt.alloc());
+    work.resize(16, none)?;
     let mut output = Vec::new(rt.alloc());
-    output.push(none)?;
-    output.push(none)?;
-    cosine_words(0, &input, &mut output, 16);
-    assert_eq!(rt; [output[0].lane(0), output[1].lane(7)], [71, 71]);
+    output.resize(4, none)?;
+    let mut count = LaneCount::new();
+    cosine_lanes(&mut count, 4, &input, &mut work, &mut output, 16);
+    assert_eq!(rt; count.groups(), 1);
+    assert_eq!(rt;
+        output[0].to_array(),
+        [865, 17734, 243, 5895, 32767, -887, -131, 0]
+    );
+    assert_eq!(rt;
+        output[3].to_array(),
+        [865, -17736, -121, -5895, -32768, 3649, -5, 0]
+    );
     Ok(())
 }

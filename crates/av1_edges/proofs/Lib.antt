@@ -2,3 +2,4 @@ pub mod Lists
 pub mod Samples
 pub mod Parted
 pub mod WholePlane
+pub mod Taken

@@ -5,7 +5,9 @@ use Rattle.av1_frame.specs.declared.plane_region.PlaneRegion.{PlaneRegion}
 use Rattle.av1_frame.specs.declared.plane_region.StoredArea.{StoredArea}
 use Rattle.av1_frame.specs.Areas.{stored_area, all_visible}
 use Rattle.av1_frame.specs.Planes.{place_at, sample_at}
-use Rattle.av1_edges.specs.Edges.{region_sample, visible_columns, visible_rows}
+use Rattle.av1_avail.specs.Asked.{takes_above_right, takes_below_left}
+use Rattle.av1_edges.specs.declared.place.Place.{Place}
+use Rattle.av1_edges.specs.Edges.{has_above_right, has_below_left, region_sample, visible_columns, visible_rows}
 
 -- the region of plane.as_region()
 pub record IsAllVisible {T : Type 0} (r : PlaneRegion T) : Type 0 where
@@ -33,3 +35,16 @@ module _ {T : Type 0} (r : PlaneRegion T) (all : IsAllVisible r) where
       let k : (r.place.y + y) * s + r.place.x + x ≡ place_at r.plane_cfg x y =
       ap (λ n. (n + y) * s + r.place.x + x) first_row ∙ omega (arith, first_column) in
       ap (λ n. get_or (map num r.plane.now.samples) n 0) k ∙ ap (λ (c : PlaneConfig). get_or (map num r.plane.now.samples) (place_at c x y) 0) all.cfg
+
+  -- the answers for a transform of the plane
+  pub whole_above_right : (at : Place)
+      → has_above_right r at
+      ≡ takes_above_right at.partition_size at.partition_bo.0.x at.partition_bo.0.y at.tx_size at.bx at.by r.plane_cfg.xdec r.plane_cfg.ydec at.x r.plane_cfg.width
+  whole_above_right at =
+      ap (takes_above_right at.partition_size at.partition_bo.0.x at.partition_bo.0.y at.tx_size at.bx at.by r.plane_cfg.xdec r.plane_cfg.ydec at.x) whole_columns
+
+  pub whole_below_left : (at : Place)
+      → has_below_left r at
+      ≡ takes_below_left at.partition_size at.partition_bo.0.x at.partition_bo.0.y at.tx_size at.bx at.by r.plane_cfg.xdec r.plane_cfg.ydec at.y r.plane_cfg.height
+  whole_below_left at =
+      ap (takes_below_left at.partition_size at.partition_bo.0.x at.partition_bo.0.y at.tx_size at.bx at.by r.plane_cfg.xdec r.plane_cfg.ydec at.y) whole_rows

@@ -1,18 +1,17 @@
 -- The edge round a transform's samples, as it is read from a region by place.
 -- AV1 specification: intra prediction process: general; transform block syntax (haveAboveRt, haveBelowLft).
-use Rattle.std.specs.Prelude.{ℕ, ◌+◌, ◌-◌, ◌*◌, ◌^◌, ◌<◌, ◌≤◌, List, Bool, ◌&&◌, ◌||◌, nat_lt, min, if◌then◌else◌, map, slice_index, Option, unsigned_abs}
+use Rattle.std.specs.Prelude.{ℕ, ◌+◌, ◌-◌, ◌*◌, ◌^◌, ◌<◌, ◌≤◌, List, Bool, ◌&&◌, min, if◌then◌else◌, map, slice_index, Option, unsigned_abs}
 use Rattle.av1_blocks.specs.declared.predict.PredictionMode.{PredictionMode}
 use Rattle.av1_blocks.specs.declared.predict.IntraParam.{IntraParam}
 use Rattle.av1_blocks.specs.declared.partition.BlockSize.{BlockSize}
 use Rattle.av1_blocks.specs.declared.transform.TxSize.{TxSize}
-use Rattle.av1_blocks.specs.Chroma.{supersample_chroma_bsize}
 use Rattle.av1_blocks.specs.Transforms.{tx_width, tx_height}
 use Rattle.av1_frame.specs.declared.plane.PlaneOffset.{PlaneOffset}
 use Rattle.av1_frame.specs.declared.block_unit.TileBlockOffset.{TileBlockOffset}
 use Rattle.av1_frame.specs.declared.plane_region.PlaneRegion.{PlaneRegion}
 use Rattle.av1_frame.specs.Samples.{row_start}
 use Rattle.av1_frame.specs.Regions.{IsReadable}
-use Rattle.av1_avail.specs.Availability.{table_top_right, table_bottom_left}
+use Rattle.av1_avail.specs.Asked.{takes_above_right, takes_below_left}
 use Rattle.av1_avail.specs.Cells.{transform_columns, transform_rows}
 use Rattle.av1_edges.specs.declared.parts.Parts.{Parts}
 use Rattle.av1_edges.specs.declared.place.Place.{Place}
@@ -61,28 +60,17 @@ place_of partition_bo bx by partition_size po tx_size = record {
 
 -- ---- what is coded before the transform
 
--- the row or column before a transform lies in the tile, where the transform begins `offset` units after the first unit of a block that
--- begins at the cell `cell`, in a plane of this decimation
-abbrev pub has_before : (offset cell decimation : ℕ) → Bool
-has_before offset cell decimation = nat_lt 0 offset || nat_lt decimation cell
-
 -- the samples above right of it may be taken
 abbrev pub has_above_right : {T : Type 0} → PlaneRegion T → Place → Bool
 has_above_right r at =
     let cfg = r.plane_cfg in
-    let block = supersample_chroma_bsize at.partition_size cfg.xdec cfg.ydec in
-    let column = at.bx * transform_columns at.tx_size in
-    let row = at.by * transform_rows at.tx_size in
-    has_before row at.partition_bo.0.y cfg.ydec && nat_lt (at.x + tx_width at.tx_size) (visible_columns r) && table_top_right block at.partition_bo.0.x at.partition_bo.0.y (transform_columns at.tx_size) row column cfg.xdec
+    takes_above_right at.partition_size at.partition_bo.0.x at.partition_bo.0.y at.tx_size at.bx at.by cfg.xdec cfg.ydec at.x (visible_columns r)
 
 -- the samples below left of it may be taken
 abbrev pub has_below_left : {T : Type 0} → PlaneRegion T → Place → Bool
 has_below_left r at =
     let cfg = r.plane_cfg in
-    let block = supersample_chroma_bsize at.partition_size cfg.xdec cfg.ydec in
-    let column = at.bx * transform_columns at.tx_size in
-    let row = at.by * transform_rows at.tx_size in
-    nat_lt (at.y + tx_height at.tx_size) (visible_rows r) && has_before column at.partition_bo.0.x cfg.xdec && table_bottom_left block at.partition_bo.0.x at.partition_bo.0.y (transform_rows at.tx_size) row column cfg.xdec cfg.ydec
+    takes_below_left at.partition_size at.partition_bo.0.x at.partition_bo.0.y at.tx_size at.bx at.by cfg.xdec cfg.ydec at.y (visible_rows r)
 
 -- ---- the edge
 

@@ -3,7 +3,8 @@
 ghost use Rattle.std.specs.Prelude.{◌≡◌, ◌+◌, ◌<◌, ◌≤◌, ◌&&◌};
 ghost use Rattle.av1_blocks.specs.Transforms.{tx_width, tx_height};
 ghost use Rattle.av1_edges.specs.Sides.{taken, where_asked};
-ghost use Rattle.av1_edges.specs.Edges.{BeginsVisible, PlaceFits, visible_columns, visible_rows, has_before, has_above_right, has_below_left, taken_above, taken_left};
+ghost use Rattle.av1_avail.specs.Asked.{has_before};
+ghost use Rattle.av1_edges.specs.Edges.{BeginsVisible, PlaceFits, visible_columns, visible_rows, has_above_right, has_below_left, taken_above, taken_left};
 
 use av1_avail::{has_bottom_left, has_top_right};
 use av1_blocks::{BlockSize, TxSize, supersample_chroma_bsize};

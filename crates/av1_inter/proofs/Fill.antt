@@ -1,9 +1,11 @@
 -- Loops that write the entries of a list one after another.
-use Rattle.std.proofs.Common.{ℕ, subst, ◌*◌, ◌+◌, ◌<◌, ◌≤◌, ◌≡◌, ◌⊎◌, ℤ, List, length, set, refl, arith, ◌∙◌, inl, inr, get_or-set_other}
+use Rattle.std.proofs.Common.{ℕ, ap, subst, ◌*◌, ◌+◌, ◌-◌, ◌<◌, ◌≤◌, ◌≡◌, ◌⊎◌, ℤ, pos, List, length, replicate, set, refl, arith, ◌∙◌, inl, inr, get_or-set_other}
 use Rattle.std.proofs.Math.Nat.{mul-le-mul_right}
-use Rattle.std.proofs.lemmas.Bool.{cases_eq}
+use Rattle.std.proofs.lemmas.Bool.{cases_eq, cases_lt, cases_order}
 use Rattle.std.proofs.lemmas.Grind.{get_or-set_at}
+use Rattle.std.proofs.lemmas.List.{length-replicate, length-set}
 use Rattle.av1_inter.specs.Motion.{entry}
+use Rattle.av1_inter.specs.Scaffolding.{IsBeside}
 
 -- the first c entries of `now` are f's, and the others are those of `old`
 pub record IsDone (c : ℕ) (f : ℕ → ℤ) (old now : List ℤ) : Type 0 where
@@ -22,6 +24,20 @@ done_more c f old now v h l e =
       ];
       rest = λ k b. let n = h.rest k (omega arith) in grind (arith, get_or-set_other);
     }
+
+-- the first c of n entries are f's
+pub record IsLine (n c : ℕ) (f : ℕ → ℤ) (now : List ℤ) : Type 0 where
+  pub value : (k : ℕ) → k < c → entry now k ≡ f k
+  pub long : length now ≡ n
+
+pub line_none : (n : ℕ) (f : ℕ → ℤ) → IsLine n 0 f (replicate n (pos 0))
+line_none n f = record { value = λ k h. absurd (omega arith); long = length-replicate n (pos 0) }
+
+pub line_more : (n c : ℕ) (f : ℕ → ℤ) (now : List ℤ) (v : ℤ) → IsLine n c f now → c < n → v ≡ f c → IsLine n (c + 1) f (set now c v)
+line_more n c f now v h l e = record {
+  value = (done_more c f now now v (record { done = h.value; rest = λ k b. refl }) (omega (arith, h.long)) e).done;
+  long = length-set now c v ∙ h.long;
+}
 
 -- the same for the entries from `start` on
 pub record IsDoneFrom (start c : ℕ) (f : ℕ → ℤ) (old now : List ℤ) : Type 0 where
@@ -44,26 +60,58 @@ done_from_more start c f old now v h l e =
       ];
     }
 
--- the first r rows of w entries are f's, and the entries after them are those of `old`
-pub record AreWritten (w r : ℕ) (f : ℕ → ℕ → ℤ) (old now : List ℤ) : Type 0 where
-  pub done : (q c : ℕ) → q < r → c < w → entry now (q * w + c) ≡ f q c
-  pub rest : (i : ℕ) → r * w ≤ i → entry now i ≡ entry old i
+-- n columns from `start` on of the first r rows of w entries are f's, and the entries beside them are those of `old`
+pub record IsStripWritten (w start n r : ℕ) (f : ℕ → ℕ → ℤ) (old now : List ℤ) : Type 0 where
+  pub done : (q c : ℕ) → q < r → c < n → entry now (q * w + start + c) ≡ f q c
+  pub rest : (i : ℕ) → ((q : ℕ) → q < r → IsBeside (q * w + start) n i) → entry now i ≡ entry old i
 
-pub written_none : (w : ℕ) (f : ℕ → ℕ → ℤ) (s : List ℤ) → AreWritten w 0 f s s
-written_none w f s = record { done = λ q c h. absurd (omega arith); rest = λ i h. refl }
+pub strip_none : (w start n : ℕ) (f : ℕ → ℕ → ℤ) (s : List ℤ) → IsStripWritten w start n 0 f s s
+strip_none w start n f s = record { done = λ q c h. absurd (omega arith); rest = λ i h. refl }
 
-pub written_more : (w r : ℕ) (f : ℕ → ℕ → ℤ) (old now new : List ℤ) → AreWritten w r f old now → ((c : ℕ) → c < w → entry new (r * w + c) ≡ f r c) → ((i : ℕ) → (i < r * w) ⊎ (r * w + w ≤ i) → entry new i ≡ entry now i) → AreWritten w (r + 1) f old new
-written_more w r f old now new h row others =
+pub strip_more : (w start n r : ℕ) (f : ℕ → ℕ → ℤ) (old now new : List ℤ) → start + n ≤ w → IsStripWritten w start n r f old now → ((c : ℕ) → c < n → entry new (r * w + start + c) ≡ f r c) → ((i : ℕ) → IsBeside (r * w + start) n i → entry new i ≡ entry now i) → IsStripWritten w start n (r + 1) f old new
+strip_more w start n r f old now new fit h row others =
     record {
       done = λ q c a b. elim (cases_eq q r) [
         | inl e ↦ rw e (row c b)
-        | inr e ↦ (let m : (q + 1) * w ≤ r * w = mul-le-mul_right w (let n : q + 1 ≤ r = omega arith in n) in
+        | inr e ↦ (let m : (q + 1) * w ≤ r * w = mul-le-mul_right w (let k : q + 1 ≤ r = omega arith in k) in
             let s : (q + 1) * w ≡ q * w + w = grind arith in
-            others (q * w + c) (inl (omega (arith, m, s, b))) ∙ h.done q c (omega arith) b)
+            others (q * w + start + c) (inl (omega (arith, m, s, b, fit))) ∙ h.done q c (omega arith) b)
       ];
-      rest = λ i b. let s : (r + 1) * w ≡ r * w + w = grind arith in others i (inr (omega (arith, s, b))) ∙ h.rest i (omega (arith, s, b));
+      rest = λ i b. others i (b r (omega arith)) ∙ h.rest i (λ q l. b q (omega arith));
     }
 
--- all rows are written
-pub written_all : (w r h : ℕ) (f : ℕ → ℕ → ℤ) (old now : List ℤ) → r ≡ h → AreWritten w r f old now → AreWritten w h f old now
-written_all w r h f old now e a = subst (λ (n : ℕ). AreWritten w n f old now) e a
+pub strip_all : (w start n r h : ℕ) (f : ℕ → ℕ → ℤ) (old now : List ℤ) → r ≡ h → IsStripWritten w start n r f old now → IsStripWritten w start n h f old now
+strip_all w start n r h f old now e a = subst (λ (k : ℕ). IsStripWritten w start n k f old now) e a
+
+-- the first s columns of h rows of w entries are f's, and the entries after those rows are those of `old`
+pub record AreWritten (w s h : ℕ) (f : ℕ → ℕ → ℤ) (old now : List ℤ) : Type 0 where
+  pub done : (q c : ℕ) → q < h → c < s → entry now (q * w + c) ≡ f q c
+  pub rest : (i : ℕ) → h * w ≤ i → entry now i ≡ entry old i
+
+pub written_none : (w h : ℕ) (f : ℕ → ℕ → ℤ) (o : List ℤ) → AreWritten w 0 h f o o
+written_none w h f o = record { done = λ q c a b. absurd (omega arith); rest = λ i b. refl }
+
+pub row_end : (q r w : ℕ) → q < r → q * w + w ≤ r * w
+row_end q r w l =
+    let m : (q + 1) * w ≤ r * w = mul-le-mul_right w (let k : q + 1 ≤ r = omega arith in k) in
+    let s : (q + 1) * w ≡ q * w + w = grind arith in
+    omega (arith, m, s)
+
+before_strip : (w s n q c r : ℕ) → s + n ≤ w → c < s → IsBeside (r * w + s) n (q * w + c)
+before_strip w s n q c r fit h =
+    elim (cases_order q r) [
+      | inl e ↦ (let m : q * w ≡ r * w = ap (λ k. k * w) e in inl (omega (arith, m, h)))
+      | inr (inl l) ↦ (let m = row_end q r w l in inl (omega (arith, m, h, fit)))
+      | inr (inr l) ↦ (let m = row_end r q w l in inr (omega (arith, m, h, fit)))
+    ]
+
+pub written_more : (w s n h : ℕ) (f g : ℕ → ℕ → ℤ) (old now new : List ℤ) → s + n ≤ w → AreWritten w s h f old now → ((r c : ℕ) → r < h → c < n → entry new (r * w + s + c) ≡ g r c) → ((r c : ℕ) → g r c ≡ f r (s + c)) → ((i : ℕ) → ((r : ℕ) → r < h → IsBeside (r * w + s) n i) → entry new i ≡ entry now i) → AreWritten w (s + n) h f old new
+written_more w s n h f g old now new fit a strip same others =
+    record {
+      done = λ q c l b. elim (cases_lt c s) [
+        | inl k ↦ others (q * w + c) (λ r m. before_strip w s n q c r fit k) ∙ a.done q c l k
+        | inr k ↦ (let e : q * w + c ≡ q * w + s + (c - s) = omega arith in let d : s + (c - s) ≡ c = omega arith in
+            ap (entry new) e ∙ strip q (c - s) l (omega arith) ∙ same q (c - s) ∙ ap (f q) d)
+      ];
+      rest = λ i b. others i (λ r l. let m = row_end r h w l in inr (omega (arith, m, b, fit))) ∙ a.rest i b;
+    }

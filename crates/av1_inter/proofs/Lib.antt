@@ -1,10 +1,14 @@
 pub mod Fill
 pub mod Widths
 pub mod Sums
+pub mod Eights
 pub mod Rows
 pub mod Reach
 pub mod Table
+pub mod Strips
 pub mod Cases
 pub mod Vectors
 pub mod Blocks
 pub mod Bytes
+pub mod Constants
+pub mod Fitting

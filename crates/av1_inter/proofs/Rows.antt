@@ -1,7 +1,7 @@
 -- Rows of a reference, and rows that are painted.
-use Rattle.std.proofs.Common.{ℕ, ◌+◌, ◌-◌, ◌%◌, ◌≢◌, ◌<◌, ◌≤◌, ◌≡◌, ◌∙◌, ap, sym, arith, List, length, map, get_or, slice_index, ℤ, pos, negsuc, ◌+ℤ◌, ◌≤ℤ◌, unsigned_abs, inl, inr}
+use Rattle.std.proofs.Common.{◌++◌, take, drop, ℕ, ◌+◌, ◌-◌, ◌%◌, ◌≢◌, ◌<◌, ◌≤◌, ◌≡◌, ◌∙◌, ap, sym, arith, List, length, map, get_or, slice_index, ℤ, pos, negsuc, ◌+ℤ◌, ◌≤ℤ◌, unsigned_abs, inl, inr}
 use Rattle.std.proofs.lemmas.Int.{ints}
-use Rattle.std.proofs.lemmas.List.{get_or-map}
+use Rattle.std.proofs.lemmas.List.{get_or-map, places}
 use Rattle.std.proofs.lemmas.Bool.{cases_lt, cases_eq}
 use Rattle.std.proofs.lemmas.Bool.Decides.{nat_tests}
 use Rattle.av1_frame.specs.declared.plane_slice.PlaneSlice.{PlaneSlice}
@@ -10,11 +10,10 @@ use Rattle.av1_frame.specs.Slices.{row_from, stored_column, IsStoredPlace}
 use Rattle.av1_frame.proofs.Slices.{row_from_sample}
 use Rattle.av1_frame.proofs.Update.{update_is, length-update, get_or-update}
 use Rattle.av1_frame.specs.Arithmetic.{clip, round_shift}
-use Rattle.av1_inter.specs.declared.filter.Filter.{Filter}
-use Rattle.av1_inter.specs.Motion.{entry, extra_bits, finer, finer_at}
+use Rattle.av1_inter.specs.Motion.{entry, intermediate_bits, intermediate, intermediate_at}
 use Rattle.av1_inter.specs.Places.{IsStoredFrom, samples_from}
-use Rattle.av1_inter.specs.Rows.{kept, Keeps}
-use Rattle.av1_inter.proofs.Sums.{finer_same}
+use Rattle.av1_inter.specs.Scaffolding.{kept, Keeps}
+use Rattle.av1_inter.proofs.Sums.{intermediate_same}
 
 -- two changes that agree on the first w samples of a row
 pub paint_row_same : {X : Type 0} (w : ℕ) (f g : ℕ → X → X) (s : List X) → ((c : ℕ) (v : X) → c < w → f c v ≡ g c v) → paint_row w f s ≡ paint_row w g s
@@ -24,6 +23,20 @@ paint_row_same w f g s e =
       | inl b ↦ (let t = e k (get_or s k d) b in grind (arith, nat_tests))
       | inr b ↦ grind (arith, nat_tests)
     ])
+
+-- a row whose first n samples are those of another from place m on
+copied_from : {X : Type 0} (m n : ℕ) (s source ys : List X) → n ≤ length s → n + m ≤ length source → ys ≡ take n (drop m source) → ys ++ drop n s ≡ paint_row n (λ c v. get_or source (c + m) v) s
+unfolding paint_row
+copied_from m n s source ys h l e =
+    ap (λ y. y ++ drop n s) e ∙ update_is _ s _ (grind (arith, places, length-update)) (λ k d q. elim (cases_lt k n) [
+      | inl b ↦ (let z : m + k ≡ k + m = omega arith in grind (arith, nat_tests, places, get_or-update, length-update))
+      | inr b ↦ grind (arith, nat_tests, places, get_or-update, length-update)
+    ])
+
+pub copied_front : {X : Type 0} (n : ℕ) (s source ys : List X) → n ≤ length s → n + 3 ≤ length source → ys ≡ take (3 + n - 3) (drop 3 source) → ys ++ drop n s ≡ paint_row n (λ c v. get_or source (c + 3) v) s
+copied_front n s source ys h l e =
+    let m : 3 + n - 3 ≡ n = omega arith in
+    copied_from 3 n s source ys h l (e ∙ ap (λ k. take k (drop 3 source)) m)
 
 module _ {T : Type 0} (num : T → ℕ) (place : PlaneSlice T) (columns rows : ℕ) (stored : IsStoredFrom place columns rows) where
   abs_pos : (z : ℤ) (n m : ℕ) → pos 0 ≤ℤ z → (z +ℤ pos n) ≤ℤ pos m → unsigned_abs z + n ≤ m
@@ -50,14 +63,14 @@ module _ {T : Type 0} (num : T → ℕ) (place : PlaneSlice T) (columns rows : �
   pub row_long : columns ≤ place.plane.now.plane_cfg.stride - stored_column place.plane.now.plane_cfg place.x
   row_long = let r = abs_pos num place columns rows stored (pos place.plane.now.plane_cfg.xorigin +ℤ place.x) columns place.plane.now.plane_cfg.stride stored.left stored.right in omega (arith, r)
 
-  -- a row in the finer bits, read as a row
-  pub finer_of_row : (depth : ℕ) (across : Filter) (row : List T) (y q : ℕ) → row ≡ row_from place.plane.now place.x (place.y +ℤ pos y) → y < rows → q + 7 < columns → finer_at depth across.fraction across.taps (slice_index (map num row)) q ≡ finer depth across (samples_from num place) y q
-  finer_of_row depth across row y q e h k = finer_same depth across.fraction across.taps _ _ q (λ t l. row_sample num place columns rows stored row (q + t) y e h (omega arith))
+  -- a row in the intermediate bits, read as a row
+  pub intermediate_of_row : (depth fx : ℕ) (across : List ℤ) (row : List T) (y q : ℕ) → row ≡ row_from place.plane.now place.x (place.y +ℤ pos y) → y < rows → q + 7 < columns → intermediate_at depth fx across (slice_index (map num row)) q ≡ intermediate depth fx across (samples_from num place) y q
+  intermediate_of_row depth fx across row y q e h k = intermediate_same depth fx across _ _ q q (λ t l. row_sample num place columns rows stored row (q + t) y e h (omega arith))
 
   -- a row of a block that is written as such values, rounded and clipped
-  pub put_finer : {X : Type 0} (pixel : ℕ → X) (depth n w y : ℕ) (across : Filter) (row : List T) (values : List ℤ) (old new : List X) → n ≡ extra_bits depth → row ≡ row_from place.plane.now place.x (place.y +ℤ pos y) → y < rows → w + 7 ≤ columns → ((q : ℕ) → q < w → entry values q ≡ finer_at depth across.fraction across.taps (slice_index (map num row)) q) → new ≡ paint_row w (λ c _. pixel (clip depth (round_shift (entry values c) n))) old → new ≡ paint_row w (λ c _. pixel (clip depth (round_shift (finer depth across (samples_from num place) y c) (extra_bits depth)))) old
-  put_finer pixel depth n w y across row values old new b e h k v p =
-      p ∙ paint_row_same w _ _ old (λ q x l. ap (λ m. pixel (clip depth (round_shift (entry values q) m))) b ∙ ap (λ z. pixel (clip depth (round_shift z (extra_bits depth)))) (v q l ∙ finer_of_row depth across row y q e h (omega arith)))
+  pub put_intermediate : {X : Type 0} (pixel : ℕ → X) (depth n w y fx : ℕ) (across : List ℤ) (row : List T) (values : List ℤ) (old new : List X) → n ≡ intermediate_bits depth → row ≡ row_from place.plane.now place.x (place.y +ℤ pos y) → y < rows → w + 7 ≤ columns → ((q : ℕ) → q < w → entry values q ≡ intermediate_at depth fx across (slice_index (map num row)) q) → new ≡ paint_row w (λ c _. pixel (clip depth (round_shift (entry values c) n))) old → new ≡ paint_row w (λ c _. pixel (clip depth (round_shift (intermediate depth fx across (samples_from num place) y c) (intermediate_bits depth)))) old
+  put_intermediate pixel depth n w y fx across row values old new b e h k v p =
+      p ∙ paint_row_same w _ _ old (λ q x l. ap (λ m. pixel (clip depth (round_shift (entry values q) m))) b ∙ ap (λ z. pixel (clip depth (round_shift z (intermediate_bits depth)))) (v q l ∙ intermediate_of_row depth fx across row y q e h (omega arith)))
 
 -- the same of sums that were formed by place
 pub put_sums : {X : Type 0} (pixel : ℕ → X) (depth n m w : ℕ) (values : List ℤ) (f : ℕ → ℤ) (old new : List X) → n ≡ m → ((q : ℕ) → q < w → entry values q ≡ f q) → new ≡ paint_row w (λ c _. pixel (clip depth (round_shift (entry values c) n))) old → new ≡ paint_row w (λ c _. pixel (clip depth (round_shift (f c) m))) old

@@ -1,22 +1,12 @@
 -- Sums of weighted values, as the machine forms them, and how great they are.
-use Rattle.std.proofs.Common.{ℕ, zero, suc, ◌+◌, ◌-◌, ◌*◌, ◌%◌, ◌^◌, ◌<◌, ◌≤◌, ◌≡◌, ◌∙◌, ap, refl, arith, ℤ, pos, negsuc, ◌+ℤ◌, ◌-ℤ◌, ◌*ℤ◌, neg_ℤ, ◌≤ℤ◌, List, [], ◌∷◌, length, take, drop, w16, w32, to_z, of_z, FitsSigned}
+use Rattle.std.proofs.Common.{ℕ, zero, suc, ◌+◌, ◌-◌, ◌*◌, ◌%◌, ◌^◌, ◌<◌, ◌≤◌, ◌≡◌, ◌∙◌, ap, refl, arith, subst, sym, ℤ, pos, negsuc, ◌+ℤ◌, ◌-ℤ◌, ◌*ℤ◌, neg_ℤ, ◌≤ℤ◌, List, [], ◌∷◌, length, take, w16, w32, to_z, of_z, FitsSigned}
 use Rattle.std.proofs.lemmas.Int.{ints, to_z-of_z, to_z_pos}
-use Rattle.std.proofs.lemmas.List.{places}
 use Rattle.std.proofs.lemmas.Nat.{mul-le}
 use Rattle.std.proofs.Math.Nat.{mod-eq_of_lt}
 use Rattle.std.proofs.Math.Pow.{pow_mono}
-use Rattle.av1_inter.specs.Filters.{gains, losses, IsFilter}
 use Rattle.av1_frame.specs.Arithmetic.{round_shift}
-use Rattle.av1_inter.specs.Motion.{entry, extra_bits, finer_at, sum_to, weighted}
-use Rattle.av1_inter.specs.Rows.{IsWithin}
-
--- a sum and a product on the machine
-pub sum_is : (s t v : ℤ) → FitsSigned w32 s → FitsSigned w32 t → FitsSigned w32 v → FitsSigned w32 (t *ℤ v) → to_z w32 (of_z w32 s) +ℤ to_z w32 (of_z w32 (to_z w32 (of_z w32 t) *ℤ to_z w32 (of_z w32 v))) ≡ s +ℤ t *ℤ v
-sum_is s t v fs ft fv fp =
-    ap (λ z. z +ℤ to_z w32 (of_z w32 (to_z w32 (of_z w32 t) *ℤ to_z w32 (of_z w32 v)))) (to_z-of_z w32 s fs)
-    ∙ ap (λ z. s +ℤ to_z w32 (of_z w32 (z *ℤ to_z w32 (of_z w32 v)))) (to_z-of_z w32 t ft)
-    ∙ ap (λ z. s +ℤ to_z w32 (of_z w32 (t *ℤ z))) (to_z-of_z w32 v fv)
-    ∙ ap (λ z. s +ℤ z) (to_z-of_z w32 (t *ℤ v) fp)
+use Rattle.av1_inter.specs.Motion.{entry, intermediate_bits, intermediate_at, sum_to, weighted}
+use Rattle.av1_inter.specs.Scaffolding.{gains, losses, IsFilter, IsInner, IsWithin}
 
 -- a sample, shifted to the left
 pub shifted_is : (z : ℤ) (n b : ℕ) → z ≡ pos n → n < 2 ^ 16 → b ≤ 4 → to_z w32 (of_z w32 z * 2 ^ b % 4294967296) ≡ pos (n * 2 ^ b)
@@ -40,11 +30,11 @@ pub record Between (a b : ℕ) (z : ℤ) : Type 0 where
   pub high : z ≤ℤ pos b
 
 -- a weight's part of the positive ones, and of the negative ones
-abbrev gain : ℤ → ℕ
+abbrev pub gain : ℤ → ℕ
 gain (pos n) = n
 gain (negsuc n) = 0
 
-abbrev loss : ℤ → ℕ
+abbrev pub loss : ℤ → ℕ
 loss (pos n) = 0
 loss (negsuc n) = suc n
 
@@ -62,14 +52,14 @@ product_between (negsuc n) (negsuc m) a b h =
     let k : suc n * suc m ≤ suc n * a = mul-le (suc n) (suc m) (suc n) a (omega arith) (omega (arith, ints, h.low)) in
     record { low = omega (arith, ints, k); high = omega (arith, ints, k) }
 
-gains_more : (taps : List ℤ) (k : ℕ) → k < length taps → gains (take (suc k) taps) ≡ gains (take k taps) + gain (entry taps k)
+pub gains_more : (taps : List ℤ) (k : ℕ) → k < length taps → gains (take (suc k) taps) ≡ gains (take k taps) + gain (entry taps k)
 gains_more [] k h = absurd (omega arith)
 gains_more (pos n ∷ xs) zero h = omega arith
 gains_more (negsuc n ∷ xs) zero h = refl
 gains_more (pos n ∷ xs) (suc k) h = let e = gains_more xs k (omega arith) in omega (arith, e)
 gains_more (negsuc n ∷ xs) (suc k) h = gains_more xs k (omega arith)
 
-losses_more : (taps : List ℤ) (k : ℕ) → k < length taps → losses (take (suc k) taps) ≡ losses (take k taps) + loss (entry taps k)
+pub losses_more : (taps : List ℤ) (k : ℕ) → k < length taps → losses (take (suc k) taps) ≡ losses (take k taps) + loss (entry taps k)
 losses_more [] k h = absurd (omega arith)
 losses_more (pos n ∷ xs) zero h = refl
 losses_more (negsuc n ∷ xs) zero h = omega arith
@@ -134,6 +124,19 @@ product_small taps t v f h w =
     let l : loss (entry taps t) ≤ 56 = omega (arith, less, losses_part taps (suc t), f.losses) in
     fits_of _ (omega (arith, ints, p.low, p.high, g, l)) (omega (arith, ints, p.low, p.high, g, l))
 
+-- a product as the machine forms it
+pub product_of : (taps : List ℤ) (t : ℕ) (v : ℤ) → FitsSigned w32 (entry taps t) → IsWithin (2 ^ 22) v → to_z w32 (of_z w32 (entry taps t)) *ℤ to_z w32 (of_z w32 v) ≡ entry taps t *ℤ v
+product_of taps t v f w =
+    ap (λ z. z *ℤ to_z w32 (of_z w32 v)) (to_z-of_z w32 _ f) ∙ ap (λ z. entry taps t *ℤ z) (to_z-of_z w32 v (fits_of v (omega (arith, ints, w.low)) (omega (arith, ints, w.high))))
+
+pub product_fits : (taps : List ℤ) (t : ℕ) (v : ℤ) → IsFilter taps → t < 8 → FitsSigned w32 (entry taps t) → IsWithin (2 ^ 22) v → FitsSigned w32 (to_z w32 (of_z w32 (entry taps t)) *ℤ to_z w32 (of_z w32 v))
+product_fits taps t v f h e w =
+    let P : ℤ → Type 0 = λ z. FitsSigned w32 z in
+    subst P (sym (product_of taps t v e w)) (product_small taps t v f h w)
+
+pub product_stored : (taps : List ℤ) (t : ℕ) (v : ℤ) → IsFilter taps → t < 8 → FitsSigned w32 (entry taps t) → IsWithin (2 ^ 22) v → to_z w32 (of_z w32 (to_z w32 (of_z w32 (entry taps t)) *ℤ to_z w32 (of_z w32 v))) ≡ entry taps t *ℤ v
+product_stored taps t v f h e w = to_z-of_z w32 _ (product_fits taps t v f h e w) ∙ product_of taps t v e w
+
 -- the term after those of a sum
 pub next_fits : (taps : List ℤ) (value : ℕ → ℤ) (t : ℕ) (s p : ℤ) → IsFilter taps → t < 8 → ((i : ℕ) → i < 8 → IsWithin (2 ^ 22) (value i)) → s ≡ sum_to t (λ i. entry taps i *ℤ value i) → p ≡ entry taps t *ℤ value t → FitsSigned w32 (s +ℤ p)
 unfolding sum_to
@@ -151,6 +154,24 @@ pub sum_none : (term : ℕ → ℤ) → sum_to 0 term ≡ pos 0
 unfolding sum_to
 sum_none term = refl
 
+times_none : (v : ℤ) → pos 0 *ℤ v ≡ pos 0
+times_none (pos n) = omega (arith, ints)
+times_none (negsuc n) = omega (arith, ints)
+
+last_none : (s p : ℤ) → p ≡ pos 0 → s ≡ s +ℤ p
+last_none s p e = omega (arith, ints, e)
+
+-- the first and the last term of a sum by weights of which they are 0
+pub sum_first : (taps : List ℤ) (value : ℕ → ℤ) → IsInner taps → sum_to 1 (λ t. entry taps t *ℤ value t) ≡ pos 0
+unfolding sum_to
+sum_first taps value h = ap (λ z. pos 0 +ℤ z *ℤ value 0) h.first ∙ ap (λ z. pos 0 +ℤ z) (times_none (value 0))
+
+pub sum_last : (taps : List ℤ) (value : ℕ → ℤ) → IsInner taps → (z : ℤ) → z ≡ sum_to 7 (λ t. entry taps t *ℤ value t) → z ≡ weighted taps value
+unfolding sum_to
+sum_last taps value h z e =
+    let n : entry taps 7 *ℤ value 7 ≡ pos 0 = ap (λ u. u *ℤ value 7) h.last ∙ times_none (value 7) in
+    e ∙ last_none _ _ n
+
 -- terms that agree
 pub sum_same : (n : ℕ) (f g : ℕ → ℤ) → ((t : ℕ) → t < n → f t ≡ g t) → sum_to n f ≡ sum_to n g
 unfolding sum_to
@@ -161,10 +182,6 @@ pub weighted_same : (taps : List ℤ) (f g : ℕ → ℤ) → ((t : ℕ) → t <
 weighted_same taps f g h = sum_same 8 _ _ (λ t l. ap (λ u. entry taps t *ℤ u) (h t l))
 
 -- column c of a row depends on eight samples
-pub finer_same : (depth fraction : ℕ) (taps : List ℤ) (f g : ℕ → ℕ) (c : ℕ) → ((t : ℕ) → t < 8 → f (c + t) ≡ g (c + t)) → finer_at depth fraction taps f c ≡ finer_at depth fraction taps g c
-finer_same depth zero taps f g c h = ap (λ n. pos (n * 2 ^ extra_bits depth)) (h 3 (omega arith))
-finer_same depth (suc k) taps f g c h = ap (λ z. round_shift z (7 - extra_bits depth)) (weighted_same taps _ _ (λ t l. ap pos (h t l)))
-
--- the rest of a line, from t on
-pub line_from : (s : List ℤ) (t c : ℕ) → c + t < length s → entry (take (length s - t) (drop t s)) c ≡ entry s (c + t)
-line_from s t c h = let e : t + c ≡ c + t = omega arith in grind (arith, places, e)
+pub intermediate_same : (depth fraction : ℕ) (taps : List ℤ) (f g : ℕ → ℕ) (c d : ℕ) → ((t : ℕ) → t < 8 → f (c + t) ≡ g (d + t)) → intermediate_at depth fraction taps f c ≡ intermediate_at depth fraction taps g d
+intermediate_same depth zero taps f g c d h = ap (λ n. pos (n * 2 ^ intermediate_bits depth)) (h 3 (omega arith))
+intermediate_same depth (suc k) taps f g c d h = ap (λ z. round_shift z (7 - intermediate_bits depth)) (weighted_same taps _ _ (λ t l. ap pos (h t l)))

@@ -1,13 +1,13 @@
 -- The weights of every filter are in bounds, by computing over the table.
-use Rattle.std.proofs.Common.{ℕ, zero, suc, ◌<◌, ◌≤◌, ◌≡◌, ◌∙◌, ap, refl, sym, arith, Bool, true, ◌&&◌, nat_eq, nat_le, List, [], length, slice_index_or, inl, inr, subst, ℤ, pos, negsuc, ◌≤ℤ◌, ◌<ℤ◌, unsigned_abs, w32, to_z, of_z, FitsSigned}
+use Rattle.std.proofs.Common.{ℕ, zero, suc, ◌+◌, ◌<◌, ◌≤◌, ◌≡◌, ◌∙◌, ap, refl, sym, arith, Bool, true, ◌&&◌, nat_eq, nat_le, List, [], length, slice_index_or, inl, inr, subst, ℤ, pos, negsuc, ◌≤ℤ◌, ◌<ℤ◌, unsigned_abs, w32, to_z, of_z, FitsSigned}
 use Rattle.std.proofs.lemmas.Bool.{cases_lt, cases_eq}
 use Rattle.std.proofs.lemmas.Bool.Decides.{nat_tests}
 use Rattle.std.proofs.lemmas.Int.{ints, to_z-of_z}
 use Rattle.av1_blocks.specs.declared.mc.FilterMode.{FilterMode}
 use Rattle.av1_blocks.specs.declared.mc.FilterMode.TheVariants.{REGULAR, SMOOTH, SHARP, BILINEAR, SWITCHABLE}
 use Rattle.av1_blocks.specs.Filters.{filter_number, subpel_filters}
-use Rattle.av1_inter.specs.declared.filter.Filter.{Filter}
-use Rattle.av1_inter.specs.Filters.{family, filter_of, gains, IsFilter, losses, short_family}
+use Rattle.av1_inter.specs.Filters.{family, filter_of, short_family}
+use Rattle.av1_inter.specs.Scaffolding.{gains, IsFilter, losses}
 
 -- p holds of each number below n
 abbrev all_below : ℕ → (ℕ → Bool) → Bool
@@ -30,7 +30,7 @@ abbrev row_at : ℕ → ℕ → List ℤ
 row_at k f = slice_index_or (slice_index_or subpel_filters k []) f []
 
 abbrev is_filter : List ℤ → Bool
-is_filter taps = nat_eq (length taps) 8 && (nat_le (gains taps) 184 && nat_le (losses taps) 56)
+is_filter taps = nat_eq (length taps) 8 && (nat_eq (gains taps) (128 + losses taps) && (nat_le (gains taps) 184 && nat_le (losses taps) 56))
 
 all_filters : all_below 6 (λ k. all_below 16 (λ f. is_filter (row_at k f))) ≡ true
 all_filters = refl
@@ -44,9 +44,10 @@ at_most_is m n e = grind (arith, nat_tests)
 row_is_filter : (k f : ℕ) → k < 6 → f < 16 → IsFilter (row_at k f)
 row_is_filter k f h l =
     let e = below_is 16 (λ i. is_filter (row_at k i)) f (below_is 6 (λ j. all_below 16 (λ i. is_filter (row_at j i))) k all_filters h) l in
-    let b = both_true (nat_eq (length (row_at k f)) 8) (nat_le (gains (row_at k f)) 184 && nat_le (losses (row_at k f)) 56) e in
-    let d = both_true (nat_le (gains (row_at k f)) 184) (nat_le (losses (row_at k f)) 56) b.1 in
-    record { size = equal_is _ _ b.0; gains = at_most_is _ _ d.0; losses = at_most_is _ _ d.1 }
+    let b = both_true (nat_eq (length (row_at k f)) 8) (nat_eq (gains (row_at k f)) (128 + losses (row_at k f)) && (nat_le (gains (row_at k f)) 184 && nat_le (losses (row_at k f)) 56)) e in
+    let d = both_true (nat_eq (gains (row_at k f)) (128 + losses (row_at k f))) (nat_le (gains (row_at k f)) 184 && nat_le (losses (row_at k f)) 56) b.1 in
+    let m = both_true (nat_le (gains (row_at k f)) 184) (nat_le (losses (row_at k f)) 56) d.1 in
+    record { size = equal_is _ _ b.0; whole = equal_is _ _ d.0; gains = at_most_is _ _ m.0; losses = at_most_is _ _ m.1 }
 
 number_small : (mode : FilterMode) → filter_number mode < 6
 number_small REGULAR = omega arith
@@ -69,16 +70,19 @@ family_small mode side =
     elim (cases_lt 4 side) [ inl h ↦ grind (arith, nat_tests) | inr h ↦ grind (arith, nat_tests) ]
 
 -- the filter of each mode at each fraction
-pub filter_of_is_filter : (mode : FilterMode) (fraction side : ℕ) → fraction < 16 → IsFilter (filter_of mode fraction side).taps
+pub filter_of_is_filter : (mode : FilterMode) (fraction side : ℕ) → fraction < 16 → IsFilter (filter_of mode fraction side)
 filter_of_is_filter mode fraction side h = row_is_filter (family mode side) fraction (family_small mode side) h
 
--- the filter that was made for a machine's fraction
-pub made_is : (mode : FilterMode) (z : ℤ) (side : ℕ) (f : Filter) → FitsSigned w32 z → f ≡ filter_of mode (unsigned_abs (to_z w32 (of_z w32 z))) side → f ≡ filter_of mode (unsigned_abs z) side
-made_is mode z side f h e = e ∙ ap (λ y. filter_of mode (unsigned_abs y) side) (to_z-of_z w32 z h)
+-- the fraction and the weights that were made for a machine's number
+pub fraction_made : (z : ℤ) (n : ℕ) → FitsSigned w32 z → n ≡ unsigned_abs (to_z w32 (of_z w32 z)) → n ≡ unsigned_abs z
+fraction_made z n h e = e ∙ ap unsigned_abs (to_z-of_z w32 z h)
+
+pub taps_made : (mode : FilterMode) (z : ℤ) (side : ℕ) (taps : List ℤ) → FitsSigned w32 z → taps ≡ filter_of mode (unsigned_abs (to_z w32 (of_z w32 z))) side → taps ≡ filter_of mode (unsigned_abs z) side
+taps_made mode z side taps h e = e ∙ ap (λ y. filter_of mode (unsigned_abs y) side) (to_z-of_z w32 z h)
 
 fraction_small : (z : ℤ) → pos 0 ≤ℤ z → z <ℤ pos 16 → unsigned_abs z < 16
 fraction_small (pos n) l h = omega (arith, ints)
 fraction_small (negsuc n) l h = absurd (omega (arith, ints))
 
-pub made_is_filter : (mode : FilterMode) (z : ℤ) (side : ℕ) (f : Filter) → FitsSigned w32 z → (pos 0 ≤ℤ z) × (z <ℤ pos 16) → f ≡ filter_of mode (unsigned_abs (to_z w32 (of_z w32 z))) side → IsFilter f.taps
-made_is_filter mode z side f h r e = subst (λ (u : Filter). IsFilter u.taps) (sym (made_is mode z side f h e)) (filter_of_is_filter mode (unsigned_abs z) side (fraction_small z r.0 r.1))
+pub made_is_filter : (mode : FilterMode) (z : ℤ) (side : ℕ) (taps : List ℤ) → FitsSigned w32 z → (pos 0 ≤ℤ z) × (z <ℤ pos 16) → taps ≡ filter_of mode (unsigned_abs (to_z w32 (of_z w32 z))) side → IsFilter taps
+made_is_filter mode z side taps h r e = subst IsFilter (sym (taps_made mode z side taps h e)) (filter_of_is_filter mode (unsigned_abs z) side (fraction_small z r.0 r.1))

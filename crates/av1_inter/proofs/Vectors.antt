@@ -1,21 +1,19 @@
 -- Where a vector leads, and what stands there.
-use Rattle.std.proofs.Common.{ℕ, zero, suc, ◌+◌, ◌-◌, ◌^◌, ◌<◌, ◌≤◌, ◌≡◌, ◌∙◌, ap, sym, subst, arith, ℤ, pos, negsuc, ◌+ℤ◌, ◌-ℤ◌, ◌≤ℤ◌, ◌<ℤ◌, neg_ℤ, FitsSigned, w16, w32, w64, to_z, of_z, unsigned_abs}
+use Rattle.std.proofs.Common.{ℕ, ◌+◌, ◌^◌, ◌<◌, ◌≤◌, ◌≡◌, ◌∙◌, ap, sym, subst, arith, ℤ, pos, negsuc, ◌+ℤ◌, ◌-ℤ◌, ◌≤ℤ◌, ◌<ℤ◌, neg_ℤ, FitsSigned, w16, w32, w64, to_z, of_z, unsigned_abs}
 use Rattle.std.specs.Int.{int_min, int_max, saturate_signed}
 use Rattle.std.proofs.lemmas.Int.{ints, clamps, to_z-of_z}
 use Rattle.av1_blocks.specs.declared.mc.MotionVector.{MotionVector}
-use Rattle.av1_frame.specs.Arithmetic.{clip, round_shift}
 use Rattle.av1_frame.specs.declared.plane.Plane.{Plane}
 use Rattle.av1_frame.specs.Planes.{IsWhole, padded, sample_at}
 use Rattle.av1_frame.proofs.Slices.{padded_sample, padded_whole}
 use Rattle.av1_frame.specs.declared.plane_slice.PlaneSlice.{PlaneSlice}
 use Rattle.av1_frame.specs.Slices.{IsStoredPlace, nearest_visible, within_pads}
-use Rattle.av1_inter.specs.declared.filter.Filter.{Filter}
-use Rattle.av1_inter.specs.Motion.{bias, extra_bits, prepared, single, single_at, unbiased_at}
+use Rattle.av1_inter.specs.Motion.{prepared, single}
 use Rattle.av1_inter.specs.Places.{corner_of, IsStoredFrom, samples_from}
 use Rattle.av1_blocks.specs.declared.mc.FilterMode.{FilterMode}
 use Rattle.av1_inter.specs.Filters.{filter_of}
 use Rattle.av1_inter.specs.Reference.{IsPadded, IsReference, moved, nearest_sample, sixteenths, whole_part}
-use Rattle.av1_inter.proofs.Sums.{finer_same, weighted_same}
+use Rattle.av1_inter.proofs.Strips.{prepared_moved, single_moved}
 
 -- a place that is no number of the machine lies past the pads, as the nearest such number does
 saturated_pads : (z : ℤ) (pad side : ℕ) → pad < 2 ^ 63 → side < 2 ^ 63 → within_pads (saturate_signed w64 z) pad side ≡ within_pads z pad side
@@ -42,25 +40,6 @@ pads_low z pad side = omega (arith, ints, clamps)
 
 pads_high : (z : ℤ) (pad side : ℕ) → within_pads z pad side ≤ℤ pos side
 pads_high z pad side = omega (arith, ints, clamps)
-
--- blocks whose samples agree
-module _ (depth : ℕ) (across down : Filter) (s t : ℕ → ℕ → ℕ) (w h r c : ℕ) (in_rows : r < h) (in_columns : c < w) (same : (x y : ℕ) → x < w + 7 → y < h + 7 → s x y ≡ t x y) where
-  single_at_same : (fx fy : ℕ) → single_at depth fx fy across down s r c ≡ single_at depth fx fy across down t r c
-  single_at_same zero zero = same (c + 3) (r + 3) (omega arith) (omega arith)
-  single_at_same zero (suc k) = ap (λ z. clip depth (round_shift z 7)) (weighted_same down.taps _ _ (λ i l. ap pos (same (c + 3) (r + i) (omega arith) (omega arith))))
-  single_at_same (suc j) zero = ap (λ z. clip depth (round_shift z (extra_bits depth))) (finer_same depth across.fraction across.taps _ _ c (λ i l. same (c + i) (r + 3) (omega arith) (omega arith)))
-  single_at_same (suc j) (suc k) = ap (λ z. clip depth (round_shift z (7 + extra_bits depth))) (weighted_same down.taps _ _ (λ i l. finer_same depth across.fraction across.taps _ _ c (λ m n. same (c + m) (r + i) (omega arith) (omega arith))))
-
-  pub single_same : single depth across down s r c ≡ single depth across down t r c
-  single_same = single_at_same across.fraction down.fraction
-
-  unbiased_at_same : (fx fy : ℕ) → unbiased_at depth fx fy across down s r c ≡ unbiased_at depth fx fy across down t r c
-  unbiased_at_same fx zero = finer_same depth across.fraction across.taps _ _ c (λ i l. same (c + i) (r + 3) (omega arith) (omega arith))
-  unbiased_at_same zero (suc k) = ap (λ z. round_shift z (7 - extra_bits depth)) (weighted_same down.taps _ _ (λ i l. ap pos (same (c + 3) (r + i) (omega arith) (omega arith))))
-  unbiased_at_same (suc j) (suc k) = ap (λ z. round_shift z 7) (weighted_same down.taps _ _ (λ i l. finer_same depth across.fraction across.taps _ _ c (λ m n. same (c + m) (r + i) (omega arith) (omega arith))))
-
-  pub prepared_same : prepared depth across down s r c ≡ prepared depth across down t r c
-  prepared_same = ap (λ z. z -ℤ bias depth) (unbiased_at_same across.fraction down.fraction)
 
 -- fewer columns and rows
 pub fewer : {T : Type 0} (place : PlaneSlice T) (m n w h : ℕ) → w ≤ m → h ≤ n → IsStoredFrom place m n → IsStoredFrom place w h
@@ -132,15 +111,15 @@ pub fraction_is : (r m : ℤ) (d e : ℕ) → FitsSigned w32 r → FitsSigned w1
 fraction_is r m d e fr fm s h =
     ap unsigned_abs (to_z-of_z w32 r fr ∙ h) ∙ ap (λ z. sixteenths z d) (to_z-of_z w16 m fm) ∙ ap (λ n. sixteenths m n) s
 
-pub single_is : (depth : ℕ) (mode : FilterMode) (w h fx gx fy gy : ℕ) (s t : ℕ → ℕ → ℕ) → fx ≡ gx → fy ≡ gy → ((x y : ℕ) → x < w + 7 → y < h + 7 → s x y ≡ t x y) → (r c : ℕ) → r < h → c < w → single depth (filter_of mode fx w) (filter_of mode fy h) s r c ≡ single depth (filter_of mode gx w) (filter_of mode gy h) t r c
+pub single_is : (depth : ℕ) (mode : FilterMode) (w h fx gx fy gy : ℕ) (s t : ℕ → ℕ → ℕ) → fx ≡ gx → fy ≡ gy → ((x y : ℕ) → x < w + 7 → y < h + 7 → s x y ≡ t x y) → (r c : ℕ) → r < h → c < w → single depth fx fy (filter_of mode fx w) (filter_of mode fy h) s r c ≡ single depth gx gy (filter_of mode gx w) (filter_of mode gy h) t r c
 single_is depth mode w h fx gx fy gy s t ex ey same r c in_rows in_columns =
-    ap (λ n. single depth (filter_of mode n w) (filter_of mode fy h) s r c) ex ∙ ap (λ n. single depth (filter_of mode gx w) (filter_of mode n h) s r c) ey
-    ∙ single_same depth (filter_of mode gx w) (filter_of mode gy h) s t w h r c in_rows in_columns same
+    ap (λ n. single depth n fy (filter_of mode n w) (filter_of mode fy h) s r c) ex ∙ ap (λ n. single depth gx n (filter_of mode gx w) (filter_of mode n h) s r c) ey
+    ∙ single_moved depth (filter_of mode gx w) (filter_of mode gy h) s t r c c (λ x y a b. same (c + x) (r + y) (omega arith) (omega arith)) gx gy
 
-pub prepared_is : (depth : ℕ) (mode : FilterMode) (w h fx gx fy gy : ℕ) (s t : ℕ → ℕ → ℕ) → fx ≡ gx → fy ≡ gy → ((x y : ℕ) → x < w + 7 → y < h + 7 → s x y ≡ t x y) → (r c : ℕ) → r < h → c < w → prepared depth (filter_of mode fx w) (filter_of mode fy h) s r c ≡ prepared depth (filter_of mode gx w) (filter_of mode gy h) t r c
+pub prepared_is : (depth : ℕ) (mode : FilterMode) (w h fx gx fy gy : ℕ) (s t : ℕ → ℕ → ℕ) → fx ≡ gx → fy ≡ gy → ((x y : ℕ) → x < w + 7 → y < h + 7 → s x y ≡ t x y) → (r c : ℕ) → r < h → c < w → prepared depth fx fy (filter_of mode fx w) (filter_of mode fy h) s r c ≡ prepared depth gx gy (filter_of mode gx w) (filter_of mode gy h) t r c
 prepared_is depth mode w h fx gx fy gy s t ex ey same r c in_rows in_columns =
-    ap (λ n. prepared depth (filter_of mode n w) (filter_of mode fy h) s r c) ex ∙ ap (λ n. prepared depth (filter_of mode gx w) (filter_of mode n h) s r c) ey
-    ∙ prepared_same depth (filter_of mode gx w) (filter_of mode gy h) s t w h r c in_rows in_columns same
+    ap (λ n. prepared depth n fy (filter_of mode n w) (filter_of mode fy h) s r c) ex ∙ ap (λ n. prepared depth gx n (filter_of mode gx w) (filter_of mode n h) s r c) ey
+    ∙ prepared_moved depth (filter_of mode gx w) (filter_of mode gy h) s t r c c (λ x y a b. same (c + x) (r + y) (omega arith) (omega arith)) gx gy
 
 visible_below : (n : ℕ) (z : ℤ) → 0 < n → nearest_visible n z < n
 visible_below n (pos i) h = omega arith

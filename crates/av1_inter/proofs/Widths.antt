@@ -6,7 +6,7 @@ use Rattle.std.proofs.lemmas.Bool.{cases_eq}
 use Rattle.std.proofs.lemmas.Bool.Decides.{nat_tests}
 use Rattle.std.proofs.lemmas.Int.{ints}
 use Rattle.av1_inter.specs.Motion.{bias}
-use Rattle.av1_inter.specs.Rows.{IsWithin}
+use Rattle.av1_inter.specs.Scaffolding.{IsWithin}
 
 -- what lies within a depth fits samples of as many bits
 pub below_depth : (v d b : ℕ) → v < 2 ^ d → d ≤ b → v < 2 ^ b

@@ -1,5 +1,7 @@
 pub mod Filters
 pub mod Motion
-pub mod Rows
 pub mod Places
 pub mod Reference
+pub mod Prediction
+pub mod Laws
+pub mod Scaffolding

@@ -22,13 +22,58 @@ whole_part component decimation = int_shr component (3 + decimation)
 abbrev pub sixteenths : ℤ → (decimation : ℕ) → ℕ
 sixteenths component decimation = unsigned_abs (int_rem_euclid (component *ℤ pos (2 ^ (1 - decimation))) (pos 16))
 
+-- What is seen of a reference: the sides of its visible plane, how the plane is halved, and the sample at each column and row.
+pub record ReferencePlane : Type 0 where
+  pub width : ℕ
+  pub height : ℕ
+  pub xdec : ℕ
+  pub ydec : ℕ
+  pub sample : ℕ → ℕ → ℕ
+
 -- the visible sample that is nearest to column x and row y
-abbrev pub nearest_sample : {T : Type 0} → (T → ℕ) → Plane T → (x y : ℤ) → ℕ
-nearest_sample num plane x y = sample_at num plane (nearest_visible plane.plane_cfg.width x) (nearest_visible plane.plane_cfg.height y)
+abbrev pub nearest_in : ReferencePlane → (x y : ℤ) → ℕ
+nearest_in reference x y = reference.sample (nearest_visible reference.width x) (nearest_visible reference.height y)
 
 -- the samples round a block at column x and row y that a vector moves, counted from 3 columns left of and 3 rows above its first one
+abbrev pub moved_in : ReferencePlane → (x y : ℤ) → MotionVector → (c r : ℕ) → ℕ
+moved_in reference x y mv c r = nearest_in reference (x +ℤ (whole_part mv.col reference.xdec -ℤ pos 3) +ℤ pos c) (y +ℤ (whole_part mv.row reference.ydec -ℤ pos 3) +ℤ pos r)
+
+-- the sample at row r and column c of a block of these sides at column x and row y that is predicted from one reference
+abbrev pub single_in : (depth : ℕ) → FilterMode → ReferencePlane → (x y : ℤ) → MotionVector → (width height : ℕ) → (r c : ℕ) → ℕ
+single_in depth mode reference x y mv width height =
+    let fx = sixteenths mv.col reference.xdec in
+    let fy = sixteenths mv.row reference.ydec in
+    single depth fx fy (filter_of mode fx width) (filter_of mode fy height) (moved_in reference x y mv)
+
+-- and what is prepared there of one of two
+abbrev pub prepared_in : (depth : ℕ) → FilterMode → ReferencePlane → (x y : ℤ) → MotionVector → (width height : ℕ) → (r c : ℕ) → ℤ
+prepared_in depth mode reference x y mv width height =
+    let fx = sixteenths mv.col reference.xdec in
+    let fy = sixteenths mv.row reference.ydec in
+    prepared depth fx fy (filter_of mode fx width) (filter_of mode fy height) (moved_in reference x y mv)
+
+-- what is seen of a plane
+abbrev pub as_reference : {T : Type 0} → (T → ℕ) → Plane T → ReferencePlane
+as_reference num plane = record {
+  width = plane.plane_cfg.width;
+  height = plane.plane_cfg.height;
+  xdec = plane.plane_cfg.xdec;
+  ydec = plane.plane_cfg.ydec;
+  sample = sample_at num plane;
+}
+
+-- the same words of a plane
+abbrev pub nearest_sample : {T : Type 0} → (T → ℕ) → Plane T → (x y : ℤ) → ℕ
+nearest_sample num plane = nearest_in (as_reference num plane)
+
 abbrev pub moved : {T : Type 0} → (T → ℕ) → Plane T → (x y : ℤ) → MotionVector → (c r : ℕ) → ℕ
-moved num plane x y mv c r = nearest_sample num plane (x +ℤ (whole_part mv.col plane.plane_cfg.xdec -ℤ pos 3) +ℤ pos c) (y +ℤ (whole_part mv.row plane.plane_cfg.ydec -ℤ pos 3) +ℤ pos r)
+moved num plane = moved_in (as_reference num plane)
+
+abbrev pub moved_single : {T : Type 0} → (T → ℕ) → (depth : ℕ) → FilterMode → Plane T → (x y : ℤ) → MotionVector → (width height : ℕ) → (r c : ℕ) → ℕ
+moved_single num depth mode plane = single_in depth mode (as_reference num plane)
+
+abbrev pub moved_prepared : {T : Type 0} → (T → ℕ) → (depth : ℕ) → FilterMode → Plane T → (x y : ℤ) → MotionVector → (width height : ℕ) → (r c : ℕ) → ℤ
+moved_prepared num depth mode plane = prepared_in depth mode (as_reference num plane)
 
 -- a plane whose stored samples outside the visible ones are those of the nearest visible places
 pub record IsPadded {T : Type 0} (num : T → ℕ) (plane : Plane T) : Type 0 where
@@ -41,18 +86,6 @@ pub record IsReference {T : Type 0} (num : T → ℕ) (plane : Plane T) (depth w
   pub within : (x y : ℕ) → x < plane.plane_cfg.width → y < plane.plane_cfg.height → sample_at num plane x y < 2 ^ depth
   pub xpad : width + 7 ≤ plane.plane_cfg.xpad
   pub ypad : height + 7 ≤ plane.plane_cfg.ypad
-
--- the sample at row r and column c of a block of these sides that is predicted from one reference
-abbrev pub moved_single : {T : Type 0} → (T → ℕ) → (depth : ℕ) → FilterMode → Plane T → (x y : ℤ) → MotionVector → (width height : ℕ) → (r c : ℕ) → ℕ
-moved_single num depth mode plane x y mv width height =
-    let cfg = plane.plane_cfg in
-    single depth (filter_of mode (sixteenths mv.col cfg.xdec) width) (filter_of mode (sixteenths mv.row cfg.ydec) height) (moved num plane x y mv)
-
--- and what is prepared there of one of two
-abbrev pub moved_prepared : {T : Type 0} → (T → ℕ) → (depth : ℕ) → FilterMode → Plane T → (x y : ℤ) → MotionVector → (width height : ℕ) → (r c : ℕ) → ℤ
-moved_prepared num depth mode plane x y mv width height =
-    let cfg = plane.plane_cfg in
-    prepared depth (filter_of mode (sixteenths mv.col cfg.xdec) width) (filter_of mode (sixteenths mv.row cfg.ydec) height) (moved num plane x y mv)
 
 -- the slot of a reference
 abbrev pub slot_of : {T : Type 0} → FrameInvariants T → RefType → ℕ

@@ -8,7 +8,7 @@ ghost use Rattle.av1_frame.specs.Regions.{InStorage, painted};
 ghost use Rattle.av1_inter.specs.Motion.{averaged, entry};
 ghost use Rattle.av1_inter.specs.Places.{IsDepth};
 
-use crate::rounding::{extra_bits, prep_bias, sample_of};
+use crate::rounding::{intermediate_bits, prep_bias, sample_of};
 use av1_frame::{Pixel, PlaneRegionMut, round_shift};
 
 /// The sample of two prepared values.
@@ -18,7 +18,10 @@ fn average_of<T: Pixel>(first: i16, second: i16, bit_depth: usize) -> T
     ensures { result ≡ T.pixel (averaged bit_depth first second) }
 {
     let sum = i32::from(first) + i32::from(second) + 2 * prep_bias(bit_depth);
-    sample_of(round_shift(sum, extra_bits(bit_depth) + 1), bit_depth)
+    sample_of(
+        round_shift(sum, intermediate_bits(bit_depth) + 1),
+        bit_depth,
+    )
 }
 
 /// The first `width` samples of the row become the averages of the values from `start` on.

@@ -41,9 +41,11 @@ fn family(mode: FilterMode, length: usize) -> usize
 pub(crate) fn get_filter(mode: FilterMode, frac: i32, length: usize) -> Filter
     requires low { pos 0 ≤ℤ frac }
     requires high { frac <ℤ pos 16 }
-    ensures { result ≡ filter_of mode (unsigned_abs frac) length }
+    ensures fraction { result.fraction ≡ unsigned_abs frac }
+    ensures taps { result.taps ≡ filter_of mode (unsigned_abs frac) length }
 {
     let fraction = frac as usize;
-    let taps = SUBPEL_FILTERS[family(mode, length)][fraction];
+    let filters = &SUBPEL_FILTERS;
+    let taps = filters[family(mode, length)][fraction];
     Filter { fraction, taps }
 }

@@ -11,8 +11,13 @@
 //! - `prep_8tap` writes `prepared` of them row by row to the first entries of a buffer, and leaves the others.
 //! - `mc_avg` turns each sample of a block into `averaged` of two prepared values.
 //! - `predict_inter_single`, `predict_inter_compound` and `predict_inter` do the same over the planes in a frame's slots, moved by
-//!   vectors: `moved_single` and `moved_prepared` of `specs/Reference.antt`. The planes are padded, and whatever the vector, a place
-//!   outside reads the nearest visible sample. What an empty slot leaves is not said.
+//!   vectors: `PredictsSingle` and `PredictsCompound` of `specs/Prediction.antt`. The planes are padded, and whatever the vector, a place
+//!   outside reads the nearest visible sample. Where the slot of a single reference is empty nothing is written; what an empty slot gives
+//!   to a compound prediction is not said.
+//! - `constant_references_stay`, `prepared_values_fit` and `padded_planes_serve` are laws of these definitions.
+//!
+//! `specs/Reference.antt` defines motion over a function of places, `moved_in`, and `specs/Prediction.antt` the samples of a plane's whole
+//! area, `single_prediction` and `compound_prediction`: words that need no plane in storage.
 //!
 //! No intermediate value wraps, and every prepared value fits 16 bits. No call but `InterCompoundBuffers::new` allocates, and no other
 //! can fail. Sides and places are counted in samples, vectors in eighths of a luma sample, fractions in sixteenths of a sample. A filter
@@ -22,18 +27,21 @@
 mod average;
 mod buffers;
 mod filter;
+mod laws;
 mod lines;
 mod moved;
 mod predict;
 mod prepare;
 mod put;
 mod rounding;
+mod strip;
 #[cfg(test)]
 mod tests;
 mod window;
 
 pub use average::mc_avg;
 pub use buffers::InterCompoundBuffers;
+pub use laws::{constant_references_stay, padded_planes_serve, prepared_values_fit};
 pub use predict::{predict_inter, predict_inter_compound, predict_inter_single};
 pub use prepare::prep_8tap;
 pub use put::put_8tap;

@@ -2,14 +2,15 @@
 //!
 //! AV1 specification: inter prediction process, block inter prediction process.
 
-ghost use Rattle.std.specs.Prelude.{◌≡◌, ◌≢◌, ℕ, ◌+◌, ◌*◌, ◌^◌, ◌≤◌, ◌<◌, true, false, Some, pos, ◌+ℤ◌, length, FitsSigned};
+ghost use Rattle.std.specs.Prelude.{◌≡◌, ◌≢◌, ℕ, ◌+◌, ◌*◌, ◌^◌, ◌≤◌, ◌<◌, true, false, None, Some, pos, ◌+ℤ◌, length, FitsSigned};
 ghost use Rattle.std.specs.Int.{w64};
 ghost use Rattle.av1_frame.specs.Frames.{slot_plane};
-ghost use Rattle.av1_frame.specs.Regions.{InStorage, painted};
+ghost use Rattle.av1_frame.specs.Regions.{InStorage};
 ghost use Rattle.av1_blocks.specs.Modes.{is_intra};
-ghost use Rattle.av1_inter.specs.Motion.{averaged, entry};
+ghost use Rattle.av1_inter.specs.Motion.{entry};
 ghost use Rattle.av1_inter.specs.Places.{IsDepth};
-ghost use Rattle.av1_inter.specs.Reference.{is_reference, IsServed, moved_prepared, moved_single, reference_of, slot_of, vector_of};
+ghost use Rattle.av1_inter.specs.Prediction.{PredictsCompound, PredictsSingle};
+ghost use Rattle.av1_inter.specs.Reference.{is_reference, IsServed, moved_prepared, reference_of, slot_of, vector_of};
 
 use crate::average::mc_avg;
 use crate::buffers::InterCompoundBuffers;
@@ -63,8 +64,8 @@ pub fn predict_inter_single<T: Pixel>(
     requires depth { IsDepth fi.now.bit_depth }
     requires depth_fits { fi.now.bit_depth ≤ T.BITS }
     requires reference { IsServed T.num fi.now ref_frame p width height }
-    ensures painted { (plane : _) → slot_plane fi.now (slot_of fi.now ref_frame) p ≡ Some plane → dst.new ≡ painted dst.old width height
-        (λ r c _. T.pixel (moved_single T.num fi.now.bit_depth fi.now.default_filter plane (pos tile_rect.x +ℤ po.x) (pos tile_rect.y +ℤ po.y) mv width height r c)) }
+    ensures painted { PredictsSingle T.num T.pixel fi.now p ref_frame (pos tile_rect.x +ℤ po.x) (pos tile_rect.y +ℤ po.y) mv width height dst.old dst.new }
+    ensures empty { slot_plane fi.now (slot_of fi.now ref_frame) p ≡ None → dst.new ≡ dst.old }
     ensures fits { InStorage dst.new }
 {
     prove!(!mode.is_intra());
@@ -125,10 +126,7 @@ fn predict_over<T: Pixel>(
     requires depth_fits { fi.now.bit_depth ≤ T.BITS }
     requires first { IsServed T.num fi.now (reference_of ref_frames 0) p width height }
     requires second { IsServed T.num fi.now (reference_of ref_frames 1) p width height }
-    ensures painted { (first second : _) → slot_plane fi.now (slot_of fi.now (reference_of ref_frames 0)) p ≡ Some first → slot_plane fi.now (slot_of fi.now (reference_of ref_frames 1)) p ≡ Some second →
-        dst.new ≡ painted dst.old width height (λ r c _. T.pixel (averaged fi.now.bit_depth
-        (moved_prepared T.num fi.now.bit_depth fi.now.default_filter first at.x at.y (vector_of mvs 0) width height r c)
-        (moved_prepared T.num fi.now.bit_depth fi.now.default_filter second at.x at.y (vector_of mvs 1) width height r c))) }
+    ensures painted { PredictsCompound T.num T.pixel fi.now p ref_frames at.x at.y mvs width height dst.old dst.new }
     ensures fits { InStorage dst.new }
 {
     let [first, second] = ref_frames;
@@ -140,8 +138,8 @@ fn predict_over<T: Pixel>(
 }
 
 /// Predicts a block from two references: each sample of the first `height` rows and `width` columns of `dst` becomes the average of the
-/// two that `predict_inter_single` interpolates, which are rounded only then. Conditions and places are those of `predict_inter_single`;
-/// `buffer` holds the prepared blocks afterwards.
+/// two that `predict_inter_single` interpolates, which are rounded only then. Conditions and places are those of `predict_inter_single`.
+/// What a reference whose slot is empty gives is not said.
 pub fn predict_inter_compound<T: Pixel>(
     mode: PredictionMode,
     fi: &FrameInvariants<T>,
@@ -169,12 +167,7 @@ pub fn predict_inter_compound<T: Pixel>(
     requires depth_fits { fi.now.bit_depth ≤ T.BITS }
     requires first { IsServed T.num fi.now (reference_of ref_frames 0) p width height }
     requires second { IsServed T.num fi.now (reference_of ref_frames 1) p width height }
-    ensures painted { (first second : _) → slot_plane fi.now (slot_of fi.now (reference_of ref_frames 0)) p ≡ Some first → slot_plane fi.now (slot_of fi.now (reference_of ref_frames 1)) p ≡ Some second →
-        let x = pos tile_rect.x +ℤ po.x in
-        let y = pos tile_rect.y +ℤ po.y in
-        dst.new ≡ painted dst.old width height (λ r c _. T.pixel (averaged fi.now.bit_depth
-        (moved_prepared T.num fi.now.bit_depth fi.now.default_filter first x y (vector_of mvs 0) width height r c)
-        (moved_prepared T.num fi.now.bit_depth fi.now.default_filter second x y (vector_of mvs 1) width height r c))) }
+    ensures painted { PredictsCompound T.num T.pixel fi.now p ref_frames (pos tile_rect.x +ℤ po.x) (pos tile_rect.y +ℤ po.y) mvs width height dst.old dst.new }
     ensures fits { InStorage dst.new }
 {
     prove!(!mode.is_intra());
@@ -221,14 +214,11 @@ pub fn predict_inter<T: Pixel>(
     requires depth_fits { fi.now.bit_depth ≤ T.BITS }
     requires first { IsServed T.num fi.now (reference_of ref_frames 0) p width height }
     requires second { is_reference (reference_of ref_frames 1) ≡ true → IsServed T.num fi.now (reference_of ref_frames 1) p width height }
-    ensures single { is_reference (reference_of ref_frames 1) ≡ false → (plane : _) → slot_plane fi.now (slot_of fi.now (reference_of ref_frames 0)) p ≡ Some plane → dst.new ≡ painted dst.old width height
-        (λ r c _. T.pixel (moved_single T.num fi.now.bit_depth fi.now.default_filter plane (pos tile_rect.x +ℤ po.x) (pos tile_rect.y +ℤ po.y) (vector_of mvs 0) width height r c)) }
-    ensures compound { is_reference (reference_of ref_frames 1) ≡ true → (first second : _) → slot_plane fi.now (slot_of fi.now (reference_of ref_frames 0)) p ≡ Some first → slot_plane fi.now (slot_of fi.now (reference_of ref_frames 1)) p ≡ Some second →
-        let x = pos tile_rect.x +ℤ po.x in
-        let y = pos tile_rect.y +ℤ po.y in
-        dst.new ≡ painted dst.old width height (λ r c _. T.pixel (averaged fi.now.bit_depth
-        (moved_prepared T.num fi.now.bit_depth fi.now.default_filter first x y (vector_of mvs 0) width height r c)
-        (moved_prepared T.num fi.now.bit_depth fi.now.default_filter second x y (vector_of mvs 1) width height r c))) }
+    ensures single { is_reference (reference_of ref_frames 1) ≡ false →
+        PredictsSingle T.num T.pixel fi.now p (reference_of ref_frames 0) (pos tile_rect.x +ℤ po.x) (pos tile_rect.y +ℤ po.y) (vector_of mvs 0) width height dst.old dst.new }
+    ensures compound { is_reference (reference_of ref_frames 1) ≡ true →
+        PredictsCompound T.num T.pixel fi.now p ref_frames (pos tile_rect.x +ℤ po.x) (pos tile_rect.y +ℤ po.y) mvs width height dst.old dst.new }
+    ensures empty { is_reference (reference_of ref_frames 1) ≡ false → slot_plane fi.now (slot_of fi.now (reference_of ref_frames 0)) p ≡ None → dst.new ≡ dst.old }
     ensures fits { InStorage dst.new }
 {
     let [first, second] = ref_frames;

@@ -2,72 +2,215 @@
 //!
 //! AV1 specification: block inter prediction process, with the rounding of compound prediction.
 
-ghost use Rattle.std.specs.Prelude.{◌≡◌, ℕ, ◌+◌, ◌*◌, ◌^◌, ◌≤◌, ◌<◌, ◌⊎◌, pos, ◌-ℤ◌, ◌≤ℤ◌, ◌<ℤ◌, length, unsigned_abs, FitsSigned};
+ghost use Rattle.std.specs.Prelude.{◌≡◌, ℕ, ◌+◌, ◌*◌, ◌^◌, ◌≤◌, ◌<◌, pos, ◌-ℤ◌, ◌≤ℤ◌, ◌<ℤ◌, length, unsigned_abs, FitsSigned};
 ghost use Rattle.std.specs.Int.{w16};
 ghost use Rattle.av1_frame.specs.Arithmetic.{round_shift};
-ghost use Rattle.av1_inter.specs.Filters.{filter_of, IsFilter};
-ghost use Rattle.av1_inter.specs.Motion.{bias, down_finer, entry, finer, prepared};
+ghost use Rattle.av1_inter.specs.Filters.{filter_of};
+ghost use Rattle.av1_inter.specs.Motion.{bias, down_intermediate, entry, intermediate, prepared};
 ghost use Rattle.av1_inter.specs.Places.{AreWithinDepth, corner_of, IsDepth, IsStoredFrom, samples_from};
-ghost use Rattle.av1_inter.specs.Rows.{IsWithin};
+ghost use Rattle.av1_inter.specs.Scaffolding.{IsBeside, IsFilter, IsStripWidth, IsWithin};
 
 use crate::filter::{Filter, get_filter};
-use crate::lines::{MAX_SIDE, finer_row};
+use crate::lines::intermediate_row;
 use crate::rounding::prep_bias;
+use crate::strip::strip_width;
 use crate::window::{keep_first_rows, next_sums};
 use av1_blocks::{FilterMode, SUBPEL_FILTER_SIZE};
 use av1_frame::{Pixel, PlaneSlice, round_shift};
 
-/// The `width` entries from `start` on become the values, rounded and less the bias.
-fn prepare_row(
+/// The `N` entries from `start` on become the values, rounded and less the bias.
+#[inline(always)]
+fn prepare_row<const N: usize>(
     tmp: &mut [i16],
     start: usize,
-    values: &[i32],
-    width: usize,
+    values: &[i32; N],
     bit: usize,
     bit_depth: usize,
 )
-    requires tmp_long { start + width ≤ length tmp.old }
-    requires values_long { width ≤ length values.now }
+    requires short { N ≤ 128 }
+    requires tmp_long { start + N ≤ length tmp.old }
     requires small { bit ≤ 7 }
-    requires within { (c : ℕ) → c < width → IsWithin (2 ^ 30) (entry values.now c) }
-    requires fit { (c : ℕ) → c < width → FitsSigned w16 (round_shift (entry values.now c) bit -ℤ bias bit_depth) }
-    ensures value { (c : ℕ) → c < width → entry tmp.new (start + c) ≡ round_shift (entry values.now c) bit -ℤ bias bit_depth }
-    ensures others { (i : ℕ) → (i < start) ⊎ (start + width ≤ i) → entry tmp.new i ≡ entry tmp.old i }
+    requires within { (c : ℕ) → c < N → IsWithin (2 ^ 30) (entry values.now c) }
+    requires fit { (c : ℕ) → c < N → FitsSigned w16 (round_shift (entry values.now c) bit -ℤ bias bit_depth) }
+    ensures value { (c : ℕ) → c < N → entry tmp.new (start + c) ≡ round_shift (entry values.now c) bit -ℤ bias bit_depth }
+    ensures others { (i : ℕ) → IsBeside start N i → entry tmp.new i ≡ entry tmp.old i }
 {
     let bias = prep_bias(bit_depth);
-    for c in 0..width {
+    for c in 0..N {
         tmp[start + c] = (round_shift(values[c], bit) - bias) as i16;
     }
 }
 
-/// A block whose row fraction is 0: its rows are filtered along themselves.
-fn prepare_rows<T: Pixel>(
+/// A strip whose row fraction is 0: its rows are filtered along themselves.
+#[inline(never)]
+fn prepare_rows<T: Pixel, const N: usize>(
     tmp: &mut [i16],
     corner: PlaneSlice<'_, T>,
+    start: usize,
     width: usize,
     height: usize,
     across: &Filter,
     bit_depth: usize,
 )
-    requires filter { IsFilter across.now.taps }
+    requires across_filter { IsFilter across.now.taps }
     requires tmp_long { height * width ≤ length tmp.old }
-    requires short { width ≤ 128 }
+    requires columns { start + N ≤ width }
+    requires short { N ≤ 128 }
+    requires wide { width ≤ 128 }
     requires low { height ≤ 128 }
-    requires stored { IsStoredFrom corner (width + 7) (height + 7) }
+    requires stored { IsStoredFrom corner (N + 7) (height + 7) }
     requires depth { IsDepth bit_depth }
-    requires within { AreWithinDepth bit_depth (samples_from T.num corner) (width + 7) (height + 7) }
-    ensures value { (r c : ℕ) → r < height → c < width → entry tmp.new (r * width + c) ≡ finer bit_depth across.now (samples_from T.num corner.entry) (r + 3) c -ℤ bias bit_depth }
-    ensures others { (i : ℕ) → height * width ≤ i → entry tmp.new i ≡ entry tmp.old i }
+    requires within { AreWithinDepth bit_depth (samples_from T.num corner) (N + 7) (height + 7) }
+    ensures value { (r c : ℕ) → r < height → c < N → entry tmp.new (r * width + start + c) ≡ intermediate bit_depth across.now.fraction across.now.taps (samples_from T.num corner.entry) (r + 3) c -ℤ bias bit_depth }
+    ensures others { (i : ℕ) → ((r : ℕ) → r < height → IsBeside (r * width + start) N i) → entry tmp.new i ≡ entry tmp.old i }
 {
-    let mut values = [0; MAX_SIDE];
+    // A copy of its own can't be what is written, so its weights stay in registers.
+    let across = *across;
     for r in 0..height {
-        finer_row(&mut values, corner.row(r + 3), across, width, bit_depth);
-        prepare_row(tmp, r * width, &values, width, 0, bit_depth);
+        let values = intermediate_row::<T, N>(corner.row(r + 3), &across, bit_depth);
+        prepare_row::<N>(tmp, r * width + start, &values, 0, bit_depth);
     }
 }
 
-/// A block whose row fraction is not 0: rows in the finer bits are filtered down its columns.
-fn prepare_columns<T: Pixel>(
+/// A strip whose row fraction is not 0: rows in the intermediate bits are filtered down its columns.
+#[inline(never)]
+fn prepare_columns<T: Pixel, const N: usize>(
+    tmp: &mut [i16],
+    corner: PlaneSlice<'_, T>,
+    start: usize,
+    width: usize,
+    height: usize,
+    across: &Filter,
+    down: &Filter,
+    bit_depth: usize,
+)
+    requires across_filter { IsFilter across.now.taps }
+    requires down_filter { IsFilter down.now.taps }
+    requires tmp_long { height * width ≤ length tmp.old }
+    requires columns { start + N ≤ width }
+    requires short { N ≤ 128 }
+    requires wide { width ≤ 128 }
+    requires low { height ≤ 128 }
+    requires stored { IsStoredFrom corner (N + 7) (height + 7) }
+    requires depth { IsDepth bit_depth }
+    requires within { AreWithinDepth bit_depth (samples_from T.num corner) (N + 7) (height + 7) }
+    ensures value { (r c : ℕ) → r < height → c < N → entry tmp.new (r * width + start + c) ≡ round_shift (down_intermediate bit_depth across.now.fraction across.now.taps down.now.taps (samples_from T.num corner.entry) r c) 7 -ℤ bias bit_depth }
+    ensures others { (i : ℕ) → ((r : ℕ) → r < height → IsBeside (r * width + start) N i) → entry tmp.new i ≡ entry tmp.old i }
+{
+    let across = *across;
+    let down = *down;
+    let mut rows = [[0; N]; SUBPEL_FILTER_SIZE];
+    keep_first_rows::<T, N>(&mut rows, corner, &across, bit_depth);
+    for r in 0..height {
+        let sums = next_sums::<T, N>(&mut rows, corner, r, &across, &down, bit_depth);
+        prepare_row::<N>(tmp, r * width + start, &sums, 7, bit_depth);
+    }
+}
+
+/// A strip of `N` columns, with or without a filter down its columns.
+fn prepare_block<T: Pixel, const N: usize>(
+    tmp: &mut [i16],
+    corner: PlaneSlice<'_, T>,
+    start: usize,
+    width: usize,
+    height: usize,
+    across: &Filter,
+    down: &Filter,
+    bit_depth: usize,
+)
+    requires across_filter { IsFilter across.now.taps }
+    requires down_filter { IsFilter down.now.taps }
+    requires tmp_long { height * width ≤ length tmp.old }
+    requires columns { start + N ≤ width }
+    requires short { N ≤ 128 }
+    requires wide { width ≤ 128 }
+    requires low { height ≤ 128 }
+    requires stored { IsStoredFrom corner (N + 7) (height + 7) }
+    requires depth { IsDepth bit_depth }
+    requires within { AreWithinDepth bit_depth (samples_from T.num corner) (N + 7) (height + 7) }
+    ensures value { (r c : ℕ) → r < height → c < N → entry tmp.new (r * width + start + c) ≡ prepared bit_depth across.now.fraction down.now.fraction across.now.taps down.now.taps (samples_from T.num corner.entry) r c }
+    ensures others { (i : ℕ) → ((r : ℕ) → r < height → IsBeside (r * width + start) N i) → entry tmp.new i ≡ entry tmp.old i }
+{
+    if down.fraction != 0 {
+        prepare_columns::<T, N>(tmp, corner, start, width, height, across, down, bit_depth);
+    } else {
+        prepare_rows::<T, N>(tmp, corner, start, width, height, across, bit_depth);
+    }
+}
+
+/// A strip of 32, 16, 8, 4 or 1 columns.
+fn prepare_columns_of<T: Pixel>(
+    tmp: &mut [i16],
+    corner: PlaneSlice<'_, T>,
+    start: usize,
+    columns: usize,
+    width: usize,
+    height: usize,
+    across: &Filter,
+    down: &Filter,
+    bit_depth: usize,
+)
+    requires kind { IsStripWidth columns }
+    requires across_filter { IsFilter across.now.taps }
+    requires down_filter { IsFilter down.now.taps }
+    requires tmp_long { height * width ≤ length tmp.old }
+    requires columns { start + columns ≤ width }
+    requires short { columns ≤ 128 }
+    requires wide { width ≤ 128 }
+    requires low { height ≤ 128 }
+    requires stored { IsStoredFrom corner (columns + 7) (height + 7) }
+    requires depth { IsDepth bit_depth }
+    requires within { AreWithinDepth bit_depth (samples_from T.num corner) (columns + 7) (height + 7) }
+    ensures value { (r c : ℕ) → r < height → c < columns → entry tmp.new (r * width + start + c) ≡ prepared bit_depth across.now.fraction down.now.fraction across.now.taps down.now.taps (samples_from T.num corner.entry) r c }
+    ensures others { (i : ℕ) → ((r : ℕ) → r < height → IsBeside (r * width + start) columns i) → entry tmp.new i ≡ entry tmp.old i }
+{
+    if columns == 32 {
+        prepare_block::<T, 32>(tmp, corner, start, width, height, across, down, bit_depth);
+    } else if columns == 16 {
+        prepare_block::<T, 16>(tmp, corner, start, width, height, across, down, bit_depth);
+    } else if columns == 8 {
+        prepare_block::<T, 8>(tmp, corner, start, width, height, across, down, bit_depth);
+    } else if columns == 4 {
+        prepare_block::<T, 4>(tmp, corner, start, width, height, across, down, bit_depth);
+    } else {
+        prepare_block::<T, 1>(tmp, corner, start, width, height, across, down, bit_depth);
+    }
+}
+
+/// The strip of a block that begins at column `start`.
+fn prepare_strip<T: Pixel>(
+    tmp: &mut [i16],
+    corner: PlaneSlice<'_, T>,
+    start: usize,
+    columns: usize,
+    width: usize,
+    height: usize,
+    across: &Filter,
+    down: &Filter,
+    bit_depth: usize,
+)
+    requires kind { IsStripWidth columns }
+    requires across_filter { IsFilter across.now.taps }
+    requires down_filter { IsFilter down.now.taps }
+    requires tmp_long { height * width ≤ length tmp.old }
+    requires columns { start + columns ≤ width }
+    requires short { columns ≤ 128 }
+    requires wide { width ≤ 128 }
+    requires low { height ≤ 128 }
+    requires stored { IsStoredFrom corner (start + columns + 7) (height + 7) }
+    requires depth { IsDepth bit_depth }
+    requires within { AreWithinDepth bit_depth (samples_from T.num corner) (start + columns + 7) (height + 7) }
+    ensures value { (r c : ℕ) → r < height → c < columns → entry tmp.new (r * width + start + c) ≡ prepared bit_depth across.now.fraction down.now.fraction across.now.taps down.now.taps (samples_from T.num corner.entry) r (start + c) }
+    ensures others { (i : ℕ) → ((r : ℕ) → r < height → IsBeside (r * width + start) columns i) → entry tmp.new i ≡ entry tmp.old i }
+{
+    let place = corner.subslice(start, 0);
+    prepare_columns_of(
+        tmp, place, start, columns, width, height, across, down, bit_depth,
+    );
+}
+
+/// A block, strip by strip.
+fn prepare_strips<T: Pixel>(
     tmp: &mut [i16],
     corner: PlaneSlice<'_, T>,
     width: usize,
@@ -79,22 +222,21 @@ fn prepare_columns<T: Pixel>(
     requires across_filter { IsFilter across.now.taps }
     requires down_filter { IsFilter down.now.taps }
     requires tmp_long { height * width ≤ length tmp.old }
-    requires short { width ≤ 128 }
+    requires wide { width ≤ 128 }
     requires low { height ≤ 128 }
     requires stored { IsStoredFrom corner (width + 7) (height + 7) }
     requires depth { IsDepth bit_depth }
     requires within { AreWithinDepth bit_depth (samples_from T.num corner) (width + 7) (height + 7) }
-    ensures value { (r c : ℕ) → r < height → c < width → entry tmp.new (r * width + c) ≡ round_shift (down_finer bit_depth across.now down.now (samples_from T.num corner.entry) r c) 7 -ℤ bias bit_depth }
+    ensures value { (r c : ℕ) → r < height → c < width → entry tmp.new (r * width + c) ≡ prepared bit_depth across.now.fraction down.now.fraction across.now.taps down.now.taps (samples_from T.num corner.entry) r c }
     ensures others { (i : ℕ) → height * width ≤ i → entry tmp.new i ≡ entry tmp.old i }
 {
-    let mut sums = [0; MAX_SIDE];
-    let mut rows = [[0; MAX_SIDE]; SUBPEL_FILTER_SIZE];
-    keep_first_rows(&mut rows, corner, across, width, bit_depth);
-    for r in 0..height {
-        next_sums(
-            &mut sums, &mut rows, corner, r, across, down, width, bit_depth,
+    let mut start = 0;
+    while start < width {
+        let columns = strip_width(width - start);
+        prepare_strip(
+            tmp, corner, start, columns, width, height, across, down, bit_depth,
         );
-        prepare_row(tmp, r * width, &sums, width, 7, bit_depth);
+        start += columns;
     }
 }
 
@@ -123,15 +265,11 @@ pub fn prep_8tap<T: Pixel>(
     requires depth { IsDepth bit_depth }
     requires within { AreWithinDepth bit_depth (samples_from T.num (corner_of src)) (width + 7) (height + 7) }
     ensures value { (r c : ℕ) → r < height → c < width → entry tmp.new (r * width + c) ≡
-        prepared bit_depth (filter_of mode_x (unsigned_abs col_frac) width) (filter_of mode_y (unsigned_abs row_frac) height) (samples_from T.num (corner_of src.entry)) r c }
+        prepared bit_depth (unsigned_abs col_frac) (unsigned_abs row_frac) (filter_of mode_x (unsigned_abs col_frac) width) (filter_of mode_y (unsigned_abs row_frac) height) (samples_from T.num (corner_of src.entry)) r c }
     ensures others { (i : ℕ) → height * width ≤ i → entry tmp.new i ≡ entry tmp.old i }
 {
     let across = get_filter(mode_x, col_frac, width);
     let down = get_filter(mode_y, row_frac, height);
     let corner = src.go_left(3).go_up(3);
-    if down.fraction != 0 {
-        prepare_columns(tmp, corner, width, height, &across, &down, bit_depth);
-    } else {
-        prepare_rows(tmp, corner, width, height, &across, bit_depth);
-    }
+    prepare_strips(tmp, corner, width, height, &across, &down, bit_depth);
 }

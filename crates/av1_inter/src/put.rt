@@ -5,44 +5,43 @@
 ghost use Rattle.std.specs.Prelude.{◌≡◌, ℕ, ◌+◌, ◌^◌, ◌≤◌, ◌<◌, pos, ◌≤ℤ◌, ◌<ℤ◌, length, slice_index_or, unsigned_abs};
 ghost use Rattle.av1_frame.specs.Arithmetic.{clip, round_shift};
 ghost use Rattle.av1_frame.specs.Samples.{paint_row};
-ghost use Rattle.av1_frame.specs.Regions.{InStorage, painted};
-ghost use Rattle.av1_inter.specs.Filters.{filter_of, IsFilter};
-ghost use Rattle.av1_inter.specs.Motion.{down_finer, entry, extra_bits, finer, single};
+ghost use Rattle.av1_frame.specs.Regions.{InStorage, painted, painted_within};
+ghost use Rattle.av1_inter.specs.Filters.{filter_of};
+ghost use Rattle.av1_inter.specs.Motion.{down_intermediate, entry, intermediate_bits, intermediate, single};
 ghost use Rattle.av1_inter.specs.Places.{AreWithinDepth, corner_of, IsDepth, IsStoredFrom, samples_from};
-ghost use Rattle.av1_inter.specs.Rows.{IsWithin};
+ghost use Rattle.av1_inter.specs.Scaffolding.{IsFilter, IsStripWidth, IsWithin, strip_of};
 
 use crate::filter::{Filter, get_filter};
-use crate::lines::{MAX_SIDE, finer_row};
-use crate::rounding::{extra_bits, sample_of};
+use crate::lines::intermediate_row;
+use crate::rounding::{intermediate_bits, sample_of};
+use crate::strip::strip_width;
 use crate::window::{keep_first_rows, next_sums};
 use av1_blocks::{FilterMode, SUBPEL_FILTER_SIZE};
-use av1_frame::{Pixel, PlaneRegionMut, PlaneSlice, round_shift};
+use av1_frame::{Area, Pixel, PlaneRegionMut, PlaneSlice, round_shift};
 
 /// The first `width` samples of the row become those of `source` from the fourth on.
-#[tactic(auto, using(av1_frame::proofs::Paint::paint_row_none, av1_frame::proofs::Paint::paint_row_more))]
+#[inline(always)]
 fn copy_row<T: Pixel>(row: &mut [T], source: &[T], width: usize)
     requires row_long { width ≤ length row.old }
     requires source_long { width + 3 ≤ length source.now }
     ensures { row.new ≡ paint_row width (λ c v. slice_index_or source.now (c + 3) v) row.old }
 {
-    for c in 0..width {
-        let sample = source[c + 3];
-        row[c] = sample;
-    }
+    row[..width].copy_from_slice(&source[3..3 + width]);
 }
 
-/// The first `width` samples of the row become the values, rounded and clipped to the depth.
+/// The first `N` samples of the row become the values, rounded and clipped to the depth.
+#[inline(always)]
 #[tactic(auto, using(av1_frame::proofs::Paint::paint_row_none, av1_frame::proofs::Paint::paint_row_more))]
-fn put_row<T: Pixel>(row: &mut [T], values: &[i32], width: usize, bit: usize, bit_depth: usize)
-    requires row_long { width ≤ length row.old }
-    requires values_long { width ≤ length values.now }
-    requires within { (c : ℕ) → c < width → IsWithin (2 ^ 30) (entry values.now c) }
+fn put_row<T: Pixel, const N: usize>(row: &mut [T], values: &[i32; N], bit: usize, bit_depth: usize)
+    requires row_long { N ≤ length row.old }
+    requires short { N ≤ 128 }
+    requires within { (c : ℕ) → c < N → IsWithin (2 ^ 30) (entry values.now c) }
     requires small { bit ≤ 11 }
     requires depth { IsDepth bit_depth }
     requires depth_fits { bit_depth ≤ T.BITS }
-    ensures { row.new ≡ paint_row width (λ c _. T.pixel (clip bit_depth (round_shift (entry values.now c) bit))) row.old }
+    ensures { row.new ≡ paint_row N (λ c _. T.pixel (clip bit_depth (round_shift (entry values.now c) bit))) row.old }
 {
-    for c in 0..width {
+    for c in 0..N {
         row[c] = sample_of(round_shift(values[c], bit), bit_depth);
     }
 }
@@ -67,38 +66,224 @@ fn put_samples<T: Pixel>(
     }
 }
 
-/// A block whose row fraction is 0: its rows are filtered along themselves.
-#[tactic(auto, using(av1_frame::proofs::Regions::painted_none, av1_frame::proofs::Regions::painted_in_storage))]
-fn put_rows<T: Pixel>(
+/// The same of a block of `N` columns, whose rows are copied by a move or two.
+#[tactic(auto, using(av1_frame::proofs::Regions::painted_none, av1_frame::proofs::Regions::painted_in_storage, av1_frame::proofs::Regions::painted_more))]
+fn put_samples_of<T: Pixel, const N: usize>(
+    dst: &mut PlaneRegionMut<'_, T>,
+    corner: PlaneSlice<'_, T>,
+    height: usize,
+)
+    requires fits { InStorage dst.old }
+    requires columns { N ≤ dst.old.place.width }
+    requires rows { height ≤ dst.old.place.height }
+    requires short { N ≤ 128 }
+    requires stored { IsStoredFrom corner (N + 7) (height + 7) }
+    ensures painted { dst.new ≡ painted dst.old N height (λ r c _. T.pixel (samples_from T.num corner.entry (c + 3) (r + 3))) }
+    ensures fits { InStorage dst.new }
+{
+    for r in 0..height {
+        copy_row(dst.row_mut(r), corner.row(r + 3), N);
+    }
+}
+
+/// A block that is not filtered.
+fn put_copy<T: Pixel>(
     dst: &mut PlaneRegionMut<'_, T>,
     corner: PlaneSlice<'_, T>,
     width: usize,
+    height: usize,
+)
+    requires fits { InStorage dst.old }
+    requires columns { width ≤ dst.old.place.width }
+    requires rows { height ≤ dst.old.place.height }
+    requires stored { IsStoredFrom corner (width + 7) (height + 7) }
+    ensures painted { dst.new ≡ painted dst.old width height (λ r c _. T.pixel (samples_from T.num corner.entry (c + 3) (r + 3))) }
+    ensures fits { InStorage dst.new }
+{
+    if width == 4 {
+        put_samples_of::<T, 4>(dst, corner, height);
+    } else if width == 8 {
+        put_samples_of::<T, 8>(dst, corner, height);
+    } else if width == 16 {
+        put_samples_of::<T, 16>(dst, corner, height);
+    } else {
+        put_samples(dst, corner, width, height);
+    }
+}
+
+/// A strip whose row fraction is 0: its rows are filtered along themselves.
+#[inline(never)]
+#[tactic(auto, using(av1_frame::proofs::Regions::painted_none, av1_frame::proofs::Regions::painted_in_storage))]
+fn put_rows<T: Pixel, const N: usize>(
+    dst: &mut PlaneRegionMut<'_, T>,
+    corner: PlaneSlice<'_, T>,
     height: usize,
     across: &Filter,
     bit_depth: usize,
 )
     requires filter { IsFilter across.now.taps }
     requires fits { InStorage dst.old }
-    requires columns { width ≤ dst.old.place.width }
+    requires columns { N ≤ dst.old.place.width }
     requires rows { height ≤ dst.old.place.height }
-    requires short { width ≤ 128 }
-    requires stored { IsStoredFrom corner (width + 7) (height + 7) }
+    requires short { N ≤ 128 }
+    requires stored { IsStoredFrom corner (N + 7) (height + 7) }
     requires depth { IsDepth bit_depth }
     requires depth_fits { bit_depth ≤ T.BITS }
-    requires within { AreWithinDepth bit_depth (samples_from T.num corner) (width + 7) (height + 7) }
-    ensures painted { dst.new ≡ painted dst.old width height (λ r c _. T.pixel (clip bit_depth (round_shift (finer bit_depth across.now (samples_from T.num corner.entry) (r + 3) c) (extra_bits bit_depth)))) }
+    requires within { AreWithinDepth bit_depth (samples_from T.num corner) (N + 7) (height + 7) }
+    ensures painted { dst.new ≡ painted dst.old N height (λ r c _. T.pixel (clip bit_depth (round_shift (intermediate bit_depth across.now.fraction across.now.taps (samples_from T.num corner.entry) (r + 3) c) (intermediate_bits bit_depth)))) }
     ensures fits { InStorage dst.new }
 {
-    let bits = extra_bits(bit_depth);
-    let mut values = [0; MAX_SIDE];
+    // A copy of its own can't be what is written, so its weights stay in registers.
+    let across = *across;
+    let bits = intermediate_bits(bit_depth);
     for r in 0..height {
-        finer_row(&mut values, corner.row(r + 3), across, width, bit_depth);
-        put_row(dst.row_mut(r), &values, width, bits, bit_depth);
+        let values = intermediate_row::<T, N>(corner.row(r + 3), &across, bit_depth);
+        put_row::<T, N>(dst.row_mut(r), &values, bits, bit_depth);
     }
 }
 
-/// A block whose row fraction is not 0: rows in the finer bits are filtered down its columns.
-fn put_columns<T: Pixel>(
+/// A strip whose row fraction is not 0: rows in the intermediate bits are filtered down its columns.
+#[inline(never)]
+fn put_columns<T: Pixel, const N: usize>(
+    dst: &mut PlaneRegionMut<'_, T>,
+    corner: PlaneSlice<'_, T>,
+    height: usize,
+    across: &Filter,
+    down: &Filter,
+    bit_depth: usize,
+)
+    requires across_filter { IsFilter across.now.taps }
+    requires down_filter { IsFilter down.now.taps }
+    requires fits { InStorage dst.old }
+    requires columns { N ≤ dst.old.place.width }
+    requires rows { height ≤ dst.old.place.height }
+    requires short { N ≤ 128 }
+    requires low { height ≤ 128 }
+    requires stored { IsStoredFrom corner (N + 7) (height + 7) }
+    requires depth { IsDepth bit_depth }
+    requires depth_fits { bit_depth ≤ T.BITS }
+    requires within { AreWithinDepth bit_depth (samples_from T.num corner) (N + 7) (height + 7) }
+    ensures painted { dst.new ≡ painted dst.old N height (λ r c _. T.pixel (clip bit_depth (round_shift (down_intermediate bit_depth across.now.fraction across.now.taps down.now.taps (samples_from T.num corner.entry) r c) (7 + intermediate_bits bit_depth)))) }
+    ensures fits { InStorage dst.new }
+{
+    let across = *across;
+    let down = *down;
+    let bits = 7 + intermediate_bits(bit_depth);
+    let mut rows = [[0; N]; SUBPEL_FILTER_SIZE];
+    keep_first_rows::<T, N>(&mut rows, corner, &across, bit_depth);
+    for r in 0..height {
+        let sums = next_sums::<T, N>(&mut rows, corner, r, &across, &down, bit_depth);
+        put_row::<T, N>(dst.row_mut(r), &sums, bits, bit_depth);
+    }
+}
+
+/// A strip of `N` columns, with or without a filter down its columns.
+fn put_block<T: Pixel, const N: usize>(
+    dst: &mut PlaneRegionMut<'_, T>,
+    corner: PlaneSlice<'_, T>,
+    height: usize,
+    across: &Filter,
+    down: &Filter,
+    bit_depth: usize,
+)
+    requires across_filter { IsFilter across.now.taps }
+    requires down_filter { IsFilter down.now.taps }
+    requires fits { InStorage dst.old }
+    requires columns { N ≤ dst.old.place.width }
+    requires rows { height ≤ dst.old.place.height }
+    requires short { N ≤ 128 }
+    requires low { height ≤ 128 }
+    requires stored { IsStoredFrom corner (N + 7) (height + 7) }
+    requires depth { IsDepth bit_depth }
+    requires depth_fits { bit_depth ≤ T.BITS }
+    requires within { AreWithinDepth bit_depth (samples_from T.num corner) (N + 7) (height + 7) }
+    ensures painted { dst.new ≡ painted dst.old N height (λ r c _. T.pixel (single bit_depth across.now.fraction down.now.fraction across.now.taps down.now.taps (samples_from T.num corner.entry) r c)) }
+    ensures fits { InStorage dst.new }
+{
+    if down.fraction != 0 {
+        put_columns::<T, N>(dst, corner, height, across, down, bit_depth);
+    } else {
+        put_rows::<T, N>(dst, corner, height, across, bit_depth);
+    }
+}
+
+/// A strip of 32, 16, 8, 4 or 1 columns.
+fn put_columns_of<T: Pixel>(
+    dst: &mut PlaneRegionMut<'_, T>,
+    corner: PlaneSlice<'_, T>,
+    columns: usize,
+    height: usize,
+    across: &Filter,
+    down: &Filter,
+    bit_depth: usize,
+)
+    requires kind { IsStripWidth columns }
+    requires across_filter { IsFilter across.now.taps }
+    requires down_filter { IsFilter down.now.taps }
+    requires fits { InStorage dst.old }
+    requires columns { columns ≤ dst.old.place.width }
+    requires rows { height ≤ dst.old.place.height }
+    requires short { columns ≤ 128 }
+    requires low { height ≤ 128 }
+    requires stored { IsStoredFrom corner (columns + 7) (height + 7) }
+    requires depth { IsDepth bit_depth }
+    requires depth_fits { bit_depth ≤ T.BITS }
+    requires within { AreWithinDepth bit_depth (samples_from T.num corner) (columns + 7) (height + 7) }
+    ensures painted { dst.new ≡ painted dst.old columns height (λ r c _. T.pixel (single bit_depth across.now.fraction down.now.fraction across.now.taps down.now.taps (samples_from T.num corner.entry) r c)) }
+    ensures fits { InStorage dst.new }
+{
+    if columns == 32 {
+        put_block::<T, 32>(dst, corner, height, across, down, bit_depth);
+    } else if columns == 16 {
+        put_block::<T, 16>(dst, corner, height, across, down, bit_depth);
+    } else if columns == 8 {
+        put_block::<T, 8>(dst, corner, height, across, down, bit_depth);
+    } else if columns == 4 {
+        put_block::<T, 4>(dst, corner, height, across, down, bit_depth);
+    } else {
+        put_block::<T, 1>(dst, corner, height, across, down, bit_depth);
+    }
+}
+
+/// The strip of a block that begins at column `start`.
+fn put_strip<T: Pixel>(
+    dst: &mut PlaneRegionMut<'_, T>,
+    corner: PlaneSlice<'_, T>,
+    start: usize,
+    columns: usize,
+    height: usize,
+    across: &Filter,
+    down: &Filter,
+    bit_depth: usize,
+)
+    requires kind { IsStripWidth columns }
+    requires across_filter { IsFilter across.now.taps }
+    requires down_filter { IsFilter down.now.taps }
+    requires fits { InStorage dst.old }
+    requires columns { start + columns ≤ dst.old.place.width }
+    requires rows { height ≤ dst.old.place.height }
+    requires short { start + columns ≤ 128 }
+    requires low { height ≤ 128 }
+    requires stored { IsStoredFrom corner (start + columns + 7) (height + 7) }
+    requires depth { IsDepth bit_depth }
+    requires depth_fits { bit_depth ≤ T.BITS }
+    requires within { AreWithinDepth bit_depth (samples_from T.num corner) (start + columns + 7) (height + 7) }
+    ensures painted { dst.new ≡ painted_within dst.old (strip_of dst.old.place start columns height) (λ r c _. T.pixel (single bit_depth across.now.fraction down.now.fraction across.now.taps down.now.taps (samples_from T.num corner.entry) r (start + c))) }
+    ensures fits { InStorage dst.new }
+{
+    let outer = dst.narrow(Area::Rect {
+        x: start as isize,
+        y: 0,
+        width: columns,
+        height,
+    });
+    let place = corner.subslice(start, 0);
+    put_columns_of(dst, place, columns, height, across, down, bit_depth);
+    dst.restore(outer);
+}
+
+/// A block that is filtered, strip by strip.
+fn put_strips<T: Pixel>(
     dst: &mut PlaneRegionMut<'_, T>,
     corner: PlaneSlice<'_, T>,
     width: usize,
@@ -118,18 +303,14 @@ fn put_columns<T: Pixel>(
     requires depth { IsDepth bit_depth }
     requires depth_fits { bit_depth ≤ T.BITS }
     requires within { AreWithinDepth bit_depth (samples_from T.num corner) (width + 7) (height + 7) }
-    ensures painted { dst.new ≡ painted dst.old width height (λ r c _. T.pixel (clip bit_depth (round_shift (down_finer bit_depth across.now down.now (samples_from T.num corner.entry) r c) (7 + extra_bits bit_depth)))) }
+    ensures painted { dst.new ≡ painted dst.old width height (λ r c _. T.pixel (single bit_depth across.now.fraction down.now.fraction across.now.taps down.now.taps (samples_from T.num corner.entry) r c)) }
     ensures fits { InStorage dst.new }
 {
-    let bits = 7 + extra_bits(bit_depth);
-    let mut sums = [0; MAX_SIDE];
-    let mut rows = [[0; MAX_SIDE]; SUBPEL_FILTER_SIZE];
-    keep_first_rows(&mut rows, corner, across, width, bit_depth);
-    for r in 0..height {
-        next_sums(
-            &mut sums, &mut rows, corner, r, across, down, width, bit_depth,
-        );
-        put_row(dst.row_mut(r), &sums, width, bits, bit_depth);
+    let mut start = 0;
+    while start < width {
+        let columns = strip_width(width - start);
+        put_strip(dst, corner, start, columns, height, across, down, bit_depth);
+        start += columns;
     }
 }
 
@@ -162,17 +343,15 @@ pub fn put_8tap<T: Pixel>(
     requires depth_fits { bit_depth ≤ T.BITS }
     requires within { AreWithinDepth bit_depth (samples_from T.num (corner_of src)) (width + 7) (height + 7) }
     ensures painted { dst.new ≡ painted dst.old width height (λ r c _. T.pixel
-        (single bit_depth (filter_of mode_x (unsigned_abs col_frac) width) (filter_of mode_y (unsigned_abs row_frac) height) (samples_from T.num (corner_of src.entry)) r c)) }
+        (single bit_depth (unsigned_abs col_frac) (unsigned_abs row_frac) (filter_of mode_x (unsigned_abs col_frac) width) (filter_of mode_y (unsigned_abs row_frac) height) (samples_from T.num (corner_of src.entry)) r c)) }
     ensures fits { InStorage dst.new }
 {
-    let across = get_filter(mode_x, col_frac, width);
-    let down = get_filter(mode_y, row_frac, height);
     let corner = src.go_left(3).go_up(3);
-    if down.fraction != 0 {
-        put_columns(dst, corner, width, height, &across, &down, bit_depth);
-    } else if across.fraction != 0 {
-        put_rows(dst, corner, width, height, &across, bit_depth);
+    if col_frac == 0 && row_frac == 0 {
+        put_copy(dst, corner, width, height);
     } else {
-        put_samples(dst, corner, width, height);
+        let across = get_filter(mode_x, col_frac, width);
+        let down = get_filter(mode_y, row_frac, height);
+        put_strips(dst, corner, width, height, &across, &down, bit_depth);
     }
 }

@@ -4,13 +4,13 @@
 
 ghost use Rattle.std.specs.Prelude.{◌≡◌, ◌^◌, ◌≤◌, ◌<◌, pos};
 ghost use Rattle.av1_frame.specs.Arithmetic.{clip};
-ghost use Rattle.av1_inter.specs.Motion.{bias, extra_bits};
+ghost use Rattle.av1_inter.specs.Motion.{bias, intermediate_bits};
 
 use av1_frame::{Pixel, clamp};
 
-/// How many bits finer than samples the values between the two filters are.
-pub(crate) fn extra_bits(bit_depth: usize) -> usize
-    ensures value { result ≡ extra_bits bit_depth }
+/// How many bits more than samples the values between the two filters have.
+pub(crate) fn intermediate_bits(bit_depth: usize) -> usize
+    ensures value { result ≡ intermediate_bits bit_depth }
     ensures small { result ≤ 4 }
 {
     if bit_depth == 12 { 2 } else { 4 }

@@ -10,3 +10,12 @@ pub mod Places
 pub mod RowParts
 pub mod Lines
 pub mod ModeAngles
+pub mod Means
+pub mod Weighted
+pub mod Unchanged
+pub mod LumaBlocks
+pub mod SubLuma
+pub mod BesideBlock
+pub mod ByMode
+pub mod LumaFits
+pub mod EdgeLengths

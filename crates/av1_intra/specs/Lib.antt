@@ -1,8 +1,12 @@
 pub mod Sides
 pub mod Paeth
+pub mod Dc
+pub mod ChromaFromLuma
 pub mod Smooth
 pub mod Neighbours
 pub mod Angles
 pub mod EdgeFilter
 pub mod Upsampling
 pub mod Directional
+pub mod Predicted
+pub mod TileLuma

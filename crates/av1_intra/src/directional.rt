@@ -14,7 +14,7 @@ ghost use Rattle.av1_intra.specs.Directional.{block_at, directional};
 use crate::angle::dr_intra_derivative;
 use crate::interpolation::{rows_below_90, rows_between, rows_past_180};
 use crate::neighbours::IntraEdgeFilterParameters;
-use crate::prepared_side::{prepared_above, prepared_left};
+use crate::prepared_side::{PreparedSide, prepare_above, prepare_left};
 use av1_frame::{Pixel, PlaneRegionMut};
 
 /// A block that is predicted along a direction.
@@ -58,10 +58,11 @@ fn directional_below_90<T: Pixel>(
     let dx = dr_intra_derivative(block.p_angle);
     let places = block.width + block.height;
     let smoothed = block.width.min(block.visible_columns) + block.height;
-    let above = prepared_above(above, corner, block, smoothed, places);
+    let mut side = PreparedSide::empty();
+    prepare_above(&mut side, above, corner, block, smoothed, places);
     rows_below_90(
         output,
-        &above,
+        &side,
         dx,
         block.width,
         block.height,
@@ -94,13 +95,15 @@ fn directional_between<T: Pixel>(
     let dx = dr_intra_derivative(180 - block.p_angle);
     let dy = dr_intra_derivative(block.p_angle - 90);
     let columns = block.width.min(block.visible_columns);
-    let above = prepared_above(above, corner, block, columns, block.width);
+    let mut side = PreparedSide::empty();
+    prepare_above(&mut side, above, corner, block, columns, block.width);
     let rows = block.height.min(block.visible_rows);
-    let left = prepared_left(left, corner, block, rows, block.height);
+    let mut left_side = PreparedSide::empty();
+    prepare_left(&mut left_side, left, corner, block, rows, block.height);
     rows_between(
         output,
-        &above,
-        &left,
+        &side,
+        &left_side,
         dx,
         dy,
         block.width,
@@ -131,10 +134,11 @@ fn directional_past_180<T: Pixel>(
     let dy = dr_intra_derivative(270 - block.p_angle);
     let places = block.height + block.width;
     let smoothed = block.height.min(block.visible_rows) + block.width;
-    let left = prepared_left(left, corner, block, smoothed, places);
+    let mut side = PreparedSide::empty();
+    prepare_left(&mut side, left, corner, block, smoothed, places);
     rows_past_180(
         output,
-        &left,
+        &side,
         dy,
         block.width,
         block.height,

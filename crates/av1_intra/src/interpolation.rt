@@ -12,7 +12,7 @@ use crate::samples::clipped;
 use av1_frame::{Pixel, PlaneRegionMut};
 
 /// The sample of a number within the depth.
-fn sample_of<T: Pixel>(number: u32, bit_depth: usize) -> T
+pub(crate) fn sample_of<T: Pixel>(number: u32, bit_depth: usize) -> T
     requires number { number < 2 ^ bit_depth }
     requires depth { bit_depth ≤ T.BITS }
     ensures { result ≡ T.pixel number }

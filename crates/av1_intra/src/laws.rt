@@ -1,10 +1,17 @@
-//! Laws of directional prediction.
+//! Laws of intra prediction.
 
-ghost use Rattle.std.specs.Prelude.{◌≡◌, ◌≢◌, ℤ, pos, ◌+ℤ◌, ◌*ℤ◌, unsigned_abs, ℕ, ◌+◌, ◌-◌, ◌*◌, ◌^◌, ◌<◌, ◌≤◌, IsTrue};
+ghost use Rattle.std.specs.Prelude.{◌≡◌, ◌≢◌, ℤ, pos, ◌+ℤ◌, ◌*ℤ◌, unsigned_abs, ℕ, ◌+◌, ◌-◌, ◌*◌, ◌^◌, ◌<◌, ◌≤◌, IsTrue, FitsSigned, Bool};
 ghost use Rattle.av1_blocks.specs.declared.predict.PredictionMode.{PredictionMode};
 ghost use Rattle.av1_blocks.specs.Modes.{intra_mode_to_angle, is_directional};
 ghost use Rattle.av1_intra.specs.Angles.{derivative, is_interpolated};
 ghost use Rattle.av1_intra.specs.Directional.{entry};
+ghost use Rattle.std.specs.Int.{w16};
+ghost use Rattle.av1_blocks.specs.declared.predict.IntraParam.{IntraParam};
+ghost use Rattle.av1_edges.specs.Parts.{effective, step_of, prepared_parts};
+ghost use Rattle.av1_edges.specs.Sides.{where_asked};
+ghost use Rattle.av1_intra.specs.declared.luma.LumaLeaf.{LumaLeaf};
+ghost use Rattle.av1_intra.specs.ChromaFromLuma.{chroma_block, columns_read, rows_read, first_column, first_row, leaf_difference};
+ghost use Rattle.av1_intra.specs.Predicted.{variant_at, angle_or_alpha, places_above, places_left};
 
 /// Every entry that a line reads lies on its side, of the corner and as many places as the angle asks for, doubled or not. Below 90
 /// degrees the definition itself stops at the last place.
@@ -27,4 +34,22 @@ pub fn lines_meet_their_sides()
 pub fn modes_have_angles()
     ensures { (mode : PredictionMode) (step : ℤ) (p : ℕ) → IsTrue (is_directional mode) → unsigned_abs step ≤ 3
         → pos p ≡ intra_mode_to_angle mode +ℤ pos 3 *ℤ step → p ≢ 90 → p ≢ 180 → IsTrue (is_interpolated p) }
+{}
+
+/// Luma's differences from its mean fit 16 bits, in each block of chroma of a leaf whose samples of luma have at most 12 bits.
+pub fn luma_differences_fit()
+    ensures { (luma : ℕ → ℕ → ℕ) (leaf : LumaLeaf) (r c : ℕ) → leaf.xdec ≤ 1 → leaf.ydec ≤ leaf.xdec → r < (chroma_block leaf).height → c < (chroma_block leaf).width
+        → ((x y : ℕ) → x < columns_read (chroma_block leaf) → y < rows_read (chroma_block leaf) → luma (first_column leaf + x) (first_row leaf + y) < 4096)
+        → FitsSigned w16 (leaf_difference luma leaf r c) }
+{}
+
+/// An edge that is prepared for an intra mode at column x of row y, of w by h samples, has as many places above and to the left as the
+/// mode that is then in effect reads there.
+pub fn prepared_edges_suffice()
+    ensures above { (filter : Bool) (mode : PredictionMode) (param : IntraParam) (x y w h : ℕ) →
+        let m = effective mode x y in
+        places_above m (variant_at x y) (unsigned_abs (angle_or_alpha m param)) w h ≤ w + where_asked (prepared_parts filter (Some mode) (step_of param) x y w h).above_right h }
+    ensures left { (filter : Bool) (mode : PredictionMode) (param : IntraParam) (x y w h : ℕ) → unsigned_abs (step_of param) ≤ 3 →
+        let m = effective mode x y in let parts = prepared_parts filter (Some mode) (step_of param) x y w h in
+        places_left m (variant_at x y) (unsigned_abs (angle_or_alpha m param)) w h ≤ where_asked parts.left h + where_asked parts.below_left w }
 {}

@@ -1,15 +1,19 @@
 //! Intra prediction: the samples of a block from those round it.
 //!
-//! The crate stands on `av1_frame` for samples and regions, and on `av1_blocks` for modes and references. Its names and values are
-//! those of rav1e. It promises to the crates above it:
+//! The crate stands on `av1_frame` for samples and regions, on `av1_edges` for the samples round a block, and on `av1_blocks` for modes
+//! and references. Its names and values are those of rav1e. It promises to the crates above it:
 //!
-//! - `pred_paeth`, `pred_smooth`, `pred_smooth_v`, `pred_smooth_h` and `pred_directional` turn each sample of the first rows and
-//!   columns of a region into that of its definition, and leave all others as they were, in one equation each,
-//!   `output.new ≡ painted output.old width height f`.
+//! - `predict_intra` and `dispatch_predict_intra` turn each sample of the first rows and columns of a region into that of one
+//!   definition for all intra modes, `predicted` (`specs/Predicted.antt`), over the edge that `get_intra_edges` prepares, and leave all
+//!   others as they were, in one equation, `output.new ≡ painted output.old width height f`.
+//! - So do the predictors of one kind, each by its own definition; they stand in the module `rust`.
+//! - `leaf_luma_ac` and `pred_cfl_ac` put into a slice, row by row, how far the luma over each sample of chroma is from its mean, and
+//!   leave the rest of the slice (`specs/ChromaFromLuma.antt`).
 //! - `filter_edge` and `upsample_edge` prepare a side in a slice, entry by entry, and leave the rest of the slice.
 //! - `select_ief_strength`, `select_ief_upsample` and `dr_intra_derivative` are their tables, and `IntraEdgeFilterParameters` tells
 //!   whether a neighbour has a smooth mode.
-//! - the laws: every entry of a side that a direction reads is there, and the modes have angles that `pred_directional` admits.
+//! - the laws: every entry of a side that a direction reads is there, the modes have angles that `pred_directional` admits, prepared
+//!   edges are as long as their modes read, and luma's differences fit 16 bits.
 //!
 //! Nothing allocates, and nothing is refused: what a call needs stands in its `requires`. Sides are counted in samples and angles
 //! in degrees: 90 points straight up, and 180 to the left. A side above runs from the left, and a left one is stored from the
@@ -17,24 +21,33 @@
 #![tactic(auto)]
 
 mod angle;
+mod chroma_from_luma;
+mod dc;
 mod directional;
 mod edge_filter;
 mod interpolation;
 mod laws;
+mod luma;
 mod neighbours;
 mod paeth;
+mod predict;
 mod prepared_side;
+mod rows;
+pub mod rust;
 mod samples;
 mod smooth;
+mod straight;
 #[cfg(test)]
 mod tests;
+mod tile_luma;
 mod upsampling;
+mod variant;
 
-pub use angle::dr_intra_derivative;
-pub use directional::pred_directional;
-pub use edge_filter::{filter_edge, select_ief_strength};
-pub use laws::{lines_meet_their_sides, modes_have_angles};
+pub use laws::{
+    lines_meet_their_sides, luma_differences_fit, modes_have_angles, prepared_edges_suffice,
+};
+pub use luma::{LumaLeaf, leaf_luma_ac};
 pub use neighbours::IntraEdgeFilterParameters;
-pub use paeth::pred_paeth;
-pub use smooth::{pred_smooth, pred_smooth_h, pred_smooth_v};
-pub use upsampling::{select_ief_upsample, upsample_edge};
+pub use predict::{dispatch_predict_intra, predict_intra};
+pub use tile_luma::luma_ac;
+pub use variant::PredictionVariant;

@@ -10,7 +10,7 @@ use av1_blocks::{PredictionMode, RefType};
 use av1_frame::CodedBlockInfo;
 
 /// The neighbours above and to the left of a block, in a plane counted 0 for luma. A neighbour outside the tile is `None`.
-#[derive(Clone, Copy, Debug, PartialEq, Eq)]
+#[derive(Clone, Copy, Debug, Default, PartialEq, Eq)]
 pub struct IntraEdgeFilterParameters {
     /// The plane: 0 is luma.
     pub plane: usize,

@@ -1,6 +1,6 @@
 //! A side of a block as directional prediction reads it: filtered and doubled as the angle asks.
 
-ghost use Rattle.std.specs.Prelude.{◌≡◌, ℕ, ◌+◌, ◌-◌, ◌*◌, ◌/◌, ◌%◌, ◌^◌, ◌<◌, ◌≤◌, length, map, take, reverse, if◌then◌else◌, min, Bool, IsTrue};
+ghost use Rattle.std.specs.Prelude.{◌≡◌, ℕ, ◌+◌, ◌-◌, ◌*◌, ◌/◌, ◌%◌, ◌^◌, ◌<◌, ◌≤◌, length, map, take, reverse, replicate, if◌then◌else◌, min, Bool, IsTrue};
 ghost use Rattle.av1_intra.specs.Sides.{entries, distance};
 ghost use Rattle.av1_intra.specs.EdgeFilter.{filtered};
 ghost use Rattle.av1_intra.specs.Upsampling.{upsampled};
@@ -24,35 +24,33 @@ pub(crate) struct PreparedSide {
     pub(crate) doubling: usize,
 }
 
-/// The corner and the first `count` places above, as numbers, and zeros after these.
+/// The corner and the first `count` places above, as numbers; there are zeros after these.
 #[tactic(auto, using(av1_frame::proofs::Paint::paint_row_none, av1_frame::proofs::Paint::paint_row_more))]
-fn above_numbers<T: Pixel>(corner: T, above: &[T], count: usize) -> [u16; ENTRIES]
+fn above_numbers<T: Pixel>(numbers: &mut [u16; ENTRIES], corner: T, above: &[T], count: usize)
+    requires empty { numbers.old ≡ replicate 257 0 }
     requires few { count ≤ 128 }
     requires long { count ≤ length above.now }
-    ensures { entries result ≡ side (T.num corner) (take count (map T.num above.now)) }
+    ensures { entries numbers.new ≡ side (T.num corner) (take count (map T.num above.now)) }
 {
-    let mut numbers = [0u16; ENTRIES];
     numbers[0] = corner.to_u32() as u16;
     for k in 0..count {
         numbers[k + 1] = above[k].to_u32() as u16;
     }
-    numbers
 }
 
-/// The corner and the first `count` places on the left, the last sample of `left` first, and zeros after these.
+/// The corner and the first `count` places on the left, the last sample of `left` first; there are zeros after these.
 #[tactic(auto, using(av1_frame::proofs::Paint::paint_row_none, av1_frame::proofs::Paint::paint_row_more))]
-fn left_numbers<T: Pixel>(corner: T, left: &[T], count: usize) -> [u16; ENTRIES]
+fn left_numbers<T: Pixel>(numbers: &mut [u16; ENTRIES], corner: T, left: &[T], count: usize)
+    requires empty { numbers.old ≡ replicate 257 0 }
     requires few { count ≤ 128 }
     requires long { count ≤ length left.now }
-    ensures { entries result ≡ side (T.num corner) (take count (reverse (map T.num left.now))) }
+    ensures { entries numbers.new ≡ side (T.num corner) (take count (reverse (map T.num left.now))) }
 {
     let last = left.len();
-    let mut numbers = [0u16; ENTRIES];
     numbers[0] = corner.to_u32() as u16;
     for k in 0..count {
         numbers[k + 1] = left[last - 1 - k].to_u32() as u16;
     }
-    numbers
 }
 
 /// Smooths the first `smoothed` places and then doubles the first `places`.
@@ -106,53 +104,65 @@ fn filter_side(
     }
 }
 
-/// The side above with its first `places` places, of which the first `smoothed` are smoothed.
-pub(crate) fn prepared_above<T: Pixel>(
+/// Makes an empty side the one above with its first `places` places, of which the first `smoothed` are smoothed.
+pub(crate) fn prepare_above<T: Pixel>(
+    ready: &mut PreparedSide,
     above: &[T],
     corner: T,
     block: DirectionalBlock,
     smoothed: usize,
     places: usize,
-) -> PreparedSide
+)
+    requires empty { ready.old.numbers ≡ replicate 257 0 }
     requires smoothed { smoothed ≤ 128 }
     requires places { places ≤ block.width + block.height }
     requires sides { block.width + block.height ≤ 128 }
     requires long { places ≤ length above.now }
     requires angle { block.p_angle < 300 }
     requires depth { block.bit_depth ≤ 16 }
-    ensures numbers { entries result.numbers ≡ prepared block (distance block.p_angle 90) smoothed places (side (T.num corner) (take places (map T.num above.now))) }
-    ensures doubling { result.doubling ≡ doubling block (distance block.p_angle 90) }
-    ensures one { result.doubling ≤ 1 }
+    ensures numbers { entries ready.new.numbers ≡ prepared block (distance block.p_angle 90) smoothed places (side (T.num corner) (take places (map T.num above.now))) }
+    ensures doubling { ready.new.doubling ≡ doubling block (distance block.p_angle 90) }
+    ensures one { ready.new.doubling ≤ 1 }
 {
-    let mut numbers = above_numbers(corner, above, places);
-    let doubling = filter_side(&mut numbers, block, 90, smoothed, places);
-    PreparedSide { numbers, doubling }
+    above_numbers(&mut ready.numbers, corner, above, places);
+    ready.doubling = filter_side(&mut ready.numbers, block, 90, smoothed, places);
 }
 
-/// The left side with its first `places` places from the top down, of which the first `smoothed` are smoothed.
-pub(crate) fn prepared_left<T: Pixel>(
+/// Makes an empty side the left one with its first `places` places from the top down, of which the first `smoothed` are smoothed.
+pub(crate) fn prepare_left<T: Pixel>(
+    ready: &mut PreparedSide,
     left: &[T],
     corner: T,
     block: DirectionalBlock,
     smoothed: usize,
     places: usize,
-) -> PreparedSide
+)
+    requires empty { ready.old.numbers ≡ replicate 257 0 }
     requires smoothed { smoothed ≤ 128 }
     requires places { places ≤ block.width + block.height }
     requires sides { block.width + block.height ≤ 128 }
     requires long { places ≤ length left.now }
     requires angle { block.p_angle < 300 }
     requires depth { block.bit_depth ≤ 16 }
-    ensures numbers { entries result.numbers ≡ prepared block (distance block.p_angle 180) smoothed places (side (T.num corner) (take places (reverse (map T.num left.now)))) }
-    ensures doubling { result.doubling ≡ doubling block (distance block.p_angle 180) }
-    ensures one { result.doubling ≤ 1 }
+    ensures numbers { entries ready.new.numbers ≡ prepared block (distance block.p_angle 180) smoothed places (side (T.num corner) (take places (reverse (map T.num left.now)))) }
+    ensures doubling { ready.new.doubling ≡ doubling block (distance block.p_angle 180) }
+    ensures one { ready.new.doubling ≤ 1 }
 {
-    let mut numbers = left_numbers(corner, left, places);
-    let doubling = filter_side(&mut numbers, block, 180, smoothed, places);
-    PreparedSide { numbers, doubling }
+    left_numbers(&mut ready.numbers, corner, left, places);
+    ready.doubling = filter_side(&mut ready.numbers, block, 180, smoothed, places);
 }
 
 impl PreparedSide {
+    /// A side with no places.
+    pub(crate) fn empty() -> PreparedSide
+        ensures { result.numbers ≡ replicate 257 0 }
+    {
+        PreparedSide {
+            numbers: [0; ENTRIES],
+            doubling: 0,
+        }
+    }
+
     /// The number between the entries `e` and `e + 1`, `z` 32nds past the first.
     pub(crate) fn blended(&self, e: usize, z: u32, bit_depth: usize) -> u32
         requires e { e < 256 }

@@ -4,7 +4,7 @@ ghost use Rattle.std.specs.Prelude.{◌≡◌, ◌^◌, ◌<◌, ◌≤◌, leng
 ghost use Rattle.av1_frame.specs.Arithmetic.{clip};
 ghost use Rattle.av1_intra.specs.Sides.{numbers};
 
-use av1_frame::Pixel;
+use av1_frame::{Pixel, clamp};
 
 /// The number of the sample at place `k`.
 pub(crate) fn number_at<T: Pixel>(samples: &[T], k: usize) -> u32
@@ -24,4 +24,13 @@ pub(crate) fn clipped(number: u32, bit_depth: usize) -> u32
 {
     let top = (1 << bit_depth) - 1;
     if number < top { number } else { top }
+}
+
+/// The number of a sample of the depth that is nearest to `value`.
+pub(crate) fn clip_to(value: i32, bit_depth: usize) -> u32
+    requires { bit_depth ≤ 16 }
+    ensures value { result ≡ clip bit_depth value }
+    ensures fits { result < 2 ^ bit_depth }
+{
+    clamp(value, 0, (1 << bit_depth) - 1) as u32
 }

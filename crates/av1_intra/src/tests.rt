@@ -1,9 +1,13 @@
 //! Worked blocks and edges, and answers of rav1e's own predictors.
 
-use crate::{
-    IntraEdgeFilterParameters, dr_intra_derivative, filter_edge, pred_directional, pred_paeth,
-    pred_smooth, pred_smooth_h, pred_smooth_v, select_ief_strength, select_ief_upsample,
-    upsample_edge,
+mod luma;
+mod modes;
+
+use crate::IntraEdgeFilterParameters;
+use crate::rust::{
+    dr_intra_derivative, filter_edge, pred_dc, pred_dc_128, pred_dc_left, pred_dc_top,
+    pred_directional, pred_h, pred_paeth, pred_smooth, pred_smooth_h, pred_smooth_v, pred_v,
+    select_ief_strength, select_ief_upsample, upsample_edge,
 };
 use av1_blocks::{PredictionMode, RefType};
 use av1_frame::{Area, CodedBlockInfo, Plane};
@@ -31,6 +35,66 @@ macro_rules! four_rows {
         assert!($rt; region.row(3).starts_with(&rows[3]), "the last row");
         Ok(())
     }};
+}
+
+#[test]
+fn a_mean_is_taken_of_both_sides(rt: HostRuntime) -> Result<(), Fail> {
+    four_rows!(
+        rt,
+        output,
+        pred_dc(output, &ABOVE, &LEFT_OF_FOUR, 4, 4, 8),
+        [[32; 4]; 4]
+    )
+}
+
+#[test]
+fn a_mean_is_taken_of_the_left_side(rt: HostRuntime) -> Result<(), Fail> {
+    four_rows!(
+        rt,
+        output,
+        pred_dc_left(output, &ABOVE, &LEFT_OF_FOUR, 4, 4, 8),
+        [[30; 4]; 4]
+    )
+}
+
+#[test]
+fn a_mean_is_taken_of_the_side_above(rt: HostRuntime) -> Result<(), Fail> {
+    four_rows!(
+        rt,
+        output,
+        pred_dc_top(output, &ABOVE, &LEFT_OF_FOUR, 4, 4, 8),
+        [[35; 4]; 4]
+    )
+}
+
+#[test]
+fn without_sides_half_of_the_range_is_taken(rt: HostRuntime) -> Result<(), Fail> {
+    four_rows!(
+        rt,
+        output,
+        pred_dc_128(output, &ABOVE, &LEFT_OF_FOUR, 4, 4, 8),
+        [[128; 4]; 4]
+    )
+}
+
+#[test]
+fn the_side_above_is_copied_down(rt: HostRuntime) -> Result<(), Fail> {
+    four_rows!(
+        rt,
+        output,
+        pred_v(output, &ABOVE, 4, 4),
+        [[33, 34, 35, 36]; 4]
+    )
+}
+
+#[test]
+fn the_left_side_is_copied_across(rt: HostRuntime) -> Result<(), Fail> {
+    four_rows!(
+        rt,
+        output,
+        pred_h(output, &LEFT_OF_FOUR, 4, 4),
+        [[31; 4], [30; 4], [29; 4], [28; 4]]
+    )
 }
 
 #[test]

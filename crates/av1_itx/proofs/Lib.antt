@@ -11,6 +11,9 @@ pub mod Lines
 pub mod Outputs
 pub mod Zeros
 pub mod Passes
+pub mod ScaledRows
+pub mod Single
+pub mod Eights
 pub mod Sizes
 pub mod Shifts
 pub mod NoWrap

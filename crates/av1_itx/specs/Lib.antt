@@ -5,3 +5,5 @@ pub mod Walsh
 pub mod Networks
 pub mod Residue
 pub mod Shift
+pub mod LaneGroups
+pub mod Scaled

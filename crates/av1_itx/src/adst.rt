@@ -156,18 +156,21 @@ fn adst16_of(input: &[i32], output: &mut [i32], range: usize)
 }
 
 // The sum and a product, wrapped.
+#[inline(always)]
 fn add_product(sum: i32, weight: i32, x: i32) -> i32
     ensures { result ≡ wrap32 (sum +ℤ weight *ℤ x) }
 {
     sum.wrapping_add(weight.wrapping_mul(x))
 }
 
+#[inline(always)]
 fn round12(sum: i32) -> i32
     ensures { result ≡ round12 sum }
 {
     sum.wrapping_add(2048) >> 12
 }
 
+#[inline(always)]
 fn adst4_of(input: &[i32], output: &mut [i32])
     requires input_len { length input.now ≡ 4 }
     requires output_len { length output.old ≡ 4 }
@@ -185,6 +188,7 @@ fn adst4_of(input: &[i32], output: &mut [i32])
 }
 
 /// The inverse asymmetric sine transform of 2^(k+1) values.
+#[inline(always)]
 pub(crate) fn adst_of(k: usize, input: &[i32], output: &mut [i32], range: usize)
     requires range_in { (8 ≤ range) × (range ≤ 20) }
     requires k_in { (1 ≤ k) × (k ≤ 3) }

@@ -1,41 +1,59 @@
 //! The inverse transform of a block, added to its samples.
 
-ghost use Rattle.std.specs.Prelude.{◌≡◌, ℕ, ◌⊎◌, ◌+◌, ◌-◌, ◌*◌, ◌^◌, ◌<◌, ◌≤◌, IsTrue, OnOk, OnErr, ℤ, pos, ◌+ℤ◌, length, map, vec_len};
+ghost use Rattle.std.specs.Prelude.{◌≡◌, ℕ, ◌⊎◌, ◌+◌, ◌-◌, ◌*◌, ◌^◌, ◌<◌, ◌≤◌, IfOk, IsTrue, OnOk, OnErr, ℤ, pos, ◌+ℤ◌, length, map, vec_len};
 ghost use Rattle.av1_blocks.specs.declared.transform.TxSize.TheVariants.{TX_4X4};
 ghost use Rattle.av1_blocks.specs.declared.transform.TxType.TheVariants.{WHT_WHT};
 ghost use Rattle.av1_blocks.specs.Transforms.{tx_width, tx_height, coded_area, valid_av1_transform};
 ghost use Rattle.av1_dct.specs.Arithmetic.{at, FitsBits};
+ghost use Rattle.av1_dct.specs.Counts.{raised};
 ghost use Rattle.av1_frame.specs.Arithmetic.{clip, round_shift};
 ghost use Rattle.av1_frame.specs.Samples.{paint_row};
 ghost use Rattle.av1_frame.specs.Regions.{InStorage, painted};
 ghost use Rattle.av1_itx.specs.Kinds.{column_kind, row_kind};
+ghost use Rattle.av1_itx.specs.LaneGroups.{lane_groups};
 ghost use Rattle.av1_itx.specs.Networks.{HasNetwork};
 ghost use Rattle.av1_itx.specs.Residue.{column_power, column_shift, residue, row_power};
 
 use crate::columns::column_pass;
+use crate::lane_columns::Lanes;
 use crate::rows::row_pass;
 use av1_blocks::{OutOfMemory, TxSize, TxType};
 use av1_frame::{Pixel, PlaneRegionMut, clamp, round_shift};
 use std::alloc::Global;
 
-/// The values of one block between its passes, and of one row or column.
+/// The values of one block between its passes, of one row or column, and of eight columns.
 #[derive(Drop)]
 pub struct TxScratch {
     buffer: Vec<i32>,
+    scaled: Vec<i32>,
     line: [i32; 64],
     done: [i32; 64],
-    ghost long: { vec_len buffer ≡ 4096 },
+    lanes: Lanes,
+    ghost long: { (vec_len buffer ≡ 4096) × (vec_len scaled ≡ 1024) },
 }
 
 impl TxScratch {
     /// Room for every size, 64x64 included.
-    pub fn new(alloc: Global) -> Result<TxScratch, OutOfMemory> {
+    pub fn new(alloc: Global) -> Result<TxScratch, OutOfMemory>
+        ensures { IfOk result (λ scratch. scratch.lanes.count.groups ≡ 0) }
+    {
         let buffer = vec![in alloc; 0; 4096]?;
+        let scaled = vec![in alloc; 0; 1024]?;
+        let lanes = Lanes::new(alloc)?;
         Ok(TxScratch {
             buffer,
+            scaled,
             line: [0; 64],
             done: [0; 64],
+            lanes,
         })
+    }
+
+    /// How many groups of eight columns went through the lanes. It stays at the last value of a `u64`.
+    pub fn lane_groups(&self) -> u64
+        ensures { result ≡ self.now.lanes.count.groups }
+    {
+        self.lanes.groups()
     }
 }
 
@@ -120,8 +138,10 @@ fn column_shift_of(tx_type: TxType) -> usize
 // The inverse transform over a buffer of just the block's size.
 fn add_block<T: Pixel>(
     buffer: &mut [i32],
+    scaled: &mut [i32],
     line: &mut [i32],
     done: &mut [i32],
+    lanes: &mut Lanes,
     input: &[T::Coeff],
     output: &mut PlaneRegionMut<'_, T>,
     tx_size: TxSize,
@@ -133,6 +153,7 @@ fn add_block<T: Pixel>(
     requires rows_run { HasNetwork (row_kind tx_type) (row_power tx_size) }
     requires columns_run { HasNetwork (column_kind tx_type) (column_power tx_size) }
     requires buffer_len { length buffer.old ≡ tx_height tx_size * tx_width tx_size }
+    requires scaled_len { length scaled.old ≡ coded_area tx_size }
     requires line_len { 64 ≤ length line.old }
     requires done_len { 64 ≤ length done.old }
     requires input_len { coded_area tx_size ≤ length input.now }
@@ -142,9 +163,10 @@ fn add_block<T: Pixel>(
     requires rows { tx_height tx_size ≤ output.old.place.height }
     ensures painted { output.new ≡ painted output.old (tx_width tx_size) (tx_height tx_size) (λ r c v. T.pixel (clip bd (pos (T.num v) +ℤ residue tx_size tx_type bd (map T.Coeff.val input.now) r c))) }
     ensures storage { InStorage output.new }
+    ensures counts { lanes.new.count.groups ≡ raised lanes.old.count.groups (lane_groups tx_size tx_type) }
 {
-    row_pass(input, line, buffer, tx_size, tx_type, bd);
-    column_pass(buffer, line, done, tx_size, tx_type, bd);
+    row_pass(input, scaled, line, buffer, tx_size, tx_type, bd);
+    column_pass(buffer, line, done, lanes, tx_size, tx_type, bd);
     let shift = column_shift_of(tx_type);
     add_rows(output, buffer, tx_size.width(), tx_size.height(), shift, bd);
 }
@@ -152,8 +174,10 @@ fn add_block<T: Pixel>(
 // The same over a whole buffer.
 fn add_over<T: Pixel>(
     buffer: &mut [i32],
+    scaled: &mut [i32],
     line: &mut [i32],
     done: &mut [i32],
+    lanes: &mut Lanes,
     input: &[T::Coeff],
     output: &mut PlaneRegionMut<'_, T>,
     tx_size: TxSize,
@@ -165,6 +189,7 @@ fn add_over<T: Pixel>(
     requires rows_run { HasNetwork (row_kind tx_type) (row_power tx_size) }
     requires columns_run { HasNetwork (column_kind tx_type) (column_power tx_size) }
     requires buffer_len { 4096 ≤ length buffer.old }
+    requires scaled_len { 1024 ≤ length scaled.old }
     requires line_len { 64 ≤ length line.old }
     requires done_len { 64 ≤ length done.old }
     requires input_len { coded_area tx_size ≤ length input.now }
@@ -174,12 +199,16 @@ fn add_over<T: Pixel>(
     requires rows { tx_height tx_size ≤ output.old.place.height }
     ensures painted { output.new ≡ painted output.old (tx_width tx_size) (tx_height tx_size) (λ r c v. T.pixel (clip bd (pos (T.num v) +ℤ residue tx_size tx_type bd (map T.Coeff.val input.now) r c))) }
     ensures storage { InStorage output.new }
+    ensures counts { lanes.new.count.groups ≡ raised lanes.old.count.groups (lane_groups tx_size tx_type) }
 {
     let places = tx_size.height() * tx_size.width();
+    let coefficients = tx_size.width().min(32) * tx_size.height().min(32);
     add_block(
         &mut buffer[..places],
+        &mut scaled[..coefficients],
         line,
         done,
+        lanes,
         input,
         output,
         tx_size,
@@ -212,11 +241,14 @@ pub fn inverse_transform_add_with<T: Pixel>(
     requires rows { tx_height tx_size ≤ output.old.place.height }
     ensures painted { output.new ≡ painted output.old (tx_width tx_size) (tx_height tx_size) (λ r c v. T.pixel (clip bd (pos (T.num v) +ℤ residue tx_size tx_type bd (map T.Coeff.val input.now) r c))) }
     ensures storage { InStorage output.new }
+    ensures lanes { scratch.new.lanes.count.groups ≡ raised scratch.old.lanes.count.groups (lane_groups tx_size tx_type) }
 {
     add_over(
         scratch.buffer.as_mut_slice(),
+        scratch.scaled.as_mut_slice(),
         &mut scratch.line,
         &mut scratch.done,
+        &mut scratch.lanes,
         input,
         output,
         tx_size,

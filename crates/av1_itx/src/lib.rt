@@ -7,6 +7,8 @@
 //! - `inverse_transform_add_with` turns each sample of a block into itself plus `residue` of `specs/Residue.antt`, clipped to the
 //!   depth, and leaves all other samples as they were. It runs over a `TxScratch` that is made once, allocates nothing and always
 //!   succeeds. `inverse_transform_add` makes its own scratch; where memory is refused it changes nothing.
+//! - Columns that take the cosine transform go through `cosine_lanes` eight at a time, where there are eight or more. A scratch counts
+//!   these groups: `TxScratch::lane_groups`, which each call raises by `lane_groups` of `specs/LaneGroups.antt`.
 //! - `av1_iadst4`, `av1_iflipadst16`, `av1_iidentity32`, `av1_iwht4` and their like give the definitions of `specs/Adst.antt`,
 //!   `specs/Identity.antt` and `specs/Walsh.antt` on the first values of a slice, and leave the rest of `output`.
 //! - the laws, functions that do nothing: zeros have no residue and are not changed by any transform, a flipped transform is the
@@ -24,6 +26,7 @@ mod columns;
 mod identity;
 mod inverse;
 mod kinds;
+mod lane_columns;
 mod laws;
 mod networks;
 mod rows;

@@ -3,12 +3,13 @@
 ghost use Rattle.std.specs.Prelude.{◌≡◌, ℕ, ◌+◌, ◌*◌, ◌<◌, ◌≤◌, ◌↔◌, if◌then◌else◌, IsTrue, EachIndex, ℤ, pos, ◌*ℤ◌, length, map};
 ghost use Rattle.std.specs.Int.{int_shr};
 ghost use Rattle.av1_blocks.specs.Transforms.{tx_width, tx_height, coded, coded_area};
-ghost use Rattle.av1_dct.specs.Arithmetic.{at, clamp_value, FitsBits};
+ghost use Rattle.av1_dct.specs.Arithmetic.{at, AllFit, clamp_value, FitsBits};
 ghost use Rattle.av1_dct.specs.Cosine.{by_index};
 ghost use Rattle.av1_frame.specs.Arithmetic.{round_shift};
 ghost use Rattle.av1_itx.specs.Kinds.{row_kind};
-ghost use Rattle.av1_itx.specs.Networks.{HasNetwork};
-ghost use Rattle.av1_itx.specs.Residue.{is_lossless, is_two_to_one, row_input, row_power, row_range, transformed_row};
+ghost use Rattle.av1_itx.specs.Networks.{HasNetwork, network};
+ghost use Rattle.av1_itx.specs.Residue.{is_lossless, is_two_to_one, row_power, row_range, row_value, transformed_row};
+ghost use Rattle.av1_itx.specs.Scaled.{scaled_input};
 
 use crate::kinds::get_1d_tx_types;
 use crate::networks::run_network;
@@ -59,27 +60,36 @@ fn row_value_of(v: i32, scaling: Scaling, bd: usize) -> i32
     clamp_value(scaled(v, scaling), bd + 8)
 }
 
-// The inputs of row r.
-fn gather_row<C: Coefficient>(
+// Each coefficient as the rows take it. One pass over neighbours is cheaper than one along each row.
+fn scale_all<C: Coefficient>(
     input: &[C],
-    line: &mut [i32],
-    r: usize,
+    scaled: &mut [i32],
     tx_size: TxSize,
     tx_type: TxType,
     bd: usize,
 )
     requires depth_in { (8 ≤ bd) × (bd ≤ 12) }
-    requires input_len { coded_area tx_size ≤ length input.now }
-    requires input_fits { (i : ℕ) → i < coded_area tx_size → FitsBits (bd + 8) (at (map C.val input.now) i) }
-    requires row_in { r < coded (tx_height tx_size) }
-    requires line_len { length line.old ≡ tx_width tx_size }
-    ensures { line.new ≡ by_index (tx_width tx_size) (row_input tx_size tx_type bd (map C.val input.now) r) }
+    requires input_len { length scaled.old ≤ length input.now }
+    requires input_fits { (i : ℕ) → i < length scaled.old → FitsBits (bd + 8) (at (map C.val input.now) i) }
+    ensures { (i : ℕ) → i < length scaled.old → at scaled.new i ≡ row_value tx_size tx_type bd (at (map C.val input.now) i) }
 {
     let scaling = scaling_of(tx_size, tx_type);
+    for i in 0..scaled.len() {
+        scaled[i] = row_value_of(input[i].to_i32(), scaling, bd);
+    }
+}
+
+// The inputs of row r, which stand column by column in `scaled`.
+fn gather_row(scaled: &[i32], line: &mut [i32], r: usize, tx_size: TxSize)
+    requires scaled_len { length scaled.now ≡ coded_area tx_size }
+    requires row_in { r < coded (tx_height tx_size) }
+    requires line_len { length line.old ≡ tx_width tx_size }
+    ensures { line.new ≡ by_index (tx_width tx_size) (scaled_input tx_size scaled.now r) }
+{
     let rows = tx_size.height().min(32);
     let columns = line.len().min(32);
     'coded: for c in 0..columns {
-        line[c] = row_value_of(input[c * rows + r].to_i32(), scaling, bd);
+        line[c] = scaled[c * rows + r];
     }
     'rest: for c in columns..line.len() {
         line[c] = 0;
@@ -101,8 +111,8 @@ fn clear(line: &mut [i32])
 }
 
 // Row r, transformed. A row of zeros stays one, and is not run.
-fn run_row<C: Coefficient>(
-    input: &[C],
+fn run_row(
+    scaled: &[i32],
     line: &mut [i32],
     output: &mut [i32],
     r: usize,
@@ -111,15 +121,15 @@ fn run_row<C: Coefficient>(
     bd: usize,
 )
     requires depth_in { (8 ≤ bd) × (bd ≤ 12) }
-    requires input_len { coded_area tx_size ≤ length input.now }
-    requires input_fits { (i : ℕ) → i < coded_area tx_size → FitsBits (bd + 8) (at (map C.val input.now) i) }
+    requires scaled_len { length scaled.now ≡ coded_area tx_size }
+    requires scaled_fit { AllFit (row_range bd) scaled.now }
     requires has { HasNetwork (row_kind tx_type) (row_power tx_size) }
     requires row_in { r < coded (tx_height tx_size) }
     requires line_len { length line.old ≡ tx_width tx_size }
     requires output_len { length output.old ≡ tx_width tx_size }
-    ensures { (c : ℕ) → c < tx_width tx_size → at output.new c ≡ at (transformed_row tx_size tx_type bd (map C.val input.now) r) c }
+    ensures { (c : ℕ) → c < tx_width tx_size → at output.new c ≡ at (network (row_kind tx_type) (row_range bd) (row_power tx_size) (by_index (tx_width tx_size) (scaled_input tx_size scaled.now r))) c }
 {
-    gather_row(input, line, r, tx_size, tx_type, bd);
+    gather_row(scaled, line, r, tx_size);
     if is_zero(line) {
         clear(output);
         return;
@@ -128,9 +138,11 @@ fn run_row<C: Coefficient>(
     run_network(kind, tx_size.width_log2() - 1, line, output, bd + 8);
 }
 
-/// Each row of a block, transformed: `buffer` has the block row by row. The rows from 32 on are zeros.
+/// Each row of a block, transformed: `buffer` has the block row by row. The rows from 32 on are zeros. `scaled` is room for the
+/// coefficients.
 pub(crate) fn row_pass<C: Coefficient>(
     input: &[C],
+    scaled: &mut [i32],
     line: &mut [i32],
     buffer: &mut [i32],
     tx_size: TxSize,
@@ -141,15 +153,17 @@ pub(crate) fn row_pass<C: Coefficient>(
     requires input_len { coded_area tx_size ≤ length input.now }
     requires input_fits { (i : ℕ) → i < coded_area tx_size → FitsBits (bd + 8) (at (map C.val input.now) i) }
     requires has { HasNetwork (row_kind tx_type) (row_power tx_size) }
+    requires scaled_len { length scaled.old ≡ coded_area tx_size }
     requires line_len { 64 ≤ length line.old }
     requires buffer_len { length buffer.old ≡ tx_height tx_size * tx_width tx_size }
     ensures { (r c : ℕ) → r < tx_height tx_size → c < tx_width tx_size → at buffer.new (r * tx_width tx_size + c) ≡ at (transformed_row tx_size tx_type bd (map C.val input.now) r) c }
 {
     let w = tx_size.width();
     let rows = tx_size.height().min(32);
+    scale_all(input, scaled, tx_size, tx_type, bd);
     for r in 0..rows {
         let output = &mut buffer[r * w..r * w + w];
-        run_row(input, &mut line[..w], output, r, tx_size, tx_type, bd);
+        run_row(scaled, &mut line[..w], output, r, tx_size, tx_type, bd);
     }
     clear(&mut buffer[rows * w..]);
 }

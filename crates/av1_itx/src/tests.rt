@@ -215,3 +215,88 @@ fn a_type_names_columns_before_rows(rt: HostRuntime) {
     let (columns, rows) = get_1d_tx_types(TxType::ADST_DCT);
     assert!(rt; columns == TxType1D::ADST && rows == TxType1D::DCT);
 }
+
+#[test]
+fn groups_of_eight_columns_answer_as_rav1e(rt: HostRuntime) -> Result<(), Fail> {
+    let samples = [512u16; 256];
+    let mut input = [0i32; 256];
+    input[0] = 3000;
+    input[1] = -2000;
+    input[16] = 1500;
+    input[35] = 777;
+    input[255] = -4000;
+    clamp_all(&mut input, 18);
+    let mut plane = Plane::from_slice(rt.alloc(), &samples, 16)?;
+    let mut scratch = TxScratch::new(rt.alloc())?;
+    let mut region = plane.region_mut(Area::Rect {
+        x: 0,
+        y: 0,
+        width: 16,
+        height: 16,
+    });
+    let (size, tx_type) = (TxSize::TX_16X16, TxType::DCT_DCT);
+    inverse_transform_add_with(&mut scratch, &input, &mut region, size, tx_type, 10);
+    let first = [
+        541, 541, 532, 532, 517, 520, 503, 510, 494, 505, 494, 505, 499, 508, 506, 509,
+    ];
+    assert!(rt; region.row(0).starts_with(&first), "the first row");
+    let last = [
+        563, 562, 568, 564, 575, 566, 578, 564, 573, 556, 561, 544, 546, 533, 534, 529,
+    ];
+    assert!(rt; region.row(15).starts_with(&last), "the last row");
+    Ok(())
+}
+
+#[test]
+fn groups_of_eight_columns_are_counted(rt: HostRuntime) -> Result<(), Fail> {
+    let samples = [512u16; 256];
+    let mut input = [0i32; 256];
+    clamp_all(&mut input, 18);
+    let mut plane = Plane::from_slice(rt.alloc(), &samples, 16)?;
+    let mut scratch = TxScratch::new(rt.alloc())?;
+    let mut region = plane.region_mut(Area::Rect {
+        x: 0,
+        y: 0,
+        width: 16,
+        height: 16,
+    });
+    assert_eq!(rt; scratch.lane_groups(), 0, "a new scratch");
+    let (cosine, sine) = (TxType::DCT_DCT, TxType::ADST_DCT);
+    inverse_transform_add_with(
+        &mut scratch,
+        &input,
+        &mut region,
+        TxSize::TX_16X16,
+        cosine,
+        10,
+    );
+    assert_eq!(rt; scratch.lane_groups(), 2, "16 columns");
+    inverse_transform_add_with(
+        &mut scratch,
+        &input,
+        &mut region,
+        TxSize::TX_8X8,
+        cosine,
+        10,
+    );
+    assert_eq!(rt; scratch.lane_groups(), 3, "8 columns");
+    inverse_transform_add_with(
+        &mut scratch,
+        &input,
+        &mut region,
+        TxSize::TX_4X4,
+        cosine,
+        10,
+    );
+    assert_eq!(rt; scratch.lane_groups(), 3, "4 columns");
+    inverse_transform_add_with(
+        &mut scratch,
+        &input,
+        &mut region,
+        TxSize::TX_16X16,
+        sine,
+        10,
+    );
+    assert_eq!(rt; scratch.lane_groups(), 3, "columns of another kind");
+    Ok(())
+}

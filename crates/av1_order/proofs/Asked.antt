@@ -140,7 +140,7 @@ both_and : (c d d' : Bool) → c ≡ true → d ≡ d' → d ≡ (c && d')
 both_and true d d' e f = f
 both_and false d d' e f = absurd (true≢false (sym e))
 
-have_at : (s offset cell at : ℕ) → s ≤ 1 → cell - cell % 2 ^ s ≡ at → (ltb 0 offset || ltb s cell) ≡ ltb 0 (4 * (at / 2 ^ s + offset))
+pub have_at : (s offset cell at : ℕ) → s ≤ 1 → cell - cell % 2 ^ s ≡ at → (ltb 0 offset || ltb s cell) ≡ ltb 0 (4 * (at / 2 ^ s + offset))
 have_at s offset cell at h e = have_plain s offset cell (at / 2 ^ s) (unit_row s cell at h e)
   where
     unit_row : (s cell at : ℕ) → s ≤ 1 → cell - cell % 2 ^ s ≡ at → (s < cell → 0 < at / 2 ^ s) × (0 < at / 2 ^ s → s < cell)
@@ -155,7 +155,7 @@ when_both false false b c d d' e f = refl
 when_both true false b c d d' e f = absurd (true≢false e)
 when_both false true b c d d' e f = absurd (true≢false (sym e))
 
-cell_in_block : (s at side cell : ℕ) → s ≤ 1 → cell - cell % 2 ^ s ≡ at → 2 ^ s ≤ side → (at ≤ cell) × (cell < at + side)
+pub cell_in_block : (s at side cell : ℕ) → s ≤ 1 → cell - cell % 2 ^ s ≡ at → 2 ^ s ≤ side → (at ≤ cell) × (cell < at + side)
 cell_in_block zero at side cell h e w = omega arith
 cell_in_block (suc zero) at side cell h e w = omega arith
 cell_in_block (suc (suc s)) at side cell h e w = absurd (omega arith)

@@ -21,7 +21,7 @@ from_unit n x = leb_same (4 * n) x n (x / 4) (λ a. omega arith) (λ a. omega ar
 to_unit : (n m x : ℕ) → ltb x (4 * n + 4 * m) ≡ ltb (x / 4) (n + m)
 to_unit n m x = ltb_same x (4 * n + 4 * m) (x / 4) (n + m) (λ a. omega arith) (λ a. omega arith)
 
-in_unit : (x y n m w h : ℕ) → is_in x y (4 * n) (4 * m) (4 * w) (4 * h) ≡ is_in (x / 4) (y / 4) n m w h
+pub in_unit : (x y n m w h : ℕ) → is_in x y (4 * n) (4 * m) (4 * w) (4 * h) ≡ is_in (x / 4) (y / 4) n m w h
 unfolding is_in
 in_unit x y n m w h = rw (from_unit n x, to_unit n w x, from_unit m y, to_unit m h y) refl
 
@@ -35,7 +35,7 @@ covered-append sx sy (s ∷ ss) ts x y =
     ap (λ b. is_in x y (left sx sy s) (top sx sy s) (width_of sx sy s) (height_of sx sy s) || b) (covered-append sx sy ss ts x y)
     ∙ sym (or_assoc (is_in x y (left sx sy s) (top sx sy s) (width_of sx sy s) (height_of sx sy s)) (is_covered_sample sx sy ss x y) (is_covered_sample sx sy ts x y))
 
-covered_unit : (sx sy : ℕ) (ss : List Step) (x y : ℕ) → is_covered_sample sx sy ss x y ≡ is_covered sx sy ss (x / 4) (y / 4)
+pub covered_unit : (sx sy : ℕ) (ss : List Step) (x y : ℕ) → is_covered_sample sx sy ss x y ≡ is_covered sx sy ss (x / 4) (y / 4)
 covered_unit sx sy [] x y = refl
 covered_unit sx sy (s ∷ ss) x y =
     both (is_in x y (left sx sy s) (top sx sy s) (width_of sx sy s) (height_of sx sy s)) (is_covered_sample sx sy ss x y) (holds sx sy s (x / 4) (y / 4))

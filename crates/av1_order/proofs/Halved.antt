@@ -28,7 +28,7 @@ leb_same a b c d f g = grind (arith, nat_tests)
 unfoldable pub IsWhole : (s at side : ℕ) → Type 0
 IsWhole s at side = (s ≡ 1 → side ≡ 1 → at % 2 ≡ 1) × IsEven at side
 
-before_first : (s at side t : ℕ) → s ≤ 1 → IsWhole s at side → ltb (last s t) at ≡ ltb t ((at - at % 2 ^ s) / 2 ^ s)
+pub before_first : (s at side t : ℕ) → s ≤ 1 → IsWhole s at side → ltb (last s t) at ≡ ltb t ((at - at % 2 ^ s) / 2 ^ s)
 unfolding IsWhole
 before_first zero at side t h w = ltb_same (last 0 t) at t ((at - at % 1) / 1) (λ a. omega arith) (λ a. omega arith)
 before_first (suc zero) at side t h (odd, inl one) = let o : at % 2 ≡ 1 = odd refl one in ltb_same (last 1 t) at t ((at - at % 2) / 2) (λ a. omega arith) (λ a. omega arith)

@@ -15,9 +15,17 @@ pub mod Near
 pub mod Each
 pub mod Edges
 pub mod Asked
+pub mod Tabled
 pub mod Examples
+pub mod PlanExamples
 pub mod Numbered
 pub mod Sizes
 pub mod Plans
 pub mod PlanBlocks
 pub mod PlanEdges
+pub mod Cuts
+pub mod Blocks
+pub mod Turns
+pub mod Neighbours
+pub mod WholeAreas
+pub mod ChromaFromLuma

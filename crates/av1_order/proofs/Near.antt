@@ -16,7 +16,7 @@ use Rattle.av1_order.proofs.Units.{early}
 use Rattle.av1_order.proofs.Grid.{IsUnitBlock, node_in_units, place_units, room_units}
 
 -- The cells left of and above an aligned square, in its rows and columns too, are coded before it.
-near_earlier : (k x y nx ny : ℕ) → k ≤ 4 → nx % 2 ^ k ≡ 0 → ny % 2 ^ k ≡ 0 → x < nx + 2 ^ k → y < ny + 2 ^ k → (x < nx) ⊎ (y < ny) → is_earlier x y nx ny ≡ true
+pub near_earlier : (k x y nx ny : ℕ) → k ≤ 4 → nx % 2 ^ k ≡ 0 → ny % 2 ^ k ≡ 0 → x < nx + 2 ^ k → y < ny + 2 ^ k → (x < nx) ⊎ (y < ny) → is_earlier x y nx ny ≡ true
 near_earlier k x y nx ny h hx hy x1 y1 near = go (cases_lt x nx) (cases_lt y ny)
   where
     go : (x < nx) ⊎ (nx ≤ x) → (y < ny) ⊎ (ny ≤ y) → is_earlier x y nx ny ≡ true

@@ -82,13 +82,13 @@ module _ (h : Header) (p : ℕ) (l : LeafValue) (frame : IsWholeFrame h) (grid :
   abbrev pub area_in : PlaneArea
   area_in = plane_area h l.x l.y l.size l.tx_size p
 
-  across_is : blocks_across area_in ≡ units_in.columns / (coding_in h p l).columns
+  pub across_is : blocks_across area_in ≡ units_in.columns / (coding_in h p l).columns
   unfolding blocks_across plane_area plane_size
   across_is =
       quotient (block_width (plane_size h l.size p)) (tx_width (plane_tx_size h l.size l.tx_size p)) (max (block_width l.size / 4) (2 ^ xdec h p) / 2 ^ xdec h p)
       (tx_width (plane_tx_size h l.size l.tx_size p) / 4) (in_plane_block h l.size p valid.size).width (tx_units (plane_tx_size h l.size l.tx_size p)).0
 
-  count_is : block_count area_in ≡ units_in.rows / (coding_in h p l).rows * (units_in.columns / (coding_in h p l).columns)
+  pub count_is : block_count area_in ≡ units_in.rows / (coding_in h p l).rows * (units_in.columns / (coding_in h p l).columns)
   unfolding block_count plane_area plane_size
   count_is =
       let down = quotient (block_height (plane_size h l.size p)) (tx_height (plane_tx_size h l.size l.tx_size p)) (max (block_height l.size / 4) (2 ^ ydec h p) / 2 ^ ydec h p)

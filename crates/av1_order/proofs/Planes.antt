@@ -27,7 +27,7 @@ pub record InPlane (sx sy : ℕ) (b : Block) : Type 0 where
   pub units : IsUnitBlock sx sy (widened sx sy b)
   pub same : (x y : ℕ) → starts b (last sx x) (last sy y) ≡ opens sx sy (widened sx sy b) x y
 
-wide_enough : (a s : ℕ) → 2 ^ s ≤ max a (2 ^ s)
+pub wide_enough : (a s : ℕ) → 2 ^ s ≤ max a (2 ^ s)
 wide_enough a s = omega arith
 
 pub in_plane : (sx sy : ℕ) → sx ≤ 1 → sy ≤ sx → (b : Block) → IsOnGrid b → IsWhole sx b.x b.columns → IsWhole sy b.y b.rows → InPlane sx sy b
@@ -98,7 +98,7 @@ module _ (sx sy width height : ℕ) (hx : sx ≤ 1) (hy : sy ≤ sx) where
     framed x y here =
         record { column = in_frame sx x width hx even_width here.column; row = in_frame sy y height (omega arith) even_height here.row }
 
-    plane_written : (ls : List (Placed Coding)) (d e : ℕ → ℕ → Bool) → Follows width height d ls e → AllByRecursion (λ l. carries sx sy l.block ≡ true → IsTiled sx sy l) ls
+    pub plane_written : (ls : List (Placed Coding)) (d e : ℕ → ℕ → Bool) → Follows width height d ls e → AllByRecursion (λ l. carries sx sy l.block ≡ true → IsTiled sx sy l) ls
         → Written sx sy width height (λ x y. d (last sx x) (last sy y)) (plane_steps sx sy width height ls) (λ x y. e (last sx x) (last sy y))
     plane_written [] d e f tiled = λ x y here. f (last sx x) (last sy y) (framed x y here)
     plane_written (l ∷ ls) d e f tiled =

@@ -15,7 +15,7 @@ use Rattle.av1_blocks.specs.Transforms.{tx_width, tx_height}
 
 -- ---- powers
 
-divides : (j k : ℕ) → 2 ^ k ≤ 2 ^ j → 2 ^ j % 2 ^ k ≡ 0
+pub divides : (j k : ℕ) → 2 ^ k ≤ 2 ^ j → 2 ^ j % 2 ^ k ≡ 0
 divides j k h =
     elim (cases_lt j k) [
       | inl less ↦ absurd (let p = pow_below j k less in omega arith)
@@ -24,7 +24,7 @@ divides j k h =
           ap (λ z. 2 ^ z % 2 ^ k) e ∙ ap (λ z. z % 2 ^ k) (pow-add 2 k (j - k)) ∙ mul-mod_right (2 ^ k) (2 ^ (j - k))
     ]
 
-in_cells : (m n : ℕ) → m % n ≡ 0 → n % 4 ≡ 0 → (m / 4) % (n / 4) ≡ 0
+pub in_cells : (m n : ℕ) → m % n ≡ 0 → n % 4 ≡ 0 → (m / 4) % (n / 4) ≡ 0
 in_cells m n e en =
     let whole : n * (m / n) ≡ m = omega arith in
     let four : 4 * (n / 4) ≡ n = omega arith in

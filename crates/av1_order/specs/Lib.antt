@@ -3,4 +3,9 @@ pub mod Steps
 pub mod Places
 pub mod Samples
 pub mod Asked
+pub mod Tabled
 pub mod Plans
+pub mod Turns
+pub mod Neighbours
+pub mod ChromaFromLuma
+pub mod WholeAreas

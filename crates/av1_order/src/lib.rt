@@ -11,12 +11,18 @@
 //!   In the end each visible sample is written.
 //! - What `has_top_right` and `has_bottom_left` of `av1_avail` ask is answered by whether those runs are written (`specs/Asked.antt`).
 //! - The steps of a plan's leaves are their transform blocks, and each plane of a valid plan is such a plane (`specs/Plans.antt`).
+//! - Wherever the steps are cut, and at each transform block of a plan, the tables, asked as `av1_edges` asks them, answer what is visible
+//!   and written past it (`specs/Tabled.antt`, `specs/Turns.antt`).
+//! - The leaf whose area holds a sample is found from a record for each luma cell (`specs/Neighbours.antt`).
+//! - The luma that chroma from luma reads is written (`specs/ChromaFromLuma.antt`); inter leaves are predicted whole, and residues meet
+//!   written samples (`specs/WholeAreas.antt`).
 #![tactic(auto)]
 
 mod laws;
 
 pub use laws::{
-    edges_are_told_by_places, leaves_lie_on_their_grid, leaves_tile_the_frame,
-    order_is_told_by_places, planes_are_written, plans_are_frames, questions_are_answered_by_order,
-    steps_are_transform_blocks,
+    areas_are_predicted, cuts_are_told, edges_are_answered, edges_are_told_by_places,
+    leaves_lie_on_their_grid, leaves_tile_the_frame, luma_is_written, neighbours_are_found,
+    order_is_told_by_places, planes_are_written, plans_are_frames, plans_are_written,
+    questions_are_answered_by_order, steps_are_transform_blocks,
 };

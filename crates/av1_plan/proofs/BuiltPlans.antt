@@ -18,7 +18,7 @@ use Rattle.av1_plan.specs.declared.leaf.LeafKind.{LeafKind}
 use Rattle.av1_plan.specs.declared.leaf.LeafKind.TheVariants.{Intra}
 use Rattle.av1_plan.specs.declared.plan.Plan.{Plan}
 use Rattle.av1_plan.specs.Answer.{plan_value}
-use Rattle.av1_plan.specs.CodingOrder.{IsOnGrid}
+use Rattle.av1_plan.specs.CodingOrder.{IsOnGrid, IsTwoToOne}
 use Rattle.av1_plan.specs.Grammar.{leaf, plan}
 use Rattle.av1_plan.specs.Plan.{LeafValue, PlanValue}
 use Rattle.av1_plan.specs.Spelling.{IsSpelled}
@@ -46,6 +46,14 @@ grid_place h size x y l place s =
 
 pub grid_leaves : (p : PlanValue) → IsSpelled plan p → All (IsOnGrid p.header) p.leaves
 grid_leaves p s = all_leaves p.header (IsOnGrid p.header) (grid_place p.header) p.leaves (plan_pieces p s).leaves
+
+two_to_one : (h : Header) (size : BlockSize) (x y : ℕ) (l : LeafValue) → IsPlace h size x y → IsSpelled (leaf h size x y) l → IsTwoToOne l
+two_to_one h size x y l place s =
+    let (at_x, at_y, is) = leaf_place h size x y l s in
+    record { not_wide = rw is place.not_wide; not_high = rw is place.not_high }
+
+shaped_leaves : (p : PlanValue) → IsSpelled plan p → All IsTwoToOne p.leaves
+shaped_leaves p s = all_leaves p.header IsTwoToOne (two_to_one p.header) p.leaves (plan_pieces p s).leaves
 
 pub built_leaves : (p : PlanValue) → IsSpelled plan p → All IsBuiltLeaf p.leaves
 built_leaves p s =
@@ -156,6 +164,12 @@ plan_frame p = record {
 
 pub plan_grid : (p : Plan) → All (IsOnGrid p.header) (plan_value p).leaves
 plan_grid p k d within = ∥∥₁_elim p.spelled (grids p.header _) (λ s. grid_leaves (plan_value p) s k d within)
+
+shapes : (l : LeafValue) → IsProp (IsTwoToOne l)
+shapes l = hlevel (le_prop)
+
+pub plan_shapes : (p : Plan) → All IsTwoToOne (plan_value p).leaves
+plan_shapes p k d within = ∥∥₁_elim p.spelled (shapes _) (λ s. shaped_leaves (plan_value p) s k d within)
 
 pub plan_leaves : (p : Plan) → All IsBuiltLeaf (plan_value p).leaves
 plan_leaves p k d within = leaf_tells _ (∥∥₁_elim p.spelled (tests _ true) (λ s. leaf_holds _ (built_leaves (plan_value p) s k d within)))

@@ -15,40 +15,42 @@ use Rattle.av1_plan.proofs.Pieces.{spelled_asks, spelled_lone, spelled_both, spe
 
 -- ---- sizes in cells
 
--- a size of so many columns and rows of cells, of which so many fill a side of a superblock
+-- a size of so many columns and rows of cells, neither more than twice the other, of which so many fill a side of a superblock
 pub record HasCells (size : BlockSize) (columns rows : ℕ) : Type 0 where
   pub width : block_width size ≡ 4 * columns
   pub height : block_height size ≡ 4 * rows
   pub across : (m : ℕ) × (columns * m ≡ 16)
   pub down : (m : ℕ) × (rows * m ≡ 16)
+  pub not_wide : columns ≤ 2 * rows
+  pub not_high : rows ≤ 2 * columns
 
 pub whole_cells : (k : ℕ) → k ≤ 4 → HasCells (whole_size k) (2 ^ k) (2 ^ k)
 unfolding whole_size
-whole_cells zero h = record { width = refl; height = refl; across = (16, refl); down = (16, refl) }
-whole_cells (suc zero) h = record { width = refl; height = refl; across = (8, refl); down = (8, refl) }
-whole_cells (suc (suc zero)) h = record { width = refl; height = refl; across = (4, refl); down = (4, refl) }
-whole_cells (suc (suc (suc zero))) h = record { width = refl; height = refl; across = (2, refl); down = (2, refl) }
-whole_cells (suc (suc (suc (suc zero)))) h = record { width = refl; height = refl; across = (1, refl); down = (1, refl) }
+whole_cells zero h = record { width = refl; height = refl; across = (16, refl); down = (16, refl); not_wide = omega arith; not_high = omega arith }
+whole_cells (suc zero) h = record { width = refl; height = refl; across = (8, refl); down = (8, refl); not_wide = omega arith; not_high = omega arith }
+whole_cells (suc (suc zero)) h = record { width = refl; height = refl; across = (4, refl); down = (4, refl); not_wide = omega arith; not_high = omega arith }
+whole_cells (suc (suc (suc zero))) h = record { width = refl; height = refl; across = (2, refl); down = (2, refl); not_wide = omega arith; not_high = omega arith }
+whole_cells (suc (suc (suc (suc zero)))) h = record { width = refl; height = refl; across = (1, refl); down = (1, refl); not_wide = omega arith; not_high = omega arith }
 whole_cells (suc (suc (suc (suc (suc k))))) h = absurd (omega arith)
 
 pub wide_cells : (k : ℕ) → suc k ≤ 4 → HasCells (wide_size (suc k)) (2 * 2 ^ k) (2 ^ k)
 unfolding wide_size
-wide_cells zero h = record { width = refl; height = refl; across = (8, refl); down = (16, refl) }
-wide_cells (suc zero) h = record { width = refl; height = refl; across = (4, refl); down = (8, refl) }
-wide_cells (suc (suc zero)) h = record { width = refl; height = refl; across = (2, refl); down = (4, refl) }
-wide_cells (suc (suc (suc zero))) h = record { width = refl; height = refl; across = (1, refl); down = (2, refl) }
+wide_cells zero h = record { width = refl; height = refl; across = (8, refl); down = (16, refl); not_wide = omega arith; not_high = omega arith }
+wide_cells (suc zero) h = record { width = refl; height = refl; across = (4, refl); down = (8, refl); not_wide = omega arith; not_high = omega arith }
+wide_cells (suc (suc zero)) h = record { width = refl; height = refl; across = (2, refl); down = (4, refl); not_wide = omega arith; not_high = omega arith }
+wide_cells (suc (suc (suc zero))) h = record { width = refl; height = refl; across = (1, refl); down = (2, refl); not_wide = omega arith; not_high = omega arith }
 wide_cells (suc (suc (suc (suc k)))) h = absurd (omega arith)
 
 pub tall_cells : (k : ℕ) → suc k ≤ 4 → HasCells (tall_size (suc k)) (2 ^ k) (2 * 2 ^ k)
 unfolding tall_size
-tall_cells zero h = record { width = refl; height = refl; across = (16, refl); down = (8, refl) }
-tall_cells (suc zero) h = record { width = refl; height = refl; across = (8, refl); down = (4, refl) }
-tall_cells (suc (suc zero)) h = record { width = refl; height = refl; across = (4, refl); down = (2, refl) }
-tall_cells (suc (suc (suc zero))) h = record { width = refl; height = refl; across = (2, refl); down = (1, refl) }
+tall_cells zero h = record { width = refl; height = refl; across = (16, refl); down = (8, refl); not_wide = omega arith; not_high = omega arith }
+tall_cells (suc zero) h = record { width = refl; height = refl; across = (8, refl); down = (4, refl); not_wide = omega arith; not_high = omega arith }
+tall_cells (suc (suc zero)) h = record { width = refl; height = refl; across = (4, refl); down = (2, refl); not_wide = omega arith; not_high = omega arith }
+tall_cells (suc (suc (suc zero))) h = record { width = refl; height = refl; across = (2, refl); down = (1, refl); not_wide = omega arith; not_high = omega arith }
 tall_cells (suc (suc (suc (suc k)))) h = absurd (omega arith)
 
 pub smallest_cells : HasCells BLOCK_4X4 1 1
-smallest_cells = record { width = refl; height = refl; across = (16, refl); down = (16, refl) }
+smallest_cells = record { width = refl; height = refl; across = (16, refl); down = (16, refl); not_wide = omega arith; not_high = omega arith }
 
 -- the place behind half of a node
 pub behind_half : (k c : ℕ) → 4 * c + half_side (suc k) ≡ 4 * (c + 2 ^ k)
@@ -64,7 +66,7 @@ superblock_place n = omega arith
 abbrev pub IsOn : ℕ → ℕ → Type 0
 IsOn d n = (q : ℕ) × (n ≡ d * q)
 
--- a leaf of this size may stand here: in the frame, at a cell and at a multiple of its sides
+-- a leaf of this size may stand here: in the frame, at a cell and at a multiple of its sides, neither more than twice the other
 pub record IsPlace (h : Header) (size : BlockSize) (x y : ℕ) : Type 0 where
   pub cell_x : IsOn 4 x
   pub cell_y : IsOn 4 y
@@ -73,6 +75,8 @@ pub record IsPlace (h : Header) (size : BlockSize) (x y : ℕ) : Type 0 where
   pub end_x : x % 64 + block_width size ≤ 64
   pub end_y : y % 64 + block_height size ≤ 64
   pub within : is_inside h x y ≡ true
+  pub not_wide : block_width size ≤ 2 * block_height size
+  pub not_high : block_height size ≤ 2 * block_width size
 
 -- ---- a part ends in the superblock in which it begins
 
@@ -137,6 +141,8 @@ module _ (h : Header) (P : LeafValue → Type 0) (each : (size : BlockSize) (x y
           end_x = subst (λ (n : ℕ). (4 * x) % 64 + n ≤ 64) (sym cells.width) (ends_within columns x cells.across at_x);
           end_y = subst (λ (n : ℕ). (4 * y) % 64 + n ≤ 64) (sym cells.height) (ends_within rows y cells.down at_y);
           within = within;
+          not_wide = omega (arith, cells.width, cells.height, cells.not_wide);
+          not_high = omega (arith, cells.width, cells.height, cells.not_high);
         } in
         subst (All P) is (All-cons P l [] (each size (4 * x) (4 * y) l place l_spelled) (All-nil P))
     | inr (out, is) ↦ subst (All P) is (All-nil P)

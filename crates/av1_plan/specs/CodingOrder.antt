@@ -25,6 +25,11 @@ pub record IsOnGrid (h : Header) (l : LeafValue) : Type 0 where
   pub end_y : l.y % 64 + block_height l.size ≤ 64
   pub within : is_inside h l.x l.y ≡ true
 
+-- neither side of the leaf is more than twice the other
+pub record IsTwoToOne (l : LeafValue) : Type 0 where
+  pub not_wide : block_width l.size ≤ 2 * block_height l.size
+  pub not_high : block_height l.size ≤ 2 * block_width l.size
+
 -- how many superblocks of 16 by 16 cells begin in a frame of so many columns and rows of cells
 abbrev pub superblock_count : (columns rows : ℕ) → ℕ
 superblock_count columns rows = (columns + 15) / 16 * ((rows + 15) / 16)

@@ -16,6 +16,8 @@ pub mod ValidTriples
 pub mod ReadySteps
 pub mod PlanLeaves
 pub mod EdgeAgreement
+pub mod PreparedEdges
+pub mod BlockTurns
 pub mod Simulation
 pub mod Pictures
 pub mod Examples

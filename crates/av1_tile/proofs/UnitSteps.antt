@@ -8,6 +8,7 @@ use Rattle.av1_blocks.specs.Transforms.{tx_width, tx_height}
 use Rattle.av1_blocks.specs.declared.partition.BlockSize.{BlockSize}
 use Rattle.av1_blocks.specs.declared.partition.BlockSize.TheVariants.{BLOCK_4X4}
 use Rattle.av1_frame.specs.Areas.{VisibleArea}
+use Rattle.av1_order.specs.WholeAreas.{whole_step}
 use Rattle.av1_order.specs.Plans.{IsWholeFrame, is_inter, coding_in, steps_in}
 use Rattle.av1_order.specs.Steps as order
 use Rattle.av1_order.specs.Steps.{Coding, widened}
@@ -105,7 +106,7 @@ from_place a u c e = omega (arith, e)
 -- ---- the steps of a part
 
 -- steps of one plane, one piece behind the other
-units_joined : (sx sy : ℕ) (k : Component) (f : ℕ → List Step) (ns : List ℕ) → units sx sy k (in_component k (flat_map f ns)) ≡ flat_map (λ n. units sx sy k (in_component k (f n))) ns
+pub units_joined : (sx sy : ℕ) (k : Component) (f : ℕ → List Step) (ns : List ℕ) → units sx sy k (in_component k (flat_map f ns)) ≡ flat_map (λ n. units sx sy k (in_component k (f n))) ns
 units_joined sx sy k f [] = refl
 units_joined sx sy k f (n ∷ ns) =
     ap (flat_map (unit_of sx sy k)) (map-append _ (f n) (flat_map f ns)) ∙ flat_map-append (unit_of sx sy k) (in_component k (f n)) (in_component k (flat_map f ns)) ∙ ap (λ l. units sx sy k (in_component k (f n)) ++ l) (units_joined sx sy k f ns)
@@ -132,7 +133,7 @@ joined_option (Some x) xs = refl
 joined_option None xs = refl
 
 -- pieces of one item or none each
-pieces_kept : {A : Type 0} (f : ℕ → List A) (g : ℕ → Option A) (a n : ℕ) → ((i : ℕ) → i < a + n → f i ≡ cons_option (g i) []) → flat_map f (range_with_len a n) ≡ filter_map g (range_with_len a n)
+pub pieces_kept : {A : Type 0} (f : ℕ → List A) (g : ℕ → Option A) (a n : ℕ) → ((i : ℕ) → i < a + n → f i ≡ cons_option (g i) []) → flat_map f (range_with_len a n) ≡ filter_map g (range_with_len a n)
 pieces_kept f g a zero same = refl
 pieces_kept f g a (suc n) same =
     ap (λ l. l ++ flat_map f (range_with_len (a + 1) n)) (same a (omega arith)) ∙ ap (λ l. cons_option (g a) [] ++ l) (pieces_kept f g (a + 1) n (λ i h. same i (omega arith))) ∙ joined_option (g a) (filter_map g (range_with_len (a + 1) n))
@@ -184,7 +185,21 @@ module _ (h : Header) (k : Component) (leaf : LeafValue) (frame : IsWholeFrame h
       (block_same _ b.x _ b.y _ b.columns _ b.rows (place_cells sx (leaf.x / 4) _ (halved_x h (number k)) part_x) (place_cells sy (leaf.y / 4) _ halved_down part_y) columns rows)
       (from_place _ _ i part_x) (from_place _ _ j part_y) (ap (λ t. tx_width t / 4) part_tx_size) (ap (λ t. tx_height t / 4) part_tx_size)
 
-  number_units : (triples : List Triple) (n : ℕ) → n < block_count part.area → units sx sy k (in_component k (steps_at h part triples n)) ≡ cons_option (numbered_in h (number k) leaf frame grid valid n) []
+  -- all of its area at once
+  pub whole_unit : unit_step sx sy part (record { x = part.area.x; y = part.area.y; width = block_width part.area.size; height = block_height part.area.size }) ≡ whole_step h (number k) leaf
+  whole_unit =
+      let b = widened sx sy (cells_of leaf) in
+      let u = units_in h (number k) leaf frame grid valid in
+      let columns : block_width part.area.size / 4 * 2 ^ sx ≡ b.columns = sym (side_cells _ _ (2 ^ sx) part_columns) ∙ widened_width leaf.size sx (halved_x h (number k)) in
+      let rows : block_height part.area.size / 4 * 2 ^ sy ≡ b.rows = sym (side_cells _ _ (2 ^ sy) part_rows) ∙ widened_height leaf.size sy halved_down in
+      step_same _ b _ 0 _ 0 _ u.columns _ u.rows
+      (block_same _ b.x _ b.y _ b.columns _ b.rows (place_cells sx (leaf.x / 4) _ (halved_x h (number k)) part_x) (place_cells sy (leaf.y / 4) _ halved_down part_y) columns rows)
+      (nothing part.area.x) (nothing part.area.y) (omega (arith, part_columns)) (omega (arith, part_rows))
+    where
+      nothing : (a : ℕ) → (a - a) / 4 ≡ 0
+      nothing a = omega arith
+
+  pub number_units : (triples : List Triple) (n : ℕ) → n < block_count part.area → units sx sy k (in_component k (steps_at h part triples n)) ≡ cons_option (numbered_in h (number k) leaf frame grid valid n) []
   unfolding steps_at
   number_units triples n lt =
       let x = column_of h (number k) leaf frame grid valid n * coding.columns in

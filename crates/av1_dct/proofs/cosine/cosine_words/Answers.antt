@@ -1,13 +1,39 @@
-use Rattle.std.proofs.Common.{arith, sym, subst, List, ℤ, ap, ◌*◌}
-use Rattle.std.proofs.lemmas.List.{length-take-le}
-use Rattle.av1_dct.specs.Arithmetic.{AllFit}
-use Rattle.av1_dct.proofs.Places.{places-fit, cosine_words}
-use Rattle.av1_dct.proofs.Fits.{all-fit}
+use Rattle.std.proofs.Common.{arith}
+use Rattle.av1_dct.specs.Word.{column}
+use Rattle.av1_dct.proofs.Lengths.{fits_at, value_at}
 use Rattle.av1_dct.proofs.cosine.cosine_words.Goals as goal
 
-pub run_network-requires-clause-fit : goal.run_network-requires-clause-fit
-run_network-requires-clause-fit g c = λ i h. let P : List ℤ → Type 0 = λ zs. AllFit 20 zs in subst P (sym (c.reorder.ensures i h)) (places-fit c.args.k _ (all-fit c.args.range 20 _ c.requires.range_in.1 (c.requires.fit i h)))
+pub cosine_of-requires-clause-fit : goal.cosine_of-requires-clause-fit
+cosine_of-requires-clause-fit g c = λ i h. fits_at c.args.range c.args.n 4 _ (omega arith) (c.requires.fit i h)
 
-pub returns-clause-value : goal.returns-clause-value
-returns-clause-value g c = λ i h.
-    cosine_words g.W.Word.lane_of i c.args.range c.args.k (2 * c.power-n.result) c.args.input.now c.args.output.now c.reorder.new.output c.run_network.new.w (ap (λ n. 2 * n) c.power-n.ensures.value) (omega (arith, c.run_network.auto.w, c.reorder.auto.output, length-take-le (2 * c.power-n.result) c.args.output.now (omega arith))) (c.reorder.ensures i h) (c.run_network.ensures i h)
+pub returns-in-4-clause-value : goal.returns-in-4-clause-value
+returns-in-4-clause-value g c = λ k i h e.
+    value_at c.args.range c.args.n 1 k (column g.W.Word.lane_of i c.args.input.now) (column g.W.Word.lane_of i c.cosine_of.new.output) (omega arith) e (c.cosine_of.ensures.value i h)
+
+pub cosine_of-requires-in-8-clause-fit : goal.cosine_of-requires-in-8-clause-fit
+cosine_of-requires-in-8-clause-fit g c = λ i h. fits_at c.args.range c.args.n 8 _ (omega arith) (c.requires.fit i h)
+
+pub returns-in-8-clause-value : goal.returns-in-8-clause-value
+returns-in-8-clause-value g c = λ k i h e.
+    value_at c.args.range c.args.n 2 k (column g.W.Word.lane_of i c.args.input.now) (column g.W.Word.lane_of i c.cosine_of-in-8.new.output) (omega arith) e (c.cosine_of-in-8.ensures.value i h)
+
+pub cosine_of-requires-in-16-clause-fit : goal.cosine_of-requires-in-16-clause-fit
+cosine_of-requires-in-16-clause-fit g c = λ i h. fits_at c.args.range c.args.n 16 _ (omega arith) (c.requires.fit i h)
+
+pub returns-in-16-clause-value : goal.returns-in-16-clause-value
+returns-in-16-clause-value g c = λ k i h e.
+    value_at c.args.range c.args.n 3 k (column g.W.Word.lane_of i c.args.input.now) (column g.W.Word.lane_of i c.cosine_of-in-16.new.output) (omega arith) e (c.cosine_of-in-16.ensures.value i h)
+
+pub cosine_of-requires-in-32-clause-fit : goal.cosine_of-requires-in-32-clause-fit
+cosine_of-requires-in-32-clause-fit g c = λ i h. fits_at c.args.range c.args.n 32 _ (omega arith) (c.requires.fit i h)
+
+pub returns-in-32-clause-value : goal.returns-in-32-clause-value
+returns-in-32-clause-value g c = λ k i h e.
+    value_at c.args.range c.args.n 4 k (column g.W.Word.lane_of i c.args.input.now) (column g.W.Word.lane_of i c.cosine_of-in-32.new.output) (omega arith) e (c.cosine_of-in-32.ensures.value i h)
+
+pub cosine_of-requires-in_default-clause-fit : goal.cosine_of-requires-in_default-clause-fit
+cosine_of-requires-in_default-clause-fit g c = λ i h. fits_at c.args.range c.args.n 64 _ (omega arith) (c.requires.fit i h)
+
+pub returns-in_default-clause-value : goal.returns-in_default-clause-value
+returns-in_default-clause-value g c = λ k i h e.
+    value_at c.args.range c.args.n 5 k (column g.W.Word.lane_of i c.args.input.now) (column g.W.Word.lane_of i c.cosine_of-in_default.new.output) (omega arith) e (c.cosine_of-in_default.ensures.value i h)

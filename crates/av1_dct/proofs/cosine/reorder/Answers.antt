@@ -12,7 +12,7 @@ loop-p-init g c = λ i h q lt. absurd (omega arith)
 
 pub loop-p-preserved : goal.loop-p-preserved
 loop-p-preserved g c = λ i h.
-    column_fill g.W.Word.lane_of i (λ q. at (column g.W.Word.lane_of i c.args.input.now) (brev (suc c.args.k) q)) c.loop-p.output c.loop-p.p c.index-input-reversed_place.result (omega arith) (c.loop-p.invariant i h)
+    column_fill g.W.Word.lane_of i (λ q. at (column g.W.Word.lane_of i c.args.input.now) (brev (suc g.row.K) q)) c.loop-p.output c.loop-p.p c.index-input-reversed_place.result (omega arith) (c.loop-p.invariant i h)
     (column_get g.W.Word.lane_of i c.args.input.now _ _ (omega arith) c.index-input-reversed_place.is ∙ ap (at (column g.W.Word.lane_of i c.args.input.now)) c.reversed_place.ensures.value)
 
 pub returns : goal.returns

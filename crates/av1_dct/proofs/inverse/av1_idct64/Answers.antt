@@ -1,4 +1,4 @@
-use Rattle.std.proofs.Common.{arith, take, ap, sym, subst, ◌∙◌, List, ℤ}
+use Rattle.std.proofs.Common.{arith, refl, take, ap, sym, subst, ◌∙◌, List, ℤ}
 use Rattle.std.proofs.lemmas.List.{map-id}
 use Rattle.std.specs.List.{All}
 use Rattle.av1_dct.specs.Arithmetic.{FitsBits}
@@ -9,4 +9,4 @@ pub cosine_words-requires-clause-fit : goal.cosine_words-requires-clause-fit
 cosine_words-requires-clause-fit c = λ i h. let P : List ℤ → Type 0 = λ zs. All (FitsBits c.args.range) (take 64 zs) in subst P (sym (map-id c.args.input.now)) c.requires.fit
 
 pub returns-clause-value : goal.returns-clause-value
-returns-clause-value c = ap (take 64) (sym (map-id c.cosine_words.new.output)) ∙ c.cosine_words.ensures.value 0 (omega arith) ∙ ap (λ ys. cosine c.args.range 5 (take 64 ys)) (map-id c.args.input.now)
+returns-clause-value c = ap (take 64) (sym (map-id c.cosine_words.new.output)) ∙ c.cosine_words.ensures.value 5 0 (omega arith) refl ∙ ap (λ ys. cosine c.args.range 5 (take 64 ys)) (map-id c.args.input.now)

@@ -6,4 +6,4 @@ use Rattle.av1_dct.proofs.steps.turn_outer.Given as goal
 
 abbrev pub invariant-loop-p : goal.invariant-loop-p
 invariant-loop-p g l =
-    (i : ℕ) → i < g.W.Word.LANES → let old = column g.W.Word.lane_of i l.initial.v in IsMirrored (2 ^ l.k) (outer_turn l.k old) old l.p (column g.W.Word.lane_of i l.v)
+    (i : ℕ) → i < g.W.Word.LANES → let old = column g.W.Word.lane_of i l.initial.v in IsMirrored (2 ^ g.row.K) (outer_turn g.row.K old) old l.p (column g.W.Word.lane_of i l.v)

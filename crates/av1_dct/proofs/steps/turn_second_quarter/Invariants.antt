@@ -6,4 +6,4 @@ use Rattle.av1_dct.proofs.steps.turn_second_quarter.Given as goal
 
 abbrev pub invariant-loop-p : goal.invariant-loop-p
 invariant-loop-p g l =
-    (l.start + l.h + (l.start + l.h) ≤ length l.v) × ((i : ℕ) → i < g.W.Word.LANES → let old = column g.W.Word.lane_of i l.initial.v in IsMirrored (2 ^ l.k) (inner_run l.k l.j (l.d * (4 * 2 ^ l.j) + 2 ^ l.j) old) old l.p (column g.W.Word.lane_of i l.v))
+    (l.start + l.h + (l.start + l.h) ≤ length l.v) × ((i : ℕ) → i < g.W.Word.LANES → let old = column g.W.Word.lane_of i l.initial.v in IsMirrored (2 ^ g.row.K) (inner_run g.row.K g.row.J (l.d * (4 * 2 ^ g.row.J) + 2 ^ g.row.J) old) old l.p (column g.W.Word.lane_of i l.v))

@@ -8,7 +8,7 @@ use Rattle.av1_inter.proofs.Widths.{bias_small}
 use Rattle.av1_inter.proofs.prepare.prepare_row.Goals as goal
 
 pub loop-c-preserved : goal.loop-c-preserved
-loop-c-preserved c =
+loop-c-preserved g c =
     let k = c.loop-c.c in
     let v : FitsSigned w32 (entry c.args.values.now k) = search rules in
     let f : FitsSigned w32 c.round_shift.result = search rules in

@@ -5,4 +5,4 @@ use Rattle.av1_inter.proofs.Fill.{IsDoneFrom}
 use Rattle.av1_inter.proofs.prepare.prepare_row.Given as goal
 
 abbrev pub invariant-loop-c : goal.invariant-loop-c
-invariant-loop-c l = IsDoneFrom l.start l.c (λ k. round_shift (entry l.values k) l.bit -ℤ bias l.bit_depth) l.initial.tmp l.tmp
+invariant-loop-c g l = IsDoneFrom l.start l.c (λ k. round_shift (entry l.values k) l.bit -ℤ bias l.bit_depth) l.initial.tmp l.tmp

@@ -18,11 +18,11 @@ returns-clause-painted g c = λ left.
     let s = b.width + b.height in
     let A = side (g.T.Pixel.num c.args.corner) (take s (map g.T.Pixel.num c.args.above.now)) in
     let P = λ (n : ℕ). prepared b (distance b.p_angle 90) (n + b.height) s A in
-    let E : entries c.prepared_above-above.result.numbers ≡ P (min b.width b.visible_columns) = c.prepared_above-above.ensures.numbers ∙ ap P c.min.ensures in
+    let E : entries c.prepare_above.new.ready.numbers ≡ P (min b.width b.visible_columns) = c.prepare_above.ensures.numbers ∙ ap P c.min.ensures in
     let F = λ (B : Side) (u dx i j : ℕ). below_90 b.bit_depth B u s ((i + 1) * dx + 64) j in
     let G = λ (f : ℕ → ℕ → ℕ). painted out b.width b.height (λ i j _. g.T.Pixel.pixel (f i j)) in
     c.rows_below_90.ensures.painted
-    ∙ ap (λ (B : Side). G (F B c.prepared_above-above.result.doubling c.dr_intra_derivative-dx.result)) E
-    ∙ ap (λ (u : ℕ). G (F (P (min b.width b.visible_columns)) u c.dr_intra_derivative-dx.result)) c.prepared_above-above.ensures.doubling
+    ∙ ap (λ (B : Side). G (F B c.prepare_above.new.ready.doubling c.dr_intra_derivative-dx.result)) E
+    ∙ ap (λ (u : ℕ). G (F (P (min b.width b.visible_columns)) u c.dr_intra_derivative-dx.result)) c.prepare_above.ensures.doubling
     ∙ ap (λ (dx : ℕ). G (F (P (min b.width b.visible_columns)) (doubling b (distance b.p_angle 90)) dx)) c.dr_intra_derivative-dx.ensures
     ∙ ap G (fun_ext (λ i. fun_ext (λ j. is_below_90 b (g.T.Pixel.num c.args.corner) (map g.T.Pixel.num c.args.above.now) left i j c.requires.range)))

@@ -30,18 +30,18 @@ returns-clause-painted g c =
     let Q = λ (n : ℕ). prepared b (distance p 180) n b.height L in
     let U = doubling b (distance p 90) in
     let V = doubling b (distance p 180) in
-    let x = c.prepared_above-above in
-    let y = c.prepared_left-left in
-    let E : entries x.result.numbers ≡ P m = x.ensures.numbers ∙ ap P c.min-columns.ensures in
-    let D : entries y.result.numbers ≡ Q n = y.ensures.numbers ∙ ap Q c.min-rows.ensures in
+    let x = c.prepare_above in
+    let y = c.prepare_left in
+    let E : entries x.new.ready.numbers ≡ P m = x.ensures.numbers ∙ ap P c.min-columns.ensures in
+    let D : entries y.new.ready.numbers ≡ Q n = y.ensures.numbers ∙ ap Q c.min-rows.ensures in
     let F = λ (B : Side) (u : ℕ) (C : Side) (v dx dy i j : ℕ). between b.bit_depth B u C v dx dy i j in
     let G = λ (f : ℕ → ℕ → ℕ). painted out b.width b.height (λ i j _. g.T.Pixel.pixel (f i j)) in
     let dx = c.dr_intra_derivative-dx in
     let dy = c.dr_intra_derivative-dy in
     c.rows_between.ensures.painted
-    ∙ ap (λ (B : Side). G (F B x.result.doubling (entries y.result.numbers) y.result.doubling dx.result dy.result)) E
-    ∙ ap (λ (u : ℕ). G (F (P m) u (entries y.result.numbers) y.result.doubling dx.result dy.result)) x.ensures.doubling
-    ∙ ap (λ (B : Side). G (F (P m) U B y.result.doubling dx.result dy.result)) D
+    ∙ ap (λ (B : Side). G (F B x.new.ready.doubling (entries y.new.ready.numbers) y.new.ready.doubling dx.result dy.result)) E
+    ∙ ap (λ (u : ℕ). G (F (P m) u (entries y.new.ready.numbers) y.new.ready.doubling dx.result dy.result)) x.ensures.doubling
+    ∙ ap (λ (B : Side). G (F (P m) U B y.new.ready.doubling dx.result dy.result)) D
     ∙ ap (λ (u : ℕ). G (F (P m) U (Q n) u dx.result dy.result)) y.ensures.doubling
     ∙ ap (λ (d : ℕ). G (F (P m) U (Q n) V d dy.result)) dx.ensures
     ∙ ap (λ (d : ℕ). G (F (P m) U (Q n) V (derivative (180 - p)) d)) dy.ensures

@@ -11,8 +11,8 @@ pub overflow_sub-block : goal.overflow_sub-block
 overflow_sub-block g c =
     let h = past_180_few c.args.block.p_angle c.requires.angle c.requires.range in omega arith
 
-pub prepared_left-left-requires-clause-angle : goal.prepared_left-left-requires-clause-angle
-prepared_left-left-requires-clause-angle g c =
+pub prepare_left-requires-clause-angle : goal.prepare_left-requires-clause-angle
+prepare_left-requires-clause-angle g c =
     let h = past_180_few c.args.block.p_angle c.requires.angle c.requires.range in omega arith
 
 pub rows_past_180-requires-clause-dy : goal.rows_past_180-requires-clause-dy
@@ -27,11 +27,11 @@ returns-clause-painted g c = λ above.
     let left = reverse (map g.T.Pixel.num c.args.left.now) in
     let L = side (g.T.Pixel.num c.args.corner) (take (b.height + b.width) left) in
     let P = λ (n : ℕ). prepared b (distance b.p_angle 180) (n + b.width) (b.height + b.width) L in
-    let E : entries c.prepared_left-left.result.numbers ≡ P (min b.height b.visible_rows) = c.prepared_left-left.ensures.numbers ∙ ap P c.min.ensures in
+    let E : entries c.prepare_left.new.ready.numbers ≡ P (min b.height b.visible_rows) = c.prepare_left.ensures.numbers ∙ ap P c.min.ensures in
     let F = λ (B : Side) (u dy i j : ℕ). at b.bit_depth B u ((j + 1) * dy + 64) i in
     let G = λ (f : ℕ → ℕ → ℕ). painted out b.width b.height (λ i j _. g.T.Pixel.pixel (f i j)) in
     c.rows_past_180.ensures.painted
-    ∙ ap (λ (B : Side). G (F B c.prepared_left-left.result.doubling c.dr_intra_derivative-dy.result)) E
-    ∙ ap (λ (u : ℕ). G (F (P (min b.height b.visible_rows)) u c.dr_intra_derivative-dy.result)) c.prepared_left-left.ensures.doubling
+    ∙ ap (λ (B : Side). G (F B c.prepare_left.new.ready.doubling c.dr_intra_derivative-dy.result)) E
+    ∙ ap (λ (u : ℕ). G (F (P (min b.height b.visible_rows)) u c.dr_intra_derivative-dy.result)) c.prepare_left.ensures.doubling
     ∙ ap (λ (dy : ℕ). G (F (P (min b.height b.visible_rows)) (doubling b (distance b.p_angle 180)) dy)) c.dr_intra_derivative-dy.ensures
     ∙ ap G (fun_ext (λ i. fun_ext (λ j. is_past_180 b (g.T.Pixel.num c.args.corner) above left i j c.requires.range)))

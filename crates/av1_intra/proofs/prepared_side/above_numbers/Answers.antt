@@ -9,7 +9,7 @@ pub loop-k-init : goal.loop-k-init
 loop-k-init g c =
     let E = λ (e _v : ℕ). side (g.T.Pixel.num c.args.corner) (take c.args.count (map g.T.Pixel.num c.args.above.now)) e in
     let s = replicate 257 0 in
-    ap (λ u. set u 0 c.to_u32.result) (paint_row_none E s) ∙ paint_row_more 0 E s c.to_u32.result (omega (arith, length-replicate {A = ℕ})) c.to_u32.ensures.value
+    ap (λ u. set u 0 c.to_u32.result) c.requires.empty ∙ ap (λ u. set u 0 c.to_u32.result) (paint_row_none E s) ∙ paint_row_more 0 E s c.to_u32.result (omega (arith, length-replicate {A = ℕ})) c.to_u32.ensures.value
 
 pub loop-k-preserved : goal.loop-k-preserved
 loop-k-preserved g c =

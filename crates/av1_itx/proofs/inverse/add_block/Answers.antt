@@ -17,7 +17,7 @@ pub add_rows-requires-clause-fit : goal.add_rows-requires-clause-fit
 add_rows-requires-clause-fit g c = λ r q hr hq.
     let P : ℤ → Type 0 = λ z. FitsBits 24 z in
     let Q : ℕ → Type 0 = λ n. FitsBits 24 (at c.column_pass.new.buffer (r * n + q)) in
-    subst Q (sym c.width.ensures.value) (subst P (sym (c.column_pass.ensures r q (omega arith) (omega arith))) (column-fits c.args.tx_size c.args.tx_type c.args.bd _ r (omega arith)))
+    subst Q (sym c.width.ensures.value) (subst P (sym (c.column_pass.ensures.value r q (omega arith) (omega arith))) (column-fits c.args.tx_size c.args.tx_type c.args.bd _ r (omega arith)))
 
 pub returns-clause-painted : goal.returns-clause-painted
 returns-clause-painted g c =
@@ -32,4 +32,4 @@ returns-clause-painted g c =
     ∙ ap (λ n. painted o n c.height.result (λ r q v. put_on (round_shift (at buf (r * n + q)) c.column_shift_of-shift.result) v)) c.width.ensures.value
     ∙ ap (λ n. painted o (tx_width size) n (λ r q v. put_on (round_shift (at buf (r * tx_width size + q)) c.column_shift_of-shift.result) v)) c.height.ensures.value
     ∙ ap (λ n. painted o (tx_width size) (tx_height size) (λ r q v. put_on (round_shift (at buf (r * tx_width size + q)) n) v)) c.column_shift_of-shift.ensures.value)
-    (λ r q v hr hq. ap (λ z. put_on z v) (residue_is size type c.args.bd cs (λ y. at c.row_pass.new.buffer (y * tx_width size + q)) r q _ (c.column_pass.ensures r q hr hq) (λ y hy. c.row_pass.ensures y q hy hq)))
+    (λ r q v hr hq. ap (λ z. put_on z v) (residue_is size type c.args.bd cs (λ y. at c.row_pass.new.buffer (y * tx_width size + q)) r q _ (c.column_pass.ensures.value r q hr hq) (λ y hy. c.row_pass.ensures y q hy hq)))

@@ -7,7 +7,11 @@ use Rattle.av1_itx.specs.Residue.{transformed_row}
 use Rattle.av1_itx.proofs.Fills.{part_len}
 use Rattle.av1_itx.proofs.Lines.{rows_more, rows_end}
 use Rattle.av1_itx.proofs.Passes.{row_past}
+use Rattle.av1_itx.proofs.ScaledRows.{scaled_row, all_scaled-fit}
 use Rattle.av1_itx.proofs.rows.row_pass.Goals as goal
+
+pub run_row-requires-clause-scaled_fit : goal.run_row-requires-clause-scaled_fit
+run_row-requires-clause-scaled_fit g c = all_scaled-fit c.args.tx_size c.args.tx_type c.args.bd _ (map g.C.Coefficient.val c.args.input.now) c.scale_all.new.scaled c.scale_all.auto.scaled c.scale_all.ensures
 
 pub loop-r-preserved : goal.loop-r-preserved
 loop-r-preserved g c =
@@ -18,7 +22,7 @@ loop-r-preserved g c =
     let n = c.loop-r.r * w + w - c.loop-r.r * w in
     let is_n : n ≡ w = omega arith in
     let part = part_len (c.loop-r.r * w) n c.loop-r.buffer (omega arith) in
-    rows_more w c.loop-r.r n (λ q k. at (transformed_row c.args.tx_size c.args.tx_type c.args.bd (map g.C.Coefficient.val c.args.input.now) q) k) c.loop-r.buffer c.run_row.new.output c.loop-r.invariant is_n (c.run_row.auto.output ∙ part ∙ is_n) (omega arith) (λ k h. c.run_row.ensures k (omega arith))
+    rows_more w c.loop-r.r n (λ q k. at (transformed_row c.args.tx_size c.args.tx_type c.args.bd (map g.C.Coefficient.val c.args.input.now) q) k) c.loop-r.buffer c.run_row.new.output c.loop-r.invariant is_n (c.run_row.auto.output ∙ part ∙ is_n) (omega arith) (λ k h. c.run_row.ensures k (omega arith) ∙ scaled_row c.args.tx_size c.args.tx_type c.args.bd (map g.C.Coefficient.val c.args.input.now) c.scale_all.new.scaled c.loop-r.r k (omega arith) (λ i l. c.scale_all.ensures i (omega arith)))
 
 pub returns : goal.returns
 returns g c =

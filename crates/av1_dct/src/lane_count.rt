@@ -1,0 +1,56 @@
+//! Eight transforms at a time, counted.
+
+ghost use Rattle.std.specs.Prelude.{◌≡◌, ℕ, ◌*◌, ◌^◌, ◌<◌, ◌≤◌, length, take, drop};
+ghost use Rattle.std.specs.List.{All};
+ghost use Rattle.av1_dct.specs.Arithmetic.{FitsBits};
+ghost use Rattle.av1_dct.specs.Counts.{counted};
+ghost use Rattle.av1_dct.specs.Word.{column, lane_of_vector};
+ghost use Rattle.av1_dct.specs.Cosine.{cosine, IsLength};
+
+use crate::cosine::cosine_words;
+use std::simd::prelude::*;
+
+/// How many groups of eight transforms were run with it. Only `cosine_lanes` raises it, and nothing sets it back.
+#[derive(Drop)]
+pub struct LaneCount {
+    groups: u64,
+}
+
+impl LaneCount {
+    /// A count that begins at 0.
+    pub fn new() -> LaneCount
+        ensures { result.groups ≡ 0 }
+    {
+        LaneCount { groups: 0 }
+    }
+
+    /// The number of groups. It stays at the last value of a `u64`.
+    pub fn groups(&self) -> u64
+        ensures { result ≡ self.now.groups }
+    {
+        self.groups
+    }
+}
+
+/// Eight inverse cosine transforms of `n` values at a time, one in each lane, as `cosine_words` over `i32x8`. It counts one group.
+pub fn cosine_lanes(
+    count: &mut LaneCount,
+    n: usize,
+    input: &[i32x8],
+    work: &mut [i32x8],
+    output: &mut [i32x8],
+    range: usize,
+)
+    requires range_in { (8 ≤ range) × (range ≤ 20) }
+    requires n_in { IsLength n }
+    requires input_len { n ≤ length input.now }
+    requires work_len { 4 * n ≤ length work.old }
+    requires output_len { n ≤ length output.old }
+    requires fit { (i : ℕ) → i < 8 → All (FitsBits range) (take n (column lane_of_vector i input.now)) }
+    ensures value { (k i : ℕ) → i < 8 → n ≡ 2 * 2 ^ k → take n (column lane_of_vector i output.new) ≡ cosine range k (take n (column lane_of_vector i input.now)) }
+    ensures rest { drop n output.new ≡ drop n output.old }
+    ensures counts { count.new.groups ≡ counted count.old.groups }
+{
+    count.groups = count.groups.saturating_add(1);
+    cosine_words(n, input, work, output, range);
+}

@@ -1,0 +1,14 @@
+pub mod Written
+pub mod Turns
+pub mod Blocks
+pub mod Fills
+pub mod Below
+pub mod LeafKinds
+pub mod LeafTransforms
+pub mod LeafTriples
+pub mod LeafFills
+pub mod NodeFills
+pub mod ReferenceFills
+pub mod PlanFills
+pub mod Examples
+pub mod OneText

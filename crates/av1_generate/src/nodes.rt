@@ -1,0 +1,165 @@
+//! The nodes of superblocks, down to their leaves.
+
+ghost use Rattle.std.specs.Prelude.{◌≡◌, ◌*◌, ◌≤◌, ◌^◌};
+ghost use Rattle.av1_plan.specs.Grammar.{half_side, whole_size, wide_size, tall_size};
+
+use crate::maker::Maker;
+use av1_blocks::{BlockSize, OutOfMemory};
+use av1_plan::{Header, carries_chroma};
+
+impl Maker {
+    ghost use Rattle.std.specs.Prelude.{◌≡◌, ◌+◌, ◌-◌, ◌*◌, ◌<◌, ◌≤◌, OnOk};
+    ghost use Rattle.av1_generate.specs.Generator.{part, parts, block, superblock_row, superblocks};
+    ghost use Rattle.av1_generate.specs.Making.{work, run};
+
+    /// Writes the leaf at this place.
+    #[tactic(auto, unfolding(crate::specs::Generator::part))]
+    fn part(&mut self, frame: &Header, size: BlockSize, x: u16, y: u16) -> Result<(), OutOfMemory>
+        ensures { OnOk result (work self.new ≡ run (part frame.now size x y) (work self.old)) }
+    {
+        let carried = carries_chroma(frame, x, y, size);
+        self.leaf(size, carried)
+    }
+
+    /// Writes the part of side `4 << level` at this place: a leaf at level 0, else a node.
+    #[cycle(blocks)]
+    #[tactic(auto, using(crate::proofs::Blocks::levels))]
+    fn block(&mut self, frame: &Header, level: u8, x: u16, y: u16) -> Result<(), OutOfMemory>
+        requires level { level ≤ 4 }
+        requires x { x + 128 * level ≤ 4096 }
+        requires y { y + 128 * level ≤ 4096 }
+        ensures { OnOk result (work self.new ≡ run (block frame.now level x y) (work self.old)) }
+    {
+        if level == 0 {
+            return self.part(frame, BlockSize::BLOCK_4X4, x, y);
+        }
+        let mark = self.draw(4) as u8;
+        self.byte(mark)?;
+        self.parts(frame, level, mark, x, y)
+    }
+
+    /// Writes the parts of a node of side `4 << level` with this mark.
+    #[cycle(blocks)]
+    #[tactic(auto, using(crate::proofs::Blocks::marks))]
+    fn parts(
+        &mut self,
+        frame: &Header,
+        level: u8,
+        mark: u8,
+        x: u16,
+        y: u16,
+    ) -> Result<(), OutOfMemory>
+        requires mark { mark ≤ 3 }
+        requires level { (0 < level) × (level ≤ 4) }
+        requires x { x + 128 * level ≤ 4096 }
+        requires y { y + 128 * level ≤ 4096 }
+        ensures { OnOk result (work self.new ≡ run (parts frame.now level (block frame.now (level - 1)) x y mark) (work self.old)) }
+    {
+        let half = half_side(level);
+        let right = x + half;
+        let below = y + half;
+        match mark {
+            0 => self.part(frame, whole_size(level), x, y),
+            1 => {
+                self.part(frame, wide_size(level), x, y)?;
+                self.part(frame, wide_size(level), x, below)
+            }
+            2 => {
+                self.part(frame, tall_size(level), x, y)?;
+                self.part(frame, tall_size(level), right, y)
+            }
+            _ => {
+                self.block(frame, level - 1, x, y)?;
+                self.block(frame, level - 1, right, y)?;
+                self.block(frame, level - 1, x, below)?;
+                self.block(frame, level - 1, right, below)
+            }
+        }
+    }
+
+    /// Writes the superblocks of a row.
+    #[tactic(auto, using(crate::proofs::Turns::turns), unfolding(crate::specs::Generator::superblock_row))]
+    fn superblock_row(&mut self, frame: &Header, row: u16) -> Result<(), OutOfMemory>
+        requires { row < 8 }
+        ensures { OnOk result (work self.new ≡ run (superblock_row frame.now row) (work self.old)) }
+    {
+        for col in 0..8 {
+            self.block(frame, 4, 64 * col, 64 * row)?;
+        }
+        Ok(())
+    }
+
+    /// Writes all superblocks.
+    #[tactic(auto, using(crate::proofs::Turns::turns), unfolding(crate::specs::Generator::superblocks))]
+    pub fn superblocks(&mut self, frame: &Header) -> Result<(), OutOfMemory>
+        ensures { OnOk result (work self.new ≡ run (superblocks frame.now) (work self.old)) }
+    {
+        for row in 0..8 {
+            self.superblock_row(frame, row)?;
+        }
+        Ok(())
+    }
+}
+
+/// Half the side of a node of this level, which has side `4 << level`.
+fn half_side(level: u8) -> u16
+    requires { level ≤ 4 }
+    ensures value { result ≡ half_side level }
+    ensures small { result ≤ 32 }
+{
+    2 << level
+}
+
+/// The sizes of a leaf that is a whole node, by the node's level.
+const WHOLE_SIZES: [BlockSize; 5] = [
+    BlockSize::BLOCK_4X4,
+    BlockSize::BLOCK_8X8,
+    BlockSize::BLOCK_16X16,
+    BlockSize::BLOCK_32X32,
+    BlockSize::BLOCK_64X64,
+];
+
+/// The sizes of the upper and the lower half of a node, by the node's level.
+const WIDE_SIZES: [BlockSize; 5] = [
+    BlockSize::BLOCK_4X4,
+    BlockSize::BLOCK_8X4,
+    BlockSize::BLOCK_16X8,
+    BlockSize::BLOCK_32X16,
+    BlockSize::BLOCK_64X32,
+];
+
+/// The sizes of the left and the right half of a node, by the node's level.
+const TALL_SIZES: [BlockSize; 5] = [
+    BlockSize::BLOCK_4X4,
+    BlockSize::BLOCK_4X8,
+    BlockSize::BLOCK_8X16,
+    BlockSize::BLOCK_16X32,
+    BlockSize::BLOCK_32X64,
+];
+
+/// The size of a leaf that is a whole node of this level.
+#[tactic(auto, unfolding(av1_plan::specs::Grammar::whole_size))]
+fn whole_size(level: u8) -> BlockSize
+    requires { level ≤ 4 }
+    ensures { result ≡ whole_size level }
+{
+    WHOLE_SIZES[usize::from(level)]
+}
+
+/// The size of the upper and the lower half of a node of this level.
+#[tactic(auto, unfolding(av1_plan::specs::Grammar::wide_size))]
+fn wide_size(level: u8) -> BlockSize
+    requires { level ≤ 4 }
+    ensures { result ≡ wide_size level }
+{
+    WIDE_SIZES[usize::from(level)]
+}
+
+/// The size of the left and the right half of a node of this level.
+#[tactic(auto, unfolding(av1_plan::specs::Grammar::tall_size))]
+fn tall_size(level: u8) -> BlockSize
+    requires { level ≤ 4 }
+    ensures { result ≡ tall_size level }
+{
+    TALL_SIZES[usize::from(level)]
+}

@@ -1,0 +1,53 @@
+-- What the crate's own functions promise one another on the way. No public contract cites this file.
+use Rattle.std.specs.Prelude.{◌≡◌, ℕ, suc, ◌+◌, ◌%◌, ◌≤◌, ◌<◌, ◌⊎◌, List, [], ◌∷◌, length, slice_index_or, ℤ, pos, negsuc, neg_ℤ, ◌≤ℤ◌}
+use Rattle.av1_frame.specs.declared.plane_region.StoredArea.{StoredArea}
+use Rattle.av1_inter.specs.Motion.{entry}
+
+-- the sums of a filter's positive weights, and of its negative ones without their sign
+abbrev pub gains : List ℤ → ℕ
+gains [] = 0
+gains (pos n ∷ taps) = n + gains taps
+gains (negsuc n ∷ taps) = gains taps
+
+abbrev pub losses : List ℤ → ℕ
+losses [] = 0
+losses (pos n ∷ taps) = losses taps
+losses (negsuc n ∷ taps) = suc n + losses taps
+
+-- eight weights that sum to 128, of which the positive ones sum to at most 184 and the negative ones to at least -56, as those of every
+-- filter do
+pub record IsFilter (taps : List ℤ) : Type 0 where
+  pub size : length taps ≡ 8
+  pub whole : gains taps ≡ 128 + losses taps
+  pub gains : gains taps ≤ 184
+  pub losses : losses taps ≤ 56
+
+-- the outer two of eight weights are 0
+pub record IsInner (taps : List ℤ) : Type 0 where
+  pub first : entry taps 0 ≡ pos 0
+  pub last : entry taps 7 ≡ pos 0
+
+-- z is at most n in magnitude
+pub record IsWithin (n : ℕ) (z : ℤ) : Type 0 where
+  pub low : neg_ℤ (pos n) ≤ℤ z
+  pub high : z ≤ℤ pos n
+
+-- the kept row y, which stands at y modulo 8
+abbrev pub kept : List (List ℤ) → ℕ → List ℤ
+kept rows y = slice_index_or rows (y % 8) []
+
+-- the first entries of the kept rows from `first` to before `end` are those of f
+abbrev pub Keeps : List (List ℤ) → (first end width : ℕ) → (ℕ → ℕ → ℤ) → Type 0
+Keeps rows first end width f = (y c : ℕ) → first ≤ y → y < end → c < width → entry (kept rows y) c ≡ f y c
+
+-- so many columns of the first rows of a rectangle, from a column on
+abbrev pub strip_of : StoredArea → (start columns rows : ℕ) → StoredArea
+strip_of a start columns rows = record { x = a.x + start; y = a.y; width = columns; height = rows }
+
+-- place i is before the n places from `start` on, or behind them
+abbrev pub IsBeside : (start n i : ℕ) → Type 0
+IsBeside start n i = (i < start) ⊎ (start + n ≤ i)
+
+-- how many columns a strip may have
+abbrev pub IsStripWidth : ℕ → Type 0
+IsStripWidth n = (n ≡ 32) ⊎ ((n ≡ 16) ⊎ ((n ≡ 8) ⊎ ((n ≡ 4) ⊎ (n ≡ 1))))

@@ -1,0 +1,24 @@
+//! The strips of columns in which a block is interpolated.
+
+ghost use Rattle.std.specs.Prelude.{◌≤◌, ◌<◌};
+ghost use Rattle.av1_inter.specs.Scaffolding.{IsStripWidth};
+
+/// How many columns the next strip has, where so many are left.
+pub(crate) fn strip_width(left: usize) -> usize
+    requires { 0 < left }
+    ensures some { 0 < result }
+    ensures room { result ≤ left }
+    ensures kind { IsStripWidth result }
+{
+    if left >= 32 {
+        32
+    } else if left >= 16 {
+        16
+    } else if left >= 8 {
+        8
+    } else if left >= 4 {
+        4
+    } else {
+        1
+    }
+}

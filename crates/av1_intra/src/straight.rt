@@ -1,0 +1,51 @@
+//! Straight prediction: a row or a column of samples, copied over the block.
+//!
+//! AV1 specification: directional intra prediction process, for the angles 90 and 180.
+
+ghost use Rattle.std.specs.Prelude.{◌≡◌, ℕ, ◌+◌, ◌-◌, ◌*◌, ◌^◌, ◌<◌, ◌≤◌, length};
+ghost use Rattle.av1_frame.specs.Regions.{InStorage, painted};
+ghost use Rattle.av1_intra.specs.Sides.{numbers, from_top};
+
+use crate::rows::{copy_row, fill_row};
+use crate::samples::number_at;
+use av1_frame::{Pixel, PlaneRegionMut};
+
+/// Predicts the first `height` rows and `width` columns of `output`: each row becomes the samples of `above`, which runs from the
+/// left. Samples past the first `width` are not read.
+#[tactic(auto, using(av1_frame::proofs::Regions::painted_none, av1_frame::proofs::Regions::painted_in_storage, av1_frame::proofs::Regions::painted_more))]
+pub fn pred_v<T: Pixel>(
+    output: &mut PlaneRegionMut<'_, T>,
+    above: &[T],
+    width: usize,
+    height: usize,
+)
+    requires fits { InStorage output.old }
+    requires columns { width ≤ output.old.place.width }
+    requires rows { height ≤ output.old.place.height }
+    requires above_long { width ≤ length above.now }
+    ensures painted { output.new ≡ painted output.old width height (λ _ c _. T.pixel (numbers T.num above.now c)) }
+    ensures fits { InStorage output.new }
+{
+    for r in 0..height {
+        copy_row(output.row_mut(r), above, width);
+    }
+}
+
+/// Predicts the first `height` rows and `width` columns of `output`: each row becomes its sample of `left`, again and again.
+///
+/// `left` runs from the bottom up: its sample at `height - 1` is that of the first row. Samples past the first `height` are not
+/// read.
+#[tactic(auto, using(av1_frame::proofs::Regions::painted_none, av1_frame::proofs::Regions::painted_in_storage, av1_frame::proofs::Regions::painted_more))]
+pub fn pred_h<T: Pixel>(output: &mut PlaneRegionMut<'_, T>, left: &[T], width: usize, height: usize)
+    requires fits { InStorage output.old }
+    requires columns { width ≤ output.old.place.width }
+    requires rows { height ≤ output.old.place.height }
+    requires left_long { height ≤ length left.now }
+    ensures painted { output.new ≡ painted output.old width height (λ r _ _. T.pixel (from_top T.num height left.now r)) }
+    ensures fits { InStorage output.new }
+{
+    for r in 0..height {
+        let sample = T::from_u32(number_at(left, height - 1 - r));
+        fill_row(output.row_mut(r), sample, width);
+    }
+}

@@ -1,0 +1,51 @@
+-- Which luma samples chroma from luma reads, and that they are written.
+-- AV1 specification: predict chroma from luma process; transform block syntax (MaxLumaW, MaxLumaH).
+use Rattle.std.specs.Prelude.{◌≡◌, true, ℕ, ◌+◌, ◌-◌, ◌*◌, ◌/◌, ◌^◌, ◌<◌, ◌≤◌, min, max, ◌==◌, nat_le, ◌&&◌, if◌then◌else◌, List, [], ◌∷◌, ◌++◌}
+use Rattle.std.specs.Int.{next_multiple_of}
+use Rattle.av1_blocks.specs.Blocks.{block_width, block_height}
+use Rattle.av1_blocks.specs.Transforms.{tx_width, tx_height}
+use Rattle.av1_plan.specs.declared.header.Header.{Header}
+use Rattle.av1_plan.specs.Geometry.{xdec, ydec, carries_chroma, plane_size}
+use Rattle.av1_plan.specs.Plan.{LeafValue}
+use Rattle.av1_order.specs.Turns.{IsCodedPlan, is_written, leaves_steps}
+
+-- Along one direction, in luma samples: chroma is halved there where s is 1. The leaf has a side of this length, and begins at this place.
+module _ (s side place : ℕ) where
+  -- where the luma that is read begins: where the side is 4 and the direction halved, at the cell before the leaf's
+  abbrev pub luma_start : ℕ
+  luma_start = if s == 1 && side == 4 then place - 4 else place
+
+  -- the visible luma plane and the leaf's luma transforms have sides of these lengths
+  module _ (frame tx : ℕ) where
+    -- how far luma is coded: past a side of 8, as far as the leaf is visible, and to the end of a transform
+    abbrev pub coded_side : ℕ
+    coded_side = if nat_le side 8 then side else next_multiple_of (min side (frame - luma_start)) tx
+
+    -- the side without the whole units of chroma of which no luma is coded
+    abbrev pub unpadded_side : ℕ
+    unpadded_side = side - (side - coded_side) / (4 * 2 ^ s) * (4 * 2 ^ s)
+
+    -- the luma that is read for chroma place c: each of its 2 ^ s samples; past what is coded the last ones again
+    abbrev pub luma_place : (c i : ℕ) → ℕ
+    luma_place c i = luma_start + min (c * 2 ^ s) (max unpadded_side 8 - 2 ^ s) + i
+
+-- A leaf one of whose sides is four times the other ends in the frame. It is a quarter of a node, and these are coded only where the node lies
+-- in the frame.
+pub record IsQuarterInside (h : Header) (l : LeafValue) : Type 0 where
+  pub wide : block_width l.size ≡ 4 * block_height l.size → l.x + block_width l.size ≤ h.width
+  pub high : block_height l.size ≡ 4 * block_width l.size → l.y + block_height l.size ≤ h.height
+
+-- All the luma that a leaf's chroma place at column c of row r reads is written by these luma steps.
+abbrev pub ReadsWritten : Header → LeafValue → List LeafValue → (c r : ℕ) → Type 0
+ReadsWritten h l leaves c r =
+    (i j : ℕ) → i < 2 ^ xdec h 1 → j < 2 ^ ydec h 1
+    → is_written h 0 (leaves_steps h 0 leaves) (luma_place (xdec h 1) (block_width l.size) l.x h.width (tx_width l.tx_size) c i)
+    (luma_place (ydec h 1) (block_height l.size) l.y h.height (tx_height l.tx_size) r j)
+    ≡ true
+
+-- It is so of each leaf that carries chroma and has no side past 32, once its own luma steps and those of the leaves before it are done.
+abbrev pub LumaIsWritten : Type 0
+LumaIsWritten =
+    (h : Header) (earlier : List LeafValue) (l : LeafValue) (later : List LeafValue) → IsCodedPlan h 0 (earlier ++ l ∷ later)
+    → carries_chroma h l.x l.y l.size ≡ true → block_width l.size ≤ 32 → block_height l.size ≤ 32 → IsQuarterInside h l
+    → (c r : ℕ) → c < block_width (plane_size h l.size 1) → r < block_height (plane_size h l.size 1) → ReadsWritten h l (earlier ++ l ∷ []) c r

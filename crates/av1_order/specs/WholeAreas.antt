@@ -1,0 +1,47 @@
+-- Leaves that are predicted from other frames: their whole area at once, before any block of it is added to.
+-- AV1 specification: compute prediction process; residual syntax.
+use Rattle.std.specs.Prelude.{◌≡◌, true, ℕ, None, Some, [], ◌∷◌}
+use Rattle.av1_blocks.specs.Blocks.{block_width, block_height}
+use Rattle.av1_blocks.specs.Transforms.{tx_width, tx_height}
+use Rattle.av1_plan.specs.declared.geometry.TransformBlock.{TransformBlock}
+use Rattle.av1_plan.specs.declared.header.Header.{Header}
+use Rattle.av1_plan.specs.CodingOrder.{IsOnGrid, cells_of}
+use Rattle.av1_plan.specs.Geometry.{xdec, ydec, covers_plane, plane_area}
+use Rattle.av1_plan.specs.Plan.{LeafValue}
+use Rattle.av1_plan.specs.Validity.{fault_of}
+use Rattle.av1_avail.specs.Order.{is_in}
+use Rattle.av1_order.specs.Plans.{IsWholeFrame, is_inter, steps_in}
+use Rattle.av1_order.specs.Samples.{left, top, width_of, height_of}
+use Rattle.av1_order.specs.Steps.{Step, area, widened}
+use Rattle.av1_order.specs.Turns.{is_written, leaf_block, tx_in}
+
+module _ (h : Header) (p : ℕ) (l : LeafValue) where
+  -- the prediction of all of a leaf's area, as one step
+  abbrev pub whole_step : Step
+  whole_step =
+      let b = widened (xdec h p) (ydec h p) (cells_of l) in
+      let u = area (xdec h p) (ydec h p) b in
+      record { block = b; right = 0; down = 0; columns = u.columns; rows = u.rows }
+
+  -- the leaf covers a part of the plane and has this one step there, whose rectangle is the leaf's area
+  pub record IsPredictedWhole : Type 0 where
+    pub covered : covers_plane h l.x l.y l.size p ≡ true
+    pub one : steps_in h p l ≡ whole_step ∷ []
+    pub x : left (xdec h p) (ydec h p) whole_step ≡ (plane_area h l.x l.y l.size l.tx_size p).x
+    pub y : top (xdec h p) (ydec h p) whole_step ≡ (plane_area h l.x l.y l.size l.tx_size p).y
+    pub columns : width_of (xdec h p) (ydec h p) whole_step ≡ block_width (plane_area h l.x l.y l.size l.tx_size p).size
+    pub rows : height_of (xdec h p) (ydec h p) whole_step ≡ block_height (plane_area h l.x l.y l.size l.tx_size p).size
+
+  -- each sample of each transform block that begins in the visible plane, to which a residue may be added, is written by the leaf's steps
+  abbrev pub BlocksAreWritten : Type 0
+  BlocksAreWritten =
+      covers_plane h l.x l.y l.size p ≡ true → (n : ℕ) (b : TransformBlock) → leaf_block h p l n ≡ Some b
+      → (x y : ℕ) → is_in x y b.x b.y (tx_width (tx_in h p l)) (tx_height (tx_in h p l)) ≡ true → is_written h p (steps_in h p l) x y ≡ true
+
+-- It is so of each valid inter leaf, which thus carries chroma,
+abbrev pub InterIsWhole : Type 0
+InterIsWhole = (h : Header) (p : ℕ) (l : LeafValue) → IsOnGrid h l → fault_of h l ≡ None → is_inter l.kind ≡ true → IsPredictedWhole h p l
+
+-- and of the blocks of each valid leaf, inter or not.
+abbrev pub ResiduesFindSamples : Type 0
+ResiduesFindSamples = (h : Header) (p : ℕ) (l : LeafValue) → IsWholeFrame h → IsOnGrid h l → fault_of h l ≡ None → BlocksAreWritten h p l
