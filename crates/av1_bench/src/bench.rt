@@ -3,11 +3,11 @@ ghost use Rattle.std.specs.Prelude.{◌≡◌, ◌≢◌, ◌<◌, ◌≤◌, No
 ghost use Rattle.std.specs.Io.KnownBytes.{Appends};
 ghost use Rattle.av1_plan.specs.Answer.{plan_value};
 ghost use Rattle.av1_plan.specs.Validity.{first_fault};
-ghost use Rattle.av1_streams.specs.Faults.{Rose};
+ghost use Rattle.av1_streams.specs.Faults.{FaultCounted};
 ghost use Rattle.av1_streams.specs.Streams.{max_plan_bytes};
 ghost use Rattle.av1_tile.specs.State.{IsSound, shown, state_header};
 ghost use Rattle.av1_tile.specs.Walk.{planes_of, visible};
-ghost use Rattle.av1_recon.specs.Outcomes.{ComesTo, IsRefusal};
+ghost use Rattle.av1_recon.specs.Outcomes.{HasOutcome, IsRefusal};
 ghost use Rattle.av1_recon.specs.declared.error.ReconError.TheVariants as errors;
 ghost use Rattle.av1_bench.specs.Lines.{Sums, Prints};
 ghost use Rattle.av1_bench.specs.Benches.{Benches};
@@ -50,8 +50,8 @@ fn bench_bytes<W: Sink>(
 ) -> Result<(), ReconError>
     requires short { length bytes.now ≤ max_plan_bytes }
     ensures ok { OnOk result (Prints count bytes.now (λ lines. Appends (W.taken sink.old) (W.taken sink.new) lines)) }
-    ensures refused { IfErr result (λ e. IsRefusal e → ComesTo bytes.now (Err e)) }
-    ensures cause { IsErrOf result errors.WriteFault → Rose (W.faults sink.old) (W.faults sink.new) }
+    ensures refused { IfErr result (λ e. IsRefusal e → HasOutcome bytes.now (Err e)) }
+    ensures cause { IsErrOf result errors.WriteFault → FaultCounted (W.faults sink.old) (W.faults sink.new) }
     ensures unwritten { IfErr result (λ e. e ≢ errors.WriteFault → sink.new ≡ sink.old) }
     ensures read { IfErr result (λ e. (e ≢ errors.ReadFault) × (e ≢ errors.TooLong)) }
 {

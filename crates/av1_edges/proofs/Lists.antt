@@ -49,8 +49,8 @@ behind_sample num xs ys k d h =
     ap (λ m. num (get_or (xs ++ ys) m d)) (sym e) ∙ ap num (get_or-append-add xs ys (k - length xs) d)
 
 -- a side that is stored from the last place to the first: what is taken stands at the end, and before it the last one that is taken
-pub reversed_side : {T : Type 0} (num : T → ℕ) (f : ℕ → ℕ) (below inside : List T) (n taken : ℕ) → length below + length inside ≡ n → length inside ≡ taken → 0 < taken → ((k : ℕ) (d : T) → k < length inside → num (get_or inside k d) ≡ f (taken - 1 - k)) → ((k : ℕ) (d : T) → k < length below → num (get_or below k d) ≡ f (taken - 1)) → (g : ℕ → ℕ) → ((i : ℕ) → g i ≡ f (min i (taken - 1))) → map num (below ++ inside) ≡ reverse (listed n g)
-reversed_side num f below inside n taken len size some inner outer g e =
+pub reversed_side : {T : Type 0} (num : T → ℕ) (f : ℕ → ℕ) (below inside : List T) (n num_avail : ℕ) → length below + length inside ≡ n → length inside ≡ num_avail → 0 < num_avail → ((k : ℕ) (d : T) → k < length inside → num (get_or inside k d) ≡ f (num_avail - 1 - k)) → ((k : ℕ) (d : T) → k < length below → num (get_or below k d) ≡ f (num_avail - 1)) → (g : ℕ → ℕ) → ((i : ℕ) → g i ≡ f (min i (num_avail - 1))) → map num (below ++ inside) ≡ reverse (listed n g)
+reversed_side num f below inside n num_avail len size some inner outer g e =
     reversed_is num g (below ++ inside) n (length-append below inside ∙ len) (λ k d h. elim (cases_lt k (length below)) [
       | inl b ↦ ap num (get_or_append_left below inside d k b) ∙ outer k d b ∙ sym (e (n - 1 - k) ∙ ap f (omega arith))
       | inr b ↦ behind_sample num below inside k d b ∙ inner (k - length below) d (omega arith) ∙ sym (e (n - 1 - k) ∙ ap f (omega arith))

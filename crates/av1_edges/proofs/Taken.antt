@@ -2,7 +2,7 @@
 use Rattle.std.proofs.Common.{◌≡◌, ℕ, ◌+◌, ◌-◌, ◌<◌, min, Bool, true, false, ◌&&◌, ◌||◌, arith}
 use Rattle.std.specs.Prelude.{nat_lt}
 use Rattle.std.proofs.lemmas.Bool.Decides.{nat_tests}
-use Rattle.av1_edges.specs.Sides.{taken}
+use Rattle.av1_edges.specs.Sides.{num_avail}
 
 going_on : (limit first count run j : ℕ) → first < limit → j < count + run
     → nat_lt j (min count (limit - first) + min run (limit - first - count)) ≡ (nat_lt (first + j) limit && (nat_lt j count || true))
@@ -13,6 +13,6 @@ ending limit first count run j begins = grind (arith, nat_tests)
 
 -- place j of a side of `count` places that begins at `first`
 pub taken_place : (limit first count run j : ℕ) (goes_on : Bool) → first < limit → j < count + run
-    → nat_lt j (taken limit first count goes_on run) ≡ (nat_lt (first + j) limit && (nat_lt j count || goes_on))
+    → nat_lt j (num_avail limit first count goes_on run) ≡ (nat_lt (first + j) limit && (nat_lt j count || goes_on))
 taken_place limit first count run j true begins near = going_on limit first count run j begins near
 taken_place limit first count run j false begins near = ending limit first count run j begins

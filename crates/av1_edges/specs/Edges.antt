@@ -16,7 +16,7 @@ use Rattle.av1_avail.specs.Cells.{transform_columns, transform_rows}
 use Rattle.av1_edges.specs.declared.parts.Parts.{Parts}
 use Rattle.av1_edges.specs.declared.place.Place.{Place}
 use Rattle.av1_edges.specs.Parts.{prepared_parts, step_of}
-use Rattle.av1_edges.specs.Sides.{base, listed, where_asked, taken, above_at, left_at, corner_at, smoothed}
+use Rattle.av1_edges.specs.Sides.{base, listed, where_needed, num_avail, above_at, left_at, corner_at, smoothed}
 
 -- ---- the region
 
@@ -81,29 +81,29 @@ pub record Edge : Type 0 where
   pub corner : ℕ
 
 -- how many samples above it, and to its left, are taken: past the transform at most as many as its lesser side
-abbrev pub taken_above : {T : Type 0} → PlaneRegion T → Place → Bool → ℕ
-taken_above r at goes_on =
-    taken (visible_columns r) at.x (tx_width at.tx_size) goes_on (min (tx_width at.tx_size) (tx_height at.tx_size))
+abbrev pub num_avail_above : {T : Type 0} → PlaneRegion T → Place → Bool → ℕ
+num_avail_above r at goes_on =
+    num_avail (visible_columns r) at.x (tx_width at.tx_size) goes_on (min (tx_width at.tx_size) (tx_height at.tx_size))
 
-abbrev pub taken_left : {T : Type 0} → PlaneRegion T → Place → Bool → ℕ
-taken_left r at goes_on =
-    taken (visible_rows r) at.y (tx_height at.tx_size) goes_on (min (tx_width at.tx_size) (tx_height at.tx_size))
+abbrev pub num_avail_left : {T : Type 0} → PlaneRegion T → Place → Bool → ℕ
+num_avail_left r at goes_on =
+    num_avail (visible_rows r) at.y (tx_height at.tx_size) goes_on (min (tx_width at.tx_size) (tx_height at.tx_size))
 
 -- how many places the side above has: as many as the transform has columns, and with what is above right as many more as it has rows
 abbrev pub above_places : Parts → TxSize → ℕ
-above_places parts tx_size = tx_width tx_size + where_asked parts.above_right (tx_height tx_size)
+above_places parts tx_size = tx_width tx_size + where_needed parts.above_right (tx_height tx_size)
 
 -- how many the left side has, where it is prepared: as many as the transform has rows, and with what is below left as many more as it has
 -- columns
 abbrev pub left_places : Parts → TxSize → ℕ
-left_places parts tx_size = where_asked parts.left (tx_height tx_size) + where_asked parts.below_left (tx_width tx_size)
+left_places parts tx_size = where_needed parts.left (tx_height tx_size) + where_needed parts.below_left (tx_width tx_size)
 
 -- the edge of which these parts are prepared
 unfoldable pub edge_of_parts : {T : Type 0} → (T → ℕ) → PlaneRegion T → Place → (depth : ℕ) → Parts → Edge
 edge_of_parts num r at depth parts =
     let sample = region_sample num r in
-    let above = above_at sample (base depth) at.x at.y (taken_above r at (parts.above_right && has_above_right r at)) in
-    let left = left_at sample (base depth) at.x at.y (taken_left r at (parts.below_left && has_below_left r at)) in
+    let above = above_at sample (base depth) at.x at.y (num_avail_above r at (parts.above_right && has_above_right r at)) in
+    let left = left_at sample (base depth) at.x at.y (num_avail_left r at (parts.below_left && has_below_left r at)) in
     let corner = if parts.corner then corner_at sample (base depth) at.x at.y else base depth in
     record {
       above = listed (above_places parts at.tx_size) above;

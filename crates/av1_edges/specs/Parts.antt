@@ -26,27 +26,27 @@ abbrev pub angle : PredictionMode → ℤ → ℤ
 angle mode step = intra_mode_to_angle mode +ℤ pos 3 *ℤ step
 
 -- the samples to the left of a block at column x; the modes that take a mean do without them at the left end
-abbrev pub asks_left : PredictionMode → ℕ → Bool
-asks_left DC_PRED x = nat_lt 0 x
-asks_left UV_CFL_PRED x = nat_lt 0 x
-asks_left mode x = true
+abbrev pub needs_left : PredictionMode → ℕ → Bool
+needs_left DC_PRED x = nat_lt 0 x
+needs_left UV_CFL_PRED x = nat_lt 0 x
+needs_left mode x = true
 
 -- the samples below those to the left: past the angle of straight to the right
-abbrev pub asks_below_left : PredictionMode → ℤ → Bool
-asks_below_left mode step = is_directional mode && int_lt (pos 180) (angle mode step)
+abbrev pub needs_below_left : PredictionMode → ℤ → Bool
+needs_below_left mode step = is_directional mode && int_lt (pos 180) (angle mode step)
 
 -- the samples to the right of those above: before the angle of straight down
-abbrev pub asks_above_right : PredictionMode → ℤ → Bool
-asks_above_right mode step = is_directional mode && int_lt (angle mode step) (pos 90)
+abbrev pub needs_above_right : PredictionMode → ℤ → Bool
+needs_above_right mode step = is_directional mode && int_lt (angle mode step) (pos 90)
 
 -- neither straight down nor straight to the right
 abbrev pub is_slanted : ℤ → Bool
 is_slanted p = not (int_eq p (pos 90)) && not (int_eq p (pos 180))
 
 -- the corner
-abbrev pub asks_corner : PredictionMode → ℤ → Bool
-asks_corner PAETH_PRED step = true
-asks_corner mode step = is_directional mode && is_slanted (angle mode step)
+abbrev pub needs_corner : PredictionMode → ℤ → Bool
+needs_corner PAETH_PRED step = true
+needs_corner mode step = is_directional mode && is_slanted (angle mode step)
 
 -- where the edge filter smooths the corner: between straight down and straight to the right, on blocks of w by h samples that are large
 abbrev pub smooths_corner : Bool → PredictionMode → ℤ → (w h : ℕ) → Bool
@@ -56,10 +56,10 @@ smooths_corner filter mode step w h =
 -- the parts that a mode in effect asks for, of a block of w by h samples at column x; filter says whether the edge filter is on
 abbrev pub parts_for : Bool → PredictionMode → ℤ → (x w h : ℕ) → Parts
 parts_for filter mode step x w h = record {
-  left = asks_left mode x;
-  below_left = asks_below_left mode step;
-  above_right = asks_above_right mode step;
-  corner = asks_corner mode step;
+  left = needs_left mode x;
+  below_left = needs_below_left mode step;
+  above_right = needs_above_right mode step;
+  corner = needs_corner mode step;
   smoothed = smooths_corner filter mode step w h;
 }
 

@@ -8,8 +8,8 @@ abbrev pub base : ℕ → ℕ
 base depth = 128 * 2 ^ (depth - 8)
 
 -- n where b, else 0
-abbrev pub where_asked : Bool → ℕ → ℕ
-where_asked b n = if b then n else 0
+abbrev pub where_needed : Bool → ℕ → ℕ
+where_needed b n = if b then n else 0
 
 -- f 0, .., f (n - 1)
 abbrev pub listed : {A : Type 0} → ℕ → (ℕ → A) → List A
@@ -17,8 +17,8 @@ listed n f = map f (range_with_len 0 n)
 
 -- how many samples of a side are taken, whose `count` places begin at `first`: those before `limit`, and, where the side goes on, of a
 -- run behind them too
-abbrev pub taken : (limit first count : ℕ) → Bool → (run : ℕ) → ℕ
-taken limit first count goes_on run = min count (limit - first) + where_asked goes_on (min run (limit - first - count))
+abbrev pub num_avail : (limit first count : ℕ) → Bool → (run : ℕ) → ℕ
+num_avail limit first count goes_on run = min count (limit - first) + where_needed goes_on (min run (limit - first - count))
 
 -- place j above a block at column x of row y, of whose row above n samples are taken: one of these, and past the last that one again; in
 -- the first row the sample to the left of the block; and where there is neither, half of the range less 1

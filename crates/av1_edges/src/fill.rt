@@ -30,7 +30,7 @@ pub fn extend_from<T: Pixel>(row: &mut [T], source: &[T])
 }
 
 /// Half of the range of samples of this depth.
-pub fn half_range(bit_depth: usize) -> u32
+pub fn base(bit_depth: usize) -> u32
     requires low { 8 ≤ bit_depth }
     requires high { bit_depth ≤ 16 }
     ensures value { result ≡ base bit_depth }
@@ -50,30 +50,30 @@ fn sample_of<T: Pixel>(dst: &PlaneRegion<'_, T>, x: usize, y: usize) -> T
     dst.row(y)[x]
 }
 
-/// The side above a block at column `x` of row `y`, as wide as `above`, of which `taken` samples are taken.
+/// The side above a block at column `x` of row `y`, as wide as `above`, of which `num_avail` samples are taken.
 pub(crate) fn fill_above<T: Pixel>(
     above: &mut [T],
     dst: &PlaneRegion<'_, T>,
     x: usize,
     y: usize,
-    taken: usize,
+    num_avail: usize,
     bit_depth: usize,
 )
-    requires some { 0 < taken }
-    requires room { taken ≤ length above.old }
+    requires some { 0 < num_avail }
+    requires room { num_avail ≤ length above.old }
     requires begins { BeginsVisible dst.now }
-    requires columns { x + taken ≤ visible_columns dst.now }
+    requires columns { x + num_avail ≤ visible_columns dst.now }
     requires row { y < visible_rows dst.now }
     requires low { 8 ≤ bit_depth }
     requires depth { bit_depth ≤ T.BITS }
-    ensures { map T.num above.new ≡ listed (length above.old) (above_at (region_sample T.num dst.now) (base bit_depth) x y taken) }
+    ensures { map T.num above.new ≡ listed (length above.old) (above_at (region_sample T.num dst.now) (base bit_depth) x y num_avail) }
 {
     if y > 0 {
-        extend_from(above, &dst.row(y - 1)[x..x + taken]);
+        extend_from(above, &dst.row(y - 1)[x..x + num_avail]);
     } else if x > 0 {
         fill_with(above, sample_of(dst, x - 1, 0));
     } else {
-        fill_with(above, T::from_u32(half_range(bit_depth) - 1));
+        fill_with(above, T::from_u32(base(bit_depth) - 1));
     }
 }
 
@@ -91,33 +91,33 @@ fn copy_column<T: Pixel>(left: &mut [T], dst: &PlaneRegion<'_, T>, x: usize, y: 
 }
 
 /// The side to the left of a block at column `x` of row `y`, from the bottom up, as high as `left`, of which
-/// `taken` samples are taken.
+/// `num_avail` samples are taken.
 pub(crate) fn fill_left<T: Pixel>(
     left: &mut [T],
     dst: &PlaneRegion<'_, T>,
     x: usize,
     y: usize,
-    taken: usize,
+    num_avail: usize,
     bit_depth: usize,
 )
-    requires some { 0 < taken }
-    requires room { 0 < x → taken ≤ length left.old }
+    requires some { 0 < num_avail }
+    requires room { 0 < x → num_avail ≤ length left.old }
     requires begins { BeginsVisible dst.now }
     requires column { x < visible_columns dst.now }
-    requires rows { y + taken ≤ visible_rows dst.now }
+    requires rows { y + num_avail ≤ visible_rows dst.now }
     requires low { 8 ≤ bit_depth }
     requires depth { bit_depth ≤ T.BITS }
-    ensures { map T.num left.new ≡ reverse (listed (length left.old) (left_at (region_sample T.num dst.now) (base bit_depth) x y taken)) }
+    ensures { map T.num left.new ≡ reverse (listed (length left.old) (left_at (region_sample T.num dst.now) (base bit_depth) x y num_avail)) }
 {
     if x > 0 {
-        let rest = left.len() - taken;
+        let rest = left.len() - num_avail;
         let (below, inside) = left.split_at_mut(rest);
         copy_column(inside, dst, x - 1, y);
         fill_with(below, inside[0]);
     } else if y > 0 {
         fill_with(left, sample_of(dst, 0, y - 1));
     } else {
-        fill_with(left, T::from_u32(half_range(bit_depth) + 1));
+        fill_with(left, T::from_u32(base(bit_depth) + 1));
     }
 }
 
@@ -139,7 +139,7 @@ pub(crate) fn corner_of<T: Pixel>(
     if asked && x + y > 0 {
         sample_of(dst, x.saturating_sub(1), y.saturating_sub(1))
     } else {
-        T::from_u32(half_range(bit_depth))
+        T::from_u32(base(bit_depth))
     }
 }
 

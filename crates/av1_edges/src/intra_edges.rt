@@ -94,10 +94,10 @@ fn fill_edge<T: Pixel>(
     let (left, samples) = samples.split_at_mut(left_places);
     let (corner, samples) = samples.split_at_mut(1);
     let (above, _) = samples.split_at_mut(above_places);
-    let taken_left = at.taken_left(dst, parts.below_left);
-    fill_left(left, dst, at.x, at.y, taken_left, bit_depth);
-    let taken_above = at.taken_above(dst, parts.above_right);
-    fill_above(above, dst, at.x, at.y, taken_above, bit_depth);
+    let num_avail_left = at.num_avail_left(dst, parts.below_left);
+    fill_left(left, dst, at.x, at.y, num_avail_left, bit_depth);
+    let num_avail_above = at.num_avail_above(dst, parts.above_right);
+    fill_above(above, dst, at.x, at.y, num_avail_above, bit_depth);
     corner[0] = edge_corner(left, above, dst, at, bit_depth, parts);
 }
 

@@ -29,5 +29,5 @@ mod tests;
 
 pub use buffer::IntraEdgeBuffer;
 pub use edge::IntraEdge;
-pub use fill::{extend_from, fill_with, half_range};
+pub use fill::{extend_from, fill_with, base};
 pub use intra_edges::get_intra_edges;

@@ -4,7 +4,7 @@
 
 ghost use Rattle.std.specs.Prelude.{◌≡◌, ◌<◌, true};
 ghost use Rattle.av1_blocks.specs.Transforms.{tx_width, tx_height};
-ghost use Rattle.av1_edges.specs.Parts.{effective, step_of, angle, asks_left, asks_below_left, asks_above_right, asks_corner, smooths_corner, parts_for, prepared_parts};
+ghost use Rattle.av1_edges.specs.Parts.{effective, step_of, angle, needs_left, needs_below_left, needs_above_right, needs_corner, smooths_corner, parts_for, prepared_parts};
 
 use av1_blocks::{ANGLE_STEP, IntraParam, PredictionMode, TxSize, intra_mode_to_angle};
 
@@ -53,8 +53,8 @@ fn angle(mode: PredictionMode, step: i8) -> isize
 }
 
 /// The mode asks for the samples to the left of a block at column `x`.
-fn asks_left(mode: PredictionMode, x: usize) -> bool
-    ensures value { result ≡ asks_left mode x }
+fn needs_left(mode: PredictionMode, x: usize) -> bool
+    ensures value { result ≡ needs_left mode x }
     ensures inside { 0 < x → result ≡ true }
 {
     match mode {
@@ -64,22 +64,22 @@ fn asks_left(mode: PredictionMode, x: usize) -> bool
 }
 
 /// The mode asks for the samples below those to the left.
-fn asks_below_left(mode: PredictionMode, step: i8) -> bool
-    ensures { result ≡ asks_below_left mode step }
+fn needs_below_left(mode: PredictionMode, step: i8) -> bool
+    ensures { result ≡ needs_below_left mode step }
 {
     mode.is_directional() && angle(mode, step) > 180
 }
 
 /// The mode asks for the samples to the right of those above.
-fn asks_above_right(mode: PredictionMode, step: i8) -> bool
-    ensures { result ≡ asks_above_right mode step }
+fn needs_above_right(mode: PredictionMode, step: i8) -> bool
+    ensures { result ≡ needs_above_right mode step }
 {
     mode.is_directional() && angle(mode, step) < 90
 }
 
 /// The mode asks for the corner.
-fn asks_corner(mode: PredictionMode, step: i8) -> bool
-    ensures { result ≡ asks_corner mode step }
+fn needs_corner(mode: PredictionMode, step: i8) -> bool
+    ensures { result ≡ needs_corner mode step }
 {
     match mode {
         PredictionMode::PAETH_PRED => true,
@@ -110,10 +110,10 @@ impl Parts {
         ensures smooth { result.smoothed ≡ true → result.left ≡ true }
     {
         Parts {
-            left: asks_left(mode, x),
-            below_left: asks_below_left(mode, step),
-            above_right: asks_above_right(mode, step),
-            corner: asks_corner(mode, step),
+            left: needs_left(mode, x),
+            below_left: needs_below_left(mode, step),
+            above_right: needs_above_right(mode, step),
+            corner: needs_corner(mode, step),
             smoothed: smooths_corner(filter, mode, step, tx_size),
         }
     }

@@ -2,9 +2,9 @@
 
 ghost use Rattle.std.specs.Prelude.{◌≡◌, ◌+◌, ◌<◌, ◌≤◌, ◌&&◌};
 ghost use Rattle.av1_blocks.specs.Transforms.{tx_width, tx_height};
-ghost use Rattle.av1_edges.specs.Sides.{taken, where_asked};
+ghost use Rattle.av1_edges.specs.Sides.{num_avail, where_needed};
 ghost use Rattle.av1_avail.specs.Asked.{has_before};
-ghost use Rattle.av1_edges.specs.Edges.{BeginsVisible, PlaceFits, visible_columns, visible_rows, has_above_right, has_below_left, taken_above, taken_left};
+ghost use Rattle.av1_edges.specs.Edges.{BeginsVisible, PlaceFits, visible_columns, visible_rows, has_above_right, has_below_left, num_avail_above, num_avail_left};
 
 use av1_avail::{has_bottom_left, has_top_right};
 use av1_blocks::{BlockSize, TxSize, supersample_chroma_bsize};
@@ -57,12 +57,12 @@ fn has_before(offset: usize, cell: usize, decimation: usize) -> bool
 
 /// How many samples of a side are taken, whose `count` places begin at `first`: those before `limit`, and,
 /// where the side goes on, of a `run` behind them too.
-fn taken(limit: usize, first: usize, count: usize, goes_on: bool, run: usize) -> usize
+fn num_avail(limit: usize, first: usize, count: usize, goes_on: bool, run: usize) -> usize
     requires begins { first < limit }
     requires some { 0 < count }
     requires few { count ≤ 64 }
     requires short { run ≤ 64 }
-    ensures value { result ≡ taken limit first count goes_on run }
+    ensures value { result ≡ num_avail limit first count goes_on run }
     ensures least { 0 < result }
     ensures most { first + result ≤ limit }
     ensures within { result ≤ count + run }
@@ -123,33 +123,33 @@ impl Place {
 
     /// How many samples above the transform are taken, where `asked` says whether those above right
     /// are asked for.
-    pub(crate) fn taken_above<T: Pixel>(self, dst: &PlaneRegion<'_, T>, asked: bool) -> usize
+    pub(crate) fn num_avail_above<T: Pixel>(self, dst: &PlaneRegion<'_, T>, asked: bool) -> usize
         requires begins { BeginsVisible dst.now }
         requires fits { PlaceFits dst.now self }
-        ensures value { result ≡ taken_above dst.now self (asked && has_above_right dst.now self) }
+        ensures value { result ≡ num_avail_above dst.now self (asked && has_above_right dst.now self) }
         ensures least { 0 < result }
         ensures most { self.x + result ≤ visible_columns dst.now }
-        ensures within { result ≤ tx_width self.tx_size + where_asked asked (tx_height self.tx_size) }
+        ensures within { result ≤ tx_width self.tx_size + where_needed asked (tx_height self.tx_size) }
     {
         let goes_on = asked && self.has_above_right(dst);
         let width = self.tx_size.width();
         let run = width.min(self.tx_size.height());
-        taken(visible_columns(dst), self.x, width, goes_on, run)
+        num_avail(visible_columns(dst), self.x, width, goes_on, run)
     }
 
     /// How many samples to the left of the transform are taken, where `asked` says whether those below left
     /// are asked for.
-    pub(crate) fn taken_left<T: Pixel>(self, dst: &PlaneRegion<'_, T>, asked: bool) -> usize
+    pub(crate) fn num_avail_left<T: Pixel>(self, dst: &PlaneRegion<'_, T>, asked: bool) -> usize
         requires begins { BeginsVisible dst.now }
         requires fits { PlaceFits dst.now self }
-        ensures value { result ≡ taken_left dst.now self (asked && has_below_left dst.now self) }
+        ensures value { result ≡ num_avail_left dst.now self (asked && has_below_left dst.now self) }
         ensures least { 0 < result }
         ensures most { self.y + result ≤ visible_rows dst.now }
-        ensures within { result ≤ tx_height self.tx_size + where_asked asked (tx_width self.tx_size) }
+        ensures within { result ≤ tx_height self.tx_size + where_needed asked (tx_width self.tx_size) }
     {
         let goes_on = asked && self.has_below_left(dst);
         let height = self.tx_size.height();
         let run = height.min(self.tx_size.width());
-        taken(visible_rows(dst), self.y, height, goes_on, run)
+        num_avail(visible_rows(dst), self.y, height, goes_on, run)
     }
 }

@@ -7,7 +7,7 @@ use Rattle.av1_blocks.specs.declared.predict.PredictionMode.{PredictionMode}
 use Rattle.av1_blocks.specs.declared.predict.PredictionMode.TheVariants.{DC_PRED, UV_CFL_PRED, V_PRED, H_PRED, D45_PRED, D67_PRED, D113_PRED, D135_PRED, D157_PRED, D203_PRED}
 use Rattle.av1_blocks.specs.declared.predict.IntraParam.{IntraParam}
 use Rattle.av1_edges.specs.Parts.{step_of, parts_for}
-use Rattle.av1_edges.specs.Sides.{where_asked}
+use Rattle.av1_edges.specs.Sides.{where_needed}
 use Rattle.av1_intra.specs.Predicted.{variant_at, dc_above, dc_left, along_above, along_left, places_above, places_left, angle_or_alpha}
 
 -- ---- the side above
@@ -19,14 +19,14 @@ dc_above_few (suc x) zero w = omega arith
 dc_above_few (suc x) (suc y) w = omega arith
 
 -- along the angle z
-above_by : (z : ℤ) (w h : ℕ) → along_above (unsigned_abs z) w h ≤ w + where_asked (int_lt z (pos 90)) h
+above_by : (z : ℤ) (w h : ℕ) → along_above (unsigned_abs z) w h ≤ w + where_needed (int_lt z (pos 90)) h
 above_by (pos n) w h = grind (arith, nat_tests)
 above_by (negsuc n) w h = grind (arith, nat_tests)
 
-pub enough_above : (filter : Bool) (mode : PredictionMode) (param : IntraParam) (x y w h : ℕ) → places_above mode (variant_at x y) (unsigned_abs (angle_or_alpha mode param)) w h ≤ w + where_asked (parts_for filter mode (step_of param) x w h).above_right h
+pub enough_above : (filter : Bool) (mode : PredictionMode) (param : IntraParam) (x y w h : ℕ) → places_above mode (variant_at x y) (unsigned_abs (angle_or_alpha mode param)) w h ≤ w + where_needed (parts_for filter mode (step_of param) x w h).above_right h
 enough_above filter mode param x y w h =
     let s = step_of param in
-    elim mode as (λ m. places_above m (variant_at x y) (unsigned_abs (angle_or_alpha m param)) w h ≤ w + where_asked (parts_for filter m (step_of param) x w h).above_right h) [
+    elim mode as (λ m. places_above m (variant_at x y) (unsigned_abs (angle_or_alpha m param)) w h ≤ w + where_needed (parts_for filter m (step_of param) x w h).above_right h) [
       | DC_PRED ↦ (let d = dc_above_few x y w in omega (arith, d))
       | UV_CFL_PRED ↦ (let d = dc_above_few x y w in omega (arith, d))
       | V_PRED ↦ above_by (pos 90 +ℤ pos 3 *ℤ s) w h
@@ -42,13 +42,13 @@ enough_above filter mode param x y w h =
 
 -- ---- the left side
 
-dc_left_few : (x y h n : ℕ) → dc_left (variant_at x y) h ≤ where_asked (ltb 0 x) h + n
+dc_left_few : (x y h n : ℕ) → dc_left (variant_at x y) h ≤ where_needed (ltb 0 x) h + n
 dc_left_few zero zero h n = omega arith
 dc_left_few zero (suc y) h n = omega arith
 dc_left_few (suc x) zero h n = grind (arith, nat_tests)
 dc_left_few (suc x) (suc y) h n = grind (arith, nat_tests)
 
-left_by : (z : ℤ) (w h : ℕ) → pos 0 ≤ℤ z → along_left (unsigned_abs z) w h ≤ h + where_asked (int_lt (pos 180) z) w
+left_by : (z : ℤ) (w h : ℕ) → pos 0 ≤ℤ z → along_left (unsigned_abs z) w h ≤ h + where_needed (int_lt (pos 180) z) w
 left_by (pos n) w h l = grind (arith, nat_tests)
 left_by (negsuc n) w h l = absurd (omega (arith, ints))
 
@@ -56,10 +56,10 @@ turned_up : (a : ℕ) (step : ℤ) → 9 ≤ a → unsigned_abs step ≤ 3 → p
 turned_up a (pos n) h l = omega (arith, ints)
 turned_up a (negsuc n) h l = omega (arith, ints)
 
-pub enough_left : (filter : Bool) (mode : PredictionMode) (param : IntraParam) (x y w h : ℕ) → unsigned_abs (step_of param) ≤ 3 → places_left mode (variant_at x y) (unsigned_abs (angle_or_alpha mode param)) w h ≤ where_asked (parts_for filter mode (step_of param) x w h).left h + where_asked (parts_for filter mode (step_of param) x w h).below_left w
+pub enough_left : (filter : Bool) (mode : PredictionMode) (param : IntraParam) (x y w h : ℕ) → unsigned_abs (step_of param) ≤ 3 → places_left mode (variant_at x y) (unsigned_abs (angle_or_alpha mode param)) w h ≤ where_needed (parts_for filter mode (step_of param) x w h).left h + where_needed (parts_for filter mode (step_of param) x w h).below_left w
 enough_left filter mode param x y w h l =
     let s = step_of param in
-    elim mode as (λ m. places_left m (variant_at x y) (unsigned_abs (angle_or_alpha m param)) w h ≤ where_asked (parts_for filter m (step_of param) x w h).left h + where_asked (parts_for filter m (step_of param) x w h).below_left w) [
+    elim mode as (λ m. places_left m (variant_at x y) (unsigned_abs (angle_or_alpha m param)) w h ≤ where_needed (parts_for filter m (step_of param) x w h).left h + where_needed (parts_for filter m (step_of param) x w h).below_left w) [
       | DC_PRED ↦ dc_left_few x y h 0
       | UV_CFL_PRED ↦ dc_left_few x y h 0
       | V_PRED ↦ left_by (pos 90 +ℤ pos 3 *ℤ s) w h (turned_up 90 s (omega arith) l)

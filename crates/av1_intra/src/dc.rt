@@ -8,7 +8,7 @@ ghost use Rattle.av1_edges.specs.Sides.{base};
 ghost use Rattle.av1_intra.specs.Dc.{mean};
 
 use crate::rows::fill_rows;
-use av1_edges::half_range;
+use av1_edges::base;
 use av1_frame::{Pixel, PlaneRegionMut};
 
 /// The sum of at most 128 samples.
@@ -52,7 +52,7 @@ pub(crate) fn half_sample<T: Pixel>(bit_depth: usize) -> T
     requires high { bit_depth ≤ T.BITS }
     ensures { result ≡ T.pixel (base bit_depth) }
 {
-    T::from_u32(half_range(bit_depth))
+    T::from_u32(base(bit_depth))
 }
 
 /// Predicts the first `height` rows and `width` columns of `output`: each sample becomes the mean of the first `height` samples

@@ -8,7 +8,7 @@ ghost use Rattle.av1_intra.specs.Directional.{entry};
 ghost use Rattle.std.specs.Int.{w16};
 ghost use Rattle.av1_blocks.specs.declared.predict.IntraParam.{IntraParam};
 ghost use Rattle.av1_edges.specs.Parts.{effective, step_of, prepared_parts};
-ghost use Rattle.av1_edges.specs.Sides.{where_asked};
+ghost use Rattle.av1_edges.specs.Sides.{where_needed};
 ghost use Rattle.av1_intra.specs.declared.luma.LumaLeaf.{LumaLeaf};
 ghost use Rattle.av1_intra.specs.ChromaFromLuma.{chroma_block, columns_read, rows_read, first_column, first_row, leaf_difference};
 ghost use Rattle.av1_intra.specs.Predicted.{variant_at, angle_or_alpha, places_above, places_left};
@@ -48,8 +48,8 @@ pub fn luma_differences_fit()
 pub fn prepared_edges_suffice()
     ensures above { (filter : Bool) (mode : PredictionMode) (param : IntraParam) (x y w h : ℕ) →
         let m = effective mode x y in
-        places_above m (variant_at x y) (unsigned_abs (angle_or_alpha m param)) w h ≤ w + where_asked (prepared_parts filter (Some mode) (step_of param) x y w h).above_right h }
+        places_above m (variant_at x y) (unsigned_abs (angle_or_alpha m param)) w h ≤ w + where_needed (prepared_parts filter (Some mode) (step_of param) x y w h).above_right h }
     ensures left { (filter : Bool) (mode : PredictionMode) (param : IntraParam) (x y w h : ℕ) → unsigned_abs (step_of param) ≤ 3 →
         let m = effective mode x y in let parts = prepared_parts filter (Some mode) (step_of param) x y w h in
-        places_left m (variant_at x y) (unsigned_abs (angle_or_alpha m param)) w h ≤ where_asked parts.left h + where_asked parts.below_left w }
+        places_left m (variant_at x y) (unsigned_abs (angle_or_alpha m param)) w h ≤ where_needed parts.left h + where_needed parts.below_left w }
 {}

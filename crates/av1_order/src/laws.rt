@@ -23,7 +23,7 @@ pub fn leaves_tile_the_frame()
 {}
 
 /// A law: in every plane of every frame, the steps before a step have written just the units of 4 by 4 samples that places tell.
-pub fn order_is_told_by_places()
+pub fn order_follows_from_position()
     ensures { OrderByPlaces }
 {}
 
@@ -40,7 +40,7 @@ pub fn planes_are_written()
 
 /// A law: what coding order answers to `has_top_right` and `has_bottom_left` of `av1_avail`, asked with the sizes of a step and with the
 /// place of its leaf, is whether the samples above right of the step, and below left of it, are visible and written.
-pub fn questions_are_answered_by_order()
+pub fn availability_matches_order()
     ensures asked { EdgesAsAsked }
     ensures answered { CallsAnswerOrder }
 {}

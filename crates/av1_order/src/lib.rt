@@ -23,6 +23,6 @@ mod laws;
 pub use laws::{
     areas_are_predicted, cuts_are_told, edges_are_answered, edges_are_told_by_places,
     leaves_lie_on_their_grid, leaves_tile_the_frame, luma_is_written, neighbours_are_found,
-    order_is_told_by_places, planes_are_written, plans_are_frames, plans_are_written,
-    questions_are_answered_by_order, steps_are_transform_blocks,
+    order_follows_from_position, planes_are_written, plans_are_frames, plans_are_written,
+    availability_matches_order, steps_are_transform_blocks,
 };

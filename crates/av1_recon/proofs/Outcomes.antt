@@ -17,7 +17,7 @@ use Rattle.av1_tile.specs.Walk.{planes_of}
 use Rattle.av1_recon.specs.declared.error.ReconError.{ReconError}
 use Rattle.av1_recon.specs.declared.error.ReconError.TheVariants.{ReadFault, TooLong, Malformed, NotBuilt, Invalid as InvalidLeaf, WriteFault, Memory}
 use Rattle.av1_recon.specs.Errors.{invalid_error}
-use Rattle.av1_recon.specs.Outcomes.{Outcome, Answer, ArePlan, ComesTo, Tells}
+use Rattle.av1_recon.specs.Outcomes.{Outcome, Answer, ArePlan, HasOutcome, Tells}
 
 abbrev ok : {A E : Type 0} → A → Result A E
 ok x = Ok x
@@ -86,7 +86,7 @@ judged (refused fault) = Err (fault_error fault)
 judged (read value) = judged_as value (first_fault value)
 
 -- an outcome follows from a reading
-of_reading : (bytes : List ℕ) (outcome : Outcome) → ComesTo bytes outcome → (r : Reading) × IsReading bytes r × (outcome ≡ judged r)
+of_reading : (bytes : List ℕ) (outcome : Outcome) → HasOutcome bytes outcome → (r : Reading) × IsReading bytes r × (outcome ≡ judged r)
 of_reading bytes (Ok planes) (value, are, valid, e) = (read value, are, ap ok e ∙ sym (ap (judged_as value) valid))
 of_reading bytes (Err TooLong) c = (long, c, refl)
 of_reading bytes (Err (Malformed at)) c = (refused (malformed at), c, refl)
@@ -97,17 +97,17 @@ of_reading bytes (Err WriteFault) c = absurd c
 of_reading bytes (Err Memory) c = absurd c
 
 -- bytes come to one outcome
-pub comes_once : (bytes : List ℕ) (a b : Outcome) → ComesTo bytes a → ComesTo bytes b → b ≡ a
+pub comes_once : (bytes : List ℕ) (a b : Outcome) → HasOutcome bytes a → HasOutcome bytes b → b ≡ a
 comes_once bytes a b p q =
     let (r, s, e) = of_reading bytes a p in
     let (t, u, f) = of_reading bytes b q in
     f ∙ ap judged (reading_is bytes t r u s) ∙ sym e
 
-of_plan : (bytes : List ℕ) (value : PlanValue) → ArePlan bytes value → (fault : Option Invalid) → first_fault value ≡ fault → (outcome : Outcome) × ComesTo bytes outcome
+of_plan : (bytes : List ℕ) (value : PlanValue) → ArePlan bytes value → (fault : Option Invalid) → first_fault value ≡ fault → (outcome : Outcome) × HasOutcome bytes outcome
 of_plan bytes value are None e = (Ok (planes_of value), (value, are, e, refl))
 of_plan bytes value are (Some fault) e = (Err (InvalidLeaf fault.leaf fault.kind), (value, are, e))
 
-of_result : (bytes : List ℕ) → AreBytes bytes → length bytes ≤ max_plan_bytes → (result : Result PlanValue Fault) → read_all plan (start bytes) ≡ result → (outcome : Outcome) × ComesTo bytes outcome
+of_result : (bytes : List ℕ) → AreBytes bytes → length bytes ≤ max_plan_bytes → (result : Result PlanValue Fault) → read_all plan (start bytes) ≡ result → (outcome : Outcome) × HasOutcome bytes outcome
 of_result bytes fits short (Ok value) e = of_plan bytes value (short, all_found plan bytes value fits e) (first_fault value) refl
 of_result bytes fits short (Err (malformed at)) e = (Err (Malformed at), (short, all_refused plan bytes (malformed at) fits e))
 of_result bytes fits short (Err (not_built at)) e = (Err (NotBuilt at), (short, all_refused plan bytes (not_built at) fits e))
@@ -119,7 +119,7 @@ byte_fits bytes fits i = elim (cases_lt i (length bytes)) [
 ]
 
 -- bytes come to some outcome
-pub comes_to_some : (bytes : List ℕ) → All (λ byte. byte < 2 ^ 8) bytes → (outcome : Outcome) × ComesTo bytes outcome
+pub comes_to_some : (bytes : List ℕ) → All (λ byte. byte < 2 ^ 8) bytes → (outcome : Outcome) × HasOutcome bytes outcome
 comes_to_some bytes fits = elim (cases_lt max_plan_bytes (length bytes)) [
   | inl over ↦ (Err TooLong, over)
   | inr short ↦ of_result bytes (byte_fits bytes fits) short (read_all plan (start bytes)) refl
@@ -127,14 +127,14 @@ comes_to_some bytes fits = elim (cases_lt max_plan_bytes (length bytes)) [
 
 -- what an answer says of what the bytes come to
 abbrev pub Shows : List ℕ → Answer → Type 0
-Shows bytes (Ok done) = (planes : List ℕ) × ComesTo bytes (Ok planes)
-Shows bytes (Err WriteFault) = (planes : List ℕ) × ComesTo bytes (Ok planes)
+Shows bytes (Ok done) = (planes : List ℕ) × HasOutcome bytes (Ok planes)
+Shows bytes (Err WriteFault) = (planes : List ℕ) × HasOutcome bytes (Ok planes)
 Shows bytes (Err ReadFault) = ⊤
 Shows bytes (Err Memory) = ⊤
-Shows bytes (Err e) = ComesTo bytes (Err e)
+Shows bytes (Err e) = HasOutcome bytes (Err e)
 
 -- and then they come to nothing else
-pub tells : (bytes : List ℕ) (answer : Answer) → Shows bytes answer → (outcome : Outcome) → ComesTo bytes outcome → Tells answer outcome
+pub tells : (bytes : List ℕ) (answer : Answer) → Shows bytes answer → (outcome : Outcome) → HasOutcome bytes outcome → Tells answer outcome
 tells bytes (Ok done) (planes, p) outcome q = subst IsOk (sym (comes_once bytes (Ok planes) outcome p q)) refl
 tells bytes (Err WriteFault) (planes, p) outcome q = subst IsOk (sym (comes_once bytes (Ok planes) outcome p q)) refl
 tells bytes (Err ReadFault) p outcome q = tt

@@ -3,19 +3,19 @@ use Rattle.std.proofs.Common.{◌≡◌, ◌≢◌, ◌⊎◌, inl, inr, ℕ, �
 use Rattle.std.specs.Prelude.{IsErrAnd, OnOk, IfErr, IsOk, IsErrOf, IfSome}
 use Rattle.std.proofs.lemmas.Result.{on_ok_weaker}
 use Rattle.std.specs.Io.KnownBytes.{Appends, IsAtEnd}
-use Rattle.av1_streams.specs.Faults.{Rose}
+use Rattle.av1_streams.specs.Faults.{FaultCounted}
 use Rattle.av1_streams.specs.Streams.{max_plan_bytes, Takes, TakesAtMost, AppendsPrefix}
 use Rattle.av1_streams.specs.declared.read.ReadError.{ReadError}
 use Rattle.av1_streams.specs.declared.read.ReadError.TheVariants as read_errors
 use Rattle.av1_recon.specs.declared.error.ReconError.{ReconError}
 use Rattle.av1_recon.specs.declared.error.ReconError.TheVariants.{ReadFault, TooLong, Malformed, NotBuilt, Invalid as InvalidLeaf, WriteFault, Memory}
 use Rattle.av1_recon.specs.Errors.{read_error}
-use Rattle.av1_recon.specs.Outcomes.{Outcome, Answer, ComesTo, IsRefusal, Tells, LeavesSource, Reconstructs}
+use Rattle.av1_recon.specs.Outcomes.{Outcome, Answer, HasOutcome, IsRefusal, Tells, LeavesSource, Reconstructs}
 use Rattle.av1_recon.proofs.Outcomes.{Shows, tells, of_left}
 
 -- the clauses of the path from bytes to a sink, P of the planes that were appended and Q of those of which a prefix was
-pub shows : (bytes : List ℕ) (answer : Answer) (P Q : List ℕ → Type 0) → OnOk answer ((planes : List ℕ) × ComesTo bytes (Ok planes) × P planes)
-    → IfErr answer (λ e. IsRefusal e → ComesTo bytes (Err e)) → (IsErrOf answer WriteFault → (planes : List ℕ) × ComesTo bytes (Ok planes) × Q planes) → Shows bytes answer
+pub shows : (bytes : List ℕ) (answer : Answer) (P Q : List ℕ → Type 0) → OnOk answer ((planes : List ℕ) × HasOutcome bytes (Ok planes) × P planes)
+    → IfErr answer (λ e. IsRefusal e → HasOutcome bytes (Err e)) → (IsErrOf answer WriteFault → (planes : List ℕ) × HasOutcome bytes (Ok planes) × Q planes) → Shows bytes answer
 shows bytes (Ok done) P Q ok refused prefix = (ok.0, ok.1)
 shows bytes (Err WriteFault) P Q ok refused prefix = let p = prefix refl in (p.0, p.1)
 shows bytes (Err ReadFault) P Q ok refused prefix = tt
@@ -59,10 +59,10 @@ no_read_fault (Err e) n h = let same : e ≡ ReadFault = cc in absurd (n.0 same)
 -- the bytes were read to their end, and the rest gave the answer
 pub reads_on : {S K : Type 0} (left : S → Option (List ℕ)) (source_faults : S → ℕ) (taken : K → Option (List ℕ)) (sink_faults : K → ℕ) (source source' : S) (sink sink' : K) (bytes : List ℕ) (answer : Answer)
     → IfSome (left source) (λ told. bytes ≡ told) → IsAtEnd (left source') → TakesAtMost (max_plan_bytes + 1) (left source) (left source') → source_faults source ≤ source_faults source'
-    → OnOk answer ((planes : List ℕ) × ComesTo bytes (Ok planes) × Appends (taken sink) (taken sink') planes)
-    → IfErr answer (λ e. IsRefusal e → ComesTo bytes (Err e))
-    → (IsErrOf answer WriteFault → (planes : List ℕ) × ComesTo bytes (Ok planes) × AppendsPrefix (taken sink) (taken sink') planes)
-    → (IsErrOf answer WriteFault → Rose (sink_faults sink) (sink_faults sink'))
+    → OnOk answer ((planes : List ℕ) × HasOutcome bytes (Ok planes) × Appends (taken sink) (taken sink') planes)
+    → IfErr answer (λ e. IsRefusal e → HasOutcome bytes (Err e))
+    → (IsErrOf answer WriteFault → (planes : List ℕ) × HasOutcome bytes (Ok planes) × AppendsPrefix (taken sink) (taken sink') planes)
+    → (IsErrOf answer WriteFault → FaultCounted (sink_faults sink) (sink_faults sink'))
     → sink_faults sink ≤ sink_faults sink'
     → IfErr answer (λ e. e ≢ WriteFault → sink' ≡ sink)
     → IfErr answer (λ e. (e ≢ ReadFault) × (e ≢ TooLong))
@@ -71,18 +71,18 @@ reads_on left source_faults taken sink_faults source source' sink sink' bytes an
     let all : (P : List ℕ → Type 0) → P bytes → IfSome (left source) P = λ P p. of_left (left source) bytes P told p in
     let shown = shows bytes answer (λ planes. Appends (taken sink) (taken sink') planes) (λ planes. AppendsPrefix (taken sink) (taken sink') planes) ok refused prefix in
     record {
-      ok = on_ok_weaker answer (all (λ b. (planes : List ℕ) × ComesTo b (Ok planes) × Appends (taken sink) (taken sink') planes)) ok;
-      refused = if_err answer (λ e p r. all (λ b. ComesTo b (Err e)) (p r)) refused;
-      exactly = all (λ b. (outcome : Outcome) → ComesTo b outcome → Tells answer outcome) (tells bytes answer shown);
+      ok = on_ok_weaker answer (all (λ b. (planes : List ℕ) × HasOutcome b (Ok planes) × Appends (taken sink) (taken sink') planes)) ok;
+      refused = if_err answer (λ e p r. all (λ b. HasOutcome b (Err e)) (p r)) refused;
+      exactly = all (λ b. (outcome : Outcome) → HasOutcome b outcome → Tells answer outcome) (tells bytes answer shown);
       read_fault = no_read_fault answer read;
       write_fault = rose;
-      prefix = λ h. all (λ b. (planes : List ℕ) × ComesTo b (Ok planes) × AppendsPrefix (taken sink) (taken sink') planes) (prefix h);
+      prefix = λ h. all (λ b. (planes : List ℕ) × HasOutcome b (Ok planes) × AppendsPrefix (taken sink) (taken sink') planes) (prefix h);
       unwritten = unwritten;
       taken_at_most = most;
       leaves = leaves_end answer (left source) (left source') read end;
       source_later = source_later;
       sink_later = sink_later;
-      complete = λ no_read no_write. all (λ b. (planes : List ℕ) → ComesTo b (Ok planes) → IsOk answer ⊎ IsErrOf answer Memory)
+      complete = λ no_read no_write. all (λ b. (planes : List ℕ) → HasOutcome b (Ok planes) → IsOk answer ⊎ IsErrOf answer Memory)
           (λ planes c. without_fault answer planes _ _ (tells bytes answer shown (Ok planes) c) (no_read_fault answer read) rose no_read no_write);
     }
 
@@ -97,14 +97,14 @@ weaker (Some bytes) P Q f p = f bytes p
 -- the answers of failed reading
 pub stops : {S K : Type 0} (left : S → Option (List ℕ)) (source_faults : S → ℕ) (taken : K → Option (List ℕ)) (sink_faults : K → ℕ) (source source' : S) (sink : K) (e : ReadError)
     → TakesAtMost (max_plan_bytes + 1) (left source) (left source') → source_faults source ≤ source_faults source'
-    → (e ≡ read_errors.ReadFault → Rose (source_faults source) (source_faults source'))
+    → (e ≡ read_errors.ReadFault → FaultCounted (source_faults source) (source_faults source'))
     → (e ≡ read_errors.TooLong → Takes (max_plan_bytes + 1) (left source) (left source'))
     → (e ≡ read_errors.TooLong → IfSome (left source) (λ bytes. max_plan_bytes < length bytes))
     → Reconstructs left source_faults taken sink_faults source source' sink sink (Err (read_error e))
 stops left source_faults taken sink_faults source source' sink read_errors.ReadFault most later rose takes longer = record {
   ok = tt;
   refused = λ r. absurd r;
-  exactly = any (left source) (λ b. (outcome : Outcome) → ComesTo b outcome → Tells (Err ReadFault) outcome) (λ b outcome c. tt);
+  exactly = any (left source) (λ b. (outcome : Outcome) → HasOutcome b outcome → Tells (Err ReadFault) outcome) (λ b outcome c. tt);
   read_fault = λ h. rose refl;
   write_fault = λ h. absurd cc;
   prefix = λ h. absurd cc;
@@ -118,7 +118,7 @@ stops left source_faults taken sink_faults source source' sink read_errors.ReadF
 stops left source_faults taken sink_faults source source' sink read_errors.Memory most later rose takes longer = record {
   ok = tt;
   refused = λ r. absurd r;
-  exactly = any (left source) (λ b. (outcome : Outcome) → ComesTo b outcome → Tells (Err Memory) outcome) (λ b outcome c. tt);
+  exactly = any (left source) (λ b. (outcome : Outcome) → HasOutcome b outcome → Tells (Err Memory) outcome) (λ b outcome c. tt);
   read_fault = λ h. absurd cc;
   write_fault = λ h. absurd cc;
   prefix = λ h. absurd cc;
@@ -132,7 +132,7 @@ stops left source_faults taken sink_faults source source' sink read_errors.Memor
 stops left source_faults taken sink_faults source source' sink read_errors.TooLong most later rose takes longer = record {
   ok = tt;
   refused = λ r. longer refl;
-  exactly = weaker (left source) (λ b. max_plan_bytes < length b) (λ b. (outcome : Outcome) → ComesTo b outcome → Tells (Err TooLong) outcome) (λ b h. tells b (Err TooLong) h) (longer refl);
+  exactly = weaker (left source) (λ b. max_plan_bytes < length b) (λ b. (outcome : Outcome) → HasOutcome b outcome → Tells (Err TooLong) outcome) (λ b h. tells b (Err TooLong) h) (longer refl);
   read_fault = λ h. absurd cc;
   write_fault = λ h. absurd cc;
   prefix = λ h. absurd cc;

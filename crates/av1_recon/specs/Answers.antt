@@ -3,7 +3,7 @@ use Rattle.std.specs.Prelude.{ℕ, List, [], ◌++◌, Option, Ok, Err, codes, d
 use Rattle.std.specs.Io.KnownBytes.{Appends}
 use Rattle.av1_plan.specs.declared.error.InvalidKind.{InvalidKind}
 use Rattle.av1_plan.specs.declared.error.InvalidKind.TheVariants as kinds
-use Rattle.av1_streams.specs.Faults.{Rose}
+use Rattle.av1_streams.specs.Faults.{FaultCounted}
 use Rattle.av1_streams.specs.Streams.{AppendsPrefix}
 use Rattle.av1_recon.specs.declared.error.ReconError.{ReconError}
 use Rattle.av1_recon.specs.declared.error.ReconError.TheVariants.{ReadFault, TooLong, Malformed, NotBuilt, Invalid, WriteFault, Memory}
@@ -51,4 +51,4 @@ usage = codes "usage: recon [make N | sum N]\n"
 -- The line stands on the sink, or a prefix of it where a write failed.
 pub record Says {E : Type 0} (taken : E → Option (List ℕ)) (faults : E → ℕ) (sink sink' : E) (line : List ℕ) : Type 0 where
   pub prefix : AppendsPrefix (taken sink) (taken sink') line
-  pub whole : ¬ Rose (faults sink) (faults sink') → Appends (taken sink) (taken sink') line
+  pub whole : ¬ FaultCounted (faults sink) (faults sink') → Appends (taken sink) (taken sink') line

@@ -6,7 +6,7 @@ use Rattle.av1_plan.specs.Grammar.{plan}
 use Rattle.av1_plan.specs.Plan.{PlanValue}
 use Rattle.av1_plan.specs.Spelling.{AreText, AreRefused}
 use Rattle.av1_plan.specs.Validity.{first_fault}
-use Rattle.av1_streams.specs.Faults.{Rose}
+use Rattle.av1_streams.specs.Faults.{FaultCounted}
 use Rattle.av1_streams.specs.Streams.{max_plan_bytes, Takes, TakesAtMost, AppendsPrefix}
 use Rattle.av1_tile.specs.Walk.{planes_of}
 use Rattle.av1_recon.specs.declared.error.ReconError.{ReconError}
@@ -26,19 +26,19 @@ ArePlan bytes value = (length bytes ≤ max_plan_bytes) × AreText plan bytes va
 
 -- What bytes come to: the visible planes of the slow definition where they are the text of a plan without a faulty leaf, else
 -- why they are refused. They are too long, or no text of a plan, or the text of a plan whose first faulty leaf has this fault.
-abbrev pub ComesTo : List ℕ → Outcome → Type 0
-ComesTo bytes (Ok planes) = (value : PlanValue) × ArePlan bytes value × (first_fault value ≡ None) × (planes ≡ planes_of value)
-ComesTo bytes (Err TooLong) = max_plan_bytes < length bytes
-ComesTo bytes (Err (Malformed at)) = (length bytes ≤ max_plan_bytes) × AreRefused plan bytes (malformed at)
-ComesTo bytes (Err (NotBuilt at)) = (length bytes ≤ max_plan_bytes) × AreRefused plan bytes (not_built at)
-ComesTo bytes (Err (InvalidLeaf leaf kind)) = (value : PlanValue) × ArePlan bytes value × (first_fault value ≡ Some (record { leaf = leaf; kind = kind }))
-ComesTo bytes (Err ReadFault) = ⊥
-ComesTo bytes (Err WriteFault) = ⊥
-ComesTo bytes (Err Memory) = ⊥
+abbrev pub HasOutcome : List ℕ → Outcome → Type 0
+HasOutcome bytes (Ok planes) = (value : PlanValue) × ArePlan bytes value × (first_fault value ≡ None) × (planes ≡ planes_of value)
+HasOutcome bytes (Err TooLong) = max_plan_bytes < length bytes
+HasOutcome bytes (Err (Malformed at)) = (length bytes ≤ max_plan_bytes) × AreRefused plan bytes (malformed at)
+HasOutcome bytes (Err (NotBuilt at)) = (length bytes ≤ max_plan_bytes) × AreRefused plan bytes (not_built at)
+HasOutcome bytes (Err (InvalidLeaf leaf kind)) = (value : PlanValue) × ArePlan bytes value × (first_fault value ≡ Some (record { leaf = leaf; kind = kind }))
+HasOutcome bytes (Err ReadFault) = ⊥
+HasOutcome bytes (Err WriteFault) = ⊥
+HasOutcome bytes (Err Memory) = ⊥
 
 -- where the source told its bytes they come to planes, and P holds of these
 abbrev pub Planes : Option (List ℕ) → (List ℕ → Type 0) → Type 0
-Planes left P = IfSome left (λ bytes. (planes : List ℕ) × ComesTo bytes (Ok planes) × P planes)
+Planes left P = IfSome left (λ bytes. (planes : List ℕ) × HasOutcome bytes (Ok planes) × P planes)
 
 -- the answers that refuse the bytes
 abbrev pub IsRefusal : ReconError → Type 0
@@ -72,11 +72,11 @@ pub record Reconstructs {S K : Type 0} (left : S → Option (List ℕ)) (source_
   -- Ok only where the bytes come to planes, and these were appended.
   pub ok : OnOk answer (Planes (left source) (λ planes. Appends (taken sink) (taken sink') planes))
   -- A refusal only where the bytes come to it, and exactly there but for faults and want of memory.
-  pub refused : IfErr answer (λ e. IsRefusal e → IfSome (left source) (λ bytes. ComesTo bytes (Err e)))
-  pub exactly : IfSome (left source) (λ bytes. (outcome : Outcome) → ComesTo bytes outcome → Tells answer outcome)
+  pub refused : IfErr answer (λ e. IsRefusal e → IfSome (left source) (λ bytes. HasOutcome bytes (Err e)))
+  pub exactly : IfSome (left source) (λ bytes. (outcome : Outcome) → HasOutcome bytes outcome → Tells answer outcome)
   -- A fault only where the count rose or stands at its last value.
-  pub read_fault : IsErrOf answer ReadFault → Rose (source_faults source) (source_faults source')
-  pub write_fault : IsErrOf answer WriteFault → Rose (sink_faults sink) (sink_faults sink')
+  pub read_fault : IsErrOf answer ReadFault → FaultCounted (source_faults source) (source_faults source')
+  pub write_fault : IsErrOf answer WriteFault → FaultCounted (sink_faults sink) (sink_faults sink')
   -- After a failed write, of a valid plan alone, a prefix of its planes stands; after every other error the sink is as it was.
   pub prefix : IsErrOf answer WriteFault → Planes (left source) (λ planes. AppendsPrefix (taken sink) (taken sink') planes)
   pub unwritten : IfErr answer (λ e. e ≢ WriteFault → sink' ≡ sink)
@@ -87,5 +87,5 @@ pub record Reconstructs {S K : Type 0} (left : S → Option (List ℕ)) (source_
   pub source_later : source_faults source ≤ source_faults source'
   pub sink_later : sink_faults sink ≤ sink_faults sink'
   -- Without a fault a valid plan gives Ok, or memory ran out.
-  pub complete : ¬ Rose (source_faults source) (source_faults source') → ¬ Rose (sink_faults sink) (sink_faults sink')
-      → IfSome (left source) (λ bytes. (planes : List ℕ) → ComesTo bytes (Ok planes) → IsOk answer ⊎ IsErrOf answer Memory)
+  pub complete : ¬ FaultCounted (source_faults source) (source_faults source') → ¬ FaultCounted (sink_faults sink) (sink_faults sink')
+      → IfSome (left source) (λ bytes. (planes : List ℕ) → HasOutcome bytes (Ok planes) → IsOk answer ⊎ IsErrOf answer Memory)

@@ -1,9 +1,9 @@
 //! What bytes come to is one thing.
 ghost use Rattle.std.specs.Prelude.{◌≡◌, ℕ, ◌<◌, ◌^◌, List, All};
-ghost use Rattle.av1_recon.specs.Outcomes.{ComesTo, Outcome};
+ghost use Rattle.av1_recon.specs.Outcomes.{HasOutcome, Outcome};
 
 /// The laws of what bytes come to: every list of bytes comes to some outcome, and to one alone.
 pub fn outcome_laws()
-    ensures some { (bytes : List ℕ) → All (λ byte. byte < 2 ^ 8) bytes → (outcome : Outcome) × ComesTo bytes outcome }
-    ensures one { (bytes : List ℕ) (a b : Outcome) → ComesTo bytes a → ComesTo bytes b → a ≡ b }
+    ensures some { (bytes : List ℕ) → All (λ byte. byte < 2 ^ 8) bytes → (outcome : Outcome) × HasOutcome bytes outcome }
+    ensures one { (bytes : List ℕ) (a b : Outcome) → HasOutcome bytes a → HasOutcome bytes b → a ≡ b }
 {}

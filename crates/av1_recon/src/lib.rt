@@ -8,7 +8,7 @@
 //! It stands on `av1_streams` for sources and sinks, on `av1_plan` for the grammar and the check of plans, and on `av1_tile`
 //! for the samples, and passes on what its callers need of them.
 //!
-//! Promised: these calls return, over every source and sink. What bytes come to is one definition, `ComesTo`
+//! Promised: these calls return, over every source and sink. What bytes come to is one definition, `HasOutcome`
 //! (`specs/Outcomes.antt`), and each answer is read off it: Ok only where the bytes are a valid plan, and then exactly the
 //! planes of the slow definition were appended; a refusal exactly where the bytes come to it; a fault only where the count of
 //! faults rose, or stands at the last value of a `u64`. Want of memory is the one free answer, and comes before the first

@@ -1,11 +1,11 @@
 //! All that the program does.
 ghost use Rattle.std.specs.Prelude.{◌≡◌, ◌↔◌, ◌⊎◌, ◌≤◌, IsErrOf, IsSome, IfSome, Some, None, Ok, Err, List, ℕ, map, string_bytes};
 ghost use Rattle.std.specs.Io.KnownBytes.{Appends};
-ghost use Rattle.av1_streams.specs.Faults.{Rose};
+ghost use Rattle.av1_streams.specs.Faults.{FaultCounted};
 ghost use Rattle.av1_streams.specs.Streams.{AppendsPrefix};
 ghost use Rattle.av1_recon.specs.Answers.{Says, status_of, line_of, usage};
 ghost use Rattle.av1_recon.specs.Commands.{command_of};
-ghost use Rattle.av1_recon.specs.Outcomes.{Answer, ComesTo, Planes, Reconstructs};
+ghost use Rattle.av1_recon.specs.Outcomes.{Answer, HasOutcome, Planes, Reconstructs};
 ghost use Rattle.av1_recon.specs.declared.command.Command.TheVariants.{Reconstruct};
 ghost use Rattle.av1_recon.specs.declared.error.ReconError.{ReconError};
 
@@ -45,21 +45,21 @@ pub fn run<R: Source, W: Sink, E: Sink>(
         × Planes (R.left source.old) (λ planes. Appends (W.taken out.old) (W.taken out.new) planes) }
     ensures status_1 { (result ≡ 1) ↔ (command_of (map string_bytes words.now) ≡ None) }
     ensures status_2 { result ≡ 2 → (command_of (map string_bytes words.now) ≡ Some Reconstruct)
-        × IfSome (R.left source.old) (λ bytes. (e : ReconError) × ComesTo bytes (Err e)) × (out.new ≡ out.old) }
+        × IfSome (R.left source.old) (λ bytes. (e : ReconError) × HasOutcome bytes (Err e)) × (out.new ≡ out.old) }
     ensures status_3 { result ≡ 3 → (command_of (map string_bytes words.now) ≡ Some Reconstruct) × (out.new ≡ out.old) }
     ensures status_4 { result ≡ 4 → (command_of (map string_bytes words.now) ≡ Some Reconstruct)
-        × Rose (R.faults source.old) (R.faults source.new) × (out.new ≡ out.old) }
+        × FaultCounted (R.faults source.old) (R.faults source.new) × (out.new ≡ out.old) }
     ensures status_5 { result ≡ 5 → (command_of (map string_bytes words.now) ≡ Some Reconstruct)
-        × Rose (W.faults out.old) (W.faults out.new)
+        × FaultCounted (W.faults out.old) (W.faults out.new)
         × Planes (R.left source.old) (λ planes. AppendsPrefix (W.taken out.old) (W.taken out.new) planes) }
     ensures no_other { result ≤ 5 }
 
     // Without a fault a valid plan gives status 0, or memory ran out; and bytes that are refused never give status 0.
-    ensures complete { command_of (map string_bytes words.now) ≡ Some Reconstruct → ¬ Rose (R.faults source.old) (R.faults source.new)
-        → ¬ Rose (W.faults out.old) (W.faults out.new)
-        → IfSome (R.left source.old) (λ bytes. (planes : List ℕ) → ComesTo bytes (Ok planes) → (result ≡ 0) ⊎ (result ≡ 3)) }
+    ensures complete { command_of (map string_bytes words.now) ≡ Some Reconstruct → ¬ FaultCounted (R.faults source.old) (R.faults source.new)
+        → ¬ FaultCounted (W.faults out.old) (W.faults out.new)
+        → IfSome (R.left source.old) (λ bytes. (planes : List ℕ) → HasOutcome bytes (Ok planes) → (result ≡ 0) ⊎ (result ≡ 3)) }
     ensures refused { command_of (map string_bytes words.now) ≡ Some Reconstruct
-        → IfSome (R.left source.old) (λ bytes. (e : ReconError) → ComesTo bytes (Err e) → (result ≡ 2) ⊎ ((result ≡ 3) ⊎ (result ≡ 4))) }
+        → IfSome (R.left source.old) (λ bytes. (e : ReconError) → HasOutcome bytes (Err e) → (result ≡ 2) ⊎ ((result ≡ 3) ⊎ (result ≡ 4))) }
 {
     let Some(Command::Reconstruct) = Command::from_words(words) else {
         say(b"usage: recon [make N | sum N]\n", err);

@@ -3,10 +3,10 @@ ghost use Rattle.std.specs.Prelude.{◌≡◌, ◌≢◌, ◌≤◌, List, ℕ, 
 ghost use Rattle.std.specs.Io.KnownBytes.{Appends};
 ghost use Rattle.av1_plan.specs.Answer.{plan_value};
 ghost use Rattle.av1_plan.specs.Validity.{first_fault};
-ghost use Rattle.av1_streams.specs.Faults.{HasCause, Rose};
+ghost use Rattle.av1_streams.specs.Faults.{HasCause, FaultCounted};
 ghost use Rattle.av1_streams.specs.Streams.{AppendsPrefix, max_plan_bytes};
 ghost use Rattle.av1_tile.specs.Walk.{planes_of};
-ghost use Rattle.av1_recon.specs.Outcomes.{ComesTo, IsRefusal, Reconstructs};
+ghost use Rattle.av1_recon.specs.Outcomes.{HasOutcome, IsRefusal, Reconstructs};
 ghost use Rattle.av1_recon.specs.declared.error.ReconError.TheVariants as errors;
 
 use crate::{ReconError, Sink, Source, TileState, read_plan_bytes, reconstruct_tile, write_planes};
@@ -35,10 +35,10 @@ pub fn reconstruct_plan<R: Source, W: Sink>(
 // Appends the planes of the plan that these bytes are.
 fn reconstruct_bytes<W: Sink>(alloc: Global, bytes: &[u8], sink: &mut W) -> Result<(), ReconError>
     requires short { length bytes.now ≤ max_plan_bytes }
-    ensures ok { OnOk result ((planes : List ℕ) × ComesTo bytes.now (Ok planes) × Appends (W.taken sink.old) (W.taken sink.new) planes) }
-    ensures refused { IfErr result (λ e. IsRefusal e → ComesTo bytes.now (Err e)) }
-    ensures prefix { IsErrOf result errors.WriteFault → (planes : List ℕ) × ComesTo bytes.now (Ok planes) × AppendsPrefix (W.taken sink.old) (W.taken sink.new) planes }
-    ensures cause { IsErrOf result errors.WriteFault → Rose (W.faults sink.old) (W.faults sink.new) }
+    ensures ok { OnOk result ((planes : List ℕ) × HasOutcome bytes.now (Ok planes) × Appends (W.taken sink.old) (W.taken sink.new) planes) }
+    ensures refused { IfErr result (λ e. IsRefusal e → HasOutcome bytes.now (Err e)) }
+    ensures prefix { IsErrOf result errors.WriteFault → (planes : List ℕ) × HasOutcome bytes.now (Ok planes) × AppendsPrefix (W.taken sink.old) (W.taken sink.new) planes }
+    ensures cause { IsErrOf result errors.WriteFault → FaultCounted (W.faults sink.old) (W.faults sink.new) }
     ensures later { W.faults sink.old ≤ W.faults sink.new }
     ensures unwritten { IfErr result (λ e. e ≢ errors.WriteFault → sink.new ≡ sink.old) }
     ensures read { IfErr result (λ e. (e ≢ errors.ReadFault) × (e ≢ errors.TooLong)) }
@@ -58,7 +58,7 @@ fn draw<T: Pixel, W: Sink>(alloc: Global, plan: &Plan, sink: &mut W) -> Result<(
     requires narrow { (plan_value plan.now).header.depth ≡ 8 → T.BITS ≤ 8 }
     ensures whole { OnOk result (Appends (W.taken sink.old) (W.taken sink.new) (planes_of (plan_value plan.now))) }
     ensures prefix { AppendsPrefix (W.taken sink.old) (W.taken sink.new) (planes_of (plan_value plan.now)) }
-    ensures cause { IsErrOf result errors.WriteFault → Rose (W.faults sink.old) (W.faults sink.new) }
+    ensures cause { IsErrOf result errors.WriteFault → FaultCounted (W.faults sink.old) (W.faults sink.new) }
     ensures later { W.faults sink.old ≤ W.faults sink.new }
     ensures unwritten { IfErr result (λ e. e ≢ errors.WriteFault → (e ≡ errors.Memory) × (sink.new ≡ sink.old)) }
 {

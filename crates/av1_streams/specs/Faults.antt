@@ -6,10 +6,10 @@ abbrev pub one_more : ℕ → ℕ
 one_more count = min (count + 1) (2 ^ 64 - 1)
 
 -- the count rose, or stands at the last value of a `u64`
-abbrev pub Rose : ℕ → ℕ → Type 0
-Rose before now = one_more before ≤ now
+abbrev pub FaultCounted : ℕ → ℕ → Type 0
+FaultCounted before now = one_more before ≤ now
 
 -- a call that failed raised the count, and no call lowers it
 pub record HasCause {T E : Type 0} (before now : ℕ) (result : Result T E) : Type 0 where
-  pub failed : OnErr result (Rose before now)
+  pub failed : OnErr result (FaultCounted before now)
   pub later : before ≤ now

@@ -1,7 +1,7 @@
 //! The bytes of a plan, read to their end.
 ghost use Rattle.std.specs.Prelude.{◌≡◌, ◌+◌, ◌<◌, ◌≤◌, length, take, drop, IsErrOf, IfOk, IfSome, OnOk, OnErr, vec_len};
 ghost use Rattle.std.specs.Io.KnownBytes.{Consumes, Keeps, IsAtEnd};
-ghost use Rattle.av1_streams.specs.Faults.{HasCause, Rose};
+ghost use Rattle.av1_streams.specs.Faults.{HasCause, FaultCounted};
 ghost use Rattle.av1_streams.specs.Streams.{Takes, TakesAtMost, max_plan_bytes};
 ghost use Rattle.av1_streams.specs.declared.read.ReadError.TheVariants.{Memory};
 
@@ -46,7 +46,7 @@ pub fn read_plan_bytes<R: Source>(alloc: Global, source: &mut R) -> Result<Vec<u
     ensures longer { IsErrOf result ReadError.TooLong → IfSome (R.left source.old) (λ left. max_plan_bytes < length left) }
 
     // `ReadFault` comes only where a read failed.
-    ensures read_fault { IsErrOf result ReadError.ReadFault → Rose (R.faults source.old) (R.faults source.new) }
+    ensures read_fault { IsErrOf result ReadError.ReadFault → FaultCounted (R.faults source.old) (R.faults source.new) }
     ensures later { R.faults source.old ≤ R.faults source.new }
 {
     let mut bytes = Vec::new(alloc);

@@ -13,8 +13,8 @@ use Rattle.av1_tile.specs.declared.frame.Frame.{Frame}
 use Rattle.av1_tile.specs.declared.part.Part.{Part}
 use Rattle.av1_tile.specs.Canvas.{Written}
 use Rattle.av1_edges.specs.Edges.{Edge}
-use Rattle.av1_edges.specs.Parts.{effective, asks_left, asks_above_right, asks_below_left, asks_corner, smooths_corner}
-use Rattle.av1_edges.specs.Sides.{base, listed, where_asked}
+use Rattle.av1_edges.specs.Parts.{effective, needs_left, needs_above_right, needs_below_left, needs_corner, smooths_corner}
+use Rattle.av1_edges.specs.Sides.{base, listed, where_needed}
 use Rattle.av1_tile.specs.Edge.{edge, known, known_above, known_left, place, first_above, first_left, above_side, left_side}
 use Rattle.av1_tile.specs.Place.{Stores, placed_above, placed_left, placed_edge}
 use Rattle.av1_tile.specs.Predictors.{predicted, IsPredicted}
@@ -67,7 +67,7 @@ listed_same n f g e =
     fill_by_all g (listed n f) n 0 (length-map-range_with_len f 0 n) (λ k h. get_or-map-range_with_len f 0 n k k 0 h (omega arith) ∙ e k h)
 
 -- a side that is listed where a mode asks for it
-listed_where : (b : Bool) (h n : ℕ) (f : ℕ → ℕ) (l : List ℕ) → n ≡ 0 → listed h f ≡ l → listed (where_asked b h + n) f ≡ (if b then l else [])
+listed_where : (b : Bool) (h n : ℕ) (f : ℕ → ℕ) (l : List ℕ) → n ≡ 0 → listed h f ≡ l → listed (where_needed b h + n) f ≡ (if b then l else [])
 listed_where true h n f l z e = let m : h + n ≡ h = omega arith in ap (λ m. listed m f) m ∙ e
 listed_where false h n f l z e = let m : 0 + n ≡ 0 = omega arith in ap (λ m. listed m f) m
 
@@ -149,19 +149,19 @@ module _ {T : Type 0} (num : T → ℕ) (frame : Frame) (p : Plane T) (written :
       place_none (λ i. None) _ m (λ i. refl) k ∙ ap (λ o. unwrap_or o 0) (written_is 0 y hx (omega arith) (a 0 y refl refl)) ∙ grind (arith, nat_tests)
 
   module _ (a : VisibleArea) (near : HasNeighbours frame written a) where
-    above_side_same : (mode : PredictionMode) (step : ℤ) → asks_above_right mode step ≡ false → above_side frame written mode step a ≡ listed a.width (placed_above num frame p a.x a.y)
+    above_side_same : (mode : PredictionMode) (step : ℤ) → needs_above_right mode step ≡ false → above_side frame written mode step a ≡ listed a.width (placed_above num frame p a.x a.y)
     above_side_same mode step e =
-        let m = a.width + where_asked (asks_above_right mode step) (min a.width a.height) in
-        let n : a.width + where_asked (asks_above_right mode step) a.height ≡ a.width = ap (λ b. a.width + where_asked b a.height) e ∙ omega arith in
+        let m = a.width + where_needed (needs_above_right mode step) (min a.width a.height) in
+        let n : a.width + where_needed (needs_above_right mode step) a.height ≡ a.width = ap (λ b. a.width + where_needed b a.height) e ∙ omega arith in
         ap (λ n. listed n (place (within m (λ j. known_above frame written (a.x + j) a.y)) (first_above frame written a.x))) n ∙ listed_same a.width _ _ (λ k h. above_same a.x a.y a.width m k near.begins_x near.begins_y (omega arith) h near.above (λ i j u v. near.left i j u (omega (arith, v)) (omega (arith, v, near.some_rows)) (omega (arith, v, near.begins_y))))
 
-    left_side_same : (mode : PredictionMode) (step : ℤ) → asks_below_left mode step ≡ false → left_side frame written mode step a ≡ (if asks_left mode a.x then listed a.height (placed_left num frame p a.x a.y) else [])
+    left_side_same : (mode : PredictionMode) (step : ℤ) → needs_below_left mode step ≡ false → left_side frame written mode step a ≡ (if needs_left mode a.x then listed a.height (placed_left num frame p a.x a.y) else [])
     left_side_same mode step e =
-        let m = a.height + where_asked (asks_below_left mode step) (min a.width a.height) in
-        listed_where (asks_left mode a.x) a.height (where_asked (asks_below_left mode step) a.width) _ _ (ap (λ b. where_asked b a.width) e) (listed_same a.height _ _ (λ k h. left_same a.x a.y a.height m k near.begins_x near.begins_y (omega arith) h near.left (λ i j u v. near.above i j (omega (arith, v)) (omega (arith, v, near.some_columns)) (omega (arith, v, near.begins_x)) u)))
+        let m = a.height + where_needed (needs_below_left mode step) (min a.width a.height) in
+        listed_where (needs_left mode a.x) a.height (where_needed (needs_below_left mode step) a.width) _ _ (ap (λ b. where_needed b a.width) e) (listed_same a.height _ _ (λ k h. left_same a.x a.y a.height m k near.begins_x near.begins_y (omega arith) h near.left (λ i j u v. near.above i j (omega (arith, v)) (omega (arith, v, near.some_columns)) (omega (arith, v, near.begins_x)) u)))
 
     -- for a mode that asks for neither corner nor for what continues a side
-    edge_is : (filter : Bool) (mode : PredictionMode) (step : ℤ) → asks_above_right mode step ≡ false → asks_below_left mode step ≡ false → asks_corner mode step ≡ false → smooths_corner filter mode step a.width a.height ≡ false → edge frame filter written mode step a ≡ placed_edge num frame p mode a
+    edge_is : (filter : Bool) (mode : PredictionMode) (step : ℤ) → needs_above_right mode step ≡ false → needs_below_left mode step ≡ false → needs_corner mode step ≡ false → smooths_corner filter mode step a.width a.height ≡ false → edge frame filter written mode step a ≡ placed_edge num frame p mode a
     unfolding edge
     edge_is filter mode step r b c s =
         same_edge _ _ _ _ _ _ (above_side_same mode step r) (left_side_same mode step b) (corner_base _ _ _ _ (base frame.depth) s c)

@@ -10,8 +10,8 @@ use Rattle.av1_blocks.specs.declared.predict.PredictionMode.{PredictionMode}
 use Rattle.av1_blocks.specs.declared.predict.PredictionMode.TheVariants.{DC_PRED, UV_CFL_PRED}
 use Rattle.av1_frame.specs.Areas.{VisibleArea}
 use Rattle.av1_edges.specs.Edges.{Edge}
-use Rattle.av1_edges.specs.Parts.{asks_left, asks_above_right, asks_below_left, asks_corner, smooths_corner}
-use Rattle.av1_edges.specs.Sides.{above_at, base, corner_at, left_at, listed, smoothed, taken, where_asked}
+use Rattle.av1_edges.specs.Parts.{needs_left, needs_above_right, needs_below_left, needs_corner, smooths_corner}
+use Rattle.av1_edges.specs.Sides.{above_at, base, corner_at, left_at, listed, smoothed, num_avail, where_needed}
 use Rattle.av1_edges.proofs.Taken.{taken_place}
 use Rattle.av1_tile.specs.declared.frame.Frame.{Frame}
 use Rattle.av1_tile.specs.Canvas.{Written}
@@ -44,35 +44,35 @@ either_none true o e = e
 either_none false o e = refl
 
 -- what is known of the places that are asked for is what is taken
-known_taken : (limit at w run j : ℕ) (asked right : Bool) → at < limit → j < w + where_asked asked run
-    → (nat_lt (at + j) limit && (nat_lt j w || right)) ≡ nat_lt j (taken limit at w (asked && right) run)
+known_taken : (limit at w run j : ℕ) (asked right : Bool) → at < limit → j < w + where_needed asked run
+    → (nat_lt (at + j) limit && (nat_lt j w || right)) ≡ nat_lt j (num_avail limit at w (asked && right) run)
 known_taken limit at w run j true right begins near = sym (taken_place limit at w run j right begins near)
 known_taken limit at w run j false right begins near =
     let own : nat_lt j w ≡ true = lt-ltb j w (omega arith) in
     ap (λ (b : Bool). nat_lt (at + j) limit && (b || right)) own
     ∙ sym (taken_place limit at w run j false begins (omega arith) ∙ ap (λ (b : Bool). nat_lt (at + j) limit && (b || false)) own)
 
-taken_most : (limit at w run : ℕ) (asked right : Bool) → taken limit at w (asked && right) run ≤ w + where_asked asked run
+taken_most : (limit at w run : ℕ) (asked right : Bool) → num_avail limit at w (asked && right) run ≤ w + where_needed asked run
 taken_most limit at w run true true = omega arith
 taken_most limit at w run true false = omega arith
 taken_most limit at w run false right = omega arith
 
-taken_some : (limit at w run : ℕ) (goes_on : Bool) → at < limit → 0 < w → 0 < taken limit at w goes_on run
+taken_some : (limit at w run : ℕ) (goes_on : Bool) → at < limit → 0 < w → 0 < num_avail limit at w goes_on run
 taken_some limit at w run true begins some = omega arith
 taken_some limit at w run false begins some = omega arith
 
 module _ (K : ℕ → Option ℕ) (v : ℕ → ℕ) (first limit at w run : ℕ) (asked right : Bool) (begins : at < limit) (some : 0 < w)
     (knows : (j : ℕ) → j < w + run → is_some (K j) ≡ (nat_lt (at + j) limit && (nat_lt j w || right))) (value : (j : ℕ) → is_some (K j) ≡ true → K j ≡ Some (v j)) where
   abbrev n : ℕ
-  n = taken limit at w (asked && right) run
+  n = num_avail limit at w (asked && right) run
 
   abbrev reached : ℕ → Option ℕ
-  reached = λ j. if nat_lt j (w + where_asked asked run) then K j else None
+  reached = λ j. if nat_lt j (w + where_needed asked run) then K j else None
 
-  knows_taken : (j : ℕ) → j < w + where_asked asked run → is_some (K j) ≡ nat_lt j n
+  knows_taken : (j : ℕ) → j < w + where_needed asked run → is_some (K j) ≡ nat_lt j n
   knows_taken j near = knows j (within asked near) ∙ known_taken limit at w run j asked right begins near
     where
-      within : (b : Bool) → j < w + where_asked b run → j < w + run
+      within : (b : Bool) → j < w + where_needed b run → j < w + run
       within true h = h
       within false h = omega arith
 
@@ -80,12 +80,12 @@ module _ (K : ℕ → Option ℕ) (v : ℕ → ℕ) (first limit at w run : ℕ)
   side_places k =
       place_known reached first v n (taken_some limit at w run (asked && right) begins some)
       (λ j here.
-      let near : j < w + where_asked asked run = omega (arith, here, taken_most limit at w run asked right) in
-      ap (λ (b : Bool). if b then K j else None) (lt-ltb j (w + where_asked asked run) near) ∙ value j (knows_taken j near ∙ lt-ltb j n here))
+      let near : j < w + where_needed asked run = omega (arith, here, taken_most limit at w run asked right) in
+      ap (λ (b : Bool). if b then K j else None) (lt-ltb j (w + where_needed asked run) near) ∙ value j (knows_taken j near ∙ lt-ltb j n here))
       (λ j past.
-      elim (cases_lt j (w + where_asked asked run)) [
-        | inl near ↦ ap (λ (b : Bool). if b then K j else None) (lt-ltb j (w + where_asked asked run) near) ∙ none_there (K j) (knows_taken j near ∙ le-ltb j n past)
-        | inr out ↦ ap (λ (b : Bool). if b then K j else None) (le-ltb j (w + where_asked asked run) out)
+      elim (cases_lt j (w + where_needed asked run)) [
+        | inl near ↦ ap (λ (b : Bool). if b then K j else None) (lt-ltb j (w + where_needed asked run) near) ∙ none_there (K j) (knows_taken j near ∙ le-ltb j n past)
+        | inr out ↦ ap (λ (b : Bool). if b then K j else None) (le-ltb j (w + where_needed asked run) out)
       ]) k
 
 -- ---- a rectangle
@@ -107,12 +107,12 @@ pub record KnowsSides (frame : Frame) (written : Written) (a : VisibleArea) (rig
 abbrev pub edge_by_place : Frame → (ℕ → ℕ → ℕ) → (filter : Bool) → PredictionMode → ℤ → VisibleArea → (right low : Bool) → Edge
 edge_by_place frame s filter mode step a right low =
     let run = min a.width a.height in
-    let above = above_at s (base frame.depth) a.x a.y (taken frame.width a.x a.width (asks_above_right mode step && right) run) in
-    let left = left_at s (base frame.depth) a.x a.y (taken frame.height a.y a.height (asks_below_left mode step && low) run) in
-    let corner = if asks_corner mode step then corner_at s (base frame.depth) a.x a.y else base frame.depth in
+    let above = above_at s (base frame.depth) a.x a.y (num_avail frame.width a.x a.width (needs_above_right mode step && right) run) in
+    let left = left_at s (base frame.depth) a.x a.y (num_avail frame.height a.y a.height (needs_below_left mode step && low) run) in
+    let corner = if needs_corner mode step then corner_at s (base frame.depth) a.x a.y else base frame.depth in
     record {
-      above = listed (a.width + where_asked (asks_above_right mode step) a.height) above;
-      left = listed (where_asked (asks_left mode a.x) a.height + where_asked (asks_below_left mode step) a.width) left;
+      above = listed (a.width + where_needed (needs_above_right mode step) a.height) above;
+      left = listed (where_needed (needs_left mode a.x) a.height + where_needed (needs_below_left mode step) a.width) left;
       corner = if smooths_corner filter mode step a.width a.height then smoothed (left 0) corner (above 0) else corner;
     }
 
@@ -175,8 +175,8 @@ module _ (frame : Frame) (written : Written) (s : ℕ → ℕ → ℕ) (agree : 
 
     -- a place above
     above_place : (asked : Bool) (x y : ℕ) → a.x ≡ x → a.y ≡ y → (k : ℕ)
-        → place (λ j. if nat_lt j (a.width + where_asked asked (min a.width a.height)) then known_above frame written (x + j) y else None) (first_above frame written x) k
-        ≡ above_at s (base frame.depth) x y (taken frame.width x a.width (asked && right) (min a.width a.height)) k
+        → place (λ j. if nat_lt j (a.width + where_needed asked (min a.width a.height)) then known_above frame written (x + j) y else None) (first_above frame written x) k
+        ≡ above_at s (base frame.depth) x y (num_avail frame.width x a.width (asked && right) (min a.width a.height)) k
     above_place asked x (suc y) ex ey k =
         side_places (λ j. known frame written (x + j) y) (λ j. s (x + j) y) (first_above frame written x) frame.width x a.width (min a.width a.height) asked right
         (omega (arith, ex, knows.begins_x)) knows.some_columns
@@ -185,19 +185,19 @@ module _ (frame : Frame) (written : Written) (s : ℕ → ℕ → ℕ) (agree : 
         (subst (λ (m : ℕ). is_some (known_above frame written (a.x + j) m) ≡ (nat_lt 0 m && nat_lt (a.x + j) frame.width && (nat_lt j a.width || right))) ey (knows.above j near))
         ∙ ap (λ (b : Bool). b && nat_lt (x + j) frame.width && (nat_lt j a.width || right)) (lt-ltb 0 (suc y) (omega arith)))
         (λ j e. known_value (x + j) y e) k
-        ∙ inside_row x y (min k (taken frame.width x a.width (asked && right) (min a.width a.height) - 1))
+        ∙ inside_row x y (min k (num_avail frame.width x a.width (asked && right) (min a.width a.height) - 1))
       where
         inside_row : (x y m : ℕ) → s (x + m) y ≡ (if nat_lt 0 (suc y) then s (x + m) (suc y - 1) else (if nat_lt 0 x then s (x - 1) 0 else base frame.depth - 1))
         inside_row x y m = grind (arith, nat_tests)
-    above_place asked zero zero ex ey k = place_unknown _ _ (λ j. either_none (nat_lt j (a.width + where_asked asked (min a.width a.height))) None refl) k
+    above_place asked zero zero ex ey k = place_unknown _ _ (λ j. either_none (nat_lt j (a.width + where_needed asked (min a.width a.height))) None refl) k
     above_place asked (suc x) zero ex ey k =
-        place_unknown _ _ (λ j. either_none (nat_lt j (a.width + where_asked asked (min a.width a.height))) None refl) k
+        place_unknown _ _ (λ j. either_none (nat_lt j (a.width + where_needed asked (min a.width a.height))) None refl) k
         ∙ ap (λ (o : Option ℕ). unwrap_or o 0) (first_known_left x 0 ex ey) ∙ grind (arith, nat_tests)
 
     -- a place to the left
     left_place : (asked : Bool) (x y : ℕ) → a.x ≡ x → a.y ≡ y → (k : ℕ)
-        → place (λ i. if nat_lt i (a.height + where_asked asked (min a.width a.height)) then known_left frame written x (y + i) else None) (first_left frame written y) k
-        ≡ left_at s (base frame.depth) x y (taken frame.height y a.height (asked && low) (min a.width a.height)) k
+        → place (λ i. if nat_lt i (a.height + where_needed asked (min a.width a.height)) then known_left frame written x (y + i) else None) (first_left frame written y) k
+        ≡ left_at s (base frame.depth) x y (num_avail frame.height y a.height (asked && low) (min a.width a.height)) k
     left_place asked (suc x) y ex ey k =
         side_places (λ i. known frame written x (y + i)) (λ i. s x (y + i)) (first_left frame written y) frame.height y a.height (min a.width a.height) asked low
         (omega (arith, ey, knows.begins_y)) knows.some_rows
@@ -206,13 +206,13 @@ module _ (frame : Frame) (written : Written) (s : ℕ → ℕ → ℕ) (agree : 
         (subst (λ (m : ℕ). is_some (known_left frame written m (a.y + i)) ≡ (nat_lt 0 m && nat_lt (a.y + i) frame.height && (nat_lt i a.height || low))) ex (knows.left i near))
         ∙ ap (λ (b : Bool). b && nat_lt (y + i) frame.height && (nat_lt i a.height || low)) (lt-ltb 0 (suc x) (omega arith)))
         (λ i e. known_value x (y + i) e) k
-        ∙ inside_column x y (min k (taken frame.height y a.height (asked && low) (min a.width a.height) - 1))
+        ∙ inside_column x y (min k (num_avail frame.height y a.height (asked && low) (min a.width a.height) - 1))
       where
         inside_column : (x y m : ℕ) → s x (y + m) ≡ (if nat_lt 0 (suc x) then s (suc x - 1) (y + m) else (if nat_lt 0 y then s 0 (y - 1) else base frame.depth + 1))
         inside_column x y m = grind (arith, nat_tests)
-    left_place asked zero zero ex ey k = place_unknown _ _ (λ i. either_none (nat_lt i (a.height + where_asked asked (min a.width a.height))) None refl) k
+    left_place asked zero zero ex ey k = place_unknown _ _ (λ i. either_none (nat_lt i (a.height + where_needed asked (min a.width a.height))) None refl) k
     left_place asked zero (suc y) ex ey k =
-        place_unknown _ _ (λ i. either_none (nat_lt i (a.height + where_asked asked (min a.width a.height))) None refl) k
+        place_unknown _ _ (λ i. either_none (nat_lt i (a.height + where_needed asked (min a.width a.height))) None refl) k
         ∙ ap (λ (o : Option ℕ). unwrap_or o 0) (first_known_above 0 y ex ey) ∙ grind (arith, nat_tests)
 
     -- the corner
@@ -228,7 +228,7 @@ module _ (frame : Frame) (written : Written) (s : ℕ → ℕ → ℕ) (agree : 
 
 -- ---- the edge
 
-directional_left : (mode : PredictionMode) (x : ℕ) → is_directional mode ≡ true → asks_left mode x ≡ true
+directional_left : (mode : PredictionMode) (x : ℕ) → is_directional mode ≡ true → needs_left mode x ≡ true
 directional_left DC_PRED x e = absurd cc
 directional_left UV_CFL_PRED x e = absurd cc
 directional_left mode x e = refl
@@ -260,24 +260,24 @@ module _ (frame : Frame) (written : Written) (s : ℕ → ℕ → ℕ) (agree : 
   pub edge_prepared : (filter : Bool) (mode : PredictionMode) (step : ℤ) → edge frame filter written mode step a ≡ edge_by_place frame s filter mode step a right low
   unfolding edge
   edge_prepared filter mode step =
-      let above = above_at s (base frame.depth) a.x a.y (taken frame.width a.x a.width (asks_above_right mode step && right) (min a.width a.height)) in
-      let left = left_at s (base frame.depth) a.x a.y (taken frame.height a.y a.height (asks_below_left mode step && low) (min a.width a.height)) in
-      let above_places = a.width + where_asked (asks_above_right mode step) a.height in
-      let left_places = where_asked (asks_left mode a.x) a.height + where_asked (asks_below_left mode step) a.width in
+      let above = above_at s (base frame.depth) a.x a.y (num_avail frame.width a.x a.width (needs_above_right mode step && right) (min a.width a.height)) in
+      let left = left_at s (base frame.depth) a.x a.y (num_avail frame.height a.y a.height (needs_below_left mode step && low) (min a.width a.height)) in
+      let above_places = a.width + where_needed (needs_above_right mode step) a.height in
+      let left_places = where_needed (needs_left mode a.x) a.height + where_needed (needs_below_left mode step) a.width in
       let aboves : above_side frame written mode step a ≡ listed above_places above =
-      listed_same above_places _ above (λ k h. above_place frame written s agree a right low knows (asks_above_right mode step) a.x a.y refl refl k) in
+      listed_same above_places _ above (λ k h. above_place frame written s agree a right low knows (needs_above_right mode step) a.x a.y refl refl k) in
       let lefts : left_side frame written mode step a ≡ listed left_places left =
-      listed_same left_places _ left (λ k h. left_place frame written s agree a right low knows (asks_below_left mode step) a.x a.y refl refl k) in
+      listed_same left_places _ left (λ k h. left_place frame written s agree a right low knows (needs_below_left mode step) a.x a.y refl refl k) in
       let some_above : 0 < above_places = omega (arith, knows.some_columns) in
       same_edge _ _ _ _ _ _ aboves lefts
       (smoothed_same (smooths_corner filter mode step a.width a.height) _ _ _ (left 0) (above 0) _
       (λ smooth.
       let asked = directional_left mode a.x (smooths_directional filter mode step a.width a.height smooth) in
-      let some_left : 0 < left_places = some_where (asks_left mode a.x) a.height (where_asked (asks_below_left mode step) a.width) asked knows.some_rows in
+      let some_left : 0 < left_places = some_where (needs_left mode a.x) a.height (where_needed (needs_below_left mode step) a.width) asked knows.some_rows in
       ap (λ (l : List ℕ). slice_index l 0) lefts ∙ first_of_side left_places left some_left)
       (ap (λ (l : List ℕ). slice_index l 0) aboves ∙ first_of_side above_places above some_above)
-      (chosen_same (asks_corner mode step) _ _ (base frame.depth) (corner_place frame written s agree a right low knows a.x a.y refl refl)))
+      (chosen_same (needs_corner mode step) _ _ (base frame.depth) (corner_place frame written s agree a right low knows a.x a.y refl refl)))
     where
-      some_where : (t : Bool) (n m : ℕ) → t ≡ true → 0 < n → 0 < where_asked t n + m
+      some_where : (t : Bool) (n m : ℕ) → t ≡ true → 0 < n → 0 < where_needed t n + m
       some_where true n m e some = omega arith
       some_where false n m e some = absurd (true≢false (sym e))

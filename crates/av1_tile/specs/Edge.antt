@@ -6,8 +6,8 @@ use Rattle.std.specs.List.{range_with_len}
 use Rattle.av1_blocks.specs.declared.predict.PredictionMode.{PredictionMode}
 use Rattle.av1_frame.specs.Areas.{VisibleArea}
 use Rattle.av1_edges.specs.Edges.{Edge}
-use Rattle.av1_edges.specs.Parts.{asks_left, asks_below_left, asks_above_right, asks_corner, smooths_corner}
-use Rattle.av1_edges.specs.Sides.{base, listed, where_asked, smoothed}
+use Rattle.av1_edges.specs.Parts.{needs_left, needs_below_left, needs_above_right, needs_corner, smooths_corner}
+use Rattle.av1_edges.specs.Sides.{base, listed, where_needed, smoothed}
 use Rattle.av1_tile.specs.declared.frame.Frame.{Frame}
 use Rattle.av1_tile.specs.Canvas.{Written}
 
@@ -60,27 +60,27 @@ corner_sample frame written (suc x) (suc y) = sample_of (known frame written x y
 -- the samples above the block, as far as its mode reaches
 abbrev pub reach_above : Frame → Written → PredictionMode → ℤ → VisibleArea → ℕ → Option ℕ
 reach_above frame written mode step a j =
-    if nat_lt j (a.width + where_asked (asks_above_right mode step) (min a.width a.height)) then known_above frame written (a.x + j) a.y else None
+    if nat_lt j (a.width + where_needed (needs_above_right mode step) (min a.width a.height)) then known_above frame written (a.x + j) a.y else None
 
 -- the samples to the left of the block, as far as its mode reaches
 abbrev pub reach_left : Frame → Written → PredictionMode → ℤ → VisibleArea → ℕ → Option ℕ
 reach_left frame written mode step a i =
-    if nat_lt i (a.height + where_asked (asks_below_left mode step) (min a.width a.height)) then known_left frame written a.x (a.y + i) else None
+    if nat_lt i (a.height + where_needed (needs_below_left mode step) (min a.width a.height)) then known_left frame written a.x (a.y + i) else None
 
 abbrev pub above_side : Frame → Written → PredictionMode → ℤ → VisibleArea → List ℕ
 above_side frame written mode step a =
-    listed (a.width + where_asked (asks_above_right mode step) a.height) (place (reach_above frame written mode step a) (first_above frame written a.x))
+    listed (a.width + where_needed (needs_above_right mode step) a.height) (place (reach_above frame written mode step a) (first_above frame written a.x))
 
 abbrev pub left_side : Frame → Written → PredictionMode → ℤ → VisibleArea → List ℕ
 left_side frame written mode step a =
-    listed (where_asked (asks_left mode a.x) a.height + where_asked (asks_below_left mode step) a.width) (place (reach_left frame written mode step a) (first_left frame written a.y))
+    listed (where_needed (needs_left mode a.x) a.height + where_needed (needs_below_left mode step) a.width) (place (reach_left frame written mode step a) (first_left frame written a.y))
 
 -- the edge of the block a, for a mode that is in effect there; filter says whether the edge filter is on
 unfoldable pub edge : Frame → Bool → Written → PredictionMode → ℤ → VisibleArea → Edge
 edge frame filter written mode step a =
     let above = above_side frame written mode step a in
     let left = left_side frame written mode step a in
-    let corner = if asks_corner mode step then corner_sample frame written a.x a.y else base frame.depth in
+    let corner = if needs_corner mode step then corner_sample frame written a.x a.y else base frame.depth in
     record {
       above = above;
       left = left;

@@ -22,7 +22,7 @@ use Rattle.av1_tile.specs.declared.part.Part.{Part}
 use Rattle.av1_tile.specs.declared.planes.Planes.{Planes}
 use Rattle.av1_tile.specs.Canvas.{Component, Y, U, V}
 use Rattle.av1_edges.specs.Edges.{Edge}
-use Rattle.av1_edges.specs.Parts.{asks_left}
+use Rattle.av1_edges.specs.Parts.{needs_left}
 use Rattle.av1_edges.specs.Sides.{above_at, base, left_at, listed}
 use Rattle.av1_tile.specs.Predictors.{predicted, IsPredicted}
 use Rattle.av1_tile.specs.Parts.{number, frame_of, part_of, triples_in}
@@ -45,7 +45,7 @@ placed_left num frame p x y = left_at (sample_at num p) (base frame.depth) x y (
 abbrev pub placed_edge : {T : Type 0} → (T → ℕ) → Frame → Plane T → PredictionMode → VisibleArea → Edge
 placed_edge num frame p mode a = record {
   above = listed a.width (placed_above num frame p a.x a.y);
-  left = if asks_left mode a.x then listed a.height (placed_left num frame p a.x a.y) else [];
+  left = if needs_left mode a.x then listed a.height (placed_left num frame p a.x a.y) else [];
   corner = base frame.depth;
 }
 

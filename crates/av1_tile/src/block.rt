@@ -17,7 +17,7 @@ use crate::frame::Frame;
 use crate::part::{Block, Part, visible_area};
 use crate::predict::predict_intra;
 use av1_blocks::PredictionMode;
-use av1_edges::half_range;
+use av1_edges::base;
 use av1_frame::{Pixel, Plane, PlaneRegionMut};
 use av1_itx::{TxScratch, inverse_transform_add_with};
 use av1_plan::Triple;
@@ -89,7 +89,7 @@ fn add_residue<T: Pixel>(
 {
     let tx_size = part.area.tx_size;
     if triples.is_empty() {
-        let half = half_range(frame.depth);
+        let half = base(frame.depth);
         clip_rows(output, half + half - 1, tx_size.width(), tx_size.height());
         return;
     }

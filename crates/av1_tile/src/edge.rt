@@ -7,14 +7,14 @@
 
 ghost use Rattle.std.specs.Prelude.{◌≡◌, ℕ, ◌+◌, ◌-◌, ◌*◌, ◌^◌, ◌<◌, ◌≤◌, length, slice_index_or, min, map};
 ghost use Rattle.av1_frame.specs.Planes.{sample_at};
-ghost use Rattle.av1_edges.specs.Parts.{asks_left};
+ghost use Rattle.av1_edges.specs.Parts.{needs_left};
 ghost use Rattle.av1_edges.specs.Sides.{base, listed};
 ghost use Rattle.av1_tile.specs.Place.{placed_above, placed_left, Stores};
 
 use crate::frame::Frame;
 use crate::part::visible_area;
 use av1_blocks::PredictionMode;
-use av1_edges::{extend_from, fill_with, half_range};
+use av1_edges::{extend_from, fill_with, base};
 use av1_frame::{Pixel, Plane};
 
 /// The sample at column `x` of row `y`.
@@ -44,7 +44,7 @@ pub fn prepare_above<T: Pixel>(above: &mut [T], plane: &Plane<T>, frame: Frame, 
     } else if x > 0 {
         fill_with(above, sample_of(plane, frame, x - 1, 0));
     } else {
-        fill_with(above, T::from_u32(half_range(frame.depth) - 1));
+        fill_with(above, T::from_u32(base(frame.depth) - 1));
     }
 }
 
@@ -75,13 +75,13 @@ pub fn prepare_left<T: Pixel>(left: &mut [T], plane: &Plane<T>, frame: Frame, x:
     } else if y > 0 {
         fill_with(left, sample_of(plane, frame, 0, y - 1));
     } else {
-        fill_with(left, T::from_u32(half_range(frame.depth) + 1));
+        fill_with(left, T::from_u32(base(frame.depth) + 1));
     }
 }
 
 /// Whether a prediction by `mode` of a block at column `x` reads the samples to its left.
 pub fn reads_left(mode: PredictionMode, x: usize) -> bool
-    ensures { result ≡ asks_left mode x }
+    ensures { result ≡ needs_left mode x }
 {
     match mode {
         PredictionMode::DC_PRED | PredictionMode::UV_CFL_PRED => x > 0,

@@ -6,7 +6,7 @@ ghost use Rattle.std.specs.Prelude.{◌≡◌, ◌⊎◌, ℕ, ◌+◌, ◌-◌,
 ghost use Rattle.av1_frame.specs.Samples.{paint_row};
 ghost use Rattle.av1_frame.specs.Regions.{InStorage, painted};
 ghost use Rattle.av1_edges.specs.Edges.{Edge};
-ghost use Rattle.av1_edges.specs.Parts.{asks_left};
+ghost use Rattle.av1_edges.specs.Parts.{needs_left};
 ghost use Rattle.av1_edges.specs.Sides.{base};
 ghost use Rattle.av1_tile.specs.Predictors.{dc, mean, predicted, IsPredicted};
 ghost use Rattle.av1_tile.specs.Place.{area_of};
@@ -14,7 +14,7 @@ ghost use Rattle.av1_tile.specs.Place.{area_of};
 use crate::frame::Frame;
 use crate::part::Block;
 use av1_blocks::PredictionMode;
-use av1_edges::half_range;
+use av1_edges::base;
 use av1_frame::{Pixel, PlaneRegionMut};
 
 /// The first `width` samples of the row become `value`.
@@ -122,7 +122,7 @@ fn flat_sample<T: Pixel>(frame: Frame, x: usize, y: usize, above: &[T], left: &[
     ensures { result ≡ T.pixel (dc frame x y (record { above = map T.num above.now; left = map T.num left.now; corner = base frame.depth })) }
 {
     match (x, y) {
-        (0, 0) => T::from_u32(half_range(frame.depth)),
+        (0, 0) => T::from_u32(base(frame.depth)),
         (0, _) => mean_of(&[], above),
         (_, 0) => mean_of(left, &[]),
         _ => mean_of(left, above),
@@ -150,7 +150,7 @@ pub fn predict_intra<T: Pixel>(
     requires short_width { block.width ≤ 64 }
     requires short_height { block.height ≤ 64 }
     requires above_whole { length above.now ≡ block.width }
-    requires left_whole { length left.now ≡ (if asks_left mode block.x then block.height else 0) }
+    requires left_whole { length left.now ≡ (if needs_left mode block.x then block.height else 0) }
     ensures painted { output.new ≡ painted output.old block.width block.height
         (λ r c _. T.pixel (predicted frame mode (pos 0) (area_of block) (record { above = map T.num above.now; left = map T.num left.now; corner = base frame.depth }) r c)) }
     ensures fits { InStorage output.new }

@@ -4,4 +4,4 @@ use Rattle.av1_edges.proofs.fill.corner_of.Goals as goal
 
 pub from_u32-requires : goal.from_u32-requires
 from_u32-requires g c =
-    let r = c.half_range.ensures in omega (arith, half_below _ _ _ r.room r.some c.requires.depth)
+    let r = c.base.ensures in omega (arith, half_below _ _ _ r.room r.some c.requires.depth)

@@ -6,13 +6,13 @@ use Rattle.av1_edges.proofs.fill.fill_above.Goals as goal
 
 pub from_u32-requires : goal.from_u32-requires
 from_u32-requires g c =
-    let r = c.half_range.ensures in omega (arith, half_below _ _ _ r.room r.some c.requires.depth)
+    let r = c.base.ensures in omega (arith, half_below _ _ _ r.room r.some c.requires.depth)
 
 pub returns-then-y-gt0 : goal.returns-then-y-gt0
 returns-then-y-gt0 g c =
     let num = g.T.Pixel.num in
     listed_is num _ _ _ (omega arith) (λ k d h.
-    ap num (c.extend_from.ensures k d (omega arith)) ∙ cut_shown num c.args.dst.now c.row.result.now (c.args.y - 1) c.args.x c.args.taken k d c.requires.begins c.row.ensures.value c.row.ensures.len (omega arith) (omega arith) c.requires.some ∙ grind (arith, nat_tests))
+    ap num (c.extend_from.ensures k d (omega arith)) ∙ cut_shown num c.args.dst.now c.row.result.now (c.args.y - 1) c.args.x c.args.num_avail k d c.requires.begins c.row.ensures.value c.row.ensures.len (omega arith) (omega arith) c.requires.some ∙ grind (arith, nat_tests))
 
 pub returns-then-x-gt0 : goal.returns-then-x-gt0
 returns-then-x-gt0 g c =
@@ -21,4 +21,4 @@ returns-then-x-gt0 g c =
 pub returns-else-x-gt0 : goal.returns-else-x-gt0
 returns-else-x-gt0 g c =
     let n = g.T.Pixel.num in
-    listed_is n _ _ _ (omega arith) (λ k d h. ap n (c.fill_with-else-x-gt0.ensures k d (omega arith)) ∙ ap n c.from_u32.ensures ∙ (g.met.T.Pixel.num_of_pixel _ ∙ grind (arith, nat_tests, c.half_range.ensures.value)))
+    listed_is n _ _ _ (omega arith) (λ k d h. ap n (c.fill_with-else-x-gt0.ensures k d (omega arith)) ∙ ap n c.from_u32.ensures ∙ (g.met.T.Pixel.num_of_pixel _ ∙ grind (arith, nat_tests, c.base.ensures.value)))

@@ -34,7 +34,7 @@ returns-then-is_empty-clause-painted g c =
     let a = c.args in
     let p = a.part.now in
     let none : length a.triples.now ≡ 0 = search rules in
-    let greatest : c.half_range-half.result + c.half_range-half.result - 1 ≡ 2 ^ a.frame.depth - 1 = omega (arith, c.half_range-half.ensures.room) in
+    let greatest : c.base-half.result + c.base-half.result - 1 ≡ 2 ^ a.frame.depth - 1 = omega (arith, c.base-half.ensures.room) in
     let f = λ (r k : ℕ) (v : g.row.T.Denot). g.T.Pixel.pixel (added a.frame (g.T.Pixel.num v) (block_residue a.frame p a.triples.now a.number r k)) in
     painted_same _ _ _ _ _ f c.clip_rows.ensures.painted (λ r k v h l. ap g.T.Pixel.pixel (ap (λ n. min (g.T.Pixel.num v) n) greatest ∙ sym (none_added a.frame p a.triples.now a.number (g.T.Pixel.num v) r k none)))
     ∙ ap (λ (w : ℕ). painted a.output.now w c.height.result f) c.width.ensures.value ∙ ap (λ (t : ℕ). painted a.output.now (tx_width p.area.tx_size) t f) c.height.ensures.value

@@ -9,7 +9,7 @@ use Rattle.av1_tile.proofs.edge.prepare_above.Goals as goal
 
 pub from_u32-requires : goal.from_u32-requires
 from_u32-requires g c =
-    let r = c.half_range.ensures in omega (arith, half_below _ _ _ r.room r.some c.requires.depth)
+    let r = c.base.ensures in omega (arith, half_below _ _ _ r.room r.some c.requires.depth)
 
 pub returns-then-y-gt0 : goal.returns-then-y-gt0
 returns-then-y-gt0 g c =
@@ -33,4 +33,4 @@ returns-then-x-gt0 g c =
 pub returns-else-x-gt0 : goal.returns-else-x-gt0
 returns-else-x-gt0 g c =
     let n = g.T.Pixel.num in
-    listed_is n _ _ _ (omega arith) (λ k d h. ap n (c.fill_with-else-x-gt0.ensures k d (omega arith)) ∙ ap n c.from_u32.ensures ∙ (g.met.T.Pixel.num_of_pixel _ ∙ grind (arith, nat_tests, c.half_range.ensures.value)))
+    listed_is n _ _ _ (omega arith) (λ k d h. ap n (c.fill_with-else-x-gt0.ensures k d (omega arith)) ∙ ap n c.from_u32.ensures ∙ (g.met.T.Pixel.num_of_pixel _ ∙ grind (arith, nat_tests, c.base.ensures.value)))

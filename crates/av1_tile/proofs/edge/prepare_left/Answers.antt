@@ -4,7 +4,7 @@ use Rattle.av1_tile.proofs.Sides.{listed_is, half_below}
 use Rattle.av1_tile.proofs.edge.prepare_left.Goals as goal
 
 pub from_u32-requires : goal.from_u32-requires
-from_u32-requires g c = let r = c.half_range.ensures in half_below _ _ _ r.room r.some c.requires.depth
+from_u32-requires g c = let r = c.base.ensures in half_below _ _ _ r.room r.some c.requires.depth
 
 pub returns-then-y-gt0 : goal.returns-then-y-gt0
 returns-then-y-gt0 g c =
@@ -13,4 +13,4 @@ returns-then-y-gt0 g c =
 pub returns-else-y-gt0 : goal.returns-else-y-gt0
 returns-else-y-gt0 g c =
     let n = g.T.Pixel.num in
-    listed_is n _ _ _ (omega arith) (λ k d h. ap n (c.fill_with-else-y-gt0.ensures k d (omega arith)) ∙ ap n c.from_u32.ensures ∙ (g.met.T.Pixel.num_of_pixel _ ∙ grind (arith, nat_tests, c.half_range.ensures.value)))
+    listed_is n _ _ _ (omega arith) (λ k d h. ap n (c.fill_with-else-y-gt0.ensures k d (omega arith)) ∙ ap n c.from_u32.ensures ∙ (g.met.T.Pixel.num_of_pixel _ ∙ grind (arith, nat_tests, c.base.ensures.value)))

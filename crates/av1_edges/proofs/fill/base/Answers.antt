@@ -1,6 +1,6 @@
 use Rattle.std.proofs.Common.{rules, ◌∙◌, ap, ◌+◌}
 use Rattle.av1_edges.proofs.Samples.{half_fits, half_depth}
-use Rattle.av1_edges.proofs.fill.half_range.Goals as goal
+use Rattle.av1_edges.proofs.fill.base.Goals as goal
 
 pub returns : goal.returns
 returns c =

@@ -1,5 +1,5 @@
 use Rattle.av1_order.proofs.Asked.{calls_answer_order, edges_as_asked}
-use Rattle.av1_order.proofs.laws.questions_are_answered_by_order.Goals as goal
+use Rattle.av1_order.proofs.laws.availability_matches_order.Goals as goal
 
 pub returns-clause-asked : goal.returns-clause-asked
 returns-clause-asked c = edges_as_asked
