@@ -3,9 +3,9 @@ pub mod Shift
 pub mod SquareOrder
 mod Parts
 mod Halved
-mod Superblocks
+pub mod Superblocks
 pub mod TableOrder
-mod Climbs
+mod Quadtree
 mod BitOrder
 mod Centre
 mod StripeTables

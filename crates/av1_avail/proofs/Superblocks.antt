@@ -9,7 +9,7 @@ use Rattle.av1_avail.specs.Agreement.{IsSmall, square_corner, top_right_before, 
 use Rattle.av1_avail.proofs.Halved.{units, to_units, to_cells, corner_far}
 use Rattle.av1_avail.proofs.Shift.{compare-shift, suc-inside, is_earlier-shift, is_in-shift}
 
-is_before_in_block-shift : (k m bx by w h th r c x y : ℕ)
+pub is_before_in_block-shift : (k m bx by w h th r c x y : ℕ)
     → is_before_in_block (k + bx) (m + by) w h th r c (k + x) (m + y) ≡ is_before_in_block bx by w h th r c x y
 unfolding is_before_in_block
 is_before_in_block-shift k m bx by w h th r c x y = simp (add_assoc, suc-inside, compare-shift)

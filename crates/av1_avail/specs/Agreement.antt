@@ -28,7 +28,7 @@ pub record IsTile (b : BlockSize) (t : TxSize) (row_off col_off ss_x ss_y : ℕ)
   pub column_within : col_off < block_columns b / 2 ^ ss_x
   pub column_at : col_off % transform_columns t ≡ 0
 
--- How many units past a transform are asked for: its lesser side.
+-- How many units past a transform are needed: its lesser side.
 abbrev pub run_length : TxSize → ℕ
 run_length t = min (transform_columns t) (transform_rows t)
 

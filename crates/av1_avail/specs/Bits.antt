@@ -7,10 +7,17 @@ use Rattle.av1_blocks.specs.Blocks.{block_width, block_height, side_log2}
 abbrev pub bit : (n k : ℕ) → Bool
 bit n k = n / 2 ^ k % 2 == 1
 
--- Of the last n of the low four bits, from the lowest up: those of x are set as far as one that is set in y too.
-abbrev pub climbs : (n x y : ℕ) → Bool
-climbs zero x y = false
-climbs (suc n) x y = bit x (3 - n) && (bit y (3 - n) || climbs n x y)
+-- Up the quadtree of a superblock, through its last n sizes of nodes from the smallest on: bit k of a column x says which half of a node
+-- of 2^(k+1) cells it lies in, and so does bit k of a row y. A quarter that is upper right asks the same of the node around it, one that
+-- is lower right says yes, one on the left no, and so does what lies past the superblock:
+--     +-------+-------+
+--     |  no   |  up   |
+--     +-------+-------+
+--     |  no   |  yes  |
+--     +-------+-------+
+abbrev pub reaches_lower_right : (n x y : ℕ) → Bool
+reaches_lower_right zero x y = false
+reaches_lower_right (suc n) x y = bit x (3 - n) && (bit y (3 - n) || reaches_lower_right n x y)
 
 -- The logarithm to base 2 of the width in cells.
 abbrev pub columns_log : BlockSize → ℕ
@@ -25,16 +32,16 @@ abbrev pub side_log : BlockSize → ℕ
 side_log b = max (columns_log b) (rows_log b)
 
 -- The answer above right of the block at column x and row y. Never for a block with a side of 128. Never for the lower of two blocks that
--- are wider than high, and always for the left of two that are higher than wide. Else it is so unless the bits of the column from the
--- block's greater side up are set as far as one that is set in the row too.
+-- are wider than high, and always for the left of two that are higher than wide. Else it is so unless the way up from the block, through
+-- upper right quarters, reaches a lower right one: what is right of that comes later.
 unfoldable pub bits_top_right : BlockSize → (x y : ℕ) → Bool
 bits_top_right b x y =
     if nat_lt 4 (side_log b) || nat_lt (rows_log b) (columns_log b) && bit y (rows_log b) then false
-    else (if nat_lt (columns_log b) (rows_log b) && not (bit x (columns_log b)) then true else not (climbs (4 - side_log b) x y))
+    else (if nat_lt (columns_log b) (rows_log b) && not (bit x (columns_log b)) then true else not (reaches_lower_right (4 - side_log b) x y))
 
 -- The answer below left. Never for a block with a side of 128. Always for the upper of two blocks that are wider than high, and never for
--- the right of two that are higher than wide. Else it is so where the bits of the column from the block's greater side up are clear as
--- far as one that is clear in the row too.
+-- the right of two that are higher than wide. Else it is so where the way up from the block, through lower left quarters, reaches an upper left
+-- one (the same asked from the superblock's last cell): what is left of that came earlier.
 unfoldable pub bits_bottom_left : BlockSize → (x y : ℕ) → Bool
 bits_bottom_left b x y =
     if nat_lt 4 (side_log b) then false
@@ -42,4 +49,4 @@ bits_bottom_left b x y =
     (if nat_lt (rows_log b) (columns_log b) && not (bit y (rows_log b)) then true
     else
     (if nat_lt (columns_log b) (rows_log b) && bit x (columns_log b) then false
-    else climbs (4 - side_log b) (15 - x % 16) (15 - y % 16)))
+    else reaches_lower_right (4 - side_log b) (15 - x % 16) (15 - y % 16)))

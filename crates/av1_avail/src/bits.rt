@@ -2,16 +2,25 @@
 
 ghost use Rattle.std.specs.Prelude.{◌≡◌, ◌-◌, ◌%◌};
 ghost use Rattle.av1_avail.specs.Agreement.{bottom_left_earlier, IsNearSquare, top_right_earlier};
-ghost use Rattle.av1_avail.specs.Bits.{bit, bits_bottom_left, bits_top_right, climbs};
+ghost use Rattle.av1_avail.specs.Bits.{bit, bits_bottom_left, bits_top_right, reaches_lower_right};
 
 use crate::superblock::{SUPERBLOCK_CELLS, SUPERBLOCK_LOG2};
 use av1_blocks::BlockSize;
 use av1_frame::TileBlockOffset;
 
-/// Whether the bits of `x` from `shift` up are set as far as one that is set in `y` too, among the low four.
+/// Whether the way up the quadtree of a superblock, from the node of `2^shift` cells a side that holds column `x` of row `y`, goes through
+/// upper right quarters to a lower right one. What is right of that comes later.
+///
+/// ```text
+/// +-------+-------+
+/// |  no   |  up   |    Bit k of the column and of the row say which quarter of a node of 2^(k+1) cells
+/// +-------+-------+    it is. `up` asks the same of the node around it, and past the superblock the
+/// |  no   |  yes  |    answer is no.
+/// +-------+-------+
+/// ```
 #[inline]
-fn climbs_from(x: usize, y: usize, shift: usize) -> bool
-    ensures { result ≡ climbs (4 - shift) x y }
+fn reaches_lower_right(x: usize, y: usize, shift: usize) -> bool
+    ensures { result ≡ reaches_lower_right (4 - shift) x y }
 {
     for k in shift..SUPERBLOCK_LOG2 {
         if (x >> k) & 1 == 0 {
@@ -39,7 +48,7 @@ fn top_right_by_bits(bo: TileBlockOffset, bsize: BlockSize) -> bool
     if width < height && (bo.0.x >> width) & 1 == 0 {
         return true;
     }
-    !climbs_from(bo.0.x, bo.0.y, side)
+    !reaches_lower_right(bo.0.x, bo.0.y, side)
 }
 
 /// Whether the cell below left of a block is coded before it, by the bits of its place.
@@ -60,7 +69,7 @@ fn bottom_left_by_bits(bo: TileBlockOffset, bsize: BlockSize) -> bool
     if width < height && (bo.0.x >> width) & 1 == 1 {
         return false;
     }
-    climbs_from(
+    reaches_lower_right(
         SUPERBLOCK_CELLS - 1 - bo.0.x % SUPERBLOCK_CELLS,
         SUPERBLOCK_CELLS - 1 - bo.0.y % SUPERBLOCK_CELLS,
         side,

@@ -7,3 +7,4 @@ pub mod References
 pub mod Filters
 pub mod Vectors
 pub mod BlockOrder
+pub mod Depths

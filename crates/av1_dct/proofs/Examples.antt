@@ -1,10 +1,9 @@
+-- What rav1e's own networks answer, computed from the definition. At a range of 20 a rotation wraps in each of these.
 use Rattle.std.specs.Prelude.{◌≡◌, pos, negsuc, [], ◌∷◌, refl}
 use Rattle.std.specs.Int.{int_wrap}
 use Rattle.av1_dct.specs.Arithmetic.{clamp_value}
 use Rattle.av1_dct.specs.Operations.{half_btf, half_btf_with}
 use Rattle.av1_dct.specs.Cosine.{cosine, brev, cos128, cosine_with, odd_half_with, group_sum_with, inner_turn_with, mirror_sum_with, outer_turn_with, rounds_with}
-
--- What rav1e's own networks answer, computed from the definition. At a range of 20 a rotation wraps in each of these.
 
 one_weight : half_btf (cos128 32) (pos 524287) (cos128 32) (pos 524287) ≡ negsuc 307200
 unfolding half_btf_with cos128 int_wrap

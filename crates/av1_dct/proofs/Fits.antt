@@ -1,4 +1,5 @@
-use Rattle.std.proofs.Common.{length, ℕ, Bool, true, false, ◌≡◌, ◌+◌, ◌-◌, ◌*◌, ◌/◌, ◌^◌, ◌<◌, ◌≤◌, ◌%◌, ◌||◌, min, nat_lt, nat_le, ℤ, pos, negsuc, ◌+ℤ◌, ◌*ℤ◌, List, arith, ap, sym, subst, ◌∙◌, inl, inr, cond, w32, FitsSigned, add-one, pow-add}
+-- What fits in some bits: sums, clamped values and each list of the transform.
+use Rattle.std.proofs.Common.{length, get_or, set, get_or-set_other, ℕ, Bool, true, false, ◌≡◌, ◌+◌, ◌-◌, ◌*◌, ◌/◌, ◌^◌, ◌<◌, ◌≤◌, ◌%◌, ◌||◌, min, nat_lt, nat_le, ℤ, pos, negsuc, ◌+ℤ◌, ◌*ℤ◌, List, arith, ap, sym, subst, ◌∙◌, inl, inr, cond, w32, FitsSigned, add-one, pow-add}
 use Rattle.std.specs.List.{All}
 use Rattle.std.specs.Int.Signed.{shr_z}
 use Rattle.std.proofs.lemmas.Bool.{cases_lt}
@@ -6,10 +7,12 @@ use Rattle.std.proofs.lemmas.Int.{ints, clamps, SFits-int_wrap}
 use Rattle.std.proofs.lemmas.Nat.{pow_pos}
 use Rattle.std.proofs.Math.Pow.{pow_mono}
 use Rattle.std.proofs.lemmas.List.{get_or_past}
+use Rattle.std.proofs.lemmas.Grind.{get_or-set_at}
 use Rattle.std.proofs.lemmas.List.FromFn.{get_or-map-range_with_len, length-map-range_with_len}
 use Rattle.av1_dct.specs.Arithmetic.{AllFit, FitsBits, clamp_value}
 use Rattle.av1_dct.specs.Operations.{half_btf, half_btf_with}
-use Rattle.av1_dct.specs.Cosine.{by_index, outer_turn, mirror_sum, group_sum, inner_turn, rounds, group_sum_with, inner_turn_with, mirror_sum_with, outer_turn_with, rounds_with}
+use Rattle.av1_dct.specs.Cosine.{outer_turn, mirror_sum, group_sum, inner_turn, rounds, group_sum_with, inner_turn_with, mirror_sum_with, outer_turn_with, rounds_with}
+use Rattle.av1_lists.specs.Lists.{by_index}
 
 pub zero_fits : (b : ℕ) → FitsBits b (pos 0)
 zero_fits b = let some = pow_pos (b - 1) in record { low = omega (arith, ints); high = omega (arith, ints) }
@@ -41,8 +44,8 @@ by_index-fits {w} n f h = λ i.
     ]
 
 -- more bits
-wider : (b w : ℕ) (z : ℤ) → b ≤ w → FitsBits b z → FitsBits w z
-wider b w z h f =
+pub fits_wider : (b w : ℕ) (z : ℤ) → b ≤ w → FitsBits b z → FitsBits w z
+fits_wider b w z h f =
     let small : 2 ^ (b - 1) ≤ 2 ^ (w - 1) = pow_mono {i = b - 1} {j = w - 1} (omega arith) in
     record { low = omega (arith, ints, f.low); high = omega (arith, ints, f.high) }
 
@@ -50,8 +53,17 @@ pub all-fit : (b w : ℕ) (xs : List ℤ) → b ≤ w → All (FitsBits b) xs �
 all-fit b w xs h all = λ i.
     let P : ℤ → Type 0 = λ z. FitsBits w z in
     elim (cases_lt i (length xs)) [
-      | inl g ↦ wider b w _ h (all i (pos 0) g)
+      | inl g ↦ fits_wider b w _ h (all i (pos 0) g)
       | inr g ↦ subst P (sym (get_or_past xs i (pos 0) g)) (zero_fits w)
+    ]
+
+-- one more number of a list whose first i fit
+pub fits_more : (b : ℕ) (xs : List ℤ) (i k : ℕ) (x d : ℤ) → i < length xs → ((j : ℕ) (e : ℤ) → j < i → FitsBits b (get_or xs j e)) → FitsBits b x → k < i + 1 → FitsBits b (get_or (set xs i x) k d)
+fits_more b xs i k x d h below here lt =
+    let P : ℤ → Type 0 = λ z. FitsBits b z in
+    elim (cases_lt k i) [
+      | inl less ↦ subst P (let e : get_or xs k d ≡ get_or (set xs i x) k d = grind (arith, get_or-set_other) in e) (below k d less)
+      | inr ge ↦ subst P (let e : x ≡ get_or (set xs i x) k d = grind (arith, get_or-set_at) in e) here
     ]
 
 pub outer_turn-fits : (k : ℕ) (v : List ℤ) (i : ℕ) → FitsBits 20 (outer_turn k v i)

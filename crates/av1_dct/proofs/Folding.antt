@@ -1,3 +1,4 @@
+-- The transform of twice as many values, as sums and differences of its two halves.
 use Rattle.std.proofs.Common.{ℕ, suc, false, ◌≡◌, ◌+◌, ◌-◌, ◌*◌, ◌^◌, ◌<◌, ℤ, pos, ◌+ℤ◌, ◌-ℤ◌, List, ◌++◌, arith, ◌∙◌, ap, sym, refl}
 use Rattle.std.proofs.Math.Nat.{pow-suc}
 use Rattle.std.proofs.lemmas.List.{get_or_append_left, get_or-append_right}

@@ -1,3 +1,4 @@
+-- Step 2 of the cosine transform, group by group, each group a part of the list.
 use Rattle.std.proofs.Common.{ℕ, ◌≡◌, ◌+◌, ◌-◌, ◌*◌, ◌/◌, ◌%◌, ◌==◌, ◌<◌, ◌≤◌, ℤ, pos, List, ◌++◌, take, drop, length, arith, ap, ◌∙◌, sym, subst, refl, inl, inr}
 use Rattle.std.proofs.lemmas.List.{map-append, take-map, drop-map, length-map, length-take-le, length-take, length-drop, length-append, get_or_append_left, get_or-append_right, get_or-take, get_or-drop, get_or_past, ext_get_or}
 use Rattle.std.proofs.lemmas.List.FromFn.{get_or-map-range_with_len, length-map-range_with_len}
@@ -5,7 +6,8 @@ use Rattle.std.proofs.lemmas.Bool.{cases_lt}
 use Rattle.std.proofs.lemmas.Nat.{mod-mul-add, div-mul-add}
 use Rattle.av1_dct.specs.Arithmetic.{AllFit, FitsBits, at}
 use Rattle.av1_dct.specs.Word.{column}
-use Rattle.av1_dct.specs.Cosine.{by_index, mirror_sum, group_sum, group_sum_with}
+use Rattle.av1_dct.specs.Cosine.{mirror_sum, group_sum, group_sum_with}
+use Rattle.av1_lists.specs.Lists.{by_index}
 use Rattle.av1_dct.proofs.Fits.{zero_fits}
 use Rattle.av1_dct.proofs.Mirror.{IsBegun}
 
@@ -49,7 +51,9 @@ group_at range h old g t i lt e =
     ∙ ap (λ n. mirror_sum range (i / (2 * h) % 2 == 1) h (take (2 * h) (drop (i / (2 * h) * (2 * h)) old)) n) (sym r)
 
 -- the next group of 2h places
-pub group_step : (range h m g : ℕ) (old v ys : List ℤ) → let n = 2 * h in let a = g * n in IsBegun m (group_sum range h old) old a v → length old ≡ m → a + n ≤ m → ys ≡ by_index n (mirror_sum range (g % 2 == 1) h (take n (drop a v))) → IsBegun m (group_sum range h old) old ((g + 1) * n) (put a n v ys)
+pub group_step : (range h m g : ℕ) (old v ys : List ℤ) → let n = 2 * h in let a = g * n in IsBegun m (group_sum range h old) old a v → length old ≡ m
+    → a + n ≤ m → ys ≡ by_index n (mirror_sum range (g % 2 == 1) h (take n (drop a v)))
+    → IsBegun m (group_sum range h old) old ((g + 1) * n) (put a n v ys)
 group_step range h m g old v ys s len le is =
     let n = 2 * h in
     let a = g * n in
@@ -82,7 +86,10 @@ column-part {W} lane i a n v = let f = λ (w : W). lane w i in simp (take-map f,
 pub words_fit : {W : Type 0} (lane : W → ℕ → ℤ) (i a n : ℕ) (v : List W) (m : ℕ) (f : ℕ → ℤ) (old : List ℤ) → IsBegun m f old a (column lane i v) → AllFit 20 old → AllFit 20 (column lane i (take n (drop a v)))
 words_fit lane i a n v m f old s fit = let P : List ℤ → Type 0 = λ zs. AllFit 20 zs in subst P (sym (column-part lane i a n v)) (part_fits a n (column lane i v) old fit s.rest)
 
-pub words_step : {W : Type 0} (lane : W → ℕ → ℤ) (i range h m g n : ℕ) (old : List ℤ) (v w : List W) → let a = g * (2 * h) in let part = take n (drop a v) in IsBegun m (group_sum range h old) old a (column lane i v) → length old ≡ m → n ≡ 2 * h → a + n ≤ m → column lane i w ≡ by_index (length part) (mirror_sum range (g % 2 == 1) (length part / 2) (column lane i part)) → IsBegun m (group_sum range h old) old ((g + 1) * (2 * h)) (column lane i (put a n v w))
+pub words_step : {W : Type 0} (lane : W → ℕ → ℤ) (i range h m g n : ℕ) (old : List ℤ) (v w : List W)
+    → let a = g * (2 * h) in let part = take n (drop a v) in IsBegun m (group_sum range h old) old a (column lane i v) → length old ≡ m → n ≡ 2 * h
+    → a + n ≤ m → column lane i w ≡ by_index (length part) (mirror_sum range (g % 2 == 1) (length part / 2) (column lane i part))
+    → IsBegun m (group_sum range h old) old ((g + 1) * (2 * h)) (column lane i (put a n v w))
 words_step {W} lane i range h m g n old v w s len is_n le is =
     let a = g * (2 * h) in
     let part = take n (drop a v) in

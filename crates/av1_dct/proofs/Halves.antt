@@ -1,3 +1,4 @@
+-- The second half of the words, as it is written, and the network on both halves.
 use Rattle.std.proofs.Common.{ℕ, zero, suc, false, ◌≡◌, ◌-◌, ◌*◌, ◌/◌, ◌^◌, ◌≤◌, ℤ, pos, neg_ℤ, List, [], ◌∷◌, ◌++◌, take, drop, set, length, get_or, arith, ap, sym, subst, refl, ◌∙◌, inl, inr}
 use Rattle.std.proofs.lemmas.Bool.{cases_lt}
 use Rattle.std.proofs.lemmas.List.{take_at, take_all, drop_at, drop_all, append-nil, length-append, length-drop, length-take-le, map-append, take-map, drop-map, get_or_append_left, get_or-append_right}
@@ -6,7 +7,8 @@ use Rattle.std.proofs.Math.Nat.{pow-suc}
 use Rattle.av1_dct.specs.Arithmetic.{AllFit, FitsBits, at}
 use Rattle.av1_dct.specs.Operations.{half_btf}
 use Rattle.av1_dct.specs.Word.{column}
-use Rattle.av1_dct.specs.Cosine.{by_index, cos128, outer_turn, mirror_sum, rounds, cosine, cosine_with}
+use Rattle.av1_dct.specs.Cosine.{cos128, outer_turn, mirror_sum, rounds, cosine, cosine_with}
+use Rattle.av1_lists.specs.Lists.{by_index}
 use Rattle.av1_dct.specs.InPlace.{joined, network}
 use Rattle.av1_dct.proofs.Groups.{take-fits, drop-fits}
 use Rattle.av1_dct.proofs.Fits.{zero_fits, half_btf-fits, by_index-fits, mirror_sum-fits}
@@ -104,7 +106,9 @@ half-fits {W} lane i range k m w e h fit is_e =
     let g = λ (x : W). lane x i in
     subst P (sym (map-append g e (drop m w))) (append-fits _ _ (subst P (sym is_e) (network-fits range k _ h)) (drop-fits lane i m w fit))
 
-pub base_words : {W : Type 0} (lane : W → ℕ → ℤ) (i range : ℕ) (w : List W) (a b x y : W) → length w ≡ 2 → x ≡ get_or w 0 x → y ≡ get_or w 1 y → lane a i ≡ half_btf (cos128 32) (lane x i) (cos128 32) (lane y i) → lane b i ≡ half_btf (cos128 32) (lane x i) (neg_ℤ (cos128 32)) (lane y i) → column lane i (set (set w 0 a) 1 b) ≡ network range 0 (column lane i w)
+pub base_words : {W : Type 0} (lane : W → ℕ → ℤ) (i range : ℕ) (w : List W) (a b x y : W) → length w ≡ 2 → x ≡ get_or w 0 x → y ≡ get_or w 1 y
+    → lane a i ≡ half_btf (cos128 32) (lane x i) (cos128 32) (lane y i) → lane b i ≡ half_btf (cos128 32) (lane x i) (neg_ℤ (cos128 32)) (lane y i)
+    → column lane i (set (set w 0 a) 1 b) ≡ network range 0 (column lane i w)
 unfolding network
 base_words lane i range [] a b x y len ex ey ha hb = absurd (omega (arith, len))
 base_words lane i range (u ∷ []) a b x y len ex ey ha hb = absurd (omega (arith, len))

@@ -1,3 +1,4 @@
+-- Step 3 of the cosine transform, at one place: which of the four rotations it is.
 use Rattle.std.proofs.Common.{ℕ, true, ◌≡◌, ◌+◌, ◌-◌, ◌*◌, ◌/◌, ◌%◌, ◌^◌, ◌<◌, ◌≤◌, ◌||◌, nat_lt, nat_le, min, ℤ, neg_ℤ, List, arith, ap, sym, ◌∙◌, inl, inr, get_or, pow-add}
 use Rattle.std.proofs.lemmas.Bool.Decides.{nat_tests}
 use Rattle.std.proofs.lemmas.Bool.{cases_lt}
@@ -18,19 +19,27 @@ pub inner-same : (k j : ℕ) (v : List ℤ) (p r i : ℕ) → min i (2 ^ k - 1 -
 unfolding inner_turn_with
 inner-same k j v p r i hp hr t = grind (arith, nat_tests)
 
-pub inner-low-first : (k j : ℕ) (v : List ℤ) (p q r d b : ℕ) (x y : ℤ) → 1 ≤ k → p < 2 ^ k / 2 → q ≡ 2 ^ k - 1 - p → r ≡ p % (4 * 2 ^ j) → d ≡ p / (4 * 2 ^ j) → 2 ^ j ≤ r → r < 2 * 2 ^ j → b ≡ 128 * 2 ^ j / 2 ^ k * (4 * brev (k - j - 3) d + 1) → x ≡ at v p → y ≡ at v q → half_btf (neg_ℤ (cos128 b)) x (cos128 (64 - b)) y ≡ inner_turn k j v p
+pub inner-low-first : (k j : ℕ) (v : List ℤ) (p q r d b : ℕ) (x y : ℤ) → 1 ≤ k → p < 2 ^ k / 2 → q ≡ 2 ^ k - 1 - p → r ≡ p % (4 * 2 ^ j)
+    → d ≡ p / (4 * 2 ^ j) → 2 ^ j ≤ r → r < 2 * 2 ^ j → b ≡ 128 * 2 ^ j / 2 ^ k * (4 * brev (k - j - 3) d + 1) → x ≡ at v p → y ≡ at v q
+    → half_btf (neg_ℤ (cos128 b)) x (cos128 (64 - b)) y ≡ inner_turn k j v p
 unfolding inner_turn_with
 inner-low-first k j v p q r d b x y hk hp hq hr hd h1 h2 hb hx hy = let e = even_pow k hk in grind (arith, nat_tests)
 
-pub inner-high-first : (k j : ℕ) (v : List ℤ) (p q r d b : ℕ) (x y : ℤ) → 1 ≤ k → p < 2 ^ k / 2 → q ≡ 2 ^ k - 1 - p → r ≡ p % (4 * 2 ^ j) → d ≡ p / (4 * 2 ^ j) → 2 ^ j ≤ r → r < 2 * 2 ^ j → b ≡ 128 * 2 ^ j / 2 ^ k * (4 * brev (k - j - 3) d + 1) → x ≡ at v p → y ≡ at v q → half_btf (cos128 (64 - b)) x (cos128 b) y ≡ inner_turn k j v q
+pub inner-high-first : (k j : ℕ) (v : List ℤ) (p q r d b : ℕ) (x y : ℤ) → 1 ≤ k → p < 2 ^ k / 2 → q ≡ 2 ^ k - 1 - p → r ≡ p % (4 * 2 ^ j)
+    → d ≡ p / (4 * 2 ^ j) → 2 ^ j ≤ r → r < 2 * 2 ^ j → b ≡ 128 * 2 ^ j / 2 ^ k * (4 * brev (k - j - 3) d + 1) → x ≡ at v p → y ≡ at v q
+    → half_btf (cos128 (64 - b)) x (cos128 b) y ≡ inner_turn k j v q
 unfolding inner_turn_with
 inner-high-first k j v p q r d b x y hk hp hq hr hd h1 h2 hb hx hy = let e = even_pow k hk in grind (arith, nat_tests)
 
-pub inner-low-second : (k j : ℕ) (v : List ℤ) (p q r d b : ℕ) (x y : ℤ) → 1 ≤ k → p < 2 ^ k / 2 → q ≡ 2 ^ k - 1 - p → r ≡ p % (4 * 2 ^ j) → d ≡ p / (4 * 2 ^ j) → 2 * 2 ^ j ≤ r → r < 3 * 2 ^ j → b ≡ 128 * 2 ^ j / 2 ^ k * (4 * brev (k - j - 3) d + 1) → x ≡ at v p → y ≡ at v q → half_btf (neg_ℤ (cos128 (64 - b))) x (neg_ℤ (cos128 b)) y ≡ inner_turn k j v p
+pub inner-low-second : (k j : ℕ) (v : List ℤ) (p q r d b : ℕ) (x y : ℤ) → 1 ≤ k → p < 2 ^ k / 2 → q ≡ 2 ^ k - 1 - p → r ≡ p % (4 * 2 ^ j)
+    → d ≡ p / (4 * 2 ^ j) → 2 * 2 ^ j ≤ r → r < 3 * 2 ^ j → b ≡ 128 * 2 ^ j / 2 ^ k * (4 * brev (k - j - 3) d + 1) → x ≡ at v p → y ≡ at v q
+    → half_btf (neg_ℤ (cos128 (64 - b))) x (neg_ℤ (cos128 b)) y ≡ inner_turn k j v p
 unfolding inner_turn_with
 inner-low-second k j v p q r d b x y hk hp hq hr hd h1 h2 hb hx hy = let e = even_pow k hk in grind (arith, nat_tests)
 
-pub inner-high-second : (k j : ℕ) (v : List ℤ) (p q r d b : ℕ) (x y : ℤ) → 1 ≤ k → p < 2 ^ k / 2 → q ≡ 2 ^ k - 1 - p → r ≡ p % (4 * 2 ^ j) → d ≡ p / (4 * 2 ^ j) → 2 * 2 ^ j ≤ r → r < 3 * 2 ^ j → b ≡ 128 * 2 ^ j / 2 ^ k * (4 * brev (k - j - 3) d + 1) → x ≡ at v p → y ≡ at v q → half_btf (neg_ℤ (cos128 b)) x (cos128 (64 - b)) y ≡ inner_turn k j v q
+pub inner-high-second : (k j : ℕ) (v : List ℤ) (p q r d b : ℕ) (x y : ℤ) → 1 ≤ k → p < 2 ^ k / 2 → q ≡ 2 ^ k - 1 - p → r ≡ p % (4 * 2 ^ j)
+    → d ≡ p / (4 * 2 ^ j) → 2 * 2 ^ j ≤ r → r < 3 * 2 ^ j → b ≡ 128 * 2 ^ j / 2 ^ k * (4 * brev (k - j - 3) d + 1) → x ≡ at v p → y ≡ at v q
+    → half_btf (neg_ℤ (cos128 b)) x (cos128 (64 - b)) y ≡ inner_turn k j v q
 unfolding inner_turn_with
 inner-high-second k j v p q r d b x y hk hp hq hr hd h1 h2 hb hx hy = let e = even_pow k hk in grind (arith, nat_tests)
 

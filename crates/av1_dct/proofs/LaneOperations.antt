@@ -1,3 +1,4 @@
+-- Operations on vectors of eight words, lane by lane.
 use Rattle.std.proofs.Common.{ℕ, Bool, true, false, cond, subst, neg_ℤ, ◌≡◌, ◌+◌, ◌-◌, ◌*◌, ◌%◌, ◌^◌, ◌<◌, ℤ, pos, List, map, replicate, length, get_or, arith, ◌∙◌, ap, refl, sym, w32, to_z, of_z, FitsSigned}
 use Rattle.std.specs.Int.{int_min, int_max}
 use Rattle.std.specs.Simd.Lanes.{zip2, sel_l, top}
@@ -37,7 +38,8 @@ to_z-fits n h = omega (arith, ints)
 
 -- the bits that a turn gives, from those of two vectors
 pub lane_turn : (w0 w1 : ℤ) (xs ys : List ℕ) (i : ℕ) → i < 8 → FitsSigned w32 w0 → FitsSigned w32 w1 → Bits xs → Bits ys
-    → lane_of_vector (map (to_z w32) (zip2 (λ a b. of_z w32 (shr_z (to_z w32 a) (2 ^ b))) (zip2 (λ x y. (x + y) % 4294967296) (zip2 (λ x y. (x + y) % 4294967296) (zip2 (λ x y. (x * y) % 4294967296) (replicate 8 (of_z w32 w0)) xs) (zip2 (λ x y. (x * y) % 4294967296) (replicate 8 (of_z w32 w1)) ys)) (replicate 8 2048)) (replicate 8 12))) i
+    → lane_of_vector (map (to_z w32) (zip2 (λ a b. of_z w32 (shr_z (to_z w32 a) (2 ^ b))) (zip2 (λ x y. (x + y) % 4294967296)
+    (zip2 (λ x y. (x + y) % 4294967296) (zip2 (λ x y. (x * y) % 4294967296) (replicate 8 (of_z w32 w0)) xs) (zip2 (λ x y. (x * y) % 4294967296) (replicate 8 (of_z w32 w1)) ys)) (replicate 8 2048)) (replicate 8 12))) i
     ≡ half_btf w0 (to_z w32 (get_or xs i 0)) w1 (to_z w32 (get_or ys i 0))
 lane_turn w0 w1 xs ys i h f0 f1 bx by =
     let add = λ (x y : ℕ). (x + y) % 4294967296 in

@@ -1,3 +1,4 @@
+-- Sums and differences in one lane of a vector of eight words.
 use Rattle.std.proofs.Common.{ℕ, ◌≡◌, ◌+◌, ◌-◌, ◌%◌, ◌^◌, ◌<◌, pos, ◌+ℤ◌, ◌-ℤ◌, List, map, length, get_or, arith, ◌∙◌, ap, sym, w32, to_z, of_z, Fits, FitsSigned}
 use Rattle.std.specs.Simd.Lanes.{Each1, zip2}
 use Rattle.std.proofs.lemmas.List.{get_or-map, length-map}

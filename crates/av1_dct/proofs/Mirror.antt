@@ -1,10 +1,11 @@
+-- A loop over a place and its mirror image, from both ends to the middle.
 use Rattle.std.proofs.Common.{ℕ, ◌≡◌, ◌+◌, ◌-◌, ◌<◌, ◌≤◌, ℤ, pos, List, length, set, get_or, arith, ◌∙◌, refl, sym, ap, subst, get_or-set_other}
 use Rattle.std.proofs.lemmas.List.{length-set, length-map, map-set, get_or-map}
 use Rattle.std.proofs.lemmas.List.FromFn.{fill_by_all}
 use Rattle.std.proofs.lemmas.Grind.{get_or-set_at}
 use Rattle.av1_dct.specs.Arithmetic.{at}
 use Rattle.av1_dct.specs.Word.{column}
-use Rattle.av1_dct.specs.Cosine.{by_index}
+use Rattle.av1_lists.specs.Lists.{by_index}
 
 -- a loop over the pairs of places p and m - 1 - p has written the places outside of p .. m - p
 pub record IsMirrored (m : ℕ) (f : ℕ → ℤ) (old : List ℤ) (p : ℕ) (v : List ℤ) : Type 0 where

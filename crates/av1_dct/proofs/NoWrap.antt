@@ -1,14 +1,16 @@
 -- Inputs of 18 bits and a range up to 18: none of a network's sums and products leaves 32 bits.
-use Rattle.std.proofs.Common.{unsigned_abs, ℕ, zero, suc, Bool, true, false, ◌≡◌, ◌+◌, ◌-◌, ◌*◌, ◌/◌, ◌^◌, ◌≤◌, ◌%◌, ◌==◌, ◌||◌, min, nat_lt, nat_le, ℤ, pos, neg_ℤ, ◌+ℤ◌, ◌-ℤ◌, ◌*ℤ◌, List, [], ◌∷◌, ◌++◌, map, arith, ap, refl, sym, ◌∙◌, inl, inr, cond, w32, FitsSigned}
+use Rattle.std.proofs.Common.{unsigned_abs, ℕ, zero, suc, Bool, true, false, ◌≡◌, ◌+◌, ◌-◌, ◌*◌, ◌/◌, ◌^◌, ◌≤◌, ◌%◌, ◌==◌, ◌||◌, min, nat_lt, nat_le, ℤ, pos, neg_ℤ, ◌+ℤ◌, ◌-ℤ◌, ◌*ℤ◌, List, [], ◌∷◌, ◌++◌, arith, ap, refl, sym, ◌∙◌, inl, inr, cond, w32, FitsSigned}
 use Rattle.std.specs.Int.{int_shr}
-use Rattle.std.specs.List.{All, range_with_len}
+use Rattle.std.specs.List.{All}
 use Rattle.std.proofs.lemmas.Bool.{cases_lt}
 use Rattle.std.proofs.lemmas.Int.{ints, int_wrap_fits, unsigned_abs-mul}
 use Rattle.std.proofs.Math.Nat.{mul-le-mul}
 use Rattle.std.proofs.lemmas.List.{get_or_past}
 use Rattle.av1_dct.specs.Arithmetic.{AllFit, FitsBits, at, clamp_value}
 use Rattle.av1_dct.specs.Operations.{Operations, AreRight32, wrapping, half_btf, half_btf_with}
-use Rattle.av1_dct.specs.Cosine.{by_index, evens, odds, cos128_lookup, cos128, brev, outer_turn_with, mirror_sum_with, group_sum_with, inner_turn_with, rounds_with, odd_half_with, cosine_with, rounds, odd_half, cosine}
+use Rattle.av1_dct.specs.Cosine.{evens, odds, cos128_lookup, cos128, brev, outer_turn_with, mirror_sum_with, group_sum_with, inner_turn_with, rounds_with, odd_half_with, cosine_with, rounds, odd_half, cosine}
+use Rattle.av1_lists.specs.Lists.{by_index}
+use Rattle.av1_lists.proofs.Lists.{by_index-same}
 use Rattle.av1_dct.proofs.Tables.{weight_bounds}
 use Rattle.av1_dct.proofs.Fits.{all-fit, clamp_value-fits, cond-fits, by_index-fits, outer_turn-fits, inner_turn-fits, group_sum-fits}
 use Rattle.av1_dct.proofs.Halves.{append-fits, cosine-fits}
@@ -53,13 +55,6 @@ plus-same a r x y fx fy = r.plus x y (omega (arith, ints, fx.low, fx.high, fy.lo
 
 pub minus-same : (a : Operations) → AreRight32 a → (x y : ℤ) → FitsBits 20 x → FitsBits 20 y → a.minus x y ≡ x -ℤ y
 minus-same a r x y fx fy = r.minus x y (omega (arith, ints, fx.low, fx.high, fy.low, fy.high))
-
-map-same : (f g : ℕ → ℤ) → ((i : ℕ) → f i ≡ g i) → (is : List ℕ) → map f is ≡ map g is
-map-same f g h [] = refl
-map-same f g h (i ∷ is) = ap (λ z. z ∷ map f is) (h i) ∙ ap (λ zs. g i ∷ zs) (map-same f g h is)
-
-pub by_index-same : (n : ℕ) (f g : ℕ → ℤ) → ((i : ℕ) → f i ≡ g i) → by_index n f ≡ by_index n g
-by_index-same n f g h = map-same f g h (range_with_len 0 n)
 
 pub cond-same : (b : Bool) (x x' y y' : ℤ) → x ≡ x' → y ≡ y' → cond b x y ≡ cond b x' y'
 cond-same b x x' y y' hx hy = elim b as (λ v. cond v x y ≡ cond v x' y') [ true ↦ hx | false ↦ hy ]
@@ -120,8 +115,8 @@ rounds-same a t range k (suc j) v r h =
     let w = rounds range k j v in
     let s = by_index (2 ^ k) (group_sum_with wrapping range (2 ^ j) w) in
     ap (λ w. by_index (2 ^ k) (inner_turn_with a k j (by_index (2 ^ k) (group_sum_with a range (2 ^ j) w)))) (rounds-same a t range k j v r h)
-    ∙ ap (λ s. by_index (2 ^ k) (inner_turn_with a k j s)) (by_index-same (2 ^ k) _ _ (λ i. group-same a t range (2 ^ j) w i (rounds-fit range k j v (omega arith) h)))
-    ∙ by_index-same (2 ^ k) _ _ (λ i. inner-same a t k j s i (by_index-fits (2 ^ k) _ (λ e. sums range (2 ^ j) _ e r)))
+    ∙ ap (λ s. by_index (2 ^ k) (inner_turn_with a k j s)) (by_index-same (2 ^ k) _ _ (λ i _. group-same a t range (2 ^ j) w i (rounds-fit range k j v (omega arith) h)))
+    ∙ by_index-same (2 ^ k) _ _ (λ i _. inner-same a t k j s i (by_index-fits (2 ^ k) _ (λ e. sums range (2 ^ j) _ e r)))
 
 odd_half-fits : (range k : ℕ) (y : List ℤ) → range ≤ 20 → AllFit 20 (odd_half range k y)
 unfolding odd_half_with
@@ -133,7 +128,7 @@ odd_half-same a t range k y r h =
     let m = 2 ^ suc k in
     let v = by_index m (λ p. at y (brev (suc k) p)) in
     let u = by_index m (outer_turn_with wrapping (suc k) v) in
-    ap (rounds_with a range (suc k) k) (by_index-same m (outer_turn_with a (suc k) v) (outer_turn_with wrapping (suc k) v) (λ i. outer-same a t (suc k) v i (by_index-fits m _ (λ p. h (brev (suc k) p)))))
+    ap (rounds_with a range (suc k) k) (by_index-same m (outer_turn_with a (suc k) v) (outer_turn_with wrapping (suc k) v) (λ i _. outer-same a t (suc k) v i (by_index-fits m _ (λ p. h (brev (suc k) p)))))
     ∙ rounds-same a t range (suc k) k u r (by_index-fits m _ (λ i. outer_turn-fits (suc k) v i))
 
 pub no_wrap : (a : Operations) → AreRight32 a → (range k : ℕ) (x : List ℤ) → range ≤ 18 → AllFit 18 x → cosine_with a range k x ≡ cosine range k x
@@ -147,7 +142,7 @@ no_wrap a t range (suc k) x r h =
     let small : range ≤ 20 = omega arith in
     ap (λ even. by_index (2 * m) (mirror_sum_with a range false m (even ++ odd_half_with a range k (odds m x)))) (no_wrap a t range k (evens m x) r (by_index-fits m _ (λ i. h (2 * i))))
     ∙ ap (λ odd. by_index (2 * m) (mirror_sum_with a range false m (cosine range k (evens m x) ++ odd))) (odd_half-same a t range k (odds m x) r (by_index-fits m _ (λ i. h (2 * i + 1))))
-    ∙ by_index-same (2 * m) _ _ (λ i. mirror-same a t range false m _ i (append-fits _ _ (cosine-fits range k (evens m x) small) (odd_half-fits range k (odds m x) small)))
+    ∙ by_index-same (2 * m) _ _ (λ i _. mirror-same a t range false m _ i (append-fits _ _ (cosine-fits range k (evens m x) small) (odd_half-fits range k (odds m x) small)))
 
 pub never_wraps : (ops : Operations) → AreRight32 ops → (range k : ℕ) (x : List ℤ) → range ≤ 18 → All (FitsBits 18) x → cosine_with ops range k x ≡ cosine range k x
 never_wraps ops right range k x r fit = no_wrap ops right range k x r (all-fit 18 18 x (omega arith) fit)

@@ -1,3 +1,4 @@
+-- The order of reversed places: even inputs first, then odd ones, and so on in each half.
 use Rattle.std.proofs.Common.{ℕ, zero, suc, false, ◌≡◌, ◌+◌, ◌-◌, ◌*◌, ◌/◌, ◌%◌, ◌^◌, ◌<◌, ◌≤◌, ℤ, pos, List, ◌++◌, map, take, drop, set, length, get_or, arith, ap, sym, subst, refl, ◌∙◌}
 use Rattle.std.proofs.lemmas.List.{map-set, length-map, length-take, length-drop, get_or-take, get_or-drop, get_or-map, take_at, take-map}
 use Rattle.std.proofs.lemmas.List.FromFn.{fill_by_all, get_or-map-range_with_len, length-map-range_with_len}
@@ -8,7 +9,9 @@ use Rattle.std.proofs.Math.Nat.{pow-suc, mul_comm}
 use Rattle.std.proofs.lemmas.Nat.{mod-mul-add, div-mul-add}
 use Rattle.av1_dct.specs.Arithmetic.{AllFit, at}
 use Rattle.av1_dct.specs.Word.{column}
-use Rattle.av1_dct.specs.Cosine.{by_index, brev, outer_turn, mirror_sum, rounds, evens, odds, cosine, cosine_with, odd_half_with}
+use Rattle.av1_dct.specs.Cosine.{brev, outer_turn, mirror_sum, rounds, evens, odds, cosine, cosine_with, odd_half_with}
+use Rattle.av1_lists.specs.Lists.{by_index}
+use Rattle.av1_lists.proofs.Lists.{by_index-same}
 use Rattle.av1_dct.specs.InPlace.{network}
 use Rattle.av1_dct.specs.declared.weights.TheConstants.{REVERSED}
 use Rattle.av1_dct.proofs.Fits.{by_index-fits}
@@ -28,9 +31,6 @@ column_fill {W} lane i f v p x h below here = λ q lt.
     let g = λ (w : W). lane w i in
     ap (λ zs. at zs q) (map-set g v p x ∙ ap (set (column lane i v) p) here)
     ∙ fill_by_more f (column lane i v) p (pos 0) (omega (arith, length-map v g)) below q lt
-
-by_index-ext : (n : ℕ) (f g : ℕ → ℤ) → ((p : ℕ) → p < n → f p ≡ g p) → by_index n f ≡ by_index n g
-by_index-ext n f g h = fill_by_all g (by_index n f) n (pos 0) (length-map-range_with_len f 0 n) (λ p lt. get_or-map-range_with_len f 0 n p p (pos 0) lt (omega arith) ∙ h p lt)
 
 pub at-by_index : (n : ℕ) (f : ℕ → ℤ) (p : ℕ) → p < n → at (by_index n f) p ≡ f p
 at-by_index n f p h = get_or-map-range_with_len f 0 n p p (pos 0) h (omega arith)
@@ -60,20 +60,23 @@ cosine_is range (suc k) x =
     let twice : 2 * 2 ^ k ≡ m = omega (arith, pow-suc 2 k) in
     let even : by_index (2 * 2 ^ k) (λ p. at (evens m x) (brev (suc k) p)) ≡ take m (by_index (2 * m) g) =
     ap (λ n. by_index n (λ p. at (evens m x) (brev (suc k) p))) twice
-    ∙ by_index-ext m _ g (λ p h. at-by_index m (λ i. at x (2 * i)) (brev (suc k) p) (brev-lt (suc k) p h) ∙ ap (at x) (sym (brev-suc (suc k) p h)))
+    ∙ by_index-same m _ g (λ p h. at-by_index m (λ i. at x (2 * i)) (brev (suc k) p) (brev-lt (suc k) p h) ∙ ap (at x) (sym (brev-suc (suc k) p h)))
     ∙ sym (first_half m g (by_index (2 * m) g) refl) in
     let odd : by_index m (λ p. at (odds m x) (brev (suc k) p)) ≡ drop m (by_index (2 * m) g) =
-    by_index-ext m _ (λ p. g (m + p)) (λ p h. at-by_index m (λ i. at x (2 * i + 1)) (brev (suc k) p) (brev-lt (suc k) p h) ∙ ap (at x) (sym (brev-high (suc k) p h))) ∙ sym (second_half m g (by_index (2 * m) g) refl) in
+    by_index-same m _ (λ p. g (m + p)) (λ p h. at-by_index m (λ i. at x (2 * i + 1)) (brev (suc k) p) (brev-lt (suc k) p h) ∙ ap (at x) (sym (brev-high (suc k) p h))) ∙ sym (second_half m g (by_index (2 * m) g) refl) in
     ap (λ zs. by_index (2 * m) (mirror_sum range false m (zs ++ rounds range (suc k) k (by_index m (outer_turn (suc k) (by_index m (λ p. at (odds m x) (brev (suc k) p)))))))) (cosine_is range k (evens m x) ∙ ap (network range k) even)
     ∙ ap (λ zs. by_index (2 * m) (mirror_sum range false m (network range k (take m (by_index (2 * m) g)) ++ rounds range (suc k) k (by_index m (outer_turn (suc k) zs))))) odd
 
 pub places_taken : (k : ℕ) (x : List ℤ) → by_index (2 * 2 ^ k) (λ p. at x (brev (suc k) p)) ≡ by_index (2 * 2 ^ k) (λ p. at (take (2 * 2 ^ k) x) (brev (suc k) p))
-places_taken k x = by_index-ext (2 * 2 ^ k) _ _ (λ p h. sym (get_or-take (2 * 2 ^ k) x (brev (suc k) p) (pos 0) (omega (arith, brev-lt (suc k) p (let w : p < 2 ^ suc k = omega (arith, pow-suc 2 k) in w), pow-suc 2 k))))
+places_taken k x = by_index-same (2 * 2 ^ k) _ _ (λ p h. sym (get_or-take (2 * 2 ^ k) x (brev (suc k) p) (pos 0) (omega (arith, brev-lt (suc k) p (let w : p < 2 ^ suc k = omega (arith, pow-suc 2 k) in w), pow-suc 2 k))))
 
 pub places-fit : (k : ℕ) (x : List ℤ) → AllFit 20 (take (2 * 2 ^ k) x) → AllFit 20 (by_index (2 * 2 ^ k) (λ p. at x (brev (suc k) p)))
 places-fit k x fit = let P : List ℤ → Type 0 = λ zs. AllFit 20 zs in subst P (sym (places_taken k x)) (by_index-fits _ _ (λ p. fit (brev (suc k) p)))
 
-pub cosine_words : {W : Type 0} (lane : W → ℕ → ℤ) (i range k n : ℕ) (input old reordered new : List W) → n ≡ 2 * 2 ^ k → length new ≡ n → column lane i reordered ≡ by_index (2 * 2 ^ k) (λ p. at (column lane i input) (brev (suc k) p)) → column lane i new ≡ network range k (column lane i reordered) → take (2 * 2 ^ k) (column lane i (new ++ drop n old)) ≡ cosine range k (take (2 * 2 ^ k) (column lane i input))
+pub cosine_words : {W : Type 0} (lane : W → ℕ → ℤ) (i range k n : ℕ) (input old reordered new : List W) → n ≡ 2 * 2 ^ k → length new ≡ n
+    → column lane i reordered ≡ by_index (2 * 2 ^ k) (λ p. at (column lane i input) (brev (suc k) p))
+    → column lane i new ≡ network range k (column lane i reordered)
+    → take (2 * 2 ^ k) (column lane i (new ++ drop n old)) ≡ cosine range k (take (2 * 2 ^ k) (column lane i input))
 cosine_words {W} lane i range k n input old reordered new is_n len is_r is_new =
     let g = λ (x : W). lane x i in
     take-map g (2 * 2 ^ k) (new ++ drop n old)

@@ -1,3 +1,4 @@
+-- A run of places that one rotation of step 3 turns, and all runs of a step.
 use Rattle.std.proofs.Common.{ℕ, true, ◌≡◌, ◌+◌, ◌-◌, ◌*◌, ◌/◌, ◌%◌, ◌^◌, ◌<◌, ◌≤◌, ◌||◌, nat_lt, nat_le, min, ℤ, pos, List, length, arith, ap, sym, ◌∙◌, inl, inr, refl, subst, neg_ℤ, pow-add}
 use Rattle.std.proofs.lemmas.Bool.Decides.{nat_tests}
 use Rattle.std.proofs.lemmas.Bool.{cases_lt}
@@ -6,7 +7,8 @@ use Rattle.std.proofs.Math.Nat.{mul-le-mul_right}
 use Rattle.std.proofs.lemmas.Nat.{div-mul-add, mod-mul-add}
 use Rattle.av1_dct.specs.Arithmetic.{at}
 use Rattle.av1_dct.specs.Operations.{half_btf}
-use Rattle.av1_dct.specs.Cosine.{by_index, brev, cos128, inner_turn, inner_turn_with}
+use Rattle.av1_dct.specs.Cosine.{brev, cos128, inner_turn, inner_turn_with}
+use Rattle.av1_lists.specs.Lists.{by_index}
 use Rattle.av1_dct.specs.InPlace.{inner_run}
 use Rattle.av1_dct.proofs.Mirror.{IsMirrored}
 use Rattle.av1_dct.proofs.Outer.{even_pow}
@@ -50,25 +52,33 @@ place_in j d p low high =
     (sym (ap (λ x. x % n) e ∙ mod-mul-add d n (p - a) (omega arith)), sym (ap (λ x. x / n) e ∙ div-mul-add d n (p - a) (omega arith)))
 
 -- one pair of a second quarter, and one of a third
-pub second-low : (k j d : ℕ) (v : List ℤ) (p q b : ℕ) (x y : ℤ) → 1 ≤ k → p < 2 ^ k / 2 → q ≡ 2 ^ k - 1 - p → d * (4 * 2 ^ j) + 2 ^ j ≤ p → p < d * (4 * 2 ^ j) + 2 ^ j + 2 ^ j → b ≡ 128 * 2 ^ j / 2 ^ k * (4 * brev (k - j - 3) d + 1) → x ≡ at v p → y ≡ at v q → half_btf (neg_ℤ (cos128 b)) x (cos128 (64 - b)) y ≡ inner_run k j (d * (4 * 2 ^ j) + 2 ^ j) v p
+pub second-low : (k j d : ℕ) (v : List ℤ) (p q b : ℕ) (x y : ℤ) → 1 ≤ k → p < 2 ^ k / 2 → q ≡ 2 ^ k - 1 - p → d * (4 * 2 ^ j) + 2 ^ j ≤ p
+    → p < d * (4 * 2 ^ j) + 2 ^ j + 2 ^ j → b ≡ 128 * 2 ^ j / 2 ^ k * (4 * brev (k - j - 3) d + 1) → x ≡ at v p → y ≡ at v q
+    → half_btf (neg_ℤ (cos128 b)) x (cos128 (64 - b)) y ≡ inner_run k j (d * (4 * 2 ^ j) + 2 ^ j) v p
 second-low k j d v p q b x y hk hp hq low high hb hx hy =
     let e = even_pow k hk in
     let r = place_in j d p (omega arith) (omega arith) in
     inner-low-first k j v p q (p - d * (4 * 2 ^ j)) d b x y hk hp hq r.0 r.1 (omega arith) (omega arith) hb hx hy ∙ run-inside k j _ v p (omega arith) (omega arith)
 
-pub second-high : (k j d : ℕ) (v : List ℤ) (p q b : ℕ) (x y : ℤ) → 1 ≤ k → p < 2 ^ k / 2 → q ≡ 2 ^ k - 1 - p → d * (4 * 2 ^ j) + 2 ^ j ≤ p → p < d * (4 * 2 ^ j) + 2 ^ j + 2 ^ j → b ≡ 128 * 2 ^ j / 2 ^ k * (4 * brev (k - j - 3) d + 1) → x ≡ at v p → y ≡ at v q → half_btf (cos128 (64 - b)) x (cos128 b) y ≡ inner_run k j (d * (4 * 2 ^ j) + 2 ^ j) v q
+pub second-high : (k j d : ℕ) (v : List ℤ) (p q b : ℕ) (x y : ℤ) → 1 ≤ k → p < 2 ^ k / 2 → q ≡ 2 ^ k - 1 - p → d * (4 * 2 ^ j) + 2 ^ j ≤ p
+    → p < d * (4 * 2 ^ j) + 2 ^ j + 2 ^ j → b ≡ 128 * 2 ^ j / 2 ^ k * (4 * brev (k - j - 3) d + 1) → x ≡ at v p → y ≡ at v q
+    → half_btf (cos128 (64 - b)) x (cos128 b) y ≡ inner_run k j (d * (4 * 2 ^ j) + 2 ^ j) v q
 second-high k j d v p q b x y hk hp hq low high hb hx hy =
     let e = even_pow k hk in
     let r = place_in j d p (omega arith) (omega arith) in
     inner-high-first k j v p q (p - d * (4 * 2 ^ j)) d b x y hk hp hq r.0 r.1 (omega arith) (omega arith) hb hx hy ∙ run-inside k j _ v q (omega arith) (omega arith)
 
-pub third-low : (k j d : ℕ) (v : List ℤ) (p q b : ℕ) (x y : ℤ) → 1 ≤ k → p < 2 ^ k / 2 → q ≡ 2 ^ k - 1 - p → d * (4 * 2 ^ j) + 2 * 2 ^ j ≤ p → p < d * (4 * 2 ^ j) + 2 * 2 ^ j + 2 ^ j → b ≡ 128 * 2 ^ j / 2 ^ k * (4 * brev (k - j - 3) d + 1) → x ≡ at v p → y ≡ at v q → half_btf (neg_ℤ (cos128 (64 - b))) x (neg_ℤ (cos128 b)) y ≡ inner_run k j (d * (4 * 2 ^ j) + 2 * 2 ^ j) v p
+pub third-low : (k j d : ℕ) (v : List ℤ) (p q b : ℕ) (x y : ℤ) → 1 ≤ k → p < 2 ^ k / 2 → q ≡ 2 ^ k - 1 - p → d * (4 * 2 ^ j) + 2 * 2 ^ j ≤ p
+    → p < d * (4 * 2 ^ j) + 2 * 2 ^ j + 2 ^ j → b ≡ 128 * 2 ^ j / 2 ^ k * (4 * brev (k - j - 3) d + 1) → x ≡ at v p → y ≡ at v q
+    → half_btf (neg_ℤ (cos128 (64 - b))) x (neg_ℤ (cos128 b)) y ≡ inner_run k j (d * (4 * 2 ^ j) + 2 * 2 ^ j) v p
 third-low k j d v p q b x y hk hp hq low high hb hx hy =
     let e = even_pow k hk in
     let r = place_in j d p (omega arith) (omega arith) in
     inner-low-second k j v p q (p - d * (4 * 2 ^ j)) d b x y hk hp hq r.0 r.1 (omega arith) (omega arith) hb hx hy ∙ run-inside k j _ v p (omega arith) (omega arith)
 
-pub third-high : (k j d : ℕ) (v : List ℤ) (p q b : ℕ) (x y : ℤ) → 1 ≤ k → p < 2 ^ k / 2 → q ≡ 2 ^ k - 1 - p → d * (4 * 2 ^ j) + 2 * 2 ^ j ≤ p → p < d * (4 * 2 ^ j) + 2 * 2 ^ j + 2 ^ j → b ≡ 128 * 2 ^ j / 2 ^ k * (4 * brev (k - j - 3) d + 1) → x ≡ at v p → y ≡ at v q → half_btf (neg_ℤ (cos128 b)) x (cos128 (64 - b)) y ≡ inner_run k j (d * (4 * 2 ^ j) + 2 * 2 ^ j) v q
+pub third-high : (k j d : ℕ) (v : List ℤ) (p q b : ℕ) (x y : ℤ) → 1 ≤ k → p < 2 ^ k / 2 → q ≡ 2 ^ k - 1 - p → d * (4 * 2 ^ j) + 2 * 2 ^ j ≤ p
+    → p < d * (4 * 2 ^ j) + 2 * 2 ^ j + 2 ^ j → b ≡ 128 * 2 ^ j / 2 ^ k * (4 * brev (k - j - 3) d + 1) → x ≡ at v p → y ≡ at v q
+    → half_btf (neg_ℤ (cos128 b)) x (cos128 (64 - b)) y ≡ inner_run k j (d * (4 * 2 ^ j) + 2 * 2 ^ j) v q
 third-high k j d v p q b x y hk hp hq low high hb hx hy =
     let e = even_pow k hk in
     let r = place_in j d p (omega arith) (omega arith) in

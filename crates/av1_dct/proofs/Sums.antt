@@ -1,3 +1,4 @@
+-- Hadamard rotations at one place: which of a sum and a difference it becomes.
 use Rattle.std.proofs.Common.{ℕ, true, false, ◌≡◌, ◌-◌, ◌*◌, ◌<◌, ℤ, ◌+ℤ◌, ◌-ℤ◌, List, arith, w32, FitsSigned}
 use Rattle.std.proofs.lemmas.Bool.Decides.{nat_tests}
 use Rattle.std.proofs.lemmas.Int.{ints}

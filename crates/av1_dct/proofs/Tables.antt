@@ -1,3 +1,4 @@
+-- The tables of weights and of reversed places are what they are defined as.
 use Rattle.std.proofs.Common.{ℕ, zero, suc, ◌≡◌, ◌+◌, ◌-◌, ◌*◌, ◌/◌, ◌%◌, ◌^◌, ◌<◌, ◌≤◌, ℤ, pos, ◌≤ℤ◌, map, get_or, arith, ◌∙◌, ap, refl, sym, mod-lt, pow-add}
 use Rattle.std.specs.List.{range_with_len}
 use Rattle.std.specs.Int.Signed.{le_z}

@@ -1,3 +1,4 @@
+-- A rotation in wrapping words is a rotation that wraps once.
 use Rattle.std.proofs.Common.{arith, ◌≡◌, ◌%◌, ◌*◌, ◌+◌, ℤ, pos, ◌+ℤ◌, ◌*ℤ◌, w32, to_z, of_z, ap, ◌∙◌, FitsSigned}
 use Rattle.std.specs.Int.{int_wrap, int_wrapping_mul}
 use Rattle.std.proofs.lemmas.Int.{to_z-of_z, SFits-int_wrap, wrapping_add-bits, wrapping_add_onto, wrapping_mul_is, int_wrap-add_left, int_wrap-add_right, int_wrap-add_same}

@@ -1,3 +1,4 @@
+-- The transform of zeros is zeros.
 use Rattle.std.proofs.Common.{ℕ, zero, suc, Bool, true, false, cond, ◌≡◌, ◌+◌, ◌-◌, ◌*◌, ◌/◌, ◌%◌, ◌^◌, ◌||◌, nat_lt, nat_le, min, ℤ, pos, ◌+ℤ◌, ◌-ℤ◌, ◌*ℤ◌, List, [], ◌∷◌, ◌++◌, take, drop, length, arith, ap, refl, ◌∙◌, inl, inr, sym, replicate}
 use Rattle.std.specs.Int.{int_wrap, int_shr}
 use Rattle.std.proofs.lemmas.Int.{ints, clamps}
@@ -7,7 +8,8 @@ use Rattle.std.proofs.lemmas.List.{get_or_past, get_or_append_left, get_or-appen
 use Rattle.std.proofs.lemmas.List.FromFn.{length-map-range_with_len}
 use Rattle.av1_dct.specs.Arithmetic.{at, clamp_value, wrap32}
 use Rattle.av1_dct.specs.Operations.{half_btf, half_btf_with}
-use Rattle.av1_dct.specs.Cosine.{by_index, evens, outer_turn, mirror_sum, group_sum, inner_turn, rounds, cosine, cosine_with, odd_half_with, group_sum_with, inner_turn_with, mirror_sum_with, outer_turn_with, rounds_with}
+use Rattle.av1_dct.specs.Cosine.{evens, outer_turn, mirror_sum, group_sum, inner_turn, rounds, cosine, cosine_with, odd_half_with, group_sum_with, inner_turn_with, mirror_sum_with, outer_turn_with, rounds_with}
+use Rattle.av1_lists.specs.Lists.{by_index}
 use Rattle.av1_dct.proofs.Halves.{cosine-length}
 use Rattle.av1_dct.proofs.Places.{at-by_index}
 

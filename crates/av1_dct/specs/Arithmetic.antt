@@ -1,3 +1,4 @@
+-- Wrapped and rounded sums, clamped values, and numbers of some bits.
 use Rattle.std.specs.Prelude.{ℕ, ◌-◌, ◌^◌, ℤ, pos, neg_ℤ, ◌+ℤ◌, ◌≤ℤ◌, ◌<ℤ◌, List, slice_index_or}
 use Rattle.std.specs.Int.{int_shr, int_wrap, int_min, int_max, w32}
 

@@ -1,5 +1,6 @@
+-- The inverse cosine transform.
 use Rattle.std.specs.Prelude.{◌≡◌, ◌⊎◌, ℕ, zero, suc, ◌+◌, ◌-◌, ◌*◌, ◌^◌, ◌/◌, ◌%◌, ◌==◌, Bool, false, nat_lt, nat_le, ◌||◌, min, if◌then◌else◌, ℤ, pos, neg_ℤ, List, [], ◌∷◌, ◌++◌, map, take, drop}
-use Rattle.std.specs.List.{range_with_len}
+use Rattle.av1_lists.specs.Lists.{by_index}
 use Rattle.av1_dct.specs.Arithmetic.{at, clamp_value}
 use Rattle.av1_dct.specs.Operations.{Operations, wrapping, half_btf_with}
 
@@ -9,10 +10,6 @@ use Rattle.av1_dct.specs.Operations.{Operations, wrapping, half_btf_with}
 -- the numbers of values that there are transforms of
 abbrev pub IsLength : ℕ → Type 0
 IsLength n = (n ≡ 4) ⊎ ((n ≡ 8) ⊎ ((n ≡ 16) ⊎ ((n ≡ 32) ⊎ (n ≡ 64))))
-
--- the list of f 0, f 1, .. of length n
-abbrev pub by_index : ℕ → (ℕ → ℤ) → List ℤ
-by_index n f = map f (range_with_len 0 n)
 
 -- 4096 times the cosine of a * pi / 128, rounded, for a from 0 to 63
 abbrev pub cos128_lookup : List ℤ

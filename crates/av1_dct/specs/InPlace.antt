@@ -1,9 +1,9 @@
+-- What single functions of the crate do in place; no public contract cites this file.
 use Rattle.std.specs.Prelude.{ℕ, zero, suc, ◌+◌, ◌-◌, ◌*◌, ◌^◌, nat_lt, nat_le, ◌&&◌, min, if◌then◌else◌, false, ℤ, neg_ℤ, List, [], ◌∷◌, ◌++◌, take, drop}
 use Rattle.av1_dct.specs.Arithmetic.{at}
 use Rattle.av1_dct.specs.Operations.{half_btf}
-use Rattle.av1_dct.specs.Cosine.{by_index, cos128, outer_turn, mirror_sum, rounds, inner_turn}
-
--- What single functions of the crate do in place; no public contract cites this file.
+use Rattle.av1_dct.specs.Cosine.{cos128, outer_turn, mirror_sum, rounds, inner_turn}
+use Rattle.av1_lists.specs.Lists.{by_index}
 
 -- step 3 at the places s to s + h - 1, where h = 2^j, and at their mirror images; all others stay
 unfoldable pub inner_run : ℕ → ℕ → ℕ → List ℤ → ℕ → ℤ

@@ -1,3 +1,4 @@
+-- Lanes of vectors.
 use Rattle.std.specs.Prelude.{ℕ, ℤ, List, map, slice_index_or}
 use Rattle.std.specs.Int.{w32, cast_signed, cast_unsigned}
 

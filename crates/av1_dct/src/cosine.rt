@@ -3,7 +3,8 @@ ghost use Rattle.std.specs.List.{All};
 ghost use Rattle.av1_dct.specs.Arithmetic.{at, AllFit, FitsBits};
 ghost use Rattle.av1_dct.specs.Word.{column};
 ghost use Rattle.av1_dct.specs.InPlace.{joined, network};
-ghost use Rattle.av1_dct.specs.Cosine.{by_index, brev, cosine, IsLength};
+ghost use Rattle.av1_dct.specs.Cosine.{brev, cosine, IsLength};
+ghost use Rattle.av1_lists.specs.Lists.{by_index};
 
 use crate::steps::{sum_mirrored, turn_outer, turn_rounds};
 use crate::weights::{power, reversed_place, weight_of};

@@ -1,7 +1,7 @@
 //! Inverse cosine transforms of 4, 8, 16, 32 and 64 values: the inverse DCT process of the AV1 specification, with the weights, the
 //! rounding and the wrapped sums of rav1e.
 //!
-//! The crate stands on nothing but the standard library. It promises to the two-dimensional transforms above it:
+//! The crate stands on the standard library and on `av1_lists`. It promises to the two-dimensional transforms above it:
 //!
 //! - `av1_idct4` to `av1_idct64` give `cosine` of `specs/Cosine.antt` for their length, and leave the rest of `output` as it was.
 //!   `cosine_words` is the one function behind them, for every length and every `Word`: an `i32`, or eight of them side by side.

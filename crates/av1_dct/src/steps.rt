@@ -2,7 +2,8 @@ ghost use Rattle.std.specs.Prelude.{◌≡◌, ℕ, ◌+◌, ◌-◌, ◌*◌, �
 ghost use Rattle.av1_dct.specs.Arithmetic.{AllFit};
 ghost use Rattle.av1_dct.specs.Word.{column};
 ghost use Rattle.av1_dct.specs.InPlace.{inner_run};
-ghost use Rattle.av1_dct.specs.Cosine.{by_index, outer_turn, mirror_sum, group_sum, inner_turn, rounds};
+ghost use Rattle.av1_dct.specs.Cosine.{outer_turn, mirror_sum, group_sum, inner_turn, rounds};
+ghost use Rattle.av1_lists.specs.Lists.{by_index};
 
 use crate::weights::{inner_angle, outer_angle, power, weight_of};
 use crate::word::Word;

@@ -2,4 +2,5 @@ pub mod Lists
 pub mod Samples
 pub mod Parted
 pub mod WholePlane
-pub mod Taken
+pub mod Available
+pub mod Within

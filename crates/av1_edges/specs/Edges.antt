@@ -14,41 +14,42 @@ use Rattle.av1_frame.specs.Regions.{IsReadable}
 use Rattle.av1_avail.specs.Asked.{takes_above_right, takes_below_left}
 use Rattle.av1_avail.specs.Cells.{transform_columns, transform_rows}
 use Rattle.av1_edges.specs.declared.parts.Parts.{Parts}
-use Rattle.av1_edges.specs.declared.place.Place.{Place}
+use Rattle.av1_edges.specs.declared.position.TransformPosition.{TransformPosition}
 use Rattle.av1_edges.specs.Parts.{prepared_parts, step_of}
-use Rattle.av1_edges.specs.Sides.{base, listed, where_needed, num_avail, above_at, left_at, corner_at, smoothed}
+use Rattle.av1_edges.specs.Sides.{base, where_needed, num_avail, above_at, left_at, corner_at, smoothed}
+use Rattle.av1_lists.specs.Lists.{by_index}
 
 -- ---- the region
 
 -- the number of the sample at column x of row y of the region, counted from its first
 abbrev pub region_sample : {T : Type 0} → (T → ℕ) → PlaneRegion T → ℕ → ℕ → ℕ
-region_sample num r x y = slice_index (map num r.plane.now.samples) (row_start r.plane_cfg.stride r.place y + x)
+region_sample num r x y = slice_index (map num r.plane.now.samples) (row_start r.plane_cfg.stride r.area y + x)
 
 -- how many of its columns and rows lie in the visible plane
 abbrev pub visible_columns : {T : Type 0} → PlaneRegion T → ℕ
-visible_columns r = min r.place.width (r.plane_cfg.xorigin + r.plane_cfg.width - r.place.x)
+visible_columns r = min r.area.width (r.plane_cfg.xorigin + r.plane_cfg.width - r.area.x)
 
 abbrev pub visible_rows : {T : Type 0} → PlaneRegion T → ℕ
-visible_rows r = min r.place.height (r.plane_cfg.yorigin + r.plane_cfg.height - r.place.y)
+visible_rows r = min r.area.height (r.plane_cfg.yorigin + r.plane_cfg.height - r.area.y)
 
 -- the region lies in storage and begins in the visible plane
 pub record BeginsVisible {T : Type 0} (r : PlaneRegion T) : Type 0 where
   pub readable : IsReadable r
-  pub left : r.plane_cfg.xorigin ≤ r.place.x
-  pub top : r.plane_cfg.yorigin ≤ r.place.y
-  pub right : r.place.x < r.plane_cfg.xorigin + r.plane_cfg.width
-  pub bottom : r.place.y < r.plane_cfg.yorigin + r.plane_cfg.height
+  pub left : r.plane_cfg.xorigin ≤ r.area.x
+  pub top : r.plane_cfg.yorigin ≤ r.area.y
+  pub right : r.area.x < r.plane_cfg.xorigin + r.plane_cfg.width
+  pub bottom : r.area.y < r.plane_cfg.yorigin + r.plane_cfg.height
 
--- the place's first sample lies in that part, and its units in the block are few
-pub record PlaceFits {T : Type 0} (r : PlaneRegion T) (at : Place) : Type 0 where
+-- the transform's first sample lies in that part, and its units in the block are few
+pub record PositionFits {T : Type 0} (r : PlaneRegion T) (at : TransformPosition) : Type 0 where
   pub column : at.x < visible_columns r
   pub row : at.y < visible_rows r
   pub few_columns : at.bx * transform_columns at.tx_size < 2 ^ 16
   pub few_rows : at.by * transform_rows at.tx_size < 2 ^ 16
 
--- the place of a transform of a block, whose first sample is at po
-abbrev pub place_of : TileBlockOffset → (bx by : ℕ) → BlockSize → PlaneOffset → TxSize → Place
-place_of partition_bo bx by partition_size po tx_size = record {
+-- the position of a transform of a block, whose first sample is at po
+abbrev pub position_of : TileBlockOffset → (bx by : ℕ) → BlockSize → PlaneOffset → TxSize → TransformPosition
+position_of partition_bo bx by partition_size po tx_size = record {
   x = unsigned_abs po.x;
   y = unsigned_abs po.y;
   tx_size = tx_size;
@@ -60,14 +61,14 @@ place_of partition_bo bx by partition_size po tx_size = record {
 
 -- ---- what is coded before the transform
 
--- the samples above right of it may be taken
-abbrev pub has_above_right : {T : Type 0} → PlaneRegion T → Place → Bool
+-- the samples above right of it are available
+abbrev pub has_above_right : {T : Type 0} → PlaneRegion T → TransformPosition → Bool
 has_above_right r at =
     let cfg = r.plane_cfg in
     takes_above_right at.partition_size at.partition_bo.0.x at.partition_bo.0.y at.tx_size at.bx at.by cfg.xdec cfg.ydec at.x (visible_columns r)
 
--- the samples below left of it may be taken
-abbrev pub has_below_left : {T : Type 0} → PlaneRegion T → Place → Bool
+-- the samples below left of it are available
+abbrev pub has_below_left : {T : Type 0} → PlaneRegion T → TransformPosition → Bool
 has_below_left r at =
     let cfg = r.plane_cfg in
     takes_below_left at.partition_size at.partition_bo.0.x at.partition_bo.0.y at.tx_size at.bx at.by cfg.xdec cfg.ydec at.y (visible_rows r)
@@ -80,12 +81,12 @@ pub record Edge : Type 0 where
   pub left : List ℕ
   pub corner : ℕ
 
--- how many samples above it, and to its left, are taken: past the transform at most as many as its lesser side
-abbrev pub num_avail_above : {T : Type 0} → PlaneRegion T → Place → Bool → ℕ
+-- how many samples above it, and to its left, are available: past the transform at most as many as its lesser side
+abbrev pub num_avail_above : {T : Type 0} → PlaneRegion T → TransformPosition → Bool → ℕ
 num_avail_above r at goes_on =
     num_avail (visible_columns r) at.x (tx_width at.tx_size) goes_on (min (tx_width at.tx_size) (tx_height at.tx_size))
 
-abbrev pub num_avail_left : {T : Type 0} → PlaneRegion T → Place → Bool → ℕ
+abbrev pub num_avail_left : {T : Type 0} → PlaneRegion T → TransformPosition → Bool → ℕ
 num_avail_left r at goes_on =
     num_avail (visible_rows r) at.y (tx_height at.tx_size) goes_on (min (tx_width at.tx_size) (tx_height at.tx_size))
 
@@ -99,19 +100,19 @@ abbrev pub left_places : Parts → TxSize → ℕ
 left_places parts tx_size = where_needed parts.left (tx_height tx_size) + where_needed parts.below_left (tx_width tx_size)
 
 -- the edge of which these parts are prepared
-unfoldable pub edge_of_parts : {T : Type 0} → (T → ℕ) → PlaneRegion T → Place → (depth : ℕ) → Parts → Edge
+unfoldable pub edge_of_parts : {T : Type 0} → (T → ℕ) → PlaneRegion T → TransformPosition → (depth : ℕ) → Parts → Edge
 edge_of_parts num r at depth parts =
     let sample = region_sample num r in
     let above = above_at sample (base depth) at.x at.y (num_avail_above r at (parts.above_right && has_above_right r at)) in
     let left = left_at sample (base depth) at.x at.y (num_avail_left r at (parts.below_left && has_below_left r at)) in
     let corner = if parts.corner then corner_at sample (base depth) at.x at.y else base depth in
     record {
-      above = listed (above_places parts at.tx_size) above;
-      left = listed (left_places parts at.tx_size) left;
+      above = by_index (above_places parts at.tx_size) above;
+      left = by_index (left_places parts at.tx_size) left;
       corner = if parts.smoothed then smoothed (left 0) corner (above 0) else corner;
     }
 
 -- the edge of a mode, where one is named
-abbrev pub prepared_edge : {T : Type 0} → (T → ℕ) → PlaneRegion T → Place → (depth : ℕ) → Option PredictionMode → (filter : Bool) → IntraParam → Edge
+abbrev pub prepared_edge : {T : Type 0} → (T → ℕ) → PlaneRegion T → TransformPosition → (depth : ℕ) → Option PredictionMode → (filter : Bool) → IntraParam → Edge
 prepared_edge num r at depth mode filter param =
     edge_of_parts num r at depth (prepared_parts filter mode (step_of param) at.x at.y (tx_width at.tx_size) (tx_height at.tx_size))

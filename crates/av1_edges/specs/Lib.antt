@@ -3,3 +3,4 @@ pub mod Sides
 pub mod Edges
 pub mod Counts
 pub mod Buffers
+pub mod Within

@@ -1,4 +1,4 @@
--- Which parts of the edge round a block its mode asks for.
+-- Which parts of the edge round a block its mode needs.
 -- AV1 specification: intra prediction process: general.
 use Rattle.std.specs.Prelude.{ℕ, zero, suc, ◌+◌, Bool, true, false, ◌&&◌, not, nat_lt, nat_le, ℤ, pos, ◌+ℤ◌, ◌*ℤ◌, int_lt, Option, Some, None}
 use Rattle.std.specs.Ordering.{int_eq}
@@ -53,7 +53,7 @@ abbrev pub smooths_corner : Bool → PredictionMode → ℤ → (w h : ℕ) → 
 smooths_corner filter mode step w h =
     filter && is_directional mode && int_lt (pos 90) (angle mode step) && int_lt (angle mode step) (pos 180) && nat_le 24 (w + h)
 
--- the parts that a mode in effect asks for, of a block of w by h samples at column x; filter says whether the edge filter is on
+-- the parts that a mode in effect needs, of a block of w by h samples at column x; filter says whether the edge filter is on
 abbrev pub parts_for : Bool → PredictionMode → ℤ → (x w h : ℕ) → Parts
 parts_for filter mode step x w h = record {
   left = needs_left mode x;
@@ -63,7 +63,7 @@ parts_for filter mode step x w h = record {
   smoothed = smooths_corner filter mode step w h;
 }
 
--- the parts that are prepared for a block at column x of row y: those that its mode asks for, and all where no mode is named
+-- the parts that are prepared for a block at column x of row y: those that its mode needs, and all where no mode is named
 abbrev pub prepared_parts : Bool → Option PredictionMode → ℤ → (x y w h : ℕ) → Parts
 prepared_parts filter None step x y w h = record { left = true; below_left = true; above_right = true; corner = true; smoothed = false }
 prepared_parts filter (Some mode) step x y w h = parts_for filter (effective mode x y) step x w h

@@ -1,7 +1,6 @@
 -- What stands at each place round a block. `sample x y` is the number of the sample at column x of row y.
 -- AV1 specification: intra prediction process: general, the preparation of the arrays AboveRow and LeftCol.
-use Rattle.std.specs.Prelude.{ℕ, zero, suc, ◌+◌, ◌-◌, ◌*◌, ◌/◌, ◌^◌, List, Bool, nat_lt, min, if◌then◌else◌, map}
-use Rattle.std.specs.List.{range_with_len}
+use Rattle.std.specs.Prelude.{ℕ, zero, suc, ◌+◌, ◌-◌, ◌*◌, ◌/◌, ◌^◌, Bool, nat_lt, min, if◌then◌else◌}
 
 -- half of the range of samples of this depth
 abbrev pub base : ℕ → ℕ
@@ -11,16 +10,12 @@ base depth = 128 * 2 ^ (depth - 8)
 abbrev pub where_needed : Bool → ℕ → ℕ
 where_needed b n = if b then n else 0
 
--- f 0, .., f (n - 1)
-abbrev pub listed : {A : Type 0} → ℕ → (ℕ → A) → List A
-listed n f = map f (range_with_len 0 n)
-
--- how many samples of a side are taken, whose `count` places begin at `first`: those before `limit`, and, where the side goes on, of a
+-- how many samples of a side are available, whose `count` places begin at `first`: those before `limit`, and, where the side goes on, of a
 -- run behind them too
 abbrev pub num_avail : (limit first count : ℕ) → Bool → (run : ℕ) → ℕ
 num_avail limit first count goes_on run = min count (limit - first) + where_needed goes_on (min run (limit - first - count))
 
--- place j above a block at column x of row y, of whose row above n samples are taken: one of these, and past the last that one again; in
+-- place j above a block at column x of row y, of whose row above n samples are available: one of these, and past the last that one again; in
 -- the first row the sample to the left of the block; and where there is neither, half of the range less 1
 abbrev pub above_at : (ℕ → ℕ → ℕ) → (half x y n : ℕ) → ℕ → ℕ
 above_at sample half x y n j =

@@ -4,8 +4,8 @@ ghost use Rattle.std.specs.Prelude.{◌≡◌, IfOk, vec_len};
 ghost use Rattle.av1_edges.specs.Counts.{counted};
 
 use av1_blocks::OutOfMemory;
-use av1_frame::Pixel;
-use std::alloc::{AllocError, Global};
+use av1_frame::{Pixel, zero_samples};
+use std::alloc::Global;
 
 /// The most places on one side of an edge: twice the side of the largest transform.
 pub(crate) const LONGEST_EDGE: usize = 128;
@@ -19,24 +19,13 @@ pub struct IntraEdgeBuffer<T> {
     pub(crate) ghost whole: { vec_len samples ≡ 257 },
 }
 
-/// As many samples of the number 0.
-fn samples<T: Pixel>(alloc: Global, count: usize) -> Result<Vec<T>, AllocError>
-    ensures { IfOk result (λ v. vec_len v ≡ count) }
-{
-    let mut samples = Vec::with_capacity(alloc, count)?;
-    for _i in 0..count {
-        samples.push(T::from_u32(0))?;
-    }
-    Ok(samples)
-}
-
 impl<T: Pixel> IntraEdgeBuffer<T> {
     /// A buffer in which no edge has been prepared.
     pub fn new(alloc: Global) -> Result<IntraEdgeBuffer<T>, OutOfMemory>
         ensures { IfOk result (λ buffer. buffer.prepared ≡ 0) }
     {
         Ok(IntraEdgeBuffer {
-            samples: samples(alloc, 2 * LONGEST_EDGE + 1)?,
+            samples: zero_samples(alloc, 2 * LONGEST_EDGE + 1)?,
             prepared: 0,
         })
     }

@@ -3,7 +3,8 @@
 //! AV1 specification: intra prediction process: general, the preparation of the arrays AboveRow and LeftCol.
 
 ghost use Rattle.std.specs.Prelude.{◌≡◌, ℕ, ◌+◌, ◌-◌, ◌^◌, ◌<◌, ◌≤◌, length, slice_index_or, min, map, reverse, if◌then◌else◌};
-ghost use Rattle.av1_edges.specs.Sides.{base, listed, above_at, left_at, corner_at, smoothed};
+ghost use Rattle.av1_edges.specs.Sides.{base, above_at, left_at, corner_at, smoothed};
+ghost use Rattle.av1_lists.specs.Lists.{by_index};
 ghost use Rattle.av1_edges.specs.Edges.{BeginsVisible, region_sample, visible_columns, visible_rows};
 
 use av1_frame::{Pixel, PlaneRegion};
@@ -41,7 +42,7 @@ pub fn base(bit_depth: usize) -> u32
 }
 
 /// The sample at column `x` of row `y` of the region.
-fn sample_of<T: Pixel>(dst: &PlaneRegion<'_, T>, x: usize, y: usize) -> T
+fn region_sample<T: Pixel>(dst: &PlaneRegion<'_, T>, x: usize, y: usize) -> T
     requires begins { BeginsVisible dst.now }
     requires column { x < visible_columns dst.now }
     requires row { y < visible_rows dst.now }
@@ -50,7 +51,7 @@ fn sample_of<T: Pixel>(dst: &PlaneRegion<'_, T>, x: usize, y: usize) -> T
     dst.row(y)[x]
 }
 
-/// The side above a block at column `x` of row `y`, as wide as `above`, of which `num_avail` samples are taken.
+/// The side above a block at column `x` of row `y`, as wide as `above`, of which `num_avail` samples are available.
 pub(crate) fn fill_above<T: Pixel>(
     above: &mut [T],
     dst: &PlaneRegion<'_, T>,
@@ -66,12 +67,12 @@ pub(crate) fn fill_above<T: Pixel>(
     requires row { y < visible_rows dst.now }
     requires low { 8 ≤ bit_depth }
     requires depth { bit_depth ≤ T.BITS }
-    ensures { map T.num above.new ≡ listed (length above.old) (above_at (region_sample T.num dst.now) (base bit_depth) x y num_avail) }
+    ensures { map T.num above.new ≡ by_index (length above.old) (above_at (region_sample T.num dst.now) (base bit_depth) x y num_avail) }
 {
     if y > 0 {
         extend_from(above, &dst.row(y - 1)[x..x + num_avail]);
     } else if x > 0 {
-        fill_with(above, sample_of(dst, x - 1, 0));
+        fill_with(above, region_sample(dst, x - 1, 0));
     } else {
         fill_with(above, T::from_u32(base(bit_depth) - 1));
     }
@@ -91,7 +92,7 @@ fn copy_column<T: Pixel>(left: &mut [T], dst: &PlaneRegion<'_, T>, x: usize, y: 
 }
 
 /// The side to the left of a block at column `x` of row `y`, from the bottom up, as high as `left`, of which
-/// `num_avail` samples are taken.
+/// `num_avail` samples are available.
 pub(crate) fn fill_left<T: Pixel>(
     left: &mut [T],
     dst: &PlaneRegion<'_, T>,
@@ -107,7 +108,7 @@ pub(crate) fn fill_left<T: Pixel>(
     requires rows { y + num_avail ≤ visible_rows dst.now }
     requires low { 8 ≤ bit_depth }
     requires depth { bit_depth ≤ T.BITS }
-    ensures { map T.num left.new ≡ reverse (listed (length left.old) (left_at (region_sample T.num dst.now) (base bit_depth) x y num_avail)) }
+    ensures { map T.num left.new ≡ reverse (by_index (length left.old) (left_at (region_sample T.num dst.now) (base bit_depth) x y num_avail)) }
 {
     if x > 0 {
         let rest = left.len() - num_avail;
@@ -115,18 +116,18 @@ pub(crate) fn fill_left<T: Pixel>(
         copy_column(inside, dst, x - 1, y);
         fill_with(below, inside[0]);
     } else if y > 0 {
-        fill_with(left, sample_of(dst, 0, y - 1));
+        fill_with(left, region_sample(dst, 0, y - 1));
     } else {
         fill_with(left, T::from_u32(base(bit_depth) + 1));
     }
 }
 
-/// The corner of a block at column `x` of row `y` where it is asked for, else half of the samples' range.
+/// The corner of a block at column `x` of row `y` where it is needed, else half of the samples' range.
 pub(crate) fn corner_of<T: Pixel>(
     dst: &PlaneRegion<'_, T>,
     x: usize,
     y: usize,
-    asked: bool,
+    needed: bool,
     bit_depth: usize,
 ) -> T
     requires begins { BeginsVisible dst.now }
@@ -134,10 +135,10 @@ pub(crate) fn corner_of<T: Pixel>(
     requires row { y < visible_rows dst.now }
     requires low { 8 ≤ bit_depth }
     requires depth { bit_depth ≤ T.BITS }
-    ensures { T.num result ≡ (if asked then corner_at (region_sample T.num dst.now) (base bit_depth) x y else base bit_depth) }
+    ensures { T.num result ≡ (if needed then corner_at (region_sample T.num dst.now) (base bit_depth) x y else base bit_depth) }
 {
-    if asked && x + y > 0 {
-        sample_of(dst, x.saturating_sub(1), y.saturating_sub(1))
+    if needed && x + y > 0 {
+        region_sample(dst, x.saturating_sub(1), y.saturating_sub(1))
     } else {
         T::from_u32(base(bit_depth))
     }

@@ -4,13 +4,13 @@ ghost use Rattle.std.specs.Prelude.{◌≡◌, ◌-◌, ◌<◌, ◌≤◌, [], 
 ghost use Rattle.std.specs.Borrow.{sem};
 ghost use Rattle.av1_frame.specs.Samples.{part};
 ghost use Rattle.av1_edges.specs.Buffers.{CountsOne};
-ghost use Rattle.av1_edges.specs.Edges.{BeginsVisible, PlaceFits, place_of, edge_of_parts, prepared_edge, above_places, left_places};
+ghost use Rattle.av1_edges.specs.Edges.{BeginsVisible, PositionFits, position_of, edge_of_parts, prepared_edge, above_places, left_places};
 
 use crate::buffer::{IntraEdgeBuffer, LONGEST_EDGE};
 use crate::edge::IntraEdge;
 use crate::fill::{corner_of, fill_above, fill_left, smooth_corner};
 use crate::parts::Parts;
-use crate::place::Place;
+use crate::position::TransformPosition;
 use av1_blocks::{BlockSize, IntraParam, PredictionMode, TxSize};
 use av1_frame::{Pixel, PlaneOffset, PlaneRegion, TileBlockOffset};
 
@@ -41,17 +41,17 @@ fn left_places(parts: Parts, tx_size: TxSize) -> usize
     }
 }
 
-/// The corner of the edge of `parts` whose sides are these, smoothed where that is asked for.
+/// The corner of the edge of `parts` whose sides are these, smoothed where that is needed.
 fn edge_corner<T: Pixel>(
     left: &[T],
     above: &[T],
     dst: &PlaneRegion<'_, T>,
-    at: Place,
+    at: TransformPosition,
     bit_depth: usize,
     parts: Parts,
 ) -> T
     requires begins { BeginsVisible dst.now }
-    requires fits { PlaceFits dst.now at }
+    requires fits { PositionFits dst.now at }
     requires low { 8 ≤ bit_depth }
     requires depth { bit_depth ≤ T.BITS }
     requires left_some { parts.smoothed ≡ true → 0 < length left.now }
@@ -73,13 +73,13 @@ fn edge_corner<T: Pixel>(
 fn fill_edge<T: Pixel>(
     samples: &mut [T],
     dst: &PlaneRegion<'_, T>,
-    at: Place,
+    at: TransformPosition,
     bit_depth: usize,
     parts: Parts,
 )
     requires whole { length samples.old ≡ 257 }
     requires begins { BeginsVisible dst.now }
-    requires fits { PlaceFits dst.now at }
+    requires fits { PositionFits dst.now at }
     requires low { 8 ≤ bit_depth }
     requires depth { bit_depth ≤ T.BITS }
     requires inside { 0 < at.x → parts.left ≡ true }
@@ -117,20 +117,20 @@ fn edge_in<T: Pixel>(edge_buf: &IntraEdgeBuffer<T>, left: usize, above: usize) -
     }
 }
 
-/// The place of a transform of a block, whose first sample is at `po`.
-fn place_of(
+/// The position of a transform of a block, whose first sample is at `po`.
+fn position_of(
     partition_bo: TileBlockOffset,
     bx: usize,
     by: usize,
     partition_size: BlockSize,
     po: PlaneOffset,
     tx_size: TxSize,
-) -> Place
+) -> TransformPosition
     requires column { pos 0 ≤ℤ po.x }
     requires row { pos 0 ≤ℤ po.y }
-    ensures { result ≡ place_of partition_bo bx by partition_size po tx_size }
+    ensures { result ≡ position_of partition_bo bx by partition_size po tx_size }
 {
-    Place {
+    TransformPosition {
         x: po.x as usize,
         y: po.y as usize,
         tx_size,
@@ -150,11 +150,11 @@ fn place_of(
 /// The side above holds the row above the transform from its first column on, as many samples as it is wide; the side to the left holds
 /// the column before it, as many as it is high. At the region's upper end the former is the sample to the left of the transform, and at
 /// the left end the latter is the sample above it, again and again; where there is neither, they are half of the range of samples of
-/// `bit_depth` less 1 and plus 1. What continues them, where the angle of `opt_mode` and `intra_param` asks for it, is taken as far as
+/// `bit_depth` less 1 and plus 1. What continues them, where the angle of `opt_mode` and `intra_param` needs it, is read as far as
 /// the lesser side of the transform, where `has_top_right` or `has_bottom_left` says that it is coded before. Past the last sample that
-/// is taken, and at the ends of the region, that one is repeated. The left side is empty for a mode that takes a mean, at the left end.
+/// is available, and at the ends of the region, that one is repeated. The left side is empty for a mode that takes a mean, at the left end.
 ///
-/// The corner is half of the range unless the mode asks for it. Where `enable_intra_edge_filter` is set, it is smoothed for an angle
+/// The corner is half of the range unless the mode needs it. Where `enable_intra_edge_filter` is set, it is smoothed for an angle
 /// between 90 and 180 degrees and sides that come to 24 or more.
 ///
 /// AV1 specification: intra prediction process: general; for the smoothing filter corner process.
@@ -175,15 +175,15 @@ pub fn get_intra_edges<'a, T: Pixel>(
     requires begins { BeginsVisible dst.now }
     requires column { pos 0 ≤ℤ po.x }
     requires row { pos 0 ≤ℤ po.y }
-    requires fits { PlaceFits dst.now (place_of partition_bo bx by partition_size po tx_size) }
+    requires fits { PositionFits dst.now (position_of partition_bo bx by partition_size po tx_size) }
     requires low { 8 ≤ bit_depth }
     requires depth { bit_depth ≤ T.BITS }
     ensures* count { sem 𝓛 (CountsOne T.row edge_buf.entry) }
-    ensures left { map T.num result.left.now ≡ reverse (prepared_edge T.num dst.now (place_of partition_bo bx by partition_size po tx_size) bit_depth opt_mode enable_intra_edge_filter intra_param).left }
-    ensures corner { map T.num result.top_left.now ≡ (prepared_edge T.num dst.now (place_of partition_bo bx by partition_size po tx_size) bit_depth opt_mode enable_intra_edge_filter intra_param).corner ∷ [] }
-    ensures above { map T.num result.above.now ≡ (prepared_edge T.num dst.now (place_of partition_bo bx by partition_size po tx_size) bit_depth opt_mode enable_intra_edge_filter intra_param).above }
+    ensures left { map T.num result.left.now ≡ reverse (prepared_edge T.num dst.now (position_of partition_bo bx by partition_size po tx_size) bit_depth opt_mode enable_intra_edge_filter intra_param).left }
+    ensures corner { map T.num result.top_left.now ≡ (prepared_edge T.num dst.now (position_of partition_bo bx by partition_size po tx_size) bit_depth opt_mode enable_intra_edge_filter intra_param).corner ∷ [] }
+    ensures above { map T.num result.above.now ≡ (prepared_edge T.num dst.now (position_of partition_bo bx by partition_size po tx_size) bit_depth opt_mode enable_intra_edge_filter intra_param).above }
 {
-    let at = place_of(partition_bo, bx, by, partition_size, po, tx_size);
+    let at = position_of(partition_bo, bx, by, partition_size, po, tx_size);
     let parts = Parts::prepared(
         enable_intra_edge_filter,
         opt_mode,

@@ -11,6 +11,7 @@
 //!   smoothed.
 //! - A buffer counts the edges that were prepared in it, by one for each call, up to the last value of a `u64`. No other call
 //!   changes the count.
+//! - `prepared_edges_lie_within` is a law: the numbers of an edge lie within the depth that the region's visible samples lie within.
 //!
 //! An edge lies in its buffer: only `IntraEdgeBuffer::new` allocates, and samples are copied once, above by rows and to the left by
 //! columns. Columns, rows, sides and lengths are counted in samples of the region; cells are 4 by 4 luma samples.
@@ -22,12 +23,15 @@ mod buffer;
 mod edge;
 mod fill;
 mod intra_edges;
+mod laws;
 mod parts;
-mod place;
+mod position;
 #[cfg(test)]
 mod tests;
 
 pub use buffer::IntraEdgeBuffer;
 pub use edge::IntraEdge;
-pub use fill::{extend_from, fill_with, base};
+pub use fill::{base, extend_from, fill_with};
 pub use intra_edges::get_intra_edges;
+pub use laws::prepared_edges_lie_within;
+pub use parts::effective;

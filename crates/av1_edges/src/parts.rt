@@ -23,8 +23,9 @@ pub(crate) struct Parts {
     pub(crate) smoothed: bool,
 }
 
-/// The mode that a block at column `x` of row `y` is predicted by.
-fn effective(mode: PredictionMode, x: usize, y: usize) -> PredictionMode
+/// The mode that a block at column `x` of row `y` of its tile is predicted by: at the left and upper end Paeth prediction has
+/// fewer neighbours.
+pub fn effective(mode: PredictionMode, x: usize, y: usize) -> PredictionMode
     ensures { result ≡ effective mode x y }
 {
     match (mode, x, y) {
@@ -52,7 +53,7 @@ fn angle(mode: PredictionMode, step: i8) -> isize
     intra_mode_to_angle(mode) + isize::from(ANGLE_STEP) * isize::from(step)
 }
 
-/// The mode asks for the samples to the left of a block at column `x`.
+/// The mode needs the samples to the left of a block at column `x`.
 fn needs_left(mode: PredictionMode, x: usize) -> bool
     ensures value { result ≡ needs_left mode x }
     ensures inside { 0 < x → result ≡ true }
@@ -63,21 +64,21 @@ fn needs_left(mode: PredictionMode, x: usize) -> bool
     }
 }
 
-/// The mode asks for the samples below those to the left.
+/// The mode needs the samples below those to the left.
 fn needs_below_left(mode: PredictionMode, step: i8) -> bool
     ensures { result ≡ needs_below_left mode step }
 {
     mode.is_directional() && angle(mode, step) > 180
 }
 
-/// The mode asks for the samples to the right of those above.
+/// The mode needs the samples to the right of those above.
 fn needs_above_right(mode: PredictionMode, step: i8) -> bool
     ensures { result ≡ needs_above_right mode step }
 {
     mode.is_directional() && angle(mode, step) < 90
 }
 
-/// The mode asks for the corner.
+/// The mode needs the corner.
 fn needs_corner(mode: PredictionMode, step: i8) -> bool
     ensures { result ≡ needs_corner mode step }
 {
@@ -103,8 +104,8 @@ fn smooths_corner(filter: bool, mode: PredictionMode, step: i8, tx_size: TxSize)
 }
 
 impl Parts {
-    /// Those that the mode `mode` asks for where it is in effect.
-    fn asked(filter: bool, mode: PredictionMode, step: i8, x: usize, tx_size: TxSize) -> Parts
+    /// Those that the mode `mode` needs where it is in effect.
+    fn needed(filter: bool, mode: PredictionMode, step: i8, x: usize, tx_size: TxSize) -> Parts
         ensures value { result ≡ parts_for filter mode step x (tx_width tx_size) (tx_height tx_size) }
         ensures inside { 0 < x → result.left ≡ true }
         ensures smooth { result.smoothed ≡ true → result.left ≡ true }
@@ -118,7 +119,7 @@ impl Parts {
         }
     }
 
-    /// Those that are prepared for a block of `tx_size` at column `x` of row `y`: what its mode asks for, and
+    /// Those that are prepared for a block of `tx_size` at column `x` of row `y`: what its mode needs, and
     /// all but the smoothing where no mode is named.
     pub(crate) fn prepared(
         filter: bool,
@@ -133,7 +134,7 @@ impl Parts {
         ensures smooth { result.smoothed ≡ true → result.left ≡ true }
     {
         match opt_mode {
-            Some(mode) => Parts::asked(
+            Some(mode) => Parts::needed(
                 filter,
                 effective(mode, x, y),
                 step_of(intra_param),

@@ -5,7 +5,7 @@ ghost use Rattle.av1_frame.specs.Planes.{IsWhole};
 ghost use Rattle.av1_edges.specs.Edges.{BeginsVisible};
 ghost use Rattle.av1_edges.specs.Counts.{counted};
 
-use crate::place::{visible_columns, visible_rows};
+use crate::position::{visible_columns, visible_rows};
 use crate::{IntraEdge, IntraEdgeBuffer, get_intra_edges};
 use av1_blocks::{BlockSize, IntraParam, OutOfMemory, PredictionMode, TxSize};
 use av1_frame::{Area, BlockOffset, Pixel, Plane, PlaneOffset, PlaneRegion, TileBlockOffset};

@@ -26,7 +26,8 @@ gathered_is g s t e b h =
 -- gathered twice
 pub gathered_twice : {X : Type 0} (g h : ℕ → ℕ) (s : List X) → ((k : ℕ) → k < length s → g k < length s) → ((k : ℕ) → k < length s → h k < length s) → gathered h (gathered g s) ≡ gathered (λ k. g (h k)) s
 gathered_twice g h s b c =
-    gathered_is (λ k. g (h k)) s (gathered h (gathered g s)) (length-gathered h (gathered g s) ∙ length-gathered g s) (λ k l. b (h k) (c k l)) (λ k d l. get_or-gathered h (gathered g s) k d (omega (arith, length-gathered g s)) (omega (arith, length-gathered g s, c k l)) ∙ get_or-gathered g s (h k) d (c k l) (b (h k) (c k l)))
+    gathered_is (λ k. g (h k)) s (gathered h (gathered g s)) (length-gathered h (gathered g s) ∙ length-gathered g s) (λ k l. b (h k) (c k l))
+    (λ k d l. get_or-gathered h (gathered g s) k d (omega (arith, length-gathered g s)) (omega (arith, length-gathered g s, c k l)) ∙ get_or-gathered g s (h k) d (c k l) (b (h k) (c k l)))
 
 -- gathered from the same places
 pub gathered_same : {X : Type 0} (g h : ℕ → ℕ) (s : List X) → ((k : ℕ) → k < length s → h k < length s) → ((k : ℕ) → k < length s → g k ≡ h k) → gathered g s ≡ gathered h s
@@ -83,10 +84,14 @@ both_sides x w n k h l m =
 pub row_sides : {X : Type 0} (x w n : ℕ) (s t u : List X) → 0 < w → x + w ≤ length s → n ≡ length s → t ≡ gathered (spread_place x 0 x) s → u ≡ gathered (spread_place (x + w - 1) (x + w) n) t → u ≡ gathered (nearest x w) s
 row_sides x w n s t u h l e a b =
     let near : (k : ℕ) → k < length s → nearest x w k < length s = λ k m. omega arith in
-    b ∙ ap (gathered (spread_place (x + w - 1) (x + w) n)) a ∙ gathered_twice _ _ s (λ k m. spread_bound x 0 x (length s) k (omega arith) m) (λ k m. spread_bound (x + w - 1) (x + w) n (length s) k (omega arith) m) ∙ gathered_same _ (nearest x w) s near (λ k m. both_sides x w n k h (omega arith) (omega arith))
+    b ∙ ap (gathered (spread_place (x + w - 1) (x + w) n)) a
+    ∙ gathered_twice _ _ s (λ k m. spread_bound x 0 x (length s) k (omega arith) m) (λ k m. spread_bound (x + w - 1) (x + w) n (length s) k (omega arith) m)
+    ∙ gathered_same _ (nearest x w) s near (λ k m. both_sides x w n k h (omega arith) (omega arith))
 
 -- what a Vec of n elements s, seen as t, ends as after a copy within it
-pub vec_copied_is : {X : Type 0} (n from to w v : ℕ) (s o t u : List X) → o ≡ s → s ≡ t → n ≡ length s → length u ≡ length o → v ≡ w → ((k : ℕ) (d : X) → to ≤ k → k < to + v → get_or u k d ≡ get_or o (from + (k - to)) d) × ((k : ℕ) (d : X) → k < to → get_or u k d ≡ get_or o k d) × ((k : ℕ) (d : X) → to + v ≤ k → get_or u k d ≡ get_or o k d) → from + w ≤ length t → to + w ≤ length t → take n (u ++ drop (length u) s) ≡ with_part to t (part from w t)
+pub vec_copied_is : {X : Type 0} (n from to w v : ℕ) (s o t u : List X) → o ≡ s → s ≡ t → n ≡ length s → length u ≡ length o → v ≡ w
+    → ((k : ℕ) (d : X) → to ≤ k → k < to + v → get_or u k d ≡ get_or o (from + (k - to)) d) × ((k : ℕ) (d : X) → k < to → get_or u k d ≡ get_or o k d) × ((k : ℕ) (d : X) → to + v ≤ k → get_or u k d ≡ get_or o k d)
+    → from + w ≤ length t → to + w ≤ length t → take n (u ++ drop (length u) s) ≡ with_part to t (part from w t)
 vec_copied_is n from to w v s o t u a b e m f i hf ht =
     let l : length s ≡ length t = ap length b in
     let lo : length o ≡ length s = ap length a in
@@ -105,7 +110,9 @@ left_alone : {X : Type 0} (i k : ℕ) (a b : X) → k < i → cond (leb i k) a b
 left_alone i k a b h = grind (arith, nat_tests)
 
 -- one more row takes ws, which stood at the places that h names
-pub row_gathered : {X : Type 0} (stride y : ℕ) (g h : ℕ → ℕ) (s ws : List X) → 0 < stride → y * stride + stride ≤ length s → length ws ≡ stride → ((k : ℕ) → k < length s → g k < length s) → ((k : ℕ) → k < length s → h k < length s) → ((k : ℕ) → k < length s → k / stride ≢ y → h k ≡ g k) → ((c : ℕ) (d : X) → c < stride → get_or ws c d ≡ get_or s (h (y * stride + c)) d) → with_part (y * stride) (gathered g s) ws ≡ gathered h s
+pub row_gathered : {X : Type 0} (stride y : ℕ) (g h : ℕ → ℕ) (s ws : List X) → 0 < stride → y * stride + stride ≤ length s → length ws ≡ stride
+    → ((k : ℕ) → k < length s → g k < length s) → ((k : ℕ) → k < length s → h k < length s) → ((k : ℕ) → k < length s → k / stride ≢ y → h k ≡ g k)
+    → ((c : ℕ) (d : X) → c < stride → get_or ws c d ≡ get_or s (h (y * stride + c)) d) → with_part (y * stride) (gathered g s) ws ≡ gathered h s
 row_gathered stride y g h s ws z f e gb hb other row =
     gathered_is h s (with_part (y * stride) (gathered g s) ws) (length-update _ (gathered g s) ∙ length-gathered g s) hb (λ k d l.
     let t = gathered g s in
@@ -145,14 +152,17 @@ row_place_at stride from first end r c h = rw (at_row stride r c h, at_column st
 chosen_row : (first end from r stride c s : ℕ) → cond (leb first r && ltb r end) from r ≡ s → cond (leb first r && ltb r end) from r * stride + c ≡ s * stride + c
 chosen_row first end from r stride c s e = ap (λ n. n * stride + c) e
 
-pub rows_more : {X : Type 0} (stride from first y h : ℕ) (s : List X) → 0 < stride → length s ≡ h * stride → from < h → y < h → first ≤ y → (from < first) ⊎ (y < from) → with_part (y * stride) (gathered (row_place stride from first y) s) (part (from * stride) stride (gathered (row_place stride from first y) s)) ≡ gathered (row_place stride from first (y + 1)) s
+pub rows_more : {X : Type 0} (stride from first y h : ℕ) (s : List X) → 0 < stride → length s ≡ h * stride → from < h → y < h → first ≤ y
+    → (from < first) ⊎ (y < from)
+    → with_part (y * stride) (gathered (row_place stride from first y) s) (part (from * stride) stride (gathered (row_place stride from first y) s)) ≡ gathered (row_place stride from first (y + 1)) s
 rows_more stride from first y h s z e f l m apart =
     let g = row_place stride from first y in
     let t = gathered g s in
     let fy = row_end_le y h stride stride (length s) e l (omega arith) in
     let ff = row_end_le from h stride stride (length s) e f (omega arith) in
     let lt = length-gathered g s in
-    row_gathered stride y g (row_place stride from first (y + 1)) s (part (from * stride) stride t) z fy (grind (arith, places, lt, ff)) (λ k i. row_bound stride from first y h (length s) k z e f i) (λ k i. row_bound stride from first (y + 1) h (length s) k z e f i) (λ k i n. grind (arith, nat_tests)) (λ c d i.
+    row_gathered stride y g (row_place stride from first (y + 1)) s (part (from * stride) stride t) z fy (grind (arith, places, lt, ff)) (λ k i. row_bound stride from first y h (length s) k z e f i)
+    (λ k i. row_bound stride from first (y + 1) h (length s) k z e f i) (λ k i n. grind (arith, nat_tests)) (λ c d i.
     let a : from * stride + c < length s = omega (arith, ff, i) in
     let p : get_or (part (from * stride) stride t) c d ≡ get_or t (from * stride + c) d = grind (arith, places, lt, ff) in
     let u : g (from * stride + c) ≡ from * stride + c = row_place_at stride from first y from c i ∙ chosen_row first y from from stride c from (grind (arith, nat_tests)) in
@@ -179,7 +189,9 @@ side_place_at : (stride x w end r c : ℕ) → c < stride → side_place stride 
 side_place_at stride x w end r c h = rw (at_row stride r c h, at_column stride r c h) refl
 
 -- one more row whose sides were filled
-pub sides_more : {X : Type 0} (stride x w y h : ℕ) (s ws : List X) → 0 < w → x + w ≤ stride → length s ≡ h * stride → y < h → ws ≡ gathered (nearest x w) (part (y * stride) stride (gathered (side_place stride x w y) s)) → with_part (y * stride) (gathered (side_place stride x w y) s) ws ≡ gathered (side_place stride x w (y + 1)) s
+pub sides_more : {X : Type 0} (stride x w y h : ℕ) (s ws : List X) → 0 < w → x + w ≤ stride → length s ≡ h * stride → y < h
+    → ws ≡ gathered (nearest x w) (part (y * stride) stride (gathered (side_place stride x w y) s))
+    → with_part (y * stride) (gathered (side_place stride x w y) s) ws ≡ gathered (side_place stride x w (y + 1)) s
 sides_more stride x w y h s ws z f e l a =
     let g = side_place stride x w y in
     let t = gathered g s in

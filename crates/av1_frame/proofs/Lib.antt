@@ -7,3 +7,6 @@ pub mod Arithmetic
 pub mod Gather
 pub mod Padding
 pub mod Slices
+pub mod Depths
+pub mod RowParts
+pub mod Within

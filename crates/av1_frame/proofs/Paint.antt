@@ -27,6 +27,12 @@ paint_row_step c g s t x v a h e r =
     let y : x ≡ get_or s c x = e ∙ ap (λ u. get_or u c x) a ∙ (get_or-update _ s c x h ∙ grind (arith, nat_tests)) in
     ap (λ u. set u c v) a ∙ paint_row_more c g s v h (r ∙ ap (g c) (y ∙ get_or_default s c x v h))
 
+-- a loop that writes a row sample by sample
+pub ruleset row_painting = (paint_row_none, paint_row_more)
+
+-- a loop that reads each sample of a row and writes it
+pub ruleset row_repainting = (paint_row_none, paint_row_step)
+
 -- a painted rectangle leaves the number of samples
 pub length_paint : {X : Type 0} (stride : ℕ) (a : StoredArea) (f : ℕ → ℕ → X → X) (s : List X) → length (paint stride a f s) ≡ length s
 unfolding paint
@@ -56,7 +62,9 @@ with_row i n w k g s d q e l =
     ]
 
 -- the sample at row q and column p, when row r is painted
-row_painted : {X : Type 0} (stride : ℕ) (a : StoredArea) (w r k p q : ℕ) (f : ℕ → ℕ → X → X) (u v : X) → a.x + w ≤ stride → p < stride → k ≡ q * stride + p → u ≡ painted_at (corner a w r) f p q v → cond (leb ((a.y + r) * stride + a.x) k) (cond (ltb (k - ((a.y + r) * stride + a.x)) w) (f r (k - ((a.y + r) * stride + a.x)) u) u) u ≡ painted_at (corner a w (r + 1)) f p q v
+row_painted : {X : Type 0} (stride : ℕ) (a : StoredArea) (w r k p q : ℕ) (f : ℕ → ℕ → X → X) (u v : X) → a.x + w ≤ stride → p < stride
+    → k ≡ q * stride + p → u ≡ painted_at (corner a w r) f p q v
+    → cond (leb ((a.y + r) * stride + a.x) k) (cond (ltb (k - ((a.y + r) * stride + a.x)) w) (f r (k - ((a.y + r) * stride + a.x)) u) u) u ≡ painted_at (corner a w (r + 1)) f p q v
 row_painted stride a w r k p q f u v h l e t =
     elim (cases_order q (a.y + r)) [
       | inl b ↦ (let m : q * stride ≡ (a.y + r) * stride = ap (λ n. n * stride) b in grind (arith, nat_tests))
@@ -65,7 +73,9 @@ row_painted stride a w r k p q f u v h l e t =
     ]
 
 -- one more row of a rectangle
-pub paint_more : {X : Type 0} (stride : ℕ) (a : StoredArea) (w r n : ℕ) (f : ℕ → ℕ → X → X) (s : List X) → 0 < stride → a.x + n ≤ stride → w ≤ n → (a.y + r) * stride + a.x + n ≤ length s → with_part ((a.y + r) * stride + a.x) (paint stride (corner a w r) f s) (paint_row w (f r) (part ((a.y + r) * stride + a.x) n (paint stride (corner a w r) f s))) ≡ paint stride (corner a w (r + 1)) f s
+pub paint_more : {X : Type 0} (stride : ℕ) (a : StoredArea) (w r n : ℕ) (f : ℕ → ℕ → X → X) (s : List X) → 0 < stride → a.x + n ≤ stride → w ≤ n
+    → (a.y + r) * stride + a.x + n ≤ length s
+    → with_part ((a.y + r) * stride + a.x) (paint stride (corner a w r) f s) (paint_row w (f r) (part ((a.y + r) * stride + a.x) n (paint stride (corner a w r) f s))) ≡ paint stride (corner a w (r + 1)) f s
 unfolding paint paint_row
 paint_more stride a w r n f s z p q h =
     update_is _ s _ (grind (arith, length-update)) (λ k d l. let e : k ≡ k / stride * stride + k % stride = omega arith in
@@ -77,7 +87,9 @@ unfolding paint
 paint_at stride a f s p q d h l =
     get_or-update _ s (q * stride + p) d l ∙ rw (div-mul-add q stride p h, mod-mul-add q stride p h) refl
 
-pub paint_inside : {X : Type 0} (stride : ℕ) (a : StoredArea) (f : ℕ → ℕ → X → X) (s : List X) (r c : ℕ) (d : X) → r < a.height → c < a.width → a.x + a.width ≤ stride → (a.y + r) * stride + (a.x + c) < length s → get_or (paint stride a f s) ((a.y + r) * stride + (a.x + c)) d ≡ f r c (get_or s ((a.y + r) * stride + (a.x + c)) d)
+pub paint_inside : {X : Type 0} (stride : ℕ) (a : StoredArea) (f : ℕ → ℕ → X → X) (s : List X) (r c : ℕ) (d : X) → r < a.height → c < a.width
+    → a.x + a.width ≤ stride → (a.y + r) * stride + (a.x + c) < length s
+    → get_or (paint stride a f s) ((a.y + r) * stride + (a.x + c)) d ≡ f r c (get_or s ((a.y + r) * stride + (a.x + c)) d)
 paint_inside stride a f s r c d h e w l =
     let t = paint_at stride a f s (a.x + c) (a.y + r) d (omega arith) l in grind (arith, nat_tests)
 

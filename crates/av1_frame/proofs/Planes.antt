@@ -47,7 +47,9 @@ module _ {T : Type 0} (num : T → ℕ) (pixel : ℕ → T) (back : (v : T) → 
       let r : cfg.xorigin + x - (cfg.xorigin + a.x) ≡ x - a.x = omega arith in
       let e : f (cfg.yorigin + y - (cfg.yorigin + a.y)) (cfg.xorigin + x - (cfg.xorigin + a.x)) v ≡ f (y - a.y) (x - a.x) (pixel (sample_at num p x y)) =
       ap (λ n. f n (cfg.xorigin + x - (cfg.xorigin + a.x)) v) q ∙ ap (λ n. f (y - a.y) n v) r ∙ ap (f (y - a.y) (x - a.x)) (sym (back v) ∙ ap pixel (sym was)) in
-      get_or-map num (paint cfg.stride b f p.samples) k d 0 (omega (arith, l, length_paint cfg.stride b f p.samples)) ∙ ap num (paint_at cfg.stride b f p.samples (cfg.xorigin + x) (cfg.yorigin + y) d hx l) ∙ chosen num _ _ _ _ v _ (in_shifted cfg.xorigin cfg.yorigin x y a.x a.y a.width a.height) e (sym was)
+      get_or-map num (paint cfg.stride b f p.samples) k d 0 (omega (arith, l, length_paint cfg.stride b f p.samples))
+      ∙ ap num (paint_at cfg.stride b f p.samples (cfg.xorigin + x) (cfg.yorigin + y) d hx l)
+      ∙ chosen num _ _ _ _ v _ (in_shifted cfg.xorigin cfg.yorigin x y a.x a.y a.width a.height) e (sym was)
 
   -- the sample at row r and column c of the rectangle
   pub sample_at_inside : (r c : ℕ) → InPlane a p → r < a.height → c < a.width → sample_at num (painted_plane p a f) (a.x + c) (a.y + r) ≡ num (f r c (pixel (sample_at num p (a.x + c) (a.y + r))))
@@ -84,9 +86,12 @@ module _ {T : Type 0} (p : Plane T) (a : VisibleArea) (f : ℕ → ℕ → T →
   painted_plane_same g e = ap (λ (s : List T). record p { samples = s }) (paint_same p.plane_cfg.stride (stored_area p.plane_cfg a) f g p.samples e)
 
   -- the plane of a region that was made of p at that rectangle, painted and let go
-  pub region_painted : (r o : PlaneRegionMut T) → r.plane.now ≡ p → r.plane_cfg ≡ p.plane_cfg → r.place ≡ stored_area p.plane_cfg a → o ≡ painted r a.width a.height f → o.plane.now ≡ painted_plane p a f
+  pub region_painted : (r o : PlaneRegionMut T) → r.plane.now ≡ p → r.plane_cfg ≡ p.plane_cfg → r.area ≡ stored_area p.plane_cfg a → o ≡ painted r a.width a.height f → o.plane.now ≡ painted_plane p a f
   region_painted r o e h k t =
-      ap (λ (u : PlaneRegionMut T). u.plane.now) t ∙ ap (λ (b : StoredArea). record r.plane.now { samples = paint r.plane_cfg.stride (record { x = b.x; y = b.y; width = a.width; height = a.height }) f r.plane.now.samples }) k ∙ ap (λ (cfg : PlaneConfig). record r.plane.now { samples = paint cfg.stride (stored_area p.plane_cfg a) f r.plane.now.samples }) h ∙ ap (λ (u : Plane T). record u { samples = paint p.plane_cfg.stride (stored_area p.plane_cfg a) f u.samples }) e
+      ap (λ (u : PlaneRegionMut T). u.plane.now) t
+      ∙ ap (λ (b : StoredArea). record r.plane.now { samples = paint r.plane_cfg.stride (record { x = b.x; y = b.y; width = a.width; height = a.height }) f r.plane.now.samples }) k
+      ∙ ap (λ (cfg : PlaneConfig). record r.plane.now { samples = paint cfg.stride (stored_area p.plane_cfg a) f r.plane.now.samples }) h
+      ∙ ap (λ (u : Plane T). record u { samples = paint p.plane_cfg.stride (stored_area p.plane_cfg a) f u.samples }) e
 
 -- column c of row y of the rectangle a, read as a row
 pub row_sample_at : {T : Type 0} (num : T → ℕ) (p : Plane T) (a : VisibleArea) (y c : ℕ) → InPlane a p → y < a.height → c < a.width → slice_index (map num (row_of p.plane_cfg.stride (stored_area p.plane_cfg a) y p.samples)) c ≡ sample_at num p (a.x + c) (a.y + y)

@@ -6,7 +6,7 @@ use Rattle.av1_frame.specs.declared.plane_region.StoredArea.{StoredArea}
 use Rattle.av1_frame.specs.Samples.{corner, with_part, row_start, row_of, paint_row}
 use Rattle.av1_frame.specs.Areas.{IsStorage, AreaFits}
 use Rattle.av1_frame.specs.declared.plane.PlaneConfig.{PlaneConfig}
-use Rattle.av1_frame.specs.Regions.{painted, painted_within, with_samples, with_place, with_outer, outer_area, stored, InStorage}
+use Rattle.av1_frame.specs.Regions.{painted, painted_within, with_samples, with_area, with_outer, outer_area, stored, InStorage}
 use Rattle.av1_frame.proofs.Fits.{row_end_le}
 use Rattle.av1_frame.proofs.Paint.{paint_none, paint_more, paint_same, length_paint, length_with_part}
 
@@ -19,38 +19,45 @@ same_fits a cfg m n e h = subst (AreaFits a cfg) (sym e) h
 
 -- no row is painted yet
 pub painted_none : {T : Type 0} (r : PlaneRegionMut T) (w : ℕ) (f : ℕ → ℕ → T → T) → painted r w 0 f ≡ r
-painted_none r w f = ap (with_samples r) (sym (paint_none r.plane_cfg.stride r.place w f (stored r)))
+painted_none r w f = ap (with_samples r) (sym (paint_none r.plane_cfg.stride r.area w f (stored r)))
 
 module _ {T : Type 0} (r o : PlaneRegionMut T) (w y : ℕ) (f : ℕ → ℕ → T → T) where
   -- a region that was painted still lies in storage
   pub painted_in_storage : o ≡ painted r w y f → InStorage r → InStorage o
   painted_in_storage e h =
-      subst InStorage (sym e) (record { fits = same_fits r.place r.plane_cfg _ _ (length_paint _ _ f (stored r)) h.fits; cfg = h.cfg; rect = h.rect })
+      subst InStorage (sym e) (record { fits = same_fits r.area r.plane_cfg _ _ (length_paint _ _ f (stored r)) h.fits; cfg = h.cfg; rect = h.rect })
 
   -- one more row is painted and written back
-  pub painted_more : (row new : List T) → o ≡ painted r w y f → InStorage r → w ≤ r.place.width → y < r.place.height → row ≡ row_of o.plane_cfg.stride o.place y (stored o) → new ≡ paint_row w (f y) row → with_samples o (with_part (row_start o.plane_cfg.stride o.place y) (stored o) new) ≡ painted r w (y + 1) f
+  pub painted_more : (row new : List T) → o ≡ painted r w y f → InStorage r → w ≤ r.area.width → y < r.area.height
+      → row ≡ row_of o.plane_cfg.stride o.area y (stored o) → new ≡ paint_row w (f y) row
+      → with_samples o (with_part (row_start o.plane_cfg.stride o.area y) (stored o) new) ≡ painted r w (y + 1) f
   painted_more row new e h p q a b =
       let g = h.fits in
-      let c : new ≡ paint_row w (f y) (row_of o.plane_cfg.stride o.place y (stored o)) = b ∙ ap (paint_row w (f y)) a in
-      let l : (r.place.y + y) * r.plane_cfg.stride + (r.place.x + r.place.width) ≤ length (stored r) = row_end_le _ r.plane_cfg.alloc_height _ _ _ g.storage.fills (omega (arith, g.rows)) g.columns in
+      let c : new ≡ paint_row w (f y) (row_of o.plane_cfg.stride o.area y (stored o)) = b ∙ ap (paint_row w (f y)) a in
+      let l : (r.area.y + y) * r.plane_cfg.stride + (r.area.x + r.area.width) ≤ length (stored r) = row_end_le _ r.plane_cfg.alloc_height _ _ _ g.storage.fills (omega (arith, g.rows)) g.columns in
       let some : 0 < r.plane_cfg.stride = omega (arith, g.storage.some_columns, g.storage.visible_columns) in
-      ap (λ n. with_samples o (with_part (row_start o.plane_cfg.stride o.place y) (stored o) n)) c ∙ ap (λ u. with_samples u (with_part (row_start u.plane_cfg.stride u.place y) (stored u) (paint_row w (f y) (row_of u.plane_cfg.stride u.place y (stored u))))) e ∙ ap (with_samples r) (paint_more r.plane_cfg.stride r.place w y r.place.width f (stored r) some g.columns p (omega arith))
+      ap (λ n. with_samples o (with_part (row_start o.plane_cfg.stride o.area y) (stored o) n)) c
+      ∙ ap (λ u. with_samples u (with_part (row_start u.plane_cfg.stride u.area y) (stored u) (paint_row w (f y) (row_of u.plane_cfg.stride u.area y (stored u))))) e
+      ∙ ap (with_samples r) (paint_more r.plane_cfg.stride r.area w y r.area.width f (stored r) some g.columns p (omega arith))
 
   -- the same by another change that agrees on those rows and columns
   pub painted_same : (g : ℕ → ℕ → T → T) → o ≡ painted r w y f → ((q p : ℕ) (v : T) → q < y → p < w → f q p v ≡ g q p v) → o ≡ painted r w y g
   painted_same g e h = e ∙ ap (with_samples r) (paint_same r.plane_cfg.stride _ f g (stored r) h)
 
+-- a loop that writes a region row by row
+pub ruleset region_painting = (painted_none, painted_in_storage, painted_more)
+
 -- a region that was narrowed to the rectangle a, painted and restored
-pub restored : {T : Type 0} (r m o t : PlaneRegionMut T) (outer : OuterArea) (a : StoredArea) (w h : ℕ) (f : ℕ → ℕ → T → T) → outer ≡ outer_area r → m ≡ with_place r a → o ≡ painted m w h f → t ≡ with_outer o outer → t ≡ painted_within r (corner a w h) f
+pub restored : {T : Type 0} (r m o t : PlaneRegionMut T) (outer : OuterArea) (a : StoredArea) (w h : ℕ) (f : ℕ → ℕ → T → T) → outer ≡ outer_area r → m ≡ with_area r a → o ≡ painted m w h f → t ≡ with_outer o outer → t ≡ painted_within r (corner a w h) f
 restored r m o t outer a w h f e n p q =
     q ∙ ap (with_outer o) e ∙ ap (λ u. with_outer u (outer_area r)) (p ∙ ap (λ u. painted u w h f) n)
 
 -- a region that was painted in part still lies in storage
 pub painted_within_in_storage : {T : Type 0} (r o : PlaneRegionMut T) (a : StoredArea) (f : ℕ → ℕ → T → T) → o ≡ painted_within r a f → InStorage r → InStorage o
 painted_within_in_storage r o a f e h =
-    subst InStorage (sym e) (record { fits = same_fits r.place r.plane_cfg _ _ (length_paint _ _ f (stored r)) h.fits; cfg = h.cfg; rect = h.rect })
+    subst InStorage (sym e) (record { fits = same_fits r.area r.plane_cfg _ _ (length_paint _ _ f (stored r)) h.fits; cfg = h.cfg; rect = h.rect })
 
 -- a region of which a part of its samples was written still lies in storage
 pub written_in_storage : {T : Type 0} (r : PlaneRegionMut T) (i : ℕ) (ws : List T) → InStorage r → InStorage (with_samples r (with_part i (stored r) ws))
 written_in_storage r i ws h =
-    record { fits = same_fits r.place r.plane_cfg _ _ (length_with_part i (stored r) ws) h.fits; cfg = h.cfg; rect = h.rect }
+    record { fits = same_fits r.area r.plane_cfg _ _ (length_with_part i (stored r) ws) h.fits; cfg = h.cfg; rect = h.rect }

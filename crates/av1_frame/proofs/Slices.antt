@@ -29,7 +29,7 @@ nearest_is origin n (negsuc i) h l =
     let b : unsigned_abs (pos origin +ℤ negsuc i) < origin = omega (arith, ints, e) in
     omega (arith, b)
 
-visible_below : (n : ℕ) (z : ℤ) → 0 < n → nearest_visible n z < n
+pub visible_below : (n : ℕ) (z : ℤ) → 0 < n → nearest_visible n z < n
 visible_below n (pos i) h = omega arith
 visible_below n (negsuc i) h = h
 
@@ -65,7 +65,8 @@ padded_sample num p x y h s =
     let to = place_at cfg nx ny in
     let m : to < length p.samples = place_in_storage cfg (length p.samples) nx ny h (omega (arith, vx, h.visible_columns)) (omega (arith, vy, h.visible_rows)) in
     let e : g k ≡ to =
-    rw (div-mul-add row cfg.stride column c, mod-mul-add row cfg.stride column c) (ap (λ i. i * cfg.stride + nearest cfg.xorigin cfg.width column) (nearest_is cfg.yorigin cfg.height y h.some_rows s.top) ∙ ap (λ i. (cfg.yorigin + ny) * cfg.stride + i) (nearest_is cfg.xorigin cfg.width x h.some_columns s.left)) in
+    rw (div-mul-add row cfg.stride column c, mod-mul-add row cfg.stride column c) (ap (λ i. i * cfg.stride + nearest cfg.xorigin cfg.width column)
+    (nearest_is cfg.yorigin cfg.height y h.some_rows s.top) ∙ ap (λ i. (cfg.yorigin + ny) * cfg.stride + i) (nearest_is cfg.xorigin cfg.width x h.some_columns s.left)) in
     let d = some_item p.samples k l in
     get_or-map num (gathered g p.samples) k d 0 (omega (arith, l, length-gathered g p.samples)) ∙ ap num (get_or-gathered g p.samples k d l (omega (arith, e, m)) ∙ ap (λ i. get_or p.samples i d) e) ∙ sym (get_or-map num p.samples to d 0 m)
 

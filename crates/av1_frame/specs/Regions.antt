@@ -18,15 +18,15 @@ stored r = r.plane.now.samples
 
 -- the region r lies in its plane, and its settings and its rectangle are that plane's
 pub record InStorage {T : Type 0} (r : PlaneRegionMut T) : Type 0 where
-  pub fits : AreaFits r.place r.plane_cfg (length (stored r))
+  pub fits : AreaFits r.area r.plane_cfg (length (stored r))
   pub cfg : r.plane.now.plane_cfg ≡ r.plane_cfg
-  pub rect : r.rect ≡ rect_of r.plane_cfg r.place
+  pub rect : r.rect ≡ rect_of r.plane_cfg r.area
 
 -- the same of a region that is only read
 pub record IsReadable {T : Type 0} (r : PlaneRegion T) : Type 0 where
-  pub fits : AreaFits r.place r.plane_cfg (length r.plane.now.samples)
+  pub fits : AreaFits r.area r.plane_cfg (length r.plane.now.samples)
   pub cfg : r.plane.now.plane_cfg ≡ r.plane_cfg
-  pub rect : r.rect ≡ rect_of r.plane_cfg r.place
+  pub rect : r.rect ≡ rect_of r.plane_cfg r.area
 
 -- r with the plane p behind its reference, and all else as it is
 abbrev pub with_plane : {T : Type 0} → PlaneRegionMut T → Plane T → PlaneRegionMut T
@@ -37,20 +37,20 @@ abbrev pub with_samples : {T : Type 0} → PlaneRegionMut T → List T → Plane
 with_samples r ws = with_plane r (record r.plane.now { samples = ws })
 
 -- r as the rectangle a of its plane
-abbrev pub with_place : {T : Type 0} → PlaneRegionMut T → StoredArea → PlaneRegionMut T
-with_place r a = record r { place = a; rect = rect_of r.plane_cfg a }
+abbrev pub with_area : {T : Type 0} → PlaneRegionMut T → StoredArea → PlaneRegionMut T
+with_area r a = record r { area = a; rect = rect_of r.plane_cfg a }
 
 -- the rectangle that r is
 abbrev pub outer_area : {T : Type 0} → PlaneRegionMut T → OuterArea
-outer_area r = record { place = r.place; rect = r.rect }
+outer_area r = record { area = r.area; rect = r.rect }
 
 -- r as the rectangle that it was
 abbrev pub with_outer : {T : Type 0} → PlaneRegionMut T → OuterArea → PlaneRegionMut T
-with_outer r a = record r { place = a.place; rect = a.rect }
+with_outer r a = record r { area = a.area; rect = a.rect }
 
 -- r with each sample v of its first h rows and w columns turned to f ROW COLUMN v; all others stay
 abbrev pub painted : {T : Type 0} → PlaneRegionMut T → ℕ → ℕ → (ℕ → ℕ → T → T) → PlaneRegionMut T
-painted r w h f = with_samples r (paint r.plane_cfg.stride (corner r.place w h) f (stored r))
+painted r w h f = with_samples r (paint r.plane_cfg.stride (corner r.area w h) f (stored r))
 
 -- r with each sample v of the rectangle a of its plane turned to f ROW COLUMN v; all others stay
 abbrev pub painted_within : {T : Type 0} → PlaneRegionMut T → StoredArea → (ℕ → ℕ → T → T) → PlaneRegionMut T
@@ -62,7 +62,7 @@ region_row T = region.the_row (record { mir = named 1; lft = [] }) T
 
 -- what is written through row y of r stands in r
 abbrev pub LendsRow : (T : RattleType) → MutBor (PlaneRegionMut T.Denot) → ℕ → MutBor (List T.Denot) → Fml
-LendsRow T r y result = Lends (region_row T) (Array T 0) r result (λ ws. with_samples r.now (with_part (row_start r.now.plane_cfg.stride r.now.place y) (stored r.now) ws))
+LendsRow T r y result = Lends (region_row T) (Array T 0) r result (λ ws. with_samples r.now (with_part (row_start r.now.plane_cfg.stride r.now.area y) (stored r.now) ws))
 
 -- what is written through a part of r, as a region of its own, stands in r
 abbrev pub LendsSub : (T : RattleType) → MutBor (PlaneRegionMut T.Denot) → PlaneRegionMut T.Denot → Fml

@@ -1,16 +1,19 @@
 //! Samples, planes of them, and the rectangles in a plane that predictions and transforms read and write.
 //!
-//! The crate stands on the standard library and on `av1_blocks`, for the names of modes, references and filters. Its modules,
-//! names and values are those of rav1e, and of v_frame on which that stands.
+//! The crate stands on the standard library, on `av1_lists`, and on `av1_blocks`, for the names of modes, references and
+//! filters. Its modules, names and values are those of rav1e, and of v_frame on which that stands.
 //!
 //! To the crates above it promises:
 //! - `Pixel` and `Coefficient` are numbers of a fixed width: number and value go back and forth, and samples are ordered as
 //!   their numbers are.
-//! - A row of a region or of a slice is the plane's samples.
+//! - `clip` is the sample of a depth that is nearest to a number.
+//! - A row of a region or of a slice is the plane's samples. `fill_row` and `copy_row` change the first samples of a row.
 //! - What is written through a region stands in the plane when the borrow ends, and all other samples, the settings and the
 //!   rectangle stay. A call that writes says so in one equation, `output.new ≡ painted output.old width height f`, where
 //!   `f row column old` is the new sample (`specs/Regions.antt`). For a caller that counts from the first visible sample the
-//!   same is `painted_plane` (`specs/Planes.antt`), and `proofs/Planes.antt` reads it sample by sample.
+//!   same is `painted_plane` (`specs/Planes.antt`), and `proofs/Planes.antt` reads it sample by sample. A loop that writes row by
+//!   row is proved by the lemmas `region_painting` (`proofs/Regions.antt`), one that writes a row by `row_painting`
+//!   (`proofs/Paint.antt`).
 //! - `Plane::pad` leaves every visible sample, and after it a stored place outside is the nearest visible sample.
 //! - A slot of `FrameInvariants` holds the planes that were put there last.
 //!
@@ -30,6 +33,7 @@ mod pixel;
 mod plane;
 mod plane_region;
 mod plane_slice;
+mod rows;
 mod slots;
 mod storage;
 #[cfg(test)]
@@ -38,9 +42,10 @@ mod tile_state;
 
 pub use block_unit::{BlockOffset, TileBlockOffset};
 pub use frame_invariants::FrameInvariants;
-pub use math::{clamp, round_shift};
+pub use math::{clamp, clip, round_shift};
 pub use pixel::{Coefficient, Pixel, coefficient_laws, pixel_laws};
 pub use plane::{Plane, PlaneConfig, PlaneOffset};
 pub use plane_region::{Area, OuterArea, PlaneRegion, PlaneRegionMut, Rect};
 pub use plane_slice::PlaneSlice;
+pub use rows::{copy_row, fill_row, zero_coefficients, zero_samples};
 pub use tile_state::{CodedBlockInfo, TileRect, TileStateMut};

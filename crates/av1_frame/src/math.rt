@@ -1,8 +1,10 @@
 //! Arithmetic on numbers of samples.
 
-ghost use Rattle.std.specs.Prelude.{◌≡◌, ◌/◌, ◌≤◌, ◌^◌, ◌<ℤ◌, pos, ◌+ℤ◌, ◌≤ℤ◌};
+ghost use Rattle.std.specs.Prelude.{◌≡◌, ◌/◌, ◌≤◌, ◌<◌, ◌^◌, ◌<ℤ◌, pos, ◌+ℤ◌, ◌≤ℤ◌};
 ghost use Rattle.std.specs.Int.{int_min, int_max};
-ghost use Rattle.av1_frame.specs.Arithmetic.{round_shift};
+ghost use Rattle.av1_frame.specs.Arithmetic.{clip, round_shift};
+
+use crate::pixel::Pixel;
 
 /// `v` divided by 2 to the power of `bit` and rounded to the nearest number, up where two are as near
 /// (the specification's Round2). The sum of `v` and half of that power fits.
@@ -21,4 +23,23 @@ pub fn clamp(v: i32, low: i32, high: i32) -> i32
     ensures { result ≡ int_min (int_max v low) high }
 {
     v.max(low).min(high)
+}
+
+/// The sample of the depth `bit_depth` that is nearest to `value` (the specification's Clip1).
+#[inline]
+pub fn clip<T: Pixel>(value: i32, bit_depth: usize) -> T
+    requires depth { bit_depth ≤ T.BITS }
+    ensures { result ≡ T.pixel (clip bit_depth value) }
+{
+    T::from_u32(clip_number(value, bit_depth))
+}
+
+/// The number of that sample.
+#[inline]
+fn clip_number(value: i32, bit_depth: usize) -> u32
+    requires depth { bit_depth ≤ 16 }
+    ensures value { result ≡ clip bit_depth value }
+    ensures fits { result < 2 ^ bit_depth }
+{
+    clamp(value, 0, (1 << bit_depth) - 1) as u32
 }

@@ -188,7 +188,7 @@ impl<T: Pixel> Plane<T> {
         requires { IsWhole self.now }
         ensures plane { result.plane.now ≡ self.now }
         ensures cfg { result.plane_cfg ≡ self.now.plane_cfg }
-        ensures place { result.place ≡ stored_area self.now.plane_cfg (all_visible self.now.plane_cfg) }
+        ensures area { result.area ≡ stored_area self.now.plane_cfg (all_visible self.now.plane_cfg) }
         ensures fits { IsReadable result }
     {
         self.region(Area::Rect {
@@ -205,7 +205,7 @@ impl<T: Pixel> Plane<T> {
         ensures same_reference { result.plane.ghost_name ≡ self.entry.ghost_name }
         ensures plane { result.plane.now ≡ self.old }
         ensures cfg { result.plane_cfg ≡ self.old.plane_cfg }
-        ensures place { result.place ≡ stored_area self.old.plane_cfg (all_visible self.old.plane_cfg) }
+        ensures area { result.area ≡ stored_area self.old.plane_cfg (all_visible self.old.plane_cfg) }
         ensures fits { InStorage result }
     {
         let width = self.plane_cfg.width;
@@ -224,16 +224,16 @@ impl<T: Pixel> Plane<T> {
         requires area { IsStored self.now.plane_cfg area }
         ensures plane { result.plane.now ≡ self.now }
         ensures cfg { result.plane_cfg ≡ self.now.plane_cfg }
-        ensures place { result.place ≡ area_from self.now.plane_cfg (from_origin self.now.plane_cfg) area }
+        ensures area { result.area ≡ area_from self.now.plane_cfg (from_origin self.now.plane_cfg) area }
         ensures fits { IsReadable result }
     {
         let plane_cfg = self.plane_cfg;
-        let place = StoredArea::from_origin(plane_cfg).part(plane_cfg, area);
+        let inner = StoredArea::from_origin(plane_cfg).inner(plane_cfg, area);
         PlaneRegion {
             plane: self,
             plane_cfg,
-            place,
-            rect: place.rect(plane_cfg),
+            area: inner,
+            rect: inner.rect(plane_cfg),
         }
     }
 
@@ -245,16 +245,16 @@ impl<T: Pixel> Plane<T> {
         ensures same_reference { result.plane.ghost_name ≡ self.entry.ghost_name }
         ensures plane { result.plane.now ≡ self.old }
         ensures cfg { result.plane_cfg ≡ self.old.plane_cfg }
-        ensures place { result.place ≡ area_from self.old.plane_cfg (from_origin self.old.plane_cfg) area }
+        ensures area { result.area ≡ area_from self.old.plane_cfg (from_origin self.old.plane_cfg) area }
         ensures fits { InStorage result }
     {
         let plane_cfg = self.plane_cfg;
-        let place = StoredArea::from_origin(plane_cfg).part(plane_cfg, area);
-        let rect = place.rect(plane_cfg);
+        let inner = StoredArea::from_origin(plane_cfg).inner(plane_cfg, area);
+        let rect = inner.rect(plane_cfg);
         PlaneRegionMut {
             plane: self,
             plane_cfg,
-            place,
+            area: inner,
             rect,
         }
     }

@@ -4,7 +4,7 @@ ghost use Rattle.std.specs.Prelude.{◌≡◌, ℕ, ◌+◌, ◌-◌, ◌*◌, �
 ghost use Rattle.std.specs.Borrow.{sem};
 ghost use Rattle.av1_frame.specs.Samples.{row_of};
 ghost use Rattle.av1_frame.specs.Areas.{area_from, from_origin, rect_of, LiesIn, IsPartOf};
-ghost use Rattle.av1_frame.specs.Regions.{LendsRow, LendsSub, InStorage, IsReadable, stored, with_place, with_outer, outer_area};
+ghost use Rattle.av1_frame.specs.Regions.{LendsRow, LendsSub, InStorage, IsReadable, stored, with_area, with_outer, outer_area};
 
 use crate::block_unit::BlockOffset;
 use crate::pixel::Pixel;
@@ -70,7 +70,7 @@ impl StoredArea {
     }
 
     /// The rectangle that `area` names, which counts from the first sample of this one.
-    pub(crate) fn part(self, plane_cfg: PlaneConfig, area: Area) -> StoredArea
+    pub(crate) fn inner(self, plane_cfg: PlaneConfig, area: Area) -> StoredArea
         requires few_columns { plane_cfg.stride < 2 ^ 63 }
         requires few_rows { plane_cfg.alloc_height < 2 ^ 63 }
         requires xdec { plane_cfg.xdec ≤ 1 }
@@ -125,7 +125,7 @@ impl StoredArea {
 /// The rectangle that a region had before it was narrowed, for `PlaneRegionMut::restore`.
 #[derive(Clone, Copy, Debug, PartialEq, Eq)]
 pub struct OuterArea {
-    place: StoredArea,
+    area: StoredArea,
     rect: Rect,
 }
 
@@ -135,7 +135,7 @@ pub struct PlaneRegion<'a, T> {
     pub(crate) plane: &'a Plane<T>,
     /// The plane's settings.
     pub plane_cfg: PlaneConfig,
-    pub(crate) place: StoredArea,
+    pub(crate) area: StoredArea,
     pub(crate) rect: Rect,
 }
 
@@ -145,7 +145,7 @@ pub struct PlaneRegionMut<'a, T> {
     pub(crate) plane: &'a mut Plane<T>,
     /// The plane's settings.
     pub plane_cfg: PlaneConfig,
-    pub(crate) place: StoredArea,
+    pub(crate) area: StoredArea,
     pub(crate) rect: Rect,
 }
 
@@ -160,31 +160,31 @@ impl<'a, T: Pixel> PlaneRegion<'a, T> {
     /// Row `y` of the rectangle, from its first row on.
     #[tactic(auto, using(crate::proofs::Fits::row_end_le))]
     pub fn row(&self, y: usize) -> &[T]
-        requires in_area { y < self.now.place.height }
+        requires in_area { y < self.now.area.height }
         requires fits { IsReadable self.now }
-        ensures value { result.now ≡ row_of self.now.plane_cfg.stride self.now.place y self.now.plane.now.samples }
-        ensures len { length result.now ≡ self.now.place.width }
+        ensures value { result.now ≡ row_of self.now.plane_cfg.stride self.now.area y self.now.plane.now.samples }
+        ensures len { length result.now ≡ self.now.area.width }
     {
-        let start = (self.place.y + y) * self.plane_cfg.stride + self.place.x;
-        part_of(self.plane.as_slice(), start, self.place.width)
+        let start = (self.area.y + y) * self.plane_cfg.stride + self.area.x;
+        part_of(self.plane.as_slice(), start, self.area.width)
     }
 
     /// The rectangle `area` of this one. A `Rect` counts from the region's first sample.
     pub fn subregion(&self, area: Area) -> PlaneRegion<'_, T>
         requires fits { IsReadable self.now }
-        requires area { IsPartOf self.now.plane_cfg self.now.place area }
+        requires area { IsPartOf self.now.plane_cfg self.now.area area }
         ensures plane { result.plane.now ≡ self.now.plane.now }
-        ensures place { result.place ≡ area_from self.now.plane_cfg self.now.place area }
+        ensures area { result.area ≡ area_from self.now.plane_cfg self.now.area area }
         ensures cfg { result.plane_cfg ≡ self.now.plane_cfg }
         ensures fits { IsReadable result }
     {
         let plane_cfg = self.plane_cfg;
-        let place = self.place.part(plane_cfg, area);
+        let inner = self.area.inner(plane_cfg, area);
         PlaneRegion {
             plane: self.plane,
             plane_cfg,
-            place,
-            rect: place.rect(plane_cfg),
+            area: inner,
+            rect: inner.rect(plane_cfg),
         }
     }
 }
@@ -200,41 +200,41 @@ impl<'a, T: Pixel> PlaneRegionMut<'a, T> {
     /// Row `y` of the rectangle, from its first row on.
     #[tactic(auto, using(crate::proofs::Fits::row_end_le))]
     pub fn row(&self, y: usize) -> &[T]
-        requires in_area { y < self.now.place.height }
+        requires in_area { y < self.now.area.height }
         requires fits { InStorage self.now }
-        ensures value { result.now ≡ row_of self.now.plane_cfg.stride self.now.place y (stored self.now) }
-        ensures len { length result.now ≡ self.now.place.width }
+        ensures value { result.now ≡ row_of self.now.plane_cfg.stride self.now.area y (stored self.now) }
+        ensures len { length result.now ≡ self.now.area.width }
     {
-        let start = (self.place.y + y) * self.plane_cfg.stride + self.place.x;
-        part_of(self.plane.as_slice(), start, self.place.width)
+        let start = (self.area.y + y) * self.plane_cfg.stride + self.area.x;
+        part_of(self.plane.as_slice(), start, self.area.width)
     }
 
     /// Row `y` of the rectangle, from its first row on, to write.
     #[tactic(auto, using(crate::proofs::Fits::row_end_le))]
     pub fn row_mut(&mut self, y: usize) -> &mut [T]
-        requires in_area { y < self.old.place.height }
+        requires in_area { y < self.old.area.height }
         requires fits { InStorage self.old }
         ensures* writes_back { sem 𝓛 (LendsRow T.row self.entry y result) }
-        ensures value { result.now ≡ row_of self.old.plane_cfg.stride self.old.place y (stored self.old) }
-        ensures len { length result.now ≡ self.old.place.width }
+        ensures value { result.now ≡ row_of self.old.plane_cfg.stride self.old.area y (stored self.old) }
+        ensures len { length result.now ≡ self.old.area.width }
     {
-        let start = (self.place.y + y) * self.plane_cfg.stride + self.place.x;
-        let width = self.place.width;
+        let start = (self.area.y + y) * self.plane_cfg.stride + self.area.x;
+        let width = self.area.width;
         self.plane.part_mut(start, width)
     }
 
     /// The same rectangle, to read.
     pub fn as_const(&self) -> PlaneRegion<'_, T>
-        requires { InStorage self.now }
+        requires fits { InStorage self.now }
         ensures plane { result.plane.now ≡ self.now.plane.now }
-        ensures place { result.place ≡ self.now.place }
+        ensures area { result.area ≡ self.now.area }
         ensures cfg { result.plane_cfg ≡ self.now.plane_cfg }
         ensures fits { IsReadable result }
     {
         PlaneRegion {
             plane: &*self.plane,
             plane_cfg: self.plane_cfg,
-            place: self.place,
+            area: self.area,
             rect: self.rect,
         }
     }
@@ -242,19 +242,19 @@ impl<'a, T: Pixel> PlaneRegionMut<'a, T> {
     /// The rectangle `area` of this one, to read. A `Rect` counts from the region's first sample.
     pub fn subregion(&self, area: Area) -> PlaneRegion<'_, T>
         requires fits { InStorage self.now }
-        requires area { IsPartOf self.now.plane_cfg self.now.place area }
+        requires area { IsPartOf self.now.plane_cfg self.now.area area }
         ensures plane { result.plane.now ≡ self.now.plane.now }
-        ensures place { result.place ≡ area_from self.now.plane_cfg self.now.place area }
+        ensures area { result.area ≡ area_from self.now.plane_cfg self.now.area area }
         ensures cfg { result.plane_cfg ≡ self.now.plane_cfg }
         ensures fits { IsReadable result }
     {
         let plane_cfg = self.plane_cfg;
-        let place = self.place.part(plane_cfg, area);
+        let inner = self.area.inner(plane_cfg, area);
         PlaneRegion {
             plane: &*self.plane,
             plane_cfg,
-            place,
-            rect: place.rect(plane_cfg),
+            area: inner,
+            rect: inner.rect(plane_cfg),
         }
     }
 
@@ -264,20 +264,20 @@ impl<'a, T: Pixel> PlaneRegionMut<'a, T> {
     /// Proofs cannot follow a region that was made here into another call that writes: `narrow` serves there.
     pub fn subregion_mut(&mut self, area: Area) -> PlaneRegionMut<'_, T>
         requires fits { InStorage self.old }
-        requires area { IsPartOf self.old.plane_cfg self.old.place area }
+        requires area { IsPartOf self.old.plane_cfg self.old.area area }
         ensures* writes_back { sem 𝓛 (LendsSub T.row self.entry result) }
         ensures plane { result.plane.now ≡ self.old.plane.now }
-        ensures place { result.place ≡ area_from self.old.plane_cfg self.old.place area }
+        ensures area { result.area ≡ area_from self.old.plane_cfg self.old.area area }
         ensures cfg { result.plane_cfg ≡ self.old.plane_cfg }
         ensures fits { InStorage result }
     {
         let plane_cfg = self.plane_cfg;
-        let place = self.place.part(plane_cfg, area);
-        let rect = place.rect(plane_cfg);
+        let inner = self.area.inner(plane_cfg, area);
+        let rect = inner.rect(plane_cfg);
         PlaneRegionMut {
             plane: &mut *self.plane,
             plane_cfg,
-            place,
+            area: inner,
             rect,
         }
     }
@@ -286,18 +286,18 @@ impl<'a, T: Pixel> PlaneRegionMut<'a, T> {
     /// A `Rect` counts from the region's first sample.
     pub fn narrow(&mut self, area: Area) -> OuterArea
         requires fits { InStorage self.old }
-        requires area { IsPartOf self.old.plane_cfg self.old.place area }
+        requires area { IsPartOf self.old.plane_cfg self.old.area area }
         ensures outer { result ≡ outer_area self.old }
-        ensures after { self.new ≡ with_place self.old (area_from self.old.plane_cfg self.old.place area) }
+        ensures after { self.new ≡ with_area self.old (area_from self.old.plane_cfg self.old.area area) }
         ensures fits { InStorage self.new }
     {
         let outer = OuterArea {
-            place: self.place,
+            area: self.area,
             rect: self.rect,
         };
-        let place = self.place.part(self.plane_cfg, area);
-        self.rect = place.rect(self.plane_cfg);
-        self.place = place;
+        let inner = self.area.inner(self.plane_cfg, area);
+        self.rect = inner.rect(self.plane_cfg);
+        self.area = inner;
         outer
     }
 
@@ -305,7 +305,7 @@ impl<'a, T: Pixel> PlaneRegionMut<'a, T> {
     pub fn restore(&mut self, outer: OuterArea)
         ensures { self.new ≡ with_outer self.old outer }
     {
-        self.place = outer.place;
+        self.area = outer.area;
         self.rect = outer.rect;
     }
 }

@@ -6,6 +6,7 @@ ghost use Rattle.av1_frame.specs.Samples.{part, with_part};
 ghost use Rattle.av1_frame.specs.Planes.{LendsPart};
 
 use crate::pixel::Pixel;
+use crate::rows::zero_samples;
 use std::alloc::{AllocError, Global};
 use std::marker::Model;
 
@@ -54,13 +55,13 @@ impl<T: Pixel> Storage<T> {
             .copy_within(from..from + width, to);
     }
 
-    /// `n` samples of the number 0.
+    /// `n` zero samples.
     pub(crate) fn zeros(alloc: Global, n: usize) -> Result<Storage<T>, AllocError>
         ensures { IfOk result (λ s. s ≡ replicate n (T.pixel 0)) }
     {
-        let mut samples = Vec::new(alloc);
-        samples.resize(n, T::from_u32(0))?;
-        Ok(Storage { samples })
+        Ok(Storage {
+            samples: zero_samples(alloc, n)?,
+        })
     }
 
     /// The samples of `s`.

@@ -2,7 +2,7 @@
 
 use crate::{
     Area, BlockOffset, Coefficient, FrameInvariants, Pixel, Plane, PlaneOffset, Rect,
-    TileBlockOffset, TileRect, clamp, round_shift,
+    TileBlockOffset, TileRect, clamp, clip, copy_row, fill_row, round_shift,
 };
 use av1_blocks::FilterMode;
 use std::test::Fail;
@@ -156,6 +156,22 @@ fn sums_are_rounded_and_clamped(rt: HostRuntime) {
         [clamp(-9, -2, 3), clamp(1, -2, 3), clamp(4, -2, 3)],
         [-2, 1, 3]
     );
+}
+
+#[test]
+fn numbers_are_clipped_to_their_depth(rt: HostRuntime) {
+    let bytes: [u8; 3] = [clip(-1, 8), clip(255, 8), clip(256, 8)];
+    assert_eq!(rt; bytes, [0, 255, 255]);
+    let samples: [u16; 3] = [clip(-1, 10), clip(1023, 10), clip(1024, 10)];
+    assert_eq!(rt; samples, [0, 1023, 1023]);
+}
+
+#[test]
+fn rows_are_filled_and_copied_from_the_left(rt: HostRuntime) {
+    let mut row = [1u8, 2, 3, 4];
+    fill_row(&mut row, 9, 3);
+    copy_row(&mut row, &[5, 6], 1);
+    assert_eq!(rt; row, [5, 9, 9, 4]);
 }
 
 #[test]

@@ -13,7 +13,10 @@ back : (n : ℕ) → unsigned_abs (pos 0 +ℤ (pos 3 -ℤ pos 3 +ℤ pos n)) ≡
 back n = let z : pos 0 +ℤ (pos 3 -ℤ pos 3 +ℤ pos n) ≡ pos n = omega (arith, ints) in ap unsigned_abs z
 
 -- samples of such a plane lie within the depth that all of them do
-pub block_within : {T : Type 0} (num : T → ℕ) (p : Plane T) (src : PlaneSlice T) (samples : List T) (rows depth w h : ℕ) → p.plane_cfg ≡ plain_config 16 rows → p.samples ≡ samples → src.plane.now ≡ p → src.x ≡ pos 3 → src.y ≡ pos 3 → ((k : ℕ) → k < 256 → slice_index (map num samples) k < 2 ^ depth) → w ≤ 8 → h ≤ 8 → AreWithinDepth depth (samples_from num (corner_of src)) (w + 7) (h + 7)
+pub block_within : {T : Type 0} (num : T → ℕ) (p : Plane T) (src : PlaneSlice T) (samples : List T) (rows depth w h : ℕ)
+    → p.plane_cfg ≡ plain_config 16 rows → p.samples ≡ samples → src.plane.now ≡ p → src.x ≡ pos 3 → src.y ≡ pos 3
+    → ((k : ℕ) → k < 256 → slice_index (map num samples) k < 2 ^ depth) → w ≤ 8 → h ≤ 8
+    → AreWithinDepth depth (samples_from num (corner_of src)) (w + 7) (h + 7)
 block_within {T} num p src samples rows depth w h cfg s e x y within hw hh = λ i j a b.
     let place : j * 16 + i < 256 = place_is i j (omega arith) (omega arith) in
     subst (λ (n : ℕ). n < 2 ^ depth) (sym (

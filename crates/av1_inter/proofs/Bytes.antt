@@ -57,7 +57,10 @@ some_same : {X : Type 0} (x y : X) → Some x ≡ Some y → x ≡ y
 some_same x y e = cc
 
 -- a frame whose slot 0 holds such planes is served from it
-pub served_is : (fi filled : FrameInvariants ℕ) (mode : FilterMode) (edges : Bool) (s : Slot ℕ) → fi ≡ new_frame 8 8 mode 8 edges (replicate 7 0) → filled ≡ record fi { slots = slice_set fi.slots 0 (Some s) } → IsReference (λ sample. sample) s.y 8 8 8 → IsReference (λ sample. sample) s.u 8 8 8 → IsReference (λ sample. sample) s.v 8 8 8 → (p side : ℕ) → side ≤ 8 → IsServed (λ sample. sample) filled LAST_FRAME p side side
+pub served_is : (fi filled : FrameInvariants ℕ) (mode : FilterMode) (edges : Bool) (s : Slot ℕ) → fi ≡ new_frame 8 8 mode 8 edges (replicate 7 0)
+    → filled ≡ record fi { slots = slice_set fi.slots 0 (Some s) } → IsReference (λ sample. sample) s.y 8 8 8
+    → IsReference (λ sample. sample) s.u 8 8 8 → IsReference (λ sample. sample) s.v 8 8 8 → (p side : ℕ) → side ≤ 8
+    → IsServed (λ sample. sample) filled LAST_FRAME p side side
 served_is fi filled mode edges s is set y u v p side l = subst (λ (f : FrameInvariants ℕ). IsServed (λ sample. sample) f LAST_FRAME p side side) (sym (set ∙ ap (λ (f : FrameInvariants ℕ). record f { slots = slice_set f.slots 0 (Some s) }) is)) (record {
   inter = search rules;
   some = search rules;

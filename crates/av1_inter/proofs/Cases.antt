@@ -5,7 +5,8 @@ use Rattle.std.proofs.lemmas.Int.{ints}
 use Rattle.av1_frame.specs.Arithmetic.{clip, round_shift}
 use Rattle.av1_inter.proofs.Constants.{rounded_back}
 use Rattle.av1_inter.specs.Motion.{bias, prepared, down_intermediate, entry, intermediate_bits, intermediate, single, sum_to, weighted}
-use Rattle.av1_inter.specs.Places.{AreWithinDepth, corner_of, IsDepth, IsStoredFrom, samples_from}
+use Rattle.av1_inter.specs.Places.{AreWithinDepth, corner_of, IsStoredFrom, samples_from}
+use Rattle.av1_blocks.specs.Depths.{IsDepth}
 use Rattle.av1_frame.specs.declared.plane_slice.PlaneSlice.{PlaneSlice}
 
 times_16 : (a : ℤ) (s : ℕ) → a *ℤ pos (s * 16) ≡ pos 16 *ℤ (a *ℤ pos s)

@@ -4,7 +4,7 @@ use Rattle.std.proofs.lemmas.Int.{ints}
 use Rattle.std.proofs.lemmas.List.{take_all}
 use Rattle.av1_frame.specs.Arithmetic.{clip, round_shift}
 use Rattle.av1_inter.specs.Motion.{entry, intermediate, intermediate_at, intermediate_bits, single, sum_to, weighted}
-use Rattle.av1_inter.specs.Places.{IsDepth}
+use Rattle.av1_blocks.specs.Depths.{IsDepth}
 use Rattle.av1_inter.specs.Scaffolding.{gains, IsFilter, losses}
 use Rattle.av1_inter.proofs.Sums.{gain, gains_more, loss, losses_more, weighted_same}
 
@@ -72,7 +72,8 @@ single_constant depth d (suc j) zero across down samples r c v f g l h =
     ap (λ z. clip depth (round_shift z (intermediate_bits depth))) (intermediate_constant depth d (suc j) across (λ x. samples x (r + 3)) c v f (λ t m. h (c + t) (r + 3) (omega arith) (omega arith)))
     ∙ ap (clip depth) (last_rounding depth d v) ∙ clip_stays depth v l
 single_constant depth d (suc j) (suc k) across down samples r c v f g l h =
-    ap (λ z. clip depth (round_shift z (7 + intermediate_bits depth))) (weighted_same down (λ t. intermediate depth (suc j) across samples (r + t) c) (λ t. pos (v * 2 ^ intermediate_bits depth)) (λ t m. intermediate_constant depth d (suc j) across (λ x. samples x (r + t)) c v f (λ i n. h (c + i) (r + t) (omega arith) (omega arith))) ∙ weighted_constant down (v * 2 ^ intermediate_bits depth) g)
+    ap (λ z. clip depth (round_shift z (7 + intermediate_bits depth))) (weighted_same down (λ t. intermediate depth (suc j) across samples (r + t) c) (λ t. pos (v * 2 ^ intermediate_bits depth))
+    (λ t m. intermediate_constant depth d (suc j) across (λ x. samples x (r + t)) c v f (λ i n. h (c + i) (r + t) (omega arith) (omega arith))) ∙ weighted_constant down (v * 2 ^ intermediate_bits depth) g)
     ∙ ap (clip depth) (both_roundings depth d v) ∙ clip_stays depth v l
 
 -- a sample in the intermediate bits, rounded back

@@ -68,7 +68,9 @@ pub record IsStripWritten (w start n r : ℕ) (f : ℕ → ℕ → ℤ) (old now
 pub strip_none : (w start n : ℕ) (f : ℕ → ℕ → ℤ) (s : List ℤ) → IsStripWritten w start n 0 f s s
 strip_none w start n f s = record { done = λ q c h. absurd (omega arith); rest = λ i h. refl }
 
-pub strip_more : (w start n r : ℕ) (f : ℕ → ℕ → ℤ) (old now new : List ℤ) → start + n ≤ w → IsStripWritten w start n r f old now → ((c : ℕ) → c < n → entry new (r * w + start + c) ≡ f r c) → ((i : ℕ) → IsBeside (r * w + start) n i → entry new i ≡ entry now i) → IsStripWritten w start n (r + 1) f old new
+pub strip_more : (w start n r : ℕ) (f : ℕ → ℕ → ℤ) (old now new : List ℤ) → start + n ≤ w → IsStripWritten w start n r f old now
+    → ((c : ℕ) → c < n → entry new (r * w + start + c) ≡ f r c) → ((i : ℕ) → IsBeside (r * w + start) n i → entry new i ≡ entry now i)
+    → IsStripWritten w start n (r + 1) f old new
 strip_more w start n r f old now new fit h row others =
     record {
       done = λ q c a b. elim (cases_eq q r) [
@@ -105,7 +107,9 @@ before_strip w s n q c r fit h =
       | inr (inr l) ↦ (let m = row_end r q w l in inr (omega (arith, m, h, fit)))
     ]
 
-pub written_more : (w s n h : ℕ) (f g : ℕ → ℕ → ℤ) (old now new : List ℤ) → s + n ≤ w → AreWritten w s h f old now → ((r c : ℕ) → r < h → c < n → entry new (r * w + s + c) ≡ g r c) → ((r c : ℕ) → g r c ≡ f r (s + c)) → ((i : ℕ) → ((r : ℕ) → r < h → IsBeside (r * w + s) n i) → entry new i ≡ entry now i) → AreWritten w (s + n) h f old new
+pub written_more : (w s n h : ℕ) (f g : ℕ → ℕ → ℤ) (old now new : List ℤ) → s + n ≤ w → AreWritten w s h f old now
+    → ((r c : ℕ) → r < h → c < n → entry new (r * w + s + c) ≡ g r c) → ((r c : ℕ) → g r c ≡ f r (s + c))
+    → ((i : ℕ) → ((r : ℕ) → r < h → IsBeside (r * w + s) n i) → entry new i ≡ entry now i) → AreWritten w (s + n) h f old new
 written_more w s n h f g old now new fit a strip same others =
     record {
       done = λ q c l b. elim (cases_lt c s) [

@@ -1,7 +1,7 @@
 -- Every prepared value fits 16 bits.
 use Rattle.std.proofs.Common.{ℕ, zero, suc, ◌+◌, ◌^◌, ◌<◌, ◌≢◌, arith, subst, ℤ, List, w16, FitsSigned}
 use Rattle.av1_inter.specs.Motion.{prepared}
-use Rattle.av1_inter.specs.Places.{IsDepth}
+use Rattle.av1_blocks.specs.Depths.{IsDepth}
 use Rattle.av1_inter.specs.Scaffolding.{IsFilter}
 use Rattle.av1_inter.proofs.Cases.{prepared_down}
 use Rattle.av1_inter.proofs.Reach.{down_fits, intermediate_fits}

@@ -12,3 +12,5 @@ pub mod Blocks
 pub mod Bytes
 pub mod Constants
 pub mod Fitting
+pub mod Within
+pub mod SameReferences

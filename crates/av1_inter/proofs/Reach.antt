@@ -4,7 +4,7 @@ use Rattle.std.specs.Int.Signed.{shr_z}
 use Rattle.std.proofs.lemmas.Int.{ints}
 use Rattle.av1_frame.specs.Arithmetic.{round_shift}
 use Rattle.av1_inter.specs.Motion.{bias, down_intermediate, intermediate_at, weighted}
-use Rattle.av1_inter.specs.Places.{IsDepth}
+use Rattle.av1_blocks.specs.Depths.{IsDepth}
 use Rattle.av1_inter.specs.Scaffolding.{IsFilter, IsWithin}
 use Rattle.av1_inter.proofs.Sums.{Between, filter_between}
 
@@ -95,10 +95,16 @@ down_more : (taps : List ℤ) (value : ℕ → ℤ) → IsFilter taps → ((t : 
 down_more taps value f h = biased_fits _ (wider _ _ _ _ _ (omega arith) (omega arith) (round7 _ 20605 36985 (wider _ _ _ _ _ (omega arith) (omega arith) (filter_between taps value 7167 23547 8 f (omega arith) h))))
 
 -- what is prepared of rows that are filtered down a column too
-pub down_fits : (depth : ℕ) → IsDepth depth → (fx : ℕ) (across down : List ℤ) (samples : ℕ → ℕ → ℕ) (r c : ℕ) → IsFilter across → IsFilter down → ((x y : ℕ) → x < c + 8 → y < r + 8 → samples x y < 2 ^ depth) → FitsSigned w16 (round_shift (down_intermediate depth fx across down samples r c) 7 -ℤ bias depth)
+pub down_fits : (depth : ℕ) → IsDepth depth → (fx : ℕ) (across down : List ℤ) (samples : ℕ → ℕ → ℕ) (r c : ℕ) → IsFilter across → IsFilter down
+    → ((x y : ℕ) → x < c + 8 → y < r + 8 → samples x y < 2 ^ depth)
+    → FitsSigned w16 (round_shift (down_intermediate depth fx across down samples r c) 7 -ℤ bias depth)
 down_fits depth (inl e) fx across down samples r c f g h =
-    subst (λ (d : ℕ). FitsSigned w16 (round_shift (down_intermediate d fx across down samples r c) 7 -ℤ bias d)) (sym e) (down_8 down _ g (λ t l. intermediate_8 fx across (λ x. samples x (r + t)) c f (λ i m. subst (λ (d : ℕ). samples (c + i) (r + t) < 2 ^ d) e (h (c + i) (r + t) (omega arith) (omega arith)))))
+    subst (λ (d : ℕ). FitsSigned w16 (round_shift (down_intermediate d fx across down samples r c) 7 -ℤ bias d)) (sym e)
+    (down_8 down _ g (λ t l. intermediate_8 fx across (λ x. samples x (r + t)) c f (λ i m. subst (λ (d : ℕ). samples (c + i) (r + t) < 2 ^ d) e (h (c + i) (r + t) (omega arith) (omega arith)))))
 down_fits depth (inr (inl e)) fx across down samples r c f g h =
-    subst (λ (d : ℕ). FitsSigned w16 (round_shift (down_intermediate d fx across down samples r c) 7 -ℤ bias d)) (sym e) (down_more down _ g (λ t l. wider _ _ _ _ _ (omega arith) (omega arith) (intermediate_10 fx across (λ x. samples x (r + t)) c f (λ i m. subst (λ (d : ℕ). samples (c + i) (r + t) < 2 ^ d) e (h (c + i) (r + t) (omega arith) (omega arith))))))
+    subst (λ (d : ℕ). FitsSigned w16 (round_shift (down_intermediate d fx across down samples r c) 7 -ℤ bias d)) (sym e)
+    (down_more down _ g (λ t l. wider _ _ _ _ _ (omega arith) (omega arith) (intermediate_10 fx across (λ x. samples x (r + t)) c f
+    (λ i m. subst (λ (d : ℕ). samples (c + i) (r + t) < 2 ^ d) e (h (c + i) (r + t) (omega arith) (omega arith))))))
 down_fits depth (inr (inr e)) fx across down samples r c f g h =
-    subst (λ (d : ℕ). FitsSigned w16 (round_shift (down_intermediate d fx across down samples r c) 7 -ℤ bias d)) (sym e) (down_more down _ g (λ t l. intermediate_12 fx across (λ x. samples x (r + t)) c f (λ i m. subst (λ (d : ℕ). samples (c + i) (r + t) < 2 ^ d) e (h (c + i) (r + t) (omega arith) (omega arith)))))
+    subst (λ (d : ℕ). FitsSigned w16 (round_shift (down_intermediate d fx across down samples r c) 7 -ℤ bias d)) (sym e)
+    (down_more down _ g (λ t l. intermediate_12 fx across (λ x. samples x (r + t)) c f (λ i m. subst (λ (d : ℕ). samples (c + i) (r + t) < 2 ^ d) e (h (c + i) (r + t) (omega arith) (omega arith)))))

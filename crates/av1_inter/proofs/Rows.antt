@@ -54,7 +54,9 @@ module _ {T : Type 0} (num : T → ℕ) (place : PlaneSlice T) (columns rows : �
       ap (λ u. slice_index (map num u) x) e ∙ row_from_sample num place.plane.now place.x (place.y +ℤ pos y) x stored.whole (place_is_stored y h (omega arith)) (omega (arith, r))
 
 -- a sample of such a row, by its number
-pub copied_is : {T : Type 0} (num : T → ℕ) (pixel : ℕ → T) (back : (v : T) → pixel (num v) ≡ v) (place : PlaneSlice T) (columns rows : ℕ) (stored : IsStoredFrom place columns rows) (row : List T) (x y : ℕ) (v : T) → row ≡ row_from place.plane.now place.x (place.y +ℤ pos y) → y < rows → x < columns → x < length row → get_or row x v ≡ pixel (samples_from num place x y)
+pub copied_is : {T : Type 0} (num : T → ℕ) (pixel : ℕ → T) (back : (v : T) → pixel (num v) ≡ v) (place : PlaneSlice T) (columns rows : ℕ) (stored : IsStoredFrom place columns rows) (row : List T) (x y : ℕ) (v : T)
+    → row ≡ row_from place.plane.now place.x (place.y +ℤ pos y) → y < rows → x < columns → x < length row
+    → get_or row x v ≡ pixel (samples_from num place x y)
 copied_is num pixel back place columns rows stored row x y v e h k l =
     sym (back (get_or row x v)) ∙ ap pixel (sym (get_or-map num row x v 0 l) ∙ row_sample num place columns rows stored row x y e h k)
 
@@ -68,12 +70,18 @@ module _ {T : Type 0} (num : T → ℕ) (place : PlaneSlice T) (columns rows : �
   intermediate_of_row depth fx across row y q e h k = intermediate_same depth fx across _ _ q q (λ t l. row_sample num place columns rows stored row (q + t) y e h (omega arith))
 
   -- a row of a block that is written as such values, rounded and clipped
-  pub put_intermediate : {X : Type 0} (pixel : ℕ → X) (depth n w y fx : ℕ) (across : List ℤ) (row : List T) (values : List ℤ) (old new : List X) → n ≡ intermediate_bits depth → row ≡ row_from place.plane.now place.x (place.y +ℤ pos y) → y < rows → w + 7 ≤ columns → ((q : ℕ) → q < w → entry values q ≡ intermediate_at depth fx across (slice_index (map num row)) q) → new ≡ paint_row w (λ c _. pixel (clip depth (round_shift (entry values c) n))) old → new ≡ paint_row w (λ c _. pixel (clip depth (round_shift (intermediate depth fx across (samples_from num place) y c) (intermediate_bits depth)))) old
+  pub put_intermediate : {X : Type 0} (pixel : ℕ → X) (depth n w y fx : ℕ) (across : List ℤ) (row : List T) (values : List ℤ) (old new : List X)
+      → n ≡ intermediate_bits depth → row ≡ row_from place.plane.now place.x (place.y +ℤ pos y) → y < rows → w + 7 ≤ columns
+      → ((q : ℕ) → q < w → entry values q ≡ intermediate_at depth fx across (slice_index (map num row)) q)
+      → new ≡ paint_row w (λ c _. pixel (clip depth (round_shift (entry values c) n))) old
+      → new ≡ paint_row w (λ c _. pixel (clip depth (round_shift (intermediate depth fx across (samples_from num place) y c) (intermediate_bits depth)))) old
   put_intermediate pixel depth n w y fx across row values old new b e h k v p =
       p ∙ paint_row_same w _ _ old (λ q x l. ap (λ m. pixel (clip depth (round_shift (entry values q) m))) b ∙ ap (λ z. pixel (clip depth (round_shift z (intermediate_bits depth)))) (v q l ∙ intermediate_of_row depth fx across row y q e h (omega arith)))
 
 -- the same of sums that were formed by place
-pub put_sums : {X : Type 0} (pixel : ℕ → X) (depth n m w : ℕ) (values : List ℤ) (f : ℕ → ℤ) (old new : List X) → n ≡ m → ((q : ℕ) → q < w → entry values q ≡ f q) → new ≡ paint_row w (λ c _. pixel (clip depth (round_shift (entry values c) n))) old → new ≡ paint_row w (λ c _. pixel (clip depth (round_shift (f c) m))) old
+pub put_sums : {X : Type 0} (pixel : ℕ → X) (depth n m w : ℕ) (values : List ℤ) (f : ℕ → ℤ) (old new : List X) → n ≡ m
+    → ((q : ℕ) → q < w → entry values q ≡ f q) → new ≡ paint_row w (λ c _. pixel (clip depth (round_shift (entry values c) n))) old
+    → new ≡ paint_row w (λ c _. pixel (clip depth (round_shift (f c) m))) old
 put_sums pixel depth n m w values f old new b v p =
     p ∙ paint_row_same w _ _ old (λ q x l. ap (λ k. pixel (clip depth (round_shift (entry values q) k))) b ∙ ap (λ z. pixel (clip depth (round_shift z m))) (v q l))
 

@@ -9,7 +9,7 @@ use Rattle.av1_frame.specs.declared.plane_region.StoredArea.{StoredArea}
 use Rattle.av1_frame.specs.declared.plane_slice.PlaneSlice.{PlaneSlice}
 use Rattle.av1_frame.specs.Arithmetic.{clip, round_shift}
 use Rattle.av1_frame.specs.Samples.{corner, paint, painted_at}
-use Rattle.av1_frame.specs.Regions.{outer_area, painted, painted_within, stored, with_outer, with_place, with_samples}
+use Rattle.av1_frame.specs.Regions.{outer_area, painted, painted_within, stored, with_outer, with_area, with_samples}
 use Rattle.av1_frame.specs.Slices.{stored_sample}
 use Rattle.av1_frame.proofs.Paint.{paint_same}
 use Rattle.av1_frame.proofs.Regions.{restored}
@@ -87,9 +87,9 @@ paint_strip stride a w n h f g s e =
     ∙ ap (painted_at (strip_of a w n h) g (k % stride) (k / stride)) (get_or-update _ s k d l) ∙ strip_at a w n h (k % stride) (k / stride) f g (get_or s k d) e)
 
 -- the strip after the first w columns
-pub painted_strip : {T : Type 0} (r o t : PlaneRegionMut T) (w n h : ℕ) (f g : ℕ → ℕ → T → T) → o ≡ painted r w h f → t ≡ painted_within o (strip_of o.place w n h) g → ((q c : ℕ) (v : T) → q < h → c < n → g q c v ≡ f q (w + c) v) → t ≡ painted r (w + n) h f
+pub painted_strip : {T : Type 0} (r o t : PlaneRegionMut T) (w n h : ℕ) (f g : ℕ → ℕ → T → T) → o ≡ painted r w h f → t ≡ painted_within o (strip_of o.area w n h) g → ((q c : ℕ) (v : T) → q < h → c < n → g q c v ≡ f q (w + c) v) → t ≡ painted r (w + n) h f
 painted_strip {T} r o t w n h f g e is same =
-    is ∙ ap (λ (u : PlaneRegionMut T). painted_within u (strip_of u.place w n h) g) e ∙ ap (with_samples r) (paint_strip r.plane_cfg.stride r.place w n h f g (stored r) same)
+    is ∙ ap (λ (u : PlaneRegionMut T). painted_within u (strip_of u.area w n h) g) e ∙ ap (with_samples r) (paint_strip r.plane_cfg.stride r.area w n h f g (stored r) same)
 
 -- no column is painted yet
 none_at : {X : Type 0} (a : StoredArea) (h p q : ℕ) (f : ℕ → ℕ → X → X) (v : X) → v ≡ painted_at (corner a 0 h) f p q v
@@ -100,15 +100,17 @@ unfolding paint
 paint_no_columns stride a h f s = update_is _ s s refl (λ k d l. none_at a h (k % stride) (k / stride) f (get_or s k d))
 
 pub painted_no_columns : {T : Type 0} (r : PlaneRegionMut T) (h : ℕ) (f : ℕ → ℕ → T → T) → r ≡ painted r 0 h f
-painted_no_columns r h f = ap (with_samples r) (paint_no_columns r.plane_cfg.stride r.place h f (stored r))
+painted_no_columns r h f = ap (with_samples r) (paint_no_columns r.plane_cfg.stride r.area h f (stored r))
 
 -- the column at which a strip begins, as it was passed
 pub strip_start : (x n : ℕ) → n < 2 ^ 63 → unsigned_abs (pos x +ℤ to_z w64 n) ≡ x + n
 strip_start x n h = ap (λ z. unsigned_abs (pos x +ℤ z)) (to_z_pos w64 n h)
 
 -- a region that was narrowed to a strip, painted by f and restored, where f is g in the strip
-pub strip_restored : {T : Type 0} (r m o t : PlaneRegionMut T) (outer : OuterArea) (a : StoredArea) (start n h : ℕ) (f g : ℕ → ℕ → T → T) → outer ≡ outer_area r → m ≡ with_place r a → o ≡ painted m n h f → t ≡ with_outer o outer → a.x ≡ r.place.x + start → a.y ≡ r.place.y → ((q c : ℕ) (v : T) → q < h → c < n → f q c v ≡ g q c v) → t ≡ painted_within r (strip_of r.place start n h) g
+pub strip_restored : {T : Type 0} (r m o t : PlaneRegionMut T) (outer : OuterArea) (a : StoredArea) (start n h : ℕ) (f g : ℕ → ℕ → T → T)
+    → outer ≡ outer_area r → m ≡ with_area r a → o ≡ painted m n h f → t ≡ with_outer o outer → a.x ≡ r.area.x + start → a.y ≡ r.area.y
+    → ((q c : ℕ) (v : T) → q < h → c < n → f q c v ≡ g q c v) → t ≡ painted_within r (strip_of r.area start n h) g
 strip_restored r m o t outer a start n h f g e is p q x y same =
     restored r m o t outer a n h f e is p q
-    ∙ ap (λ i. painted_within r (record { x = i; y = a.y; width = n; height = h }) f) x ∙ ap (λ i. painted_within r (record { x = r.place.x + start; y = i; width = n; height = h }) f) y
-    ∙ ap (with_samples r) (paint_same r.plane_cfg.stride (strip_of r.place start n h) f g (stored r) same)
+    ∙ ap (λ i. painted_within r (record { x = i; y = a.y; width = n; height = h }) f) x ∙ ap (λ i. painted_within r (record { x = r.area.x + start; y = i; width = n; height = h }) f) y
+    ∙ ap (with_samples r) (paint_same r.plane_cfg.stride (strip_of r.area start n h) f g (stored r) same)

@@ -17,7 +17,9 @@ shifted_is z n b e h l =
     ap (λ y. to_z w32 (of_z w32 y * 2 ^ b % 4294967296)) e ∙ ap (to_z w32) (mod-eq_of_lt small) ∙ to_z_pos w32 (n * 2 ^ b) (omega arith)
 
 -- two prepared values and their biases
-pub averaged_sum : (a b p x y q : ℤ) → x ≡ to_z w16 (of_z w16 a) → y ≡ to_z w16 (of_z w16 b) → q ≡ p → FitsSigned w16 a → FitsSigned w16 b → IsWithin 8192 p → to_z w32 (of_z w32 (to_z w32 (of_z w32 (to_z w32 (of_z w32 x) +ℤ to_z w32 (of_z w32 y))) +ℤ to_z w32 (of_z w32 (pos 2 *ℤ to_z w32 (of_z w32 q))))) ≡ a +ℤ b +ℤ pos 2 *ℤ p
+pub averaged_sum : (a b p x y q : ℤ) → x ≡ to_z w16 (of_z w16 a) → y ≡ to_z w16 (of_z w16 b) → q ≡ p → FitsSigned w16 a → FitsSigned w16 b
+    → IsWithin 8192 p
+    → to_z w32 (of_z w32 (to_z w32 (of_z w32 (to_z w32 (of_z w32 x) +ℤ to_z w32 (of_z w32 y))) +ℤ to_z w32 (of_z w32 (pos 2 *ℤ to_z w32 (of_z w32 q))))) ≡ a +ℤ b +ℤ pos 2 *ℤ p
 averaged_sum a b p x y q ea eb ep fa fb w = omega (arith, ints, w.low, w.high, ea, eb, ep, fa, fb)
 
 -- a value less its bias, in 16 bits

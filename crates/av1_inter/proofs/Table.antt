@@ -1,30 +1,17 @@
 -- The weights of every filter are in bounds, by computing over the table.
-use Rattle.std.proofs.Common.{ℕ, zero, suc, ◌+◌, ◌<◌, ◌≤◌, ◌≡◌, ◌∙◌, ap, refl, sym, arith, Bool, true, ◌&&◌, nat_eq, nat_le, List, [], length, slice_index_or, inl, inr, subst, ℤ, pos, negsuc, ◌≤ℤ◌, ◌<ℤ◌, unsigned_abs, w32, to_z, of_z, FitsSigned}
-use Rattle.std.proofs.lemmas.Bool.{cases_lt, cases_eq}
+use Rattle.std.proofs.Common.{ℕ, ◌+◌, ◌<◌, ◌≤◌, ◌≡◌, ◌∙◌, ap, refl, sym, arith, Bool, true, ◌&&◌, nat_eq, nat_le, List, [], length, slice_index_or, inl, inr, subst, ℤ, pos, negsuc, ◌≤ℤ◌, ◌<ℤ◌, unsigned_abs, w32, to_z, of_z, FitsSigned}
+use Rattle.std.proofs.lemmas.Bool.{cases_lt}
 use Rattle.std.proofs.lemmas.Bool.Decides.{nat_tests}
 use Rattle.std.proofs.lemmas.Int.{ints, to_z-of_z}
+use Rattle.av1_lists.proofs.Below.{all_below, below}
 use Rattle.av1_blocks.specs.declared.mc.FilterMode.{FilterMode}
 use Rattle.av1_blocks.specs.declared.mc.FilterMode.TheVariants.{REGULAR, SMOOTH, SHARP, BILINEAR, SWITCHABLE}
 use Rattle.av1_blocks.specs.Filters.{filter_number, subpel_filters}
 use Rattle.av1_inter.specs.Filters.{family, filter_of, short_family}
 use Rattle.av1_inter.specs.Scaffolding.{gains, IsFilter, losses}
 
--- p holds of each number below n
-abbrev all_below : ℕ → (ℕ → Bool) → Bool
-all_below zero p = true
-all_below (suc n) p = p n && all_below n p
-
 both_true : (a b : Bool) → (a && b) ≡ true → (a ≡ true) × (b ≡ true)
 both_true a b e = grind (arith, nat_tests)
-
-below_is : (n : ℕ) (p : ℕ → Bool) (k : ℕ) → all_below n p ≡ true → k < n → p k ≡ true
-below_is zero p k e h = absurd (omega arith)
-below_is (suc n) p k e h =
-    let b = both_true (p n) (all_below n p) e in
-    elim (cases_eq k n) [
-      | inl same ↦ ap p same ∙ b.0
-      | inr other ↦ below_is n p k b.1 (omega arith)
-    ]
 
 abbrev row_at : ℕ → ℕ → List ℤ
 row_at k f = slice_index_or (slice_index_or subpel_filters k []) f []
@@ -43,7 +30,7 @@ at_most_is m n e = grind (arith, nat_tests)
 
 row_is_filter : (k f : ℕ) → k < 6 → f < 16 → IsFilter (row_at k f)
 row_is_filter k f h l =
-    let e = below_is 16 (λ i. is_filter (row_at k i)) f (below_is 6 (λ j. all_below 16 (λ i. is_filter (row_at j i))) k all_filters h) l in
+    let e = below 16 (λ i. is_filter (row_at k i)) (below 6 (λ j. all_below 16 (λ i. is_filter (row_at j i))) all_filters k h) f l in
     let b = both_true (nat_eq (length (row_at k f)) 8) (nat_eq (gains (row_at k f)) (128 + losses (row_at k f)) && (nat_le (gains (row_at k f)) 184 && nat_le (losses (row_at k f)) 56)) e in
     let d = both_true (nat_eq (gains (row_at k f)) (128 + losses (row_at k f))) (nat_le (gains (row_at k f)) 184 && nat_le (losses (row_at k f)) 56) b.1 in
     let m = both_true (nat_le (gains (row_at k f)) 184) (nat_le (losses (row_at k f)) 56) d.1 in

@@ -5,7 +5,7 @@ use Rattle.std.proofs.lemmas.Int.{ints, clamps, to_z-of_z}
 use Rattle.av1_blocks.specs.declared.mc.MotionVector.{MotionVector}
 use Rattle.av1_frame.specs.declared.plane.Plane.{Plane}
 use Rattle.av1_frame.specs.Planes.{IsWhole, padded, sample_at}
-use Rattle.av1_frame.proofs.Slices.{padded_sample, padded_whole}
+use Rattle.av1_frame.proofs.Slices.{padded_sample, padded_whole, visible_below}
 use Rattle.av1_frame.specs.declared.plane_slice.PlaneSlice.{PlaneSlice}
 use Rattle.av1_frame.specs.Slices.{IsStoredPlace, nearest_visible, within_pads}
 use Rattle.av1_inter.specs.Motion.{prepared, single}
@@ -68,9 +68,14 @@ module _ {T : Type 0} (num : T → ℕ) (place : PlaneSlice T) (zx zy : ℤ) (at
       let p = place.plane.now in
       let cfg = p.plane_cfg in
       let s = clamped_stored in
-      let stored : IsStoredPlace cfg (within_pads place.x cfg.xpad cfg.width +ℤ pos c) (within_pads place.y cfg.ypad cfg.height +ℤ pos r) = record { left = omega (arith, ints, s.left); right = omega (arith, ints, s.right, h); top = omega (arith, ints, s.top); bottom = omega (arith, ints, s.bottom, k) } in
-      let x = ap (λ z. nearest_visible cfg.width (within_pads z cfg.xpad cfg.width +ℤ pos c)) at_x ∙ ap (λ z. nearest_visible cfg.width (z +ℤ pos c)) (saturated_pads zx cfg.xpad cfg.width (omega (arith, w.visible_columns, w.few_columns)) (omega (arith, w.visible_columns, w.few_columns))) ∙ clamped_nearest zx cfg.xpad cfg.width c h w.some_columns in
-      let y = ap (λ z. nearest_visible cfg.height (within_pads z cfg.ypad cfg.height +ℤ pos r)) at_y ∙ ap (λ z. nearest_visible cfg.height (z +ℤ pos r)) (saturated_pads zy cfg.ypad cfg.height (omega (arith, w.visible_rows, w.few_rows)) (omega (arith, w.visible_rows, w.few_rows))) ∙ clamped_nearest zy cfg.ypad cfg.height r k w.some_rows in
+      let stored : IsStoredPlace cfg (within_pads place.x cfg.xpad cfg.width +ℤ pos c) (within_pads place.y cfg.ypad cfg.height +ℤ pos r) =
+      record { left = omega (arith, ints, s.left); right = omega (arith, ints, s.right, h); top = omega (arith, ints, s.top); bottom = omega (arith, ints, s.bottom, k) } in
+      let x = ap (λ z. nearest_visible cfg.width (within_pads z cfg.xpad cfg.width +ℤ pos c)) at_x
+      ∙ ap (λ z. nearest_visible cfg.width (z +ℤ pos c)) (saturated_pads zx cfg.xpad cfg.width (omega (arith, w.visible_columns, w.few_columns)) (omega (arith, w.visible_columns, w.few_columns)))
+      ∙ clamped_nearest zx cfg.xpad cfg.width c h w.some_columns in
+      let y = ap (λ z. nearest_visible cfg.height (within_pads z cfg.ypad cfg.height +ℤ pos r)) at_y
+      ∙ ap (λ z. nearest_visible cfg.height (z +ℤ pos r)) (saturated_pads zy cfg.ypad cfg.height (omega (arith, w.visible_rows, w.few_rows)) (omega (arith, w.visible_rows, w.few_rows)))
+      ∙ clamped_nearest zy cfg.ypad cfg.height r k w.some_rows in
       is_padded.samples _ _ stored ∙ ap (λ m. sample_at num p m (nearest_visible cfg.height (within_pads place.y cfg.ypad cfg.height +ℤ pos r))) x ∙ ap (λ n. sample_at num p (nearest_visible cfg.width (zx +ℤ pos c)) n) y
 
 -- what the steps to a moved block give
@@ -85,7 +90,9 @@ corner_again : {T : Type 0} (clamped result : PlaneSlice T) → result ≡ recor
 corner_again {T} clamped result e =
     ap corner_of e ∙ ap (λ z. record clamped { x = z; y = clamped.y +ℤ pos 3 -ℤ pos 3 }) (back_again clamped.x) ∙ ap (λ z. record clamped { y = z }) (back_again clamped.y)
 
-pub moved_is : {T : Type 0} (num : T → ℕ) (plane : Plane T) (place clamped result : PlaneSlice T) (zx zy : ℤ) → place.plane.now ≡ plane → place.x ≡ saturate_signed w64 zx → place.y ≡ saturate_signed w64 zy → clamped ≡ clamped_of place → result ≡ record clamped { x = clamped.x +ℤ pos 3; y = clamped.y +ℤ pos 3 } → IsPadded num plane → IsMoved num plane (corner_of result) zx zy
+pub moved_is : {T : Type 0} (num : T → ℕ) (plane : Plane T) (place clamped result : PlaneSlice T) (zx zy : ℤ) → place.plane.now ≡ plane
+    → place.x ≡ saturate_signed w64 zx → place.y ≡ saturate_signed w64 zy → clamped ≡ clamped_of place
+    → result ≡ record clamped { x = clamped.x +ℤ pos 3; y = clamped.y +ℤ pos 3 } → IsPadded num plane → IsMoved num plane (corner_of result) zx zy
 moved_is {T} num plane place clamped result zx zy of x y c r =
     subst (λ (p : Plane T). IsPadded num p → IsMoved num p (corner_of result) zx zy) of (λ is_padded.
     subst (λ (s : PlaneSlice T). IsMoved num place.plane.now s zx zy) (sym (corner_again clamped result r ∙ c)) (record { stored = clamped_stored num place zx zy x y is_padded; samples = clamped_samples num place zx zy x y is_padded }))
@@ -111,19 +118,19 @@ pub fraction_is : (r m : ℤ) (d e : ℕ) → FitsSigned w32 r → FitsSigned w1
 fraction_is r m d e fr fm s h =
     ap unsigned_abs (to_z-of_z w32 r fr ∙ h) ∙ ap (λ z. sixteenths z d) (to_z-of_z w16 m fm) ∙ ap (λ n. sixteenths m n) s
 
-pub single_is : (depth : ℕ) (mode : FilterMode) (w h fx gx fy gy : ℕ) (s t : ℕ → ℕ → ℕ) → fx ≡ gx → fy ≡ gy → ((x y : ℕ) → x < w + 7 → y < h + 7 → s x y ≡ t x y) → (r c : ℕ) → r < h → c < w → single depth fx fy (filter_of mode fx w) (filter_of mode fy h) s r c ≡ single depth gx gy (filter_of mode gx w) (filter_of mode gy h) t r c
+pub single_is : (depth : ℕ) (mode : FilterMode) (w h fx gx fy gy : ℕ) (s t : ℕ → ℕ → ℕ) → fx ≡ gx → fy ≡ gy
+    → ((x y : ℕ) → x < w + 7 → y < h + 7 → s x y ≡ t x y) → (r c : ℕ) → r < h → c < w
+    → single depth fx fy (filter_of mode fx w) (filter_of mode fy h) s r c ≡ single depth gx gy (filter_of mode gx w) (filter_of mode gy h) t r c
 single_is depth mode w h fx gx fy gy s t ex ey same r c in_rows in_columns =
     ap (λ n. single depth n fy (filter_of mode n w) (filter_of mode fy h) s r c) ex ∙ ap (λ n. single depth gx n (filter_of mode gx w) (filter_of mode n h) s r c) ey
     ∙ single_moved depth (filter_of mode gx w) (filter_of mode gy h) s t r c c (λ x y a b. same (c + x) (r + y) (omega arith) (omega arith)) gx gy
 
-pub prepared_is : (depth : ℕ) (mode : FilterMode) (w h fx gx fy gy : ℕ) (s t : ℕ → ℕ → ℕ) → fx ≡ gx → fy ≡ gy → ((x y : ℕ) → x < w + 7 → y < h + 7 → s x y ≡ t x y) → (r c : ℕ) → r < h → c < w → prepared depth fx fy (filter_of mode fx w) (filter_of mode fy h) s r c ≡ prepared depth gx gy (filter_of mode gx w) (filter_of mode gy h) t r c
+pub prepared_is : (depth : ℕ) (mode : FilterMode) (w h fx gx fy gy : ℕ) (s t : ℕ → ℕ → ℕ) → fx ≡ gx → fy ≡ gy
+    → ((x y : ℕ) → x < w + 7 → y < h + 7 → s x y ≡ t x y) → (r c : ℕ) → r < h → c < w
+    → prepared depth fx fy (filter_of mode fx w) (filter_of mode fy h) s r c ≡ prepared depth gx gy (filter_of mode gx w) (filter_of mode gy h) t r c
 prepared_is depth mode w h fx gx fy gy s t ex ey same r c in_rows in_columns =
     ap (λ n. prepared depth n fy (filter_of mode n w) (filter_of mode fy h) s r c) ex ∙ ap (λ n. prepared depth gx n (filter_of mode gx w) (filter_of mode n h) s r c) ey
     ∙ prepared_moved depth (filter_of mode gx w) (filter_of mode gy h) s t r c c (λ x y a b. same (c + x) (r + y) (omega arith) (omega arith)) gx gy
-
-visible_below : (n : ℕ) (z : ℤ) → 0 < n → nearest_visible n z < n
-visible_below n (pos i) h = omega arith
-visible_below n (negsuc i) h = h
 
 -- samples of a reference lie within its depth, wherever a vector leads
 pub moved_within : {T : Type 0} (num : T → ℕ) (plane : Plane T) (depth width height : ℕ) → IsReference num plane depth width height → (x y : ℤ) (mv : MotionVector) (c r : ℕ) → moved num plane x y mv c r < 2 ^ depth
@@ -134,7 +141,9 @@ moved_within num plane depth width height s x y mv c r =
 pub visible_stays : {T : Type 0} (num : T → ℕ) (p : Plane T) (x y : ℕ) → IsWhole p → x < p.plane_cfg.width → y < p.plane_cfg.height → sample_at num (padded p) x y ≡ sample_at num p x y
 visible_stays num p x y h a b =
     let stored : IsStoredPlace p.plane_cfg (pos x) (pos y) = record { left = omega (arith, ints); right = omega (arith, ints, a, h.visible_columns); top = omega (arith, ints); bottom = omega (arith, ints, b, h.visible_rows) } in
-    padded_sample num p (pos x) (pos y) h stored ∙ ap (λ m. sample_at num p m (nearest_visible p.plane_cfg.height (pos y))) (let e : nearest_visible p.plane_cfg.width (pos x) ≡ x = omega arith in e) ∙ ap (λ n. sample_at num p x n) (let e : nearest_visible p.plane_cfg.height (pos y) ≡ y = omega arith in e)
+    padded_sample num p (pos x) (pos y) h stored
+    ∙ ap (λ m. sample_at num p m (nearest_visible p.plane_cfg.height (pos y))) (let e : nearest_visible p.plane_cfg.width (pos x) ≡ x = omega arith in e)
+    ∙ ap (λ n. sample_at num p x n) (let e : nearest_visible p.plane_cfg.height (pos y) ≡ y = omega arith in e)
 
 -- what `pad` leaves is padded
 pub padded_is_padded : {T : Type 0} (num : T → ℕ) (p q : Plane T) → q ≡ padded p → IsWhole p → IsPadded num q

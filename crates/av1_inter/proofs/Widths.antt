@@ -1,5 +1,5 @@
--- Numbers of a depth, and the bits of what is kept between the filters.
-use Rattle.std.proofs.Common.{ℕ, ◌<◌, ◌≤◌, ◌^◌, arith}
+-- The bits of what is kept between the filters.
+use Rattle.std.proofs.Common.{ℕ, ◌≤◌, ◌^◌, arith}
 use Rattle.std.proofs.Common.{◌/◌, inl, inr}
 use Rattle.std.proofs.Math.Pow.{pow_mono}
 use Rattle.std.proofs.lemmas.Bool.{cases_eq}
@@ -7,10 +7,6 @@ use Rattle.std.proofs.lemmas.Bool.Decides.{nat_tests}
 use Rattle.std.proofs.lemmas.Int.{ints}
 use Rattle.av1_inter.specs.Motion.{bias}
 use Rattle.av1_inter.specs.Scaffolding.{IsWithin}
-
--- what lies within a depth fits samples of as many bits
-pub below_depth : (v d b : ℕ) → v < 2 ^ d → d ≤ b → v < 2 ^ b
-below_depth v d b h e = let m = pow_mono {i = d} {j = b} e in omega arith
 
 -- half of a small power
 pub half_small : (b m : ℕ) → b ≤ m → 2 ^ b / 2 ≤ 2 ^ m

@@ -4,7 +4,7 @@ use Rattle.std.specs.Int.{w16}
 use Rattle.av1_blocks.specs.declared.mc.FilterMode.{FilterMode}
 use Rattle.av1_inter.specs.Filters.{filter_of}
 use Rattle.av1_inter.specs.Motion.{prepared, single}
-use Rattle.av1_inter.specs.Places.{IsDepth}
+use Rattle.av1_blocks.specs.Depths.{IsDepth}
 
 -- A reference that has one number wherever the taps for a sample stand gives that number, at every fraction and with every filter: the
 -- weights of each filter sum to 128, and no rounding moves such a sum.

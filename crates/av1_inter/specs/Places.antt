@@ -1,12 +1,8 @@
 -- Where a block reads its reference.
-use Rattle.std.specs.Prelude.{◌≡◌, ◌⊎◌, ℕ, ◌^◌, ◌<◌, pos, ◌+ℤ◌, ◌-ℤ◌, ◌≤ℤ◌}
+use Rattle.std.specs.Prelude.{ℕ, ◌^◌, ◌<◌, pos, ◌+ℤ◌, ◌-ℤ◌, ◌≤ℤ◌}
 use Rattle.av1_frame.specs.declared.plane_slice.PlaneSlice.{PlaneSlice}
 use Rattle.av1_frame.specs.Planes.{IsWhole}
 use Rattle.av1_frame.specs.Slices.{stored_sample}
-
--- the depths of samples
-abbrev pub IsDepth : ℕ → Type 0
-IsDepth depth = (depth ≡ 8) ⊎ ((depth ≡ 10) ⊎ (depth ≡ 12))
 
 -- the place 3 columns to the left and 3 rows above, where the taps for the first sample begin
 abbrev pub corner_of : {T : Type 0} → PlaneSlice T → PlaneSlice T

@@ -6,26 +6,26 @@ ghost use Rattle.std.specs.Prelude.{◌≡◌, ◌+◌, ◌*◌, ◌≤◌, leng
 ghost use Rattle.av1_frame.specs.Samples.{paint_row};
 ghost use Rattle.av1_frame.specs.Regions.{InStorage, painted};
 ghost use Rattle.av1_inter.specs.Motion.{averaged, entry};
-ghost use Rattle.av1_inter.specs.Places.{IsDepth};
+ghost use Rattle.av1_blocks.specs.Depths.{IsDepth};
 
-use crate::rounding::{intermediate_bits, prep_bias, sample_of};
-use av1_frame::{Pixel, PlaneRegionMut, round_shift};
+use crate::rounding::{intermediate_bits, prep_bias};
+use av1_frame::{Pixel, PlaneRegionMut, clip, round_shift};
 
 /// The sample of two prepared values.
 fn average_of<T: Pixel>(first: i16, second: i16, bit_depth: usize) -> T
-    requires depth { IsDepth bit_depth }
-    requires depth_fits { bit_depth ≤ T.BITS }
+    requires depths { IsDepth bit_depth }
+    requires depth { bit_depth ≤ T.BITS }
     ensures { result ≡ T.pixel (averaged bit_depth first second) }
 {
     let sum = i32::from(first) + i32::from(second) + 2 * prep_bias(bit_depth);
-    sample_of(
+    clip(
         round_shift(sum, intermediate_bits(bit_depth) + 1),
         bit_depth,
     )
 }
 
 /// The first `width` samples of the row become the averages of the values from `start` on.
-#[tactic(auto, using(av1_frame::proofs::Paint::paint_row_none, av1_frame::proofs::Paint::paint_row_more))]
+#[tactic(auto, using(av1_frame::proofs::Paint::row_painting))]
 fn average_row<T: Pixel>(
     row: &mut [T],
     tmp1: &[i16],
@@ -37,8 +37,8 @@ fn average_row<T: Pixel>(
     requires row_long { width ≤ length row.old }
     requires first_long { start + width ≤ length tmp1.now }
     requires second_long { start + width ≤ length tmp2.now }
-    requires depth { IsDepth bit_depth }
-    requires depth_fits { bit_depth ≤ T.BITS }
+    requires depths { IsDepth bit_depth }
+    requires depth { bit_depth ≤ T.BITS }
     ensures { row.new ≡ paint_row width (λ c _. T.pixel (averaged bit_depth (entry tmp1.now (start + c)) (entry tmp2.now (start + c)))) row.old }
 {
     for c in 0..width {
@@ -48,7 +48,7 @@ fn average_row<T: Pixel>(
 
 /// Each sample of the first `height` rows and `width` columns of `dst` becomes the average of its two prepared values, which stand row
 /// by row in `tmp1` and `tmp2`.
-#[tactic(auto, using(av1_frame::proofs::Regions::painted_none, av1_frame::proofs::Regions::painted_in_storage, av1_frame::proofs::Regions::painted_more, av1_frame::proofs::Fits::row_end_le))]
+#[tactic(auto, using(av1_frame::proofs::Regions::region_painting, av1_frame::proofs::Fits::row_end_le))]
 pub fn mc_avg<T: Pixel>(
     dst: &mut PlaneRegionMut<'_, T>,
     tmp1: &[i16],
@@ -58,12 +58,12 @@ pub fn mc_avg<T: Pixel>(
     bit_depth: usize,
 )
     requires fits { InStorage dst.old }
-    requires columns { width ≤ dst.old.place.width }
-    requires rows { height ≤ dst.old.place.height }
+    requires columns { width ≤ dst.old.area.width }
+    requires rows { height ≤ dst.old.area.height }
     requires first_long { height * width ≤ length tmp1.now }
     requires second_long { height * width ≤ length tmp2.now }
-    requires depth { IsDepth bit_depth }
-    requires depth_fits { bit_depth ≤ T.BITS }
+    requires depths { IsDepth bit_depth }
+    requires depth { bit_depth ≤ T.BITS }
     ensures painted { dst.new ≡ painted dst.old width height (λ r c _. T.pixel (averaged bit_depth (entry tmp1.now (r * width + c)) (entry tmp2.now (r * width + c)))) }
     ensures fits { InStorage dst.new }
 {

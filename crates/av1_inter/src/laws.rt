@@ -1,9 +1,14 @@
 //! Laws of motion compensation, for the crates above: they do nothing when they run.
 
+ghost use Rattle.std.specs.Prelude.{ℕ, ◌^◌, ◌<◌};
+ghost use Rattle.av1_blocks.specs.declared.mc.FilterMode.{FilterMode};
+ghost use Rattle.av1_blocks.specs.declared.mc.MotionVector.{MotionVector};
+ghost use Rattle.av1_frame.specs.Areas.{VisibleArea};
 ghost use Rattle.av1_frame.specs.declared.plane.Plane.{Plane};
 ghost use Rattle.av1_frame.specs.Planes.{IsWhole, padded};
 ghost use Rattle.av1_inter.specs.Laws.{ConstantsStay, PreparedFits};
-ghost use Rattle.av1_inter.specs.Reference.{IsPadded};
+ghost use Rattle.av1_inter.specs.Prediction.{single_prediction, compound_prediction};
+ghost use Rattle.av1_inter.specs.Reference.{IsPadded, ReferencePlane};
 
 use av1_frame::Pixel;
 
@@ -21,4 +26,14 @@ pub fn prepared_values_fit()
 /// the nearest visible place.
 pub fn padded_planes_serve<T: Pixel>()
     ensures { (plane : Plane T) → IsWhole plane → IsPadded T.num (padded plane) }
+{}
+
+/// A sample that is predicted from a reference whose visible samples lie within the depth lies within it too, whatever the vector. One
+/// that is predicted from two does in any case: their mean is clipped.
+pub fn motion_lies_within()
+    ensures single { (depth : ℕ) (mode : FilterMode) (reference : ReferencePlane) (mv : MotionVector) (a : VisibleArea) (r c : ℕ) → 0 < reference.width → 0 < reference.height
+        → ((x y : ℕ) → x < reference.width → y < reference.height → reference.sample x y < 2 ^ depth)
+        → single_prediction depth mode reference mv a r c < 2 ^ depth }
+    ensures compound { (depth : ℕ) (mode : FilterMode) (first second : ReferencePlane) (first_mv second_mv : MotionVector) (a : VisibleArea) (r c : ℕ) →
+        compound_prediction depth mode first second first_mv second_mv a r c < 2 ^ depth }
 {}

@@ -14,7 +14,7 @@
 //!   vectors: `PredictsSingle` and `PredictsCompound` of `specs/Prediction.antt`. The planes are padded, and whatever the vector, a place
 //!   outside reads the nearest visible sample. Where the slot of a single reference is empty nothing is written; what an empty slot gives
 //!   to a compound prediction is not said.
-//! - `constant_references_stay`, `prepared_values_fit` and `padded_planes_serve` are laws of these definitions.
+//! - `constant_references_stay`, `prepared_values_fit`, `padded_planes_serve` and `motion_lies_within` are laws of these definitions.
 //!
 //! `specs/Reference.antt` defines motion over a function of places, `moved_in`, and `specs/Prediction.antt` the samples of a plane's whole
 //! area, `single_prediction` and `compound_prediction`: words that need no plane in storage.
@@ -41,7 +41,9 @@ mod window;
 
 pub use average::mc_avg;
 pub use buffers::InterCompoundBuffers;
-pub use laws::{constant_references_stay, padded_planes_serve, prepared_values_fit};
+pub use laws::{
+    constant_references_stay, motion_lies_within, padded_planes_serve, prepared_values_fit,
+};
 pub use predict::{predict_inter, predict_inter_compound, predict_inter_single};
 pub use prepare::prep_8tap;
 pub use put::put_8tap;

@@ -120,7 +120,7 @@ fn sum_down<const N: usize, const INNER: bool>(
 
 /// The sums down the first `N` columns of the kept rows from row `y` on.
 #[inline(always)]
-fn filter_down_by<const N: usize, const INNER: bool>(
+fn filter_vertical_by<const N: usize, const INNER: bool>(
     rows: &[[i32; N]; SUBPEL_FILTER_SIZE],
     y: usize,
     taps: &[i32; SUBPEL_FILTER_SIZE],
@@ -142,7 +142,7 @@ fn filter_down_by<const N: usize, const INNER: bool>(
 
 /// The same, by the inner weights alone where that is all.
 #[inline(always)]
-pub(crate) fn filter_down<const N: usize>(
+pub(crate) fn filter_vertical<const N: usize>(
     rows: &[[i32; N]; SUBPEL_FILTER_SIZE],
     y: usize,
     taps: &[i32; SUBPEL_FILTER_SIZE],
@@ -155,9 +155,9 @@ pub(crate) fn filter_down<const N: usize>(
     ensures within { (c : ℕ) → c < N → IsWithin (2 ^ 30) (entry result c) }
 {
     if is_inner(taps) {
-        filter_down_by::<N, true>(rows, y, taps)
+        filter_vertical_by::<N, true>(rows, y, taps)
     } else {
-        filter_down_by::<N, false>(rows, y, taps)
+        filter_vertical_by::<N, false>(rows, y, taps)
     }
 }
 
@@ -200,7 +200,7 @@ fn filter_samples<T: Pixel, const N: usize, const INNER: bool>(
 /// The first `N` columns of a row in the intermediate bits, filtered along itself where the fraction is not 0. The row begins 3 samples
 /// before the block.
 #[inline(always)]
-pub(crate) fn intermediate_row<T: Pixel, const N: usize>(
+pub(crate) fn filter_horizontal<T: Pixel, const N: usize>(
     row: &[T],
     across: &Filter,
     bit_depth: usize,

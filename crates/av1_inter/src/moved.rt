@@ -6,7 +6,8 @@ ghost use Rattle.std.specs.Prelude.{◌≡◌, ℕ, ◌+◌, ◌*◌, ◌≤◌,
 ghost use Rattle.std.specs.Int.{saturate_signed, w64};
 ghost use Rattle.av1_frame.specs.Regions.{InStorage, painted};
 ghost use Rattle.av1_inter.specs.Motion.{entry};
-ghost use Rattle.av1_inter.specs.Places.{corner_of, IsDepth, IsStoredFrom, samples_from};
+ghost use Rattle.av1_inter.specs.Places.{corner_of, IsStoredFrom, samples_from};
+ghost use Rattle.av1_blocks.specs.Depths.{IsDepth};
 ghost use Rattle.av1_inter.specs.Reference.{IsPadded, IsReference, moved, moved_prepared, moved_single, sixteenths, whole_part};
 
 use crate::prepare::prep_8tap;
@@ -24,7 +25,7 @@ fn sixteenths(component: i16, decimation: usize) -> i32
     (i32::from(component) * scale).rem_euclid(16)
 }
 
-/// The column or row 3 before the one to which a component moves `at`, or the nearest to it that is a number.
+/// The column or row 3 before the one to which a component moves `at`. It saturates.
 fn moved_place(at: isize, component: i16, decimation: usize) -> isize
     requires { decimation ≤ 1 }
     ensures { result ≡ saturate_signed w64 (at +ℤ (whole_part component decimation -ℤ pos 3)) }
@@ -60,12 +61,12 @@ pub(crate) fn put_moved<T: Pixel>(
     bit_depth: usize,
 )
     requires fits { InStorage dst.old }
-    requires columns { width ≤ dst.old.place.width }
-    requires rows { height ≤ dst.old.place.height }
+    requires columns { width ≤ dst.old.area.width }
+    requires rows { height ≤ dst.old.area.height }
     requires wide { width ≤ 128 }
     requires high { height ≤ 128 }
-    requires depth { IsDepth bit_depth }
-    requires depth_fits { bit_depth ≤ T.BITS }
+    requires depths { IsDepth bit_depth }
+    requires depth { bit_depth ≤ T.BITS }
     requires reference { IsReference T.num plane.now bit_depth width height }
     ensures painted { dst.new ≡ painted dst.old width height (λ r c _. T.pixel (moved_single T.num bit_depth mode plane.now at.x at.y mv width height r c)) }
     ensures fits { InStorage dst.new }
@@ -93,7 +94,7 @@ pub(crate) fn prepare_moved<T: Pixel>(
     requires tmp_long { height * width ≤ length tmp.old }
     requires wide { width ≤ 128 }
     requires high { height ≤ 128 }
-    requires depth { IsDepth bit_depth }
+    requires depths { IsDepth bit_depth }
     requires reference { IsReference T.num plane.now bit_depth width height }
     ensures { (r c : ℕ) → r < height → c < width → entry tmp.new (r * width + c) ≡ moved_prepared T.num bit_depth mode plane.now at.x at.y mv width height r c }
 {

@@ -8,7 +8,7 @@ ghost use Rattle.av1_frame.specs.Frames.{slot_plane};
 ghost use Rattle.av1_frame.specs.Regions.{InStorage};
 ghost use Rattle.av1_blocks.specs.Modes.{is_intra};
 ghost use Rattle.av1_inter.specs.Motion.{entry};
-ghost use Rattle.av1_inter.specs.Places.{IsDepth};
+ghost use Rattle.av1_blocks.specs.Depths.{IsDepth};
 ghost use Rattle.av1_inter.specs.Prediction.{PredictsCompound, PredictsSingle};
 ghost use Rattle.av1_inter.specs.Reference.{is_reference, IsServed, moved_prepared, reference_of, slot_of, vector_of};
 
@@ -57,12 +57,12 @@ pub fn predict_inter_single<T: Pixel>(
     requires row { FitsSigned w64 (pos tile_rect.y +ℤ po.y) }
     requires plane { p < 3 }
     requires fits { InStorage dst.old }
-    requires columns { width ≤ dst.old.place.width }
-    requires rows { height ≤ dst.old.place.height }
+    requires columns { width ≤ dst.old.area.width }
+    requires rows { height ≤ dst.old.area.height }
     requires wide { width ≤ 128 }
     requires high { height ≤ 128 }
-    requires depth { IsDepth fi.now.bit_depth }
-    requires depth_fits { fi.now.bit_depth ≤ T.BITS }
+    requires depths { IsDepth fi.now.bit_depth }
+    requires depth { fi.now.bit_depth ≤ T.BITS }
     requires reference { IsServed T.num fi.now ref_frame p width height }
     ensures painted { PredictsSingle T.num T.pixel fi.now p ref_frame (pos tile_rect.x +ℤ po.x) (pos tile_rect.y +ℤ po.y) mv width height dst.old dst.new }
     ensures empty { slot_plane fi.now (slot_of fi.now ref_frame) p ≡ None → dst.new ≡ dst.old }
@@ -91,7 +91,7 @@ fn prepare_from<T: Pixel>(
     requires plane { p < 3 }
     requires wide { width ≤ 128 }
     requires high { height ≤ 128 }
-    requires depth { IsDepth fi.now.bit_depth }
+    requires depths { IsDepth fi.now.bit_depth }
     requires reference { IsServed T.num fi.now reference p width height }
     ensures { (plane : _) → slot_plane fi.now (slot_of fi.now reference) p ≡ Some plane → (r c : ℕ) → r < height → c < width → entry tmp.new (r * width + c) ≡ moved_prepared T.num fi.now.bit_depth fi.now.default_filter plane at.x at.y mv width height r c }
 {
@@ -118,12 +118,12 @@ fn predict_over<T: Pixel>(
     requires second_long { height * width ≤ length tmp2.old }
     requires plane { p < 3 }
     requires fits { InStorage dst.old }
-    requires columns { width ≤ dst.old.place.width }
-    requires rows { height ≤ dst.old.place.height }
+    requires columns { width ≤ dst.old.area.width }
+    requires rows { height ≤ dst.old.area.height }
     requires wide { width ≤ 128 }
     requires high { height ≤ 128 }
-    requires depth { IsDepth fi.now.bit_depth }
-    requires depth_fits { fi.now.bit_depth ≤ T.BITS }
+    requires depths { IsDepth fi.now.bit_depth }
+    requires depth { fi.now.bit_depth ≤ T.BITS }
     requires first { IsServed T.num fi.now (reference_of ref_frames 0) p width height }
     requires second { IsServed T.num fi.now (reference_of ref_frames 1) p width height }
     ensures painted { PredictsCompound T.num T.pixel fi.now p ref_frames at.x at.y mvs width height dst.old dst.new }
@@ -159,12 +159,12 @@ pub fn predict_inter_compound<T: Pixel>(
     requires row { FitsSigned w64 (pos tile_rect.y +ℤ po.y) }
     requires plane { p < 3 }
     requires fits { InStorage dst.old }
-    requires columns { width ≤ dst.old.place.width }
-    requires rows { height ≤ dst.old.place.height }
+    requires columns { width ≤ dst.old.area.width }
+    requires rows { height ≤ dst.old.area.height }
     requires wide { width ≤ 128 }
     requires high { height ≤ 128 }
-    requires depth { IsDepth fi.now.bit_depth }
-    requires depth_fits { fi.now.bit_depth ≤ T.BITS }
+    requires depths { IsDepth fi.now.bit_depth }
+    requires depth { fi.now.bit_depth ≤ T.BITS }
     requires first { IsServed T.num fi.now (reference_of ref_frames 0) p width height }
     requires second { IsServed T.num fi.now (reference_of ref_frames 1) p width height }
     ensures painted { PredictsCompound T.num T.pixel fi.now p ref_frames (pos tile_rect.x +ℤ po.x) (pos tile_rect.y +ℤ po.y) mvs width height dst.old dst.new }
@@ -206,12 +206,12 @@ pub fn predict_inter<T: Pixel>(
     requires row { FitsSigned w64 (pos tile_rect.y +ℤ po.y) }
     requires plane { p < 3 }
     requires fits { InStorage dst.old }
-    requires columns { width ≤ dst.old.place.width }
-    requires rows { height ≤ dst.old.place.height }
+    requires columns { width ≤ dst.old.area.width }
+    requires rows { height ≤ dst.old.area.height }
     requires wide { width ≤ 128 }
     requires high { height ≤ 128 }
-    requires depth { IsDepth fi.now.bit_depth }
-    requires depth_fits { fi.now.bit_depth ≤ T.BITS }
+    requires depths { IsDepth fi.now.bit_depth }
+    requires depth { fi.now.bit_depth ≤ T.BITS }
     requires first { IsServed T.num fi.now (reference_of ref_frames 0) p width height }
     requires second { is_reference (reference_of ref_frames 1) ≡ true → IsServed T.num fi.now (reference_of ref_frames 1) p width height }
     ensures single { is_reference (reference_of ref_frames 1) ≡ false →

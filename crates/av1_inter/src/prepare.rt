@@ -7,11 +7,12 @@ ghost use Rattle.std.specs.Int.{w16};
 ghost use Rattle.av1_frame.specs.Arithmetic.{round_shift};
 ghost use Rattle.av1_inter.specs.Filters.{filter_of};
 ghost use Rattle.av1_inter.specs.Motion.{bias, down_intermediate, entry, intermediate, prepared};
-ghost use Rattle.av1_inter.specs.Places.{AreWithinDepth, corner_of, IsDepth, IsStoredFrom, samples_from};
+ghost use Rattle.av1_inter.specs.Places.{AreWithinDepth, corner_of, IsStoredFrom, samples_from};
+ghost use Rattle.av1_blocks.specs.Depths.{IsDepth};
 ghost use Rattle.av1_inter.specs.Scaffolding.{IsBeside, IsFilter, IsStripWidth, IsWithin};
 
 use crate::filter::{Filter, get_filter};
-use crate::lines::intermediate_row;
+use crate::lines::filter_horizontal;
 use crate::rounding::prep_bias;
 use crate::strip::strip_width;
 use crate::window::{keep_first_rows, next_sums};
@@ -59,7 +60,7 @@ fn prepare_rows<T: Pixel, const N: usize>(
     requires wide { width ≤ 128 }
     requires low { height ≤ 128 }
     requires stored { IsStoredFrom corner (N + 7) (height + 7) }
-    requires depth { IsDepth bit_depth }
+    requires depths { IsDepth bit_depth }
     requires within { AreWithinDepth bit_depth (samples_from T.num corner) (N + 7) (height + 7) }
     ensures value { (r c : ℕ) → r < height → c < N → entry tmp.new (r * width + start + c) ≡ intermediate bit_depth across.now.fraction across.now.taps (samples_from T.num corner.entry) (r + 3) c -ℤ bias bit_depth }
     ensures others { (i : ℕ) → ((r : ℕ) → r < height → IsBeside (r * width + start) N i) → entry tmp.new i ≡ entry tmp.old i }
@@ -67,7 +68,7 @@ fn prepare_rows<T: Pixel, const N: usize>(
     // A copy of its own can't be what is written, so its weights stay in registers.
     let across = *across;
     for r in 0..height {
-        let values = intermediate_row::<T, N>(corner.row(r + 3), &across, bit_depth);
+        let values = filter_horizontal::<T, N>(corner.row(r + 3), &across, bit_depth);
         prepare_row::<N>(tmp, r * width + start, &values, 0, bit_depth);
     }
 }
@@ -92,7 +93,7 @@ fn prepare_columns<T: Pixel, const N: usize>(
     requires wide { width ≤ 128 }
     requires low { height ≤ 128 }
     requires stored { IsStoredFrom corner (N + 7) (height + 7) }
-    requires depth { IsDepth bit_depth }
+    requires depths { IsDepth bit_depth }
     requires within { AreWithinDepth bit_depth (samples_from T.num corner) (N + 7) (height + 7) }
     ensures value { (r c : ℕ) → r < height → c < N → entry tmp.new (r * width + start + c) ≡ round_shift (down_intermediate bit_depth across.now.fraction across.now.taps down.now.taps (samples_from T.num corner.entry) r c) 7 -ℤ bias bit_depth }
     ensures others { (i : ℕ) → ((r : ℕ) → r < height → IsBeside (r * width + start) N i) → entry tmp.new i ≡ entry tmp.old i }
@@ -126,7 +127,7 @@ fn prepare_block<T: Pixel, const N: usize>(
     requires wide { width ≤ 128 }
     requires low { height ≤ 128 }
     requires stored { IsStoredFrom corner (N + 7) (height + 7) }
-    requires depth { IsDepth bit_depth }
+    requires depths { IsDepth bit_depth }
     requires within { AreWithinDepth bit_depth (samples_from T.num corner) (N + 7) (height + 7) }
     ensures value { (r c : ℕ) → r < height → c < N → entry tmp.new (r * width + start + c) ≡ prepared bit_depth across.now.fraction down.now.fraction across.now.taps down.now.taps (samples_from T.num corner.entry) r c }
     ensures others { (i : ℕ) → ((r : ℕ) → r < height → IsBeside (r * width + start) N i) → entry tmp.new i ≡ entry tmp.old i }
@@ -159,7 +160,7 @@ fn prepare_columns_of<T: Pixel>(
     requires wide { width ≤ 128 }
     requires low { height ≤ 128 }
     requires stored { IsStoredFrom corner (columns + 7) (height + 7) }
-    requires depth { IsDepth bit_depth }
+    requires depths { IsDepth bit_depth }
     requires within { AreWithinDepth bit_depth (samples_from T.num corner) (columns + 7) (height + 7) }
     ensures value { (r c : ℕ) → r < height → c < columns → entry tmp.new (r * width + start + c) ≡ prepared bit_depth across.now.fraction down.now.fraction across.now.taps down.now.taps (samples_from T.num corner.entry) r c }
     ensures others { (i : ℕ) → ((r : ℕ) → r < height → IsBeside (r * width + start) columns i) → entry tmp.new i ≡ entry tmp.old i }
@@ -198,7 +199,7 @@ fn prepare_strip<T: Pixel>(
     requires wide { width ≤ 128 }
     requires low { height ≤ 128 }
     requires stored { IsStoredFrom corner (start + columns + 7) (height + 7) }
-    requires depth { IsDepth bit_depth }
+    requires depths { IsDepth bit_depth }
     requires within { AreWithinDepth bit_depth (samples_from T.num corner) (start + columns + 7) (height + 7) }
     ensures value { (r c : ℕ) → r < height → c < columns → entry tmp.new (r * width + start + c) ≡ prepared bit_depth across.now.fraction down.now.fraction across.now.taps down.now.taps (samples_from T.num corner.entry) r (start + c) }
     ensures others { (i : ℕ) → ((r : ℕ) → r < height → IsBeside (r * width + start) columns i) → entry tmp.new i ≡ entry tmp.old i }
@@ -225,7 +226,7 @@ fn prepare_strips<T: Pixel>(
     requires wide { width ≤ 128 }
     requires low { height ≤ 128 }
     requires stored { IsStoredFrom corner (width + 7) (height + 7) }
-    requires depth { IsDepth bit_depth }
+    requires depths { IsDepth bit_depth }
     requires within { AreWithinDepth bit_depth (samples_from T.num corner) (width + 7) (height + 7) }
     ensures value { (r c : ℕ) → r < height → c < width → entry tmp.new (r * width + c) ≡ prepared bit_depth across.now.fraction down.now.fraction across.now.taps down.now.taps (samples_from T.num corner.entry) r c }
     ensures others { (i : ℕ) → height * width ≤ i → entry tmp.new i ≡ entry tmp.old i }
@@ -262,7 +263,7 @@ pub fn prep_8tap<T: Pixel>(
     requires col_frac { (pos 0 ≤ℤ col_frac) × (col_frac <ℤ pos 16) }
     requires row_frac { (pos 0 ≤ℤ row_frac) × (row_frac <ℤ pos 16) }
     requires stored { IsStoredFrom (corner_of src) (width + 7) (height + 7) }
-    requires depth { IsDepth bit_depth }
+    requires depths { IsDepth bit_depth }
     requires within { AreWithinDepth bit_depth (samples_from T.num (corner_of src)) (width + 7) (height + 7) }
     ensures value { (r c : ℕ) → r < height → c < width → entry tmp.new (r * width + c) ≡
         prepared bit_depth (unsigned_abs col_frac) (unsigned_abs row_frac) (filter_of mode_x (unsigned_abs col_frac) width) (filter_of mode_y (unsigned_abs row_frac) height) (samples_from T.num (corner_of src.entry)) r c }

@@ -8,20 +8,21 @@ ghost use Rattle.av1_frame.specs.Samples.{paint_row};
 ghost use Rattle.av1_frame.specs.Regions.{InStorage, painted, painted_within};
 ghost use Rattle.av1_inter.specs.Filters.{filter_of};
 ghost use Rattle.av1_inter.specs.Motion.{down_intermediate, entry, intermediate_bits, intermediate, single};
-ghost use Rattle.av1_inter.specs.Places.{AreWithinDepth, corner_of, IsDepth, IsStoredFrom, samples_from};
+ghost use Rattle.av1_inter.specs.Places.{AreWithinDepth, corner_of, IsStoredFrom, samples_from};
+ghost use Rattle.av1_blocks.specs.Depths.{IsDepth};
 ghost use Rattle.av1_inter.specs.Scaffolding.{IsFilter, IsStripWidth, IsWithin, strip_of};
 
 use crate::filter::{Filter, get_filter};
-use crate::lines::intermediate_row;
-use crate::rounding::{intermediate_bits, sample_of};
+use crate::lines::filter_horizontal;
+use crate::rounding::intermediate_bits;
 use crate::strip::strip_width;
 use crate::window::{keep_first_rows, next_sums};
 use av1_blocks::{FilterMode, SUBPEL_FILTER_SIZE};
-use av1_frame::{Area, Pixel, PlaneRegionMut, PlaneSlice, round_shift};
+use av1_frame::{Area, Pixel, PlaneRegionMut, PlaneSlice, clip, round_shift};
 
 /// The first `width` samples of the row become those of `source` from the fourth on.
 #[inline(always)]
-fn copy_row<T: Pixel>(row: &mut [T], source: &[T], width: usize)
+fn copy_inner<T: Pixel>(row: &mut [T], source: &[T], width: usize)
     requires row_long { width ≤ length row.old }
     requires source_long { width + 3 ≤ length source.now }
     ensures { row.new ≡ paint_row width (λ c v. slice_index_or source.now (c + 3) v) row.old }
@@ -31,23 +32,23 @@ fn copy_row<T: Pixel>(row: &mut [T], source: &[T], width: usize)
 
 /// The first `N` samples of the row become the values, rounded and clipped to the depth.
 #[inline(always)]
-#[tactic(auto, using(av1_frame::proofs::Paint::paint_row_none, av1_frame::proofs::Paint::paint_row_more))]
+#[tactic(auto, using(av1_frame::proofs::Paint::row_painting))]
 fn put_row<T: Pixel, const N: usize>(row: &mut [T], values: &[i32; N], bit: usize, bit_depth: usize)
     requires row_long { N ≤ length row.old }
     requires short { N ≤ 128 }
     requires within { (c : ℕ) → c < N → IsWithin (2 ^ 30) (entry values.now c) }
     requires small { bit ≤ 11 }
-    requires depth { IsDepth bit_depth }
-    requires depth_fits { bit_depth ≤ T.BITS }
+    requires depths { IsDepth bit_depth }
+    requires depth { bit_depth ≤ T.BITS }
     ensures { row.new ≡ paint_row N (λ c _. T.pixel (clip bit_depth (round_shift (entry values.now c) bit))) row.old }
 {
     for c in 0..N {
-        row[c] = sample_of(round_shift(values[c], bit), bit_depth);
+        row[c] = clip(round_shift(values[c], bit), bit_depth);
     }
 }
 
 /// The block's samples as they stand in the reference.
-#[tactic(auto, using(av1_frame::proofs::Regions::painted_none, av1_frame::proofs::Regions::painted_in_storage, av1_frame::proofs::Regions::painted_more))]
+#[tactic(auto, using(av1_frame::proofs::Regions::region_painting))]
 fn put_samples<T: Pixel>(
     dst: &mut PlaneRegionMut<'_, T>,
     corner: PlaneSlice<'_, T>,
@@ -55,34 +56,34 @@ fn put_samples<T: Pixel>(
     height: usize,
 )
     requires fits { InStorage dst.old }
-    requires columns { width ≤ dst.old.place.width }
-    requires rows { height ≤ dst.old.place.height }
+    requires columns { width ≤ dst.old.area.width }
+    requires rows { height ≤ dst.old.area.height }
     requires stored { IsStoredFrom corner (width + 7) (height + 7) }
     ensures painted { dst.new ≡ painted dst.old width height (λ r c _. T.pixel (samples_from T.num corner.entry (c + 3) (r + 3))) }
     ensures fits { InStorage dst.new }
 {
     for r in 0..height {
-        copy_row(dst.row_mut(r), corner.row(r + 3), width);
+        copy_inner(dst.row_mut(r), corner.row(r + 3), width);
     }
 }
 
 /// The same of a block of `N` columns, whose rows are copied by a move or two.
-#[tactic(auto, using(av1_frame::proofs::Regions::painted_none, av1_frame::proofs::Regions::painted_in_storage, av1_frame::proofs::Regions::painted_more))]
+#[tactic(auto, using(av1_frame::proofs::Regions::region_painting))]
 fn put_samples_of<T: Pixel, const N: usize>(
     dst: &mut PlaneRegionMut<'_, T>,
     corner: PlaneSlice<'_, T>,
     height: usize,
 )
     requires fits { InStorage dst.old }
-    requires columns { N ≤ dst.old.place.width }
-    requires rows { height ≤ dst.old.place.height }
+    requires columns { N ≤ dst.old.area.width }
+    requires rows { height ≤ dst.old.area.height }
     requires short { N ≤ 128 }
     requires stored { IsStoredFrom corner (N + 7) (height + 7) }
     ensures painted { dst.new ≡ painted dst.old N height (λ r c _. T.pixel (samples_from T.num corner.entry (c + 3) (r + 3))) }
     ensures fits { InStorage dst.new }
 {
     for r in 0..height {
-        copy_row(dst.row_mut(r), corner.row(r + 3), N);
+        copy_inner(dst.row_mut(r), corner.row(r + 3), N);
     }
 }
 
@@ -94,8 +95,8 @@ fn put_copy<T: Pixel>(
     height: usize,
 )
     requires fits { InStorage dst.old }
-    requires columns { width ≤ dst.old.place.width }
-    requires rows { height ≤ dst.old.place.height }
+    requires columns { width ≤ dst.old.area.width }
+    requires rows { height ≤ dst.old.area.height }
     requires stored { IsStoredFrom corner (width + 7) (height + 7) }
     ensures painted { dst.new ≡ painted dst.old width height (λ r c _. T.pixel (samples_from T.num corner.entry (c + 3) (r + 3))) }
     ensures fits { InStorage dst.new }
@@ -123,12 +124,12 @@ fn put_rows<T: Pixel, const N: usize>(
 )
     requires filter { IsFilter across.now.taps }
     requires fits { InStorage dst.old }
-    requires columns { N ≤ dst.old.place.width }
-    requires rows { height ≤ dst.old.place.height }
+    requires columns { N ≤ dst.old.area.width }
+    requires rows { height ≤ dst.old.area.height }
     requires short { N ≤ 128 }
     requires stored { IsStoredFrom corner (N + 7) (height + 7) }
-    requires depth { IsDepth bit_depth }
-    requires depth_fits { bit_depth ≤ T.BITS }
+    requires depths { IsDepth bit_depth }
+    requires depth { bit_depth ≤ T.BITS }
     requires within { AreWithinDepth bit_depth (samples_from T.num corner) (N + 7) (height + 7) }
     ensures painted { dst.new ≡ painted dst.old N height (λ r c _. T.pixel (clip bit_depth (round_shift (intermediate bit_depth across.now.fraction across.now.taps (samples_from T.num corner.entry) (r + 3) c) (intermediate_bits bit_depth)))) }
     ensures fits { InStorage dst.new }
@@ -137,7 +138,7 @@ fn put_rows<T: Pixel, const N: usize>(
     let across = *across;
     let bits = intermediate_bits(bit_depth);
     for r in 0..height {
-        let values = intermediate_row::<T, N>(corner.row(r + 3), &across, bit_depth);
+        let values = filter_horizontal::<T, N>(corner.row(r + 3), &across, bit_depth);
         put_row::<T, N>(dst.row_mut(r), &values, bits, bit_depth);
     }
 }
@@ -155,13 +156,13 @@ fn put_columns<T: Pixel, const N: usize>(
     requires across_filter { IsFilter across.now.taps }
     requires down_filter { IsFilter down.now.taps }
     requires fits { InStorage dst.old }
-    requires columns { N ≤ dst.old.place.width }
-    requires rows { height ≤ dst.old.place.height }
+    requires columns { N ≤ dst.old.area.width }
+    requires rows { height ≤ dst.old.area.height }
     requires short { N ≤ 128 }
     requires low { height ≤ 128 }
     requires stored { IsStoredFrom corner (N + 7) (height + 7) }
-    requires depth { IsDepth bit_depth }
-    requires depth_fits { bit_depth ≤ T.BITS }
+    requires depths { IsDepth bit_depth }
+    requires depth { bit_depth ≤ T.BITS }
     requires within { AreWithinDepth bit_depth (samples_from T.num corner) (N + 7) (height + 7) }
     ensures painted { dst.new ≡ painted dst.old N height (λ r c _. T.pixel (clip bit_depth (round_shift (down_intermediate bit_depth across.now.fraction across.now.taps down.now.taps (samples_from T.num corner.entry) r c) (7 + intermediate_bits bit_depth)))) }
     ensures fits { InStorage dst.new }
@@ -189,13 +190,13 @@ fn put_block<T: Pixel, const N: usize>(
     requires across_filter { IsFilter across.now.taps }
     requires down_filter { IsFilter down.now.taps }
     requires fits { InStorage dst.old }
-    requires columns { N ≤ dst.old.place.width }
-    requires rows { height ≤ dst.old.place.height }
+    requires columns { N ≤ dst.old.area.width }
+    requires rows { height ≤ dst.old.area.height }
     requires short { N ≤ 128 }
     requires low { height ≤ 128 }
     requires stored { IsStoredFrom corner (N + 7) (height + 7) }
-    requires depth { IsDepth bit_depth }
-    requires depth_fits { bit_depth ≤ T.BITS }
+    requires depths { IsDepth bit_depth }
+    requires depth { bit_depth ≤ T.BITS }
     requires within { AreWithinDepth bit_depth (samples_from T.num corner) (N + 7) (height + 7) }
     ensures painted { dst.new ≡ painted dst.old N height (λ r c _. T.pixel (single bit_depth across.now.fraction down.now.fraction across.now.taps down.now.taps (samples_from T.num corner.entry) r c)) }
     ensures fits { InStorage dst.new }
@@ -221,13 +222,13 @@ fn put_columns_of<T: Pixel>(
     requires across_filter { IsFilter across.now.taps }
     requires down_filter { IsFilter down.now.taps }
     requires fits { InStorage dst.old }
-    requires columns { columns ≤ dst.old.place.width }
-    requires rows { height ≤ dst.old.place.height }
+    requires columns { columns ≤ dst.old.area.width }
+    requires rows { height ≤ dst.old.area.height }
     requires short { columns ≤ 128 }
     requires low { height ≤ 128 }
     requires stored { IsStoredFrom corner (columns + 7) (height + 7) }
-    requires depth { IsDepth bit_depth }
-    requires depth_fits { bit_depth ≤ T.BITS }
+    requires depths { IsDepth bit_depth }
+    requires depth { bit_depth ≤ T.BITS }
     requires within { AreWithinDepth bit_depth (samples_from T.num corner) (columns + 7) (height + 7) }
     ensures painted { dst.new ≡ painted dst.old columns height (λ r c _. T.pixel (single bit_depth across.now.fraction down.now.fraction across.now.taps down.now.taps (samples_from T.num corner.entry) r c)) }
     ensures fits { InStorage dst.new }
@@ -260,15 +261,15 @@ fn put_strip<T: Pixel>(
     requires across_filter { IsFilter across.now.taps }
     requires down_filter { IsFilter down.now.taps }
     requires fits { InStorage dst.old }
-    requires columns { start + columns ≤ dst.old.place.width }
-    requires rows { height ≤ dst.old.place.height }
+    requires columns { start + columns ≤ dst.old.area.width }
+    requires rows { height ≤ dst.old.area.height }
     requires short { start + columns ≤ 128 }
     requires low { height ≤ 128 }
     requires stored { IsStoredFrom corner (start + columns + 7) (height + 7) }
-    requires depth { IsDepth bit_depth }
-    requires depth_fits { bit_depth ≤ T.BITS }
+    requires depths { IsDepth bit_depth }
+    requires depth { bit_depth ≤ T.BITS }
     requires within { AreWithinDepth bit_depth (samples_from T.num corner) (start + columns + 7) (height + 7) }
-    ensures painted { dst.new ≡ painted_within dst.old (strip_of dst.old.place start columns height) (λ r c _. T.pixel (single bit_depth across.now.fraction down.now.fraction across.now.taps down.now.taps (samples_from T.num corner.entry) r (start + c))) }
+    ensures painted { dst.new ≡ painted_within dst.old (strip_of dst.old.area start columns height) (λ r c _. T.pixel (single bit_depth across.now.fraction down.now.fraction across.now.taps down.now.taps (samples_from T.num corner.entry) r (start + c))) }
     ensures fits { InStorage dst.new }
 {
     let outer = dst.narrow(Area::Rect {
@@ -295,13 +296,13 @@ fn put_strips<T: Pixel>(
     requires across_filter { IsFilter across.now.taps }
     requires down_filter { IsFilter down.now.taps }
     requires fits { InStorage dst.old }
-    requires columns { width ≤ dst.old.place.width }
-    requires rows { height ≤ dst.old.place.height }
+    requires columns { width ≤ dst.old.area.width }
+    requires rows { height ≤ dst.old.area.height }
     requires short { width ≤ 128 }
     requires low { height ≤ 128 }
     requires stored { IsStoredFrom corner (width + 7) (height + 7) }
-    requires depth { IsDepth bit_depth }
-    requires depth_fits { bit_depth ≤ T.BITS }
+    requires depths { IsDepth bit_depth }
+    requires depth { bit_depth ≤ T.BITS }
     requires within { AreWithinDepth bit_depth (samples_from T.num corner) (width + 7) (height + 7) }
     ensures painted { dst.new ≡ painted dst.old width height (λ r c _. T.pixel (single bit_depth across.now.fraction down.now.fraction across.now.taps down.now.taps (samples_from T.num corner.entry) r c)) }
     ensures fits { InStorage dst.new }
@@ -332,15 +333,15 @@ pub fn put_8tap<T: Pixel>(
     bit_depth: usize,
 )
     requires fits { InStorage dst.old }
-    requires columns { width ≤ dst.old.place.width }
-    requires rows { height ≤ dst.old.place.height }
+    requires columns { width ≤ dst.old.area.width }
+    requires rows { height ≤ dst.old.area.height }
     requires wide { width ≤ 128 }
     requires high { height ≤ 128 }
     requires col_frac { (pos 0 ≤ℤ col_frac) × (col_frac <ℤ pos 16) }
     requires row_frac { (pos 0 ≤ℤ row_frac) × (row_frac <ℤ pos 16) }
     requires stored { IsStoredFrom (corner_of src) (width + 7) (height + 7) }
-    requires depth { IsDepth bit_depth }
-    requires depth_fits { bit_depth ≤ T.BITS }
+    requires depths { IsDepth bit_depth }
+    requires depth { bit_depth ≤ T.BITS }
     requires within { AreWithinDepth bit_depth (samples_from T.num (corner_of src)) (width + 7) (height + 7) }
     ensures painted { dst.new ≡ painted dst.old width height (λ r c _. T.pixel
         (single bit_depth (unsigned_abs col_frac) (unsigned_abs row_frac) (filter_of mode_x (unsigned_abs col_frac) width) (filter_of mode_y (unsigned_abs row_frac) height) (samples_from T.num (corner_of src.entry)) r c)) }

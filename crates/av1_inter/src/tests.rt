@@ -2,7 +2,7 @@
 
 ghost use Rattle.std.specs.Prelude.{◌≡◌, ℕ, ◌^◌, ◌≤◌, ◌<◌, pos, ◌≤ℤ◌, ◌<ℤ◌, length, map, slice_index, All, IfOk, true};
 ghost use Rattle.av1_frame.specs.Regions.{InStorage};
-ghost use Rattle.av1_inter.specs.Places.{IsDepth};
+ghost use Rattle.av1_blocks.specs.Depths.{IsDepth};
 ghost use Rattle.av1_inter.specs.Reference.{is_reference, IsReference, IsServed};
 
 use crate::{InterCompoundBuffers, mc_avg, predict_inter, prep_8tap, put_8tap};
@@ -117,8 +117,8 @@ fn put_case<T: Pixel>(
     requires size { length samples.now ≡ 256 }
     requires blank { length blank.now ≡ 81 }
     requires within { (k : ℕ) → k < 256 → slice_index (map T.num samples.now) k < 2 ^ depth }
-    requires depth { IsDepth depth }
-    requires depth_fits { depth ≤ T.BITS }
+    requires depths { IsDepth depth }
+    requires depth { depth ≤ T.BITS }
     requires width { motion.width ≤ 8 }
     requires height { motion.height ≤ 8 }
     requires col_frac { (pos 0 ≤ℤ motion.col_frac) × (motion.col_frac <ℤ pos 16) }
@@ -151,7 +151,7 @@ fn prepared<T: Pixel>(
 ) -> Result<[i16; 65], OutOfMemory>
     requires size { length samples.now ≡ 256 }
     requires within { (k : ℕ) → k < 256 → slice_index (map T.num samples.now) k < 2 ^ depth }
-    requires depth { IsDepth depth }
+    requires depths { IsDepth depth }
     requires width { motion.width ≤ 8 }
     requires height { motion.height ≤ 8 }
     requires col_frac { (pos 0 ≤ℤ motion.col_frac) × (motion.col_frac <ℤ pos 16) }
@@ -187,8 +187,8 @@ fn average_case<T: Pixel>(
     requires first { length first.now ≡ 65 }
     requires second { length second.now ≡ 65 }
     requires blank { length blank.now ≡ 81 }
-    requires depth { IsDepth depth }
-    requires depth_fits { depth ≤ T.BITS }
+    requires depths { IsDepth depth }
+    requires depth { depth ≤ T.BITS }
     requires width { width ≤ 8 }
     requires height { height ≤ 8 }
 {

@@ -4,11 +4,12 @@
 
 ghost use Rattle.std.specs.Prelude.{◌≡◌, ◌≢◌, ℕ, ◌+◌, ◌%◌, ◌^◌, ◌≤◌, ◌<◌};
 ghost use Rattle.av1_inter.specs.Motion.{down_intermediate, entry, intermediate};
-ghost use Rattle.av1_inter.specs.Places.{AreWithinDepth, IsDepth, IsStoredFrom, samples_from};
+ghost use Rattle.av1_inter.specs.Places.{AreWithinDepth, IsStoredFrom, samples_from};
+ghost use Rattle.av1_blocks.specs.Depths.{IsDepth};
 ghost use Rattle.av1_inter.specs.Scaffolding.{IsFilter, IsWithin, kept, Keeps};
 
 use crate::filter::Filter;
-use crate::lines::{filter_down, intermediate_row};
+use crate::lines::{filter_horizontal, filter_vertical};
 use av1_blocks::SUBPEL_FILTER_SIZE;
 use av1_frame::{Pixel, PlaneSlice};
 
@@ -27,7 +28,7 @@ fn keep_row<T: Pixel, const N: usize>(
     ensures value { (c : ℕ) → c < N → entry (kept rows.new y) c ≡ intermediate bit_depth across.now.fraction across.now.taps (samples_from T.num corner.entry) y c }
     ensures others { (j : ℕ) → j % 8 ≢ y % 8 → kept rows.new j ≡ kept rows.old j }
 {
-    rows[y % 8] = intermediate_row::<T, N>(corner.row(y), across, bit_depth);
+    rows[y % 8] = filter_horizontal::<T, N>(corner.row(y), across, bit_depth);
 }
 
 /// Keeps the first seven rows.
@@ -61,7 +62,7 @@ pub(crate) fn next_sums<T: Pixel, const N: usize>(
     requires across_filter { IsFilter across.now.taps }
     requires down_filter { IsFilter down.now.taps }
     requires stored { IsStoredFrom corner (N + 7) (r + 8) }
-    requires depth { IsDepth bit_depth }
+    requires depths { IsDepth bit_depth }
     requires within { AreWithinDepth bit_depth (samples_from T.num corner) (N + 7) (r + 8) }
     requires short { N ≤ 128 }
     requires room { r < 2 ^ 31 }
@@ -71,5 +72,5 @@ pub(crate) fn next_sums<T: Pixel, const N: usize>(
     ensures within { (c : ℕ) → c < N → IsWithin (2 ^ 30) (entry result c) }
 {
     keep_row::<T, N>(rows, corner, r + 7, across, bit_depth);
-    filter_down::<N>(rows, r, &down.taps)
+    filter_vertical::<N>(rows, r, &down.taps)
 }

@@ -161,7 +161,9 @@ module _ (mode : PredictionMode) (h : is_directional mode ≡ true) where
       ] h
 
 -- the modes that mix, and that of the nearest neighbour
-pub smoothly_predicted : (b : DirectionalBlock) (v : PredictionVariant) (mode : PredictionMode) (alpha : ℤ) (ac : ℕ → ℕ → ℤ) (e : Edge) (r c : ℕ) → (mode ≡ SMOOTH_PRED) ⊎ ((mode ≡ SMOOTH_V_PRED) ⊎ ((mode ≡ SMOOTH_H_PRED) ⊎ (mode ≡ PAETH_PRED))) → smoothly mode b.width b.height e r c ≡ predicted b v mode alpha ac e r c
+pub smoothly_predicted : (b : DirectionalBlock) (v : PredictionVariant) (mode : PredictionMode) (alpha : ℤ) (ac : ℕ → ℕ → ℤ) (e : Edge) (r c : ℕ)
+    → (mode ≡ SMOOTH_PRED) ⊎ ((mode ≡ SMOOTH_V_PRED) ⊎ ((mode ≡ SMOOTH_H_PRED) ⊎ (mode ≡ PAETH_PRED)))
+    → smoothly mode b.width b.height e r c ≡ predicted b v mode alpha ac e r c
 unfolding predicted
 smoothly_predicted b v mode alpha ac e r c h =
     let P : PredictionMode → Type 0 = λ m. smoothly m b.width b.height e r c ≡ predicted b v m alpha ac e r c in

@@ -76,29 +76,29 @@ entry_bound u n k m h l =
       | inr e ↦ subst (λ v. n / 2 ^ (6 - v) + k * 2 ^ v + 1 ≤ (m + k) * 2 ^ v) (let f : 1 ≡ u = omega arith in f) (omega arith)
     ]
 
-pub doubled_few : (u s : ℕ) → u ≤ 1 → s ≤ 128 → s * 2 ^ u ≤ 256
-doubled_few u s h l =
+pub upsampled_few : (u s : ℕ) → u ≤ 1 → s ≤ 128 → s * 2 ^ u ≤ 256
+upsampled_few u s h l =
     elim (cases_eq u 0) [
       | inl e ↦ subst (λ v. s * 2 ^ v ≤ 256) (sym e) (omega arith)
       | inr e ↦ subst (λ v. s * 2 ^ v ≤ 256) (let f : 1 ≡ u = omega arith in f) (omega arith)
     ]
 
-pub doubled_le : (u a b : ℕ) → a ≤ b → a * 2 ^ u ≤ b * 2 ^ u
-doubled_le u a b h = mul-le-mul_right (2 ^ u) h
+pub upsampled_le : (u a b : ℕ) → a ≤ b → a * 2 ^ u ≤ b * 2 ^ u
+upsampled_le u a b h = mul-le-mul_right (2 ^ u) h
 
 -- the entries that an angle between 90 and 180 reads of either side
 pub above_inside : (u w i j dx dy : ℕ) → u ≤ 1 → w ≤ 64 → j < w → ArePair dx dy → (i + 1) * dx ≤ 64 * (j + 1) → (64 * (j + 1) - (i + 1) * dx) / 2 ^ (6 - u) + 0 * 2 ^ u + 1 ≤ w * 2 ^ u
 above_inside u w i j dx dy h l q p e =
     let z = le-mul_of_pos_right (i + 1) p.above in
     let a = entry_bound u (64 * (j + 1) - (i + 1) * dx) 0 (j + 1) h (omega arith) in
-    let b = doubled_le u (j + 1 + 0) w (omega arith) in
+    let b = upsampled_le u (j + 1 + 0) w (omega arith) in
     omega arith
 
 pub left_inside : (u s i j dx dy : ℕ) → u ≤ 1 → s ≤ 64 → i < s → ArePair dx dy → 64 * (j + 1) < (i + 1) * dx → (64 * (i + 1) - (j + 1) * dy) / 2 ^ (6 - u) + 0 * 2 ^ u + 1 ≤ s * 2 ^ u
 left_inside u s i j dx dy h l q p e =
     let z = le-mul_of_pos_right (j + 1) p.left in
     let a = entry_bound u (64 * (i + 1) - (j + 1) * dy) 0 (i + 1) h (omega arith) in
-    let b = doubled_le u (i + 1 + 0) s (omega arith) in
+    let b = upsampled_le u (i + 1 + 0) s (omega arith) in
     omega arith
 
 -- and those of an angle past 180
@@ -106,13 +106,13 @@ pub past_inside : (u w s i j dy : ℕ) → u ≤ 1 → i < s → j < w → dy �
 past_inside u w s i j dy h l q e =
     let z : (j + 1) * dy ≤ w * 40 = mul-le-mul (omega arith) e in
     let a = entry_bound u ((j + 1) * dy + 64) i (w + 1) h (omega arith) in
-    let b = doubled_le u (w + 1 + i) (w + s) (omega arith) in
+    let b = upsampled_le u (w + 1 + i) (w + s) (omega arith) in
     omega arith
 
 pub past_180_inside : (u i j dy : ℕ) → u ≤ 1 → i < 64 → j < 64 → dy ≤ 40 → ((j + 1) * dy + 64) / 2 ^ (6 - u) + i * 2 ^ u + 1 ≤ 256
 past_180_inside u i j dy h l q e =
     let a = past_inside u 64 64 i j dy h l q e in
-    let b = doubled_few u 128 h (omega arith) in
+    let b = upsampled_few u 128 h (omega arith) in
     omega arith
 
 -- no angle is straight

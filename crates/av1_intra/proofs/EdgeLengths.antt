@@ -56,7 +56,8 @@ turned_up : (a : ℕ) (step : ℤ) → 9 ≤ a → unsigned_abs step ≤ 3 → p
 turned_up a (pos n) h l = omega (arith, ints)
 turned_up a (negsuc n) h l = omega (arith, ints)
 
-pub enough_left : (filter : Bool) (mode : PredictionMode) (param : IntraParam) (x y w h : ℕ) → unsigned_abs (step_of param) ≤ 3 → places_left mode (variant_at x y) (unsigned_abs (angle_or_alpha mode param)) w h ≤ where_needed (parts_for filter mode (step_of param) x w h).left h + where_needed (parts_for filter mode (step_of param) x w h).below_left w
+pub enough_left : (filter : Bool) (mode : PredictionMode) (param : IntraParam) (x y w h : ℕ) → unsigned_abs (step_of param) ≤ 3
+    → places_left mode (variant_at x y) (unsigned_abs (angle_or_alpha mode param)) w h ≤ where_needed (parts_for filter mode (step_of param) x w h).left h + where_needed (parts_for filter mode (step_of param) x w h).below_left w
 enough_left filter mode param x y w h l =
     let s = step_of param in
     elim mode as (λ m. places_left m (variant_at x y) (unsigned_abs (angle_or_alpha m param)) w h ≤ where_needed (parts_for filter m (step_of param) x w h).left h + where_needed (parts_for filter m (step_of param) x w h).below_left w) [

@@ -1,8 +1,7 @@
 pub mod Mixes
-pub mod Depth
 pub mod RowReads
 pub mod Filter
-pub mod Doubled
+pub mod Upsampled
 pub mod SideEntries
 pub mod Derivatives
 pub mod Ranges
@@ -19,3 +18,5 @@ pub mod BesideBlock
 pub mod ByMode
 pub mod LumaFits
 pub mod EdgeLengths
+pub mod Within
+pub mod SameLuma

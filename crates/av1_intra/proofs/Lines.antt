@@ -8,7 +8,7 @@ use Rattle.av1_intra.specs.Sides.{Side}
 use Rattle.av1_intra.specs.Angles.{ArePair}
 use Rattle.av1_intra.specs.Directional.{blend, at, below_90, between}
 
--- what holds of 0 and 1 holds of a side's doubling
+-- what holds of 0 and 1 holds of a side's upsampling
 pub one_of_two : (P : ℕ → Type 0) (u : ℕ) → u ≤ 1 → P 0 → P 1 → P u
 one_of_two P u h a b =
     elim (cases_eq u 0) [
@@ -21,7 +21,7 @@ pub entry_inside : (u n k len : ℕ) → u ≤ 1 → k < len → len ≤ 64 → 
 entry_inside u n k len h l m =
     one_of_two (λ u. n / 2 ^ (6 - u) + len * 2 ^ u ≤ 256 + u → n / 2 ^ (6 - u) + k * 2 ^ u < 256) u h (λ q. omega arith) (λ q. omega arith)
 
--- a shift by a doubling loses nothing
+-- a shift by a upsampling loses nothing
 pub shifted : (u k : ℕ) → u ≤ 1 → k < 2 ^ 20 → k * 2 ^ u % 18446744073709551616 ≡ k * 2 ^ u
 shifted u k h l =
     one_of_two (λ u. k * 2 ^ u % 18446744073709551616 ≡ k * 2 ^ u) u h (omega arith) (omega arith)

@@ -10,7 +10,7 @@ use Rattle.av1_frame.specs.declared.plane_region.PlaneRegion.{PlaneRegion}
 use Rattle.av1_frame.specs.Samples.{row_of, row_start, paint_row}
 use Rattle.av1_frame.proofs.Update.{update_is, length-update, get_or-update}
 use Rattle.av1_edges.specs.Edges.{region_sample}
-use Rattle.av1_edges.proofs.Lists.{listed_is}
+use Rattle.av1_lists.proofs.Lists.{numbers_are}
 use Rattle.av1_intra.specs.Sides.{numbers}
 use Rattle.av1_intra.proofs.RowParts.{painted_front}
 use Rattle.av1_intra.specs.Dc.{mean}
@@ -73,11 +73,11 @@ covered_small f x y (suc zero) (suc zero) h l e =
 covered_small f x y a b h l e = absurd (omega arith)
 
 -- the numbers of a row of a region
-pub row_numbers : {T : Type 0} (num : T → ℕ) (r : PlaneRegion T) (row : List T) (y c : ℕ) → row ≡ row_of r.plane_cfg.stride r.place y r.plane.now.samples → c < r.place.width → numbers num row c ≡ region_sample num r c y
+pub row_numbers : {T : Type 0} (num : T → ℕ) (r : PlaneRegion T) (row : List T) (y c : ℕ) → row ≡ row_of r.plane_cfg.stride r.area y r.plane.now.samples → c < r.area.width → numbers num row c ≡ region_sample num r c y
 row_numbers num r row y c e h =
-    let i = row_start r.plane_cfg.stride r.place y in
+    let i = row_start r.plane_cfg.stride r.area y in
     let s = r.plane.now.samples in
-    ap (λ t. numbers num t c) e ∙ ap (λ t. get_or t c 0) (sym (take-map num r.place.width (drop i s)) ∙ ap (take r.place.width) (sym (drop-map num i s))) ∙ (get_or-take r.place.width (drop i (map num s)) c 0 h ∙ get_or-drop i (map num s) c 0)
+    ap (λ t. numbers num t c) e ∙ ap (λ t. get_or t c 0) (sym (take-map num r.area.width (drop i s)) ∙ ap (take r.area.width) (sym (drop-map num i s))) ∙ (get_or-take r.area.width (drop i (map num s)) c 0 h ∙ get_or-drop i (map num s) c 0)
 
 -- ---- the mean
 
@@ -116,7 +116,11 @@ entry_painted w k g s t d e h l = ap (λ u. get_or u k d) e ∙ (get_or-update _
 -- ---- a block
 
 -- the luma over sample k of row r, which stands in two rows, is that of the region
-pub row_luma : {T : Type 0} (num : T → ℕ) (l : PlaneRegion T) (b : ChromaBlock) (top below : List T) (r k i : ℕ) → b.xdec ≤ 1 → b.ydec ≤ b.xdec → k < b.width → i ≡ r * b.width + k → ((c : ℕ) → c < min (b.width * 2 ^ b.xdec) (b.last_column + 2 ^ b.xdec) → numbers num top c ≡ region_sample num l c (min (r * 2 ^ b.ydec) b.last_row)) → ((c : ℕ) → c < min (b.width * 2 ^ b.xdec) (b.last_column + 2 ^ b.xdec) → numbers num below c ≡ region_sample num l c (min (r * 2 ^ b.ydec) b.last_row + b.ydec)) → covered (two_rows num top below) b.xdec b.ydec (min (k * 2 ^ b.xdec) b.last_column) 0 ≡ luma_at (region_sample num l) b (i / b.width) (i % b.width)
+pub row_luma : {T : Type 0} (num : T → ℕ) (l : PlaneRegion T) (b : ChromaBlock) (top below : List T) (r k i : ℕ) → b.xdec ≤ 1 → b.ydec ≤ b.xdec
+    → k < b.width → i ≡ r * b.width + k
+    → ((c : ℕ) → c < min (b.width * 2 ^ b.xdec) (b.last_column + 2 ^ b.xdec) → numbers num top c ≡ region_sample num l c (min (r * 2 ^ b.ydec) b.last_row))
+    → ((c : ℕ) → c < min (b.width * 2 ^ b.xdec) (b.last_column + 2 ^ b.xdec) → numbers num below c ≡ region_sample num l c (min (r * 2 ^ b.ydec) b.last_row + b.ydec))
+    → covered (two_rows num top below) b.xdec b.ydec (min (k * 2 ^ b.xdec) b.last_column) 0 ≡ luma_at (region_sample num l) b (i / b.width) (i % b.width)
 row_luma num l b top below r k i h m c e ft fb =
     let x = min (k * 2 ^ b.xdec) b.last_column in
     let y = min (r * 2 ^ b.ydec) b.last_row in
@@ -132,12 +136,17 @@ row_luma num l b top below r k i h m c e ft fb =
     rows_agree num l top below b c y t h f d e = absurd (omega arith)
 
 -- the same at decimations that are known to be the block's
-pub row_luma_of : {T : Type 0} (num : T → ℕ) (l : PlaneRegion T) (b : ChromaBlock) (top below : List T) (r k i y u v : ℕ) → b.xdec ≡ u → b.ydec ≡ v → u ≤ 1 → v ≤ u → k < b.width → i ≡ r * b.width + k → y ≡ min (r * 2 ^ v % 2 ^ 64) b.last_row → r ≤ 128 → columns_read b ≤ l.place.width → top ≡ row_of l.plane_cfg.stride l.place y l.plane.now.samples → below ≡ row_of l.plane_cfg.stride l.place (y + v) l.plane.now.samples → covered (two_rows num top below) u v (min (k * 2 ^ u) b.last_column) 0 ≡ luma_at (region_sample num l) b (i / b.width) (i % b.width)
+pub row_luma_of : {T : Type 0} (num : T → ℕ) (l : PlaneRegion T) (b : ChromaBlock) (top below : List T) (r k i y u v : ℕ) → b.xdec ≡ u → b.ydec ≡ v
+    → u ≤ 1 → v ≤ u → k < b.width → i ≡ r * b.width + k → y ≡ min (r * 2 ^ v % 2 ^ 64) b.last_row → r ≤ 128 → columns_read b ≤ l.area.width
+    → top ≡ row_of l.plane_cfg.stride l.area y l.plane.now.samples → below ≡ row_of l.plane_cfg.stride l.area (y + v) l.plane.now.samples
+    → covered (two_rows num top below) u v (min (k * 2 ^ u) b.last_column) 0 ≡ luma_at (region_sample num l) b (i / b.width) (i % b.width)
 row_luma_of num l b top below r k i y u v eu ev h m c e ey few wide et eb =
     let x : b.xdec ≤ 1 = subst (λ n. n ≤ 1) (sym eu) h in
     let z : b.ydec ≤ b.xdec = subst (λ n. n ≤ b.xdec) (sym ev) (subst (λ n. v ≤ n) (sym eu) m) in
     let w : y ≡ min (r * 2 ^ b.ydec) b.last_row = ey ∙ ap (λ n. min n b.last_row) (row_place v r (omega arith) few) ∙ ap (λ n. min (r * 2 ^ n) b.last_row) (sym ev) in
-    let q = row_luma num l b top below r k i x z c e (λ p d. row_numbers num l top y p et (omega (arith, d, wide)) ∙ ap (region_sample num l p) w) (λ p d. row_numbers num l below (y + v) p eb (omega (arith, d, wide)) ∙ ap (region_sample num l p) (ap (λ n. n + v) w ∙ ap (λ n. min (r * 2 ^ b.ydec) b.last_row + n) (sym ev))) in
+    let q =
+    row_luma num l b top below r k i x z c e (λ p d. row_numbers num l top y p et (omega (arith, d, wide)) ∙ ap (region_sample num l p) w)
+    (λ p d. row_numbers num l below (y + v) p eb (omega (arith, d, wide)) ∙ ap (region_sample num l p) (ap (λ n. n + v) w ∙ ap (λ n. min (r * 2 ^ b.ydec) b.last_row + n) (sym ev))) in
     let F = λ (u v : ℕ). covered (two_rows num top below) u v (min (k * 2 ^ u) b.last_column) 0 in
     sym (ap (λ n. F n b.ydec) eu ∙ ap (F u) ev) ∙ q
 
@@ -167,10 +176,12 @@ module _ (luma : ℕ → ℕ → ℕ) (b : ChromaBlock) (s t : List ℤ) where
 
   luma_list : t ≡ with_rows b.width b.height (λ r c. pos (luma_at luma b r c)) s → b.width * b.height ≤ length s → map unsigned_abs (take (b.width * b.height) t) ≡ lumas luma b
   luma_list e h =
-      listed_is unsigned_abs (λ k. luma_at luma b (k / b.width) (k % b.width)) (take (b.width * b.height) t) (b.width * b.height) (luma_length e h) (λ k d l. ap unsigned_abs (get_or_default (take (b.width * b.height) t) k d (pos 0) (omega (arith, luma_length e h)) ∙ luma_entry e h k l))
+      numbers_are unsigned_abs (λ k. luma_at luma b (k / b.width) (k % b.width)) (take (b.width * b.height) t) (b.width * b.height) (luma_length e h) (λ k d l. ap unsigned_abs (get_or_default (take (b.width * b.height) t) k d (pos 0) (omega (arith, luma_length e h)) ∙ luma_entry e h k l))
 
   -- the mean is taken from it
-  pub differences_are : (ys : List ℤ) → t ≡ with_rows b.width b.height (λ r c. pos (luma_at luma b r c)) s → b.width * b.height ≤ length s → ys ≡ paint_row (length (take (b.width * b.height) t)) (λ _ v. v -ℤ pos (mean (map unsigned_abs (take (b.width * b.height) t)))) (take (b.width * b.height) t) → ys ++ drop (b.width * b.height) t ≡ with_rows b.width b.height (luma_difference luma b) s
+  pub differences_are : (ys : List ℤ) → t ≡ with_rows b.width b.height (λ r c. pos (luma_at luma b r c)) s → b.width * b.height ≤ length s
+      → ys ≡ paint_row (length (take (b.width * b.height) t)) (λ _ v. v -ℤ pos (mean (map unsigned_abs (take (b.width * b.height) t)))) (take (b.width * b.height) t)
+      → ys ++ drop (b.width * b.height) t ≡ with_rows b.width b.height (luma_difference luma b) s
   unfolding luma_difference
   differences_are ys e h q =
       let n = b.width * b.height in

@@ -3,8 +3,8 @@ use Rattle.std.proofs.Common.{ℕ, zero, suc, ◌+◌, ◌*◌, ◌/◌, ◌%◌
 use Rattle.std.proofs.lemmas.Int.{ints}
 use Rattle.std.proofs.lemmas.List.FromFn.{sum_by-map-range_with_len_more}
 use Rattle.std.proofs.Math.Nat.{le-mul_of_pos_right}
-use Rattle.av1_edges.specs.Sides.{listed}
-use Rattle.av1_edges.proofs.Lists.{length_listed}
+use Rattle.av1_lists.specs.Lists.{by_index}
+use Rattle.av1_lists.proofs.Lists.{length-by_index}
 use Rattle.av1_intra.specs.Dc.{mean}
 use Rattle.av1_intra.specs.ChromaFromLuma.{luma_at, luma_difference, columns_read, rows_read}
 use Rattle.av1_intra.specs.declared.luma.ChromaBlock.{ChromaBlock}
@@ -12,20 +12,20 @@ use Rattle.av1_intra.proofs.LumaBlocks.{luma_small, each_small}
 use Rattle.av1_intra.proofs.Means.{mean_fits}
 
 -- numbers of which none is large
-listed_within : (n : ℕ) (f : ℕ → ℕ) → ((k : ℕ) → k < n → f k ≤ 32760) → sum (listed n f) ≤ n * 32760
+listed_within : (n : ℕ) (f : ℕ → ℕ) → ((k : ℕ) → k < n → f k ≤ 32760) → sum (by_index n f) ≤ n * 32760
 listed_within zero f h = omega arith
 listed_within (suc n) f h =
     let r = listed_within n f (λ k l. h k (omega arith)) in
     let l = h n (omega arith) in
-    let e : sum (listed (suc n) f) ≡ sum (listed n f) + f n = ap (λ m. sum (listed m f)) (sym (add-one n)) ∙ sum_by-map-range_with_len_more (λ x. x) f 0 n n (omega arith) in
+    let e : sum (by_index (suc n) f) ≡ sum (by_index n f) + f n = ap (λ m. sum (by_index m f)) (sym (add-one n)) ∙ sum_by-map-range_with_len_more (λ x. x) f 0 n n (omega arith) in
     omega (arith, r, l, e)
 
 -- and their mean
-listed_mean : (n : ℕ) (f : ℕ → ℕ) → 0 < n → ((k : ℕ) → k < n → f k ≤ 32760) → mean (listed n f) < 32761
+listed_mean : (n : ℕ) (f : ℕ → ℕ) → 0 < n → ((k : ℕ) → k < n → f k ≤ 32760) → mean (by_index n f) < 32761
 listed_mean n f s h =
     let r = listed_within n f h in
-    let l = length_listed n f in
-    mean_fits (sum (listed n f)) (length (listed n f)) 32761 (omega (arith, l)) (omega (arith, r, l))
+    let l = length-by_index n f in
+    mean_fits (sum (by_index n f)) (length (by_index n f)) 32761 (omega (arith, l)) (omega (arith, r, l))
 
 pub difference_fits : (luma : ℕ → ℕ → ℕ) (b : ChromaBlock) (r c : ℕ) → b.xdec ≤ 1 → b.ydec ≤ b.xdec → r < b.height → c < b.width → ((x y : ℕ) → x < columns_read b → y < rows_read b → luma x y < 4096) → FitsSigned w16 (luma_difference luma b r c)
 unfolding luma_difference

@@ -1,5 +1,5 @@
 -- A row that is painted in parts, each behind the one before it.
-use Rattle.std.proofs.Common.{ℕ, ◌+◌, ◌-◌, ◌<◌, ◌≤◌, ◌≡◌, List, ◌++◌, length, get_or, take, drop, map, ap, arith, ◌∙◌, inl, inr}
+use Rattle.std.proofs.Common.{ℕ, ◌+◌, ◌-◌, ◌<◌, ◌≤◌, ◌≡◌, List, ◌++◌, length, get_or, take, drop, ap, arith, ◌∙◌, sym, inl, inr}
 use Rattle.std.proofs.lemmas.Bool.Decides.{nat_tests}
 use Rattle.std.proofs.lemmas.Bool.{cases_lt}
 use Rattle.std.proofs.lemmas.List.{places, get_or-map}
@@ -29,11 +29,6 @@ painted_rest n m w f g s t ys h l c p e a =
       ]
     ])
 
--- the first n samples are those of another list
-pub copied_front : {X : Type 0} (num : X → ℕ) (pixel : ℕ → X) (n : ℕ) (s ys above : List X) → ((x : X) → pixel (num x) ≡ x) → n ≤ length s → n ≤ length above → ys ≡ take n above → ys ++ drop n s ≡ paint_row n (λ c _. pixel (numbers num above c)) s
-unfolding paint_row
-copied_front num pixel n s ys above p h l e =
-    ap (λ y. y ++ drop n s) e ∙ update_is _ s _ (grind (arith, places, length-update)) (λ k d q. elim (cases_lt k n) [
-      | inl b ↦ (let r : pixel (get_or (map num above) k 0) ≡ get_or above k d = ap pixel (get_or-map num above k d 0 (omega arith)) ∙ p (get_or above k d) in grind (arith, nat_tests, places, get_or-update, length-update))
-      | inr b ↦ grind (arith, nat_tests, places, get_or-update, length-update)
-    ])
+-- a sample is that of its number
+pub sample_is : {X : Type 0} (num : X → ℕ) (pixel : ℕ → X) (xs : List X) (k : ℕ) (d : X) → ((x : X) → pixel (num x) ≡ x) → k < length xs → get_or xs k d ≡ pixel (numbers num xs k)
+sample_is num pixel xs k d law h = sym (law (get_or xs k d)) ∙ sym (ap pixel (get_or-map num xs k d 0 h))

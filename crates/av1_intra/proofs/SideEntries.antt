@@ -44,7 +44,7 @@ entries_filtered size n s old t q e l =
     let a : t ≡ paint_row size (λ e _. filtered n s (entries old) e) old = q ∙ ap (λ v. paint_row size (λ e _. filtered v s (numbers (λ x. x) old) e) old) m ∙ ap (λ v. paint_row size (λ e _. filtered n s v e) old) r in
     entries_painted size (filtered n s (entries old)) old t a l (λ k h. grind (arith, nat_tests))
 
--- what the doubling leaves of a list
+-- what the upsampling leaves of a list
 pub entries_upsampled : (depth m : ℕ) (old t : List ℕ) → t ≡ paint_row (2 * m + 1) (λ e _. upsampled depth m (numbers (λ x. x) old) e) old → 2 * m + 1 ≤ length old → entries t ≡ upsampled depth m (entries old)
 unfolding upsampled
 entries_upsampled depth m old t q l =
@@ -63,4 +63,6 @@ side_place num corner x n k y xs h l r q =
 pub left_place : {X : Type 0} (num : X → ℕ) (corner x : X) (n k y : ℕ) (xs : List X) → k < n → n ≤ length xs → x ≡ get_or xs (length xs - 1 - k) x → y ≡ num x → y ≡ side (num corner) (take n (reverse (map num xs))) (k + 1)
 left_place num corner x n k y xs h l r q =
     let m : length (map num xs) ≡ length xs = simp length-map in
-    q ∙ ap num r ∙ sym (get_or-map num xs (length xs - 1 - k) x 0 (omega arith)) ∙ ap (λ v. get_or (map num xs) (v - 1 - k) 0) (sym m) ∙ sym (get_or-reverse (map num xs) k 0 (omega arith)) ∙ sym (get_or-take n (reverse (map num xs)) k 0 h) ∙ sym (ap (λ v. get_or (num corner ∷ take n (reverse (map num xs))) v 0) (add-one k))
+    q ∙ ap num r ∙ sym (get_or-map num xs (length xs - 1 - k) x 0 (omega arith)) ∙ ap (λ v. get_or (map num xs) (v - 1 - k) 0) (sym m)
+    ∙ sym (get_or-reverse (map num xs) k 0 (omega arith)) ∙ sym (get_or-take n (reverse (map num xs)) k 0 h)
+    ∙ sym (ap (λ v. get_or (num corner ∷ take n (reverse (map num xs))) v 0) (add-one k))

@@ -16,4 +16,4 @@ paint_same_samples stride a f s h =
     update_is _ s s refl (λ k d l. sym (cond_same (in_area a (k % stride) (k / stride)) _ (get_or s k d) (h _ _ (get_or s k d))))
 
 pub painted_unchanged : {T : Type 0} (r : PlaneRegionMut T) (w h : ℕ) (f : ℕ → ℕ → T → T) → ((q p : ℕ) (v : T) → f q p v ≡ v) → r ≡ painted r w h f
-painted_unchanged r w h f e = ap (with_samples r) (paint_same_samples r.plane_cfg.stride (corner r.place w h) f (stored r) e)
+painted_unchanged r w h f e = ap (with_samples r) (paint_same_samples r.plane_cfg.stride (corner r.area w h) f (stored r) e)

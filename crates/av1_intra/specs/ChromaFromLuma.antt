@@ -11,7 +11,7 @@ use Rattle.av1_frame.specs.Arithmetic.{clip}
 use Rattle.av1_frame.specs.declared.plane_region.PlaneRegionMut.{PlaneRegionMut}
 use Rattle.av1_frame.specs.Samples.{paint_row, row_of}
 use Rattle.av1_frame.specs.Regions.{stored}
-use Rattle.av1_edges.specs.Sides.{listed}
+use Rattle.av1_lists.specs.Lists.{by_index}
 use Rattle.av1_intra.specs.Dc.{mean}
 use Rattle.av1_intra.specs.Sides.{numbers}
 use Rattle.av1_intra.specs.declared.luma.LumaLeaf.{LumaLeaf}
@@ -22,7 +22,7 @@ use Rattle.av1_intra.specs.declared.luma.ChromaBlock.{ChromaBlock}
 -- the sum of the luma samples over one sample of chroma, of which the first is at column x of row y, in eighths of one
 abbrev pub covered : (ℕ → ℕ → ℕ) → (xdec ydec x y : ℕ) → ℕ
 covered luma xdec ydec x y =
-    sum (listed (2 ^ ydec) (λ v. sum (listed (2 ^ xdec) (λ u. luma (x + u) (y + v))))) * 2 ^ (3 - xdec - ydec)
+    sum (by_index (2 ^ ydec) (λ v. sum (by_index (2 ^ xdec) (λ u. luma (x + u) (y + v))))) * 2 ^ (3 - xdec - ydec)
 
 -- two rows of samples as luma
 abbrev pub two_rows : {X : Type 0} → (X → ℕ) → List X → List X → ℕ → ℕ → ℕ
@@ -34,7 +34,7 @@ luma_at luma b r c = covered luma b.xdec b.ydec (min (c * 2 ^ b.xdec) b.last_col
 
 -- the luma of all of them, row by row
 abbrev pub lumas : (ℕ → ℕ → ℕ) → ChromaBlock → List ℕ
-lumas luma b = listed (b.width * b.height) (λ k. luma_at luma b (k / b.width) (k % b.width))
+lumas luma b = by_index (b.width * b.height) (λ k. luma_at luma b (k / b.width) (k % b.width))
 
 -- how far the luma at row r and column c is from the mean
 unfoldable pub luma_difference : (ℕ → ℕ → ℕ) → ChromaBlock → ℕ → ℕ → ℤ
@@ -129,4 +129,4 @@ ac_at w ac r c = slice_index_or ac (r * w + c) (pos 0)
 
 -- the number of the first sample of the region r
 abbrev pub first_sample : {T : Type 0} → (T → ℕ) → PlaneRegionMut T → ℕ
-first_sample num r = slice_index (map num (row_of r.plane_cfg.stride r.place 0 (stored r))) 0
+first_sample num r = slice_index (map num (row_of r.plane_cfg.stride r.area 0 (stored r))) 0

@@ -15,10 +15,10 @@ use Rattle.av1_intra.specs.declared.directional.DirectionalBlock.{DirectionalBlo
 
 -- how many visible columns and rows the plane has from the region's first sample on
 abbrev pub visible_columns : {T : Type 0} → PlaneRegionMut T → ℕ
-visible_columns r = r.plane_cfg.xorigin + r.plane_cfg.width - r.place.x
+visible_columns r = r.plane_cfg.xorigin + r.plane_cfg.width - r.area.x
 
 abbrev pub visible_rows : {T : Type 0} → PlaneRegionMut T → ℕ
-visible_rows r = r.plane_cfg.yorigin + r.plane_cfg.height - r.place.y
+visible_rows r = r.plane_cfg.yorigin + r.plane_cfg.height - r.area.y
 
 -- the block of w columns and h rows at the first sample of the region r, along the angle p; its sides are filtered where there are parameters
 abbrev pub block_at : {T : Type 0} → PlaneRegionMut T → ℕ → ℕ → ℕ → ℕ → Option IntraEdgeFilterParameters → DirectionalBlock
@@ -40,7 +40,7 @@ side corner places = entries (corner ∷ places)
 abbrev pub blend : ℕ → Side → ℕ → ℕ → ℕ
 blend depth E e z = clip depth (pos ((E e * (32 - z) + E (e + 1) * z + 16) / 32))
 
--- the entry at n/64 of a place past the corner, k places further; u is 1 where the side is doubled, else 0
+-- the entry at n/64 of a place past the corner, k places further; u is 1 where the side is upsampled, else 0
 abbrev pub entry : ℕ → ℕ → ℕ → ℕ
 entry u n k = n / 2 ^ (6 - u) + k * 2 ^ u
 
@@ -65,11 +65,11 @@ abbrev pub filter_choice : {X : Type 0} → Option Bool → X → (Bool → X) �
 filter_choice None x f = x
 filter_choice (Some smooth) x f = f smooth
 
--- 1 where a side of the block b is doubled, else 0; the angle is d degrees from the side's own
-abbrev pub doubling : DirectionalBlock → ℕ → ℕ
-doubling b d = filter_choice b.smooth_filter 0 (λ smooth. if is_upsampled (b.width + b.height) smooth d then 1 else 0)
+-- 1 where a side of the block b is upsampled, else 0; the angle is d degrees from the side's own
+abbrev pub upsampling : DirectionalBlock → ℕ → ℕ
+upsampling b d = filter_choice b.smooth_filter 0 (λ smooth. if is_upsampled (b.width + b.height) smooth d then 1 else 0)
 
--- the side A of the block b as samples are interpolated from it: n of its places are smoothed, and then m are doubled
+-- the side A of the block b as samples are interpolated from it: n of its places are smoothed, and then m are upsampled
 unfoldable pub prepared : DirectionalBlock → ℕ → ℕ → ℕ → Side → Side
 prepared b d n m A =
     filter_choice b.smooth_filter A (λ smooth.
@@ -101,8 +101,8 @@ directional b corner above left i j =
     let p = b.p_angle in
     let Ea = above_side b corner above in
     let El = left_side b corner left in
-    let ua = doubling b (distance p 90) in
-    let ul = doubling b (distance p 180) in
+    let ua = upsampling b (distance p 90) in
+    let ul = upsampling b (distance p 180) in
     if nat_lt p 90 then below_90 b.bit_depth Ea ua (b.width + b.height) ((i + 1) * derivative p + 64) j
     else if nat_lt p 180 then between b.bit_depth Ea ua El ul (derivative (180 - p)) (derivative (p - 90)) i j
     else at b.bit_depth El ul ((j + 1) * derivative (270 - p) + 64) i

@@ -76,10 +76,10 @@ alpha_of param = pos 0
 
 -- the column and the row of the tile at which a region begins
 abbrev pub column_in : {T : Type 0} → PlaneRegionMut T → TileRect → ℕ
-column_in r tile = r.place.x - r.plane_cfg.xorigin - tile.x
+column_in r tile = r.area.x - r.plane_cfg.xorigin - tile.x
 
 abbrev pub row_in : {T : Type 0} → PlaneRegionMut T → TileRect → ℕ
-row_in r tile = r.place.y - r.plane_cfg.yorigin - tile.y
+row_in r tile = r.area.y - r.plane_cfg.yorigin - tile.y
 
 -- the mode by which a block there is predicted, and its sides that lie in the tile
 abbrev pub mode_of_block : {T : Type 0} → PlaneRegionMut T → TileRect → PredictionMode → PredictionMode

@@ -12,7 +12,7 @@ use Rattle.av1_intra.specs.declared.luma.LumaLeaf.{LumaLeaf}
 
 -- the number of the sample at column x of row y of a region
 abbrev pub tile_luma : {T : Type 0} → (T → ℕ) → PlaneRegionMut T → ℕ → ℕ → ℕ
-tile_luma num r x y = slice_index (map num (stored r)) (row_start r.plane_cfg.stride r.place y + x)
+tile_luma num r x y = slice_index (map num (stored r)) (row_start r.plane_cfg.stride r.area y + x)
 
 -- the leaf at a cell of the tile; all counts from the tile's first sample
 abbrev pub leaf_in_tile : {T : Type 0} → TileStateMut T → TileBlockOffset → BlockSize → TxSize → FrameInvariants T → LumaLeaf

@@ -1,9 +1,9 @@
--- Doubling the places of a side before it is interpolated.
+-- Upsampling: twice the places of a side, before it is interpolated.
 use Rattle.std.specs.Prelude.{ℕ, ◌+◌, ◌-◌, ◌*◌, ◌/◌, ◌%◌, ◌==◌, Bool, ◌&&◌, nat_le, nat_lt, if◌then◌else◌, min, pos}
 use Rattle.av1_frame.specs.Arithmetic.{clip}
 use Rattle.av1_intra.specs.Sides.{Side}
 
--- Whether a side is doubled, by the sum s of the block's sides, whether a neighbour is smooth, and how far the angle is from the side's own, d degrees.
+-- Whether a side is upsampled, by the sum s of the block's sides, whether a neighbour is smooth, and how far the angle is from the side's own, d degrees.
 -- AV1 specification: intra edge upsample selection process.
 abbrev pub is_upsampled : ℕ → Bool → ℕ → Bool
 is_upsampled s smooth d = (nat_le 1 d && nat_le d 39) && nat_le s (if smooth then 8 else 16)

@@ -13,10 +13,8 @@ ghost use Rattle.av1_intra.specs.Dc.{mean};
 ghost use Rattle.av1_intra.specs.ChromaFromLuma.{scaled_luma, from_luma, ac_at, first_sample};
 
 use crate::dc::{half_sample, mean_of, side_mean};
-use crate::interpolation::sample_of;
 use crate::rows::fill_rows;
-use crate::samples::clip_to;
-use av1_frame::{Pixel, PlaneRegionMut};
+use av1_frame::{Pixel, PlaneRegionMut, clip};
 
 /// A difference of luma at its weight, in 64ths.
 fn weighted(alpha: i16, difference: i16) -> i32
@@ -43,12 +41,11 @@ fn sample_from_luma<T: Pixel>(dc: i32, alpha: i16, difference: i16, bit_depth: u
     requires depth { bit_depth ≤ T.BITS }
     ensures { result ≡ T.pixel (clip bit_depth (dc +ℤ scaled_luma alpha difference)) }
 {
-    let value = dc + scaled_luma(alpha, difference);
-    sample_of(clip_to(value, bit_depth), bit_depth)
+    clip(dc + scaled_luma(alpha, difference), bit_depth)
 }
 
 /// The first `width` samples of a row whose DC prediction is `dc`. Its differences begin at `start` in `ac`.
-#[tactic(auto, using(av1_frame::proofs::Paint::paint_row_none, av1_frame::proofs::Paint::paint_row_more))]
+#[tactic(auto, using(av1_frame::proofs::Paint::row_painting))]
 fn row_from_luma<T: Pixel>(
     row: &mut [T],
     ac: &[i16],
@@ -70,7 +67,7 @@ fn row_from_luma<T: Pixel>(
 }
 
 /// A block whose DC prediction is `dc` throughout.
-#[tactic(auto, using(av1_frame::proofs::Regions::painted_none, av1_frame::proofs::Regions::painted_in_storage, av1_frame::proofs::Regions::painted_more))]
+#[tactic(auto, using(av1_frame::proofs::Regions::region_painting))]
 fn block_from_luma<T: Pixel>(
     output: &mut PlaneRegionMut<'_, T>,
     ac: &[i16],
@@ -81,8 +78,8 @@ fn block_from_luma<T: Pixel>(
     bit_depth: usize,
 )
     requires fits { InStorage output.old }
-    requires columns { width ≤ output.old.place.width }
-    requires rows { height ≤ output.old.place.height }
+    requires columns { width ≤ output.old.area.width }
+    requires rows { height ≤ output.old.area.height }
     requires width { width ≤ 128 }
     requires height { height ≤ 128 }
     requires ac_long { width * height ≤ length ac.now }
@@ -108,8 +105,8 @@ fn flat_from_luma<T: Pixel>(
     bit_depth: usize,
 )
     requires fits { InStorage output.old }
-    requires columns { width ≤ output.old.place.width }
-    requires rows { height ≤ output.old.place.height }
+    requires columns { width ≤ output.old.area.width }
+    requires rows { height ≤ output.old.area.height }
     requires width { width ≤ 128 }
     requires height { height ≤ 128 }
     requires ac_long { width * height ≤ length ac.now }
@@ -138,8 +135,8 @@ pub fn pred_cfl_inner<T: Pixel>(
     bit_depth: usize,
 )
     requires fits { InStorage output.old }
-    requires columns { width ≤ output.old.place.width }
-    requires rows { height ≤ output.old.place.height }
+    requires columns { width ≤ output.old.area.width }
+    requires rows { height ≤ output.old.area.height }
     requires some_columns { 0 < width }
     requires some_rows { 0 < height }
     requires width { width ≤ 128 }
@@ -170,8 +167,8 @@ pub fn pred_cfl<T: Pixel>(
     bit_depth: usize,
 )
     requires fits { InStorage output.old }
-    requires columns { width ≤ output.old.place.width }
-    requires rows { height ≤ output.old.place.height }
+    requires columns { width ≤ output.old.area.width }
+    requires rows { height ≤ output.old.area.height }
     requires some { 0 < width + height }
     requires width { width ≤ 64 }
     requires height { height ≤ 64 }
@@ -200,8 +197,8 @@ pub fn pred_cfl_128<T: Pixel>(
     bit_depth: usize,
 )
     requires fits { InStorage output.old }
-    requires columns { width ≤ output.old.place.width }
-    requires rows { height ≤ output.old.place.height }
+    requires columns { width ≤ output.old.area.width }
+    requires rows { height ≤ output.old.area.height }
     requires width { width ≤ 64 }
     requires height { height ≤ 64 }
     requires ac_long { width * height ≤ length ac.now }
@@ -228,8 +225,8 @@ pub fn pred_cfl_left<T: Pixel>(
     bit_depth: usize,
 )
     requires fits { InStorage output.old }
-    requires columns { width ≤ output.old.place.width }
-    requires rows { height ≤ output.old.place.height }
+    requires columns { width ≤ output.old.area.width }
+    requires rows { height ≤ output.old.area.height }
     requires some { 0 < height }
     requires width { width ≤ 64 }
     requires height { height ≤ 64 }
@@ -257,8 +254,8 @@ pub fn pred_cfl_top<T: Pixel>(
     bit_depth: usize,
 )
     requires fits { InStorage output.old }
-    requires columns { width ≤ output.old.place.width }
-    requires rows { height ≤ output.old.place.height }
+    requires columns { width ≤ output.old.area.width }
+    requires rows { height ≤ output.old.area.height }
     requires some { 0 < width }
     requires width { width ≤ 64 }
     requires height { height ≤ 64 }

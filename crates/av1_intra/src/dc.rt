@@ -11,9 +11,9 @@ use crate::rows::fill_rows;
 use av1_edges::base;
 use av1_frame::{Pixel, PlaneRegionMut};
 
-/// The sum of at most 128 samples.
-fn sum_of<T: Pixel>(samples: &[T]) -> u32
-    requires { length samples.now ≤ 128 }
+/// The sum of at most 65,536 samples.
+pub fn sum_of<T: Pixel>(samples: &[T]) -> u32
+    requires { length samples.now ≤ 65536 }
     ensures value { result ≡ sum (map T.num samples.now) }
     ensures bound { result + length samples.now ≤ length samples.now * 2 ^ T.BITS }
     ensures small { result ≤ length samples.now * 65535 }
@@ -66,8 +66,8 @@ pub fn pred_dc<T: Pixel>(
     _bit_depth: usize,
 )
     requires fits { InStorage output.old }
-    requires columns { width ≤ output.old.place.width }
-    requires rows { height ≤ output.old.place.height }
+    requires columns { width ≤ output.old.area.width }
+    requires rows { height ≤ output.old.area.height }
     requires some { 0 < width + height }
     requires width { width ≤ 64 }
     requires height { height ≤ 64 }
@@ -92,8 +92,8 @@ pub fn pred_dc_128<T: Pixel>(
     bit_depth: usize,
 )
     requires fits { InStorage output.old }
-    requires columns { width ≤ output.old.place.width }
-    requires rows { height ≤ output.old.place.height }
+    requires columns { width ≤ output.old.area.width }
+    requires rows { height ≤ output.old.area.height }
     requires low { 8 ≤ bit_depth }
     requires high { bit_depth ≤ T.BITS }
     ensures painted { output.new ≡ painted output.old width height (λ _ _ _. T.pixel (base bit_depth)) }
@@ -114,8 +114,8 @@ pub fn pred_dc_left<T: Pixel>(
     _bit_depth: usize,
 )
     requires fits { InStorage output.old }
-    requires columns { width ≤ output.old.place.width }
-    requires rows { height ≤ output.old.place.height }
+    requires columns { width ≤ output.old.area.width }
+    requires rows { height ≤ output.old.area.height }
     requires some { 0 < height }
     requires height { height ≤ 64 }
     requires left_whole { length left.now ≡ height }
@@ -137,8 +137,8 @@ pub fn pred_dc_top<T: Pixel>(
     _bit_depth: usize,
 )
     requires fits { InStorage output.old }
-    requires columns { width ≤ output.old.place.width }
-    requires rows { height ≤ output.old.place.height }
+    requires columns { width ≤ output.old.area.width }
+    requires rows { height ≤ output.old.area.height }
     requires some { 0 < width }
     requires width { width ≤ 64 }
     requires above_long { width ≤ length above.now }

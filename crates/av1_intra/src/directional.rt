@@ -44,8 +44,8 @@ fn directional_below_90<T: Pixel>(
     block: DirectionalBlock,
 )
     requires fits { InStorage output.old }
-    requires columns { block.width ≤ output.old.place.width }
-    requires rows { block.height ≤ output.old.place.height }
+    requires columns { block.width ≤ output.old.area.width }
+    requires rows { block.height ≤ output.old.area.height }
     requires width { block.width ≤ 64 }
     requires height { block.height ≤ 64 }
     requires angle { IsTrue (is_interpolated block.p_angle) }
@@ -79,8 +79,8 @@ fn directional_between<T: Pixel>(
     block: DirectionalBlock,
 )
     requires fits { InStorage output.old }
-    requires columns { block.width ≤ output.old.place.width }
-    requires rows { block.height ≤ output.old.place.height }
+    requires columns { block.width ≤ output.old.area.width }
+    requires rows { block.height ≤ output.old.area.height }
     requires width { block.width ≤ 64 }
     requires height { block.height ≤ 64 }
     requires angle { IsTrue (is_interpolated block.p_angle) }
@@ -120,8 +120,8 @@ fn directional_past_180<T: Pixel>(
     block: DirectionalBlock,
 )
     requires fits { InStorage output.old }
-    requires columns { block.width ≤ output.old.place.width }
-    requires rows { block.height ≤ output.old.place.height }
+    requires columns { block.width ≤ output.old.area.width }
+    requires rows { block.height ≤ output.old.area.height }
     requires width { block.width ≤ 64 }
     requires height { block.height ≤ 64 }
     requires angle { IsTrue (is_interpolated block.p_angle) }
@@ -155,8 +155,8 @@ fn predict_block<T: Pixel>(
     block: DirectionalBlock,
 )
     requires fits { InStorage output.old }
-    requires columns { block.width ≤ output.old.place.width }
-    requires rows { block.height ≤ output.old.place.height }
+    requires columns { block.width ≤ output.old.area.width }
+    requires rows { block.height ≤ output.old.area.height }
     requires width { block.width ≤ 64 }
     requires height { block.height ≤ 64 }
     requires angle { IsTrue (is_interpolated block.p_angle) }
@@ -204,7 +204,7 @@ fn visible_from(visible: usize, first: isize) -> usize
 /// sample is that of the first row: `height` samples, and past 180 degrees `width` more before them. `top_left` is the corner.
 /// A side that the angle doesn't meet is not read. What is predicted is clipped to the depth.
 ///
-/// With `ief_params` the sides are first smoothed and doubled, as the angle, the block's sides and the neighbours ask. Of the
+/// With `ief_params` the sides are first smoothed and upsampled, as the angle, the block's sides and the neighbours ask. Of the
 /// places beside the block only those are smoothed that lie in the plane's visible columns and rows.
 ///
 /// AV1 specification: directional intra prediction process.
@@ -220,8 +220,8 @@ pub fn pred_directional<T: Pixel>(
     ief_params: Option<IntraEdgeFilterParameters>,
 )
     requires fits { InStorage output.old }
-    requires columns { width ≤ output.old.place.width }
-    requires rows { height ≤ output.old.place.height }
+    requires columns { width ≤ output.old.area.width }
+    requires rows { height ≤ output.old.area.height }
     requires width { width ≤ 64 }
     requires height { height ≤ 64 }
     requires angle { IsTrue (is_interpolated p_angle) }

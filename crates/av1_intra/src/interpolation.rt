@@ -8,64 +8,41 @@ ghost use Rattle.av1_intra.specs.Angles.{ArePair};
 ghost use Rattle.av1_intra.specs.Directional.{at, below_90, between};
 
 use crate::prepared_side::PreparedSide;
-use crate::samples::clipped;
-use av1_frame::{Pixel, PlaneRegionMut};
+use av1_frame::{Pixel, PlaneRegionMut, clip, fill_row};
 
-/// The sample of a number within the depth.
-pub(crate) fn sample_of<T: Pixel>(number: u32, bit_depth: usize) -> T
-    requires number { number < 2 ^ bit_depth }
-    requires depth { bit_depth ≤ T.BITS }
-    ensures { result ≡ T.pixel number }
-{
-    T::from_u32(number)
-}
-
-/// Each sample of the row becomes `value`.
-#[tactic(auto, using(av1_frame::proofs::Paint::paint_row_none, av1_frame::proofs::Paint::paint_row_more))]
-fn fill_row<T: Pixel>(row: &mut [T], value: T)
-    ensures { row.new ≡ paint_row (length row.old) (λ _ _. value) row.old }
-{
-    for k in 0..row.len() {
-        row[k] = value;
-    }
-}
-
-/// The samples of a row from the place on that its line meets at `n / 64` past the corner. `DOUBLING` is that of the side, known
-/// to the compiler.
-#[tactic(auto, using(av1_frame::proofs::Paint::paint_row_none, av1_frame::proofs::Paint::paint_row_more), unfolding(crate::specs::Directional::at))]
-fn interpolate_by<T: Pixel, const DOUBLING: usize>(
+/// The samples of a row from the place on that its line meets at `n / 64` past the corner. `UPSAMPLING` is that of the side,
+/// known to the compiler.
+#[tactic(auto, using(av1_frame::proofs::Paint::row_painting), unfolding(crate::specs::Directional::at))]
+fn interpolate_by<T: Pixel, const UPSAMPLING: usize>(
     row: &mut [T],
     side: &PreparedSide,
     n: usize,
     bit_depth: usize,
 )
-    requires one { DOUBLING ≤ 1 }
+    requires upsampling { UPSAMPLING ≤ 1 }
     requires n { n < 2 ^ 20 }
     requires short { length row.old ≤ 64 }
-    requires inside { 0 < length row.old → n / 2 ^ (6 - DOUBLING) + length row.old * 2 ^ DOUBLING ≤ 256 + DOUBLING }
+    requires inside { 0 < length row.old → n / 2 ^ (6 - UPSAMPLING) + length row.old * 2 ^ UPSAMPLING ≤ 256 + UPSAMPLING }
     requires depth { bit_depth ≤ T.BITS }
-    ensures { row.new ≡ paint_row (length row.old) (λ k _. T.pixel (at bit_depth (entries side.now.numbers) DOUBLING n k)) row.old }
+    ensures { row.new ≡ paint_row (length row.old) (λ k _. T.pixel (at bit_depth (entries side.now.numbers) UPSAMPLING n k)) row.old }
 {
-    let first = n >> (6 - DOUBLING);
-    let z = ((n << DOUBLING) / 2 % 32) as u32;
+    let first = n >> (6 - UPSAMPLING);
+    let z = ((n << UPSAMPLING) / 2 % 32) as u32;
     for k in 0..row.len() {
-        row[k] = sample_of(
-            side.blended(first + (k << DOUBLING), z, bit_depth),
-            bit_depth,
-        );
+        row[k] = side.blended(first + (k << UPSAMPLING), z, bit_depth);
     }
 }
 
 /// The samples of a row from the place on that its line meets at `n / 64` past the corner.
 fn interpolate_row<T: Pixel>(row: &mut [T], side: &PreparedSide, n: usize, bit_depth: usize)
-    requires one { side.now.doubling ≤ 1 }
+    requires upsampling { side.now.upsampling ≤ 1 }
     requires n { n < 2 ^ 20 }
     requires short { length row.old ≤ 64 }
-    requires inside { 0 < length row.old → n / 2 ^ (6 - side.now.doubling) + length row.old * 2 ^ side.now.doubling ≤ 256 + side.now.doubling }
+    requires inside { 0 < length row.old → n / 2 ^ (6 - side.now.upsampling) + length row.old * 2 ^ side.now.upsampling ≤ 256 + side.now.upsampling }
     requires depth { bit_depth ≤ T.BITS }
-    ensures { row.new ≡ paint_row (length row.old) (λ k _. T.pixel (at bit_depth (entries side.now.numbers) side.now.doubling n k)) row.old }
+    ensures { row.new ≡ paint_row (length row.old) (λ k _. T.pixel (at bit_depth (entries side.now.numbers) side.now.upsampling n k)) row.old }
 {
-    if side.doubling == 0 {
+    if side.upsampling == 0 {
         interpolate_by::<T, 0>(row, side, n, bit_depth);
     } else {
         interpolate_by::<T, 1>(row, side, n, bit_depth);
@@ -85,22 +62,22 @@ fn row_below_90<T: Pixel>(
 )
     requires row_long { width ≤ length row.old }
     requires width { width ≤ 64 }
-    requires one { above.now.doubling ≤ 1 }
+    requires upsampling { above.now.upsampling ≤ 1 }
     requires sides { sides ≤ 128 }
     requires n { n < 2 ^ 20 }
     requires depth { bit_depth ≤ T.BITS }
-    ensures { row.new ≡ paint_row width (λ j _. T.pixel (below_90 bit_depth (entries above.now.numbers) above.now.doubling sides n j)) row.old }
+    ensures { row.new ≡ paint_row width (λ j _. T.pixel (below_90 bit_depth (entries above.now.numbers) above.now.upsampling sides n j)) row.old }
 {
-    let u = above.doubling;
+    let u = above.upsampling;
     let last = sides << u;
     let count = width.min((last.saturating_sub(n >> (6 - u)) + u) >> u);
     interpolate_row(&mut row[..count], above, n, bit_depth);
-    let end = clipped(u32::from(above.numbers[last]), bit_depth);
-    fill_row(&mut row[count..width], sample_of(end, bit_depth));
+    let end = clip(i32::from(above.numbers[last]), bit_depth);
+    fill_row(&mut row[count..width], end, width - count);
 }
 
 /// The samples of row `i` that the left side gives at an angle between 90 and 180.
-#[tactic(auto, using(av1_frame::proofs::Paint::paint_row_none, av1_frame::proofs::Paint::paint_row_more))]
+#[tactic(auto, using(av1_frame::proofs::Paint::row_painting))]
 fn row_from_left<T: Pixel>(
     row: &mut [T],
     left: &PreparedSide,
@@ -108,17 +85,17 @@ fn row_from_left<T: Pixel>(
     i: usize,
     bit_depth: usize,
 )
-    requires one { left.now.doubling ≤ 1 }
+    requires upsampling { left.now.upsampling ≤ 1 }
     requires dy { dy ≤ 4096 }
     requires i { i < 64 }
     requires short { length row.old ≤ 64 }
     requires inside { length row.old * dy ≤ 64 * (i + 1) }
     requires depth { bit_depth ≤ T.BITS }
-    ensures { row.new ≡ paint_row (length row.old) (λ j _. T.pixel (at bit_depth (entries left.now.numbers) left.now.doubling (64 * (i + 1) - (j + 1) * dy) 0)) row.old }
+    ensures { row.new ≡ paint_row (length row.old) (λ j _. T.pixel (at bit_depth (entries left.now.numbers) left.now.upsampling (64 * (i + 1) - (j + 1) * dy) 0)) row.old }
 {
     for j in 0..row.len() {
         let n = 64 * (i + 1) - (j + 1) * dy;
-        row[j] = sample_of(left.interpolated(n, 0, bit_depth), bit_depth);
+        row[j] = left.interpolated(n, 0, bit_depth);
     }
 }
 
@@ -137,11 +114,11 @@ fn row_between<T: Pixel>(
     requires row_long { width ≤ length row.old }
     requires width { width ≤ 64 }
     requires i { i < 64 }
-    requires above_one { above.now.doubling ≤ 1 }
-    requires left_one { left.now.doubling ≤ 1 }
+    requires above_upsampling { above.now.upsampling ≤ 1 }
+    requires left_upsampling { left.now.upsampling ≤ 1 }
     requires pair { ArePair dx dy }
     requires depth { bit_depth ≤ T.BITS }
-    ensures { row.new ≡ paint_row width (λ j _. T.pixel (between bit_depth (entries above.now.numbers) above.now.doubling (entries left.now.numbers) left.now.doubling dx dy i j)) row.old }
+    ensures { row.new ≡ paint_row width (λ j _. T.pixel (between bit_depth (entries above.now.numbers) above.now.upsampling (entries left.now.numbers) left.now.upsampling dx dy i j)) row.old }
 {
     let line = (i + 1) * dx;
     let split = width.min((line - 1) / 64);
@@ -153,7 +130,7 @@ fn row_between<T: Pixel>(
 }
 
 /// The first `width` samples of row `i` at an angle past 180.
-#[tactic(auto, using(av1_frame::proofs::Paint::paint_row_none, av1_frame::proofs::Paint::paint_row_more, crate::proofs::Derivatives::past_180_inside))]
+#[tactic(auto, using(av1_frame::proofs::Paint::row_painting, crate::proofs::Derivatives::past_180_inside))]
 fn row_past_180<T: Pixel>(
     row: &mut [T],
     left: &PreparedSide,
@@ -165,19 +142,19 @@ fn row_past_180<T: Pixel>(
     requires row_long { width ≤ length row.old }
     requires width { width ≤ 64 }
     requires i { i < 64 }
-    requires one { left.now.doubling ≤ 1 }
+    requires upsampling { left.now.upsampling ≤ 1 }
     requires dy { dy ≤ 40 }
     requires depth { bit_depth ≤ T.BITS }
-    ensures { row.new ≡ paint_row width (λ j _. T.pixel (at bit_depth (entries left.now.numbers) left.now.doubling ((j + 1) * dy + 64) i)) row.old }
+    ensures { row.new ≡ paint_row width (λ j _. T.pixel (at bit_depth (entries left.now.numbers) left.now.upsampling ((j + 1) * dy + 64) i)) row.old }
 {
     for j in 0..width {
         let n = (j + 1) * dy + 64;
-        row[j] = sample_of(left.interpolated(n, i, bit_depth), bit_depth);
+        row[j] = left.interpolated(n, i, bit_depth);
     }
 }
 
 /// The samples of an angle below 90 of derivative `dx`.
-#[tactic(auto, using(av1_frame::proofs::Regions::painted_none, av1_frame::proofs::Regions::painted_in_storage, av1_frame::proofs::Regions::painted_more))]
+#[tactic(auto, using(av1_frame::proofs::Regions::region_painting))]
 pub(crate) fn rows_below_90<T: Pixel>(
     output: &mut PlaneRegionMut<'_, T>,
     above: &PreparedSide,
@@ -187,14 +164,14 @@ pub(crate) fn rows_below_90<T: Pixel>(
     bit_depth: usize,
 )
     requires fits { InStorage output.old }
-    requires columns { width ≤ output.old.place.width }
-    requires rows { height ≤ output.old.place.height }
+    requires columns { width ≤ output.old.area.width }
+    requires rows { height ≤ output.old.area.height }
     requires width { width ≤ 64 }
     requires height { height ≤ 64 }
-    requires one { above.now.doubling ≤ 1 }
+    requires upsampling { above.now.upsampling ≤ 1 }
     requires dx { dx ≤ 1023 }
     requires depth { bit_depth ≤ T.BITS }
-    ensures painted { output.new ≡ painted output.old width height (λ i j _. T.pixel (below_90 bit_depth (entries above.now.numbers) above.now.doubling (width + height) ((i + 1) * dx + 64) j)) }
+    ensures painted { output.new ≡ painted output.old width height (λ i j _. T.pixel (below_90 bit_depth (entries above.now.numbers) above.now.upsampling (width + height) ((i + 1) * dx + 64) j)) }
     ensures fits { InStorage output.new }
 {
     let sides = width + height;
@@ -205,7 +182,7 @@ pub(crate) fn rows_below_90<T: Pixel>(
 }
 
 /// The samples of an angle between 90 and 180 of derivatives `dx` and `dy`.
-#[tactic(auto, using(av1_frame::proofs::Regions::painted_none, av1_frame::proofs::Regions::painted_in_storage, av1_frame::proofs::Regions::painted_more))]
+#[tactic(auto, using(av1_frame::proofs::Regions::region_painting))]
 pub(crate) fn rows_between<T: Pixel>(
     output: &mut PlaneRegionMut<'_, T>,
     above: &PreparedSide,
@@ -217,15 +194,15 @@ pub(crate) fn rows_between<T: Pixel>(
     bit_depth: usize,
 )
     requires fits { InStorage output.old }
-    requires columns { width ≤ output.old.place.width }
-    requires rows { height ≤ output.old.place.height }
+    requires columns { width ≤ output.old.area.width }
+    requires rows { height ≤ output.old.area.height }
     requires width { width ≤ 64 }
     requires height { height ≤ 64 }
-    requires above_one { above.now.doubling ≤ 1 }
-    requires left_one { left.now.doubling ≤ 1 }
+    requires above_upsampling { above.now.upsampling ≤ 1 }
+    requires left_upsampling { left.now.upsampling ≤ 1 }
     requires pair { ArePair dx dy }
     requires depth { bit_depth ≤ T.BITS }
-    ensures painted { output.new ≡ painted output.old width height (λ i j _. T.pixel (between bit_depth (entries above.now.numbers) above.now.doubling (entries left.now.numbers) left.now.doubling dx dy i j)) }
+    ensures painted { output.new ≡ painted output.old width height (λ i j _. T.pixel (between bit_depth (entries above.now.numbers) above.now.upsampling (entries left.now.numbers) left.now.upsampling dx dy i j)) }
     ensures fits { InStorage output.new }
 {
     for i in 0..height {
@@ -234,7 +211,7 @@ pub(crate) fn rows_between<T: Pixel>(
 }
 
 /// The samples of an angle past 180 of derivative `dy`.
-#[tactic(auto, using(av1_frame::proofs::Regions::painted_none, av1_frame::proofs::Regions::painted_in_storage, av1_frame::proofs::Regions::painted_more))]
+#[tactic(auto, using(av1_frame::proofs::Regions::region_painting))]
 pub(crate) fn rows_past_180<T: Pixel>(
     output: &mut PlaneRegionMut<'_, T>,
     left: &PreparedSide,
@@ -244,14 +221,14 @@ pub(crate) fn rows_past_180<T: Pixel>(
     bit_depth: usize,
 )
     requires fits { InStorage output.old }
-    requires columns { width ≤ output.old.place.width }
-    requires rows { height ≤ output.old.place.height }
+    requires columns { width ≤ output.old.area.width }
+    requires rows { height ≤ output.old.area.height }
     requires width { width ≤ 64 }
     requires height { height ≤ 64 }
-    requires one { left.now.doubling ≤ 1 }
+    requires upsampling { left.now.upsampling ≤ 1 }
     requires dy { dy ≤ 40 }
     requires depth { bit_depth ≤ T.BITS }
-    ensures painted { output.new ≡ painted output.old width height (λ i j _. T.pixel (at bit_depth (entries left.now.numbers) left.now.doubling ((j + 1) * dy + 64) i)) }
+    ensures painted { output.new ≡ painted output.old width height (λ i j _. T.pixel (at bit_depth (entries left.now.numbers) left.now.upsampling ((j + 1) * dy + 64) i)) }
     ensures fits { InStorage output.new }
 {
     for i in 0..height {

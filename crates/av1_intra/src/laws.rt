@@ -9,11 +9,15 @@ ghost use Rattle.std.specs.Int.{w16};
 ghost use Rattle.av1_blocks.specs.declared.predict.IntraParam.{IntraParam};
 ghost use Rattle.av1_edges.specs.Parts.{effective, step_of, prepared_parts};
 ghost use Rattle.av1_edges.specs.Sides.{where_needed};
+ghost use Rattle.av1_edges.specs.Edges.{Edge};
+ghost use Rattle.av1_edges.specs.Within.{EdgeIsWithin};
+ghost use Rattle.av1_intra.specs.declared.directional.DirectionalBlock.{DirectionalBlock};
+ghost use Rattle.av1_intra.specs.declared.variant.PredictionVariant.{PredictionVariant};
 ghost use Rattle.av1_intra.specs.declared.luma.LumaLeaf.{LumaLeaf};
 ghost use Rattle.av1_intra.specs.ChromaFromLuma.{chroma_block, columns_read, rows_read, first_column, first_row, leaf_difference};
-ghost use Rattle.av1_intra.specs.Predicted.{variant_at, angle_or_alpha, places_above, places_left};
+ghost use Rattle.av1_intra.specs.Predicted.{predicted, variant_at, angle_or_alpha, places_above, places_left};
 
-/// Every entry that a line reads lies on its side, of the corner and as many places as the angle asks for, doubled or not. Below 90
+/// Every entry that a line reads lies on its side, of the corner and as many places as the angle asks for, upsampled or not. Below 90
 /// degrees the definition itself stops at the last place.
 ///
 /// Between 90 and 180 degrees a line that misses the side above meets the left side below the corner, so that none runs past both.
@@ -52,4 +56,10 @@ pub fn prepared_edges_suffice()
     ensures left { (filter : Bool) (mode : PredictionMode) (param : IntraParam) (x y w h : ℕ) → unsigned_abs (step_of param) ≤ 3 →
         let m = effective mode x y in let parts = prepared_parts filter (Some mode) (step_of param) x y w h in
         places_left m (variant_at x y) (unsigned_abs (angle_or_alpha m param)) w h ≤ where_needed parts.left h + where_needed parts.below_left w }
+{}
+
+/// A sample that is predicted from an edge within the depth lies within it too, for every mode, luma and weight.
+pub fn predictions_lie_within()
+    ensures { (b : DirectionalBlock) (v : PredictionVariant) (mode : PredictionMode) (alpha : ℤ) (ac : ℕ → ℕ → ℤ) (e : Edge) (r c : ℕ) → 8 ≤ b.bit_depth → EdgeIsWithin b.bit_depth e
+        → predicted b v mode alpha ac e r c < 2 ^ b.bit_depth }
 {}

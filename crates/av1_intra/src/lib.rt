@@ -13,7 +13,8 @@
 //! - `select_ief_strength`, `select_ief_upsample` and `dr_intra_derivative` are their tables, and `IntraEdgeFilterParameters` tells
 //!   whether a neighbour has a smooth mode.
 //! - the laws: every entry of a side that a direction reads is there, the modes have angles that `pred_directional` admits, prepared
-//!   edges are as long as their modes read, and luma's differences fit 16 bits.
+//!   edges are as long as their modes read, luma's differences fit 16 bits, and what is predicted from samples within their depth lies
+//!   within it.
 //!
 //! Nothing allocates, and nothing is refused: what a call needs stands in its `requires`. Sides are counted in samples and angles
 //! in degrees: 90 points straight up, and 180 to the left. A side above runs from the left, and a left one is stored from the
@@ -43,8 +44,10 @@ mod tile_luma;
 mod upsampling;
 mod variant;
 
+pub use dc::sum_of;
 pub use laws::{
-    lines_meet_their_sides, luma_differences_fit, modes_have_angles, prepared_edges_suffice,
+    lines_meet_their_sides, luma_differences_fit, modes_have_angles, predictions_lie_within,
+    prepared_edges_suffice,
 };
 pub use luma::{LumaLeaf, leaf_luma_ac};
 pub use neighbours::IntraEdgeFilterParameters;

@@ -83,7 +83,7 @@ fn luma_over<T: Pixel, const XDEC: usize, const YDEC: usize>(
 
 /// The luma over each sample of a row of chroma, of which there are `width`. Those past the one that begins at `last_column` take that
 /// one's.
-#[tactic(auto, using(av1_frame::proofs::Paint::paint_row_none, av1_frame::proofs::Paint::paint_row_more))]
+#[tactic(auto, using(av1_frame::proofs::Paint::row_painting))]
 fn luma_row<T: Pixel, const XDEC: usize, const YDEC: usize>(
     row: &mut [i16],
     top: &[T],
@@ -131,8 +131,8 @@ fn luma_rows<T: Pixel, const XDEC: usize, const YDEC: usize>(
     requires last_column { block.last_column < 2 ^ 16 }
     requires last_row { block.last_row < 2 ^ 16 }
     requires ac_long { block.width * block.height ≤ length ac.old }
-    requires columns { columns_read block ≤ luma.now.place.width }
-    requires rows { rows_read block ≤ luma.now.place.height }
+    requires columns { columns_read block ≤ luma.now.area.width }
+    requires rows { rows_read block ≤ luma.now.area.height }
     requires low { (x y : ℕ) → x < columns_read block → y < rows_read block → region_sample T.num luma.now x y < 4096 }
     ensures { ac.new ≡ with_rows block.width block.height (λ r c. pos (luma_at (region_sample T.num luma.now) block r c)) ac.old }
 {
@@ -162,7 +162,7 @@ fn total(ac: &[i16]) -> u32
 }
 
 /// Takes their mean from all entries, none of which is below 0.
-#[tactic(auto, using(av1_frame::proofs::Paint::paint_row_none, av1_frame::proofs::Paint::paint_row_more))]
+#[tactic(auto, using(av1_frame::proofs::Paint::row_painting))]
 fn subtract_mean(ac: &mut [i16])
     requires some { 0 < length ac.old }
     requires few { length ac.old ≤ 16384 }
@@ -236,8 +236,8 @@ fn block_differences<T: Pixel, const XDEC: usize, const YDEC: usize>(
     requires last_column { block.last_column < 2 ^ 16 }
     requires last_row { block.last_row < 2 ^ 16 }
     requires ac_long { block.width * block.height ≤ length ac.old }
-    requires columns { columns_read block ≤ luma.now.place.width }
-    requires rows { rows_read block ≤ luma.now.place.height }
+    requires columns { columns_read block ≤ luma.now.area.width }
+    requires rows { rows_read block ≤ luma.now.area.height }
     requires low { (x y : ℕ) → x < columns_read block → y < rows_read block → region_sample T.num luma.now x y < 4096 }
     ensures { ac.new ≡ with_rows block.width block.height (luma_difference (region_sample T.num luma.now) block) ac.old }
 {
@@ -262,8 +262,8 @@ pub fn pred_cfl_ac<T: Pixel, const XDEC: usize, const YDEC: usize>(
     requires w_pad { 4 * w_pad < block_width plane_bsize }
     requires h_pad { 4 * h_pad < block_height plane_bsize }
     requires ac_long { block_width plane_bsize * block_height plane_bsize ≤ length ac.old }
-    requires columns { columns_read (padded_block plane_bsize w_pad h_pad XDEC YDEC) ≤ luma.now.place.width }
-    requires rows { rows_read (padded_block plane_bsize w_pad h_pad XDEC YDEC) ≤ luma.now.place.height }
+    requires columns { columns_read (padded_block plane_bsize w_pad h_pad XDEC YDEC) ≤ luma.now.area.width }
+    requires rows { rows_read (padded_block plane_bsize w_pad h_pad XDEC YDEC) ≤ luma.now.area.height }
     requires low { let block = padded_block plane_bsize w_pad h_pad XDEC YDEC in (x y : ℕ) → x < columns_read block → y < rows_read block → region_sample T.num luma.now x y < 4096 }
     ensures { ac.new ≡ with_rows (block_width plane_bsize) (block_height plane_bsize) (luma_difference (region_sample T.num luma.now) (padded_block plane_bsize w_pad h_pad XDEC YDEC)) ac.old }
 {
@@ -386,8 +386,8 @@ fn differences<T: Pixel>(ac: &mut [i16], luma: &PlaneRegion<'_, T>, block: Chrom
     requires last_column { block.last_column < 2 ^ 16 }
     requires last_row { block.last_row < 2 ^ 16 }
     requires ac_long { block.width * block.height ≤ length ac.old }
-    requires columns { columns_read block ≤ luma.now.place.width }
-    requires rows { rows_read block ≤ luma.now.place.height }
+    requires columns { columns_read block ≤ luma.now.area.width }
+    requires rows { rows_read block ≤ luma.now.area.height }
     requires low { (x y : ℕ) → x < columns_read block → y < rows_read block → region_sample T.num luma.now x y < 4096 }
     ensures { ac.new ≡ with_rows block.width block.height (luma_difference (region_sample T.num luma.now) block) ac.old }
 {
@@ -410,8 +410,8 @@ pub fn leaf_luma_ac<T: Pixel>(ac: &mut [i16], luma: &PlaneRegion<'_, T>, leaf: L
     requires left { IsTrue (is_narrow leaf.bsize leaf.xdec) → 4 ≤ leaf.x }
     requires top { IsTrue (is_low leaf.bsize leaf.ydec) → 4 ≤ leaf.y }
     requires ac_long { (chroma_block leaf).width * (chroma_block leaf).height ≤ length ac.old }
-    requires columns { first_column leaf + columns_read (chroma_block leaf) ≤ luma.now.place.width }
-    requires rows { first_row leaf + rows_read (chroma_block leaf) ≤ luma.now.place.height }
+    requires columns { first_column leaf + columns_read (chroma_block leaf) ≤ luma.now.area.width }
+    requires rows { first_row leaf + rows_read (chroma_block leaf) ≤ luma.now.area.height }
     requires low { (x y : ℕ) → x < columns_read (chroma_block leaf) → y < rows_read (chroma_block leaf)
         → region_sample T.num luma.now (first_column leaf + x) (first_row leaf + y) < 4096 }
     ensures { ac.new ≡ with_rows (chroma_block leaf).width (chroma_block leaf).height (leaf_difference (region_sample T.num luma.now) leaf) ac.old }

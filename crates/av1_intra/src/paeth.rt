@@ -18,7 +18,7 @@ fn nearest(above: u32, left: u32, corner: u32) -> u32
     requires left { left < 2 ^ 16 }
     requires corner { corner < 2 ^ 16 }
     ensures value { result ≡ paeth above left corner }
-    ensures one { (result ≡ above) ⊎ ((result ≡ left) ⊎ (result ≡ corner)) }
+    ensures one_of_three { (result ≡ above) ⊎ ((result ≡ left) ⊎ (result ≡ corner)) }
 {
     let left_off = above.abs_diff(corner);
     let above_off = left.abs_diff(corner);
@@ -33,7 +33,7 @@ fn nearest(above: u32, left: u32, corner: u32) -> u32
 }
 
 /// The first `width` samples of a row beside the sample at place `k` of `left`.
-#[tactic(auto, using(av1_frame::proofs::Paint::paint_row_none, av1_frame::proofs::Paint::paint_row_more))]
+#[tactic(auto, using(av1_frame::proofs::Paint::row_painting))]
 fn paeth_row<T: Pixel>(
     row: &mut [T],
     above: &[T],
@@ -59,7 +59,7 @@ fn paeth_row<T: Pixel>(
 ///
 /// `above` runs from the left, and `left` from the bottom up: its sample at `height - 1` is that of the first row. Samples past
 /// the first `width` and `height` are not read.
-#[tactic(auto, using(av1_frame::proofs::Regions::painted_none, av1_frame::proofs::Regions::painted_in_storage, av1_frame::proofs::Regions::painted_more))]
+#[tactic(auto, using(av1_frame::proofs::Regions::region_painting))]
 pub fn pred_paeth<T: Pixel>(
     output: &mut PlaneRegionMut<'_, T>,
     above: &[T],
@@ -69,8 +69,8 @@ pub fn pred_paeth<T: Pixel>(
     height: usize,
 )
     requires fits { InStorage output.old }
-    requires columns { width ≤ output.old.place.width }
-    requires rows { height ≤ output.old.place.height }
+    requires columns { width ≤ output.old.area.width }
+    requires rows { height ≤ output.old.area.height }
     requires above_long { width ≤ length above.now }
     requires left_long { height ≤ length left.now }
     ensures painted { output.new ≡ painted output.old width height

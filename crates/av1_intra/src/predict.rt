@@ -22,7 +22,7 @@ use crate::smooth::{pred_smooth, pred_smooth_h, pred_smooth_v};
 use crate::straight::{pred_h, pred_v};
 use crate::variant::PredictionVariant;
 use av1_blocks::{ANGLE_STEP, IntraParam, PredictionMode, TxSize, intra_mode_to_angle};
-use av1_edges::IntraEdge;
+use av1_edges::{IntraEdge, effective};
 use av1_frame::{Pixel, PlaneRegionMut, TileRect};
 
 /// The samples of a left side that lie beside a block of `height` rows: the last ones.
@@ -44,8 +44,8 @@ fn predict_dc<T: Pixel>(
     bit_depth: usize,
 )
     requires fits { InStorage dst.old }
-    requires columns { width ≤ dst.old.place.width }
-    requires rows { height ≤ dst.old.place.height }
+    requires columns { width ≤ dst.old.area.width }
+    requires rows { height ≤ dst.old.area.height }
     requires some_columns { 0 < width }
     requires some_rows { 0 < height }
     requires width { width ≤ 64 }
@@ -84,8 +84,8 @@ fn predict_cfl<T: Pixel>(
     bit_depth: usize,
 )
     requires fits { InStorage dst.old }
-    requires columns { width ≤ dst.old.place.width }
-    requires rows { height ≤ dst.old.place.height }
+    requires columns { width ≤ dst.old.area.width }
+    requires rows { height ≤ dst.old.area.height }
     requires some_columns { 0 < width }
     requires some_rows { 0 < height }
     requires width { width ≤ 64 }
@@ -130,8 +130,8 @@ fn predict_along<T: Pixel>(
     ief_params: Option<IntraEdgeFilterParameters>,
 )
     requires fits { InStorage dst.old }
-    requires columns { width ≤ dst.old.place.width }
-    requires rows { height ≤ dst.old.place.height }
+    requires columns { width ≤ dst.old.area.width }
+    requires rows { height ≤ dst.old.area.height }
     requires width { width ≤ 64 }
     requires height { height ≤ 64 }
     requires angle { p_angle ≢ 90 → p_angle ≢ 180 → IsTrue (is_interpolated p_angle) }
@@ -165,8 +165,8 @@ fn predict_smooth<T: Pixel>(
     height: usize,
 )
     requires fits { InStorage dst.old }
-    requires columns { width ≤ dst.old.place.width }
-    requires rows { height ≤ dst.old.place.height }
+    requires columns { width ≤ dst.old.area.width }
+    requires rows { height ≤ dst.old.area.height }
     requires width { IsBlockSide width }
     requires height { IsBlockSide height }
     requires above_long { width ≤ length above.now }
@@ -201,8 +201,8 @@ fn predict_from_sides<T: Pixel>(
 )
     requires intra { IsTrue (is_intra mode) }
     requires fits { InStorage dst.old }
-    requires columns { width ≤ dst.old.place.width }
-    requires rows { height ≤ dst.old.place.height }
+    requires columns { width ≤ dst.old.area.width }
+    requires rows { height ≤ dst.old.area.height }
     requires width { IsBlockSide width }
     requires height { IsBlockSide height }
     requires angle { IsTrue (is_angle_of mode angle) }
@@ -259,8 +259,8 @@ pub fn dispatch_predict_intra<T: Pixel>(
 )
     requires intra { IsTrue (is_intra mode) }
     requires fits { InStorage dst.old }
-    requires columns { tx_width tx_size ≤ dst.old.place.width }
-    requires rows { tx_height tx_size ≤ dst.old.place.height }
+    requires columns { tx_width tx_size ≤ dst.old.area.width }
+    requires rows { tx_height tx_size ≤ dst.old.area.height }
     requires angle { IsTrue (is_angle_of mode angle) }
     requires above_long { places_above mode variant (unsigned_abs angle) (tx_width tx_size) (tx_height tx_size) ≤ length edge_buf.now.above.now }
     requires left_long { places_left mode variant (unsigned_abs angle) (tx_width tx_size) (tx_height tx_size) ≤ length edge_buf.now.left.now }
@@ -287,19 +287,6 @@ pub fn dispatch_predict_intra<T: Pixel>(
         angle,
         ief_params,
     );
-}
-
-/// The mode that a block at column `x` of row `y` of the tile is predicted by: Paeth prediction has fewer neighbours at the left and
-/// upper end.
-fn effective(mode: PredictionMode, x: usize, y: usize) -> PredictionMode
-    ensures { result ≡ effective mode x y }
-{
-    match (mode, x, y) {
-        (PredictionMode::PAETH_PRED, 0, 0) => PredictionMode::DC_PRED,
-        (PredictionMode::PAETH_PRED, 0, _) => PredictionMode::V_PRED,
-        (PredictionMode::PAETH_PRED, _, 0) => PredictionMode::H_PRED,
-        _ => mode,
-    }
 }
 
 /// The angle of a mode and its parameter, and for chroma from luma the weight.
@@ -344,10 +331,10 @@ pub fn predict_intra<T: Pixel>(
 )
     requires intra { IsTrue (is_intra mode) }
     requires fits { InStorage dst.old }
-    requires columns { tx_width tx_size ≤ dst.old.place.width }
-    requires rows { tx_height tx_size ≤ dst.old.place.height }
-    requires left { dst.old.plane_cfg.xorigin + tile_rect.x ≤ dst.old.place.x }
-    requires top { dst.old.plane_cfg.yorigin + tile_rect.y ≤ dst.old.place.y }
+    requires columns { tx_width tx_size ≤ dst.old.area.width }
+    requires rows { tx_height tx_size ≤ dst.old.area.height }
+    requires left { dst.old.plane_cfg.xorigin + tile_rect.x ≤ dst.old.area.x }
+    requires top { dst.old.plane_cfg.yorigin + tile_rect.y ≤ dst.old.area.y }
     requires step { unsigned_abs (step_of intra_param) ≤ 3 }
     requires alpha { unsigned_abs (alpha_of intra_param) ≤ 16 }
     requires above_long { let m = mode_of_block dst.old tile_rect mode in

@@ -1,18 +1,17 @@
-//! A side of a block as directional prediction reads it: filtered and doubled as the angle asks.
+//! A side of a block as directional prediction reads it: filtered and upsampled as the angle asks.
 
 ghost use Rattle.std.specs.Prelude.{◌≡◌, ℕ, ◌+◌, ◌-◌, ◌*◌, ◌/◌, ◌%◌, ◌^◌, ◌<◌, ◌≤◌, length, map, take, reverse, replicate, if◌then◌else◌, min, Bool, IsTrue};
 ghost use Rattle.av1_intra.specs.Sides.{entries, distance};
 ghost use Rattle.av1_intra.specs.EdgeFilter.{filtered};
 ghost use Rattle.av1_intra.specs.Upsampling.{upsampled};
-ghost use Rattle.av1_intra.specs.Directional.{side, blend, at, prepared, doubling};
+ghost use Rattle.av1_intra.specs.Directional.{side, blend, at, prepared, upsampling};
 
 use crate::directional::DirectionalBlock;
 use crate::edge_filter::{filter_edge, select_ief_strength};
-use crate::samples::clipped;
 use crate::upsampling::{select_ief_upsample, upsample_edge};
-use av1_frame::Pixel;
+use av1_frame::{Pixel, clip};
 
-/// How many entries a side has at most: a corner and 128 places, doubled.
+/// How many entries a side has at most: a corner and 128 places, upsampled.
 const ENTRIES: usize = 257;
 
 /// A side of a block, ready to interpolate.
@@ -20,12 +19,12 @@ const ENTRIES: usize = 257;
 pub(crate) struct PreparedSide {
     /// The corner, then the places away from it, and zeros after these.
     pub(crate) numbers: [u16; ENTRIES],
-    /// 1 where the places are doubled, else 0.
-    pub(crate) doubling: usize,
+    /// 1 where the places are upsampled, else 0.
+    pub(crate) upsampling: usize,
 }
 
 /// The corner and the first `count` places above, as numbers; there are zeros after these.
-#[tactic(auto, using(av1_frame::proofs::Paint::paint_row_none, av1_frame::proofs::Paint::paint_row_more))]
+#[tactic(auto, using(av1_frame::proofs::Paint::row_painting))]
 fn above_numbers<T: Pixel>(numbers: &mut [u16; ENTRIES], corner: T, above: &[T], count: usize)
     requires empty { numbers.old ≡ replicate 257 0 }
     requires few { count ≤ 128 }
@@ -39,7 +38,7 @@ fn above_numbers<T: Pixel>(numbers: &mut [u16; ENTRIES], corner: T, above: &[T],
 }
 
 /// The corner and the first `count` places on the left, the last sample of `left` first; there are zeros after these.
-#[tactic(auto, using(av1_frame::proofs::Paint::paint_row_none, av1_frame::proofs::Paint::paint_row_more))]
+#[tactic(auto, using(av1_frame::proofs::Paint::row_painting))]
 fn left_numbers<T: Pixel>(numbers: &mut [u16; ENTRIES], corner: T, left: &[T], count: usize)
     requires empty { numbers.old ≡ replicate 257 0 }
     requires few { count ≤ 128 }
@@ -53,28 +52,28 @@ fn left_numbers<T: Pixel>(numbers: &mut [u16; ENTRIES], corner: T, left: &[T], c
     }
 }
 
-/// Smooths the first `smoothed` places and then doubles the first `places`.
+/// Smooths the first `smoothed` places and then upsamples the first `places`.
 fn prepare(
     numbers: &mut [u16; ENTRIES],
     smoothed: usize,
     places: usize,
     strength: u8,
-    double: bool,
+    upsample: bool,
     bit_depth: usize,
 )
     requires strength { strength ≤ 3 }
     requires smoothed { smoothed ≤ 128 }
-    requires places { IsTrue double → places ≤ 61 }
+    requires places { IsTrue upsample → places ≤ 61 }
     requires depth { bit_depth ≤ 16 }
-    ensures { entries numbers.new ≡ (if double then upsampled bit_depth places (filtered smoothed strength (entries numbers.old)) else filtered smoothed strength (entries numbers.old)) }
+    ensures { entries numbers.new ≡ (if upsample then upsampled bit_depth places (filtered smoothed strength (entries numbers.old)) else filtered smoothed strength (entries numbers.old)) }
 {
     filter_edge(smoothed + 1, strength, numbers);
-    if double {
+    if upsample {
         upsample_edge(places, numbers, bit_depth);
     }
 }
 
-/// Prepares the side at the angle `straight` as the block's edge filter asks, and tells whether it was doubled, by 1 or 0.
+/// Prepares the side at the angle `straight` as the block's edge filter asks, and tells whether it was upsampled, by 1 or 0.
 fn filter_side(
     numbers: &mut [u16; ENTRIES],
     block: DirectionalBlock,
@@ -89,17 +88,24 @@ fn filter_side(
     requires straight { straight < 300 }
     requires depth { block.bit_depth ≤ 16 }
     ensures numbers { entries numbers.new ≡ prepared block (distance block.p_angle straight) smoothed places (entries numbers.old) }
-    ensures doubling { result ≡ doubling block (distance block.p_angle straight) }
-    ensures one { result ≤ 1 }
+    ensures upsampling { result ≡ upsampling block (distance block.p_angle straight) }
+    ensures at_most_one { result ≤ 1 }
 {
     match block.smooth_filter {
         None => 0,
         Some(smooth) => {
             let delta = block.p_angle as isize - straight as isize;
             let strength = select_ief_strength(block.width, block.height, smooth, delta);
-            let double = select_ief_upsample(block.width, block.height, smooth, delta);
-            prepare(numbers, smoothed, places, strength, double, block.bit_depth);
-            usize::from(double)
+            let upsample = select_ief_upsample(block.width, block.height, smooth, delta);
+            prepare(
+                numbers,
+                smoothed,
+                places,
+                strength,
+                upsample,
+                block.bit_depth,
+            );
+            usize::from(upsample)
         }
     }
 }
@@ -121,11 +127,11 @@ pub(crate) fn prepare_above<T: Pixel>(
     requires angle { block.p_angle < 300 }
     requires depth { block.bit_depth ≤ 16 }
     ensures numbers { entries ready.new.numbers ≡ prepared block (distance block.p_angle 90) smoothed places (side (T.num corner) (take places (map T.num above.now))) }
-    ensures doubling { ready.new.doubling ≡ doubling block (distance block.p_angle 90) }
-    ensures one { ready.new.doubling ≤ 1 }
+    ensures upsampling { ready.new.upsampling ≡ upsampling block (distance block.p_angle 90) }
+    ensures at_most_one { ready.new.upsampling ≤ 1 }
 {
     above_numbers(&mut ready.numbers, corner, above, places);
-    ready.doubling = filter_side(&mut ready.numbers, block, 90, smoothed, places);
+    ready.upsampling = filter_side(&mut ready.numbers, block, 90, smoothed, places);
 }
 
 /// Makes an empty side the left one with its first `places` places from the top down, of which the first `smoothed` are smoothed.
@@ -145,11 +151,11 @@ pub(crate) fn prepare_left<T: Pixel>(
     requires angle { block.p_angle < 300 }
     requires depth { block.bit_depth ≤ 16 }
     ensures numbers { entries ready.new.numbers ≡ prepared block (distance block.p_angle 180) smoothed places (side (T.num corner) (take places (reverse (map T.num left.now)))) }
-    ensures doubling { ready.new.doubling ≡ doubling block (distance block.p_angle 180) }
-    ensures one { ready.new.doubling ≤ 1 }
+    ensures upsampling { ready.new.upsampling ≡ upsampling block (distance block.p_angle 180) }
+    ensures at_most_one { ready.new.upsampling ≤ 1 }
 {
     left_numbers(&mut ready.numbers, corner, left, places);
-    ready.doubling = filter_side(&mut ready.numbers, block, 180, smoothed, places);
+    ready.upsampling = filter_side(&mut ready.numbers, block, 180, smoothed, places);
 }
 
 impl PreparedSide {
@@ -159,35 +165,33 @@ impl PreparedSide {
     {
         PreparedSide {
             numbers: [0; ENTRIES],
-            doubling: 0,
+            upsampling: 0,
         }
     }
 
-    /// The number between the entries `e` and `e + 1`, `z` 32nds past the first.
-    pub(crate) fn blended(&self, e: usize, z: u32, bit_depth: usize) -> u32
+    /// The sample between the entries `e` and `e + 1`, `z` 32nds past the first.
+    pub(crate) fn blended<T: Pixel>(&self, e: usize, z: u32, bit_depth: usize) -> T
         requires e { e < 256 }
         requires z { z < 32 }
-        requires depth { bit_depth ≤ 16 }
-        ensures value { result ≡ blend bit_depth (entries self.now.numbers) e z }
-        ensures fits { result < 2 ^ bit_depth }
+        requires depth { bit_depth ≤ T.BITS }
+        ensures { result ≡ T.pixel (blend bit_depth (entries self.now.numbers) e z) }
     {
         let near = u32::from(self.numbers[e]);
         let far = u32::from(self.numbers[e + 1]);
-        clipped((near * (32 - z) + far * z + 16) / 32, bit_depth)
+        clip(((near * (32 - z) + far * z + 16) / 32) as i32, bit_depth)
     }
 
-    /// The number at `n / 64` of a place past the corner, `k` places further.
+    /// The sample at `n / 64` of a place past the corner, `k` places further.
     #[tactic(auto, unfolding(crate::specs::Directional::at))]
-    pub(crate) fn interpolated(&self, n: usize, k: usize, bit_depth: usize) -> u32
-        requires one { self.now.doubling ≤ 1 }
+    pub(crate) fn interpolated<T: Pixel>(&self, n: usize, k: usize, bit_depth: usize) -> T
+        requires upsampling { self.now.upsampling ≤ 1 }
         requires n { n < 2 ^ 20 }
         requires k { k < 2 ^ 20 }
-        requires inside { n / 2 ^ (6 - self.now.doubling) + k * 2 ^ self.now.doubling + 1 ≤ 256 }
-        requires depth { bit_depth ≤ 16 }
-        ensures value { result ≡ at bit_depth (entries self.now.numbers) self.now.doubling n k }
-        ensures fits { result < 2 ^ bit_depth }
+        requires inside { n / 2 ^ (6 - self.now.upsampling) + k * 2 ^ self.now.upsampling + 1 ≤ 256 }
+        requires depth { bit_depth ≤ T.BITS }
+        ensures { result ≡ T.pixel (at bit_depth (entries self.now.numbers) self.now.upsampling n k) }
     {
-        let u = self.doubling;
+        let u = self.upsampling;
         self.blended(
             (n >> (6 - u)) + (k << u),
             ((n << u) / 2 % 32) as u32,

@@ -60,7 +60,7 @@ fn mixed(weight: u8, a: u32, b: u32) -> u32
 }
 
 /// The first `width` samples of row `r` of a block.
-#[tactic(auto, using(av1_frame::proofs::Paint::paint_row_none, av1_frame::proofs::Paint::paint_row_more))]
+#[tactic(auto, using(av1_frame::proofs::Paint::row_painting))]
 fn smooth_row<T: Pixel>(
     row: &mut [T],
     above: &[T],
@@ -92,7 +92,7 @@ fn smooth_row<T: Pixel>(
 }
 
 /// The first `width` samples of a row, from the samples above it and the lowest one on the left.
-#[tactic(auto, using(av1_frame::proofs::Paint::paint_row_none, av1_frame::proofs::Paint::paint_row_more))]
+#[tactic(auto, using(av1_frame::proofs::Paint::row_painting))]
 fn smooth_v_row<T: Pixel>(row: &mut [T], above: &[T], left: &[T], weight: u8, width: usize)
     requires row_long { width ≤ length row.old }
     requires above_long { width ≤ length above.now }
@@ -107,7 +107,7 @@ fn smooth_v_row<T: Pixel>(row: &mut [T], above: &[T], left: &[T], weight: u8, wi
 }
 
 /// The first `width` samples of a row, from the sample at place `k` of `left` and the last one above.
-#[tactic(auto, using(av1_frame::proofs::Paint::paint_row_none, av1_frame::proofs::Paint::paint_row_more))]
+#[tactic(auto, using(av1_frame::proofs::Paint::row_painting))]
 fn smooth_h_row<T: Pixel>(
     row: &mut [T],
     above: &[T],
@@ -136,7 +136,7 @@ fn smooth_h_row<T: Pixel>(
 ///
 /// `above` runs from the left, and `left` from the bottom up: its first sample is that of the lowest row. Samples past the
 /// first `width` and `height` are not read.
-#[tactic(auto, using(av1_frame::proofs::Regions::painted_none, av1_frame::proofs::Regions::painted_in_storage, av1_frame::proofs::Regions::painted_more))]
+#[tactic(auto, using(av1_frame::proofs::Regions::region_painting))]
 pub fn pred_smooth<T: Pixel>(
     output: &mut PlaneRegionMut<'_, T>,
     above: &[T],
@@ -145,8 +145,8 @@ pub fn pred_smooth<T: Pixel>(
     height: usize,
 )
     requires fits { InStorage output.old }
-    requires columns { width ≤ output.old.place.width }
-    requires rows { height ≤ output.old.place.height }
+    requires columns { width ≤ output.old.area.width }
+    requires rows { height ≤ output.old.area.height }
     requires width { IsBlockSide width }
     requires height { IsBlockSide height }
     requires above_long { width ≤ length above.now }
@@ -175,7 +175,7 @@ pub fn pred_smooth<T: Pixel>(
 /// `left` and the last one `above`, which weighs the more the further to the right the column is.
 ///
 /// `above` runs from the left, and `left` from the bottom up. Samples past the first `width` and `height` are not read.
-#[tactic(auto, using(av1_frame::proofs::Regions::painted_none, av1_frame::proofs::Regions::painted_in_storage, av1_frame::proofs::Regions::painted_more))]
+#[tactic(auto, using(av1_frame::proofs::Regions::region_painting))]
 pub fn pred_smooth_h<T: Pixel>(
     output: &mut PlaneRegionMut<'_, T>,
     above: &[T],
@@ -184,8 +184,8 @@ pub fn pred_smooth_h<T: Pixel>(
     height: usize,
 )
     requires fits { InStorage output.old }
-    requires columns { width ≤ output.old.place.width }
-    requires rows { height ≤ output.old.place.height }
+    requires columns { width ≤ output.old.area.width }
+    requires rows { height ≤ output.old.area.height }
     requires width { IsBlockSide width }
     requires above_long { width ≤ length above.now }
     requires left_long { height ≤ length left.now }
@@ -205,7 +205,7 @@ pub fn pred_smooth_h<T: Pixel>(
 ///
 /// `above` runs from the left, and `left` from the bottom up: its first sample is the lowest. Samples past the first `width`
 /// and `height` are not read.
-#[tactic(auto, using(av1_frame::proofs::Regions::painted_none, av1_frame::proofs::Regions::painted_in_storage, av1_frame::proofs::Regions::painted_more))]
+#[tactic(auto, using(av1_frame::proofs::Regions::region_painting))]
 pub fn pred_smooth_v<T: Pixel>(
     output: &mut PlaneRegionMut<'_, T>,
     above: &[T],
@@ -214,8 +214,8 @@ pub fn pred_smooth_v<T: Pixel>(
     height: usize,
 )
     requires fits { InStorage output.old }
-    requires columns { width ≤ output.old.place.width }
-    requires rows { height ≤ output.old.place.height }
+    requires columns { width ≤ output.old.area.width }
+    requires rows { height ≤ output.old.area.height }
     requires height { IsBlockSide height }
     requires above_long { width ≤ length above.now }
     requires left_long { height ≤ length left.now }

@@ -6,13 +6,12 @@ ghost use Rattle.std.specs.Prelude.{◌≡◌, ℕ, ◌+◌, ◌-◌, ◌*◌, �
 ghost use Rattle.av1_frame.specs.Regions.{InStorage, painted};
 ghost use Rattle.av1_intra.specs.Sides.{numbers, from_top};
 
-use crate::rows::{copy_row, fill_row};
 use crate::samples::number_at;
-use av1_frame::{Pixel, PlaneRegionMut};
+use av1_frame::{Pixel, PlaneRegionMut, copy_row, fill_row};
 
 /// Predicts the first `height` rows and `width` columns of `output`: each row becomes the samples of `above`, which runs from the
 /// left. Samples past the first `width` are not read.
-#[tactic(auto, using(av1_frame::proofs::Regions::painted_none, av1_frame::proofs::Regions::painted_in_storage, av1_frame::proofs::Regions::painted_more))]
+#[tactic(auto, using(av1_frame::proofs::Regions::region_painting))]
 pub fn pred_v<T: Pixel>(
     output: &mut PlaneRegionMut<'_, T>,
     above: &[T],
@@ -20,8 +19,8 @@ pub fn pred_v<T: Pixel>(
     height: usize,
 )
     requires fits { InStorage output.old }
-    requires columns { width ≤ output.old.place.width }
-    requires rows { height ≤ output.old.place.height }
+    requires columns { width ≤ output.old.area.width }
+    requires rows { height ≤ output.old.area.height }
     requires above_long { width ≤ length above.now }
     ensures painted { output.new ≡ painted output.old width height (λ _ c _. T.pixel (numbers T.num above.now c)) }
     ensures fits { InStorage output.new }
@@ -35,11 +34,11 @@ pub fn pred_v<T: Pixel>(
 ///
 /// `left` runs from the bottom up: its sample at `height - 1` is that of the first row. Samples past the first `height` are not
 /// read.
-#[tactic(auto, using(av1_frame::proofs::Regions::painted_none, av1_frame::proofs::Regions::painted_in_storage, av1_frame::proofs::Regions::painted_more))]
+#[tactic(auto, using(av1_frame::proofs::Regions::region_painting))]
 pub fn pred_h<T: Pixel>(output: &mut PlaneRegionMut<'_, T>, left: &[T], width: usize, height: usize)
     requires fits { InStorage output.old }
-    requires columns { width ≤ output.old.place.width }
-    requires rows { height ≤ output.old.place.height }
+    requires columns { width ≤ output.old.area.width }
+    requires rows { height ≤ output.old.area.height }
     requires left_long { height ≤ length left.now }
     ensures painted { output.new ≡ painted output.old width height (λ r _ _. T.pixel (from_top T.num height left.now r)) }
     ensures fits { InStorage output.new }

@@ -207,7 +207,7 @@ fn left_neighbour(left_mode: PredictionMode) -> IntraEdgeFilterParameters {
 
 #[test]
 #[tactic(auto, unfolding(crate::specs::Angles::is_interpolated, crate::specs::Angles::derivative))]
-fn the_left_side_is_doubled_past_180_degrees(rt: HostRuntime) -> Result<(), Fail> {
+fn the_left_side_is_upsampled_past_180_degrees(rt: HostRuntime) -> Result<(), Fail> {
     let left = [0, 90, 80, 170, 160, 50, 140, 30];
     let edge = Some(left_neighbour(PredictionMode::DC_PRED));
     let rows = [
@@ -226,7 +226,7 @@ fn the_left_side_is_doubled_past_180_degrees(rt: HostRuntime) -> Result<(), Fail
 
 #[test]
 #[tactic(auto, unfolding(crate::specs::Angles::is_interpolated, crate::specs::Angles::derivative))]
-fn the_side_above_is_doubled_below_90_degrees(rt: HostRuntime) -> Result<(), Fail> {
+fn the_side_above_is_upsampled_below_90_degrees(rt: HostRuntime) -> Result<(), Fail> {
     let above = [510, 620, 400, 1023, 0, 33, 700, 701, 702, 90, 15, 1000];
     let edge = Some(left_neighbour(PredictionMode::DC_PRED));
     let mut plane = Plane::from_slice(rt.alloc(), &[7u16; 32], 8)?;
@@ -285,7 +285,7 @@ fn an_edge_is_smoothed_but_for_its_corner(rt: HostRuntime) {
 }
 
 #[test]
-fn an_edge_is_doubled_in_place(rt: HostRuntime) {
+fn an_edge_is_upsampled_in_place(rt: HostRuntime) {
     let mut edge = [10u16, 20, 30, 40, 50, 0, 0, 0, 0, 7];
     upsample_edge(4, &mut edge, 8);
     assert_eq!(rt; edge, [10, 14, 20, 25, 30, 35, 40, 46, 50, 7]);

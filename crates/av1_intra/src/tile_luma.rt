@@ -56,8 +56,8 @@ pub fn luma_ac<'ac, T: Pixel>(
     requires left { IsTrue (is_narrow bsize ts.old.u.plane_cfg.xdec) → 1 ≤ tile_bo.0.x }
     requires top { IsTrue (is_low bsize ts.old.u.plane_cfg.ydec) → 1 ≤ tile_bo.0.y }
     requires ac_long { let b = chroma_block (leaf_in_tile ts.old tile_bo bsize tx_size fi.now) in b.width * b.height ≤ length ac.old }
-    requires columns { let leaf = leaf_in_tile ts.old tile_bo bsize tx_size fi.now in first_column leaf + columns_read (chroma_block leaf) ≤ ts.old.y.place.width }
-    requires rows { let leaf = leaf_in_tile ts.old tile_bo bsize tx_size fi.now in first_row leaf + rows_read (chroma_block leaf) ≤ ts.old.y.place.height }
+    requires columns { let leaf = leaf_in_tile ts.old tile_bo bsize tx_size fi.now in first_column leaf + columns_read (chroma_block leaf) ≤ ts.old.y.area.width }
+    requires rows { let leaf = leaf_in_tile ts.old tile_bo bsize tx_size fi.now in first_row leaf + rows_read (chroma_block leaf) ≤ ts.old.y.area.height }
     requires low { let leaf = leaf_in_tile ts.old tile_bo bsize tx_size fi.now in (x y : ℕ) → x < columns_read (chroma_block leaf) → y < rows_read (chroma_block leaf)
         → tile_luma T.num ts.old.y (first_column leaf + x) (first_row leaf + y) < 4096 }
     ensures value { let leaf = leaf_in_tile ts.old tile_bo bsize tx_size fi.now in let b = chroma_block leaf in

@@ -1,4 +1,4 @@
-//! Doubling the places of a side before it is interpolated.
+//! Upsampling: twice the places of a side, before it is interpolated.
 
 ghost use Rattle.std.specs.Prelude.{◌≡◌, ℕ, ◌+◌, ◌-◌, ◌*◌, ◌/◌, ◌^◌, ◌<◌, ◌≤◌, length, unsigned_abs, pos};
 ghost use Rattle.av1_frame.specs.Arithmetic.{clip};
@@ -6,10 +6,9 @@ ghost use Rattle.av1_frame.specs.Samples.{paint_row};
 ghost use Rattle.av1_intra.specs.Sides.{numbers};
 ghost use Rattle.av1_intra.specs.Upsampling.{is_upsampled, upsampled};
 
-use crate::samples::clipped;
-use av1_frame::Pixel;
+use av1_frame::{Pixel, clip};
 
-/// Whether a side of a block of `width` by `height` samples is doubled: it is where the block is small and the angle less than
+/// Whether a side of a block of `width` by `height` samples is upsampled: it is where the block is small and the angle less than
 /// 40 degrees from the side's own, but not the same. The arguments are those of `select_ief_strength`.
 ///
 /// AV1 specification: intra edge upsample selection process.
@@ -28,20 +27,20 @@ pub fn select_ief_upsample(
     delta >= 1 && delta <= 39 && width + height <= most
 }
 
-/// The number halfway between `b` and `c`, which have the neighbours `a` and `d`, clipped to the depth.
-fn halfway(a: u32, b: u32, c: u32, d: u32, bit_depth: usize) -> u32
+/// The sample halfway between `b` and `c`, which have the neighbours `a` and `d`, clipped to the depth.
+fn halfway<T: Pixel>(a: u32, b: u32, c: u32, d: u32, bit_depth: usize) -> T
     requires a { a < 2 ^ 16 }
     requires b { b < 2 ^ 16 }
     requires c { c < 2 ^ 16 }
     requires d { d < 2 ^ 16 }
-    requires depth { bit_depth ≤ 16 }
-    ensures value { result ≡ clip bit_depth (pos ((9 * b + 9 * c + 8 - (a + d)) / 16)) }
-    ensures fits { result < 2 ^ bit_depth }
+    requires depth { bit_depth ≤ T.BITS }
+    ensures { result ≡ T.pixel (clip bit_depth (pos ((9 * b + 9 * c + 8 - (a + d)) / 16))) }
 {
-    clipped((9 * b + 9 * c + 8).saturating_sub(a + d) / 16, bit_depth)
+    let sum = (9 * b + 9 * c + 8).saturating_sub(a + d);
+    clip((sum / 16) as i32, bit_depth)
 }
 
-/// Doubles the first `size + 1` entries of `edge`, of which entry 0 is the corner: entry e moves to 2e, and a number halfway
+/// Upsamples the first `size + 1` entries of `edge`, of which entry 0 is the corner: entry e moves to 2e, and a number halfway
 /// comes between each two. Entries past `2 * size` stay.
 ///
 /// AV1 specification: intra edge upsample process.
@@ -57,6 +56,6 @@ pub fn upsample_edge<T: Pixel>(size: usize, edge: &mut [T], bit_depth: usize)
         let c = edge[e + 1].to_u32();
         let d = edge[size.min(e + 2)].to_u32();
         edge[2 * e + 2] = T::from_u32(c);
-        edge[2 * e + 1] = T::from_u32(halfway(a, b, c, d, bit_depth));
+        edge[2 * e + 1] = halfway(a, b, c, d, bit_depth);
     }
 }

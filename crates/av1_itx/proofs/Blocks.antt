@@ -5,12 +5,13 @@ use Rattle.std.proofs.lemmas.Bool.Decides.{nat_tests}
 use Rattle.std.proofs.lemmas.Nat.{mod-mul-add}
 use Rattle.std.proofs.Math.Nat.{mod-eq_of_lt}
 use Rattle.av1_dct.specs.Arithmetic.{at, clamp_value}
-use Rattle.av1_dct.specs.Cosine.{by_index}
+use Rattle.av1_lists.specs.Lists.{by_index}
 use Rattle.av1_itx.specs.Adst.{adst_sum, adst_sum_with, adst_turn, adst_turn_with, turned, round_weights}
 use Rattle.av1_dct.proofs.Mirror.{IsBegun}
 use Rattle.av1_dct.proofs.Groups.{put, put-low, put-mid, put-high, length-put, at-part}
 use Rattle.av1_dct.proofs.Places.{at-by_index}
-use Rattle.av1_itx.proofs.Fills.{length-by_index, filled, part_len}
+use Rattle.av1_itx.proofs.Fills.{filled, part_len}
+use Rattle.av1_lists.proofs.Lists.{length-by_index}
 use Rattle.av1_itx.proofs.Turns.{turned-same, weights_at, turned_by}
 
 pub sum-low : (range s : ℕ) (v : List ℤ) (i : ℕ) → i % (2 * s) < s → clamp_value (at v i +ℤ at v (i + s)) range ≡ adst_sum range s v i
@@ -76,7 +77,10 @@ turn-block s h b t i v u es lt e same =
     ]
 
 -- a block whose halves were summed and whose upper half was turned
-pub block_done : (range : ℕ) (ws : List (ℤ × ℤ)) (v q u : List ℤ) → length v ≡ 2 * (2 * length ws) → ((p : ℕ) → p < length ws → weights_at ws p ≡ round_weights (2 * length ws) p) → q ≡ by_index (length v) (adst_sum range (length v / 2) v) → let k = length q - 2 * length ws in let upper = take k (drop (2 * length ws) q) in u ≡ by_index (length upper) (turned_by ws upper) → put (2 * length ws) k q u ≡ by_index (2 * (2 * length ws)) (adst_turn (2 * length ws) (by_index (2 * (2 * length ws)) (adst_sum range (2 * length ws) v)))
+pub block_done : (range : ℕ) (ws : List (ℤ × ℤ)) (v q u : List ℤ) → length v ≡ 2 * (2 * length ws)
+    → ((p : ℕ) → p < length ws → weights_at ws p ≡ round_weights (2 * length ws) p) → q ≡ by_index (length v) (adst_sum range (length v / 2) v)
+    → let k = length q - 2 * length ws in let upper = take k (drop (2 * length ws) q) in u ≡ by_index (length upper) (turned_by ws upper)
+    → put (2 * length ws) k q u ≡ by_index (2 * (2 * length ws)) (adst_turn (2 * length ws) (by_index (2 * (2 * length ws)) (adst_sum range (2 * length ws) v)))
 block_done range ws v q u len table is_q is_u =
     let s = 2 * length ws in
     let n = 2 * s in
@@ -116,7 +120,10 @@ round-block range h m b t i v u lt e room same =
     turn-block s h b t i (by_index m (adst_sum range s v)) (by_index (2 * s) (adst_sum range s u)) refl lt e sums
 
 -- one more block
-pub blocks_step : (range h m b n k : ℕ) (old v ys : List ℤ) → n ≡ 2 * (2 * h) → k ≡ n → b * n + n ≤ m → length old ≡ m → IsBegun m (block_round range (2 * h) m old) old (b * n) v → ys ≡ by_index (2 * (2 * h)) (block_round range (2 * h) (2 * (2 * h)) (take k (drop (b * n) v))) → IsBegun m (block_round range (2 * h) m old) old ((b + 1) * n) (put (b * n) k v ys)
+pub blocks_step : (range h m b n k : ℕ) (old v ys : List ℤ) → n ≡ 2 * (2 * h) → k ≡ n → b * n + n ≤ m → length old ≡ m
+    → IsBegun m (block_round range (2 * h) m old) old (b * n) v
+    → ys ≡ by_index (2 * (2 * h)) (block_round range (2 * h) (2 * (2 * h)) (take k (drop (b * n) v)))
+    → IsBegun m (block_round range (2 * h) m old) old ((b + 1) * n) (put (b * n) k v ys)
 blocks_step range h m b n k old v ys en ek room len s is =
     let w = 2 * (2 * h) in
     let a = b * n in

@@ -6,7 +6,8 @@ use Rattle.std.proofs.lemmas.Bool.Decides.{nat_tests}
 use Rattle.std.proofs.lemmas.Int.{ints}
 use Rattle.std.proofs.lemmas.List.{take_at, take_all, length-map, get_or-map}
 use Rattle.av1_dct.specs.Arithmetic.{at, clamp_value, FitsBits}
-use Rattle.av1_dct.specs.Cosine.{by_index, cosine}
+use Rattle.av1_dct.specs.Cosine.{cosine}
+use Rattle.av1_lists.specs.Lists.{by_index}
 use Rattle.av1_dct.specs.Word.{column, lane_of_vector}
 use Rattle.av1_blocks.specs.declared.transform.TxSize.{TxSize}
 use Rattle.av1_blocks.specs.declared.transform.TxType.{TxType}
@@ -21,8 +22,7 @@ use Rattle.av1_itx.specs.Residue.{column_network, column_power, column_range, ro
 use Rattle.av1_itx.proofs.Single.{column_value}
 use Rattle.av1_dct.proofs.Fits.{clamp_value-fits}
 use Rattle.av1_itx.proofs.Lines.{place_in}
-use Rattle.av1_itx.proofs.Widths.{by_index-all}
-use Rattle.av1_itx.proofs.Fills.{by_index-ext}
+use Rattle.av1_lists.proofs.Lists.{by_index-all, by_index-same}
 
 pub clamped-signed : (z : ℤ) (range : ℕ) → range ≤ 20 → FitsSigned w32 (clamp_value z range)
 clamped-signed z range h = let f = clamp_value-fits {w = 20} z range h in omega (arith, ints, f.low, f.high)
@@ -110,7 +110,7 @@ lane_run h range k i n f g line rest out rest2 en len lo is made same =
     ap (column lane_of_vector i) (take_at out rest2 h lo)
     ∙ sym (take_all h (column lane_of_vector i out) (omega (arith, length-map out L)))
     ∙ made
-    ∙ ap (cosine range k) (ap (λ ws. take h (column lane_of_vector i ws)) (take_at line rest h len) ∙ take_all h (column lane_of_vector i line) (omega (arith, length-map line L)) ∙ is ∙ ap (λ m. by_index m f) en ∙ by_index-ext h f g same)
+    ∙ ap (cosine range k) (ap (λ ws. take h (column lane_of_vector i ws)) (take_at line rest h len) ∙ take_all h (column lane_of_vector i line) (omega (arith, length-map line L)) ∙ is ∙ ap (λ m. by_index m f) en ∙ by_index-same h f g same)
 
 -- a column that no group has reached
 pub lanes_kept : (w c d h : ℕ) (F : ℕ → ℕ → ℤ) (buf old : List ℤ) → ((r q : ℕ) → r < h → q < w → at buf (r * w + q) ≡ cond (ltb q c) (F r q) (at old (r * w + q))) → c ≤ d → d < w → (r : ℕ) → r < h → at buf (r * w + d) ≡ at old (r * w + d)

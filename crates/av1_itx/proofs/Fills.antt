@@ -2,19 +2,12 @@
 use Rattle.std.proofs.Common.{ℕ, ◌≡◌, ◌+◌, ◌*◌, ◌<◌, ◌≤◌, ℤ, pos, List, [], ◌∷◌, map, take, drop, length, set, get_or, arith, ap, sym, subst, refl, ◌∙◌, inl, inr, get_or-set_other}
 use Rattle.std.specs.List.{range_with_len}
 use Rattle.std.proofs.lemmas.Bool.{cases_lt}
-use Rattle.std.proofs.lemmas.List.FromFn.{fill_by_all, get_or-map-range_with_len, length-map-range_with_len}
+use Rattle.std.proofs.lemmas.List.FromFn.{fill_by_all, get_or-map-range_with_len}
 use Rattle.std.proofs.lemmas.Grind.{get_or-set_at}
 use Rattle.std.proofs.lemmas.List.{length-set, length-take, length-drop}
 use Rattle.av1_dct.specs.Arithmetic.{at, AllFit, FitsBits}
-use Rattle.av1_dct.specs.Cosine.{by_index}
-use Rattle.av1_dct.proofs.Places.{at-by_index}
+use Rattle.av1_lists.specs.Lists.{by_index}
 use Rattle.av1_dct.proofs.Mirror.{IsBegun}
-
-pub length-by_index : (n : ℕ) (f : ℕ → ℤ) → length (by_index n f) ≡ n
-length-by_index n f = length-map-range_with_len f 0 n
-
-pub by_index-ext : (n : ℕ) (f g : ℕ → ℤ) → ((p : ℕ) → p < n → f p ≡ g p) → by_index n f ≡ by_index n g
-by_index-ext n f g h = fill_by_all g (by_index n f) n (pos 0) (length-by_index n f) (λ p lt. at-by_index n f p lt ∙ h p lt)
 
 -- one more place
 pub fill_more : (f : ℕ → ℤ) (xs : List ℤ) (i : ℕ) (v : ℤ) → i < length xs → ((k : ℕ) → k < i → at xs k ≡ f k) → v ≡ f i → (k : ℕ) → k < i + 1 → at (set xs i v) k ≡ f k

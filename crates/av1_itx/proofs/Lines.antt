@@ -32,10 +32,10 @@ rows_more w q n f buf out before is_n len room here = λ r c hr hc.
     ]
 
 -- one more place of column c
-pub column_step : (w c n k : ℕ) (old buf done : List ℤ) (v : ℤ) → c < w → k < n → length buf ≡ n * w → v ≡ at done k
-    → ((r q : ℕ) → r < n → q < w → at buf (r * w + q) ≡ cond (q == c) (cond (ltb r k) (at done r) (at old (r * w + q))) (at old (r * w + q)))
-    → (r q : ℕ) → r < n → q < w → at (set buf (k * w + c) v) (r * w + q) ≡ cond (q == c) (cond (ltb r (k + 1)) (at done r) (at old (r * w + q))) (at old (r * w + q))
-column_step w c n k old buf done v hc hk len is inv = λ r q hr hq.
+pub column_step : (w c n k : ℕ) (old buf transformed : List ℤ) (v : ℤ) → c < w → k < n → length buf ≡ n * w → v ≡ at transformed k
+    → ((r q : ℕ) → r < n → q < w → at buf (r * w + q) ≡ cond (q == c) (cond (ltb r k) (at transformed r) (at old (r * w + q))) (at old (r * w + q)))
+    → (r q : ℕ) → r < n → q < w → at (set buf (k * w + c) v) (r * w + q) ≡ cond (q == c) (cond (ltb r (k + 1)) (at transformed r) (at old (r * w + q))) (at old (r * w + q))
+column_step w c n k old buf transformed v hc hk len is inv = λ r q hr hq.
     let i = inv r q hr hq in
     let inside = place_in k c w n hk hc in
     let same = same_place r k w q c hq hc in
@@ -45,7 +45,9 @@ column_step w c n k old buf done v hc hk len is inv = λ r q hr hq.
     ]
 
 -- the rest of the rows, where it is zeros
-pub rows_end : (w q n h : ℕ) (f : ℕ → ℕ → ℤ) (buf out : List ℤ) → ((r c : ℕ) → r < q → c < w → at buf (r * w + c) ≡ f r c) → q ≤ h → length buf ≡ h * w → n ≡ length buf - q * w → length out ≡ n → ((i : ℕ) → at out i ≡ pos 0) → ((r c : ℕ) → q ≤ r → f r c ≡ pos 0) → (r c : ℕ) → r < h → c < w → at (put (q * w) n buf out) (r * w + c) ≡ f r c
+pub rows_end : (w q n h : ℕ) (f : ℕ → ℕ → ℤ) (buf out : List ℤ) → ((r c : ℕ) → r < q → c < w → at buf (r * w + c) ≡ f r c) → q ≤ h
+    → length buf ≡ h * w → n ≡ length buf - q * w → length out ≡ n → ((i : ℕ) → at out i ≡ pos 0) → ((r c : ℕ) → q ≤ r → f r c ≡ pos 0) → (r c : ℕ)
+    → r < h → c < w → at (put (q * w) n buf out) (r * w + c) ≡ f r c
 rows_end w q n h f buf out before le len is_n out_len zero none = λ r c hr hc.
     let inside = place_in r c w h hr hc in
     let room = mul-le-mul_right w le in
@@ -55,8 +57,11 @@ rows_end w q n h f buf out before le len is_n out_len zero none = λ r c hr hc.
     ]
 
 -- one more column
-pub columns_more : (w c h : ℕ) (new old done : List ℤ) (F G : ℕ → ℕ → ℤ) → ((r q : ℕ) → r < h → q < w → at old (r * w + q) ≡ cond (ltb q c) (F r q) (G r q)) → ((r q : ℕ) → r < h → q < w → at new (r * w + q) ≡ cond (q == c) (at done r) (at old (r * w + q))) → ((r : ℕ) → r < h → at done r ≡ F r c) → (r q : ℕ) → r < h → q < w → at new (r * w + q) ≡ cond (ltb q (c + 1)) (F r q) (G r q)
-columns_more w c h new old done F G before now here = λ r q hr hq.
+pub columns_more : (w c h : ℕ) (new old transformed : List ℤ) (F G : ℕ → ℕ → ℤ)
+    → ((r q : ℕ) → r < h → q < w → at old (r * w + q) ≡ cond (ltb q c) (F r q) (G r q))
+    → ((r q : ℕ) → r < h → q < w → at new (r * w + q) ≡ cond (q == c) (at transformed r) (at old (r * w + q)))
+    → ((r : ℕ) → r < h → at transformed r ≡ F r c) → (r q : ℕ) → r < h → q < w → at new (r * w + q) ≡ cond (ltb q (c + 1)) (F r q) (G r q)
+columns_more w c h new old transformed F G before now here = λ r q hr hq.
     let a = before r q hr hq in
     let b = now r q hr hq in
     let d = here r hr in

@@ -5,9 +5,10 @@ use Rattle.std.proofs.lemmas.Int.{ints, int_wrap_fits, unsigned_abs-mul}
 use Rattle.std.proofs.Math.Nat.{mul-le-mul}
 use Rattle.av1_dct.specs.Arithmetic.{AllFit, FitsBits, at, clamp_value, round12}
 use Rattle.av1_dct.specs.Operations.{Operations, AreRight32}
-use Rattle.av1_dct.specs.Cosine.{by_index}
+use Rattle.av1_lists.specs.Lists.{by_index}
 use Rattle.av1_dct.proofs.Fits.{all-fit, by_index-fits, clamp_value-fits, cond-fits}
-use Rattle.av1_dct.proofs.NoWrap.{Weight, cos128-small, neg-small, turn-same, plus-same, minus-same, by_index-same, cond-same, no_wrap}
+use Rattle.av1_dct.proofs.NoWrap.{Weight, cos128-small, neg-small, turn-same, plus-same, minus-same, cond-same, no_wrap}
+use Rattle.av1_lists.proofs.Lists.{by_index-all, by_index-same}
 use Rattle.av1_blocks.specs.declared.transform.TxSize.{TxSize}
 use Rattle.av1_blocks.specs.Transforms.{tx_height}
 use Rattle.av1_frame.specs.Arithmetic.{round_shift}
@@ -19,7 +20,6 @@ use Rattle.av1_itx.specs.Identity.{scaled_with, scaled, identity_with}
 use Rattle.av1_itx.specs.Walsh.{walsh_with, walsh}
 use Rattle.av1_itx.specs.Networks.{network_with, network}
 use Rattle.av1_itx.specs.Residue.{column_input, column_range, row_shift}
-use Rattle.av1_itx.proofs.Widths.{by_index-all}
 use Rattle.av1_itx.proofs.Steps.{start-fits}
 use Rattle.av1_itx.proofs.Outputs.{half-fits, rounds-fit}
 
@@ -84,8 +84,8 @@ module _ (ops : Operations) (right : AreRight32 ops) where
       let s = 2 ^ (k - c) in
       let w = adst_rounds range k c v in
       ap (λ u. by_index n (adst_turn_with ops s (by_index n (adst_sum_with ops range s u)))) (rounds-same range k c v r h)
-      ∙ ap (λ u. by_index n (adst_turn_with ops s u)) (by_index-same n _ _ (λ i. sum-same range s w i (rounds-fit range k c v (omega arith) h)))
-      ∙ by_index-same n _ _ (λ i. turn_of-same s (by_index n (adst_sum range s w)) i (sums range s n w r))
+      ∙ ap (λ u. by_index n (adst_turn_with ops s u)) (by_index-same n _ _ (λ i _. sum-same range s w i (rounds-fit range k c v (omega arith) h)))
+      ∙ by_index-same n _ _ (λ i _. turn_of-same s (by_index n (adst_sum range s w)) i (sums range s n w r))
 
   out-same : (k : ℕ) (v : List ℤ) (i : ℕ) → AllFit 20 v → adst_out_with ops k v i ≡ adst_out k v i
   unfolding adst_out_with
@@ -98,9 +98,9 @@ module _ (ops : Operations) (right : AreRight32 ops) where
       let u = by_index n (adst_in n x) in
       let v = by_index n (adst_start n u) in
       let fit = start-fits n n u in
-      ap (λ z. by_index n (adst_out_with ops k (adst_rounds_with ops range k k z))) (by_index-same n (adst_start_with ops n u) (adst_start n u) (λ i. start-same n u i (by_index-fits n _ (λ p. placed n x p h))))
+      ap (λ z. by_index n (adst_out_with ops k (adst_rounds_with ops range k k z))) (by_index-same n (adst_start_with ops n u) (adst_start n u) (λ i _. start-same n u i (by_index-fits n _ (λ p. placed n x p h))))
       ∙ ap (λ z. by_index n (adst_out_with ops k z)) (rounds-same range k k v r fit)
-      ∙ by_index-same n _ _ (λ i. out-same k (adst_rounds range k k v) i (rounds-fit range k k v (omega arith) fit))
+      ∙ by_index-same n _ _ (λ i _. out-same k (adst_rounds range k k v) i (rounds-fit range k k v (omega arith) fit))
 
   round-same : (s : ℤ) → FitsSigned w32 (s +ℤ pos 2048) → ops.round s ≡ round12 s
   round-same s f = right.round s f ∙ ap (λ z. int_shr z 12) (sym (int_wrap_fits w32 _ f))
@@ -187,7 +187,7 @@ module _ (ops : Operations) (right : AreRight32 ops) where
   network-same DCT range k x r h = no_wrap ops right range k x r h
   network-same ADST range k x r h = adst-same range k x r h
   network-same FLIPADST range k x r h = ap reverse (adst-same range k x r h)
-  network-same IDENTITY range k x r h = by_index-same (2 * 2 ^ k) _ _ (λ i. scaled-same k (at x i) (h i))
+  network-same IDENTITY range k x r h = by_index-same (2 * 2 ^ k) _ _ (λ i _. scaled-same k (at x i) (h i))
   network-same WHT range k x r h = walsh-same x h
 
 pub never_wraps : (ops : Operations) → AreRight32 ops → (kind : TxType1D) (range k : ℕ) (x : List ℤ) → range ≤ 18 → All (FitsBits 18) x → network_with ops kind range k x ≡ network kind range k x

@@ -3,8 +3,8 @@ use Rattle.std.proofs.Common.{ℕ, zero, suc, ◌≤◌, ◌-◌, ◌*◌, ◌%�
 use Rattle.std.specs.Int.{int_shr}
 use Rattle.std.proofs.lemmas.Int.{ints, SFits-int_wrap}
 use Rattle.av1_dct.specs.Arithmetic.{at, FitsBits, AllFit, round12}
-use Rattle.av1_dct.specs.Cosine.{by_index}
-use Rattle.av1_dct.proofs.Fits.{by_index-fits, cond-fits}
+use Rattle.av1_lists.specs.Lists.{by_index}
+use Rattle.av1_dct.proofs.Fits.{by_index-fits, cond-fits, fits_wider}
 use Rattle.av1_dct.proofs.Halves.{cosine-fits}
 use Rattle.av1_itx.specs.declared.kinds.TxType1D.{TxType1D}
 use Rattle.av1_itx.specs.declared.kinds.TxType1D.TheVariants.{DCT, ADST, FLIPADST, IDENTITY, WHT}
@@ -12,7 +12,7 @@ use Rattle.av1_itx.specs.Adst.{adst, adst_with, adst4, adst4_with, weighted, wei
 use Rattle.av1_itx.specs.Identity.{scaled, scaled_with, identity_with}
 use Rattle.av1_itx.specs.Walsh.{walsh, walsh_with}
 use Rattle.av1_itx.specs.Networks.{network, network_with}
-use Rattle.av1_itx.proofs.Widths.{wider, four_fit, reverse-fits}
+use Rattle.av1_itx.proofs.Widths.{four_fit, reverse-fits}
 use Rattle.av1_itx.proofs.Steps.{start-fits, round-fits}
 
 shr12-fits : (z : ℤ) → FitsSigned w32 z → FitsBits 24 (int_shr z 12)
@@ -67,7 +67,7 @@ negated-fits z f = record { low = omega (arith, ints, f.low, f.high); high = ome
 
 out-fits : (k : ℕ) (v : List ℤ) (i : ℕ) → AllFit 20 v → FitsBits 24 (adst_out k v i)
 unfolding adst_out_with
-out-fits k v i f = cond-fits {w = 24} (i % 2 == 0) _ _ (wider 20 24 _ (omega arith) (f _)) (negated-fits _ (f _))
+out-fits k v i f = cond-fits {w = 24} (i % 2 == 0) _ _ (fits_wider 20 24 _ (omega arith) (f _)) (negated-fits _ (f _))
 
 more-fits : (range k : ℕ) (x : List ℤ) → range ≤ 20 → AllFit 24 (adst_more range k x)
 unfolding adst_more_with
@@ -84,7 +84,7 @@ adst-fits range (suc (suc k)) x h = more-fits range (suc (suc k)) x h
 
 pub network-fits : (kind : TxType1D) (range k : ℕ) (x : List ℤ) → range ≤ 20 → AllFit 20 x → AllFit 24 (network kind range k x)
 unfolding network_with identity_with
-network-fits DCT range k x h f = λ i. wider 20 24 _ (omega arith) (cosine-fits range k x h i)
+network-fits DCT range k x h f = λ i. fits_wider 20 24 _ (omega arith) (cosine-fits range k x h i)
 network-fits ADST range k x h f = adst-fits range k x h
 network-fits FLIPADST range k x h f = reverse-fits 24 _ (adst-fits range k x h)
 network-fits IDENTITY range k x h f = by_index-fits {w = 24} _ _ (λ i. scaled-fits k _ (f i))

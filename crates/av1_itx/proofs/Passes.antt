@@ -10,16 +10,15 @@ use Rattle.av1_blocks.specs.declared.transform.TxSize.{TxSize}
 use Rattle.av1_blocks.specs.declared.transform.TxType.{TxType}
 use Rattle.av1_blocks.specs.Transforms.{tx_width, tx_height, coded, coded_area}
 use Rattle.av1_dct.specs.Arithmetic.{at, FitsBits, clamp_value}
-use Rattle.av1_dct.specs.Cosine.{by_index}
+use Rattle.av1_lists.specs.Lists.{by_index}
 use Rattle.av1_dct.proofs.Zero.{IsZero, clamp-zero, cond-zero, by_index-zero}
 use Rattle.av1_frame.specs.Arithmetic.{round_shift}
 use Rattle.av1_itx.specs.declared.kinds.TxType1D.{TxType1D}
 use Rattle.av1_itx.specs.Kinds.{row_kind, column_kind}
 use Rattle.av1_itx.specs.Networks.{network}
 use Rattle.av1_itx.specs.Residue.{row_value, row_input, row_power, row_range, row_shift, is_two_to_one, is_lossless, transformed_row, column_input, column_network, column_power, column_range, column_shift, transformed_column, residue}
-use Rattle.av1_itx.proofs.Fills.{by_index-ext, length-by_index}
+use Rattle.av1_lists.proofs.Lists.{by_index-all, by_index-same, length-by_index}
 use Rattle.av1_dct.proofs.Fits.{zero_fits, clamp_value-fits, all-fit}
-use Rattle.av1_itx.proofs.Widths.{by_index-all}
 use Rattle.av1_itx.proofs.Lines.{place_in}
 use Rattle.av1_itx.proofs.Outputs.{network-fits}
 use Rattle.av1_itx.proofs.Zeros.{network-zero, zero_line}
@@ -85,16 +84,22 @@ column_network-is size type depth f = refl
 pub column_ext : (size : TxSize) (type : TxType) (depth : ℕ) (f g : ℕ → ℤ) → ((r : ℕ) → r < tx_height size → f r ≡ g r) → column_network size type depth f ≡ column_network size type depth g
 unfolding column_network
 column_ext size type depth f g h =
-    ap (network (column_kind type) (column_range depth) (column_power size)) (by_index-ext _ _ _ (λ r l. ap (λ z. clamp_value (round_shift z (row_shift size)) (column_range depth)) (h r l)))
+    ap (network (column_kind type) (column_range depth) (column_power size)) (by_index-same _ _ _ (λ r l. ap (λ z. clamp_value (round_shift z (row_shift size)) (column_range depth)) (h r l)))
 
 -- both passes
-pub residue_is : (size : TxSize) (type : TxType) (depth : ℕ) (cs : List ℤ) (f : ℕ → ℤ) (r c : ℕ) (z : ℤ) → z ≡ at (column_network size type depth f) r → ((y : ℕ) → y < tx_height size → f y ≡ at (transformed_row size type depth cs y) c) → round_shift z (column_shift type) ≡ residue size type depth cs r c
+pub residue_is : (size : TxSize) (type : TxType) (depth : ℕ) (cs : List ℤ) (f : ℕ → ℤ) (r c : ℕ) (z : ℤ) → z ≡ at (column_network size type depth f) r
+    → ((y : ℕ) → y < tx_height size → f y ≡ at (transformed_row size type depth cs y) c)
+    → round_shift z (column_shift type) ≡ residue size type depth cs r c
 unfolding residue transformed_column
 residue_is size type depth cs f r c z is h =
     ap (λ v. round_shift v (column_shift type)) (is ∙ ap (λ l. at l r) (column_ext size type depth f _ h))
 
 -- a column that was gathered and run
-pub column_made : (size : TxSize) (type : TxType) (depth w c h k shift range n : ℕ) (kind : TxType1D) (buf old rest rest2 line out : List ℤ) → h ≡ tx_height size → k ≡ column_power size → shift ≡ row_shift size → range ≡ column_range depth → kind ≡ column_kind type → n ≡ h → line ≡ by_index n (λ r. clamp_value (round_shift (at buf (r * w + c)) shift) range) → length out ≡ h → out ≡ network kind range k (take h (line ++ rest)) → ((r : ℕ) → r < h → at buf (r * w + c) ≡ at old (r * w + c)) → (r : ℕ) → at (take h (out ++ rest2)) r ≡ at (column_network size type depth (λ y. at old (y * w + c))) r
+pub column_made : (size : TxSize) (type : TxType) (depth w c h k shift range n : ℕ) (kind : TxType1D) (buf old rest rest2 line out : List ℤ)
+    → h ≡ tx_height size → k ≡ column_power size → shift ≡ row_shift size → range ≡ column_range depth → kind ≡ column_kind type → n ≡ h
+    → line ≡ by_index n (λ r. clamp_value (round_shift (at buf (r * w + c)) shift) range) → length out ≡ h
+    → out ≡ network kind range k (take h (line ++ rest)) → ((r : ℕ) → r < h → at buf (r * w + c) ≡ at old (r * w + c)) → (r : ℕ)
+    → at (take h (out ++ rest2)) r ≡ at (column_network size type depth (λ y. at old (y * w + c))) r
 column_made size type depth w c h k shift range n kind buf old rest rest2 line out eh ehp es er ek en is_line lo is_out same r =
     let len : length line ≡ h = ap length is_line ∙ length-by_index n _ ∙ en in
     let l1 : line ≡ by_index (tx_height size) (λ y. clamp_value (round_shift (at buf (y * w + c)) (row_shift size)) (column_range depth)) =

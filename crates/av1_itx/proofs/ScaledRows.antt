@@ -7,7 +7,7 @@ use Rattle.av1_blocks.specs.declared.transform.TxSize.{TxSize}
 use Rattle.av1_blocks.specs.declared.transform.TxType.{TxType}
 use Rattle.av1_blocks.specs.Transforms.{tx_width, tx_height, coded, coded_area}
 use Rattle.av1_dct.specs.Arithmetic.{at, AllFit, FitsBits}
-use Rattle.av1_dct.specs.Cosine.{by_index}
+use Rattle.av1_lists.specs.Lists.{by_index}
 use Rattle.av1_dct.proofs.Fits.{clamp_value-fits, zero_fits}
 use Rattle.av1_dct.proofs.Zero.{IsZero}
 use Rattle.av1_itx.specs.declared.kinds.TxType1D.{TxType1D}
@@ -15,9 +15,8 @@ use Rattle.av1_itx.specs.Kinds.{row_kind}
 use Rattle.av1_itx.specs.Networks.{network}
 use Rattle.av1_itx.specs.Residue.{row_input, row_power, row_range, row_value, transformed_row}
 use Rattle.av1_itx.specs.Scaled.{scaled_input}
-use Rattle.av1_itx.proofs.Fills.{by_index-ext}
+use Rattle.av1_lists.proofs.Lists.{by_index-all, by_index-same}
 use Rattle.av1_itx.proofs.Passes.{coded_place, input_is, input_past, row_is}
-use Rattle.av1_itx.proofs.Widths.{by_index-all}
 use Rattle.av1_itx.proofs.Zeros.{network-zero}
 
 scaled_in : (size : TxSize) (s : List ℤ) (r c : ℕ) → c < coded (tx_width size) → at s (c * coded (tx_height size) + r) ≡ scaled_input size s r c
@@ -64,6 +63,8 @@ scaled_same size type depth cs s r c hr is =
     ]
 
 -- such a row, transformed
-pub scaled_row : (size : TxSize) (type : TxType) (depth : ℕ) (cs s : List ℤ) (r c : ℕ) → r < coded (tx_height size) → ((i : ℕ) → i < coded_area size → at s i ≡ row_value size type depth (at cs i)) → at (network (row_kind type) (row_range depth) (row_power size) (by_index (tx_width size) (scaled_input size s r))) c ≡ at (transformed_row size type depth cs r) c
+pub scaled_row : (size : TxSize) (type : TxType) (depth : ℕ) (cs s : List ℤ) (r c : ℕ) → r < coded (tx_height size)
+    → ((i : ℕ) → i < coded_area size → at s i ≡ row_value size type depth (at cs i))
+    → at (network (row_kind type) (row_range depth) (row_power size) (by_index (tx_width size) (scaled_input size s r))) c ≡ at (transformed_row size type depth cs r) c
 scaled_row size type depth cs s r c hr is =
-    ap (λ xs. at (network (row_kind type) (row_range depth) (row_power size) xs) c) (by_index-ext _ _ _ (λ x hx. scaled_same size type depth cs s r x hr is)) ∙ row_is size type depth cs r c hr
+    ap (λ xs. at (network (row_kind type) (row_range depth) (row_power size) xs) c) (by_index-same _ _ _ (λ x hx. scaled_same size type depth cs s r x hr is)) ∙ row_is size type depth cs r c hr

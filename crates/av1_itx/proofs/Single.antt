@@ -8,16 +8,15 @@ use Rattle.av1_blocks.specs.declared.transform.TxSize.{TxSize}
 use Rattle.av1_blocks.specs.declared.transform.TxType.{TxType}
 use Rattle.av1_blocks.specs.Transforms.{tx_height}
 use Rattle.av1_dct.specs.Arithmetic.{at, clamp_value, FitsBits}
-use Rattle.av1_dct.specs.Cosine.{by_index}
+use Rattle.av1_lists.specs.Lists.{by_index}
 use Rattle.av1_dct.proofs.Mirror.{IsBegun}
 use Rattle.av1_frame.specs.Arithmetic.{round_shift}
 use Rattle.av1_itx.specs.declared.kinds.TxType1D.{TxType1D}
 use Rattle.av1_itx.specs.Kinds.{column_kind}
 use Rattle.av1_itx.specs.Networks.{network}
 use Rattle.av1_itx.specs.Residue.{column_network, column_power, column_range, row_shift}
-use Rattle.av1_itx.proofs.Fills.{by_index-ext, length-by_index}
+use Rattle.av1_lists.proofs.Lists.{by_index-all, by_index-same, length-by_index}
 use Rattle.av1_itx.proofs.Passes.{column_network-is}
-use Rattle.av1_itx.proofs.Widths.{by_index-all}
 
 -- what holds at each row and column holds at each place
 pub by_rows : (P : ℕ → Type 0) (w h : ℕ) → ((r c : ℕ) → r < h → c < w → P (r * w + c)) → (p : ℕ) → p < h * w → P p
@@ -47,7 +46,7 @@ line-fits h n range f line rest en is fit =
 pub line_run : (h n range k : ℕ) (kind : TxType1D) (f g : ℕ → ℤ) (line rest out rest2 : List ℤ) → n ≡ h → line ≡ by_index n f → length out ≡ h → out ≡ network kind range k (take h (line ++ rest)) → ((r : ℕ) → r < h → f r ≡ g r) → take h (out ++ rest2) ≡ network kind range k (by_index h g)
 line_run h n range k kind f g line rest out rest2 en is lo made same =
     let len : length line ≡ h = ap length is ∙ length-by_index n _ ∙ en in
-    take_at out rest2 h lo ∙ made ∙ ap (network kind range k) (take_at line rest h len ∙ is ∙ ap (λ m. by_index m f) en ∙ by_index-ext h f g same)
+    take_at out rest2 h lo ∙ made ∙ ap (network kind range k) (take_at line rest h len ∙ is ∙ ap (λ m. by_index m f) en ∙ by_index-same h f g same)
 
 -- such a column is the column of the block
 pub column_value : (size : TxSize) (type : TxType) (depth h k shift range r : ℕ) (kind : TxType1D) (f : ℕ → ℤ) (z : ℤ) → kind ≡ column_kind type → h ≡ tx_height size → k ≡ column_power size → shift ≡ row_shift size → range ≡ column_range depth

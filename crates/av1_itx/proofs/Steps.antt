@@ -1,10 +1,10 @@
 -- The steps of the sine transforms of 8 and 16 values, and what they give.
 use Rattle.std.proofs.Common.{ℕ, suc, length, ◌≡◌, ◌-◌, ◌*◌, ◌/◌, ◌^◌, ◌<◌, ◌≤◌, ℤ, List, arith, ap, refl, ◌∙◌}
 use Rattle.av1_dct.specs.Arithmetic.{FitsBits, AllFit}
-use Rattle.av1_dct.specs.Cosine.{by_index}
+use Rattle.av1_lists.specs.Lists.{by_index}
 use Rattle.av1_dct.proofs.Fits.{by_index-fits, half_btf-fits, clamp_value-fits, cond-fits}
 use Rattle.av1_itx.specs.Adst.{turned, turned_with, adst_start, adst_start_with, adst_sum, adst_sum_with, adst_turn, adst_turn_with, start_weights, adst_in, adst_out, adst_rounds, adst_rounds_with, adst_more, adst_more_with}
-use Rattle.av1_itx.proofs.Fills.{by_index-ext, length-by_index}
+use Rattle.av1_lists.proofs.Lists.{by_index-same, length-by_index}
 use Rattle.av1_itx.proofs.Turns.{weights_at, turned_by}
 use Rattle.av1_itx.proofs.Blocks.{block_round}
 
@@ -30,7 +30,7 @@ round-fits range s n m v h = turn-fits s m _ (sum-fits range s n v h)
 -- the first turn, by a table of its weights
 pub started : (ws : List (ℤ × ℤ)) (n : ℕ) (v : List ℤ) → 2 * (n / 2) ≡ n → ((p : ℕ) → p < n / 2 → weights_at ws p ≡ start_weights n p) → by_index n (turned_by ws v) ≡ by_index n (adst_start n v)
 unfolding adst_start_with
-started ws n v even table = by_index-ext n _ _ (λ i h. ap (λ w. turned w.0 w.1 v i) (table (i / 2) (omega arith)))
+started ws n v even table = by_index-same n _ _ (λ i h. ap (λ w. turned w.0 w.1 v i) (table (i / 2) (omega arith)))
 
 -- one more round, for the next lesser size of blocks
 pub rounds_more : (range k c s n : ℕ) (u v w : List ℤ) → n ≡ 2 * 2 ^ k → s ≡ 2 ^ (k - c) → v ≡ adst_rounds range k c u → w ≡ by_index (length v) (block_round range s (length v) v) → length v ≡ n → w ≡ adst_rounds range k (suc c) u
@@ -45,7 +45,9 @@ unfolding adst_rounds_with
 no_rounds range k v = refl
 
 -- all steps
-pub more_is : (range k n : ℕ) (ws : List (ℤ × ℤ)) (x u v w o : List ℤ) → n ≡ 2 * 2 ^ k → ((p : ℕ) → p < n / 2 → weights_at ws p ≡ start_weights n p) → u ≡ by_index n (adst_in n x) → v ≡ by_index (length u) (turned_by ws u) → w ≡ adst_rounds range k k v → o ≡ by_index (2 * 2 ^ k) (adst_out k w) → o ≡ adst_more range k x
+pub more_is : (range k n : ℕ) (ws : List (ℤ × ℤ)) (x u v w o : List ℤ) → n ≡ 2 * 2 ^ k → ((p : ℕ) → p < n / 2 → weights_at ws p ≡ start_weights n p)
+    → u ≡ by_index n (adst_in n x) → v ≡ by_index (length u) (turned_by ws u) → w ≡ adst_rounds range k k v → o ≡ by_index (2 * 2 ^ k) (adst_out k w)
+    → o ≡ adst_more range k x
 unfolding adst_more_with
 more_is range k n ws x u v w o en table hu hv hw ho =
     let len : length u ≡ n = ap length hu ∙ length-by_index n _ in

@@ -1,25 +1,9 @@
 -- Numbers of few bits, and lists of them.
-use Rattle.std.proofs.Common.{ℕ, zero, suc, ◌≡◌, ◌≤◌, ◌-◌, ◌^◌, ◌<◌, ℤ, pos, List, [], ◌∷◌, take, reverse, length, All, arith, ap, sym, subst, ◌∙◌, inl, inr}
+use Rattle.std.proofs.Common.{ℕ, zero, suc, ◌≡◌, ◌-◌, ◌<◌, ℤ, pos, List, [], ◌∷◌, take, reverse, length, All, arith, ap, sym, subst, ◌∙◌, inl, inr}
 use Rattle.std.proofs.lemmas.Bool.{cases_lt}
 use Rattle.std.proofs.lemmas.List.{take_all, get_or_past, get_or-reverse, length-reverse}
-use Rattle.std.proofs.lemmas.List.Elements.{All-from_get_or}
-use Rattle.std.proofs.Math.Pow.{pow_mono}
-use Rattle.av1_dct.specs.Arithmetic.{at, AllFit, FitsBits}
-use Rattle.av1_dct.specs.Cosine.{by_index}
-use Rattle.av1_dct.proofs.Fits.{zero_fits, all-fit}
-use Rattle.av1_dct.proofs.Places.{at-by_index}
-use Rattle.av1_itx.proofs.Fills.{length-by_index}
-
-only : (a : ℕ) (z : ℤ) → FitsBits a z → (i : ℕ) → i < 1 → FitsBits a (at (z ∷ []) i)
-only a z f zero h = f
-only a z f (suc i) h = absurd (omega arith)
-
--- more bits
-pub wider : (a b : ℕ) (z : ℤ) → a ≤ b → FitsBits a z → FitsBits b z
-wider a b z h f = all-fit a b (z ∷ []) h (All-from_get_or (FitsBits a) (z ∷ []) (pos 0) (only a z f)) 0
-
-pub by_index-all : (P : ℤ → Type 0) (n : ℕ) (f : ℕ → ℤ) → ((i : ℕ) → i < n → P (f i)) → All P (by_index n f)
-by_index-all P n f h = All-from_get_or P (by_index n f) (pos 0) (λ i l. let g : i < n = omega (arith, length-by_index n f) in subst P (sym (at-by_index n f i g)) (h i g))
+use Rattle.av1_dct.specs.Arithmetic.{AllFit, FitsBits}
+use Rattle.av1_dct.proofs.Fits.{zero_fits}
 
 -- a call on slices of just the transform's length
 pub whole_is : (n : ℕ) (f : List ℤ → List ℤ) (xs ys : List ℤ) → length xs ≡ n → length ys ≡ n → take n ys ≡ f (take n xs) → ys ≡ f xs
@@ -39,7 +23,3 @@ reverse-fits b xs f = λ i.
       | inl h ↦ subst P (sym (get_or-reverse xs i (pos 0) h)) (f (length xs - 1 - i))
       | inr h ↦ subst P (sym (get_or_past (reverse xs) i (pos 0) (omega (arith, length-reverse xs)))) (zero_fits b)
     ]
-
--- what fits a depth fits a greater one
-pub below_depth : (v d b : ℕ) → v < 2 ^ d → d ≤ b → v < 2 ^ b
-below_depth v d b h e = let m = pow_mono {i = d} {j = b} e in omega arith

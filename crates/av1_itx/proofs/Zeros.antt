@@ -5,7 +5,7 @@ use Rattle.std.proofs.lemmas.Bool.{cases_lt}
 use Rattle.std.proofs.lemmas.Int.{ints}
 use Rattle.std.proofs.lemmas.List.{get_or_past, get_or-reverse, length-reverse, get_or-replicate, length-replicate, ext_get_or}
 use Rattle.av1_dct.specs.Arithmetic.{at, round12, wrap32}
-use Rattle.av1_dct.specs.Cosine.{by_index}
+use Rattle.av1_lists.specs.Lists.{by_index}
 use Rattle.av1_dct.proofs.Halves.{cosine-length}
 use Rattle.av1_dct.proofs.Zero.{IsZero, half_btf-zero, clamp-zero, sum-zero, cond-zero, by_index-zero, cosine-zero}
 use Rattle.av1_itx.specs.declared.kinds.TxType1D.{TxType1D}
@@ -14,7 +14,7 @@ use Rattle.av1_itx.specs.Adst.{adst, adst_with, adst4, adst4_with, weighted, wei
 use Rattle.av1_itx.specs.Identity.{scaled, scaled_with, identity_with}
 use Rattle.av1_itx.specs.Walsh.{walsh, walsh_with}
 use Rattle.av1_itx.specs.Networks.{HasNetwork, network, network_with}
-use Rattle.av1_itx.proofs.Fills.{length-by_index}
+use Rattle.av1_lists.proofs.Lists.{length-by_index}
 
 round12-zero : (s : ℤ) → s ≡ pos 0 → round12 s ≡ pos 0
 unfolding int_wrap

@@ -3,7 +3,8 @@ use Rattle.std.specs.Prelude.{ℕ, zero, suc, ◌+◌, ◌-◌, ◌*◌, ◌^◌
 use Rattle.std.specs.Int.Bits.{bit_xor}
 use Rattle.av1_dct.specs.Arithmetic.{at, clamp_value}
 use Rattle.av1_dct.specs.Operations.{Operations, wrapping, half_btf_with}
-use Rattle.av1_dct.specs.Cosine.{by_index, brev, cos128}
+use Rattle.av1_dct.specs.Cosine.{brev, cos128}
+use Rattle.av1_lists.specs.Lists.{by_index}
 
 -- 4096 times (2 sqrt 2 / 3) sin(i pi / 9), rounded, for i from 1 to 4
 abbrev pub sinpi_1_9 : ℤ

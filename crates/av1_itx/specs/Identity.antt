@@ -2,7 +2,7 @@
 use Rattle.std.specs.Prelude.{ℕ, zero, suc, ◌*◌, ◌^◌, ℤ, pos, List}
 use Rattle.av1_dct.specs.Arithmetic.{at}
 use Rattle.av1_dct.specs.Operations.{Operations, wrapping}
-use Rattle.av1_dct.specs.Cosine.{by_index}
+use Rattle.av1_lists.specs.Lists.{by_index}
 
 -- what a value of 2^(k+1) becomes: it is scaled by the square root of 2, by 2, by twice the square root of 2 and by 4
 unfoldable pub scaled_with : Operations → ℕ → ℤ → ℤ

@@ -8,7 +8,7 @@ use Rattle.av1_blocks.specs.declared.transform.TxType.TheVariants.{WHT_WHT}
 use Rattle.av1_blocks.specs.Blocks.{side_log2}
 use Rattle.av1_blocks.specs.Transforms.{tx_width, tx_height, coded}
 use Rattle.av1_dct.specs.Arithmetic.{at, clamp_value}
-use Rattle.av1_dct.specs.Cosine.{by_index}
+use Rattle.av1_lists.specs.Lists.{by_index}
 use Rattle.av1_frame.specs.Arithmetic.{round_shift}
 use Rattle.av1_itx.specs.Kinds.{row_kind, column_kind}
 use Rattle.av1_itx.specs.Networks.{HasNetwork, network}

@@ -3,7 +3,7 @@
 ghost use Rattle.std.specs.Prelude.{◌≡◌, ℕ, suc, ◌+◌, ◌-◌, ◌*◌, ◌/◌, ◌%◌, ◌^◌, ◌<◌, ◌≤◌, ℤ, pos, ◌+ℤ◌, ◌*ℤ◌, length, reverse, take, drop, slice_index_or};
 ghost use Rattle.std.specs.List.{All};
 ghost use Rattle.av1_dct.specs.Arithmetic.{AllFit, FitsBits, round12, wrap32};
-ghost use Rattle.av1_dct.specs.Cosine.{by_index};
+ghost use Rattle.av1_lists.specs.Lists.{by_index};
 ghost use Rattle.av1_itx.specs.Adst.{adst, adst4, adst_more, adst_in, adst_out, adst_start, adst_sum, adst_turn, turned, weighted, round_weights, out_place};
 
 use av1_dct::{clamp_value, half_btf};

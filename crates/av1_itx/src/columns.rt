@@ -4,7 +4,7 @@ ghost use Rattle.std.specs.Prelude.{◌≡◌, ℕ, ◌+◌, ◌*◌, ◌^◌, �
 ghost use Rattle.av1_blocks.specs.Transforms.{tx_width, tx_height};
 ghost use Rattle.av1_dct.specs.Arithmetic.{at, clamp_value, FitsBits};
 ghost use Rattle.av1_dct.specs.Counts.{raised};
-ghost use Rattle.av1_dct.specs.Cosine.{by_index};
+ghost use Rattle.av1_lists.specs.Lists.{by_index};
 ghost use Rattle.av1_frame.specs.Arithmetic.{round_shift};
 ghost use Rattle.av1_itx.specs.Kinds.{column_kind};
 ghost use Rattle.av1_itx.specs.LaneGroups.{is_cosine, lane_groups};
@@ -13,7 +13,7 @@ ghost use Rattle.av1_itx.specs.Residue.{column_network, column_power, row_shift}
 
 use crate::kinds::{TxType1D, get_1d_tx_types};
 use crate::lane_columns::{LANES, Lanes};
-use crate::networks::run_network;
+use crate::networks::inverse_1d;
 use av1_blocks::{TxSize, TxType};
 use av1_dct::clamp_value;
 use av1_frame::round_shift;
@@ -86,7 +86,7 @@ fn scatter_column(buffer: &mut [i32], line: &[i32], c: usize, w: usize)
 fn transform_columns(
     buffer: &mut [i32],
     line: &mut [i32],
-    done: &mut [i32],
+    transformed: &mut [i32],
     w: usize,
     h: usize,
     kind: TxType1D,
@@ -100,14 +100,14 @@ fn transform_columns(
     requires power { h ≡ 2 * 2 ^ k }
     requires buffer_len { length buffer.old ≡ h * w }
     requires line_len { 64 ≤ length line.old }
-    requires done_len { 64 ≤ length done.old }
+    requires transformed_len { 64 ≤ length transformed.old }
     requires fit { (r c : ℕ) → r < h → c < w → FitsBits range (at buffer.old (r * w + c)) }
     ensures { (r c : ℕ) → r < h → c < w → at buffer.new (r * w + c) ≡ at (network kind range k (by_index h (λ y. at buffer.old (y * w + c)))) r }
 {
     for c in 0..w {
         gather_column(buffer, &mut line[..h], c, w);
-        run_network(kind, k, &line[..h], &mut done[..h], range);
-        scatter_column(buffer, &done[..h], c, w);
+        inverse_1d(kind, k, &line[..h], &mut transformed[..h], range);
+        scatter_column(buffer, &transformed[..h], c, w);
     }
 }
 
@@ -115,7 +115,7 @@ fn transform_columns(
 fn run_columns(
     buffer: &mut [i32],
     line: &mut [i32],
-    done: &mut [i32],
+    transformed: &mut [i32],
     tx_size: TxSize,
     tx_type: TxType,
     bd: usize,
@@ -124,7 +124,7 @@ fn run_columns(
     requires has { HasNetwork (column_kind tx_type) (column_power tx_size) }
     requires buffer_len { length buffer.old ≡ tx_height tx_size * tx_width tx_size }
     requires line_len { 64 ≤ length line.old }
-    requires done_len { 64 ≤ length done.old }
+    requires transformed_len { 64 ≤ length transformed.old }
     requires fit { (r c : ℕ) → r < tx_height tx_size → c < tx_width tx_size → FitsBits 24 (at buffer.old (r * tx_width tx_size + c)) }
     ensures { (r c : ℕ) → r < tx_height tx_size → c < tx_width tx_size → at buffer.new (r * tx_width tx_size + c) ≡ at (column_network tx_size tx_type bd (λ y. at buffer.old (y * tx_width tx_size + c))) r }
 {
@@ -134,7 +134,7 @@ fn run_columns(
     let range = (bd + 6).max(16);
     let (kind, _) = get_1d_tx_types(tx_type);
     round_values(buffer, row_shift_of(tx_size), range);
-    transform_columns(buffer, line, done, w, h, kind, k, range);
+    transform_columns(buffer, line, transformed, w, h, kind, k, range);
 }
 
 fn is_cosine(kind: TxType1D) -> bool
@@ -148,7 +148,7 @@ fn is_cosine(kind: TxType1D) -> bool
 pub(crate) fn column_pass(
     buffer: &mut [i32],
     line: &mut [i32],
-    done: &mut [i32],
+    transformed: &mut [i32],
     lanes: &mut Lanes,
     tx_size: TxSize,
     tx_type: TxType,
@@ -158,7 +158,7 @@ pub(crate) fn column_pass(
     requires has { HasNetwork (column_kind tx_type) (column_power tx_size) }
     requires buffer_len { length buffer.old ≡ tx_height tx_size * tx_width tx_size }
     requires line_len { 64 ≤ length line.old }
-    requires done_len { 64 ≤ length done.old }
+    requires transformed_len { 64 ≤ length transformed.old }
     requires fit { (r c : ℕ) → r < tx_height tx_size → c < tx_width tx_size → FitsBits 24 (at buffer.old (r * tx_width tx_size + c)) }
     ensures value { (r c : ℕ) → r < tx_height tx_size → c < tx_width tx_size → at buffer.new (r * tx_width tx_size + c) ≡ at (column_network tx_size tx_type bd (λ y. at buffer.old (y * tx_width tx_size + c))) r }
     ensures counts { lanes.new.count.groups ≡ raised lanes.old.count.groups (lane_groups tx_size tx_type) }
@@ -168,7 +168,7 @@ pub(crate) fn column_pass(
     if w < LANES || !is_cosine(kind) {
         // This tells the proof that the count, which stays, is a u64.
         let _count = lanes.groups();
-        run_columns(buffer, line, done, tx_size, tx_type, bd);
+        run_columns(buffer, line, transformed, tx_size, tx_type, bd);
         return;
     }
     let h = tx_size.height();

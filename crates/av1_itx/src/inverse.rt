@@ -1,8 +1,9 @@
 //! The inverse transform of a block, added to its samples.
 
-ghost use Rattle.std.specs.Prelude.{◌≡◌, ℕ, ◌⊎◌, ◌+◌, ◌-◌, ◌*◌, ◌^◌, ◌<◌, ◌≤◌, IfOk, IsTrue, OnOk, OnErr, ℤ, pos, ◌+ℤ◌, length, map, vec_len};
+ghost use Rattle.std.specs.Prelude.{◌≡◌, ℕ, ◌+◌, ◌-◌, ◌*◌, ◌^◌, ◌<◌, ◌≤◌, IfOk, IsTrue, OnOk, OnErr, ℤ, pos, ◌+ℤ◌, length, map, vec_len};
 ghost use Rattle.av1_blocks.specs.declared.transform.TxSize.TheVariants.{TX_4X4};
 ghost use Rattle.av1_blocks.specs.declared.transform.TxType.TheVariants.{WHT_WHT};
+ghost use Rattle.av1_blocks.specs.Depths.{IsDepth};
 ghost use Rattle.av1_blocks.specs.Transforms.{tx_width, tx_height, coded_area, valid_av1_transform};
 ghost use Rattle.av1_dct.specs.Arithmetic.{at, FitsBits};
 ghost use Rattle.av1_dct.specs.Counts.{raised};
@@ -18,7 +19,7 @@ use crate::columns::column_pass;
 use crate::lane_columns::Lanes;
 use crate::rows::row_pass;
 use av1_blocks::{OutOfMemory, TxSize, TxType};
-use av1_frame::{Pixel, PlaneRegionMut, clamp, round_shift};
+use av1_frame::{Pixel, PlaneRegionMut, clip, round_shift};
 use std::alloc::Global;
 
 /// The values of one block between its passes, of one row or column, and of eight columns.
@@ -27,7 +28,7 @@ pub struct TxScratch {
     buffer: Vec<i32>,
     scaled: Vec<i32>,
     line: [i32; 64],
-    done: [i32; 64],
+    transformed: [i32; 64],
     lanes: Lanes,
     ghost long: { (vec_len buffer ≡ 4096) × (vec_len scaled ≡ 1024) },
 }
@@ -44,7 +45,7 @@ impl TxScratch {
             buffer,
             scaled,
             line: [0; 64],
-            done: [0; 64],
+            transformed: [0; 64],
             lanes,
         })
     }
@@ -57,28 +58,18 @@ impl TxScratch {
     }
 }
 
-// The nearest number of a sample.
-fn clip_to(sum: i32, bd: usize) -> u32
-    requires { bd ≤ 16 }
-    ensures value { result ≡ clip bd sum }
-    ensures fits { result < 2 ^ bd }
-{
-    clamp(sum, 0, (1 << bd) - 1) as u32
-}
-
 // The sample v with z, rounded, added.
 fn add_one<T: Pixel>(v: T, z: i32, shift: usize, bd: usize) -> T
-    requires depth_in { bd ≤ T.BITS }
+    requires depth { bd ≤ T.BITS }
     requires shift_in { shift ≤ 4 }
     requires fits { FitsBits 24 z }
     ensures { result ≡ T.pixel (clip bd (pos (T.num v) +ℤ round_shift z shift)) }
 {
-    let sum = v.to_i32() + round_shift(z, shift);
-    T::from_u32(clip_to(sum, bd))
+    clip(v.to_i32() + round_shift(z, shift), bd)
 }
 
 // Adds the values from `start` on to the row's first w samples.
-#[tactic(auto, using(av1_frame::proofs::Paint::paint_row_none, av1_frame::proofs::Paint::paint_row_step))]
+#[tactic(auto, using(av1_frame::proofs::Paint::row_repainting))]
 fn add_row<T: Pixel>(
     samples: &mut [T],
     buffer: &[i32],
@@ -89,7 +80,7 @@ fn add_row<T: Pixel>(
 )
     requires row_long { w ≤ length samples.old }
     requires buffer_long { start + w ≤ length buffer.now }
-    requires depth_in { bd ≤ T.BITS }
+    requires depth { bd ≤ T.BITS }
     requires shift_in { shift ≤ 4 }
     requires fit { (c : ℕ) → c < w → FitsBits 24 (at buffer.now (start + c)) }
     ensures { samples.new ≡ paint_row w (λ c v. T.pixel (clip bd (pos (T.num v) +ℤ round_shift (at buffer.now (start + c)) shift))) samples.old }
@@ -100,7 +91,7 @@ fn add_row<T: Pixel>(
 }
 
 // Adds the values, row by row, to the region's first h rows and w columns.
-#[tactic(auto, using(av1_frame::proofs::Regions::painted_none, av1_frame::proofs::Regions::painted_in_storage, av1_frame::proofs::Regions::painted_more, av1_frame::proofs::Fits::row_end_le))]
+#[tactic(auto, using(av1_frame::proofs::Regions::region_painting, av1_frame::proofs::Fits::row_end_le))]
 fn add_rows<T: Pixel>(
     output: &mut PlaneRegionMut<'_, T>,
     buffer: &[i32],
@@ -109,15 +100,15 @@ fn add_rows<T: Pixel>(
     shift: usize,
     bd: usize,
 )
-    requires storage { InStorage output.old }
-    requires columns { w ≤ output.old.place.width }
-    requires rows { h ≤ output.old.place.height }
+    requires fits { InStorage output.old }
+    requires columns { w ≤ output.old.area.width }
+    requires rows { h ≤ output.old.area.height }
     requires buffer_long { length buffer.now ≡ h * w }
-    requires depth_in { bd ≤ T.BITS }
+    requires depth { bd ≤ T.BITS }
     requires shift_in { shift ≤ 4 }
     requires fit { (r c : ℕ) → r < h → c < w → FitsBits 24 (at buffer.now (r * w + c)) }
     ensures painted { output.new ≡ painted output.old w h (λ r c v. T.pixel (clip bd (pos (T.num v) +ℤ round_shift (at buffer.now (r * w + c)) shift))) }
-    ensures storage { InStorage output.new }
+    ensures fits { InStorage output.new }
 {
     for r in 0..h {
         add_row(output.row_mut(r), buffer, r * w, w, shift, bd);
@@ -140,7 +131,7 @@ fn add_block<T: Pixel>(
     buffer: &mut [i32],
     scaled: &mut [i32],
     line: &mut [i32],
-    done: &mut [i32],
+    transformed: &mut [i32],
     lanes: &mut Lanes,
     input: &[T::Coeff],
     output: &mut PlaneRegionMut<'_, T>,
@@ -149,24 +140,24 @@ fn add_block<T: Pixel>(
     bd: usize,
 )
     requires depth_in { (8 ≤ bd) × (bd ≤ 12) }
-    requires depth_fits { bd ≤ T.BITS }
+    requires depth { bd ≤ T.BITS }
     requires rows_run { HasNetwork (row_kind tx_type) (row_power tx_size) }
     requires columns_run { HasNetwork (column_kind tx_type) (column_power tx_size) }
     requires buffer_len { length buffer.old ≡ tx_height tx_size * tx_width tx_size }
     requires scaled_len { length scaled.old ≡ coded_area tx_size }
     requires line_len { 64 ≤ length line.old }
-    requires done_len { 64 ≤ length done.old }
+    requires transformed_len { 64 ≤ length transformed.old }
     requires input_len { coded_area tx_size ≤ length input.now }
     requires input_fits { (i : ℕ) → i < coded_area tx_size → FitsBits (bd + 8) (at (map T.Coeff.val input.now) i) }
-    requires storage { InStorage output.old }
-    requires columns { tx_width tx_size ≤ output.old.place.width }
-    requires rows { tx_height tx_size ≤ output.old.place.height }
+    requires fits { InStorage output.old }
+    requires columns { tx_width tx_size ≤ output.old.area.width }
+    requires rows { tx_height tx_size ≤ output.old.area.height }
     ensures painted { output.new ≡ painted output.old (tx_width tx_size) (tx_height tx_size) (λ r c v. T.pixel (clip bd (pos (T.num v) +ℤ residue tx_size tx_type bd (map T.Coeff.val input.now) r c))) }
-    ensures storage { InStorage output.new }
+    ensures fits { InStorage output.new }
     ensures counts { lanes.new.count.groups ≡ raised lanes.old.count.groups (lane_groups tx_size tx_type) }
 {
     row_pass(input, scaled, line, buffer, tx_size, tx_type, bd);
-    column_pass(buffer, line, done, lanes, tx_size, tx_type, bd);
+    column_pass(buffer, line, transformed, lanes, tx_size, tx_type, bd);
     let shift = column_shift_of(tx_type);
     add_rows(output, buffer, tx_size.width(), tx_size.height(), shift, bd);
 }
@@ -176,7 +167,7 @@ fn add_over<T: Pixel>(
     buffer: &mut [i32],
     scaled: &mut [i32],
     line: &mut [i32],
-    done: &mut [i32],
+    transformed: &mut [i32],
     lanes: &mut Lanes,
     input: &[T::Coeff],
     output: &mut PlaneRegionMut<'_, T>,
@@ -185,20 +176,20 @@ fn add_over<T: Pixel>(
     bd: usize,
 )
     requires depth_in { (8 ≤ bd) × (bd ≤ 12) }
-    requires depth_fits { bd ≤ T.BITS }
+    requires depth { bd ≤ T.BITS }
     requires rows_run { HasNetwork (row_kind tx_type) (row_power tx_size) }
     requires columns_run { HasNetwork (column_kind tx_type) (column_power tx_size) }
     requires buffer_len { 4096 ≤ length buffer.old }
     requires scaled_len { 1024 ≤ length scaled.old }
     requires line_len { 64 ≤ length line.old }
-    requires done_len { 64 ≤ length done.old }
+    requires transformed_len { 64 ≤ length transformed.old }
     requires input_len { coded_area tx_size ≤ length input.now }
     requires input_fits { (i : ℕ) → i < coded_area tx_size → FitsBits (bd + 8) (at (map T.Coeff.val input.now) i) }
-    requires storage { InStorage output.old }
-    requires columns { tx_width tx_size ≤ output.old.place.width }
-    requires rows { tx_height tx_size ≤ output.old.place.height }
+    requires fits { InStorage output.old }
+    requires columns { tx_width tx_size ≤ output.old.area.width }
+    requires rows { tx_height tx_size ≤ output.old.area.height }
     ensures painted { output.new ≡ painted output.old (tx_width tx_size) (tx_height tx_size) (λ r c v. T.pixel (clip bd (pos (T.num v) +ℤ residue tx_size tx_type bd (map T.Coeff.val input.now) r c))) }
-    ensures storage { InStorage output.new }
+    ensures fits { InStorage output.new }
     ensures counts { lanes.new.count.groups ≡ raised lanes.old.count.groups (lane_groups tx_size tx_type) }
 {
     let places = tx_size.height() * tx_size.width();
@@ -207,7 +198,7 @@ fn add_over<T: Pixel>(
         &mut buffer[..places],
         &mut scaled[..coefficients],
         line,
-        done,
+        transformed,
         lanes,
         input,
         output,
@@ -230,24 +221,24 @@ pub fn inverse_transform_add_with<T: Pixel>(
     tx_type: TxType,
     bd: usize,
 )
-    requires depth_in { (bd ≡ 8) ⊎ ((bd ≡ 10) ⊎ (bd ≡ 12)) }
-    requires depth_fits { bd ≤ T.BITS }
+    requires depths { IsDepth bd }
+    requires depth { bd ≤ T.BITS }
     requires valid { IsTrue (valid_av1_transform tx_size tx_type) }
     requires lossless { tx_type ≡ WHT_WHT → tx_size ≡ TX_4X4 }
     requires input_len { coded_area tx_size ≤ length input.now }
     requires input_fits { (i : ℕ) → i < coded_area tx_size → FitsBits (bd + 8) (at (map T.Coeff.val input.now) i) }
-    requires storage { InStorage output.old }
-    requires columns { tx_width tx_size ≤ output.old.place.width }
-    requires rows { tx_height tx_size ≤ output.old.place.height }
+    requires fits { InStorage output.old }
+    requires columns { tx_width tx_size ≤ output.old.area.width }
+    requires rows { tx_height tx_size ≤ output.old.area.height }
     ensures painted { output.new ≡ painted output.old (tx_width tx_size) (tx_height tx_size) (λ r c v. T.pixel (clip bd (pos (T.num v) +ℤ residue tx_size tx_type bd (map T.Coeff.val input.now) r c))) }
-    ensures storage { InStorage output.new }
+    ensures fits { InStorage output.new }
     ensures lanes { scratch.new.lanes.count.groups ≡ raised scratch.old.lanes.count.groups (lane_groups tx_size tx_type) }
 {
     add_over(
         scratch.buffer.as_mut_slice(),
         scratch.scaled.as_mut_slice(),
         &mut scratch.line,
-        &mut scratch.done,
+        &mut scratch.transformed,
         &mut scratch.lanes,
         input,
         output,
@@ -266,18 +257,18 @@ pub fn inverse_transform_add<T: Pixel>(
     tx_type: TxType,
     bd: usize,
 ) -> Result<(), OutOfMemory>
-    requires depth_in { (bd ≡ 8) ⊎ ((bd ≡ 10) ⊎ (bd ≡ 12)) }
-    requires depth_fits { bd ≤ T.BITS }
+    requires depths { IsDepth bd }
+    requires depth { bd ≤ T.BITS }
     requires valid { IsTrue (valid_av1_transform tx_size tx_type) }
     requires lossless { tx_type ≡ WHT_WHT → tx_size ≡ TX_4X4 }
     requires input_len { coded_area tx_size ≤ length input.now }
     requires input_fits { (i : ℕ) → i < coded_area tx_size → FitsBits (bd + 8) (at (map T.Coeff.val input.now) i) }
-    requires storage { InStorage output.old }
-    requires columns { tx_width tx_size ≤ output.old.place.width }
-    requires rows { tx_height tx_size ≤ output.old.place.height }
+    requires fits { InStorage output.old }
+    requires columns { tx_width tx_size ≤ output.old.area.width }
+    requires rows { tx_height tx_size ≤ output.old.area.height }
     ensures painted { OnOk result (output.new ≡ painted output.old (tx_width tx_size) (tx_height tx_size) (λ r c v. T.pixel (clip bd (pos (T.num v) +ℤ residue tx_size tx_type bd (map T.Coeff.val input.now) r c)))) }
     ensures refused { OnErr result (output.new ≡ output.old) }
-    ensures storage { InStorage output.new }
+    ensures fits { InStorage output.new }
 {
     let mut scratch = TxScratch::new(alloc)?;
     inverse_transform_add_with(&mut scratch, input, output, tx_size, tx_type, bd);

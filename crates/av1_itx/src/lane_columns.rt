@@ -3,7 +3,8 @@
 ghost use Rattle.std.specs.Prelude.{◌≡◌, ℕ, ◌+◌, ◌-◌, ◌*◌, ◌/◌, ◌^◌, ◌<◌, ◌≤◌, nat_le, nat_lt, ◌&&◌, if◌then◌else◌, IfOk, length, vec_len};
 ghost use Rattle.av1_dct.specs.Arithmetic.{at, clamp_value, FitsBits};
 ghost use Rattle.av1_dct.specs.Counts.{raised};
-ghost use Rattle.av1_dct.specs.Cosine.{by_index, cosine, IsLength};
+ghost use Rattle.av1_dct.specs.Cosine.{cosine, IsLength};
+ghost use Rattle.av1_lists.specs.Lists.{by_index};
 ghost use Rattle.av1_dct.specs.Word.{column, lane_of_vector};
 ghost use Rattle.av1_frame.specs.Arithmetic.{round_shift};
 
@@ -21,9 +22,9 @@ pub(crate) const LANES: usize = 8;
 pub struct Lanes {
     line: Vec<i32x8>,
     work: Vec<i32x8>,
-    done: Vec<i32x8>,
+    transformed: Vec<i32x8>,
     count: LaneCount,
-    ghost long: { (vec_len line ≡ 64) × (vec_len work ≡ 256) × (vec_len done ≡ 64) },
+    ghost long: { (vec_len line ≡ 64) × (vec_len work ≡ 256) × (vec_len transformed ≡ 64) },
 }
 
 impl Lanes {
@@ -36,12 +37,12 @@ impl Lanes {
         line.resize(64, zero)?;
         let mut work = Vec::new(alloc);
         work.resize(256, zero)?;
-        let mut done = Vec::new(alloc);
-        done.resize(64, zero)?;
+        let mut transformed = Vec::new(alloc);
+        transformed.resize(64, zero)?;
         Ok(Lanes {
             line,
             work,
-            done,
+            transformed,
             count: LaneCount::new(),
         })
     }
@@ -78,7 +79,7 @@ impl Lanes {
             buffer,
             self.line.as_mut_slice(),
             self.work.as_mut_slice(),
-            self.done.as_mut_slice(),
+            self.transformed.as_mut_slice(),
             &mut self.count,
             w,
             h,
@@ -157,7 +158,7 @@ fn run_groups(
     buffer: &mut [i32],
     line: &mut [i32x8],
     work: &mut [i32x8],
-    done: &mut [i32x8],
+    transformed: &mut [i32x8],
     count: &mut LaneCount,
     w: usize,
     h: usize,
@@ -172,7 +173,7 @@ fn run_groups(
     requires buffer_len { length buffer.old ≡ h * w }
     requires line_len { 64 ≤ length line.old }
     requires work_len { 256 ≤ length work.old }
-    requires done_len { 64 ≤ length done.old }
+    requires transformed_len { 64 ≤ length transformed.old }
     requires shift_in { shift ≤ 4 }
     requires range_in { (8 ≤ range) × (range ≤ 20) }
     requires fit { (r c : ℕ) → r < h → c < w → FitsBits 24 (at buffer.old (r * w + c)) }
@@ -183,7 +184,7 @@ fn run_groups(
     let _count = count.groups();
     for g in 0..w / LANES {
         gather_lanes(buffer, &mut line[..h], LANES * g, w, shift, range);
-        cosine_lanes(count, h, &line[..h], work, &mut done[..h], range);
-        scatter_lanes(buffer, &done[..h], LANES * g, w);
+        cosine_lanes(count, h, &line[..h], work, &mut transformed[..h], range);
+        scatter_lanes(buffer, &transformed[..h], LANES * g, w);
     }
 }

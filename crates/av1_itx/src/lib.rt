@@ -1,7 +1,7 @@
 //! Inverse transforms of blocks, bit for bit those of the AV1 specification: from the coefficients of a block to what is added to
 //! its samples.
 //!
-//! The crate stands on `av1_blocks` for the sizes and types of transforms, on `av1_dct` for the inverse cosine transforms and the
+//! The crate stands on `av1_lists` for lists by index, on `av1_blocks` for the sizes and types of transforms, on `av1_dct` for the inverse cosine transforms and the
 //! arithmetic of all of them, and on `av1_frame` for samples and the regions that they lie in. It promises to the walk above it:
 //!
 //! - `inverse_transform_add_with` turns each sample of a block into itself plus `residue` of `specs/Residue.antt`, clipped to the

@@ -30,7 +30,7 @@ fn cosine_of(k: usize, input: &[i32], output: &mut [i32], range: usize)
 }
 
 /// The inverse transform of a kind, of 2^(k+1) values.
-pub(crate) fn run_network(kind: TxType1D, k: usize, input: &[i32], output: &mut [i32], range: usize)
+pub(crate) fn inverse_1d(kind: TxType1D, k: usize, input: &[i32], output: &mut [i32], range: usize)
     requires range_in { (8 ≤ range) × (range ≤ 20) }
     requires has { HasNetwork kind k }
     requires input_len { length input.now ≡ 2 * 2 ^ k }

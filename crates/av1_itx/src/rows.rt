@@ -4,7 +4,7 @@ ghost use Rattle.std.specs.Prelude.{◌≡◌, ℕ, ◌+◌, ◌*◌, ◌<◌, �
 ghost use Rattle.std.specs.Int.{int_shr};
 ghost use Rattle.av1_blocks.specs.Transforms.{tx_width, tx_height, coded, coded_area};
 ghost use Rattle.av1_dct.specs.Arithmetic.{at, AllFit, clamp_value, FitsBits};
-ghost use Rattle.av1_dct.specs.Cosine.{by_index};
+ghost use Rattle.av1_lists.specs.Lists.{by_index};
 ghost use Rattle.av1_frame.specs.Arithmetic.{round_shift};
 ghost use Rattle.av1_itx.specs.Kinds.{row_kind};
 ghost use Rattle.av1_itx.specs.Networks.{HasNetwork, network};
@@ -12,7 +12,7 @@ ghost use Rattle.av1_itx.specs.Residue.{is_lossless, is_two_to_one, row_power, r
 ghost use Rattle.av1_itx.specs.Scaled.{scaled_input};
 
 use crate::kinds::get_1d_tx_types;
-use crate::networks::run_network;
+use crate::networks::inverse_1d;
 use av1_blocks::{INV_SQRT2, SQRT2_BITS, TxSize, TxType};
 use av1_dct::clamp_value;
 use av1_frame::{Coefficient, round_shift};
@@ -135,7 +135,7 @@ fn run_row(
         return;
     }
     let (_, kind) = get_1d_tx_types(tx_type);
-    run_network(kind, tx_size.width_log2() - 1, line, output, bd + 8);
+    inverse_1d(kind, tx_size.width_log2() - 1, line, output, bd + 8);
 }
 
 /// Each row of a block, transformed: `buffer` has the block row by row. The rows from 32 on are zeros. `scaled` is room for the

@@ -9,8 +9,9 @@ use Rattle.av1_blocks.specs.Blocks.{block_width, block_height}
 use Rattle.av1_plan.specs.Tree.{Tree, frame_leaves}
 use Rattle.av1_avail.specs.Agreement.{IsTile, top_right_before, bottom_left_before}
 use Rattle.av1_avail.specs.Cells.{corner}
-use Rattle.av1_avail.specs.Order.{is_in, is_before_in_block, next_before}
+use Rattle.av1_avail.specs.Order.{is_in, next_before}
 use Rattle.av1_avail.proofs.Shift.{is_earlier-shift, is_in-shift}
+use Rattle.av1_avail.proofs.Superblocks.{is_before_in_block-shift}
 use Rattle.av1_order.specs.Steps.{Coding, IsFrame, Step, area, steps_of}
 use Rattle.av1_order.specs.Places.{told_before}
 use Rattle.av1_order.specs.Samples.{left, top, width_of, height_of, is_covered_sample, IsVisible}
@@ -22,10 +23,6 @@ use Rattle.av1_order.proofs.Near.{IsStep}
 use Rattle.av1_order.proofs.Edges.{told, placed_step}
 use Rattle.av1_order.proofs.Planes.{frame_is_ordered}
 use Rattle.av1_order.proofs.Each.{IsPlaced}
-
-in_block-shift : (U V ax ay w h th r c X Y : ℕ) → is_before_in_block (U + ax) (V + ay) w h th r c (U + X) (V + Y) ≡ is_before_in_block ax ay w h th r c X Y
-unfolding is_before_in_block
-in_block-shift U V ax ay w h th r c X Y = grind (arith, nat_tests)
 
 -- a superblock's side in units
 abbrev units : ℕ → ℕ
@@ -63,7 +60,7 @@ shifted sx sy bx by w h th r c X Y ex ey fx fy gx gy =
       gx,
       gy,
       is_in-shift 16 16 (X * 2 ^ sx) (Y * 2 ^ sy) (bx - bx % max w h) (by - by % max w h) (max w h),
-      in_block-shift (units sx) (units sy) (bx / 2 ^ sx) (by / 2 ^ sy) (w / 2 ^ sx) (h / 2 ^ sy) th r c X Y,
+      is_before_in_block-shift (units sx) (units sy) (bx / 2 ^ sx) (by / 2 ^ sy) (w / 2 ^ sx) (h / 2 ^ sy) th r c X Y,
       is_earlier-shift 1 1 (X * 2 ^ sx) (Y * 2 ^ sy) (bx - bx % max w h) (by - by % max w h),
     ) refl
 

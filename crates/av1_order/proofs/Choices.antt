@@ -1,5 +1,5 @@
 -- What is so in a node and outside it.
-use Rattle.std.proofs.Common.{◌≡◌, Bool, true, false, ◌||◌, refl, sym}
+use Rattle.std.proofs.Common.{◌≡◌, Bool, true, false, ◌||◌, refl, sym, true≢false}
 use Rattle.std.specs.Prelude.{if◌then◌else◌}
 
 -- Where the cell lies outside a node, a rectangle in the node doesn't hold it.
@@ -18,3 +18,11 @@ either_way false a b e f = refl
 pub or_nothing : (e q : Bool) → q ≡ false → e ≡ (e || q)
 or_nothing true q h = refl
 or_nothing false q h = sym h
+
+pub first_true : (a b : Bool) → a ≡ true → (a || b) ≡ true
+first_true true b e = refl
+first_true false b e = absurd (true≢false (sym e))
+
+pub second_true : (a b : Bool) → b ≡ true → (a || b) ≡ true
+second_true true b e = refl
+second_true false b e = e

@@ -32,6 +32,7 @@ use Rattle.av1_order.proofs.Rectangles.{placed as held}
 use Rattle.av1_order.proofs.Sizes.{block_some, divides, tx_some}
 use Rattle.av1_order.proofs.Units.{whole_multiple}
 use Rattle.av1_order.proofs.WholeAreas.{blocks_written, row_within}
+use Rattle.av1_order.proofs.Choices.{first_true, second_true}
 
 -- ---- along one direction
 
@@ -240,14 +241,6 @@ in_cells_below x at side e f lt = omega arith
 
 in_cells_before : (x at : ℕ) → at % 4 ≡ 0 → x < at → x / 4 < at / 4
 in_cells_before x at e lt = omega arith
-
-first_true : (a b : Bool) → a ≡ true → (a || b) ≡ true
-first_true true b e = refl
-first_true false b e = absurd (true≢false (sym e))
-
-second_true : (a b : Bool) → b ≡ true → (a || b) ≡ true
-second_true true b e = refl
-second_true false b e = e
 
 module _ (h : Header) (earlier : List LeafValue) (l : LeafValue) (later : List LeafValue) (is : IsCodedPlan h 0 (earlier ++ l ∷ later)) (quarter : IsQuarterInside h l) where
   grid : IsOnGrid h l

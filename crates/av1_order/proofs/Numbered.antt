@@ -5,15 +5,9 @@ use Rattle.std.specs.List.{filter_map, range_with_len, cons_option}
 use Rattle.std.proofs.Math.Nat.{mul-add-mod_self_right, mod-eq_of_lt}
 use Rattle.std.proofs.lemmas.Nat.{div-mul-add}
 use Rattle.std.proofs.lemmas.List.Elements.{filter_map-append}
+use Rattle.av1_lists.proofs.Ranges.{range-append}
 use Rattle.av1_plan.specs.Tree.{Block}
 use Rattle.av1_order.specs.Steps.{Coding, Step, area, row_steps, block_steps}
-
-pub range_split : (a m n : ℕ) → range_with_len a (m + n) ≡ range_with_len a m ++ range_with_len (a + m) n
-range_split a zero n = let e : zero + n ≡ n = omega arith in let f : a + 0 ≡ a = omega arith in rw (e, f) refl
-range_split a (suc m) n =
-    let e : suc m + n ≡ suc (m + n) = omega arith in
-    let f : a + 1 + m ≡ a + suc m = omega arith in
-    ap (range_with_len a) e ∙ ap (λ xs. a ∷ xs) (range_split (a + 1) m n ∙ ap (λ z. range_with_len (a + 1) m ++ range_with_len z n) f)
 
 chosen : (t : Bool) (s : Step) (ss : List Step) → ((if t then s ∷ [] else []) ++ ss) ≡ cons_option (if t then Some s else None) ss
 chosen true s ss = refl
@@ -66,7 +60,7 @@ module _ (sx sy width height : ℕ) (b : Block) (c : Coding) where
       ∙ ap (λ ss. ss ++ filter_map numbered (range_with_len (r * across + across) (n * across)))
       (ap (λ z. row_steps sx sy width height b c (r * c.rows) z across) nothing ∙ row_numbered r 0 across (omega arith) ∙ ap (λ z. filter_map numbered (range_with_len z across)) first)
       ∙ sym (filter_map-append numbered (range_with_len (r * across) across) (range_with_len (r * across + across) (n * across)))
-      ∙ ap (filter_map numbered) (sym (range_split (r * across) across (n * across)) ∙ ap (range_with_len (r * across)) more)
+      ∙ ap (filter_map numbered) (sym (range-append (r * across) across (n * across)) ∙ ap (range_with_len (r * across)) more)
 
   -- all of the block's
   pub block_numbered : (rows : ℕ) → block_steps sx sy width height b c 0 rows ≡ filter_map numbered (range_with_len 0 (rows * across))
@@ -82,6 +76,6 @@ kept_cut f n all x lt e =
     let sum : all ≡ n + suc (all - n - 1) = omega arith in
     let first : zero + n ≡ n = omega arith in
     ap (λ z. filter_map f (range_with_len 0 z)) sum
-    ∙ ap (filter_map f) (range_split 0 n (suc (all - n - 1)) ∙ ap (λ z. range_with_len 0 n ++ range_with_len z (suc (all - n - 1))) first)
+    ∙ ap (filter_map f) (range-append 0 n (suc (all - n - 1)) ∙ ap (λ z. range_with_len 0 n ++ range_with_len z (suc (all - n - 1))) first)
     ∙ filter_map-append f (range_with_len 0 n) (range_with_len n (suc (all - n - 1)))
     ∙ ap (λ o. filter_map f (range_with_len 0 n) ++ cons_option o (filter_map f (range_with_len (n + 1) (all - n - 1)))) e

@@ -1,5 +1,5 @@
 -- Inter leaves are predicted whole, and each block of a leaf is written by the leaf's steps.
-use Rattle.std.proofs.Common.{◌≡◌, ℕ, ◌+◌, ◌*◌, ◌/◌, ◌%◌, ◌<◌, ◌≤◌, Bool, true, false, not, ◌&&◌, ◌||◌, List, [], ◌∷◌, inl, inr, refl, sym, subst, ◌∙◌, ap, arith}
+use Rattle.std.proofs.Common.{◌≡◌, ℕ, ◌+◌, ◌*◌, ◌/◌, ◌%◌, ◌<◌, ◌≤◌, Bool, true, false, not, ◌&&◌, List, [], ◌∷◌, inl, inr, refl, sym, subst, ◌∙◌, ap, arith}
 use Rattle.std.specs.Prelude.{nat_le, ◌==◌, if◌then◌else◌}
 use Rattle.std.proofs.Math.Nat.{mul-le-mul_right}
 use Rattle.std.proofs.lemmas.Bool.{and_parts, cases_lt, leb-true, true≢false}
@@ -26,21 +26,18 @@ use Rattle.av1_order.proofs.PlanBlocks.{column_of, count_is, row_of, units_in}
 use Rattle.av1_order.proofs.Plans.{carries_is, halved_x, halved_y, in_plane_block, leaf_tiled, luma_x, luma_y, place_is}
 use Rattle.av1_order.proofs.Rectangles.{places, placed as held}
 use Rattle.av1_order.proofs.Units.{whole_multiple}
+use Rattle.av1_order.proofs.Choices.{first_true, second_true}
 
 -- ---- inter leaves
 
 no_small_side : (q q' r r' : Bool) (w t : ℕ) → 8 ≤ w → 8 ≤ t → (not (q && w == 4 && r) && not (q' && t == 4 && r')) ≡ true
 no_small_side q q' r r' w t hw ht = grind (arith, nat_tests)
 
-either_true : (a b : Bool) → b ≡ true → (a || b) ≡ true
-either_true true b e = refl
-either_true false b e = e
-
 large_covers : (h : Header) (p : ℕ) (l : LeafValue) → is_inter_size l.size ≡ true → covers_plane h l.x l.y l.size p ≡ true
 unfolding is_inter_size covers_plane carries_chroma
 large_covers h p l e =
     let (wide, high) = and_parts (nat_le 8 (block_width l.size)) (nat_le 8 (block_height l.size)) e in
-    either_true (p == 0) _ (no_small_side _ _ _ _ (block_width l.size) (block_height l.size) (leb-true 8 (block_width l.size) wide) (leb-true 8 (block_height l.size) high))
+    second_true (p == 0) _ (no_small_side _ _ _ _ (block_width l.size) (block_height l.size) (leb-true 8 (block_width l.size) wide) (leb-true 8 (block_height l.size) high))
 
 inter_is_large : (size : BlockSize) (kind : LeafKind) → is_inter kind ≡ true → has_modes size kind ≡ true → is_inter_size size ≡ true
 unfolding has_modes
@@ -115,10 +112,6 @@ in_part x y a b w t A B W T la lw lb lt e =
     let d = p.bottom in
     held x y A B W T (record { left = omega arith; right = omega arith; top = omega arith; bottom = omega arith })
 
-alone : (b c : Bool) → b ≡ true → (b || c) ≡ true
-alone true c e = refl
-alone false c e = absurd (true≢false (sym e))
-
 module _ (h : Header) (p : ℕ) (l : LeafValue) (frame : IsWholeFrame h) (grid : IsOnGrid h l) (valid : IsValidLeaf h l) where
   pub blocks_written : BlocksAreWritten h p l
   blocks_written covered n b at x y e = go (is_inter l.kind) refl
@@ -155,7 +148,7 @@ module _ (h : Header) (p : ℕ) (l : LeafValue) (frame : IsWholeFrame h) (grid :
 
       go : (inter : Bool) → is_inter l.kind ≡ inter → is_written h p (steps_in h p l) x y ≡ true
       go false intra = block_written h p l frame grid valid n b at intra covered x y e
-      go true inter = ap (λ ss. is_written h p ss x y) (whole_is h p l grid valid inter).one ∙ alone _ false inside
+      go true inter = ap (λ ss. is_written h p ss x y) (whole_is h p l grid valid inter).one ∙ first_true _ false inside
 
 pub residues_find_samples : ResiduesFindSamples
 residues_find_samples h p l frame grid faultless = blocks_written h p l frame grid (valid_leaf h l faultless)

@@ -27,7 +27,7 @@ module _ (sx sy : ℕ) where
     pub column : x < width / 2 ^ sx
     pub row : y < height / 2 ^ sy
 
--- The order of every plane of every frame is told by places alone.
+-- The order of every plane of every frame follows from position alone.
 abbrev pub OrderByPlaces : Type 0
 OrderByPlaces =
     (sx sy width height : ℕ) (trees : List (Tree Coding 4)) → IsFrame sx sy width height trees → (k : ℕ) (none : Step) → k < length (steps_of sx sy width height trees)

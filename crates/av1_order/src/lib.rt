@@ -1,4 +1,4 @@
-//! Coding order: what is written of a plane before a rectangle of it is predicted is told by places alone.
+//! Coding order: what is written of a plane before a rectangle of it is predicted follows from position alone.
 //!
 //! An intra prediction reads the samples round its rectangle as far as they are written. An encoder keeps no record of that: it finds
 //! out by places. This crate is the theory that allows it, for every partition of every frame, in planes of every sampling. It has no
@@ -21,8 +21,8 @@
 mod laws;
 
 pub use laws::{
-    areas_are_predicted, cuts_are_told, edges_are_answered, edges_are_told_by_places,
-    leaves_lie_on_their_grid, leaves_tile_the_frame, luma_is_written, neighbours_are_found,
-    order_follows_from_position, planes_are_written, plans_are_frames, plans_are_written,
-    availability_matches_order, steps_are_transform_blocks,
+    areas_are_predicted, availability_matches_order, cuts_are_told, edges_are_answered,
+    edges_are_told_by_places, leaves_lie_on_their_grid, leaves_tile_the_frame, luma_is_written,
+    neighbours_are_found, order_follows_from_position, planes_are_written, plans_are_frames,
+    plans_are_written, steps_are_transform_blocks,
 };

@@ -16,4 +16,5 @@ sum_mirrored-requires-clause-fit g c = λ i h.
 pub returns : goal.returns
 returns g c = λ i h.
     let e = even_pow g.row.K (omega arith) in
-    joined_words g.W.Word.lane_of i c.args.range g.row.K c.power.result c.args.w.now c.turn_outer.new.v c.turn_rounds.new.v c.sum_mirrored.new.w (omega arith) c.power.ensures.value c.requires.len (omega (arith, c.turn_rounds.auto.v, c.turn_outer.auto.v, length-drop c.power.result c.args.w.now)) (c.turn_outer.ensures i h) (c.turn_rounds.ensures.value i h) (c.sum_mirrored.ensures i h)
+    joined_words g.W.Word.lane_of i c.args.range g.row.K c.power.result c.args.w.now c.turn_outer.new.v c.turn_rounds.new.v c.sum_mirrored.new.w (omega arith) c.power.ensures.value c.requires.len
+    (omega (arith, c.turn_rounds.auto.v, c.turn_outer.auto.v, length-drop c.power.result c.args.w.now)) (c.turn_outer.ensures i h) (c.turn_rounds.ensures.value i h) (c.sum_mirrored.ensures i h)

@@ -1,7 +1,8 @@
 use Rattle.std.proofs.Common.{◌≡◌, ◌+◌, ◌-◌, ◌*◌, ◌^◌, ◌∙◌, min, arith, ap, sym, subst, List, ℤ}
 use Rattle.av1_dct.specs.Arithmetic.{AllFit}
 use Rattle.av1_dct.specs.Word.{column}
-use Rattle.av1_dct.specs.Cosine.{by_index, group_sum, rounds}
+use Rattle.av1_dct.specs.Cosine.{group_sum, rounds}
+use Rattle.av1_lists.specs.Lists.{by_index}
 use Rattle.av1_dct.proofs.Fits.{by_index-fits, group_sum-fits, inner_turn-fits, rounds_more, groups_len}
 use Rattle.av1_dct.proofs.steps.run_round.Goals as goal
 

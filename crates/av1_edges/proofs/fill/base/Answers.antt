@@ -1,5 +1,5 @@
 use Rattle.std.proofs.Common.{rules, ◌∙◌, ap, ◌+◌}
-use Rattle.av1_edges.proofs.Samples.{half_fits, half_depth}
+use Rattle.av1_frame.proofs.Depths.{half_fits, half_depth}
 use Rattle.av1_edges.proofs.fill.base.Goals as goal
 
 pub returns : goal.returns

@@ -2,8 +2,9 @@ use Rattle.std.proofs.Common.{ℕ, arith, ap, ◌∙◌, ◌≡◌, ◌<◌, ◌
 use Rattle.std.proofs.lemmas.Bool.Decides.{nat_tests}
 use Rattle.av1_edges.specs.Edges.{region_sample}
 use Rattle.av1_edges.specs.Sides.{base, left_at}
-use Rattle.av1_edges.proofs.Lists.{reversed_is, reversed_side}
-use Rattle.av1_edges.proofs.Samples.{half_below}
+use Rattle.av1_edges.proofs.Lists.{reversed_side}
+use Rattle.av1_lists.proofs.Lists.{numbers_are_reversed}
+use Rattle.av1_frame.proofs.Depths.{half_below}
 use Rattle.av1_edges.proofs.fill.fill_left.Goals as goal
 
 pub from_u32-requires : goal.from_u32-requires
@@ -27,10 +28,11 @@ pub returns-then-y-gt0 : goal.returns-then-y-gt0
 returns-then-y-gt0 g c =
     let a = c.args in
     let n = g.T.Pixel.num in
-    reversed_is n (left_at (region_sample n a.dst.now) (base a.bit_depth) a.x a.y a.num_avail) c.fill_with-then-y-gt0.new.row (length a.left.now) (omega arith) (λ k d h. ap n (c.fill_with-then-y-gt0.ensures k d (omega arith)) ∙ grind (arith, nat_tests, c.sample_of.ensures))
+    numbers_are_reversed n (left_at (region_sample n a.dst.now) (base a.bit_depth) a.x a.y a.num_avail) c.fill_with-then-y-gt0.new.row (length a.left.now) (omega arith) (λ k d h. ap n (c.fill_with-then-y-gt0.ensures k d (omega arith)) ∙ grind (arith, nat_tests, c.region_sample.ensures))
 
 pub returns-else-y-gt0 : goal.returns-else-y-gt0
 returns-else-y-gt0 g c =
     let a = c.args in
     let n = g.T.Pixel.num in
-    reversed_is n (left_at (region_sample n a.dst.now) (base a.bit_depth) a.x a.y a.num_avail) c.fill_with-else-y-gt0.new.row (length a.left.now) (omega arith) (λ k d h. ap n (c.fill_with-else-y-gt0.ensures k d (omega arith)) ∙ ap n c.from_u32.ensures ∙ (g.met.T.Pixel.num_of_pixel _ ∙ grind (arith, nat_tests, c.base.ensures.value)))
+    numbers_are_reversed n (left_at (region_sample n a.dst.now) (base a.bit_depth) a.x a.y a.num_avail) c.fill_with-else-y-gt0.new.row (length a.left.now) (omega arith)
+    (λ k d h. ap n (c.fill_with-else-y-gt0.ensures k d (omega arith)) ∙ ap n c.from_u32.ensures ∙ (g.met.T.Pixel.num_of_pixel _ ∙ grind (arith, nat_tests, c.base.ensures.value)))

@@ -26,4 +26,4 @@ returns g c =
     let d = c.args.bit_depth in
     let f : FitsSigned w32 c.round_shift.result = search rules in
     let s = averaged_sum c.args.first c.args.second (bias d) _ _ _ c.from.ensures c.from-2.ensures c.prep_bias.ensures c.ranges.first c.ranges.second (bias_small d) in
-    c.sample_of.ensures ∙ ap (λ z. g.T.Pixel.pixel (clip d z)) (to_z-of_z w32 _ f ∙ c.round_shift.ensures ∙ ap (λ z. round_shift z (c.intermediate_bits.result + 1)) s ∙ ap (λ n. round_shift (c.args.first +ℤ c.args.second +ℤ pos 2 *ℤ bias d) (n + 1)) c.intermediate_bits.ensures.value)
+    c.clip.ensures ∙ ap (λ z. g.T.Pixel.pixel (clip d z)) (to_z-of_z w32 _ f ∙ c.round_shift.ensures ∙ ap (λ z. round_shift z (c.intermediate_bits.result + 1)) s ∙ ap (λ n. round_shift (c.args.first +ℤ c.args.second +ℤ pos 2 *ℤ bias d) (n + 1)) c.intermediate_bits.ensures.value)

@@ -10,7 +10,9 @@ returns-then-this-ne0-clause-value g c =
     let num = g.T.Pixel.num in
     let row = c.args.row.now in
     let k = c.args.c in
-    let values : List ℤ = to_z w32 (of_z w32 c.to_i32.result) ∷ to_z w32 (of_z w32 c.to_i32-2.result) ∷ to_z w32 (of_z w32 c.to_i32-3.result) ∷ to_z w32 (of_z w32 c.to_i32-4.result) ∷ to_z w32 (of_z w32 c.to_i32-5.result) ∷ to_z w32 (of_z w32 c.to_i32-6.result) ∷ to_z w32 (of_z w32 c.to_i32-7.result) ∷ to_z w32 (of_z w32 c.to_i32-8.result) ∷ [] in
+    let values : List ℤ =
+    to_z w32 (of_z w32 c.to_i32.result) ∷ to_z w32 (of_z w32 c.to_i32-2.result) ∷ to_z w32 (of_z w32 c.to_i32-3.result) ∷ to_z w32 (of_z w32 c.to_i32-4.result) ∷ to_z w32
+    (of_z w32 c.to_i32-5.result) ∷ to_z w32 (of_z w32 c.to_i32-6.result) ∷ to_z w32 (of_z w32 c.to_i32-7.result) ∷ to_z w32 (of_z w32 c.to_i32-8.result) ∷ [] in
     let s : FitsSigned w32 c.weigh_inner.result = search rules in
     to_z-of_z w32 _ s ∙ c.weigh_inner.ensures.value ∙ weighted_same c.args.taps.now _ _ (each_of_eight (λ t. entry values t ≡ pos (slice_index (map num row) (k + t)))
     (sample_is num row k c.index-row-c.result _ (omega arith) c.index-row-c.is c.to_i32.ensures.value c.to_i32.ensures.fits_16_bits ∙ ap (λ n. pos (slice_index (map num row) n)) (let e : k ≡ k + 0 = omega arith in e))
@@ -27,7 +29,9 @@ returns-else-this-ne0-clause-value g c =
     let num = g.T.Pixel.num in
     let row = c.args.row.now in
     let k = c.args.c in
-    let values : List ℤ = to_z w32 (of_z w32 c.to_i32.result) ∷ to_z w32 (of_z w32 c.to_i32-2.result) ∷ to_z w32 (of_z w32 c.to_i32-3.result) ∷ to_z w32 (of_z w32 c.to_i32-4.result) ∷ to_z w32 (of_z w32 c.to_i32-5.result) ∷ to_z w32 (of_z w32 c.to_i32-6.result) ∷ to_z w32 (of_z w32 c.to_i32-7.result) ∷ to_z w32 (of_z w32 c.to_i32-8.result) ∷ [] in
+    let values : List ℤ =
+    to_z w32 (of_z w32 c.to_i32.result) ∷ to_z w32 (of_z w32 c.to_i32-2.result) ∷ to_z w32 (of_z w32 c.to_i32-3.result) ∷ to_z w32 (of_z w32 c.to_i32-4.result) ∷ to_z w32
+    (of_z w32 c.to_i32-5.result) ∷ to_z w32 (of_z w32 c.to_i32-6.result) ∷ to_z w32 (of_z w32 c.to_i32-7.result) ∷ to_z w32 (of_z w32 c.to_i32-8.result) ∷ [] in
     let s : FitsSigned w32 c.weigh.result = search rules in
     to_z-of_z w32 _ s ∙ c.weigh.ensures.value ∙ weighted_same c.args.taps.now _ _ (each_of_eight (λ t. entry values t ≡ pos (slice_index (map num row) (k + t)))
     (sample_is num row k c.index-row-c.result _ (omega arith) c.index-row-c.is c.to_i32.ensures.value c.to_i32.ensures.fits_16_bits ∙ ap (λ n. pos (slice_index (map num row) n)) (let e : k ≡ k + 0 = omega arith in e))

@@ -18,7 +18,8 @@ pub overflow_add-sum : goal.overflow_add-sum
 overflow_add-sum c =
     let t = c.loop-t.t in
     let f : FitsSigned w32 (entry c.args.taps.now t) = search rules in
-    next_fits c.args.taps.now (entry c.args.values) t _ _ c.requires.filter (let l : c.loop-t.t < 8 = omega arith in l) c.requires.within c.loop-t.invariant (product_stored c.args.taps.now t (entry c.args.values t) c.requires.filter (let l : c.loop-t.t < 8 = omega arith in l) f (c.requires.within t (let l : c.loop-t.t < 8 = omega arith in l)))
+    next_fits c.args.taps.now (entry c.args.values) t _ _ c.requires.filter (let l : c.loop-t.t < 8 = omega arith in l) c.requires.within c.loop-t.invariant
+    (product_stored c.args.taps.now t (entry c.args.values t) c.requires.filter (let l : c.loop-t.t < 8 = omega arith in l) f (c.requires.within t (let l : c.loop-t.t < 8 = omega arith in l)))
 
 pub loop-t-preserved : goal.loop-t-preserved
 loop-t-preserved c =

@@ -7,10 +7,22 @@ use Rattle.av1_inter.proofs.Vectors.{clamped_room, moved_is, placed_is}
 use Rattle.av1_inter.proofs.moved.moved_slice.Goals as goal
 
 pub subslice-requires-clause-column : goal.subslice-requires-clause-column
-subslice-requires-clause-column g c = clamped_room _ _ _ _ _ _ (ap (λ (s : PlaneSlice g.row.T.Denot). s.x) c.clamp.ensures) (ap (λ (p : Plane g.row.T.Denot). p.plane_cfg.xpad) c.slice.ensures.plane) (ap (λ (p : Plane g.row.T.Denot). p.plane_cfg.width) c.slice.ensures.plane) (omega (arith, c.requires.padded.whole.visible_columns, c.requires.padded.whole.few_columns, c.requires.xpad), omega (arith, c.requires.padded.whole.visible_columns, c.requires.padded.whole.few_columns, c.requires.xpad))
+subslice-requires-clause-column g c =
+    clamped_room _ _ _ _ _ _ (ap (λ (s : PlaneSlice g.row.T.Denot). s.x) c.clamp.ensures) (ap (λ (p : Plane g.row.T.Denot). p.plane_cfg.xpad) c.slice.ensures.plane)
+    (ap (λ (p : Plane g.row.T.Denot). p.plane_cfg.width) c.slice.ensures.plane) (
+      omega (arith, c.requires.padded.whole.visible_columns, c.requires.padded.whole.few_columns, c.requires.xpad),
+      omega
+          (arith, c.requires.padded.whole.visible_columns, c.requires.padded.whole.few_columns, c.requires.xpad),
+    )
 
 pub subslice-requires-clause-row : goal.subslice-requires-clause-row
-subslice-requires-clause-row g c = clamped_room _ _ _ _ _ _ (ap (λ (s : PlaneSlice g.row.T.Denot). s.y) c.clamp.ensures) (ap (λ (p : Plane g.row.T.Denot). p.plane_cfg.ypad) c.slice.ensures.plane) (ap (λ (p : Plane g.row.T.Denot). p.plane_cfg.height) c.slice.ensures.plane) (omega (arith, c.requires.padded.whole.visible_rows, c.requires.padded.whole.few_rows, c.requires.ypad), omega (arith, c.requires.padded.whole.visible_rows, c.requires.padded.whole.few_rows, c.requires.ypad))
+subslice-requires-clause-row g c =
+    clamped_room _ _ _ _ _ _ (ap (λ (s : PlaneSlice g.row.T.Denot). s.y) c.clamp.ensures) (ap (λ (p : Plane g.row.T.Denot). p.plane_cfg.ypad) c.slice.ensures.plane)
+    (ap (λ (p : Plane g.row.T.Denot). p.plane_cfg.height) c.slice.ensures.plane) (
+      omega (arith, c.requires.padded.whole.visible_rows, c.requires.padded.whole.few_rows, c.requires.ypad),
+      omega
+          (arith, c.requires.padded.whole.visible_rows, c.requires.padded.whole.few_rows, c.requires.ypad),
+    )
 
 pub returns-clause-stored : goal.returns-clause-stored
 returns-clause-stored g c =

@@ -8,7 +8,8 @@ use Rattle.av1_inter.proofs.moved.put_moved.Goals as goal
 
 pub put_8tap-requires-clause-within : goal.put_8tap-requires-clause-within
 put_8tap-requires-clause-within g c = λ x y h k.
-    subst (λ (n : ℕ). n < 2 ^ c.args.bit_depth) (sym (c.moved_slice-src.ensures.samples x y (omega (arith, c.requires.reference.xpad)) (omega (arith, c.requires.reference.ypad)))) (moved_within g.T.Pixel.num c.args.plane.now c.args.bit_depth c.args.width c.args.height c.requires.reference c.args.at.x c.args.at.y c.args.mv x y)
+    subst (λ (n : ℕ). n < 2 ^ c.args.bit_depth) (sym (c.moved_slice-src.ensures.samples x y (omega (arith, c.requires.reference.xpad)) (omega (arith, c.requires.reference.ypad))))
+    (moved_within g.T.Pixel.num c.args.plane.now c.args.bit_depth c.args.width c.args.height c.requires.reference c.args.at.x c.args.at.y c.args.mv x y)
 
 pub returns-clause-painted : goal.returns-clause-painted
 returns-clause-painted g c =

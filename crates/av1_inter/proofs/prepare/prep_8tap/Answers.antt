@@ -19,7 +19,9 @@ pub prepare_strips-requires-clause-within : goal.prepare_strips-requires-clause-
 prepare_strips-requires-clause-within g c = corner_within g.T.Pixel.num c.args.src _ c.args.bit_depth _ _ (corner_is c.args.src c.go_left.result _ c.go_left.ensures c.go_up-corner.ensures) c.requires.within
 
 -- the filters and the place that were made are those that the contract names
-named : {T : Type 0} (num : T → ℕ) (z : ℤ) (depth r q fx fx' fy fy' : ℕ) (across across' down down' : List ℤ) (place place' : PlaneSlice T) → fx ≡ fx' → fy ≡ fy' → across ≡ across' → down ≡ down' → place ≡ place' → z ≡ prepared depth fx fy across down (samples_from num place) r q → z ≡ prepared depth fx' fy' across' down' (samples_from num place') r q
+named : {T : Type 0} (num : T → ℕ) (z : ℤ) (depth r q fx fx' fy fy' : ℕ) (across across' down down' : List ℤ) (place place' : PlaneSlice T) → fx ≡ fx'
+    → fy ≡ fy' → across ≡ across' → down ≡ down' → place ≡ place' → z ≡ prepared depth fx fy across down (samples_from num place) r q
+    → z ≡ prepared depth fx' fy' across' down' (samples_from num place') r q
 named num z depth r q fx fx' fy fy' across across' down down' place place' ex ey a d p e =
     e ∙ ap (λ n. prepared depth n fy across down (samples_from num place) r q) ex
     ∙ ap (λ n. prepared depth fx' n across down (samples_from num place) r q) ey

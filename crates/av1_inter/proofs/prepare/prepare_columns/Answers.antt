@@ -23,7 +23,8 @@ prepare_row-requires g c =
               c.next_sums-sums.ensures.within,
               (λ q h.
                   let P : ℤ → Type 0 = λ z. FitsSigned w16 (round_shift z 7 -ℤ bias c.args.bit_depth) in
-                  subst P (sym (c.next_sums-sums.ensures.value q h)) (down_fits c.args.bit_depth c.requires.depth c.args.across.now.fraction c.args.across.now.taps c.args.down.now.taps (samples_from g.T.Pixel.num c.args.corner) c.loop-r.r q c.requires.across_filter c.requires.down_filter (λ x y a b. c.requires.within x y (omega arith) (omega arith)))),
+                  subst P (sym (c.next_sums-sums.ensures.value q h)) (down_fits c.args.bit_depth c.requires.depths c.args.across.now.fraction c.args.across.now.taps c.args.down.now.taps
+                  (samples_from g.T.Pixel.num c.args.corner) c.loop-r.r q c.requires.across_filter c.requires.down_filter (λ x y a b. c.requires.within x y (omega arith) (omega arith)))),
             ),
           ),
         ),

@@ -24,7 +24,10 @@ pub put_strips-requires-clause-within : goal.put_strips-requires-clause-within
 put_strips-requires-clause-within g c = corner_within g.T.Pixel.num c.args.src _ c.args.bit_depth _ _ (corner_is c.args.src c.go_left.result _ c.go_left.ensures c.go_up-corner.ensures) c.requires.within
 
 -- the filters and the place that were made are those that the contract names
-named : {T : Type 0} (num : T → ℕ) (pixel : ℕ → T) (o dst : PlaneRegionMut T) (w h depth fx fx' fy fy' : ℕ) (across across' down down' : List ℤ) (place place' : PlaneSlice T) → fx ≡ fx' → fy ≡ fy' → across ≡ across' → down ≡ down' → place ≡ place' → o ≡ painted dst w h (λ r q _. pixel (single depth fx fy across down (samples_from num place) r q)) → o ≡ painted dst w h (λ r q _. pixel (single depth fx' fy' across' down' (samples_from num place') r q))
+named : {T : Type 0} (num : T → ℕ) (pixel : ℕ → T) (o dst : PlaneRegionMut T) (w h depth fx fx' fy fy' : ℕ) (across across' down down' : List ℤ) (place place' : PlaneSlice T)
+    → fx ≡ fx' → fy ≡ fy' → across ≡ across' → down ≡ down' → place ≡ place'
+    → o ≡ painted dst w h (λ r q _. pixel (single depth fx fy across down (samples_from num place) r q))
+    → o ≡ painted dst w h (λ r q _. pixel (single depth fx' fy' across' down' (samples_from num place') r q))
 named num pixel o dst w h depth fx fx' fy fy' across across' down down' place place' ex ey a d p e =
     e ∙ ap (λ n. painted dst w h (λ r q _. pixel (single depth n fy across down (samples_from num place) r q))) ex
     ∙ ap (λ n. painted dst w h (λ r q _. pixel (single depth fx' n across down (samples_from num place) r q))) ey
@@ -43,7 +46,7 @@ returns-then-row_frac-eq0-clause-painted g c =
     let zy : fy ≡ 0 = omega (arith, ints, c.if-row_frac-eq0.true) in
     let place = corner_is c.args.src c.go_left.result c.go_up-corner.result c.go_left.ensures c.go_up-corner.ensures in
     painted_same c.args.dst.now _ c.args.width c.args.height _ (λ r q _. g.T.Pixel.pixel (single c.args.bit_depth fx fy across down (samples_from num (corner_of c.args.src)) r q)) c.put_copy.ensures.painted
-    (λ r q v l h. ap g.T.Pixel.pixel (ap (λ (p : PlaneSlice g.row.T.Denot). samples_from num p (q + 3) (r + 3)) place ∙ single_copy c.args.bit_depth c.requires.depth fx fy across down (samples_from num (corner_of c.args.src)) r q zx zy))
+    (λ r q v l h. ap g.T.Pixel.pixel (ap (λ (p : PlaneSlice g.row.T.Denot). samples_from num p (q + 3) (r + 3)) place ∙ single_copy c.args.bit_depth c.requires.depths fx fy across down (samples_from num (corner_of c.args.src)) r q zx zy))
 
 pub returns-else-col_frac-eq0-clause-painted : goal.returns-else-col_frac-eq0-clause-painted
 returns-else-col_frac-eq0-clause-painted g c =

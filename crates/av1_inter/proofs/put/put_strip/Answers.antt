@@ -18,5 +18,5 @@ returns-clause-painted g c =
     let num = g.T.Pixel.num in
     strip_restored c.args.dst.now c.narrow-outer.new.self c.put_columns_of.new.dst c.restore.new.self c.narrow-outer.result _ c.args.start c.args.columns c.args.height _
     (λ r q _. g.T.Pixel.pixel (single c.args.bit_depth across.fraction down.fraction across.taps down.taps (samples_from num c.args.corner) r (c.args.start + q)))
-    c.narrow-outer.ensures.outer c.narrow-outer.ensures.after c.put_columns_of.ensures.painted c.restore.ensures (strip_start c.args.dst.now.place.x c.args.start (omega arith)) (omega arith)
+    c.narrow-outer.ensures.outer c.narrow-outer.ensures.after c.put_columns_of.ensures.painted c.restore.ensures (strip_start c.args.dst.now.area.x c.args.start (omega arith)) (omega arith)
     (λ r q v a b. ap g.T.Pixel.pixel (single_moved c.args.bit_depth across.taps down.taps (samples_from num c.subslice-place.result) (samples_from num c.args.corner) r q (c.args.start + q) (strip_same num c.args.corner _ c.args.start c.subslice-place.ensures r q) across.fraction down.fraction))

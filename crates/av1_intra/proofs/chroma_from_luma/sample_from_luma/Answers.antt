@@ -13,4 +13,4 @@ returns g c =
     let a = to_z-of_z w16 c.args.alpha c.ranges.alpha in
     let d = to_z-of_z w16 c.args.difference c.ranges.difference in
     let value : s ≡ scaled_luma c.args.alpha c.args.difference = c.scaled_luma.ensures.value ∙ ap (λ z. scaled_luma z (to_z w16 (of_z w16 c.args.difference))) a ∙ ap (scaled_luma c.args.alpha) d in
-    c.sample_of.ensures ∙ ap g.T.Pixel.pixel (c.clip_to.ensures.value ∙ ap (clip c.args.bit_depth) (fits ∙ ap (λ z. dc +ℤ z) value))
+    c.clip.ensures ∙ ap (λ z. g.T.Pixel.pixel (clip c.args.bit_depth z)) (fits ∙ ap (λ z. dc +ℤ z) value)

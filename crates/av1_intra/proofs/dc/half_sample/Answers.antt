@@ -1,5 +1,5 @@
 use Rattle.std.proofs.Common.{arith}
-use Rattle.av1_edges.proofs.Samples.{half_below}
+use Rattle.av1_frame.proofs.Depths.{half_below}
 use Rattle.av1_intra.proofs.dc.half_sample.Goals as goal
 
 pub from_u32-requires : goal.from_u32-requires

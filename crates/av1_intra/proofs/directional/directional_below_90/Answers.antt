@@ -2,7 +2,7 @@ use Rattle.std.proofs.Common.{◌≡◌, ℕ, ◌+◌, ◌*◌, min, map, take, 
 use mathlib.Core.Path.{fun_ext}
 use Rattle.av1_frame.specs.Regions.{painted}
 use Rattle.av1_intra.specs.Sides.{Side, entries, distance}
-use Rattle.av1_intra.specs.Directional.{side, below_90, prepared, doubling}
+use Rattle.av1_intra.specs.Directional.{side, below_90, prepared, upsampling}
 use Rattle.av1_intra.proofs.Derivatives.{below_90_few}
 use Rattle.av1_intra.proofs.Ranges.{is_below_90}
 use Rattle.av1_intra.proofs.directional.directional_below_90.Goals as goal
@@ -22,7 +22,7 @@ returns-clause-painted g c = λ left.
     let F = λ (B : Side) (u dx i j : ℕ). below_90 b.bit_depth B u s ((i + 1) * dx + 64) j in
     let G = λ (f : ℕ → ℕ → ℕ). painted out b.width b.height (λ i j _. g.T.Pixel.pixel (f i j)) in
     c.rows_below_90.ensures.painted
-    ∙ ap (λ (B : Side). G (F B c.prepare_above.new.ready.doubling c.dr_intra_derivative-dx.result)) E
-    ∙ ap (λ (u : ℕ). G (F (P (min b.width b.visible_columns)) u c.dr_intra_derivative-dx.result)) c.prepare_above.ensures.doubling
-    ∙ ap (λ (dx : ℕ). G (F (P (min b.width b.visible_columns)) (doubling b (distance b.p_angle 90)) dx)) c.dr_intra_derivative-dx.ensures
+    ∙ ap (λ (B : Side). G (F B c.prepare_above.new.ready.upsampling c.dr_intra_derivative-dx.result)) E
+    ∙ ap (λ (u : ℕ). G (F (P (min b.width b.visible_columns)) u c.dr_intra_derivative-dx.result)) c.prepare_above.ensures.upsampling
+    ∙ ap (λ (dx : ℕ). G (F (P (min b.width b.visible_columns)) (upsampling b (distance b.p_angle 90)) dx)) c.dr_intra_derivative-dx.ensures
     ∙ ap G (fun_ext (λ i. fun_ext (λ j. is_below_90 b (g.T.Pixel.num c.args.corner) (map g.T.Pixel.num c.args.above.now) left i j c.requires.range)))

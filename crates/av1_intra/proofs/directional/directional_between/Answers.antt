@@ -3,7 +3,7 @@ use mathlib.Core.Path.{fun_ext}
 use Rattle.av1_frame.specs.Regions.{painted}
 use Rattle.av1_intra.specs.Sides.{Side, entries, distance}
 use Rattle.av1_intra.specs.Angles.{derivative, ArePair}
-use Rattle.av1_intra.specs.Directional.{side, between, prepared, doubling}
+use Rattle.av1_intra.specs.Directional.{side, between, prepared, upsampling}
 use Rattle.av1_intra.proofs.Derivatives.{between_pair}
 use Rattle.av1_intra.proofs.Ranges.{is_between}
 use Rattle.av1_intra.proofs.directional.directional_between.Goals as goal
@@ -28,8 +28,8 @@ returns-clause-painted g c =
     let L = side (g.T.Pixel.num c.args.corner) (take b.height left) in
     let P = λ (m : ℕ). prepared b (distance p 90) m b.width A in
     let Q = λ (n : ℕ). prepared b (distance p 180) n b.height L in
-    let U = doubling b (distance p 90) in
-    let V = doubling b (distance p 180) in
+    let U = upsampling b (distance p 90) in
+    let V = upsampling b (distance p 180) in
     let x = c.prepare_above in
     let y = c.prepare_left in
     let E : entries x.new.ready.numbers ≡ P m = x.ensures.numbers ∙ ap P c.min-columns.ensures in
@@ -39,10 +39,10 @@ returns-clause-painted g c =
     let dx = c.dr_intra_derivative-dx in
     let dy = c.dr_intra_derivative-dy in
     c.rows_between.ensures.painted
-    ∙ ap (λ (B : Side). G (F B x.new.ready.doubling (entries y.new.ready.numbers) y.new.ready.doubling dx.result dy.result)) E
-    ∙ ap (λ (u : ℕ). G (F (P m) u (entries y.new.ready.numbers) y.new.ready.doubling dx.result dy.result)) x.ensures.doubling
-    ∙ ap (λ (B : Side). G (F (P m) U B y.new.ready.doubling dx.result dy.result)) D
-    ∙ ap (λ (u : ℕ). G (F (P m) U (Q n) u dx.result dy.result)) y.ensures.doubling
+    ∙ ap (λ (B : Side). G (F B x.new.ready.upsampling (entries y.new.ready.numbers) y.new.ready.upsampling dx.result dy.result)) E
+    ∙ ap (λ (u : ℕ). G (F (P m) u (entries y.new.ready.numbers) y.new.ready.upsampling dx.result dy.result)) x.ensures.upsampling
+    ∙ ap (λ (B : Side). G (F (P m) U B y.new.ready.upsampling dx.result dy.result)) D
+    ∙ ap (λ (u : ℕ). G (F (P m) U (Q n) u dx.result dy.result)) y.ensures.upsampling
     ∙ ap (λ (d : ℕ). G (F (P m) U (Q n) V d dy.result)) dx.ensures
     ∙ ap (λ (d : ℕ). G (F (P m) U (Q n) V (derivative (180 - p)) d)) dy.ensures
     ∙ ap G (fun_ext (λ i. fun_ext (λ j. is_between b (g.T.Pixel.num c.args.corner) above left i j c.requires.low c.requires.high)))

@@ -2,7 +2,7 @@ use Rattle.std.proofs.Common.{◌≡◌, ℕ, ◌+◌, ◌*◌, min, map, take, 
 use mathlib.Core.Path.{fun_ext}
 use Rattle.av1_frame.specs.Regions.{painted}
 use Rattle.av1_intra.specs.Sides.{Side, entries, distance}
-use Rattle.av1_intra.specs.Directional.{side, at, prepared, doubling}
+use Rattle.av1_intra.specs.Directional.{side, at, prepared, upsampling}
 use Rattle.av1_intra.proofs.Derivatives.{past_180_few}
 use Rattle.av1_intra.proofs.Ranges.{is_past_180}
 use Rattle.av1_intra.proofs.directional.directional_past_180.Goals as goal
@@ -31,7 +31,7 @@ returns-clause-painted g c = λ above.
     let F = λ (B : Side) (u dy i j : ℕ). at b.bit_depth B u ((j + 1) * dy + 64) i in
     let G = λ (f : ℕ → ℕ → ℕ). painted out b.width b.height (λ i j _. g.T.Pixel.pixel (f i j)) in
     c.rows_past_180.ensures.painted
-    ∙ ap (λ (B : Side). G (F B c.prepare_left.new.ready.doubling c.dr_intra_derivative-dy.result)) E
-    ∙ ap (λ (u : ℕ). G (F (P (min b.height b.visible_rows)) u c.dr_intra_derivative-dy.result)) c.prepare_left.ensures.doubling
-    ∙ ap (λ (dy : ℕ). G (F (P (min b.height b.visible_rows)) (doubling b (distance b.p_angle 180)) dy)) c.dr_intra_derivative-dy.ensures
+    ∙ ap (λ (B : Side). G (F B c.prepare_left.new.ready.upsampling c.dr_intra_derivative-dy.result)) E
+    ∙ ap (λ (u : ℕ). G (F (P (min b.height b.visible_rows)) u c.dr_intra_derivative-dy.result)) c.prepare_left.ensures.upsampling
+    ∙ ap (λ (dy : ℕ). G (F (P (min b.height b.visible_rows)) (upsampling b (distance b.p_angle 180)) dy)) c.dr_intra_derivative-dy.ensures
     ∙ ap G (fun_ext (λ i. fun_ext (λ j. is_past_180 b (g.T.Pixel.num c.args.corner) above left i j c.requires.range)))

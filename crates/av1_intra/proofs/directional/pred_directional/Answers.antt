@@ -18,8 +18,11 @@ returns-clause-painted g c =
     let C = option_map uses_smooth_filter c.args.ief_params in
     let F = c.requires.fits.fits in
     let S = F.storage in
-    let X = c.visible_from.ensures out.plane_cfg.xorigin out.place.x (ap (λ z. to_z w64 (of_z w64 z)) (ap (λ r. r.x) c.rect.ensures ∙ ap (λ r. r.x) c.requires.fits.rect) ∙ place_fits out.place.x out.plane_cfg.xorigin (omega (arith, F.columns, S.few_columns)) (omega (arith, S.visible_columns, S.few_columns))) in
-    let Y = c.visible_from-2.ensures out.plane_cfg.yorigin out.place.y (ap (λ z. to_z w64 (of_z w64 z)) (ap (λ r. r.y) c.rect-2.ensures ∙ ap (λ r. r.y) c.requires.fits.rect) ∙ place_fits out.place.y out.plane_cfg.yorigin (omega (arith, F.rows, S.few_rows)) (omega (arith, S.visible_rows, S.few_rows))) in
+    let X =
+    c.visible_from.ensures out.plane_cfg.xorigin out.area.x (ap (λ z. to_z w64 (of_z w64 z)) (ap (λ r. r.x) c.rect.ensures ∙ ap (λ r. r.x) c.requires.fits.rect)
+    ∙ place_fits out.area.x out.plane_cfg.xorigin (omega (arith, F.columns, S.few_columns)) (omega (arith, S.visible_columns, S.few_columns))) in
+    let Y =
+    c.visible_from-2.ensures out.plane_cfg.yorigin out.area.y (ap (λ z. to_z w64 (of_z w64 z)) (ap (λ r. r.y) c.rect-2.ensures ∙ ap (λ r. r.y) c.requires.fits.rect) ∙ place_fits out.area.y out.plane_cfg.yorigin (omega (arith, F.rows, S.few_rows)) (omega (arith, S.visible_rows, S.few_rows))) in
     c.predict_block.ensures.painted
     ∙ ap (λ f. G (B f c.visible_from.result c.visible_from-2.result) (g.T.Pixel.num c.index-top_left-0.result)) c.smooth_choice.ensures
     ∙ ap (λ x. G (B C x c.visible_from-2.result) (g.T.Pixel.num c.index-top_left-0.result)) X

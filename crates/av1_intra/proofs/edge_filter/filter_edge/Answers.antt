@@ -32,7 +32,9 @@ loop-i-preserved g c =
     let x = read_ahead g.T.Pixel.num c.loop-i.i c.loop-i.i _ _ _ _ _ c.loop-i.invariant.edge_is (omega arith) (omega arith) c.index-edge-i.is c.to_u32-c.ensures.value in
     let y = read_ahead g.T.Pixel.num c.loop-i.i c.min.result _ _ _ _ _ c.loop-i.invariant.edge_is (omega arith) (omega arith) c.index-edge-min.is c.to_u32-d.ensures.value in
     let z = read_ahead g.T.Pixel.num c.loop-i.i c.min-in-loop-i.result _ _ _ _ _ c.loop-i.invariant.edge_is (omega arith) (omega arith) c.index-edge-min-in-loop-i.is c.to_u32-e.ensures.value in
-    let r = filtered_at (c.args.size - 1) c.args.strength c.loop-i.i (numbers g.T.Pixel.num c.args.edge.now) _ _ _ _ _ _ (omega arith) (omega arith) (omega arith) c.loop-i.invariant.a_is c.loop-i.invariant.b_is x (y ∙ ap (numbers g.T.Pixel.num c.args.edge.now) m) (z ∙ ap (numbers g.T.Pixel.num c.args.edge.now) n) c.smoothed.ensures.value in
+    let r =
+    filtered_at (c.args.size - 1) c.args.strength c.loop-i.i (numbers g.T.Pixel.num c.args.edge.now) _ _ _ _ _ _ (omega arith) (omega arith)
+    (omega arith) c.loop-i.invariant.a_is c.loop-i.invariant.b_is x (y ∙ ap (numbers g.T.Pixel.num c.args.edge.now) m) (z ∙ ap (numbers g.T.Pixel.num c.args.edge.now) n) c.smoothed.ensures.value in
     record {
       edge_is = ap (λ u. set u c.loop-i.i c.from_u32.result) c.loop-i.invariant.edge_is ∙ paint_row_more c.loop-i.i _ c.args.edge.now c.from_u32.result (omega arith) (c.from_u32.ensures ∙ ap g.T.Pixel.pixel r);
       a_is = c.loop-i.invariant.b_is ∙ ap (numbers g.T.Pixel.num c.args.edge.now) (omega arith);

@@ -20,7 +20,7 @@ row_from_left-requires-clause-inside g c =
 
 pub interpolate_row-requires-clause-inside : goal.interpolate_row-requires-clause-inside
 interpolate_row-requires-clause-inside g c = λ _.
-    columns_above_inside c.args.above.now.doubling _ c.min-split.result _ c.requires.above_one (omega arith) (grind (arith, places))
+    columns_above_inside c.args.above.now.upsampling _ c.min-split.result _ c.requires.above_upsampling (omega arith) (grind (arith, places))
 
 pub returns-then-split-width : goal.returns-then-split-width
 returns-then-split-width g c =
@@ -32,8 +32,8 @@ returns-then-split-width g c =
     let i = c.args.i in
     let A = entries c.args.above.now.numbers in
     let L = entries c.args.left.now.numbers in
-    let u = c.args.above.now.doubling in
-    let v = c.args.left.now.doubling in
+    let u = c.args.above.now.upsampling in
+    let v = c.args.left.now.upsampling in
     let some = le-mul_of_pos_right (i + 1) c.requires.pair.above in
     let few : 64 * m < (i + 1) * dx = omega (arith, c.min-split.ensures) in
     let most : (i + 1) * dx ≤ 64 * (m + 1) = omega (arith, c.min-split.ensures, c.if-split-width.true) in
@@ -41,7 +41,7 @@ returns-then-split-width g c =
     let G = λ (j : ℕ) (_v : _). g.T.Pixel.pixel (between depth A u L v dx dy i j) in
     let H = λ (k : ℕ) (_v : _). g.T.Pixel.pixel (at depth A u (64 * (m + 1) - (i + 1) * dx) k) in
     let front = painted_front m _ F G c.args.row.now c.row_from_left.new.row (omega arith) (grind (arith, places)) c.row_from_left.ensures (λ j _ l. ap g.T.Pixel.pixel (left_column depth A u L v dx dy i j (omega (arith, few)))) in
-    painted_rest m _ w H G c.args.row.now _ c.interpolate_row.new.row (omega arith) c.requires.row_long (grind (arith, places)) front c.interpolate_row.ensures (λ k _ l. ap g.T.Pixel.pixel (above_column depth A u L v dx dy i m k c.requires.above_one most))
+    painted_rest m _ w H G c.args.row.now _ c.interpolate_row.new.row (omega arith) c.requires.row_long (grind (arith, places)) front c.interpolate_row.ensures (λ k _ l. ap g.T.Pixel.pixel (above_column depth A u L v dx dy i m k c.requires.above_upsampling most))
 
 pub returns-else-split-width : goal.returns-else-split-width
 returns-else-split-width g c =
@@ -53,8 +53,8 @@ returns-else-split-width g c =
     let i = c.args.i in
     let A = entries c.args.above.now.numbers in
     let L = entries c.args.left.now.numbers in
-    let u = c.args.above.now.doubling in
-    let v = c.args.left.now.doubling in
+    let u = c.args.above.now.upsampling in
+    let v = c.args.left.now.upsampling in
     let some = le-mul_of_pos_right (i + 1) c.requires.pair.above in
     let few : 64 * m < (i + 1) * dx = omega (arith, c.min-split.ensures) in
     let whole : m ≡ w = omega (arith, c.min-split.ensures, c.if-split-width.false) in

@@ -6,4 +6,4 @@ use Rattle.av1_intra.proofs.interpolation.rows_below_90.Given as goal
 
 abbrev pub invariant-loop-i : goal.invariant-loop-i
 invariant-loop-i g l =
-    l.output ≡ painted l.initial.output l.width l.i (λ i j _. g.T.Pixel.pixel (below_90 l.bit_depth (entries l.above.numbers) l.above.doubling (l.width + l.height) ((i + 1) * l.dx + 64) j))
+    l.output ≡ painted l.initial.output l.width l.i (λ i j _. g.T.Pixel.pixel (below_90 l.bit_depth (entries l.above.numbers) l.above.upsampling (l.width + l.height) ((i + 1) * l.dx + 64) j))

@@ -6,4 +6,4 @@ use Rattle.av1_intra.proofs.interpolation.rows_between.Given as goal
 
 abbrev pub invariant-loop-i : goal.invariant-loop-i
 invariant-loop-i g l =
-    l.output ≡ painted l.initial.output l.width l.i (λ i j _. g.T.Pixel.pixel (between l.bit_depth (entries l.above.numbers) l.above.doubling (entries l.left.numbers) l.left.doubling l.dx l.dy i j))
+    l.output ≡ painted l.initial.output l.width l.i (λ i j _. g.T.Pixel.pixel (between l.bit_depth (entries l.above.numbers) l.above.upsampling (entries l.left.numbers) l.left.upsampling l.dx l.dy i j))

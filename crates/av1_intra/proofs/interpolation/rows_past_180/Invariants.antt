@@ -6,4 +6,4 @@ use Rattle.av1_intra.proofs.interpolation.rows_past_180.Given as goal
 
 abbrev pub invariant-loop-i : goal.invariant-loop-i
 invariant-loop-i g l =
-    l.output ≡ painted l.initial.output l.width l.i (λ i j _. g.T.Pixel.pixel (at l.bit_depth (entries l.left.numbers) l.left.doubling ((j + 1) * l.dy + 64) i))
+    l.output ≡ painted l.initial.output l.width l.i (λ i j _. g.T.Pixel.pixel (at l.bit_depth (entries l.left.numbers) l.left.upsampling ((j + 1) * l.dy + 64) i))

@@ -18,8 +18,8 @@ pub row-requires-in-loop-r-clause-in_area : goal.row-requires-in-loop-r-clause-i
 row-requires-in-loop-r-clause-in_area g c =
     let b = c.args.block in
     let y = g.row.YDEC in
-    let rows = subst (λ n. min (b.height * 2 ^ n) (b.last_row + 2 ^ n) ≤ c.args.luma.now.place.height) c.requires.is_ydec c.requires.rows in
-    subst (λ n. n + y < c.args.luma.now.place.height) (sym c.min-y.ensures) (row_read y c.loop-r.r b.height b.last_row _ (omega (arith, c.requires.xdec, c.requires.ydec)) c.requires.height c.loop-r-test.true rows)
+    let rows = subst (λ n. min (b.height * 2 ^ n) (b.last_row + 2 ^ n) ≤ c.args.luma.now.area.height) c.requires.is_ydec c.requires.rows in
+    subst (λ n. n + y < c.args.luma.now.area.height) (sym c.min-y.ensures) (row_read y c.loop-r.r b.height b.last_row _ (omega (arith, c.requires.xdec, c.requires.ydec)) c.requires.height c.loop-r-test.true rows)
 
 pub luma_row-requires-clause-top_low : goal.luma_row-requires-clause-top_low
 luma_row-requires-clause-top_low g c = λ k h.
@@ -51,5 +51,7 @@ loop-r-preserved g c =
     let room : (r + 1) * w ≤ w * b.height = omega (arith, mul-le-mul_left w c.loop-r-test.true) in
     let p = c.loop-r.invariant ∙ ap (λ n. paint_row n G s) (mul_comm w r) in
     painted_rest (r * w) w ((r + 1) * w) _ G s c.loop-r.ac c.luma_row.new.row (omega arith) (omega (arith, room, c.requires.ac_long)) (omega arith) p c.luma_row.ensures (λ k v h.
-    ap pos (row_luma_of num c.args.luma.now b c.row.result.now c.row-in-loop-r.result.now r k (r * w + k) c.min-y.result g.row.XDEC g.row.YDEC c.requires.is_xdec c.requires.is_ydec c.requires.xdec c.requires.ydec (omega arith) refl c.min-y.ensures (omega (arith, c.requires.height, c.loop-r-test.true)) c.requires.columns c.row.ensures.value c.row-in-loop-r.ensures.value))
+    ap pos (row_luma_of num c.args.luma.now b c.row.result.now c.row-in-loop-r.result.now r k
+    (r * w + k) c.min-y.result g.row.XDEC g.row.YDEC c.requires.is_xdec c.requires.is_ydec c.requires.xdec c.requires.ydec (omega arith) refl c.min-y.ensures
+    (omega (arith, c.requires.height, c.loop-r-test.true)) c.requires.columns c.row.ensures.value c.row-in-loop-r.ensures.value))
     ∙ ap (λ n. paint_row n G s) (mul_comm (r + 1) w)

@@ -16,7 +16,8 @@ returns-in-NONE-clause-painted g c =
     let e = ap (λ v. dc v c.args.bit_depth c.args.width c.args.height E) c.in-NONE.is in
     let value = sym e in
     painted_same _ _ _ _ _ _ c.pred_cfl_128.ensures.painted (λ q p _ _ _.
-    ap g.T.Pixel.pixel (ap (λ (n : ℕ). from_luma c.args.bit_depth (to_z w16 (of_z w16 c.args.alpha)) n (ac_at c.args.width c.args.ac.now q p)) value ∙ ap (λ (z : ℤ). from_luma c.args.bit_depth z (dc c.args.variant c.args.bit_depth c.args.width c.args.height E) (ac_at c.args.width c.args.ac.now q p)) a))
+    ap g.T.Pixel.pixel (ap (λ (n : ℕ). from_luma c.args.bit_depth (to_z w16 (of_z w16 c.args.alpha)) n (ac_at c.args.width c.args.ac.now q p)) value ∙ ap
+    (λ (z : ℤ). from_luma c.args.bit_depth z (dc c.args.variant c.args.bit_depth c.args.width c.args.height E) (ac_at c.args.width c.args.ac.now q p)) a))
 
 pub returns-in-LEFT-clause-painted : goal.returns-in-LEFT-clause-painted
 returns-in-LEFT-clause-painted g c =
@@ -27,7 +28,8 @@ returns-in-LEFT-clause-painted g c =
     let l : c.args.height ≤ length c.args.left.now = rw c.in-LEFT.is at c.requires.left_long in
     let value = mean_beside num c.args.left.now c.beside-left.result.now c.args.height c.beside-left.ensures.last l ∙ sym e in
     painted_same _ _ _ _ _ _ c.pred_cfl_left.ensures.painted (λ q p _ _ _.
-    ap g.T.Pixel.pixel (ap (λ (n : ℕ). from_luma c.args.bit_depth (to_z w16 (of_z w16 c.args.alpha)) n (ac_at c.args.width c.args.ac.now q p)) value ∙ ap (λ (z : ℤ). from_luma c.args.bit_depth z (dc c.args.variant c.args.bit_depth c.args.width c.args.height E) (ac_at c.args.width c.args.ac.now q p)) a))
+    ap g.T.Pixel.pixel (ap (λ (n : ℕ). from_luma c.args.bit_depth (to_z w16 (of_z w16 c.args.alpha)) n (ac_at c.args.width c.args.ac.now q p)) value ∙ ap
+    (λ (z : ℤ). from_luma c.args.bit_depth z (dc c.args.variant c.args.bit_depth c.args.width c.args.height E) (ac_at c.args.width c.args.ac.now q p)) a))
 
 pub returns-in-TOP-clause-painted : goal.returns-in-TOP-clause-painted
 returns-in-TOP-clause-painted g c =
@@ -37,7 +39,8 @@ returns-in-TOP-clause-painted g c =
     let e = ap (λ v. dc v c.args.bit_depth c.args.width c.args.height E) c.in-TOP.is in
     let value = ap mean (sym (take-map num c.args.width c.args.above.now)) ∙ sym e in
     painted_same _ _ _ _ _ _ c.pred_cfl_top.ensures.painted (λ q p _ _ _.
-    ap g.T.Pixel.pixel (ap (λ (n : ℕ). from_luma c.args.bit_depth (to_z w16 (of_z w16 c.args.alpha)) n (ac_at c.args.width c.args.ac.now q p)) value ∙ ap (λ (z : ℤ). from_luma c.args.bit_depth z (dc c.args.variant c.args.bit_depth c.args.width c.args.height E) (ac_at c.args.width c.args.ac.now q p)) a))
+    ap g.T.Pixel.pixel (ap (λ (n : ℕ). from_luma c.args.bit_depth (to_z w16 (of_z w16 c.args.alpha)) n (ac_at c.args.width c.args.ac.now q p)) value ∙ ap
+    (λ (z : ℤ). from_luma c.args.bit_depth z (dc c.args.variant c.args.bit_depth c.args.width c.args.height E) (ac_at c.args.width c.args.ac.now q p)) a))
 
 pub returns-in-BOTH-clause-painted : goal.returns-in-BOTH-clause-painted
 returns-in-BOTH-clause-painted g c =
@@ -48,4 +51,5 @@ returns-in-BOTH-clause-painted g c =
     let l : c.args.height ≤ length c.args.left.now = rw c.in-BOTH.is at c.requires.left_long in
     let value = mean_both num c.args.left.now c.beside-left-in-BOTH.result.now c.args.height c.beside-left-in-BOTH.ensures.last l c.args.width c.args.above.now (omega (arith, l, c.beside-left-in-BOTH.ensures.len)) ∙ sym e in
     painted_same _ _ _ _ _ _ c.pred_cfl.ensures.painted (λ q p _ _ _.
-    ap g.T.Pixel.pixel (ap (λ (n : ℕ). from_luma c.args.bit_depth (to_z w16 (of_z w16 c.args.alpha)) n (ac_at c.args.width c.args.ac.now q p)) value ∙ ap (λ (z : ℤ). from_luma c.args.bit_depth z (dc c.args.variant c.args.bit_depth c.args.width c.args.height E) (ac_at c.args.width c.args.ac.now q p)) a))
+    ap g.T.Pixel.pixel (ap (λ (n : ℕ). from_luma c.args.bit_depth (to_z w16 (of_z w16 c.args.alpha)) n (ac_at c.args.width c.args.ac.now q p)) value ∙ ap
+    (λ (z : ℤ). from_luma c.args.bit_depth z (dc c.args.variant c.args.bit_depth c.args.width c.args.height E) (ac_at c.args.width c.args.ac.now q p)) a))

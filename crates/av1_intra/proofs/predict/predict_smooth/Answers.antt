@@ -45,4 +45,5 @@ returns-in_default-clause-painted g c =
     let h = c.args.height in
     let same = from_top_beside num c.args.left.now c.beside-left.result.now h c.beside-left.ensures.last c.requires.left_long in
     painted_same _ _ _ _ _ _ c.pred_paeth.ensures.painted (λ q p _ k _.
-    ap g.T.Pixel.pixel (ap (λ n. paeth (numbers num c.args.above.now p) n (num c.args.corner)) (same q k) ∙ smoothly_nearest c.args.mode c.args.width h (edge_round num c.args.left.now (num c.args.corner) c.args.above.now) q p c.in_default.not-SMOOTH_PRED c.in_default.not-SMOOTH_V_PRED c.in_default.not-SMOOTH_H_PRED))
+    ap g.T.Pixel.pixel (ap (λ n. paeth (numbers num c.args.above.now p) n (num c.args.corner)) (same q k) ∙ smoothly_nearest c.args.mode c.args.width h
+    (edge_round num c.args.left.now (num c.args.corner) c.args.above.now) q p c.in_default.not-SMOOTH_PRED c.in_default.not-SMOOTH_V_PRED c.in_default.not-SMOOTH_H_PRED))

@@ -7,9 +7,9 @@ use Rattle.av1_intra.specs.declared.directional.DirectionalBlock.{DirectionalBlo
 use Rattle.av1_intra.proofs.Ranges.{delta_is}
 use Rattle.av1_intra.proofs.prepared_side.filter_side.Goals as goal
 
--- what a strength and a doubling make of a side
+-- what a strength and upsampling make of a side
 abbrev made : DirectionalBlock → ℕ → ℕ → Side → ℕ → Bool → Side
-made b n m A strength double = cond double (upsampled b.bit_depth m (filtered n strength A)) (filtered n strength A)
+made b n m A strength upsample = cond upsample (upsampled b.bit_depth m (filtered n strength A)) (filtered n strength A)
 
 -- and what the choice of the filter does
 abbrev chosen : DirectionalBlock → ℕ → ℕ → ℕ → Side → Bool → Side
@@ -32,8 +32,8 @@ returns-in-Some-clause-numbers c =
     let A = entries c.args.numbers.now in
     let smooth = c.in-Some.smooth in
     let m : c.select_ief_strength-strength.result ≡ filter_strength s smooth d = c.select_ief_strength-strength.ensures.value ∙ ap (filter_strength s smooth) q in
-    let n : c.select_ief_upsample-double.result ≡ is_upsampled s smooth d = c.select_ief_upsample-double.ensures ∙ ap (is_upsampled s smooth) q in
+    let n : c.select_ief_upsample-upsample.result ≡ is_upsampled s smooth d = c.select_ief_upsample-upsample.ensures ∙ ap (is_upsampled s smooth) q in
     c.prepare.ensures
-    ∙ ap (λ k. made b c.args.smoothed c.args.places A k c.select_ief_upsample-double.result) m
+    ∙ ap (λ k. made b c.args.smoothed c.args.places A k c.select_ief_upsample-upsample.result) m
     ∙ ap (made b c.args.smoothed c.args.places A (filter_strength s smooth d)) n
     ∙ sym (ap (λ f. filter_choice f A (chosen b d c.args.smoothed c.args.places A)) c.in-Some.is)

@@ -6,4 +6,5 @@ use Rattle.av1_intra.proofs.smooth.pred_smooth.Given as goal
 
 abbrev pub invariant-loop-r : goal.invariant-loop-r
 invariant-loop-r g l =
-    l.output ≡ painted l.initial.output l.width l.r (λ r c _. g.T.Pixel.pixel ((mix (slice_index l.row_weights r) (numbers g.T.Pixel.num l.above c) (numbers g.T.Pixel.num l.left 0) + mix (slice_index l.column_weights c) (numbers g.T.Pixel.num l.left (l.height - 1 - r)) (numbers g.T.Pixel.num l.above (l.width - 1)) + 256) / 512))
+    l.output ≡ painted l.initial.output l.width l.r (λ r c _. g.T.Pixel.pixel ((mix (slice_index l.row_weights r) (numbers g.T.Pixel.num l.above c) (numbers g.T.Pixel.num l.left 0) + mix
+    (slice_index l.column_weights c) (numbers g.T.Pixel.num l.left (l.height - 1 - r)) (numbers g.T.Pixel.num l.above (l.width - 1)) + 256) / 512))

@@ -1,7 +1,7 @@
 use Rattle.std.proofs.Common.{arith, rules, ◌≡◌, ◌+◌, ◌*◌, ◌%◌, ◌∙◌, ap, refl, get_or, pos, ◌-ℤ◌, to_z, of_z, w32, FitsSigned}
 use Rattle.std.proofs.lemmas.Int.{ints, to_z-of_z}
 use Rattle.av1_dct.specs.Arithmetic.{at}
-use Rattle.av1_dct.specs.Cosine.{by_index}
+use Rattle.av1_lists.specs.Lists.{by_index}
 use Rattle.av1_itx.specs.Adst.{adst_out}
 use Rattle.av1_itx.proofs.Fills.{IsBegun-start, IsBegun-pair, IsBegun-end}
 use Rattle.av1_itx.proofs.Order.{out-even, out-odd}

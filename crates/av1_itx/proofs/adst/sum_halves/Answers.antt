@@ -1,7 +1,7 @@
 use Rattle.std.proofs.Common.{arith, rules, ◌≡◌, ◌+◌, ◌/◌, ◌∙◌, ap, sym, length, ◌+ℤ◌, ◌-ℤ◌, w32, FitsSigned}
 use Rattle.std.proofs.lemmas.Int.{to_z-of_z}
 use Rattle.av1_dct.specs.Arithmetic.{at}
-use Rattle.av1_dct.specs.Cosine.{by_index}
+use Rattle.av1_lists.specs.Lists.{by_index}
 use Rattle.av1_dct.proofs.Sums.{sum_fits, difference_fits}
 use Rattle.av1_itx.specs.Adst.{adst_sum}
 use Rattle.av1_itx.proofs.Fills.{pair_fits, IsHalved-start, IsHalved-more, IsHalved-end}

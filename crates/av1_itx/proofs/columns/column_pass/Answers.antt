@@ -10,4 +10,6 @@ returns-clause-value c = λ r q hr hq.
     let told : c.is_cosine.result ≡ true = grind (arith, tests, c.if-not-is_cosine.false) in
     let P : ℕ → Type 0 = λ w. at c.run.new.buffer (r * w + q) ≡ at (column_network size c.args.tx_type c.args.bd (λ y. at c.args.buffer.now (y * w + q))) r in
     subst P c.width-w.ensures.value
-    (lanes_value size c.args.tx_type c.args.bd _ _ _ _ r c.get_1d_tx_types-kind.result.0 (λ y. at c.args.buffer.now (y * c.width-w.result + q)) _ (sym c.is_cosine.ensures ∙ told) c.get_1d_tx_types-kind.ensures.column c.height-h.ensures.value (ap (λ n. n - 1) c.height_log2-k.ensures.value) c.row_shift_of.ensures.value c.max.ensures (c.run.ensures.value r q (omega arith) (omega arith)))
+    (lanes_value size c.args.tx_type c.args.bd _ _ _ _ r c.get_1d_tx_types-kind.result.0 (λ y. at c.args.buffer.now (y * c.width-w.result + q)) _
+    (sym c.is_cosine.ensures ∙ told) c.get_1d_tx_types-kind.ensures.column c.height-h.ensures.value (ap (λ n. n - 1) c.height_log2-k.ensures.value) c.row_shift_of.ensures.value c.max.ensures
+    (c.run.ensures.value r q (omega arith) (omega arith)))

@@ -1,12 +1,12 @@
 use Rattle.std.proofs.Common.{arith, ℕ, ℤ, ◌≡◌, ◌-◌, ◌+◌, ◌*◌, ◌<◌, ◌∙◌, ap, sym, subst, length}
 use Rattle.av1_blocks.specs.Transforms.{tx_width, tx_height}
 use Rattle.av1_dct.specs.Arithmetic.{at, FitsBits, clamp_value}
-use Rattle.av1_dct.specs.Cosine.{by_index}
+use Rattle.av1_lists.specs.Lists.{by_index}
 use Rattle.av1_dct.proofs.Fits.{clamp_value-fits}
 use Rattle.av1_frame.specs.Arithmetic.{round_shift}
 use Rattle.av1_itx.specs.Networks.{network}
 use Rattle.av1_itx.specs.Residue.{column_network}
-use Rattle.av1_itx.proofs.Fills.{by_index-ext}
+use Rattle.av1_lists.proofs.Lists.{by_index-same}
 use Rattle.av1_itx.proofs.Lines.{place_in}
 use Rattle.av1_itx.proofs.Single.{by_rows, column_value}
 use Rattle.av1_itx.proofs.columns.run_columns.Goals as goal
@@ -38,7 +38,7 @@ returns c = λ r q hr hq.
     let qw : q < w = omega arith in
     let long : h * w ≡ length old = ap (λ n. n * w) c.height-h.ensures.value ∙ ap (λ n. tx_height size * n) c.width-w.ensures.value ∙ sym c.requires.buffer_len in
     let rounded : by_index h (λ y. at B (y * w + q)) ≡ by_index h (λ y. clamp_value (round_shift (at old (y * w + q)) shift) range) =
-    by_index-ext h _ _ (λ y hy. c.round_values.ensures (y * w + q) (subst (λ n. y * w + q < n) long (place_in y q w h hy qw))) in
+    by_index-same h _ _ (λ y hy. c.round_values.ensures (y * w + q) (subst (λ n. y * w + q < n) long (place_in y q w h hy qw))) in
     let P : ℕ → Type 0 = λ n. at c.transform_columns.new.buffer (r * n + q) ≡ at (column_network size c.args.tx_type c.args.bd (λ y. at old (y * n + q))) r in
     subst P c.width-w.ensures.value
     (column_value size c.args.tx_type c.args.bd h k shift range r kind (λ y. at old (y * w + q)) _ c.get_1d_tx_types-kind.ensures.column c.height-h.ensures.value (ap (λ n. n - 1) c.height_log2-k.ensures.value) c.row_shift_of.ensures.value c.max-range.ensures

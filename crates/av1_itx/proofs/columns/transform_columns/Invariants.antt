@@ -1,6 +1,6 @@
 use Rattle.std.proofs.Common.{◌≡◌, ℕ, ◌<◌, ◌+◌, ◌*◌, cond, ltb}
 use Rattle.av1_dct.specs.Arithmetic.{at}
-use Rattle.av1_dct.specs.Cosine.{by_index}
+use Rattle.av1_lists.specs.Lists.{by_index}
 use Rattle.av1_itx.specs.Networks.{network}
 use Rattle.av1_itx.proofs.columns.transform_columns.Given as goal
 

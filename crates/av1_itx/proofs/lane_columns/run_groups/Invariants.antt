@@ -1,7 +1,8 @@
 use Rattle.std.proofs.Common.{◌≡◌, ℕ, ◌<◌, ◌+◌, ◌*◌, cond, ltb}
 use Rattle.av1_dct.specs.Arithmetic.{at, clamp_value}
 use Rattle.av1_dct.specs.Counts.{raised}
-use Rattle.av1_dct.specs.Cosine.{by_index, cosine}
+use Rattle.av1_dct.specs.Cosine.{cosine}
+use Rattle.av1_lists.specs.Lists.{by_index}
 use Rattle.av1_frame.specs.Arithmetic.{round_shift}
 use Rattle.av1_itx.proofs.lane_columns.run_groups.Given as goal
 

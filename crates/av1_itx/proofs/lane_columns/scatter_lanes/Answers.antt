@@ -12,5 +12,6 @@ loop-r-preserved c =
     let line = c.args.line.now in
     let v : List ℤ = get_or line c.loop-r.r [] in
     let b : Bits (map (of_z w32) v) = record { eight = omega (arith, length-map v (of_z w32)); fit = search rules } in
-    lanes_row c.args.w c.args.c _ c.loop-r.r (λ r q. at (column lane_of_vector (q - c.args.c) line) r) (λ r q. at c.args.buffer.now (r * c.args.w + q)) (λ i. lane_of_vector (map (to_z w32) (map (of_z w32) v)) i) c.loop-r.buffer c.scatter_eight.new.buffer c.requires.columns_in (omega arith) c.scatter_eight.ensures c.loop-r.invariant
+    lanes_row c.args.w c.args.c _ c.loop-r.r (λ r q. at (column lane_of_vector (q - c.args.c) line) r) (λ r q. at c.args.buffer.now (r * c.args.w + q))
+    (λ i. lane_of_vector (map (to_z w32) (map (of_z w32) v)) i) c.loop-r.buffer c.scatter_eight.new.buffer c.requires.columns_in (omega arith) c.scatter_eight.ensures c.loop-r.invariant
     (λ q lo hi. stored v (q - c.args.c) (omega arith) b ∙ column_read (q - c.args.c) line c.loop-r.r (omega arith))

@@ -22,7 +22,9 @@ loop-r-preserved g c =
     let n = c.loop-r.r * w + w - c.loop-r.r * w in
     let is_n : n ≡ w = omega arith in
     let part = part_len (c.loop-r.r * w) n c.loop-r.buffer (omega arith) in
-    rows_more w c.loop-r.r n (λ q k. at (transformed_row c.args.tx_size c.args.tx_type c.args.bd (map g.C.Coefficient.val c.args.input.now) q) k) c.loop-r.buffer c.run_row.new.output c.loop-r.invariant is_n (c.run_row.auto.output ∙ part ∙ is_n) (omega arith) (λ k h. c.run_row.ensures k (omega arith) ∙ scaled_row c.args.tx_size c.args.tx_type c.args.bd (map g.C.Coefficient.val c.args.input.now) c.scale_all.new.scaled c.loop-r.r k (omega arith) (λ i l. c.scale_all.ensures i (omega arith)))
+    rows_more w c.loop-r.r n (λ q k. at (transformed_row c.args.tx_size c.args.tx_type c.args.bd
+    (map g.C.Coefficient.val c.args.input.now) q) k) c.loop-r.buffer c.run_row.new.output c.loop-r.invariant is_n (c.run_row.auto.output ∙ part ∙ is_n) (omega arith)
+    (λ k h. c.run_row.ensures k (omega arith) ∙ scaled_row c.args.tx_size c.args.tx_type c.args.bd (map g.C.Coefficient.val c.args.input.now) c.scale_all.new.scaled c.loop-r.r k (omega arith) (λ i l. c.scale_all.ensures i (omega arith)))
 
 pub returns : goal.returns
 returns g c =
@@ -35,7 +37,9 @@ returns g c =
     let f = λ (y x : ℕ). at (transformed_row c.args.tx_size c.args.tx_type c.args.bd cs y) x in
     let few : q ≤ tx_height c.args.tx_size = omega arith in
     let room = mul-le-mul_right w few in
-    let all = rows_end w q n (tx_height c.args.tx_size) f c.loop-r.buffer c.clear.new.line (λ y x hy hx. c.loop-r.invariant y x (omega arith) hx) (omega arith) whole (omega arith) (c.clear.auto.line ∙ part_len (q * w) n c.loop-r.buffer (omega arith)) c.clear.ensures (λ y x hy. row_past c.args.tx_size c.args.tx_type c.args.bd cs y x (omega arith)) in
+    let all =
+    rows_end w q n (tx_height c.args.tx_size) f c.loop-r.buffer c.clear.new.line (λ y x hy hx. c.loop-r.invariant y x (omega arith) hx) (omega arith) whole (omega arith)
+    (c.clear.auto.line ∙ part_len (q * w) n c.loop-r.buffer (omega arith)) c.clear.ensures (λ y x hy. row_past c.args.tx_size c.args.tx_type c.args.bd cs y x (omega arith)) in
     λ y x hy hx.
     let P : ℕ → Type 0 = λ m. at (put (q * w) n c.loop-r.buffer c.clear.new.line) (y * m + x) ≡ f y x in
     subst P c.width-w.ensures.value (all y x hy (omega arith))

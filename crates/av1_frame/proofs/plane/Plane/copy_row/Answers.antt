@@ -18,7 +18,8 @@ copy_part-requires-clause-to g c =
 
 pub loop-y-preserved : goal.loop-y-preserved
 loop-y-preserved g c =
-    copied_more c.args.self.now c.loop-y.self _ c.config-stride.result.stride c.loop-y.y c.requires.whole (ap (λ i. i.stride) c.config-stride.ensures) (omega arith) c.args.from c.args.first c.args.end c.requires.from (omega arith) c.loop-y-test.true c.requires.apart c.loop-y.invariant c.copy_part.ensures
+    copied_more c.args.self.now c.loop-y.self _ c.config-stride.result.stride c.loop-y.y c.requires.whole (ap (λ i. i.stride) c.config-stride.ensures)
+    (omega arith) c.args.from c.args.first c.args.end c.requires.from (omega arith) c.loop-y-test.true c.requires.apart c.loop-y.invariant c.copy_part.ensures
 
 pub returns : goal.returns
 returns g c =

@@ -1,4 +1,4 @@
-use Rattle.std.proofs.Common.{ℕ, ◌+◌, ◌<◌, ◌≡◌, List, length, get_or, map, inl, inr, arith, subst, sym, ap, ◌∙◌}
+use Rattle.std.proofs.Common.{ℕ, ◌+◌, ◌<◌, List, length, get_or, map, inl, inr, arith, subst, sym, ap, ◌∙◌}
 use Rattle.std.specs.Prelude.{All}
 use Rattle.std.proofs.lemmas.Bool.{cases_lt}
 use Rattle.std.proofs.lemmas.List.{map-id, get_or_past}
@@ -17,5 +17,5 @@ byte xs i h = elim (cases_lt i (length xs)) [
 pub leaf_luma_ac-requires-clause-low : goal.leaf_luma_ac-requires-clause-low
 leaf_luma_ac-requires-clause-low c = λ x y h k.
     let r = c.as_region.result in
-    let i = row_start r.plane_cfg.stride r.place (first_row c.args.leaf + y) + (first_column c.args.leaf + x) in
+    let i = row_start r.plane_cfg.stride r.area (first_row c.args.leaf + y) + (first_column c.args.leaf + x) in
     subst (λ (s : List ℕ). get_or s i 0 < 4096) (sym (ap (λ p. map (λ (s : ℕ). s) p.samples) c.as_region.ensures.plane ∙ ap (map (λ (s : ℕ). s)) c.in_ok-plane.ensures.samples ∙ map-id c.args.samples.now)) (byte c.args.samples.now i c.requires.small)

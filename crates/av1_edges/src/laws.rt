@@ -1,0 +1,19 @@
+//! Laws of edges, for the crates above: they do nothing when they run.
+
+ghost use Rattle.std.specs.Prelude.{ℕ, ◌^◌, ◌<◌, ◌≤◌, Bool, Option};
+ghost use Rattle.av1_blocks.specs.declared.predict.PredictionMode.{PredictionMode};
+ghost use Rattle.av1_blocks.specs.declared.predict.IntraParam.{IntraParam};
+ghost use Rattle.av1_frame.specs.declared.plane_region.PlaneRegion.{PlaneRegion};
+ghost use Rattle.av1_edges.specs.declared.position.TransformPosition.{TransformPosition};
+ghost use Rattle.av1_edges.specs.Edges.{region_sample, visible_columns, visible_rows, prepared_edge};
+ghost use Rattle.av1_edges.specs.Within.{EdgeIsWithin};
+
+use av1_frame::Pixel;
+
+/// The edge of a transform in the visible part of a region whose visible samples lie within the depth lies within it too, for every mode.
+pub fn prepared_edges_lie_within<T: Pixel>()
+    ensures { (r : PlaneRegion T) (at : TransformPosition) (depth : ℕ) (mode : Option PredictionMode) (filter : Bool) (param : IntraParam) → 8 ≤ depth
+        → at.x < visible_columns r → at.y < visible_rows r
+        → ((x y : ℕ) → x < visible_columns r → y < visible_rows r → region_sample T.num r x y < 2 ^ depth)
+        → EdgeIsWithin depth (prepared_edge T.num r at depth mode filter param) }
+{}

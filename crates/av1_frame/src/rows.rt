@@ -1,0 +1,49 @@
+//! Rows of samples, one sample after another, and rows of zeros.
+
+ghost use Rattle.std.specs.Prelude.{◌≡◌, ◌≤◌, length, slice_index_or, pos, IfOk, replicate, vec_len};
+ghost use Rattle.av1_frame.specs.Samples.{paint_row};
+
+use crate::pixel::{Coefficient, Pixel};
+use std::alloc::{AllocError, Global};
+
+/// The first `width` samples of the row become `value`.
+#[inline]
+#[tactic(auto, using(crate::proofs::Paint::row_painting))]
+pub fn fill_row<T: Pixel>(row: &mut [T], value: T, width: usize)
+    requires { width ≤ length row.old }
+    ensures { row.new ≡ paint_row width (λ _ _. value) row.old }
+{
+    for c in 0..width {
+        row[c] = value;
+    }
+}
+
+/// The first `width` samples of the row become those of `source`.
+#[inline]
+pub fn copy_row<T: Pixel>(row: &mut [T], source: &[T], width: usize)
+    requires row_long { width ≤ length row.old }
+    requires source_long { width ≤ length source.now }
+    ensures { row.new ≡ paint_row width (λ c v. slice_index_or source.now c v) row.old }
+{
+    row[..width].copy_from_slice(&source[..width]);
+}
+
+/// `count` zero samples.
+pub fn zero_samples<T: Pixel>(alloc: Global, count: usize) -> Result<Vec<T>, AllocError>
+    ensures zeros { IfOk result (λ samples. samples.items ≡ replicate count (T.pixel 0)) }
+    ensures len { IfOk result (λ samples. vec_len samples ≡ count) }
+{
+    let mut samples = Vec::new(alloc);
+    samples.resize(count, T::from_u32(0))?;
+    Ok(samples)
+}
+
+/// `count` zero coefficients.
+pub fn zero_coefficients<C: Coefficient>(alloc: Global, count: usize) -> Result<Vec<C>, AllocError>
+    ensures zeros { IfOk result (λ coefficients. coefficients.items ≡ replicate count (C.coefficient (pos 0))) }
+    ensures len { IfOk result (λ coefficients. vec_len coefficients ≡ count) }
+{
+    let mut coefficients = Vec::new(alloc);
+    coefficients.resize(count, C::from_i32(0))?;
+    Ok(coefficients)
+}

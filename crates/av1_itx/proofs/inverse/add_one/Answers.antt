@@ -1,5 +1,0 @@
-use Rattle.av1_itx.proofs.Widths.{below_depth}
-use Rattle.av1_itx.proofs.inverse.add_one.Goals as goal
-
-pub from_u32-requires : goal.from_u32-requires
-from_u32-requires g c = below_depth _ _ _ c.clip_to.ensures.fits c.requires.depth_in
