@@ -1,9 +1,10 @@
 -- A block is a leaf or a node, and what its parts are by its mark.
 use Rattle.std.proofs.Common.{◌≡◌, ℕ, zero, suc, ◌+◌, ◌-◌, ◌<◌, refl, arith}
 use Rattle.av1_blocks.specs.declared.partition.BlockSize.TheVariants.{BLOCK_4X4}
+use Rattle.av1_blocks.specs.declared.partition.PartitionType.TheVariants.{PARTITION_HORZ, PARTITION_VERT}
 use Rattle.av1_plan.specs.declared.header.Header.{Header}
 use Rattle.av1_plan.specs.Format.{one}
-use Rattle.av1_plan.specs.Grammar.{half_side, whole_size, wide_size, tall_size}
+use Rattle.av1_plan.specs.Grammar.{half_side, whole_size, part_size}
 use Rattle.av1_generate.specs.Draft.{Draft, writes, draws, ◌>>◌}
 use Rattle.av1_generate.specs.Generator.{part, parts, block}
 
@@ -26,12 +27,12 @@ unfolding parts
 none_parts h level quarter x y mark e = rw e refl
 
 pub horz_parts : (h : Header) (level : ℕ) (quarter : ℕ → ℕ → Draft) (x y mark : ℕ) → mark ≡ 1
-    → parts h level quarter x y mark ≡ (part h (wide_size level) x y >> part h (wide_size level) x (y + half_side level))
+    → parts h level quarter x y mark ≡ (part h (part_size level PARTITION_HORZ) x y >> part h (part_size level PARTITION_HORZ) x (y + half_side level))
 unfolding parts
 horz_parts h level quarter x y mark e = rw e refl
 
 pub vert_parts : (h : Header) (level : ℕ) (quarter : ℕ → ℕ → Draft) (x y mark : ℕ) → mark ≡ 2
-    → parts h level quarter x y mark ≡ (part h (tall_size level) x y >> part h (tall_size level) (x + half_side level) y)
+    → parts h level quarter x y mark ≡ (part h (part_size level PARTITION_VERT) x y >> part h (part_size level PARTITION_VERT) (x + half_side level) y)
 unfolding parts
 vert_parts h level quarter x y mark e = rw e refl
 

@@ -65,7 +65,7 @@ chroma_first number x y size s q lt_x lt_y = record { block = chroma_block numbe
 
 -- the coefficients in a plane fit
 abbrev FitIn : ℕ → ℕ → ℕ → BlockSize → TxSize → ℕ → List Triple → Type 0
-FitIn number x y size s p ts = are_coefficients (frame number) p (plane_area (frame number) x y size s p) None ts ≡ true
+FitIn number x y size s p ts = are_coefficients (frame number) p (plane_area (frame number) x y size s p) ts ≡ true
 
 -- those of U and V do, where chroma is carried
 abbrev FitChroma : ℕ → ℕ → ℕ → BlockSize → TxSize → Bool → List (List Triple) → Type 0

@@ -1,17 +1,12 @@
 -- The kind of a leaf that is drawn is of the plan grammar, and fits the leaf.
-use Rattle.std.proofs.Common.{◌≡◌, ℕ, zero, suc, ◌+◌, ◌<◌, ◌≤◌, Bool, true, false, ◌&&◌, ◌||◌, not, if◌then◌else◌, [], ◌∷◌, Some, None, slice_index_or, refl, arith, lit<, lit≤, w8, w16}
+use Rattle.std.proofs.Common.{◌≡◌, ℕ, zero, suc, ◌+◌, ◌<◌, ◌≤◌, Bool, true, false, ◌||◌, not, if◌then◌else◌, [], ◌∷◌, Some, None, refl, arith, lit<, lit≤, w8, w16}
 use Rattle.std.specs.Prelude.{nat_le, nat_lt, nat_abs, ◌==◌}
 use Rattle.std.specs.Int.{cast_signed, is_in_range}
 use Rattle.std.proofs.lemmas.Bool.{lt-ltb, le-ltb, eqb-true, eqb-false}
 use Rattle.av1_blocks.specs.declared.mc.MotionVector.{MotionVector}
 use Rattle.av1_blocks.specs.declared.partition.BlockSize.{BlockSize}
 use Rattle.av1_blocks.specs.declared.partition.RefType.{RefType}
-use Rattle.av1_blocks.specs.declared.partition.RefType.TheVariants.{INTRA_FRAME}
-use Rattle.av1_blocks.specs.declared.partition.TheConstants.RefType as references_by_number
 use Rattle.av1_blocks.specs.declared.predict.PredictionMode.{PredictionMode}
-use Rattle.av1_blocks.specs.declared.predict.PredictionMode.TheVariants.{DC_PRED}
-use Rattle.av1_blocks.specs.declared.predict.TheConstants.PredictionMode as modes
-use Rattle.av1_blocks.specs.Blocks.{block_width, block_height}
 use Rattle.av1_blocks.specs.Modes.{is_cfl}
 use Rattle.av1_plan.specs.declared.built.Field.TheVariants as fields
 use Rattle.av1_plan.specs.declared.header.Header.{Header}
@@ -21,17 +16,14 @@ use Rattle.av1_plan.specs.declared.leaf.LeafKind.{LeafKind}
 use Rattle.av1_plan.specs.declared.leaf.LeafKind.TheVariants.{Intra, Single, Compound}
 use Rattle.av1_plan.specs.Format.{one, two, Format, done, ◌>>=◌, field}
 use Rattle.av1_plan.specs.Geometry.{has_slot}
-use Rattle.av1_plan.specs.Grammar.{byte_from, signed_byte, half}
+use Rattle.av1_plan.specs.Grammar.{byte_from, signed_byte, u16_field}
 use Rattle.av1_plan.specs.Grammar as grammar
-use Rattle.av1_plan.specs.Validity.{is_step, is_chroma_from_luma, is_chroma_mode, is_inter_size, has_modes, is_valid_vector, has_vectors, has_reference, has_references}
+use Rattle.av1_plan.specs.Validity.{is_step, cfl_allowed, is_chroma_from_luma, is_chroma_mode, is_inter_size, has_modes, is_valid_component, is_valid_vector, has_vectors, has_reference, has_references}
 use Rattle.av1_generate.specs.Draft.{writes, draws, ◌>>◌, only_if}
-use Rattle.av1_generate.specs.Generator.{less, frame, step, weight, chroma_step, chroma_modes, chroma_mode, intra, component, motion, single, compound, kind_of, may_be_inter, kind}
-use Rattle.av1_generate.proofs.Below.{all_below, below, byte_is, signed_is, half_is}
+use Rattle.av1_generate.specs.Generator.{less, frame, step, weight, chroma_step, chroma_modes, chroma_mode, intra, component, motion, single, compound, kind_of, kind}
+use Rattle.av1_plan.proofs.Numbers.{all_below, below, mode_of, reference_of_number}
+use Rattle.av1_generate.proofs.FieldKinds.{byte_is, signed_is, u16_is}
 use Rattle.av1_generate.proofs.Fills.{Fills, follows, ends, fills_done, asked, asked_last, weaker, drawing}
-
--- the mode with this number
-abbrev mode_of : ℕ → PredictionMode
-mode_of number = slice_index_or modes.ALL number DC_PRED
 
 -- ---- steps and weights
 
@@ -80,7 +72,7 @@ wide_by false lt = absurd (omega arith)
 weights_are : (size : BlockSize) (u v : ℕ) → 13 < chroma_modes size → nat_le (nat_abs (cast_signed w8 u)) 16 ≡ true → nat_le (nat_abs (cast_signed w8 v)) 16 ≡ true
     → is_chroma_mode size (Cfl (cast_signed w8 u) (cast_signed w8 v)) ≡ true
 unfolding is_chroma_mode is_chroma_from_luma chroma_modes
-weights_are size u v lt pu pv = rw (pu, pv) (wide_by (nat_le (block_width size) 32 && nat_le (block_height size) 32) lt)
+weights_are size u v lt pu pv = rw (pu, pv) (wide_by (cfl_allowed size) lt)
 
 chroma_by : (b : Bool) (size : BlockSize) (mode : ℕ) → (mode == 13) ≡ b → mode < chroma_modes size → mode < 14
     → Fills (if b then weight >> weight else step mode) (if b then weights else plain mode) 2 (λ c. is_chroma_mode size c ≡ true)
@@ -97,7 +89,7 @@ chroma_by false size mode e lt lt_14 =
 
 few_modes : (size : BlockSize) → (0 < chroma_modes size) × (chroma_modes size ≤ 14)
 unfolding chroma_modes
-few_modes size = by (nat_le (block_width size) 32 && nat_le (block_height size) 32)
+few_modes size = by (cfl_allowed size)
   where
     by : (b : Bool) → (0 < (if b then 14 else 13)) × ((if b then 14 else 13) ≤ 14)
     by true = (lit< tt, lit≤ tt)
@@ -147,17 +139,14 @@ intra_fills h size carried =
 
 -- ---- leaves with references
 
-component_is : (v : ℕ) → v < 257 → nat_lt (nat_abs (cast_signed w16 (less two v 128))) 16384 ≡ true
-unfolding less
-component_is v lt = below 257 (λ v. nat_lt (nat_abs (cast_signed w16 (less two v 128))) 16384) refl v lt
+component_is : (v : ℕ) → v < 257 → is_valid_component (cast_signed w16 (less two v 128)) ≡ true
+unfolding less is_valid_component
+component_is v lt = below 257 (λ v. is_valid_component (cast_signed w16 (less two v 128))) refl v lt
 
-component_fills : Fills component (field (half fields.Vector)) 2 (λ v. nat_lt (nat_abs (cast_signed w16 v)) 16384 ≡ true)
+component_fills : Fills component (field (u16_field fields.Vector)) 2 (λ v. is_valid_component (cast_signed w16 v) ≡ true)
 unfolding component
 component_fills = drawing 257 (λ v. writes two (less two v 128)) (lit< tt) (λ v lt.
-    asked_last (half fields.Vector) (λ v. done v) (less two v 128) (half_is fields.Vector v 128) (fills_done (less two v 128) (component_is v lt)))
-
-abbrev reference_of : ℕ → RefType
-reference_of number = slice_index_or references_by_number.ALL number INTRA_FRAME
+    asked_last (u16_field fields.Vector) (λ v. done v) (less two v 128) (u16_is fields.Vector v 128) (fills_done (less two v 128) (component_is v lt)))
 
 abbrev vector_of : ℕ → ℕ → MotionVector
 vector_of row col = record { row = cast_signed w16 row; col = cast_signed w16 col }
@@ -167,25 +156,25 @@ record IsMotion (h : Header) (reference : RefType) (v : MotionVector) : Type 0 w
   pub present : has_reference h reference ≡ true
   pub short : is_valid_vector v ≡ true
 
-reference_is : (number v : ℕ) → v < 7 → has_reference (frame number) (reference_of (1 + v)) ≡ true
+reference_is : (number v : ℕ) → v < 7 → has_reference (frame number) (reference_of_number (1 + v)) ≡ true
 unfolding frame has_reference has_slot
-reference_is number v lt = below 7 (λ v. has_reference (frame number) (reference_of (1 + v))) refl v lt
+reference_is number v lt = below 7 (λ v. has_reference (frame number) (reference_of_number (1 + v))) refl v lt
 
-reference_fills : (number : ℕ) → Fills (draws 7 (λ v. writes one (1 + v))) (field (byte_from fields.Reference 1 7)) 1 (λ v. has_reference (frame number) (reference_of v) ≡ true)
+reference_fills : (number : ℕ) → Fills (draws 7 (λ v. writes one (1 + v))) (field (byte_from fields.Reference 1 7)) 1 (λ v. has_reference (frame number) (reference_of_number v) ≡ true)
 reference_fills number = drawing 7 (λ v. writes one (1 + v)) (lit< tt) (λ v lt.
     asked_last (byte_from fields.Reference 1 7) (λ v. done v) (1 + v) (byte_is fields.Reference 1 7 (1 + v) (lit< tt) (omega arith) (omega arith)) (fills_done (1 + v) (reference_is number v lt)))
 
 -- a reference and its vector
 abbrev moving : Format (RefType × MotionVector)
-moving = field (byte_from fields.Reference 1 7) >>= λ n. field (half fields.Vector) >>= λ row. field (half fields.Vector) >>= λ col. done (reference_of n, vector_of row col)
+moving = field (byte_from fields.Reference 1 7) >>= λ n. field (u16_field fields.Vector) >>= λ row. field (u16_field fields.Vector) >>= λ col. done (reference_of_number n, vector_of row col)
 
 motion_fills : (number : ℕ) → Fills motion moving 5 (λ p. IsMotion (frame number) p.0 p.1)
 unfolding motion is_valid_vector
 motion_fills number =
-    follows (λ n. field (half fields.Vector) >>= λ row. field (half fields.Vector) >>= λ col. done (reference_of n, vector_of row col)) (reference_fills number) (λ n pn.
-    follows (λ row. field (half fields.Vector) >>= λ col. done (reference_of n, vector_of row col)) component_fills (λ row pr.
-    ends (λ col. done (reference_of n, vector_of row col)) component_fills (λ col pc.
-    fills_done (reference_of n, vector_of row col) (record { present = pn; short = rw (pr, pc) refl }))))
+    follows (λ n. field (u16_field fields.Vector) >>= λ row. field (u16_field fields.Vector) >>= λ col. done (reference_of_number n, vector_of row col)) (reference_fills number) (λ n pn.
+    follows (λ row. field (u16_field fields.Vector) >>= λ col. done (reference_of_number n, vector_of row col)) component_fills (λ row pr.
+    ends (λ col. done (reference_of_number n, vector_of row col)) component_fills (λ col pc.
+    fills_done (reference_of_number n, vector_of row col) (record { present = pn; short = rw (pr, pc) refl }))))
 
 -- a luma mode from first to last
 mode_fills : (k first last : ℕ) → 0 < k → first + k ≤ last + 1 → last ≤ 33
@@ -194,27 +183,27 @@ mode_fills k first last some le small = drawing k (λ v. writes one (first + v))
     asked_last (byte_from fields.LumaMode 0 33) (λ v. done v) (first + v) (byte_is fields.LumaMode 0 33 (first + v) (lit< tt) (omega arith) (omega arith))
     (fills_done (first + v) (omega arith, omega arith)))
 
-single_rest : (number : ℕ) (size : BlockSize) (mode : PredictionMode) → may_be_inter size ≡ true → Fills motion (grammar.single mode) 5 (IsFitting (frame number) size)
-unfolding grammar.single grammar.reference_frame grammar.vector may_be_inter has_modes is_inter_size has_vectors has_references
+single_rest : (number : ℕ) (size : BlockSize) (mode : PredictionMode) → is_inter_size size ≡ true → Fills motion (grammar.single mode) 5 (IsFitting (frame number) size)
+unfolding grammar.single grammar.reference_frame grammar.vector has_modes is_inter_size has_vectors has_references
 single_rest number size mode inter =
     ends (λ p. done (Single mode p.0 p.1)) (motion_fills number) (λ p m.
     fills_done (Single mode p.0 p.1) (record { modes = inter; vectors = m.short; references = m.present }))
 
-single_fills : (number : ℕ) (size : BlockSize) (carried : Bool) → may_be_inter size ≡ true → Fills single (grammar.leaf_kind carried) 6 (IsFitting (frame number) size)
+single_fills : (number : ℕ) (size : BlockSize) (carried : Bool) → is_inter_size size ≡ true → Fills single (grammar.leaf_kind carried) 6 (IsFitting (frame number) size)
 unfolding single grammar.leaf_kind
 single_fills number size carried inter =
     follows {n = 5} (behind carried) (mode_fills 6 14 19 (lit< tt) (lit≤ tt) (lit≤ tt)) (λ n p.
     rw (le-ltb n 14 p.0, lt-ltb n 20 (omega arith)) (single_rest number size (mode_of n) inter))
 
-compound_rest : (number : ℕ) (size : BlockSize) (mode : PredictionMode) → may_be_inter size ≡ true → Fills (motion >> motion) (grammar.compound mode) 10 (IsFitting (frame number) size)
-unfolding grammar.compound grammar.reference_frame grammar.vector may_be_inter has_modes is_inter_size has_vectors has_references
+compound_rest : (number : ℕ) (size : BlockSize) (mode : PredictionMode) → is_inter_size size ≡ true → Fills (motion >> motion) (grammar.compound mode) 10 (IsFitting (frame number) size)
+unfolding grammar.compound grammar.reference_frame grammar.vector has_modes is_inter_size has_vectors has_references
 compound_rest number size mode inter =
     follows (λ p. moving >>= λ q. done (Compound mode (p.0 ∷ q.0 ∷ []) (p.1 ∷ q.1 ∷ []))) (motion_fills number) (λ p m.
     ends (λ q. done (Compound mode (p.0 ∷ q.0 ∷ []) (p.1 ∷ q.1 ∷ []))) (motion_fills number) (λ q l.
     fills_done (Compound mode (p.0 ∷ q.0 ∷ []) (p.1 ∷ q.1 ∷ []))
     (record { modes = inter; vectors = rw (m.short, l.short) refl; references = rw (m.present, l.present) refl })))
 
-compound_fills : (number : ℕ) (size : BlockSize) (carried : Bool) → may_be_inter size ≡ true → Fills compound (grammar.leaf_kind carried) 11 (IsFitting (frame number) size)
+compound_fills : (number : ℕ) (size : BlockSize) (carried : Bool) → is_inter_size size ≡ true → Fills compound (grammar.leaf_kind carried) 11 (IsFitting (frame number) size)
 unfolding compound grammar.leaf_kind
 compound_fills number size carried inter =
     follows {n = 10} (behind carried) (mode_fills 14 20 33 (lit< tt) (lit≤ tt) (lit≤ tt)) (λ n p.
@@ -222,7 +211,7 @@ compound_fills number size carried inter =
 
 -- ---- every kind
 
-kind_of_fills : (number : ℕ) (size : BlockSize) (carried : Bool) (choice : ℕ) → may_be_inter size ≡ true
+kind_of_fills : (number : ℕ) (size : BlockSize) (carried : Bool) (choice : ℕ) → is_inter_size size ≡ true
     → Fills (kind_of size carried choice) (grammar.leaf_kind carried) 11 (IsFitting (frame number) size)
 unfolding kind_of
 kind_of_fills number size carried zero inter = weaker (lit≤ tt) (λ k p. p) (intra_fills (frame number) size carried)
@@ -230,11 +219,11 @@ kind_of_fills number size carried (suc zero) inter = weaker (lit≤ tt) (λ k p.
 kind_of_fills number size carried (suc (suc zero)) inter = weaker (lit≤ tt) (λ k p. p) (single_fills number size carried inter)
 kind_of_fills number size carried (suc (suc (suc n))) inter = compound_fills number size carried inter
 
-kind_by : (b : Bool) (number : ℕ) (size : BlockSize) (carried : Bool) → may_be_inter size ≡ b
+kind_by : (b : Bool) (number : ℕ) (size : BlockSize) (carried : Bool) → is_inter_size size ≡ b
     → Fills (if b then draws 4 (kind_of size carried) else intra size carried) (grammar.leaf_kind carried) 11 (IsFitting (frame number) size)
 kind_by true number size carried inter = drawing 4 (kind_of size carried) (lit< tt) (λ choice lt. kind_of_fills number size carried choice inter)
 kind_by false number size carried inter = weaker (lit≤ tt) (λ k p. p) (intra_fills (frame number) size carried)
 
 pub kind_fills : (number : ℕ) (size : BlockSize) (carried : Bool) → Fills (kind size carried) (grammar.leaf_kind carried) 11 (IsFitting (frame number) size)
 unfolding kind
-kind_fills number size carried = kind_by (may_be_inter size) number size carried refl
+kind_fills number size carried = kind_by (is_inter_size size) number size carried refl

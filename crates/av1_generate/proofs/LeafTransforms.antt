@@ -20,7 +20,8 @@ use Rattle.av1_plan.specs.Grammar as grammar
 use Rattle.av1_plan.specs.Validity.{is_transform, has_transforms}
 use Rattle.av1_generate.specs.Draft.{writes, draws, ◌>>◌, only_if}
 use Rattle.av1_generate.specs.Generator.{frame, type_within, tx_type, luma_tx_size, luma_transforms}
-use Rattle.av1_generate.proofs.Below.{all_below, below, byte_is}
+use Rattle.av1_plan.proofs.Numbers.{all_below, below}
+use Rattle.av1_generate.proofs.FieldKinds.{byte_is}
 use Rattle.av1_generate.proofs.Fills.{Fills, ends, fills_done, asked, asked_last, weaker, drawing}
 
 -- the type with this number

@@ -2,7 +2,7 @@ pub mod Written
 pub mod Turns
 pub mod Blocks
 pub mod Fills
-pub mod Below
+pub mod FieldKinds
 pub mod LeafKinds
 pub mod LeafTransforms
 pub mod LeafTriples

@@ -6,16 +6,17 @@ use Rattle.std.proofs.Math.Nat.{pow-succ'}
 use Rattle.av1_blocks.specs.declared.partition.BlockSize.{BlockSize}
 use Rattle.av1_blocks.specs.declared.partition.BlockSize.TheVariants.{BLOCK_4X4}
 use Rattle.av1_plan.specs.declared.built.Field.TheVariants as fields
+use Rattle.av1_blocks.specs.declared.partition.PartitionType.TheVariants.{PARTITION_HORZ, PARTITION_VERT}
 use Rattle.av1_plan.specs.declared.header.Header.{Header}
 use Rattle.av1_plan.specs.Format.{one}
 use Rattle.av1_plan.specs.Geometry.{is_inside}
-use Rattle.av1_plan.specs.Grammar.{byte_from, half_side, whole_size, wide_size, tall_size}
+use Rattle.av1_plan.specs.Grammar.{byte_from, half_side, whole_size, part_size}
 use Rattle.av1_plan.specs.Grammar as grammar
 use Rattle.av1_plan.specs.Plan.{LeafValue}
 use Rattle.av1_plan.specs.Validity.{fault_of, fault_from}
 use Rattle.av1_generate.specs.Draft.{writes, ◌>>◌}
 use Rattle.av1_generate.specs.Generator.{frame, part, parts, block, superblock_row, superblocks}
-use Rattle.av1_generate.proofs.Below.{byte_is}
+use Rattle.av1_generate.proofs.FieldKinds.{byte_is}
 use Rattle.av1_generate.proofs.Fills.{Fills, fills_lone, asked, weaker, drawing, Grows, fills_both, four_fill, fills_each}
 use Rattle.av1_generate.proofs.LeafFills.{leaf_fills}
 
@@ -89,13 +90,13 @@ parts_fill number level side x y zero node quarter =
 parts_fill number level side x y (suc zero) node quarter =
     weaker (omega (arith, room_is level)) (λ ls p. p)
     (fills_both (valid_grows (frame number))
-    (part_fills number x y (wide_size (suc level)) (omega (arith, node.right, node.some)) (omega (arith, node.below, node.some)))
-    (part_fills number x (y + half_side (suc level)) (wide_size (suc level)) (omega (arith, node.right, node.some)) (omega (arith, node.below, node.some, node.half))))
+    (part_fills number x y (part_size (suc level) PARTITION_HORZ) (omega (arith, node.right, node.some)) (omega (arith, node.below, node.some)))
+    (part_fills number x (y + half_side (suc level)) (part_size (suc level) PARTITION_HORZ) (omega (arith, node.right, node.some)) (omega (arith, node.below, node.some, node.half))))
 parts_fill number level side x y (suc (suc zero)) node quarter =
     weaker (omega (arith, room_is level)) (λ ls p. p)
     (fills_both (valid_grows (frame number))
-    (part_fills number x y (tall_size (suc level)) (omega (arith, node.right, node.some)) (omega (arith, node.below, node.some)))
-    (part_fills number (x + half_side (suc level)) y (tall_size (suc level)) (omega (arith, node.right, node.some, node.half)) (omega (arith, node.below, node.some))))
+    (part_fills number x y (part_size (suc level) PARTITION_VERT) (omega (arith, node.right, node.some)) (omega (arith, node.below, node.some)))
+    (part_fills number (x + half_side (suc level)) y (part_size (suc level) PARTITION_VERT) (omega (arith, node.right, node.some, node.half)) (omega (arith, node.below, node.some))))
 parts_fill number level side x y (suc (suc (suc mark))) node quarter =
     let right = x + half_side (suc level) in
     let below = y + half_side (suc level) in

@@ -1,17 +1,11 @@
 -- Bytes are the text of one value at most, and a text whose values are all built is a text.
-use Rattle.std.proofs.Common.{◌≡◌, ℕ, ◌<◌, List, [], ◌∷◌, ◌++◌, length, refl, sym, ap, subst, ◌∙◌, arith}
+use Rattle.std.proofs.Common.{◌≡◌, ℕ, List, [], ◌∷◌, ◌++◌, length, refl, sym, ap, subst, ◌∙◌, arith}
 use Rattle.std.specs.Int.{from_le_bytes, to_le_bytes}
-use Rattle.std.proofs.lemmas.Nat.{from_le_bytes-to_le_bytes_2, from_le_bytes-to_le_bytes_4}
-use Rattle.av1_plan.specs.Format.{Length, one, two, four, width, limit, Format, done, asks}
+use Rattle.av1_plan.specs.Format.{width, Format, done, asks}
 use Rattle.av1_plan.specs.Grammar.{plan}
 use Rattle.av1_plan.specs.Spelling.{Spells, text}
-use Rattle.av1_plan.proofs.Fields.{length-le}
+use Rattle.av1_plan.proofs.Fields.{length-le, again}
 use Rattle.av1_generate.specs.Text.{Says, TextsAreOfOnePlan, BuiltTextsAreTexts}
-
-again : (s : Length) (n : ℕ) → n < limit s → from_le_bytes (width s) (to_le_bytes (width s) n) ≡ n
-again one n lt = omega arith
-again two n lt = from_le_bytes-to_le_bytes_2 n lt
-again four n lt = from_le_bytes-to_le_bytes_4 n lt
 
 parted : (a b x y : List ℕ) → length a ≡ length b → a ++ x ≡ b ++ y → (a ≡ b) × (x ≡ y)
 parted [] [] x y len e = (refl, e)

@@ -13,7 +13,7 @@ use Rattle.av1_generate.specs.Draft.{◌>>◌, each}
 use Rattle.av1_generate.specs.Generator.{frame, slots, header, reference, superblocks, plan, plan_bytes}
 use Rattle.av1_generate.specs.Numbers.{drawn}
 use Rattle.av1_generate.specs.Text.{IsOfKind, ArePlan, AreFaultless}
-use Rattle.av1_generate.proofs.Below.{byte_is}
+use Rattle.av1_generate.proofs.FieldKinds.{byte_is}
 use Rattle.av1_generate.proofs.Fills.{Filled, Fills, follows, ends, fills_done, asked, asked_last}
 use Rattle.av1_generate.proofs.NodeFills.{no_first_fault, superblocks_fill}
 use Rattle.av1_generate.proofs.OneText.{one_plan}

@@ -1,19 +1,20 @@
 -- The plan of a number: what is drawn and what is written, field by field.
-use Rattle.std.specs.Prelude.{ℕ, zero, suc, codes, ◌+◌, ◌-◌, ◌*◌, ◌/◌, ◌%◌, ◌&&◌, nat_le, ◌==◌, Bool, if◌then◌else◌, List, [], ◌∷◌, slice_index_or}
+use Rattle.std.specs.Prelude.{ℕ, zero, suc, codes, ◌+◌, ◌-◌, ◌*◌, ◌/◌, ◌%◌, ◌==◌, Bool, if◌then◌else◌, List, [], ◌∷◌, slice_index_or}
 use Rattle.std.specs.Int.{w32, from_le_bytes, is_in_range}
 use Rattle.av1_blocks.specs.declared.mc.FilterMode.TheVariants.{REGULAR}
 use Rattle.av1_blocks.specs.declared.mc.TheConstants.FilterMode as filter_modes
 use Rattle.av1_blocks.specs.declared.partition.BlockSize.{BlockSize}
 use Rattle.av1_blocks.specs.declared.partition.BlockSize.TheVariants.{BLOCK_4X4}
+use Rattle.av1_blocks.specs.declared.partition.PartitionType.TheVariants.{PARTITION_HORZ, PARTITION_VERT}
 use Rattle.av1_blocks.specs.declared.transform.TxSize.{TxSize}
 use Rattle.av1_blocks.specs.declared.transform.TxSize.TheVariants.{TX_4X4, TX_32X32, TX_64X64}
-use Rattle.av1_blocks.specs.Blocks.{block_width, block_height}
 use Rattle.av1_blocks.specs.Chroma.{largest_chroma_tx_size}
 use Rattle.av1_blocks.specs.Transforms.{tx_number, tx_sqr_up, block_tx_size}
 use Rattle.av1_plan.specs.declared.header.Header.{Header}
 use Rattle.av1_plan.specs.Format.{Length, one, two, four, limit}
 use Rattle.av1_plan.specs.Geometry.{carries_chroma, plane_width, plane_height}
-use Rattle.av1_plan.specs.Grammar.{half_side, whole_size, wide_size, tall_size}
+use Rattle.av1_plan.specs.Grammar.{half_side, whole_size, part_size}
+use Rattle.av1_plan.specs.Validity.{cfl_allowed, is_inter_size}
 use Rattle.av1_generate.specs.Draft.{Draft, writes, draws, ◌>>◌, only_if, each, written}
 use Rattle.av1_generate.specs.Numbers.{drawn}
 
@@ -80,7 +81,7 @@ chroma_step mode = if mode == 13 then weight >> weight else step mode
 
 -- how many chroma modes a leaf of this size may have: chroma from luma is for sides up to 32
 unfoldable pub chroma_modes : BlockSize → ℕ
-chroma_modes size = if nat_le (block_width size) 32 && nat_le (block_height size) 32 then 14 else 13
+chroma_modes size = if cfl_allowed size then 14 else 13
 
 unfoldable pub chroma_mode : BlockSize → Draft
 chroma_mode size = draws (chroma_modes size) (λ mode. writes one mode >> chroma_step mode)
@@ -112,13 +113,9 @@ kind_of size carried (suc zero) = intra size carried
 kind_of size carried (suc (suc zero)) = single
 kind_of size carried (suc (suc (suc n))) = compound
 
--- neither side is 4
-unfoldable pub may_be_inter : BlockSize → Bool
-may_be_inter size = nat_le 8 (block_width size) && nat_le 8 (block_height size)
-
 -- half of the leaves without a side of 4 are intra, a quarter has one reference and a quarter two; all others are intra
 unfoldable pub kind : BlockSize → Bool → Draft
-kind size carried = if may_be_inter size then draws 4 (kind_of size carried) else intra size carried
+kind size carried = if is_inter_size size then draws 4 (kind_of size carried) else intra size carried
 
 -- ---- how it is transformed
 
@@ -171,8 +168,8 @@ part h size x y = leaf size (carries_chroma h x y size)
 -- at a place
 unfoldable pub parts : Header → ℕ → (ℕ → ℕ → Draft) → ℕ → ℕ → ℕ → Draft
 parts h level quarter x y zero = part h (whole_size level) x y
-parts h level quarter x y (suc zero) = part h (wide_size level) x y >> part h (wide_size level) x (y + half_side level)
-parts h level quarter x y (suc (suc zero)) = part h (tall_size level) x y >> part h (tall_size level) (x + half_side level) y
+parts h level quarter x y (suc zero) = part h (part_size level PARTITION_HORZ) x y >> part h (part_size level PARTITION_HORZ) x (y + half_side level)
+parts h level quarter x y (suc (suc zero)) = part h (part_size level PARTITION_VERT) x y >> part h (part_size level PARTITION_VERT) (x + half_side level) y
 parts h level quarter x y (suc (suc (suc mark))) =
     quarter x y >> quarter (x + half_side level) y >> quarter x (y + half_side level) >> quarter (x + half_side level) (y + half_side level)
 

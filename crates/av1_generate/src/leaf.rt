@@ -1,27 +1,20 @@
 //! Leaves: how one is predicted.
 
 ghost use Rattle.std.specs.Prelude.{◌≡◌, ◌≤◌};
-ghost use Rattle.av1_generate.specs.Generator.{chroma_modes, may_be_inter};
+ghost use Rattle.av1_generate.specs.Generator.{chroma_modes};
 
 use crate::maker::Maker;
 use av1_blocks::{BlockSize, OutOfMemory};
+use av1_plan::is_inter_size;
 
 /// How many chroma modes a leaf of this size may have: chroma from luma, the last, is for sides up to 32.
-#[tactic(auto, unfolding(crate::specs::Generator::chroma_modes))]
+#[tactic(auto, unfolding(crate::specs::Generator::chroma_modes, av1_plan::specs::Validity::cfl_allowed))]
 fn chroma_modes(size: BlockSize) -> u16
     ensures value { result ≡ chroma_modes size }
     ensures least { 13 ≤ result }
     ensures most { result ≤ 14 }
 {
     if size.cfl_allowed() { 14 } else { 13 }
-}
-
-/// Whether a leaf of this size may have references: neither side is 4.
-#[tactic(auto, unfolding(crate::specs::Generator::may_be_inter))]
-fn may_be_inter(size: BlockSize) -> bool
-    ensures { result ≡ may_be_inter size }
-{
-    size.width() >= 8 && size.height() >= 8
 }
 
 impl Maker {
@@ -93,7 +86,7 @@ impl Maker {
         ensures { OnOk result (work self.new ≡ run component (work self.old)) }
     {
         let component = self.draw(257);
-        self.half(component.wrapping_sub(128))
+        self.u16_field(component.wrapping_sub(128))
     }
 
     /// Writes a reference and its vector.
@@ -133,7 +126,7 @@ impl Maker {
     pub fn kind(&mut self, size: BlockSize, carried: bool) -> Result<(), OutOfMemory>
         ensures { OnOk result (work self.new ≡ run (kind size carried) (work self.old)) }
     {
-        if !may_be_inter(size) {
+        if !is_inter_size(size) {
             return self.intra(size, carried);
         }
         match self.draw(4) {

@@ -58,9 +58,9 @@ impl Maker {
     fn header(&mut self, number: u32) -> Result<(), OutOfMemory>
         ensures { OnOk result (work self.new ≡ run (header number) (work self.old)) }
     {
-        self.word(u32::from_le_bytes(*b"RPL1"))?;
-        self.half(512)?;
-        self.half(512)?;
+        self.u32_field(u32::from_le_bytes(*b"RPL1"))?;
+        self.u16_field(512)?;
+        self.u16_field(512)?;
         self.byte(10)?;
         self.byte(0)?;
         self.byte((number % 4) as u8)?;
@@ -78,7 +78,7 @@ impl Maker {
         ensures { OnOk result (work self.new ≡ run (row frame.now number p y) (work self.old)) }
     {
         for x in 0..frame.plane_width(p) as u32 {
-            self.half(sample(number, p as u32, x, y))?;
+            self.u16_field(sample(number, p as u32, x, y))?;
         }
         Ok(())
     }

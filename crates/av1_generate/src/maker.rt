@@ -53,7 +53,7 @@ impl Maker {
     }
 
     /// Writes a field of two bytes.
-    pub fn half(&mut self, value: u16) -> Result<(), OutOfMemory>
+    pub fn u16_field(&mut self, value: u16) -> Result<(), OutOfMemory>
         ensures { OnOk result (work self.new ≡ run (writes two value) (work self.old)) }
     {
         self.bytes.extend_from_slice(&value.to_le_bytes())?;
@@ -61,7 +61,7 @@ impl Maker {
     }
 
     /// Writes a field of four bytes.
-    pub fn word(&mut self, value: u32) -> Result<(), OutOfMemory>
+    pub fn u32_field(&mut self, value: u32) -> Result<(), OutOfMemory>
         ensures { OnOk result (work self.new ≡ run (writes four value) (work self.old)) }
     {
         self.bytes.extend_from_slice(&value.to_le_bytes())?;

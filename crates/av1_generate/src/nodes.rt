@@ -1,11 +1,8 @@
 //! The nodes of superblocks, down to their leaves.
 
-ghost use Rattle.std.specs.Prelude.{◌≡◌, ◌*◌, ◌≤◌, ◌^◌};
-ghost use Rattle.av1_plan.specs.Grammar.{half_side, whole_size, wide_size, tall_size};
-
 use crate::maker::Maker;
-use av1_blocks::{BlockSize, OutOfMemory};
-use av1_plan::{Header, carries_chroma};
+use av1_blocks::{BlockSize, OutOfMemory, PartitionType};
+use av1_plan::{Header, carries_chroma, half_side, part_size, whole_size};
 
 impl Maker {
     ghost use Rattle.std.specs.Prelude.{◌≡◌, ◌+◌, ◌-◌, ◌*◌, ◌<◌, ◌≤◌, OnOk};
@@ -61,12 +58,14 @@ impl Maker {
         match mark {
             0 => self.part(frame, whole_size(level), x, y),
             1 => {
-                self.part(frame, wide_size(level), x, y)?;
-                self.part(frame, wide_size(level), x, below)
+                let wide = part_size(level, PartitionType::PARTITION_HORZ);
+                self.part(frame, wide, x, y)?;
+                self.part(frame, wide, x, below)
             }
             2 => {
-                self.part(frame, tall_size(level), x, y)?;
-                self.part(frame, tall_size(level), right, y)
+                let tall = part_size(level, PartitionType::PARTITION_VERT);
+                self.part(frame, tall, x, y)?;
+                self.part(frame, tall, right, y)
             }
             _ => {
                 self.block(frame, level - 1, x, y)?;
@@ -99,67 +98,4 @@ impl Maker {
         }
         Ok(())
     }
-}
-
-/// Half the side of a node of this level, which has side `4 << level`.
-fn half_side(level: u8) -> u16
-    requires { level ≤ 4 }
-    ensures value { result ≡ half_side level }
-    ensures small { result ≤ 32 }
-{
-    2 << level
-}
-
-/// The sizes of a leaf that is a whole node, by the node's level.
-const WHOLE_SIZES: [BlockSize; 5] = [
-    BlockSize::BLOCK_4X4,
-    BlockSize::BLOCK_8X8,
-    BlockSize::BLOCK_16X16,
-    BlockSize::BLOCK_32X32,
-    BlockSize::BLOCK_64X64,
-];
-
-/// The sizes of the upper and the lower half of a node, by the node's level.
-const WIDE_SIZES: [BlockSize; 5] = [
-    BlockSize::BLOCK_4X4,
-    BlockSize::BLOCK_8X4,
-    BlockSize::BLOCK_16X8,
-    BlockSize::BLOCK_32X16,
-    BlockSize::BLOCK_64X32,
-];
-
-/// The sizes of the left and the right half of a node, by the node's level.
-const TALL_SIZES: [BlockSize; 5] = [
-    BlockSize::BLOCK_4X4,
-    BlockSize::BLOCK_4X8,
-    BlockSize::BLOCK_8X16,
-    BlockSize::BLOCK_16X32,
-    BlockSize::BLOCK_32X64,
-];
-
-/// The size of a leaf that is a whole node of this level.
-#[tactic(auto, unfolding(av1_plan::specs::Grammar::whole_size))]
-fn whole_size(level: u8) -> BlockSize
-    requires { level ≤ 4 }
-    ensures { result ≡ whole_size level }
-{
-    WHOLE_SIZES[usize::from(level)]
-}
-
-/// The size of the upper and the lower half of a node of this level.
-#[tactic(auto, unfolding(av1_plan::specs::Grammar::wide_size))]
-fn wide_size(level: u8) -> BlockSize
-    requires { level ≤ 4 }
-    ensures { result ≡ wide_size level }
-{
-    WIDE_SIZES[usize::from(level)]
-}
-
-/// The size of the left and the right half of a node of this level.
-#[tactic(auto, unfolding(av1_plan::specs::Grammar::tall_size))]
-fn tall_size(level: u8) -> BlockSize
-    requires { level ≤ 4 }
-    ensures { result ≡ tall_size level }
-{
-    TALL_SIZES[usize::from(level)]
 }

@@ -62,9 +62,9 @@ impl Maker {
         ensures { OnOk result (work self.new ≡ run (triple place) (work self.old)) }
     {
         self.byte(0)?;
-        self.half(place)?;
+        self.u16_field(place)?;
         let value = u32::from(self.draw(401));
-        self.word(value.wrapping_sub(200))
+        self.u32_field(value.wrapping_sub(200))
     }
 
     /// Writes up to three coefficients.
@@ -73,7 +73,7 @@ impl Maker {
         ensures { OnOk result (work self.new ≡ run triples (work self.old)) }
     {
         let count = self.draw(4);
-        self.half(count)?;
+        self.u16_field(count)?;
         for place in 0..count {
             self.triple(place)?;
         }

@@ -1,12 +1,13 @@
 -- A block is a leaf or a node, and what its parts are by its mark.
 use Rattle.std.proofs.Common.{◌≡◌, ℕ, zero, suc, ◌+◌, ◌-◌, ◌<◌, true, false, List, Ok, refl, arith}
 use Rattle.av1_blocks.specs.declared.partition.BlockSize.TheVariants.{BLOCK_4X4}
+use Rattle.av1_blocks.specs.declared.partition.PartitionType.TheVariants.{PARTITION_HORZ, PARTITION_VERT}
 use Rattle.av1_plan.specs.declared.built.Field.TheVariants as fields
 use Rattle.av1_plan.specs.declared.header.Header.{Header}
 use Rattle.av1_plan.specs.Format.{Format, Input, read_field, add, on_ok, ◌++>◌}
 use Rattle.av1_plan.specs.Geometry.{is_inside}
 use Rattle.av1_plan.specs.Plan.{LeafValue}
-use Rattle.av1_plan.specs.Grammar.{byte_from, half_side, whole_size, wide_size, tall_size, part, parts, block}
+use Rattle.av1_plan.specs.Grammar.{byte_from, half_side, whole_size, part_size, part, parts, block}
 use Rattle.av1_plan.proofs.Formats.{adding, add_nothing, add_asks}
 
 pub block_leaf : (h : Header) (level x y : ℕ) → level ≡ 0 → block h level x y ≡ part h BLOCK_4X4 x y
@@ -35,12 +36,12 @@ unfolding parts
 none_parts h level quarter x y mark e = rw e refl
 
 pub horz_parts : (h : Header) (level : ℕ) (quarter : ℕ → ℕ → Format (List LeafValue)) (x y mark : ℕ) → mark ≡ 1
-    → parts h level quarter x y mark ≡ (part h (wide_size level) x y ++> part h (wide_size level) x (y + half_side level))
+    → parts h level quarter x y mark ≡ (part h (part_size level PARTITION_HORZ) x y ++> part h (part_size level PARTITION_HORZ) x (y + half_side level))
 unfolding parts
 horz_parts h level quarter x y mark e = rw e refl
 
 pub vert_parts : (h : Header) (level : ℕ) (quarter : ℕ → ℕ → Format (List LeafValue)) (x y mark : ℕ) → mark ≡ 2
-    → parts h level quarter x y mark ≡ (part h (tall_size level) x y ++> part h (tall_size level) (x + half_side level) y)
+    → parts h level quarter x y mark ≡ (part h (part_size level PARTITION_VERT) x y ++> part h (part_size level PARTITION_VERT) (x + half_side level) y)
 unfolding parts
 vert_parts h level quarter x y mark e = rw e refl
 

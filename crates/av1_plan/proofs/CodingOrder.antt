@@ -5,6 +5,7 @@ use Rattle.std.proofs.Math.Logic.{∥∥₁_map}
 use Rattle.std.proofs.lemmas.Bool.{cases_lt, lt-ltb, le-ltb}
 use Rattle.std.proofs.lemmas.List.{append-nil, map-append, length-append}
 use Rattle.av1_blocks.specs.declared.partition.BlockSize.{BlockSize}
+use Rattle.av1_blocks.specs.declared.partition.PartitionType.TheVariants.{PARTITION_HORZ, PARTITION_VERT}
 use Rattle.av1_blocks.specs.declared.partition.BlockSize.TheVariants.{BLOCK_4X4}
 use Rattle.av1_blocks.specs.declared.predict.PredictionMode.TheVariants.{DC_PRED}
 use Rattle.av1_blocks.specs.declared.transform.TxSize.TheVariants.{TX_4X4}
@@ -17,12 +18,13 @@ use Rattle.av1_plan.specs.Answer.{plan_value}
 use Rattle.av1_plan.specs.CodingOrder.{cells_of, placed, AreInCodingOrder}
 use Rattle.av1_plan.specs.Format.{◌++>◌, lone, in_turn}
 use Rattle.av1_plan.specs.Geometry.{is_inside}
-use Rattle.av1_plan.specs.Grammar.{leaf, whole_size, wide_size, tall_size, part, parts, block, superblock_row, superblocks, plan}
+use Rattle.av1_plan.specs.Grammar.{leaf, whole_size, part_size, part, parts, block, superblock_row, superblocks, plan}
 use Rattle.av1_plan.specs.Plan.{LeafValue, PlanValue}
 use Rattle.av1_plan.specs.Spelling.{IsSpelled}
 use Rattle.av1_plan.specs.Tree.{Block, Placed, Tree, none, horz, vert, split, kept, part_leaves, node_leaves, superblock_leaves}
-use Rattle.av1_plan.proofs.BuiltFrame.{IsSide, built_frame, plan_pieces}
-use Rattle.av1_plan.proofs.BuiltLeaves.{leaf_place}
+use Rattle.av1_plan.specs.ReadPlans.{IsSide}
+use Rattle.av1_plan.proofs.ReadFrames.{header_is, plan_pieces}
+use Rattle.av1_plan.proofs.ReadLeaves.{leaf_place}
 use Rattle.av1_plan.proofs.NodeLeaves.{HasCells, whole_cells, wide_cells, tall_cells, smallest_cells, behind_half, superblock_place}
 use Rattle.av1_plan.proofs.Pieces.{spelled_asks, spelled_lone, spelled_both, spelled_no_turn, spelled_turn, spelled_where}
 
@@ -91,14 +93,14 @@ module _ {A : Type 0} (filler : A) (code : LeafValue → A) (h : Header) (column
       let (a, is) = part_tree (whole_size (suc k)) (2 ^ suc k) (2 ^ suc k) x y ls (whole_cells (suc k) le) s in
       (none a, is)
   parts_tree k x y (suc zero) ls le part_of s =
-      let size = wide_size (suc k) in
+      let size = part_size (suc k) PARTITION_HORZ in
       let t = rw (behind_half k y) at s in
       let (xs, ys, xs_spelled, ys_spelled, is) = spelled_both (part h size (4 * x) (4 * y)) (part h size (4 * x) (4 * (y + 2 ^ k))) ls t in
       let (a, a_is) = part_tree size (2 * 2 ^ k) (2 ^ k) x y xs (wide_cells k le) xs_spelled in
       let (b, b_is) = part_tree size (2 * 2 ^ k) (2 ^ k) x (y + 2 ^ k) ys (wide_cells k le) ys_spelled in
       (horz a b, join xs ys ls _ _ a_is b_is is)
   parts_tree k x y (suc (suc zero)) ls le part_of s =
-      let size = tall_size (suc k) in
+      let size = part_size (suc k) PARTITION_VERT in
       let t = rw (behind_half k x) at s in
       let (xs, ys, xs_spelled, ys_spelled, is) = spelled_both (part h size (4 * x) (4 * y)) (part h size (4 * (x + 2 ^ k)) (4 * y)) ls t in
       let (a, a_is) = part_tree size (2 ^ k) (2 * 2 ^ k) x y xs (tall_cells k le) xs_spelled in
@@ -216,7 +218,7 @@ unfolding superblocks
 plan_trees filler code p s =
     let pieces = plan_pieces p s in
     let h = p.header in
-    let frame = built_frame h pieces.header in
+    let frame = header_is h pieces.header in
     let width_is = side_cells h.width frame.width in
     let height_is = side_cells h.height frame.height in
     let (across, count, across_count, last, end) = across_is h.width frame.width.least width_is in

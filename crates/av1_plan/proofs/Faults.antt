@@ -1,6 +1,7 @@
 -- Triples and leaves that are looked at one after the other.
-use Rattle.std.proofs.Common.{◌≡◌, ℕ, ◌+◌, ◌≤◌, ◌<◌, Bool, true, false, ◌&&◌, List, ◌∷◌, length, drop, get_or, Option, Some, None, refl, ◌∙◌, arith, add-one, drop-cons}
+use Rattle.std.proofs.Common.{◌≡◌, ℕ, ◌+◌, ◌≤◌, ◌<◌, Bool, true, false, ◌&&◌, List, [], ◌∷◌, length, drop, get_or, Option, Some, None, refl, ◌∙◌, arith, add-one, drop-cons}
 use Rattle.std.specs.Prelude.{slice_get}
+use Rattle.std.specs.List.{list_all}
 use Rattle.std.proofs.lemmas.List.{drop_all}
 use Rattle.std.proofs.lemmas.Option.{slice_get_within, get_or_from_slice_get, slice_get-get_or}
 use Rattle.av1_plan.specs.declared.header.Header.{Header}
@@ -10,35 +11,54 @@ use Rattle.av1_plan.specs.declared.error.InvalidKind.{InvalidKind}
 use Rattle.av1_plan.specs.declared.leaf.Leaf.{Leaf}
 use Rattle.av1_plan.specs.Plan.{leaf_value, leaf_values}
 use Rattle.av1_plan.proofs.Spans.{stored_leaf, length-leaf_values}
-use Rattle.av1_plan.specs.Validity.{is_coefficient, is_behind, are_coefficients, fault_of, fault_from}
+use Rattle.av1_plan.specs.Validity.{is_coefficient, is_before, rise, follows, are_coefficients, fault_of, fault_from}
 
 -- the item at a place, in front of those behind it
 front : {A : Type 0} (xs : List A) (i : ℕ) (d : A) → i < length xs → drop i xs ≡ get_or xs i d ∷ drop (i + 1) xs
 front xs i d lt = rw (add-one, drop-cons xs i d) refl
 
-pub triple_fits : (h : Header) (p : ℕ) (a : PlaneArea) (before : Option Triple) (triples : List Triple) (i : ℕ) (d : Triple) → i < length triples
-    → is_coefficient h p a (get_or triples i d) ≡ true → is_behind before (get_or triples i d) ≡ true
-    → are_coefficients h p a before (drop i triples) ≡ are_coefficients h p a (Some (get_or triples i d)) (drop (i + 1) triples)
-unfolding are_coefficients
-triple_fits h p a before triples i d lt fits behind = rw (front triples i d lt, fits, behind) refl
+-- ---- triples
 
-pub triple_unfit : (h : Header) (p : ℕ) (a : PlaneArea) (before : Option Triple) (triples : List Triple) (i : ℕ) (d : Triple) → i < length triples
-    → is_coefficient h p a (get_or triples i d) ≡ false → are_coefficients h p a before (drop i triples) ≡ false
-unfolding are_coefficients
-triple_unfit h p a before triples i d lt unfit = rw (front triples i d lt, unfit) refl
+-- what the check has left to say of triples behind the last one
+abbrev pub go_on : Header → ℕ → PlaneArea → Option Triple → List Triple → Bool
+go_on h p a last [] = true
+go_on h p a last (t ∷ triples) = is_coefficient h p a t && follows last t && go_on h p a (Some t) triples
+
+regrouped : (fits behind all others : Bool) → (fits && behind && (all && others)) ≡ (fits && all && (behind && others))
+regrouped true true all others = refl
+regrouped true false true others = refl
+regrouped true false false others = refl
+regrouped false behind all others = refl
+
+go_on_behind : (h : Header) (p : ℕ) (a : PlaneArea) (s : Triple) (triples : List Triple) → go_on h p a (Some s) triples ≡ (list_all (is_coefficient h p a) triples && rise (s ∷ triples))
+unfolding rise follows
+go_on_behind h p a s [] = refl
+go_on_behind h p a s (t ∷ triples) = rw (go_on_behind h p a t triples) (regrouped (is_coefficient h p a t) (is_before s t) (list_all (is_coefficient h p a) triples) (rise (t ∷ triples)))
+
+-- from the first one on it says what the definition does
+pub go_on_all : (h : Header) (p : ℕ) (a : PlaneArea) (triples : List Triple) → go_on h p a None triples ≡ are_coefficients h p a triples
+unfolding are_coefficients rise follows
+go_on_all h p a [] = refl
+go_on_all h p a (t ∷ triples) = rw (go_on_behind h p a t triples) (regrouped (is_coefficient h p a t) true (list_all (is_coefficient h p a) triples) (rise (t ∷ triples)))
+
+pub triple_fits : (h : Header) (p : ℕ) (a : PlaneArea) (last : Option Triple) (triples : List Triple) (i : ℕ) (d : Triple) → i < length triples
+    → is_coefficient h p a (get_or triples i d) ≡ true → follows last (get_or triples i d) ≡ true → go_on h p a last (drop i triples) ≡ go_on h p a (Some (get_or triples i d)) (drop (i + 1) triples)
+triple_fits h p a last triples i d lt fits behind = rw (front triples i d lt, fits, behind) refl
+
+pub triple_unfit : (h : Header) (p : ℕ) (a : PlaneArea) (last : Option Triple) (triples : List Triple) (i : ℕ) (d : Triple) → i < length triples
+    → is_coefficient h p a (get_or triples i d) ≡ false → go_on h p a last (drop i triples) ≡ false
+triple_unfit h p a last triples i d lt unfit = rw (front triples i d lt, unfit) refl
 
 neither : (a b : Bool) → (a && false && b) ≡ false
 neither true b = refl
 neither false b = refl
 
-pub triple_not_behind : (h : Header) (p : ℕ) (a : PlaneArea) (before : Option Triple) (triples : List Triple) (i : ℕ) (d : Triple) → i < length triples
-    → is_behind before (get_or triples i d) ≡ false → are_coefficients h p a before (drop i triples) ≡ false
-unfolding are_coefficients
-triple_not_behind h p a before triples i d lt not_behind = rw (front triples i d lt, not_behind) (neither (is_coefficient h p a (get_or triples i d)) _)
+pub triple_not_behind : (h : Header) (p : ℕ) (a : PlaneArea) (last : Option Triple) (triples : List Triple) (i : ℕ) (d : Triple) → i < length triples
+    → follows last (get_or triples i d) ≡ false → go_on h p a last (drop i triples) ≡ false
+triple_not_behind h p a last triples i d lt not_behind = rw (front triples i d lt, not_behind) (neither (is_coefficient h p a (get_or triples i d)) _)
 
-pub triples_end : (h : Header) (p : ℕ) (a : PlaneArea) (before : Option Triple) (triples : List Triple) (i : ℕ) → length triples ≤ i → are_coefficients h p a before (drop i triples) ≡ true
-unfolding are_coefficients
-triples_end h p a before triples i le = rw (drop_all i triples le) refl
+pub triples_end : (h : Header) (p : ℕ) (a : PlaneArea) (last : Option Triple) (triples : List Triple) (i : ℕ) → length triples ≤ i → go_on h p a last (drop i triples) ≡ true
+triples_end h p a last triples i le = rw (drop_all i triples le) refl
 
 -- ---- leaves
 

@@ -37,7 +37,7 @@ back one bytes len fits = lone_byte bytes len fits
 back two bytes len fits = le_bytes_2 bytes _ len fits refl
 back four bytes len fits = le_bytes_4 bytes _ len fits refl
 
-again : (s : Length) (n : ℕ) → n < limit s → from_le_bytes (width s) (to_le_bytes (width s) n) ≡ n
+pub again : (s : Length) (n : ℕ) → n < limit s → from_le_bytes (width s) (to_le_bytes (width s) n) ≡ n
 again one n lt = omega arith
 again two n lt = from_le_bytes-to_le_bytes_2 n lt
 again four n lt = from_le_bytes-to_le_bytes_4 n lt

@@ -10,9 +10,13 @@ pub mod Spans
 pub mod Signed
 pub mod Faults
 pub mod Pieces
-pub mod BuiltFrame
-pub mod BuiltLeaves
+pub mod Numbers
+pub mod ReadFrames
+pub mod ReadLeaves
+pub mod ReadReferences
+pub mod ReadPlans
 pub mod NodeLeaves
 pub mod BuiltPlans
 pub mod CodingOrder
 pub mod ValidLeaves
+pub mod ValidModes

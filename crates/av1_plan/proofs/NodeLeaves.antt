@@ -3,12 +3,13 @@ use Rattle.std.proofs.Common.{◌≡◌, ℕ, zero, suc, ◌+◌, ◌*◌, ◌/�
 use Rattle.std.proofs.Math.Nat.{pow-succ', mod-lt, mod-add-div, mul-le-mul_left}
 use Rattle.std.proofs.lemmas.List.Elements.{All-append, All-nil, All-cons}
 use Rattle.av1_blocks.specs.declared.partition.BlockSize.{BlockSize}
+use Rattle.av1_blocks.specs.declared.partition.PartitionType.TheVariants.{PARTITION_HORZ, PARTITION_VERT}
 use Rattle.av1_blocks.specs.declared.partition.BlockSize.TheVariants.{BLOCK_4X4}
 use Rattle.av1_blocks.specs.Blocks.{block_width, block_height}
 use Rattle.av1_plan.specs.declared.header.Header.{Header}
 use Rattle.av1_plan.specs.Format.{Format, ◌++>◌, lone, in_turn}
 use Rattle.av1_plan.specs.Geometry.{is_inside}
-use Rattle.av1_plan.specs.Grammar.{leaf, half_side, whole_size, wide_size, tall_size, part, parts, block, superblock_row, superblocks}
+use Rattle.av1_plan.specs.Grammar.{leaf, half_side, whole_size, part_size, part, parts, block, superblock_row, superblocks}
 use Rattle.av1_plan.specs.Plan.{LeafValue}
 use Rattle.av1_plan.specs.Spelling.{IsSpelled}
 use Rattle.av1_plan.proofs.Pieces.{spelled_asks, spelled_lone, spelled_both, spelled_no_turn, spelled_turn, spelled_where}
@@ -33,16 +34,16 @@ whole_cells (suc (suc (suc zero))) h = record { width = refl; height = refl; acr
 whole_cells (suc (suc (suc (suc zero)))) h = record { width = refl; height = refl; across = (1, refl); down = (1, refl); not_wide = omega arith; not_high = omega arith }
 whole_cells (suc (suc (suc (suc (suc k))))) h = absurd (omega arith)
 
-pub wide_cells : (k : ℕ) → suc k ≤ 4 → HasCells (wide_size (suc k)) (2 * 2 ^ k) (2 ^ k)
-unfolding wide_size
+pub wide_cells : (k : ℕ) → suc k ≤ 4 → HasCells (part_size (suc k) PARTITION_HORZ) (2 * 2 ^ k) (2 ^ k)
+unfolding part_size whole_size
 wide_cells zero h = record { width = refl; height = refl; across = (8, refl); down = (16, refl); not_wide = omega arith; not_high = omega arith }
 wide_cells (suc zero) h = record { width = refl; height = refl; across = (4, refl); down = (8, refl); not_wide = omega arith; not_high = omega arith }
 wide_cells (suc (suc zero)) h = record { width = refl; height = refl; across = (2, refl); down = (4, refl); not_wide = omega arith; not_high = omega arith }
 wide_cells (suc (suc (suc zero))) h = record { width = refl; height = refl; across = (1, refl); down = (2, refl); not_wide = omega arith; not_high = omega arith }
 wide_cells (suc (suc (suc (suc k)))) h = absurd (omega arith)
 
-pub tall_cells : (k : ℕ) → suc k ≤ 4 → HasCells (tall_size (suc k)) (2 ^ k) (2 * 2 ^ k)
-unfolding tall_size
+pub tall_cells : (k : ℕ) → suc k ≤ 4 → HasCells (part_size (suc k) PARTITION_VERT) (2 ^ k) (2 * 2 ^ k)
+unfolding part_size whole_size
 tall_cells zero h = record { width = refl; height = refl; across = (16, refl); down = (8, refl); not_wide = omega arith; not_high = omega arith }
 tall_cells (suc zero) h = record { width = refl; height = refl; across = (8, refl); down = (4, refl); not_wide = omega arith; not_high = omega arith }
 tall_cells (suc (suc zero)) h = record { width = refl; height = refl; across = (4, refl); down = (2, refl); not_wide = omega arith; not_high = omega arith }
@@ -160,17 +161,17 @@ module _ (h : Header) (P : LeafValue → Type 0) (each : (size : BlockSize) (x y
       let cells = wide_cells k le in
       let (upper, lower) = both_halves k y at_y in
       let t = rw (behind_half k y) at s in
-      all_both (part h (wide_size (suc k)) (4 * x) (4 * y)) (part h (wide_size (suc k)) (4 * x) (4 * (y + 2 ^ k))) ls
-      (λ xs a. all_part (wide_size (suc k)) (2 * 2 ^ k) (2 ^ k) x y xs cells wide upper a)
-      (λ ys b. all_part (wide_size (suc k)) (2 * 2 ^ k) (2 ^ k) x (y + 2 ^ k) ys cells wide lower b) t
+      all_both (part h (part_size (suc k) PARTITION_HORZ) (4 * x) (4 * y)) (part h (part_size (suc k) PARTITION_HORZ) (4 * x) (4 * (y + 2 ^ k))) ls
+      (λ xs a. all_part (part_size (suc k) PARTITION_HORZ) (2 * 2 ^ k) (2 ^ k) x y xs cells wide upper a)
+      (λ ys b. all_part (part_size (suc k) PARTITION_HORZ) (2 * 2 ^ k) (2 ^ k) x (y + 2 ^ k) ys cells wide lower b) t
   all_parts k x y (suc (suc zero)) ls le at_x at_y quarter s =
       let tall : IsOn (2 * 2 ^ k) y = subst (λ (d : ℕ). IsOn d y) (pow-succ' 2 k) at_y in
       let cells = tall_cells k le in
       let (left, right) = both_halves k x at_x in
       let t = rw (behind_half k x) at s in
-      all_both (part h (tall_size (suc k)) (4 * x) (4 * y)) (part h (tall_size (suc k)) (4 * (x + 2 ^ k)) (4 * y)) ls
-      (λ xs a. all_part (tall_size (suc k)) (2 ^ k) (2 * 2 ^ k) x y xs cells left tall a)
-      (λ ys b. all_part (tall_size (suc k)) (2 ^ k) (2 * 2 ^ k) (x + 2 ^ k) y ys cells right tall b) t
+      all_both (part h (part_size (suc k) PARTITION_VERT) (4 * x) (4 * y)) (part h (part_size (suc k) PARTITION_VERT) (4 * (x + 2 ^ k)) (4 * y)) ls
+      (λ xs a. all_part (part_size (suc k) PARTITION_VERT) (2 ^ k) (2 * 2 ^ k) x y xs cells left tall a)
+      (λ ys b. all_part (part_size (suc k) PARTITION_VERT) (2 ^ k) (2 * 2 ^ k) (x + 2 ^ k) y ys cells right tall b) t
   all_parts k x y (suc (suc (suc mark))) ls le at_x at_y quarter s =
       let (left, right) = both_halves k x at_x in
       let (upper, lower) = both_halves k y at_y in

@@ -1,7 +1,8 @@
 -- What holds of the leaves of a valid plan: each passes all six tests, its transforms fit it, and its triples fit their blocks.
-use Rattle.std.proofs.Common.{ℕ, zero, suc, ◌+◌, ◌≡◌, ◌≤◌, ◌<◌, nat_lt, Bool, true, false, ◌&&◌, ◌||◌, not, if◌then◌else◌, List, [], ◌∷◌, Option, Some, None, All, slice_index_or, refl, subst, arith}
-use Rattle.std.specs.Prelude.{nat_le}
-use Rattle.std.proofs.lemmas.Bool.{and_parts, ltb-true, leb-true}
+use Rattle.std.proofs.Common.{ℕ, zero, suc, ◌+◌, ◌≡◌, ◌≤◌, ◌<◌, nat_lt, Bool, true, false, ◌&&◌, ◌||◌, not, if◌then◌else◌, inl, inr, List, [], ◌∷◌, length, get_or, Option, Some, None, All, slice_index_or, refl, subst, arith}
+use Rattle.std.specs.Prelude.{nat_le, ◌==◌}
+use Rattle.std.specs.List.{list_all}
+use Rattle.std.proofs.lemmas.Bool.{and_parts, or_cases, eqb-true, ltb-true, leb-true}
 use Rattle.av1_blocks.specs.declared.partition.BlockSize.{BlockSize}
 use Rattle.av1_blocks.specs.declared.transform.TxSize.{TxSize}
 use Rattle.av1_blocks.specs.declared.transform.TxType.{TxType}
@@ -15,7 +16,7 @@ use Rattle.av1_plan.specs.declared.header.Header.{Header}
 use Rattle.av1_plan.specs.declared.leaf.Triple.{Triple}
 use Rattle.av1_plan.specs.Geometry.{carries_chroma, plane_tx_size, plane_area, has_block}
 use Rattle.av1_plan.specs.Plan.{LeafValue, PlanValue}
-use Rattle.av1_plan.specs.Validity.{fits_signed, is_coefficient, is_behind, are_coefficients, has_plane_coefficients, has_coefficients, has_block_size, is_transform, has_transforms, has_modes, has_vectors, has_references, fault_of, or_later, fault_from, first_fault}
+use Rattle.av1_plan.specs.Validity.{fits_signed, is_coefficient, is_before, rise, are_coefficients, has_plane_coefficients, has_coefficients, has_block_size, is_transform, has_transforms, has_modes, has_vectors, has_references, fault_of, or_later, fault_from, first_fault}
 
 -- ---- the six tests
 
@@ -51,7 +52,7 @@ none_later : (n : ℕ) (fault : Option InvalidKind) (later : Option Invalid) →
 none_later n None later e = (refl, e)
 none_later n (Some kind) later e = absurd cc
 
-faultless : (h : Header) (n : ℕ) (leaves : List LeafValue) → fault_from h n leaves ≡ None → All (λ l. fault_of h l ≡ None) leaves
+pub faultless : (h : Header) (n : ℕ) (leaves : List LeafValue) → fault_from h n leaves ≡ None → All (λ l. fault_of h l ≡ None) leaves
 unfolding fault_from
 faultless h n [] e k d within = absurd (omega arith)
 faultless h n (l ∷ leaves) e zero d within = (none_later n (fault_of h l) (fault_from h (n + 1) leaves) e).0
@@ -106,19 +107,15 @@ fitting_triple h p a t e =
     let (block, place) = and_parts (has_block h p a t.block) (nat_lt t.place (coded_area a.tx_size)) stands in
     record { block = block; place = ltb-true t.place (coded_area a.tx_size) place; value = value }
 
--- what the first triple passes, and what the others do
-pub first_and_rest : (h : Header) (p : ℕ) (a : PlaneArea) (before : Option Triple) (t : Triple) (triples : List Triple) → are_coefficients h p a before (t ∷ triples) ≡ true
-    → (is_coefficient h p a t ≡ true) × (is_behind before t ≡ true) × (are_coefficients h p a (Some t) triples ≡ true)
-unfolding are_coefficients
-first_and_rest h p a before t triples e =
-    let (front, rest) = and_parts (is_coefficient h p a t && is_behind before t) (are_coefficients h p a (Some t) triples) e in
-    let (fits, behind) = and_parts (is_coefficient h p a t) (is_behind before t) front in
-    (fits, behind, rest)
+-- what a test says of each of a list
+pub all_by : {A : Type 0} (test : A → Bool) (P : A → Type 0) → ((x : A) → test x ≡ true → P x) → (xs : List A) → list_all test xs ≡ true → All P xs
+all_by test P each [] e k d within = absurd (omega arith)
+all_by test P each (x ∷ xs) e zero d within = each x (and_parts (test x) (list_all test xs) e).0
+all_by test P each (x ∷ xs) e (suc k) d within = all_by test P each xs (and_parts (test x) (list_all test xs) e).1 k d (omega arith)
 
-fitting_list : (h : Header) (p : ℕ) (a : PlaneArea) (before : Option Triple) (triples : List Triple) → are_coefficients h p a before triples ≡ true → All (IsFittingTriple h p a) triples
-fitting_list h p a before [] e k d within = absurd (omega arith)
-fitting_list h p a before (t ∷ triples) e zero d within = let (fits, _, _) = first_and_rest h p a before t triples e in fitting_triple h p a t fits
-fitting_list h p a before (t ∷ triples) e (suc k) d within = let (_, _, rest) = first_and_rest h p a before t triples e in fitting_list h p a (Some t) triples rest k d (omega arith)
+fitting_list : (h : Header) (p : ℕ) (a : PlaneArea) (triples : List Triple) → are_coefficients h p a triples ≡ true → All (IsFittingTriple h p a) triples
+unfolding are_coefficients
+fitting_list h p a triples e = all_by (is_coefficient h p a) (IsFittingTriple h p a) (fitting_triple h p a) triples (and_parts (list_all (is_coefficient h p a) triples) (rise triples) e).0
 
 -- the leaf's triples in plane p do
 abbrev pub FitIn : Header → LeafValue → ℕ → Type 0
@@ -149,9 +146,54 @@ passed_planes h l e =
 
 fit_in : (h : Header) (l : LeafValue) (p : ℕ) → has_plane_coefficients h l p ≡ true → FitIn h l p
 unfolding has_plane_coefficients
-fit_in h l p e = fitting_list h p (plane_area h l.x l.y l.size l.tx_size p) None (slice_index_or l.triples p []) e
+fit_in h l p e = fitting_list h p (plane_area h l.x l.y l.size l.tx_size p) (slice_index_or l.triples p []) e
 
 pub fitting_triples : (h : Header) (l : LeafValue) → IsValidLeaf h l → HasFittingTriples h l
 fitting_triples h l valid =
     let passed = passed_planes h l valid.coefficients in
     record { y = fit_in h l 0 passed.y; u = λ carried. fit_in h l 1 (passed.u carried); v = λ carried. fit_in h l 2 (passed.v carried) }
+
+-- ---- their order
+
+rising_in : (h : Header) (l : LeafValue) (p : ℕ) → has_plane_coefficients h l p ≡ true → rise (slice_index_or l.triples p []) ≡ true
+unfolding has_plane_coefficients are_coefficients
+rising_in h l p e = (and_parts (list_all (is_coefficient h p (plane_area h l.x l.y l.size l.tx_size p)) (slice_index_or l.triples p [])) (rise (slice_index_or l.triples p [])) e).1
+
+-- in each plane of which the leaf covers a part, the triples rise
+pub record HasRisingTriples (h : Header) (l : LeafValue) : Type 0 where
+  pub y : rise (slice_index_or l.triples 0 []) ≡ true
+  pub u : carries_chroma h l.x l.y l.size ≡ true → rise (slice_index_or l.triples 1 []) ≡ true
+  pub v : carries_chroma h l.x l.y l.size ≡ true → rise (slice_index_or l.triples 2 []) ≡ true
+
+pub rising_triples : (h : Header) (l : LeafValue) → IsValidLeaf h l → HasRisingTriples h l
+rising_triples h l valid =
+    let passed = passed_planes h l valid.coefficients in
+    record { y = rising_in h l 0 passed.y; u = λ carried. rising_in h l 1 (passed.u carried); v = λ carried. rising_in h l 2 (passed.v carried) }
+
+no_later : (s t : Triple) → is_before s t ≡ true → s.block ≤ t.block
+unfolding is_before
+no_later s t e = elim (or_cases (nat_lt s.block t.block) (s.block == t.block && nat_lt s.place t.place) e) [
+  | inl less ↦ omega (arith, ltb-true s.block t.block less)
+  | inr same ↦ omega (arith, eqb-true s.block t.block (and_parts (s.block == t.block) (nat_lt s.place t.place) same).0)
+]
+
+first_block : (s : Triple) (triples : List Triple) → rise (s ∷ triples) ≡ true → (j : ℕ) (d : Triple) → j < length triples → s.block ≤ (get_or triples j d).block
+unfolding rise
+first_block s [] e j d lt = absurd (omega arith)
+first_block s (t ∷ triples) e zero d lt = no_later s t (and_parts (is_before s t) (rise (t ∷ triples)) e).0
+first_block s (t ∷ triples) e (suc j) d lt =
+    let (next, rest) = and_parts (is_before s t) (rise (t ∷ triples)) e in
+    omega (arith, no_later s t next, first_block t triples rest j d (omega arith))
+
+rest_rises : (t : Triple) (triples : List Triple) → rise (t ∷ triples) ≡ true → rise triples ≡ true
+unfolding rise
+rest_rises t [] e = refl
+rest_rises t (u ∷ triples) e = (and_parts (is_before t u) (rise (u ∷ triples)) e).1
+
+-- triples that rise rise by their blocks
+pub blocks_rise : (triples : List Triple) → rise triples ≡ true → (i j : ℕ) (d : Triple) → i ≤ j → j < length triples → (get_or triples i d).block ≤ (get_or triples j d).block
+blocks_rise [] e i j d le lt = absurd (omega arith)
+blocks_rise (t ∷ triples) e zero zero d le lt = omega arith
+blocks_rise (t ∷ triples) e zero (suc j) d le lt = first_block t triples e j d (omega arith)
+blocks_rise (t ∷ triples) e (suc i) zero d le lt = absurd (omega arith)
+blocks_rise (t ∷ triples) e (suc i) (suc j) d le lt = blocks_rise triples (rest_rises t triples e) i j d (omega arith) (omega arith)

@@ -5,11 +5,11 @@ use Rattle.av1_plan.specs.declared.built.Field.TheVariants.{Sampling, Mask, Luma
 
 -- whether this value of this field is built
 unfoldable pub is_built : Field → ℕ → Bool
-is_built Sampling v = v == 2
+is_built Sampling v = true
 is_built Mask v = v == 0
-is_built LumaMode v = nat_le v 2
-is_built ChromaMode v = nat_le v 2
-is_built AngleStep v = v == 0
+is_built LumaMode v = nat_le v 12
+is_built ChromaMode v = nat_le v 12
+is_built AngleStep v = true
 is_built Alpha v = false
 is_built Reference v = false
 is_built Vector v = false

@@ -1,12 +1,14 @@
 -- The plan grammar: the fields of a plan, in their order. Numbers are little-endian.
-use Rattle.std.specs.Prelude.{codes, zero, suc, ◌+◌, ◌*◌, ◌/◌, ◌%◌, ◌^◌, ◌&&◌, ◌||◌, slice_index_or, Option, Some, None, nat_lt, nat_le, ℕ, ◌≤◌, IsTrue, Bool, true, false, ◌==◌, if◌then◌else◌, List, [], ◌∷◌}
-use Rattle.std.specs.List.{list_all}
+use Rattle.std.specs.Prelude.{codes, zero, suc, ◌+◌, ◌*◌, ◌/◌, ◌%◌, ◌^◌, ◌&&◌, ◌||◌, slice_index_or, Option, Some, None, nat_lt, ℕ, Bool, true, false, ◌==◌, if◌then◌else◌, List, [], ◌∷◌}
+use Rattle.std.specs.Result.{result_unwrap_or}
 use Rattle.std.specs.Int.{w8, w16, w32, cast_signed, is_in_range, from_le_bytes}
 use Rattle.av1_blocks.specs.declared.mc.FilterMode.TheVariants.{REGULAR}
 use Rattle.av1_blocks.specs.declared.mc.TheConstants.FilterMode as filter_modes
 use Rattle.av1_blocks.specs.declared.mc.MotionVector.{MotionVector}
 use Rattle.av1_blocks.specs.declared.partition.BlockSize.{BlockSize}
-use Rattle.av1_blocks.specs.declared.partition.BlockSize.TheVariants.{BLOCK_4X4, BLOCK_4X8, BLOCK_8X4, BLOCK_8X8, BLOCK_8X16, BLOCK_16X8, BLOCK_16X16, BLOCK_16X32, BLOCK_32X16, BLOCK_32X32, BLOCK_32X64, BLOCK_64X32, BLOCK_64X64}
+use Rattle.av1_blocks.specs.declared.partition.BlockSize.TheVariants.{BLOCK_4X4, BLOCK_8X8, BLOCK_16X16, BLOCK_32X32, BLOCK_64X64}
+use Rattle.av1_blocks.specs.declared.partition.PartitionType.{PartitionType}
+use Rattle.av1_blocks.specs.declared.partition.PartitionType.TheVariants.{PARTITION_HORZ, PARTITION_VERT}
 use Rattle.av1_blocks.specs.declared.partition.RefType.{RefType}
 use Rattle.av1_blocks.specs.declared.partition.RefType.TheVariants.{INTRA_FRAME}
 use Rattle.av1_blocks.specs.declared.partition.TheConstants.RefType as references_by_number
@@ -19,6 +21,7 @@ use Rattle.av1_blocks.specs.declared.transform.TheConstants.TxSize as tx_sizes
 use Rattle.av1_blocks.specs.declared.transform.TxType.{TxType}
 use Rattle.av1_blocks.specs.declared.transform.TxType.TheVariants.{DCT_DCT}
 use Rattle.av1_blocks.specs.declared.transform.TheConstants.TxType as tx_types
+use Rattle.av1_blocks.specs.Parts.{subsize}
 use Rattle.av1_plan.specs.Format.{Length, one, two, four, Kind, Format, done, ◌>>=◌, field, any, nothing, lone, ◌++>◌, in_turn}
 use Rattle.av1_plan.specs.Built.{is_built}
 use Rattle.av1_plan.specs.Geometry.{plane_len, has_slot, is_inside, carries_chroma}
@@ -47,8 +50,8 @@ abbrev pub signed_byte : Field → Kind
 signed_byte name = byte_from name 0 255
 
 -- two bytes, any number
-abbrev pub half : Field → Kind
-half name = where_ two name (λ _. true)
+abbrev pub u16_field : Field → Kind
+u16_field name = where_ two name (λ _. true)
 
 -- ---- what stands before the leaves
 
@@ -63,14 +66,6 @@ is_side v = v % 8 == 0 && is_in_range 8 2048 v
 -- bits of a sample
 abbrev pub is_depth : ℕ → Bool
 is_depth v = v == 8 || v == 10 || v == 12
-
--- the values of a header are admitted
-pub record IsAdmittedHeader (h : Header) : Type 0 where
-  pub width : IsTrue (is_side h.width)
-  pub height : IsTrue (is_side h.height)
-  pub depth : IsTrue (is_depth h.depth)
-  pub sampling : h.sampling ≤ 2
-  pub slots : IsTrue (list_all (λ slot. nat_le slot 7) h.slots)
 
 -- the slots that LAST, LAST2, LAST3, GOLDEN, BWDREF, ALTREF2 and ALTREF name
 unfoldable pub slots : Format (List ℕ)
@@ -127,8 +122,8 @@ references h = in_turn (λ slot. lone (slot_planes h slot)) 0 8
 -- down and right, in eighths of a sample
 unfoldable pub vector : Format MotionVector
 vector = do
-  row ← field (half fields.Vector)
-  col ← field (half fields.Vector)
+  row ← field (u16_field fields.Vector)
+  col ← field (u16_field fields.Vector)
   done (record { row = cast_signed w16 row; col = cast_signed w16 col })
 
 -- a reference frame, from LAST to ALTREF
@@ -241,13 +236,9 @@ half_side level = 2 * 2 ^ level
 unfoldable pub whole_size : ℕ → BlockSize
 whole_size level = slice_index_or (BLOCK_4X4 ∷ BLOCK_8X8 ∷ BLOCK_16X16 ∷ BLOCK_32X32 ∷ BLOCK_64X64 ∷ []) level BLOCK_4X4
 
--- the size of the upper and the lower half of a node
-unfoldable pub wide_size : ℕ → BlockSize
-wide_size level = slice_index_or (BLOCK_4X4 ∷ BLOCK_8X4 ∷ BLOCK_16X8 ∷ BLOCK_32X16 ∷ BLOCK_64X32 ∷ []) level BLOCK_4X4
-
--- the size of the left and the right half of a node
-unfoldable pub tall_size : ℕ → BlockSize
-tall_size level = slice_index_or (BLOCK_4X4 ∷ BLOCK_4X8 ∷ BLOCK_8X16 ∷ BLOCK_16X32 ∷ BLOCK_32X64 ∷ []) level BLOCK_4X4
+-- the size of the parts of a node that is cut in two so (where it can't be, the node's own)
+unfoldable pub part_size : ℕ → PartitionType → BlockSize
+part_size level partition = result_unwrap_or (subsize (whole_size level) partition) (whole_size level)
 
 -- a part whose corner lies outside the frame isn't in the plan
 abbrev pub inside : Header → ℕ → ℕ → Format (List LeafValue) → Format (List LeafValue)
@@ -261,8 +252,8 @@ part h size x y = inside h x y (lone (leaf h size x y))
 -- side at a place
 unfoldable pub parts : Header → ℕ → (ℕ → ℕ → Format (List LeafValue)) → ℕ → ℕ → ℕ → Format (List LeafValue)
 parts h level quarter x y zero = part h (whole_size level) x y
-parts h level quarter x y (suc zero) = part h (wide_size level) x y ++> part h (wide_size level) x (y + half_side level)
-parts h level quarter x y (suc (suc zero)) = part h (tall_size level) x y ++> part h (tall_size level) (x + half_side level) y
+parts h level quarter x y (suc zero) = part h (part_size level PARTITION_HORZ) x y ++> part h (part_size level PARTITION_HORZ) x (y + half_side level)
+parts h level quarter x y (suc (suc zero)) = part h (part_size level PARTITION_VERT) x y ++> part h (part_size level PARTITION_VERT) (x + half_side level) y
 parts h level quarter x y (suc (suc (suc mark))) = quarter x y ++> quarter (x + half_side level) y ++> quarter x (y + half_side level) ++> quarter (x + half_side level) (y + half_side level)
 
 -- a part of side 4 * 2 ^ level: a 4x4 leaf at level 0, else a node

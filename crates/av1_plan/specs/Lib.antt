@@ -5,6 +5,7 @@ pub mod Geometry
 pub mod Plan
 pub mod Tree
 pub mod CodingOrder
+pub mod ReadPlans
 pub mod Validity
 pub mod Grammar
 pub mod Reading

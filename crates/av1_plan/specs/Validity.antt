@@ -5,8 +5,11 @@ use Rattle.av1_blocks.specs.declared.mc.MotionVector.{MotionVector}
 use Rattle.av1_blocks.specs.declared.partition.BlockSize.{BlockSize}
 use Rattle.av1_blocks.specs.declared.partition.RefType.{RefType}
 use Rattle.av1_blocks.specs.declared.predict.PredictionMode.{PredictionMode}
+use Rattle.av1_blocks.specs.declared.context.TheConstants.{MV_LOW, MV_UPP}
 use Rattle.av1_blocks.specs.declared.transform.TxSize.{TxSize}
+use Rattle.av1_blocks.specs.declared.transform.TxSize.TheVariants.{TX_4X4}
 use Rattle.av1_blocks.specs.declared.transform.TxType.{TxType}
+use Rattle.av1_blocks.specs.declared.transform.TxType.TheVariants.{WHT_WHT}
 use Rattle.av1_blocks.specs.Blocks.{block_width, block_height}
 use Rattle.av1_blocks.specs.Chroma.{subsampled_size}
 use Rattle.av1_blocks.specs.Modes.{is_cfl, is_directional}
@@ -33,7 +36,7 @@ has_block_size h size = is_ok (subsampled_size size (xdec h 1) (ydec h 1))
 
 -- a transform of this size may be of this type; the Walsh-Hadamard transform is for 4x4 alone
 unfoldable pub is_transform : TxSize → TxType → Bool
-is_transform size type = valid_av1_transform size type && (not (tx_type_number type == 16) || tx_number size == 0)
+is_transform size type = valid_av1_transform size type && (not (tx_type_number type == tx_type_number WHT_WHT) || tx_number size == tx_number TX_4X4)
 
 -- luma's transforms are no longer than the leaf, and all are of a type that their size has
 unfoldable pub has_transforms : Header → BlockSize → TxSize → TxType → Option TxType → Bool
@@ -46,9 +49,13 @@ has_transforms h size tx_size tx_type None = nat_le (tx_width tx_size) (block_wi
 unfoldable pub is_step : PredictionMode → ℤ → Bool
 is_step mode step = nat_le (nat_abs step) 3 && (nat_abs step == 0 || is_directional mode)
 
--- the two weights lie from -16 to 16, and no side of the leaf is past 32
+-- chroma of a leaf without a side past 32 may be predicted from luma
+unfoldable pub cfl_allowed : BlockSize → Bool
+cfl_allowed size = nat_le (block_width size) 32 && nat_le (block_height size) 32
+
+-- the two weights lie from -16 to 16, and chroma of the leaf may be predicted so
 unfoldable pub is_chroma_from_luma : BlockSize → ℤ → ℤ → Bool
-is_chroma_from_luma size u v = nat_le (nat_abs u) 16 && nat_le (nat_abs v) 16 && nat_le (block_width size) 32 && nat_le (block_height size) 32
+is_chroma_from_luma size u v = nat_le (nat_abs u) 16 && nat_le (nat_abs v) 16 && cfl_allowed size
 
 -- a chroma mode that a leaf of this size may have
 unfoldable pub is_chroma_mode : BlockSize → ChromaMode → Bool
@@ -68,9 +75,13 @@ has_modes size (Compound mode references mvs) = is_inter_size size
 
 -- ---- vectors and references
 
--- both components lie strictly between -16384 and 16384
+-- strictly between the bounds of a component
+unfoldable pub is_valid_component : ℤ → Bool
+is_valid_component z = int_lt MV_LOW z && int_lt z MV_UPP
+
+-- both components are: the vectors that a bitstream may hold
 unfoldable pub is_valid_vector : MotionVector → Bool
-is_valid_vector v = nat_lt (nat_abs v.row) 16384 && nat_lt (nat_abs v.col) 16384
+is_valid_vector v = is_valid_component v.row && is_valid_component v.col
 
 -- all vectors of a leaf do
 unfoldable pub has_vectors : LeafKind → Bool
@@ -98,19 +109,28 @@ fits_signed bits v = not (int_lt v (neg_ℤ (pos (2 ^ (bits - 1))))) && int_lt v
 unfoldable pub is_coefficient : Header → ℕ → PlaneArea → Triple → Bool
 is_coefficient h p a t = has_block h p a t.block && nat_lt t.place (coded_area a.tx_size) && fits_signed (h.depth + 8) t.value
 
--- it stands behind another: in a later block, or at a later place of the same
-unfoldable pub is_behind : Option Triple → Triple → Bool
-is_behind None t = true
-is_behind (Some s) t = nat_lt s.block t.block || (s.block == t.block && nat_lt s.place t.place)
+-- a triple stands before another: in an earlier block, or at an earlier place of the same
+unfoldable pub is_before : Triple → Triple → Bool
+is_before s t = nat_lt s.block t.block || (s.block == t.block && nat_lt s.place t.place)
 
--- the triples behind one (or the first ones) are coefficients, and rise strictly by block and place
-unfoldable pub are_coefficients : Header → ℕ → PlaneArea → Option Triple → List Triple → Bool
-are_coefficients h p a before [] = true
-are_coefficients h p a before (t ∷ triples) = is_coefficient h p a t && is_behind before t && are_coefficients h p a (Some t) triples
+-- of triples each stands before the next
+unfoldable pub rise : List Triple → Bool
+rise [] = true
+rise (t ∷ []) = true
+rise (s ∷ t ∷ triples) = is_before s t && rise (t ∷ triples)
+
+-- a triple may come behind the last one, where there is one: a word of a private contract
+unfoldable pub follows : Option Triple → Triple → Bool
+follows None t = true
+follows (Some s) t = is_before s t
+
+-- all triples are coefficients of blocks that begin in the visible plane, and they rise strictly by block and place
+unfoldable pub are_coefficients : Header → ℕ → PlaneArea → List Triple → Bool
+are_coefficients h p a triples = list_all (is_coefficient h p a) triples && rise triples
 
 -- the leaf's triples in plane p
 unfoldable pub has_plane_coefficients : Header → LeafValue → ℕ → Bool
-has_plane_coefficients h l p = are_coefficients h p (plane_area h l.x l.y l.size l.tx_size p) None (slice_index_or l.triples p [])
+has_plane_coefficients h l p = are_coefficients h p (plane_area h l.x l.y l.size l.tx_size p) (slice_index_or l.triples p [])
 
 -- the leaf's triples in all planes that it covers
 unfoldable pub has_coefficients : Header → LeafValue → Bool

@@ -8,13 +8,16 @@ impl Plan {
     ghost use Rattle.std.specs.Prelude.{◌≡◌, ◌<◌, ◌↔◌, length, IfSome, IfNone, IsSome, IsTrue, Some, None};
     ghost use Rattle.av1_plan.specs.Answer.{plan_value, stored_leaves};
     ghost use Rattle.std.specs.List.{All};
-    ghost use Rattle.av1_plan.specs.CodingOrder.{IsOnGrid, AreInCodingOrder};
+    ghost use Rattle.av1_plan.specs.CodingOrder.{AreInCodingOrder};
     ghost use Rattle.av1_plan.specs.Geometry.{has_slot};
     ghost use Rattle.av1_plan.specs.Plan.{reference_of, triples_of};
+    ghost use Rattle.av1_plan.specs.ReadPlans.{IsReadFrame, IsReadLeaf, ArePlane};
 
     /// The frame, and what holds for all leaves.
     pub fn header(&self) -> &Header
-        ensures { result.now ≡ (plan_value self.now).header }
+        ensures value { result.now ≡ (plan_value self.now).header }
+        // Its sides, depth, sampling, filter and slots lie in their ranges.
+        ensures read { IsReadFrame result.now }
     {
         &self.header
     }
@@ -22,7 +25,8 @@ impl Plan {
     /// The leaves, in coding order: those of one tree of marks for each superblock.
     pub fn leaves(&self) -> &[Leaf]
         ensures items { result.now ≡ stored_leaves self.now }
-        ensures places { All (IsOnGrid (plan_value self.now).header) (plan_value self.now).leaves }
+        // Each stands on its grid, and has a chroma mode and a chroma type exactly where it carries chroma.
+        ensures read { All (IsReadLeaf (plan_value self.now).header) (plan_value self.now).leaves }
         ensures order { ∥ AreInCodingOrder (plan_value self.now).header (λ l. l) (plan_value self.now).leaves ∥₁ }
     {
         &self.leaves
@@ -35,6 +39,8 @@ impl Plan {
         ensures present { IsSome result ↔ IsTrue (has_slot (plan_value self.now).header slot) }
         ensures some { IfSome result (λ s. reference_of (plan_value self.now) slot p ≡ Some s.now) }
         ensures none { IfNone result (reference_of (plan_value self.now) slot p ≡ None) }
+        // As many as the plane has, each below `1 << depth`.
+        ensures read { IfSome result (λ s. ArePlane (plan_value self.now).header p s.now) }
     {
         let planes = self.references[slot].as_ref()?;
         match p {

@@ -35,10 +35,9 @@ pub fn is_built(field: Field, value: u32) -> bool
     ensures { result ≡ is_built field value }
 {
     match field {
-        Field::Sampling => value == 2,
-        Field::LumaMode | Field::ChromaMode => value <= 2,
-        Field::Mask | Field::AngleStep => value == 0,
+        Field::LumaMode | Field::ChromaMode => value <= 12,
+        Field::Mask => value == 0,
         Field::Alpha | Field::Reference | Field::Vector => false,
-        Field::Other => true,
+        Field::Sampling | Field::AngleStep | Field::Other => true,
     }
 }

@@ -18,7 +18,8 @@ ghost use Rattle.av1_plan.specs.Validity.{
   has_references,
   fits_signed,
   is_coefficient,
-  is_behind,
+  is_before,
+  follows,
   are_coefficients,
   has_plane_coefficients,
   has_coefficients,
@@ -47,7 +48,9 @@ fn has_block_size(header: &Header, size: BlockSize) -> bool
 fn is_transform(tx_size: TxSize, tx_type: TxType) -> bool
     ensures { result ≡ is_transform tx_size tx_type }
 {
-    valid_av1_transform(tx_size, tx_type) && (tx_type.number() != 16 || tx_size.number() == 0)
+    valid_av1_transform(tx_size, tx_type)
+        && (tx_type.number() != TxType::WHT_WHT.number()
+            || tx_size.number() == TxSize::TX_4X4.number())
 }
 
 /// Whether a leaf's transforms fit it and are of a type that their size has.
@@ -79,7 +82,7 @@ fn is_step(mode: PredictionMode, step: i8) -> bool
 }
 
 /// Whether a leaf of this size may be predicted from luma with these weights.
-#[tactic(auto, unfolding(crate::specs::Validity::is_chroma_from_luma))]
+#[tactic(auto, unfolding(crate::specs::Validity::is_chroma_from_luma, crate::specs::Validity::cfl_allowed))]
 fn is_chroma_from_luma(size: BlockSize, alpha_u: i8, alpha_v: i8) -> bool
     ensures { result ≡ is_chroma_from_luma size alpha_u alpha_v }
 {
@@ -97,9 +100,9 @@ fn is_chroma_mode(size: BlockSize, chroma: ChromaMode) -> bool
     }
 }
 
-/// Whether an inter leaf may have this size.
+/// Whether an inter leaf may have this size: no side is under 8.
 #[tactic(auto, unfolding(crate::specs::Validity::is_inter_size))]
-fn is_inter_size(size: BlockSize) -> bool
+pub fn is_inter_size(size: BlockSize) -> bool
     ensures { result ≡ is_inter_size size }
 {
     8 <= size.width() && 8 <= size.height()
@@ -126,11 +129,10 @@ fn has_modes(size: BlockSize, kind: LeafKind) -> bool
 }
 
 /// Whether a vector is one that a bitstream may hold.
-#[tactic(auto, unfolding(crate::specs::Validity::is_valid_vector))]
 fn is_valid_vector(mv: MotionVector) -> bool
     ensures { result ≡ is_valid_vector mv }
 {
-    mv.row.unsigned_abs() < 16384 && mv.col.unsigned_abs() < 16384
+    mv.is_valid()
 }
 
 /// Whether a leaf's vectors are ones that a bitstream may hold.
@@ -205,16 +207,21 @@ fn is_coefficient(header: &Header, p: usize, area: &PlaneArea, triple: &Triple) 
         && fits_depth(header.depth, triple.value)
 }
 
-/// Whether a triple may stand behind another.
-#[tactic(auto, unfolding(crate::specs::Validity::is_behind))]
-fn is_behind(before: Option<Triple>, triple: &Triple) -> bool
-    ensures { result ≡ is_behind before triple.now }
+/// Whether a triple stands before another.
+#[tactic(auto, unfolding(crate::specs::Validity::is_before))]
+fn is_before(first: &Triple, second: &Triple) -> bool
+    ensures { result ≡ is_before first.now second.now }
 {
-    match before {
-        Some(before) => {
-            before.block < triple.block
-                || (before.block == triple.block && before.place < triple.place)
-        }
+    first.block < second.block || (first.block == second.block && first.place < second.place)
+}
+
+/// Whether a triple may come behind the last one.
+#[tactic(auto, unfolding(crate::specs::Validity::follows))]
+fn follows(last: Option<Triple>, triple: &Triple) -> bool
+    ensures { result ≡ follows last triple.now }
+{
+    match last {
+        Some(last) => is_before(&last, triple),
         None => true,
     }
 }
@@ -223,17 +230,17 @@ fn is_behind(before: Option<Triple>, triple: &Triple) -> bool
 #[tactic(auto, using(crate::proofs::Faults::triples_end))]
 fn are_coefficients(header: &Header, p: usize, area: &PlaneArea, triples: &[Triple]) -> bool
     requires { header.now.depth ≤ 12 }
-    ensures { result ≡ are_coefficients header.now p area.now None triples.now }
+    ensures { result ≡ are_coefficients header.now p area.now triples.now }
 {
-    let mut before = None;
+    let mut last = None;
     for triple in triples {
         if !is_coefficient(header, p, area, triple) {
             return false;
         }
-        if !is_behind(before, triple) {
+        if !follows(last, triple) {
             return false;
         }
-        before = Some(*triple);
+        last = Some(*triple);
     }
     true
 }

@@ -184,7 +184,7 @@ impl PlaneArea {
 
     /// How many transform blocks stand side by side.
     #[tactic(auto, unfolding(crate::specs::Geometry::blocks_across))]
-    fn blocks_across(&self) -> usize
+    pub fn blocks_across(&self) -> usize
         ensures value { result ≡ blocks_across self.now }
         ensures small { result ≤ 32 }
     {

@@ -9,8 +9,13 @@
 //!   bytes and takes no memory for a leaf of its own: leaves lie in one list, and their coefficients in another.
 //! - A `Plan` keeps as a fact that a complete proper list of fields spells it. Its leaves stand in coding order: they are those
 //!   of one tree of marks for each superblock of the frame (`specs/Tree.antt`, `specs/CodingOrder.antt`).
+//! - What holds of every plan that is read, whatever of the grammar is built, its accessors say (`specs/ReadPlans.antt`): the
+//!   ranges of the frame's numbers, as many reference samples as a plane has and each of the frame's depth, and of a leaf that it
+//!   stands on its grid, has no side more than twice the other, and a chroma mode, a chroma type and triples of chroma where it
+//!   carries chroma alone.
 //! - `check_plan` accepts exactly the plans of which no leaf is faulty, and else names the first faulty leaf and the first
-//!   of its reasons (`specs/Validity.antt`).
+//!   of its reasons (`specs/Validity.antt`): sizes, transforms, modes, vectors, references, and coefficients that rise strictly by
+//!   block and place.
 //! - A leaf's rectangle in a plane, the size of its transforms there and the blocks that begin in the frame are worked out
 //!   here alone (`specs/Geometry.antt`), for the check and for the reconstruction.
 //!
@@ -30,11 +35,12 @@ mod plan;
 mod planes;
 mod reader;
 
-pub use check::check_plan;
+pub use check::{check_plan, is_inter_size};
 pub use error::{Invalid, InvalidKind, PlanError};
 pub use geometry::{PlaneArea, TransformBlock, carries_chroma, plane_tx_size};
 pub use header::Header;
 pub use leaf::{ChromaMode, Leaf, LeafKind, Triple};
+pub use nodes::{half_side, part_size, whole_size};
 pub use parse::parse_plan;
 pub use plan::Plan;
 

@@ -1,14 +1,14 @@
 //! Reading the leaves of a plan, node by node.
 
 ghost use Rattle.std.specs.Prelude.{◌≡◌, ◌*◌, ◌≤◌, ◌^◌};
-ghost use Rattle.av1_plan.specs.Grammar.{half_side, whole_size, wide_size, tall_size};
+ghost use Rattle.av1_plan.specs.Grammar.{half_side, whole_size, part_size};
 
 use crate::built::Field;
 use crate::error::PlanError;
 use crate::header::Header;
 use crate::leaf::{Leaf, Triple};
 use crate::reader::Reader;
-use av1_blocks::BlockSize;
+use av1_blocks::{BlockSize, PartitionType};
 use std::alloc::Global;
 
 /// The leaves and triples that were read, and what is left of the bytes.
@@ -87,12 +87,14 @@ impl<'a> Parser<'a> {
         match mark {
             0 => self.part(header, whole_size(level), x, y),
             1 => {
-                self.part(header, wide_size(level), x, y)?;
-                self.part(header, wide_size(level), x, below)
+                let wide = part_size(level, PartitionType::PARTITION_HORZ);
+                self.part(header, wide, x, y)?;
+                self.part(header, wide, x, below)
             }
             2 => {
-                self.part(header, tall_size(level), x, y)?;
-                self.part(header, tall_size(level), right, y)
+                let tall = part_size(level, PartitionType::PARTITION_VERT);
+                self.part(header, tall, x, y)?;
+                self.part(header, tall, right, y)
             }
             _ => {
                 self.block(header, level - 1, x, y)?;
@@ -166,7 +168,7 @@ impl<'a> Parser<'a> {
 }
 
 /// Half the side of a node of this level, which has side `4 << level`.
-fn half_side(level: u8) -> u16
+pub fn half_side(level: u8) -> u16
     requires { level ≤ 4 }
     ensures value { result ≡ half_side level }
     ensures small { result ≤ 32 }
@@ -183,47 +185,24 @@ const WHOLE_SIZES: [BlockSize; 5] = [
     BlockSize::BLOCK_64X64,
 ];
 
-/// The sizes of the upper and the lower half of a node, by the node's level.
-const WIDE_SIZES: [BlockSize; 5] = [
-    BlockSize::BLOCK_4X4,
-    BlockSize::BLOCK_8X4,
-    BlockSize::BLOCK_16X8,
-    BlockSize::BLOCK_32X16,
-    BlockSize::BLOCK_64X32,
-];
-
-/// The sizes of the left and the right half of a node, by the node's level.
-const TALL_SIZES: [BlockSize; 5] = [
-    BlockSize::BLOCK_4X4,
-    BlockSize::BLOCK_4X8,
-    BlockSize::BLOCK_8X16,
-    BlockSize::BLOCK_16X32,
-    BlockSize::BLOCK_32X64,
-];
-
 /// The size of a leaf that is a whole node of this level.
 #[tactic(auto, unfolding(crate::specs::Grammar::whole_size))]
-fn whole_size(level: u8) -> BlockSize
+pub fn whole_size(level: u8) -> BlockSize
     requires { level ≤ 4 }
     ensures { result ≡ whole_size level }
 {
     WHOLE_SIZES[usize::from(level)]
 }
 
-/// The size of the upper and the lower half of a node of this level.
-#[tactic(auto, unfolding(crate::specs::Grammar::wide_size))]
-fn wide_size(level: u8) -> BlockSize
+/// The size of the parts of a node of this level that is cut in two so. A node that can't be cut so keeps its size.
+#[tactic(auto, unfolding(crate::specs::Grammar::part_size))]
+pub fn part_size(level: u8, partition: PartitionType) -> BlockSize
     requires { level ≤ 4 }
-    ensures { result ≡ wide_size level }
+    ensures { result ≡ part_size level partition }
 {
-    WIDE_SIZES[usize::from(level)]
-}
-
-/// The size of the left and the right half of a node of this level.
-#[tactic(auto, unfolding(crate::specs::Grammar::tall_size))]
-fn tall_size(level: u8) -> BlockSize
-    requires { level ≤ 4 }
-    ensures { result ≡ tall_size level }
-{
-    TALL_SIZES[usize::from(level)]
+    let whole = whole_size(level);
+    match whole.subsize(partition) {
+        Ok(size) => size,
+        Err(_) => whole,
+    }
 }

@@ -1,7 +1,7 @@
 //! Plans in memory.
 
 ghost use Rattle.std.specs.Prelude.{◌≡◌, ◌≤◌, ◌^◌, length, vec_len};
-ghost use Rattle.av1_plan.specs.Grammar.{plan, IsAdmittedHeader};
+ghost use Rattle.av1_plan.specs.Grammar.{plan};
 ghost use Rattle.av1_plan.specs.Plan.{ArePresent, Follow, value_of};
 ghost use Rattle.av1_plan.specs.Spelling.{IsSpelled};
 
@@ -23,6 +23,5 @@ pub struct Plan {
     // A slot has planes exactly where the mask has it.
     ghost slots: { vec_len references ≡ 8 },
     ghost present: { ArePresent header references.items 8 },
-    ghost admitted: { IsAdmittedHeader header },
     ghost few: { vec_len leaves ≤ 2 ^ 26 },
 }

@@ -18,7 +18,7 @@ pub struct Reader<'a> {
 impl<'a> Reader<'a> {
     ghost use Rattle.std.specs.Prelude.{◌≡◌, ◌+◌, ◌<◌, ◌≤◌, ◌^◌, length, IfOk, OnOk};
     ghost use Rattle.av1_plan.specs.Format.{one, two, four, any, read_field};
-    ghost use Rattle.av1_plan.specs.Grammar.{byte_from, half};
+    ghost use Rattle.av1_plan.specs.Grammar.{byte_from, u16_field};
     ghost use Rattle.av1_plan.specs.Reading.{Gives, input, Fits, Moves};
 
     fn malformed<T>(&self) -> Result<T, PlanError>
@@ -47,7 +47,7 @@ impl<'a> Reader<'a> {
 
     /// Any number of two bytes.
     #[tactic(auto, unfolding(crate::specs::Format::read_field))]
-    fn any_half(&mut self) -> Result<u16, PlanError>
+    fn any_u16(&mut self) -> Result<u16, PlanError>
         requires { Fits self.old }
         ensures read { Gives (λ x. (x, input self.new)) result (read_field (any two) (input self.old)) }
         ensures takes { OnOk result (self.old.at < self.new.at) }
@@ -66,7 +66,7 @@ impl<'a> Reader<'a> {
 
     /// Any number of four bytes.
     #[tactic(auto, unfolding(crate::specs::Format::read_field))]
-    fn any_word(&mut self) -> Result<u32, PlanError>
+    fn any_u32(&mut self) -> Result<u32, PlanError>
         requires { Fits self.old }
         ensures read { Gives (λ x. (x, input self.new)) result (read_field (any four) (input self.old)) }
         ensures takes { OnOk result (self.old.at < self.new.at) }
@@ -105,13 +105,13 @@ impl<'a> Reader<'a> {
 
     /// Two bytes, any number.
     #[tactic(auto, using(crate::proofs::Narrow::narrow))]
-    fn half(&mut self, field: Field) -> Result<u16, PlanError>
+    fn u16_field(&mut self, field: Field) -> Result<u16, PlanError>
         requires { Fits self.old }
-        ensures read { Gives (λ x. (x, input self.new)) result (read_field (half field) (input self.old)) }
+        ensures read { Gives (λ x. (x, input self.new)) result (read_field (u16_field field) (input self.old)) }
         ensures moves { Moves self.old self.new }
     {
         let at = self.at;
-        let value = self.any_half()?;
+        let value = self.any_u16()?;
         if is_built(field, u32::from(value)) {
             Ok(value)
         } else {

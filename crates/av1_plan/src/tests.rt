@@ -96,10 +96,7 @@ fn a_cut_field_and_a_byte_left_over_are_malformed(rt: HostRuntime) {
 
 #[test]
 fn a_value_that_is_not_built_is_told_from_one_that_is_not_admitted(rt: HostRuntime) {
-    let sampling = parse_plan(rt.alloc(), &ONE_LEAF_420).err();
-    assert!(rt; sampling == Some(PlanError::NotBuilt { at: 9 }));
-
-    let changes = [(9, 1), (19, 1), (24, 13), (25, 1), (26, 3), (27, 1)];
+    let changes = [(19, 1), (24, 13), (24, 14), (26, 13)];
     for (at, value) in changes {
         let mut bytes = FOUR_LEAVES;
         bytes[at as usize % 83] = value;

@@ -7,11 +7,10 @@ use crate::reader::Reader;
 use av1_blocks::FilterMode;
 
 impl<'a> Reader<'a> {
-    ghost use Rattle.std.specs.Prelude.{◌≡◌, ◌≤◌, nat_le, IfOk, IsTrue};
-    ghost use Rattle.std.specs.List.{list_all};
+    ghost use Rattle.std.specs.Prelude.{◌≡◌, ◌≤◌, IfOk};
     ghost use Rattle.av1_plan.specs.declared.built.Field.TheVariants as fields;
     ghost use Rattle.av1_plan.specs.Format.{one, two, read_field, read};
-    ghost use Rattle.av1_plan.specs.Grammar.{where_, magic, is_side, is_depth, slots, header, IsAdmittedHeader};
+    ghost use Rattle.av1_plan.specs.Grammar.{where_, magic, is_side, is_depth, slots, header};
     ghost use Rattle.av1_plan.specs.Reading.{Gives, input, Fits, Moves};
 
     /// The four letters at the front.
@@ -22,7 +21,7 @@ impl<'a> Reader<'a> {
         ensures moves { Moves self.old self.new }
     {
         let at = self.at;
-        let value = self.any_word()?;
+        let value = self.any_u32()?;
         if value == u32::from_le_bytes(*b"RPL1") {
             Ok(value)
         } else {
@@ -36,10 +35,10 @@ impl<'a> Reader<'a> {
         requires { Fits self.old }
         ensures read { Gives (λ x. (x, input self.new)) result (read_field (where_ two fields.Other is_side) (input self.old)) }
         ensures moves { Moves self.old self.new }
-        ensures admitted { IfOk result (λ x. IsTrue (is_side x)) }
+        ensures small { IfOk result (λ x. x ≤ 2048) }
     {
         let at = self.at;
-        let value = self.any_half()?;
+        let value = self.any_u16()?;
         if value % 8 != 0 || value < 8 || 2048 < value {
             Err(PlanError::Malformed { at })
         } else {
@@ -53,7 +52,7 @@ impl<'a> Reader<'a> {
         requires { Fits self.old }
         ensures read { Gives (λ x. (x, input self.new)) result (read_field (where_ one fields.Other is_depth) (input self.old)) }
         ensures moves { Moves self.old self.new }
-        ensures admitted { IfOk result (λ x. IsTrue (is_depth x)) }
+        ensures small { IfOk result (λ x. x ≤ 12) }
     {
         let at = self.at;
         let value = self.any_byte()?;
@@ -69,7 +68,6 @@ impl<'a> Reader<'a> {
     fn slots(&mut self) -> Result<[u8; 7], PlanError>
         requires { Fits self.old }
         ensures read { Gives (λ x. (x, input self.new)) result (read slots (input self.old)) }
-        ensures admitted { IfOk result (λ x. IsTrue (list_all (λ slot. nat_le slot 7) x)) }
         ensures moves { Moves self.old self.new }
     {
         let last = self.byte(Field::Other, 0, 7)?;
@@ -96,7 +94,6 @@ impl<'a> Reader<'a> {
         requires { Fits self.old }
         ensures read { Gives (λ x. (x, input self.new)) result (read header (input self.old)) }
         ensures moves { Moves self.old self.new }
-        ensures admitted { IfOk result IsAdmittedHeader }
         ensures small { IfOk result (λ h. (h.width ≤ 2048) × (h.height ≤ 2048) × (h.depth ≤ 12)) }
     {
         self.magic()?;

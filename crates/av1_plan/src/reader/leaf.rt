@@ -21,8 +21,8 @@ impl<'a> Reader<'a> {
         ensures read { Gives (λ x. (x, input self.new)) result (read vector (input self.old)) }
         ensures moves { Moves self.old self.new }
     {
-        let row = self.half(Field::Vector)?.cast_signed();
-        let col = self.half(Field::Vector)?.cast_signed();
+        let row = self.u16_field(Field::Vector)?.cast_signed();
+        let col = self.u16_field(Field::Vector)?.cast_signed();
         Ok(MotionVector { row, col })
     }
 
@@ -167,8 +167,8 @@ impl<'a> Reader<'a> {
         ensures moves { Moves self.old self.new }
     {
         let block = self.any_byte()?;
-        let place = self.any_half()?;
-        let value = self.any_word()?.cast_signed();
+        let place = self.any_u16()?;
+        let value = self.any_u32()?.cast_signed();
         Ok(Triple {
             block,
             place,
@@ -200,7 +200,7 @@ impl<'a> Reader<'a> {
         ensures moves { Moves self.old self.new }
         ensures room { length into.new.items + self.old.at ≤ length into.old.items + self.new.at }
     {
-        let count = self.any_half()?;
+        let count = self.any_u16()?;
         self.more_triples(count, into)?;
         Ok(count)
     }

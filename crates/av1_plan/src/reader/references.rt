@@ -28,7 +28,7 @@ impl<'a> Reader<'a> {
             let value = self.byte(Field::Other, 0, 255)?;
             return Ok(u16::from(value));
         }
-        let value = self.any_half()?;
+        let value = self.any_u16()?;
         if value < 1u16 << depth {
             Ok(value)
         } else {

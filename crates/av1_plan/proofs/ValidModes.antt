@@ -1,0 +1,179 @@
+-- What holds of the modes, vectors and references of a valid leaf.
+use Rattle.std.proofs.Common.{ℕ, ℤ, pos, negsuc, zero, suc, ◌-◌, ◌≡◌, ◌≤◌, ◌<◌, nat_lt, nat_abs, int_lt, Bool, true, false, ◌&&◌, ◌||◌, not, Option, Some, None, All, slice_index_or, refl, sym, arith}
+use Rattle.std.specs.Prelude.{nat_le, ◌==◌, ◌↔◌, IsTrue}
+use Rattle.std.proofs.lemmas.Bool.{and_parts, not-true, false_from_ne_true, true≢false, eqb-true, ltb-true, leb-true}
+use Rattle.std.proofs.lemmas.Int.{ints}
+use Rattle.av1_blocks.specs.declared.context.TheConstants.{MV_LOW, MV_UPP}
+use Rattle.av1_blocks.specs.declared.mc.MotionVector.{MotionVector}
+use Rattle.av1_blocks.specs.declared.partition.BlockSize.{BlockSize}
+use Rattle.av1_blocks.specs.declared.partition.RefType.{RefType}
+use Rattle.av1_blocks.specs.declared.predict.PredictionMode.{PredictionMode}
+use Rattle.av1_blocks.specs.Blocks.{block_width, block_height}
+use Rattle.av1_blocks.specs.Modes.{is_cfl, is_directional}
+use Rattle.av1_blocks.specs.References.{reference_number}
+use Rattle.av1_blocks.specs.Vectors.{IsValidComponent, IsValid}
+use Rattle.av1_plan.specs.declared.header.Header.{Header}
+use Rattle.av1_plan.specs.declared.leaf.ChromaMode.{ChromaMode}
+use Rattle.av1_plan.specs.declared.leaf.ChromaMode.TheVariants.{Plain, Cfl}
+use Rattle.av1_plan.specs.declared.leaf.LeafKind.{LeafKind}
+use Rattle.av1_plan.specs.declared.leaf.LeafKind.TheVariants.{Intra, Single, Compound}
+use Rattle.av1_plan.specs.Geometry.{has_slot}
+use Rattle.av1_plan.specs.Plan.{LeafValue}
+use Rattle.av1_plan.specs.Validity.{is_step, cfl_allowed, is_chroma_from_luma, is_chroma_mode, is_inter_size, has_modes, is_valid_component, is_valid_vector, has_vectors, has_reference, has_references}
+use Rattle.av1_plan.proofs.ValidLeaves.{IsValidLeaf, all_by}
+
+-- ---- modes
+
+-- an angle step from -3 to 3, and 0 on a mode without an angle
+pub record IsValidStep (mode : PredictionMode) (step : ℤ) : Type 0 where
+  pub small : nat_abs step ≤ 3
+  pub flat : is_directional mode ≡ false → step ≡ pos 0
+
+-- weights from -16 to 16, and no side past 32
+pub record HasValidWeights (size : BlockSize) (alpha_u alpha_v : ℤ) : Type 0 where
+  pub u : nat_abs alpha_u ≤ 16
+  pub v : nat_abs alpha_v ≤ 16
+  pub width : block_width size ≤ 32
+  pub height : block_height size ≤ 32
+
+-- no side under 8
+pub record IsInterSize (size : BlockSize) : Type 0 where
+  pub width : 8 ≤ block_width size
+  pub height : 8 ≤ block_height size
+
+-- a chroma mode that a leaf of this size may have
+abbrev pub IsValidChroma : BlockSize → Option ChromaMode → Type 0
+IsValidChroma size None = Unit {0}
+IsValidChroma size (Some (Plain mode step)) = IsValidStep mode step
+IsValidChroma size (Some (Cfl alpha_u alpha_v)) = HasValidWeights size alpha_u alpha_v
+
+-- chroma from luma is no luma mode
+pub record IsValidIntra (size : BlockSize) (mode : PredictionMode) (step : ℤ) (chroma : Option ChromaMode) : Type 0 where
+  pub plain : is_cfl mode ≡ false
+  pub step_valid : IsValidStep mode step
+  pub chroma_valid : IsValidChroma size chroma
+
+-- modes that a leaf of this size may have
+abbrev pub HasValidModes : BlockSize → LeafKind → Type 0
+HasValidModes size (Intra mode step chroma) = IsValidIntra size mode step chroma
+HasValidModes size (Single mode reference mv) = IsInterSize size
+HasValidModes size (Compound mode references mvs) = IsInterSize size
+
+no_size : (z : ℤ) → nat_abs z ≡ 0 → z ≡ pos 0
+no_size (pos zero) e = refl
+no_size (pos (suc n)) e = absurd (omega arith)
+no_size (negsuc n) e = absurd (omega arith)
+
+valid_step : (mode : PredictionMode) (step : ℤ) → is_step mode step ≡ true → IsValidStep mode step
+unfolding is_step
+valid_step mode step e =
+    let (small, flat) = and_parts (nat_le (nat_abs step) 3) (nat_abs step == 0 || is_directional mode) e in
+    record { small = leb-true (nat_abs step) 3 small; flat = λ no_angle. no_size step (eqb-true (nat_abs step) 0 (first_of_two (nat_abs step == 0) (is_directional mode) flat no_angle)) }
+  where
+    first_of_two : (a b : Bool) → (a || b) ≡ true → b ≡ false → a ≡ true
+    first_of_two true b e f = refl
+    first_of_two false b e f = absurd cc
+
+valid_weights : (size : BlockSize) (u v : ℤ) → is_chroma_from_luma size u v ≡ true → HasValidWeights size u v
+unfolding is_chroma_from_luma cfl_allowed
+valid_weights size u v e =
+    let (weights, allowed) = and_parts (nat_le (nat_abs u) 16 && nat_le (nat_abs v) 16) (nat_le (block_width size) 32 && nat_le (block_height size) 32) e in
+    let (a, b) = and_parts (nat_le (nat_abs u) 16) (nat_le (nat_abs v) 16) weights in
+    let (c, d) = and_parts (nat_le (block_width size) 32) (nat_le (block_height size) 32) allowed in
+    record { u = leb-true (nat_abs u) 16 a; v = leb-true (nat_abs v) 16 b; width = leb-true (block_width size) 32 c; height = leb-true (block_height size) 32 d }
+
+valid_chroma : (size : BlockSize) (chroma : ChromaMode) → is_chroma_mode size chroma ≡ true → IsValidChroma size (Some chroma)
+unfolding is_chroma_mode
+valid_chroma size (Plain mode step) e = valid_step mode step e
+valid_chroma size (Cfl u v) e = valid_weights size u v e
+
+inter_size : (size : BlockSize) → is_inter_size size ≡ true → IsInterSize size
+unfolding is_inter_size
+inter_size size e =
+    let (width, height) = and_parts (nat_le 8 (block_width size)) (nat_le 8 (block_height size)) e in
+    record { width = leb-true 8 (block_width size) width; height = leb-true 8 (block_height size) height }
+
+modes_by : (size : BlockSize) (kind : LeafKind) → has_modes size kind ≡ true → HasValidModes size kind
+unfolding has_modes
+modes_by size (Intra mode step (Some chroma)) e =
+    let (front, chroma_valid) = and_parts (not (is_cfl mode) && is_step mode step) (is_chroma_mode size chroma) e in
+    let (plain, step_valid) = and_parts (not (is_cfl mode)) (is_step mode step) front in
+    record { plain = not-true (is_cfl mode) plain; step_valid = valid_step mode step step_valid; chroma_valid = valid_chroma size chroma chroma_valid }
+modes_by size (Intra mode step None) e =
+    let (plain, step_valid) = and_parts (not (is_cfl mode)) (is_step mode step) e in
+    record { plain = not-true (is_cfl mode) plain; step_valid = valid_step mode step step_valid; chroma_valid = tt }
+modes_by size (Single mode reference mv) e = inter_size size e
+modes_by size (Compound mode references mvs) e = inter_size size e
+
+pub valid_modes : (h : Header) (l : LeafValue) → IsValidLeaf h l → HasValidModes l.size l.kind
+valid_modes h l valid = modes_by l.size l.kind valid.modes
+
+-- ---- vectors
+
+-- vectors that a bitstream may hold
+abbrev pub HasValidVectors : LeafKind → Type 0
+HasValidVectors (Intra mode step chroma) = Unit {0}
+HasValidVectors (Single mode reference mv) = IsValid mv
+HasValidVectors (Compound mode references mvs) = All IsValid mvs
+
+component : (z : ℤ) → is_valid_component z ≡ true → IsValidComponent z
+unfolding is_valid_component
+component z e = let (low, high) = and_parts (int_lt MV_LOW z) (int_lt z MV_UPP) e in (grind (arith, ints), grind (arith, ints))
+
+valid_vector : (mv : MotionVector) → is_valid_vector mv ≡ true → IsValid mv
+unfolding is_valid_vector
+valid_vector mv e = let (row, col) = and_parts (is_valid_component mv.row) (is_valid_component mv.col) e in (component mv.row row, component mv.col col)
+
+component_passes : (z : ℤ) → IsValidComponent z → is_valid_component z ≡ true
+unfolding is_valid_component
+component_passes z is = let low : int_lt MV_LOW z ≡ true = grind (arith, ints) in let high : int_lt z MV_UPP ≡ true = grind (arith, ints) in rw (low, high) refl
+
+vector_passes : (mv : MotionVector) → IsValid mv → is_valid_vector mv ≡ true
+unfolding is_valid_vector
+vector_passes mv is = rw (component_passes mv.row is.0, component_passes mv.col is.1) refl
+
+-- a test that decides it is this one
+pub vector_decided : (mv : MotionVector) (b : Bool) → (IsTrue b ↔ IsValid mv) → b ≡ is_valid_vector mv
+vector_decided mv true decides = sym (vector_passes mv (decides.0 refl))
+vector_decided mv false decides = sym (false_from_ne_true (is_valid_vector mv) (λ e. absurd (true≢false (sym (decides.1 (valid_vector mv e))))))
+
+vectors_by : (kind : LeafKind) → has_vectors kind ≡ true → HasValidVectors kind
+unfolding has_vectors
+vectors_by (Intra mode step chroma) e = tt
+vectors_by (Single mode reference mv) e = valid_vector mv e
+vectors_by (Compound mode references mvs) e = all_by is_valid_vector IsValid valid_vector mvs e
+
+pub valid_vectors : (h : Header) (l : LeafValue) → IsValidLeaf h l → HasValidVectors l.kind
+valid_vectors h l valid = vectors_by l.kind valid.vectors
+
+-- ---- references
+
+-- the slot that a reference names: reference n names the header's slot in place n - 1
+abbrev pub slot_of : Header → RefType → ℕ
+slot_of h reference = slice_index_or h.slots (reference_number reference - 1) 8
+
+-- it carries planes
+pub record HasPlanes (h : Header) (reference : RefType) : Type 0 where
+  pub slot : slot_of h reference < 8
+  pub carries : has_slot h (slot_of h reference) ≡ true
+
+-- the slots of all references of a leaf do
+abbrev pub HasValidReferences : Header → LeafKind → Type 0
+HasValidReferences h (Intra mode step chroma) = Unit {0}
+HasValidReferences h (Single mode reference mv) = HasPlanes h reference
+HasValidReferences h (Compound mode references mvs) = All (HasPlanes h) references
+
+has_planes : (h : Header) (reference : RefType) → has_reference h reference ≡ true → HasPlanes h reference
+unfolding has_reference
+has_planes h reference e =
+    let (slot, carries) = and_parts (nat_lt (slot_of h reference) 8) (has_slot h (slot_of h reference)) e in
+    record { slot = ltb-true (slot_of h reference) 8 slot; carries = carries }
+
+references_by : (h : Header) (kind : LeafKind) → has_references h kind ≡ true → HasValidReferences h kind
+unfolding has_references
+references_by h (Intra mode step chroma) e = tt
+references_by h (Single mode reference mv) e = has_planes h reference e
+references_by h (Compound mode references mvs) e = all_by (has_reference h) (HasPlanes h) (has_planes h) references e
+
+pub valid_references : (h : Header) (l : LeafValue) → IsValidLeaf h l → HasValidReferences h l.kind
+valid_references h l valid = references_by h l.kind valid.references
