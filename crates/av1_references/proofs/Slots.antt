@@ -1,0 +1,102 @@
+-- The slots of a frame, filled one after another with the planes of a plan.
+use Rattle.std.proofs.Common.{ℕ, zero, suc, ◌+◌, ◌<◌, ◌≤◌, ◌≡◌, ◌≢◌, ◌∙◌, ap, sym, subst, refl, arith, inl, inr, true, false, length, get_or, set, Some, None, is_some, replicate}
+use Rattle.std.specs.Option.{option_map}
+use Rattle.std.proofs.lemmas.Bool.{cases_lt}
+use Rattle.std.proofs.lemmas.List.{get_or-set_other, get_or-set_same, length-set}
+use Rattle.av1_frame.specs.declared.frame_invariants.FrameInvariants.{FrameInvariants}
+use Rattle.av1_frame.specs.declared.plane.Plane.{Plane}
+use Rattle.av1_frame.specs.declared.slots.Slot.{Slot}
+use Rattle.av1_frame.specs.Frames.{new_frame, plane_of, slot_plane}
+use Rattle.av1_blocks.specs.Depths.{IsDepth}
+use Rattle.av1_plan.specs.Geometry.{has_slot}
+use Rattle.av1_plan.specs.Plan.{PlanValue}
+use Rattle.av1_references.specs.References.{HasSettings, HoldsPlane, HoldsReferences, slot_samples}
+
+-- the first n slots of a frame are filled as a plan's, and the others are empty
+pub record HoldsFirst {T : Type 0} (num : T → ℕ) (value : PlanValue) (n : ℕ) (fi : FrameInvariants T) : Type 0 where
+  pub settings : HasSettings value.header fi
+  pub count : length fi.slots ≡ 8
+  pub filled : (slot p : ℕ) → slot < n → p < 3 → is_some (slot_plane fi slot p) ≡ has_slot value.header slot
+  pub planes : (slot p : ℕ) (plane : Plane T) → slot < n → p < 3 → slot_plane fi slot p ≡ Some plane → HoldsPlane num value.header p (slot_samples value slot p) plane
+  pub others : (slot p : ℕ) → n ≤ slot → slot_plane fi slot p ≡ None
+
+all_same : {X : Type 0} (n i : ℕ) (x : X) → get_or (replicate n x) i x ≡ x
+all_same zero i x = refl
+all_same (suc n) zero x = refl
+all_same (suc n) (suc i) x = all_same n i x
+
+some_same : {X : Type 0} (x y : X) → Some x ≡ Some y → x ≡ y
+some_same x y e = cc
+
+some_not_none : {X : Type 0} (x : X) → None ≡ Some x → ⊥
+some_not_none x e = cc
+
+-- a new frame holds no slot yet
+pub holds_none : {T : Type 0} (num : T → ℕ) (value : PlanValue) (fi : FrameInvariants T) → let h = value.header in fi ≡ new_frame h.width h.height h.filter h.depth h.edge_filter h.slots → HoldsFirst num value 0 fi
+holds_none {T} num value fi e = subst (λ (f : FrameInvariants T). HoldsFirst num value 0 f) (sym e) (record {
+  settings = record { columns = refl; rows = refl; depth = refl; filter = refl; edge_filter = refl; slots = refl };
+  count = refl;
+  filled = λ slot p l _. absurd (omega (arith, l));
+  planes = λ slot p plane l _ _. absurd (omega (arith, l));
+  others = λ slot p _. ap (option_map (λ (s : Slot T). plane_of s p)) (all_same 8 slot None);
+})
+
+module _ {T : Type 0} (num : T → ℕ) (value : PlanValue) (n : ℕ) (fi : FrameInvariants T) (holds : HoldsFirst num value n fi) where
+  -- slot n carries no planes
+  pub holds_empty : has_slot value.header n ≡ false → HoldsFirst num value (n + 1) fi
+  holds_empty e = record {
+    settings = holds.settings;
+    count = holds.count;
+    filled = λ slot p l h. elim (cases_lt slot n) [
+      | inl below ↦ holds.filled slot p below h
+      | inr above ↦ (let at : slot ≡ n = omega arith in ap is_some (holds.others slot p above) ∙ sym e ∙ ap (has_slot value.header) (sym at))
+    ];
+    planes = λ slot p plane l h is. elim (cases_lt slot n) [
+      | inl below ↦ holds.planes slot p plane below h is
+      | inr above ↦ absurd (some_not_none plane (sym (holds.others slot p above) ∙ is))
+    ];
+    others = λ slot p l. holds.others slot p (omega arith);
+  }
+
+  module _ (s : Slot T) (below : n < 8) where
+    abbrev filled_fi : FrameInvariants T
+    filled_fi = record fi { slots = set fi.slots n (Some s) }
+
+    at_slot : (p : ℕ) → slot_plane filled_fi n p ≡ Some (plane_of s p)
+    at_slot p = ap (option_map (λ (t : Slot T). plane_of t p)) (get_or-set_same fi.slots n (Some s) None (omega (arith, holds.count, below)))
+
+    at_others : (slot p : ℕ) → slot ≢ n → slot_plane filled_fi slot p ≡ slot_plane fi slot p
+    at_others slot p ne = ap (option_map (λ (t : Slot T). plane_of t p)) (get_or-set_other fi.slots n slot (Some s) None ne)
+
+    each_plane : HoldsPlane num value.header 0 (slot_samples value n 0) s.y → HoldsPlane num value.header 1 (slot_samples value n 1) s.u → HoldsPlane num value.header 2 (slot_samples value n 2) s.v → (p : ℕ) → p < 3 → HoldsPlane num value.header p (slot_samples value n p) (plane_of s p)
+    each_plane y u v zero h = y
+    each_plane y u v (suc zero) h = u
+    each_plane y u v (suc (suc zero)) h = v
+    each_plane y u v (suc (suc (suc p))) h = absurd (omega arith)
+
+    -- slot n was filled with its planes
+    pub holds_filled : has_slot value.header n ≡ true → HoldsPlane num value.header 0 (slot_samples value n 0) s.y → HoldsPlane num value.header 1 (slot_samples value n 1) s.u → HoldsPlane num value.header 2 (slot_samples value n 2) s.v → HoldsFirst num value (n + 1) filled_fi
+    holds_filled e y u v = record {
+      settings = record { columns = holds.settings.columns; rows = holds.settings.rows; depth = holds.settings.depth; filter = holds.settings.filter; edge_filter = holds.settings.edge_filter; slots = holds.settings.slots };
+      count = length-set fi.slots n (Some s) ∙ holds.count;
+      filled = λ slot p l h. elim (cases_lt slot n) [
+        | inl less ↦ ap is_some (at_others slot p (omega arith)) ∙ holds.filled slot p less h
+        | inr above ↦ (let at : n ≡ slot = omega arith in ap is_some (subst (λ m. slot_plane filled_fi m p ≡ Some (plane_of s p)) at (at_slot p)) ∙ sym e ∙ ap (has_slot value.header) at)
+      ];
+      planes = λ slot p plane l h is. elim (cases_lt slot n) [
+        | inl less ↦ holds.planes slot p plane less h (sym (at_others slot p (omega arith)) ∙ is)
+        | inr above ↦ (let at : n ≡ slot = omega arith in
+            let same : plane_of s p ≡ plane = some_same _ _ (sym (at_slot p) ∙ ap (λ m. slot_plane filled_fi m p) at ∙ is) in
+            subst (λ m. HoldsPlane num value.header p (slot_samples value m p) plane) at (subst (λ (q : Plane T). HoldsPlane num value.header p (slot_samples value n p) q) same (each_plane y u v p h)))
+      ];
+      others = λ slot p l. at_others slot p (omega arith) ∙ holds.others slot p (omega arith);
+    }
+
+-- all slots are filled
+pub holds_all : {T : Type 0} (num : T → ℕ) (value : PlanValue) (n : ℕ) (fi : FrameInvariants T) → 8 ≤ n → IsDepth value.header.depth → HoldsFirst num value n fi → HoldsReferences num value fi
+holds_all num value n fi h depth holds = record {
+  settings = holds.settings;
+  depth = subst IsDepth (sym holds.settings.depth) depth;
+  filled = λ slot p l k. holds.filled slot p (omega arith) k;
+  planes = λ slot p plane l k e. holds.planes slot p plane (omega arith) k e;
+}

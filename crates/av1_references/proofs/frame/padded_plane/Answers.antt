@@ -1,0 +1,25 @@
+use Rattle.std.proofs.Common.{arith}
+use Rattle.av1_references.proofs.Filled.{filled_holds, filled_whole}
+use Rattle.av1_references.proofs.Sides.{fit_bits, some_columns, some_rows}
+use Rattle.av1_references.proofs.frame.padded_plane.Goals as goal
+
+pub new-requires-clause-some_columns : goal.new-requires-clause-some_columns
+new-requires-clause-some_columns g c =
+    let some = some_columns c.args.header.now c.args.p c.requires.frame (omega (arith, c.xdec.ensures.value, c.xdec.ensures.small)) in
+    omega (arith, c.plane_width-width.ensures.value, some)
+
+pub new-requires-clause-some_rows : goal.new-requires-clause-some_rows
+new-requires-clause-some_rows g c =
+    let some = some_rows c.args.header.now c.args.p c.requires.frame (omega (arith, c.ydec.ensures.value, c.ydec.ensures.small)) in
+    omega (arith, c.plane_height-height.ensures.value, some)
+
+pub fill_plane-requires-clause-range : goal.fill_plane-requires-clause-range
+fill_plane-requires-clause-range g c =
+    fit_bits c.args.samples.now c.args.header.now.depth g.T.Pixel.BITS c.requires.depth c.requires.samples.range
+
+pub pad-requires : goal.pad-requires
+pad-requires g c = filled_whole c.in_ok-plane.plane c.fill_plane.new.plane _ _ c.fill_plane.ensures c.in_ok-plane.ensures.whole
+
+pub returns : goal.returns
+returns g c =
+    filled_holds g.T.Pixel.num g.T.Pixel.pixel g.met.T.Pixel.pixel_of_num g.met.T.Pixel.num_of_pixel c.args.samples.now c.in_ok-plane.plane c.fill_plane.new.plane c.pad.new.self _ _ _ _ c.args.header.now c.args.p c.in_ok-plane.ensures.whole c.in_ok-plane.ensures.cfg c.plane_width-width.ensures.value c.plane_height-height.ensures.value c.xdec.ensures.value c.ydec.ensures.value c.requires.samples.range c.fill_plane.ensures c.pad.ensures.all

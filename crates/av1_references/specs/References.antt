@@ -1,0 +1,90 @@
+-- What inter prediction reads of a plan: the planes of its slots, and the samples of a leaf's whole area that it predicts from them.
+-- AV1 specification: inter prediction process, motion vector scaling process.
+use Rattle.std.specs.Prelude.{◌≡◌, ℕ, ◌+◌, ◌*◌, ◌/◌, ◌-◌, ◌^◌, ◌<◌, ◌≤◌, List, [], Some, is_some, unwrap_or, slice_index}
+use Rattle.av1_blocks.specs.declared.mc.MotionVector.{MotionVector}
+use Rattle.av1_blocks.specs.declared.partition.RefType.{RefType}
+use Rattle.av1_blocks.specs.Blocks.{block_width, block_height}
+use Rattle.av1_blocks.specs.References.{reference_number}
+use Rattle.av1_frame.specs.declared.frame_invariants.FrameInvariants.{FrameInvariants}
+use Rattle.av1_frame.specs.declared.plane.Plane.{Plane}
+use Rattle.av1_frame.specs.Areas.{VisibleArea}
+use Rattle.av1_frame.specs.Frames.{slot_plane}
+use Rattle.av1_frame.specs.Planes.{sample_at}
+use Rattle.av1_blocks.specs.Depths.{IsDepth}
+use Rattle.av1_inter.specs.Prediction.{compound_prediction, single_prediction}
+use Rattle.av1_inter.specs.Reference.{IsPadded, ReferencePlane, vector_of, reference_of as reference_in}
+use Rattle.av1_plan.specs.declared.geometry.PlaneArea.{PlaneArea}
+use Rattle.av1_plan.specs.declared.header.Header.{Header}
+use Rattle.av1_plan.specs.Geometry.{has_slot, plane_height, plane_width, xdec, ydec}
+use Rattle.av1_plan.specs.Plan.{PlanValue, reference_of}
+
+-- ---- the references of a plan
+
+-- the samples of plane p of a slot, row by row: none where the slot carries no planes
+abbrev pub slot_samples : PlanValue → (slot p : ℕ) → List ℕ
+slot_samples value slot p = unwrap_or (reference_of value slot p) []
+
+-- plane p of a slot, as motion compensation reads it
+abbrev pub reference_plane : PlanValue → (slot p : ℕ) → ReferencePlane
+reference_plane value slot p = record {
+  width = plane_width value.header p;
+  height = plane_height value.header p;
+  xdec = xdec value.header p;
+  ydec = ydec value.header p;
+  sample = λ x y. slice_index (slot_samples value slot p) (y * plane_width value.header p + x);
+}
+
+-- the slot that a reference names: reference n, from 1 to 7, names the header's slot in place n - 1
+abbrev pub slot_in : Header → RefType → ℕ
+slot_in h reference = slice_index h.slots (reference_number reference - 1)
+
+-- ---- the samples of a leaf
+
+-- a leaf's rectangle in a plane
+abbrev pub leaf_area : PlaneArea → VisibleArea
+leaf_area a = record { x = a.x; y = a.y; width = block_width a.size; height = block_height a.size }
+
+-- the sample at row r and column c of an area of plane p that a vector predicts from a reference
+abbrev pub single_motion : PlanValue → (p : ℕ) → RefType → MotionVector → VisibleArea → (r c : ℕ) → ℕ
+single_motion value p reference mv area r c =
+    single_prediction value.header.depth value.header.filter (reference_plane value (slot_in value.header reference) p) mv area r c
+
+-- and that two vectors predict, each from its reference
+abbrev pub compound_motion : PlanValue → (p : ℕ) → List RefType → List MotionVector → VisibleArea → (r c : ℕ) → ℕ
+compound_motion value p references mvs area r c =
+    compound_prediction value.header.depth value.header.filter
+    (reference_plane value (slot_in value.header (reference_in references 0)) p)
+    (reference_plane value (slot_in value.header (reference_in references 1)) p)
+    (vector_of mvs 0) (vector_of mvs 1) area r c
+
+-- ---- the frame settings that hold them
+
+-- These samples, row by row, are those of a plane that stores plane p of a frame, padded for blocks of sides up to 64: their filters
+-- reach 7 samples past a side.
+pub record HoldsPlane {T : Type 0} (num : T → ℕ) (h : Header) (p : ℕ) (samples : List ℕ) (plane : Plane T) : Type 0 where
+  pub padded : IsPadded num plane
+  pub xpad : 80 ≤ plane.plane_cfg.xpad
+  pub ypad : 80 ≤ plane.plane_cfg.ypad
+  pub width : plane.plane_cfg.width ≡ plane_width h p
+  pub height : plane.plane_cfg.height ≡ plane_height h p
+  pub xdec : plane.plane_cfg.xdec ≡ xdec h p
+  pub ydec : plane.plane_cfg.ydec ≡ ydec h p
+  pub shows : (x y : ℕ) → x < plane_width h p → y < plane_height h p → sample_at num plane x y ≡ slice_index samples (y * plane_width h p + x)
+  pub within : (x y : ℕ) → x < plane_width h p → y < plane_height h p → sample_at num plane x y < 2 ^ h.depth
+
+-- the settings of a frame are those of a header
+pub record HasSettings {T : Type 0} (h : Header) (fi : FrameInvariants T) : Type 0 where
+  pub columns : fi.w_in_b ≡ h.width / 4
+  pub rows : fi.h_in_b ≡ h.height / 4
+  pub depth : fi.bit_depth ≡ h.depth
+  pub filter : fi.default_filter ≡ h.filter
+  pub edge_filter : fi.enable_intra_edge_filter ≡ h.edge_filter
+  pub slots : fi.ref_frames ≡ h.slots
+
+-- The frame has the settings of the plan's header, its slots are filled exactly where the plan's mask has them, and what fills them are
+-- the plan's planes.
+pub record HoldsReferences {T : Type 0} (num : T → ℕ) (value : PlanValue) (fi : FrameInvariants T) : Type 0 where
+  pub settings : HasSettings value.header fi
+  pub depth : IsDepth fi.bit_depth
+  pub filled : (slot p : ℕ) → slot < 8 → p < 3 → is_some (slot_plane fi slot p) ≡ has_slot value.header slot
+  pub planes : (slot p : ℕ) (plane : Plane T) → slot < 8 → p < 3 → slot_plane fi slot p ≡ Some plane → HoldsPlane num value.header p (slot_samples value slot p) plane

@@ -1,0 +1,93 @@
+//! The settings of a plan's frame, and the planes of its slots.
+
+ghost use Rattle.std.specs.Prelude.{◌<◌, ◌≤◌, IfOk, IsTrue};
+ghost use Rattle.av1_plan.specs.Answer.{plan_value};
+ghost use Rattle.av1_plan.specs.Geometry.{has_slot};
+ghost use Rattle.av1_plan.specs.ReadPlans.{ArePlane, IsReadFrame};
+ghost use Rattle.av1_references.specs.References.{HoldsPlane, HoldsReferences, slot_samples};
+
+use crate::fill::fill_plane;
+use av1_blocks::OutOfMemory;
+use av1_frame::{FrameInvariants, Pixel, Plane};
+use av1_plan::{Header, Plan};
+use std::alloc::Global;
+
+/// How many columns and rows stand round a reference: the filters of a block with sides of 64 reach 7 samples past a side.
+const PAD: usize = 80;
+
+/// How many slots there are.
+const SLOTS: usize = 8;
+
+/// A padded plane with the sides of plane `p` of a frame, and these samples, row by row.
+pub(crate) fn padded_plane<T: Pixel>(
+    alloc: Global,
+    header: &Header,
+    p: usize,
+    samples: &[u16],
+) -> Result<Plane<T>, OutOfMemory>
+    requires frame { IsReadFrame header.now }
+    requires depth { header.now.depth ≤ T.BITS }
+    requires samples { ArePlane header.now p samples.now }
+    ensures { IfOk result (HoldsPlane T.num header.now p samples.now) }
+{
+    let width = header.plane_width(p);
+    let height = header.plane_height(p);
+    let mut plane = Plane::new(
+        alloc,
+        width,
+        height,
+        header.xdec(p),
+        header.ydec(p),
+        PAD,
+        PAD,
+    )?;
+    fill_plane(&mut plane, samples);
+    plane.pad();
+    Ok(plane)
+}
+
+/// Plane `p` of a slot that carries planes.
+fn slot_plane<T: Pixel>(
+    alloc: Global,
+    plan: &Plan,
+    slot: usize,
+    p: usize,
+) -> Result<Plane<T>, OutOfMemory>
+    requires slot { slot < 8 }
+    requires plane { p < 3 }
+    requires carried { IsTrue (has_slot (plan_value plan.now).header slot) }
+    requires depth { (plan_value plan.now).header.depth ≤ T.BITS }
+    ensures { IfOk result (HoldsPlane T.num (plan_value plan.now).header p (slot_samples (plan_value plan.now) slot p)) }
+{
+    let samples = plan.reference(slot, p).unwrap();
+    padded_plane(alloc, plan.header(), p, samples)
+}
+
+/// The settings of a plan's frame, and its slots with the plan's planes.
+pub fn frame_invariants<T: Pixel>(
+    alloc: Global,
+    plan: &Plan,
+) -> Result<FrameInvariants<T>, OutOfMemory>
+    requires { (plan_value plan.now).header.depth ≤ T.BITS }
+    ensures { IfOk result (HoldsReferences T.num (plan_value plan.now)) }
+{
+    let header = *plan.header();
+    let mut fi = FrameInvariants::new(
+        alloc,
+        usize::from(header.width),
+        usize::from(header.height),
+        header.filter,
+        usize::from(header.depth),
+        header.edge_filter,
+        header.slots,
+    )?;
+    for slot in 0..SLOTS {
+        if header.has_slot(slot) {
+            let y = slot_plane(alloc, plan, slot, 0)?;
+            let u = slot_plane(alloc, plan, slot, 1)?;
+            let v = slot_plane(alloc, plan, slot, 2)?;
+            fi.set_slot(slot, y, u, v);
+        }
+    }
+    Ok(fi)
+}
