@@ -1,22 +1,13 @@
 -- Coefficients that fit their bits.
-use Rattle.std.proofs.Common.{ℕ, zero, suc, ◌-◌, ◌<◌, ◌≤◌, ◌≡◌, ◌==◌, Bool, true, false, cond, ℤ, pos, List, [], ◌∷◌, ◌++◌, length, get_or, take, drop, map, replicate, ap, arith, ◌∙◌, sym}
-use Rattle.std.proofs.lemmas.Int.{ints}
+use Rattle.std.proofs.Common.{ℕ, zero, suc, ◌<◌, ◌≤◌, ◌≡◌, ◌==◌, Bool, true, false, cond, ℤ, pos, List, [], ◌∷◌, ◌++◌, length, get_or, take, drop, map, replicate, ap, arith, ◌∙◌, sym}
 use Rattle.std.proofs.lemmas.List.{length-take, take-append-le}
 use Rattle.std.proofs.Math.ListN.{set}
 use Rattle.std.proofs.Math.Seq.{take-length}
 use Rattle.std.specs.List.{fold}
 use Rattle.av1_dct.specs.Arithmetic.{FitsBits, AllFit}
+use Rattle.av1_dct.proofs.Fits.{zero_fits}
 use Rattle.av1_plan.specs.declared.leaf.Triple.{Triple}
-use Rattle.av1_tile.specs.Walk.{with_triple}
-use Rattle.av1_tile.proofs.Sides.{pow_le}
-
--- what fits some bits fits more
-pub fits_wider : (a b : ℕ) (z : ℤ) → a ≤ b → FitsBits a z → FitsBits b z
-fits_wider a b z h f =
-    let e = pow_le (a - 1) (b - 1) (omega arith) in record { low = omega (arith, ints, f.low, e); high = omega (arith, ints, f.high, e) }
-
-zero_fits : (b : ℕ) → FitsBits b (pos 0)
-zero_fits b = let e = pow_le 0 (b - 1) (omega arith) in record { low = omega (arith, ints); high = omega (arith, ints, e) }
+use Rattle.av1_tile.specs.Reference.{with_triple}
 
 pub zeros_fit : (b n : ℕ) → AllFit b (replicate n (pos 0))
 zeros_fit b zero i = zero_fits b

@@ -9,18 +9,19 @@ use Rattle.av1_blocks.specs.declared.mc.FilterMode.TheVariants.{REGULAR}
 use Rattle.av1_dct.specs.Arithmetic.{clamp_value}
 use Rattle.av1_dct.specs.Operations.{half_btf_with}
 use Rattle.av1_dct.specs.Cosine.{brev, cos128, cosine_with, odd_half_with, group_sum_with, inner_turn_with, mirror_sum_with, outer_turn_with, rounds_with}
+use Rattle.av1_intra.specs.Predicted.{predicted as intra_predicted}
 use Rattle.av1_itx.specs.Networks.{network_with}
 use Rattle.av1_itx.specs.Residue.{residue, transformed_column, column_network, transformed_row, row_input, row_value}
 use Rattle.av1_plan.specs.declared.header.Header.{Header}
 use Rattle.av1_plan.specs.declared.leaf.Triple.{Triple}
 use Rattle.av1_plan.specs.declared.leaf.LeafKind.TheVariants.{Intra}
 use Rattle.av1_plan.specs.declared.leaf.ChromaMode.TheVariants.{Plain}
-use Rattle.av1_plan.specs.Geometry.{xdec, ydec, plane_width, plane_height, carries_chroma, plane_place, plane_size, plane_tx_size, plane_area, blocks_across, block_count, block_at, has_block, transform_block, transform_blocks, is_inside, covers_plane}
+use Rattle.av1_plan.specs.Geometry.{xdec, ydec, plane_width, plane_height, carries_chroma, plane_place, plane_size, plane_tx_size, plane_area, blocks_across, block_count, block_at, has_block, transform_block, is_inside}
 use Rattle.av1_plan.specs.Plan.{LeafValue, PlanValue}
 use Rattle.av1_tile.specs.Edge.{edge}
-use Rattle.av1_tile.specs.Predictors.{predicted}
-use Rattle.av1_tile.specs.Steps.{joined, steps_at, leaf_steps}
-use Rattle.av1_tile.specs.Walk.{coefficients, block_residue, prediction, slow_in, slow_step, slow_walk, visible, planes_of}
+use Rattle.av1_tile.specs.Output.{visible, planes_of}
+use Rattle.av1_tile.specs.Reference.{by_prediction, predicted, coefficients, block_residue, slow_in, slow_step, slow_walk}
+use Rattle.av1_tile.specs.Steps.{joined, steps_at, steps_of}
 
 -- an 8x8 frame in 4:4:4 at depth 8
 header : Header
@@ -36,5 +37,8 @@ plan = record { header = header; references = []; leaves = leaf 0 0 (record { bl
 
 -- 64 samples of 131, and 128 of 128
 worked_planes : planes_of plan ≡ replicate 64 131 ++ replicate 128 128
-unfolding header leaf plan xdec ydec plane_width plane_height carries_chroma plane_place plane_size plane_tx_size plane_area blocks_across block_count block_at has_block transform_block transform_blocks is_inside covers_plane edge predicted joined steps_at leaf_steps coefficients block_residue prediction slow_in slow_step slow_walk visible planes_of clamp_value half_btf_with brev cos128 cosine_with odd_half_with group_sum_with inner_turn_with mirror_sum_with outer_turn_with rounds_with network_with residue transformed_column column_network transformed_row row_input row_value int_wrap
+unfolding header leaf plan xdec ydec plane_width plane_height carries_chroma plane_place plane_size plane_tx_size plane_area blocks_across block_count
+    block_at has_block transform_block is_inside edge by_prediction intra_predicted predicted joined steps_at steps_of coefficients block_residue slow_in
+    slow_step slow_walk visible planes_of clamp_value half_btf_with brev cos128 cosine_with odd_half_with group_sum_with inner_turn_with mirror_sum_with
+    outer_turn_with rounds_with network_with residue transformed_column column_network transformed_row row_input row_value int_wrap
 worked_planes = refl

@@ -1,70 +1,195 @@
 -- Steps of one plane, seen as steps over all three.
-use Rattle.std.proofs.Common.{ℕ, ◌≡◌, Bool, true, false, List, [], ◌∷◌, ◌++◌, refl, ap, ◌∙◌, sym, subst, if◌then◌else◌}
-use Rattle.std.specs.List.{fold, flat_map}
+use Rattle.std.proofs.Common.{ℕ, ◌<◌, ◌≡◌, Bool, true, false, ℤ, List, [], ◌∷◌, ◌++◌, refl, ap, ◌∙◌, sym, if◌then◌else◌, Option, Some, None}
+use Rattle.std.specs.List.{fold, flat_map, range_with_len}
+use Rattle.std.specs.Prelude.{⊤}
 use Rattle.std.proofs.lemmas.Grind.{fold-append}
 use Rattle.std.proofs.lemmas.List.{append-nil}
+use Rattle.av1_blocks.specs.Transforms.{tx_width, tx_height}
 use Rattle.av1_frame.specs.declared.plane.Plane.{Plane}
-use Rattle.av1_frame.specs.declared.plane.PlaneConfig.{PlaneConfig}
+use Rattle.av1_frame.specs.Areas.{VisibleArea}
+use Rattle.av1_frame.specs.Planes.{sample_at}
+use Rattle.av1_frame.proofs.Planes.{painted_plane_same}
+use Rattle.av1_intra.proofs.SameLuma.{predicted_luma}
+use Rattle.av1_plan.specs.declared.geometry.TransformBlock.{TransformBlock}
 use Rattle.av1_plan.specs.declared.header.Header.{Header}
-use Rattle.av1_plan.specs.Geometry.{carries_chroma}
-use Rattle.av1_plan.specs.Plan.{LeafValue}
+use Rattle.av1_plan.specs.declared.leaf.Triple.{Triple}
+use Rattle.av1_plan.specs.Geometry.{carries_chroma, block_count, transform_block}
+use Rattle.av1_plan.specs.Plan.{LeafValue, PlanValue}
+use Rattle.av1_tile.specs.declared.plane_block.PlaneBlock.{PlaneBlock}
+use Rattle.av1_tile.specs.declared.plane_block.Prediction.{Prediction}
+use Rattle.av1_tile.specs.declared.plane_block.Prediction.TheVariants as predictions
 use Rattle.av1_tile.specs.declared.planes.Planes.{Planes}
 use Rattle.av1_tile.specs.Canvas.{Component, Y, U, V}
-use Rattle.av1_tile.specs.Parts.{number, frame_of, part_of, triples_in, components_of}
-use Rattle.av1_tile.specs.Steps.{Step, part_steps, in_component, component_steps, leaf_steps}
-use Rattle.av1_tile.specs.Place.{fast_in, fast_step, plane_of, with_plane, PartFits, LeafFits, SameLayout}
+use Rattle.av1_tile.specs.PlaneBlocks.{number, components_of, is_whole, triples_in}
+use Rattle.av1_tile.specs.Reference.{by_prediction, luma_for}
+use Rattle.av1_tile.specs.Steps.{Step, predict, add, joined, block_area, whole_area, block_steps, steps_at, whole_steps, plane_steps, in_component, component_steps, steps_of}
+use Rattle.av1_tile.specs.Walk.{edges_in, edges_after, fast_in, fast_step, placed_edge, plane_of, with_plane, SameLayout}
 
-module _ {T : Type 0} (num : T → ℕ) (pixel : ℕ → T) (h : Header) where
-  fold_component : (k : Component) (planes : Planes T) (steps : List Step) → fold (fast_step num pixel h) planes (in_component k steps) ≡ with_plane k planes (fold (fast_in num pixel (frame_of h (number k))) (plane_of k planes) steps)
+-- ---- what luma says
+
+-- two words on luma that are the same where a block is predicted from luma
+abbrev pub SameFor : PlaneBlock → Prediction → (f g : PlaneBlock → ℕ → ℕ → ℤ) → Type 0
+SameFor block (predictions.FromLuma alpha) f g = (r c : ℕ) → r < tx_height block.area.tx_size → c < tx_width block.area.tx_size → f block r c ≡ g block r c
+SameFor block (predictions.Intra mode step filter) f g = ⊤
+SameFor block (predictions.Single mode reference mv) f g = ⊤
+SameFor block (predictions.Compound mode references mvs) f g = ⊤
+
+abbrev pub SameLuma : PlaneBlock → (f g : PlaneBlock → ℕ → ℕ → ℤ) → Type 0
+SameLuma block f g = SameFor block block.prediction f g
+
+module _ {T : Type 0} (num : T → ℕ) (pixel : ℕ → T) (plan : PlanValue) (p : ℕ) (f g : PlaneBlock → ℕ → ℕ → ℤ) (block : PlaneBlock) (same : SameLuma block f g) where
+  -- a transform block is predicted alike
+  by_luma : (of : Prediction) → SameFor block of f g → (n : ℕ) (b : TransformBlock) (q : Plane T) (r c : ℕ) → r < (block_area block b).height → c < (block_area block b).width
+      → by_prediction plan p of (block_area block b) (placed_edge plan.header p block n (block_area block b) num q) (f block) r c ≡ by_prediction plan p of (block_area block b) (placed_edge plan.header p block n (block_area block b) num q) (g block) r c
+  unfolding by_prediction
+  by_luma (predictions.Intra mode step filter) s n b q r c hr hc = refl
+  by_luma (predictions.FromLuma alpha) s n b q r c hr hc = predicted_luma _ _ _ _ (f block) (g block) _ r c (s r c hr hc)
+  by_luma (predictions.Single mode reference mv) s n b q r c hr hc = refl
+  by_luma (predictions.Compound mode references mvs) s n b q r c hr hc = refl
+
+  one_same : (n : ℕ) (b : TransformBlock) (q : Plane T) → fast_in num pixel plan p f q (predict block n (block_area block b)) ≡ fast_in num pixel plan p g q (predict block n (block_area block b))
+  unfolding fast_in
+  one_same n b q = painted_plane_same q (block_area block b) _ _ (λ r c v hr hc. ap pixel (by_luma block.prediction same n b q r c hr hc))
+
+  -- a leaf that is predicted over its whole area doesn't look at luma
+  whole_same : (of : Prediction) → is_whole of ≡ true → (a : VisibleArea) (q : Plane T) (r c : ℕ)
+      → by_prediction plan p of a (placed_edge plan.header p block 0 a num q) (f block) r c ≡ by_prediction plan p of a (placed_edge plan.header p block 0 a num q) (g block) r c
+  unfolding by_prediction
+  whole_same (predictions.Intra mode step filter) e a q r c = refl
+  whole_same (predictions.FromLuma alpha) e a q r c = absurd cc
+  whole_same (predictions.Single mode reference mv) e a q r c = refl
+  whole_same (predictions.Compound mode references mvs) e a q r c = refl
+
+  block_same : (triples : List Triple) (n : ℕ) (o : Option TransformBlock) (q : Plane T) → fold (fast_in num pixel plan p f) q (block_steps block triples n o) ≡ fold (fast_in num pixel plan p g) q (block_steps block triples n o)
+  unfolding fast_in
+  block_same triples n None q = refl
+  block_same triples n (Some b) q = go (is_whole block.prediction)
+    where
+      a : VisibleArea
+      a = block_area block b
+
+      go : (t : Bool) → fold (fast_in num pixel plan p f) q (if t then add block triples n a ∷ [] else predict block n a ∷ add block triples n a ∷ [])
+          ≡ fold (fast_in num pixel plan p g) q (if t then add block triples n a ∷ [] else predict block n a ∷ add block triples n a ∷ [])
+      go true = refl
+      go false = ap (λ (z : Plane T). fast_in num pixel plan p g z (add block triples n a)) (one_same n b q)
+
+  pieces_same : (h : Header) (triples : List Triple) (ns : List ℕ) (q : Plane T) → fold (fast_in num pixel plan p f) q (flat_map (steps_at h block triples) ns) ≡ fold (fast_in num pixel plan p g) q (flat_map (steps_at h block triples) ns)
+  unfolding steps_at
+  pieces_same h triples [] q = refl
+  pieces_same h triples (n ∷ ns) q =
+      let s = steps_at h block triples in
+      fold-append (fast_in num pixel plan p f) q (s n) (flat_map s ns)
+      ∙ ap (λ (z : Plane T). fold (fast_in num pixel plan p f) z (flat_map s ns)) (block_same triples n (transform_block h block.plane block.area n) q)
+      ∙ pieces_same h triples ns (fold (fast_in num pixel plan p g) q (s n))
+      ∙ sym (fold-append (fast_in num pixel plan p g) q (s n) (flat_map s ns))
+
+  whole_steps_same : (q : Plane T) → fold (fast_in num pixel plan p f) q (whole_steps block) ≡ fold (fast_in num pixel plan p g) q (whole_steps block)
+  unfolding fast_in
+  whole_steps_same q = go (is_whole block.prediction) refl
+    where
+      go : (t : Bool) → is_whole block.prediction ≡ t → fold (fast_in num pixel plan p f) q (if t then predict block 0 (whole_area block) ∷ [] else []) ≡ fold (fast_in num pixel plan p g) q (if t then predict block 0 (whole_area block) ∷ [] else [])
+      go true e = painted_plane_same q (whole_area block) _ _ (λ r c v hr hc. ap pixel (whole_same block.prediction e (whole_area block) q r c))
+      go false e = refl
+
+  -- so a leaf's block is reconstructed alike
+  pub luma_same : (h : Header) (triples : List Triple) (q : Plane T) → fold (fast_in num pixel plan p f) q (plane_steps h block triples) ≡ fold (fast_in num pixel plan p g) q (plane_steps h block triples)
+  unfolding joined
+  luma_same h triples q =
+      let w = whole_steps block in
+      let j = flat_map (steps_at h block triples) (range_with_len 0 (block_count block.area)) in
+      fold-append (fast_in num pixel plan p f) q w j
+      ∙ ap (λ (z : Plane T). fold (fast_in num pixel plan p f) z j) (whole_steps_same q)
+      ∙ pieces_same h triples (range_with_len 0 (block_count block.area)) (fold (fast_in num pixel plan p g) q w)
+      ∙ sym (fold-append (fast_in num pixel plan p g) q w j)
+
+-- ---- planes
+
+module _ {T : Type 0} (num : T → ℕ) (pixel : ℕ → T) (plan : PlanValue) where
+  fold_component : (k : Component) (planes : Planes T) (steps : List Step) → fold (fast_step num pixel plan) planes (in_component k steps) ≡ with_plane k planes (fold (fast_in num pixel plan (number k) (luma_for plan.header (sample_at num planes.y) k)) (plane_of k planes) steps)
   unfolding fast_step
   fold_component Y planes [] = refl
   fold_component U planes [] = refl
   fold_component V planes [] = refl
-  fold_component Y planes (step ∷ rest) = fold_component Y (with_plane Y planes (fast_in num pixel (frame_of h 0) planes.y step)) rest
-  fold_component U planes (step ∷ rest) = fold_component U (with_plane U planes (fast_in num pixel (frame_of h 1) planes.u step)) rest
-  fold_component V planes (step ∷ rest) = fold_component V (with_plane V planes (fast_in num pixel (frame_of h 2) planes.v step)) rest
+  fold_component Y planes (step ∷ rest) = fold_component Y (with_plane Y planes (fast_in num pixel plan 0 (luma_for plan.header (sample_at num planes.y) Y) planes.y step)) rest
+  fold_component U planes (step ∷ rest) = fold_component U (with_plane U planes (fast_in num pixel plan 1 (luma_for plan.header (sample_at num planes.y) U) planes.u step)) rest
+  fold_component V planes (step ∷ rest) = fold_component V (with_plane V planes (fast_in num pixel plan 2 (luma_for plan.header (sample_at num planes.y) V) planes.v step)) rest
+
+  -- the steps of a block in plane k, from these samples on
+  abbrev pub after_block : Component → (luma : ℕ → ℕ → ℕ) → PlaneBlock → List Triple → Plane T → Plane T
+  after_block k luma block triples p = fold (fast_in num pixel plan (number k) (luma_for plan.header luma k)) p (plane_steps plan.header block triples)
 
   -- a leaf's steps in each plane are its steps in all
-  pub leaf_walked : (p q : Planes T) (leaf : LeafValue) → carries_chroma h leaf.x leaf.y leaf.size ≡ true
-      → q.y ≡ fold (fast_in num pixel (frame_of h 0)) p.y (part_steps h (part_of h Y leaf) (triples_in Y leaf))
-      → q.u ≡ fold (fast_in num pixel (frame_of h 1)) p.u (part_steps h (part_of h U leaf) (triples_in U leaf))
-      → q.v ≡ fold (fast_in num pixel (frame_of h 2)) p.v (part_steps h (part_of h V leaf) (triples_in V leaf))
-      → q ≡ fold (fast_step num pixel h) p (leaf_steps h leaf)
-  unfolding leaf_steps
-  leaf_walked p q leaf carried e i j =
-      let s = fast_step num pixel h in
-      let a = component_steps h leaf Y in
-      let b = component_steps h leaf U in
-      let c = component_steps h leaf V in
-      let y = fold (fast_in num pixel (frame_of h 0)) p.y (part_steps h (part_of h Y leaf) (triples_in Y leaf)) in
-      let u = fold (fast_in num pixel (frame_of h 1)) p.u (part_steps h (part_of h U leaf) (triples_in U leaf)) in
-      let v = fold (fast_in num pixel (frame_of h 2)) p.v (part_steps h (part_of h V leaf) (triples_in V leaf)) in
-      let list : flat_map (component_steps h leaf) (components_of h leaf) ≡ a ++ (b ++ c) =
-      ap (λ (t : Bool). flat_map (component_steps h leaf) (if t then Y ∷ U ∷ V ∷ [] else Y ∷ [])) carried ∙ ap (λ xs. a ++ (b ++ xs)) (append-nil c) in
+  pub leaf_walked : (p q : Planes T) (told : Component → PlaneBlock) (leaf : LeafValue) → carries_chroma plan.header leaf.x leaf.y leaf.size ≡ true
+      → q.y ≡ after_block Y (sample_at num p.y) (told Y) (triples_in Y leaf) p.y
+      → q.u ≡ after_block U (sample_at num q.y) (told U) (triples_in U leaf) p.u
+      → q.v ≡ after_block V (sample_at num q.y) (told V) (triples_in V leaf) p.v
+      → q ≡ fold (fast_step num pixel plan) p (steps_of plan.header told leaf)
+  unfolding steps_of
+  leaf_walked p q told leaf carried e i j =
+      let h = plan.header in
+      let s = fast_step num pixel plan in
+      let a = component_steps h told leaf Y in
+      let b = component_steps h told leaf U in
+      let c = component_steps h told leaf V in
+      let y = after_block Y (sample_at num p.y) (told Y) (triples_in Y leaf) p.y in
+      let u = after_block U (sample_at num y) (told U) (triples_in U leaf) p.u in
+      let v = after_block V (sample_at num y) (told V) (triples_in V leaf) p.v in
+      let list : flat_map (component_steps h told leaf) (components_of h leaf) ≡ a ++ (b ++ c) =
+      ap (λ (t : Bool). flat_map (component_steps h told leaf) (if t then Y ∷ U ∷ V ∷ [] else Y ∷ [])) carried ∙ ap (λ xs. a ++ (b ++ xs)) (append-nil c) in
       let all : fold s p (a ++ (b ++ c)) ≡ with_plane V (with_plane U (with_plane Y p y) u) v =
-      fold-append s p a (b ++ c) ∙ fold-append s (fold s p a) b c ∙ ap (λ (r : Planes T). fold s (fold s r b) c) (fold_component Y p (part_steps h (part_of h Y leaf) (triples_in Y leaf))) ∙ ap (λ (r : Planes T). fold s r c) (fold_component U (with_plane Y p y) (part_steps h (part_of h U leaf) (triples_in U leaf))) ∙ fold_component V (with_plane U (with_plane Y p y) u) (part_steps h (part_of h V leaf) (triples_in V leaf)) in
-      ap (λ (z : Plane T). with_plane Y q z) e ∙ ap (λ (z : Plane T). with_plane U (with_plane Y q y) z) i ∙ ap (λ (z : Plane T). with_plane V (with_plane U (with_plane Y q y) u) z) j ∙ sym all ∙ ap (fold s p) (sym list)
+      fold-append s p a (b ++ c) ∙ fold-append s (fold s p a) b c
+      ∙ ap (λ (r : Planes T). fold s (fold s r b) c) (fold_component Y p (plane_steps h (told Y) (triples_in Y leaf)))
+      ∙ ap (λ (r : Planes T). fold s r c) (fold_component U (with_plane Y p y) (plane_steps h (told U) (triples_in U leaf)))
+      ∙ fold_component V (with_plane U (with_plane Y p y) u) (plane_steps h (told V) (triples_in V leaf)) in
+      let eu : q.u ≡ u = i ∙ ap (λ (z : Plane T). after_block U (sample_at num z) (told U) (triples_in U leaf) p.u) e in
+      let ev : q.v ≡ v = j ∙ ap (λ (z : Plane T). after_block V (sample_at num z) (told V) (triples_in V leaf) p.v) e in
+      ap (λ (z : Plane T). with_plane Y q z) e ∙ ap (λ (z : Plane T). with_plane U (with_plane Y q y) z) eu ∙ ap (λ (z : Plane T). with_plane V (with_plane U (with_plane Y q y) u) z) ev ∙ sym all ∙ ap (fold s p) (sym list)
 
   -- the same where it carries no chroma
-  pub luma_walked : (p q : Planes T) (leaf : LeafValue) → carries_chroma h leaf.x leaf.y leaf.size ≡ false
-      → q.y ≡ fold (fast_in num pixel (frame_of h 0)) p.y (part_steps h (part_of h Y leaf) (triples_in Y leaf)) → q.u ≡ p.u → q.v ≡ p.v
-      → q ≡ fold (fast_step num pixel h) p (leaf_steps h leaf)
-  unfolding leaf_steps
-  luma_walked p q leaf carried e i j =
-      let s = fast_step num pixel h in
-      let a = component_steps h leaf Y in
-      let y = fold (fast_in num pixel (frame_of h 0)) p.y (part_steps h (part_of h Y leaf) (triples_in Y leaf)) in
-      let list : flat_map (component_steps h leaf) (components_of h leaf) ≡ a =
-      ap (λ (t : Bool). flat_map (component_steps h leaf) (if t then Y ∷ U ∷ V ∷ [] else Y ∷ [])) carried ∙ append-nil a in
-      ap (λ (z : Plane T). with_plane Y q z) e ∙ ap (λ (z : Plane T). with_plane U (with_plane Y q y) z) i ∙ ap (λ (z : Plane T). with_plane V (with_plane U (with_plane Y q y) p.u) z) j ∙ sym (fold_component Y p (part_steps h (part_of h Y leaf) (triples_in Y leaf))) ∙ ap (fold s p) (sym list)
+  pub luma_walked : (p q : Planes T) (told : Component → PlaneBlock) (leaf : LeafValue) → carries_chroma plan.header leaf.x leaf.y leaf.size ≡ false
+      → q.y ≡ after_block Y (sample_at num p.y) (told Y) (triples_in Y leaf) p.y → q.u ≡ p.u → q.v ≡ p.v
+      → q ≡ fold (fast_step num pixel plan) p (steps_of plan.header told leaf)
+  unfolding steps_of
+  luma_walked p q told leaf carried e i j =
+      let h = plan.header in
+      let s = fast_step num pixel plan in
+      let a = component_steps h told leaf Y in
+      let y = after_block Y (sample_at num p.y) (told Y) (triples_in Y leaf) p.y in
+      let list : flat_map (component_steps h told leaf) (components_of h leaf) ≡ a =
+      ap (λ (t : Bool). flat_map (component_steps h told leaf) (if t then Y ∷ U ∷ V ∷ [] else Y ∷ [])) carried ∙ append-nil a in
+      ap (λ (z : Plane T). with_plane Y q z) e ∙ ap (λ (z : Plane T). with_plane U (with_plane Y q y) z) i ∙ ap (λ (z : Plane T). with_plane V (with_plane U (with_plane Y q y) p.u) z) j ∙ sym (fold_component Y p (plane_steps h (told Y) (triples_in Y leaf))) ∙ ap (fold s p) (sym list)
 
-pub fits_kept : {T : Type 0} (h : Header) (p q : Planes T) (leaf : LeafValue) → SameLayout p q → LeafFits h p leaf → LeafFits h q leaf
-fits_kept h p q leaf e f =
-    record {
-      y = subst (λ (c : PlaneConfig). PartFits c h (part_of h Y leaf) (triples_in Y leaf)) (sym e.y) f.y;
-      u = λ c. subst (λ (k : PlaneConfig). PartFits k h (part_of h U leaf) (triples_in U leaf)) (sym e.u) (f.u c);
-      v = λ c. subst (λ (k : PlaneConfig). PartFits k h (part_of h V leaf) (triples_in V leaf)) (sym e.v) (f.v c);
-    }
+-- ---- the count of edges
+
+fold_edges : (k : Component) (count : ℕ) (steps : List Step) → fold edges_after count (in_component k steps) ≡ fold edges_in count steps
+fold_edges k count [] = refl
+fold_edges k count (step ∷ rest) = fold_edges k (edges_in count step) rest
+
+pub leaf_counted : (h : Header) (told : Component → PlaneBlock) (leaf : LeafValue) (count y u v : ℕ) → carries_chroma h leaf.x leaf.y leaf.size ≡ true
+    → y ≡ fold edges_in count (plane_steps h (told Y) (triples_in Y leaf)) → u ≡ fold edges_in y (plane_steps h (told U) (triples_in U leaf)) → v ≡ fold edges_in u (plane_steps h (told V) (triples_in V leaf))
+    → v ≡ fold edges_after count (steps_of h told leaf)
+unfolding steps_of
+leaf_counted h told leaf count y u v carried e i j =
+    let a = component_steps h told leaf Y in
+    let b = component_steps h told leaf U in
+    let c = component_steps h told leaf V in
+    let list : flat_map (component_steps h told leaf) (components_of h leaf) ≡ a ++ (b ++ c) =
+    ap (λ (t : Bool). flat_map (component_steps h told leaf) (if t then Y ∷ U ∷ V ∷ [] else Y ∷ [])) carried ∙ ap (λ xs. a ++ (b ++ xs)) (append-nil c) in
+    j ∙ ap (λ (n : ℕ). fold edges_in n (plane_steps h (told V) (triples_in V leaf))) (i ∙ ap (λ (n : ℕ). fold edges_in n (plane_steps h (told U) (triples_in U leaf))) e)
+    ∙ sym (fold-append edges_after count a (b ++ c) ∙ fold-append edges_after (fold edges_after count a) b c
+    ∙ ap (λ (n : ℕ). fold edges_after (fold edges_after n b) c) (fold_edges Y count (plane_steps h (told Y) (triples_in Y leaf)))
+    ∙ ap (λ (n : ℕ). fold edges_after n c) (fold_edges U (fold edges_in count (plane_steps h (told Y) (triples_in Y leaf))) (plane_steps h (told U) (triples_in U leaf)))
+    ∙ fold_edges V (fold edges_in (fold edges_in count (plane_steps h (told Y) (triples_in Y leaf))) (plane_steps h (told U) (triples_in U leaf))) (plane_steps h (told V) (triples_in V leaf)))
+    ∙ ap (fold edges_after count) (sym list)
+
+pub luma_counted : (h : Header) (told : Component → PlaneBlock) (leaf : LeafValue) (count y : ℕ) → carries_chroma h leaf.x leaf.y leaf.size ≡ false
+    → y ≡ fold edges_in count (plane_steps h (told Y) (triples_in Y leaf)) → y ≡ fold edges_after count (steps_of h told leaf)
+unfolding steps_of
+luma_counted h told leaf count y carried e =
+    let a = component_steps h told leaf Y in
+    let list : flat_map (component_steps h told leaf) (components_of h leaf) ≡ a =
+    ap (λ (t : Bool). flat_map (component_steps h told leaf) (if t then Y ∷ U ∷ V ∷ [] else Y ∷ [])) carried ∙ append-nil a in
+    e ∙ sym (fold_edges Y count (plane_steps h (told Y) (triples_in Y leaf))) ∙ ap (fold edges_after count) (sym list)
 
 pub layout_kept : {T : Type 0} (p q r : Planes T) → SameLayout p q → SameLayout q r → SameLayout p r
 layout_kept p q r e f = record { y = f.y ∙ e.y; u = f.u ∙ e.u; v = f.v ∙ e.v }

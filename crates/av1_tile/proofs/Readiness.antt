@@ -1,20 +1,27 @@
--- Steps that find their neighbours written: what coding order gives the walk.
-use Rattle.std.proofs.Common.{ℕ, suc, ◌+◌, ◌<◌, ◌≤◌, ◌≡◌, Bool, true, false, ◌&&◌, List, [], ◌∷◌, ◌++◌, pos}
+-- Steps that find what they read: what coding order gives the walk.
+use Rattle.std.proofs.Common.{ℕ, ◌+◌, ◌<◌, ◌≡◌, Bool, true, false, ◌&&◌, List, [], ◌∷◌, ◌++◌}
+use Rattle.std.specs.Option.{is_some}
 use Rattle.std.specs.List.{list_any}
+use Rattle.std.specs.Prelude.{⊤}
 use Rattle.av1_frame.specs.Areas.{VisibleArea, in_visible}
+use Rattle.av1_intra.specs.ChromaFromLuma.{chroma_block, columns_read, rows_read, first_column, first_row}
 use Rattle.av1_plan.specs.declared.header.Header.{Header}
 use Rattle.av1_plan.specs.Plan.{LeafValue}
-use Rattle.av1_tile.specs.declared.frame.Frame.{Frame}
-use Rattle.av1_tile.specs.declared.part.Part.{Part}
-use Rattle.av1_tile.specs.Canvas.{Component, is_same}
-use Rattle.av1_tile.specs.Parts.{number, frame_of}
-use Rattle.av1_tile.specs.Predictors.{IsPredicted}
+use Rattle.av1_plan.specs.Geometry.{plane_width, plane_height}
+use Rattle.av1_tile.specs.declared.plane_block.PlaneBlock.{PlaneBlock}
+use Rattle.av1_tile.specs.declared.plane_block.Prediction.{Prediction}
+use Rattle.av1_tile.specs.declared.plane_block.Prediction.TheVariants as predictions
+use Rattle.av1_tile.specs.Canvas.{Component, Y, Written, is_same}
+use Rattle.av1_tile.specs.PlaneBlocks.{number, extent_of}
+use Rattle.av1_tile.specs.Reference.{luma_of}
 use Rattle.av1_tile.specs.Steps.{Step, predict, add, PlaneStep, steps}
+use Rattle.av1_tile.specs.Walk.{answer_right, answer_low}
+use Rattle.av1_tile.proofs.PreparedEdges.{KnowsSides}
 
 -- whether the step predicts the sample at column x of row y of a plane
 abbrev pub predicts : Component → ℕ → ℕ → Step → Component → Bool
-predicts component x y (predict part a) other = is_same component other && in_visible a x y
-predicts component x y (add part triples block a) other = false
+predicts component x y (predict block n a) other = is_same component other && in_visible a x y
+predicts component x y (add block triples n a) other = false
 
 abbrev pub draws : Component → ℕ → ℕ → PlaneStep → Bool
 draws component x y s = predicts component x y s.step s.component
@@ -23,34 +30,46 @@ draws component x y s = predicts component x y s.step s.component
 abbrev pub IsWritten : List PlaneStep → Component → ℕ → ℕ → Type 0
 IsWritten before component x y = list_any (draws component x y) before ≡ true
 
--- a block that begins in the frame and whose neighbours there, above and to the left, are written
-pub record BlockReady (frame : Frame) (component : Component) (before : List PlaneStep) (a : VisibleArea) : Type 0 where
-  pub some_columns : 0 < a.width
-  pub some_rows : 0 < a.height
-  pub begins_x : a.x < frame.width
-  pub begins_y : a.y < frame.height
-  pub above : (x y : ℕ) → a.x ≤ x → x < a.x + a.width → x < frame.width → a.y ≡ suc y → IsWritten before component x y
-  pub left : (x y : ℕ) → a.x ≡ suc x → a.y ≤ y → y < a.y + a.height → y < frame.height → IsWritten before component x y
+-- of the sides of a transform block just those places are known that may be taken, once these steps are done
+abbrev pub EdgeReady : Header → Component → List PlaneStep → PlaneBlock → ℕ → VisibleArea → Type 0
+EdgeReady h k before block n a =
+    (written : Written) → ((x y : ℕ) → is_some (written x y) ≡ list_any (draws k x y) before)
+    → KnowsSides (extent_of h (number k)) written a (answer_right h (number k) block n a) (answer_low h (number k) block n a)
 
--- a prediction that is built and finds its neighbours written
-pub record PredictionReady (frame : Frame) (component : Component) (before : List PlaneStep) (part : Part) (a : VisibleArea) : Type 0 where
-  pub mode : IsPredicted part.mode
-  pub step : part.step ≡ pos 0
-  pub block : BlockReady frame component before a
+-- the luma that chroma of a leaf is predicted from is written, and it is read for chroma alone
+abbrev pub LumaReady : Header → Component → List PlaneStep → PlaneBlock → Type 0
+LumaReady h Y before block = ⊥
+LumaReady h k before block =
+    (x y : ℕ) → x < columns_read (chroma_block (luma_of h block.leaf)) → y < rows_read (chroma_block (luma_of h block.leaf))
+    → IsWritten before Y (first_column (luma_of h block.leaf) + x) (first_row (luma_of h block.leaf) + y)
 
-abbrev pub StepReadyIn : Frame → Component → List PlaneStep → Step → Type 0
-StepReadyIn frame component before (predict part a) = PredictionReady frame component before part a
-StepReadyIn frame component before (add part triples block a) = Unit {0}
+-- a prediction from luma is of one block of chroma
+pub record FromLumaReady (h : Header) (k : Component) (before : List PlaneStep) (block : PlaneBlock) (n : ℕ) (a : VisibleArea) : Type 0 where
+  pub edge : EdgeReady h k before block n a
+  pub luma : LumaReady h k before block
+  pub columns : a.width ≡ (chroma_block (luma_of h block.leaf)).width
+  pub rows : a.height ≡ (chroma_block (luma_of h block.leaf)).height
+
+-- what a prediction needs
+abbrev pub PredictionReady : Header → Component → List PlaneStep → PlaneBlock → ℕ → VisibleArea → Prediction → Type 0
+PredictionReady h k before block n a (predictions.Intra mode step filter) = EdgeReady h k before block n a
+PredictionReady h k before block n a (predictions.FromLuma alpha) = ⊥
+PredictionReady h k before block n a (predictions.Single mode reference mv) = ⊤
+PredictionReady h k before block n a (predictions.Compound mode references mvs) = ⊤
+
+abbrev pub StepReadyIn : Header → Component → List PlaneStep → Step → Type 0
+StepReadyIn h k before (predict block n a) = PredictionReady h k before block n a block.prediction
+StepReadyIn h k before (add block triples n a) = ⊤
 
 abbrev pub StepReady : Header → List PlaneStep → PlaneStep → Type 0
-StepReady h before s = StepReadyIn (frame_of h (number s.component)) s.component before s.step
+StepReady h before s = StepReadyIn h s.component before s.step
 
 -- P of each item of `rest` and of the items before it, where `before` come first
 abbrev pub Each : {A : Type 0} → (List A → A → Type 0) → List A → List A → Type 0
-Each P before [] = Unit {0}
+Each P before [] = ⊤
 Each P before (x ∷ rest) = P before x × Each P (before ++ x ∷ []) rest
 
--- every step of the leaves finds its neighbours written, and together they write every visible sample
+-- every step of the leaves finds what it reads, and together they write every visible sample
 pub record AreReady (h : Header) (leaves : List LeafValue) : Type 0 where
   pub ready : Each (StepReady h) [] (steps h leaves)
-  pub whole : (component : Component) (x y : ℕ) → x < (frame_of h (number component)).width → y < (frame_of h (number component)).height → IsWritten (steps h leaves) component x y
+  pub whole : (component : Component) (x y : ℕ) → x < plane_width h (number component) → y < plane_height h (number component) → IsWritten (steps h leaves) component x y

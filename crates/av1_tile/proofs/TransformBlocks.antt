@@ -1,29 +1,12 @@
--- The transform blocks of a part: where they lie, and what their steps leave.
-use Rattle.std.proofs.Common.{ℕ, ◌+◌, ◌*◌, ◌/◌, ◌%◌, ◌<◌, ◌≤◌, ◌≡◌, Bool, true, false, ◌&&◌, nat_lt, if◌then◌else◌, ℤ, pos, List, Option, Some, None, ap, arith, ◌∙◌, sym, subst, refl}
-use Rattle.std.specs.List.{fold}
+-- The transform blocks of a leaf's block: where they lie.
+use Rattle.std.proofs.Common.{ℕ, ◌+◌, ◌*◌, ◌/◌, ◌%◌, ◌<◌, ◌≤◌, ◌≡◌, Bool, true, false, ◌&&◌, nat_lt, if◌then◌else◌, Some, None, ap, arith, ◌∙◌, refl}
 use Rattle.std.proofs.lemmas.Bool.Decides.{nat_tests}
 use Rattle.av1_blocks.specs.Blocks.{block_width, block_height}
 use Rattle.av1_blocks.specs.Transforms.{tx_width, tx_height}
-use Rattle.av1_frame.specs.Areas.{VisibleArea}
-use Rattle.av1_frame.specs.declared.plane.Plane.{Plane}
-use Rattle.av1_frame.specs.Planes.{painted_plane, InPlane}
-use Rattle.av1_frame.proofs.Planes.{painted_plane_whole, painted_plane_fits}
 use Rattle.av1_plan.specs.declared.geometry.PlaneArea.{PlaneArea}
 use Rattle.av1_plan.specs.declared.geometry.TransformBlock.{TransformBlock}
 use Rattle.av1_plan.specs.declared.header.Header.{Header}
-use Rattle.av1_plan.specs.declared.leaf.Triple.{Triple}
 use Rattle.av1_plan.specs.Geometry.{plane_width, plane_height, blocks_across, block_count, block_at, has_block, transform_block}
-use Rattle.av1_tile.specs.declared.frame.Frame.{Frame}
-use Rattle.av1_tile.specs.declared.part.Part.{Part}
-use Rattle.av1_tile.specs.Predictors.{predicted}
-use Rattle.av1_tile.specs.Steps.{block_area, block_steps, steps_at}
-use Rattle.av1_tile.specs.Place.{Stores, PartFits, placed_edge, fast_in}
-use Rattle.av1_tile.specs.Walk.{added, block_residue}
-
--- a painted plane stores the frame as before
-pub painted_stores : {T : Type 0} (frame : Frame) (p : Plane T) (a : VisibleArea) (f : ℕ → ℕ → T → T) → Stores frame p → Stores frame (painted_plane p a f)
-painted_stores frame p a f h =
-    record { whole = painted_plane_whole p a f h.whole; visible = painted_plane_fits p a f _ h.visible; depth = h.depth }
 
 -- a block that begins in the visible plane, and ends in its part
 pub record IsBlock (h : Header) (plane : ℕ) (a : PlaneArea) (b : TransformBlock) : Type 0 where
@@ -78,35 +61,70 @@ pub block_found : (h : Header) (plane : ℕ) (a : PlaneArea) (n : ℕ) (b : Tran
 unfolding transform_block
 block_found h plane a n b e = (some_when _ _ b e).1
 
--- a block lies in storage where its part does
-pub block_fits : {T : Type 0} (frame : Frame) (p : Plane T) (h : Header) (part : Part) (triples : List Triple) (b : TransformBlock) → Stores frame p → PartFits p.plane_cfg h part triples → IsBlock h part.plane part.area b → InPlane (block_area part b) p
-block_fits frame p h part triples b s f i =
-    record { storage = s.visible.storage; columns = omega (arith, f.columns, i.columns); rows = omega (arith, f.rows, i.rows) }
+-- ---- a block by its column and its row
 
--- what a block's steps leave, one painted plane after the other
-pub walked_block : {T : Type 0} (num : T → ℕ) (pixel : ℕ → T) (frame : Frame) (h : Header) (part : Part) (triples : List Triple) (n : ℕ) (b : TransformBlock) (p q r : Plane T) → transform_block h part.plane part.area n ≡ Some b → part.step ≡ pos 0
-    → q ≡ painted_plane p (block_area part b) (λ r c _. pixel (predicted frame part.mode (pos 0) (block_area part b) (placed_edge num frame p part.mode (block_area part b)) r c))
-    → r ≡ painted_plane q (block_area part b) (λ r c v. pixel (added frame (num v) (block_residue frame part triples n r c)))
-    → r ≡ fold (fast_in num pixel frame) p (steps_at h part triples n)
-unfolding steps_at fast_in
-walked_block num pixel frame h part triples n b p q r e z f g =
-    let a = block_area part b in
-    g ∙ ap (λ (k : Plane _). painted_plane k a (λ r c v. pixel (added frame (num v) (block_residue frame part triples n r c)))) (f ∙ ap (λ (s : ℤ). painted_plane p a (λ r c _. pixel (predicted frame part.mode s a (placed_edge num frame p part.mode a) r c))) (sym z)) ∙ ap (λ (o : Option TransformBlock). fold (fast_in num pixel frame) p (block_steps part triples n o)) (sym e)
+column_in : (m r c : ℕ) → c < m → (r * m + c) % m ≡ c
+column_in m r c h = grind arith
 
--- the same where the frame, the rectangle and the number stand under other names
-pub walked_as : {T : Type 0} (num : T → ℕ) (pixel : ℕ → T) (frame other : Frame) (h : Header) (part : Part) (triples : List Triple) (n m : ℕ) (b : TransformBlock) (a : VisibleArea) (p q r : Plane T) → transform_block h part.plane part.area n ≡ Some b → part.step ≡ pos 0 → other ≡ frame → a ≡ block_area part b → m ≡ n
-    → q ≡ painted_plane p a (λ r c _. pixel (predicted other part.mode (pos 0) a (placed_edge num other p part.mode a) r c))
-    → r ≡ painted_plane q a (λ r c v. pixel (added other (num v) (block_residue other part triples m r c)))
-    → r ≡ fold (fast_in num pixel frame) p (steps_at h part triples n)
-walked_as num pixel frame other h part triples n m b a p q r e z k l i f g =
-    let A : Frame → VisibleArea → Type 0 = λ k a. q ≡ painted_plane p a (λ r c _. pixel (predicted k part.mode (pos 0) a (placed_edge num k p part.mode a) r c)) in
-    let B : Frame → VisibleArea → ℕ → Type 0 = λ k a m. r ≡ painted_plane q a (λ r c v. pixel (added k (num v) (block_residue k part triples m r c))) in
-    let f' : A frame (block_area part b) = subst (λ (x : Frame). A x (block_area part b)) k (subst (λ (x : VisibleArea). A other x) l f) in
-    let g' : B frame (block_area part b) n = subst (λ (x : ℕ). B frame (block_area part b) x) i (subst (λ (x : Frame). B x (block_area part b) m) k (subst (λ (x : VisibleArea). B other x m) l g)) in
-    walked_block num pixel frame h part triples n b p q r e z f' g'
+row_in : (m r c : ℕ) → c < m → (r * m + c) / m ≡ r
+row_in m r c h = grind arith
 
--- no block, no step
-pub walked_none : {T : Type 0} (num : T → ℕ) (pixel : ℕ → T) (frame : Frame) (h : Header) (part : Part) (triples : List Triple) (n : ℕ) (p : Plane T) → transform_block h part.plane part.area n ≡ None → p ≡ fold (fast_in num pixel frame) p (steps_at h part triples n)
-unfolding steps_at
-walked_none num pixel frame h part triples n p e =
-    ap (λ (o : Option TransformBlock). fold (fast_in num pixel frame) p (block_steps part triples n o)) (sym e)
+above : (m n : ℕ) → m < n → nat_lt m n ≡ true
+above m n l = grind (arith, nat_tests)
+
+all_three : (a b c : Bool) → a ≡ true → b ≡ true → c ≡ true → (a && b && c) ≡ true
+all_three true true true e f g = refl
+all_three false b c e f g = absurd cc
+all_three true false c e f g = absurd cc
+all_three true true false e f g = absurd cc
+
+none_when : (b : Bool) (x : TransformBlock) → (b ≡ true → ⊥) → (if b then Some x else None) ≡ None
+none_when true x h = absurd (h refl)
+none_when false x h = refl
+
+-- in a frame, a block of a rectangle in column `column` of row `row`, of `across` side by side
+module _ (h : Header) (p : ℕ) (a : PlaneArea) (row column x y : ℕ) (is_column : column < blocks_across a) (at_x : x ≡ a.x + column * tx_width a.tx_size) (at_y : y ≡ a.y + row * tx_height a.tx_size) where
+  here : block_at a (row * blocks_across a + column) ≡ record { x = x; y = y }
+  unfolding block_at
+  here = rw (column_in (blocks_across a) row column is_column, row_in (blocks_across a) row column is_column, at_x, at_y) refl
+
+  -- it begins in the visible plane
+  pub block_begins : row * blocks_across a + column < block_count a → x < plane_width h p → y < plane_height h p → transform_block h p a (row * blocks_across a + column) ≡ Some (record { x = x; y = y })
+  unfolding transform_block has_block
+  block_begins few begins_x begins_y =
+      let n = row * blocks_across a + column in
+      let ex : (block_at a n).x ≡ x = ap (λ (b : TransformBlock). b.x) here in
+      let ey : (block_at a n).y ≡ y = ap (λ (b : TransformBlock). b.y) here in
+      let has : (nat_lt n (block_count a) && nat_lt (block_at a n).x (plane_width h p) && nat_lt (block_at a n).y (plane_height h p)) ≡ true =
+      all_three _ _ _ (above _ _ few) (above _ _ (omega (arith, ex, begins_x))) (above _ _ (omega (arith, ey, begins_y))) in
+      ap (λ (b : Bool). if b then Some (block_at a n) else None) has ∙ ap Some here
+
+  -- it doesn't
+  pub block_beyond : (x < plane_width h p → y < plane_height h p → ⊥) → transform_block h p a (row * blocks_across a + column) ≡ None
+  unfolding transform_block has_block
+  block_beyond beyond =
+      let n = row * blocks_across a + column in
+      let ex : (block_at a n).x ≡ x = ap (λ (b : TransformBlock). b.x) here in
+      let ey : (block_at a n).y ≡ y = ap (λ (b : TransformBlock). b.y) here in
+      let few : Bool = nat_lt n (block_count a) in
+      let in_x : Bool = nat_lt (block_at a n).x (plane_width h p) in
+      let in_y : Bool = nat_lt (block_at a n).y (plane_height h p) in
+      none_when (few && in_x && in_y) (block_at a n) (λ t.
+      let last = both (few && in_x) in_y t in
+      let begins_x = below (block_at a n).x (plane_width h p) (both few in_x last.0).1 in
+      let begins_y = below (block_at a n).y (plane_height h p) last.1 in
+      beyond (omega (arith, begins_x, ex)) (omega (arith, begins_y, ey)))
+
+-- ---- how far a rectangle's blocks reach
+
+row_of_few : (m n r c : ℕ) → c < m → r * m + c < m * n → r < n
+row_of_few m n r c h few = grind arith
+
+-- a block's column and row, of a block that there is
+pub column_ends : (a : PlaneArea) (column : ℕ) → column < blocks_across a → column * tx_width a.tx_size + tx_width a.tx_size ≤ block_width a.size
+unfolding blocks_across
+column_ends a column is = ends_in (tx_width a.tx_size) (block_width a.size) column is
+
+pub row_ends : (a : PlaneArea) (row column : ℕ) → column < blocks_across a → row * blocks_across a + column < block_count a → row * tx_height a.tx_size + tx_height a.tx_size ≤ block_height a.size
+unfolding block_count
+row_ends a row column is few = ends_in (tx_height a.tx_size) (block_height a.size) row (row_of_few (blocks_across a) (block_height a.size / tx_height a.tx_size) row column is few)

@@ -1,5 +1,5 @@
 -- The steps of a plane as the theory of coding order counts them: each prediction, in units of 4 by 4 samples.
-use Rattle.std.proofs.Common.{ℕ, zero, suc, ◌+◌, ◌-◌, ◌*◌, ◌/◌, ◌%◌, ◌^◌, ◌<◌, ◌≤◌, ◌≡◌, max, Bool, true, false, if◌then◌else◌, List, [], ◌∷◌, ◌++◌, map, Option, Some, None, refl, ap, arith, ◌∙◌, sym}
+use Rattle.std.proofs.Common.{ℕ, zero, suc, ◌+◌, ◌-◌, ◌*◌, ◌/◌, ◌%◌, ◌^◌, ◌<◌, ◌≤◌, ◌≡◌, max, Bool, true, false, if◌then◌else◌, List, [], ◌∷◌, ◌++◌, Option, Some, None, refl, ap, arith, ◌∙◌, sym}
 use Rattle.std.specs.List.{flat_map, filter_map, range_with_len, cons_option, AllByRecursion}
 use Rattle.std.proofs.lemmas.Grind.{flat_map-append}
 use Rattle.std.proofs.lemmas.List.{append-nil, map-append}
@@ -14,38 +14,45 @@ use Rattle.av1_order.specs.Steps as order
 use Rattle.av1_order.specs.Steps.{Coding, widened}
 use Rattle.av1_order.proofs.PlanBlocks.{units_in, numbered_in, column_of, row_of, begins, block_is, leaf_numbered, uncovered}
 use Rattle.av1_order.proofs.Plans.{halved_x, halved_y, luma_x, luma_y, place_is, in_plane_block}
-use Rattle.av1_plan.proofs.ValidLeaves.{IsValidLeaf}
-use Rattle.av1_plan.specs.CodingOrder.{IsOnGrid, cells_of, placed}
-use Rattle.av1_plan.specs.Geometry.{xdec, ydec, carries_chroma, covers_plane, plane_size, plane_tx_size, plane_area, block_count}
+use Rattle.av1_order.proofs.WholeAreas.{inter_is_whole}
+use Rattle.av1_order.specs.Turns.{leaves_steps}
+use Rattle.av1_plan.proofs.ValidLeaves.{IsValidLeaf, valid_leaf}
+use Rattle.av1_plan.specs.Validity.{fault_of}
+use Rattle.av1_plan.specs.CodingOrder.{IsOnGrid, cells_of}
+use Rattle.av1_plan.specs.Geometry.{xdec, ydec, carries_chroma, covers_plane, plane_size, plane_tx_size, plane_area, block_count, transform_block}
 use Rattle.av1_plan.specs.Plan.{LeafValue}
 use Rattle.av1_plan.specs.Tree.{Block}
 use Rattle.av1_plan.specs.declared.geometry.TransformBlock.{TransformBlock}
 use Rattle.av1_plan.specs.declared.header.Header.{Header}
 use Rattle.av1_plan.specs.declared.leaf.Triple.{Triple}
-use Rattle.av1_tile.specs.declared.part.Part.{Part}
+use Rattle.av1_tile.specs.declared.plane_block.PlaneBlock.{PlaneBlock}
+use Rattle.av1_intra.specs.declared.neighbours.IntraEdgeFilterParameters.{IntraEdgeFilterParameters}
+use Rattle.av1_plan.specs.declared.leaf.ChromaMode.TheVariants.{Plain, Cfl}
+use Rattle.av1_plan.specs.declared.leaf.LeafKind.{LeafKind}
+use Rattle.av1_plan.specs.declared.leaf.LeafKind.TheVariants.{Intra, Single, Compound}
 use Rattle.av1_tile.specs.Canvas.{Component, Y, U, V, is_same}
-use Rattle.av1_tile.specs.Parts.{number, part_of, triples_in}
-use Rattle.av1_tile.specs.Steps.{Step, predict, add, PlaneStep, joined, block_area, block_steps, steps_at, part_steps, in_component, component_steps, leaf_steps, steps}
+use Rattle.av1_tile.specs.PlaneBlocks.{number, block_told, plane_block, prediction_in, told_at, is_whole, triples_in}
+use Rattle.av1_tile.specs.Steps.{Step, predict, add, PlaneStep, joined, block_area, whole_area, block_steps, steps_at, whole_steps, plane_steps, in_component, component_steps, steps_of, leaf_steps, steps_after, steps}
 
--- the prediction of the rectangle a of a part, in units; sx and sy are 1 where the plane is halved
-abbrev pub unit_step : (sx sy : ℕ) → Part → VisibleArea → order.Step
-unit_step sx sy part a = record {
+-- the prediction of the rectangle a of a leaf's block, in units; sx and sy are 1 where the plane is halved
+abbrev pub unit_step : (sx sy : ℕ) → PlaneBlock → VisibleArea → order.Step
+unit_step sx sy block a = record {
   block = record {
-    x = part.area.x / 4 * 2 ^ sx;
-    y = part.area.y / 4 * 2 ^ sy;
-    columns = block_width part.area.size / 4 * 2 ^ sx;
-    rows = block_height part.area.size / 4 * 2 ^ sy;
+    x = block.area.x / 4 * 2 ^ sx;
+    y = block.area.y / 4 * 2 ^ sy;
+    columns = block_width block.area.size / 4 * 2 ^ sx;
+    rows = block_height block.area.size / 4 * 2 ^ sy;
   };
-  right = (a.x - part.area.x) / 4;
-  down = (a.y - part.area.y) / 4;
+  right = (a.x - block.area.x) / 4;
+  down = (a.y - block.area.y) / 4;
   columns = a.width / 4;
   rows = a.height / 4;
 }
 
 -- a step in plane j, where it is a prediction in plane k
 abbrev pub unit_in : (sx sy : ℕ) → (k j : Component) → Step → List order.Step
-unit_in sx sy k j (predict part a) = if is_same k j then unit_step sx sy part a ∷ [] else []
-unit_in sx sy k j (add part triples block a) = []
+unit_in sx sy k j (predict block n a) = if is_same k j then unit_step sx sy block a ∷ [] else []
+unit_in sx sy k j (add block triples n a) = []
 
 abbrev pub unit_of : (sx sy : ℕ) → Component → PlaneStep → List order.Step
 unit_of sx sy k s = unit_in sx sy k s.component s.step
@@ -111,17 +118,23 @@ units_joined sx sy k f [] = refl
 units_joined sx sy k f (n ∷ ns) =
     ap (flat_map (unit_of sx sy k)) (map-append _ (f n) (flat_map f ns)) ∙ flat_map-append (unit_of sx sy k) (in_component k (f n)) (in_component k (flat_map f ns)) ∙ ap (λ l. units sx sy k (in_component k (f n)) ++ l) (units_joined sx sy k f ns)
 
--- the steps of a block, if there is one
-units_block : (sx sy : ℕ) (k : Component) (part : Part) (triples : List Triple) (n : ℕ) (t : Bool) (block : TransformBlock)
-    → units sx sy k (in_component k (block_steps part triples n (if t then Some block else None))) ≡ (if t then unit_step sx sy part (block_area part block) ∷ [] else [])
-units_block sx sy k part triples n true block = rw (same_component k) refl
-units_block sx sy k part triples n false block = refl
+-- the steps of a transform block that is predicted by itself, if there is one
+units_block : (sx sy : ℕ) (k : Component) (block : PlaneBlock) (triples : List Triple) (n : ℕ) → is_whole block.prediction ≡ false → (t : Bool) (b : TransformBlock)
+    → units sx sy k (in_component k (block_steps block triples n (if t then Some b else None))) ≡ (if t then unit_step sx sy block (block_area block b) ∷ [] else [])
+units_block sx sy k block triples n own true b = rw (own, same_component k) refl
+units_block sx sy k block triples n own false b = refl
+
+-- a block of a leaf that is predicted over its whole area has additions alone
+units_added : (sx sy : ℕ) (k : Component) (block : PlaneBlock) (triples : List Triple) (n : ℕ) → is_whole block.prediction ≡ true → (o : Option TransformBlock)
+    → units sx sy k (in_component k (block_steps block triples n o)) ≡ []
+units_added sx sy k block triples n whole (Some b) = rw whole refl
+units_added sx sy k block triples n whole None = refl
 
 -- steps of another plane
 other_units : (sx sy : ℕ) (k j : Component) → is_same k j ≡ false → (steps : List Step) → units sx sy k (in_component j steps) ≡ []
 other_units sx sy k j e [] = refl
-other_units sx sy k j e (predict part a ∷ steps) = rw (e, other_units sx sy k j e steps) refl
-other_units sx sy k j e (add part triples block a ∷ steps) = other_units sx sy k j e steps
+other_units sx sy k j e (predict block n a ∷ steps) = rw (e, other_units sx sy k j e steps) refl
+other_units sx sy k j e (add block triples n a ∷ steps) = other_units sx sy k j e steps
 
 -- one step or none
 chosen : (t : Bool) (s : order.Step) → (if t then s ∷ [] else []) ≡ cons_option (if t then Some s else None) []
@@ -138,8 +151,24 @@ pieces_kept f g a zero same = refl
 pieces_kept f g a (suc n) same =
     ap (λ l. l ++ flat_map f (range_with_len (a + 1) n)) (same a (omega arith)) ∙ ap (λ l. cons_option (g a) [] ++ l) (pieces_kept f g (a + 1) n (λ i h. same i (omega arith))) ∙ joined_option (g a) (filter_map g (range_with_len (a + 1) n))
 
--- a leaf that is predicted block by block, in plane k of a frame
-module _ (h : Header) (k : Component) (leaf : LeafValue) (frame : IsWholeFrame h) (grid : IsOnGrid h leaf) (valid : IsValidLeaf h leaf) where
+-- a leaf is predicted over its whole area where it is predicted from references
+pub whole_is_inter : (filter : Option IntraEdgeFilterParameters) (k : Component) (kind : LeafKind) → is_whole (prediction_in filter k kind) ≡ is_inter kind
+whole_is_inter filter Y (Intra mode step chroma) = refl
+whole_is_inter filter U (Intra mode step (Some (Plain uv_mode uv_step))) = refl
+whole_is_inter filter V (Intra mode step (Some (Plain uv_mode uv_step))) = refl
+whole_is_inter filter U (Intra mode step (Some (Cfl alpha_u alpha_v))) = refl
+whole_is_inter filter V (Intra mode step (Some (Cfl alpha_u alpha_v))) = refl
+whole_is_inter filter U (Intra mode step None) = refl
+whole_is_inter filter V (Intra mode step None) = refl
+whole_is_inter filter Y (Single mode reference mv) = refl
+whole_is_inter filter U (Single mode reference mv) = refl
+whole_is_inter filter V (Single mode reference mv) = refl
+whole_is_inter filter Y (Compound mode references mvs) = refl
+whole_is_inter filter U (Compound mode references mvs) = refl
+whole_is_inter filter V (Compound mode references mvs) = refl
+
+-- a leaf's block in plane k of a frame
+module _ (h : Header) (filter : Option IntraEdgeFilterParameters) (k : Component) (leaf : LeafValue) (frame : IsWholeFrame h) (grid : IsOnGrid h leaf) (valid : IsValidLeaf h leaf) where
   abbrev sx : ℕ
   sx = xdec h (number k)
 
@@ -149,75 +178,115 @@ module _ (h : Header) (k : Component) (leaf : LeafValue) (frame : IsWholeFrame h
   abbrev coding : Coding
   coding = coding_in h (number k) leaf
 
-  abbrev part : Part
-  part = part_of h k leaf
+  abbrev block : PlaneBlock
+  block = block_told h filter k leaf
 
   halved_down : sy ≤ 1
   halved_down = omega (arith, halved_x h (number k), halved_y h (number k))
 
-  pub part_x : part.area.x ≡ 4 * (units_in h (number k) leaf frame grid valid).x
+  pub block_x : block.area.x ≡ 4 * (units_in h (number k) leaf frame grid valid).x
   unfolding plane_area
-  part_x = place_is (number k) leaf.x sx (halved_x h (number k)) (luma_x h (number k)) grid.cell_x
+  block_x = place_is (number k) leaf.x sx (halved_x h (number k)) (luma_x h (number k)) grid.cell_x
 
-  pub part_y : part.area.y ≡ 4 * (units_in h (number k) leaf frame grid valid).y
+  pub block_y : block.area.y ≡ 4 * (units_in h (number k) leaf frame grid valid).y
   unfolding plane_area
-  part_y = place_is (number k) leaf.y sy halved_down (luma_y h (number k)) grid.cell_y
+  block_y = place_is (number k) leaf.y sy halved_down (luma_y h (number k)) grid.cell_y
 
-  pub part_columns : block_width part.area.size ≡ 4 * (units_in h (number k) leaf frame grid valid).columns
+  pub block_columns : block_width block.area.size ≡ 4 * (units_in h (number k) leaf frame grid valid).columns
   unfolding plane_area plane_size
-  part_columns = (in_plane_block h leaf.size (number k) valid.size).width
+  block_columns = (in_plane_block h leaf.size (number k) valid.size).width
 
-  pub part_rows : block_height part.area.size ≡ 4 * (units_in h (number k) leaf frame grid valid).rows
+  pub block_rows : block_height block.area.size ≡ 4 * (units_in h (number k) leaf frame grid valid).rows
   unfolding plane_area plane_size
-  part_rows = (in_plane_block h leaf.size (number k) valid.size).height
+  block_rows = (in_plane_block h leaf.size (number k) valid.size).height
 
-  pub part_tx_size : part.area.tx_size ≡ plane_tx_size h leaf.size leaf.tx_size (number k)
+  pub block_tx_size : block.area.tx_size ≡ plane_tx_size h leaf.size leaf.tx_size (number k)
   unfolding plane_area
-  part_tx_size = refl
+  block_tx_size = refl
 
   -- a block that begins at a place in units
-  unit_is : (i j : ℕ) → unit_step sx sy part (block_area part (record { x = 4 * ((units_in h (number k) leaf frame grid valid).x + i); y = 4 * ((units_in h (number k) leaf frame grid valid).y + j) })) ≡ unit_at (widened sx sy (cells_of leaf)) i j coding.columns coding.rows
+  unit_is : (i j : ℕ) → unit_step sx sy block (block_area block (record { x = 4 * ((units_in h (number k) leaf frame grid valid).x + i); y = 4 * ((units_in h (number k) leaf frame grid valid).y + j) })) ≡ unit_at (widened sx sy (cells_of leaf)) i j coding.columns coding.rows
   unit_is i j =
       let b = widened sx sy (cells_of leaf) in
-      let columns : block_width part.area.size / 4 * 2 ^ sx ≡ b.columns = sym (side_cells _ _ (2 ^ sx) part_columns) ∙ widened_width leaf.size sx (halved_x h (number k)) in
-      let rows : block_height part.area.size / 4 * 2 ^ sy ≡ b.rows = sym (side_cells _ _ (2 ^ sy) part_rows) ∙ widened_height leaf.size sy halved_down in
+      let columns : block_width block.area.size / 4 * 2 ^ sx ≡ b.columns = sym (side_cells _ _ (2 ^ sx) block_columns) ∙ widened_width leaf.size sx (halved_x h (number k)) in
+      let rows : block_height block.area.size / 4 * 2 ^ sy ≡ b.rows = sym (side_cells _ _ (2 ^ sy) block_rows) ∙ widened_height leaf.size sy halved_down in
       step_same _ b _ i _ j _ coding.columns _ coding.rows
-      (block_same _ b.x _ b.y _ b.columns _ b.rows (place_cells sx (leaf.x / 4) _ (halved_x h (number k)) part_x) (place_cells sy (leaf.y / 4) _ halved_down part_y) columns rows)
-      (from_place _ _ i part_x) (from_place _ _ j part_y) (ap (λ t. tx_width t / 4) part_tx_size) (ap (λ t. tx_height t / 4) part_tx_size)
+      (block_same _ b.x _ b.y _ b.columns _ b.rows (place_cells sx (leaf.x / 4) _ (halved_x h (number k)) block_x) (place_cells sy (leaf.y / 4) _ halved_down block_y) columns rows)
+      (from_place _ _ i block_x) (from_place _ _ j block_y) (ap (λ t. tx_width t / 4) block_tx_size) (ap (λ t. tx_height t / 4) block_tx_size)
 
   -- all of its area at once
-  pub whole_unit : unit_step sx sy part (record { x = part.area.x; y = part.area.y; width = block_width part.area.size; height = block_height part.area.size }) ≡ whole_step h (number k) leaf
+  pub whole_unit : unit_step sx sy block (whole_area block) ≡ whole_step h (number k) leaf
   whole_unit =
       let b = widened sx sy (cells_of leaf) in
       let u = units_in h (number k) leaf frame grid valid in
-      let columns : block_width part.area.size / 4 * 2 ^ sx ≡ b.columns = sym (side_cells _ _ (2 ^ sx) part_columns) ∙ widened_width leaf.size sx (halved_x h (number k)) in
-      let rows : block_height part.area.size / 4 * 2 ^ sy ≡ b.rows = sym (side_cells _ _ (2 ^ sy) part_rows) ∙ widened_height leaf.size sy halved_down in
+      let columns : block_width block.area.size / 4 * 2 ^ sx ≡ b.columns = sym (side_cells _ _ (2 ^ sx) block_columns) ∙ widened_width leaf.size sx (halved_x h (number k)) in
+      let rows : block_height block.area.size / 4 * 2 ^ sy ≡ b.rows = sym (side_cells _ _ (2 ^ sy) block_rows) ∙ widened_height leaf.size sy halved_down in
       step_same _ b _ 0 _ 0 _ u.columns _ u.rows
-      (block_same _ b.x _ b.y _ b.columns _ b.rows (place_cells sx (leaf.x / 4) _ (halved_x h (number k)) part_x) (place_cells sy (leaf.y / 4) _ halved_down part_y) columns rows)
-      (nothing part.area.x) (nothing part.area.y) (omega (arith, part_columns)) (omega (arith, part_rows))
+      (block_same _ b.x _ b.y _ b.columns _ b.rows (place_cells sx (leaf.x / 4) _ (halved_x h (number k)) block_x) (place_cells sy (leaf.y / 4) _ halved_down block_y) columns rows)
+      (nothing block.area.x) (nothing block.area.y) (omega (arith, block_columns)) (omega (arith, block_rows))
     where
       nothing : (a : ℕ) → (a - a) / 4 ≡ 0
       nothing a = omega arith
 
-  pub number_units : (triples : List Triple) (n : ℕ) → n < block_count part.area → units sx sy k (in_component k (steps_at h part triples n)) ≡ cons_option (numbered_in h (number k) leaf frame grid valid n) []
+  -- transform block n, where the leaf is predicted block by block
+  pub number_units : (triples : List Triple) → is_inter leaf.kind ≡ false → (n : ℕ) → n < block_count block.area → units sx sy k (in_component k (steps_at h block triples n)) ≡ cons_option (numbered_in h (number k) leaf frame grid valid n) []
   unfolding steps_at
-  number_units triples n lt =
+  number_units triples intra n lt =
       let x = column_of h (number k) leaf frame grid valid n * coding.columns in
       let y = row_of h (number k) leaf frame grid valid n * coding.rows in
       let u = units_in h (number k) leaf frame grid valid in
       let begins_there = begins h (number k) leaf frame grid valid n in
-      ap (λ o. units sx sy k (in_component k (block_steps part triples n o))) (block_is h (number k) leaf frame grid valid n lt)
-      ∙ units_block sx sy k part triples n begins_there (record { x = 4 * (u.x + x); y = 4 * (u.y + y) })
+      ap (λ o. units sx sy k (in_component k (block_steps block triples n o))) (block_is h (number k) leaf frame grid valid n lt)
+      ∙ units_block sx sy k block triples n (whole_is_inter filter k leaf.kind ∙ intra) begins_there (record { x = 4 * (u.x + x); y = 4 * (u.y + y) })
       ∙ ap (λ s. if begins_there then s ∷ [] else []) (unit_is x y)
       ∙ chosen begins_there (unit_at (widened sx sy (cells_of leaf)) x y coding.columns coding.rows)
 
-  -- its steps are those of the theory
-  part_units : (triples : List Triple) → is_inter leaf.kind ≡ false → covers_plane h leaf.x leaf.y leaf.size (number k) ≡ true → units sx sy k (in_component k (part_steps h part triples)) ≡ steps_in h (number k) leaf
+  -- and where it is predicted from references
+  number_added : (triples : List Triple) → is_inter leaf.kind ≡ true → (n : ℕ) → units sx sy k (in_component k (steps_at h block triples n)) ≡ []
+  unfolding steps_at
+  number_added triples inter n = units_added sx sy k block triples n (whole_is_inter filter k leaf.kind ∙ inter) (transform_block h block.plane block.area n)
+
+  pub blocks_added : (triples : List Triple) → is_inter leaf.kind ≡ true → (n : ℕ) → units sx sy k (in_component k (joined n (steps_at h block triples))) ≡ []
   unfolding joined
-  part_units triples intra covered =
-      units_joined sx sy k (steps_at h part triples) (range_with_len 0 (block_count part.area))
-      ∙ pieces_kept (λ n. units sx sy k (in_component k (steps_at h part triples n))) (numbered_in h (number k) leaf frame grid valid) 0 (block_count part.area) (λ n lt. number_units triples n (omega arith))
+  blocks_added triples inter n = units_joined sx sy k (steps_at h block triples) (range_with_len 0 n) ∙ none (range_with_len 0 n)
+    where
+      none : (ns : List ℕ) → flat_map (λ m. units sx sy k (in_component k (steps_at h block triples m))) ns ≡ []
+      none [] = refl
+      none (m ∷ ns) = ap (λ l. l ++ flat_map (λ m. units sx sy k (in_component k (steps_at h block triples m))) ns) (number_added triples inter m) ∙ none ns
+
+  -- no prediction of the whole area comes before the blocks
+  pub nothing_whole : is_inter leaf.kind ≡ false → whole_steps block ≡ []
+  nothing_whole intra = ap (λ (b : Bool). if b then predict block 0 (whole_area block) ∷ [] else []) (whole_is_inter filter k leaf.kind ∙ intra)
+
+  -- or it does
+  pub whole_first : is_inter leaf.kind ≡ true → whole_steps block ≡ predict block 0 (whole_area block) ∷ []
+  whole_first inter = ap (λ (b : Bool). if b then predict block 0 (whole_area block) ∷ [] else []) (whole_is_inter filter k leaf.kind ∙ inter)
+
+  intra_units : (triples : List Triple) → is_inter leaf.kind ≡ false → covers_plane h leaf.x leaf.y leaf.size (number k) ≡ true → units sx sy k (in_component k (plane_steps h block triples)) ≡ steps_in h (number k) leaf
+  unfolding joined
+  intra_units triples intra covered =
+      ap (λ (w : List Step). units sx sy k (in_component k (w ++ joined (block_count block.area) (steps_at h block triples)))) (nothing_whole intra)
+      ∙ units_joined sx sy k (steps_at h block triples) (range_with_len 0 (block_count block.area))
+      ∙ pieces_kept (λ n. units sx sy k (in_component k (steps_at h block triples n))) (numbered_in h (number k) leaf frame grid valid) 0 (block_count block.area) (λ n lt. number_units triples intra n (omega arith))
       ∙ sym (leaf_numbered h (number k) leaf frame grid valid intra covered)
+
+  inter_units : (triples : List Triple) → fault_of h leaf ≡ None → is_inter leaf.kind ≡ true → units sx sy k (in_component k (plane_steps h block triples)) ≡ steps_in h (number k) leaf
+  inter_units triples faultless inter =
+      let own : units sx sy k (in_component k (predict block 0 (whole_area block) ∷ [])) ≡ whole_step h (number k) leaf ∷ [] =
+      rw (same_component k) (ap (λ (s : order.Step). s ∷ []) whole_unit) in
+      ap (λ (w : List Step). units sx sy k (in_component k (w ++ joined (block_count block.area) (steps_at h block triples)))) (whole_first inter)
+      ∙ flat_map-append (unit_of sx sy k) (in_component k (predict block 0 (whole_area block) ∷ [])) (in_component k (joined (block_count block.area) (steps_at h block triples)))
+      ∙ ap (λ l. l ++ units sx sy k (in_component k (joined (block_count block.area) (steps_at h block triples)))) own
+      ∙ ap (λ l. whole_step h (number k) leaf ∷ l) (blocks_added triples inter (block_count block.area))
+      ∙ sym (inter_is_whole h (number k) leaf grid faultless inter).one
+
+  -- its steps are those of the theory
+  pub plane_units : (triples : List Triple) → fault_of h leaf ≡ None → covers_plane h leaf.x leaf.y leaf.size (number k) ≡ true → units sx sy k (in_component k (plane_steps h block triples)) ≡ steps_in h (number k) leaf
+  plane_units triples faultless covered = go (is_inter leaf.kind) refl
+    where
+      go : (t : Bool) → is_inter leaf.kind ≡ t → units sx sy k (in_component k (plane_steps h block triples)) ≡ steps_in h (number k) leaf
+      go true e = inter_units triples faultless e
+      go false e = intra_units triples e covered
 
 -- ---- the steps of leaves
 
@@ -227,25 +296,25 @@ covers Y carried = true
 covers U carried = carried
 covers V carried = carried
 
-module _ (h : Header) (sx sy : ℕ) (leaf : LeafValue) where
+module _ (h : Header) (sx sy : ℕ) (told : Component → PlaneBlock) (leaf : LeafValue) where
   abbrev component_units : (k j : Component) → List order.Step
-  component_units k j = units sx sy k (component_steps h leaf j)
+  component_units k j = units sx sy k (component_steps h told leaf j)
 
-  other_none : (k j : Component) → is_same k j ≡ false → component_units k j ≡ []
-  other_none k j e = other_units sx sy k j e (part_steps h (part_of h j leaf) (triples_in j leaf))
+  pub other_none : (k j : Component) → is_same k j ≡ false → component_units k j ≡ []
+  other_none k j e = other_units sx sy k j e (plane_steps h (told j) (triples_in j leaf))
 
-  three : (k : Component) → units sx sy k (flat_map (component_steps h leaf) (Y ∷ U ∷ V ∷ [])) ≡ component_units k Y ++ (component_units k U ++ component_units k V)
+  three : (k : Component) → units sx sy k (flat_map (component_steps h told leaf) (Y ∷ U ∷ V ∷ [])) ≡ component_units k Y ++ (component_units k U ++ component_units k V)
   three k =
       let u = unit_of sx sy k in
-      let a = component_steps h leaf Y in
-      let b = component_steps h leaf U in
-      let c = component_steps h leaf V in
+      let a = component_steps h told leaf Y in
+      let b = component_steps h told leaf U in
+      let c = component_steps h told leaf V in
       flat_map-append u a (b ++ (c ++ [])) ∙ ap (λ l. flat_map u a ++ l) (flat_map-append u b (c ++ []) ∙ ap (λ l. flat_map u b ++ flat_map u l) (append-nil c))
 
-  one : (k : Component) → units sx sy k (flat_map (component_steps h leaf) (Y ∷ [])) ≡ component_units k Y
-  one k = ap (units sx sy k) (append-nil (component_steps h leaf Y))
+  one : (k : Component) → units sx sy k (flat_map (component_steps h told leaf) (Y ∷ [])) ≡ component_units k Y
+  one k = ap (units sx sy k) (append-nil (component_steps h told leaf Y))
 
-  carried_units : (k : Component) (t : Bool) → units sx sy k (flat_map (component_steps h leaf) (if t then Y ∷ U ∷ V ∷ [] else Y ∷ [])) ≡ (if covers k t then component_units k k else [])
+  carried_units : (k : Component) (t : Bool) → units sx sy k (flat_map (component_steps h told leaf) (if t then Y ∷ U ∷ V ∷ [] else Y ∷ [])) ≡ (if covers k t then component_units k k else [])
   carried_units Y true = three Y ∙ ap (λ l. component_units Y Y ++ l) (ap (λ l. l ++ component_units Y V) (other_none Y U refl) ∙ other_none Y V refl) ∙ append-nil (component_units Y Y)
   carried_units Y false = one Y
   carried_units U true = three U ∙ ap (λ l. l ++ (component_units U U ++ component_units U V)) (other_none U Y refl) ∙ ap (λ l. component_units U U ++ l) (other_none U V refl) ∙ append-nil (component_units U U)
@@ -254,36 +323,40 @@ module _ (h : Header) (sx sy : ℕ) (leaf : LeafValue) where
   carried_units V false = one V ∙ other_none V Y refl
 
   -- a leaf's steps in plane k
-  leaf_only : (k : Component) → units sx sy k (leaf_steps h leaf) ≡ (if covers k (carries_chroma h leaf.x leaf.y leaf.size) then component_units k k else [])
-  unfolding leaf_steps
+  leaf_only : (k : Component) → units sx sy k (steps_of h told leaf) ≡ (if covers k (carries_chroma h leaf.x leaf.y leaf.size) then component_units k k else [])
+  unfolding steps_of
   leaf_only k = carried_units k (carries_chroma h leaf.x leaf.y leaf.size)
 
-covers_is : (h : Header) (k : Component) (leaf : LeafValue) → covers_plane h leaf.x leaf.y leaf.size (number k) ≡ covers k (carries_chroma h leaf.x leaf.y leaf.size)
+pub covers_is : (h : Header) (k : Component) (leaf : LeafValue) → covers_plane h leaf.x leaf.y leaf.size (number k) ≡ covers k (carries_chroma h leaf.x leaf.y leaf.size)
 unfolding covers_plane
 covers_is h Y leaf = refl
 covers_is h U leaf = refl
 covers_is h V leaf = refl
 
--- a leaf of a frame that is predicted block by block
+-- a valid leaf of a frame
 pub record IsCodedLeaf (h : Header) (leaf : LeafValue) : Type 0 where
   pub frame : IsWholeFrame h
   pub grid : IsOnGrid h leaf
-  pub valid : IsValidLeaf h leaf
-  pub intra : is_inter leaf.kind ≡ false
+  pub faultless : fault_of h leaf ≡ None
 
 -- its steps in plane k are those of the theory
-leaf_units : (h : Header) (k : Component) (leaf : LeafValue) → IsCodedLeaf h leaf → units (xdec h (number k)) (ydec h (number k)) k (leaf_steps h leaf) ≡ steps_in h (number k) leaf
-leaf_units h k leaf is = leaf_only h (xdec h (number k)) (ydec h (number k)) leaf k ∙ go (covers k (carries_chroma h leaf.x leaf.y leaf.size)) (covers_is h k leaf)
+pub leaf_units : (h : Header) (earlier : List LeafValue) (k : Component) (leaf : LeafValue) → IsCodedLeaf h leaf → units (xdec h (number k)) (ydec h (number k)) k (leaf_steps h earlier leaf) ≡ steps_in h (number k) leaf
+leaf_units h earlier k leaf is =
+    leaf_only h (xdec h (number k)) (ydec h (number k)) (λ j. plane_block h earlier j leaf) leaf k ∙ go (covers k (carries_chroma h leaf.x leaf.y leaf.size)) (covers_is h k leaf)
   where
-    go : (t : Bool) → covers_plane h leaf.x leaf.y leaf.size (number k) ≡ t → (if t then component_units h (xdec h (number k)) (ydec h (number k)) leaf k k else []) ≡ steps_in h (number k) leaf
-    go true e = part_units h k leaf is.frame is.grid is.valid (triples_in k leaf) is.intra e
-    go false e = sym (uncovered h (number k) leaf is.frame is.grid is.valid e)
+    valid : IsValidLeaf h leaf
+    valid = valid_leaf h leaf is.faultless
+
+    go : (t : Bool) → covers_plane h leaf.x leaf.y leaf.size (number k) ≡ t → (if t then component_units h (xdec h (number k)) (ydec h (number k)) (λ j. plane_block h earlier j leaf) leaf k k else []) ≡ steps_in h (number k) leaf
+    go true e = plane_units h (told_at h earlier k leaf) k leaf is.frame is.grid valid (triples_in k leaf) is.faultless e
+    go false e = sym (uncovered h (number k) leaf is.frame is.grid valid e)
 
 -- and those of all leaves
-pub plan_units : (h : Header) (k : Component) (leaves : List LeafValue) → AllByRecursion (IsCodedLeaf h) leaves
-    → units (xdec h (number k)) (ydec h (number k)) k (steps h leaves) ≡ order.plane_steps (xdec h (number k)) (ydec h (number k)) (h.width / 4) (h.height / 4) (map (placed (coding_in h (number k))) leaves)
-plan_units h k [] are = refl
-plan_units h k (leaf ∷ leaves) are =
+pub plan_units : (h : Header) (k : Component) (earlier leaves : List LeafValue) → AllByRecursion (IsCodedLeaf h) leaves
+    → units (xdec h (number k)) (ydec h (number k)) k (steps_after h earlier leaves) ≡ leaves_steps h (number k) leaves
+plan_units h k earlier [] are = refl
+plan_units h k earlier (leaf ∷ leaves) are =
     let u = unit_of (xdec h (number k)) (ydec h (number k)) k in
-    flat_map-append u (leaf_steps h leaf) (steps h leaves) ∙ ap (λ l. l ++ units (xdec h (number k)) (ydec h (number k)) k (steps h leaves)) (leaf_units h k leaf are.0)
-    ∙ ap (λ l. steps_in h (number k) leaf ++ l) (plan_units h k leaves are.1)
+    flat_map-append u (leaf_steps h earlier leaf) (steps_after h (earlier ++ leaf ∷ []) leaves)
+    ∙ ap (λ l. l ++ units (xdec h (number k)) (ydec h (number k)) k (steps_after h (earlier ++ leaf ∷ []) leaves)) (leaf_units h earlier k leaf are.0)
+    ∙ ap (λ l. steps_in h (number k) leaf ++ l) (plan_units h k (earlier ++ leaf ∷ []) leaves are.1)

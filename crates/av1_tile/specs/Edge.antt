@@ -1,14 +1,14 @@
 -- The intra edge: the samples round a block that its prediction reads.
 -- AV1 specification: intra prediction process, the preparation of the arrays AboveRow and LeftCol.
-use Rattle.std.specs.Prelude.{ℕ, zero, suc, ◌+◌, ◌-◌, ◌*◌, ◌/◌, ◌^◌, List, Bool, true, ◌&&◌, ◌||◌, nat_lt, nat_le, min, if◌then◌else◌, ℤ, pos, ◌+ℤ◌, ◌*ℤ◌, int_lt, slice_index, Option, None, map}
+use Rattle.std.specs.Prelude.{ℕ, zero, suc, ◌+◌, ◌-◌, List, Bool, ◌&&◌, nat_lt, min, if◌then◌else◌, ℤ, slice_index, Option, None}
 use Rattle.std.specs.Option.{unwrap_or}
-use Rattle.std.specs.List.{range_with_len}
 use Rattle.av1_blocks.specs.declared.predict.PredictionMode.{PredictionMode}
 use Rattle.av1_frame.specs.Areas.{VisibleArea}
 use Rattle.av1_edges.specs.Edges.{Edge}
 use Rattle.av1_edges.specs.Parts.{needs_left, needs_below_left, needs_above_right, needs_corner, smooths_corner}
-use Rattle.av1_edges.specs.Sides.{base, listed, where_needed, smoothed}
-use Rattle.av1_tile.specs.declared.frame.Frame.{Frame}
+use Rattle.av1_edges.specs.Sides.{base, where_needed, smoothed}
+use Rattle.av1_lists.specs.Lists.{by_index}
+use Rattle.av1_tile.specs.declared.extent.PlaneExtent.{PlaneExtent}
 use Rattle.av1_tile.specs.Canvas.{Written}
 
 -- ---- what is known
@@ -18,18 +18,18 @@ abbrev pub sample_of : Option ℕ → ℕ
 sample_of o = unwrap_or o 0
 
 -- the sample at column x of row y, where that lies in the frame and was written
-abbrev pub known : Frame → Written → ℕ → ℕ → Option ℕ
-known frame written x y = if nat_lt x frame.width && nat_lt y frame.height then written x y else None
+abbrev pub known : PlaneExtent → Written → ℕ → ℕ → Option ℕ
+known extent written x y = if nat_lt x extent.width && nat_lt y extent.height then written x y else None
 
 -- the same one column to the left of that place
-abbrev pub known_left : Frame → Written → ℕ → ℕ → Option ℕ
-known_left frame written zero y = None
-known_left frame written (suc x) y = known frame written x y
+abbrev pub known_left : PlaneExtent → Written → ℕ → ℕ → Option ℕ
+known_left extent written zero y = None
+known_left extent written (suc x) y = known extent written x y
 
 -- the same one row above that place
-abbrev pub known_above : Frame → Written → ℕ → ℕ → Option ℕ
-known_above frame written x zero = None
-known_above frame written x (suc y) = known frame written x y
+abbrev pub known_above : PlaneExtent → Written → ℕ → ℕ → Option ℕ
+known_above extent written x zero = None
+known_above extent written x (suc y) = known extent written x y
 
 -- ---- edge filling
 
@@ -39,48 +39,48 @@ place sample first zero = unwrap_or (sample 0) first
 place sample first (suc i) = unwrap_or (sample (suc i)) (place sample first i)
 
 -- what the first place above a block at column x holds where nothing is known there
-abbrev pub first_above : Frame → Written → ℕ → ℕ
-first_above frame written zero = base frame.depth - 1
-first_above frame written (suc x) = sample_of (written x 0)
+abbrev pub first_above : PlaneExtent → Written → ℕ → ℕ
+first_above extent written zero = base extent.depth - 1
+first_above extent written (suc x) = sample_of (written x 0)
 
 -- what the first place to the left of a block at row y holds where nothing is known there
-abbrev pub first_left : Frame → Written → ℕ → ℕ
-first_left frame written zero = base frame.depth + 1
-first_left frame written (suc y) = sample_of (written 0 y)
+abbrev pub first_left : PlaneExtent → Written → ℕ → ℕ
+first_left extent written zero = base extent.depth + 1
+first_left extent written (suc y) = sample_of (written 0 y)
 
 -- the corner of a block at column x of row y, where it is asked for
-abbrev pub corner_sample : Frame → Written → ℕ → ℕ → ℕ
-corner_sample frame written zero zero = base frame.depth
-corner_sample frame written (suc x) zero = sample_of (written x 0)
-corner_sample frame written zero (suc y) = sample_of (written 0 y)
-corner_sample frame written (suc x) (suc y) = sample_of (known frame written x y)
+abbrev pub corner_sample : PlaneExtent → Written → ℕ → ℕ → ℕ
+corner_sample extent written zero zero = base extent.depth
+corner_sample extent written (suc x) zero = sample_of (written x 0)
+corner_sample extent written zero (suc y) = sample_of (written 0 y)
+corner_sample extent written (suc x) (suc y) = sample_of (known extent written x y)
 
 -- ---- the edge
 
 -- the samples above the block, as far as its mode reaches
-abbrev pub reach_above : Frame → Written → PredictionMode → ℤ → VisibleArea → ℕ → Option ℕ
-reach_above frame written mode step a j =
-    if nat_lt j (a.width + where_needed (needs_above_right mode step) (min a.width a.height)) then known_above frame written (a.x + j) a.y else None
+abbrev pub reach_above : PlaneExtent → Written → PredictionMode → ℤ → VisibleArea → ℕ → Option ℕ
+reach_above extent written mode step a j =
+    if nat_lt j (a.width + where_needed (needs_above_right mode step) (min a.width a.height)) then known_above extent written (a.x + j) a.y else None
 
 -- the samples to the left of the block, as far as its mode reaches
-abbrev pub reach_left : Frame → Written → PredictionMode → ℤ → VisibleArea → ℕ → Option ℕ
-reach_left frame written mode step a i =
-    if nat_lt i (a.height + where_needed (needs_below_left mode step) (min a.width a.height)) then known_left frame written a.x (a.y + i) else None
+abbrev pub reach_left : PlaneExtent → Written → PredictionMode → ℤ → VisibleArea → ℕ → Option ℕ
+reach_left extent written mode step a i =
+    if nat_lt i (a.height + where_needed (needs_below_left mode step) (min a.width a.height)) then known_left extent written a.x (a.y + i) else None
 
-abbrev pub above_side : Frame → Written → PredictionMode → ℤ → VisibleArea → List ℕ
-above_side frame written mode step a =
-    listed (a.width + where_needed (needs_above_right mode step) a.height) (place (reach_above frame written mode step a) (first_above frame written a.x))
+abbrev pub above_side : PlaneExtent → Written → PredictionMode → ℤ → VisibleArea → List ℕ
+above_side extent written mode step a =
+    by_index (a.width + where_needed (needs_above_right mode step) a.height) (place (reach_above extent written mode step a) (first_above extent written a.x))
 
-abbrev pub left_side : Frame → Written → PredictionMode → ℤ → VisibleArea → List ℕ
-left_side frame written mode step a =
-    listed (where_needed (needs_left mode a.x) a.height + where_needed (needs_below_left mode step) a.width) (place (reach_left frame written mode step a) (first_left frame written a.y))
+abbrev pub left_side : PlaneExtent → Written → PredictionMode → ℤ → VisibleArea → List ℕ
+left_side extent written mode step a =
+    by_index (where_needed (needs_left mode a.x) a.height + where_needed (needs_below_left mode step) a.width) (place (reach_left extent written mode step a) (first_left extent written a.y))
 
 -- the edge of the block a, for a mode that is in effect there; filter says whether the edge filter is on
-unfoldable pub edge : Frame → Bool → Written → PredictionMode → ℤ → VisibleArea → Edge
-edge frame filter written mode step a =
-    let above = above_side frame written mode step a in
-    let left = left_side frame written mode step a in
-    let corner = if needs_corner mode step then corner_sample frame written a.x a.y else base frame.depth in
+unfoldable pub edge : PlaneExtent → Bool → Written → PredictionMode → ℤ → VisibleArea → Edge
+edge extent filter written mode step a =
+    let above = above_side extent written mode step a in
+    let left = left_side extent written mode step a in
+    let corner = if needs_corner mode step then corner_sample extent written a.x a.y else base extent.depth in
     record {
       above = above;
       left = left;

@@ -1,8 +1,8 @@
 pub mod Canvas
+pub mod PlaneBlocks
 pub mod Edge
-pub mod Predictors
-pub mod Parts
 pub mod Steps
+pub mod Reference
+pub mod Output
 pub mod Walk
-pub mod Place
 pub mod State

@@ -1,7 +1,8 @@
 -- The reconstruction steps of a plan: what is predicted and what is added, one after another.
 -- AV1 specification: residual syntax and transform block syntax, which call the prediction and reconstruction processes.
-use Rattle.std.specs.Prelude.{ℕ, List, [], ◌∷◌, map, Option, Some, None}
+use Rattle.std.specs.Prelude.{ℕ, List, [], ◌∷◌, ◌++◌, map, if◌then◌else◌, Option, Some, None}
 use Rattle.std.specs.List.{range_with_len, flat_map}
+use Rattle.av1_blocks.specs.Blocks.{block_width, block_height}
 use Rattle.av1_blocks.specs.Transforms.{tx_width, tx_height}
 use Rattle.av1_frame.specs.Areas.{VisibleArea}
 use Rattle.av1_plan.specs.declared.header.Header.{Header}
@@ -9,35 +10,44 @@ use Rattle.av1_plan.specs.declared.geometry.TransformBlock.{TransformBlock}
 use Rattle.av1_plan.specs.declared.leaf.Triple.{Triple}
 use Rattle.av1_plan.specs.Geometry.{block_count, transform_block}
 use Rattle.av1_plan.specs.Plan.{LeafValue}
-use Rattle.av1_tile.specs.declared.part.Part.{Part}
+use Rattle.av1_tile.specs.declared.plane_block.PlaneBlock.{PlaneBlock}
 use Rattle.av1_tile.specs.Canvas.{Component}
-use Rattle.av1_tile.specs.Parts.{part_of, triples_in, components_of}
+use Rattle.av1_tile.specs.PlaneBlocks.{plane_block, triples_in, components_of, is_whole}
 
--- a step in a plane: the prediction of a part in a rectangle, or the addition of the residue of one of its blocks, by the block's number
+-- A step in a plane, at a rectangle of a leaf's block: it is predicted, or the residue of transform block n is added to it. What is predicted
+-- is transform block n, or of a leaf from references the whole area.
 pub data Step : Type 0 where
-  predict : Part → VisibleArea → Step
-  add : Part → List Triple → ℕ → VisibleArea → Step
+  predict : PlaneBlock → (n : ℕ) → VisibleArea → Step
+  add : PlaneBlock → List Triple → (n : ℕ) → VisibleArea → Step
 
 -- f 0, .., f (n - 1), one behind the other
 unfoldable pub joined : {A : Type 0} → ℕ → (ℕ → List A) → List A
 joined n f = flat_map f (range_with_len 0 n)
 
--- the rectangle of a transform block
-abbrev pub block_area : Part → TransformBlock → VisibleArea
-block_area part b = record { x = b.x; y = b.y; width = tx_width part.area.tx_size; height = tx_height part.area.tx_size }
+-- the rectangle of a transform block, and of a leaf's whole block
+abbrev pub block_area : PlaneBlock → TransformBlock → VisibleArea
+block_area block b = record { x = b.x; y = b.y; width = tx_width block.area.tx_size; height = tx_height block.area.tx_size }
 
--- a block is predicted and then added to
-abbrev pub block_steps : Part → List Triple → ℕ → Option TransformBlock → List Step
-block_steps part triples n None = []
-block_steps part triples n (Some b) = predict part (block_area part b) ∷ add part triples n (block_area part b) ∷ []
+abbrev pub whole_area : PlaneBlock → VisibleArea
+whole_area block = record { x = block.area.x; y = block.area.y; width = block_width block.area.size; height = block_height block.area.size }
 
--- block n of a part, if it begins in the frame
-unfoldable pub steps_at : Header → Part → List Triple → ℕ → List Step
-steps_at h part triples n = block_steps part triples n (transform_block h part.plane part.area n)
+-- the steps of transform block n, where it begins in the frame
+abbrev pub block_steps : PlaneBlock → List Triple → (n : ℕ) → Option TransformBlock → List Step
+block_steps block triples n None = []
+block_steps block triples n (Some b) =
+    if is_whole block.prediction then add block triples n (block_area block b) ∷ []
+    else predict block n (block_area block b) ∷ add block triples n (block_area block b) ∷ []
 
--- the blocks of a part, in raster order
-abbrev pub part_steps : Header → Part → List Triple → List Step
-part_steps h part triples = joined (block_count part.area) (steps_at h part triples)
+unfoldable pub steps_at : Header → PlaneBlock → List Triple → ℕ → List Step
+steps_at h block triples n = block_steps block triples n (transform_block h block.plane block.area n)
+
+-- the prediction of the whole area, from references
+abbrev pub whole_steps : PlaneBlock → List Step
+whole_steps block = if is_whole block.prediction then predict block 0 (whole_area block) ∷ [] else []
+
+-- the steps of a leaf's block: its transform blocks in raster order
+abbrev pub plane_steps : Header → PlaneBlock → List Triple → List Step
+plane_steps h block triples = whole_steps block ++ joined (block_count block.area) (steps_at h block triples)
 
 -- a step and the plane that it is in
 pub record PlaneStep : Type 0 where
@@ -47,14 +57,23 @@ pub record PlaneStep : Type 0 where
 abbrev pub in_component : Component → List Step → List PlaneStep
 in_component component steps = map (λ (s : Step). record { component = component; step = s }) steps
 
--- a leaf's steps in a plane
-abbrev pub component_steps : Header → LeafValue → Component → List PlaneStep
-component_steps h leaf component = in_component component (part_steps h (part_of h component leaf) (triples_in component leaf))
+-- a leaf's steps in a plane, of a block there
+abbrev pub component_steps : Header → (Component → PlaneBlock) → LeafValue → Component → List PlaneStep
+component_steps h block leaf component = in_component component (plane_steps h (block component) (triples_in component leaf))
 
--- a leaf's steps: Y, then U and V where it carries chroma
-unfoldable pub leaf_steps : Header → LeafValue → List PlaneStep
-leaf_steps h leaf = flat_map (component_steps h leaf) (components_of h leaf)
+-- a leaf's steps, of its block in each plane: Y, then U and V where it carries chroma
+unfoldable pub steps_of : Header → (Component → PlaneBlock) → LeafValue → List PlaneStep
+steps_of h block leaf = flat_map (component_steps h block leaf) (components_of h leaf)
 
--- the steps of leaves in coding order
+-- a leaf's steps, behind the leaves before it
+abbrev pub leaf_steps : Header → (earlier : List LeafValue) → LeafValue → List PlaneStep
+leaf_steps h earlier leaf = steps_of h (λ component. plane_block h earlier component leaf) leaf
+
+-- the steps of leaves in coding order, behind others
+abbrev pub steps_after : Header → (earlier : List LeafValue) → List LeafValue → List PlaneStep
+steps_after h earlier [] = []
+steps_after h earlier (leaf ∷ leaves) = leaf_steps h earlier leaf ++ steps_after h (earlier ++ leaf ∷ []) leaves
+
+-- the steps of a plan's leaves
 abbrev pub steps : Header → List LeafValue → List PlaneStep
-steps h leaves = flat_map (leaf_steps h) leaves
+steps h leaves = steps_after h [] leaves

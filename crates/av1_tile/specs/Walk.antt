@@ -1,81 +1,300 @@
--- The slow definition of a plan's samples: its steps in coding order, over a canvas that is empty at first.
--- AV1 specification: decode block process (prediction processes, and the reconstruction process of a transform block).
-use Rattle.std.specs.Prelude.{ℕ, ◌/◌, ◌%◌, ◌==◌, List, [], ◌∷◌, ◌++◌, Bool, if◌then◌else◌, ℤ, pos, ◌+ℤ◌, Some, option_map, replicate, slice_set}
-use Rattle.std.specs.List.{fold, flat_map}
-use Rattle.av1_blocks.specs.declared.transform.TxSize.{TxSize}
-use Rattle.av1_blocks.specs.Transforms.{coded_area}
+-- The walk's own words: what one step does to the planes in memory, where edges are read by place and no record is kept of what was written,
+-- and what its functions ask of planes, blocks and leaves.
+use Rattle.std.specs.Prelude.{ℕ, ◌+◌, ◌-◌, ◌*◌, ◌/◌, ◌%◌, ◌^◌, ◌<◌, ◌≤◌, ◌≡◌, [], ◌∷◌, ◌++◌, true, false, Bool, ◌&&◌, List, All, IsTrue, min, nat_lt, if◌then◌else◌, Option, Some, None, ℤ, pos, length, slice_index_or, unsigned_abs}
+use Rattle.std.specs.Int.{next_multiple_of}
+use Rattle.std.specs.List.{fold}
+use Rattle.av1_blocks.specs.declared.predict.IntraParam.{IntraParam}
+use Rattle.av1_blocks.specs.declared.predict.PredictionMode.{PredictionMode}
+use Rattle.av1_blocks.specs.declared.predict.PredictionMode.TheVariants.{DC_PRED}
+use Rattle.av1_blocks.specs.declared.transform.TxSize.TheVariants.{TX_4X4}
+use Rattle.av1_blocks.specs.declared.transform.TxType.TheVariants.{WHT_WHT}
+use Rattle.av1_blocks.specs.Blocks.{block_width, block_height}
+use Rattle.av1_blocks.specs.Chroma.{is_narrow, is_low}
+use Rattle.av1_blocks.specs.Modes.{is_intra, is_cfl}
+use Rattle.av1_blocks.specs.Transforms.{coded_area, tx_width, tx_height, valid_av1_transform}
+use Rattle.av1_dct.specs.Arithmetic.{FitsBits}
+use Rattle.av1_avail.specs.Asked.{takes_above_right, takes_below_left}
+use Rattle.av1_edges.specs.Counts.{counted}
+use Rattle.av1_edges.specs.Edges.{Edge}
+use Rattle.av1_edges.specs.Parts.{effective, step_of, needs_left, needs_above_right, needs_below_left, needs_corner, smooths_corner}
+use Rattle.av1_edges.specs.Sides.{above_at, base, corner_at, left_at, smoothed, num_avail, where_needed}
+use Rattle.av1_lists.specs.Lists.{by_index}
+use Rattle.av1_frame.specs.declared.plane.Plane.{Plane}
+use Rattle.av1_frame.specs.declared.tile_state.CodedBlockInfo.{CodedBlockInfo}
+use Rattle.av1_frame.specs.declared.plane.PlaneConfig.{PlaneConfig}
 use Rattle.av1_frame.specs.Areas.{VisibleArea}
-use Rattle.av1_frame.specs.Arithmetic.{clip}
-use Rattle.av1_itx.specs.Residue.{residue}
+use Rattle.av1_frame.specs.Planes.{sample_at, painted_plane, IsWhole}
+use Rattle.av1_intra.specs.ChromaFromLuma.{chroma_block, columns_read, rows_read, first_column, first_row}
+use Rattle.av1_intra.specs.declared.neighbours.IntraEdgeFilterParameters.{IntraEdgeFilterParameters}
+use Rattle.av1_order.specs.Neighbours.{last_cell, leaf_holds}
 use Rattle.av1_plan.specs.declared.header.Header.{Header}
+use Rattle.av1_plan.specs.declared.geometry.PlaneArea.{PlaneArea}
+use Rattle.av1_plan.specs.declared.leaf.Leaf.{Leaf}
+use Rattle.av1_plan.specs.declared.leaf.LeafKind.TheVariants.{Intra}
 use Rattle.av1_plan.specs.declared.leaf.Triple.{Triple}
-use Rattle.av1_plan.specs.Plan.{PlanValue}
-use Rattle.av1_tile.specs.declared.frame.Frame.{Frame}
-use Rattle.av1_tile.specs.declared.part.Part.{Part}
-use Rattle.av1_tile.specs.Canvas.{Component, Y, U, V, Written, Canvas, blank, drawn, with_written}
-use Rattle.av1_edges.specs.Parts.{effective}
-use Rattle.av1_edges.specs.Sides.{listed}
-use Rattle.av1_tile.specs.Edge.{edge, sample_of}
-use Rattle.av1_tile.specs.Predictors.{predicted}
-use Rattle.av1_tile.specs.Parts.{number, frame_of}
-use Rattle.av1_tile.specs.Steps.{Step, predict, add, PlaneStep, steps}
+use Rattle.av1_plan.specs.Geometry.{xdec, ydec, plane_width, plane_height, plane_area, carries_chroma, block_count, blocks_across}
+use Rattle.av1_plan.specs.Plan.{LeafValue, PlanValue}
+use Rattle.av1_tile.specs.declared.block.BlockPlace.{BlockPlace}
+use Rattle.av1_tile.specs.declared.cells.CodedCells.{CodedCells}
+use Rattle.av1_tile.specs.declared.extent.PlaneExtent.{PlaneExtent}
+use Rattle.av1_tile.specs.declared.plane_block.LumaBlock.{LumaBlock}
+use Rattle.av1_tile.specs.declared.plane_block.PlaneBlock.{PlaneBlock}
+use Rattle.av1_tile.specs.declared.plane_block.Prediction.{Prediction}
+use Rattle.av1_tile.specs.declared.plane_block.Prediction.TheVariants as predictions
+use Rattle.av1_tile.specs.declared.planes.Planes.{Planes}
+use Rattle.av1_tile.specs.Canvas.{Component, Y, U, V}
+use Rattle.av1_tile.specs.PlaneBlocks.{number, extent_of, block_told, coded_info, filter_parameters, is_from_luma, triples_in}
+use Rattle.av1_tile.specs.Reference.{by_prediction, luma_for, luma_of, added, block_residue}
+use Rattle.av1_tile.specs.Steps.{Step, predict, add, PlaneStep, steps_of}
 
--- the list of coefficients with a triple's value at its place, if the triple is one of this block
-abbrev pub with_triple : ℕ → List ℤ → Triple → List ℤ
-with_triple block coefficients t = if t.block == block then slice_set coefficients t.place t.value else coefficients
+-- ---- edges by place
 
--- the coefficients of a block: those of its triples at their places, and 0 at all others
-unfoldable pub coefficients : TxSize → ℕ → List Triple → List ℤ
-coefficients size block triples = fold (with_triple block) (replicate (coded_area size) (pos 0)) triples
+-- The edge of the rectangle a, of samples s, for a mode that is in effect; `right` and `low` say whether the samples above right and below left
+-- may be taken.
+abbrev pub edge_by_place : PlaneExtent → (s : ℕ → ℕ → ℕ) → (filter : Bool) → VisibleArea → (right low : Bool) → PredictionMode → ℤ → Edge
+edge_by_place extent s filter a right low mode step =
+    let run = min a.width a.height in
+    let above = above_at s (base extent.depth) a.x a.y (num_avail extent.width a.x a.width (needs_above_right mode step && right) run) in
+    let left = left_at s (base extent.depth) a.x a.y (num_avail extent.height a.y a.height (needs_below_left mode step && low) run) in
+    let corner = if needs_corner mode step then corner_at s (base extent.depth) a.x a.y else base extent.depth in
+    record {
+      above = by_index (a.width + where_needed (needs_above_right mode step) a.height) above;
+      left = by_index (where_needed (needs_left mode a.x) a.height + where_needed (needs_below_left mode step) a.width) left;
+      corner = if smooths_corner filter mode step a.width a.height then smoothed (left 0) corner (above 0) else corner;
+    }
 
--- what is added to the sample at row r and column c of a block
-unfoldable pub block_residue : Frame → Part → List Triple → ℕ → ℕ → ℕ → ℤ
-block_residue frame part triples block r c =
-    residue part.area.tx_size part.tx_type frame.depth (coefficients part.area.tx_size block triples) r c
+-- transform block n of a block, at the rectangle a of plane p
+module _ (h : Header) (p : ℕ) (block : PlaneBlock) (n : ℕ) (a : VisibleArea) where
+  -- the samples above right of it may be taken, and those below left of it
+  abbrev pub answer_right : Bool
+  answer_right =
+      takes_above_right block.leaf.size (block.leaf.x / 4) (block.leaf.y / 4) block.area.tx_size (n % blocks_across block.area) (n / blocks_across block.area) (xdec h p) (ydec h p) a.x (plane_width h p)
 
--- what a sample is with z added: clipped to the depth
-abbrev pub added : Frame → ℕ → ℤ → ℕ
-added frame v z = clip frame.depth (pos v +ℤ z)
+  abbrev pub answer_low : Bool
+  answer_low =
+      takes_below_left block.leaf.size (block.leaf.x / 4) (block.leaf.y / 4) block.area.tx_size (n % blocks_across block.area) (n / blocks_across block.area) (xdec h p) (ydec h p) a.y (plane_height h p)
 
--- The prediction of the rectangle a of a plane, at its row r and column c, from the samples that have been written there; filter says
--- whether the edge filter is on.
-unfoldable pub prediction : Bool → Frame → Written → Part → VisibleArea → ℕ → ℕ → ℕ
-prediction filter frame written part a r c =
-    let mode = effective part.mode a.x a.y in
-    predicted frame mode part.step a (edge frame filter written mode part.step a) r c
+  -- its edge, read from a plane's samples
+  abbrev pub placed_edge : {T : Type 0} → (num : T → ℕ) → Plane T → PredictionMode → ℤ → Edge
+  placed_edge num plane = edge_by_place (extent_of h p) (sample_at num plane) h.edge_filter a answer_right answer_low
 
--- what a step writes in its plane: each sample of its rectangle is predicted, or has its residue added
-unfoldable pub slow_in : Bool → Frame → Written → Step → Written
-slow_in filter frame written (predict part a) = drawn a (λ r c _. Some (prediction filter frame written part a r c)) written
-slow_in filter frame written (add part triples block a) =
-    drawn a (λ r c o. option_map (λ v. added frame v (block_residue frame part triples block r c)) o) written
+-- ---- steps by place
 
--- what a step of the plan writes
-unfoldable pub slow_step : Header → Canvas → PlaneStep → Canvas
-slow_step h canvas s = with_written s.component (slow_in h.edge_filter (frame_of h (number s.component)) (canvas s.component) s.step) canvas
+-- What a step does to plane p of a plan; `luma` says how far luma is from its mean.
+unfoldable pub fast_in : {T : Type 0} → (T → ℕ) → (ℕ → T) → PlanValue → (p : ℕ) → (luma : PlaneBlock → ℕ → ℕ → ℤ) → Plane T → Step → Plane T
+fast_in num pixel plan p luma plane (predict block n a) =
+    painted_plane plane a (λ r c _. pixel (by_prediction plan p block.prediction a (placed_edge plan.header p block n a num plane) (luma block) r c))
+fast_in num pixel plan p luma plane (add block triples n a) =
+    painted_plane plane a (λ r c v. pixel (added plan.header.depth (num v) (block_residue plan.header.depth block triples n r c)))
 
--- the canvas after every step of the plan
-unfoldable pub slow_walk : PlanValue → Canvas
-slow_walk plan = fold (slow_step plan.header) blank (steps plan.header plan.leaves)
+abbrev pub plane_of : {T : Type 0} → Component → Planes T → Plane T
+plane_of Y planes = planes.y
+plane_of U planes = planes.u
+plane_of V planes = planes.v
 
--- ---- the visible planes
+-- the planes with p in place of one of them
+abbrev pub with_plane : {T : Type 0} → Component → Planes T → Plane T → Planes T
+with_plane Y planes p = record planes { y = p }
+with_plane U planes p = record planes { u = p }
+with_plane V planes p = record planes { v = p }
 
--- the samples of the visible part of a plane, row by row
-abbrev pub by_rows : Frame → (ℕ → ℕ → ℕ) → List ℕ
-by_rows frame f = flat_map (λ y. listed frame.width (λ x. f x y)) (listed frame.height (λ y. y))
+-- What a step does to the planes.
+unfoldable pub fast_step : {T : Type 0} → (T → ℕ) → (ℕ → T) → PlanValue → Planes T → PlaneStep → Planes T
+fast_step num pixel plan planes s =
+    with_plane s.component planes (fast_in num pixel plan (number s.component) (luma_for plan.header (sample_at num planes.y) s.component) (plane_of s.component planes) s.step)
 
--- a sample as one byte at depth 8, else as two, the low one first
-abbrev pub sample_bytes : ℕ → ℕ → List ℕ
-sample_bytes depth v = if depth == 8 then v ∷ [] else v % 256 ∷ v / 256 ∷ []
+-- ---- edges that are prepared
 
-abbrev pub plane_bytes : Frame → (ℕ → ℕ → ℕ) → List ℕ
-plane_bytes frame f = flat_map (sample_bytes frame.depth) (by_rows frame f)
+-- a block that is predicted from the samples round it
+abbrev pub has_edge : Prediction → Bool
+has_edge (predictions.Intra mode step filter) = true
+has_edge (predictions.FromLuma alpha) = true
+has_edge (predictions.Single mode reference mv) = false
+has_edge (predictions.Compound mode references mvs) = false
 
--- the visible planes: Y, then U, then V
-unfoldable pub visible : Header → (Component → ℕ → ℕ → ℕ) → List ℕ
-visible header f =
-    plane_bytes (frame_of header 0) (f Y) ++ plane_bytes (frame_of header 1) (f U) ++ plane_bytes (frame_of header 2) (f V)
+-- the count of prepared edges after a step
+abbrev pub edges_in : ℕ → Step → ℕ
+edges_in count (predict block n a) = if has_edge block.prediction then counted count else count
+edges_in count (add block triples n a) = count
 
--- the bytes that a plan comes to
-unfoldable pub planes_of : PlanValue → List ℕ
-planes_of plan = visible plan.header (λ component x y. sample_of (slow_walk plan component x y))
+abbrev pub edges_after : ℕ → PlaneStep → ℕ
+edges_after count s = edges_in count s.step
+
+-- ---- planes
+
+-- the plane has the sides and decimations of the visible plane p of a frame, and its samples fill its rows
+pub record IsPlaneOf {T : Type 0} (h : Header) (p : ℕ) (plane : Plane T) : Type 0 where
+  pub whole : IsWhole plane
+  pub width : plane.plane_cfg.width ≡ plane_width h p
+  pub height : plane.plane_cfg.height ≡ plane_height h p
+  pub xdec : plane.plane_cfg.xdec ≡ xdec h p
+  pub ydec : plane.plane_cfg.ydec ≡ ydec h p
+
+-- and its samples lie within the depth
+pub record Stores {T : Type 0} (num : T → ℕ) (h : Header) (p : ℕ) (plane : Plane T) : Type 0 where
+  pub place : IsPlaneOf h p plane
+  pub within : All (λ v. num v < 2 ^ h.depth) plane.samples
+
+-- each plane stores its part of the frame
+pub record StoresAll {T : Type 0} (num : T → ℕ) (h : Header) (planes : Planes T) : Type 0 where
+  pub y : Stores num h 0 planes.y
+  pub u : Stores num h 1 planes.u
+  pub v : Stores num h 2 planes.v
+
+-- a plane of these settings has storage for plane p of the frame in whole superblocks, which have sides of 64 luma samples
+pub record HasRoomIn (h : Header) (p : ℕ) (cfg : PlaneConfig) : Type 0 where
+  pub columns : cfg.xorigin + next_multiple_of (plane_width h p) (64 / 2 ^ xdec h p) ≤ cfg.stride
+  pub rows : cfg.yorigin + next_multiple_of (plane_height h p) (64 / 2 ^ ydec h p) ≤ cfg.alloc_height
+
+-- and so has each plane
+pub record HasRoom {T : Type 0} (h : Header) (planes : Planes T) : Type 0 where
+  pub y : HasRoomIn h 0 planes.y.plane_cfg
+  pub u : HasRoomIn h 1 planes.u.plane_cfg
+  pub v : HasRoomIn h 2 planes.v.plane_cfg
+
+-- planes laid out alike
+pub record SameLayout {T : Type 0} (p q : Planes T) : Type 0 where
+  pub y : q.y.plane_cfg ≡ p.y.plane_cfg
+  pub u : q.u.plane_cfg ≡ p.u.plane_cfg
+  pub v : q.v.plane_cfg ≡ p.v.plane_cfg
+
+-- ---- blocks and leaves
+
+-- a triple that stands in its block and fits the depth
+pub record TripleFits (depth : ℕ) (block : PlaneBlock) (t : Triple) : Type 0 where
+  pub place : t.place < coded_area block.area.tx_size
+  pub value : FitsBits (depth + 8) t.value
+
+-- the triples rise by their blocks
+abbrev pub AreRising : List Triple → Type 0
+AreRising triples = (i j : ℕ) (d : Triple) → i ≤ j → j < length triples → (slice_index_or triples i d).block ≤ (slice_index_or triples j d).block
+
+-- the rectangle of a transform block
+abbrev pub area_at : PlaneBlock → BlockPlace → VisibleArea
+area_at block at = record { x = at.x; y = at.y; width = tx_width block.area.tx_size; height = tx_height block.area.tx_size }
+
+-- a transform block of a leaf's block that begins in the visible plane, by its number, its column and its row
+pub record IsPlaceIn (h : Header) (block : PlaneBlock) (at : BlockPlace) : Type 0 where
+  pub column : at.column < blocks_across block.area
+  pub number : at.number ≡ at.row * blocks_across block.area + at.column
+  pub few : at.number < block_count block.area
+  pub x : at.x ≡ block.area.x + at.column * tx_width block.area.tx_size
+  pub y : at.y ≡ block.area.y + at.row * tx_height block.area.tx_size
+  pub begins_x : at.x < plane_width h block.plane
+  pub begins_y : at.y < plane_height h block.plane
+  pub few_columns : at.x < 2 ^ 16
+  pub few_rows : at.y < 2 ^ 16
+
+-- its edge, for a mode and its parameter
+abbrev pub edge_for : {T : Type 0} → Header → PlaneBlock → BlockPlace → PredictionMode → IntraParam → (num : T → ℕ) → Plane T → Edge
+edge_for h block at mode param num plane = placed_edge h block.plane block at.number (area_at block at) num plane (effective mode at.x at.y) (step_of param)
+
+-- an intra mode that turns by few steps
+pub record ModeFits (mode : PredictionMode) (step : ℤ) : Type 0 where
+  pub intra : IsTrue (is_intra mode)
+  pub plain : is_cfl mode ≡ false
+  pub few_steps : unsigned_abs step ≤ 3
+
+-- a weight of luma, and an area that is one transform block with sides up to 32
+pub record FromLumaFits (area : PlaneArea) (alpha : ℤ) : Type 0 where
+  pub weight : unsigned_abs alpha ≤ 16
+  pub few : tx_width area.tx_size * tx_height area.tx_size ≤ 1024
+
+-- a prediction of an area that can be made
+abbrev pub PredictionFits : PlaneArea → Prediction → Type 0
+PredictionFits area (predictions.Intra mode step filter) = ModeFits mode step
+PredictionFits area (predictions.FromLuma alpha) = FromLumaFits area alpha
+PredictionFits area (predictions.Single mode reference mv) = ⊥
+PredictionFits area (predictions.Compound mode references mvs) = ⊥
+
+-- a block that is reconstructed: it lies in a plane's storage, its prediction and its transforms can be made, and its triples fit and rise
+pub record BlockFits (cfg : PlaneConfig) (h : Header) (block : PlaneBlock) (triples : List Triple) : Type 0 where
+  pub columns : cfg.xorigin + (block.area.x + block_width block.area.size) ≤ cfg.stride
+  pub rows : cfg.yorigin + (block.area.y + block_height block.area.size) ≤ cfg.alloc_height
+  pub prediction : PredictionFits block.area block.prediction
+  pub transform : IsTrue (valid_av1_transform block.area.tx_size block.tx_type)
+  pub lossless : block.tx_type ≡ WHT_WHT → block.area.tx_size ≡ TX_4X4
+  pub coefficients : All (TripleFits h.depth block) triples
+  pub rising : AreRising triples
+
+-- a leaf in luma
+abbrev pub luma_block : LeafValue → LumaBlock
+luma_block leaf = record { x = leaf.x; y = leaf.y; size = leaf.size; tx_size = leaf.tx_size }
+
+-- chroma of a leaf can be predicted from its luma: its block of chroma is one transform, and what is read lies in storage
+pub record LumaFits (h : Header) (cfg : PlaneConfig) (leaf : LeafValue) : Type 0 where
+  pub narrow : IsTrue (is_narrow leaf.size (xdec h 1)) → 4 ≤ leaf.x
+  pub low : IsTrue (is_low leaf.size (ydec h 1)) → 4 ≤ leaf.y
+  pub width : (chroma_block (luma_of h (luma_block leaf))).width ≡ tx_width (plane_area h leaf.x leaf.y leaf.size leaf.tx_size 1).tx_size
+  pub height : (chroma_block (luma_of h (luma_block leaf))).height ≡ tx_height (plane_area h leaf.x leaf.y leaf.size leaf.tx_size 1).tx_size
+  pub few : (chroma_block (luma_of h (luma_block leaf))).width * (chroma_block (luma_of h (luma_block leaf))).height ≤ 1024
+  pub columns : cfg.xorigin + (first_column (luma_of h (luma_block leaf)) + columns_read (chroma_block (luma_of h (luma_block leaf)))) ≤ cfg.stride
+  pub rows : cfg.yorigin + (first_row (luma_of h (luma_block leaf)) + rows_read (chroma_block (luma_of h (luma_block leaf)))) ≤ cfg.alloc_height
+  pub depth : h.depth ≤ 12
+
+-- a leaf's area in a plane begins in its visible part
+pub record Begins (h : Header) (component : Component) (leaf : LeafValue) : Type 0 where
+  pub column : (plane_area h leaf.x leaf.y leaf.size leaf.tx_size (number component)).x < plane_width h (number component)
+  pub row : (plane_area h leaf.x leaf.y leaf.size leaf.tx_size (number component)).y < plane_height h (number component)
+
+-- each of a leaf's blocks can be reconstructed in its plane, whatever the edge filter is told
+pub record LeafFits {T : Type 0} (h : Header) (planes : Planes T) (leaf : LeafValue) : Type 0 where
+  pub begins_y : Begins h Y leaf
+  pub begins_u : carries_chroma h leaf.x leaf.y leaf.size ≡ true → Begins h U leaf
+  pub begins_v : carries_chroma h leaf.x leaf.y leaf.size ≡ true → Begins h V leaf
+  pub luma : carries_chroma h leaf.x leaf.y leaf.size ≡ true → is_from_luma leaf.kind ≡ true → LumaFits h planes.y.plane_cfg leaf
+  pub y : (filter : Option IntraEdgeFilterParameters) → BlockFits planes.y.plane_cfg h (block_told h filter Y leaf) (triples_in Y leaf)
+  pub u : carries_chroma h leaf.x leaf.y leaf.size ≡ true → (filter : Option IntraEdgeFilterParameters) → BlockFits planes.u.plane_cfg h (block_told h filter U leaf) (triples_in U leaf)
+  pub v : carries_chroma h leaf.x leaf.y leaf.size ≡ true → (filter : Option IntraEdgeFilterParameters) → BlockFits planes.v.plane_cfg h (block_told h filter V leaf) (triples_in V leaf)
+
+-- ---- the record of cells
+
+-- what is told of the luma cell at column cx of row cy
+abbrev pub cell_at : CodedCells → (cx cy : ℕ) → CodedBlockInfo
+cell_at cells cx cy = slice_index_or cells.cells.items (cy * cells.columns + cx) (coded_info (Intra DC_PRED (pos 0) None))
+
+-- the record has a cell for each of the frame
+pub record HasCells (h : Header) (cells : CodedCells) : Type 0 where
+  pub columns : cells.columns ≡ h.width / 4
+  pub rows : cells.rows ≡ h.height / 4
+  pub filled : length cells.cells.items ≡ cells.rows * cells.columns
+
+-- what is told of each luma cell
+abbrev pub Told : Type 0
+Told = (cx cy : ℕ) → CodedBlockInfo
+
+-- what is told once a leaf is noted in each of its cells, and once leaves are, one after the other
+abbrev pub with_leaf : Told → LeafValue → Told
+with_leaf told leaf = λ cx cy. if leaf_holds leaf cx cy then coded_info leaf.kind else told cx cy
+
+abbrev pub with_leaves : Told → List LeafValue → Told
+with_leaves told leaves = fold with_leaf told leaves
+
+-- what is told of the sample at column x of row y of plane p: what is told of the last cell of the sample's unit
+abbrev pub told_by : Header → Told → (p x y : ℕ) → CodedBlockInfo
+told_by h told p x y = told (last_cell (xdec h p) x) (last_cell (ydec h p) y)
+
+-- what the edge filter is told so at an area of plane p
+abbrev pub parameters_by : Header → Told → (p : ℕ) → PlaneArea → Option IntraEdgeFilterParameters
+parameters_by h told p a =
+    filter_parameters h p (if nat_lt 0 a.y then Some (told_by h told p a.x (a.y - 1)) else None) (if nat_lt 0 a.x then Some (told_by h told p (a.x - 1) a.y) else None)
+
+-- and at a leaf
+abbrev pub filter_by : Header → Told → Component → LeafValue → Option IntraEdgeFilterParameters
+filter_by h told component leaf = parameters_by h told (number component) (plane_area h leaf.x leaf.y leaf.size leaf.tx_size (number component))
+
+-- a leaf's block in a plane, and its steps
+abbrev pub block_by : Header → Told → Component → LeafValue → PlaneBlock
+block_by h told component leaf = block_told h (filter_by h told component leaf) component leaf
+
+abbrev pub leaf_steps_by : Header → Told → LeafValue → List PlaneStep
+leaf_steps_by h told leaf = steps_of h (λ component. block_by h told component leaf) leaf
+
+-- the steps of leaves in coding order, each noted once it is reconstructed
+abbrev pub steps_by : Header → Told → List LeafValue → List PlaneStep
+steps_by h told [] = []
+steps_by h told (leaf ∷ leaves) = leaf_steps_by h told leaf ++ steps_by h (with_leaf told leaf) leaves
+
+-- a leaf and its triples in each plane
+abbrev pub leaf_with : Leaf → List Triple → List Triple → List Triple → LeafValue
+leaf_with l y u v = record { x = l.x; y = l.y; size = l.size; kind = l.kind; tx_size = l.tx_size; tx_type = l.tx_type; uv_type = l.uv_type; triples = y ∷ u ∷ v ∷ [] }

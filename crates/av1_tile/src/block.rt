@@ -1,98 +1,216 @@
-//! One transform block: its prediction, and its residue.
+//! One transform block: its prediction from the samples round it, and its residue.
 
-ghost use Rattle.std.specs.Prelude.{◌≡◌, ◌⊎◌, ℕ, ◌+◌, ◌-◌, ◌*◌, ◌^◌, ◌<◌, ◌≤◌, length, All, IsTrue, pos};
+ghost use Rattle.std.specs.Prelude.{◌≡◌, ℕ, ◌+◌, ◌-◌, ◌*◌, ◌^◌, ◌<◌, ◌≤◌, length, All, IsTrue, pos, map, reverse, [], ◌∷◌, unsigned_abs};
+ghost use Rattle.av1_blocks.specs.Depths.{IsDepth};
+ghost use Rattle.av1_blocks.specs.Modes.{is_intra, is_cfl};
 ghost use Rattle.av1_blocks.specs.Transforms.{tx_width, tx_height, valid_av1_transform};
 ghost use Rattle.av1_blocks.specs.declared.transform.TxSize.TheVariants.{TX_4X4};
 ghost use Rattle.av1_blocks.specs.declared.transform.TxType.TheVariants.{WHT_WHT};
+ghost use Rattle.av1_edges.specs.Counts.{counted};
+ghost use Rattle.av1_edges.specs.Parts.{step_of};
+ghost use Rattle.av1_frame.specs.declared.plane_region.Area.TheVariants.{Rect};
+ghost use Rattle.av1_frame.specs.Areas.{stored_area};
 ghost use Rattle.av1_frame.specs.Planes.{InPlane, painted_plane};
 ghost use Rattle.av1_frame.specs.Regions.{InStorage, painted};
-ghost use Rattle.av1_tile.specs.Predictors.{predicted, IsPredicted};
-ghost use Rattle.av1_tile.specs.Place.{area_of, placed_edge, Stores, TripleFits};
-ghost use Rattle.av1_tile.specs.Walk.{added, block_residue};
+ghost use Rattle.av1_intra.specs.ChromaFromLuma.{ac_at};
+ghost use Rattle.av1_intra.specs.Predicted.{alpha_of};
+ghost use Rattle.av1_plan.specs.Geometry.{plane_width, plane_height};
+ghost use Rattle.av1_tile.specs.PlaneBlocks.{extent_of};
+ghost use Rattle.av1_tile.specs.Reference.{added, block_residue, by_mode};
+ghost use Rattle.av1_tile.specs.Walk.{placed_edge, edge_for, area_at, IsPlaceIn, Stores, TripleFits};
 
-use crate::clip::clip_rows;
 use crate::coefficients::load_coefficients;
-use crate::edge::{prepare_above, prepare_left, reads_left};
-use crate::frame::Frame;
-use crate::part::{Block, Part, visible_area};
-use crate::predict::predict_intra;
-use av1_blocks::PredictionMode;
-use av1_edges::base;
-use av1_frame::{Pixel, Plane, PlaneRegionMut};
+use crate::plane_block::PlaneBlock;
+use av1_blocks::{IntraParam, PredictionMode};
+use av1_edges::{IntraEdge, IntraEdgeBuffer, get_intra_edges};
+use av1_frame::{
+    Area, BlockOffset, Pixel, Plane, PlaneOffset, PlaneRegionMut, TileBlockOffset, TileRect,
+};
+use av1_intra::{IntraEdgeFilterParameters, predict_intra};
 use av1_itx::{TxScratch, inverse_transform_add_with};
-use av1_plan::Triple;
+use av1_plan::{Header, Triple};
 
-/// Predicts a block from the samples round it; `above` and `left` are room for its sides.
-pub fn predict_block<T: Pixel>(
-    plane: &mut Plane<T>,
-    above: &mut [T],
-    left: &mut [T],
-    frame: Frame,
-    mode: PredictionMode,
-    block: Block,
-)
-    requires stores { Stores frame plane.old }
-    requires depth { frame.depth ≤ T.BITS }
-    requires fits { InPlane (area_of block) plane.old }
-    requires above_long { length above.old ≡ 64 }
-    requires left_long { length left.old ≡ 64 }
-    requires mode { IsPredicted mode }
-    requires some_columns { 0 < block.width }
-    requires some_rows { 0 < block.height }
-    requires short_width { block.width ≤ 64 }
-    requires short_height { block.height ≤ 64 }
-    requires begins_x { block.x < frame.width }
-    requires begins_y { block.y < frame.height }
-    ensures { plane.new ≡ painted_plane plane.old (area_of block) (λ r c _. T.pixel (predicted frame mode (pos 0) (area_of block) (placed_edge T.num frame plane.old mode (area_of block)) r c)) }
+/// Where a transform block stands in its leaf's block, and in the plane.
+#[derive(Clone, Copy, Debug)]
+pub struct BlockPlace {
+    /// Its number, in raster order over the leaf's block.
+    pub number: usize,
+    /// Its column, counted in transforms.
+    pub column: usize,
+    /// Its row.
+    pub row: usize,
+    /// The column of its first sample in the plane.
+    pub x: usize,
+    /// The row of its first sample.
+    pub y: usize,
+}
+
+/// The rectangle at column `x` of row `y` of a plane, as an area of it.
+fn visible_area(x: usize, y: usize, width: usize, height: usize) -> Area
+    requires x { x < 2 ^ 63 }
+    requires y { y < 2 ^ 63 }
+    ensures { result ≡ Rect (pos x) (pos y) width height }
 {
-    let left_len = if reads_left(mode, block.x) {
-        block.height
-    } else {
-        0
-    };
-    prepare_above(&mut above[..block.width], plane, frame, block.x, block.y);
-    prepare_left(&mut left[..left_len], plane, frame, block.x, block.y);
-    let area = visible_area(block.x, block.y, block.width, block.height);
-    let mut region = plane.region_mut(area);
+    Area::Rect {
+        x: x as isize,
+        y: y as isize,
+        width,
+        height,
+    }
+}
+
+/// The place at column `x` of row `y`.
+fn offset_at(x: usize, y: usize) -> PlaneOffset
+    requires x { x < 2 ^ 63 }
+    requires y { y < 2 ^ 63 }
+    ensures { result ≡ record { x = pos x; y = pos y } }
+{
+    PlaneOffset {
+        x: x as isize,
+        y: y as isize,
+    }
+}
+
+/// The whole of plane `p`, as a tile of it.
+fn whole_plane(header: &Header, p: usize) -> TileRect
+    ensures x { result.x ≡ 0 }
+    ensures y { result.y ≡ 0 }
+{
+    TileRect {
+        x: 0,
+        y: 0,
+        width: header.plane_width(p),
+        height: header.plane_height(p),
+    }
+}
+
+/// Predicts a transform block by an intra mode, from its edge, in the region that is its rectangle. `luma` holds how far luma is from its
+/// mean, row by row, where the mode asks for it, and `filter` is what the edge filter is told, where it is on.
+fn predict_region<T: Pixel>(
+    region: &mut PlaneRegionMut<'_, T>,
+    edge: &IntraEdge<'_, T>,
+    luma: &[i16],
+    header: &Header,
+    block: &PlaneBlock,
+    at: BlockPlace,
+    mode: PredictionMode,
+    param: IntraParam,
+    filter: Option<IntraEdgeFilterParameters>,
+)
+    requires fits { InStorage region.old }
+    requires area { region.old.area ≡ stored_area region.old.plane_cfg (area_at block.now at) }
+    requires width { region.old.plane_cfg.width ≡ plane_width header.now block.now.plane }
+    requires height { region.old.plane_cfg.height ≡ plane_height header.now block.now.plane }
+    requires low { 8 ≤ header.now.depth }
+    requires depth { header.now.depth ≤ T.BITS }
+    requires intra { IsTrue (is_intra mode) }
+    requires few_steps { unsigned_abs (step_of param) ≤ 3 }
+    requires small_weight { unsigned_abs (alpha_of param) ≤ 16 }
+    requires luma_long { IsTrue (is_cfl mode) → tx_width block.now.area.tx_size * tx_height block.now.area.tx_size ≤ length luma.now }
+    requires left { map T.num edge.now.left.now ≡ reverse (edge_for header.now block.now at mode param T.num region.old.plane.now).left }
+    requires corner { map T.num edge.now.top_left.now ≡ (edge_for header.now block.now at mode param T.num region.old.plane.now).corner ∷ [] }
+    requires above { map T.num edge.now.above.now ≡ (edge_for header.now block.now at mode param T.num region.old.plane.now).above }
+    ensures painted { region.new ≡ painted region.old (tx_width block.now.area.tx_size) (tx_height block.now.area.tx_size) (λ r c _. T.pixel (by_mode (extent_of header.now block.now.plane) filter mode param (area_at block.now at)
+        (placed_edge header.now block.now.plane block.now at.number (area_at block.now at) T.num region.old.plane.now) (ac_at (tx_width block.now.area.tx_size) luma.now) r c)) }
+    ensures fits { InStorage region.new }
+{
+    let tile = whole_plane(header, block.plane);
+    let bit_depth = usize::from(header.depth);
     predict_intra(
         mode,
-        frame,
-        block,
-        &mut region,
-        &above[..block.width],
-        &left[..left_len],
+        tile,
+        region,
+        block.area.tx_size,
+        bit_depth,
+        luma,
+        param,
+        filter,
+        edge,
     );
 }
 
-/// Adds a block's residue to the first rows and columns of the region; `coefficients` is room for its coefficients. Where no triples are
-/// given the residue is zero, and the samples are clipped alone.
+/// Predicts a transform block by an intra mode, from the samples round it.
+pub fn predict_from_edge<T: Pixel>(
+    plane: &mut Plane<T>,
+    edges: &mut IntraEdgeBuffer<T>,
+    luma: &[i16],
+    header: &Header,
+    block: &PlaneBlock,
+    at: BlockPlace,
+    mode: PredictionMode,
+    param: IntraParam,
+    filter: Option<IntraEdgeFilterParameters>,
+)
+    requires stores { Stores T.num header.now block.now.plane plane.old }
+    requires low { 8 ≤ header.now.depth }
+    requires depth { header.now.depth ≤ T.BITS }
+    requires place { IsPlaceIn header.now block.now at }
+    requires fits { InPlane (area_at block.now at) plane.old }
+    requires intra { IsTrue (is_intra mode) }
+    requires few_steps { unsigned_abs (step_of param) ≤ 3 }
+    requires small_weight { unsigned_abs (alpha_of param) ≤ 16 }
+    requires luma_long { IsTrue (is_cfl mode) → tx_width block.now.area.tx_size * tx_height block.now.area.tx_size ≤ length luma.now }
+    ensures painted { plane.new ≡ painted_plane plane.old (area_at block.now at) (λ r c _. T.pixel (by_mode (extent_of header.now block.now.plane) filter mode param (area_at block.now at)
+        (placed_edge header.now block.now.plane block.now at.number (area_at block.now at) T.num plane.old) (ac_at (tx_width block.now.area.tx_size) luma.now) r c)) }
+    ensures counted { edges.new.prepared ≡ counted edges.old.prepared }
+{
+    let tx_size = block.area.tx_size;
+    let cell = TileBlockOffset(BlockOffset {
+        x: block.leaf.x / 4,
+        y: block.leaf.y / 4,
+    });
+    let edge = get_intra_edges(
+        edges,
+        &plane.as_region(),
+        cell,
+        at.column,
+        at.row,
+        block.leaf.size,
+        offset_at(at.x, at.y),
+        tx_size,
+        usize::from(header.depth),
+        Some(mode),
+        header.edge_filter,
+        param,
+    );
+    let area = visible_area(at.x, at.y, tx_size.width(), tx_size.height());
+    let mut region = plane.region_mut(area);
+    predict_region(
+        &mut region,
+        &edge,
+        luma,
+        header,
+        block,
+        at,
+        mode,
+        param,
+        filter,
+    );
+}
+
+/// Adds a transform block's residue to the first rows and columns of the region; `coefficients` is room for its coefficients.
 fn add_residue<T: Pixel>(
     output: &mut PlaneRegionMut<'_, T>,
     coefficients: &mut [T::Coeff],
     scratch: &mut TxScratch,
-    frame: Frame,
-    part: &Part,
+    bit_depth: usize,
+    block: &PlaneBlock,
     number: usize,
     triples: &[Triple],
 )
     requires fits { InStorage output.old }
-    requires columns { tx_width part.now.area.tx_size ≤ output.old.place.width }
-    requires rows { tx_height part.now.area.tx_size ≤ output.old.place.height }
-    requires depth { frame.depth ≤ T.BITS }
-    requires depths { (frame.depth ≡ 8) ⊎ ((frame.depth ≡ 10) ⊎ (frame.depth ≡ 12)) }
+    requires columns { tx_width block.now.area.tx_size ≤ output.old.area.width }
+    requires rows { tx_height block.now.area.tx_size ≤ output.old.area.height }
+    requires depth { bit_depth ≤ T.BITS }
+    requires depths { IsDepth bit_depth }
     requires room { length coefficients.old ≡ 1024 }
-    requires valid { IsTrue (valid_av1_transform part.now.area.tx_size part.now.tx_type) }
-    requires lossless { part.now.tx_type ≡ WHT_WHT → part.now.area.tx_size ≡ TX_4X4 }
-    requires triples { All (TripleFits frame.depth part.now) triples.now }
-    ensures painted { output.new ≡ painted output.old (tx_width part.now.area.tx_size) (tx_height part.now.area.tx_size) (λ r c v. T.pixel (added frame (T.num v) (block_residue frame part.now triples.now number r c))) }
+    requires valid { IsTrue (valid_av1_transform block.now.area.tx_size block.now.tx_type) }
+    requires lossless { block.now.tx_type ≡ WHT_WHT → block.now.area.tx_size ≡ TX_4X4 }
+    requires triples { All (TripleFits bit_depth block.now) triples.now }
+    ensures painted { output.new ≡ painted output.old (tx_width block.now.area.tx_size) (tx_height block.now.area.tx_size) (λ r c v. T.pixel (added bit_depth (T.num v) (block_residue bit_depth block.now triples.now number r c))) }
     ensures fits { InStorage output.new }
 {
-    let tx_size = part.area.tx_size;
-    if triples.is_empty() {
-        let half = base(frame.depth);
-        clip_rows(output, half + half - 1, tx_size.width(), tx_size.height());
-        return;
-    }
+    let tx_size = block.area.tx_size;
     let count = tx_size.coded_area();
     load_coefficients(&mut coefficients[..count], number, triples);
     inverse_transform_add_with(
@@ -100,42 +218,47 @@ fn add_residue<T: Pixel>(
         &coefficients[..count],
         output,
         tx_size,
-        part.tx_type,
-        frame.depth,
+        block.tx_type,
+        bit_depth,
     );
 }
 
-/// Adds the residue of a block to its samples; `coefficients` is room for its coefficients.
+/// Adds the residue of a transform block to its samples; `coefficients` is room for its coefficients. Without triples the samples stay: they
+/// lie within the depth.
 pub fn add_block<T: Pixel>(
     plane: &mut Plane<T>,
     coefficients: &mut [T::Coeff],
     scratch: &mut TxScratch,
-    frame: Frame,
-    part: &Part,
-    block: Block,
+    header: &Header,
+    block: &PlaneBlock,
+    at: BlockPlace,
     triples: &[Triple],
 )
-    requires stores { Stores frame plane.old }
-    requires depth { frame.depth ≤ T.BITS }
-    requires depths { (frame.depth ≡ 8) ⊎ ((frame.depth ≡ 10) ⊎ (frame.depth ≡ 12)) }
-    requires fits { InPlane (area_of block) plane.old }
-    requires width { block.width ≡ tx_width part.now.area.tx_size }
-    requires height { block.height ≡ tx_height part.now.area.tx_size }
+    requires stores { Stores T.num header.now block.now.plane plane.old }
+    requires depth { header.now.depth ≤ T.BITS }
+    requires depths { IsDepth header.now.depth }
+    requires place { IsPlaceIn header.now block.now at }
+    requires fits { InPlane (area_at block.now at) plane.old }
     requires room { length coefficients.old ≡ 1024 }
-    requires valid { IsTrue (valid_av1_transform part.now.area.tx_size part.now.tx_type) }
-    requires lossless { part.now.tx_type ≡ WHT_WHT → part.now.area.tx_size ≡ TX_4X4 }
-    requires triples { All (TripleFits frame.depth part.now) triples.now }
-    ensures { plane.new ≡ painted_plane plane.old (area_of block) (λ r c v. T.pixel (added frame (T.num v) (block_residue frame part.now triples.now block.number r c))) }
+    requires valid { IsTrue (valid_av1_transform block.now.area.tx_size block.now.tx_type) }
+    requires lossless { block.now.tx_type ≡ WHT_WHT → block.now.area.tx_size ≡ TX_4X4 }
+    requires triples { All (TripleFits header.now.depth block.now) triples.now }
+    ensures { let depth = header.now.depth in plane.new ≡ painted_plane plane.old (area_at block.now at) (λ r c v. T.pixel (added depth (T.num v) (block_residue depth block.now triples.now at.number r c))) }
 {
-    let area = visible_area(block.x, block.y, block.width, block.height);
+    if triples.is_empty() {
+        return;
+    }
+    let tx_size = block.area.tx_size;
+    let area = visible_area(at.x, at.y, tx_size.width(), tx_size.height());
     let mut region = plane.region_mut(area);
+    let bit_depth = usize::from(header.depth);
     add_residue(
         &mut region,
         coefficients,
         scratch,
-        frame,
-        part,
-        block.number,
+        bit_depth,
+        block,
+        at.number,
         triples,
     );
 }

@@ -2,7 +2,7 @@
 
 ghost use Rattle.std.specs.Prelude.{◌≡◌, ℕ, ◌≤◌, ◌<◌, ◌-◌, ◌^◌, length, map, pos, neg_ℤ, ◌≤ℤ◌, ◌<ℤ◌, All, replicate, slice_set, if◌then◌else◌};
 ghost use Rattle.std.specs.List.{fold};
-ghost use Rattle.av1_tile.specs.Walk.{with_triple};
+ghost use Rattle.av1_tile.specs.Reference.{with_triple};
 ghost use Rattle.av1_dct.specs.Arithmetic.{FitsBits};
 
 use av1_frame::Coefficient;

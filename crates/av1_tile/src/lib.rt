@@ -14,22 +14,19 @@
 
 mod block;
 mod buffers;
-mod clip;
+mod cells;
 mod coefficients;
-mod edge;
-mod frame;
-mod part;
+mod extent;
+mod leaf;
+mod plane_block;
 mod planes;
-mod predict;
 mod recon;
 mod state;
 mod tile;
 mod walk;
 
-pub use buffers::Buffers;
-pub use frame::Frame;
-pub use part::{Block, Part};
+pub use extent::PlaneExtent;
+pub use plane_block::{LumaBlock, PlaneBlock, Prediction};
 pub use planes::Planes;
-pub use predict::sum_of;
 pub use recon::reconstruct_tile;
 pub use state::TileState;

@@ -3,8 +3,8 @@
 ghost use Rattle.std.specs.Prelude.{◌≡◌, ◌≤◌, None};
 ghost use Rattle.av1_plan.specs.Answer.{plan_value};
 ghost use Rattle.av1_plan.specs.Validity.{first_fault};
-ghost use Rattle.av1_tile.specs.State.{IsSound, shown, state_header};
-ghost use Rattle.av1_tile.specs.Walk.{planes_of, visible};
+ghost use Rattle.av1_tile.specs.Output.{planes_of, visible};
+ghost use Rattle.av1_tile.specs.State.{edges_of, IsSound, shown, state_edges, state_header};
 
 use crate::state::TileState;
 use av1_frame::Pixel;
@@ -16,12 +16,13 @@ use av1_plan::Plan;
 /// The plan is valid, and the state was made for it.
 pub fn reconstruct_tile<T: Pixel>(state: &mut TileState<T>, plan: &Plan)
     requires valid { first_fault (plan_value plan.now) ≡ None }
-    requires sound { IsSound state.old }
+    requires sound { IsSound T.num state.old }
     requires made { state_header state.old ≡ (plan_value plan.now).header }
     requires depth { (plan_value plan.now).header.depth ≤ T.BITS }
     ensures visible { visible (state_header state.new) (shown T.num state.new) ≡ planes_of (plan_value plan.now) }
-    ensures sound { IsSound state.new }
+    ensures sound { IsSound T.num state.new }
     ensures header { state_header state.new ≡ state_header state.old }
+    ensures edges { state_edges state.new ≡ edges_of (state_edges state.old) (plan_value plan.now) }
 {
     state.run(plan);
 }

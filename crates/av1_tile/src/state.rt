@@ -1,17 +1,19 @@
 //! The state of a reconstruction: the planes of a frame, and the memory to work in.
 
-ghost use Rattle.std.specs.Prelude.{◌≡◌, ◌<◌, ◌≤◌, IfOk, map};
+ghost use Rattle.std.specs.Prelude.{◌≡◌, ◌<◌, ◌≤◌, IfOk, map, vec_len};
 ghost use Rattle.av1_frame.specs.Planes.{sample_at};
-ghost use Rattle.av1_edges.specs.Sides.{listed};
+ghost use Rattle.av1_lists.specs.Lists.{by_index};
 ghost use Rattle.av1_plan.specs.Geometry.{plane_width, plane_height};
-ghost use Rattle.av1_tile.specs.Parts.{frame_of};
-ghost use Rattle.av1_tile.specs.Place.{Stores, HasRoomIn};
+ghost use Rattle.av1_tile.specs.PlaneBlocks.{extent_of};
+ghost use Rattle.av1_tile.specs.Walk.{Stores, HasRoomIn, HasCells};
 
-use crate::buffers::Buffers;
-use crate::frame::Frame;
+use crate::buffers::{MOST_FROM_LUMA, ResidueBuffers};
+use crate::cells::CodedCells;
+use crate::extent::PlaneExtent;
 use crate::planes::Planes;
 use crate::tile::reconstruct_leaves;
 use av1_blocks::OutOfMemory;
+use av1_edges::IntraEdgeBuffer;
 use av1_frame::{Pixel, Plane};
 use av1_plan::{Header, Plan};
 use std::alloc::Global;
@@ -22,7 +24,12 @@ use std::marker::Model;
 pub struct TileState<T: Pixel> {
     header: Header,
     planes: Planes<T>,
-    buffers: Buffers<T>,
+    cells: CodedCells,
+    edges: IntraEdgeBuffer<T>,
+    luma: Vec<i16>,
+    residues: ResidueBuffers<T>,
+    ghost cells_whole: { HasCells header cells },
+    ghost luma_long: { vec_len luma ≡ 1024 },
 }
 
 impl<T: Pixel> Model for TileState<T> {
@@ -30,7 +37,7 @@ impl<T: Pixel> Model for TileState<T> {
 
     ghost Value = { Picture T };
 
-    ghost view = { λ s. record { header = s.header; planes = s.planes } };
+    ghost view = { λ s. record { header = s.header; planes = s.planes; edges = s.edges.prepared } };
 }
 
 /// A plane of zeros with the sides of plane `p` of the frame.
@@ -44,7 +51,7 @@ fn plane_of_frame<T: Pixel>(
     requires rows { 0 < plane_height header.now p }
     requires few_rows { plane_height header.now p ≤ 65536 }
     requires depth { 8 ≤ header.now.depth }
-    ensures stores { IfOk result (λ plane. Stores (frame_of header.now p) plane) }
+    ensures stores { IfOk result (λ plane. Stores T.num header.now p plane) }
     ensures room { IfOk result (λ plane. HasRoomIn header.now p plane.plane_cfg) }
 {
     Plane::new(
@@ -59,38 +66,45 @@ fn plane_of_frame<T: Pixel>(
 }
 
 /// The visible row `y` of a plane.
-fn visible_row<T: Pixel>(plane: &Plane<T>, frame: Frame, y: usize) -> &[T]
-    requires stores { Stores frame plane.now }
-    requires in_plane { y < frame.height }
-    ensures { map T.num result.now ≡ listed frame.width (λ x. sample_at T.num plane.now x y) }
+fn visible_row<'a, T: Pixel>(plane: &'a Plane<T>, header: &Header, p: usize, y: usize) -> &'a [T]
+    requires stores { Stores T.num header.now p plane.now }
+    requires in_plane { y < plane_height header.now p }
+    ensures { map T.num result.now ≡ by_index (plane_width header.now p) (λ x. sample_at T.num plane.now x y) }
 {
-    plane.run(0, y, frame.width)
+    plane.run(0, y, header.plane_width(p))
 }
 
 impl<T: Pixel> TileState<T> {
     ghost use Rattle.std.specs.Prelude.{◌≡◌, ◌<◌, ◌≤◌, IfOk, map, None};
     ghost use Rattle.av1_plan.specs.Answer.{plan_value};
     ghost use Rattle.av1_plan.specs.Validity.{first_fault};
-    ghost use Rattle.av1_tile.specs.Parts.{frame_of};
-    ghost use Rattle.av1_tile.specs.State.{IsSound, shown, state_header, state_row};
-    ghost use Rattle.av1_tile.specs.Walk.{planes_of, visible};
+    ghost use Rattle.av1_tile.specs.PlaneBlocks.{extent_of};
+    ghost use Rattle.av1_tile.specs.State.{edges_of, IsSound, shown, state_edges, state_header, state_row};
+    ghost use Rattle.av1_tile.specs.Output.{planes_of, visible};
 
     /// Takes all the memory that the reconstruction of a plan needs. The plan is valid, and its depth one that the samples have.
     pub fn new(alloc: Global, plan: &Plan) -> Result<TileState<T>, OutOfMemory>
         requires valid { first_fault (plan_value plan.now) ≡ None }
         requires depth { (plan_value plan.now).header.depth ≤ T.BITS }
-        ensures sound { IfOk result (λ s. IsSound s) }
+        ensures sound { IfOk result (λ s. IsSound T.num s) }
         ensures header { IfOk result (λ s. state_header s ≡ (plan_value plan.now).header) }
+        ensures edges { IfOk result (λ s. state_edges s ≡ 0) }
     {
         let header = *plan.header();
         let y = plane_of_frame(alloc, &header, 0)?;
         let u = plane_of_frame(alloc, &header, 1)?;
         let v = plane_of_frame(alloc, &header, 2)?;
-        let buffers = Buffers::new(alloc)?;
+        let cells = CodedCells::new(alloc, &header)?;
+        let edges = IntraEdgeBuffer::new(alloc)?;
+        let luma = vec![in alloc; 0; MOST_FROM_LUMA]?;
+        let residues = ResidueBuffers::new(alloc)?;
         Ok(TileState {
             header,
             planes: Planes { y, u, v },
-            buffers,
+            cells,
+            edges,
+            luma,
+            residues,
         })
     }
 
@@ -101,31 +115,46 @@ impl<T: Pixel> TileState<T> {
         &self.header
     }
 
+    /// How many edges were prepared in the state, up to the last value of a `u64`: none in a new one, and one for each prediction of a
+    /// transform block from the samples round it.
+    pub fn edges(&self) -> u64
+        ensures { result ≡ state_edges self.now }
+    {
+        self.edges.prepared()
+    }
+
     /// The visible row `y` of plane `p` (0 for Y, 1 for U and 2 for V), from its first sample on.
     pub fn row(&self, p: usize, y: usize) -> &[T]
-        requires sound { IsSound self.now }
+        requires sound { IsSound T.num self.now }
         requires plane { p < 3 }
-        requires in_plane { y < (frame_of (state_header self.now) p).height }
+        requires in_plane { y < (extent_of (state_header self.now) p).height }
         ensures { map T.num result.now ≡ state_row T.num self.now p y }
     {
-        let frame = Frame::of_plane(&self.header, p);
         match p {
-            0 => visible_row(&self.planes.y, frame, y),
-            1 => visible_row(&self.planes.u, frame, y),
-            _ => visible_row(&self.planes.v, frame, y),
+            0 => visible_row(&self.planes.y, &self.header, 0, y),
+            1 => visible_row(&self.planes.u, &self.header, 1, y),
+            _ => visible_row(&self.planes.v, &self.header, 2, y),
         }
     }
 
     /// The leaves of the plan, over the state's planes.
     pub(crate) fn run(&mut self, plan: &Plan)
         requires valid { first_fault (plan_value plan.now) ≡ None }
-        requires sound { IsSound self.old }
+        requires sound { IsSound T.num self.old }
         requires made { state_header self.old ≡ (plan_value plan.now).header }
         requires depth { (plan_value plan.now).header.depth ≤ T.BITS }
         ensures visible { visible (state_header self.new) (shown T.num self.new) ≡ planes_of (plan_value plan.now) }
-        ensures sound { IsSound self.new }
+        ensures sound { IsSound T.num self.new }
         ensures header { state_header self.new ≡ state_header self.old }
+        ensures edges { state_edges self.new ≡ edges_of (state_edges self.old) (plan_value plan.now) }
     {
-        reconstruct_leaves(&mut self.planes, &mut self.buffers, plan);
+        reconstruct_leaves(
+            &mut self.planes,
+            &mut self.cells,
+            &mut self.edges,
+            self.luma.as_mut_slice(),
+            &mut self.residues,
+            plan,
+        );
     }
 }

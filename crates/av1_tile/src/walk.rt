@@ -1,160 +1,233 @@
-//! The walk: over the blocks of a part, the parts of a leaf and the leaves of a plan.
+//! The walk: over the transform blocks of a leaf's block in a plane, and over the planes that a leaf covers.
 
-ghost use Rattle.std.specs.Prelude.{◌≡◌, ◌≢◌, ◌⊎◌, ℕ, ◌+◌, ◌<◌, ◌≤◌, length, slice_index_or, [], All};
+ghost use Rattle.std.specs.Prelude.{◌≡◌, ◌≢◌, ℕ, ◌+◌, ◌*◌, ◌/◌, ◌<◌, ◌≤◌, length, slice_index_or, [], All, IfSome, IfNone, Some, None};
+ghost use Rattle.av1_blocks.specs.Depths.{IsDepth};
 ghost use Rattle.std.specs.List.{fold};
-ghost use Rattle.av1_plan.specs.Geometry.{block_count};
-ghost use Rattle.av1_tile.specs.Parts.{component, frame_of, part_of};
-ghost use Rattle.av1_tile.specs.Place.{Stores, StoresAll, SameLayout, area_of, fast_in, fast_step, leaf_with, LeafFits, PartFits};
-ghost use Rattle.av1_tile.specs.Steps.{block_area, leaf_steps, steps_at, part_steps};
+ghost use Rattle.av1_blocks.specs.Blocks.{block_height};
+ghost use Rattle.av1_blocks.specs.Transforms.{tx_width, tx_height};
+ghost use Rattle.av1_frame.specs.Planes.{InPlane};
+ghost use Rattle.av1_intra.specs.ChromaFromLuma.{ac_at};
+ghost use Rattle.av1_plan.specs.Answer.{plan_value};
+ghost use Rattle.av1_plan.specs.Geometry.{blocks_across, block_count, transform_block};
+ghost use Rattle.av1_plan.specs.ReadPlans.{IsReadFrame};
+ghost use Rattle.av1_plan.specs.declared.leaf.Triple.{Triple};
+ghost use Rattle.av1_tile.specs.PlaneBlocks.{component};
+ghost use Rattle.av1_tile.specs.Steps.{predict, plane_steps, steps_at, steps_of, joined};
+ghost use Rattle.av1_tile.specs.Walk.{area_at, block_by, cell_at, Begins, edges_in, edges_after, fast_in, fast_step, leaf_with, BlockFits, HasCells, IsPlaceIn, LeafFits, PredictionFits, SameLayout, Stores, StoresAll};
 
-use crate::block::{add_block, predict_block};
-use crate::buffers::Buffers;
-use crate::frame::Frame;
-use crate::part::{Block, Part};
+use crate::block::{BlockPlace, add_block, predict_from_edge};
+use crate::buffers::ResidueBuffers;
+use crate::cells::CodedCells;
+use crate::plane_block::{PlaneBlock, Prediction};
 use crate::planes::Planes;
+use av1_blocks::{IntraParam, PredictionMode};
+use av1_edges::IntraEdgeBuffer;
 use av1_frame::{Pixel, Plane};
-use av1_plan::{Header, Leaf, TransformBlock, Triple};
+use av1_plan::{Header, Leaf, Plan, Triple};
 
-/// Transform block `n` of a part, which begins at `start`.
-fn block_of(part: &Part, n: usize, start: TransformBlock) -> Block
-    ensures number { result.number ≡ n }
-    ensures area { area_of result ≡ block_area part.now start }
+/// Where the block of number `index` begins, of blocks with sides of `side` samples from `start` on.
+fn block_start(start: u16, index: usize, side: usize) -> usize
+    requires near { index * side ≤ 128 }
+    ensures { result ≡ start + index * side }
 {
-    let tx_size = part.area.tx_size;
-    Block {
-        number: n,
-        x: start.x,
-        y: start.y,
-        width: tx_size.width(),
-        height: tx_size.height(),
+    usize::from(start) + index * side
+}
+
+/// The transform block in column `column` of row `row` of a leaf's block that has `across` side by side, where it begins in the visible plane.
+fn place_in(
+    header: &Header,
+    block: &PlaneBlock,
+    across: usize,
+    row: usize,
+    column: usize,
+) -> Option<BlockPlace>
+    requires frame { IsReadFrame header.now }
+    requires across { across ≡ blocks_across block.now.area }
+    requires column { column < across }
+    requires few { row * across + column < block_count block.now.area }
+    requires most { block_count block.now.area ≤ 1024 }
+    ensures some { IfSome result (λ at. (IsPlaceIn header.now block.now at) × (at.number ≡ row * across + column)
+        × (transform_block header.now block.now.plane block.now.area at.number ≡ Some (record { x = at.x; y = at.y }))) }
+    ensures none { IfNone result (transform_block header.now block.now.plane block.now.area (row * across + column) ≡ None) }
+{
+    let tx_size = block.area.tx_size;
+    let x = block_start(block.area.x, column, tx_size.width());
+    let y = block_start(block.area.y, row, tx_size.height());
+    if x < header.plane_width(block.plane) && y < header.plane_height(block.plane) {
+        Some(BlockPlace {
+            number: row * across + column,
+            column,
+            row,
+            x,
+            y,
+        })
+    } else {
+        None
     }
 }
 
-/// Block `n` of a part, if it begins in the frame: it is predicted, and its residue is added.
+/// Predicts a transform block as its leaf is predicted; `luma` holds how far luma is from its mean, where the leaf is predicted from luma.
+fn predict_block<T: Pixel>(
+    plane: &mut Plane<T>,
+    edges: &mut IntraEdgeBuffer<T>,
+    luma: &[i16],
+    plan: &Plan,
+    block: &PlaneBlock,
+    at: BlockPlace,
+)
+    requires stores { Stores T.num (plan_value plan.now).header block.now.plane plane.old }
+    requires low { 8 ≤ (plan_value plan.now).header.depth }
+    requires depth { (plan_value plan.now).header.depth ≤ T.BITS }
+    requires place { IsPlaceIn (plan_value plan.now).header block.now at }
+    requires fits { InPlane (area_at block.now at) plane.old }
+    requires prediction { PredictionFits block.now.area block.now.prediction }
+    requires luma_long { length luma.now ≡ 1024 }
+    ensures walked { plane.new ≡ fast_in T.num T.pixel (plan_value plan.now) block.now.plane (λ _. ac_at (tx_width block.now.area.tx_size) luma.now) plane.old (predict block.now at.number (area_at block.now at)) }
+    ensures counted { edges.new.prepared ≡ edges_in edges.old.prepared (predict block.now at.number (area_at block.now at)) }
+{
+    let header = plan.header();
+    match block.prediction {
+        Prediction::Intra { mode, step, filter } => {
+            let param = IntraParam::AngleDelta(step);
+            predict_from_edge(plane, edges, &[], header, block, at, mode, param, filter);
+        }
+        Prediction::FromLuma { alpha } => {
+            let mode = PredictionMode::UV_CFL_PRED;
+            let param = IntraParam::Alpha(i16::from(alpha));
+            predict_from_edge(plane, edges, luma, header, block, at, mode, param, None);
+        }
+        Prediction::Single { .. } | Prediction::Compound { .. } => {}
+    }
+}
+
+/// A transform block that begins in the frame: it is predicted, and its residue is added.
 fn reconstruct_block<T: Pixel>(
     plane: &mut Plane<T>,
-    buffers: &mut Buffers<T>,
-    header: &Header,
-    part: &Part,
+    edges: &mut IntraEdgeBuffer<T>,
+    luma: &[i16],
+    residues: &mut ResidueBuffers<T>,
+    plan: &Plan,
+    block: &PlaneBlock,
+    at: BlockPlace,
     triples: &[Triple],
-    n: usize,
 )
-    requires stores { Stores (frame_of header.now part.now.plane) plane.old }
-    requires depth { header.now.depth ≤ T.BITS }
-    requires depths { (header.now.depth ≡ 8) ⊎ ((header.now.depth ≡ 10) ⊎ (header.now.depth ≡ 12)) }
-    requires fits { PartFits plane.old.plane_cfg header.now part.now triples.now }
-    requires one { n < block_count part.now.area }
-    ensures walked { plane.new ≡ fold (fast_in T.num T.pixel (frame_of header.now part.now.plane)) plane.old (steps_at header.now part.now triples.now n) }
-    ensures stores { Stores (frame_of header.now part.now.plane) plane.new }
+    requires stores { Stores T.num (plan_value plan.now).header block.now.plane plane.old }
+    requires depth { (plan_value plan.now).header.depth ≤ T.BITS }
+    requires depths { IsDepth (plan_value plan.now).header.depth }
+    requires place { IsPlaceIn (plan_value plan.now).header block.now at }
+    requires fits { BlockFits plane.old.plane_cfg (plan_value plan.now).header block.now triples.now }
+    requires luma_long { length luma.now ≡ 1024 }
+    requires found { transform_block (plan_value plan.now).header block.now.plane block.now.area at.number ≡ Some (record { x = at.x; y = at.y }) }
+    ensures walked { plane.new ≡ fold (fast_in T.num T.pixel (plan_value plan.now) block.now.plane (λ _. ac_at (tx_width block.now.area.tx_size) luma.now)) plane.old (steps_at (plan_value plan.now).header block.now triples.now at.number) }
+    ensures counted { edges.new.prepared ≡ fold edges_in edges.old.prepared (steps_at (plan_value plan.now).header block.now triples.now at.number) }
+    ensures stores { Stores T.num (plan_value plan.now).header block.now.plane plane.new }
     ensures config { plane.new.plane_cfg ≡ plane.old.plane_cfg }
 {
-    let start = match part.area.transform_block(header, part.plane, n) {
-        Some(start) => start,
-        None => return,
-    };
-    let block = block_of(part, n, start);
-    let frame = Frame::of_plane(header, part.plane);
-    predict_block(
-        plane,
-        buffers.above.as_mut_slice(),
-        buffers.left.as_mut_slice(),
-        frame,
-        part.mode,
-        block,
-    );
+    predict_block(plane, edges, luma, plan, block, at);
     add_block(
         plane,
-        buffers.coefficients.as_mut_slice(),
-        &mut buffers.scratch,
-        frame,
-        part,
+        residues.coefficients.as_mut_slice(),
+        &mut residues.scratch,
+        plan.header(),
         block,
+        at,
         triples,
     );
 }
 
-/// How many triples at the front are of block `block`.
-fn leading_count(triples: &[Triple], block: usize) -> usize
+/// How many triples at the front are of transform block `number`.
+fn leading_count(triples: &[Triple], number: usize) -> usize
     ensures within { result ≤ length triples.now }
-    ensures own { (k : ℕ) (d : Triple) → k < result → (slice_index_or triples.now k d).block ≡ block }
-    ensures end { (d : Triple) → result < length triples.now → (slice_index_or triples.now result d).block ≢ block }
+    ensures own { (k : ℕ) (d : Triple) → k < result → (slice_index_or triples.now k d).block ≡ number }
+    ensures end { (d : Triple) → result < length triples.now → (slice_index_or triples.now result d).block ≢ number }
 {
     for count in 0..triples.len() {
-        if usize::from(triples[count].block) != block {
+        if usize::from(triples[count].block) != number {
             return count;
         }
     }
     triples.len()
 }
 
-/// The blocks of a part, in raster order. Triples rise by their blocks, so that those of a block follow one another.
-#[tactic(auto, using(crate::proofs::Loops::fold_joined_none, crate::proofs::Loops::fold_joined_more))]
-pub fn reconstruct_part<T: Pixel>(
-    plane: &mut Plane<T>,
-    buffers: &mut Buffers<T>,
-    header: &Header,
-    part: &Part,
-    triples: &[Triple],
-)
-    requires stores { Stores (frame_of header.now part.now.plane) plane.old }
-    requires depth { header.now.depth ≤ T.BITS }
-    requires depths { (header.now.depth ≡ 8) ⊎ ((header.now.depth ≡ 10) ⊎ (header.now.depth ≡ 12)) }
-    requires fits { PartFits plane.old.plane_cfg header.now part.now triples.now }
-    ensures walked { plane.new ≡ fold (fast_in T.num T.pixel (frame_of header.now part.now.plane)) plane.old (part_steps header.now part.now triples.now) }
-    ensures stores { Stores (frame_of header.now part.now.plane) plane.new }
-    ensures config { plane.new.plane_cfg ≡ plane.old.plane_cfg }
+/// The column and the row of the transform block behind the one at column `column` of row `row`, in raster order.
+fn next_place(column: usize, row: usize, across: usize) -> (usize, usize)
+    requires column { column < across }
+    requires few { row * across + column < 1024 }
+    ensures column { result.0 < across }
+    ensures number { result.1 * across + result.0 ≡ row * across + column + 1 }
 {
-    let mut at = 0;
-    for n in 0..part.area.block_count() {
-        let end = at + leading_count(&triples[at..], n);
-        reconstruct_block(plane, buffers, header, part, &triples[at..end], n);
-        at = end;
+    if column + 1 == across {
+        (0, row + 1)
+    } else {
+        (column + 1, row)
     }
 }
 
-/// The part of a leaf in plane `p`.
-fn reconstruct_leaf_in<T: Pixel>(
+/// The transform blocks of a leaf's block, in raster order. Triples rise by their blocks, so that those of a block follow one another.
+#[tactic(auto, using(crate::proofs::Loops::fold_joined_none, crate::proofs::Loops::fold_joined_more))]
+fn reconstruct_plane_block<T: Pixel>(
     plane: &mut Plane<T>,
-    buffers: &mut Buffers<T>,
-    header: &Header,
+    edges: &mut IntraEdgeBuffer<T>,
+    luma: &[i16],
+    residues: &mut ResidueBuffers<T>,
+    plan: &Plan,
+    block: &PlaneBlock,
+    triples: &[Triple],
+)
+    requires stores { Stores T.num (plan_value plan.now).header block.now.plane plane.old }
+    requires depth { (plan_value plan.now).header.depth ≤ T.BITS }
+    requires depths { IsDepth (plan_value plan.now).header.depth }
+    requires fits { BlockFits plane.old.plane_cfg (plan_value plan.now).header block.now triples.now }
+    requires luma_long { length luma.now ≡ 1024 }
+    ensures walked { plane.new ≡ fold (fast_in T.num T.pixel (plan_value plan.now) block.now.plane (λ _. ac_at (tx_width block.now.area.tx_size) luma.now)) plane.old (plane_steps (plan_value plan.now).header block.now triples.now) }
+    ensures counted { edges.new.prepared ≡ fold edges_in edges.old.prepared (plane_steps (plan_value plan.now).header block.now triples.now) }
+    ensures stores { Stores T.num (plan_value plan.now).header block.now.plane plane.new }
+    ensures config { plane.new.plane_cfg ≡ plane.old.plane_cfg }
+{
+    let across = block.area.blocks_across();
+    let mut place = (0, 0);
+    let mut at = 0;
+    for n in 0..block.area.block_count() {
+        let (column, row) = place;
+        let end = at + leading_count(&triples[at..], n);
+        if let Some(place) = place_in(plan.header(), block, across, row, column) {
+            let own = &triples[at..end];
+            reconstruct_block(plane, edges, luma, residues, plan, block, place, own);
+        }
+        at = end;
+        place = next_place(column, row, across);
+    }
+}
+
+/// The block of a leaf in plane `p`.
+pub fn reconstruct_leaf_in<T: Pixel>(
+    plane: &mut Plane<T>,
+    edges: &mut IntraEdgeBuffer<T>,
+    luma: &[i16],
+    residues: &mut ResidueBuffers<T>,
+    plan: &Plan,
+    cells: &CodedCells,
     leaf: &Leaf,
     p: usize,
     triples: &[Triple],
 )
-    requires one { p < 3 }
-    requires stores { Stores (frame_of header.now p) plane.old }
-    requires depth { header.now.depth ≤ T.BITS }
-    requires depths { (header.now.depth ≡ 8) ⊎ ((header.now.depth ≡ 10) ⊎ (header.now.depth ≡ 12)) }
-    requires fits { PartFits plane.old.plane_cfg header.now (part_of header.now (component p) (leaf_with leaf.now [] [] [])) triples.now }
-    ensures walked { plane.new ≡ fold (fast_in T.num T.pixel (frame_of header.now p)) plane.old (part_steps header.now (part_of header.now (component p) (leaf_with leaf.now [] [] [])) triples.now) }
-    ensures stores { Stores (frame_of header.now p) plane.new }
+    requires plane { p < 3 }
+    requires stores { Stores T.num (plan_value plan.now).header p plane.old }
+    requires depth { (plan_value plan.now).header.depth ≤ T.BITS }
+    requires depths { IsDepth (plan_value plan.now).header.depth }
+    requires cells { HasCells (plan_value plan.now).header cells.now }
+    requires begins { Begins (plan_value plan.now).header (component p) (leaf_with leaf.now [] [] []) }
+    requires fits { BlockFits plane.old.plane_cfg (plan_value plan.now).header (block_by (plan_value plan.now).header (cell_at cells.now) (component p) (leaf_with leaf.now [] [] [])) triples.now }
+    requires luma_long { length luma.now ≡ 1024 }
+    ensures walked { let h = (plan_value plan.now).header in let block = block_by h (cell_at cells.now) (component p) (leaf_with leaf.now [] [] []) in
+        plane.new ≡ fold (fast_in T.num T.pixel (plan_value plan.now) p (λ _. ac_at (tx_width block.area.tx_size) luma.now)) plane.old (plane_steps h block triples.now) }
+    ensures counted { let h = (plan_value plan.now).header in let block = block_by h (cell_at cells.now) (component p) (leaf_with leaf.now [] [] []) in
+        edges.new.prepared ≡ fold edges_in edges.old.prepared (plane_steps h block triples.now) }
+    ensures stores { Stores T.num (plan_value plan.now).header p plane.new }
     ensures config { plane.new.plane_cfg ≡ plane.old.plane_cfg }
 {
-    let part = Part::of_leaf(header, leaf, p);
-    reconstruct_part(plane, buffers, header, &part, triples);
-}
-
-/// The parts of a leaf: in Y, then in U and V where it carries chroma.
-pub fn reconstruct_leaf<T: Pixel>(
-    planes: &mut Planes<T>,
-    buffers: &mut Buffers<T>,
-    header: &Header,
-    leaf: &Leaf,
-    luma: &[Triple],
-    u: &[Triple],
-    v: &[Triple],
-)
-    requires stores { StoresAll header.now planes.old }
-    requires depth { header.now.depth ≤ T.BITS }
-    requires depths { (header.now.depth ≡ 8) ⊎ ((header.now.depth ≡ 10) ⊎ (header.now.depth ≡ 12)) }
-    requires fits { LeafFits header.now planes.old (leaf_with leaf.now luma.now u.now v.now) }
-    ensures walked { planes.new ≡ fold (fast_step T.num T.pixel header.now) planes.old (leaf_steps header.now (leaf_with leaf.now luma.now u.now v.now)) }
-    ensures stores { StoresAll header.now planes.new }
-    ensures layout { SameLayout planes.old planes.new }
-{
-    reconstruct_leaf_in(&mut planes.y, buffers, header, leaf, 0, luma);
-    if leaf.carries_chroma(header) {
-        reconstruct_leaf_in(&mut planes.u, buffers, header, leaf, 1, u);
-        reconstruct_leaf_in(&mut planes.v, buffers, header, leaf, 2, v);
-    }
+    let header = plan.header();
+    let filter = cells.filter_parameters(header, p, leaf.plane_area(header, p));
+    let block = PlaneBlock::of_leaf(header, leaf, p, filter);
+    reconstruct_plane_block(plane, edges, luma, residues, plan, &block, triples);
 }

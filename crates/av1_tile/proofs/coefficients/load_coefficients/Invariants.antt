@@ -1,6 +1,6 @@
 use Rattle.std.proofs.Common.{◌≡◌, take, map, pos, length, replicate}
 use Rattle.std.specs.List.{fold}
-use Rattle.av1_tile.specs.Walk.{with_triple}
+use Rattle.av1_tile.specs.Reference.{with_triple}
 use Rattle.av1_tile.proofs.coefficients.load_coefficients.Given as goal
 
 abbrev pub invariant-loop-triple : goal.invariant-loop-triple

@@ -1,67 +1,61 @@
-use Rattle.std.proofs.Common.{arith, ap, ◌∙◌, sym, subst}
-use Rattle.av1_frame.specs.Areas.{VisibleArea}
-use Rattle.av1_frame.specs.declared.plane.Plane.{Plane}
-use Rattle.av1_frame.specs.Planes.{InPlane}
-use Rattle.av1_tile.specs.declared.frame.Frame.{Frame}
-use Rattle.av1_tile.specs.Parts.{frame_of}
-use Rattle.av1_tile.specs.Place.{Stores, area_of}
-use Rattle.av1_frame.proofs.Planes.{painted_plane_fits}
-use Rattle.av1_tile.proofs.TransformBlocks.{block_is, block_fits, painted_stores, walked_as, walked_none}
+use Rattle.std.proofs.Common.{◌≤◌, ◌⊎◌, inl, inr, ◌≡◌, ℕ, arith, sym, subst, ℤ}
+use Rattle.av1_blocks.specs.Transforms.{tx_width}
+use Rattle.av1_intra.specs.ChromaFromLuma.{ac_at}
+use Rattle.av1_plan.specs.Answer.{plan_value}
+use Rattle.av1_plan.specs.declared.header.Header.{Header}
+use Rattle.av1_tile.specs.declared.plane_block.PlaneBlock.{PlaneBlock}
+use Rattle.av1_tile.specs.Walk.{Stores}
+use Rattle.av1_tile.proofs.BlockSteps.{after_layout, after_stores, between_inside, between_stores, block_counted, block_inside, block_walked}
 use Rattle.av1_tile.proofs.walk.reconstruct_block.Goals as goal
 
-pub returns-in-None-clause-walked : goal.returns-in-None-clause-walked
-returns-in-None-clause-walked g c =
-    let a = c.args in
-    walked_none g.T.Pixel.num g.T.Pixel.pixel (frame_of a.header.now a.part.now.plane) a.header.now a.part.now a.triples.now a.n a.plane.now (sym c.transform_block.ensures ∙ c.in-None.is)
+deep : (depth : ℕ) → (depth ≡ 8) ⊎ ((depth ≡ 10) ⊎ (depth ≡ 12)) → 8 ≤ depth
+deep depth (inl e) = omega (arith, e)
+deep depth (inr (inl e)) = omega (arith, e)
+deep depth (inr (inr e)) = omega (arith, e)
 
 pub predict_block-requires-clause-fits : goal.predict_block-requires-clause-fits
 predict_block-requires-clause-fits g c =
     let a = c.args in
-    let b = c.in-Some.start in
-    let e = sym c.transform_block.ensures ∙ c.in-Some.is in
-    subst (λ (k : VisibleArea). InPlane k a.plane.now) (sym c.block_of-block.ensures.area) (block_fits _ a.plane.now a.header.now a.part.now a.triples.now b c.requires.stores c.requires.fits (block_is a.header.now a.part.now.plane a.part.now.area a.n b e))
-
-pub predict_block-requires-clause-begins_x : goal.predict_block-requires-clause-begins_x
-predict_block-requires-clause-begins_x g c =
-    let a = c.args in
-    let b = c.in-Some.start in
-    let e = sym c.transform_block.ensures ∙ c.in-Some.is in
-    let i = block_is a.header.now a.part.now.plane a.part.now.area a.n b e in
-    omega (arith, i.begins_x, ap (λ (k : VisibleArea). k.x) c.block_of-block.ensures.area, ap (λ (k : Frame). k.width) c.of_plane-frame.ensures)
-
-pub predict_block-requires-clause-begins_y : goal.predict_block-requires-clause-begins_y
-predict_block-requires-clause-begins_y g c =
-    let a = c.args in
-    let b = c.in-Some.start in
-    let e = sym c.transform_block.ensures ∙ c.in-Some.is in
-    let i = block_is a.header.now a.part.now.plane a.part.now.area a.n b e in
-    omega (arith, i.begins_y, ap (λ (k : VisibleArea). k.y) c.block_of-block.ensures.area, ap (λ (k : Frame). k.height) c.of_plane-frame.ensures)
+    block_inside (plan_value a.plan.now).header a.block.now a.at a.triples.now a.plane.now c.requires.stores.place c.requires.fits c.requires.found
 
 pub add_block-requires-clause-stores : goal.add_block-requires-clause-stores
 add_block-requires-clause-stores g c =
     let a = c.args in
-    let frame = frame_of a.header.now a.part.now.plane in
-    subst (λ (k : Frame). Stores k c.predict_block.new.plane) (sym c.of_plane-frame.ensures) (subst (Stores frame) (sym c.predict_block.ensures) (painted_stores frame a.plane.now _ _ c.requires.stores))
+    let luma : PlaneBlock → ℕ → ℕ → ℤ = λ _. ac_at (tx_width a.block.now.area.tx_size) a.luma.now in
+    let between = between_stores g.T.Pixel.num g.T.Pixel.pixel g.met.T.Pixel.num_of_pixel g.met.T.Pixel.pixel_of_num (plan_value a.plan.now) luma a.block.now a.at c.requires.place c.requires.fits.prediction a.plane.now c.predict_block.new.plane c.predict_block.ensures.walked c.requires.stores (deep _ c.requires.depths) in
+    subst (λ (h : Header). Stores g.T.Pixel.num h a.block.now.plane c.predict_block.new.plane) (sym c.header.ensures.value) between
 
 pub add_block-requires-clause-fits : goal.add_block-requires-clause-fits
 add_block-requires-clause-fits g c =
     let a = c.args in
-    let b = c.in-Some.start in
-    let e = sym c.transform_block.ensures ∙ c.in-Some.is in
-    let at : VisibleArea = area_of c.block_of-block.result in
-    let before : InPlane at a.plane.now = subst (λ (k : VisibleArea). InPlane k a.plane.now) (sym c.block_of-block.ensures.area) (block_fits _ a.plane.now a.header.now a.part.now a.triples.now b c.requires.stores c.requires.fits (block_is a.header.now a.part.now.plane a.part.now.area a.n b e)) in
-    subst (λ (k : Plane _). InPlane at k) (sym c.predict_block.ensures) (painted_plane_fits a.plane.now at _ at before)
+    let luma : PlaneBlock → ℕ → ℕ → ℤ = λ _. ac_at (tx_width a.block.now.area.tx_size) a.luma.now in
+    let stores = between_stores g.T.Pixel.num g.T.Pixel.pixel g.met.T.Pixel.num_of_pixel g.met.T.Pixel.pixel_of_num (plan_value a.plan.now) luma a.block.now a.at c.requires.place c.requires.fits.prediction a.plane.now c.predict_block.new.plane c.predict_block.ensures.walked c.requires.stores (deep _ c.requires.depths) in
+    let inside = block_inside (plan_value a.plan.now).header a.block.now a.at a.triples.now a.plane.now c.requires.stores.place c.requires.fits c.requires.found in
+    between_inside g.T.Pixel.num g.T.Pixel.pixel g.met.T.Pixel.num_of_pixel g.met.T.Pixel.pixel_of_num (plan_value a.plan.now) luma a.block.now a.at c.requires.place c.requires.fits.prediction a.plane.now c.predict_block.new.plane c.predict_block.ensures.walked stores inside
 
 pub returns-clause-walked : goal.returns-clause-walked
 returns-clause-walked g c =
     let a = c.args in
-    let b = c.in-Some.start in
-    let e = sym c.transform_block.ensures ∙ c.in-Some.is in
-    walked_as g.T.Pixel.num g.T.Pixel.pixel (frame_of a.header.now a.part.now.plane) _ a.header.now a.part.now a.triples.now a.n _ b _ a.plane.now c.predict_block.new.plane c.add_block.new.plane e c.requires.fits.step c.of_plane-frame.ensures c.block_of-block.ensures.area c.block_of-block.ensures.number c.predict_block.ensures c.add_block.ensures
+    let luma : PlaneBlock → ℕ → ℕ → ℤ = λ _. ac_at (tx_width a.block.now.area.tx_size) a.luma.now in
+    block_walked g.T.Pixel.num g.T.Pixel.pixel g.met.T.Pixel.num_of_pixel g.met.T.Pixel.pixel_of_num (plan_value a.plan.now) luma a.block.now a.at c.requires.place c.requires.fits.prediction a.plane.now c.predict_block.new.plane c.predict_block.ensures.walked
+    c.header.result.now c.header.ensures.value a.triples.now c.add_block.new.plane c.add_block.ensures c.requires.found
+
+pub returns-clause-counted : goal.returns-clause-counted
+returns-clause-counted g c =
+    let a = c.args in
+    block_counted (plan_value a.plan.now).header a.block.now a.at a.edges.now.prepared c.predict_block.new.edges.prepared a.triples.now c.requires.fits.prediction c.requires.found c.predict_block.ensures.counted
 
 pub returns-clause-stores : goal.returns-clause-stores
 returns-clause-stores g c =
     let a = c.args in
-    let frame = frame_of a.header.now a.part.now.plane in
-    let h = subst (Stores frame) (sym c.predict_block.ensures) (painted_stores frame a.plane.now _ _ c.requires.stores) in
-    subst (Stores frame) (sym c.add_block.ensures) (painted_stores frame c.predict_block.new.plane _ _ h)
+    let luma : PlaneBlock → ℕ → ℕ → ℤ = λ _. ac_at (tx_width a.block.now.area.tx_size) a.luma.now in
+    let stores = between_stores g.T.Pixel.num g.T.Pixel.pixel g.met.T.Pixel.num_of_pixel g.met.T.Pixel.pixel_of_num (plan_value a.plan.now) luma a.block.now a.at c.requires.place c.requires.fits.prediction a.plane.now c.predict_block.new.plane c.predict_block.ensures.walked c.requires.stores (deep _ c.requires.depths) in
+    after_stores g.T.Pixel.num g.T.Pixel.pixel g.met.T.Pixel.num_of_pixel g.met.T.Pixel.pixel_of_num (plan_value a.plan.now) luma a.block.now a.at c.requires.place c.requires.fits.prediction a.plane.now c.predict_block.new.plane c.predict_block.ensures.walked
+    c.header.result.now c.header.ensures.value a.triples.now c.add_block.new.plane c.add_block.ensures stores
+
+pub returns-clause-config : goal.returns-clause-config
+returns-clause-config g c =
+    let a = c.args in
+    let luma : PlaneBlock → ℕ → ℕ → ℤ = λ _. ac_at (tx_width a.block.now.area.tx_size) a.luma.now in
+    after_layout g.T.Pixel.num g.T.Pixel.pixel g.met.T.Pixel.num_of_pixel g.met.T.Pixel.pixel_of_num (plan_value a.plan.now) luma a.block.now a.at c.requires.place c.requires.fits.prediction a.plane.now c.predict_block.new.plane c.predict_block.ensures.walked
+    c.header.result.now c.header.ensures.value a.triples.now c.add_block.new.plane c.add_block.ensures

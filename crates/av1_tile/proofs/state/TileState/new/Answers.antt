@@ -1,18 +1,47 @@
-use Rattle.av1_tile.specs.Canvas.{Y, U, V}
-use Rattle.av1_tile.proofs.FrameSides.{sides}
+use Rattle.av1_tile.proofs.PlanFits.{across, down, deep}
 use Rattle.av1_tile.proofs.state.TileState.new.Goals as goal
 
-pub plane_of_frame-requires : goal.plane_of_frame-requires
-plane_of_frame-requires g c =
-    let s = sides c.args.plan.now c.header.result.now Y c.header.ensures in
-    record { columns = s.columns; few_columns = s.few_columns; rows = s.rows; few_rows = s.few_rows; depth = s.depth }
+pub plane_of_frame-requires-clause-columns : goal.plane_of_frame-requires-clause-columns
+plane_of_frame-requires-clause-columns g c = (across c.header.result.now 0 c.header.ensures.read).0
 
-pub plane_of_frame-requires-2 : goal.plane_of_frame-requires-2
-plane_of_frame-requires-2 g c =
-    let s = sides c.args.plan.now c.header.result.now U c.header.ensures in
-    record { columns = s.columns; few_columns = s.few_columns; rows = s.rows; few_rows = s.few_rows; depth = s.depth }
+pub plane_of_frame-requires-clause-few_columns : goal.plane_of_frame-requires-clause-few_columns
+plane_of_frame-requires-clause-few_columns g c = (across c.header.result.now 0 c.header.ensures.read).1
 
-pub plane_of_frame-requires-3 : goal.plane_of_frame-requires-3
-plane_of_frame-requires-3 g c =
-    let s = sides c.args.plan.now c.header.result.now V c.header.ensures in
-    record { columns = s.columns; few_columns = s.few_columns; rows = s.rows; few_rows = s.few_rows; depth = s.depth }
+pub plane_of_frame-requires-clause-rows : goal.plane_of_frame-requires-clause-rows
+plane_of_frame-requires-clause-rows g c = (down c.header.result.now 0 c.header.ensures.read).0
+
+pub plane_of_frame-requires-clause-few_rows : goal.plane_of_frame-requires-clause-few_rows
+plane_of_frame-requires-clause-few_rows g c = (down c.header.result.now 0 c.header.ensures.read).1
+
+pub plane_of_frame-requires-clause-depth : goal.plane_of_frame-requires-clause-depth
+plane_of_frame-requires-clause-depth g c = deep c.header.result.now.depth c.header.ensures.read.depth
+
+pub plane_of_frame-requires-2-clause-columns : goal.plane_of_frame-requires-2-clause-columns
+plane_of_frame-requires-2-clause-columns g c = (across c.header.result.now 1 c.header.ensures.read).0
+
+pub plane_of_frame-requires-2-clause-few_columns : goal.plane_of_frame-requires-2-clause-few_columns
+plane_of_frame-requires-2-clause-few_columns g c = (across c.header.result.now 1 c.header.ensures.read).1
+
+pub plane_of_frame-requires-2-clause-rows : goal.plane_of_frame-requires-2-clause-rows
+plane_of_frame-requires-2-clause-rows g c = (down c.header.result.now 1 c.header.ensures.read).0
+
+pub plane_of_frame-requires-2-clause-few_rows : goal.plane_of_frame-requires-2-clause-few_rows
+plane_of_frame-requires-2-clause-few_rows g c = (down c.header.result.now 1 c.header.ensures.read).1
+
+pub plane_of_frame-requires-2-clause-depth : goal.plane_of_frame-requires-2-clause-depth
+plane_of_frame-requires-2-clause-depth g c = deep c.header.result.now.depth c.header.ensures.read.depth
+
+pub plane_of_frame-requires-3-clause-columns : goal.plane_of_frame-requires-3-clause-columns
+plane_of_frame-requires-3-clause-columns g c = (across c.header.result.now 2 c.header.ensures.read).0
+
+pub plane_of_frame-requires-3-clause-few_columns : goal.plane_of_frame-requires-3-clause-few_columns
+plane_of_frame-requires-3-clause-few_columns g c = (across c.header.result.now 2 c.header.ensures.read).1
+
+pub plane_of_frame-requires-3-clause-rows : goal.plane_of_frame-requires-3-clause-rows
+plane_of_frame-requires-3-clause-rows g c = (down c.header.result.now 2 c.header.ensures.read).0
+
+pub plane_of_frame-requires-3-clause-few_rows : goal.plane_of_frame-requires-3-clause-few_rows
+plane_of_frame-requires-3-clause-few_rows g c = (down c.header.result.now 2 c.header.ensures.read).1
+
+pub plane_of_frame-requires-3-clause-depth : goal.plane_of_frame-requires-3-clause-depth
+plane_of_frame-requires-3-clause-depth g c = deep c.header.result.now.depth c.header.ensures.read.depth

@@ -1,0 +1,130 @@
+-- A transform block whose steps are taken: where it lies, and what its steps leave.
+use Rattle.std.proofs.Common.{ℕ, zero, suc, ◌+◌, ◌*◌, ◌<◌, ◌≤◌, ◌≡◌, Bool, true, false, if◌then◌else◌, List, [], ◌∷◌, ◌++◌, Option, Some, None, refl, ap, arith, ◌∙◌, sym, subst, ℤ}
+use Rattle.std.specs.List.{fold}
+use Rattle.av1_blocks.proofs.Sides.{tx_width_range, tx_height_range}
+use Rattle.av1_blocks.specs.Transforms.{tx_width, tx_height}
+use Rattle.av1_frame.specs.declared.plane.Plane.{Plane}
+use Rattle.av1_frame.specs.declared.plane.PlaneConfig.{PlaneConfig}
+use Rattle.av1_frame.specs.Planes.{InPlane, painted_plane}
+use Rattle.av1_plan.specs.declared.geometry.PlaneArea.{PlaneArea}
+use Rattle.av1_plan.specs.declared.geometry.TransformBlock.{TransformBlock}
+use Rattle.av1_plan.specs.declared.header.Header.{Header}
+use Rattle.av1_plan.specs.declared.leaf.Triple.{Triple}
+use Rattle.av1_plan.specs.Geometry.{block_count, blocks_across, transform_block}
+use Rattle.av1_plan.specs.Plan.{PlanValue}
+use Rattle.av1_tile.specs.declared.block.BlockPlace.{BlockPlace}
+use Rattle.av1_tile.specs.declared.plane_block.PlaneBlock.{PlaneBlock}
+use Rattle.av1_tile.specs.declared.plane_block.Prediction.{Prediction}
+use Rattle.av1_tile.specs.declared.plane_block.Prediction.TheVariants as predictions
+use Rattle.av1_tile.specs.PlaneBlocks.{is_whole}
+use Rattle.av1_tile.specs.Reference.{added, block_residue}
+use Rattle.av1_tile.specs.Steps.{Step, predict, add, block_steps, joined, plane_steps, steps_at, whole_area}
+use Rattle.av1_tile.specs.Walk.{BlockFits, IsPlaceIn, IsPlaneOf, PredictionFits, Stores, area_at, edges_in, fast_in, has_edge}
+use Rattle.av1_tile.proofs.TransformBlocks.{block_is}
+use Rattle.av1_tile.proofs.WithinDepth.{BeginsIn, added_stores, predicted_stores}
+
+-- a prediction that can be made here is one from the samples round the block
+from_edge : (area : PlaneArea) (of : Prediction) → PredictionFits area of → (is_whole of ≡ false) × (has_edge of ≡ true)
+from_edge area (predictions.Intra mode step filter) fits = (refl, refl)
+from_edge area (predictions.FromLuma alpha) fits = (refl, refl)
+from_edge area (predictions.Single mode reference mv) fits = absurd fits
+from_edge area (predictions.Compound mode references mvs) fits = absurd fits
+
+module _ (h : Header) (block : PlaneBlock) (at : BlockPlace) where
+  -- it lies in storage where its leaf's block does
+  pub block_inside : {T : Type 0} (triples : List Triple) (plane : Plane T) → IsPlaneOf h block.plane plane → BlockFits plane.plane_cfg h block triples
+      → transform_block h block.plane block.area at.number ≡ Some (record { x = at.x; y = at.y }) → InPlane (area_at block at) plane
+  block_inside triples plane is fits found =
+      let b : TransformBlock = record { x = at.x; y = at.y } in
+      let here = block_is h block.plane block.area at.number b found in
+      record { storage = is.whole; columns = omega (arith, fits.columns, here.columns); rows = omega (arith, fits.rows, here.rows) }
+
+  -- and begins in the visible plane
+  begins_in : IsPlaceIn h block at → BeginsIn h block.plane (area_at block at)
+  begins_in is = record {
+    some_columns = omega (arith, (tx_width_range block.area.tx_size).0);
+    some_rows = omega (arith, (tx_height_range block.area.tx_size).0);
+    column = is.begins_x;
+    row = is.begins_y;
+  }
+
+  -- its steps are a prediction and an addition
+  two_steps : {A : Type 0} (step : A → Step → A) (start : A) (triples : List Triple) → PredictionFits block.area block.prediction → transform_block h block.plane block.area at.number ≡ Some (record { x = at.x; y = at.y })
+      → step (step start (predict block at.number (area_at block at))) (add block triples at.number (area_at block at)) ≡ fold step start (steps_at h block triples at.number)
+  unfolding steps_at
+  two_steps step start triples fits found =
+      let one = predict block at.number (area_at block at) in
+      let two = add block triples at.number (area_at block at) in
+      sym (ap (λ (o : Option TransformBlock). fold step start (block_steps block triples at.number o)) found
+      ∙ ap (λ (b : Bool). fold step start (if b then two ∷ [] else one ∷ two ∷ [])) (from_edge block.area block.prediction fits).0)
+
+  pub block_counted : (count after : ℕ) (triples : List Triple) → PredictionFits block.area block.prediction → transform_block h block.plane block.area at.number ≡ Some (record { x = at.x; y = at.y })
+      → after ≡ edges_in count (predict block at.number (area_at block at)) → after ≡ fold edges_in count (steps_at h block triples at.number)
+  block_counted count after triples fits found counted = counted ∙ two_steps edges_in count triples fits found
+
+-- planes after the two steps of a block of a plan
+module _ {T : Type 0} (num : T → ℕ) (pixel : ℕ → T) (law : (v : ℕ) → num (pixel v) ≡ v) (back : (x : T) → pixel (num x) ≡ x) (plan : PlanValue) (luma : PlaneBlock → ℕ → ℕ → ℤ) (block : PlaneBlock) (at : BlockPlace)
+    (place : IsPlaceIn plan.header block at) (fits : PredictionFits block.area block.prediction) (before between : Plane T)
+    (predicted : between ≡ fast_in num pixel plan block.plane luma before (predict block at.number (area_at block at))) where
+  -- between them the samples lie within the depth
+  pub between_stores : Stores num plan.header block.plane before → 8 ≤ plan.header.depth → Stores num plan.header block.plane between
+  between_stores stores deep =
+      subst (Stores num plan.header block.plane) (sym predicted) (predicted_stores num pixel law back plan block.plane luma before stores deep block at.number (area_at block at) (begins_in plan.header block at place) fits)
+
+  -- the plane is laid out as before
+  pub between_layout : between.plane_cfg ≡ before.plane_cfg
+  unfolding fast_in
+  between_layout = ap (λ (p : Plane T). p.plane_cfg) predicted
+
+  -- the block lies in it
+  pub between_inside : Stores num plan.header block.plane between → InPlane (area_at block at) before → InPlane (area_at block at) between
+  between_inside stores inside = record {
+    storage = stores.place.whole;
+    columns = subst (λ (c : PlaneConfig). c.xorigin + at.x + tx_width block.area.tx_size ≤ c.stride) (sym between_layout) inside.columns;
+    rows = subst (λ (c : PlaneConfig). c.yorigin + at.y + tx_height block.area.tx_size ≤ c.alloc_height) (sym between_layout) inside.rows;
+  }
+
+  module _ (h : Header) (is : h ≡ plan.header) (triples : List Triple) (after : Plane T)
+      (painted : after ≡ painted_plane between (area_at block at) (λ r c v. pixel (added h.depth (num v) (block_residue h.depth block triples at.number r c)))) where
+    added_is : after ≡ fast_in num pixel plan block.plane luma between (add block triples at.number (area_at block at))
+    unfolding fast_in
+    added_is = painted ∙ ap (λ (k : Header). painted_plane between (area_at block at) (λ r c v. pixel (added k.depth (num v) (block_residue k.depth block triples at.number r c)))) is
+
+    -- after them they are the plane that has gone through the block's steps
+    pub block_walked : transform_block plan.header block.plane block.area at.number ≡ Some (record { x = at.x; y = at.y })
+        → after ≡ fold (fast_in num pixel plan block.plane luma) before (steps_at plan.header block triples at.number)
+    block_walked found =
+        added_is ∙ ap (λ (p : Plane T). fast_in num pixel plan block.plane luma p (add block triples at.number (area_at block at))) predicted
+        ∙ two_steps plan.header block at (fast_in num pixel plan block.plane luma) before triples fits found
+
+    -- whose samples lie within the depth
+    pub after_stores : Stores num plan.header block.plane between → Stores num plan.header block.plane after
+    after_stores stores =
+        subst (Stores num plan.header block.plane) (sym added_is) (added_stores num pixel law back plan block.plane luma between stores block triples at.number (area_at block at))
+
+    pub after_layout : after.plane_cfg ≡ before.plane_cfg
+    after_layout = ap (λ (p : Plane T). p.plane_cfg) painted ∙ between_layout
+
+-- ---- the steps of a whole block of a leaf
+
+some_factor : (m n : ℕ) → 0 < m * n → 0 < m
+some_factor zero n l = absurd (omega (arith, l))
+some_factor (suc m) n l = omega arith
+
+-- where there is a transform block, one stands in the first row
+pub some_across : (a : PlaneArea) → 0 < block_count a → 0 < blocks_across a
+unfolding block_count
+some_across a l = some_factor _ _ l
+
+module _ {A : Type 0} (step : A → Step → A) (h : Header) (block : PlaneBlock) (triples : List Triple) where
+  -- a transform block that begins past the frame takes no step
+  pub no_steps : (n : ℕ) (start : A) → transform_block h block.plane block.area n ≡ None → start ≡ fold step start (steps_at h block triples n)
+  unfolding steps_at
+  no_steps n start beyond = ap (λ (o : Option TransformBlock). fold step start (block_steps block triples n o)) (sym beyond)
+
+  -- the steps of its transform blocks are all steps of a leaf's block that is predicted from the samples round each
+  pub all_steps : (n : ℕ) (start after : A) → PredictionFits block.area block.prediction → n ≡ block_count block.area → after ≡ fold step start (joined n (steps_at h block triples)) → after ≡ fold step start (plane_steps h block triples)
+  all_steps n start after fits all walked =
+      let own = joined (block_count block.area) (steps_at h block triples) in
+      walked ∙ ap (λ (m : ℕ). fold step start (joined m (steps_at h block triples))) all
+      ∙ ap (λ (b : Bool). fold step start ((if b then predict block 0 (whole_area block) ∷ [] else []) ++ own)) (sym (from_edge block.area block.prediction fits).0)

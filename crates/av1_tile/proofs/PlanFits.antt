@@ -1,0 +1,239 @@
+-- The leaves of a valid plan fit planes that have room for whole superblocks.
+use Rattle.std.proofs.Common.{ℕ, zero, suc, ◌+◌, ◌-◌, ◌*◌, ◌/◌, ◌%◌, ◌^◌, ◌<◌, ◌≤◌, ◌≡◌, ◌⊎◌, max, true, false, not, ◌||◌, nat_lt, Bool, get_or, Option, Some, None, All, refl, ap, arith, ◌∙◌, sym, inl, inr}
+use Rattle.std.specs.Int.{next_multiple_of}
+use Rattle.std.specs.Prelude.{◌==◌}
+use Rattle.std.specs.Option.{is_some, unwrap_or}
+use Rattle.std.proofs.lemmas.Bool.{and_parts, eqb-true, ltb-true, true≢false}
+use Rattle.av1_blocks.specs.Blocks.{block_width, block_height}
+use Rattle.av1_blocks.specs.Transforms.{tx_number, tx_type_number, valid_av1_transform}
+use Rattle.av1_blocks.specs.declared.partition.BlockSize.{BlockSize}
+use Rattle.av1_blocks.specs.declared.transform.TxSize.{TxSize}
+use Rattle.av1_blocks.specs.declared.transform.TxSize.TheVariants.{TX_4X4}
+use Rattle.av1_blocks.specs.declared.transform.TxType.{TxType}
+use Rattle.av1_blocks.specs.declared.transform.TxType.TheVariants.{WHT_WHT, DCT_DCT}
+use Rattle.av1_frame.specs.declared.plane.PlaneConfig.{PlaneConfig}
+use Rattle.av1_intra.specs.declared.neighbours.IntraEdgeFilterParameters.{IntraEdgeFilterParameters}
+use Rattle.av1_order.specs.Plans.{IsWholeFrame, is_inter}
+use Rattle.av1_order.proofs.Plans.{halved_x, halved_y}
+use Rattle.av1_order.proofs.Sizes.{block_some}
+use Rattle.av1_plan.specs.ReadPlans.{IsReadFrame, IsReadLeaf, IsReadKind}
+use Rattle.av1_plan.specs.Answer.{plan_value}
+use Rattle.av1_plan.specs.CodingOrder.{IsOnGrid}
+use Rattle.av1_plan.specs.Geometry.{xdec, ydec, plane_width, plane_height, plane_area, carries_chroma, plane_tx_size, is_inside}
+use Rattle.av1_plan.specs.Plan.{LeafValue}
+use Rattle.av1_plan.specs.Validity.{first_fault, is_transform}
+use Rattle.av1_plan.proofs.BuiltPlans.{IsBuiltKind, built_kinds}
+use Rattle.av1_plan.proofs.ReadPlans.{read_frame, read_leaves}
+use Rattle.av1_plan.proofs.ValidLeaves.{IsValidLeaf, HasFittingTransforms, valid_leaves, fitting_transforms, fitting_triples}
+use Rattle.av1_plan.proofs.ValidModes.{valid_modes, HasValidModes}
+use Rattle.av1_plan.specs.declared.geometry.PlaneArea.{PlaneArea}
+use Rattle.av1_plan.specs.declared.header.Header.{Header}
+use Rattle.av1_plan.specs.declared.leaf.ChromaMode.TheVariants.{Plain, Cfl}
+use Rattle.av1_plan.specs.declared.leaf.LeafKind.{LeafKind}
+use Rattle.av1_plan.specs.declared.leaf.LeafKind.TheVariants.{Intra, Single, Compound}
+use Rattle.av1_plan.specs.declared.plan.Plan.{Plan}
+use Rattle.av1_tile.specs.declared.planes.Planes.{Planes}
+use Rattle.av1_tile.specs.Canvas.{Component, Y, U, V}
+use Rattle.av1_tile.specs.PlaneBlocks.{number, type_in, block_told, prediction_in, triples_in, is_from_luma}
+use Rattle.av1_tile.specs.Walk.{HasRoom, HasRoomIn, Begins, BlockFits, LeafFits, PredictionFits}
+use Rattle.av1_tile.proofs.UnitSteps.{covers, block_x, block_y, block_columns, block_rows, block_tx_size}
+use Rattle.av1_tile.proofs.ValidTriples.{triples_fit, triples_rise}
+
+-- ---- the frame
+
+pub whole_frame : (h : Header) → IsReadFrame h → IsWholeFrame h
+whole_frame h is = record { some = omega (arith, is.width.least); width = is.width.whole; height = is.height.whole }
+
+-- a side of a plane
+plane_side : (n s : ℕ) → s ≤ 1 → 8 ≤ n → n ≤ 2048 → (0 < n / 2 ^ s) × (n / 2 ^ s ≤ 65536)
+plane_side n zero h low high = (omega arith, omega arith)
+plane_side n (suc zero) h low high = (omega arith, omega arith)
+plane_side n (suc (suc s)) h low high = absurd (omega arith)
+
+low_ydec : (h : Header) (p : ℕ) → ydec h p ≤ 1
+low_ydec h p = omega (arith, halved_x h p, halved_y h p)
+
+pub across : (h : Header) (p : ℕ) → IsReadFrame h → (0 < plane_width h p) × (plane_width h p ≤ 65536)
+unfolding plane_width
+across h p is = plane_side h.width (xdec h p) (halved_x h p) is.width.least is.width.most
+
+pub down : (h : Header) (p : ℕ) → IsReadFrame h → (0 < plane_height h p) × (plane_height h p ≤ 65536)
+unfolding plane_height
+down h p is = plane_side h.height (ydec h p) (low_ydec h p) is.height.least is.height.most
+
+pub deep : (d : ℕ) → (d ≡ 8) ⊎ (d ≡ 10) ⊎ (d ≡ 12) → 8 ≤ d
+deep d (inl e) = omega arith
+deep d (inr (inl e)) = omega arith
+deep d (inr (inr e)) = omega arith
+
+-- ---- places
+
+-- A leaf that begins at cell b and has c cells ends in a superblock that begins in the frame, in a plane too.
+ends_within : (s w b c : ℕ) → s ≤ 1 → w % 8 ≡ 0 → 0 < c → b + c ≤ 16 * ((w / 4 + 15) / 16) → 4 * ((b - b % 2 ^ s) / 2 ^ s) + 4 * (max c (2 ^ s) / 2 ^ s) ≤ next_multiple_of (w / 2 ^ s) (64 / 2 ^ s)
+ends_within zero w b c h whole some e = omega (arith, whole, some, e)
+ends_within (suc zero) w b c h whole some e = omega (arith, whole, some, e)
+ends_within (suc (suc s)) w b c h whole some e = absurd (omega arith)
+
+ends_across : (h : Header) (p b c : ℕ) → IsReadFrame h → 0 < c → b + c ≤ 16 * ((h.width / 4 + 15) / 16) → 4 * ((b - b % 2 ^ xdec h p) / 2 ^ xdec h p) + 4 * (max c (2 ^ xdec h p) / 2 ^ xdec h p) ≤ next_multiple_of (plane_width h p) (64 / 2 ^ xdec h p)
+unfolding plane_width
+ends_across h p b c is some e = ends_within (xdec h p) h.width b c (halved_x h p) is.width.whole some e
+
+ends_down : (h : Header) (p b c : ℕ) → IsReadFrame h → 0 < c → b + c ≤ 16 * ((h.height / 4 + 15) / 16) → 4 * ((b - b % 2 ^ ydec h p) / 2 ^ ydec h p) + 4 * (max c (2 ^ ydec h p) / 2 ^ ydec h p) ≤ next_multiple_of (plane_height h p) (64 / 2 ^ ydec h p)
+unfolding plane_height
+ends_down h p b c is some e = ends_within (ydec h p) h.height b c (low_ydec h p) is.height.whole some e
+
+-- A leaf that begins in the frame does in a plane too.
+begins_within : (s w b : ℕ) → s ≤ 1 → w % 8 ≡ 0 → b < w / 4 → 4 * ((b - b % 2 ^ s) / 2 ^ s) < w / 2 ^ s
+begins_within zero w b h whole e = omega (arith, whole, e)
+begins_within (suc zero) w b h whole e = omega (arith, whole, e)
+begins_within (suc (suc s)) w b h whole e = absurd (omega arith)
+
+begins_across : (h : Header) (p b : ℕ) → IsReadFrame h → b < h.width / 4 → 4 * ((b - b % 2 ^ xdec h p) / 2 ^ xdec h p) < plane_width h p
+unfolding plane_width
+begins_across h p b is e = begins_within (xdec h p) h.width b (halved_x h p) is.width.whole e
+
+begins_down : (h : Header) (p b : ℕ) → IsReadFrame h → b < h.height / 4 → 4 * ((b - b % 2 ^ ydec h p) / 2 ^ ydec h p) < plane_height h p
+unfolding plane_height
+begins_down h p b is e = begins_within (ydec h p) h.height b (low_ydec h p) is.height.whole e
+
+-- a leaf begins in the frame, and ends in a superblock that does
+record StandsIn (h : Header) (leaf : LeafValue) : Type 0 where
+  column : leaf.x / 4 < h.width / 4
+  row : leaf.y / 4 < h.height / 4
+  end_x : leaf.x / 4 + block_width leaf.size / 4 ≤ 16 * ((h.width / 4 + 15) / 16)
+  end_y : leaf.y / 4 + block_height leaf.size / 4 ≤ 16 * ((h.height / 4 + 15) / 16)
+
+inside : (h : Header) (x y : ℕ) → is_inside h x y ≡ true → (x < h.width) × (y < h.height)
+unfolding is_inside
+inside h x y e = let (column, row) = and_parts (nat_lt x h.width) (nat_lt y h.height) e in (ltb-true x h.width column, ltb-true y h.height row)
+
+stands_in : (h : Header) (leaf : LeafValue) → IsReadFrame h → IsOnGrid h leaf → StandsIn h leaf
+stands_in h leaf frame grid =
+    let (column, row) = inside h leaf.x leaf.y grid.within in
+    record {
+      column = omega (arith, column, frame.width.whole);
+      row = omega (arith, row, frame.height.whole);
+      end_x = omega (arith, column, grid.end_x, frame.width.whole);
+      end_y = omega (arith, row, grid.end_y, frame.height.whole);
+    }
+
+-- ---- transforms
+
+-- both chroma planes have transforms of one size
+chroma_size : (h : Header) (size : BlockSize) (tx_size : TxSize) → plane_tx_size h size tx_size 2 ≡ plane_tx_size h size tx_size 1
+unfolding plane_tx_size xdec ydec
+chroma_size h size tx_size = refl
+
+chroma_type : (h : Header) (leaf : LeafValue) (o : Option TxType) → leaf.uv_type ≡ o → is_some o ≡ true → HasFittingTransforms h leaf → is_transform (plane_tx_size h leaf.size leaf.tx_size 1) (unwrap_or o DCT_DCT) ≡ true
+chroma_type h leaf None e some fit = absurd (true≢false (sym some))
+chroma_type h leaf (Some t) e some fit = fit.chroma t e
+
+-- the type of a leaf's transforms in each plane that it covers is one that their size has
+type_fits : (h : Header) (k : Component) (leaf : LeafValue) → IsReadLeaf h leaf → covers k (carries_chroma h leaf.x leaf.y leaf.size) ≡ true → HasFittingTransforms h leaf → is_transform (plane_tx_size h leaf.size leaf.tx_size (number k)) (type_in k leaf) ≡ true
+unfolding plane_tx_size
+type_fits h Y leaf read carried fit = fit.luma
+type_fits h U leaf read carried fit = chroma_type h leaf leaf.uv_type refl (read.uv_type ∙ carried) fit
+type_fits h V leaf read carried fit = ap (λ (t : TxSize). is_transform t (type_in V leaf)) (chroma_size h leaf.size leaf.tx_size) ∙ chroma_type h leaf leaf.uv_type refl (read.uv_type ∙ carried) fit
+
+smallest : (t : TxSize) → tx_number t ≡ 0 → t ≡ TX_4X4
+smallest TX_4X4 e = refl
+smallest _ e = absurd cc
+
+-- a type is valid at its size, and the lossless one is for 4x4 alone
+transform_valid : (t : TxSize) (type : TxType) → is_transform t type ≡ true → (valid_av1_transform t type ≡ true) × (type ≡ WHT_WHT → t ≡ TX_4X4)
+unfolding is_transform
+transform_valid t type e =
+    let (valid, small) = and_parts (valid_av1_transform t type) (not (tx_type_number type == tx_type_number WHT_WHT) || tx_number t == tx_number TX_4X4) e in
+    (valid, λ is. smallest t (eqb-true (tx_number t) 0 (rw is at small)))
+
+-- ---- modes
+
+-- a leaf that is predicted from the samples round it
+pub record IsFromEdge (kind : LeafKind) : Type 0 where
+  pub intra : is_inter kind ≡ false
+  pub plain : is_from_luma kind ≡ false
+
+mode_fits : (filter : Option IntraEdgeFilterParameters) (k : Component) (area : PlaneArea) (carried : Bool) (size : BlockSize) (kind : LeafKind) → IsReadKind carried kind → HasValidModes size kind → IsFromEdge kind → PredictionFits area (prediction_in filter k kind)
+mode_fits filter Y area carried size (Intra mode step chroma) read valid edge = record { intra = read.intra; plain = valid.plain; few_steps = valid.step_valid.small }
+mode_fits filter U area carried size (Intra mode step (Some (Plain uv_mode uv_step))) read valid edge = record { intra = read.chroma_read.intra; plain = read.chroma_read.plain; few_steps = valid.chroma_valid.small }
+mode_fits filter V area carried size (Intra mode step (Some (Plain uv_mode uv_step))) read valid edge = record { intra = read.chroma_read.intra; plain = read.chroma_read.plain; few_steps = valid.chroma_valid.small }
+mode_fits filter U area carried size (Intra mode step (Some (Cfl alpha_u alpha_v))) read valid edge = let plain = edge.plain in absurd cc
+mode_fits filter V area carried size (Intra mode step (Some (Cfl alpha_u alpha_v))) read valid edge = let plain = edge.plain in absurd cc
+mode_fits filter U area carried size (Intra mode step None) read valid edge = record { intra = refl; plain = refl; few_steps = omega arith }
+mode_fits filter V area carried size (Intra mode step None) read valid edge = record { intra = refl; plain = refl; few_steps = omega arith }
+mode_fits filter k area carried size (Single mode reference mv) read valid edge = let intra = edge.intra in absurd cc
+mode_fits filter k area carried size (Compound mode references mvs) read valid edge = let intra = edge.intra in absurd cc
+
+-- ---- leaves
+
+-- a leaf of a plan that was read and is valid
+pub record IsSoundLeaf (h : Header) (leaf : LeafValue) : Type 0 where
+  pub frame : IsReadFrame h
+  pub read : IsReadLeaf h leaf
+  pub valid : IsValidLeaf h leaf
+  pub edge : IsFromEdge leaf.kind
+
+pub begins : (h : Header) (k : Component) (leaf : LeafValue) → IsSoundLeaf h leaf → Begins h k leaf
+begins h k leaf is =
+    let stands = stands_in h leaf is.frame is.read.grid in
+    let frame = whole_frame h is.frame in
+    let n = number k in
+    let x = begins_across h n (leaf.x / 4) is.frame stands.column in
+    let y = begins_down h n (leaf.y / 4) is.frame stands.row in
+    record {
+      column = omega (arith, x, block_x h None k leaf frame is.read.grid is.valid);
+      row = omega (arith, y, block_y h None k leaf frame is.read.grid is.valid);
+    }
+
+block_fits : (h : Header) (k : Component) (cfg : PlaneConfig) (leaf : LeafValue) → covers k (carries_chroma h leaf.x leaf.y leaf.size) ≡ true → IsSoundLeaf h leaf → HasRoomIn h (number k) cfg
+    → (filter : Option IntraEdgeFilterParameters) → BlockFits cfg h (block_told h filter k leaf) (triples_in k leaf)
+block_fits h k cfg leaf covered is roomy filter =
+    let frame = whole_frame h is.frame in
+    let stands = stands_in h leaf is.frame is.read.grid in
+    let n = number k in
+    let (some_columns, some_rows) = block_some leaf.size in
+    let right = ends_across h n (leaf.x / 4) (block_width leaf.size / 4) is.frame some_columns stands.end_x in
+    let low = ends_down h n (leaf.y / 4) (block_height leaf.size / 4) is.frame some_rows stands.end_y in
+    let tx_size = block_tx_size h filter k leaf frame is.read.grid is.valid in
+    let (valid, lossless) = transform_valid (plane_tx_size h leaf.size leaf.tx_size n) (type_in k leaf) (type_fits h k leaf is.read covered (fitting_transforms h leaf is.valid)) in
+    record {
+      columns = omega (arith, roomy.columns, right, block_x h filter k leaf frame is.read.grid is.valid, block_columns h filter k leaf frame is.read.grid is.valid);
+      rows = omega (arith, roomy.rows, low, block_y h filter k leaf frame is.read.grid is.valid, block_rows h filter k leaf frame is.read.grid is.valid);
+      prediction = mode_fits filter k (plane_area h leaf.x leaf.y leaf.size leaf.tx_size n) (carries_chroma h leaf.x leaf.y leaf.size) leaf.size leaf.kind is.read.kind (valid_modes h leaf is.valid) is.edge;
+      transform = rw tx_size valid;
+      lossless = λ e. tx_size ∙ lossless e;
+      coefficients = triples_fit h filter leaf k (fitting_triples h leaf is.valid) covered;
+      rising = triples_rise h leaf k is.valid covered;
+    }
+
+pub leaf_fits : {T : Type 0} (h : Header) (planes : Planes T) (leaf : LeafValue) → IsSoundLeaf h leaf → HasRoom h planes → LeafFits h planes leaf
+leaf_fits h planes leaf is roomy = record {
+  begins_y = begins h Y leaf is;
+  begins_u = λ carried. begins h U leaf is;
+  begins_v = λ carried. begins h V leaf is;
+  luma = λ carried from_luma. absurd (true≢false (sym from_luma ∙ is.edge.plain));
+  y = block_fits h Y planes.y.plane_cfg leaf refl is roomy.y;
+  u = λ carried. block_fits h U planes.u.plane_cfg leaf carried is roomy.u;
+  v = λ carried. block_fits h V planes.v.plane_cfg leaf carried is roomy.v;
+}
+
+-- ---- plans
+
+-- the leaves of a valid plan, as long as no more is built
+from_edge : (kind : LeafKind) → IsBuiltKind kind → IsFromEdge kind
+from_edge (Intra mode step None) built = record { intra = refl; plain = refl }
+from_edge (Intra mode step (Some (Plain uv_mode uv_step))) built = record { intra = refl; plain = refl }
+from_edge (Intra mode step (Some (Cfl alpha_u alpha_v))) built = absurd built
+from_edge (Single mode reference mv) built = absurd built
+from_edge (Compound mode references mvs) built = absurd built
+
+pub sound_leaves : (plan : Plan) → first_fault (plan_value plan) ≡ None → All (IsSoundLeaf (plan_value plan).header) (plan_value plan).leaves
+sound_leaves plan valid k d within = record {
+  frame = read_frame plan;
+  read = read_leaves plan k d within;
+  valid = valid_leaves (plan_value plan) valid k d within;
+  edge = from_edge _ (built_kinds plan k d within);
+}
+
+pub plan_fits : {T : Type 0} (plan : Plan) (planes : Planes T) → first_fault (plan_value plan) ≡ None → HasRoom (plan_value plan).header planes → All (LeafFits (plan_value plan).header planes) (plan_value plan).leaves
+plan_fits plan planes valid roomy i d within = leaf_fits (plan_value plan).header planes (get_or (plan_value plan).leaves i d) (sound_leaves plan valid i d within) roomy

@@ -1,0 +1,99 @@
+-- Every step leaves samples within the depth.
+use Rattle.std.proofs.Common.{ℕ, ◌+◌, ◌^◌, ◌<◌, ◌≤◌, ◌≡◌, ◌&&◌, Bool, cond, min, List, ℤ, arith, Option, None}
+use Rattle.av1_blocks.specs.declared.predict.PredictionMode.{PredictionMode}
+use Rattle.av1_blocks.specs.declared.predict.PredictionMode.TheVariants.{UV_CFL_PRED}
+use Rattle.av1_blocks.specs.declared.predict.IntraParam.{IntraParam}
+use Rattle.av1_blocks.specs.declared.predict.IntraParam.TheVariants.{AngleDelta, Alpha}
+use Rattle.av1_edges.specs.Parts.{effective, step_of, needs_left, needs_above_right, needs_below_left, needs_corner, smooths_corner}
+use Rattle.av1_edges.specs.Sides.{above_at, base, corner_at, left_at, num_avail, where_needed}
+use Rattle.av1_frame.specs.declared.plane.Plane.{Plane}
+use Rattle.av1_frame.specs.Areas.{VisibleArea}
+use Rattle.av1_frame.specs.Planes.{sample_at, painted_plane}
+use Rattle.av1_frame.proofs.Planes.{painted_plane_whole}
+use Rattle.av1_intra.specs.declared.neighbours.IntraEdgeFilterParameters.{IntraEdgeFilterParameters}
+use Rattle.av1_plan.specs.declared.header.Header.{Header}
+use Rattle.av1_plan.specs.declared.leaf.Triple.{Triple}
+use Rattle.av1_plan.specs.declared.geometry.PlaneArea.{PlaneArea}
+use Rattle.av1_plan.specs.Geometry.{plane_width, plane_height}
+use Rattle.av1_plan.specs.Plan.{PlanValue}
+use Rattle.av1_tile.specs.declared.plane_block.PlaneBlock.{PlaneBlock}
+use Rattle.av1_tile.specs.declared.plane_block.Prediction.{Prediction}
+use Rattle.av1_tile.specs.declared.plane_block.Prediction.TheVariants as predictions
+use Rattle.av1_tile.specs.PlaneBlocks.{extent_of}
+use Rattle.av1_tile.specs.Reference.{by_mode, by_prediction, no_luma}
+use Rattle.av1_tile.specs.Steps.{predict, add}
+use Rattle.av1_tile.specs.Walk.{IsPlaneOf, Stores, PredictionFits, edge_by_place, answer_right, answer_low, placed_edge, fast_in}
+use Rattle.av1_frame.proofs.Within.{chosen_below, clip_within, painted_numbers_below, sample_below, some_numbers}
+use Rattle.av1_edges.proofs.Within.{above_within, base_within, corner_within, left_within, smoothed_within, some_available, available_inside}
+use Rattle.av1_lists.proofs.Lists.{by_index-all}
+use Rattle.av1_edges.specs.Within.{EdgeIsWithin}
+use Rattle.av1_intra.proofs.Within.{predicted_within}
+
+-- a painted plane is one of the same plane of the frame
+painted_place : {T : Type 0} (h : Header) (p : ℕ) (plane : Plane T) (a : VisibleArea) (f : ℕ → ℕ → T → T) → IsPlaneOf h p plane → IsPlaneOf h p (painted_plane plane a f)
+painted_place h p plane a f s = record { whole = painted_plane_whole plane a f s.whole; width = s.width; height = s.height; xdec = s.xdec; ydec = s.ydec }
+
+-- a rectangle that begins in the visible plane
+pub record BeginsIn (h : Header) (p : ℕ) (a : VisibleArea) : Type 0 where
+  pub some_columns : 0 < a.width
+  pub some_rows : 0 < a.height
+  pub column : a.x < plane_width h p
+  pub row : a.y < plane_height h p
+
+module _ {T : Type 0} (num : T → ℕ) (h : Header) (p : ℕ) (plane : Plane T) (stores : Stores num h p plane) (deep : 8 ≤ h.depth) (a : VisibleArea) (is : BeginsIn h p a) where
+  samples_within : (x y : ℕ) → x < plane_width h p → y < plane_height h p → sample_at num plane x y < 2 ^ h.depth
+  samples_within x y hx hy = sample_below num (2 ^ h.depth) plane x y (some_numbers h.depth) stores.within
+
+  edge_within : (filter right low : Bool) (mode : PredictionMode) (step : ℤ) → EdgeIsWithin h.depth (edge_by_place (extent_of h p) (sample_at num plane) filter a right low mode step)
+  edge_within filter right low mode step =
+      let s = sample_at num plane in
+      let w = plane_width h p in
+      let t = plane_height h p in
+      let run = min a.width a.height in
+      let goes_right = needs_above_right mode step && right in
+      let goes_low = needs_below_left mode step && low in
+      let n = num_avail w a.x a.width goes_right run in
+      let m = num_avail t a.y a.height goes_low run in
+      let above : (j : ℕ) → above_at s (base h.depth) a.x a.y n j < 2 ^ h.depth = λ j.
+      above_within s h.depth w t deep samples_within a.x a.y n j is.column is.row (some_available w a.x a.width run goes_right is.column is.some_columns) (available_inside w a.x a.width run goes_right is.column) in
+      let left : (i : ℕ) → left_at s (base h.depth) a.x a.y m i < 2 ^ h.depth = λ i.
+      left_within s h.depth w t deep samples_within a.x a.y m i is.column is.row (some_available t a.y a.height run goes_low is.row is.some_rows) (available_inside t a.y a.height run goes_low is.row) in
+      let corner : cond (needs_corner mode step) (corner_at s (base h.depth) a.x a.y) (base h.depth) < 2 ^ h.depth =
+      chosen_below (needs_corner mode step) _ _ _ (corner_within s h.depth w t deep samples_within a.x a.y is.column is.row) (omega (arith, base_within h.depth deep)) in
+      record {
+        above = by_index-all (λ k. k < 2 ^ h.depth) (a.width + where_needed (needs_above_right mode step) a.height) _ (λ j l. above j);
+        left = by_index-all (λ k. k < 2 ^ h.depth) (where_needed (needs_left mode a.x) a.height + where_needed (needs_below_left mode step) a.width) _ (λ i l. left i);
+        corner = chosen_below (smooths_corner filter mode step a.width a.height) _ _ _ (smoothed_within _ _ _ _ (left 0) corner (above 0)) corner;
+      }
+
+  -- what an intra mode predicts lies within the depth
+  pub mode_within : (block : PlaneBlock) (n : ℕ) (filter : Option IntraEdgeFilterParameters) (mode : PredictionMode) (param : IntraParam) (luma : ℕ → ℕ → ℤ) (r c : ℕ)
+      → by_mode (extent_of h p) filter mode param a (placed_edge h p block n a num plane) luma r c < 2 ^ h.depth
+  mode_within block n filter mode param luma r c =
+      predicted_within _ _ _ _ luma _ r c deep (edge_within h.edge_filter (answer_right h p block n a) (answer_low h p block n a) (effective mode a.x a.y) (step_of param))
+
+module _ {T : Type 0} (num : T → ℕ) (pixel : ℕ → T) (law : (v : ℕ) → num (pixel v) ≡ v) (back : (x : T) → pixel (num x) ≡ x) (plan : PlanValue) (p : ℕ) (luma : PlaneBlock → ℕ → ℕ → ℤ) (plane : Plane T) (stores : Stores num plan.header p plane) where
+  -- what a prediction that can be made gives does
+  prediction_within : 8 ≤ plan.header.depth → (block : PlaneBlock) (n : ℕ) (a : VisibleArea) → BeginsIn plan.header p a → (area : PlaneArea) (of : Prediction) → PredictionFits area of → (f : ℕ → ℕ → ℤ) (r c : ℕ)
+      → by_prediction plan p of a (placed_edge plan.header p block n a num plane) f r c < 2 ^ plan.header.depth
+  unfolding by_prediction
+  prediction_within deep block n a is area (predictions.Intra mode step filter) fits f r c = mode_within num plan.header p plane stores deep a is block n filter mode (AngleDelta step) no_luma r c
+  prediction_within deep block n a is area (predictions.FromLuma alpha) fits f r c = mode_within num plan.header p plane stores deep a is block n None UV_CFL_PRED (Alpha alpha) f r c
+  prediction_within deep block n a is area (predictions.Single mode reference mv) fits f r c = absurd fits
+  prediction_within deep block n a is area (predictions.Compound mode references mvs) fits f r c = absurd fits
+
+  -- a prediction leaves the plane so
+  pub predicted_stores : 8 ≤ plan.header.depth → (block : PlaneBlock) (n : ℕ) (a : VisibleArea) → BeginsIn plan.header p a → PredictionFits block.area block.prediction → Stores num plan.header p (fast_in num pixel plan p luma plane (predict block n a))
+  unfolding fast_in
+  predicted_stores deep block n a is fits = record {
+    place = painted_place plan.header p plane a _ stores.place;
+    within = painted_numbers_below num pixel law (2 ^ plan.header.depth) plane a _ stores.within (λ r c v hr hc l. prediction_within deep block n a is block.area block.prediction fits (luma block) r c);
+  }
+
+  -- and so does an addition
+  pub added_stores : (block : PlaneBlock) (triples : List Triple) (n : ℕ) (a : VisibleArea) → Stores num plan.header p (fast_in num pixel plan p luma plane (add block triples n a))
+  unfolding fast_in
+  added_stores block triples n a = record {
+    place = painted_place plan.header p plane a _ stores.place;
+    within = painted_numbers_below num pixel law (2 ^ plan.header.depth) plane a _ stores.within (λ r c v hr hc l. clip_within plan.header.depth _);
+  }

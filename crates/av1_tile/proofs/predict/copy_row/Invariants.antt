@@ -1,6 +1,0 @@
-use Rattle.std.proofs.Common.{◌≡◌, slice_index_or}
-use Rattle.av1_frame.specs.Samples.{paint_row}
-use Rattle.av1_tile.proofs.predict.copy_row.Given as goal
-
-abbrev pub invariant-loop-c : goal.invariant-loop-c
-invariant-loop-c g l = l.row ≡ paint_row l.c (λ c v. slice_index_or l.above c v) l.initial.row

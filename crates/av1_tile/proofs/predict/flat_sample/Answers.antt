@@ -1,7 +1,0 @@
-use Rattle.std.proofs.Common.{arith}
-use Rattle.av1_tile.proofs.Sides.{half_below}
-use Rattle.av1_tile.proofs.predict.flat_sample.Goals as goal
-
-pub from_u32-requires : goal.from_u32-requires
-from_u32-requires g c =
-    let r = c.base.ensures in omega (arith, half_below _ _ _ r.room r.some c.requires.high)

@@ -1,0 +1,122 @@
+-- The slow definition of a plan's samples: its steps in coding order, over a canvas that is empty at first.
+-- AV1 specification: decode block process (prediction processes, and the reconstruction process of a transform block).
+use Rattle.std.specs.Prelude.{ℕ, ◌-◌, ◌==◌, List, replicate, slice_set, if◌then◌else◌, ℤ, pos, ◌+ℤ◌, Option, Some, None, option_map, unsigned_abs}
+use Rattle.std.specs.List.{fold}
+use Rattle.av1_blocks.specs.declared.predict.PredictionMode.{PredictionMode}
+use Rattle.av1_blocks.specs.declared.predict.PredictionMode.TheVariants.{UV_CFL_PRED}
+use Rattle.av1_blocks.specs.declared.predict.IntraParam.{IntraParam}
+use Rattle.av1_blocks.specs.declared.predict.IntraParam.TheVariants.{AngleDelta, Alpha}
+use Rattle.av1_blocks.specs.declared.transform.TxSize.{TxSize}
+use Rattle.av1_blocks.specs.Transforms.{coded_area}
+use Rattle.av1_frame.specs.Areas.{VisibleArea}
+use Rattle.av1_frame.specs.Arithmetic.{clip}
+use Rattle.av1_edges.specs.Edges.{Edge}
+use Rattle.av1_edges.specs.Parts.{effective, step_of}
+use Rattle.av1_intra.specs.declared.luma.LumaLeaf.{LumaLeaf}
+use Rattle.av1_intra.specs.declared.neighbours.IntraEdgeFilterParameters.{IntraEdgeFilterParameters}
+use Rattle.av1_intra.specs.ChromaFromLuma.{leaf_difference}
+use Rattle.av1_intra.specs.Neighbours.{uses_smooth_filter}
+use Rattle.av1_intra.specs.Predicted.{predicted as intra_predicted, variant_at, angle_or_alpha}
+use Rattle.av1_itx.specs.Residue.{residue}
+use Rattle.av1_plan.specs.declared.header.Header.{Header}
+use Rattle.av1_plan.specs.declared.leaf.Triple.{Triple}
+use Rattle.av1_plan.specs.Geometry.{xdec, ydec, plane_width, plane_height}
+use Rattle.av1_plan.specs.Plan.{PlanValue}
+use Rattle.av1_references.specs.References.{single_motion, compound_motion}
+use Rattle.av1_tile.specs.declared.extent.PlaneExtent.{PlaneExtent}
+use Rattle.av1_tile.specs.declared.plane_block.LumaBlock.{LumaBlock}
+use Rattle.av1_tile.specs.declared.plane_block.PlaneBlock.{PlaneBlock}
+use Rattle.av1_tile.specs.declared.plane_block.Prediction.{Prediction}
+use Rattle.av1_tile.specs.declared.plane_block.Prediction.TheVariants as predictions
+use Rattle.av1_tile.specs.Canvas.{Component, Y, Written, Canvas, blank, drawn, with_written}
+use Rattle.av1_tile.specs.Edge.{edge, sample_of}
+use Rattle.av1_tile.specs.PlaneBlocks.{number, extent_of}
+use Rattle.av1_tile.specs.Steps.{Step, predict, add, PlaneStep, steps}
+
+-- ---- prediction
+
+-- The sample at row r and column c of the rectangle a that is predicted by an intra mode: `edge m step` is its edge for the mode m in effect,
+-- and `luma` how far luma is from its mean.
+abbrev pub by_mode : PlaneExtent → Option IntraEdgeFilterParameters → PredictionMode → IntraParam → VisibleArea → (edge : PredictionMode → ℤ → Edge) → (luma : ℕ → ℕ → ℤ) → (r c : ℕ) → ℕ
+by_mode extent filter mode param a edge luma r c =
+    let m = effective mode a.x a.y in
+    let p = angle_or_alpha m param in
+    intra_predicted (record {
+      p_angle = unsigned_abs p;
+      width = a.width;
+      height = a.height;
+      bit_depth = extent.depth;
+      smooth_filter = option_map uses_smooth_filter filter;
+      visible_columns = extent.width - a.x;
+      visible_rows = extent.height - a.y;
+    }) (variant_at a.x a.y) m p luma (edge m (step_of param)) r c
+
+-- luma has no luma to be predicted from
+abbrev pub no_luma : ℕ → ℕ → ℤ
+no_luma r c = pos 0
+
+-- The sample that is predicted there, in plane p of a plan.
+unfoldable pub by_prediction : PlanValue → (p : ℕ) → Prediction → VisibleArea → (edge : PredictionMode → ℤ → Edge) → (luma : ℕ → ℕ → ℤ) → (r c : ℕ) → ℕ
+by_prediction plan p (predictions.Intra mode step filter) a edge luma r c = by_mode (extent_of plan.header p) filter mode (AngleDelta step) a edge no_luma r c
+by_prediction plan p (predictions.FromLuma alpha) a edge luma r c = by_mode (extent_of plan.header p) None UV_CFL_PRED (Alpha alpha) a edge luma r c
+by_prediction plan p (predictions.Single mode reference mv) a edge luma r c = single_motion plan p reference mv a r c
+by_prediction plan p (predictions.Compound mode references mvs) a edge luma r c = compound_motion plan p references mvs a r c
+
+-- a leaf of a frame, as chroma from luma sees it
+abbrev pub luma_of : Header → LumaBlock → LumaLeaf
+luma_of h leaf = record {
+  x = leaf.x;
+  y = leaf.y;
+  bsize = leaf.size;
+  tx_size = leaf.tx_size;
+  visible_width = plane_width h 0;
+  visible_height = plane_height h 0;
+  xdec = xdec h 1;
+  ydec = ydec h 1;
+}
+
+-- how far the luma of a leaf's block is from its mean, for the planes of chroma: `luma x y` is the sample at column x of row y
+abbrev pub luma_for : Header → (luma : ℕ → ℕ → ℕ) → Component → PlaneBlock → (r c : ℕ) → ℤ
+luma_for h luma Y = λ block. no_luma
+luma_for h luma component = λ block. leaf_difference luma (luma_of h block.leaf)
+
+-- the sample at row r and column c of the rectangle a of a block, from the samples that have been written
+unfoldable pub predicted : PlanValue → Canvas → Component → PlaneBlock → VisibleArea → (r c : ℕ) → ℕ
+predicted plan canvas component block a r c =
+    let h = plan.header in
+    let p = number component in
+    by_prediction plan p block.prediction a (λ mode step. edge (extent_of h p) h.edge_filter (canvas component) mode step a) (luma_for h (λ x y. sample_of (canvas Y x y)) component block) r c
+
+-- ---- residue
+
+-- the list of coefficients with a triple's value at its place, if the triple is one of this block
+abbrev pub with_triple : ℕ → List ℤ → Triple → List ℤ
+with_triple n coefficients t = if t.block == n then slice_set coefficients t.place t.value else coefficients
+
+-- the coefficients of a transform block: those of its triples at their places, and 0 at all others
+unfoldable pub coefficients : TxSize → (n : ℕ) → List Triple → List ℤ
+coefficients size n triples = fold (with_triple n) (replicate (coded_area size) (pos 0)) triples
+
+-- what is added to the sample at row r and column c of transform block n
+unfoldable pub block_residue : (depth : ℕ) → PlaneBlock → List Triple → (n r c : ℕ) → ℤ
+block_residue depth block triples n r c = residue block.area.tx_size block.tx_type depth (coefficients block.area.tx_size n triples) r c
+
+-- what a sample is with z added: clipped to the depth
+abbrev pub added : (depth : ℕ) → ℕ → ℤ → ℕ
+added depth v z = clip depth (pos v +ℤ z)
+
+-- ---- the walk
+
+-- what a step writes in its plane: each sample of its rectangle is predicted, or has its residue added
+unfoldable pub slow_in : PlanValue → Canvas → Component → Step → Written
+slow_in plan canvas component (predict block n a) = drawn a (λ r c _. Some (predicted plan canvas component block a r c)) (canvas component)
+slow_in plan canvas component (add block triples n a) =
+    drawn a (λ r c o. option_map (λ v. added plan.header.depth v (block_residue plan.header.depth block triples n r c)) o) (canvas component)
+
+-- what a step of the plan writes
+unfoldable pub slow_step : PlanValue → Canvas → PlaneStep → Canvas
+slow_step plan canvas s = with_written s.component (slow_in plan canvas s.component s.step) canvas
+
+-- the canvas after every step of the plan
+unfoldable pub slow_walk : PlanValue → Canvas
+slow_walk plan = fold (slow_step plan) blank (steps plan.header plan.leaves)

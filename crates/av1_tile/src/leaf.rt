@@ -1,0 +1,132 @@
+//! A leaf, in each of the planes that it covers.
+
+ghost use Rattle.std.specs.Prelude.{◌≡◌, ℕ, ◌≤◌, ◌<◌, ◌*◌, length, true, []};
+ghost use Rattle.av1_blocks.specs.Depths.{IsDepth};
+ghost use Rattle.std.specs.List.{fold};
+ghost use Rattle.av1_frame.specs.Planes.{sample_at};
+ghost use Rattle.av1_intra.specs.ChromaFromLuma.{ac_at, chroma_block, leaf_difference};
+ghost use Rattle.av1_plan.specs.Answer.{plan_value};
+ghost use Rattle.av1_tile.specs.PlaneBlocks.{is_from_luma};
+ghost use Rattle.av1_tile.specs.Reference.{luma_of};
+ghost use Rattle.av1_tile.specs.Walk.{cell_at, edges_after, leaf_steps_by, fast_step, leaf_with, luma_block, HasCells, LeafFits, LumaFits, SameLayout, Stores, StoresAll};
+
+use crate::buffers::ResidueBuffers;
+use crate::cells::CodedCells;
+use crate::planes::Planes;
+use crate::walk::reconstruct_leaf_in;
+use av1_edges::IntraEdgeBuffer;
+use av1_frame::{Area, Pixel, Plane};
+use av1_intra::{LumaLeaf, leaf_luma_ac};
+use av1_plan::{ChromaMode, Header, Leaf, LeafKind, Plan, Triple};
+
+/// Whether a leaf's chroma is predicted from its luma.
+fn is_from_luma(kind: LeafKind) -> bool
+    ensures { result ≡ is_from_luma kind }
+{
+    matches!(
+        kind,
+        LeafKind::Intra {
+            chroma: Some(ChromaMode::Cfl { .. }),
+            ..
+        }
+    )
+}
+
+/// Puts into `luma`, row by row, how far the luma of a leaf is from its mean, for each sample of its chroma.
+fn prepare_luma<T: Pixel>(luma: &mut [i16], plane: &Plane<T>, header: &Header, leaf: &Leaf)
+    requires stores { Stores T.num header.now 0 plane.now }
+    requires fits { LumaFits header.now plane.now.plane_cfg (leaf_with leaf.now [] [] []) }
+    requires long { length luma.old ≡ 1024 }
+    ensures long { length luma.new ≡ 1024 }
+    ensures value { let l = luma_of header.now (luma_block (leaf_with leaf.now [] [] [])) in
+        (r c : ℕ) → r < (chroma_block l).height → c < (chroma_block l).width → ac_at (chroma_block l).width luma.new r c ≡ leaf_difference (sample_at T.num plane.now) l r c }
+{
+    let config = plane.config();
+    let stored = plane.region(Area::Rect {
+        x: 0,
+        y: 0,
+        width: config.stride - config.xorigin,
+        height: config.alloc_height - config.yorigin,
+    });
+    leaf_luma_ac(
+        luma,
+        &stored,
+        LumaLeaf {
+            x: usize::from(leaf.x),
+            y: usize::from(leaf.y),
+            bsize: leaf.size,
+            tx_size: leaf.tx_size,
+            visible_width: header.plane_width(0),
+            visible_height: header.plane_height(0),
+            xdec: header.xdec(1),
+            ydec: header.ydec(1),
+        },
+    );
+}
+
+/// A leaf: its block in Y, then those in U and V where it carries chroma. `luma` is room for how far luma is from its mean.
+pub fn reconstruct_leaf<T: Pixel>(
+    planes: &mut Planes<T>,
+    edges: &mut IntraEdgeBuffer<T>,
+    luma: &mut [i16],
+    residues: &mut ResidueBuffers<T>,
+    plan: &Plan,
+    cells: &CodedCells,
+    leaf: &Leaf,
+    y: &[Triple],
+    u: &[Triple],
+    v: &[Triple],
+)
+    requires stores { StoresAll T.num (plan_value plan.now).header planes.old }
+    requires depth { (plan_value plan.now).header.depth ≤ T.BITS }
+    requires depths { IsDepth (plan_value plan.now).header.depth }
+    requires cells { HasCells (plan_value plan.now).header cells.now }
+    requires fits { LeafFits (plan_value plan.now).header planes.old (leaf_with leaf.now y.now u.now v.now) }
+    requires luma_long { length luma.old ≡ 1024 }
+    ensures walked { let h = (plan_value plan.now).header in let l = leaf_with leaf.now y.now u.now v.now in
+        planes.new ≡ fold (fast_step T.num T.pixel (plan_value plan.now)) planes.old (leaf_steps_by h (cell_at cells.now) l) }
+    ensures counted { let h = (plan_value plan.now).header in let l = leaf_with leaf.now y.now u.now v.now in
+        edges.new.prepared ≡ fold edges_after edges.old.prepared (leaf_steps_by h (cell_at cells.now) l) }
+    ensures stores { StoresAll T.num (plan_value plan.now).header planes.new }
+    ensures layout { SameLayout planes.old planes.new }
+    ensures luma_long { length luma.new ≡ 1024 }
+{
+    reconstruct_leaf_in(
+        &mut planes.y,
+        edges,
+        luma,
+        residues,
+        plan,
+        cells,
+        leaf,
+        0,
+        y,
+    );
+    if leaf.carries_chroma(plan.header()) {
+        if is_from_luma(leaf.kind) {
+            prepare_luma(luma, &planes.y, plan.header(), leaf);
+        }
+        reconstruct_leaf_in(
+            &mut planes.u,
+            edges,
+            luma,
+            residues,
+            plan,
+            cells,
+            leaf,
+            1,
+            u,
+        );
+        reconstruct_leaf_in(
+            &mut planes.v,
+            edges,
+            luma,
+            residues,
+            plan,
+            cells,
+            leaf,
+            2,
+            v,
+        );
+    }
+}

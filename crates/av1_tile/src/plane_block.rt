@@ -1,0 +1,168 @@
+//! The block of a leaf in one plane.
+//!
+//! AV1 specification: residual syntax, which goes over the planes of a block.
+
+ghost use Rattle.std.specs.Prelude.{◌≡◌, ◌<◌, ◌^◌, pos, ℤ, Option};
+ghost use Rattle.av1_blocks.specs.declared.predict.PredictionMode.{PredictionMode};
+ghost use Rattle.av1_intra.specs.declared.neighbours.IntraEdgeFilterParameters.{IntraEdgeFilterParameters};
+ghost use Rattle.av1_plan.specs.declared.leaf.LeafKind.TheVariants.{Intra};
+ghost use Rattle.av1_tile.specs.Canvas.{U, V};
+ghost use Rattle.av1_tile.specs.PlaneBlocks.{component, prediction_in, type_in};
+ghost use Rattle.av1_tile.specs.Walk.{leaf_with};
+ghost use Rattle.std.specs.Prelude.{[]};
+
+use av1_blocks::{BlockSize, MotionVector, PredictionMode, RefType, TxSize, TxType};
+use av1_intra::IntraEdgeFilterParameters;
+use av1_plan::{ChromaMode, Header, Leaf, LeafKind, PlaneArea};
+
+/// How a leaf's samples in a plane are predicted.
+#[derive(Clone, Copy, Debug, PartialEq, Eq)]
+pub enum Prediction {
+    /// From the samples round each transform block, by an intra mode that turns `step` steps of 3 degrees; `filter` is what the edge
+    /// filter is told of the neighbours, where it is on.
+    Intra {
+        mode: PredictionMode,
+        step: i8,
+        filter: Option<IntraEdgeFilterParameters>,
+    },
+    /// From luma, at a weight in eighths.
+    FromLuma {
+        alpha: i8,
+    },
+    /// From one reference frame.
+    Single {
+        mode: PredictionMode,
+        reference: RefType,
+        mv: MotionVector,
+    },
+    /// From two reference frames.
+    Compound {
+        mode: PredictionMode,
+        references: [RefType; 2],
+        mvs: [MotionVector; 2],
+    },
+}
+
+/// A leaf in luma: its place in samples, its size and the size of its transforms.
+#[derive(Clone, Copy, Debug, PartialEq, Eq)]
+pub struct LumaBlock {
+    /// The first column.
+    pub x: usize,
+    /// The first row.
+    pub y: usize,
+    /// Its sides.
+    pub size: BlockSize,
+    /// The size of its luma transforms.
+    pub tx_size: TxSize,
+}
+
+/// A leaf's block in one plane: where it lies, and how it is predicted and transformed.
+#[derive(Clone, Copy, Debug, PartialEq, Eq)]
+pub struct PlaneBlock {
+    /// The plane: 0 for Y, 1 for U and 2 for V.
+    pub plane: usize,
+    /// The leaf in luma.
+    pub leaf: LumaBlock,
+    /// Its rectangle in the plane, and the size of its transforms there.
+    pub area: PlaneArea,
+    /// How its samples are predicted.
+    pub prediction: Prediction,
+    /// The type of its transforms.
+    pub tx_type: TxType,
+}
+
+/// How an intra leaf predicts plane `p` of chroma.
+fn chroma_prediction(
+    chroma: Option<ChromaMode>,
+    p: usize,
+    filter: Option<IntraEdgeFilterParameters>,
+) -> Prediction
+    requires { 0 < p }
+    ensures { (mode : PredictionMode) (step : ℤ) → result ≡ prediction_in filter (component p) (Intra mode step chroma) }
+{
+    match chroma {
+        Some(ChromaMode::Plain { mode, step }) => Prediction::Intra { mode, step, filter },
+        Some(ChromaMode::Cfl { alpha_u, alpha_v }) => Prediction::FromLuma {
+            alpha: if p == 1 { alpha_u } else { alpha_v },
+        },
+        None => Prediction::Intra {
+            mode: PredictionMode::DC_PRED,
+            step: 0,
+            filter,
+        },
+    }
+}
+
+/// How a leaf predicts plane `p`.
+fn prediction_of(kind: LeafKind, p: usize, filter: Option<IntraEdgeFilterParameters>) -> Prediction
+    ensures { result ≡ prediction_in filter (component p) kind }
+{
+    match kind {
+        LeafKind::Intra { mode, step, chroma } => {
+            if p == 0 {
+                Prediction::Intra { mode, step, filter }
+            } else {
+                chroma_prediction(chroma, p, filter)
+            }
+        }
+        LeafKind::Single {
+            mode,
+            reference,
+            mv,
+        } => Prediction::Single {
+            mode,
+            reference,
+            mv,
+        },
+        LeafKind::Compound {
+            mode,
+            references,
+            mvs,
+        } => Prediction::Compound {
+            mode,
+            references,
+            mvs,
+        },
+    }
+}
+
+/// The type of a leaf's transforms in plane `p`.
+fn type_of(leaf: &Leaf, p: usize) -> TxType
+    ensures { result ≡ type_in (component p) (leaf_with leaf.now [] [] []) }
+{
+    if p == 0 {
+        leaf.tx_type
+    } else {
+        leaf.uv_type.unwrap_or(TxType::DCT_DCT)
+    }
+}
+
+impl PlaneBlock {
+    ghost use Rattle.std.specs.Prelude.{◌≡◌, ◌<◌, []};
+    ghost use Rattle.av1_tile.specs.PlaneBlocks.{block_told, component};
+    ghost use Rattle.av1_tile.specs.Walk.{leaf_with};
+
+    /// The block of a leaf in plane `p`, where the edge filter is told `filter` of its neighbours.
+    pub fn of_leaf(
+        header: &Header,
+        leaf: &Leaf,
+        p: usize,
+        filter: Option<IntraEdgeFilterParameters>,
+    ) -> PlaneBlock
+        requires { p < 3 }
+        ensures { result ≡ block_told header.now filter (component p) (leaf_with leaf.now [] [] []) }
+    {
+        PlaneBlock {
+            plane: p,
+            leaf: LumaBlock {
+                x: usize::from(leaf.x),
+                y: usize::from(leaf.y),
+                size: leaf.size,
+                tx_size: leaf.tx_size,
+            },
+            area: leaf.plane_area(header, p),
+            prediction: prediction_of(leaf.kind, p, filter),
+            tx_type: type_of(leaf, p),
+        }
+    }
+}
