@@ -1,13 +1,13 @@
 -- The words after the program's name.
-use Rattle.std.specs.Prelude.{◌≡◌, ℕ, ◌<◌, ◌≤◌, ◌^◌, List, [], ◌∷◌, length, codes}
-use Rattle.std.specs.Str.Parse.{IsNumeral, digits_value}
+use Rattle.std.specs.Prelude.{ℕ, ◌<◌, List, [], ◌∷◌, codes}
+use Rattle.av1_recon.specs.Numbers.{IsNumber}
 
--- the words, each given by its bytes, are one number: 1 to 10 decimal digits, which write at most 4,294,967,295
+-- the words, each given by its bytes, are one number, and not 0
 abbrev pub IsCount : List (List ℕ) → ℕ → Type 0
 IsCount [] count = ⊥
-IsCount (word ∷ []) count = IsNumeral 10 word × (length word ≤ 10) × (count ≡ digits_value 10 word) × (count < 2 ^ 32)
+IsCount (word ∷ []) count = IsNumber word count × (0 < count)
 IsCount (word ∷ other ∷ words) count = ⊥
 
--- the line for words that are no number
+-- the line for words that are no such number
 abbrev pub usage : List ℕ
 usage = codes "usage: bench N < plan\n"

@@ -1,8 +1,8 @@
 //! All that the program does.
 ghost use Rattle.std.specs.Prelude.{◌≡◌, ℕ, map, string_bytes};
 ghost use Rattle.av1_recon.specs.Answers.{Says, status_of, line_of};
-ghost use Rattle.av1_recon.specs.Outcomes.{Answer};
-ghost use Rattle.av1_bench.specs.Benches.{Benches};
+ghost use Rattle.av1_recon.specs.Lines.{sum_lines};
+ghost use Rattle.av1_recon.specs.Outcomes.{Answer, Converts};
 ghost use Rattle.av1_bench.specs.Count.{IsCount, usage};
 
 use crate::bench::bench;
@@ -11,7 +11,7 @@ use av1_recon::{Sink, Source, report, say};
 use std::alloc::Global;
 
 /// Reads a plan from `source`, reconstructs it as often as the one word says, writes its four lines to `out`, and gives the
-/// exit status: that of `av1_recon::report` and its line on `err`, or 1 and a line of usage where the words are no number.
+/// exit status: that of `av1_recon::report` and its line on `err`, or 1 and a line of usage where the words are no number, or 0.
 pub fn run<R: Source, W: Sink, E: Sink>(
     alloc: Global,
     words: &[String],
@@ -22,7 +22,7 @@ pub fn run<R: Source, W: Sink, E: Sink>(
     ensures no_number { ((count : ℕ) → ¬ IsCount (map string_bytes words.now) count) →
         (result ≡ 1) × (source.new ≡ source.old) × (out.new ≡ out.old) × Says E.taken E.faults err.old err.new usage }
     ensures bench { (count : ℕ) → IsCount (map string_bytes words.now) count → (answer : Answer)
-        × Benches R.left R.faults W.taken W.faults source.old source.new out.old out.new count answer
+        × Converts sum_lines R.left R.faults W.taken W.faults source.old source.new out.old out.new answer
         × (result ≡ status_of answer) × Says E.taken E.faults err.old err.new (line_of answer) }
 {
     let Some(count) = count_of(words) else {

@@ -1,6 +1,9 @@
+pub mod Converting
 pub mod Outcomes
-pub mod Reconstructing
+pub mod Reading
 pub mod RowSums
 pub mod Rows
 pub mod SampleBytes
+pub mod SamplesByBytes
 pub mod Statuses
+pub mod Summing

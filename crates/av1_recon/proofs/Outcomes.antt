@@ -1,6 +1,6 @@
--- Bytes come to some outcome, and to one alone.
+-- Bytes have an outcome, and one alone.
 use Rattle.std.proofs.Common.{◌≡◌, inl, inr, ℕ, ◌<◌, ◌≤◌, ◌^◌, List, length, Option, Some, None, Result, Ok, Err, refl, sym, ap, subst, ◌∙◌, arith}
-use Rattle.std.specs.Prelude.{⊤, All, IsOk, IfSome}
+use Rattle.std.specs.Prelude.{All, IsOk}
 use Rattle.std.proofs.lemmas.Bool.{cases_lt}
 use Rattle.std.proofs.lemmas.List.{get_or_past}
 use Rattle.std.proofs.lemmas.List.Elements.{All-get_or}
@@ -13,11 +13,11 @@ use Rattle.av1_plan.specs.declared.error.Invalid.{Invalid}
 use Rattle.av1_plan.proofs.Fields.{AreBytes}
 use Rattle.av1_plan.proofs.Spelled.{all_again, all_found, all_refused}
 use Rattle.av1_streams.specs.Streams.{max_plan_bytes}
-use Rattle.av1_tile.specs.Walk.{planes_of}
+use Rattle.av1_tile.specs.Output.{planes_of}
 use Rattle.av1_recon.specs.declared.error.ReconError.{ReconError}
 use Rattle.av1_recon.specs.declared.error.ReconError.TheVariants.{ReadFault, TooLong, Malformed, NotBuilt, Invalid as InvalidLeaf, WriteFault, Memory}
 use Rattle.av1_recon.specs.Errors.{invalid_error}
-use Rattle.av1_recon.specs.Outcomes.{Outcome, Answer, ArePlan, HasOutcome, Tells}
+use Rattle.av1_recon.specs.Outcomes.{Outcome, Answer, ArePlan, HasOutcome, HasOutcomeBy, Tells, Answered}
 
 abbrev ok : {A E : Type 0} → A → Result A E
 ok x = Ok x
@@ -76,32 +76,32 @@ abbrev fault_error : Fault → ReconError
 fault_error (malformed at) = Malformed at
 fault_error (not_built at) = NotBuilt at
 
-abbrev judged_as : PlanValue → Option Invalid → Outcome
-judged_as value None = Ok (planes_of value)
-judged_as value (Some fault) = Err (invalid_error fault)
+abbrev judged_as : (PlanValue → List ℕ) → PlanValue → Option Invalid → Outcome
+judged_as output value None = Ok (output value)
+judged_as output value (Some fault) = Err (invalid_error fault)
 
-abbrev judged : Reading → Outcome
-judged long = Err TooLong
-judged (refused fault) = Err (fault_error fault)
-judged (read value) = judged_as value (first_fault value)
+abbrev judged : (PlanValue → List ℕ) → Reading → Outcome
+judged output long = Err TooLong
+judged output (refused fault) = Err (fault_error fault)
+judged output (read value) = judged_as output value (first_fault value)
 
 -- an outcome follows from a reading
-of_reading : (bytes : List ℕ) (outcome : Outcome) → HasOutcome bytes outcome → (r : Reading) × IsReading bytes r × (outcome ≡ judged r)
-of_reading bytes (Ok planes) (value, are, valid, e) = (read value, are, ap ok e ∙ sym (ap (judged_as value) valid))
-of_reading bytes (Err TooLong) c = (long, c, refl)
-of_reading bytes (Err (Malformed at)) c = (refused (malformed at), c, refl)
-of_reading bytes (Err (NotBuilt at)) c = (refused (not_built at), c, refl)
-of_reading bytes (Err (InvalidLeaf leaf kind)) (value, are, fault) = (read value, are, sym (ap (judged_as value) fault))
-of_reading bytes (Err ReadFault) c = absurd c
-of_reading bytes (Err WriteFault) c = absurd c
-of_reading bytes (Err Memory) c = absurd c
+of_reading : (output : PlanValue → List ℕ) (bytes : List ℕ) (outcome : Outcome) → HasOutcomeBy output bytes outcome → (r : Reading) × IsReading bytes r × (outcome ≡ judged output r)
+of_reading output bytes (Ok written) (value, are, valid, e) = (read value, are, ap ok e ∙ sym (ap (judged_as output value) valid))
+of_reading output bytes (Err TooLong) c = (long, c, refl)
+of_reading output bytes (Err (Malformed at)) c = (refused (malformed at), c, refl)
+of_reading output bytes (Err (NotBuilt at)) c = (refused (not_built at), c, refl)
+of_reading output bytes (Err (InvalidLeaf leaf kind)) (value, are, fault) = (read value, are, sym (ap (judged_as output value) fault))
+of_reading output bytes (Err ReadFault) c = absurd c
+of_reading output bytes (Err WriteFault) c = absurd c
+of_reading output bytes (Err Memory) c = absurd c
 
--- bytes come to one outcome
-pub comes_once : (bytes : List ℕ) (a b : Outcome) → HasOutcome bytes a → HasOutcome bytes b → b ≡ a
-comes_once bytes a b p q =
-    let (r, s, e) = of_reading bytes a p in
-    let (t, u, f) = of_reading bytes b q in
-    f ∙ ap judged (reading_is bytes t r u s) ∙ sym e
+-- bytes have one outcome
+pub one_outcome : (output : PlanValue → List ℕ) (bytes : List ℕ) (a b : Outcome) → HasOutcomeBy output bytes a → HasOutcomeBy output bytes b → b ≡ a
+one_outcome output bytes a b p q =
+    let (r, s, e) = of_reading output bytes a p in
+    let (t, u, f) = of_reading output bytes b q in
+    f ∙ ap (judged output) (reading_is bytes t r u s) ∙ sym e
 
 of_plan : (bytes : List ℕ) (value : PlanValue) → ArePlan bytes value → (fault : Option Invalid) → first_fault value ≡ fault → (outcome : Outcome) × HasOutcome bytes outcome
 of_plan bytes value are None e = (Ok (planes_of value), (value, are, e, refl))
@@ -118,33 +118,21 @@ byte_fits bytes fits i = elim (cases_lt i (length bytes)) [
   | inr past ↦ rw (get_or_past bytes i 0 past) (omega arith)
 ]
 
--- bytes come to some outcome
-pub comes_to_some : (bytes : List ℕ) → All (λ byte. byte < 2 ^ 8) bytes → (outcome : Outcome) × HasOutcome bytes outcome
-comes_to_some bytes fits = elim (cases_lt max_plan_bytes (length bytes)) [
+-- bytes have some outcome
+pub some_outcome : (bytes : List ℕ) → All (λ byte. byte < 2 ^ 8) bytes → (outcome : Outcome) × HasOutcome bytes outcome
+some_outcome bytes fits = elim (cases_lt max_plan_bytes (length bytes)) [
   | inl over ↦ (Err TooLong, over)
   | inr short ↦ of_result bytes (byte_fits bytes fits) short (read_all plan (start bytes)) refl
 ]
 
--- what an answer says of what the bytes come to
-abbrev pub Shows : List ℕ → Answer → Type 0
-Shows bytes (Ok done) = (planes : List ℕ) × HasOutcome bytes (Ok planes)
-Shows bytes (Err WriteFault) = (planes : List ℕ) × HasOutcome bytes (Ok planes)
-Shows bytes (Err ReadFault) = ⊤
-Shows bytes (Err Memory) = ⊤
-Shows bytes (Err e) = HasOutcome bytes (Err e)
-
--- and then they come to nothing else
-pub tells : (bytes : List ℕ) (answer : Answer) → Shows bytes answer → (outcome : Outcome) → HasOutcome bytes outcome → Tells answer outcome
-tells bytes (Ok done) (planes, p) outcome q = subst IsOk (sym (comes_once bytes (Ok planes) outcome p q)) refl
-tells bytes (Err WriteFault) (planes, p) outcome q = subst IsOk (sym (comes_once bytes (Ok planes) outcome p q)) refl
-tells bytes (Err ReadFault) p outcome q = tt
-tells bytes (Err Memory) p outcome q = tt
-tells bytes (Err TooLong) p outcome q = comes_once bytes (Err TooLong) outcome p q
-tells bytes (Err (Malformed at)) p outcome q = comes_once bytes (Err (Malformed at)) outcome p q
-tells bytes (Err (NotBuilt at)) p outcome q = comes_once bytes (Err (NotBuilt at)) outcome p q
-tells bytes (Err (InvalidLeaf leaf kind)) p outcome q = comes_once bytes (Err (InvalidLeaf leaf kind)) outcome p q
-
--- what holds of the bytes that were read holds of the bytes that the source told
-pub of_left : (left : Option (List ℕ)) (bytes : List ℕ) (P : List ℕ → Type 0) → IfSome left (λ told. bytes ≡ told) → P bytes → IfSome left P
-of_left None bytes P e p = tt
-of_left (Some told) bytes P e p = subst P e p
+-- the outcome of bytes is what they were answered with
+pub tells : (output : PlanValue → List ℕ) (bytes : List ℕ) (taken taken' : Option (List ℕ)) (answer : Answer) → Answered output bytes taken taken' answer
+    → (outcome : Outcome) → HasOutcomeBy output bytes outcome → Tells answer outcome
+tells output bytes taken taken' (Ok done) (written, p, appended) outcome q = subst IsOk (sym (one_outcome output bytes (Ok written) outcome p q)) refl
+tells output bytes taken taken' (Err WriteFault) (written, p, appended) outcome q = subst IsOk (sym (one_outcome output bytes (Ok written) outcome p q)) refl
+tells output bytes taken taken' (Err ReadFault) p outcome q = tt
+tells output bytes taken taken' (Err Memory) p outcome q = tt
+tells output bytes taken taken' (Err TooLong) p outcome q = one_outcome output bytes (Err TooLong) outcome p q
+tells output bytes taken taken' (Err (Malformed at)) p outcome q = one_outcome output bytes (Err (Malformed at)) outcome p q
+tells output bytes taken taken' (Err (NotBuilt at)) p outcome q = one_outcome output bytes (Err (NotBuilt at)) outcome p q
+tells output bytes taken taken' (Err (InvalidLeaf leaf kind)) p outcome q = one_outcome output bytes (Err (InvalidLeaf leaf kind)) outcome p q

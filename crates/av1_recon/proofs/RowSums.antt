@@ -6,10 +6,10 @@ use Rattle.std.proofs.lemmas.List.FromFn.{sum_by-map-range_with_len_more, length
 use Rattle.std.proofs.lemmas.List.Sums.{sum_by-append, sum_by-cons}
 use Rattle.av1_plan.specs.Geometry.{plane_width}
 use Rattle.av1_plan.specs.declared.header.Header.{Header}
-use Rattle.av1_edges.specs.Sides.{listed}
-use Rattle.av1_tile.specs.Parts.{frame_of, component}
+use Rattle.av1_lists.specs.Lists.{by_index}
+use Rattle.av1_tile.specs.PlaneBlocks.{extent_of, component}
 use Rattle.av1_tile.specs.State.{Picture, state_header, shown, state_row}
-use Rattle.av1_tile.specs.Walk.{by_rows}
+use Rattle.av1_tile.specs.Output.{by_rows}
 
 -- the sum of pieces one behind the other
 sum-flat_map : {A : Type 0} (f : A → List ℕ) (xs : List A) → sum (flat_map f xs) ≡ sum_by (λ x. sum (f x)) xs
@@ -18,15 +18,15 @@ sum-flat_map f (x ∷ xs) = sum_by-append (λ n. n) (f x) (flat_map f xs) ∙ ap
 
 -- the sum of the first rows of a plane
 abbrev pub rows_total : {T : Type 0} → (T → ℕ) → Picture T → ℕ → ℕ → ℕ
-rows_total num s p n = sum_by (λ y. sum (state_row num s p y)) (listed n (λ y. y))
+rows_total num s p n = sum_by (λ y. sum (state_row num s p y)) (by_index n (λ y. y))
 
 -- one row more
 pub rows_total-more : {T : Type 0} (num : T → ℕ) (s : Picture T) (p y : ℕ) → rows_total num s p (y + 1) ≡ rows_total num s p y + sum (state_row num s p y)
 rows_total-more num s p y = sum_by-map-range_with_len_more (λ r. sum (state_row num s p r)) (λ r. r) 0 y y (omega arith)
 
 -- all rows
-pub rows_total-all : {T : Type 0} (num : T → ℕ) (s : Picture T) (p n : ℕ) → n ≡ (frame_of (state_header s) p).height → rows_total num s p n ≡ sum (by_rows (frame_of (state_header s) p) (shown num s (component p)))
-rows_total-all num s p n e = ap (rows_total num s p) e ∙ sym (sum-flat_map (λ y. state_row num s p y) (listed (frame_of (state_header s) p).height (λ y. y)))
+pub rows_total-all : {T : Type 0} (num : T → ℕ) (s : Picture T) (p n : ℕ) → n ≡ (extent_of (state_header s) p).height → rows_total num s p n ≡ sum (by_rows (extent_of (state_header s) p) (shown num s (component p)))
+rows_total-all num s p n e = ap (rows_total num s p) e ∙ sym (sum-flat_map (λ y. state_row num s p y) (by_index (extent_of (state_header s) p).height (λ y. y)))
 
 -- a row that was lent is no longer than the frame is wide
 pub row_within : {T : Type 0} (num : T → ℕ) (s : Picture T) (p y : ℕ) (h : Header) (row : List T) → h ≡ state_header s → map num row ≡ state_row num s p y → length row ≤ h.width

@@ -11,9 +11,9 @@ use Rattle.av1_plan.specs.Geometry.{plane_height}
 use Rattle.av1_plan.specs.declared.header.Header.{Header}
 use Rattle.av1_streams.specs.Streams.{AppendsPrefix}
 use Rattle.av1_streams.proofs.Prefixes.{AppendsPrefix-first, AppendsPrefix-after}
-use Rattle.av1_tile.specs.Parts.{frame_of, component}
+use Rattle.av1_tile.specs.PlaneBlocks.{extent_of, component}
 use Rattle.av1_tile.specs.State.{Picture, state_header, shown, state_row}
-use Rattle.av1_tile.specs.Walk.{plane_bytes, sample_bytes}
+use Rattle.av1_tile.specs.Output.{plane_bytes, sample_bytes}
 
 -- ---- pieces of a row
 
@@ -86,20 +86,20 @@ Appends-row num s p y a b c before next =
     subst (Appends a c) (sym (rows_split num s p y 0 ∙ ap (λ l. rows_below num s p y ++ l) (append-nil (row_bytes num s p y)))) (Appends-trans a b c _ _ before next)
 
 -- how many rows the header that was lent has
-pub height_is : {T : Type 0} (s : Picture T) (p n : ℕ) (h : Header) → n ≡ plane_height h p → h ≡ state_header s → n ≡ (frame_of (state_header s) p).height
+pub height_is : {T : Type 0} (s : Picture T) (p n : ℕ) (h : Header) → n ≡ plane_height h p → h ≡ state_header s → n ≡ (extent_of (state_header s) p).height
 height_is s p n h rows same = rows ∙ ap (λ (k : Header). plane_height k p) same
 
 -- all rows are the plane
-pub rows_are_plane : {T : Type 0} (num : T → ℕ) (s : Picture T) (p n m : ℕ) → n ≡ m → m ≡ (frame_of (state_header s) p).height → rows_below num s p n ≡ plane_bytes (frame_of (state_header s) p) (shown num s (component p))
+pub rows_are_plane : {T : Type 0} (num : T → ℕ) (s : Picture T) (p n m : ℕ) → n ≡ m → m ≡ (extent_of (state_header s) p).height → rows_below num s p n ≡ plane_bytes (extent_of (state_header s) p) (shown num s (component p))
 rows_are_plane num s p n m same e =
-    let all = range_with_len 0 (frame_of (state_header s) p).height in
+    let all = range_with_len 0 (extent_of (state_header s) p).height in
     let line : ℕ → List ℕ = λ y. state_row num s p y in
     let bytes = sample_bytes (state_header s).depth in
     ap (rows_below num s p) same ∙ ap (rows_below num s p) e ∙ sym (ap (flat_map bytes) (flat_map-map line (λ y. y) all) ∙ flat_map-flat_map bytes line all)
 
 -- a prefix of the next row
-pub AppendsPrefix-row : {T : Type 0} (num : T → ℕ) (s : Picture T) (p y n : ℕ) (a b c : Option (List ℕ)) → n ≡ (frame_of (state_header s) p).height → y < n
-    → Appends a b (rows_below num s p y) → AppendsPrefix b c (row_bytes num s p y) → AppendsPrefix a c (plane_bytes (frame_of (state_header s) p) (shown num s (component p)))
+pub AppendsPrefix-row : {T : Type 0} (num : T → ℕ) (s : Picture T) (p y n : ℕ) (a b c : Option (List ℕ)) → n ≡ (extent_of (state_header s) p).height → y < n
+    → Appends a b (rows_below num s p y) → AppendsPrefix b c (row_bytes num s p y) → AppendsPrefix a c (plane_bytes (extent_of (state_header s) p) (shown num s (component p)))
 AppendsPrefix-row num s p y n a b c e within before next =
     let count : y + (1 + (n - y - 1)) ≡ n = omega arith in
     let whole = sym (rows_split num s p y (n - y - 1)) ∙ rows_are_plane num s p _ n count e in

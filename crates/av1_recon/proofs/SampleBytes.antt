@@ -3,7 +3,7 @@ use Rattle.std.proofs.Common.{◌≡◌, ◌≢◌, ℕ, List, [], ◌∷◌, �
 use Rattle.std.specs.List.{flat_map}
 use Rattle.std.proofs.lemmas.Grind.{common_steps}
 use Rattle.std.proofs.lemmas.List.Folds.{flat_map-map}
-use Rattle.av1_tile.specs.Walk.{sample_bytes}
+use Rattle.av1_tile.specs.Output.{sample_bytes}
 
 -- one byte a sample
 pub bytes_at_eight : {T : Type 0} (num : T → ℕ) (depth : ℕ) (samples : List T) → depth ≡ 8 → flat_map (λ s. sample_bytes 8 (num s)) samples ≡ flat_map (sample_bytes depth) (map num samples)

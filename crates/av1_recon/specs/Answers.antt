@@ -20,29 +20,29 @@ status_of (Err Memory) = 3
 status_of (Err ReadFault) = 4
 status_of (Err WriteFault) = 5
 
--- the words for a fault of a leaf
-abbrev pub kind_words : InvalidKind → List ℕ
-kind_words kinds.InvalidBlockSize = codes "block size"
-kind_words kinds.Transform = codes "transform"
-kind_words kinds.Mode = codes "mode"
-kind_words kinds.Vector = codes "vector"
-kind_words kinds.MissingReference = codes "missing reference"
-kind_words kinds.Coefficient = codes "coefficient"
+-- what a fault of a leaf is called
+abbrev pub kind_text : InvalidKind → List ℕ
+kind_text kinds.InvalidBlockSize = codes "block size"
+kind_text kinds.Transform = codes "transform"
+kind_text kinds.Mode = codes "mode"
+kind_text kinds.Vector = codes "vector"
+kind_text kinds.MissingReference = codes "missing reference"
+kind_text kinds.Coefficient = codes "coefficient"
 
--- the words for an error
-abbrev pub error_words : ReconError → List ℕ
-error_words ReadFault = codes "read fault"
-error_words TooLong = codes "too long"
-error_words (Malformed at) = codes "malformed at " ++ decimal at
-error_words (NotBuilt at) = codes "not built at " ++ decimal at
-error_words (Invalid leaf kind) = codes "invalid leaf " ++ decimal leaf ++ codes ": " ++ kind_words kind
-error_words WriteFault = codes "write fault"
-error_words Memory = codes "out of memory"
+-- the line for an error
+abbrev pub error_line : ReconError → List ℕ
+error_line ReadFault = codes "read fault\n"
+error_line TooLong = codes "too long\n"
+error_line (Malformed at) = codes "malformed at " ++ decimal at ++ codes "\n"
+error_line (NotBuilt at) = codes "not built at " ++ decimal at ++ codes "\n"
+error_line (Invalid leaf kind) = codes "invalid leaf " ++ decimal leaf ++ codes ": " ++ kind_text kind ++ codes "\n"
+error_line WriteFault = codes "write fault\n"
+error_line Memory = codes "out of memory\n"
 
 -- the line for an answer, none for Ok
 abbrev pub line_of : Answer → List ℕ
 line_of (Ok done) = []
-line_of (Err e) = error_words e ++ codes "\n"
+line_of (Err e) = error_line e
 
 -- the line for words that are no command
 abbrev pub usage : List ℕ

@@ -1,12 +1,12 @@
 //! The exit status and the line of each answer.
 ghost use Rattle.std.specs.Prelude.{◌≡◌, ◌≤◌, ◌++◌, length, codes, decimal};
-ghost use Rattle.av1_recon.specs.Answers.{status_of, line_of, error_words, kind_words, Says};
+ghost use Rattle.av1_recon.specs.Answers.{status_of, line_of, error_line, kind_text, Says};
 
 use crate::{InvalidKind, ReconError, Sink};
 use av1_streams::{Line, write_bytes};
 
-fn words_for(kind: InvalidKind) -> &'static [u8]
-    ensures words { result.now ≡ kind_words kind }
+fn kind_text(kind: InvalidKind) -> &'static [u8]
+    ensures text { result.now ≡ kind_text kind }
     ensures short { length result.now ≤ 20 }
 {
     match kind {
@@ -19,52 +19,53 @@ fn words_for(kind: InvalidKind) -> &'static [u8]
     }
 }
 
-// Some words and a number.
-fn numbered(words: &[u8], number: u32) -> Line
-    requires { length words.now ≤ 20 }
-    ensures words { result ≡ words.now ++ decimal number }
-    ensures short { length result ≤ 40 }
+// A line of a text and a number.
+fn numbered_line(text: &[u8], number: u32) -> Line
+    requires { length text.now ≤ 20 }
+    ensures { result ≡ text.now ++ decimal number ++ codes "\n" }
 {
     let mut line = Line::new();
-    line.push(words);
+    line.push(text);
     line.push_number(u64::from(number));
+    line.push(b"\n");
     line
 }
 
-// Some words.
-fn plain(words: &[u8]) -> Line
-    requires { length words.now ≤ 20 }
-    ensures words { result ≡ words.now }
-    ensures short { length result ≤ 20 }
+// A line of a text.
+fn plain_line(text: &[u8]) -> Line
+    requires { length text.now ≤ 20 }
+    ensures { result ≡ text.now ++ codes "\n" }
 {
     let mut line = Line::new();
-    line.push(words);
+    line.push(text);
+    line.push(b"\n");
     line
 }
 
-// The words for a leaf at fault.
-fn invalid(leaf: u32, kind: InvalidKind) -> Line
-    ensures words { result ≡ codes "invalid leaf " ++ decimal leaf ++ codes ": " ++ kind_words kind }
-    ensures short { length result ≤ 100 }
+// The line for a leaf at fault.
+fn invalid_line(leaf: u32, kind: InvalidKind) -> Line
+    ensures { result ≡ codes "invalid leaf " ++ decimal leaf ++ codes ": " ++ kind_text kind ++ codes "\n" }
 {
-    let mut line = numbered(b"invalid leaf ", leaf);
+    let mut line = Line::new();
+    line.push(b"invalid leaf ");
+    line.push_number(u64::from(leaf));
     line.push(b": ");
-    line.push(words_for(kind));
+    line.push(kind_text(kind));
+    line.push(b"\n");
     line
 }
 
-fn words(error: ReconError) -> Line
-    ensures words { result ≡ error_words error }
-    ensures short { length result ≤ 100 }
+fn error_line(error: ReconError) -> Line
+    ensures { result ≡ error_line error }
 {
     match error {
-        ReconError::ReadFault => plain(b"read fault"),
-        ReconError::TooLong => plain(b"too long"),
-        ReconError::Malformed { at } => numbered(b"malformed at ", at),
-        ReconError::NotBuilt { at } => numbered(b"not built at ", at),
-        ReconError::Invalid { leaf, kind } => invalid(leaf, kind),
-        ReconError::WriteFault => plain(b"write fault"),
-        ReconError::Memory => plain(b"out of memory"),
+        ReconError::ReadFault => plain_line(b"read fault"),
+        ReconError::TooLong => plain_line(b"too long"),
+        ReconError::Malformed { at } => numbered_line(b"malformed at ", at),
+        ReconError::NotBuilt { at } => numbered_line(b"not built at ", at),
+        ReconError::Invalid { leaf, kind } => invalid_line(leaf, kind),
+        ReconError::WriteFault => plain_line(b"write fault"),
+        ReconError::Memory => plain_line(b"out of memory"),
     }
 }
 
@@ -76,9 +77,7 @@ pub fn report<E: Sink>(answer: Result<(), ReconError>, err: &mut E) -> u8
     let Err(error) = answer else {
         return 0;
     };
-    let mut line = words(error);
-    line.push(b"\n");
-    say(line.as_bytes(), err);
+    say(error_line(error).as_bytes(), err);
     match error {
         ReconError::TooLong
         | ReconError::Malformed { .. }

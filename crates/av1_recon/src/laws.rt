@@ -1,8 +1,8 @@
-//! What bytes come to is one thing.
+//! Bytes have one outcome.
 ghost use Rattle.std.specs.Prelude.{◌≡◌, ℕ, ◌<◌, ◌^◌, List, All};
 ghost use Rattle.av1_recon.specs.Outcomes.{HasOutcome, Outcome};
 
-/// The laws of what bytes come to: every list of bytes comes to some outcome, and to one alone.
+/// The laws of outcomes: every list of bytes has one, and one alone.
 pub fn outcome_laws()
     ensures some { (bytes : List ℕ) → All (λ byte. byte < 2 ^ 8) bytes → (outcome : Outcome) × HasOutcome bytes outcome }
     ensures one { (bytes : List ℕ) (a b : Outcome) → HasOutcome bytes a → HasOutcome bytes b → a ≡ b }

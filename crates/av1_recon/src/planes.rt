@@ -4,9 +4,9 @@ ghost use Rattle.std.specs.List.{flat_map};
 ghost use Rattle.std.specs.Io.KnownBytes.{Appends};
 ghost use Rattle.av1_streams.specs.Faults.{HasCause};
 ghost use Rattle.av1_streams.specs.Streams.{AppendsPrefix};
-ghost use Rattle.av1_tile.specs.Parts.{frame_of, component};
+ghost use Rattle.av1_tile.specs.PlaneBlocks.{extent_of, component};
 ghost use Rattle.av1_tile.specs.State.{IsSound, state_header, shown};
-ghost use Rattle.av1_tile.specs.Walk.{visible, plane_bytes, sample_bytes};
+ghost use Rattle.av1_tile.specs.Output.{visible, plane_bytes, sample_bytes};
 
 use crate::samples::pack;
 use crate::{Sink, TileState, WriteFault};
@@ -22,7 +22,7 @@ const MOST_BYTES: usize = 2 * MOST_SAMPLES;
 /// Appends the visible planes to the sink: Y, U and V, each row by row, one byte a sample at depth 8, else two, the low one
 /// first. The first write that fails ends the call, and a prefix of the planes stands.
 pub fn write_planes<T: Pixel, W: Sink>(state: &TileState<T>, sink: &mut W) -> Result<(), WriteFault>
-    requires sound { IsSound state.now }
+    requires sound { IsSound T.num state.now }
     requires narrow { (state_header state.now).depth ≡ 8 → T.BITS ≤ 8 }
     ensures whole { OnOk result (Appends (W.taken sink.old) (W.taken sink.new) (visible (state_header state.now) (shown T.num state.now))) }
     ensures prefix { AppendsPrefix (W.taken sink.old) (W.taken sink.new) (visible (state_header state.now) (shown T.num state.now)) }
@@ -41,11 +41,11 @@ fn write_plane<T: Pixel, W: Sink>(
     buffer: &mut [u8; MOST_BYTES],
     sink: &mut W,
 ) -> Result<(), WriteFault>
-    requires sound { IsSound state.now }
+    requires sound { IsSound T.num state.now }
     requires narrow { (state_header state.now).depth ≡ 8 → T.BITS ≤ 8 }
     requires plane { p < 3 }
-    ensures whole { OnOk result (Appends (W.taken sink.old) (W.taken sink.new) (plane_bytes (frame_of (state_header state.now) p) (shown T.num state.now (component p)))) }
-    ensures prefix { AppendsPrefix (W.taken sink.old) (W.taken sink.new) (plane_bytes (frame_of (state_header state.now) p) (shown T.num state.now (component p))) }
+    ensures whole { OnOk result (Appends (W.taken sink.old) (W.taken sink.new) (plane_bytes (extent_of (state_header state.now) p) (shown T.num state.now (component p)))) }
+    ensures prefix { AppendsPrefix (W.taken sink.old) (W.taken sink.new) (plane_bytes (extent_of (state_header state.now) p) (shown T.num state.now (component p))) }
     ensures cause { HasCause (W.faults sink.old) (W.faults sink.new) result }
 {
     let header = state.header();

@@ -1,7 +1,7 @@
 //! Samples as bytes: one byte a sample, or two, the low one first.
 ghost use Rattle.std.specs.Prelude.{◌≡◌, ◌*◌, ◌≤◌, false, ◌==◌, length, map, take};
 ghost use Rattle.std.specs.List.{flat_map};
-ghost use Rattle.av1_tile.specs.Walk.{sample_bytes};
+ghost use Rattle.av1_tile.specs.Output.{sample_bytes};
 
 use av1_frame::Pixel;
 

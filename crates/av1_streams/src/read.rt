@@ -2,7 +2,7 @@
 ghost use Rattle.std.specs.Prelude.{◌≡◌, ◌+◌, ◌<◌, ◌≤◌, length, take, drop, IsErrOf, IfOk, IfSome, OnOk, OnErr, vec_len};
 ghost use Rattle.std.specs.Io.KnownBytes.{Consumes, Keeps, IsAtEnd};
 ghost use Rattle.av1_streams.specs.Faults.{HasCause, FaultCounted};
-ghost use Rattle.av1_streams.specs.Streams.{Takes, TakesAtMost, max_plan_bytes};
+ghost use Rattle.av1_streams.specs.Streams.{AreBytes, Takes, TakesAtMost, max_plan_bytes};
 ghost use Rattle.av1_streams.specs.declared.read.ReadError.TheVariants.{Memory};
 
 use crate::{Failed, Source};
@@ -37,7 +37,9 @@ impl From<AllocError> for ReadError {
 /// much as there is room for. The first that fails ends the call.
 pub fn read_plan_bytes<R: Source>(alloc: Global, source: &mut R) -> Result<Vec<u8>, ReadError>
     ensures bytes { IfOk result (λ bytes. IfSome (R.left source.old) (λ left. bytes.items ≡ left)) }
+    ensures consumed { IfOk result (λ bytes. Consumes (R.left source.old) (R.left source.new) bytes.items) }
     ensures end { OnOk result (IsAtEnd (R.left source.new)) }
+    ensures fits { IfOk result (λ bytes. AreBytes bytes.items) }
     ensures short { IfOk result (λ bytes. length bytes.items ≤ max_plan_bytes) }
 
     // It takes at most a byte past the longest plan, and `TooLong` comes where it took that byte.
@@ -84,6 +86,7 @@ fn make_room(bytes: &mut Vec<u8>, filled: usize) -> Result<(), AllocError>
 fn read_at<R: Source>(source: &mut R, bytes: &mut [u8], filled: usize) -> Result<usize, Failed>
     requires { filled < length bytes.old }
     ensures front { take filled bytes.new ≡ take filled bytes.old }
+    ensures bytes { AreBytes bytes.new }
     ensures fits { IfOk result (λ count. filled + count ≤ length bytes.new) }
     ensures ok { IfOk result (λ count. Consumes (R.left source.old) (R.left source.new) (take count (drop filled bytes.new))) }
     ensures end { IfOk result (λ count. count ≡ 0 → IsAtEnd (R.left source.new)) }

@@ -1,39 +1,20 @@
 //! Reads a plan from standard input and writes the planes that it says to standard output.
 //!
-//! All that the program does is `av1_recon::run`; here are its real source and sinks, the words of its command line and the
-//! flush of its output. The exit status is that of `run`, but 5 where the flush fails after status 0, and 6 where the words
-//! cannot be taken from the system.
+//! All that the program does is `av1_recon::run`; here are its real source and sinks. The words of its command line, the flush
+//! of its output and its exit status are `av1_recon::run_on_words`.
 #![tactic(auto)]
 
 #[cfg(test)]
 mod tests;
 
-use av1_recon::{ReadSource, WriteSink, run};
-use std::env;
-use std::io::Write;
+use av1_recon::{ReadSource, WriteSink, run, run_on_words};
 use std::process::ExitCode;
 
-// The status where the output could not be flushed, as where a write failed.
-const WRITE_FAULT: u8 = 5;
-
-// The status where the words could not be taken.
-const NO_WORDS: u8 = 6;
-
-// The words after the program's name, unless the system or the memory fails.
-fn words(rt: &HostRuntime) -> Option<Vec<String>> {
-    env::args(rt).ok()?.skip(1).collect(rt.alloc()).ok()
-}
-
 fn main(rt: HostRuntime) -> ExitCode {
-    let Some(words) = words(&rt) else {
-        return ExitCode::from(NO_WORDS);
-    };
-    let mut source = ReadSource::new(rt.stdin());
-    let mut out = WriteSink::new(rt.stdout());
-    let mut err = WriteSink::new(rt.stderr());
-    let status = run(rt.alloc(), &words, &mut source, &mut out, &mut err);
-    if rt.stdout().flush().is_err() && status == 0 {
-        return ExitCode::from(WRITE_FAULT);
-    }
-    ExitCode::from(status)
+    run_on_words(&rt, |words| {
+        let mut source = ReadSource::new(rt.stdin());
+        let mut out = WriteSink::new(rt.stdout());
+        let mut err = WriteSink::new(rt.stderr());
+        run(rt.alloc(), words, &mut source, &mut out, &mut err)
+    })
 }

@@ -1,5 +1,5 @@
 // Statuses and lines.
-use super::support::{HALVED_PLAN, PLAN, PLANES, TRIPLE, are_planes, attempt_run};
+use super::support::{HALVED_PLAN, MASK, PLAN, PLANES, TRIPLE, are_planes, attempt_run};
 use av1_recon::{MemSink, SliceSource, run};
 use std::test::Fail;
 
@@ -13,12 +13,22 @@ fn a_plan_gives_status_0_and_no_line(rt: HostRuntime) -> Result<(), Fail> {
 }
 
 #[test]
+fn planes_of_chroma_are_halved_in_420(rt: HostRuntime) -> Result<(), Fail> {
+    let (status, taken, _) = attempt_run(rt.alloc(), &[], &HALVED_PLAN, &[], PLANES)?;
+    assert_eq!(rt; status, 0);
+    assert_eq!(rt; taken.as_slice(), [128; 96].as_slice());
+    Ok(())
+}
+
+#[test]
 fn refused_bytes_give_status_2_and_their_line(rt: HostRuntime) -> Result<(), Fail> {
     let mut faulty = PLAN;
     faulty[TRIPLE + 1] = 16;
+    let mut masked = PLAN;
+    masked[MASK] = 1;
     let cases = [
         (&PLAN[..82], b"malformed at 81\n".as_slice()),
-        (HALVED_PLAN.as_slice(), b"not built at 9\n".as_slice()),
+        (masked.as_slice(), b"not built at 19\n".as_slice()),
         (
             faulty.as_slice(),
             b"invalid leaf 0: coefficient\n".as_slice(),

@@ -1,6 +1,6 @@
 // What bad input, failing reads and failing writes get.
 use super::support::{
-    CHROMA_TYPE, FIRST_SIZE, FLAT_PLAN, HALVED_PLAN, ONE_TRIPLE, PLAN, PLANES, SIZE, TRIPLE, TYPE,
+    CHROMA_TYPE, FIRST_SIZE, FLAT_PLAN, MASK, ONE_TRIPLE, PLAN, PLANES, SIZE, TRIPLE, TYPE,
     WIDE_PLAN, are_planes, attempt,
 };
 use av1_recon::{
@@ -14,11 +14,13 @@ fn bytes_that_are_no_plan_are_refused_at_their_first_field_at_fault(
 ) -> Result<(), Fail> {
     let mut longer = Vec::from_slice(rt.alloc(), &PLAN)?;
     longer.push(0)?;
+    let mut masked = PLAN;
+    masked[MASK] = 1;
     let cases = [
         (&PLAN[..82], ReconError::Malformed { at: 81 }),
         (longer.as_slice(), ReconError::Malformed { at: 83 }),
         (&PLAN[..0], ReconError::Malformed { at: 0 }),
-        (HALVED_PLAN.as_slice(), ReconError::NotBuilt { at: 9 }),
+        (masked.as_slice(), ReconError::NotBuilt { at: 19 }),
     ];
     for (bytes, error) in cases {
         let (answer, taken) = attempt(rt.alloc(), bytes, &[], PLANES)?;

@@ -35,8 +35,10 @@ pub const WIDE_PLAN: [u8; 41] = [
     0, 0, 0, 0, 1, 0, 0, 1, 0, 1, 0, 0, 100, 0, 0, 0, 0, 0, 0, 0, // the leaf
 ];
 
-/// Where the depth of a plan stands, and of a plan of one leaf the size and the types of its transforms and its first triple.
+/// Where the depth of a plan and its mask stand, and of a plan of one leaf the size and the types of its transforms and its first triple.
 pub const DEPTH: usize = 8;
+
+pub const MASK: usize = 19;
 
 pub const SIZE: usize = 25;
 

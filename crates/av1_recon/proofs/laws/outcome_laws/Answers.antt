@@ -1,8 +1,9 @@
-use Rattle.av1_recon.proofs.Outcomes.{comes_to_some, comes_once}
+use Rattle.av1_tile.specs.Output.{planes_of}
+use Rattle.av1_recon.proofs.Outcomes.{some_outcome, one_outcome}
 use Rattle.av1_recon.proofs.laws.outcome_laws.Goals as goal
 
 pub returns-clause-some : goal.returns-clause-some
-returns-clause-some c = comes_to_some
+returns-clause-some c = some_outcome
 
 pub returns-clause-one : goal.returns-clause-one
-returns-clause-one c = λ bytes a b p q. comes_once bytes b a q p
+returns-clause-one c = λ bytes a b p q. one_outcome planes_of bytes b a q p

@@ -1,5 +1,5 @@
 use Rattle.std.proofs.lemmas.Result.{on_ok_weaker}
-use Rattle.av1_tile.specs.Walk.{visible}
+use Rattle.av1_tile.specs.Output.{visible}
 use Rattle.av1_recon.proofs.Rows.{AppendsPrefix-one, AppendsPrefix-two, AppendsPrefix-three, Appends-three}
 use Rattle.av1_recon.proofs.planes.write_planes.Goals as goal
 

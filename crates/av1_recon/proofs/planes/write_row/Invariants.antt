@@ -1,7 +1,7 @@
 use Rattle.std.proofs.Common.{◌-◌, ◌≤◌, length, take, map}
 use Rattle.std.specs.List.{flat_map}
 use Rattle.std.specs.Io.KnownBytes.{Appends}
-use Rattle.av1_tile.specs.Walk.{sample_bytes}
+use Rattle.av1_tile.specs.Output.{sample_bytes}
 use Rattle.av1_recon.proofs.planes.write_row.Given as goal
 
 abbrev pub invariant-pieces : goal.invariant-pieces

@@ -1,6 +1,6 @@
 use Rattle.std.proofs.Common.{◌≡◌, ◌*◌, take}
 use Rattle.std.specs.List.{flat_map}
-use Rattle.av1_tile.specs.Walk.{sample_bytes}
+use Rattle.av1_tile.specs.Output.{sample_bytes}
 use Rattle.av1_recon.proofs.samples.pack_two.Given as goal
 
 abbrev pub invariant-loop-i : goal.invariant-loop-i

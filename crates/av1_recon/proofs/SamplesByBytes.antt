@@ -5,11 +5,11 @@ use Rattle.std.specs.List.{flat_map}
 use Rattle.std.proofs.lemmas.List.{length-append}
 use Rattle.std.proofs.lemmas.List.FromFn.{length-map-range_with_len}
 use Rattle.av1_plan.specs.declared.header.Header.{Header}
-use Rattle.av1_tile.specs.declared.frame.Frame.{Frame}
+use Rattle.av1_tile.specs.declared.extent.PlaneExtent.{PlaneExtent}
 use Rattle.av1_tile.specs.Canvas.{Component, Y, U, V}
-use Rattle.av1_edges.specs.Sides.{listed}
-use Rattle.av1_tile.specs.Parts.{number, frame_of}
-use Rattle.av1_tile.specs.Walk.{by_rows, plane_bytes, visible}
+use Rattle.av1_lists.specs.Lists.{by_index}
+use Rattle.av1_tile.specs.PlaneBlocks.{number, extent_of}
+use Rattle.av1_tile.specs.Output.{by_rows, plane_bytes, visible}
 
 abbrev bytes_by : Bool → ℕ → List ℕ
 bytes_by narrow v = if narrow then v ∷ [] else v % 256 ∷ v / 256 ∷ []
@@ -34,29 +34,29 @@ once false (x ∷ xs) (y ∷ ys) p q n e =
     let head : x ≡ y = two_bytes x y low high in
     (cc (head, same), rest)
 
-same_length : (w : ℕ) (f g : ℕ → ℕ → ℕ) (rows : List ℕ) → length (flat_map (λ y. listed w (λ x. f x y)) rows) ≡ length (flat_map (λ y. listed w (λ x. g x y)) rows)
+same_length : (w : ℕ) (f g : ℕ → ℕ → ℕ) (rows : List ℕ) → length (flat_map (λ y. by_index w (λ x. f x y)) rows) ≡ length (flat_map (λ y. by_index w (λ x. g x y)) rows)
 same_length w f g [] = refl
 same_length w f g (y ∷ rows) =
-    length-append (listed w (λ x. f x y)) (flat_map (λ r. listed w (λ x. f x r)) rows)
+    length-append (by_index w (λ x. f x y)) (flat_map (λ r. by_index w (λ x. f x r)) rows)
     ∙ cc (length-map-range_with_len (λ x. f x y) 0 w, length-map-range_with_len (λ x. g x y) 0 w, same_length w f g rows)
-    ∙ sym (length-append (listed w (λ x. g x y)) (flat_map (λ r. listed w (λ x. g x r)) rows))
+    ∙ sym (length-append (by_index w (λ x. g x y)) (flat_map (λ r. by_index w (λ x. g x r)) rows))
 
-plane_once : (frame : Frame) (f g : ℕ → ℕ → ℕ) (p q : List ℕ) → plane_bytes frame f ++ p ≡ plane_bytes frame g ++ q → (by_rows frame f ≡ by_rows frame g) × (p ≡ q)
-plane_once frame f g p q e = once (frame.depth == 8) (by_rows frame f) (by_rows frame g) p q (same_length frame.width f g (listed frame.height (λ y. y))) e
+plane_once : (extent : PlaneExtent) (f g : ℕ → ℕ → ℕ) (p q : List ℕ) → plane_bytes extent f ++ p ≡ plane_bytes extent g ++ q → (by_rows extent f ≡ by_rows extent g) × (p ≡ q)
+plane_once extent f g p q e = once (extent.depth == 8) (by_rows extent f) (by_rows extent g) p q (same_length extent.width f g (by_index extent.height (λ y. y))) e
 
 planes_once : (h : Header) (f g : Component → ℕ → ℕ → ℕ) → visible h f ≡ visible h g
-    → (by_rows (frame_of h 0) (f Y) ≡ by_rows (frame_of h 0) (g Y)) × (by_rows (frame_of h 1) (f U) ≡ by_rows (frame_of h 1) (g U)) × (by_rows (frame_of h 2) (f V) ≡ by_rows (frame_of h 2) (g V))
+    → (by_rows (extent_of h 0) (f Y) ≡ by_rows (extent_of h 0) (g Y)) × (by_rows (extent_of h 1) (f U) ≡ by_rows (extent_of h 1) (g U)) × (by_rows (extent_of h 2) (f V) ≡ by_rows (extent_of h 2) (g V))
 unfolding visible
 planes_once h f g e =
-    let bytes : (Component → ℕ → ℕ → ℕ) → ℕ → Component → List ℕ = λ s n k. plane_bytes (frame_of h n) (s k) in
-    let (y, rest) = plane_once (frame_of h 0) (f Y) (g Y) (bytes f 1 U ++ bytes f 2 V) (bytes g 1 U ++ bytes g 2 V)
+    let bytes : (Component → ℕ → ℕ → ℕ) → ℕ → Component → List ℕ = λ s n k. plane_bytes (extent_of h n) (s k) in
+    let (y, rest) = plane_once (extent_of h 0) (f Y) (g Y) (bytes f 1 U ++ bytes f 2 V) (bytes g 1 U ++ bytes g 2 V)
     (sym (append_assoc (bytes f 0 Y) (bytes f 1 U) (bytes f 2 V)) ∙ e ∙ append_assoc (bytes g 0 Y) (bytes g 1 U) (bytes g 2 V)) in
-    let (u, last) = plane_once (frame_of h 1) (f U) (g U) (bytes f 2 V) (bytes g 2 V) rest in
-    let (v, none) = plane_once (frame_of h 2) (f V) (g V) [] [] (append-nil (bytes f 2 V) ∙ last ∙ sym (append-nil (bytes g 2 V))) in
+    let (u, last) = plane_once (extent_of h 1) (f U) (g U) (bytes f 2 V) (bytes g 2 V) rest in
+    let (v, none) = plane_once (extent_of h 2) (f V) (g V) [] [] (append-nil (bytes f 2 V) ∙ last ∙ sym (append-nil (bytes g 2 V))) in
     (y, u, v)
 
 -- samples that are the same by their bytes are the same by their rows
-pub same_rows : (h : Header) (f g : Component → ℕ → ℕ → ℕ) → visible h f ≡ visible h g → (k : Component) → by_rows (frame_of h (number k)) (f k) ≡ by_rows (frame_of h (number k)) (g k)
+pub same_rows : (h : Header) (f g : Component → ℕ → ℕ → ℕ) → visible h f ≡ visible h g → (k : Component) → by_rows (extent_of h (number k)) (f k) ≡ by_rows (extent_of h (number k)) (g k)
 same_rows h f g e Y = (planes_once h f g e).0
 same_rows h f g e U = (planes_once h f g e).1
 same_rows h f g e V = (planes_once h f g e).2

@@ -1,3 +1,0 @@
-pub mod Benching
-pub mod SamplesByBytes
-pub mod Summing
