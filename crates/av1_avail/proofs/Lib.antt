@@ -6,6 +6,6 @@ mod Halved
 pub mod Superblocks
 pub mod TableOrder
 mod Quadtree
-mod BitOrder
+pub mod BitOrder
 mod Centre
 mod StripeTables

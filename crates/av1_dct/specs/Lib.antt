@@ -3,4 +3,3 @@ pub mod Operations
 pub mod Cosine
 pub mod InPlace
 pub mod Word
-pub mod Counts

@@ -3,7 +3,7 @@
 ghost use Rattle.std.specs.Prelude.{◌≡◌, ℕ, ◌*◌, ◌^◌, ◌<◌, ◌≤◌, length, take, drop};
 ghost use Rattle.std.specs.List.{All};
 ghost use Rattle.av1_dct.specs.Arithmetic.{FitsBits};
-ghost use Rattle.av1_dct.specs.Counts.{counted};
+ghost use Rattle.av1_lists.specs.Counts.{counted};
 ghost use Rattle.av1_dct.specs.Word.{column, lane_of_vector};
 ghost use Rattle.av1_dct.specs.Cosine.{cosine, IsLength};
 

@@ -4,3 +4,4 @@ pub mod Parted
 pub mod WholePlane
 pub mod Available
 pub mod Within
+pub mod ByBits

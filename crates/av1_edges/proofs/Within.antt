@@ -1,6 +1,5 @@
 -- Edges of samples within a depth lie within it.
-use Rattle.std.proofs.Common.{ℕ, zero, suc, ◌+◌, ◌-◌, ◌^◌, ◌<◌, ◌≤◌, ◌≡◌, Bool, true, false, ◌&&◌, cond, min, ltb, arith, subst, sym, inl, inr, lit<}
-use Rattle.std.specs.List.{All}
+use Rattle.std.proofs.Common.{ℕ, zero, suc, ◌+◌, ◌-◌, ◌^◌, ◌<◌, ◌≤◌, ◌≡◌, Bool, true, false, ◌&&◌, cond, min, ltb, arith, inl, inr, lit<}
 use Rattle.std.proofs.lemmas.Bool.Decides.{nat_tests}
 use Rattle.std.proofs.lemmas.Bool.{cases_lt}
 use Rattle.av1_lists.proofs.Lists.{by_index-all}

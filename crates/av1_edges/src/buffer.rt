@@ -1,7 +1,7 @@
 //! Where an edge is prepared.
 
 ghost use Rattle.std.specs.Prelude.{◌≡◌, IfOk, vec_len};
-ghost use Rattle.av1_edges.specs.Counts.{counted};
+ghost use Rattle.av1_lists.specs.Counts.{counted};
 
 use av1_blocks::OutOfMemory;
 use av1_frame::{Pixel, zero_samples};

@@ -1,12 +1,14 @@
 //! Where a transform stands, and which samples round it are coded before it.
 
-ghost use Rattle.std.specs.Prelude.{◌≡◌, ◌+◌, ◌<◌, ◌≤◌, ◌&&◌};
+ghost use Rattle.std.specs.Prelude.{◌≡◌, ◌+◌, ◌*◌, ◌<◌, ◌≤◌, ◌&&◌, true};
 ghost use Rattle.av1_blocks.specs.Transforms.{tx_width, tx_height};
 ghost use Rattle.av1_edges.specs.Sides.{num_avail, where_needed};
+ghost use Rattle.av1_avail.specs.Agreement.{IsNearSquare, IsWhole};
 ghost use Rattle.av1_avail.specs.Asked.{has_before};
+ghost use Rattle.av1_avail.specs.Cells.{transform_columns, transform_rows};
 ghost use Rattle.av1_edges.specs.Edges.{BeginsVisible, PositionFits, visible_columns, visible_rows, has_above_right, has_below_left, num_avail_above, num_avail_left};
 
-use av1_avail::{has_bottom_left, has_top_right};
+use av1_avail::{has_bl, has_bottom_left, has_top_right, has_tr};
 use av1_blocks::{BlockSize, TxSize, supersample_chroma_bsize};
 use av1_frame::{Pixel, PlaneRegion, TileBlockOffset};
 
@@ -77,6 +79,24 @@ fn num_avail(limit: usize, first: usize, count: usize, goes_on: bool, run: usize
 }
 
 impl TransformPosition {
+    /// The transform is its whole block, in a plane of these decimations that isn't halved, and no side of it is more than twice the
+    /// other: the bits of the block's place then say what is coded before it.
+    fn is_told_by_bits(self, xdec: usize, ydec: usize) -> bool
+        ensures near { result ≡ true → IsNearSquare self.partition_size }
+        ensures whole { result ≡ true → IsWhole self.partition_size self.tx_size (self.by * transform_rows self.tx_size) (self.bx * transform_columns self.tx_size) xdec ydec }
+    {
+        let width = self.tx_size.width();
+        let height = self.tx_size.height();
+        xdec == 0
+            && ydec == 0
+            && self.bx == 0
+            && self.by == 0
+            && width == self.partition_size.width()
+            && height == self.partition_size.height()
+            && width <= 2 * height
+            && height <= 2 * width
+    }
+
     /// The samples above right of the transform are available.
     fn has_above_right<T: Pixel>(self, dst: &PlaneRegion<'_, T>) -> bool
         requires begins { BeginsVisible dst.now }
@@ -86,11 +106,16 @@ impl TransformPosition {
         let cfg = dst.plane_cfg;
         let column = self.bx * self.tx_size.width_mi();
         let row = self.by * self.tx_size.height_mi();
+        let above = has_before(row, self.partition_bo.0.y, cfg.ydec);
+        let right = self.x + self.tx_size.width() < visible_columns(dst);
+        if above && right && self.is_told_by_bits(cfg.xdec, cfg.ydec) {
+            return has_tr(self.partition_bo, self.partition_size);
+        }
         has_top_right(
             supersample_chroma_bsize(self.partition_size, cfg.xdec, cfg.ydec),
             self.partition_bo,
-            has_before(row, self.partition_bo.0.y, cfg.ydec),
-            self.x + self.tx_size.width() < visible_columns(dst),
+            above,
+            right,
             self.tx_size,
             row,
             column,
@@ -108,11 +133,16 @@ impl TransformPosition {
         let cfg = dst.plane_cfg;
         let column = self.bx * self.tx_size.width_mi();
         let row = self.by * self.tx_size.height_mi();
+        let below = self.y + self.tx_size.height() < visible_rows(dst);
+        let left = has_before(column, self.partition_bo.0.x, cfg.xdec);
+        if below && left && self.is_told_by_bits(cfg.xdec, cfg.ydec) {
+            return has_bl(self.partition_bo, self.partition_size);
+        }
         has_bottom_left(
             supersample_chroma_bsize(self.partition_size, cfg.xdec, cfg.ydec),
             self.partition_bo,
-            self.y + self.tx_size.height() < visible_rows(dst),
-            has_before(column, self.partition_bo.0.x, cfg.xdec),
+            below,
+            left,
             self.tx_size,
             row,
             column,

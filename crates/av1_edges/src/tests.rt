@@ -3,7 +3,7 @@
 ghost use Rattle.std.specs.Prelude.{◌≡◌, ◌<◌, ◌≤◌, ◌^◌, IfOk, vec_len};
 ghost use Rattle.av1_frame.specs.Planes.{IsWhole};
 ghost use Rattle.av1_edges.specs.Edges.{BeginsVisible};
-ghost use Rattle.av1_edges.specs.Counts.{counted};
+ghost use Rattle.av1_lists.specs.Counts.{counted};
 
 use crate::position::{visible_columns, visible_rows};
 use crate::{IntraEdge, IntraEdgeBuffer, get_intra_edges};

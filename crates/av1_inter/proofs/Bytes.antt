@@ -13,6 +13,7 @@ use Rattle.av1_frame.proofs.Update.{get_or-update, length-update}
 use Rattle.av1_inter.specs.Reference.{IsReference, IsServed}
 use Rattle.av1_inter.proofs.Vectors.{padded_is_padded, visible_stays}
 use Rattle.std.proofs.lemmas.List.{map-id}
+use Rattle.std.proofs.lemmas.Option.{same_Some}
 
 -- samples of 8 bits
 abbrev AreBytes : List ℕ → Type 0
@@ -53,9 +54,6 @@ each_plane s side l y u v zero = smaller s.y side l y
 each_plane s side l y u v (suc zero) = smaller s.u side l u
 each_plane s side l y u v (suc (suc p)) = smaller s.v side l v
 
-some_same : {X : Type 0} (x y : X) → Some x ≡ Some y → x ≡ y
-some_same x y e = cc
-
 -- a frame whose slot 0 holds such planes is served from it
 pub served_is : (fi filled : FrameInvariants ℕ) (mode : FilterMode) (edges : Bool) (s : Slot ℕ) → fi ≡ new_frame 8 8 mode 8 edges (replicate 7 0)
     → filled ≡ record fi { slots = slice_set fi.slots 0 (Some s) } → IsReference (λ sample. sample) s.y 8 8 8
@@ -65,5 +63,5 @@ served_is fi filled mode edges s is set y u v p side l = subst (λ (f : FrameInv
   inter = search rules;
   some = search rules;
   slot = search rules;
-  plane = λ plane e. subst (λ (q : Plane ℕ). IsReference (λ sample. sample) q 8 side side) (some_same _ plane e) (each_plane s side l y u v p);
+  plane = λ plane e. subst (λ (q : Plane ℕ). IsReference (λ sample. sample) q 8 side side) (same_Some _ plane e) (each_plane s side l y u v p);
 })

@@ -67,7 +67,7 @@ fn put_samples<T: Pixel>(
     }
 }
 
-/// The same of a block of `N` columns, whose rows are copied by a move or two.
+/// The same of a block of `N` columns, whose rows are copied by a few moves.
 #[tactic(auto, using(av1_frame::proofs::Regions::region_painting))]
 fn put_samples_of<T: Pixel, const N: usize>(
     dst: &mut PlaneRegionMut<'_, T>,
@@ -107,6 +107,12 @@ fn put_copy<T: Pixel>(
         put_samples_of::<T, 8>(dst, corner, height);
     } else if width == 16 {
         put_samples_of::<T, 16>(dst, corner, height);
+    } else if width == 32 {
+        put_samples_of::<T, 32>(dst, corner, height);
+    } else if width == 64 {
+        put_samples_of::<T, 64>(dst, corner, height);
+    } else if width == 128 {
+        put_samples_of::<T, 128>(dst, corner, height);
     } else {
         put_samples(dst, corner, width, height);
     }

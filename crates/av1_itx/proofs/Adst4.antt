@@ -1,27 +1,14 @@
 -- The sine transform of 4 values.
-use Rattle.std.proofs.Common.{◌≡◌, ◌+◌, ◌*◌, ◌%◌, ◌^◌, ◌<◌, ℤ, pos, negsuc, ◌+ℤ◌, ◌-ℤ◌, ◌*ℤ◌, List, [], ◌∷◌, arith, ap, sym, ◌∙◌, w32, to_z, of_z, FitsSigned}
-use Rattle.std.specs.Int.{int_shr, int_wrap}
-use Rattle.std.specs.Int.Signed.{shr_z}
-use Rattle.av1_dct.proofs.Turns.{shifted}
-use Rattle.std.proofs.lemmas.Int.{ints, to_z-of_z, SFits-int_wrap, wrapping_add-bits, wrapping_add_onto, wrapping_mul_is, int_wrap-add_left, int_wrap-add_right, int_wrap-mul_right}
+use Rattle.std.proofs.Common.{◌≡◌, ℤ, pos, negsuc, ◌+ℤ◌, ◌-ℤ◌, ◌*ℤ◌, List, [], ◌∷◌, arith, ap, sym, ◌∙◌, w32}
+use Rattle.std.specs.Int.{int_shr}
+use Rattle.std.proofs.lemmas.Int.{ints, int_wrap-add_left, int_wrap-add_right, int_wrap-mul_right}
 use Rattle.av1_dct.specs.Arithmetic.{at, round12, wrap32}
 use Rattle.av1_itx.proofs.Fills.{four_same}
 use Rattle.av1_itx.specs.Adst.{adst4, adst4_with, weighted_with}
 
-pub product_is : (s w x : ℤ) → FitsSigned w32 s → FitsSigned w32 w → FitsSigned w32 x → to_z w32 ((of_z w32 s + of_z w32 w * of_z w32 x % 4294967296) % 4294967296) ≡ wrap32 (s +ℤ w *ℤ x)
-product_is s w x fs fw fx =
-    let p = of_z w32 w * of_z w32 x % 4294967296 in
-    let small : of_z w32 s < 2 ^ 32 = omega (arith, ints) in
-    wrapping_add-bits w32 (of_z w32 s) p small (omega arith)
-    ∙ ap (λ z. int_wrap w32 (z +ℤ to_z w32 p)) (to_z-of_z w32 s fs)
-    ∙ ap (λ z. int_wrap w32 (s +ℤ z)) (wrapping_mul_is w32 w x fw fx)
-    ∙ int_wrap-add_right w32 s (w *ℤ x)
-
-pub rounding_is : (s : ℤ) → FitsSigned w32 s → to_z w32 (of_z w32 (shr_z (to_z w32 ((of_z w32 s + 2048) % 4294967296)) 4096)) ≡ round12 s
-rounding_is s f =
-    let small : of_z w32 s < 2 ^ 32 = omega (arith, ints) in
-    let e : to_z w32 ((of_z w32 s + 2048) % 4294967296) ≡ wrap32 (s +ℤ pos 2048) = wrapping_add_onto w32 (of_z w32 s) (pos 2048) small (omega (arith, ints)) ∙ ap (λ z. int_wrap w32 (z +ℤ pos 2048)) (to_z-of_z w32 s f) in
-    ap (λ z. to_z w32 (of_z w32 (shr_z z 4096))) e ∙ to_z-of_z w32 _ (shifted _ (SFits-int_wrap w32 (s +ℤ pos 2048)))
+-- a product of what was read
+pub product_at : (s w x t y r : ℤ) → r ≡ wrap32 (s +ℤ w *ℤ x) → s ≡ t → x ≡ y → r ≡ wrap32 (t +ℤ w *ℤ y)
+product_at s w x t y r is es ex = is ∙ ap (λ n. wrap32 (n +ℤ w *ℤ x)) es ∙ ap (λ n. wrap32 (t +ℤ w *ℤ n)) ex
 
 -- a further product
 pub one_more : (s t z w x : ℤ) → s ≡ wrap32 t → z ≡ wrap32 (s +ℤ w *ℤ x) → z ≡ wrap32 (t +ℤ w *ℤ x)

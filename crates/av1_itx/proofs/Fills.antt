@@ -67,15 +67,6 @@ pair_fits b old v p q ep eq fit =
 pub four_same : (x y z w x' y' z' w' : ℤ) → x ≡ x' → y ≡ y' → z ≡ z' → w ≡ w' → x ∷ y ∷ z ∷ w ∷ [] ≡ x' ∷ y' ∷ z' ∷ w' ∷ []
 four_same x y z w x' y' z' w' hx hy hz hw = cc
 
--- four places written
-pub set4 : (o : List ℤ) (a b c d : ℤ) → length o ≡ 4 → set (set (set (set o 0 a) 1 b) 2 c) 3 d ≡ a ∷ b ∷ c ∷ d ∷ []
-set4 [] a b c d h = absurd (omega (arith, h))
-set4 (x ∷ []) a b c d h = absurd (omega (arith, h))
-set4 (x ∷ y ∷ []) a b c d h = absurd (omega (arith, h))
-set4 (x ∷ y ∷ z ∷ []) a b c d h = absurd (omega (arith, h))
-set4 (x ∷ y ∷ z ∷ w ∷ []) a b c d h = refl
-set4 (x ∷ y ∷ z ∷ w ∷ u ∷ us) a b c d h = absurd (omega (arith, h))
-
 -- a table of f 0, f 1, ..
 pub listed : {X : Type 0} (f : ℕ → X) (xs : List X) (n : ℕ) (d : X) → xs ≡ map f (range_with_len 0 n) → (p : ℕ) → p < n → get_or xs p d ≡ f p
 listed f xs n d e p h = ap (λ t. get_or t p d) e ∙ get_or-map-range_with_len f 0 n p p d h (omega arith)

@@ -3,7 +3,7 @@ use Rattle.std.proofs.Common.{ℕ, cond, ltb, ◌≡◌, ◌==◌, ◌+◌, ◌-
 use Rattle.std.proofs.lemmas.Bool.{cases_lt, cases_eq, cases_order}
 use Rattle.std.proofs.lemmas.Bool.Decides.{nat_tests}
 use Rattle.std.proofs.lemmas.List.{get_or-map}
-use Rattle.std.proofs.Math.Nat.{mul-le-mul_right}
+use Rattle.std.proofs.Math.Nat.{add-mul, mul-le-mul_right, mul_assoc, mul_comm}
 use Rattle.av1_frame.proofs.Fits.{row_end_le}
 use Rattle.av1_dct.specs.Arithmetic.{at}
 use Rattle.av1_dct.proofs.Groups.{put, put-low, put-mid}
@@ -23,25 +23,29 @@ same_place r q w c d hc hd e =
       | inr (inr b) ↦ absurd (let m = place_before q d w r b hd in omega arith)
     ]
 
--- one more row of w places
-pub rows_more : (w q n : ℕ) (f : ℕ → ℕ → ℤ) (buf out : List ℤ) → ((r c : ℕ) → r < q → c < w → at buf (r * w + c) ≡ f r c) → n ≡ w → length out ≡ w → q * w + w ≤ length buf → ((c : ℕ) → c < w → at out c ≡ f q c) → (r c : ℕ) → r < q + 1 → c < w → at (put (q * w) n buf out) (r * w + c) ≡ f r c
-rows_more w q n f buf out before is_n len room here = λ r c hr hc.
+-- m more rows of w places, from place a on
+pub rows_more : (w q m n a : ℕ) (f : ℕ → ℕ → ℤ) (buf out : List ℤ) → ((r c : ℕ) → r < q → c < w → at buf (r * w + c) ≡ f r c) → a ≡ q * w → n ≡ m * w → length out ≡ n → a + n ≤ length buf → ((j c : ℕ) → j < m → c < w → at out (j * w + c) ≡ f (q + j) c) → (r c : ℕ) → r < q + m → c < w → at (put a n buf out) (r * w + c) ≡ f r c
+rows_more w q m n a f buf out before is_a is_n len room here = λ r c hr hc.
     elim (cases_lt r q) [
-      | inl b ↦ put-low (q * w) n buf out (r * w + c) (place_before r c w q b hc) (omega arith) ∙ before r c b hc
-      | inr b ↦ (let e : r ≡ q = omega arith in let m : r * w ≡ q * w = ap (λ k. k * w) e in let d : r * w + c - q * w ≡ c = omega arith in put-mid (q * w) n buf out (r * w + c) (omega arith) (omega arith) (omega arith) ∙ ap (at out) d ∙ here c hc ∙ ap (λ k. f k c) (sym e))
+      | inl b ↦ (let below = place_before r c w q b hc in put-low a n buf out (r * w + c) (omega arith) (omega arith) ∙ before r c b hc)
+      | inr b ↦ (let e : q + (r - q) ≡ r = omega arith in
+          let split : q * w + (r - q) * w ≡ r * w = sym (add-mul q (r - q) w) ∙ ap (λ k. k * w) e in
+          let inside = place_in (r - q) c w m (omega arith) hc in
+          let d : r * w + c - a ≡ (r - q) * w + c = omega arith in
+          put-mid a n buf out (r * w + c) (omega arith) (omega arith) (omega arith) ∙ ap (at out) d ∙ here (r - q) c (omega arith) hc ∙ ap (λ k. f k c) e)
     ]
 
 -- one more place of column c
-pub column_step : (w c n k : ℕ) (old buf transformed : List ℤ) (v : ℤ) → c < w → k < n → length buf ≡ n * w → v ≡ at transformed k
-    → ((r q : ℕ) → r < n → q < w → at buf (r * w + q) ≡ cond (q == c) (cond (ltb r k) (at transformed r) (at old (r * w + q))) (at old (r * w + q)))
-    → (r q : ℕ) → r < n → q < w → at (set buf (k * w + c) v) (r * w + q) ≡ cond (q == c) (cond (ltb r (k + 1)) (at transformed r) (at old (r * w + q))) (at old (r * w + q))
-column_step w c n k old buf transformed v hc hk len is inv = λ r q hr hq.
+pub column_step : (w c n k : ℕ) (old buf : List ℤ) (t : ℕ → ℤ) (v : ℤ) → c < w → k < n → length buf ≡ n * w → v ≡ t k
+    → ((r q : ℕ) → r < n → q < w → at buf (r * w + q) ≡ cond (q == c) (cond (ltb r k) (t r) (at old (r * w + q))) (at old (r * w + q)))
+    → (r q : ℕ) → r < n → q < w → at (set buf (k * w + c) v) (r * w + q) ≡ cond (q == c) (cond (ltb r (k + 1)) (t r) (at old (r * w + q))) (at old (r * w + q))
+column_step w c n k old buf t v hc hk len is inv = λ r q hr hq.
     let i = inv r q hr hq in
     let inside = place_in k c w n hk hc in
     let same = same_place r k w q c hq hc in
     elim (cases_eq (r * w + q) (k * w + c)) [
-      | inl e ↦ (let s = same e in let t : at (set buf (k * w + c) v) (r * w + q) ≡ v = ap (at (set buf (k * w + c) v)) e ∙ get_or-set_same buf (k * w + c) v (pos 0) (omega arith) in grind (arith, nat_tests, s.0, s.1))
-      | inr e ↦ (let t : at (set buf (k * w + c) v) (r * w + q) ≡ at buf (r * w + q) = grind (arith, get_or-set_other) in grind (arith, nat_tests))
+      | inl e ↦ (let s = same e in let z : at (set buf (k * w + c) v) (r * w + q) ≡ v = ap (at (set buf (k * w + c) v)) e ∙ get_or-set_same buf (k * w + c) v (pos 0) (omega arith) in grind (arith, nat_tests, s.0, s.1))
+      | inr e ↦ (let z : at (set buf (k * w + c) v) (r * w + q) ≡ at buf (r * w + q) = grind (arith, get_or-set_other) in grind (arith, nat_tests))
     ]
 
 -- the rest of the rows, where it is zeros
@@ -57,11 +61,11 @@ rows_end w q n h f buf out before le len is_n out_len zero none = λ r c hr hc.
     ]
 
 -- one more column
-pub columns_more : (w c h : ℕ) (new old transformed : List ℤ) (F G : ℕ → ℕ → ℤ)
+pub columns_more : (w c h : ℕ) (new old : List ℤ) (t : ℕ → ℤ) (F G : ℕ → ℕ → ℤ)
     → ((r q : ℕ) → r < h → q < w → at old (r * w + q) ≡ cond (ltb q c) (F r q) (G r q))
-    → ((r q : ℕ) → r < h → q < w → at new (r * w + q) ≡ cond (q == c) (at transformed r) (at old (r * w + q)))
-    → ((r : ℕ) → r < h → at transformed r ≡ F r c) → (r q : ℕ) → r < h → q < w → at new (r * w + q) ≡ cond (ltb q (c + 1)) (F r q) (G r q)
-columns_more w c h new old transformed F G before now here = λ r q hr hq.
+    → ((r q : ℕ) → r < h → q < w → at new (r * w + q) ≡ cond (q == c) (t r) (at old (r * w + q)))
+    → ((r : ℕ) → r < h → t r ≡ F r c) → (r q : ℕ) → r < h → q < w → at new (r * w + q) ≡ cond (ltb q (c + 1)) (F r q) (G r q)
+columns_more w c h new old t F G before now here = λ r q hr hq.
     let a = before r q hr hq in
     let b = now r q hr hq in
     let d = here r hr in
@@ -75,10 +79,14 @@ columns_more w c h new old transformed F G before now here = λ r q hr hq.
 pub read_at : {X : Type 0} (f : X → ℤ) (xs : List X) (q : ℕ) (x : X) → q < length xs → x ≡ get_or xs q x → f x ≡ at (map f xs) q
 read_at f xs q x h e = ap f e ∙ sym (get_or-map f xs q x (pos 0) h)
 
--- column c of a buffer whose columns below c were written
-pub column_kept : (w c h : ℕ) (buf old : List ℤ) (F : ℕ → ℕ → ℤ) → ((r q : ℕ) → r < h → q < w → at buf (r * w + q) ≡ cond (ltb q c) (F r q) (at old (r * w + q))) → c < w → (r : ℕ) → r < h → at buf (r * w + c) ≡ at old (r * w + c)
-column_kept w c h buf old F inv hc r hr = let i = inv r c hr hc in grind (arith, nat_tests)
-
--- and of one whose columns were all written
+-- a buffer whose columns were all written
 pub column_written : (w c h : ℕ) (buf old : List ℤ) (F : ℕ → ℕ → ℤ) → ((r q : ℕ) → r < h → q < w → at buf (r * w + q) ≡ cond (ltb q c) (F r q) (at old (r * w + q))) → w ≤ c → (r q : ℕ) → r < h → q < w → at buf (r * w + q) ≡ F r q
 column_written w c h buf old F inv le r q hr hq = let i = inv r q hr hq in grind (arith, nat_tests)
+
+-- where group g of m rows of w places begins, and that it is one of h rows
+pub group_place : (m g w h : ℕ) → m * g + m ≤ h → (g * (m * w) ≡ m * g * w) × (g * (m * w) + m * w ≤ h * w)
+group_place m g w h le =
+    let e : g * (m * w) ≡ m * g * w = sym (mul_assoc g m w) ∙ ap (λ k. k * w) (mul_comm g m) in
+    let room = mul-le-mul_right w le in
+    let split = add-mul (m * g) m w in
+    (e, omega (arith, e, room, split))

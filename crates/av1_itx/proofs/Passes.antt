@@ -1,9 +1,8 @@
 -- The rows and the columns of a block.
-use Rattle.std.proofs.Common.{ℕ, Bool, true, false, cond, ltb, ◌≡◌, ◌≤◌, ◌<◌, ◌+◌, ◌*◌, ◌/◌, ◌^◌, ℤ, pos, ◌*ℤ◌, List, ◌++◌, take, length, All, arith, ap, sym, subst, ◌∙◌, refl, inl, inr}
+use Rattle.std.proofs.Common.{ℕ, Bool, true, false, cond, ltb, ◌≡◌, ◌≤◌, ◌<◌, ◌+◌, ◌*◌, ◌/◌, ◌^◌, ℤ, pos, ◌*ℤ◌, List, All, arith, ap, sym, subst, ◌∙◌, refl, inl, inr}
 use Rattle.std.specs.Int.{int_shr}
 use Rattle.std.proofs.lemmas.Bool.{cases_lt}
 use Rattle.std.proofs.lemmas.Bool.Decides.{nat_tests}
-use Rattle.std.proofs.lemmas.List.{take_at}
 use Rattle.std.proofs.lemmas.Nat.{pow_pos}
 use Rattle.std.proofs.Math.Nat.{div-eq_of_lt}
 use Rattle.av1_blocks.specs.declared.transform.TxSize.{TxSize}
@@ -13,11 +12,10 @@ use Rattle.av1_dct.specs.Arithmetic.{at, FitsBits, clamp_value}
 use Rattle.av1_lists.specs.Lists.{by_index}
 use Rattle.av1_dct.proofs.Zero.{IsZero, clamp-zero, cond-zero, by_index-zero}
 use Rattle.av1_frame.specs.Arithmetic.{round_shift}
-use Rattle.av1_itx.specs.declared.kinds.TxType1D.{TxType1D}
 use Rattle.av1_itx.specs.Kinds.{row_kind, column_kind}
 use Rattle.av1_itx.specs.Networks.{network}
 use Rattle.av1_itx.specs.Residue.{row_value, row_input, row_power, row_range, row_shift, is_two_to_one, is_lossless, transformed_row, column_input, column_network, column_power, column_range, column_shift, transformed_column, residue}
-use Rattle.av1_lists.proofs.Lists.{by_index-all, by_index-same, length-by_index}
+use Rattle.av1_lists.proofs.Lists.{by_index-all, by_index-same}
 use Rattle.av1_dct.proofs.Fits.{zero_fits, clamp_value-fits, all-fit}
 use Rattle.av1_itx.proofs.Lines.{place_in}
 use Rattle.av1_itx.proofs.Outputs.{network-fits}
@@ -55,12 +53,6 @@ pub row_past : (size : TxSize) (type : TxType) (depth : ℕ) (cs : List ℤ) (r 
 unfolding transformed_row
 row_past size type depth cs r c h = grind (arith, nat_tests)
 
--- a row of zeros
-pub row_zero : (size : TxSize) (type : TxType) (depth : ℕ) (cs line : List ℤ) (r c : ℕ) → r < coded (tx_height size) → line ≡ by_index (tx_width size) (row_input size type depth cs r) → IsZero line → pos 0 ≡ at (transformed_row size type depth cs r) c
-row_zero size type depth cs line r c h is z =
-    let n = network-zero (row_kind type) (row_range depth) (row_power size) line z in
-    sym (n.at c) ∙ ap (λ l. at (network (row_kind type) (row_range depth) (row_power size) l) c) is ∙ row_is size type depth cs r c h
-
 pub row-fits : (size : TxSize) (type : TxType) (depth : ℕ) (cs : List ℤ) (r c : ℕ) → depth ≤ 12 → FitsBits 24 (at (transformed_row size type depth cs r) c)
 row-fits size type depth cs r c h =
     let P : ℤ → Type 0 = λ z. FitsBits 24 z in
@@ -93,37 +85,6 @@ pub residue_is : (size : TxSize) (type : TxType) (depth : ℕ) (cs : List ℤ) (
 unfolding residue transformed_column
 residue_is size type depth cs f r c z is h =
     ap (λ v. round_shift v (column_shift type)) (is ∙ ap (λ l. at l r) (column_ext size type depth f _ h))
-
--- a column that was gathered and run
-pub column_made : (size : TxSize) (type : TxType) (depth w c h k shift range n : ℕ) (kind : TxType1D) (buf old rest rest2 line out : List ℤ)
-    → h ≡ tx_height size → k ≡ column_power size → shift ≡ row_shift size → range ≡ column_range depth → kind ≡ column_kind type → n ≡ h
-    → line ≡ by_index n (λ r. clamp_value (round_shift (at buf (r * w + c)) shift) range) → length out ≡ h
-    → out ≡ network kind range k (take h (line ++ rest)) → ((r : ℕ) → r < h → at buf (r * w + c) ≡ at old (r * w + c)) → (r : ℕ)
-    → at (take h (out ++ rest2)) r ≡ at (column_network size type depth (λ y. at old (y * w + c))) r
-column_made size type depth w c h k shift range n kind buf old rest rest2 line out eh ehp es er ek en is_line lo is_out same r =
-    let len : length line ≡ h = ap length is_line ∙ length-by_index n _ ∙ en in
-    let l1 : line ≡ by_index (tx_height size) (λ y. clamp_value (round_shift (at buf (y * w + c)) (row_shift size)) (column_range depth)) =
-    is_line
-    ∙ ap (λ m. by_index m (λ y. clamp_value (round_shift (at buf (y * w + c)) shift) range)) (en ∙ eh)
-    ∙ ap (λ s. by_index (tx_height size) (λ y. clamp_value (round_shift (at buf (y * w + c)) s) range)) es
-    ∙ ap (λ g. by_index (tx_height size) (λ y. clamp_value (round_shift (at buf (y * w + c)) (row_shift size)) g)) er in
-    let o : out ≡ network (column_kind type) (column_range depth) (column_power size) line =
-    is_out
-    ∙ ap (λ t. network t range k (take h (line ++ rest))) ek
-    ∙ ap (λ g. network (column_kind type) g k (take h (line ++ rest))) er
-    ∙ ap (λ p. network (column_kind type) (column_range depth) p (take h (line ++ rest))) ehp
-    ∙ ap (network (column_kind type) (column_range depth) (column_power size)) (take_at line rest h len) in
-    ap (λ l. at l r) (
-    take_at out rest2 h lo ∙ o
-    ∙ ap (network (column_kind type) (column_range depth) (column_power size)) l1
-    ∙ column_network-is size type depth (λ y. at buf (y * w + c))
-    ∙ column_ext size type depth _ _ (λ y l. same y (omega arith)))
-
-pub gathered-fit : (h n s range : ℕ) (f : ℕ → ℤ) (line rest : List ℤ) → n ≡ h → line ≡ by_index n (λ r. clamp_value (round_shift (f r) s) range) → All (FitsBits range) (take h (line ++ rest))
-gathered-fit h n s range f line rest en is =
-    let P : List ℤ → Type 0 = λ zs. All (FitsBits range) zs in
-    let len : length line ≡ h = ap length is ∙ length-by_index n _ ∙ en in
-    subst P (sym (take_at line rest h len ∙ is)) (column_inputs-fit n s range f)
 
 -- a coefficient by how its block is scaled
 pub row_value-is : (size : TxSize) (type : TxType) (depth : ℕ) (t l : Bool) (v z : ℤ) → t ≡ is_two_to_one size → l ≡ is_lossless type → z ≡ clamp_value (cond t (round_shift (pos 2896 *ℤ v) 12) (cond l (int_shr v 2) v)) (row_range depth) → z ≡ row_value size type depth v

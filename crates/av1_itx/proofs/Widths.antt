@@ -1,9 +1,20 @@
 -- Numbers of few bits, and lists of them.
-use Rattle.std.proofs.Common.{ℕ, zero, suc, ◌≡◌, ◌-◌, ◌<◌, ℤ, pos, List, [], ◌∷◌, take, reverse, length, All, arith, ap, sym, subst, ◌∙◌, inl, inr}
+use Rattle.std.proofs.Common.{ℕ, zero, suc, ◌≡◌, ◌-◌, ◌*◌, ◌^◌, ◌≤◌, ℤ, pos, List, [], ◌∷◌, take, reverse, length, arith, ap, sym, subst, ◌∙◌, inl, inr}
 use Rattle.std.proofs.lemmas.Bool.{cases_lt}
 use Rattle.std.proofs.lemmas.List.{take_all, get_or_past, get_or-reverse, length-reverse}
 use Rattle.av1_dct.specs.Arithmetic.{AllFit, FitsBits}
+use Rattle.av1_dct.specs.Cosine.{IsLength}
 use Rattle.av1_dct.proofs.Fits.{zero_fits}
+
+-- the lengths that there are cosine transforms of
+pub is_length : (k n : ℕ) → 1 ≤ k → k ≤ 5 → n ≡ 2 * 2 ^ k → IsLength n
+is_length zero n low high e = absurd (omega arith)
+is_length (suc zero) n low high e = inl e
+is_length (suc (suc zero)) n low high e = inr (inl e)
+is_length (suc (suc (suc zero))) n low high e = inr (inr (inl e))
+is_length (suc (suc (suc (suc zero)))) n low high e = inr (inr (inr (inl e)))
+is_length (suc (suc (suc (suc (suc zero))))) n low high e = inr (inr (inr (inr e)))
+is_length (suc (suc (suc (suc (suc (suc k)))))) n low high e = absurd (omega arith)
 
 -- a call on slices of just the transform's length
 pub whole_is : (n : ℕ) (f : List ℤ → List ℤ) (xs ys : List ℤ) → length xs ≡ n → length ys ≡ n → take n ys ≡ f (take n xs) → ys ≡ f xs

@@ -3,38 +3,43 @@
 ghost use Rattle.std.specs.Prelude.{◌≡◌, ℕ, ◌*◌, ◌^◌, ◌<◌, ◌≤◌, length, take, drop};
 ghost use Rattle.std.specs.List.{All};
 ghost use Rattle.av1_dct.specs.Arithmetic.{AllFit, FitsBits};
+ghost use Rattle.av1_dct.specs.Word.{column};
 ghost use Rattle.av1_itx.specs.Identity.{identity, scaled};
 
 use av1_blocks::SQRT2;
-use av1_dct::half_btf;
+use av1_dct::Word;
 
-// What a value of 2^(k+1) becomes.
-fn scaled_of(k: usize, z: i32) -> i32
+// What a value of 2^(k+1) becomes, in each lane.
+#[inline(always)]
+fn scaled_of<W: Word>(k: usize, z: W) -> W
     requires k_in { (1 ≤ k) × (k ≤ 4) }
-    requires fits { FitsBits 20 z }
-    ensures { result ≡ scaled k z }
+    requires fits { (i : ℕ) → i < W.LANES → FitsBits 20 (W.lane_of z i) }
+    ensures { (i : ℕ) → i < W.LANES → W.lane_of result i ≡ scaled k (W.lane_of z i) }
 {
     if k == 1 {
-        return half_btf(SQRT2, z, 0, 0, 12);
-    }
-    if k == 2 {
-        return 2 * z;
+        return W::turn(SQRT2, z, 0, z);
     }
     if k == 3 {
-        return half_btf(2 * SQRT2, z, 0, 0, 12);
+        return W::turn(2 * SQRT2, z, 0, z);
     }
-    4 * z
+    let double = z.plus(z);
+    if k == 2 {
+        return double;
+    }
+    double.plus(double)
 }
 
-pub(crate) fn identity_of(k: usize, input: &[i32], output: &mut [i32])
+#[inline(always)]
+pub(crate) fn identity_of<W: Word>(k: usize, input: &[W], output: &mut [W])
     requires k_in { (1 ≤ k) × (k ≤ 4) }
     requires input_len { length input.now ≡ 2 * 2 ^ k }
     requires output_len { length output.old ≡ 2 * 2 ^ k }
-    requires fit { AllFit 20 input.now }
-    ensures { output.new ≡ identity k input.now }
+    requires fit { (i : ℕ) → i < W.LANES → AllFit 20 (column W.lane_of i input.now) }
+    ensures { (i : ℕ) → i < W.LANES → column W.lane_of i output.new ≡ identity k (column W.lane_of i input.now) }
 {
-    for i in 0..output.len() {
-        output[i] = scaled_of(k, input[i]);
+    for p in 0..output.len() {
+        let z = input[p];
+        output[p] = scaled_of(k, z);
     }
 }
 

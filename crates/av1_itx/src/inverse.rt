@@ -6,7 +6,7 @@ ghost use Rattle.av1_blocks.specs.declared.transform.TxType.TheVariants.{WHT_WHT
 ghost use Rattle.av1_blocks.specs.Depths.{IsDepth};
 ghost use Rattle.av1_blocks.specs.Transforms.{tx_width, tx_height, coded_area, valid_av1_transform};
 ghost use Rattle.av1_dct.specs.Arithmetic.{at, FitsBits};
-ghost use Rattle.av1_dct.specs.Counts.{raised};
+ghost use Rattle.av1_lists.specs.Counts.{raised};
 ghost use Rattle.av1_frame.specs.Arithmetic.{clip, round_shift};
 ghost use Rattle.av1_frame.specs.Samples.{paint_row};
 ghost use Rattle.av1_frame.specs.Regions.{InStorage, painted};
@@ -16,7 +16,7 @@ ghost use Rattle.av1_itx.specs.Networks.{HasNetwork};
 ghost use Rattle.av1_itx.specs.Residue.{column_power, column_shift, residue, row_power};
 
 use crate::columns::column_pass;
-use crate::lane_columns::Lanes;
+use crate::lanes::Lanes;
 use crate::rows::row_pass;
 use av1_blocks::{OutOfMemory, TxSize, TxType};
 use av1_frame::{Pixel, PlaneRegionMut, clip, round_shift};
@@ -27,8 +27,6 @@ use std::alloc::Global;
 pub struct TxScratch {
     buffer: Vec<i32>,
     scaled: Vec<i32>,
-    line: [i32; 64],
-    transformed: [i32; 64],
     lanes: Lanes,
     ghost long: { (vec_len buffer ≡ 4096) × (vec_len scaled ≡ 1024) },
 }
@@ -44,8 +42,6 @@ impl TxScratch {
         Ok(TxScratch {
             buffer,
             scaled,
-            line: [0; 64],
-            transformed: [0; 64],
             lanes,
         })
     }
@@ -130,8 +126,6 @@ fn column_shift_of(tx_type: TxType) -> usize
 fn add_block<T: Pixel>(
     buffer: &mut [i32],
     scaled: &mut [i32],
-    line: &mut [i32],
-    transformed: &mut [i32],
     lanes: &mut Lanes,
     input: &[T::Coeff],
     output: &mut PlaneRegionMut<'_, T>,
@@ -145,8 +139,6 @@ fn add_block<T: Pixel>(
     requires columns_run { HasNetwork (column_kind tx_type) (column_power tx_size) }
     requires buffer_len { length buffer.old ≡ tx_height tx_size * tx_width tx_size }
     requires scaled_len { length scaled.old ≡ coded_area tx_size }
-    requires line_len { 64 ≤ length line.old }
-    requires transformed_len { 64 ≤ length transformed.old }
     requires input_len { coded_area tx_size ≤ length input.now }
     requires input_fits { (i : ℕ) → i < coded_area tx_size → FitsBits (bd + 8) (at (map T.Coeff.val input.now) i) }
     requires fits { InStorage output.old }
@@ -156,8 +148,8 @@ fn add_block<T: Pixel>(
     ensures fits { InStorage output.new }
     ensures counts { lanes.new.count.groups ≡ raised lanes.old.count.groups (lane_groups tx_size tx_type) }
 {
-    row_pass(input, scaled, line, buffer, tx_size, tx_type, bd);
-    column_pass(buffer, line, transformed, lanes, tx_size, tx_type, bd);
+    row_pass(input, scaled, lanes, buffer, tx_size, tx_type, bd);
+    column_pass(buffer, lanes, tx_size, tx_type, bd);
     let shift = column_shift_of(tx_type);
     add_rows(output, buffer, tx_size.width(), tx_size.height(), shift, bd);
 }
@@ -166,8 +158,6 @@ fn add_block<T: Pixel>(
 fn add_over<T: Pixel>(
     buffer: &mut [i32],
     scaled: &mut [i32],
-    line: &mut [i32],
-    transformed: &mut [i32],
     lanes: &mut Lanes,
     input: &[T::Coeff],
     output: &mut PlaneRegionMut<'_, T>,
@@ -181,8 +171,6 @@ fn add_over<T: Pixel>(
     requires columns_run { HasNetwork (column_kind tx_type) (column_power tx_size) }
     requires buffer_len { 4096 ≤ length buffer.old }
     requires scaled_len { 1024 ≤ length scaled.old }
-    requires line_len { 64 ≤ length line.old }
-    requires transformed_len { 64 ≤ length transformed.old }
     requires input_len { coded_area tx_size ≤ length input.now }
     requires input_fits { (i : ℕ) → i < coded_area tx_size → FitsBits (bd + 8) (at (map T.Coeff.val input.now) i) }
     requires fits { InStorage output.old }
@@ -197,8 +185,6 @@ fn add_over<T: Pixel>(
     add_block(
         &mut buffer[..places],
         &mut scaled[..coefficients],
-        line,
-        transformed,
         lanes,
         input,
         output,
@@ -237,8 +223,6 @@ pub fn inverse_transform_add_with<T: Pixel>(
     add_over(
         scratch.buffer.as_mut_slice(),
         scratch.scaled.as_mut_slice(),
-        &mut scratch.line,
-        &mut scratch.transformed,
         &mut scratch.lanes,
         input,
         output,

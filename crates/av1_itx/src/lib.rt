@@ -27,6 +27,8 @@ mod identity;
 mod inverse;
 mod kinds;
 mod lane_columns;
+mod lane_rows;
+mod lanes;
 mod laws;
 mod networks;
 mod rows;

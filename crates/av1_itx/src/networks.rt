@@ -1,48 +1,56 @@
 //! The one-dimensional inverse transforms, by their kind.
 
-ghost use Rattle.std.specs.Prelude.{◌≡◌, ℕ, ◌*◌, ◌^◌, ◌<◌, ◌≤◌, length, reverse};
+ghost use Rattle.std.specs.Prelude.{◌≡◌, ℕ, ◌*◌, ◌^◌, ◌<◌, ◌≤◌, length};
 ghost use Rattle.std.specs.List.{All};
-ghost use Rattle.av1_dct.specs.Arithmetic.{AllFit, FitsBits};
+ghost use Rattle.av1_dct.specs.Arithmetic.{FitsBits};
 ghost use Rattle.av1_dct.specs.Cosine.{cosine};
+ghost use Rattle.av1_dct.specs.Word.{column};
 ghost use Rattle.av1_itx.specs.Networks.{network, HasNetwork};
 
 use crate::adst::adst_of;
 use crate::identity::identity_of;
 use crate::kinds::TxType1D;
 use crate::walsh::walsh_of;
-use av1_dct::{av1_idct4, av1_idct8, av1_idct16, av1_idct32, av1_idct64};
+use av1_dct::{Word, cosine_words};
 
-fn cosine_of(k: usize, input: &[i32], output: &mut [i32], range: usize)
+// The inverse cosine transform of all words.
+#[inline(always)]
+fn cosine_of<W: Word>(k: usize, input: &[W], work: &mut [W], output: &mut [W], range: usize)
     requires range_in { (8 ≤ range) × (range ≤ 20) }
     requires k_in { (1 ≤ k) × (k ≤ 5) }
     requires input_len { length input.now ≡ 2 * 2 ^ k }
+    requires work_len { 256 ≤ length work.old }
     requires output_len { length output.old ≡ 2 * 2 ^ k }
-    requires fit { All (FitsBits range) input.now }
-    ensures { output.new ≡ cosine range k input.now }
+    requires fit { (i : ℕ) → i < W.LANES → All (FitsBits range) (column W.lane_of i input.now) }
+    ensures { (i : ℕ) → i < W.LANES → column W.lane_of i output.new ≡ cosine range k (column W.lane_of i input.now) }
 {
-    match k {
-        1 => av1_idct4(input, output, range),
-        2 => av1_idct8(input, output, range),
-        3 => av1_idct16(input, output, range),
-        4 => av1_idct32(input, output, range),
-        _ => av1_idct64(input, output, range),
-    }
+    let n = output.len();
+    cosine_words(n, input, work, output, range);
 }
 
-/// The inverse transform of a kind, of 2^(k+1) values.
-pub(crate) fn inverse_1d(kind: TxType1D, k: usize, input: &[i32], output: &mut [i32], range: usize)
+/// The inverse transform of a kind, of 2^(k+1) words, in each lane. `work` is room for the sine transforms.
+#[inline(always)]
+pub(crate) fn inverse_1d<W: Word>(
+    kind: TxType1D,
+    k: usize,
+    input: &[W],
+    work: &mut [W],
+    output: &mut [W],
+    range: usize,
+)
     requires range_in { (8 ≤ range) × (range ≤ 20) }
     requires has { HasNetwork kind k }
     requires input_len { length input.now ≡ 2 * 2 ^ k }
+    requires work_len { 256 ≤ length work.old }
     requires output_len { length output.old ≡ 2 * 2 ^ k }
-    requires fit { All (FitsBits range) input.now }
-    ensures { output.new ≡ network kind range k input.now }
+    requires fit { (i : ℕ) → i < W.LANES → All (FitsBits range) (column W.lane_of i input.now) }
+    ensures { (i : ℕ) → i < W.LANES → column W.lane_of i output.new ≡ network kind range k (column W.lane_of i input.now) }
 {
     match kind {
-        TxType1D::DCT => cosine_of(k, input, output, range),
-        TxType1D::ADST => adst_of(k, input, output, range),
+        TxType1D::DCT => cosine_of(k, input, work, output, range),
+        TxType1D::ADST => adst_of(k, input, work, output, range),
         TxType1D::FLIPADST => {
-            adst_of(k, input, output, range);
+            adst_of(k, input, work, output, range);
             output.reverse();
         }
         TxType1D::IDENTITY => identity_of(k, input, output),

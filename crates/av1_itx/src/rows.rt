@@ -1,18 +1,15 @@
 //! The first pass: an inverse transform along each row of coefficients.
 
-ghost use Rattle.std.specs.Prelude.{◌≡◌, ℕ, ◌+◌, ◌*◌, ◌<◌, ◌≤◌, ◌↔◌, if◌then◌else◌, IsTrue, EachIndex, ℤ, pos, ◌*ℤ◌, length, map};
+ghost use Rattle.std.specs.Prelude.{◌≡◌, ℕ, ◌+◌, ◌*◌, ◌<◌, ◌≤◌, if◌then◌else◌, pos, ◌*ℤ◌, length, map};
 ghost use Rattle.std.specs.Int.{int_shr};
-ghost use Rattle.av1_blocks.specs.Transforms.{tx_width, tx_height, coded, coded_area};
-ghost use Rattle.av1_dct.specs.Arithmetic.{at, AllFit, clamp_value, FitsBits};
-ghost use Rattle.av1_lists.specs.Lists.{by_index};
+ghost use Rattle.av1_blocks.specs.Transforms.{tx_width, tx_height, coded_area};
+ghost use Rattle.av1_dct.specs.Arithmetic.{at, clamp_value, FitsBits};
 ghost use Rattle.av1_frame.specs.Arithmetic.{round_shift};
 ghost use Rattle.av1_itx.specs.Kinds.{row_kind};
-ghost use Rattle.av1_itx.specs.Networks.{HasNetwork, network};
+ghost use Rattle.av1_itx.specs.Networks.{HasNetwork};
 ghost use Rattle.av1_itx.specs.Residue.{is_lossless, is_two_to_one, row_power, row_range, row_value, transformed_row};
-ghost use Rattle.av1_itx.specs.Scaled.{scaled_input};
 
-use crate::kinds::get_1d_tx_types;
-use crate::networks::inverse_1d;
+use crate::lanes::Lanes;
 use av1_blocks::{INV_SQRT2, SQRT2_BITS, TxSize, TxType};
 use av1_dct::clamp_value;
 use av1_frame::{Coefficient, round_shift};
@@ -79,30 +76,7 @@ fn scale_all<C: Coefficient>(
     }
 }
 
-// The inputs of row r, which stand column by column in `scaled`.
-fn gather_row(scaled: &[i32], line: &mut [i32], r: usize, tx_size: TxSize)
-    requires scaled_len { length scaled.now ≡ coded_area tx_size }
-    requires row_in { r < coded (tx_height tx_size) }
-    requires line_len { length line.old ≡ tx_width tx_size }
-    ensures { line.new ≡ by_index (tx_width tx_size) (scaled_input tx_size scaled.now r) }
-{
-    let rows = tx_size.height().min(32);
-    let columns = line.len().min(32);
-    'coded: for c in 0..columns {
-        line[c] = scaled[c * rows + r];
-    }
-    'rest: for c in columns..line.len() {
-        line[c] = 0;
-    }
-}
-
-fn is_zero(line: &[i32]) -> bool
-    ensures { IsTrue result ↔ EachIndex line.now (λ k. at line.now k ≡ pos 0) }
-{
-    line.iter().all(|v| *v == 0)
-}
-
-fn clear(line: &mut [i32])
+pub(crate) fn clear(line: &mut [i32])
     ensures { (i : ℕ) → at line.new i ≡ pos 0 }
 {
     for v in line.iter_mut() {
@@ -110,40 +84,12 @@ fn clear(line: &mut [i32])
     }
 }
 
-// Row r, transformed. A row of zeros stays one, and is not run.
-fn run_row(
-    scaled: &[i32],
-    line: &mut [i32],
-    output: &mut [i32],
-    r: usize,
-    tx_size: TxSize,
-    tx_type: TxType,
-    bd: usize,
-)
-    requires depth_in { (8 ≤ bd) × (bd ≤ 12) }
-    requires scaled_len { length scaled.now ≡ coded_area tx_size }
-    requires scaled_fit { AllFit (row_range bd) scaled.now }
-    requires has { HasNetwork (row_kind tx_type) (row_power tx_size) }
-    requires row_in { r < coded (tx_height tx_size) }
-    requires line_len { length line.old ≡ tx_width tx_size }
-    requires output_len { length output.old ≡ tx_width tx_size }
-    ensures { (c : ℕ) → c < tx_width tx_size → at output.new c ≡ at (network (row_kind tx_type) (row_range bd) (row_power tx_size) (by_index (tx_width tx_size) (scaled_input tx_size scaled.now r))) c }
-{
-    gather_row(scaled, line, r, tx_size);
-    if is_zero(line) {
-        clear(output);
-        return;
-    }
-    let (_, kind) = get_1d_tx_types(tx_type);
-    inverse_1d(kind, tx_size.width_log2() - 1, line, output, bd + 8);
-}
-
 /// Each row of a block, transformed: `buffer` has the block row by row. The rows from 32 on are zeros. `scaled` is room for the
 /// coefficients.
 pub(crate) fn row_pass<C: Coefficient>(
     input: &[C],
     scaled: &mut [i32],
-    line: &mut [i32],
+    lanes: &mut Lanes,
     buffer: &mut [i32],
     tx_size: TxSize,
     tx_type: TxType,
@@ -154,16 +100,14 @@ pub(crate) fn row_pass<C: Coefficient>(
     requires input_fits { (i : ℕ) → i < coded_area tx_size → FitsBits (bd + 8) (at (map C.val input.now) i) }
     requires has { HasNetwork (row_kind tx_type) (row_power tx_size) }
     requires scaled_len { length scaled.old ≡ coded_area tx_size }
-    requires line_len { 64 ≤ length line.old }
     requires buffer_len { length buffer.old ≡ tx_height tx_size * tx_width tx_size }
-    ensures { (r c : ℕ) → r < tx_height tx_size → c < tx_width tx_size → at buffer.new (r * tx_width tx_size + c) ≡ at (transformed_row tx_size tx_type bd (map C.val input.now) r) c }
+    ensures value { (r c : ℕ) → r < tx_height tx_size → c < tx_width tx_size → at buffer.new (r * tx_width tx_size + c) ≡ at (transformed_row tx_size tx_type bd (map C.val input.now) r) c }
+    ensures counts { lanes.new.count.groups ≡ lanes.old.count.groups }
 {
-    let w = tx_size.width();
     let rows = tx_size.height().min(32);
+    let w = tx_size.width();
+    let coded = rows * w;
     scale_all(input, scaled, tx_size, tx_type, bd);
-    for r in 0..rows {
-        let output = &mut buffer[r * w..r * w + w];
-        run_row(scaled, &mut line[..w], output, r, tx_size, tx_type, bd);
-    }
-    clear(&mut buffer[rows * w..]);
+    lanes.run_rows(scaled, &mut buffer[..coded], tx_size, tx_type, bd);
+    clear(&mut buffer[coded..]);
 }

@@ -1,35 +1,30 @@
 //! The inverse Walsh-Hadamard transform.
 
 ghost use Rattle.std.specs.Prelude.{◌≡◌, ℕ, ◌*◌, ◌^◌, ◌<◌, ◌≤◌, length, take, drop};
-ghost use Rattle.std.specs.Int.{int_shr};
 ghost use Rattle.std.specs.List.{All};
 ghost use Rattle.av1_dct.specs.Arithmetic.{AllFit, FitsBits};
+ghost use Rattle.av1_dct.specs.Word.{column};
 ghost use Rattle.av1_itx.specs.Walsh.{walsh};
 
-fn half_of(v: i32) -> i32
-    requires { FitsBits 31 v }
-    ensures value { result ≡ int_shr v 1 }
-    ensures fits { FitsBits 30 result }
-{
-    v >> 1
-}
+use av1_dct::Word;
 
-pub(crate) fn walsh_of(input: &[i32], output: &mut [i32])
+#[inline(always)]
+pub(crate) fn walsh_of<W: Word>(input: &[W], output: &mut [W])
     requires input_len { length input.now ≡ 4 }
     requires output_len { length output.old ≡ 4 }
-    requires fit { AllFit 29 input.now }
-    ensures { output.new ≡ walsh input.now }
+    requires fit { (i : ℕ) → i < W.LANES → AllFit 29 (column W.lane_of i input.now) }
+    ensures { (i : ℕ) → i < W.LANES → column W.lane_of i output.new ≡ walsh (column W.lane_of i input.now) }
 {
     let (x0, x1, x2, x3) = (input[0], input[1], input[2], input[3]);
-    let s0 = x0 + x1;
-    let s2 = x2 - x3;
-    let s4 = half_of(s0 - s2);
-    let s3 = s4 - x3;
-    let s1 = s4 - x1;
-    output[0] = s0 - s3;
+    let s0 = x0.plus(x1);
+    let s2 = x2.minus(x3);
+    let s4 = s0.minus(s2).halve();
+    let s3 = s4.minus(x3);
+    let s1 = s4.minus(x1);
+    output[0] = s0.minus(s3);
     output[1] = s3;
     output[2] = s1;
-    output[3] = s2 + s1;
+    output[3] = s2.plus(s1);
 }
 
 /// The inverse Walsh-Hadamard transform process on the first 4 values, for each of which 29 bits are enough. The rest of `output`

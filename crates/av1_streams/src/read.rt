@@ -58,6 +58,7 @@ pub fn read_plan_bytes<R: Source>(alloc: Global, source: &mut R) -> Result<Vec<u
         match read_at(source, &mut bytes, filled) {
             Ok(0) => {
                 bytes.truncate(filled);
+                bytes.shrink_to_fit();
                 return Ok(bytes);
             }
             Ok(count) => filled += count,

@@ -2,7 +2,8 @@
 ghost use Rattle.std.specs.Prelude.{◌≡◌, ◌⊎◌, ◌↔◌, ℕ, ◌-◌, ◌<◌, ◌≤◌, min, List, [], length, Option, Some, Contains, IsErr, IfOk, OnErr, vec_len, vec_capacity};
 ghost use Rattle.std.specs.Io.{WritesAtMost};
 ghost use Rattle.std.specs.Io.KnownBytes.{WriteAppends};
-ghost use Rattle.av1_streams.specs.Faults.{HasCause, one_more};
+ghost use Rattle.av1_lists.specs.Counts.{counted};
+ghost use Rattle.av1_streams.specs.Faults.{HasCause};
 
 use crate::Failed;
 use av1_blocks::OutOfMemory;
@@ -96,8 +97,8 @@ impl Sink for MemSink<'_> {
         // It takes what fits, up to a piece, and fails without room and in the numbered calls alone.
         ensures count { IfOk result (λ n. n ≡ min (sink_piece self.old) (min (sink_room self.old - length (sink_bytes self.old)) (length buf.now))) }
         ensures numbered { IsErr result ↔ (Contains (sink_fails self.old) (sink_calls self.old) ⊎ (sink_room self.old ≤ length (sink_bytes self.old))) }
-        ensures counted { OnErr result (sink_faults self.new ≡ one_more (sink_faults self.old)) }
-        ensures calls { sink_calls self.new ≡ one_more (sink_calls self.old) }
+        ensures counted { OnErr result (sink_faults self.new ≡ counted (sink_faults self.old)) }
+        ensures calls { sink_calls self.new ≡ counted (sink_calls self.old) }
         ensures same { (sink_room self.new ≡ sink_room self.old) × (sink_piece self.new ≡ sink_piece self.old) × (sink_fails self.new ≡ sink_fails self.old) }
     {
         let call = self.calls;
@@ -148,7 +149,7 @@ impl<W: Write> Sink for WriteSink<W> {
         ensures bound { WritesAtMost result buf.now }
         ensures bytes { WriteAppends (W.contents (writer_of self.old)) (W.contents (writer_of self.new)) result buf.now }
         ensures cause { HasCause (writer_faults self.old) (writer_faults self.new) result }
-        ensures counted { OnErr result (writer_faults self.new ≡ one_more (writer_faults self.old)) }
+        ensures counted { OnErr result (writer_faults self.new ≡ counted (writer_faults self.old)) }
     {
         match self.inner.write(buf) {
             Ok(count) if 0 < count => Ok(count),

@@ -2,7 +2,8 @@
 ghost use Rattle.std.specs.Prelude.{◌≡◌, ◌↔◌, ℕ, ◌<◌, min, List, length, drop, Option, Some, Contains, MatchResult, IsErr, IfOk, OnErr};
 ghost use Rattle.std.specs.Io.{ReadsAtMost};
 ghost use Rattle.std.specs.Io.KnownBytes.{ReadConsumes};
-ghost use Rattle.av1_streams.specs.Faults.{HasCause, one_more};
+ghost use Rattle.av1_lists.specs.Counts.{counted};
+ghost use Rattle.av1_streams.specs.Faults.{HasCause};
 
 use std::io::Read;
 
@@ -78,8 +79,8 @@ impl Source for SliceSource<'_> {
         ensures count { IfOk result (λ n. n ≡ min (source_piece self.old) (min (length (source_bytes self.old)) (length buf.old))) }
         ensures rest { MatchResult result (λ n. drop n buf.new ≡ drop n buf.old) (λ _. buf.new ≡ buf.old) }
         ensures numbered { IsErr result ↔ Contains (source_fails self.old) (source_calls self.old) }
-        ensures counted { OnErr result (source_faults self.new ≡ one_more (source_faults self.old)) }
-        ensures calls { source_calls self.new ≡ one_more (source_calls self.old) }
+        ensures counted { OnErr result (source_faults self.new ≡ counted (source_faults self.old)) }
+        ensures calls { source_calls self.new ≡ counted (source_calls self.old) }
         ensures same { (source_piece self.new ≡ source_piece self.old) × (source_fails self.new ≡ source_fails self.old) }
     {
         let call = self.calls;
@@ -128,7 +129,7 @@ impl<R: Read> Source for ReadSource<R> {
         ensures bound { ReadsAtMost result buf.new }
         ensures bytes { ReadConsumes (R.remaining (reader_of self.old)) (R.remaining (reader_of self.new)) result buf.new }
         ensures cause { HasCause (reader_faults self.old) (reader_faults self.new) result }
-        ensures counted { OnErr result (reader_faults self.new ≡ one_more (reader_faults self.old)) }
+        ensures counted { OnErr result (reader_faults self.new ≡ counted (reader_faults self.old)) }
     {
         match self.inner.read(buf) {
             Ok(count) => Ok(count),

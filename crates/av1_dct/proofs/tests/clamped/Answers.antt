@@ -10,5 +10,5 @@ pub returns : goal.returns
 returns c = λ i h.
     let P : ℤ → Type 0 = λ z. FitsBits 16 z in
     let v = c.clamp_to-word.result in
-    let b : Bits (map (of_z w32) v) = record { eight = omega (arith, length-map v (of_z w32)); fit = search rules } in
-    subst P (sym (stored v i h b ∙ c.clamp_to-word.ensures i h)) (clamp_value-fits _ 16 (omega arith))
+    let b : Bits 8 (map (of_z w32) v) = record { count = omega (arith, length-map v (of_z w32)); fit = search rules } in
+    subst P (sym (stored 8 v i h b ∙ c.clamp_to-word.ensures i h)) (clamp_value-fits _ 16 (omega arith))

@@ -28,12 +28,12 @@ returns c =
     let y = c.clamped-y.result in
     let z = c.clamped-z.result in
     let w = c.clamped-w.result in
-    let bx : Bits (map (of_z w32) x) = record { eight = omega (arith, length-map x (of_z w32)); fit = search rules } in
-    let by : Bits (map (of_z w32) y) = record { eight = omega (arith, length-map y (of_z w32)); fit = search rules } in
-    let bz : Bits (map (of_z w32) z) = record { eight = omega (arith, length-map z (of_z w32)); fit = search rules } in
-    let bw : Bits (map (of_z w32) w) = record { eight = omega (arith, length-map w (of_z w32)); fit = search rules } in
+    let bx : Bits 8 (map (of_z w32) x) = record { count = omega (arith, length-map x (of_z w32)); fit = search rules } in
+    let by : Bits 8 (map (of_z w32) y) = record { count = omega (arith, length-map y (of_z w32)); fit = search rules } in
+    let bz : Bits 8 (map (of_z w32) z) = record { count = omega (arith, length-map z (of_z w32)); fit = search rules } in
+    let bw : Bits 8 (map (of_z w32) w) = record { count = omega (arith, length-map w (of_z w32)); fit = search rules } in
     let items = after _ _ _ _ _ (again x) (again y) (again z) (again w) c.new-words.ensures.items c.in_ok-push.ensures.items c.in_ok-push-2.ensures.items c.in_ok-push-3.ensures.items c.in_ok-push-4.ensures.items in
     let Q : List (List ℤ) → Type 0 = λ ws. (i : ℕ) → i < 8 → All (FitsBits 16) (take 4 (column lane_of_vector i ws)) in (
       omega (arith, ap length items),
-      subst Q (sym items) (λ i h. four_fit _ _ _ _ (subst P (sym (stored x i h bx)) (c.clamped-x.ensures i h)) (subst P (sym (stored y i h by)) (c.clamped-y.ensures i h)) (subst P (sym (stored z i h bz)) (c.clamped-z.ensures i h)) (subst P (sym (stored w i h bw)) (c.clamped-w.ensures i h))),
+      subst Q (sym items) (λ i h. four_fit _ _ _ _ (subst P (sym (stored 8 x i h bx)) (c.clamped-x.ensures i h)) (subst P (sym (stored 8 y i h by)) (c.clamped-y.ensures i h)) (subst P (sym (stored 8 z i h bz)) (c.clamped-z.ensures i h)) (subst P (sym (stored 8 w i h bw)) (c.clamped-w.ensures i h))),
     )

@@ -11,7 +11,7 @@ use Rattle.av1_itx.proofs.inverse.add_block.Goals as goal
 pub column_pass-requires-clause-fit : goal.column_pass-requires-clause-fit
 column_pass-requires-clause-fit g c = λ r q hr hq.
     let P : ℤ → Type 0 = λ z. FitsBits 24 z in
-    subst P (sym (c.row_pass.ensures r q hr hq)) (row-fits c.args.tx_size c.args.tx_type c.args.bd (map g.T.Coeff.Coefficient.val c.args.input.now) r q (omega arith))
+    subst P (sym (c.row_pass.ensures.value r q hr hq)) (row-fits c.args.tx_size c.args.tx_type c.args.bd (map g.T.Coeff.Coefficient.val c.args.input.now) r q (omega arith))
 
 pub add_rows-requires-clause-fit : goal.add_rows-requires-clause-fit
 add_rows-requires-clause-fit g c = λ r q hr hq.
@@ -32,4 +32,4 @@ returns-clause-painted g c =
     ∙ ap (λ n. painted o n c.height.result (λ r q v. put_on (round_shift (at buf (r * n + q)) c.column_shift_of-shift.result) v)) c.width.ensures.value
     ∙ ap (λ n. painted o (tx_width size) n (λ r q v. put_on (round_shift (at buf (r * tx_width size + q)) c.column_shift_of-shift.result) v)) c.height.ensures.value
     ∙ ap (λ n. painted o (tx_width size) (tx_height size) (λ r q v. put_on (round_shift (at buf (r * tx_width size + q)) n) v)) c.column_shift_of-shift.ensures.value)
-    (λ r q v hr hq. ap (λ z. put_on z v) (residue_is size type c.args.bd cs (λ y. at c.row_pass.new.buffer (y * tx_width size + q)) r q _ (c.column_pass.ensures.value r q hr hq) (λ y hy. c.row_pass.ensures y q hy hq)))
+    (λ r q v hr hq. ap (λ z. put_on z v) (residue_is size type c.args.bd cs (λ y. at c.row_pass.new.buffer (y * tx_width size + q)) r q _ (c.column_pass.ensures.value r q hr hq) (λ y hy. c.row_pass.ensures.value y q hy hq)))

@@ -1,21 +1,30 @@
-use Rattle.std.proofs.Common.{arith, ◌≡◌, ◌*◌, ◌^◌, ◌∙◌, ap, sym}
+use Rattle.std.proofs.Common.{arith, ◌≤◌, ◌^◌, ◌∙◌, ap, sym, subst, List, ℤ, length}
+use Rattle.std.specs.List.{All}
+use Rattle.std.proofs.Math.Pow.{pow_mono}
+use Rattle.std.proofs.lemmas.List.{length-map, take_all}
+use Rattle.av1_dct.specs.Arithmetic.{FitsBits}
+use Rattle.av1_dct.specs.Word.{column}
 use Rattle.av1_dct.specs.Cosine.{cosine}
-use Rattle.av1_itx.proofs.Widths.{whole_is}
+use Rattle.av1_itx.proofs.Widths.{is_length}
 use Rattle.av1_itx.proofs.networks.cosine_of.Goals as goal
 
-pub returns-in-1 : goal.returns-in-1
-returns-in-1 c = whole_is 4 (cosine c.args.range 1) _ _ (c.requires.input_len ∙ ap (λ k. 2 * 2 ^ k) c.in-1.is) (c.av1_idct4.auto.output ∙ c.requires.output_len ∙ ap (λ k. 2 * 2 ^ k) c.in-1.is) c.av1_idct4.ensures.value ∙ ap (λ k. cosine c.args.range k c.args.input.now) (sym c.in-1.is)
+pub cosine_words-requires-clause-n_in : goal.cosine_words-requires-clause-n_in
+cosine_words-requires-clause-n_in g c = is_length c.args.k (length c.args.output.now) c.requires.k_in.0 c.requires.k_in.1 c.requires.output_len
 
-pub returns-in-2 : goal.returns-in-2
-returns-in-2 c = whole_is 8 (cosine c.args.range 2) _ _ (c.requires.input_len ∙ ap (λ k. 2 * 2 ^ k) c.in-2.is) (c.av1_idct8.auto.output ∙ c.requires.output_len ∙ ap (λ k. 2 * 2 ^ k) c.in-2.is) c.av1_idct8.ensures.value ∙ ap (λ k. cosine c.args.range k c.args.input.now) (sym c.in-2.is)
+pub cosine_words-requires-clause-work_len : goal.cosine_words-requires-clause-work_len
+cosine_words-requires-clause-work_len g c = let small : 2 ^ c.args.k ≤ 2 ^ 5 = pow_mono {i = c.args.k} {j = 5} c.requires.k_in.1 in omega (arith, small, c.requires.output_len, c.requires.work_len)
 
-pub returns-in-3 : goal.returns-in-3
-returns-in-3 c = whole_is 16 (cosine c.args.range 3) _ _ (c.requires.input_len ∙ ap (λ k. 2 * 2 ^ k) c.in-3.is) (c.av1_idct16.auto.output ∙ c.requires.output_len ∙ ap (λ k. 2 * 2 ^ k) c.in-3.is) c.av1_idct16.ensures.value ∙ ap (λ k. cosine c.args.range k c.args.input.now) (sym c.in-3.is)
+pub cosine_words-requires-clause-fit : goal.cosine_words-requires-clause-fit
+cosine_words-requires-clause-fit g c = λ i h.
+    let x = column g.W.Word.lane_of i c.args.input.now in
+    let P : List ℤ → Type 0 = λ zs. All (FitsBits c.args.range) zs in
+    subst P (sym (take_all (length c.args.output.now) x (omega (arith, length-map c.args.input.now (λ w. g.W.Word.lane_of w i), c.requires.input_len, c.requires.output_len)))) (c.requires.fit i h)
 
-pub returns-in-4 : goal.returns-in-4
-returns-in-4 c = whole_is 32 (cosine c.args.range 4) _ _ (c.requires.input_len ∙ ap (λ k. 2 * 2 ^ k) c.in-4.is) (c.av1_idct32.auto.output ∙ c.requires.output_len ∙ ap (λ k. 2 * 2 ^ k) c.in-4.is) c.av1_idct32.ensures.value ∙ ap (λ k. cosine c.args.range k c.args.input.now) (sym c.in-4.is)
-
-pub returns-in_default : goal.returns-in_default
-returns-in_default c =
-    let e : c.args.k ≡ 5 = omega arith in
-    whole_is 64 (cosine c.args.range 5) _ _ (c.requires.input_len ∙ ap (λ k. 2 * 2 ^ k) e) (c.av1_idct64.auto.output ∙ c.requires.output_len ∙ ap (λ k. 2 * 2 ^ k) e) c.av1_idct64.ensures.value ∙ ap (λ k. cosine c.args.range k c.args.input.now) (sym e)
+pub returns : goal.returns
+returns g c = λ i h.
+    let n = length c.args.output.now in
+    let x = column g.W.Word.lane_of i c.args.input.now in
+    let y = column g.W.Word.lane_of i c.cosine_words.new.output in
+    sym (take_all n y (omega (arith, length-map c.cosine_words.new.output (λ w. g.W.Word.lane_of w i), c.cosine_words.auto.output)))
+    ∙ c.cosine_words.ensures.value c.args.k i h c.requires.output_len
+    ∙ ap (cosine c.args.range c.args.k) (take_all n x (omega (arith, length-map c.args.input.now (λ w. g.W.Word.lane_of w i), c.requires.input_len, c.requires.output_len)))

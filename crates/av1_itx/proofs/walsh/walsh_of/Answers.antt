@@ -1,66 +1,125 @@
-use Rattle.std.proofs.Common.{arith, rules, ◌∙◌, w32, FitsSigned, ◌+ℤ◌, ◌-ℤ◌}
-use Rattle.std.proofs.lemmas.Int.{ints, to_z-of_z}
-use Rattle.av1_dct.specs.Arithmetic.{at}
-use Rattle.av1_itx.proofs.Fills.{set4}
-use Rattle.av1_itx.proofs.Small.{walsh_is}
+use Rattle.std.proofs.Common.{arith, ◌≡◌, ◌∙◌, ℤ, sym, subst, ◌+ℤ◌, ◌-ℤ◌}
+use Rattle.std.specs.Int.{int_shr}
+use Rattle.std.proofs.lemmas.Int.{ints}
+use Rattle.av1_dct.specs.Arithmetic.{at, FitsBits}
+use Rattle.av1_dct.specs.Word.{column}
+use Rattle.av1_dct.proofs.Places.{column_get}
+use Rattle.av1_itx.proofs.Small.{halved-fits, walsh_is}
+use Rattle.av1_itx.proofs.Words.{column-set4}
 use Rattle.av1_itx.proofs.walsh.walsh_of.Goals as goal
 
-pub overflow_sub-s3 : goal.overflow_sub-s3
-overflow_sub-s3 c = let a = c.requires.fit 3 in omega (arith, ints, a.low, a.high, c.half_of-s4.ensures.fits.low, c.half_of-s4.ensures.fits.high)
+pub plus-s0-requires : goal.plus-s0-requires
+plus-s0-requires g c = λ i h.
+    let lane = g.W.Word.lane_of in
+    let e0 = column_get lane i c.args.input.now 0 c.index-input-0.result (omega arith) c.index-input-0.is in
+    let e1 = column_get lane i c.args.input.now 1 c.index-input-1.result (omega arith) c.index-input-1.is in
+    let e2 = column_get lane i c.args.input.now 2 c.index-input-2.result (omega arith) c.index-input-2.is in
+    let e3 = column_get lane i c.args.input.now 3 c.index-input-3.result (omega arith) c.index-input-3.is in
+    let a0 = c.requires.fit i h 0 in
+    let a1 = c.requires.fit i h 1 in
+    let a2 = c.requires.fit i h 2 in
+    let a3 = c.requires.fit i h 3 in
+    omega (arith, ints, e0, e1, e2, e3, a0.low, a0.high, a1.low, a1.high, a2.low, a2.high, a3.low, a3.high)
 
-pub overflow_sub-s1 : goal.overflow_sub-s1
-overflow_sub-s1 c = let a = c.requires.fit 1 in omega (arith, ints, a.low, a.high, c.half_of-s4.ensures.fits.low, c.half_of-s4.ensures.fits.high)
+pub minus-s2-requires : goal.minus-s2-requires
+minus-s2-requires g c = λ i h.
+    let lane = g.W.Word.lane_of in
+    let e0 = column_get lane i c.args.input.now 0 c.index-input-0.result (omega arith) c.index-input-0.is in
+    let e1 = column_get lane i c.args.input.now 1 c.index-input-1.result (omega arith) c.index-input-1.is in
+    let e2 = column_get lane i c.args.input.now 2 c.index-input-2.result (omega arith) c.index-input-2.is in
+    let e3 = column_get lane i c.args.input.now 3 c.index-input-3.result (omega arith) c.index-input-3.is in
+    let a0 = c.requires.fit i h 0 in
+    let a1 = c.requires.fit i h 1 in
+    let a2 = c.requires.fit i h 2 in
+    let a3 = c.requires.fit i h 3 in
+    omega (arith, ints, e0, e1, e2, e3, a0.low, a0.high, a1.low, a1.high, a2.low, a2.high, a3.low, a3.high)
 
-pub overflow_sub-output : goal.overflow_sub-output
-overflow_sub-output c =
-    let a0 = c.requires.fit 0 in
-    let a1 = c.requires.fit 1 in
-    let a3 = c.requires.fit 3 in
-    omega (arith, ints, a0.low, a0.high, a1.low, a1.high, a3.low, a3.high, c.half_of-s4.ensures.fits.low, c.half_of-s4.ensures.fits.high)
+pub minus-requires : goal.minus-requires
+minus-requires g c = λ i h.
+    let lane = g.W.Word.lane_of in
+    let e0 = column_get lane i c.args.input.now 0 c.index-input-0.result (omega arith) c.index-input-0.is in
+    let e1 = column_get lane i c.args.input.now 1 c.index-input-1.result (omega arith) c.index-input-1.is in
+    let e2 = column_get lane i c.args.input.now 2 c.index-input-2.result (omega arith) c.index-input-2.is in
+    let e3 = column_get lane i c.args.input.now 3 c.index-input-3.result (omega arith) c.index-input-3.is in
+    let a0 = c.requires.fit i h 0 in
+    let a1 = c.requires.fit i h 1 in
+    let a2 = c.requires.fit i h 2 in
+    let a3 = c.requires.fit i h 3 in
+    omega (arith, ints, e0, e1, e2, e3, a0.low, a0.high, a1.low, a1.high, a2.low, a2.high, a3.low, a3.high, c.plus-s0.ensures i h, c.minus-s2.ensures i h)
 
-pub overflow_add-output : goal.overflow_add-output
-overflow_add-output c =
-    let a2 = c.requires.fit 2 in
-    let a1 = c.requires.fit 1 in
-    let a3 = c.requires.fit 3 in
-    omega (arith, ints, a2.low, a2.high, a1.low, a1.high, a3.low, a3.high, c.half_of-s4.ensures.fits.low, c.half_of-s4.ensures.fits.high)
+pub minus-s3-requires : goal.minus-s3-requires
+minus-s3-requires g c = λ i h.
+    let lane = g.W.Word.lane_of in
+    let e0 = column_get lane i c.args.input.now 0 c.index-input-0.result (omega arith) c.index-input-0.is in
+    let e1 = column_get lane i c.args.input.now 1 c.index-input-1.result (omega arith) c.index-input-1.is in
+    let e2 = column_get lane i c.args.input.now 2 c.index-input-2.result (omega arith) c.index-input-2.is in
+    let e3 = column_get lane i c.args.input.now 3 c.index-input-3.result (omega arith) c.index-input-3.is in
+    let a0 = c.requires.fit i h 0 in
+    let a1 = c.requires.fit i h 1 in
+    let a2 = c.requires.fit i h 2 in
+    let a3 = c.requires.fit i h 3 in
+    let v = c.minus.ensures i h in
+    let t = subst (λ (z : ℤ). FitsBits 30 z) (sym (c.halve-s4.ensures i h)) (halved-fits _ (let r : FitsBits 31 (lane c.minus.result i) = record { low = omega (arith, ints, v, e0, e1, e2, e3, a0.low, a0.high, a1.low, a1.high, a2.low, a2.high, a3.low, a3.high, c.plus-s0.ensures i h, c.minus-s2.ensures i h); high = omega (arith, ints, v, e0, e1, e2, e3, a0.low, a0.high, a1.low, a1.high, a2.low, a2.high, a3.low, a3.high, c.plus-s0.ensures i h, c.minus-s2.ensures i h) } in r)) in
+    omega (arith, ints, e0, e1, e2, e3, a0.low, a0.high, a1.low, a1.high, a2.low, a2.high, a3.low, a3.high, t.low, t.high)
 
-pub overflow_sub-s0 : goal.overflow_sub-s0
-overflow_sub-s0 c =
-    let a0 = c.requires.fit 0 in
-    let a1 = c.requires.fit 1 in
-    let a2 = c.requires.fit 2 in
-    let a3 = c.requires.fit 3 in
-    omega (arith, ints, a0.low, a0.high, a1.low, a1.high, a2.low, a2.high, a3.low, a3.high)
+pub minus-s1-requires : goal.minus-s1-requires
+minus-s1-requires g c = λ i h.
+    let lane = g.W.Word.lane_of in
+    let e0 = column_get lane i c.args.input.now 0 c.index-input-0.result (omega arith) c.index-input-0.is in
+    let e1 = column_get lane i c.args.input.now 1 c.index-input-1.result (omega arith) c.index-input-1.is in
+    let e2 = column_get lane i c.args.input.now 2 c.index-input-2.result (omega arith) c.index-input-2.is in
+    let e3 = column_get lane i c.args.input.now 3 c.index-input-3.result (omega arith) c.index-input-3.is in
+    let a0 = c.requires.fit i h 0 in
+    let a1 = c.requires.fit i h 1 in
+    let a2 = c.requires.fit i h 2 in
+    let a3 = c.requires.fit i h 3 in
+    let v = c.minus.ensures i h in
+    let t = subst (λ (z : ℤ). FitsBits 30 z) (sym (c.halve-s4.ensures i h)) (halved-fits _ (let r : FitsBits 31 (lane c.minus.result i) = record { low = omega (arith, ints, v, e0, e1, e2, e3, a0.low, a0.high, a1.low, a1.high, a2.low, a2.high, a3.low, a3.high, c.plus-s0.ensures i h, c.minus-s2.ensures i h); high = omega (arith, ints, v, e0, e1, e2, e3, a0.low, a0.high, a1.low, a1.high, a2.low, a2.high, a3.low, a3.high, c.plus-s0.ensures i h, c.minus-s2.ensures i h) } in r)) in
+    omega (arith, ints, e0, e1, e2, e3, a0.low, a0.high, a1.low, a1.high, a2.low, a2.high, a3.low, a3.high, t.low, t.high)
 
-pub half_of-s4-requires : goal.half_of-s4-requires
-half_of-s4-requires c =
-    let a0 = c.requires.fit 0 in
-    let a1 = c.requires.fit 1 in
-    let a2 = c.requires.fit 2 in
-    let a3 = c.requires.fit 3 in
-    record { low = omega (arith, ints, a0.low, a0.high, a1.low, a1.high, a2.low, a2.high, a3.low, a3.high); high = omega (arith, ints, a0.low, a0.high, a1.low, a1.high, a2.low, a2.high, a3.low, a3.high) }
+pub minus-requires-2 : goal.minus-requires-2
+minus-requires-2 g c = λ i h.
+    let lane = g.W.Word.lane_of in
+    let e0 = column_get lane i c.args.input.now 0 c.index-input-0.result (omega arith) c.index-input-0.is in
+    let e1 = column_get lane i c.args.input.now 1 c.index-input-1.result (omega arith) c.index-input-1.is in
+    let e2 = column_get lane i c.args.input.now 2 c.index-input-2.result (omega arith) c.index-input-2.is in
+    let e3 = column_get lane i c.args.input.now 3 c.index-input-3.result (omega arith) c.index-input-3.is in
+    let a0 = c.requires.fit i h 0 in
+    let a1 = c.requires.fit i h 1 in
+    let a2 = c.requires.fit i h 2 in
+    let a3 = c.requires.fit i h 3 in
+    let v = c.minus.ensures i h in
+    let t = subst (λ (z : ℤ). FitsBits 30 z) (sym (c.halve-s4.ensures i h)) (halved-fits _ (let r : FitsBits 31 (lane c.minus.result i) = record { low = omega (arith, ints, v, e0, e1, e2, e3, a0.low, a0.high, a1.low, a1.high, a2.low, a2.high, a3.low, a3.high, c.plus-s0.ensures i h, c.minus-s2.ensures i h); high = omega (arith, ints, v, e0, e1, e2, e3, a0.low, a0.high, a1.low, a1.high, a2.low, a2.high, a3.low, a3.high, c.plus-s0.ensures i h, c.minus-s2.ensures i h) } in r)) in
+    omega (arith, ints, e0, e1, e2, e3, a0.low, a0.high, a1.low, a1.high, a2.low, a2.high, a3.low, a3.high, t.low, t.high, c.plus-s0.ensures i h, c.minus-s3.ensures i h)
+
+pub plus-requires : goal.plus-requires
+plus-requires g c = λ i h.
+    let lane = g.W.Word.lane_of in
+    let e0 = column_get lane i c.args.input.now 0 c.index-input-0.result (omega arith) c.index-input-0.is in
+    let e1 = column_get lane i c.args.input.now 1 c.index-input-1.result (omega arith) c.index-input-1.is in
+    let e2 = column_get lane i c.args.input.now 2 c.index-input-2.result (omega arith) c.index-input-2.is in
+    let e3 = column_get lane i c.args.input.now 3 c.index-input-3.result (omega arith) c.index-input-3.is in
+    let a0 = c.requires.fit i h 0 in
+    let a1 = c.requires.fit i h 1 in
+    let a2 = c.requires.fit i h 2 in
+    let a3 = c.requires.fit i h 3 in
+    let v = c.minus.ensures i h in
+    let t = subst (λ (z : ℤ). FitsBits 30 z) (sym (c.halve-s4.ensures i h)) (halved-fits _ (let r : FitsBits 31 (lane c.minus.result i) = record { low = omega (arith, ints, v, e0, e1, e2, e3, a0.low, a0.high, a1.low, a1.high, a2.low, a2.high, a3.low, a3.high, c.plus-s0.ensures i h, c.minus-s2.ensures i h); high = omega (arith, ints, v, e0, e1, e2, e3, a0.low, a0.high, a1.low, a1.high, a2.low, a2.high, a3.low, a3.high, c.plus-s0.ensures i h, c.minus-s2.ensures i h) } in r)) in
+    omega (arith, ints, e0, e1, e2, e3, a0.low, a0.high, a1.low, a1.high, a2.low, a2.high, a3.low, a3.high, t.low, t.high, c.minus-s2.ensures i h, c.minus-s1.ensures i h)
 
 pub returns : goal.returns
-returns c =
-    let x = c.args.input.now in
-    let f0 : FitsSigned w32 (at x 0) = search rules in
-    let f1 : FitsSigned w32 (at x 1) = search rules in
-    let f2 : FitsSigned w32 (at x 2) = search rules in
-    let f3 : FitsSigned w32 (at x 3) = search rules in
-    let a0 = c.requires.fit 0 in
-    let a1 = c.requires.fit 1 in
-    let a2 = c.requires.fit 2 in
-    let a3 = c.requires.fit 3 in
-    let g0 : FitsSigned w32 (at x 0 +ℤ at x 1) = omega (arith, ints, a0.low, a0.high, a1.low, a1.high) in
-    let g2 : FitsSigned w32 (at x 2 -ℤ at x 3) = omega (arith, ints, a2.low, a2.high, a3.low, a3.high) in
-    let g4 : FitsSigned w32 (at x 0 +ℤ at x 1 -ℤ (at x 2 -ℤ at x 3)) = omega (arith, ints, a0.low, a0.high, a1.low, a1.high, a2.low, a2.high, a3.low, a3.high) in
-    let h = simp to_z-of_z at c.half_of-s4.ensures.value in
-    let t = c.half_of-s4.ensures.fits in
-    let fh : FitsSigned w32 c.half_of-s4.result = search rules in
-    set4 c.args.output.now _ _ _ _ c.requires.output_len
-    ∙ walsh_is x c.half_of-s4.result _ _ _ _ h
-    (omega (arith, ints, a0.low, a0.high, a1.low, a1.high, a3.low, a3.high, t.low, t.high))
-    (omega (arith, ints, a3.low, a3.high, t.low, t.high))
-    (omega (arith, ints, a1.low, a1.high, t.low, t.high))
-    (omega (arith, ints, a2.low, a2.high, a1.low, a1.high, a3.low, a3.high, t.low, t.high))
+returns g c = λ i h.
+    let lane = g.W.Word.lane_of in
+    let x = column lane i c.args.input.now in
+    let e0 = column_get lane i c.args.input.now 0 c.index-input-0.result (omega arith) c.index-input-0.is in
+    let e1 = column_get lane i c.args.input.now 1 c.index-input-1.result (omega arith) c.index-input-1.is in
+    let e2 = column_get lane i c.args.input.now 2 c.index-input-2.result (omega arith) c.index-input-2.is in
+    let e3 = column_get lane i c.args.input.now 3 c.index-input-3.result (omega arith) c.index-input-3.is in
+    let s0 : lane c.plus-s0.result i ≡ at x 0 +ℤ at x 1 = cc (c.plus-s0.ensures i h, e0, e1) in
+    let s2 : lane c.minus-s2.result i ≡ at x 2 -ℤ at x 3 = cc (c.minus-s2.ensures i h, e2, e3) in
+    let s4 : lane c.halve-s4.result i ≡ int_shr (at x 0 +ℤ at x 1 -ℤ (at x 2 -ℤ at x 3)) 1 = cc (c.halve-s4.ensures i h, c.minus.ensures i h, s0, s2) in
+    let s3 : lane c.minus-s3.result i ≡ lane c.halve-s4.result i -ℤ at x 3 = cc (c.minus-s3.ensures i h, e3) in
+    let s1 : lane c.minus-s1.result i ≡ lane c.halve-s4.result i -ℤ at x 1 = cc (c.minus-s1.ensures i h, e1) in
+    let a : lane c.minus-2.result i ≡ at x 0 +ℤ at x 1 -ℤ (lane c.halve-s4.result i -ℤ at x 3) = cc (c.minus-2.ensures i h, s0, s3) in
+    let d : lane c.plus.result i ≡ at x 2 -ℤ at x 3 +ℤ (lane c.halve-s4.result i -ℤ at x 1) = cc (c.plus.ensures i h, s2, s1) in
+    column-set4 lane i c.args.output.now _ _ _ _ c.requires.output_len ∙ walsh_is x (lane c.halve-s4.result i) _ _ _ _ s4 a s3 s1 d

@@ -4,4 +4,4 @@ use Rattle.av1_dct.proofs.LaneOperations.{lane_get}
 use Rattle.av1_dct.proofs.word.I32x8Word.lane.Goals as goal
 
 pub returns : goal.returns
-returns c = lane_get c.args.self c.args.i c.requires (record { eight = omega (arith, length-map c.args.self (of_z w32)); fit = search rules })
+returns c = lane_get 8 c.args.self c.args.i c.requires (record { count = omega (arith, length-map c.args.self (of_z w32)); fit = search rules })

@@ -7,6 +7,6 @@ use Rattle.av1_dct.proofs.word.I32x8Word.minus.Goals as goal
 pub returns : goal.returns
 unfolding lane_of_vector
 returns c = λ i h.
-    let bx : Bits (map (of_z w32) c.args.self) = record { eight = omega (arith, length-map c.args.self (of_z w32)); fit = search rules } in
-    let by : Bits (map (of_z w32) c.args.o) = record { eight = omega (arith, length-map c.args.o (of_z w32)); fit = search rules } in
-    lane_minus _ _ i h bx by (c.requires i h)
+    let bx : Bits 8 (map (of_z w32) c.args.self) = record { count = omega (arith, length-map c.args.self (of_z w32)); fit = search rules } in
+    let by : Bits 8 (map (of_z w32) c.args.o) = record { count = omega (arith, length-map c.args.o (of_z w32)); fit = search rules } in
+    lane_minus 8 _ _ i h bx by (c.requires i h)

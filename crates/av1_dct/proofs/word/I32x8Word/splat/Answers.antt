@@ -2,4 +2,4 @@ use Rattle.av1_dct.proofs.LaneOperations.{lane_splat}
 use Rattle.av1_dct.proofs.word.I32x8Word.splat.Goals as goal
 
 pub returns : goal.returns
-returns c = λ i h. lane_splat c.args.v i h c.ranges.v
+returns c = λ i h. lane_splat 8 c.args.v i h c.ranges.v

@@ -1,7 +1,0 @@
-use Rattle.std.proofs.Common.{◌≡◌, ℕ, ◌<◌, ◌+◌, ◌-◌, ◌*◌, ◌&&◌, cond, ltb, leb, length}
-use Rattle.av1_dct.specs.Arithmetic.{at}
-use Rattle.av1_dct.specs.Word.{column, lane_of_vector}
-use Rattle.av1_itx.proofs.lane_columns.scatter_lanes.Given as goal
-
-abbrev pub invariant-loop-r : goal.invariant-loop-r
-invariant-loop-r l = (r q : ℕ) → r < length l.line → q < l.w → at l.buffer (r * l.w + q) ≡ cond (ltb r l.r && (leb l.c q && ltb q (l.c + 8))) (at (column lane_of_vector (q - l.c) l.line) r) (at l.initial.buffer (r * l.w + q))
