@@ -3,17 +3,16 @@
 use Rattle.std.proofs.Common.{◌≡◌, ℕ, zero, suc, ◌+◌, ◌*◌, ◌%◌, ◌<◌, ◌≤◌, List, [], ◌∷◌, ◌++◌, length, refl, sym, ap, subst, ◌∙◌, append_assoc, arith, length-append}
 use Rattle.std.specs.Int.{to_le_bytes, byte_len}
 use Rattle.std.proofs.lemmas.List.{append-nil}
-use Rattle.av1_plan.specs.Format.{width, Kind, Format, done, asks, ◌>>=◌, lone, ◌++>◌, in_turn}
-use Rattle.av1_plan.specs.Spelling.{text}
+use Rattle.av1_plan.specs.Format.{width, Kind, IsAdmitted, Format, done, asks, ◌>>=◌, lone, ◌++>◌, in_turn}
+use Rattle.av1_plan.specs.Spelling.{Spells, text}
 use Rattle.av1_plan.proofs.Fields.{length-le}
 use Rattle.av1_generate.specs.Draft.{Draft, nothing, writes, draws, ◌>>◌, each, written}
-use Rattle.av1_generate.specs.Text.{IsOfKind, Says}
 
 -- behind the bytes before stand fields such as f asks for, of at most n bytes, and P holds of what they spell
 pub record Filled {A : Type 0} (f : Format A) (n : ℕ) (P : A → Type 0) (before after : List ℕ) : Type 0 where
   pub value : A
   pub values : List ℕ
-  pub says : Says f values value
+  pub spells : Spells f values value
   pub bytes : after ≡ before ++ text f values
   pub few : length (text f values) ≤ n
   pub holds : P value
@@ -24,9 +23,9 @@ pub record Fills {A : Type 0} (d : Draft) (f : Format A) (n : ℕ) (P : A → Ty
 
 -- ---- one format behind another
 
-joined : {A B : Type 0} (f : Format A) (g : A → Format B) (x : A) (y : B) (vs ws : List ℕ) → Says f vs x → Says (g x) ws y
-    → Says (f >>= g) (vs ++ ws) y × (text (f >>= g) (vs ++ ws) ≡ text f vs ++ text (g x) ws)
-joined (done z) g x y [] ws s t = (subst (λ u. Says (g u) ws y) (sym s) t, ap (λ u. text (g u) ws) s)
+joined : {A B : Type 0} (f : Format A) (g : A → Format B) (x : A) (y : B) (vs ws : List ℕ) → Spells f vs x → Spells (g x) ws y
+    → Spells (f >>= g) (vs ++ ws) y × (text (f >>= g) (vs ++ ws) ≡ text f vs ++ text (g x) ws)
+joined (done z) g x y [] ws s t = (subst (λ u. Spells (g u) ws y) (sym s) t, ap (λ u. text (g u) ws) s)
 joined (done z) g x y (v ∷ vs) ws s t = absurd s
 joined (asks k next) g x y [] ws s t = absurd s
 joined (asks k next) g x y (v ∷ vs) ws s t =
@@ -36,11 +35,11 @@ joined (asks k next) g x y (v ∷ vs) ws s t =
 filled_behind : {A B : Type 0} (f : Format A) (g : A → Format B) (m n : ℕ) (P : A → Type 0) (Q : B → Type 0) (a b c : List ℕ)
     → (r : Filled f m P a b) → Filled (g r.value) n Q b c → Filled (f >>= g) (m + n) Q a c
 filled_behind f g m n P Q a b c r t =
-    let (says, is) = joined f g r.value t.value r.values t.values r.says t.says in
+    let (spells, is) = joined f g r.value t.value r.values t.values r.spells t.spells in
     record {
       value = t.value;
       values = r.values ++ t.values;
-      says = says;
+      spells = spells;
       bytes = t.bytes ∙ rw (r.bytes, is) (append_assoc a (text f r.values) (text (g r.value) t.values));
       few = rw (is, length-append) (omega (arith, r.few, t.few));
       holds = t.holds;
@@ -63,11 +62,11 @@ ends {d = d} {f = f} {m = m} {P = P} {Q = Q} g a b = record { fills = (follows {
 
 pub fills_done : {A : Type 0} {P : A → Type 0} (x : A) → P x → Fills nothing (done x) 0 P
 fills_done x p = record {
-  fills = λ next number s. record { value = x; values = []; says = refl; bytes = sym (append-nil s.0); few = omega arith; holds = p };
+  fills = λ next number s. record { value = x; values = []; spells = refl; bytes = sym (append-nil s.0); few = omega arith; holds = p };
 }
 
 -- a field, and then what its value decides
-pub asked : {A : Type 0} {d : Draft} {n : ℕ} {P : A → Type 0} (k : Kind) (next : ℕ → Format A) (v : ℕ) → IsOfKind k v → Fills d (next v) n P
+pub asked : {A : Type 0} {d : Draft} {n : ℕ} {P : A → Type 0} (k : Kind) (next : ℕ → Format A) (v : ℕ) → IsAdmitted k v → Fills d (next v) n P
     → Fills (writes k.size v >> d) (asks k next) (byte_len (width k.size) + n) P
 asked {d = d} {n = n} {P = P} k next v is a = record {
   fills = λ step number s.
@@ -75,7 +74,7 @@ asked {d = d} {n = n} {P = P} k next v is a = record {
       record {
         value = r.value;
         values = v ∷ r.values;
-        says = (is, r.says);
+        spells = (is, r.spells);
         bytes = r.bytes ∙ append_assoc s.0 (to_le_bytes (width k.size) v) (text (next v) r.values);
         few = rw (length-append, length-le k.size v) (omega (arith, r.few));
         holds = r.holds;
@@ -83,21 +82,21 @@ asked {d = d} {n = n} {P = P} k next v is a = record {
 }
 
 -- a last field
-pub asked_last : {A : Type 0} {P : A → Type 0} (k : Kind) (next : ℕ → Format A) (v : ℕ) → IsOfKind k v → Fills nothing (next v) 0 P
+pub asked_last : {A : Type 0} {P : A → Type 0} (k : Kind) (next : ℕ → Format A) (v : ℕ) → IsAdmitted k v → Fills nothing (next v) 0 P
     → Fills (writes k.size v) (asks k next) (byte_len (width k.size)) P
 asked_last {P = P} k next v is a = record {
   fills = λ step number s. more (omega arith) ((asked {d = nothing} {n = 0} {P = P} k next v is a).fills step number s);
 }
   where
     more : {A : Type 0} {f : Format A} {m n : ℕ} {P : A → Type 0} {b c : List ℕ} → m ≤ n → Filled f m P b c → Filled f n P b c
-    more le r = record { value = r.value; values = r.values; says = r.says; bytes = r.bytes; few = omega (arith, r.few); holds = r.holds }
+    more le r = record { value = r.value; values = r.values; spells = r.spells; bytes = r.bytes; few = omega (arith, r.few); holds = r.holds }
 
 -- more bytes and less said
 pub weaker : {A : Type 0} {d : Draft} {f : Format A} {m n : ℕ} {P Q : A → Type 0} → m ≤ n → ((x : A) → P x → Q x) → Fills d f m P → Fills d f n Q
 weaker le h a = record {
   fills = λ next number s.
       let r = a.fills next number s in
-      record { value = r.value; values = r.values; says = r.says; bytes = r.bytes; few = omega (arith, r.few); holds = h r.value r.holds };
+      record { value = r.value; values = r.values; spells = r.spells; bytes = r.bytes; few = omega (arith, r.few); holds = h r.value r.holds };
 }
 
 -- whatever number below k is drawn

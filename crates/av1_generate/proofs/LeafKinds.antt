@@ -8,21 +8,21 @@ use Rattle.av1_blocks.specs.declared.partition.BlockSize.{BlockSize}
 use Rattle.av1_blocks.specs.declared.partition.RefType.{RefType}
 use Rattle.av1_blocks.specs.declared.predict.PredictionMode.{PredictionMode}
 use Rattle.av1_blocks.specs.Modes.{is_cfl}
-use Rattle.av1_plan.specs.declared.built.Field.TheVariants as fields
 use Rattle.av1_plan.specs.declared.header.Header.{Header}
 use Rattle.av1_plan.specs.declared.leaf.ChromaMode.{ChromaMode}
 use Rattle.av1_plan.specs.declared.leaf.ChromaMode.TheVariants.{Plain, Cfl}
 use Rattle.av1_plan.specs.declared.leaf.LeafKind.{LeafKind}
 use Rattle.av1_plan.specs.declared.leaf.LeafKind.TheVariants.{Intra, Single, Compound}
-use Rattle.av1_plan.specs.Format.{one, two, Format, done, ◌>>=◌, field}
+use Rattle.av1_plan.specs.Format.{one, two, any, Format, done, ◌>>=◌, field}
 use Rattle.av1_plan.specs.Geometry.{has_slot}
-use Rattle.av1_plan.specs.Grammar.{byte_from, signed_byte, u16_field}
+use Rattle.av1_plan.specs.Grammar.{byte_from}
 use Rattle.av1_plan.specs.Grammar as grammar
 use Rattle.av1_plan.specs.Validity.{is_step, cfl_allowed, is_chroma_from_luma, is_chroma_mode, is_inter_size, has_modes, is_valid_component, is_valid_vector, has_vectors, has_reference, has_references}
 use Rattle.av1_generate.specs.Draft.{writes, draws, ◌>>◌, only_if}
 use Rattle.av1_generate.specs.Generator.{less, frame, step, weight, chroma_step, chroma_modes, chroma_mode, intra, component, motion, single, compound, kind_of, kind}
-use Rattle.av1_plan.proofs.Numbers.{all_below, below, mode_of, reference_of_number}
-use Rattle.av1_generate.proofs.FieldKinds.{byte_is, signed_is, u16_is}
+use Rattle.av1_lists.proofs.Below.{all_below, below}
+use Rattle.av1_plan.proofs.Numbers.{mode_of, reference_of_number}
+use Rattle.av1_generate.proofs.FieldKinds.{byte_is, less_is}
 use Rattle.av1_generate.proofs.Fills.{Fills, follows, ends, fills_done, asked, asked_last, weaker, drawing}
 
 -- ---- steps and weights
@@ -36,13 +36,13 @@ step_is mode v lt lt_7 angle =
     rw angle at e
 
 step_by : (b : Bool) (mode : ℕ) → mode < 13 → is_in_range 1 8 mode ≡ b
-    → Fills (if b then draws 7 (λ v. writes one (less one v 3)) else writes one 0) (field (signed_byte fields.AngleStep)) 1 (λ v. is_step (mode_of mode) (cast_signed w8 v) ≡ true)
+    → Fills (if b then draws 7 (λ v. writes one (less one v 3)) else writes one 0) (field (any one)) 1 (λ v. is_step (mode_of mode) (cast_signed w8 v) ≡ true)
 unfolding is_step
 step_by true mode lt angle = drawing 7 (λ v. writes one (less one v 3)) (lit< tt) (λ v lt_7.
-    asked_last (signed_byte fields.AngleStep) (λ v. done v) (less one v 3) (signed_is fields.AngleStep v 3) (fills_done (less one v 3) (step_is mode v lt lt_7 angle)))
-step_by false mode lt angle = asked_last (signed_byte fields.AngleStep) (λ v. done v) 0 (byte_is fields.AngleStep 0 255 0 (lit< tt) (lit≤ tt) (lit≤ tt)) (fills_done 0 refl)
+    asked_last (any one) (λ v. done v) (less one v 3) (less_is one v 3) (fills_done (less one v 3) (step_is mode v lt lt_7 angle)))
+step_by false mode lt angle = asked_last (any one) (λ v. done v) 0 (record { fits = lit< tt; admitted = refl }) (fills_done 0 refl)
 
-step_fills : (mode : ℕ) → mode < 13 → Fills (step mode) (field (signed_byte fields.AngleStep)) 1 (λ v. is_step (mode_of mode) (cast_signed w8 v) ≡ true)
+step_fills : (mode : ℕ) → mode < 13 → Fills (step mode) (field (any one)) 1 (λ v. is_step (mode_of mode) (cast_signed w8 v) ≡ true)
 unfolding step
 step_fills mode lt = step_by (is_in_range 1 8 mode) mode lt refl
 
@@ -50,20 +50,20 @@ weight_is : (v : ℕ) → v < 33 → nat_le (nat_abs (cast_signed w8 (less one v
 unfolding less
 weight_is v lt = below 33 (λ v. nat_le (nat_abs (cast_signed w8 (less one v 16))) 16) refl v lt
 
-weight_fills : Fills weight (field (signed_byte fields.Alpha)) 1 (λ v. nat_le (nat_abs (cast_signed w8 v)) 16 ≡ true)
+weight_fills : Fills weight (field (any one)) 1 (λ v. nat_le (nat_abs (cast_signed w8 v)) 16 ≡ true)
 unfolding weight
 weight_fills = drawing 33 (λ v. writes one (less one v 16)) (lit< tt) (λ v lt.
-    asked_last (signed_byte fields.Alpha) (λ v. done v) (less one v 16) (signed_is fields.Alpha v 16) (fills_done (less one v 16) (weight_is v lt)))
+    asked_last (any one) (λ v. done v) (less one v 16) (less_is one v 16) (fills_done (less one v 16) (weight_is v lt)))
 
 -- ---- chroma modes
 
 -- what is asked for behind the mode of chroma from luma
 abbrev weights : Format ChromaMode
-weights = field (signed_byte fields.Alpha) >>= λ u. field (signed_byte fields.Alpha) >>= λ v. done (Cfl (cast_signed w8 u) (cast_signed w8 v))
+weights = field (any one) >>= λ u. field (any one) >>= λ v. done (Cfl (cast_signed w8 u) (cast_signed w8 v))
 
 -- and behind any other
 abbrev plain : ℕ → Format ChromaMode
-plain mode = field (signed_byte fields.AngleStep) >>= λ step. done (Plain (mode_of mode) (cast_signed w8 step))
+plain mode = field (any one) >>= λ step. done (Plain (mode_of mode) (cast_signed w8 step))
 
 wide_by : (b : Bool) → 13 < (if b then 14 else 13) → b ≡ true
 wide_by true lt = refl
@@ -79,7 +79,7 @@ chroma_by : (b : Bool) (size : BlockSize) (mode : ℕ) → (mode == 13) ≡ b �
 unfolding is_chroma_mode
 chroma_by true size mode e lt lt_14 =
     let wide : 13 < chroma_modes size = omega (arith, eqb-true mode 13 e) in
-    follows (λ u. field (signed_byte fields.Alpha) >>= λ v. done (Cfl (cast_signed w8 u) (cast_signed w8 v))) weight_fills (λ u pu.
+    follows (λ u. field (any one) >>= λ v. done (Cfl (cast_signed w8 u) (cast_signed w8 v))) weight_fills (λ u pu.
     ends (λ v. done (Cfl (cast_signed w8 u) (cast_signed w8 v))) weight_fills (λ v pv.
     fills_done (Cfl (cast_signed w8 u) (cast_signed w8 v)) (weights_are size u v wide pu pv)))
 chroma_by false size mode e lt lt_14 =
@@ -100,7 +100,7 @@ unfolding chroma_mode grammar.chroma_mode chroma_step
 chroma_fills size =
     let (some, few) = few_modes size in
     drawing (chroma_modes size) (λ mode. writes one mode >> chroma_step mode) some (λ mode lt.
-    asked (byte_from fields.ChromaMode 0 13) (λ mode. if mode == 13 then weights else plain mode) mode (byte_is fields.ChromaMode 0 13 mode (lit< tt) (omega arith) (omega arith))
+    asked (byte_from 0 13) (λ mode. if mode == 13 then weights else plain mode) mode (byte_is 0 13 mode (lit< tt) (omega arith) (omega arith))
     (chroma_by (mode == 13) size mode refl lt (omega arith)))
 
 -- ---- intra leaves
@@ -134,7 +134,7 @@ intra_fills : (h : Header) (size : BlockSize) (carried : Bool) → Fills (intra 
 unfolding intra grammar.leaf_kind
 intra_fills h size carried =
     drawing 13 (λ mode. writes one mode >> step mode >> only_if carried (chroma_mode size)) (lit< tt) (λ mode lt.
-    asked {n = 4} (byte_from fields.LumaMode 0 33) (behind carried) mode (byte_is fields.LumaMode 0 33 mode (lit< tt) (omega arith) (omega arith))
+    asked {n = 4} (byte_from 0 33) (behind carried) mode (byte_is 0 33 mode (lit< tt) (omega arith) (omega arith))
     (rw (lt-ltb mode 14 (omega arith)) (intra_rest h size carried mode lt)))
 
 -- ---- leaves with references
@@ -143,10 +143,10 @@ component_is : (v : ℕ) → v < 257 → is_valid_component (cast_signed w16 (le
 unfolding less is_valid_component
 component_is v lt = below 257 (λ v. is_valid_component (cast_signed w16 (less two v 128))) refl v lt
 
-component_fills : Fills component (field (u16_field fields.Vector)) 2 (λ v. is_valid_component (cast_signed w16 v) ≡ true)
+component_fills : Fills component (field (any two)) 2 (λ v. is_valid_component (cast_signed w16 v) ≡ true)
 unfolding component
 component_fills = drawing 257 (λ v. writes two (less two v 128)) (lit< tt) (λ v lt.
-    asked_last (u16_field fields.Vector) (λ v. done v) (less two v 128) (u16_is fields.Vector v 128) (fills_done (less two v 128) (component_is v lt)))
+    asked_last (any two) (λ v. done v) (less two v 128) (less_is two v 128) (fills_done (less two v 128) (component_is v lt)))
 
 abbrev vector_of : ℕ → ℕ → MotionVector
 vector_of row col = record { row = cast_signed w16 row; col = cast_signed w16 col }
@@ -160,27 +160,27 @@ reference_is : (number v : ℕ) → v < 7 → has_reference (frame number) (refe
 unfolding frame has_reference has_slot
 reference_is number v lt = below 7 (λ v. has_reference (frame number) (reference_of_number (1 + v))) refl v lt
 
-reference_fills : (number : ℕ) → Fills (draws 7 (λ v. writes one (1 + v))) (field (byte_from fields.Reference 1 7)) 1 (λ v. has_reference (frame number) (reference_of_number v) ≡ true)
+reference_fills : (number : ℕ) → Fills (draws 7 (λ v. writes one (1 + v))) (field (byte_from 1 7)) 1 (λ v. has_reference (frame number) (reference_of_number v) ≡ true)
 reference_fills number = drawing 7 (λ v. writes one (1 + v)) (lit< tt) (λ v lt.
-    asked_last (byte_from fields.Reference 1 7) (λ v. done v) (1 + v) (byte_is fields.Reference 1 7 (1 + v) (lit< tt) (omega arith) (omega arith)) (fills_done (1 + v) (reference_is number v lt)))
+    asked_last (byte_from 1 7) (λ v. done v) (1 + v) (byte_is 1 7 (1 + v) (lit< tt) (omega arith) (omega arith)) (fills_done (1 + v) (reference_is number v lt)))
 
 -- a reference and its vector
 abbrev moving : Format (RefType × MotionVector)
-moving = field (byte_from fields.Reference 1 7) >>= λ n. field (u16_field fields.Vector) >>= λ row. field (u16_field fields.Vector) >>= λ col. done (reference_of_number n, vector_of row col)
+moving = field (byte_from 1 7) >>= λ n. field (any two) >>= λ row. field (any two) >>= λ col. done (reference_of_number n, vector_of row col)
 
 motion_fills : (number : ℕ) → Fills motion moving 5 (λ p. IsMotion (frame number) p.0 p.1)
 unfolding motion is_valid_vector
 motion_fills number =
-    follows (λ n. field (u16_field fields.Vector) >>= λ row. field (u16_field fields.Vector) >>= λ col. done (reference_of_number n, vector_of row col)) (reference_fills number) (λ n pn.
-    follows (λ row. field (u16_field fields.Vector) >>= λ col. done (reference_of_number n, vector_of row col)) component_fills (λ row pr.
+    follows (λ n. field (any two) >>= λ row. field (any two) >>= λ col. done (reference_of_number n, vector_of row col)) (reference_fills number) (λ n pn.
+    follows (λ row. field (any two) >>= λ col. done (reference_of_number n, vector_of row col)) component_fills (λ row pr.
     ends (λ col. done (reference_of_number n, vector_of row col)) component_fills (λ col pc.
     fills_done (reference_of_number n, vector_of row col) (record { present = pn; short = rw (pr, pc) refl }))))
 
 -- a luma mode from first to last
 mode_fills : (k first last : ℕ) → 0 < k → first + k ≤ last + 1 → last ≤ 33
-    → Fills (draws k (λ v. writes one (first + v))) (field (byte_from fields.LumaMode 0 33)) 1 (λ v. (first ≤ v) × (v ≤ last))
+    → Fills (draws k (λ v. writes one (first + v))) (field (byte_from 0 33)) 1 (λ v. (first ≤ v) × (v ≤ last))
 mode_fills k first last some le small = drawing k (λ v. writes one (first + v)) some (λ v lt.
-    asked_last (byte_from fields.LumaMode 0 33) (λ v. done v) (first + v) (byte_is fields.LumaMode 0 33 (first + v) (lit< tt) (omega arith) (omega arith))
+    asked_last (byte_from 0 33) (λ v. done v) (first + v) (byte_is 0 33 (first + v) (lit< tt) (omega arith) (omega arith))
     (fills_done (first + v) (omega arith, omega arith)))
 
 single_rest : (number : ℕ) (size : BlockSize) (mode : PredictionMode) → is_inter_size size ≡ true → Fills motion (grammar.single mode) 5 (IsFitting (frame number) size)

@@ -12,7 +12,6 @@ use Rattle.av1_blocks.specs.declared.transform.TheConstants.TxType as tx_types
 use Rattle.av1_blocks.specs.Blocks.{block_width, block_height}
 use Rattle.av1_blocks.specs.Chroma.{largest_chroma_tx_size}
 use Rattle.av1_blocks.specs.Transforms.{tx_number, tx_width, tx_height, block_tx_size}
-use Rattle.av1_plan.specs.declared.built.Field.TheVariants as fields
 use Rattle.av1_plan.specs.Format.{one, Format, done, ◌>>=◌}
 use Rattle.av1_plan.specs.Geometry.{xdec, ydec, plane_tx_size}
 use Rattle.av1_plan.specs.Grammar.{byte_from}
@@ -20,7 +19,7 @@ use Rattle.av1_plan.specs.Grammar as grammar
 use Rattle.av1_plan.specs.Validity.{is_transform, has_transforms}
 use Rattle.av1_generate.specs.Draft.{writes, draws, ◌>>◌, only_if}
 use Rattle.av1_generate.specs.Generator.{frame, type_within, tx_type, luma_tx_size, luma_transforms}
-use Rattle.av1_plan.proofs.Numbers.{all_below, below}
+use Rattle.av1_lists.proofs.Below.{all_below, below}
 use Rattle.av1_generate.proofs.FieldKinds.{byte_is}
 use Rattle.av1_generate.proofs.Fills.{Fills, ends, fills_done, asked, asked_last, weaker, drawing}
 
@@ -33,7 +32,7 @@ type_of number = slice_index_or tx_types.ALL number DCT_DCT
 one_type : (size : TxSize) (v : ℕ) → v ≤ 16 → is_transform size (type_of v) ≡ true → Fills (writes one v) grammar.tx_type 1 (λ t. is_transform size t ≡ true)
 unfolding grammar.tx_type
 one_type size v le is =
-    asked_last (byte_from fields.Other 0 16) (λ v. done (type_of v)) v (byte_is fields.Other 0 16 v (lit< tt) (omega arith) le) (fills_done (type_of v) is)
+    asked_last (byte_from 0 16) (λ v. done (type_of v)) v (byte_is 0 16 v (lit< tt) (omega arith) le) (fills_done (type_of v) is)
 
 -- the cosine transform or the identity
 two_types : (size : TxSize) → is_transform size (type_of 0) ≡ true → is_transform size (type_of 9) ≡ true
@@ -113,8 +112,8 @@ unfolding luma_transforms grammar.tx_size
 luma_fills size =
     drawing 2 (λ v. writes one (tx_number (luma_tx_size size v)) >> tx_type (luma_tx_size size v)) (lit< tt) (λ v lt.
     let t = luma_tx_size size v in
-    asked {n = 1} (byte_from fields.Other 0 18) (λ v. grammar.tx_type >>= λ type. done (slice_index_or tx_sizes.ALL v TX_4X4, type)) (tx_number t)
-    (byte_is fields.Other 0 18 (tx_number t) (lit< tt) (omega arith) (numbered t))
+    asked {n = 1} (byte_from 0 18) (λ v. grammar.tx_type >>= λ type. done (slice_index_or tx_sizes.ALL v TX_4X4, type)) (tx_number t)
+    (byte_is 0 18 (tx_number t) (lit< tt) (omega arith) (numbered t))
     (rw (named t) (ends (λ type. done (t, type)) (type_fills t) (λ type is. fills_done (t, type) (record { choice = (v, refl); within = luma_within size v; type = is })))))
 
 -- ---- chroma

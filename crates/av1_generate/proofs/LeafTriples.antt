@@ -13,8 +13,8 @@ use Rattle.av1_plan.specs.Grammar as grammar
 use Rattle.av1_plan.specs.Validity.{fits_signed, is_coefficient, is_before, rise, are_coefficients}
 use Rattle.av1_generate.specs.Draft.{writes, ◌>>◌, each}
 use Rattle.av1_generate.specs.Generator.{less, triple, triples}
-use Rattle.av1_plan.proofs.Numbers.{below}
-use Rattle.av1_generate.proofs.FieldKinds.{u32_is}
+use Rattle.av1_lists.proofs.Below.{below}
+use Rattle.av1_generate.proofs.FieldKinds.{less_is}
 use Rattle.av1_generate.proofs.Fills.{Fills, follows, ends, fills_done, fills_lone, asked, asked_last, weaker, drawing}
 
 -- a coefficient at place j of the first block
@@ -36,7 +36,7 @@ triple_fills j lt =
     asked (any one) (λ block. field (any two) >>= λ place. field (any four) >>= λ value. done (record { block = block; place = place; value = cast_signed w32 value })) 0 (record { fits = lit< tt; admitted = refl })
     (asked (any two) (λ place. field (any four) >>= λ value. done (record { block = 0; place = place; value = cast_signed w32 value })) j (record { fits = omega arith; admitted = refl })
     (drawing 401 (λ v. writes four (less four v 200)) (lit< tt) (λ v lt_401.
-    asked_last (any four) (λ value. done (triple_of j value)) (less four v 200) (u32_is v 200)
+    asked_last (any four) (λ value. done (triple_of j value)) (less four v 200) (less_is four v 200)
     (fills_done (triple_of j (less four v 200)) (record { block = refl; place = refl; value = value_is v lt_401 })))))
 
 -- the first block of an area begins in its plane, samples have 10 bits

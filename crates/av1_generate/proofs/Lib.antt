@@ -11,4 +11,3 @@ pub mod NodeFills
 pub mod ReferenceFills
 pub mod PlanFills
 pub mod Examples
-pub mod OneText

@@ -5,7 +5,6 @@ use Rattle.std.proofs.lemmas.Nat.{pow_pos}
 use Rattle.std.proofs.Math.Nat.{pow-succ'}
 use Rattle.av1_blocks.specs.declared.partition.BlockSize.{BlockSize}
 use Rattle.av1_blocks.specs.declared.partition.BlockSize.TheVariants.{BLOCK_4X4}
-use Rattle.av1_plan.specs.declared.built.Field.TheVariants as fields
 use Rattle.av1_blocks.specs.declared.partition.PartitionType.TheVariants.{PARTITION_HORZ, PARTITION_VERT}
 use Rattle.av1_plan.specs.declared.header.Header.{Header}
 use Rattle.av1_plan.specs.Format.{one}
@@ -115,8 +114,8 @@ block_fills number (suc level) x y in_x in_y =
     let node = node_is level x y in_x in_y in
     rw (lt-ltb x 512 (omega (arith, node.right, node.some)), lt-ltb y 512 (omega (arith, node.below, node.some)))
     (drawing 4 (λ mark. writes one mark >> parts (frame number) (suc level) (block (frame number) level) x y mark) (lit< tt) (λ mark lt.
-    asked {n = 4 * room level} (byte_from fields.Other 0 3) (grammar.parts (frame number) (suc level) (grammar.block (frame number) level) x y) mark
-    (byte_is fields.Other 0 3 mark (lit< tt) (omega arith) (omega arith))
+    asked {n = 4 * room level} (byte_from 0 3) (grammar.parts (frame number) (suc level) (grammar.block (frame number) level) x y) mark
+    (byte_is 0 3 mark (lit< tt) (omega arith) (omega arith))
     (parts_fill number level (4 * 2 ^ level) x y mark node (block_fills number level))))
 
 -- ---- superblocks

@@ -2,21 +2,20 @@
 use Rattle.std.proofs.Common.{◌≡◌, ℕ, suc, ◌/◌, ◌%◌, ◌^◌, ◌≤◌, List, [], ◌∷◌, length, None, refl, sym, subst, arith, lit<, lit≤}
 use Rattle.std.specs.Prelude.{codes}
 use Rattle.std.specs.Int.{w32, from_le_bytes}
-use Rattle.av1_plan.specs.declared.built.Field.TheVariants as fields
 use Rattle.av1_plan.specs.declared.header.Header.{Header}
-use Rattle.av1_plan.specs.Format.{one, two, Format, done, ◌>>=◌}
+use Rattle.av1_plan.specs.Format.{one, two, any, IsAdmitted, Format, done, ◌>>=◌}
 use Rattle.av1_plan.specs.Grammar.{where_, byte_from, magic, is_side, is_depth}
 use Rattle.av1_plan.specs.Grammar as grammar
 use Rattle.av1_plan.specs.Plan.{PlanValue}
 use Rattle.av1_plan.specs.Validity.{first_fault}
+use Rattle.av1_plan.proofs.Spelled.{one_text}
 use Rattle.av1_generate.specs.Draft.{◌>>◌, each}
 use Rattle.av1_generate.specs.Generator.{frame, slots, header, reference, superblocks, plan, plan_bytes}
 use Rattle.av1_generate.specs.Numbers.{drawn}
-use Rattle.av1_generate.specs.Text.{IsOfKind, ArePlan, AreFaultless}
+use Rattle.av1_generate.specs.Text.{ArePlan, AreFaultless}
 use Rattle.av1_generate.proofs.FieldKinds.{byte_is}
 use Rattle.av1_generate.proofs.Fills.{Filled, Fills, follows, ends, fills_done, asked, asked_last}
 use Rattle.av1_generate.proofs.NodeFills.{no_first_fault, superblocks_fill}
-use Rattle.av1_generate.proofs.OneText.{one_plan}
 use Rattle.av1_generate.proofs.ReferenceFills.{references_fill}
 
 -- ---- the header
@@ -24,31 +23,31 @@ use Rattle.av1_generate.proofs.ReferenceFills.{references_fill}
 abbrev zeros : List ℕ
 zeros = 0 ∷ 0 ∷ 0 ∷ 0 ∷ 0 ∷ 0 ∷ 0 ∷ []
 
-zero_is : IsOfKind (byte_from fields.Other 0 7) 0
-zero_is = byte_is fields.Other 0 7 0 (lit< tt) (lit≤ tt) (lit≤ tt)
+zero_is : IsAdmitted (byte_from 0 7) 0
+zero_is = byte_is 0 7 0 (lit< tt) (lit≤ tt) (lit≤ tt)
 
 slots_fill : Fills slots grammar.slots 7 (λ s. s ≡ zeros)
 unfolding slots grammar.slots each
 slots_fill =
-    let k = byte_from fields.Other 0 7 in
+    let k = byte_from 0 7 in
     asked {n = 6} k _ 0 zero_is (asked {n = 5} k _ 0 zero_is (asked {n = 4} k _ 0 zero_is (asked {n = 3} k _ 0 zero_is (asked {n = 2} k _ 0 zero_is (asked {n = 1} k _ 0 zero_is
     (asked {n = 0} k _ 0 zero_is (fills_done zeros refl)))))))
 
-side_is : IsOfKind (where_ two fields.Other is_side) 512
+side_is : IsAdmitted (where_ two is_side) 512
 side_is = record { fits = lit< tt; admitted = refl }
 
 header_fills : (number : ℕ) → Fills (header number) grammar.header 20 (λ h. h ≡ frame number)
 unfolding header grammar.header frame
 header_fills number =
     asked {n = 16} magic _ (from_le_bytes w32 (codes "RPL1")) (record { fits = lit< tt; admitted = refl })
-    (asked {n = 14} (where_ two fields.Other is_side) _ 512 side_is
-    (asked {n = 12} (where_ two fields.Other is_side) _ 512 side_is
-    (asked {n = 11} (where_ one fields.Other is_depth) _ 10 (record { fits = lit< tt; admitted = refl })
-    (asked {n = 10} (byte_from fields.Sampling 0 2) _ 0 (byte_is fields.Sampling 0 2 0 (lit< tt) (lit≤ tt) (lit≤ tt))
-    (asked {n = 9} (byte_from fields.Other 0 3) _ (number % 4) (byte_is fields.Other 0 3 (number % 4) (lit< tt) (omega arith) (omega arith))
-    (asked {n = 8} (byte_from fields.Other 0 1) _ (number / 4 % 2) (byte_is fields.Other 0 1 (number / 4 % 2) (lit< tt) (omega arith) (omega arith))
+    (asked {n = 14} (where_ two is_side) _ 512 side_is
+    (asked {n = 12} (where_ two is_side) _ 512 side_is
+    (asked {n = 11} (where_ one is_depth) _ 10 (record { fits = lit< tt; admitted = refl })
+    (asked {n = 10} (byte_from 0 2) _ 0 (byte_is 0 2 0 (lit< tt) (lit≤ tt) (lit≤ tt))
+    (asked {n = 9} (byte_from 0 3) _ (number % 4) (byte_is 0 3 (number % 4) (lit< tt) (omega arith) (omega arith))
+    (asked {n = 8} (byte_from 0 1) _ (number / 4 % 2) (byte_is 0 1 (number / 4 % 2) (lit< tt) (omega arith) (omega arith))
     (follows _ slots_fill (λ s is.
-    asked_last (byte_from fields.Mask 0 255) _ 1 (byte_is fields.Mask 0 255 1 (lit< tt) (lit≤ tt) (lit≤ tt)) (fills_done _ (rw is refl))))))))))
+    asked_last (any one) _ 1 (record { fits = lit< tt; admitted = refl }) (fills_done _ (rw is refl))))))))))
 
 -- ---- the plan
 
@@ -75,12 +74,12 @@ filled number = (plan_fills number).fills suc (drawn number) ([], 0)
 pub plan_is : (number : ℕ) → ArePlan (plan_bytes number)
 plan_is number =
     let r = filled number in
-    (r.value, (r.values, r.says, r.bytes))
+    (r.value, (r.values, r.spells, r.bytes))
 
 pub faultless_is : (number : ℕ) → AreFaultless (plan_bytes number)
 faultless_is number p t =
     let r = filled number in
-    subst (λ (q : PlanValue). first_fault q ≡ None) (one_plan (plan_bytes number) r.value p (r.values, r.says, r.bytes) t) r.holds
+    subst (λ (q : PlanValue). first_fault q ≡ None) (one_text grammar.plan (plan_bytes number) r.value p (r.values, r.spells, r.bytes) t) r.holds
 
 pub few_bytes : (number : ℕ) → length (plan_bytes number) ≤ 2 ^ 26
 few_bytes number = let r = filled number in rw r.bytes (omega (arith, r.few))

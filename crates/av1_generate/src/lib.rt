@@ -6,14 +6,12 @@
 //! a valid plan.
 #![tactic(auto)]
 
-mod laws;
 mod leaf;
 mod make;
 mod maker;
 mod nodes;
 mod transforms;
 
-pub use laws::texts_are_of_one_plan;
 pub use make::make_plan;
 
 #[cfg(test)]

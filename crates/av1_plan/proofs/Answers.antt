@@ -4,12 +4,12 @@ use Rattle.std.specs.Prelude.{IfOk, MatchResult}
 use Rattle.av1_plan.specs.declared.plan.Plan.{Plan}
 use Rattle.av1_plan.specs.declared.error.PlanError.{PlanError}
 use Rattle.av1_plan.specs.declared.error.PlanError.TheVariants as errors
-use Rattle.av1_plan.specs.Format.{Fault, malformed, not_built, start, read_all}
+use Rattle.av1_plan.specs.Format.{start, Reading, read_all}
 use Rattle.av1_plan.specs.Grammar.{plan}
 use Rattle.av1_plan.specs.Plan.{PlanValue}
 use Rattle.av1_plan.specs.Spelling.{AreText, AreRefused, IsSpelled}
 use Rattle.av1_plan.specs.Reading.{Gives}
-use Rattle.av1_plan.specs.Answer.{plan_value, FailsAs}
+use Rattle.av1_plan.specs.Answer.{plan_value, IfMalformed}
 use Rattle.av1_plan.proofs.Fields.{AreBytes}
 use Rattle.av1_plan.proofs.Spelled.{all_again, all_found, all_refused}
 
@@ -17,29 +17,27 @@ pub is_found : (bytes : List ℕ) (r : Result Plan PlanError) → AreBytes bytes
 is_found bytes (Ok p) fits given = all_found plan bytes (plan_value p) fits given
 is_found bytes (Err e) fits given = tt
 
-pub is_refused : (bytes : List ℕ) (r : Result Plan PlanError) → AreBytes bytes → Gives (λ p. plan_value p) r (read_all plan (start bytes)) → FailsAs r (λ d. AreRefused plan bytes d)
+pub is_refused : (bytes : List ℕ) (r : Result Plan PlanError) → AreBytes bytes → Gives (λ p. plan_value p) r (read_all plan (start bytes)) → IfMalformed r (λ d. AreRefused plan bytes d)
 is_refused bytes (Ok p) fits given = tt
 is_refused bytes (Err errors.Memory) fits given = tt
-is_refused bytes (Err (errors.Malformed at)) fits given = all_refused plan bytes (malformed at) fits given
-is_refused bytes (Err (errors.NotBuilt at)) fits given = all_refused plan bytes (not_built at) fits given
+is_refused bytes (Err (errors.Malformed at)) fits given = all_refused plan bytes at fits given
 
-abbrev read_as : PlanValue → Result PlanValue Fault
+abbrev read_as : PlanValue → Reading PlanValue
 read_as p = Ok p
 
 same : (p q : PlanValue) → read_as p ≡ Ok q → q ≡ p
 same p q e = cc
 
-clash : {P : Type 0} (p : PlanValue) (f : Fault) → read_as p ≡ Err f → P
-clash p f e = absurd cc
+clash : {P : Type 0} (p : PlanValue) (at : ℕ) → read_as p ≡ Err at → P
+clash p at e = absurd cc
 
 tells : (p : PlanValue) (r : Result Plan PlanError) → Gives (λ x. plan_value x) r (Ok p) → MatchResult r (λ x. plan_value x ≡ p) (λ e. e ≡ errors.Memory)
 tells p (Ok x) given = same p (plan_value x) given
 tells p (Err errors.Memory) given = refl
-tells p (Err (errors.Malformed at)) given = clash p (malformed at) given
-tells p (Err (errors.NotBuilt at)) given = clash p (not_built at) given
+tells p (Err (errors.Malformed at)) given = clash p at given
 
 pub is_only : (bytes : List ℕ) (p : PlanValue) (r : Result Plan PlanError) → AreText plan bytes p → Gives (λ x. plan_value x) r (read_all plan (start bytes)) → MatchResult r (λ x. plan_value x ≡ p) (λ e. e ≡ errors.Memory)
-is_only bytes p r t given = tells p r (subst (λ (reading : Result PlanValue Fault). Gives (λ x. plan_value x) r reading) (all_again plan bytes p t) given)
+is_only bytes p r t given = tells p r (subst (λ (reading : Reading PlanValue). Gives (λ x. plan_value x) r reading) (all_again plan bytes p t) given)
 
 -- what all of the bytes spell is spelled
 pub is_spelled : (bytes : List ℕ) (p : PlanValue) → AreBytes bytes → read_all plan (start bytes) ≡ Ok p → IsSpelled plan p

@@ -2,7 +2,6 @@
 use Rattle.std.proofs.Common.{◌≡◌, ℕ, zero, suc, ◌+◌, ◌-◌, ◌<◌, true, false, List, Ok, refl, arith}
 use Rattle.av1_blocks.specs.declared.partition.BlockSize.TheVariants.{BLOCK_4X4}
 use Rattle.av1_blocks.specs.declared.partition.PartitionType.TheVariants.{PARTITION_HORZ, PARTITION_VERT}
-use Rattle.av1_plan.specs.declared.built.Field.TheVariants as fields
 use Rattle.av1_plan.specs.declared.header.Header.{Header}
 use Rattle.av1_plan.specs.Format.{Format, Input, read_field, add, on_ok, ◌++>◌}
 use Rattle.av1_plan.specs.Geometry.{is_inside}
@@ -21,12 +20,12 @@ block_outside h zero x y s lt e = absurd (omega arith)
 block_outside h (suc level) x y s lt e = rw e (add_nothing s.0 s.1)
 
 pub block_inside : (h : Header) (level x y : ℕ) (s : List LeafValue × Input) → 0 < level → is_inside h x y ≡ true
-    → add (block h level x y) s ≡ on_ok (read_field (byte_from fields.Other 0 3) s.1) (λ p. add (parts h level (block h (level - 1)) x y p.0) (s.0, p.1))
+    → add (block h level x y) s ≡ on_ok (read_field (byte_from 0 3) s.1) (λ p. add (parts h level (block h (level - 1)) x y p.0) (s.0, p.1))
 unfolding block
 block_inside h zero x y s lt e = absurd (omega arith)
 block_inside h (suc level) x y s lt e =
     let k : suc level - 1 ≡ level = omega arith in
-    rw (e, k) (add_asks (byte_from fields.Other 0 3) (parts h (suc level) (block h level) x y) s.0 s.1)
+    rw (e, k) (add_asks (byte_from 0 3) (parts h (suc level) (block h level) x y) s.0 s.1)
 
 pub ruleset blocks = (block_leaf, block_outside, block_inside)
 

@@ -1,12 +1,12 @@
 -- Reading one format after another.
-use Rattle.std.proofs.Common.{◌≡◌, ℕ, suc, ◌+◌, ◌-◌, ◌<◌, ◌≤◌, List, [], ◌∷◌, ◌++◌, Result, Ok, Err, refl, sym, ap, ◌∙◌, append_assoc, arith}
+use Rattle.std.proofs.Common.{◌≡◌, ℕ, suc, ◌+◌, ◌-◌, ◌<◌, ◌≤◌, List, [], ◌∷◌, ◌++◌, Ok, Err, refl, sym, ap, ◌∙◌, append_assoc, arith}
 use Rattle.std.proofs.lemmas.List.{append-nil}
 use Rattle.av1_plan.specs.declared.error.PlanError.{PlanError}
 use Rattle.av1_plan.specs.declared.error.PlanError.TheVariants as errors
-use Rattle.av1_plan.specs.Format.{Fault, malformed, not_built, Kind, Format, done, asks, ◌>>=◌, Input, on_ok, read_field, read, nothing, lone, ◌++>◌, in_turn, add}
+use Rattle.av1_plan.specs.Format.{Kind, Format, done, asks, ◌>>=◌, Input, Reading, on_ok, read_field, read, nothing, lone, ◌++>◌, in_turn, add}
 use Rattle.av1_plan.specs.Reading.{Fails}
 
-pub on_ok_then : {A B C : Type 0} (r : Result A Fault) (f : A → Result B Fault) (g : B → Result C Fault) (h : A → Result C Fault) → ((x : A) → h x ≡ on_ok (f x) g) → on_ok r h ≡ on_ok (on_ok r f) g
+pub on_ok_then : {A B C : Type 0} (r : Reading A) (f : A → Reading B) (g : B → Reading C) (h : A → Reading C) → ((x : A) → h x ≡ on_ok (f x) g) → on_ok r h ≡ on_ok (on_ok r f) g
 on_ok_then (Ok x) f g h e = e x
 on_ok_then (Err at) f g h e = refl
 
@@ -36,7 +36,7 @@ pub add_lone : {A : Type 0} (f : Format A) (xs : List A) (i : Input) → add (lo
 unfolding add
 add_lone f xs i = add_bind f (λ x. done (x ∷ [])) xs i
 
-regroup : {A : Type 0} (xs ys : List A) (r : Result (List A × Input) Fault) → on_ok r (λ p. add (done (ys ++ p.0)) (xs, p.1)) ≡ on_ok r (λ p. let q : List A × Input = ((xs ++ ys) ++ p.0, p.1) in Ok q)
+regroup : {A : Type 0} (xs ys : List A) (r : Reading (List A × Input)) → on_ok r (λ p. add (done (ys ++ p.0)) (xs, p.1)) ≡ on_ok r (λ p. let q : List A × Input = ((xs ++ ys) ++ p.0, p.1) in Ok q)
 unfolding add
 regroup xs ys (Ok p) = ap (λ (zs : List _). Ok (zs, p.1)) (sym (append_assoc xs ys p.0))
 regroup xs ys (Err at) = refl
@@ -45,7 +45,7 @@ add_behind : {A : Type 0} (g : Format (List A)) (xs ys : List A) (i : Input) →
 unfolding add
 add_behind g xs ys i = add_bind g (λ zs. done (ys ++ zs)) xs i ∙ regroup xs ys (read g i)
 
-on_ok_same : {A B : Type 0} (r : Result A Fault) (f g : A → Result B Fault) → ((x : A) → f x ≡ g x) → on_ok r f ≡ on_ok r g
+on_ok_same : {A B : Type 0} (r : Reading A) (f g : A → Reading B) → ((x : A) → f x ≡ g x) → on_ok r f ≡ on_ok r g
 on_ok_same (Ok x) f g e = e x
 on_ok_same (Err at) f g e = refl
 
@@ -56,17 +56,11 @@ add_both f g s =
     ∙ on_ok_same (read f s.1) (λ p. add (g >>= λ zs. done (p.0 ++ zs)) (s.0, p.1)) (λ p. add g (s.0 ++ p.0, p.1)) (λ p. add_behind g s.0 p.0 p.1)
     ∙ on_ok_then (read f s.1) (λ p. Ok (s.0 ++ p.0, p.1)) (add g) (λ p. add g (s.0 ++ p.0, p.1)) (λ p. refl)
 
-pub fails_on : {A B : Type 0} (e : PlanError) (r : Result A Fault) (f : A → Result B Fault) → Fails e r → Fails e (on_ok r f)
+pub fails_on : {A B : Type 0} (e : PlanError) (r : Reading A) (f : A → Reading B) → Fails e r → Fails e (on_ok r f)
 fails_on errors.Memory r f h = tt
 fails_on (errors.Malformed at) r f h = rw h refl
-fails_on (errors.NotBuilt at) r f h = rw h refl
 
-pub fails_as : {A : Type 0} (e : PlanError) (r total : Result A Fault) → Fails e r → r ≡ total → Fails e total
-fails_as errors.Memory r total h same = tt
-fails_as (errors.Malformed at) r total h same = sym same ∙ h
-fails_as (errors.NotBuilt at) r total h same = sym same ∙ h
-
-on_ok_err : {A B : Type 0} (r : Result A Fault) (f : A → B) (at : Fault) → on_ok r (λ p. Ok (f p)) ≡ Err at → r ≡ Err at
+on_ok_err : {A B : Type 0} (r : Reading A) (f : A → B) (at : ℕ) → on_ok r (λ p. Ok (f p)) ≡ Err at → r ≡ Err at
 on_ok_err (Ok x) f at e = absurd cc
 on_ok_err (Err d) f at e = cc
 
@@ -74,14 +68,7 @@ on_ok_err (Err d) f at e = cc
 pub fails_back : {A : Type 0} (e : PlanError) (f : Format (List A)) (xs : List A) (i : Input) → Fails e (add f (xs, i)) → Fails e (read f i)
 unfolding add
 fails_back errors.Memory f xs i h = tt
-fails_back (errors.Malformed at) f xs i h = on_ok_err (read f i) (λ p. (xs ++ p.0, p.1)) (malformed at) h
-fails_back (errors.NotBuilt at) f xs i h = on_ok_err (read f i) (λ p. (xs ++ p.0, p.1)) (not_built at) h
-
-pub lone_ok : {A : Type 0} (f : Format A) (xs : List A) (i j : Input) (x : A) → read f i ≡ Ok (x, j) → add (lone f) (xs, i) ≡ Ok (xs ++ x ∷ [], j)
-lone_ok f xs i j x h = add_lone f xs i ∙ rw h refl
-
-pub lone_fails : {A : Type 0} (e : PlanError) (f : Format A) (xs : List A) (i : Input) → Fails e (read f i) → Fails e (add (lone f) (xs, i))
-lone_fails e f xs i h = fails_as e (on_ok (read f i) (λ p. Ok (xs ++ p.0 ∷ [], p.1))) (add (lone f) (xs, i)) (fails_on e (read f i) (λ p. Ok (xs ++ p.0 ∷ [], p.1)) h) (sym (add_lone f xs i))
+fails_back (errors.Malformed at) f xs i h = on_ok_err (read f i) (λ p. (xs ++ p.0, p.1)) at h
 
 -- ---- one after the other, in a loop
 
@@ -91,15 +78,7 @@ turn f count i s lt =
     let k : count - i ≡ suc (count - (i + 1)) = omega arith in
     rw k (add_both (f i) (in_turn f (i + 1) (count - (i + 1))) s)
 
-pub next_turn : {A : Type 0} (f : ℕ → Format (List A)) (count i : ℕ) (s t : List A × Input) (total : Result (List A × Input) Fault) → i < count → add (f i) s ≡ Ok t
-    → add (in_turn f i (count - i)) s ≡ total → add (in_turn f (i + 1) (count - (i + 1))) t ≡ total
-next_turn f count i s t total lt h so_far = sym (turn f count i s lt ∙ rw h refl) ∙ so_far
-
-pub turn_fails : {A : Type 0} (e : PlanError) (f : ℕ → Format (List A)) (count i : ℕ) (s : List A × Input) (total : Result (List A × Input) Fault) → i < count → Fails e (add (f i) s)
-    → add (in_turn f i (count - i)) s ≡ total → Fails e total
-turn_fails e f count i s total lt h so_far = fails_as e _ total (fails_on e (add (f i) s) (add (in_turn f (i + 1) (count - (i + 1)))) h) (sym (turn f count i s lt) ∙ so_far)
-
-pub turns_end : {A : Type 0} (f : ℕ → Format (List A)) (count i : ℕ) (s : List A × Input) (total : Result (List A × Input) Fault) → count ≤ i → add (in_turn f i (count - i)) s ≡ total → total ≡ Ok s
+pub turns_end : {A : Type 0} (f : ℕ → Format (List A)) (count i : ℕ) (s : List A × Input) (total : Reading (List A × Input)) → count ≤ i → add (in_turn f i (count - i)) s ≡ total → total ≡ Ok s
 unfolding in_turn
 turns_end f count i s total le so_far =
     let k : count - i ≡ 0 = omega arith in

@@ -16,7 +16,6 @@ pub mod ReadLeaves
 pub mod ReadReferences
 pub mod ReadPlans
 pub mod NodeLeaves
-pub mod BuiltPlans
 pub mod CodingOrder
 pub mod ValidLeaves
 pub mod ValidModes

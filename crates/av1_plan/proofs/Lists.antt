@@ -1,12 +1,12 @@
 -- Lists that begin empty, and slots of planes.
-use Rattle.std.proofs.Common.{◌≡◌, List, [], ◌∷◌, ◌++◌, Option, Result, Ok, Err, refl}
+use Rattle.std.proofs.Common.{◌≡◌, List, [], ◌∷◌, ◌++◌, Option, Ok, Err, refl}
 use Rattle.std.proofs.lemmas.List.{map_push}
 use Rattle.av1_plan.specs.declared.planes.Planes.{Planes}
 use Rattle.av1_plan.specs.Plan.{slot_value, slot_values}
-use Rattle.av1_plan.specs.Format.{Fault, Format, Input, on_ok, read, add}
+use Rattle.av1_plan.specs.Format.{Format, Input, Reading, on_ok, read, add}
 use Rattle.av1_plan.proofs.Formats.{turns, add_asks, add_done}
 
-same : {A : Type 0} (r : Result (List A × Input) Fault) → r ≡ on_ok r (λ p. Ok p)
+same : {A : Type 0} (r : Reading (List A × Input)) → r ≡ on_ok r (λ p. Ok p)
 same (Ok p) = refl
 same (Err at) = refl
 

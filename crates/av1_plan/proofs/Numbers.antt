@@ -1,7 +1,8 @@
--- Numbers below a bound, tried one by one, and what the numbers of modes, references and filters stand for.
-use Rattle.std.proofs.Common.{◌≡◌, ℕ, zero, suc, ◌<◌, Bool, true, ◌&&◌, refl, arith, inl, inr, slice_index_or}
+-- What the numbers of modes, references and filters stand for.
+use Rattle.std.proofs.Common.{◌≡◌, ℕ, ◌<◌, refl, slice_index_or}
 use Rattle.std.specs.Prelude.{◌==◌}
-use Rattle.std.proofs.lemmas.Bool.{and_parts, cases_lt, eqb-true}
+use Rattle.std.proofs.lemmas.Bool.{eqb-true}
+use Rattle.av1_lists.proofs.Below.{below}
 use Rattle.av1_blocks.specs.declared.mc.FilterMode.{FilterMode}
 use Rattle.av1_blocks.specs.declared.mc.FilterMode.TheVariants.{REGULAR}
 use Rattle.av1_blocks.specs.declared.mc.TheConstants.FilterMode as filter_modes
@@ -14,20 +15,6 @@ use Rattle.av1_blocks.specs.declared.predict.TheConstants.PredictionMode as mode
 use Rattle.av1_blocks.specs.Filters.{filter_number}
 use Rattle.av1_blocks.specs.Modes.{mode_number}
 use Rattle.av1_blocks.specs.References.{reference_number}
-
--- whether the test holds of each number below n
-abbrev pub all_below : ℕ → (ℕ → Bool) → Bool
-all_below zero p = true
-all_below (suc n) p = p n && all_below n p
-
-pub below : (n : ℕ) (p : ℕ → Bool) → all_below n p ≡ true → (v : ℕ) → v < n → p v ≡ true
-below zero p e v lt = absurd (omega arith)
-below (suc n) p e v lt =
-    let (here, rest) = and_parts (p n) (all_below n p) e in
-    elim (cases_lt v n) [
-      | inl lower ↦ below n p rest v lower
-      | inr le ↦ let same : v ≡ n = omega arith in rw same here
-    ]
 
 -- the mode, the reference and the filter of a number
 abbrev pub mode_of : ℕ → PredictionMode

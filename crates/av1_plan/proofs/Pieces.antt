@@ -15,7 +15,7 @@ asks_by : {A : Type 0} (k : Kind) (next : ℕ → Format A) (y : A) (vs : List �
 asks_by k next y [] s = absurd s
 asks_by k next y (v ∷ vs) s = (v, s.0, record { values = vs; spells = s.1 })
 
--- a field has an admitted value that is built, and spells what its value decides
+-- a field has an admitted value, and spells what its value decides
 pub spelled_asks : {A : Type 0} (k : Kind) (next : ℕ → Format A) (y : A) → IsSpelled (asks k next) y → (v : ℕ) × IsAdmitted k v × IsSpelled (next v) y
 spelled_asks k next y s = asks_by k next y s.values s.spells
 

@@ -5,8 +5,6 @@ use Rattle.std.specs.Int.{is_in_range}
 use Rattle.std.proofs.lemmas.Bool.{eqb-true, leb-true, and_parts, or_cases}
 use Rattle.std.proofs.lemmas.List.Elements.{All-nil, All-cons}
 use Rattle.av1_plan.specs.declared.header.Header.{Header}
-use Rattle.av1_plan.specs.declared.built.Field.{Field}
-use Rattle.av1_plan.specs.declared.built.Field.TheVariants as fields
 use Rattle.av1_plan.specs.Format.{IsAdmitted}
 use Rattle.av1_plan.specs.Grammar.{byte_from, is_side, is_depth, slots, header, references, superblocks, plan}
 use Rattle.av1_plan.specs.Plan.{PlanValue}
@@ -28,8 +26,8 @@ depth_is n e = elim (or_cases (n == 8 || n == 10) (n == 12) e) [
 ]
 
 -- a byte from first to last lies between them
-pub range_is : (name : Field) (first last v : ℕ) → IsAdmitted (byte_from name first last) v → (first ≤ v) × (v ≤ last)
-range_is name first last v is =
+pub range_is : (first last v : ℕ) → IsAdmitted (byte_from first last) v → (first ≤ v) × (v ≤ last)
+range_is first last v is =
     let (least, most) = and_parts (nat_le first v) (nat_le v last) is.admitted in
     (leb-true first v least, leb-true v last most)
 
@@ -41,8 +39,8 @@ seven_slots a b c d e f g la lb lc ld le lf lg =
     let six = All-cons P b (c ∷ d ∷ e ∷ f ∷ g ∷ []) lb (All-cons P c (d ∷ e ∷ f ∷ g ∷ []) lc four) in
     record { count = refl; range = All-cons P a (b ∷ c ∷ d ∷ e ∷ f ∷ g ∷ []) la six }
 
-slot_is : (v : ℕ) → IsAdmitted (byte_from fields.Other 0 7) v → v < 8
-slot_is v is = omega (arith, (range_is fields.Other 0 7 v is).1)
+slot_is : (v : ℕ) → IsAdmitted (byte_from 0 7) v → v < 8
+slot_is v is = omega (arith, (range_is 0 7 v is).1)
 
 slots_are : (xs : List ℕ) → IsSpelled slots xs → AreSlots xs
 unfolding slots
@@ -68,8 +66,8 @@ header_is h s =
     let (edge_filter, _, s7) = spelled_asks _ _ h s6 in
     let (slots_found, slots_spelled, s8) = spelled_bind slots _ h s7 in
     let (mask, mask_in, s9) = spelled_asks _ _ h s8 in
-    let (_, low) = range_is fields.Sampling 0 2 sampling sampling_in in
-    let (_, known) = range_is fields.Other 0 3 filter filter_in in
+    let (_, low) = range_is 0 2 sampling sampling_in in
+    let (_, known) = range_is 0 3 filter filter_in in
     subst IsReadFrame (spelled_done _ h s9) (record {
       width = side_is width width_in.admitted;
       height = side_is height height_in.admitted;

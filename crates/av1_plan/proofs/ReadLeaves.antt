@@ -6,6 +6,7 @@ use Rattle.std.proofs.Math.Facts.{Fits-of_lt, sfits_to_z}
 use Rattle.std.proofs.lemmas.Bool.{not-true, ltb-true, ltb-false, le-ltb, eqb-false, le-leb}
 use Rattle.std.proofs.lemmas.List.Elements.{All-nil, All-cons}
 use Rattle.std.proofs.lemmas.Nat.Gcd.{mod-eq-zero_of_dvd}
+use Rattle.av1_lists.proofs.Below.{below}
 use Rattle.av1_blocks.specs.declared.mc.MotionVector.{MotionVector}
 use Rattle.av1_blocks.specs.declared.partition.BlockSize.{BlockSize}
 use Rattle.av1_blocks.specs.declared.partition.RefType.{RefType}
@@ -20,15 +21,14 @@ use Rattle.av1_plan.specs.declared.leaf.ChromaMode.{ChromaMode}
 use Rattle.av1_plan.specs.declared.leaf.ChromaMode.TheVariants.{Plain, Cfl}
 use Rattle.av1_plan.specs.declared.leaf.LeafKind.{LeafKind}
 use Rattle.av1_plan.specs.declared.leaf.LeafKind.TheVariants.{Intra, Single, Compound}
-use Rattle.av1_plan.specs.declared.built.Field.TheVariants as fields
-use Rattle.av1_plan.specs.Format.{done, ◌>>=◌, field}
+use Rattle.av1_plan.specs.Format.{one, any, done, ◌>>=◌, field}
 use Rattle.av1_plan.specs.Geometry.{carries_chroma}
-use Rattle.av1_plan.specs.Grammar.{signed_byte, vector, reference_frame, chroma_mode, intra, single, compound, leaf_kind, tx_size, tx_type, uv_type, triples, chroma_triples, leaf}
+use Rattle.av1_plan.specs.Grammar.{vector, reference_frame, chroma_mode, intra, single, compound, leaf_kind, tx_size, tx_type, uv_type, triples, chroma_triples, leaf}
 use Rattle.av1_plan.specs.Plan.{LeafValue}
 use Rattle.av1_plan.specs.ReadPlans.{IsReadChroma, IsOtherFrame, IsReadKind, AreThree, IsReadLeaf}
 use Rattle.av1_plan.specs.Spelling.{IsSpelled}
 use Rattle.av1_plan.proofs.NodeLeaves.{IsOn, IsPlace}
-use Rattle.av1_plan.proofs.Numbers.{below, mode_of, reference_of_number, mode_number_is, reference_number_is}
+use Rattle.av1_plan.proofs.Numbers.{mode_of, reference_of_number, mode_number_is, reference_number_is}
 use Rattle.av1_plan.proofs.Pieces.{spelled_done, spelled_asks, spelled_bind}
 use Rattle.av1_plan.proofs.ReadFrames.{range_is}
 
@@ -58,7 +58,7 @@ compound_mode v least lt = rw (mode_number_is v lt) (le-leb 20 v least)
 -- ---- the kind of a leaf
 
 chroma_by : (v : ℕ) (chroma : ChromaMode) (b : Bool) → (v == 13) ≡ b → v ≤ 13
-    → IsSpelled (if b then (field (signed_byte fields.Alpha) >>= λ u. field (signed_byte fields.Alpha) >>= λ w. done (Cfl (cast_signed w8 u) (cast_signed w8 w))) else (field (signed_byte fields.AngleStep) >>= λ step. done (Plain (mode_of v) (cast_signed w8 step)))) chroma
+    → IsSpelled (if b then (field (any one) >>= λ u. field (any one) >>= λ w. done (Cfl (cast_signed w8 u) (cast_signed w8 w))) else (field (any one) >>= λ step. done (Plain (mode_of v) (cast_signed w8 step)))) chroma
     → IsReadChroma (Some chroma)
 chroma_by v chroma true e most s =
     let (a, a_in, s1) = spelled_asks _ _ chroma s in
@@ -76,7 +76,7 @@ chroma_is : (chroma : ChromaMode) → IsSpelled chroma_mode chroma → IsReadChr
 unfolding chroma_mode
 chroma_is chroma s =
     let (v, v_in, s1) = spelled_asks _ _ chroma s in
-    chroma_by v chroma (v == 13) refl (range_is fields.ChromaMode 0 13 v v_in).1 s1
+    chroma_by v chroma (v == 13) refl (range_is 0 13 v v_in).1 s1
 
 intra_is : (carried : Bool) (mode : PredictionMode) (kind : LeafKind) → is_intra mode ≡ true → IsSpelled (intra carried mode) kind → IsReadKind carried kind
 unfolding intra
@@ -101,7 +101,7 @@ reference_is : (reference : RefType) → IsSpelled reference_frame reference →
 unfolding reference_frame
 reference_is reference s =
     let (v, v_in, s1) = spelled_asks _ _ reference s in
-    let (least, most) = range_is fields.Reference 1 7 v v_in in
+    let (least, most) = range_is 1 7 v v_in in
     let e = reference_number_is v (omega (arith, most)) in
     let is : IsOtherFrame (reference_of_number v) = record { least = rw e least; most = rw e most } in
     subst IsOtherFrame (spelled_done _ reference s1) is
@@ -148,7 +148,7 @@ kind_is : (carried : Bool) (kind : LeafKind) → IsSpelled (leaf_kind carried) k
 unfolding leaf_kind
 kind_is carried kind s =
     let (v, v_in, s1) = spelled_asks _ _ kind s in
-    kind_by carried v kind (nat_lt v 14) (nat_lt v 20) refl refl (range_is fields.LumaMode 0 33 v v_in).1 s1
+    kind_by carried v kind (nat_lt v 14) (nat_lt v 20) refl refl (range_is 0 33 v v_in).1 s1
 
 -- ---- leaves
 

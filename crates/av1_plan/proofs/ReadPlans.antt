@@ -1,4 +1,4 @@
--- What holds of every plan that is read, whatever of the grammar is built. A plan in memory keeps only that some list of fields spells
+-- What holds of every plan that is read. A plan in memory keeps only that some list of fields spells
 -- it, so each fact is brought out by itself.
 use Rattle.std.proofs.Common.{◌≡◌, ℕ, ◌<◌, ◌≤◌, ◌⊎◌, inl, inr, Bool, true, false, List, [], ◌∷◌, length, Option, Some, None, get_or, All, refl, sym, ap, ◌∙◌, subst, arith}
 use Rattle.std.specs.Prelude.{slice_index_or}

@@ -2,11 +2,10 @@
 use Rattle.std.proofs.Common.{◌≡◌, ℕ, zero, suc, ◌+◌, ◌<◌, ◌^◌, true, false, Bool, List, [], ◌∷◌, ◌++◌, length, get_or, Option, Some, None, refl, ap, subst, ◌∙◌, arith, slice_index_or}
 use Rattle.std.specs.Prelude.{nat_lt, ◌==◌, if◌then◌else◌}
 use Rattle.std.proofs.lemmas.Bool.{eqb-true, ltb-true}
-use Rattle.av1_plan.specs.declared.built.Field.TheVariants as fields
 use Rattle.av1_plan.specs.declared.header.Header.{Header}
-use Rattle.av1_plan.specs.Format.{two, Format, done, ◌>>=◌, IsAdmitted, field, lone, in_turn}
+use Rattle.av1_plan.specs.Format.{one, two, any, Format, done, ◌>>=◌, IsAdmitted, field, lone, in_turn}
 use Rattle.av1_plan.specs.Geometry.{plane_len, has_slot}
-use Rattle.av1_plan.specs.Grammar.{byte_from, where_, sample, plane, reference, slot_planes, references}
+use Rattle.av1_plan.specs.Grammar.{where_, sample, plane, reference, slot_planes, references}
 use Rattle.av1_plan.specs.Plan.{PlanValue, reference_of}
 use Rattle.av1_plan.specs.ReadPlans.{ArePlane, IsReadReference}
 use Rattle.av1_plan.specs.Spelling.{IsSpelled}
@@ -29,11 +28,11 @@ module _ {A : Type 0} (f : ℕ → Format A) where
   are_in_turn i zero zs s = subst (AreInTurn f i 0) (spelled_no_turn (λ j. lone (f j)) i zs s) (record { count = refl; each = λ k d lt. absurd (omega arith) })
   are_in_turn i (suc n) zs s =
       let (xs, ys, front, behind, is) = spelled_turn (λ j. lone (f j)) i n zs s in
-      let (x, x_spelled, one) = spelled_lone (f i) xs front in
-      let whole : x ∷ ys ≡ zs = ap (λ (t : List A). t ++ ys) one ∙ is in
+      let (x, x_spelled, lone_is) = spelled_lone (f i) xs front in
+      let whole : x ∷ ys ≡ zs = ap (λ (t : List A). t ++ ys) lone_is ∙ is in
       subst (AreInTurn f i (suc n)) whole (first_or_later i n x ys x_spelled (are_in_turn (i + 1) n ys behind))
 
-sample_by : (depth v : ℕ) (b : Bool) → (depth == 8) ≡ b → IsAdmitted (if b then byte_from fields.Other 0 255 else where_ two fields.Other (λ v. nat_lt v (2 ^ depth))) v → v < 2 ^ depth
+sample_by : (depth v : ℕ) (b : Bool) → (depth == 8) ≡ b → IsAdmitted (if b then any one else where_ two (λ v. nat_lt v (2 ^ depth))) v → v < 2 ^ depth
 sample_by depth v true e is = rw (eqb-true depth 8 e) is.fits
 sample_by depth v false e is = ltb-true v (2 ^ depth) is.admitted
 

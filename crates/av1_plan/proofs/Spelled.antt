@@ -1,24 +1,24 @@
 -- What is read is spelled so, and what is spelled so is read; and how far a reading comes.
-use Rattle.std.proofs.Common.{◌≡◌, Bool, true, false, cond, eqb, ℕ, ◌+◌, ◌≤◌, List, [], ◌∷◌, ◌++◌, length, Result, Ok, Err, refl, sym, ap, subst, ◌∙◌, append_assoc, arith}
+use Rattle.std.proofs.Common.{◌≡◌, Bool, true, false, cond, eqb, ℕ, ◌+◌, ◌≤◌, List, [], ◌∷◌, ◌++◌, length, Ok, Err, refl, sym, ap, subst, ◌∙◌, append_assoc, arith}
 use Rattle.std.specs.Int.{to_le_bytes, byte_len}
 use Rattle.std.proofs.lemmas.List.{append-nil, length-append, nil_from_length}
 use Rattle.std.proofs.lemmas.Bool.{eqb-true}
-use Rattle.av1_plan.specs.Format.{Fault, malformed, not_built, start, Kind, Format, done, asks, width, IsAdmitted, Input, on_ok, read_field, read, ended, read_all}
-use Rattle.av1_plan.specs.Spelling.{IsProper, Spells, text, AreText, IsPrefix, AreRefused, IsUnbuilt, Names, place}
-use Rattle.av1_plan.proofs.Fields.{AreBytes, field_takes, field_again, field_fails, field_not_built, field_unbuilt, some_bytes, length-le}
+use Rattle.av1_plan.specs.Format.{start, Kind, Format, done, asks, width, IsAdmitted, Input, Reading, on_ok, read_field, read, ended, read_all}
+use Rattle.av1_plan.specs.Spelling.{IsProper, Spells, text, AreText, IsPrefix, AreRefused}
+use Rattle.av1_plan.proofs.Fields.{AreBytes, field_takes, field_again, field_fails, length-le}
 
 -- where a reading came to
-abbrev pub end : {A : Type 0} → Result (A × Input) Fault → ℕ
+abbrev pub end : {A : Type 0} → Reading (A × Input) → ℕ
 end (Ok p) = p.1.at
-end (Err d) = place d
+end (Err at) = at
 
-abbrev ok : {A : Type 0} → A → Result A Fault
+abbrev ok : {A : Type 0} → A → Reading A
 ok x = Ok x
 
 ok_is : {A : Type 0} (x y : A) → ok x ≡ ok y → x ≡ y
 ok_is x y e = cc
 
-bind_ok : {A B : Type 0} (r : Result A Fault) (f : A → Result B Fault) (y : B) → on_ok r f ≡ Ok y → (x : A) × (r ≡ Ok x) × (f x ≡ Ok y)
+bind_ok : {A B : Type 0} (r : Reading A) (f : A → Reading B) (y : B) → on_ok r f ≡ Ok y → (x : A) × (r ≡ Ok x) × (f x ≡ Ok y)
 bind_ok (Ok x) f y e = (x, refl, e)
 bind_ok (Err d) f y e = absurd cc
 
@@ -82,61 +82,17 @@ read_spells (asks k next) i x j fits e =
 
 -- ---- all of the bytes
 
-done_ok : {A : Type 0} (b : Bool) (y : A) (at : Fault) (x : A) → cond b (ok y) (Err at) ≡ ok x → (b ≡ true) × (y ≡ x)
+done_ok : {A : Type 0} (b : Bool) (y : A) (at : ℕ) (x : A) → cond b (ok y) (Err at) ≡ ok x → (b ≡ true) × (y ≡ x)
 done_ok true y at x e = (refl, cc)
 done_ok false y at x e = absurd cc
 
-done_err : {A : Type 0} (b : Bool) (y : A) (at : ℕ) (d : Fault) → cond b (ok y) (Err (malformed at)) ≡ Err d → malformed at ≡ d
+done_err : {A : Type 0} (b : Bool) (y : A) (at d : ℕ) → cond b (ok y) (Err at) ≡ Err d → at ≡ d
 done_err true y at d e = absurd cc
 done_err false y at d e = cc
 
-ended_err : {A : Type 0} (r : Result (A × Input) Fault) (d : Fault) → on_ok r ended ≡ Err d → end r ≡ place d
-ended_err (Ok p) d e = ap place (done_err (eqb (length p.1.rest) 0) p.0 p.1.at d e)
-ended_err (Err x) d e = let same : x ≡ d = cc in ap place same
-
-ended_unbuilt : {A : Type 0} (r : Result (A × Input) Fault) (at : ℕ) → on_ok r ended ≡ Err (not_built at) → r ≡ Err (not_built at)
-ended_unbuilt (Ok p) at e = let d : malformed p.1.at ≡ not_built at = done_err (eqb (length p.1.rest) 0) p.0 p.1.at (not_built at) e in absurd cc
-ended_unbuilt (Err x) at e = cc
-
--- ---- why a reading stopped
-
--- where a field isn't built the reading stops
-pub stops_unbuilt : {A : Type 0} (f : Format A) (i : Input) (vs rest : List ℕ) → IsProper f vs → i.rest ≡ text f vs ++ rest → IsUnbuilt f vs rest → (at : ℕ) × (read f i ≡ Err (not_built at))
-stops_unbuilt (done y) i vs rest h e u = absurd u
-stops_unbuilt (asks k next) i [] rest h e u =
-    let (v, lt, admitted, unbuilt, (more, is)) = u in
-    let all : i.rest ≡ to_le_bytes (width k.size) v ++ more = e ∙ is in
-    let r : read_field k i ≡ Err (not_built i.at) = ap (λ (t : List ℕ). read_field k (record { at = i.at; rest = t })) all ∙ field_not_built k i.at v more lt admitted unbuilt in
-    (i.at, rw r refl)
-stops_unbuilt (asks k next) i (v ∷ vs) rest h e u =
-    let r = next_field k i v (text (next v) vs) rest h.0 e in
-    let (at, is) = stops_unbuilt (next v) (record { at = i.at + byte_len (width k.size); rest = text (next v) vs ++ rest }) vs rest h.1 refl u in
-    (at, rw r is)
-
-abbrev err : {A : Type 0} → Fault → Result A Fault
-err d = Err d
-
-err_is : {A : Type 0} (d e : Fault) → err {A = A} d ≡ err e → d ≡ e
-err_is d e h = cc
-
--- where a reading stops for that reason, the field isn't built
-pub unbuilt_stops : {A : Type 0} (f : Format A) (i : Input) (vs rest : List ℕ) (at : ℕ) → AreBytes i.rest → read f i ≡ Err (not_built at) → IsProper f vs → i.rest ≡ text f vs ++ rest → i.at + length (text f vs) ≡ at → IsUnbuilt f vs rest
-unbuilt_stops (done y) i vs rest at fits e h is len = absurd cc
-unbuilt_stops (asks k next) i [] rest at fits e h is len = elim (read_field k i) as (λ r. read_field k i ≡ r → on_ok r (λ p. read (next p.0) p.1) ≡ Err (not_built at) → IsUnbuilt (asks k next) [] rest) [
-  | Err d ↦ λ r q.
-      let same : read_field k i ≡ Err (not_built at) = r ∙ ap (λ (x : Fault). let y : Result (ℕ × Input) Fault = Err x in y) (err_is d (not_built at) q) in
-      subst (λ (t : List ℕ). IsUnbuilt (asks k next) [] t) is (field_unbuilt k i at fits same)
-  | Ok p ↦ λ r q.
-      let t = field_takes k i p.0 p.1 fits r in
-      let far = (reaches (next p.0) p.1 t.fits).3 in
-      let stop : end (read (next p.0) p.1) ≡ at = ap end q in
-      absurd (omega (arith, far, stop, t.at, length-le k.size p.0, some_bytes k.size))
-] refl e
-unbuilt_stops (asks k next) i (v ∷ vs) rest at fits e h is len =
-    let r = next_field k i v (text (next v) vs) rest h.0 is in
-    let j : Input = record { at = i.at + byte_len (width k.size); rest = text (next v) vs ++ rest } in
-    let further : read (next v) j ≡ Err (not_built at) = rw r at e in
-    unbuilt_stops (next v) j vs rest at (field_takes k i v j fits r).fits further h.1 refl (ahead i.at (byte_len (width k.size)) (to_le_bytes (width k.size) v) (text (next v) vs) (length-le k.size v) ∙ len)
+ended_err : {A : Type 0} (r : Reading (A × Input)) (d : ℕ) → on_ok r ended ≡ Err d → end r ≡ d
+ended_err (Ok p) d e = done_err (eqb (length p.1.rest) 0) p.0 p.1.at d e
+ended_err (Err at) d e = cc
 
 pub all_again : {A : Type 0} (f : Format A) (bytes : List ℕ) (x : A) → AreText f bytes x → read_all f (record { at = 0; rest = bytes }) ≡ Ok x
 all_again f bytes x t =
@@ -144,26 +100,23 @@ all_again f bytes x t =
     ap (λ (b : List ℕ). read f (record { at = 0; rest = b })) (t.2 ∙ sym (append-nil (text f t.0))) ∙ read_again f t.0 x 0 [] t.1 in
     rw e refl
 
+-- bytes are the text of one value at most
+pub one_text : {A : Type 0} (f : Format A) (bytes : List ℕ) (x y : A) → AreText f bytes x → AreText f bytes y → x ≡ y
+one_text f bytes x y t u = ok_is x y (sym (all_again f bytes x t) ∙ all_again f bytes y u)
+
 pub all_found : {A : Type 0} (f : Format A) (bytes : List ℕ) (x : A) → AreBytes bytes → read_all f (record { at = 0; rest = bytes }) ≡ Ok x → AreText f bytes x
 all_found f bytes x fits e =
     let i : Input = record { at = 0; rest = bytes } in
     let b = bind_ok (read f i) ended x e in
-    let d = done_ok (eqb (length b.0.1.rest) 0) b.0.0 (malformed b.0.1.at) x b.2 in
+    let d = done_ok (eqb (length b.0.1.rest) 0) b.0.0 b.0.1.at x b.2 in
     let nothing : b.0.1.rest ≡ [] = nil_from_length b.0.1.rest (eqb-true _ _ d.0) in
     let s = read_spells f i b.0.0 b.0.1 fits b.1 in
     (s.0, subst (λ (y : _). Spells f s.0 y) d.1 s.1, s.2 ∙ ap (λ (t : List ℕ). text f s.0 ++ t) nothing ∙ append-nil (text f s.0))
 
-clash : {A : Type 0} (x : A) (d : Fault) → ok x ≡ Err d → ⊥
+clash : {A : Type 0} (x : A) (d : ℕ) → ok x ≡ Err d → ⊥
 clash x d e = cc
 
-names : {A : Type 0} (f : Format A) (bytes : List ℕ) (d : Fault) (vs rest : List ℕ) → AreBytes bytes → read_all f (start bytes) ≡ Err d → IsProper f vs → bytes ≡ text f vs ++ rest → length (text f vs) ≡ place d → Names d f vs rest
-names f bytes (malformed at) vs rest fits e h is len = λ u.
-    let s = stops_unbuilt f (start bytes) vs rest h is u in
-    let stop : read_all f (start bytes) ≡ Err (not_built s.0) = rw s.1 refl in
-    absurd cc
-names f bytes (not_built at) vs rest fits e h is len = unbuilt_stops f (start bytes) vs rest at fits (ended_unbuilt (read f (start bytes)) at e) h is (omega (arith, len))
-
-pub all_refused : {A : Type 0} (f : Format A) (bytes : List ℕ) (d : Fault) → AreBytes bytes → read_all f (start bytes) ≡ Err d → AreRefused f bytes d
+pub all_refused : {A : Type 0} (f : Format A) (bytes : List ℕ) (d : ℕ) → AreBytes bytes → read_all f (start bytes) ≡ Err d → AreRefused f bytes d
 all_refused f bytes d fits e =
     let i = start bytes in
     let is = ended_err (read f i) d e in
@@ -174,5 +127,4 @@ all_refused f bytes d fits e =
         reached = (r.0, r.1, r.2, omega (arith, r.3));
         longest = λ vs h p. omega (arith, no_longer f i vs fits h p);
       };
-      why = λ vs rest h is len. names f bytes d vs rest fits e h is len;
     }

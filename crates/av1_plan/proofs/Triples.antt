@@ -1,25 +1,25 @@
 -- Triples that come behind others.
-use Rattle.std.proofs.Common.{◌≡◌, ℕ, ◌+◌, ◌≤◌, ◌<◌, List, [], ◌∷◌, ◌++◌, length, take, drop, Result, Ok, Err, refl, sym, ap, subst, ◌∙◌, arith, sum}
+use Rattle.std.proofs.Common.{◌≡◌, ℕ, ◌+◌, ◌≤◌, ◌<◌, List, [], ◌∷◌, ◌++◌, length, take, drop, Ok, Err, refl, sym, ap, subst, ◌∙◌, arith, sum}
 use Rattle.std.proofs.lemmas.List.{take-append-drop, take-append-le, drop-append-le, take_at, drop_at, length-append, length-drop, take_all, map-append}
 use Rattle.std.proofs.lemmas.List.Sums.{sum_by-cons}
 use Rattle.av1_plan.specs.declared.leaf.Triple.{Triple}
 use Rattle.av1_plan.specs.declared.leaf.Leaf.{Leaf}
-use Rattle.av1_plan.specs.Format.{Fault, Format, Input, on_ok, read, add}
+use Rattle.av1_plan.specs.Format.{Format, Input, Reading, on_ok, read, add}
 use Rattle.av1_plan.specs.Plan.{LeafValue, cut, leaf_value, leaf_values, Follow}
 use Rattle.av1_plan.specs.Reading.{Extends, added}
 
 -- what was read behind xs
-pub record Behind (read : Result (List Triple × Input) Fault) (xs ys : List Triple) (n : ℕ) (j : Input) : Type 0 where
+pub record Behind (read : Reading (List Triple × Input)) (xs ys : List Triple) (n : ℕ) (j : Input) : Type 0 where
   pub given : read ≡ Ok (added xs ys n, j)
   pub extends : Extends xs ys n
 
-abbrev ok : List Triple × Input → Result (List Triple × Input) Fault
+abbrev ok : List Triple × Input → Reading (List Triple × Input)
 ok p = Ok p
 
 ok_is : (x y : List Triple × Input) → ok x ≡ ok y → x ≡ y
 ok_is x y e = cc
 
-behind : (r : Result (List Triple × Input) Fault) (xs ys : List Triple) (n : ℕ) (j : Input) → on_ok r (λ p. ok (xs ++ p.0, p.1)) ≡ ok (ys, j) → length ys ≡ length xs + n → Behind r xs ys n j
+behind : (r : Reading (List Triple × Input)) (xs ys : List Triple) (n : ℕ) (j : Input) → on_ok r (λ p. ok (xs ++ p.0, p.1)) ≡ ok (ys, j) → length ys ≡ length xs + n → Behind r xs ys n j
 behind (Err at) xs ys n j e len = absurd cc
 behind (Ok p) xs ys n j e len =
     let pair = ok_is (xs ++ p.0, p.1) (ys, j) e in

@@ -1,12 +1,11 @@
 -- What a plan in memory says, and what the answers of parsing say.
-use Rattle.std.specs.Prelude.{List, Result, Ok, Err}
+use Rattle.std.specs.Prelude.{ℕ, List, Result, Ok, Err}
 use Rattle.av1_plan.specs.declared.plan.Plan.{Plan}
 use Rattle.av1_plan.specs.declared.leaf.Leaf.{Leaf}
 use Rattle.av1_plan.specs.declared.leaf.Triple.{Triple}
 use Rattle.av1_plan.specs.declared.error.PlanError.{PlanError}
 use Rattle.av1_plan.specs.declared.error.PlanError.TheVariants as errors
 use Rattle.av1_plan.specs.Plan.{PlanValue, value_of}
-use Rattle.av1_plan.specs.Format.{Fault, malformed, not_built}
 
 -- the leaves of a plan, as they lie in memory
 abbrev pub stored_leaves : Plan → List Leaf
@@ -20,9 +19,8 @@ stored_triples p = p.triples.items
 abbrev pub plan_value : Plan → PlanValue
 plan_value p = value_of p.header p.references.items (stored_leaves p) (stored_triples p)
 
--- P holds of the fault that the answer names, if it names one
-abbrev pub FailsAs : {X : Type 0} → Result X PlanError → (Fault → Type 0) → Type 0
-FailsAs (Ok x) P = Unit {0}
-FailsAs (Err errors.Memory) P = Unit {0}
-FailsAs (Err (errors.Malformed at)) P = P (malformed at)
-FailsAs (Err (errors.NotBuilt at)) P = P (not_built at)
+-- P holds of the place that the answer names, if it names one
+abbrev pub IfMalformed : {X : Type 0} → Result X PlanError → (ℕ → Type 0) → Type 0
+IfMalformed (Ok x) P = Unit {0}
+IfMalformed (Err errors.Memory) P = Unit {0}
+IfMalformed (Err (errors.Malformed at)) P = P at

@@ -19,12 +19,10 @@ limit one = 2 ^ 8
 limit two = 2 ^ 16
 limit four = 2 ^ 32
 
--- the kind of a field: how many bytes it has (a number, little-endian), which numbers are admitted, and which of these are
--- built yet
+-- the kind of a field: how many bytes it has (a number, little-endian), and which numbers are admitted
 pub record Kind : Type 0 where
   pub size : Length
   pub admits : ℕ → Bool
-  pub built : ℕ → Bool
 
 -- what is asked for: nothing more, or a field of this kind, and then what its value decides
 pub data Format (A : Type 0) : Type 0 where
@@ -35,7 +33,6 @@ pub data Format (A : Type 0) : Type 0 where
 pub record IsAdmitted (k : Kind) (v : ℕ) : Type 0 where
   pub fits : v < limit k.size
   pub admitted : IsTrue (k.admits v)
-  pub built : IsTrue (k.built v)
 
 -- one format, and then the one that its value decides
 infixl 10 ◌>>=◌
@@ -49,7 +46,7 @@ field k = asks k (λ v. done v)
 
 -- any number of this length
 abbrev pub any : Length → Kind
-any size = record { size = size; admits = λ _. true; built = λ _. true }
+any size = record { size = size; admits = λ _. true }
 
 -- ---- formats of lists
 
@@ -73,46 +70,42 @@ in_turn f i (suc n) = f i ++> in_turn f (i + 1) n
 
 -- ---- reading from left to right
 
--- why a reading stopped, and the place of the field at which it did
-pub data Fault : Type 0 where
-  malformed : ℕ → Fault
-  not_built : ℕ → Fault
-
 -- the place of the next field, and the bytes from there on
 pub record Input : Type 0 where
   pub at : ℕ
   pub rest : List ℕ
 
--- the next step of a reading, unless it has stopped
-abbrev pub on_ok : {A B : Type 0} → Result A Fault → (A → Result B Fault) → Result B Fault
-on_ok (Ok x) f = f x
-on_ok (Err fault) f = Err fault
+-- what a reading gives, or the place of the field at which it stopped
+abbrev pub Reading : Type 0 → Type 0
+Reading A = Result A ℕ
 
--- the number at the front and what is left; malformed where it is cut or not admitted, not_built where it is admitted but
--- not built yet
-unfoldable pub read_field : Kind → Input → Result (ℕ × Input) Fault
+-- the next step of a reading, unless it has stopped
+abbrev pub on_ok : {A B : Type 0} → Reading A → (A → Reading B) → Reading B
+on_ok (Ok x) f = f x
+on_ok (Err at) f = Err at
+
+-- the number at the front and what is left; it stops where that number is cut or not admitted
+unfoldable pub read_field : Kind → Input → Reading (ℕ × Input)
 read_field k i =
     let n = byte_len (width k.size) in
     let value = from_le_bytes (width k.size) (take n i.rest) in
-    if nat_le n (length i.rest) && k.admits value then
-    (if k.built value then Ok (value, record { at = i.at + n; rest = drop n i.rest }) else Err (not_built i.at))
-    else Err (malformed i.at)
+    if nat_le n (length i.rest) && k.admits value then Ok (value, record { at = i.at + n; rest = drop n i.rest }) else Err i.at
 
 -- the value that the front spells, and what is left
-abbrev pub read : {A : Type 0} → Format A → Input → Result (A × Input) Fault
+abbrev pub read : {A : Type 0} → Format A → Input → Reading (A × Input)
 read (done x) i = Ok (x, i)
 read (asks k next) i = on_ok (read_field k i) (λ p. read (next p.0) p.1)
 
 -- reads more items, behind those that were read before
-unfoldable pub add : {A : Type 0} → Format (List A) → List A × Input → Result (List A × Input) Fault
+unfoldable pub add : {A : Type 0} → Format (List A) → List A × Input → Reading (List A × Input)
 add f s = on_ok (read f s.1) (λ p. Ok (s.0 ++ p.0, p.1))
 
 -- the value, where no byte is left
-abbrev pub ended : {A : Type 0} → A × Input → Result A Fault
-ended p = if length p.1.rest == 0 then Ok p.0 else Err (malformed p.1.at)
+abbrev pub ended : {A : Type 0} → A × Input → Reading A
+ended p = if length p.1.rest == 0 then Ok p.0 else Err p.1.at
 
 -- the value that all of the bytes spell
-abbrev pub read_all : {A : Type 0} → Format A → Input → Result A Fault
+abbrev pub read_all : {A : Type 0} → Format A → Input → Reading A
 read_all f i = on_ok (read f i) ended
 
 -- bytes of which nothing is read yet

@@ -23,11 +23,8 @@ use Rattle.av1_blocks.specs.declared.transform.TxType.TheVariants.{DCT_DCT}
 use Rattle.av1_blocks.specs.declared.transform.TheConstants.TxType as tx_types
 use Rattle.av1_blocks.specs.Parts.{subsize}
 use Rattle.av1_plan.specs.Format.{Length, one, two, four, Kind, Format, done, ◌>>=◌, field, any, nothing, lone, ◌++>◌, in_turn}
-use Rattle.av1_plan.specs.Built.{is_built}
 use Rattle.av1_plan.specs.Geometry.{plane_len, has_slot, is_inside, carries_chroma}
 use Rattle.av1_plan.specs.Plan.{LeafValue, PlanValue}
-use Rattle.av1_plan.specs.declared.built.Field.{Field}
-use Rattle.av1_plan.specs.declared.built.Field.TheVariants as fields
 use Rattle.av1_plan.specs.declared.header.Header.{Header}
 use Rattle.av1_plan.specs.declared.leaf.Triple.{Triple}
 use Rattle.av1_plan.specs.declared.leaf.ChromaMode.{ChromaMode}
@@ -38,26 +35,18 @@ use Rattle.av1_plan.specs.declared.leaf.LeafKind.TheVariants.{Intra, Single, Com
 -- ---- kinds of fields
 
 -- a number of this length that passes a test
-abbrev pub where_ : Length → Field → (ℕ → Bool) → Kind
-where_ size name admits = record { size = size; admits = admits; built = is_built name }
+abbrev pub where_ : Length → (ℕ → Bool) → Kind
+where_ size admits = record { size = size; admits = admits }
 
 -- a byte from first to last
-abbrev pub byte_from : Field → ℕ → ℕ → Kind
-byte_from name first last = where_ one name (is_in_range first last)
-
--- a signed byte
-abbrev pub signed_byte : Field → Kind
-signed_byte name = byte_from name 0 255
-
--- two bytes, any number
-abbrev pub u16_field : Field → Kind
-u16_field name = where_ two name (λ _. true)
+abbrev pub byte_from : ℕ → ℕ → Kind
+byte_from first last = where_ one (is_in_range first last)
 
 -- ---- what stands before the leaves
 
 -- the four letters at the front
 abbrev pub magic : Kind
-magic = where_ four fields.Other (λ v. v == from_le_bytes w32 (codes "RPL1"))
+magic = where_ four (λ v. v == from_le_bytes w32 (codes "RPL1"))
 
 -- a side of a frame, in samples of luma
 abbrev pub is_side : ℕ → Bool
@@ -70,32 +59,32 @@ is_depth v = v == 8 || v == 10 || v == 12
 -- the slots that LAST, LAST2, LAST3, GOLDEN, BWDREF, ALTREF2 and ALTREF name
 unfoldable pub slots : Format (List ℕ)
 slots = do
-  last ← field (byte_from fields.Other 0 7)
-  last_2 ← field (byte_from fields.Other 0 7)
-  last_3 ← field (byte_from fields.Other 0 7)
-  golden ← field (byte_from fields.Other 0 7)
-  backward ← field (byte_from fields.Other 0 7)
-  alternate_2 ← field (byte_from fields.Other 0 7)
-  alternate ← field (byte_from fields.Other 0 7)
+  last ← field (byte_from 0 7)
+  last_2 ← field (byte_from 0 7)
+  last_3 ← field (byte_from 0 7)
+  golden ← field (byte_from 0 7)
+  backward ← field (byte_from 0 7)
+  alternate_2 ← field (byte_from 0 7)
+  alternate ← field (byte_from 0 7)
   done (last ∷ last_2 ∷ last_3 ∷ golden ∷ backward ∷ alternate_2 ∷ alternate ∷ [])
 
 -- the frame and what holds for all leaves
 unfoldable pub header : Format Header
 header = do
   _ ← field magic
-  width ← field (where_ two fields.Other is_side)
-  height ← field (where_ two fields.Other is_side)
-  depth ← field (where_ one fields.Other is_depth)
-  sampling ← field (byte_from fields.Sampling 0 2)
-  filter ← field (byte_from fields.Other 0 3)
-  edge_filter ← field (byte_from fields.Other 0 1)
+  width ← field (where_ two is_side)
+  height ← field (where_ two is_side)
+  depth ← field (where_ one is_depth)
+  sampling ← field (byte_from 0 2)
+  filter ← field (byte_from 0 3)
+  edge_filter ← field (byte_from 0 1)
   slots ← slots
-  mask ← field (byte_from fields.Mask 0 255)
+  mask ← field (any one)
   done (record { width = width; height = height; depth = depth; sampling = sampling; filter = slice_index_or filter_modes.ALL filter REGULAR; edge_filter = edge_filter == 1; slots = slots; mask = mask })
 
 -- a sample of a reference: one byte at depth 8, else two
 abbrev pub sample : ℕ → Kind
-sample depth = if depth == 8 then byte_from fields.Other 0 255 else where_ two fields.Other (λ v. nat_lt v (2 ^ depth))
+sample depth = if depth == 8 then any one else where_ two (λ v. nat_lt v (2 ^ depth))
 
 -- the samples of a plane of this many, row by row
 unfoldable pub plane : ℕ → ℕ → Format (List ℕ)
@@ -122,31 +111,31 @@ references h = in_turn (λ slot. lone (slot_planes h slot)) 0 8
 -- down and right, in eighths of a sample
 unfoldable pub vector : Format MotionVector
 vector = do
-  row ← field (u16_field fields.Vector)
-  col ← field (u16_field fields.Vector)
+  row ← field (any two)
+  col ← field (any two)
   done (record { row = cast_signed w16 row; col = cast_signed w16 col })
 
 -- a reference frame, from LAST to ALTREF
 unfoldable pub reference_frame : Format RefType
 reference_frame = do
-  number ← field (byte_from fields.Reference 1 7)
+  number ← field (byte_from 1 7)
   done (slice_index_or references_by_number.ALL number INTRA_FRAME)
 
 -- an intra mode and its angle step, or the two weights of chroma from luma
 unfoldable pub chroma_mode : Format ChromaMode
 chroma_mode = do
-  mode ← field (byte_from fields.ChromaMode 0 13)
+  mode ← field (byte_from 0 13)
   if mode == 13 then (do
-    u ← field (signed_byte fields.Alpha)
-    v ← field (signed_byte fields.Alpha)
+    u ← field (any one)
+    v ← field (any one)
     done (Cfl (cast_signed w8 u) (cast_signed w8 v))) else (do
-      step ← field (signed_byte fields.AngleStep)
+      step ← field (any one)
       done (Plain (slice_index_or modes.ALL mode DC_PRED) (cast_signed w8 step)))
 
 -- an intra leaf: an angle step, and the chroma mode where chroma is carried
 unfoldable pub intra : Bool → PredictionMode → Format LeafKind
 intra has_chroma mode = do
-  step ← field (signed_byte fields.AngleStep)
+  step ← field (any one)
   if has_chroma then (do
     chroma ← chroma_mode
     done (Intra mode (cast_signed w8 step) (Some chroma))) else
@@ -171,7 +160,7 @@ compound mode = do
 -- the luma mode, and what it asks for
 unfoldable pub leaf_kind : Bool → Format LeafKind
 leaf_kind has_chroma = do
-  number ← field (byte_from fields.LumaMode 0 33)
+  number ← field (byte_from 0 33)
   if nat_lt number 14 then intra has_chroma (slice_index_or modes.ALL number DC_PRED)
       else if nat_lt number 20 then single (slice_index_or modes.ALL number DC_PRED)
       else compound (slice_index_or modes.ALL number DC_PRED)
@@ -179,13 +168,13 @@ leaf_kind has_chroma = do
 -- the size of the luma transforms
 unfoldable pub tx_size : Format TxSize
 tx_size = do
-  number ← field (byte_from fields.Other 0 18)
+  number ← field (byte_from 0 18)
   done (slice_index_or tx_sizes.ALL number TX_4X4)
 
 -- the type of the luma or the chroma transforms
 unfoldable pub tx_type : Format TxType
 tx_type = do
-  number ← field (byte_from fields.Other 0 16)
+  number ← field (byte_from 0 16)
   done (slice_index_or tx_types.ALL number DCT_DCT)
 
 -- the type of the chroma transforms, where chroma is carried
@@ -260,7 +249,7 @@ parts h level quarter x y (suc (suc (suc mark))) = quarter x y ++> quarter (x + 
 unfoldable pub block : Header → ℕ → ℕ → ℕ → Format (List LeafValue)
 block h zero x y = part h BLOCK_4X4 x y
 block h (suc level) x y = inside h x y (do
-  mark ← field (byte_from fields.Other 0 3)
+  mark ← field (byte_from 0 3)
   parts h (suc level) (block h level) x y mark)
 
 -- the superblocks, of side 64, whose corner lies in the frame: one row of them

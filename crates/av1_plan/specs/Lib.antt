@@ -1,6 +1,5 @@
 pub mod Format
 pub mod Spelling
-pub mod Built
 pub mod Geometry
 pub mod Plan
 pub mod Tree

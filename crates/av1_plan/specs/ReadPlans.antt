@@ -1,4 +1,4 @@
--- What holds of every plan that is read, whatever of the grammar is built: its frame, its reference samples and its leaves.
+-- What holds of every plan that is read: its frame, its reference samples and its leaves.
 use Rattle.std.specs.Prelude.{◌≡◌, ℕ, ◌^◌, ◌%◌, ◌<◌, ◌≤◌, ◌⊎◌, Bool, true, false, ℤ, List, [], ◌∷◌, length, Option, Some, None, is_some, FitsSigned}
 use Rattle.std.specs.Int.{w8}
 use Rattle.std.specs.List.{All}

@@ -4,16 +4,15 @@ use Rattle.av1_plan.specs.declared.error.PlanError.{PlanError}
 use Rattle.av1_plan.specs.declared.error.PlanError.TheVariants as errors
 use Rattle.av1_plan.specs.declared.reader.Reader.{Reader}
 use Rattle.av1_plan.specs.declared.leaf.Triple.{Triple}
-use Rattle.av1_plan.specs.Format.{Fault, malformed, not_built, Input}
+use Rattle.av1_plan.specs.Format.{Input, Reading}
 
--- the error is the fault of the reading, or memory ran out
-abbrev pub Fails : {Y : Type 0} → PlanError → Result Y Fault → Type 0
+-- the error names the place at which the reading stopped, or memory ran out
+abbrev pub Fails : {Y : Type 0} → PlanError → Reading Y → Type 0
 Fails errors.Memory reading = Unit {0}
-Fails (errors.Malformed at) reading = reading ≡ Err (malformed at)
-Fails (errors.NotBuilt at) reading = reading ≡ Err (not_built at)
+Fails (errors.Malformed at) reading = reading ≡ Err at
 
 -- what a function returned, seen by view, is what reading gives, unless memory ran out
-abbrev pub Gives : {X Y : Type 0} → (X → Y) → Result X PlanError → Result Y Fault → Type 0
+abbrev pub Gives : {X Y : Type 0} → (X → Y) → Result X PlanError → Reading Y → Type 0
 Gives view (Ok x) reading = reading ≡ Ok (view x)
 Gives view (Err e) reading = Fails e reading
 

@@ -1,10 +1,10 @@
 -- Which lists of values a format asks for, and which bytes are exactly their fields. Nothing here reads bytes: whole texts are
 -- compared.
-use Rattle.std.specs.Prelude.{false, IsTrue, ◌<◌, ◌≡◌, ℕ, ◌≤◌, List, [], ◌∷◌, ◌++◌, length}
+use Rattle.std.specs.Prelude.{◌≡◌, ℕ, ◌≤◌, List, [], ◌∷◌, ◌++◌, length}
 use Rattle.std.specs.Int.{to_le_bytes}
-use Rattle.av1_plan.specs.Format.{Format, done, asks, IsAdmitted, width, limit, Fault, malformed, not_built}
+use Rattle.av1_plan.specs.Format.{Format, done, asks, IsAdmitted, width}
 
--- each value is of the kind that is asked for after the values before it, admitted and built
+-- each value is of the kind that is asked for after the values before it, and admitted
 abbrev pub IsProper : {A : Type 0} → Format A → List ℕ → Type 0
 IsProper f [] = Unit {0}
 IsProper (done x) (v ∷ vs) = ⊥
@@ -41,25 +41,7 @@ pub record IsLongest {A : Type 0} (f : Format A) (bytes : List ℕ) (at : ℕ) :
   pub reached : (vs : List ℕ) × IsProper f vs × IsPrefix (text f vs) bytes × (length (text f vs) ≡ at)
   pub longest : (vs : List ℕ) → IsProper f vs → IsPrefix (text f vs) bytes → length (text f vs) ≤ at
 
--- rest begins with the field that is asked for after vs: it is whole, and its value is admitted but not built yet
-abbrev pub IsUnbuilt : {A : Type 0} → Format A → List ℕ → List ℕ → Type 0
-IsUnbuilt (done x) vs rest = ⊥
-IsUnbuilt (asks k next) [] rest = (v : ℕ) × (v < limit k.size) × IsTrue (k.admits v) × (k.built v ≡ false) × IsPrefix (to_le_bytes (width k.size) v) rest
-IsUnbuilt (asks k next) (v ∷ vs) rest = IsUnbuilt (next v) vs rest
-
--- which of the two faults it is, where vs is the longest proper list and rest stands behind its fields
-abbrev pub Names : {A : Type 0} → Fault → Format A → List ℕ → List ℕ → Type 0
-Names (malformed at) f vs rest = IsUnbuilt f vs rest → ⊥
-Names (not_built at) f vs rest = IsUnbuilt f vs rest
-
--- the place that a fault names
-abbrev pub place : Fault → ℕ
-place (malformed at) = at
-place (not_built at) = at
-
--- no complete proper list has these bytes as its fields, the longest proper list at their front ends at the place of the
--- fault, and the fault says what stands there
-pub record AreRefused {A : Type 0} (f : Format A) (bytes : List ℕ) (fault : Fault) : Type 0 where
+-- no complete proper list has these bytes as its fields, and the longest proper list at their front ends at `at`
+pub record AreRefused {A : Type 0} (f : Format A) (bytes : List ℕ) (at : ℕ) : Type 0 where
   pub no_text : (x : A) → AreText f bytes x → ⊥
-  pub first : IsLongest f bytes (place fault)
-  pub why : (vs rest : List ℕ) → IsProper f vs → bytes ≡ text f vs ++ rest → length (text f vs) ≡ place fault → Names fault f vs rest
+  pub first : IsLongest f bytes at

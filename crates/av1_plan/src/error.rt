@@ -10,8 +10,6 @@ use std::alloc::{AllocError, AllocFailed};
 pub enum PlanError {
     /// The field that begins at byte `at` is cut, has a value that is not admitted, or is left over after the end.
     Malformed { at: u32 },
-    /// The field that begins at byte `at` has a value that the format admits and this crate does not build yet.
-    NotBuilt { at: u32 },
     /// Memory ran out.
     Memory,
 }

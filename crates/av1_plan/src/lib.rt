@@ -1,33 +1,30 @@
 //! Plans: the block decisions of a frame, as bytes, and which of them are valid.
 //!
 //! A plan says of a frame how it is cut into leaves, how each leaf is predicted, and which coefficients are added. The crate
-//! reads plans from bytes, checks them, and works out what of each plane a leaf covers. It stands on `av1_blocks` alone, for
-//! the words of block decisions. To the crates above it promises:
+//! reads plans from bytes, checks them, and works out what of each plane a leaf covers. It stands on `av1_blocks` for the
+//! words of block decisions, and takes lemmas on lists from `av1_lists`. To the crates above it promises:
 //!
 //! - `parse_plan` reads exactly the bytes that the plan grammar (`specs/Grammar.antt`) spells, and of any others names the
-//!   first field that is cut, not admitted or left over (`Malformed`), or not built yet (`NotBuilt`). It is linear in the
-//!   bytes and takes no memory for a leaf of its own: leaves lie in one list, and their coefficients in another.
+//!   first field that is cut, not admitted or left over (`Malformed`). It is linear in the bytes and takes no memory for a leaf
+//!   of its own: leaves lie in one list, and their coefficients in another.
 //! - A `Plan` keeps as a fact that a complete proper list of fields spells it. Its leaves stand in coding order: they are those
 //!   of one tree of marks for each superblock of the frame (`specs/Tree.antt`, `specs/CodingOrder.antt`).
-//! - What holds of every plan that is read, whatever of the grammar is built, its accessors say (`specs/ReadPlans.antt`): the
-//!   ranges of the frame's numbers, as many reference samples as a plane has and each of the frame's depth, and of a leaf that it
-//!   stands on its grid, has no side more than twice the other, and a chroma mode, a chroma type and triples of chroma where it
-//!   carries chroma alone.
+//! - What holds of every plan that is read, its accessors say (`specs/ReadPlans.antt`): the ranges of the frame's numbers, as many
+//!   reference samples as a plane has and each of the frame's depth, and of a leaf that it stands on its grid, has no side more
+//!   than twice the other, and a chroma mode, a chroma type and triples of chroma where it carries chroma alone.
 //! - `check_plan` accepts exactly the plans of which no leaf is faulty, and else names the first faulty leaf and the first
 //!   of its reasons (`specs/Validity.antt`): sizes, transforms, modes, vectors, references, and coefficients that rise strictly by
 //!   block and place.
 //! - A leaf's rectangle in a plane, the size of its transforms there and the blocks that begin in the frame are worked out
 //!   here alone (`specs/Geometry.antt`), for the check and for the reconstruction.
-//!
-//! Which values are built so far is one predicate (`specs/Built.antt`), and one function.
 #![tactic(auto)]
 
 mod access;
-mod built;
 mod check;
 mod error;
 mod geometry;
 mod header;
+mod laws;
 mod leaf;
 mod nodes;
 mod parse;
@@ -39,6 +36,7 @@ pub use check::{check_plan, is_inter_size};
 pub use error::{Invalid, InvalidKind, PlanError};
 pub use geometry::{PlaneArea, TransformBlock, carries_chroma, plane_tx_size};
 pub use header::Header;
+pub use laws::texts_are_of_one_plan;
 pub use leaf::{ChromaMode, Leaf, LeafKind, Triple};
 pub use nodes::{half_side, part_size, whole_size};
 pub use parse::parse_plan;

@@ -3,7 +3,6 @@
 ghost use Rattle.std.specs.Prelude.{◌≡◌, ◌*◌, ◌≤◌, ◌^◌};
 ghost use Rattle.av1_plan.specs.Grammar.{half_side, whole_size, part_size};
 
-use crate::built::Field;
 use crate::error::PlanError;
 use crate::header::Header;
 use crate::leaf::{Leaf, Triple};
@@ -58,7 +57,7 @@ impl<'a> Parser<'a> {
         if !header.holds(x, y) {
             return Ok(());
         }
-        let mark = self.reader.byte(Field::Other, 0, 3)?;
+        let mark = self.reader.byte(0, 3)?;
         self.parts(header, level, mark, x, y)
     }
 

@@ -2,7 +2,7 @@
 
 ghost use Rattle.std.specs.Prelude.{◌≡◌, ◌≤◌, ◌^◌, length, IfOk, MatchResult};
 ghost use Rattle.av1_plan.specs.declared.error.PlanError.TheVariants.{Memory};
-ghost use Rattle.av1_plan.specs.Answer.{plan_value, FailsAs};
+ghost use Rattle.av1_plan.specs.Answer.{plan_value, IfMalformed};
 ghost use Rattle.av1_plan.specs.Format.{start, read_all};
 ghost use Rattle.av1_plan.specs.Grammar.{plan};
 ghost use Rattle.av1_plan.specs.Plan.{PlanValue};
@@ -45,13 +45,16 @@ fn read_plan(alloc: Global, bytes: &[u8]) -> Result<Plan, PlanError>
 
 /// The plan that these bytes spell, by the plan grammar.
 ///
-/// `Malformed` and `NotBuilt` name the start of the first field at which the bytes stop being a plan of built fields.
+/// # Errors
+///
+/// `Malformed` names the start of the first field at which the bytes stop being a plan: one that is cut, has a value that is not
+/// admitted after the fields before it, or is left over. `Memory` where memory runs out.
 pub fn parse_plan(alloc: Global, bytes: &[u8]) -> Result<Plan, PlanError>
     requires { length bytes.now ≤ 2 ^ 26 }
     // The bytes are exactly the fields of a complete proper list, which spells the plan.
     ensures found { IfOk result (λ p. AreText plan bytes.now (plan_value p)) }
     // No complete proper list has these bytes, and the longest proper list at their front ends at `at`.
-    ensures refused { FailsAs result (λ fault. AreRefused plan bytes.now fault) }
+    ensures refused { IfMalformed result (λ at. AreRefused plan bytes.now at) }
     // What is spelled so is read, unless memory runs out.
     ensures only { (p : PlanValue) → AreText plan bytes.now p → MatchResult result (λ x. plan_value x ≡ p) (λ e. e ≡ Memory) }
 {

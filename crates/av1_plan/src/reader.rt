@@ -4,7 +4,6 @@ mod header;
 mod leaf;
 mod references;
 
-use crate::built::{Field, is_built};
 use crate::error::PlanError;
 
 /// What is left of the bytes.
@@ -18,7 +17,7 @@ pub struct Reader<'a> {
 impl<'a> Reader<'a> {
     ghost use Rattle.std.specs.Prelude.{◌≡◌, ◌+◌, ◌<◌, ◌≤◌, ◌^◌, length, IfOk, OnOk};
     ghost use Rattle.av1_plan.specs.Format.{one, two, four, any, read_field};
-    ghost use Rattle.av1_plan.specs.Grammar.{byte_from, u16_field};
+    ghost use Rattle.av1_plan.specs.Grammar.{byte_from};
     ghost use Rattle.av1_plan.specs.Reading.{Gives, input, Fits, Moves};
 
     fn malformed<T>(&self) -> Result<T, PlanError>
@@ -85,9 +84,9 @@ impl<'a> Reader<'a> {
 
     /// A byte from `first` to `last`.
     #[tactic(auto, using(crate::proofs::Narrow::narrow))]
-    pub fn byte(&mut self, field: Field, first: u8, last: u8) -> Result<u8, PlanError>
+    pub fn byte(&mut self, first: u8, last: u8) -> Result<u8, PlanError>
         requires { Fits self.old }
-        ensures read { Gives (λ x. (x, input self.new)) result (read_field (byte_from field first last) (input self.old)) }
+        ensures read { Gives (λ x. (x, input self.new)) result (read_field (byte_from first last) (input self.old)) }
         ensures takes { OnOk result (self.old.at < self.new.at) }
         ensures moves { Moves self.old self.new }
         ensures range { IfOk result (λ x. (first ≤ x) × (x ≤ last)) }
@@ -96,26 +95,8 @@ impl<'a> Reader<'a> {
         let value = self.any_byte()?;
         if value < first || last < value {
             Err(PlanError::Malformed { at })
-        } else if is_built(field, u32::from(value)) {
-            Ok(value)
         } else {
-            Err(PlanError::NotBuilt { at })
-        }
-    }
-
-    /// Two bytes, any number.
-    #[tactic(auto, using(crate::proofs::Narrow::narrow))]
-    fn u16_field(&mut self, field: Field) -> Result<u16, PlanError>
-        requires { Fits self.old }
-        ensures read { Gives (λ x. (x, input self.new)) result (read_field (u16_field field) (input self.old)) }
-        ensures moves { Moves self.old self.new }
-    {
-        let at = self.at;
-        let value = self.any_u16()?;
-        if is_built(field, u32::from(value)) {
             Ok(value)
-        } else {
-            Err(PlanError::NotBuilt { at })
         }
     }
 }

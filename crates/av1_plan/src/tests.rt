@@ -95,29 +95,26 @@ fn a_cut_field_and_a_byte_left_over_are_malformed(rt: HostRuntime) {
 }
 
 #[test]
-fn a_value_that_is_not_built_is_told_from_one_that_is_not_admitted(rt: HostRuntime) {
-    let changes = [(19, 1), (24, 13), (24, 14), (26, 13)];
-    for (at, value) in changes {
-        let mut bytes = FOUR_LEAVES;
-        bytes[at as usize % 83] = value;
-        let answer = parse_plan(rt.alloc(), &bytes).err();
-        assert!(rt; answer == Some(PlanError::NotBuilt { at }), "at {at}");
-    }
-
+fn the_first_field_that_is_not_admitted_is_malformed(rt: HostRuntime) {
+    // A byte that is changed, its value, and the place of the field at which the bytes stop being a plan. A plan with slot 0 has 64
+    // samples of Y behind its header, and a leaf from a reference has a number from 1 to 7 behind its mode.
     let changes = [
-        (4, 12),
-        (8, 9),
-        (9, 3),
-        (10, 4),
-        (20, 4),
-        (24, 34),
-        (26, 14),
-        (28, 19),
-        (29, 17),
+        (4, 12, 4),
+        (8, 9, 8),
+        (9, 3, 9),
+        (10, 4, 10),
+        (19, 1, 83),
+        (20, 4, 20),
+        (24, 14, 25),
+        (24, 20, 25),
+        (24, 34, 24),
+        (26, 14, 26),
+        (28, 19, 28),
+        (29, 17, 29),
     ];
-    for (at, value) in changes {
+    for (place, value, at) in changes {
         let mut bytes = FOUR_LEAVES;
-        bytes[at as usize % 83] = value;
+        bytes[place % 83] = value;
         let answer = parse_plan(rt.alloc(), &bytes).err();
         assert!(rt; answer == Some(PlanError::Malformed { at }), "at {at}");
     }
@@ -140,6 +137,46 @@ fn the_first_coefficient_out_of_its_block_is_refused(rt: HostRuntime) -> Result<
         };
         assert!(rt; check_plan(&plan) == Err(invalid), "at {at}");
     }
+    Ok(())
+}
+
+/// 8x8, 4:4:4, depth 8, one leaf of 64x64, from LAST by no motion; no slot carries planes.
+const FROM_LAST: [u8; 36] = [
+    82, 80, 76, 49, 8, 0, 8, 0, 8, 2, 0, 0, 0, 0, 0, 0, 0, 0, 0, 0, 0, 16, 1, 0, 0, 0, 0, 0, 0, 0,
+    0, 0, 0, 0, 0, 0,
+];
+
+/// The same frame as two leaves of 8x4, the first from LAST by a vector out of range.
+const FLAT_FROM_LAST: [u8; 52] = [
+    82, 80, 76, 49, 8, 0, 8, 0, 8, 2, 0, 0, 0, 0, 0, 0, 0, 0, 0, 0, 3, 3, 3, 1, 16, 1, 0, 64, 0, 0,
+    0, 0, 0, 0, 0, 0, 0, 0, 0, 0, 0, 0, 0, 0, 0, 0, 0, 0, 0, 0, 0, 0,
+];
+
+#[test]
+fn a_leaf_from_references_is_refused_for_its_first_fault(rt: HostRuntime) -> Result<(), Fail> {
+    // The bytes of the vector are 23 to 24 for its row and 25 to 26 for its column.
+    let faults = [
+        (24, 0, InvalidKind::MissingReference),
+        (24, 63, InvalidKind::MissingReference),
+        (24, 64, InvalidKind::Vector),
+        (26, 192, InvalidKind::Vector),
+    ];
+    for (at, value, kind) in faults {
+        let mut bytes = FROM_LAST;
+        bytes[at % 36] = value;
+        let plan = parse_plan(rt.alloc(), &bytes)?;
+        assert!(rt;
+            check_plan(&plan) == Err(Invalid { leaf: 0, kind }),
+            "at {at}"
+        );
+    }
+
+    let flat = parse_plan(rt.alloc(), &FLAT_FROM_LAST)?;
+    let invalid = Invalid {
+        leaf: 0,
+        kind: InvalidKind::Mode,
+    };
+    assert!(rt; check_plan(&flat) == Err(invalid));
     Ok(())
 }
 

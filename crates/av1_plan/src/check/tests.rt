@@ -1,4 +1,4 @@
-//! The reasons that no plan reaches before its fields are built.
+//! What is looked for in a leaf, each by itself.
 
 use super::*;
 use av1_blocks::FilterMode;

@@ -1,6 +1,5 @@
 //! Reading what stands before the reference samples.
 
-use crate::built::Field;
 use crate::error::PlanError;
 use crate::header::Header;
 use crate::reader::Reader;
@@ -8,13 +7,12 @@ use av1_blocks::FilterMode;
 
 impl<'a> Reader<'a> {
     ghost use Rattle.std.specs.Prelude.{◌≡◌, ◌≤◌, IfOk};
-    ghost use Rattle.av1_plan.specs.declared.built.Field.TheVariants as fields;
     ghost use Rattle.av1_plan.specs.Format.{one, two, read_field, read};
     ghost use Rattle.av1_plan.specs.Grammar.{where_, magic, is_side, is_depth, slots, header};
     ghost use Rattle.av1_plan.specs.Reading.{Gives, input, Fits, Moves};
 
     /// The four letters at the front.
-    #[tactic(auto, using(crate::proofs::Narrow::narrow), unfolding(crate::specs::Built::is_built))]
+    #[tactic(auto, using(crate::proofs::Narrow::narrow))]
     fn magic(&mut self) -> Result<u32, PlanError>
         requires { Fits self.old }
         ensures read { Gives (λ x. (x, input self.new)) result (read_field magic (input self.old)) }
@@ -30,10 +28,10 @@ impl<'a> Reader<'a> {
     }
 
     /// A side of the frame.
-    #[tactic(auto, using(crate::proofs::Narrow::narrow), unfolding(crate::specs::Built::is_built))]
+    #[tactic(auto, using(crate::proofs::Narrow::narrow))]
     fn side(&mut self) -> Result<u16, PlanError>
         requires { Fits self.old }
-        ensures read { Gives (λ x. (x, input self.new)) result (read_field (where_ two fields.Other is_side) (input self.old)) }
+        ensures read { Gives (λ x. (x, input self.new)) result (read_field (where_ two is_side) (input self.old)) }
         ensures moves { Moves self.old self.new }
         ensures small { IfOk result (λ x. x ≤ 2048) }
     {
@@ -47,10 +45,10 @@ impl<'a> Reader<'a> {
     }
 
     /// The bits of a sample.
-    #[tactic(auto, using(crate::proofs::Narrow::narrow), unfolding(crate::specs::Built::is_built))]
+    #[tactic(auto, using(crate::proofs::Narrow::narrow))]
     fn depth(&mut self) -> Result<u8, PlanError>
         requires { Fits self.old }
-        ensures read { Gives (λ x. (x, input self.new)) result (read_field (where_ one fields.Other is_depth) (input self.old)) }
+        ensures read { Gives (λ x. (x, input self.new)) result (read_field (where_ one is_depth) (input self.old)) }
         ensures moves { Moves self.old self.new }
         ensures small { IfOk result (λ x. x ≤ 12) }
     {
@@ -70,13 +68,13 @@ impl<'a> Reader<'a> {
         ensures read { Gives (λ x. (x, input self.new)) result (read slots (input self.old)) }
         ensures moves { Moves self.old self.new }
     {
-        let last = self.byte(Field::Other, 0, 7)?;
-        let last_2 = self.byte(Field::Other, 0, 7)?;
-        let last_3 = self.byte(Field::Other, 0, 7)?;
-        let golden = self.byte(Field::Other, 0, 7)?;
-        let backward = self.byte(Field::Other, 0, 7)?;
-        let alternate_2 = self.byte(Field::Other, 0, 7)?;
-        let alternate = self.byte(Field::Other, 0, 7)?;
+        let last = self.byte(0, 7)?;
+        let last_2 = self.byte(0, 7)?;
+        let last_3 = self.byte(0, 7)?;
+        let golden = self.byte(0, 7)?;
+        let backward = self.byte(0, 7)?;
+        let alternate_2 = self.byte(0, 7)?;
+        let alternate = self.byte(0, 7)?;
         Ok([
             last,
             last_2,
@@ -100,12 +98,12 @@ impl<'a> Reader<'a> {
         let width = self.side()?;
         let height = self.side()?;
         let depth = self.depth()?;
-        let sampling = self.byte(Field::Sampling, 0, 2)?;
-        let filter = self.byte(Field::Other, 0, 3)?;
+        let sampling = self.byte(0, 2)?;
+        let filter = self.byte(0, 3)?;
         let filter = FilterMode::ALL[usize::from(filter)];
-        let edge_filter = self.byte(Field::Other, 0, 1)? == 1;
+        let edge_filter = self.byte(0, 1)? == 1;
         let slots = self.slots()?;
-        let mask = self.byte(Field::Mask, 0, 255)?;
+        let mask = self.any_byte()?;
         Ok(Header {
             width,
             height,

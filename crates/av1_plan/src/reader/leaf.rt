@@ -1,6 +1,5 @@
 //! Reading a leaf.
 
-use crate::built::Field;
 use crate::error::PlanError;
 use crate::geometry::carries_chroma;
 use crate::header::Header;
@@ -21,8 +20,8 @@ impl<'a> Reader<'a> {
         ensures read { Gives (λ x. (x, input self.new)) result (read vector (input self.old)) }
         ensures moves { Moves self.old self.new }
     {
-        let row = self.u16_field(Field::Vector)?.cast_signed();
-        let col = self.u16_field(Field::Vector)?.cast_signed();
+        let row = self.any_u16()?.cast_signed();
+        let col = self.any_u16()?.cast_signed();
         Ok(MotionVector { row, col })
     }
 
@@ -32,7 +31,7 @@ impl<'a> Reader<'a> {
         ensures read { Gives (λ x. (x, input self.new)) result (read reference_frame (input self.old)) }
         ensures moves { Moves self.old self.new }
     {
-        let number = self.byte(Field::Reference, 1, 7)?;
+        let number = self.byte(1, 7)?;
         Ok(RefType::ALL[usize::from(number)])
     }
 
@@ -42,14 +41,14 @@ impl<'a> Reader<'a> {
         ensures read { Gives (λ x. (x, input self.new)) result (read chroma_mode (input self.old)) }
         ensures moves { Moves self.old self.new }
     {
-        let number = self.byte(Field::ChromaMode, 0, 13)?;
+        let number = self.byte(0, 13)?;
         if number == 13 {
-            let alpha_u = self.byte(Field::Alpha, 0, 255)?.cast_signed();
-            let alpha_v = self.byte(Field::Alpha, 0, 255)?.cast_signed();
+            let alpha_u = self.any_byte()?.cast_signed();
+            let alpha_v = self.any_byte()?.cast_signed();
             return Ok(ChromaMode::Cfl { alpha_u, alpha_v });
         }
         let mode = PredictionMode::ALL[usize::from(number)];
-        let step = self.byte(Field::AngleStep, 0, 255)?.cast_signed();
+        let step = self.any_byte()?.cast_signed();
         Ok(ChromaMode::Plain { mode, step })
     }
 
@@ -59,7 +58,7 @@ impl<'a> Reader<'a> {
         ensures read { Gives (λ x. (x, input self.new)) result (read (intra has_chroma mode) (input self.old)) }
         ensures moves { Moves self.old self.new }
     {
-        let step = self.byte(Field::AngleStep, 0, 255)?.cast_signed();
+        let step = self.any_byte()?.cast_signed();
         if has_chroma {
             let chroma = self.chroma_mode()?;
             return Ok(LeafKind::Intra {
@@ -114,7 +113,7 @@ impl<'a> Reader<'a> {
         ensures takes { OnOk result (self.old.at < self.new.at) }
         ensures moves { Moves self.old self.new }
     {
-        let number = self.byte(Field::LumaMode, 0, 33)?;
+        let number = self.byte(0, 33)?;
         let mode = PredictionMode::ALL[usize::from(number)];
         if number < 14 {
             self.intra(mode, has_chroma)
@@ -131,7 +130,7 @@ impl<'a> Reader<'a> {
         ensures read { Gives (λ x. (x, input self.new)) result (read tx_size (input self.old)) }
         ensures moves { Moves self.old self.new }
     {
-        let number = self.byte(Field::Other, 0, 18)?;
+        let number = self.byte(0, 18)?;
         Ok(TxSize::ALL[usize::from(number)])
     }
 
@@ -141,7 +140,7 @@ impl<'a> Reader<'a> {
         ensures read { Gives (λ x. (x, input self.new)) result (read tx_type (input self.old)) }
         ensures moves { Moves self.old self.new }
     {
-        let number = self.byte(Field::Other, 0, 16)?;
+        let number = self.byte(0, 16)?;
         Ok(TxType::ALL[usize::from(number)])
     }
 

@@ -1,6 +1,5 @@
 //! Reading the reference samples.
 
-use crate::built::Field;
 use crate::error::PlanError;
 use crate::header::Header;
 use crate::planes::Planes;
@@ -16,7 +15,7 @@ impl<'a> Reader<'a> {
     ghost use Rattle.av1_plan.specs.Reading.{Gives, input, Fits, Moves};
 
     /// A sample.
-    #[tactic(auto, using(crate::proofs::Narrow::narrow), unfolding(crate::specs::Built::is_built))]
+    #[tactic(auto, using(crate::proofs::Narrow::narrow))]
     fn sample(&mut self, depth: u8) -> Result<u16, PlanError>
         requires fits { Fits self.old }
         requires depth { depth ≤ 12 }
@@ -25,7 +24,7 @@ impl<'a> Reader<'a> {
     {
         let at = self.at;
         if depth == 8 {
-            let value = self.byte(Field::Other, 0, 255)?;
+            let value = self.any_byte()?;
             return Ok(u16::from(value));
         }
         let value = self.any_u16()?;
