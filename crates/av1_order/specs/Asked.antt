@@ -1,5 +1,5 @@
 -- What is asked of the availability calls: what is written above right of a transform, and below left of it.
--- AV1 specification: transform block syntax and clear block decoded flags process.
+-- AV1 specification: transform block syntax and clear block decoded flags function.
 use Rattle.std.specs.Prelude.{◌≡◌, true, ℕ, Bool, ◌+◌, ◌-◌, ◌*◌, ◌/◌, ◌%◌, ◌^◌, ◌<◌, nat_lt, ◌&&◌, ◌||◌, List, take, length, get_or}
 use Rattle.av1_blocks.specs.declared.partition.BlockSize.{BlockSize}
 use Rattle.av1_blocks.specs.declared.transform.TxSize.{TxSize}

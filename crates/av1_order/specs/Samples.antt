@@ -1,5 +1,5 @@
 -- What is written round a step when its turn comes, in samples of its plane.
--- AV1 specification: transform block syntax and clear block decoded flags process, which tell the intra prediction process what lies above,
+-- AV1 specification: transform block syntax and clear block decoded flags function, which tell the intra prediction process what lies above,
 -- above right, left and below left of a transform.
 use Rattle.std.specs.Prelude.{◌≡◌, true, false, ℕ, Bool, ◌+◌, ◌-◌, ◌*◌, ◌/◌, ◌^◌, ◌<◌, ◌⊎◌, min, ◌||◌, List, [], ◌∷◌, take, length, get_or}
 use Rattle.av1_plan.specs.CodingOrder.{superblock_count}

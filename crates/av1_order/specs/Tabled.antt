@@ -1,5 +1,5 @@
 -- The answers from the tables at a step of a plane, where the list of all steps is cut at the step.
--- AV1 specification: transform block syntax and clear block decoded flags process.
+-- AV1 specification: transform block syntax and clear block decoded flags function.
 use Rattle.std.specs.Prelude.{◌≡◌, true, ℕ, ◌+◌, ◌-◌, ◌*◌, ◌/◌, ◌%◌, ◌^◌, ◌<◌, min, nat_lt, ◌&&◌, List, ◌∷◌, ◌++◌}
 use Rattle.av1_blocks.specs.declared.partition.BlockSize.{BlockSize}
 use Rattle.av1_blocks.specs.declared.transform.TxSize.{TxSize}

@@ -1,5 +1,5 @@
 -- Leaves that are predicted from other frames: their whole area at once, before any block of it is added to.
--- AV1 specification: compute prediction process; residual syntax.
+-- AV1 specification: compute prediction syntax; residual syntax.
 use Rattle.std.specs.Prelude.{◌≡◌, true, ℕ, None, Some, [], ◌∷◌}
 use Rattle.av1_blocks.specs.Blocks.{block_width, block_height}
 use Rattle.av1_blocks.specs.Transforms.{tx_width, tx_height}

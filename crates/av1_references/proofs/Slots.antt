@@ -3,6 +3,7 @@ use Rattle.std.proofs.Common.{ℕ, zero, suc, ◌+◌, ◌<◌, ◌≤◌, ◌�
 use Rattle.std.specs.Option.{option_map}
 use Rattle.std.proofs.lemmas.Bool.{cases_lt}
 use Rattle.std.proofs.lemmas.List.{get_or-set_other, get_or-set_same, length-set}
+use Rattle.std.proofs.lemmas.Option.{same_Some, none-some}
 use Rattle.av1_frame.specs.declared.frame_invariants.FrameInvariants.{FrameInvariants}
 use Rattle.av1_frame.specs.declared.plane.Plane.{Plane}
 use Rattle.av1_frame.specs.declared.slots.Slot.{Slot}
@@ -24,12 +25,6 @@ all_same : {X : Type 0} (n i : ℕ) (x : X) → get_or (replicate n x) i x ≡ x
 all_same zero i x = refl
 all_same (suc n) zero x = refl
 all_same (suc n) (suc i) x = all_same n i x
-
-some_same : {X : Type 0} (x y : X) → Some x ≡ Some y → x ≡ y
-some_same x y e = cc
-
-some_not_none : {X : Type 0} (x : X) → None ≡ Some x → ⊥
-some_not_none x e = cc
 
 -- a new frame holds no slot yet
 pub holds_none : {T : Type 0} (num : T → ℕ) (value : PlanValue) (fi : FrameInvariants T) → let h = value.header in fi ≡ new_frame h.width h.height h.filter h.depth h.edge_filter h.slots → HoldsFirst num value 0 fi
@@ -53,7 +48,7 @@ module _ {T : Type 0} (num : T → ℕ) (value : PlanValue) (n : ℕ) (fi : Fram
     ];
     planes = λ slot p plane l h is. elim (cases_lt slot n) [
       | inl below ↦ holds.planes slot p plane below h is
-      | inr above ↦ absurd (some_not_none plane (sym (holds.others slot p above) ∙ is))
+      | inr above ↦ absurd (none-some plane (sym (holds.others slot p above) ∙ is))
     ];
     others = λ slot p l. holds.others slot p (omega arith);
   }
@@ -86,7 +81,7 @@ module _ {T : Type 0} (num : T → ℕ) (value : PlanValue) (n : ℕ) (fi : Fram
       planes = λ slot p plane l h is. elim (cases_lt slot n) [
         | inl less ↦ holds.planes slot p plane less h (sym (at_others slot p (omega arith)) ∙ is)
         | inr above ↦ (let at : n ≡ slot = omega arith in
-            let same : plane_of s p ≡ plane = some_same _ _ (sym (at_slot p) ∙ ap (λ m. slot_plane filled_fi m p) at ∙ is) in
+            let same : plane_of s p ≡ plane = same_Some _ _ (sym (at_slot p) ∙ ap (λ m. slot_plane filled_fi m p) at ∙ is) in
             subst (λ m. HoldsPlane num value.header p (slot_samples value m p) plane) at (subst (λ (q : Plane T). HoldsPlane num value.header p (slot_samples value n p) q) same (each_plane y u v p h)))
       ];
       others = λ slot p l. at_others slot p (omega arith) ∙ holds.others slot p (omega arith);

@@ -1,8 +1,11 @@
 -- A transform block whose steps are taken: where it lies, and what its steps leave.
-use Rattle.std.proofs.Common.{ℕ, zero, suc, ◌+◌, ◌*◌, ◌<◌, ◌≤◌, ◌≡◌, Bool, true, false, if◌then◌else◌, List, [], ◌∷◌, ◌++◌, Option, Some, None, refl, ap, arith, ◌∙◌, sym, subst, ℤ}
+use Rattle.std.proofs.Common.{ℕ, zero, suc, ◌+◌, ◌*◌, ◌<◌, ◌≤◌, ◌≡◌, Bool, true, false, if◌then◌else◌, List, [], ◌∷◌, Option, Some, None, refl, ap, arith, ◌∙◌, sym, subst, ℤ}
 use Rattle.std.specs.List.{fold}
+use Rattle.std.proofs.lemmas.Grind.{fold-append}
 use Rattle.av1_blocks.proofs.Sides.{tx_width_range, tx_height_range}
 use Rattle.av1_blocks.specs.Transforms.{tx_width, tx_height}
+use Rattle.av1_lists.specs.Counts.{counted}
+use Rattle.av1_frame.specs.declared.frame_invariants.FrameInvariants.{FrameInvariants}
 use Rattle.av1_frame.specs.declared.plane.Plane.{Plane}
 use Rattle.av1_frame.specs.declared.plane.PlaneConfig.{PlaneConfig}
 use Rattle.av1_frame.specs.Planes.{InPlane, painted_plane}
@@ -12,23 +15,17 @@ use Rattle.av1_plan.specs.declared.header.Header.{Header}
 use Rattle.av1_plan.specs.declared.leaf.Triple.{Triple}
 use Rattle.av1_plan.specs.Geometry.{block_count, blocks_across, transform_block}
 use Rattle.av1_plan.specs.Plan.{PlanValue}
+use Rattle.av1_references.specs.References.{HoldsReferences}
 use Rattle.av1_tile.specs.declared.block.BlockPlace.{BlockPlace}
 use Rattle.av1_tile.specs.declared.plane_block.PlaneBlock.{PlaneBlock}
 use Rattle.av1_tile.specs.declared.plane_block.Prediction.{Prediction}
 use Rattle.av1_tile.specs.declared.plane_block.Prediction.TheVariants as predictions
 use Rattle.av1_tile.specs.PlaneBlocks.{is_whole}
-use Rattle.av1_tile.specs.Reference.{added, block_residue}
-use Rattle.av1_tile.specs.Steps.{Step, predict, add, block_steps, joined, plane_steps, steps_at, whole_area}
+use Rattle.av1_tile.specs.Reference.{added, block_residue, no_luma}
+use Rattle.av1_tile.specs.Steps.{Step, predict, add, block_steps, joined, own_prediction, plane_steps, steps_at, whole_area, whole_steps}
 use Rattle.av1_tile.specs.Walk.{BlockFits, IsPlaceIn, IsPlaneOf, PredictionFits, Stores, area_at, edges_in, fast_in, has_edge}
 use Rattle.av1_tile.proofs.TransformBlocks.{block_is}
-use Rattle.av1_tile.proofs.WithinDepth.{BeginsIn, added_stores, predicted_stores}
-
--- a prediction that can be made here is one from the samples round the block
-from_edge : (area : PlaneArea) (of : Prediction) → PredictionFits area of → (is_whole of ≡ false) × (has_edge of ≡ true)
-from_edge area (predictions.Intra mode step filter) fits = (refl, refl)
-from_edge area (predictions.FromLuma alpha) fits = (refl, refl)
-from_edge area (predictions.Single mode reference mv) fits = absurd fits
-from_edge area (predictions.Compound mode references mvs) fits = absurd fits
+use Rattle.av1_tile.proofs.WithinDepth.{BeginsIn, added_stores, own_stores, whole_stores}
 
 module _ (h : Header) (block : PlaneBlock) (at : BlockPlace) where
   -- it lies in storage where its leaf's block does
@@ -48,33 +45,38 @@ module _ (h : Header) (block : PlaneBlock) (at : BlockPlace) where
     row = is.begins_y;
   }
 
-  -- its steps are a prediction and an addition
-  two_steps : {A : Type 0} (step : A → Step → A) (start : A) (triples : List Triple) → PredictionFits block.area block.prediction → transform_block h block.plane block.area at.number ≡ Some (record { x = at.x; y = at.y })
-      → step (step start (predict block at.number (area_at block at))) (add block triples at.number (area_at block at)) ≡ fold step start (steps_at h block triples at.number)
+  -- its steps are its own prediction, where it has one, and an addition
+  two_steps : {A : Type 0} (step : A → Step → A) (start : A) (triples : List Triple) → transform_block h block.plane block.area at.number ≡ Some (record { x = at.x; y = at.y })
+      → step (fold step start (own_prediction block at.number (area_at block at))) (add block triples at.number (area_at block at)) ≡ fold step start (steps_at h block triples at.number)
   unfolding steps_at
-  two_steps step start triples fits found =
-      let one = predict block at.number (area_at block at) in
-      let two = add block triples at.number (area_at block at) in
-      sym (ap (λ (o : Option TransformBlock). fold step start (block_steps block triples at.number o)) found
-      ∙ ap (λ (b : Bool). fold step start (if b then two ∷ [] else one ∷ two ∷ [])) (from_edge block.area block.prediction fits).0)
+  two_steps step start triples found = sym (ap (λ (o : Option TransformBlock). fold step start (block_steps block triples at.number o)) found ∙ go (is_whole block.prediction))
+    where
+      go : (t : Bool) → fold step start (if t then add block triples at.number (area_at block at) ∷ [] else predict block at.number (area_at block at) ∷ add block triples at.number (area_at block at) ∷ [])
+          ≡ step (fold step start (if t then [] else predict block at.number (area_at block at) ∷ [])) (add block triples at.number (area_at block at))
+      go true = refl
+      go false = refl
 
-  pub block_counted : (count after : ℕ) (triples : List Triple) → PredictionFits block.area block.prediction → transform_block h block.plane block.area at.number ≡ Some (record { x = at.x; y = at.y })
-      → after ≡ edges_in count (predict block at.number (area_at block at)) → after ≡ fold edges_in count (steps_at h block triples at.number)
-  block_counted count after triples fits found counted = counted ∙ two_steps edges_in count triples fits found
+  pub block_counted : (count after : ℕ) (triples : List Triple) → transform_block h block.plane block.area at.number ≡ Some (record { x = at.x; y = at.y })
+      → after ≡ fold edges_in count (own_prediction block at.number (area_at block at)) → after ≡ fold edges_in count (steps_at h block triples at.number)
+  block_counted count after triples found e = e ∙ two_steps edges_in count triples found
 
 -- planes after the two steps of a block of a plan
 module _ {T : Type 0} (num : T → ℕ) (pixel : ℕ → T) (law : (v : ℕ) → num (pixel v) ≡ v) (back : (x : T) → pixel (num x) ≡ x) (plan : PlanValue) (luma : PlaneBlock → ℕ → ℕ → ℤ) (block : PlaneBlock) (at : BlockPlace)
-    (place : IsPlaceIn plan.header block at) (fits : PredictionFits block.area block.prediction) (before between : Plane T)
-    (predicted : between ≡ fast_in num pixel plan block.plane luma before (predict block at.number (area_at block at))) where
+    (place : IsPlaceIn plan.header block at) (before between : Plane T)
+    (predicted : between ≡ fold (fast_in num pixel plan block.plane luma) before (own_prediction block at.number (area_at block at))) where
   -- between them the samples lie within the depth
   pub between_stores : Stores num plan.header block.plane before → 8 ≤ plan.header.depth → Stores num plan.header block.plane between
   between_stores stores deep =
-      subst (Stores num plan.header block.plane) (sym predicted) (predicted_stores num pixel law back plan block.plane luma before stores deep block at.number (area_at block at) (begins_in plan.header block at place) fits)
+      subst (Stores num plan.header block.plane) (sym predicted) (own_stores num pixel law back plan block.plane luma before stores deep block at.number (area_at block at) (begins_in plan.header block at place))
 
   -- the plane is laid out as before
   pub between_layout : between.plane_cfg ≡ before.plane_cfg
   unfolding fast_in
-  between_layout = ap (λ (p : Plane T). p.plane_cfg) predicted
+  between_layout = ap (λ (p : Plane T). p.plane_cfg) predicted ∙ go (is_whole block.prediction)
+    where
+      go : (t : Bool) → (fold (fast_in num pixel plan block.plane luma) before (if t then [] else predict block at.number (area_at block at) ∷ [])).plane_cfg ≡ before.plane_cfg
+      go true = refl
+      go false = refl
 
   -- the block lies in it
   pub between_inside : Stores num plan.header block.plane between → InPlane (area_at block at) before → InPlane (area_at block at) between
@@ -95,7 +97,7 @@ module _ {T : Type 0} (num : T → ℕ) (pixel : ℕ → T) (law : (v : ℕ) →
         → after ≡ fold (fast_in num pixel plan block.plane luma) before (steps_at plan.header block triples at.number)
     block_walked found =
         added_is ∙ ap (λ (p : Plane T). fast_in num pixel plan block.plane luma p (add block triples at.number (area_at block at))) predicted
-        ∙ two_steps plan.header block at (fast_in num pixel plan block.plane luma) before triples fits found
+        ∙ two_steps plan.header block at (fast_in num pixel plan block.plane luma) before triples found
 
     -- whose samples lie within the depth
     pub after_stores : Stores num plan.header block.plane between → Stores num plan.header block.plane after
@@ -122,9 +124,47 @@ module _ {A : Type 0} (step : A → Step → A) (h : Header) (block : PlaneBlock
   unfolding steps_at
   no_steps n start beyond = ap (λ (o : Option TransformBlock). fold step start (block_steps block triples n o)) (sym beyond)
 
-  -- the steps of its transform blocks are all steps of a leaf's block that is predicted from the samples round each
-  pub all_steps : (n : ℕ) (start after : A) → PredictionFits block.area block.prediction → n ≡ block_count block.area → after ≡ fold step start (joined n (steps_at h block triples)) → after ≡ fold step start (plane_steps h block triples)
-  all_steps n start after fits all walked =
+  -- the steps of a whole area, and of the transform blocks behind it
+  pub all_steps : (start between after : A) → between ≡ fold step start (whole_steps block) → after ≡ fold step between (joined (block_count block.area) (steps_at h block triples)) → after ≡ fold step start (plane_steps h block triples)
+  all_steps start between after whole walked =
       let own = joined (block_count block.area) (steps_at h block triples) in
-      walked ∙ ap (λ (m : ℕ). fold step start (joined m (steps_at h block triples))) all
-      ∙ ap (λ (b : Bool). fold step start ((if b then predict block 0 (whole_area block) ∷ [] else []) ++ own)) (sym (from_edge block.area block.prediction fits).0)
+      walked ∙ ap (λ (a : A). fold step a own) whole ∙ sym (fold-append step start (whole_steps block) own)
+
+-- ---- whole areas
+
+no_edge : (of : Prediction) → is_whole of ≡ true → has_edge of ≡ false
+no_edge (predictions.Intra mode step filter) e = absurd cc
+no_edge (predictions.FromLuma alpha) e = absurd cc
+no_edge (predictions.Single mode reference mv) e = refl
+no_edge (predictions.Compound mode references mvs) e = refl
+
+-- a whole area is predicted without an edge
+pub whole_counted : (block : PlaneBlock) (count : ℕ) → count ≡ fold edges_in count (whole_steps block)
+whole_counted block count = go (is_whole block.prediction) refl
+  where
+    go : (t : Bool) → is_whole block.prediction ≡ t → count ≡ fold edges_in count (if t then predict block 0 (whole_area block) ∷ [] else [])
+    go true e = sym (ap (λ (b : Bool). if b then counted count else count) (no_edge block.prediction e))
+    go false e = refl
+
+-- a block fits planes that are laid out alike
+pub fits_laid : (h : Header) (block : PlaneBlock) (triples : List Triple) (p q : PlaneConfig) → q ≡ p → BlockFits p h block triples → BlockFits q h block triples
+fits_laid h block triples p q same fits = subst (λ (cfg : PlaneConfig). BlockFits cfg h block triples) (sym same) fits
+
+-- it lies in storage, as the block of its leaf does
+pub whole_inside : {T : Type 0} (h : Header) (block : PlaneBlock) (triples : List Triple) (plane : Plane T) → IsPlaneOf h block.plane plane → BlockFits plane.plane_cfg h block triples → InPlane (whole_area block) plane
+whole_inside h block triples plane is fits = record { storage = is.whole; columns = omega (arith, fits.columns); rows = omega (arith, fits.rows) }
+
+module _ {T : Type 0} (num : T → ℕ) (pixel : ℕ → T) (law : (v : ℕ) → num (pixel v) ≡ v) (back : (x : T) → pixel (num x) ≡ x) (plan : PlanValue) (fi : FrameInvariants T) (holds : HoldsReferences num plan fi) (block : PlaneBlock) (below : block.plane < 3)
+    (fits : PredictionFits plan.header block.area block.prediction) (before between : Plane T) (predicted : between ≡ fold (fast_in num pixel plan block.plane (λ _. no_luma)) before (whole_steps block)) where
+  -- the plane goes on storing its part of the frame
+  pub whole_between : Stores num plan.header block.plane before → Stores num plan.header block.plane between
+  whole_between stores = subst (Stores num plan.header block.plane) (sym predicted) (whole_stores num pixel law back plan block.plane (λ _. no_luma) before stores fi holds below block fits)
+
+  -- laid out as before
+  pub whole_layout : between.plane_cfg ≡ before.plane_cfg
+  unfolding fast_in
+  whole_layout = ap (λ (p : Plane T). p.plane_cfg) predicted ∙ go (is_whole block.prediction)
+    where
+      go : (t : Bool) → (fold (fast_in num pixel plan block.plane (λ _. no_luma)) before (if t then predict block 0 (whole_area block) ∷ [] else [])).plane_cfg ≡ before.plane_cfg
+      go true = refl
+      go false = refl

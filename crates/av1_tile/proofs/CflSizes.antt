@@ -1,5 +1,5 @@
 -- A leaf whose chroma may be predicted from its luma: its block of chroma is one transform, and the luma that is read lies in storage.
-use Rattle.std.proofs.Common.{ℕ, zero, suc, ◌+◌, ◌-◌, ◌*◌, ◌/◌, ◌%◌, ◌^◌, ◌<◌, ◌≤◌, ◌≡◌, ◌⊎◌, inl, inr, min, true, Bool, not, ◌&&◌, nat_lt, if◌then◌else◌, IsTrue, Some, None, ℤ, refl, ap, arith}
+use Rattle.std.proofs.Common.{ℕ, zero, suc, ◌+◌, ◌-◌, ◌*◌, ◌/◌, ◌%◌, ◌^◌, ◌<◌, ◌≤◌, ◌≡◌, ◌⊎◌, inl, inr, min, true, Bool, not, ◌&&◌, nat_lt, if◌then◌else◌, IsTrue, Some, None, ℤ, refl, ap, arith, sym}
 use Rattle.std.specs.Int.{next_multiple_of}
 use Rattle.std.specs.Prelude.{◌==◌, is_ok, unsigned_abs}
 use Rattle.std.proofs.lemmas.Bool.{and_parts, cases_eq, ltb-true}
@@ -84,7 +84,7 @@ fits_in origin room first read more z n w reads begins ends fits = omega (arith,
 -- ---- a leaf
 
 -- a valid leaf whose chroma is predicted from luma has no side past 32
-small_sides : (size : BlockSize) (kind : LeafKind) → HasValidModes size kind → is_from_luma kind ≡ true → (block_width size ≤ 32) × (block_height size ≤ 32)
+pub small_sides : (size : BlockSize) (kind : LeafKind) → HasValidModes size kind → is_from_luma kind ≡ true → (block_width size ≤ 32) × (block_height size ≤ 32)
 small_sides size (Intra mode step (Some (Cfl alpha_u alpha_v))) valid is = (valid.chroma_valid.width, valid.chroma_valid.height)
 small_sides size (Intra mode step (Some (Plain uv_mode uv_step))) valid is = absurd cc
 small_sides size (Intra mode step None) valid is = absurd cc
@@ -134,7 +134,13 @@ module _ (h : Header) (leaf : LeafValue) (frame : IsReadFrame h) (grid : IsOnGri
         depth = shallow h.depth frame.depth;
       }
 
-  -- and at a weight, in either plane of chroma
+  -- in either plane of chroma its block is one transform
+  pub chroma_sides : (p : ℕ) → (tx_width (plane_area h leaf.x leaf.y leaf.size leaf.tx_size (suc p)).tx_size ≡ plane_side (block_width leaf.size) (xdec h 1))
+      × (tx_height (plane_area h leaf.x leaf.y leaf.size leaf.tx_size (suc p)).tx_size ≡ plane_side (block_height leaf.size) (ydec h 1))
+  unfolding xdec ydec plane_area plane_tx_size
+  chroma_sides p = (sym transform.width, sym transform.height)
+
+  -- and its weight is one that can be
   pub from_luma_fits : (p : ℕ) (alpha : ℤ) → unsigned_abs alpha ≤ 16 → FromLumaFits (plane_area h leaf.x leaf.y leaf.size leaf.tx_size (suc p)) alpha
   unfolding xdec ydec plane_area plane_tx_size
   from_luma_fits p alpha low = record { weight = low; few = few_samples leaf.size (xdec h 1) (ydec h 1) transform }

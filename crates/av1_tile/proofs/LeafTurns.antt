@@ -5,13 +5,17 @@ use Rattle.std.specs.List.{All, flat_map, AllByRecursion}
 use Rattle.std.proofs.lemmas.Grind.{flat_map-append}
 use Rattle.std.proofs.lemmas.List.{append-nil, map-append}
 use Rattle.std.proofs.lemmas.List.Elements.{recursion_from_All}
+use Rattle.av1_blocks.specs.Blocks.{block_width, block_height}
+use Rattle.av1_blocks.specs.Chroma.{plane_side}
+use Rattle.av1_blocks.specs.Transforms.{tx_width, tx_height}
 use Rattle.av1_frame.specs.Areas.{VisibleArea}
 use Rattle.av1_intra.specs.declared.neighbours.IntraEdgeFilterParameters.{IntraEdgeFilterParameters}
-use Rattle.av1_order.specs.Plans.{is_inter}
+use Rattle.av1_order.specs.ChromaFromLuma.{IsQuarterInside}
+use Rattle.av1_order.specs.Plans.{is_inter, steps_in}
 use Rattle.av1_order.specs.Steps as order
 use Rattle.av1_order.specs.Turns.{IsCodedPlan, leaves_steps, steps_before, is_written}
 use Rattle.av1_order.proofs.Blocks.{is_there}
-use Rattle.av1_order.proofs.Cuts.{all_front, at_cut, cut_grid, cut_faultless}
+use Rattle.av1_order.proofs.Cuts.{all_front, at_cut, cut_grid, cut_faultless, steps_with}
 use Rattle.av1_order.proofs.Turns.{sides_are_answered, plans_are_written}
 use Rattle.av1_plan.proofs.ValidLeaves.{IsValidLeaf, valid_leaf}
 use Rattle.av1_plan.specs.Geometry.{xdec, ydec, block_count, carries_chroma, covers_plane, plane_area, transform_block}
@@ -23,6 +27,7 @@ use Rattle.av1_plan.specs.declared.leaf.LeafKind.{LeafKind}
 use Rattle.av1_plan.specs.declared.leaf.LeafKind.TheVariants.{Intra, Single, Compound}
 use Rattle.av1_plan.specs.declared.leaf.Triple.{Triple}
 use Rattle.av1_plan.specs.CodingOrder.{IsOnGrid}
+use Rattle.av1_plan.specs.ReadPlans.{IsReadFrame}
 use Rattle.av1_plan.specs.Validity.{fault_of}
 use Rattle.av1_tile.specs.declared.plane_block.PlaneBlock.{PlaneBlock}
 use Rattle.av1_tile.specs.declared.plane_block.Prediction.{Prediction}
@@ -31,9 +36,11 @@ use Rattle.av1_tile.specs.Canvas.{Component, Y, U, V, is_same}
 use Rattle.av1_tile.specs.PlaneBlocks.{number, block_told, is_from_luma, is_whole, plane_block, prediction_in, told_at, triples_in}
 use Rattle.av1_tile.specs.Steps.{Step, predict, add, PlaneStep, joined, block_area, block_steps, steps_at, plane_steps, in_component, component_steps, steps_of, leaf_steps, steps_after, steps}
 use Rattle.av1_tile.proofs.BlockTurns.{block_known, units_before}
+use Rattle.av1_tile.proofs.CflSizes.{chroma_sides, luma_fits}
 use Rattle.av1_tile.proofs.Loops.{joined_more}
-use Rattle.av1_tile.proofs.Readiness.{EdgeReady, PredictionReady, StepReadyIn, StepReady, Each, AreReady}
-use Rattle.av1_tile.proofs.UnitSteps.{unit_of, units, covers, covers_is, IsCodedLeaf, nothing_whole, whole_first, whole_is_inter, other_none, plan_units}
+use Rattle.av1_tile.proofs.LumaTurns.{luma_ready}
+use Rattle.av1_tile.proofs.Readiness.{EdgeReady, FromLumaReady, PredictionReady, StepReadyIn, StepReady, Each, AreReady}
+use Rattle.av1_tile.proofs.UnitSteps.{unit_of, units, covers, covers_is, IsCodedLeaf, nothing_whole, whole_first, whole_is_inter, other_none, other_units, plan_units, plane_units}
 use Rattle.av1_tile.proofs.Units.{StepFits, all_append, covered, joined_fit, in_component_fit, part_fits, steps_fit}
 
 -- P of each item of two lists, one behind the other
@@ -64,24 +71,32 @@ each_always h k before (s ∷ ss) all = (ready_always h k before s all.0, each_a
 
 -- ---- a prediction from the samples round it
 
-from_edge : (h : Header) (k : Component) (before : List PlaneStep) (block : PlaneBlock) (n : ℕ) (a : VisibleArea) (filter : Option IntraEdgeFilterParameters) (kind : LeafKind) → is_inter kind ≡ false → is_from_luma kind ≡ false
-    → EdgeReady h k before block n a → PredictionReady h k before block n a (prediction_in filter k kind)
-from_edge h Y before block n a filter (Intra mode step chroma) intra plain edge = edge
-from_edge h U before block n a filter (Intra mode step (Some (Plain uv_mode uv_step))) intra plain edge = edge
-from_edge h V before block n a filter (Intra mode step (Some (Plain uv_mode uv_step))) intra plain edge = edge
-from_edge h U before block n a filter (Intra mode step (Some (Cfl alpha_u alpha_v))) intra plain edge = absurd cc
-from_edge h V before block n a filter (Intra mode step (Some (Cfl alpha_u alpha_v))) intra plain edge = absurd cc
-from_edge h U before block n a filter (Intra mode step None) intra plain edge = edge
-from_edge h V before block n a filter (Intra mode step None) intra plain edge = edge
-from_edge h k before block n a filter (Single mode reference mv) intra plain edge = absurd cc
-from_edge h k before block n a filter (Compound mode references mvs) intra plain edge = absurd cc
+from_edge : (h : Header) (k : Component) (before : List PlaneStep) (block : PlaneBlock) (n : ℕ) (a : VisibleArea) (filter : Option IntraEdgeFilterParameters) (kind : LeafKind) → is_inter kind ≡ false
+    → EdgeReady h k before block n a → (is_same Y k ≡ false → is_from_luma kind ≡ true → FromLumaReady h k before block n a) → PredictionReady h k before block n a (prediction_in filter k kind)
+from_edge h Y before block n a filter (Intra mode step chroma) intra edge luma = edge
+from_edge h U before block n a filter (Intra mode step (Some (Plain uv_mode uv_step))) intra edge luma = edge
+from_edge h V before block n a filter (Intra mode step (Some (Plain uv_mode uv_step))) intra edge luma = edge
+from_edge h U before block n a filter (Intra mode step (Some (Cfl alpha_u alpha_v))) intra edge luma = luma refl refl
+from_edge h V before block n a filter (Intra mode step (Some (Cfl alpha_u alpha_v))) intra edge luma = luma refl refl
+from_edge h U before block n a filter (Intra mode step None) intra edge luma = edge
+from_edge h V before block n a filter (Intra mode step None) intra edge luma = edge
+from_edge h k before block n a filter (Single mode reference mv) intra edge luma = absurd cc
+from_edge h k before block n a filter (Compound mode references mvs) intra edge luma = absurd cc
+
+-- chroma is of leaves that carry it
+carries_in : (k : Component) (carried : Bool) → is_same Y k ≡ false → covers k carried ≡ true → carried ≡ true
+carries_in Y carried chroma e = absurd cc
+carries_in U carried chroma e = e
+carries_in V carried chroma e = e
 
 -- ---- a leaf's block in a plane
 
 module _ (h : Header) (earlier : List LeafValue) (leaf : LeafValue) (later : List LeafValue) (k : Component) (is : IsCodedPlan h (number k) (earlier ++ leaf ∷ later))
     (covered_here : covers_plane h leaf.x leaf.y leaf.size (number k) ≡ true) (filter : Option IntraEdgeFilterParameters) (triples : List Triple)
     (front other : List PlaneStep) (front_fits : AllByRecursion (StepFits h) front) (other_fits : AllByRecursion (StepFits h) other)
-    (front_is : units (xdec h (number k)) (ydec h (number k)) k front ≡ leaves_steps h (number k) earlier) (other_is : units (xdec h (number k)) (ydec h (number k)) k other ≡ []) where
+    (front_is : units (xdec h (number k)) (ydec h (number k)) k front ≡ leaves_steps h (number k) earlier) (other_is : units (xdec h (number k)) (ydec h (number k)) k other ≡ [])
+    (read : IsReadFrame h) (in_luma : IsCodedPlan h 0 (earlier ++ leaf ∷ later)) (quarter : IsQuarterInside h leaf)
+    (luma_is : is_same Y k ≡ false → units (xdec h 0) (ydec h 0) Y (front ++ other) ≡ leaves_steps h 0 (earlier ++ leaf ∷ [])) where
   abbrev block : PlaneBlock
   block = block_told h filter k leaf
 
@@ -111,12 +126,42 @@ module _ (h : Header) (earlier : List LeafValue) (leaf : LeafValue) (later : Lis
       ∙ ap (λ (ss : List order.Step). is_written h p ss x y) (units_before h filter k leaf is.frame coded.grid valid intra earlier front other triples n (omega arith) front_is other_is) in
       block_known h p (steps_before h p earlier leaf n) written total leaf n b (sides_are_answered h p earlier leaf later is intra covered_here n b at) there.column there.row
 
-  module _ (intra : is_inter leaf.kind ≡ false) (plain : is_from_luma leaf.kind ≡ false) where
+  -- the steps of luma before it
+  luma_before : is_same Y k ≡ false → (n : ℕ) → units (xdec h 0) (ydec h 0) Y (before_block n) ≡ leaves_steps h 0 (earlier ++ leaf ∷ [])
+  luma_before chroma n =
+      let own = in_component k (joined n (steps_at h block triples)) in
+      flat_map-append (unit_of (xdec h 0) (ydec h 0) Y) (front ++ other) own
+      ∙ ap (λ (l : List order.Step). units (xdec h 0) (ydec h 0) Y (front ++ other) ++ l) (other_units (xdec h 0) (ydec h 0) Y k chroma (joined n (steps_at h block triples)))
+      ∙ append-nil _ ∙ luma_is chroma
+
+  from_luma_ready : is_same Y k ≡ false → is_from_luma leaf.kind ≡ true → (n : ℕ) (a : VisibleArea) → a.width ≡ tx_width block.area.tx_size → a.height ≡ tx_height block.area.tx_size
+      → EdgeReady h k (before_block n) block n a → FromLumaReady h k (before_block n) block n a
+  from_luma_ready chroma from n a wide high edge =
+      let carried = carries_in k _ chroma (sym (covers_is h k leaf) ∙ covered_here) in
+      let (width, height) = sides k chroma in
+      record {
+        edge = edge;
+        luma = luma_ready h earlier leaf later in_luma quarter carried from (before_block n) (before_fits n) (luma_before chroma n);
+        stored = λ cfg roomy. let fits = luma_fits h leaf read coded.grid valid from cfg carried roomy in record { columns = fits.columns; rows = fits.rows };
+        columns = wide ∙ width;
+        rows = high ∙ height;
+      }
+    where
+      sides : (j : Component) → is_same Y j ≡ false → (tx_width (plane_area h leaf.x leaf.y leaf.size leaf.tx_size (number j)).tx_size ≡ plane_side (block_width leaf.size) (xdec h 1))
+          × (tx_height (plane_area h leaf.x leaf.y leaf.size leaf.tx_size (number j)).tx_size ≡ plane_side (block_height leaf.size) (ydec h 1))
+      sides Y e = absurd cc
+      sides U e = chroma_sides h leaf read coded.grid valid from 0
+      sides V e = chroma_sides h leaf read coded.grid valid from 1
+
+  module _ (intra : is_inter leaf.kind ≡ false) where
     own_ready : (n : ℕ) (b : TransformBlock) → transform_block h block.plane block.area n ≡ Some b → Each (StepReady h) (before_block n) (in_component k (block_steps block triples n (Some b)))
     own_ready n b at =
         subst (λ (t : Bool). Each (StepReady h) (before_block n) (in_component k (if t then add block triples n (block_area block b) ∷ [] else predict block n (block_area block b) ∷ add block triples n (block_area block b) ∷ [])))
-        (sym (whole_is_inter filter k leaf.kind ∙ intra))
-        (from_edge h k (before_block n) block n (block_area block b) filter leaf.kind intra plain (edge_ready intra n b at), (tt, tt))
+        (sym (whole_is_inter filter k leaf.kind ∙ intra)) (
+          from_edge h k (before_block n) block n (block_area block b) filter leaf.kind intra (edge_ready intra n b at)
+              (λ chroma from. from_luma_ready chroma from n (block_area block b) refl refl (edge_ready intra n b at)),
+          (tt, tt),
+        )
 
     one_ready : (n : ℕ) → Each (StepReady h) (before_block n) (in_component k (steps_at h block triples n))
     unfolding steps_at
@@ -168,12 +213,12 @@ module _ (h : Header) (earlier : List LeafValue) (leaf : LeafValue) (later : Lis
         (subst (λ (w : List Step). AllByRecursion (λ s. needs_nothing s ≡ true) (w ++ joined (block_count block.area) (steps_at h block triples))) (sym (whole_first h filter k leaf is.frame coded.grid valid inter))
         (whole, all_added (block_count block.area)))
 
-  pub plane_ready : is_from_luma leaf.kind ≡ false → Each (StepReady h) (front ++ other) (in_component k (plane_steps h block triples))
-  plane_ready plain = go (is_inter leaf.kind) refl
+  pub plane_ready : Each (StepReady h) (front ++ other) (in_component k (plane_steps h block triples))
+  plane_ready = go (is_inter leaf.kind) refl
     where
       go : (t : Bool) → is_inter leaf.kind ≡ t → Each (StepReady h) (front ++ other) (in_component k (plane_steps h block triples))
       go true e = inter_ready e
-      go false e = intra_ready e plain
+      go false e = intra_ready e
 
 -- ---- all leaves
 
@@ -183,7 +228,7 @@ steps_more h pre (x ∷ xs) l =
     ap (λ (ss : List PlaneStep). leaf_steps h pre x ++ ss) (steps_more h (pre ++ x ∷ []) xs l ∙ ap (λ (p : List LeafValue). steps_after h (pre ++ x ∷ []) xs ++ leaf_steps h p l) (append_assoc pre (x ∷ []) xs))
     ∙ sym (append_assoc (leaf_steps h pre x) (steps_after h (pre ++ x ∷ []) xs) (leaf_steps h (pre ++ x ∷ xs) l))
 
-module _ (h : Header) (leaves : List LeafValue) (coded : (k : Component) → IsCodedPlan h (number k) leaves) (plain : All (λ l. is_from_luma l.kind ≡ false) leaves) where
+module _ (h : Header) (leaves : List LeafValue) (coded : (k : Component) → IsCodedPlan h (number k) leaves) (read : IsReadFrame h) (quarters : All (IsQuarterInside h) leaves) where
   cut_coded : (earlier : List LeafValue) (leaf : LeafValue) (later : List LeafValue) → earlier ++ leaf ∷ later ≡ leaves → (k : Component) → IsCodedPlan h (number k) (earlier ++ leaf ∷ later)
   cut_coded earlier leaf later cut k = subst (IsCodedPlan h (number k)) (sym cut) (coded k)
 
@@ -206,13 +251,27 @@ module _ (h : Header) (leaves : List LeafValue) (coded : (k : Component) → IsC
       own : IsCodedLeaf h leaf
       own = record { frame = (coded Y).frame; grid = cut_grid h 0 earlier leaf later (cut_coded earlier leaf later cut Y); faultless = cut_faultless h 0 earlier leaf later (cut_coded earlier leaf later cut Y) }
 
-      at_leaf : is_from_luma leaf.kind ≡ false
-      at_leaf = at_cut (λ l. is_from_luma l.kind ≡ false) earlier leaf later (subst (λ (ls : List LeafValue). All (λ l. is_from_luma l.kind ≡ false) ls) (sym cut) plain)
+      in_luma : IsCodedPlan h 0 (earlier ++ leaf ∷ later)
+      in_luma = cut_coded earlier leaf later cut Y
 
-      ready_in : (k : Component) (other : List PlaneStep) → covers k (carries_chroma h leaf.x leaf.y leaf.size) ≡ true → AllByRecursion (StepFits h) other → units (xdec h (number k)) (ydec h (number k)) k other ≡ [] → Each (StepReady h) (front ++ other) (c k)
-      ready_in k other covered_here fits none =
+      quarter : IsQuarterInside h leaf
+      quarter = at_cut (IsQuarterInside h) earlier leaf later (subst (λ (ls : List LeafValue). All (IsQuarterInside h) ls) (sym cut) quarters)
+
+      ready_in : (k : Component) (other : List PlaneStep) → covers k (carries_chroma h leaf.x leaf.y leaf.size) ≡ true → AllByRecursion (StepFits h) other → units (xdec h (number k)) (ydec h (number k)) k other ≡ []
+          → (is_same Y k ≡ false → units (xdec h 0) (ydec h 0) Y (front ++ other) ≡ leaves_steps h 0 (earlier ++ leaf ∷ [])) → Each (StepReady h) (front ++ other) (c k)
+      ready_in k other covered_here fits none luma_is =
           plane_ready h earlier leaf later k (cut_coded earlier leaf later cut k) (covers_is h k leaf ∙ covered_here) (told_at h earlier k leaf) (triples_in k leaf) front other
-          (steps_fit h [] earlier (front_leaves earlier (leaf ∷ later) cut)) fits (plan_units h k [] earlier (front_leaves earlier (leaf ∷ later) cut)) none at_leaf
+          (steps_fit h [] earlier (front_leaves earlier (leaf ∷ later) cut)) fits (plan_units h k [] earlier (front_leaves earlier (leaf ∷ later) cut)) none read in_luma quarter luma_is
+
+      -- the steps of luma once the leaf's own are done
+      own_luma : units (xdec h 0) (ydec h 0) Y (c Y) ≡ steps_in h 0 leaf
+      own_luma = plane_units h (told_at h earlier Y leaf) Y leaf own.frame own.grid (valid_leaf h leaf own.faultless) (triples_in Y leaf) own.faultless (covers_is h Y leaf)
+
+      luma_then : (other : List PlaneStep) → units (xdec h 0) (ydec h 0) Y other ≡ steps_in h 0 leaf → units (xdec h 0) (ydec h 0) Y (front ++ other) ≡ leaves_steps h 0 (earlier ++ leaf ∷ [])
+      luma_then other are =
+          flat_map-append (unit_of (xdec h 0) (ydec h 0) Y) front other
+          ∙ ap (λ (l : List order.Step). l ++ units (xdec h 0) (ydec h 0) Y other) (plan_units h Y [] earlier (front_leaves earlier (leaf ∷ later) cut))
+          ∙ ap (λ (l : List order.Step). leaves_steps h 0 earlier ++ l) are ∙ sym (steps_with h 0 earlier leaf later in_luma)
 
       none_of : (k j : Component) → is_same k j ≡ false → units (xdec h (number k)) (ydec h (number k)) k (c j) ≡ []
       none_of k j e = other_none h (xdec h (number k)) (ydec h (number k)) (λ i. plane_block h earlier i leaf) leaf k j e
@@ -220,16 +279,21 @@ module _ (h : Header) (leaves : List LeafValue) (coded : (k : Component) → IsC
       two_none : units (xdec h 2) (ydec h 2) V (c Y ++ c U) ≡ []
       two_none = flat_map-append (unit_of (xdec h 2) (ydec h 2) V) (c Y) (c U) ∙ ap (λ (l : List order.Step). l ++ units (xdec h 2) (ydec h 2) V (c U)) (none_of V Y refl) ∙ none_of V U refl
 
+      luma_and_u : units (xdec h 0) (ydec h 0) Y (c Y ++ c U) ≡ steps_in h 0 leaf
+      luma_and_u =
+          flat_map-append (unit_of (xdec h 0) (ydec h 0) Y) (c Y) (c U)
+          ∙ ap (λ (l : List order.Step). units (xdec h 0) (ydec h 0) Y (c Y) ++ l) (other_none h (xdec h 0) (ydec h 0) (λ i. plane_block h earlier i leaf) leaf Y U refl) ∙ append-nil _ ∙ own_luma
+
       first : Each (StepReady h) front (c Y)
-      first = subst (λ (l : List PlaneStep). Each (StepReady h) l (c Y)) (append-nil front) (ready_in Y [] refl tt refl)
+      first = subst (λ (l : List PlaneStep). Each (StepReady h) l (c Y)) (append-nil front) (ready_in Y [] refl tt refl (λ e. absurd cc))
 
       go : (t : Bool) → carries_chroma h leaf.x leaf.y leaf.size ≡ t → Each (StepReady h) front (flat_map c (if t then Y ∷ U ∷ V ∷ [] else Y ∷ []))
       go true e =
           each_append (StepReady h) front (c Y) (c U ++ (c V ++ [])) first
-          (each_append (StepReady h) (front ++ c Y) (c U) (c V ++ []) (ready_in U (c Y) e (part_fits h earlier leaf own Y) (none_of U Y refl))
+          (each_append (StepReady h) (front ++ c Y) (c U) (c V ++ []) (ready_in U (c Y) e (part_fits h earlier leaf own Y) (none_of U Y refl) (λ chroma. luma_then (c Y) own_luma))
           (subst (λ (l : List PlaneStep). Each (StepReady h) ((front ++ c Y) ++ c U) l) (sym (append-nil (c V)))
           (subst (λ (l : List PlaneStep). Each (StepReady h) l (c V)) (sym (append_assoc front (c Y) (c U)))
-          (ready_in V (c Y ++ c U) e (all_append (StepFits h) (c Y) (c U) (part_fits h earlier leaf own Y) (part_fits h earlier leaf own U)) two_none))))
+          (ready_in V (c Y ++ c U) e (all_append (StepFits h) (c Y) (c U) (part_fits h earlier leaf own Y) (part_fits h earlier leaf own U)) two_none (λ chroma. luma_then (c Y ++ c U) luma_and_u)))))
       go false e = subst (λ (l : List PlaneStep). Each (StepReady h) front l) (sym (append-nil (c Y))) first
 
   rest_ready : (earlier later : List LeafValue) → earlier ++ later ≡ leaves → Each (StepReady h) (steps h earlier) (steps_after h earlier later)

@@ -8,6 +8,8 @@ pub mod PreparedEdges
 pub mod BlockTurns
 pub mod Readiness
 pub mod Units
+pub mod CflSizes
+pub mod LumaTurns
 pub mod LeafTurns
 pub mod Simulation
 pub mod BlockTriples
@@ -19,9 +21,9 @@ pub mod NotedCells
 pub mod Lifts
 pub mod LeafLuma
 pub mod LumaRegions
-pub mod CflSizes
 pub mod ValidTriples
 pub mod PlanLeaves
 pub mod PlanFits
 pub mod Pictures
+pub mod FilledPlanes
 pub mod Examples

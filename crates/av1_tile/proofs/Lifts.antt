@@ -1,5 +1,5 @@
 -- Steps of one plane, seen as steps over all three.
-use Rattle.std.proofs.Common.{ℕ, ◌<◌, ◌≡◌, Bool, true, false, ℤ, List, [], ◌∷◌, ◌++◌, refl, ap, ◌∙◌, sym, if◌then◌else◌, Option, Some, None}
+use Rattle.std.proofs.Common.{ℕ, zero, suc, arith, ◌<◌, ◌≡◌, Bool, true, false, ℤ, List, [], ◌∷◌, ◌++◌, refl, ap, ◌∙◌, sym, if◌then◌else◌, Option, Some, None}
 use Rattle.std.specs.List.{fold, flat_map, range_with_len}
 use Rattle.std.specs.Prelude.{⊤}
 use Rattle.std.proofs.lemmas.Grind.{fold-append}
@@ -20,7 +20,7 @@ use Rattle.av1_tile.specs.declared.plane_block.Prediction.{Prediction}
 use Rattle.av1_tile.specs.declared.plane_block.Prediction.TheVariants as predictions
 use Rattle.av1_tile.specs.declared.planes.Planes.{Planes}
 use Rattle.av1_tile.specs.Canvas.{Component, Y, U, V}
-use Rattle.av1_tile.specs.PlaneBlocks.{number, components_of, is_whole, triples_in}
+use Rattle.av1_tile.specs.PlaneBlocks.{number, component, components_of, is_whole, triples_in}
 use Rattle.av1_tile.specs.Reference.{by_prediction, luma_for}
 use Rattle.av1_tile.specs.Steps.{Step, predict, add, joined, block_area, whole_area, block_steps, steps_at, whole_steps, plane_steps, in_component, component_steps, steps_of}
 use Rattle.av1_tile.specs.Walk.{edges_in, edges_after, fast_in, fast_step, placed_edge, plane_of, with_plane, SameLayout}
@@ -37,6 +37,24 @@ SameFor block (predictions.Compound mode references mvs) f g = ⊤
 abbrev pub SameLuma : PlaneBlock → (f g : PlaneBlock → ℕ → ℕ → ℤ) → Type 0
 SameLuma block f g = SameFor block block.prediction f g
 
+module _ {T : Type 0} (num : T → ℕ) (pixel : ℕ → T) (plan : PlanValue) (p : ℕ) (f g : PlaneBlock → ℕ → ℕ → ℤ) (block : PlaneBlock) where
+  -- a leaf that is predicted over its whole area doesn't look at luma
+  whole_same : (of : Prediction) → is_whole of ≡ true → (a : VisibleArea) (q : Plane T) (r c : ℕ)
+      → by_prediction plan p of a (placed_edge plan.header p block 0 a num q) (f block) r c ≡ by_prediction plan p of a (placed_edge plan.header p block 0 a num q) (g block) r c
+  unfolding by_prediction
+  whole_same (predictions.Intra mode step filter) e a q r c = refl
+  whole_same (predictions.FromLuma alpha) e a q r c = absurd cc
+  whole_same (predictions.Single mode reference mv) e a q r c = refl
+  whole_same (predictions.Compound mode references mvs) e a q r c = refl
+
+  pub whole_steps_same : (q : Plane T) → fold (fast_in num pixel plan p f) q (whole_steps block) ≡ fold (fast_in num pixel plan p g) q (whole_steps block)
+  unfolding fast_in
+  whole_steps_same q = go (is_whole block.prediction) refl
+    where
+      go : (t : Bool) → is_whole block.prediction ≡ t → fold (fast_in num pixel plan p f) q (if t then predict block 0 (whole_area block) ∷ [] else []) ≡ fold (fast_in num pixel plan p g) q (if t then predict block 0 (whole_area block) ∷ [] else [])
+      go true e = painted_plane_same q (whole_area block) _ _ (λ r c v hr hc. ap pixel (whole_same block.prediction e (whole_area block) q r c))
+      go false e = refl
+
 module _ {T : Type 0} (num : T → ℕ) (pixel : ℕ → T) (plan : PlanValue) (p : ℕ) (f g : PlaneBlock → ℕ → ℕ → ℤ) (block : PlaneBlock) (same : SameLuma block f g) where
   -- a transform block is predicted alike
   by_luma : (of : Prediction) → SameFor block of f g → (n : ℕ) (b : TransformBlock) (q : Plane T) (r c : ℕ) → r < (block_area block b).height → c < (block_area block b).width
@@ -50,15 +68,6 @@ module _ {T : Type 0} (num : T → ℕ) (pixel : ℕ → T) (plan : PlanValue) (
   one_same : (n : ℕ) (b : TransformBlock) (q : Plane T) → fast_in num pixel plan p f q (predict block n (block_area block b)) ≡ fast_in num pixel plan p g q (predict block n (block_area block b))
   unfolding fast_in
   one_same n b q = painted_plane_same q (block_area block b) _ _ (λ r c v hr hc. ap pixel (by_luma block.prediction same n b q r c hr hc))
-
-  -- a leaf that is predicted over its whole area doesn't look at luma
-  whole_same : (of : Prediction) → is_whole of ≡ true → (a : VisibleArea) (q : Plane T) (r c : ℕ)
-      → by_prediction plan p of a (placed_edge plan.header p block 0 a num q) (f block) r c ≡ by_prediction plan p of a (placed_edge plan.header p block 0 a num q) (g block) r c
-  unfolding by_prediction
-  whole_same (predictions.Intra mode step filter) e a q r c = refl
-  whole_same (predictions.FromLuma alpha) e a q r c = absurd cc
-  whole_same (predictions.Single mode reference mv) e a q r c = refl
-  whole_same (predictions.Compound mode references mvs) e a q r c = refl
 
   block_same : (triples : List Triple) (n : ℕ) (o : Option TransformBlock) (q : Plane T) → fold (fast_in num pixel plan p f) q (block_steps block triples n o) ≡ fold (fast_in num pixel plan p g) q (block_steps block triples n o)
   unfolding fast_in
@@ -83,14 +92,6 @@ module _ {T : Type 0} (num : T → ℕ) (pixel : ℕ → T) (plan : PlanValue) (
       ∙ pieces_same h triples ns (fold (fast_in num pixel plan p g) q (s n))
       ∙ sym (fold-append (fast_in num pixel plan p g) q (s n) (flat_map s ns))
 
-  whole_steps_same : (q : Plane T) → fold (fast_in num pixel plan p f) q (whole_steps block) ≡ fold (fast_in num pixel plan p g) q (whole_steps block)
-  unfolding fast_in
-  whole_steps_same q = go (is_whole block.prediction) refl
-    where
-      go : (t : Bool) → is_whole block.prediction ≡ t → fold (fast_in num pixel plan p f) q (if t then predict block 0 (whole_area block) ∷ [] else []) ≡ fold (fast_in num pixel plan p g) q (if t then predict block 0 (whole_area block) ∷ [] else [])
-      go true e = painted_plane_same q (whole_area block) _ _ (λ r c v hr hc. ap pixel (whole_same block.prediction e (whole_area block) q r c))
-      go false e = refl
-
   -- so a leaf's block is reconstructed alike
   pub luma_same : (h : Header) (triples : List Triple) (q : Plane T) → fold (fast_in num pixel plan p f) q (plane_steps h block triples) ≡ fold (fast_in num pixel plan p g) q (plane_steps h block triples)
   unfolding joined
@@ -98,11 +99,17 @@ module _ {T : Type 0} (num : T → ℕ) (pixel : ℕ → T) (plan : PlanValue) (
       let w = whole_steps block in
       let j = flat_map (steps_at h block triples) (range_with_len 0 (block_count block.area)) in
       fold-append (fast_in num pixel plan p f) q w j
-      ∙ ap (λ (z : Plane T). fold (fast_in num pixel plan p f) z j) (whole_steps_same q)
+      ∙ ap (λ (z : Plane T). fold (fast_in num pixel plan p f) z j) (whole_steps_same num pixel plan p f g block q)
       ∙ pieces_same h triples (range_with_len 0 (block_count block.area)) (fold (fast_in num pixel plan p g) q w)
       ∙ sym (fold-append (fast_in num pixel plan p g) q w j)
 
 -- ---- planes
+
+pub number_component : (p : ℕ) → p < 3 → number (component p) ≡ p
+number_component zero h = refl
+number_component (suc zero) h = refl
+number_component (suc (suc zero)) h = refl
+number_component (suc (suc (suc p))) h = absurd (omega arith)
 
 module _ {T : Type 0} (num : T → ℕ) (pixel : ℕ → T) (plan : PlanValue) where
   fold_component : (k : Component) (planes : Planes T) (steps : List Step) → fold (fast_step num pixel plan) planes (in_component k steps) ≡ with_plane k planes (fold (fast_in num pixel plan (number k) (luma_for plan.header (sample_at num planes.y) k)) (plane_of k planes) steps)

@@ -4,40 +4,47 @@ use Rattle.std.proofs.lemmas.List.Elements.{All-replicate}
 use Rattle.std.proofs.lemmas.Nat.{pow_pos}
 use Rattle.std.specs.List.{fold}
 use Rattle.std.proofs.Math.Logic.{∥∥₁_elim}
-use mathlib.Core.List.{is_set as List-set}
 use native.Mathlib.Nat.{ℕ_set}
 use Rattle.av1_lists.specs.Lists.{by_index}
 use Rattle.av1_lists.proofs.Lists.{numbers_are}
 use Rattle.av1_frame.proofs.RowParts.{part_sample}
+use Rattle.av1_frame.specs.declared.frame_invariants.FrameInvariants.{FrameInvariants}
 use Rattle.av1_frame.specs.declared.plane.Plane.{Plane}
 use Rattle.av1_frame.specs.declared.plane.PlaneConfig.{PlaneConfig}
 use Rattle.av1_frame.specs.Planes.{InPlane, IsWhole, place_at, sample_at}
 use Rattle.av1_frame.specs.Samples.{part}
 use Rattle.av1_frame.proofs.Planes.{run_in_storage}
+use Rattle.av1_order.specs.ChromaFromLuma.{IsQuarterInside}
 use Rattle.av1_order.specs.Plans.{coding_in}
 use Rattle.av1_order.specs.Turns.{IsCodedPlan}
+use Rattle.av1_order.proofs.ChromaFromLuma.{two_to_one_inside}
 use Rattle.av1_plan.specs.declared.header.Header.{Header}
 use Rattle.av1_plan.specs.declared.plan.Plan.{Plan}
 use Rattle.av1_plan.specs.Answer.{plan_value}
 use Rattle.av1_plan.specs.Geometry.{xdec, ydec, plane_width, plane_height, carries_chroma}
 use Rattle.av1_plan.specs.Grammar.{plan as grammar}
-use Rattle.av1_plan.specs.Plan.{LeafValue}
+use Rattle.av1_plan.specs.Plan.{LeafValue, PlanValue}
 use Rattle.av1_plan.specs.Spelling.{IsSpelled}
 use Rattle.av1_plan.specs.Validity.{first_fault}
 use Rattle.av1_plan.proofs.CodingOrder.{plan_trees}
-use Rattle.av1_plan.proofs.ReadPlans.{plan_grid, read_frame}
+use Rattle.av1_plan.proofs.ReadPlans.{plan_grid, plan_shapes, read_frame}
 use Rattle.av1_plan.proofs.ValidLeaves.{faultless}
+use Rattle.av1_references.specs.References.{HoldsReferences}
 use Rattle.av1_tile.specs.declared.planes.Planes.{Planes}
 use Rattle.av1_tile.specs.Canvas.{Component, Y, U, V}
+use Rattle.av1_tile.specs.Edge.{sample_of}
 use Rattle.av1_tile.specs.Output.{visible, planes_of}
-use Rattle.av1_tile.specs.PlaneBlocks.{number, is_from_luma}
-use Rattle.av1_tile.specs.State.{Picture, IsSound, edges_of, shown, state_header}
+use Rattle.av1_tile.specs.PlaneBlocks.{component, extent_of, number}
+use Rattle.av1_tile.specs.Reference.{slow_walk}
+use Rattle.av1_tile.specs.State.{Picture, IsSound, MadeFor, ShowsRows, edges_of, shown}
 use Rattle.av1_tile.specs.Steps.{steps}
-use Rattle.av1_tile.specs.Walk.{Told, Begins, IsPlaneOf, Stores, StoresAll, HasRoom, HasRoomIn, SameLayout, edges_after, fast_step, steps_by}
+use Rattle.av1_tile.specs.Walk.{Told, Begins, IsPlaneOf, Stores, StoresAll, HasRoom, HasRoomIn, SameLayout, edges_after, fast_step, plane_of, steps_by}
+use Rattle.av1_tile.proofs.Agreement.{listed_same}
 use Rattle.av1_tile.proofs.LeafTurns.{plan_ready}
+use Rattle.av1_tile.proofs.Lifts.{number_component}
 use Rattle.av1_tile.proofs.PlanFits.{begins, sound_leaves, whole_frame}
 use Rattle.av1_tile.proofs.PlanLeaves.{steps_told}
-use Rattle.av1_tile.proofs.Simulation.{AllWhole, walk_shows}
+use Rattle.av1_tile.proofs.Simulation.{samples_shown, visible_same}
 use Rattle.av1_tile.proofs.UnitSteps.{covers}
 
 -- ---- rows
@@ -79,22 +86,25 @@ new_stores num zero h p cfg (Err e) none width height across down is samples who
 
 -- ---- a state that was made for a plan
 
--- the planes of a sound state store the frame of the plan that it was made for
-pub made_stores : {T : Type 0} (num : T → ℕ) (s : Picture T) (h k : Header) (planes : Planes T) (edges : ℕ) → IsSound num s → s ≡ record { header = h; planes = planes; edges = edges } → state_header s ≡ k → StoresAll num k planes
-made_stores num s h k planes edges sound is made =
-    let old = subst (λ (n : Header). StoresAll num n s.planes) made sound.stores in
-    subst (λ (r : Picture _). StoresAll num k r.planes) is old
+-- what is seen of a state that was made for a plan: its planes store the plan's frame, with room for whole superblocks, and it holds the plan's
+-- references
+pub record IsMade {T : Type 0} (num : T → ℕ) (value : PlanValue) (h : Header) (fi : FrameInvariants T) (planes : Planes T) : Type 0 where
+  pub header : h ≡ value.header
+  pub references : HoldsReferences num value fi
+  pub stores : StoresAll num value.header planes
+  pub room : HasRoom value.header planes
 
--- and its header is the plan's
-pub made_header : {T : Type 0} (s : Picture T) (h k : Header) (planes : Planes T) (edges : ℕ) → s ≡ record { header = h; planes = planes; edges = edges } → state_header s ≡ k → h ≡ k
-made_header s h k planes edges is made = sym (ap (λ (r : Picture _). r.header) is) ∙ made
+pub is_made : {T : Type 0} (num : T → ℕ) (value : PlanValue) (s : Picture T) (h : Header) (fi : FrameInvariants T) (planes : Planes T) (edges : ℕ) → s ≡ record { header = h; references = fi; planes = planes; edges = edges } → IsSound num s → MadeFor num value s
+    → IsMade num value h fi planes
+is_made num value s h fi planes edges is sound made =
+    subst (λ (r : Picture _). IsMade num value r.header r.references r.planes) is (record {
+      header = made.header;
+      references = made.references;
+      stores = subst (λ (n : Header). StoresAll num n s.planes) made.header sound.stores;
+      room = subst (λ (n : Header). HasRoom n s.planes) made.header sound.room;
+    })
 
--- they have room for whole superblocks, as planes laid out alike have
-pub made_room : {T : Type 0} (num : T → ℕ) (s : Picture T) (h k : Header) (planes : Planes T) (edges : ℕ) → IsSound num s → s ≡ record { header = h; planes = planes; edges = edges } → state_header s ≡ k → HasRoom k planes
-made_room num s h k planes edges sound is made =
-    let old = subst (λ (n : Header). HasRoom n s.planes) made sound.room in
-    subst (λ (r : Picture _). HasRoom k r.planes) is old
-
+-- planes laid out alike have the same room
 pub room_kept : {T : Type 0} (h : Header) (p q : Planes T) → SameLayout p q → HasRoom h p → HasRoom h q
 room_kept h p q same room = record {
   y = subst (HasRoomIn h 0) (sym same.y) room.y;
@@ -102,10 +112,10 @@ room_kept h p q same room = record {
   v = subst (HasRoomIn h 2) (sym same.v) room.v;
 }
 
-all_whole : {T : Type 0} (num : T → ℕ) (h : Header) (planes : Planes T) → StoresAll num h planes → AllWhole h planes
-all_whole num h planes s Y = s.y.place
-all_whole num h planes s U = s.u.place
-all_whole num h planes s V = s.v.place
+all_placed : {T : Type 0} (num : T → ℕ) (h : Header) (planes : Planes T) → StoresAll num h planes → (k : Component) → IsPlaneOf h (number k) (plane_of k planes)
+all_placed num h planes s Y = s.y.place
+all_placed num h planes s U = s.u.place
+all_placed num h planes s V = s.v.place
 
 -- ---- its plan
 
@@ -124,22 +134,38 @@ module _ (plan : Plan) (valid : first_fault (plan_value plan) ≡ None) where
   same_steps : (s : IsSpelled grammar (plan_value plan)) (told : Told) → steps_by (plan_value plan).header told (plan_value plan).leaves ≡ steps (plan_value plan).header (plan_value plan).leaves
   same_steps s told = steps_told (plan_value plan).header (plan_value plan).leaves (coded s) all_begin told
 
-  all_plain : All (λ (l : LeafValue). is_from_luma l.kind ≡ false) (plan_value plan).leaves
-  all_plain i d within = (sound_leaves plan valid i d within).edge.plain
+  all_quarters : All (IsQuarterInside (plan_value plan).header) (plan_value plan).leaves
+  all_quarters i d within = two_to_one_inside (plan_value plan).header _ (plan_shapes plan i d within)
 
-  same_prop : (a b : List ℕ) → IsProp (a ≡ b)
-  same_prop a b = hlevel (List-set ℕ_set)
+  module _ {T : Type 0} (num : T → ℕ) (pixel : ℕ → T) (law : (v : ℕ) → num (pixel v) ≡ v) (back : (x : T) → pixel (num x) ≡ x) (h : Header) (fi : FrameInvariants T) (p q : Planes T) (edges : ℕ) (told : Told)
+      (made : IsMade num (plan_value plan) h fi p) (after : StoresAll num (plan_value plan).header q) (walked : q ≡ fold (fast_step num pixel (plan_value plan)) p (steps_by (plan_value plan).header told (plan_value plan).leaves)) where
+    -- planes that have gone through its steps show the samples that it comes to
+    samples_are : (k : Component) (x y : ℕ) → x < plane_width (plan_value plan).header (number k) → y < plane_height (plan_value plan).header (number k) → sample_at num (plane_of k q) x y ≡ sample_of (slow_walk (plan_value plan) k x y)
+    samples_are k x y hx hy =
+        let value = plan_value plan in
+        ∥∥₁_elim plan.spelled (hlevel (ℕ_set))
+        (λ s. sym (ap sample_of (samples_shown num pixel law back value p q (plan_ready value.header value.leaves (coded s) (read_frame plan) all_quarters)
+        (record { plane = all_placed num value.header p made.stores; room = made.room.y }) (all_placed num value.header q after)
+        (walked ∙ ap (fold (fast_step num pixel value) p) (same_steps s told)) k x y hx hy)))
 
-  -- planes that have gone through its steps show what it comes to
-  pub plan_shows : {T : Type 0} (num : T → ℕ) (pixel : ℕ → T) (law : (v : ℕ) → num (pixel v) ≡ v) (back : (x : T) → pixel (num x) ≡ x) (h : Header) (p q : Planes T) (edges : ℕ) (told : Told) → h ≡ (plan_value plan).header
-      → StoresAll num (plan_value plan).header p → StoresAll num (plan_value plan).header q
-      → q ≡ fold (fast_step num pixel (plan_value plan)) p (steps_by (plan_value plan).header told (plan_value plan).leaves) → visible h (shown num (record { header = h; planes = q; edges = edges })) ≡ planes_of (plan_value plan)
-  plan_shows num pixel law back h p q edges told is before after walked =
-      let value = plan_value plan in
-      let whole = ∥∥₁_elim plan.spelled (same_prop (visible value.header (shown num (record { header = h; planes = q; edges = edges }))) (planes_of value))
-      (λ s. walk_shows num pixel law back value p q (plan_ready value.header value.leaves (coded s) all_plain) (all_whole num value.header p before) (all_whole num value.header q after)
-      (walked ∙ ap (fold (fast_step num pixel value) p) (same_steps s told))) in
-      subst (λ (k : Header). visible k (shown num (record { header = h; planes = q; edges = edges })) ≡ planes_of value) (sym is) whole
+    -- so they show its bytes,
+    pub plan_shows : visible h (shown num (record { header = h; references = fi; planes = q; edges = edges })) ≡ planes_of (plan_value plan)
+    unfolding planes_of
+    plan_shows =
+        let value = plan_value plan in
+        ap (λ (k : Header). visible k (shown num (record { header = h; references = fi; planes = q; edges = edges }))) made.header
+        ∙ visible_same value.header (λ k x y. sample_at num (plane_of k q) x y) (λ k x y. sample_of (slow_walk value k x y)) samples_are
+
+    -- row by row
+    pub plan_shows_rows : ShowsRows num (plan_value plan) (record { header = h; references = fi; planes = q; edges = edges })
+    plan_shows_rows n y few below =
+        let value = plan_value plan in
+        let k = component n in
+        let same : number k ≡ n = number_component n few in
+        let inside : y < plane_height value.header (number k) = subst (λ (m : ℕ). y < plane_height value.header m) (sym same) below in
+        ap (λ (g : Header). by_index (extent_of g n).width (λ x. sample_at num (plane_of k q) x y)) made.header
+        ∙ listed_same (plane_width value.header n) (λ x. sample_at num (plane_of k q) x y) (λ x. sample_of (slow_walk value k x y))
+        (λ x hx. samples_are k x y (subst (λ (m : ℕ). x < plane_width value.header m) (sym same) hx) inside)
 
   -- and the count of edges is that of its predictions
   pub plan_counts : (count after : ℕ) (told : Told) → after ≡ fold edges_after count (steps_by (plan_value plan).header told (plan_value plan).leaves) → after ≡ edges_of count (plan_value plan)

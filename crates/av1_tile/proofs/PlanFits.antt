@@ -1,41 +1,48 @@
 -- The leaves of a valid plan fit planes that have room for whole superblocks.
-use Rattle.std.proofs.Common.{ℕ, zero, suc, ◌+◌, ◌-◌, ◌*◌, ◌/◌, ◌%◌, ◌^◌, ◌<◌, ◌≤◌, ◌≡◌, ◌⊎◌, max, true, false, not, ◌||◌, nat_lt, Bool, get_or, Option, Some, None, All, refl, ap, arith, ◌∙◌, sym, inl, inr}
+use Rattle.std.proofs.Common.{ℕ, zero, suc, ◌+◌, ◌-◌, ◌*◌, ◌/◌, ◌%◌, ◌^◌, ◌<◌, ◌≤◌, ◌≡◌, max, true, false, not, ◌||◌, nat_lt, Bool, get_or, length, List, Option, Some, None, All, ℤ, refl, ap, arith, ◌∙◌, sym}
 use Rattle.std.specs.Int.{next_multiple_of}
-use Rattle.std.specs.Prelude.{◌==◌}
+use Rattle.std.specs.Prelude.{◌==◌, unsigned_abs}
 use Rattle.std.specs.Option.{is_some, unwrap_or}
-use Rattle.std.proofs.lemmas.Bool.{and_parts, eqb-true, ltb-true, true≢false}
+use Rattle.std.proofs.lemmas.Bool.{and_parts, eqb-true, false_from_ne_true, leb-true, ltb-true, true≢false}
 use Rattle.av1_blocks.specs.Blocks.{block_width, block_height}
+use Rattle.av1_blocks.specs.Modes.{is_compound, is_intra, mode_number}
 use Rattle.av1_blocks.specs.Transforms.{tx_number, tx_type_number, valid_av1_transform}
+use Rattle.av1_blocks.specs.declared.mc.MotionVector.{MotionVector}
 use Rattle.av1_blocks.specs.declared.partition.BlockSize.{BlockSize}
+use Rattle.av1_blocks.specs.declared.partition.RefType.{RefType}
+use Rattle.av1_blocks.specs.declared.partition.RefType.TheVariants.{INTRA_FRAME}
+use Rattle.av1_blocks.specs.declared.predict.PredictionMode.{PredictionMode}
 use Rattle.av1_blocks.specs.declared.transform.TxSize.{TxSize}
 use Rattle.av1_blocks.specs.declared.transform.TxSize.TheVariants.{TX_4X4}
 use Rattle.av1_blocks.specs.declared.transform.TxType.{TxType}
 use Rattle.av1_blocks.specs.declared.transform.TxType.TheVariants.{WHT_WHT, DCT_DCT}
 use Rattle.av1_frame.specs.declared.plane.PlaneConfig.{PlaneConfig}
+use Rattle.av1_inter.specs.Reference.{reference_of}
 use Rattle.av1_intra.specs.declared.neighbours.IntraEdgeFilterParameters.{IntraEdgeFilterParameters}
-use Rattle.av1_order.specs.Plans.{IsWholeFrame, is_inter}
+use Rattle.av1_order.specs.Plans.{IsWholeFrame}
 use Rattle.av1_order.proofs.Plans.{halved_x, halved_y}
 use Rattle.av1_order.proofs.Sizes.{block_some}
-use Rattle.av1_plan.specs.ReadPlans.{IsReadFrame, IsReadLeaf, IsReadKind}
+use Rattle.av1_plan.specs.ReadPlans.{IsOtherFrame, IsReadCompound, IsReadFrame, IsReadLeaf, IsReadKind, IsReadSingle}
 use Rattle.av1_plan.specs.Answer.{plan_value}
 use Rattle.av1_plan.specs.CodingOrder.{IsOnGrid}
 use Rattle.av1_plan.specs.Geometry.{xdec, ydec, plane_width, plane_height, plane_area, carries_chroma, plane_tx_size, is_inside}
 use Rattle.av1_plan.specs.Plan.{LeafValue}
 use Rattle.av1_plan.specs.Validity.{first_fault, is_transform}
-use Rattle.av1_plan.proofs.BuiltPlans.{IsBuiltKind, built_kinds}
 use Rattle.av1_plan.proofs.ReadPlans.{read_frame, read_leaves}
 use Rattle.av1_plan.proofs.ValidLeaves.{IsValidLeaf, HasFittingTransforms, valid_leaves, fitting_transforms, fitting_triples}
-use Rattle.av1_plan.proofs.ValidModes.{valid_modes, HasValidModes}
+use Rattle.av1_plan.proofs.ValidModes.{valid_modes, valid_references, HasPlanes, HasValidModes, HasValidReferences}
 use Rattle.av1_plan.specs.declared.geometry.PlaneArea.{PlaneArea}
 use Rattle.av1_plan.specs.declared.header.Header.{Header}
 use Rattle.av1_plan.specs.declared.leaf.ChromaMode.TheVariants.{Plain, Cfl}
 use Rattle.av1_plan.specs.declared.leaf.LeafKind.{LeafKind}
 use Rattle.av1_plan.specs.declared.leaf.LeafKind.TheVariants.{Intra, Single, Compound}
 use Rattle.av1_plan.specs.declared.plan.Plan.{Plan}
+use Rattle.av1_references.proofs.Served.{accepted}
 use Rattle.av1_tile.specs.declared.planes.Planes.{Planes}
-use Rattle.av1_tile.specs.Canvas.{Component, Y, U, V}
+use Rattle.av1_tile.specs.Canvas.{Component, Y, U, V, is_same}
 use Rattle.av1_tile.specs.PlaneBlocks.{number, type_in, block_told, prediction_in, triples_in, is_from_luma}
-use Rattle.av1_tile.specs.Walk.{HasRoom, HasRoomIn, Begins, BlockFits, LeafFits, PredictionFits}
+use Rattle.av1_tile.specs.Walk.{HasRoom, HasRoomIn, Begins, BlockFits, CompoundFits, FromLumaFits, LeafFits, PredictionFits, ReferenceFits, SingleFits}
+use Rattle.av1_tile.proofs.CflSizes.{from_luma_fits, luma_fits}
 use Rattle.av1_tile.proofs.UnitSteps.{covers, block_x, block_y, block_columns, block_rows, block_tx_size}
 use Rattle.av1_tile.proofs.ValidTriples.{triples_fit, triples_rise}
 
@@ -60,11 +67,6 @@ across h p is = plane_side h.width (xdec h p) (halved_x h p) is.width.least is.w
 pub down : (h : Header) (p : ℕ) → IsReadFrame h → (0 < plane_height h p) × (plane_height h p ≤ 65536)
 unfolding plane_height
 down h p is = plane_side h.height (ydec h p) (low_ydec h p) is.height.least is.height.most
-
-pub deep : (d : ℕ) → (d ≡ 8) ⊎ (d ≡ 10) ⊎ (d ≡ 12) → 8 ≤ d
-deep d (inl e) = omega arith
-deep d (inr (inl e)) = omega arith
-deep d (inr (inr e)) = omega arith
 
 -- ---- places
 
@@ -148,21 +150,50 @@ transform_valid t type e =
 
 -- ---- modes
 
--- a leaf that is predicted from the samples round it
-pub record IsFromEdge (kind : LeafKind) : Type 0 where
-  pub intra : is_inter kind ≡ false
-  pub plain : is_from_luma kind ≡ false
+-- a mode that takes two references is not intra
+compound_inter : (mode : PredictionMode) → is_compound mode ≡ true → is_intra mode ≡ false
+compound_inter mode e = false_from_ne_true (is_intra mode) (λ intra. let high = leb-true 20 (mode_number mode) e in let low = ltb-true (mode_number mode) 14 intra in absurd (omega (arith, high, low)))
 
-mode_fits : (filter : Option IntraEdgeFilterParameters) (k : Component) (area : PlaneArea) (carried : Bool) (size : BlockSize) (kind : LeafKind) → IsReadKind carried kind → HasValidModes size kind → IsFromEdge kind → PredictionFits area (prediction_in filter k kind)
-mode_fits filter Y area carried size (Intra mode step chroma) read valid edge = record { intra = read.intra; plain = valid.plain; few_steps = valid.step_valid.small }
-mode_fits filter U area carried size (Intra mode step (Some (Plain uv_mode uv_step))) read valid edge = record { intra = read.chroma_read.intra; plain = read.chroma_read.plain; few_steps = valid.chroma_valid.small }
-mode_fits filter V area carried size (Intra mode step (Some (Plain uv_mode uv_step))) read valid edge = record { intra = read.chroma_read.intra; plain = read.chroma_read.plain; few_steps = valid.chroma_valid.small }
-mode_fits filter U area carried size (Intra mode step (Some (Cfl alpha_u alpha_v))) read valid edge = let plain = edge.plain in absurd cc
-mode_fits filter V area carried size (Intra mode step (Some (Cfl alpha_u alpha_v))) read valid edge = let plain = edge.plain in absurd cc
-mode_fits filter U area carried size (Intra mode step None) read valid edge = record { intra = refl; plain = refl; few_steps = omega arith }
-mode_fits filter V area carried size (Intra mode step None) read valid edge = record { intra = refl; plain = refl; few_steps = omega arith }
-mode_fits filter k area carried size (Single mode reference mv) read valid edge = let intra = edge.intra in absurd cc
-mode_fits filter k area carried size (Compound mode references mvs) read valid edge = let intra = edge.intra in absurd cc
+-- an area whose sides are those of motion
+record HasMotionSides (area : PlaneArea) : Type 0 where
+  wide : block_width area.size ≤ 64
+  high : block_height area.size ≤ 64
+
+reference_fits : (h : Header) (reference : RefType) → IsOtherFrame reference → HasPlanes h reference → ReferenceFits h reference
+reference_fits h reference other has = record { other = other; has = accepted h reference has }
+
+single_fits : (h : Header) (area : PlaneArea) (mode : PredictionMode) (reference : RefType) (mv : MotionVector) → HasMotionSides area → IsReadSingle mode reference mv → HasPlanes h reference → SingleFits h area mode reference
+single_fits h area mode reference mv sides read has = record {
+  motion = record { inter = read.inter; wide = sides.wide; high = sides.high };
+  served = reference_fits h reference read.reference_read has;
+}
+
+compound_fits : (h : Header) (area : PlaneArea) (mode : PredictionMode) (references : List RefType) (mvs : List MotionVector) → HasMotionSides area → IsReadCompound mode references mvs → All (HasPlanes h) references → CompoundFits h area mode references
+compound_fits h area mode references mvs sides read has =
+    let first : 0 < length references = omega (arith, read.two_references) in
+    let second : 1 < length references = omega (arith, read.two_references) in
+    record {
+      motion = record { inter = compound_inter mode read.compound; wide = sides.wide; high = sides.high };
+      first = reference_fits h (reference_of references 0) (read.references_read 0 INTRA_FRAME first) (has 0 INTRA_FRAME first);
+      second = reference_fits h (reference_of references 1) (read.references_read 1 INTRA_FRAME second) (has 1 INTRA_FRAME second);
+    }
+
+-- a leaf whose chroma may be predicted from its luma, and which may be predicted from references
+mode_fits : (h : Header) (filter : Option IntraEdgeFilterParameters) (k : Component) (area : PlaneArea) (carried : Bool) (size : BlockSize) (kind : LeafKind) → IsReadKind carried kind → HasValidModes size kind → HasValidReferences h kind → HasMotionSides area
+    → (is_same Y k ≡ false → is_from_luma kind ≡ true → (alpha : ℤ) → unsigned_abs alpha ≤ 16 → FromLumaFits area alpha) → PredictionFits h area (prediction_in filter k kind)
+mode_fits h filter Y area carried size (Intra mode step chroma) read valid has sides luma = record { intra = read.intra; plain = valid.plain; few_steps = valid.step_valid.small }
+mode_fits h filter U area carried size (Intra mode step (Some (Plain uv_mode uv_step))) read valid has sides luma = record { intra = read.chroma_read.intra; plain = read.chroma_read.plain; few_steps = valid.chroma_valid.small }
+mode_fits h filter V area carried size (Intra mode step (Some (Plain uv_mode uv_step))) read valid has sides luma = record { intra = read.chroma_read.intra; plain = read.chroma_read.plain; few_steps = valid.chroma_valid.small }
+mode_fits h filter U area carried size (Intra mode step (Some (Cfl alpha_u alpha_v))) read valid has sides luma = luma refl refl alpha_u valid.chroma_valid.u
+mode_fits h filter V area carried size (Intra mode step (Some (Cfl alpha_u alpha_v))) read valid has sides luma = luma refl refl alpha_v valid.chroma_valid.v
+mode_fits h filter U area carried size (Intra mode step None) read valid has sides luma = record { intra = refl; plain = refl; few_steps = omega arith }
+mode_fits h filter V area carried size (Intra mode step None) read valid has sides luma = record { intra = refl; plain = refl; few_steps = omega arith }
+mode_fits h filter Y area carried size (Single mode reference mv) read valid has sides luma = single_fits h area mode reference mv sides read has
+mode_fits h filter Y area carried size (Compound mode references mvs) read valid has sides luma = compound_fits h area mode references mvs sides read has
+mode_fits h filter U area carried size (Single mode reference mv) read valid has sides luma = single_fits h area mode reference mv sides read has
+mode_fits h filter U area carried size (Compound mode references mvs) read valid has sides luma = compound_fits h area mode references mvs sides read has
+mode_fits h filter V area carried size (Single mode reference mv) read valid has sides luma = single_fits h area mode reference mv sides read has
+mode_fits h filter V area carried size (Compound mode references mvs) read valid has sides luma = compound_fits h area mode references mvs sides read has
 
 -- ---- leaves
 
@@ -171,7 +202,6 @@ pub record IsSoundLeaf (h : Header) (leaf : LeafValue) : Type 0 where
   pub frame : IsReadFrame h
   pub read : IsReadLeaf h leaf
   pub valid : IsValidLeaf h leaf
-  pub edge : IsFromEdge leaf.kind
 
 pub begins : (h : Header) (k : Component) (leaf : LeafValue) → IsSoundLeaf h leaf → Begins h k leaf
 begins h k leaf is =
@@ -183,6 +213,27 @@ begins h k leaf is =
     record {
       column = omega (arith, x, block_x h None k leaf frame is.read.grid is.valid);
       row = omega (arith, y, block_y h None k leaf frame is.read.grid is.valid);
+    }
+
+weight_fits : (h : Header) (k : Component) (leaf : LeafValue) → IsSoundLeaf h leaf → is_same Y k ≡ false → is_from_luma leaf.kind ≡ true → (alpha : ℤ) → unsigned_abs alpha ≤ 16
+    → FromLumaFits (plane_area h leaf.x leaf.y leaf.size leaf.tx_size (number k)) alpha
+weight_fits h Y leaf is chroma from alpha low = absurd cc
+weight_fits h U leaf is chroma from alpha low = from_luma_fits h leaf is.frame is.read.grid is.valid from 0 alpha low
+weight_fits h V leaf is chroma from alpha low = from_luma_fits h leaf is.frame is.read.grid is.valid from 1 alpha low
+
+-- a side of a leaf in a plane
+side_within : (s w n : ℕ) → s ≤ 1 → w ≤ 64 → n ≡ 4 * (max (w / 4) (2 ^ s) / 2 ^ s) → n ≤ 64
+side_within zero w n h short e = omega (arith, short, e)
+side_within (suc zero) w n h short e = omega (arith, short, e)
+side_within (suc (suc s)) w n h short e = absurd (omega arith)
+
+motion_sides : (h : Header) (k : Component) (leaf : LeafValue) → IsSoundLeaf h leaf → HasMotionSides (plane_area h leaf.x leaf.y leaf.size leaf.tx_size (number k))
+motion_sides h k leaf is =
+    let frame = whole_frame h is.frame in
+    let n = number k in
+    record {
+      wide = side_within (xdec h n) (block_width leaf.size) _ (halved_x h n) (omega (arith, is.read.grid.end_x)) (block_columns h None k leaf frame is.read.grid is.valid);
+      high = side_within (ydec h n) (block_height leaf.size) _ (low_ydec h n) (omega (arith, is.read.grid.end_y)) (block_rows h None k leaf frame is.read.grid is.valid);
     }
 
 block_fits : (h : Header) (k : Component) (cfg : PlaneConfig) (leaf : LeafValue) → covers k (carries_chroma h leaf.x leaf.y leaf.size) ≡ true → IsSoundLeaf h leaf → HasRoomIn h (number k) cfg
@@ -199,7 +250,7 @@ block_fits h k cfg leaf covered is roomy filter =
     record {
       columns = omega (arith, roomy.columns, right, block_x h filter k leaf frame is.read.grid is.valid, block_columns h filter k leaf frame is.read.grid is.valid);
       rows = omega (arith, roomy.rows, low, block_y h filter k leaf frame is.read.grid is.valid, block_rows h filter k leaf frame is.read.grid is.valid);
-      prediction = mode_fits filter k (plane_area h leaf.x leaf.y leaf.size leaf.tx_size n) (carries_chroma h leaf.x leaf.y leaf.size) leaf.size leaf.kind is.read.kind (valid_modes h leaf is.valid) is.edge;
+      prediction = mode_fits h filter k (plane_area h leaf.x leaf.y leaf.size leaf.tx_size n) (carries_chroma h leaf.x leaf.y leaf.size) leaf.size leaf.kind is.read.kind (valid_modes h leaf is.valid) (valid_references h leaf is.valid) (motion_sides h k leaf is) (weight_fits h k leaf is);
       transform = rw tx_size valid;
       lossless = λ e. tx_size ∙ lossless e;
       coefficients = triples_fit h filter leaf k (fitting_triples h leaf is.valid) covered;
@@ -211,7 +262,7 @@ leaf_fits h planes leaf is roomy = record {
   begins_y = begins h Y leaf is;
   begins_u = λ carried. begins h U leaf is;
   begins_v = λ carried. begins h V leaf is;
-  luma = λ carried from_luma. absurd (true≢false (sym from_luma ∙ is.edge.plain));
+  luma = λ carried from. luma_fits h leaf is.frame is.read.grid is.valid from planes.y.plane_cfg carried roomy.y;
   y = block_fits h Y planes.y.plane_cfg leaf refl is roomy.y;
   u = λ carried. block_fits h U planes.u.plane_cfg leaf carried is roomy.u;
   v = λ carried. block_fits h V planes.v.plane_cfg leaf carried is roomy.v;
@@ -219,20 +270,12 @@ leaf_fits h planes leaf is roomy = record {
 
 -- ---- plans
 
--- the leaves of a valid plan, as long as no more is built
-from_edge : (kind : LeafKind) → IsBuiltKind kind → IsFromEdge kind
-from_edge (Intra mode step None) built = record { intra = refl; plain = refl }
-from_edge (Intra mode step (Some (Plain uv_mode uv_step))) built = record { intra = refl; plain = refl }
-from_edge (Intra mode step (Some (Cfl alpha_u alpha_v))) built = absurd built
-from_edge (Single mode reference mv) built = absurd built
-from_edge (Compound mode references mvs) built = absurd built
-
+-- the leaves of a valid plan
 pub sound_leaves : (plan : Plan) → first_fault (plan_value plan) ≡ None → All (IsSoundLeaf (plan_value plan).header) (plan_value plan).leaves
 sound_leaves plan valid k d within = record {
   frame = read_frame plan;
   read = read_leaves plan k d within;
   valid = valid_leaves (plan_value plan) valid k d within;
-  edge = from_edge _ (built_kinds plan k d within);
 }
 
 pub plan_fits : {T : Type 0} (plan : Plan) (planes : Planes T) → first_fault (plan_value plan) ≡ None → HasRoom (plan_value plan).header planes → All (LeafFits (plan_value plan).header planes) (plan_value plan).leaves

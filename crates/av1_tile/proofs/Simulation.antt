@@ -1,5 +1,5 @@
 -- Planes whose edges are read by place show what the slow definition writes on its canvas.
-use Rattle.std.proofs.Common.{ℕ, zero, suc, ◌+◌, ◌-◌, ◌<◌, ◌≡◌, Bool, true, false, ◌&&◌, ◌||◌, cond, List, [], ◌∷◌, ◌++◌, refl, ap, arith, ◌∙◌, sym, subst, Option, Some, None, append_assoc, ℤ}
+use Rattle.std.proofs.Common.{ℕ, zero, suc, ◌+◌, ◌-◌, ◌<◌, ◌≤◌, ◌≡◌, Bool, true, false, ◌&&◌, ◌||◌, cond, List, [], ◌∷◌, ◌++◌, refl, ap, arith, ◌∙◌, sym, subst, Option, Some, None, append_assoc, ℤ}
 use Rattle.std.specs.Option.{option_map, is_some}
 use Rattle.std.specs.List.{fold, flat_map, list_any, range_with_len}
 use Rattle.std.proofs.Math.Bool.{and-false, or-false, or_assoc}
@@ -9,34 +9,40 @@ use Rattle.std.proofs.lemmas.Option.{same_Some}
 use Rattle.std.proofs.lemmas.List.{append-nil, map-id}
 use Rattle.std.proofs.lemmas.List.Sums.{fold_push}
 use Rattle.av1_blocks.specs.declared.predict.PredictionMode.{PredictionMode}
+use Rattle.av1_blocks.specs.declared.predict.PredictionMode.TheVariants.{UV_CFL_PRED}
 use Rattle.av1_blocks.specs.declared.predict.IntraParam.{IntraParam}
-use Rattle.av1_blocks.specs.declared.predict.IntraParam.TheVariants.{AngleDelta}
+use Rattle.av1_blocks.specs.declared.predict.IntraParam.TheVariants.{AngleDelta, Alpha}
 use Rattle.av1_edges.specs.Edges.{Edge}
 use Rattle.av1_edges.specs.Parts.{effective, step_of}
 use Rattle.av1_lists.specs.Lists.{by_index}
 use Rattle.av1_frame.specs.Areas.{VisibleArea, in_visible}
 use Rattle.av1_frame.specs.declared.plane.Plane.{Plane}
 use Rattle.av1_frame.specs.Planes.{sample_at, painted_plane, IsWhole}
-use Rattle.av1_frame.proofs.Planes.{sample_at_painted, painted_plane_whole}
+use Rattle.av1_frame.proofs.Planes.{sample_at_painted}
+use Rattle.av1_intra.specs.ChromaFromLuma.{chroma_block, columns_read, rows_read, first_column, first_row}
 use Rattle.av1_intra.specs.declared.neighbours.IntraEdgeFilterParameters.{IntraEdgeFilterParameters}
+use Rattle.av1_intra.proofs.SameLuma.{leaf_difference_same, predicted_luma}
+use Rattle.av1_order.proofs.Plans.{halved_x, halved_y}
 use Rattle.av1_plan.specs.declared.header.Header.{Header}
 use Rattle.av1_plan.specs.Geometry.{plane_width, plane_height}
 use Rattle.av1_plan.specs.Plan.{PlanValue}
 use Rattle.av1_tile.specs.declared.extent.PlaneExtent.{PlaneExtent}
+use Rattle.av1_tile.specs.declared.plane_block.LumaBlock.{LumaBlock}
 use Rattle.av1_tile.specs.declared.plane_block.PlaneBlock.{PlaneBlock}
 use Rattle.av1_tile.specs.declared.plane_block.Prediction.{Prediction}
 use Rattle.av1_tile.specs.declared.plane_block.Prediction.TheVariants as predictions
 use Rattle.av1_tile.specs.declared.planes.Planes.{Planes}
 use Rattle.av1_tile.specs.Canvas.{Component, Y, U, V, Written, Canvas, is_same, blank, turned, drawn, with_written}
 use Rattle.av1_tile.specs.Edge.{edge, sample_of}
-use Rattle.av1_tile.specs.Output.{plane_bytes, sample_bytes, visible, planes_of}
+use Rattle.av1_tile.specs.Output.{plane_bytes, sample_bytes, visible}
 use Rattle.av1_tile.specs.PlaneBlocks.{number, extent_of}
-use Rattle.av1_tile.specs.Reference.{added, block_residue, by_mode, by_prediction, luma_for, predicted, slow_in, slow_step, slow_walk}
+use Rattle.av1_tile.specs.Reference.{added, block_residue, by_mode, by_prediction, luma_for, luma_of, predicted, slow_in, slow_step, slow_walk}
 use Rattle.av1_tile.specs.Steps.{Step, predict, add, PlaneStep, steps}
-use Rattle.av1_tile.specs.Walk.{IsPlaneOf, answer_right, answer_low, placed_edge, fast_in, fast_step, plane_of, with_plane}
-use Rattle.av1_tile.proofs.Agreement.{Agrees, listed_same, stored_place, written_is}
+use Rattle.av1_tile.specs.Walk.{HasRoomIn, IsPlaneOf, answer_right, answer_low, placed_edge, fast_in, fast_step, plane_of, with_plane}
+use Rattle.av1_tile.proofs.Agreement.{Agrees, listed_same, stored_is, stored_place, written_is}
 use Rattle.av1_tile.proofs.PreparedEdges.{edge_prepared}
-use Rattle.av1_tile.proofs.Readiness.{draws, EdgeReady, PredictionReady, StepReadyIn, StepReady, Each, AreReady}
+use Rattle.av1_tile.proofs.WithinDepth.{painted_place}
+use Rattle.av1_tile.proofs.Readiness.{draws, EdgeReady, LumaReady, LumaStored, PredictionReady, StepReadyIn, StepReady, Each, AreReady}
 
 -- ---- what has been written
 
@@ -124,23 +130,35 @@ agree_with num planes canvas p written V a h V = a
 
 -- ---- planes that go on storing the frame
 
--- each plane has storage for its part of the frame
-abbrev pub AllWhole : {T : Type 0} → Header → Planes T → Type 0
-AllWhole h planes = (k : Component) → IsPlaneOf h (number k) (plane_of k planes)
+-- a place of those that have storage
+stored_at : (origin first n x room : ℕ) → origin + (first + n) ≤ room → x < n → origin + (first + x) < room
+stored_at origin first n x room fits h = omega (arith, fits, h)
 
-whole_with : {T : Type 0} (h : Header) (planes : Planes T) (j : Component) (p : Plane T) → AllWhole h planes → IsPlaneOf h (number j) p → AllWhole h (with_plane j planes p)
-whole_with h planes Y p s t Y = t
-whole_with h planes Y p s t U = s U
-whole_with h planes Y p s t V = s V
-whole_with h planes U p s t Y = s Y
-whole_with h planes U p s t U = t
-whole_with h planes U p s t V = s V
-whole_with h planes V p s t Y = s Y
-whole_with h planes V p s t U = s U
-whole_with h planes V p s t V = t
+-- each plane has storage for its part of the frame, and that of Y for whole superblocks
+pub record AllWhole {T : Type 0} (h : Header) (planes : Planes T) : Type 0 where
+  pub plane : (k : Component) → IsPlaneOf h (number k) (plane_of k planes)
+  pub room : HasRoomIn h 0 planes.y.plane_cfg
 
-painted_place : {T : Type 0} (h : Header) (p : ℕ) (plane : Plane T) (a : VisibleArea) (f : ℕ → ℕ → T → T) → IsPlaneOf h p plane → IsPlaneOf h p (painted_plane plane a f)
-painted_place h p plane a f s = record { whole = painted_plane_whole plane a f s.whole; width = s.width; height = s.height; xdec = s.xdec; ydec = s.ydec }
+-- a plane that is laid out alike takes the place of one
+room_with : {T : Type 0} (h : Header) (planes : Planes T) (j : Component) (p : Plane T) → HasRoomIn h 0 planes.y.plane_cfg → p.plane_cfg ≡ (plane_of j planes).plane_cfg → HasRoomIn h 0 (with_plane j planes p).y.plane_cfg
+room_with h planes Y p room same = subst (HasRoomIn h 0) (sym same) room
+room_with h planes U p room same = room
+room_with h planes V p room same = room
+
+places_with : {T : Type 0} (h : Header) (planes : Planes T) (j : Component) (p : Plane T) → ((k : Component) → IsPlaneOf h (number k) (plane_of k planes)) → IsPlaneOf h (number j) p
+    → (k : Component) → IsPlaneOf h (number k) (plane_of k (with_plane j planes p))
+places_with h planes Y p s t Y = t
+places_with h planes Y p s t U = s U
+places_with h planes Y p s t V = s V
+places_with h planes U p s t Y = s Y
+places_with h planes U p s t U = t
+places_with h planes U p s t V = s V
+places_with h planes V p s t Y = s Y
+places_with h planes V p s t U = s U
+places_with h planes V p s t V = t
+
+whole_with : {T : Type 0} (h : Header) (planes : Planes T) (j : Component) (p : Plane T) → AllWhole h planes → IsPlaneOf h (number j) p → p.plane_cfg ≡ (plane_of j planes).plane_cfg → AllWhole h (with_plane j planes p)
+whole_with h planes j p s t same = record { plane = places_with h planes j p s.plane t; room = room_with h planes j p s.room same }
 
 -- ---- the visible samples
 
@@ -155,7 +173,7 @@ plane_bytes_same extent f g e =
     let id : by_index extent.height (λ y. y) ≡ range_with_len 0 extent.height = map-id (range_with_len 0 extent.height) in
     ap (flat_map (sample_bytes extent.depth)) (ap (flat_map (λ y. by_index extent.width (λ x. f x y))) id ∙ rows_same extent.width 0 extent.height f g (λ x y h k. e x y h (omega arith)) ∙ ap (flat_map (λ y. by_index extent.width (λ x. g x y))) (sym id))
 
-visible_same : (h : Header) (f g : Component → ℕ → ℕ → ℕ) → ((k : Component) (x y : ℕ) → x < (extent_of h (number k)).width → y < (extent_of h (number k)).height → f k x y ≡ g k x y) → visible h f ≡ visible h g
+pub visible_same : (h : Header) (f g : Component → ℕ → ℕ → ℕ) → ((k : Component) (x y : ℕ) → x < (extent_of h (number k)).width → y < (extent_of h (number k)).height → f k x y ≡ g k x y) → visible h f ≡ visible h g
 unfolding visible
 visible_same h f g e =
     let a = plane_bytes_same (extent_of h 0) (f Y) (g Y) (e Y) in
@@ -178,6 +196,11 @@ module _ {T : Type 0} (num : T → ℕ) (pixel : ℕ → T) (law : (v : ℕ) →
   step_place plan j luma p (predict block n a) s = painted_place plan.header (number j) p a _ s
   step_place plan j luma p (add block triples n a) s = painted_place plan.header (number j) p a _ s
 
+  step_cfg : (plan : PlanValue) (j : Component) (luma : PlaneBlock → ℕ → ℕ → ℤ) (p : Plane T) (step : Step) → (fast_in num pixel plan (number j) luma p step).plane_cfg ≡ p.plane_cfg
+  unfolding fast_in
+  step_cfg plan j luma p (predict block n a) = refl
+  step_cfg plan j luma p (add block triples n a) = refl
+
   -- the edge of the canvas is the one that is read by place
   module _ (plan : PlanValue) (before : List PlaneStep) (k : Component) (block : PlaneBlock) (n : ℕ) (a : VisibleArea) (p : Plane T) (ready : EdgeReady plan.header k before block n a)
       (s : IsPlaneOf plan.header (number k) p) (t : Agrees num p (walked plan before k)) where
@@ -194,6 +217,29 @@ module _ {T : Type 0} (num : T → ℕ) (pixel : ℕ → T) (law : (v : ℕ) →
     by_mode_same filter mode param luma r c =
         ap (λ (e : Edge). by_mode (extent_of plan.header (number k)) filter mode param a (λ m z. e) luma r c) (sym (edge_same (effective mode a.x a.y) (step_of param)))
 
+  -- luma that was written and has storage is read alike
+  luma_same : (h : Header) (leaf : LumaBlock) (before : List PlaneStep) (p : Plane T) (written : Written) → ((x y : ℕ) → is_some (written x y) ≡ list_any (draws Y x y) before) → LumaReady h before leaf → LumaStored h leaf p.plane_cfg
+      → Agrees num p written → (x y : ℕ) → x < columns_read (chroma_block (luma_of h leaf)) → y < rows_read (chroma_block (luma_of h leaf))
+      → sample_at num p (first_column (luma_of h leaf) + x) (first_row (luma_of h leaf) + y) ≡ sample_of (written (first_column (luma_of h leaf) + x) (first_row (luma_of h leaf) + y))
+  luma_same h leaf before p written is ready stored agrees x y hx hy =
+      let c = first_column (luma_of h leaf) + x in
+      let r = first_row (luma_of h leaf) + y in
+      sym (ap sample_of (stored_is num p written agrees c r (stored_at _ (first_column (luma_of h leaf)) _ x _ stored.columns hx) (stored_at _ (first_row (luma_of h leaf)) _ y _ stored.rows hy) (is c r ∙ ready x y hx hy)))
+
+  -- and so is how far it is from its mean
+  differences_same : (h : Header) (block : PlaneBlock) (k : Component) (f g : ℕ → ℕ → ℕ) (r c : ℕ) → r < (chroma_block (luma_of h block.leaf)).height → c < (chroma_block (luma_of h block.leaf)).width
+      → ((x y : ℕ) → x < columns_read (chroma_block (luma_of h block.leaf)) → y < rows_read (chroma_block (luma_of h block.leaf))
+      → f (first_column (luma_of h block.leaf) + x) (first_row (luma_of h block.leaf) + y) ≡ g (first_column (luma_of h block.leaf) + x) (first_row (luma_of h block.leaf) + y))
+      → luma_for h f k block r c ≡ luma_for h g k block r c
+  differences_same h block Y f g r c hr hc same = refl
+  differences_same h block U f g r c hr hc same = leaf_difference_same f g (luma_of h block.leaf) r c (halved_x h 1) (halved_y h 1) hr hc same
+  differences_same h block V f g r c hr hc same = leaf_difference_same f g (luma_of h block.leaf) r c (halved_x h 1) (halved_y h 1) hr hc same
+
+  -- a sample looks at luma at its own row and column alone
+  by_mode_luma : (extent : PlaneExtent) (filter : Option IntraEdgeFilterParameters) (mode : PredictionMode) (param : IntraParam) (a : VisibleArea) (edges : PredictionMode → ℤ → Edge) (f g : ℕ → ℕ → ℤ) (r c : ℕ)
+      → f r c ≡ g r c → by_mode extent filter mode param a edges f r c ≡ by_mode extent filter mode param a edges g r c
+  by_mode_luma extent filter mode param a edges f g r c e = predicted_luma _ _ _ _ f g _ r c e
+
   -- what is predicted by place is what the canvas predicts
   prediction_same : (plan : PlanValue) (before : List PlaneStep) (k : Component) (block : PlaneBlock) (n : ℕ) (a : VisibleArea) (planes : Planes T) (p : Plane T) (of : Prediction) → PredictionReady plan.header k before block n a of
       → AllWhole plan.header planes → AllAgree num planes (walked plan before) → p ≡ plane_of k planes → (r c : ℕ) → r < a.height → c < a.width
@@ -201,10 +247,19 @@ module _ {T : Type 0} (num : T → ℕ) (pixel : ℕ → T) (law : (v : ℕ) →
       ≡ by_prediction plan (number k) of a (λ m z. edge (extent_of plan.header (number k)) plan.header.edge_filter (walked plan before k) m z a) (luma_for plan.header (λ x y. sample_of (walked plan before Y x y)) k block) r c
   unfolding by_prediction
   prediction_same plan before k block n a planes p (predictions.Intra mode step filter) ready s t is r c hr hc =
-      let own = subst (λ (q : Plane T). IsPlaneOf plan.header (number k) q) (sym is) (s k) in
+      let own = subst (λ (q : Plane T). IsPlaneOf plan.header (number k) q) (sym is) (s.plane k) in
       let held = subst (λ (q : Plane T). Agrees num q (walked plan before k)) (sym is) (t k) in
       by_mode_same plan before k block n a p ready own held filter mode (AngleDelta step) _ r c
-  prediction_same plan before k block n a planes p (predictions.FromLuma alpha) ready s t is r c hr hc = absurd ready
+  prediction_same plan before k block n a planes p (predictions.FromLuma alpha) ready s t is r c hr hc =
+      let h = plan.header in
+      let own = subst (λ (q : Plane T). IsPlaneOf plan.header (number k) q) (sym is) (s.plane k) in
+      let held = subst (λ (q : Plane T). Agrees num q (walked plan before k)) (sym is) (t k) in
+      let fast = sample_at num planes.y in
+      let slow = λ (x y : ℕ). sample_of (walked plan before Y x y) in
+      by_mode_same plan before k block n a p ready.edge own held None UV_CFL_PRED (Alpha alpha) (luma_for h fast k block) r c
+      ∙ by_mode_luma (extent_of h (number k)) None UV_CFL_PRED (Alpha alpha) a (λ m z. edge (extent_of h (number k)) h.edge_filter (walked plan before k) m z a) (luma_for h fast k block) (luma_for h slow k block) r c
+      (differences_same h block k fast slow r c (subst (λ (m : ℕ). r < m) ready.rows hr) (subst (λ (m : ℕ). c < m) ready.columns hc)
+      (luma_same h block.leaf before planes.y (walked plan before Y) (walk_written plan before Y) ready.luma (ready.stored planes.y.plane_cfg s.room) (t Y)))
   prediction_same plan before k block n a planes p (predictions.Single mode reference mv) ready s t is r c hr hc = refl
   prediction_same plan before k block n a planes p (predictions.Compound mode references mvs) ready s t is r c hr hc = refl
 
@@ -213,11 +268,11 @@ module _ {T : Type 0} (num : T → ℕ) (pixel : ℕ → T) (law : (v : ℕ) →
       → Agrees num (fast_in num pixel plan (number k) (luma_for plan.header (sample_at num planes.y) k) (plane_of k planes) step) (slow_in plan (walked plan before) k step)
   unfolding fast_in slow_in predicted
   plane_agrees plan before k (predict block n a) planes ready s t =
-      agrees_drawn (plane_of k planes) (walked plan before k) a _ _ (s k).whole
+      agrees_drawn (plane_of k planes) (walked plan before k) a _ _ (s.plane k).whole
       (λ r c m v o hr hc q w. law _ ∙ prediction_same plan before k block n a planes (plane_of k planes) block.prediction ready s t refl r c hr hc ∙ same_Some _ _ w) (t k)
   plane_agrees plan before k (add block triples n a) planes ready s t =
       let depth = plan.header.depth in
-      agrees_drawn (plane_of k planes) (walked plan before k) a _ _ (s k).whole
+      agrees_drawn (plane_of k planes) (walked plan before k) a _ _ (s.plane k).whole
       (λ r c m v o hr hc q w. law _ ∙ ap (λ (u : ℕ). added depth u (block_residue depth block triples n r c)) (law v) ∙ added_is (λ u. added depth u (block_residue depth block triples n r c)) o m v q w) (t k)
 
   step_agrees : (plan : PlanValue) (before : List PlaneStep) (s : PlaneStep) (planes : Planes T) → StepReady plan.header before s → AllWhole plan.header planes → AllAgree num planes (walked plan before) → AllAgree num (fast_step num pixel plan planes s) (slow_step plan (walked plan before) s)
@@ -229,7 +284,7 @@ module _ {T : Type 0} (num : T → ℕ) (pixel : ℕ → T) (law : (v : ℕ) →
   step_whole : (plan : PlanValue) (planes : Planes T) (s : PlaneStep) → AllWhole plan.header planes → AllWhole plan.header (fast_step num pixel plan planes s)
   unfolding fast_step
   step_whole plan planes s t =
-      whole_with plan.header planes s.component _ t (step_place plan s.component _ (plane_of s.component planes) s.step (t s.component))
+      whole_with plan.header planes s.component _ t (step_place plan s.component _ (plane_of s.component planes) s.step (t.plane s.component)) (step_cfg plan s.component _ (plane_of s.component planes) s.step)
 
   walk_agrees : (plan : PlanValue) (before rest : List PlaneStep) (planes : Planes T) → Each (StepReady plan.header) before rest → AllWhole plan.header planes → AllAgree num planes (walked plan before) → AllAgree num (fold (fast_step num pixel plan) planes rest) (walked plan (before ++ rest))
   walk_agrees plan before [] planes e t a = subst (λ (l : List PlaneStep). AllAgree num planes (walked plan l)) (sym (append-nil before)) a
@@ -239,17 +294,10 @@ module _ {T : Type 0} (num : T → ℕ) (pixel : ℕ → T) (law : (v : ℕ) →
       subst (λ (l : List PlaneStep). AllAgree num (fold (fast_step num pixel plan) next rest) (walked plan l)) (append_assoc before (s ∷ []) rest) (walk_agrees plan (before ++ s ∷ []) rest next e.1 (step_whole plan planes s t) one)
 
   -- after all steps each visible sample is that of the slow walk, whatever the planes held before
-  samples_shown : (plan : PlanValue) (p q : Planes T) → AreReady plan.header plan.leaves → AllWhole plan.header p → AllWhole plan.header q → q ≡ fold (fast_step num pixel plan) p (steps plan.header plan.leaves)
+  pub samples_shown : (plan : PlanValue) (p q : Planes T) → AreReady plan.header plan.leaves → AllWhole plan.header p → ((k : Component) → IsPlaneOf plan.header (number k) (plane_of k q)) → q ≡ fold (fast_step num pixel plan) p (steps plan.header plan.leaves)
       → (k : Component) (x y : ℕ) → x < plane_width plan.header (number k) → y < plane_height plan.header (number k) → slow_walk plan k x y ≡ Some (sample_at num (plane_of k q) x y)
   unfolding slow_walk
   samples_shown plan p q r s t e k x y hx hy =
       let all = steps plan.header plan.leaves in
       let a : AllAgree num q (walked plan all) = subst (λ (z : Planes T). AllAgree num z (walked plan all)) (sym e) (walk_agrees plan [] all p r.ready s (λ c i j v m n w. cc)) in
       written_is num plan.header (number k) (plane_of k q) (walked plan all k) (t k) (a k) x y hx hy (walk_written plan all k x y ∙ r.whole k x y hx hy)
-
--- planes that have gone through the steps of a plan show the bytes that the plan comes to
-pub walk_shows : {T : Type 0} (num : T → ℕ) (pixel : ℕ → T) (law : (v : ℕ) → num (pixel v) ≡ v) (back : (x : T) → pixel (num x) ≡ x) (plan : PlanValue) (p q : Planes T) → AreReady plan.header plan.leaves → AllWhole plan.header p → AllWhole plan.header q
-    → q ≡ fold (fast_step num pixel plan) p (steps plan.header plan.leaves) → visible plan.header (λ component x y. sample_at num (plane_of component q) x y) ≡ planes_of plan
-unfolding planes_of
-walk_shows num pixel law back plan p q r s t e =
-    visible_same plan.header (λ k x y. sample_at num (plane_of k q) x y) (λ k x y. sample_of (slow_walk plan k x y)) (λ k x y hx hy. sym (ap sample_of (samples_shown num pixel law back plan p q r s t e k x y hx hy)))

@@ -131,7 +131,7 @@ units_added sx sy k block triples n whole (Some b) = rw whole refl
 units_added sx sy k block triples n whole None = refl
 
 -- steps of another plane
-other_units : (sx sy : ℕ) (k j : Component) → is_same k j ≡ false → (steps : List Step) → units sx sy k (in_component j steps) ≡ []
+pub other_units : (sx sy : ℕ) (k j : Component) → is_same k j ≡ false → (steps : List Step) → units sx sy k (in_component j steps) ≡ []
 other_units sx sy k j e [] = refl
 other_units sx sy k j e (predict block n a ∷ steps) = rw (e, other_units sx sy k j e steps) refl
 other_units sx sy k j e (add block triples n a ∷ steps) = other_units sx sy k j e steps

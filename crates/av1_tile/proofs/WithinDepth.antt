@@ -1,11 +1,15 @@
 -- Every step leaves samples within the depth.
-use Rattle.std.proofs.Common.{ℕ, ◌+◌, ◌^◌, ◌<◌, ◌≤◌, ◌≡◌, ◌&&◌, Bool, cond, min, List, ℤ, arith, Option, None}
+use Rattle.std.proofs.Common.{ℕ, ◌+◌, ◌^◌, ◌<◌, ◌≤◌, ◌≡◌, inl, inr, ◌&&◌, Bool, true, false, cond, min, if◌then◌else◌, List, [], ◌∷◌, ℤ, arith, refl, Option, None}
+use Rattle.std.specs.List.{fold}
+use Rattle.av1_blocks.specs.Depths.{IsDepth}
 use Rattle.av1_blocks.specs.declared.predict.PredictionMode.{PredictionMode}
 use Rattle.av1_blocks.specs.declared.predict.PredictionMode.TheVariants.{UV_CFL_PRED}
 use Rattle.av1_blocks.specs.declared.predict.IntraParam.{IntraParam}
 use Rattle.av1_blocks.specs.declared.predict.IntraParam.TheVariants.{AngleDelta, Alpha}
+use Rattle.av1_edges.specs.Edges.{Edge}
 use Rattle.av1_edges.specs.Parts.{effective, step_of, needs_left, needs_above_right, needs_below_left, needs_corner, smooths_corner}
 use Rattle.av1_edges.specs.Sides.{above_at, base, corner_at, left_at, num_avail, where_needed}
+use Rattle.av1_frame.specs.declared.frame_invariants.FrameInvariants.{FrameInvariants}
 use Rattle.av1_frame.specs.declared.plane.Plane.{Plane}
 use Rattle.av1_frame.specs.Areas.{VisibleArea}
 use Rattle.av1_frame.specs.Planes.{sample_at, painted_plane}
@@ -16,12 +20,14 @@ use Rattle.av1_plan.specs.declared.leaf.Triple.{Triple}
 use Rattle.av1_plan.specs.declared.geometry.PlaneArea.{PlaneArea}
 use Rattle.av1_plan.specs.Geometry.{plane_width, plane_height}
 use Rattle.av1_plan.specs.Plan.{PlanValue}
+use Rattle.av1_references.specs.References.{HoldsReferences}
+use Rattle.av1_references.proofs.Motion.{compound_motion_within, held_motion_within}
 use Rattle.av1_tile.specs.declared.plane_block.PlaneBlock.{PlaneBlock}
 use Rattle.av1_tile.specs.declared.plane_block.Prediction.{Prediction}
 use Rattle.av1_tile.specs.declared.plane_block.Prediction.TheVariants as predictions
-use Rattle.av1_tile.specs.PlaneBlocks.{extent_of}
+use Rattle.av1_tile.specs.PlaneBlocks.{extent_of, is_whole}
 use Rattle.av1_tile.specs.Reference.{by_mode, by_prediction, no_luma}
-use Rattle.av1_tile.specs.Steps.{predict, add}
+use Rattle.av1_tile.specs.Steps.{predict, add, own_prediction, whole_area, whole_steps}
 use Rattle.av1_tile.specs.Walk.{IsPlaneOf, Stores, PredictionFits, edge_by_place, answer_right, answer_low, placed_edge, fast_in}
 use Rattle.av1_frame.proofs.Within.{chosen_below, clip_within, painted_numbers_below, sample_below, some_numbers}
 use Rattle.av1_edges.proofs.Within.{above_within, base_within, corner_within, left_within, smoothed_within, some_available, available_inside}
@@ -29,8 +35,14 @@ use Rattle.av1_lists.proofs.Lists.{by_index-all}
 use Rattle.av1_edges.specs.Within.{EdgeIsWithin}
 use Rattle.av1_intra.proofs.Within.{predicted_within}
 
+-- the depths of a frame
+pub deep : (depth : ℕ) → IsDepth depth → 8 ≤ depth
+deep depth (inl e) = omega (arith, e)
+deep depth (inr (inl e)) = omega (arith, e)
+deep depth (inr (inr e)) = omega (arith, e)
+
 -- a painted plane is one of the same plane of the frame
-painted_place : {T : Type 0} (h : Header) (p : ℕ) (plane : Plane T) (a : VisibleArea) (f : ℕ → ℕ → T → T) → IsPlaneOf h p plane → IsPlaneOf h p (painted_plane plane a f)
+pub painted_place : {T : Type 0} (h : Header) (p : ℕ) (plane : Plane T) (a : VisibleArea) (f : ℕ → ℕ → T → T) → IsPlaneOf h p plane → IsPlaneOf h p (painted_plane plane a f)
 painted_place h p plane a f s = record { whole = painted_plane_whole plane a f s.whole; width = s.width; height = s.height; xdec = s.xdec; ydec = s.ydec }
 
 -- a rectangle that begins in the visible plane
@@ -73,24 +85,50 @@ module _ {T : Type 0} (num : T → ℕ) (h : Header) (p : ℕ) (plane : Plane T)
       predicted_within _ _ _ _ luma _ r c deep (edge_within h.edge_filter (answer_right h p block n a) (answer_low h p block n a) (effective mode a.x a.y) (step_of param))
 
 module _ {T : Type 0} (num : T → ℕ) (pixel : ℕ → T) (law : (v : ℕ) → num (pixel v) ≡ v) (back : (x : T) → pixel (num x) ≡ x) (plan : PlanValue) (p : ℕ) (luma : PlaneBlock → ℕ → ℕ → ℤ) (plane : Plane T) (stores : Stores num plan.header p plane) where
-  -- what a prediction that can be made gives does
-  prediction_within : 8 ≤ plan.header.depth → (block : PlaneBlock) (n : ℕ) (a : VisibleArea) → BeginsIn plan.header p a → (area : PlaneArea) (of : Prediction) → PredictionFits area of → (f : ℕ → ℕ → ℤ) (r c : ℕ)
+  -- what a prediction from the samples round a block gives does
+  prediction_within : 8 ≤ plan.header.depth → (block : PlaneBlock) (n : ℕ) (a : VisibleArea) → BeginsIn plan.header p a → (of : Prediction) → is_whole of ≡ false → (f : ℕ → ℕ → ℤ) (r c : ℕ)
       → by_prediction plan p of a (placed_edge plan.header p block n a num plane) f r c < 2 ^ plan.header.depth
   unfolding by_prediction
-  prediction_within deep block n a is area (predictions.Intra mode step filter) fits f r c = mode_within num plan.header p plane stores deep a is block n filter mode (AngleDelta step) no_luma r c
-  prediction_within deep block n a is area (predictions.FromLuma alpha) fits f r c = mode_within num plan.header p plane stores deep a is block n None UV_CFL_PRED (Alpha alpha) f r c
-  prediction_within deep block n a is area (predictions.Single mode reference mv) fits f r c = absurd fits
-  prediction_within deep block n a is area (predictions.Compound mode references mvs) fits f r c = absurd fits
+  prediction_within deep block n a is (predictions.Intra mode step filter) e f r c = mode_within num plan.header p plane stores deep a is block n filter mode (AngleDelta step) no_luma r c
+  prediction_within deep block n a is (predictions.FromLuma alpha) e f r c = mode_within num plan.header p plane stores deep a is block n None UV_CFL_PRED (Alpha alpha) f r c
+  prediction_within deep block n a is (predictions.Single mode reference mv) e f r c = absurd cc
+  prediction_within deep block n a is (predictions.Compound mode references mvs) e f r c = absurd cc
 
-  -- a prediction leaves the plane so
-  pub predicted_stores : 8 ≤ plan.header.depth → (block : PlaneBlock) (n : ℕ) (a : VisibleArea) → BeginsIn plan.header p a → PredictionFits block.area block.prediction → Stores num plan.header p (fast_in num pixel plan p luma plane (predict block n a))
+  -- so the plane stores its part of the frame once a transform block is predicted, where it is predicted by itself,
+  pub own_stores : 8 ≤ plan.header.depth → (block : PlaneBlock) (n : ℕ) (a : VisibleArea) → BeginsIn plan.header p a → Stores num plan.header p (fold (fast_in num pixel plan p luma) plane (own_prediction block n a))
   unfolding fast_in
-  predicted_stores deep block n a is fits = record {
-    place = painted_place plan.header p plane a _ stores.place;
-    within = painted_numbers_below num pixel law (2 ^ plan.header.depth) plane a _ stores.within (λ r c v hr hc l. prediction_within deep block n a is block.area block.prediction fits (luma block) r c);
-  }
+  own_stores deep block n a is = go (is_whole block.prediction) refl
+    where
+      go : (t : Bool) → is_whole block.prediction ≡ t → Stores num plan.header p (fold (fast_in num pixel plan p luma) plane (if t then [] else predict block n a ∷ []))
+      go true e = stores
+      go false e = record {
+        place = painted_place plan.header p plane a _ stores.place;
+        within = painted_numbers_below num pixel law (2 ^ plan.header.depth) plane a _ stores.within (λ r c v hr hc l. prediction_within deep block n a is block.prediction e (luma block) r c);
+      }
 
-  -- and so does an addition
+  module _ (fi : FrameInvariants T) (holds : HoldsReferences num plan fi) (below : p < 3) where
+    -- what is predicted from references that frame settings hold lies within the depth too
+    whole_within : (area : PlaneArea) (of : Prediction) → PredictionFits plan.header area of → is_whole of ≡ true → (a : VisibleArea) (edge : PredictionMode → ℤ → Edge) (f : ℕ → ℕ → ℤ) (r c : ℕ)
+        → by_prediction plan p of a edge f r c < 2 ^ plan.header.depth
+    unfolding by_prediction
+    whole_within area (predictions.Intra mode step filter) fits e a edge f r c = absurd cc
+    whole_within area (predictions.FromLuma alpha) fits e a edge f r c = absurd cc
+    whole_within area (predictions.Single mode reference mv) fits e a edge f r c = held_motion_within num plan fi reference p mv a r c holds fits.served.has below
+    whole_within area (predictions.Compound mode references mvs) fits e a edge f r c = compound_motion_within plan p references mvs a r c
+
+    -- and a whole area is
+    pub whole_stores : (block : PlaneBlock) → PredictionFits plan.header block.area block.prediction → Stores num plan.header p (fold (fast_in num pixel plan p luma) plane (whole_steps block))
+    unfolding fast_in
+    whole_stores block fits = go (is_whole block.prediction) refl
+      where
+        go : (t : Bool) → is_whole block.prediction ≡ t → Stores num plan.header p (fold (fast_in num pixel plan p luma) plane (if t then predict block 0 (whole_area block) ∷ [] else []))
+        go true e = record {
+          place = painted_place plan.header p plane (whole_area block) _ stores.place;
+          within = painted_numbers_below num pixel law (2 ^ plan.header.depth) plane (whole_area block) _ stores.within (λ r c v hr hc l. whole_within block.area block.prediction fits e (whole_area block) _ (luma block) r c);
+        }
+        go false e = stores
+
+  -- and once a residue is added
   pub added_stores : (block : PlaneBlock) (triples : List Triple) (n : ℕ) (a : VisibleArea) → Stores num plan.header p (fast_in num pixel plan p luma plane (add block triples n a))
   unfolding fast_in
   added_stores block triples n a = record {

@@ -1,24 +1,33 @@
 -- What the state of a reconstruction shows.
-use Rattle.std.specs.Prelude.{ℕ, List}
+use Rattle.std.specs.Prelude.{◌≡◌, ◌<◌, ℕ, List, All}
 use Rattle.std.specs.List.{fold}
 use Rattle.av1_lists.specs.Lists.{by_index}
+use Rattle.av1_frame.specs.declared.frame_invariants.FrameInvariants.{FrameInvariants}
 use Rattle.av1_frame.specs.Planes.{sample_at}
 use Rattle.av1_plan.specs.declared.header.Header.{Header}
 use Rattle.av1_plan.specs.Plan.{PlanValue}
+use Rattle.av1_references.specs.References.{HoldsReferences}
 use Rattle.av1_tile.specs.declared.planes.Planes.{Planes}
 use Rattle.av1_tile.specs.Canvas.{Component}
+use Rattle.av1_tile.specs.Edge.{sample_of}
 use Rattle.av1_tile.specs.PlaneBlocks.{component, extent_of}
+use Rattle.av1_tile.specs.Reference.{slow_walk}
 use Rattle.av1_tile.specs.Steps.{steps}
 use Rattle.av1_tile.specs.Walk.{plane_of, StoresAll, HasRoom, edges_after}
 
--- what callers see of a state: the header that it was made for, its planes, and how many edges were prepared in it
+-- what callers see of a state: the header that it was made for, the references that it holds, its planes, and how many edges were prepared
+-- in it
 pub record Picture (T : Type 0) : Type 0 where
   pub header : Header
+  pub references : FrameInvariants T
   pub planes : Planes T
   pub edges : ℕ
 
 abbrev pub state_header : {T : Type 0} → Picture T → Header
 state_header s = s.header
+
+abbrev pub state_references : {T : Type 0} → Picture T → FrameInvariants T
+state_references s = s.references
 
 abbrev pub state_edges : {T : Type 0} → Picture T → ℕ
 state_edges s = s.edges
@@ -27,6 +36,11 @@ state_edges s = s.edges
 pub record IsSound {T : Type 0} (num : T → ℕ) (s : Picture T) : Type 0 where
   pub stores : StoresAll num s.header s.planes
   pub room : HasRoom s.header s.planes
+
+-- the state was made for the plan, or for one with its header and its references
+pub record MadeFor {T : Type 0} (num : T → ℕ) (plan : PlanValue) (s : Picture T) : Type 0 where
+  pub header : s.header ≡ plan.header
+  pub references : HoldsReferences num plan s.references
 
 -- the count of prepared edges once a plan has been reconstructed: one more for each prediction from an edge
 abbrev pub edges_of : ℕ → PlanValue → ℕ
@@ -39,3 +53,17 @@ shown num s k x y = sample_at num (plane_of k s.planes) x y
 -- row y of the visible plane p
 abbrev pub state_row : {T : Type 0} → (T → ℕ) → Picture T → ℕ → ℕ → List ℕ
 state_row num s p y = by_index (extent_of s.header p).width (λ x. shown num s (component p) x y)
+
+-- and that row of what a plan comes to
+abbrev pub plan_row : PlanValue → (p y : ℕ) → List ℕ
+plan_row plan p y = by_index (extent_of plan.header p).width (λ x. sample_of (slow_walk plan (component p) x y))
+
+-- the state shows what the plan comes to, row by row
+abbrev pub ShowsRows : {T : Type 0} → (T → ℕ) → PlanValue → Picture T → Type 0
+ShowsRows num plan s = (p y : ℕ) → p < 3 → y < (extent_of plan.header p).height → state_row num s p y ≡ plan_row plan p y
+
+-- each stored sample of the three planes is this one
+pub record IsFilledWith {T : Type 0} (value : T) (s : Picture T) : Type 0 where
+  pub y : All (λ v. v ≡ value) s.planes.y.samples
+  pub u : All (λ v. v ≡ value) s.planes.u.samples
+  pub v : All (λ v. v ≡ value) s.planes.v.samples

@@ -31,6 +31,10 @@ block_area block b = record { x = b.x; y = b.y; width = tx_width block.area.tx_s
 abbrev pub whole_area : PlaneBlock → VisibleArea
 whole_area block = record { x = block.area.x; y = block.area.y; width = block_width block.area.size; height = block_height block.area.size }
 
+-- the prediction of transform block n from the samples round it: none where its leaf is predicted from references
+abbrev pub own_prediction : PlaneBlock → (n : ℕ) → VisibleArea → List Step
+own_prediction block n a = if is_whole block.prediction then [] else predict block n a ∷ []
+
 -- the steps of transform block n, where it begins in the frame
 abbrev pub block_steps : PlaneBlock → List Triple → (n : ℕ) → Option TransformBlock → List Step
 block_steps block triples n None = []

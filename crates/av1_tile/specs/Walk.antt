@@ -3,6 +3,7 @@
 use Rattle.std.specs.Prelude.{ℕ, ◌+◌, ◌-◌, ◌*◌, ◌/◌, ◌%◌, ◌^◌, ◌<◌, ◌≤◌, ◌≡◌, [], ◌∷◌, ◌++◌, true, false, Bool, ◌&&◌, List, All, IsTrue, min, nat_lt, if◌then◌else◌, Option, Some, None, ℤ, pos, length, slice_index_or, unsigned_abs}
 use Rattle.std.specs.Int.{next_multiple_of}
 use Rattle.std.specs.List.{fold}
+use Rattle.av1_blocks.specs.declared.partition.RefType.{RefType}
 use Rattle.av1_blocks.specs.declared.predict.IntraParam.{IntraParam}
 use Rattle.av1_blocks.specs.declared.predict.PredictionMode.{PredictionMode}
 use Rattle.av1_blocks.specs.declared.predict.PredictionMode.TheVariants.{DC_PRED}
@@ -14,7 +15,7 @@ use Rattle.av1_blocks.specs.Modes.{is_intra, is_cfl}
 use Rattle.av1_blocks.specs.Transforms.{coded_area, tx_width, tx_height, valid_av1_transform}
 use Rattle.av1_dct.specs.Arithmetic.{FitsBits}
 use Rattle.av1_avail.specs.Asked.{takes_above_right, takes_below_left}
-use Rattle.av1_edges.specs.Counts.{counted}
+use Rattle.av1_lists.specs.Counts.{counted}
 use Rattle.av1_edges.specs.Edges.{Edge}
 use Rattle.av1_edges.specs.Parts.{effective, step_of, needs_left, needs_above_right, needs_below_left, needs_corner, smooths_corner}
 use Rattle.av1_edges.specs.Sides.{above_at, base, corner_at, left_at, smoothed, num_avail, where_needed}
@@ -25,6 +26,7 @@ use Rattle.av1_frame.specs.declared.plane.PlaneConfig.{PlaneConfig}
 use Rattle.av1_frame.specs.Areas.{VisibleArea}
 use Rattle.av1_frame.specs.Planes.{sample_at, painted_plane, IsWhole}
 use Rattle.av1_intra.specs.ChromaFromLuma.{chroma_block, columns_read, rows_read, first_column, first_row}
+use Rattle.av1_inter.specs.Reference.{reference_of}
 use Rattle.av1_intra.specs.declared.neighbours.IntraEdgeFilterParameters.{IntraEdgeFilterParameters}
 use Rattle.av1_order.specs.Neighbours.{last_cell, leaf_holds}
 use Rattle.av1_plan.specs.declared.header.Header.{Header}
@@ -34,6 +36,8 @@ use Rattle.av1_plan.specs.declared.leaf.LeafKind.TheVariants.{Intra}
 use Rattle.av1_plan.specs.declared.leaf.Triple.{Triple}
 use Rattle.av1_plan.specs.Geometry.{xdec, ydec, plane_width, plane_height, plane_area, carries_chroma, block_count, blocks_across}
 use Rattle.av1_plan.specs.Plan.{LeafValue, PlanValue}
+use Rattle.av1_plan.specs.ReadPlans.{IsOtherFrame}
+use Rattle.av1_plan.specs.Validity.{has_reference}
 use Rattle.av1_tile.specs.declared.block.BlockPlace.{BlockPlace}
 use Rattle.av1_tile.specs.declared.cells.CodedCells.{CodedCells}
 use Rattle.av1_tile.specs.declared.extent.PlaneExtent.{PlaneExtent}
@@ -200,18 +204,39 @@ pub record FromLumaFits (area : PlaneArea) (alpha : ℤ) : Type 0 where
   pub weight : unsigned_abs alpha ≤ 16
   pub few : tx_width area.tx_size * tx_height area.tx_size ≤ 1024
 
--- a prediction of an area that can be made
-abbrev pub PredictionFits : PlaneArea → Prediction → Type 0
-PredictionFits area (predictions.Intra mode step filter) = ModeFits mode step
-PredictionFits area (predictions.FromLuma alpha) = FromLumaFits area alpha
-PredictionFits area (predictions.Single mode reference mv) = ⊥
-PredictionFits area (predictions.Compound mode references mvs) = ⊥
+-- a mode that predicts from references, over an area with sides up to 64
+pub record MotionFits (area : PlaneArea) (mode : PredictionMode) : Type 0 where
+  pub inter : is_intra mode ≡ false
+  pub wide : block_width area.size ≤ 64
+  pub high : block_height area.size ≤ 64
+
+-- a reference from LAST to ALTREF, whose slot carries planes
+pub record ReferenceFits (h : Header) (reference : RefType) : Type 0 where
+  pub other : IsOtherFrame reference
+  pub has : IsTrue (has_reference h reference)
+
+-- a prediction of an area from one reference, and from two
+pub record SingleFits (h : Header) (area : PlaneArea) (mode : PredictionMode) (reference : RefType) : Type 0 where
+  pub motion : MotionFits area mode
+  pub served : ReferenceFits h reference
+
+pub record CompoundFits (h : Header) (area : PlaneArea) (mode : PredictionMode) (references : List RefType) : Type 0 where
+  pub motion : MotionFits area mode
+  pub first : ReferenceFits h (reference_of references 0)
+  pub second : ReferenceFits h (reference_of references 1)
+
+-- a prediction of an area that can be made in a frame
+abbrev pub PredictionFits : Header → PlaneArea → Prediction → Type 0
+PredictionFits h area (predictions.Intra mode step filter) = ModeFits mode step
+PredictionFits h area (predictions.FromLuma alpha) = FromLumaFits area alpha
+PredictionFits h area (predictions.Single mode reference mv) = SingleFits h area mode reference
+PredictionFits h area (predictions.Compound mode references mvs) = CompoundFits h area mode references
 
 -- a block that is reconstructed: it lies in a plane's storage, its prediction and its transforms can be made, and its triples fit and rise
 pub record BlockFits (cfg : PlaneConfig) (h : Header) (block : PlaneBlock) (triples : List Triple) : Type 0 where
   pub columns : cfg.xorigin + (block.area.x + block_width block.area.size) ≤ cfg.stride
   pub rows : cfg.yorigin + (block.area.y + block_height block.area.size) ≤ cfg.alloc_height
-  pub prediction : PredictionFits block.area block.prediction
+  pub prediction : PredictionFits h block.area block.prediction
   pub transform : IsTrue (valid_av1_transform block.area.tx_size block.tx_type)
   pub lossless : block.tx_type ≡ WHT_WHT → block.area.tx_size ≡ TX_4X4
   pub coefficients : All (TripleFits h.depth block) triples

@@ -6,7 +6,7 @@ ghost use Rattle.av1_blocks.specs.Modes.{is_intra, is_cfl};
 ghost use Rattle.av1_blocks.specs.Transforms.{tx_width, tx_height, valid_av1_transform};
 ghost use Rattle.av1_blocks.specs.declared.transform.TxSize.TheVariants.{TX_4X4};
 ghost use Rattle.av1_blocks.specs.declared.transform.TxType.TheVariants.{WHT_WHT};
-ghost use Rattle.av1_edges.specs.Counts.{counted};
+ghost use Rattle.av1_lists.specs.Counts.{counted};
 ghost use Rattle.av1_edges.specs.Parts.{step_of};
 ghost use Rattle.av1_frame.specs.declared.plane_region.Area.TheVariants.{Rect};
 ghost use Rattle.av1_frame.specs.Areas.{stored_area};

@@ -3,7 +3,9 @@
 ghost use Rattle.std.specs.Prelude.{◌≡◌, vec_len, IfOk};
 
 use av1_blocks::OutOfMemory;
+use av1_edges::IntraEdgeBuffer;
 use av1_frame::{Coefficient, Pixel};
+use av1_inter::InterCompoundBuffers;
 use av1_itx::TxScratch;
 use std::alloc::{AllocError, Global};
 
@@ -11,13 +13,22 @@ use std::alloc::{AllocError, Global};
 const MOST_COEFFICIENTS: usize = 1024;
 
 /// The most samples of a block of chroma that is predicted from luma.
-pub(crate) const MOST_FROM_LUMA: usize = 32 * 32;
+const MOST_FROM_LUMA: usize = 32 * 32;
 
-/// Room for the coefficients of a transform block and for their transform.
+/// Room for one transform block, for the luma of a leaf and for one leaf's prediction from two references.
 #[derive(Drop)]
-pub struct ResidueBuffers<T: Pixel> {
+pub struct WalkBuffers<T: Pixel> {
+    /// The samples round a transform block.
+    pub(crate) edges: IntraEdgeBuffer<T>,
+    /// How far luma is from its mean, row by row, for each sample of a leaf's chroma that is predicted from it.
+    pub(crate) luma: Vec<i16>,
+    /// The coefficients of a transform block.
     pub(crate) coefficients: Vec<T::Coeff>,
+    /// What their transform works in.
     pub(crate) scratch: TxScratch,
+    /// The prepared values of a leaf from each of two references.
+    pub(crate) compound: InterCompoundBuffers,
+    pub(crate) ghost luma_long: { vec_len luma ≡ 1024 },
     pub(crate) ghost coefficients_len: { vec_len coefficients ≡ 1024 },
 }
 
@@ -32,14 +43,24 @@ fn coefficients<C: Coefficient>(alloc: Global, count: usize) -> Result<Vec<C>, A
     Ok(coefficients)
 }
 
-impl<T: Pixel> ResidueBuffers<T> {
-    /// Takes the memory.
-    pub(crate) fn new(alloc: Global) -> Result<ResidueBuffers<T>, OutOfMemory> {
+impl<T: Pixel> WalkBuffers<T> {
+    ghost use Rattle.std.specs.Prelude.{◌≡◌, IfOk};
+
+    /// Takes the memory. No edge has been prepared in it yet.
+    pub(crate) fn new(alloc: Global) -> Result<WalkBuffers<T>, OutOfMemory>
+        ensures { IfOk result (λ buffers. buffers.edges.prepared ≡ 0) }
+    {
+        let edges = IntraEdgeBuffer::new(alloc)?;
+        let luma = vec![in alloc; 0; MOST_FROM_LUMA]?;
         let coefficients = coefficients(alloc, MOST_COEFFICIENTS)?;
         let scratch = TxScratch::new(alloc)?;
-        Ok(ResidueBuffers {
+        let compound = InterCompoundBuffers::new(alloc)?;
+        Ok(WalkBuffers {
+            edges,
+            luma,
             coefficients,
             scratch,
+            compound,
         })
     }
 }

@@ -3,10 +3,11 @@
 //! AV1 specification: intra filter type process, which looks up the blocks above and to the left of one.
 
 ghost use Rattle.std.specs.Prelude.{◌≡◌, ◌+◌, ◌*◌, ◌^◌, ◌<◌, ◌≤◌, length};
-ghost use Rattle.av1_frame.specs.Samples.{paint, paint_row};
+ghost use Rattle.av1_frame.specs.Samples.{paint};
 ghost use Rattle.av1_order.specs.Neighbours.{last_cell};
 ghost use Rattle.av1_tile.specs.PlaneBlocks.{chroma_mode_of, coded_info};
 
+use crate::fill::fill_slice;
 use av1_blocks::{OutOfMemory, PredictionMode, RefType};
 use av1_frame::CodedBlockInfo;
 use av1_intra::IntraEdgeFilterParameters;
@@ -72,16 +73,6 @@ fn coded_info(kind: LeafKind) -> CodedBlockInfo
     }
 }
 
-/// Each cell becomes `info`.
-#[tactic(auto, using(av1_frame::proofs::Paint::row_painting))]
-fn fill_cells(cells: &mut [CodedBlockInfo], info: CodedBlockInfo)
-    ensures { cells.new ≡ paint_row (length cells.old) (λ _ _. info) cells.old }
-{
-    for c in 0..cells.len() {
-        cells[c] = info;
-    }
-}
-
 /// The cells of a rectangle become `info`, in rows of `columns` cells.
 fn fill_rows(cells: &mut [CodedBlockInfo], columns: usize, area: CellArea, info: CodedBlockInfo)
     requires some { 0 < columns }
@@ -91,7 +82,7 @@ fn fill_rows(cells: &mut [CodedBlockInfo], columns: usize, area: CellArea, info:
 {
     for r in 0..area.height {
         let start = (area.y + r) * columns + area.x;
-        fill_cells(&mut cells[start..start + area.width], info);
+        fill_slice(&mut cells[start..start + area.width], info);
     }
 }
 

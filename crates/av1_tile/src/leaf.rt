@@ -6,16 +6,16 @@ ghost use Rattle.std.specs.List.{fold};
 ghost use Rattle.av1_frame.specs.Planes.{sample_at};
 ghost use Rattle.av1_intra.specs.ChromaFromLuma.{ac_at, chroma_block, leaf_difference};
 ghost use Rattle.av1_plan.specs.Answer.{plan_value};
+ghost use Rattle.av1_references.specs.References.{HoldsReferences};
 ghost use Rattle.av1_tile.specs.PlaneBlocks.{is_from_luma};
 ghost use Rattle.av1_tile.specs.Reference.{luma_of};
 ghost use Rattle.av1_tile.specs.Walk.{cell_at, edges_after, leaf_steps_by, fast_step, leaf_with, luma_block, HasCells, LeafFits, LumaFits, SameLayout, Stores, StoresAll};
 
-use crate::buffers::ResidueBuffers;
+use crate::buffers::WalkBuffers;
 use crate::cells::CodedCells;
 use crate::planes::Planes;
 use crate::walk::reconstruct_leaf_in;
-use av1_edges::IntraEdgeBuffer;
-use av1_frame::{Area, Pixel, Plane};
+use av1_frame::{Area, FrameInvariants, Pixel, Plane};
 use av1_intra::{LumaLeaf, leaf_luma_ac};
 use av1_plan::{ChromaMode, Header, Leaf, LeafKind, Plan, Triple};
 
@@ -64,12 +64,11 @@ fn prepare_luma<T: Pixel>(luma: &mut [i16], plane: &Plane<T>, header: &Header, l
     );
 }
 
-/// A leaf: its block in Y, then those in U and V where it carries chroma. `luma` is room for how far luma is from its mean.
+/// A leaf: its block in Y, then those in U and V where it carries chroma.
 pub fn reconstruct_leaf<T: Pixel>(
     planes: &mut Planes<T>,
-    edges: &mut IntraEdgeBuffer<T>,
-    luma: &mut [i16],
-    residues: &mut ResidueBuffers<T>,
+    buffers: &mut WalkBuffers<T>,
+    fi: &FrameInvariants<T>,
     plan: &Plan,
     cells: &CodedCells,
     leaf: &Leaf,
@@ -82,51 +81,20 @@ pub fn reconstruct_leaf<T: Pixel>(
     requires depths { IsDepth (plan_value plan.now).header.depth }
     requires cells { HasCells (plan_value plan.now).header cells.now }
     requires fits { LeafFits (plan_value plan.now).header planes.old (leaf_with leaf.now y.now u.now v.now) }
-    requires luma_long { length luma.old ≡ 1024 }
+    requires references { HoldsReferences T.num (plan_value plan.now) fi.now }
     ensures walked { let h = (plan_value plan.now).header in let l = leaf_with leaf.now y.now u.now v.now in
         planes.new ≡ fold (fast_step T.num T.pixel (plan_value plan.now)) planes.old (leaf_steps_by h (cell_at cells.now) l) }
     ensures counted { let h = (plan_value plan.now).header in let l = leaf_with leaf.now y.now u.now v.now in
-        edges.new.prepared ≡ fold edges_after edges.old.prepared (leaf_steps_by h (cell_at cells.now) l) }
+        buffers.new.edges.prepared ≡ fold edges_after buffers.old.edges.prepared (leaf_steps_by h (cell_at cells.now) l) }
     ensures stores { StoresAll T.num (plan_value plan.now).header planes.new }
     ensures layout { SameLayout planes.old planes.new }
-    ensures luma_long { length luma.new ≡ 1024 }
 {
-    reconstruct_leaf_in(
-        &mut planes.y,
-        edges,
-        luma,
-        residues,
-        plan,
-        cells,
-        leaf,
-        0,
-        y,
-    );
+    reconstruct_leaf_in(&mut planes.y, buffers, fi, plan, cells, leaf, 0, y);
     if leaf.carries_chroma(plan.header()) {
         if is_from_luma(leaf.kind) {
-            prepare_luma(luma, &planes.y, plan.header(), leaf);
+            prepare_luma(buffers.luma.as_mut_slice(), &planes.y, plan.header(), leaf);
         }
-        reconstruct_leaf_in(
-            &mut planes.u,
-            edges,
-            luma,
-            residues,
-            plan,
-            cells,
-            leaf,
-            1,
-            u,
-        );
-        reconstruct_leaf_in(
-            &mut planes.v,
-            edges,
-            luma,
-            residues,
-            plan,
-            cells,
-            leaf,
-            2,
-            v,
-        );
+        reconstruct_leaf_in(&mut planes.u, buffers, fi, plan, cells, leaf, 1, u);
+        reconstruct_leaf_in(&mut planes.v, buffers, fi, plan, cells, leaf, 2, v);
     }
 }

@@ -1,15 +1,18 @@
 //! The walk over the leaves of a plan: from decisions on blocks to samples.
 //!
-//! A [`TileState`] holds the three planes of a frame, and [`reconstruct_tile`] writes into them what a valid plan says. It goes
-//! through the leaves in coding order, through the parts that each covers in Y, U and V, and through the transform blocks of a
-//! part in raster order. A block is predicted from the samples above and left of it, and its residue is added. Places and sides are
-//! in samples of the plane at hand. A block that begins in the frame is written whole, though it may reach beyond; where a side of a
-//! block reaches beyond, it goes on with its last sample in the frame, and at the frame's left and upper ends it is a number close to
-//! mid-grey.
+//! A [`TileState`] holds the three planes of a frame and the references that it is predicted from, and [`reconstruct_tile`] writes into
+//! the planes what a valid plan says. It goes through the leaves in coding order, and through the parts that each covers in Y, U and V. A
+//! part is predicted from references over its whole area at once, or else block by block, each transform block from the samples above and
+//! left of it; the residues of its transform blocks are added in raster order. Places and sides are in samples of the plane at hand. A block
+//! that begins in the frame is written whole, though it may reach beyond; where a side of a block reaches beyond, it goes on with its last
+//! sample in the frame, and at the frame's left and upper ends it is a number close to mid-grey. Of a reference, the nearest sample in the
+//! frame stands for each that lies beyond it.
 //!
-//! AV1 specification: intra prediction process, reconstruction process.
+//! AV1 specification: decode block syntax, compute prediction syntax, intra prediction process, inter prediction process, reconstruction
+//! process.
 //!
-//! Promised: the visible planes are those of the slow definition, `planes_of` (`specs/Walk.antt`), whatever they held before.
+//! Promised: the visible planes are those of the slow definition, `planes_of` (`specs/Output.antt`), and so is each of their rows, `plan_row`
+//! (`specs/State.antt`), whatever they held before. Only `TileState::new` allocates.
 #![tactic(auto)]
 
 mod block;
@@ -17,6 +20,7 @@ mod buffers;
 mod cells;
 mod coefficients;
 mod extent;
+mod fill;
 mod leaf;
 mod plane_block;
 mod planes;

@@ -7,29 +7,28 @@ ghost use Rattle.av1_plan.specs.Geometry.{plane_width, plane_height};
 ghost use Rattle.av1_tile.specs.PlaneBlocks.{extent_of};
 ghost use Rattle.av1_tile.specs.Walk.{Stores, HasRoomIn, HasCells};
 
-use crate::buffers::{MOST_FROM_LUMA, ResidueBuffers};
+use crate::buffers::WalkBuffers;
 use crate::cells::CodedCells;
 use crate::extent::PlaneExtent;
+use crate::fill::fill_plane;
 use crate::planes::Planes;
 use crate::tile::reconstruct_leaves;
 use av1_blocks::OutOfMemory;
-use av1_edges::IntraEdgeBuffer;
-use av1_frame::{Pixel, Plane};
+use av1_frame::{FrameInvariants, Pixel, Plane};
 use av1_plan::{Header, Plan};
+use av1_references::frame_invariants;
 use std::alloc::Global;
 use std::marker::Model;
 
-/// The planes of a frame that is reconstructed, and the memory that the walk works in.
+/// The planes of a frame that is reconstructed, the references that it is predicted from, and the memory that the walk works in.
 #[derive(Drop)]
 pub struct TileState<T: Pixel> {
     header: Header,
+    fi: FrameInvariants<T>,
     planes: Planes<T>,
     cells: CodedCells,
-    edges: IntraEdgeBuffer<T>,
-    luma: Vec<i16>,
-    residues: ResidueBuffers<T>,
+    buffers: WalkBuffers<T>,
     ghost cells_whole: { HasCells header cells },
-    ghost luma_long: { vec_len luma ≡ 1024 },
 }
 
 impl<T: Pixel> Model for TileState<T> {
@@ -37,7 +36,7 @@ impl<T: Pixel> Model for TileState<T> {
 
     ghost Value = { Picture T };
 
-    ghost view = { λ s. record { header = s.header; planes = s.planes; edges = s.edges.prepared } };
+    ghost view = { λ s. record { header = s.header; references = s.fi; planes = s.planes; edges = s.buffers.edges.prepared } };
 }
 
 /// A plane of zeros with the sides of plane `p` of the frame.
@@ -75,11 +74,11 @@ fn visible_row<'a, T: Pixel>(plane: &'a Plane<T>, header: &Header, p: usize, y: 
 }
 
 impl<T: Pixel> TileState<T> {
-    ghost use Rattle.std.specs.Prelude.{◌≡◌, ◌<◌, ◌≤◌, IfOk, map, None};
+    ghost use Rattle.std.specs.Prelude.{◌≡◌, ◌<◌, ◌≤◌, ◌^◌, IfOk, map, None};
     ghost use Rattle.av1_plan.specs.Answer.{plan_value};
     ghost use Rattle.av1_plan.specs.Validity.{first_fault};
     ghost use Rattle.av1_tile.specs.PlaneBlocks.{extent_of};
-    ghost use Rattle.av1_tile.specs.State.{edges_of, IsSound, shown, state_edges, state_header, state_row};
+    ghost use Rattle.av1_tile.specs.State.{edges_of, IsFilledWith, IsSound, MadeFor, shown, ShowsRows, state_edges, state_header, state_references, state_row};
     ghost use Rattle.av1_tile.specs.Output.{planes_of, visible};
 
     /// Takes all the memory that the reconstruction of a plan needs. The plan is valid, and its depth one that the samples have.
@@ -87,24 +86,23 @@ impl<T: Pixel> TileState<T> {
         requires valid { first_fault (plan_value plan.now) ≡ None }
         requires depth { (plan_value plan.now).header.depth ≤ T.BITS }
         ensures sound { IfOk result (λ s. IsSound T.num s) }
+        ensures made { IfOk result (λ s. MadeFor T.num (plan_value plan.now) s) }
         ensures header { IfOk result (λ s. state_header s ≡ (plan_value plan.now).header) }
         ensures edges { IfOk result (λ s. state_edges s ≡ 0) }
     {
         let header = *plan.header();
+        let fi = frame_invariants(alloc, plan)?;
         let y = plane_of_frame(alloc, &header, 0)?;
         let u = plane_of_frame(alloc, &header, 1)?;
         let v = plane_of_frame(alloc, &header, 2)?;
         let cells = CodedCells::new(alloc, &header)?;
-        let edges = IntraEdgeBuffer::new(alloc)?;
-        let luma = vec![in alloc; 0; MOST_FROM_LUMA]?;
-        let residues = ResidueBuffers::new(alloc)?;
+        let buffers = WalkBuffers::new(alloc)?;
         Ok(TileState {
             header,
+            fi,
             planes: Planes { y, u, v },
             cells,
-            edges,
-            luma,
-            residues,
+            buffers,
         })
     }
 
@@ -120,7 +118,7 @@ impl<T: Pixel> TileState<T> {
     pub fn edges(&self) -> u64
         ensures { result ≡ state_edges self.now }
     {
-        self.edges.prepared()
+        self.buffers.edges.prepared()
     }
 
     /// The visible row `y` of plane `p` (0 for Y, 1 for U and 2 for V), from its first sample on.
@@ -137,23 +135,39 @@ impl<T: Pixel> TileState<T> {
         }
     }
 
+    /// Each sample that is stored of the three planes becomes `value`, which lies within the depth; nothing else changes.
+    pub fn fill_with(&mut self, value: T)
+        requires sound { IsSound T.num self.old }
+        requires within { T.num value < 2 ^ (state_header self.old).depth }
+        ensures filled { IsFilledWith value self.new }
+        ensures sound { IsSound T.num self.new }
+        ensures header { state_header self.new ≡ state_header self.old }
+        ensures references { state_references self.new ≡ state_references self.old }
+        ensures edges { state_edges self.new ≡ state_edges self.old }
+    {
+        fill_plane(&mut self.planes.y, value);
+        fill_plane(&mut self.planes.u, value);
+        fill_plane(&mut self.planes.v, value);
+    }
+
     /// The leaves of the plan, over the state's planes.
     pub(crate) fn run(&mut self, plan: &Plan)
         requires valid { first_fault (plan_value plan.now) ≡ None }
         requires sound { IsSound T.num self.old }
-        requires made { state_header self.old ≡ (plan_value plan.now).header }
+        requires made { MadeFor T.num (plan_value plan.now) self.old }
         requires depth { (plan_value plan.now).header.depth ≤ T.BITS }
         ensures visible { visible (state_header self.new) (shown T.num self.new) ≡ planes_of (plan_value plan.now) }
+        ensures rows { ShowsRows T.num (plan_value plan.now) self.new }
         ensures sound { IsSound T.num self.new }
         ensures header { state_header self.new ≡ state_header self.old }
+        ensures references { state_references self.new ≡ state_references self.old }
         ensures edges { state_edges self.new ≡ edges_of (state_edges self.old) (plan_value plan.now) }
     {
         reconstruct_leaves(
             &mut self.planes,
             &mut self.cells,
-            &mut self.edges,
-            self.luma.as_mut_slice(),
-            &mut self.residues,
+            &mut self.buffers,
+            &self.fi,
             plan,
         );
     }

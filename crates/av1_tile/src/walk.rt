@@ -8,22 +8,26 @@ ghost use Rattle.av1_blocks.specs.Transforms.{tx_width, tx_height};
 ghost use Rattle.av1_frame.specs.Planes.{InPlane};
 ghost use Rattle.av1_intra.specs.ChromaFromLuma.{ac_at};
 ghost use Rattle.av1_plan.specs.Answer.{plan_value};
+ghost use Rattle.av1_plan.specs.Plan.{PlanValue};
+ghost use Rattle.av1_references.specs.References.{HoldsReferences};
 ghost use Rattle.av1_plan.specs.Geometry.{blocks_across, block_count, transform_block};
 ghost use Rattle.av1_plan.specs.ReadPlans.{IsReadFrame};
 ghost use Rattle.av1_plan.specs.declared.leaf.Triple.{Triple};
 ghost use Rattle.av1_tile.specs.PlaneBlocks.{component};
-ghost use Rattle.av1_tile.specs.Steps.{predict, plane_steps, steps_at, steps_of, joined};
+ghost use Rattle.av1_tile.specs.Reference.{no_luma};
+ghost use Rattle.av1_tile.specs.Steps.{own_prediction, whole_area, whole_steps, plane_steps, steps_at, steps_of, joined};
 ghost use Rattle.av1_tile.specs.Walk.{area_at, block_by, cell_at, Begins, edges_in, edges_after, fast_in, fast_step, leaf_with, BlockFits, HasCells, IsPlaceIn, LeafFits, PredictionFits, SameLayout, Stores, StoresAll};
 
 use crate::block::{BlockPlace, add_block, predict_from_edge};
-use crate::buffers::ResidueBuffers;
+use crate::buffers::WalkBuffers;
 use crate::cells::CodedCells;
 use crate::plane_block::{PlaneBlock, Prediction};
 use crate::planes::Planes;
 use av1_blocks::{IntraParam, PredictionMode};
-use av1_edges::IntraEdgeBuffer;
-use av1_frame::{Pixel, Plane};
+use av1_frame::{FrameInvariants, Pixel, Plane};
+use av1_inter::InterCompoundBuffers;
 use av1_plan::{Header, Leaf, Plan, Triple};
+use av1_references::{predict_compound, predict_single};
 
 /// Where the block of number `index` begins, of blocks with sides of `side` samples from `start` on.
 fn block_start(start: u16, index: usize, side: usize) -> usize
@@ -66,11 +70,10 @@ fn place_in(
     }
 }
 
-/// Predicts a transform block as its leaf is predicted; `luma` holds how far luma is from its mean, where the leaf is predicted from luma.
+/// Predicts a transform block from the samples round it. One of a leaf from references stays as it is.
 fn predict_block<T: Pixel>(
     plane: &mut Plane<T>,
-    edges: &mut IntraEdgeBuffer<T>,
-    luma: &[i16],
+    buffers: &mut WalkBuffers<T>,
     plan: &Plan,
     block: &PlaneBlock,
     at: BlockPlace,
@@ -80,18 +83,21 @@ fn predict_block<T: Pixel>(
     requires depth { (plan_value plan.now).header.depth ≤ T.BITS }
     requires place { IsPlaceIn (plan_value plan.now).header block.now at }
     requires fits { InPlane (area_at block.now at) plane.old }
-    requires prediction { PredictionFits block.now.area block.now.prediction }
-    requires luma_long { length luma.now ≡ 1024 }
-    ensures walked { plane.new ≡ fast_in T.num T.pixel (plan_value plan.now) block.now.plane (λ _. ac_at (tx_width block.now.area.tx_size) luma.now) plane.old (predict block.now at.number (area_at block.now at)) }
-    ensures counted { edges.new.prepared ≡ edges_in edges.old.prepared (predict block.now at.number (area_at block.now at)) }
+    requires prediction { PredictionFits (plan_value plan.now).header block.now.area block.now.prediction }
+    ensures walked { plane.new ≡ fold (fast_in T.num T.pixel (plan_value plan.now) block.now.plane (λ _. ac_at (tx_width block.now.area.tx_size) buffers.old.luma.items)) plane.old (own_prediction block.now at.number (area_at block.now at)) }
+    ensures counted { buffers.new.edges.prepared ≡ fold edges_in buffers.old.edges.prepared (own_prediction block.now at.number (area_at block.now at)) }
+    ensures luma { buffers.new.luma.items ≡ buffers.old.luma.items }
 {
     let header = plan.header();
     match block.prediction {
         Prediction::Intra { mode, step, filter } => {
+            let edges = &mut buffers.edges;
             let param = IntraParam::AngleDelta(step);
             predict_from_edge(plane, edges, &[], header, block, at, mode, param, filter);
         }
         Prediction::FromLuma { alpha } => {
+            let edges = &mut buffers.edges;
+            let luma = buffers.luma.as_slice();
             let mode = PredictionMode::UV_CFL_PRED;
             let param = IntraParam::Alpha(i16::from(alpha));
             predict_from_edge(plane, edges, luma, header, block, at, mode, param, None);
@@ -100,12 +106,10 @@ fn predict_block<T: Pixel>(
     }
 }
 
-/// A transform block that begins in the frame: it is predicted, and its residue is added.
+/// A transform block that begins in the frame: it is predicted, unless its leaf is from references, and its residue is added.
 fn reconstruct_block<T: Pixel>(
     plane: &mut Plane<T>,
-    edges: &mut IntraEdgeBuffer<T>,
-    luma: &[i16],
-    residues: &mut ResidueBuffers<T>,
+    buffers: &mut WalkBuffers<T>,
     plan: &Plan,
     block: &PlaneBlock,
     at: BlockPlace,
@@ -116,18 +120,18 @@ fn reconstruct_block<T: Pixel>(
     requires depths { IsDepth (plan_value plan.now).header.depth }
     requires place { IsPlaceIn (plan_value plan.now).header block.now at }
     requires fits { BlockFits plane.old.plane_cfg (plan_value plan.now).header block.now triples.now }
-    requires luma_long { length luma.now ≡ 1024 }
     requires found { transform_block (plan_value plan.now).header block.now.plane block.now.area at.number ≡ Some (record { x = at.x; y = at.y }) }
-    ensures walked { plane.new ≡ fold (fast_in T.num T.pixel (plan_value plan.now) block.now.plane (λ _. ac_at (tx_width block.now.area.tx_size) luma.now)) plane.old (steps_at (plan_value plan.now).header block.now triples.now at.number) }
-    ensures counted { edges.new.prepared ≡ fold edges_in edges.old.prepared (steps_at (plan_value plan.now).header block.now triples.now at.number) }
+    ensures walked { plane.new ≡ fold (fast_in T.num T.pixel (plan_value plan.now) block.now.plane (λ _. ac_at (tx_width block.now.area.tx_size) buffers.old.luma.items)) plane.old (steps_at (plan_value plan.now).header block.now triples.now at.number) }
+    ensures counted { buffers.new.edges.prepared ≡ fold edges_in buffers.old.edges.prepared (steps_at (plan_value plan.now).header block.now triples.now at.number) }
+    ensures luma { buffers.new.luma.items ≡ buffers.old.luma.items }
     ensures stores { Stores T.num (plan_value plan.now).header block.now.plane plane.new }
     ensures config { plane.new.plane_cfg ≡ plane.old.plane_cfg }
 {
-    predict_block(plane, edges, luma, plan, block, at);
+    predict_block(plane, buffers, plan, block, at);
     add_block(
         plane,
-        residues.coefficients.as_mut_slice(),
-        &mut residues.scratch,
+        buffers.coefficients.as_mut_slice(),
+        &mut buffers.scratch,
         plan.header(),
         block,
         at,
@@ -165,11 +169,9 @@ fn next_place(column: usize, row: usize, across: usize) -> (usize, usize)
 
 /// The transform blocks of a leaf's block, in raster order. Triples rise by their blocks, so that those of a block follow one another.
 #[tactic(auto, using(crate::proofs::Loops::fold_joined_none, crate::proofs::Loops::fold_joined_more))]
-fn reconstruct_plane_block<T: Pixel>(
+fn reconstruct_blocks<T: Pixel>(
     plane: &mut Plane<T>,
-    edges: &mut IntraEdgeBuffer<T>,
-    luma: &[i16],
-    residues: &mut ResidueBuffers<T>,
+    buffers: &mut WalkBuffers<T>,
     plan: &Plan,
     block: &PlaneBlock,
     triples: &[Triple],
@@ -178,9 +180,11 @@ fn reconstruct_plane_block<T: Pixel>(
     requires depth { (plan_value plan.now).header.depth ≤ T.BITS }
     requires depths { IsDepth (plan_value plan.now).header.depth }
     requires fits { BlockFits plane.old.plane_cfg (plan_value plan.now).header block.now triples.now }
-    requires luma_long { length luma.now ≡ 1024 }
-    ensures walked { plane.new ≡ fold (fast_in T.num T.pixel (plan_value plan.now) block.now.plane (λ _. ac_at (tx_width block.now.area.tx_size) luma.now)) plane.old (plane_steps (plan_value plan.now).header block.now triples.now) }
-    ensures counted { edges.new.prepared ≡ fold edges_in edges.old.prepared (plane_steps (plan_value plan.now).header block.now triples.now) }
+    ensures walked { let h = (plan_value plan.now).header in
+        plane.new ≡ fold (fast_in T.num T.pixel (plan_value plan.now) block.now.plane (λ _. ac_at (tx_width block.now.area.tx_size) buffers.old.luma.items)) plane.old (joined (block_count block.now.area) (steps_at h block.now triples.now)) }
+    ensures counted { let h = (plan_value plan.now).header in
+        buffers.new.edges.prepared ≡ fold edges_in buffers.old.edges.prepared (joined (block_count block.now.area) (steps_at h block.now triples.now)) }
+    ensures luma { buffers.new.luma.items ≡ buffers.old.luma.items }
     ensures stores { Stores T.num (plan_value plan.now).header block.now.plane plane.new }
     ensures config { plane.new.plane_cfg ≡ plane.old.plane_cfg }
 {
@@ -192,19 +196,79 @@ fn reconstruct_plane_block<T: Pixel>(
         let end = at + leading_count(&triples[at..], n);
         if let Some(place) = place_in(plan.header(), block, across, row, column) {
             let own = &triples[at..end];
-            reconstruct_block(plane, edges, luma, residues, plan, block, place, own);
+            reconstruct_block(plane, buffers, plan, block, place, own);
         }
         at = end;
         place = next_place(column, row, across);
     }
 }
 
+/// Predicts a leaf's whole area in a plane, where it is predicted from references. The frame settings hold the references of a plan in which
+/// that can be done.
+fn predict_whole<T: Pixel>(
+    plane: &mut Plane<T>,
+    compound: &mut InterCompoundBuffers,
+    fi: &FrameInvariants<T>,
+    block: &PlaneBlock,
+)
+    requires plane { block.now.plane < 3 }
+    requires depth { fi.now.bit_depth ≤ T.BITS }
+    requires fits { InPlane (whole_area block.now) plane.old }
+    requires references { (value : PlanValue) × (HoldsReferences T.num value fi.now × PredictionFits value.header block.now.area block.now.prediction) }
+    ensures { (value : PlanValue) → HoldsReferences T.num value fi.now → PredictionFits value.header block.now.area block.now.prediction
+        → plane.new ≡ fold (fast_in T.num T.pixel value block.now.plane (λ _. no_luma)) plane.old (whole_steps block.now) }
+{
+    let p = block.plane;
+    let area = block.area;
+    match block.prediction {
+        Prediction::Single {
+            mode,
+            reference,
+            mv,
+        } => {
+            predict_single(plane, fi, p, mode, area, reference, mv);
+        }
+        Prediction::Compound {
+            mode,
+            references,
+            mvs,
+        } => {
+            predict_compound(plane, fi, p, mode, area, references, mvs, compound);
+        }
+        Prediction::Intra { .. } | Prediction::FromLuma { .. } => {}
+    }
+}
+
+/// A leaf's block in a plane: its whole area is predicted where it is predicted from references, then its transform blocks follow.
+fn reconstruct_plane_block<T: Pixel>(
+    plane: &mut Plane<T>,
+    buffers: &mut WalkBuffers<T>,
+    fi: &FrameInvariants<T>,
+    plan: &Plan,
+    block: &PlaneBlock,
+    triples: &[Triple],
+)
+    requires plane { block.now.plane < 3 }
+    requires stores { Stores T.num (plan_value plan.now).header block.now.plane plane.old }
+    requires depth { (plan_value plan.now).header.depth ≤ T.BITS }
+    requires depths { IsDepth (plan_value plan.now).header.depth }
+    requires references { HoldsReferences T.num (plan_value plan.now) fi.now }
+    requires fits { BlockFits plane.old.plane_cfg (plan_value plan.now).header block.now triples.now }
+    ensures walked { plane.new ≡ fold (fast_in T.num T.pixel (plan_value plan.now) block.now.plane (λ _. ac_at (tx_width block.now.area.tx_size) buffers.old.luma.items)) plane.old (plane_steps (plan_value plan.now).header block.now triples.now) }
+    ensures counted { buffers.new.edges.prepared ≡ fold edges_in buffers.old.edges.prepared (plane_steps (plan_value plan.now).header block.now triples.now) }
+    ensures luma { buffers.new.luma.items ≡ buffers.old.luma.items }
+    ensures stores { Stores T.num (plan_value plan.now).header block.now.plane plane.new }
+    ensures config { plane.new.plane_cfg ≡ plane.old.plane_cfg }
+{
+    predict_whole(plane, &mut buffers.compound, fi, block);
+    reconstruct_blocks(plane, buffers, plan, block, triples);
+}
+
 /// The block of a leaf in plane `p`.
 pub fn reconstruct_leaf_in<T: Pixel>(
     plane: &mut Plane<T>,
-    edges: &mut IntraEdgeBuffer<T>,
-    luma: &[i16],
-    residues: &mut ResidueBuffers<T>,
+    buffers: &mut WalkBuffers<T>,
+    fi: &FrameInvariants<T>,
     plan: &Plan,
     cells: &CodedCells,
     leaf: &Leaf,
@@ -218,16 +282,17 @@ pub fn reconstruct_leaf_in<T: Pixel>(
     requires cells { HasCells (plan_value plan.now).header cells.now }
     requires begins { Begins (plan_value plan.now).header (component p) (leaf_with leaf.now [] [] []) }
     requires fits { BlockFits plane.old.plane_cfg (plan_value plan.now).header (block_by (plan_value plan.now).header (cell_at cells.now) (component p) (leaf_with leaf.now [] [] [])) triples.now }
-    requires luma_long { length luma.now ≡ 1024 }
+    requires references { HoldsReferences T.num (plan_value plan.now) fi.now }
     ensures walked { let h = (plan_value plan.now).header in let block = block_by h (cell_at cells.now) (component p) (leaf_with leaf.now [] [] []) in
-        plane.new ≡ fold (fast_in T.num T.pixel (plan_value plan.now) p (λ _. ac_at (tx_width block.area.tx_size) luma.now)) plane.old (plane_steps h block triples.now) }
+        plane.new ≡ fold (fast_in T.num T.pixel (plan_value plan.now) p (λ _. ac_at (tx_width block.area.tx_size) buffers.old.luma.items)) plane.old (plane_steps h block triples.now) }
     ensures counted { let h = (plan_value plan.now).header in let block = block_by h (cell_at cells.now) (component p) (leaf_with leaf.now [] [] []) in
-        edges.new.prepared ≡ fold edges_in edges.old.prepared (plane_steps h block triples.now) }
+        buffers.new.edges.prepared ≡ fold edges_in buffers.old.edges.prepared (plane_steps h block triples.now) }
+    ensures luma { buffers.new.luma.items ≡ buffers.old.luma.items }
     ensures stores { Stores T.num (plan_value plan.now).header p plane.new }
     ensures config { plane.new.plane_cfg ≡ plane.old.plane_cfg }
 {
     let header = plan.header();
     let filter = cells.filter_parameters(header, p, leaf.plane_area(header, p));
     let block = PlaneBlock::of_leaf(header, leaf, p, filter);
-    reconstruct_plane_block(plane, edges, luma, residues, plan, &block, triples);
+    reconstruct_plane_block(plane, buffers, fi, plan, &block, triples);
 }

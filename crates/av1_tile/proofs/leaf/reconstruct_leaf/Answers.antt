@@ -1,4 +1,6 @@
-use Rattle.std.proofs.Common.{sym, refl, ap, ◌∙◌, ◌≡◌, ◌<◌, subst, true, false, [], ℕ, ℤ, List}
+use Rattle.std.proofs.Math.Seq.{take-append_seam}
+use Rattle.std.proofs.Common.{length, take, drop, ◌++◌, sym, refl, ap, ◌∙◌, ◌≡◌, ◌<◌, subst, true, false, [], ℕ, ℤ, List}
+use Rattle.std.specs.List.{fold}
 use Rattle.std.proofs.lemmas.Bool.{true≢false}
 use Rattle.av1_blocks.specs.Transforms.{tx_width}
 use Rattle.av1_frame.specs.declared.plane.PlaneConfig.{PlaneConfig}
@@ -10,7 +12,8 @@ use Rattle.av1_plan.specs.declared.header.Header.{Header}
 use Rattle.av1_tile.specs.Canvas.{Y, U, V}
 use Rattle.av1_tile.specs.PlaneBlocks.{is_from_luma}
 use Rattle.av1_tile.specs.Reference.{luma_for, luma_of}
-use Rattle.av1_tile.specs.Walk.{LumaFits, block_by, cell_at, filter_by, leaf_with, luma_block}
+use Rattle.av1_tile.specs.Steps.{plane_steps}
+use Rattle.av1_tile.specs.Walk.{edges_in, fast_in, LumaFits, block_by, cell_at, filter_by, leaf_with, luma_block}
 use Rattle.av1_tile.proofs.LeafLuma.{HoldsLuma, luma_in_u, luma_in_v, plain_in_y}
 use Rattle.av1_tile.proofs.Lifts.{leaf_counted, leaf_walked, luma_counted, luma_same, luma_walked}
 use Rattle.av1_tile.proofs.leaf.reconstruct_leaf.Goals.{then-is_from_luma, else-is_from_luma}
@@ -35,7 +38,7 @@ returns-after-is_from_luma-clause-walked g c =
     let h = plan.header in
     let l = leaf_with a.leaf.now a.y.now a.u.now a.v.now in
     let told = cell_at a.cells.now in
-    let luma = c.if-is_from_luma.luma in
+    let luma = c.if-is_from_luma.buffers.luma.items in
     let y = c.reconstruct_leaf_in.new.plane in
     let samples = sample_at num y in
     let carried : carries_chroma h l.x l.y l.size ≡ true = ap (λ (k : Header). carries_chroma k l.x l.y l.size) (sym c.header.ensures.value) ∙ sym c.carries_chroma.ensures ∙ c.if-carries_chroma.true in
@@ -43,21 +46,27 @@ returns-after-is_from_luma-clause-walked g c =
     elim c.if-is_from_luma.branch [
       | then-is_from_luma w ↦
           let fits = c.requires.fits.luma carried from in
+          let long : c.reconstruct_leaf_in.new.buffers.luma.len ≡ length w.prepare_luma.new.luma = c.reconstruct_leaf_in.new.buffers.luma_long ∙ sym w.prepare_luma.ensures.long in
+          let at : luma ≡ w.prepare_luma.new.luma =
+          ap (λ (b : _). b.luma.items) w.buffers-is
+          ∙ ap (λ (n : ℕ). take n (w.prepare_luma.new.luma ++ drop (length w.prepare_luma.new.luma) c.reconstruct_leaf_in.new.buffers.luma.items)) long ∙ take-append_seam w.prepare_luma.new.luma _ in
           record {
             width = fits.width;
             height = fits.height;
             value = subst (λ (k : Header). (r c : ℕ) → r < (chroma_block (luma_of k (luma_block l))).height → c < (chroma_block (luma_of k (luma_block l))).width
                 → ac_at (chroma_block (luma_of k (luma_block l))).width luma r c ≡ leaf_difference samples (luma_of k (luma_block l)) r c) w.header-then-is_from_luma.ensures.value
                 (subst (λ (ac : List ℤ). (r c : ℕ) → r < (chroma_block (luma_of w.header-then-is_from_luma.result.now (luma_block l))).height → c < (chroma_block (luma_of w.header-then-is_from_luma.result.now (luma_block l))).width
-                → ac_at (chroma_block (luma_of w.header-then-is_from_luma.result.now (luma_block l))).width ac r c ≡ leaf_difference samples (luma_of w.header-then-is_from_luma.result.now (luma_block l)) r c) (sym w.luma-is) w.prepare_luma.ensures.value);
+                → ac_at (chroma_block (luma_of w.header-then-is_from_luma.result.now (luma_block l))).width ac r c ≡ leaf_difference samples (luma_of w.header-then-is_from_luma.result.now (luma_block l)) r c) (sym at) w.prepare_luma.ensures.value);
           }
       | else-is_from_luma w ↦ absurd (true≢false (sym from ∙ sym c.is_from_luma.ensures ∙ w.if-is_from_luma.false))
     ] in
-    let same_y = luma_same num g.T.Pixel.pixel plan 0 (λ _. ac_at (tx_width (block_by h told Y l).area.tx_size) a.luma.now) (luma_for h (sample_at num a.planes.now.y) Y) (block_by h told Y l) (plain_in_y h l (filter_by h told Y l) (sample_at num a.planes.now.y) (tx_width (block_by h told Y l).area.tx_size) a.luma.now) h a.y.now a.planes.now.y in
+    let same_y = luma_same num g.T.Pixel.pixel plan 0 (λ _. ac_at (tx_width (block_by h told Y l).area.tx_size) a.buffers.now.luma.items) (luma_for h (sample_at num a.planes.now.y) Y) (block_by h told Y l) (plain_in_y h l (filter_by h told Y l) (sample_at num a.planes.now.y) (tx_width (block_by h told Y l).area.tx_size) a.buffers.now.luma.items) h a.y.now a.planes.now.y in
     let same_u = luma_same num g.T.Pixel.pixel plan 1 (λ _. ac_at (tx_width (block_by h told U l).area.tx_size) luma) (luma_for h samples U) (block_by h told U l) (luma_in_u h samples l luma holds (filter_by h told U l)) h a.u.now a.planes.now.u in
     let same_v = luma_same num g.T.Pixel.pixel plan 2 (λ _. ac_at (tx_width (block_by h told V l).area.tx_size) luma) (luma_for h samples V) (block_by h told V l) (luma_in_v h samples l luma holds (filter_by h told V l)) h a.v.now a.planes.now.v in
     leaf_walked num g.T.Pixel.pixel plan a.planes.now _ (λ k. block_by h told k l) l carried
-    (c.reconstruct_leaf_in.ensures.walked ∙ same_y) (c.reconstruct_leaf_in-then-carries_chroma.ensures.walked ∙ same_u) (c.reconstruct_leaf_in-then-carries_chroma-2.ensures.walked ∙ same_v)
+    (c.reconstruct_leaf_in.ensures.walked ∙ same_y) (c.reconstruct_leaf_in-then-carries_chroma.ensures.walked ∙ same_u)
+    (c.reconstruct_leaf_in-then-carries_chroma-2.ensures.walked
+    ∙ ap (λ (ac : List ℤ). fold (fast_in num g.T.Pixel.pixel plan 2 (λ _. ac_at (tx_width (block_by h told V l).area.tx_size) ac)) a.planes.now.v (plane_steps h (block_by h told V l) a.v.now)) c.reconstruct_leaf_in-then-carries_chroma.ensures.luma ∙ same_v)
 
 pub returns-after-is_from_luma-clause-counted : goal.returns-after-is_from_luma-clause-counted
 returns-after-is_from_luma-clause-counted g c =
@@ -65,8 +74,13 @@ returns-after-is_from_luma-clause-counted g c =
     let h = (plan_value a.plan.now).header in
     let l = leaf_with a.leaf.now a.y.now a.u.now a.v.now in
     let carried : carries_chroma h l.x l.y l.size ≡ true = ap (λ (k : Header). carries_chroma k l.x l.y l.size) (sym c.header.ensures.value) ∙ sym c.carries_chroma.ensures ∙ c.if-carries_chroma.true in
-    leaf_counted h (λ k. block_by h (cell_at a.cells.now) k l) l a.edges.now.prepared c.reconstruct_leaf_in.new.edges.prepared c.reconstruct_leaf_in-then-carries_chroma.new.edges.prepared c.reconstruct_leaf_in-then-carries_chroma-2.new.edges.prepared carried
-    c.reconstruct_leaf_in.ensures.counted c.reconstruct_leaf_in-then-carries_chroma.ensures.counted c.reconstruct_leaf_in-then-carries_chroma-2.ensures.counted
+    let kept : c.if-is_from_luma.buffers.edges.prepared ≡ c.reconstruct_leaf_in.new.buffers.edges.prepared =
+    elim c.if-is_from_luma.branch [
+      | then-is_from_luma w ↦ ap (λ (b : _). b.edges.prepared) w.buffers-is
+      | else-is_from_luma w ↦ ap (λ (b : _). b.edges.prepared) w.buffers-is
+    ] in
+    leaf_counted h (λ k. block_by h (cell_at a.cells.now) k l) l a.buffers.now.edges.prepared c.reconstruct_leaf_in.new.buffers.edges.prepared c.reconstruct_leaf_in-then-carries_chroma.new.buffers.edges.prepared c.reconstruct_leaf_in-then-carries_chroma-2.new.buffers.edges.prepared carried
+    c.reconstruct_leaf_in.ensures.counted (c.reconstruct_leaf_in-then-carries_chroma.ensures.counted ∙ ap (λ (n : ℕ). fold edges_in n (plane_steps h (block_by h (cell_at a.cells.now) U l) a.u.now)) kept) c.reconstruct_leaf_in-then-carries_chroma-2.ensures.counted
 
 pub returns-else-carries_chroma-clause-walked : goal.returns-else-carries_chroma-clause-walked
 returns-else-carries_chroma-clause-walked g c =
@@ -79,7 +93,7 @@ returns-else-carries_chroma-clause-walked g c =
     let carried : carries_chroma h l.x l.y l.size ≡ false = ap (λ (k : Header). carries_chroma k l.x l.y l.size) (sym c.header.ensures.value) ∙ sym c.carries_chroma.ensures ∙ c.if-carries_chroma.false in
     let block = block_by h told Y l in
     let before = sample_at num a.planes.now.y in
-    let same_y = luma_same num g.T.Pixel.pixel plan 0 (λ _. ac_at (tx_width block.area.tx_size) a.luma.now) (luma_for h before Y) block (plain_in_y h l (filter_by h told Y l) before (tx_width block.area.tx_size) a.luma.now) h a.y.now a.planes.now.y in
+    let same_y = luma_same num g.T.Pixel.pixel plan 0 (λ _. ac_at (tx_width block.area.tx_size) a.buffers.now.luma.items) (luma_for h before Y) block (plain_in_y h l (filter_by h told Y l) before (tx_width block.area.tx_size) a.buffers.now.luma.items) h a.y.now a.planes.now.y in
     luma_walked num g.T.Pixel.pixel plan a.planes.now _ (λ k. block_by h told k l) l carried (c.reconstruct_leaf_in.ensures.walked ∙ same_y) refl refl
 
 pub returns-else-carries_chroma-clause-counted : goal.returns-else-carries_chroma-clause-counted
@@ -88,4 +102,4 @@ returns-else-carries_chroma-clause-counted g c =
     let h = (plan_value a.plan.now).header in
     let l = leaf_with a.leaf.now a.y.now a.u.now a.v.now in
     let carried : carries_chroma h l.x l.y l.size ≡ false = ap (λ (k : Header). carries_chroma k l.x l.y l.size) (sym c.header.ensures.value) ∙ sym c.carries_chroma.ensures ∙ c.if-carries_chroma.false in
-    luma_counted h (λ k. block_by h (cell_at a.cells.now) k l) l a.edges.now.prepared c.reconstruct_leaf_in.new.edges.prepared carried c.reconstruct_leaf_in.ensures.counted
+    luma_counted h (λ k. block_by h (cell_at a.cells.now) k l) l a.buffers.now.edges.prepared c.reconstruct_leaf_in.new.buffers.edges.prepared carried c.reconstruct_leaf_in.ensures.counted

@@ -53,7 +53,7 @@ loop-index-preserved g c =
     let step = fast_step g.T.Pixel.num g.T.Pixel.pixel (plan_value plan) in
     record {
       walked = leaf_more step plan i _ start c.args.planes.now c.loop-index.planes c.reconstruct_leaf.new.planes a.inside a.is held.walked (turn.walked ∙ ap (fold step c.loop-index.planes) own);
-      counted = leaf_more edges_after plan i _ start c.args.edges.now.prepared c.loop-index.edges.prepared c.reconstruct_leaf.new.edges.prepared a.inside a.is held.counted (turn.counted ∙ ap (fold edges_after c.loop-index.edges.prepared) own);
+      counted = leaf_more edges_after plan i _ start c.args.buffers.now.edges.prepared c.loop-index.buffers.edges.prepared c.reconstruct_leaf.new.buffers.edges.prepared a.inside a.is held.counted (turn.counted ∙ ap (fold edges_after c.loop-index.buffers.edges.prepared) own);
       stores = turn.stores;
       layout = layout_kept c.args.planes.now c.loop-index.planes c.reconstruct_leaf.new.planes held.layout turn.layout;
       cells = subst (λ (k : Header). HasCells k c.note.new.self) c.header.ensures.value c.note.ensures.cells;
@@ -73,4 +73,4 @@ returns-clause-counted g c =
     let plan = c.args.plan.now in
     let all = (plan_value plan).leaves in
     let past : length all ≤ c.loop-index.index = omega (arith, length_leaves (stored_triples plan) (stored_leaves plan), ap length c.leaves-index-end.ensures.items) in
-    c.loop-index.invariant.counted ∙ ap (λ (ls : List LeafValue). fold edges_after c.args.edges.now.prepared (steps_by (plan_value plan).header (cell_at c.args.cells.now) ls)) (take_all c.loop-index.index all past)
+    c.loop-index.invariant.counted ∙ ap (λ (ls : List LeafValue). fold edges_after c.args.buffers.now.edges.prepared (steps_by (plan_value plan).header (cell_at c.args.cells.now) ls)) (take_all c.loop-index.index all past)

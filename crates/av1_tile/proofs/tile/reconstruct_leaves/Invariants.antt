@@ -11,7 +11,7 @@ invariant-loop-index g l =
     let done = take l.index p.leaves in
     record {
       walked : l.planes ≡ fold (fast_step g.T.Pixel.num g.T.Pixel.pixel p) l.initial.planes (steps_by p.header (cell_at l.initial.cells) done);
-      counted : l.edges.prepared ≡ fold edges_after l.initial.edges.prepared (steps_by p.header (cell_at l.initial.cells) done);
+      counted : l.buffers.edges.prepared ≡ fold edges_after l.initial.buffers.edges.prepared (steps_by p.header (cell_at l.initial.cells) done);
       stores : StoresAll g.T.Pixel.num p.header l.planes;
       layout : SameLayout l.initial.planes l.planes;
       cells : HasCells p.header l.cells;

@@ -1,5 +1,7 @@
-use Rattle.std.proofs.Common.{ℕ, zero, suc, ◌<◌, ◌≡◌, [], Option, arith, refl, sym, subst, ap, ◌∙◌}
+use Rattle.std.proofs.Common.{ℕ, ◌<◌, ◌≡◌, [], Option, arith, sym, subst, ap, ◌∙◌}
 use Rattle.std.specs.List.{fold}
+use Rattle.av1_blocks.specs.Transforms.{tx_width}
+use Rattle.av1_intra.specs.ChromaFromLuma.{ac_at}
 use Rattle.av1_intra.specs.declared.neighbours.IntraEdgeFilterParameters.{IntraEdgeFilterParameters}
 use Rattle.av1_plan.specs.Answer.{plan_value}
 use Rattle.av1_plan.specs.declared.geometry.PlaneArea.{PlaneArea}
@@ -7,16 +9,11 @@ use Rattle.av1_plan.specs.declared.header.Header.{Header}
 use Rattle.av1_plan.specs.Geometry.{plane_area}
 use Rattle.av1_plan.specs.Plan.{LeafValue}
 use Rattle.av1_tile.specs.declared.plane_block.PlaneBlock.{PlaneBlock}
-use Rattle.av1_tile.specs.PlaneBlocks.{number, component, block_told}
+use Rattle.av1_tile.specs.PlaneBlocks.{component, block_told}
 use Rattle.av1_tile.specs.Steps.{plane_steps}
-use Rattle.av1_tile.specs.Walk.{BlockFits, Stores, Told, block_by, cell_at, edges_in, leaf_with, parameters_by}
+use Rattle.av1_tile.specs.Walk.{BlockFits, Stores, Told, block_by, cell_at, edges_in, fast_in, leaf_with, parameters_by}
+use Rattle.av1_tile.proofs.Lifts.{number_component}
 use Rattle.av1_tile.proofs.walk.reconstruct_leaf_in.Goals as goal
-
-number_component : (p : ℕ) → p < 3 → number (component p) ≡ p
-number_component zero h = refl
-number_component (suc zero) h = refl
-number_component (suc (suc zero)) h = refl
-number_component (suc (suc (suc p))) h = absurd (omega arith)
 
 -- a block that is made of what the edge filter is told at its place
 block_is : (h k : Header) (told : Told) (p : ℕ) (l : LeafValue) (area : PlaneArea) (filter : Option IntraEdgeFilterParameters) (block : PlaneBlock) → p < 3 → k ≡ h
@@ -26,6 +23,10 @@ block_is h k told p l area filter block few same at e is =
     e ∙ ap (parameters_by k told p) at ∙ ap (λ (g : Header). parameters_by g told p (plane_area g l.x l.y l.size l.tx_size p)) same in
     is ∙ ap (λ (g : Header). block_told g filter (component p) l) same
     ∙ ap (λ (o : Option IntraEdgeFilterParameters). block_told h o (component p) l) (there ∙ ap (λ (n : ℕ). parameters_by h told n (plane_area h l.x l.y l.size l.tx_size n)) (sym (number_component p few)))
+
+pub reconstruct_plane_block-requires-clause-plane : goal.reconstruct_plane_block-requires-clause-plane
+reconstruct_plane_block-requires-clause-plane g c =
+    omega (arith, ap (λ (b : PlaneBlock). b.plane) c.of_leaf-block.ensures, number_component c.args.p c.requires.plane, c.requires.plane)
 
 pub reconstruct_plane_block-requires-clause-stores : goal.reconstruct_plane_block-requires-clause-stores
 reconstruct_plane_block-requires-clause-stores g c =
@@ -45,4 +46,17 @@ returns-clause-counted g c =
     let a = c.args in
     let h = (plan_value a.plan.now).header in
     let is = block_is h c.header-header.result.now (cell_at a.cells.now) a.p (leaf_with a.leaf.now [] [] []) c.plane_area.result c.filter_parameters-filter.result c.of_leaf-block.result c.requires.plane c.header-header.ensures.value c.plane_area.ensures c.filter_parameters-filter.ensures c.of_leaf-block.ensures in
-    c.reconstruct_plane_block.ensures.counted ∙ ap (λ (b : PlaneBlock). fold edges_in a.edges.now.prepared (plane_steps h b a.triples.now)) is
+    c.reconstruct_plane_block.ensures.counted ∙ ap (λ (b : PlaneBlock). fold edges_in a.buffers.now.edges.prepared (plane_steps h b a.triples.now)) is
+
+pub returns-clause-walked : goal.returns-clause-walked
+returns-clause-walked g c =
+    let a = c.args in
+    let plan = plan_value a.plan.now in
+    let h = plan.header in
+    let num = g.T.Pixel.num in
+    let pixel = g.T.Pixel.pixel in
+    let block = block_by h (cell_at a.cells.now) (component a.p) (leaf_with a.leaf.now [] [] []) in
+    let is = block_is h c.header-header.result.now (cell_at a.cells.now) a.p (leaf_with a.leaf.now [] [] []) c.plane_area.result c.filter_parameters-filter.result c.of_leaf-block.result c.requires.plane c.header-header.ensures.value c.plane_area.ensures c.filter_parameters-filter.ensures c.of_leaf-block.ensures in
+    c.reconstruct_plane_block.ensures.walked
+    ∙ ap (λ (b : PlaneBlock). fold (fast_in num pixel plan b.plane (λ _. ac_at (tx_width b.area.tx_size) a.buffers.now.luma.items)) a.plane.now (plane_steps h b a.triples.now)) is
+    ∙ ap (λ (n : ℕ). fold (fast_in num pixel plan n (λ _. ac_at (tx_width block.area.tx_size) a.buffers.now.luma.items)) a.plane.now (plane_steps h block a.triples.now)) (number_component a.p c.requires.plane)

@@ -1,100 +1,61 @@
-use Rattle.std.proofs.Common.{ℕ, ◌+◌, ◌-◌, ◌*◌, ◌≡◌, take, drop, None, refl, arith, ap, ◌∙◌, sym, subst, ℤ}
-use Rattle.std.specs.List.{fold}
+use Rattle.std.proofs.Common.{ℕ, ◌∙◌, arith, ℤ}
 use Rattle.av1_blocks.specs.Transforms.{tx_width}
-use Rattle.av1_frame.specs.declared.plane.Plane.{Plane}
 use Rattle.av1_intra.specs.ChromaFromLuma.{ac_at}
 use Rattle.av1_plan.specs.Answer.{plan_value}
-use Rattle.av1_plan.specs.declared.header.Header.{Header}
-use Rattle.av1_plan.specs.Geometry.{transform_block}
 use Rattle.av1_tile.specs.declared.plane_block.PlaneBlock.{PlaneBlock}
-use Rattle.av1_tile.specs.Steps.{steps_at}
-use Rattle.av1_tile.specs.Walk.{Stores, edges_in, fast_in}
-use Rattle.av1_tile.proofs.BlockTriples.{IsRun, run_within, run_before, run_behind, run_is_own, own_edges, own_fits, own_steps}
-use Rattle.av1_tile.proofs.BlockSteps.{no_steps, some_across}
-use Rattle.av1_tile.proofs.Loops.{fold_joined_more, fold_joined_none}
-use Rattle.av1_tile.proofs.walk.reconstruct_plane_block.Goals.{in-Some, in_default}
+use Rattle.av1_tile.specs.Reference.{no_luma}
+use Rattle.av1_tile.specs.Walk.{edges_in, fast_in}
+use Rattle.av1_tile.proofs.BlockSteps.{all_steps, fits_laid, whole_between, whole_counted, whole_inside, whole_layout}
+use Rattle.av1_tile.proofs.Lifts.{whole_steps_same}
 use Rattle.av1_tile.proofs.walk.reconstruct_plane_block.Goals as goal
 
-pub loop-n-init : goal.loop-n-init
-loop-n-init g c =
+pub predict_whole-requires-clause-depth : goal.predict_whole-requires-clause-depth
+predict_whole-requires-clause-depth g c = omega (arith, c.requires.references.settings.depth, c.requires.depth)
+
+pub predict_whole-requires-clause-fits : goal.predict_whole-requires-clause-fits
+predict_whole-requires-clause-fits g c =
+    let a = c.args in
+    whole_inside (plan_value a.plan.now).header a.block.now a.triples.now a.plane.now c.requires.stores.place c.requires.fits
+
+pub predict_whole-requires-clause-references : goal.predict_whole-requires-clause-references
+predict_whole-requires-clause-references g c = (plan_value c.args.plan.now, (c.requires.references, c.requires.fits.prediction))
+
+pub reconstruct_blocks-requires-clause-stores : goal.reconstruct_blocks-requires-clause-stores
+reconstruct_blocks-requires-clause-stores g c =
+    let a = c.args in
+    let plan = plan_value a.plan.now in
+    whole_between g.T.Pixel.num g.T.Pixel.pixel g.met.T.Pixel.num_of_pixel g.met.T.Pixel.pixel_of_num plan a.fi.now c.requires.references a.block.now c.requires.plane c.requires.fits.prediction
+    a.plane.now c.predict_whole.new.plane (c.predict_whole.ensures plan c.requires.references c.requires.fits.prediction) c.requires.stores
+
+pub reconstruct_blocks-requires-clause-fits : goal.reconstruct_blocks-requires-clause-fits
+reconstruct_blocks-requires-clause-fits g c =
+    let a = c.args in
+    let plan = plan_value a.plan.now in
+    let laid = whole_layout g.T.Pixel.num g.T.Pixel.pixel g.met.T.Pixel.num_of_pixel g.met.T.Pixel.pixel_of_num plan a.fi.now c.requires.references a.block.now c.requires.plane c.requires.fits.prediction
+    a.plane.now c.predict_whole.new.plane (c.predict_whole.ensures plan c.requires.references c.requires.fits.prediction) in
+    fits_laid plan.header a.block.now a.triples.now a.plane.now.plane_cfg c.predict_whole.new.plane.plane_cfg laid c.requires.fits
+
+pub returns-clause-walked : goal.returns-clause-walked
+returns-clause-walked g c =
     let a = c.args in
     let plan = plan_value a.plan.now in
     let block = a.block.now in
-    let luma : PlaneBlock → ℕ → ℕ → ℤ = λ _. ac_at (tx_width block.area.tx_size) a.luma.now in
-    let steps = steps_at plan.header block a.triples.now in
-    record {
-      walked = fold_joined_none (fast_in g.T.Pixel.num g.T.Pixel.pixel plan block.plane luma) a.plane.now steps;
-      counted = fold_joined_none edges_in a.edges.now.prepared steps;
-      stores = c.requires.stores;
-      config = refl;
-      within = omega arith;
-      before = λ k d l. absurd (omega (arith, l));
-      behind = λ k d le l. omega arith;
-      column = λ l. omega (arith, some_across block.area (omega (arith, l, c.block_count-n-end.ensures.value)), c.blocks_across-across.ensures.value);
-      number = omega arith;
-    }
-
-pub reconstruct_block-requires-clause-fits : goal.reconstruct_block-requires-clause-fits
-reconstruct_block-requires-clause-fits g c =
-    let a = c.args in
-    own_fits a.plane.now.plane_cfg c.loop-n.plane.plane_cfg (plan_value a.plan.now).header a.block.now a.triples.now c.loop-n.at (c.loop-n.at + c.leading_count.result - c.loop-n.at) c.loop-n.invariant.config c.requires.fits
-
-pub loop-n-preserved : goal.loop-n-preserved
-loop-n-preserved g c =
-    let a = c.args in
-    let plan = plan_value a.plan.now in
-    let h = plan.header in
-    let block = a.block.now in
-    let all = a.triples.now in
-    let luma : PlaneBlock → ℕ → ℕ → ℤ = λ _. ac_at (tx_width block.area.tx_size) a.luma.now in
+    let luma : PlaneBlock → ℕ → ℕ → ℤ = λ _. ac_at (tx_width block.area.tx_size) a.buffers.now.luma.items in
     let step = fast_in g.T.Pixel.num g.T.Pixel.pixel plan block.plane luma in
-    let n = c.loop-n.n in
-    let at = c.loop-n.at in
-    let count = c.leading_count.result in
-    let end = at + count in
-    let before = c.loop-n.plane in
-    let after = c.match-place_in.plane in
-    let edges = c.loop-n.edges.prepared in
-    let edges_after = c.match-place_in.edges.prepared in
-    let held = c.loop-n.invariant in
-    let run : IsRun n all at count = record {
-      within = held.within;
-      before = held.before;
-      behind = held.behind;
-      rising = c.requires.fits.rising;
-      counted = c.leading_count.ensures.within;
-      own = c.leading_count.ensures.own;
-      end = c.leading_count.ensures.end;
-    } in
-    let turn : (after ≡ fold step before (steps_at h block all n)) × (edges_after ≡ fold edges_in edges (steps_at h block all n)) × Stores g.T.Pixel.num h block.plane after × (after.plane_cfg ≡ before.plane_cfg) =
-    elim c.match-place_in.branch [
-      | in-Some w ↦
-          let number : w.in-Some.place.number ≡ n = w.in-Some.ensures.some.1 ∙ held.number in
-          let one = w.reconstruct_block.ensures in
-          let own = take (end - at) (drop at all) in (
-            w.plane-is ∙ one.walked ∙ ap (λ (m : ℕ). fold step before (steps_at h block own m)) number ∙ own_steps g.T.Pixel.num g.T.Pixel.pixel plan block.plane luma h block all n at end before (run_is_own n all at count run),
-            ap (λ (e : _). e.prepared) w.edges-is ∙ one.counted ∙ ap (λ (m : ℕ). fold edges_in edges (steps_at h block own m)) number ∙ own_edges h block own all n edges,
-            subst (Stores g.T.Pixel.num h block.plane) (sym w.plane-is) one.stores,
-            ap (λ (p : Plane _). p.plane_cfg) w.plane-is ∙ one.config,
-          )
-      | in_default w ↦
-          let here = c.loop-n.place.1 * c.blocks_across-across.result + c.loop-n.place.0 in
-          let none : transform_block h block.plane block.area n ≡ None =
-          ap (transform_block h block.plane block.area) (sym held.number) ∙ ap (λ (k : Header). transform_block k block.plane block.area here) (sym c.header.ensures.value) ∙ w.in_default.ensures.none in (
-            w.plane-is ∙ no_steps step h block all n before none,
-            ap (λ (e : _). e.prepared) w.edges-is ∙ no_steps edges_in h block all n edges none,
-            subst (Stores g.T.Pixel.num h block.plane) (sym w.plane-is) held.stores,
-            ap (λ (p : Plane _). p.plane_cfg) w.plane-is,
-          )
-    ] in
-    record {
-      walked = fold_joined_more step a.plane.now before after n (steps_at h block all) held.walked turn.0;
-      counted = fold_joined_more edges_in a.edges.now.prepared edges edges_after n (steps_at h block all) held.counted turn.1;
-      stores = turn.2;
-      config = turn.3 ∙ held.config;
-      within = run_within n all at count run;
-      before = run_before n all at count run;
-      behind = run_behind n all at count run;
-      column = λ l. c.next_place-place.ensures.column;
-      number = c.next_place-place.ensures.number ∙ ap (λ (m : ℕ). m + 1) held.number;
-    }
+    all_steps step plan.header block a.triples.now a.plane.now c.predict_whole.new.plane c.reconstruct_blocks.new.plane
+    (c.predict_whole.ensures plan c.requires.references c.requires.fits.prediction ∙ whole_steps_same g.T.Pixel.num g.T.Pixel.pixel plan block.plane (λ _. no_luma) luma block a.plane.now)
+    c.reconstruct_blocks.ensures.walked
+
+pub returns-clause-counted : goal.returns-clause-counted
+returns-clause-counted g c =
+    let a = c.args in
+    let count = a.buffers.now.edges.prepared in
+    all_steps edges_in (plan_value a.plan.now).header a.block.now a.triples.now count count c.reconstruct_blocks.new.buffers.edges.prepared (whole_counted a.block.now count) c.reconstruct_blocks.ensures.counted
+
+pub returns-clause-config : goal.returns-clause-config
+returns-clause-config g c =
+    let a = c.args in
+    let plan = plan_value a.plan.now in
+    c.reconstruct_blocks.ensures.config
+    ∙ whole_layout g.T.Pixel.num g.T.Pixel.pixel g.met.T.Pixel.num_of_pixel g.met.T.Pixel.pixel_of_num plan a.fi.now c.requires.references a.block.now c.requires.plane c.requires.fits.prediction
+    a.plane.now c.predict_whole.new.plane (c.predict_whole.ensures plan c.requires.references c.requires.fits.prediction)

@@ -1,4 +1,5 @@
-use Rattle.av1_tile.proofs.PlanFits.{across, down, deep}
+use Rattle.av1_tile.proofs.PlanFits.{across, down}
+use Rattle.av1_tile.proofs.WithinDepth.{deep}
 use Rattle.av1_tile.proofs.state.TileState.new.Goals as goal
 
 pub plane_of_frame-requires-clause-columns : goal.plane_of_frame-requires-clause-columns

@@ -6,15 +6,16 @@ use Rattle.av1_plan.specs.Answer.{plan_value}
 use Rattle.av1_plan.specs.declared.leaf.Triple.{Triple}
 use Rattle.av1_tile.specs.Steps.{joined, steps_at}
 use Rattle.av1_tile.specs.Walk.{Stores, edges_in, fast_in}
-use Rattle.av1_tile.proofs.walk.reconstruct_plane_block.Given as goal
+use Rattle.av1_tile.proofs.walk.reconstruct_blocks.Given as goal
 
 abbrev pub invariant-loop-n : goal.invariant-loop-n
 invariant-loop-n g l =
     record {
-      walked : l.plane ≡ fold (fast_in g.T.Pixel.num g.T.Pixel.pixel (plan_value l.plan) l.block.plane (λ _. ac_at (tx_width l.block.area.tx_size) l.luma)) l.initial.plane (joined l.n (steps_at (plan_value l.plan).header l.block l.triples));
-      counted : l.edges.prepared ≡ fold edges_in l.initial.edges.prepared (joined l.n (steps_at (plan_value l.plan).header l.block l.triples));
+      walked : l.plane ≡ fold (fast_in g.T.Pixel.num g.T.Pixel.pixel (plan_value l.plan) l.block.plane (λ _. ac_at (tx_width l.block.area.tx_size) l.initial.buffers.luma.items)) l.initial.plane (joined l.n (steps_at (plan_value l.plan).header l.block l.triples));
+      counted : l.buffers.edges.prepared ≡ fold edges_in l.initial.buffers.edges.prepared (joined l.n (steps_at (plan_value l.plan).header l.block l.triples));
       stores : Stores g.T.Pixel.num (plan_value l.plan).header l.block.plane l.plane;
       config : l.plane.plane_cfg ≡ l.initial.plane.plane_cfg;
+      luma : l.buffers.luma.items ≡ l.initial.buffers.luma.items;
       within : l.at ≤ length l.triples;
       before : (k : ℕ) (d : Triple) → k < l.at → (get_or l.triples k d).block < l.n;
       behind : (k : ℕ) (d : Triple) → l.at ≤ k → k < length l.triples → l.n ≤ (get_or l.triples k d).block;
