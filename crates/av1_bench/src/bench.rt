@@ -11,8 +11,8 @@ use std::num::NonZeroU32;
 ///
 /// # Errors
 ///
-/// `ReadFault` and `TooLong` while it reads, then `Malformed` or `NotBuilt`, then `Invalid`, then `WriteFault`. `Memory` may
-/// stand in place of any of them, before the first written byte.
+/// `ReadFault` and `TooLong` while it reads, then `Malformed`, then `Invalid`, then `WriteFault`. `Memory` may stand in
+/// place of any of them, before the first written byte.
 pub fn bench<R: Source, W: Sink>(
     alloc: Global,
     rounds: NonZeroU32,

@@ -11,7 +11,7 @@ use Rattle.av1_plan.specs.declared.plan.Plan.{Plan}
 use Rattle.av1_streams.specs.Faults.{FaultCounted}
 use Rattle.av1_streams.specs.Streams.{max_plan_bytes, AreBytes, AppendsPrefix}
 use Rattle.av1_recon.specs.declared.error.ReconError.{ReconError}
-use Rattle.av1_recon.specs.declared.error.ReconError.TheVariants.{ReadFault, TooLong, Malformed, NotBuilt, Invalid as InvalidLeaf, WriteFault, Memory}
+use Rattle.av1_recon.specs.declared.error.ReconError.TheVariants.{ReadFault, TooLong, Malformed, Invalid as InvalidLeaf, WriteFault, Memory}
 use Rattle.av1_recon.specs.Outcomes.{Outcome, Answer, ArePlan, HasOutcomeBy, IsRefusal, Tells, LeavesSource, Answered, Converts}
 use Rattle.av1_recon.specs.Reading.{ReadsPlan}
 use Rattle.av1_recon.specs.Writing.{Writes}
@@ -43,7 +43,6 @@ without_fault (Err ReadFault) written A B t a b na nb = absurd (na (a refl))
 without_fault (Err WriteFault) written A B t a b na nb = absurd (nb (b refl))
 without_fault (Err TooLong) written A B t a b na nb = absurd cc
 without_fault (Err (Malformed at)) written A B t a b na nb = absurd cc
-without_fault (Err (NotBuilt at)) written A B t a b na nb = absurd cc
 without_fault (Err (InvalidLeaf leaf kind)) written A B t a b na nb = absurd cc
 
 -- reading that ended did not fail
@@ -59,7 +58,6 @@ leaves_end (Err ReadFault) left left' n e = tt
 leaves_end (Err WriteFault) left left' n e = e
 leaves_end (Err TooLong) left left' n e = absurd (n refl)
 leaves_end (Err (Malformed at)) left left' n e = e
-leaves_end (Err (NotBuilt at)) left left' n e = e
 leaves_end (Err (InvalidLeaf leaf kind)) left left' n e = e
 
 -- what the bytes were answered with, case by case
@@ -76,7 +74,6 @@ answered_refused output bytes taken taken' (Err WriteFault) a = λ r. absurd r
 answered_refused output bytes taken taken' (Err Memory) a = λ r. absurd r
 answered_refused output bytes taken taken' (Err TooLong) a = λ r. a
 answered_refused output bytes taken taken' (Err (Malformed at)) a = λ r. a
-answered_refused output bytes taken taken' (Err (NotBuilt at)) a = λ r. a
 answered_refused output bytes taken taken' (Err (InvalidLeaf leaf kind)) a = λ r. a
 
 answered_prefix : (output : PlanValue → List ℕ) (bytes : List ℕ) (taken taken' : Option (List ℕ)) (answer : Answer) → Answered output bytes taken taken' answer
@@ -87,7 +84,6 @@ answered_prefix output bytes taken taken' (Err ReadFault) a h = absurd cc
 answered_prefix output bytes taken taken' (Err Memory) a h = absurd cc
 answered_prefix output bytes taken taken' (Err TooLong) a h = absurd cc
 answered_prefix output bytes taken taken' (Err (Malformed at)) a h = absurd cc
-answered_prefix output bytes taken taken' (Err (NotBuilt at)) a h = absurd cc
 answered_prefix output bytes taken taken' (Err (InvalidLeaf leaf kind)) a h = absurd cc
 
 -- an error's fact by another
@@ -191,10 +187,6 @@ refuses output left source_faults taken sink_faults source source' sink (Malform
     let (bytes, fits, short, consumed, found) = reads.read in
     converts output left source_faults taken sink_faults source source' sink sink bytes (Err (Malformed at)) fits short consumed found.1 reads.later found.0
     (λ h. absurd cc, λ h. absurd cc) (λ h. absurd cc) (λ h. refl) (omega arith)
-refuses output left source_faults taken sink_faults source source' sink (NotBuilt at) reads =
-    let (bytes, fits, short, consumed, found) = reads.read in
-    converts output left source_faults taken sink_faults source source' sink sink bytes (Err (NotBuilt at)) fits short consumed found.1 reads.later found.0
-    (λ h. absurd cc, λ h. absurd cc) (λ h. absurd cc) (λ h. refl) (omega arith)
 refuses output left source_faults taken sink_faults source source' sink (InvalidLeaf leaf kind) reads =
     let (bytes, fits, short, consumed, found) = reads.read in
     converts output left source_faults taken sink_faults source source' sink sink bytes (Err (InvalidLeaf leaf kind)) fits short consumed found.1 reads.later found.0
@@ -215,7 +207,6 @@ answered_by output taken faults sink sink' bytes plan (Err ReadFault) are valid 
 answered_by output taken faults sink sink' bytes plan (Err Memory) are valid w = tt
 answered_by output taken faults sink sink' bytes plan (Err TooLong) are valid w = let memory : TooLong ≡ Memory = (w.unwritten (λ h. absurd cc)).0 in absurd cc
 answered_by output taken faults sink sink' bytes plan (Err (Malformed at)) are valid w = let memory : Malformed at ≡ Memory = (w.unwritten (λ h. absurd cc)).0 in absurd cc
-answered_by output taken faults sink sink' bytes plan (Err (NotBuilt at)) are valid w = let memory : NotBuilt at ≡ Memory = (w.unwritten (λ h. absurd cc)).0 in absurd cc
 answered_by output taken faults sink sink' bytes plan (Err (InvalidLeaf leaf kind)) are valid w =
     let memory : InvalidLeaf leaf kind ≡ Memory = (w.unwritten (λ h. absurd cc)).0 in absurd cc
 

@@ -1,4 +1,5 @@
 pub mod Converting
+pub mod MadePlans
 pub mod Outcomes
 pub mod Reading
 pub mod RowSums
@@ -7,3 +8,4 @@ pub mod SampleBytes
 pub mod SamplesByBytes
 pub mod Statuses
 pub mod Summing
+pub mod WordNumbers

@@ -10,7 +10,7 @@ use Rattle.av1_streams.specs.Streams.{max_plan_bytes, AreBytes, Takes, TakesAtMo
 use Rattle.av1_streams.specs.declared.read.ReadError.{ReadError}
 use Rattle.av1_streams.specs.declared.read.ReadError.TheVariants as read_errors
 use Rattle.av1_recon.specs.declared.error.ReconError.{ReconError}
-use Rattle.av1_recon.specs.declared.error.ReconError.TheVariants.{ReadFault, TooLong, Malformed, NotBuilt, Invalid as InvalidLeaf, WriteFault, Memory}
+use Rattle.av1_recon.specs.declared.error.ReconError.TheVariants.{ReadFault, TooLong, Malformed, Invalid as InvalidLeaf, WriteFault, Memory}
 use Rattle.av1_recon.specs.Errors.{read_error}
 use Rattle.av1_recon.specs.Outcomes.{ArePlan, AreRefusedFor}
 use Rattle.av1_recon.specs.Reading.{Finds, ReadsPlan}
@@ -46,7 +46,6 @@ finds left faults source source' bytes (Err ReadFault) whole plan refused = absu
 finds left faults source source' bytes (Err WriteFault) whole plan refused = absurd (refused (λ h. absurd cc))
 finds left faults source source' bytes (Err TooLong) whole plan refused = absurd (omega (arith, whole.short, refused (λ h. absurd cc)))
 finds left faults source source' bytes (Err (Malformed at)) whole plan refused = found left faults source source' bytes (Err (Malformed at)) whole (refused (λ h. absurd cc), whole.end) (λ h. absurd cc)
-finds left faults source source' bytes (Err (NotBuilt at)) whole plan refused = found left faults source source' bytes (Err (NotBuilt at)) whole (refused (λ h. absurd cc), whole.end) (λ h. absurd cc)
 finds left faults source source' bytes (Err (InvalidLeaf leaf kind)) whole plan refused =
     found left faults source source' bytes (Err (InvalidLeaf leaf kind)) whole (refused (λ h. absurd cc), whole.end) (λ h. absurd cc)
 

@@ -2,7 +2,7 @@
 use Rattle.std.proofs.Common.{◌≡◌, ◌⊎◌, inl, inr, Ok, Err, refl}
 use Rattle.std.specs.Prelude.{IsOk, IsErrOf}
 use Rattle.av1_recon.specs.declared.error.ReconError.{ReconError}
-use Rattle.av1_recon.specs.declared.error.ReconError.TheVariants.{ReadFault, TooLong, Malformed, NotBuilt, Invalid, WriteFault, Memory}
+use Rattle.av1_recon.specs.declared.error.ReconError.TheVariants.{ReadFault, TooLong, Malformed, Invalid, WriteFault, Memory}
 use Rattle.av1_recon.specs.Answers.{status_of}
 use Rattle.av1_recon.specs.Outcomes.{Answer, Tells}
 
@@ -14,7 +14,6 @@ status_complete (Err ReadFault) h = elim h [ inl ok ↦ absurd cc | inr memory �
 status_complete (Err WriteFault) h = elim h [ inl ok ↦ absurd cc | inr memory ↦ absurd cc ]
 status_complete (Err TooLong) h = elim h [ inl ok ↦ absurd cc | inr memory ↦ absurd cc ]
 status_complete (Err (Malformed at)) h = elim h [ inl ok ↦ absurd cc | inr memory ↦ absurd cc ]
-status_complete (Err (NotBuilt at)) h = elim h [ inl ok ↦ absurd cc | inr memory ↦ absurd cc ]
 status_complete (Err (Invalid leaf kind)) h = elim h [ inl ok ↦ absurd cc | inr memory ↦ absurd cc ]
 
 -- where the bytes are refused
@@ -25,5 +24,4 @@ status_refused (Err ReadFault) e h = inr (inr refl)
 status_refused (Err WriteFault) e h = absurd cc
 status_refused (Err TooLong) e h = inl refl
 status_refused (Err (Malformed at)) e h = inl refl
-status_refused (Err (NotBuilt at)) e h = inl refl
 status_refused (Err (Invalid leaf kind)) e h = inl refl

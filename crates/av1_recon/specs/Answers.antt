@@ -6,7 +6,7 @@ use Rattle.av1_plan.specs.declared.error.InvalidKind.TheVariants as kinds
 use Rattle.av1_streams.specs.Faults.{FaultCounted}
 use Rattle.av1_streams.specs.Streams.{AppendsPrefix}
 use Rattle.av1_recon.specs.declared.error.ReconError.{ReconError}
-use Rattle.av1_recon.specs.declared.error.ReconError.TheVariants.{ReadFault, TooLong, Malformed, NotBuilt, Invalid, WriteFault, Memory}
+use Rattle.av1_recon.specs.declared.error.ReconError.TheVariants.{ReadFault, TooLong, Malformed, Invalid, WriteFault, Memory}
 use Rattle.av1_recon.specs.Outcomes.{Answer}
 
 -- the exit status of an answer
@@ -14,7 +14,6 @@ abbrev pub status_of : Answer → ℕ
 status_of (Ok done) = 0
 status_of (Err TooLong) = 2
 status_of (Err (Malformed at)) = 2
-status_of (Err (NotBuilt at)) = 2
 status_of (Err (Invalid leaf kind)) = 2
 status_of (Err Memory) = 3
 status_of (Err ReadFault) = 4
@@ -34,7 +33,6 @@ abbrev pub error_line : ReconError → List ℕ
 error_line ReadFault = codes "read fault\n"
 error_line TooLong = codes "too long\n"
 error_line (Malformed at) = codes "malformed at " ++ decimal at ++ codes "\n"
-error_line (NotBuilt at) = codes "not built at " ++ decimal at ++ codes "\n"
 error_line (Invalid leaf kind) = codes "invalid leaf " ++ decimal leaf ++ codes ": " ++ kind_text kind ++ codes "\n"
 error_line WriteFault = codes "write fault\n"
 error_line Memory = codes "out of memory\n"

@@ -1,9 +1,34 @@
 -- The words after the program's name.
-use Rattle.std.specs.Prelude.{ℕ, List, [], ◌∷◌, Option, Some, None}
+use Rattle.std.specs.Prelude.{ℕ, List, [], ◌∷◌, Option, Some, None, option_and_then, bytes_eq, codes, if◌then◌else◌, ⊤}
+use Rattle.av1_generate.specs.Generator.{plan_bytes}
 use Rattle.av1_recon.specs.declared.command.Command.{Command}
-use Rattle.av1_recon.specs.declared.command.Command.TheVariants.{Reconstruct}
+use Rattle.av1_recon.specs.declared.command.Command.TheVariants.{Reconstruct, Make, Sum}
+use Rattle.av1_recon.specs.Made.{AreMadeSums}
+use Rattle.av1_recon.specs.Numbers.{number_of}
+use Rattle.av1_recon.specs.Outcomes.{Planes}
+
+-- the command of this name that has a number
+unfoldable pub named : List ℕ → ℕ → Option Command
+named name number = if bytes_eq name (codes "make") then Some (Make number) else if bytes_eq name (codes "sum") then Some (Sum number) else None
 
 -- what the words ask for, each word given by its bytes; None where they are no command
 abbrev pub command_of : List (List ℕ) → Option Command
 command_of [] = Some Reconstruct
-command_of (word ∷ words) = None
+command_of (word ∷ []) = None
+command_of (name ∷ word ∷ []) = option_and_then (named name) (number_of word)
+command_of (name ∷ word ∷ other ∷ words) = None
+
+-- the commands that read nothing
+abbrev pub ReadsNothing : Option Command → Type 0
+ReadsNothing (Some Reconstruct) = ⊥
+ReadsNothing (Some (Make number)) = ⊤
+ReadsNothing (Some (Sum number)) = ⊤
+ReadsNothing None = ⊥
+
+-- P holds of what the command writes where all goes well: the planes of the plan that the source told, the plan of its number, or
+-- the four lines on that plan
+abbrev pub Written : Option Command → Option (List ℕ) → (List ℕ → Type 0) → Type 0
+Written (Some Reconstruct) left P = Planes left P
+Written (Some (Make number)) left P = P (plan_bytes number)
+Written (Some (Sum number)) left P = (lines : List ℕ) × AreMadeSums number lines × P lines
+Written None left P = ⊥

@@ -16,7 +16,6 @@ read_error read_errors.Memory = errors.Memory
 -- an error of parsing
 abbrev pub plan_error : PlanError → ReconError
 plan_error (plan_errors.Malformed at) = errors.Malformed at
-plan_error (plan_errors.NotBuilt at) = errors.NotBuilt at
 plan_error plan_errors.Memory = errors.Memory
 
 -- the first faulty leaf and its first reason

@@ -4,5 +4,6 @@ pub mod Reading
 pub mod Writing
 pub mod Answers
 pub mod Lines
+pub mod Made
 pub mod Numbers
 pub mod Commands

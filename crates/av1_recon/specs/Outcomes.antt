@@ -1,7 +1,6 @@
 -- The outcome of a plan's bytes, and what a call does that reads them from a source and writes it to a sink.
 use Rattle.std.specs.Prelude.{◌≡◌, ◌≢◌, ◌⊎◌, ℕ, ◌+◌, ◌<◌, ◌≤◌, List, length, Option, Some, None, Result, Ok, Err, OnOk, IfErr, IsOk, IsErrOf, IfSome, ⊤}
 use Rattle.std.specs.Io.KnownBytes.{Appends, Consumes, IsAtEnd}
-use Rattle.av1_plan.specs.Format.{malformed, not_built}
 use Rattle.av1_plan.specs.Grammar.{plan}
 use Rattle.av1_plan.specs.Plan.{PlanValue}
 use Rattle.av1_plan.specs.Spelling.{AreText, AreRefused}
@@ -10,7 +9,7 @@ use Rattle.av1_streams.specs.Faults.{FaultCounted}
 use Rattle.av1_streams.specs.Streams.{max_plan_bytes, AreBytes, Takes, TakesAtMost, AppendsPrefix}
 use Rattle.av1_tile.specs.Output.{planes_of}
 use Rattle.av1_recon.specs.declared.error.ReconError.{ReconError}
-use Rattle.av1_recon.specs.declared.error.ReconError.TheVariants.{ReadFault, TooLong, Malformed, NotBuilt, Invalid as InvalidLeaf, WriteFault, Memory}
+use Rattle.av1_recon.specs.declared.error.ReconError.TheVariants.{ReadFault, TooLong, Malformed, Invalid as InvalidLeaf, WriteFault, Memory}
 
 -- the bytes that are to be written, or why there are none
 abbrev pub Outcome : Type 0
@@ -29,8 +28,7 @@ ArePlan bytes value = (length bytes ≤ max_plan_bytes) × AreText plan bytes va
 -- Why bytes are refused: they are too long, or no text of a plan, or the text of a plan whose first faulty leaf has this fault.
 abbrev pub AreRefusedFor : List ℕ → ReconError → Type 0
 AreRefusedFor bytes TooLong = max_plan_bytes < length bytes
-AreRefusedFor bytes (Malformed at) = (length bytes ≤ max_plan_bytes) × AreRefused plan bytes (malformed at)
-AreRefusedFor bytes (NotBuilt at) = (length bytes ≤ max_plan_bytes) × AreRefused plan bytes (not_built at)
+AreRefusedFor bytes (Malformed at) = (length bytes ≤ max_plan_bytes) × AreRefused plan bytes at
 AreRefusedFor bytes (InvalidLeaf leaf kind) = (value : PlanValue) × ArePlan bytes value × (first_fault value ≡ Some (record { leaf = leaf; kind = kind }))
 AreRefusedFor bytes ReadFault = ⊥
 AreRefusedFor bytes WriteFault = ⊥
@@ -60,7 +58,6 @@ Planes left P = Outputs planes_of left P
 abbrev pub IsRefusal : ReconError → Type 0
 IsRefusal TooLong = ⊤
 IsRefusal (Malformed at) = ⊤
-IsRefusal (NotBuilt at) = ⊤
 IsRefusal (InvalidLeaf leaf kind) = ⊤
 IsRefusal ReadFault = ⊥
 IsRefusal WriteFault = ⊥

@@ -62,7 +62,6 @@ fn error_line(error: ReconError) -> Line
         ReconError::ReadFault => plain_line(b"read fault"),
         ReconError::TooLong => plain_line(b"too long"),
         ReconError::Malformed { at } => numbered_line(b"malformed at ", at),
-        ReconError::NotBuilt { at } => numbered_line(b"not built at ", at),
         ReconError::Invalid { leaf, kind } => invalid_line(leaf, kind),
         ReconError::WriteFault => plain_line(b"write fault"),
         ReconError::Memory => plain_line(b"out of memory"),
@@ -79,10 +78,7 @@ pub fn report<E: Sink>(answer: Result<(), ReconError>, err: &mut E) -> u8
     };
     say(error_line(error).as_bytes(), err);
     match error {
-        ReconError::TooLong
-        | ReconError::Malformed { .. }
-        | ReconError::NotBuilt { .. }
-        | ReconError::Invalid { .. } => 2,
+        ReconError::TooLong | ReconError::Malformed { .. } | ReconError::Invalid { .. } => 2,
         ReconError::Memory => 3,
         ReconError::ReadFault => 4,
         ReconError::WriteFault => 5,

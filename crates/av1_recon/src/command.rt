@@ -1,12 +1,18 @@
 //! What the words after the program's name ask for.
 ghost use Rattle.std.specs.Prelude.{◌≡◌, map, string_bytes};
-ghost use Rattle.av1_recon.specs.Commands.{command_of};
+ghost use Rattle.av1_recon.specs.Commands.{named, command_of};
+
+use crate::number_of;
 
 /// What the program is asked to do.
 #[derive(Clone, Copy, Debug, PartialEq, Eq)]
 pub enum Command {
     /// Read a plan and write its planes.
     Reconstruct,
+    /// Write the plan of a number.
+    Make(u32),
+    /// Reconstruct the plan of a number, and write four lines on it.
+    Sum(u32),
 }
 
 impl Command {
@@ -16,7 +22,22 @@ impl Command {
     {
         match words {
             [] => Some(Command::Reconstruct),
+            [name, word] => Command::named(name.as_str(), number_of(word.as_str())?),
             _ => None,
         }
+    }
+
+    // The command of this name that has a number.
+    #[tactic(auto, unfolding(crate::specs::Commands::named))]
+    fn named(name: &str, number: u32) -> Option<Command>
+        ensures { result ≡ named name.now number }
+    {
+        if name == "make" {
+            return Some(Command::Make(number));
+        }
+        if name == "sum" {
+            return Some(Command::Sum(number));
+        }
+        None
     }
 }

@@ -16,8 +16,6 @@ pub enum ReconError {
     TooLong,
     /// The field that begins at byte `at` is cut, has a value that is not admitted, or is left over after the end.
     Malformed { at: u32 },
-    /// The field that begins at byte `at` has a value that the format admits and that is not built yet.
-    NotBuilt { at: u32 },
     /// Leaf number `leaf`, counted from 0 in coding order, is the first that is refused, and why.
     Invalid { leaf: u32, kind: InvalidKind },
     /// A write failed. A prefix of the planes was written.
@@ -44,7 +42,6 @@ impl From<PlanError> for ReconError {
     fn from(error: PlanError) -> Self {
         match error {
             PlanError::Malformed { at } => ReconError::Malformed { at },
-            PlanError::NotBuilt { at } => ReconError::NotBuilt { at },
             PlanError::Memory => ReconError::Memory,
         }
     }

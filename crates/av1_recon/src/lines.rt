@@ -2,7 +2,7 @@
 ghost use Rattle.std.specs.Prelude.{◌≡◌, ◌≤◌, None, IfOk};
 ghost use Rattle.av1_plan.specs.Answer.{plan_value};
 ghost use Rattle.av1_plan.specs.Validity.{first_fault};
-ghost use Rattle.av1_tile.specs.State.{IsSound, shown, state_header};
+ghost use Rattle.av1_tile.specs.State.{IsSound, MadeFor, shown, state_header};
 ghost use Rattle.av1_tile.specs.Output.{planes_of, visible};
 ghost use Rattle.av1_recon.specs.Lines.{four_lines, sum_lines};
 ghost use Rattle.av1_recon.specs.Writing.{Writes};
@@ -66,7 +66,7 @@ fn lines_as<T: Pixel>(alloc: Global, rounds: NonZeroU32, plan: &Plan) -> Result<
 fn reconstruct_often<T: Pixel>(state: &mut TileState<T>, rounds: NonZeroU32, plan: &Plan)
     requires valid { first_fault (plan_value plan.now) ≡ None }
     requires sound { IsSound T.num state.old }
-    requires made { state_header state.old ≡ (plan_value plan.now).header }
+    requires made { MadeFor T.num (plan_value plan.now) state.old }
     requires depth { (plan_value plan.now).header.depth ≤ T.BITS }
     ensures sound { IsSound T.num state.new }
     ensures header { state_header state.new ≡ (plan_value plan.now).header }

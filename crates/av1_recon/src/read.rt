@@ -15,8 +15,8 @@ use std::alloc::Global;
 ///
 /// # Errors
 ///
-/// `ReadFault` and `TooLong` while it reads, then `Malformed` or `NotBuilt`, then `Invalid`. `Memory` may stand in place of any
-/// of them.
+/// `ReadFault` and `TooLong` while it reads, then `Malformed`, then `Invalid`. `Memory` may stand in place of any of
+/// them.
 pub fn read_plan<R: Source>(alloc: Global, source: &mut R) -> Result<Plan, ReconError>
     ensures { ReadsPlan R.left R.faults source.old source.new result }
 {

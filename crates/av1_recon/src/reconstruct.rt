@@ -3,6 +3,7 @@ ghost use Rattle.std.specs.Prelude.{◌≡◌, ◌≤◌, None};
 ghost use Rattle.av1_plan.specs.Answer.{plan_value};
 ghost use Rattle.av1_plan.specs.Validity.{first_fault};
 ghost use Rattle.av1_tile.specs.Output.{planes_of};
+ghost use Rattle.av1_tile.specs.State.{IsSound, MadeFor};
 ghost use Rattle.av1_recon.specs.Outcomes.{Reconstructs};
 ghost use Rattle.av1_recon.specs.Writing.{Writes};
 
@@ -16,8 +17,8 @@ use std::alloc::Global;
 ///
 /// # Errors
 ///
-/// `ReadFault` and `TooLong` while it reads, then `Malformed` or `NotBuilt`, then `Invalid`, then `WriteFault`. `Memory` may
-/// stand in place of any of them, before the first written byte.
+/// `ReadFault` and `TooLong` while it reads, then `Malformed`, then `Invalid`, then `WriteFault`. `Memory` may stand in
+/// place of any of them, before the first written byte.
 pub fn reconstruct_plan<R: Source, W: Sink>(
     alloc: Global,
     source: &mut R,
@@ -52,7 +53,23 @@ fn reconstruct_as<T: Pixel, W: Sink>(
     ensures { Writes W.taken W.faults sink.old sink.new (planes_of (plan_value plan.now)) result }
 {
     let mut state = TileState::<T>::new(alloc, plan)?;
-    reconstruct_tile(&mut state, plan);
-    write_planes(&state, sink)?;
+    write_reconstructed(&mut state, plan, sink)
+}
+
+// Reconstructs a plan in a state that was made for it, and appends its planes.
+fn write_reconstructed<T: Pixel, W: Sink>(
+    state: &mut TileState<T>,
+    plan: &Plan,
+    sink: &mut W,
+) -> Result<(), ReconError>
+    requires valid { first_fault (plan_value plan.now) ≡ None }
+    requires sound { IsSound T.num state.old }
+    requires made { MadeFor T.num (plan_value plan.now) state.old }
+    requires depth { (plan_value plan.now).header.depth ≤ T.BITS }
+    requires narrow { (plan_value plan.now).header.depth ≡ 8 → T.BITS ≤ 8 }
+    ensures { Writes W.taken W.faults sink.old sink.new (planes_of (plan_value plan.now)) result }
+{
+    reconstruct_tile(state, plan);
+    write_planes(state, sink)?;
     Ok(())
 }

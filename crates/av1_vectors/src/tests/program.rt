@@ -28,7 +28,7 @@ fn refused_bytes_give_status_2_and_their_line(rt: HostRuntime) -> Result<(), Fai
     masked[MASK] = 1;
     let cases = [
         (&PLAN[..82], b"malformed at 81\n".as_slice()),
-        (masked.as_slice(), b"not built at 19\n".as_slice()),
+        (masked.as_slice(), b"malformed at 83\n".as_slice()),
         (
             faulty.as_slice(),
             b"invalid leaf 0: coefficient\n".as_slice(),

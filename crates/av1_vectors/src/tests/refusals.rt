@@ -14,13 +14,14 @@ fn bytes_that_are_no_plan_are_refused_at_their_first_field_at_fault(
 ) -> Result<(), Fail> {
     let mut longer = Vec::from_slice(rt.alloc(), &PLAN)?;
     longer.push(0)?;
+    // Slot 0 has 64 samples of Y first, of which 63 bytes are there.
     let mut masked = PLAN;
     masked[MASK] = 1;
     let cases = [
         (&PLAN[..82], ReconError::Malformed { at: 81 }),
         (longer.as_slice(), ReconError::Malformed { at: 83 }),
         (&PLAN[..0], ReconError::Malformed { at: 0 }),
-        (masked.as_slice(), ReconError::NotBuilt { at: 19 }),
+        (masked.as_slice(), ReconError::Malformed { at: 83 }),
     ];
     for (bytes, error) in cases {
         let (answer, taken) = attempt(rt.alloc(), bytes, &[], PLANES)?;

@@ -1,0 +1,54 @@
+//! The plan of a number: its bytes, and four lines on it.
+ghost use Rattle.std.specs.Prelude.{◌≡◌, ◌≤◌, None, IfOk, IfErr, ℕ, List};
+ghost use Rattle.av1_generate.specs.Generator.{plan_bytes};
+ghost use Rattle.av1_plan.specs.Answer.{plan_value};
+ghost use Rattle.av1_plan.specs.Validity.{first_fault};
+ghost use Rattle.av1_recon.specs.Made.{AreMadeSums};
+ghost use Rattle.av1_recon.specs.Outcomes.{ArePlan};
+ghost use Rattle.av1_recon.specs.Writing.{Writes};
+ghost use Rattle.av1_recon.specs.declared.error.ReconError.TheVariants.{Memory};
+
+use crate::{ReconError, Sink, write_sums};
+use av1_generate::make_plan;
+use av1_plan::{Plan, parse_plan};
+use av1_streams::write_bytes;
+use std::alloc::Global;
+use std::num::NonZeroU32;
+
+/// Appends the plan of a number to the sink, by the plan format.
+///
+/// # Errors
+///
+/// `Memory` before the first written byte, and `WriteFault`.
+pub fn write_made<W: Sink>(alloc: Global, number: u32, sink: &mut W) -> Result<(), ReconError>
+    ensures { Writes W.taken W.faults sink.old sink.new (plan_bytes number) result }
+{
+    let bytes = make_plan(alloc, number)?;
+    write_bytes(sink, &bytes)?;
+    Ok(())
+}
+
+/// Reconstructs the plan of a number once, and appends four lines to the sink: the number of its leaves, and the sum of the
+/// visible samples of each plane.
+///
+/// # Errors
+///
+/// `Memory` before the first written byte, and `WriteFault`.
+pub fn write_made_sums<W: Sink>(alloc: Global, number: u32, sink: &mut W) -> Result<(), ReconError>
+    ensures { (lines : List ℕ) × AreMadeSums number lines
+        × Writes W.taken W.faults sink.old sink.new lines result }
+{
+    let plan = parse_made(alloc, number)?;
+    write_sums(alloc, NonZeroU32::MIN, &plan, sink)
+}
+
+// The plan of a number, parsed. It is valid, so that memory is all that can be wanting.
+fn parse_made(alloc: Global, number: u32) -> Result<Plan, ReconError>
+    ensures plan { IfOk result (λ plan. ArePlan (plan_bytes number) (plan_value plan)) }
+    ensures valid { IfOk result (λ plan. first_fault (plan_value plan) ≡ None) }
+    ensures memory { IfErr result (λ e. e ≡ Memory) }
+{
+    let bytes = make_plan(alloc, number)?;
+    let plan = parse_plan(alloc, &bytes)?;
+    Ok(plan)
+}
