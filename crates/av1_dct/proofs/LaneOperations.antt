@@ -1,14 +1,15 @@
 -- Operations on vectors of n words, lane by lane.
-use Rattle.std.proofs.Common.{ℕ, Bool, true, false, cond, leb, ltb, ◌&&◌, inl, inr, subst, neg_ℤ, ◌≡◌, ◌+◌, ◌-◌, ◌*◌, ◌%◌, ◌^◌, ◌<◌, ℤ, pos, ◌+ℤ◌, ◌*ℤ◌, List, map, replicate, length, get_or, arith, ◌∙◌, ap, refl, sym, w32, to_z, of_z, FitsSigned}
+use Rattle.std.proofs.Common.{ℕ, Bool, true, false, cond, leb, ltb, ◌&&◌, inl, inr, subst, neg_ℤ, ◌≡◌, ◌+◌, ◌-◌, ◌*◌, ◌%◌, ◌^◌, ◌<◌, ℤ, pos, ◌+ℤ◌, ◌*ℤ◌, List, map, replicate, length, get_or, arith, ◌∙◌, ap, refl, set, sym, w32, to_z, of_z, FitsSigned}
 use Rattle.std.specs.Int.{int_shr, int_min, int_max}
 use Rattle.std.proofs.lemmas.Bool.{cases_lt}
 use Rattle.std.proofs.lemmas.Bool.Decides.{nat_tests}
 use Rattle.std.specs.Simd.Lanes.{zip2, sel_l, top}
 use Rattle.std.specs.Int.Signed.{shr_z, lt_z, mag_shr}
-use Rattle.std.proofs.lemmas.List.{get_or-map, length-map, length-replicate}
+use Rattle.std.proofs.lemmas.List.{get_or-map, get_or_default, length-map, length-replicate, length-set, same_lists}
+use Rattle.std.proofs.lemmas.List.Edits.{fill_by_more}
 use Rattle.std.proofs.lemmas.Simd.{get_or-zip2, length-zip2, get_or-replicate, get_or-sel_l, length-sel_l, tops_compared}
 use Rattle.std.proofs.lemmas.Int.{ints, to_z-of_z, of_z-to_z}
-use Rattle.av1_dct.specs.Arithmetic.{clamp_value, round12, wrap32}
+use Rattle.av1_dct.specs.Arithmetic.{at, clamp_value, round12, wrap32}
 use Rattle.av1_dct.specs.Operations.{half_btf}
 use Rattle.av1_dct.specs.Word.{lane_of_vector}
 use Rattle.av1_dct.proofs.Lanes.{Bits, bits_at, lane_made}
@@ -61,7 +62,10 @@ lane_turn n w0 w1 xs ys i h f0 f1 bx by =
     let ap_ : get_or p i 0 ≡ of_z w32 w0 * x % 4294967296 = zip_at n mul 0 (replicate n (of_z w32 w0)) xs i h (length-replicate n _) bx.count ∙ ap (λ n. n * x % 4294967296) (get_or-replicate n i (of_z w32 w0) 0 h) in
     let aq : get_or q i 0 ≡ of_z w32 w1 * y % 4294967296 = zip_at n mul 0 (replicate n (of_z w32 w1)) ys i h (length-replicate n _) by.count ∙ ap (λ n. n * y % 4294967296) (get_or-replicate n i (of_z w32 w1) 0 h) in
     let as_ : get_or s i 0 ≡ (of_z w32 w0 * x % 4294967296 + of_z w32 w1 * y % 4294967296) % 4294967296 = zip_at n add 0 p q i h lp lq ∙ ap (λ n. (n + get_or q i 0) % 4294967296) ap_ ∙ ap (λ n. (of_z w32 w0 * x % 4294967296 + n) % 4294967296) aq in
-    let at : get_or t i 0 ≡ ((of_z w32 w0 * x % 4294967296 + of_z w32 w1 * y % 4294967296) % 4294967296 + 2048) % 4294967296 = zip_at n add 0 s (replicate n 2048) i h ls (length-replicate n _) ∙ ap (λ n. (get_or s i 0 + n) % 4294967296) (get_or-replicate n i 2048 0 h) ∙ ap (λ n. (n + 2048) % 4294967296) as_ in
+    let at : get_or t i 0 ≡ ((of_z w32 w0 * x % 4294967296 + of_z w32 w1 * y % 4294967296) % 4294967296 + 2048) % 4294967296
+    = zip_at n add 0 s (replicate n 2048) i h ls (length-replicate n _)
+    ∙ ap (λ n. (get_or s i 0 + n) % 4294967296) (get_or-replicate n i 2048 0 h)
+    ∙ ap (λ n. (n + 2048) % 4294967296) as_ in
     let ar : get_or (zip2 shr t (replicate n 12)) i 0 ≡ of_z w32 (shr_z (to_z w32 (get_or t i 0)) 4096) = zip_at n shr 0 t (replicate n 12) i h lt (length-replicate n _) ∙ ap (λ n. of_z w32 (shr_z (to_z w32 (get_or t i 0)) (2 ^ n))) (get_or-replicate n i 12 0 h) in
     let small : get_or t i 0 < 2 ^ 32 = omega (arith, at) in
     let ex : of_z w32 (to_z w32 x) ≡ x = of_z-to_z w32 x (bits_at n xs i h bx) in
@@ -193,11 +197,34 @@ pub lane_read : (n : ℕ) (v : List ℤ) (i : ℕ) → i < n → length (map (of
 unfolding lane_of_vector
 lane_read n v i h len = get_or-map (to_z w32) (map (of_z w32) v) i 0 (pos 0) (omega arith)
 
+-- a vector with one number in all lanes
+pub lanes_alike : (n : ℕ) (v : List ℤ) (z : ℤ) → length (map (of_z w32) v) ≡ n → ((i : ℕ) → i < n → lane_of_vector v i ≡ z) → map (to_z w32) (map (of_z w32) v) ≡ replicate n z
+lanes_alike n v z len alike =
+    let long : length (map (to_z w32) (map (of_z w32) v)) ≡ n = length-map (map (of_z w32) v) (to_z w32) ∙ len in
+    same_lists (map (to_z w32) (map (of_z w32) v)) (replicate n z) (long ∙ sym (length-replicate n z)) (λ k d l.
+    let h : k < n = omega (arith, long) in
+    get_or_default _ k d (pos 0) l ∙ lane_read n v k h len ∙ alike k h ∙ sym (get_or-replicate n k z d h))
+
 -- n neighbours written
-pub neighbours_written : (s n m : ℕ) (old buf values : List ℤ) (f : ℕ → ℤ) → m ≡ n → ((p : ℕ) → get_or buf p (pos 0) ≡ cond (leb s p && ltb p (s + m)) (get_or values (p - s) (pos 0)) (get_or old p (pos 0))) → ((i : ℕ) → i < n → get_or values i (pos 0) ≡ f i) → (p : ℕ) → get_or buf p (pos 0) ≡ cond (leb s p && ltb p (s + n)) (f (p - s)) (get_or old p (pos 0))
+pub neighbours_written : (s n m : ℕ) (old buf values : List ℤ) (f : ℕ → ℤ) → m ≡ n
+    → ((p : ℕ) → get_or buf p (pos 0) ≡ cond (leb s p && ltb p (s + m)) (get_or values (p - s) (pos 0)) (get_or old p (pos 0)))
+    → ((i : ℕ) → i < n → get_or values i (pos 0) ≡ f i)
+    → (p : ℕ) → get_or buf p (pos 0) ≡ cond (leb s p && ltb p (s + n)) (f (p - s)) (get_or old p (pos 0))
 neighbours_written s n m old buf values f en inv is = λ p.
     let i = inv p in
     elim (cases_lt p s) [
       | inl b ↦ grind (arith, nat_tests)
       | inr b ↦ elim (cases_lt p (s + n)) [ inl d ↦ (let u = is (p - s) (omega arith) in grind (arith, nat_tests)) | inr d ↦ grind (arith, nat_tests) ]
     ]
+
+-- one more lane of n is read
+pub read_on : (n start k : ℕ) (lanes values : List ℤ) → k < n → FitsSigned w32 (at values (start + k)) → length lanes ≡ n
+    → ((q : ℕ) → q < k → at lanes q ≡ at values (start + q)) → ((q : ℕ) → q < k → FitsSigned w32 (at values (start + q)))
+    → (length (set lanes k (to_z w32 (of_z w32 (at values (start + k))))) ≡ n) × (((q : ℕ) → q < k + 1 → at (set lanes k (to_z w32 (of_z w32 (at values (start + k))))) q ≡ at values (start + q)) × ((q : ℕ) → q < k + 1 → FitsSigned w32 (at values (start + q))))
+read_on n start k lanes values room f len same fit = (
+  length-set lanes k _ ∙ len,
+  (
+    λ q lt. ap (λ z. at (set lanes k z) q) (to_z-of_z w32 _ f) ∙ fill_by_more (λ p. at values (start + p)) lanes k (pos 0) (omega (arith, len)) same q lt,
+    λ q lt. elim (cases_lt q k) [ inl b ↦ fit q b | inr b ↦ (let P : ℕ → Type 0 = λ p. FitsSigned w32 (at values (start + p)) in subst P (omega arith) f) ],
+  ),
+)

@@ -31,7 +31,9 @@ lane_plus n xs ys i h bx by f =
     ∙ wrapping_add-bits w32 _ _ (bits_at n xs i h bx) (bits_at n ys i h by)
     ∙ int_wrap_fits w32 _ f
 
-pub lane_minus : (n : ℕ) (xs ys : List ℕ) (i : ℕ) → i < n → Bits n xs → Bits n ys → FitsSigned w32 (to_z w32 (get_or xs i 0) -ℤ to_z w32 (get_or ys i 0)) → lane_of_vector (map (to_z w32) (zip2 (λ x y. (x + (4294967296 - y)) % 4294967296) xs ys)) i ≡ to_z w32 (get_or xs i 0) -ℤ to_z w32 (get_or ys i 0)
+pub lane_minus : (n : ℕ) (xs ys : List ℕ) (i : ℕ) → i < n → Bits n xs → Bits n ys
+    → FitsSigned w32 (to_z w32 (get_or xs i 0) -ℤ to_z w32 (get_or ys i 0))
+    → lane_of_vector (map (to_z w32) (zip2 (λ x y. (x + (4294967296 - y)) % 4294967296) xs ys)) i ≡ to_z w32 (get_or xs i 0) -ℤ to_z w32 (get_or ys i 0)
 lane_minus n xs ys i h bx by f =
     let z : get_or (zip2 (λ x y. (x + (4294967296 - y)) % 4294967296) xs ys) i 0 ≡ (get_or xs i 0 + (4294967296 - get_or ys i 0)) % 4294967296 = get_or-zip2 (λ (x y : ℕ). (x + (4294967296 - y)) % 4294967296) xs ys i 0 0 0 (omega (arith, bx.count)) (omega (arith, by.count)) in
     lane_made _ i (omega (arith, length-zip2 (λ (x y : ℕ). (x + (4294967296 - y)) % 4294967296) xs ys (bx.count ∙ sym by.count), bx.count)) (omega (arith, z))

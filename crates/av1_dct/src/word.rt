@@ -61,7 +61,8 @@ pub trait Word: Copy {
 
     /// Whether each lane is 0.
     fn is_zero(self) -> bool
-        ensures { result ≡ true → (i : ℕ) → i < LANES → lane_of self i ≡ pos 0 };
+        ensures zeros { result ≡ true → (i : ℕ) → i < LANES → lane_of self i ≡ pos 0 }
+        ensures told { ((i : ℕ) → i < LANES → lane_of self i ≡ pos 0) → result ≡ true };
 
     /// The numbers from place `start` on, one in each lane.
     fn read(values: &[i32], start: usize) -> Self

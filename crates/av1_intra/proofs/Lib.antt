@@ -20,3 +20,4 @@ pub mod LumaFits
 pub mod EdgeLengths
 pub mod Within
 pub mod SameLuma
+pub mod ByteSamples

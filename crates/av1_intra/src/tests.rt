@@ -2,6 +2,7 @@
 
 mod luma;
 mod modes;
+mod tile_luma;
 
 use crate::IntraEdgeFilterParameters;
 use crate::rust::{

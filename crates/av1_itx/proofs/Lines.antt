@@ -1,5 +1,5 @@
 -- Rows and columns of a list that stands row by row.
-use Rattle.std.proofs.Common.{ℕ, cond, ltb, ◌≡◌, ◌==◌, ◌+◌, ◌-◌, ◌*◌, ◌<◌, ◌≤◌, ℤ, pos, List, map, length, set, get_or, arith, ap, sym, refl, ◌∙◌, inl, inr, get_or-set_other, get_or-set_same}
+use Rattle.std.proofs.Common.{ℕ, cond, ltb, ◌≡◌, ◌==◌, ◌+◌, ◌-◌, ◌*◌, ◌<◌, ◌≤◌, ℤ, pos, List, map, length, set, get_or, arith, ap, sym, subst, refl, ◌∙◌, inl, inr, get_or-set_other, get_or-set_same}
 use Rattle.std.proofs.lemmas.Bool.{cases_lt, cases_eq, cases_order}
 use Rattle.std.proofs.lemmas.Bool.Decides.{nat_tests}
 use Rattle.std.proofs.lemmas.List.{get_or-map}
@@ -10,6 +10,10 @@ use Rattle.av1_dct.proofs.Groups.{put, put-low, put-mid}
 
 pub place_in : (r c w h : ℕ) → r < h → c < w → r * w + c < h * w
 place_in r c w h hr hc = let e = row_end_le r h w (c + 1) (h * w) refl hr (omega arith) in omega arith
+
+-- a place of a block lies in a buffer of all its places
+pub place_in_block : {width height n : ℕ} (r c w h : ℕ) → w ≡ width → h ≡ height → n ≡ height * width → r < h → c < w → r * w + c < n
+place_in_block {width} {height} r c w h ew eh en hr hc = subst (λ m. r * w + c < m) (ap (λ k. k * w) eh ∙ ap (λ k. height * k) ew ∙ sym en) (place_in r c w h hr hc)
 
 -- places of different rows differ
 pub place_before : (r c w q : ℕ) → r < q → c < w → r * w + c < q * w
@@ -24,7 +28,8 @@ same_place r q w c d hc hd e =
     ]
 
 -- m more rows of w places, from place a on
-pub rows_more : (w q m n a : ℕ) (f : ℕ → ℕ → ℤ) (buf out : List ℤ) → ((r c : ℕ) → r < q → c < w → at buf (r * w + c) ≡ f r c) → a ≡ q * w → n ≡ m * w → length out ≡ n → a + n ≤ length buf → ((j c : ℕ) → j < m → c < w → at out (j * w + c) ≡ f (q + j) c) → (r c : ℕ) → r < q + m → c < w → at (put a n buf out) (r * w + c) ≡ f r c
+pub rows_more : (w q m n a : ℕ) (f : ℕ → ℕ → ℤ) (buf out : List ℤ) → ((r c : ℕ) → r < q → c < w → at buf (r * w + c) ≡ f r c) → a ≡ q * w → n ≡ m * w → length out ≡ n → a + n ≤ length buf
+    → ((j c : ℕ) → j < m → c < w → at out (j * w + c) ≡ f (q + j) c) → (r c : ℕ) → r < q + m → c < w → at (put a n buf out) (r * w + c) ≡ f r c
 rows_more w q m n a f buf out before is_a is_n len room here = λ r c hr hc.
     elim (cases_lt r q) [
       | inl b ↦ (let below = place_before r c w q b hc in put-low a n buf out (r * w + c) (omega arith) (omega arith) ∙ before r c b hc)

@@ -15,7 +15,8 @@ use Rattle.av1_frame.specs.Arithmetic.{round_shift}
 use Rattle.av1_itx.proofs.Fills.{four_same}
 use Rattle.av1_itx.specs.declared.kinds.TxType1D.{TxType1D}
 use Rattle.av1_itx.specs.declared.kinds.TxType1D.TheVariants.{DCT, ADST, FLIPADST, IDENTITY, WHT}
-use Rattle.av1_itx.specs.Adst.{turned_with, turned, turn_weights, back_weights, start_weights, round_weights, adst_in, adst_start_with, adst_start, adst_sum_with, adst_sum, adst_turn_with, adst_turn, adst_rounds_with, adst_rounds, adst_out_with, adst_out, out_place, adst_more_with, adst_more, weighted_with, weighted, adst4_with, adst4, adst_with, adst}
+use Rattle.av1_itx.specs.Adst.{turned_with, turned, turn_weights, back_weights, start_weights, round_weights, adst_in, adst_start_with, adst_start, adst_sum_with, adst_sum, adst_turn_with, adst_turn}
+use Rattle.av1_itx.specs.Adst.{adst_rounds_with, adst_rounds, adst_out_with, adst_out, out_place, adst_more_with, adst_more, weighted_with, weighted, adst4_with, adst4, adst_with, adst}
 use Rattle.av1_itx.specs.Identity.{scaled_with, scaled, identity_with}
 use Rattle.av1_itx.specs.Walsh.{walsh_with, walsh}
 use Rattle.av1_itx.specs.Networks.{network_with, network}

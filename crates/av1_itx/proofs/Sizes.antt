@@ -90,7 +90,19 @@ both_run size type =
 mixed_sides : (size : TxSize) → IsTrue (valid_av1_transform size ADST_ADST) → 32 ≤ max (tx_width size) (tx_height size) → ⊥
 mixed_sides size =
     elim size as (λ t. IsTrue (valid_av1_transform t ADST_ADST) → 32 ≤ max (tx_width t) (tx_height t)
-    → ⊥) [ TX_32X32 ↦ (λ v h. no_truth v) | TX_64X64 ↦ (λ v h. no_truth v) | TX_16X32 ↦ (λ v h. no_truth v) | TX_32X16 ↦ (λ v h. no_truth v) | TX_32X64 ↦ (λ v h. no_truth v) | TX_64X32 ↦ (λ v h. no_truth v) | TX_8X32 ↦ (λ v h. no_truth v) | TX_32X8 ↦ (λ v h. no_truth v) | TX_16X64 ↦ (λ v h. no_truth v) | TX_64X16 ↦ (λ v h. no_truth v) | _ ↦ (λ v h. omega arith) ]
+    → ⊥) [
+      | TX_32X32 ↦ (λ v h. no_truth v)
+      | TX_64X64 ↦ (λ v h. no_truth v)
+      | TX_16X32 ↦ (λ v h. no_truth v)
+      | TX_32X16 ↦ (λ v h. no_truth v)
+      | TX_32X64 ↦ (λ v h. no_truth v)
+      | TX_64X32 ↦ (λ v h. no_truth v)
+      | TX_8X32 ↦ (λ v h. no_truth v)
+      | TX_32X8 ↦ (λ v h. no_truth v)
+      | TX_16X64 ↦ (λ v h. no_truth v)
+      | TX_64X16 ↦ (λ v h. no_truth v)
+      | _ ↦ (λ v h. omega arith)
+    ]
 
 -- there rows and columns have a transform of one kind
 one_kind : (size : TxSize) (type : TxType) → IsTrue (valid_av1_transform size type) → 32 ≤ max (tx_width size) (tx_height size) → row_kind type ≡ column_kind type

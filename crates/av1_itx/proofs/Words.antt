@@ -1,7 +1,7 @@
 -- One lane of words that the sine transforms write.
 use Rattle.std.proofs.Common.{ℕ, ◌≡◌, ◌+◌, ◌-◌, ◌*◌, ◌/◌, ◌<◌, ◌≤◌, ℤ, List, [], ◌∷◌, ◌++◌, take, drop, set, reverse, refl, length, get_or, arith, ap, sym, subst, ◌∙◌}
 use Rattle.std.proofs.lemmas.List.{length-map, map-append, map-set, reverse-append}
-use Rattle.av1_dct.specs.Arithmetic.{at}
+use Rattle.av1_dct.specs.Arithmetic.{at, AllFit, FitsBits}
 use Rattle.av1_dct.specs.Word.{column}
 use Rattle.av1_dct.proofs.Groups.{put, column-put, column-part}
 use Rattle.av1_dct.proofs.Mirror.{IsBegun}
@@ -11,6 +11,10 @@ use Rattle.av1_itx.specs.Adst.{adst_sum, adst_turn, round_weights}
 use Rattle.av1_itx.proofs.Blocks.{block_done, block_round, blocks_step}
 use Rattle.av1_itx.proofs.Fills.{IsBegun-pair, IsHalved, IsHalved-more}
 use Rattle.av1_itx.proofs.Turns.{weights_at, turned_by}
+
+-- a lane of a word that was read has the bits that all lanes have
+pub word_fits : {W : Type 0} {b : ℕ} (lane : W → ℕ → ℤ) (i : ℕ) (v : List W) (q : ℕ) (x : W) → q < length v → x ≡ get_or v q x → AllFit b (column lane i v) → FitsBits b (lane x i)
+word_fits {b = b} lane i v q x h e fit = subst (λ (z : ℤ). FitsBits b z) (sym (column_get lane i v q x h e)) (fit q)
 
 -- two words written
 pub column-set2 : {W : Type 0} (lane : W → ℕ → ℤ) (i : ℕ) (v : List W) (p q : ℕ) (x y : W) → column lane i (set (set v p x) q y) ≡ set (set (column lane i v) p (lane x i)) q (lane y i)

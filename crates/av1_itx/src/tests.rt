@@ -261,42 +261,15 @@ fn groups_of_eight_columns_are_counted(rt: HostRuntime) -> Result<(), Fail> {
         height: 16,
     });
     assert_eq!(rt; scratch.lane_groups(), 0, "a new scratch");
+    let (large, middle, small) = (TxSize::TX_16X16, TxSize::TX_8X8, TxSize::TX_4X4);
     let (cosine, sine) = (TxType::DCT_DCT, TxType::ADST_DCT);
-    inverse_transform_add_with(
-        &mut scratch,
-        &input,
-        &mut region,
-        TxSize::TX_16X16,
-        cosine,
-        10,
-    );
+    inverse_transform_add_with(&mut scratch, &input, &mut region, large, cosine, 10);
     assert_eq!(rt; scratch.lane_groups(), 2, "16 columns");
-    inverse_transform_add_with(
-        &mut scratch,
-        &input,
-        &mut region,
-        TxSize::TX_8X8,
-        cosine,
-        10,
-    );
+    inverse_transform_add_with(&mut scratch, &input, &mut region, middle, cosine, 10);
     assert_eq!(rt; scratch.lane_groups(), 3, "8 columns");
-    inverse_transform_add_with(
-        &mut scratch,
-        &input,
-        &mut region,
-        TxSize::TX_4X4,
-        cosine,
-        10,
-    );
+    inverse_transform_add_with(&mut scratch, &input, &mut region, small, cosine, 10);
     assert_eq!(rt; scratch.lane_groups(), 3, "4 columns");
-    inverse_transform_add_with(
-        &mut scratch,
-        &input,
-        &mut region,
-        TxSize::TX_16X16,
-        sine,
-        10,
-    );
+    inverse_transform_add_with(&mut scratch, &input, &mut region, large, sine, 10);
     assert_eq!(rt; scratch.lane_groups(), 3, "columns of another kind");
     Ok(())
 }

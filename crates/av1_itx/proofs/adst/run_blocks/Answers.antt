@@ -18,7 +18,9 @@ pub loop-b-preserved : goal.loop-b-preserved
 loop-b-preserved g c = λ i h.
     let n = 4 * length c.args.weights.now in
     let room = mul-le-mul_right n (let next : c.loop-b.b + 1 ≤ c.args.blocks = omega arith in next) in
-    blocks_words g.W.Word.lane_of i c.args.range (length c.args.weights.now) (length c.args.v.now) c.loop-b.b n (c.loop-b.b * n + n - c.loop-b.b * n) (column g.W.Word.lane_of i c.args.v.now) c.loop-b.v c.run_block.new.v (omega arith) (omega arith) (omega (arith, c.requires.len, room)) (length-map c.args.v.now _) (c.loop-b.invariant i h) (c.run_block.ensures i h)
+    blocks_words g.W.Word.lane_of i c.args.range (length c.args.weights.now) (length c.args.v.now) c.loop-b.b n (c.loop-b.b * n + n - c.loop-b.b * n)
+    (column g.W.Word.lane_of i c.args.v.now) c.loop-b.v c.run_block.new.v (omega arith) (omega arith)
+    (omega (arith, c.requires.len, room)) (length-map c.args.v.now _) (c.loop-b.invariant i h) (c.run_block.ensures i h)
 
 pub returns : goal.returns
 returns g c = λ i h.

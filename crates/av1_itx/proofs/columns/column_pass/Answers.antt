@@ -1,4 +1,4 @@
-use Rattle.std.proofs.Common.{arith, tests, true, ℕ, ℤ, ◌≡◌, ◌-◌, ◌+◌, ◌*◌, ◌<◌, ◌∙◌, ap, sym, subst, length}
+use Rattle.std.proofs.Common.{arith, tests, true, ℕ, ℤ, ◌≡◌, ◌-◌, ◌+◌, ◌*◌, ◌<◌, ◌∙◌, ap, sym, subst}
 use Rattle.av1_blocks.specs.Transforms.{tx_width, tx_height}
 use Rattle.av1_dct.specs.Arithmetic.{at, FitsBits, clamp_value}
 use Rattle.av1_dct.proofs.Fits.{clamp_value-fits}
@@ -8,7 +8,7 @@ use Rattle.av1_lists.proofs.Lists.{by_index-same}
 use Rattle.av1_itx.specs.Networks.{network}
 use Rattle.av1_itx.specs.Residue.{column_network}
 use Rattle.av1_itx.proofs.Eights.{cosine_value}
-use Rattle.av1_itx.proofs.Lines.{place_in}
+use Rattle.av1_itx.proofs.Lines.{place_in_block}
 use Rattle.av1_itx.proofs.Single.{by_rows, column_value}
 use Rattle.av1_itx.proofs.columns.column_pass.Goals as goal
 
@@ -21,16 +21,14 @@ pub run-requires-clause-fit : goal.run-requires-clause-fit
 run-requires-clause-fit c = λ r q hr hq.
     let w = c.width-w.result in
     let P : ℤ → Type 0 = λ z. FitsBits c.max-range.result z in
-    let long : c.height-h.result * w ≡ length c.args.buffer.now = ap (λ n. n * w) c.height-h.ensures.value ∙ ap (λ n. tx_height c.args.tx_size * n) c.width-w.ensures.value ∙ sym c.requires.buffer_len in
-    let inside : r * w + q < length c.args.buffer.now = subst (λ n. r * w + q < n) long (place_in r q w c.height-h.result hr hq) in
+    let inside = place_in_block r q w c.height-h.result c.width-w.ensures.value c.height-h.ensures.value c.requires.buffer_len hr hq in
     subst P (sym (c.round_values.ensures (r * w + q) inside)) (clamp_value-fits _ c.max-range.result (omega arith))
 
 pub run_cosine-requires-clause-fit : goal.run_cosine-requires-clause-fit
 run_cosine-requires-clause-fit c = λ r q hr hq.
     let w = c.width-w.result in
     let P : ℤ → Type 0 = λ z. FitsBits c.max-range.result z in
-    let long : c.height-h.result * w ≡ length c.args.buffer.now = ap (λ n. n * w) c.height-h.ensures.value ∙ ap (λ n. tx_height c.args.tx_size * n) c.width-w.ensures.value ∙ sym c.requires.buffer_len in
-    let inside : r * w + q < length c.args.buffer.now = subst (λ n. r * w + q < n) long (place_in r q w c.height-h.result hr hq) in
+    let inside = place_in_block r q w c.height-h.result c.width-w.ensures.value c.height-h.ensures.value c.requires.buffer_len hr hq in
     subst P (sym (c.round_values.ensures (r * w + q) inside)) (clamp_value-fits _ c.max-range.result (omega arith))
 
 pub returns-then-w-lt-LANES-clause-value : goal.returns-then-w-lt-LANES-clause-value
@@ -45,9 +43,8 @@ returns-then-w-lt-LANES-clause-value c = λ r q hr hq.
     let kind = c.get_1d_tx_types-kind.result.0 in
     let k = c.height_log2-k.result - 1 in
     let qw : q < w = omega arith in
-    let long : h * w ≡ length old = ap (λ n. n * w) c.height-h.ensures.value ∙ ap (λ n. tx_height size * n) c.width-w.ensures.value ∙ sym c.requires.buffer_len in
     let rounded : by_index h (λ y. at B (y * w + q)) ≡ by_index h (λ y. clamp_value (round_shift (at old (y * w + q)) shift) range) =
-    by_index-same h _ _ (λ y hy. c.round_values.ensures (y * w + q) (subst (λ n. y * w + q < n) long (place_in y q w h hy qw))) in
+    by_index-same h _ _ (λ y hy. c.round_values.ensures (y * w + q) (place_in_block y q w h c.width-w.ensures.value c.height-h.ensures.value c.requires.buffer_len hy qw)) in
     let P : ℕ → Type 0 = λ n. at c.run.new.buffer (r * n + q) ≡ at (column_network size c.args.tx_type c.args.bd (λ y. at old (y * n + q))) r in
     subst P c.width-w.ensures.value
     (column_value size c.args.tx_type c.args.bd h k shift range r kind (λ y. at old (y * w + q)) _ c.get_1d_tx_types-kind.ensures.column c.height-h.ensures.value (ap (λ n. n - 1) c.height_log2-k.ensures.value) c.row_shift_of.ensures.value c.max-range.ensures
@@ -66,9 +63,8 @@ returns-clause-value c = λ r q hr hq.
     let kind = c.get_1d_tx_types-kind.result.0 in
     let k = c.height_log2-k.result - 1 in
     let qw : q < w = omega arith in
-    let long : h * w ≡ length old = ap (λ n. n * w) c.height-h.ensures.value ∙ ap (λ n. tx_height size * n) c.width-w.ensures.value ∙ sym c.requires.buffer_len in
     let rounded : by_index h (λ y. at B (y * w + q)) ≡ by_index h (λ y. clamp_value (round_shift (at old (y * w + q)) shift) range) =
-    by_index-same h _ _ (λ y hy. c.round_values.ensures (y * w + q) (subst (λ n. y * w + q < n) long (place_in y q w h hy qw))) in
+    by_index-same h _ _ (λ y hy. c.round_values.ensures (y * w + q) (place_in_block y q w h c.width-w.ensures.value c.height-h.ensures.value c.requires.buffer_len hy qw)) in
     let P : ℕ → Type 0 = λ n. at c.run_cosine.new.buffer (r * n + q) ≡ at (column_network size c.args.tx_type c.args.bd (λ y. at old (y * n + q))) r in
     subst P c.width-w.ensures.value
     (column_value size c.args.tx_type c.args.bd h k shift range r kind (λ y. at old (y * w + q)) _ c.get_1d_tx_types-kind.ensures.column c.height-h.ensures.value (ap (λ n. n - 1) c.height_log2-k.ensures.value) c.row_shift_of.ensures.value c.max-range.ensures

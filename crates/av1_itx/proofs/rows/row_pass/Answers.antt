@@ -37,7 +37,9 @@ returns-clause-value g c =
     let f = λ (y x : ℕ). at (transformed_row size c.args.tx_type c.args.bd cs y) x in
     let all =
     rows_end w q n (tx_height size) f buf c.clear.new.line (λ y x hy hx. get_or_append_left new rest (pos 0) (y * w + x) (omega (arith, new_len, place_in y x w q hy hx))
-    ∙ (let P : ℕ → Type 0 = λ k. at new (y * k + x) ≡ at (network (row_kind c.args.tx_type) (row_range c.args.bd) (row_power size) (by_index (tx_width size) (scaled_input size c.scale_all.new.scaled y))) x in subst P (sym c.width-w.ensures.value) (c.run_rows.ensures.value y x (omega arith) (omega arith)))
+    ∙ (let P : ℕ → Type 0 = λ k. at new (y * k + x)
+    ≡ at (network (row_kind c.args.tx_type) (row_range c.args.bd) (row_power size) (by_index (tx_width size) (scaled_input size c.scale_all.new.scaled y))) x in
+    subst P (sym c.width-w.ensures.value) (c.run_rows.ensures.value y x (omega arith) (omega arith)))
     ∙ scaled_row size c.args.tx_type c.args.bd cs c.scale_all.new.scaled y x (omega arith) (λ i l. c.scale_all.ensures i (omega arith))) few whole (omega arith)
     (c.clear.auto.line ∙ part_len (q * w) n buf (omega (arith, whole, room))) c.clear.ensures (λ y x hy. row_past size c.args.tx_type c.args.bd cs y x (omega arith)) in
     λ y x hy hx.

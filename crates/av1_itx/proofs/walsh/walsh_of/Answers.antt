@@ -1,111 +1,75 @@
-use Rattle.std.proofs.Common.{arith, ◌≡◌, ◌∙◌, ℤ, sym, subst, ◌+ℤ◌, ◌-ℤ◌}
+use Rattle.std.proofs.Common.{arith, ◌≡◌, ◌∙◌, ◌+ℤ◌, ◌-ℤ◌}
 use Rattle.std.specs.Int.{int_shr}
 use Rattle.std.proofs.lemmas.Int.{ints}
-use Rattle.av1_dct.specs.Arithmetic.{at, FitsBits}
+use Rattle.av1_dct.specs.Arithmetic.{at}
 use Rattle.av1_dct.specs.Word.{column}
 use Rattle.av1_dct.proofs.Places.{column_get}
-use Rattle.av1_itx.proofs.Small.{halved-fits, walsh_is}
-use Rattle.av1_itx.proofs.Words.{column-set4}
+use Rattle.av1_itx.proofs.Small.{half-fits, walsh_is}
+use Rattle.av1_itx.proofs.Words.{column-set4, word_fits}
 use Rattle.av1_itx.proofs.walsh.walsh_of.Goals as goal
 
 pub plus-s0-requires : goal.plus-s0-requires
 plus-s0-requires g c = λ i h.
     let lane = g.W.Word.lane_of in
-    let e0 = column_get lane i c.args.input.now 0 c.index-input-0.result (omega arith) c.index-input-0.is in
-    let e1 = column_get lane i c.args.input.now 1 c.index-input-1.result (omega arith) c.index-input-1.is in
-    let e2 = column_get lane i c.args.input.now 2 c.index-input-2.result (omega arith) c.index-input-2.is in
-    let e3 = column_get lane i c.args.input.now 3 c.index-input-3.result (omega arith) c.index-input-3.is in
-    let a0 = c.requires.fit i h 0 in
-    let a1 = c.requires.fit i h 1 in
-    let a2 = c.requires.fit i h 2 in
-    let a3 = c.requires.fit i h 3 in
-    omega (arith, ints, e0, e1, e2, e3, a0.low, a0.high, a1.low, a1.high, a2.low, a2.high, a3.low, a3.high)
+    let a0 = word_fits lane i c.args.input.now 0 c.index-input-0.result (omega arith) c.index-input-0.is (c.requires.fit i h) in
+    let a1 = word_fits lane i c.args.input.now 1 c.index-input-1.result (omega arith) c.index-input-1.is (c.requires.fit i h) in
+    omega (arith, ints, a0.low, a0.high, a1.low, a1.high)
 
 pub minus-s2-requires : goal.minus-s2-requires
 minus-s2-requires g c = λ i h.
     let lane = g.W.Word.lane_of in
-    let e0 = column_get lane i c.args.input.now 0 c.index-input-0.result (omega arith) c.index-input-0.is in
-    let e1 = column_get lane i c.args.input.now 1 c.index-input-1.result (omega arith) c.index-input-1.is in
-    let e2 = column_get lane i c.args.input.now 2 c.index-input-2.result (omega arith) c.index-input-2.is in
-    let e3 = column_get lane i c.args.input.now 3 c.index-input-3.result (omega arith) c.index-input-3.is in
-    let a0 = c.requires.fit i h 0 in
-    let a1 = c.requires.fit i h 1 in
-    let a2 = c.requires.fit i h 2 in
-    let a3 = c.requires.fit i h 3 in
-    omega (arith, ints, e0, e1, e2, e3, a0.low, a0.high, a1.low, a1.high, a2.low, a2.high, a3.low, a3.high)
+    let a2 = word_fits lane i c.args.input.now 2 c.index-input-2.result (omega arith) c.index-input-2.is (c.requires.fit i h) in
+    let a3 = word_fits lane i c.args.input.now 3 c.index-input-3.result (omega arith) c.index-input-3.is (c.requires.fit i h) in
+    omega (arith, ints, a2.low, a2.high, a3.low, a3.high)
 
 pub minus-requires : goal.minus-requires
 minus-requires g c = λ i h.
     let lane = g.W.Word.lane_of in
-    let e0 = column_get lane i c.args.input.now 0 c.index-input-0.result (omega arith) c.index-input-0.is in
-    let e1 = column_get lane i c.args.input.now 1 c.index-input-1.result (omega arith) c.index-input-1.is in
-    let e2 = column_get lane i c.args.input.now 2 c.index-input-2.result (omega arith) c.index-input-2.is in
-    let e3 = column_get lane i c.args.input.now 3 c.index-input-3.result (omega arith) c.index-input-3.is in
-    let a0 = c.requires.fit i h 0 in
-    let a1 = c.requires.fit i h 1 in
-    let a2 = c.requires.fit i h 2 in
-    let a3 = c.requires.fit i h 3 in
-    omega (arith, ints, e0, e1, e2, e3, a0.low, a0.high, a1.low, a1.high, a2.low, a2.high, a3.low, a3.high, c.plus-s0.ensures i h, c.minus-s2.ensures i h)
+    let a0 = word_fits lane i c.args.input.now 0 c.index-input-0.result (omega arith) c.index-input-0.is (c.requires.fit i h) in
+    let a1 = word_fits lane i c.args.input.now 1 c.index-input-1.result (omega arith) c.index-input-1.is (c.requires.fit i h) in
+    let a2 = word_fits lane i c.args.input.now 2 c.index-input-2.result (omega arith) c.index-input-2.is (c.requires.fit i h) in
+    let a3 = word_fits lane i c.args.input.now 3 c.index-input-3.result (omega arith) c.index-input-3.is (c.requires.fit i h) in
+    omega (arith, ints, a0.low, a0.high, a1.low, a1.high, a2.low, a2.high, a3.low, a3.high, c.plus-s0.ensures i h, c.minus-s2.ensures i h)
 
 pub minus-s3-requires : goal.minus-s3-requires
 minus-s3-requires g c = λ i h.
     let lane = g.W.Word.lane_of in
-    let e0 = column_get lane i c.args.input.now 0 c.index-input-0.result (omega arith) c.index-input-0.is in
-    let e1 = column_get lane i c.args.input.now 1 c.index-input-1.result (omega arith) c.index-input-1.is in
-    let e2 = column_get lane i c.args.input.now 2 c.index-input-2.result (omega arith) c.index-input-2.is in
-    let e3 = column_get lane i c.args.input.now 3 c.index-input-3.result (omega arith) c.index-input-3.is in
-    let a0 = c.requires.fit i h 0 in
-    let a1 = c.requires.fit i h 1 in
-    let a2 = c.requires.fit i h 2 in
-    let a3 = c.requires.fit i h 3 in
-    let v = c.minus.ensures i h in
-    let t = subst (λ (z : ℤ). FitsBits 30 z) (sym (c.halve-s4.ensures i h)) (halved-fits _ (let r : FitsBits 31 (lane c.minus.result i) = record { low = omega (arith, ints, v, e0, e1, e2, e3, a0.low, a0.high, a1.low, a1.high, a2.low, a2.high, a3.low, a3.high, c.plus-s0.ensures i h, c.minus-s2.ensures i h); high = omega (arith, ints, v, e0, e1, e2, e3, a0.low, a0.high, a1.low, a1.high, a2.low, a2.high, a3.low, a3.high, c.plus-s0.ensures i h, c.minus-s2.ensures i h) } in r)) in
-    omega (arith, ints, e0, e1, e2, e3, a0.low, a0.high, a1.low, a1.high, a2.low, a2.high, a3.low, a3.high, t.low, t.high)
+    let a0 = word_fits lane i c.args.input.now 0 c.index-input-0.result (omega arith) c.index-input-0.is (c.requires.fit i h) in
+    let a1 = word_fits lane i c.args.input.now 1 c.index-input-1.result (omega arith) c.index-input-1.is (c.requires.fit i h) in
+    let a2 = word_fits lane i c.args.input.now 2 c.index-input-2.result (omega arith) c.index-input-2.is (c.requires.fit i h) in
+    let a3 = word_fits lane i c.args.input.now 3 c.index-input-3.result (omega arith) c.index-input-3.is (c.requires.fit i h) in
+    let t = half-fits a0 a1 a2 a3 (c.plus-s0.ensures i h) (c.minus-s2.ensures i h) (c.minus.ensures i h) (c.halve-s4.ensures i h) in
+    omega (arith, ints, a3.low, a3.high, t.low, t.high)
 
 pub minus-s1-requires : goal.minus-s1-requires
 minus-s1-requires g c = λ i h.
     let lane = g.W.Word.lane_of in
-    let e0 = column_get lane i c.args.input.now 0 c.index-input-0.result (omega arith) c.index-input-0.is in
-    let e1 = column_get lane i c.args.input.now 1 c.index-input-1.result (omega arith) c.index-input-1.is in
-    let e2 = column_get lane i c.args.input.now 2 c.index-input-2.result (omega arith) c.index-input-2.is in
-    let e3 = column_get lane i c.args.input.now 3 c.index-input-3.result (omega arith) c.index-input-3.is in
-    let a0 = c.requires.fit i h 0 in
-    let a1 = c.requires.fit i h 1 in
-    let a2 = c.requires.fit i h 2 in
-    let a3 = c.requires.fit i h 3 in
-    let v = c.minus.ensures i h in
-    let t = subst (λ (z : ℤ). FitsBits 30 z) (sym (c.halve-s4.ensures i h)) (halved-fits _ (let r : FitsBits 31 (lane c.minus.result i) = record { low = omega (arith, ints, v, e0, e1, e2, e3, a0.low, a0.high, a1.low, a1.high, a2.low, a2.high, a3.low, a3.high, c.plus-s0.ensures i h, c.minus-s2.ensures i h); high = omega (arith, ints, v, e0, e1, e2, e3, a0.low, a0.high, a1.low, a1.high, a2.low, a2.high, a3.low, a3.high, c.plus-s0.ensures i h, c.minus-s2.ensures i h) } in r)) in
-    omega (arith, ints, e0, e1, e2, e3, a0.low, a0.high, a1.low, a1.high, a2.low, a2.high, a3.low, a3.high, t.low, t.high)
+    let a0 = word_fits lane i c.args.input.now 0 c.index-input-0.result (omega arith) c.index-input-0.is (c.requires.fit i h) in
+    let a1 = word_fits lane i c.args.input.now 1 c.index-input-1.result (omega arith) c.index-input-1.is (c.requires.fit i h) in
+    let a2 = word_fits lane i c.args.input.now 2 c.index-input-2.result (omega arith) c.index-input-2.is (c.requires.fit i h) in
+    let a3 = word_fits lane i c.args.input.now 3 c.index-input-3.result (omega arith) c.index-input-3.is (c.requires.fit i h) in
+    let t = half-fits a0 a1 a2 a3 (c.plus-s0.ensures i h) (c.minus-s2.ensures i h) (c.minus.ensures i h) (c.halve-s4.ensures i h) in
+    omega (arith, ints, a1.low, a1.high, t.low, t.high)
 
 pub minus-requires-2 : goal.minus-requires-2
 minus-requires-2 g c = λ i h.
     let lane = g.W.Word.lane_of in
-    let e0 = column_get lane i c.args.input.now 0 c.index-input-0.result (omega arith) c.index-input-0.is in
-    let e1 = column_get lane i c.args.input.now 1 c.index-input-1.result (omega arith) c.index-input-1.is in
-    let e2 = column_get lane i c.args.input.now 2 c.index-input-2.result (omega arith) c.index-input-2.is in
-    let e3 = column_get lane i c.args.input.now 3 c.index-input-3.result (omega arith) c.index-input-3.is in
-    let a0 = c.requires.fit i h 0 in
-    let a1 = c.requires.fit i h 1 in
-    let a2 = c.requires.fit i h 2 in
-    let a3 = c.requires.fit i h 3 in
-    let v = c.minus.ensures i h in
-    let t = subst (λ (z : ℤ). FitsBits 30 z) (sym (c.halve-s4.ensures i h)) (halved-fits _ (let r : FitsBits 31 (lane c.minus.result i) = record { low = omega (arith, ints, v, e0, e1, e2, e3, a0.low, a0.high, a1.low, a1.high, a2.low, a2.high, a3.low, a3.high, c.plus-s0.ensures i h, c.minus-s2.ensures i h); high = omega (arith, ints, v, e0, e1, e2, e3, a0.low, a0.high, a1.low, a1.high, a2.low, a2.high, a3.low, a3.high, c.plus-s0.ensures i h, c.minus-s2.ensures i h) } in r)) in
-    omega (arith, ints, e0, e1, e2, e3, a0.low, a0.high, a1.low, a1.high, a2.low, a2.high, a3.low, a3.high, t.low, t.high, c.plus-s0.ensures i h, c.minus-s3.ensures i h)
+    let a0 = word_fits lane i c.args.input.now 0 c.index-input-0.result (omega arith) c.index-input-0.is (c.requires.fit i h) in
+    let a1 = word_fits lane i c.args.input.now 1 c.index-input-1.result (omega arith) c.index-input-1.is (c.requires.fit i h) in
+    let a2 = word_fits lane i c.args.input.now 2 c.index-input-2.result (omega arith) c.index-input-2.is (c.requires.fit i h) in
+    let a3 = word_fits lane i c.args.input.now 3 c.index-input-3.result (omega arith) c.index-input-3.is (c.requires.fit i h) in
+    let t = half-fits a0 a1 a2 a3 (c.plus-s0.ensures i h) (c.minus-s2.ensures i h) (c.minus.ensures i h) (c.halve-s4.ensures i h) in
+    omega (arith, ints, a0.low, a0.high, a1.low, a1.high, a3.low, a3.high, t.low, t.high, c.plus-s0.ensures i h, c.minus-s3.ensures i h)
 
 pub plus-requires : goal.plus-requires
 plus-requires g c = λ i h.
     let lane = g.W.Word.lane_of in
-    let e0 = column_get lane i c.args.input.now 0 c.index-input-0.result (omega arith) c.index-input-0.is in
-    let e1 = column_get lane i c.args.input.now 1 c.index-input-1.result (omega arith) c.index-input-1.is in
-    let e2 = column_get lane i c.args.input.now 2 c.index-input-2.result (omega arith) c.index-input-2.is in
-    let e3 = column_get lane i c.args.input.now 3 c.index-input-3.result (omega arith) c.index-input-3.is in
-    let a0 = c.requires.fit i h 0 in
-    let a1 = c.requires.fit i h 1 in
-    let a2 = c.requires.fit i h 2 in
-    let a3 = c.requires.fit i h 3 in
-    let v = c.minus.ensures i h in
-    let t = subst (λ (z : ℤ). FitsBits 30 z) (sym (c.halve-s4.ensures i h)) (halved-fits _ (let r : FitsBits 31 (lane c.minus.result i) = record { low = omega (arith, ints, v, e0, e1, e2, e3, a0.low, a0.high, a1.low, a1.high, a2.low, a2.high, a3.low, a3.high, c.plus-s0.ensures i h, c.minus-s2.ensures i h); high = omega (arith, ints, v, e0, e1, e2, e3, a0.low, a0.high, a1.low, a1.high, a2.low, a2.high, a3.low, a3.high, c.plus-s0.ensures i h, c.minus-s2.ensures i h) } in r)) in
-    omega (arith, ints, e0, e1, e2, e3, a0.low, a0.high, a1.low, a1.high, a2.low, a2.high, a3.low, a3.high, t.low, t.high, c.minus-s2.ensures i h, c.minus-s1.ensures i h)
+    let a0 = word_fits lane i c.args.input.now 0 c.index-input-0.result (omega arith) c.index-input-0.is (c.requires.fit i h) in
+    let a1 = word_fits lane i c.args.input.now 1 c.index-input-1.result (omega arith) c.index-input-1.is (c.requires.fit i h) in
+    let a2 = word_fits lane i c.args.input.now 2 c.index-input-2.result (omega arith) c.index-input-2.is (c.requires.fit i h) in
+    let a3 = word_fits lane i c.args.input.now 3 c.index-input-3.result (omega arith) c.index-input-3.is (c.requires.fit i h) in
+    let t = half-fits a0 a1 a2 a3 (c.plus-s0.ensures i h) (c.minus-s2.ensures i h) (c.minus.ensures i h) (c.halve-s4.ensures i h) in
+    omega (arith, ints, a1.low, a1.high, a2.low, a2.high, a3.low, a3.high, t.low, t.high, c.minus-s2.ensures i h, c.minus-s1.ensures i h)
 
 pub returns : goal.returns
 returns g c = λ i h.
