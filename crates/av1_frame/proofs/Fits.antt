@@ -21,3 +21,6 @@ block_side d h =
       | inl e ↦ rw e (lit< tt, lit≤ tt)
       | inr e ↦ (let f : d ≡ 1 = omega arith in rw f (lit< tt, lit≤ tt))
     ]
+
+pub rows_le : (q h s n : ℕ) → n ≡ h * s → q ≤ h → q * s ≤ n
+rows_le q h s n e p = grind arith

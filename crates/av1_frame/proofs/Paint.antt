@@ -1,11 +1,12 @@
 -- The steps of a loop that paints a rectangle row by row, and of one that paints a row sample by sample.
-use Rattle.std.proofs.Common.{ℕ, ◌+◌, ◌-◌, ◌*◌, ◌/◌, ◌%◌, ◌<◌, ◌≤◌, ◌≡◌, List, length, get_or, set, refl, ap, arith, ◌∙◌, sym, cond, ◌⊎◌, leb, ltb, inl, inr}
+use Rattle.std.proofs.Common.{ℕ, ◌+◌, ◌-◌, ◌*◌, ◌/◌, ◌%◌, ◌<◌, ◌≤◌, ◌≡◌, List, length, take, drop, ◌++◌, get_or, set, refl, ap, arith, ◌∙◌, sym, cond, ◌⊎◌, leb, ltb, inl, inr}
 use Rattle.std.proofs.lemmas.List.{places, get_or-set_same, get_or-set_other, length-set, get_or_default}
 use Rattle.std.proofs.lemmas.Bool.Decides.{nat_tests}
 use Rattle.std.proofs.lemmas.Bool.{cases_eq, cases_lt, cases_order}
 use Rattle.std.proofs.lemmas.Nat.{div-mul-add, mod-mul-add}
 use Rattle.av1_frame.specs.declared.plane_region.StoredArea.{StoredArea}
 use Rattle.av1_frame.specs.Samples.{with_part, part, paint, paint_row, painted_at, corner}
+use Rattle.av1_frame.specs.Areas.{AreRows}
 use Rattle.av1_frame.proofs.Fits.{row_end_le}
 use Rattle.av1_frame.proofs.Update.{update_is, length-update, get_or-update}
 
@@ -124,3 +125,37 @@ pub paint_empty : {X : Type 0} (stride : ℕ) (a : StoredArea) (f : ℕ → ℕ 
 unfolding paint
 paint_empty stride a f s e =
     sym (update_is _ s s refl (λ k d l. sym (nothing_at a (k % stride) (k / stride) f (get_or s k d) e)))
+
+length-paint_row : {X : Type 0} (w : ℕ) (g : ℕ → X → X) (s : List X) → length (paint_row w g s) ≡ length s
+unfolding paint_row
+length-paint_row w g s = length-update _ s
+
+-- a row of the rest of a slice, from its place n on, is painted: each element after that
+rest_elem : {X : Type 0} (n w k : ℕ) (g : ℕ → X → X) (t : List X) (d : X) → n + w ≤ length t → k < length t → get_or (take n t ++ paint_row w g (drop n t)) k d ≡ cond (leb n k) (cond (ltb (k - n) w) (g (k - n) (get_or t k d)) (get_or t k d)) (get_or t k d)
+unfolding paint_row
+rest_elem n w k g t d h l =
+    elim (cases_lt k n) [
+      | inl b ↦ grind (arith, nat_tests, places, length-update)
+      | inr b ↦ (let q : k - n < length (drop n t) = grind (arith, places) in let e = get_or-update (λ c v. cond (ltb c w) (g c v) v) (drop n t) (k - n) d q in grind (arith, nat_tests, places, length-update))
+    ]
+
+rest_is : {X : Type 0} (n w : ℕ) (g : ℕ → X → X) (t : List X) → n + w ≤ length t → take n t ++ paint_row w g (drop n t) ≡ with_part n t (paint_row w g (part n w t))
+rest_is n w g t h =
+    update_is _ t _ (let e = length-paint_row w g (drop n t) in grind (arith, places)) (λ k d l. rest_elem n w k g t d h l ∙ sym (with_row n w w k g t d (omega arith) h l) ∙ get_or-update _ t k d l)
+
+-- row y of the rectangle a ends in them, and begins in them
+pub row_within : (stride : ℕ) (a : StoredArea) (n y : ℕ) → AreRows stride a n → y < a.height → (a.y + y) * stride + a.x + a.width ≤ n
+row_within stride a n y f h =
+    let e = row_end_le (a.y + y) (a.y + a.height) stride (a.x + a.width) _ refl (omega arith) f.columns in
+    omega (arith, e, f.rows)
+
+pub row_starts_within : (stride : ℕ) (a : StoredArea) (n y : ℕ) → AreRows stride a n → y < a.height → (a.y + y) * stride + a.x ≤ n
+row_starts_within stride a n y f h = let e = row_within stride a n y f h in omega arith
+
+-- one more row: all from the row on was taken, the row was painted, and it was joined again
+pub row_painted_rest : {X : Type 0} (stride : ℕ) (a : StoredArea) (r : ℕ) (f : ℕ → ℕ → X → X) (s t front rest new : List X) → AreRows stride a (length s) → r < a.height → t ≡ paint stride (corner a a.width r) f s → let n : ℕ = (a.y + r) * stride + a.x in front ≡ take n t → rest ≡ drop n t → new ≡ paint_row a.width (f r) rest → front ++ new ≡ paint stride (corner a a.width (r + 1)) f s
+row_painted_rest stride a r f s t front rest new h l e p q b =
+    let n : ℕ = (a.y + r) * stride + a.x in
+    let fits : n + a.width ≤ length s = row_within stride a (length s) r h l in
+    let same : length t ≡ length s = ap length e ∙ length_paint stride _ f s in
+    ap (λ u. u ++ new) p ∙ ap (λ u. take n t ++ u) (b ∙ ap (paint_row a.width (f r)) q) ∙ rest_is n a.width (f r) t (omega arith) ∙ ap (λ u. with_part n u (paint_row a.width (f r) (part n a.width u))) e ∙ paint_more stride a a.width r a.width f s h.some h.columns (omega arith) fits

@@ -4,10 +4,10 @@ use Rattle.av1_frame.specs.declared.plane_region.PlaneRegionMut.{PlaneRegionMut}
 use Rattle.av1_frame.specs.declared.plane_region.OuterArea.{OuterArea}
 use Rattle.av1_frame.specs.declared.plane_region.StoredArea.{StoredArea}
 use Rattle.av1_frame.specs.Samples.{corner, with_part, row_start, row_of, paint_row}
-use Rattle.av1_frame.specs.Areas.{IsStorage, AreaFits}
+use Rattle.av1_frame.specs.Areas.{IsStorage, AreaFits, AreRows}
 use Rattle.av1_frame.specs.declared.plane.PlaneConfig.{PlaneConfig}
 use Rattle.av1_frame.specs.Regions.{painted, painted_within, with_samples, with_area, with_outer, outer_area, stored, InStorage}
-use Rattle.av1_frame.proofs.Fits.{row_end_le}
+use Rattle.av1_frame.proofs.Fits.{row_end_le, rows_le}
 use Rattle.av1_frame.proofs.Paint.{paint_none, paint_more, paint_same, length_paint, length_with_part}
 
 -- storage of as many samples
@@ -61,3 +61,14 @@ painted_within_in_storage r o a f e h =
 pub written_in_storage : {T : Type 0} (r : PlaneRegionMut T) (i : ℕ) (ws : List T) → InStorage r → InStorage (with_samples r (with_part i (stored r) ws))
 written_in_storage r i ws h =
     record { fits = same_fits r.area r.plane_cfg _ _ (length_with_part i (stored r) ws) h.fits; cfg = h.cfg; rect = h.rect }
+
+-- the first rows and columns of a region are rows of its samples
+pub corner_rows : {T : Type 0} (r : PlaneRegionMut T) (w h : ℕ) → InStorage r → w ≤ r.area.width → h ≤ r.area.height → AreRows r.plane_cfg.stride (corner r.area w h) (length (stored r))
+corner_rows r w h s p q =
+    let f = s.fits in
+    record {
+      some = omega (arith, f.storage.some_columns, f.storage.visible_columns);
+      columns = omega (arith, f.columns);
+      rows = rows_le (r.area.y + h) r.plane_cfg.alloc_height r.plane_cfg.stride _ f.storage.fills (omega (arith, f.rows));
+      few = f.storage.few;
+    }

@@ -1,6 +1,6 @@
 -- Samples that are read by signed places.
-use Rattle.std.proofs.Common.{ℕ, refl, subst, ◌≤ℤ◌, ◌<ℤ◌, ◌+◌, ◌-◌, ◌*◌, ◌/◌, ◌%◌, ◌<◌, ◌≡◌, length, get_or, map, slice_index, ap, arith, ◌∙◌, sym, ℤ, pos, negsuc, ◌+ℤ◌, unsigned_abs}
-use Rattle.std.proofs.lemmas.List.{get_or-map, places}
+use Rattle.std.proofs.Common.{ℕ, refl, subst, ◌≤ℤ◌, ◌<ℤ◌, ◌+◌, ◌-◌, ◌*◌, ◌/◌, ◌%◌, ◌<◌, ◌≡◌, length, get_or, drop, map, slice_index, ap, arith, ◌∙◌, sym, ℤ, pos, negsuc, ◌+ℤ◌, unsigned_abs}
+use Rattle.std.proofs.lemmas.List.{get_or-map, get_or-drop, places}
 use Rattle.std.proofs.lemmas.Int.{ints}
 use Rattle.std.proofs.lemmas.Nat.{div-mul-add, mod-mul-add}
 use Rattle.av1_frame.specs.declared.plane.PlaneConfig.{PlaneConfig}
@@ -8,7 +8,7 @@ use Rattle.av1_frame.specs.declared.plane.Plane.{Plane}
 use Rattle.av1_frame.specs.Samples.{gathered, part}
 use Rattle.av1_frame.specs.Areas.{IsStorage}
 use Rattle.av1_frame.specs.Planes.{IsWhole, place_at, sample_at, nearest, padded}
-use Rattle.av1_frame.specs.Slices.{IsStoredPlace, stored_column, stored_row, stored_sample, row_from, nearest_visible}
+use Rattle.av1_frame.specs.Slices.{IsStoredPlace, stored_column, stored_row, stored_sample, row_from, all_from, nearest_visible}
 use Rattle.av1_frame.proofs.Fits.{row_end_le}
 use Rattle.av1_frame.proofs.Gather.{get_or-gathered, length-gathered}
 use Rattle.av1_frame.proofs.Planes.{some_item, place_in_storage}
@@ -91,3 +91,33 @@ row_from_sample num p x y c h s l =
     let e : get_or (part i w p.samples) c d ≡ get_or p.samples (i + c) d = grind (arith, places) in
     let f : i + c ≡ stored_row cfg y * cfg.stride + stored_column cfg (x +ℤ pos c) = omega (arith, moved_right cfg.xorigin x c s.left) in
     get_or-map num (part i w p.samples) c d 0 (grind (arith, places, b)) ∙ ap num e ∙ sym (get_or-map num p.samples (i + c) d 0 b) ∙ ap (λ j. slice_index (map num p.samples) j) f
+
+rows_and_columns : (a r stride b c : ℕ) → a * stride + b + (r * stride + c) ≡ (a + r) * stride + (b + c)
+rows_and_columns a r stride b c = grind arith
+
+-- column c of row r of all that is stored from a place on lies in storage
+pub all_from_fits : {T : Type 0} (p : Plane T) (x y : ℤ) (r c : ℕ) → IsWhole p → IsStoredPlace p.plane_cfg x y → IsStoredPlace p.plane_cfg x (y +ℤ pos r) → stored_column p.plane_cfg x + c < p.plane_cfg.stride
+    → r * p.plane_cfg.stride + c < length (all_from p x y)
+all_from_fits p x y r c h s t l =
+    let cfg = p.plane_cfg in
+    let b = stored_place cfg (length p.samples) x (y +ℤ pos r) c h t l in
+    let m : stored_row cfg (y +ℤ pos r) ≡ stored_row cfg y + r = moved_right cfg.yorigin y r s.top in
+    let e : stored_row cfg y * cfg.stride + stored_column cfg x + (r * cfg.stride + c) ≡ stored_row cfg (y +ℤ pos r) * cfg.stride + stored_column cfg x + c =
+    rows_and_columns (stored_row cfg y) r cfg.stride (stored_column cfg x) c ∙ ap (λ q. q * cfg.stride + (stored_column cfg x + c)) (sym m) ∙ omega arith in
+    grind (arith, places, e, b)
+
+-- that sample
+pub all_from_sample : {T : Type 0} (num : T → ℕ) (p : Plane T) (x y : ℤ) (r c : ℕ) → IsWhole p → IsStoredPlace p.plane_cfg x y → IsStoredPlace p.plane_cfg x (y +ℤ pos r) → stored_column p.plane_cfg x + c < p.plane_cfg.stride
+    → slice_index (map num (all_from p x y)) (r * p.plane_cfg.stride + c) ≡ stored_sample num p (x +ℤ pos c) (y +ℤ pos r)
+all_from_sample num p x y r c h s t l =
+    let cfg = p.plane_cfg in
+    let i = stored_row cfg y * cfg.stride + stored_column cfg x in
+    let k = r * cfg.stride + c in
+    let b = stored_place cfg (length p.samples) x (y +ℤ pos r) c h t l in
+    let m : stored_row cfg (y +ℤ pos r) ≡ stored_row cfg y + r = moved_right cfg.yorigin y r s.top in
+    let n : stored_column cfg (x +ℤ pos c) ≡ stored_column cfg x + c = moved_right cfg.xorigin x c s.left in
+    let f : i + k ≡ stored_row cfg (y +ℤ pos r) * cfg.stride + stored_column cfg (x +ℤ pos c) =
+    rows_and_columns (stored_row cfg y) r cfg.stride (stored_column cfg x) c ∙ ap (λ q. q * cfg.stride + (stored_column cfg x + c)) (sym m) ∙ ap (λ q. stored_row cfg (y +ℤ pos r) * cfg.stride + q) (sym n) in
+    let within : i + k < length p.samples = omega (arith, f, n, b) in
+    let d = some_item p.samples (i + k) within in
+    get_or-map num (drop i p.samples) k d 0 (all_from_fits p x y r c h s t l) ∙ ap num (get_or-drop i p.samples k d) ∙ sym (get_or-map num p.samples (i + k) d 0 within) ∙ ap (λ j. slice_index (map num p.samples) j) f

@@ -32,3 +32,12 @@ pub vec_part_is : {X : Type 0} (n i : ℕ) (s t ws : List X) → s ≡ t → n �
 vec_part_is n i s t ws v e h =
     let l : length s ≡ length t = ap length v in
     update_is _ s _ (grind (arith, places)) (λ k d l. grind (arith, places, nat_tests)) ∙ ap (λ u. with_part i u ws) v
+
+-- the same after a write to all of it
+pub vec_whole_is : {X : Type 0} (n : ℕ) (s t ws : List X) → s ≡ t → n ≡ length s → take n (ws ++ drop (length ws) s) ≡ with_part 0 t ws
+vec_whole_is n s t ws v e =
+    update_is _ s _ (grind (arith, places)) (λ k d l. grind (arith, places, nat_tests)) ∙ ap (λ u. with_part 0 u ws) v
+
+-- all of a list written over
+pub with_whole : {X : Type 0} (s ws : List X) → length ws ≡ length s → with_part 0 s ws ≡ ws
+with_whole s ws e = sym (update_is _ s ws e (λ k d l. grind (arith, places, nat_tests)))

@@ -91,3 +91,10 @@ pub record AreaFits (a : StoredArea) (cfg : PlaneConfig) (n : ℕ) : Type 0 wher
   pub storage : IsStorage cfg n
   pub columns : a.x + a.width ≤ cfg.stride
   pub rows : a.y + a.height ≤ cfg.alloc_height
+
+-- the rectangle a lies in n samples, in rows of this stride
+pub record AreRows (stride : ℕ) (a : StoredArea) (n : ℕ) : Type 0 where
+  pub some : 0 < stride
+  pub columns : a.x + a.width ≤ stride
+  pub rows : (a.y + a.height) * stride ≤ n
+  pub few : n < 2 ^ 63

@@ -67,3 +67,7 @@ LendsRow T r y result = Lends (region_row T) (Array T 0) r result (λ ws. with_s
 -- what is written through a part of r, as a region of its own, stands in r
 abbrev pub LendsSub : (T : RattleType) → MutBor (PlaneRegionMut T.Denot) → PlaneRegionMut T.Denot → Fml
 LendsSub T r result = Lends (region_row T) (plane_row T) r result.plane (with_plane r.now)
+
+-- what is written through all the samples of r stands in r
+abbrev pub LendsSamples : (T : RattleType) → MutBor (PlaneRegionMut T.Denot) → MutBor (List T.Denot) → Fml
+LendsSamples T r result = Lends (region_row T) (Array T 0) r result (λ ws. with_samples r.now (with_part 0 (stored r.now) ws))

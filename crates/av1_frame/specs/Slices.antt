@@ -1,5 +1,5 @@
 -- Slices of a plane: a place, which may lie outside storage, and what is stored from there on.
-use Rattle.std.specs.Prelude.{ℕ, ◌+◌, ◌-◌, ◌*◌, List, map, slice_index, min, ℤ, pos, negsuc, ◌+ℤ◌, ◌≤ℤ◌, ◌<ℤ◌, neg_ℤ, unsigned_abs}
+use Rattle.std.specs.Prelude.{ℕ, ◌+◌, ◌-◌, ◌*◌, List, drop, map, slice_index, min, ℤ, pos, negsuc, ◌+ℤ◌, ◌≤ℤ◌, ◌<ℤ◌, neg_ℤ, unsigned_abs}
 use Rattle.std.specs.Int.{int_min, int_max}
 use Rattle.av1_frame.specs.declared.plane.PlaneConfig.{PlaneConfig}
 use Rattle.av1_frame.specs.declared.plane.Plane.{Plane}
@@ -37,6 +37,10 @@ nearest_visible n (negsuc i) = 0
 -- the samples of row y from column x to the end of the stored row
 abbrev pub row_from : {T : Type 0} → Plane T → ℤ → ℤ → List T
 row_from p x y = part (stored_row p.plane_cfg y * p.plane_cfg.stride + stored_column p.plane_cfg x) (p.plane_cfg.stride - stored_column p.plane_cfg x) p.samples
+
+-- all that is stored from column x of row y on
+abbrev pub all_from : {T : Type 0} → Plane T → ℤ → ℤ → List T
+all_from p x y = drop (stored_row p.plane_cfg y * p.plane_cfg.stride + stored_column p.plane_cfg x) p.samples
 
 -- row r of the slice s is stored
 pub record RowIsStored {T : Type 0} (s : PlaneSlice T) (r : ℕ) : Type 0 where

@@ -2,9 +2,9 @@
 
 ghost use Rattle.std.specs.Prelude.{◌≡◌, ℕ, ◌+◌, ◌-◌, ◌*◌, ◌^◌, ◌<◌, ◌≤◌, length, pos, ◌≤ℤ◌};
 ghost use Rattle.std.specs.Borrow.{sem};
-ghost use Rattle.av1_frame.specs.Samples.{row_of};
+ghost use Rattle.av1_frame.specs.Samples.{corner, row_of};
 ghost use Rattle.av1_frame.specs.Areas.{area_from, from_origin, rect_of, LiesIn, IsPartOf};
-ghost use Rattle.av1_frame.specs.Regions.{LendsRow, LendsSub, InStorage, IsReadable, stored, with_area, with_outer, outer_area};
+ghost use Rattle.av1_frame.specs.Regions.{LendsRow, LendsSamples, LendsSub, InStorage, IsReadable, stored, with_area, with_outer, outer_area};
 
 use crate::block_unit::BlockOffset;
 use crate::pixel::Pixel;
@@ -47,11 +47,15 @@ pub enum Area {
 
 /// A rectangle of storage: its columns and rows count from the first stored sample.
 #[derive(Clone, Copy, Debug, PartialEq, Eq)]
-pub(crate) struct StoredArea {
-    pub(crate) x: usize,
-    pub(crate) y: usize,
-    pub(crate) width: usize,
-    pub(crate) height: usize,
+pub struct StoredArea {
+    /// The first stored column.
+    pub x: usize,
+    /// The first stored row.
+    pub y: usize,
+    /// How many columns.
+    pub width: usize,
+    /// How many rows.
+    pub height: usize,
 }
 
 impl StoredArea {
@@ -221,6 +225,26 @@ impl<'a, T: Pixel> PlaneRegionMut<'a, T> {
         let start = (self.area.y + y) * self.plane_cfg.stride + self.area.x;
         let width = self.area.width;
         self.plane.part_mut(start, width)
+    }
+
+    /// All the samples that the region's plane stores, to write.
+    pub fn samples_mut(&mut self) -> &mut [T]
+        ensures* writes_back { sem 𝓛 (LendsSamples T.row self.entry result) }
+        ensures value { result.now ≡ stored self.old }
+    {
+        self.plane.samples_mut()
+    }
+
+    /// The first columns and rows of the rectangle, as a rectangle of storage.
+    pub fn corner(&self, width: usize, height: usize) -> StoredArea
+        ensures { result ≡ corner self.now.area width height }
+    {
+        StoredArea {
+            x: self.area.x,
+            y: self.area.y,
+            width,
+            height,
+        }
     }
 
     /// The same rectangle, to read.

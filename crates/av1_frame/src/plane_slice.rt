@@ -3,7 +3,7 @@
 ghost use Rattle.std.specs.Prelude.{◌≡◌, ◌-◌, ◌^◌, pos, ◌+ℤ◌, ◌-ℤ◌, ◌≤ℤ◌, ◌<ℤ◌, ◌<◌, length, FitsSigned};
 ghost use Rattle.std.specs.Int.{w64};
 ghost use Rattle.av1_frame.specs.Planes.{IsWhole};
-ghost use Rattle.av1_frame.specs.Slices.{RowIsStored, within_pads, row_from, stored_column, stored_row};
+ghost use Rattle.av1_frame.specs.Slices.{RowIsStored, all_from, within_pads, row_from, stored_column, stored_row};
 
 use crate::pixel::Pixel;
 use crate::plane::Plane;
@@ -82,6 +82,26 @@ impl<'a, T: Pixel> PlaneSlice<'a, T> {
         let column = self.stored_column();
         let start = self.stored_row(r) * stride + column;
         part_of(self.plane.as_slice(), start, stride - column)
+    }
+
+    /// All that is stored from the place on: row `r` of it begins at `r * stride()`.
+    #[inline]
+    #[tactic(auto, using(crate::proofs::Fits::row_end_le))]
+    pub fn samples(&self) -> &[T]
+        requires { RowIsStored self.now 0 }
+        ensures { result.now ≡ all_from self.now.plane.now self.now.x self.now.y }
+    {
+        let start = self.stored_row(0) * self.stride() + self.stored_column();
+        let (_, rest) = self.plane.as_slice().split_at(start);
+        rest
+    }
+
+    /// How far apart in storage the plane's rows stand.
+    #[inline]
+    pub fn stride(&self) -> usize
+        ensures { result ≡ self.now.plane.now.plane_cfg.stride }
+    {
+        self.plane.config().stride
     }
 
     /// The stored column of the place.

@@ -32,6 +32,14 @@ impl<T> Storage<T> {
         self.samples.as_slice()
     }
 
+    /// All the samples, to write.
+    pub(crate) fn as_mut_slice(&mut self) -> &mut [T]
+        ensures* writes_back { sem 𝓛 (LendsPart T.row self.entry 0 result) }
+        ensures value { result.now ≡ self.old }
+    {
+        self.samples.as_mut_slice()
+    }
+
     /// The `width` samples from the place `start` on, to write.
     pub(crate) fn part_mut(&mut self, start: usize, width: usize) -> &mut [T]
         requires { start + width ≤ length self.old }

@@ -39,6 +39,34 @@ fn padding_repeats_the_nearest_sample_of_16_bits(rt: HostRuntime) -> Result<(), 
     padding!(rt, u16)
 }
 
+/// All samples of a plane of 4 by 2, read from a place on and written from the first.
+macro_rules! all_samples {
+    ($rt:ident, $sample:ty) => {{
+        let samples: [$sample; 8] = [0, 1, 2, 3, 10, 11, 12, 13];
+        let mut plane = Plane::from_slice($rt.alloc(), &samples, 4)?;
+        let place = plane.slice(PlaneOffset { x: 3, y: 0 });
+        assert!($rt; place.stride() == 4 && place.samples().starts_with(&[3, 10, 11, 12, 13]), "to the end");
+        let mut region = plane.as_region_mut();
+        let area = region.corner(2, 1);
+        assert!($rt; area.x == 0 && area.y == 0 && area.width == 2 && area.height == 1, "its first samples");
+        region.samples_mut()[7] = 97;
+        assert!($rt; region.row(1).starts_with(&[10, 11, 12, 97]), "written in the plane");
+        Ok(())
+    }};
+}
+
+#[test]
+#[tactic(auto, using(crate::proofs::Regions::written_in_storage))]
+fn all_samples_are_read_and_written_at_8_bits(rt: HostRuntime) -> Result<(), Fail> {
+    all_samples!(rt, u8)
+}
+
+#[test]
+#[tactic(auto, using(crate::proofs::Regions::written_in_storage))]
+fn all_samples_are_read_and_written_at_16_bits(rt: HostRuntime) -> Result<(), Fail> {
+    all_samples!(rt, u16)
+}
+
 /// Rectangles of a plane of 4 by 3 samples, each of them 10 times its row plus its column.
 macro_rules! rectangles {
     ($rt:ident, $sample:ty) => {{

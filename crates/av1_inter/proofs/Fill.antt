@@ -1,5 +1,5 @@
 -- Loops that write the entries of a list one after another.
-use Rattle.std.proofs.Common.{ℕ, ap, subst, ◌*◌, ◌+◌, ◌-◌, ◌<◌, ◌≤◌, ◌≡◌, ◌⊎◌, ℤ, pos, List, length, replicate, set, refl, arith, ◌∙◌, inl, inr, get_or-set_other}
+use Rattle.std.proofs.Common.{ℕ, ap, subst, sym, ◌*◌, ◌+◌, ◌-◌, ◌<◌, ◌≤◌, ◌≡◌, ◌⊎◌, ℤ, pos, List, length, replicate, set, refl, arith, ◌∙◌, inl, inr, get_or-set_other}
 use Rattle.std.proofs.Math.Nat.{mul-le-mul_right}
 use Rattle.std.proofs.lemmas.Bool.{cases_eq, cases_lt, cases_order}
 use Rattle.std.proofs.lemmas.Grind.{get_or-set_at}
@@ -38,6 +38,14 @@ line_more n c f now v h l e = record {
   value = (done_more c f now now v (record { done = h.value; rest = λ k b. refl }) (omega (arith, h.long)) e).done;
   long = length-set now c v ∙ h.long;
 }
+
+-- what holds of the first c entries and of the next
+pub each_more : (P : ℤ → Type 0) (c : ℕ) (now : List ℤ) (v : ℤ) → ((k : ℕ) → k < c → P (entry now k)) → c < length now → P v → (k : ℕ) → k < c + 1 → P (entry (set now c v) k)
+each_more P c now v h l p k b =
+    elim (cases_eq k c) [
+      | inl same ↦ (let n : entry (set now c v) k ≡ v = grind (arith, get_or-set_at) in subst P (sym n) p)
+      | inr other ↦ (let n : entry (set now c v) k ≡ entry now k = grind (arith, get_or-set_other) in subst P (sym n) (h k (omega arith)))
+    ]
 
 -- the same for the entries from `start` on
 pub record IsDoneFrom (start c : ℕ) (f : ℕ → ℤ) (old now : List ℤ) : Type 0 where

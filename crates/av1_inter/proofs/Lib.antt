@@ -14,3 +14,5 @@ pub mod Constants
 pub mod Fitting
 pub mod Within
 pub mod SameReferences
+pub mod Sources
+pub mod Halves

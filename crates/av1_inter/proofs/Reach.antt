@@ -5,8 +5,8 @@ use Rattle.std.proofs.lemmas.Int.{ints}
 use Rattle.av1_frame.specs.Arithmetic.{round_shift}
 use Rattle.av1_inter.specs.Motion.{bias, down_intermediate, intermediate_at, weighted}
 use Rattle.av1_blocks.specs.Depths.{IsDepth}
-use Rattle.av1_inter.specs.Scaffolding.{IsFilter, IsWithin}
-use Rattle.av1_inter.proofs.Sums.{Between, filter_between}
+use Rattle.av1_inter.specs.Scaffolding.{Between, IsFilter, IsWithin}
+use Rattle.av1_inter.proofs.Sums.{filter_between}
 
 wider : (a b c d : ℕ) (z : ℤ) → a ≤ c → b ≤ d → Between a b z → Between c d z
 wider a b c d z l h s = record { low = omega (arith, ints, s.low); high = omega (arith, ints, s.high) }

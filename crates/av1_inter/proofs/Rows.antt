@@ -1,7 +1,7 @@
 -- Rows of a reference, and rows that are painted.
 use Rattle.std.proofs.Common.{◌++◌, take, drop, ℕ, ◌+◌, ◌-◌, ◌%◌, ◌≢◌, ◌<◌, ◌≤◌, ◌≡◌, ◌∙◌, ap, sym, arith, List, length, map, get_or, slice_index, ℤ, pos, negsuc, ◌+ℤ◌, ◌≤ℤ◌, unsigned_abs, inl, inr}
 use Rattle.std.proofs.lemmas.Int.{ints}
-use Rattle.std.proofs.lemmas.List.{get_or-map, places}
+use Rattle.std.proofs.lemmas.List.{get_or-drop, get_or-map, get_or_default, places}
 use Rattle.std.proofs.lemmas.Bool.{cases_lt, cases_eq}
 use Rattle.std.proofs.lemmas.Bool.Decides.{nat_tests}
 use Rattle.av1_frame.specs.declared.plane_slice.PlaneSlice.{PlaneSlice}
@@ -23,6 +23,22 @@ paint_row_same w f g s e =
       | inl b ↦ (let t = e k (get_or s k d) b in grind (arith, nat_tests))
       | inr b ↦ grind (arith, nat_tests)
     ])
+
+-- a sample that was painted, where what it becomes hangs on no other
+painted_sample : {X : Type 0} (w k : ℕ) (f : ℕ → X → X) (s : List X) (d : X) → k < w → w ≤ length s → ((v : X) → f k v ≡ f k d) → get_or (paint_row w f s) k d ≡ f k d
+unfolding paint_row
+painted_sample w k f s d h l e =
+    get_or-update _ s k d (omega arith) ∙ (let t = e (get_or s k d) in grind (arith, nat_tests))
+
+-- a row that was copied by way of another, from the fourth sample on
+pub copied_twice : {X : Type 0} (n : ℕ) (row source from blank line new : List X) → n + 3 ≤ length source → length blank ≡ n
+    → from ≡ drop 3 source → line ≡ paint_row n (λ c v. get_or from c v) blank → new ≡ paint_row n (λ c v. get_or line c v) row
+    → new ≡ paint_row n (λ c v. get_or source (c + 3) v) row
+copied_twice n row source from blank line new h b d e f =
+    f ∙ paint_row_same n _ _ row (λ q v l. let inside : q < length (drop 3 source) = grind (arith, places) in
+    let m : 3 + q ≡ q + 3 = omega arith in
+    ap (λ s. get_or s q v) (e ∙ ap (λ t. paint_row n (λ k u. get_or t k u) blank) d) ∙ painted_sample n q (λ k u. get_or (drop 3 source) k u) blank v l (omega arith) (λ u. get_or_default (drop 3 source) q u v inside)
+    ∙ get_or-drop 3 source q v ∙ ap (λ k. get_or source k v) m)
 
 -- a row whose first n samples are those of another from place m on
 copied_from : {X : Type 0} (m n : ℕ) (s source ys : List X) → n ≤ length s → n + m ≤ length source → ys ≡ take n (drop m source) → ys ++ drop n s ≡ paint_row n (λ c v. get_or source (c + m) v) s

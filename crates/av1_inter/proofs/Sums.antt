@@ -6,7 +6,7 @@ use Rattle.std.proofs.Math.Nat.{mod-eq_of_lt}
 use Rattle.std.proofs.Math.Pow.{pow_mono}
 use Rattle.av1_frame.specs.Arithmetic.{round_shift}
 use Rattle.av1_inter.specs.Motion.{entry, intermediate_bits, intermediate_at, sum_to, weighted}
-use Rattle.av1_inter.specs.Scaffolding.{gains, losses, IsFilter, IsInner, IsWithin}
+use Rattle.av1_inter.specs.Scaffolding.{Between, gains, losses, IsFilter, IsInner, IsWithin}
 
 -- a sample, shifted to the left
 pub shifted_is : (z : ℤ) (n b : ℕ) → z ≡ pos n → n < 2 ^ 16 → b ≤ 4 → to_z w32 (of_z w32 z * 2 ^ b % 4294967296) ≡ pos (n * 2 ^ b)
@@ -26,11 +26,6 @@ averaged_sum a b p x y q ea eb ep fa fb w = omega (arith, ints, w.low, w.high, e
 pub stored_is : (r b x y : ℤ) → x ≡ r → y ≡ b → FitsSigned w32 x → IsWithin 8192 b → FitsSigned w16 (r -ℤ b) → to_z w16 (of_z w16 (to_z w32 (of_z w32 (to_z w32 (of_z w32 x) -ℤ to_z w32 (of_z w32 y))))) ≡ r -ℤ b
 stored_is r b x y er eb fr w f = omega (arith, ints, er, eb, fr, w.low, w.high, f)
 
--- z is from -a to b
-pub record Between (a b : ℕ) (z : ℤ) : Type 0 where
-  pub low : neg_ℤ (pos a) ≤ℤ z
-  pub high : z ≤ℤ pos b
-
 -- a weight's part of the positive ones, and of the negative ones
 abbrev pub gain : ℤ → ℕ
 gain (pos n) = n
@@ -40,7 +35,7 @@ abbrev pub loss : ℤ → ℕ
 loss (pos n) = 0
 loss (negsuc n) = suc n
 
-product_between : (t v : ℤ) (a b : ℕ) → Between a b v → Between (gain t * a + loss t * b) (gain t * b + loss t * a) (t *ℤ v)
+pub product_between : (t v : ℤ) (a b : ℕ) → Between a b v → Between (gain t * a + loss t * b) (gain t * b + loss t * a) (t *ℤ v)
 product_between (pos n) (pos m) a b h =
     let k : n * m ≤ n * b = mul-le n m n b (omega arith) (omega (arith, ints, h.high)) in
     record { low = omega (arith, ints, k); high = omega (arith, ints, k) }
@@ -68,13 +63,13 @@ losses_more (negsuc n ∷ xs) zero h = omega arith
 losses_more (pos n ∷ xs) (suc k) h = losses_more xs k (omega arith)
 losses_more (negsuc n ∷ xs) (suc k) h = let e = losses_more xs k (omega arith) in omega (arith, e)
 
-gains_part : (taps : List ℤ) (k : ℕ) → gains (take k taps) ≤ gains taps
+pub gains_part : (taps : List ℤ) (k : ℕ) → gains (take k taps) ≤ gains taps
 gains_part taps zero = omega arith
 gains_part [] (suc k) = omega arith
 gains_part (pos n ∷ xs) (suc k) = let e = gains_part xs k in omega (arith, e)
 gains_part (negsuc n ∷ xs) (suc k) = gains_part xs k
 
-losses_part : (taps : List ℤ) (k : ℕ) → losses (take k taps) ≤ losses taps
+pub losses_part : (taps : List ℤ) (k : ℕ) → losses (take k taps) ≤ losses taps
 losses_part taps zero = omega arith
 losses_part [] (suc k) = omega arith
 losses_part (pos n ∷ xs) (suc k) = losses_part xs k

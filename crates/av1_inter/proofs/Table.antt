@@ -1,5 +1,6 @@
 -- The weights of every filter are in bounds, by computing over the table.
-use Rattle.std.proofs.Common.{ℕ, ◌+◌, ◌<◌, ◌≤◌, ◌≡◌, ◌∙◌, ap, refl, sym, arith, Bool, true, ◌&&◌, nat_eq, nat_le, List, [], length, slice_index_or, inl, inr, subst, ℤ, pos, negsuc, ◌≤ℤ◌, ◌<ℤ◌, unsigned_abs, w32, to_z, of_z, FitsSigned}
+use Rattle.std.proofs.Common.{ℕ, ◌+◌, ◌*◌, ◌/◌, ◌%◌, ◌*ℤ◌, ◌<◌, ◌≤◌, ◌≡◌, ◌∙◌, ap, refl, sym, arith, Bool, true, ◌&&◌, nat_eq, nat_le, List, [], length, slice_index_or, inl, inr, subst, ℤ, pos, negsuc, ◌≤ℤ◌, ◌<ℤ◌, unsigned_abs, w32, to_z, of_z, FitsSigned}
+use Rattle.std.specs.Int.{int_shr}
 use Rattle.std.proofs.lemmas.Bool.{cases_lt}
 use Rattle.std.proofs.lemmas.Bool.Decides.{nat_tests}
 use Rattle.std.proofs.lemmas.Int.{ints, to_z-of_z}
@@ -28,13 +29,28 @@ equal_is m n e = grind (arith, nat_tests)
 at_most_is : (m n : ℕ) → nat_le m n ≡ true → m ≤ n
 at_most_is m n e = grind (arith, nat_tests)
 
+abbrev is_even : ℤ → Bool
+is_even (pos n) = nat_eq (n % 2) 0
+is_even (negsuc n) = nat_eq (n % 2) 1
+
+all_even : all_below 6 (λ k. all_below 16 (λ f. all_below 8 (λ t. is_even (slice_index_or (row_at k f) t (pos 0))))) ≡ true
+all_even = refl
+
+even_is : (z : ℤ) → is_even z ≡ true → pos 2 *ℤ int_shr z 1 ≡ z
+even_is (pos n) e = let m : n % 2 ≡ 0 = equal_is _ _ e in let h : 2 * (n / 2) ≡ n = omega arith in omega (arith, ints, h)
+even_is (negsuc n) e = let m : n % 2 ≡ 1 = equal_is _ _ e in let h : 2 * (n / 2) + 1 ≡ n = omega arith in omega (arith, ints, h)
+
+row_is_even : (k f t : ℕ) → k < 6 → f < 16 → t < 8 → pos 2 *ℤ int_shr (slice_index_or (row_at k f) t (pos 0)) 1 ≡ slice_index_or (row_at k f) t (pos 0)
+row_is_even k f t h l m =
+    even_is _ (below 8 (λ i. is_even (slice_index_or (row_at k f) i (pos 0))) (below 16 (λ j. all_below 8 (λ i. is_even (slice_index_or (row_at k j) i (pos 0)))) (below 6 (λ n. all_below 16 (λ j. all_below 8 (λ i. is_even (slice_index_or (row_at n j) i (pos 0))))) all_even k h) f l) t m)
+
 row_is_filter : (k f : ℕ) → k < 6 → f < 16 → IsFilter (row_at k f)
 row_is_filter k f h l =
     let e = below 16 (λ i. is_filter (row_at k i)) (below 6 (λ j. all_below 16 (λ i. is_filter (row_at j i))) all_filters k h) f l in
     let b = both_true (nat_eq (length (row_at k f)) 8) (nat_eq (gains (row_at k f)) (128 + losses (row_at k f)) && (nat_le (gains (row_at k f)) 184 && nat_le (losses (row_at k f)) 56)) e in
     let d = both_true (nat_eq (gains (row_at k f)) (128 + losses (row_at k f))) (nat_le (gains (row_at k f)) 184 && nat_le (losses (row_at k f)) 56) b.1 in
     let m = both_true (nat_le (gains (row_at k f)) 184) (nat_le (losses (row_at k f)) 56) d.1 in
-    record { size = equal_is _ _ b.0; whole = equal_is _ _ d.0; gains = at_most_is _ _ m.0; losses = at_most_is _ _ m.1 }
+    record { size = equal_is _ _ b.0; whole = equal_is _ _ d.0; gains = at_most_is _ _ m.0; losses = at_most_is _ _ m.1; even = λ t b. row_is_even k f t h l b }
 
 number_small : (mode : FilterMode) → filter_number mode < 6
 number_small REGULAR = omega arith

@@ -1,5 +1,6 @@
 -- What the crate's own functions promise one another on the way. No public contract cites this file.
-use Rattle.std.specs.Prelude.{◌≡◌, ℕ, suc, ◌+◌, ◌%◌, ◌≤◌, ◌<◌, ◌⊎◌, List, [], ◌∷◌, length, slice_index_or, ℤ, pos, negsuc, neg_ℤ, ◌≤ℤ◌}
+use Rattle.std.specs.Prelude.{◌≡◌, ℕ, suc, ◌+◌, ◌%◌, ◌≤◌, ◌<◌, ◌⊎◌, List, [], ◌∷◌, length, map, slice_index_or, ℤ, pos, negsuc, neg_ℤ, ◌*ℤ◌, ◌≤ℤ◌}
+use Rattle.std.specs.Int.{int_shr}
 use Rattle.av1_frame.specs.declared.plane_region.StoredArea.{StoredArea}
 use Rattle.av1_inter.specs.Motion.{entry}
 
@@ -14,18 +15,28 @@ losses [] = 0
 losses (pos n ∷ taps) = losses taps
 losses (negsuc n ∷ taps) = suc n + losses taps
 
--- eight weights that sum to 128, of which the positive ones sum to at most 184 and the negative ones to at least -56, as those of every
--- filter do
+-- eight even weights that sum to 128, of which the positive ones sum to at most 184 and the negative ones to at least -56, as those of
+-- every filter do
 pub record IsFilter (taps : List ℤ) : Type 0 where
   pub size : length taps ≡ 8
   pub whole : gains taps ≡ 128 + losses taps
   pub gains : gains taps ≤ 184
   pub losses : losses taps ≤ 56
+  pub even : (t : ℕ) → t < 8 → pos 2 *ℤ int_shr (entry taps t) 1 ≡ entry taps t
 
 -- the outer two of eight weights are 0
 pub record IsInner (taps : List ℤ) : Type 0 where
   pub first : entry taps 0 ≡ pos 0
   pub last : entry taps 7 ≡ pos 0
+
+-- twice each weight
+abbrev pub doubled : List ℤ → List ℤ
+doubled halves = map (λ h. pos 2 *ℤ h) halves
+
+-- z is from -a to b
+pub record Between (a b : ℕ) (z : ℤ) : Type 0 where
+  pub low : neg_ℤ (pos a) ≤ℤ z
+  pub high : z ≤ℤ pos b
 
 -- z is at most n in magnitude
 pub record IsWithin (n : ℕ) (z : ℤ) : Type 0 where

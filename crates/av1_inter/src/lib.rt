@@ -24,12 +24,15 @@
 //! has eight taps, so a block needs 3 stored columns and rows before it and 4 after it, at every fraction.
 #![tactic(auto)]
 
+mod alone;
 mod average;
 mod buffers;
+mod copies;
 mod filter;
 mod laws;
 mod lines;
 mod moved;
+mod narrow;
 mod predict;
 mod prepare;
 mod put;

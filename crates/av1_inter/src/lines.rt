@@ -85,6 +85,80 @@ fn sum_along<T: Pixel, const INNER: bool>(
     }
 }
 
+/// The same of eight samples that stand `step` apart, as those of a column do.
+#[inline(always)]
+fn sum_apart<T: Pixel, const INNER: bool>(
+    row: &[T],
+    c: usize,
+    step: usize,
+    taps: &[i32; SUBPEL_FILTER_SIZE],
+) -> i32
+    requires filter { IsFilter taps.now }
+    requires inner { INNER ≡ true → IsInner taps.now }
+    requires long { c + 7 * step < length row.now }
+    ensures value { result ≡ weighted taps.now (λ t. pos (slice_index (map T.num row.now) (c + t * step))) }
+    ensures within { IsWithin (2 ^ 30) result }
+{
+    let values = [
+        row[c].to_i32(),
+        row[c + step].to_i32(),
+        row[c + 2 * step].to_i32(),
+        row[c + 3 * step].to_i32(),
+        row[c + 4 * step].to_i32(),
+        row[c + 5 * step].to_i32(),
+        row[c + 6 * step].to_i32(),
+        row[c + 7 * step].to_i32(),
+    ];
+    if INNER {
+        weigh_inner(taps, values)
+    } else {
+        weigh(taps, values)
+    }
+}
+
+/// Such sums from each of `N` places on.
+#[inline(always)]
+fn sums_apart_by<T: Pixel, const N: usize, const INNER: bool>(
+    samples: &[T],
+    start: usize,
+    step: usize,
+    taps: &[i32; SUBPEL_FILTER_SIZE],
+) -> [i32; N]
+    requires filter { IsFilter taps.now }
+    requires inner { INNER ≡ true → IsInner taps.now }
+    requires short { N ≤ 128 }
+    requires long { start + N + 7 * step ≤ length samples.now }
+    ensures value { (c : ℕ) → c < N → entry result c ≡ weighted taps.now (λ t. pos (slice_index (map T.num samples.now) (start + c + t * step))) }
+    ensures within { (c : ℕ) → c < N → IsWithin (2 ^ 30) (entry result c) }
+{
+    let mut sums = [0; N];
+    for c in 0..N {
+        sums[c] = sum_apart::<T, INNER>(samples, start + c, step, taps);
+    }
+    sums
+}
+
+/// The same, by the inner weights alone where that is all.
+#[inline(always)]
+pub(crate) fn sums_apart<T: Pixel, const N: usize>(
+    samples: &[T],
+    start: usize,
+    step: usize,
+    taps: &[i32; SUBPEL_FILTER_SIZE],
+) -> [i32; N]
+    requires filter { IsFilter taps.now }
+    requires short { N ≤ 128 }
+    requires long { start + N + 7 * step ≤ length samples.now }
+    ensures value { (c : ℕ) → c < N → entry result c ≡ weighted taps.now (λ t. pos (slice_index (map T.num samples.now) (start + c + t * step))) }
+    ensures within { (c : ℕ) → c < N → IsWithin (2 ^ 30) (entry result c) }
+{
+    if is_inner(taps) {
+        sums_apart_by::<T, N, true>(samples, start, step, taps)
+    } else {
+        sums_apart_by::<T, N, false>(samples, start, step, taps)
+    }
+}
+
 /// The weighted sum down column `c` of the kept rows from row `y` on.
 #[inline(always)]
 fn sum_down<const N: usize, const INNER: bool>(

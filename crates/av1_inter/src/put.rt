@@ -2,7 +2,7 @@
 //!
 //! AV1 specification: block inter prediction process.
 
-ghost use Rattle.std.specs.Prelude.{◌≡◌, ℕ, ◌+◌, ◌^◌, ◌≤◌, ◌<◌, pos, ◌≤ℤ◌, ◌<ℤ◌, length, slice_index_or, unsigned_abs};
+ghost use Rattle.std.specs.Prelude.{◌≡◌, ℕ, ◌+◌, ◌^◌, ◌≤◌, ◌<◌, pos, ◌≤ℤ◌, ◌<ℤ◌, length, unsigned_abs};
 ghost use Rattle.av1_frame.specs.Arithmetic.{clip, round_shift};
 ghost use Rattle.av1_frame.specs.Samples.{paint_row};
 ghost use Rattle.av1_frame.specs.Regions.{InStorage, painted, painted_within};
@@ -12,28 +12,25 @@ ghost use Rattle.av1_inter.specs.Places.{AreWithinDepth, corner_of, IsStoredFrom
 ghost use Rattle.av1_blocks.specs.Depths.{IsDepth};
 ghost use Rattle.av1_inter.specs.Scaffolding.{IsFilter, IsStripWidth, IsWithin, strip_of};
 
+use crate::alone::{put_columns_alone, put_rows_alone};
+use crate::copies::put_copy;
 use crate::filter::{Filter, get_filter};
 use crate::lines::filter_horizontal;
 use crate::rounding::intermediate_bits;
-use crate::strip::strip_width;
+use crate::strip::{is_one_strip, strip_width};
 use crate::window::{keep_first_rows, next_sums};
 use av1_blocks::{FilterMode, SUBPEL_FILTER_SIZE};
 use av1_frame::{Area, Pixel, PlaneRegionMut, PlaneSlice, clip, round_shift};
 
-/// The first `width` samples of the row become those of `source` from the fourth on.
-#[inline(always)]
-fn copy_inner<T: Pixel>(row: &mut [T], source: &[T], width: usize)
-    requires row_long { width ≤ length row.old }
-    requires source_long { width + 3 ≤ length source.now }
-    ensures { row.new ≡ paint_row width (λ c v. slice_index_or source.now (c + 3) v) row.old }
-{
-    row[..width].copy_from_slice(&source[3..3 + width]);
-}
-
 /// The first `N` samples of the row become the values, rounded and clipped to the depth.
 #[inline(always)]
 #[tactic(auto, using(av1_frame::proofs::Paint::row_painting))]
-fn put_row<T: Pixel, const N: usize>(row: &mut [T], values: &[i32; N], bit: usize, bit_depth: usize)
+pub(crate) fn put_row<T: Pixel, const N: usize>(
+    row: &mut [T],
+    values: &[i32; N],
+    bit: usize,
+    bit_depth: usize,
+)
     requires row_long { N ≤ length row.old }
     requires short { N ≤ 128 }
     requires within { (c : ℕ) → c < N → IsWithin (2 ^ 30) (entry values.now c) }
@@ -44,77 +41,6 @@ fn put_row<T: Pixel, const N: usize>(row: &mut [T], values: &[i32; N], bit: usiz
 {
     for c in 0..N {
         row[c] = clip(round_shift(values[c], bit), bit_depth);
-    }
-}
-
-/// The block's samples as they stand in the reference.
-#[tactic(auto, using(av1_frame::proofs::Regions::region_painting))]
-fn put_samples<T: Pixel>(
-    dst: &mut PlaneRegionMut<'_, T>,
-    corner: PlaneSlice<'_, T>,
-    width: usize,
-    height: usize,
-)
-    requires fits { InStorage dst.old }
-    requires columns { width ≤ dst.old.area.width }
-    requires rows { height ≤ dst.old.area.height }
-    requires stored { IsStoredFrom corner (width + 7) (height + 7) }
-    ensures painted { dst.new ≡ painted dst.old width height (λ r c _. T.pixel (samples_from T.num corner.entry (c + 3) (r + 3))) }
-    ensures fits { InStorage dst.new }
-{
-    for r in 0..height {
-        copy_inner(dst.row_mut(r), corner.row(r + 3), width);
-    }
-}
-
-/// The same of a block of `N` columns, whose rows are copied by a few moves.
-#[tactic(auto, using(av1_frame::proofs::Regions::region_painting))]
-fn put_samples_of<T: Pixel, const N: usize>(
-    dst: &mut PlaneRegionMut<'_, T>,
-    corner: PlaneSlice<'_, T>,
-    height: usize,
-)
-    requires fits { InStorage dst.old }
-    requires columns { N ≤ dst.old.area.width }
-    requires rows { height ≤ dst.old.area.height }
-    requires short { N ≤ 128 }
-    requires stored { IsStoredFrom corner (N + 7) (height + 7) }
-    ensures painted { dst.new ≡ painted dst.old N height (λ r c _. T.pixel (samples_from T.num corner.entry (c + 3) (r + 3))) }
-    ensures fits { InStorage dst.new }
-{
-    for r in 0..height {
-        copy_inner(dst.row_mut(r), corner.row(r + 3), N);
-    }
-}
-
-/// A block that is not filtered.
-fn put_copy<T: Pixel>(
-    dst: &mut PlaneRegionMut<'_, T>,
-    corner: PlaneSlice<'_, T>,
-    width: usize,
-    height: usize,
-)
-    requires fits { InStorage dst.old }
-    requires columns { width ≤ dst.old.area.width }
-    requires rows { height ≤ dst.old.area.height }
-    requires stored { IsStoredFrom corner (width + 7) (height + 7) }
-    ensures painted { dst.new ≡ painted dst.old width height (λ r c _. T.pixel (samples_from T.num corner.entry (c + 3) (r + 3))) }
-    ensures fits { InStorage dst.new }
-{
-    if width == 4 {
-        put_samples_of::<T, 4>(dst, corner, height);
-    } else if width == 8 {
-        put_samples_of::<T, 8>(dst, corner, height);
-    } else if width == 16 {
-        put_samples_of::<T, 16>(dst, corner, height);
-    } else if width == 32 {
-        put_samples_of::<T, 32>(dst, corner, height);
-    } else if width == 64 {
-        put_samples_of::<T, 64>(dst, corner, height);
-    } else if width == 128 {
-        put_samples_of::<T, 128>(dst, corner, height);
-    } else {
-        put_samples(dst, corner, width, height);
     }
 }
 
@@ -184,6 +110,33 @@ fn put_columns<T: Pixel, const N: usize>(
     }
 }
 
+/// A strip whose row fraction is 0, in sums of 16 bits where its samples have 8.
+fn put_along<T: Pixel, const N: usize>(
+    dst: &mut PlaneRegionMut<'_, T>,
+    corner: PlaneSlice<'_, T>,
+    height: usize,
+    across: &Filter,
+    bit_depth: usize,
+)
+    requires filter { IsFilter across.now.taps }
+    requires fits { InStorage dst.old }
+    requires columns { N ≤ dst.old.area.width }
+    requires rows { height ≤ dst.old.area.height }
+    requires short { N ≤ 128 }
+    requires stored { IsStoredFrom corner (N + 7) (height + 7) }
+    requires depths { IsDepth bit_depth }
+    requires depth { bit_depth ≤ T.BITS }
+    requires within { AreWithinDepth bit_depth (samples_from T.num corner) (N + 7) (height + 7) }
+    ensures painted { dst.new ≡ painted dst.old N height (λ r c _. T.pixel (clip bit_depth (round_shift (intermediate bit_depth across.now.fraction across.now.taps (samples_from T.num corner.entry) (r + 3) c) (intermediate_bits bit_depth)))) }
+    ensures fits { InStorage dst.new }
+{
+    if across.fraction != 0 && bit_depth == 8 {
+        put_rows_alone::<T, N>(dst, corner, height, &across.taps);
+    } else {
+        put_rows::<T, N>(dst, corner, height, across, bit_depth);
+    }
+}
+
 /// A strip of `N` columns, with or without a filter down its columns.
 fn put_block<T: Pixel, const N: usize>(
     dst: &mut PlaneRegionMut<'_, T>,
@@ -207,10 +160,12 @@ fn put_block<T: Pixel, const N: usize>(
     ensures painted { dst.new ≡ painted dst.old N height (λ r c _. T.pixel (single bit_depth across.now.fraction down.now.fraction across.now.taps down.now.taps (samples_from T.num corner.entry) r c)) }
     ensures fits { InStorage dst.new }
 {
-    if down.fraction != 0 {
-        put_columns::<T, N>(dst, corner, height, across, down, bit_depth);
+    if down.fraction == 0 {
+        put_along::<T, N>(dst, corner, height, across, bit_depth);
+    } else if across.fraction == 0 {
+        put_columns_alone::<T, N>(dst, corner, height, &down.taps, bit_depth);
     } else {
-        put_rows::<T, N>(dst, corner, height, across, bit_depth);
+        put_columns::<T, N>(dst, corner, height, across, down, bit_depth);
     }
 }
 
@@ -321,6 +276,37 @@ fn put_strips<T: Pixel>(
     }
 }
 
+/// A block that is filtered, at once where it is one strip.
+fn put_filtered<T: Pixel>(
+    dst: &mut PlaneRegionMut<'_, T>,
+    corner: PlaneSlice<'_, T>,
+    width: usize,
+    height: usize,
+    across: &Filter,
+    down: &Filter,
+    bit_depth: usize,
+)
+    requires across_filter { IsFilter across.now.taps }
+    requires down_filter { IsFilter down.now.taps }
+    requires fits { InStorage dst.old }
+    requires columns { width ≤ dst.old.area.width }
+    requires rows { height ≤ dst.old.area.height }
+    requires short { width ≤ 128 }
+    requires low { height ≤ 128 }
+    requires stored { IsStoredFrom corner (width + 7) (height + 7) }
+    requires depths { IsDepth bit_depth }
+    requires depth { bit_depth ≤ T.BITS }
+    requires within { AreWithinDepth bit_depth (samples_from T.num corner) (width + 7) (height + 7) }
+    ensures painted { dst.new ≡ painted dst.old width height (λ r c _. T.pixel (single bit_depth across.now.fraction down.now.fraction across.now.taps down.now.taps (samples_from T.num corner.entry) r c)) }
+    ensures fits { InStorage dst.new }
+{
+    if is_one_strip(width) {
+        put_columns_of(dst, corner, width, height, across, down, bit_depth);
+    } else {
+        put_strips(dst, corner, width, height, across, down, bit_depth);
+    }
+}
+
 /// Predicts a block from one reference: each sample of the first `height` rows and `width` columns of `dst` becomes the one at its
 /// place from `src` on, moved right by `col_frac` and down by `row_frac` sixteenths of a sample.
 ///
@@ -359,6 +345,6 @@ pub fn put_8tap<T: Pixel>(
     } else {
         let across = get_filter(mode_x, col_frac, width);
         let down = get_filter(mode_y, row_frac, height);
-        put_strips(dst, corner, width, height, &across, &down, bit_depth);
+        put_filtered(dst, corner, width, height, &across, &down, bit_depth);
     }
 }

@@ -1,6 +1,6 @@
 //! The strips of columns in which a block is interpolated.
 
-ghost use Rattle.std.specs.Prelude.{◌≤◌, ◌<◌};
+ghost use Rattle.std.specs.Prelude.{◌≡◌, true, ◌≤◌, ◌<◌};
 ghost use Rattle.av1_inter.specs.Scaffolding.{IsStripWidth};
 
 /// How many columns the next strip has, where so many are left.
@@ -21,4 +21,11 @@ pub(crate) fn strip_width(left: usize) -> usize
     } else {
         1
     }
+}
+
+/// Whether a block of so many columns is one strip.
+pub(crate) fn is_one_strip(width: usize) -> bool
+    ensures { result ≡ true → IsStripWidth width }
+{
+    width == 4 || width == 8 || width == 16 || width == 32
 }

@@ -25,7 +25,8 @@ compound_motion_within value p references mvs area r c =
     compound_prediction_within value.header.depth value.header.filter (reference_plane value (slot_in value.header (reference_in references 0)) p) (reference_plane value (slot_in value.header (reference_in references 1)) p) (vector_of mvs 0) (vector_of mvs 1) area r c
 
 -- So does each sample that is predicted from a reference that frame settings hold.
-pub held_motion_within : {T : Type 0} (num : T → ℕ) (value : PlanValue) (fi : FrameInvariants T) (reference : RefType) (p : ℕ) (mv : MotionVector) (area : VisibleArea) (r c : ℕ) → HoldsReferences num value fi → has_reference value.header reference ≡ true → p < 3 → single_motion value p reference mv area r c < 2 ^ value.header.depth
+pub held_motion_within : {T : Type 0} (num : T → ℕ) (value : PlanValue) (fi : FrameInvariants T) (reference : RefType) (p : ℕ) (mv : MotionVector) (area : VisibleArea) (r c : ℕ)
+    → HoldsReferences num value fi → has_reference value.header reference ≡ true → p < 3 → single_motion value p reference mv area r c < 2 ^ value.header.depth
 held_motion_within num value fi reference p mv area r c holds has below =
     let (plane, is) = plane_of_slot num value fi holds reference has p below in
     let held = plane_holds num value fi holds reference has p plane below is in

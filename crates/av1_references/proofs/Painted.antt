@@ -48,14 +48,17 @@ module _ {T : Type 0} (num : T → ℕ) (pixel : ℕ → T) (value : PlanValue) 
   shown reference q has is = held_same num value (slot_in value.header reference) p q (plane_holds num value fi holds reference has p q below is)
 
   -- a prediction from a plane, by the place and the sides of the leaf
-  moved_to : (f : ℤ → ℤ → ℕ → ℕ → ℕ → ℕ → T → T) (g : ℕ → ℕ → T → T) → o ≡ painted r w h (f x y w h) → ((i j : ℕ) (v : T) → i < block_height area.size → j < block_width area.size → f (pos area.x) (pos area.y) (block_width area.size) (block_height area.size) i j v ≡ g i j v) → o ≡ painted r (block_width area.size) (block_height area.size) g
+  moved_to : (f : ℤ → ℤ → ℕ → ℕ → ℕ → ℕ → T → T) (g : ℕ → ℕ → T → T) → o ≡ painted r w h (f x y w h)
+      → ((i j : ℕ) (v : T) → i < block_height area.size → j < block_width area.size → f (pos area.x) (pos area.y) (block_width area.size) (block_height area.size) i j v ≡ g i j v)
+      → o ≡ painted r (block_width area.size) (block_height area.size) g
   moved_to f g e same =
       let a = leaf_area area in
       let at : o ≡ painted r a.width a.height (f (pos a.x) (pos a.y) a.width a.height) =
       e ∙ ap (λ z. painted r w h (f z y w h)) leaf.column ∙ ap (λ z. painted r w h (f (pos area.x) z w h)) leaf.row ∙ ap (λ n. painted r n h (f (pos area.x) (pos area.y) n h)) leaf.columns ∙ ap (λ n. painted r (block_width area.size) n (f (pos area.x) (pos area.y) (block_width area.size) n)) leaf.rows in
       painted_same r o a.width a.height (f (pos a.x) (pos a.y) a.width a.height) g at same
 
-  pub single_region : (reference : RefType) (mv : MotionVector) → has_reference value.header reference ≡ true → PredictsSingle num pixel fi p reference x y mv w h r o → o ≡ painted r (block_width area.size) (block_height area.size) (λ i j _. pixel (single_motion value p reference mv (leaf_area area) i j))
+  pub single_region : (reference : RefType) (mv : MotionVector) → has_reference value.header reference ≡ true → PredictsSingle num pixel fi p reference x y mv w h r o
+      → o ≡ painted r (block_width area.size) (block_height area.size) (λ i j _. pixel (single_motion value p reference mv (leaf_area area) i j))
   single_region reference mv has predicts =
       let (q, is) = plane_of_slot num value fi holds reference has p below in
       let a = leaf_area area in
@@ -65,14 +68,18 @@ module _ {T : Type 0} (num : T → ℕ) (pixel : ℕ → T) (value : PlanValue) 
       ∙ single_in_same (as_reference num q) (reference_plane value (slot_in value.header reference) p) (shown reference q has is) value.header.depth value.header.filter (pos a.x) (pos a.y) mv a.width a.height i j))
 
   -- what is prepared of a reference
-  prepared_same : (reference : RefType) (q : Plane T) (mv : MotionVector) → has_reference value.header reference ≡ true → slot_plane fi (slot_of fi reference) p ≡ Some q → (i j : ℕ) → i < block_height area.size → j < block_width area.size → prepared_in fi.bit_depth fi.default_filter (as_reference num q) (pos area.x) (pos area.y) mv (block_width area.size) (block_height area.size) i j ≡ prepared_in value.header.depth value.header.filter (reference_plane value (slot_in value.header reference) p) (pos area.x) (pos area.y) mv (block_width area.size) (block_height area.size) i j
+  prepared_same : (reference : RefType) (q : Plane T) (mv : MotionVector) → has_reference value.header reference ≡ true → slot_plane fi (slot_of fi reference) p ≡ Some q → (i j : ℕ)
+      → i < block_height area.size → j < block_width area.size
+      → prepared_in fi.bit_depth fi.default_filter (as_reference num q) (pos area.x) (pos area.y) mv (block_width area.size) (block_height area.size) i j ≡ prepared_in value.header.depth value.header.filter (reference_plane value (slot_in value.header reference) p) (pos area.x) (pos area.y) mv (block_width area.size) (block_height area.size) i j
   prepared_same reference q mv has is i j l k =
       let a = leaf_area area in
       ap (λ (d : ℕ). prepared_in d fi.default_filter (as_reference num q) (pos a.x) (pos a.y) mv a.width a.height i j) holds.settings.depth
       ∙ ap (λ (m : FilterMode). prepared_in value.header.depth m (as_reference num q) (pos a.x) (pos a.y) mv a.width a.height i j) holds.settings.filter
       ∙ prepared_in_same (as_reference num q) (reference_plane value (slot_in value.header reference) p) (shown reference q has is) value.header.depth value.header.filter (pos a.x) (pos a.y) mv a.width a.height i j
 
-  pub compound_region : (references : List RefType) (mvs : List MotionVector) → has_reference value.header (reference_in references 0) ≡ true → has_reference value.header (reference_in references 1) ≡ true → PredictsCompound num pixel fi p references x y mvs w h r o → o ≡ painted r (block_width area.size) (block_height area.size) (λ i j _. pixel (compound_motion value p references mvs (leaf_area area) i j))
+  pub compound_region : (references : List RefType) (mvs : List MotionVector) → has_reference value.header (reference_in references 0) ≡ true
+      → has_reference value.header (reference_in references 1) ≡ true → PredictsCompound num pixel fi p references x y mvs w h r o
+      → o ≡ painted r (block_width area.size) (block_height area.size) (λ i j _. pixel (compound_motion value p references mvs (leaf_area area) i j))
   compound_region references mvs has_first has_second predicts =
       let (q, q_is) = plane_of_slot num value fi holds (reference_in references 0) has_first p below in
       let (t, t_is) = plane_of_slot num value fi holds (reference_in references 1) has_second p below in

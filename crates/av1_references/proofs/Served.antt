@@ -77,7 +77,8 @@ serves num h p samples plane depth width height holds e w k = record {
 }
 
 -- Settings that hold the references of a plan serve each reference that the plan's header has, for areas with sides up to 64.
-pub served : {T : Type 0} (num : T → ℕ) (value : PlanValue) (fi : FrameInvariants T) (reference : RefType) (p width height : ℕ) → HoldsReferences num value fi → has_reference value.header reference ≡ true → 1 ≤ reference_number reference → reference_number reference ≤ 7 → p < 3 → width ≤ 64 → height ≤ 64 → IsServed num fi reference p width height
+pub served : {T : Type 0} (num : T → ℕ) (value : PlanValue) (fi : FrameInvariants T) (reference : RefType) (p width height : ℕ) → HoldsReferences num value fi
+    → has_reference value.header reference ≡ true → 1 ≤ reference_number reference → reference_number reference ≤ 7 → p < 3 → width ≤ 64 → height ≤ 64 → IsServed num fi reference p width height
 served num value fi reference p width height holds has least most h w k = record {
   inter = λ e. absurd (let n = ap reference_number e in omega (arith, n));
   some = λ e. absurd (let n = ap reference_number e in omega (arith, n));

@@ -14,14 +14,14 @@ use Rattle.av1_inter.proofs.put.put_8tap.Goals as goal
 pub go_up-corner-requires : goal.go_up-corner-requires
 go_up-corner-requires g c = corner_fits c.args.src c.go_left.result _ _ c.go_left.ensures c.requires.stored
 
-pub put_strips-requires-clause-across_filter : goal.put_strips-requires-clause-across_filter
-put_strips-requires-clause-across_filter g c = made_is_filter c.args.mode_x c.args.col_frac c.args.width _ c.ranges.col_frac c.requires.col_frac c.get_filter-across.ensures.taps
+pub put_filtered-requires-clause-across_filter : goal.put_filtered-requires-clause-across_filter
+put_filtered-requires-clause-across_filter g c = made_is_filter c.args.mode_x c.args.col_frac c.args.width _ c.ranges.col_frac c.requires.col_frac c.get_filter-across.ensures.taps
 
-pub put_strips-requires-clause-down_filter : goal.put_strips-requires-clause-down_filter
-put_strips-requires-clause-down_filter g c = made_is_filter c.args.mode_y c.args.row_frac c.args.height _ c.ranges.row_frac c.requires.row_frac c.get_filter-down.ensures.taps
+pub put_filtered-requires-clause-down_filter : goal.put_filtered-requires-clause-down_filter
+put_filtered-requires-clause-down_filter g c = made_is_filter c.args.mode_y c.args.row_frac c.args.height _ c.ranges.row_frac c.requires.row_frac c.get_filter-down.ensures.taps
 
-pub put_strips-requires-clause-within : goal.put_strips-requires-clause-within
-put_strips-requires-clause-within g c = corner_within g.T.Pixel.num c.args.src _ c.args.bit_depth _ _ (corner_is c.args.src c.go_left.result _ c.go_left.ensures c.go_up-corner.ensures) c.requires.within
+pub put_filtered-requires-clause-within : goal.put_filtered-requires-clause-within
+put_filtered-requires-clause-within g c = corner_within g.T.Pixel.num c.args.src _ c.args.bit_depth _ _ (corner_is c.args.src c.go_left.result _ c.go_left.ensures c.go_up-corner.ensures) c.requires.within
 
 -- the filters and the place that were made are those that the contract names
 named : {T : Type 0} (num : T → ℕ) (pixel : ℕ → T) (o dst : PlaneRegionMut T) (w h depth fx fx' fy fy' : ℕ) (across across' down down' : List ℤ) (place place' : PlaneSlice T)
@@ -59,4 +59,4 @@ returns-else-col_frac-eq0-clause-painted g c =
     (taps_made c.args.mode_x c.args.col_frac c.args.width across.taps c.ranges.col_frac c.get_filter-across.ensures.taps)
     (taps_made c.args.mode_y c.args.row_frac c.args.height down.taps c.ranges.row_frac c.get_filter-down.ensures.taps)
     (corner_is c.args.src c.go_left.result c.go_up-corner.result c.go_left.ensures c.go_up-corner.ensures)
-    c.put_strips.ensures.painted
+    c.put_filtered.ensures.painted

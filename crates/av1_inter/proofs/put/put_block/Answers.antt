@@ -5,18 +5,18 @@ use Rattle.av1_inter.specs.Places.{samples_from}
 use Rattle.av1_inter.proofs.Cases.{single_down, single_rows}
 use Rattle.av1_inter.proofs.put.put_block.Goals as goal
 
-pub returns-then-down-ne0-clause-painted : goal.returns-then-down-ne0-clause-painted
-returns-then-down-ne0-clause-painted g c =
+pub returns-then-down-eq0-clause-painted : goal.returns-then-down-eq0-clause-painted
+returns-then-down-eq0-clause-painted g c =
+    let across = c.args.across.now in
+    let down = c.args.down.now in
+    let s = samples_from g.T.Pixel.num c.args.corner in
+    painted_same c.args.dst.now _ g.row.N c.args.height _ (λ r q _. g.T.Pixel.pixel (single c.args.bit_depth across.fraction down.fraction across.taps down.taps s r q)) c.put_along.ensures.painted
+    (λ r q v l h. ap g.T.Pixel.pixel (single_rows c.args.bit_depth c.requires.depths across.fraction down.fraction across.taps down.taps s r q (c.requires.within (q + 3) (r + 3) (omega arith) (omega arith)) c.if-down-eq0.true))
+
+pub returns-else-across-eq0-clause-painted : goal.returns-else-across-eq0-clause-painted
+returns-else-across-eq0-clause-painted g c =
     let across = c.args.across.now in
     let down = c.args.down.now in
     let s = samples_from g.T.Pixel.num c.args.corner in
     painted_same c.args.dst.now _ g.row.N c.args.height _ (λ r q _. g.T.Pixel.pixel (single c.args.bit_depth across.fraction down.fraction across.taps down.taps s r q)) c.put_columns.ensures.painted
-    (λ r q v l h. ap g.T.Pixel.pixel (single_down c.args.bit_depth c.requires.depths across.fraction down.fraction across.taps down.taps s r q c.if-down-ne0.true))
-
-pub returns-else-down-ne0-clause-painted : goal.returns-else-down-ne0-clause-painted
-returns-else-down-ne0-clause-painted g c =
-    let across = c.args.across.now in
-    let down = c.args.down.now in
-    let s = samples_from g.T.Pixel.num c.args.corner in
-    painted_same c.args.dst.now _ g.row.N c.args.height _ (λ r q _. g.T.Pixel.pixel (single c.args.bit_depth across.fraction down.fraction across.taps down.taps s r q)) c.put_rows.ensures.painted
-    (λ r q v l h. ap g.T.Pixel.pixel (single_rows c.args.bit_depth c.requires.depths across.fraction down.fraction across.taps down.taps s r q (c.requires.within (q + 3) (r + 3) (omega arith) (omega arith)) c.if-down-ne0.false))
+    (λ r q v l h. ap g.T.Pixel.pixel (single_down c.args.bit_depth c.requires.depths across.fraction down.fraction across.taps down.taps s r q c.if-down-eq0.false))

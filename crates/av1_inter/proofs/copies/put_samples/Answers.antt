@@ -1,7 +1,7 @@
 use Rattle.std.proofs.Common.{arith, ◌∙◌, ◌+◌}
 use Rattle.av1_frame.proofs.Regions.{painted_more}
 use Rattle.av1_inter.proofs.Rows.{copied_is, paint_row_same, row_long}
-use Rattle.av1_inter.proofs.put.put_samples.Goals as goal
+use Rattle.av1_inter.proofs.copies.put_samples.Goals as goal
 
 pub loop-r-preserved : goal.loop-r-preserved
 loop-r-preserved g c = painted_more c.args.dst.now c.loop-r.dst c.args.width c.loop-r.r _ _ _ c.loop-r.invariant c.requires.fits c.requires.columns (omega arith) c.row_mut.ensures.value

@@ -1,0 +1,178 @@
+-- Sums by halved weights, as the machine forms them in 16 bits, and how great they are.
+use Rattle.std.proofs.Common.{ℕ, zero, suc, ◌+◌, ◌*◌, ◌<◌, ◌≤◌, ◌≡◌, ◌∙◌, ap, refl, arith, subst, sym, ℤ, pos, negsuc, ◌+ℤ◌, ◌*ℤ◌, neg_ℤ, ◌≤ℤ◌, List, [], ◌∷◌, length, unsigned_abs, w16, w32, to_z, of_z, FitsSigned}
+use Rattle.std.specs.Int.{int_max, int_min, int_shr}
+use Rattle.std.specs.Int.Signed.{shr_z}
+use Rattle.std.proofs.lemmas.Int.{int_max_is, int_min_is, ints, to_z-of_z}
+use Rattle.std.proofs.lemmas.List.{same_lists, get_or_default, length-map}
+use Rattle.av1_frame.specs.Arithmetic.{clip, round_shift}
+use Rattle.av1_inter.specs.Motion.{entry, sum_to, weighted}
+use Rattle.av1_inter.specs.Scaffolding.{Between, doubled, IsFilter}
+use Rattle.av1_inter.proofs.Sums.{filter_between, gain, gains_more, gains_part, loss, losses_more, losses_part, product_between}
+
+-- entry t of the doubled weights
+pub entry_doubled : (halves : List ℤ) (t : ℕ) → entry (doubled halves) t ≡ pos 2 *ℤ entry halves t
+entry_doubled [] t = refl
+entry_doubled (x ∷ xs) zero = refl
+entry_doubled (x ∷ xs) (suc t) = entry_doubled xs t
+
+negated : (n : ℕ) → pos 2 *ℤ negsuc n ≡ negsuc (2 * n + 1)
+negated n = omega (arith, ints)
+
+twice : (h v : ℤ) → (pos 2 *ℤ h) *ℤ v ≡ pos 2 *ℤ (h *ℤ v)
+twice (pos n) (pos m) = let k : 2 * n * m ≡ 2 * (n * m) = grind arith in omega (arith, ints, k)
+twice (pos n) (negsuc m) = let k : 2 * n * suc m ≡ 2 * (n * suc m) = grind arith in omega (arith, ints, k)
+twice (negsuc n) (pos m) = ap (λ z. z *ℤ pos m) (negated n) ∙ (let k : suc (2 * n + 1) * m ≡ 2 * (suc n * m) = grind arith in omega (arith, ints, k))
+twice (negsuc n) (negsuc m) = ap (λ z. z *ℤ negsuc m) (negated n) ∙ (let k : suc (2 * n + 1) * suc m ≡ 2 * (suc n * suc m) = grind arith in omega (arith, ints, k))
+
+-- a sum by the doubled weights is twice the sum
+pub doubled_sum : (halves : List ℤ) (value : ℕ → ℤ) (k : ℕ) → sum_to k (λ t. entry (doubled halves) t *ℤ value t) ≡ pos 2 *ℤ sum_to k (λ t. entry halves t *ℤ value t)
+unfolding sum_to
+doubled_sum halves value zero = refl
+doubled_sum halves value (suc k) =
+    let e = doubled_sum halves value k in
+    let p : entry (doubled halves) k *ℤ value k ≡ pos 2 *ℤ (entry halves k *ℤ value k) = ap (λ z. z *ℤ value k) (entry_doubled halves k) ∙ twice (entry halves k) (value k) in
+    omega (arith, ints, e, p)
+
+half_between : (s t : ℤ) → t ≡ pos 2 *ℤ s → Between (184 * 0 + 56 * 255) (184 * 255 + 56 * 0) t → Between 7140 23460 s
+half_between (pos n) t e b = record { low = omega (arith, ints, e, b.low); high = omega (arith, ints, e, b.high) }
+half_between (negsuc n) t e b = record { low = omega (arith, ints, e, b.low); high = omega (arith, ints, e, b.high) }
+
+-- half a filter's sum, also of its first weights alone, over samples of 8 bits
+pub halves_between : (halves : List ℤ) (value : ℕ → ℤ) (k : ℕ) → IsFilter (doubled halves) → k ≤ 8 → ((t : ℕ) → t < 8 → Between 0 255 (value t)) → Between 7140 23460 (sum_to k (λ t. entry halves t *ℤ value t))
+halves_between halves value k f h v = half_between _ _ (doubled_sum halves value k) (filter_between (doubled halves) value 0 255 k f h v)
+
+pub half_fits : (z : ℤ) → Between 7140 23460 z → FitsSigned w16 z
+half_fits (pos n) h = record { sfits = omega (arith, ints, h.high) }
+half_fits (negsuc n) h = record { sfits = omega (arith, ints, h.low) }
+
+byte_fits : (z : ℤ) → Between 0 255 z → FitsSigned w16 z
+byte_fits (pos n) h = record { sfits = omega (arith, ints, h.high) }
+byte_fits (negsuc n) h = absurd (omega (arith, ints, h.low))
+
+-- a sample of 8 bits, as it was read
+pub byte_read : (z : ℤ) → Between 0 255 z → to_z w16 (of_z w16 z) ≡ z
+byte_read z h = to_z-of_z w16 z (byte_fits z h)
+
+half_product_fits : (s t : ℤ) → t ≡ pos 2 *ℤ s → neg_ℤ (pos 46920) ≤ℤ t → t ≤ℤ pos 46920 → FitsSigned w16 s
+half_product_fits (pos n) t e l h = record { sfits = omega (arith, ints, e, h) }
+half_product_fits (negsuc n) t e l h = record { sfits = omega (arith, ints, e, l) }
+
+-- each product by a halved weight
+product_small : (halves : List ℤ) (t : ℕ) (v : ℤ) → IsFilter (doubled halves) → t < 8 → Between 0 255 v → FitsSigned w16 (entry halves t *ℤ v)
+product_small halves t v f h w =
+    let taps = doubled halves in
+    let p = product_between (entry taps t) v 0 255 w in
+    let more = gains_more taps t (omega (arith, f.size)) in
+    let less = losses_more taps t (omega (arith, f.size)) in
+    let g : gain (entry taps t) ≤ 184 = omega (arith, more, gains_part taps (suc t), f.gains) in
+    let l : loss (entry taps t) ≤ 56 = omega (arith, less, losses_part taps (suc t), f.losses) in
+    let e : entry taps t *ℤ v ≡ pos 2 *ℤ (entry halves t *ℤ v) = ap (λ z. z *ℤ v) (entry_doubled halves t) ∙ twice (entry halves t) v in
+    half_product_fits _ _ e (omega (arith, ints, p.low, p.high, g, l)) (omega (arith, ints, p.low, p.high, g, l))
+
+product_of : (halves : List ℤ) (t : ℕ) (v : ℤ) → FitsSigned w16 (entry halves t) → Between 0 255 v → to_z w16 (of_z w16 (entry halves t)) *ℤ to_z w16 (of_z w16 v) ≡ entry halves t *ℤ v
+product_of halves t v f w = ap (λ z. z *ℤ to_z w16 (of_z w16 v)) (to_z-of_z w16 _ f) ∙ ap (λ z. entry halves t *ℤ z) (byte_read v w)
+
+pub half_product : (halves : List ℤ) (t : ℕ) (v : ℤ) → IsFilter (doubled halves) → t < 8 → FitsSigned w16 (entry halves t) → Between 0 255 v → FitsSigned w16 (to_z w16 (of_z w16 (entry halves t)) *ℤ to_z w16 (of_z w16 v))
+half_product halves t v f h e w =
+    let P : ℤ → Type 0 = λ z. FitsSigned w16 z in
+    subst P (sym (product_of halves t v e w)) (product_small halves t v f h w)
+
+pub half_product_stored : (halves : List ℤ) (t : ℕ) (v : ℤ) → IsFilter (doubled halves) → t < 8 → FitsSigned w16 (entry halves t) → Between 0 255 v → to_z w16 (of_z w16 (to_z w16 (of_z w16 (entry halves t)) *ℤ to_z w16 (of_z w16 v))) ≡ entry halves t *ℤ v
+half_product_stored halves t v f h e w = to_z-of_z w16 _ (half_product halves t v f h e w) ∙ product_of halves t v e w
+
+pub next_half_fits : (halves : List ℤ) (value : ℕ → ℤ) (t : ℕ) (s p : ℤ) → IsFilter (doubled halves) → t < 8 → ((i : ℕ) → i < 8 → Between 0 255 (value i)) → s ≡ sum_to t (λ i. entry halves i *ℤ value i) → p ≡ entry halves t *ℤ value t → FitsSigned w16 (s +ℤ p)
+unfolding sum_to
+next_half_fits halves value t s p f h v es ep =
+    let w = halves_between halves value (suc t) f (omega arith) v in
+    half_fits _ (record { low = omega (arith, ints, w.low, es, ep); high = omega (arith, ints, w.high, es, ep) })
+
+-- lists of eight that agree at each entry
+pub halves_are : (halves taps : List ℤ) → length halves ≡ 8 → IsFilter taps → ((t : ℕ) → t < 8 → entry halves t ≡ int_shr (entry taps t) 1) → doubled halves ≡ taps
+halves_are halves taps l f h =
+    let n : length (doubled halves) ≡ length taps = length-map halves _ ∙ l ∙ sym f.size in
+    same_lists (doubled halves) taps n (λ k d b. let m : k < 8 = omega (arith, n, f.size, b) in
+    get_or_default (doubled halves) k d (pos 0) b ∙ (entry_doubled halves k ∙ ap (λ z. pos 2 *ℤ z) (h k m) ∙ f.even k m) ∙ sym (get_or_default taps k d (pos 0) (omega (arith, f.size, m))))
+
+shr_128 : (z : ℤ) → shr_z (pos 2 *ℤ z +ℤ pos 64) 128 ≡ shr_z (z +ℤ pos 32) 64
+shr_128 z = shr_at (z +ℤ pos 32) (pos 2 *ℤ z +ℤ pos 64) (omega (arith, ints))
+  where
+    shr_at : (w v : ℤ) → v ≡ pos 2 *ℤ w → shr_z v 128 ≡ shr_z w 64
+    shr_at (pos m) v e = ap (λ u. shr_z u 128) e ∙ ap pos (omega arith)
+    shr_at (negsuc m) v e = ap (λ u. shr_z u 128) (e ∙ (let k : pos 2 *ℤ negsuc m ≡ negsuc (2 * m + 1) = omega (arith, ints) in k)) ∙ ap negsuc (omega arith)
+
+shr_8 : (z : ℤ) → shr_z (pos 2 *ℤ z +ℤ pos 4) 8 ≡ shr_z (z +ℤ pos 2) 4
+shr_8 z = shr_at (z +ℤ pos 2) (pos 2 *ℤ z +ℤ pos 4) (omega (arith, ints))
+  where
+    shr_at : (w v : ℤ) → v ≡ pos 2 *ℤ w → shr_z v 8 ≡ shr_z w 4
+    shr_at (pos m) v e = ap (λ u. shr_z u 8) e ∙ ap pos (omega arith)
+    shr_at (negsuc m) v e = ap (λ u. shr_z u 8) (e ∙ (let k : pos 2 *ℤ negsuc m ≡ negsuc (2 * m + 1) = omega (arith, ints) in k)) ∙ ap negsuc (omega arith)
+
+-- a sum by a filter's weights, rounded, from half of it
+pub rounded_column : (halves taps : List ℤ) (value : ℕ → ℤ) → doubled halves ≡ taps → round_shift (weighted halves value) 6 ≡ round_shift (weighted taps value) 7
+rounded_column halves taps value e = sym (ap (λ (w : List ℤ). round_shift (weighted w value) 7) (sym e) ∙ ap (λ z. shr_z (z +ℤ pos 64) 128) (doubled_sum halves value 8) ∙ shr_128 (weighted halves value))
+
+pub rounded_row : (halves taps : List ℤ) (value : ℕ → ℤ) → doubled halves ≡ taps → round_shift (weighted halves value) 2 ≡ round_shift (weighted taps value) 3
+rounded_row halves taps value e = sym (ap (λ (w : List ℤ). round_shift (weighted w value) 3) (sym e) ∙ ap (λ z. shr_z (z +ℤ pos 4) 8) (doubled_sum halves value 8) ∙ shr_8 (weighted halves value))
+
+-- and so is a value that was read
+pub byte_kept : (z : ℤ) → Between 0 255 z → Between 0 255 (to_z w16 (of_z w16 z))
+byte_kept z h = let P : ℤ → Type 0 = λ v. Between 0 255 v in subst P (sym (byte_read z h)) h
+
+-- half of a weight
+shr_small : (z : ℤ) → neg_ℤ (pos 184) ≤ℤ z → z ≤ℤ pos 184 → FitsSigned w16 (int_shr z 1)
+shr_small (pos n) l h = record { sfits = omega (arith, ints, h) }
+shr_small (negsuc n) l h = record { sfits = omega (arith, ints, l) }
+
+weight_small : (z : ℤ) → gain z ≤ 184 → loss z ≤ 56 → (neg_ℤ (pos 184) ≤ℤ z) × (z ≤ℤ pos 184)
+weight_small (pos n) g l = (omega (arith, ints), omega (arith, ints, g))
+weight_small (negsuc n) g l = (omega (arith, ints, l), omega (arith, ints))
+
+pub half_weight_fits : (taps : List ℤ) (t : ℕ) → IsFilter taps → t < 8 → FitsSigned w16 (int_shr (entry taps t) 1)
+half_weight_fits taps t f h =
+    let more = gains_more taps t (omega (arith, f.size)) in
+    let less = losses_more taps t (omega (arith, f.size)) in
+    let w = weight_small (entry taps t) (omega (arith, more, gains_part taps (suc t), f.gains)) (omega (arith, less, losses_part taps (suc t), f.losses)) in
+    shr_small (entry taps t) w.0 w.1
+
+-- as the machine forms it
+pub half_weight_is : (taps : List ℤ) (t : ℕ) → IsFilter taps → t < 8 → FitsSigned w32 (entry taps t) → to_z w32 (of_z w32 (int_shr (to_z w32 (of_z w32 (entry taps t))) 1)) ≡ int_shr (entry taps t) 1
+half_weight_is taps t f h e =
+    ap (λ z. to_z w32 (of_z w32 (int_shr z 1))) (to_z-of_z w32 _ e) ∙ to_z-of_z w32 _ (half_wide _ (half_weight_fits taps t f h))
+  where
+    half_wide : (z : ℤ) → FitsSigned w16 z → FitsSigned w32 z
+    half_wide (pos n) k = record { sfits = omega (arith, ints, k) }
+    half_wide (negsuc n) k = record { sfits = omega (arith, ints, k) }
+
+-- a value that is cut to 8 bits
+cut_steps : (z m r : ℤ) → m ≡ int_max z (pos 0) → r ≡ int_min m (pos 255) → Between 0 255 r × (unsigned_abs r ≡ clip 8 z)
+cut_steps (pos n) m (pos k) e f =
+    let a = int_max_is (pos n) (pos 0) in
+    let b = int_min_is m (pos 255) in
+    (record { low = omega (arith, ints, a, b, e, f); high = omega (arith, ints, a, b, e, f) }, omega (arith, ints, a, b, e, f))
+cut_steps (pos n) m (negsuc k) e f =
+    let a = int_max_is (pos n) (pos 0) in
+    let b = int_min_is m (pos 255) in
+    absurd (omega (arith, ints, a, b, e, f))
+cut_steps (negsuc n) m (pos k) e f =
+    let a = int_max_is (negsuc n) (pos 0) in
+    let b = int_min_is m (pos 255) in
+    (record { low = omega (arith, ints, a, b, e, f); high = omega (arith, ints, a, b, e, f) }, omega (arith, ints, a, b, e, f))
+cut_steps (negsuc n) m (negsuc k) e f =
+    let a = int_max_is (negsuc n) (pos 0) in
+    let b = int_min_is m (pos 255) in
+    absurd (omega (arith, ints, a, b, e, f))
+
+pub cut_is : (z m r : ℤ) → FitsSigned w16 z → FitsSigned w16 m → m ≡ int_max (to_z w16 (of_z w16 z)) (pos 0) → r ≡ int_min (to_z w16 (of_z w16 m)) (pos 255) → unsigned_abs (to_z w16 (of_z w16 r)) ≡ clip 8 z
+cut_is z m r fz fm e f =
+    let s = cut_steps z m r (e ∙ ap (λ u. int_max u (pos 0)) (to_z-of_z w16 z fz)) (f ∙ ap (λ u. int_min u (pos 255)) (to_z-of_z w16 m fm)) in
+    ap unsigned_abs (byte_read r s.0) ∙ s.1
+
+-- a sample's number of 8 bits
+pub number_between : (n : ℕ) → n < 256 → Between 0 255 (pos n)
+number_between n h = record { low = omega (arith, ints); high = omega (arith, ints, h) }
+
+-- a filter's sum that is known as a value
+pub half_sum_between : (halves : List ℤ) (f : ℕ → ℕ) (z : ℤ) → IsFilter (doubled halves) → ((t : ℕ) → t < 8 → f t < 256) → z ≡ weighted halves (λ t. pos (f t)) → Between 7140 23460 z
+half_sum_between halves f z h bytes e =
+    let P : ℤ → Type 0 = λ v. Between 7140 23460 v in
+    subst P (sym e) (halves_between halves (λ t. pos (f t)) 8 h (omega arith) (λ t l. number_between (f t) (bytes t l)))

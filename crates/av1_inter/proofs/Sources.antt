@@ -1,0 +1,62 @@
+-- All that is stored of a reference from a place on, read by rows.
+use Rattle.std.proofs.Common.{ℕ, ◌+◌, ◌*◌, ◌<◌, ◌≡◌, ◌∙◌, ap, sym, arith, List, length, map, get_or, slice_index}
+use Rattle.std.proofs.lemmas.Int.{ints}
+use Rattle.std.proofs.lemmas.List.{get_or-map}
+use Rattle.av1_frame.specs.declared.plane_region.PlaneRegionMut.{PlaneRegionMut}
+use Rattle.av1_frame.specs.declared.plane_region.StoredArea.{StoredArea}
+use Rattle.av1_frame.specs.declared.plane_slice.PlaneSlice.{PlaneSlice}
+use Rattle.av1_frame.specs.Regions.{painted, stored, with_samples}
+use Rattle.av1_frame.specs.Samples.{corner, paint, with_part}
+use Rattle.av1_frame.specs.Slices.{all_from, IsStoredPlace, RowIsStored}
+use Rattle.av1_frame.proofs.Paint.{length_paint, paint_same}
+use Rattle.av1_frame.proofs.Slices.{all_from_fits, all_from_sample}
+use Rattle.av1_frame.proofs.Update.{with_whole}
+use Rattle.av1_inter.specs.Places.{IsStoredFrom, samples_from}
+use Rattle.av1_inter.proofs.Rows.{place_is_stored, row_long}
+
+module _ {T : Type 0} (num : T → ℕ) (place : PlaneSlice T) (columns rows : ℕ) (is_stored : IsStoredFrom place columns rows) where
+  first_is_stored : 0 < columns → 0 < rows → IsStoredPlace place.plane.now.plane_cfg place.x place.y
+  first_is_stored h k = record { left = is_stored.left; right = omega (arith, ints, is_stored.right); top = is_stored.top; bottom = omega (arith, ints, is_stored.bottom) }
+
+  pub source_starts : 0 < columns → 0 < rows → RowIsStored place 0
+  source_starts h k = record { whole = is_stored.whole; place = place_is_stored num place columns rows is_stored 0 k h }
+
+  -- column x of row y stands in it
+  pub source_long : (source : List T) (x y : ℕ) → source ≡ all_from place.plane.now place.x place.y → y < rows → x < columns → y * place.plane.now.plane_cfg.stride + x < length source
+  source_long source x y e h k =
+      let r = row_long num place columns rows is_stored in
+      let fits = all_from_fits place.plane.now place.x place.y y x is_stored.whole (first_is_stored (omega arith) (omega arith)) (place_is_stored num place columns rows is_stored y h (omega arith)) (omega (arith, r)) in
+      omega (arith, ap length e, fits)
+
+  -- as the sample there
+  pub source_sample : (source : List T) (x y : ℕ) → source ≡ all_from place.plane.now place.x place.y → y < rows → x < columns → slice_index (map num source) (y * place.plane.now.plane_cfg.stride + x) ≡ samples_from num place x y
+  source_sample source x y e h k =
+      let r = row_long num place columns rows is_stored in
+      ap (λ u. slice_index (map num u) (y * place.plane.now.plane_cfg.stride + x)) e
+      ∙ all_from_sample num place.plane.now place.x place.y y x is_stored.whole (first_is_stored (omega arith) (omega arith)) (place_is_stored num place columns rows is_stored y h (omega arith)) (omega (arith, r))
+
+  pub source_pixel : (pixel : ℕ → T) (back : (v : T) → pixel (num v) ≡ v) (source : List T) (x y : ℕ) (v : T) → source ≡ all_from place.plane.now place.x place.y → y < rows → x < columns
+      → get_or source (y * place.plane.now.plane_cfg.stride + x) v ≡ pixel (samples_from num place x y)
+  source_pixel pixel back source x y v e h k =
+      let i = y * place.plane.now.plane_cfg.stride + x in
+      sym (back (get_or source i v)) ∙ ap pixel (sym (get_or-map num source i v 0 (source_long source x y e h k)) ∙ source_sample source x y e h k)
+
+  -- the same by a stride that was asked for
+  pub source_reaches : (source : List T) (stride x y : ℕ) → source ≡ all_from place.plane.now place.x place.y → stride ≡ place.plane.now.plane_cfg.stride → y < rows → x < columns → y * stride + x < length source
+  source_reaches source stride x y e f h k =
+      let m : y * stride + x ≡ y * place.plane.now.plane_cfg.stride + x = ap (λ n. y * n + x) f in
+      omega (arith, m, source_long source x y e h k)
+
+-- a region all of whose samples were lent and painted
+pub lent_painted : {T : Type 0} (r : PlaneRegionMut T) (w h : ℕ) (a : StoredArea) (f g : ℕ → ℕ → T → T) (s ws : List T) → a ≡ corner r.area w h → s ≡ stored r → ws ≡ paint r.plane_cfg.stride a f s
+    → ((q p : ℕ) (v : T) → q < h → p < w → f q p v ≡ g q p v) → with_samples r (with_part 0 (stored r) ws) ≡ painted r w h g
+lent_painted r w h a f g s ws b l e same =
+    let m : ws ≡ paint r.plane_cfg.stride (corner r.area w h) f (stored r) = e ∙ ap (λ b. paint r.plane_cfg.stride b f s) b ∙ ap (paint r.plane_cfg.stride (corner r.area w h) f) l in
+    ap (with_samples r) (with_whole (stored r) ws (ap length m ∙ length_paint _ _ f (stored r)) ∙ m ∙ paint_same r.plane_cfg.stride _ f g (stored r) same)
+
+-- where sample t of a sum down column c stands, and of one along row r
+pub down_place : (r t stride c : ℕ) → r * stride + 3 + c + t * stride ≡ (r + t) * stride + (c + 3)
+down_place r t stride c = grind arith
+
+pub along_place : (start t c : ℕ) → start + c + t * 1 ≡ start + (c + t)
+along_place start t c = omega arith

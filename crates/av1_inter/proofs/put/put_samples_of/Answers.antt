@@ -1,9 +1,0 @@
-use Rattle.std.proofs.Common.{arith, ◌∙◌, ◌+◌}
-use Rattle.av1_frame.proofs.Regions.{painted_more}
-use Rattle.av1_inter.proofs.Rows.{copied_is, paint_row_same, row_long}
-use Rattle.av1_inter.proofs.put.put_samples_of.Goals as goal
-
-pub loop-r-preserved : goal.loop-r-preserved
-loop-r-preserved g c = painted_more c.args.dst.now c.loop-r.dst g.row.N c.loop-r.r _ _ _ c.loop-r.invariant c.requires.fits c.requires.columns (omega arith) c.row_mut.ensures.value
-    (c.copy_inner.ensures ∙ paint_row_same g.row.N _ _ _ (λ q v h. copied_is g.T.Pixel.num g.T.Pixel.pixel g.met.T.Pixel.pixel_of_num c.args.corner _ _ c.requires.stored c.row.result.now (q + 3)
-    (c.loop-r.r + 3) v c.row.ensures.value (omega arith) (omega arith) (omega (arith, c.row.ensures.len, row_long g.T.Pixel.num c.args.corner _ _ c.requires.stored))))

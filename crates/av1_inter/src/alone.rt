@@ -1,0 +1,224 @@
+//! Strips that are filtered along one direction alone, read straight from the reference.
+//!
+//! AV1 specification: block inter prediction process.
+
+ghost use Rattle.std.specs.Prelude.{◌≡◌, ℕ, ◌+◌, ◌*◌, ◌≤◌, ◌<◌, pos, length, map, slice_index};
+ghost use Rattle.av1_frame.specs.Areas.{AreRows};
+ghost use Rattle.av1_frame.specs.Arithmetic.{clip, round_shift};
+ghost use Rattle.av1_frame.specs.Samples.{paint};
+ghost use Rattle.av1_frame.specs.Regions.{InStorage, painted};
+ghost use Rattle.av1_inter.specs.Motion.{down_samples, weighted};
+ghost use Rattle.av1_inter.specs.Places.{AreWithinDepth, IsStoredFrom, samples_from};
+ghost use Rattle.av1_blocks.specs.Depths.{IsDepth};
+ghost use Rattle.av1_inter.specs.Scaffolding.{IsFilter};
+
+use crate::lines::sums_apart;
+use crate::narrow::{half_sums, halves_of, put_column_sums, put_row_sums};
+use crate::put::put_row;
+use av1_blocks::SUBPEL_FILTER_SIZE;
+use av1_frame::{Pixel, PlaneRegionMut, PlaneSlice, StoredArea};
+
+/// The rectangle's samples become sums down the columns of `source` from the fourth on, whose rows stand `source_stride` apart: those of
+/// row r of the rows r to r + 7.
+#[inline(never)]
+#[tactic(auto, using(av1_frame::proofs::Paint::row_starts_within, av1_frame::proofs::Paint::row_within, av1_frame::proofs::Paint::length_paint, av1_frame::proofs::Paint::paint_none))]
+fn sum_columns<T: Pixel, const N: usize>(
+    samples: &mut [T],
+    stride: usize,
+    area: StoredArea,
+    source: &[T],
+    source_stride: usize,
+    down: &[i32; SUBPEL_FILTER_SIZE],
+)
+    requires filter { IsFilter down.now }
+    requires rows { AreRows stride area (length samples.old) }
+    requires width { area.width ≡ N }
+    requires short { N ≤ 128 }
+    requires bits { 8 ≤ T.BITS }
+    requires reach { (r : ℕ) → r < area.height + 7 → r * source_stride + (N + 7) ≤ length source.now }
+    requires bytes { (r c : ℕ) → r < area.height + 7 → c < N + 7 → slice_index (map T.num source.now) (r * source_stride + c) < 256 }
+    ensures { samples.new ≡ paint stride area (λ r c _. T.pixel (clip 8 (round_shift (weighted down.now (λ t. pos (slice_index (map T.num source.now) ((r + t) * source_stride + (c + 3))))) 7))) samples.old }
+{
+    let halves = halves_of(down);
+    for r in 0..area.height {
+        let sums = half_sums::<T, N>(source, r * source_stride + 3, source_stride, &halves);
+        let (_, row) = samples.split_at_mut((area.y + r) * stride + area.x);
+        put_column_sums::<T, N>(row, &sums);
+    }
+}
+
+/// The same of samples of any depth.
+#[inline(never)]
+#[tactic(auto, using(av1_frame::proofs::Paint::row_starts_within, av1_frame::proofs::Paint::row_within, av1_frame::proofs::Paint::length_paint, av1_frame::proofs::Paint::paint_none))]
+fn sum_wide_columns<T: Pixel, const N: usize>(
+    samples: &mut [T],
+    stride: usize,
+    area: StoredArea,
+    source: &[T],
+    source_stride: usize,
+    down: &[i32; SUBPEL_FILTER_SIZE],
+    bit_depth: usize,
+)
+    requires filter { IsFilter down.now }
+    requires rows { AreRows stride area (length samples.old) }
+    requires width { area.width ≡ N }
+    requires short { N ≤ 128 }
+    requires depths { IsDepth bit_depth }
+    requires depth { bit_depth ≤ T.BITS }
+    requires reach { (r : ℕ) → r < area.height + 7 → r * source_stride + (N + 7) ≤ length source.now }
+    ensures { samples.new ≡ paint stride area (λ r c _. T.pixel (clip bit_depth (round_shift (weighted down.now (λ t. pos (slice_index (map T.num source.now) ((r + t) * source_stride + (c + 3))))) 7))) samples.old }
+{
+    let down = *down;
+    for r in 0..area.height {
+        let sums = sums_apart::<T, N>(source, r * source_stride + 3, source_stride, &down);
+        let (_, row) = samples.split_at_mut((area.y + r) * stride + area.x);
+        put_row::<T, N>(row, &sums, 7, bit_depth);
+    }
+}
+
+/// The rectangle's samples become sums along the rows of `source` from the fourth on: those of column c of the columns c to c + 7.
+#[inline(never)]
+#[tactic(auto, using(av1_frame::proofs::Paint::row_starts_within, av1_frame::proofs::Paint::row_within, av1_frame::proofs::Paint::length_paint, av1_frame::proofs::Paint::paint_none))]
+fn sum_rows<T: Pixel, const N: usize>(
+    samples: &mut [T],
+    stride: usize,
+    area: StoredArea,
+    source: &[T],
+    source_stride: usize,
+    across: &[i32; SUBPEL_FILTER_SIZE],
+)
+    requires filter { IsFilter across.now }
+    requires rows { AreRows stride area (length samples.old) }
+    requires width { area.width ≡ N }
+    requires short { N ≤ 128 }
+    requires bits { 8 ≤ T.BITS }
+    requires reach { (r : ℕ) → r < area.height + 7 → r * source_stride + (N + 7) ≤ length source.now }
+    requires bytes { (r c : ℕ) → r < area.height + 7 → c < N + 7 → slice_index (map T.num source.now) (r * source_stride + c) < 256 }
+    ensures { samples.new ≡ paint stride area (λ r c _. T.pixel (clip 8 (round_shift (round_shift (weighted across.now (λ t. pos (slice_index (map T.num source.now) ((r + 3) * source_stride + (c + t))))) 3) 4))) samples.old }
+{
+    let halves = halves_of(across);
+    for r in 0..area.height {
+        let sums = half_sums::<T, N>(source, (r + 3) * source_stride, 1, &halves);
+        let (_, row) = samples.split_at_mut((area.y + r) * stride + area.x);
+        put_row_sums::<T, N>(row, &sums);
+    }
+}
+
+/// A strip of samples of 8 bits that is filtered down its columns alone.
+fn put_narrow_columns<T: Pixel, const N: usize>(
+    dst: &mut PlaneRegionMut<'_, T>,
+    corner: PlaneSlice<'_, T>,
+    height: usize,
+    down: &[i32; SUBPEL_FILTER_SIZE],
+)
+    requires filter { IsFilter down.now }
+    requires fits { InStorage dst.old }
+    requires columns { N ≤ dst.old.area.width }
+    requires rows { height ≤ dst.old.area.height }
+    requires short { N ≤ 128 }
+    requires stored { IsStoredFrom corner (N + 7) (height + 7) }
+    requires bits { 8 ≤ T.BITS }
+    requires within { AreWithinDepth 8 (samples_from T.num corner) (N + 7) (height + 7) }
+    ensures painted { dst.new ≡ painted dst.old N height (λ r c _. T.pixel (clip 8 (round_shift (down_samples down.now (samples_from T.num corner.entry) r c) 7))) }
+    ensures fits { InStorage dst.new }
+{
+    let stride = dst.plane_cfg.stride;
+    let area = dst.corner(N, height);
+    sum_columns::<T, N>(
+        dst.samples_mut(),
+        stride,
+        area,
+        corner.samples(),
+        corner.stride(),
+        down,
+    );
+}
+
+/// The same of samples of any depth.
+fn put_wide_columns<T: Pixel, const N: usize>(
+    dst: &mut PlaneRegionMut<'_, T>,
+    corner: PlaneSlice<'_, T>,
+    height: usize,
+    down: &[i32; SUBPEL_FILTER_SIZE],
+    bit_depth: usize,
+)
+    requires filter { IsFilter down.now }
+    requires fits { InStorage dst.old }
+    requires columns { N ≤ dst.old.area.width }
+    requires rows { height ≤ dst.old.area.height }
+    requires short { N ≤ 128 }
+    requires stored { IsStoredFrom corner (N + 7) (height + 7) }
+    requires depths { IsDepth bit_depth }
+    requires depth { bit_depth ≤ T.BITS }
+    ensures painted { dst.new ≡ painted dst.old N height (λ r c _. T.pixel (clip bit_depth (round_shift (down_samples down.now (samples_from T.num corner.entry) r c) 7))) }
+    ensures fits { InStorage dst.new }
+{
+    let stride = dst.plane_cfg.stride;
+    let area = dst.corner(N, height);
+    sum_wide_columns::<T, N>(
+        dst.samples_mut(),
+        stride,
+        area,
+        corner.samples(),
+        corner.stride(),
+        down,
+        bit_depth,
+    );
+}
+
+/// A strip that is filtered down its columns alone.
+pub(crate) fn put_columns_alone<T: Pixel, const N: usize>(
+    dst: &mut PlaneRegionMut<'_, T>,
+    corner: PlaneSlice<'_, T>,
+    height: usize,
+    down: &[i32; SUBPEL_FILTER_SIZE],
+    bit_depth: usize,
+)
+    requires filter { IsFilter down.now }
+    requires fits { InStorage dst.old }
+    requires columns { N ≤ dst.old.area.width }
+    requires rows { height ≤ dst.old.area.height }
+    requires short { N ≤ 128 }
+    requires stored { IsStoredFrom corner (N + 7) (height + 7) }
+    requires depths { IsDepth bit_depth }
+    requires depth { bit_depth ≤ T.BITS }
+    requires within { AreWithinDepth bit_depth (samples_from T.num corner) (N + 7) (height + 7) }
+    ensures painted { dst.new ≡ painted dst.old N height (λ r c _. T.pixel (clip bit_depth (round_shift (down_samples down.now (samples_from T.num corner.entry) r c) 7))) }
+    ensures fits { InStorage dst.new }
+{
+    if bit_depth == 8 {
+        put_narrow_columns::<T, N>(dst, corner, height, down);
+    } else {
+        put_wide_columns::<T, N>(dst, corner, height, down, bit_depth);
+    }
+}
+
+/// A strip that is filtered along its rows alone.
+pub(crate) fn put_rows_alone<T: Pixel, const N: usize>(
+    dst: &mut PlaneRegionMut<'_, T>,
+    corner: PlaneSlice<'_, T>,
+    height: usize,
+    across: &[i32; SUBPEL_FILTER_SIZE],
+)
+    requires filter { IsFilter across.now }
+    requires fits { InStorage dst.old }
+    requires columns { N ≤ dst.old.area.width }
+    requires rows { height ≤ dst.old.area.height }
+    requires short { N ≤ 128 }
+    requires stored { IsStoredFrom corner (N + 7) (height + 7) }
+    requires bits { 8 ≤ T.BITS }
+    requires within { AreWithinDepth 8 (samples_from T.num corner) (N + 7) (height + 7) }
+    ensures painted { dst.new ≡ painted dst.old N height (λ r c _. T.pixel (clip 8 (round_shift (round_shift (weighted across.now (λ t. pos (samples_from T.num corner.entry (c + t) (r + 3)))) 3) 4))) }
+    ensures fits { InStorage dst.new }
+{
+    let stride = dst.plane_cfg.stride;
+    let area = dst.corner(N, height);
+    sum_rows::<T, N>(
+        dst.samples_mut(),
+        stride,
+        area,
+        corner.samples(),
+        corner.stride(),
+        across,
+    );
+}

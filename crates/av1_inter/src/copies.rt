@@ -1,0 +1,150 @@
+//! A block whose samples stand in its reference as they are.
+//!
+//! AV1 specification: block inter prediction process.
+
+ghost use Rattle.std.specs.Prelude.{◌≡◌, ℕ, ◌+◌, ◌*◌, ◌≤◌, ◌<◌, length, slice_index_or};
+ghost use Rattle.av1_frame.specs.Areas.{AreRows};
+ghost use Rattle.av1_frame.specs.Samples.{paint, paint_row};
+ghost use Rattle.av1_frame.specs.Regions.{InStorage, painted};
+ghost use Rattle.av1_inter.specs.Places.{IsStoredFrom, samples_from};
+
+use av1_frame::{Pixel, PlaneRegionMut, PlaneSlice, StoredArea};
+
+/// The first `width` samples of the row become those of `source` from the fourth on.
+#[inline(always)]
+fn copy_inner<T: Pixel>(row: &mut [T], source: &[T], width: usize)
+    requires row_long { width ≤ length row.old }
+    requires source_long { width + 3 ≤ length source.now }
+    ensures { row.new ≡ paint_row width (λ c v. slice_index_or source.now (c + 3) v) row.old }
+{
+    row[..width].copy_from_slice(&source[3..3 + width]);
+}
+
+/// The block's samples as they stand in the reference.
+#[tactic(auto, using(av1_frame::proofs::Regions::region_painting))]
+fn put_samples<T: Pixel>(
+    dst: &mut PlaneRegionMut<'_, T>,
+    corner: PlaneSlice<'_, T>,
+    width: usize,
+    height: usize,
+)
+    requires fits { InStorage dst.old }
+    requires columns { width ≤ dst.old.area.width }
+    requires rows { height ≤ dst.old.area.height }
+    requires stored { IsStoredFrom corner (width + 7) (height + 7) }
+    ensures painted { dst.new ≡ painted dst.old width height (λ r c _. T.pixel (samples_from T.num corner.entry (c + 3) (r + 3))) }
+    ensures fits { InStorage dst.new }
+{
+    for r in 0..height {
+        copy_inner(dst.row_mut(r), corner.row(r + 3), width);
+    }
+}
+
+/// The first `N` samples of the row become those of `source`, one after another.
+#[inline(always)]
+#[tactic(auto, using(av1_frame::proofs::Paint::row_painting))]
+fn copy_each<T: Pixel, const N: usize>(row: &mut [T], source: &[T])
+    requires row_long { N ≤ length row.old }
+    requires short { N ≤ 128 }
+    requires source_long { N ≤ length source.now }
+    ensures { row.new ≡ paint_row N (λ c v. slice_index_or source.now c v) row.old }
+{
+    for c in 0..N {
+        row[c] = source[c];
+    }
+}
+
+/// The same from the fourth on, by an array of its own: then nothing that is read can be what is written.
+#[inline(always)]
+fn copy_by_array<T: Pixel, const N: usize>(row: &mut [T], source: &[T])
+    requires row_long { N ≤ length row.old }
+    requires some { 0 < N }
+    requires short { N ≤ 128 }
+    requires source_long { N + 3 ≤ length source.now }
+    ensures { row.new ≡ paint_row N (λ c v. slice_index_or source.now (c + 3) v) row.old }
+{
+    let mut line = [source[3]; N];
+    let (_, inner) = source.split_at(3);
+    copy_each::<T, N>(&mut line, inner);
+    copy_each::<T, N>(row, &line);
+}
+
+/// The rectangle's samples become those of `source` from the fourth row and column on, whose rows stand `source_stride` apart.
+#[tactic(auto, using(av1_frame::proofs::Paint::row_starts_within, av1_frame::proofs::Paint::row_within, av1_frame::proofs::Paint::length_paint, av1_frame::proofs::Paint::paint_none))]
+fn copy_rows<T: Pixel, const N: usize>(
+    samples: &mut [T],
+    stride: usize,
+    area: StoredArea,
+    source: &[T],
+    source_stride: usize,
+)
+    requires rows { AreRows stride area (length samples.old) }
+    requires width { area.width ≡ N }
+    requires some { 0 < N }
+    requires short { N ≤ 128 }
+    requires source_rows { (r : ℕ) → r < area.height → (r + 3) * source_stride + (N + 3) ≤ length source.now }
+    ensures { samples.new ≡ paint stride area (λ r c v. slice_index_or source.now ((r + 3) * source_stride + (c + 3)) v) samples.old }
+{
+    for r in 0..area.height {
+        let (_, row) = samples.split_at_mut((area.y + r) * stride + area.x);
+        let (_, from) = source.split_at((r + 3) * source_stride);
+        copy_by_array::<T, N>(row, from);
+    }
+}
+
+/// The same of a block of `N` columns, whose rows are copied by a few moves.
+fn put_samples_of<T: Pixel, const N: usize>(
+    dst: &mut PlaneRegionMut<'_, T>,
+    corner: PlaneSlice<'_, T>,
+    height: usize,
+)
+    requires fits { InStorage dst.old }
+    requires columns { N ≤ dst.old.area.width }
+    requires rows { height ≤ dst.old.area.height }
+    requires some { 0 < N }
+    requires short { N ≤ 128 }
+    requires stored { IsStoredFrom corner (N + 7) (height + 7) }
+    ensures painted { dst.new ≡ painted dst.old N height (λ r c _. T.pixel (samples_from T.num corner.entry (c + 3) (r + 3))) }
+    ensures fits { InStorage dst.new }
+{
+    let stride = dst.plane_cfg.stride;
+    let area = dst.corner(N, height);
+    copy_rows::<T, N>(
+        dst.samples_mut(),
+        stride,
+        area,
+        corner.samples(),
+        corner.stride(),
+    );
+}
+
+/// A block that is not filtered.
+pub(crate) fn put_copy<T: Pixel>(
+    dst: &mut PlaneRegionMut<'_, T>,
+    corner: PlaneSlice<'_, T>,
+    width: usize,
+    height: usize,
+)
+    requires fits { InStorage dst.old }
+    requires columns { width ≤ dst.old.area.width }
+    requires rows { height ≤ dst.old.area.height }
+    requires stored { IsStoredFrom corner (width + 7) (height + 7) }
+    ensures painted { dst.new ≡ painted dst.old width height (λ r c _. T.pixel (samples_from T.num corner.entry (c + 3) (r + 3))) }
+    ensures fits { InStorage dst.new }
+{
+    if width == 4 {
+        put_samples_of::<T, 4>(dst, corner, height);
+    } else if width == 8 {
+        put_samples_of::<T, 8>(dst, corner, height);
+    } else if width == 16 {
+        put_samples_of::<T, 16>(dst, corner, height);
+    } else if width == 32 {
+        put_samples_of::<T, 32>(dst, corner, height);
+    } else if width == 64 {
+        put_samples_of::<T, 64>(dst, corner, height);
+    } else if width == 128 {
+        put_samples_of::<T, 128>(dst, corner, height);
+    } else {
+        put_samples(dst, corner, width, height);
+    }
+}

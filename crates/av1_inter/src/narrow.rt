@@ -1,0 +1,209 @@
+//! Samples of 8 bits that are filtered along one direction alone, in sums of 16 bits.
+//!
+//! Every weight is even, so that half a sum of eight samples is the sum by halved weights: it lies from -7140 to 23460.
+//!
+//! AV1 specification: block inter prediction process.
+
+ghost use Rattle.std.specs.Prelude.{◌≡◌, true, ℕ, ◌+◌, ◌*◌, ◌≤◌, ◌<◌, pos, length, map, slice_index};
+ghost use Rattle.av1_frame.specs.Arithmetic.{clip, round_shift};
+ghost use Rattle.av1_frame.specs.Samples.{paint_row};
+ghost use Rattle.av1_inter.specs.Motion.{entry, weighted};
+ghost use Rattle.av1_inter.specs.Scaffolding.{Between, doubled, IsFilter, IsInner};
+
+use av1_blocks::SUBPEL_FILTER_SIZE;
+use av1_frame::Pixel;
+
+/// Half of each weight.
+#[inline(always)]
+pub(crate) fn halves_of(taps: &[i32; SUBPEL_FILTER_SIZE]) -> [i16; SUBPEL_FILTER_SIZE]
+    requires { IsFilter taps.now }
+    ensures { doubled result ≡ taps.now }
+{
+    let mut halves = [0; SUBPEL_FILTER_SIZE];
+    for t in 0..SUBPEL_FILTER_SIZE {
+        halves[t] = (taps[t] >> 1) as i16;
+    }
+    halves
+}
+
+/// The sum of eight samples, each times its halved weight.
+#[inline(always)]
+fn weigh_halves(halves: &[i16; SUBPEL_FILTER_SIZE], values: [i16; SUBPEL_FILTER_SIZE]) -> i16
+    requires filter { IsFilter (doubled halves.now) }
+    requires bytes { (t : ℕ) → t < 8 → Between 0 255 (entry values t) }
+    ensures { result ≡ weighted halves.now (entry values) }
+{
+    let mut sum = 0;
+    for t in 0..SUBPEL_FILTER_SIZE {
+        sum += halves[t] * values[t];
+    }
+    sum
+}
+
+/// The same where the outer two weights are 0.
+#[inline(always)]
+fn weigh_inner_halves(halves: &[i16; SUBPEL_FILTER_SIZE], values: [i16; SUBPEL_FILTER_SIZE]) -> i16
+    requires filter { IsFilter (doubled halves.now) }
+    requires inner { IsInner halves.now }
+    requires bytes { (t : ℕ) → t < 8 → Between 0 255 (entry values t) }
+    ensures { result ≡ weighted halves.now (entry values) }
+{
+    let mut sum = 0;
+    for t in 1..7 {
+        sum += halves[t] * values[t];
+    }
+    sum
+}
+
+/// The sample at a place, which has 8 bits.
+#[inline(always)]
+fn byte_at<T: Pixel>(samples: &[T], place: usize) -> i16
+    requires inside { place < length samples.now }
+    requires byte { slice_index (map T.num samples.now) place < 256 }
+    ensures value { result ≡ pos (slice_index (map T.num samples.now) place) }
+    ensures within { Between 0 255 result }
+{
+    samples[place].to_i32() as i16
+}
+
+/// The sum of eight samples that stand `step` apart, each times its halved weight.
+#[inline(always)]
+fn half_sum<T: Pixel, const INNER: bool>(
+    samples: &[T],
+    start: usize,
+    step: usize,
+    halves: &[i16; SUBPEL_FILTER_SIZE],
+) -> i16
+    requires filter { IsFilter (doubled halves.now) }
+    requires inner { INNER ≡ true → IsInner halves.now }
+    requires long { start + 7 * step < length samples.now }
+    requires bytes { (t : ℕ) → t < 8 → slice_index (map T.num samples.now) (start + t * step) < 256 }
+    ensures { result ≡ weighted halves.now (λ t. pos (slice_index (map T.num samples.now) (start + t * step))) }
+{
+    let values = [
+        byte_at(samples, start),
+        byte_at(samples, start + step),
+        byte_at(samples, start + 2 * step),
+        byte_at(samples, start + 3 * step),
+        byte_at(samples, start + 4 * step),
+        byte_at(samples, start + 5 * step),
+        byte_at(samples, start + 6 * step),
+        byte_at(samples, start + 7 * step),
+    ];
+    if INNER {
+        weigh_inner_halves(halves, values)
+    } else {
+        weigh_halves(halves, values)
+    }
+}
+
+/// Such sums from each of `N` places on.
+#[inline(always)]
+fn half_sums_by<T: Pixel, const N: usize, const INNER: bool>(
+    samples: &[T],
+    start: usize,
+    step: usize,
+    halves: &[i16; SUBPEL_FILTER_SIZE],
+) -> [i16; N]
+    requires filter { IsFilter (doubled halves.now) }
+    requires inner { INNER ≡ true → IsInner halves.now }
+    requires short { N ≤ 128 }
+    requires long { start + N + 7 * step ≤ length samples.now }
+    requires bytes { (c t : ℕ) → c < N → t < 8 → slice_index (map T.num samples.now) (start + c + t * step) < 256 }
+    ensures { (c : ℕ) → c < N → entry result c ≡ weighted halves.now (λ t. pos (slice_index (map T.num samples.now) (start + c + t * step))) }
+{
+    let mut sums = [0; N];
+    for c in 0..N {
+        sums[c] = half_sum::<T, INNER>(samples, start + c, step, halves);
+    }
+    sums
+}
+
+/// Whether the outer two weights are 0.
+#[inline(always)]
+fn are_inner(halves: &[i16; SUBPEL_FILTER_SIZE]) -> bool
+    ensures { result ≡ true → IsInner halves.now }
+{
+    halves[0] == 0 && halves[7] == 0
+}
+
+/// The same, by the inner weights alone where that is all.
+#[inline(always)]
+pub(crate) fn half_sums<T: Pixel, const N: usize>(
+    samples: &[T],
+    start: usize,
+    step: usize,
+    halves: &[i16; SUBPEL_FILTER_SIZE],
+) -> [i16; N]
+    requires filter { IsFilter (doubled halves.now) }
+    requires short { N ≤ 128 }
+    requires long { start + N + 7 * step ≤ length samples.now }
+    requires bytes { (c t : ℕ) → c < N → t < 8 → slice_index (map T.num samples.now) (start + c + t * step) < 256 }
+    ensures value { (c : ℕ) → c < N → entry result c ≡ weighted halves.now (λ t. pos (slice_index (map T.num samples.now) (start + c + t * step))) }
+    ensures within { (c : ℕ) → c < N → Between 7140 23460 (entry result c) }
+{
+    if are_inner(halves) {
+        half_sums_by::<T, N, true>(samples, start, step, halves)
+    } else {
+        half_sums_by::<T, N, false>(samples, start, step, halves)
+    }
+}
+
+/// The sample of 8 bits that is nearest to a value.
+#[inline(always)]
+fn nearest_byte<T: Pixel>(value: i16) -> T
+    requires { 8 ≤ T.BITS }
+    ensures { result ≡ T.pixel (clip 8 value) }
+{
+    T::from_u32(value.max(0).min(255) as u32)
+}
+
+/// The sample of half a sum down a column.
+#[inline(always)]
+fn column_sample<T: Pixel>(half: i16) -> T
+    requires bits { 8 ≤ T.BITS }
+    requires within { Between 7140 23460 half }
+    ensures { result ≡ T.pixel (clip 8 (round_shift half 6)) }
+{
+    nearest_byte((half + 32) >> 6)
+}
+
+/// The sample of half a sum along a row, which is rounded twice.
+#[inline(always)]
+fn row_sample<T: Pixel>(half: i16) -> T
+    requires bits { 8 ≤ T.BITS }
+    requires within { Between 7140 23460 half }
+    ensures { result ≡ T.pixel (clip 8 (round_shift (round_shift half 2) 4)) }
+{
+    nearest_byte((((half + 2) >> 2) + 8) >> 4)
+}
+
+/// The first `N` samples of the row become those of sums down columns.
+#[inline(always)]
+#[tactic(auto, using(av1_frame::proofs::Paint::row_painting))]
+pub(crate) fn put_column_sums<T: Pixel, const N: usize>(row: &mut [T], halves: &[i16; N])
+    requires row_long { N ≤ length row.old }
+    requires short { N ≤ 128 }
+    requires bits { 8 ≤ T.BITS }
+    requires within { (c : ℕ) → c < N → Between 7140 23460 (entry halves.now c) }
+    ensures { row.new ≡ paint_row N (λ c _. T.pixel (clip 8 (round_shift (entry halves.now c) 6))) row.old }
+{
+    for c in 0..N {
+        row[c] = column_sample(halves[c]);
+    }
+}
+
+/// The first `N` samples of the row become those of sums along it.
+#[inline(always)]
+#[tactic(auto, using(av1_frame::proofs::Paint::row_painting))]
+pub(crate) fn put_row_sums<T: Pixel, const N: usize>(row: &mut [T], halves: &[i16; N])
+    requires row_long { N ≤ length row.old }
+    requires short { N ≤ 128 }
+    requires bits { 8 ≤ T.BITS }
+    requires within { (c : ℕ) → c < N → Between 7140 23460 (entry halves.now c) }
+    ensures { row.new ≡ paint_row N (λ c _. T.pixel (clip 8 (round_shift (round_shift (entry halves.now c) 2) 4))) row.old }
+{
+    for c in 0..N {
+        row[c] = row_sample(halves[c]);
+    }
+}
