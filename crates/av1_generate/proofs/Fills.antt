@@ -1,10 +1,11 @@
 -- Drafts that fill a format: whatever is drawn, the fields that are written are such as the format asks for, and no more than so many
 -- bytes.
-use Rattle.std.proofs.Common.{◌≡◌, ℕ, zero, suc, ◌+◌, ◌*◌, ◌%◌, ◌<◌, ◌≤◌, List, [], ◌∷◌, ◌++◌, length, refl, sym, ap, subst, ◌∙◌, append_assoc, arith, length-append}
+use Rattle.std.proofs.Common.{◌≡◌, ℕ, zero, suc, ◌+◌, ◌*◌, ◌%◌, ◌<◌, ◌≤◌, List, [], ◌∷◌, ◌++◌, length, refl, sym, ◌∙◌, append_assoc, arith, length-append}
 use Rattle.std.specs.Int.{to_le_bytes, byte_len}
 use Rattle.std.proofs.lemmas.List.{append-nil}
 use Rattle.av1_plan.specs.Format.{width, Kind, IsAdmitted, Format, done, asks, ◌>>=◌, lone, ◌++>◌, in_turn}
 use Rattle.av1_plan.specs.Spelling.{Spells, text}
+use Rattle.av1_plan.proofs.Carried.{joined}
 use Rattle.av1_plan.proofs.Fields.{length-le}
 use Rattle.av1_generate.specs.Draft.{Draft, nothing, writes, draws, ◌>>◌, each, written}
 
@@ -22,15 +23,6 @@ pub record Fills {A : Type 0} (d : Draft) (f : Format A) (n : ℕ) (P : A → Ty
   pub fills : (next number : ℕ → ℕ) (s : List ℕ × ℕ) → Filled f n P s.0 (written next number d s).0
 
 -- ---- one format behind another
-
-joined : {A B : Type 0} (f : Format A) (g : A → Format B) (x : A) (y : B) (vs ws : List ℕ) → Spells f vs x → Spells (g x) ws y
-    → Spells (f >>= g) (vs ++ ws) y × (text (f >>= g) (vs ++ ws) ≡ text f vs ++ text (g x) ws)
-joined (done z) g x y [] ws s t = (subst (λ u. Spells (g u) ws y) (sym s) t, ap (λ u. text (g u) ws) s)
-joined (done z) g x y (v ∷ vs) ws s t = absurd s
-joined (asks k next) g x y [] ws s t = absurd s
-joined (asks k next) g x y (v ∷ vs) ws s t =
-    let (a, b) = joined (next v) g x y vs ws s.1 t in
-    ((s.0, a), ap (λ (us : List ℕ). to_le_bytes (width k.size) v ++ us) b ∙ sym (append_assoc (to_le_bytes (width k.size) v) (text (next v) vs) (text (g x) ws)))
 
 filled_behind : {A B : Type 0} (f : Format A) (g : A → Format B) (m n : ℕ) (P : A → Type 0) (Q : B → Type 0) (a b c : List ℕ)
     → (r : Filled f m P a b) → Filled (g r.value) n Q b c → Filled (f >>= g) (m + n) Q a c

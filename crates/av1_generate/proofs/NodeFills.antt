@@ -9,13 +9,13 @@ use Rattle.av1_blocks.specs.declared.partition.PartitionType.TheVariants.{PARTIT
 use Rattle.av1_plan.specs.declared.header.Header.{Header}
 use Rattle.av1_plan.specs.Format.{one}
 use Rattle.av1_plan.specs.Geometry.{is_inside}
-use Rattle.av1_plan.specs.Grammar.{byte_from, half_side, whole_size, part_size}
+use Rattle.av1_plan.specs.Grammar.{where_, half_side, whole_size, part_size}
 use Rattle.av1_plan.specs.Grammar as grammar
 use Rattle.av1_plan.specs.Plan.{LeafValue}
 use Rattle.av1_plan.specs.Validity.{fault_of, fault_from}
 use Rattle.av1_generate.specs.Draft.{writes, ◌>>◌}
 use Rattle.av1_generate.specs.Generator.{frame, part, parts, block, superblock_row, superblocks}
-use Rattle.av1_generate.proofs.FieldKinds.{byte_is}
+use Rattle.av1_generate.proofs.FieldKinds.{mark_is}
 use Rattle.av1_generate.proofs.Fills.{Fills, fills_lone, asked, weaker, drawing, Grows, fills_both, four_fill, fills_each}
 use Rattle.av1_generate.proofs.LeafFills.{leaf_fills}
 
@@ -79,24 +79,25 @@ node_is level x y le_x le_y =
       below = let h : y + 4 * (2 * 2 ^ level) ≤ 512 = rw double at le_y in omega arith;
     }
 
-parts_fill : (number level side x y mark : ℕ) → IsNode level side x y → AreFilled number level
-    → Fills (parts (frame number) (suc level) (block (frame number) level) x y mark) (grammar.parts (frame number) (suc level) (grammar.block (frame number) level) x y mark)
-    (4 * room level) (AreValid (frame number))
-unfolding parts grammar.parts
-parts_fill number level side x y zero node quarter =
+parts_fill : (number level side x y mark : ℕ) → mark < 4 → IsNode level side x y → AreFilled number level
+    → Fills (parts (frame number) (suc level) (block (frame number) level) x y mark)
+    (grammar.parts (frame number) (suc level) (grammar.block (frame number) level) x y (grammar.cut_by mark)) (4 * room level) (AreValid (frame number))
+unfolding parts grammar.parts grammar.cut_by
+parts_fill number level side x y zero lt node quarter =
     weaker (omega (arith, room_is level)) (λ ls p. p)
     (part_fills number x y (whole_size (suc level)) (omega (arith, node.right, node.some)) (omega (arith, node.below, node.some)))
-parts_fill number level side x y (suc zero) node quarter =
+parts_fill number level side x y (suc zero) lt node quarter =
     weaker (omega (arith, room_is level)) (λ ls p. p)
     (fills_both (valid_grows (frame number))
     (part_fills number x y (part_size (suc level) PARTITION_HORZ) (omega (arith, node.right, node.some)) (omega (arith, node.below, node.some)))
     (part_fills number x (y + half_side (suc level)) (part_size (suc level) PARTITION_HORZ) (omega (arith, node.right, node.some)) (omega (arith, node.below, node.some, node.half))))
-parts_fill number level side x y (suc (suc zero)) node quarter =
+parts_fill number level side x y (suc (suc zero)) lt node quarter =
     weaker (omega (arith, room_is level)) (λ ls p. p)
     (fills_both (valid_grows (frame number))
     (part_fills number x y (part_size (suc level) PARTITION_VERT) (omega (arith, node.right, node.some)) (omega (arith, node.below, node.some)))
     (part_fills number (x + half_side (suc level)) y (part_size (suc level) PARTITION_VERT) (omega (arith, node.right, node.some, node.half)) (omega (arith, node.below, node.some))))
-parts_fill number level side x y (suc (suc (suc mark))) node quarter =
+parts_fill number level side x y (suc (suc (suc (suc mark)))) lt node quarter = absurd (omega (arith, lt))
+parts_fill number level side x y (suc (suc (suc zero))) lt node quarter =
     let right = x + half_side (suc level) in
     let below = y + half_side (suc level) in
     let in_x : x + 4 * 2 ^ level ≤ 512 = omega (arith, node.right, node.quarter) in
@@ -108,15 +109,15 @@ parts_fill number level side x y (suc (suc (suc mark))) node quarter =
     (four_fill grows (quarter x y in_x in_y) (quarter right y in_right in_y) (quarter x below in_x in_below) (quarter right below in_right in_below))
 
 pub block_fills : (number level : ℕ) → AreFilled number level
-unfolding block grammar.block is_inside frame
+unfolding block grammar.block grammar.mark is_inside frame
 block_fills number zero x y in_x in_y = part_fills number x y BLOCK_4X4 (omega arith) (omega arith)
 block_fills number (suc level) x y in_x in_y =
     let node = node_is level x y in_x in_y in
     rw (lt-ltb x 512 (omega (arith, node.right, node.some)), lt-ltb y 512 (omega (arith, node.below, node.some)))
     (drawing 4 (λ mark. writes one mark >> parts (frame number) (suc level) (block (frame number) level) x y mark) (lit< tt) (λ mark lt.
-    asked {n = 4 * room level} (byte_from 0 3) (grammar.parts (frame number) (suc level) (grammar.block (frame number) level) x y) mark
-    (byte_is 0 3 mark (lit< tt) (omega arith) (omega arith))
-    (parts_fill number level (4 * 2 ^ level) x y mark node (block_fills number level))))
+    asked {n = 4 * room level} (where_ one (grammar.is_mark (frame number) (suc level) x y))
+    (λ v. grammar.parts (frame number) (suc level) (grammar.block (frame number) level) x y (grammar.cut_by v)) mark (mark_is (frame number) (suc level) x y mark lt)
+    (parts_fill number level (4 * 2 ^ level) x y mark lt node (block_fills number level))))
 
 -- ---- superblocks
 

@@ -3,8 +3,8 @@ use Rattle.std.proofs.Common.{◌≡◌, ℕ, suc, ◌/◌, ◌%◌, ◌^◌, �
 use Rattle.std.specs.Prelude.{codes}
 use Rattle.std.specs.Int.{w32, from_le_bytes}
 use Rattle.av1_plan.specs.declared.header.Header.{Header}
-use Rattle.av1_plan.specs.Format.{one, two, any, IsAdmitted, Format, done, ◌>>=◌}
-use Rattle.av1_plan.specs.Grammar.{where_, byte_from, magic, is_side, is_depth}
+use Rattle.av1_plan.specs.Format.{one, two, four, any, IsAdmitted, Format, done, ◌>>=◌}
+use Rattle.av1_plan.specs.Grammar.{where_, byte_from, is_magic, is_side, is_depth}
 use Rattle.av1_plan.specs.Grammar as grammar
 use Rattle.av1_plan.specs.Plan.{PlanValue}
 use Rattle.av1_plan.specs.Validity.{first_fault}
@@ -37,9 +37,9 @@ side_is : IsAdmitted (where_ two is_side) 512
 side_is = record { fits = lit< tt; admitted = refl }
 
 header_fills : (number : ℕ) → Fills (header number) grammar.header 20 (λ h. h ≡ frame number)
-unfolding header grammar.header frame
+unfolding header grammar.header grammar.version grammar.frame frame
 header_fills number =
-    asked {n = 16} magic _ (from_le_bytes w32 (codes "RPL1")) (record { fits = lit< tt; admitted = refl })
+    asked {n = 16} (where_ four is_magic) _ (from_le_bytes w32 (codes "RPL1")) (record { fits = lit< tt; admitted = refl })
     (asked {n = 14} (where_ two is_side) _ 512 side_is
     (asked {n = 12} (where_ two is_side) _ 512 side_is
     (asked {n = 11} (where_ one is_depth) _ 10 (record { fits = lit< tt; admitted = refl })

@@ -29,6 +29,7 @@ less size v by = (v + (limit size - by)) % limit size
 -- the frame: 512 by 512, depth 10, 4:2:0; every reference names slot 0, which alone carries planes
 unfoldable pub frame : ℕ → Header
 frame number = record {
+  version = 1;
   width = 512;
   height = 512;
   depth = 10;

@@ -15,6 +15,7 @@ fn frame(number: u32) -> Header
     ensures { result ≡ frame number }
 {
     Header {
+        version: 1,
         width: 512,
         height: 512,
         depth: 10,

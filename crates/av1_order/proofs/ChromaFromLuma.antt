@@ -15,11 +15,11 @@ use Rattle.av1_blocks.specs.Transforms.{tx_width, tx_height}
 use Rattle.av1_plan.specs.declared.geometry.PlaneArea.{PlaneArea}
 use Rattle.av1_plan.specs.declared.geometry.TransformBlock.{TransformBlock}
 use Rattle.av1_plan.specs.declared.header.Header.{Header}
-use Rattle.av1_plan.specs.CodingOrder.{IsOnGrid, cells_of, IsTwoToOne}
+use Rattle.av1_plan.specs.CodingOrder.{IsOnGrid, IsQuarterInside, cells_of}
 use Rattle.av1_plan.specs.Geometry.{xdec, ydec, block_at, block_count, blocks_across, carries_chroma, covers_plane, has_block, is_inside, plane_area, plane_height, plane_place, plane_size, plane_tx_size, plane_width, transform_block}
 use Rattle.av1_plan.specs.Plan.{LeafValue}
 use Rattle.av1_plan.proofs.ValidLeaves.{IsValidLeaf, fitting_transforms}
-use Rattle.av1_order.specs.ChromaFromLuma.{IsQuarterInside, LumaIsWritten, ReadsWritten, luma_place}
+use Rattle.av1_order.specs.ChromaFromLuma.{LumaIsWritten, ReadsWritten, luma_place}
 use Rattle.av1_order.specs.Plans.{IsWholeFrame, steps_in}
 use Rattle.av1_order.specs.Turns.{IsCodedPlan, is_written, leaves_steps}
 use Rattle.av1_order.proofs.Cuts.{cut_grid, cut_on_grid, cut_valid, steps_with, written_at_turn}
@@ -29,7 +29,7 @@ use Rattle.av1_order.proofs.Neighbours.{near_starts, whole_cells}
 use Rattle.av1_order.proofs.PlanEdges.{visible_in}
 use Rattle.av1_order.proofs.Plans.{halved_x, halved_y, in_plane_block}
 use Rattle.av1_order.proofs.Rectangles.{placed as held}
-use Rattle.av1_order.proofs.Sizes.{block_some, divides, tx_some}
+use Rattle.av1_order.proofs.Sizes.{divides, tx_some}
 use Rattle.av1_order.proofs.Units.{whole_multiple}
 use Rattle.av1_order.proofs.WholeAreas.{blocks_written, row_within}
 use Rattle.av1_order.proofs.Choices.{first_true, second_true}
@@ -324,14 +324,6 @@ module _ (h : Header) (earlier : List LeafValue) (l : LeafValue) (later : List L
       let y = reads_at (ydec h 1) (block_height l.size) (tx_height l.tx_size) (side_log2 (block_height l.size) - 2) (side_log2 (tx_height l.tx_size) - 2) l.y h.height r j
       (sides_power l.size).1 (tx_power l.tx_size).1 low short fits.height grid.side_y is.frame.height inside.1 odd.1 (subst (λ n. r < n) sides.height hr) hj in
       luma_written _ _ x.ends y.ends x.coded y.coded x.before y.before
-
--- a leaf that is no quarter of a node
-pub two_to_one_inside : (h : Header) (l : LeafValue) → IsTwoToOne l → IsQuarterInside h l
-two_to_one_inside h l shape =
-    let some = block_some l.size in
-    let wide = shape.not_wide in
-    let high = shape.not_high in
-    record { wide = λ e. absurd (omega (arith, e, some.0, some.1)); high = λ e. absurd (omega (arith, e, some.0, some.1)) }
 
 pub luma_is_written : LumaIsWritten
 luma_is_written h earlier l later is carried narrow short quarter c r hc hr = reads_written h earlier l later is quarter carried narrow short c r hc hr

@@ -2,7 +2,7 @@
 use Rattle.std.proofs.Common.{◌≡◌, ℕ, ◌/◌, Bool, true, false, ◌||◌, List, [], ◌∷◌, ◌++◌, length, get_or, map, None, subst, ◌∙◌, ap, arith}
 use Rattle.std.specs.List.{All}
 use Rattle.std.proofs.Math.Seq.{get_or-append_seam}
-use Rattle.std.proofs.lemmas.List.{append-nil, get_or_append_left, length-append, map-append}
+use Rattle.std.proofs.lemmas.List.{append-nil, length-append, map-append}
 use Rattle.std.proofs.lemmas.List.Elements.{All-map, recursion_from_All}
 use Rattle.av1_plan.specs.declared.header.Header.{Header}
 use Rattle.av1_plan.specs.CodingOrder.{IsOnGrid as IsLeafOnGrid, cells_of, placed}
@@ -10,6 +10,7 @@ use Rattle.av1_plan.specs.Geometry.{xdec, ydec}
 use Rattle.av1_plan.specs.Plan.{LeafValue}
 use Rattle.av1_plan.specs.Tree.{Placed}
 use Rattle.av1_plan.specs.Validity.{fault_of}
+use Rattle.av1_plan.proofs.Pieces.{all_apart}
 use Rattle.av1_plan.proofs.ValidLeaves.{IsValidLeaf, valid_leaf}
 use Rattle.av1_order.specs.Leaves.{holds_cell}
 use Rattle.av1_order.specs.Plans.{coding_in, steps_in}
@@ -32,7 +33,7 @@ at_cut P earlier l later all =
     subst P (get_or-append_seam earlier l later l) (all (length earlier) l (omega (arith, length-append earlier (l ∷ later))))
 
 pub all_front : (P : LeafValue → Type 0) (xs ys : List LeafValue) → All P (xs ++ ys) → All P xs
-all_front P xs ys all k d within = subst P (get_or_append_left xs ys d k within) (all k d (omega (arith, length-append xs ys, within)))
+all_front P xs ys all = (all_apart P xs ys all).0
 
 module _ {A : Type 0} (width height : ℕ) where
   -- the leaves before one of them follow one another up to it

@@ -22,7 +22,7 @@ use Rattle.av1_order.specs.Steps.{Coding, plane_steps}
 use Rattle.av1_order.specs.Turns.{answer_above_right, answer_below_left, is_written_above, is_written_left, leaf_block, steps_before}
 
 header : Header
-header = record { width = 8; height = 8; depth = 8; sampling = 0; filter = REGULAR; edge_filter = false; slots = 0 ∷ 0 ∷ 0 ∷ 0 ∷ 0 ∷ 0 ∷ 0 ∷ []; mask = 0 }
+header = record { version = 1; width = 8; height = 8; depth = 8; sampling = 0; filter = REGULAR; edge_filter = false; slots = 0 ∷ 0 ∷ 0 ∷ 0 ∷ 0 ∷ 0 ∷ 0 ∷ []; mask = 0 }
 
 leaf : ℕ → ℕ → PredictionMode → LeafValue
 leaf x y mode = record { x = x; y = y; size = BLOCK_4X4; kind = Intra mode (pos 0) None; tx_size = TX_4X4; tx_type = DCT_DCT; uv_type = None; triples = [] ∷ [] ∷ [] ∷ [] }

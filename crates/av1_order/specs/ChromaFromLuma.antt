@@ -5,6 +5,7 @@ use Rattle.std.specs.Int.{next_multiple_of}
 use Rattle.av1_blocks.specs.Blocks.{block_width, block_height}
 use Rattle.av1_blocks.specs.Transforms.{tx_width, tx_height}
 use Rattle.av1_plan.specs.declared.header.Header.{Header}
+use Rattle.av1_plan.specs.CodingOrder.{IsQuarterInside}
 use Rattle.av1_plan.specs.Geometry.{xdec, ydec, carries_chroma, plane_size}
 use Rattle.av1_plan.specs.Plan.{LeafValue}
 use Rattle.av1_order.specs.Turns.{IsCodedPlan, is_written, leaves_steps}
@@ -28,12 +29,6 @@ module _ (s side place : ℕ) where
     -- the luma that is read for chroma place c: each of its 2 ^ s samples; past what is coded the last ones again
     abbrev pub luma_place : (c i : ℕ) → ℕ
     luma_place c i = luma_start + min (c * 2 ^ s) (max unpadded_side 8 - 2 ^ s) + i
-
--- A leaf one of whose sides is four times the other ends in the frame. It is a quarter of a node, and these are coded only where the node lies
--- in the frame.
-pub record IsQuarterInside (h : Header) (l : LeafValue) : Type 0 where
-  pub wide : block_width l.size ≡ 4 * block_height l.size → l.x + block_width l.size ≤ h.width
-  pub high : block_height l.size ≡ 4 * block_width l.size → l.y + block_height l.size ≤ h.height
 
 -- All the luma that a leaf's chroma place at column c of row r reads is written by these luma steps.
 abbrev pub ReadsWritten : Header → LeafValue → List LeafValue → (c r : ℕ) → Type 0

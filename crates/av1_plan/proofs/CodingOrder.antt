@@ -5,7 +5,8 @@ use Rattle.std.proofs.Math.Logic.{∥∥₁_map}
 use Rattle.std.proofs.lemmas.Bool.{cases_lt, lt-ltb, le-ltb}
 use Rattle.std.proofs.lemmas.List.{append-nil, map-append, length-append}
 use Rattle.av1_blocks.specs.declared.partition.BlockSize.{BlockSize}
-use Rattle.av1_blocks.specs.declared.partition.PartitionType.TheVariants.{PARTITION_HORZ, PARTITION_VERT}
+use Rattle.av1_blocks.specs.declared.partition.PartitionType.{PartitionType}
+use Rattle.av1_blocks.specs.declared.partition.PartitionType.TheVariants.{PARTITION_NONE, PARTITION_HORZ, PARTITION_VERT, PARTITION_HORZ_4, PARTITION_VERT_4}
 use Rattle.av1_blocks.specs.declared.partition.BlockSize.TheVariants.{BLOCK_4X4}
 use Rattle.av1_blocks.specs.declared.predict.PredictionMode.TheVariants.{DC_PRED}
 use Rattle.av1_blocks.specs.declared.transform.TxSize.TheVariants.{TX_4X4}
@@ -16,17 +17,18 @@ use Rattle.av1_plan.specs.declared.leaf.LeafKind.TheVariants.{Intra}
 use Rattle.av1_plan.specs.declared.plan.Plan.{Plan}
 use Rattle.av1_plan.specs.Answer.{plan_value}
 use Rattle.av1_plan.specs.CodingOrder.{cells_of, placed, AreInCodingOrder}
-use Rattle.av1_plan.specs.Format.{◌++>◌, lone, in_turn}
+use Rattle.av1_plan.specs.Format.{Format, ◌++>◌, lone, in_turn}
 use Rattle.av1_plan.specs.Geometry.{is_inside}
-use Rattle.av1_plan.specs.Grammar.{leaf, whole_size, part_size, part, parts, block, superblock_row, superblocks, plan}
+use Rattle.av1_plan.specs.Grammar.{leaf, half_side, quarter_side, whole_size, part_size, part, mark, wide_stripes, tall_stripes, parts, block, superblock_row, superblocks, plan}
 use Rattle.av1_plan.specs.Plan.{LeafValue, PlanValue}
 use Rattle.av1_plan.specs.Spelling.{IsSpelled}
-use Rattle.av1_plan.specs.Tree.{Block, Placed, Tree, none, horz, vert, split, kept, part_leaves, node_leaves, superblock_leaves}
+use Rattle.av1_plan.specs.Tree.{Block, Placed, Tree, none, horz, vert, horz_4, vert_4, split, kept, part_leaves, node_leaves, superblock_leaves}
 use Rattle.av1_plan.specs.ReadPlans.{IsSide}
 use Rattle.av1_plan.proofs.ReadFrames.{header_is, plan_pieces}
 use Rattle.av1_plan.proofs.ReadLeaves.{leaf_place}
-use Rattle.av1_plan.proofs.NodeLeaves.{HasCells, whole_cells, wide_cells, tall_cells, smallest_cells, behind_half, superblock_place}
-use Rattle.av1_plan.proofs.Pieces.{spelled_asks, spelled_lone, spelled_both, spelled_no_turn, spelled_turn, spelled_where}
+use Rattle.av1_plan.proofs.NodeLeaves.{HasCells, whole_cells, wide_cells, tall_cells, wide_stripe_cells, tall_stripe_cells, smallest_cells, behind_half, superblock_place}
+use Rattle.av1_plan.proofs.Marks.{IsCut, IsStriped, behind_quarter, behind_quarters, spelled_mark, striped_is}
+use Rattle.av1_plan.proofs.Pieces.{AreFour, spelled_bind, spelled_lone, spelled_both, spelled_four, spelled_no_turn, spelled_turn, spelled_where}
 
 -- ---- samples and cells
 
@@ -86,40 +88,94 @@ module _ {A : Type 0} (filler : A) (code : LeafValue → A) (h : Header) (column
   abbrev OfNode : ℕ → ℕ → ℕ → List LeafValue → Type 0
   OfNode k x y ls = (t : Tree A k) × (kept columns rows x y (node_leaves columns rows t x y) ≡ places ls)
 
-  parts_tree : (k x y mark : ℕ) (ls : List LeafValue) → suc k ≤ 4 → ((x y : ℕ) (ls : List LeafValue) → IsSpelled (block h k (4 * x) (4 * y)) ls → OfNode k x y ls) → IsSpelled (parts h (suc k) (block h k) (4 * x) (4 * y) mark) ls
-      → (t : Tree A (suc k)) × (node_leaves columns rows t x y ≡ places ls)
+  -- the leaves of four parts as they are placed
+  join_four : (f g k m : Format (List LeafValue)) (ls : List LeafValue) (four : AreFour f g k m ls) (ps qs rs ss : List (Placed A))
+      → ps ≡ places four.first → qs ≡ places four.second → rs ≡ places four.third → ss ≡ places four.fourth → ps ++ qs ++ rs ++ ss ≡ places ls
+  join_four f g k m ls four ps qs rs ss a b c d =
+      let two = four.first ++ four.second in
+      join (two ++ four.third) four.fourth ls (ps ++ qs ++ rs) ss (join two four.third _ (ps ++ qs) rs (join four.first four.second _ ps qs a b refl) c refl) d four.are
+
+  -- a node of level suc k
+  abbrev OfParts : ℕ → ℕ → ℕ → List LeafValue → Type 0
+  OfParts k x y ls = (t : Tree A (suc k)) × (node_leaves columns rows t x y ≡ places ls)
+
+  wide_tree : (k x y : ℕ) (ls : List LeafValue) → suc k ≤ 4 → IsStriped h (suc k) (4 * x) (4 * y)
+      → IsSpelled (wide_stripes h (part_size (suc k) PARTITION_HORZ_4) (quarter_side (suc k)) (4 * x) (4 * y)) ls → OfParts k x y ls
+  unfolding wide_stripes
+  wide_tree zero x y ls le is s = absurd (omega (arith, is.level_2))
+  wide_tree (suc k) x y ls le is s =
+      let n = 2 ^ k in
+      let size = part_size (suc (suc k)) PARTITION_HORZ_4 in
+      let cells = wide_stripe_cells k le in
+      let t = rw (behind_quarter k y, behind_quarters 2 k y, behind_quarters 3 k y) at s in
+      let four = spelled_four (part h size (4 * x) (4 * y)) (part h size (4 * x) (4 * (y + n))) (part h size (4 * x) (4 * (y + 2 * n))) (part h size (4 * x) (4 * (y + 3 * n))) ls t in
+      let (a, a_is) = part_tree size (4 * n) n x y four.first cells four.first_spelled in
+      let (b, b_is) = part_tree size (4 * n) n x (y + n) four.second cells four.second_spelled in
+      let (c, c_is) = part_tree size (4 * n) n x (y + 2 * n) four.third cells four.third_spelled in
+      let (d, d_is) = part_tree size (4 * n) n x (y + 3 * n) four.fourth cells four.fourth_spelled in (
+        horz_4 a b c d,
+        join_four _ _ _ _ ls four (part_leaves columns rows x y (4 * n) n a) (part_leaves columns rows x (y + n) (4 * n) n b) (part_leaves columns rows x (y + 2 * n) (4 * n) n c)
+            (part_leaves columns rows x (y + 3 * n) (4 * n) n d) a_is b_is c_is d_is,
+      )
+
+  tall_tree : (k x y : ℕ) (ls : List LeafValue) → suc k ≤ 4 → IsStriped h (suc k) (4 * x) (4 * y)
+      → IsSpelled (tall_stripes h (part_size (suc k) PARTITION_VERT_4) (quarter_side (suc k)) (4 * x) (4 * y)) ls → OfParts k x y ls
+  unfolding tall_stripes
+  tall_tree zero x y ls le is s = absurd (omega (arith, is.level_2))
+  tall_tree (suc k) x y ls le is s =
+      let n = 2 ^ k in
+      let size = part_size (suc (suc k)) PARTITION_VERT_4 in
+      let cells = tall_stripe_cells k le in
+      let t = rw (behind_quarter k x, behind_quarters 2 k x, behind_quarters 3 k x) at s in
+      let four = spelled_four (part h size (4 * x) (4 * y)) (part h size (4 * (x + n)) (4 * y)) (part h size (4 * (x + 2 * n)) (4 * y)) (part h size (4 * (x + 3 * n)) (4 * y)) ls t in
+      let (a, a_is) = part_tree size n (4 * n) x y four.first cells four.first_spelled in
+      let (b, b_is) = part_tree size n (4 * n) (x + n) y four.second cells four.second_spelled in
+      let (c, c_is) = part_tree size n (4 * n) (x + 2 * n) y four.third cells four.third_spelled in
+      let (d, d_is) = part_tree size n (4 * n) (x + 3 * n) y four.fourth cells four.fourth_spelled in (
+        vert_4 a b c d,
+        join_four _ _ _ _ ls four (part_leaves columns rows x y n (4 * n) a) (part_leaves columns rows (x + n) y n (4 * n) b) (part_leaves columns rows (x + 2 * n) y n (4 * n) c)
+            (part_leaves columns rows (x + 3 * n) y n (4 * n) d) a_is b_is c_is d_is,
+      )
+
+  -- four nodes
+  split_tree : (k x y : ℕ) (ls : List LeafValue) → ((x y : ℕ) (ls : List LeafValue) → IsSpelled (block h k (4 * x) (4 * y)) ls → OfNode k x y ls)
+      → IsSpelled (block h k (4 * x) (4 * y) ++> block h k (4 * x + half_side (suc k)) (4 * y) ++> block h k (4 * x) (4 * y + half_side (suc k)) ++> block h k (4 * x + half_side (suc k)) (4 * y + half_side (suc k))) ls → OfParts k x y ls
+  split_tree k x y ls part_of s =
+      let n = 2 ^ k in
+      let t = rw (behind_half k x, behind_half k y) at s in
+      let four = spelled_four (block h k (4 * x) (4 * y)) (block h k (4 * (x + n)) (4 * y)) (block h k (4 * x) (4 * (y + n))) (block h k (4 * (x + n)) (4 * (y + n))) ls t in
+      let (t_1, e_1) = part_of x y four.first four.first_spelled in
+      let (t_2, e_2) = part_of (x + n) y four.second four.second_spelled in
+      let (t_3, e_3) = part_of x (y + n) four.third four.third_spelled in
+      let (t_4, e_4) = part_of (x + n) (y + n) four.fourth four.fourth_spelled in (
+        split t_1 t_2 t_3 t_4,
+        join_four _ _ _ _ ls four (kept columns rows x y (node_leaves columns rows t_1 x y)) (kept columns rows (x + n) y (node_leaves columns rows t_2 (x + n) y))
+            (kept columns rows x (y + n) (node_leaves columns rows t_3 x (y + n))) (kept columns rows (x + n) (y + n) (node_leaves columns rows t_4 (x + n) (y + n))) e_1 e_2 e_3 e_4,
+      )
+
+  parts_tree : (k x y : ℕ) (cut : PartitionType) (ls : List LeafValue) → suc k ≤ 4 → IsCut h (suc k) (4 * x) (4 * y) cut
+      → ((x y : ℕ) (ls : List LeafValue) → IsSpelled (block h k (4 * x) (4 * y)) ls → OfNode k x y ls) → IsSpelled (parts h (suc k) (block h k) (4 * x) (4 * y) cut) ls → OfParts k x y ls
   unfolding parts
-  parts_tree k x y zero ls le part_of s =
+  parts_tree k x y PARTITION_NONE ls le cut_in part_of s =
       let (a, is) = part_tree (whole_size (suc k)) (2 ^ suc k) (2 ^ suc k) x y ls (whole_cells (suc k) le) s in
       (none a, is)
-  parts_tree k x y (suc zero) ls le part_of s =
+  parts_tree k x y PARTITION_HORZ ls le cut_in part_of s =
       let size = part_size (suc k) PARTITION_HORZ in
       let t = rw (behind_half k y) at s in
       let (xs, ys, xs_spelled, ys_spelled, is) = spelled_both (part h size (4 * x) (4 * y)) (part h size (4 * x) (4 * (y + 2 ^ k))) ls t in
       let (a, a_is) = part_tree size (2 * 2 ^ k) (2 ^ k) x y xs (wide_cells k le) xs_spelled in
       let (b, b_is) = part_tree size (2 * 2 ^ k) (2 ^ k) x (y + 2 ^ k) ys (wide_cells k le) ys_spelled in
       (horz a b, join xs ys ls _ _ a_is b_is is)
-  parts_tree k x y (suc (suc zero)) ls le part_of s =
+  parts_tree k x y PARTITION_VERT ls le cut_in part_of s =
       let size = part_size (suc k) PARTITION_VERT in
       let t = rw (behind_half k x) at s in
       let (xs, ys, xs_spelled, ys_spelled, is) = spelled_both (part h size (4 * x) (4 * y)) (part h size (4 * (x + 2 ^ k)) (4 * y)) ls t in
       let (a, a_is) = part_tree size (2 ^ k) (2 * 2 ^ k) x y xs (tall_cells k le) xs_spelled in
       let (b, b_is) = part_tree size (2 ^ k) (2 * 2 ^ k) (x + 2 ^ k) y ys (tall_cells k le) ys_spelled in
       (vert a b, join xs ys ls _ _ a_is b_is is)
-  parts_tree k x y (suc (suc (suc mark))) ls le part_of s =
-      let t = rw (behind_half k x, behind_half k y) at s in
-      let a = block h k (4 * x) (4 * y) in
-      let b = block h k (4 * (x + 2 ^ k)) (4 * y) in
-      let c = block h k (4 * x) (4 * (y + 2 ^ k)) in
-      let d = block h k (4 * (x + 2 ^ k)) (4 * (y + 2 ^ k)) in
-      let (front_3, ls_4, s_3, s_4, is_3) = spelled_both (a ++> b ++> c) d ls t in
-      let (front_2, ls_3, s_2, s_c, is_2) = spelled_both (a ++> b) c front_3 s_3 in
-      let (ls_1, ls_2, s_a, s_b, is_1) = spelled_both a b front_2 s_2 in
-      let (t_1, e_1) = part_of x y ls_1 s_a in
-      let (t_2, e_2) = part_of (x + 2 ^ k) y ls_2 s_b in
-      let (t_3, e_3) = part_of x (y + 2 ^ k) ls_3 s_c in
-      let (t_4, e_4) = part_of (x + 2 ^ k) (y + 2 ^ k) ls_4 s_4 in
-      (split t_1 t_2 t_3 t_4, join front_3 ls_4 ls _ _ (join front_2 ls_3 front_3 _ _ (join ls_1 ls_2 front_2 _ _ e_1 e_2 is_1) e_3 is_2) e_4 is_3)
+  parts_tree k x y PARTITION_HORZ_4 ls le cut_in part_of s = wide_tree k x y ls le (striped_is h (suc k) (4 * x) (4 * y) (cut_in refl)) s
+  parts_tree k x y PARTITION_VERT_4 ls le cut_in part_of s = tall_tree k x y ls le (striped_is h (suc k) (4 * x) (4 * y) (cut_in refl)) s
+  parts_tree k x y _ ls le cut_in part_of s = split_tree k x y ls part_of s
 
   kept_twice : (x y : ℕ) (leaves : List (Placed A)) → kept columns rows x y (kept columns rows x y leaves) ≡ kept columns rows x y leaves
   kept_twice x y leaves = twice (nat_lt x columns && nat_lt y rows)
@@ -135,8 +191,8 @@ module _ {A : Type 0} (filler : A) (code : LeafValue → A) (h : Header) (column
       (none a, kept_twice x y _ ∙ is)
   node_tree (suc k) le x y ls s = elim (spelled_where (is_inside h (4 * x) (4 * y)) _ ls s) [
     | inl (within, t) ↦
-        let (mark, mark_in, u) = spelled_asks _ _ ls t in
-        let (tree, is) = parts_tree k x y mark ls le (node_tree k (omega arith)) u in
+        let (cut, cut_spelled, u) = spelled_bind (mark h (suc k) (4 * x) (4 * y)) _ ls t in
+        let (tree, is) = parts_tree k x y cut ls le (spelled_mark h (suc k) (4 * x) (4 * y) cut cut_spelled) (node_tree k (omega arith)) u in
         (tree, kept_inside x y _ within ∙ is)
     | inr (out, is) ↦ (none filler, kept_outside x y _ out ∙ ap places is)
   ]

@@ -10,6 +10,7 @@ pub mod Spans
 pub mod Signed
 pub mod Faults
 pub mod Pieces
+pub mod Marks
 pub mod Numbers
 pub mod ReadFrames
 pub mod ReadLeaves
@@ -17,5 +18,7 @@ pub mod ReadReferences
 pub mod ReadPlans
 pub mod NodeLeaves
 pub mod CodingOrder
+pub mod Carried
+pub mod Versions
 pub mod ValidLeaves
 pub mod ValidModes

@@ -1,5 +1,6 @@
 -- What the pieces of a spelled format spell: a format that goes on behind another is spelled where each of the two is.
-use Rattle.std.proofs.Common.{◌≡◌, ℕ, suc, ◌+◌, Bool, true, false, if◌then◌else◌, List, [], ◌∷◌, ◌++◌, ◌⊎◌, inl, inr, refl}
+use Rattle.std.proofs.Common.{◌≡◌, ℕ, suc, ◌+◌, Bool, true, false, if◌then◌else◌, List, [], ◌∷◌, ◌++◌, length, All, ◌⊎◌, inl, inr, refl, ap, subst, ◌∙◌, arith}
+use Rattle.std.proofs.lemmas.List.{length-append, get_or_append_left, get_or-append-add}
 use Rattle.av1_plan.specs.Format.{Kind, Format, done, asks, IsAdmitted, ◌>>=◌, nothing, lone, ◌++>◌, in_turn}
 use Rattle.av1_plan.specs.Spelling.{Spells, IsSpelled}
 
@@ -47,6 +48,35 @@ spelled_both f g zs s =
     let (ys, behind, end) = spelled_bind g (λ ys. done (xs ++ ys)) zs rest in
     (xs, ys, front, behind, spelled_done (xs ++ ys) zs end)
 
+-- the items of four formats, one behind the other
+pub record AreFour {A : Type 0} (f g h k : Format (List A)) (zs : List A) : Type 0 where
+  pub first : List A
+  pub second : List A
+  pub third : List A
+  pub fourth : List A
+  pub first_spelled : IsSpelled f first
+  pub second_spelled : IsSpelled g second
+  pub third_spelled : IsSpelled h third
+  pub fourth_spelled : IsSpelled k fourth
+  pub are : first ++ second ++ third ++ fourth ≡ zs
+
+pub spelled_four : {A : Type 0} (f g h k : Format (List A)) (zs : List A) → IsSpelled (f ++> g ++> h ++> k) zs → AreFour f g h k zs
+spelled_four f g h k zs s =
+    let (front_3, fourth, s_3, s_k, is_3) = spelled_both (f ++> g ++> h) k zs s in
+    let (front_2, third, s_2, s_h, is_2) = spelled_both (f ++> g) h front_3 s_3 in
+    let (first, second, s_f, s_g, is_1) = spelled_both f g front_2 s_2 in
+    record {
+      first = first;
+      second = second;
+      third = third;
+      fourth = fourth;
+      first_spelled = s_f;
+      second_spelled = s_g;
+      third_spelled = s_h;
+      fourth_spelled = s_k;
+      are = ap (λ (xs : List _). xs ++ third ++ fourth) is_1 ∙ ap (λ (xs : List _). xs ++ fourth) is_2 ∙ is_3;
+    }
+
 -- none in turn
 pub spelled_no_turn : {A : Type 0} (f : ℕ → Format (List A)) (i : ℕ) (zs : List A) → IsSpelled (in_turn f i 0) zs → [] ≡ zs
 unfolding in_turn
@@ -61,3 +91,11 @@ spelled_turn f i n zs s = spelled_both (f i) (in_turn f (i + 1) n) zs s
 pub spelled_where : {A : Type 0} (b : Bool) (f : Format (List A)) (zs : List A) → IsSpelled (if b then f else nothing) zs → ((b ≡ true) × IsSpelled f zs) ⊎ ((b ≡ false) × ([] ≡ zs))
 spelled_where true f zs s = inl (refl, s)
 spelled_where false f zs s = inr (refl, spelled_nothing zs s)
+
+-- ---- lists
+
+-- what holds of all items of two lists holds of those of each
+pub all_apart : {A : Type 0} (P : A → Type 0) (xs ys : List A) → All P (xs ++ ys) → All P xs × All P ys
+all_apart P xs ys all =
+    let count = length-append xs ys in
+    ((λ k d lt. subst P (get_or_append_left xs ys d k lt) (all k d (omega (arith, count, lt)))), (λ k d lt. subst P (get_or-append-add xs ys k d) (all (length xs + k) d (omega (arith, count, lt)))))

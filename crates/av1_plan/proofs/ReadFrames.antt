@@ -1,12 +1,12 @@
 -- The frame of a plan that is spelled, and the pieces of which such a plan consists.
-use Rattle.std.proofs.Common.{◌≡◌, ℕ, ◌%◌, ◌<◌, ◌≤◌, ◌⊎◌, inl, inr, true, ◌||◌, List, [], ◌∷◌, subst, refl, arith}
-use Rattle.std.specs.Prelude.{◌==◌, nat_le}
-use Rattle.std.specs.Int.{is_in_range}
+use Rattle.std.proofs.Common.{◌≡◌, ℕ, ◌%◌, ◌<◌, ◌≤◌, ◌⊎◌, inl, inr, Bool, true, false, ◌||◌, List, [], ◌∷◌, subst, refl, arith, lit≤}
+use Rattle.std.specs.Prelude.{codes, ◌==◌, nat_le, if◌then◌else◌}
+use Rattle.std.specs.Int.{w32, from_le_bytes, is_in_range}
 use Rattle.std.proofs.lemmas.Bool.{eqb-true, leb-true, and_parts, or_cases}
 use Rattle.std.proofs.lemmas.List.Elements.{All-nil, All-cons}
 use Rattle.av1_plan.specs.declared.header.Header.{Header}
 use Rattle.av1_plan.specs.Format.{IsAdmitted}
-use Rattle.av1_plan.specs.Grammar.{byte_from, is_side, is_depth, slots, header, references, superblocks, plan}
+use Rattle.av1_plan.specs.Grammar.{byte_from, version_of, version, is_side, is_depth, slots, frame, header, references, superblocks, plan}
 use Rattle.av1_plan.specs.Plan.{PlanValue}
 use Rattle.av1_plan.specs.ReadPlans.{IsSide, AreSlots, IsReadFrame}
 use Rattle.av1_plan.specs.Spelling.{IsSpelled}
@@ -54,10 +54,24 @@ slots_are xs s =
     let (g, g_in, s7) = spelled_asks _ _ xs s6 in
     subst AreSlots (spelled_done _ xs s7) (seven_slots a b c d e f g (slot_is a a_in) (slot_is b b_in) (slot_is c c_in) (slot_is d d_in) (slot_is e e_in) (slot_is f f_in) (slot_is g g_in))
 
+named_version : (letters : ℕ) → (1 ≤ version_of letters) × (version_of letters ≤ 2)
+named_version letters = one_or_two (letters == from_le_bytes w32 (codes "RPL2"))
+  where
+    one_or_two : (b : Bool) → (1 ≤ (if b then 2 else 1)) × ((if b then 2 else 1) ≤ 2)
+    one_or_two true = (lit≤ tt, lit≤ tt)
+    one_or_two false = (lit≤ tt, lit≤ tt)
+
+version_is : (n : ℕ) → IsSpelled version n → (1 ≤ n) × (n ≤ 2)
+unfolding version
+version_is n s =
+    let (letters, _, t) = spelled_asks _ _ n s in
+    subst (λ (m : ℕ). (1 ≤ m) × (m ≤ 2)) (spelled_done _ n t) (named_version letters)
+
 pub header_is : (h : Header) → IsSpelled header h → IsReadFrame h
-unfolding header
+unfolding header frame
 header_is h s =
-    let (magic, _, s1) = spelled_asks _ _ h s in
+    let (version_found, version_spelled, s1) = spelled_bind version _ h s in
+    let (least_version, most_version) = version_is version_found version_spelled in
     let (width, width_in, s2) = spelled_asks _ _ h s1 in
     let (height, height_in, s3) = spelled_asks _ _ h s2 in
     let (depth, depth_in, s4) = spelled_asks _ _ h s3 in
@@ -69,6 +83,8 @@ header_is h s =
     let (_, low) = range_is 0 2 sampling sampling_in in
     let (_, known) = range_is 0 3 filter filter_in in
     subst IsReadFrame (spelled_done _ h s9) (record {
+      least_version = least_version;
+      most_version = most_version;
       width = side_is width width_in.admitted;
       height = side_is height height_in.admitted;
       depth = depth_is depth depth_in.admitted;

@@ -190,7 +190,8 @@ leaf_is h size x y l place s =
         end_y = place.end_y;
         within = place.within;
       };
-      shape = record { not_wide = place.not_wide; not_high = place.not_high };
+      shape = λ e. let (not_wide, not_high) = place.shape e in record { not_wide = not_wide; not_high = not_high };
+      quarter = record { wide = place.wide; high = place.high };
       kind = kind_is carried kind kind_spelled;
       uv_type = type_is carried uv uv_spelled;
       triples = chroma_lists carried luma chroma chroma_spelled;

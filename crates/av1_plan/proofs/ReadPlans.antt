@@ -17,7 +17,7 @@ use Rattle.av1_plan.specs.declared.leaf.LeafKind.TheVariants.{Intra, Single, Com
 use Rattle.av1_plan.specs.declared.plan.Plan.{Plan}
 use Rattle.av1_plan.specs.declared.planes.Planes.{Planes as StoredPlanes}
 use Rattle.av1_plan.specs.Answer.{plan_value}
-use Rattle.av1_plan.specs.CodingOrder.{IsOnGrid, IsTwoToOne}
+use Rattle.av1_plan.specs.CodingOrder.{IsOnGrid, IsQuarterInside, IsTwoToOne}
 use Rattle.av1_plan.specs.Grammar.{is_depth, plan}
 use Rattle.av1_plan.specs.Plan.{LeafValue, PlanValue, slot_value, slot_values, planes_value, reference_of}
 use Rattle.av1_plan.specs.ReadPlans.{IsSide, AreSlots, IsReadFrame, ArePlane, IsReadReference, IsReadChroma, IsReadKind, AreThree, IsReadLeaf}
@@ -49,8 +49,11 @@ orders n m = le_prop
 grids : (h : Header) (l : LeafValue) → IsProp (IsOnGrid h l)
 grids h l = hlevel (ℕ_set, Bool-set, le_prop)
 
-shapes : (l : LeafValue) → IsProp (IsTwoToOne l)
-shapes l = hlevel (le_prop)
+shapes : (h : Header) (l : LeafValue) → IsProp (h.version ≡ 1 → IsTwoToOne l)
+shapes h l = hlevel (le_prop)
+
+quarters : (h : Header) (l : LeafValue) → IsProp (IsQuarterInside h l)
+quarters h l = hlevel (le_prop)
 
 sides : (n : ℕ) → IsProp (IsSide n)
 sides n = hlevel (ℕ_set, le_prop)
@@ -77,8 +80,8 @@ planes h slot c None = hlevel (Bool-set)
 pub plan_grid : (p : Plan) → All (IsOnGrid p.header) (plan_value p).leaves
 plan_grid p k d within = ∥∥₁_elim p.spelled (grids p.header _) (λ s. (spelled_leaves (plan_value p) s k d within).grid)
 
-pub plan_shapes : (p : Plan) → All IsTwoToOne (plan_value p).leaves
-plan_shapes p k d within = ∥∥₁_elim p.spelled (shapes _) (λ s. (spelled_leaves (plan_value p) s k d within).shape)
+pub plan_quarters : (p : Plan) → All (IsQuarterInside p.header) (plan_value p).leaves
+plan_quarters p k d within = ∥∥₁_elim p.spelled (quarters p.header _) (λ s. (spelled_leaves (plan_value p) s k d within).quarter)
 
 frame_of : (p : Plan) → IsSpelled plan (plan_value p) → IsReadFrame p.header
 frame_of p s = spelled_frame (plan_value p) s
@@ -90,6 +93,8 @@ depth_holds n (inr (inr e)) = rw e refl
 
 pub read_frame : (p : Plan) → IsReadFrame p.header
 read_frame p = record {
+  least_version = ∥∥₁_elim p.spelled (orders 1 p.header.version) (λ s. (frame_of p s).least_version);
+  most_version = ∥∥₁_elim p.spelled (orders p.header.version 2) (λ s. (frame_of p s).most_version);
   width = ∥∥₁_elim p.spelled (sides p.header.width) (λ s. (frame_of p s).width);
   height = ∥∥₁_elim p.spelled (sides p.header.height) (λ s. (frame_of p s).height);
   depth = depth_is p.header.depth (∥∥₁_elim p.spelled (tests (is_depth p.header.depth) true) (λ s. depth_holds p.header.depth (frame_of p s).depth));
@@ -127,7 +132,8 @@ read_leaves p k d within =
     let leaf : IsSpelled plan (plan_value p) → IsReadLeaf p.header _ = λ s. spelled_leaves (plan_value p) s k d within in
     record {
       grid = plan_grid p k d within;
-      shape = plan_shapes p k d within;
+      shape = ∥∥₁_elim p.spelled (shapes p.header _) (λ s. (leaf s).shape);
+      quarter = plan_quarters p k d within;
       kind = ∥∥₁_elim p.spelled (kinds _ _) (λ s. (leaf s).kind);
       uv_type = ∥∥₁_elim p.spelled (tests _ _) (λ s. (leaf s).uv_type);
       triples = are_three _ _ (∥∥₁_elim p.spelled (lengths _ _) (λ s. have_lengths _ _ (leaf s).triples));

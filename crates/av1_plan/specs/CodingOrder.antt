@@ -25,6 +25,12 @@ pub record IsOnGrid (h : Header) (l : LeafValue) : Type 0 where
   pub end_y : l.y % 64 + block_height l.size ≤ 64
   pub within : is_inside h l.x l.y ≡ true
 
+-- A leaf one of whose sides is four times the other ends in the frame. It is a quarter of a node, and these are coded only where the node lies
+-- in the frame.
+pub record IsQuarterInside (h : Header) (l : LeafValue) : Type 0 where
+  pub wide : block_width l.size ≡ 4 * block_height l.size → l.x + block_width l.size ≤ h.width
+  pub high : block_height l.size ≡ 4 * block_width l.size → l.y + block_height l.size ≤ h.height
+
 -- neither side of the leaf is more than twice the other
 pub record IsTwoToOne (l : LeafValue) : Type 0 where
   pub not_wide : block_width l.size ≤ 2 * block_height l.size

@@ -1,5 +1,5 @@
 -- The plan grammar: the fields of a plan, in their order. Numbers are little-endian.
-use Rattle.std.specs.Prelude.{codes, zero, suc, ◌+◌, ◌*◌, ◌/◌, ◌%◌, ◌^◌, ◌&&◌, ◌||◌, slice_index_or, Option, Some, None, nat_lt, ℕ, Bool, true, false, ◌==◌, if◌then◌else◌, List, [], ◌∷◌}
+use Rattle.std.specs.Prelude.{codes, zero, suc, ◌+◌, ◌*◌, ◌/◌, ◌%◌, ◌^◌, ◌&&◌, ◌||◌, slice_index_or, Option, Some, None, nat_lt, nat_le, ℕ, Bool, true, false, ◌==◌, if◌then◌else◌, List, [], ◌∷◌}
 use Rattle.std.specs.Result.{result_unwrap_or}
 use Rattle.std.specs.Int.{w8, w16, w32, cast_signed, is_in_range, from_le_bytes}
 use Rattle.av1_blocks.specs.declared.mc.FilterMode.TheVariants.{REGULAR}
@@ -8,7 +8,7 @@ use Rattle.av1_blocks.specs.declared.mc.MotionVector.{MotionVector}
 use Rattle.av1_blocks.specs.declared.partition.BlockSize.{BlockSize}
 use Rattle.av1_blocks.specs.declared.partition.BlockSize.TheVariants.{BLOCK_4X4, BLOCK_8X8, BLOCK_16X16, BLOCK_32X32, BLOCK_64X64}
 use Rattle.av1_blocks.specs.declared.partition.PartitionType.{PartitionType}
-use Rattle.av1_blocks.specs.declared.partition.PartitionType.TheVariants.{PARTITION_HORZ, PARTITION_VERT}
+use Rattle.av1_blocks.specs.declared.partition.PartitionType.TheVariants.{PARTITION_NONE, PARTITION_HORZ, PARTITION_VERT, PARTITION_SPLIT, PARTITION_HORZ_A, PARTITION_HORZ_B, PARTITION_VERT_A, PARTITION_VERT_B, PARTITION_HORZ_4, PARTITION_VERT_4}
 use Rattle.av1_blocks.specs.declared.partition.RefType.{RefType}
 use Rattle.av1_blocks.specs.declared.partition.RefType.TheVariants.{INTRA_FRAME}
 use Rattle.av1_blocks.specs.declared.partition.TheConstants.RefType as references_by_number
@@ -44,9 +44,19 @@ byte_from first last = where_ one (is_in_range first last)
 
 -- ---- what stands before the leaves
 
--- the four letters at the front
-abbrev pub magic : Kind
-magic = where_ four (λ v. v == from_le_bytes w32 (codes "RPL1"))
+-- the four letters at the front: those of the first version or of the second
+abbrev pub is_magic : ℕ → Bool
+is_magic v = v == from_le_bytes w32 (codes "RPL1") || v == from_le_bytes w32 (codes "RPL2")
+
+-- the version that these letters name
+abbrev pub version_of : ℕ → ℕ
+version_of letters = if letters == from_le_bytes w32 (codes "RPL2") then 2 else 1
+
+-- the version of the grammar
+unfoldable pub version : Format ℕ
+version = do
+  letters ← field (where_ four is_magic)
+  done (version_of letters)
 
 -- a side of a frame, in samples of luma
 abbrev pub is_side : ℕ → Bool
@@ -68,10 +78,9 @@ slots = do
   alternate ← field (byte_from 0 7)
   done (last ∷ last_2 ∷ last_3 ∷ golden ∷ backward ∷ alternate_2 ∷ alternate ∷ [])
 
--- the frame and what holds for all leaves
-unfoldable pub header : Format Header
-header = do
-  _ ← field magic
+-- the frame and what holds for all leaves, in this version
+unfoldable pub frame : ℕ → Format Header
+frame version = do
   width ← field (where_ two is_side)
   height ← field (where_ two is_side)
   depth ← field (where_ one is_depth)
@@ -80,7 +89,13 @@ header = do
   edge_filter ← field (byte_from 0 1)
   slots ← slots
   mask ← field (any one)
-  done (record { width = width; height = height; depth = depth; sampling = sampling; filter = slice_index_or filter_modes.ALL filter REGULAR; edge_filter = edge_filter == 1; slots = slots; mask = mask })
+  done (record { version = version; width = width; height = height; depth = depth; sampling = sampling; filter = slice_index_or filter_modes.ALL filter REGULAR; edge_filter = edge_filter == 1; slots = slots; mask = mask })
+
+-- what stands before the reference samples
+unfoldable pub header : Format Header
+header = do
+  version ← version
+  frame version
 
 -- a sample of a reference: one byte at depth 8, else two
 abbrev pub sample : ℕ → Kind
@@ -225,7 +240,11 @@ half_side level = 2 * 2 ^ level
 unfoldable pub whole_size : ℕ → BlockSize
 whole_size level = slice_index_or (BLOCK_4X4 ∷ BLOCK_8X8 ∷ BLOCK_16X16 ∷ BLOCK_32X32 ∷ BLOCK_64X64 ∷ []) level BLOCK_4X4
 
--- the size of the parts of a node that is cut in two so (where it can't be, the node's own)
+-- a quarter of the side of a node of this level
+abbrev pub quarter_side : ℕ → ℕ
+quarter_side level = 2 ^ level
+
+-- the size of the parts of a node that is cut so (where it can't be, the node's own)
 unfoldable pub part_size : ℕ → PartitionType → BlockSize
 part_size level partition = result_unwrap_or (subsize (whole_size level) partition) (whole_size level)
 
@@ -237,20 +256,48 @@ inside h x y f = if is_inside h x y then f else nothing
 unfoldable pub part : Header → BlockSize → ℕ → ℕ → Format (List LeafValue)
 part h size x y = inside h x y (lone (leaf h size x y))
 
--- the parts of a node of this level by its mark (none, horizontal, vertical, split), where quarter gives the part of half the
--- side at a place
-unfoldable pub parts : Header → ℕ → (ℕ → ℕ → Format (List LeafValue)) → ℕ → ℕ → ℕ → Format (List LeafValue)
-parts h level quarter x y zero = part h (whole_size level) x y
-parts h level quarter x y (suc zero) = part h (part_size level PARTITION_HORZ) x y ++> part h (part_size level PARTITION_HORZ) x (y + half_side level)
-parts h level quarter x y (suc (suc zero)) = part h (part_size level PARTITION_VERT) x y ++> part h (part_size level PARTITION_VERT) (x + half_side level) y
-parts h level quarter x y (suc (suc (suc mark))) = quarter x y ++> quarter (x + half_side level) y ++> quarter x (y + half_side level) ++> quarter (x + half_side level) (y + half_side level)
+-- how a node is cut, by its mark
+unfoldable pub cut_by : ℕ → PartitionType
+cut_by mark = slice_index_or (PARTITION_NONE ∷ PARTITION_HORZ ∷ PARTITION_VERT ∷ PARTITION_SPLIT ∷ PARTITION_HORZ_A ∷ PARTITION_HORZ_B ∷ PARTITION_VERT_A ∷ PARTITION_VERT_B ∷ PARTITION_HORZ_4 ∷ PARTITION_VERT_4 ∷ []) mark PARTITION_NONE
+
+-- whether a node of this level may be cut into four leaves that are a quarter as wide or as high: in the second version a node of side
+-- 16 to 64 (level 2 and up) that lies in the frame whole
+unfoldable pub admits_stripes : Header → ℕ → ℕ → ℕ → Bool
+admits_stripes h level x y = h.version == 2 && nat_le 2 level && nat_le (x + 2 * half_side level) h.width && nat_le (y + 2 * half_side level) h.height
+
+-- a mark that a node may have: 0 to 3 (none, horizontal, vertical, split), or 8 or 9 (four leaves above one another or side by side)
+unfoldable pub is_mark : Header → ℕ → ℕ → ℕ → ℕ → Bool
+is_mark h level x y v = nat_le v 3 || (is_in_range 8 9 v && admits_stripes h level x y)
+
+-- the mark of a node: how it is cut
+unfoldable pub mark : Header → ℕ → ℕ → ℕ → Format PartitionType
+mark h level x y = do
+  number ← field (where_ one (is_mark h level x y))
+  done (cut_by number)
+
+-- four leaves of this size, each so far below the one before
+unfoldable pub wide_stripes : Header → BlockSize → (side x y : ℕ) → Format (List LeafValue)
+wide_stripes h size side x y = part h size x y ++> part h size x (y + side) ++> part h size x (y + 2 * side) ++> part h size x (y + 3 * side)
+
+-- four leaves of this size, each so far to the right of the one before
+unfoldable pub tall_stripes : Header → BlockSize → (side x y : ℕ) → Format (List LeafValue)
+tall_stripes h size side x y = part h size x y ++> part h size (x + side) y ++> part h size (x + 2 * side) y ++> part h size (x + 3 * side) y
+
+-- the parts of a node of this level that is cut so, where node gives the part of half the side at a place
+unfoldable pub parts : Header → ℕ → (ℕ → ℕ → Format (List LeafValue)) → ℕ → ℕ → PartitionType → Format (List LeafValue)
+parts h level node x y PARTITION_NONE = part h (whole_size level) x y
+parts h level node x y PARTITION_HORZ = part h (part_size level PARTITION_HORZ) x y ++> part h (part_size level PARTITION_HORZ) x (y + half_side level)
+parts h level node x y PARTITION_VERT = part h (part_size level PARTITION_VERT) x y ++> part h (part_size level PARTITION_VERT) (x + half_side level) y
+parts h level node x y PARTITION_HORZ_4 = wide_stripes h (part_size level PARTITION_HORZ_4) (quarter_side level) x y
+parts h level node x y PARTITION_VERT_4 = tall_stripes h (part_size level PARTITION_VERT_4) (quarter_side level) x y
+parts h level node x y _ = node x y ++> node (x + half_side level) y ++> node x (y + half_side level) ++> node (x + half_side level) (y + half_side level)
 
 -- a part of side 4 * 2 ^ level: a 4x4 leaf at level 0, else a node
 unfoldable pub block : Header → ℕ → ℕ → ℕ → Format (List LeafValue)
 block h zero x y = part h BLOCK_4X4 x y
 block h (suc level) x y = inside h x y (do
-  mark ← field (byte_from 0 3)
-  parts h (suc level) (block h level) x y mark)
+  partition ← mark h (suc level) x y
+  parts h (suc level) (block h level) x y partition)
 
 -- the superblocks, of side 64, whose corner lies in the frame: one row of them
 unfoldable pub superblock_row : Header → ℕ → Format (List LeafValue)

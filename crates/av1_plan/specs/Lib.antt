@@ -10,3 +10,4 @@ pub mod Grammar
 pub mod Reading
 pub mod Parsing
 pub mod Answer
+pub mod Versions

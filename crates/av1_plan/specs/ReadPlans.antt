@@ -15,7 +15,7 @@ use Rattle.av1_plan.specs.declared.leaf.ChromaMode.{ChromaMode}
 use Rattle.av1_plan.specs.declared.leaf.ChromaMode.TheVariants.{Plain, Cfl}
 use Rattle.av1_plan.specs.declared.leaf.LeafKind.{LeafKind}
 use Rattle.av1_plan.specs.declared.leaf.LeafKind.TheVariants.{Intra, Single, Compound}
-use Rattle.av1_plan.specs.CodingOrder.{IsOnGrid, IsTwoToOne}
+use Rattle.av1_plan.specs.CodingOrder.{IsOnGrid, IsQuarterInside, IsTwoToOne}
 use Rattle.av1_plan.specs.Geometry.{plane_len, has_slot, carries_chroma}
 use Rattle.av1_plan.specs.Plan.{LeafValue}
 
@@ -32,8 +32,10 @@ pub record AreSlots (slots : List ℕ) : Type 0 where
   pub count : length slots ≡ 7
   pub range : All (λ slot. slot < 8) slots
 
--- sampling is 0, 1 or 2, and the filter one of the first four (the fifth, switchable, belongs to bitstreams)
+-- the version is 1 or 2, sampling 0, 1 or 2, and the filter one of the first four (the fifth, switchable, belongs to bitstreams)
 pub record IsReadFrame (h : Header) : Type 0 where
+  pub least_version : 1 ≤ h.version
+  pub most_version : h.version ≤ 2
   pub width : IsSide h.width
   pub height : IsSide h.height
   pub depth : (h.depth ≡ 8) ⊎ (h.depth ≡ 10) ⊎ (h.depth ≡ 12)
@@ -117,10 +119,12 @@ pub record AreThree (carried : Bool) (lists : List (List Triple)) : Type 0 where
   pub u_silent : carried ≡ false → u ≡ []
   pub v_silent : carried ≡ false → v ≡ []
 
--- a leaf stands on its grid, no side more than twice the other, and has what belongs to chroma exactly where it carries chroma
+-- A leaf stands on its grid, and has what belongs to chroma exactly where it carries chroma. A side of it is more than twice the other only in
+-- the second version, and then it ends in the frame.
 pub record IsReadLeaf (h : Header) (l : LeafValue) : Type 0 where
   pub grid : IsOnGrid h l
-  pub shape : IsTwoToOne l
+  pub shape : h.version ≡ 1 → IsTwoToOne l
+  pub quarter : IsQuarterInside h l
   pub kind : IsReadKind (carries_chroma h l.x l.y l.size) l.kind
   pub uv_type : is_some l.uv_type ≡ carries_chroma h l.x l.y l.size
   pub triples : AreThree (carries_chroma h l.x l.y l.size) l.triples

@@ -1,11 +1,24 @@
-//! A law of the plan grammar.
+//! Laws of the plan grammar.
 
 ghost use Rattle.std.specs.Prelude.{◌≡◌, ℕ, List};
 ghost use Rattle.av1_plan.specs.Grammar.{plan};
 ghost use Rattle.av1_plan.specs.Plan.{PlanValue};
 ghost use Rattle.av1_plan.specs.Spelling.{AreText};
+ghost use Rattle.av1_plan.specs.Versions.{SecondKeepsFirst, FirstHasRest};
 
 /// A law: bytes are the text of one plan at most.
 pub fn texts_are_of_one_plan()
     ensures { (bytes : List ℕ) (p q : PlanValue) → AreText plan bytes p → AreText plan bytes q → p ≡ q }
+{}
+
+/// A law: a plan of the first version is one of the second. Bytes with the letters `RPL1` that spell a plan spell the same plan with
+/// `RPL2`, but for its version.
+pub fn the_second_version_keeps_the_first()
+    ensures { SecondKeepsFirst }
+{}
+
+/// A law: a plan of the second version in which no side of a leaf is more than twice the other is one of the first, with the letters
+/// `RPL1`.
+pub fn the_first_version_has_the_rest()
+    ensures { FirstHasRest }
 {}

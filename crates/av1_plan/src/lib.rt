@@ -10,8 +10,11 @@
 //! - A `Plan` keeps as a fact that a complete proper list of fields spells it. Its leaves stand in coding order: they are those
 //!   of one tree of marks for each superblock of the frame (`specs/Tree.antt`, `specs/CodingOrder.antt`).
 //! - What holds of every plan that is read, its accessors say (`specs/ReadPlans.antt`): the ranges of the frame's numbers, as many
-//!   reference samples as a plane has and each of the frame's depth, and of a leaf that it stands on its grid, has no side more
-//!   than twice the other, and a chroma mode, a chroma type and triples of chroma where it carries chroma alone.
+//!   reference samples as a plane has and each of the frame's depth, and of a leaf that it stands on its grid, and has a chroma
+//!   mode, a chroma type and triples of chroma where it carries chroma alone. A leaf one of whose sides is four times the other
+//!   ends in the frame.
+//! - The grammar has two versions, told by the letters at the front. The second adds two marks, which cut a node into four leaves
+//!   that are a quarter as high or as wide, and is else the same (`specs/Versions.antt`).
 //! - `check_plan` accepts exactly the plans of which no leaf is faulty, and else names the first faulty leaf and the first
 //!   of its reasons (`specs/Validity.antt`): sizes, transforms, modes, vectors, references, and coefficients that rise strictly by
 //!   block and place.
@@ -36,7 +39,9 @@ pub use check::{check_plan, is_inter_size};
 pub use error::{Invalid, InvalidKind, PlanError};
 pub use geometry::{PlaneArea, TransformBlock, carries_chroma, plane_tx_size};
 pub use header::Header;
-pub use laws::texts_are_of_one_plan;
+pub use laws::{
+    texts_are_of_one_plan, the_first_version_has_the_rest, the_second_version_keeps_the_first,
+};
 pub use leaf::{ChromaMode, Leaf, LeafKind, Triple};
 pub use nodes::{half_side, part_size, whole_size};
 pub use parse::parse_plan;

@@ -1,13 +1,14 @@
 //! Reading the leaves of a plan, node by node.
 
 ghost use Rattle.std.specs.Prelude.{◌≡◌, ◌*◌, ◌≤◌, ◌^◌};
-ghost use Rattle.av1_plan.specs.Grammar.{half_side, whole_size, part_size};
+ghost use Rattle.av1_plan.specs.Grammar.{half_side, quarter_side, whole_size, part_size, cut_by};
 
 use crate::error::PlanError;
 use crate::header::Header;
 use crate::leaf::{Leaf, Triple};
 use crate::reader::Reader;
-use av1_blocks::{BlockSize, PartitionType};
+use av1_blocks::BlockSize;
+use av1_blocks::PartitionType::{self, *};
 use std::alloc::Global;
 
 /// The leaves and triples that were read, and what is left of the bytes.
@@ -20,8 +21,9 @@ pub struct Parser<'a> {
 
 impl<'a> Parser<'a> {
     ghost use Rattle.std.specs.Prelude.{◌≡◌, ◌+◌, ◌*◌, ◌<◌, ◌≤◌, ◌^◌, ◌-◌, length, IfOk, OnOk, []};
+    ghost use Rattle.av1_blocks.specs.declared.partition.PartitionType.TheVariants.{PARTITION_SPLIT};
     ghost use Rattle.av1_plan.specs.Format.{add, lone, read};
-    ghost use Rattle.av1_plan.specs.Grammar.{part, block, parts, superblock_row, superblocks};
+    ghost use Rattle.av1_plan.specs.Grammar.{part, wide_stripes, tall_stripes, block, parts, superblock_row, superblocks};
     ghost use Rattle.av1_plan.specs.Reading.{Gives, Fits, input};
     ghost use Rattle.av1_plan.specs.Parsing.{state, IsSound};
 
@@ -57,51 +59,113 @@ impl<'a> Parser<'a> {
         if !header.holds(x, y) {
             return Ok(());
         }
-        let mark = self.reader.byte(0, 3)?;
-        self.parts(header, level, mark, x, y)
+        let partition = self.reader.mark(header, level, x, y)?;
+        self.parts(header, level, partition, x, y)
     }
 
-    /// The parts of a node of side `4 << level` with this mark.
-    #[cycle(blocks)]
-    #[tactic(auto, using(crate::proofs::Blocks::marks))]
-    fn parts(
+    /// Four leaves of this size, each so far below the one before.
+    #[tactic(auto, using(crate::proofs::Formats::adding), unfolding(crate::specs::Grammar::wide_stripes))]
+    fn wide_stripes(
         &mut self,
         header: &Header,
-        level: u8,
-        mark: u8,
+        size: BlockSize,
+        side: u16,
         x: u16,
         y: u16,
     ) -> Result<(), PlanError>
         requires sound { IsSound self.old }
-        requires mark { mark ≤ 3 }
+        requires side { side ≤ 16 }
+        requires y { y ≤ 4096 }
+        ensures read { Gives (λ _. state self.new) result (add (wide_stripes header.now size side x y) (state self.old)) }
+        ensures sound { OnOk result (IsSound self.new) }
+    {
+        self.part(header, size, x, y)?;
+        self.part(header, size, x, y + side)?;
+        self.part(header, size, x, y + 2 * side)?;
+        self.part(header, size, x, y + 3 * side)
+    }
+
+    /// Four leaves of this size, each so far to the right of the one before.
+    #[tactic(auto, using(crate::proofs::Formats::adding), unfolding(crate::specs::Grammar::tall_stripes))]
+    fn tall_stripes(
+        &mut self,
+        header: &Header,
+        size: BlockSize,
+        side: u16,
+        x: u16,
+        y: u16,
+    ) -> Result<(), PlanError>
+        requires sound { IsSound self.old }
+        requires side { side ≤ 16 }
+        requires x { x ≤ 4096 }
+        ensures read { Gives (λ _. state self.new) result (add (tall_stripes header.now size side x y) (state self.old)) }
+        ensures sound { OnOk result (IsSound self.new) }
+    {
+        self.part(header, size, x, y)?;
+        self.part(header, size, x + side, y)?;
+        self.part(header, size, x + 2 * side, y)?;
+        self.part(header, size, x + 3 * side, y)
+    }
+
+    /// The parts of a node of side `4 << level` that is cut so.
+    #[cycle(blocks)]
+    #[tactic(auto, using(crate::proofs::Formats::adding), unfolding(crate::specs::Grammar::parts))]
+    fn parts(
+        &mut self,
+        header: &Header,
+        level: u8,
+        partition: PartitionType,
+        x: u16,
+        y: u16,
+    ) -> Result<(), PlanError>
+        requires sound { IsSound self.old }
         requires level { (0 < level) × (level ≤ 4) }
         requires x { x + 128 * level ≤ 4096 }
         requires y { y + 128 * level ≤ 4096 }
-        ensures read { Gives (λ _. state self.new) result (add (parts header.now level (block header.now (level - 1)) x y mark) (state self.old)) }
+        ensures read { Gives (λ _. state self.new) result (add (parts header.now level (block header.now (level - 1)) x y partition) (state self.old)) }
         ensures sound { OnOk result (IsSound self.new) }
     {
-        let half = half_side(level);
-        let right = x + half;
-        let below = y + half;
-        match mark {
-            0 => self.part(header, whole_size(level), x, y),
-            1 => {
-                let wide = part_size(level, PartitionType::PARTITION_HORZ);
+        match partition {
+            PARTITION_NONE => self.part(header, whole_size(level), x, y),
+            PARTITION_HORZ => {
+                let wide = part_size(level, PARTITION_HORZ);
                 self.part(header, wide, x, y)?;
-                self.part(header, wide, x, below)
+                self.part(header, wide, x, y + half_side(level))
             }
-            2 => {
-                let tall = part_size(level, PartitionType::PARTITION_VERT);
+            PARTITION_VERT => {
+                let tall = part_size(level, PARTITION_VERT);
                 self.part(header, tall, x, y)?;
-                self.part(header, tall, right, y)
+                self.part(header, tall, x + half_side(level), y)
             }
-            _ => {
-                self.block(header, level - 1, x, y)?;
-                self.block(header, level - 1, right, y)?;
-                self.block(header, level - 1, x, below)?;
-                self.block(header, level - 1, right, below)
+            PARTITION_HORZ_4 => {
+                let wide = part_size(level, PARTITION_HORZ_4);
+                self.wide_stripes(header, wide, quarter_side(level), x, y)
             }
+            PARTITION_VERT_4 => {
+                let tall = part_size(level, PARTITION_VERT_4);
+                self.tall_stripes(header, tall, quarter_side(level), x, y)
+            }
+            _ => self.split(header, level, x, y),
         }
+    }
+
+    /// The four nodes of half the side.
+    #[cycle(blocks)]
+    #[tactic(auto, using(crate::proofs::Formats::adding), unfolding(crate::specs::Grammar::parts))]
+    fn split(&mut self, header: &Header, level: u8, x: u16, y: u16) -> Result<(), PlanError>
+        requires sound { IsSound self.old }
+        requires level { (0 < level) × (level ≤ 4) }
+        requires x { x + 128 * level ≤ 4096 }
+        requires y { y + 128 * level ≤ 4096 }
+        ensures read { Gives (λ _. state self.new) result (add (parts header.now level (block header.now (level - 1)) x y PARTITION_SPLIT) (state self.old)) }
+        ensures sound { OnOk result (IsSound self.new) }
+    {
+        let right = x + half_side(level);
+        let below = y + half_side(level);
+        self.block(header, level - 1, x, y)?;
+        self.block(header, level - 1, right, y)?;
+        self.block(header, level - 1, x, below)?;
+        self.block(header, level - 1, right, below)
     }
 
     /// The superblocks of a row.
@@ -175,6 +239,38 @@ pub fn half_side(level: u8) -> u16
     2 << level
 }
 
+/// A quarter of the side of a node of this level.
+pub fn quarter_side(level: u8) -> u16
+    requires { level ≤ 4 }
+    ensures value { result ≡ quarter_side level }
+    ensures small { result ≤ 16 }
+{
+    1 << level
+}
+
+/// How a node is cut, by its mark.
+const CUTS: [PartitionType; 10] = [
+    PARTITION_NONE,
+    PARTITION_HORZ,
+    PARTITION_VERT,
+    PARTITION_SPLIT,
+    PARTITION_HORZ_A,
+    PARTITION_HORZ_B,
+    PARTITION_VERT_A,
+    PARTITION_VERT_B,
+    PARTITION_HORZ_4,
+    PARTITION_VERT_4,
+];
+
+/// How a node is cut that has this mark.
+#[tactic(auto, unfolding(crate::specs::Grammar::cut_by))]
+pub fn cut_by(mark: u8) -> PartitionType
+    requires { mark ≤ 9 }
+    ensures { result ≡ cut_by mark }
+{
+    CUTS[usize::from(mark)]
+}
+
 /// The sizes of a leaf that is a whole node, by the node's level.
 const WHOLE_SIZES: [BlockSize; 5] = [
     BlockSize::BLOCK_4X4,
@@ -193,7 +289,7 @@ pub fn whole_size(level: u8) -> BlockSize
     WHOLE_SIZES[usize::from(level)]
 }
 
-/// The size of the parts of a node of this level that is cut in two so. A node that can't be cut so keeps its size.
+/// The size of the parts of a node of this level that is cut so. A node that can't be cut so keeps its size.
 #[tactic(auto, unfolding(crate::specs::Grammar::part_size))]
 pub fn part_size(level: u8, partition: PartitionType) -> BlockSize
     requires { level ≤ 4 }

@@ -2,6 +2,7 @@
 
 mod header;
 mod leaf;
+mod mark;
 mod references;
 
 use crate::error::PlanError;

@@ -183,6 +183,7 @@ fn a_leaf_from_references_is_refused_for_its_first_fault(rt: HostRuntime) -> Res
 /// A frame of these sides.
 fn frame(width: u16, height: u16, sampling: u8) -> Header {
     Header {
+        version: 1,
         width,
         height,
         depth: 8,

@@ -22,7 +22,7 @@ references_named = 2 ∷ 2 ∷ 2 ∷ 2 ∷ 2 ∷ 2 ∷ 5 ∷ []
 
 -- the header of the frame
 abbrev pub header_of : FilterMode → ℕ → Header
-header_of filter depth = record { width = 16; height = 8; depth = depth; sampling = 0; filter = filter; edge_filter = true; slots = references_named; mask = 36 }
+header_of filter depth = record { version = 1; width = 16; height = 8; depth = depth; sampling = 0; filter = filter; edge_filter = true; slots = references_named; mask = 36 }
 
 module _ {T : Type 0} (num : T → ℕ) (filter : FilterMode) (depth : ℕ) (is_depth : IsDepth depth) (y u v y' u' v' : List ℕ) (s t : Slot T) where
   abbrev value : PlanValue

@@ -71,6 +71,7 @@ fn frame<T: Pixel>(alloc: Global, depth: u8) -> Result<FrameInvariants<T>, OutOf
     ensures held { IfOk result (λ fi. (value : PlanValue) × (HoldsReferences T.num value fi × ((has_reference value.header RefType.LAST_FRAME ≡ true) × (has_reference value.header RefType.ALTREF_FRAME ≡ true)))) }
 {
     let header = Header {
+        version: 1,
         width: 16,
         height: 8,
         depth,

@@ -25,7 +25,7 @@ use Rattle.av1_tile.specs.Steps.{joined, steps_at, steps_of}
 
 -- an 8x8 frame in 4:4:4 at depth 8
 header : Header
-header = record { width = 8; height = 8; depth = 8; sampling = 2; filter = REGULAR; edge_filter = false; slots = 0 ∷ 0 ∷ 0 ∷ 0 ∷ 0 ∷ 0 ∷ 0 ∷ []; mask = 0 }
+header = record { version = 1; width = 8; height = 8; depth = 8; sampling = 2; filter = REGULAR; edge_filter = false; slots = 0 ∷ 0 ∷ 0 ∷ 0 ∷ 0 ∷ 0 ∷ 0 ∷ []; mask = 0 }
 
 -- a 4x4 leaf that is predicted by DC, with these luma triples
 leaf : ℕ → ℕ → List Triple → LeafValue

@@ -10,7 +10,6 @@ use Rattle.av1_blocks.specs.Chroma.{plane_side}
 use Rattle.av1_blocks.specs.Transforms.{tx_width, tx_height}
 use Rattle.av1_frame.specs.Areas.{VisibleArea}
 use Rattle.av1_intra.specs.declared.neighbours.IntraEdgeFilterParameters.{IntraEdgeFilterParameters}
-use Rattle.av1_order.specs.ChromaFromLuma.{IsQuarterInside}
 use Rattle.av1_order.specs.Plans.{is_inter, steps_in}
 use Rattle.av1_order.specs.Steps as order
 use Rattle.av1_order.specs.Turns.{IsCodedPlan, leaves_steps, steps_before, is_written}
@@ -26,7 +25,7 @@ use Rattle.av1_plan.specs.declared.leaf.ChromaMode.TheVariants.{Plain, Cfl}
 use Rattle.av1_plan.specs.declared.leaf.LeafKind.{LeafKind}
 use Rattle.av1_plan.specs.declared.leaf.LeafKind.TheVariants.{Intra, Single, Compound}
 use Rattle.av1_plan.specs.declared.leaf.Triple.{Triple}
-use Rattle.av1_plan.specs.CodingOrder.{IsOnGrid}
+use Rattle.av1_plan.specs.CodingOrder.{IsOnGrid, IsQuarterInside}
 use Rattle.av1_plan.specs.ReadPlans.{IsReadFrame}
 use Rattle.av1_plan.specs.Validity.{fault_of}
 use Rattle.av1_tile.specs.declared.plane_block.PlaneBlock.{PlaneBlock}

@@ -27,3 +27,4 @@ pub mod PlanFits
 pub mod Pictures
 pub mod FilledPlanes
 pub mod Examples
+pub mod Versions

@@ -12,7 +12,7 @@ use Rattle.av1_blocks.specs.declared.transform.TxSize.{TxSize}
 use Rattle.av1_blocks.specs.declared.transform.TxSize.TheVariants.{TX_4X4}
 use Rattle.av1_intra.specs.ChromaFromLuma.{luma_start, last_of_leaf, chroma_block, columns_read, rows_read, first_column, first_row}
 use Rattle.av1_order.specs.ChromaFromLuma as order
-use Rattle.av1_order.specs.ChromaFromLuma.{IsQuarterInside}
+use Rattle.av1_plan.specs.CodingOrder.{IsQuarterInside}
 use Rattle.av1_order.specs.Steps.{Step}
 use Rattle.av1_order.specs.Turns.{IsCodedPlan, leaves_steps, is_written}
 use Rattle.av1_order.proofs.ChromaFromLuma.{luma_is_written, luma_width, luma_height}

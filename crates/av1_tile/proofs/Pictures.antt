@@ -14,20 +14,19 @@ use Rattle.av1_frame.specs.declared.plane.PlaneConfig.{PlaneConfig}
 use Rattle.av1_frame.specs.Planes.{InPlane, IsWhole, place_at, sample_at}
 use Rattle.av1_frame.specs.Samples.{part}
 use Rattle.av1_frame.proofs.Planes.{run_in_storage}
-use Rattle.av1_order.specs.ChromaFromLuma.{IsQuarterInside}
 use Rattle.av1_order.specs.Plans.{coding_in}
 use Rattle.av1_order.specs.Turns.{IsCodedPlan}
-use Rattle.av1_order.proofs.ChromaFromLuma.{two_to_one_inside}
 use Rattle.av1_plan.specs.declared.header.Header.{Header}
 use Rattle.av1_plan.specs.declared.plan.Plan.{Plan}
 use Rattle.av1_plan.specs.Answer.{plan_value}
+use Rattle.av1_plan.specs.CodingOrder.{IsQuarterInside}
 use Rattle.av1_plan.specs.Geometry.{xdec, ydec, plane_width, plane_height, carries_chroma}
 use Rattle.av1_plan.specs.Grammar.{plan as grammar}
 use Rattle.av1_plan.specs.Plan.{LeafValue, PlanValue}
 use Rattle.av1_plan.specs.Spelling.{IsSpelled}
 use Rattle.av1_plan.specs.Validity.{first_fault}
 use Rattle.av1_plan.proofs.CodingOrder.{plan_trees}
-use Rattle.av1_plan.proofs.ReadPlans.{plan_grid, plan_shapes, read_frame}
+use Rattle.av1_plan.proofs.ReadPlans.{plan_grid, plan_quarters, read_frame}
 use Rattle.av1_plan.proofs.ValidLeaves.{faultless}
 use Rattle.av1_references.specs.References.{HoldsReferences}
 use Rattle.av1_tile.specs.declared.planes.Planes.{Planes}
@@ -135,7 +134,7 @@ module _ (plan : Plan) (valid : first_fault (plan_value plan) ≡ None) where
   same_steps s told = steps_told (plan_value plan).header (plan_value plan).leaves (coded s) all_begin told
 
   all_quarters : All (IsQuarterInside (plan_value plan).header) (plan_value plan).leaves
-  all_quarters i d within = two_to_one_inside (plan_value plan).header _ (plan_shapes plan i d within)
+  all_quarters = plan_quarters plan
 
   module _ {T : Type 0} (num : T → ℕ) (pixel : ℕ → T) (law : (v : ℕ) → num (pixel v) ≡ v) (back : (x : T) → pixel (num x) ≡ x) (h : Header) (fi : FrameInvariants T) (p q : Planes T) (edges : ℕ) (told : Told)
       (made : IsMade num (plan_value plan) h fi p) (after : StoresAll num (plan_value plan).header q) (walked : q ≡ fold (fast_step num pixel (plan_value plan)) p (steps_by (plan_value plan).header told (plan_value plan).leaves)) where

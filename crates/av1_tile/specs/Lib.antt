@@ -6,3 +6,4 @@ pub mod Reference
 pub mod Output
 pub mod Walk
 pub mod State
+pub mod Versions

@@ -21,6 +21,7 @@ mod cells;
 mod coefficients;
 mod extent;
 mod fill;
+mod laws;
 mod leaf;
 mod plane_block;
 mod planes;
@@ -30,6 +31,7 @@ mod tile;
 mod walk;
 
 pub use extent::PlaneExtent;
+pub use laws::versions_show_the_same;
 pub use plane_block::{LumaBlock, PlaneBlock, Prediction};
 pub use planes::Planes;
 pub use recon::reconstruct_tile;

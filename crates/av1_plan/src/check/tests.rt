@@ -6,6 +6,7 @@ use av1_blocks::FilterMode;
 /// An 8x8 frame of this sampling.
 fn frame(sampling: u8) -> Header {
     Header {
+        version: 1,
         width: 8,
         height: 8,
         depth: 8,

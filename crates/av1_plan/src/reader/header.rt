@@ -7,24 +7,39 @@ use av1_blocks::FilterMode;
 
 impl<'a> Reader<'a> {
     ghost use Rattle.std.specs.Prelude.{◌≡◌, ◌≤◌, IfOk};
-    ghost use Rattle.av1_plan.specs.Format.{one, two, read_field, read};
-    ghost use Rattle.av1_plan.specs.Grammar.{where_, magic, is_side, is_depth, slots, header};
+    ghost use Rattle.av1_plan.specs.Format.{one, two, four, read_field, read};
+    ghost use Rattle.av1_plan.specs.Grammar.{where_, is_magic, version, is_side, is_depth, slots, frame, header};
     ghost use Rattle.av1_plan.specs.Reading.{Gives, input, Fits, Moves};
 
     /// The four letters at the front.
     #[tactic(auto, using(crate::proofs::Narrow::narrow))]
     fn magic(&mut self) -> Result<u32, PlanError>
         requires { Fits self.old }
-        ensures read { Gives (λ x. (x, input self.new)) result (read_field magic (input self.old)) }
+        ensures read { Gives (λ x. (x, input self.new)) result (read_field (where_ four is_magic) (input self.old)) }
         ensures moves { Moves self.old self.new }
     {
         let at = self.at;
         let value = self.any_u32()?;
-        if value == u32::from_le_bytes(*b"RPL1") {
+        if value == u32::from_le_bytes(*b"RPL1") || value == u32::from_le_bytes(*b"RPL2") {
             Ok(value)
         } else {
             Err(PlanError::Malformed { at })
         }
+    }
+
+    /// The version of the grammar, by the four letters at the front.
+    #[tactic(auto, unfolding(crate::specs::Grammar::version))]
+    fn version(&mut self) -> Result<u8, PlanError>
+        requires { Fits self.old }
+        ensures read { Gives (λ x. (x, input self.new)) result (read version (input self.old)) }
+        ensures moves { Moves self.old self.new }
+    {
+        let letters = self.magic()?;
+        Ok(if letters == u32::from_le_bytes(*b"RPL2") {
+            2
+        } else {
+            1
+        })
     }
 
     /// A side of the frame.
@@ -86,15 +101,14 @@ impl<'a> Reader<'a> {
         ])
     }
 
-    /// What stands before the reference samples.
-    #[tactic(auto, using(crate::proofs::Formats::read_bind), unfolding(crate::specs::Grammar::header))]
-    pub fn header(&mut self) -> Result<Header, PlanError>
+    /// The frame and what holds for all leaves, in this version.
+    #[tactic(auto, using(crate::proofs::Formats::read_bind), unfolding(crate::specs::Grammar::frame))]
+    fn frame(&mut self, version: u8) -> Result<Header, PlanError>
         requires { Fits self.old }
-        ensures read { Gives (λ x. (x, input self.new)) result (read header (input self.old)) }
+        ensures read { Gives (λ x. (x, input self.new)) result (read (frame version) (input self.old)) }
         ensures moves { Moves self.old self.new }
         ensures small { IfOk result (λ h. (h.width ≤ 2048) × (h.height ≤ 2048) × (h.depth ≤ 12)) }
     {
-        self.magic()?;
         let width = self.side()?;
         let height = self.side()?;
         let depth = self.depth()?;
@@ -105,6 +119,7 @@ impl<'a> Reader<'a> {
         let slots = self.slots()?;
         let mask = self.any_byte()?;
         Ok(Header {
+            version,
             width,
             height,
             depth,
@@ -114,5 +129,17 @@ impl<'a> Reader<'a> {
             slots,
             mask,
         })
+    }
+
+    /// What stands before the reference samples.
+    #[tactic(auto, using(crate::proofs::Formats::read_bind), unfolding(crate::specs::Grammar::header))]
+    pub fn header(&mut self) -> Result<Header, PlanError>
+        requires { Fits self.old }
+        ensures read { Gives (λ x. (x, input self.new)) result (read header (input self.old)) }
+        ensures moves { Moves self.old self.new }
+        ensures small { IfOk result (λ h. (h.width ≤ 2048) × (h.height ≤ 2048) × (h.depth ≤ 12)) }
+    {
+        let version = self.version()?;
+        self.frame(version)
     }
 }

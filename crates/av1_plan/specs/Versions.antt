@@ -1,0 +1,28 @@
+-- What the two versions of the plan grammar have in common.
+use Rattle.std.specs.Prelude.{◌≡◌, ℕ, codes, List, ◌++◌}
+use Rattle.std.specs.List.{All}
+use Rattle.av1_plan.specs.declared.header.Header.{Header}
+use Rattle.av1_plan.specs.CodingOrder.{IsTwoToOne}
+use Rattle.av1_plan.specs.Grammar.{plan}
+use Rattle.av1_plan.specs.Plan.{PlanValue}
+use Rattle.av1_plan.specs.Spelling.{AreText}
+
+-- the same frame in this version
+abbrev pub header_in : ℕ → Header → Header
+header_in n h = record { version = n; width = h.width; height = h.height; depth = h.depth; sampling = h.sampling; filter = h.filter; edge_filter = h.edge_filter; slots = h.slots; mask = h.mask }
+
+-- the same plan in this version
+abbrev pub plan_in : ℕ → PlanValue → PlanValue
+plan_in n p = record { header = header_in n p.header; references = p.references; leaves = p.leaves }
+
+-- Bytes with the letters of the first version that spell a plan spell the same plan in the second, once they have its letters.
+abbrev pub SecondKeepsFirst : Type 0
+SecondKeepsFirst =
+    (rest : List ℕ) (p : PlanValue) → AreText plan (codes "RPL1" ++ rest) p
+    → (p.header.version ≡ 1) × AreText plan (codes "RPL2" ++ rest) (plan_in 2 p)
+
+-- Back again, where no side of a leaf is more than twice the other.
+abbrev pub FirstHasRest : Type 0
+FirstHasRest =
+    (rest : List ℕ) (p : PlanValue) → AreText plan (codes "RPL2" ++ rest) p → All IsTwoToOne p.leaves
+    → (p.header.version ≡ 2) × AreText plan (codes "RPL1" ++ rest) (plan_in 1 p)

@@ -1,0 +1,90 @@
+-- The planes of a plan are the same in each version: no step of the slow definition reads it.
+use Rattle.std.proofs.Common.{ℕ, ◌≡◌, ◌++◌, if◌then◌else◌, Some, ℤ, List, [], ◌∷◌, refl, ap, ◌∙◌}
+use Rattle.std.specs.List.{fold, flat_map}
+use mathlib.Core.Path.{fun_ext}
+use Rattle.av1_blocks.specs.declared.predict.PredictionMode.{PredictionMode}
+use Rattle.av1_edges.specs.Edges.{Edge}
+use Rattle.av1_frame.specs.Areas.{VisibleArea}
+use Rattle.av1_plan.specs.declared.header.Header.{Header}
+use Rattle.av1_plan.specs.Geometry.{xdec, ydec, plane_width, plane_height, carries_chroma, covers_plane, plane_place, plane_size, plane_tx_size, plane_area, has_block, transform_block}
+use Rattle.av1_plan.specs.Plan.{LeafValue, PlanValue}
+use Rattle.av1_plan.specs.Versions.{header_in, plan_in}
+use Rattle.av1_tile.specs.declared.plane_block.PlaneBlock.{PlaneBlock}
+use Rattle.av1_tile.specs.declared.plane_block.Prediction.{Prediction}
+use Rattle.av1_tile.specs.declared.plane_block.Prediction.TheVariants as predictions
+use Rattle.av1_tile.specs.Canvas.{Component, Y, U, V, Canvas, blank, drawn, with_written}
+use Rattle.av1_tile.specs.Edge.{sample_of}
+use Rattle.av1_tile.specs.Output.{visible, planes_of}
+use Rattle.av1_tile.specs.PlaneBlocks.{number, plane_block}
+use Rattle.av1_tile.specs.Reference.{by_prediction, predicted, slow_in, slow_step, slow_walk}
+use Rattle.av1_tile.specs.Steps.{Step, predict, add, PlaneStep, steps_at, steps_of, component_steps, leaf_steps, steps_after, steps}
+use Rattle.av1_tile.specs.Versions.{VersionsShowTheSame}
+
+-- ---- steps
+
+module _ (n : ℕ) (h : Header) where
+  component_same : (earlier : List LeafValue) (leaf : LeafValue) (c : Component)
+      → component_steps (header_in n h) (λ k. plane_block (header_in n h) earlier k leaf) leaf c ≡ component_steps h (λ k. plane_block h earlier k leaf) leaf c
+  unfolding steps_at transform_block has_block plane_area plane_place plane_size plane_tx_size plane_width plane_height xdec ydec covers_plane carries_chroma
+  component_same earlier leaf Y = refl
+  component_same earlier leaf U = refl
+  component_same earlier leaf V = refl
+
+  leaf_same : (earlier : List LeafValue) (leaf : LeafValue) → leaf_steps (header_in n h) earlier leaf ≡ leaf_steps h earlier leaf
+  unfolding steps_of carries_chroma xdec ydec
+  leaf_same earlier leaf =
+      ap (λ (f : Component → List PlaneStep). flat_map f (if carries_chroma h leaf.x leaf.y leaf.size then Y ∷ U ∷ V ∷ [] else Y ∷ [])) (fun_ext (component_same earlier leaf))
+
+  steps_same : (earlier leaves : List LeafValue) → steps_after (header_in n h) earlier leaves ≡ steps_after h earlier leaves
+  steps_same earlier [] = refl
+  steps_same earlier (leaf ∷ leaves) = rw (leaf_same earlier leaf) (ap (λ (ss : List PlaneStep). leaf_steps h earlier leaf ++ ss) (steps_same (earlier ++ leaf ∷ []) leaves))
+
+-- ---- what a step writes
+
+module _ (n : ℕ) (plan : PlanValue) where
+  prediction_same : (c : Component) (prediction : Prediction) (a : VisibleArea) (edge : PredictionMode → ℤ → Edge) (luma : ℕ → ℕ → ℤ) (r k : ℕ)
+      → by_prediction (plan_in n plan) (number c) prediction a edge luma r k ≡ by_prediction plan (number c) prediction a edge luma r k
+  unfolding by_prediction plane_width plane_height xdec ydec
+  prediction_same Y (predictions.Intra mode step filter) a edge luma r k = refl
+  prediction_same Y (predictions.FromLuma alpha) a edge luma r k = refl
+  prediction_same Y (predictions.Single mode reference mv) a edge luma r k = refl
+  prediction_same Y (predictions.Compound mode references mvs) a edge luma r k = refl
+  prediction_same U (predictions.Intra mode step filter) a edge luma r k = refl
+  prediction_same U (predictions.FromLuma alpha) a edge luma r k = refl
+  prediction_same U (predictions.Single mode reference mv) a edge luma r k = refl
+  prediction_same U (predictions.Compound mode references mvs) a edge luma r k = refl
+  prediction_same V (predictions.Intra mode step filter) a edge luma r k = refl
+  prediction_same V (predictions.FromLuma alpha) a edge luma r k = refl
+  prediction_same V (predictions.Single mode reference mv) a edge luma r k = refl
+  prediction_same V (predictions.Compound mode references mvs) a edge luma r k = refl
+
+  predicted_same : (canvas : Canvas) (c : Component) (block : PlaneBlock) (a : VisibleArea) (r k : ℕ) → predicted (plan_in n plan) canvas c block a r k ≡ predicted plan canvas c block a r k
+  unfolding predicted plane_width plane_height xdec ydec
+  predicted_same canvas Y block a r k = prediction_same Y block.prediction a _ _ r k
+  predicted_same canvas U block a r k = prediction_same U block.prediction a _ _ r k
+  predicted_same canvas V block a r k = prediction_same V block.prediction a _ _ r k
+
+  written_same : (canvas : Canvas) (c : Component) (s : Step) → slow_in (plan_in n plan) canvas c s ≡ slow_in plan canvas c s
+  unfolding slow_in
+  written_same canvas c (predict block m a) =
+      ap (λ (f : ℕ → ℕ → ℕ). drawn a (λ r k _. Some (f r k)) (canvas c)) (fun_ext (λ r. fun_ext (λ k. predicted_same canvas c block a r k)))
+  written_same canvas c (add block triples m a) = refl
+
+  step_same : (canvas : Canvas) (s : PlaneStep) → slow_step (plan_in n plan) canvas s ≡ slow_step plan canvas s
+  unfolding slow_step
+  step_same canvas s = ap (λ w. with_written s.component w canvas) (written_same canvas s.component s.step)
+
+  walk_same : slow_walk (plan_in n plan) ≡ slow_walk plan
+  unfolding slow_walk
+  walk_same =
+      ap (λ (f : Canvas → PlaneStep → Canvas). fold f blank (steps (header_in n plan.header) plan.leaves)) (fun_ext (λ canvas. fun_ext (λ s. step_same canvas s)))
+      ∙ ap (λ (ss : List PlaneStep). fold (slow_step plan) blank ss) (steps_same n plan.header [] plan.leaves)
+
+  shown_same : (f : Component → ℕ → ℕ → ℕ) → visible (header_in n plan.header) f ≡ visible plan.header f
+  unfolding visible plane_width plane_height xdec ydec
+  shown_same f = refl
+
+pub versions_show_the_same : VersionsShowTheSame
+unfolding planes_of
+versions_show_the_same n plan =
+    ap (λ (w : Canvas). visible (header_in n plan.header) (λ c x y. sample_of (w c x y))) (walk_same n plan) ∙ shown_same n plan (λ c x y. sample_of (slow_walk plan c x y))
