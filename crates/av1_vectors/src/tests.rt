@@ -1,5 +1,7 @@
 // Worked plans, what bad input gets, and each source and sink on its happy path. The values are those of the plan format.
 mod changes;
+mod extremes;
+mod faults;
 mod four_leaves;
 mod frames;
 mod intra;
@@ -7,6 +9,7 @@ mod made;
 mod one_leaf;
 mod plans;
 mod program;
+mod quarters;
 mod references;
 mod refusals;
 mod streams;

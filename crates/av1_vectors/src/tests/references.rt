@@ -5,7 +5,7 @@ use std::alloc::Global;
 use std::test::Fail;
 
 /// An 8x8 frame in 4:4:4 at depth 8. The references name slot 0, but LAST2 slot 1; what slots have planes is still to be said.
-const HEADER: [u8; 20] = [
+pub const HEADER: [u8; 20] = [
     0x52, 0x50, 0x4C, 0x31, 8, 0, 8, 0, 8, 2, 0, 0, 0, 1, 0, 0, 0, 0, 0, 0,
 ];
 
@@ -14,7 +14,7 @@ const DEPTH: usize = 8;
 
 const SAMPLING: usize = 9;
 
-const MASK: usize = 19;
+pub const MASK: usize = 19;
 
 /// One leaf of 64x64 by a vector of one sample to the right, from LAST.
 const SINGLE: [u8; 16] = [0, 19, 1, 0, 0, 8, 0, 4, 0, 0, 0, 0, 0, 0, 0, 0];
@@ -34,7 +34,7 @@ const RISING: [u8; 8] = [0, 10, 20, 30, 40, 50, 60, 70];
 const MOVED: [u8; 8] = [10, 20, 30, 40, 50, 60, 70, 70];
 
 /// A plan of this header with one slot, whose luma rises and whose chroma has these samples, and a leaf from it.
-fn from_rising(alloc: Global, header: &[u8], chroma: &[u8]) -> Result<Vec<u8>, Fail> {
+pub fn from_rising(alloc: Global, header: &[u8], chroma: &[u8]) -> Result<Vec<u8>, Fail> {
     let mut plan = Vec::from_slice(alloc, header)?;
     for _ in 0..8 {
         plan.extend_from_slice(&RISING)?;
