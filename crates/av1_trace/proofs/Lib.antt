@@ -1,0 +1,5 @@
+pub mod Comparing
+pub mod Frames
+pub mod GivenSamples
+pub mod Places
+pub mod SameSamples

@@ -1,0 +1,3 @@
+pub mod Samples
+pub mod Differences
+pub mod Rows
