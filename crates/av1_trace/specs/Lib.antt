@@ -1,3 +1,6 @@
 pub mod Samples
 pub mod Differences
 pub mod Rows
+pub mod DifferenceLines
+pub mod TraceErrors
+pub mod Traces

@@ -1,0 +1,88 @@
+//! Why a trace was not compared.
+ghost use Rattle.std.specs.Prelude.{◌≡◌};
+ghost use Rattle.av1_trace.specs.TraceErrors.{read_error, plan_error, invalid_error};
+ghost use Rattle.av1_trace.specs.declared.error.TraceError.TheVariants as variants;
+
+use av1_blocks::OutOfMemory;
+use av1_plan::{Invalid, InvalidKind, PlanError};
+use av1_streams::{ReadError, WriteFault};
+
+/// Why the plan of a trace is refused.
+#[derive(Clone, Copy, Debug, PartialEq, Eq)]
+pub enum PlanFault {
+    /// The field that begins at byte `at` of the plan is cut, has a value that is not admitted, or is left over after the end.
+    Malformed { at: u32 },
+    /// Leaf number `leaf`, counted from 0 in coding order, is the first that is refused, and why.
+    Invalid { leaf: u32, kind: InvalidKind },
+}
+
+/// Why a trace was not compared, or its differences were not written.
+#[derive(Clone, Copy, Debug, PartialEq, Eq)]
+pub enum TraceError {
+    /// A read failed.
+    ReadFault,
+    /// The source gave a byte past the longest trace.
+    TooLong,
+    /// The field of the trace that begins at byte `at` is cut, has a value that is not admitted, or is left over after the end.
+    Malformed { at: u32 },
+    /// The plan is refused.
+    Plan { fault: PlanFault },
+    /// A write failed. A prefix of the lines was written.
+    WriteFault,
+    /// An allocation was refused, before the first written byte.
+    Memory,
+}
+
+impl From<ReadError> for TraceError {
+    ghost from_gives = { λ error e. e ≡ read_error error };
+
+    fn from(error: ReadError) -> Self {
+        match error {
+            ReadError::ReadFault => TraceError::ReadFault,
+            ReadError::TooLong => TraceError::TooLong,
+            ReadError::Memory => TraceError::Memory,
+        }
+    }
+}
+
+impl From<PlanError> for TraceError {
+    ghost from_gives = { λ error e. e ≡ plan_error error };
+
+    fn from(error: PlanError) -> Self {
+        match error {
+            PlanError::Malformed { at } => TraceError::Plan {
+                fault: PlanFault::Malformed { at },
+            },
+            PlanError::Memory => TraceError::Memory,
+        }
+    }
+}
+
+impl From<Invalid> for TraceError {
+    ghost from_gives = { λ fault e. e ≡ invalid_error fault };
+
+    fn from(fault: Invalid) -> Self {
+        TraceError::Plan {
+            fault: PlanFault::Invalid {
+                leaf: fault.leaf,
+                kind: fault.kind,
+            },
+        }
+    }
+}
+
+impl From<WriteFault> for TraceError {
+    ghost from_gives = { λ _ e. e ≡ variants.WriteFault };
+
+    fn from(_: WriteFault) -> Self {
+        TraceError::WriteFault
+    }
+}
+
+impl From<OutOfMemory> for TraceError {
+    ghost from_gives = { λ _ e. e ≡ variants.Memory };
+
+    fn from(_: OutOfMemory) -> Self {
+        TraceError::Memory
+    }
+}

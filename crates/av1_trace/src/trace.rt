@@ -1,0 +1,91 @@
+//! Traces: a plan, and the planes that another encoder left of it.
+ghost use Rattle.std.specs.Prelude.{◌≡◌, ◌≢◌, ◌≤◌, ℕ, List, IfOk, IfErr, length};
+ghost use Rattle.av1_plan.specs.Answer.{plan_value};
+ghost use Rattle.av1_plan.specs.Plan.{PlanValue};
+ghost use Rattle.av1_plan.specs.Validity.{first_fault};
+ghost use Rattle.av1_streams.specs.Streams.{max_plan_bytes};
+ghost use Rattle.av1_trace.specs.Differences.{differences};
+ghost use Rattle.av1_trace.specs.Traces.{AreRefusedFor, HasParts, IsMalformedAt, IsPlanFault, IsTrace, IsValidPlan, max_trace_bytes};
+ghost use Rattle.av1_trace.specs.declared.error.TraceError.TheVariants.{Malformed, Memory};
+
+use crate::{Difference, TraceError, compare, planes_len};
+use av1_plan::{Plan, check_plan, parse_plan};
+use av1_streams::MAX_PLAN_BYTES;
+use std::alloc::Global;
+
+// The bytes before the plan: four letters, and the length of the plan.
+const HEAD: usize = 8;
+
+// The parts of a trace.
+#[derive(Clone, Copy)]
+struct Parts<'a> {
+    plan: &'a [u8],
+    planes: &'a [u8],
+}
+
+/// The differences of the trace that these bytes are: the letters `RTR1`, the length of the plan in four bytes, the low one first, the plan,
+/// and the bytes of its planes, as [`compare`] takes them.
+///
+/// # Errors
+///
+/// `Malformed`, for the letters, the length or a plan that is cut; then `Plan`; then `Malformed`, for planes of another length than the
+/// plan's. `Memory` may stand in place of any of them.
+pub fn trace_differences(alloc: Global, bytes: &[u8]) -> Result<Vec<Difference>, TraceError>
+    requires short { length bytes.now ≤ max_trace_bytes }
+    ensures found { IfOk result (λ list. (value : PlanValue) × (planes : List ℕ) × IsTrace bytes.now value planes × (list.items ≡ differences value planes)) }
+    ensures refused { IfErr result (λ e. e ≢ Memory → AreRefusedFor bytes.now e) }
+{
+    let parts = trace_parts(bytes)?;
+    let plan = valid_plan(alloc, parts.plan)?;
+    let len = planes_len(plan.header());
+    let planes = HEAD + parts.plan.len();
+    if parts.planes.len() < len {
+        return Err(malformed(planes));
+    }
+    if parts.planes.len() > len {
+        return Err(malformed(planes + len));
+    }
+    Ok(compare(alloc, &plan, parts.planes)?)
+}
+
+// The field that begins at this byte is at fault.
+fn malformed(at: usize) -> TraceError
+    requires { at ≤ max_trace_bytes }
+    ensures { result ≡ Malformed at }
+{
+    TraceError::Malformed { at: at as u32 }
+}
+
+// The plan and the planes of a trace.
+fn trace_parts(bytes: &[u8]) -> Result<Parts<'_>, TraceError>
+    requires short { length bytes.now ≤ max_trace_bytes }
+    ensures found { IfOk result (λ parts. HasParts bytes.now parts.plan.now parts.planes.now) }
+    ensures refused { IfErr result (λ e. (at : ℕ) × (e ≡ Malformed at) × IsMalformedAt bytes.now at) }
+{
+    if !bytes.starts_with(b"RTR1") {
+        return Err(malformed(0));
+    }
+    if bytes.len() < HEAD {
+        return Err(malformed(4));
+    }
+    let len = u32::from_le_bytes([bytes[4], bytes[5], bytes[6], bytes[7]]) as usize;
+    if len > MAX_PLAN_BYTES {
+        return Err(malformed(4));
+    }
+    if bytes.len() - HEAD < len {
+        return Err(malformed(HEAD));
+    }
+    let (plan, planes) = bytes[HEAD..].split_at(len);
+    Ok(Parts { plan, planes })
+}
+
+// The valid plan that these bytes are.
+fn valid_plan(alloc: Global, bytes: &[u8]) -> Result<Plan, TraceError>
+    requires short { length bytes.now ≤ max_plan_bytes }
+    ensures found { IfOk result (λ plan. IsValidPlan bytes.now (plan_value plan)) }
+    ensures refused { IfErr result (λ e. e ≢ Memory → IsPlanFault bytes.now e) }
+{
+    let plan = parse_plan(alloc, bytes)?;
+    check_plan(&plan)?;
+    Ok(plan)
+}
