@@ -41,7 +41,7 @@ unfolding add
 regroup xs ys (Ok p) = ap (λ (zs : List _). Ok (zs, p.1)) (sym (append_assoc xs ys p.0))
 regroup xs ys (Err at) = refl
 
-add_behind : {A : Type 0} (g : Format (List A)) (xs ys : List A) (i : Input) → add (g >>= λ zs. done (ys ++ zs)) (xs, i) ≡ add g (xs ++ ys, i)
+pub add_behind : {A : Type 0} (g : Format (List A)) (xs ys : List A) (i : Input) → add (g >>= λ zs. done (ys ++ zs)) (xs, i) ≡ add g (xs ++ ys, i)
 unfolding add
 add_behind g xs ys i = add_bind g (λ zs. done (ys ++ zs)) xs i ∙ regroup xs ys (read g i)
 

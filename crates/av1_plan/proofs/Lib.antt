@@ -22,3 +22,4 @@ pub mod Carried
 pub mod Versions
 pub mod ValidLeaves
 pub mod ValidModes
+pub mod Composed

@@ -67,11 +67,9 @@ version_is n s =
     let (letters, _, t) = spelled_asks _ _ n s in
     subst (λ (m : ℕ). (1 ≤ m) × (m ≤ 2)) (spelled_done _ n t) (named_version letters)
 
-pub header_is : (h : Header) → IsSpelled header h → IsReadFrame h
-unfolding header frame
-header_is h s =
-    let (version_found, version_spelled, s1) = spelled_bind version _ h s in
-    let (least_version, most_version) = version_is version_found version_spelled in
+pub frame_is : (n : ℕ) (h : Header) → 1 ≤ n → n ≤ 2 → IsSpelled (frame n) h → IsReadFrame h
+unfolding frame
+frame_is n h least_version most_version s1 =
     let (width, width_in, s2) = spelled_asks _ _ h s1 in
     let (height, height_in, s3) = spelled_asks _ _ h s2 in
     let (depth, depth_in, s4) = spelled_asks _ _ h s3 in
@@ -93,6 +91,13 @@ header_is h s =
       slots = slots_are slots_found slots_spelled;
       mask = mask_in.fits;
     })
+
+pub header_is : (h : Header) → IsSpelled header h → IsReadFrame h
+unfolding header
+header_is h s =
+    let (version_found, version_spelled, s1) = spelled_bind version frame h s in
+    let (least_version, most_version) = version_is version_found version_spelled in
+    frame_is version_found h least_version most_version s1
 
 -- a plan is spelled by its header, its references and the leaves of its superblocks
 pub record HasPieces (p : PlanValue) : Type 0 where

@@ -86,7 +86,7 @@ plan_quarters p k d within = ∥∥₁_elim p.spelled (quarters p.header _) (λ 
 frame_of : (p : Plan) → IsSpelled plan (plan_value p) → IsReadFrame p.header
 frame_of p s = spelled_frame (plan_value p) s
 
-depth_holds : (n : ℕ) → (n ≡ 8) ⊎ (n ≡ 10) ⊎ (n ≡ 12) → is_depth n ≡ true
+pub depth_holds : (n : ℕ) → (n ≡ 8) ⊎ (n ≡ 10) ⊎ (n ≡ 12) → is_depth n ≡ true
 depth_holds n (inl e) = rw e refl
 depth_holds n (inr (inl e)) = rw e refl
 depth_holds n (inr (inr e)) = rw e refl

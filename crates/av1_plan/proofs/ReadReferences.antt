@@ -2,12 +2,14 @@
 use Rattle.std.proofs.Common.{◌≡◌, ℕ, zero, suc, ◌+◌, ◌<◌, ◌^◌, true, false, Bool, List, [], ◌∷◌, ◌++◌, length, get_or, Option, Some, None, refl, ap, subst, ◌∙◌, arith, slice_index_or}
 use Rattle.std.specs.Prelude.{nat_lt, ◌==◌, if◌then◌else◌}
 use Rattle.std.proofs.lemmas.Bool.{eqb-true, ltb-true}
+use Rattle.std.proofs.lemmas.List.{get_or-map}
 use Rattle.av1_plan.specs.declared.header.Header.{Header}
 use Rattle.av1_plan.specs.Format.{one, two, any, Format, done, ◌>>=◌, IsAdmitted, field, lone, in_turn}
 use Rattle.av1_plan.specs.Geometry.{plane_len, has_slot}
 use Rattle.av1_plan.specs.Grammar.{where_, sample, plane, reference, slot_planes, references}
-use Rattle.av1_plan.specs.Plan.{PlanValue, reference_of}
-use Rattle.av1_plan.specs.ReadPlans.{ArePlane, IsReadReference}
+use Rattle.av1_plan.specs.declared.planes.Planes.{Planes}
+use Rattle.av1_plan.specs.Plan.{PlanValue, reference_of, slot_value, slot_values}
+use Rattle.av1_plan.specs.ReadPlans.{ArePlane, IsReadReference, IsStoredSlot, AreStoredSlots}
 use Rattle.av1_plan.specs.Spelling.{IsSpelled}
 use Rattle.av1_plan.proofs.Pieces.{spelled_done, spelled_asks, spelled_bind, spelled_lone, spelled_no_turn, spelled_turn}
 
@@ -98,3 +100,17 @@ references_are p slot c s slot_in lt =
     let are = are_in_turn (slot_planes p.header) 0 8 p.references s in
     let read : IsReadSlot p.header slot (slice_index_or p.references slot None) = slot_is p.header slot (slice_index_or p.references slot None) (subst (λ (n : ℕ). IsSpelled (slot_planes p.header n) (slice_index_or p.references slot None)) (zero-add slot) (are.each slot None slot_in)) in
     plane_read p slot c _ lt refl read
+
+stored_by : (h : Header) (slot : ℕ) (o : Option Planes) → IsReadSlot h slot (slot_value o) → IsStoredSlot h slot o
+stored_by h slot (Some planes) is = (is.0, is.1.y, is.1.u, is.1.v)
+stored_by h slot None is = is
+
+-- the eight slots in memory
+pub stored_are : (h : Header) (stored : List (Option Planes)) → length stored ≡ 8 → IsSpelled (references h) (slot_values stored) → AreStoredSlots h stored 8
+unfolding references
+stored_are h stored eight s slot lt =
+    let are = are_in_turn (slot_planes h) 0 8 (slot_values stored) s in
+    let o = slice_index_or stored slot None in
+    let at : slice_index_or (slot_values stored) slot None ≡ slot_value o = get_or-map slot_value stored slot None None (omega (arith, lt, eight)) in
+    let read : IsSpelled (slot_planes h slot) (slot_value o) = subst (IsSpelled (slot_planes h slot)) at (subst (λ (n : ℕ). IsSpelled (slot_planes h n) (slice_index_or (slot_values stored) slot None)) (zero-add slot) (are.each slot None lt)) in
+    stored_by h slot o (slot_is h slot (slot_value o) read)

@@ -144,9 +144,9 @@ frame_version m vs h s = ap (λ (g : Header). g.version) (spelled_twice (frame m
 -- ---- the letters at the front
 
 -- the letters of a version, as the one field that they are
-record AreLetters (n : ℕ) (letters : List ℕ) : Type 0 where
-  field : ℕ
-  spells : Spells version (field ∷ []) n
+pub record AreLetters (n : ℕ) (letters : List ℕ) : Type 0 where
+  pub field : ℕ
+  pub spells : Spells version (field ∷ []) n
   bytes : text version (field ∷ []) ≡ letters
   -- bytes that begin so begin with a field of this version
   only : (number : ℕ) (rest more : List ℕ) → is_magic number ≡ true → letters ++ rest ≡ to_le_bytes w32 number ++ more → (version_of number ≡ n) × (rest ≡ more)
@@ -173,11 +173,11 @@ second_only number rest more magic e = elim (or_cases (number == from_le_bytes w
       (ap version_of is, ap (drop 4) (e ∙ ap (λ (m : ℕ). to_le_bytes w32 m ++ more) is))
 ]
 
-first_letters : AreLetters 1 (codes "RPL1")
+pub first_letters : AreLetters 1 (codes "RPL1")
 unfolding version
 first_letters = record { field = from_le_bytes w32 (codes "RPL1"); spells = (record { fits = lit< tt; admitted = refl }, refl); bytes = refl; only = first_only }
 
-second_letters : AreLetters 2 (codes "RPL2")
+pub second_letters : AreLetters 2 (codes "RPL2")
 unfolding version
 second_letters = record { field = from_le_bytes w32 (codes "RPL2"); spells = (record { fits = lit< tt; admitted = refl }, refl); bytes = refl; only = second_only }
 

@@ -309,6 +309,12 @@ superblocks h = in_turn (superblock_row h) 0 ((h.height + 63) / 64)
 
 -- ---- the whole
 
+-- what stands behind the reference samples of a plan with this header and these references: its leaves
+unfoldable pub plan_behind : Header → List (Option (List (List ℕ))) → Format PlanValue
+plan_behind header references = do
+  leaves ← superblocks header
+  done (record { header = header; references = references; leaves = leaves })
+
 unfoldable pub plan : Format PlanValue
 plan = do
   header ← header

@@ -11,3 +11,4 @@ pub mod Reading
 pub mod Parsing
 pub mod Answer
 pub mod Versions
+pub mod Pieces

@@ -1,5 +1,5 @@
 -- What holds of every plan that is read: its frame, its reference samples and its leaves.
-use Rattle.std.specs.Prelude.{◌≡◌, ℕ, ◌^◌, ◌%◌, ◌<◌, ◌≤◌, ◌⊎◌, Bool, true, false, ℤ, List, [], ◌∷◌, length, Option, Some, None, is_some, FitsSigned}
+use Rattle.std.specs.Prelude.{◌≡◌, ℕ, ◌^◌, ◌%◌, ◌<◌, ◌≤◌, ◌⊎◌, Bool, true, false, ℤ, List, [], ◌∷◌, length, Option, Some, None, is_some, slice_index_or, FitsSigned}
 use Rattle.std.specs.Int.{w8}
 use Rattle.std.specs.List.{All}
 use Rattle.av1_blocks.specs.declared.mc.MotionVector.{MotionVector}
@@ -11,6 +11,7 @@ use Rattle.av1_blocks.specs.References.{reference_number}
 use Rattle.av1_blocks.specs.Vectors.{FitsVector}
 use Rattle.av1_plan.specs.declared.header.Header.{Header}
 use Rattle.av1_plan.specs.declared.leaf.Triple.{Triple}
+use Rattle.av1_plan.specs.declared.planes.Planes.{Planes}
 use Rattle.av1_plan.specs.declared.leaf.ChromaMode.{ChromaMode}
 use Rattle.av1_plan.specs.declared.leaf.ChromaMode.TheVariants.{Plain, Cfl}
 use Rattle.av1_plan.specs.declared.leaf.LeafKind.{LeafKind}
@@ -55,6 +56,15 @@ pub record ArePlane (h : Header) (plane : ℕ) (samples : List ℕ) : Type 0 whe
 abbrev pub IsReadReference : Header → (slot plane : ℕ) → Option (List ℕ) → Type 0
 IsReadReference h slot plane (Some samples) = (has_slot h slot ≡ true) × ArePlane h plane samples
 IsReadReference h slot plane None = has_slot h slot ≡ false
+
+-- a slot in memory: its planes exactly where the mask has it
+abbrev pub IsStoredSlot : Header → ℕ → Option Planes → Type 0
+IsStoredSlot h slot (Some planes) = (has_slot h slot ≡ true) × ArePlane h 0 planes.y.items × ArePlane h 1 planes.u.items × ArePlane h 2 planes.v.items
+IsStoredSlot h slot None = has_slot h slot ≡ false
+
+-- the first n slots in memory
+abbrev pub AreStoredSlots : Header → List (Option Planes) → ℕ → Type 0
+AreStoredSlots h slots n = (s : ℕ) → s < n → IsStoredSlot h s (slice_index_or slots s None)
 
 -- ---- the kind of a leaf
 

@@ -2,6 +2,7 @@
 
 ghost use Rattle.std.specs.Prelude.{◌≡◌, ℕ, List};
 ghost use Rattle.av1_plan.specs.Grammar.{plan};
+ghost use Rattle.av1_plan.specs.Pieces.{PiecesArePlan};
 ghost use Rattle.av1_plan.specs.Plan.{PlanValue};
 ghost use Rattle.av1_plan.specs.Spelling.{AreText};
 ghost use Rattle.av1_plan.specs.Versions.{SecondKeepsFirst, FirstHasRest};
@@ -21,4 +22,10 @@ pub fn the_second_version_keeps_the_first()
 /// `RPL1`.
 pub fn the_first_version_has_the_rest()
     ensures { FirstHasRest }
+{}
+
+/// A law: what stands before the leaves of a plan, its references and the leaves behind them are the plan. The bytes of a header, those of
+/// its references and those that [`crate::parse_leaves`] reads are, one after the other, the bytes of what it gives.
+pub fn pieces_are_a_plan()
+    ensures { PiecesArePlan }
 {}

@@ -1,17 +1,20 @@
 //! Reading a plan from bytes.
 
-ghost use Rattle.std.specs.Prelude.{◌≡◌, ◌≤◌, ◌^◌, length, IfOk, MatchResult};
+ghost use Rattle.std.specs.Prelude.{◌≡◌, ◌≤◌, ◌^◌, length, IfOk, MatchResult, vec_len};
 ghost use Rattle.av1_plan.specs.declared.error.PlanError.TheVariants.{Memory};
 ghost use Rattle.av1_plan.specs.Answer.{plan_value, IfMalformed};
 ghost use Rattle.av1_plan.specs.Format.{start, read_all};
-ghost use Rattle.av1_plan.specs.Grammar.{plan};
-ghost use Rattle.av1_plan.specs.Plan.{PlanValue};
+ghost use Rattle.av1_plan.specs.Grammar.{plan, plan_behind};
+ghost use Rattle.av1_plan.specs.Plan.{PlanValue, slot_values};
+ghost use Rattle.av1_plan.specs.ReadPlans.{IsReadFrame, AreStoredSlots};
 ghost use Rattle.av1_plan.specs.Reading.{Gives};
 ghost use Rattle.av1_plan.specs.Spelling.{AreText, AreRefused};
 
 use crate::error::PlanError;
+use crate::header::Header;
 use crate::nodes::Parser;
 use crate::plan::Plan;
+use crate::planes::Planes;
 use crate::reader::Reader;
 use std::alloc::Global;
 
@@ -25,11 +28,7 @@ fn read_plan(alloc: Global, bytes: &[u8]) -> Result<Plan, PlanError>
     let header = reader.header()?;
     let references = reader.references(alloc, &header)?;
     let parser = Parser::parse(alloc, reader, &header)?;
-    if !parser.reader.rest.is_empty() {
-        return Err(PlanError::Malformed {
-            at: parser.reader.at,
-        });
-    }
+    parser.reader.end()?;
     let Parser {
         reader: _,
         leaves,
@@ -59,4 +58,57 @@ pub fn parse_plan(alloc: Global, bytes: &[u8]) -> Result<Plan, PlanError>
     ensures only { (p : PlanValue) → AreText plan bytes.now p → MatchResult result (λ x. plan_value x ≡ p) (λ e. e ≡ Memory) }
 {
     read_plan(alloc, bytes)
+}
+
+/// The plan with this header and these references whose leaves the bytes are, read from left to right.
+#[tactic(auto, using(crate::proofs::Lists::collects), unfolding(crate::specs::Grammar::plan_behind))]
+fn read_leaves(
+    alloc: Global,
+    header: Header,
+    references: Vec<Option<Planes>>,
+    bytes: &[u8],
+) -> Result<Plan, PlanError>
+    requires short { length bytes.now ≤ 2 ^ 26 }
+    requires frame { IsReadFrame header }
+    requires eight { vec_len references ≡ 8 }
+    requires slots { AreStoredSlots header references.items 8 }
+    ensures { Gives (λ p. plan_value p) result (read_all (plan_behind header (slot_values references.items)) (start bytes.now)) }
+{
+    let reader = Reader { rest: bytes, at: 0 };
+    let parser = Parser::parse(alloc, reader, &header)?;
+    parser.reader.end()?;
+    let Parser {
+        reader: _,
+        leaves,
+        triples,
+    } = parser;
+    Ok(Plan {
+        header,
+        references,
+        leaves,
+        triples,
+    })
+}
+
+/// The plan with this header and these references whose leaves these bytes spell, by the plan grammar: for formats that keep what stands
+/// before the leaves of a plan in another place.
+///
+/// # Errors
+///
+/// As for [`parse_plan`]; `Malformed` counts from the first of these bytes.
+pub fn parse_leaves(
+    alloc: Global,
+    header: Header,
+    references: Vec<Option<Planes>>,
+    bytes: &[u8],
+) -> Result<Plan, PlanError>
+    requires short { length bytes.now ≤ 2 ^ 26 }
+    requires frame { IsReadFrame header }
+    requires eight { vec_len references ≡ 8 }
+    requires slots { AreStoredSlots header references.items 8 }
+    ensures found { IfOk result (λ p. AreText (plan_behind header (slot_values references.items)) bytes.now (plan_value p)) }
+    ensures refused { IfMalformed result (λ at. AreRefused (plan_behind header (slot_values references.items)) bytes.now at) }
+    ensures only { (p : PlanValue) → AreText (plan_behind header (slot_values references.items)) bytes.now p → MatchResult result (λ x. plan_value x ≡ p) (λ e. e ≡ Memory) }
+{
+    read_leaves(alloc, header, references, bytes)
 }

@@ -16,7 +16,7 @@ pub struct Reader<'a> {
 }
 
 impl<'a> Reader<'a> {
-    ghost use Rattle.std.specs.Prelude.{◌≡◌, ◌+◌, ◌<◌, ◌≤◌, ◌^◌, length, IfOk, OnOk};
+    ghost use Rattle.std.specs.Prelude.{◌≡◌, ◌+◌, ◌<◌, ◌≤◌, ◌^◌, length, IfOk, IfErr, OnOk, OnErr};
     ghost use Rattle.av1_plan.specs.Format.{one, two, four, any, read_field};
     ghost use Rattle.av1_plan.specs.Grammar.{byte_from};
     ghost use Rattle.av1_plan.specs.Reading.{Gives, input, Fits, Moves};
@@ -25,6 +25,18 @@ impl<'a> Reader<'a> {
         ensures { result ≡ Err (PlanError.Malformed self.now.at) }
     {
         Err(PlanError::Malformed { at: self.at })
+    }
+
+    /// No byte is left.
+    pub fn end(&self) -> Result<(), PlanError>
+        ensures done { OnOk result (length self.now.rest.now ≡ 0) }
+        ensures left { OnErr result (0 < length self.now.rest.now) }
+        ensures place { IfErr result (λ e. e ≡ PlanError.Malformed self.now.at) }
+    {
+        if !self.rest.is_empty() {
+            return self.malformed();
+        }
+        Ok(())
     }
 
     /// Any byte.
@@ -47,7 +59,7 @@ impl<'a> Reader<'a> {
 
     /// Any number of two bytes.
     #[tactic(auto, unfolding(crate::specs::Format::read_field))]
-    fn any_u16(&mut self) -> Result<u16, PlanError>
+    pub fn any_u16(&mut self) -> Result<u16, PlanError>
         requires { Fits self.old }
         ensures read { Gives (λ x. (x, input self.new)) result (read_field (any two) (input self.old)) }
         ensures takes { OnOk result (self.old.at < self.new.at) }
@@ -66,7 +78,7 @@ impl<'a> Reader<'a> {
 
     /// Any number of four bytes.
     #[tactic(auto, unfolding(crate::specs::Format::read_field))]
-    fn any_u32(&mut self) -> Result<u32, PlanError>
+    pub fn any_u32(&mut self) -> Result<u32, PlanError>
         requires { Fits self.old }
         ensures read { Gives (λ x. (x, input self.new)) result (read_field (any four) (input self.old)) }
         ensures takes { OnOk result (self.old.at < self.new.at) }

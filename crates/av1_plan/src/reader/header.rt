@@ -103,7 +103,7 @@ impl<'a> Reader<'a> {
 
     /// The frame and what holds for all leaves, in this version.
     #[tactic(auto, using(crate::proofs::Formats::read_bind), unfolding(crate::specs::Grammar::frame))]
-    fn frame(&mut self, version: u8) -> Result<Header, PlanError>
+    pub fn frame(&mut self, version: u8) -> Result<Header, PlanError>
         requires { Fits self.old }
         ensures read { Gives (λ x. (x, input self.new)) result (read (frame version) (input self.old)) }
         ensures moves { Moves self.old self.new }

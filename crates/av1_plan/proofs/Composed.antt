@@ -1,0 +1,214 @@
+-- A plan composed of pieces is spelled: a frame in its ranges, slots with planes of the frame's depth, and leaves that are spelled.
+use Rattle.std.proofs.Common.{◌≡◌, ℕ, zero, suc, ◌+◌, ◌<◌, ◌≤◌, ◌^◌, ◌⊎◌, inl, inr, Bool, true, false, List, [], ◌∷◌, ◌++◌, length, get_or, All, Option, Some, None, refl, sym, ap, subst, ◌∙◌, append_assoc, arith, slice_index_or, lit<}
+use Rattle.std.specs.Prelude.{◌==◌, is_some, if◌then◌else◌}
+use Rattle.std.proofs.lemmas.Bool.{cases_lt, lt-ltb, le-leb}
+use Rattle.std.proofs.lemmas.List.{get_or-map, get_or_past, length-map}
+use Rattle.av1_blocks.specs.declared.mc.FilterMode.{FilterMode}
+use Rattle.av1_blocks.specs.declared.mc.FilterMode.TheVariants.{REGULAR}
+use Rattle.av1_blocks.specs.Filters.{filter_number}
+use Rattle.av1_plan.specs.declared.header.Header.{Header}
+use Rattle.av1_plan.specs.declared.planes.Planes.{Planes}
+use Rattle.av1_plan.specs.Format.{one, two, any, Kind, Format, done, asks, ◌>>=◌, IsAdmitted, field, lone, ◌++>◌, in_turn}
+use Rattle.av1_plan.specs.Geometry.{plane_len, has_slot}
+use Rattle.av1_plan.specs.Grammar.{where_, byte_from, is_side, is_depth, version, slots, frame, header, sample, plane, reference, slot_planes, references, plan, plan_behind, superblocks}
+use Rattle.av1_plan.specs.Plan.{PlanValue, planes_value, slot_value, slot_values, ArePresent}
+use Rattle.av1_plan.specs.ReadPlans.{IsSide, IsReadFrame, ArePlane, IsStoredSlot, AreStoredSlots}
+use Rattle.av1_plan.specs.Pieces.{PiecesArePlan}
+use Rattle.av1_plan.specs.Spelling.{IsSpelled, text}
+use Rattle.av1_plan.proofs.Carried.{joined}
+use Rattle.av1_plan.proofs.Numbers.{filter_of}
+use Rattle.av1_plan.proofs.ReadPlans.{depth_holds}
+use Rattle.av1_plan.proofs.Versions.{first_letters, second_letters}
+
+-- ---- formats
+
+done_spelled : {A : Type 0} (x : A) → IsSpelled (done x) x
+done_spelled x = record { values = []; spells = refl }
+
+bind_spelled : {A B : Type 0} (f : Format A) (g : A → Format B) (x : A) (y : B) → IsSpelled f x → IsSpelled (g x) y → IsSpelled (f >>= g) y
+bind_spelled f g x y s t = record { values = s.values ++ t.values; spells = (joined f g x y s.values t.values s.spells t.spells).0 }
+
+asks_spelled : {A : Type 0} (k : Kind) (next : ℕ → Format A) (v : ℕ) (y : A) → IsAdmitted k v → IsSpelled (next v) y → IsSpelled (asks k next) y
+asks_spelled k next v y admitted t = record { values = v ∷ t.values; spells = (admitted, t.spells) }
+
+lone_spelled : {A : Type 0} (f : Format A) (x : A) → IsSpelled f x → IsSpelled (lone f) (x ∷ [])
+lone_spelled f x s = bind_spelled f (λ x. done (x ∷ [])) x (x ∷ []) s (done_spelled (x ∷ []))
+
+both_spelled : {A : Type 0} (f g : Format (List A)) (xs ys : List A) → IsSpelled f xs → IsSpelled g ys → IsSpelled (f ++> g) (xs ++ ys)
+both_spelled f g xs ys s t = bind_spelled f (λ xs. g >>= λ ys. done (xs ++ ys)) xs (xs ++ ys) s (bind_spelled g (λ ys. done (xs ++ ys)) ys (xs ++ ys) t (done_spelled (xs ++ ys)))
+
+-- items in turn, one each
+turns_spelled : {A : Type 0} (f : ℕ → Format A) (i : ℕ) (xs : List A) → ((k : ℕ) (d : A) → k < length xs → IsSpelled (f (i + k)) (get_or xs k d)) → IsSpelled (in_turn (λ j. lone (f j)) i (length xs)) xs
+unfolding in_turn
+turns_spelled f i [] each = done_spelled []
+turns_spelled f i (x ∷ xs) each =
+    let first : IsSpelled (f i) x = subst (λ (j : ℕ). IsSpelled (f j) x) (omega arith) (each 0 x (omega arith)) in
+    let later = turns_spelled f (i + 1) xs (λ k d lt. subst (λ (j : ℕ). IsSpelled (f j) (get_or xs k d)) (omega arith) (each (suc k) d (omega (arith, lt)))) in
+    both_spelled (lone (f i)) (in_turn (λ j. lone (f j)) (i + 1) (length xs)) (x ∷ []) xs (lone_spelled (f i) x first) later
+
+-- ---- the header
+
+filter_back : (f : FilterMode) → filter_of (filter_number f) ≡ f
+filter_back f = elim f as (λ g. filter_of (filter_number g) ≡ g) [ REGULAR ↦ refl | _ ↦ refl ]
+
+side_admitted : (n : ℕ) → IsSide n → IsAdmitted (where_ two is_side) n
+side_admitted n s = record { fits = omega (arith, s.most); admitted = rw (s.whole, le-leb 8 n s.least, le-leb n 2048 s.most) refl }
+
+byte_admitted : (first last v : ℕ) → last < 256 → first ≤ v → v ≤ last → IsAdmitted (byte_from first last) v
+byte_admitted first last v small least most = record { fits = omega (arith, small, most); admitted = rw (le-leb first v least, le-leb v last most) refl }
+
+depth_admitted : (n : ℕ) → (n ≡ 8) ⊎ (n ≡ 10) ⊎ (n ≡ 12) → IsAdmitted (where_ one is_depth) n
+depth_admitted n d = record { fits = small d; admitted = depth_holds n d }
+  where
+    small : (n ≡ 8) ⊎ (n ≡ 10) ⊎ (n ≡ 12) → n < 256
+    small (inl e) = omega (arith, e)
+    small (inr (inl e)) = omega (arith, e)
+    small (inr (inr e)) = omega (arith, e)
+
+zero_le : (v : ℕ) → 0 ≤ v
+zero_le v = omega arith
+
+below_four : (v : ℕ) → v < 4 → v ≤ 3
+below_four v lt = omega (arith, lt)
+
+slot_admitted : (v : ℕ) → v < 8 → IsAdmitted (byte_from 0 7) v
+slot_admitted v lt = byte_admitted 0 7 v (lit< tt) (zero_le _) (omega (arith, lt))
+
+seven_spelled : (xs : List ℕ) → length xs ≡ 7 → All (λ slot. slot < 8) xs → IsSpelled slots xs
+unfolding slots
+seven_spelled (a ∷ b ∷ c ∷ d ∷ e ∷ f ∷ g ∷ []) count all = record {
+  values = a ∷ b ∷ c ∷ d ∷ e ∷ f ∷ g ∷ [];
+  spells = (at 0 a refl, (at 1 b refl, (at 2 c refl, (at 3 d refl, (at 4 e refl, (at 5 f refl, (at 6 g refl, refl)))))));
+}
+  where
+    at : (k v : ℕ) → v ≡ get_or (a ∷ b ∷ c ∷ d ∷ e ∷ f ∷ g ∷ []) k 0 → IsAdmitted (byte_from 0 7) v
+    at k v is = elim (cases_lt k 7) [ inl lt ↦ slot_admitted v (subst (λ (x : ℕ). x < 8) (sym is) (all k 0 lt)) | inr le ↦ slot_admitted v (omega (arith, is, get_or_past (a ∷ b ∷ c ∷ d ∷ e ∷ f ∷ g ∷ []) k 0 le)) ]
+seven_spelled [] count all = absurd (omega (arith, count))
+seven_spelled (a ∷ []) count all = absurd (omega (arith, count))
+seven_spelled (a ∷ b ∷ []) count all = absurd (omega (arith, count))
+seven_spelled (a ∷ b ∷ c ∷ []) count all = absurd (omega (arith, count))
+seven_spelled (a ∷ b ∷ c ∷ d ∷ []) count all = absurd (omega (arith, count))
+seven_spelled (a ∷ b ∷ c ∷ d ∷ e ∷ []) count all = absurd (omega (arith, count))
+seven_spelled (a ∷ b ∷ c ∷ d ∷ e ∷ f ∷ []) count all = absurd (omega (arith, count))
+seven_spelled (a ∷ b ∷ c ∷ d ∷ e ∷ f ∷ g ∷ h ∷ xs) count all = absurd (omega (arith, count))
+
+-- the byte of a choice
+abbrev choice : Bool → ℕ
+choice b = if b then 1 else 0
+
+choice_small : (b : Bool) → choice b ≤ 1
+choice_small true = omega arith
+choice_small false = omega arith
+
+abbrev Same : Header → Header → Type 0
+Same g h = g ≡ h
+
+version_spelled : (n : ℕ) → 1 ≤ n → n ≤ 2 → IsSpelled version n
+version_spelled zero least most = absurd (omega (arith, least))
+version_spelled (suc zero) least most = record { values = first_letters.field ∷ []; spells = first_letters.spells }
+version_spelled (suc (suc zero)) least most = record { values = second_letters.field ∷ []; spells = second_letters.spells }
+version_spelled (suc (suc (suc n))) least most = absurd (omega (arith, most))
+
+frame_spelled : (version width height depth sampling : ℕ) (filter : FilterMode) (edge_filter : Bool) (xs : List ℕ) (mask : ℕ)
+    → IsReadFrame (record { version = version; width = width; height = height; depth = depth; sampling = sampling; filter = filter; edge_filter = edge_filter; slots = xs; mask = mask })
+    → IsSpelled (frame version) (record { version = version; width = width; height = height; depth = depth; sampling = sampling; filter = filter; edge_filter = edge_filter; slots = xs; mask = mask })
+unfolding frame
+frame_spelled version width height depth sampling filter edge_filter xs mask is =
+    let h : Header = record { version = version; width = width; height = height; depth = depth; sampling = sampling; filter = filter; edge_filter = edge_filter; slots = xs; mask = mask } in
+    let number = filter_number filter in
+    let end : IsSpelled (done (record { version = version; width = width; height = height; depth = depth; sampling = sampling; filter = filter_of number; edge_filter = choice edge_filter == 1; slots = xs; mask = mask })) h =
+    subst (λ (g : Header). IsSpelled (done g) h) (made filter edge_filter) (done_spelled h) in
+    let s9 = asks_spelled (any one) _ mask h (record { fits = is.mask; admitted = refl }) end in
+    let s8 = bind_spelled slots _ xs h (seven_spelled xs is.slots.count is.slots.range) s9 in
+    let s7 = asks_spelled (byte_from 0 1) _ (choice edge_filter) h (byte_admitted 0 1 (choice edge_filter) (lit< tt) (zero_le _) (choice_small edge_filter)) s8 in
+    let s6 = asks_spelled (byte_from 0 3) _ number h (byte_admitted 0 3 number (lit< tt) (zero_le number) (below_four number is.filter)) s7 in
+    let s5 = asks_spelled (byte_from 0 2) _ sampling h (byte_admitted 0 2 sampling (lit< tt) (zero_le _) is.sampling) s6 in
+    let s4 = asks_spelled (where_ one is_depth) _ depth h (depth_admitted depth is.depth) s5 in
+    let s3 = asks_spelled (where_ two is_side) _ height h (side_admitted height is.height) s4 in
+    asks_spelled (where_ two is_side) _ width h (side_admitted width is.width) s3
+  where
+    made : (f : FilterMode) (b : Bool)
+        → Same (record { version = version; width = width; height = height; depth = depth; sampling = sampling; filter = f; edge_filter = b; slots = xs; mask = mask })
+        (record { version = version; width = width; height = height; depth = depth; sampling = sampling; filter = filter_of (filter_number f); edge_filter = choice b == 1; slots = xs; mask = mask })
+    made f true = ap (λ (g : FilterMode). let h : Header = record { version = version; width = width; height = height; depth = depth; sampling = sampling; filter = g; edge_filter = true; slots = xs; mask = mask } in h) (sym (filter_back f))
+    made f false = ap (λ (g : FilterMode). let h : Header = record { version = version; width = width; height = height; depth = depth; sampling = sampling; filter = g; edge_filter = false; slots = xs; mask = mask } in h) (sym (filter_back f))
+
+header_spelled : (h : Header) → IsReadFrame h → IsSpelled header h
+unfolding header
+header_spelled h is =
+    bind_spelled version frame h.version h (version_spelled h.version is.least_version is.most_version)
+    (frame_spelled h.version h.width h.height h.depth h.sampling h.filter h.edge_filter h.slots h.mask is)
+
+-- ---- reference samples
+
+sample_spelled : (depth v : ℕ) → (depth ≡ 8) ⊎ (depth ≡ 10) ⊎ (depth ≡ 12) → v < 2 ^ depth → IsSpelled (field (sample depth)) v
+sample_spelled depth v (inl e) lt =
+    subst (λ (d : ℕ). IsSpelled (field (sample d)) v) (sym e) (record { values = v ∷ []; spells = (record { fits = subst (λ (d : ℕ). v < 2 ^ d) e lt; admitted = refl }, refl) })
+sample_spelled depth v (inr (inl e)) lt =
+    let low : v < 2 ^ 10 = subst (λ (d : ℕ). v < 2 ^ d) e lt in
+    subst (λ (d : ℕ). IsSpelled (field (sample d)) v) (sym e) (record { values = v ∷ []; spells = (record { fits = omega (arith, low); admitted = lt-ltb v (2 ^ 10) low }, refl) })
+sample_spelled depth v (inr (inr e)) lt =
+    let low : v < 2 ^ 12 = subst (λ (d : ℕ). v < 2 ^ d) e lt in
+    subst (λ (d : ℕ). IsSpelled (field (sample d)) v) (sym e) (record { values = v ∷ []; spells = (record { fits = omega (arith, low); admitted = lt-ltb v (2 ^ 12) low }, refl) })
+
+plane_spelled : (h : Header) (p : ℕ) (xs : List ℕ) → (h.depth ≡ 8) ⊎ (h.depth ≡ 10) ⊎ (h.depth ≡ 12) → ArePlane h p xs → IsSpelled (plane h.depth (plane_len h p)) xs
+unfolding plane
+plane_spelled h p xs depth are =
+    subst (λ (n : ℕ). IsSpelled (in_turn (λ _. lone (field (sample h.depth))) 0 n) xs) are.count
+    (turns_spelled (λ _. field (sample h.depth)) 0 xs (λ k d lt. sample_spelled h.depth (get_or xs k d) depth (are.range k d lt)))
+
+planes_spelled : (h : Header) (planes : Planes) → (h.depth ≡ 8) ⊎ (h.depth ≡ 10) ⊎ (h.depth ≡ 12) → ArePlane h 0 planes.y.items × ArePlane h 1 planes.u.items × ArePlane h 2 planes.v.items → IsSpelled (reference h) (planes_value planes)
+unfolding reference
+planes_spelled h planes depth are =
+    let (y, u, v) = are in
+    let three = planes_value planes in
+    bind_spelled (plane h.depth (plane_len h 0)) _ planes.y.items three (plane_spelled h 0 planes.y.items depth y)
+    (bind_spelled (plane h.depth (plane_len h 1)) _ planes.u.items three (plane_spelled h 1 planes.u.items depth u)
+    (bind_spelled (plane h.depth (plane_len h 2)) _ planes.v.items three (plane_spelled h 2 planes.v.items depth v) (done_spelled three)))
+
+slot_spelled : (h : Header) (slot : ℕ) (o : Option Planes) → (h.depth ≡ 8) ⊎ (h.depth ≡ 10) ⊎ (h.depth ≡ 12) → IsStoredSlot h slot o → IsSpelled (slot_planes h slot) (slot_value o)
+unfolding slot_planes
+slot_spelled h slot (Some planes) depth is =
+    let whole : IsSpelled (reference h >>= λ planes. done (Some planes)) (Some (planes_value planes)) =
+    bind_spelled (reference h) (λ planes. done (Some planes)) (planes_value planes) (Some (planes_value planes)) (planes_spelled h planes depth (is.1, is.2, is.3)) (done_spelled (Some (planes_value planes))) in
+    subst (λ (b : Bool). IsSpelled (if b then (reference h >>= λ planes. done (Some planes)) else done None) (Some (planes_value planes))) (sym is.0) whole
+slot_spelled h slot None depth is = subst (λ (b : Bool). IsSpelled (if b then (reference h >>= λ planes. done (Some planes)) else done None) None) (sym is) (done_spelled None)
+
+slots_spelled : (h : Header) (stored : List (Option Planes)) → (h.depth ≡ 8) ⊎ (h.depth ≡ 10) ⊎ (h.depth ≡ 12) → length stored ≡ 8 → AreStoredSlots h stored 8 → IsSpelled (references h) (slot_values stored)
+unfolding references
+slots_spelled h stored depth eight are =
+    subst (λ (n : ℕ). IsSpelled (in_turn (λ slot. lone (slot_planes h slot)) 0 n) (slot_values stored)) (length-map stored slot_value ∙ eight)
+    (turns_spelled (slot_planes h) 0 (slot_values stored) each)
+  where
+    each : (k : ℕ) (d : Option (List (List ℕ))) → k < length (slot_values stored) → IsSpelled (slot_planes h (0 + k)) (get_or (slot_values stored) k d)
+    each k d lt =
+        let within : k < length stored = omega (arith, lt, length-map stored slot_value) in
+        let s = slot_spelled h k (slice_index_or stored k None) depth (are k (omega (arith, within, eight))) in
+        let at : get_or (slot_values stored) k d ≡ slot_value (slice_index_or stored k None) = get_or-map slot_value stored k None d within in
+        subst (λ (j : ℕ). IsSpelled (slot_planes h j) (get_or (slot_values stored) k d)) (omega arith) (subst (IsSpelled (slot_planes h k)) (sym at) s)
+
+pub stored_present : (h : Header) (stored : List (Option Planes)) (n : ℕ) → AreStoredSlots h stored n → ArePresent h stored n
+stored_present h stored n are s lt = present (slice_index_or stored s None) (are s lt)
+  where
+    present : (o : Option Planes) → IsStoredSlot h s o → is_some o ≡ has_slot h s
+    present (Some planes) is = sym is.0
+    present None is = sym is
+
+-- ---- the whole
+
+pub plan_spelled : (h : Header) (stored : List (Option Planes)) (p : PlanValue) → IsReadFrame h → length stored ≡ 8 → AreStoredSlots h stored 8 → IsSpelled (plan_behind h (slot_values stored)) p → IsSpelled plan p
+unfolding plan plan_behind
+plan_spelled h stored p is eight are behind =
+    bind_spelled header _ h p (header_spelled h is)
+    (bind_spelled (references h) _ (slot_values stored) p (slots_spelled h stored is.depth eight are) behind)
+
+pieces_bytes : (head samples part vb wb ub : List ℕ) → head ≡ vb → samples ≡ wb → part ≡ ub → head ++ samples ++ part ≡ vb ++ (wb ++ ub)
+pieces_bytes head samples part vb wb ub v w u = rw (v, w, u) (append_assoc vb wb ub)
+
+pub pieces_are_plan : PiecesArePlan
+unfolding plan plan_behind
+pieces_are_plan head samples part h stored p (vs, s, v) (ws, t, w) (us, u, b) =
+    let rest : (h : Header) → List (Option (List (List ℕ))) → Format PlanValue = λ h stored. superblocks h >>= λ leaves. done (record { header = h; references = stored; leaves = leaves }) in
+    let (behind_spells, behind_bytes) = joined (references h) (rest h) stored p ws us t u in
+    let (whole_spells, whole_bytes) = joined header (λ h. references h >>= rest h) h p vs (ws ++ us) s behind_spells in
+    (vs ++ (ws ++ us), whole_spells, pieces_bytes head samples part _ _ _ v w b ∙ ap (λ (bytes : List ℕ). text header vs ++ bytes) (sym behind_bytes) ∙ sym whole_bytes)

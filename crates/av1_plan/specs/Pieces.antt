@@ -1,0 +1,12 @@
+-- A plan whose leaves are kept apart from what stands before them.
+use Rattle.std.specs.Prelude.{ℕ, List, ◌++◌, Option}
+use Rattle.av1_plan.specs.declared.header.Header.{Header}
+use Rattle.av1_plan.specs.Grammar.{header, references, plan, plan_behind}
+use Rattle.av1_plan.specs.Plan.{PlanValue}
+use Rattle.av1_plan.specs.Spelling.{AreText}
+
+-- The bytes of a header, those of its references and those of the leaves behind them are, one after the other, the bytes of the plan.
+abbrev pub PiecesArePlan : Type 0
+PiecesArePlan =
+    (head samples part : List ℕ) (h : Header) (stored : List (Option (List (List ℕ)))) (p : PlanValue)
+    → AreText header head h → AreText (references h) samples stored → AreText (plan_behind h stored) part p → AreText plan (head ++ samples ++ part) p
