@@ -1,0 +1,8 @@
+pub mod Parts
+pub mod Starts
+pub mod Rectangles
+pub mod Slots
+pub mod ReadFronts
+pub mod Isolation
+pub mod Copied
+pub mod Placing

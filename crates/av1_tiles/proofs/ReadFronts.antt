@@ -1,0 +1,59 @@
+-- What holds of what stands before the parts, where it was read.
+use Rattle.std.proofs.Common.{◌≡◌, ℕ, ◌-◌, ◌*◌, ◌≤◌, length, Ok, subst, arith, lit≤}
+use Rattle.std.specs.Prelude.{vec_len}
+use Rattle.av1_plan.specs.Format.{four, Input, read}
+use Rattle.av1_plan.specs.Grammar.{where_, frame, references}
+use Rattle.av1_plan.specs.Spelling.{IsSpelled}
+use Rattle.av1_plan.proofs.Fields.{AreBytes}
+use Rattle.av1_plan.proofs.Pieces.{spelled_done, spelled_asks, spelled_bind}
+use Rattle.av1_plan.proofs.ReadFrames.{frame_is}
+use Rattle.av1_plan.proofs.ReadReferences.{stored_are}
+use Rattle.av1_plan.proofs.Spelled.{read_spells}
+use Rattle.av1_tiles.specs.declared.file.Front.{Front}
+use Rattle.av1_tiles.specs.Bounds.{IsReadFront}
+use Rattle.av1_tiles.specs.File.{front_value}
+use Rattle.av1_tiles.specs.Grammar.{is_magic, bounds, FrontValue, front}
+use Rattle.av1_tiles.proofs.Starts.{bounds_are}
+
+record HasPieces (v : FrontValue) : Type 0 where
+  header : IsSpelled (frame 2) v.header
+  references : IsSpelled (references v.header) v.references
+  columns : IsSpelled (bounds v.header.width) v.columns
+  rows : IsSpelled (bounds v.header.height) v.rows
+
+pieces : (v : FrontValue) → IsSpelled front v → HasPieces v
+unfolding front
+pieces v s =
+    let (letters, _, s1) = spelled_asks (where_ four is_magic) _ v s in
+    let (h, h_spelled, s2) = spelled_bind (frame 2) _ v s1 in
+    let (slots, slots_spelled, s3) = spelled_bind (references h) _ v s2 in
+    let (columns, columns_spelled, s4) = spelled_bind (bounds h.width) _ v s3 in
+    let (rows, rows_spelled, s5) = spelled_bind (bounds h.height) _ v s4 in
+    let whole : HasPieces (record { header = h; references = slots; columns = columns; rows = rows }) = record { header = h_spelled; references = slots_spelled; columns = columns_spelled; rows = rows_spelled } in
+    subst HasPieces (spelled_done _ v s5) whole
+
+front_is : (f : Front) → length f.references.items ≡ 8 → IsSpelled front (front_value f) → IsReadFront f
+front_is f eight s =
+    let p = pieces (front_value f) s in
+    let is = frame_is 2 f.header (lit≤ tt) (lit≤ tt) p.header in
+    record {
+      frame = is;
+      eight = eight;
+      slots = stored_are f.header f.references.items eight p.references;
+      columns = bounds_are f.header.width f.columns.items (omega (arith, is.width.least)) p.columns;
+      rows = bounds_are f.header.height f.rows.items (omega (arith, is.height.least)) p.rows;
+    }
+
+pub read_front : (f : Front) (i j : Input) → AreBytes i.rest → vec_len f.references ≡ 8 → read front i ≡ Ok (front_value f, j) → IsReadFront f
+read_front f i j fits eight e =
+    let s = read_spells front i (front_value f) j fits e in
+    front_is f (omega (arith, eight)) (record { values = s.0; spells = s.1 })
+
+pub count_is : (n a b c d : ℕ) → n ≡ (a - 1) * (b - 1) → a ≡ c → b ≡ d → n ≡ (c - 1) * (d - 1)
+count_is n a b c d n_is a_is b_is = rw (← a_is, ← b_is) n_is
+
+pub few_tiles : (a b : ℕ) → a ≤ 33 → b ≤ 33 → (a - 1) * (b - 1) ≤ 1024
+few_tiles a b la lb = omega (arith, first (a - 1) (b - 1) (omega (arith, la)), lb)
+  where
+    first : (a b : ℕ) → a ≤ 32 → a * b ≤ 32 * b
+    first a b le = grind arith

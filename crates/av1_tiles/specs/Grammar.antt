@@ -1,0 +1,72 @@
+-- The format of a grid of tiles: the frame as a plan has it, where the columns and rows of tiles begin, and a part for each tile in raster
+-- order. Numbers are little-endian.
+use Rattle.std.specs.Prelude.{codes, zero, suc, ◌+◌, ◌*◌, ◌-◌, ◌%◌, ◌&&◌, nat_lt, nat_le, ℕ, Bool, ◌==◌, if◌then◌else◌, List, [], ◌∷◌, ◌++◌, length, take, drop, Option, Ok, Err}
+use Rattle.std.specs.Int.{w32, from_le_bytes}
+use Rattle.av1_plan.specs.Format.{two, four, Kind, Format, done, ◌>>=◌, field, any, Input, Reading, on_ok, read_field, read, start, ended}
+use Rattle.av1_plan.specs.Grammar.{where_, byte_from, frame, references}
+use Rattle.av1_plan.specs.declared.header.Header.{Header}
+
+-- ---- what stands before the parts
+
+-- the four letters at the front
+abbrev pub is_magic : ℕ → Bool
+is_magic v = v == from_le_bytes w32 (codes "RTL1")
+
+-- the start of a column or row of tiles: a multiple of 64 behind the start before it, and in the frame
+abbrev pub start_after : (side previous : ℕ) → Kind
+start_after side previous = where_ two (λ v. v % 64 == 0 && nat_lt previous v && nat_lt v side)
+
+-- so many starts behind the one before, and then the side of the frame
+unfoldable pub starts : (side previous count : ℕ) → Format (List ℕ)
+starts side previous zero = done (side ∷ [])
+starts side previous (suc count) = do
+  next ← field (start_after side previous)
+  more ← starts side next count
+  done (next ∷ [] ++ more)
+
+-- where the columns or rows of tiles begin, and where the last one ends: the first begins at 0 and isn't written
+unfoldable pub bounds : (side : ℕ) → Format (List ℕ)
+bounds side = do
+  count ← field (byte_from 1 32)
+  more ← starts side 0 (count - 1)
+  done (0 ∷ [] ++ more)
+
+-- what stands before the parts of the tiles: the frame, its references for each slot, and the bounds of the columns and rows of tiles
+pub record FrontValue : Type 0 where
+  pub header : Header
+  pub references : List (Option (List (List ℕ)))
+  pub columns : List ℕ
+  pub rows : List ℕ
+
+unfoldable pub front : Format FrontValue
+front = do
+  letters ← field (where_ four is_magic)
+  header ← frame 2
+  references ← references header
+  columns ← bounds header.width
+  rows ← bounds header.height
+  done (record { header = header; references = references; columns = columns; rows = rows })
+
+-- how many tiles lie between so many bounds
+abbrev pub count_tiles : FrontValue → ℕ
+count_tiles f = (length f.columns - 1) * (length f.rows - 1)
+
+-- ---- the parts
+
+-- a grid of tiles: what stands before the parts, and the bytes of each part
+pub record FileValue : Type 0 where
+  pub front : FrontValue
+  pub parts : List (List ℕ)
+
+-- the part of a tile: its length, and so many bytes, which are one field
+unfoldable pub read_part : Input → Reading (List ℕ × Input)
+read_part i = on_ok (read_field (any four) i) (λ p. if nat_le p.0 (length p.1.rest) then Ok (take p.0 p.1.rest, record { at = p.1.at + p.0; rest = drop p.0 p.1.rest }) else Err p.1.at)
+
+-- the parts of so many tiles, behind those that were read before
+unfoldable pub read_parts : ℕ → List (List ℕ) × Input → Reading (List (List ℕ) × Input)
+read_parts zero s = Ok s
+read_parts (suc count) s = on_ok (read_part s.1) (λ p. read_parts count (s.0 ++ p.0 ∷ [], p.1))
+
+-- the grid of tiles that all of the bytes are, or the place of the first field that is cut, not admitted or left over
+unfoldable pub read_file : List ℕ → Reading FileValue
+read_file bytes = on_ok (read front (start bytes)) (λ f. on_ok (read_parts (count_tiles f.0) ([], f.1)) (λ p. ended (record { front = f.0; parts = p.0 }, p.1)))

@@ -1,0 +1,59 @@
+-- The frame that its tiles come to.
+use Rattle.std.specs.Prelude.{◌≡◌, ℕ, ◌+◌, ◌<◌}
+use Rattle.av1_frame.specs.Areas.{VisibleArea}
+use Rattle.av1_plan.specs.declared.header.Header.{Header}
+use Rattle.av1_plan.specs.Geometry.{plane_width, plane_height}
+use Rattle.av1_plan.specs.Plan.{PlanValue}
+use Rattle.av1_tile.specs.Canvas.{Component}
+use Rattle.av1_tile.specs.PlaneBlocks.{number}
+use Rattle.av1_tile.specs.Edge.{sample_of}
+use Rattle.av1_tile.specs.Reference.{slow_walk}
+use Rattle.av1_tile.specs.declared.planes.Planes.{Planes}
+use Rattle.av1_tile.specs.Walk.{IsPlaneOf}
+use Rattle.av1_tiles.specs.declared.area.TileArea.{TileArea}
+use Rattle.av1_tiles.specs.Grammar.{FrontValue, FileValue, count_tiles}
+use Rattle.av1_tiles.specs.Tiles.{tile_area, tile_header, corner_column, corner_row}
+use Rattle.av1_tiles.specs.Validity.{AreTiles}
+
+-- the rectangle of a plane from column x of row y on that has the sides of plane p of a frame
+abbrev pub placed : Header → (p x y : ℕ) → VisibleArea
+placed h p x y = record { x = x; y = y; width = plane_width h p; height = plane_height h p }
+
+-- a tile's rectangle of plane p of its frame
+abbrev pub tile_rectangle : Header → TileArea → (p : ℕ) → VisibleArea
+tile_rectangle h a p = placed (tile_header h a) p (corner_column h a p) (corner_row h a p)
+
+-- the planes of a frame
+pub record AreFrame {T : Type 0} (h : Header) (planes : Planes T) : Type 0 where
+  pub y : IsPlaneOf h 0 planes.y
+  pub u : IsPlaneOf h 1 planes.u
+  pub v : IsPlaneOf h 2 planes.v
+
+-- the sides of tile i in plane p
+abbrev pub tile_columns : FrontValue → (i p : ℕ) → ℕ
+tile_columns f i p = plane_width (tile_header f.header (tile_area f i)) p
+
+abbrev pub tile_rows : FrontValue → (i p : ℕ) → ℕ
+tile_rows f i p = plane_height (tile_header f.header (tile_area f i)) p
+
+-- at the samples of tile i the frame is what the tile's plan comes to, counted from the tile's corner in each plane
+abbrev pub ShowsTile : FrontValue → (i : ℕ) → PlanValue → (Component → ℕ → ℕ → ℕ) → Type 0
+ShowsTile f i plan frame =
+    (component : Component) (x y : ℕ) → x < tile_columns f i (number component) → y < tile_rows f i (number component)
+    → frame component (corner_column f.header (tile_area f i) (number component) + x) (corner_row f.header (tile_area f i) (number component) + y) ≡ sample_of (slow_walk plan component x y)
+
+-- the joined planes: each sample is that of its tile's plan, less the tile's corner
+abbrev pub IsJoined : FileValue → (ℕ → PlanValue) → (Component → ℕ → ℕ → ℕ) → Type 0
+IsJoined f plans frame = (i : ℕ) → i < count_tiles f.front → ShowsTile f.front i (plans i) frame
+
+-- Isolation: where tile i of two grids has the same plan and the same corners, their joined planes agree at each sample of it.
+abbrev pub TilesAreIsolated : Type 0
+TilesAreIsolated =
+    (f g : FileValue) (plans_f plans_g : ℕ → PlanValue) (frame_f frame_g : Component → ℕ → ℕ → ℕ) (i : ℕ)
+    → AreTiles f plans_f → AreTiles g plans_g → IsJoined f plans_f frame_f → IsJoined g plans_g frame_g → i < count_tiles f.front → i < count_tiles g.front → plans_f i ≡ plans_g i
+    → ((component : Component) → corner_column f.front.header (tile_area f.front i) (number component) ≡ corner_column g.front.header (tile_area g.front i) (number component))
+    → ((component : Component) → corner_row f.front.header (tile_area f.front i) (number component) ≡ corner_row g.front.header (tile_area g.front i) (number component))
+    → (component : Component) (x y : ℕ) → x < tile_columns f.front i (number component) → y < tile_rows f.front i (number component)
+    → let column = corner_column f.front.header (tile_area f.front i) (number component) + x in
+    let row = corner_row f.front.header (tile_area f.front i) (number component) + y in
+    frame_f component column row ≡ frame_g component column row

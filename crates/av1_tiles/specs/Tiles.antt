@@ -1,0 +1,70 @@
+-- The plan of each tile: the tile's sides, its rectangle of each reference plane, and the leaves that its part spells.
+use Rattle.std.specs.Prelude.{ℕ, ◌+◌, ◌*◌, ◌-◌, ◌/◌, ◌%◌, ◌^◌, ◌≤◌, List, [], ◌∷◌, length, take, drop, map, Option, option_map, slice_index, slice_index_or}
+use Rattle.std.specs.List.{flat_map, range_with_len}
+use Rattle.av1_plan.specs.declared.header.Header.{Header}
+use Rattle.av1_plan.specs.Format.{Format}
+use Rattle.av1_plan.specs.Geometry.{xdec, ydec, plane_width, plane_height}
+use Rattle.av1_plan.specs.Grammar.{plan_behind}
+use Rattle.av1_plan.specs.Plan.{PlanValue}
+use Rattle.av1_plan.specs.ReadPlans.{IsSide}
+use Rattle.av1_tiles.specs.declared.area.TileArea.{TileArea}
+use Rattle.av1_tiles.specs.Grammar.{FrontValue, FileValue}
+
+-- how many tiles stand side by side
+abbrev pub across : FrontValue → ℕ
+across f = length f.columns - 1
+
+-- the rectangle between the bounds from column k and row r on
+abbrev pub area_between : (columns rows : List ℕ) → (k r : ℕ) → TileArea
+area_between columns rows k r = record {
+  x = slice_index columns k;
+  y = slice_index rows r;
+  width = slice_index columns (k + 1) - slice_index columns k;
+  height = slice_index rows (r + 1) - slice_index rows r;
+}
+
+-- tile i's rectangle of the frame, the tiles counted in raster order
+unfoldable pub tile_area : FrontValue → ℕ → TileArea
+tile_area f i = area_between f.columns f.rows (i % across f) (i / across f)
+
+-- a rectangle of the frame whose sides are those of a frame
+pub record IsTileArea (h : Header) (a : TileArea) : Type 0 where
+  pub columns : a.x + a.width ≤ h.width
+  pub rows : a.y + a.height ≤ h.height
+  pub width : IsSide a.width
+  pub height : IsSide a.height
+
+-- a tile as a frame of its own
+abbrev pub tile_header : Header → TileArea → Header
+tile_header h a = record { version = h.version; width = a.width; height = a.height; depth = h.depth; sampling = h.sampling; filter = h.filter; edge_filter = h.edge_filter; slots = h.slots; mask = h.mask }
+
+-- the column and the row of plane p at which a rectangle of luma begins
+abbrev pub corner_column : Header → TileArea → ℕ → ℕ
+corner_column h a p = a.x / 2 ^ xdec h p
+
+abbrev pub corner_row : Header → TileArea → ℕ → ℕ
+corner_row h a p = a.y / 2 ^ ydec h p
+
+-- the samples of a rectangle, row by row, out of those of a plane that has rows of `stride` samples
+unfoldable pub rectangle : (stride x y width height : ℕ) → List ℕ → List ℕ
+rectangle stride x y width height samples = flat_map (λ row. take width (drop ((y + row) * stride + x) samples)) (range_with_len 0 height)
+
+-- a tile's rectangle of plane p of a reference
+unfoldable pub tile_plane : Header → TileArea → ℕ → List ℕ → List ℕ
+tile_plane h a p samples = rectangle (plane_width h p) (corner_column h a p) (corner_row h a p) (plane_width (tile_header h a) p) (plane_height (tile_header h a) p) samples
+
+-- and of its three planes
+abbrev pub tile_planes : Header → TileArea → List (List ℕ) → List (List ℕ)
+tile_planes h a planes = tile_plane h a 0 (slice_index_or planes 0 []) ∷ tile_plane h a 1 (slice_index_or planes 1 []) ∷ tile_plane h a 2 (slice_index_or planes 2 []) ∷ []
+
+-- the references of a tile, for each slot
+abbrev pub tile_references : Header → TileArea → List (Option (List (List ℕ))) → List (Option (List (List ℕ)))
+tile_references h a references = map (option_map (tile_planes h a)) references
+
+-- what the part of tile i spells: a plan with the tile's header and references
+unfoldable pub tile_plan : FrontValue → ℕ → Format PlanValue
+tile_plan f i = plan_behind (tile_header f.header (tile_area f i)) (tile_references f.header (tile_area f i) f.references)
+
+-- the part of tile i
+abbrev pub part_of : FileValue → ℕ → List ℕ
+part_of f i = slice_index_or f.parts i []

@@ -1,0 +1,110 @@
+//! Reading a grid of tiles from bytes.
+
+ghost use Rattle.std.specs.Prelude.{◌≡◌, ◌≤◌, ◌^◌, length, map, [], IfOk, vec_len, All};
+ghost use Rattle.av1_plan.specs.Format.{four, read_field, read, start, on_ok};
+ghost use Rattle.av1_plan.specs.Grammar.{where_};
+ghost use Rattle.av1_plan.specs.Reading.{Gives, input, Fits, Moves};
+ghost use Rattle.av1_tiles.specs.Bounds.{IsReadFile};
+ghost use Rattle.av1_tiles.specs.File.{front_value, file_value};
+ghost use Rattle.av1_tiles.specs.Grammar.{is_magic, front, read_part, read_parts, read_file};
+
+use crate::bounds::bounds;
+use crate::file::{Front, TileFile};
+use av1_plan::{PlanError, Reader};
+use std::alloc::Global;
+
+/// The four letters at the front.
+#[tactic(auto, using(av1_plan::proofs::Narrow::narrow))]
+fn magic(reader: &mut Reader<'_>) -> Result<u32, PlanError>
+    requires { Fits reader.old }
+    ensures read { Gives (λ x. (x, input reader.new)) result (read_field (where_ four is_magic) (input reader.old)) }
+    ensures moves { Moves reader.old reader.new }
+{
+    let at = reader.at;
+    let value = reader.any_u32()?;
+    if value == u32::from_le_bytes(*b"RTL1") {
+        Ok(value)
+    } else {
+        Err(PlanError::Malformed { at })
+    }
+}
+
+/// What stands before the parts of the tiles.
+#[tactic(auto, using(av1_plan::proofs::Formats::read_bind), unfolding(crate::specs::Grammar::front))]
+fn front(alloc: Global, reader: &mut Reader<'_>) -> Result<Front, PlanError>
+    requires { Fits reader.old }
+    ensures read { Gives (λ x. (front_value x, input reader.new)) result (read front (input reader.old)) }
+    ensures eight { IfOk result (λ x. vec_len x.references ≡ 8) }
+    ensures moves { Moves reader.old reader.new }
+{
+    magic(reader)?;
+    let header = reader.frame(2)?;
+    let references = reader.references(alloc, &header)?;
+    let columns = bounds(alloc, reader, header.width)?;
+    let rows = bounds(alloc, reader, header.height)?;
+    Ok(Front {
+        header,
+        references,
+        columns,
+        rows,
+    })
+}
+
+/// The part of a tile: its length, and so many bytes.
+#[tactic(auto, unfolding(crate::specs::Grammar::read_part))]
+fn part<'a>(reader: &mut Reader<'a>) -> Result<&'a [u8], PlanError>
+    requires { Fits reader.old }
+    ensures read { Gives (λ x. (x.now, input reader.new)) result (read_part (input reader.old)) }
+    ensures short { IfOk result (λ x. length x.now ≤ 2 ^ 26) }
+    ensures moves { Moves reader.old reader.new }
+{
+    let len = reader.any_u32()? as usize;
+    let rest = reader.rest;
+    if rest.len() < len {
+        return Err(PlanError::Malformed { at: reader.at });
+    }
+    reader.rest = &rest[len..];
+    reader.at += len as u32;
+    Ok(&rest[..len])
+}
+
+/// The parts of so many tiles.
+#[tactic(auto, using(crate::proofs::Parts::turns))]
+fn parts<'a>(
+    alloc: Global,
+    reader: &mut Reader<'a>,
+    count: usize,
+) -> Result<Vec<&'a [u8]>, PlanError>
+    requires { Fits reader.old }
+    ensures read { Gives (λ x. (map (λ part. part.now) x.items, input reader.new)) result (read_parts count ([], input reader.old)) }
+    ensures count { IfOk result (λ x. vec_len x ≡ count) }
+    ensures short { IfOk result (λ x. All (λ part. length part.now ≤ 2 ^ 26) x.items) }
+    ensures moves { Moves reader.old reader.new }
+{
+    let mut parts = Vec::new(alloc);
+    for _ in 0..count {
+        let part = part(reader)?;
+        parts.push(part)?;
+    }
+    Ok(parts)
+}
+
+/// The grid of tiles that these bytes are, read from left to right.
+///
+/// # Errors
+///
+/// `Malformed` names the start of the first field that is cut, has a value that is not admitted after the fields before it, or is left over. A
+/// tile's part is one field. `Memory` where memory runs out.
+#[tactic(auto, unfolding(crate::specs::Grammar::read_file))]
+pub fn read_tiles(alloc: Global, bytes: &[u8]) -> Result<TileFile<'_>, PlanError>
+    requires { length bytes.now ≤ 2 ^ 26 }
+    ensures read { Gives (λ x. file_value x) result (read_file bytes.now) }
+    ensures file { IfOk result (λ x. IsReadFile x) }
+{
+    let mut reader = Reader { rest: bytes, at: 0 };
+    let front = front(alloc, &mut reader)?;
+    let count = (front.columns.len() - 1) * (front.rows.len() - 1);
+    let parts = parts(alloc, &mut reader, count)?;
+    reader.end()?;
+    Ok(TileFile { front, parts })
+}

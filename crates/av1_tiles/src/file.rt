@@ -1,0 +1,25 @@
+//! A grid of tiles in memory.
+
+use av1_plan::{Header, Planes};
+
+/// What stands before the parts of the tiles.
+#[derive(Drop)]
+pub struct Front {
+    /// The whole frame.
+    pub header: Header,
+    /// For each slot its planes, of the whole frame.
+    pub references: Vec<Option<Planes>>,
+    /// The columns of luma at which tiles begin, rising, the first 0, and behind them the frame's width.
+    pub columns: Vec<u16>,
+    /// The same of rows.
+    pub rows: Vec<u16>,
+}
+
+/// A grid of tiles that was read from bytes.
+#[derive(Drop)]
+pub struct TileFile<'a> {
+    /// What stands before the parts.
+    pub front: Front,
+    /// The parts of the tiles in raster order: each spells the leaves of its tile.
+    pub parts: Vec<&'a [u8]>,
+}
