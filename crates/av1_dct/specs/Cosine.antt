@@ -1,15 +1,11 @@
 -- The inverse cosine transform.
-use Rattle.std.specs.Prelude.{◌≡◌, ◌⊎◌, ℕ, zero, suc, ◌+◌, ◌-◌, ◌*◌, ◌^◌, ◌/◌, ◌%◌, ◌==◌, Bool, false, nat_lt, nat_le, ◌||◌, min, if◌then◌else◌, ℤ, pos, neg_ℤ, List, [], ◌∷◌, ◌++◌, map, take, drop}
+use Rattle.std.specs.Prelude.{◌≡◌, ℕ, zero, suc, ◌+◌, ◌-◌, ◌*◌, ◌^◌, ◌/◌, ◌%◌, ◌==◌, Bool, false, nat_lt, nat_le, ◌||◌, min, if◌then◌else◌, ℤ, pos, neg_ℤ, List, [], ◌∷◌, ◌++◌, map, take, drop}
 use Rattle.av1_lists.specs.Lists.{by_index}
 use Rattle.av1_dct.specs.Arithmetic.{at, clamp_value}
 use Rattle.av1_dct.specs.Operations.{Operations, wrapping, half_btf_with}
 
 -- The inverse DCT process of the AV1 specification, for 2^(k+1) values. A transform is made of butterfly rotations (a value and
 -- its mirror image are turned by an angle) and Hadamard rotations (they become their clamped sum and difference).
-
--- the numbers of values that there are transforms of
-abbrev pub IsLength : ℕ → Type 0
-IsLength n = (n ≡ 4) ⊎ ((n ≡ 8) ⊎ ((n ≡ 16) ⊎ ((n ≡ 32) ⊎ (n ≡ 64))))
 
 -- 4096 times the cosine of a * pi / 128, rounded, for a from 0 to 63
 abbrev pub cos128_lookup : List ℤ

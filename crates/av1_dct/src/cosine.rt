@@ -3,7 +3,8 @@ ghost use Rattle.std.specs.List.{All};
 ghost use Rattle.av1_dct.specs.Arithmetic.{at, AllFit, FitsBits};
 ghost use Rattle.av1_dct.specs.Word.{column};
 ghost use Rattle.av1_dct.specs.InPlace.{joined, network};
-ghost use Rattle.av1_dct.specs.Cosine.{brev, cosine, IsLength};
+ghost use Rattle.av1_blocks.specs.Transforms.{IsTransformSide};
+ghost use Rattle.av1_dct.specs.Cosine.{brev, cosine};
 ghost use Rattle.av1_lists.specs.Lists.{by_index};
 
 use crate::steps::{sum_mirrored, turn_outer, turn_rounds};
@@ -153,7 +154,7 @@ fn cosine_of<W: Word, const K: usize, const N: usize>(input: &[W], output: &mut 
 #[inline(always)]
 pub fn cosine_words<W: Word>(n: usize, input: &[W], _work: &mut [W], output: &mut [W], range: usize)
     requires range_in { (8 ≤ range) × (range ≤ 20) }
-    requires n_in { IsLength n }
+    requires n_in { IsTransformSide n }
     requires input_len { n ≤ length input.now }
     requires work_len { 4 * n ≤ length _work.old }
     requires output_len { n ≤ length output.old }

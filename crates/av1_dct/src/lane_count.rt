@@ -5,7 +5,8 @@ ghost use Rattle.std.specs.List.{All};
 ghost use Rattle.av1_dct.specs.Arithmetic.{FitsBits};
 ghost use Rattle.av1_lists.specs.Counts.{counted};
 ghost use Rattle.av1_dct.specs.Word.{column, lane_of_vector};
-ghost use Rattle.av1_dct.specs.Cosine.{cosine, IsLength};
+ghost use Rattle.av1_blocks.specs.Transforms.{IsTransformSide};
+ghost use Rattle.av1_dct.specs.Cosine.{cosine};
 
 use crate::cosine::cosine_words;
 use std::simd::prelude::*;
@@ -42,7 +43,7 @@ pub fn cosine_lanes(
     range: usize,
 )
     requires range_in { (8 ≤ range) × (range ≤ 20) }
-    requires n_in { IsLength n }
+    requires n_in { IsTransformSide n }
     requires input_len { n ≤ length input.now }
     requires work_len { 4 * n ≤ length work.old }
     requires output_len { n ≤ length output.old }

@@ -126,7 +126,8 @@ unfolding paint
 paint_empty stride a f s e =
     sym (update_is _ s s refl (λ k d l. sym (nothing_at a (k % stride) (k / stride) f (get_or s k d) e)))
 
-length-paint_row : {X : Type 0} (w : ℕ) (g : ℕ → X → X) (s : List X) → length (paint_row w g s) ≡ length s
+-- a row that is painted keeps its length
+pub length-paint_row : {X : Type 0} (w : ℕ) (g : ℕ → X → X) (s : List X) → length (paint_row w g s) ≡ length s
 unfolding paint_row
 length-paint_row w g s = length-update _ s
 

@@ -45,6 +45,20 @@ pub enum Area {
     },
 }
 
+/// The rectangle at column `x` of row `y` of a plane, as an area of it.
+pub fn visible_area(x: usize, y: usize, width: usize, height: usize) -> Area
+    requires x { x < 2 ^ 63 }
+    requires y { y < 2 ^ 63 }
+    ensures { result ≡ Area.Rect (pos x) (pos y) width height }
+{
+    Area::Rect {
+        x: x as isize,
+        y: y as isize,
+        width,
+        height,
+    }
+}
+
 /// A rectangle of storage: its columns and rows count from the first stored sample.
 #[derive(Clone, Copy, Debug, PartialEq, Eq)]
 pub struct StoredArea {

@@ -6,7 +6,7 @@ use Rattle.av1_blocks.specs.declared.predict.PredictionMode.{PredictionMode}
 use Rattle.av1_blocks.specs.declared.predict.PredictionMode.TheVariants.{DC_PRED, V_PRED, H_PRED, D45_PRED, D135_PRED, D113_PRED, D157_PRED, D203_PRED, D67_PRED, SMOOTH_PRED, SMOOTH_V_PRED, SMOOTH_H_PRED, PAETH_PRED, UV_CFL_PRED}
 use Rattle.av1_blocks.specs.declared.transform.TxSize.{TxSize}
 use Rattle.av1_blocks.specs.declared.transform.TxSize.TheVariants.{TX_4X4, TX_8X8, TX_16X16, TX_32X32, TX_64X64, TX_4X8, TX_8X4, TX_8X16, TX_16X8, TX_16X32, TX_32X16, TX_32X64, TX_64X32, TX_4X16, TX_16X4, TX_8X32, TX_32X8, TX_16X64, TX_64X16}
-use Rattle.av1_blocks.specs.Transforms.{tx_width, tx_height}
+use Rattle.av1_blocks.specs.Transforms.{IsTransformSide, tx_width, tx_height}
 use Rattle.av1_blocks.specs.Modes.{is_intra, is_directional, is_cfl}
 use Rattle.av1_blocks.specs.declared.predict.IntraParam.{IntraParam}
 use Rattle.av1_edges.specs.Parts.{effective, step_of}
@@ -14,7 +14,6 @@ use Rattle.av1_edges.specs.Edges.{Edge}
 use Rattle.av1_intra.specs.declared.directional.DirectionalBlock.{DirectionalBlock}
 use Rattle.av1_intra.specs.declared.variant.PredictionVariant.{PredictionVariant}
 use Rattle.av1_intra.specs.declared.variant.PredictionVariant.TheVariants.{NONE, LEFT, TOP, BOTH}
-use Rattle.av1_intra.specs.Sides.{IsBlockSide}
 use Rattle.av1_intra.specs.Angles.{is_interpolated, derivative}
 use Rattle.av1_intra.specs.Predicted.{edge_round, dc, along, smoothly, predicted, alpha_of, angle_or_alpha, is_angle_of, along_above, along_left, places_above, places_left}
 use Rattle.av1_intra.proofs.ModeAngles.{turned_fine}
@@ -24,16 +23,16 @@ pub dc_corner : {T : Type 0} (num : T → ℕ) (v : PredictionVariant) (depth w 
 dc_corner num v depth w h k left above =
     elim v as (λ v. dc v depth w h (edge_round num left 0 above) ≡ dc v depth w h (edge_round num left k above)) [ NONE ↦ refl | LEFT ↦ refl | TOP ↦ refl | BOTH ↦ refl ]
 
-pub side_small : (n : ℕ) → IsBlockSide n → n ≤ 64
+pub side_small : (n : ℕ) → IsTransformSide n → n ≤ 64
 side_small n (inl e) = omega arith
 side_small n (inr (inl e)) = omega arith
 side_small n (inr (inr (inl e))) = omega arith
 side_small n (inr (inr (inr (inl e)))) = omega arith
 side_small n (inr (inr (inr (inr e)))) = omega arith
 
-pub tx_width_side : (t : TxSize) → IsBlockSide (tx_width t)
+pub tx_width_side : (t : TxSize) → IsTransformSide (tx_width t)
 tx_width_side t =
-    elim t as (λ t. IsBlockSide (tx_width t)) [
+    elim t as (λ t. IsTransformSide (tx_width t)) [
       | TX_4X4 ↦ inl refl
       | TX_8X8 ↦ inr (inl refl)
       | TX_16X16 ↦ inr (inr (inl refl))
@@ -55,9 +54,9 @@ tx_width_side t =
       | TX_64X16 ↦ inr (inr (inr (inr refl)))
     ]
 
-pub tx_height_side : (t : TxSize) → IsBlockSide (tx_height t)
+pub tx_height_side : (t : TxSize) → IsTransformSide (tx_height t)
 tx_height_side t =
-    elim t as (λ t. IsBlockSide (tx_height t)) [
+    elim t as (λ t. IsTransformSide (tx_height t)) [
       | TX_4X4 ↦ inl refl
       | TX_8X8 ↦ inr (inl refl)
       | TX_16X16 ↦ inr (inr (inl refl))

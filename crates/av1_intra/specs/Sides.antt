@@ -1,5 +1,5 @@
 -- The samples round a block, as numbers.
-use Rattle.std.specs.Prelude.{◌≡◌, ℕ, ◌+◌, ◌-◌, List, map, slice_index, ◌⊎◌}
+use Rattle.std.specs.Prelude.{◌≡◌, ℕ, ◌+◌, ◌-◌, List, map, slice_index}
 
 -- a side of a block: the number of the sample at each place
 abbrev pub Side : Type 0
@@ -16,10 +16,6 @@ numbers num xs = entries (map num xs)
 -- the numbers of the first n samples from the last of them to the first: a left side from the top down, of samples that run from the bottom up
 abbrev pub from_top : {X : Type 0} → (X → ℕ) → ℕ → List X → Side
 from_top num n xs = λ r. numbers num xs (n - 1 - r)
-
--- the sides that a transform block can have
-abbrev pub IsBlockSide : ℕ → Type 0
-IsBlockSide n = (n ≡ 4) ⊎ ((n ≡ 8) ⊎ ((n ≡ 16) ⊎ ((n ≡ 32) ⊎ (n ≡ 64))))
 
 -- how far p is from q
 abbrev pub distance : ℕ → ℕ → ℕ

@@ -3,11 +3,11 @@
 //! AV1 specification: intra prediction process.
 
 ghost use Rattle.std.specs.Prelude.{◌≡◌, ◌≢◌, ℕ, ◌+◌, ◌-◌, ◌*◌, ◌%◌, ◌^◌, ◌<◌, ◌≤◌, ◌==◌, ◌&&◌, nat_le, nat_lt, if◌then◌else◌, length, min, drop, IsTrue, false, ℤ, pos, ◌-ℤ◌, ◌≤ℤ◌, unsigned_abs};
-ghost use Rattle.av1_blocks.specs.Transforms.{tx_width, tx_height};
+ghost use Rattle.av1_blocks.specs.Transforms.{IsTransformSide, tx_width, tx_height};
 ghost use Rattle.av1_blocks.specs.Modes.{is_intra, is_directional, is_cfl};
 ghost use Rattle.av1_frame.specs.Regions.{InStorage, painted};
 ghost use Rattle.av1_edges.specs.Parts.{effective, step_of};
-ghost use Rattle.av1_intra.specs.Sides.{numbers, IsBlockSide};
+ghost use Rattle.av1_intra.specs.Sides.{numbers};
 ghost use Rattle.av1_intra.specs.Angles.{is_interpolated};
 ghost use Rattle.av1_intra.specs.Directional.{block_at};
 ghost use Rattle.av1_intra.specs.ChromaFromLuma.{from_luma, ac_at};
@@ -167,8 +167,8 @@ fn predict_smooth<T: Pixel>(
     requires fits { InStorage dst.old }
     requires columns { width ≤ dst.old.area.width }
     requires rows { height ≤ dst.old.area.height }
-    requires width { IsBlockSide width }
-    requires height { IsBlockSide height }
+    requires width { IsTransformSide width }
+    requires height { IsTransformSide height }
     requires above_long { width ≤ length above.now }
     requires left_long { height ≤ length left.now }
     ensures painted { dst.new ≡ painted dst.old width height
@@ -203,8 +203,8 @@ fn predict_from_sides<T: Pixel>(
     requires fits { InStorage dst.old }
     requires columns { width ≤ dst.old.area.width }
     requires rows { height ≤ dst.old.area.height }
-    requires width { IsBlockSide width }
-    requires height { IsBlockSide height }
+    requires width { IsTransformSide width }
+    requires height { IsTransformSide height }
     requires angle { IsTrue (is_angle_of mode angle) }
     requires above_long { places_above mode variant (unsigned_abs angle) width height ≤ length above.now }
     requires left_long { places_left mode variant (unsigned_abs angle) width height ≤ length left.now }

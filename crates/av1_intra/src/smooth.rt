@@ -3,9 +3,10 @@
 //! AV1 specification: smooth intra prediction process.
 
 ghost use Rattle.std.specs.Prelude.{◌≡◌, ℕ, ◌+◌, ◌-◌, ◌*◌, ◌/◌, ◌^◌, ◌<◌, ◌≤◌, length, slice_index};
+ghost use Rattle.av1_blocks.specs.Transforms.{IsTransformSide};
 ghost use Rattle.av1_frame.specs.Samples.{paint_row};
 ghost use Rattle.av1_frame.specs.Regions.{InStorage, painted};
-ghost use Rattle.av1_intra.specs.Sides.{numbers, from_top, IsBlockSide};
+ghost use Rattle.av1_intra.specs.Sides.{numbers, from_top};
 ghost use Rattle.av1_intra.specs.Smooth.{weights, mix, smooth, smooth_v, smooth_h};
 
 use crate::samples::number_at;
@@ -33,7 +34,7 @@ const WEIGHTS_64: [u8; 64] = [
 /// The weights of the places of a side of `n` samples, in 256ths, from the first place on.
 #[tactic(auto, using(std::proofs::lemmas::Bool::Decides::nat_tests), unfolding(crate::specs::Smooth::weights))]
 fn smooth_weights(n: usize) -> &'static [u8]
-    requires { IsBlockSide n }
+    requires { IsTransformSide n }
     ensures value { result.now ≡ weights n }
     ensures len { length result.now ≡ n }
 {
@@ -147,8 +148,8 @@ pub fn pred_smooth<T: Pixel>(
     requires fits { InStorage output.old }
     requires columns { width ≤ output.old.area.width }
     requires rows { height ≤ output.old.area.height }
-    requires width { IsBlockSide width }
-    requires height { IsBlockSide height }
+    requires width { IsTransformSide width }
+    requires height { IsTransformSide height }
     requires above_long { width ≤ length above.now }
     requires left_long { height ≤ length left.now }
     ensures painted { output.new ≡ painted output.old width height
@@ -186,7 +187,7 @@ pub fn pred_smooth_h<T: Pixel>(
     requires fits { InStorage output.old }
     requires columns { width ≤ output.old.area.width }
     requires rows { height ≤ output.old.area.height }
-    requires width { IsBlockSide width }
+    requires width { IsTransformSide width }
     requires above_long { width ≤ length above.now }
     requires left_long { height ≤ length left.now }
     ensures painted { output.new ≡ painted output.old width height
@@ -216,7 +217,7 @@ pub fn pred_smooth_v<T: Pixel>(
     requires fits { InStorage output.old }
     requires columns { width ≤ output.old.area.width }
     requires rows { height ≤ output.old.area.height }
-    requires height { IsBlockSide height }
+    requires height { IsTransformSide height }
     requires above_long { width ≤ length above.now }
     requires left_long { height ≤ length left.now }
     ensures painted { output.new ≡ painted output.old width height

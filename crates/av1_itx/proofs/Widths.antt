@@ -3,11 +3,11 @@ use Rattle.std.proofs.Common.{ℕ, zero, suc, ◌≡◌, ◌-◌, ◌*◌, ◌^�
 use Rattle.std.proofs.lemmas.Bool.{cases_lt}
 use Rattle.std.proofs.lemmas.List.{take_all, get_or_past, get_or-reverse, length-reverse}
 use Rattle.av1_dct.specs.Arithmetic.{AllFit, FitsBits}
-use Rattle.av1_dct.specs.Cosine.{IsLength}
+use Rattle.av1_blocks.specs.Transforms.{IsTransformSide}
 use Rattle.av1_dct.proofs.Fits.{zero_fits}
 
 -- the lengths that there are cosine transforms of
-pub is_length : (k n : ℕ) → 1 ≤ k → k ≤ 5 → n ≡ 2 * 2 ^ k → IsLength n
+pub is_length : (k n : ℕ) → 1 ≤ k → k ≤ 5 → n ≡ 2 * 2 ^ k → IsTransformSide n
 is_length zero n low high e = absurd (omega arith)
 is_length (suc zero) n low high e = inl e
 is_length (suc (suc zero)) n low high e = inr (inl e)

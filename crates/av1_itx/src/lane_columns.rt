@@ -3,7 +3,8 @@
 ghost use Rattle.std.specs.Prelude.{◌≡◌, ℕ, ◌+◌, ◌-◌, ◌*◌, ◌/◌, ◌^◌, ◌<◌, ◌≤◌, nat_le, nat_lt, ◌&&◌, if◌then◌else◌, length};
 ghost use Rattle.av1_dct.specs.Arithmetic.{at, FitsBits};
 ghost use Rattle.av1_lists.specs.Counts.{raised};
-ghost use Rattle.av1_dct.specs.Cosine.{cosine, IsLength};
+ghost use Rattle.av1_blocks.specs.Transforms.{IsTransformSide};
+ghost use Rattle.av1_dct.specs.Cosine.{cosine};
 ghost use Rattle.av1_lists.specs.Lists.{by_index};
 ghost use Rattle.av1_dct.specs.Word.{column};
 ghost use Rattle.av1_itx.specs.Networks.{HasNetwork, network};
@@ -57,7 +58,7 @@ pub(crate) fn run_groups(
 )
     requires width { 8 * (w / 8) ≡ w }
     requires few { w ≤ 64 }
-    requires height { IsLength h }
+    requires height { IsTransformSide h }
     requires power { h ≡ 2 * 2 ^ k }
     requires buffer_len { length buffer.old ≡ h * w }
     requires line_len { 64 ≤ length line.old }

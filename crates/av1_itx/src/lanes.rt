@@ -1,10 +1,10 @@
 //! Room for rows and columns that are transformed side by side.
 
 ghost use Rattle.std.specs.Prelude.{◌≡◌, ℕ, ◌+◌, ◌*◌, ◌/◌, ◌^◌, ◌<◌, ◌≤◌, IfOk, length, vec_len};
-ghost use Rattle.av1_blocks.specs.Transforms.{tx_width, tx_height, coded, coded_area};
+ghost use Rattle.av1_blocks.specs.Transforms.{IsTransformSide, tx_width, tx_height, coded, coded_area};
 ghost use Rattle.av1_dct.specs.Arithmetic.{at, AllFit, FitsBits};
 ghost use Rattle.av1_lists.specs.Counts.{raised};
-ghost use Rattle.av1_dct.specs.Cosine.{cosine, IsLength};
+ghost use Rattle.av1_dct.specs.Cosine.{cosine};
 ghost use Rattle.av1_lists.specs.Lists.{by_index};
 ghost use Rattle.av1_itx.specs.Kinds.{row_kind};
 ghost use Rattle.av1_itx.specs.Networks.{HasNetwork, network};
@@ -134,7 +134,7 @@ impl Lanes {
     )
         requires width { 8 * (w / 8) ≡ w }
         requires few { w ≤ 64 }
-        requires height { IsLength h }
+        requires height { IsTransformSide h }
         requires power { h ≡ 2 * 2 ^ k }
         requires buffer_len { length buffer.old ≡ h * w }
         requires range_in { (8 ≤ range) × (range ≤ 20) }

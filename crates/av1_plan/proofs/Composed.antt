@@ -22,19 +22,19 @@ use Rattle.av1_plan.proofs.Versions.{first_letters, second_letters}
 
 -- ---- formats
 
-done_spelled : {A : Type 0} (x : A) → IsSpelled (done x) x
+pub done_spelled : {A : Type 0} (x : A) → IsSpelled (done x) x
 done_spelled x = record { values = []; spells = refl }
 
-bind_spelled : {A B : Type 0} (f : Format A) (g : A → Format B) (x : A) (y : B) → IsSpelled f x → IsSpelled (g x) y → IsSpelled (f >>= g) y
+pub bind_spelled : {A B : Type 0} (f : Format A) (g : A → Format B) (x : A) (y : B) → IsSpelled f x → IsSpelled (g x) y → IsSpelled (f >>= g) y
 bind_spelled f g x y s t = record { values = s.values ++ t.values; spells = (joined f g x y s.values t.values s.spells t.spells).0 }
 
-asks_spelled : {A : Type 0} (k : Kind) (next : ℕ → Format A) (v : ℕ) (y : A) → IsAdmitted k v → IsSpelled (next v) y → IsSpelled (asks k next) y
+pub asks_spelled : {A : Type 0} (k : Kind) (next : ℕ → Format A) (v : ℕ) (y : A) → IsAdmitted k v → IsSpelled (next v) y → IsSpelled (asks k next) y
 asks_spelled k next v y admitted t = record { values = v ∷ t.values; spells = (admitted, t.spells) }
 
-lone_spelled : {A : Type 0} (f : Format A) (x : A) → IsSpelled f x → IsSpelled (lone f) (x ∷ [])
+pub lone_spelled : {A : Type 0} (f : Format A) (x : A) → IsSpelled f x → IsSpelled (lone f) (x ∷ [])
 lone_spelled f x s = bind_spelled f (λ x. done (x ∷ [])) x (x ∷ []) s (done_spelled (x ∷ []))
 
-both_spelled : {A : Type 0} (f g : Format (List A)) (xs ys : List A) → IsSpelled f xs → IsSpelled g ys → IsSpelled (f ++> g) (xs ++ ys)
+pub both_spelled : {A : Type 0} (f g : Format (List A)) (xs ys : List A) → IsSpelled f xs → IsSpelled g ys → IsSpelled (f ++> g) (xs ++ ys)
 both_spelled f g xs ys s t = bind_spelled f (λ xs. g >>= λ ys. done (xs ++ ys)) xs (xs ++ ys) s (bind_spelled g (λ ys. done (xs ++ ys)) ys (xs ++ ys) t (done_spelled (xs ++ ys)))
 
 -- items in turn, one each

@@ -45,7 +45,8 @@ pub add_behind : {A : Type 0} (g : Format (List A)) (xs ys : List A) (i : Input)
 unfolding add
 add_behind g xs ys i = add_bind g (λ zs. done (ys ++ zs)) xs i ∙ regroup xs ys (read g i)
 
-on_ok_same : {A B : Type 0} (r : Reading A) (f g : A → Reading B) → ((x : A) → f x ≡ g x) → on_ok r f ≡ on_ok r g
+-- two ways to go on that answer alike
+pub on_ok_same : {A B : Type 0} (r : Reading A) (f g : A → Reading B) → ((x : A) → f x ≡ g x) → on_ok r f ≡ on_ok r g
 on_ok_same (Ok x) f g e = e x
 on_ok_same (Err at) f g e = refl
 
