@@ -15,6 +15,8 @@ unsafe extern "C" {
     fn measure_transform_16(i: *const i32, n: usize, s: *mut u32, m: usize, size: u8, kind: u8, depth: usize, rounds: usize) -> u32;
     fn measure_put_8(i: *const u8, n: usize, s: *mut u32, m: usize, w: usize, h: usize, c: i32, r: i32, mode: u8, depth: usize, rounds: usize) -> u32;
     fn measure_put_16(i: *const u16, n: usize, s: *mut u32, m: usize, w: usize, h: usize, c: i32, r: i32, mode: u8, depth: usize, rounds: usize) -> u32;
+    fn measure_average_8(a: *const i16, n: usize, b: *const i16, k: usize, s: *mut u32, m: usize, w: usize, h: usize, depth: usize, rounds: usize) -> u32;
+    fn measure_average_16(a: *const i16, n: usize, b: *const i16, k: usize, s: *mut u32, m: usize, w: usize, h: usize, depth: usize, rounds: usize) -> u32;
 }
 #[link(name = "libc_c", kind = "static")]
 unsafe extern "C" {}
@@ -45,6 +47,16 @@ fn rav1e_put<T: Pixel>(input: &[T], sums: &mut [u32], w: usize, h: usize, c: i32
     }
     for (sum, v) in sums.iter_mut().zip(&plane.data) { let v: i32 = (*v).into(); *sum = v as u32; }
 }
+fn rav1e_average<T: Pixel>(a: &[i16], b: &[i16], sums: &mut [u32], w: usize, h: usize, depth: usize, rounds: usize) {
+    let mut plane = frame::Plane::from_slice(&vec![T::zero(); 128 * 128], 128);
+    {
+        let mut region = tiling::PlaneRegionMut::new(&mut plane);
+        for _ in 0..rounds {
+            mc::mc_avg(&mut region, a, b, w, h, depth, CpuFeatureLevel);
+        }
+    }
+    for (sum, v) in sums.iter_mut().zip(&plane.data) { let v: i32 = (*v).into(); *sum = v as u32; }
+}
 /// The next of a row of numbers that are the same each time.
 fn next(s: &mut u64) -> u64 { *s = s.wrapping_mul(6364136223846793005).wrapping_add(1442695040888963407); *s >> 33 }
 /// Coefficients of a block, all of them or the ten in its corner.
@@ -64,6 +76,7 @@ fn main() {
     let mut sums = vec![0u32; 128 * 128];
     // WHO transform SIZE TYPE DEPTH SPARSE ROUNDS
     // WHO put WIDTH HEIGHT FRACTION_ACROSS FRACTION_DOWN FILTER DEPTH ROUNDS
+    // WHO average WIDTH HEIGHT DEPTH ROUNDS
     let ours = a[1] == "ours";
     match a[2].as_str() {
         "transform" => {
@@ -75,6 +88,18 @@ fn main() {
                 else { rav1e_transform::<u8>(&v, &mut sums, size as u8, kind as u8, depth, rounds) }
             } else if ours { unsafe { assert_eq!(measure_transform_16(v.as_ptr(), v.len(), sums.as_mut_ptr(), sums.len(), size as u8, kind as u8, depth, rounds), 0) } }
             else { rav1e_transform::<u16>(&v, &mut sums, size as u8, kind as u8, depth, rounds) }
+        }
+        "average" => {
+            let (w, h, depth, rounds) = (n(3), n(4), n(5), n(6));
+            let mut s = 11u64;
+            // Some are past what a prepared block holds, so that the clip is met on both sides.
+            let mut values = || -> Vec<i16> { (0..w * h).map(|_| (next(&mut s) % (28 << 10)) as i16 - (14 << 10)).collect() };
+            let (a, b) = (values(), values());
+            if ours {
+                let measure = if depth == 8 { measure_average_8 } else { measure_average_16 };
+                unsafe { assert_eq!(measure(a.as_ptr(), a.len(), b.as_ptr(), b.len(), sums.as_mut_ptr(), sums.len(), w, h, depth, rounds), 0) }
+            } else if depth == 8 { rav1e_average::<u8>(&a, &b, &mut sums, w, h, depth, rounds) }
+            else { rav1e_average::<u16>(&a, &b, &mut sums, w, h, depth, rounds) }
         }
         _ => {
             let (w, h, c, r, mode, depth, rounds) = (n(3), n(4), n(5) as i32, n(6) as i32, n(7), n(8), n(9));

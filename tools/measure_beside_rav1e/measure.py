@@ -3,6 +3,7 @@
 
     tools/measure_beside_rav1e/measure.py RAV1E WORK transforms [--depth D] [--sparse] [SIZE..]
     tools/measure_beside_rav1e/measure.py RAV1E WORK motion [--depth D] [--filter N] [SIDE..]
+    tools/measure_beside_rav1e/measure.py RAV1E WORK average [--depth D] [SIDE..]
 
 RAV1E is the source of rav1e 0.8.1 (the folder that has src/), WORK a folder for what is built: delete it to build anew. It needs `rt`,
 `rustc`, `valgrind` and this repository with its proofs kept (`rt all check`). A size is written as 8x16, a side as 64; without any, all
@@ -107,6 +108,9 @@ def calls_of(options):
                     yield f"{name} {TYPES[kind]}", ["transform", size, kind, options.depth, int(options.sparse)]
         return
     for side in map(int, options.sizes or (4, 8, 16, 32, 64, 128)):
+        if options.what == "average":
+            yield f"{side}x{side}", ["average", side, side, options.depth]
+            continue
         for across, down in ((0, 0), (0, 4), (4, 0), (4, 4)):
             yield f"{side}x{side} {across} {down}", ["put", side, side, across, down, options.filter, options.depth]
 
@@ -115,7 +119,7 @@ def main():
     parser = argparse.ArgumentParser(description=__doc__, formatter_class=argparse.RawDescriptionHelpFormatter)
     parser.add_argument("rav1e", type=pathlib.Path)
     parser.add_argument("work", type=pathlib.Path)
-    parser.add_argument("what", choices=("transforms", "motion"))
+    parser.add_argument("what", choices=("transforms", "motion", "average"))
     parser.add_argument("sizes", nargs="*")
     parser.add_argument("--depth", type=int, choices=(8, 10, 12), default=8)
     parser.add_argument("--sparse", action="store_true", help="ten coefficients in a corner")

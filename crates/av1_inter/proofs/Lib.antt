@@ -16,3 +16,4 @@ pub mod Within
 pub mod SameReferences
 pub mod Sources
 pub mod Halves
+pub mod HeldSums

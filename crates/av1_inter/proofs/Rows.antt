@@ -25,7 +25,7 @@ paint_row_same w f g s e =
     ])
 
 -- a sample that was painted, where what it becomes hangs on no other
-painted_sample : {X : Type 0} (w k : ℕ) (f : ℕ → X → X) (s : List X) (d : X) → k < w → w ≤ length s → ((v : X) → f k v ≡ f k d) → get_or (paint_row w f s) k d ≡ f k d
+pub painted_sample : {X : Type 0} (w k : ℕ) (f : ℕ → X → X) (s : List X) (d : X) → k < w → w ≤ length s → ((v : X) → f k v ≡ f k d) → get_or (paint_row w f s) k d ≡ f k d
 unfolding paint_row
 painted_sample w k f s d h l e =
     get_or-update _ s k d (omega arith) ∙ (let t = e (get_or s k d) in grind (arith, nat_tests))

@@ -1,7 +1,7 @@
 -- All that is stored of a reference from a place on, read by rows.
-use Rattle.std.proofs.Common.{ℕ, ◌+◌, ◌*◌, ◌<◌, ◌≡◌, ◌∙◌, ap, sym, arith, List, length, map, get_or, slice_index}
+use Rattle.std.proofs.Common.{ℤ, pos, drop, ℕ, ◌-◌, ◌+◌, ◌*◌, ◌<◌, ◌≡◌, ◌∙◌, ap, sym, arith, List, length, map, get_or, slice_index}
 use Rattle.std.proofs.lemmas.Int.{ints}
-use Rattle.std.proofs.lemmas.List.{get_or-map}
+use Rattle.std.proofs.lemmas.List.{drop-map, get_or-drop, get_or-map}
 use Rattle.av1_frame.specs.declared.plane_region.PlaneRegionMut.{PlaneRegionMut}
 use Rattle.av1_frame.specs.declared.plane_region.StoredArea.{StoredArea}
 use Rattle.av1_frame.specs.declared.plane_slice.PlaneSlice.{PlaneSlice}
@@ -11,8 +11,11 @@ use Rattle.av1_frame.specs.Slices.{all_from, IsStoredPlace, RowIsStored}
 use Rattle.av1_frame.proofs.Paint.{length_paint, paint_same}
 use Rattle.av1_frame.proofs.Slices.{all_from_fits, all_from_sample}
 use Rattle.av1_frame.proofs.Update.{with_whole}
+use Rattle.av1_frame.specs.Arithmetic.{round_shift}
+use Rattle.av1_inter.specs.Motion.{weighted}
 use Rattle.av1_inter.specs.Places.{IsStoredFrom, samples_from}
 use Rattle.av1_inter.proofs.Rows.{place_is_stored, row_long}
+use Rattle.av1_inter.proofs.Sums.{weighted_same}
 
 module _ {T : Type 0} (num : T → ℕ) (place : PlaneSlice T) (columns rows : ℕ) (is_stored : IsStoredFrom place columns rows) where
   first_is_stored : 0 < columns → 0 < rows → IsStoredPlace place.plane.now.plane_cfg place.x place.y
@@ -60,3 +63,13 @@ down_place r t stride c = grind arith
 
 pub along_place : (start t c : ℕ) → start + c + t * 1 ≡ start + (c + t)
 along_place start t c = omega arith
+
+-- a sample of what is left behind a place, and a sum of such samples, rounded
+pub left_sample : {T : Type 0} (num : T → ℕ) (source line : List T) (start i : ℕ) → line ≡ drop start source → slice_index (map num line) i ≡ slice_index (map num source) (start + i)
+left_sample num source line start i e =
+    ap (λ s. slice_index (map num s) i) e ∙ ap (λ s. slice_index s i) (sym (drop-map num start source)) ∙ get_or-drop start (map num source) i 0
+
+pub along_sum : {T : Type 0} (num : T → ℕ) (taps : List ℤ) (source line : List T) (start n m q : ℕ) → line ≡ drop start source → n ≡ m
+    → round_shift (weighted taps (λ t. pos (slice_index (map num line) (q + t)))) (7 - n) ≡ round_shift (weighted taps (λ t. pos (slice_index (map num source) (start + (q + t))))) (7 - m)
+along_sum num taps source line start n m q e b =
+    ap (λ z. round_shift z (7 - n)) (weighted_same taps _ _ (λ t l. ap pos (left_sample num source line start (q + t) e))) ∙ ap (λ (k : ℕ). round_shift (weighted taps (λ t. pos (slice_index (map num source) (start + (q + t))))) (7 - k)) b

@@ -2,19 +2,20 @@
 //!
 //! AV1 specification: block inter prediction process.
 
-ghost use Rattle.std.specs.Prelude.{◌≡◌, ℕ, ◌+◌, ◌*◌, ◌≤◌, ◌<◌, pos, length, map, slice_index};
+ghost use Rattle.std.specs.Prelude.{◌≡◌, ℕ, ◌+◌, ◌-◌, ◌*◌, ◌^◌, ◌≤◌, ◌<◌, pos, length, map, slice_index};
 ghost use Rattle.av1_frame.specs.Areas.{AreRows};
 ghost use Rattle.av1_frame.specs.Arithmetic.{clip, round_shift};
 ghost use Rattle.av1_frame.specs.Samples.{paint};
 ghost use Rattle.av1_frame.specs.Regions.{InStorage, painted};
-ghost use Rattle.av1_inter.specs.Motion.{down_samples, weighted};
+ghost use Rattle.av1_inter.specs.Motion.{down_samples, intermediate_bits, weighted};
 ghost use Rattle.av1_inter.specs.Places.{AreWithinDepth, IsStoredFrom, samples_from};
 ghost use Rattle.av1_blocks.specs.Depths.{IsDepth};
 ghost use Rattle.av1_inter.specs.Scaffolding.{IsFilter};
 
-use crate::lines::sums_apart;
+use crate::lines::{filter_along, sums_apart};
 use crate::narrow::{half_sums, halves_of, put_column_sums, put_row_sums};
 use crate::put::put_row;
+use crate::rounding::intermediate_bits;
 use av1_blocks::SUBPEL_FILTER_SIZE;
 use av1_frame::{Pixel, PlaneRegionMut, PlaneSlice, StoredArea};
 
@@ -101,6 +102,38 @@ fn sum_rows<T: Pixel, const N: usize>(
         let sums = half_sums::<T, N>(source, (r + 3) * source_stride, 1, &halves);
         let (_, row) = samples.split_at_mut((area.y + r) * stride + area.x);
         put_row_sums::<T, N>(row, &sums);
+    }
+}
+
+/// The same of samples of any depth.
+#[inline(never)]
+#[tactic(auto, using(av1_frame::proofs::Paint::row_starts_within, av1_frame::proofs::Paint::row_within, av1_frame::proofs::Paint::length_paint, av1_frame::proofs::Paint::paint_none))]
+fn sum_wide_rows<T: Pixel, const N: usize>(
+    samples: &mut [T],
+    stride: usize,
+    area: StoredArea,
+    source: &[T],
+    source_stride: usize,
+    across: &[i32; SUBPEL_FILTER_SIZE],
+    bit_depth: usize,
+)
+    requires filter { IsFilter across.now }
+    requires rows { AreRows stride area (length samples.old) }
+    requires width { area.width ≡ N }
+    requires short { N ≤ 128 }
+    requires depths { IsDepth bit_depth }
+    requires depth { bit_depth ≤ T.BITS }
+    requires reach { (r : ℕ) → r < area.height + 7 → r * source_stride + (N + 7) ≤ length source.now }
+    requires within { (r c : ℕ) → r < area.height + 7 → c < N + 7 → slice_index (map T.num source.now) (r * source_stride + c) < 2 ^ bit_depth }
+    ensures { samples.new ≡ paint stride area (λ r c _. T.pixel (clip bit_depth (round_shift (round_shift (weighted across.now (λ t. pos (slice_index (map T.num source.now) ((r + 3) * source_stride + (c + t))))) (7 - intermediate_bits bit_depth)) (intermediate_bits bit_depth)))) samples.old }
+{
+    let across = *across;
+    let bits = intermediate_bits(bit_depth);
+    for r in 0..area.height {
+        let (_, line) = source.split_at((r + 3) * source_stride);
+        let values = filter_along::<T, N>(line, &across, 7 - bits);
+        let (_, row) = samples.split_at_mut((area.y + r) * stride + area.x);
+        put_row::<T, N>(row, &values, bits, bit_depth);
     }
 }
 
@@ -193,8 +226,8 @@ pub(crate) fn put_columns_alone<T: Pixel, const N: usize>(
     }
 }
 
-/// A strip that is filtered along its rows alone.
-pub(crate) fn put_rows_alone<T: Pixel, const N: usize>(
+/// A strip of samples of 8 bits that is filtered along its rows alone.
+fn put_narrow_rows<T: Pixel, const N: usize>(
     dst: &mut PlaneRegionMut<'_, T>,
     corner: PlaneSlice<'_, T>,
     height: usize,
@@ -221,4 +254,64 @@ pub(crate) fn put_rows_alone<T: Pixel, const N: usize>(
         corner.stride(),
         across,
     );
+}
+
+/// The same of samples of any depth.
+fn put_wide_rows<T: Pixel, const N: usize>(
+    dst: &mut PlaneRegionMut<'_, T>,
+    corner: PlaneSlice<'_, T>,
+    height: usize,
+    across: &[i32; SUBPEL_FILTER_SIZE],
+    bit_depth: usize,
+)
+    requires filter { IsFilter across.now }
+    requires fits { InStorage dst.old }
+    requires columns { N ≤ dst.old.area.width }
+    requires rows { height ≤ dst.old.area.height }
+    requires short { N ≤ 128 }
+    requires stored { IsStoredFrom corner (N + 7) (height + 7) }
+    requires depths { IsDepth bit_depth }
+    requires depth { bit_depth ≤ T.BITS }
+    requires within { AreWithinDepth bit_depth (samples_from T.num corner) (N + 7) (height + 7) }
+    ensures painted { dst.new ≡ painted dst.old N height (λ r c _. T.pixel (clip bit_depth (round_shift (round_shift (weighted across.now (λ t. pos (samples_from T.num corner.entry (c + t) (r + 3)))) (7 - intermediate_bits bit_depth)) (intermediate_bits bit_depth)))) }
+    ensures fits { InStorage dst.new }
+{
+    let stride = dst.plane_cfg.stride;
+    let area = dst.corner(N, height);
+    sum_wide_rows::<T, N>(
+        dst.samples_mut(),
+        stride,
+        area,
+        corner.samples(),
+        corner.stride(),
+        across,
+        bit_depth,
+    );
+}
+
+/// A strip that is filtered along its rows alone.
+pub(crate) fn put_rows_alone<T: Pixel, const N: usize>(
+    dst: &mut PlaneRegionMut<'_, T>,
+    corner: PlaneSlice<'_, T>,
+    height: usize,
+    across: &[i32; SUBPEL_FILTER_SIZE],
+    bit_depth: usize,
+)
+    requires filter { IsFilter across.now }
+    requires fits { InStorage dst.old }
+    requires columns { N ≤ dst.old.area.width }
+    requires rows { height ≤ dst.old.area.height }
+    requires short { N ≤ 128 }
+    requires stored { IsStoredFrom corner (N + 7) (height + 7) }
+    requires depths { IsDepth bit_depth }
+    requires depth { bit_depth ≤ T.BITS }
+    requires within { AreWithinDepth bit_depth (samples_from T.num corner) (N + 7) (height + 7) }
+    ensures painted { dst.new ≡ painted dst.old N height (λ r c _. T.pixel (clip bit_depth (round_shift (round_shift (weighted across.now (λ t. pos (samples_from T.num corner.entry (c + t) (r + 3)))) (7 - intermediate_bits bit_depth)) (intermediate_bits bit_depth)))) }
+    ensures fits { InStorage dst.new }
+{
+    if bit_depth == 8 {
+        put_narrow_rows::<T, N>(dst, corner, height, across);
+    } else {
+        put_wide_rows::<T, N>(dst, corner, height, across, bit_depth);
+    }
 }

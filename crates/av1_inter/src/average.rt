@@ -1,30 +1,70 @@
 //! The average of two prepared blocks.
 //!
+//! Sums that 16 bits don't hold are cut to them: their samples are the greatest or the least in any case.
+//!
 //! AV1 specification: block inter prediction process, and the average of its two predictions.
 
-ghost use Rattle.std.specs.Prelude.{◌≡◌, ◌+◌, ◌*◌, ◌≤◌, length};
-ghost use Rattle.av1_frame.specs.Samples.{paint_row};
+ghost use Rattle.std.specs.Prelude.{◌≡◌, ◌+◌, ◌*◌, ◌^◌, ◌≤◌, ◌<◌, pos, ◌+ℤ◌, ◌*ℤ◌, length};
+ghost use Rattle.std.specs.Int.{saturate_signed, w16};
+ghost use Rattle.av1_frame.specs.Areas.{AreRows};
+ghost use Rattle.av1_frame.specs.Samples.{paint, paint_row};
 ghost use Rattle.av1_frame.specs.Regions.{InStorage, painted};
-ghost use Rattle.av1_inter.specs.Motion.{averaged, entry};
+ghost use Rattle.av1_inter.specs.Motion.{averaged, bias, entry, intermediate_bits};
 ghost use Rattle.av1_blocks.specs.Depths.{IsDepth};
 
-use crate::rounding::{intermediate_bits, prep_bias};
-use av1_frame::{Pixel, PlaneRegionMut, clip, round_shift};
+use crate::copies::copy_each;
+use crate::rounding::{greatest, intermediate_bits};
+use av1_frame::{Pixel, PlaneRegionMut, StoredArea};
+
+/// The sum of two numbers, or the number of 16 bits that is nearest to it.
+#[inline(always)]
+fn held_sum(first: i16, second: i16) -> i16
+    ensures { result ≡ saturate_signed w16 (first +ℤ second) }
+{
+    (i32::from(first) + i32::from(second))
+        .max(-32768)
+        .min(32767) as i16
+}
+
+/// What the sum of two prepared values is moved up by: both biases, and half of what it is divided by.
+#[inline(always)]
+fn rise(bit_depth: usize) -> i16
+    requires { IsDepth bit_depth }
+    ensures { result ≡ pos (2 ^ intermediate_bits bit_depth) +ℤ pos 2 *ℤ bias bit_depth }
+{
+    if bit_depth == 8 {
+        16
+    } else if bit_depth == 12 {
+        16388
+    } else {
+        16400
+    }
+}
+
+/// The number of the sample of two prepared values.
+#[inline(always)]
+fn average_number(first: i16, second: i16, bit_depth: usize) -> i16
+    requires { IsDepth bit_depth }
+    ensures { result ≡ pos (averaged bit_depth first second) }
+{
+    let sum = held_sum(held_sum(first, second), rise(bit_depth));
+    (sum >> (intermediate_bits(bit_depth) + 1))
+        .max(0)
+        .min(greatest(bit_depth))
+}
 
 /// The sample of two prepared values.
+#[inline(always)]
 fn average_of<T: Pixel>(first: i16, second: i16, bit_depth: usize) -> T
     requires depths { IsDepth bit_depth }
     requires depth { bit_depth ≤ T.BITS }
     ensures { result ≡ T.pixel (averaged bit_depth first second) }
 {
-    let sum = i32::from(first) + i32::from(second) + 2 * prep_bias(bit_depth);
-    clip(
-        round_shift(sum, intermediate_bits(bit_depth) + 1),
-        bit_depth,
-    )
+    T::from_u32(average_number(first, second, bit_depth) as u32)
 }
 
 /// The first `width` samples of the row become the averages of the values from `start` on.
+#[inline(always)]
 #[tactic(auto, using(av1_frame::proofs::Paint::row_painting))]
 fn average_row<T: Pixel>(
     row: &mut [T],
@@ -46,10 +86,81 @@ fn average_row<T: Pixel>(
     }
 }
 
-/// Each sample of the first `height` rows and `width` columns of `dst` becomes the average of its two prepared values, which stand row
-/// by row in `tmp1` and `tmp2`.
+/// The same by an array of its own: then nothing that is read can be what is written.
+#[inline(always)]
+fn average_by_array<T: Pixel, const N: usize>(
+    row: &mut [T],
+    tmp1: &[i16],
+    tmp2: &[i16],
+    start: usize,
+    bit_depth: usize,
+)
+    requires row_long { N ≤ length row.old }
+    requires short { N ≤ 128 }
+    requires first_long { start + N ≤ length tmp1.now }
+    requires second_long { start + N ≤ length tmp2.now }
+    requires depths { IsDepth bit_depth }
+    requires depth { bit_depth ≤ T.BITS }
+    ensures { row.new ≡ paint_row N (λ c _. T.pixel (averaged bit_depth (entry tmp1.now (start + c)) (entry tmp2.now (start + c)))) row.old }
+{
+    let mut line = [T::from_u32(0); N];
+    average_row(&mut line, tmp1, tmp2, start, N, bit_depth);
+    copy_each::<T, N>(row, &line);
+}
+
+/// The rectangle's samples become the averages of the values, which stand row by row.
+#[inline(never)]
+#[tactic(auto, using(av1_frame::proofs::Paint::row_starts_within, av1_frame::proofs::Paint::row_within, av1_frame::proofs::Paint::length_paint, av1_frame::proofs::Paint::paint_none))]
+fn average_rows<T: Pixel, const N: usize>(
+    samples: &mut [T],
+    stride: usize,
+    area: StoredArea,
+    tmp1: &[i16],
+    tmp2: &[i16],
+    bit_depth: usize,
+)
+    requires rows { AreRows stride area (length samples.old) }
+    requires width { area.width ≡ N }
+    requires short { N ≤ 128 }
+    requires first_long { area.height * N ≤ length tmp1.now }
+    requires second_long { area.height * N ≤ length tmp2.now }
+    requires depths { IsDepth bit_depth }
+    requires depth { bit_depth ≤ T.BITS }
+    ensures { samples.new ≡ paint stride area (λ r c _. T.pixel (averaged bit_depth (entry tmp1.now (r * N + c)) (entry tmp2.now (r * N + c)))) samples.old }
+{
+    for r in 0..area.height {
+        let (_, row) = samples.split_at_mut((area.y + r) * stride + area.x);
+        average_by_array::<T, N>(row, tmp1, tmp2, r * N, bit_depth);
+    }
+}
+
+/// A block of `N` columns.
+fn average_columns<T: Pixel, const N: usize>(
+    dst: &mut PlaneRegionMut<'_, T>,
+    tmp1: &[i16],
+    tmp2: &[i16],
+    height: usize,
+    bit_depth: usize,
+)
+    requires fits { InStorage dst.old }
+    requires columns { N ≤ dst.old.area.width }
+    requires rows { height ≤ dst.old.area.height }
+    requires short { N ≤ 128 }
+    requires first_long { height * N ≤ length tmp1.now }
+    requires second_long { height * N ≤ length tmp2.now }
+    requires depths { IsDepth bit_depth }
+    requires depth { bit_depth ≤ T.BITS }
+    ensures painted { dst.new ≡ painted dst.old N height (λ r c _. T.pixel (averaged bit_depth (entry tmp1.now (r * N + c)) (entry tmp2.now (r * N + c)))) }
+    ensures fits { InStorage dst.new }
+{
+    let stride = dst.plane_cfg.stride;
+    let area = dst.corner(N, height);
+    average_rows::<T, N>(dst.samples_mut(), stride, area, tmp1, tmp2, bit_depth);
+}
+
+/// A block of any width.
 #[tactic(auto, using(av1_frame::proofs::Regions::region_painting, av1_frame::proofs::Fits::row_end_le))]
-pub fn mc_avg<T: Pixel>(
+fn average_any<T: Pixel>(
     dst: &mut PlaneRegionMut<'_, T>,
     tmp1: &[i16],
     tmp2: &[i16],
@@ -69,5 +180,42 @@ pub fn mc_avg<T: Pixel>(
 {
     for r in 0..height {
         average_row(dst.row_mut(r), tmp1, tmp2, r * width, width, bit_depth);
+    }
+}
+
+/// Each sample of the first `height` rows and `width` columns of `dst` becomes the average of its two prepared values, which stand row
+/// by row in `tmp1` and `tmp2`.
+pub fn mc_avg<T: Pixel>(
+    dst: &mut PlaneRegionMut<'_, T>,
+    tmp1: &[i16],
+    tmp2: &[i16],
+    width: usize,
+    height: usize,
+    bit_depth: usize,
+)
+    requires fits { InStorage dst.old }
+    requires columns { width ≤ dst.old.area.width }
+    requires rows { height ≤ dst.old.area.height }
+    requires first_long { height * width ≤ length tmp1.now }
+    requires second_long { height * width ≤ length tmp2.now }
+    requires depths { IsDepth bit_depth }
+    requires depth { bit_depth ≤ T.BITS }
+    ensures painted { dst.new ≡ painted dst.old width height (λ r c _. T.pixel (averaged bit_depth (entry tmp1.now (r * width + c)) (entry tmp2.now (r * width + c)))) }
+    ensures fits { InStorage dst.new }
+{
+    if width == 4 {
+        average_columns::<T, 4>(dst, tmp1, tmp2, height, bit_depth);
+    } else if width == 8 {
+        average_columns::<T, 8>(dst, tmp1, tmp2, height, bit_depth);
+    } else if width == 16 {
+        average_columns::<T, 16>(dst, tmp1, tmp2, height, bit_depth);
+    } else if width == 32 {
+        average_columns::<T, 32>(dst, tmp1, tmp2, height, bit_depth);
+    } else if width == 64 {
+        average_columns::<T, 64>(dst, tmp1, tmp2, height, bit_depth);
+    } else if width == 128 {
+        average_columns::<T, 128>(dst, tmp1, tmp2, height, bit_depth);
+    } else {
+        average_any(dst, tmp1, tmp2, width, height, bit_depth);
     }
 }

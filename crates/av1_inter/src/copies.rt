@@ -43,7 +43,7 @@ fn put_samples<T: Pixel>(
 /// The first `N` samples of the row become those of `source`, one after another.
 #[inline(always)]
 #[tactic(auto, using(av1_frame::proofs::Paint::row_painting))]
-fn copy_each<T: Pixel, const N: usize>(row: &mut [T], source: &[T])
+pub(crate) fn copy_each<T: Pixel, const N: usize>(row: &mut [T], source: &[T])
     requires row_long { N ≤ length row.old }
     requires short { N ≤ 128 }
     requires source_long { N ≤ length source.now }

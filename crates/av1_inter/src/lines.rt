@@ -271,6 +271,26 @@ fn filter_samples<T: Pixel, const N: usize, const INNER: bool>(
     values
 }
 
+/// The same, by the inner weights alone where that is all.
+#[inline(always)]
+pub(crate) fn filter_along<T: Pixel, const N: usize>(
+    row: &[T],
+    taps: &[i32; SUBPEL_FILTER_SIZE],
+    bit: usize,
+) -> [i32; N]
+    requires filter { IsFilter taps.now }
+    requires short { N ≤ 128 }
+    requires row_long { N + 7 ≤ length row.now }
+    requires small { bit ≤ 7 }
+    ensures { (c : ℕ) → c < N → entry result c ≡ round_shift (weighted taps.now (λ t. pos (slice_index (map T.num row.now) (c + t)))) bit }
+{
+    if is_inner(taps) {
+        filter_samples::<T, N, true>(row, taps, bit)
+    } else {
+        filter_samples::<T, N, false>(row, taps, bit)
+    }
+}
+
 /// The first `N` columns of a row in the intermediate bits, filtered along itself where the fraction is not 0. The row begins 3 samples
 /// before the block.
 #[inline(always)]
@@ -287,9 +307,7 @@ pub(crate) fn filter_horizontal<T: Pixel, const N: usize>(
     let bits = intermediate_bits(bit_depth);
     if across.fraction == 0 {
         shift_samples::<T, N>(row, bits)
-    } else if is_inner(&across.taps) {
-        filter_samples::<T, N, true>(row, &across.taps, 7 - bits)
     } else {
-        filter_samples::<T, N, false>(row, &across.taps, 7 - bits)
+        filter_along::<T, N>(row, &across.taps, 7 - bits)
     }
 }

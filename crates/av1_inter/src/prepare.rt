@@ -233,7 +233,7 @@ fn prepare_strips<T: Pixel>(
 {
     let mut start = 0;
     while start < width {
-        let columns = strip_width(width - start);
+        let columns = strip_width(width - start, true);
         prepare_strip(
             tmp, corner, start, columns, width, height, across, down, bit_depth,
         );

@@ -16,11 +16,22 @@ use crate::alone::{put_columns_alone, put_rows_alone};
 use crate::copies::put_copy;
 use crate::filter::{Filter, get_filter};
 use crate::lines::filter_horizontal;
-use crate::rounding::intermediate_bits;
+use crate::rounding::{greatest, intermediate_bits};
 use crate::strip::{is_one_strip, strip_width};
 use crate::window::{keep_first_rows, next_sums};
 use av1_blocks::{FilterMode, SUBPEL_FILTER_SIZE};
-use av1_frame::{Area, Pixel, PlaneRegionMut, PlaneSlice, clip, round_shift};
+use av1_frame::{Area, Pixel, PlaneRegionMut, PlaneSlice, round_shift};
+
+/// The sample of a depth that is nearest to a value. It is cut to 16 bits first, which is one step for eight values.
+#[inline(always)]
+fn nearest_sample<T: Pixel>(value: i32, bit_depth: usize) -> T
+    requires depths { IsDepth bit_depth }
+    requires depth { bit_depth ≤ T.BITS }
+    ensures { result ≡ T.pixel (clip bit_depth value) }
+{
+    let short = value.max(0).min(65535) as u16;
+    T::from_u32(u32::from(short.min(greatest(bit_depth) as u16)))
+}
 
 /// The first `N` samples of the row become the values, rounded and clipped to the depth.
 #[inline(always)]
@@ -40,7 +51,7 @@ pub(crate) fn put_row<T: Pixel, const N: usize>(
     ensures { row.new ≡ paint_row N (λ c _. T.pixel (clip bit_depth (round_shift (entry values.now c) bit))) row.old }
 {
     for c in 0..N {
-        row[c] = clip(round_shift(values[c], bit), bit_depth);
+        row[c] = nearest_sample(round_shift(values[c], bit), bit_depth);
     }
 }
 
@@ -110,7 +121,7 @@ fn put_columns<T: Pixel, const N: usize>(
     }
 }
 
-/// A strip whose row fraction is 0, in sums of 16 bits where its samples have 8.
+/// A strip whose row fraction is 0.
 fn put_along<T: Pixel, const N: usize>(
     dst: &mut PlaneRegionMut<'_, T>,
     corner: PlaneSlice<'_, T>,
@@ -130,10 +141,10 @@ fn put_along<T: Pixel, const N: usize>(
     ensures painted { dst.new ≡ painted dst.old N height (λ r c _. T.pixel (clip bit_depth (round_shift (intermediate bit_depth across.now.fraction across.now.taps (samples_from T.num corner.entry) (r + 3) c) (intermediate_bits bit_depth)))) }
     ensures fits { InStorage dst.new }
 {
-    if across.fraction != 0 && bit_depth == 8 {
-        put_rows_alone::<T, N>(dst, corner, height, &across.taps);
-    } else {
+    if across.fraction == 0 {
         put_rows::<T, N>(dst, corner, height, across, bit_depth);
+    } else {
+        put_rows_alone::<T, N>(dst, corner, height, &across.taps, bit_depth);
     }
 }
 
@@ -244,7 +255,7 @@ fn put_strip<T: Pixel>(
     dst.restore(outer);
 }
 
-/// A block that is filtered, strip by strip.
+/// A block that is filtered, strip by strip. Sums of 32 bits for 32 columns at once don't stay in registers.
 fn put_strips<T: Pixel>(
     dst: &mut PlaneRegionMut<'_, T>,
     corner: PlaneSlice<'_, T>,
@@ -270,7 +281,7 @@ fn put_strips<T: Pixel>(
 {
     let mut start = 0;
     while start < width {
-        let columns = strip_width(width - start);
+        let columns = strip_width(width - start, bit_depth == 8);
         put_strip(dst, corner, start, columns, height, across, down, bit_depth);
         start += columns;
     }
@@ -300,7 +311,7 @@ fn put_filtered<T: Pixel>(
     ensures painted { dst.new ≡ painted dst.old width height (λ r c _. T.pixel (single bit_depth across.now.fraction down.now.fraction across.now.taps down.now.taps (samples_from T.num corner.entry) r c)) }
     ensures fits { InStorage dst.new }
 {
-    if is_one_strip(width) {
+    if is_one_strip(width) && (width != 32 || bit_depth == 8) {
         put_columns_of(dst, corner, width, height, across, down, bit_depth);
     } else {
         put_strips(dst, corner, width, height, across, down, bit_depth);

@@ -3,14 +3,14 @@
 ghost use Rattle.std.specs.Prelude.{◌≡◌, true, ◌≤◌, ◌<◌};
 ghost use Rattle.av1_inter.specs.Scaffolding.{IsStripWidth};
 
-/// How many columns the next strip has, where so many are left.
-pub(crate) fn strip_width(left: usize) -> usize
+/// How many columns the next strip has, where so many are left. A strip of 32 is one only where `wide` is true.
+pub(crate) fn strip_width(left: usize, wide: bool) -> usize
     requires { 0 < left }
     ensures some { 0 < result }
     ensures room { result ≤ left }
     ensures kind { IsStripWidth result }
 {
-    if left >= 32 {
+    if wide && left >= 32 {
         32
     } else if left >= 16 {
         16

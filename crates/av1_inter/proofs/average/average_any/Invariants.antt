@@ -1,7 +1,7 @@
 use Rattle.std.proofs.Common.{◌≡◌, ◌+◌, ◌*◌}
 use Rattle.av1_frame.specs.Regions.{painted}
 use Rattle.av1_inter.specs.Motion.{averaged, entry}
-use Rattle.av1_inter.proofs.average.mc_avg.Given as goal
+use Rattle.av1_inter.proofs.average.average_any.Given as goal
 
 abbrev pub invariant-loop-r : goal.invariant-loop-r
 invariant-loop-r g l = l.dst ≡ painted l.initial.dst l.width l.r (λ r c _. g.T.Pixel.pixel (averaged l.bit_depth (entry l.tmp1 (r * l.width + c)) (entry l.tmp2 (r * l.width + c))))

@@ -4,7 +4,7 @@ use Rattle.av1_frame.specs.declared.plane_region.StoredArea.{StoredArea}
 use Rattle.av1_frame.proofs.Regions.{written_in_storage}
 use Rattle.av1_inter.proofs.Sources.{lent_painted, source_reaches, source_sample}
 use Rattle.av1_inter.proofs.Sums.{weighted_same}
-use Rattle.av1_inter.proofs.alone.put_rows_alone.Goals as goal
+use Rattle.av1_inter.proofs.alone.put_narrow_rows.Goals as goal
 
 pub sum_rows-requires-clause-reach : goal.sum_rows-requires-clause-reach
 sum_rows-requires-clause-reach g c = λ r h.
