@@ -1,3 +1,5 @@
 pub mod Digits
 pub mod Filling
+pub mod Performing
 pub mod Prefixes
+pub mod Reading

@@ -1,5 +1,5 @@
 -- Prefixes that writes append, one after the other.
-use Rattle.std.proofs.Common.{◌-◌, ◌≡◌, ℕ, ◌+◌, List, ◌++◌, Option, length, take, drop, sym, ap, ◌∙◌, append_assoc, take-append-drop}
+use Rattle.std.proofs.Common.{◌-◌, ◌≡◌, ℕ, ◌+◌, List, [], ◌++◌, Option, length, take, drop, sym, ap, ◌∙◌, append_assoc, append-nil, take-append-drop}
 use Rattle.std.proofs.lemmas.List.{take_rest}
 use lib.Seq.{take-add}
 use Rattle.std.specs.Io.KnownBytes.{Appends}
@@ -13,6 +13,10 @@ Appends-more a b c bytes n m first next = rw take-add (Appends-trans a b c _ _ f
 -- the first n bytes are a prefix
 pub AppendsPrefix-take : (a b : Option (List ℕ)) (bytes : List ℕ) (n : ℕ) → Appends a b (take n bytes) → AppendsPrefix a b bytes
 AppendsPrefix-take a b bytes n first = (take n bytes, drop n bytes, take-append-drop n bytes, first)
+
+-- all of it is a prefix too
+pub AppendsPrefix-all : (a b : Option (List ℕ)) (bytes : List ℕ) → Appends a b bytes → AppendsPrefix a b bytes
+AppendsPrefix-all a b bytes done = (bytes, [], append-nil bytes, done)
 
 -- a prefix of the first part of the whole
 pub AppendsPrefix-first : (a b : Option (List ℕ)) (part after whole : List ℕ) → part ++ after ≡ whole → AppendsPrefix a b part → AppendsPrefix a b whole

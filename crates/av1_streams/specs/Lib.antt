@@ -2,3 +2,4 @@ pub mod Adapters
 pub mod Faults
 pub mod Memory
 pub mod Streams
+pub mod Tasks

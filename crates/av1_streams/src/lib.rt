@@ -1,8 +1,8 @@
 //! Where the bytes of a plan come from, and where the bytes of planes go.
 //!
 //! A [`Source`] gives bytes and a [`Sink`] takes them, in pieces of any size, and each counts its
-//! faults. [`read_plan_bytes`] reads a source to its end, and [`write_bytes`] writes all of a slice,
-//! or a prefix of it up to a fault. Both are generic, so what they promise holds of standard input
+//! faults. [`read_bytes`] reads a source to its end, [`read_plan_bytes`] one that has a plan, and
+//! [`write_bytes`] writes all of a slice, or a prefix of it up to a fault. They are generic, so what they promise holds of standard input
 //! and output ([`ReadSource`], [`WriteSink`]) as of memory ([`SliceSource`], [`MemSink`]), whose
 //! calls fail on request. A [`Line`] is a line of text for such a sink, built without memory.
 //!
@@ -23,7 +23,7 @@ mod tests;
 mod write;
 
 pub use line::{LINE_BYTES, Line};
-pub use read::{MAX_PLAN_BYTES, ReadError, read_plan_bytes};
+pub use read::{MAX_PLAN_BYTES, ReadError, read_bytes, read_plan_bytes};
 pub use sink::{MemSink, Sink, WriteSink};
 pub use source::{Failed, ReadSource, SliceSource, Source};
 pub use write::{WriteFault, write_bytes};

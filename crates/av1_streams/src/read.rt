@@ -1,5 +1,5 @@
-//! The bytes of a plan, read to their end.
-ghost use Rattle.std.specs.Prelude.{◌≡◌, ◌+◌, ◌<◌, ◌≤◌, length, take, drop, IsErrOf, IfOk, IfSome, OnOk, OnErr, vec_len};
+//! The bytes of a source, read to their end.
+ghost use Rattle.std.specs.Prelude.{◌≡◌, ◌+◌, ◌<◌, ◌≤◌, ◌^◌, length, take, drop, IsErrOf, IfOk, IfSome, OnOk, OnErr, vec_len};
 ghost use Rattle.std.specs.Io.KnownBytes.{Consumes, Keeps, IsAtEnd};
 ghost use Rattle.av1_streams.specs.Faults.{HasCause, FaultCounted};
 ghost use Rattle.av1_streams.specs.Streams.{AreBytes, Takes, TakesAtMost, max_plan_bytes};
@@ -33,8 +33,7 @@ impl From<AllocError> for ReadError {
     }
 }
 
-/// All that the source has left, read to its end, at most [`MAX_PLAN_BYTES`]. Each read asks for as
-/// much as there is room for. The first that fails ends the call.
+/// All that the source has left, read to its end, at most [`MAX_PLAN_BYTES`], as [`read_bytes`] does.
 pub fn read_plan_bytes<R: Source>(alloc: Global, source: &mut R) -> Result<Vec<u8>, ReadError>
     ensures bytes { IfOk result (λ bytes. IfSome (R.left source.old) (λ left. bytes.items ≡ left)) }
     ensures consumed { IfOk result (λ bytes. Consumes (R.left source.old) (R.left source.new) bytes.items) }
@@ -51,10 +50,37 @@ pub fn read_plan_bytes<R: Source>(alloc: Global, source: &mut R) -> Result<Vec<u
     ensures read_fault { IsErrOf result ReadError.ReadFault → FaultCounted (R.faults source.old) (R.faults source.new) }
     ensures later { R.faults source.old ≤ R.faults source.new }
 {
+    read_bytes(alloc, source, MAX_PLAN_BYTES)
+}
+
+/// All that the source has left, read to its end, at most `limit` bytes: from 64 KiB, which the first read asks for, to 1 TiB. Each read
+/// asks for as much as there is room for. The first that fails ends the call.
+pub fn read_bytes<R: Source>(
+    alloc: Global,
+    source: &mut R,
+    limit: usize,
+) -> Result<Vec<u8>, ReadError>
+    requires least { 2 ^ 16 ≤ limit }
+    requires most { limit ≤ 2 ^ 40 }
+    ensures bytes { IfOk result (λ bytes. IfSome (R.left source.old) (λ left. bytes.items ≡ left)) }
+    ensures consumed { IfOk result (λ bytes. Consumes (R.left source.old) (R.left source.new) bytes.items) }
+    ensures end { OnOk result (IsAtEnd (R.left source.new)) }
+    ensures fits { IfOk result (λ bytes. AreBytes bytes.items) }
+    ensures short { IfOk result (λ bytes. length bytes.items ≤ limit) }
+
+    // It takes at most a byte past the limit, and `TooLong` comes where it took that byte.
+    ensures taken { TakesAtMost (limit + 1) (R.left source.old) (R.left source.new) }
+    ensures too_long { IsErrOf result ReadError.TooLong → Takes (limit + 1) (R.left source.old) (R.left source.new) }
+    ensures longer { IsErrOf result ReadError.TooLong → IfSome (R.left source.old) (λ left. limit < length left) }
+
+    // `ReadFault` comes only where a read failed.
+    ensures read_fault { IsErrOf result ReadError.ReadFault → FaultCounted (R.faults source.old) (R.faults source.new) }
+    ensures later { R.faults source.old ≤ R.faults source.new }
+{
     let mut bytes = Vec::new(alloc);
     let mut filled = 0;
-    'reading: while filled <= MAX_PLAN_BYTES {
-        make_room(&mut bytes, filled)?;
+    'reading: while filled <= limit {
+        make_room(&mut bytes, filled, limit)?;
         match read_at(source, &mut bytes, filled) {
             Ok(0) => {
                 bytes.truncate(filled);
@@ -69,18 +95,20 @@ pub fn read_plan_bytes<R: Source>(alloc: Global, source: &mut R) -> Result<Vec<u
 }
 
 // Makes `bytes` longer than what is filled of it, by zeros: twice as long, where it is full.
-fn make_room(bytes: &mut Vec<u8>, filled: usize) -> Result<(), AllocError>
+fn make_room(bytes: &mut Vec<u8>, filled: usize, limit: usize) -> Result<(), AllocError>
     requires within { filled ≤ vec_len bytes.old }
-    requires short { filled ≤ max_plan_bytes }
-    requires limit { vec_len bytes.old ≤ max_plan_bytes + 1 }
+    requires least { 2 ^ 16 ≤ limit }
+    requires most { limit ≤ 2 ^ 40 }
+    requires short { filled ≤ limit }
+    requires limit { vec_len bytes.old ≤ limit + 1 }
     ensures room { OnOk result (filled < vec_len bytes.new) }
-    ensures limit { vec_len bytes.new ≤ max_plan_bytes + 1 }
+    ensures limit { vec_len bytes.new ≤ limit + 1 }
     ensures front { take filled bytes.new.items ≡ take filled bytes.old.items }
 {
     if filled < bytes.len() {
         return Ok(());
     }
-    bytes.resize((2 * filled).clamp(FIRST_READ, MAX_PLAN_BYTES + 1), 0)
+    bytes.resize((2 * filled).clamp(FIRST_READ, limit + 1), 0)
 }
 
 // One read into what stands behind the filled part.

@@ -2,7 +2,7 @@ use Rattle.std.proofs.Common.{◌≡◌, ◌+◌, ◌<◌, ◌^◌, take, rules}
 use Rattle.std.proofs.lemmas.List.{with_items_is, places}
 use Rattle.std.proofs.lemmas.List.Elements.{All-take}
 use Rattle.av1_streams.proofs.Filling.{Consumes-filled}
-use Rattle.av1_streams.proofs.read.read_plan_bytes.Goals as goal
+use Rattle.av1_streams.proofs.read.read_bytes.Goals as goal
 
 pub reading-preserved : goal.reading-preserved
 reading-preserved g c =
