@@ -1,6 +1,6 @@
 -- Bytes have an outcome, and one alone.
-use Rattle.std.proofs.Common.{◌≡◌, inl, inr, ℕ, ◌<◌, ◌≤◌, ◌^◌, List, length, Option, Some, None, Result, Ok, Err, refl, sym, ap, subst, ◌∙◌, arith}
-use Rattle.std.specs.Prelude.{All, IsOk}
+use Rattle.std.proofs.Common.{◌≡◌, inl, inr, ℕ, ◌<◌, ◌≤◌, ◌^◌, List, length, Option, Some, None, Result, Ok, Err, refl, sym, ap, ◌∙◌, arith}
+use Rattle.std.specs.Prelude.{All}
 use Rattle.std.proofs.lemmas.Bool.{cases_lt}
 use Rattle.std.proofs.lemmas.List.{get_or_past}
 use Rattle.std.proofs.lemmas.List.Elements.{All-get_or}
@@ -13,10 +13,13 @@ use Rattle.av1_plan.specs.declared.error.Invalid.{Invalid}
 use Rattle.av1_plan.proofs.Fields.{AreBytes}
 use Rattle.av1_plan.proofs.Spelled.{one_text, all_found, all_refused}
 use Rattle.av1_streams.specs.Streams.{max_plan_bytes}
+use Rattle.av1_streams.specs.Tasks.{refused as refused_for, too_long}
+use Rattle.av1_streams.proofs.Performing.{IsSound}
 use Rattle.av1_tile.specs.Output.{planes_of}
+use Rattle.av1_recon.specs.declared.error.ReconError.{ReconError}
 use Rattle.av1_recon.specs.declared.error.ReconError.TheVariants.{ReadFault, TooLong, Malformed, Invalid as InvalidLeaf, WriteFault, Memory}
 use Rattle.av1_recon.specs.Errors.{invalid_error}
-use Rattle.av1_recon.specs.Outcomes.{Outcome, Answer, ArePlan, HasOutcome, HasOutcomeBy, Tells, Answered}
+use Rattle.av1_recon.specs.Outcomes.{Outcome, ArePlan, AreRefusedFor, HasOutcome, HasOutcomeBy, cause, plan_task}
 
 abbrev ok : {A E : Type 0} → A → Result A E
 ok x = Ok x
@@ -27,7 +30,7 @@ place_le f bytes a b p q =
     omega (arith, len, q.first.longest vs proper front)
 
 -- bytes are refused at one place
-same_place : {A : Type 0} (f : Format A) (bytes : List ℕ) (a b : ℕ) → AreRefused f bytes a → AreRefused f bytes b → a ≡ b
+pub same_place : {A : Type 0} (f : Format A) (bytes : List ℕ) (a b : ℕ) → AreRefused f bytes a → AreRefused f bytes b → a ≡ b
 same_place f bytes a b p q = omega (arith, place_le f bytes a b p q, place_le f bytes b a q p)
 
 -- what bytes are to the grammar: too many, no text, or a text
@@ -86,7 +89,7 @@ of_result : (bytes : List ℕ) → AreBytes bytes → length bytes ≤ max_plan_
 of_result bytes fits short (Ok value) e = of_plan bytes value (short, all_found plan bytes value fits e) (first_fault value) refl
 of_result bytes fits short (Err at) e = (Err (Malformed at), (short, all_refused plan bytes at fits e))
 
-byte_fits : (bytes : List ℕ) → All (λ byte. byte < 2 ^ 8) bytes → AreBytes bytes
+pub byte_fits : (bytes : List ℕ) → All (λ byte. byte < 2 ^ 8) bytes → AreBytes bytes
 byte_fits bytes fits i = elim (cases_lt i (length bytes)) [
   | inl within ↦ All-get_or (λ byte. byte < 2 ^ 8) bytes i 0 within fits
   | inr past ↦ rw (get_or_past bytes i 0 past) (omega arith)
@@ -99,13 +102,26 @@ some_outcome bytes fits = elim (cases_lt max_plan_bytes (length bytes)) [
   | inr short ↦ of_result bytes (byte_fits bytes fits) short (read_all plan (start bytes)) refl
 ]
 
--- the outcome of bytes is what they were answered with
-pub tells : (output : PlanValue → List ℕ) (bytes : List ℕ) (taken taken' : Option (List ℕ)) (answer : Answer) → Answered output bytes taken taken' answer
-    → (outcome : Outcome) → HasOutcomeBy output bytes outcome → Tells answer outcome
-tells output bytes taken taken' (Ok done) (written, p, appended) outcome q = subst IsOk (sym (one_outcome output bytes (Ok written) outcome p q)) refl
-tells output bytes taken taken' (Err WriteFault) (written, p, appended) outcome q = subst IsOk (sym (one_outcome output bytes (Ok written) outcome p q)) refl
-tells output bytes taken taken' (Err ReadFault) p outcome q = tt
-tells output bytes taken taken' (Err Memory) p outcome q = tt
-tells output bytes taken taken' (Err TooLong) p outcome q = one_outcome output bytes (Err TooLong) outcome p q
-tells output bytes taken taken' (Err (Malformed at)) p outcome q = one_outcome output bytes (Err (Malformed at)) outcome p q
-tells output bytes taken taken' (Err (InvalidLeaf leaf kind)) p outcome q = one_outcome output bytes (Err (InvalidLeaf leaf kind)) outcome p q
+-- bytes past the limit are refused for that
+too_many : (bytes : List ℕ) (e : ReconError) → cause e ≡ too_long → max_plan_bytes < length bytes → AreRefusedFor bytes e
+too_many bytes TooLong is over = over
+too_many bytes ReadFault is over = absurd cc
+too_many bytes (Malformed at) is over = absurd cc
+too_many bytes (InvalidLeaf leaf kind) is over = absurd cc
+too_many bytes WriteFault is over = absurd cc
+too_many bytes Memory is over = absurd cc
+
+pub plan_task_sound : (output : PlanValue → List ℕ) → IsSound (plan_task output)
+plan_task_sound output = record {
+  one = λ bytes a b p q. one_outcome output bytes b a q p;
+  long = too_many;
+}
+
+-- bytes that are not too long are refused for what they are
+pub short_refused : (bytes : List ℕ) (e : ReconError) → length bytes ≤ max_plan_bytes → AreRefusedFor bytes e → cause e ≡ refused_for
+short_refused bytes TooLong short r = absurd (omega (arith, short, r))
+short_refused bytes ReadFault short r = absurd r
+short_refused bytes (Malformed at) short r = refl
+short_refused bytes (InvalidLeaf leaf kind) short r = refl
+short_refused bytes WriteFault short r = absurd r
+short_refused bytes Memory short r = absurd r

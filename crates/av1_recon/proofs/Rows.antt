@@ -7,12 +7,15 @@ use Rattle.std.proofs.lemmas.Grind.{flat_map-append}
 use Rattle.std.proofs.lemmas.List.{map-append}
 use Rattle.std.proofs.lemmas.List.Folds.{flat_map-map}
 use lib.Seq.{take-add}
-use Rattle.av1_plan.specs.Geometry.{plane_height}
+use Rattle.av1_lists.specs.Lists.{by_index}
+use Rattle.av1_frame.specs.declared.plane.Plane.{Plane}
+use Rattle.av1_frame.specs.Planes.{sample_at}
+use Rattle.av1_plan.specs.Geometry.{plane_width, plane_height}
 use Rattle.av1_plan.specs.declared.header.Header.{Header}
 use Rattle.av1_streams.specs.Streams.{AppendsPrefix}
 use Rattle.av1_streams.proofs.Prefixes.{AppendsPrefix-first, AppendsPrefix-after}
-use Rattle.av1_tile.specs.PlaneBlocks.{extent_of, component}
-use Rattle.av1_tile.specs.State.{Picture, state_header, shown, state_row}
+use Rattle.av1_tile.specs.PlaneBlocks.{extent_of}
+use Rattle.av1_tile.specs.State.{Picture, state_header}
 use Rattle.av1_tile.specs.Output.{plane_bytes, sample_bytes}
 
 -- ---- pieces of a row
@@ -46,13 +49,13 @@ AppendsPrefix-piece num depth row a b c at n bytes before piece next =
 
 -- ---- rows of a plane
 
--- the bytes of a row of a plane
-abbrev pub row_bytes : {T : Type 0} → (T → ℕ) → Picture T → ℕ → ℕ → List ℕ
-row_bytes num s p y = flat_map (sample_bytes (state_header s).depth) (state_row num s p y)
+-- the bytes of a row of plane p of a frame
+abbrev pub row_bytes : {T : Type 0} → (T → ℕ) → Header → Plane T → ℕ → ℕ → List ℕ
+row_bytes num h plane p y = flat_map (sample_bytes h.depth) (by_index (plane_width h p) (λ x. sample_at num plane x y))
 
--- the bytes of the first rows of a plane
-abbrev pub rows_below : {T : Type 0} → (T → ℕ) → Picture T → ℕ → ℕ → List ℕ
-rows_below num s p n = flat_map (row_bytes num s p) (range_with_len 0 n)
+-- the bytes of its first rows
+abbrev pub rows_below : {T : Type 0} → (T → ℕ) → Header → Plane T → ℕ → ℕ → List ℕ
+rows_below num h plane p n = flat_map (row_bytes num h plane p) (range_with_len 0 n)
 
 range-append : (a m n : ℕ) → range_with_len a (m + n) ≡ range_with_len a m ++ range_with_len (a + m) n
 range-append a zero n =
@@ -69,47 +72,45 @@ flat_map-flat_map g f [] = refl
 flat_map-flat_map g f (x ∷ xs) = flat_map-append g (f x) (flat_map f xs) ∙ ap (λ l. flat_map g (f x) ++ l) (flat_map-flat_map g f xs)
 
 -- the rows above a place, that row, and those below it
-rows_split : {T : Type 0} (num : T → ℕ) (s : Picture T) (p y n : ℕ) → rows_below num s p (y + (1 + n)) ≡ rows_below num s p y ++ (row_bytes num s p y ++ flat_map (row_bytes num s p) (range_with_len (y + 1) n))
-rows_split num s p y n =
+rows_split : {T : Type 0} (num : T → ℕ) (h : Header) (plane : Plane T) (p y n : ℕ)
+    → rows_below num h plane p (y + (1 + n)) ≡ rows_below num h plane p y ++ (row_bytes num h plane p y ++ flat_map (row_bytes num h plane p) (range_with_len (y + 1) n))
+rows_split num h plane p y n =
     let from : 0 + y ≡ y = omega arith in
     let one : 1 + n ≡ suc n = omega arith in
-    ap (flat_map (row_bytes num s p)) (range-append 0 y (1 + n) ∙ ap (λ l. range_with_len 0 y ++ l) (rw (from, one) refl))
-    ∙ flat_map-append (row_bytes num s p) (range_with_len 0 y) (y ∷ range_with_len (y + 1) n)
+    ap (flat_map (row_bytes num h plane p)) (range-append 0 y (1 + n) ∙ ap (λ l. range_with_len 0 y ++ l) (rw (from, one) refl))
+    ∙ flat_map-append (row_bytes num h plane p) (range_with_len 0 y) (y ∷ range_with_len (y + 1) n)
 
--- a row as it was lent, at the depth of the header that was lent
-pub row_is : {T : Type 0} (num : T → ℕ) (s : Picture T) (p y : ℕ) (h : Header) (row : List T) → h ≡ state_header s → map num row ≡ state_row num s p y → bytes_of num h.depth row ≡ row_bytes num s p y
-row_is num s p y h row same is = ap (flat_map (sample_bytes h.depth)) is ∙ ap (λ (k : Header). flat_map (sample_bytes k.depth) (state_row num s p y)) same
+-- a row as it was lent
+pub row_is : {T : Type 0} (num : T → ℕ) (h : Header) (plane : Plane T) (p y : ℕ) (row : List T) → map num row ≡ by_index (plane_width h p) (λ x. sample_at num plane x y) → bytes_of num h.depth row ≡ row_bytes num h plane p y
+row_is num h plane p y row is = ap (flat_map (sample_bytes h.depth)) is
 
 -- one row more
-pub Appends-row : {T : Type 0} (num : T → ℕ) (s : Picture T) (p y : ℕ) (a b c : Option (List ℕ)) → Appends a b (rows_below num s p y) → Appends b c (row_bytes num s p y) → Appends a c (rows_below num s p (y + 1))
-Appends-row num s p y a b c before next =
-    subst (Appends a c) (sym (rows_split num s p y 0 ∙ ap (λ l. rows_below num s p y ++ l) (append-nil (row_bytes num s p y)))) (Appends-trans a b c _ _ before next)
+pub Appends-row : {T : Type 0} (num : T → ℕ) (h : Header) (plane : Plane T) (p y : ℕ) (a b c : Option (List ℕ))
+    → Appends a b (rows_below num h plane p y) → Appends b c (row_bytes num h plane p y) → Appends a c (rows_below num h plane p (y + 1))
+Appends-row num h plane p y a b c before next =
+    subst (Appends a c) (sym (rows_split num h plane p y 0 ∙ ap (λ l. rows_below num h plane p y ++ l) (append-nil (row_bytes num h plane p y)))) (Appends-trans a b c _ _ before next)
 
 -- how many rows the header that was lent has
 pub height_is : {T : Type 0} (s : Picture T) (p n : ℕ) (h : Header) → n ≡ plane_height h p → h ≡ state_header s → n ≡ (extent_of (state_header s) p).height
 height_is s p n h rows same = rows ∙ ap (λ (k : Header). plane_height k p) same
 
 -- all rows are the plane
-pub rows_are_plane : {T : Type 0} (num : T → ℕ) (s : Picture T) (p n m : ℕ) → n ≡ m → m ≡ (extent_of (state_header s) p).height → rows_below num s p n ≡ plane_bytes (extent_of (state_header s) p) (shown num s (component p))
-rows_are_plane num s p n m same e =
-    let all = range_with_len 0 (extent_of (state_header s) p).height in
-    let line : ℕ → List ℕ = λ y. state_row num s p y in
-    let bytes = sample_bytes (state_header s).depth in
-    ap (rows_below num s p) same ∙ ap (rows_below num s p) e ∙ sym (ap (flat_map bytes) (flat_map-map line (λ y. y) all) ∙ flat_map-flat_map bytes line all)
+pub rows_are_plane : {T : Type 0} (num : T → ℕ) (h : Header) (plane : Plane T) (p n m : ℕ) → n ≡ m → m ≡ plane_height h p → rows_below num h plane p n ≡ plane_bytes (extent_of h p) (sample_at num plane)
+rows_are_plane num h plane p n m same e =
+    let all = range_with_len 0 (plane_height h p) in
+    let line : ℕ → List ℕ = λ y. by_index (plane_width h p) (λ x. sample_at num plane x y) in
+    let bytes = sample_bytes h.depth in
+    ap (rows_below num h plane p) same ∙ ap (rows_below num h plane p) e ∙ sym (ap (flat_map bytes) (flat_map-map line (λ y. y) all) ∙ flat_map-flat_map bytes line all)
 
 -- a prefix of the next row
-pub AppendsPrefix-row : {T : Type 0} (num : T → ℕ) (s : Picture T) (p y n : ℕ) (a b c : Option (List ℕ)) → n ≡ (extent_of (state_header s) p).height → y < n
-    → Appends a b (rows_below num s p y) → AppendsPrefix b c (row_bytes num s p y) → AppendsPrefix a c (plane_bytes (extent_of (state_header s) p) (shown num s (component p)))
-AppendsPrefix-row num s p y n a b c e within before next =
+pub AppendsPrefix-row : {T : Type 0} (num : T → ℕ) (h : Header) (plane : Plane T) (p y n : ℕ) (a b c : Option (List ℕ)) → n ≡ plane_height h p → y < n
+    → Appends a b (rows_below num h plane p y) → AppendsPrefix b c (row_bytes num h plane p y) → AppendsPrefix a c (plane_bytes (extent_of h p) (sample_at num plane))
+AppendsPrefix-row num h plane p y n a b c e within before next =
     let count : y + (1 + (n - y - 1)) ≡ n = omega arith in
-    let whole = sym (rows_split num s p y (n - y - 1)) ∙ rows_are_plane num s p _ n count e in
-    AppendsPrefix-after a b c (rows_below num s p y) (row_bytes num s p y) _ _ whole before next
+    let whole = sym (rows_split num h plane p y (n - y - 1)) ∙ rows_are_plane num h plane p _ n count e in
+    AppendsPrefix-after a b c (rows_below num h plane p y) (row_bytes num h plane p y) _ _ whole before next
 
--- ---- planes of a picture
-
--- all of it is a prefix too
-pub AppendsPrefix-all : (a b : Option (List ℕ)) (bytes : List ℕ) → Appends a b bytes → AppendsPrefix a b bytes
-AppendsPrefix-all a b bytes done = (bytes, [], append-nil bytes, done)
+-- ---- planes of a frame
 
 -- a prefix of the first of three parts
 pub AppendsPrefix-one : (a b : Option (List ℕ)) (y u v : List ℕ) → AppendsPrefix a b y → AppendsPrefix a b (y ++ u ++ v)

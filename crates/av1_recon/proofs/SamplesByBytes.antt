@@ -11,7 +11,8 @@ use Rattle.av1_lists.specs.Lists.{by_index}
 use Rattle.av1_tile.specs.PlaneBlocks.{number, extent_of}
 use Rattle.av1_tile.specs.Output.{by_rows, plane_bytes, visible}
 
-abbrev bytes_by : Bool → ℕ → List ℕ
+-- the bytes of a sample: one, or the lower of two first
+abbrev pub bytes_by : Bool → ℕ → List ℕ
 bytes_by narrow v = if narrow then v ∷ [] else v % 256 ∷ v / 256 ∷ []
 
 two_bytes : (x y : ℕ) → x % 256 ≡ y % 256 → x / 256 ≡ y / 256 → x ≡ y

@@ -28,12 +28,19 @@ kind_text kinds.Vector = codes "vector"
 kind_text kinds.MissingReference = codes "missing reference"
 kind_text kinds.Coefficient = codes "coefficient"
 
+-- what is said of the field that begins at a byte, and of the leaf at fault
+abbrev pub malformed_text : ℕ → List ℕ
+malformed_text at = codes "malformed at " ++ decimal at ++ codes "\n"
+
+abbrev pub invalid_text : ℕ → InvalidKind → List ℕ
+invalid_text leaf kind = codes "invalid leaf " ++ decimal leaf ++ codes ": " ++ kind_text kind ++ codes "\n"
+
 -- the line for an error
 abbrev pub error_line : ReconError → List ℕ
 error_line ReadFault = codes "read fault\n"
 error_line TooLong = codes "too long\n"
-error_line (Malformed at) = codes "malformed at " ++ decimal at ++ codes "\n"
-error_line (Invalid leaf kind) = codes "invalid leaf " ++ decimal leaf ++ codes ": " ++ kind_text kind ++ codes "\n"
+error_line (Malformed at) = malformed_text at
+error_line (Invalid leaf kind) = invalid_text leaf kind
 error_line WriteFault = codes "write fault\n"
 error_line Memory = codes "out of memory\n"
 

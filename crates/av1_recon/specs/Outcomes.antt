@@ -1,12 +1,11 @@
 -- The outcome of a plan's bytes, and what a call does that reads them from a source and writes it to a sink.
-use Rattle.std.specs.Prelude.{◌≡◌, ◌≢◌, ◌⊎◌, ℕ, ◌+◌, ◌<◌, ◌≤◌, List, length, Option, Some, None, Result, Ok, Err, OnOk, IfErr, IsOk, IsErrOf, IfSome, ⊤}
-use Rattle.std.specs.Io.KnownBytes.{Appends, Consumes, IsAtEnd}
+use Rattle.std.specs.Prelude.{◌≡◌, ℕ, ◌<◌, ◌≤◌, List, length, Option, Some, None, Result, Ok, Err, IfSome, ⊤}
 use Rattle.av1_plan.specs.Grammar.{plan}
 use Rattle.av1_plan.specs.Plan.{PlanValue}
 use Rattle.av1_plan.specs.Spelling.{AreText, AreRefused}
 use Rattle.av1_plan.specs.Validity.{first_fault}
-use Rattle.av1_streams.specs.Faults.{FaultCounted}
-use Rattle.av1_streams.specs.Streams.{max_plan_bytes, AreBytes, Takes, TakesAtMost, AppendsPrefix}
+use Rattle.av1_streams.specs.Streams.{max_plan_bytes}
+use Rattle.av1_streams.specs.Tasks.{Cause, too_long, refused, read_failed, write_failed, no_memory, Task, Performs}
 use Rattle.av1_tile.specs.Output.{planes_of}
 use Rattle.av1_recon.specs.declared.error.ReconError.{ReconError}
 use Rattle.av1_recon.specs.declared.error.ReconError.TheVariants.{ReadFault, TooLong, Malformed, Invalid as InvalidLeaf, WriteFault, Memory}
@@ -54,67 +53,29 @@ Planes left P = Outputs planes_of left P
 
 -- ---- what a call does
 
--- the answers that refuse the bytes
-abbrev pub IsRefusal : ReconError → Type 0
-IsRefusal TooLong = ⊤
-IsRefusal (Malformed at) = ⊤
-IsRefusal (InvalidLeaf leaf kind) = ⊤
-IsRefusal ReadFault = ⊥
-IsRefusal WriteFault = ⊥
-IsRefusal Memory = ⊥
+-- what an error blames
+abbrev pub cause : ReconError → Cause
+cause ReadFault = read_failed
+cause TooLong = too_long
+cause (Malformed at) = refused
+cause (InvalidLeaf leaf kind) = refused
+cause WriteFault = write_failed
+cause Memory = no_memory
 
--- the answer is the outcome of the bytes, unless a read or a write failed, or memory ran out
-abbrev pub Tells : Answer → Outcome → Type 0
-Tells (Ok done) outcome = IsOk outcome
-Tells (Err ReadFault) outcome = ⊤
-Tells (Err Memory) outcome = ⊤
-Tells (Err WriteFault) outcome = IsOk outcome
-Tells (Err e) outcome = outcome ≡ Err e
-
--- What an answer says of the source: after Ok, a refusal of bytes that were read to their end and a failed write nothing is
--- left; a byte past the longest plan was taken where they are too long.
-abbrev pub LeavesSource : Answer → Option (List ℕ) → Option (List ℕ) → Type 0
-LeavesSource (Err TooLong) left left' = Takes (max_plan_bytes + 1) left left'
-LeavesSource (Err ReadFault) left left' = ⊤
-LeavesSource (Err Memory) left left' = ⊤
-LeavesSource answer left left' = IsAtEnd left'
-
--- What an answer says of bytes that were read and of the sink: after Ok their output was appended, after a failed write a prefix
--- of it, and a refusal is their outcome.
-abbrev pub Answered : (PlanValue → List ℕ) → List ℕ → Option (List ℕ) → Option (List ℕ) → Answer → Type 0
-Answered output bytes taken taken' (Ok done) = (written : List ℕ) × HasOutcomeBy output bytes (Ok written) × Appends taken taken' written
-Answered output bytes taken taken' (Err WriteFault) = (written : List ℕ) × HasOutcomeBy output bytes (Ok written) × AppendsPrefix taken taken' written
-Answered output bytes taken taken' (Err ReadFault) = ⊤
-Answered output bytes taken taken' (Err Memory) = ⊤
-Answered output bytes taken taken' (Err e) = HasOutcomeBy output bytes (Err e)
+-- what a call is to do that reads a plan and writes `output` of it
+abbrev pub plan_task : (PlanValue → List ℕ) → Task (List ℕ) (Unit {0}) ReconError
+plan_task output = record {
+  limit = max_plan_bytes;
+  HasOutcome = HasOutcomeBy output;
+  written = λ bytes. bytes;
+  Says = λ done bytes. ⊤;
+  cause = cause;
+}
 
 -- What a call does that reads a plan from a source to its end and writes `output` of it to a sink.
-pub record Converts {S K : Type 0} (output : PlanValue → List ℕ) (left : S → Option (List ℕ)) (source_faults : S → ℕ) (taken : K → Option (List ℕ)) (sink_faults : K → ℕ)
-    (source source' : S) (sink sink' : K) (answer : Answer) : Type 0 where
-  -- Ok only where the outcome of the bytes is an output, and this was appended.
-  pub ok : OnOk answer (Outputs output (left source) (λ written. Appends (taken sink) (taken sink') written))
-  -- A refusal only where it is the outcome of the bytes, and exactly there but for faults and want of memory.
-  pub refused : IfErr answer (λ e. IsRefusal e → IfSome (left source) (λ bytes. HasOutcomeBy output bytes (Err e)))
-  pub exactly : IfSome (left source) (λ bytes. (outcome : Outcome) → HasOutcomeBy output bytes outcome → Tells answer outcome)
-  -- A fault only where the count rose or stands at its last value.
-  pub read_fault : IsErrOf answer ReadFault → FaultCounted (source_faults source) (source_faults source')
-  pub write_fault : IsErrOf answer WriteFault → FaultCounted (sink_faults sink) (sink_faults sink')
-  -- After a failed write, of a valid plan's output alone, a prefix of it stands; after every other error the sink is as it was.
-  pub prefix : IsErrOf answer WriteFault → Outputs output (left source) (λ written. AppendsPrefix (taken sink) (taken sink') written)
-  pub unwritten : IfErr answer (λ e. e ≢ WriteFault → sink' ≡ sink)
-  -- At most a byte past the longest plan is taken, and what is left is a suffix of what there was.
-  pub taken_at_most : TakesAtMost (max_plan_bytes + 1) (left source) (left source')
-  pub leaves : LeavesSource answer (left source) (left source')
-  -- Whether the source tells its bytes or not, some were read, and the answer says of these what it does. A source that tells its
-  -- bytes had these at its front.
-  pub read : (bytes : List ℕ) × AreBytes bytes × (length bytes ≤ max_plan_bytes + 1) × Consumes (left source) (left source') bytes
-      × Answered output bytes (taken sink) (taken sink') answer
-  -- Counts never fall.
-  pub source_later : source_faults source ≤ source_faults source'
-  pub sink_later : sink_faults sink ≤ sink_faults sink'
-  -- Without a fault a valid plan gives Ok, or memory ran out.
-  pub complete : ¬ FaultCounted (source_faults source) (source_faults source') → ¬ FaultCounted (sink_faults sink) (sink_faults sink')
-      → IfSome (left source) (λ bytes. (written : List ℕ) → HasOutcomeBy output bytes (Ok written) → IsOk answer ⊎ IsErrOf answer Memory)
+abbrev pub Converts : {S K : Type 0} → (PlanValue → List ℕ) → (S → Option (List ℕ)) → (S → ℕ) → (K → Option (List ℕ)) → (K → ℕ) → S → S → K → K → Answer → Type 0
+Converts output left source_faults taken sink_faults source source' sink sink' answer =
+    Performs (plan_task output) left source_faults taken sink_faults source source' sink sink' answer
 
 -- What a call does that reads a plan from a source to its end and writes the visible planes to a sink.
 abbrev pub Reconstructs : {S K : Type 0} → (S → Option (List ℕ)) → (S → ℕ) → (K → Option (List ℕ)) → (K → ℕ) → S → S → K → K → Answer → Type 0

@@ -1,6 +1,6 @@
 //! The exit status and the line of each answer.
-ghost use Rattle.std.specs.Prelude.{◌≡◌, ◌≤◌, ◌++◌, length, codes, decimal};
-ghost use Rattle.av1_recon.specs.Answers.{status_of, line_of, error_line, kind_text, Says};
+ghost use Rattle.std.specs.Prelude.{◌≡◌, ◌≤◌, ◌++◌, length, codes};
+ghost use Rattle.av1_recon.specs.Answers.{status_of, line_of, error_line, kind_text, malformed_text, invalid_text, Says};
 
 use crate::{InvalidKind, ReconError, Sink};
 use av1_streams::{Line, write_bytes};
@@ -19,20 +19,8 @@ fn kind_text(kind: InvalidKind) -> &'static [u8]
     }
 }
 
-// A line of a text and a number.
-fn numbered_line(text: &[u8], number: u32) -> Line
-    requires { length text.now ≤ 20 }
-    ensures { result ≡ text.now ++ decimal number ++ codes "\n" }
-{
-    let mut line = Line::new();
-    line.push(text);
-    line.push_number(u64::from(number));
-    line.push(b"\n");
-    line
-}
-
-// A line of a text.
-fn plain_line(text: &[u8]) -> Line
+/// A line of a text of at most 20 bytes.
+pub fn plain_line(text: &[u8]) -> Line
     requires { length text.now ≤ 20 }
     ensures { result ≡ text.now ++ codes "\n" }
 {
@@ -42,16 +30,45 @@ fn plain_line(text: &[u8]) -> Line
     line
 }
 
-// The line for a leaf at fault.
-fn invalid_line(leaf: u32, kind: InvalidKind) -> Line
-    ensures { result ≡ codes "invalid leaf " ++ decimal leaf ++ codes ": " ++ kind_text kind ++ codes "\n" }
+/// Appends what is said of the field that begins at byte `at`: `malformed at N`, and the end of the line.
+#[tactic(auto, using(std::proofs::lemmas::List::append_assoc))]
+pub fn push_malformed(line: &mut Line, at: u32)
+    requires { length line.old ≤ 64 }
+    ensures { line.new ≡ line.old ++ malformed_text at }
 {
-    let mut line = Line::new();
+    line.push(b"malformed at ");
+    line.push_number(u64::from(at));
+    line.push(b"\n");
+}
+
+/// Appends what is said of the leaf at fault: `invalid leaf N: K`, and the end of the line.
+#[tactic(auto, using(std::proofs::lemmas::List::append_assoc))]
+pub fn push_invalid(line: &mut Line, leaf: u32, kind: InvalidKind)
+    requires { length line.old ≤ 64 }
+    ensures { line.new ≡ line.old ++ invalid_text leaf kind }
+{
     line.push(b"invalid leaf ");
     line.push_number(u64::from(leaf));
     line.push(b": ");
     line.push(kind_text(kind));
     line.push(b"\n");
+}
+
+// The line for a field at fault.
+fn malformed_line(at: u32) -> Line
+    ensures { result ≡ malformed_text at }
+{
+    let mut line = Line::new();
+    push_malformed(&mut line, at);
+    line
+}
+
+// The line for a leaf at fault.
+fn invalid_line(leaf: u32, kind: InvalidKind) -> Line
+    ensures { result ≡ invalid_text leaf kind }
+{
+    let mut line = Line::new();
+    push_invalid(&mut line, leaf, kind);
     line
 }
 
@@ -61,7 +78,7 @@ fn error_line(error: ReconError) -> Line
     match error {
         ReconError::ReadFault => plain_line(b"read fault"),
         ReconError::TooLong => plain_line(b"too long"),
-        ReconError::Malformed { at } => numbered_line(b"malformed at ", at),
+        ReconError::Malformed { at } => malformed_line(at),
         ReconError::Invalid { leaf, kind } => invalid_line(leaf, kind),
         ReconError::WriteFault => plain_line(b"write fault"),
         ReconError::Memory => plain_line(b"out of memory"),

@@ -31,7 +31,7 @@ mod reconstruct;
 mod samples;
 mod sums;
 
-pub use answer::{report, say};
+pub use answer::{plain_line, push_invalid, push_malformed, report, say};
 pub use av1_plan::InvalidKind;
 pub use av1_streams::{
     Failed, MAX_PLAN_BYTES, MemSink, ReadError, ReadSource, Sink, SliceSource, Source, WriteFault,
@@ -45,7 +45,7 @@ pub use laws::outcome_laws;
 pub use lines::write_sums;
 pub use made::{write_made, write_made_sums};
 pub use number::number_of;
-pub use planes::write_planes;
+pub use planes::{write_frame, write_planes};
 pub use program::run;
 pub use read::read_plan;
 pub use reconstruct::reconstruct_plan;

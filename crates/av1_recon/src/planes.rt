@@ -1,17 +1,21 @@
-//! The visible planes of a picture, written row by row.
-ghost use Rattle.std.specs.Prelude.{◌≡◌, ◌*◌, ◌<◌, ◌≤◌, ◌++◌, length, map, OnOk};
+//! The visible planes of a frame, written row by row.
+ghost use Rattle.std.specs.Prelude.{◌≡◌, ◌*◌, ◌≤◌, ◌++◌, length, map, OnOk};
 ghost use Rattle.std.specs.List.{flat_map};
 ghost use Rattle.std.specs.Io.KnownBytes.{Appends};
+ghost use Rattle.av1_frame.specs.Planes.{sample_at};
 ghost use Rattle.av1_streams.specs.Faults.{HasCause};
 ghost use Rattle.av1_streams.specs.Streams.{AppendsPrefix};
-ghost use Rattle.av1_tile.specs.PlaneBlocks.{extent_of, component};
+ghost use Rattle.av1_tile.specs.PlaneBlocks.{extent_of};
 ghost use Rattle.av1_tile.specs.State.{IsSound, state_header, shown};
 ghost use Rattle.av1_tile.specs.Output.{visible, plane_bytes, sample_bytes};
+ghost use Rattle.av1_tile.specs.Walk.{AreFrame, IsPlaneOf, samples_of};
 
 use crate::samples::pack;
 use crate::{Sink, TileState, WriteFault};
-use av1_frame::Pixel;
+use av1_frame::{Pixel, Plane};
+use av1_plan::Header;
 use av1_streams::write_bytes;
+use av1_tile::{Planes, visible_row};
 
 // The samples that are written at once: a row of the widest frame.
 const MOST_SAMPLES: usize = 2048;
@@ -28,29 +32,43 @@ pub fn write_planes<T: Pixel, W: Sink>(state: &TileState<T>, sink: &mut W) -> Re
     ensures prefix { AppendsPrefix (W.taken sink.old) (W.taken sink.new) (visible (state_header state.now) (shown T.num state.now)) }
     ensures cause { HasCause (W.faults sink.old) (W.faults sink.new) result }
 {
-    let mut buffer = [0; MOST_BYTES];
-    write_plane(state, 0, &mut buffer, sink)?;
-    write_plane(state, 1, &mut buffer, sink)?;
-    write_plane(state, 2, &mut buffer, sink)
+    write_frame(state.header(), state.planes(), sink)
 }
 
-// Appends the visible rows of plane `p`, or a prefix of their bytes.
+/// Appends the visible planes of a frame to the sink, as [`write_planes`] does those of a state.
+pub fn write_frame<T: Pixel, W: Sink>(
+    header: &Header,
+    planes: &Planes<T>,
+    sink: &mut W,
+) -> Result<(), WriteFault>
+    requires frame { AreFrame header.now planes.now }
+    requires narrow { header.now.depth ≡ 8 → T.BITS ≤ 8 }
+    ensures whole { OnOk result (Appends (W.taken sink.old) (W.taken sink.new) (visible header.now (samples_of T.num planes.now))) }
+    ensures prefix { AppendsPrefix (W.taken sink.old) (W.taken sink.new) (visible header.now (samples_of T.num planes.now)) }
+    ensures cause { HasCause (W.faults sink.old) (W.faults sink.new) result }
+{
+    let mut buffer = [0; MOST_BYTES];
+    write_plane(header, &planes.y, 0, &mut buffer, sink)?;
+    write_plane(header, &planes.u, 1, &mut buffer, sink)?;
+    write_plane(header, &planes.v, 2, &mut buffer, sink)
+}
+
+// Appends the visible rows of plane `p` of a frame, or a prefix of their bytes.
 fn write_plane<T: Pixel, W: Sink>(
-    state: &TileState<T>,
+    header: &Header,
+    plane: &Plane<T>,
     p: usize,
     buffer: &mut [u8; MOST_BYTES],
     sink: &mut W,
 ) -> Result<(), WriteFault>
-    requires sound { IsSound T.num state.now }
-    requires narrow { (state_header state.now).depth ≡ 8 → T.BITS ≤ 8 }
-    requires plane { p < 3 }
-    ensures whole { OnOk result (Appends (W.taken sink.old) (W.taken sink.new) (plane_bytes (extent_of (state_header state.now) p) (shown T.num state.now (component p)))) }
-    ensures prefix { AppendsPrefix (W.taken sink.old) (W.taken sink.new) (plane_bytes (extent_of (state_header state.now) p) (shown T.num state.now (component p))) }
+    requires plane { IsPlaneOf header.now p plane.now }
+    requires narrow { header.now.depth ≡ 8 → T.BITS ≤ 8 }
+    ensures whole { OnOk result (Appends (W.taken sink.old) (W.taken sink.new) (plane_bytes (extent_of header.now p) (sample_at T.num plane.now))) }
+    ensures prefix { AppendsPrefix (W.taken sink.old) (W.taken sink.new) (plane_bytes (extent_of header.now p) (sample_at T.num plane.now)) }
     ensures cause { HasCause (W.faults sink.old) (W.faults sink.new) result }
 {
-    let header = state.header();
     for y in 0..header.plane_height(p) {
-        write_row(header.depth, state.row(p, y), buffer, sink)?;
+        write_row(header.depth, visible_row(plane, header, p, y), buffer, sink)?;
     }
     Ok(())
 }

@@ -7,7 +7,7 @@ use Rattle.av1_frame.specs.declared.plane_region.StoredArea.{StoredArea}
 use Rattle.av1_frame.specs.declared.tile_state.CodedBlockInfo.{CodedBlockInfo}
 use Rattle.av1_frame.specs.Samples.{corner, in_area, paint, paint_row, part, row_start, with_part}
 use Rattle.av1_frame.proofs.Fits.{row_end_le}
-use Rattle.av1_frame.proofs.Paint.{length_paint, paint_at, paint_more}
+use Rattle.av1_frame.proofs.Paint.{length_paint, length-paint_row, paint_at, paint_more}
 use Rattle.av1_frame.proofs.Update.{length-update, update_is}
 use Rattle.av1_avail.specs.Order.{is_in}
 use Rattle.av1_order.specs.Neighbours.{last_cell}
@@ -25,10 +25,6 @@ part_put : {X : Type 0} (i n : ℕ) (s ws : List X) → i + n ≤ length s → l
 part_put i n s ws h e =
     update_is _ s _ (grind (arith, places)) (λ k d l. grind (arith, places, nat_tests))
 
-length_row : {X : Type 0} (w : ℕ) (g : ℕ → X → X) (s : List X) → length (paint_row w g s) ≡ length s
-unfolding paint_row
-length_row w g s = length-update _ s
-
 -- one more row of a rectangle, all of it filled with v
 pub row_filled : {X : Type 0} (stride : ℕ) (a : StoredArea) (r n : ℕ) (v : X) (s t ws : List X) → 0 < stride → a.x + a.width ≤ stride → (a.y + a.height) * stride ≤ length s → r < a.height → n ≡ a.width
     → t ≡ paint stride (corner a a.width r) (λ _ _ _. v) s → ws ≡ paint_row (length (part (row_start stride a r) n t)) (λ _ _. v) (part (row_start stride a r) n t)
@@ -40,7 +36,7 @@ row_filled {X} stride a r n v s t ws some across down below wide painted filled 
     let ends : i + w ≤ (a.y + a.height) * stride = let e = row_end_le (a.y + r) (a.y + a.height) stride (a.x + w) _ refl (omega arith) across in omega (arith, e) in
     let long : length t ≡ length s = ap length painted ∙ length_paint stride (corner a w r) f s in
     let few : length (part i n t) ≡ n = grind (arith, places) in
-    let row : length ws ≡ n = ap length filled ∙ length_row _ (λ _ _. v) (part i n t) ∙ few in
+    let row : length ws ≡ n = ap length filled ∙ length-paint_row _ (λ _ _. v) (part i n t) ∙ few in
     let same : ws ≡ paint_row w (λ _ _. v) (part i w t) = filled ∙ ap (λ m. paint_row m (λ _ _. v) (part i n t)) (few ∙ wide) ∙ ap (λ m. paint_row w (λ _ _. v) (part i m t)) wide in
     part_put i n t ws (omega arith) row ∙ ap (with_part i t) same ∙ ap (λ u. with_part i u (paint_row w (λ _ _. v) (part i w u))) painted ∙ paint_more stride a w r w f s some across (omega arith) (omega arith)
 

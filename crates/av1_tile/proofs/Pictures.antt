@@ -118,20 +118,21 @@ all_placed num h planes s V = s.v.place
 
 -- ---- its plan
 
-module _ (plan : Plan) (valid : first_fault (plan_value plan) ≡ None) where
-  coded : (s : IsSpelled grammar (plan_value plan)) (k : Component) → IsCodedPlan (plan_value plan).header (number k) (plan_value plan).leaves
-  coded s k = record {
-    frame = whole_frame (plan_value plan).header (read_frame plan);
-    grid = plan_grid plan;
-    valid = faultless (plan_value plan).header 0 (plan_value plan).leaves valid;
-    ordered = plan_trees (record { is_inter = false; columns = 0; rows = 0 }) (coding_in (plan_value plan).header (number k)) (plan_value plan) s;
-  }
+-- a valid plan in a plane: its leaves are valid and stand in coding order
+pub plan_coded : (plan : Plan) → first_fault (plan_value plan) ≡ None → IsSpelled grammar (plan_value plan) → (p : ℕ) → IsCodedPlan (plan_value plan).header p (plan_value plan).leaves
+plan_coded plan valid s p = record {
+  frame = whole_frame (plan_value plan).header (read_frame plan);
+  grid = plan_grid plan;
+  valid = faultless (plan_value plan).header 0 (plan_value plan).leaves valid;
+  ordered = plan_trees (record { is_inter = false; columns = 0; rows = 0 }) (coding_in (plan_value plan).header p) (plan_value plan) s;
+}
 
+module _ (plan : Plan) (valid : first_fault (plan_value plan) ≡ None) where
   all_begin : All (λ (l : LeafValue). (k : Component) → covers k (carries_chroma (plan_value plan).header l.x l.y l.size) ≡ true → Begins (plan_value plan).header k l) (plan_value plan).leaves
   all_begin i d within k e = begins (plan_value plan).header k _ (sound_leaves plan valid i d within)
 
   same_steps : (s : IsSpelled grammar (plan_value plan)) (told : Told) → steps_by (plan_value plan).header told (plan_value plan).leaves ≡ steps (plan_value plan).header (plan_value plan).leaves
-  same_steps s told = steps_told (plan_value plan).header (plan_value plan).leaves (coded s) all_begin told
+  same_steps s told = steps_told (plan_value plan).header (plan_value plan).leaves (λ k. plan_coded plan valid s (number k)) all_begin told
 
   all_quarters : All (IsQuarterInside (plan_value plan).header) (plan_value plan).leaves
   all_quarters = plan_quarters plan
@@ -143,7 +144,7 @@ module _ (plan : Plan) (valid : first_fault (plan_value plan) ≡ None) where
     samples_are k x y hx hy =
         let value = plan_value plan in
         ∥∥₁_elim plan.spelled (hlevel (ℕ_set))
-        (λ s. sym (ap sample_of (samples_shown num pixel law back value p q (plan_ready value.header value.leaves (coded s) (read_frame plan) all_quarters)
+        (λ s. sym (ap sample_of (samples_shown num pixel law back value p q (plan_ready value.header value.leaves (λ k. plan_coded plan valid s (number k)) (read_frame plan) all_quarters)
         (record { plane = all_placed num value.header p made.stores; room = made.room.y }) (all_placed num value.header q after)
         (walked ∙ ap (fold (fast_step num pixel value) p) (same_steps s told)) k x y hx hy)))
 

@@ -29,6 +29,9 @@ state_header s = s.header
 abbrev pub state_references : {T : Type 0} → Picture T → FrameInvariants T
 state_references s = s.references
 
+abbrev pub state_planes : {T : Type 0} → Picture T → Planes T
+state_planes s = s.planes
+
 abbrev pub state_edges : {T : Type 0} → Picture T → ℕ
 state_edges s = s.edges
 

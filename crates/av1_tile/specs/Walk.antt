@@ -96,6 +96,10 @@ plane_of Y planes = planes.y
 plane_of U planes = planes.u
 plane_of V planes = planes.v
 
+-- the numbers of the samples of planes, by column and row
+abbrev pub samples_of : {T : Type 0} → (T → ℕ) → Planes T → Component → ℕ → ℕ → ℕ
+samples_of num planes = λ component x y. sample_at num (plane_of component planes) x y
+
 -- the planes with p in place of one of them
 abbrev pub with_plane : {T : Type 0} → Component → Planes T → Plane T → Planes T
 with_plane Y planes p = record planes { y = p }
@@ -134,7 +138,13 @@ pub record IsPlaneOf {T : Type 0} (h : Header) (p : ℕ) (plane : Plane T) : Typ
   pub xdec : plane.plane_cfg.xdec ≡ xdec h p
   pub ydec : plane.plane_cfg.ydec ≡ ydec h p
 
--- and its samples lie within the depth
+-- the planes of a frame
+pub record AreFrame {T : Type 0} (h : Header) (planes : Planes T) : Type 0 where
+  pub y : IsPlaneOf h 0 planes.y
+  pub u : IsPlaneOf h 1 planes.u
+  pub v : IsPlaneOf h 2 planes.v
+
+-- a plane of a frame whose samples lie within the depth
 pub record Stores {T : Type 0} (num : T → ℕ) (h : Header) (p : ℕ) (plane : Plane T) : Type 0 where
   pub place : IsPlaneOf h p plane
   pub within : All (λ v. num v < 2 ^ h.depth) plane.samples

@@ -8,7 +8,6 @@ ghost use Rattle.av1_blocks.specs.declared.transform.TxSize.TheVariants.{TX_4X4}
 ghost use Rattle.av1_blocks.specs.declared.transform.TxType.TheVariants.{WHT_WHT};
 ghost use Rattle.av1_lists.specs.Counts.{counted};
 ghost use Rattle.av1_edges.specs.Parts.{step_of};
-ghost use Rattle.av1_frame.specs.declared.plane_region.Area.TheVariants.{Rect};
 ghost use Rattle.av1_frame.specs.Areas.{stored_area};
 ghost use Rattle.av1_frame.specs.Planes.{InPlane, painted_plane};
 ghost use Rattle.av1_frame.specs.Regions.{InStorage, painted};
@@ -24,7 +23,7 @@ use crate::plane_block::PlaneBlock;
 use av1_blocks::{IntraParam, PredictionMode};
 use av1_edges::{IntraEdge, IntraEdgeBuffer, get_intra_edges};
 use av1_frame::{
-    Area, BlockOffset, Pixel, Plane, PlaneOffset, PlaneRegionMut, TileBlockOffset, TileRect,
+    BlockOffset, Pixel, Plane, PlaneOffset, PlaneRegionMut, TileBlockOffset, TileRect, visible_area,
 };
 use av1_intra::{IntraEdgeFilterParameters, predict_intra};
 use av1_itx::{TxScratch, inverse_transform_add_with};
@@ -43,20 +42,6 @@ pub struct BlockPlace {
     pub x: usize,
     /// The row of its first sample.
     pub y: usize,
-}
-
-/// The rectangle at column `x` of row `y` of a plane, as an area of it.
-fn visible_area(x: usize, y: usize, width: usize, height: usize) -> Area
-    requires x { x < 2 ^ 63 }
-    requires y { y < 2 ^ 63 }
-    ensures { result ≡ Rect (pos x) (pos y) width height }
-{
-    Area::Rect {
-        x: x as isize,
-        y: y as isize,
-        width,
-        height,
-    }
 }
 
 /// The place at column `x` of row `y`.

@@ -35,4 +35,4 @@ pub use laws::versions_show_the_same;
 pub use plane_block::{LumaBlock, PlaneBlock, Prediction};
 pub use planes::Planes;
 pub use recon::reconstruct_tile;
-pub use state::TileState;
+pub use state::{TileState, plane_of_frame, visible_row};

@@ -5,7 +5,7 @@ ghost use Rattle.av1_frame.specs.Planes.{sample_at};
 ghost use Rattle.av1_lists.specs.Lists.{by_index};
 ghost use Rattle.av1_plan.specs.Geometry.{plane_width, plane_height};
 ghost use Rattle.av1_tile.specs.PlaneBlocks.{extent_of};
-ghost use Rattle.av1_tile.specs.Walk.{Stores, HasRoomIn, HasCells};
+ghost use Rattle.av1_tile.specs.Walk.{IsPlaneOf, Stores, HasRoomIn, HasCells};
 
 use crate::buffers::WalkBuffers;
 use crate::cells::CodedCells;
@@ -39,8 +39,10 @@ impl<T: Pixel> Model for TileState<T> {
     ghost view = { λ s. record { header = s.header; references = s.fi; planes = s.planes; edges = s.buffers.edges.prepared } };
 }
 
-/// A plane of zeros with the sides of plane `p` of the frame.
-fn plane_of_frame<T: Pixel>(
+/// A plane of zeros with the sides of plane `p` (0 for Y, 1 for U and 2 for V) of a frame.
+///
+/// Storage is that of whole superblocks. An error is want of memory.
+pub fn plane_of_frame<T: Pixel>(
     alloc: Global,
     header: &Header,
     p: usize,
@@ -64,9 +66,14 @@ fn plane_of_frame<T: Pixel>(
     )
 }
 
-/// The visible row `y` of a plane.
-fn visible_row<'a, T: Pixel>(plane: &'a Plane<T>, header: &Header, p: usize, y: usize) -> &'a [T]
-    requires stores { Stores T.num header.now p plane.now }
+/// The visible row `y` of plane `p` (0 for Y, 1 for U and 2 for V) of a frame, from its first sample on.
+pub fn visible_row<'a, T: Pixel>(
+    plane: &'a Plane<T>,
+    header: &Header,
+    p: usize,
+    y: usize,
+) -> &'a [T]
+    requires place { IsPlaneOf header.now p plane.now }
     requires in_plane { y < plane_height header.now p }
     ensures { map T.num result.now ≡ by_index (plane_width header.now p) (λ x. sample_at T.num plane.now x y) }
 {
@@ -78,7 +85,7 @@ impl<T: Pixel> TileState<T> {
     ghost use Rattle.av1_plan.specs.Answer.{plan_value};
     ghost use Rattle.av1_plan.specs.Validity.{first_fault};
     ghost use Rattle.av1_tile.specs.PlaneBlocks.{extent_of};
-    ghost use Rattle.av1_tile.specs.State.{edges_of, IsFilledWith, IsSound, MadeFor, shown, ShowsRows, state_edges, state_header, state_references, state_row};
+    ghost use Rattle.av1_tile.specs.State.{edges_of, IsFilledWith, IsSound, MadeFor, shown, ShowsRows, state_edges, state_header, state_planes, state_references, state_row};
     ghost use Rattle.av1_tile.specs.Output.{planes_of, visible};
 
     /// Takes all the memory that the reconstruction of a plan needs. The plan is valid, and its depth one that the samples have.
@@ -111,6 +118,13 @@ impl<T: Pixel> TileState<T> {
         ensures { result.now ≡ state_header self.now }
     {
         &self.header
+    }
+
+    /// The planes of the frame, which may be stored beyond its sides.
+    pub fn planes(&self) -> &Planes<T>
+        ensures { result.now ≡ state_planes self.now }
+    {
+        &self.planes
     }
 
     /// How many edges were prepared in the state, up to the last value of a `u64`: none in a new one, and one for each prediction of a

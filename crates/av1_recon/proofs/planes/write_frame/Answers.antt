@@ -1,7 +1,7 @@
 use Rattle.std.proofs.lemmas.Result.{on_ok_weaker}
 use Rattle.av1_tile.specs.Output.{visible}
 use Rattle.av1_recon.proofs.Rows.{AppendsPrefix-one, AppendsPrefix-two, AppendsPrefix-three, Appends-three}
-use Rattle.av1_recon.proofs.planes.write_planes.Goals as goal
+use Rattle.av1_recon.proofs.planes.write_frame.Goals as goal
 
 pub returns-in_err-write_plane-clause-prefix : goal.returns-in_err-write_plane-clause-prefix
 unfolding visible
