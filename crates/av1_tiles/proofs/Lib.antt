@@ -6,3 +6,12 @@ pub mod ReadFronts
 pub mod Isolation
 pub mod Copied
 pub mod Placing
+pub mod Apart
+pub mod Shown
+pub mod Joining
+pub mod Covering
+pub mod Refusals
+pub mod Outcomes
+pub mod Grids
+pub mod Texts
+pub mod Answering

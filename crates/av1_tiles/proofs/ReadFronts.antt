@@ -10,7 +10,7 @@ use Rattle.av1_plan.proofs.ReadFrames.{frame_is}
 use Rattle.av1_plan.proofs.ReadReferences.{stored_are}
 use Rattle.av1_plan.proofs.Spelled.{read_spells}
 use Rattle.av1_tiles.specs.declared.file.Front.{Front}
-use Rattle.av1_tiles.specs.Bounds.{IsReadFront}
+use Rattle.av1_tiles.specs.Bounds.{AreBounds, IsReadFront}
 use Rattle.av1_tiles.specs.File.{front_value}
 use Rattle.av1_tiles.specs.Grammar.{is_magic, bounds, FrontValue, front}
 use Rattle.av1_tiles.proofs.Starts.{bounds_are}
@@ -32,16 +32,31 @@ pieces v s =
     let whole : HasPieces (record { header = h; references = slots; columns = columns; rows = rows }) = record { header = h_spelled; references = slots_spelled; columns = columns_spelled; rows = rows_spelled } in
     subst HasPieces (spelled_done _ v s5) whole
 
+-- the bounds of the columns and rows of tiles
+pub record HasBounds (v : FrontValue) : Type 0 where
+  pub columns : AreBounds v.header.width v.columns
+  pub rows : AreBounds v.header.height v.rows
+
+pub front_bounds : (v : FrontValue) → IsSpelled front v → HasBounds v
+front_bounds v s =
+    let p = pieces v s in
+    let is = frame_is 2 v.header (lit≤ tt) (lit≤ tt) p.header in
+    record {
+      columns = bounds_are v.header.width v.columns (omega (arith, is.width.least)) p.columns;
+      rows = bounds_are v.header.height v.rows (omega (arith, is.height.least)) p.rows;
+    }
+
 front_is : (f : Front) → length f.references.items ≡ 8 → IsSpelled front (front_value f) → IsReadFront f
 front_is f eight s =
     let p = pieces (front_value f) s in
     let is = frame_is 2 f.header (lit≤ tt) (lit≤ tt) p.header in
+    let bounds = front_bounds (front_value f) s in
     record {
       frame = is;
       eight = eight;
       slots = stored_are f.header f.references.items eight p.references;
-      columns = bounds_are f.header.width f.columns.items (omega (arith, is.width.least)) p.columns;
-      rows = bounds_are f.header.height f.rows.items (omega (arith, is.height.least)) p.rows;
+      columns = bounds.columns;
+      rows = bounds.rows;
     }
 
 pub read_front : (f : Front) (i j : Input) → AreBytes i.rest → vec_len f.references ≡ 8 → read front i ≡ Ok (front_value f, j) → IsReadFront f

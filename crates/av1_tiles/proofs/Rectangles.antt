@@ -63,7 +63,7 @@ halves x w s zero le h = omega (arith, h)
 halves x w s (suc zero) le h = omega (arith, h)
 halves x w s (suc (suc d)) le h = absurd (omega (arith, le))
 
-xdec_small : (h : Header) (p : ℕ) → xdec h p ≤ 1
+pub xdec_small : (h : Header) (p : ℕ) → xdec h p ≤ 1
 unfolding xdec
 xdec_small h zero = omega arith
 xdec_small h (suc p) = small (nat_lt h.sampling 2)
@@ -72,7 +72,7 @@ xdec_small h (suc p) = small (nat_lt h.sampling 2)
     small true = omega arith
     small false = omega arith
 
-ydec_small : (h : Header) (p : ℕ) → ydec h p ≤ 1
+pub ydec_small : (h : Header) (p : ℕ) → ydec h p ≤ 1
 unfolding ydec
 ydec_small h zero = omega arith
 ydec_small h (suc p) = small (h.sampling == 0)
@@ -136,3 +136,12 @@ few_by h tile a p y dec height frame is tile_is y_is dec_is height_is =
     whole s zero le = omega arith
     whole s (suc zero) le = omega arith
     whole s (suc (suc d)) le = absurd (omega (arith, le))
+
+-- the sides of a tile's plane
+pub tile_width : (h : Header) (a : TileArea) (p : ℕ) → plane_width (tile_header h a) p ≡ a.width / 2 ^ xdec h p
+unfolding plane_width
+tile_width h a p = ap (λ (d : ℕ). a.width / 2 ^ d) (same_xdec h a p)
+
+pub tile_height : (h : Header) (a : TileArea) (p : ℕ) → plane_height (tile_header h a) p ≡ a.height / 2 ^ ydec h p
+unfolding plane_height
+tile_height h a p = ap (λ (d : ℕ). a.height / 2 ^ d) (same_ydec h a p)

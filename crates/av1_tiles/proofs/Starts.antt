@@ -6,7 +6,7 @@ use Rattle.av1_plan.specs.Format.{IsAdmitted, done, ◌>>=◌, Input, Reading, o
 use Rattle.av1_plan.specs.Grammar.{byte_from}
 use Rattle.av1_plan.specs.ReadPlans.{IsSide}
 use Rattle.av1_plan.specs.Spelling.{IsSpelled}
-use Rattle.av1_plan.proofs.Formats.{add_asks, add_done, add_behind}
+use Rattle.av1_plan.proofs.Formats.{add_asks, add_done, add_behind, on_ok_same}
 use Rattle.av1_plan.proofs.Lists.{read_empty}
 use Rattle.av1_plan.proofs.Pieces.{spelled_done, spelled_asks, spelled_bind}
 use Rattle.av1_plan.proofs.ReadFrames.{range_is}
@@ -125,10 +125,6 @@ side_between side xs is are k lt =
     record { whole = omega (arith, first, second, rise); least = omega (arith, first, second, rise); most = omega (arith, most, is.most) }
 
 -- ---- reading
-
-on_ok_same : {A B : Type 0} (r : Reading A) (f g : A → Reading B) → ((x : A) → f x ≡ g x) → on_ok r f ≡ on_ok r g
-on_ok_same (Ok x) f g e = e x
-on_ok_same (Err at) f g e = refl
 
 -- one start, and then the others behind it
 pub starts_more : (side previous count : ℕ) (xs : List ℕ) (i : Input) → 0 < count

@@ -8,8 +8,6 @@ use Rattle.av1_tile.specs.Canvas.{Component}
 use Rattle.av1_tile.specs.PlaneBlocks.{number}
 use Rattle.av1_tile.specs.Edge.{sample_of}
 use Rattle.av1_tile.specs.Reference.{slow_walk}
-use Rattle.av1_tile.specs.declared.planes.Planes.{Planes}
-use Rattle.av1_tile.specs.Walk.{IsPlaneOf}
 use Rattle.av1_tiles.specs.declared.area.TileArea.{TileArea}
 use Rattle.av1_tiles.specs.Grammar.{FrontValue, FileValue, count_tiles}
 use Rattle.av1_tiles.specs.Tiles.{tile_area, tile_header, corner_column, corner_row}
@@ -22,12 +20,6 @@ placed h p x y = record { x = x; y = y; width = plane_width h p; height = plane_
 -- a tile's rectangle of plane p of its frame
 abbrev pub tile_rectangle : Header → TileArea → (p : ℕ) → VisibleArea
 tile_rectangle h a p = placed (tile_header h a) p (corner_column h a p) (corner_row h a p)
-
--- the planes of a frame
-pub record AreFrame {T : Type 0} (h : Header) (planes : Planes T) : Type 0 where
-  pub y : IsPlaneOf h 0 planes.y
-  pub u : IsPlaneOf h 1 planes.u
-  pub v : IsPlaneOf h 2 planes.v
 
 -- the sides of tile i in plane p
 abbrev pub tile_columns : FrontValue → (i p : ℕ) → ℕ
@@ -45,6 +37,10 @@ ShowsTile f i plan frame =
 -- the joined planes: each sample is that of its tile's plan, less the tile's corner
 abbrev pub IsJoined : FileValue → (ℕ → PlanValue) → (Component → ℕ → ℕ → ℕ) → Type 0
 IsJoined f plans frame = (i : ℕ) → i < count_tiles f.front → ShowsTile f.front i (plans i) frame
+
+-- the joined planes of valid tiles
+abbrev pub ComesTo : FileValue → (Component → ℕ → ℕ → ℕ) → Type 0
+ComesTo f frame = (plans : ℕ → PlanValue) × AreTiles f plans × IsJoined f plans frame
 
 -- Isolation: where tile i of two grids has the same plan and the same corners, their joined planes agree at each sample of it.
 abbrev pub TilesAreIsolated : Type 0

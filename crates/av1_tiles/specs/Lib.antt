@@ -4,3 +4,9 @@ pub mod Tiles
 pub mod Bounds
 pub mod Validity
 pub mod Joined
+pub mod Errors
+pub mod Frames
+pub mod Refusals
+pub mod Outcomes
+pub mod Tasks
+pub mod Texts

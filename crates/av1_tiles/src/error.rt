@@ -1,6 +1,13 @@
 //! Why a grid of tiles is refused.
 
-use av1_plan::InvalidKind;
+ghost use Rattle.std.specs.Prelude.{◌≡◌};
+ghost use Rattle.av1_tiles.specs.Errors.{read_error, file_error};
+ghost use Rattle.av1_tiles.specs.declared.error.TileError.TheVariants.{Memory};
+ghost use Rattle.av1_tiles.specs.declared.error.TilesError.TheVariants as errors;
+
+use av1_blocks::OutOfMemory;
+use av1_plan::{InvalidKind, PlanError};
+use av1_streams::{ReadError, WriteFault};
 
 /// Why the part of a tile is refused.
 #[derive(Copy, Clone, Debug, PartialEq, Eq)]
@@ -18,4 +25,68 @@ pub enum TileError {
     Refused { fault: TileFault },
     /// Memory ran out.
     Memory,
+}
+
+impl From<OutOfMemory> for TileError {
+    ghost from_gives = { λ _ e. e ≡ Memory };
+
+    fn from(_: OutOfMemory) -> Self {
+        TileError::Memory
+    }
+}
+
+/// Why a grid of tiles was not reconstructed and written.
+#[derive(Copy, Clone, Debug, PartialEq, Eq)]
+pub enum TilesError {
+    /// A read failed.
+    ReadFault,
+    /// The source gave a byte past the most that a grid of tiles has, which are as many as a plan has.
+    TooLong,
+    /// The field that begins at byte `at` is cut, has a value that is not admitted, or is left over after the end. A tile's part is one field.
+    Malformed { at: u32 },
+    /// Tile number `tile`, counted from 0 in raster order, is the first that is refused, and why.
+    Tile { tile: u16, fault: TileFault },
+    /// A write failed. A prefix of the planes was written.
+    WriteFault,
+    /// Memory ran out, before the first written byte.
+    Memory,
+}
+
+impl From<ReadError> for TilesError {
+    ghost from_gives = { λ error e. e ≡ read_error error };
+
+    fn from(error: ReadError) -> Self {
+        match error {
+            ReadError::ReadFault => TilesError::ReadFault,
+            ReadError::TooLong => TilesError::TooLong,
+            ReadError::Memory => TilesError::Memory,
+        }
+    }
+}
+
+impl From<PlanError> for TilesError {
+    ghost from_gives = { λ error e. e ≡ file_error error };
+
+    fn from(error: PlanError) -> Self {
+        match error {
+            PlanError::Malformed { at } => TilesError::Malformed { at },
+            PlanError::Memory => TilesError::Memory,
+        }
+    }
+}
+
+impl From<WriteFault> for TilesError {
+    ghost from_gives = { λ _ e. e ≡ errors.WriteFault };
+
+    fn from(_: WriteFault) -> Self {
+        TilesError::WriteFault
+    }
+}
+
+impl From<OutOfMemory> for TilesError {
+    ghost from_gives = { λ _ e. e ≡ errors.Memory };
+
+    fn from(_: OutOfMemory) -> Self {
+        TilesError::Memory
+    }
 }

@@ -1,7 +1,6 @@
 //! The planes of a frame, put together of those of its tiles.
 
-ghost use Rattle.std.specs.Prelude.{◌≡◌, ◌<◌, ◌≤◌, ◌^◌, length, map, pos, slice_index};
-ghost use Rattle.av1_frame.specs.declared.plane_region.Area.TheVariants.{Rect};
+ghost use Rattle.std.specs.Prelude.{◌≡◌, ◌<◌, ◌≤◌, ◌^◌, length, map, slice_index, ◌≢◌, ℕ, OnOk, IfErr};
 ghost use Rattle.av1_frame.specs.Planes.{InPlane, painted_plane};
 ghost use Rattle.av1_frame.specs.Regions.{InStorage, painted};
 ghost use Rattle.av1_frame.specs.Samples.{paint_row};
@@ -10,28 +9,23 @@ ghost use Rattle.av1_tile.specs.State.{IsSound, state_header, state_row};
 ghost use Rattle.av1_plan.specs.ReadPlans.{IsReadFrame};
 ghost use Rattle.av1_tile.specs.Canvas.{Component};
 ghost use Rattle.av1_tile.specs.PlaneBlocks.{number};
-ghost use Rattle.av1_tile.specs.Walk.{IsPlaneOf, plane_of};
-ghost use Rattle.av1_tiles.specs.Joined.{placed, tile_rectangle, AreFrame};
+ghost use Rattle.av1_tile.specs.Walk.{AreFrame, IsPlaneOf, plane_of, samples_of};
+ghost use Rattle.av1_plan.specs.Plan.{PlanValue};
+ghost use Rattle.av1_tiles.specs.Bounds.{IsReadFile};
+ghost use Rattle.av1_tiles.specs.File.{front_value, file_value};
+ghost use Rattle.av1_tiles.specs.Grammar.{count_tiles};
+ghost use Rattle.av1_tiles.specs.Validity.{IsTile, RefusesTile};
+ghost use Rattle.av1_tiles.specs.Joined.{placed, tile_rectangle, ShowsTile};
 ghost use Rattle.av1_tiles.specs.Tiles.{IsTileArea, tile_header, corner_column, corner_row};
 
 use crate::area::TileArea;
-use av1_frame::{Area, Pixel, Plane, PlaneRegionMut};
+use crate::error::TileError;
+use crate::file::TileFile;
+use crate::tile::{read_tile, tile_area};
+use av1_frame::{Pixel, Plane, PlaneRegionMut, visible_area};
 use av1_plan::Header;
-use av1_tile::{Planes, TileState};
-
-/// The rectangle at column `x` of row `y` of a plane, as an area of it.
-fn visible_area(x: usize, y: usize, width: usize, height: usize) -> Area
-    requires x { x < 2 ^ 63 }
-    requires y { y < 2 ^ 63 }
-    ensures { result ≡ Rect (pos x) (pos y) width height }
-{
-    Area::Rect {
-        x: x as isize,
-        y: y as isize,
-        width,
-        height,
-    }
-}
+use av1_tile::{Planes, TileState, reconstruct_tile};
+use std::alloc::Global;
 
 /// The first `width` samples of the row become those of `source`.
 #[tactic(auto, using(av1_frame::proofs::Paint::row_painting))]
@@ -150,4 +144,34 @@ pub fn place_tile<T: Pixel>(
     place_in(&mut planes.y, header, area, 0, state);
     place_in(&mut planes.u, header, area, 1, state);
     place_in(&mut planes.v, header, area, 2, state);
+}
+
+/// Reconstructs one tile, and puts it into the planes of its frame.
+pub fn reconstruct_in<T: Pixel>(
+    alloc: Global,
+    planes: &mut Planes<T>,
+    file: &TileFile<'_>,
+    index: usize,
+) -> Result<(), TileError>
+    requires read { IsReadFile file.now }
+    requires tile { index < count_tiles (front_value file.now.front) }
+    requires depth { file.now.front.header.depth ≤ T.BITS }
+    requires planes { AreFrame file.now.front.header planes.old }
+    // Its own samples are those of its plan, and those of all other tiles stay.
+    ensures done { OnOk result ((plan : PlanValue) × IsTile (file_value file.now) index plan × ShowsTile (front_value file.now.front) index plan (samples_of T.num planes.new)
+        × ((other : ℕ) (plan : PlanValue) → other < count_tiles (front_value file.now.front) → other ≢ index
+        → ShowsTile (front_value file.now.front) other plan (samples_of T.num planes.old) → ShowsTile (front_value file.now.front) other plan (samples_of T.num planes.new))) }
+    ensures planes { AreFrame file.now.front.header planes.new }
+    ensures refused { IfErr result (λ e. RefusesTile (file_value file.now) index e) }
+{
+    let plan = read_tile(alloc, file, index)?;
+    let mut state = TileState::<T>::new(alloc, &plan)?;
+    reconstruct_tile(&mut state, &plan);
+    place_tile(
+        planes,
+        &file.front.header,
+        tile_area(&file.front, index),
+        &state,
+    );
+    Ok(())
 }

@@ -1,5 +1,7 @@
 use super::*;
 use av1_plan::PlanError;
+use av1_streams::{MemSink, SliceSource};
+use std::alloc::Global;
 use std::test::Fail;
 
 /// 128x8, 4:4:4, depth 8, two tiles side by side. Each is one leaf of 64x64: the first with mode 1, the second plain.
@@ -53,4 +55,84 @@ fn a_part_is_refused_by_its_own_bytes(rt: HostRuntime) -> Result<(), Fail> {
 fn a_part_that_is_cut_is_refused_at_its_first_byte(rt: HostRuntime) {
     let refused = PlanError::Malformed { at: 46 };
     assert!(rt; matches!(&read_tiles(rt.alloc(), &TWO_TILES[..59]), Err(e) if *e == refused));
+}
+
+/// Reads these bytes by sevens, and writes what they come to.
+fn run(
+    alloc: Global,
+    bytes: &[u8],
+    reads: &[u64],
+    sink: &mut MemSink<'_>,
+) -> Result<(), TilesError> {
+    let mut source = SliceSource::new(bytes, 7, reads);
+    reconstruct_tiles(alloc, &mut source, sink)
+}
+
+/// The bytes of the two tiles' planes are 127 in the left half of Y, and 128.
+fn sample(place: usize) -> u8 {
+    if place < 128 * 8 && place % 128 < 64 {
+        127
+    } else {
+        128
+    }
+}
+
+#[test]
+fn two_tiles_come_to_one_frame(rt: HostRuntime) -> Result<(), Fail> {
+    let mut sink = MemSink::new(rt.alloc(), 4096, 100, &[])?;
+    assert!(rt; run(rt.alloc(), &TWO_TILES, &[], &mut sink).is_ok());
+    assert_eq!(rt; sink.bytes().len(), 3 * 128 * 8);
+    for (place, byte) in sink.bytes().iter().enumerate() {
+        assert_eq!(rt; *byte, sample(place));
+    }
+    Ok(())
+}
+
+#[test]
+fn after_a_read_that_fails_nothing_is_written(rt: HostRuntime) -> Result<(), Fail> {
+    for call in 0..10 {
+        let mut sink = MemSink::new(rt.alloc(), 4096, 100, &[])?;
+        let answer = run(rt.alloc(), &TWO_TILES, &[call], &mut sink);
+        assert!(rt; matches!(answer, Err(TilesError::ReadFault)));
+        assert_eq!(rt; sink.bytes().len(), 0);
+    }
+    Ok(())
+}
+
+#[test]
+fn after_a_write_that_fails_a_prefix_stands(rt: HostRuntime) -> Result<(), Fail> {
+    let fails = [3];
+    let mut sink = MemSink::new(rt.alloc(), 4096, 100, &fails)?;
+    let answer = run(rt.alloc(), &TWO_TILES, &[], &mut sink);
+    assert!(rt; matches!(answer, Err(TilesError::WriteFault)));
+    assert_eq!(rt; sink.bytes().len(), 228);
+    for (place, byte) in sink.bytes().iter().enumerate() {
+        assert_eq!(rt; *byte, sample(place));
+    }
+    Ok(())
+}
+
+#[test]
+fn the_first_refused_tile_is_named_and_nothing_is_written(rt: HostRuntime) -> Result<(), Fail> {
+    let mut sink = MemSink::new(rt.alloc(), 4096, 100, &[])?;
+    let mut bytes = TWO_TILES;
+    let fault = TileFault::Malformed { at: 0 };
+    for (at, tile) in [(46, 1), (28, 0)] {
+        bytes[at] = 4;
+        let refused = TilesError::Tile { tile, fault };
+        let answer = run(rt.alloc(), &bytes, &[], &mut sink);
+        assert!(rt; matches!(&answer, Err(e) if *e == refused));
+        assert_eq!(rt; sink.bytes().len(), 0);
+    }
+    Ok(())
+}
+
+#[test]
+fn a_start_that_is_no_multiple_of_64_is_malformed(rt: HostRuntime) -> Result<(), Fail> {
+    let mut sink = MemSink::new(rt.alloc(), 4096, 100, &[])?;
+    let mut bytes = TWO_TILES;
+    bytes[21] = 72;
+    let answer = run(rt.alloc(), &bytes, &[], &mut sink);
+    assert!(rt; matches!(answer, Err(TilesError::Malformed { at: 21 })));
+    Ok(())
 }

@@ -1,0 +1,26 @@
+-- The planes of a frame in memory.
+use Rattle.std.specs.Prelude.{◌≡◌, ◌≢◌, ℕ, List}
+use Rattle.av1_plan.specs.declared.header.Header.{Header}
+use Rattle.av1_tile.specs.Canvas.{Component}
+use Rattle.av1_tile.specs.Output.{visible}
+use Rattle.av1_tile.specs.Walk.{AreFrame, samples_of}
+use Rattle.av1_tiles.specs.declared.joined.Frame.{Frame}
+use Rattle.av1_tiles.specs.declared.joined.Samples.{Samples}
+use Rattle.av1_tiles.specs.declared.joined.Samples.TheVariants.{Bytes, Words}
+
+-- the numbers of its samples, by column and row
+abbrev pub samples_in : Samples → Component → ℕ → ℕ → ℕ
+samples_in (Bytes planes) = samples_of (λ v. v) planes
+samples_in (Words planes) = samples_of (λ v. v) planes
+
+-- the planes have the sides that the header says, and one byte a sample exactly at depth 8
+abbrev pub HavePlanes : Header → Samples → Type 0
+HavePlanes h (Bytes planes) = AreFrame h planes × (h.depth ≡ 8)
+HavePlanes h (Words planes) = AreFrame h planes × (h.depth ≢ 8)
+
+abbrev pub IsFrame : Frame → Type 0
+IsFrame f = HavePlanes f.header f.samples
+
+-- the bytes of its visible planes
+abbrev pub frame_bytes : Frame → List ℕ
+frame_bytes f = visible f.header (samples_in f.samples)

@@ -1,0 +1,108 @@
+//! The frame that the tiles of a grid come to.
+
+ghost use Rattle.std.specs.Prelude.{◌≡◌, ◌≢◌, ◌≤◌, ◌<◌, ℕ, OnOk, IfOk, IfErr};
+ghost use Rattle.av1_plan.specs.Plan.{PlanValue};
+ghost use Rattle.av1_plan.specs.ReadPlans.{IsReadFrame};
+ghost use Rattle.av1_tile.specs.Walk.{AreFrame, samples_of};
+ghost use Rattle.av1_tiles.specs.Bounds.{IsReadFile};
+ghost use Rattle.av1_tiles.specs.Errors.{tile_error};
+ghost use Rattle.av1_tiles.specs.File.{front_value, file_value};
+ghost use Rattle.av1_tiles.specs.Frames.{IsFrame, samples_in};
+ghost use Rattle.av1_tiles.specs.Grammar.{count_tiles};
+ghost use Rattle.av1_tiles.specs.Joined.{ComesTo, ShowsTile};
+ghost use Rattle.av1_tiles.specs.Refusals.{RefusesTiles};
+ghost use Rattle.av1_tiles.specs.Validity.{IsTile, RefusesTile};
+
+use crate::error::{TileError, TilesError};
+use crate::file::TileFile;
+use crate::frame::reconstruct_in;
+use av1_blocks::OutOfMemory;
+use av1_frame::Pixel;
+use av1_plan::Header;
+use av1_tile::{Planes, plane_of_frame};
+use std::alloc::Global;
+
+/// The planes of a frame, in samples as narrow as its depth allows.
+#[derive(Drop)]
+pub enum Samples {
+    /// One byte a sample, at depth 8.
+    Bytes(Planes<u8>),
+    /// Two bytes a sample, at depths 10 and 12.
+    Words(Planes<u16>),
+}
+
+/// The frame that the tiles of a grid come to.
+#[derive(Drop)]
+pub struct Frame {
+    /// Its settings.
+    pub header: Header,
+    /// Its planes.
+    pub samples: Samples,
+}
+
+/// Planes of zeros with the sides of a frame.
+fn new_planes<T: Pixel>(alloc: Global, header: &Header) -> Result<Planes<T>, OutOfMemory>
+    requires frame { IsReadFrame header.now }
+    ensures { IfOk result (λ planes. AreFrame header.now planes) }
+{
+    let y = plane_of_frame(alloc, header, 0)?;
+    let u = plane_of_frame(alloc, header, 1)?;
+    let v = plane_of_frame(alloc, header, 2)?;
+    Ok(Planes { y, u, v })
+}
+
+/// What an error of tile number `tile` is for its grid, which has fewer than 65,536 tiles.
+fn tile_error(tile: usize, error: TileError) -> TilesError
+    requires { tile < 65536 }
+    ensures { result ≡ tile_error tile error }
+{
+    match error {
+        TileError::Refused { fault } => TilesError::Tile {
+            tile: tile as u16,
+            fault,
+        },
+        TileError::Memory => TilesError::Memory,
+    }
+}
+
+/// The planes that the tiles of a grid come to: each tile is reconstructed from its own part, one after the other in raster order, and put
+/// into its rectangle of each plane.
+///
+/// # Errors
+///
+/// `Tile` names the first tile that is refused, and why. `Memory` where memory runs out.
+pub fn join_tiles<T: Pixel>(alloc: Global, file: &TileFile<'_>) -> Result<Planes<T>, TilesError>
+    requires read { IsReadFile file.now }
+    requires depth { file.now.front.header.depth ≤ T.BITS }
+    ensures planes { IfOk result (λ planes. AreFrame file.now.front.header planes) }
+    ensures joined { IfOk result (λ planes. ComesTo (file_value file.now) (samples_of T.num planes)) }
+    ensures refused { IfErr result (λ e. RefusesTiles (file_value file.now) e) }
+{
+    let mut planes = new_planes(alloc, &file.front.header)?;
+    for index in 0..file.parts.len() {
+        if let Err(error) = reconstruct_in(alloc, &mut planes, file, index) {
+            return Err(tile_error(index, error));
+        }
+    }
+    Ok(planes)
+}
+
+/// The frame that the tiles of a grid come to.
+///
+/// # Errors
+///
+/// As of [`join_tiles`].
+pub fn join_frame(alloc: Global, file: &TileFile<'_>) -> Result<Frame, TilesError>
+    requires read { IsReadFile file.now }
+    ensures frame { IfOk result (λ frame. IsFrame frame) }
+    ensures header { IfOk result (λ frame. frame.header ≡ file.now.front.header) }
+    ensures joined { IfOk result (λ frame. ComesTo (file_value file.now) (samples_in frame.samples)) }
+    ensures refused { IfErr result (λ e. RefusesTiles (file_value file.now) e) }
+{
+    let header = file.front.header;
+    let samples = match header.depth {
+        8 => Samples::Bytes(join_tiles(alloc, file)?),
+        _ => Samples::Words(join_tiles(alloc, file)?),
+    };
+    Ok(Frame { header, samples })
+}
