@@ -11,15 +11,13 @@ use Rattle.av1_lists.specs.Lists.{by_index}
 use Rattle.av1_lists.proofs.Ranges.{range-append}
 use Rattle.av1_plan.specs.declared.header.Header.{Header}
 use Rattle.av1_plan.specs.Geometry.{plane_height, plane_len, plane_width}
+use Rattle.av1_recon.proofs.SamplesByBytes.{bytes_by}
 use Rattle.av1_streams.specs.Streams.{AreBytes}
 use Rattle.av1_tile.specs.Output.{by_rows, plane_bytes, sample_bytes, visible}
 use Rattle.av1_tile.specs.PlaneBlocks.{extent_of, number}
 use Rattle.av1_trace.specs.Samples.{given, planes_len, sample_from, sample_len, samples_before}
 
 -- ---- samples one after the other
-
-abbrev bytes_by : Bool → ℕ → List ℕ
-bytes_by narrow v = if narrow then v ∷ [] else v % 256 ∷ v / 256 ∷ []
 
 abbrev from_by : Bool → List ℕ → ℕ → ℕ
 from_by narrow bytes i = if narrow then get_or bytes i 0 else get_or bytes (2 * i) 0 + 256 * get_or bytes (2 * i + 1) 0

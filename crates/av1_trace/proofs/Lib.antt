@@ -1,7 +1,11 @@
 pub mod Comparing
+pub mod Counting
 pub mod DifferenceTexts
 pub mod Frames
 pub mod GivenSamples
 pub mod Places
+pub mod Reading
 pub mod Refusals
 pub mod SameSamples
+pub mod Shapes
+pub mod TraceOutcomes

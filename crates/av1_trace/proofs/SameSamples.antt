@@ -37,6 +37,7 @@ use Rattle.av1_tile.specs.Output.{by_rows, planes_of}
 use Rattle.av1_tile.specs.Edge.{sample_of}
 use Rattle.av1_tile.specs.PlaneBlocks.{component, extent_of, number}
 use Rattle.av1_tile.specs.Reference.{slow_walk}
+use Rattle.av1_tile.proofs.Pictures.{plan_coded}
 use Rattle.av1_tile.proofs.PlanFits.{whole_frame}
 use Rattle.av1_tile.proofs.Simulation.{visible_same}
 use Rattle.av1_trace.specs.declared.entry.Difference.{Difference}
@@ -46,15 +47,6 @@ use Rattle.av1_trace.proofs.GivenSamples.{given_bytes}
 use Rattle.av1_trace.proofs.Places.{first_or_later, none_passes, nothing_passes}
 
 -- ---- areas
-
--- a valid plan in a plane: its leaves are valid and stand in coding order
-plan_coded : (plan : Plan) → first_fault (plan_value plan) ≡ None → IsSpelled grammar (plan_value plan) → (p : ℕ) → IsCodedPlan (plan_value plan).header p (plan_value plan).leaves
-plan_coded plan valid s p = record {
-  frame = whole_frame (plan_value plan).header (read_frame plan);
-  grid = plan_grid plan;
-  valid = faultless (plan_value plan).header 0 (plan_value plan).leaves valid;
-  ordered = plan_trees (record { is_inter = false; columns = 0; rows = 0 }) (coding_in (plan_value plan).header p) (plan_value plan) s;
-}
 
 -- each visible place lies in one leaf's area
 pub has_its_leaf : (plan : Plan) → first_fault (plan_value plan) ≡ None → (p x y : ℕ) → x < plane_width (plan_value plan).header p → y < plane_height (plan_value plan).header p

@@ -4,3 +4,4 @@ pub mod Rows
 pub mod DifferenceLines
 pub mod TraceErrors
 pub mod Traces
+pub mod Checking

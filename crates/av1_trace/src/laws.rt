@@ -1,11 +1,12 @@
-//! Laws of differences.
+//! Laws of differences and of traces.
 
-ghost use Rattle.std.specs.Prelude.{◌≡◌, ℕ, ◌<◌, None, count_by};
+ghost use Rattle.std.specs.Prelude.{◌≡◌, ℕ, ◌<◌, ◌^◌, All, List, None, count_by};
 ghost use Rattle.av1_order.specs.Neighbours.{in_area};
 ghost use Rattle.av1_plan.specs.Answer.{plan_value};
 ghost use Rattle.av1_plan.specs.Geometry.{plane_height, plane_width};
 ghost use Rattle.av1_plan.specs.Plan.{LeafValue};
 ghost use Rattle.av1_plan.specs.Validity.{first_fault};
+ghost use Rattle.av1_trace.specs.Checking.{HasOutcome, Outcome};
 
 use av1_plan::Plan;
 
@@ -17,3 +18,9 @@ pub fn every_place_has_its_leaf(plan: &Plan)
 {
     let _plan = plan.header();
 }
+
+/// The laws of outcomes: every list of bytes has one as a trace, and one alone.
+pub fn trace_outcome_laws()
+    ensures some { (bytes : List ℕ) → All (λ byte. byte < 2 ^ 8) bytes → (outcome : Outcome) × HasOutcome bytes outcome }
+    ensures one { (bytes : List ℕ) (a b : Outcome) → HasOutcome bytes a → HasOutcome bytes b → a ≡ b }
+{}

@@ -1,17 +1,23 @@
 //! Traces: a plan, and the planes that another encoder left of it.
-ghost use Rattle.std.specs.Prelude.{◌≡◌, ◌≢◌, ◌≤◌, ℕ, List, IfOk, IfErr, length};
+ghost use Rattle.std.specs.Prelude.{◌≡◌, ◌≢◌, ◌<◌, ◌≤◌, ◌^◌, ℕ, List, IfOk, IfErr, length};
 ghost use Rattle.av1_plan.specs.Answer.{plan_value};
 ghost use Rattle.av1_plan.specs.Plan.{PlanValue};
 ghost use Rattle.av1_plan.specs.Validity.{first_fault};
 ghost use Rattle.av1_streams.specs.Streams.{max_plan_bytes};
+ghost use Rattle.av1_streams.specs.Tasks.{WritesBytes};
+ghost use Rattle.av1_trace.specs.Checking.{Checks, ReadsTrace, cause};
+ghost use Rattle.av1_trace.specs.DifferenceLines.{difference_lines};
 ghost use Rattle.av1_trace.specs.Differences.{differences};
 ghost use Rattle.av1_trace.specs.Traces.{AreRefusedFor, HasParts, IsMalformedAt, IsPlanFault, IsTrace, IsValidPlan, max_trace_bytes};
 ghost use Rattle.av1_trace.specs.declared.error.TraceError.TheVariants.{Malformed, Memory};
 
-use crate::{Difference, TraceError, compare, planes_len};
+use crate::{Difference, TraceError, compare, planes_len, write_differences};
 use av1_plan::{Plan, check_plan, parse_plan};
-use av1_streams::MAX_PLAN_BYTES;
+use av1_streams::{MAX_PLAN_BYTES, Sink, Source, read_bytes};
 use std::alloc::Global;
+
+/// The most bytes that a trace has: 128 MiB.
+pub const MAX_TRACE_BYTES: usize = 1 << 27;
 
 // The bytes before the plan: four letters, and the length of the plan.
 const HEAD: usize = 8;
@@ -21,6 +27,44 @@ const HEAD: usize = 8;
 struct Parts<'a> {
     plan: &'a [u8],
     planes: &'a [u8],
+}
+
+/// Reads a trace from the source to its end, as [`trace_differences`] takes it, and appends lines on its differences to the sink, as
+/// [`write_differences`] does. Answers how many there are.
+///
+/// # Errors
+///
+/// `ReadFault` and `TooLong` while it reads; then `Malformed`, for the letters, the length or a plan that is cut; then `Plan`; then
+/// `Malformed`, for planes of another length than the plan's; then `WriteFault`. `Memory` may stand in place of any of them, before the first
+/// written byte.
+pub fn check_trace<R: Source, W: Sink>(
+    alloc: Global,
+    source: &mut R,
+    sink: &mut W,
+) -> Result<u32, TraceError>
+    ensures { Checks R.left R.faults W.taken W.faults source.old source.new sink.old sink.new result }
+{
+    let list = read_differences(alloc, source)?;
+    count_differences(&list, sink)
+}
+
+// Reads a trace, and compares it.
+fn read_differences<R: Source>(alloc: Global, source: &mut R) -> Result<Vec<Difference>, TraceError>
+    ensures reads { ReadsTrace R.left R.faults source.old source.new result }
+    ensures few { IfOk result (λ list. length list.items < 2 ^ 32) }
+{
+    let bytes = read_bytes(alloc, source, MAX_TRACE_BYTES)?;
+    trace_differences(alloc, &bytes)
+}
+
+// Appends lines on differences, and counts these.
+fn count_differences<W: Sink>(list: &[Difference], sink: &mut W) -> Result<u32, TraceError>
+    requires few { length list.now < 2 ^ 32 }
+    ensures count { IfOk result (λ count. count ≡ length list.now) }
+    ensures writes { WritesBytes cause W.taken W.faults sink.old sink.new (difference_lines list.now) result }
+{
+    write_differences(list, sink)?;
+    Ok(list.len() as u32)
 }
 
 /// The differences of the trace that these bytes are: the letters `RTR1`, the length of the plan in four bytes, the low one first, the plan,
@@ -33,6 +77,7 @@ struct Parts<'a> {
 pub fn trace_differences(alloc: Global, bytes: &[u8]) -> Result<Vec<Difference>, TraceError>
     requires short { length bytes.now ≤ max_trace_bytes }
     ensures found { IfOk result (λ list. (value : PlanValue) × (planes : List ℕ) × IsTrace bytes.now value planes × (list.items ≡ differences value planes)) }
+    ensures few { IfOk result (λ list. length list.items < 2 ^ 32) }
     ensures refused { IfErr result (λ e. e ≢ Memory → AreRefusedFor bytes.now e) }
 {
     let parts = trace_parts(bytes)?;

@@ -1,5 +1,5 @@
 use Rattle.std.proofs.Common.{arith}
-use Rattle.av1_recon.proofs.Rows.{AppendsPrefix-all}
+use Rattle.av1_streams.proofs.Prefixes.{AppendsPrefix-all}
 use Rattle.av1_trace.proofs.DifferenceTexts.{Appends-line, Appends-lines, AppendsPrefix-line}
 use Rattle.av1_trace.proofs.lines.write_each.Goals as goal
 

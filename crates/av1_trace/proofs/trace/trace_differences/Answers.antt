@@ -1,4 +1,5 @@
 use Rattle.av1_plan.specs.Answer.{plan_value}
+use Rattle.av1_trace.proofs.Counting.{few_differences}
 use Rattle.av1_trace.proofs.Refusals.{no_parts, planes_cut, planes_left_over}
 use Rattle.av1_trace.proofs.trace.trace_differences.Goals as goal
 
@@ -14,3 +15,6 @@ pub returns-then-parts-len-2-clause-refused : goal.returns-then-parts-len-2-clau
 returns-then-parts-len-2-clause-refused c =
     planes_left_over c.args.bytes.now c.in_ok-parts.parts.plan.now c.in_ok-parts.parts.planes.now (plan_value c.in_ok-plan.plan) c.header.result.now c.planes_len-len.result c.malformed-then-parts-len-2.result c.requires.short
     c.in_ok-parts.ensures.found c.in_ok-plan.ensures.found c.planes_len-len.ensures c.header.ensures.value c.if-parts-len-2.true c.malformed-then-parts-len-2.ensures
+
+pub returns-clause-few : goal.returns-clause-few
+returns-clause-few c = few_differences c.in_ok-plan.plan c.in_ok-parts.parts.planes.now c.in_ok-compare.field-0.items c.in_ok-compare.ensures.differences
