@@ -1,0 +1,12 @@
+pub mod Told
+pub mod LeafTexts
+pub mod NodeTexts
+pub mod PlanTexts
+pub mod Turns
+pub mod TripleBytes
+pub mod Left
+pub mod References
+pub mod BarePlans
+pub mod Spelled
+pub mod Packed
+pub mod MarkTrees

@@ -1,0 +1,4 @@
+pub mod Text
+pub mod Bare
+pub mod Writing
+pub mod MarkLaws

@@ -1,0 +1,39 @@
+//! From the bytes of a plan to the bytes of its predictions alone.
+
+ghost use Rattle.av1_plan.specs.Answer.{plan_value};
+ghost use Rattle.av1_planwrite.specs.Bare.{bare_text};
+ghost use Rattle.av1_recon.specs.Outcomes.{Converts};
+ghost use Rattle.av1_recon.specs.Writing.{Writes};
+
+use crate::write::write_bare;
+use av1_plan::Plan;
+use av1_recon::{ReconError, Sink, Source, read_plan};
+use av1_streams::write_bytes;
+use std::alloc::Global;
+
+/// Reads a plan from the source to its end, and appends the text of the same plan without its coefficients to the sink. It shows an encoder
+/// what its predictions alone come to.
+///
+/// # Errors
+///
+/// As for [`av1_recon::reconstruct_plan`]: `ReadFault` and `TooLong` while it reads, then `Malformed`, then `Invalid`, then
+/// `WriteFault`. `Memory` may stand in place of any of them, before the first written byte.
+pub fn bare_plan<R: Source, W: Sink>(
+    alloc: Global,
+    source: &mut R,
+    sink: &mut W,
+) -> Result<(), ReconError>
+    ensures { Converts bare_text R.left R.faults W.taken W.faults source.old source.new sink.old sink.new result }
+{
+    let plan = read_plan(alloc, source)?;
+    append_bare(alloc, &plan, sink)
+}
+
+// Appends the text of a plan without its coefficients.
+fn append_bare<W: Sink>(alloc: Global, plan: &Plan, sink: &mut W) -> Result<(), ReconError>
+    ensures { Writes W.taken W.faults sink.old sink.new (bare_text (plan_value plan.now)) result }
+{
+    let bytes = write_bare(alloc, plan)?;
+    write_bytes(sink, &bytes)?;
+    Ok(())
+}

@@ -1,0 +1,70 @@
+//! Samples of references, as bytes.
+
+ghost use Rattle.std.specs.Prelude.{◌≡◌, ◌*◌, ◌≤◌, length, take};
+ghost use Rattle.std.specs.List.{flat_map};
+ghost use Rattle.av1_planwrite.specs.Text.{sample_text, plane_text};
+
+use crate::text::Text;
+use av1_blocks::OutOfMemory;
+
+// The samples that are written at once.
+const MOST_SAMPLES: usize = 512;
+
+// The bytes of these.
+const MOST_BYTES: usize = 2 * MOST_SAMPLES;
+
+/// Puts samples at the front of the bytes, one byte each.
+fn pack_one(samples: &[u16], bytes: &mut [u8])
+    requires room { length samples.now ≤ length bytes.old }
+    ensures { take (length samples.now) bytes.new ≡ flat_map (sample_text 8) samples.now }
+{
+    for (i, sample) in samples.iter().enumerate() {
+        bytes[i] = (*sample % 256) as u8;
+    }
+}
+
+/// Puts samples at the front of the bytes, two bytes each.
+fn pack_two(samples: &[u16], bytes: &mut [u8])
+    requires room { 2 * length samples.now ≤ length bytes.old }
+    ensures { take (2 * length samples.now) bytes.new ≡ flat_map (sample_text 16) samples.now }
+{
+    for (i, sample) in samples.iter().enumerate() {
+        bytes[2 * i] = (*sample % 256) as u8;
+        bytes[2 * i + 1] = (*sample / 256 % 256) as u8;
+    }
+}
+
+/// Puts samples of this depth at the front of the bytes, and says how many bytes these are.
+fn pack(depth: u8, samples: &[u16], bytes: &mut [u8]) -> usize
+    requires room { 2 * length samples.now ≤ length bytes.old }
+    ensures within { result ≤ length bytes.new }
+    ensures bytes { take result bytes.new ≡ plane_text depth samples.now }
+{
+    if depth == 8 {
+        pack_one(samples, bytes);
+        samples.len()
+    } else {
+        pack_two(samples, bytes);
+        2 * samples.len()
+    }
+}
+
+impl Text {
+    ghost use Rattle.std.specs.Prelude.{◌≡◌, ◌++◌, OnOk};
+    ghost use Rattle.av1_planwrite.specs.Text.{plane_text};
+
+    /// Writes the samples of a plane.
+    pub fn plane(&mut self, depth: u8, samples: &[u16]) -> Result<(), OutOfMemory>
+        ensures { OnOk result (self.new.bytes.items ≡ self.old.bytes.items ++ plane_text depth samples.now) }
+    {
+        let mut buffer = [0; MOST_BYTES];
+        let mut at = 0;
+        'pieces: while at < samples.len() {
+            let count = (samples.len() - at).min(MOST_SAMPLES);
+            let len = pack(depth, &samples[at..at + count], &mut buffer);
+            self.copy(&buffer[..len])?;
+            at += count;
+        }
+        Ok(())
+    }
+}
