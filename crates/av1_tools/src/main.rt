@@ -1,0 +1,22 @@
+//! Tools round plans, each by its name: `tiles` reconstructs a grid of tiles, `trace` compares the planes of
+//! another encoder with a plan, and `bare` writes a plan without its coefficients.
+//!
+//! All that the program does is [`program::run_tools`]; here are its real source and sinks. The words of its command line, the flush of
+//! its output and its exit status are `av1_recon::run_on_words`.
+#![tactic(auto)]
+
+mod answer;
+mod program;
+mod tool;
+
+use av1_recon::{ReadSource, WriteSink, run_on_words};
+use std::process::ExitCode;
+
+fn main(rt: HostRuntime) -> ExitCode {
+    run_on_words(&rt, |words| {
+        let mut source = ReadSource::new(rt.stdin());
+        let mut out = WriteSink::new(rt.stdout());
+        let mut err = WriteSink::new(rt.stderr());
+        program::run_tools(rt.alloc(), words, &mut source, &mut out, &mut err)
+    })
+}
