@@ -2,7 +2,7 @@
 use Rattle.std.proofs.Common.{◌≡◌, ℕ, zero, suc, ◌+◌, ◌<◌, ◌≤◌, ◌^◌, ◌⊎◌, inl, inr, Bool, true, false, List, [], ◌∷◌, ◌++◌, length, get_or, All, Option, Some, None, refl, sym, ap, subst, ◌∙◌, append_assoc, arith, slice_index_or, lit<}
 use Rattle.std.specs.Prelude.{◌==◌, is_some, if◌then◌else◌}
 use Rattle.std.proofs.lemmas.Bool.{cases_lt, lt-ltb, le-leb}
-use Rattle.std.proofs.lemmas.List.{get_or-map, get_or_past, length-map}
+use Rattle.std.proofs.lemmas.List.{get_or-map, get_or_default, get_or_past, length-map}
 use Rattle.av1_blocks.specs.declared.mc.FilterMode.{FilterMode}
 use Rattle.av1_blocks.specs.declared.mc.FilterMode.TheVariants.{REGULAR}
 use Rattle.av1_blocks.specs.Filters.{filter_number}
@@ -11,7 +11,7 @@ use Rattle.av1_plan.specs.declared.planes.Planes.{Planes}
 use Rattle.av1_plan.specs.Format.{one, two, any, Kind, Format, done, asks, ◌>>=◌, IsAdmitted, field, lone, ◌++>◌, in_turn}
 use Rattle.av1_plan.specs.Geometry.{plane_len, has_slot}
 use Rattle.av1_plan.specs.Grammar.{where_, byte_from, is_side, is_depth, version, slots, frame, header, sample, plane, reference, slot_planes, references, plan, plan_behind, superblocks}
-use Rattle.av1_plan.specs.Plan.{PlanValue, planes_value, slot_value, slot_values, ArePresent}
+use Rattle.av1_plan.specs.Plan.{PlanValue, slot_value, slot_values, ArePresent}
 use Rattle.av1_plan.specs.ReadPlans.{IsSide, IsReadFrame, ArePlane, IsStoredSlot, AreStoredSlots}
 use Rattle.av1_plan.specs.Pieces.{PiecesArePlan}
 use Rattle.av1_plan.specs.Spelling.{IsSpelled, text}
@@ -38,7 +38,7 @@ pub both_spelled : {A : Type 0} (f g : Format (List A)) (xs ys : List A) → IsS
 both_spelled f g xs ys s t = bind_spelled f (λ xs. g >>= λ ys. done (xs ++ ys)) xs (xs ++ ys) s (bind_spelled g (λ ys. done (xs ++ ys)) ys (xs ++ ys) t (done_spelled (xs ++ ys)))
 
 -- items in turn, one each
-turns_spelled : {A : Type 0} (f : ℕ → Format A) (i : ℕ) (xs : List A) → ((k : ℕ) (d : A) → k < length xs → IsSpelled (f (i + k)) (get_or xs k d)) → IsSpelled (in_turn (λ j. lone (f j)) i (length xs)) xs
+pub turns_spelled : {A : Type 0} (f : ℕ → Format A) (i : ℕ) (xs : List A) → ((k : ℕ) (d : A) → k < length xs → IsSpelled (f (i + k)) (get_or xs k d)) → IsSpelled (in_turn (λ j. lone (f j)) i (length xs)) xs
 unfolding in_turn
 turns_spelled f i [] each = done_spelled []
 turns_spelled f i (x ∷ xs) each =
@@ -54,7 +54,7 @@ filter_back f = elim f as (λ g. filter_of (filter_number g) ≡ g) [ REGULAR �
 side_admitted : (n : ℕ) → IsSide n → IsAdmitted (where_ two is_side) n
 side_admitted n s = record { fits = omega (arith, s.most); admitted = rw (s.whole, le-leb 8 n s.least, le-leb n 2048 s.most) refl }
 
-byte_admitted : (first last v : ℕ) → last < 256 → first ≤ v → v ≤ last → IsAdmitted (byte_from first last) v
+pub byte_admitted : (first last v : ℕ) → last < 256 → first ≤ v → v ≤ last → IsAdmitted (byte_from first last) v
 byte_admitted first last v small least most = record { fits = omega (arith, small, most); admitted = rw (le-leb first v least, le-leb v last most) refl }
 
 depth_admitted : (n : ℕ) → (n ≡ 8) ⊎ (n ≡ 10) ⊎ (n ≡ 12) → IsAdmitted (where_ one is_depth) n
@@ -133,7 +133,7 @@ frame_spelled version width height depth sampling filter edge_filter xs mask is 
     made f true = ap (λ (g : FilterMode). let h : Header = record { version = version; width = width; height = height; depth = depth; sampling = sampling; filter = g; edge_filter = true; slots = xs; mask = mask } in h) (sym (filter_back f))
     made f false = ap (λ (g : FilterMode). let h : Header = record { version = version; width = width; height = height; depth = depth; sampling = sampling; filter = g; edge_filter = false; slots = xs; mask = mask } in h) (sym (filter_back f))
 
-header_spelled : (h : Header) → IsReadFrame h → IsSpelled header h
+pub header_spelled : (h : Header) → IsReadFrame h → IsSpelled header h
 unfolding header
 header_spelled h is =
     bind_spelled version frame h.version h (version_spelled h.version is.least_version is.most_version)
@@ -151,41 +151,65 @@ sample_spelled depth v (inr (inr e)) lt =
     let low : v < 2 ^ 12 = subst (λ (d : ℕ). v < 2 ^ d) e lt in
     subst (λ (d : ℕ). IsSpelled (field (sample d)) v) (sym e) (record { values = v ∷ []; spells = (record { fits = omega (arith, low); admitted = lt-ltb v (2 ^ 12) low }, refl) })
 
-plane_spelled : (h : Header) (p : ℕ) (xs : List ℕ) → (h.depth ≡ 8) ⊎ (h.depth ≡ 10) ⊎ (h.depth ≡ 12) → ArePlane h p xs → IsSpelled (plane h.depth (plane_len h p)) xs
+pub plane_spelled : (h : Header) (p : ℕ) (xs : List ℕ) → (h.depth ≡ 8) ⊎ (h.depth ≡ 10) ⊎ (h.depth ≡ 12) → ArePlane h p xs → IsSpelled (plane h.depth (plane_len h p)) xs
 unfolding plane
 plane_spelled h p xs depth are =
     subst (λ (n : ℕ). IsSpelled (in_turn (λ _. lone (field (sample h.depth))) 0 n) xs) are.count
     (turns_spelled (λ _. field (sample h.depth)) 0 xs (λ k d lt. sample_spelled h.depth (get_or xs k d) depth (are.range k d lt)))
 
-planes_spelled : (h : Header) (planes : Planes) → (h.depth ≡ 8) ⊎ (h.depth ≡ 10) ⊎ (h.depth ≡ 12) → ArePlane h 0 planes.y.items × ArePlane h 1 planes.u.items × ArePlane h 2 planes.v.items → IsSpelled (reference h) (planes_value planes)
-unfolding reference
-planes_spelled h planes depth are =
-    let (y, u, v) = are in
-    let three = planes_value planes in
-    bind_spelled (plane h.depth (plane_len h 0)) _ planes.y.items three (plane_spelled h 0 planes.y.items depth y)
-    (bind_spelled (plane h.depth (plane_len h 1)) _ planes.u.items three (plane_spelled h 1 planes.u.items depth u)
-    (bind_spelled (plane h.depth (plane_len h 2)) _ planes.v.items three (plane_spelled h 2 planes.v.items depth v) (done_spelled three)))
+-- the samples of three planes
+pub record ArePlanes (h : Header) (planes : List (List ℕ)) : Type 0 where
+  pub y : List ℕ
+  pub u : List ℕ
+  pub v : List ℕ
+  pub are : planes ≡ y ∷ u ∷ v ∷ []
+  pub y_is : ArePlane h 0 y
+  pub u_is : ArePlane h 1 u
+  pub v_is : ArePlane h 2 v
 
-slot_spelled : (h : Header) (slot : ℕ) (o : Option Planes) → (h.depth ≡ 8) ⊎ (h.depth ≡ 10) ⊎ (h.depth ≡ 12) → IsStoredSlot h slot o → IsSpelled (slot_planes h slot) (slot_value o)
+-- a slot carries planes exactly where the mask has it
+abbrev pub IsListedSlot : Header → ℕ → Option (List (List ℕ)) → Type 0
+IsListedSlot h slot (Some planes) = (has_slot h slot ≡ true) × ArePlanes h planes
+IsListedSlot h slot None = has_slot h slot ≡ false
+
+planes_spelled : (h : Header) (planes : List (List ℕ)) → (h.depth ≡ 8) ⊎ (h.depth ≡ 10) ⊎ (h.depth ≡ 12) → ArePlanes h planes → IsSpelled (reference h) planes
+unfolding reference
+planes_spelled h planes depth a =
+    let three = a.y ∷ a.u ∷ a.v ∷ [] in
+    subst (λ (xs : List (List ℕ)). IsSpelled (reference h) xs) (sym a.are)
+    (bind_spelled (plane h.depth (plane_len h 0)) _ a.y three (plane_spelled h 0 a.y depth a.y_is)
+    (bind_spelled (plane h.depth (plane_len h 1)) _ a.u three (plane_spelled h 1 a.u depth a.u_is)
+    (bind_spelled (plane h.depth (plane_len h 2)) _ a.v three (plane_spelled h 2 a.v depth a.v_is) (done_spelled three))))
+
+slot_spelled : (h : Header) (slot : ℕ) (o : Option (List (List ℕ))) → (h.depth ≡ 8) ⊎ (h.depth ≡ 10) ⊎ (h.depth ≡ 12) → IsListedSlot h slot o → IsSpelled (slot_planes h slot) o
 unfolding slot_planes
 slot_spelled h slot (Some planes) depth is =
-    let whole : IsSpelled (reference h >>= λ planes. done (Some planes)) (Some (planes_value planes)) =
-    bind_spelled (reference h) (λ planes. done (Some planes)) (planes_value planes) (Some (planes_value planes)) (planes_spelled h planes depth (is.1, is.2, is.3)) (done_spelled (Some (planes_value planes))) in
-    subst (λ (b : Bool). IsSpelled (if b then (reference h >>= λ planes. done (Some planes)) else done None) (Some (planes_value planes))) (sym is.0) whole
+    let whole : IsSpelled (reference h >>= λ planes. done (Some planes)) (Some planes) =
+    bind_spelled (reference h) (λ planes. done (Some planes)) planes (Some planes) (planes_spelled h planes depth is.1) (done_spelled (Some planes)) in
+    subst (λ (b : Bool). IsSpelled (if b then (reference h >>= λ planes. done (Some planes)) else done None) (Some planes)) (sym is.0) whole
 slot_spelled h slot None depth is = subst (λ (b : Bool). IsSpelled (if b then (reference h >>= λ planes. done (Some planes)) else done None) None) (sym is) (done_spelled None)
 
-slots_spelled : (h : Header) (stored : List (Option Planes)) → (h.depth ≡ 8) ⊎ (h.depth ≡ 10) ⊎ (h.depth ≡ 12) → length stored ≡ 8 → AreStoredSlots h stored 8 → IsSpelled (references h) (slot_values stored)
+abbrev pub AreListedSlots : Header → List (Option (List (List ℕ))) → Type 0
+AreListedSlots h slots = (s : ℕ) → s < 8 → IsListedSlot h s (slice_index_or slots s None)
+
+slots_spelled : (h : Header) (listed : List (Option (List (List ℕ)))) → (h.depth ≡ 8) ⊎ (h.depth ≡ 10) ⊎ (h.depth ≡ 12) → length listed ≡ 8 → AreListedSlots h listed → IsSpelled (references h) listed
 unfolding references
-slots_spelled h stored depth eight are =
-    subst (λ (n : ℕ). IsSpelled (in_turn (λ slot. lone (slot_planes h slot)) 0 n) (slot_values stored)) (length-map stored slot_value ∙ eight)
-    (turns_spelled (slot_planes h) 0 (slot_values stored) each)
+slots_spelled h listed depth eight are =
+    subst (λ (n : ℕ). IsSpelled (in_turn (λ slot. lone (slot_planes h slot)) 0 n) listed) eight (turns_spelled (slot_planes h) 0 listed each)
   where
-    each : (k : ℕ) (d : Option (List (List ℕ))) → k < length (slot_values stored) → IsSpelled (slot_planes h (0 + k)) (get_or (slot_values stored) k d)
+    each : (k : ℕ) (d : Option (List (List ℕ))) → k < length listed → IsSpelled (slot_planes h (0 + k)) (get_or listed k d)
     each k d lt =
-        let within : k < length stored = omega (arith, lt, length-map stored slot_value) in
-        let s = slot_spelled h k (slice_index_or stored k None) depth (are k (omega (arith, within, eight))) in
-        let at : get_or (slot_values stored) k d ≡ slot_value (slice_index_or stored k None) = get_or-map slot_value stored k None d within in
-        subst (λ (j : ℕ). IsSpelled (slot_planes h j) (get_or (slot_values stored) k d)) (omega arith) (subst (IsSpelled (slot_planes h k)) (sym at) s)
+        let s = slot_spelled h k (slice_index_or listed k None) depth (are k (omega (arith, lt, eight))) in
+        subst (λ (j : ℕ). IsSpelled (slot_planes h j) (get_or listed k d)) (omega arith) (subst (IsSpelled (slot_planes h k)) (get_or_default listed k None d lt) s)
+
+-- slots in memory
+listed_slot : (h : Header) (slot : ℕ) (o : Option Planes) → IsStoredSlot h slot o → IsListedSlot h slot (slot_value o)
+listed_slot h slot (Some planes) is = (is.0, record { y = planes.y.items; u = planes.u.items; v = planes.v.items; are = refl; y_is = is.1; u_is = is.2; v_is = is.3 })
+listed_slot h slot None is = is
+
+listed_slots : (h : Header) (stored : List (Option Planes)) → length stored ≡ 8 → AreStoredSlots h stored 8 → AreListedSlots h (slot_values stored)
+listed_slots h stored eight are s lt =
+    subst (IsListedSlot h s) (sym (get_or-map slot_value stored s None None (omega (arith, lt, eight)))) (listed_slot h s (slice_index_or stored s None) (are s lt))
 
 pub stored_present : (h : Header) (stored : List (Option Planes)) (n : ℕ) → AreStoredSlots h stored n → ArePresent h stored n
 stored_present h stored n are s lt = present (slice_index_or stored s None) (are s lt)
@@ -196,11 +220,14 @@ stored_present h stored n are s lt = present (slice_index_or stored s None) (are
 
 -- ---- the whole
 
-pub plan_spelled : (h : Header) (stored : List (Option Planes)) (p : PlanValue) → IsReadFrame h → length stored ≡ 8 → AreStoredSlots h stored 8 → IsSpelled (plan_behind h (slot_values stored)) p → IsSpelled plan p
+pub plan_listed : (h : Header) (listed : List (Option (List (List ℕ)))) (p : PlanValue) → IsReadFrame h → length listed ≡ 8 → AreListedSlots h listed → IsSpelled (plan_behind h listed) p → IsSpelled plan p
 unfolding plan plan_behind
-plan_spelled h stored p is eight are behind =
+plan_listed h listed p is eight are behind =
     bind_spelled header _ h p (header_spelled h is)
-    (bind_spelled (references h) _ (slot_values stored) p (slots_spelled h stored is.depth eight are) behind)
+    (bind_spelled (references h) _ listed p (slots_spelled h listed is.depth eight are) behind)
+
+pub plan_spelled : (h : Header) (stored : List (Option Planes)) (p : PlanValue) → IsReadFrame h → length stored ≡ 8 → AreStoredSlots h stored 8 → IsSpelled (plan_behind h (slot_values stored)) p → IsSpelled plan p
+plan_spelled h stored p is eight are behind = plan_listed h (slot_values stored) p is (length-map stored slot_value ∙ eight) (listed_slots h stored eight are) behind
 
 pieces_bytes : (head samples part vb wb ub : List ℕ) → head ≡ vb → samples ≡ wb → part ≡ ub → head ++ samples ++ part ≡ vb ++ (wb ++ ub)
 pieces_bytes head samples part vb wb ub v w u = rw (v, w, u) (append_assoc vb wb ub)

@@ -23,3 +23,4 @@ pub mod Versions
 pub mod ValidLeaves
 pub mod ValidModes
 pub mod Composed
+pub mod Apart

@@ -75,33 +75,31 @@ planes : (h : Header) (slot c : ℕ) (o : Option (List ℕ)) → IsProp (IsReadR
 planes h slot c (Some samples) = hlevel (Bool-set, ℕ_set, le_prop)
 planes h slot c None = hlevel (Bool-set)
 
--- ---- every plan in memory
+-- ---- a plan of which only that is kept
 
-pub plan_grid : (p : Plan) → All (IsOnGrid p.header) (plan_value p).leaves
-plan_grid p k d within = ∥∥₁_elim p.spelled (grids p.header _) (λ s. (spelled_leaves (plan_value p) s k d within).grid)
+module _ (p : PlanValue) (spelled : ∥ IsSpelled plan p ∥₁) where
+  pub kept_grid : All (IsOnGrid p.header) p.leaves
+  kept_grid k d within = ∥∥₁_elim spelled (grids p.header _) (λ s. (spelled_leaves p s k d within).grid)
 
-pub plan_quarters : (p : Plan) → All (IsQuarterInside p.header) (plan_value p).leaves
-plan_quarters p k d within = ∥∥₁_elim p.spelled (quarters p.header _) (λ s. (spelled_leaves (plan_value p) s k d within).quarter)
-
-frame_of : (p : Plan) → IsSpelled plan (plan_value p) → IsReadFrame p.header
-frame_of p s = spelled_frame (plan_value p) s
+  pub kept_quarters : All (IsQuarterInside p.header) p.leaves
+  kept_quarters k d within = ∥∥₁_elim spelled (quarters p.header _) (λ s. (spelled_leaves p s k d within).quarter)
 
 pub depth_holds : (n : ℕ) → (n ≡ 8) ⊎ (n ≡ 10) ⊎ (n ≡ 12) → is_depth n ≡ true
 depth_holds n (inl e) = rw e refl
 depth_holds n (inr (inl e)) = rw e refl
 depth_holds n (inr (inr e)) = rw e refl
 
-pub read_frame : (p : Plan) → IsReadFrame p.header
-read_frame p = record {
-  least_version = ∥∥₁_elim p.spelled (orders 1 p.header.version) (λ s. (frame_of p s).least_version);
-  most_version = ∥∥₁_elim p.spelled (orders p.header.version 2) (λ s. (frame_of p s).most_version);
-  width = ∥∥₁_elim p.spelled (sides p.header.width) (λ s. (frame_of p s).width);
-  height = ∥∥₁_elim p.spelled (sides p.header.height) (λ s. (frame_of p s).height);
-  depth = depth_is p.header.depth (∥∥₁_elim p.spelled (tests (is_depth p.header.depth) true) (λ s. depth_holds p.header.depth (frame_of p s).depth));
-  sampling = ∥∥₁_elim p.spelled (orders p.header.sampling 2) (λ s. (frame_of p s).sampling);
-  filter = ∥∥₁_elim p.spelled le_prop (λ s. (frame_of p s).filter);
-  slots = ∥∥₁_elim p.spelled (slots p.header.slots) (λ s. (frame_of p s).slots);
-  mask = ∥∥₁_elim p.spelled le_prop (λ s. (frame_of p s).mask);
+pub kept_frame : (p : PlanValue) → ∥ IsSpelled plan p ∥₁ → IsReadFrame p.header
+kept_frame p spelled = record {
+  least_version = ∥∥₁_elim spelled (orders 1 p.header.version) (λ s. (spelled_frame p s).least_version);
+  most_version = ∥∥₁_elim spelled (orders p.header.version 2) (λ s. (spelled_frame p s).most_version);
+  width = ∥∥₁_elim spelled (sides p.header.width) (λ s. (spelled_frame p s).width);
+  height = ∥∥₁_elim spelled (sides p.header.height) (λ s. (spelled_frame p s).height);
+  depth = depth_is p.header.depth (∥∥₁_elim spelled (tests (is_depth p.header.depth) true) (λ s. depth_holds p.header.depth (spelled_frame p s).depth));
+  sampling = ∥∥₁_elim spelled (orders p.header.sampling 2) (λ s. (spelled_frame p s).sampling);
+  filter = ∥∥₁_elim spelled le_prop (λ s. (spelled_frame p s).filter);
+  slots = ∥∥₁_elim spelled (slots p.header.slots) (λ s. (spelled_frame p s).slots);
+  mask = ∥∥₁_elim spelled le_prop (λ s. (spelled_frame p s).mask);
 }
 
 -- three lists, and whether those of chroma are empty, by their lengths
@@ -127,17 +125,31 @@ are_three carried (y ∷ []) have = absurd (omega (arith, have.three))
 are_three carried (y ∷ u ∷ []) have = absurd (omega (arith, have.three))
 are_three carried (y ∷ u ∷ v ∷ x ∷ lists) have = absurd (omega (arith, have.three))
 
-pub read_leaves : (p : Plan) → All (IsReadLeaf p.header) (plan_value p).leaves
-read_leaves p k d within =
-    let leaf : IsSpelled plan (plan_value p) → IsReadLeaf p.header _ = λ s. spelled_leaves (plan_value p) s k d within in
+pub kept_leaves : (p : PlanValue) → ∥ IsSpelled plan p ∥₁ → All (IsReadLeaf p.header) p.leaves
+kept_leaves p spelled k d within =
+    let leaf : IsSpelled plan p → IsReadLeaf p.header _ = λ s. spelled_leaves p s k d within in
     record {
-      grid = plan_grid p k d within;
-      shape = ∥∥₁_elim p.spelled (shapes p.header _) (λ s. (leaf s).shape);
-      quarter = plan_quarters p k d within;
-      kind = ∥∥₁_elim p.spelled (kinds _ _) (λ s. (leaf s).kind);
-      uv_type = ∥∥₁_elim p.spelled (tests _ _) (λ s. (leaf s).uv_type);
-      triples = are_three _ _ (∥∥₁_elim p.spelled (lengths _ _) (λ s. have_lengths _ _ (leaf s).triples));
+      grid = kept_grid p spelled k d within;
+      shape = ∥∥₁_elim spelled (shapes p.header _) (λ s. (leaf s).shape);
+      quarter = kept_quarters p spelled k d within;
+      kind = ∥∥₁_elim spelled (kinds _ _) (λ s. (leaf s).kind);
+      uv_type = ∥∥₁_elim spelled (tests _ _) (λ s. (leaf s).uv_type);
+      triples = are_three _ _ (∥∥₁_elim spelled (lengths _ _) (λ s. have_lengths _ _ (leaf s).triples));
     }
+
+-- ---- every plan in memory
+
+pub plan_grid : (p : Plan) → All (IsOnGrid p.header) (plan_value p).leaves
+plan_grid p = kept_grid (plan_value p) p.spelled
+
+pub plan_quarters : (p : Plan) → All (IsQuarterInside p.header) (plan_value p).leaves
+plan_quarters p = kept_quarters (plan_value p) p.spelled
+
+pub read_frame : (p : Plan) → IsReadFrame p.header
+read_frame p = kept_frame (plan_value p) p.spelled
+
+pub read_leaves : (p : Plan) → All (IsReadLeaf p.header) (plan_value p).leaves
+read_leaves p = kept_leaves (plan_value p) p.spelled
 
 pub read_references : (p : Plan) (slot c : ℕ) → slot < 8 → c < 3 → IsReadReference p.header slot c (reference_of (plan_value p) slot c)
 read_references p slot c slot_in lt = ∥∥₁_elim p.spelled (planes p.header slot c _) (λ s. references_are (plan_value p) slot c (plan_pieces (plan_value p) s).references slot_in lt)

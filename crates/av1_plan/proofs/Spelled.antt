@@ -12,13 +12,14 @@ abbrev pub end : {A : Type 0} → Reading (A × Input) → ℕ
 end (Ok p) = p.1.at
 end (Err at) = at
 
-abbrev ok : {A : Type 0} → A → Reading A
+abbrev pub ok : {A : Type 0} → A → Reading A
 ok x = Ok x
 
-ok_is : {A : Type 0} (x y : A) → ok x ≡ ok y → x ≡ y
+pub ok_is : {A : Type 0} (x y : A) → ok x ≡ ok y → x ≡ y
 ok_is x y e = cc
 
-bind_ok : {A B : Type 0} (r : Reading A) (f : A → Reading B) (y : B) → on_ok r f ≡ Ok y → (x : A) × (r ≡ Ok x) × (f x ≡ Ok y)
+-- a reading of two steps went on from what the first gave
+pub bind_ok : {A B : Type 0} (r : Reading A) (f : A → Reading B) (y : B) → on_ok r f ≡ Ok y → (x : A) × (r ≡ Ok x) × (f x ≡ Ok y)
 bind_ok (Ok x) f y e = (x, refl, e)
 bind_ok (Err d) f y e = absurd cc
 

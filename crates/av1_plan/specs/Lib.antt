@@ -12,3 +12,4 @@ pub mod Parsing
 pub mod Answer
 pub mod Versions
 pub mod Pieces
+pub mod Apart

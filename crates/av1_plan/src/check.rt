@@ -23,6 +23,7 @@ ghost use Rattle.av1_plan.specs.Validity.{
   are_coefficients,
   has_plane_coefficients,
   has_coefficients,
+  fault_from,
   fault_of,
   first_fault,
 };
@@ -247,36 +248,37 @@ fn are_coefficients(header: &Header, p: usize, area: &PlaneArea, triples: &[Trip
 
 /// Whether the triples in plane `p` of leaf number `i` are coefficients.
 #[tactic(auto, using(crate::proofs::Spans::triples_of_leaf), unfolding(crate::specs::Validity::has_plane_coefficients))]
-fn has_plane_coefficients(plan: &Plan, i: usize, leaf: &Leaf, p: usize) -> bool
+fn has_plane_coefficients(header: &Header, plan: &Plan, i: usize, leaf: &Leaf, p: usize) -> bool
+    requires depth { header.now.depth ≤ 12 }
     requires stored { slice_get (stored_leaves plan.now) i ≡ Some leaf.now }
     requires plane { p < 3 }
-    ensures { result ≡ has_plane_coefficients (plan_value plan.now).header (leaf_value (stored_triples plan.now) leaf.now) p }
+    ensures { result ≡ has_plane_coefficients header.now (leaf_value (stored_triples plan.now) leaf.now) p }
 {
-    let header = plan.header();
     let area = leaf.plane_area(header, p);
     are_coefficients(header, p, &area, plan.triples(i, p))
 }
 
 /// Whether the triples of leaf number `i` are coefficients in all planes that it covers.
 #[tactic(auto, unfolding(crate::specs::Validity::has_coefficients))]
-fn has_coefficients(plan: &Plan, i: usize, leaf: &Leaf) -> bool
-    requires { slice_get (stored_leaves plan.now) i ≡ Some leaf.now }
-    ensures { result ≡ has_coefficients (plan_value plan.now).header (leaf_value (stored_triples plan.now) leaf.now) }
+fn has_coefficients(header: &Header, plan: &Plan, i: usize, leaf: &Leaf) -> bool
+    requires depth { header.now.depth ≤ 12 }
+    requires stored { slice_get (stored_leaves plan.now) i ≡ Some leaf.now }
+    ensures { result ≡ has_coefficients header.now (leaf_value (stored_triples plan.now) leaf.now) }
 {
-    let carries_chroma = leaf.carries_chroma(plan.header());
-    has_plane_coefficients(plan, i, leaf, 0)
+    let carries_chroma = leaf.carries_chroma(header);
+    has_plane_coefficients(header, plan, i, leaf, 0)
         && (!carries_chroma
-            || (has_plane_coefficients(plan, i, leaf, 1)
-                && has_plane_coefficients(plan, i, leaf, 2)))
+            || (has_plane_coefficients(header, plan, i, leaf, 1)
+                && has_plane_coefficients(header, plan, i, leaf, 2)))
 }
 
 /// The first reason for which leaf number `i` is refused.
 #[tactic(auto, unfolding(crate::specs::Validity::fault_of))]
-fn fault_of(plan: &Plan, i: usize, leaf: &Leaf) -> Option<InvalidKind>
-    requires { slice_get (stored_leaves plan.now) i ≡ Some leaf.now }
-    ensures { result ≡ fault_of (plan_value plan.now).header (leaf_value (stored_triples plan.now) leaf.now) }
+fn fault_of(header: &Header, plan: &Plan, i: usize, leaf: &Leaf) -> Option<InvalidKind>
+    requires depth { header.now.depth ≤ 12 }
+    requires stored { slice_get (stored_leaves plan.now) i ≡ Some leaf.now }
+    ensures { result ≡ fault_of header.now (leaf_value (stored_triples plan.now) leaf.now) }
 {
-    let header = plan.header();
     if !has_block_size(header, leaf.size) {
         Some(InvalidKind::InvalidBlockSize)
     } else if !has_transforms(header, leaf.size, leaf.tx_size, leaf.tx_type, leaf.uv_type) {
@@ -287,25 +289,27 @@ fn fault_of(plan: &Plan, i: usize, leaf: &Leaf) -> Option<InvalidKind>
         Some(InvalidKind::Vector)
     } else if !has_references(header, &leaf.kind) {
         Some(InvalidKind::MissingReference)
-    } else if !has_coefficients(plan, i, leaf) {
+    } else if !has_coefficients(header, plan, i, leaf) {
         Some(InvalidKind::Coefficient)
     } else {
         None
     }
 }
 
-/// Whether every leaf of a plan is valid.
+/// Whether every leaf of a plan is valid in a frame with this header, which may be another than the plan's own: for callers that keep the
+/// references of the leaves themselves.
 ///
 /// # Errors
 ///
 /// The first faulty leaf in coding order, and the first reason for which it is refused.
 #[tactic(auto, using(crate::proofs::Faults::leaves_end))]
-pub fn check_plan(plan: &Plan) -> Result<(), Invalid>
-    ensures ok { OnOk result (first_fault (plan_value plan.now) ≡ None) }
-    ensures err { IfErr result (λ fault. first_fault (plan_value plan.now) ≡ Some fault) }
+pub fn check_leaves(header: &Header, plan: &Plan) -> Result<(), Invalid>
+    requires { header.now.depth ≤ 12 }
+    ensures ok { OnOk result (fault_from header.now 0 (plan_value plan.now).leaves ≡ None) }
+    ensures err { IfErr result (λ fault. fault_from header.now 0 (plan_value plan.now).leaves ≡ Some fault) }
 {
     for (i, leaf) in plan.leaves().iter().enumerate() {
-        if let Some(kind) = fault_of(plan, i, leaf) {
+        if let Some(kind) = fault_of(header, plan, i, leaf) {
             return Err(Invalid {
                 leaf: i as u32,
                 kind,
@@ -313,6 +317,18 @@ pub fn check_plan(plan: &Plan) -> Result<(), Invalid>
         }
     }
     Ok(())
+}
+
+/// Whether every leaf of a plan is valid.
+///
+/// # Errors
+///
+/// The first faulty leaf in coding order, and the first reason for which it is refused.
+pub fn check_plan(plan: &Plan) -> Result<(), Invalid>
+    ensures ok { OnOk result (first_fault (plan_value plan.now) ≡ None) }
+    ensures err { IfErr result (λ fault. first_fault (plan_value plan.now) ≡ Some fault) }
+{
+    check_leaves(plan.header(), plan)
 }
 
 #[cfg(test)]

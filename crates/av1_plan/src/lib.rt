@@ -8,7 +8,9 @@
 //!   first field that is cut, not admitted or left over (`Malformed`). It is linear in the bytes and takes no memory for a leaf
 //!   of its own: leaves lie in one list, and their coefficients in another.
 //! - `parse_leaves` reads the leaves alone, for formats that keep the header and the references of a plan elsewhere: what its bytes spell is
-//!   `plan_behind` them. A `Reader` takes the fields of a plan one by one, for formats that share them.
+//!   `plan_behind` them. `parse_leaves_apart` does so for callers that keep the references in a form of their own: the leaves are those of the
+//!   frame with any references, and `check_leaves` judges them by the header that it is given (`specs/Apart.antt`). A `Reader` takes the
+//!   fields of a plan one by one, for formats that share them.
 //! - A `Plan` keeps as a fact that a complete proper list of fields spells it. Its leaves stand in coding order: they are those
 //!   of one tree of marks for each superblock of the frame (`specs/Tree.antt`, `specs/CodingOrder.antt`).
 //! - What holds of every plan that is read, its accessors say (`specs/ReadPlans.antt`): the ranges of the frame's numbers, as many
@@ -37,7 +39,7 @@ mod plan;
 mod planes;
 mod reader;
 
-pub use check::{check_plan, is_inter_size};
+pub use check::{check_leaves, check_plan, is_inter_size};
 pub use error::{Invalid, InvalidKind, PlanError};
 pub use geometry::{PlaneArea, TransformBlock, carries_chroma, plane_tx_size};
 pub use header::Header;
@@ -47,7 +49,7 @@ pub use laws::{
 };
 pub use leaf::{ChromaMode, Leaf, LeafKind, Triple};
 pub use nodes::{half_side, part_size, whole_size};
-pub use parse::{parse_leaves, parse_plan};
+pub use parse::{parse_leaves, parse_leaves_apart, parse_plan};
 pub use plan::Plan;
 pub use planes::Planes;
 pub use reader::Reader;

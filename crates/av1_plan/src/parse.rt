@@ -1,8 +1,9 @@
 //! Reading a plan from bytes.
 
-ghost use Rattle.std.specs.Prelude.{◌≡◌, ◌≤◌, ◌^◌, length, IfOk, MatchResult, vec_len};
+ghost use Rattle.std.specs.Prelude.{◌≡◌, ℕ, ◌≤◌, ◌^◌, List, Option, length, IfOk, MatchResult, vec_len};
 ghost use Rattle.av1_plan.specs.declared.error.PlanError.TheVariants.{Memory};
 ghost use Rattle.av1_plan.specs.Answer.{plan_value, IfMalformed};
+ghost use Rattle.av1_plan.specs.Apart.{in_frame, without_references};
 ghost use Rattle.av1_plan.specs.Format.{start, read_all};
 ghost use Rattle.av1_plan.specs.Grammar.{plan, plan_behind};
 ghost use Rattle.av1_plan.specs.Plan.{PlanValue, slot_values};
@@ -111,4 +112,40 @@ pub fn parse_leaves(
     ensures only { (p : PlanValue) → AreText (plan_behind header (slot_values references.items)) bytes.now p → MatchResult result (λ x. plan_value x ≡ p) (λ e. e ≡ Memory) }
 {
     read_leaves(alloc, header, references, bytes)
+}
+
+/// The header of the same frame without references.
+fn without_references(header: &Header) -> Header
+    ensures { result ≡ without_references header.now }
+{
+    Header {
+        version: header.version,
+        width: header.width,
+        height: header.height,
+        depth: header.depth,
+        sampling: header.sampling,
+        filter: header.filter,
+        edge_filter: header.edge_filter,
+        slots: header.slots,
+        mask: 0,
+    }
+}
+
+/// The leaves that these bytes spell in a frame with this header, for callers that keep the references themselves. The leaves lie in a plan
+/// whose own frame has no references: with the caller's header and references it is the plan of the leaves (`in_frame`), whatever the
+/// references are, and [`check_leaves`](crate::check_leaves) judges it.
+///
+/// # Errors
+///
+/// As for [`parse_leaves`].
+pub fn parse_leaves_apart(alloc: Global, header: &Header, bytes: &[u8]) -> Result<Plan, PlanError>
+    requires short { length bytes.now ≤ 2 ^ 26 }
+    requires frame { IsReadFrame header.now }
+    ensures found { (references : List (Option (List (List ℕ)))) → IfOk result (λ p. AreText (plan_behind header.now references) bytes.now (in_frame header.now references (plan_value p))) }
+    ensures refused { (references : List (Option (List (List ℕ)))) → IfMalformed result (λ at. AreRefused (plan_behind header.now references) bytes.now at) }
+    ensures only { (references : List (Option (List (List ℕ)))) (p : PlanValue) → AreText (plan_behind header.now references) bytes.now p
+        → MatchResult result (λ x. in_frame header.now references (plan_value x) ≡ p) (λ e. e ≡ Memory) }
+{
+    let references = Vec::from_array(alloc, [None, None, None, None, None, None, None, None])?;
+    parse_leaves(alloc, without_references(header), references, bytes)
 }

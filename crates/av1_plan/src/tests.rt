@@ -1,3 +1,6 @@
+ghost use Rattle.std.specs.Prelude.{◌≡◌};
+ghost use Rattle.av1_plan.specs.ReadPlans.{IsReadFrame};
+
 use super::*;
 use av1_blocks::{BlockSize, FilterMode, PredictionMode, TxSize, TxType};
 use std::test::Fail;
@@ -249,4 +252,39 @@ fn the_last_of_four_leaves_carries_the_chroma_of_all(rt: HostRuntime) {
         tx_size: TxSize::TX_4X4,
     };
     assert!(rt; last == whole);
+}
+
+/// The header of an 8x8 frame, 4:4:4, depth 8, whose references all name slot 0.
+fn frame_with(mask: u8) -> Header
+    ensures frame { IsReadFrame result }
+    ensures depth { result.depth ≡ 8 }
+{
+    Header {
+        version: 2,
+        width: 8,
+        height: 8,
+        depth: 8,
+        sampling: 2,
+        filter: FilterMode::REGULAR,
+        edge_filter: false,
+        slots: [0; 7],
+        mask,
+    }
+}
+
+#[test]
+fn leaves_are_judged_by_the_header_that_is_given(rt: HostRuntime) -> Result<(), Fail> {
+    let one_reference = [0, 19, 1, 0, 0, 0, 0, 4, 0, 0, 0, 0, 0, 0, 0, 0];
+    let leaves = parse_leaves_apart(rt.alloc(), &frame_with(1), &one_reference)?;
+    assert_eq!(rt; leaves.leaves().len(), 1);
+    assert!(rt; check_leaves(&frame_with(1), &leaves).is_ok());
+    let missing = Invalid {
+        leaf: 0,
+        kind: InvalidKind::MissingReference,
+    };
+    assert!(rt; check_leaves(&frame_with(0), &leaves).err() == Some(missing));
+
+    let cut = parse_leaves_apart(rt.alloc(), &frame_with(1), &one_reference[..15]).err();
+    assert!(rt; cut == Some(PlanError::Malformed { at: 14 }));
+    Ok(())
 }

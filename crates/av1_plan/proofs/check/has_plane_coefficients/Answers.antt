@@ -8,4 +8,4 @@ unfolding has_plane_coefficients
 returns c =
     let p = c.args.plan.now in
     let e = triples_of_leaf p.triples.items p.leaves.items c.args.i c.args.p c.args.leaf.now c.requires.stored in
-    rw (c.are_coefficients.ensures, c.triples.ensures, e, c.plane_area-area.ensures, c.header-header.ensures.value) refl
+    rw (c.are_coefficients.ensures, c.triples.ensures, e, c.plane_area-area.ensures) refl
