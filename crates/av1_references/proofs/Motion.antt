@@ -10,7 +10,7 @@ use Rattle.av1_plan.specs.Geometry.{plane_width}
 use Rattle.av1_plan.specs.Plan.{PlanValue}
 use Rattle.av1_plan.specs.Validity.{has_reference}
 use Rattle.av1_references.specs.Laws.{CompoundMotionLiesWithin, SingleMotionLiesWithin}
-use Rattle.av1_references.specs.References.{HoldsReferences, reference_plane, single_motion, slot_in, slot_samples}
+use Rattle.av1_references.specs.References.{ServesPlan, reference_plane, single_motion, slot_in, slot_samples}
 use Rattle.av1_references.proofs.Filled.{read_below}
 use Rattle.av1_references.proofs.Served.{plane_holds, plane_of_slot}
 use Rattle.av1_inter.proofs.Within.{compound_prediction_within, single_prediction_within}
@@ -26,7 +26,7 @@ compound_motion_within value p references mvs area r c =
 
 -- So does each sample that is predicted from a reference that frame settings hold.
 pub held_motion_within : {T : Type 0} (num : T → ℕ) (value : PlanValue) (fi : FrameInvariants T) (reference : RefType) (p : ℕ) (mv : MotionVector) (area : VisibleArea) (r c : ℕ)
-    → HoldsReferences num value fi → has_reference value.header reference ≡ true → p < 3 → single_motion value p reference mv area r c < 2 ^ value.header.depth
+    → ServesPlan num value fi → has_reference value.header reference ≡ true → p < 3 → single_motion value p reference mv area r c < 2 ^ value.header.depth
 held_motion_within num value fi reference p mv area r c holds has below =
     let (plane, is) = plane_of_slot num value fi holds reference has p below in
     let held = plane_holds num value fi holds reference has p plane below is in

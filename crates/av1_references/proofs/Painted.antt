@@ -20,7 +20,7 @@ use Rattle.av1_inter.specs.Reference.{as_reference, prepared_in, single_in, slot
 use Rattle.av1_plan.specs.declared.geometry.PlaneArea.{PlaneArea}
 use Rattle.av1_plan.specs.Plan.{PlanValue}
 use Rattle.av1_plan.specs.Validity.{has_reference}
-use Rattle.av1_references.specs.References.{compound_motion, HoldsReferences, leaf_area, reference_plane, single_motion, slot_in}
+use Rattle.av1_references.specs.References.{compound_motion, ServesPlan, leaf_area, reference_plane, single_motion, slot_in}
 use Rattle.av1_inter.proofs.SameReferences.{ShowSame, prepared_in_same, single_in_same}
 use Rattle.av1_references.proofs.Served.{held_same, plane_holds, plane_of_slot}
 
@@ -42,7 +42,7 @@ from_first tile n offset e h = omega (arith, ints, e, h)
 pub leaf_painted : {T : Type 0} (plane : Plane T) (area : PlaneArea) (r o : PlaneRegionMut T) (x y : ℤ) (w h : ℕ) (f : ℕ → ℕ → T → T) → IsLeafRegion plane area r x y w h → o ≡ painted r (block_width area.size) (block_height area.size) f → o.plane.now ≡ painted_plane plane (leaf_area area) f
 leaf_painted plane area r o x y w h f leaf e = region_painted plane (leaf_area area) f r o leaf.plane_is leaf.cfg_is leaf.area_is e
 
-module _ {T : Type 0} (num : T → ℕ) (pixel : ℕ → T) (value : PlanValue) (fi : FrameInvariants T) (holds : HoldsReferences num value fi) (p : ℕ) (below : p < 3) (plane : Plane T) (area : PlaneArea) (r o : PlaneRegionMut T) (x y : ℤ) (w h : ℕ) (leaf : IsLeafRegion plane area r x y w h) where
+module _ {T : Type 0} (num : T → ℕ) (pixel : ℕ → T) (value : PlanValue) (fi : FrameInvariants T) (holds : ServesPlan num value fi) (p : ℕ) (below : p < 3) (plane : Plane T) (area : PlaneArea) (r o : PlaneRegionMut T) (x y : ℤ) (w h : ℕ) (leaf : IsLeafRegion plane area r x y w h) where
   -- the plane of a slot shows what the plan's does
   shown : (reference : RefType) (q : Plane T) → has_reference value.header reference ≡ true → slot_plane fi (slot_of fi reference) p ≡ Some q → ShowSame (as_reference num q) (reference_plane value (slot_in value.header reference) p)
   shown reference q has is = held_same num value (slot_in value.header reference) p q (plane_holds num value fi holds reference has p q below is)

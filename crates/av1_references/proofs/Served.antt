@@ -13,7 +13,7 @@ use Rattle.av1_plan.specs.Geometry.{has_slot}
 use Rattle.av1_plan.specs.Plan.{PlanValue}
 use Rattle.av1_plan.specs.Validity.{has_reference}
 use Rattle.av1_plan.proofs.ValidModes.{HasPlanes}
-use Rattle.av1_references.specs.References.{HoldsPlane, HoldsReferences, reference_plane, slot_in, slot_samples}
+use Rattle.av1_references.specs.References.{HoldsPlane, HoldsReferences, ServesPlan, reference_plane, slot_in, slot_samples}
 use Rattle.av1_inter.proofs.SameReferences.{ShowSame}
 
 -- ---- what a plan offers
@@ -50,22 +50,33 @@ some_of : {X : Type 0} (o : Option X) → is_some o ≡ true → (x : X) × (o �
 some_of (Some x) e = (x, refl)
 some_of None e = absurd cc
 
-module _ {T : Type 0} (num : T → ℕ) (value : PlanValue) (fi : FrameInvariants T) (holds : HoldsReferences num value fi) (reference : RefType) (has : has_reference value.header reference ≡ true) where
-  -- the slot of a reference is that which the header names
-  pub slot_is : slot_of fi reference ≡ slot_in value.header reference
-  slot_is = ap (λ (slots : List ℕ). get_or slots (reference_number reference - 1) 0) holds.settings.slots
-
-  -- it is filled
-  pub plane_of_slot : (p : ℕ) → p < 3 → (plane : Plane T) × (slot_plane fi (slot_of fi reference) p ≡ Some plane)
-  plane_of_slot p h =
+-- settings that hold all references of a plan serve it
+pub holds_serves : {T : Type 0} (num : T → ℕ) (value : PlanValue) (fi : FrameInvariants T) → HoldsReferences num value fi → ServesPlan num value fi
+holds_serves {T} num value fi holds = record {
+  settings = record { depth = holds.settings.depth; filter = holds.settings.filter };
+  depth = holds.depth;
+  named = λ reference has. omega (arith, slot_is reference, (offered value.header reference has).slot);
+  filled = λ reference p has h.
       let o = offered value.header reference has in
-      some_of _ (holds.filled _ p (omega (arith, o.slot, slot_is)) h ∙ ap (has_slot value.header) slot_is ∙ o.carried)
-
-  -- by the plan's planes
-  pub plane_holds : (p : ℕ) (plane : Plane T) → p < 3 → slot_plane fi (slot_of fi reference) p ≡ Some plane → HoldsPlane num value.header p (slot_samples value (slot_in value.header reference) p) plane
-  plane_holds p plane h e =
+      holds.filled _ p (omega (arith, o.slot, slot_is reference)) h ∙ ap (has_slot value.header) (slot_is reference) ∙ o.carried;
+  planes = λ reference p plane has h e.
       let o = offered value.header reference has in
-      holds.planes _ p plane o.slot h (ap (λ (s : ℕ). slot_plane fi s p) (sym slot_is) ∙ e)
+      holds.planes _ p plane o.slot h (ap (λ (s : ℕ). slot_plane fi s p) (sym (slot_is reference)) ∙ e);
+}
+  where
+    -- the slot of a reference is that which the header names
+    slot_is : (reference : RefType) → slot_of fi reference ≡ slot_in value.header reference
+    slot_is reference = ap (λ (slots : List ℕ). get_or slots (reference_number reference - 1) 0) holds.settings.slots
+
+-- the slot of a reference that a plan has is filled
+pub plane_of_slot : {T : Type 0} (num : T → ℕ) (value : PlanValue) (fi : FrameInvariants T) → ServesPlan num value fi → (reference : RefType) → has_reference value.header reference ≡ true → (p : ℕ) → p < 3
+    → (plane : Plane T) × (slot_plane fi (slot_of fi reference) p ≡ Some plane)
+plane_of_slot num value fi serves reference has p h = some_of _ (serves.filled reference p has h)
+
+-- by the plan's planes
+pub plane_holds : {T : Type 0} (num : T → ℕ) (value : PlanValue) (fi : FrameInvariants T) → ServesPlan num value fi → (reference : RefType) → has_reference value.header reference ≡ true → (p : ℕ) (plane : Plane T) → p < 3
+    → slot_plane fi (slot_of fi reference) p ≡ Some plane → HoldsPlane num value.header p (slot_samples value (slot_in value.header reference) p) plane
+plane_holds num value fi serves reference has p plane h e = serves.planes reference p plane has h e
 
 -- such a plane is a reference for blocks with sides up to 64
 serves : {T : Type 0} (num : T → ℕ) (h : Header) (p : ℕ) (samples : List ℕ) (plane : Plane T) (depth width height : ℕ) → HoldsPlane num h p samples plane → depth ≡ h.depth → width ≤ 64 → height ≤ 64 → IsReference num plane depth width height
@@ -76,13 +87,13 @@ serves num h p samples plane depth width height holds e w k = record {
   ypad = omega (arith, holds.ypad);
 }
 
--- Settings that hold the references of a plan serve each reference that the plan's header has, for areas with sides up to 64.
-pub served : {T : Type 0} (num : T → ℕ) (value : PlanValue) (fi : FrameInvariants T) (reference : RefType) (p width height : ℕ) → HoldsReferences num value fi
+-- Settings that serve a plan serve each reference that the plan's header has, for areas with sides up to 64.
+pub served : {T : Type 0} (num : T → ℕ) (value : PlanValue) (fi : FrameInvariants T) (reference : RefType) (p width height : ℕ) → ServesPlan num value fi
     → has_reference value.header reference ≡ true → 1 ≤ reference_number reference → reference_number reference ≤ 7 → p < 3 → width ≤ 64 → height ≤ 64 → IsServed num fi reference p width height
 served num value fi reference p width height holds has least most h w k = record {
   inter = λ e. absurd (let n = ap reference_number e in omega (arith, n));
   some = λ e. absurd (let n = ap reference_number e in omega (arith, n));
-  slot = omega (arith, slot_is num value fi holds reference has, (offered value.header reference has).slot);
+  slot = holds.named reference has;
   plane = λ plane e. serves num value.header p _ plane fi.bit_depth width height (plane_holds num value fi holds reference has p plane h e) holds.settings.depth w k;
 }
 

@@ -13,7 +13,8 @@ use Rattle.av1_plan.specs.declared.header.Header.{Header}
 use Rattle.av1_plan.specs.Geometry.{has_slot}
 use Rattle.av1_plan.specs.Plan.{PlanValue}
 use Rattle.av1_plan.specs.Validity.{has_reference}
-use Rattle.av1_references.specs.References.{HoldsPlane, HoldsReferences}
+use Rattle.av1_references.specs.References.{HoldsPlane, HoldsReferences, ServesPlan}
+use Rattle.av1_references.proofs.Served.{holds_serves}
 use Rattle.av1_references.proofs.Slots.{holds_all, holds_empty, holds_filled, holds_none}
 
 -- the slots that its references name
@@ -28,11 +29,11 @@ module _ {T : Type 0} (num : T → ℕ) (filter : FilterMode) (depth : ℕ) (is_
   abbrev value : PlanValue
   value = record { header = header_of filter depth; references = None ∷ None ∷ Some (y ∷ u ∷ v ∷ []) ∷ None ∷ None ∷ Some (y' ∷ u' ∷ v' ∷ []) ∷ None ∷ None ∷ []; leaves = [] }
 
-  pub filled_holds_references : (made first second : FrameInvariants T) → made ≡ new_frame 16 8 filter depth true references_named → first ≡ record made { slots = slice_set made.slots 2 (Some s) } → second ≡ record first { slots = slice_set first.slots 5 (Some t) }
+  pub filled_serves : (made first second : FrameInvariants T) → made ≡ new_frame 16 8 filter depth true references_named → first ≡ record made { slots = slice_set made.slots 2 (Some s) } → second ≡ record first { slots = slice_set first.slots 5 (Some t) }
       → HoldsPlane num (header_of filter depth) 0 y s.y → HoldsPlane num (header_of filter depth) 1 u s.u → HoldsPlane num (header_of filter depth) 2 v s.v → HoldsPlane num (header_of filter depth) 0 y' t.y → HoldsPlane num (header_of filter depth) 1 u' t.u → HoldsPlane num (header_of filter depth) 2 v' t.v
-      → (a : PlanValue) × (HoldsReferences num a second × ((has_reference a.header LAST_FRAME ≡ true) × (has_reference a.header ALTREF_FRAME ≡ true)))
+      → (a : PlanValue) × (ServesPlan num a second × ((has_reference a.header LAST_FRAME ≡ true) × (has_reference a.header ALTREF_FRAME ≡ true)))
   unfolding has_slot has_reference
-  filled_holds_references made first second new set_first set_second a b c d e f =
+  filled_serves made first second new set_first set_second a b c d e f =
       let n1 = holds_empty num value 0 made (holds_none num value made new) refl in
       let n2 = holds_empty num value 1 made n1 refl in
       let n3 = holds_filled num value 2 made n2 s (lit< tt) refl a b c in
@@ -42,7 +43,7 @@ module _ {T : Type 0} (num : T → ℕ) (filter : FilterMode) (depth : ℕ) (is_
       let fi6 : FrameInvariants T = record fi3 { slots = slice_set fi3.slots 5 (Some t) } in
       let n8 = holds_empty num value 7 fi6 (holds_empty num value 6 fi6 n6 refl) refl in
       let all : HoldsReferences num value fi6 = holds_all num value 8 fi6 (omega arith) is_depth n8 in
-      (value, (subst (λ (g : FrameInvariants T). HoldsReferences num value g) (sym (set_second ∙ ap (λ (g : FrameInvariants T). record g { slots = slice_set g.slots 5 (Some t) }) set_first)) all, (refl, refl)))
+      (value, (subst (λ (g : FrameInvariants T). ServesPlan num value g) (sym (set_second ∙ ap (λ (g : FrameInvariants T). record g { slots = slice_set g.slots 5 (Some t) }) set_first)) (holds_serves num value fi6 all), (refl, refl)))
 
 -- a plane with just these sides stores their area
 pub whole_fits : {T : Type 0} (plane : Plane T) (a : VisibleArea) (w h : ℕ) → w ≡ a.width → h ≡ a.height → a.x ≡ 0 → a.y ≡ 0 → plane.plane_cfg ≡ new_config w h 0 0 0 0 → IsWhole plane → InPlane a plane

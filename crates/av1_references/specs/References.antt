@@ -1,6 +1,6 @@
 -- What inter prediction reads of a plan: the planes of its slots, and the samples of a leaf's whole area that it predicts from them.
 -- AV1 specification: inter prediction process, motion vector scaling process.
-use Rattle.std.specs.Prelude.{◌≡◌, ℕ, ◌+◌, ◌*◌, ◌/◌, ◌-◌, ◌^◌, ◌<◌, ◌≤◌, List, [], Some, is_some, unwrap_or, slice_index}
+use Rattle.std.specs.Prelude.{◌≡◌, true, ℕ, ◌+◌, ◌*◌, ◌/◌, ◌-◌, ◌^◌, ◌<◌, ◌≤◌, List, [], Some, is_some, unwrap_or, slice_index}
 use Rattle.av1_blocks.specs.declared.mc.MotionVector.{MotionVector}
 use Rattle.av1_blocks.specs.declared.partition.RefType.{RefType}
 use Rattle.av1_blocks.specs.Blocks.{block_width, block_height}
@@ -12,11 +12,12 @@ use Rattle.av1_frame.specs.Frames.{slot_plane}
 use Rattle.av1_frame.specs.Planes.{sample_at}
 use Rattle.av1_blocks.specs.Depths.{IsDepth}
 use Rattle.av1_inter.specs.Prediction.{compound_prediction, single_prediction}
-use Rattle.av1_inter.specs.Reference.{IsPadded, ReferencePlane, vector_of, reference_of as reference_in}
+use Rattle.av1_inter.specs.Reference.{IsPadded, ReferencePlane, slot_of, vector_of, reference_of as reference_in}
 use Rattle.av1_plan.specs.declared.geometry.PlaneArea.{PlaneArea}
 use Rattle.av1_plan.specs.declared.header.Header.{Header}
 use Rattle.av1_plan.specs.Geometry.{has_slot, plane_height, plane_width, xdec, ydec}
 use Rattle.av1_plan.specs.Plan.{PlanValue, reference_of}
+use Rattle.av1_plan.specs.Validity.{has_reference}
 
 -- ---- the references of a plan
 
@@ -88,3 +89,18 @@ pub record HoldsReferences {T : Type 0} (num : T → ℕ) (value : PlanValue) (f
   pub depth : IsDepth fi.bit_depth
   pub filled : (slot p : ℕ) → slot < 8 → p < 3 → is_some (slot_plane fi slot p) ≡ has_slot value.header slot
   pub planes : (slot p : ℕ) (plane : Plane T) → slot < 8 → p < 3 → slot_plane fi slot p ≡ Some plane → HoldsPlane num value.header p (slot_samples value slot p) plane
+
+-- the settings of a frame that prediction from references reads are those of a header
+pub record PredictsAs {T : Type 0} (h : Header) (fi : FrameInvariants T) : Type 0 where
+  pub depth : fi.bit_depth ≡ h.depth
+  pub filter : fi.default_filter ≡ h.filter
+
+-- The frame predicts as the plan's header says, and each reference that the header has names a filled slot of the frame, with the planes of the
+-- plan's slot. In which slots the frame keeps planes, and which others it keeps, is not asked.
+pub record ServesPlan {T : Type 0} (num : T → ℕ) (value : PlanValue) (fi : FrameInvariants T) : Type 0 where
+  pub settings : PredictsAs value.header fi
+  pub depth : IsDepth fi.bit_depth
+  pub named : (reference : RefType) → has_reference value.header reference ≡ true → slot_of fi reference < 8
+  pub filled : (reference : RefType) (p : ℕ) → has_reference value.header reference ≡ true → p < 3 → is_some (slot_plane fi (slot_of fi reference) p) ≡ true
+  pub planes : (reference : RefType) (p : ℕ) (plane : Plane T) → has_reference value.header reference ≡ true → p < 3 → slot_plane fi (slot_of fi reference) p ≡ Some plane
+      → HoldsPlane num value.header p (slot_samples value (slot_in value.header reference) p) plane

@@ -11,7 +11,7 @@ ghost use Rattle.av1_blocks.specs.Depths.{IsDepth};
 ghost use Rattle.av1_inter.specs.Reference.{IsServed, reference_of as reference_in};
 ghost use Rattle.av1_plan.specs.Plan.{PlanValue};
 ghost use Rattle.av1_plan.specs.Validity.{has_reference};
-ghost use Rattle.av1_references.specs.References.{compound_motion, HoldsReferences, leaf_area, single_motion};
+ghost use Rattle.av1_references.specs.References.{compound_motion, ServesPlan, leaf_area, single_motion};
 
 use av1_blocks::{MotionVector, PredictionMode, RefType};
 use av1_frame::{Area, FrameInvariants, Pixel, Plane, PlaneConfig, PlaneOffset, TileRect};
@@ -73,7 +73,7 @@ pub fn predict_single<T: Pixel>(
     requires depths { IsDepth fi.now.bit_depth }
     requires depth { fi.now.bit_depth ≤ T.BITS }
     requires reference { IsServed T.num fi.now reference p 64 64 }
-    ensures { (value : PlanValue) → HoldsReferences T.num value fi.now → has_reference value.header reference ≡ true
+    ensures { (value : PlanValue) → ServesPlan T.num value fi.now → has_reference value.header reference ≡ true
         → plane.new ≡ painted_plane plane.old (leaf_area area) (λ r c _. T.pixel (single_motion value p reference mv (leaf_area area) r c)) }
 {
     let tile = whole_tile(plane.config());
@@ -112,7 +112,7 @@ pub fn predict_compound<T: Pixel>(
     requires depth { fi.now.bit_depth ≤ T.BITS }
     requires first { IsServed T.num fi.now (reference_in references 0) p 64 64 }
     requires second { IsServed T.num fi.now (reference_in references 1) p 64 64 }
-    ensures { (value : PlanValue) → HoldsReferences T.num value fi.now
+    ensures { (value : PlanValue) → ServesPlan T.num value fi.now
         → has_reference value.header (reference_in references 0) ≡ true → has_reference value.header (reference_in references 1) ≡ true
         → plane.new ≡ painted_plane plane.old (leaf_area area) (λ r c _. T.pixel (compound_motion value p references mvs (leaf_area area) r c)) }
 {

@@ -9,7 +9,7 @@ ghost use Rattle.av1_blocks.specs.Depths.{IsDepth};
 ghost use Rattle.av1_inter.specs.Reference.{reference_of as reference_in};
 ghost use Rattle.av1_plan.specs.Plan.{PlanValue};
 ghost use Rattle.av1_plan.specs.Validity.{has_reference};
-ghost use Rattle.av1_references.specs.References.{HoldsReferences, leaf_area};
+ghost use Rattle.av1_references.specs.References.{ServesPlan, leaf_area};
 
 use crate::frame::padded_plane;
 use crate::{frame_invariants, predict_compound, predict_single};
@@ -68,7 +68,7 @@ fn frame<T: Pixel>(alloc: Global, depth: u8) -> Result<FrameInvariants<T>, OutOf
     requires depths { IsDepth depth }
     requires depth { depth ≤ T.BITS }
     ensures depth { IfOk result (λ fi. fi.bit_depth ≡ depth) }
-    ensures held { IfOk result (λ fi. (value : PlanValue) × (HoldsReferences T.num value fi × ((has_reference value.header RefType.LAST_FRAME ≡ true) × (has_reference value.header RefType.ALTREF_FRAME ≡ true)))) }
+    ensures held { IfOk result (λ fi. (value : PlanValue) × (ServesPlan T.num value fi × ((has_reference value.header RefType.LAST_FRAME ≡ true) × (has_reference value.header RefType.ALTREF_FRAME ≡ true)))) }
 {
     let header = Header {
         version: 1,
@@ -152,7 +152,7 @@ fn single<T: Pixel>(
     requires high { block_height area.size ≤ 64 }
     requires depth { fi.now.bit_depth ≤ T.BITS }
     requires inter { (1 ≤ reference_number reference) × (reference_number reference ≤ 7) }
-    requires held { (value : PlanValue) × (HoldsReferences T.num value fi.now × (has_reference value.header reference ≡ true)) }
+    requires held { (value : PlanValue) × (ServesPlan T.num value fi.now × (has_reference value.header reference ≡ true)) }
 {
     let mut plane = blank(alloc, area)?;
     predict_single(
@@ -180,7 +180,7 @@ fn compound<T: Pixel>(
     requires wide { block_width area.size ≤ 64 }
     requires high { block_height area.size ≤ 64 }
     requires depth { fi.now.bit_depth ≤ T.BITS }
-    requires held { (value : PlanValue) × (HoldsReferences T.num value fi.now × ((has_reference value.header RefType.LAST_FRAME ≡ true) × (has_reference value.header RefType.ALTREF_FRAME ≡ true))) }
+    requires held { (value : PlanValue) × (ServesPlan T.num value fi.now × ((has_reference value.header RefType.LAST_FRAME ≡ true) × (has_reference value.header RefType.ALTREF_FRAME ≡ true))) }
 {
     let mut plane = blank(alloc, area)?;
     let mut buffers = InterCompoundBuffers::new(alloc)?;

@@ -2,7 +2,7 @@ use Rattle.std.proofs.Common.{◌∙◌, ap, true, ℕ}
 use Rattle.av1_blocks.specs.declared.mc.FilterMode.TheVariants.{SHARP}
 use Rattle.av1_frame.specs.Frames.{new_frame}
 use Rattle.av1_plan.specs.Geometry.{plane_height, plane_width, xdec, ydec}
-use Rattle.av1_references.proofs.TestFrames.{filled_holds_references, references_named}
+use Rattle.av1_references.proofs.TestFrames.{filled_serves, references_named}
 use Rattle.av1_references.proofs.tests.frame.Goals as goal
 
 pub padded_plane-requires-clause-samples : goal.padded_plane-requires-clause-samples
@@ -31,6 +31,6 @@ padded_plane-requires-6-clause-samples g c = record { count = c.chroma-4.ensures
 
 pub returns-clause-held : goal.returns-clause-held
 returns-clause-held g c =
-    filled_holds_references g.T.Pixel.num SHARP c.args.depth c.requires.depths c.luma.result c.chroma.result c.chroma-2.result c.luma-2.result c.chroma-3.result c.chroma-4.result (record { y = c.in_ok-y.y; u = c.in_ok-u.u; v = c.in_ok-v.v }) (record { y = c.in_ok-y-2.y; u = c.in_ok-u-2.u; v = c.in_ok-v-2.v }) c.in_ok-fi.fi c.set_slot.new.self c.set_slot-2.new.self
+    filled_serves g.T.Pixel.num SHARP c.args.depth c.requires.depths c.luma.result c.chroma.result c.chroma-2.result c.luma-2.result c.chroma-3.result c.chroma-4.result (record { y = c.in_ok-y.y; u = c.in_ok-u.u; v = c.in_ok-v.v }) (record { y = c.in_ok-y-2.y; u = c.in_ok-u-2.u; v = c.in_ok-v-2.v }) c.in_ok-fi.fi c.set_slot.new.self c.set_slot-2.new.self
     (c.in_ok-fi.ensures ∙ ap (λ (n : ℕ). new_frame 16 8 SHARP n true references_named) c.from-bit_depth.ensures) c.set_slot.ensures c.set_slot-2.ensures
     c.in_ok-y.ensures c.in_ok-u.ensures c.in_ok-v.ensures c.in_ok-y-2.ensures c.in_ok-u-2.ensures c.in_ok-v-2.ensures
