@@ -54,8 +54,8 @@ pub fn push_invalid(line: &mut Line, leaf: u32, kind: InvalidKind)
     line.push(b"\n");
 }
 
-// The line for a field at fault.
-fn malformed_line(at: u32) -> Line
+/// The line for the field that begins at byte `at`.
+pub fn malformed_line(at: u32) -> Line
     ensures { result ≡ malformed_text at }
 {
     let mut line = Line::new();

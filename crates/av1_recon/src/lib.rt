@@ -31,7 +31,7 @@ mod reconstruct;
 mod samples;
 mod sums;
 
-pub use answer::{plain_line, push_invalid, push_malformed, report, say};
+pub use answer::{malformed_line, plain_line, push_invalid, push_malformed, report, say};
 pub use av1_plan::InvalidKind;
 pub use av1_streams::{
     Failed, MAX_PLAN_BYTES, MemSink, ReadError, ReadSource, Sink, SliceSource, Source, WriteFault,
@@ -48,5 +48,5 @@ pub use number::number_of;
 pub use planes::{write_frame, write_planes};
 pub use program::run;
 pub use read::read_plan;
-pub use reconstruct::reconstruct_plan;
+pub use reconstruct::{reconstruct_plan, reconstruct_valid};
 pub use sums::plane_sum;

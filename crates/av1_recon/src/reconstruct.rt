@@ -30,8 +30,16 @@ pub fn reconstruct_plan<R: Source, W: Sink>(
     reconstruct_valid(alloc, &plan, sink)
 }
 
-// Appends the planes of a valid plan.
-fn reconstruct_valid<W: Sink>(alloc: Global, plan: &Plan, sink: &mut W) -> Result<(), ReconError>
+/// Appends the visible planes of a valid plan to the sink, as [`reconstruct_plan`] does.
+///
+/// # Errors
+///
+/// `WriteFault`. `Memory` may stand in place of it, before the first written byte.
+pub fn reconstruct_valid<W: Sink>(
+    alloc: Global,
+    plan: &Plan,
+    sink: &mut W,
+) -> Result<(), ReconError>
     requires valid { first_fault (plan_value plan.now) ≡ None }
     ensures { Writes W.taken W.faults sink.old sink.new (planes_of (plan_value plan.now)) result }
 {

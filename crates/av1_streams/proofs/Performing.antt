@@ -18,7 +18,7 @@ pub record IsSound {O A E : Type 0} (task : Task O A E) : Type 0 where
 
 -- ---- what holds of the bytes that were read, of those that the source told
 
-any : (left : Option (List ℕ)) (P : List ℕ → Type 0) → ((bytes : List ℕ) → P bytes) → IfSome left P
+pub any : (left : Option (List ℕ)) (P : List ℕ → Type 0) → ((bytes : List ℕ) → P bytes) → IfSome left P
 any None P f = tt
 any (Some bytes) P f = f bytes
 

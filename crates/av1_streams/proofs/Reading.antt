@@ -1,5 +1,6 @@
 -- What reading a value says, from what reading its bytes and what finding it in them say.
-use Rattle.std.proofs.Common.{◌≡◌, ◌≢◌, ℕ, ◌+◌, ◌≤◌, List, length, Option, Result, Ok, Err, refl, sym, ap, subst, ◌∙◌, arith}
+use Rattle.std.proofs.Common.{◌≡◌, ◌≢◌, ℕ, ◌+◌, ◌<◌, ◌≤◌, List, length, get_or, Option, Result, Ok, Err, refl, sym, ap, subst, ◌∙◌, arith}
+use Rattle.std.proofs.lemmas.List.{get_or_default}
 use Rattle.std.specs.Prelude.{IfOk, IfErr, IsErrAnd}
 use Rattle.std.specs.Io.KnownBytes.{Consumes, IsAtEnd}
 use Rattle.av1_streams.specs.Faults.{FaultCounted}
@@ -8,6 +9,10 @@ use Rattle.av1_streams.specs.Tasks.{Cause, too_long, refused, read_failed, write
 use Rattle.av1_streams.specs.declared.read.ReadError.{ReadError}
 use Rattle.av1_streams.specs.declared.read.ReadError.TheVariants as read_errors
 use Rattle.av1_streams.proofs.Performing.{is_err}
+
+-- numbers that fit a byte wherever they are read
+pub are_bytes : (bytes : List ℕ) → ((i : ℕ) → get_or bytes i 0 < 256) → AreBytes bytes
+are_bytes bytes f k d h = subst (λ (v : ℕ). v < 256) (get_or_default bytes k 0 d h) (f k)
 
 -- these bytes were read to their end
 pub record AreReadWhole {S : Type 0} (limit : ℕ) (left : S → Option (List ℕ)) (faults : S → ℕ) (source source' : S) (bytes : List ℕ) : Type 0 where

@@ -216,7 +216,3 @@ last_leaf plan bytes n list h e =
 pub same_list : {E A : Type 0} (result : Result (Vec Difference A) E) (ds : List Difference) (P : Type 0) → IfOk result (λ list. list.items ≡ ds) → (ds ≡ []) ↔ P → IfOk result (λ list. (list.items ≡ []) ↔ P)
 same_list (Err e) ds P is same = tt
 same_list (Ok list) ds P is (there, back) = (λ e. there (sym is ∙ e), λ p. is ∙ back p)
-
--- numbers that fit a byte wherever they are read
-pub are_bytes : (bytes : List ℕ) → ((i : ℕ) → get_or bytes i 0 < 256) → AreBytes bytes
-are_bytes bytes f k d h = subst (λ (v : ℕ). v < 256) (get_or_default bytes k 0 d h) (f k)

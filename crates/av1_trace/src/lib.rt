@@ -30,4 +30,4 @@ pub use error::{PlanFault, TraceError};
 pub use laws::{every_place_has_its_leaf, trace_outcome_laws};
 pub use lines::write_differences;
 pub use samples::planes_len;
-pub use trace::{MAX_TRACE_BYTES, check_trace, trace_differences};
+pub use trace::{MAX_TRACE_BYTES, Parts, check_trace, trace_differences, trace_parts, valid_plan};

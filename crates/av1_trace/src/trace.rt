@@ -22,11 +22,13 @@ pub const MAX_TRACE_BYTES: usize = 1 << 27;
 // The bytes before the plan: four letters, and the length of the plan.
 const HEAD: usize = 8;
 
-// The parts of a trace.
+/// The parts of a trace.
 #[derive(Clone, Copy)]
-struct Parts<'a> {
-    plan: &'a [u8],
-    planes: &'a [u8],
+pub struct Parts<'a> {
+    /// The bytes of its plan.
+    pub plan: &'a [u8],
+    /// The bytes of its planes.
+    pub planes: &'a [u8],
 }
 
 /// Reads a trace from the source to its end, as [`trace_differences`] takes it, and appends lines on its differences to the sink, as
@@ -101,8 +103,12 @@ fn malformed(at: usize) -> TraceError
     TraceError::Malformed { at: at as u32 }
 }
 
-// The plan and the planes of a trace.
-fn trace_parts(bytes: &[u8]) -> Result<Parts<'_>, TraceError>
+/// The plan and the planes of a trace, neither of which is read yet.
+///
+/// # Errors
+///
+/// `Malformed`, for the letters, the length or a plan that is cut.
+pub fn trace_parts(bytes: &[u8]) -> Result<Parts<'_>, TraceError>
     requires short { length bytes.now ≤ max_trace_bytes }
     ensures found { IfOk result (λ parts. HasParts bytes.now parts.plan.now parts.planes.now) }
     ensures refused { IfErr result (λ e. (at : ℕ) × (e ≡ Malformed at) × IsMalformedAt bytes.now at) }
@@ -124,8 +130,12 @@ fn trace_parts(bytes: &[u8]) -> Result<Parts<'_>, TraceError>
     Ok(Parts { plan, planes })
 }
 
-// The valid plan that these bytes are.
-fn valid_plan(alloc: Global, bytes: &[u8]) -> Result<Plan, TraceError>
+/// The valid plan that these bytes are.
+///
+/// # Errors
+///
+/// `Plan`, where they are none. `Memory` may stand in place of it.
+pub fn valid_plan(alloc: Global, bytes: &[u8]) -> Result<Plan, TraceError>
     requires short { length bytes.now ≤ max_plan_bytes }
     ensures found { IfOk result (λ plan. IsValidPlan bytes.now (plan_value plan)) }
     ensures refused { IfErr result (λ e. e ≢ Memory → IsPlanFault bytes.now e) }

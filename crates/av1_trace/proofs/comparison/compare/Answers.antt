@@ -1,5 +1,6 @@
 use Rattle.std.proofs.Common.{arith}
-use Rattle.av1_trace.proofs.Comparing.{are_bytes, same_list}
+use Rattle.av1_streams.proofs.Reading.{are_bytes}
+use Rattle.av1_trace.proofs.Comparing.{same_list}
 use Rattle.av1_trace.proofs.SameSamples.{same_exactly}
 use Rattle.av1_trace.proofs.comparison.compare.Goals as goal
 
