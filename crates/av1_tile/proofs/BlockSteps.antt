@@ -11,11 +11,12 @@ use Rattle.av1_frame.specs.declared.plane.PlaneConfig.{PlaneConfig}
 use Rattle.av1_frame.specs.Planes.{InPlane, painted_plane}
 use Rattle.av1_plan.specs.declared.geometry.PlaneArea.{PlaneArea}
 use Rattle.av1_plan.specs.declared.geometry.TransformBlock.{TransformBlock}
+use Rattle.av1_blocks.specs.declared.mc.FilterMode.TheVariants.{REGULAR}
 use Rattle.av1_plan.specs.declared.header.Header.{Header}
 use Rattle.av1_plan.specs.declared.leaf.Triple.{Triple}
 use Rattle.av1_plan.specs.Geometry.{block_count, blocks_across, transform_block}
 use Rattle.av1_plan.specs.Plan.{PlanValue}
-use Rattle.av1_references.specs.References.{HoldsReferences}
+use Rattle.av1_references.specs.References.{ServesPlan}
 use Rattle.av1_tile.specs.declared.block.BlockPlace.{BlockPlace}
 use Rattle.av1_tile.specs.declared.plane_block.PlaneBlock.{PlaneBlock}
 use Rattle.av1_tile.specs.declared.plane_block.Prediction.{Prediction}
@@ -59,6 +60,10 @@ module _ (h : Header) (block : PlaneBlock) (at : BlockPlace) where
   pub block_counted : (count after : ℕ) (triples : List Triple) → transform_block h block.plane block.area at.number ≡ Some (record { x = at.x; y = at.y })
       → after ≡ fold edges_in count (own_prediction block at.number (area_at block at)) → after ≡ fold edges_in count (steps_at h block triples at.number)
   block_counted count after triples found e = e ∙ two_steps edges_in count triples found
+
+-- a plan of which nothing is asked
+pub no_plan : PlanValue
+no_plan = record { header = record { version = 1; width = 8; height = 8; depth = 8; sampling = 0; filter = REGULAR; edge_filter = false; slots = []; mask = 0 }; references = []; leaves = [] }
 
 -- planes after the two steps of a block of a plan
 module _ {T : Type 0} (num : T → ℕ) (pixel : ℕ → T) (law : (v : ℕ) → num (pixel v) ≡ v) (back : (x : T) → pixel (num x) ≡ x) (plan : PlanValue) (luma : PlaneBlock → ℕ → ℕ → ℤ) (block : PlaneBlock) (at : BlockPlace)
@@ -154,7 +159,7 @@ fits_laid h block triples p q same fits = subst (λ (cfg : PlaneConfig). BlockFi
 pub whole_inside : {T : Type 0} (h : Header) (block : PlaneBlock) (triples : List Triple) (plane : Plane T) → IsPlaneOf h block.plane plane → BlockFits plane.plane_cfg h block triples → InPlane (whole_area block) plane
 whole_inside h block triples plane is fits = record { storage = is.whole; columns = omega (arith, fits.columns); rows = omega (arith, fits.rows) }
 
-module _ {T : Type 0} (num : T → ℕ) (pixel : ℕ → T) (law : (v : ℕ) → num (pixel v) ≡ v) (back : (x : T) → pixel (num x) ≡ x) (plan : PlanValue) (fi : FrameInvariants T) (holds : HoldsReferences num plan fi) (block : PlaneBlock) (below : block.plane < 3)
+module _ {T : Type 0} (num : T → ℕ) (pixel : ℕ → T) (law : (v : ℕ) → num (pixel v) ≡ v) (back : (x : T) → pixel (num x) ≡ x) (plan : PlanValue) (fi : FrameInvariants T) (holds : ServesPlan num plan fi) (block : PlaneBlock) (below : block.plane < 3)
     (fits : PredictionFits plan.header block.area block.prediction) (before between : Plane T) (predicted : between ≡ fold (fast_in num pixel plan block.plane (λ _. no_luma)) before (whole_steps block)) where
   -- the plane goes on storing its part of the frame
   pub whole_between : Stores num plan.header block.plane before → Stores num plan.header block.plane between

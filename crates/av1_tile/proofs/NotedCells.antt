@@ -8,7 +8,7 @@ use Rattle.av1_frame.specs.declared.tile_state.CodedBlockInfo.{CodedBlockInfo}
 use Rattle.av1_frame.specs.Samples.{corner, in_area, paint, paint_row, part, row_start, with_part}
 use Rattle.av1_frame.proofs.Fits.{row_end_le}
 use Rattle.av1_frame.proofs.Paint.{length_paint, length-paint_row, paint_at, paint_more}
-use Rattle.av1_frame.proofs.Update.{length-update, update_is}
+use Rattle.av1_frame.proofs.Update.{update_is}
 use Rattle.av1_avail.specs.Order.{is_in}
 use Rattle.av1_order.specs.Neighbours.{last_cell}
 use Rattle.av1_order.proofs.Neighbours.{last_cells_lie_inside}
@@ -43,8 +43,8 @@ row_filled {X} stride a r n v s t ws some across down below wide painted filled 
 -- ---- cells that are noted
 
 -- the cell at column cx of row cy lies among those of the rows
-pub cell_stored : (columns rows n cx cy : ℕ) → n ≡ rows * columns → cx < columns → cy < rows → cy * columns + cx < n
-cell_stored columns rows n cx cy e column row = let l = row_end_le cy rows columns (cx + 1) n e row (omega arith) in omega (arith, l)
+pub cell_stored : (columns rows n cx cy : ℕ) → rows * columns ≤ n → cx < columns → cy < rows → cy * columns + cx < n
+cell_stored columns rows n cx cy e column row = let l = row_end_le cy rows columns (cx + 1) (rows * columns) refl row (omega arith) in omega (arith, l, e)
 
 -- along one direction, a run of w cells from z on that is cut to n cells
 cut_run : (z w n i m k : ℕ) → i ≡ min z n → m ≡ min w (n - i) → k < n → (nat_le i k && nat_lt k (i + m)) ≡ (nat_le z k && nat_lt k (z + w))
@@ -69,7 +69,7 @@ cut_holds a x y w d columns rows cx cy is column row =
     ∙ regrouped (nat_le x cx && nat_lt cx (x + w)) (nat_le y cy) (nat_lt cy (y + d))
 
 -- so what is told of each cell is v in the rectangle, and what it was elsewhere
-pub cell_noted : {X : Type 0} (a : StoredArea) (x y w d columns rows cx cy : ℕ) (v e : X) (s t : List X) → IsCut a x y w d columns rows → length s ≡ rows * columns → cx < columns → cy < rows → t ≡ paint columns a (λ _ _ _. v) s
+pub cell_noted : {X : Type 0} (a : StoredArea) (x y w d columns rows cx cy : ℕ) (v e : X) (s t : List X) → IsCut a x y w d columns rows → rows * columns ≤ length s → cx < columns → cy < rows → t ≡ paint columns a (λ _ _ _. v) s
     → get_or t (cy * columns + cx) e ≡ cond (is_in cx cy x y w d) v (get_or s (cy * columns + cx) e)
 cell_noted a x y w d columns rows cx cy v e s t is filled column row painted =
     let k = cy * columns + cx in
@@ -82,10 +82,8 @@ cell_noted a x y w d columns rows cx cy v e s t is filled column row painted =
 few_in : (r c : ℕ) → r ≤ 512 → c ≤ 512 → r * c ≤ 262144
 few_in r c a b = grind arith
 
-pub few_cells : (h : Header) (cells : CodedCells) → IsReadFrame h → HasCells h cells → length cells.cells.items ≤ 262144
-few_cells h cells read has =
-    let few = few_in cells.rows cells.columns (omega (arith, has.rows, read.height.most)) (omega (arith, has.columns, read.width.most)) in
-    omega (arith, has.filled, few)
+few_cells : (h : Header) (cells : CodedCells) → IsReadFrame h → HasCells h cells → cells.rows * cells.columns ≤ 262144
+few_cells h cells read has = few_in cells.rows cells.columns (omega (arith, has.rows, read.height.most)) (omega (arith, has.columns, read.width.most))
 
 -- the sample at column x of row y of plane p, where columns are halved s times and rows t times
 module _ (h : Header) (cells : CodedCells) (read : IsReadFrame h) (has : HasCells h cells) (p x y s t cx cy : ℕ) (column : x < plane_width h p) (row : y < plane_height h p)
@@ -96,11 +94,19 @@ module _ (h : Header) (cells : CodedCells) (read : IsReadFrame h) (has : HasCell
   last_y : cy ≡ last_cell (ydec h p) y
   last_y = cell_y ∙ ap (λ (n : ℕ). last_cell n y) down
 
-  -- its cell lies in the record
-  pub cell_held : cy * cells.columns + cx < length cells.cells.items
-  cell_held =
+  -- its cell is one of the frame
+  of_frame : cy * cells.columns + cx < cells.rows * cells.columns
+  of_frame =
       let inside = last_cells_lie_inside h p (whole_frame h read) x y column row in
-      cell_stored cells.columns cells.rows (length cells.cells.items) cx cy has.filled (omega (arith, inside.0, last_x, has.columns)) (omega (arith, inside.1, last_y, has.rows))
+      cell_stored cells.columns cells.rows (cells.rows * cells.columns) cx cy (omega arith) (omega (arith, inside.0, last_x, has.columns)) (omega (arith, inside.1, last_y, has.rows))
+
+  -- of which there are few
+  pub cell_early : cy * cells.columns + cx < 262144
+  cell_early = let few = few_cells h cells read has in omega (arith, of_frame, few)
+
+  -- and lies in the record
+  pub cell_held : cy * cells.columns + cx < length cells.cells.items
+  cell_held = omega (arith, of_frame, has.filled)
 
   -- and tells of it
   pub cell_tells : (v : CodedBlockInfo) → v ≡ get_or cells.cells.items (cy * cells.columns + cx) v → v ≡ told_by h (cell_at cells) p x y

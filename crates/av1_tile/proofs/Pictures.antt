@@ -19,23 +19,22 @@ use Rattle.av1_order.specs.Turns.{IsCodedPlan}
 use Rattle.av1_plan.specs.declared.header.Header.{Header}
 use Rattle.av1_plan.specs.declared.plan.Plan.{Plan}
 use Rattle.av1_plan.specs.Answer.{plan_value}
-use Rattle.av1_plan.specs.CodingOrder.{IsQuarterInside}
 use Rattle.av1_plan.specs.Geometry.{xdec, ydec, plane_width, plane_height, carries_chroma}
 use Rattle.av1_plan.specs.Grammar.{plan as grammar}
 use Rattle.av1_plan.specs.Plan.{LeafValue, PlanValue}
 use Rattle.av1_plan.specs.Spelling.{IsSpelled}
 use Rattle.av1_plan.specs.Validity.{first_fault}
 use Rattle.av1_plan.proofs.CodingOrder.{plan_trees}
-use Rattle.av1_plan.proofs.ReadPlans.{plan_grid, plan_quarters, read_frame}
+use Rattle.av1_plan.proofs.ReadPlans.{spelled_frame, spelled_leaves}
 use Rattle.av1_plan.proofs.ValidLeaves.{faultless}
-use Rattle.av1_references.specs.References.{HoldsReferences}
 use Rattle.av1_tile.specs.declared.planes.Planes.{Planes}
 use Rattle.av1_tile.specs.Canvas.{Component, Y, U, V}
 use Rattle.av1_tile.specs.Edge.{sample_of}
 use Rattle.av1_tile.specs.Output.{visible, planes_of}
 use Rattle.av1_tile.specs.PlaneBlocks.{component, extent_of, number}
 use Rattle.av1_tile.specs.Reference.{slow_walk}
-use Rattle.av1_tile.specs.State.{Picture, IsSound, MadeFor, ShowsRows, edges_of, shown}
+use Rattle.av1_tile.specs.Memory.{ShowsPlan}
+use Rattle.av1_tile.specs.State.{ShowsRows, edges_of, shown}
 use Rattle.av1_tile.specs.Steps.{steps}
 use Rattle.av1_tile.specs.Walk.{Told, Begins, IsPlaneOf, Stores, StoresAll, HasRoom, HasRoomIn, SameLayout, edges_after, fast_step, plane_of, steps_by}
 use Rattle.av1_tile.proofs.Agreement.{listed_same}
@@ -83,25 +82,7 @@ new_stores num zero h p cfg (Ok plane) none width height across down is samples 
 }
 new_stores num zero h p cfg (Err e) none width height across down is samples whole = tt
 
--- ---- a state that was made for a plan
-
--- what is seen of a state that was made for a plan: its planes store the plan's frame, with room for whole superblocks, and it holds the plan's
--- references
-pub record IsMade {T : Type 0} (num : T → ℕ) (value : PlanValue) (h : Header) (fi : FrameInvariants T) (planes : Planes T) : Type 0 where
-  pub header : h ≡ value.header
-  pub references : HoldsReferences num value fi
-  pub stores : StoresAll num value.header planes
-  pub room : HasRoom value.header planes
-
-pub is_made : {T : Type 0} (num : T → ℕ) (value : PlanValue) (s : Picture T) (h : Header) (fi : FrameInvariants T) (planes : Planes T) (edges : ℕ) → s ≡ record { header = h; references = fi; planes = planes; edges = edges } → IsSound num s → MadeFor num value s
-    → IsMade num value h fi planes
-is_made num value s h fi planes edges is sound made =
-    subst (λ (r : Picture _). IsMade num value r.header r.references r.planes) is (record {
-      header = made.header;
-      references = made.references;
-      stores = subst (λ (n : Header). StoresAll num n s.planes) made.header sound.stores;
-      room = subst (λ (n : Header). HasRoom n s.planes) made.header sound.room;
-    })
+-- ---- planes of a frame
 
 -- planes laid out alike have the same room
 pub room_kept : {T : Type 0} (h : Header) (p q : Planes T) → SameLayout p q → HasRoom h p → HasRoom h q
@@ -111,7 +92,7 @@ room_kept h p q same room = record {
   v = subst (HasRoomIn h 2) (sym same.v) room.v;
 }
 
-all_placed : {T : Type 0} (num : T → ℕ) (h : Header) (planes : Planes T) → StoresAll num h planes → (k : Component) → IsPlaneOf h (number k) (plane_of k planes)
+pub all_placed : {T : Type 0} (num : T → ℕ) (h : Header) (planes : Planes T) → StoresAll num h planes → (k : Component) → IsPlaneOf h (number k) (plane_of k planes)
 all_placed num h planes s Y = s.y.place
 all_placed num h planes s U = s.u.place
 all_placed num h planes s V = s.v.place
@@ -119,54 +100,52 @@ all_placed num h planes s V = s.v.place
 -- ---- its plan
 
 -- a valid plan in a plane: its leaves are valid and stand in coding order
-pub plan_coded : (plan : Plan) → first_fault (plan_value plan) ≡ None → IsSpelled grammar (plan_value plan) → (p : ℕ) → IsCodedPlan (plan_value plan).header p (plan_value plan).leaves
-plan_coded plan valid s p = record {
-  frame = whole_frame (plan_value plan).header (read_frame plan);
-  grid = plan_grid plan;
-  valid = faultless (plan_value plan).header 0 (plan_value plan).leaves valid;
-  ordered = plan_trees (record { is_inter = false; columns = 0; rows = 0 }) (coding_in (plan_value plan).header p) (plan_value plan) s;
+coded : (plan : PlanValue) → first_fault plan ≡ None → IsSpelled grammar plan → (p : ℕ) → IsCodedPlan plan.header p plan.leaves
+coded plan valid s p = record {
+  frame = whole_frame plan.header (spelled_frame plan s);
+  grid = λ k d within. (spelled_leaves plan s k d within).grid;
+  valid = faultless plan.header 0 plan.leaves valid;
+  ordered = plan_trees (record { is_inter = false; columns = 0; rows = 0 }) (coding_in plan.header p) plan s;
 }
 
-module _ (plan : Plan) (valid : first_fault (plan_value plan) ≡ None) where
-  all_begin : All (λ (l : LeafValue). (k : Component) → covers k (carries_chroma (plan_value plan).header l.x l.y l.size) ≡ true → Begins (plan_value plan).header k l) (plan_value plan).leaves
-  all_begin i d within k e = begins (plan_value plan).header k _ (sound_leaves plan valid i d within)
+pub plan_coded : (plan : Plan) → first_fault (plan_value plan) ≡ None → IsSpelled grammar (plan_value plan) → (p : ℕ) → IsCodedPlan (plan_value plan).header p (plan_value plan).leaves
+plan_coded plan = coded (plan_value plan)
 
-  same_steps : (s : IsSpelled grammar (plan_value plan)) (told : Told) → steps_by (plan_value plan).header told (plan_value plan).leaves ≡ steps (plan_value plan).header (plan_value plan).leaves
-  same_steps s told = steps_told (plan_value plan).header (plan_value plan).leaves (λ k. plan_coded plan valid s (number k)) all_begin told
+module _ (plan : PlanValue) (spelled : ∥ IsSpelled grammar plan ∥₁) (valid : first_fault plan ≡ None) where
+  all_begin : All (λ (l : LeafValue). (k : Component) → covers k (carries_chroma plan.header l.x l.y l.size) ≡ true → Begins plan.header k l) plan.leaves
+  all_begin i d within k e = begins plan.header k _ (sound_leaves plan spelled valid i d within)
 
-  all_quarters : All (IsQuarterInside (plan_value plan).header) (plan_value plan).leaves
-  all_quarters = plan_quarters plan
+  same_steps : (s : IsSpelled grammar plan) (told : Told) → steps_by plan.header told plan.leaves ≡ steps plan.header plan.leaves
+  same_steps s told = steps_told plan.header plan.leaves (λ k. coded plan valid s (number k)) all_begin told
 
-  module _ {T : Type 0} (num : T → ℕ) (pixel : ℕ → T) (law : (v : ℕ) → num (pixel v) ≡ v) (back : (x : T) → pixel (num x) ≡ x) (h : Header) (fi : FrameInvariants T) (p q : Planes T) (edges : ℕ) (told : Told)
-      (made : IsMade num (plan_value plan) h fi p) (after : StoresAll num (plan_value plan).header q) (walked : q ≡ fold (fast_step num pixel (plan_value plan)) p (steps_by (plan_value plan).header told (plan_value plan).leaves)) where
-    -- planes that have gone through its steps show the samples that it comes to
-    samples_are : (k : Component) (x y : ℕ) → x < plane_width (plan_value plan).header (number k) → y < plane_height (plan_value plan).header (number k) → sample_at num (plane_of k q) x y ≡ sample_of (slow_walk (plan_value plan) k x y)
-    samples_are k x y hx hy =
-        let value = plan_value plan in
-        ∥∥₁_elim plan.spelled (hlevel (ℕ_set))
-        (λ s. sym (ap sample_of (samples_shown num pixel law back value p q (plan_ready value.header value.leaves (λ k. plan_coded plan valid s (number k)) (read_frame plan) all_quarters)
-        (record { plane = all_placed num value.header p made.stores; room = made.room.y }) (all_placed num value.header q after)
-        (walked ∙ ap (fold (fast_step num pixel value) p) (same_steps s told)) k x y hx hy)))
-
-    -- so they show its bytes,
-    pub plan_shows : visible h (shown num (record { header = h; references = fi; planes = q; edges = edges })) ≡ planes_of (plan_value plan)
-    unfolding planes_of
-    plan_shows =
-        let value = plan_value plan in
-        ap (λ (k : Header). visible k (shown num (record { header = h; references = fi; planes = q; edges = edges }))) made.header
-        ∙ visible_same value.header (λ k x y. sample_at num (plane_of k q) x y) (λ k x y. sample_of (slow_walk value k x y)) samples_are
-
-    -- row by row
-    pub plan_shows_rows : ShowsRows num (plan_value plan) (record { header = h; references = fi; planes = q; edges = edges })
-    plan_shows_rows n y few below =
-        let value = plan_value plan in
-        let k = component n in
-        let same : number k ≡ n = number_component n few in
-        let inside : y < plane_height value.header (number k) = subst (λ (m : ℕ). y < plane_height value.header m) (sym same) below in
-        ap (λ (g : Header). by_index (extent_of g n).width (λ x. sample_at num (plane_of k q) x y)) made.header
-        ∙ listed_same (plane_width value.header n) (λ x. sample_at num (plane_of k q) x y) (λ x. sample_of (slow_walk value k x y))
-        (λ x hx. samples_are k x y (subst (λ (m : ℕ). x < plane_width value.header m) (sym same) hx) inside)
+  -- planes that have gone through its steps show the samples that it comes to
+  pub plan_shows : {T : Type 0} (num : T → ℕ) (pixel : ℕ → T) (law : (v : ℕ) → num (pixel v) ≡ v) (back : (x : T) → pixel (num x) ≡ x) (p q : Planes T) (told : Told) → StoresAll num plan.header p → HasRoom plan.header p → StoresAll num plan.header q
+      → q ≡ fold (fast_step num pixel plan) p (steps_by plan.header told plan.leaves) → ShowsPlan num plan q
+  plan_shows num pixel law back p q told stores room after walked k x y hx hy =
+      ∥∥₁_elim spelled (hlevel (ℕ_set))
+      (λ s. sym (ap sample_of (samples_shown num pixel law back plan p q (plan_ready plan.header plan.leaves (λ k. coded plan valid s (number k)) (spelled_frame plan s) (λ i d within. (spelled_leaves plan s i d within).quarter))
+      (record { plane = all_placed num plan.header p stores; room = room.y }) (all_placed num plan.header q after)
+      (walked ∙ ap (fold (fast_step num pixel plan) p) (same_steps s told)) k x y hx hy)))
 
   -- and the count of edges is that of its predictions
-  pub plan_counts : (count after : ℕ) (told : Told) → after ≡ fold edges_after count (steps_by (plan_value plan).header told (plan_value plan).leaves) → after ≡ edges_of count (plan_value plan)
-  plan_counts count after told counted = ∥∥₁_elim plan.spelled (hlevel (ℕ_set)) (λ s. counted ∙ ap (fold edges_after count) (same_steps s told))
+  pub plan_counts : (count after : ℕ) (told : Told) → after ≡ fold edges_after count (steps_by plan.header told plan.leaves) → after ≡ edges_of count plan
+  plan_counts count after told counted = ∥∥₁_elim spelled (hlevel (ℕ_set)) (λ s. counted ∙ ap (fold edges_after count) (same_steps s told))
+
+-- a state whose planes show what a plan comes to
+module _ {T : Type 0} (num : T → ℕ) (plan : PlanValue) (h : Header) (fi : FrameInvariants T) (q : Planes T) (edges : ℕ) (same : h ≡ plan.header) (shows : ShowsPlan num plan q) where
+  -- shows its bytes,
+  pub state_visible : visible h (shown num (record { header = h; references = fi; planes = q; edges = edges })) ≡ planes_of plan
+  unfolding planes_of
+  state_visible =
+      ap (λ (k : Header). visible k (shown num (record { header = h; references = fi; planes = q; edges = edges }))) same
+      ∙ visible_same plan.header (λ k x y. sample_at num (plane_of k q) x y) (λ k x y. sample_of (slow_walk plan k x y)) shows
+
+  -- row by row
+  pub state_rows : ShowsRows num plan (record { header = h; references = fi; planes = q; edges = edges })
+  state_rows n y few below =
+      let k = component n in
+      let own : number k ≡ n = number_component n few in
+      let inside : y < plane_height plan.header (number k) = subst (λ (m : ℕ). y < plane_height plan.header m) (sym own) below in
+      ap (λ (g : Header). by_index (extent_of g n).width (λ x. sample_at num (plane_of k q) x y)) same
+      ∙ listed_same (plane_width plan.header n) (λ x. sample_at num (plane_of k q) x y) (λ x. sample_of (slow_walk plan k x y))
+      (λ x hx. shows k x y (subst (λ (m : ℕ). x < plane_width plan.header m) (sym own) hx) inside)

@@ -23,12 +23,13 @@ use Rattle.av1_order.specs.Plans.{IsWholeFrame}
 use Rattle.av1_order.proofs.Plans.{halved_x, halved_y}
 use Rattle.av1_order.proofs.Sizes.{block_some}
 use Rattle.av1_plan.specs.ReadPlans.{IsOtherFrame, IsReadCompound, IsReadFrame, IsReadLeaf, IsReadKind, IsReadSingle}
-use Rattle.av1_plan.specs.Answer.{plan_value}
 use Rattle.av1_plan.specs.CodingOrder.{IsOnGrid}
 use Rattle.av1_plan.specs.Geometry.{xdec, ydec, plane_width, plane_height, plane_area, carries_chroma, plane_tx_size, is_inside}
-use Rattle.av1_plan.specs.Plan.{LeafValue}
+use Rattle.av1_plan.specs.Grammar.{plan as grammar}
+use Rattle.av1_plan.specs.Plan.{LeafValue, PlanValue}
+use Rattle.av1_plan.specs.Spelling.{IsSpelled}
 use Rattle.av1_plan.specs.Validity.{first_fault, is_transform}
-use Rattle.av1_plan.proofs.ReadPlans.{read_frame, read_leaves}
+use Rattle.av1_plan.proofs.ReadPlans.{kept_frame, kept_leaves}
 use Rattle.av1_plan.proofs.ValidLeaves.{IsValidLeaf, HasFittingTransforms, valid_leaves, fitting_transforms, fitting_triples}
 use Rattle.av1_plan.proofs.ValidModes.{valid_modes, valid_references, HasPlanes, HasValidModes, HasValidReferences}
 use Rattle.av1_plan.specs.declared.geometry.PlaneArea.{PlaneArea}
@@ -36,7 +37,6 @@ use Rattle.av1_plan.specs.declared.header.Header.{Header}
 use Rattle.av1_plan.specs.declared.leaf.ChromaMode.TheVariants.{Plain, Cfl}
 use Rattle.av1_plan.specs.declared.leaf.LeafKind.{LeafKind}
 use Rattle.av1_plan.specs.declared.leaf.LeafKind.TheVariants.{Intra, Single, Compound}
-use Rattle.av1_plan.specs.declared.plan.Plan.{Plan}
 use Rattle.av1_references.proofs.Served.{accepted}
 use Rattle.av1_tile.specs.declared.planes.Planes.{Planes}
 use Rattle.av1_tile.specs.Canvas.{Component, Y, U, V, is_same}
@@ -271,12 +271,12 @@ leaf_fits h planes leaf is roomy = record {
 -- ---- plans
 
 -- the leaves of a valid plan
-pub sound_leaves : (plan : Plan) → first_fault (plan_value plan) ≡ None → All (IsSoundLeaf (plan_value plan).header) (plan_value plan).leaves
-sound_leaves plan valid k d within = record {
-  frame = read_frame plan;
-  read = read_leaves plan k d within;
-  valid = valid_leaves (plan_value plan) valid k d within;
+pub sound_leaves : (plan : PlanValue) → ∥ IsSpelled grammar plan ∥₁ → first_fault plan ≡ None → All (IsSoundLeaf plan.header) plan.leaves
+sound_leaves plan spelled valid k d within = record {
+  frame = kept_frame plan spelled;
+  read = kept_leaves plan spelled k d within;
+  valid = valid_leaves plan valid k d within;
 }
 
-pub plan_fits : {T : Type 0} (plan : Plan) (planes : Planes T) → first_fault (plan_value plan) ≡ None → HasRoom (plan_value plan).header planes → All (LeafFits (plan_value plan).header planes) (plan_value plan).leaves
-plan_fits plan planes valid roomy i d within = leaf_fits (plan_value plan).header planes (get_or (plan_value plan).leaves i d) (sound_leaves plan valid i d within) roomy
+pub plan_fits : {T : Type 0} (plan : PlanValue) (planes : Planes T) → ∥ IsSpelled grammar plan ∥₁ → first_fault plan ≡ None → HasRoom plan.header planes → All (LeafFits plan.header planes) plan.leaves
+plan_fits plan planes spelled valid roomy i d within = leaf_fits plan.header planes (get_or plan.leaves i d) (sound_leaves plan spelled valid i d within) roomy

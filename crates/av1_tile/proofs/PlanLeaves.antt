@@ -209,11 +209,10 @@ same_block h filter U ts l y u v = refl
 same_block h filter V ts l y u v = refl
 
 -- the steps of leaf i as it was read are those of the plan's leaf
-pub leaf_read : (plan : Plan) (i : ℕ) (l : Leaf) (y u v : List Triple) (f g : Told) → IsLeafAt plan i l y u v → IsWholeFrame (plan_value plan).header
-    → ((k : Component) → covers k (carries_chroma (plan_value plan).header l.x l.y l.size) ≡ true → Begins (plan_value plan).header k (leaf_value (stored_triples plan) l)) → TellSame (plan_value plan).header f g
-    → leaf_steps_by (plan_value plan).header f (leaf_with l y u v) ≡ leaf_steps_by (plan_value plan).header g (leaf_value (stored_triples plan) l)
-leaf_read plan i l y u v f g a frame begins same =
-    let h = (plan_value plan).header in
+pub leaf_read : (plan : Plan) (h : Header) (i : ℕ) (l : Leaf) (y u v : List Triple) (f g : Told) → IsLeafAt plan i l y u v → IsWholeFrame h
+    → ((k : Component) → covers k (carries_chroma h l.x l.y l.size) ≡ true → Begins h k (leaf_value (stored_triples plan) l)) → TellSame h f g
+    → leaf_steps_by h f (leaf_with l y u v) ≡ leaf_steps_by h g (leaf_value (stored_triples plan) l)
+leaf_read plan h i l y u v f g a frame begins same =
     let w = leaf_value (stored_triples plan) l in
     same_steps h (leaf_with l y u v) w (λ k. block_by h f k (leaf_with l y u v)) (λ k. block_by h g k w) refl
     (λ k e. same_block h (filter_by h f k (leaf_with l y u v)) k (stored_triples plan) l y u v
@@ -226,12 +225,11 @@ leaf_read plan i l y u v f g a frame begins same =
     own V = a.v_is
 
 -- what is reconstructed with one more leaf
-pub leaf_more : {S : Type 0} (step : S → PlaneStep → S) (plan : Plan) (i : ℕ) (w : LeafValue) (told : Told) (p q r : S) → i < length (plan_value plan).leaves → w ≡ get_or (plan_value plan).leaves i w
-    → q ≡ fold step p (steps_by (plan_value plan).header told (take i (plan_value plan).leaves))
-    → r ≡ fold step q (leaf_steps_by (plan_value plan).header (with_leaves told (take i (plan_value plan).leaves)) w)
-    → r ≡ fold step p (steps_by (plan_value plan).header told (take (i + 1) (plan_value plan).leaves))
-leaf_more step plan i w told p q r inside is before own =
-    let h = (plan_value plan).header in
+pub leaf_more : {S : Type 0} (step : S → PlaneStep → S) (plan : Plan) (h : Header) (i : ℕ) (w : LeafValue) (told : Told) (p q r : S) → i < length (plan_value plan).leaves → w ≡ get_or (plan_value plan).leaves i w
+    → q ≡ fold step p (steps_by h told (take i (plan_value plan).leaves))
+    → r ≡ fold step q (leaf_steps_by h (with_leaves told (take i (plan_value plan).leaves)) w)
+    → r ≡ fold step p (steps_by h told (take (i + 1) (plan_value plan).leaves))
+leaf_more step plan h i w told p q r inside is before own =
     let xs = (plan_value plan).leaves in
     let next : steps_by h told (take (i + 1) xs) ≡ steps_by h told (take i xs) ++ leaf_steps_by h (with_leaves told (take i xs)) w =
     ap (steps_by h told) (take_more xs i w inside ∙ ap (λ (m : LeafValue). take i xs ++ m ∷ []) (sym is)) ∙ steps_by_more h told (take i xs) w in
@@ -239,10 +237,10 @@ leaf_more step plan i w told p q r inside is before own =
     ∙ sym (fold-append step p (steps_by h told (take i xs)) (leaf_steps_by h (with_leaves told (take i xs)) w)) ∙ ap (fold step p) (sym next)
 
 -- what is told once leaf i is noted
-pub told_more : (plan : Plan) (i : ℕ) (l : Leaf) (told : Told) (old new : Told) → i < length (plan_value plan).leaves → leaf_value (stored_triples plan) l ≡ get_or (plan_value plan).leaves i (leaf_value (stored_triples plan) l)
-    → TellSame (plan_value plan).header old (with_leaves told (take i (plan_value plan).leaves)) → TellSame (plan_value plan).header new (with_leaf old (leaf_with l [] [] []))
-    → TellSame (plan_value plan).header new (with_leaves told (take (i + 1) (plan_value plan).leaves))
-told_more plan i l told old new inside is before own cx cy hx hy =
+pub told_more : (plan : Plan) (h : Header) (i : ℕ) (l : Leaf) (told : Told) (old new : Told) → i < length (plan_value plan).leaves → leaf_value (stored_triples plan) l ≡ get_or (plan_value plan).leaves i (leaf_value (stored_triples plan) l)
+    → TellSame h old (with_leaves told (take i (plan_value plan).leaves)) → TellSame h new (with_leaf old (leaf_with l [] [] []))
+    → TellSame h new (with_leaves told (take (i + 1) (plan_value plan).leaves))
+told_more plan h i l told old new inside is before own cx cy hx hy =
     let xs = (plan_value plan).leaves in
     let w = leaf_value (stored_triples plan) l in
     let next : with_leaves told (take (i + 1) xs) ≡ with_leaf (with_leaves told (take i xs)) w =
@@ -278,25 +276,23 @@ fits_listed h p ts l f = record {
 }
 
 -- leaf i fits as it was read
-pub turn_fits : {T : Type 0} (plan : Plan) (i : ℕ) (l : Leaf) (y u v : List Triple) (p q : Planes T) → IsLeafAt plan i l y u v → SameLayout p q → All (LeafFits (plan_value plan).header p) (plan_value plan).leaves
-    → LeafFits (plan_value plan).header q (leaf_with l y u v)
-turn_fits plan i l y u v p q a same fits =
+pub turn_fits : {T : Type 0} (plan : Plan) (h : Header) (i : ℕ) (l : Leaf) (y u v : List Triple) (p q : Planes T) → IsLeafAt plan i l y u v → SameLayout p q → All (LeafFits h p) (plan_value plan).leaves
+    → LeafFits h q (leaf_with l y u v)
+turn_fits plan h i l y u v p q a same fits =
     let ts = stored_triples plan in
-    let h = (plan_value plan).header in
     let w = leaf_value ts l in
     let own : LeafFits h q w = fits_kept h p q w same (subst (λ (m : LeafValue). LeafFits h p m) (sym a.is) (fits i w a.inside)) in
     subst (λ (m : LeafValue). LeafFits h q m) (sym (read_is plan i l y u v a)) (fits_listed h q ts l own)
 
 -- and begins in the planes that it covers
-pub turn_begins : {T : Type 0} (plan : Plan) (i : ℕ) (l : Leaf) (y u v : List Triple) (p : Planes T) → IsLeafAt plan i l y u v → All (LeafFits (plan_value plan).header p) (plan_value plan).leaves
-    → (k : Component) → covers k (carries_chroma (plan_value plan).header l.x l.y l.size) ≡ true → Begins (plan_value plan).header k (leaf_value (stored_triples plan) l)
-turn_begins plan i l y u v p a fits k =
-    let h = (plan_value plan).header in
+pub turn_begins : {T : Type 0} (plan : Plan) (h : Header) (i : ℕ) (l : Leaf) (y u v : List Triple) (p : Planes T) → IsLeafAt plan i l y u v → All (LeafFits h p) (plan_value plan).leaves
+    → (k : Component) → covers k (carries_chroma h l.x l.y l.size) ≡ true → Begins h k (leaf_value (stored_triples plan) l)
+turn_begins plan h i l y u v p a fits k =
     let w = leaf_value (stored_triples plan) l in
     let own : LeafFits h p w = subst (λ (m : LeafValue). LeafFits h p m) (sym a.is) (fits i w a.inside) in
     go own k
   where
-    go : LeafFits (plan_value plan).header p (leaf_value (stored_triples plan) l) → (c : Component) → covers c (carries_chroma (plan_value plan).header l.x l.y l.size) ≡ true → Begins (plan_value plan).header c (leaf_value (stored_triples plan) l)
+    go : LeafFits h p (leaf_value (stored_triples plan) l) → (c : Component) → covers c (carries_chroma h l.x l.y l.size) ≡ true → Begins h c (leaf_value (stored_triples plan) l)
     go own Y e = own.begins_y
     go own U e = own.begins_u e
     go own V e = own.begins_v e

@@ -20,7 +20,7 @@ use Rattle.av1_plan.specs.declared.leaf.Triple.{Triple}
 use Rattle.av1_plan.specs.declared.geometry.PlaneArea.{PlaneArea}
 use Rattle.av1_plan.specs.Geometry.{plane_width, plane_height}
 use Rattle.av1_plan.specs.Plan.{PlanValue}
-use Rattle.av1_references.specs.References.{HoldsReferences}
+use Rattle.av1_references.specs.References.{ServesPlan}
 use Rattle.av1_references.proofs.Motion.{compound_motion_within, held_motion_within}
 use Rattle.av1_tile.specs.declared.plane_block.PlaneBlock.{PlaneBlock}
 use Rattle.av1_tile.specs.declared.plane_block.Prediction.{Prediction}
@@ -106,7 +106,7 @@ module _ {T : Type 0} (num : T → ℕ) (pixel : ℕ → T) (law : (v : ℕ) →
         within = painted_numbers_below num pixel law (2 ^ plan.header.depth) plane a _ stores.within (λ r c v hr hc l. prediction_within deep block n a is block.prediction e (luma block) r c);
       }
 
-  module _ (fi : FrameInvariants T) (holds : HoldsReferences num plan fi) (below : p < 3) where
+  module _ (fi : FrameInvariants T) (holds : ServesPlan num plan fi) (below : p < 3) where
     -- what is predicted from references that frame settings hold lies within the depth too
     whole_within : (area : PlaneArea) (of : Prediction) → PredictionFits plan.header area of → is_whole of ≡ true → (a : VisibleArea) (edge : PredictionMode → ℤ → Edge) (f : ℕ → ℕ → ℤ) (r c : ℕ)
         → by_prediction plan p of a edge f r c < 2 ^ plan.header.depth

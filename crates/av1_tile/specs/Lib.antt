@@ -7,3 +7,4 @@ pub mod Output
 pub mod Walk
 pub mod State
 pub mod Versions
+pub mod Memory

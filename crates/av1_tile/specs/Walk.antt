@@ -84,6 +84,10 @@ module _ (h : Header) (p : ℕ) (block : PlaneBlock) (n : ℕ) (a : VisibleArea)
 
 -- ---- steps by place
 
+-- a plan with this header in place of its own
+abbrev pub with_header : Header → PlanValue → PlanValue
+with_header h plan = record { header = h; references = plan.references; leaves = plan.leaves }
+
 -- What a step does to plane p of a plan; `luma` says how far luma is from its mean.
 unfoldable pub fast_in : {T : Type 0} → (T → ℕ) → (ℕ → T) → PlanValue → (p : ℕ) → (luma : PlaneBlock → ℕ → ℕ → ℤ) → Plane T → Step → Plane T
 fast_in num pixel plan p luma plane (predict block n a) =
@@ -165,6 +169,17 @@ pub record HasRoom {T : Type 0} (h : Header) (planes : Planes T) : Type 0 where
   pub y : HasRoomIn h 0 planes.y.plane_cfg
   pub u : HasRoomIn h 1 planes.u.plane_cfg
   pub v : HasRoomIn h 2 planes.v.plane_cfg
+
+-- a plane of these settings stores so many samples more on every side
+pub record HasPad (pad : ℕ) (cfg : PlaneConfig) : Type 0 where
+  pub columns : cfg.xpad ≡ pad
+  pub rows : cfg.ypad ≡ pad
+
+-- and so does each plane
+pub record HasPads {T : Type 0} (pad : ℕ) (planes : Planes T) : Type 0 where
+  pub y : HasPad pad planes.y.plane_cfg
+  pub u : HasPad pad planes.u.plane_cfg
+  pub v : HasPad pad planes.v.plane_cfg
 
 -- planes laid out alike
 pub record SameLayout {T : Type 0} (p q : Planes T) : Type 0 where
@@ -288,11 +303,11 @@ pub record LeafFits {T : Type 0} (h : Header) (planes : Planes T) (leaf : LeafVa
 abbrev pub cell_at : CodedCells → (cx cy : ℕ) → CodedBlockInfo
 cell_at cells cx cy = slice_index_or cells.cells.items (cy * cells.columns + cx) (coded_info (Intra DC_PRED (pos 0) None))
 
--- the record has a cell for each of the frame
+-- the record is one of the frame's cells, and has room for each
 pub record HasCells (h : Header) (cells : CodedCells) : Type 0 where
   pub columns : cells.columns ≡ h.width / 4
   pub rows : cells.rows ≡ h.height / 4
-  pub filled : length cells.cells.items ≡ cells.rows * cells.columns
+  pub filled : cells.rows * cells.columns ≤ length cells.cells.items
 
 -- what is told of each luma cell
 abbrev pub Told : Type 0

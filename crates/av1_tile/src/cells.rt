@@ -96,7 +96,7 @@ fn last_cell(decimation: usize, place: usize) -> usize
 }
 
 impl CodedCells {
-    ghost use Rattle.std.specs.Prelude.{◌≡◌, ℕ, ◌<◌, IfOk, []};
+    ghost use Rattle.std.specs.Prelude.{◌≡◌, ℕ, ◌*◌, ◌/◌, ◌<◌, ◌≤◌, IfOk, [], length};
     ghost use Rattle.av1_plan.specs.Geometry.{plane_width, plane_height};
     ghost use Rattle.av1_plan.specs.ReadPlans.{IsReadFrame};
     ghost use Rattle.av1_tile.specs.Walk.{cell_at, told_by, parameters_by, with_leaf, HasCells, leaf_with};
@@ -120,11 +120,22 @@ impl CodedCells {
         })
     }
 
+    /// Lays the record out for a frame. What it tells of the frame's cells is left from before.
+    pub(crate) fn lay_out(&mut self, header: &Header)
+        requires room { header.now.height / 4 * (header.now.width / 4) ≤ length self.old.cells.items }
+        ensures cells { HasCells header.now self.new }
+        ensures count { length self.new.cells.items ≡ length self.old.cells.items }
+    {
+        self.columns = usize::from(header.width / 4);
+        self.rows = usize::from(header.height / 4);
+    }
+
     /// Notes in each cell of a leaf, as far as it lies in the frame, what later leaves are told of it.
     pub(crate) fn note(&mut self, header: &Header, leaf: &Leaf)
         requires frame { IsReadFrame header.now }
         requires cells { HasCells header.now self.old }
         ensures cells { HasCells header.now self.new }
+        ensures count { length self.new.cells.items ≡ length self.old.cells.items }
         ensures noted { (cx cy : ℕ) → cx < self.old.columns → cy < self.old.rows
             → cell_at self.new cx cy ≡ with_leaf (cell_at self.old) (leaf_with leaf.now [] [] []) cx cy }
     {

@@ -1,15 +1,15 @@
 //! A leaf, in each of the planes that it covers.
 
 ghost use Rattle.std.specs.Prelude.{◌≡◌, ℕ, ◌≤◌, ◌<◌, ◌*◌, length, true, []};
-ghost use Rattle.av1_blocks.specs.Depths.{IsDepth};
 ghost use Rattle.std.specs.List.{fold};
 ghost use Rattle.av1_frame.specs.Planes.{sample_at};
 ghost use Rattle.av1_intra.specs.ChromaFromLuma.{ac_at, chroma_block, leaf_difference};
-ghost use Rattle.av1_plan.specs.Answer.{plan_value};
-ghost use Rattle.av1_references.specs.References.{HoldsReferences};
+ghost use Rattle.av1_plan.specs.Plan.{PlanValue};
+ghost use Rattle.av1_plan.specs.ReadPlans.{IsReadFrame};
+ghost use Rattle.av1_references.specs.References.{ServesPlan};
 ghost use Rattle.av1_tile.specs.PlaneBlocks.{is_from_luma};
 ghost use Rattle.av1_tile.specs.Reference.{luma_of};
-ghost use Rattle.av1_tile.specs.Walk.{cell_at, edges_after, leaf_steps_by, fast_step, leaf_with, luma_block, HasCells, LeafFits, LumaFits, SameLayout, Stores, StoresAll};
+ghost use Rattle.av1_tile.specs.Walk.{cell_at, edges_after, leaf_steps_by, fast_step, leaf_with, luma_block, HasCells, LeafFits, LumaFits, SameLayout, Stores, StoresAll, with_header};
 
 use crate::buffers::WalkBuffers;
 use crate::cells::CodedCells;
@@ -17,7 +17,7 @@ use crate::planes::Planes;
 use crate::walk::reconstruct_leaf_in;
 use av1_frame::{Area, FrameInvariants, Pixel, Plane};
 use av1_intra::{LumaLeaf, leaf_luma_ac};
-use av1_plan::{ChromaMode, Header, Leaf, LeafKind, Plan, Triple};
+use av1_plan::{ChromaMode, Header, Leaf, LeafKind, Triple};
 
 /// Whether a leaf's chroma is predicted from its luma.
 fn is_from_luma(kind: LeafKind) -> bool
@@ -69,32 +69,33 @@ pub fn reconstruct_leaf<T: Pixel>(
     planes: &mut Planes<T>,
     buffers: &mut WalkBuffers<T>,
     fi: &FrameInvariants<T>,
-    plan: &Plan,
+    header: &Header,
     cells: &CodedCells,
     leaf: &Leaf,
     y: &[Triple],
     u: &[Triple],
     v: &[Triple],
 )
-    requires stores { StoresAll T.num (plan_value plan.now).header planes.old }
-    requires depth { (plan_value plan.now).header.depth ≤ T.BITS }
-    requires depths { IsDepth (plan_value plan.now).header.depth }
-    requires cells { HasCells (plan_value plan.now).header cells.now }
-    requires fits { LeafFits (plan_value plan.now).header planes.old (leaf_with leaf.now y.now u.now v.now) }
-    requires references { HoldsReferences T.num (plan_value plan.now) fi.now }
-    ensures walked { let h = (plan_value plan.now).header in let l = leaf_with leaf.now y.now u.now v.now in
-        planes.new ≡ fold (fast_step T.num T.pixel (plan_value plan.now)) planes.old (leaf_steps_by h (cell_at cells.now) l) }
-    ensures counted { let h = (plan_value plan.now).header in let l = leaf_with leaf.now y.now u.now v.now in
-        buffers.new.edges.prepared ≡ fold edges_after buffers.old.edges.prepared (leaf_steps_by h (cell_at cells.now) l) }
-    ensures stores { StoresAll T.num (plan_value plan.now).header planes.new }
+    requires frame { IsReadFrame header.now }
+    requires stores { StoresAll T.num header.now planes.old }
+    requires depth { header.now.depth ≤ T.BITS }
+    requires cells { HasCells header.now cells.now }
+    requires fits { LeafFits header.now planes.old (leaf_with leaf.now y.now u.now v.now) }
+    requires references { (value : PlanValue) × ServesPlan T.num (with_header header.now value) fi.now }
+    ensures walked { let l = leaf_with leaf.now y.now u.now v.now in
+        (value : PlanValue) → ServesPlan T.num (with_header header.now value) fi.now
+        → planes.new ≡ fold (fast_step T.num T.pixel (with_header header.now value)) planes.old (leaf_steps_by header.now (cell_at cells.now) l) }
+    ensures counted { let l = leaf_with leaf.now y.now u.now v.now in
+        buffers.new.edges.prepared ≡ fold edges_after buffers.old.edges.prepared (leaf_steps_by header.now (cell_at cells.now) l) }
+    ensures stores { StoresAll T.num header.now planes.new }
     ensures layout { SameLayout planes.old planes.new }
 {
-    reconstruct_leaf_in(&mut planes.y, buffers, fi, plan, cells, leaf, 0, y);
-    if leaf.carries_chroma(plan.header()) {
+    reconstruct_leaf_in(&mut planes.y, buffers, fi, header, cells, leaf, 0, y);
+    if leaf.carries_chroma(header) {
         if is_from_luma(leaf.kind) {
-            prepare_luma(buffers.luma.as_mut_slice(), &planes.y, plan.header(), leaf);
+            prepare_luma(buffers.luma.as_mut_slice(), &planes.y, header, leaf);
         }
-        reconstruct_leaf_in(&mut planes.u, buffers, fi, plan, cells, leaf, 1, u);
-        reconstruct_leaf_in(&mut planes.v, buffers, fi, plan, cells, leaf, 2, v);
+        reconstruct_leaf_in(&mut planes.u, buffers, fi, header, cells, leaf, 1, u);
+        reconstruct_leaf_in(&mut planes.v, buffers, fi, header, cells, leaf, 2, v);
     }
 }

@@ -12,7 +12,9 @@
 //! process.
 //!
 //! Promised: the visible planes are those of the slow definition, `planes_of` (`specs/Output.antt`), and so is each of their rows, `plan_row`
-//! (`specs/State.antt`), whatever they held before. Only `TileState::new` allocates.
+//! (`specs/State.antt`), whatever they held before. Callers that keep
+//! planes and references from one frame to the next themselves have the same by a [`WalkMemory`], over [`Planes`] of their own (`ShowsPlan` of
+//! `specs/Memory.antt`). Only `TileState::new`, `Planes::new` and `WalkMemory::new` allocate.
 #![tactic(auto)]
 
 mod block;
@@ -23,6 +25,7 @@ mod extent;
 mod fill;
 mod laws;
 mod leaf;
+mod memory;
 mod plane_block;
 mod planes;
 mod recon;
@@ -32,7 +35,8 @@ mod walk;
 
 pub use extent::PlaneExtent;
 pub use laws::versions_show_the_same;
+pub use memory::WalkMemory;
 pub use plane_block::{LumaBlock, PlaneBlock, Prediction};
-pub use planes::Planes;
+pub use planes::{Planes, visible_row};
 pub use recon::reconstruct_tile;
-pub use state::{TileState, plane_of_frame, visible_row};
+pub use state::TileState;

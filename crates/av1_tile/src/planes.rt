@@ -1,6 +1,16 @@
 //! The three planes of a picture.
 
-use av1_frame::Plane;
+ghost use Rattle.std.specs.Prelude.{◌≡◌, ◌<◌, ◌≤◌, IfOk, map};
+ghost use Rattle.av1_frame.specs.Planes.{sample_at};
+ghost use Rattle.av1_lists.specs.Lists.{by_index};
+ghost use Rattle.av1_plan.specs.Geometry.{plane_width, plane_height};
+ghost use Rattle.av1_plan.specs.ReadPlans.{IsReadFrame};
+ghost use Rattle.av1_tile.specs.Walk.{HasPad, HasRoomIn, IsPlaneOf, Stores};
+
+use av1_blocks::OutOfMemory;
+use av1_frame::{Pixel, Plane};
+use av1_plan::Header;
+use std::alloc::Global;
 
 /// The three planes of a picture.
 #[derive(Drop)]
@@ -11,4 +21,82 @@ pub struct Planes<T> {
     pub u: Plane<T>,
     /// The second chroma plane.
     pub v: Plane<T>,
+}
+
+/// A plane of zeros with the sides of plane `p` (0 for Y, 1 for U and 2 for V) of a frame, and `pad` samples on every side besides.
+///
+/// Storage is that of whole superblocks. An error is want of memory.
+fn plane_of_frame<T: Pixel>(
+    alloc: Global,
+    header: &Header,
+    p: usize,
+    pad: usize,
+) -> Result<Plane<T>, OutOfMemory>
+    requires frame { IsReadFrame header.now }
+    requires pad { pad ≤ 256 }
+    ensures stores { IfOk result (λ plane. Stores T.num header.now p plane) }
+    ensures room { IfOk result (λ plane. HasRoomIn header.now p plane.plane_cfg) }
+    ensures pad { IfOk result (λ plane. HasPad pad plane.plane_cfg) }
+{
+    Plane::new(
+        alloc,
+        header.plane_width(p),
+        header.plane_height(p),
+        header.xdec(p),
+        header.ydec(p),
+        pad,
+        pad,
+    )
+}
+
+/// The visible row `y` of plane `p` (0 for Y, 1 for U and 2 for V) of a frame, from its first sample on.
+pub fn visible_row<'a, T: Pixel>(
+    plane: &'a Plane<T>,
+    header: &Header,
+    p: usize,
+    y: usize,
+) -> &'a [T]
+    requires place { IsPlaneOf header.now p plane.now }
+    requires in_plane { y < plane_height header.now p }
+    ensures { map T.num result.now ≡ by_index (plane_width header.now p) (λ x. sample_at T.num plane.now x y) }
+{
+    plane.run(0, y, header.plane_width(p))
+}
+
+impl<T: Pixel> Planes<T> {
+    ghost use Rattle.std.specs.Prelude.{◌≡◌, ◌<◌, ◌≤◌, IfOk, map};
+    ghost use Rattle.av1_frame.specs.Planes.{sample_at};
+    ghost use Rattle.av1_lists.specs.Lists.{by_index};
+    ghost use Rattle.av1_plan.specs.Geometry.{plane_width, plane_height};
+    ghost use Rattle.av1_plan.specs.ReadPlans.{IsReadFrame};
+    ghost use Rattle.av1_tile.specs.PlaneBlocks.{component};
+    ghost use Rattle.av1_tile.specs.Walk.{AreFrame, HasPads, HasRoom, plane_of, StoresAll};
+
+    /// Planes of zeros for a frame, with room for whole superblocks, and `pad` samples on every side besides. An error is want of memory.
+    pub fn new(alloc: Global, header: &Header, pad: usize) -> Result<Planes<T>, OutOfMemory>
+        requires frame { IsReadFrame header.now }
+        requires pad { pad ≤ 256 }
+        ensures stores { IfOk result (λ planes. StoresAll T.num header.now planes) }
+        ensures room { IfOk result (λ planes. HasRoom header.now planes) }
+        ensures pads { IfOk result (λ planes. HasPads pad planes) }
+    {
+        let y = plane_of_frame(alloc, header, 0, pad)?;
+        let u = plane_of_frame(alloc, header, 1, pad)?;
+        let v = plane_of_frame(alloc, header, 2, pad)?;
+        Ok(Planes { y, u, v })
+    }
+
+    /// The visible row `y` of plane `p` (0 for Y, 1 for U and 2 for V) of a frame, from its first sample on.
+    pub fn row(&self, header: &Header, p: usize, y: usize) -> &[T]
+        requires frame { AreFrame header.now self.now }
+        requires plane { p < 3 }
+        requires in_plane { y < plane_height header.now p }
+        ensures { map T.num result.now ≡ by_index (plane_width header.now p) (λ x. sample_at T.num (plane_of (component p) self.now) x y) }
+    {
+        match p {
+            0 => visible_row(&self.y, header, 0, y),
+            1 => visible_row(&self.u, header, 1, y),
+            _ => visible_row(&self.v, header, 2, y),
+        }
+    }
 }

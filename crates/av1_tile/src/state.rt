@@ -1,20 +1,12 @@
 //! The state of a reconstruction: the planes of a frame, and the memory to work in.
 
-ghost use Rattle.std.specs.Prelude.{◌≡◌, ◌<◌, ◌≤◌, IfOk, map, vec_len};
-ghost use Rattle.av1_frame.specs.Planes.{sample_at};
-ghost use Rattle.av1_lists.specs.Lists.{by_index};
-ghost use Rattle.av1_plan.specs.Geometry.{plane_width, plane_height};
-ghost use Rattle.av1_tile.specs.PlaneBlocks.{extent_of};
-ghost use Rattle.av1_tile.specs.Walk.{IsPlaneOf, Stores, HasRoomIn, HasCells};
+ghost use Rattle.av1_tile.specs.Memory.{HasRoomFor};
 
-use crate::buffers::WalkBuffers;
-use crate::cells::CodedCells;
-use crate::extent::PlaneExtent;
 use crate::fill::fill_plane;
+use crate::memory::WalkMemory;
 use crate::planes::Planes;
-use crate::tile::reconstruct_leaves;
 use av1_blocks::OutOfMemory;
-use av1_frame::{FrameInvariants, Pixel, Plane};
+use av1_frame::{FrameInvariants, Pixel};
 use av1_plan::{Header, Plan};
 use av1_references::frame_invariants;
 use std::alloc::Global;
@@ -26,9 +18,8 @@ pub struct TileState<T: Pixel> {
     header: Header,
     fi: FrameInvariants<T>,
     planes: Planes<T>,
-    cells: CodedCells,
-    buffers: WalkBuffers<T>,
-    ghost cells_whole: { HasCells header cells },
+    memory: WalkMemory<T>,
+    ghost room: { HasRoomFor header memory },
 }
 
 impl<T: Pixel> Model for TileState<T> {
@@ -36,48 +27,7 @@ impl<T: Pixel> Model for TileState<T> {
 
     ghost Value = { Picture T };
 
-    ghost view = { λ s. record { header = s.header; references = s.fi; planes = s.planes; edges = s.buffers.edges.prepared } };
-}
-
-/// A plane of zeros with the sides of plane `p` (0 for Y, 1 for U and 2 for V) of a frame.
-///
-/// Storage is that of whole superblocks. An error is want of memory.
-pub fn plane_of_frame<T: Pixel>(
-    alloc: Global,
-    header: &Header,
-    p: usize,
-) -> Result<Plane<T>, OutOfMemory>
-    requires columns { 0 < plane_width header.now p }
-    requires few_columns { plane_width header.now p ≤ 65536 }
-    requires rows { 0 < plane_height header.now p }
-    requires few_rows { plane_height header.now p ≤ 65536 }
-    requires depth { 8 ≤ header.now.depth }
-    ensures stores { IfOk result (λ plane. Stores T.num header.now p plane) }
-    ensures room { IfOk result (λ plane. HasRoomIn header.now p plane.plane_cfg) }
-{
-    Plane::new(
-        alloc,
-        header.plane_width(p),
-        header.plane_height(p),
-        header.xdec(p),
-        header.ydec(p),
-        0,
-        0,
-    )
-}
-
-/// The visible row `y` of plane `p` (0 for Y, 1 for U and 2 for V) of a frame, from its first sample on.
-pub fn visible_row<'a, T: Pixel>(
-    plane: &'a Plane<T>,
-    header: &Header,
-    p: usize,
-    y: usize,
-) -> &'a [T]
-    requires place { IsPlaneOf header.now p plane.now }
-    requires in_plane { y < plane_height header.now p }
-    ensures { map T.num result.now ≡ by_index (plane_width header.now p) (λ x. sample_at T.num plane.now x y) }
-{
-    plane.run(0, y, header.plane_width(p))
+    ghost view = { λ s. record { header = s.header; references = s.fi; planes = s.planes; edges = s.memory.edges } };
 }
 
 impl<T: Pixel> TileState<T> {
@@ -99,17 +49,13 @@ impl<T: Pixel> TileState<T> {
     {
         let header = *plan.header();
         let fi = frame_invariants(alloc, plan)?;
-        let y = plane_of_frame(alloc, &header, 0)?;
-        let u = plane_of_frame(alloc, &header, 1)?;
-        let v = plane_of_frame(alloc, &header, 2)?;
-        let cells = CodedCells::new(alloc, &header)?;
-        let buffers = WalkBuffers::new(alloc)?;
+        let planes = Planes::new(alloc, &header, 0)?;
+        let memory = WalkMemory::new(alloc, &header)?;
         Ok(TileState {
             header,
             fi,
-            planes: Planes { y, u, v },
-            cells,
-            buffers,
+            planes,
+            memory,
         })
     }
 
@@ -132,7 +78,7 @@ impl<T: Pixel> TileState<T> {
     pub fn edges(&self) -> u64
         ensures { result ≡ state_edges self.now }
     {
-        self.buffers.edges.prepared()
+        self.memory.edges()
     }
 
     /// The visible row `y` of plane `p` (0 for Y, 1 for U and 2 for V), from its first sample on.
@@ -142,11 +88,7 @@ impl<T: Pixel> TileState<T> {
         requires in_plane { y < (extent_of (state_header self.now) p).height }
         ensures { map T.num result.now ≡ state_row T.num self.now p y }
     {
-        match p {
-            0 => visible_row(&self.planes.y, &self.header, 0, y),
-            1 => visible_row(&self.planes.u, &self.header, 1, y),
-            _ => visible_row(&self.planes.v, &self.header, 2, y),
-        }
+        self.planes.row(&self.header, p, y)
     }
 
     /// Each sample that is stored of the three planes becomes `value`, which lies within the depth; nothing else changes.
@@ -177,12 +119,7 @@ impl<T: Pixel> TileState<T> {
         ensures references { state_references self.new ≡ state_references self.old }
         ensures edges { state_edges self.new ≡ edges_of (state_edges self.old) (plan_value plan.now) }
     {
-        reconstruct_leaves(
-            &mut self.planes,
-            &mut self.cells,
-            &mut self.buffers,
-            &self.fi,
-            plan,
-        );
+        self.memory
+            .reconstruct(&mut self.planes, &self.fi, &self.header, plan);
     }
 }

@@ -1,22 +1,20 @@
 //! The walk: over the transform blocks of a leaf's block in a plane, and over the planes that a leaf covers.
 
 ghost use Rattle.std.specs.Prelude.{◌≡◌, ◌≢◌, ℕ, ◌+◌, ◌*◌, ◌/◌, ◌<◌, ◌≤◌, length, slice_index_or, [], All, IfSome, IfNone, Some, None};
-ghost use Rattle.av1_blocks.specs.Depths.{IsDepth};
 ghost use Rattle.std.specs.List.{fold};
 ghost use Rattle.av1_blocks.specs.Blocks.{block_height};
 ghost use Rattle.av1_blocks.specs.Transforms.{tx_width, tx_height};
 ghost use Rattle.av1_frame.specs.Planes.{InPlane};
 ghost use Rattle.av1_intra.specs.ChromaFromLuma.{ac_at};
-ghost use Rattle.av1_plan.specs.Answer.{plan_value};
 ghost use Rattle.av1_plan.specs.Plan.{PlanValue};
-ghost use Rattle.av1_references.specs.References.{HoldsReferences};
+ghost use Rattle.av1_references.specs.References.{ServesPlan};
 ghost use Rattle.av1_plan.specs.Geometry.{blocks_across, block_count, transform_block};
 ghost use Rattle.av1_plan.specs.ReadPlans.{IsReadFrame};
 ghost use Rattle.av1_plan.specs.declared.leaf.Triple.{Triple};
 ghost use Rattle.av1_tile.specs.PlaneBlocks.{component};
 ghost use Rattle.av1_tile.specs.Reference.{no_luma};
 ghost use Rattle.av1_tile.specs.Steps.{own_prediction, whole_area, whole_steps, plane_steps, steps_at, steps_of, joined};
-ghost use Rattle.av1_tile.specs.Walk.{area_at, block_by, cell_at, Begins, edges_in, edges_after, fast_in, fast_step, leaf_with, BlockFits, HasCells, IsPlaceIn, LeafFits, PredictionFits, SameLayout, Stores, StoresAll};
+ghost use Rattle.av1_tile.specs.Walk.{area_at, block_by, cell_at, Begins, edges_in, edges_after, fast_in, fast_step, leaf_with, BlockFits, HasCells, IsPlaceIn, LeafFits, PredictionFits, SameLayout, Stores, StoresAll, with_header};
 
 use crate::block::{BlockPlace, add_block, predict_from_edge};
 use crate::buffers::WalkBuffers;
@@ -26,7 +24,7 @@ use crate::planes::Planes;
 use av1_blocks::{IntraParam, PredictionMode};
 use av1_frame::{FrameInvariants, Pixel, Plane};
 use av1_inter::InterCompoundBuffers;
-use av1_plan::{Header, Leaf, Plan, Triple};
+use av1_plan::{Header, Leaf, Triple};
 use av1_references::{predict_compound, predict_single};
 
 /// Where the block of number `index` begins, of blocks with sides of `side` samples from `start` on.
@@ -74,21 +72,20 @@ fn place_in(
 fn predict_block<T: Pixel>(
     plane: &mut Plane<T>,
     buffers: &mut WalkBuffers<T>,
-    plan: &Plan,
+    header: &Header,
     block: &PlaneBlock,
     at: BlockPlace,
 )
-    requires stores { Stores T.num (plan_value plan.now).header block.now.plane plane.old }
-    requires low { 8 ≤ (plan_value plan.now).header.depth }
-    requires depth { (plan_value plan.now).header.depth ≤ T.BITS }
-    requires place { IsPlaceIn (plan_value plan.now).header block.now at }
+    requires frame { IsReadFrame header.now }
+    requires stores { Stores T.num header.now block.now.plane plane.old }
+    requires depth { header.now.depth ≤ T.BITS }
+    requires place { IsPlaceIn header.now block.now at }
     requires fits { InPlane (area_at block.now at) plane.old }
-    requires prediction { PredictionFits (plan_value plan.now).header block.now.area block.now.prediction }
-    ensures walked { plane.new ≡ fold (fast_in T.num T.pixel (plan_value plan.now) block.now.plane (λ _. ac_at (tx_width block.now.area.tx_size) buffers.old.luma.items)) plane.old (own_prediction block.now at.number (area_at block.now at)) }
+    requires prediction { PredictionFits header.now block.now.area block.now.prediction }
+    ensures walked { (value : PlanValue) → plane.new ≡ fold (fast_in T.num T.pixel (with_header header.now value) block.now.plane (λ _. ac_at (tx_width block.now.area.tx_size) buffers.old.luma.items)) plane.old (own_prediction block.now at.number (area_at block.now at)) }
     ensures counted { buffers.new.edges.prepared ≡ fold edges_in buffers.old.edges.prepared (own_prediction block.now at.number (area_at block.now at)) }
     ensures luma { buffers.new.luma.items ≡ buffers.old.luma.items }
 {
-    let header = plan.header();
     match block.prediction {
         Prediction::Intra { mode, step, filter } => {
             let edges = &mut buffers.edges;
@@ -110,29 +107,29 @@ fn predict_block<T: Pixel>(
 fn reconstruct_block<T: Pixel>(
     plane: &mut Plane<T>,
     buffers: &mut WalkBuffers<T>,
-    plan: &Plan,
+    header: &Header,
     block: &PlaneBlock,
     at: BlockPlace,
     triples: &[Triple],
 )
-    requires stores { Stores T.num (plan_value plan.now).header block.now.plane plane.old }
-    requires depth { (plan_value plan.now).header.depth ≤ T.BITS }
-    requires depths { IsDepth (plan_value plan.now).header.depth }
-    requires place { IsPlaceIn (plan_value plan.now).header block.now at }
-    requires fits { BlockFits plane.old.plane_cfg (plan_value plan.now).header block.now triples.now }
-    requires found { transform_block (plan_value plan.now).header block.now.plane block.now.area at.number ≡ Some (record { x = at.x; y = at.y }) }
-    ensures walked { plane.new ≡ fold (fast_in T.num T.pixel (plan_value plan.now) block.now.plane (λ _. ac_at (tx_width block.now.area.tx_size) buffers.old.luma.items)) plane.old (steps_at (plan_value plan.now).header block.now triples.now at.number) }
-    ensures counted { buffers.new.edges.prepared ≡ fold edges_in buffers.old.edges.prepared (steps_at (plan_value plan.now).header block.now triples.now at.number) }
+    requires frame { IsReadFrame header.now }
+    requires stores { Stores T.num header.now block.now.plane plane.old }
+    requires depth { header.now.depth ≤ T.BITS }
+    requires place { IsPlaceIn header.now block.now at }
+    requires fits { BlockFits plane.old.plane_cfg header.now block.now triples.now }
+    requires found { transform_block header.now block.now.plane block.now.area at.number ≡ Some (record { x = at.x; y = at.y }) }
+    ensures walked { (value : PlanValue) → plane.new ≡ fold (fast_in T.num T.pixel (with_header header.now value) block.now.plane (λ _. ac_at (tx_width block.now.area.tx_size) buffers.old.luma.items)) plane.old (steps_at header.now block.now triples.now at.number) }
+    ensures counted { buffers.new.edges.prepared ≡ fold edges_in buffers.old.edges.prepared (steps_at header.now block.now triples.now at.number) }
     ensures luma { buffers.new.luma.items ≡ buffers.old.luma.items }
-    ensures stores { Stores T.num (plan_value plan.now).header block.now.plane plane.new }
+    ensures stores { Stores T.num header.now block.now.plane plane.new }
     ensures config { plane.new.plane_cfg ≡ plane.old.plane_cfg }
 {
-    predict_block(plane, buffers, plan, block, at);
+    predict_block(plane, buffers, header, block, at);
     add_block(
         plane,
         buffers.coefficients.as_mut_slice(),
         &mut buffers.scratch,
-        plan.header(),
+        header,
         block,
         at,
         triples,
@@ -172,20 +169,19 @@ fn next_place(column: usize, row: usize, across: usize) -> (usize, usize)
 fn reconstruct_blocks<T: Pixel>(
     plane: &mut Plane<T>,
     buffers: &mut WalkBuffers<T>,
-    plan: &Plan,
+    header: &Header,
     block: &PlaneBlock,
     triples: &[Triple],
 )
-    requires stores { Stores T.num (plan_value plan.now).header block.now.plane plane.old }
-    requires depth { (plan_value plan.now).header.depth ≤ T.BITS }
-    requires depths { IsDepth (plan_value plan.now).header.depth }
-    requires fits { BlockFits plane.old.plane_cfg (plan_value plan.now).header block.now triples.now }
-    ensures walked { let h = (plan_value plan.now).header in
-        plane.new ≡ fold (fast_in T.num T.pixel (plan_value plan.now) block.now.plane (λ _. ac_at (tx_width block.now.area.tx_size) buffers.old.luma.items)) plane.old (joined (block_count block.now.area) (steps_at h block.now triples.now)) }
-    ensures counted { let h = (plan_value plan.now).header in
-        buffers.new.edges.prepared ≡ fold edges_in buffers.old.edges.prepared (joined (block_count block.now.area) (steps_at h block.now triples.now)) }
+    requires frame { IsReadFrame header.now }
+    requires stores { Stores T.num header.now block.now.plane plane.old }
+    requires depth { header.now.depth ≤ T.BITS }
+    requires fits { BlockFits plane.old.plane_cfg header.now block.now triples.now }
+    ensures walked { (value : PlanValue) →
+        plane.new ≡ fold (fast_in T.num T.pixel (with_header header.now value) block.now.plane (λ _. ac_at (tx_width block.now.area.tx_size) buffers.old.luma.items)) plane.old (joined (block_count block.now.area) (steps_at header.now block.now triples.now)) }
+    ensures counted { buffers.new.edges.prepared ≡ fold edges_in buffers.old.edges.prepared (joined (block_count block.now.area) (steps_at header.now block.now triples.now)) }
     ensures luma { buffers.new.luma.items ≡ buffers.old.luma.items }
-    ensures stores { Stores T.num (plan_value plan.now).header block.now.plane plane.new }
+    ensures stores { Stores T.num header.now block.now.plane plane.new }
     ensures config { plane.new.plane_cfg ≡ plane.old.plane_cfg }
 {
     let across = block.area.blocks_across();
@@ -194,9 +190,9 @@ fn reconstruct_blocks<T: Pixel>(
     for n in 0..block.area.block_count() {
         let (column, row) = place;
         let end = at + leading_count(&triples[at..], n);
-        if let Some(place) = place_in(plan.header(), block, across, row, column) {
+        if let Some(place) = place_in(header, block, across, row, column) {
             let own = &triples[at..end];
-            reconstruct_block(plane, buffers, plan, block, place, own);
+            reconstruct_block(plane, buffers, header, block, place, own);
         }
         at = end;
         place = next_place(column, row, across);
@@ -214,8 +210,8 @@ fn predict_whole<T: Pixel>(
     requires plane { block.now.plane < 3 }
     requires depth { fi.now.bit_depth ≤ T.BITS }
     requires fits { InPlane (whole_area block.now) plane.old }
-    requires references { (value : PlanValue) × (HoldsReferences T.num value fi.now × PredictionFits value.header block.now.area block.now.prediction) }
-    ensures { (value : PlanValue) → HoldsReferences T.num value fi.now → PredictionFits value.header block.now.area block.now.prediction
+    requires references { (value : PlanValue) × (ServesPlan T.num value fi.now × PredictionFits value.header block.now.area block.now.prediction) }
+    ensures { (value : PlanValue) → ServesPlan T.num value fi.now → PredictionFits value.header block.now.area block.now.prediction
         → plane.new ≡ fold (fast_in T.num T.pixel value block.now.plane (λ _. no_luma)) plane.old (whole_steps block.now) }
 {
     let p = block.plane;
@@ -244,24 +240,25 @@ fn reconstruct_plane_block<T: Pixel>(
     plane: &mut Plane<T>,
     buffers: &mut WalkBuffers<T>,
     fi: &FrameInvariants<T>,
-    plan: &Plan,
+    header: &Header,
     block: &PlaneBlock,
     triples: &[Triple],
 )
+    requires frame { IsReadFrame header.now }
     requires plane { block.now.plane < 3 }
-    requires stores { Stores T.num (plan_value plan.now).header block.now.plane plane.old }
-    requires depth { (plan_value plan.now).header.depth ≤ T.BITS }
-    requires depths { IsDepth (plan_value plan.now).header.depth }
-    requires references { HoldsReferences T.num (plan_value plan.now) fi.now }
-    requires fits { BlockFits plane.old.plane_cfg (plan_value plan.now).header block.now triples.now }
-    ensures walked { plane.new ≡ fold (fast_in T.num T.pixel (plan_value plan.now) block.now.plane (λ _. ac_at (tx_width block.now.area.tx_size) buffers.old.luma.items)) plane.old (plane_steps (plan_value plan.now).header block.now triples.now) }
-    ensures counted { buffers.new.edges.prepared ≡ fold edges_in buffers.old.edges.prepared (plane_steps (plan_value plan.now).header block.now triples.now) }
+    requires stores { Stores T.num header.now block.now.plane plane.old }
+    requires depth { header.now.depth ≤ T.BITS }
+    requires references { (value : PlanValue) × ServesPlan T.num (with_header header.now value) fi.now }
+    requires fits { BlockFits plane.old.plane_cfg header.now block.now triples.now }
+    ensures walked { (value : PlanValue) → ServesPlan T.num (with_header header.now value) fi.now
+        → plane.new ≡ fold (fast_in T.num T.pixel (with_header header.now value) block.now.plane (λ _. ac_at (tx_width block.now.area.tx_size) buffers.old.luma.items)) plane.old (plane_steps header.now block.now triples.now) }
+    ensures counted { buffers.new.edges.prepared ≡ fold edges_in buffers.old.edges.prepared (plane_steps header.now block.now triples.now) }
     ensures luma { buffers.new.luma.items ≡ buffers.old.luma.items }
-    ensures stores { Stores T.num (plan_value plan.now).header block.now.plane plane.new }
+    ensures stores { Stores T.num header.now block.now.plane plane.new }
     ensures config { plane.new.plane_cfg ≡ plane.old.plane_cfg }
 {
     predict_whole(plane, &mut buffers.compound, fi, block);
-    reconstruct_blocks(plane, buffers, plan, block, triples);
+    reconstruct_blocks(plane, buffers, header, block, triples);
 }
 
 /// The block of a leaf in plane `p`.
@@ -269,30 +266,30 @@ pub fn reconstruct_leaf_in<T: Pixel>(
     plane: &mut Plane<T>,
     buffers: &mut WalkBuffers<T>,
     fi: &FrameInvariants<T>,
-    plan: &Plan,
+    header: &Header,
     cells: &CodedCells,
     leaf: &Leaf,
     p: usize,
     triples: &[Triple],
 )
+    requires frame { IsReadFrame header.now }
     requires plane { p < 3 }
-    requires stores { Stores T.num (plan_value plan.now).header p plane.old }
-    requires depth { (plan_value plan.now).header.depth ≤ T.BITS }
-    requires depths { IsDepth (plan_value plan.now).header.depth }
-    requires cells { HasCells (plan_value plan.now).header cells.now }
-    requires begins { Begins (plan_value plan.now).header (component p) (leaf_with leaf.now [] [] []) }
-    requires fits { BlockFits plane.old.plane_cfg (plan_value plan.now).header (block_by (plan_value plan.now).header (cell_at cells.now) (component p) (leaf_with leaf.now [] [] [])) triples.now }
-    requires references { HoldsReferences T.num (plan_value plan.now) fi.now }
-    ensures walked { let h = (plan_value plan.now).header in let block = block_by h (cell_at cells.now) (component p) (leaf_with leaf.now [] [] []) in
-        plane.new ≡ fold (fast_in T.num T.pixel (plan_value plan.now) p (λ _. ac_at (tx_width block.area.tx_size) buffers.old.luma.items)) plane.old (plane_steps h block triples.now) }
-    ensures counted { let h = (plan_value plan.now).header in let block = block_by h (cell_at cells.now) (component p) (leaf_with leaf.now [] [] []) in
-        buffers.new.edges.prepared ≡ fold edges_in buffers.old.edges.prepared (plane_steps h block triples.now) }
+    requires stores { Stores T.num header.now p plane.old }
+    requires depth { header.now.depth ≤ T.BITS }
+    requires cells { HasCells header.now cells.now }
+    requires begins { Begins header.now (component p) (leaf_with leaf.now [] [] []) }
+    requires fits { BlockFits plane.old.plane_cfg header.now (block_by header.now (cell_at cells.now) (component p) (leaf_with leaf.now [] [] [])) triples.now }
+    requires references { (value : PlanValue) × ServesPlan T.num (with_header header.now value) fi.now }
+    ensures walked { let block = block_by header.now (cell_at cells.now) (component p) (leaf_with leaf.now [] [] []) in
+        (value : PlanValue) → ServesPlan T.num (with_header header.now value) fi.now
+        → plane.new ≡ fold (fast_in T.num T.pixel (with_header header.now value) p (λ _. ac_at (tx_width block.area.tx_size) buffers.old.luma.items)) plane.old (plane_steps header.now block triples.now) }
+    ensures counted { let block = block_by header.now (cell_at cells.now) (component p) (leaf_with leaf.now [] [] []) in
+        buffers.new.edges.prepared ≡ fold edges_in buffers.old.edges.prepared (plane_steps header.now block triples.now) }
     ensures luma { buffers.new.luma.items ≡ buffers.old.luma.items }
-    ensures stores { Stores T.num (plan_value plan.now).header p plane.new }
+    ensures stores { Stores T.num header.now p plane.new }
     ensures config { plane.new.plane_cfg ≡ plane.old.plane_cfg }
 {
-    let header = plan.header();
     let filter = cells.filter_parameters(header, p, leaf.plane_area(header, p));
     let block = PlaneBlock::of_leaf(header, leaf, p, filter);
-    reconstruct_plane_block(plane, buffers, fi, plan, &block, triples);
+    reconstruct_plane_block(plane, buffers, fi, header, &block, triples);
 }

@@ -6,14 +6,12 @@ use Rattle.av1_blocks.specs.Transforms.{tx_width}
 use Rattle.av1_frame.specs.declared.plane.PlaneConfig.{PlaneConfig}
 use Rattle.av1_frame.specs.Planes.{sample_at}
 use Rattle.av1_intra.specs.ChromaFromLuma.{ac_at, chroma_block, leaf_difference}
-use Rattle.av1_plan.specs.Answer.{plan_value}
 use Rattle.av1_plan.specs.Geometry.{carries_chroma}
-use Rattle.av1_plan.specs.declared.header.Header.{Header}
 use Rattle.av1_tile.specs.Canvas.{Y, U, V}
 use Rattle.av1_tile.specs.PlaneBlocks.{is_from_luma}
 use Rattle.av1_tile.specs.Reference.{luma_for, luma_of}
 use Rattle.av1_tile.specs.Steps.{plane_steps}
-use Rattle.av1_tile.specs.Walk.{edges_in, fast_in, LumaFits, block_by, cell_at, filter_by, leaf_with, luma_block}
+use Rattle.av1_tile.specs.Walk.{edges_in, fast_in, LumaFits, block_by, cell_at, filter_by, leaf_with, luma_block, with_header}
 use Rattle.av1_tile.proofs.LeafLuma.{HoldsLuma, luma_in_u, luma_in_v, plain_in_y}
 use Rattle.av1_tile.proofs.Lifts.{leaf_counted, leaf_walked, luma_counted, luma_same, luma_walked}
 use Rattle.av1_tile.proofs.leaf.reconstruct_leaf.Goals.{then-is_from_luma, else-is_from_luma}
@@ -22,26 +20,25 @@ use Rattle.av1_tile.proofs.leaf.reconstruct_leaf.Goals as goal
 pub prepare_luma-requires-clause-fits : goal.prepare_luma-requires-clause-fits
 prepare_luma-requires-clause-fits g c =
     let a = c.args in
-    let h = (plan_value a.plan.now).header in
+    let h = a.header.now in
     let l = leaf_with a.leaf.now a.y.now a.u.now a.v.now in
-    let carried : carries_chroma h l.x l.y l.size ≡ true = ap (λ (k : Header). carries_chroma k l.x l.y l.size) (sym c.header.ensures.value) ∙ sym c.carries_chroma.ensures ∙ c.if-carries_chroma.true in
+    let carried : carries_chroma h l.x l.y l.size ≡ true = sym c.carries_chroma.ensures ∙ c.if-carries_chroma.true in
     let from : is_from_luma l.kind ≡ true = sym c.is_from_luma.ensures ∙ c.if-is_from_luma.true in
     let own : LumaFits h a.planes.now.y.plane_cfg (leaf_with a.leaf.now [] [] []) = (let f = c.requires.fits.luma carried from in record { narrow = f.narrow; low = f.low; width = f.width; height = f.height; few = f.few; columns = f.columns; rows = f.rows; depth = f.depth }) in
-    let laid : LumaFits h c.reconstruct_leaf_in.new.plane.plane_cfg (leaf_with a.leaf.now [] [] []) = subst (λ (k : PlaneConfig). LumaFits h k (leaf_with a.leaf.now [] [] [])) (sym c.reconstruct_leaf_in.ensures.config) own in
-    subst (λ (k : Header). LumaFits k c.reconstruct_leaf_in.new.plane.plane_cfg (leaf_with a.leaf.now [] [] [])) (sym c.header-then-is_from_luma.ensures.value) laid
+    subst (λ (k : PlaneConfig). LumaFits h k (leaf_with a.leaf.now [] [] [])) (sym c.reconstruct_leaf_in.ensures.config) own
 
 pub returns-after-is_from_luma-clause-walked : goal.returns-after-is_from_luma-clause-walked
-returns-after-is_from_luma-clause-walked g c =
+returns-after-is_from_luma-clause-walked g c = λ value serves.
     let a = c.args in
     let num = g.T.Pixel.num in
-    let plan = plan_value a.plan.now in
-    let h = plan.header in
+    let h = a.header.now in
+    let plan = with_header h value in
     let l = leaf_with a.leaf.now a.y.now a.u.now a.v.now in
     let told = cell_at a.cells.now in
     let luma = c.if-is_from_luma.buffers.luma.items in
     let y = c.reconstruct_leaf_in.new.plane in
     let samples = sample_at num y in
-    let carried : carries_chroma h l.x l.y l.size ≡ true = ap (λ (k : Header). carries_chroma k l.x l.y l.size) (sym c.header.ensures.value) ∙ sym c.carries_chroma.ensures ∙ c.if-carries_chroma.true in
+    let carried : carries_chroma h l.x l.y l.size ≡ true = sym c.carries_chroma.ensures ∙ c.if-carries_chroma.true in
     let holds : is_from_luma l.kind ≡ true → HoldsLuma h samples l luma = λ from.
     elim c.if-is_from_luma.branch [
       | then-is_from_luma w ↦
@@ -53,10 +50,8 @@ returns-after-is_from_luma-clause-walked g c =
           record {
             width = fits.width;
             height = fits.height;
-            value = subst (λ (k : Header). (r c : ℕ) → r < (chroma_block (luma_of k (luma_block l))).height → c < (chroma_block (luma_of k (luma_block l))).width
-                → ac_at (chroma_block (luma_of k (luma_block l))).width luma r c ≡ leaf_difference samples (luma_of k (luma_block l)) r c) w.header-then-is_from_luma.ensures.value
-                (subst (λ (ac : List ℤ). (r c : ℕ) → r < (chroma_block (luma_of w.header-then-is_from_luma.result.now (luma_block l))).height → c < (chroma_block (luma_of w.header-then-is_from_luma.result.now (luma_block l))).width
-                → ac_at (chroma_block (luma_of w.header-then-is_from_luma.result.now (luma_block l))).width ac r c ≡ leaf_difference samples (luma_of w.header-then-is_from_luma.result.now (luma_block l)) r c) (sym at) w.prepare_luma.ensures.value);
+            value = subst (λ (ac : List ℤ). (r c : ℕ) → r < (chroma_block (luma_of h (luma_block l))).height → c < (chroma_block (luma_of h (luma_block l))).width
+                → ac_at (chroma_block (luma_of h (luma_block l))).width ac r c ≡ leaf_difference samples (luma_of h (luma_block l)) r c) (sym at) w.prepare_luma.ensures.value;
           }
       | else-is_from_luma w ↦ absurd (true≢false (sym from ∙ sym c.is_from_luma.ensures ∙ w.if-is_from_luma.false))
     ] in
@@ -64,16 +59,16 @@ returns-after-is_from_luma-clause-walked g c =
     let same_u = luma_same num g.T.Pixel.pixel plan 1 (λ _. ac_at (tx_width (block_by h told U l).area.tx_size) luma) (luma_for h samples U) (block_by h told U l) (luma_in_u h samples l luma holds (filter_by h told U l)) h a.u.now a.planes.now.u in
     let same_v = luma_same num g.T.Pixel.pixel plan 2 (λ _. ac_at (tx_width (block_by h told V l).area.tx_size) luma) (luma_for h samples V) (block_by h told V l) (luma_in_v h samples l luma holds (filter_by h told V l)) h a.v.now a.planes.now.v in
     leaf_walked num g.T.Pixel.pixel plan a.planes.now _ (λ k. block_by h told k l) l carried
-    (c.reconstruct_leaf_in.ensures.walked ∙ same_y) (c.reconstruct_leaf_in-then-carries_chroma.ensures.walked ∙ same_u)
-    (c.reconstruct_leaf_in-then-carries_chroma-2.ensures.walked
+    (c.reconstruct_leaf_in.ensures.walked value serves ∙ same_y) (c.reconstruct_leaf_in-then-carries_chroma.ensures.walked value serves ∙ same_u)
+    (c.reconstruct_leaf_in-then-carries_chroma-2.ensures.walked value serves
     ∙ ap (λ (ac : List ℤ). fold (fast_in num g.T.Pixel.pixel plan 2 (λ _. ac_at (tx_width (block_by h told V l).area.tx_size) ac)) a.planes.now.v (plane_steps h (block_by h told V l) a.v.now)) c.reconstruct_leaf_in-then-carries_chroma.ensures.luma ∙ same_v)
 
 pub returns-after-is_from_luma-clause-counted : goal.returns-after-is_from_luma-clause-counted
 returns-after-is_from_luma-clause-counted g c =
     let a = c.args in
-    let h = (plan_value a.plan.now).header in
+    let h = a.header.now in
     let l = leaf_with a.leaf.now a.y.now a.u.now a.v.now in
-    let carried : carries_chroma h l.x l.y l.size ≡ true = ap (λ (k : Header). carries_chroma k l.x l.y l.size) (sym c.header.ensures.value) ∙ sym c.carries_chroma.ensures ∙ c.if-carries_chroma.true in
+    let carried : carries_chroma h l.x l.y l.size ≡ true = sym c.carries_chroma.ensures ∙ c.if-carries_chroma.true in
     let kept : c.if-is_from_luma.buffers.edges.prepared ≡ c.reconstruct_leaf_in.new.buffers.edges.prepared =
     elim c.if-is_from_luma.branch [
       | then-is_from_luma w ↦ ap (λ (b : _). b.edges.prepared) w.buffers-is
@@ -83,23 +78,23 @@ returns-after-is_from_luma-clause-counted g c =
     c.reconstruct_leaf_in.ensures.counted (c.reconstruct_leaf_in-then-carries_chroma.ensures.counted ∙ ap (λ (n : ℕ). fold edges_in n (plane_steps h (block_by h (cell_at a.cells.now) U l) a.u.now)) kept) c.reconstruct_leaf_in-then-carries_chroma-2.ensures.counted
 
 pub returns-else-carries_chroma-clause-walked : goal.returns-else-carries_chroma-clause-walked
-returns-else-carries_chroma-clause-walked g c =
+returns-else-carries_chroma-clause-walked g c = λ value serves.
     let a = c.args in
     let num = g.T.Pixel.num in
-    let plan = plan_value a.plan.now in
-    let h = plan.header in
+    let h = a.header.now in
+    let plan = with_header h value in
     let l = leaf_with a.leaf.now a.y.now a.u.now a.v.now in
     let told = cell_at a.cells.now in
-    let carried : carries_chroma h l.x l.y l.size ≡ false = ap (λ (k : Header). carries_chroma k l.x l.y l.size) (sym c.header.ensures.value) ∙ sym c.carries_chroma.ensures ∙ c.if-carries_chroma.false in
+    let carried : carries_chroma h l.x l.y l.size ≡ false = sym c.carries_chroma.ensures ∙ c.if-carries_chroma.false in
     let block = block_by h told Y l in
     let before = sample_at num a.planes.now.y in
     let same_y = luma_same num g.T.Pixel.pixel plan 0 (λ _. ac_at (tx_width block.area.tx_size) a.buffers.now.luma.items) (luma_for h before Y) block (plain_in_y h l (filter_by h told Y l) before (tx_width block.area.tx_size) a.buffers.now.luma.items) h a.y.now a.planes.now.y in
-    luma_walked num g.T.Pixel.pixel plan a.planes.now _ (λ k. block_by h told k l) l carried (c.reconstruct_leaf_in.ensures.walked ∙ same_y) refl refl
+    luma_walked num g.T.Pixel.pixel plan a.planes.now _ (λ k. block_by h told k l) l carried (c.reconstruct_leaf_in.ensures.walked value serves ∙ same_y) refl refl
 
 pub returns-else-carries_chroma-clause-counted : goal.returns-else-carries_chroma-clause-counted
 returns-else-carries_chroma-clause-counted g c =
     let a = c.args in
-    let h = (plan_value a.plan.now).header in
+    let h = a.header.now in
     let l = leaf_with a.leaf.now a.y.now a.u.now a.v.now in
-    let carried : carries_chroma h l.x l.y l.size ≡ false = ap (λ (k : Header). carries_chroma k l.x l.y l.size) (sym c.header.ensures.value) ∙ sym c.carries_chroma.ensures ∙ c.if-carries_chroma.false in
+    let carried : carries_chroma h l.x l.y l.size ≡ false = sym c.carries_chroma.ensures ∙ c.if-carries_chroma.false in
     luma_counted h (λ k. block_by h (cell_at a.cells.now) k l) l a.buffers.now.edges.prepared c.reconstruct_leaf_in.new.buffers.edges.prepared carried c.reconstruct_leaf_in.ensures.counted

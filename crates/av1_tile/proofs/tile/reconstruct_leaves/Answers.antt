@@ -1,17 +1,15 @@
-use Rattle.std.proofs.Common.{◌≤◌, arith, refl, ap, subst, ◌∙◌, length, take, List, pos, [], None}
+use Rattle.std.proofs.Common.{◌≤◌, arith, refl, ap, ◌∙◌, length, take, List, pos, [], None}
 use Rattle.std.specs.List.{fold}
 use Rattle.std.proofs.lemmas.List.{take_all}
 use Rattle.av1_blocks.specs.declared.partition.BlockSize.TheVariants.{BLOCK_4X4}
 use Rattle.av1_blocks.specs.declared.predict.PredictionMode.TheVariants.{DC_PRED}
 use Rattle.av1_blocks.specs.declared.transform.TxSize.TheVariants.{TX_4X4}
 use Rattle.av1_blocks.specs.declared.transform.TxType.TheVariants.{DCT_DCT}
-use Rattle.av1_plan.specs.declared.header.Header.{Header}
 use Rattle.av1_plan.specs.declared.leaf.Leaf.{Leaf}
 use Rattle.av1_plan.specs.declared.leaf.LeafKind.TheVariants.{Intra}
 use Rattle.av1_plan.specs.Answer.{plan_value, stored_leaves, stored_triples}
 use Rattle.av1_plan.specs.Plan.{LeafValue}
-use Rattle.av1_plan.proofs.ReadPlans.{read_frame}
-use Rattle.av1_tile.specs.Walk.{HasCells, cell_at, edges_after, fast_step, steps_by, with_leaves}
+use Rattle.av1_tile.specs.Walk.{cell_at, edges_after, fast_step, steps_by, with_header, with_leaves}
 use Rattle.av1_tile.proofs.Lifts.{layout_kept}
 use Rattle.av1_tile.proofs.PlanFits.{whole_frame}
 use Rattle.av1_tile.proofs.PlanLeaves.{is_leaf_at, leaf_more, leaf_read, length_leaves, told_more, turn_begins, turn_fits}
@@ -23,54 +21,57 @@ no_leaf = record { x = 0; y = 0; size = BLOCK_4X4; kind = Intra DC_PRED (pos 0) 
 
 pub loop-index-init : goal.loop-index-init
 loop-index-init g c = record {
-  walked = refl;
+  walked = λ value serves. refl;
   counted = refl;
   stores = c.requires.stores;
   layout = record { y = refl; u = refl; v = refl };
   cells = c.requires.cells;
+  count = refl;
   told = λ cx cy hx hy. refl;
 }
 
 pub reconstruct_leaf-requires-clause-fits : goal.reconstruct_leaf-requires-clause-fits
 unfolding no_leaf
 reconstruct_leaf-requires-clause-fits g c =
-    let plan = c.args.plan.now in
-    let a = is_leaf_at plan c.loop-index.index c.leaves.result.now no_leaf _ _ _ c.leaves.ensures.items (omega (arith, ap length c.leaves.ensures.items, ap length c.leaves-index-end.ensures.items)) c.triples.ensures c.triples-in-loop-index.ensures c.triples-in-loop-index-2.ensures in
-    turn_fits plan c.loop-index.index _ _ _ _ c.args.planes.now c.loop-index.planes a c.loop-index.invariant.layout c.requires.fits
+    let leaves = c.args.leaves.now in
+    let a = is_leaf_at leaves c.loop-index.index c.leaves.result.now no_leaf _ _ _ c.leaves.ensures.items (omega (arith, ap length c.leaves.ensures.items, ap length c.leaves-index-end.ensures.items)) c.triples.ensures c.triples-in-loop-index.ensures c.triples-in-loop-index-2.ensures in
+    turn_fits leaves c.args.header.now c.loop-index.index _ _ _ _ c.args.planes.now c.loop-index.planes a c.loop-index.invariant.layout c.requires.fits
 
 pub loop-index-preserved : goal.loop-index-preserved
 unfolding no_leaf
 loop-index-preserved g c =
-    let plan = c.args.plan.now in
-    let h = (plan_value plan).header in
+    let leaves = c.args.leaves.now in
+    let h = c.args.header.now in
     let i = c.loop-index.index in
     let held = c.loop-index.invariant in
     let turn = c.reconstruct_leaf.ensures in
-    let a = is_leaf_at plan i c.leaves.result.now no_leaf _ _ _ c.leaves.ensures.items (omega (arith, ap length c.leaves.ensures.items, ap length c.leaves-index-end.ensures.items)) c.triples.ensures c.triples-in-loop-index.ensures c.triples-in-loop-index-2.ensures in
+    let a = is_leaf_at leaves i c.leaves.result.now no_leaf _ _ _ c.leaves.ensures.items (omega (arith, ap length c.leaves.ensures.items, ap length c.leaves-index-end.ensures.items)) c.triples.ensures c.triples-in-loop-index.ensures c.triples-in-loop-index-2.ensures in
     let start = cell_at c.args.cells.now in
     let told = cell_at c.loop-index.cells in
-    let own = leaf_read plan i _ _ _ _ told (with_leaves start (take i (plan_value plan).leaves)) a (whole_frame h (read_frame plan)) (turn_begins plan i _ _ _ _ c.args.planes.now a c.requires.fits) held.told in
-    let step = fast_step g.T.Pixel.num g.T.Pixel.pixel (plan_value plan) in
+    let own = leaf_read leaves h i _ _ _ _ told (with_leaves start (take i (plan_value leaves).leaves)) a (whole_frame h c.requires.frame) (turn_begins leaves h i _ _ _ _ c.args.planes.now a c.requires.fits) held.told in
     record {
-      walked = leaf_more step plan i _ start c.args.planes.now c.loop-index.planes c.reconstruct_leaf.new.planes a.inside a.is held.walked (turn.walked ∙ ap (fold step c.loop-index.planes) own);
-      counted = leaf_more edges_after plan i _ start c.args.buffers.now.edges.prepared c.loop-index.buffers.edges.prepared c.reconstruct_leaf.new.buffers.edges.prepared a.inside a.is held.counted (turn.counted ∙ ap (fold edges_after c.loop-index.buffers.edges.prepared) own);
+      walked = λ value serves.
+          let step = fast_step g.T.Pixel.num g.T.Pixel.pixel (with_header h value) in
+          leaf_more step leaves h i _ start c.args.planes.now c.loop-index.planes c.reconstruct_leaf.new.planes a.inside a.is (held.walked value serves) (turn.walked value serves ∙ ap (fold step c.loop-index.planes) own);
+      counted = leaf_more edges_after leaves h i _ start c.args.buffers.now.edges.prepared c.loop-index.buffers.edges.prepared c.reconstruct_leaf.new.buffers.edges.prepared a.inside a.is held.counted (turn.counted ∙ ap (fold edges_after c.loop-index.buffers.edges.prepared) own);
       stores = turn.stores;
       layout = layout_kept c.args.planes.now c.loop-index.planes c.reconstruct_leaf.new.planes held.layout turn.layout;
-      cells = subst (λ (k : Header). HasCells k c.note.new.self) c.header.ensures.value c.note.ensures.cells;
-      told = told_more plan i _ start told (cell_at c.note.new.self) a.inside a.is held.told
+      cells = c.note.ensures.cells;
+      count = c.note.ensures.count ∙ held.count;
+      told = told_more leaves h i _ start told (cell_at c.note.new.self) a.inside a.is held.told
           (λ cx cy hx hy. c.note.ensures.noted cx cy (omega (arith, hx, held.cells.columns)) (omega (arith, hy, held.cells.rows)));
     }
 
 pub returns-clause-walked : goal.returns-clause-walked
-returns-clause-walked g c =
-    let plan = c.args.plan.now in
-    let all = (plan_value plan).leaves in
-    let past : length all ≤ c.loop-index.index = omega (arith, length_leaves (stored_triples plan) (stored_leaves plan), ap length c.leaves-index-end.ensures.items) in
-    c.loop-index.invariant.walked ∙ ap (λ (ls : List LeafValue). fold (fast_step g.T.Pixel.num g.T.Pixel.pixel (plan_value plan)) c.args.planes.now (steps_by (plan_value plan).header (cell_at c.args.cells.now) ls)) (take_all c.loop-index.index all past)
+returns-clause-walked g c = λ value serves.
+    let leaves = c.args.leaves.now in
+    let all = (plan_value leaves).leaves in
+    let past : length all ≤ c.loop-index.index = omega (arith, length_leaves (stored_triples leaves) (stored_leaves leaves), ap length c.leaves-index-end.ensures.items) in
+    c.loop-index.invariant.walked value serves ∙ ap (λ (ls : List LeafValue). fold (fast_step g.T.Pixel.num g.T.Pixel.pixel (with_header c.args.header.now value)) c.args.planes.now (steps_by c.args.header.now (cell_at c.args.cells.now) ls)) (take_all c.loop-index.index all past)
 
 pub returns-clause-counted : goal.returns-clause-counted
 returns-clause-counted g c =
-    let plan = c.args.plan.now in
-    let all = (plan_value plan).leaves in
-    let past : length all ≤ c.loop-index.index = omega (arith, length_leaves (stored_triples plan) (stored_leaves plan), ap length c.leaves-index-end.ensures.items) in
-    c.loop-index.invariant.counted ∙ ap (λ (ls : List LeafValue). fold edges_after c.args.buffers.now.edges.prepared (steps_by (plan_value plan).header (cell_at c.args.cells.now) ls)) (take_all c.loop-index.index all past)
+    let leaves = c.args.leaves.now in
+    let all = (plan_value leaves).leaves in
+    let past : length all ≤ c.loop-index.index = omega (arith, length_leaves (stored_triples leaves) (stored_leaves leaves), ap length c.leaves-index-end.ensures.items) in
+    c.loop-index.invariant.counted ∙ ap (λ (ls : List LeafValue). fold edges_after c.args.buffers.now.edges.prepared (steps_by c.args.header.now (cell_at c.args.cells.now) ls)) (take_all c.loop-index.index all past)

@@ -1,14 +1,13 @@
-use Rattle.std.proofs.Common.{ℕ, ◌+◌, ◌-◌, ◌*◌, ◌≡◌, take, drop, List, None, refl, arith, ap, ◌∙◌, sym, subst, ℤ}
+use Rattle.std.proofs.Common.{ℕ, ◌+◌, ◌-◌, ◌≡◌, take, drop, List, None, refl, arith, ap, ◌∙◌, sym, subst, ℤ}
 use Rattle.std.specs.List.{fold}
 use Rattle.av1_blocks.specs.Transforms.{tx_width}
 use Rattle.av1_frame.specs.declared.plane.Plane.{Plane}
 use Rattle.av1_intra.specs.ChromaFromLuma.{ac_at}
-use Rattle.av1_plan.specs.Answer.{plan_value}
-use Rattle.av1_plan.specs.declared.header.Header.{Header}
-use Rattle.av1_plan.specs.Geometry.{transform_block}
+use Rattle.av1_plan.specs.Plan.{PlanValue}
+use Rattle.av1_plan.specs.Geometry.{block_count, transform_block}
 use Rattle.av1_tile.specs.declared.plane_block.PlaneBlock.{PlaneBlock}
-use Rattle.av1_tile.specs.Steps.{steps_at}
-use Rattle.av1_tile.specs.Walk.{Stores, edges_in, fast_in}
+use Rattle.av1_tile.specs.Steps.{joined, steps_at}
+use Rattle.av1_tile.specs.Walk.{Stores, edges_in, fast_in, with_header}
 use Rattle.av1_tile.proofs.BlockTriples.{IsRun, run_within, run_before, run_behind, run_is_own, own_edges, own_fits, own_steps}
 use Rattle.av1_tile.proofs.BlockSteps.{no_steps, some_across}
 use Rattle.av1_tile.proofs.Loops.{fold_joined_more, fold_joined_none}
@@ -18,12 +17,12 @@ use Rattle.av1_tile.proofs.walk.reconstruct_blocks.Goals as goal
 pub loop-n-init : goal.loop-n-init
 loop-n-init g c =
     let a = c.args in
-    let plan = plan_value a.plan.now in
+    let h = a.header.now in
     let block = a.block.now in
     let luma : PlaneBlock → ℕ → ℕ → ℤ = λ _. ac_at (tx_width block.area.tx_size) a.buffers.now.luma.items in
-    let steps = steps_at plan.header block a.triples.now in
+    let steps = steps_at h block a.triples.now in
     record {
-      walked = fold_joined_none (fast_in g.T.Pixel.num g.T.Pixel.pixel plan block.plane luma) a.plane.now steps;
+      walked = λ value. fold_joined_none (fast_in g.T.Pixel.num g.T.Pixel.pixel (with_header h value) block.plane luma) a.plane.now steps;
       counted = fold_joined_none edges_in a.buffers.now.edges.prepared steps;
       stores = c.requires.stores;
       config = refl;
@@ -38,17 +37,16 @@ loop-n-init g c =
 pub reconstruct_block-requires-clause-fits : goal.reconstruct_block-requires-clause-fits
 reconstruct_block-requires-clause-fits g c =
     let a = c.args in
-    own_fits a.plane.now.plane_cfg c.loop-n.plane.plane_cfg (plan_value a.plan.now).header a.block.now a.triples.now c.loop-n.at (c.loop-n.at + c.leading_count.result - c.loop-n.at) c.loop-n.invariant.config c.requires.fits
+    own_fits a.plane.now.plane_cfg c.loop-n.plane.plane_cfg a.header.now a.block.now a.triples.now c.loop-n.at (c.loop-n.at + c.leading_count.result - c.loop-n.at) c.loop-n.invariant.config c.requires.fits
 
 pub loop-n-preserved : goal.loop-n-preserved
 loop-n-preserved g c =
     let a = c.args in
-    let plan = plan_value a.plan.now in
-    let h = plan.header in
+    let h = a.header.now in
     let block = a.block.now in
     let all = a.triples.now in
     let luma : PlaneBlock → ℕ → ℕ → ℤ = λ _. ac_at (tx_width block.area.tx_size) a.buffers.now.luma.items in
-    let step = fast_in g.T.Pixel.num g.T.Pixel.pixel plan block.plane luma in
+    let step = λ (value : PlanValue). fast_in g.T.Pixel.num g.T.Pixel.pixel (with_header h value) block.plane luma in
     let n = c.loop-n.n in
     let at = c.loop-n.at in
     let count = c.leading_count.result in
@@ -67,25 +65,23 @@ loop-n-preserved g c =
       own = c.leading_count.ensures.own;
       end = c.leading_count.ensures.end;
     } in
-    let turn : (after ≡ fold step before (steps_at h block all n)) × (edges_after ≡ fold edges_in edges (steps_at h block all n)) × Stores g.T.Pixel.num h block.plane after × (after.plane_cfg ≡ before.plane_cfg) × (c.match-place_in.buffers.luma.items ≡ c.loop-n.buffers.luma.items) =
+    let turn : ((value : PlanValue) → after ≡ fold (step value) before (steps_at h block all n)) × (edges_after ≡ fold edges_in edges (steps_at h block all n)) × Stores g.T.Pixel.num h block.plane after × (after.plane_cfg ≡ before.plane_cfg) × (c.match-place_in.buffers.luma.items ≡ c.loop-n.buffers.luma.items) =
     elim c.match-place_in.branch [
       | in-Some w ↦
           let number : w.in-Some.place.number ≡ n = w.in-Some.ensures.some.1 ∙ held.number in
           let one = w.reconstruct_block.ensures in
           let own = take (end - at) (drop at all) in (
-            w.plane-is ∙ one.walked
-                ∙ ap (λ (ac : List ℤ). fold (fast_in g.T.Pixel.num g.T.Pixel.pixel plan block.plane (λ _. ac_at (tx_width block.area.tx_size) ac)) before (steps_at h block own w.in-Some.place.number)) held.luma
-                ∙ ap (λ (m : ℕ). fold step before (steps_at h block own m)) number ∙ own_steps g.T.Pixel.num g.T.Pixel.pixel plan block.plane luma h block all n at end before (run_is_own n all at count run),
+            λ value. w.plane-is ∙ one.walked value
+                ∙ ap (λ (ac : List ℤ). fold (fast_in g.T.Pixel.num g.T.Pixel.pixel (with_header h value) block.plane (λ _. ac_at (tx_width block.area.tx_size) ac)) before (steps_at h block own w.in-Some.place.number)) held.luma
+                ∙ ap (λ (m : ℕ). fold (step value) before (steps_at h block own m)) number ∙ own_steps g.T.Pixel.num g.T.Pixel.pixel (with_header h value) block.plane luma h block all n at end before (run_is_own n all at count run),
             ap (λ (b : _). b.edges.prepared) w.buffers-is ∙ one.counted ∙ ap (λ (m : ℕ). fold edges_in edges (steps_at h block own m)) number ∙ own_edges h block own all n edges,
             subst (Stores g.T.Pixel.num h block.plane) (sym w.plane-is) one.stores,
             ap (λ (p : Plane _). p.plane_cfg) w.plane-is ∙ one.config,
             ap (λ (b : _). b.luma.items) w.buffers-is ∙ one.luma,
           )
       | in_default w ↦
-          let here = c.loop-n.place.1 * c.blocks_across-across.result + c.loop-n.place.0 in
-          let none : transform_block h block.plane block.area n ≡ None =
-          ap (transform_block h block.plane block.area) (sym held.number) ∙ ap (λ (k : Header). transform_block k block.plane block.area here) (sym c.header.ensures.value) ∙ w.in_default.ensures.none in (
-            w.plane-is ∙ no_steps step h block all n before none,
+          let none : transform_block h block.plane block.area n ≡ None = ap (transform_block h block.plane block.area) (sym held.number) ∙ w.in_default.ensures.none in (
+            λ value. w.plane-is ∙ no_steps (step value) h block all n before none,
             ap (λ (b : _). b.edges.prepared) w.buffers-is ∙ no_steps edges_in h block all n edges none,
             subst (Stores g.T.Pixel.num h block.plane) (sym w.plane-is) held.stores,
             ap (λ (p : Plane _). p.plane_cfg) w.plane-is,
@@ -93,7 +89,7 @@ loop-n-preserved g c =
           )
     ] in
     record {
-      walked = fold_joined_more step a.plane.now before after n (steps_at h block all) held.walked turn.0;
+      walked = λ value. fold_joined_more (step value) a.plane.now before after n (steps_at h block all) (held.walked value) (turn.0 value);
       counted = fold_joined_more edges_in a.buffers.now.edges.prepared edges edges_after n (steps_at h block all) held.counted turn.1;
       stores = turn.2;
       config = turn.3 ∙ held.config;
@@ -104,3 +100,12 @@ loop-n-preserved g c =
       column = λ l. c.next_place-place.ensures.column;
       number = c.next_place-place.ensures.number ∙ ap (λ (m : ℕ). m + 1) held.number;
     }
+
+pub returns-clause-walked : goal.returns-clause-walked
+returns-clause-walked g c = λ value.
+    let a = c.args in
+    let block = a.block.now in
+    let all : c.loop-n.n ≡ block_count block.area = omega (arith, c.loop-n-test.false, c.loop-n.auto.n-end, c.block_count-n-end.ensures.value) in
+    let luma : PlaneBlock → ℕ → ℕ → ℤ = λ _. ac_at (tx_width block.area.tx_size) a.buffers.now.luma.items in
+    c.loop-n.invariant.walked value
+    ∙ ap (λ (m : ℕ). fold (fast_in g.T.Pixel.num g.T.Pixel.pixel (with_header a.header.now value) block.plane luma) a.plane.now (joined m (steps_at a.header.now block a.triples.now))) all

@@ -2,18 +2,18 @@ use Rattle.std.proofs.Common.{ℕ, ◌+◌, ◌*◌, ◌≡◌, ◌<◌, ◌≤�
 use Rattle.std.specs.List.{fold}
 use Rattle.av1_blocks.specs.Transforms.{tx_width}
 use Rattle.av1_intra.specs.ChromaFromLuma.{ac_at}
-use Rattle.av1_plan.specs.Answer.{plan_value}
+use Rattle.av1_plan.specs.Plan.{PlanValue}
 use Rattle.av1_plan.specs.declared.leaf.Triple.{Triple}
 use Rattle.av1_tile.specs.Steps.{joined, steps_at}
-use Rattle.av1_tile.specs.Walk.{Stores, edges_in, fast_in}
+use Rattle.av1_tile.specs.Walk.{Stores, edges_in, fast_in, with_header}
 use Rattle.av1_tile.proofs.walk.reconstruct_blocks.Given as goal
 
 abbrev pub invariant-loop-n : goal.invariant-loop-n
 invariant-loop-n g l =
     record {
-      walked : l.plane ≡ fold (fast_in g.T.Pixel.num g.T.Pixel.pixel (plan_value l.plan) l.block.plane (λ _. ac_at (tx_width l.block.area.tx_size) l.initial.buffers.luma.items)) l.initial.plane (joined l.n (steps_at (plan_value l.plan).header l.block l.triples));
-      counted : l.buffers.edges.prepared ≡ fold edges_in l.initial.buffers.edges.prepared (joined l.n (steps_at (plan_value l.plan).header l.block l.triples));
-      stores : Stores g.T.Pixel.num (plan_value l.plan).header l.block.plane l.plane;
+      walked : (value : PlanValue) → l.plane ≡ fold (fast_in g.T.Pixel.num g.T.Pixel.pixel (with_header l.header value) l.block.plane (λ _. ac_at (tx_width l.block.area.tx_size) l.initial.buffers.luma.items)) l.initial.plane (joined l.n (steps_at l.header l.block l.triples));
+      counted : l.buffers.edges.prepared ≡ fold edges_in l.initial.buffers.edges.prepared (joined l.n (steps_at l.header l.block l.triples));
+      stores : Stores g.T.Pixel.num l.header l.block.plane l.plane;
       config : l.plane.plane_cfg ≡ l.initial.plane.plane_cfg;
       luma : l.buffers.luma.items ≡ l.initial.buffers.luma.items;
       within : l.at ≤ length l.triples;

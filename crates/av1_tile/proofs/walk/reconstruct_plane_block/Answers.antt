@@ -1,61 +1,60 @@
 use Rattle.std.proofs.Common.{ℕ, ◌∙◌, arith, ℤ}
 use Rattle.av1_blocks.specs.Transforms.{tx_width}
 use Rattle.av1_intra.specs.ChromaFromLuma.{ac_at}
-use Rattle.av1_plan.specs.Answer.{plan_value}
 use Rattle.av1_tile.specs.declared.plane_block.PlaneBlock.{PlaneBlock}
 use Rattle.av1_tile.specs.Reference.{no_luma}
-use Rattle.av1_tile.specs.Walk.{edges_in, fast_in}
+use Rattle.av1_tile.specs.Walk.{edges_in, fast_in, with_header}
 use Rattle.av1_tile.proofs.BlockSteps.{all_steps, fits_laid, whole_between, whole_counted, whole_inside, whole_layout}
 use Rattle.av1_tile.proofs.Lifts.{whole_steps_same}
 use Rattle.av1_tile.proofs.walk.reconstruct_plane_block.Goals as goal
 
 pub predict_whole-requires-clause-depth : goal.predict_whole-requires-clause-depth
-predict_whole-requires-clause-depth g c = omega (arith, c.requires.references.settings.depth, c.requires.depth)
+predict_whole-requires-clause-depth g c = omega (arith, c.requires.references.1.settings.depth, c.requires.depth)
 
 pub predict_whole-requires-clause-fits : goal.predict_whole-requires-clause-fits
 predict_whole-requires-clause-fits g c =
     let a = c.args in
-    whole_inside (plan_value a.plan.now).header a.block.now a.triples.now a.plane.now c.requires.stores.place c.requires.fits
+    whole_inside a.header.now a.block.now a.triples.now a.plane.now c.requires.stores.place c.requires.fits
 
 pub predict_whole-requires-clause-references : goal.predict_whole-requires-clause-references
-predict_whole-requires-clause-references g c = (plan_value c.args.plan.now, (c.requires.references, c.requires.fits.prediction))
+predict_whole-requires-clause-references g c = (with_header c.args.header.now c.requires.references.0, (c.requires.references.1, c.requires.fits.prediction))
 
 pub reconstruct_blocks-requires-clause-stores : goal.reconstruct_blocks-requires-clause-stores
 reconstruct_blocks-requires-clause-stores g c =
     let a = c.args in
-    let plan = plan_value a.plan.now in
-    whole_between g.T.Pixel.num g.T.Pixel.pixel g.met.T.Pixel.num_of_pixel g.met.T.Pixel.pixel_of_num plan a.fi.now c.requires.references a.block.now c.requires.plane c.requires.fits.prediction
-    a.plane.now c.predict_whole.new.plane (c.predict_whole.ensures plan c.requires.references c.requires.fits.prediction) c.requires.stores
+    let plan = with_header a.header.now c.requires.references.0 in
+    whole_between g.T.Pixel.num g.T.Pixel.pixel g.met.T.Pixel.num_of_pixel g.met.T.Pixel.pixel_of_num plan a.fi.now c.requires.references.1 a.block.now c.requires.plane c.requires.fits.prediction
+    a.plane.now c.predict_whole.new.plane (c.predict_whole.ensures plan c.requires.references.1 c.requires.fits.prediction) c.requires.stores
 
 pub reconstruct_blocks-requires-clause-fits : goal.reconstruct_blocks-requires-clause-fits
 reconstruct_blocks-requires-clause-fits g c =
     let a = c.args in
-    let plan = plan_value a.plan.now in
-    let laid = whole_layout g.T.Pixel.num g.T.Pixel.pixel g.met.T.Pixel.num_of_pixel g.met.T.Pixel.pixel_of_num plan a.fi.now c.requires.references a.block.now c.requires.plane c.requires.fits.prediction
-    a.plane.now c.predict_whole.new.plane (c.predict_whole.ensures plan c.requires.references c.requires.fits.prediction) in
+    let plan = with_header a.header.now c.requires.references.0 in
+    let laid = whole_layout g.T.Pixel.num g.T.Pixel.pixel g.met.T.Pixel.num_of_pixel g.met.T.Pixel.pixel_of_num plan a.fi.now c.requires.references.1 a.block.now c.requires.plane c.requires.fits.prediction
+    a.plane.now c.predict_whole.new.plane (c.predict_whole.ensures plan c.requires.references.1 c.requires.fits.prediction) in
     fits_laid plan.header a.block.now a.triples.now a.plane.now.plane_cfg c.predict_whole.new.plane.plane_cfg laid c.requires.fits
 
 pub returns-clause-walked : goal.returns-clause-walked
-returns-clause-walked g c =
+returns-clause-walked g c = λ value serves.
     let a = c.args in
-    let plan = plan_value a.plan.now in
+    let plan = with_header a.header.now value in
     let block = a.block.now in
     let luma : PlaneBlock → ℕ → ℕ → ℤ = λ _. ac_at (tx_width block.area.tx_size) a.buffers.now.luma.items in
     let step = fast_in g.T.Pixel.num g.T.Pixel.pixel plan block.plane luma in
     all_steps step plan.header block a.triples.now a.plane.now c.predict_whole.new.plane c.reconstruct_blocks.new.plane
-    (c.predict_whole.ensures plan c.requires.references c.requires.fits.prediction ∙ whole_steps_same g.T.Pixel.num g.T.Pixel.pixel plan block.plane (λ _. no_luma) luma block a.plane.now)
-    c.reconstruct_blocks.ensures.walked
+    (c.predict_whole.ensures plan serves c.requires.fits.prediction ∙ whole_steps_same g.T.Pixel.num g.T.Pixel.pixel plan block.plane (λ _. no_luma) luma block a.plane.now)
+    (c.reconstruct_blocks.ensures.walked value)
 
 pub returns-clause-counted : goal.returns-clause-counted
 returns-clause-counted g c =
     let a = c.args in
     let count = a.buffers.now.edges.prepared in
-    all_steps edges_in (plan_value a.plan.now).header a.block.now a.triples.now count count c.reconstruct_blocks.new.buffers.edges.prepared (whole_counted a.block.now count) c.reconstruct_blocks.ensures.counted
+    all_steps edges_in a.header.now a.block.now a.triples.now count count c.reconstruct_blocks.new.buffers.edges.prepared (whole_counted a.block.now count) c.reconstruct_blocks.ensures.counted
 
 pub returns-clause-config : goal.returns-clause-config
 returns-clause-config g c =
     let a = c.args in
-    let plan = plan_value a.plan.now in
+    let plan = with_header a.header.now c.requires.references.0 in
     c.reconstruct_blocks.ensures.config
-    ∙ whole_layout g.T.Pixel.num g.T.Pixel.pixel g.met.T.Pixel.num_of_pixel g.met.T.Pixel.pixel_of_num plan a.fi.now c.requires.references a.block.now c.requires.plane c.requires.fits.prediction
-    a.plane.now c.predict_whole.new.plane (c.predict_whole.ensures plan c.requires.references c.requires.fits.prediction)
+    ∙ whole_layout g.T.Pixel.num g.T.Pixel.pixel g.met.T.Pixel.num_of_pixel g.met.T.Pixel.pixel_of_num plan a.fi.now c.requires.references.1 a.block.now c.requires.plane c.requires.fits.prediction
+    a.plane.now c.predict_whole.new.plane (c.predict_whole.ensures plan c.requires.references.1 c.requires.fits.prediction)

@@ -1,45 +1,32 @@
 use Rattle.std.proofs.Common.{ap, ◌∙◌, sym}
 use Rattle.av1_plan.specs.Answer.{plan_value}
-use Rattle.av1_plan.proofs.ReadPlans.{read_frame}
 use Rattle.av1_tile.specs.State.{Picture, edges_of, state_edges}
-use Rattle.av1_tile.specs.Walk.{cell_at}
-use Rattle.av1_tile.proofs.Pictures.{is_made, plan_shows, plan_shows_rows, plan_counts}
-use Rattle.av1_tile.proofs.PlanFits.{plan_fits}
+use Rattle.av1_tile.proofs.Pictures.{state_rows, state_visible}
+use Rattle.av1_tile.proofs.PlansOver.{made_over}
 use Rattle.av1_tile.proofs.state.TileState.run.Goals as goal
 
-pub reconstruct_leaves-requires-clause-depths : goal.reconstruct_leaves-requires-clause-depths
-reconstruct_leaves-requires-clause-depths g c = (read_frame c.args.plan.now).depth
-
-pub reconstruct_leaves-requires-clause-fits : goal.reconstruct_leaves-requires-clause-fits
-reconstruct_leaves-requires-clause-fits g c =
+pub reconstruct-requires-clause-plan : goal.reconstruct-requires-clause-plan
+reconstruct-requires-clause-plan g c =
     let s = c.self.inside in
-    let made = is_made g.T.Pixel.num (plan_value c.args.plan.now) c.args.self.now s.header s.fi s.planes s.buffers.edges.prepared (sym c.self.view_is) c.requires.sound c.requires.made in
-    plan_fits c.args.plan.now s.planes c.requires.valid made.room
-
-pub reconstruct_leaves-requires-clause-references : goal.reconstruct_leaves-requires-clause-references
-reconstruct_leaves-requires-clause-references g c =
-    let s = c.self.inside in
-    let made = is_made g.T.Pixel.num (plan_value c.args.plan.now) c.args.self.now s.header s.fi s.planes s.buffers.edges.prepared (sym c.self.view_is) c.requires.sound c.requires.made in
-    made.references
+    (plan_value c.args.plan.now, made_over g.T.Pixel.num c.args.plan.now c.args.self.now s.header s.fi s.planes s.memory.edges c.self.view_is c.requires.valid c.requires.made)
 
 pub returns-clause-visible : goal.returns-clause-visible
 returns-clause-visible g c =
     let s = c.self.inside in
-    let walk = c.reconstruct_leaves in
-    let made = is_made g.T.Pixel.num (plan_value c.args.plan.now) c.args.self.now s.header s.fi s.planes s.buffers.edges.prepared (sym c.self.view_is) c.requires.sound c.requires.made in
-    plan_shows c.args.plan.now c.requires.valid g.T.Pixel.num g.T.Pixel.pixel g.met.T.Pixel.num_of_pixel g.met.T.Pixel.pixel_of_num s.header s.fi s.planes walk.new.planes walk.new.buffers.edges.prepared (cell_at s.cells)
-    made walk.ensures.stores walk.ensures.walked
+    let walk = c.reconstruct in
+    let is = made_over g.T.Pixel.num c.args.plan.now c.args.self.now s.header s.fi s.planes s.memory.edges c.self.view_is c.requires.valid c.requires.made in
+    state_visible g.T.Pixel.num (plan_value c.args.plan.now) s.header s.fi walk.new.planes walk.new.self.edges (sym is.header) (walk.ensures.shown (plan_value c.args.plan.now) is)
 
 pub returns-clause-rows : goal.returns-clause-rows
 returns-clause-rows g c =
     let s = c.self.inside in
-    let walk = c.reconstruct_leaves in
-    let made = is_made g.T.Pixel.num (plan_value c.args.plan.now) c.args.self.now s.header s.fi s.planes s.buffers.edges.prepared (sym c.self.view_is) c.requires.sound c.requires.made in
-    plan_shows_rows c.args.plan.now c.requires.valid g.T.Pixel.num g.T.Pixel.pixel g.met.T.Pixel.num_of_pixel g.met.T.Pixel.pixel_of_num s.header s.fi s.planes walk.new.planes walk.new.buffers.edges.prepared (cell_at s.cells)
-    made walk.ensures.stores walk.ensures.walked
+    let walk = c.reconstruct in
+    let is = made_over g.T.Pixel.num c.args.plan.now c.args.self.now s.header s.fi s.planes s.memory.edges c.self.view_is c.requires.valid c.requires.made in
+    state_rows g.T.Pixel.num (plan_value c.args.plan.now) s.header s.fi walk.new.planes walk.new.self.edges (sym is.header) (walk.ensures.shown (plan_value c.args.plan.now) is)
 
 pub returns-clause-edges : goal.returns-clause-edges
 returns-clause-edges g c =
     let s = c.self.inside in
-    let walk = c.reconstruct_leaves in
-    plan_counts c.args.plan.now c.requires.valid s.buffers.edges.prepared walk.new.buffers.edges.prepared (cell_at s.cells) walk.ensures.counted ∙ ap (λ (p : Picture _). edges_of (state_edges p) (plan_value c.args.plan.now)) c.self.view_is
+    let walk = c.reconstruct in
+    let is = made_over g.T.Pixel.num c.args.plan.now c.args.self.now s.header s.fi s.planes s.memory.edges c.self.view_is c.requires.valid c.requires.made in
+    walk.ensures.edges (plan_value c.args.plan.now) is ∙ ap (λ (p : Picture _). edges_of (state_edges p) (plan_value c.args.plan.now)) c.self.view_is

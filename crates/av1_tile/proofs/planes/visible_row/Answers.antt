@@ -1,5 +1,5 @@
 use Rattle.av1_tile.proofs.Pictures.{row_of}
-use Rattle.av1_tile.proofs.state.visible_row.Goals as goal
+use Rattle.av1_tile.proofs.planes.visible_row.Goals as goal
 
 pub returns : goal.returns
 returns g c =

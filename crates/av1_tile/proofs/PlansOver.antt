@@ -1,0 +1,73 @@
+-- A plan that is kept apart from its header and its references.
+use Rattle.std.proofs.Common.{◌≡◌, ℕ, ◌*◌, ◌/◌, ◌≤◌, List, None, All, ap, refl, sym, subst, ◌∙◌, arith}
+use Rattle.std.specs.List.{fold}
+use Rattle.av1_frame.specs.declared.frame_invariants.FrameInvariants.{FrameInvariants}
+use Rattle.av1_plan.specs.declared.header.Header.{Header}
+use Rattle.av1_plan.specs.declared.plan.Plan.{Plan}
+use Rattle.av1_plan.specs.Answer.{plan_value}
+use Rattle.av1_plan.specs.Plan.{LeafValue, PlanValue}
+use Rattle.av1_plan.specs.ReadPlans.{IsReadFrame}
+use Rattle.av1_plan.specs.Validity.{first_fault}
+use Rattle.av1_plan.proofs.ReadPlans.{kept_frame}
+use Rattle.av1_references.specs.References.{HoldsReferences, ServesPlan}
+use Rattle.av1_references.proofs.Served.{holds_serves}
+use Rattle.av1_tile.specs.declared.planes.Planes.{Planes}
+use Rattle.av1_tile.specs.Memory.{HasRoomFor, IsPlanOver, ShowsPlan, WalkRoom}
+use Rattle.av1_tile.specs.State.{MadeFor, Picture, edges_of}
+use Rattle.av1_tile.specs.Walk.{HasRoom, LeafFits, StoresAll, Told, edges_after, fast_step, steps_by, with_header}
+use Rattle.av1_tile.proofs.Pictures.{plan_counts, plan_shows}
+use Rattle.av1_tile.proofs.PlanFits.{plan_fits}
+
+module _ {T : Type 0} (num : T → ℕ) (h : Header) (leaves : List LeafValue) (fi : FrameInvariants T) (plan : PlanValue) (is : IsPlanOver num h leaves fi plan) where
+  -- its frame was read
+  pub over_frame : IsReadFrame h
+  over_frame = subst IsReadFrame is.header (kept_frame plan is.spelled)
+
+  -- its references are served
+  pub over_serves : ServesPlan num (with_header h plan) fi
+  over_serves = subst (λ (k : Header). ServesPlan num (with_header k plan) fi) is.header is.references
+
+  -- its leaves fit planes with room for whole superblocks
+  pub over_fits : (planes : Planes T) → HasRoom h planes → All (LeafFits h planes) leaves
+  over_fits planes room =
+      let own = plan_fits plan planes is.spelled is.valid (subst (λ (k : Header). HasRoom k planes) (sym is.header) room) in
+      subst (λ (ls : List LeafValue). All (LeafFits h planes) ls) is.leaves (subst (λ (k : Header). All (LeafFits k planes) plan.leaves) is.header own)
+
+  -- planes that have gone through the steps of its leaves show what it comes to
+  pub over_shows : (pixel : ℕ → T) (law : (v : ℕ) → num (pixel v) ≡ v) (back : (x : T) → pixel (num x) ≡ x) (p q : Planes T) (told : Told) → StoresAll num h p → HasRoom h p → StoresAll num h q
+      → q ≡ fold (fast_step num pixel (with_header h plan)) p (steps_by h told leaves) → ShowsPlan num plan q
+  over_shows pixel law back p q told stores room after walked =
+      let own : q ≡ fold (fast_step num pixel plan) p (steps_by plan.header told plan.leaves) =
+      subst (λ (ls : List LeafValue). q ≡ fold (fast_step num pixel plan) p (steps_by plan.header told ls)) (sym is.leaves)
+      (subst (λ (k : Header). q ≡ fold (fast_step num pixel (with_header k plan)) p (steps_by k told leaves)) (sym is.header) walked) in
+      plan_shows plan is.spelled is.valid num pixel law back p q told (subst (λ (k : Header). StoresAll num k p) (sym is.header) stores) (subst (λ (k : Header). HasRoom k p) (sym is.header) room)
+      (subst (λ (k : Header). StoresAll num k q) (sym is.header) after) own
+
+  -- and their edges are counted
+  pub over_counts : (count after : ℕ) (told : Told) → after ≡ fold edges_after count (steps_by h told leaves) → after ≡ edges_of count plan
+  over_counts count after told counted =
+      plan_counts plan is.spelled is.valid count after told
+      (counted ∙ ap (λ (k : Header). fold edges_after count (steps_by k told leaves)) (sym is.header) ∙ ap (λ (ls : List LeafValue). fold edges_after count (steps_by plan.header told ls)) (sym is.leaves))
+
+-- a plan in memory, whose references frame settings hold
+pub read_over : {T : Type 0} (num : T → ℕ) (plan : Plan) (h : Header) (fi : FrameInvariants T) → h ≡ (plan_value plan).header → first_fault (plan_value plan) ≡ None → HoldsReferences num (plan_value plan) fi
+    → IsPlanOver num h (plan_value plan).leaves fi (plan_value plan)
+read_over num plan h fi same valid holds = record { spelled = plan.spelled; valid = valid; header = sym same; leaves = refl; references = holds_serves num (plan_value plan) fi holds }
+
+-- or a state that was made for it
+pub made_over : {T : Type 0} (num : T → ℕ) (plan : Plan) (s : Picture T) (h : Header) (fi : FrameInvariants T) (planes : Planes T) (edges : ℕ) → record { header = h; references = fi; planes = planes; edges = edges } ≡ s
+    → first_fault (plan_value plan) ≡ None → MadeFor num (plan_value plan) s → IsPlanOver num h (plan_value plan).leaves fi (plan_value plan)
+made_over num plan s h fi planes edges is valid made =
+    let own : MadeFor num (plan_value plan) (record { header = h; references = fi; planes = planes; edges = edges }) = subst (MadeFor num (plan_value plan)) (sym is) made in
+    read_over num plan h fi own.header valid own.references
+
+-- ---- room
+
+product_within : (a b c d : ℕ) → a ≤ c → b ≤ d → a * b ≤ c * d
+product_within a b c d h k = grind arith
+
+-- what has room for a frame has room for each that isn't wider or higher
+pub room_within : (h k : Header) (room : WalkRoom) → k.width ≤ h.width → k.height ≤ h.height → HasRoomFor h room → HasRoomFor k room
+room_within h k room wide high roomy =
+    let few = product_within (k.height / 4) (k.width / 4) (h.height / 4) (h.width / 4) (omega (arith, high)) (omega (arith, wide)) in
+    omega (arith, few, roomy)

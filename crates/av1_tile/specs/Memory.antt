@@ -1,0 +1,38 @@
+-- The memory of a walk, and the plans that are walked in it.
+use Rattle.std.specs.Prelude.{◌≡◌, ◌<◌, ◌≤◌, ◌*◌, ◌/◌, ℕ, List, None}
+use Rattle.av1_frame.specs.declared.frame_invariants.FrameInvariants.{FrameInvariants}
+use Rattle.av1_plan.specs.declared.header.Header.{Header}
+use Rattle.av1_plan.specs.Geometry.{plane_height, plane_width}
+use Rattle.av1_plan.specs.Grammar.{plan as grammar}
+use Rattle.av1_plan.specs.Plan.{LeafValue, PlanValue}
+use Rattle.av1_plan.specs.Spelling.{IsSpelled}
+use Rattle.av1_plan.specs.Validity.{first_fault}
+use Rattle.av1_references.specs.References.{ServesPlan}
+use Rattle.av1_tile.specs.declared.planes.Planes.{Planes}
+use Rattle.av1_tile.specs.Canvas.{Component}
+use Rattle.av1_tile.specs.Edge.{sample_of}
+use Rattle.av1_tile.specs.PlaneBlocks.{number}
+use Rattle.av1_tile.specs.Reference.{slow_walk}
+use Rattle.av1_tile.specs.Walk.{samples_of}
+
+-- what callers see of the memory of a walk: how many cells of 4 by 4 luma samples it has a record for, and how many edges were prepared in it
+pub record WalkRoom : Type 0 where
+  pub cells : ℕ
+  pub edges : ℕ
+
+-- it has one for each cell of a frame
+abbrev pub HasRoomFor : Header → WalkRoom → Type 0
+HasRoomFor h room = h.height / 4 * (h.width / 4) ≤ room.cells
+
+-- a valid plan with this header and these leaves, whose references the frame settings serve
+pub record IsPlanOver {T : Type 0} (num : T → ℕ) (h : Header) (own : List LeafValue) (fi : FrameInvariants T) (plan : PlanValue) : Type 0 where
+  pub spelled : ∥ IsSpelled grammar plan ∥₁
+  pub valid : first_fault plan ≡ None
+  pub header : plan.header ≡ h
+  pub leaves : plan.leaves ≡ own
+  pub references : ServesPlan num plan fi
+
+-- planes show what a plan comes to, at each visible sample
+abbrev pub ShowsPlan : {T : Type 0} → (T → ℕ) → PlanValue → Planes T → Type 0
+ShowsPlan num plan planes =
+    (k : Component) (x y : ℕ) → x < plane_width plan.header (number k) → y < plane_height plan.header (number k) → samples_of num planes k x y ≡ sample_of (slow_walk plan k x y)

@@ -1,0 +1,98 @@
+//! The memory that a walk works in.
+
+ghost use Rattle.std.specs.Prelude.{◌≡◌, length};
+
+use crate::buffers::WalkBuffers;
+use crate::cells::CodedCells;
+use crate::planes::Planes;
+use crate::tile::reconstruct_leaves;
+use av1_blocks::OutOfMemory;
+use av1_frame::{FrameInvariants, Pixel};
+use av1_plan::{Header, Plan};
+use std::alloc::Global;
+use std::marker::Model;
+
+/// The memory that the reconstruction of frames works in, taken once for frames with as many cells as the greatest. Nothing in it is told from
+/// one frame to the next.
+#[derive(Drop)]
+pub struct WalkMemory<T: Pixel> {
+    cells: CodedCells,
+    buffers: WalkBuffers<T>,
+}
+
+impl<T: Pixel> Model for WalkMemory<T> {
+    ghost use Rattle.std.specs.Prelude.{length};
+    ghost use Rattle.av1_tile.specs.Memory.{WalkRoom};
+
+    ghost Value = { WalkRoom };
+
+    ghost view = { λ m. record { cells = length m.cells.cells.items; edges = m.buffers.edges.prepared } };
+}
+
+impl<T: Pixel> WalkMemory<T> {
+    ghost use Rattle.std.specs.Prelude.{◌≡◌, ◌≤◌, ◌*◌, ◌/◌, IfOk, nat_le};
+    ghost use Rattle.av1_plan.specs.Answer.{plan_value};
+    ghost use Rattle.av1_plan.specs.Plan.{PlanValue};
+    ghost use Rattle.av1_tile.specs.Memory.{HasRoomFor, IsPlanOver, ShowsPlan};
+    ghost use Rattle.av1_tile.specs.State.{edges_of};
+    ghost use Rattle.av1_tile.specs.Walk.{HasRoom, SameLayout, StoresAll};
+
+    /// Takes the memory for frames with this header's sides, and for all that have no more cells of 4 by 4 luma samples. No edge has been
+    /// prepared in it yet. An error is want of memory.
+    pub fn new(alloc: Global, header: &Header) -> Result<WalkMemory<T>, OutOfMemory>
+        ensures room { IfOk result (λ m. HasRoomFor header.now m) }
+        ensures edges { IfOk result (λ m. m.edges ≡ 0) }
+    {
+        let cells = CodedCells::new(alloc, header)?;
+        let buffers = WalkBuffers::new(alloc)?;
+        Ok(WalkMemory { cells, buffers })
+    }
+
+    /// Whether the memory has room for frames with this header's sides.
+    pub fn has_room_for(&self, header: &Header) -> bool
+        ensures { result ≡ nat_le (header.now.height / 4 * (header.now.width / 4)) self.now.cells }
+    {
+        usize::from(header.height / 4) * usize::from(header.width / 4) <= self.cells.cells.len()
+    }
+
+    /// How many edges were prepared in the memory, up to the last value of a `u64`.
+    pub fn edges(&self) -> u64
+        ensures { result ≡ self.now.edges }
+    {
+        self.buffers.edges.prepared()
+    }
+
+    /// Reconstructs the leaves of a valid plan that is kept apart from its header and its references: the leaves are those of `leaves`, the
+    /// header is `header`, and the frame settings `fi` serve the references. The visible samples of the planes are then those of the slow
+    /// definition, whatever they were before.
+    ///
+    /// The planes store a frame with this header, with room for whole superblocks. They go on doing so, laid out as before.
+    pub fn reconstruct(
+        &mut self,
+        planes: &mut Planes<T>,
+        fi: &FrameInvariants<T>,
+        header: &Header,
+        leaves: &Plan,
+    )
+        requires plan { (plan : PlanValue) × IsPlanOver T.num header.now (plan_value leaves.now).leaves fi.now plan }
+        requires depth { header.now.depth ≤ T.BITS }
+        requires room { HasRoomFor header.now self.old }
+        requires stores { StoresAll T.num header.now planes.old }
+        requires superblocks { HasRoom header.now planes.old }
+        ensures shown { (plan : PlanValue) → IsPlanOver T.num header.now (plan_value leaves.now).leaves fi.now plan → ShowsPlan T.num plan planes.new }
+        ensures edges { (plan : PlanValue) → IsPlanOver T.num header.now (plan_value leaves.now).leaves fi.now plan → self.new.edges ≡ edges_of self.old.edges plan }
+        ensures stores { StoresAll T.num header.now planes.new }
+        ensures layout { SameLayout planes.old planes.new }
+        ensures cells { self.new.cells ≡ self.old.cells }
+    {
+        self.cells.lay_out(header);
+        reconstruct_leaves(
+            planes,
+            &mut self.cells,
+            &mut self.buffers,
+            fi,
+            header,
+            leaves,
+        );
+    }
+}
