@@ -1,12 +1,11 @@
 -- What reading a grid of tiles and joining its tiles say of its bytes.
-use Rattle.std.proofs.Common.{◌≡◌, ◌≢◌, ℕ, ◌<◌, ◌≤◌, List, length, get_or, Result, Ok, Err, refl, sym, ap, subst}
-use Rattle.std.proofs.lemmas.List.{get_or_default}
+use Rattle.std.proofs.Common.{◌≡◌, ◌≢◌, ℕ, ◌≤◌, List, length, Result, Ok, Err, refl, sym, ap, subst}
 use Rattle.std.specs.Prelude.{IfOk, IfErr, IsErrAnd}
 use Rattle.av1_plan.specs.declared.error.PlanError.{PlanError}
 use Rattle.av1_plan.specs.declared.error.PlanError.TheVariants as plan_errors
 use Rattle.av1_plan.specs.declared.header.Header.{Header}
 use Rattle.av1_plan.specs.Reading.{Fails}
-use Rattle.av1_streams.specs.Streams.{AreBytes, max_plan_bytes}
+use Rattle.av1_streams.specs.Streams.{max_plan_bytes}
 use Rattle.av1_tile.specs.Output.{visible}
 use Rattle.av1_tiles.specs.declared.error.TilesError.{TilesError}
 use Rattle.av1_tiles.specs.declared.error.TilesError.TheVariants.{ReadFault, TooLong, Malformed, Tile, WriteFault, Memory}
@@ -18,10 +17,6 @@ use Rattle.av1_tiles.specs.Joined.{ComesTo}
 use Rattle.av1_tiles.specs.Outcomes.{AreJoined, HasOutcome}
 use Rattle.av1_tiles.specs.Refusals.{AreGrid, AreRefusedFor, RefusesTiles}
 use Rattle.av1_tiles.specs.Tasks.{HoldFrame}
-
--- numbers that fit a byte wherever they are read
-pub are_bytes : (bytes : List ℕ) → ((i : ℕ) → get_or bytes i 0 < 256) → AreBytes bytes
-are_bytes bytes f k d h = subst (λ (v : ℕ). v < 256) (get_or_default bytes k 0 d h) (f k)
 
 -- bytes that are no grid are refused
 pub no_grid : (bytes : List ℕ) (e : PlanError) → length bytes ≤ max_plan_bytes → Fails e (read_file bytes) → file_error e ≢ Memory → AreRefusedFor bytes (file_error e)

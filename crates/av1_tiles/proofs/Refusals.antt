@@ -6,7 +6,7 @@ use Rattle.av1_plan.specs.Format.{Reading, on_ok, ended, read, start}
 use Rattle.av1_plan.specs.Plan.{PlanValue}
 use Rattle.av1_plan.specs.Spelling.{IsSpelled}
 use Rattle.av1_plan.specs.Validity.{first_fault}
-use Rattle.av1_plan.proofs.Spelled.{one_text, read_spells}
+use Rattle.av1_plan.proofs.Spelled.{bind_ok, ok, ok_is, one_text, read_spells}
 use Rattle.av1_recon.proofs.Outcomes.{byte_fits, same_place}
 use Rattle.av1_tiles.specs.declared.error.TileFault.{TileFault}
 use Rattle.av1_tiles.specs.declared.error.TileFault.TheVariants as faults
@@ -17,13 +17,7 @@ use Rattle.av1_tiles.specs.Refusals.{AreGrid, AreRefusedFor, IsFirstRefused}
 use Rattle.av1_tiles.specs.Tiles.{tile_plan, part_of}
 use Rattle.av1_tiles.specs.Validity.{IsTile, IsRefusedTile}
 
-abbrev ok : {A : Type 0} → A → Reading A
-ok x = Ok x
-
 -- ---- grids
-
-ok_is : {A : Type 0} (x y : A) → ok x ≡ ok y → x ≡ y
-ok_is x y e = cc
 
 pub clash : {A : Type 0} (x : A) (at : ℕ) → ok x ≡ Err at → ⊥
 clash x at e = cc
@@ -31,10 +25,6 @@ clash x at e = cc
 err_is : {A : Type 0} (a b : ℕ) (r : Reading A) → r ≡ Err a → r ≡ Err b → a ≡ b
 err_is a b (Ok x) e d = absurd cc
 err_is a b (Err at) e d = cc
-
-went_on : {A B : Type 0} (r : Reading A) (f : A → Reading B) (y : B) → on_ok r f ≡ Ok y → (x : A) × (r ≡ Ok x) × (f x ≡ Ok y)
-went_on (Ok x) f y e = (x, refl, e)
-went_on (Err at) f y e = absurd cc
 
 ended_at : {A : Type 0} (b : Bool) (x y : A) (at : ℕ) → cond b (ok x) (Err at) ≡ ok y → x ≡ y
 ended_at true x y at e = ok_is x y e
@@ -44,8 +34,8 @@ ended_at false x y at e = absurd cc
 pub front_spelled : (bytes : List ℕ) (f : FileValue) → AreGrid bytes f → IsSpelled front f.front
 unfolding read_file
 front_spelled bytes f grid =
-    let (x, is, rest) = went_on (read front (start bytes)) (λ p. on_ok (read_parts (count_tiles p.0) ([], p.1)) (λ q. ended (record { front = p.0; parts = q.0 }, q.1))) f grid.read in
-    let (y, parts, end) = went_on (read_parts (count_tiles x.0) ([], x.1)) (λ q. ended (record { front = x.0; parts = q.0 }, q.1)) f rest in
+    let (x, is, rest) = bind_ok (read front (start bytes)) (λ p. on_ok (read_parts (count_tiles p.0) ([], p.1)) (λ q. ended (record { front = p.0; parts = q.0 }, q.1))) f grid.read in
+    let (y, parts, end) = bind_ok (read_parts (count_tiles x.0) ([], x.1)) (λ q. ended (record { front = x.0; parts = q.0 }, q.1)) f rest in
     let whole : FileValue = record { front = x.0; parts = y.0 } in
     let same = ended_at (eqb (length y.1.rest) 0) whole f y.1.at end in
     let (values, spells, _) = read_spells front (start bytes) x.0 x.1 (byte_fits bytes grid.fits) is in

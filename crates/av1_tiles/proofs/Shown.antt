@@ -1,5 +1,5 @@
 -- What a frame shows once a tile was placed in it.
-use Rattle.std.proofs.Common.{◌≡◌, ◌≢◌, ℕ, ◌+◌, ◌/◌, ◌^◌, ◌<◌, inl, inr, false, refl, sym, ap, subst, ◌∙◌, arith, slice_index, lit<}
+use Rattle.std.proofs.Common.{◌≡◌, ◌≢◌, ℕ, ◌+◌, ◌/◌, ◌^◌, ◌<◌, inl, inr, false, refl, sym, ap, subst, ◌∙◌, arith, slice_index}
 use Rattle.av1_lists.specs.Lists.{by_index}
 use Rattle.av1_frame.specs.declared.plane.Plane.{Plane}
 use Rattle.av1_frame.specs.Areas.{in_visible}
@@ -13,26 +13,22 @@ use Rattle.av1_tile.specs.Canvas.{Component, Y, U, V}
 use Rattle.av1_tile.specs.Edge.{sample_of}
 use Rattle.av1_tile.specs.PlaneBlocks.{number, component}
 use Rattle.av1_tile.specs.Reference.{slow_walk}
-use Rattle.av1_tile.specs.State.{Picture, state_row, ShowsRows}
+use Rattle.av1_tile.specs.Memory.{ShowsPlan}
 use Rattle.av1_tile.specs.Walk.{AreFrame, IsPlaneOf, plane_of, samples_of}
+use Rattle.av1_tile.proofs.Agreement.{listed_same}
 use Rattle.av1_tiles.specs.declared.area.TileArea.{TileArea}
 use Rattle.av1_tiles.specs.declared.file.Front.{Front}
 use Rattle.av1_tiles.specs.declared.file.TileFile.{TileFile}
 use Rattle.av1_tiles.specs.Bounds.{IsReadFront, IsReadFile}
 use Rattle.av1_tiles.specs.File.{front_value, file_value}
 use Rattle.av1_tiles.specs.Grammar.{FrontValue, FileValue, count_tiles}
-use Rattle.av1_tiles.specs.Joined.{tile_rectangle, ShowsTile}
+use Rattle.av1_tiles.specs.Joined.{row_in, tile_rectangle, ShowsTile}
 use Rattle.av1_tiles.specs.Tiles.{IsTileArea, tile_area, tile_header, corner_column, corner_row}
 use Rattle.av1_tiles.specs.Validity.{IsTile}
 use Rattle.av1_tiles.proofs.Isolation.{tile_header_is}
 use Rattle.av1_tiles.proofs.Placing.{outside, placed_fits, placed_sample}
 use Rattle.av1_tiles.proofs.Apart.{IsApart, area_is, tiles_apart}
 use Rattle.av1_tiles.proofs.Rectangles.{columns_within, rows_within, tile_width, tile_height, xdec_small, ydec_small}
-
-below_three : (c : Component) → number c < 3
-below_three Y = lit< tt
-below_three U = lit< tt
-below_three V = lit< tt
 
 same_component : (c : Component) → component (number c) ≡ c
 same_component Y = refl
@@ -45,21 +41,22 @@ frame_plane h planes are U = are.u
 frame_plane h planes are V = are.v
 
 -- the samples of the tile that was placed are those of its plan
-pub shows_own : {T : Type 0} (num : T → ℕ) (pixel : ℕ → T) → ((v : T) → pixel (num v) ≡ v) → ((v : ℕ) → num (pixel v) ≡ v) → (f : FrontValue) (i : ℕ) (plan : PlanValue) (s : Picture T) (old new : Planes T)
-    → AreFrame f.header old → IsTileArea f.header (tile_area f i) → ShowsRows num plan s → tile_header f.header (tile_area f i) ≡ plan.header
-    → ((c : Component) → plane_of c new ≡ painted_plane (plane_of c old) (tile_rectangle f.header (tile_area f i) (number c)) (λ r k _. pixel (slice_index (state_row num s (number c) r) k)))
+pub shows_own : {T : Type 0} (num : T → ℕ) (pixel : ℕ → T) → ((v : T) → pixel (num v) ≡ v) → ((v : ℕ) → num (pixel v) ≡ v) → (f : FrontValue) (i : ℕ) (plan : PlanValue) (own : Header) (q old new : Planes T)
+    → AreFrame f.header old → IsTileArea f.header (tile_area f i) → ShowsPlan num plan q → own ≡ plan.header → tile_header f.header (tile_area f i) ≡ plan.header
+    → ((c : Component) → plane_of c new ≡ painted_plane (plane_of c old) (tile_rectangle f.header (tile_area f i) (number c)) (λ r k _. pixel (slice_index (row_in num own q (number c) r) k)))
     → ShowsTile f i plan (samples_of num new)
-shows_own num pixel back there f i plan s old new are area rows header placed c x y lx ly =
+shows_own num pixel back there f i plan own q old new are area shows same header placed c x y lx ly =
     let p = number c in
     let a = tile_rectangle f.header (tile_area f i) p in
     let fits = placed_fits f.header (tile_header f.header (tile_area f i)) (tile_area f i) p _ _ (plane_of c old) (frame_plane f.header old are c) area refl refl refl in
     let inside : y < plane_height plan.header p = subst (λ (h : Header). y < plane_height h p) header ly in
-    let row : state_row num s p y ≡ by_index a.width (λ x. sample_of (slow_walk plan c x y)) =
-    rows p y (below_three c) inside
-    ∙ ap (λ (k : Component). by_index (plane_width plan.header p) (λ x. sample_of (slow_walk plan k x y))) (same_component c)
+    let row : row_in num own q p y ≡ by_index a.width (λ x. sample_of (slow_walk plan c x y)) =
+    ap (λ (h : Header). by_index (plane_width h p) (λ x. samples_of num q (component p) x y)) same
+    ∙ ap (λ (k : Component). by_index (plane_width plan.header p) (λ x. samples_of num q k x y)) (same_component c)
+    ∙ listed_same (plane_width plan.header p) (λ x. samples_of num q c x y) (λ x. sample_of (slow_walk plan c x y)) (λ x hx. shows c x y hx inside)
     ∙ ap (λ (h : Header). by_index (plane_width h p) (λ x. sample_of (slow_walk plan c x y))) (sym header) in
     ap (λ (q : Plane _). sample_at num q (a.x + x) (a.y + y)) (placed c)
-    ∙ placed_sample num pixel back there (plane_of c old) a (λ r. state_row num s p r) (λ x y. sample_of (slow_walk plan c x y)) fits x y lx ly row
+    ∙ placed_sample num pixel back there (plane_of c old) a (λ r. row_in num own q p r) (λ x y. sample_of (slow_walk plan c x y)) fits x y lx ly row
 
 apart_by : (start count place width : ℕ) → width ≡ count → IsApart start count place → IsApart start width place
 apart_by start count place width same apart = subst (λ (n : ℕ). IsApart start n place) (sym same) apart
@@ -97,15 +94,15 @@ IsPut f i old new =
     × ((other : ℕ) (plan : PlanValue) → other < count_tiles f.front → other ≢ i → ShowsTile f.front other plan old → ShowsTile f.front other plan new)
 
 pub tile_put : {T : Type 0} (num : T → ℕ) (pixel : ℕ → T) → ((v : T) → pixel (num v) ≡ v) → ((v : ℕ) → num (pixel v) ≡ v) → (file : TileFile) → IsReadFile file → (i : ℕ) → i < count_tiles (front_value file.front) → (plan : PlanValue) → IsTile (file_value file) i plan
-    → (s : Picture T) (area : TileArea) (old new : Planes T) → area ≡ tile_area (front_value file.front) i → AreFrame file.front.header old → ShowsRows num plan s
-    → ((c : Component) → plane_of c new ≡ painted_plane (plane_of c old) (tile_rectangle file.front.header area (number c)) (λ r k _. pixel (slice_index (state_row num s (number c) r) k)))
+    → (own : Header) (q : Planes T) (area : TileArea) (old new : Planes T) → area ≡ tile_area (front_value file.front) i → AreFrame file.front.header old → ShowsPlan num plan q → own ≡ plan.header
+    → ((c : Component) → plane_of c new ≡ painted_plane (plane_of c old) (tile_rectangle file.front.header area (number c)) (λ r k _. pixel (slice_index (row_in num own q (number c) r) k)))
     → IsPut (file_value file) i (samples_of num old) (samples_of num new)
-tile_put num pixel back there file read i lt plan is s area old new area_is_it are rows placed =
+tile_put num pixel back there file read i lt plan is own q area old new area_is_it are shows same placed =
     let f = front_value file.front in
-    let put : (c : Component) → plane_of c new ≡ painted_plane (plane_of c old) (tile_rectangle file.front.header (tile_area f i) (number c)) (λ r k _. pixel (slice_index (state_row num s (number c) r) k)) =
-    λ c. placed c ∙ ap (λ (a : TileArea). painted_plane (plane_of c old) (tile_rectangle file.front.header a (number c)) (λ r k _. pixel (slice_index (state_row num s (number c) r) k))) area_is_it in (
+    let put : (c : Component) → plane_of c new ≡ painted_plane (plane_of c old) (tile_rectangle file.front.header (tile_area f i) (number c)) (λ r k _. pixel (slice_index (row_in num own q (number c) r) k)) =
+    λ c. placed c ∙ ap (λ (a : TileArea). painted_plane (plane_of c old) (tile_rectangle file.front.header a (number c)) (λ r k _. pixel (slice_index (row_in num own q (number c) r) k))) area_is_it in (
       plan,
       is,
-      shows_own num pixel back there f i plan s old new are (area_is file.front read.front i lt) rows (tile_header_is (file_value file) i plan is) put,
-      λ other its below differ. shows_other num pixel back file.front read.front i other lt below (λ e. differ (sym e)) its old new (λ c r k _. pixel (slice_index (state_row num s (number c) r) k)) are put,
+      shows_own num pixel back there f i plan own q old new are (area_is file.front read.front i lt) shows same (tile_header_is (file_value file) i plan is) put,
+      λ other its below differ. shows_other num pixel back file.front read.front i other lt below (λ e. differ (sym e)) its old new (λ c r k _. pixel (slice_index (row_in num own q (number c) r) k)) are put,
     )

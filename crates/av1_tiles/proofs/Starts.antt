@@ -1,8 +1,8 @@
 -- Bounds that are spelled rise from 0 to the side of the frame, and the rectangles between them are frames.
-use Rattle.std.proofs.Common.{◌≡◌, ℕ, zero, suc, ◌+◌, ◌-◌, ◌%◌, ◌<◌, ◌≤◌, List, [], ◌∷◌, ◌++◌, length, Ok, Err, refl, sym, ap, subst, ◌∙◌, arith, inl, inr}
+use Rattle.std.proofs.Common.{◌≡◌, ℕ, zero, suc, ◌+◌, ◌-◌, ◌%◌, ◌<◌, ◌≤◌, List, [], ◌∷◌, ◌++◌, length, Ok, refl, sym, ap, subst, ◌∙◌, arith, inl, inr}
 use Rattle.std.specs.Prelude.{slice_index, ◌&&◌, ◌==◌, nat_lt}
 use Rattle.std.proofs.lemmas.Bool.{and_parts, cases_lt, eqb-true, ltb-true}
-use Rattle.av1_plan.specs.Format.{IsAdmitted, done, ◌>>=◌, Input, Reading, on_ok, read_field, read, add}
+use Rattle.av1_plan.specs.Format.{IsAdmitted, done, ◌>>=◌, Input, on_ok, read_field, read, add}
 use Rattle.av1_plan.specs.Grammar.{byte_from}
 use Rattle.av1_plan.specs.ReadPlans.{IsSide}
 use Rattle.av1_plan.specs.Spelling.{IsSpelled}

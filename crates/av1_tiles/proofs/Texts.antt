@@ -7,13 +7,11 @@ use Rattle.std.proofs.lemmas.List.Elements.{All-nil, All-cons, All-head, All-tai
 use Rattle.av1_plan.specs.Format.{four, any, Input, Reading, on_ok, read_field, read, ended, start}
 use Rattle.av1_plan.specs.Spelling.{text, IsPrefix}
 use Rattle.av1_plan.proofs.Fields.{AreBytes, AreBytes-drop, field_takes, field_again, field_fails, length-le}
-use Rattle.av1_plan.proofs.Spelled.{end, no_longer, reaches, read_again, read_spells}
+use Rattle.av1_plan.proofs.Spelled.{bind_ok, end, no_longer, ok, ok_is, reaches, read_again, read_spells}
 use Rattle.av1_recon.proofs.Outcomes.{byte_fits}
 use Rattle.av1_tiles.specs.Grammar.{FrontValue, FileValue, count_tiles, front, read_part, read_parts, read_file}
+use Rattle.av1_tiles.proofs.Refusals.{clash}
 use Rattle.av1_tiles.specs.Texts.{length_text, part_text, IsRun, IsProperText, IsGridText, IsLongestText, FoundAtText, RefusedAtLongest}
-
-abbrev ok : {A : Type 0} → A → Reading A
-ok x = Ok x
 
 -- ---- one part
 
@@ -96,6 +94,7 @@ run_reaches (suc n) before i fits = elim (read_part i) as (λ r. Parted i r → 
 from_here : (n : ℕ) (before : List (List ℕ)) (i : Input) → AreBytes i.rest → i.at ≤ stop (read_parts n (before, i))
 from_here n before i fits = omega (arith, (run_reaches n before i fits).3)
 
+-- where a reading under a condition stopped
 err_at : {A : Type 0} (b : Bool) (x : A) (at d : ℕ) → cond b (ok x) (Err at) ≡ Err d → at ≡ d
 err_at true x at d e = absurd cc
 err_at false x at d e = cc
@@ -134,20 +133,12 @@ run_no_longer (suc n) before i run fits (inr (inr (part, short, (others, proper,
 
 -- ---- the whole
 
-bare : {A : Type 0} (x : A) (at : ℕ) → ok x ≡ Err at → ⊥
-bare x at e = cc
-
--- where a reading that left bytes over, or stopped, came to
-done_err : {A : Type 0} (b : Bool) (x : A) (at d : ℕ) → cond b (ok x) (Err at) ≡ Err d → at ≡ d
-done_err true x at d e = absurd cc
-done_err false x at d e = cc
-
 -- the rest of a file, behind what stands before its parts
 abbrev rest_of : FrontValue × Input → Reading FileValue
 rest_of f = on_ok (read_parts (count_tiles f.0) ([], f.1)) (λ p. ended (record { front = f.0; parts = p.0 }, p.1))
 
 rest_err : (f : FrontValue) (r : Reading (List (List ℕ) × Input)) (at : ℕ) → on_ok {B = FileValue} r (λ p. ended (record { front = f; parts = p.0 }, p.1)) ≡ Err at → stop r ≡ at
-rest_err f (Ok p) at e = done_err (eqb (length p.1.rest) 0) (record { front = f; parts = p.0 }) p.1.at at e
+rest_err f (Ok p) at e = err_at (eqb (length p.1.rest) 0) (record { front = f; parts = p.0 }) p.1.at at e
 rest_err f (Err d) at e = cc
 
 -- what stands before the parts couldn't be read
@@ -166,10 +157,7 @@ front_refused bytes at d fits e same =
     longest came run (inr (f, (values, spells, (others, proper, is)))) (more, parts) =
         let whole : bytes ≡ text front values ++ (others ++ more) = parts ∙ ap (λ (l : List ℕ). l ++ more) is ∙ append_assoc (text front values) others more in
         let again = ap (λ (l : List ℕ). read front (start l)) whole ∙ read_again front values f 0 (others ++ more) spells in
-        absurd (bare (f, _) d (sym again ∙ e))
-
-ok_is : {A : Type 0} (x y : A) → ok x ≡ ok y → x ≡ y
-ok_is x y e = cc
+        absurd (clash (f, _) d (sym again ∙ e))
 
 fits_behind : (bytes front_text rest : List ℕ) → AreBytes bytes → bytes ≡ front_text ++ rest → AreBytes rest
 fits_behind bytes front_text rest fits parts =
@@ -221,10 +209,6 @@ refused_at_longest bytes at fits e = elim (read front (start bytes)) as (λ r. r
 
 -- ---- whole grids
 
-went_on : {A B : Type 0} (r : Reading A) (f : A → Reading B) (y : B) → on_ok r f ≡ Ok y → (x : A) × (r ≡ Ok x) × (f x ≡ Ok y)
-went_on (Ok x) f y e = (x, refl, e)
-went_on (Err at) f y e = absurd cc
-
 done_ok : {A : Type 0} (b : Bool) (x y : A) (at : ℕ) → cond b (ok x) (Err at) ≡ ok y → (b ≡ true) × (x ≡ y)
 done_ok true x y at e = (refl, ok_is x y e)
 done_ok false x y at e = absurd cc
@@ -249,7 +233,7 @@ parts_taken zero before i all j fits e =
       text = ap (λ (q : List (List ℕ) × Input). q.1.rest) same;
     }
 parts_taken (suc n) before i all j fits e =
-    let (p, is, rest) = went_on (read_part i) (λ p. read_parts n (before ++ p.0 ∷ [], p.1)) (all, j) e in
+    let (p, is, rest) = bind_ok (read_part i) (λ p. read_parts n (before ++ p.0 ∷ [], p.1)) (all, j) e in
     let t : TakesPart i p.0 p.1 = subst (Parted i) is (parted i fits) in
     let more = parts_taken n (before ++ p.0 ∷ []) p.1 all j t.fits rest in
     record {
@@ -274,8 +258,8 @@ parts_again (part ∷ parts) before at more short =
 found : (bytes : List ℕ) (f : FileValue) → AreBytes bytes → read_file bytes ≡ Ok f → IsGridText bytes f
 unfolding read_file
 found bytes f fits e =
-    let (p, is, rest) = went_on (read front (start bytes)) rest_of f e in
-    let (q, parts, end) = went_on (read_parts (count_tiles p.0) ([], p.1)) (λ q. ended (record { front = p.0; parts = q.0 }, q.1)) f rest in
+    let (p, is, rest) = bind_ok (read front (start bytes)) rest_of f e in
+    let (q, parts, end) = bind_ok (read_parts (count_tiles p.0) ([], p.1)) (λ q. ended (record { front = p.0; parts = q.0 }, q.1)) f rest in
     let whole : FileValue = record { front = p.0; parts = q.0 } in
     let over = done_ok (eqb (length q.1.rest) 0) whole f q.1.at end in
     let nothing : q.1.rest ≡ [] = nil_from_length q.1.rest (eqb-true (length q.1.rest) 0 over.0) in

@@ -1,13 +1,16 @@
 -- The frame that its tiles come to.
-use Rattle.std.specs.Prelude.{◌≡◌, ℕ, ◌+◌, ◌<◌}
+use Rattle.std.specs.Prelude.{◌≡◌, ℕ, ◌+◌, ◌<◌, List}
+use Rattle.av1_lists.specs.Lists.{by_index}
 use Rattle.av1_frame.specs.Areas.{VisibleArea}
 use Rattle.av1_plan.specs.declared.header.Header.{Header}
 use Rattle.av1_plan.specs.Geometry.{plane_width, plane_height}
 use Rattle.av1_plan.specs.Plan.{PlanValue}
+use Rattle.av1_tile.specs.declared.planes.Planes.{Planes}
 use Rattle.av1_tile.specs.Canvas.{Component}
-use Rattle.av1_tile.specs.PlaneBlocks.{number}
+use Rattle.av1_tile.specs.PlaneBlocks.{component, number}
 use Rattle.av1_tile.specs.Edge.{sample_of}
 use Rattle.av1_tile.specs.Reference.{slow_walk}
+use Rattle.av1_tile.specs.Walk.{samples_of}
 use Rattle.av1_tiles.specs.declared.area.TileArea.{TileArea}
 use Rattle.av1_tiles.specs.Grammar.{FrontValue, FileValue, count_tiles}
 use Rattle.av1_tiles.specs.Tiles.{tile_area, tile_header, corner_column, corner_row}
@@ -16,6 +19,10 @@ use Rattle.av1_tiles.specs.Validity.{AreTiles}
 -- the rectangle of a plane from column x of row y on that has the sides of plane p of a frame
 abbrev pub placed : Header → (p x y : ℕ) → VisibleArea
 placed h p x y = record { x = x; y = y; width = plane_width h p; height = plane_height h p }
+
+-- row y of the visible plane p of a frame
+abbrev pub row_in : {T : Type 0} → (T → ℕ) → Header → Planes T → (p y : ℕ) → List ℕ
+row_in num h planes p y = by_index (plane_width h p) (λ x. samples_of num planes (component p) x y)
 
 -- a tile's rectangle of plane p of its frame
 abbrev pub tile_rectangle : Header → TileArea → (p : ℕ) → VisibleArea

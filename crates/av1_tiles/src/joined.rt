@@ -16,10 +16,9 @@ ghost use Rattle.av1_tiles.specs.Validity.{IsTile, RefusesTile};
 use crate::error::{TileError, TilesError};
 use crate::file::TileFile;
 use crate::frame::reconstruct_in;
-use av1_blocks::OutOfMemory;
 use av1_frame::Pixel;
 use av1_plan::Header;
-use av1_tile::{Planes, plane_of_frame};
+use av1_tile::{Planes, WalkMemory};
 use std::alloc::Global;
 
 /// The planes of a frame, in samples as narrow as its depth allows.
@@ -40,17 +39,6 @@ pub struct Frame {
     pub samples: Samples,
 }
 
-/// Planes of zeros with the sides of a frame.
-fn new_planes<T: Pixel>(alloc: Global, header: &Header) -> Result<Planes<T>, OutOfMemory>
-    requires frame { IsReadFrame header.now }
-    ensures { IfOk result (λ planes. AreFrame header.now planes) }
-{
-    let y = plane_of_frame(alloc, header, 0)?;
-    let u = plane_of_frame(alloc, header, 1)?;
-    let v = plane_of_frame(alloc, header, 2)?;
-    Ok(Planes { y, u, v })
-}
-
 /// What an error of tile number `tile` is for its grid, which has fewer than 65,536 tiles.
 fn tile_error(tile: usize, error: TileError) -> TilesError
     requires { tile < 65536 }
@@ -66,7 +54,7 @@ fn tile_error(tile: usize, error: TileError) -> TilesError
 }
 
 /// The planes that the tiles of a grid come to: each tile is reconstructed from its own part, one after the other in raster order, and put
-/// into its rectangle of each plane.
+/// into its rectangle of each plane. The planes of the frame, and the memory that tiles are reconstructed in, are taken once for all of them.
 ///
 /// # Errors
 ///
@@ -78,9 +66,10 @@ pub fn join_tiles<T: Pixel>(alloc: Global, file: &TileFile<'_>) -> Result<Planes
     ensures joined { IfOk result (λ planes. ComesTo (file_value file.now) (samples_of T.num planes)) }
     ensures refused { IfErr result (λ e. RefusesTiles (file_value file.now) e) }
 {
-    let mut planes = new_planes(alloc, &file.front.header)?;
+    let mut planes = Planes::new(alloc, &file.front.header, 0)?;
+    let mut memory = WalkMemory::new(alloc, &file.front.header)?;
     for index in 0..file.parts.len() {
-        if let Err(error) = reconstruct_in(alloc, &mut planes, file, index) {
+        if let Err(error) = reconstruct_in(alloc, &mut planes, file, index, &mut memory) {
             return Err(tile_error(index, error));
         }
     }

@@ -12,7 +12,8 @@
 //! it: Ok only where the bytes are a grid of valid tiles, and then exactly the bytes of the joined planes were appended; a refusal exactly where
 //! it is the outcome of the bytes, of the container before its tiles and of the first faulty tile before the others. [`read_tiles`] gives the
 //! grid that bytes are, or names the first field at fault; [`read_tile`] gives a tile's valid plan, or why there is none; [`place_tile`] writes
-//! what a state shows into the tile's rectangle of each plane, and nothing else.
+//! a tile's planes into the tile's rectangle of each plane, and nothing else. The planes of the frame and the memory that tiles are reconstructed in
+//! are taken once.
 #![tactic(auto)]
 
 mod area;
@@ -30,7 +31,7 @@ pub use area::TileArea;
 pub use container::read_tiles;
 pub use error::{TileError, TileFault, TilesError};
 pub use file::{Front, TileFile};
-pub use frame::{place_tile, reconstruct_in};
+pub use frame::{TilePicture, place_tile, reconstruct_alone, reconstruct_in};
 pub use joined::{Frame, Samples, join_frame, join_tiles};
 pub use laws::{grids_are_texts, outcomes_are_one, tiles_are_isolated};
 pub use reconstruct::reconstruct_tiles;

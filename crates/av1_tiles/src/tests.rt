@@ -1,6 +1,13 @@
+ghost use Rattle.std.specs.Prelude.{◌≡◌, ◌≤◌, None};
+ghost use Rattle.av1_plan.specs.Answer.{plan_value};
+ghost use Rattle.av1_plan.specs.Validity.{first_fault};
+ghost use Rattle.av1_tile.specs.Memory.{HasRoomFor};
+
 use super::*;
-use av1_plan::PlanError;
+use av1_plan::{Plan, PlanError};
+use av1_recon::{write_frame, write_planes};
 use av1_streams::{MemSink, SliceSource};
+use av1_tile::{TileState, WalkMemory, reconstruct_tile};
 use std::alloc::Global;
 use std::test::Fail;
 
@@ -134,5 +141,52 @@ fn a_start_that_is_no_multiple_of_64_is_malformed(rt: HostRuntime) -> Result<(),
     bytes[21] = 72;
     let answer = run(rt.alloc(), &bytes, &[], &mut sink);
     assert!(rt; matches!(answer, Err(TilesError::Malformed { at: 21 })));
+    Ok(())
+}
+
+/// Appends the planes of a plan that is reconstructed in this memory.
+fn write_shared(
+    alloc: Global,
+    plan: &Plan,
+    memory: &mut WalkMemory<u8>,
+    sink: &mut MemSink<'_>,
+) -> Result<(), Fail>
+    requires valid { first_fault (plan_value plan.now) ≡ None }
+    requires depth { (plan_value plan.now).header.depth ≤ 8 }
+    requires room { HasRoomFor (plan_value plan.now).header memory.old }
+{
+    let tile = reconstruct_alone(alloc, plan, memory)?;
+    write_frame(&tile.header, &tile.planes, sink)?;
+    Ok(())
+}
+
+/// Appends the planes of a plan that is reconstructed in a new state.
+fn write_fresh(alloc: Global, plan: &Plan, sink: &mut MemSink<'_>) -> Result<(), Fail>
+    requires valid { first_fault (plan_value plan.now) ≡ None }
+    requires depth { (plan_value plan.now).header.depth ≤ 8 }
+{
+    let mut state = TileState::<u8>::new(alloc, plan)?;
+    reconstruct_tile(&mut state, plan);
+    write_planes(&state, sink)?;
+    Ok(())
+}
+
+/// One after the other, tiles of 64, 24 and again 64 columns: each shows what a new state does.
+#[test]
+fn one_memory_serves_tiles_of_several_sizes(rt: HostRuntime) -> Result<(), Fail> {
+    let mut bytes = TWO_TILES;
+    bytes[4] = 88;
+    let file = read_tiles(rt.alloc(), &bytes)?;
+    assert_eq!(rt; file.parts.len(), 2);
+    let mut memory = WalkMemory::new(rt.alloc(), &file.front.header)?;
+    for turn in 0..3 {
+        let plan = read_tile(rt.alloc(), &file, turn % 2)?;
+        assert!(rt; plan.header().depth == 8 && memory.has_room_for(plan.header()));
+        let mut shared = MemSink::new(rt.alloc(), 4096, 100, &[])?;
+        write_shared(rt.alloc(), &plan, &mut memory, &mut shared)?;
+        let mut fresh = MemSink::new(rt.alloc(), 4096, 100, &[])?;
+        write_fresh(rt.alloc(), &plan, &mut fresh)?;
+        assert!(rt; shared.bytes() == fresh.bytes());
+    }
     Ok(())
 }

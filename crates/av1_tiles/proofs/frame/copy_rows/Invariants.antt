@@ -1,7 +1,7 @@
 use Rattle.std.proofs.Common.{◌≡◌, slice_index}
 use Rattle.av1_frame.specs.Regions.{painted}
-use Rattle.av1_tile.specs.State.{state_row}
+use Rattle.av1_tiles.specs.Joined.{row_in}
 use Rattle.av1_tiles.proofs.frame.copy_rows.Given as goal
 
 abbrev pub invariant-loop-r : goal.invariant-loop-r
-invariant-loop-r g l = l.output ≡ painted l.initial.output l.width l.r (λ r c _. g.T.Pixel.pixel (slice_index (state_row g.T.Pixel.num l.state l.p r) c))
+invariant-loop-r g l = l.output ≡ painted l.initial.output l.width l.r (λ r c _. g.T.Pixel.pixel (slice_index (row_in g.T.Pixel.num l.tile.header l.tile.planes l.p r) c))

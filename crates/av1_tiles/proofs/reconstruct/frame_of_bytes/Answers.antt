@@ -1,7 +1,8 @@
 use Rattle.std.proofs.Common.{arith}
 use Rattle.av1_tiles.specs.File.{file_value}
 use Rattle.av1_tiles.specs.Refusals.{AreGrid}
-use Rattle.av1_tiles.proofs.Grids.{are_bytes, joined_found, joined_refused, read_refused}
+use Rattle.av1_streams.proofs.Reading.{are_bytes}
+use Rattle.av1_tiles.proofs.Grids.{joined_found, joined_refused, read_refused}
 use Rattle.av1_tiles.proofs.reconstruct.frame_of_bytes.Goals as goal
 
 pub returns-clause-found : goal.returns-clause-found
