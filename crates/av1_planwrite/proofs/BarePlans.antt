@@ -9,14 +9,14 @@ use Rattle.av1_plan.specs.declared.error.Invalid.{Invalid}
 use Rattle.av1_plan.specs.declared.error.InvalidKind.{InvalidKind}
 use Rattle.av1_plan.specs.declared.header.Header.{Header}
 use Rattle.av1_plan.specs.declared.leaf.Triple.{Triple}
-use Rattle.av1_plan.specs.Format.{one, two, any, Format, done, ◌>>=◌, lone, nothing, ◌++>◌, in_turn}
+use Rattle.av1_plan.specs.Format.{two, any, Format, done, ◌>>=◌, lone, nothing, ◌++>◌, in_turn}
 use Rattle.av1_plan.specs.Geometry.{is_inside, carries_chroma}
-use Rattle.av1_plan.specs.Grammar.{leaf_kind, tx_size, tx_type, uv_type, triple, triples, chroma_triples, leaf, half_side, quarter_side, whole_size, part_size, part, mark, wide_stripes, tall_stripes, parts, block, superblock_row, superblocks, header, references, plan}
+use Rattle.av1_plan.specs.Grammar.{leaf_kind, tx_size, tx_type, uv_type, triple, triples, chroma_triples, leaf, part, mark, wide_stripes, tall_stripes, parts, block, superblock_row, superblocks, header, references, plan}
 use Rattle.av1_plan.specs.Plan.{LeafValue, PlanValue}
 use Rattle.av1_plan.specs.Spelling.{IsSpelled, AreText, text}
 use Rattle.av1_plan.specs.Validity.{has_block_size, has_transforms, has_modes, has_vectors, has_references, has_coefficients, has_plane_coefficients, are_coefficients, rise, fault_of, fault_from, first_fault, or_later}
 use Rattle.av1_plan.proofs.Composed.{done_spelled, bind_spelled, asks_spelled, lone_spelled, both_spelled}
-use Rattle.av1_plan.proofs.Pieces.{spelled_done, spelled_bind, spelled_lone, spelled_both, spelled_where, spelled_nothing}
+use Rattle.av1_plan.proofs.Pieces.{spelled_done, spelled_bind, spelled_lone, spelled_both, spelled_nothing}
 use Rattle.av1_planwrite.specs.Bare.{none_of, bare_leaf, bare, bare_text}
 use Rattle.av1_planwrite.proofs.PlanTexts.{plan_told}
 

@@ -1,8 +1,7 @@
 -- The bytes of a leaf that is spelled are its text.
-use Rattle.std.proofs.Common.{◌≡◌, ℕ, ◌+◌, ◌<◌, ◌≤◌, ◌^◌, Bool, true, false, if◌then◌else◌, List, [], ◌∷◌, ◌++◌, length, Option, Some, None, refl, sym, ap, subst, ◌∙◌, append_assoc, arith, w8, w16, w32, slice_index_or}
+use Rattle.std.proofs.Common.{◌≡◌, ℕ, ◌<◌, ◌≤◌, ◌^◌, Bool, true, false, if◌then◌else◌, List, [], ◌∷◌, ◌++◌, length, Option, Some, refl, sym, ap, ◌∙◌, append_assoc, arith, w8, w16, w32, slice_index_or}
 use Rattle.std.specs.Prelude.{nat_lt, ◌==◌, is_some}
-use Rattle.std.specs.List.{flat_map}
-use Rattle.std.specs.Int.{to_le_bytes, cast_signed, cast_unsigned}
+use Rattle.std.specs.Int.{cast_signed, cast_unsigned}
 use Rattle.std.proofs.lemmas.Int.{of_z-to_z}
 use Rattle.std.proofs.lemmas.Bool.{eqb-true, ltb-true}
 use Rattle.std.proofs.lemmas.List.{append-nil}
@@ -10,7 +9,6 @@ use Rattle.av1_lists.proofs.Below.{below}
 use Rattle.av1_blocks.specs.declared.mc.MotionVector.{MotionVector}
 use Rattle.av1_blocks.specs.declared.partition.BlockSize.{BlockSize}
 use Rattle.av1_blocks.specs.declared.partition.RefType.{RefType}
-use Rattle.av1_blocks.specs.declared.predict.PredictionMode.{PredictionMode}
 use Rattle.av1_blocks.specs.declared.transform.TxSize.{TxSize}
 use Rattle.av1_blocks.specs.declared.transform.TxSize.TheVariants.{TX_4X4}
 use Rattle.av1_blocks.specs.declared.transform.TheConstants.TxSize as tx_sizes
@@ -26,13 +24,12 @@ use Rattle.av1_plan.specs.declared.leaf.ChromaMode.{ChromaMode}
 use Rattle.av1_plan.specs.declared.leaf.ChromaMode.TheVariants.{Plain, Cfl}
 use Rattle.av1_plan.specs.declared.leaf.LeafKind.{LeafKind}
 use Rattle.av1_plan.specs.declared.leaf.LeafKind.TheVariants.{Intra, Single, Compound}
-use Rattle.av1_plan.specs.Format.{one, two, four, any, Format, done, asks, ◌>>=◌, field, lone, in_turn}
+use Rattle.av1_plan.specs.Format.{one, two, four, any, Format, done, ◌>>=◌, field}
 use Rattle.av1_plan.specs.Geometry.{carries_chroma}
 use Rattle.av1_plan.specs.Grammar as grammar
-use Rattle.av1_plan.specs.Plan.{LeafValue}
 use Rattle.av1_plan.specs.Spelling.{Spells, text}
 use Rattle.av1_plan.proofs.Carried.{apart}
-use Rattle.av1_plan.proofs.Numbers.{mode_of, reference_of_number, mode_number_is, reference_number_is}
+use Rattle.av1_plan.proofs.Numbers.{mode_of, mode_number_is, reference_number_is}
 use Rattle.av1_plan.proofs.ReadFrames.{range_is}
 use Rattle.av1_planwrite.specs.Text.{byte, pair, quad, motion_text, motions_text, chroma_text, kind_text, uv_type_text, triple_text, triples_text, chroma_triples_text, fields_text, leaf_text}
 use Rattle.av1_planwrite.proofs.Told.{ended, asked, Tells, turns_tell, turns_count, two_parts, last_part}

@@ -1,9 +1,9 @@
 -- The leaves of a plan in memory that are left to be written.
-use Rattle.std.proofs.Common.{◌≡◌, ℕ, zero, suc, ◌+◌, ◌-◌, ◌≤◌, ◌<◌, ◌^◌, Bool, true, false, inl, inr, List, [], ◌∷◌, ◌++◌, length, take, drop, get_or, map, Option, Some, None, slice_index_or, refl, sym, ap, subst, ◌∙◌, arith}
+use Rattle.std.proofs.Common.{◌≡◌, ℕ, zero, suc, ◌+◌, ◌-◌, ◌≤◌, ◌<◌, true, false, inl, inr, List, [], ◌∷◌, ◌++◌, length, take, drop, get_or, map, Some, None, slice_index_or, refl, sym, ap, ◌∙◌, arith}
 use Rattle.std.specs.Prelude.{slice_get, sum}
 use Rattle.std.proofs.Math.Seq.{drop-cons}
 use Rattle.std.proofs.lemmas.Bool.{cases_lt}
-use Rattle.std.proofs.lemmas.List.{length-map, get_or-map, length-take}
+use Rattle.std.proofs.lemmas.List.{length-map, length-take}
 use Rattle.std.proofs.lemmas.Option.{slice_get_within, get_or_from_slice_get, slice_get-map}
 use Rattle.av1_blocks.specs.declared.partition.PartitionType.TheVariants.{PARTITION_NONE}
 use Rattle.av1_plan.specs.declared.header.Header.{Header}
@@ -12,7 +12,7 @@ use Rattle.av1_plan.specs.declared.leaf.Leaf.{Leaf}
 use Rattle.av1_plan.specs.declared.leaf.Triple.{Triple}
 use Rattle.av1_plan.specs.declared.plan.Plan.{Plan}
 use Rattle.av1_plan.specs.Answer.{plan_value, stored_leaves, stored_triples}
-use Rattle.av1_plan.specs.Plan.{LeafValue, PlanValue, leaf_value, leaf_values, triples_of, cut}
+use Rattle.av1_plan.specs.Plan.{LeafValue, leaf_value, leaf_values, triples_of, cut}
 use Rattle.av1_plan.proofs.Spans.{stored_leaf, triples_of_leaf, length-leaf_values, stored_triples_at}
 use Rattle.av1_planwrite.specs.Bare.{none_of, bare_leaf}
 use Rattle.av1_planwrite.specs.Text.{byte, Draft, fields_text, leaf_text, cut_of, mark_of, leaf_written, part_written, next_cut, parts_written, block_written}

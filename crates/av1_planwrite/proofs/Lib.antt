@@ -10,3 +10,15 @@ pub mod BarePlans
 pub mod Spelled
 pub mod Packed
 pub mod MarkTrees
+pub mod Fronts
+pub mod Stacks
+pub mod Items
+pub mod LeftSuperblocks
+pub mod FormatLaws
+pub mod AskedParts
+pub mod NextSlots
+pub mod AskedSteps
+pub mod BuilderParts
+pub mod ReadHeaders
+pub mod GivenLeaves
+pub mod Telling

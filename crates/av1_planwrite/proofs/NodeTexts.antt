@@ -1,7 +1,7 @@
 -- What is written of nodes is the bytes that the plan grammar spells of them.
-use Rattle.std.proofs.Common.{◌≡◌, ℕ, zero, suc, ◌+◌, ◌*◌, ◌/◌, ◌^◌, ◌<◌, ◌≤◌, Bool, true, false, if◌then◌else◌, inl, inr, List, [], ◌∷◌, ◌++◌, refl, sym, ap, subst, ◌∙◌, append_assoc, arith, lit≤}
+use Rattle.std.proofs.Common.{◌≡◌, ℕ, zero, suc, ◌+◌, ◌*◌, ◌/◌, ◌^◌, ◌≤◌, Bool, true, false, if◌then◌else◌, inl, inr, List, [], ◌∷◌, ◌++◌, refl, sym, ap, subst, ◌∙◌, append_assoc, arith, lit≤}
 use Rattle.std.specs.Prelude.{◌==◌, nat_le, ◌&&◌}
-use Rattle.std.specs.Int.{to_le_bytes, is_in_range}
+use Rattle.std.specs.Int.{is_in_range}
 use Rattle.std.proofs.lemmas.Bool.{ne_eqb, or_cases, and_parts, leb-true}
 use Rattle.std.proofs.lemmas.List.{append-nil}
 use Rattle.std.proofs.lemmas.Nat.{pow_pos}
@@ -21,10 +21,10 @@ use Rattle.av1_plan.specs.Spelling.{Spells, IsSpelled, text}
 use Rattle.av1_plan.proofs.Carried.{apart}
 use Rattle.av1_plan.proofs.Marks.{striped_is}
 use Rattle.av1_plan.proofs.NodeLeaves.{HasCells, whole_cells, wide_cells, tall_cells, wide_stripe_cells, tall_stripe_cells}
-use Rattle.av1_plan.proofs.Pieces.{spelled_lone, spelled_both, spelled_where, spelled_bind, spelled_asks}
+use Rattle.av1_plan.proofs.Pieces.{spelled_lone, spelled_both, spelled_where, spelled_asks}
 use Rattle.av1_plan.proofs.ReadLeaves.{leaf_place}
 use Rattle.av1_planwrite.specs.Text.{byte, leaf_text, cut_by_sides, cut_of, mark_of, Draft, leaf_written, part_written, next_cut, parts_written, block_written, in_turn, row_written, superblocks_written}
-use Rattle.av1_planwrite.proofs.Told.{ended, asked, Tells}
+use Rattle.av1_planwrite.proofs.Told.{ended, asked}
 use Rattle.av1_planwrite.proofs.LeafTexts.{leaf_told}
 
 -- ---- steps that turn a format round

@@ -1,5 +1,5 @@
 -- The bytes of a plan are its text.
-use Rattle.std.proofs.Common.{◌≡◌, ℕ, ◌+◌, ◌<◌, ◌≤◌, ◌^◌, Bool, true, false, if◌then◌else◌, inl, inr, List, [], ◌∷◌, ◌++◌, Option, Some, None, refl, sym, ap, subst, ◌∙◌, append_assoc, arith, w8, w16, w32, slice_index_or}
+use Rattle.std.proofs.Common.{◌≡◌, ℕ, ◌<◌, ◌≤◌, ◌^◌, Bool, true, false, if◌then◌else◌, inl, inr, List, [], ◌∷◌, ◌++◌, Option, Some, None, refl, sym, ap, subst, ◌∙◌, append_assoc, arith, w32}
 use Rattle.std.specs.Prelude.{◌==◌, codes, nat_lt}
 use Rattle.std.specs.List.{flat_map}
 use Rattle.std.specs.Int.{from_le_bytes, to_le_bytes}
@@ -7,12 +7,12 @@ use Rattle.std.proofs.lemmas.Bool.{eqb-true, eqb-false, or_cases}
 use Rattle.std.proofs.lemmas.List.{append-nil}
 use Rattle.av1_blocks.specs.Filters.{filter_number}
 use Rattle.av1_plan.specs.declared.header.Header.{Header}
-use Rattle.av1_plan.specs.Format.{one, two, four, any, Kind, width, Format, done, asks, ◌>>=◌, field, lone}
+use Rattle.av1_plan.specs.Format.{one, two, any, Kind, width, Format, done, ◌>>=◌, field}
 use Rattle.av1_plan.specs.Geometry.{plane_len, has_slot}
 use Rattle.av1_plan.specs.Grammar.{where_, is_magic, version_of}
 use Rattle.av1_plan.specs.Grammar as grammar
 use Rattle.av1_plan.specs.Plan.{LeafValue, PlanValue}
-use Rattle.av1_plan.specs.Spelling.{Spells, text, AreText}
+use Rattle.av1_plan.specs.Spelling.{text, AreText}
 use Rattle.av1_plan.proofs.Carried.{AreApart, apart}
 use Rattle.av1_plan.proofs.Numbers.{filter_of, filter_number_is}
 use Rattle.av1_plan.proofs.ReadFrames.{range_is}
@@ -50,7 +50,7 @@ version_told = record {
       last_part v.bytes_are (letters_are v.number v.admitted.admitted) end.no_bytes ∙ ap letters end.value;
 }
 
-byte_is : (v : ℕ) → v < 256 → byte v ≡ v ∷ []
+pub byte_is : (v : ℕ) → v < 256 → byte v ≡ v ∷ []
 byte_is v lt = ap (λ (n : ℕ). n ∷ []) (omega (arith, lt))
 
 slots_told : Tells grammar.slots (λ xs. xs)
@@ -77,7 +77,7 @@ choice_back v le = elim (v == 1) as (λ b. (v == 1) ≡ b → v ≡ (if b then 1
     below_one : (v : ℕ) → v ≤ 1 → (v == 1) ≡ false → v ≡ 0
     below_one v le e = let other = eqb-false v 1 e in omega (arith, le, other)
 
-header_told : Tells grammar.header header_text
+pub header_told : Tells grammar.header header_text
 unfolding grammar.header grammar.frame header_text
 header_told = record {
   tells = λ vs h s.
@@ -133,7 +133,7 @@ plane_told : (depth len : ℕ) → Tells (grammar.plane depth len) (plane_text d
 unfolding grammar.plane plane_text
 plane_told depth len = turns_tell (λ _. field (grammar.sample depth)) (sample_text depth) 0 len (λ _. sample_by (depth == 8) (λ v. nat_lt v (2 ^ depth)))
 
-reference_told : (h : Header) → Tells (grammar.reference h) (flat_map (plane_text h.depth))
+pub reference_told : (h : Header) → Tells (grammar.reference h) (flat_map (plane_text h.depth))
 unfolding grammar.reference
 reference_told h = record {
   tells = λ vs planes s.

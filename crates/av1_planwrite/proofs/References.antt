@@ -1,12 +1,12 @@
 -- What is written of the planes of slots, and of the whole.
-use Rattle.std.proofs.Common.{◌≡◌, ℕ, zero, suc, ◌+◌, ◌<◌, ◌≤◌, List, [], ◌∷◌, ◌++◌, length, take, drop, get_or, map, Option, Some, None, slice_index_or, refl, sym, ap, ◌∙◌, append_assoc, arith}
+use Rattle.std.proofs.Common.{◌≡◌, ℕ, zero, suc, ◌+◌, ◌<◌, List, [], ◌∷◌, ◌++◌, length, take, drop, Option, Some, None, slice_index_or, refl, sym, ap, ◌∙◌, append_assoc, arith}
 use Rattle.std.specs.List.{flat_map}
 use Rattle.std.proofs.lemmas.List.{get_or-map, append-nil, length-map}
 use Rattle.std.proofs.Math.Seq.{take-length}
 use Rattle.av1_plan.specs.declared.planes.Planes.{Planes}
 use Rattle.av1_plan.specs.declared.plan.Plan.{Plan}
 use Rattle.av1_plan.specs.Answer.{plan_value}
-use Rattle.av1_plan.specs.Plan.{LeafValue, PlanValue, reference_of, slot_value, planes_value}
+use Rattle.av1_plan.specs.Plan.{PlanValue, reference_of, slot_value}
 use Rattle.av1_planwrite.specs.Text.{slot_text, plane_text, header_text, references_text, superblocks_written, front_text, plan_text}
 use Rattle.av1_planwrite.specs.Writing.{told, samples_text}
 use Rattle.av1_planwrite.specs.declared.nodes.Coefficients.{Coefficients}

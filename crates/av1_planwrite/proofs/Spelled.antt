@@ -1,6 +1,5 @@
 -- The text of a plan in memory spells it.
-use Rattle.std.proofs.Common.{◌≡◌, List, ℕ, Result, Ok, Err, refl, sym, subst}
-use Rattle.std.specs.Prelude.{IfOk}
+use Rattle.std.proofs.Common.{◌≡◌, List, ℕ, refl, sym, subst}
 use Rattle.std.proofs.Math.Logic.{∥∥₁_map}
 use Rattle.av1_plan.specs.declared.plan.Plan.{Plan}
 use Rattle.av1_plan.specs.Answer.{plan_value}

@@ -1,9 +1,9 @@
 -- What the fields of a format are as bytes, told by the value that they spell.
-use Rattle.std.proofs.Common.{◌≡◌, ℕ, zero, suc, ◌+◌, Bool, true, false, if◌then◌else◌, List, [], ◌∷◌, ◌++◌, length, refl, sym, ap, subst, ◌∙◌, append_assoc, arith}
+use Rattle.std.proofs.Common.{◌≡◌, ℕ, zero, suc, ◌+◌, List, [], ◌∷◌, ◌++◌, length, refl, sym, ap, ◌∙◌}
 use Rattle.std.specs.List.{flat_map}
 use Rattle.std.specs.Int.{to_le_bytes}
 use Rattle.std.proofs.lemmas.List.{append-nil}
-use Rattle.av1_plan.specs.Format.{Kind, IsAdmitted, Format, done, asks, ◌>>=◌, lone, ◌++>◌, in_turn, width}
+use Rattle.av1_plan.specs.Format.{Kind, IsAdmitted, Format, done, asks, ◌>>=◌, lone, in_turn, width}
 use Rattle.av1_plan.specs.Spelling.{Spells, text}
 use Rattle.av1_plan.proofs.Carried.{apart}
 

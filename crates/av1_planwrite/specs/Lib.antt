@@ -2,3 +2,10 @@ pub mod Text
 pub mod Bare
 pub mod Writing
 pub mod MarkLaws
+pub mod Asked
+pub mod Building
+pub mod Builder
+pub mod Stacks
+pub mod Samples
+pub mod Fronts
+pub mod Given

@@ -1,11 +1,11 @@
 -- The text of a plan: the plan grammar turned round. Each part gives the bytes of its fields, in their order.
-use Rattle.std.specs.Prelude.{ℕ, ℤ, zero, suc, ◌+◌, ◌*◌, ◌/◌, ◌^◌, ◌==◌, Bool, true, false, is_some, if◌then◌else◌, List, [], ◌∷◌, ◌++◌, codes, length, slice_index_or, Option, Some, None}
+use Rattle.std.specs.Prelude.{ℕ, zero, suc, ◌+◌, ◌*◌, ◌/◌, ◌^◌, ◌==◌, Bool, true, false, is_some, if◌then◌else◌, List, [], ◌∷◌, ◌++◌, codes, length, slice_index_or, Option, Some, None}
 use Rattle.std.specs.List.{flat_map}
 use Rattle.std.specs.Int.{w8, w16, w32, to_le_bytes, cast_unsigned}
 use Rattle.av1_blocks.specs.declared.mc.MotionVector.{MotionVector}
 use Rattle.av1_blocks.specs.declared.partition.BlockSize.{BlockSize}
 use Rattle.av1_blocks.specs.declared.partition.PartitionType.{PartitionType}
-use Rattle.av1_blocks.specs.declared.partition.PartitionType.TheVariants.{PARTITION_NONE, PARTITION_HORZ, PARTITION_VERT, PARTITION_SPLIT, PARTITION_HORZ_A, PARTITION_HORZ_B, PARTITION_VERT_A, PARTITION_VERT_B, PARTITION_HORZ_4, PARTITION_VERT_4}
+use Rattle.av1_blocks.specs.declared.partition.PartitionType.TheVariants.{PARTITION_NONE, PARTITION_HORZ, PARTITION_VERT, PARTITION_SPLIT, PARTITION_HORZ_4, PARTITION_VERT_4}
 use Rattle.av1_blocks.specs.declared.partition.RefType.{RefType}
 use Rattle.av1_blocks.specs.Blocks.{block_width, block_height}
 use Rattle.av1_blocks.specs.Filters.{filter_number}

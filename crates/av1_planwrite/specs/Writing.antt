@@ -1,9 +1,9 @@
 -- What is written of a plan so far: words of private contracts.
-use Rattle.std.specs.Prelude.{ℕ, ◌+◌, List, [], map, drop, Option, Some, None}
+use Rattle.std.specs.Prelude.{ℕ, List, [], drop, Option, Some, None}
 use Rattle.av1_plan.specs.Answer.{plan_value}
-use Rattle.av1_plan.specs.Plan.{LeafValue, PlanValue, triples_of}
+use Rattle.av1_plan.specs.Plan.{PlanValue, triples_of}
 use Rattle.av1_plan.specs.declared.leaf.Triple.{Triple}
-use Rattle.av1_planwrite.specs.Bare.{bare, bare_leaf}
+use Rattle.av1_planwrite.specs.Bare.{bare}
 use Rattle.av1_planwrite.specs.Text.{Draft, plane_text}
 use Rattle.av1_planwrite.specs.declared.nodes.Coefficients.{Coefficients}
 use Rattle.av1_planwrite.specs.declared.nodes.Coefficients.TheVariants.{Kept, LeftOut}

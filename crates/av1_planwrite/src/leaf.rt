@@ -5,14 +5,17 @@ use av1_blocks::{MotionVector, OutOfMemory, RefType, TxSize, TxType};
 use av1_plan::{ChromaMode, LeafKind, Triple};
 
 impl Text {
-    ghost use Rattle.std.specs.Prelude.{◌≡◌, ◌++◌, ◌<◌, ◌≤◌, ◌^◌, length, is_some, OnOk};
-    ghost use Rattle.std.specs.List.{flat_map};
-    ghost use Rattle.av1_planwrite.specs.Text.{pair, quad, motion_text, motions_text, chroma_text, kind_text, uv_type_text, triple_text, triples_text, chroma_triples_text, fields_text};
+    ghost use Rattle.std.specs.Prelude.{◌≡◌, ◌++◌, ◌<◌, ◌≤◌, ◌^◌, length, true, is_some, OnOk};
+    ghost use Rattle.std.specs.List.{All};
+    ghost use Rattle.av1_planwrite.specs.Fronts.{Begins};
+    ghost use Rattle.av1_planwrite.specs.Given.{FitsTriple};
+    ghost use Rattle.av1_planwrite.specs.Text.{byte, pair, quad, motion_text, motions_text, chroma_text, kind_text, uv_type_text, triple_text, triples_text, chroma_triples_text, fields_text};
 
     /// Writes a reference and its vector.
     #[tactic(auto, unfolding(crate::specs::Text::motion_text))]
     fn motion(&mut self, reference: RefType, mv: MotionVector) -> Result<(), OutOfMemory>
-        ensures { OnOk result (self.new.bytes.items ≡ self.old.bytes.items ++ motion_text reference mv) }
+        ensures text { OnOk result (self.new.bytes.items ≡ self.old.bytes.items ++ motion_text reference mv) }
+        ensures front { Begins self.old.bytes.items self.new.bytes.items }
     {
         self.byte(reference.number())?;
         self.pair(mv.row.cast_unsigned())?;
@@ -26,7 +29,8 @@ impl Text {
         references: [RefType; 2],
         mvs: [MotionVector; 2],
     ) -> Result<(), OutOfMemory>
-        ensures { OnOk result (self.new.bytes.items ≡ self.old.bytes.items ++ motions_text references mvs) }
+        ensures text { OnOk result (self.new.bytes.items ≡ self.old.bytes.items ++ motions_text references mvs) }
+        ensures front { Begins self.old.bytes.items self.new.bytes.items }
     {
         let [first, second] = references;
         let [first_mv, second_mv] = mvs;
@@ -37,7 +41,8 @@ impl Text {
     /// Writes how the chroma of an intra leaf is predicted, where it carries chroma.
     #[tactic(auto, unfolding(crate::specs::Text::chroma_text))]
     fn chroma_mode(&mut self, chroma: Option<ChromaMode>) -> Result<(), OutOfMemory>
-        ensures { OnOk result (self.new.bytes.items ≡ self.old.bytes.items ++ chroma_text chroma) }
+        ensures text { OnOk result (self.new.bytes.items ≡ self.old.bytes.items ++ chroma_text chroma) }
+        ensures front { Begins self.old.bytes.items self.new.bytes.items }
     {
         match chroma {
             None => Ok(()),
@@ -56,7 +61,8 @@ impl Text {
     /// Writes how a leaf is predicted.
     #[tactic(auto, unfolding(crate::specs::Text::kind_text))]
     fn kind(&mut self, kind: LeafKind) -> Result<(), OutOfMemory>
-        ensures { OnOk result (self.new.bytes.items ≡ self.old.bytes.items ++ kind_text kind) }
+        ensures text { OnOk result (self.new.bytes.items ≡ self.old.bytes.items ++ kind_text kind) }
+        ensures front { Begins self.old.bytes.items self.new.bytes.items }
     {
         match kind {
             LeafKind::Intra { mode, step, chroma } => {
@@ -86,7 +92,8 @@ impl Text {
     /// Writes the type of the chroma transforms, where chroma is carried.
     #[tactic(auto, unfolding(crate::specs::Text::uv_type_text))]
     fn uv_type(&mut self, uv_type: Option<TxType>) -> Result<(), OutOfMemory>
-        ensures { OnOk result (self.new.bytes.items ≡ self.old.bytes.items ++ uv_type_text uv_type) }
+        ensures text { OnOk result (self.new.bytes.items ≡ self.old.bytes.items ++ uv_type_text uv_type) }
+        ensures front { Begins self.old.bytes.items self.new.bytes.items }
     {
         match uv_type {
             None => Ok(()),
@@ -94,29 +101,33 @@ impl Text {
         }
     }
 
-    /// Writes a field of two bytes and one of four.
-    fn place_and_value(&mut self, place: u16, value: u32) -> Result<(), OutOfMemory>
-        ensures { OnOk result (self.new.bytes.items ≡ self.old.bytes.items ++ (pair place ++ quad value)) }
+    /// Writes a field of one byte, one of two and one of four, at once.
+    fn three_fields(&mut self, block: u8, place: u16, value: u32) -> Result<(), OutOfMemory>
+        ensures text { OnOk result (self.new.bytes.items ≡ self.old.bytes.items ++ (byte block ++ pair place ++ quad value)) }
+        ensures front { Begins self.old.bytes.items self.new.bytes.items }
     {
         let [low, high] = place.to_le_bytes();
         let [a, b, c, d] = value.to_le_bytes();
-        self.copy(&[low, high, a, b, c, d])
+        self.copy(&[block, low, high, a, b, c, d])
     }
 
     /// Writes a coefficient.
     #[tactic(auto, unfolding(crate::specs::Text::triple_text))]
     fn triple(&mut self, triple: &Triple) -> Result<(), OutOfMemory>
-        ensures { OnOk result (self.new.bytes.items ≡ self.old.bytes.items ++ triple_text triple.now) }
+        ensures text { OnOk result (self.new.bytes.items ≡ self.old.bytes.items ++ triple_text triple.now) }
+        ensures front { Begins self.old.bytes.items self.new.bytes.items }
+        ensures fits { OnOk result (FitsTriple triple.now) }
     {
-        self.byte(triple.block)?;
-        self.place_and_value(triple.place, triple.value.cast_unsigned())
+        self.three_fields(triple.block, triple.place, triple.value.cast_unsigned())
     }
 
     /// Writes the coefficients of a plane, their count first.
     #[tactic(auto, unfolding(crate::specs::Text::triples_text))]
     fn triples(&mut self, triples: &[Triple]) -> Result<(), OutOfMemory>
         requires { length triples.now < 2 ^ 16 }
-        ensures { OnOk result (self.new.bytes.items ≡ self.old.bytes.items ++ triples_text triples.now) }
+        ensures text { OnOk result (self.new.bytes.items ≡ self.old.bytes.items ++ triples_text triples.now) }
+        ensures fit { OnOk result (All FitsTriple triples.now) }
+        ensures front { Begins self.old.bytes.items self.new.bytes.items }
     {
         self.pair(triples.len() as u16)?;
         for triple in triples {
@@ -135,7 +146,10 @@ impl Text {
     ) -> Result<(), OutOfMemory>
         requires u { length u.now < 2 ^ 16 }
         requires v { length v.now < 2 ^ 16 }
-        ensures { OnOk result (self.new.bytes.items ≡ self.old.bytes.items ++ chroma_triples_text carried u.now v.now) }
+        ensures text { OnOk result (self.new.bytes.items ≡ self.old.bytes.items ++ chroma_triples_text carried u.now v.now) }
+        ensures u_fit { OnOk result (carried ≡ true → All FitsTriple u.now) }
+        ensures v_fit { OnOk result (carried ≡ true → All FitsTriple v.now) }
+        ensures front { Begins self.old.bytes.items self.new.bytes.items }
     {
         if !carried {
             return Ok(());
@@ -159,7 +173,11 @@ impl Text {
         requires y { length y.now < 2 ^ 16 }
         requires u { length u.now < 2 ^ 16 }
         requires v { length v.now < 2 ^ 16 }
-        ensures { OnOk result (self.new.bytes.items ≡ self.old.bytes.items ++ fields_text kind tx_size tx_type uv_type y.now u.now v.now) }
+        ensures text { OnOk result (self.new.bytes.items ≡ self.old.bytes.items ++ fields_text kind tx_size tx_type uv_type y.now u.now v.now) }
+        ensures y_fit { OnOk result (All FitsTriple y.now) }
+        ensures u_fit { OnOk result (is_some uv_type ≡ true → All FitsTriple u.now) }
+        ensures v_fit { OnOk result (is_some uv_type ≡ true → All FitsTriple v.now) }
+        ensures front { Begins self.old.bytes.items self.new.bytes.items }
     {
         self.kind(kind)?;
         self.byte(tx_size.number())?;

@@ -4,6 +4,8 @@
 //! from a source and appends its text without coefficients to a sink. So a plan that was read can be handed on, and an encoder can be shown
 //! what its predictions alone come to.
 //!
+//! A [`PlanBuilder`] is filled by an encoder while it encodes, field by field, and gives a plan's text at the end.
+//!
 //! It stands on `av1_plan` for the grammar and for plans in memory, and on `av1_streams` and `av1_recon` for sources, sinks and what the
 //! calls promise that read a plan and write of it.
 //!
@@ -11,17 +13,29 @@
 //! plan are its text, so that writing gives back what was read, and no two inputs are the same plan. Without its coefficients a plan is a
 //! plan, and a valid one where it was valid. `bare_plan` keeps what all calls keep that read a plan and write of it (`Converts` of
 //! `av1_recon`).
+//!
+//! Of a builder: a call is refused exactly where the grammar asks for another field, or an argument isn't admitted there, or the bytes would be
+//! too many; at `Ok` it appends exactly its own fields, and a refusal changes nothing. The bytes are always those of a proper list of the
+//! grammar, and those of a builder that is done are the text of the plan whose header, references and leaves were given
+//! (`specs/Building.antt`).
 #![tactic(auto)]
 
+mod admitted;
 mod bare;
+mod builder;
+mod error;
 mod laws;
 mod leaf;
 mod nodes;
+mod parts;
 mod samples;
+mod superblocks;
 mod text;
 mod write;
 
 pub use bare::bare_plan;
+pub use builder::PlanBuilder;
+pub use error::BuildError;
 pub use laws::{
     a_bare_plan_is_a_plan, a_bare_plan_is_valid, a_plan_has_one_text, the_first_leaf_fixes_the_mark,
 };

@@ -51,11 +51,13 @@ fn pack(depth: u8, samples: &[u16], bytes: &mut [u8]) -> usize
 
 impl Text {
     ghost use Rattle.std.specs.Prelude.{◌≡◌, ◌++◌, OnOk};
+    ghost use Rattle.av1_planwrite.specs.Fronts.{Begins};
     ghost use Rattle.av1_planwrite.specs.Text.{plane_text};
 
     /// Writes the samples of a plane.
     pub fn plane(&mut self, depth: u8, samples: &[u16]) -> Result<(), OutOfMemory>
-        ensures { OnOk result (self.new.bytes.items ≡ self.old.bytes.items ++ plane_text depth samples.now) }
+        ensures text { OnOk result (self.new.bytes.items ≡ self.old.bytes.items ++ plane_text depth samples.now) }
+        ensures front { Begins self.old.bytes.items self.new.bytes.items }
     {
         let mut buffer = [0; MOST_BYTES];
         let mut at = 0;
@@ -66,5 +68,15 @@ impl Text {
             at += count;
         }
         Ok(())
+    }
+
+    /// Writes the planes of a slot.
+    pub fn planes(&mut self, depth: u8, y: &[u16], u: &[u16], v: &[u16]) -> Result<(), OutOfMemory>
+        ensures text { OnOk result (self.new.bytes.items ≡ self.old.bytes.items ++ (plane_text depth y.now ++ plane_text depth u.now ++ plane_text depth v.now)) }
+        ensures front { Begins self.old.bytes.items self.new.bytes.items }
+    {
+        self.plane(depth, y)?;
+        self.plane(depth, u)?;
+        self.plane(depth, v)
     }
 }

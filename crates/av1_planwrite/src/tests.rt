@@ -1,8 +1,9 @@
 // Worked plans, written.
 ghost use Rattle.std.specs.Prelude.{◌≤◌, ◌^◌, length};
 
-use crate::{bare_plan, write_bare, write_plan};
-use av1_plan::parse_plan;
+use crate::{BuildError, PlanBuilder, bare_plan, write_bare, write_plan};
+use av1_blocks::{FilterMode, MotionVector, PredictionMode, RefType, TxSize, TxType};
+use av1_plan::{ChromaMode, Header, LeafKind, parse_plan};
 use av1_recon::{MemSink, ReconError, SliceSource};
 use std::alloc::Global;
 use std::test::Fail;
@@ -74,5 +75,86 @@ fn a_plan_of_a_source_is_written_to_a_sink_without_coefficients(
         Err(ReconError::WriteFault)
     );
     assert_eq!(rt; sink.bytes(), &BARE[..10]);
+    Ok(())
+}
+
+/// 8x8 at depth 8, of one leaf that is predicted by DC.
+const WHOLE: [u8; 34] = [
+    0x52, 0x50, 0x4C, 0x31, 8, 0, 8, 0, 8, 0, 0, 0, 0, 0, 0, 0, 0, 0, 0, 0, // the header
+    0, // the mark
+    0, 0, 0, 0, 4, 0, 0, 0, 0, 0, 0, 0, 0, // the leaf
+];
+
+/// A builder of an 8x8 plan at depth 8.
+fn builder(alloc: Global, sampling: u8, mask: u8) -> Result<PlanBuilder, Fail> {
+    let header = Header {
+        version: 1,
+        width: 8,
+        height: 8,
+        depth: 8,
+        sampling,
+        filter: FilterMode::REGULAR,
+        edge_filter: false,
+        slots: [0; 7],
+        mask,
+    };
+    match PlanBuilder::new(alloc, &header) {
+        Ok(builder) => Ok(builder),
+        Err(_) => Err(Fail::new("the header is admitted")),
+    }
+}
+
+/// The bytes of a builder that is done.
+fn finished(builder: PlanBuilder) -> Result<Vec<u8>, Fail> {
+    match builder.finish() {
+        Ok(bytes) => Ok(bytes),
+        Err(_) => Err(Fail::new("all fields are given")),
+    }
+}
+
+#[test]
+fn a_plan_is_built_field_by_field(rt: HostRuntime) -> Result<(), Fail> {
+    let mut builder = builder(rt.alloc(), 0, 0)?;
+    assert_eq!(rt; builder.mark(0), Ok(()));
+    assert_eq!(rt; builder.mark(3), Err(BuildError::NotNow));
+    let Err(mut builder) = builder.finish() else {
+        return Err(Fail::new("a leaf is asked for"));
+    };
+    let (mode, step) = (PredictionMode::DC_PRED, 0);
+    let chroma = Some(ChromaMode::Plain { mode, step });
+    let kind = LeafKind::Intra { mode, step, chroma };
+    let dct = TxType::DCT_DCT;
+    let given = builder.leaf(&kind, TxSize::TX_64X64, dct, Some(dct), &[], &[], &[]);
+    assert_eq!(rt; given, Ok(()));
+    let bytes = finished(builder)?;
+    assert_eq!(rt; bytes.as_slice(), WHOLE.as_slice());
+    Ok(())
+}
+
+#[test]
+fn planes_are_given_before_marks(rt: HostRuntime) -> Result<(), Fail> {
+    let mut builder = builder(rt.alloc(), 2, 1)?;
+    let (dark, light, past) = ([10; 64], [128; 64], [256; 64]);
+    assert_eq!(rt; builder.mark(0), Err(BuildError::NotNow));
+    assert_eq!(rt;
+        builder.reference(&past, &light, &light),
+        Err(BuildError::NotAdmitted)
+    );
+    assert_eq!(rt; builder.reference(&dark, &light, &light), Ok(()));
+    assert_eq!(rt;
+        builder.reference(&dark, &light, &light),
+        Err(BuildError::NotNow)
+    );
+    assert_eq!(rt; builder.mark(8), Err(BuildError::NotAdmitted));
+    assert_eq!(rt; builder.mark(0), Ok(()));
+    let kind = LeafKind::Single {
+        mode: PredictionMode::NEWMV,
+        reference: RefType::LAST_FRAME,
+        mv: MotionVector { row: 0, col: 8 },
+    };
+    let dct = TxType::DCT_DCT;
+    let given = builder.leaf(&kind, TxSize::TX_64X64, dct, Some(dct), &[], &[], &[]);
+    assert_eq!(rt; given, Ok(()));
+    assert_eq!(rt; finished(builder)?.len(), 228);
     Ok(())
 }

@@ -1,6 +1,10 @@
 //! A text in the making: fields are written one behind the other.
 
+use crate::error::BuildError;
 use av1_blocks::OutOfMemory;
+
+// The most bytes of a plan.
+const MOST_BYTES: usize = 67_108_864;
 
 /// The bytes so far.
 #[derive(Drop)]
@@ -9,12 +13,15 @@ pub struct Text {
 }
 
 impl Text {
-    ghost use Rattle.std.specs.Prelude.{◌≡◌, ◌++◌, OnOk};
+    ghost use Rattle.std.specs.Prelude.{◌≡◌, ◌++◌, length, take, OnOk, OnErr};
+    ghost use Rattle.av1_planwrite.specs.Building.{settled};
+    ghost use Rattle.av1_planwrite.specs.Fronts.{Begins};
     ghost use Rattle.av1_planwrite.specs.Text.{byte, pair, quad};
 
     /// Writes a field of one byte.
     pub fn byte(&mut self, value: u8) -> Result<(), OutOfMemory>
-        ensures { OnOk result (self.new.bytes.items ≡ self.old.bytes.items ++ byte value) }
+        ensures text { OnOk result (self.new.bytes.items ≡ self.old.bytes.items ++ byte value) }
+        ensures front { Begins self.old.bytes.items self.new.bytes.items }
     {
         self.bytes.push(value)?;
         Ok(())
@@ -22,7 +29,8 @@ impl Text {
 
     /// Writes a field of two bytes.
     pub fn pair(&mut self, value: u16) -> Result<(), OutOfMemory>
-        ensures { OnOk result (self.new.bytes.items ≡ self.old.bytes.items ++ pair value) }
+        ensures text { OnOk result (self.new.bytes.items ≡ self.old.bytes.items ++ pair value) }
+        ensures front { Begins self.old.bytes.items self.new.bytes.items }
     {
         self.bytes.extend_from_slice(&value.to_le_bytes())?;
         Ok(())
@@ -30,7 +38,8 @@ impl Text {
 
     /// Writes a field of four bytes.
     pub fn quad(&mut self, value: u32) -> Result<(), OutOfMemory>
-        ensures { OnOk result (self.new.bytes.items ≡ self.old.bytes.items ++ quad value) }
+        ensures text { OnOk result (self.new.bytes.items ≡ self.old.bytes.items ++ quad value) }
+        ensures front { Begins self.old.bytes.items self.new.bytes.items }
     {
         self.bytes.extend_from_slice(&value.to_le_bytes())?;
         Ok(())
@@ -38,9 +47,31 @@ impl Text {
 
     /// Writes bytes as they are.
     pub fn copy(&mut self, bytes: &[u8]) -> Result<(), OutOfMemory>
-        ensures { OnOk result (self.new.bytes.items ≡ self.old.bytes.items ++ bytes.now) }
+        ensures text { OnOk result (self.new.bytes.items ≡ self.old.bytes.items ++ bytes.now) }
+        ensures front { Begins self.old.bytes.items self.new.bytes.items }
     {
         self.bytes.extend_from_slice(bytes)?;
         Ok(())
+    }
+
+    /// Keeps what was written behind the first bytes, or takes it back: where memory ran out, or it is too long.
+    pub fn settle(
+        &mut self,
+        kept: usize,
+        written: Result<(), OutOfMemory>,
+    ) -> Result<(), BuildError>
+        ensures answer { result ≡ settled written (length self.old.bytes.items) }
+        ensures kept { OnOk result (self.new.bytes.items ≡ self.old.bytes.items) }
+        ensures back { OnErr result (self.new.bytes.items ≡ take kept self.old.bytes.items) }
+    {
+        let answer = match written {
+            Ok(()) if self.bytes.len() <= MOST_BYTES => Ok(()),
+            Ok(()) => Err(BuildError::TooLong),
+            Err(OutOfMemory) => Err(BuildError::Memory),
+        };
+        if answer.is_err() {
+            self.bytes.truncate(kept);
+        }
+        answer
     }
 }

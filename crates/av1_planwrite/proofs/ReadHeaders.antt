@@ -1,0 +1,80 @@
+-- What an admitted header says.
+use Rattle.std.proofs.Common.{◌≡◌, ℕ, zero, suc, ◌-◌, ◌%◌, ◌<◌, ◌≤◌, ◌⊎◌, inl, inr, true, ◌&&◌, ◌||◌, List, [], ◌∷◌, length, All, sym, ap, ◌∙◌, arith}
+use Rattle.std.specs.Prelude.{nat_le, ◌==◌}
+use Rattle.std.specs.List.{list_all}
+use Rattle.std.proofs.lemmas.Bool.{and_parts, or_cases, leb-true, eqb-true}
+use Rattle.av1_blocks.specs.Filters.{filter_number}
+use Rattle.av1_plan.specs.declared.header.Header.{Header}
+use Rattle.av1_plan.specs.Grammar.{is_side, is_depth}
+use Rattle.av1_plan.specs.ReadPlans.{IsSide, IsReadFrame}
+use Rattle.std.specs.Int.{is_in_range}
+use Rattle.av1_planwrite.specs.Asked.{across, down, row_before, rows_of, superblocks_from}
+use Rattle.av1_planwrite.specs.Building.{admits_header}
+
+side_is : (n : ℕ) → is_side n ≡ true → IsSide n
+side_is n e =
+    let (whole, range) = and_parts (n % 8 == 0) (is_in_range 8 2048 n) e in
+    let (least, most) = and_parts (nat_le 8 n) (nat_le n 2048) range in
+    record { whole = eqb-true (n % 8) 0 whole; least = leb-true 8 n least; most = leb-true n 2048 most }
+
+depth_is : (n : ℕ) → is_depth n ≡ true → (n ≡ 8) ⊎ (n ≡ 10) ⊎ (n ≡ 12)
+depth_is n e = elim (or_cases (n == 8 || n == 10) (n == 12) e) [
+  | inl low ↦ elim (or_cases (n == 8) (n == 10) low) [ inl eight ↦ inl (eqb-true n 8 eight) | inr ten ↦ inr (inl (eqb-true n 10 ten)) ]
+  | inr twelve ↦ inr (inr (eqb-true n 12 twelve))
+]
+
+slots_are : (slots : List ℕ) → list_all (λ slot. nat_le slot 7) slots ≡ true → All (λ slot. slot < 8) slots
+slots_are [] e k d lt = absurd (omega (arith, lt))
+slots_are (s ∷ slots) e zero d lt = let (first, _) = and_parts (nat_le s 7) (list_all (λ slot. nat_le slot 7) slots) e in omega (arith, leb-true s 7 first)
+slots_are (s ∷ slots) e (suc k) d lt = let (_, later) = and_parts (nat_le s 7) (list_all (λ slot. nat_le slot 7) slots) e in slots_are slots later k d (omega (arith, lt))
+
+pub header_read : (h : Header) → admits_header h ≡ true → h.mask < 256 → length h.slots ≡ 7 → IsReadFrame h
+unfolding admits_header
+header_read h e mask count =
+    let version = is_in_range 1 2 h.version in
+    let (a, slots) = and_parts (version && is_side h.width && is_side h.height && is_depth h.depth && nat_le h.sampling 2 && nat_le (filter_number h.filter) 3) (list_all (λ slot. nat_le slot 7) h.slots) e in
+    let (b, filter) = and_parts (version && is_side h.width && is_side h.height && is_depth h.depth && nat_le h.sampling 2) (nat_le (filter_number h.filter) 3) a in
+    let (c, sampling) = and_parts (version && is_side h.width && is_side h.height && is_depth h.depth) (nat_le h.sampling 2) b in
+    let (d, depth) = and_parts (version && is_side h.width && is_side h.height) (is_depth h.depth) c in
+    let (f, height) = and_parts (version && is_side h.width) (is_side h.height) d in
+    let (g, width) = and_parts version (is_side h.width) f in
+    let (least, most) = and_parts (nat_le 1 h.version) (nat_le h.version 2) g in
+    record {
+      least_version = leb-true 1 h.version least;
+      most_version = leb-true h.version 2 most;
+      width = side_is h.width width;
+      height = side_is h.height height;
+      depth = depth_is h.depth depth;
+      sampling = leb-true h.sampling 2 sampling;
+      filter = omega (arith, leb-true (filter_number h.filter) 3 filter);
+      slots = record { count = count; range = slots_are h.slots slots };
+      mask = mask;
+    }
+
+-- the ranges of an admitted header
+pub record HasRanges (h : Header) : Type 0 where
+  pub width : h.width ≤ 2048
+  pub height : h.height ≤ 2048
+  pub depth : h.depth ≤ 12
+  pub rows : 0 < down h
+  pub cols : 0 < across h
+
+pub ranges_of : (h : Header) → admits_header h ≡ true → h.mask < 256 → length h.slots ≡ 7 → HasRanges h
+ranges_of h e mask count =
+    let r = header_read h e mask count in
+    let w = r.width in
+    let t = r.height in
+    record { width = w.most; height = t.most; depth = few r.depth; rows = omega (arith, t.least); cols = omega (arith, w.least) }
+  where
+    few : (h.depth ≡ 8) ⊎ (h.depth ≡ 10) ⊎ (h.depth ≡ 12) → h.depth ≤ 12
+    few (inl e) = omega (arith, e)
+    few (inr (inl e)) = omega (arith, e)
+    few (inr (inr e)) = omega (arith, e)
+
+-- from the first superblock on they are all of them
+pub all_left : (h : Header) → 0 < down h → superblocks_from h 0 0 ≡ rows_of h 0 (down h)
+unfolding rows_of
+all_left h some =
+    let n : down h ≡ suc (down h - 1) = omega (arith, some) in
+    let m : across h - 0 ≡ across h = omega arith in
+    sym (ap (rows_of h 0) n ∙ ap (λ (k : ℕ). row_before h 0 0 k (rows_of h 1 (down h - 1))) (sym m))

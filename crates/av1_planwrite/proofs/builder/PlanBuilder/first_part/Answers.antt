@@ -1,0 +1,10 @@
+use Rattle.std.proofs.Common.{◌≡◌, true, List, length, sym, subst, ◌∙◌, IfSome}
+use Rattle.av1_planwrite.specs.declared.parts.Part.{Part}
+use Rattle.av1_planwrite.specs.Building.{later_parts}
+use Rattle.av1_planwrite.specs.Stacks.{has_room}
+use Rattle.av1_planwrite.proofs.BuilderParts.{none_first}
+use Rattle.av1_planwrite.proofs.builder.PlanBuilder.first_part.Goals as goal
+
+pub returns-in-None-clause-room : goal.returns-in-None-clause-room
+returns-in-None-clause-room c =
+    subst (λ (ps : List Part). IfSome c.first-in-None.result (λ p. has_room p (length (later_parts ps)) ≡ true)) (sym (none_first _ (sym c.first.ensures.value ∙ c.in-None.is))) c.first-in-None.ensures.room

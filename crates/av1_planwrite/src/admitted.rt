@@ -1,0 +1,214 @@
+//! Which arguments the calls of a builder admit.
+
+ghost use Rattle.std.specs.Prelude.{◌≡◌, ◌<◌, ◌≤◌, ◌^◌, true, nat_le, length};
+ghost use Rattle.std.specs.List.{list_all};
+ghost use Rattle.av1_plan.specs.Grammar.{is_side, is_depth, is_mark, cut_by};
+ghost use Rattle.av1_planwrite.specs.Building.{admits_header, admits_plane, admits_reference, is_named, admits_chroma, admits_kind, admits_triples, admits_fields};
+ghost use Rattle.av1_planwrite.specs.Given.{FitsChroma, FitsKind};
+ghost use Rattle.av1_planwrite.specs.Samples.{greatest};
+
+use av1_blocks::PartitionType::{self, *};
+use av1_blocks::{RefType, TxType};
+use av1_plan::{ChromaMode, Header, LeafKind, Triple, half_side};
+
+// ---- the header
+
+/// Whether a frame may have a side of so many luma samples.
+fn is_side(side: u16) -> bool
+    ensures { result ≡ is_side side }
+{
+    side % 8 == 0 && 8 <= side && side <= 2048
+}
+
+/// Whether samples may have so many bits.
+fn is_depth(depth: u8) -> bool
+    ensures { result ≡ is_depth depth }
+{
+    depth == 8 || depth == 10 || depth == 12
+}
+
+/// Whether there are slots of these numbers.
+#[tactic(auto, using(crate::proofs::Items::items))]
+fn are_slots(slots: &[u8]) -> bool
+    ensures { result ≡ list_all (λ slot. nat_le slot 7) slots.now }
+{
+    let mut fit = true;
+    for slot in slots {
+        fit = fit && *slot <= 7;
+    }
+    fit
+}
+
+/// Whether each value of a header is admitted.
+#[tactic(auto, unfolding(crate::specs::Building::admits_header))]
+pub fn admits_header(header: &Header) -> bool
+    ensures value { result ≡ admits_header header.now }
+    ensures mask { header.now.mask < 256 }
+    ensures slots { length header.now.slots ≡ 7 }
+{
+    let Header {
+        slots,
+        mask: _mask,
+        ..
+    } = *header;
+    1 <= header.version
+        && header.version <= 2
+        && is_side(header.width)
+        && is_side(header.height)
+        && is_depth(header.depth)
+        && header.sampling <= 2
+        && header.filter.number() <= 3
+        && are_slots(&slots)
+}
+
+// ---- planes
+
+/// The greatest of some samples, or 0.
+#[tactic(auto, using(crate::proofs::Items::items))]
+fn greatest(samples: &[u16]) -> u16
+    ensures { result ≡ greatest samples.now }
+{
+    let mut greatest = 0;
+    for sample in samples {
+        if *sample > greatest {
+            greatest = *sample;
+        }
+    }
+    greatest
+}
+
+/// Whether these may be the samples of plane `p`.
+#[tactic(auto, unfolding(crate::specs::Building::admits_plane))]
+fn admits_plane(header: &Header, p: usize, samples: &[u16]) -> bool
+    requires plane { p < 3 }
+    requires depth { header.now.depth ≤ 12 }
+    ensures { result ≡ admits_plane header.now p samples.now }
+{
+    samples.len() == header.plane_len(p) && u32::from(greatest(samples)) < 1 << header.depth
+}
+
+/// Whether these may be the planes of a slot.
+pub fn admits_reference(header: &Header, y: &[u16], u: &[u16], v: &[u16]) -> bool
+    requires { header.now.depth ≤ 12 }
+    ensures { result ≡ admits_reference header.now y.now u.now v.now }
+{
+    admits_plane(header, 0, y) && admits_plane(header, 1, u) && admits_plane(header, 2, v)
+}
+
+// ---- marks
+
+/// Whether a node of side `4 << level` at this place may have this mark.
+#[tactic(auto, unfolding(av1_plan::specs::Grammar::is_mark, av1_plan::specs::Grammar::admits_stripes))]
+pub fn admits_mark(header: &Header, level: u8, x: u16, y: u16, mark: u8) -> bool
+    requires level { level ≤ 4 }
+    requires x { x ≤ 4096 }
+    requires y { y ≤ 4096 }
+    ensures value { result ≡ is_mark header.now level x y mark }
+    ensures number { result ≡ true → mark ≤ 9 }
+{
+    let side = 2 * half_side(level);
+    let is_stripes = 8 <= mark && mark <= 9;
+    let has_stripes = header.version == 2
+        && 2 <= level
+        && x + side <= header.width
+        && y + side <= header.height;
+    mark <= 3 || (is_stripes && has_stripes)
+}
+
+/// How a node is cut that has this mark.
+#[tactic(auto, unfolding(av1_plan::specs::Grammar::cut_by))]
+pub fn cut_by(mark: u8) -> PartitionType
+    requires { mark ≤ 9 }
+    ensures { result ≡ cut_by mark }
+{
+    match mark {
+        0 => PARTITION_NONE,
+        1 => PARTITION_HORZ,
+        2 => PARTITION_VERT,
+        3 => PARTITION_SPLIT,
+        4 => PARTITION_HORZ_A,
+        5 => PARTITION_HORZ_B,
+        6 => PARTITION_VERT_A,
+        7 => PARTITION_VERT_B,
+        8 => PARTITION_HORZ_4,
+        _ => PARTITION_VERT_4,
+    }
+}
+
+// ---- leaves
+
+/// Whether a reference is one of LAST to ALTREF.
+fn is_named(reference: RefType) -> bool
+    ensures { result ≡ is_named reference }
+{
+    let number = reference.number();
+    1 <= number && number <= 7
+}
+
+/// Whether chroma may be predicted so.
+#[tactic(auto, unfolding(crate::specs::Building::admits_chroma))]
+fn admits_chroma(chroma: Option<ChromaMode>) -> bool
+    ensures value { result ≡ admits_chroma chroma }
+    ensures fits { FitsChroma chroma }
+{
+    match chroma {
+        None => true,
+        Some(ChromaMode::Plain { mode, .. }) => mode.number() <= 12,
+        Some(ChromaMode::Cfl { .. }) => true,
+    }
+}
+
+/// Whether a leaf may be predicted so, by whether it carries chroma.
+#[tactic(auto, unfolding(crate::specs::Building::admits_kind))]
+fn admits_kind(carried: bool, kind: LeafKind) -> bool
+    ensures value { result ≡ admits_kind carried kind }
+    ensures fits { result ≡ true → FitsKind kind }
+{
+    match kind {
+        LeafKind::Intra { mode, chroma, .. } => {
+            mode.number() <= 13 && chroma.is_some() == carried && admits_chroma(chroma)
+        }
+        LeafKind::Single {
+            mode,
+            reference,
+            ..
+        } => 14 <= mode.number() && mode.number() <= 19 && is_named(reference),
+        LeafKind::Compound {
+            mode,
+            references,
+            ..
+        } => {
+            let [first, second] = references;
+            20 <= mode.number() && mode.number() <= 33 && is_named(first) && is_named(second)
+        }
+    }
+}
+
+/// Whether the triples of a leaf are admitted, by whether it carries chroma.
+#[tactic(auto, unfolding(crate::specs::Building::admits_triples))]
+fn admits_triples(carried: bool, y: &[Triple], u: &[Triple], v: &[Triple]) -> bool
+    ensures value { result ≡ admits_triples carried y.now u.now v.now }
+    ensures few { result ≡ true → (length y.now < 2 ^ 16) × (length u.now < 2 ^ 16) × (length v.now < 2 ^ 16) }
+{
+    (carried || (u.is_empty() && v.is_empty()))
+        && y.len() <= 65535
+        && u.len() <= 65535
+        && v.len() <= 65535
+}
+
+/// Whether these may be the fields of a leaf, by whether it carries chroma.
+#[tactic(auto, unfolding(crate::specs::Building::admits_fields))]
+pub fn admits_fields(
+    carried: bool,
+    kind: LeafKind,
+    uv_type: Option<TxType>,
+    y: &[Triple],
+    u: &[Triple],
+    v: &[Triple],
+) -> bool
+    ensures value { result ≡ admits_fields carried kind uv_type y.now u.now v.now }
+    ensures fits { result ≡ true → FitsKind kind }
+    ensures few { result ≡ true → (length y.now < 2 ^ 16) × (length u.now < 2 ^ 16) × (length v.now < 2 ^ 16) }
+{
+    admits_kind(carried, kind) && uv_type.is_some() == carried && admits_triples(carried, y, u, v)
+}

@@ -1,0 +1,174 @@
+//! The parts of a superblock that are still asked for.
+
+ghost use Rattle.std.specs.Prelude.{◌≡◌, ◌≤◌, true, List, length};
+ghost use Rattle.av1_planwrite.specs.declared.parts.Part.{Part};
+ghost use Rattle.av1_planwrite.specs.Stacks.{on_top, have_room};
+
+use av1_blocks::BlockSize;
+use av1_blocks::PartitionType::{self, *};
+use av1_plan::{Header, half_side, part_size, whole_size};
+use std::marker::Model;
+
+/// A part of a plan, at its place in luma samples.
+#[derive(Copy, Clone, Debug, PartialEq, Eq)]
+pub enum Part {
+    /// A node of side `4 << level`, which begins with its mark.
+    Node { level: u8, x: u16, y: u16 },
+    /// A leaf of this size.
+    Leaf { size: BlockSize, x: u16, y: u16 },
+}
+
+// The most that are asked for at once: three of each of the sides 32, 16 and 8, and four of side 4.
+const MOST_PARTS: usize = 13;
+
+/// The parts of a superblock that are asked for, the next one on top.
+#[derive(Drop)]
+pub struct PartStack {
+    parts: [Part; MOST_PARTS],
+    count: usize,
+}
+
+impl Model for PartStack {
+    ghost Value = { List Part };
+
+    ghost view = { λ s. on_top s.parts s.count };
+
+    ghost invariant = { λ s. (length s.parts ≡ 13) × (s.count ≤ 13) × (have_room (on_top s.parts s.count) ≡ true) };
+}
+
+impl PartStack {
+    ghost use Rattle.std.specs.Prelude.{◌≡◌, ◌+◌, ◌-◌, ◌*◌, ◌<◌, ◌≤◌, true, IfSome, [], ◌∷◌, length};
+    ghost use Rattle.av1_blocks.specs.declared.partition.PartitionType.TheVariants.{PARTITION_SPLIT};
+    ghost use Rattle.av1_planwrite.specs.Asked.{leaf_before, block_before, cut_before};
+    ghost use Rattle.av1_planwrite.specs.Building.{first_part, later_parts};
+    ghost use Rattle.av1_planwrite.specs.Stacks.{has_room};
+
+    /// No parts.
+    pub fn new() -> PartStack
+        ensures { result ≡ [] }
+    {
+        PartStack {
+            parts: [Part::Leaf {
+                size: BlockSize::BLOCK_4X4,
+                x: 0,
+                y: 0,
+            }; MOST_PARTS],
+            count: 0,
+        }
+    }
+
+    /// The next part.
+    pub fn first(&self) -> Option<Part>
+        ensures value { result ≡ first_part self.now }
+        ensures room { IfSome result (λ p. has_room p (length (later_parts self.now)) ≡ true) }
+    {
+        if self.count == 0 {
+            None
+        } else {
+            Some(self.parts[self.count - 1])
+        }
+    }
+
+    /// Takes the next part away, if there is one.
+    pub fn take_first(&mut self)
+        ensures { self.new ≡ later_parts self.old }
+    {
+        if self.count > 0 {
+            self.count -= 1;
+        }
+    }
+
+    /// Puts a part before the others.
+    fn put(&mut self, part: Part)
+        requires { has_room part (length self.old) ≡ true }
+        ensures { self.new ≡ part ∷ self.old }
+    {
+        self.parts[self.count] = part;
+        self.count += 1;
+    }
+
+    /// Puts a leaf before the others, where it lies in the frame.
+    #[tactic(auto, unfolding(crate::specs::Stacks::has_room))]
+    fn leaf(&mut self, header: &Header, size: BlockSize, x: u16, y: u16)
+        requires { length self.old < 13 }
+        ensures value { self.new ≡ leaf_before header.now size x y self.old }
+        ensures few { length self.new ≤ length self.old + 1 }
+    {
+        if header.holds(x, y) {
+            self.put(Part::Leaf { size, x, y });
+        }
+    }
+
+    /// Puts the part of side `4 << level` at this place before the others, where it lies in the frame: a leaf at level 0, else a node.
+    #[tactic(auto, using(crate::proofs::Stacks::blocks), unfolding(crate::specs::Stacks::has_room))]
+    fn block(&mut self, header: &Header, level: u8, x: u16, y: u16)
+        requires level { level ≤ 4 }
+        requires width { header.now.width ≤ 2048 }
+        requires height { header.now.height ≤ 2048 }
+        requires room { 3 * level + length self.old < 13 }
+        ensures value { self.new ≡ block_before header.now level x y self.old }
+        ensures few { length self.new ≤ length self.old + 1 }
+    {
+        if level == 0 {
+            self.leaf(header, BlockSize::BLOCK_4X4, x, y);
+        } else if header.holds(x, y) {
+            self.put(Part::Node { level, x, y });
+        }
+    }
+
+    /// Puts the four blocks of a node of side `4 << level` before the others.
+    #[tactic(auto, unfolding(crate::specs::Asked::cut_before))]
+    fn split(&mut self, header: &Header, level: u8, x: u16, y: u16)
+        requires level { (0 < level) × (level ≤ 4) }
+        requires place { (x < 2048) × (y < 2048) }
+        requires width { header.now.width ≤ 2048 }
+        requires height { header.now.height ≤ 2048 }
+        requires room { 3 * level + length self.old < 13 }
+        ensures { self.new ≡ cut_before header.now level x y PARTITION_SPLIT self.old }
+    {
+        let half = half_side(level);
+        self.block(header, level - 1, x + half, y + half);
+        self.block(header, level - 1, x, y + half);
+        self.block(header, level - 1, x + half, y);
+        self.block(header, level - 1, x, y);
+    }
+
+    /// Puts the parts of a node of side `4 << level` that is cut so before the others.
+    #[tactic(auto, unfolding(crate::specs::Asked::cut_before))]
+    pub fn cut(&mut self, header: &Header, level: u8, x: u16, y: u16, cut: PartitionType)
+        requires level { (0 < level) × (level ≤ 4) }
+        requires place { (x < 2048) × (y < 2048) }
+        requires width { header.now.width ≤ 2048 }
+        requires height { header.now.height ≤ 2048 }
+        requires room { 3 * level + length self.old < 13 }
+        ensures { self.new ≡ cut_before header.now level x y cut self.old }
+    {
+        let half = half_side(level);
+        let quarter = half / 2;
+        let size = part_size(level, cut);
+        match cut {
+            PARTITION_NONE => self.leaf(header, whole_size(level), x, y),
+            PARTITION_HORZ => {
+                self.leaf(header, size, x, y + half);
+                self.leaf(header, size, x, y);
+            }
+            PARTITION_VERT => {
+                self.leaf(header, size, x + half, y);
+                self.leaf(header, size, x, y);
+            }
+            PARTITION_HORZ_4 => {
+                self.leaf(header, size, x, y + 3 * quarter);
+                self.leaf(header, size, x, y + 2 * quarter);
+                self.leaf(header, size, x, y + quarter);
+                self.leaf(header, size, x, y);
+            }
+            PARTITION_VERT_4 => {
+                self.leaf(header, size, x + 3 * quarter, y);
+                self.leaf(header, size, x + 2 * quarter, y);
+                self.leaf(header, size, x + quarter, y);
+                self.leaf(header, size, x, y);
+            }
+            _ => self.split(header, level, x, y),
+        }
+    }
+}
