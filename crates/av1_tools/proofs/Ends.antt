@@ -3,6 +3,7 @@ use Rattle.std.proofs.Common.{◌≡◌, ◌≢◌, ◌⊎◌, inl, inr, ℕ, ze
 use Rattle.std.specs.Prelude.{IfSome}
 use Rattle.std.proofs.lemmas.Option.{IfSome_then}
 use Rattle.av1_streams.specs.Tasks.{Cause, read_failed, too_long, refused, write_failed, no_memory, Task, IsRefusal, ErrorTells, Performs}
+use Rattle.av1_streams.proofs.Performing.{any}
 use Rattle.av1_recon.specs.declared.error.ReconError.TheVariants.{ReadFault, TooLong, Malformed, Invalid, WriteFault, Memory}
 use Rattle.av1_recon.specs.Answers.{status_of as plan_status_of}
 use Rattle.av1_recon.specs.Outcomes.{Answer, cause as plan_cause}
@@ -13,10 +14,6 @@ use Rattle.av1_tools.specs.Ends.{Ends}
 apart : {P : Type 0} (n k : ℕ) → (n ≡ 0) ⊎ (n ≡ 7) → n ≡ k → 0 < k → k < 7 → P
 apart n k (inl z) e some few = absurd (omega (arith, z, e, some))
 apart n k (inr z) e some few = absurd (omega (arith, z, e, few))
-
-any : (left : Option (List ℕ)) (P : List ℕ → Type 0) → ((bytes : List ℕ) → P bytes) → IfSome left P
-any None P f = tt
-any (Some bytes) P f = f bytes
 
 -- a write fails only where there is something to write
 no_refusal : {E : Type 0} (O : Type 0) (cause : Cause) (e d : E) → cause ≡ write_failed → ErrorTells {O = O} cause e (Err d) → ⊥

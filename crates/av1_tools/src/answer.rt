@@ -1,23 +1,14 @@
 //! The exit status and the line of each answer.
 ghost use Rattle.std.specs.Prelude.{◌≡◌, ◌≤◌, ◌++◌, length};
-ghost use Rattle.av1_recon.specs.Answers.{malformed_text, Says};
+ghost use Rattle.av1_recon.specs.Answers.{Says};
 ghost use Rattle.av1_tiles.specs.Tasks.{cause_of as tiles_cause};
 ghost use Rattle.av1_trace.specs.Checking.{cause as trace_cause};
 ghost use Rattle.av1_tools.specs.Answers.{line_of, plan_fault_text, status_of, tile_fault_text, written, tiles_line, trace_done, trace_line};
 
-use av1_recon::{Sink, plain_line, push_invalid, push_malformed, say};
+use av1_recon::{Sink, malformed_line, plain_line, push_invalid, push_malformed, say};
 use av1_streams::Line;
 use av1_tiles::{TileFault, TilesError};
 use av1_trace::{PlanFault, TraceError};
-
-// The line for the field of a file that begins at byte `at`.
-fn malformed_line(at: u32) -> Line
-    ensures { result ≡ malformed_text at }
-{
-    let mut line = Line::new();
-    push_malformed(&mut line, at);
-    line
-}
 
 // The line for the part of a tile.
 fn tile_line(tile: u16, fault: TileFault) -> Line
