@@ -1,0 +1,7 @@
+pub mod Groups
+pub mod Items
+pub mod Shorter
+pub mod Bared
+pub mod Pages
+pub mod TraceOutcomes
+pub mod Ends

@@ -1,0 +1,14 @@
+-- The words after the program's name.
+use Rattle.std.specs.Prelude.{ℕ, List, [], ◌∷◌, Option, Some, None, bytes_eq, codes, if◌then◌else◌}
+use Rattle.av1_view.specs.declared.command.Command.{Command}
+use Rattle.av1_view.specs.declared.command.Command.TheVariants.{Plan, Trace}
+
+-- the command of this name
+unfoldable pub named : List ℕ → Option Command
+named name = if bytes_eq name (codes "trace") then Some Trace else None
+
+-- what the words ask for, each word given by its bytes; None where they are no command
+abbrev pub command_of : List (List ℕ) → Option Command
+command_of [] = Some Plan
+command_of (word ∷ []) = named word
+command_of (word ∷ other ∷ words) = None

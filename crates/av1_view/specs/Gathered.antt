@@ -1,0 +1,11 @@
+-- The sink that keeps what it is given.
+use Rattle.std.specs.Prelude.{ℕ, List}
+use Rattle.av1_view.specs.declared.gathered.Gathered.{Gathered}
+
+-- the bytes that were written
+abbrev pub gathered_bytes : Gathered → List ℕ
+gathered_bytes s = s.bytes.items
+
+-- how many writes have failed
+abbrev pub gathered_faults : Gathered → ℕ
+gathered_faults s = s.faults

@@ -1,0 +1,8 @@
+pub mod Base64
+pub mod Page
+pub mod Gathered
+pub mod Shown
+pub mod TracePages
+pub mod Commands
+pub mod Answers
+pub mod Ends

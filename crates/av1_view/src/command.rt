@@ -1,0 +1,36 @@
+//! What the words after the program's name ask for.
+ghost use Rattle.std.specs.Prelude.{◌≡◌, map, string_bytes};
+ghost use Rattle.av1_view.specs.Commands.{command_of, named};
+
+/// What the program is asked to show.
+#[derive(Clone, Copy, Debug, PartialEq, Eq)]
+pub enum Command {
+    /// A plan.
+    Plan,
+    /// A trace: a plan, and the planes that another encoder left of it.
+    Trace,
+}
+
+impl Command {
+    /// What the words after the program's name ask for, if they are a command.
+    pub fn from_words(words: &[String]) -> Option<Command>
+        ensures { result ≡ command_of (map string_bytes words.now) }
+    {
+        match words {
+            [] => Some(Command::Plan),
+            [word] => Command::named(word.as_str()),
+            _ => None,
+        }
+    }
+
+    // The command of this name.
+    #[tactic(auto, unfolding(crate::specs::Commands::named))]
+    fn named(name: &str) -> Option<Command>
+        ensures { result ≡ named name.now }
+    {
+        if name == "trace" {
+            return Some(Command::Trace);
+        }
+        None
+    }
+}

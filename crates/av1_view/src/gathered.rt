@@ -1,0 +1,57 @@
+//! A sink that keeps in memory what it is given.
+ghost use Rattle.std.specs.Prelude.{◌≡◌, ◌<◌, [], Some, length, IfOk};
+ghost use Rattle.std.specs.Io.{WritesAtMost};
+ghost use Rattle.std.specs.Io.KnownBytes.{WriteAppends};
+ghost use Rattle.av1_streams.specs.Faults.{HasCause};
+ghost use Rattle.av1_view.specs.Gathered.{gathered_bytes, gathered_faults};
+
+use av1_streams::{Failed, Sink};
+use std::alloc::Global;
+
+/// All bytes so far. A write fails only where memory runs out.
+#[derive(Drop)]
+pub struct Gathered {
+    bytes: Vec<u8>,
+    faults: u64,
+}
+
+impl Gathered {
+    /// No bytes yet.
+    pub fn new(alloc: Global) -> Gathered
+        ensures { gathered_bytes result ≡ [] }
+    {
+        Gathered {
+            bytes: Vec::new(alloc),
+            faults: 0,
+        }
+    }
+
+    /// The bytes that were written.
+    pub fn into_bytes(self) -> Vec<u8>
+        ensures { result.items ≡ gathered_bytes self }
+    {
+        let Gathered { bytes, .. } = self;
+        bytes
+    }
+}
+
+impl Sink for Gathered {
+    ghost taken = { λ s. Some (gathered_bytes s) };
+
+    ghost faults = { gathered_faults };
+
+    /// Takes all, or nothing where memory runs out.
+    fn write(&mut self, buf: &[u8]) -> Result<usize, Failed>
+        requires { 0 < length buf.now }
+        ensures some { IfOk result (λ count. 0 < count) }
+        ensures bound { WritesAtMost result buf.now }
+        ensures bytes { WriteAppends (Some (gathered_bytes self.old)) (Some (gathered_bytes self.new)) result buf.now }
+        ensures cause { HasCause (gathered_faults self.old) (gathered_faults self.new) result }
+    {
+        if self.bytes.extend_from_slice(buf).is_err() {
+            self.faults = self.faults.saturating_add(1);
+            return Err(Failed);
+        }
+        Ok(buf.len())
+    }
+}

@@ -1,0 +1,116 @@
+//! From the bytes of a trace to a page that shows its plan, and where given samples differ.
+ghost use Rattle.std.specs.Prelude.{◌≡◌, ◌≢◌, ◌≤◌, None, IfOk, IfErr, length};
+ghost use Rattle.av1_plan.specs.Answer.{plan_value};
+ghost use Rattle.av1_plan.specs.Validity.{first_fault};
+ghost use Rattle.av1_streams.specs.Tasks.{Performs, WritesBytes};
+ghost use Rattle.av1_trace.specs.Checking.{cause};
+ghost use Rattle.av1_trace.specs.Traces.{AreRefusedFor, IsTrace, max_trace_bytes};
+ghost use Rattle.av1_trace.specs.declared.error.TraceError.TheVariants.{Malformed, Memory};
+ghost use Rattle.av1_view.specs.Shown.{IsSpelledWithin, trace_page};
+ghost use Rattle.av1_view.specs.TracePages.{ReadsTrace, trace_page_task};
+
+use crate::page::{Shown, write_page};
+use crate::view::gather;
+use av1_blocks::OutOfMemory;
+use av1_plan::Plan;
+use av1_recon::{Sink, Source};
+use av1_streams::read_bytes;
+use av1_trace::{MAX_TRACE_BYTES, TraceError, planes_len, trace_parts, valid_plan};
+use std::alloc::Global;
+
+// The bytes before the plan: four letters, and the length of the plan.
+const HEAD: usize = 8;
+
+/// A valid plan, and the bytes of its planes as another encoder left them.
+#[derive(Drop)]
+pub struct Trace {
+    plan: Plan,
+    planes: Vec<u8>,
+}
+
+/// Reads a trace from the source to its end, and appends a page to the sink that shows its plan, as [`crate::view::view_plan`] does, and the
+/// planes that it gives.
+///
+/// # Errors
+///
+/// As for [`av1_trace::check_trace`]: `ReadFault` and `TooLong` while it reads; then `Malformed`, for the letters, the length or a plan that is
+/// cut; then `Plan`; then `Malformed`, for planes of another length than the plan's; then `WriteFault`. `Memory` may stand in place of any of
+/// them, before the first written byte.
+pub fn view_trace<R: Source, W: Sink>(
+    alloc: Global,
+    source: &mut R,
+    sink: &mut W,
+) -> Result<(), TraceError>
+    ensures { Performs trace_page_task R.left R.faults W.taken W.faults source.old source.new sink.old sink.new result }
+{
+    let trace = read_trace(alloc, source)?;
+    append_trace(alloc, &trace.plan, &trace.planes, sink)
+}
+
+// Reads a trace.
+fn read_trace<R: Source>(alloc: Global, source: &mut R) -> Result<Trace, TraceError>
+    ensures { ReadsTrace R.left R.faults source.old source.new result }
+{
+    let bytes = read_bytes(alloc, source, MAX_TRACE_BYTES)?;
+    trace_of(alloc, &bytes)
+}
+
+// The trace that these bytes are.
+fn trace_of(alloc: Global, bytes: &[u8]) -> Result<Trace, TraceError>
+    requires short { length bytes.now ≤ max_trace_bytes }
+    ensures found { IfOk result (λ trace. IsTrace bytes.now (plan_value trace.plan) trace.planes.items) }
+    ensures refused { IfErr result (λ e. e ≢ Memory → AreRefusedFor bytes.now e) }
+{
+    let parts = trace_parts(bytes)?;
+    let plan = valid_plan(alloc, parts.plan)?;
+    let len = planes_len(plan.header());
+    let behind = HEAD + parts.plan.len();
+    if parts.planes.len() < len {
+        return Err(malformed(behind));
+    }
+    if parts.planes.len() > len {
+        return Err(malformed(behind + len));
+    }
+    let planes = copied(alloc, parts.planes)?;
+    Ok(Trace { plan, planes })
+}
+
+// The same bytes.
+fn copied(alloc: Global, bytes: &[u8]) -> Result<Vec<u8>, OutOfMemory>
+    ensures { IfOk result (λ copy. copy.items ≡ bytes.now) }
+{
+    let mut copy = Vec::new(alloc);
+    copy.extend_from_slice(bytes)?;
+    Ok(copy)
+}
+
+// The field that begins at this byte is at fault.
+fn malformed(at: usize) -> TraceError
+    requires { at ≤ max_trace_bytes }
+    ensures { result ≡ Malformed at }
+{
+    TraceError::Malformed { at: at as u32 }
+}
+
+// Appends the page of a valid plan and of given planes.
+#[tactic(auto, using(crate::proofs::Pages::page_is))]
+fn append_trace<W: Sink>(
+    alloc: Global,
+    plan: &Plan,
+    given: &[u8],
+    sink: &mut W,
+) -> Result<(), TraceError>
+    requires valid { first_fault (plan_value plan.now) ≡ None }
+    requires spelled { IsSpelledWithin (plan_value plan.now) }
+    ensures { WritesBytes cause W.taken W.faults sink.old sink.new (trace_page (plan_value plan.now) given.now) result }
+{
+    let parts = gather(alloc, plan)?;
+    let shown = Shown {
+        plan: &parts.plan,
+        planes: &parts.planes,
+        predictions: &parts.predictions,
+        given,
+    };
+    write_page(shown, sink)?;
+    Ok(())
+}

@@ -1,0 +1,84 @@
+//! From the bytes of a plan to a page that shows it.
+ghost use Rattle.std.specs.Prelude.{◌≡◌, None, IfOk};
+ghost use Rattle.av1_plan.specs.Answer.{plan_value};
+ghost use Rattle.av1_plan.specs.Validity.{first_fault};
+ghost use Rattle.av1_planwrite.specs.Bare.{bare};
+ghost use Rattle.av1_planwrite.specs.Text.{plan_text};
+ghost use Rattle.av1_recon.specs.Outcomes.{Converts};
+ghost use Rattle.av1_recon.specs.Writing.{Writes};
+ghost use Rattle.av1_tile.specs.Output.{planes_of};
+ghost use Rattle.av1_view.specs.Shown.{IsSpelledWithin, plan_page};
+
+use crate::page::{Shown, write_page};
+use crate::planes::{planes, predictions};
+use av1_blocks::OutOfMemory;
+use av1_plan::Plan;
+use av1_planwrite::write_plan;
+use av1_recon::{ReconError, Sink, Source, read_plan};
+use std::alloc::Global;
+
+/// Reads a plan from the source to its end, and appends a page to the sink that shows it: the constant parts of the page, and between them in
+/// base64 the plan's bytes, its visible planes, and those of its predictions alone.
+///
+/// # Errors
+///
+/// As for [`av1_recon::reconstruct_plan`]: `ReadFault` and `TooLong` while it reads, then `Malformed`, then `Invalid`, then
+/// `WriteFault`. `Memory` may stand in place of any of them, before the first written byte.
+pub fn view_plan<R: Source, W: Sink>(
+    alloc: Global,
+    source: &mut R,
+    sink: &mut W,
+) -> Result<(), ReconError>
+    ensures { Converts plan_page R.left R.faults W.taken W.faults source.old source.new sink.old sink.new result }
+{
+    let plan = read_plan(alloc, source)?;
+    append_page(alloc, &plan, sink)
+}
+
+/// What the page of a plan shows, in memory.
+#[derive(Drop)]
+pub struct Parts {
+    /// The plan's bytes.
+    pub plan: Vec<u8>,
+    /// Its planes.
+    pub planes: Vec<u8>,
+    /// The planes of its predictions alone.
+    pub predictions: Vec<u8>,
+}
+
+/// What the page of a valid plan shows.
+///
+/// # Errors
+///
+/// `OutOfMemory` where memory runs out.
+pub fn gather(alloc: Global, plan: &Plan) -> Result<Parts, OutOfMemory>
+    requires valid { first_fault (plan_value plan.now) ≡ None }
+    requires spelled { IsSpelledWithin (plan_value plan.now) }
+    ensures plan { IfOk result (λ parts. parts.plan.items ≡ plan_text (plan_value plan.now)) }
+    ensures planes { IfOk result (λ parts. parts.planes.items ≡ planes_of (plan_value plan.now)) }
+    ensures predictions { IfOk result (λ parts. parts.predictions.items ≡ planes_of (bare (plan_value plan.now))) }
+{
+    Ok(Parts {
+        plan: write_plan(alloc, plan)?,
+        planes: planes(alloc, plan)?,
+        predictions: predictions(alloc, plan)?,
+    })
+}
+
+// Appends the page of a valid plan.
+#[tactic(auto, using(crate::proofs::Pages::page_is))]
+fn append_page<W: Sink>(alloc: Global, plan: &Plan, sink: &mut W) -> Result<(), ReconError>
+    requires valid { first_fault (plan_value plan.now) ≡ None }
+    requires spelled { IsSpelledWithin (plan_value plan.now) }
+    ensures { Writes W.taken W.faults sink.old sink.new (plan_page (plan_value plan.now)) result }
+{
+    let parts = gather(alloc, plan)?;
+    let shown = Shown {
+        plan: &parts.plan,
+        planes: &parts.planes,
+        predictions: &parts.predictions,
+        given: &[],
+    };
+    write_page(shown, sink)?;
+    Ok(())
+}

@@ -1,0 +1,108 @@
+"""A headless Chromium that is told what to do through a pipe, by its DevTools protocol."""
+import base64
+import json
+import os
+import shutil
+import subprocess
+import tempfile
+
+ARGUMENTS = ["--headless=new", "--no-sandbox", "--disable-gpu", "--hide-scrollbars", "--mute-audio", "--no-first-run",
+             "--disable-background-networking", "--disable-component-update", "--remote-debugging-pipe", "--force-device-scale-factor=1"]
+
+
+class Browser:
+    """One browser with one page; use it in a `with`."""
+
+    def __init__(self, width, height, program="chromium"):
+        self.profile = tempfile.mkdtemp(prefix="view_in_browser.")
+        to_browser, self.write_end = os.pipe()
+        self.read_end, from_browser = os.pipe()
+
+        def move():
+            # The browser reads commands from descriptor 3 and writes answers to 4.
+            low, high = os.dup(to_browser), os.dup(from_browser)
+            os.dup2(low, 3)
+            os.dup2(high, 4)
+
+        command = [program, *ARGUMENTS, f"--user-data-dir={self.profile}", f"--window-size={width},{height}", "about:blank"]
+        self.process = subprocess.Popen(command, preexec_fn=move, close_fds=False, stdin=subprocess.DEVNULL, stdout=subprocess.DEVNULL,
+                                        stderr=subprocess.DEVNULL)
+        os.close(to_browser)
+        os.close(from_browser)
+        self.rest, self.number, self.session, self.events = b"", 0, None, []
+        target = self.call("Target.createTarget", url="about:blank")["targetId"]
+        self.session = self.call("Target.attachToTarget", targetId=target, flatten=True)["sessionId"]
+        for domain in ("Page", "Runtime", "Network"):
+            self.call(domain + ".enable")
+        self.call("Emulation.setDeviceMetricsOverride", width=width, height=height, deviceScaleFactor=1, mobile=False)
+
+    def __enter__(self):
+        return self
+
+    def __exit__(self, *reason):
+        self.process.terminate()
+        self.process.wait()
+        os.close(self.write_end)
+        os.close(self.read_end)
+        shutil.rmtree(self.profile, ignore_errors=True)
+
+    def receive(self):
+        while b"\0" not in self.rest:
+            piece = os.read(self.read_end, 1 << 20)
+            if not piece:
+                raise RuntimeError("the browser ended")
+            self.rest += piece
+        message, self.rest = self.rest.split(b"\0", 1)
+        return json.loads(message)
+
+    def call(self, method, **parameters):
+        """Does one command, and gives its result; what else the browser says meanwhile is kept in `events`."""
+        self.number += 1
+        message = {"id": self.number, "method": method, "params": parameters}
+        if self.session:
+            message["sessionId"] = self.session
+        os.write(self.write_end, json.dumps(message).encode() + b"\0")
+        while True:
+            answer = self.receive()
+            if answer.get("id") == self.number:
+                if "error" in answer:
+                    raise RuntimeError(f"{method}: {answer['error']}")
+                return answer["result"]
+            self.events.append(answer)
+
+    def wait(self, method):
+        while not any(event.get("method") == method for event in self.events):
+            self.events.append(self.receive())
+
+    def open(self, path):
+        self.events = []
+        self.call("Page.navigate", url="file://" + os.path.abspath(path))
+        self.wait("Page.loadEventFired")
+
+    def value(self, expression):
+        """What an expression of the page comes to."""
+        answer = self.call("Runtime.evaluate", expression=expression, returnByValue=True, awaitPromise=True)
+        if "exceptionDetails" in answer:
+            raise RuntimeError(f"{expression}: {answer['exceptionDetails']}")
+        return answer["result"].get("value")
+
+    def key(self, key, text="", modifiers=0):
+        for kind in ("keyDown", "keyUp"):
+            parameters = {"type": kind, "key": key, "modifiers": modifiers}
+            if kind == "keyDown" and text:
+                parameters["text"] = text
+            self.call("Input.dispatchKeyEvent", **parameters)
+
+    def mouse(self, kind, x, y, **more):
+        self.call("Input.dispatchMouseEvent", type=kind, x=x, y=y, **more)
+
+    def faults(self):
+        """The page's own errors, and what it asked of the network beside its file."""
+        names = ("Runtime.exceptionThrown",)
+        faults = [event for event in self.events if event.get("method") in names]
+        asked = [event["params"]["request"]["url"] for event in self.events if event.get("method") == "Network.requestWillBeSent"]
+        return [str(fault["params"]["exceptionDetails"]) for fault in faults] + asked[1:]
+
+    def screenshot(self, path):
+        with open(path, "wb") as file:
+            file.write(base64.b64decode(self.call("Page.captureScreenshot", format="png")["data"]))

@@ -1,0 +1,81 @@
+#!/usr/bin/env python3
+"""Writes the constant parts of the page of `av1_view` as Rattle constants, from the page's own files.
+
+    tools/view_template/view_template.py            writes crates/av1_view/src/template.rt, and the stored run of the program
+    tools/view_template/view_template.py --check    says whether these are what the files come to
+
+The files are view.html, view.css and view.js in crates/av1_view/data. In view.html @STYLE@ and @SCRIPT@ stand for the other two, and
+@PLAN@, @PLANES@, @PREDICTIONS@ and @GIVEN@ for bytes in base64. The parts are all that stands between those four, and the script by itself.
+"""
+import base64
+import os
+import re
+import sys
+
+CRATE = os.path.join(os.path.dirname(os.path.abspath(__file__)), "..", "..", "crates", "av1_view")
+
+# Each part: its name, and what it is.
+PARTS = [
+    ("BEFORE_PLAN", "What stands before the bytes of the plan: the page without its script."),
+    ("BEFORE_PLANES", "Between the bytes of the plan and those of its planes."),
+    ("BEFORE_PREDICTIONS", "Between the planes and the predictions alone."),
+    ("BEFORE_GIVEN", "Between the predictions and the planes that a trace gives."),
+    ("BEFORE_SCRIPT", "Between the given planes and the script."),
+    ("SCRIPT", "The script, which reads all of these."),
+    ("AFTER_SCRIPT", "The end of the page."),
+]
+
+
+def read(name):
+    with open(os.path.join(CRATE, "data", name), encoding="ascii") as file:
+        return file.read()
+
+
+def parts():
+    """The texts of the parts, in their order."""
+    style, script = read("view.css"), read("view.js")
+    if "</" in script or "<!--" in script:
+        sys.exit("view.js has a text that ends or hides a script element")
+    pieces = re.split("@PLAN@|@PLANES@|@PREDICTIONS@|@GIVEN@|@SCRIPT@", read("view.html").replace("@STYLE@", style))
+    if len(pieces) != 6:
+        sys.exit("view.html lacks one of its places")
+    return pieces[:5] + [script, pieces[5]]
+
+
+def page(plan, planes, predictions, given=b""):
+    """The page of these bytes."""
+    front, *rest = [part.encode() for part in parts()]
+    return front + b"".join(base64.b64encode(data) + part for data, part in zip([plan, planes, predictions, given], rest)) + b"".join(rest[4:])
+
+
+def source():
+    """The module of constants."""
+    lines = ["//! The constant parts of the page, written by `tools/view_template` from the files in `data/`."]
+    for (name, text), part in zip(PARTS, parts()):
+        literal = part.replace("\\", "\\\\").replace('"', '\\"')
+        lines += ["", f"/// {text}", f'pub const {name}: &str = "{literal}";']
+    return "\n".join(lines) + "\n"
+
+
+def stored():
+    """The page of the worked plan of `av1_vectors`, whose predictions are 128 throughout."""
+    with open(os.path.join(CRATE, "stdin"), "rb") as plan, open(os.path.join(CRATE, "..", "av1_vectors", "stdout"), "rb") as planes:
+        return page(plan.read(), planes.read(), bytes([128]) * 192)
+
+
+def main():
+    written = {os.path.join("src", "template.rt"): source().encode(), "stdout": stored()}
+    if sys.argv[1:] == ["--check"]:
+        other = []
+        for name, data in written.items():
+            with open(os.path.join(CRATE, name), "rb") as file:
+                other += [] if file.read() == data else [name]
+        print("the same" if not other else "not what data/ comes to: " + ", ".join(other))
+        sys.exit(1 if other else 0)
+    for name, data in written.items():
+        with open(os.path.join(CRATE, name), "wb") as file:
+            file.write(data)
+
+
+if __name__ == "__main__":
+    main()
