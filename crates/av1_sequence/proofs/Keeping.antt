@@ -1,0 +1,140 @@
+-- A frame that is kept at a free place, and the slots that show it.
+use Rattle.std.proofs.Common.{ℕ, zero, suc, ◌<◌, ◌≡◌, ◌≢◌, ◌∙◌, true, false, Bool, List, length, Option, Some, None, refl, ap, sym, subst, arith, slice_index_or, is_some, if◌then◌else◌}
+use Rattle.std.specs.Prelude.{slice_set}
+use Rattle.std.specs.Option.{option_map}
+use Rattle.std.proofs.lemmas.List.{get_or-set_other, get_or-set_same, length-set}
+use Rattle.std.proofs.lemmas.Option.{same_Some}
+use Rattle.av1_frame.specs.declared.frame_invariants.FrameInvariants.{FrameInvariants}
+use Rattle.av1_frame.specs.declared.plane.Plane.{Plane}
+use Rattle.av1_frame.specs.declared.slots.Slot.{Slot}
+use Rattle.av1_frame.specs.Frames.{plane_of}
+use Rattle.av1_frame.specs.Planes.{padded}
+use Rattle.av1_lists.proofs.Lists.{by_index-same}
+use Rattle.av1_plan.specs.declared.header.Header.{Header}
+use Rattle.av1_references.specs.References.{HoldsPlane}
+use Rattle.av1_tile.specs.declared.planes.Planes.{Planes}
+use Rattle.av1_sequence.specs.Kept.{AreReady, IsKeptAt, KeepsFrames, own, plane_shown, planes_shown, shown_at, shown_in, slots_shown}
+use Rattle.av1_sequence.specs.Slots.{Frame, has_bit, refreshed, slot_of}
+use Rattle.av1_sequence.proofs.Serving.{slot_shown}
+use Rattle.av1_sequence.proofs.Shown.{padded_holds, padded_shown}
+
+-- what a place shows that was not written to
+module _ (h : Header) (fi : FrameInvariants ℕ) (place : ℕ) (slot : Slot ℕ) where
+  abbrev written : FrameInvariants ℕ
+  written = record fi { slots = slice_set fi.slots place (Some slot) }
+
+  other_kept : (q : ℕ) → q ≢ place → slice_index_or written.slots q None ≡ slice_index_or fi.slots q None
+  other_kept q away = get_or-set_other fi.slots place q (Some slot) None away
+
+  other_stands : (q : ℕ) → q ≢ place → IsKeptAt h fi q → IsKeptAt h written q
+  other_stands q away stands = record {
+    below = stands.below;
+    filled = ap is_some (other_kept q away) ∙ stands.filled;
+    planes = λ p plane few e. stands.planes p plane few (sym (ap (option_map (λ (t : Slot ℕ). plane_of t p)) (other_kept q away)) ∙ e);
+  }
+
+  other_shown : (o : Option ℕ) → o ≢ Some place → shown_in h written o ≡ shown_in h fi o
+  other_shown None away = refl
+  other_shown (Some q) away = ap (option_map (λ (t : Slot ℕ). planes_shown h t.y t.u t.v)) (other_kept q (λ e. away (ap Some e)))
+
+module _ (h : Header) (planes : Planes ℕ) (ready : AreReady h planes) where
+  abbrev kept_slot : Slot ℕ
+  kept_slot = record { y = padded planes.y; u = padded planes.u; v = padded planes.v }
+
+  kept_holds : (p : ℕ) → p < 3 → HoldsPlane own h p (plane_shown h p (plane_of kept_slot p)) (plane_of kept_slot p)
+  kept_holds zero few = padded_holds h 0 planes.y ready.stores.y ready.pads.y
+  kept_holds (suc zero) few = padded_holds h 1 planes.u ready.stores.u ready.pads.u
+  kept_holds (suc (suc zero)) few = padded_holds h 2 planes.v ready.stores.v ready.pads.v
+  kept_holds (suc (suc (suc p))) few = absurd (omega (arith, few))
+
+  kept_shows : planes_shown h kept_slot.y kept_slot.u kept_slot.v ≡ planes_shown h planes.y planes.u planes.v
+  kept_shows = rw (padded_shown h 0 planes.y ready.stores.y, padded_shown h 1 planes.u ready.stores.u, padded_shown h 2 planes.v ready.stores.v) refl
+
+  module _ (fi : FrameInvariants ℕ) (places replaced : List (Option ℕ)) (refresh place : ℕ) (keeps : KeepsFrames h fi places) (below : place < 8)
+      (free : (s : ℕ) → s < 8 → has_bit refresh s ≡ false → slice_index_or places s None ≢ Some place)
+      (new : (s : ℕ) → s < 8 → has_bit refresh s ≡ true → slice_index_or replaced s None ≡ Some place)
+      (old : (s : ℕ) → s < 8 → has_bit refresh s ≡ false → slice_index_or replaced s None ≡ slice_index_or places s None) where
+    abbrev after : FrameInvariants ℕ
+    after = written h fi place kept_slot
+
+    abbrev frame : Frame
+    frame = planes_shown h planes.y planes.u planes.v
+
+    at_place : slice_index_or after.slots place None ≡ Some kept_slot
+    at_place = get_or-set_same fi.slots place (Some kept_slot) None (omega (arith, keeps.count, below))
+
+    -- the frame is shown at its place,
+    pub new_shown : shown_at h after place ≡ Some frame
+    new_shown = ap (option_map (λ (t : Slot ℕ). planes_shown h t.y t.u t.v)) at_place ∙ ap Some kept_shows
+
+    -- and stands there for others to be predicted from it
+    pub new_stands : IsKeptAt h after place
+    new_stands = record {
+      below = below;
+      filled = ap is_some at_place;
+      planes = λ p plane few e.
+          let same : plane_of kept_slot p ≡ plane = same_Some _ _ (sym (ap (option_map (λ (t : Slot ℕ). plane_of t p)) at_place) ∙ e) in
+          subst (λ (q : Plane ℕ). HoldsPlane own h p (plane_shown h p q) q) same (kept_holds p few);
+    }
+
+    shown_slot : (s : ℕ) → s < 8 → (b : Bool) → has_bit refresh s ≡ b → shown_in h after (slice_index_or replaced s None) ≡ (if b then Some frame else slot_of (slots_shown h fi places) s)
+    shown_slot s lt true e = ap (shown_in h after) (new s lt e) ∙ new_shown
+    shown_slot s lt false e = ap (shown_in h after) (old s lt e) ∙ other_shown h fi place kept_slot (slice_index_or places s None) (free s lt e) ∙ sym (slot_shown h fi places s lt)
+
+    -- the slots that it replaces show it, and all others what they showed
+    pub slots_replaced : slots_shown h after replaced ≡ refreshed (slots_shown h fi places) refresh frame
+    slots_replaced =
+        by_index-same 8 (λ s. shown_in h after (slice_index_or replaced s None)) (λ s. if has_bit refresh s then Some frame else slot_of (slots_shown h fi places) s)
+        (λ s lt. shown_slot s lt (has_bit refresh s) refl)
+
+    stands_at : (s q : ℕ) → s < 8 → (b : Bool) → has_bit refresh s ≡ b → slice_index_or replaced s None ≡ Some q → IsKeptAt h after q
+    stands_at s q lt true e is = subst (IsKeptAt h after) (same_Some _ _ (sym (new s lt e) ∙ is)) new_stands
+    stands_at s q lt false e is =
+        let before : slice_index_or places s None ≡ Some q = sym (old s lt e) ∙ is in
+        other_stands h fi place kept_slot q (λ same. free s lt e (before ∙ ap Some same)) (keeps.kept s q lt before)
+
+    pub keeps_after : length replaced ≡ 8 → KeepsFrames h after replaced
+    keeps_after eight = record {
+      frame = keeps.frame;
+      depth = keeps.depth;
+      eight = eight;
+      count = length-set fi.slots place (Some kept_slot) ∙ keeps.count;
+      kept = λ s q lt is. stands_at s q lt (has_bit refresh s) refl is;
+    }
+
+-- ---- the same of frame settings with a frame put in
+
+-- at this place, with its planes padded
+pub record IsPut (fi made : FrameInvariants ℕ) (planes : Planes ℕ) (place : ℕ) : Type 0 where
+  pub is : made ≡ record fi { slots = slice_set fi.slots place (Some (record { y = padded planes.y; u = padded planes.u; v = padded planes.v })) }
+
+pub put_in : (fi made : FrameInvariants ℕ) (planes : Planes ℕ) (n place : ℕ) (y u v : Plane ℕ) → n ≡ place → y ≡ padded planes.y → u ≡ padded planes.u → v ≡ padded planes.v
+    → made ≡ record fi { slots = slice_set fi.slots n (Some (record { y = y; u = u; v = v })) } → IsPut fi made planes place
+put_in fi made planes n place y u v n_is y_is u_is v_is e =
+    let with_planes : FrameInvariants ℕ → ℕ → Plane ℕ → Plane ℕ → Plane ℕ → FrameInvariants ℕ = λ fi n y u v. record fi { slots = slice_set fi.slots n (Some (record { y = y; u = u; v = v })) } in
+    record {
+      is = e ∙ ap (λ (n : ℕ). with_planes fi n y u v) n_is ∙ ap (λ (y : Plane ℕ). with_planes fi place y u v) y_is ∙ ap (λ (u : Plane ℕ). with_planes fi place (padded planes.y) u v) u_is
+          ∙ ap (λ (v : Plane ℕ). with_planes fi place (padded planes.y) (padded planes.u) v) v_is;
+    }
+
+-- the places once a frame has replaced slots
+pub record AreReplaced (places replaced : List (Option ℕ)) (refresh place : ℕ) : Type 0 where
+  pub below : place < 8
+  pub free : (s : ℕ) → s < 8 → has_bit refresh s ≡ false → slice_index_or places s None ≢ Some place
+  pub count : length replaced ≡ 8
+  pub new : (s : ℕ) → s < 8 → has_bit refresh s ≡ true → slice_index_or replaced s None ≡ Some place
+  pub old : (s : ℕ) → s < 8 → has_bit refresh s ≡ false → slice_index_or replaced s None ≡ slice_index_or places s None
+
+module _ (h : Header) (planes : Planes ℕ) (ready : AreReady h planes) (fi made : FrameInvariants ℕ) (places replaced : List (Option ℕ)) (refresh place : ℕ) (keeps : KeepsFrames h fi places)
+    (are : AreReplaced places replaced refresh place) (put : IsPut fi made planes place) where
+  pub put_keeps : KeepsFrames h made replaced
+  put_keeps = subst (λ (m : FrameInvariants ℕ). KeepsFrames h m replaced) (sym put.is) (keeps_after h planes ready fi places replaced refresh place keeps are.below are.free are.new are.old are.count)
+
+  pub put_slots : slots_shown h made replaced ≡ refreshed (slots_shown h fi places) refresh (planes_shown h planes.y planes.u planes.v)
+  put_slots = ap (λ (m : FrameInvariants ℕ). slots_shown h m replaced) put.is ∙ slots_replaced h planes ready fi places replaced refresh place keeps are.below are.free are.new are.old
+
+  pub put_shown : shown_at h made place ≡ Some (planes_shown h planes.y planes.u planes.v)
+  put_shown = ap (λ (m : FrameInvariants ℕ). shown_at h m place) put.is ∙ new_shown h planes ready fi places replaced refresh place keeps are.below are.free are.new are.old
+
+  pub put_stands : IsKeptAt h made place
+  put_stands = subst (λ (m : FrameInvariants ℕ). IsKeptAt h m place) (sym put.is) (new_stands h planes ready fi places replaced refresh place keeps are.below are.free are.new are.old)

@@ -1,0 +1,86 @@
+-- Planes that a frame is reconstructed in: ready in the header of the sequence as in the frame's own.
+use Rattle.std.proofs.Common.{ℕ, ◌<◌, ◌≡◌, ◌∙◌, refl, ap, sym, subst}
+use Rattle.av1_frame.specs.Planes.{sample_at}
+use Rattle.av1_plan.specs.declared.header.Header.{Header}
+use Rattle.av1_plan.specs.Geometry.{plane_height, plane_width, xdec, ydec}
+use Rattle.av1_plan.specs.Plan.{PlanValue}
+use Rattle.av1_tile.specs.declared.planes.Planes.{Planes}
+use Rattle.av1_tile.specs.Canvas.{Component, Y, U, V}
+use Rattle.av1_tile.specs.Edge.{sample_of}
+use Rattle.av1_tile.specs.Output.{by_rows}
+use Rattle.av1_tile.specs.PlaneBlocks.{extent_of, number}
+use Rattle.av1_tile.specs.Reference.{slow_walk}
+use Rattle.av1_tile.specs.Walk.{HasPad, HasRoom, SameLayout, StoresAll, plane_of}
+use Rattle.av1_tile.proofs.Pictures.{room_kept}
+use Rattle.av1_sequence.specs.declared.head.FrameHead.{FrameHead}
+use Rattle.av1_sequence.specs.Frames.{frame_header, frame_of}
+use Rattle.av1_sequence.specs.Kept.{AreReady, own, plane_shown, planes_shown}
+use Rattle.av1_sequence.specs.Slots.{Slots}
+use Rattle.av1_sequence.proofs.Rows.{samples_same}
+
+module _ (h : Header) (slots : Slots) (head : FrameHead) where
+  abbrev own_header : Header
+  own_header = frame_header h slots head
+
+  pub stores_in : (planes : Planes ℕ) → StoresAll own h planes → StoresAll own own_header planes
+  unfolding plane_width plane_height xdec ydec
+  stores_in planes s = record {
+    y = record { place = record { whole = s.y.place.whole; width = s.y.place.width; height = s.y.place.height; xdec = s.y.place.xdec; ydec = s.y.place.ydec }; within = s.y.within };
+    u = record { place = record { whole = s.u.place.whole; width = s.u.place.width; height = s.u.place.height; xdec = s.u.place.xdec; ydec = s.u.place.ydec }; within = s.u.within };
+    v = record { place = record { whole = s.v.place.whole; width = s.v.place.width; height = s.v.place.height; xdec = s.v.place.xdec; ydec = s.v.place.ydec }; within = s.v.within };
+  }
+
+  pub stores_out : (planes : Planes ℕ) → StoresAll own own_header planes → StoresAll own h planes
+  unfolding plane_width plane_height xdec ydec
+  stores_out planes s = record {
+    y = record { place = record { whole = s.y.place.whole; width = s.y.place.width; height = s.y.place.height; xdec = s.y.place.xdec; ydec = s.y.place.ydec }; within = s.y.within };
+    u = record { place = record { whole = s.u.place.whole; width = s.u.place.width; height = s.u.place.height; xdec = s.u.place.xdec; ydec = s.u.place.ydec }; within = s.u.within };
+    v = record { place = record { whole = s.v.place.whole; width = s.v.place.width; height = s.v.place.height; xdec = s.v.place.xdec; ydec = s.v.place.ydec }; within = s.v.within };
+  }
+
+  pub room_in : (planes : Planes ℕ) → HasRoom h planes → HasRoom own_header planes
+  unfolding plane_width plane_height xdec ydec
+  room_in planes r = record {
+    y = record { columns = r.y.columns; rows = r.y.rows };
+    u = record { columns = r.u.columns; rows = r.u.rows };
+    v = record { columns = r.v.columns; rows = r.v.rows };
+  }
+
+  pub room_out : (planes : Planes ℕ) → HasRoom own_header planes → HasRoom h planes
+  unfolding plane_width plane_height xdec ydec
+  room_out planes r = record {
+    y = record { columns = r.y.columns; rows = r.y.rows };
+    u = record { columns = r.u.columns; rows = r.u.rows };
+    v = record { columns = r.v.columns; rows = r.v.rows };
+  }
+
+  pub ready_in : (planes : Planes ℕ) → AreReady h planes → AreReady own_header planes
+  ready_in planes ready = record { stores = stores_in planes ready.stores; room = room_in planes ready.room; pads = ready.pads }
+
+  pub ready_out : (planes : Planes ℕ) → AreReady own_header planes → AreReady h planes
+  ready_out planes ready = record { stores = stores_out planes ready.stores; room = room_out planes ready.room; pads = ready.pads }
+
+  pub ready_after : (p q : Planes ℕ) → AreReady h p → StoresAll own own_header q → SameLayout p q → AreReady h q
+  ready_after p q ready stores same = record {
+    stores = stores_out q stores;
+    room = room_kept h p q same ready.room;
+    pads = record {
+      y = subst (HasPad 80) (sym same.y) ready.pads.y;
+      u = subst (HasPad 80) (sym same.u) ready.pads.u;
+      v = subst (HasPad 80) (sym same.v) ready.pads.v;
+    };
+  }
+
+  shown_in_own : (q : Planes ℕ) → planes_shown h q.y q.u q.v ≡ planes_shown own_header q.y q.u q.v
+  unfolding plane_width plane_height xdec ydec
+  shown_in_own q = refl
+
+  -- planes with the samples that a plan comes to show its frame
+  pub frame_shown : (plan : PlanValue) (q : Planes ℕ) → own_header ≡ plan.header
+      → ((k : Component) (x y : ℕ) → x < plane_width plan.header (number k) → y < plane_height plan.header (number k) → sample_at own (plane_of k q) x y ≡ sample_of (slow_walk plan k x y))
+      → planes_shown h q.y q.u q.v ≡ frame_of plan
+  frame_shown plan q e shows =
+      shown_in_own q ∙ ap (λ (g : Header). planes_shown g q.y q.u q.v) e ∙ rw (same Y, same U, same V) refl
+    where
+      same : (k : Component) → plane_shown plan.header (number k) (plane_of k q) ≡ by_rows (extent_of plan.header (number k)) (λ x y. sample_of (slow_walk plan k x y))
+      same k = samples_same (extent_of plan.header (number k)) (λ x y. sample_at own (plane_of k q) x y) (λ x y. sample_of (slow_walk plan k x y)) (shows k)

@@ -1,0 +1,88 @@
+-- What planes in memory show, in a frame's own header as in that of its sequence.
+use Rattle.std.proofs.Common.{ℕ, zero, suc, ◌<◌, ◌≡◌, ◌∙◌, ◌^◌, true, List, Option, Some, None, refl, sym, subst, arith, slice_index, is_some}
+use Rattle.std.specs.Option.{option_map}
+use Rattle.std.proofs.Math.Nat.{mul_comm}
+use Rattle.std.proofs.lemmas.List.{map-id}
+use Rattle.std.proofs.lemmas.Nat.{pow_pos}
+use Rattle.av1_frame.specs.declared.frame_invariants.FrameInvariants.{FrameInvariants}
+use Rattle.av1_frame.specs.declared.plane.Plane.{Plane}
+use Rattle.av1_frame.specs.Planes.{padded, place_at, sample_at}
+use Rattle.av1_inter.proofs.Vectors.{padded_is_padded, visible_stays}
+use Rattle.av1_plan.specs.declared.header.Header.{Header}
+use Rattle.av1_plan.specs.Geometry.{plane_height, plane_width, xdec, ydec}
+use Rattle.av1_plan.specs.ReadPlans.{ArePlane}
+use Rattle.av1_references.specs.References.{HoldsPlane}
+use Rattle.av1_references.proofs.Filled.{read_below}
+use Rattle.av1_tile.specs.PlaneBlocks.{extent_of}
+use Rattle.av1_tile.specs.Walk.{HasPad, Stores}
+use Rattle.av1_sequence.specs.declared.head.FrameHead.{FrameHead}
+use Rattle.av1_sequence.specs.Frames.{frame_header}
+use Rattle.av1_sequence.specs.Kept.{own, plane_shown, shown_in}
+use Rattle.av1_sequence.specs.Slots.{Slots}
+use Rattle.av1_sequence.proofs.Rows.{sample_in, samples_all, samples_count, samples_same}
+
+-- ---- a plane
+
+-- a plane in the frame of a header, told of the samples that it shows
+pub plane_held : (h : Header) (p : ℕ) (plane : Plane ℕ) → HoldsPlane own h p (plane_shown h p plane) plane → ArePlane h p (plane_shown h p plane)
+plane_held h p plane holds = record {
+  count = samples_count (extent_of h p) (λ x y. sample_at own plane x y) ∙ mul_comm (plane_height h p) (plane_width h p);
+  range = samples_all (λ sample. sample < 2 ^ h.depth) (extent_of h p) (λ x y. sample_at own plane x y) holds.within;
+}
+
+sample_within : (h : Header) (p : ℕ) (plane : Plane ℕ) → Stores own h p plane → (x y : ℕ) → sample_at own plane x y < 2 ^ h.depth
+sample_within h p plane stores x y =
+    subst (λ (xs : List ℕ). slice_index xs (place_at plane.plane_cfg x y) < 2 ^ h.depth) (sym (map-id plane.samples)) (read_below plane.samples (2 ^ h.depth) (place_at plane.plane_cfg x y) (pow_pos h.depth) stores.within)
+
+module _ (h : Header) (p : ℕ) (plane : Plane ℕ) (stores : Stores own h p plane) where
+  padded_same : (x y : ℕ) → x < plane_width h p → y < plane_height h p → sample_at own (padded plane) x y ≡ sample_at own plane x y
+  padded_same x y hx hy = visible_stays own plane x y stores.place.whole (omega (arith, hx, stores.place.width)) (omega (arith, hy, stores.place.height))
+
+  -- padding changes nothing that is shown
+  pub padded_shown : plane_shown h p (padded plane) ≡ plane_shown h p plane
+  padded_shown = samples_same (extent_of h p) (λ x y. sample_at own (padded plane) x y) (λ x y. sample_at own plane x y) padded_same
+
+  -- a plane that was padded holds what it shows
+  pub padded_holds : HasPad 80 plane.plane_cfg → HoldsPlane own h p (plane_shown h p (padded plane)) (padded plane)
+  padded_holds pad = record {
+    padded = padded_is_padded own plane (padded plane) refl stores.place.whole;
+    xpad = omega (arith, pad.columns);
+    ypad = omega (arith, pad.rows);
+    width = stores.place.width;
+    height = stores.place.height;
+    xdec = stores.place.xdec;
+    ydec = stores.place.ydec;
+    shows = λ x y hx hy. sym (sample_in (extent_of h p) (λ x y. sample_at own (padded plane) x y) x y hx hy);
+    within = λ x y hx hy. subst (λ (n : ℕ). n < 2 ^ h.depth) (sym (padded_same x y hx hy)) (sample_within h p plane stores x y);
+  }
+
+-- ---- the same in a frame's own header
+
+module _ (h : Header) (slots : Slots) (head : FrameHead) where
+  pub shown_same : (p : ℕ) (plane : Plane ℕ) → plane_shown (frame_header h slots head) p plane ≡ plane_shown h p plane
+  unfolding plane_width plane_height xdec ydec
+  shown_same zero plane = refl
+  shown_same (suc p) plane = refl
+
+  pub held_same : (p : ℕ) (samples : List ℕ) (plane : Plane ℕ) → HoldsPlane own h p samples plane → HoldsPlane own (frame_header h slots head) p samples plane
+  unfolding plane_width plane_height xdec ydec
+  held_same zero samples plane o =
+      record { padded = o.padded; xpad = o.xpad; ypad = o.ypad; width = o.width; height = o.height; xdec = o.xdec; ydec = o.ydec; shows = o.shows; within = o.within }
+  held_same (suc p) samples plane o =
+      record { padded = o.padded; xpad = o.xpad; ypad = o.ypad; width = o.width; height = o.height; xdec = o.xdec; ydec = o.ydec; shows = o.shows; within = o.within }
+
+-- ---- places
+
+-- a slot that shows a frame has a place
+pub place_of : (h : Header) (fi : FrameInvariants ℕ) (o : Option ℕ) → is_some (shown_in h fi o) ≡ true → (place : ℕ) × (o ≡ Some place)
+place_of h fi None e = absurd cc
+place_of h fi (Some place) e = (place, refl)
+
+-- a place that is filled has three planes
+pub filled_planes : {X : Type 0} (o : Option X) → is_some o ≡ true → (x : X) × (o ≡ Some x)
+filled_planes None e = absurd cc
+filled_planes (Some x) e = (x, refl)
+
+pub some_mapped : {X Y : Type 0} (f : X → Y) (o : Option X) → is_some (option_map f o) ≡ is_some o
+some_mapped f None = refl
+some_mapped f (Some x) = refl

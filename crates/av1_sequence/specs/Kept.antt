@@ -1,0 +1,77 @@
+-- What a sequence keeps, and what is seen of it.
+use Rattle.std.specs.Prelude.{◌≡◌, ℕ, ◌<◌, ◌≤◌, true, List, [], ◌∷◌, Option, Some, None, option_map, is_some, length, slice_index_or}
+use Rattle.av1_frame.specs.declared.frame_invariants.FrameInvariants.{FrameInvariants}
+use Rattle.av1_frame.specs.declared.plane.Plane.{Plane}
+use Rattle.av1_frame.specs.Frames.{slot_plane}
+use Rattle.av1_frame.specs.Planes.{sample_at}
+use Rattle.av1_lists.specs.Lists.{by_index}
+use Rattle.av1_plan.specs.declared.header.Header.{Header}
+use Rattle.av1_plan.specs.Grammar.{is_depth}
+use Rattle.av1_plan.specs.ReadPlans.{IsSide}
+use Rattle.av1_references.specs.References.{HoldsPlane}
+use Rattle.av1_tile.specs.declared.planes.Planes.{Planes}
+use Rattle.av1_tile.specs.Output.{by_rows}
+use Rattle.av1_tile.specs.PlaneBlocks.{extent_of}
+use Rattle.av1_tile.specs.Walk.{HasPads, HasRoom, StoresAll}
+use Rattle.av1_sequence.specs.Slots.{Frame, Slots}
+
+-- What callers see of a sequence: a header with the sides, depth and sampling of its frames, its slots, and the frame that was accepted last.
+pub record Kept : Type 0 where
+  pub frames : Header
+  pub slots : Slots
+  pub last : Option Frame
+
+-- ---- planes in memory
+
+-- a sample is its own number
+abbrev pub own : ℕ → ℕ
+own v = v
+
+-- the visible samples of plane p, row by row
+abbrev pub plane_shown : Header → ℕ → Plane ℕ → List ℕ
+plane_shown h p plane = by_rows (extent_of h p) (λ x y. sample_at own plane x y)
+
+-- of three planes
+abbrev pub planes_shown : Header → (y u v : Plane ℕ) → Frame
+planes_shown h y u v = plane_shown h 0 y ∷ plane_shown h 1 u ∷ plane_shown h 2 v ∷ []
+
+-- planes that a frame can be reconstructed in, and then kept
+pub record AreReady (h : Header) (planes : Planes ℕ) : Type 0 where
+  pub stores : StoresAll own h planes
+  pub room : HasRoom h planes
+  pub pads : HasPads 80 planes
+
+-- ---- frames at places
+
+-- the frame at a place
+abbrev pub shown_at : Header → FrameInvariants ℕ → ℕ → Option Frame
+shown_at h fi place = option_map (λ s. planes_shown h s.y s.u s.v) (slice_index_or fi.slots place None)
+
+abbrev pub shown_in : Header → FrameInvariants ℕ → Option ℕ → Option Frame
+shown_in h fi None = None
+shown_in h fi (Some place) = shown_at h fi place
+
+-- the slots, each with the frame at its place
+abbrev pub slots_shown : Header → FrameInvariants ℕ → (places : List (Option ℕ)) → Slots
+slots_shown h fi places = by_index 8 (λ s. shown_in h fi (slice_index_or places s None))
+
+-- a frame stands at this place, padded, so that others can be predicted from it
+pub record IsKeptAt (h : Header) (fi : FrameInvariants ℕ) (place : ℕ) : Type 0 where
+  pub below : place < 8
+  pub filled : is_some (slice_index_or fi.slots place None) ≡ true
+  pub planes : (p : ℕ) (plane : Plane ℕ) → p < 3 → slot_plane fi place p ≡ Some plane → HoldsPlane own h p (plane_shown h p plane) plane
+
+-- the sides, depth and sampling of the frames of a sequence
+pub record AreFrames (h : Header) : Type 0 where
+  pub width : IsSide h.width
+  pub height : IsSide h.height
+  pub depth : is_depth h.depth ≡ true
+  pub sampling : h.sampling ≤ 2
+
+-- the frames that slots show are kept at their places
+pub record KeepsFrames (h : Header) (fi : FrameInvariants ℕ) (places : List (Option ℕ)) : Type 0 where
+  pub frame : AreFrames h
+  pub depth : fi.bit_depth ≡ h.depth
+  pub count : length fi.slots ≡ 8
+  pub eight : length places ≡ 8
+  pub kept : (s place : ℕ) → s < 8 → slice_index_or places s None ≡ Some place → IsKeptAt h fi place

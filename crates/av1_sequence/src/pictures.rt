@@ -1,0 +1,272 @@
+//! The frames that slots show.
+//!
+//! A frame that replaces several slots is kept once: `places` says for each slot where its frame is kept, among eight places. A place that no
+//! slot shows is taken for the next frame.
+
+ghost use Rattle.std.specs.Prelude.{[], ◌≡◌, ◌≢◌, ℕ, ◌+◌, ◌*◌, ◌/◌, ◌%◌, ◌^◌, ◌<◌, ◌≤◌, true, false, None, Some, replicate, slice_index_or, is_some, length, IfOk};
+ghost use Rattle.av1_plan.specs.Geometry.{plane_len, plane_height, plane_width};
+ghost use Rattle.av1_plan.specs.Plan.{PlanValue};
+ghost use Rattle.av1_references.specs.References.{ServesPlan};
+ghost use Rattle.av1_sequence.specs.Frames.{IsHead, frame_bytes, frame_header, frame_references};
+ghost use Rattle.av1_sequence.specs.Kept.{AreFrames, AreReady, IsKeptAt, KeepsFrames, own, planes_shown, shown_at, slots_shown};
+ghost use Rattle.av1_sequence.specs.Slots.{Frame, bits_of, count_of, has_bit, is_named, is_read, refreshed, row_in};
+
+use crate::head::FrameHead;
+use av1_blocks::OutOfMemory;
+use av1_frame::FrameInvariants;
+use av1_plan::Header;
+use av1_tile::{Planes, visible_row};
+use std::alloc::Global;
+
+/// How many slots there are, and how many places.
+const SLOTS: usize = 8;
+
+/// The frames that slots show.
+#[derive(Drop)]
+pub struct Pictures {
+    /// The sides, depth and sampling of the frames.
+    pub(crate) header: Header,
+    /// The frames, padded, each at its place.
+    pub(crate) fi: FrameInvariants<u16>,
+    /// For each slot the place of its frame, where it is filled.
+    pub(crate) places: [Option<u8>; SLOTS],
+    pub(crate) ghost keeps: { KeepsFrames header fi places },
+}
+
+/// How many samples plane `p` of a frame has.
+fn plane_samples(header: &Header, p: usize) -> usize
+    requires { AreFrames header.now }
+    ensures value { result ≡ plane_len header.now p }
+    ensures few { result ≤ 2 ^ 22 }
+{
+    header.plane_width(p) * header.plane_height(p)
+}
+
+/// How many bytes the samples of a frame are: one a sample at depth 8, else two.
+fn frame_bytes(header: &Header) -> usize
+    requires { AreFrames header.now }
+    ensures value { result ≡ frame_bytes header.now }
+    ensures few { result ≤ 2 ^ 25 }
+{
+    let samples = plane_samples(header, 0) + plane_samples(header, 1) + plane_samples(header, 2);
+    if header.depth == 8 {
+        samples
+    } else {
+        samples * 2
+    }
+}
+
+/// Whether bit `slot` is set.
+#[tactic(auto, unfolding(crate::specs::Slots::has_bit))]
+fn has_bit(bits: u8, slot: usize) -> bool
+    requires { slot < 8 }
+    ensures { result ≡ has_bit bits slot }
+{
+    (bits >> slot) % 2 == 1
+}
+
+/// Whether one of the references names the slot.
+fn is_named(named: &[u8; 7], slot: usize) -> bool
+    ensures { result ≡ is_named named.now slot }
+{
+    named.iter().any(|name| usize::from(*name) == slot)
+}
+
+/// Whether a frame is kept for the slot at this place.
+fn is_at(kept: Option<u8>, place: u8) -> bool
+    ensures yes { result ≡ true → kept ≡ Some place }
+    ensures no { result ≡ false → kept ≢ Some place }
+{
+    match kept {
+        Some(at) => at == place,
+        None => false,
+    }
+}
+
+/// Whether a slot that the frame does not replace shows the frame at a place.
+fn is_shown(places: &[Option<u8>; SLOTS], refresh: u8, place: u8) -> bool
+    ensures yes { result ≡ true → (s : ℕ) × ((s < 8) × (has_bit refresh s ≡ false) × (slice_index_or places.now s None ≡ Some place)) }
+    ensures no { result ≡ false → (s : ℕ) → s < 8 → has_bit refresh s ≡ false → slice_index_or places.now s None ≢ Some place }
+{
+    for slot in 0..SLOTS {
+        if !has_bit(refresh, slot) && is_at(places[slot], place) {
+            return true;
+        }
+    }
+    false
+}
+
+/// The first place that no slot shows but those that the frame replaces. There is one, since it replaces a slot.
+fn free_place(places: &[Option<u8>; SLOTS], refresh: u8) -> u8
+    requires some { (r : ℕ) × ((r < 8) × (has_bit refresh r ≡ true)) }
+    ensures below { result < 8 }
+    ensures free { (s : ℕ) → s < 8 → has_bit refresh s ≡ false → slice_index_or places.now s None ≢ Some result }
+{
+    for place in 0..7 {
+        if !is_shown(places, refresh, place) {
+            return place;
+        }
+    }
+    7
+}
+
+/// The places once the frame at `place` has replaced slots.
+fn replaced(places: [Option<u8>; SLOTS], refresh: u8, place: u8) -> [Option<u8>; SLOTS]
+    requires { length places ≡ 8 }
+    ensures count { length result ≡ 8 }
+    ensures new { (s : ℕ) → s < 8 → has_bit refresh s ≡ true → slice_index_or result s None ≡ Some place }
+    ensures old { (s : ℕ) → s < 8 → has_bit refresh s ≡ false → slice_index_or result s None ≡ slice_index_or places s None }
+{
+    let mut replaced = places;
+    for slot in 0..SLOTS {
+        if has_bit(refresh, slot) {
+            replaced[slot] = Some(place);
+        }
+    }
+    replaced
+}
+
+/// For each reference the place of the frame in the slot that it names.
+fn places_of(places: &[Option<u8>; SLOTS], slots: &[u8; 7]) -> [u8; 7]
+    requires { (i : ℕ) → i < 7 → slice_index_or slots.now i 0 < 8 }
+    ensures { (i place : ℕ) → i < 7 → slice_index_or places.now (slice_index_or slots.now i 0) None ≡ Some place → slice_index_or result i 0 ≡ place }
+{
+    let mut named = [0; 7];
+    for reference in 0..7 {
+        named[reference] = places[usize::from(slots[reference])].unwrap_or(0);
+    }
+    named
+}
+
+impl Pictures {
+    /// No frames.
+    pub fn new(alloc: Global, header: Header) -> Result<Pictures, OutOfMemory>
+        requires { AreFrames header }
+        ensures header { IfOk result (λ p. p.header ≡ header) }
+        ensures slots { IfOk result (λ p. slots_shown p.header p.fi p.places ≡ replicate 8 None) }
+    {
+        let fi = FrameInvariants::new(
+            alloc,
+            usize::from(header.width),
+            usize::from(header.height),
+            header.filter,
+            usize::from(header.depth),
+            header.edge_filter,
+            [0; 7],
+        )?;
+        Ok(Pictures {
+            header,
+            fi,
+            places: [None; SLOTS],
+        })
+    }
+
+    /// Whether a frame with this head reads the slot.
+    fn is_read(&self, head: &FrameHead, slot: usize) -> bool
+        requires { slot < 8 }
+        ensures { result ≡ is_read head.now.slots (slots_shown self.now.header self.now.fi self.now.places) slot }
+    {
+        is_named(&head.slots, slot) && self.places[slot].is_some()
+    }
+
+    /// The slots that a frame with this head reads: bit s is slot s.
+    fn mask(&self, head: &FrameHead) -> u8
+        ensures { result ≡ bits_of (is_read head.now.slots (slots_shown self.now.header self.now.fi self.now.places)) 8 }
+    {
+        let mut mask = 0;
+        for slot in 0..SLOTS {
+            if self.is_read(head, slot) {
+                mask += 1 << slot;
+            }
+        }
+        mask
+    }
+
+    /// How many slots a frame with this head reads.
+    fn count(&self, head: &FrameHead) -> usize
+        ensures value { result ≡ count_of (is_read head.now.slots (slots_shown self.now.header self.now.fi self.now.places)) 8 }
+        ensures few { result ≤ 8 }
+    {
+        let mut count = 0;
+        for slot in 0..SLOTS {
+            if self.is_read(head, slot) {
+                count += 1;
+            }
+        }
+        count
+    }
+
+    /// The header of the plan of a frame with this head.
+    pub fn frame_header(&self, head: &FrameHead) -> Header
+        ensures { result ≡ frame_header self.now.header (slots_shown self.now.header self.now.fi self.now.places) head.now }
+    {
+        Header {
+            version: 2,
+            width: self.header.width,
+            height: self.header.height,
+            depth: self.header.depth,
+            sampling: self.header.sampling,
+            filter: head.filter,
+            edge_filter: head.edge_filter,
+            slots: head.slots,
+            mask: self.mask(head),
+        }
+    }
+
+    /// How many bytes the reference samples of a frame with this head are.
+    pub fn reference_bytes(&self, head: &FrameHead) -> usize
+        ensures value { result ≡ count_of (is_read head.now.slots (slots_shown self.now.header self.now.fi self.now.places)) 8 * frame_bytes self.now.header }
+        ensures few { result ≤ 2 ^ 28 }
+    {
+        self.count(head) * frame_bytes(&self.header)
+    }
+
+    /// Takes over the settings of a frame with this head, and lets its references name the places of the slots that it reads.
+    pub fn set_head(&mut self, head: &FrameHead)
+        requires { IsHead head.now }
+        ensures header { self.new.header ≡ self.old.header }
+        ensures slots { slots_shown self.new.header self.new.fi self.new.places ≡ slots_shown self.old.header self.old.fi self.old.places }
+        ensures places { self.new.places ≡ self.old.places }
+        ensures kept { self.new.fi.slots ≡ self.old.fi.slots }
+        ensures serves { let slots = slots_shown self.old.header self.old.fi self.old.places in
+            (plan : PlanValue) → plan.header ≡ frame_header self.old.header slots head.now → plan.references ≡ frame_references slots head.now → ServesPlan own plan self.new.fi }
+    {
+        self.fi.default_filter = head.filter;
+        self.fi.enable_intra_edge_filter = head.edge_filter;
+        self.fi.ref_frames = places_of(&self.places, &head.slots);
+    }
+
+    /// Keeps a frame, padded, at a place that no other slot shows, and says where: slots that it replaces then show it.
+    pub fn keep(&mut self, refresh: u8, planes: Planes<u16>) -> u8
+        requires some { refresh ≢ 0 }
+        requires ready { AreReady self.old.header planes }
+        ensures header { self.new.header ≡ self.old.header }
+        ensures slots { slots_shown self.new.header self.new.fi self.new.places ≡ refreshed (slots_shown self.old.header self.old.fi self.old.places) refresh (planes_shown self.old.header planes.y planes.u planes.v) }
+        ensures shown { shown_at self.new.header self.new.fi result ≡ Some (planes_shown self.old.header planes.y planes.u planes.v) }
+        ensures kept { IsKeptAt self.new.header self.new.fi result }
+    {
+        let Planes {
+            mut y,
+            mut u,
+            mut v,
+        } = planes;
+        y.pad();
+        u.pad();
+        v.pad();
+        let place = free_place(&self.places, refresh);
+        self.fi.set_slot(usize::from(place), y, u, v);
+        self.places = replaced(self.places, refresh, place);
+        place
+    }
+
+    /// Row `y` of plane `p` of the frame at a place.
+    pub fn row_at(&self, place: u8, p: usize, y: usize) -> &[u16]
+        requires kept { IsKeptAt self.now.header self.now.fi place }
+        requires plane { p < 3 }
+        requires in_plane { y < plane_height self.now.header p }
+        ensures { (frame : Frame) → shown_at self.now.header self.now.fi place ≡ Some frame → result.now ≡ row_in (plane_width self.now.header p) (slice_index_or frame p []) y }
+    {
+        let plane = self.fi.slot(usize::from(place), p).unwrap();
+        visible_row(plane, &self.header, p, y)
+    }
+}

@@ -1,0 +1,198 @@
+//! A sequence of frames, and the slots that it keeps between them.
+
+ghost use Rattle.std.specs.Prelude.{◌≡◌, ℕ, true, Some, None, is_some, IfOk, OnErr};
+ghost use Rattle.av1_plan.specs.ReadPlans.{IsReadFrame};
+ghost use Rattle.av1_tile.specs.declared.planes.Planes.{Planes};
+ghost use Rattle.av1_tile.specs.Memory.{HasRoomFor};
+ghost use Rattle.av1_sequence.specs.Kept.{AreReady, IsKeptAt};
+ghost use Rattle.av1_sequence.specs.declared.last.Last.TheVariants as lasts;
+
+use crate::error::FrameError;
+use crate::head::FrameHead;
+use crate::last::Last;
+use crate::leaves::read_leaves;
+use crate::pictures::Pictures;
+use av1_blocks::{FilterMode, OutOfMemory};
+use av1_plan::{Header, Plan};
+use av1_tile::{Planes, WalkMemory};
+use std::alloc::Global;
+use std::marker::Model;
+
+/// The most bytes of a plan.
+const MOST_BYTES: usize = 1 << 26;
+
+/// The bytes of a plan that stand before its references.
+const HEADER_BYTES: usize = 20;
+
+/// How many samples stand on every side of a frame that is kept: motion compensation of blocks with sides up to 64 reads so far.
+const PAD: usize = 80;
+
+/// A sequence of frames of one size, depth and sampling, and the eight slots that it keeps between them.
+#[derive(Drop)]
+pub struct Sequence {
+    alloc: Global,
+    pictures: Pictures,
+    memory: WalkMemory<u16>,
+    apart: Option<Planes<u16>>,
+    last: Last,
+    ghost room: { HasRoomFor pictures.header memory },
+    ghost ready: { (planes : _) → apart ≡ Some planes → AreReady pictures.header planes },
+    ghost apart_kept: { last ≡ lasts.Apart → is_some apart ≡ true },
+    ghost placed: { (place : ℕ) → last ≡ lasts.At place → IsKeptAt pictures.header pictures.fi place },
+}
+
+/// Planes that a frame with this header can be reconstructed in and then kept: those that stand apart, where there are some, else new ones.
+fn planes_for(
+    alloc: Global,
+    apart: Option<Planes<u16>>,
+    header: &Header,
+) -> Result<Planes<u16>, OutOfMemory>
+    requires frame { IsReadFrame header.now }
+    requires ready { (planes : Planes ℕ) → apart ≡ Some planes → AreReady header.now planes }
+    ensures ready { IfOk result (λ planes. AreReady header.now planes) }
+    ensures none { OnErr result (apart ≡ None) }
+{
+    match apart {
+        Some(planes) => Ok(planes),
+        None => Planes::new(alloc, header, PAD),
+    }
+}
+
+impl Model for Sequence {
+    ghost use Rattle.av1_sequence.specs.Kept.{Kept, slots_shown};
+    ghost use Rattle.av1_sequence.specs.Last.{last_shown};
+
+    ghost Value = { Kept };
+
+    ghost view = { λ s. record { frames = s.pictures.header; slots = slots_shown s.pictures.header s.pictures.fi s.pictures.places; last = last_shown s.pictures.header s.pictures.fi s.apart s.last } };
+}
+
+impl Sequence {
+    ghost use Rattle.std.specs.Prelude.{◌≡◌, ℕ, ◌<◌, ◌≤◌, ◌^◌, [], None, Some, length, option_map, slice_index_or, IfOk, IfErr, OnOk};
+    ghost use Rattle.av1_blocks.specs.Depths.{IsDepth};
+    ghost use Rattle.av1_plan.specs.Answer.{plan_value};
+    ghost use Rattle.av1_plan.specs.Geometry.{plane_height, plane_width};
+    ghost use Rattle.av1_plan.specs.Grammar.{plan as grammar};
+    ghost use Rattle.av1_plan.specs.ReadPlans.{IsSide};
+    ghost use Rattle.av1_plan.specs.Spelling.{IsSpelled};
+    ghost use Rattle.av1_plan.specs.Validity.{first_fault};
+    ghost use Rattle.av1_sequence.specs.Frames.{IsHead, frame_header};
+    ghost use Rattle.av1_sequence.specs.Outcomes.{Accepts, Refuses, accepted, new_sequence, plan_over};
+    ghost use Rattle.av1_sequence.specs.Slots.{row_in};
+
+    /// A sequence of frames with these sides (in samples of luma, multiples of 8 from 8 to 2048), of this depth (8, 10 or 12) and sampling (0
+    /// for 4:2:0, 1 for 4:2:2, 2 for 4:4:4), to which no frame was given yet.
+    pub fn new(
+        alloc: Global,
+        width: u16,
+        height: u16,
+        depth: u8,
+        sampling: u8,
+    ) -> Result<Sequence, OutOfMemory>
+        requires width { IsSide width }
+        requires height { IsSide height }
+        requires depth { IsDepth depth }
+        requires sampling { sampling ≤ 2 }
+        ensures { IfOk result (λ s. s ≡ new_sequence width height depth sampling) }
+    {
+        let header = Header {
+            version: 2,
+            width,
+            height,
+            depth,
+            sampling,
+            filter: FilterMode::REGULAR,
+            edge_filter: false,
+            slots: [0; 7],
+            mask: 0,
+        };
+        let pictures = Pictures::new(alloc, header)?;
+        let memory = WalkMemory::new(alloc, &header)?;
+        Ok(Sequence {
+            alloc,
+            pictures,
+            memory,
+            apart: None,
+            last: Last::Nowhere,
+        })
+    }
+
+    /// Takes the next frame: reconstructs the leaves that `part` spells, predicted from the slots that the head names, and lets the frame
+    /// replace the slots that the head says.
+    ///
+    /// # Errors
+    ///
+    /// `TooLarge` is judged first, then `Malformed`, then `Invalid`; `Memory` may stand in place of the last two. The sequence is then as it
+    /// was before.
+    pub fn frame(&mut self, head: &FrameHead, part: &[u8]) -> Result<(), FrameError>
+        requires part { length part.now ≤ 2 ^ 26 }
+        requires head { IsHead head.now }
+        ensures accepted { OnOk result (Accepts self.old head.now part.now self.new) }
+        ensures unchanged { IfErr result (λ e. self.new ≡ self.old) }
+        ensures refused { IfErr result (λ e. Refuses self.old head.now part.now e) }
+        ensures frames { self.new.frames ≡ self.old.frames }
+    {
+        let header = self.pictures.frame_header(head);
+        if MOST_BYTES < HEADER_BYTES + self.pictures.reference_bytes(head) + part.len() {
+            return Err(FrameError::TooLarge);
+        }
+        let leaves = match read_leaves(self.alloc, &header, part) {
+            Ok(leaves) => leaves,
+            Err(error) => return Err(error),
+        };
+        self.show(&header, head, &leaves)
+    }
+
+    // Reconstructs the leaves of a frame, and keeps it.
+    fn show(&mut self, header: &Header, head: &FrameHead, leaves: &Plan) -> Result<(), FrameError>
+        requires head { IsHead head.now }
+        requires header { header.now ≡ frame_header self.old.frames self.old.slots head.now }
+        requires spelled { ∥ IsSpelled grammar (plan_over self.old head.now (plan_value leaves.now)) ∥₁ }
+        requires valid { first_fault (plan_over self.old head.now (plan_value leaves.now)) ≡ None }
+        ensures accepted { OnOk result (self.new ≡ accepted self.old head.now (plan_over self.old head.now (plan_value leaves.now))) }
+        ensures unchanged { IfErr result (λ e. self.new ≡ self.old) }
+        ensures memory { IfErr result (λ e. e ≡ FrameError.Memory) }
+    {
+        let apart = self.apart.take();
+        let mut planes = planes_for(self.alloc, apart, header)?;
+        self.pictures.set_head(head);
+        self.memory
+            .reconstruct(&mut planes, &self.pictures.fi, header, leaves);
+        if head.refresh == 0 {
+            self.apart = Some(planes);
+            self.last = Last::Apart;
+        } else {
+            self.last = Last::At(self.pictures.keep(head.refresh, planes));
+        }
+        Ok(())
+    }
+
+    /// The visible row `y` of plane `p` (0 for Y, 1 for U and 2 for V) of the frame that was accepted last. None where no frame was accepted yet.
+    pub fn last_row(&self, p: usize, y: usize) -> Option<&[u16]>
+        requires plane { p < 3 }
+        requires in_plane { y < plane_height self.now.frames p }
+        ensures { option_map (λ row. row.now) result ≡ option_map (λ frame. row_in (plane_width self.now.frames p) (slice_index_or frame p []) y) self.now.last }
+    {
+        match self.last {
+            Last::Nowhere => None,
+            Last::Apart => match &self.apart {
+                Some(planes) => Some(planes.row(&self.pictures.header, p, y)),
+                None => None,
+            },
+            Last::At(place) => Some(self.pictures.row_at(place, p, y)),
+        }
+    }
+
+    /// The visible row `y` of plane `p` of the frame in a slot. None where the slot is empty.
+    pub fn slot_row(&self, slot: usize, p: usize, y: usize) -> Option<&[u16]>
+        requires slot { slot < 8 }
+        requires plane { p < 3 }
+        requires in_plane { y < plane_height self.now.frames p }
+        ensures { option_map (λ row. row.now) result ≡ option_map (λ frame. row_in (plane_width self.now.frames p) (slice_index_or frame p []) y) (slice_index_or self.now.slots slot None) }
+    {
+        match self.pictures.places[slot] {
+            Some(place) => Some(self.pictures.row_at(place, p, y)),
+            None => None,
+        }
+    }
+}

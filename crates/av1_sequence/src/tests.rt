@@ -1,0 +1,79 @@
+ghost use Rattle.std.specs.Prelude.{◌≡◌, ◌<◌};
+ghost use Rattle.av1_sequence.specs.Frames.{IsHead};
+ghost use Rattle.av1_sequence.specs.Outcomes.{frames_of};
+
+use super::*;
+use av1_blocks::FilterMode;
+use av1_plan::InvalidKind;
+use std::test::Fail;
+
+/// An 8x8 frame in one leaf of 64x64: mode 1, no coefficients.
+const PLAIN: [u8; 14] = [0, 1, 0, 0, 0, 4, 0, 0, 0, 0, 0, 0, 0, 0];
+
+/// The same in one leaf from reference 1, with no motion.
+const STILL: [u8; 16] = [0, 19, 1, 0, 0, 0, 0, 4, 0, 0, 0, 0, 0, 0, 0, 0];
+
+/// The same with a mark that no node has.
+const BROKEN: [u8; 1] = [4];
+
+/// The head of a frame that replaces these slots.
+fn head(refresh: u8) -> FrameHead
+    ensures { IsHead result }
+{
+    FrameHead {
+        filter: FilterMode::REGULAR,
+        edge_filter: false,
+        slots: [0; 7],
+        refresh,
+    }
+}
+
+/// Whether there is a row, and each of its samples is this one.
+fn is_row_of(row: Option<&[u16]>, value: u16) -> bool {
+    match row {
+        Some(row) => row.iter().all(|sample| *sample == value),
+        None => false,
+    }
+}
+
+/// Whether the last row of the frame that was accepted last is all of this sample.
+fn last_is(sequence: &Sequence, p: usize, value: u16) -> bool
+    requires frames { sequence.now.frames ≡ frames_of 8 8 8 2 }
+    requires plane { p < 3 }
+{
+    is_row_of(sequence.last_row(p, 7), value)
+}
+
+/// The same of the frame in a slot.
+fn slot_is(sequence: &Sequence, slot: usize, p: usize, value: u16) -> bool
+    requires frames { sequence.now.frames ≡ frames_of 8 8 8 2 }
+    requires slot { slot < 8 }
+    requires plane { p < 3 }
+{
+    is_row_of(sequence.slot_row(slot, p, 7), value)
+}
+
+#[test]
+fn a_frame_is_predicted_from_the_one_before(rt: HostRuntime) -> Result<(), Fail> {
+    let mut sequence = Sequence::new(rt.alloc(), 8, 8, 8, 2)?;
+    assert!(rt; !last_is(&sequence, 0, 127));
+    assert!(rt; sequence.frame(&head(1), &PLAIN).is_ok());
+    let refused = FrameError::Malformed { at: 0 };
+    assert!(rt; matches!(sequence.frame(&head(255), &BROKEN), Err(e) if e == refused));
+    assert!(rt; slot_is(&sequence, 0, 0, 127));
+    assert!(rt; !slot_is(&sequence, 1, 0, 127));
+    assert!(rt; sequence.frame(&head(0), &STILL).is_ok());
+    assert!(rt; last_is(&sequence, 0, 127));
+    assert!(rt; last_is(&sequence, 2, 128));
+    Ok(())
+}
+
+#[test]
+fn an_empty_slot_is_no_reference(rt: HostRuntime) -> Result<(), Fail> {
+    let mut sequence = Sequence::new(rt.alloc(), 8, 8, 8, 2)?;
+    assert!(rt; sequence.frame(&head(0), &PLAIN).is_ok());
+    let kind = InvalidKind::MissingReference;
+    let refused = FrameError::Invalid { leaf: 0, kind };
+    assert!(rt; matches!(sequence.frame(&head(1), &STILL), Err(e) if e == refused));
+    Ok(())
+}
