@@ -7,8 +7,6 @@ use Rattle.av1_blocks.specs.declared.transform.TxSize.{TxSize}
 use Rattle.av1_blocks.specs.declared.transform.TxSize.TheVariants.{TX_4X4, TX_8X8, TX_16X16, TX_32X32, TX_64X64, TX_4X8, TX_8X4, TX_8X16, TX_16X8, TX_16X32, TX_32X16, TX_32X64, TX_64X32, TX_4X16, TX_16X4, TX_8X32, TX_32X8, TX_16X64, TX_64X16}
 use Rattle.av1_blocks.specs.declared.transform.TheConstants.TxSize as tx_sizes
 use Rattle.av1_blocks.specs.declared.transform.TxType.{TxType}
-use Rattle.av1_blocks.specs.declared.transform.TxType.TheVariants.{DCT_DCT}
-use Rattle.av1_blocks.specs.declared.transform.TheConstants.TxType as tx_types
 use Rattle.av1_blocks.specs.Blocks.{block_width, block_height}
 use Rattle.av1_blocks.specs.Chroma.{largest_chroma_tx_size}
 use Rattle.av1_blocks.specs.Transforms.{tx_number, tx_width, tx_height, block_tx_size}
@@ -17,25 +15,22 @@ use Rattle.av1_plan.specs.Geometry.{xdec, ydec, plane_tx_size}
 use Rattle.av1_plan.specs.Grammar.{byte_from}
 use Rattle.av1_plan.specs.Grammar as grammar
 use Rattle.av1_plan.specs.Validity.{is_transform, has_transforms}
+use Rattle.av1_plan.proofs.Numbers.{tx_type_of}
 use Rattle.av1_generate.specs.Draft.{writes, draws, ◌>>◌, only_if}
 use Rattle.av1_generate.specs.Generator.{frame, type_within, tx_type, luma_tx_size, luma_transforms}
 use Rattle.av1_lists.proofs.Below.{all_below, below}
 use Rattle.av1_generate.proofs.FieldKinds.{byte_is}
 use Rattle.av1_generate.proofs.Fills.{Fills, ends, fills_done, asked, asked_last, weaker, drawing}
 
--- the type with this number
-abbrev type_of : ℕ → TxType
-type_of number = slice_index_or tx_types.ALL number DCT_DCT
-
 -- ---- types
 
-one_type : (size : TxSize) (v : ℕ) → v ≤ 16 → is_transform size (type_of v) ≡ true → Fills (writes one v) grammar.tx_type 1 (λ t. is_transform size t ≡ true)
+one_type : (size : TxSize) (v : ℕ) → v ≤ 16 → is_transform size (tx_type_of v) ≡ true → Fills (writes one v) grammar.tx_type 1 (λ t. is_transform size t ≡ true)
 unfolding grammar.tx_type
 one_type size v le is =
-    asked_last (byte_from 0 16) (λ v. done (type_of v)) v (byte_is 0 16 v (lit< tt) (omega arith) le) (fills_done (type_of v) is)
+    asked_last (byte_from 0 16) (λ v. done (tx_type_of v)) v (byte_is 0 16 v (lit< tt) (omega arith) le) (fills_done (tx_type_of v) is)
 
 -- the cosine transform or the identity
-two_types : (size : TxSize) → is_transform size (type_of 0) ≡ true → is_transform size (type_of 9) ≡ true
+two_types : (size : TxSize) → is_transform size (tx_type_of 0) ≡ true → is_transform size (tx_type_of 9) ≡ true
     → Fills (draws 2 (λ v. writes one (9 * v))) grammar.tx_type 1 (λ t. is_transform size t ≡ true)
 two_types size cosine identity = drawing 2 (λ v. writes one (9 * v)) (lit< tt) (λ v lt. each_type v lt)
   where
@@ -45,8 +40,8 @@ two_types size cosine identity = drawing 2 (λ v. writes one (9 * v)) (lit< tt) 
     each_type (suc (suc v)) lt = absurd (omega arith)
 
 -- all but the Walsh-Hadamard transform
-many_types : (size : TxSize) → all_below 16 (λ v. is_transform size (type_of v)) ≡ true → Fills (draws 16 (λ v. writes one v)) grammar.tx_type 1 (λ t. is_transform size t ≡ true)
-many_types size all = drawing 16 (λ v. writes one v) (lit< tt) (λ v lt. one_type size v (omega arith) (below 16 (λ v. is_transform size (type_of v)) all v lt))
+many_types : (size : TxSize) → all_below 16 (λ v. is_transform size (tx_type_of v)) ≡ true → Fills (draws 16 (λ v. writes one v)) grammar.tx_type 1 (λ t. is_transform size t ≡ true)
+many_types size all = drawing 16 (λ v. writes one v) (lit< tt) (λ v lt. one_type size v (omega arith) (below 16 (λ v. is_transform size (tx_type_of v)) all v lt))
 
 pub type_fills : (size : TxSize) → Fills (tx_type size) grammar.tx_type 1 (λ t. is_transform size t ≡ true)
 unfolding tx_type type_within is_transform

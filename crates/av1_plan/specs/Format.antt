@@ -96,6 +96,10 @@ abbrev pub read : {A : Type 0} → Format A → Input → Reading (A × Input)
 read (done x) i = Ok (x, i)
 read (asks k next) i = on_ok (read_field k i) (λ p. read (next p.0) p.1)
 
+-- a part of any length: how many bytes it has, and these, which are one field
+unfoldable pub read_part : Input → Reading (List ℕ × Input)
+read_part i = on_ok (read_field (any four) i) (λ p. if nat_le p.0 (length p.1.rest) then Ok (take p.0 p.1.rest, record { at = p.1.at + p.0; rest = drop p.0 p.1.rest }) else Err p.1.at)
+
 -- reads more items, behind those that were read before
 unfoldable pub add : {A : Type 0} → Format (List A) → List A × Input → Reading (List A × Input)
 add f s = on_ok (read f s.1) (λ p. Ok (s.0 ++ p.0, p.1))

@@ -17,7 +17,7 @@ pub struct Reader<'a> {
 
 impl<'a> Reader<'a> {
     ghost use Rattle.std.specs.Prelude.{◌≡◌, ◌+◌, ◌<◌, ◌≤◌, ◌^◌, length, IfOk, IfErr, OnOk, OnErr};
-    ghost use Rattle.av1_plan.specs.Format.{one, two, four, any, read_field};
+    ghost use Rattle.av1_plan.specs.Format.{one, two, four, any, read_field, read_part};
     ghost use Rattle.av1_plan.specs.Grammar.{byte_from};
     ghost use Rattle.av1_plan.specs.Reading.{Gives, input, Fits, Moves};
 
@@ -41,7 +41,7 @@ impl<'a> Reader<'a> {
 
     /// Any byte.
     #[tactic(auto, unfolding(crate::specs::Format::read_field))]
-    fn any_byte(&mut self) -> Result<u8, PlanError>
+    pub fn any_byte(&mut self) -> Result<u8, PlanError>
         requires { Fits self.old }
         ensures read { Gives (λ x. (x, input self.new)) result (read_field (any one) (input self.old)) }
         ensures takes { OnOk result (self.old.at < self.new.at) }
@@ -93,6 +93,24 @@ impl<'a> Reader<'a> {
             }
             _ => self.malformed(),
         }
+    }
+
+    /// A part of any length: a number of four bytes, and so many bytes, which are one field.
+    #[tactic(auto, unfolding(crate::specs::Format::read_part))]
+    pub fn part(&mut self) -> Result<&'a [u8], PlanError>
+        requires { Fits self.old }
+        ensures read { Gives (λ x. (x.now, input self.new)) result (read_part (input self.old)) }
+        ensures moves { Moves self.old self.new }
+        ensures short { IfOk result (λ x. length x.now ≤ 2 ^ 26) }
+    {
+        let len = self.any_u32()? as usize;
+        let rest = self.rest;
+        if rest.len() < len {
+            return self.malformed();
+        }
+        self.rest = &rest[len..];
+        self.at += len as u32;
+        Ok(&rest[..len])
     }
 
     /// A byte from `first` to `last`.

@@ -1,5 +1,5 @@
 -- Fields of a leaf that are admitted are spelled.
-use Rattle.std.proofs.Common.{◌≡◌, ℕ, ◌≤◌, Bool, true, false, ◌&&◌, ◌||◌, if◌then◌else◌, List, [], ◌∷◌, length, get_or, All, Option, Some, None, ℤ, refl, sym, ap, subst, arith, lit<, slice_index_or, w8, w16, w32}
+use Rattle.std.proofs.Common.{◌≡◌, ℕ, ◌≤◌, Bool, true, false, ◌&&◌, ◌||◌, if◌then◌else◌, List, [], ◌∷◌, length, get_or, All, Option, Some, None, ℤ, refl, sym, ap, subst, arith, lit<, w8, w16, w32}
 use Rattle.std.specs.Prelude.{nat_lt, nat_le, ◌==◌, is_some, FitsSigned}
 use Rattle.std.specs.Int.{is_in_range, cast_signed, cast_unsigned}
 use Rattle.std.specs.List.{list_all}
@@ -13,10 +13,8 @@ use Rattle.av1_blocks.specs.declared.predict.PredictionMode.{PredictionMode}
 use Rattle.av1_blocks.specs.declared.predict.PredictionMode.TheVariants.{DC_PRED}
 use Rattle.av1_blocks.specs.declared.transform.TxSize.{TxSize}
 use Rattle.av1_blocks.specs.declared.transform.TxSize.TheVariants.{TX_4X4}
-use Rattle.av1_blocks.specs.declared.transform.TheConstants.TxSize as tx_sizes
 use Rattle.av1_blocks.specs.declared.transform.TxType.{TxType}
 use Rattle.av1_blocks.specs.declared.transform.TxType.TheVariants.{DCT_DCT}
-use Rattle.av1_blocks.specs.declared.transform.TheConstants.TxType as tx_types
 use Rattle.av1_blocks.specs.Modes.{mode_number}
 use Rattle.av1_blocks.specs.References.{reference_number}
 use Rattle.av1_blocks.specs.Transforms.{tx_number, tx_type_number}
@@ -34,7 +32,7 @@ use Rattle.av1_plan.specs.Grammar as grammar
 use Rattle.av1_plan.specs.Plan.{LeafValue}
 use Rattle.av1_plan.specs.Spelling.{IsSpelled}
 use Rattle.av1_plan.proofs.Composed.{done_spelled, bind_spelled, asks_spelled, byte_admitted, turns_spelled}
-use Rattle.av1_plan.proofs.Numbers.{mode_of, reference_of_number}
+use Rattle.av1_plan.proofs.Numbers.{mode_of, reference_of_number, tx_size_of, tx_type_of}
 use Rattle.av1_planwrite.specs.Building.{is_given, is_named, admits_chroma, admits_kind, is_empty, is_counted, admits_triples, admits_fields}
 use Rattle.av1_planwrite.specs.Given.{FitsChroma, FitsKind, FitsTriple}
 
@@ -46,17 +44,11 @@ mode_back m = elim m as (λ m. mode_of (mode_number m) ≡ m) [ DC_PRED ↦ refl
 reference_back : (r : RefType) → reference_of_number (reference_number r) ≡ r
 reference_back r = elim r as (λ r. reference_of_number (reference_number r) ≡ r) [ INTRA_FRAME ↦ refl | _ ↦ refl ]
 
-abbrev tx_size_of : ℕ → TxSize
-tx_size_of number = slice_index_or tx_sizes.ALL number TX_4X4
-
 tx_size_back : (t : TxSize) → tx_size_of (tx_number t) ≡ t
 tx_size_back t = elim t as (λ t. tx_size_of (tx_number t) ≡ t) [ TX_4X4 ↦ refl | _ ↦ refl ]
 
 tx_size_most : (t : TxSize) → nat_le (tx_number t) 18 ≡ true
 tx_size_most t = elim t as (λ t. nat_le (tx_number t) 18 ≡ true) [ TX_4X4 ↦ refl | _ ↦ refl ]
-
-abbrev tx_type_of : ℕ → TxType
-tx_type_of number = slice_index_or tx_types.ALL number DCT_DCT
 
 tx_type_back : (t : TxType) → tx_type_of (tx_type_number t) ≡ t
 tx_type_back t = elim t as (λ t. tx_type_of (tx_type_number t) ≡ t) [ DCT_DCT ↦ refl | _ ↦ refl ]

@@ -5,16 +5,11 @@ use Rattle.std.specs.Int.{cast_signed, cast_unsigned}
 use Rattle.std.proofs.lemmas.Int.{of_z-to_z}
 use Rattle.std.proofs.lemmas.Bool.{eqb-true, ltb-true}
 use Rattle.std.proofs.lemmas.List.{append-nil}
-use Rattle.av1_lists.proofs.Below.{below}
 use Rattle.av1_blocks.specs.declared.mc.MotionVector.{MotionVector}
 use Rattle.av1_blocks.specs.declared.partition.BlockSize.{BlockSize}
 use Rattle.av1_blocks.specs.declared.partition.RefType.{RefType}
 use Rattle.av1_blocks.specs.declared.transform.TxSize.{TxSize}
-use Rattle.av1_blocks.specs.declared.transform.TxSize.TheVariants.{TX_4X4}
-use Rattle.av1_blocks.specs.declared.transform.TheConstants.TxSize as tx_sizes
 use Rattle.av1_blocks.specs.declared.transform.TxType.{TxType}
-use Rattle.av1_blocks.specs.declared.transform.TxType.TheVariants.{DCT_DCT}
-use Rattle.av1_blocks.specs.declared.transform.TheConstants.TxType as tx_types
 use Rattle.av1_blocks.specs.Modes.{mode_number}
 use Rattle.av1_blocks.specs.References.{reference_number}
 use Rattle.av1_blocks.specs.Transforms.{tx_number, tx_type_number}
@@ -29,7 +24,7 @@ use Rattle.av1_plan.specs.Geometry.{carries_chroma}
 use Rattle.av1_plan.specs.Grammar as grammar
 use Rattle.av1_plan.specs.Spelling.{Spells, text}
 use Rattle.av1_plan.proofs.Carried.{apart}
-use Rattle.av1_plan.proofs.Numbers.{mode_of, mode_number_is, reference_number_is}
+use Rattle.av1_plan.proofs.Numbers.{mode_of, mode_number_is, reference_number_is, tx_number_is, tx_type_number_is}
 use Rattle.av1_plan.proofs.ReadFrames.{range_is}
 use Rattle.av1_planwrite.specs.Text.{byte, pair, quad, motion_text, motions_text, chroma_text, kind_text, uv_type_text, triple_text, triples_text, chroma_triples_text, fields_text, leaf_text}
 use Rattle.av1_planwrite.proofs.Told.{ended, asked, Tells, turns_tell, turns_count, two_parts, last_part}
@@ -44,18 +39,6 @@ signed_pair v lt = ap pair (sym (of_z-to_z w16 v lt))
 
 signed_quad : (v : ℕ) → v < 2 ^ 32 → quad v ≡ quad (cast_unsigned w32 (cast_signed w32 v))
 signed_quad v lt = ap quad (sym (of_z-to_z w32 v lt))
-
-abbrev tx_size_of : ℕ → TxSize
-tx_size_of number = slice_index_or tx_sizes.ALL number TX_4X4
-
-abbrev tx_type_of : ℕ → TxType
-tx_type_of number = slice_index_or tx_types.ALL number DCT_DCT
-
-tx_number_is : (v : ℕ) → v < 19 → tx_number (tx_size_of v) ≡ v
-tx_number_is v lt = eqb-true (tx_number (tx_size_of v)) v (below 19 (λ n. tx_number (tx_size_of n) == n) refl v lt)
-
-tx_type_number_is : (v : ℕ) → v < 17 → tx_type_number (tx_type_of v) ≡ v
-tx_type_number_is v lt = eqb-true (tx_type_number (tx_type_of v)) v (below 17 (λ n. tx_type_number (tx_type_of n) == n) refl v lt)
 
 -- ---- how a leaf is predicted
 

@@ -1,21 +1,16 @@
 -- What an admitted header says.
-use Rattle.std.proofs.Common.{◌≡◌, ℕ, zero, suc, ◌-◌, ◌%◌, ◌<◌, ◌≤◌, ◌⊎◌, inl, inr, true, ◌&&◌, ◌||◌, List, [], ◌∷◌, length, All, sym, ap, ◌∙◌, arith}
+use Rattle.std.proofs.Common.{◌≡◌, ℕ, zero, suc, ◌-◌, ◌<◌, ◌≤◌, ◌⊎◌, inl, inr, true, ◌&&◌, ◌||◌, List, [], ◌∷◌, length, All, sym, ap, ◌∙◌, arith}
 use Rattle.std.specs.Prelude.{nat_le, ◌==◌}
 use Rattle.std.specs.List.{list_all}
 use Rattle.std.proofs.lemmas.Bool.{and_parts, or_cases, leb-true, eqb-true}
 use Rattle.av1_blocks.specs.Filters.{filter_number}
 use Rattle.av1_plan.specs.declared.header.Header.{Header}
 use Rattle.av1_plan.specs.Grammar.{is_side, is_depth}
-use Rattle.av1_plan.specs.ReadPlans.{IsSide, IsReadFrame}
+use Rattle.av1_plan.specs.ReadPlans.{IsReadFrame}
 use Rattle.std.specs.Int.{is_in_range}
+use Rattle.av1_plan.proofs.ReadFrames.{side_is}
 use Rattle.av1_planwrite.specs.Asked.{across, down, row_before, rows_of, superblocks_from}
 use Rattle.av1_planwrite.specs.Building.{admits_header}
-
-side_is : (n : ℕ) → is_side n ≡ true → IsSide n
-side_is n e =
-    let (whole, range) = and_parts (n % 8 == 0) (is_in_range 8 2048 n) e in
-    let (least, most) = and_parts (nat_le 8 n) (nat_le n 2048) range in
-    record { whole = eqb-true (n % 8) 0 whole; least = leb-true 8 n least; most = leb-true n 2048 most }
 
 depth_is : (n : ℕ) → is_depth n ≡ true → (n ≡ 8) ⊎ (n ≡ 10) ⊎ (n ≡ 12)
 depth_is n e = elim (or_cases (n == 8 || n == 10) (n == 12) e) [

@@ -6,9 +6,10 @@ use crate::reader::Reader;
 use av1_blocks::FilterMode;
 
 impl<'a> Reader<'a> {
-    ghost use Rattle.std.specs.Prelude.{◌≡◌, ◌≤◌, IfOk};
+    ghost use Rattle.std.specs.Prelude.{◌≡◌, ◌≤◌, true, IfOk};
     ghost use Rattle.av1_plan.specs.Format.{one, two, four, read_field, read};
     ghost use Rattle.av1_plan.specs.Grammar.{where_, is_magic, version, is_side, is_depth, slots, frame, header};
+    ghost use Rattle.av1_plan.specs.ReadPlans.{AreSlots, IsSide};
     ghost use Rattle.av1_plan.specs.Reading.{Gives, input, Fits, Moves};
 
     /// The four letters at the front.
@@ -44,11 +45,12 @@ impl<'a> Reader<'a> {
 
     /// A side of the frame.
     #[tactic(auto, using(crate::proofs::Narrow::narrow))]
-    fn side(&mut self) -> Result<u16, PlanError>
+    pub fn side(&mut self) -> Result<u16, PlanError>
         requires { Fits self.old }
         ensures read { Gives (λ x. (x, input self.new)) result (read_field (where_ two is_side) (input self.old)) }
         ensures moves { Moves self.old self.new }
         ensures small { IfOk result (λ x. x ≤ 2048) }
+        ensures side { IfOk result IsSide }
     {
         let at = self.at;
         let value = self.any_u16()?;
@@ -61,11 +63,12 @@ impl<'a> Reader<'a> {
 
     /// The bits of a sample.
     #[tactic(auto, using(crate::proofs::Narrow::narrow))]
-    fn depth(&mut self) -> Result<u8, PlanError>
+    pub fn depth(&mut self) -> Result<u8, PlanError>
         requires { Fits self.old }
         ensures read { Gives (λ x. (x, input self.new)) result (read_field (where_ one is_depth) (input self.old)) }
         ensures moves { Moves self.old self.new }
         ensures small { IfOk result (λ x. x ≤ 12) }
+        ensures depth { IfOk result (λ x. is_depth x ≡ true) }
     {
         let at = self.at;
         let value = self.any_byte()?;
@@ -78,10 +81,11 @@ impl<'a> Reader<'a> {
 
     /// The slots of the seven references.
     #[tactic(auto, unfolding(crate::specs::Grammar::slots))]
-    fn slots(&mut self) -> Result<[u8; 7], PlanError>
+    pub fn slots(&mut self) -> Result<[u8; 7], PlanError>
         requires { Fits self.old }
         ensures read { Gives (λ x. (x, input self.new)) result (read slots (input self.old)) }
         ensures moves { Moves self.old self.new }
+        ensures range { IfOk result AreSlots }
     {
         let last = self.byte(0, 7)?;
         let last_2 = self.byte(0, 7)?;
