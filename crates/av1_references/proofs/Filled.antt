@@ -1,7 +1,8 @@
 -- A plane whose visible samples were put in, and which was then padded.
-use Rattle.std.proofs.Common.{ℕ, zero, suc, ◌+◌, ◌*◌, ◌^◌, ◌<◌, ◌≤◌, ◌≡◌, ◌∙◌, ap, sym, subst, refl, arith, zero-add, List, [], ◌∷◌, All, slice_index, Option, Some, Result, IfOk, IfSome}
+use Rattle.std.proofs.Common.{ℕ, zero, suc, ◌+◌, ◌*◌, ◌/◌, ◌^◌, ◌<◌, ◌≤◌, ◌≡◌, ◌∙◌, ap, sym, subst, refl, arith, zero-add, List, [], ◌∷◌, All, slice_index, Option, Some, Result, IfOk, IfSome}
 use Rattle.std.proofs.lemmas.List.Elements.{All-head, All-tail}
 use Rattle.std.proofs.lemmas.Nat.{pow_pos}
+use Rattle.std.proofs.Math.Nat.{le_of_eq}
 use Rattle.av1_frame.specs.declared.plane.Plane.{Plane}
 use Rattle.av1_frame.specs.Areas.{all_visible, VisibleArea}
 use Rattle.av1_frame.specs.Planes.{InPlane, IsWhole, new_config, padded, painted_plane, sample_at}
@@ -37,7 +38,7 @@ module _ {T : Type 0} (num : T → ℕ) (pixel : ℕ → T) (back : (v : T) → 
       ∙ sample_at_inside num pixel back plane (all_visible plane.plane_cfg) (λ r c _. pixel (slice_index samples (r * plane.plane_cfg.width + c))) y x (visible_fits plane whole) b a
       ∙ forth _
 
-  put_holds : (h : Header) (p : ℕ) → 80 ≤ plane.plane_cfg.xpad → 80 ≤ plane.plane_cfg.ypad → plane.plane_cfg.width ≡ plane_width h p → plane.plane_cfg.height ≡ plane_height h p
+  put_holds : (h : Header) (p : ℕ) → 80 / 2 ^ xdec h p ≤ plane.plane_cfg.xpad → 80 / 2 ^ ydec h p ≤ plane.plane_cfg.ypad → plane.plane_cfg.width ≡ plane_width h p → plane.plane_cfg.height ≡ plane_height h p
       → plane.plane_cfg.xdec ≡ xdec h p → plane.plane_cfg.ydec ≡ ydec h p → All (λ sample. sample < 2 ^ h.depth) samples → HoldsPlane num h p samples (padded put)
   put_holds h p xpad ypad w t dx dy below = record {
     padded = padded_is_padded num put (padded put) refl put_whole;
@@ -52,12 +53,12 @@ module _ {T : Type 0} (num : T → ℕ) (pixel : ℕ → T) (back : (v : T) → 
   }
 
 -- Such a plane holds plane p of a frame, where it was made with that plane's sides and decimations.
-pub filled_holds : {T : Type 0} (num : T → ℕ) (pixel : ℕ → T) (back : (v : T) → pixel (num v) ≡ v) (forth : (v : ℕ) → num (pixel v) ≡ v) (samples : List ℕ) (made filled result : Plane T) (width height dx dy : ℕ) (h : Header) (p : ℕ)
-    → IsWhole made → made.plane_cfg ≡ new_config width height dx dy 80 80 → width ≡ plane_width h p → height ≡ plane_height h p → dx ≡ xdec h p → dy ≡ ydec h p
+pub filled_holds : {T : Type 0} (num : T → ℕ) (pixel : ℕ → T) (back : (v : T) → pixel (num v) ≡ v) (forth : (v : ℕ) → num (pixel v) ≡ v) (samples : List ℕ) (made filled result : Plane T) (width height dx dy xpad ypad : ℕ) (h : Header) (p : ℕ)
+    → IsWhole made → made.plane_cfg ≡ new_config width height dx dy xpad ypad → xpad ≡ 80 / 2 ^ dx → ypad ≡ 80 / 2 ^ dy → width ≡ plane_width h p → height ≡ plane_height h p → dx ≡ xdec h p → dy ≡ ydec h p
     → All (λ sample. sample < 2 ^ h.depth) samples → filled ≡ painted_plane made (all_visible made.plane_cfg) (λ r c _. pixel (slice_index samples (r * made.plane_cfg.width + c)))
     → result ≡ padded filled → HoldsPlane num h p samples result
-filled_holds {T} num pixel back forth samples made filled result width height dx dy h p whole cfg w t ex ey below fill pad =
-    subst (λ (q : Plane T). HoldsPlane num h p samples q) (sym (pad ∙ ap padded fill)) (put_holds num pixel back forth samples made whole h p (omega (arith, ap (λ s. s.xpad) cfg)) (omega (arith, ap (λ s. s.ypad) cfg)) (ap (λ s. s.width) cfg ∙ w) (ap (λ s. s.height) cfg ∙ t) (ap (λ s. s.xdec) cfg ∙ ex) (ap (λ s. s.ydec) cfg ∙ ey) below)
+filled_holds {T} num pixel back forth samples made filled result width height dx dy xpad ypad h p whole cfg px py w t ex ey below fill pad =
+    subst (λ (q : Plane T). HoldsPlane num h p samples q) (sym (pad ∙ ap padded fill)) (put_holds num pixel back forth samples made whole h p (le_of_eq (sym (ap (λ s. s.xpad) cfg ∙ px ∙ ap (λ (s : ℕ). 80 / 2 ^ s) ex))) (le_of_eq (sym (ap (λ s. s.ypad) cfg ∙ py ∙ ap (λ (s : ℕ). 80 / 2 ^ s) ey))) (ap (λ s. s.width) cfg ∙ w) (ap (λ s. s.height) cfg ∙ t) (ap (λ s. s.xdec) cfg ∙ ex) (ap (λ s. s.ydec) cfg ∙ ey) below)
 
 -- it is still whole once it is filled
 pub filled_whole : {T : Type 0} (made filled : Plane T) (a : VisibleArea) (f : ℕ → ℕ → T → T) → filled ≡ painted_plane made a f → IsWhole made → IsWhole filled

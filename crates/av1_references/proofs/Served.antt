@@ -1,5 +1,5 @@
 -- Frame settings that hold the references of a plan: which areas they serve, and what is predicted from them.
-use Rattle.std.proofs.Common.{ℕ, zero, suc, ◌-◌, ◌<◌, ◌≤◌, ◌≡◌, ◌∙◌, ◌^◌, ap, sym, subst, refl, arith, true, List, [], ◌∷◌, get_or, Option, Some, None, is_some, ltb}
+use Rattle.std.proofs.Common.{ℕ, zero, suc, ◌+◌, ◌-◌, ◌/◌, ◌<◌, ◌≤◌, ◌≡◌, ◌∙◌, ◌^◌, ap, sym, subst, refl, arith, true, List, [], ◌∷◌, get_or, Option, Some, None, is_some, ltb}
 use Rattle.std.proofs.lemmas.Bool.{and_parts, lt-ltb, ltb-true}
 use Rattle.av1_blocks.specs.declared.partition.RefType.{RefType}
 use Rattle.av1_blocks.specs.References.{reference_number}
@@ -9,7 +9,7 @@ use Rattle.av1_frame.specs.Frames.{slot_plane}
 use Rattle.av1_frame.specs.Planes.{sample_at}
 use Rattle.av1_inter.specs.Reference.{as_reference, IsReference, IsServed, slot_of}
 use Rattle.av1_plan.specs.declared.header.Header.{Header}
-use Rattle.av1_plan.specs.Geometry.{has_slot}
+use Rattle.av1_plan.specs.Geometry.{has_slot, xdec, ydec}
 use Rattle.av1_plan.specs.Plan.{PlanValue}
 use Rattle.av1_plan.specs.Validity.{has_reference}
 use Rattle.av1_plan.proofs.ValidModes.{HasPlanes}
@@ -78,18 +78,25 @@ pub plane_holds : {T : Type 0} (num : T → ℕ) (value : PlanValue) (fi : Frame
     → slot_plane fi (slot_of fi reference) p ≡ Some plane → HoldsPlane num value.header p (slot_samples value (slot_in value.header reference) p) plane
 plane_holds num value fi serves reference has p plane h e = serves.planes reference p plane has h e
 
--- such a plane is a reference for blocks with sides up to 64
-serves : {T : Type 0} (num : T → ℕ) (h : Header) (p : ℕ) (samples : List ℕ) (plane : Plane T) (depth width height : ℕ) → HoldsPlane num h p samples plane → depth ≡ h.depth → width ≤ 64 → height ≤ 64 → IsReference num plane depth width height
+-- a pad reaches 7 samples past a side, halved or not
+reaches : (s n pad : ℕ) → s ≤ 1 → n ≤ 64 / 2 ^ s → 80 / 2 ^ s ≤ pad → n + 7 ≤ pad
+reaches zero n pad few short wide = omega (arith, short, wide)
+reaches (suc zero) n pad few short wide = omega (arith, short, wide)
+reaches (suc (suc s)) n pad few short wide = absurd (omega (arith, few))
+
+-- such a plane is a reference for blocks with sides up to 64 in luma, and half as many where the plane is halved
+serves : {T : Type 0} (num : T → ℕ) (h : Header) (p : ℕ) (samples : List ℕ) (plane : Plane T) (depth width height : ℕ) → HoldsPlane num h p samples plane → depth ≡ h.depth
+    → width ≤ 64 / 2 ^ xdec h p → height ≤ 64 / 2 ^ ydec h p → IsReference num plane depth width height
 serves num h p samples plane depth width height holds e w k = record {
   padded = holds.padded;
   within = λ x y a b. subst (λ (d : ℕ). sample_at num plane x y < 2 ^ d) (sym e) (holds.within x y (omega (arith, a, holds.width)) (omega (arith, b, holds.height)));
-  xpad = omega (arith, holds.xpad);
-  ypad = omega (arith, holds.ypad);
+  xpad = reaches (xdec h p) width _ (subst (λ (s : ℕ). s ≤ 1) holds.xdec holds.padded.whole.xdec) w holds.xpad;
+  ypad = reaches (ydec h p) height _ (subst (λ (s : ℕ). s ≤ 1) holds.ydec holds.padded.whole.ydec) k holds.ypad;
 }
 
--- Settings that serve a plan serve each reference that the plan's header has, for areas with sides up to 64.
+-- Settings that serve a plan serve each reference that the plan's header has, for areas with sides up to 64 in luma.
 pub served : {T : Type 0} (num : T → ℕ) (value : PlanValue) (fi : FrameInvariants T) (reference : RefType) (p width height : ℕ) → ServesPlan num value fi
-    → has_reference value.header reference ≡ true → 1 ≤ reference_number reference → reference_number reference ≤ 7 → p < 3 → width ≤ 64 → height ≤ 64 → IsServed num fi reference p width height
+    → has_reference value.header reference ≡ true → 1 ≤ reference_number reference → reference_number reference ≤ 7 → p < 3 → width ≤ 64 / 2 ^ xdec value.header p → height ≤ 64 / 2 ^ ydec value.header p → IsServed num fi reference p width height
 served num value fi reference p width height holds has least most h w k = record {
   inter = λ e. absurd (let n = ap reference_number e in omega (arith, n));
   some = λ e. absurd (let n = ap reference_number e in omega (arith, n));

@@ -1,6 +1,7 @@
 -- A frame whose slots 2 and 5 were filled, and planes predicted from it.
-use Rattle.std.proofs.Common.{ℕ, ◌≡◌, ◌∙◌, ap, sym, subst, refl, lit<, arith, true, List, [], ◌∷◌, Some, None, slice_set, Result, Ok, Err, IfOk}
+use Rattle.std.proofs.Common.{ℕ, zero, suc, ◌/◌, ◌^◌, ◌<◌, ◌≤◌, ◌≡◌, ◌∙◌, ap, sym, subst, refl, lit<, arith, true, List, [], ◌∷◌, Some, None, slice_set, Result, Ok, Err, IfOk}
 use Rattle.av1_blocks.specs.declared.mc.FilterMode.{FilterMode}
+use Rattle.av1_blocks.specs.declared.partition.RefType.{RefType}
 use Rattle.av1_blocks.specs.declared.partition.RefType.TheVariants.{LAST_FRAME, ALTREF_FRAME}
 use Rattle.av1_frame.specs.declared.frame_invariants.FrameInvariants.{FrameInvariants}
 use Rattle.av1_frame.specs.declared.plane.Plane.{Plane}
@@ -9,12 +10,14 @@ use Rattle.av1_frame.specs.Areas.{VisibleArea}
 use Rattle.av1_frame.specs.Frames.{new_frame}
 use Rattle.av1_frame.specs.Planes.{InPlane, IsWhole, new_config}
 use Rattle.av1_blocks.specs.Depths.{IsDepth}
+use Rattle.av1_blocks.specs.References.{reference_number}
+use Rattle.av1_inter.specs.Reference.{IsServed}
 use Rattle.av1_plan.specs.declared.header.Header.{Header}
-use Rattle.av1_plan.specs.Geometry.{has_slot}
+use Rattle.av1_plan.specs.Geometry.{has_slot, xdec, ydec}
 use Rattle.av1_plan.specs.Plan.{PlanValue}
 use Rattle.av1_plan.specs.Validity.{has_reference}
 use Rattle.av1_references.specs.References.{HoldsPlane, HoldsReferences, ServesPlan}
-use Rattle.av1_references.proofs.Served.{holds_serves}
+use Rattle.av1_references.proofs.Served.{holds_serves, plane_holds, plane_of_slot, served}
 use Rattle.av1_references.proofs.Slots.{holds_all, holds_empty, holds_filled, holds_none}
 
 -- the slots that its references name
@@ -44,6 +47,24 @@ module _ {T : Type 0} (num : T → ℕ) (filter : FilterMode) (depth : ℕ) (is_
       let n8 = holds_empty num value 7 fi6 (holds_empty num value 6 fi6 n6 refl) refl in
       let all : HoldsReferences num value fi6 = holds_all num value 8 fi6 (omega arith) is_depth n8 in
       (value, (subst (λ (g : FrameInvariants T). ServesPlan num value g) (sym (set_second ∙ ap (λ (g : FrameInvariants T). record g { slots = slice_set g.slots 5 (Some t) }) set_first)) (holds_serves num value fi6 all), (refl, refl)))
+
+-- ---- what such a frame serves
+
+short_side : (s n : ℕ) → s ≤ 1 → n ≤ 32 → n ≤ 64 / 2 ^ s
+short_side zero n few short = omega (arith, short)
+short_side (suc zero) n few short = omega (arith, short)
+short_side (suc (suc s)) n few short = absurd (omega (arith, few))
+
+-- areas with sides up to 32, in each plane
+pub served_short : {T : Type 0} (num : T → ℕ) (value : PlanValue) (fi : FrameInvariants T) (reference : RefType) (p width height : ℕ) → ServesPlan num value fi
+    → has_reference value.header reference ≡ true → 1 ≤ reference_number reference → reference_number reference ≤ 7 → p < 3 → width ≤ 32 → height ≤ 32 → IsServed num fi reference p width height
+served_short num value fi reference p width height serves has least most h w k =
+    let (plane, is) = plane_of_slot num value fi serves reference has p h in
+    let held = plane_holds num value fi serves reference has p plane h is in
+    served num value fi reference p width height serves has least most h (short_side (xdec value.header p) width (subst (λ (s : ℕ). s ≤ 1) held.xdec held.padded.whole.xdec) w)
+    (short_side (ydec value.header p) height (subst (λ (s : ℕ). s ≤ 1) held.ydec held.padded.whole.ydec) k)
+
+-- ---- planes that an area is predicted in
 
 -- a plane with just these sides stores their area
 pub whole_fits : {T : Type 0} (plane : Plane T) (a : VisibleArea) (w h : ℕ) → w ≡ a.width → h ≡ a.height → a.x ≡ 0 → a.y ≡ 0 → plane.plane_cfg ≡ new_config w h 0 0 0 0 → IsWhole plane → InPlane a plane

@@ -60,12 +60,12 @@ compound_motion value p references mvs area r c =
 
 -- ---- the frame settings that hold them
 
--- These samples, row by row, are those of a plane that stores plane p of a frame, padded for blocks of sides up to 64: their filters
--- reach 7 samples past a side.
+-- These samples, row by row, are those of a plane that stores plane p of a frame, padded for blocks of sides up to 64 in luma: their filters
+-- reach 7 samples past a side. Where the plane is halved, the sides of blocks are, and so are its pads.
 pub record HoldsPlane {T : Type 0} (num : T → ℕ) (h : Header) (p : ℕ) (samples : List ℕ) (plane : Plane T) : Type 0 where
   pub padded : IsPadded num plane
-  pub xpad : 80 ≤ plane.plane_cfg.xpad
-  pub ypad : 80 ≤ plane.plane_cfg.ypad
+  pub xpad : 80 / 2 ^ xdec h p ≤ plane.plane_cfg.xpad
+  pub ypad : 80 / 2 ^ ydec h p ≤ plane.plane_cfg.ypad
   pub width : plane.plane_cfg.width ≡ plane_width h p
   pub height : plane.plane_cfg.height ≡ plane_height h p
   pub xdec : plane.plane_cfg.xdec ≡ xdec h p

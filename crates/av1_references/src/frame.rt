@@ -1,6 +1,6 @@
 //! The settings of a plan's frame, and the planes of its slots.
 
-ghost use Rattle.std.specs.Prelude.{◌<◌, ◌≤◌, IfOk, IsTrue};
+ghost use Rattle.std.specs.Prelude.{◌≡◌, ◌/◌, ◌^◌, ◌<◌, ◌≤◌, IfOk, IsTrue};
 ghost use Rattle.av1_plan.specs.Answer.{plan_value};
 ghost use Rattle.av1_plan.specs.Geometry.{has_slot};
 ghost use Rattle.av1_plan.specs.ReadPlans.{ArePlane, IsReadFrame};
@@ -12,11 +12,21 @@ use av1_frame::{FrameInvariants, Pixel, Plane};
 use av1_plan::{Header, Plan};
 use std::alloc::Global;
 
-/// How many columns and rows stand round a reference: the filters of a block with sides of 64 reach 7 samples past a side.
+/// How many columns and rows of luma stand round a reference: the filters of a block with sides of 64 reach 7 samples past a side.
 const PAD: usize = 80;
 
 /// How many slots there are.
 const SLOTS: usize = 8;
+
+/// How many samples stand on either side of a reference in a direction, in which a sample stands for 1 of luma (`decimation` 0) or 2 (1). Sides of
+/// blocks are halved there too: of a block of 32, 39 samples are read.
+fn pad_of(decimation: usize) -> usize
+    requires { decimation ≤ 1 }
+    ensures value { result ≡ 80 / 2 ^ decimation }
+    ensures few { result ≤ 80 }
+{
+    PAD >> decimation
+}
 
 /// A padded plane with the sides of plane `p` of a frame, and these samples, row by row.
 pub(crate) fn padded_plane<T: Pixel>(
@@ -32,15 +42,9 @@ pub(crate) fn padded_plane<T: Pixel>(
 {
     let width = header.plane_width(p);
     let height = header.plane_height(p);
-    let mut plane = Plane::new(
-        alloc,
-        width,
-        height,
-        header.xdec(p),
-        header.ydec(p),
-        PAD,
-        PAD,
-    )?;
+    let xdec = header.xdec(p);
+    let ydec = header.ydec(p);
+    let mut plane = Plane::new(alloc, width, height, xdec, ydec, pad_of(xdec), pad_of(ydec))?;
     fill_plane(&mut plane, samples);
     plane.pad();
     Ok(plane)

@@ -6,7 +6,8 @@
 //! compensation it calls. To the crates above it promises:
 //!
 //! - `frame_invariants` makes the settings of a plan's frame and fills its slots: `HoldsReferences` of `specs/References.antt`. Each plane
-//!   is padded by 80 samples on every side, so that motion compensation serves areas with sides up to 64 (`proofs/Served.antt`).
+//!   is padded by 80 samples on every side, and by 40 in directions in which it is halved, so that motion compensation serves areas with
+//!   sides up to 64 samples of luma (`proofs/Served.antt`).
 //! - `predict_single` and `predict_compound` turn each sample of a leaf's area into `single_motion` or `compound_motion` of the plan, which
 //!   speak of the plan's own samples and know of no pads, and leave all others. They ask of the frame only that each reference names a slot
 //!   with the plan's planes (`ServesPlan`): a frame that keeps planes for later plans, in slots of its own choice, serves as well.

@@ -72,7 +72,7 @@ pub fn predict_single<T: Pixel>(
     requires high { block_height area.size ≤ 64 }
     requires depths { IsDepth fi.now.bit_depth }
     requires depth { fi.now.bit_depth ≤ T.BITS }
-    requires reference { IsServed T.num fi.now reference p 64 64 }
+    requires reference { IsServed T.num fi.now reference p (block_width area.size) (block_height area.size) }
     ensures { (value : PlanValue) → ServesPlan T.num value fi.now → has_reference value.header reference ≡ true
         → plane.new ≡ painted_plane plane.old (leaf_area area) (λ r c _. T.pixel (single_motion value p reference mv (leaf_area area) r c)) }
 {
@@ -110,8 +110,8 @@ pub fn predict_compound<T: Pixel>(
     requires high { block_height area.size ≤ 64 }
     requires depths { IsDepth fi.now.bit_depth }
     requires depth { fi.now.bit_depth ≤ T.BITS }
-    requires first { IsServed T.num fi.now (reference_in references 0) p 64 64 }
-    requires second { IsServed T.num fi.now (reference_in references 1) p 64 64 }
+    requires first { IsServed T.num fi.now (reference_in references 0) p (block_width area.size) (block_height area.size) }
+    requires second { IsServed T.num fi.now (reference_in references 1) p (block_width area.size) (block_height area.size) }
     ensures { (value : PlanValue) → ServesPlan T.num value fi.now
         → has_reference value.header (reference_in references 0) ≡ true → has_reference value.header (reference_in references 1) ≡ true
         → plane.new ≡ painted_plane plane.old (leaf_area area) (λ r c _. T.pixel (compound_motion value p references mvs (leaf_area area) r c)) }

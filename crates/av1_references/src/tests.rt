@@ -148,8 +148,8 @@ fn single<T: Pixel>(
 ) -> Result<u64, OutOfMemory>
     requires plane { p < 3 }
     requires first { (area.x ≡ 0) × (area.y ≡ 0) }
-    requires wide { block_width area.size ≤ 64 }
-    requires high { block_height area.size ≤ 64 }
+    requires wide { block_width area.size ≤ 32 }
+    requires high { block_height area.size ≤ 32 }
     requires depth { fi.now.bit_depth ≤ T.BITS }
     requires inter { (1 ≤ reference_number reference) × (reference_number reference ≤ 7) }
     requires held { (value : PlanValue) × (ServesPlan T.num value fi.now × (has_reference value.header reference ≡ true)) }
@@ -177,8 +177,8 @@ fn compound<T: Pixel>(
 ) -> Result<u64, OutOfMemory>
     requires plane { p < 3 }
     requires first { (area.x ≡ 0) × (area.y ≡ 0) }
-    requires wide { block_width area.size ≤ 64 }
-    requires high { block_height area.size ≤ 64 }
+    requires wide { block_width area.size ≤ 32 }
+    requires high { block_height area.size ≤ 32 }
     requires depth { fi.now.bit_depth ≤ T.BITS }
     requires held { (value : PlanValue) × (ServesPlan T.num value fi.now × ((has_reference value.header RefType.LAST_FRAME ≡ true) × (has_reference value.header RefType.ALTREF_FRAME ≡ true))) }
 {

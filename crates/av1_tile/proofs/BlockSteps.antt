@@ -160,7 +160,7 @@ pub whole_inside : {T : Type 0} (h : Header) (block : PlaneBlock) (triples : Lis
 whole_inside h block triples plane is fits = record { storage = is.whole; columns = omega (arith, fits.columns); rows = omega (arith, fits.rows) }
 
 module _ {T : Type 0} (num : T → ℕ) (pixel : ℕ → T) (law : (v : ℕ) → num (pixel v) ≡ v) (back : (x : T) → pixel (num x) ≡ x) (plan : PlanValue) (fi : FrameInvariants T) (holds : ServesPlan num plan fi) (block : PlaneBlock) (below : block.plane < 3)
-    (fits : PredictionFits plan.header block.area block.prediction) (before between : Plane T) (predicted : between ≡ fold (fast_in num pixel plan block.plane (λ _. no_luma)) before (whole_steps block)) where
+    (fits : PredictionFits plan.header block.plane block.area block.prediction) (before between : Plane T) (predicted : between ≡ fold (fast_in num pixel plan block.plane (λ _. no_luma)) before (whole_steps block)) where
   -- the plane goes on storing its part of the frame
   pub whole_between : Stores num plan.header block.plane before → Stores num plan.header block.plane between
   whole_between stores = subst (Stores num plan.header block.plane) (sym predicted) (whole_stores num pixel law back plan block.plane (λ _. no_luma) before stores fi holds below block fits)

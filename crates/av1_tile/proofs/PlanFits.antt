@@ -154,22 +154,22 @@ transform_valid t type e =
 compound_inter : (mode : PredictionMode) → is_compound mode ≡ true → is_intra mode ≡ false
 compound_inter mode e = false_from_ne_true (is_intra mode) (λ intra. let high = leb-true 20 (mode_number mode) e in let low = ltb-true (mode_number mode) 14 intra in absurd (omega (arith, high, low)))
 
--- an area whose sides are those of motion
-record HasMotionSides (area : PlaneArea) : Type 0 where
-  wide : block_width area.size ≤ 64
-  high : block_height area.size ≤ 64
+-- an area of plane p whose sides are those of motion
+record HasMotionSides (h : Header) (p : ℕ) (area : PlaneArea) : Type 0 where
+  wide : block_width area.size ≤ 64 / 2 ^ xdec h p
+  high : block_height area.size ≤ 64 / 2 ^ ydec h p
 
 reference_fits : (h : Header) (reference : RefType) → IsOtherFrame reference → HasPlanes h reference → ReferenceFits h reference
 reference_fits h reference other has = record { other = other; has = accepted h reference has }
 
-single_fits : (h : Header) (area : PlaneArea) (mode : PredictionMode) (reference : RefType) (mv : MotionVector) → HasMotionSides area → IsReadSingle mode reference mv → HasPlanes h reference → SingleFits h area mode reference
-single_fits h area mode reference mv sides read has = record {
+single_fits : (h : Header) (p : ℕ) (area : PlaneArea) (mode : PredictionMode) (reference : RefType) (mv : MotionVector) → HasMotionSides h p area → IsReadSingle mode reference mv → HasPlanes h reference → SingleFits h p area mode reference
+single_fits h p area mode reference mv sides read has = record {
   motion = record { inter = read.inter; wide = sides.wide; high = sides.high };
   served = reference_fits h reference read.reference_read has;
 }
 
-compound_fits : (h : Header) (area : PlaneArea) (mode : PredictionMode) (references : List RefType) (mvs : List MotionVector) → HasMotionSides area → IsReadCompound mode references mvs → All (HasPlanes h) references → CompoundFits h area mode references
-compound_fits h area mode references mvs sides read has =
+compound_fits : (h : Header) (p : ℕ) (area : PlaneArea) (mode : PredictionMode) (references : List RefType) (mvs : List MotionVector) → HasMotionSides h p area → IsReadCompound mode references mvs → All (HasPlanes h) references → CompoundFits h p area mode references
+compound_fits h p area mode references mvs sides read has =
     let first : 0 < length references = omega (arith, read.two_references) in
     let second : 1 < length references = omega (arith, read.two_references) in
     record {
@@ -179,8 +179,8 @@ compound_fits h area mode references mvs sides read has =
     }
 
 -- a leaf whose chroma may be predicted from its luma, and which may be predicted from references
-mode_fits : (h : Header) (filter : Option IntraEdgeFilterParameters) (k : Component) (area : PlaneArea) (carried : Bool) (size : BlockSize) (kind : LeafKind) → IsReadKind carried kind → HasValidModes size kind → HasValidReferences h kind → HasMotionSides area
-    → (is_same Y k ≡ false → is_from_luma kind ≡ true → (alpha : ℤ) → unsigned_abs alpha ≤ 16 → FromLumaFits area alpha) → PredictionFits h area (prediction_in filter k kind)
+mode_fits : (h : Header) (filter : Option IntraEdgeFilterParameters) (k : Component) (area : PlaneArea) (carried : Bool) (size : BlockSize) (kind : LeafKind) → IsReadKind carried kind → HasValidModes size kind → HasValidReferences h kind → HasMotionSides h (number k) area
+    → (is_same Y k ≡ false → is_from_luma kind ≡ true → (alpha : ℤ) → unsigned_abs alpha ≤ 16 → FromLumaFits area alpha) → PredictionFits h (number k) area (prediction_in filter k kind)
 mode_fits h filter Y area carried size (Intra mode step chroma) read valid has sides luma = record { intra = read.intra; plain = valid.plain; few_steps = valid.step_valid.small }
 mode_fits h filter U area carried size (Intra mode step (Some (Plain uv_mode uv_step))) read valid has sides luma = record { intra = read.chroma_read.intra; plain = read.chroma_read.plain; few_steps = valid.chroma_valid.small }
 mode_fits h filter V area carried size (Intra mode step (Some (Plain uv_mode uv_step))) read valid has sides luma = record { intra = read.chroma_read.intra; plain = read.chroma_read.plain; few_steps = valid.chroma_valid.small }
@@ -188,12 +188,12 @@ mode_fits h filter U area carried size (Intra mode step (Some (Cfl alpha_u alpha
 mode_fits h filter V area carried size (Intra mode step (Some (Cfl alpha_u alpha_v))) read valid has sides luma = luma refl refl alpha_v valid.chroma_valid.v
 mode_fits h filter U area carried size (Intra mode step None) read valid has sides luma = record { intra = refl; plain = refl; few_steps = omega arith }
 mode_fits h filter V area carried size (Intra mode step None) read valid has sides luma = record { intra = refl; plain = refl; few_steps = omega arith }
-mode_fits h filter Y area carried size (Single mode reference mv) read valid has sides luma = single_fits h area mode reference mv sides read has
-mode_fits h filter Y area carried size (Compound mode references mvs) read valid has sides luma = compound_fits h area mode references mvs sides read has
-mode_fits h filter U area carried size (Single mode reference mv) read valid has sides luma = single_fits h area mode reference mv sides read has
-mode_fits h filter U area carried size (Compound mode references mvs) read valid has sides luma = compound_fits h area mode references mvs sides read has
-mode_fits h filter V area carried size (Single mode reference mv) read valid has sides luma = single_fits h area mode reference mv sides read has
-mode_fits h filter V area carried size (Compound mode references mvs) read valid has sides luma = compound_fits h area mode references mvs sides read has
+mode_fits h filter Y area carried size (Single mode reference mv) read valid has sides luma = single_fits h 0 area mode reference mv sides read has
+mode_fits h filter Y area carried size (Compound mode references mvs) read valid has sides luma = compound_fits h 0 area mode references mvs sides read has
+mode_fits h filter U area carried size (Single mode reference mv) read valid has sides luma = single_fits h 1 area mode reference mv sides read has
+mode_fits h filter U area carried size (Compound mode references mvs) read valid has sides luma = compound_fits h 1 area mode references mvs sides read has
+mode_fits h filter V area carried size (Single mode reference mv) read valid has sides luma = single_fits h 2 area mode reference mv sides read has
+mode_fits h filter V area carried size (Compound mode references mvs) read valid has sides luma = compound_fits h 2 area mode references mvs sides read has
 
 -- ---- leaves
 
@@ -222,12 +222,12 @@ weight_fits h U leaf is chroma from alpha low = from_luma_fits h leaf is.frame i
 weight_fits h V leaf is chroma from alpha low = from_luma_fits h leaf is.frame is.read.grid is.valid from 1 alpha low
 
 -- a side of a leaf in a plane
-side_within : (s w n : ℕ) → s ≤ 1 → w ≤ 64 → n ≡ 4 * (max (w / 4) (2 ^ s) / 2 ^ s) → n ≤ 64
+side_within : (s w n : ℕ) → s ≤ 1 → w ≤ 64 → n ≡ 4 * (max (w / 4) (2 ^ s) / 2 ^ s) → n ≤ 64 / 2 ^ s
 side_within zero w n h short e = omega (arith, short, e)
 side_within (suc zero) w n h short e = omega (arith, short, e)
 side_within (suc (suc s)) w n h short e = absurd (omega arith)
 
-motion_sides : (h : Header) (k : Component) (leaf : LeafValue) → IsSoundLeaf h leaf → HasMotionSides (plane_area h leaf.x leaf.y leaf.size leaf.tx_size (number k))
+motion_sides : (h : Header) (k : Component) (leaf : LeafValue) → IsSoundLeaf h leaf → HasMotionSides h (number k) (plane_area h leaf.x leaf.y leaf.size leaf.tx_size (number k))
 motion_sides h k leaf is =
     let frame = whole_frame h is.frame in
     let n = number k in

@@ -108,7 +108,7 @@ module _ {T : Type 0} (num : T → ℕ) (pixel : ℕ → T) (law : (v : ℕ) →
 
   module _ (fi : FrameInvariants T) (holds : ServesPlan num plan fi) (below : p < 3) where
     -- what is predicted from references that frame settings hold lies within the depth too
-    whole_within : (area : PlaneArea) (of : Prediction) → PredictionFits plan.header area of → is_whole of ≡ true → (a : VisibleArea) (edge : PredictionMode → ℤ → Edge) (f : ℕ → ℕ → ℤ) (r c : ℕ)
+    whole_within : (area : PlaneArea) (of : Prediction) → PredictionFits plan.header p area of → is_whole of ≡ true → (a : VisibleArea) (edge : PredictionMode → ℤ → Edge) (f : ℕ → ℕ → ℤ) (r c : ℕ)
         → by_prediction plan p of a edge f r c < 2 ^ plan.header.depth
     unfolding by_prediction
     whole_within area (predictions.Intra mode step filter) fits e a edge f r c = absurd cc
@@ -117,7 +117,7 @@ module _ {T : Type 0} (num : T → ℕ) (pixel : ℕ → T) (law : (v : ℕ) →
     whole_within area (predictions.Compound mode references mvs) fits e a edge f r c = compound_motion_within plan p references mvs a r c
 
     -- and a whole area is
-    pub whole_stores : (block : PlaneBlock) → PredictionFits plan.header block.area block.prediction → Stores num plan.header p (fold (fast_in num pixel plan p luma) plane (whole_steps block))
+    pub whole_stores : (block : PlaneBlock) → PredictionFits plan.header p block.area block.prediction → Stores num plan.header p (fold (fast_in num pixel plan p luma) plane (whole_steps block))
     unfolding fast_in
     whole_stores block fits = go (is_whole block.prediction) refl
       where

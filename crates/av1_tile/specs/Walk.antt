@@ -170,16 +170,16 @@ pub record HasRoom {T : Type 0} (h : Header) (planes : Planes T) : Type 0 where
   pub u : HasRoomIn h 1 planes.u.plane_cfg
   pub v : HasRoomIn h 2 planes.v.plane_cfg
 
--- a plane of these settings stores so many samples more on every side
-pub record HasPad (pad : ℕ) (cfg : PlaneConfig) : Type 0 where
-  pub columns : cfg.xpad ≡ pad
-  pub rows : cfg.ypad ≡ pad
+-- a plane of these settings stores so many samples of luma more on every side, in plane p half as many where it is halved
+pub record HasPad (h : Header) (p pad : ℕ) (cfg : PlaneConfig) : Type 0 where
+  pub columns : cfg.xpad ≡ pad / 2 ^ xdec h p
+  pub rows : cfg.ypad ≡ pad / 2 ^ ydec h p
 
 -- and so does each plane
-pub record HasPads {T : Type 0} (pad : ℕ) (planes : Planes T) : Type 0 where
-  pub y : HasPad pad planes.y.plane_cfg
-  pub u : HasPad pad planes.u.plane_cfg
-  pub v : HasPad pad planes.v.plane_cfg
+pub record HasPads {T : Type 0} (h : Header) (pad : ℕ) (planes : Planes T) : Type 0 where
+  pub y : HasPad h 0 pad planes.y.plane_cfg
+  pub u : HasPad h 1 pad planes.u.plane_cfg
+  pub v : HasPad h 2 pad planes.v.plane_cfg
 
 -- planes laid out alike
 pub record SameLayout {T : Type 0} (p q : Planes T) : Type 0 where
@@ -229,39 +229,39 @@ pub record FromLumaFits (area : PlaneArea) (alpha : ℤ) : Type 0 where
   pub weight : unsigned_abs alpha ≤ 16
   pub few : tx_width area.tx_size * tx_height area.tx_size ≤ 1024
 
--- a mode that predicts from references, over an area with sides up to 64
-pub record MotionFits (area : PlaneArea) (mode : PredictionMode) : Type 0 where
+-- a mode that predicts from references, over an area of plane p with sides up to 64 samples of luma
+pub record MotionFits (h : Header) (p : ℕ) (area : PlaneArea) (mode : PredictionMode) : Type 0 where
   pub inter : is_intra mode ≡ false
-  pub wide : block_width area.size ≤ 64
-  pub high : block_height area.size ≤ 64
+  pub wide : block_width area.size ≤ 64 / 2 ^ xdec h p
+  pub high : block_height area.size ≤ 64 / 2 ^ ydec h p
 
 -- a reference from LAST to ALTREF, whose slot carries planes
 pub record ReferenceFits (h : Header) (reference : RefType) : Type 0 where
   pub other : IsOtherFrame reference
   pub has : IsTrue (has_reference h reference)
 
--- a prediction of an area from one reference, and from two
-pub record SingleFits (h : Header) (area : PlaneArea) (mode : PredictionMode) (reference : RefType) : Type 0 where
-  pub motion : MotionFits area mode
+-- a prediction of an area of plane p from one reference, and from two
+pub record SingleFits (h : Header) (p : ℕ) (area : PlaneArea) (mode : PredictionMode) (reference : RefType) : Type 0 where
+  pub motion : MotionFits h p area mode
   pub served : ReferenceFits h reference
 
-pub record CompoundFits (h : Header) (area : PlaneArea) (mode : PredictionMode) (references : List RefType) : Type 0 where
-  pub motion : MotionFits area mode
+pub record CompoundFits (h : Header) (p : ℕ) (area : PlaneArea) (mode : PredictionMode) (references : List RefType) : Type 0 where
+  pub motion : MotionFits h p area mode
   pub first : ReferenceFits h (reference_of references 0)
   pub second : ReferenceFits h (reference_of references 1)
 
--- a prediction of an area that can be made in a frame
-abbrev pub PredictionFits : Header → PlaneArea → Prediction → Type 0
-PredictionFits h area (predictions.Intra mode step filter) = ModeFits mode step
-PredictionFits h area (predictions.FromLuma alpha) = FromLumaFits area alpha
-PredictionFits h area (predictions.Single mode reference mv) = SingleFits h area mode reference
-PredictionFits h area (predictions.Compound mode references mvs) = CompoundFits h area mode references
+-- a prediction of an area of plane p that can be made in a frame
+abbrev pub PredictionFits : Header → (p : ℕ) → PlaneArea → Prediction → Type 0
+PredictionFits h p area (predictions.Intra mode step filter) = ModeFits mode step
+PredictionFits h p area (predictions.FromLuma alpha) = FromLumaFits area alpha
+PredictionFits h p area (predictions.Single mode reference mv) = SingleFits h p area mode reference
+PredictionFits h p area (predictions.Compound mode references mvs) = CompoundFits h p area mode references
 
 -- a block that is reconstructed: it lies in a plane's storage, its prediction and its transforms can be made, and its triples fit and rise
 pub record BlockFits (cfg : PlaneConfig) (h : Header) (block : PlaneBlock) (triples : List Triple) : Type 0 where
   pub columns : cfg.xorigin + (block.area.x + block_width block.area.size) ≤ cfg.stride
   pub rows : cfg.yorigin + (block.area.y + block_height block.area.size) ≤ cfg.alloc_height
-  pub prediction : PredictionFits h block.area block.prediction
+  pub prediction : PredictionFits h block.plane block.area block.prediction
   pub transform : IsTrue (valid_av1_transform block.area.tx_size block.tx_type)
   pub lossless : block.tx_type ≡ WHT_WHT → block.area.tx_size ≡ TX_4X4
   pub coefficients : All (TripleFits h.depth block) triples

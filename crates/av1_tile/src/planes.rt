@@ -1,6 +1,6 @@
 //! The three planes of a picture.
 
-ghost use Rattle.std.specs.Prelude.{◌≡◌, ◌<◌, ◌≤◌, IfOk, map};
+ghost use Rattle.std.specs.Prelude.{◌≡◌, ◌/◌, ◌^◌, ◌<◌, ◌≤◌, IfOk, map};
 ghost use Rattle.av1_frame.specs.Planes.{sample_at};
 ghost use Rattle.av1_lists.specs.Lists.{by_index};
 ghost use Rattle.av1_plan.specs.Geometry.{plane_width, plane_height};
@@ -23,7 +23,17 @@ pub struct Planes<T> {
     pub v: Plane<T>,
 }
 
-/// A plane of zeros with the sides of plane `p` (0 for Y, 1 for U and 2 for V) of a frame, and `pad` samples on every side besides.
+/// How many samples `pad` samples of luma are in a direction in which a sample stands for 1 of luma (`decimation` 0) or 2 (1).
+fn pad_of(pad: usize, decimation: usize) -> usize
+    requires { decimation ≤ 1 }
+    ensures value { result ≡ pad / 2 ^ decimation }
+    ensures few { result ≤ pad }
+{
+    pad >> decimation
+}
+
+/// A plane of zeros with the sides of plane `p` (0 for Y, 1 for U and 2 for V) of a frame, and on every side `pad` samples of luma besides: half
+/// as many samples in directions in which the plane is halved.
 ///
 /// Storage is that of whole superblocks. An error is want of memory.
 fn plane_of_frame<T: Pixel>(
@@ -36,16 +46,18 @@ fn plane_of_frame<T: Pixel>(
     requires pad { pad ≤ 256 }
     ensures stores { IfOk result (λ plane. Stores T.num header.now p plane) }
     ensures room { IfOk result (λ plane. HasRoomIn header.now p plane.plane_cfg) }
-    ensures pad { IfOk result (λ plane. HasPad pad plane.plane_cfg) }
+    ensures pad { IfOk result (λ plane. HasPad header.now p pad plane.plane_cfg) }
 {
+    let xdec = header.xdec(p);
+    let ydec = header.ydec(p);
     Plane::new(
         alloc,
         header.plane_width(p),
         header.plane_height(p),
-        header.xdec(p),
-        header.ydec(p),
-        pad,
-        pad,
+        xdec,
+        ydec,
+        pad_of(pad, xdec),
+        pad_of(pad, ydec),
     )
 }
 
@@ -72,13 +84,14 @@ impl<T: Pixel> Planes<T> {
     ghost use Rattle.av1_tile.specs.PlaneBlocks.{component};
     ghost use Rattle.av1_tile.specs.Walk.{AreFrame, HasPads, HasRoom, plane_of, StoresAll};
 
-    /// Planes of zeros for a frame, with room for whole superblocks, and `pad` samples on every side besides. An error is want of memory.
+    /// Planes of zeros for a frame, with room for whole superblocks, and on every side `pad` samples of luma besides, in directions in which a
+    /// plane is halved half as many. An error is want of memory.
     pub fn new(alloc: Global, header: &Header, pad: usize) -> Result<Planes<T>, OutOfMemory>
         requires frame { IsReadFrame header.now }
         requires pad { pad ≤ 256 }
         ensures stores { IfOk result (λ planes. StoresAll T.num header.now planes) }
         ensures room { IfOk result (λ planes. HasRoom header.now planes) }
-        ensures pads { IfOk result (λ planes. HasPads pad planes) }
+        ensures pads { IfOk result (λ planes. HasPads header.now pad planes) }
     {
         let y = plane_of_frame(alloc, header, 0, pad)?;
         let u = plane_of_frame(alloc, header, 1, pad)?;

@@ -81,7 +81,7 @@ fn predict_block<T: Pixel>(
     requires depth { header.now.depth ≤ T.BITS }
     requires place { IsPlaceIn header.now block.now at }
     requires fits { InPlane (area_at block.now at) plane.old }
-    requires prediction { PredictionFits header.now block.now.area block.now.prediction }
+    requires prediction { PredictionFits header.now block.now.plane block.now.area block.now.prediction }
     ensures walked { (value : PlanValue) → plane.new ≡ fold (fast_in T.num T.pixel (with_header header.now value) block.now.plane (λ _. ac_at (tx_width block.now.area.tx_size) buffers.old.luma.items)) plane.old (own_prediction block.now at.number (area_at block.now at)) }
     ensures counted { buffers.new.edges.prepared ≡ fold edges_in buffers.old.edges.prepared (own_prediction block.now at.number (area_at block.now at)) }
     ensures luma { buffers.new.luma.items ≡ buffers.old.luma.items }
@@ -210,8 +210,8 @@ fn predict_whole<T: Pixel>(
     requires plane { block.now.plane < 3 }
     requires depth { fi.now.bit_depth ≤ T.BITS }
     requires fits { InPlane (whole_area block.now) plane.old }
-    requires references { (value : PlanValue) × (ServesPlan T.num value fi.now × PredictionFits value.header block.now.area block.now.prediction) }
-    ensures { (value : PlanValue) → ServesPlan T.num value fi.now → PredictionFits value.header block.now.area block.now.prediction
+    requires references { (value : PlanValue) × (ServesPlan T.num value fi.now × PredictionFits value.header block.now.plane block.now.area block.now.prediction) }
+    ensures { (value : PlanValue) → ServesPlan T.num value fi.now → PredictionFits value.header block.now.plane block.now.area block.now.prediction
         → plane.new ≡ fold (fast_in T.num T.pixel value block.now.plane (λ _. no_luma)) plane.old (whole_steps block.now) }
 {
     let p = block.plane;

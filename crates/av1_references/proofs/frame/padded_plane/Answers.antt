@@ -5,12 +5,12 @@ use Rattle.av1_references.proofs.frame.padded_plane.Goals as goal
 
 pub new-requires-clause-some_columns : goal.new-requires-clause-some_columns
 new-requires-clause-some_columns g c =
-    let some = some_columns c.args.header.now c.args.p c.requires.frame (omega (arith, c.xdec.ensures.value, c.xdec.ensures.small)) in
+    let some = some_columns c.args.header.now c.args.p c.requires.frame (omega (arith, c.xdec-xdec.ensures.value, c.xdec-xdec.ensures.small)) in
     omega (arith, c.plane_width-width.ensures.value, some)
 
 pub new-requires-clause-some_rows : goal.new-requires-clause-some_rows
 new-requires-clause-some_rows g c =
-    let some = some_rows c.args.header.now c.args.p c.requires.frame (omega (arith, c.ydec.ensures.value, c.ydec.ensures.small)) in
+    let some = some_rows c.args.header.now c.args.p c.requires.frame (omega (arith, c.ydec-ydec.ensures.value, c.ydec-ydec.ensures.small)) in
     omega (arith, c.plane_height-height.ensures.value, some)
 
 pub fill_plane-requires-clause-range : goal.fill_plane-requires-clause-range
@@ -22,4 +22,4 @@ pad-requires g c = filled_whole c.in_ok-plane.plane c.fill_plane.new.plane _ _ c
 
 pub returns : goal.returns
 returns g c =
-    filled_holds g.T.Pixel.num g.T.Pixel.pixel g.met.T.Pixel.pixel_of_num g.met.T.Pixel.num_of_pixel c.args.samples.now c.in_ok-plane.plane c.fill_plane.new.plane c.pad.new.self _ _ _ _ c.args.header.now c.args.p c.in_ok-plane.ensures.whole c.in_ok-plane.ensures.cfg c.plane_width-width.ensures.value c.plane_height-height.ensures.value c.xdec.ensures.value c.ydec.ensures.value c.requires.samples.range c.fill_plane.ensures c.pad.ensures.all
+    filled_holds g.T.Pixel.num g.T.Pixel.pixel g.met.T.Pixel.pixel_of_num g.met.T.Pixel.num_of_pixel c.args.samples.now c.in_ok-plane.plane c.fill_plane.new.plane c.pad.new.self _ _ _ _ _ _ c.args.header.now c.args.p c.in_ok-plane.ensures.whole c.in_ok-plane.ensures.cfg c.pad_of.ensures.value c.pad_of-2.ensures.value c.plane_width-width.ensures.value c.plane_height-height.ensures.value c.xdec-xdec.ensures.value c.ydec-ydec.ensures.value c.requires.samples.range c.fill_plane.ensures c.pad.ensures.all

@@ -1,4 +1,5 @@
 use Rattle.std.proofs.Common.{◌∙◌, ap, rules, arith, pos, ◌+ℤ◌}
+use Rattle.av1_blocks.specs.Blocks.{block_width, block_height}
 use Rattle.av1_frame.specs.Areas.{area_from, from_origin}
 use Rattle.av1_inter.specs.Reference.{reference_of as reference_in}
 use Rattle.av1_references.proofs.Painted.{from_first, IsLeafRegion, compound_region}
@@ -8,12 +9,12 @@ use Rattle.av1_references.proofs.predict.predict_compound.Goals as goal
 pub predict_inter_compound-requires-clause-first :
     goal.predict_inter_compound-requires-clause-first
 predict_inter_compound-requires-clause-first g c =
-    served_shorter g.T.Pixel.num c.args.fi.now (reference_in c.args.references 0) c.args.p 64 64 _ _ (omega (arith, c.width.ensures.value)) (omega (arith, c.height.ensures.value)) c.requires.first
+    served_shorter g.T.Pixel.num c.args.fi.now (reference_in c.args.references 0) c.args.p (block_width c.args.area.size) (block_height c.args.area.size) _ _ (omega (arith, c.width.ensures.value)) (omega (arith, c.height.ensures.value)) c.requires.first
 
 pub predict_inter_compound-requires-clause-second :
     goal.predict_inter_compound-requires-clause-second
 predict_inter_compound-requires-clause-second g c =
-    served_shorter g.T.Pixel.num c.args.fi.now (reference_in c.args.references 1) c.args.p 64 64 _ _ (omega (arith, c.width.ensures.value)) (omega (arith, c.height.ensures.value)) c.requires.second
+    served_shorter g.T.Pixel.num c.args.fi.now (reference_in c.args.references 1) c.args.p (block_width c.args.area.size) (block_height c.args.area.size) _ _ (omega (arith, c.width.ensures.value)) (omega (arith, c.height.ensures.value)) c.requires.second
 
 pub returns : goal.returns
 returns g c = λ value holds has_first has_second.

@@ -1,4 +1,5 @@
 use Rattle.std.proofs.Common.{◌∙◌, ap, rules, arith, pos, ◌+ℤ◌}
+use Rattle.av1_blocks.specs.Blocks.{block_width, block_height}
 use Rattle.av1_frame.specs.Areas.{area_from, from_origin}
 use Rattle.av1_references.proofs.Painted.{from_first, IsLeafRegion, single_region}
 use Rattle.av1_references.proofs.Served.{served_shorter}
@@ -7,7 +8,7 @@ use Rattle.av1_references.proofs.predict.predict_single.Goals as goal
 pub predict_inter_single-requires-clause-reference :
     goal.predict_inter_single-requires-clause-reference
 predict_inter_single-requires-clause-reference g c =
-    served_shorter g.T.Pixel.num c.args.fi.now c.args.reference c.args.p 64 64 _ _ (omega (arith, c.width.ensures.value)) (omega (arith, c.height.ensures.value)) c.requires.reference
+    served_shorter g.T.Pixel.num c.args.fi.now c.args.reference c.args.p (block_width c.args.area.size) (block_height c.args.area.size) _ _ (omega (arith, c.width.ensures.value)) (omega (arith, c.height.ensures.value)) c.requires.reference
 
 pub returns : goal.returns
 returns g c = λ value holds has.
