@@ -1,22 +1,16 @@
 -- What an admitted header says.
-use Rattle.std.proofs.Common.{◌≡◌, ℕ, zero, suc, ◌-◌, ◌<◌, ◌≤◌, ◌⊎◌, inl, inr, true, ◌&&◌, ◌||◌, List, [], ◌∷◌, length, All, sym, ap, ◌∙◌, arith}
-use Rattle.std.specs.Prelude.{nat_le, ◌==◌}
+use Rattle.std.proofs.Common.{◌≡◌, ℕ, zero, suc, ◌-◌, ◌<◌, ◌≤◌, ◌⊎◌, inl, inr, true, ◌&&◌, List, [], ◌∷◌, length, All, sym, ap, ◌∙◌, arith}
+use Rattle.std.specs.Prelude.{nat_le}
 use Rattle.std.specs.List.{list_all}
-use Rattle.std.proofs.lemmas.Bool.{and_parts, or_cases, leb-true, eqb-true}
+use Rattle.std.proofs.lemmas.Bool.{and_parts, leb-true}
 use Rattle.av1_blocks.specs.Filters.{filter_number}
 use Rattle.av1_plan.specs.declared.header.Header.{Header}
 use Rattle.av1_plan.specs.Grammar.{is_side, is_depth}
 use Rattle.av1_plan.specs.ReadPlans.{IsReadFrame}
 use Rattle.std.specs.Int.{is_in_range}
-use Rattle.av1_plan.proofs.ReadFrames.{side_is}
+use Rattle.av1_plan.proofs.ReadFrames.{side_is, depth_is}
 use Rattle.av1_planwrite.specs.Asked.{across, down, row_before, rows_of, superblocks_from}
 use Rattle.av1_planwrite.specs.Building.{admits_header}
-
-depth_is : (n : ℕ) → is_depth n ≡ true → (n ≡ 8) ⊎ (n ≡ 10) ⊎ (n ≡ 12)
-depth_is n e = elim (or_cases (n == 8 || n == 10) (n == 12) e) [
-  | inl low ↦ elim (or_cases (n == 8) (n == 10) low) [ inl eight ↦ inl (eqb-true n 8 eight) | inr ten ↦ inr (inl (eqb-true n 10 ten)) ]
-  | inr twelve ↦ inr (inr (eqb-true n 12 twelve))
-]
 
 slots_are : (slots : List ℕ) → list_all (λ slot. nat_le slot 7) slots ≡ true → All (λ slot. slot < 8) slots
 slots_are [] e k d lt = absurd (omega (arith, lt))

@@ -1,4 +1,5 @@
 pub mod Converting
+pub mod Ends
 pub mod MadePlans
 pub mod Outcomes
 pub mod Reading

@@ -7,3 +7,4 @@ pub mod Lines
 pub mod Made
 pub mod Numbers
 pub mod Commands
+pub mod Ends

@@ -4,12 +4,12 @@ use Rattle.std.specs.List.{flat_map}
 use Rattle.std.proofs.lemmas.Bool.{eqb-true, le-leb, leb-true}
 use Rattle.std.proofs.lemmas.List.{append-nil, take_at, drop_at, length-take, nil_from_length}
 use Rattle.std.proofs.lemmas.List.Elements.{All-nil, All-cons, All-head, All-tail}
-use Rattle.av1_plan.specs.Format.{four, any, Input, Reading, on_ok, read_field, read, ended, start}
+use Rattle.av1_plan.specs.Format.{four, any, Input, Reading, on_ok, read_field, read, read_part, ended, start}
 use Rattle.av1_plan.specs.Spelling.{text, IsPrefix}
 use Rattle.av1_plan.proofs.Fields.{AreBytes, AreBytes-drop, field_takes, field_again, field_fails, length-le}
 use Rattle.av1_plan.proofs.Spelled.{bind_ok, end, no_longer, ok, ok_is, reaches, read_again, read_spells}
 use Rattle.av1_recon.proofs.Outcomes.{byte_fits}
-use Rattle.av1_tiles.specs.Grammar.{FrontValue, FileValue, count_tiles, front, read_part, read_parts, read_file}
+use Rattle.av1_tiles.specs.Grammar.{FrontValue, FileValue, count_tiles, front, read_parts, read_file}
 use Rattle.av1_tiles.proofs.Refusals.{clash}
 use Rattle.av1_tiles.specs.Texts.{length_text, part_text, IsRun, IsProperText, IsGridText, IsLongestText, FoundAtText, RefusedAtLongest}
 

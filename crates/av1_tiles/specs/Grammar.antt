@@ -1,8 +1,8 @@
 -- The format of a grid of tiles: the frame as a plan has it, where the columns and rows of tiles begin, and a part for each tile in raster
 -- order. Numbers are little-endian.
-use Rattle.std.specs.Prelude.{codes, zero, suc, ◌+◌, ◌*◌, ◌-◌, ◌%◌, ◌&&◌, nat_lt, nat_le, ℕ, Bool, ◌==◌, if◌then◌else◌, List, [], ◌∷◌, ◌++◌, length, take, drop, Option, Ok, Err}
+use Rattle.std.specs.Prelude.{codes, zero, suc, ◌*◌, ◌-◌, ◌%◌, ◌&&◌, nat_lt, ℕ, Bool, ◌==◌, List, [], ◌∷◌, ◌++◌, length, Option, Ok}
 use Rattle.std.specs.Int.{w32, from_le_bytes}
-use Rattle.av1_plan.specs.Format.{two, four, Kind, Format, done, ◌>>=◌, field, any, Input, Reading, on_ok, read_field, read, start, ended}
+use Rattle.av1_plan.specs.Format.{two, four, Kind, Format, done, ◌>>=◌, field, Input, Reading, on_ok, read, read_part, start, ended}
 use Rattle.av1_plan.specs.Grammar.{where_, byte_from, frame, references}
 use Rattle.av1_plan.specs.declared.header.Header.{Header}
 
@@ -57,10 +57,6 @@ count_tiles f = (length f.columns - 1) * (length f.rows - 1)
 pub record FileValue : Type 0 where
   pub front : FrontValue
   pub parts : List (List ℕ)
-
--- the part of a tile: its length, and so many bytes, which are one field
-unfoldable pub read_part : Input → Reading (List ℕ × Input)
-read_part i = on_ok (read_field (any four) i) (λ p. if nat_le p.0 (length p.1.rest) then Ok (take p.0 p.1.rest, record { at = p.1.at + p.0; rest = drop p.0 p.1.rest }) else Err p.1.at)
 
 -- the parts of so many tiles, behind those that were read before
 unfoldable pub read_parts : ℕ → List (List ℕ) × Input → Reading (List (List ℕ) × Input)

@@ -6,7 +6,7 @@ ghost use Rattle.av1_plan.specs.Grammar.{where_};
 ghost use Rattle.av1_plan.specs.Reading.{Gives, input, Fits, Moves};
 ghost use Rattle.av1_tiles.specs.Bounds.{IsReadFile};
 ghost use Rattle.av1_tiles.specs.File.{front_value, file_value};
-ghost use Rattle.av1_tiles.specs.Grammar.{is_magic, front, read_part, read_parts, read_file};
+ghost use Rattle.av1_tiles.specs.Grammar.{is_magic, front, read_parts, read_file};
 
 use crate::bounds::bounds;
 use crate::file::{Front, TileFile};
@@ -50,24 +50,6 @@ fn front(alloc: Global, reader: &mut Reader<'_>) -> Result<Front, PlanError>
     })
 }
 
-/// The part of a tile: its length, and so many bytes.
-#[tactic(auto, unfolding(crate::specs::Grammar::read_part))]
-fn part<'a>(reader: &mut Reader<'a>) -> Result<&'a [u8], PlanError>
-    requires { Fits reader.old }
-    ensures read { Gives (λ x. (x.now, input reader.new)) result (read_part (input reader.old)) }
-    ensures short { IfOk result (λ x. length x.now ≤ 2 ^ 26) }
-    ensures moves { Moves reader.old reader.new }
-{
-    let len = reader.any_u32()? as usize;
-    let rest = reader.rest;
-    if rest.len() < len {
-        return Err(PlanError::Malformed { at: reader.at });
-    }
-    reader.rest = &rest[len..];
-    reader.at += len as u32;
-    Ok(&rest[..len])
-}
-
 /// The parts of so many tiles.
 #[tactic(auto, using(crate::proofs::Parts::turns))]
 fn parts<'a>(
@@ -83,7 +65,7 @@ fn parts<'a>(
 {
     let mut parts = Vec::new(alloc);
     for _ in 0..count {
-        let part = part(reader)?;
+        let part = reader.part()?;
         parts.push(part)?;
     }
     Ok(parts)

@@ -3,6 +3,7 @@ pub mod Counting
 pub mod DifferenceTexts
 pub mod Frames
 pub mod GivenSamples
+pub mod Items
 pub mod Places
 pub mod Reading
 pub mod Refusals

@@ -5,3 +5,4 @@ pub mod DifferenceLines
 pub mod TraceErrors
 pub mod Traces
 pub mod Checking
+pub mod Answers

@@ -2,11 +2,12 @@
 //!
 //! [`compare`] takes a valid plan and the bytes of its visible planes, as another encoder left them, and lists each leaf and plane in which
 //! a sample is not the one of the slow definition, with the first such sample. So an encoder that goes wrong is told at which block it first
-//! did. [`write_differences`] writes a line for each. [`trace_differences`] takes plan and planes as the bytes of one trace, and
-//! [`check_trace`] reads these from a source to its end and writes the lines to a sink.
+//! did. [`write_differences`] writes a line for each. [`parse_trace`] takes plan and planes out of the bytes of one trace,
+//! [`trace_differences`] compares them, and [`check_trace`] reads these bytes from a source to its end and writes the lines to a sink.
+//! [`report_error`] is the line and the exit status of an error, for programs.
 //!
-//! It stands on `av1_streams` for sinks and lines, on `av1_plan` for plans, on `av1_tile` for the samples that they come to, and on
-//! `av1_order` for the law that the leaves of a plan tile its planes.
+//! It stands on `av1_streams` for sinks and lines, on `av1_plan` for plans, on `av1_tile` for the samples that they come to, on `av1_order`
+//! for the law that the leaves of a plan tile its planes, and on `av1_recon` for the statuses and lines of programs.
 //!
 //! Promised: the list is `differences` (`specs/Differences.antt`): nothing is left out and nothing else is in it. It is empty exactly where
 //! the bytes are those of the plan's planes. Bytes that are no trace are refused with the first field at fault (`specs/Traces.antt`). The
@@ -14,6 +15,7 @@
 //! `Performs` of `av1_streams`. Want of memory is the one free answer, and comes before the first written byte.
 #![tactic(auto)]
 
+mod answer;
 mod comparison;
 mod entry;
 mod error;
@@ -24,10 +26,11 @@ mod samples;
 mod tests;
 mod trace;
 
+pub use answer::report_error;
 pub use comparison::compare;
 pub use entry::Difference;
 pub use error::{PlanFault, TraceError};
 pub use laws::{every_place_has_its_leaf, trace_outcome_laws};
 pub use lines::write_differences;
 pub use samples::planes_len;
-pub use trace::{MAX_TRACE_BYTES, Parts, check_trace, trace_differences, trace_parts, valid_plan};
+pub use trace::{MAX_TRACE_BYTES, Trace, check_trace, parse_trace, trace_differences};

@@ -22,16 +22,25 @@ pub const MAX_TRACE_BYTES: usize = 1 << 27;
 // The bytes before the plan: four letters, and the length of the plan.
 const HEAD: usize = 8;
 
-/// The parts of a trace.
-#[derive(Clone, Copy)]
-pub struct Parts<'a> {
-    /// The bytes of its plan.
-    pub plan: &'a [u8],
-    /// The bytes of its planes.
+/// A valid plan, and the bytes of its planes as another encoder left them.
+#[derive(Drop)]
+pub struct Trace<'a> {
+    /// The plan.
+    pub plan: Plan,
+    /// The bytes of its planes, as many as the plan's planes have.
     pub planes: &'a [u8],
 }
 
-/// Reads a trace from the source to its end, as [`trace_differences`] takes it, and appends lines on its differences to the sink, as
+// The parts of a trace, neither of which is read yet.
+#[derive(Clone, Copy)]
+struct Parts<'a> {
+    // The bytes of its plan.
+    plan: &'a [u8],
+    // The bytes of its planes.
+    planes: &'a [u8],
+}
+
+/// Reads a trace from the source to its end, as [`parse_trace`] takes it, and appends lines on its differences to the sink, as
 /// [`write_differences`] does. Answers how many there are.
 ///
 /// # Errors
@@ -69,30 +78,47 @@ fn count_differences<W: Sink>(list: &[Difference], sink: &mut W) -> Result<u32, 
     Ok(list.len() as u32)
 }
 
-/// The differences of the trace that these bytes are: the letters `RTR1`, the length of the plan in four bytes, the low one first, the plan,
-/// and the bytes of its planes, as [`compare`] takes them.
+/// The differences of the trace that these bytes are, as [`compare`] lists them.
 ///
 /// # Errors
 ///
-/// `Malformed`, for the letters, the length or a plan that is cut; then `Plan`; then `Malformed`, for planes of another length than the
-/// plan's. `Memory` may stand in place of any of them.
+/// As for [`parse_trace`].
 pub fn trace_differences(alloc: Global, bytes: &[u8]) -> Result<Vec<Difference>, TraceError>
     requires short { length bytes.now ≤ max_trace_bytes }
     ensures found { IfOk result (λ list. (value : PlanValue) × (planes : List ℕ) × IsTrace bytes.now value planes × (list.items ≡ differences value planes)) }
     ensures few { IfOk result (λ list. length list.items < 2 ^ 32) }
     ensures refused { IfErr result (λ e. e ≢ Memory → AreRefusedFor bytes.now e) }
 {
+    let trace = parse_trace(alloc, bytes)?;
+    Ok(compare(alloc, &trace.plan, trace.planes)?)
+}
+
+/// The trace that these bytes are: the letters `RTR1`, the length of the plan in four bytes, the low one first, the plan, and the bytes of
+/// its planes, as [`compare`] takes them.
+///
+/// # Errors
+///
+/// `Malformed`, for the letters, the length or a plan that is cut; then `Plan`; then `Malformed`, for planes of another length than the
+/// plan's. `Memory` may stand in place of any of them.
+pub fn parse_trace(alloc: Global, bytes: &[u8]) -> Result<Trace<'_>, TraceError>
+    requires short { length bytes.now ≤ max_trace_bytes }
+    ensures found { IfOk result (λ trace. IsTrace bytes.now (plan_value trace.plan) trace.planes.now) }
+    ensures refused { IfErr result (λ e. e ≢ Memory → AreRefusedFor bytes.now e) }
+{
     let parts = trace_parts(bytes)?;
     let plan = valid_plan(alloc, parts.plan)?;
     let len = planes_len(plan.header());
-    let planes = HEAD + parts.plan.len();
+    let behind = HEAD + parts.plan.len();
     if parts.planes.len() < len {
-        return Err(malformed(planes));
+        return Err(malformed(behind));
     }
     if parts.planes.len() > len {
-        return Err(malformed(planes + len));
+        return Err(malformed(behind + len));
     }
-    Ok(compare(alloc, &plan, parts.planes)?)
+    Ok(Trace {
+        plan,
+        planes: parts.planes,
+    })
 }
 
 // The field that begins at this byte is at fault.
@@ -103,12 +129,8 @@ fn malformed(at: usize) -> TraceError
     TraceError::Malformed { at: at as u32 }
 }
 
-/// The plan and the planes of a trace, neither of which is read yet.
-///
-/// # Errors
-///
-/// `Malformed`, for the letters, the length or a plan that is cut.
-pub fn trace_parts(bytes: &[u8]) -> Result<Parts<'_>, TraceError>
+// The plan and the planes of a trace.
+fn trace_parts(bytes: &[u8]) -> Result<Parts<'_>, TraceError>
     requires short { length bytes.now ≤ max_trace_bytes }
     ensures found { IfOk result (λ parts. HasParts bytes.now parts.plan.now parts.planes.now) }
     ensures refused { IfErr result (λ e. (at : ℕ) × (e ≡ Malformed at) × IsMalformedAt bytes.now at) }
@@ -130,12 +152,8 @@ pub fn trace_parts(bytes: &[u8]) -> Result<Parts<'_>, TraceError>
     Ok(Parts { plan, planes })
 }
 
-/// The valid plan that these bytes are.
-///
-/// # Errors
-///
-/// `Plan`, where they are none. `Memory` may stand in place of it.
-pub fn valid_plan(alloc: Global, bytes: &[u8]) -> Result<Plan, TraceError>
+// The valid plan that these bytes are.
+fn valid_plan(alloc: Global, bytes: &[u8]) -> Result<Plan, TraceError>
     requires short { length bytes.now ≤ max_plan_bytes }
     ensures found { IfOk result (λ plan. IsValidPlan bytes.now (plan_value plan)) }
     ensures refused { IfErr result (λ e. e ≢ Memory → IsPlanFault bytes.now e) }

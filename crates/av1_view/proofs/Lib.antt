@@ -1,5 +1,4 @@
 pub mod Groups
-pub mod Items
 pub mod Shorter
 pub mod Bared
 pub mod Pages

@@ -1,7 +1,6 @@
 -- Bytes have one outcome as the page of a trace.
 use Rattle.std.proofs.Common.{◌≡◌, ℕ, ◌≤◌, List, [], length, Result, Ok, Err, refl, sym, ap, subst, ◌∙◌}
 use Rattle.std.specs.Prelude.{IfOk}
-use Rattle.av1_plan.specs.Answer.{plan_value}
 use Rattle.av1_plan.specs.Grammar.{plan as grammar}
 use Rattle.av1_plan.specs.Plan.{PlanValue}
 use Rattle.av1_plan.specs.Spelling.{AreText}
@@ -13,9 +12,8 @@ use Rattle.av1_trace.specs.Traces.{AreRefusedFor, IsTrace, max_trace_bytes}
 use Rattle.av1_trace.specs.declared.error.TraceError.{TraceError}
 use Rattle.av1_trace.proofs.Shapes.{one_plan, same_planes}
 use Rattle.av1_trace.proofs.TraceOutcomes.{one_outcome, trace_task_sound}
-use Rattle.av1_view.specs.declared.trace.Trace.{Trace}
 use Rattle.av1_view.specs.Shown.{trace_page, IsSpelledWithin}
-use Rattle.av1_view.specs.TracePages.{HasTraceOutcome, IsFound, trace_page_task}
+use Rattle.av1_view.specs.TracePages.{HasTraceOutcome, trace_page_task}
 
 -- bytes are one trace
 same_plan : (bytes : List ℕ) (a b : PlanValue) (xs ys : List ℕ) → IsTrace bytes a xs → IsTrace bytes b ys → a ≡ b
@@ -54,11 +52,6 @@ trace_page_task_sound = record {
 }
 
 -- ---- what is found
-
--- a trace that is short enough
-pub found_in : (bytes : List ℕ) (result : Result Trace TraceError) → length bytes ≤ max_trace_bytes → IfOk result (λ trace. IsTrace bytes (plan_value trace.plan) trace.planes.items) → IfOk result (λ trace. IsFound bytes (Ok trace))
-found_in bytes (Ok trace) short found = (short, found)
-found_in bytes (Err e) short found = tt
 
 -- its plan is spelled by some bytes
 pub trace_is_spelled : (bytes : List ℕ) (plan : PlanValue) (given : List ℕ) → IsTrace bytes plan given → IsSpelledWithin plan

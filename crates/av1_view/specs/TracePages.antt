@@ -6,7 +6,7 @@ use Rattle.av1_streams.specs.Tasks.{Task, Reads}
 use Rattle.av1_trace.specs.Checking.{cause}
 use Rattle.av1_trace.specs.Traces.{AreRefusedFor, IsTrace, max_trace_bytes}
 use Rattle.av1_trace.specs.declared.error.TraceError.{TraceError}
-use Rattle.av1_view.specs.declared.trace.Trace.{Trace}
+use Rattle.av1_view.specs.declared.trace.KeptTrace.{KeptTrace}
 use Rattle.av1_view.specs.Shown.{trace_page}
 
 -- The outcome of bytes: the page of the trace that they are, or why they are refused, as `check_trace` refuses them.
@@ -27,9 +27,9 @@ trace_page_task = record {
 -- ---- the half that reads
 
 -- what is found in bytes: the trace that they are, or why they are refused
-abbrev pub IsFound : List ℕ → Result Trace TraceError → Type 0
+abbrev pub IsFound : List ℕ → Result KeptTrace TraceError → Type 0
 IsFound bytes (Ok trace) = (length bytes ≤ max_trace_bytes) × IsTrace bytes (plan_value trace.plan) trace.planes.items
 IsFound bytes (Err e) = AreRefusedFor bytes e
 
-abbrev pub ReadsTrace : {S : Type 0} → (S → Option (List ℕ)) → (S → ℕ) → S → S → Result Trace TraceError → Type 0
+abbrev pub ReadsTrace : {S : Type 0} → (S → Option (List ℕ)) → (S → ℕ) → S → S → Result KeptTrace TraceError → Type 0
 ReadsTrace left faults source source' result = Reads max_trace_bytes cause IsFound left faults source source' result

@@ -5,7 +5,7 @@ ghost use Rattle.av1_plan.specs.Validity.{first_fault};
 ghost use Rattle.av1_streams.specs.Tasks.{Performs, WritesBytes};
 ghost use Rattle.av1_trace.specs.Checking.{cause};
 ghost use Rattle.av1_trace.specs.Traces.{AreRefusedFor, IsTrace, max_trace_bytes};
-ghost use Rattle.av1_trace.specs.declared.error.TraceError.TheVariants.{Malformed, Memory};
+ghost use Rattle.av1_trace.specs.declared.error.TraceError.TheVariants.{Memory};
 ghost use Rattle.av1_view.specs.Shown.{IsSpelledWithin, trace_page};
 ghost use Rattle.av1_view.specs.TracePages.{ReadsTrace, trace_page_task};
 
@@ -15,15 +15,12 @@ use av1_blocks::OutOfMemory;
 use av1_plan::Plan;
 use av1_recon::{Sink, Source};
 use av1_streams::read_bytes;
-use av1_trace::{MAX_TRACE_BYTES, TraceError, planes_len, trace_parts, valid_plan};
+use av1_trace::{MAX_TRACE_BYTES, Trace, TraceError, parse_trace};
 use std::alloc::Global;
 
-// The bytes before the plan: four letters, and the length of the plan.
-const HEAD: usize = 8;
-
-/// A valid plan, and the bytes of its planes as another encoder left them.
+/// A trace that keeps its planes, where the bytes that it was read from do not stay.
 #[derive(Drop)]
-pub struct Trace {
+pub struct KeptTrace {
     plan: Plan,
     planes: Vec<u8>,
 }
@@ -48,7 +45,7 @@ pub fn view_trace<R: Source, W: Sink>(
 }
 
 // Reads a trace.
-fn read_trace<R: Source>(alloc: Global, source: &mut R) -> Result<Trace, TraceError>
+fn read_trace<R: Source>(alloc: Global, source: &mut R) -> Result<KeptTrace, TraceError>
     ensures { ReadsTrace R.left R.faults source.old source.new result }
 {
     let bytes = read_bytes(alloc, source, MAX_TRACE_BYTES)?;
@@ -56,23 +53,14 @@ fn read_trace<R: Source>(alloc: Global, source: &mut R) -> Result<Trace, TraceEr
 }
 
 // The trace that these bytes are.
-fn trace_of(alloc: Global, bytes: &[u8]) -> Result<Trace, TraceError>
+fn trace_of(alloc: Global, bytes: &[u8]) -> Result<KeptTrace, TraceError>
     requires short { length bytes.now ≤ max_trace_bytes }
     ensures found { IfOk result (λ trace. IsTrace bytes.now (plan_value trace.plan) trace.planes.items) }
     ensures refused { IfErr result (λ e. e ≢ Memory → AreRefusedFor bytes.now e) }
 {
-    let parts = trace_parts(bytes)?;
-    let plan = valid_plan(alloc, parts.plan)?;
-    let len = planes_len(plan.header());
-    let behind = HEAD + parts.plan.len();
-    if parts.planes.len() < len {
-        return Err(malformed(behind));
-    }
-    if parts.planes.len() > len {
-        return Err(malformed(behind + len));
-    }
-    let planes = copied(alloc, parts.planes)?;
-    Ok(Trace { plan, planes })
+    let Trace { plan, planes } = parse_trace(alloc, bytes)?;
+    let planes = copied(alloc, planes)?;
+    Ok(KeptTrace { plan, planes })
 }
 
 // The same bytes.
@@ -82,14 +70,6 @@ fn copied(alloc: Global, bytes: &[u8]) -> Result<Vec<u8>, OutOfMemory>
     let mut copy = Vec::new(alloc);
     copy.extend_from_slice(bytes)?;
     Ok(copy)
-}
-
-// The field that begins at this byte is at fault.
-fn malformed(at: usize) -> TraceError
-    requires { at ≤ max_trace_bytes }
-    ensures { result ≡ Malformed at }
-{
-    TraceError::Malformed { at: at as u32 }
 }
 
 // Appends the page of a valid plan and of given planes.

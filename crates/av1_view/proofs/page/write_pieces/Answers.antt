@@ -1,7 +1,7 @@
 use Rattle.std.proofs.Common.{arith}
 use Rattle.av1_streams.proofs.Prefixes.{AppendsPrefix-all}
+use Rattle.av1_trace.proofs.Items.{Appends-item, Appends-items, AppendsPrefix-item}
 use Rattle.av1_view.specs.Page.{piece_text}
-use Rattle.av1_view.proofs.Items.{Appends-item, Appends-items, AppendsPrefix-item}
 use Rattle.av1_view.proofs.page.write_pieces.Goals as goal
 
 pub returns-in_err-write_piece-clause-prefix : goal.returns-in_err-write_piece-clause-prefix

@@ -1,6 +1,7 @@
 use Rattle.std.proofs.Common.{ℕ, Result, Err, ap, refl}
 use Rattle.std.specs.declared.alloc.Global.{Global}
 use Rattle.std.specs.Prelude.{Vec}
+use Rattle.std.proofs.lemmas.Result.{IfOk-weaker}
 use Rattle.av1_streams.specs.declared.read.ReadError.{ReadError}
 use Rattle.av1_streams.proofs.Reading.{finds, read_whole, unread}
 use Rattle.av1_trace.specs.declared.error.TraceError.TheVariants.{Memory}
@@ -10,7 +11,6 @@ use Rattle.av1_trace.specs.Traces.{max_trace_bytes}
 use Rattle.av1_trace.proofs.Reading.{blames}
 use Rattle.av1_trace.proofs.TraceOutcomes.{short_refused}
 use Rattle.av1_view.specs.TracePages.{IsFound}
-use Rattle.av1_view.proofs.TraceOutcomes.{found_in}
 use Rattle.av1_view.proofs.trace.read_trace.Goals as goal
 
 abbrev err : ReadError → Result (Vec ℕ Global) ReadError
@@ -21,7 +21,7 @@ returns g c =
     let read = c.in_ok-bytes.ensures in
     let whole = read_whole max_trace_bytes g.R.Source.left g.R.Source.faults _ _ _ c.deref.result.now c.deref.ensures.value read.fits read.short read.consumed read.end read.later in
     finds max_trace_bytes cause IsFound g.R.Source.left g.R.Source.faults _ _ c.deref.result.now Memory c.trace_of.result refl (short_refused c.deref.result.now) whole
-    (found_in c.deref.result.now c.trace_of.result whole.short c.trace_of.ensures.found) c.trace_of.ensures.refused
+    (IfOk-weaker c.trace_of.result _ _ (λ trace found. (whole.short, found)) c.trace_of.ensures.found) c.trace_of.ensures.refused
 
 pub returns-in_err-bytes : goal.returns-in_err-bytes
 returns-in_err-bytes g c =

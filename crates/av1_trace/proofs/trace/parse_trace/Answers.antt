@@ -1,6 +1,6 @@
 use Rattle.av1_plan.specs.Answer.{plan_value}
 use Rattle.av1_trace.proofs.Refusals.{no_parts, planes_cut, planes_left_over}
-use Rattle.av1_view.proofs.trace.trace_of.Goals as goal
+use Rattle.av1_trace.proofs.trace.parse_trace.Goals as goal
 
 pub returns-in_err-parts-clause-refused : goal.returns-in_err-parts-clause-refused
 returns-in_err-parts-clause-refused c = no_parts c.args.bytes.now c.from_residual.result c.in_err-parts.field-0.0 c.requires.short c.from_residual.ensures.1 c.in_err-parts.ensures.refused

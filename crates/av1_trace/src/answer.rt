@@ -1,0 +1,53 @@
+//! The exit status and the line of each error.
+ghost use Rattle.std.specs.Prelude.{◌≡◌};
+ghost use Rattle.av1_recon.specs.Answers.{Says};
+ghost use Rattle.av1_recon.specs.Ends.{error_status};
+ghost use Rattle.av1_trace.specs.Answers.{error_line};
+ghost use Rattle.av1_trace.specs.Checking.{cause};
+ghost use Rattle.av1_trace.specs.declared.error.TraceError.TheVariants.{Plan as InPlan};
+
+use crate::{PlanFault, TraceError};
+use av1_recon::{malformed_line, plain_line, push_invalid, push_malformed, say};
+use av1_streams::{Line, Sink};
+
+// The line for the plan of a trace.
+fn plan_line(fault: PlanFault) -> Line
+    ensures { result ≡ error_line (InPlan fault) }
+{
+    let mut line = Line::new();
+    line.push(b"plan ");
+    match fault {
+        PlanFault::Malformed { at } => push_malformed(&mut line, at),
+        PlanFault::Invalid { leaf, kind } => push_invalid(&mut line, leaf, kind),
+    }
+    line
+}
+
+// The line for an error.
+fn error_line(error: TraceError) -> Line
+    ensures { result ≡ error_line error }
+{
+    match error {
+        TraceError::ReadFault => plain_line(b"read fault"),
+        TraceError::TooLong => plain_line(b"too long"),
+        TraceError::Malformed { at } => malformed_line(at),
+        TraceError::Plan { fault } => plan_line(fault),
+        TraceError::WriteFault => plain_line(b"write fault"),
+        TraceError::Memory => plain_line(b"out of memory"),
+    }
+}
+
+/// Writes the line of an error, and gives its exit status: 2 where the bytes are refused, 3 where memory ran out, 4 where a read failed, 5
+/// where a write did. Where a write to `err` failed a prefix of the line stands, and the status stays.
+pub fn report_error<E: Sink>(error: TraceError, err: &mut E) -> u8
+    ensures status { result ≡ error_status (cause error) }
+    ensures line { Says E.taken E.faults err.old err.new (error_line error) }
+{
+    say(error_line(error).as_bytes(), err);
+    match error {
+        TraceError::TooLong | TraceError::Malformed { .. } | TraceError::Plan { .. } => 2,
+        TraceError::Memory => 3,
+        TraceError::ReadFault => 4,
+        TraceError::WriteFault => 5,
+    }
+}
