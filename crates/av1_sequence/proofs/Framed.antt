@@ -5,12 +5,13 @@ use Rattle.std.specs.Option.{option_map}
 use Rattle.std.proofs.Math.Nat.{zero-div}
 use Rattle.std.proofs.lemmas.Option.{same_Some}
 use Rattle.av1_frame.specs.declared.frame_invariants.FrameInvariants.{FrameInvariants}
+use Rattle.av1_frame.specs.declared.plane.Plane.{Plane}
 use Rattle.av1_frame.specs.declared.slots.Slot.{Slot}
 use Rattle.av1_lists.specs.Lists.{by_index}
 use Rattle.av1_lists.proofs.Lists.{by_index-same, get_or-by_index}
 use Rattle.av1_plan.specs.declared.header.Header.{Header}
 use Rattle.av1_plan.specs.Apart.{in_frame}
-use Rattle.av1_plan.specs.Geometry.{plane_height, plane_width}
+use Rattle.av1_plan.specs.Geometry.{plane_width}
 use Rattle.av1_plan.specs.Grammar.{plan as grammar, plan_behind}
 use Rattle.av1_plan.specs.Plan.{PlanValue}
 use Rattle.av1_plan.specs.ReadPlans.{IsReadFrame}
@@ -25,9 +26,10 @@ use Rattle.av1_sequence.specs.declared.head.FrameHead.{FrameHead}
 use Rattle.av1_sequence.specs.declared.last.Last.{Last}
 use Rattle.av1_sequence.specs.declared.last.Last.TheVariants as lasts
 use Rattle.av1_sequence.specs.Frames.{IsHead, frame_bytes, frame_header, frame_of, frame_references, most_bytes, plan_bytes}
-use Rattle.av1_sequence.specs.Kept.{AreReady, Kept, KeepsFrames, own, planes_shown, shown_at, shown_in, slots_shown}
+use Rattle.av1_sequence.specs.Kept.{AreReady, IsKeptAt, Kept, KeepsFrames, own, plane_shown, planes_shown, shown_at, shown_in, slots_shown}
 use Rattle.av1_sequence.specs.Last.{last_shown}
 use Rattle.av1_sequence.specs.Outcomes.{Accepts, Refuses, RefusesPart, accepted, plan_over}
+use Rattle.av1_sequence.specs.Output.{IsWritable}
 use Rattle.av1_sequence.specs.Slots.{Frame, Slots, count_of, has_bit, is_read, refreshed, row_in, slot_of}
 use Rattle.av1_sequence.proofs.Answered.{accepts, refused_part}
 use Rattle.av1_sequence.proofs.Listed.{frame_spelled}
@@ -60,9 +62,6 @@ module _ (k : Kept) (h : Header) (fi : FrameInvariants ℕ) (places : List (Opti
 
   slots_seen : slots_shown h fi places ≡ k.slots
   slots_seen = ap (λ (v : Kept). v.slots) view
-
-  pub below_seen : (p y : ℕ) → y < plane_height k.frames p → y < plane_height h p
-  below_seen p y lt = subst (λ (g : Header). y < plane_height g p) (sym header_seen) lt
 
   module _ (head : FrameHead) where
     own_seen : frame_header h (slots_shown h fi places) head ≡ frame_header k.frames k.slots head
@@ -172,8 +171,23 @@ module _ (k : Kept) (h : Header) (fi : FrameInvariants ℕ) (places : List (Opti
   moved_row : (o : Option (List ℕ)) (p y : ℕ) → (see : Kept → Option Frame) → o ≡ option_map (row_of h p y) (see (seen h fi places last)) → o ≡ option_map (row_of k.frames p y) (see k)
   moved_row o p y see e = subst (λ (v : Kept). o ≡ option_map (row_of v.frames p y) (see v)) view e
 
-  pub apart_seen : (planes : Planes ℕ) (p y : ℕ) (row : List ℕ) → last ≡ Some (planes_shown h planes.y planes.u planes.v) → row ≡ row_of h p y (planes_shown h planes.y planes.u planes.v) → Some row ≡ option_map (row_of k.frames p y) k.last
-  apart_seen planes p y row is row_is = moved_row (Some row) p y (λ v. v.last) (ap Some row_is ∙ sym (ap (option_map (row_of h p y)) is))
+  -- a plane that shows its part of the last frame
+  pub plane_seen : (p : ℕ) (plane : Plane ℕ) (frame : Frame) → last ≡ Some frame → plane_shown h p plane ≡ slice_index_or frame p []
+      → Some (plane_shown k.frames p plane) ≡ option_map (λ (f : Frame). slice_index_or f p []) k.last
+  plane_seen p plane frame is shows =
+      subst (λ (v : Kept). Some (plane_shown v.frames p plane) ≡ option_map (λ (f : Frame). slice_index_or f p []) v.last) view
+      (ap Some shows ∙ sym (ap (option_map (λ (f : Frame). slice_index_or f p [])) is))
+
+  -- the same of a frame at a place
+  pub placed_seen : (place p : ℕ) (plane : Plane ℕ) → IsKeptAt h fi place → last ≡ shown_at h fi place → ((frame : Frame) → shown_at h fi place ≡ Some frame → plane_shown h p plane ≡ slice_index_or frame p [])
+      → Some (plane_shown k.frames p plane) ≡ option_map (λ (f : Frame). slice_index_or f p []) k.last
+  placed_seen place p plane stands is shows =
+      let (t, t_is) = filled_planes (slice_index_or fi.slots place None) stands.filled in
+      let here : shown_at h fi place ≡ Some (planes_shown h t.y t.u t.v) = ap (option_map (λ (t : Slot ℕ). planes_shown h t.y t.u t.v)) t_is in
+      plane_seen p plane (planes_shown h t.y t.u t.v) (is ∙ here) (shows (planes_shown h t.y t.u t.v) here)
+
+  pub writable_seen : (p : ℕ) (plane : Plane ℕ) → IsWritable h p plane → IsWritable k.frames p plane
+  writable_seen p plane w = subst (λ (g : Header). IsWritable g p plane) header_seen w
 
   pub slot_seen : KeepsFrames h fi places → (slot place p y : ℕ) (row : List ℕ) → slot < 8 → slice_index_or places slot None ≡ Some place → ((frame : Frame) → shown_at h fi place ≡ Some frame → row ≡ row_of h p y frame)
       → Some row ≡ option_map (row_of k.frames p y) (slice_index_or k.slots slot None)

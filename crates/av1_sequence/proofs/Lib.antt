@@ -12,3 +12,11 @@ pub mod KeptRows
 pub mod Framed
 pub mod Calling
 mod TestRows
+pub mod ReadFrames
+pub mod Written
+pub mod Parts
+pub mod Running
+pub mod FileOutcomes
+pub mod Showing
+pub mod InTurn
+pub mod Texts

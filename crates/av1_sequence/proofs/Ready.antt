@@ -10,7 +10,7 @@ use Rattle.av1_tile.specs.Edge.{sample_of}
 use Rattle.av1_tile.specs.Output.{by_rows}
 use Rattle.av1_tile.specs.PlaneBlocks.{extent_of, number}
 use Rattle.av1_tile.specs.Reference.{slow_walk}
-use Rattle.av1_tile.specs.Walk.{HasPad, HasRoom, SameLayout, StoresAll, plane_of}
+use Rattle.av1_tile.specs.Walk.{HasPad, HasPads, HasRoom, SameLayout, StoresAll, plane_of}
 use Rattle.av1_tile.proofs.Pictures.{room_kept}
 use Rattle.av1_sequence.specs.declared.head.FrameHead.{FrameHead}
 use Rattle.av1_sequence.specs.Frames.{frame_header, frame_of}
@@ -54,20 +54,36 @@ module _ (h : Header) (slots : Slots) (head : FrameHead) where
     v = record { columns = r.v.columns; rows = r.v.rows };
   }
 
+  pads_in : (planes : Planes ℕ) → HasPads h 80 planes → HasPads own_header 80 planes
+  unfolding xdec ydec
+  pads_in planes s = record {
+    y = record { columns = s.y.columns; rows = s.y.rows };
+    u = record { columns = s.u.columns; rows = s.u.rows };
+    v = record { columns = s.v.columns; rows = s.v.rows };
+  }
+
+  pads_out : (planes : Planes ℕ) → HasPads own_header 80 planes → HasPads h 80 planes
+  unfolding xdec ydec
+  pads_out planes s = record {
+    y = record { columns = s.y.columns; rows = s.y.rows };
+    u = record { columns = s.u.columns; rows = s.u.rows };
+    v = record { columns = s.v.columns; rows = s.v.rows };
+  }
+
   pub ready_in : (planes : Planes ℕ) → AreReady h planes → AreReady own_header planes
-  ready_in planes ready = record { stores = stores_in planes ready.stores; room = room_in planes ready.room; pads = ready.pads }
+  ready_in planes ready = record { stores = stores_in planes ready.stores; room = room_in planes ready.room; pads = pads_in planes ready.pads }
 
   pub ready_out : (planes : Planes ℕ) → AreReady own_header planes → AreReady h planes
-  ready_out planes ready = record { stores = stores_out planes ready.stores; room = room_out planes ready.room; pads = ready.pads }
+  ready_out planes ready = record { stores = stores_out planes ready.stores; room = room_out planes ready.room; pads = pads_out planes ready.pads }
 
   pub ready_after : (p q : Planes ℕ) → AreReady h p → StoresAll own own_header q → SameLayout p q → AreReady h q
   ready_after p q ready stores same = record {
     stores = stores_out q stores;
     room = room_kept h p q same ready.room;
     pads = record {
-      y = subst (HasPad 80) (sym same.y) ready.pads.y;
-      u = subst (HasPad 80) (sym same.u) ready.pads.u;
-      v = subst (HasPad 80) (sym same.v) ready.pads.v;
+      y = subst (HasPad h 0 80) (sym same.y) ready.pads.y;
+      u = subst (HasPad h 1 80) (sym same.u) ready.pads.u;
+      v = subst (HasPad h 2 80) (sym same.v) ready.pads.v;
     };
   }
 

@@ -1,7 +1,7 @@
 -- What planes in memory show, in a frame's own header as in that of its sequence.
 use Rattle.std.proofs.Common.{ℕ, zero, suc, ◌<◌, ◌≡◌, ◌∙◌, ◌^◌, true, List, Option, Some, None, refl, sym, subst, arith, slice_index, is_some}
 use Rattle.std.specs.Option.{option_map}
-use Rattle.std.proofs.Math.Nat.{mul_comm}
+use Rattle.std.proofs.Math.Nat.{le_of_eq, mul_comm}
 use Rattle.std.proofs.lemmas.List.{map-id}
 use Rattle.std.proofs.lemmas.Nat.{pow_pos}
 use Rattle.av1_frame.specs.declared.frame_invariants.FrameInvariants.{FrameInvariants}
@@ -30,7 +30,8 @@ plane_held h p plane holds = record {
   range = samples_all (λ sample. sample < 2 ^ h.depth) (extent_of h p) (λ x y. sample_at own plane x y) holds.within;
 }
 
-sample_within : (h : Header) (p : ℕ) (plane : Plane ℕ) → Stores own h p plane → (x y : ℕ) → sample_at own plane x y < 2 ^ h.depth
+-- a sample of a plane that stores its part of a frame
+pub sample_within : (h : Header) (p : ℕ) (plane : Plane ℕ) → Stores own h p plane → (x y : ℕ) → sample_at own plane x y < 2 ^ h.depth
 sample_within h p plane stores x y =
     subst (λ (xs : List ℕ). slice_index xs (place_at plane.plane_cfg x y) < 2 ^ h.depth) (sym (map-id plane.samples)) (read_below plane.samples (2 ^ h.depth) (place_at plane.plane_cfg x y) (pow_pos h.depth) stores.within)
 
@@ -43,11 +44,11 @@ module _ (h : Header) (p : ℕ) (plane : Plane ℕ) (stores : Stores own h p pla
   padded_shown = samples_same (extent_of h p) (λ x y. sample_at own (padded plane) x y) (λ x y. sample_at own plane x y) padded_same
 
   -- a plane that was padded holds what it shows
-  pub padded_holds : HasPad 80 plane.plane_cfg → HoldsPlane own h p (plane_shown h p (padded plane)) (padded plane)
+  pub padded_holds : HasPad h p 80 plane.plane_cfg → HoldsPlane own h p (plane_shown h p (padded plane)) (padded plane)
   padded_holds pad = record {
     padded = padded_is_padded own plane (padded plane) refl stores.place.whole;
-    xpad = omega (arith, pad.columns);
-    ypad = omega (arith, pad.rows);
+    xpad = le_of_eq (sym pad.columns);
+    ypad = le_of_eq (sym pad.rows);
     width = stores.place.width;
     height = stores.place.height;
     xdec = stores.place.xdec;

@@ -39,7 +39,7 @@ planes_shown h y u v = plane_shown h 0 y ∷ plane_shown h 1 u ∷ plane_shown h
 pub record AreReady (h : Header) (planes : Planes ℕ) : Type 0 where
   pub stores : StoresAll own h planes
   pub room : HasRoom h planes
-  pub pads : HasPads 80 planes
+  pub pads : HasPads h 80 planes
 
 -- ---- frames at places
 

@@ -4,3 +4,10 @@ pub mod Kept
 pub mod Last
 pub mod Outcomes
 pub mod Calls
+pub mod Grammar
+pub mod File
+pub mod Files
+pub mod Tasks
+pub mod Errors
+pub mod Output
+pub mod Texts

@@ -14,17 +14,24 @@
 //! refused changes nothing. So after any list of calls the slots are those of the accepted frames alone (`specs/Calls.antt`).
 #![tactic(auto)]
 
+mod container;
 mod error;
+mod file;
 mod head;
 mod last;
 mod laws;
 mod leaves;
+mod output;
 mod pictures;
+mod reconstruct;
 mod sequence;
 
-pub use error::FrameError;
+pub use container::read_sequence;
+pub use error::{FrameError, FrameFault, SequenceError};
+pub use file::{FrameText, SequenceFile};
 pub use head::FrameHead;
-pub use laws::accepted_alone_count;
+pub use laws::{accepted_alone_count, sequence_outcome_laws, sequences_are_texts};
+pub use reconstruct::reconstruct_sequence;
 pub use sequence::Sequence;
 
 #[cfg(test)]

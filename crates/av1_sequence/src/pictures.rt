@@ -8,12 +8,13 @@ ghost use Rattle.av1_plan.specs.Geometry.{plane_len, plane_height, plane_width};
 ghost use Rattle.av1_plan.specs.Plan.{PlanValue};
 ghost use Rattle.av1_references.specs.References.{ServesPlan};
 ghost use Rattle.av1_sequence.specs.Frames.{IsHead, frame_bytes, frame_header, frame_references};
-ghost use Rattle.av1_sequence.specs.Kept.{AreFrames, AreReady, IsKeptAt, KeepsFrames, own, planes_shown, shown_at, slots_shown};
+ghost use Rattle.av1_sequence.specs.Kept.{AreFrames, AreReady, IsKeptAt, KeepsFrames, own, plane_shown, planes_shown, shown_at, slots_shown};
+ghost use Rattle.av1_sequence.specs.Output.{IsWritable};
 ghost use Rattle.av1_sequence.specs.Slots.{Frame, bits_of, count_of, has_bit, is_named, is_read, refreshed, row_in};
 
 use crate::head::FrameHead;
 use av1_blocks::OutOfMemory;
-use av1_frame::FrameInvariants;
+use av1_frame::{FrameInvariants, Plane};
 use av1_plan::Header;
 use av1_tile::{Planes, visible_row};
 use std::alloc::Global;
@@ -259,6 +260,16 @@ impl Pictures {
         place
     }
 
+    /// Plane `p` of the frame at a place.
+    pub fn plane_at(&self, place: u8, p: usize) -> &Plane<u16>
+        requires kept { IsKeptAt self.now.header self.now.fi place }
+        requires plane { p < 3 }
+        ensures shown { (frame : Frame) → shown_at self.now.header self.now.fi place ≡ Some frame → plane_shown self.now.header p result.now ≡ slice_index_or frame p [] }
+        ensures writable { IsWritable self.now.header p result.now }
+    {
+        self.fi.slot(usize::from(place), p).unwrap()
+    }
+
     /// Row `y` of plane `p` of the frame at a place.
     pub fn row_at(&self, place: u8, p: usize, y: usize) -> &[u16]
         requires kept { IsKeptAt self.now.header self.now.fi place }
@@ -266,7 +277,6 @@ impl Pictures {
         requires in_plane { y < plane_height self.now.header p }
         ensures { (frame : Frame) → shown_at self.now.header self.now.fi place ≡ Some frame → result.now ≡ row_in (plane_width self.now.header p) (slice_index_or frame p []) y }
     {
-        let plane = self.fi.slot(usize::from(place), p).unwrap();
-        visible_row(plane, &self.header, p, y)
+        visible_row(self.plane_at(place, p), &self.header, p, y)
     }
 }

@@ -1,9 +1,11 @@
 //! A sequence of frames, and the slots that it keeps between them.
 
-ghost use Rattle.std.specs.Prelude.{◌≡◌, ℕ, true, Some, None, is_some, IfOk, OnErr};
+ghost use Rattle.std.specs.Prelude.{◌≡◌, ℕ, ◌<◌, true, Some, None, is_some, IfOk, OnErr};
 ghost use Rattle.av1_plan.specs.ReadPlans.{IsReadFrame};
 ghost use Rattle.av1_tile.specs.declared.planes.Planes.{Planes};
 ghost use Rattle.av1_tile.specs.Memory.{HasRoomFor};
+ghost use Rattle.av1_tile.specs.PlaneBlocks.{component};
+ghost use Rattle.av1_tile.specs.Walk.{plane_of};
 ghost use Rattle.av1_sequence.specs.Kept.{AreReady, IsKeptAt};
 ghost use Rattle.av1_sequence.specs.declared.last.Last.TheVariants as lasts;
 
@@ -13,8 +15,9 @@ use crate::last::Last;
 use crate::leaves::read_leaves;
 use crate::pictures::Pictures;
 use av1_blocks::{FilterMode, OutOfMemory};
+use av1_frame::Plane;
 use av1_plan::{Header, Plan};
-use av1_tile::{Planes, WalkMemory};
+use av1_tile::{Planes, WalkMemory, visible_row};
 use std::alloc::Global;
 use std::marker::Model;
 
@@ -24,7 +27,7 @@ const MOST_BYTES: usize = 1 << 26;
 /// The bytes of a plan that stand before its references.
 const HEADER_BYTES: usize = 20;
 
-/// How many samples stand on every side of a frame that is kept: motion compensation of blocks with sides up to 64 reads so far.
+/// How many samples of luma stand on every side of a frame that is kept: motion compensation of blocks with sides up to 64 reads so far.
 const PAD: usize = 80;
 
 /// A sequence of frames of one size, depth and sampling, and the eight slots that it keeps between them.
@@ -58,6 +61,18 @@ fn planes_for(
     }
 }
 
+/// Plane `p` of three: 0 for Y, 1 for U and 2 for V.
+fn plane_in(planes: &Planes<u16>, p: usize) -> &Plane<u16>
+    requires { p < 3 }
+    ensures { result.now ≡ plane_of (component p) planes.now }
+{
+    match p {
+        0 => &planes.y,
+        1 => &planes.u,
+        _ => &planes.v,
+    }
+}
+
 impl Model for Sequence {
     ghost use Rattle.av1_sequence.specs.Kept.{Kept, slots_shown};
     ghost use Rattle.av1_sequence.specs.Last.{last_shown};
@@ -68,7 +83,7 @@ impl Model for Sequence {
 }
 
 impl Sequence {
-    ghost use Rattle.std.specs.Prelude.{◌≡◌, ℕ, ◌<◌, ◌≤◌, ◌^◌, [], None, Some, length, option_map, slice_index_or, IfOk, IfErr, OnOk};
+    ghost use Rattle.std.specs.Prelude.{◌≡◌, ℕ, ◌<◌, ◌≤◌, ◌^◌, [], None, Some, length, option_map, slice_index_or, IfOk, IfErr, IfSome, OnOk};
     ghost use Rattle.av1_blocks.specs.Depths.{IsDepth};
     ghost use Rattle.av1_plan.specs.Answer.{plan_value};
     ghost use Rattle.av1_plan.specs.Geometry.{plane_height, plane_width};
@@ -77,7 +92,9 @@ impl Sequence {
     ghost use Rattle.av1_plan.specs.Spelling.{IsSpelled};
     ghost use Rattle.av1_plan.specs.Validity.{first_fault};
     ghost use Rattle.av1_sequence.specs.Frames.{IsHead, frame_header};
+    ghost use Rattle.av1_sequence.specs.Kept.{plane_shown};
     ghost use Rattle.av1_sequence.specs.Outcomes.{Accepts, Refuses, accepted, new_sequence, plan_over};
+    ghost use Rattle.av1_sequence.specs.Output.{IsWritable};
     ghost use Rattle.av1_sequence.specs.Slots.{row_in};
 
     /// A sequence of frames with these sides (in samples of luma, multiples of 8 from 8 to 2048), of this depth (8, 10 or 12) and sampling (0
@@ -115,6 +132,13 @@ impl Sequence {
             apart: None,
             last: Last::Nowhere,
         })
+    }
+
+    /// A header with the sides, depth and sampling of the frames. What else it says is of no frame.
+    pub fn header(&self) -> &Header
+        ensures { result.now ≡ self.now.frames }
+    {
+        &self.pictures.header
     }
 
     /// Takes the next frame: reconstructs the leaves that `part` spells, predicted from the slots that the head names, and lets the frame
@@ -167,19 +191,31 @@ impl Sequence {
         Ok(())
     }
 
+    /// Plane `p` (0 for Y, 1 for U and 2 for V) of the frame that was accepted last, wherever it is kept. None where no frame was accepted yet.
+    pub(crate) fn last_plane(&self, p: usize) -> Option<&Plane<u16>>
+        requires plane { p < 3 }
+        ensures shown { option_map (λ plane. plane_shown self.now.frames p plane.now) result ≡ option_map (λ frame. slice_index_or frame p []) self.now.last }
+        ensures writable { IfSome result (λ plane. IsWritable self.now.frames p plane.now) }
+    {
+        match self.last {
+            Last::Nowhere => None,
+            Last::Apart => match &self.apart {
+                Some(planes) => Some(plane_in(planes, p)),
+                None => None,
+            },
+            Last::At(place) => Some(self.pictures.plane_at(place, p)),
+        }
+    }
+
     /// The visible row `y` of plane `p` (0 for Y, 1 for U and 2 for V) of the frame that was accepted last. None where no frame was accepted yet.
     pub fn last_row(&self, p: usize, y: usize) -> Option<&[u16]>
         requires plane { p < 3 }
         requires in_plane { y < plane_height self.now.frames p }
         ensures { option_map (λ row. row.now) result ≡ option_map (λ frame. row_in (plane_width self.now.frames p) (slice_index_or frame p []) y) self.now.last }
     {
-        match self.last {
-            Last::Nowhere => None,
-            Last::Apart => match &self.apart {
-                Some(planes) => Some(planes.row(&self.pictures.header, p, y)),
-                None => None,
-            },
-            Last::At(place) => Some(self.pictures.row_at(place, p, y)),
+        match self.last_plane(p) {
+            Some(plane) => Some(visible_row(plane, self.header(), p, y)),
+            None => None,
         }
     }
 

@@ -1,113 +1,22 @@
--- What the exit status says, by what the call did.
-use Rattle.std.proofs.Common.{◌≡◌, ◌≢◌, ◌⊎◌, inl, inr, ℕ, zero, suc, ◌<◌, List, Option, Some, None, Result, Ok, Err, refl, sym, subst, ◌∙◌, arith}
-use Rattle.std.specs.Prelude.{IfSome}
-use Rattle.std.proofs.lemmas.Option.{IfSome_then}
-use Rattle.av1_streams.specs.Tasks.{Cause, read_failed, too_long, refused, write_failed, no_memory, Task, IsRefusal, ErrorTells, Performs}
-use Rattle.av1_streams.proofs.Performing.{any}
-use Rattle.av1_recon.specs.declared.error.ReconError.TheVariants.{ReadFault, TooLong, Malformed, Invalid, WriteFault, Memory}
-use Rattle.av1_recon.specs.Answers.{status_of as plan_status_of}
-use Rattle.av1_recon.specs.Outcomes.{Answer, cause as plan_cause}
-use Rattle.av1_tools.specs.Answers.{error_status, status_of, written, trace_done}
-use Rattle.av1_tools.specs.Ends.{Ends}
+-- The statuses of success: they are none of a failure, and each call that succeeds has one.
+use Rattle.std.proofs.Common.{inl, inr, ℕ, zero, suc, ◌<◌, refl, arith}
+use Rattle.av1_recon.proofs.Ends.{AreApart}
+use Rattle.av1_tools.specs.Answers.{trace_done}
+use Rattle.av1_tools.specs.Ends.{IsSuccess}
 
--- a status of success is none of a failure
-apart : {P : Type 0} (n k : ℕ) → (n ≡ 0) ⊎ (n ≡ 7) → n ≡ k → 0 < k → k < 7 → P
-apart n k (inl z) e some few = absurd (omega (arith, z, e, some))
-apart n k (inr z) e some few = absurd (omega (arith, z, e, few))
+-- no number between them is one
+between : (n : ℕ) → 0 < n → n < 7 → IsSuccess n → ⊥
+between n some few (inl z) = omega (arith, z, some)
+between n some few (inr z) = omega (arith, z, few)
 
--- a write fails only where there is something to write
-no_refusal : {E : Type 0} (O : Type 0) (cause : Cause) (e d : E) → cause ≡ write_failed → ErrorTells {O = O} cause e (Err d) → ⊥
-no_refusal O write_failed e d is tells = absurd cc
-no_refusal O read_failed e d is tells = absurd cc
-no_refusal O too_long e d is tells = absurd cc
-no_refusal O refused e d is tells = absurd cc
-no_refusal O no_memory e d is tells = absurd cc
+pub apart : AreApart IsSuccess
+apart = record {
+  not_2 = between 2 (omega arith) (omega arith);
+  not_3 = between 3 (omega arith) (omega arith);
+  not_4 = between 4 (omega arith) (omega arith);
+  not_5 = between 5 (omega arith) (omega arith);
+}
 
-module _ {O A E S K : Type 0} (task : Task O A E) (left : S → Option (List ℕ)) (source_faults : S → ℕ) (taken : K → Option (List ℕ)) (sink_faults : K → ℕ) (source source' : S) (sink sink' : K) where
-  -- the call succeeded
-  ok_ends : (a : A) (n : ℕ) → (n ≡ 0) ⊎ (n ≡ 7) → Performs task left source_faults taken sink_faults source source' sink sink' (Ok a) → Ends task left source_faults taken sink_faults source source' sink sink' n
-  ok_ends a n h p = record {
-    done = λ is. p.ok;
-    refused = λ is. apart n 2 h is (omega arith) (omega arith);
-    memory = λ is. apart n 3 h is (omega arith) (omega arith);
-    read_fault = λ is. apart n 4 h is (omega arith) (omega arith);
-    write_fault = λ is. apart n 5 h is (omega arith) (omega arith);
-    no_other = elim h [ inl z ↦ inl z | inr s ↦ inr (inr (inr (inr (inr s)))) ];
-    complete = λ no_read no_write. any (left source) _ (λ bytes outcome come. inl h);
-    refuses = IfSome_then (left source) p.exactly (λ bytes f e come. absurd (f (Err e) come));
-  }
-
-  -- it failed, for this cause
-  error_ends : (e : E) (cause : Cause) → task.cause e ≡ cause → Performs task left source_faults taken sink_faults source source' sink sink' (Err e)
-      → Ends task left source_faults taken sink_faults source source' sink sink' (error_status cause)
-  error_ends e too_long is p = record {
-    done = λ h. apart 2 2 h refl (omega arith) (omega arith);
-    refused = λ h. (IfSome_then (left source) (p.refused (subst IsRefusal (sym is) tt)) (λ bytes come. (e, come)), p.unwritten (λ w. absurd cc));
-    memory = λ h. absurd cc;
-    read_fault = λ h. absurd cc;
-    write_fault = λ h. absurd cc;
-    no_other = inr (inl refl);
-    complete = λ no_read no_write. IfSome_then (left source) (p.complete no_read no_write) (λ bytes f outcome come. elim (f outcome come) [ inl ok ↦ absurd cc | inr memory ↦ absurd cc ]);
-    refuses = any (left source) _ (λ bytes d come. inl refl);
-  }
-  error_ends e refused is p = record {
-    done = λ h. apart 2 2 h refl (omega arith) (omega arith);
-    refused = λ h. (IfSome_then (left source) (p.refused (subst IsRefusal (sym is) tt)) (λ bytes come. (e, come)), p.unwritten (λ w. absurd cc));
-    memory = λ h. absurd cc;
-    read_fault = λ h. absurd cc;
-    write_fault = λ h. absurd cc;
-    no_other = inr (inl refl);
-    complete = λ no_read no_write. IfSome_then (left source) (p.complete no_read no_write) (λ bytes f outcome come. elim (f outcome come) [ inl ok ↦ absurd cc | inr memory ↦ absurd cc ]);
-    refuses = any (left source) _ (λ bytes d come. inl refl);
-  }
-  error_ends e no_memory is p = record {
-    done = λ h. apart 3 3 h refl (omega arith) (omega arith);
-    refused = λ h. absurd cc;
-    memory = λ h. p.unwritten (λ w. absurd cc);
-    read_fault = λ h. absurd cc;
-    write_fault = λ h. absurd cc;
-    no_other = inr (inr (inl refl));
-    complete = λ no_read no_write. any (left source) _ (λ bytes outcome come. inr refl);
-    refuses = any (left source) _ (λ bytes d come. inr (inl refl));
-  }
-  error_ends e read_failed is p = record {
-    done = λ h. apart 4 4 h refl (omega arith) (omega arith);
-    refused = λ h. absurd cc;
-    memory = λ h. absurd cc;
-    read_fault = λ h. (p.read_fault is, p.unwritten (λ w. absurd cc));
-    write_fault = λ h. absurd cc;
-    no_other = inr (inr (inr (inl refl)));
-    complete = λ no_read no_write. IfSome_then (left source) (p.complete no_read no_write) (λ bytes f outcome come. elim (f outcome come) [ inl ok ↦ absurd cc | inr memory ↦ absurd cc ]);
-    refuses = any (left source) _ (λ bytes d come. inr (inr refl));
-  }
-  error_ends e write_failed is p = record {
-    done = λ h. apart 5 5 h refl (omega arith) (omega arith);
-    refused = λ h. absurd cc;
-    memory = λ h. absurd cc;
-    read_fault = λ h. absurd cc;
-    write_fault = λ h. (p.write_fault is, p.prefix is);
-    no_other = inr (inr (inr (inr (inl refl))));
-    complete = λ no_read no_write. IfSome_then (left source) (p.complete no_read no_write) (λ bytes f outcome come. elim (f outcome come) [ inl ok ↦ absurd cc | inr memory ↦ absurd cc ]);
-    refuses = IfSome_then (left source) p.exactly (λ bytes f d come. absurd (no_refusal O (task.cause e) e d is (f (Err d) come)));
-  }
-
-  pub ends : (done : A → ℕ) (status : ℕ) (answer : Result A E) → ((a : A) → (done a ≡ 0) ⊎ (done a ≡ 7)) → status ≡ status_of task.cause done answer
-      → Performs task left source_faults taken sink_faults source source' sink sink' answer → Ends task left source_faults taken sink_faults source source' sink sink' status
-  ends done status (Ok a) h is p = subst (Ends task left source_faults taken sink_faults source source' sink sink') (sym is) (ok_ends a (done a) (h a) p)
-  ends done status (Err e) h is p = subst (Ends task left source_faults taken sink_faults source source' sink sink') (sym is) (error_ends e (task.cause e) refl p)
-
--- ---- each tool's own
-
--- the status of a call that reads a plan is that of what its error blames
-pub plan_status : (answer : Answer) → plan_status_of answer ≡ status_of plan_cause written answer
-plan_status (Ok done) = refl
-plan_status (Err ReadFault) = refl
-plan_status (Err TooLong) = refl
-plan_status (Err (Malformed at)) = refl
-plan_status (Err (Invalid leaf kind)) = refl
-plan_status (Err WriteFault) = refl
-plan_status (Err Memory) = refl
-
-pub trace_ends : (count : ℕ) → (trace_done count ≡ 0) ⊎ (trace_done count ≡ 7)
+pub trace_ends : (count : ℕ) → IsSuccess (trace_done count)
 trace_ends zero = inl refl
 trace_ends (suc n) = inr refl

@@ -1,37 +1,18 @@
 -- The exit status and the line of each answer.
-use Rattle.std.specs.Prelude.{ℕ, zero, suc, List, [], ◌++◌, Result, Ok, Err, codes, decimal}
-use Rattle.av1_streams.specs.Tasks.{Cause, read_failed, too_long, refused, write_failed, no_memory}
+use Rattle.std.specs.Prelude.{ℕ, zero, suc, List, ◌++◌, codes, decimal}
 use Rattle.av1_recon.specs.Answers.{malformed_text, invalid_text}
+use Rattle.av1_sequence.specs.declared.error.FrameFault.{FrameFault}
+use Rattle.av1_sequence.specs.declared.error.FrameFault.TheVariants as frame_faults
+use Rattle.av1_sequence.specs.declared.error.SequenceError.{SequenceError}
+use Rattle.av1_sequence.specs.declared.error.SequenceError.TheVariants as sequence_errors
 use Rattle.av1_tiles.specs.declared.error.TileFault.{TileFault}
 use Rattle.av1_tiles.specs.declared.error.TileFault.TheVariants as tile_faults
 use Rattle.av1_tiles.specs.declared.error.TilesError.{TilesError}
 use Rattle.av1_tiles.specs.declared.error.TilesError.TheVariants as tiles_errors
-use Rattle.av1_trace.specs.declared.error.PlanFault.{PlanFault}
-use Rattle.av1_trace.specs.declared.error.PlanFault.TheVariants as plan_faults
-use Rattle.av1_trace.specs.declared.error.TraceError.{TraceError}
-use Rattle.av1_trace.specs.declared.error.TraceError.TheVariants as trace_errors
 
 -- the line for words that are no tool's name
 abbrev pub usage : List ℕ
 usage = codes "usage: tools tiles | trace | sequence | bare\n"
-
--- the exit status of an error, by what it blames
-abbrev pub error_status : Cause → ℕ
-error_status too_long = 2
-error_status refused = 2
-error_status no_memory = 3
-error_status read_failed = 4
-error_status write_failed = 5
-
--- the exit status of an answer, where `done` is that of a call that succeeded
-abbrev pub status_of : {A E : Type 0} → (E → Cause) → (A → ℕ) → Result A E → ℕ
-status_of cause done (Ok a) = done a
-status_of cause done (Err e) = error_status (cause e)
-
--- the line for an answer, none for Ok
-abbrev pub line_of : {A E : Type 0} → (E → List ℕ) → Result A E → List ℕ
-line_of line (Ok a) = []
-line_of line (Err e) = line e
 
 -- ---- tiles
 
@@ -47,25 +28,24 @@ tiles_line (tiles_errors.Tile tile fault) = codes "tile " ++ decimal tile ++ cod
 tiles_line tiles_errors.WriteFault = codes "write fault\n"
 tiles_line tiles_errors.Memory = codes "out of memory\n"
 
--- all was written that was to be
-abbrev pub written : Unit {0} → ℕ
-written done = 0
+-- ---- sequences
+
+abbrev pub frame_fault_text : FrameFault → List ℕ
+frame_fault_text frame_faults.TooLarge = codes "too large\n"
+frame_fault_text (frame_faults.Malformed at) = malformed_text at
+frame_fault_text (frame_faults.Invalid leaf kind) = invalid_text leaf kind
+
+abbrev pub sequence_line : SequenceError → List ℕ
+sequence_line sequence_errors.ReadFault = codes "read fault\n"
+sequence_line sequence_errors.TooLong = codes "too long\n"
+sequence_line (sequence_errors.Malformed at) = malformed_text at
+sequence_line (sequence_errors.Frame frame fault) = codes "frame " ++ decimal frame ++ codes " " ++ frame_fault_text fault
+sequence_line sequence_errors.WriteFault = codes "write fault\n"
+sequence_line sequence_errors.Memory = codes "out of memory\n"
 
 -- ---- traces
 
-abbrev pub plan_fault_text : PlanFault → List ℕ
-plan_fault_text (plan_faults.Malformed at) = malformed_text at
-plan_fault_text (plan_faults.Invalid leaf kind) = invalid_text leaf kind
-
-abbrev pub trace_line : TraceError → List ℕ
-trace_line trace_errors.ReadFault = codes "read fault\n"
-trace_line trace_errors.TooLong = codes "too long\n"
-trace_line (trace_errors.Malformed at) = malformed_text at
-trace_line (trace_errors.Plan fault) = codes "plan " ++ plan_fault_text fault
-trace_line trace_errors.WriteFault = codes "write fault\n"
-trace_line trace_errors.Memory = codes "out of memory\n"
-
--- no differences, or some
+-- the exit status where there are no differences, or some
 abbrev pub trace_done : ℕ → ℕ
 trace_done zero = 0
 trace_done (suc n) = 7

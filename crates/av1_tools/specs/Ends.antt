@@ -1,26 +1,11 @@
--- What the exit status says of the bytes and of the output.
-use Rattle.std.specs.Prelude.{◌≡◌, ◌⊎◌, ℕ, List, Option, Ok, Err, IfSome}
-use Rattle.std.specs.Io.KnownBytes.{Appends}
-use Rattle.av1_streams.specs.Faults.{FaultCounted}
-use Rattle.av1_streams.specs.Streams.{AppendsPrefix}
-use Rattle.av1_streams.specs.Tasks.{Task, ComeTo}
+-- What the exit status says of the bytes and of the output: 0 and 7 are those of success. 1 is that of words that are no tool's name.
+use Rattle.std.specs.Prelude.{◌≡◌, ◌⊎◌, ℕ, List, Option}
+use Rattle.av1_streams.specs.Tasks.{Task}
+use Rattle.av1_recon.specs.Ends.{EndsWith}
 
-pub record Ends {O A E S K : Type 0} (task : Task O A E) (left : S → Option (List ℕ)) (source_faults : S → ℕ) (taken : K → Option (List ℕ)) (sink_faults : K → ℕ)
-    (source source' : S) (sink sink' : K) (status : ℕ) : Type 0 where
-  -- 0, or 7 of a trace: what the bytes come to was appended.
-  pub done : (status ≡ 0) ⊎ (status ≡ 7) → IfSome (left source) (λ bytes. ComeTo task bytes (λ outcome. Appends (taken sink) (taken sink') (task.written outcome)))
-  -- 2: the bytes are refused.
-  pub refused : status ≡ 2 → IfSome (left source) (λ bytes. (e : E) × task.HasOutcome bytes (Err e)) × (sink' ≡ sink)
-  -- 3: memory ran out.
-  pub memory : status ≡ 3 → sink' ≡ sink
-  -- 4: a read failed.
-  pub read_fault : status ≡ 4 → FaultCounted (source_faults source) (source_faults source') × (sink' ≡ sink)
-  -- 5: a write failed, and a prefix of what the bytes come to stands.
-  pub write_fault : status ≡ 5 → FaultCounted (sink_faults sink) (sink_faults sink')
-      × IfSome (left source) (λ bytes. ComeTo task bytes (λ outcome. AppendsPrefix (taken sink) (taken sink') (task.written outcome)))
-  -- 1 is that of words that are no tool's name.
-  pub no_other : (status ≡ 0) ⊎ ((status ≡ 2) ⊎ ((status ≡ 3) ⊎ ((status ≡ 4) ⊎ ((status ≡ 5) ⊎ (status ≡ 7)))))
-  -- Without a fault bytes that are not refused give 0 or 7, or memory ran out; and bytes that are refused never do.
-  pub complete : ¬ FaultCounted (source_faults source) (source_faults source') → ¬ FaultCounted (sink_faults sink) (sink_faults sink')
-      → IfSome (left source) (λ bytes. (outcome : O) → task.HasOutcome bytes (Ok outcome) → ((status ≡ 0) ⊎ (status ≡ 7)) ⊎ (status ≡ 3))
-  pub refuses : IfSome (left source) (λ bytes. (e : E) → task.HasOutcome bytes (Err e) → (status ≡ 2) ⊎ ((status ≡ 3) ⊎ (status ≡ 4)))
+-- all was written that was to be: 0, or 7 of a trace that differs
+abbrev pub IsSuccess : ℕ → Type 0
+IsSuccess status = (status ≡ 0) ⊎ (status ≡ 7)
+
+abbrev pub Ends : {O A E S K : Type 0} → Task O A E → (S → Option (List ℕ)) → (S → ℕ) → (K → Option (List ℕ)) → (K → ℕ) → S → S → K → K → ℕ → Type 0
+Ends task left source_faults taken sink_faults source source' sink sink' status = EndsWith IsSuccess task left source_faults taken sink_faults source source' sink sink' status

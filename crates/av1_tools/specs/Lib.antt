@@ -1,3 +1,4 @@
 pub mod Tools
 pub mod Answers
 pub mod Ends
+pub mod EndsInTurn

@@ -9,6 +9,8 @@ pub enum Tool {
     Tiles,
     /// Compares the planes of another encoder with a plan.
     Trace,
+    /// Reconstructs a sequence of frames, each predicted from those before it.
+    Sequence,
     /// Writes a plan without its coefficients: that of its predictions alone.
     Bare,
 }
@@ -34,6 +36,9 @@ impl Tool {
         }
         if name == "trace" {
             return Some(Tool::Trace);
+        }
+        if name == "sequence" {
+            return Some(Tool::Sequence);
         }
         if name == "bare" {
             return Some(Tool::Bare);

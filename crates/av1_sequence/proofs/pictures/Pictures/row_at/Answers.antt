@@ -1,18 +1,13 @@
-use Rattle.std.proofs.Common.{ℕ, ap, sym, ◌∙◌, ◌≡◌, Some, Bor}
-use Rattle.std.specs.Option.{option_map}
-use Rattle.av1_frame.specs.declared.plane.Plane.{Plane}
-use Rattle.av1_frame.specs.Frames.{slot_plane}
-use Rattle.av1_sequence.proofs.KeptRows.{kept_place, kept_row}
+use Rattle.std.proofs.Common.{ℕ, List, ap, ◌∙◌}
+use Rattle.av1_plan.specs.Geometry.{plane_width}
+use Rattle.av1_sequence.specs.Slots.{row_in}
+use Rattle.av1_sequence.proofs.KeptRows.{plane_row}
 use Rattle.av1_sequence.proofs.pictures.Pictures.row_at.Goals as goal
 
 pub visible_row-requires-clause-place : goal.visible_row-requires-clause-place
-visible_row-requires-clause-place c =
-    let at : slot_plane c.args.self.now.fi c.args.place c.args.p ≡ Some c.unwrap-plane.result.now =
-    ap (λ (n : ℕ). slot_plane c.args.self.now.fi n c.args.p) (sym c.from.ensures) ∙ sym c.slot.ensures ∙ ap (option_map (λ (b : Bor (Plane ℕ)). b.now)) c.unwrap-plane.ensures in
-    kept_place c.args.self.now.header c.args.self.now.fi c.args.place c.args.p c.unwrap-plane.result.now c.requires.kept c.requires.plane at
+visible_row-requires-clause-place c = c.plane_at.ensures.writable.place
 
 pub returns : goal.returns
-returns c =
-    let at : slot_plane c.args.self.now.fi c.args.place c.args.p ≡ Some c.unwrap-plane.result.now =
-    ap (λ (n : ℕ). slot_plane c.args.self.now.fi n c.args.p) (sym c.from.ensures) ∙ sym c.slot.ensures ∙ ap (option_map (λ (b : Bor (Plane ℕ)). b.now)) c.unwrap-plane.ensures in
-    kept_row c.args.self.now.header c.args.self.now.fi c.args.place c.args.p c.unwrap-plane.result.now c.args.y c.visible_row.result.now c.requires.kept c.requires.plane at c.requires.in_plane c.visible_row.ensures
+returns c = λ frame shows.
+    plane_row c.args.self.now.header c.args.p c.plane_at.result.now c.args.y c.visible_row.result.now c.requires.in_plane c.visible_row.ensures
+    ∙ ap (λ (xs : List ℕ). row_in (plane_width c.args.self.now.header c.args.p) xs c.args.y) (c.plane_at.ensures.shown frame shows)

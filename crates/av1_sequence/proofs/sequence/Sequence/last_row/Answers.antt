@@ -1,14 +1,12 @@
-use Rattle.av1_sequence.specs.Last.{last_shown}
-use Rattle.av1_sequence.proofs.Framed.{apart_seen, below_seen, last_apart}
-use Rattle.av1_sequence.proofs.KeptRows.{apart_row, ready_frame}
+use Rattle.av1_sequence.proofs.KeptRows.{shown_row, writable_below, writable_place}
 use Rattle.av1_sequence.proofs.sequence.Sequence.last_row.Goals as goal
 
-pub row-requires-clause-frame : goal.row-requires-clause-frame
-row-requires-clause-frame c = ready_frame c.self.inside.pictures.header c.in-Some.planes (c.self.inside.ready c.in-Some.planes c.in-Some.is)
+pub visible_row-requires-clause-place : goal.visible_row-requires-clause-place
+visible_row-requires-clause-place c = writable_place c.args.self.now.frames c.header.result.now c.args.p c.in-Some.plane.now c.header.ensures c.in-Some.ensures.writable
+
+pub visible_row-requires-clause-in_plane : goal.visible_row-requires-clause-in_plane
+visible_row-requires-clause-in_plane c = writable_below c.args.self.now.frames c.header.result.now c.args.p c.args.y c.header.ensures c.requires.in_plane
 
 pub returns-in-Some : goal.returns-in-Some
 returns-in-Some c =
-    let h = c.self.inside.pictures.header in
-    apart_seen c.args.self.now c.self.inside.pictures.header c.self.inside.pictures.fi c.self.inside.pictures.places (last_shown c.self.inside.pictures.header c.self.inside.pictures.fi c.self.inside.apart c.self.inside.last) c.self.view_is c.in-Some.planes c.args.p c.args.y c.row.result.now
-    (last_apart h c.self.inside.pictures.fi c.self.inside.apart c.self.inside.last c.in-Some.planes c.in-Apart.is c.in-Some.is)
-    (apart_row h c.in-Some.planes c.args.p c.args.y c.row.result.now c.requires.plane (below_seen c.args.self.now c.self.inside.pictures.header c.self.inside.pictures.fi c.self.inside.pictures.places (last_shown c.self.inside.pictures.header c.self.inside.pictures.fi c.self.inside.apart c.self.inside.last) c.self.view_is c.args.p c.args.y c.requires.in_plane) c.row.ensures)
+    shown_row c.args.self.now.frames c.header.result.now c.header.ensures c.args.p c.args.y c.in-Some.plane.now c.visible_row.result.now c.args.self.now.last c.requires.in_plane c.visible_row.ensures c.in-Some.ensures.shown

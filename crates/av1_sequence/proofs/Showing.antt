@@ -1,0 +1,185 @@
+-- What showing the frames of a sequence says, from what showing each of them says.
+use Rattle.std.proofs.Common.{◌≡◌, ◌≢◌, ℕ, ◌+◌, ◌<◌, ◌≤◌, List, [], ◌∷◌, ◌++◌, length, take, map, All, Option, Some, Ok, Err, refl, sym, ap, subst, ◌∙◌, append-nil, arith, get_or}
+use Rattle.std.specs.Prelude.{slice_get, IsErrAnd, IfErr}
+use Rattle.std.specs.List.{flat_map}
+use Rattle.std.specs.Option.{option_map}
+use Rattle.std.specs.Io.KnownBytes.{Appends}
+use Rattle.std.proofs.KnownBytes.{Appends-nil, Appends-trans}
+use Rattle.std.proofs.lemmas.List.{take_all, take_more}
+use Rattle.std.proofs.lemmas.List.Elements.{All-get_or}
+use Rattle.std.proofs.lemmas.Option.{get_or_from_slice_get, slice_get-map, slice_get_read, slice_get_within}
+use Rattle.av1_plan.specs.declared.header.Header.{Header}
+use Rattle.av1_plan.specs.Format.{Format, asks, done, ◌>>=◌}
+use Rattle.av1_plan.specs.Grammar.{plan_behind, superblocks}
+use Rattle.av1_plan.specs.Plan.{LeafValue, PlanValue}
+use Rattle.av1_plan.specs.Spelling.{AreText, Spells}
+use Rattle.av1_streams.specs.Streams.{AppendsPrefix}
+use Rattle.av1_streams.specs.Tasks.{read_failed, too_long, write_failed}
+use Rattle.av1_streams.proofs.Performing.{is_err}
+use Rattle.av1_streams.proofs.Prefixes.{AppendsPrefix-after}
+use Rattle.av1_tile.specs.Canvas.{Y, U, V}
+use Rattle.av1_tile.specs.Edge.{sample_of}
+use Rattle.av1_tile.specs.Output.{by_rows, planes_of, sample_bytes, visible}
+use Rattle.av1_tile.specs.PlaneBlocks.{extent_of}
+use Rattle.av1_tile.specs.Reference.{slow_walk}
+use Rattle.av1_sequence.specs.declared.error.FrameError.{FrameError}
+use Rattle.av1_sequence.specs.declared.error.FrameError.TheVariants as frame_errors
+use Rattle.av1_sequence.specs.declared.error.SequenceError.{SequenceError}
+use Rattle.av1_sequence.specs.declared.error.SequenceError.TheVariants as errors
+use Rattle.av1_sequence.specs.declared.file.FrameText.{FrameText}
+use Rattle.av1_sequence.specs.declared.head.FrameHead.{FrameHead}
+use Rattle.av1_sequence.specs.Errors.{frame_error}
+use Rattle.av1_sequence.specs.File.{IsReadText, frame_value}
+use Rattle.av1_sequence.specs.Files.{Answer, AreShown, IsFirstRefused, Lead, beginning, error_of}
+use Rattle.av1_sequence.specs.Frames.{frame_header, frame_of, frame_references}
+use Rattle.av1_sequence.specs.Grammar.{FileValue, FrameValue}
+use Rattle.av1_sequence.specs.Kept.{Kept}
+use Rattle.av1_sequence.specs.Outcomes.{IsValidFrame, Refuses, accepted}
+use Rattle.av1_sequence.specs.Output.{frame_text}
+use Rattle.av1_sequence.specs.Slots.{Frame}
+use Rattle.av1_sequence.specs.Tasks.{IsBeforeFrames, Shows, ShowsFrame, cause_of}
+use Rattle.av1_sequence.proofs.Running.{lead_more}
+
+-- ---- the bytes of a frame
+
+spelled_header : (f : Format (List LeafValue)) (h : Header) (refs : List (Option Frame)) (vs : List ℕ) (p : PlanValue) → Spells (f >>= λ leaves. done (record { header = h; references = refs; leaves = leaves })) vs p → p.header ≡ h
+spelled_header (done x) h refs [] p s = ap (λ (q : PlanValue). q.header) (sym s)
+spelled_header (done x) h refs (v ∷ vs) p s = absurd s
+spelled_header (asks kind next) h refs [] p s = absurd s
+spelled_header (asks kind next) h refs (v ∷ vs) p s = spelled_header (next v) h refs vs p s.1
+
+header_is : (h : Header) (refs : List (Option Frame)) (part : List ℕ) (p : PlanValue) → AreText (plan_behind h refs) part p → p.header ≡ h
+unfolding plan_behind
+header_is h refs part p (vs, spells, is) = spelled_header (superblocks h) h refs vs p spells
+
+abbrev text_at_depth : ℕ → PlanValue → List ℕ
+text_at_depth depth plan =
+    flat_map (sample_bytes depth) (by_rows (extent_of plan.header 0) (λ x y. sample_of (slow_walk plan Y x y))) ++ flat_map (sample_bytes depth) (by_rows (extent_of plan.header 1) (λ x y. sample_of (slow_walk plan U x y))) ++ flat_map (sample_bytes depth) (by_rows (extent_of plan.header 2) (λ x y. sample_of (slow_walk plan V x y)))
+
+-- the frame of a plan is written as the plan's planes are
+text_of_frame : (k : Kept) (head : FrameHead) (part : List ℕ) (plan : PlanValue) → IsValidFrame k head part plan → frame_text k.frames (frame_of plan) ≡ planes_of plan
+unfolding planes_of visible
+text_of_frame k head part plan valid =
+    let same = header_is (frame_header k.frames k.slots head) (frame_references k.slots head) part plan valid.text in
+    ap (λ (h : Header). text_at_depth h.depth plan) (sym same)
+
+-- what holds of the bytes of the last frame holds of the planes of the plan that was accepted last
+pub last_text : (k k' : Kept) (head : FrameHead) (part : List ℕ) (plan : PlanValue) → IsValidFrame k head part plan → k' ≡ accepted k head plan
+    → (P : List ℕ → Type 0) → ((frame : Frame) → k'.last ≡ Some frame → P (frame_text k'.frames frame)) → P (planes_of plan)
+last_text k k' head part plan valid is P holds =
+    let last : k'.last ≡ Some (frame_of plan) = ap (λ (s : Kept). s.last) is in
+    let frames : k'.frames ≡ k.frames = ap (λ (s : Kept). s.frames) is in
+    subst P (text_of_frame k head part plan valid) (subst (λ (h : Header). P (frame_text h (frame_of plan))) frames (holds (frame_of plan) last))
+
+-- ---- one frame
+
+refuses_frame : (k k' : Kept) (index : ℕ) (f : FrameValue) (error : FrameError) (a : Option (List ℕ)) → Refuses k f.head f.part error → ShowsFrame k index f (Err (frame_error index error)) k' a a
+refuses_frame k k' index f frame_errors.TooLarge a why = (refl, why, Appends-nil a)
+refuses_frame k k' index f (frame_errors.Malformed at) a why = (refl, why, Appends-nil a)
+refuses_frame k k' index f (frame_errors.Invalid leaf kind) a why = (refl, why, Appends-nil a)
+refuses_frame k k' index f frame_errors.Memory a why = Appends-nil a
+
+-- it was refused
+pub refused_frame : (k k' : Kept) (index : ℕ) (f : FrameValue) (error : FrameError) (e : SequenceError) (a : Option (List ℕ)) → e ≡ frame_error index error → Refuses k f.head f.part error → ShowsFrame k index f (Err e) k' a a
+refused_frame k k' index f error e a is why = subst (λ (x : SequenceError). ShowsFrame k index f (Err x) k' a a) (sym is) (refuses_frame k k' index f error a why)
+
+-- a refusal blames no write
+pub no_write : {X : Type 0} (index : ℕ) (error : FrameError) (e : SequenceError) → e ≡ frame_error index error → cause_of e ≡ write_failed → X
+no_write {X} index error e is h = blames error (sym (ap cause_of is) ∙ h)
+  where
+    blames : (error : FrameError) → cause_of (frame_error index error) ≡ write_failed → X
+    blames frame_errors.TooLarge clash = absurd cc
+    blames (frame_errors.Malformed at) clash = absurd cc
+    blames (frame_errors.Invalid leaf kind) clash = absurd cc
+    blames frame_errors.Memory clash = absurd cc
+
+-- it was accepted, and couldn't be written
+pub unwritten_frame : (k k' : Kept) (index : ℕ) (f : FrameValue) (plan : PlanValue) (answer : Answer) (a b : Option (List ℕ)) → IsErrAnd answer (λ e. e ≡ errors.WriteFault) → IsValidFrame k f.head f.part plan → k' ≡ accepted k f.head plan
+    → ((frame : Frame) → k'.last ≡ Some frame → AppendsPrefix a b (frame_text k'.frames frame)) → ShowsFrame k index f answer k' a b
+unwritten_frame k k' index f plan answer a b err valid is prefix =
+    subst (λ (r : Answer). ShowsFrame k index f r k' a b) (sym (is_err answer errors.WriteFault err)) (plan, valid, last_text k k' f.head f.part plan valid is (AppendsPrefix a b) prefix)
+
+-- ---- all of them
+
+-- a frame of a sequence that was read
+pub frame_at : (items : List FrameText) (index : ℕ) (item : FrameText) → index < length items → item ≡ get_or items index item → slice_get (map frame_value items) index ≡ Some (frame_value item)
+frame_at items index item lt is = slice_get-map frame_value items index ∙ ap (option_map frame_value) (slice_get_read items (length items) index item refl lt is)
+
+pub text_at : (items : List FrameText) (index : ℕ) (item : FrameText) → index < length items → item ≡ get_or items index item → All IsReadText items → IsReadText item
+text_at items index item lt is texts = subst IsReadText (sym is) (All-get_or IsReadText items index item lt texts)
+
+no_more : (a c : Option (List ℕ)) (written : List ℕ) → Appends a c (written ++ []) → Appends a c written
+no_more a c written appended = subst (Appends a c) (append-nil written) appended
+
+module _ (f : FileValue) (index : ℕ) (frame : FrameValue) (at : slice_get f.parts index ≡ Some frame) (k k' : Kept) (written : List ℕ) (a b c : Option (List ℕ))
+    (lead : Lead (beginning f) (take index f.parts) written k) (before : Appends a b written) where
+  front_more : take (index + 1) f.parts ≡ take index f.parts ++ frame ∷ []
+  front_more =
+      take_more f.parts index frame (slice_get_within f.parts index frame at)
+      ∙ ap (λ (x : FrameValue). take index f.parts ++ x ∷ []) (get_or_from_slice_get f.parts index frame frame at)
+
+  one_more : (plan : PlanValue) → IsValidFrame k frame.head frame.part plan → Lead (beginning f) (take (index + 1) f.parts) (written ++ planes_of plan) (accepted k frame.head plan)
+  one_more plan valid =
+      subst (λ (frames : List FrameValue). Lead (beginning f) frames (written ++ planes_of plan) (accepted k frame.head plan)) (sym front_more)
+      (lead_more (beginning f) (take index f.parts) written k frame plan lead valid)
+
+  -- a frame was accepted and written
+  pub goes_on : ShowsFrame k index frame (Ok tt) k' b c → (w : List ℕ) × Lead (beginning f) (take (index + 1) f.parts) w k' × Appends a c w
+  goes_on (plan, valid, is, appended) = (
+    written ++ planes_of plan,
+    subst (Lead (beginning f) (take (index + 1) f.parts) (written ++ planes_of plan)) (sym is) (one_more plan valid),
+    Appends-trans a b c written (planes_of plan) before appended,
+  )
+
+  stops_by : (e : SequenceError) → ShowsFrame k index frame (Err e) k' b c → Shows f (Err e) a c
+  stops_by (errors.Frame i fault) (is, why, none) =
+      let here : IsFirstRefused (beginning f) f.parts index fault written = record { kept = k; before = lead; frame = frame; at = at; refused = why } in
+      (written, subst (λ (n : ℕ). IsFirstRefused (beginning f) f.parts n fault written) (sym is) here, no_more a c written (Appends-trans a b c written [] before none))
+  stops_by errors.WriteFault (plan, valid, prefix) =
+      let here : AreShown (beginning f) f.parts (index + 1) (written ++ planes_of plan) =
+      record { within = omega (arith, slice_get_within f.parts index frame at); kept = accepted k frame.head plan; lead = one_more plan valid } in (
+        written ++ planes_of plan,
+        (index + 1, here),
+        AppendsPrefix-after a b c written (planes_of plan) [] (written ++ planes_of plan) (ap (λ (l : List ℕ). written ++ l) (append-nil (planes_of plan))) before prefix,
+      )
+  stops_by errors.Memory none =
+      let here : AreShown (beginning f) f.parts index written = record { within = omega (arith, slice_get_within f.parts index frame at); kept = k; lead = lead } in
+      (written, (index, here), no_more a c written (Appends-trans a b c written [] before none))
+  stops_by errors.ReadFault none = absurd none
+  stops_by errors.TooLong none = absurd none
+  stops_by (errors.Malformed at) none = absurd none
+
+  -- it wasn't
+  pub stops : (answer : Answer) (e : SequenceError) → IsErrAnd answer (λ x. x ≡ e) → ShowsFrame k index frame (Err e) k' b c → Shows f answer a c
+  stops answer e is shows = subst (λ (r : Answer). Shows f r a c) (sym (is_err answer e is)) (stops_by e shows)
+
+-- there was no memory to begin
+pub never_begun : (f : FileValue) (answer : Answer) (a : Option (List ℕ)) → IsErrAnd answer (λ x. x ≡ errors.Memory) → Shows f answer a a
+never_begun f answer a is =
+    let here : AreShown (beginning f) f.parts 0 [] = record { within = omega arith; kept = beginning f; lead = (refl, refl) } in
+    subst (λ (r : Answer). Shows f r a a) (sym (is_err answer errors.Memory is)) ([], (0, here), Appends-nil a)
+
+-- all frames were accepted and written
+pub all_shown : (f : FileValue) (index : ℕ) (k : Kept) (written : List ℕ) (a b : Option (List ℕ)) → length f.parts ≤ index → Lead (beginning f) (take index f.parts) written k → Appends a b written → Shows f (Ok tt) a b
+all_shown f index k written a b end lead appended =
+    (written, (k, subst (λ (frames : List FrameValue). Lead (beginning f) frames written k) (take_all index f.parts end) lead), appended)
+
+-- ---- what errors of showing are
+
+pub no_read : (f : FileValue) (answer : Answer) (a b : Option (List ℕ)) → Shows f answer a b → IfErr answer (λ e. (cause_of e ≢ read_failed) × (cause_of e ≢ too_long))
+no_read f (Ok u) a b shows = tt
+no_read f (Err (errors.Frame i fault)) a b shows = (λ h. absurd cc, λ h. absurd cc)
+no_read f (Err errors.WriteFault) a b shows = (λ h. absurd cc, λ h. absurd cc)
+no_read f (Err errors.Memory) a b shows = (λ h. absurd cc, λ h. absurd cc)
+no_read f (Err errors.ReadFault) a b shows = absurd shows
+no_read f (Err errors.TooLong) a b shows = absurd shows
+no_read f (Err (errors.Malformed at)) a b shows = absurd shows
+
+pub in_frames : {X : Type 0} (f : FileValue) (answer : Answer) (a b : Option (List ℕ)) → Shows f answer a b → IsErrAnd answer IsBeforeFrames → X
+in_frames f (Ok u) a b shows h = absurd h
+in_frames f (Err (errors.Frame i fault)) a b shows h = absurd h
+in_frames f (Err errors.WriteFault) a b shows h = absurd h
+in_frames f (Err errors.Memory) a b shows h = absurd h
+in_frames f (Err errors.ReadFault) a b shows h = absurd shows
+in_frames f (Err errors.TooLong) a b shows h = absurd shows
+in_frames f (Err (errors.Malformed at)) a b shows h = absurd shows

@@ -1,0 +1,97 @@
+//! From the bytes of a sequence of frames to the bytes of their planes.
+
+ghost use Rattle.std.specs.Prelude.{◌≡◌, ◌<◌, ◌≤◌, IsErrAnd};
+ghost use Rattle.av1_streams.specs.Faults.{FaultCounted};
+ghost use Rattle.av1_streams.specs.Tasks.{write_failed};
+ghost use Rattle.av1_sequence.specs.Errors.{frame_error};
+ghost use Rattle.av1_sequence.specs.File.{IsReadFile, IsReadText, file_value, frame_value};
+ghost use Rattle.av1_sequence.specs.Tasks.{PerformsInTurn, Shows, ShowsFrame, cause_of};
+
+use crate::container::read_sequence;
+use crate::error::{FrameError, FrameFault, SequenceError};
+use crate::file::{FrameText, SequenceFile};
+use crate::output::write_last;
+use crate::sequence::Sequence;
+use av1_streams::{Sink, Source, read_plan_bytes};
+use std::alloc::Global;
+
+/// Reads a sequence of frames from the source to its end, reconstructs one frame after the other, and appends the visible planes of each to the
+/// sink as soon as it is accepted: Y, U and V, each row by row, one byte a sample at depth 8, else two, the low one first.
+///
+/// # Errors
+///
+/// `ReadFault` and `TooLong` while it reads, then `Malformed`, before anything is written. `Frame` names the first frame that is refused: the
+/// planes of the frames before it were written. `WriteFault` where a write fails, and a prefix of what was to be written stands. `Memory` may
+/// stand in place of any of them: the planes of some first frames were written, each whole.
+pub fn reconstruct_sequence<R: Source, W: Sink>(
+    alloc: Global,
+    source: &mut R,
+    sink: &mut W,
+) -> Result<(), SequenceError>
+    ensures { PerformsInTurn R.left R.faults W.taken W.faults source.old source.new sink.old sink.new result }
+{
+    let bytes = read_plan_bytes(alloc, source)?;
+    let file = read_sequence(alloc, &bytes)?;
+    show_frames(alloc, &file, sink)
+}
+
+/// Reconstructs the frames of a sequence, one after the other, and writes each as soon as it is accepted.
+fn show_frames<W: Sink>(
+    alloc: Global,
+    file: &SequenceFile<'_>,
+    sink: &mut W,
+) -> Result<(), SequenceError>
+    requires file { IsReadFile file.now }
+    ensures shows { Shows (file_value file.now) result (W.taken sink.old) (W.taken sink.new) }
+    ensures write_fault { IsErrAnd result (λ e. cause_of e ≡ write_failed) → FaultCounted (W.faults sink.old) (W.faults sink.new) }
+    ensures later { W.faults sink.old ≤ W.faults sink.new }
+{
+    let mut sequence = Sequence::new(alloc, file.width, file.height, file.depth, file.sampling)?;
+    for index in 0..file.frames.len() {
+        show_frame(&mut sequence, index, &file.frames[index], sink)?;
+    }
+    Ok(())
+}
+
+/// Gives a sequence frame number `index`, and writes it where it is accepted.
+fn show_frame<W: Sink>(
+    sequence: &mut Sequence,
+    index: usize,
+    frame: &FrameText<'_>,
+    sink: &mut W,
+) -> Result<(), SequenceError>
+    requires text { IsReadText frame.now }
+    requires index { index < 65536 }
+    ensures shows { ShowsFrame sequence.old index (frame_value frame.now) result sequence.new (W.taken sink.old) (W.taken sink.new) }
+    ensures write_fault { IsErrAnd result (λ e. cause_of e ≡ write_failed) → FaultCounted (W.faults sink.old) (W.faults sink.new) }
+    ensures later { W.faults sink.old ≤ W.faults sink.new }
+{
+    if let Err(error) = sequence.frame(&frame.head, frame.part) {
+        return Err(frame_error(index, error));
+    }
+    write_last(sequence, sink)?;
+    Ok(())
+}
+
+/// What a refusal of frame number `index` is for its sequence.
+fn frame_error(index: usize, error: FrameError) -> SequenceError
+    requires { index < 65536 }
+    ensures { result ≡ frame_error index error }
+{
+    let frame = index as u16;
+    match error {
+        FrameError::TooLarge => SequenceError::Frame {
+            frame,
+            fault: FrameFault::TooLarge,
+        },
+        FrameError::Malformed { at } => SequenceError::Frame {
+            frame,
+            fault: FrameFault::Malformed { at },
+        },
+        FrameError::Invalid { leaf, kind } => SequenceError::Frame {
+            frame,
+            fault: FrameFault::Invalid { leaf, kind },
+        },
+        FrameError::Memory => SequenceError::Memory,
+    }
+}
