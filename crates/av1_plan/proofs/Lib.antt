@@ -1,6 +1,7 @@
 pub mod Formats
 pub mod Spelled
 pub mod Fields
+pub mod Parts
 pub mod Lists
 pub mod Triples
 pub mod Blocks

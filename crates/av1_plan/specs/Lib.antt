@@ -1,5 +1,6 @@
 pub mod Format
 pub mod Spelling
+pub mod Parts
 pub mod Geometry
 pub mod Plan
 pub mod Tree

@@ -48,7 +48,7 @@ pub use laws::{
     the_second_version_keeps_the_first,
 };
 pub use leaf::{ChromaMode, Leaf, LeafKind, Triple};
-pub use nodes::{half_side, part_size, whole_size};
+pub use nodes::{cut_by, half_side, part_size, whole_size};
 pub use parse::{parse_leaves, parse_leaves_apart, parse_plan};
 pub use plan::Plan;
 pub use planes::Planes;

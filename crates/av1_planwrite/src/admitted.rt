@@ -2,14 +2,13 @@
 
 ghost use Rattle.std.specs.Prelude.{◌≡◌, ◌<◌, ◌≤◌, ◌^◌, true, nat_le, length};
 ghost use Rattle.std.specs.List.{list_all};
-ghost use Rattle.av1_plan.specs.Grammar.{is_side, is_depth, is_mark, cut_by};
+ghost use Rattle.av1_plan.specs.Grammar.{is_side, is_depth};
 ghost use Rattle.av1_planwrite.specs.Building.{admits_header, admits_plane, admits_reference, is_named, admits_chroma, admits_kind, admits_triples, admits_fields};
 ghost use Rattle.av1_planwrite.specs.Given.{FitsChroma, FitsKind};
 ghost use Rattle.av1_planwrite.specs.Samples.{greatest};
 
-use av1_blocks::PartitionType::{self, *};
 use av1_blocks::{RefType, TxType};
-use av1_plan::{ChromaMode, Header, LeafKind, Triple, half_side};
+use av1_plan::{ChromaMode, Header, LeafKind, Triple};
 
 // ---- the header
 
@@ -93,46 +92,6 @@ pub fn admits_reference(header: &Header, y: &[u16], u: &[u16], v: &[u16]) -> boo
     ensures { result ≡ admits_reference header.now y.now u.now v.now }
 {
     admits_plane(header, 0, y) && admits_plane(header, 1, u) && admits_plane(header, 2, v)
-}
-
-// ---- marks
-
-/// Whether a node of side `4 << level` at this place may have this mark.
-#[tactic(auto, unfolding(av1_plan::specs::Grammar::is_mark, av1_plan::specs::Grammar::admits_stripes))]
-pub fn admits_mark(header: &Header, level: u8, x: u16, y: u16, mark: u8) -> bool
-    requires level { level ≤ 4 }
-    requires x { x ≤ 4096 }
-    requires y { y ≤ 4096 }
-    ensures value { result ≡ is_mark header.now level x y mark }
-    ensures number { result ≡ true → mark ≤ 9 }
-{
-    let side = 2 * half_side(level);
-    let is_stripes = 8 <= mark && mark <= 9;
-    let has_stripes = header.version == 2
-        && 2 <= level
-        && x + side <= header.width
-        && y + side <= header.height;
-    mark <= 3 || (is_stripes && has_stripes)
-}
-
-/// How a node is cut that has this mark.
-#[tactic(auto, unfolding(av1_plan::specs::Grammar::cut_by))]
-pub fn cut_by(mark: u8) -> PartitionType
-    requires { mark ≤ 9 }
-    ensures { result ≡ cut_by mark }
-{
-    match mark {
-        0 => PARTITION_NONE,
-        1 => PARTITION_HORZ,
-        2 => PARTITION_VERT,
-        3 => PARTITION_SPLIT,
-        4 => PARTITION_HORZ_A,
-        5 => PARTITION_HORZ_B,
-        6 => PARTITION_VERT_A,
-        7 => PARTITION_VERT_B,
-        8 => PARTITION_HORZ_4,
-        _ => PARTITION_VERT_4,
-    }
 }
 
 // ---- leaves

@@ -4,13 +4,13 @@ ghost use Rattle.std.specs.Prelude.{◌≡◌, ◌+◌, ◌<◌, ◌≤◌, true
 ghost use Rattle.av1_planwrite.specs.Asked.{across, down};
 ghost use Rattle.av1_planwrite.specs.Building.{admits_header, next_slot};
 
-use crate::admitted::{admits_fields, admits_header, admits_mark, admits_reference, cut_by};
+use crate::admitted::{admits_fields, admits_header, admits_reference};
 use crate::error::BuildError;
 use crate::parts::{Part, PartStack};
 use crate::superblocks::Superblocks;
 use crate::text::Text;
 use av1_blocks::{TxSize, TxType};
-use av1_plan::{Header, LeafKind, Triple, carries_chroma};
+use av1_plan::{Header, LeafKind, Triple, carries_chroma, cut_by};
 use std::alloc::Global;
 
 /// A plan in the making: what an encoder fills while it encodes.
@@ -181,7 +181,7 @@ impl PlanBuilder {
         let Some(Part::Node { level, x, y }) = self.asked_part() else {
             return Err(BuildError::NotNow);
         };
-        if !admits_mark(&self.header, level, x, y, mark) {
+        if !self.header.is_mark(level, x, y, mark) {
             return Err(BuildError::NotAdmitted);
         }
         let kept = self.text.bytes.len();

@@ -2,7 +2,8 @@
 use Rattle.std.proofs.Common.{◌≡◌, inl, inr, ℕ, ◌<◌, ◌≤◌, List, [], ◌++◌, length, Result, Ok, Err, refl, sym, ap, subst, ◌∙◌}
 use Rattle.std.proofs.lemmas.Bool.{cases_lt}
 use Rattle.av1_plan.specs.Format.{Reading}
-use Rattle.av1_plan.proofs.Spelled.{ok, ok_is}
+use Rattle.av1_plan.proofs.Parts.{clash, err_is}
+use Rattle.av1_plan.proofs.Spelled.{ok_is}
 use Rattle.av1_streams.specs.Streams.{AreBytes, max_plan_bytes}
 use Rattle.av1_sequence.specs.declared.error.FrameFault.{FrameFault}
 use Rattle.av1_sequence.specs.declared.error.SequenceError.{SequenceError}
@@ -46,22 +47,15 @@ shape_of bytes written (Err errors.ReadFault) c = absurd c
 shape_of bytes written (Err errors.WriteFault) c = absurd c
 shape_of bytes written (Err errors.Memory) c = absurd c
 
-clash : {X A : Type 0} (x : A) (at : ℕ) → ok x ≡ Err at → X
-clash x at e = absurd cc
-
-err_is : {A : Type 0} (a b : ℕ) (r : Reading A) → r ≡ Err a → r ≡ Err b → a ≡ b
-err_is a b (Ok x) e d = absurd cc
-err_is a b (Err at) e d = cc
-
 one_shape : (bytes written others : List ℕ) (a b : Shape) → IsShape bytes written a → IsShape bytes others b → (judged a ≡ judged b) × (written ≡ others)
 one_shape bytes written others long long p q = (refl, p.1 ∙ sym q.1)
 one_shape bytes written others long (broken d) p q = not_both_ways (length bytes) max_plan_bytes q.0 p.0
 one_shape bytes written others long (file g e) p q = not_both_ways (length bytes) max_plan_bytes q.0.short p.0
 one_shape bytes written others (broken d) long p q = not_both_ways (length bytes) max_plan_bytes p.0 q.0
 one_shape bytes written others (broken d) (broken e) (short, p, none) (also, q, nothing) = (ap (λ (at : ℕ). judged (broken at)) (err_is d e (read_file bytes) p q), none ∙ sym nothing)
-one_shape bytes written others (broken d) (file g e) (short, p, none) (is, run) = clash g d (sym is.read ∙ p)
+one_shape bytes written others (broken d) (file g e) (short, p, none) (is, run) = absurd (clash g d (sym is.read ∙ p))
 one_shape bytes written others (file f e) long p q = not_both_ways (length bytes) max_plan_bytes p.0.short q.0
-one_shape bytes written others (file f e) (broken d) (is, run) (short, q, none) = clash f d (sym is.read ∙ q)
+one_shape bytes written others (file f e) (broken d) (is, run) (short, q, none) = absurd (clash f d (sym is.read ∙ q))
 one_shape bytes written others (file f e) (file g d) (is, run) (also, other) =
     let same : g ≡ f = ok_is g f (sym also.read ∙ is.read) in
     let there : Runs (beginning f) f.parts others d = subst (λ (v : FileValue). Runs (beginning v) v.parts others d) same other in

@@ -1,76 +1,23 @@
 -- Bytes that are no sequence of frames are refused where the longest proper list of fields at their front ends.
-use Rattle.std.proofs.Common.{◌≡◌, ◌⊎◌, inl, inr, zero, suc, ℕ, ◌+◌, ◌<◌, ◌≤◌, ◌^◌, Bool, true, false, cond, leb, eqb, List, [], ◌∷◌, ◌++◌, length, take, drop, Ok, Err, refl, sym, ap, subst, ◌∙◌, append_assoc, length-append, take-append-drop, arith}
-use Rattle.std.proofs.lemmas.Bool.{eqb-true, le-leb, leb-true}
-use Rattle.std.proofs.lemmas.List.{append-nil, take_at, drop_at, length-take, nil_from_length}
-use Rattle.av1_plan.specs.Format.{four, any, Format, asks, done, Input, Reading, on_ok, read_field, read_part, read, ended, start}
+use Rattle.std.proofs.Common.{◌≡◌, ◌⊎◌, inl, inr, zero, suc, ℕ, ◌+◌, ◌<◌, ◌≤◌, ◌^◌, eqb, List, [], ◌∷◌, ◌++◌, length, Ok, Err, refl, sym, ap, subst, ◌∙◌, append_assoc, length-append, arith}
+use Rattle.std.proofs.lemmas.Bool.{eqb-true}
+use Rattle.std.proofs.lemmas.List.{append-nil, nil_from_length}
+use Rattle.av1_plan.specs.Format.{four, Format, asks, done, Input, Reading, on_ok, read_part, read, ended, start}
 use Rattle.av1_plan.specs.Spelling.{IsProper, Spells, text, IsPrefix}
-use Rattle.av1_plan.proofs.Fields.{AreBytes, AreBytes-drop, field_takes, field_again, field_fails, length-le}
-use Rattle.av1_plan.proofs.Spelled.{bind_ok, end, no_longer, ok, ok_is, reaches, read_again, read_spells}
+use Rattle.av1_plan.specs.Parts.{length_text, part_text, IsLongestText}
+use Rattle.av1_plan.proofs.Parts.{Parted, done_ok, err_at, fits_behind, front_refused, part_again, parted, stops_behind}
+use Rattle.av1_plan.proofs.Fields.{AreBytes, length-le}
+use Rattle.av1_plan.proofs.Spelled.{bind_ok, end, no_longer, ok_is, reaches, read_again, read_spells}
 use Rattle.av1_recon.proofs.Outcomes.{byte_fits}
 use Rattle.av1_sequence.specs.declared.head.FrameHead.{FrameHead}
 use Rattle.av1_sequence.specs.Grammar.{FrontValue, FileValue, FrameValue, front, head, read_frame, read_frames, read_file}
-use Rattle.av1_sequence.specs.Texts.{length_text, part_text, AreFrameTexts, IsBegun, IsFileText, IsFrameText, IsRun, IsProperText, IsLongestText, FoundAtText, RefusedAtLongest}
+use Rattle.av1_sequence.specs.Texts.{AreFrameTexts, IsBegun, IsFileText, IsFrameText, IsRun, IsSequenceRun, FoundAtText, RefusedAtLongest}
 
 -- what is spelled is proper
 spelled_proper : {A : Type 0} (f : Format A) (vs : List ℕ) (y : A) → Spells f vs y → IsProper f vs
 spelled_proper f [] y s = tt
 spelled_proper (done x) (v ∷ vs) y s = absurd s
 spelled_proper (asks kind next) (v ∷ vs) y s = (s.0, spelled_proper (next v) vs y s.1)
-
-fits_behind : (bytes before rest : List ℕ) → AreBytes bytes → bytes ≡ before ++ rest → AreBytes rest
-fits_behind bytes before rest fits parts = subst AreBytes (drop_at before rest (length before) refl) (AreBytes-drop (length before) (before ++ rest) (subst AreBytes parts fits))
-
--- ---- a part
-
-record TakesPart (i : Input) (part : List ℕ) (j : Input) : Type 0 where
-  short : length part < 2 ^ 32
-  parts : i.rest ≡ part_text part ++ j.rest
-  at : j.at ≡ i.at + length (part_text part)
-  fits : AreBytes j.rest
-
--- no part was read: not its length, or that alone
-record StopsAt (i : Input) (at : ℕ) : Type 0 where
-  run : List ℕ
-  is : (run ≡ []) ⊎ ((len : ℕ) × (len < 2 ^ 32) × (run ≡ length_text len))
-  front : IsPrefix run i.rest
-  len : i.at + length run ≡ at
-
-abbrev behind_length : ℕ × Input → Reading (List ℕ × Input)
-behind_length p = cond (leb p.0 (length p.1.rest)) (Ok (take p.0 p.1.rest, record { at = p.1.at + p.0; rest = drop p.0 p.1.rest })) (Err p.1.at)
-
-abbrev Parted : Input → Reading (List ℕ × Input) → Type 0
-Parted i (Ok p) = TakesPart i p.0 p.1
-Parted i (Err at) = StopsAt i at
-
-enough : (i : Input) (n : ℕ) (j : Input) → n < 2 ^ 32 → i.rest ≡ length_text n ++ j.rest → j.at ≡ i.at + length (length_text n) → AreBytes j.rest → (b : Bool) → leb n (length j.rest) ≡ b
-    → Parted i (cond b (Ok (take n j.rest, record { at = j.at + n; rest = drop n j.rest })) (Err j.at))
-enough i n j short parts at fits true e =
-    let le : n ≤ length j.rest = leb-true n (length j.rest) e in
-    let len : length (take n j.rest) ≡ n = omega (arith, length-take n j.rest, le) in
-    record {
-      short = omega (arith, len, short);
-      parts = parts ∙ ap (λ l. length_text n ++ l) (sym (take-append-drop n j.rest)) ∙ sym (append_assoc (length_text n) (take n j.rest) (drop n j.rest)) ∙ ap (λ (m : ℕ). (length_text m ++ take n j.rest) ++ drop n j.rest) (sym len);
-      at = omega (arith, at, len, length-append (length_text (length (take n j.rest))) (take n j.rest), length-le four n, length-le four (length (take n j.rest)));
-      fits = AreBytes-drop n j.rest fits;
-    }
-enough i n j short parts at fits false e = record { run = length_text n; is = inr (n, short, refl); front = (j.rest, parts); len = sym at }
-
-parted : (i : Input) → AreBytes i.rest → Parted i (read_part i)
-unfolding read_part
-parted i fits = elim (read_field (any four) i) as (λ r. read_field (any four) i ≡ r → Parted i (on_ok r behind_length)) [
-  | Err at ↦ λ e. record { run = []; is = inl refl; front = (i.rest, refl); len = omega (arith, field_fails (any four) i at e) }
-  | Ok p ↦ λ e. (
-      let t = field_takes (any four) i p.0 p.1 fits e in
-      enough i p.0 p.1 t.admitted.fits t.parts t.at t.fits (leb p.0 (length p.1.rest)) refl)
-] refl
-
-part_again : (at : ℕ) (part more : List ℕ) → length part < 2 ^ 32 → read_part (record { at = at; rest = part_text part ++ more }) ≡ Ok (part, record { at = at + length (part_text part); rest = more })
-unfolding read_part
-part_again at part more short =
-    let n = length part in
-    let long : leb n (length (part ++ more)) ≡ true = le-leb _ _ (omega (arith, length-append part more)) in
-    let place : at + 4 + n ≡ at + length (part_text part) = omega (arith, length-append (length_text n) part, length-le four n) in
-    rw (append_assoc (length_text n) part more, field_again (any four) at n (part ++ more) (record { fits = short; admitted = refl }), long, take_at part more n refl, drop_at part more n refl, place) refl
 
 -- ---- a frame
 
@@ -173,19 +120,6 @@ run_reaches (suc n) before i fits = elim (read_frame i) as (λ r. Framed i r →
 from_here : (n : ℕ) (before : List FrameValue) (i : Input) → AreBytes i.rest → i.at ≤ stop (read_frames n (before, i))
 from_here n before i fits = omega (arith, (run_reaches n before i fits).3)
 
--- a reading of a part that stops behind a length that stands there
-err_at : {A : Type 0} (b : Bool) (x : A) (at d : ℕ) → cond b (ok x) (Err at) ≡ Err d → at ≡ d
-err_at true x at d e = absurd cc
-err_at false x at d e = cc
-
-stops_behind : (i : Input) (len : ℕ) (more : List ℕ) → len < 2 ^ 32 → i.rest ≡ length_text len ++ more → (at : ℕ) → read_part i ≡ Err at → i.at + 4 ≤ at
-unfolding read_part
-stops_behind i len more short parts at e =
-    let field : read_field (any four) i ≡ Ok (len, record { at = i.at + 4; rest = more }) =
-    ap (λ (l : List ℕ). read_field (any four) (record { at = i.at; rest = l })) parts ∙ field_again (any four) i.at len more (record { fits = short; admitted = refl }) in
-    let there : behind_length (len, record { at = i.at + 4; rest = more }) ≡ Err at = sym (ap (λ (r : Reading (ℕ × Input)). on_ok r behind_length) field) ∙ e in
-    omega (arith, err_at (leb len (length more)) (take len more, record { at = i.at + 4 + len; rest = drop len more }) (i.at + 4) at there)
-
 -- behind a head and a length the reading comes at least as far
 past_length : (n : ℕ) (before : List FrameValue) (h : FrameHead) (j : Input) (len : ℕ) (more : List ℕ) → AreBytes j.rest → len < 2 ^ 32 → j.rest ≡ length_text len ++ more
     → j.at + 4 ≤ stop (on_ok (on_ok (read_part j) (with_head h)) (λ p. read_frames n (before ++ p.0 ∷ [], p.1)))
@@ -240,29 +174,8 @@ rest_err : (f : FrontValue) (r : Reading (List FrameValue × Input)) (at : ℕ) 
 rest_err f (Ok p) at e = err_at (eqb (length p.1.rest) 0) (record { frames = f.frames; parts = p.0 }) p.1.at at e
 rest_err f (Err d) at e = cc
 
-clash : {A : Type 0} (x : A) (at : ℕ) → ok x ≡ Err at → ⊥
-clash x at e = cc
-
--- what stands before the frames couldn't be read
-front_refused : (bytes : List ℕ) (at d : ℕ) → AreBytes bytes → read front (start bytes) ≡ Err d → d ≡ at → IsLongestText bytes at
-front_refused bytes at d fits e same =
-    let (values, proper, prefix, len) = reaches front (start bytes) fits in
-    let came : end (read front (start bytes)) ≡ d = ap end e in
-    record {
-      reached = (text front values, inl (values, proper, refl), prefix, omega (arith, len, came, same));
-      longest = longest came;
-    }
-  where
-    longest : end (read front (start bytes)) ≡ d → (run : List ℕ) → IsProperText run → IsPrefix run bytes → length run ≤ at
-    longest came run (inl (values, proper, is)) (more, parts) =
-        omega (arith, came, same, ap length is, no_longer front (start bytes) values fits proper (more, parts ∙ ap (λ (l : List ℕ). l ++ more) is))
-    longest came run (inr (f, (values, spells, (others, proper, is)))) (more, parts) =
-        let whole : bytes ≡ text front values ++ (others ++ more) = parts ∙ ap (λ (l : List ℕ). l ++ more) is ∙ append_assoc (text front values) others more in
-        let again = ap (λ (l : List ℕ). read front (start l)) whole ∙ read_again front values f 0 (others ++ more) spells in
-        absurd (clash (f, _) d (sym again ∙ e))
-
 -- it was read, and then a frame couldn't be, or bytes were left over
-frames_refused : (bytes : List ℕ) (at : ℕ) (f : FrontValue) (j : Input) → AreBytes bytes → read front (start bytes) ≡ Ok (f, j) → rest_of (f, j) ≡ Err at → IsLongestText bytes at
+frames_refused : (bytes : List ℕ) (at : ℕ) (f : FrontValue) (j : Input) → AreBytes bytes → read front (start bytes) ≡ Ok (f, j) → rest_of (f, j) ≡ Err at → IsLongestText IsSequenceRun bytes at
 frames_refused bytes at f j fits e rest =
     let (values, spells, parts) = read_spells front (start bytes) f j fits e in
     let there : FrontValue × Input = (f, record { at = 0 + length (text front values); rest = j.rest }) in
@@ -283,7 +196,7 @@ frames_refused bytes at f j fits e rest =
     came : stop (read_frames f.count ([], j)) ≡ at
     came = rest_err f (read_frames f.count ([], j)) at rest
 
-    longest : AreBytes j.rest → (run : List ℕ) → IsProperText run → IsPrefix run bytes → length run ≤ at
+    longest : AreBytes j.rest → (run : List ℕ) → IsSequenceRun run → IsPrefix run bytes → length run ≤ at
     longest behind run (inl (values, proper, is)) (more, parts) =
         let front_end : end (read front (start bytes)) ≡ j.at = ap end e in
         omega (arith, front_end, came, ap length is, from_here f.count [] j behind, no_longer front (start bytes) values fits proper (more, parts ∙ ap (λ (l : List ℕ). l ++ more) is))
@@ -298,8 +211,8 @@ frames_refused bytes at f j fits e rest =
 
 pub refused_at_longest : RefusedAtLongest
 unfolding read_file
-refused_at_longest bytes at fits e = elim (read front (start bytes)) as (λ r. read front (start bytes) ≡ r → on_ok r rest_of ≡ Err at → IsLongestText bytes at) [
-  | Err d ↦ λ is stopped. front_refused bytes at d (byte_fits bytes fits) is (stopped_at d stopped)
+refused_at_longest bytes at fits e = elim (read front (start bytes)) as (λ r. read front (start bytes) ≡ r → on_ok r rest_of ≡ Err at → IsLongestText IsSequenceRun bytes at) [
+  | Err d ↦ λ is stopped. front_refused front (λ f. IsRun f.count) bytes at d (byte_fits bytes fits) is (stopped_at d stopped)
   | Ok p ↦ λ is rest. frames_refused bytes at p.0 p.1 (byte_fits bytes fits) is rest
 ] refl e
   where
@@ -307,10 +220,6 @@ refused_at_longest bytes at fits e = elim (read front (start bytes)) as (λ r. r
     stopped_at d h = cc
 
 -- ---- whole sequences
-
-done_ok : {A : Type 0} (b : Bool) (x y : A) (at : ℕ) → cond b (ok x) (Err at) ≡ ok y → (b ≡ true) × (x ≡ y)
-done_ok true x y at e = (refl, ok_is x y e)
-done_ok false x y at e = absurd cc
 
 -- frames that were read behind others
 record AreTaken (n : ℕ) (before : List FrameValue) (i : Input) (all : List FrameValue) (j : Input) : Type 0 where

@@ -1,18 +1,10 @@
 -- How far bytes go along with a sequence of frames: the texts of lists of fields are compared with them, and nothing here reads.
-use Rattle.std.specs.Prelude.{◌≡◌, ◌⊎◌, zero, suc, ℕ, ◌<◌, ◌≤◌, ◌^◌, List, [], ◌∷◌, ◌++◌, length, Ok, Err}
-use Rattle.std.specs.Int.{w32, to_le_bytes}
-use Rattle.av1_plan.specs.Spelling.{IsProper, Spells, text, IsPrefix}
+use Rattle.std.specs.Prelude.{◌≡◌, ◌⊎◌, zero, suc, ℕ, ◌<◌, ◌^◌, List, [], ◌∷◌, ◌++◌, length, Ok, Err}
+use Rattle.av1_plan.specs.Parts.{length_text, part_text, IsProperText, IsLongestText}
+use Rattle.av1_plan.specs.Spelling.{IsProper, Spells, text}
 use Rattle.av1_streams.specs.Streams.{AreBytes}
 use Rattle.av1_sequence.specs.declared.head.FrameHead.{FrameHead}
 use Rattle.av1_sequence.specs.Grammar.{FrontValue, FileValue, FrameValue, front, head, read_file}
-
--- the length of a part, as a field
-abbrev pub length_text : ℕ → List ℕ
-length_text n = to_le_bytes w32 n
-
--- a part behind its length
-abbrev pub part_text : List ℕ → List ℕ
-part_text part = length_text (length part) ++ part
 
 -- the text of a frame: the fields of its head, and its part behind its length
 pub record IsFrameText (f : FrameValue) (bytes : List ℕ) : Type 0 where
@@ -37,11 +29,9 @@ abbrev pub IsRun : ℕ → List ℕ → Type 0
 IsRun zero run = run ≡ []
 IsRun (suc n) run = IsBegun run ⊎ ((f : FrameValue) × ((one : List ℕ) × IsFrameText f one × ((more : List ℕ) × IsRun n more × (run ≡ one ++ more))))
 
--- the text of the first fields of a sequence, each admitted after those before it: fields before the frames, or all of these and then fields of frames
-abbrev pub IsProperText : List ℕ → Type 0
-IsProperText run =
-    ((values : List ℕ) × IsProper front values × (run ≡ text front values))
-    ⊎ ((f : FrontValue) × ((values : List ℕ) × Spells front values f × ((frames : List ℕ) × IsRun f.count frames × (run ≡ text front values ++ frames))))
+-- the text of the first fields of a sequence: what may stand behind its front are the first fields of its frames
+abbrev pub IsSequenceRun : List ℕ → Type 0
+IsSequenceRun = IsProperText front (λ f. IsRun f.count)
 
 -- the bytes are the text of this sequence: all fields before the frames, and so many frames
 pub record IsFileText (bytes : List ℕ) (f : FileValue) : Type 0 where
@@ -54,14 +44,9 @@ pub record IsFileText (bytes : List ℕ) (f : FileValue) : Type 0 where
   pub frames : AreFrameTexts f.parts texts
   pub whole : bytes ≡ text front values ++ texts
 
--- at is the length of the longest of these at the front of the bytes
-pub record IsLongestText (bytes : List ℕ) (at : ℕ) : Type 0 where
-  pub reached : (run : List ℕ) × IsProperText run × IsPrefix run bytes × (length run ≡ at)
-  pub longest : (run : List ℕ) → IsProperText run → IsPrefix run bytes → length run ≤ at
-
 -- Bytes that are no sequence are refused where the longest proper list of fields at their front ends.
 abbrev pub RefusedAtLongest : Type 0
-RefusedAtLongest = (bytes : List ℕ) (at : ℕ) → AreBytes bytes → read_file bytes ≡ Err at → IsLongestText bytes at
+RefusedAtLongest = (bytes : List ℕ) (at : ℕ) → AreBytes bytes → read_file bytes ≡ Err at → IsLongestText IsSequenceRun bytes at
 
 -- Bytes are a sequence exactly where they are its text.
 abbrev pub FoundAtText : Type 0

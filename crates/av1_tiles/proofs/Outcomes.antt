@@ -21,7 +21,8 @@ use Rattle.av1_tiles.specs.Validity.{AreTiles}
 use Rattle.av1_tiles.proofs.Covering.{lies, tile_at}
 use Rattle.av1_tiles.proofs.ReadFronts.{HasBounds, front_bounds}
 use Rattle.av1_tiles.proofs.Rectangles.{tile_width, tile_height, xdec_small, ydec_small}
-use Rattle.av1_tiles.proofs.Refusals.{clash, front_spelled, not_both, one_grid, one_reason}
+use Rattle.av1_plan.proofs.Parts.{clash}
+use Rattle.av1_tiles.proofs.Refusals.{front_spelled, not_both, one_grid, one_reason}
 
 -- ---- joined planes
 

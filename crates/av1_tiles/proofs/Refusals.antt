@@ -1,12 +1,13 @@
 -- Bytes are refused for one reason.
-use Rattle.std.proofs.Common.{◌≡◌, ℕ, Bool, true, false, List, length, [], Option, Some, None, Ok, Err, refl, sym, ap, subst, ◌∙◌, arith, inl, inr, cond, eqb}
+use Rattle.std.proofs.Common.{◌≡◌, ℕ, List, length, [], Option, Some, None, refl, sym, ap, subst, ◌∙◌, arith, inl, inr, eqb}
 use Rattle.std.proofs.lemmas.Bool.{cases_eq, cases_lt}
 use Rattle.av1_plan.specs.declared.error.Invalid.{Invalid}
-use Rattle.av1_plan.specs.Format.{Reading, on_ok, ended, read, start}
+use Rattle.av1_plan.specs.Format.{on_ok, ended, read, start}
 use Rattle.av1_plan.specs.Plan.{PlanValue}
 use Rattle.av1_plan.specs.Spelling.{IsSpelled}
 use Rattle.av1_plan.specs.Validity.{first_fault}
-use Rattle.av1_plan.proofs.Spelled.{bind_ok, ok, ok_is, one_text, read_spells}
+use Rattle.av1_plan.proofs.Parts.{clash, done_ok, err_is}
+use Rattle.av1_plan.proofs.Spelled.{bind_ok, ok_is, one_text, read_spells}
 use Rattle.av1_recon.proofs.Outcomes.{byte_fits, same_place}
 use Rattle.av1_tiles.specs.declared.error.TileFault.{TileFault}
 use Rattle.av1_tiles.specs.declared.error.TileFault.TheVariants as faults
@@ -19,17 +20,6 @@ use Rattle.av1_tiles.specs.Validity.{IsTile, IsRefusedTile}
 
 -- ---- grids
 
-pub clash : {A : Type 0} (x : A) (at : ℕ) → ok x ≡ Err at → ⊥
-clash x at e = cc
-
-err_is : {A : Type 0} (a b : ℕ) (r : Reading A) → r ≡ Err a → r ≡ Err b → a ≡ b
-err_is a b (Ok x) e d = absurd cc
-err_is a b (Err at) e d = cc
-
-ended_at : {A : Type 0} (b : Bool) (x y : A) (at : ℕ) → cond b (ok x) (Err at) ≡ ok y → x ≡ y
-ended_at true x y at e = ok_is x y e
-ended_at false x y at e = absurd cc
-
 -- what stands before the parts of a grid is spelled
 pub front_spelled : (bytes : List ℕ) (f : FileValue) → AreGrid bytes f → IsSpelled front f.front
 unfolding read_file
@@ -37,7 +27,7 @@ front_spelled bytes f grid =
     let (x, is, rest) = bind_ok (read front (start bytes)) (λ p. on_ok (read_parts (count_tiles p.0) ([], p.1)) (λ q. ended (record { front = p.0; parts = q.0 }, q.1))) f grid.read in
     let (y, parts, end) = bind_ok (read_parts (count_tiles x.0) ([], x.1)) (λ q. ended (record { front = x.0; parts = q.0 }, q.1)) f rest in
     let whole : FileValue = record { front = x.0; parts = y.0 } in
-    let same = ended_at (eqb (length y.1.rest) 0) whole f y.1.at end in
+    let same = (done_ok (eqb (length y.1.rest) 0) whole f y.1.at end).1 in
     let (values, spells, _) = read_spells front (start bytes) x.0 x.1 (byte_fits bytes grid.fits) is in
     let first : IsSpelled front x.0 = record { values = values; spells = spells } in
     subst (λ (v : FileValue). IsSpelled front v.front) same first

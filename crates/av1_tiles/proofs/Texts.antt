@@ -1,73 +1,18 @@
 -- Bytes that are no grid of tiles are refused where the longest proper list of fields at their front ends.
-use Rattle.std.proofs.Common.{◌≡◌, ◌⊎◌, inl, inr, zero, suc, ℕ, ◌+◌, ◌<◌, ◌≤◌, ◌^◌, Bool, true, false, cond, leb, eqb, List, [], ◌∷◌, ◌++◌, length, take, drop, Ok, Err, refl, sym, ap, subst, ◌∙◌, append_assoc, length-append, take-append-drop, arith, All}
+use Rattle.std.proofs.Common.{◌≡◌, ◌⊎◌, inl, inr, zero, suc, ℕ, ◌+◌, ◌<◌, ◌≤◌, ◌^◌, eqb, List, [], ◌∷◌, ◌++◌, length, Ok, Err, refl, sym, ap, subst, ◌∙◌, append_assoc, length-append, arith, All}
 use Rattle.std.specs.List.{flat_map}
-use Rattle.std.proofs.lemmas.Bool.{eqb-true, le-leb, leb-true}
-use Rattle.std.proofs.lemmas.List.{append-nil, take_at, drop_at, length-take, nil_from_length}
+use Rattle.std.proofs.lemmas.Bool.{eqb-true}
+use Rattle.std.proofs.lemmas.List.{append-nil, nil_from_length}
 use Rattle.std.proofs.lemmas.List.Elements.{All-nil, All-cons, All-head, All-tail}
-use Rattle.av1_plan.specs.Format.{four, any, Input, Reading, on_ok, read_field, read, read_part, ended, start}
+use Rattle.av1_plan.specs.Format.{four, Input, Reading, on_ok, read, read_part, ended, start}
 use Rattle.av1_plan.specs.Spelling.{text, IsPrefix}
-use Rattle.av1_plan.proofs.Fields.{AreBytes, AreBytes-drop, field_takes, field_again, field_fails, length-le}
-use Rattle.av1_plan.proofs.Spelled.{bind_ok, end, no_longer, ok, ok_is, reaches, read_again, read_spells}
+use Rattle.av1_plan.specs.Parts.{length_text, part_text, IsLongestText}
+use Rattle.av1_plan.proofs.Parts.{Parted, TakesPart, done_ok, err_at, fits_behind, front_refused, part_again, parted, stops_behind}
+use Rattle.av1_plan.proofs.Fields.{AreBytes, length-le}
+use Rattle.av1_plan.proofs.Spelled.{bind_ok, end, no_longer, ok_is, read_again, read_spells}
 use Rattle.av1_recon.proofs.Outcomes.{byte_fits}
 use Rattle.av1_tiles.specs.Grammar.{FrontValue, FileValue, count_tiles, front, read_parts, read_file}
-use Rattle.av1_tiles.proofs.Refusals.{clash}
-use Rattle.av1_tiles.specs.Texts.{length_text, part_text, IsRun, IsProperText, IsGridText, IsLongestText, FoundAtText, RefusedAtLongest}
-
--- ---- one part
-
--- what stands behind a length
-abbrev behind_length : ℕ × Input → Reading (List ℕ × Input)
-behind_length p = cond (leb p.0 (length p.1.rest)) (Ok (take p.0 p.1.rest, record { at = p.1.at + p.0; rest = drop p.0 p.1.rest })) (Err p.1.at)
-
--- a part was read
-record TakesPart (i : Input) (part : List ℕ) (j : Input) : Type 0 where
-  short : length part < 2 ^ 32
-  parts : i.rest ≡ part_text part ++ j.rest
-  at : j.at ≡ i.at + length (part_text part)
-  fits : AreBytes j.rest
-
--- no part was read: neither its length, or that alone
-record StopsAt (i : Input) (at : ℕ) : Type 0 where
-  run : List ℕ
-  is : (run ≡ []) ⊎ ((len : ℕ) × (len < 2 ^ 32) × (run ≡ length_text len))
-  front : IsPrefix run i.rest
-  len : i.at + length run ≡ at
-
--- what a reading of a part says
-abbrev Parted : Input → Reading (List ℕ × Input) → Type 0
-Parted i (Ok p) = TakesPart i p.0 p.1
-Parted i (Err at) = StopsAt i at
-
-enough : (i : Input) (n : ℕ) (j : Input) → n < 2 ^ 32 → i.rest ≡ length_text n ++ j.rest → j.at ≡ i.at + length (length_text n) → AreBytes j.rest → (b : Bool) → leb n (length j.rest) ≡ b
-    → Parted i (cond b (Ok (take n j.rest, record { at = j.at + n; rest = drop n j.rest })) (Err j.at))
-enough i n j short parts at fits true e =
-    let le : n ≤ length j.rest = leb-true n (length j.rest) e in
-    let len : length (take n j.rest) ≡ n = omega (arith, length-take n j.rest, le) in
-    record {
-      short = omega (arith, len, short);
-      parts = parts ∙ ap (λ l. length_text n ++ l) (sym (take-append-drop n j.rest)) ∙ sym (append_assoc (length_text n) (take n j.rest) (drop n j.rest)) ∙ ap (λ (m : ℕ). (length_text m ++ take n j.rest) ++ drop n j.rest) (sym len);
-      at = omega (arith, at, len, length-append (length_text (length (take n j.rest))) (take n j.rest), length-le four n, length-le four (length (take n j.rest)));
-      fits = AreBytes-drop n j.rest fits;
-    }
-enough i n j short parts at fits false e = record { run = length_text n; is = inr (n, short, refl); front = (j.rest, parts); len = sym at }
-
-parted : (i : Input) → AreBytes i.rest → Parted i (read_part i)
-unfolding read_part
-parted i fits = elim (read_field (any four) i) as (λ r. read_field (any four) i ≡ r → Parted i (on_ok r behind_length)) [
-  | Err at ↦ λ e. record { run = []; is = inl refl; front = (i.rest, refl); len = omega (arith, field_fails (any four) i at e) }
-  | Ok p ↦ λ e. (
-      let t = field_takes (any four) i p.0 p.1 fits e in
-      enough i p.0 p.1 t.admitted.fits t.parts t.at t.fits (leb p.0 (length p.1.rest)) refl)
-] refl
-
--- a part at the front is read
-part_again : (at : ℕ) (part more : List ℕ) → length part < 2 ^ 32 → read_part (record { at = at; rest = part_text part ++ more }) ≡ Ok (part, record { at = at + length (part_text part); rest = more })
-unfolding read_part
-part_again at part more short =
-    let n = length part in
-    let long : leb n (length (part ++ more)) ≡ true = le-leb _ _ (omega (arith, length-append part more)) in
-    let place : at + 4 + n ≡ at + length (part_text part) = omega (arith, length-append (length_text n) part, length-le four n) in
-    rw (append_assoc (length_text n) part more, field_again (any four) at n (part ++ more) (record { fits = short; admitted = refl }), long, take_at part more n refl, drop_at part more n refl, place) refl
+use Rattle.av1_tiles.specs.Texts.{IsRun, IsGridRun, IsGridText, FoundAtText, RefusedAtLongest}
 
 -- ---- parts, one after the other
 
@@ -93,20 +38,6 @@ run_reaches (suc n) before i fits = elim (read_part i) as (λ r. Parted i r → 
 
 from_here : (n : ℕ) (before : List (List ℕ)) (i : Input) → AreBytes i.rest → i.at ≤ stop (read_parts n (before, i))
 from_here n before i fits = omega (arith, (run_reaches n before i fits).3)
-
--- where a reading under a condition stopped
-err_at : {A : Type 0} (b : Bool) (x : A) (at d : ℕ) → cond b (ok x) (Err at) ≡ Err d → at ≡ d
-err_at true x at d e = absurd cc
-err_at false x at d e = cc
-
--- a reading that stops at a part does so behind a length that stands there
-stops_behind : (i : Input) (len : ℕ) (more : List ℕ) → len < 2 ^ 32 → i.rest ≡ length_text len ++ more → (at : ℕ) → read_part i ≡ Err at → i.at + 4 ≤ at
-unfolding read_part
-stops_behind i len more short parts at e =
-    let field : read_field (any four) i ≡ Ok (len, record { at = i.at + 4; rest = more }) =
-    ap (λ (l : List ℕ). read_field (any four) (record { at = i.at; rest = l })) parts ∙ field_again (any four) i.at len more (record { fits = short; admitted = refl }) in
-    let there : behind_length (len, record { at = i.at + 4; rest = more }) ≡ Err at = sym (ap (λ (r : Reading (ℕ × Input)). on_ok r behind_length) field) ∙ e in
-    omega (arith, err_at (leb len (length more)) (take len more, record { at = i.at + 4 + len; rest = drop len more }) (i.at + 4) at there)
 
 -- behind a length the reading comes at least as far
 past_length : (n : ℕ) (before : List (List ℕ)) (i : Input) (len : ℕ) (more : List ℕ) → AreBytes i.rest → len < 2 ^ 32 → i.rest ≡ length_text len ++ more → i.at + 4 ≤ stop (read_parts (suc n) (before, i))
@@ -141,30 +72,8 @@ rest_err : (f : FrontValue) (r : Reading (List (List ℕ) × Input)) (at : ℕ) 
 rest_err f (Ok p) at e = err_at (eqb (length p.1.rest) 0) (record { front = f; parts = p.0 }) p.1.at at e
 rest_err f (Err d) at e = cc
 
--- what stands before the parts couldn't be read
-front_refused : (bytes : List ℕ) (at d : ℕ) → AreBytes bytes → read front (start bytes) ≡ Err d → d ≡ at → IsLongestText bytes at
-front_refused bytes at d fits e same =
-    let (values, proper, prefix, len) = reaches front (start bytes) fits in
-    let came : end (read front (start bytes)) ≡ d = ap end e in
-    record {
-      reached = (text front values, inl (values, proper, refl), prefix, omega (arith, len, came, same));
-      longest = longest came;
-    }
-  where
-    longest : end (read front (start bytes)) ≡ d → (run : List ℕ) → IsProperText run → IsPrefix run bytes → length run ≤ at
-    longest came run (inl (values, proper, is)) (more, parts) =
-        omega (arith, came, same, ap length is, no_longer front (start bytes) values fits proper (more, parts ∙ ap (λ (l : List ℕ). l ++ more) is))
-    longest came run (inr (f, (values, spells, (others, proper, is)))) (more, parts) =
-        let whole : bytes ≡ text front values ++ (others ++ more) = parts ∙ ap (λ (l : List ℕ). l ++ more) is ∙ append_assoc (text front values) others more in
-        let again = ap (λ (l : List ℕ). read front (start l)) whole ∙ read_again front values f 0 (others ++ more) spells in
-        absurd (clash (f, _) d (sym again ∙ e))
-
-fits_behind : (bytes front_text rest : List ℕ) → AreBytes bytes → bytes ≡ front_text ++ rest → AreBytes rest
-fits_behind bytes front_text rest fits parts =
-    subst AreBytes (drop_at front_text rest (length front_text) refl) (AreBytes-drop (length front_text) (front_text ++ rest) (subst AreBytes parts fits))
-
 -- it was read, and then a part couldn't be, or bytes were left over
-parts_refused : (bytes : List ℕ) (at : ℕ) (f : FrontValue) (j : Input) → AreBytes bytes → read front (start bytes) ≡ Ok (f, j) → rest_of (f, j) ≡ Err at → IsLongestText bytes at
+parts_refused : (bytes : List ℕ) (at : ℕ) (f : FrontValue) (j : Input) → AreBytes bytes → read front (start bytes) ≡ Ok (f, j) → rest_of (f, j) ≡ Err at → IsLongestText IsGridRun bytes at
 parts_refused bytes at f j fits e rest =
     let (values, spells, parts) = read_spells front (start bytes) f j fits e in
     let read_is : read front (start bytes) ≡ Ok (f, record { at = 0 + length (text front values); rest = j.rest }) = ap (λ (l : List ℕ). read front (start l)) parts ∙ read_again front values f 0 j.rest spells in
@@ -184,7 +93,7 @@ parts_refused bytes at f j fits e rest =
     came : stop (read_parts (count_tiles f) ([], j)) ≡ at
     came = rest_err f (read_parts (count_tiles f) ([], j)) at rest
 
-    longest : AreBytes j.rest → (run : List ℕ) → IsProperText run → IsPrefix run bytes → length run ≤ at
+    longest : AreBytes j.rest → (run : List ℕ) → IsGridRun run → IsPrefix run bytes → length run ≤ at
     longest behind run (inl (values, proper, is)) (more, parts) =
         let front_end : end (read front (start bytes)) ≡ j.at = ap end e in
         omega (arith, front_end, came, ap length is, from_here (count_tiles f) [] j behind, no_longer front (start bytes) values fits proper (more, parts ∙ ap (λ (l : List ℕ). l ++ more) is))
@@ -199,8 +108,8 @@ parts_refused bytes at f j fits e rest =
 
 pub refused_at_longest : RefusedAtLongest
 unfolding read_file
-refused_at_longest bytes at fits e = elim (read front (start bytes)) as (λ r. read front (start bytes) ≡ r → on_ok r rest_of ≡ Err at → IsLongestText bytes at) [
-  | Err d ↦ λ is stopped. front_refused bytes at d (byte_fits bytes fits) is (stopped_at d stopped)
+refused_at_longest bytes at fits e = elim (read front (start bytes)) as (λ r. read front (start bytes) ≡ r → on_ok r rest_of ≡ Err at → IsLongestText IsGridRun bytes at) [
+  | Err d ↦ λ is stopped. front_refused front (λ f. IsRun (count_tiles f)) bytes at d (byte_fits bytes fits) is (stopped_at d stopped)
   | Ok p ↦ λ is rest. parts_refused bytes at p.0 p.1 (byte_fits bytes fits) is rest
 ] refl e
   where
@@ -208,10 +117,6 @@ refused_at_longest bytes at fits e = elim (read front (start bytes)) as (λ r. r
     stopped_at d h = cc
 
 -- ---- whole grids
-
-done_ok : {A : Type 0} (b : Bool) (x y : A) (at : ℕ) → cond b (ok x) (Err at) ≡ ok y → (b ≡ true) × (x ≡ y)
-done_ok true x y at e = (refl, ok_is x y e)
-done_ok false x y at e = absurd cc
 
 -- parts that were read behind others
 record AreTaken (n : ℕ) (before : List (List ℕ)) (i : Input) (all : List (List ℕ)) (j : Input) : Type 0 where

@@ -1,18 +1,10 @@
 -- How far bytes go along with a grid of tiles: the texts of lists of fields are compared with them, and nothing here reads.
-use Rattle.std.specs.Prelude.{◌≡◌, ◌⊎◌, zero, suc, ℕ, ◌<◌, ◌≤◌, ◌^◌, List, [], ◌++◌, length, All, Ok, Err}
+use Rattle.std.specs.Prelude.{◌≡◌, ◌⊎◌, zero, suc, ℕ, ◌<◌, ◌^◌, List, [], ◌++◌, length, All, Ok, Err}
 use Rattle.std.specs.List.{flat_map}
-use Rattle.std.specs.Int.{w32, to_le_bytes}
-use Rattle.av1_plan.specs.Spelling.{IsProper, Spells, text, IsPrefix}
+use Rattle.av1_plan.specs.Parts.{length_text, part_text, IsProperText, IsLongestText}
+use Rattle.av1_plan.specs.Spelling.{Spells, text}
 use Rattle.av1_streams.specs.Streams.{AreBytes}
-use Rattle.av1_tiles.specs.Grammar.{FrontValue, FileValue, count_tiles, front, read_file}
-
--- the length of a part, as a field
-abbrev pub length_text : ℕ → List ℕ
-length_text n = to_le_bytes w32 n
-
--- a part behind its length
-abbrev pub part_text : List ℕ → List ℕ
-part_text part = length_text (length part) ++ part
+use Rattle.av1_tiles.specs.Grammar.{FileValue, count_tiles, front, read_file}
 
 -- the text of the first fields of n parts: no field, or the length of a part alone, or a whole part and then the first fields of the others
 abbrev pub IsRun : ℕ → List ℕ → Type 0
@@ -20,11 +12,9 @@ IsRun zero run = run ≡ []
 IsRun (suc n) run =
     (run ≡ []) ⊎ ((len : ℕ) × (len < 2 ^ 32) × (run ≡ length_text len)) ⊎ ((part : List ℕ) × (length part < 2 ^ 32) × ((more : List ℕ) × IsRun n more × (run ≡ part_text part ++ more)))
 
--- the text of the first fields of a grid, each admitted after those before it: fields before the parts, or all of these and then fields of the parts
-abbrev pub IsProperText : List ℕ → Type 0
-IsProperText run =
-    ((values : List ℕ) × IsProper front values × (run ≡ text front values))
-    ⊎ ((f : FrontValue) × ((values : List ℕ) × Spells front values f × ((parts : List ℕ) × IsRun (count_tiles f) parts × (run ≡ text front values ++ parts))))
+-- the text of the first fields of a grid: what may stand behind its front are the first fields of its parts
+abbrev pub IsGridRun : List ℕ → Type 0
+IsGridRun = IsProperText front (λ f. IsRun (count_tiles f))
 
 -- the bytes are the text of this grid: all fields before the parts, and a part for each tile
 pub record IsGridText (bytes : List ℕ) (f : FileValue) : Type 0 where
@@ -34,14 +24,9 @@ pub record IsGridText (bytes : List ℕ) (f : FileValue) : Type 0 where
   pub short : All (λ part. length part < 2 ^ 32) f.parts
   pub whole : bytes ≡ text front values ++ flat_map part_text f.parts
 
--- at is the length of the longest of these at the front of the bytes
-pub record IsLongestText (bytes : List ℕ) (at : ℕ) : Type 0 where
-  pub reached : (run : List ℕ) × IsProperText run × IsPrefix run bytes × (length run ≡ at)
-  pub longest : (run : List ℕ) → IsProperText run → IsPrefix run bytes → length run ≤ at
-
 -- Bytes that are no grid are refused where the longest proper list of fields at their front ends.
 abbrev pub RefusedAtLongest : Type 0
-RefusedAtLongest = (bytes : List ℕ) (at : ℕ) → AreBytes bytes → read_file bytes ≡ Err at → IsLongestText bytes at
+RefusedAtLongest = (bytes : List ℕ) (at : ℕ) → AreBytes bytes → read_file bytes ≡ Err at → IsLongestText IsGridRun bytes at
 
 -- Bytes are a grid exactly where they are its text.
 abbrev pub FoundAtText : Type 0

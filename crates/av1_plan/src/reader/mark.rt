@@ -23,9 +23,10 @@ impl Header {
         self.version == 2 && 2 <= level && x + side <= self.width && y + side <= self.height
     }
 
-    /// Whether a node of side `4 << level` at this place may have this mark: 0 to 3, or 8 or 9 for four leaves.
+    /// Whether a node of side `4 << level` samples, whose upper left luma sample stands in column `x` and row `y`, may have this mark: 0 to 3,
+    /// or 8 or 9 for four leaves.
     #[tactic(auto, unfolding(crate::specs::Grammar::is_mark))]
-    fn is_mark(&self, level: u8, x: u16, y: u16, mark: u8) -> bool
+    pub fn is_mark(&self, level: u8, x: u16, y: u16, mark: u8) -> bool
         requires level { level ≤ 4 }
         requires x { x ≤ 4096 }
         requires y { y ≤ 4096 }

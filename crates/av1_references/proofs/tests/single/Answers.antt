@@ -1,4 +1,3 @@
-use Rattle.std.proofs.Common.{arith}
 use Rattle.av1_blocks.specs.Blocks.{block_width, block_height}
 use Rattle.av1_references.proofs.Filled.{filled_whole}
 use Rattle.av1_references.proofs.TestFrames.{served_short}

@@ -15,14 +15,14 @@ room c =
     let n = c.in-Some-Node in
     room_is n.level n.x n.y (length (later_parts c.args.self.now.parts)) (subst (λ (p : Part). has_room p (length (later_parts c.args.self.now.parts)) ≡ true) n.field-0-is n.ensures.room)
 
-pub admits_mark-requires-clause-level : goal.admits_mark-requires-clause-level
-admits_mark-requires-clause-level c = let r = room c in r.most
+pub is_mark-requires-clause-level : goal.is_mark-requires-clause-level
+is_mark-requires-clause-level c = let r = room c in r.most
 
-pub admits_mark-requires-clause-x : goal.admits_mark-requires-clause-x
-admits_mark-requires-clause-x c = let r = room c in omega (arith, r.x_within)
+pub is_mark-requires-clause-x : goal.is_mark-requires-clause-x
+is_mark-requires-clause-x c = let r = room c in omega (arith, r.x_within)
 
-pub admits_mark-requires-clause-y : goal.admits_mark-requires-clause-y
-admits_mark-requires-clause-y c = let r = room c in omega (arith, r.y_within)
+pub is_mark-requires-clause-y : goal.is_mark-requires-clause-y
+is_mark-requires-clause-y c = let r = room c in omega (arith, r.y_within)
 
 pub cut-requires-clause-level : goal.cut-requires-clause-level
 cut-requires-clause-level c =
@@ -54,5 +54,5 @@ returns-clause-told c = λ p t.
     let n = c.in-Some-Node in
     let r = room_is n.level n.x n.y (length (later_parts c.args.self.now.parts)) (subst (λ (p : Part). has_room p (length (later_parts c.args.self.now.parts)) ≡ true) n.field-0-is n.ensures.room) in
     let asked = sym n.ensures.value ∙ ap Some n.field-0-is in
-    let admitted : is_mark c.args.self.now.header n.level n.x n.y c.args.mark ≡ true = sym c.admits_mark.ensures.value ∙ c.if-not-admits_mark.false in
+    let admitted : is_mark c.args.self.now.header n.level n.x n.y c.args.mark ≡ true = sym c.is_mark.ensures.value ∙ c.if-not-is_mark.false in
     subst (λ (b : Building). Tells b p) (sym (returns-clause-given c)) (tells_mark (building c.args.self.now) p n.level n.x n.y c.args.mark t asked r.some (omega arith) admitted)
