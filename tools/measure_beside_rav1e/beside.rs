@@ -15,6 +15,8 @@ unsafe extern "C" {
     fn measure_transform_16(i: *const i32, n: usize, s: *mut u32, m: usize, size: u8, kind: u8, depth: usize, rounds: usize) -> u32;
     fn measure_put_8(i: *const u8, n: usize, s: *mut u32, m: usize, w: usize, h: usize, c: i32, r: i32, mode: u8, depth: usize, rounds: usize) -> u32;
     fn measure_put_16(i: *const u16, n: usize, s: *mut u32, m: usize, w: usize, h: usize, c: i32, r: i32, mode: u8, depth: usize, rounds: usize) -> u32;
+    fn measure_prepare_8(i: *const u8, n: usize, t: *mut i16, m: usize, w: usize, h: usize, c: i32, r: i32, mode: u8, depth: usize, rounds: usize) -> u32;
+    fn measure_prepare_16(i: *const u16, n: usize, t: *mut i16, m: usize, w: usize, h: usize, c: i32, r: i32, mode: u8, depth: usize, rounds: usize) -> u32;
     fn measure_average_8(a: *const i16, n: usize, b: *const i16, k: usize, s: *mut u32, m: usize, w: usize, h: usize, depth: usize, rounds: usize) -> u32;
     fn measure_average_16(a: *const i16, n: usize, b: *const i16, k: usize, s: *mut u32, m: usize, w: usize, h: usize, depth: usize, rounds: usize) -> u32;
 }
@@ -47,6 +49,14 @@ fn rav1e_put<T: Pixel>(input: &[T], sums: &mut [u32], w: usize, h: usize, c: i32
     }
     for (sum, v) in sums.iter_mut().zip(&plane.data) { let v: i32 = (*v).into(); *sum = v as u32; }
 }
+fn rav1e_prepare<T: Pixel>(input: &[T], tmp: &mut [i16], w: usize, h: usize, c: i32, r: i32, mode: u8, depth: usize, rounds: usize) {
+    use mc::FilterMode::*;
+    let mode = [REGULAR, SMOOTH, SHARP, BILINEAR][mode as usize];
+    let source = frame::Plane::<T>::from_slice(input, 192);
+    for _ in 0..rounds {
+        mc::prep_8tap(tmp, source.slice(frame::PlaneOffset { x: 16, y: 16 }), w, h, c, r, mode, mode, depth, CpuFeatureLevel);
+    }
+}
 fn rav1e_average<T: Pixel>(a: &[i16], b: &[i16], sums: &mut [u32], w: usize, h: usize, depth: usize, rounds: usize) {
     let mut plane = frame::Plane::from_slice(&vec![T::zero(); 128 * 128], 128);
     {
@@ -76,6 +86,7 @@ fn main() {
     let mut sums = vec![0u32; 128 * 128];
     // WHO transform SIZE TYPE DEPTH SPARSE ROUNDS
     // WHO put WIDTH HEIGHT FRACTION_ACROSS FRACTION_DOWN FILTER DEPTH ROUNDS
+    // WHO prepare WIDTH HEIGHT FRACTION_ACROSS FRACTION_DOWN FILTER DEPTH ROUNDS
     // WHO average WIDTH HEIGHT DEPTH ROUNDS
     let ours = a[1] == "ours";
     match a[2].as_str() {
@@ -100,6 +111,19 @@ fn main() {
                 unsafe { assert_eq!(measure(a.as_ptr(), a.len(), b.as_ptr(), b.len(), sums.as_mut_ptr(), sums.len(), w, h, depth, rounds), 0) }
             } else if depth == 8 { rav1e_average::<u8>(&a, &b, &mut sums, w, h, depth, rounds) }
             else { rav1e_average::<u16>(&a, &b, &mut sums, w, h, depth, rounds) }
+        }
+        "prepare" => {
+            let (w, h, c, r, mode, depth, rounds) = (n(3), n(4), n(5) as i32, n(6) as i32, n(7), n(8), n(9));
+            let mut s = 9u64;
+            let v: Vec<u16> = (0..192 * 192).map(|_| (next(&mut s) % (1 << depth)) as u16).collect();
+            let mut tmp = vec![0i16; 128 * 128];
+            if depth == 8 {
+                let v: Vec<u8> = v.iter().map(|x| *x as u8).collect();
+                if ours { unsafe { assert_eq!(measure_prepare_8(v.as_ptr(), v.len(), tmp.as_mut_ptr(), tmp.len(), w, h, c, r, mode as u8, depth, rounds), 0) } }
+                else { rav1e_prepare::<u8>(&v, &mut tmp, w, h, c, r, mode as u8, depth, rounds) }
+            } else if ours { unsafe { assert_eq!(measure_prepare_16(v.as_ptr(), v.len(), tmp.as_mut_ptr(), tmp.len(), w, h, c, r, mode as u8, depth, rounds), 0) } }
+            else { rav1e_prepare::<u16>(&v, &mut tmp, w, h, c, r, mode as u8, depth, rounds) }
+            for (sum, v) in sums.iter_mut().zip(&tmp) { *sum = *v as u32; }
         }
         _ => {
             let (w, h, c, r, mode, depth, rounds) = (n(3), n(4), n(5) as i32, n(6) as i32, n(7), n(8), n(9));

@@ -3,6 +3,7 @@
 
     tools/measure_beside_rav1e/measure.py RAV1E WORK transforms [--depth D] [--sparse] [SIZE..]
     tools/measure_beside_rav1e/measure.py RAV1E WORK motion [--depth D] [--filter N] [SIDE..]
+    tools/measure_beside_rav1e/measure.py RAV1E WORK prepare [--depth D] [--filter N] [SIDE..]
     tools/measure_beside_rav1e/measure.py RAV1E WORK average [--depth D] [SIDE..]
 
 RAV1E is the source of rav1e 0.8.1 (the folder that has src/), WORK a folder for what is built: delete it to build anew. It needs `rt`,
@@ -112,14 +113,14 @@ def calls_of(options):
             yield f"{side}x{side}", ["average", side, side, options.depth]
             continue
         for across, down in ((0, 0), (0, 4), (4, 0), (4, 4)):
-            yield f"{side}x{side} {across} {down}", ["put", side, side, across, down, options.filter, options.depth]
+            yield f"{side}x{side} {across} {down}", ["prepare" if options.what == "prepare" else "put", side, side, across, down, options.filter, options.depth]
 
 
 def main():
     parser = argparse.ArgumentParser(description=__doc__, formatter_class=argparse.RawDescriptionHelpFormatter)
     parser.add_argument("rav1e", type=pathlib.Path)
     parser.add_argument("work", type=pathlib.Path)
-    parser.add_argument("what", choices=("transforms", "motion", "average"))
+    parser.add_argument("what", choices=("transforms", "motion", "prepare", "average"))
     parser.add_argument("sizes", nargs="*")
     parser.add_argument("--depth", type=int, choices=(8, 10, 12), default=8)
     parser.add_argument("--sparse", action="store_true", help="ten coefficients in a corner")

@@ -132,7 +132,9 @@ pub(crate) fn put_copy<T: Pixel>(
     ensures painted { dst.new ≡ painted dst.old width height (λ r c _. T.pixel (samples_from T.num corner.entry (c + 3) (r + 3))) }
     ensures fits { InStorage dst.new }
 {
-    if width == 4 {
+    if width == 4 && height == 4 {
+        put_samples_of::<T, 4>(dst, corner, 4);
+    } else if width == 4 {
         put_samples_of::<T, 4>(dst, corner, height);
     } else if width == 8 {
         put_samples_of::<T, 8>(dst, corner, height);
