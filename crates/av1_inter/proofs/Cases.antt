@@ -4,7 +4,7 @@ use Rattle.std.specs.Int.Signed.{shr_z}
 use Rattle.std.proofs.lemmas.Int.{ints}
 use Rattle.av1_frame.specs.Arithmetic.{clip, round_shift}
 use Rattle.av1_inter.proofs.Constants.{rounded_back}
-use Rattle.av1_inter.specs.Motion.{bias, prepared, down_intermediate, entry, intermediate_bits, intermediate, single, sum_to, weighted}
+use Rattle.av1_inter.specs.Motion.{bias, prepared, down_intermediate, down_samples, entry, intermediate_bits, intermediate, single, sum_to, weighted}
 use Rattle.av1_inter.specs.Places.{AreWithinDepth, corner_of, IsStoredFrom, samples_from}
 use Rattle.av1_blocks.specs.Depths.{IsDepth}
 use Rattle.av1_frame.specs.declared.plane_slice.PlaneSlice.{PlaneSlice}
@@ -79,6 +79,20 @@ module _ (depth : ℕ) (is_depth : IsDepth depth) where
   single_rows (suc j) zero across down samples r c h e = refl
   single_rows fx (suc k) across down samples r c h e = absurd (omega (arith, e))
 
+  -- a block that is filtered along its rows
+  pub single_along : (fx fy : ℕ) (across down : List ℤ) (samples : ℕ → ℕ → ℕ) (r c : ℕ) → fx ≢ 0 → fy ≡ 0
+      → clip depth (round_shift (intermediate depth 1 across samples (r + 3) c) (intermediate_bits depth)) ≡ single depth fx fy across down samples r c
+  single_along zero fy across down samples r c h e = absurd (h refl)
+  single_along (suc j) zero across down samples r c h e = refl
+  single_along (suc j) (suc k) across down samples r c h e = absurd (omega (arith, e))
+
+  -- a block that is filtered down its columns alone
+  pub single_alone : (fx fy : ℕ) (across down : List ℤ) (samples : ℕ → ℕ → ℕ) (r c : ℕ) → fx ≡ 0 → fy ≢ 0
+      → clip depth (round_shift (down_samples down samples r c) 7) ≡ single depth fx fy across down samples r c
+  single_alone fx zero across down samples r c e h = absurd (h refl)
+  single_alone zero (suc k) across down samples r c e h = refl
+  single_alone (suc j) (suc k) across down samples r c e h = absurd (omega (arith, e))
+
   -- a block that is not filtered
   pub single_copy : (fx fy : ℕ) (across down : List ℤ) (samples : ℕ → ℕ → ℕ) (r c : ℕ) → fx ≡ 0 → fy ≡ 0 → samples (c + 3) (r + 3) ≡ single depth fx fy across down samples r c
   single_copy zero zero across down samples r c h e = refl
@@ -90,6 +104,13 @@ module _ (depth : ℕ) (is_depth : IsDepth depth) where
   prepared_down fx zero across down samples r c h = absurd (h refl)
   prepared_down zero (suc k) across down samples r c h = ap (λ z. z -ℤ bias depth) (prepare_down depth is_depth down (λ t. samples (c + 3) (r + t)))
   prepared_down (suc j) (suc k) across down samples r c h = refl
+
+  -- a block that is prepared down its columns alone
+  pub prepared_alone : (fx fy : ℕ) (across down : List ℤ) (samples : ℕ → ℕ → ℕ) (r c : ℕ) → fx ≡ 0 → fy ≢ 0
+      → round_shift (down_samples down samples r c) (7 - intermediate_bits depth) -ℤ bias depth ≡ prepared depth fx fy across down samples r c
+  prepared_alone fx zero across down samples r c e h = absurd (h refl)
+  prepared_alone zero (suc k) across down samples r c e h = refl
+  prepared_alone (suc j) (suc k) across down samples r c e h = absurd (omega (arith, e))
 
   -- a block that is prepared along its rows alone, or not filtered
   pub prepared_rows : (fx fy : ℕ) (across down : List ℤ) (samples : ℕ → ℕ → ℕ) (r c : ℕ) → fy ≡ 0 → intermediate depth fx across samples (r + 3) c -ℤ bias depth ≡ prepared depth fx fy across down samples r c

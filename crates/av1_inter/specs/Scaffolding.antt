@@ -29,6 +29,12 @@ pub record IsInner (taps : List ℤ) : Type 0 where
   pub first : entry taps 0 ≡ pos 0
   pub last : entry taps 7 ≡ pos 0
 
+-- the outer four of eight weights are 0, as those of every filter for sides up to 4 are
+pub record IsShort (taps : List ℤ) : Type 0 where
+  pub inner : IsInner taps
+  pub second : entry taps 1 ≡ pos 0
+  pub seventh : entry taps 6 ≡ pos 0
+
 -- twice each weight
 abbrev pub doubled : List ℤ → List ℤ
 doubled halves = map (λ h. pos 2 *ℤ h) halves

@@ -2,7 +2,7 @@
 //!
 //! AV1 specification: block inter prediction process.
 
-ghost use Rattle.std.specs.Prelude.{◌≡◌, ℕ, ◌+◌, ◌-◌, ◌*◌, ◌^◌, ◌≤◌, ◌<◌, pos, length, map, slice_index};
+ghost use Rattle.std.specs.Prelude.{◌≡◌, true, ℕ, ◌+◌, ◌-◌, ◌*◌, ◌^◌, ◌≤◌, ◌<◌, pos, length, map, slice_index};
 ghost use Rattle.av1_frame.specs.Areas.{AreRows};
 ghost use Rattle.av1_frame.specs.Arithmetic.{clip, round_shift};
 ghost use Rattle.av1_frame.specs.Samples.{paint};
@@ -10,10 +10,10 @@ ghost use Rattle.av1_frame.specs.Regions.{InStorage, painted};
 ghost use Rattle.av1_inter.specs.Motion.{down_samples, intermediate_bits, weighted};
 ghost use Rattle.av1_inter.specs.Places.{AreWithinDepth, IsStoredFrom, samples_from};
 ghost use Rattle.av1_blocks.specs.Depths.{IsDepth};
-ghost use Rattle.av1_inter.specs.Scaffolding.{IsFilter};
+ghost use Rattle.av1_inter.specs.Scaffolding.{IsFilter, IsShort};
 
 use crate::lines::{filter_along, sums_apart};
-use crate::narrow::{half_sums, halves_of, put_column_sums, put_row_sums};
+use crate::narrow::{half_sums, halves_for, put_column_sums, put_row_sums};
 use crate::put::put_row;
 use crate::rounding::intermediate_bits;
 use av1_blocks::SUBPEL_FILTER_SIZE;
@@ -21,9 +21,9 @@ use av1_frame::{Pixel, PlaneRegionMut, PlaneSlice, StoredArea};
 
 /// The rectangle's samples become sums down the columns of `source` from the fourth on, whose rows stand `source_stride` apart: those of
 /// row r of the rows r to r + 7.
-#[inline(never)]
+#[inline(always)]
 #[tactic(auto, using(av1_frame::proofs::Paint::row_starts_within, av1_frame::proofs::Paint::row_within, av1_frame::proofs::Paint::length_paint, av1_frame::proofs::Paint::paint_none))]
-fn sum_columns<T: Pixel, const N: usize>(
+fn sum_columns<T: Pixel, const N: usize, const SHORT: bool>(
     samples: &mut [T],
     stride: usize,
     area: StoredArea,
@@ -32,6 +32,7 @@ fn sum_columns<T: Pixel, const N: usize>(
     down: &[i32; SUBPEL_FILTER_SIZE],
 )
     requires filter { IsFilter down.now }
+    requires weights { SHORT ≡ true → IsShort down.now }
     requires rows { AreRows stride area (length samples.old) }
     requires width { area.width ≡ N }
     requires short { N ≤ 128 }
@@ -40,7 +41,7 @@ fn sum_columns<T: Pixel, const N: usize>(
     requires bytes { (r c : ℕ) → r < area.height + 7 → c < N + 7 → slice_index (map T.num source.now) (r * source_stride + c) < 256 }
     ensures { samples.new ≡ paint stride area (λ r c _. T.pixel (clip 8 (round_shift (weighted down.now (λ t. pos (slice_index (map T.num source.now) ((r + t) * source_stride + (c + 3))))) 7))) samples.old }
 {
-    let halves = halves_of(down);
+    let halves = halves_for::<SHORT>(down);
     for r in 0..area.height {
         let sums = half_sums::<T, N>(source, r * source_stride + 3, source_stride, &halves);
         let (_, row) = samples.split_at_mut((area.y + r) * stride + area.x);
@@ -78,9 +79,9 @@ fn sum_wide_columns<T: Pixel, const N: usize>(
 }
 
 /// The rectangle's samples become sums along the rows of `source` from the fourth on: those of column c of the columns c to c + 7.
-#[inline(never)]
+#[inline(always)]
 #[tactic(auto, using(av1_frame::proofs::Paint::row_starts_within, av1_frame::proofs::Paint::row_within, av1_frame::proofs::Paint::length_paint, av1_frame::proofs::Paint::paint_none))]
-fn sum_rows<T: Pixel, const N: usize>(
+fn sum_rows<T: Pixel, const N: usize, const SHORT: bool>(
     samples: &mut [T],
     stride: usize,
     area: StoredArea,
@@ -89,6 +90,7 @@ fn sum_rows<T: Pixel, const N: usize>(
     across: &[i32; SUBPEL_FILTER_SIZE],
 )
     requires filter { IsFilter across.now }
+    requires weights { SHORT ≡ true → IsShort across.now }
     requires rows { AreRows stride area (length samples.old) }
     requires width { area.width ≡ N }
     requires short { N ≤ 128 }
@@ -97,7 +99,7 @@ fn sum_rows<T: Pixel, const N: usize>(
     requires bytes { (r c : ℕ) → r < area.height + 7 → c < N + 7 → slice_index (map T.num source.now) (r * source_stride + c) < 256 }
     ensures { samples.new ≡ paint stride area (λ r c _. T.pixel (clip 8 (round_shift (round_shift (weighted across.now (λ t. pos (slice_index (map T.num source.now) ((r + 3) * source_stride + (c + t))))) 3) 4))) samples.old }
 {
-    let halves = halves_of(across);
+    let halves = halves_for::<SHORT>(across);
     for r in 0..area.height {
         let sums = half_sums::<T, N>(source, (r + 3) * source_stride, 1, &halves);
         let (_, row) = samples.split_at_mut((area.y + r) * stride + area.x);
@@ -137,14 +139,16 @@ fn sum_wide_rows<T: Pixel, const N: usize>(
     }
 }
 
-/// A strip of samples of 8 bits that is filtered down its columns alone.
-fn put_narrow_columns<T: Pixel, const N: usize>(
+/// A strip of samples of 8 bits that is filtered down its columns alone, by a filter for sides up to 4 where `SHORT` is true.
+#[inline(always)]
+pub(crate) fn put_narrow_columns<T: Pixel, const N: usize, const SHORT: bool>(
     dst: &mut PlaneRegionMut<'_, T>,
     corner: PlaneSlice<'_, T>,
     height: usize,
     down: &[i32; SUBPEL_FILTER_SIZE],
 )
     requires filter { IsFilter down.now }
+    requires weights { SHORT ≡ true → IsShort down.now }
     requires fits { InStorage dst.old }
     requires columns { N ≤ dst.old.area.width }
     requires rows { height ≤ dst.old.area.height }
@@ -157,7 +161,7 @@ fn put_narrow_columns<T: Pixel, const N: usize>(
 {
     let stride = dst.plane_cfg.stride;
     let area = dst.corner(N, height);
-    sum_columns::<T, N>(
+    sum_columns::<T, N, SHORT>(
         dst.samples_mut(),
         stride,
         area,
@@ -200,6 +204,7 @@ fn put_wide_columns<T: Pixel, const N: usize>(
 }
 
 /// A strip that is filtered down its columns alone.
+#[inline(never)]
 pub(crate) fn put_columns_alone<T: Pixel, const N: usize>(
     dst: &mut PlaneRegionMut<'_, T>,
     corner: PlaneSlice<'_, T>,
@@ -220,20 +225,22 @@ pub(crate) fn put_columns_alone<T: Pixel, const N: usize>(
     ensures fits { InStorage dst.new }
 {
     if bit_depth == 8 {
-        put_narrow_columns::<T, N>(dst, corner, height, down);
+        put_narrow_columns::<T, N, false>(dst, corner, height, down);
     } else {
         put_wide_columns::<T, N>(dst, corner, height, down, bit_depth);
     }
 }
 
-/// A strip of samples of 8 bits that is filtered along its rows alone.
-fn put_narrow_rows<T: Pixel, const N: usize>(
+/// A strip of samples of 8 bits that is filtered along its rows alone, by a filter for sides up to 4 where `SHORT` is true.
+#[inline(always)]
+pub(crate) fn put_narrow_rows<T: Pixel, const N: usize, const SHORT: bool>(
     dst: &mut PlaneRegionMut<'_, T>,
     corner: PlaneSlice<'_, T>,
     height: usize,
     across: &[i32; SUBPEL_FILTER_SIZE],
 )
     requires filter { IsFilter across.now }
+    requires weights { SHORT ≡ true → IsShort across.now }
     requires fits { InStorage dst.old }
     requires columns { N ≤ dst.old.area.width }
     requires rows { height ≤ dst.old.area.height }
@@ -246,7 +253,7 @@ fn put_narrow_rows<T: Pixel, const N: usize>(
 {
     let stride = dst.plane_cfg.stride;
     let area = dst.corner(N, height);
-    sum_rows::<T, N>(
+    sum_rows::<T, N, SHORT>(
         dst.samples_mut(),
         stride,
         area,
@@ -290,6 +297,7 @@ fn put_wide_rows<T: Pixel, const N: usize>(
 }
 
 /// A strip that is filtered along its rows alone.
+#[inline(never)]
 pub(crate) fn put_rows_alone<T: Pixel, const N: usize>(
     dst: &mut PlaneRegionMut<'_, T>,
     corner: PlaneSlice<'_, T>,
@@ -310,7 +318,7 @@ pub(crate) fn put_rows_alone<T: Pixel, const N: usize>(
     ensures fits { InStorage dst.new }
 {
     if bit_depth == 8 {
-        put_narrow_rows::<T, N>(dst, corner, height, across);
+        put_narrow_rows::<T, N, false>(dst, corner, height, across);
     } else {
         put_wide_rows::<T, N>(dst, corner, height, across, bit_depth);
     }

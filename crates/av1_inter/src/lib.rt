@@ -37,6 +37,7 @@ mod predict;
 mod prepare;
 mod put;
 mod rounding;
+mod square;
 mod strip;
 #[cfg(test)]
 mod tests;

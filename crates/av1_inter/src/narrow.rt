@@ -5,25 +5,71 @@
 //! AV1 specification: block inter prediction process.
 
 ghost use Rattle.std.specs.Prelude.{◌≡◌, true, ℕ, ◌+◌, ◌*◌, ◌≤◌, ◌<◌, pos, length, map, slice_index};
+ghost use Rattle.std.specs.Int.{int_shr};
 ghost use Rattle.av1_frame.specs.Arithmetic.{clip, round_shift};
 ghost use Rattle.av1_frame.specs.Samples.{paint_row};
 ghost use Rattle.av1_inter.specs.Motion.{entry, weighted};
-ghost use Rattle.av1_inter.specs.Scaffolding.{Between, doubled, IsFilter, IsInner};
+ghost use Rattle.av1_inter.specs.Scaffolding.{Between, doubled, IsFilter, IsInner, IsShort};
 
 use av1_blocks::SUBPEL_FILTER_SIZE;
 use av1_frame::Pixel;
 
+/// Half of a weight.
+#[inline(always)]
+fn half_of(taps: &[i32; SUBPEL_FILTER_SIZE], t: usize) -> i16
+    requires filter { IsFilter taps.now }
+    requires weight { t < 8 }
+    ensures { result ≡ int_shr (entry taps.now t) 1 }
+{
+    (taps[t] >> 1) as i16
+}
+
 /// Half of each weight.
 #[inline(always)]
-pub(crate) fn halves_of(taps: &[i32; SUBPEL_FILTER_SIZE]) -> [i16; SUBPEL_FILTER_SIZE]
+fn halves_of(taps: &[i32; SUBPEL_FILTER_SIZE]) -> [i16; SUBPEL_FILTER_SIZE]
     requires { IsFilter taps.now }
     ensures { doubled result ≡ taps.now }
 {
     let mut halves = [0; SUBPEL_FILTER_SIZE];
     for t in 0..SUBPEL_FILTER_SIZE {
-        halves[t] = (taps[t] >> 1) as i16;
+        halves[t] = half_of(taps, t);
     }
     halves
+}
+
+/// Half of each weight of a filter for sides up to 4. The compiler sees which are 0, so that sums have no products for these.
+#[inline(always)]
+fn short_halves_of(taps: &[i32; SUBPEL_FILTER_SIZE]) -> [i16; SUBPEL_FILTER_SIZE]
+    requires filter { IsFilter taps.now }
+    requires short { IsShort taps.now }
+    ensures { doubled result ≡ taps.now }
+{
+    [
+        0,
+        0,
+        half_of(taps, 2),
+        half_of(taps, 3),
+        half_of(taps, 4),
+        half_of(taps, 5),
+        0,
+        0,
+    ]
+}
+
+/// Half of each weight, of a filter for sides up to 4 where `SHORT` is true.
+#[inline(always)]
+pub(crate) fn halves_for<const SHORT: bool>(
+    taps: &[i32; SUBPEL_FILTER_SIZE],
+) -> [i16; SUBPEL_FILTER_SIZE]
+    requires filter { IsFilter taps.now }
+    requires short { SHORT ≡ true → IsShort taps.now }
+    ensures { doubled result ≡ taps.now }
+{
+    if SHORT {
+        short_halves_of(taps)
+    } else {
+        halves_of(taps)
+    }
 }
 
 /// The sum of eight samples, each times its halved weight.

@@ -2,19 +2,19 @@
 //!
 //! AV1 specification: block inter prediction process, with the rounding of compound prediction.
 
-ghost use Rattle.std.specs.Prelude.{◌≡◌, ℕ, ◌+◌, ◌*◌, ◌^◌, ◌≤◌, ◌<◌, pos, ◌-ℤ◌, ◌≤ℤ◌, ◌<ℤ◌, length, unsigned_abs, FitsSigned};
+ghost use Rattle.std.specs.Prelude.{◌≡◌, ℕ, ◌+◌, ◌-◌, ◌*◌, ◌^◌, ◌≤◌, ◌<◌, pos, ◌-ℤ◌, ◌≤ℤ◌, ◌<ℤ◌, length, unsigned_abs, FitsSigned};
 ghost use Rattle.std.specs.Int.{w16};
 ghost use Rattle.av1_frame.specs.Arithmetic.{round_shift};
 ghost use Rattle.av1_inter.specs.Filters.{filter_of};
-ghost use Rattle.av1_inter.specs.Motion.{bias, down_intermediate, entry, intermediate, prepared};
+ghost use Rattle.av1_inter.specs.Motion.{bias, down_intermediate, down_samples, entry, intermediate, intermediate_bits, prepared};
 ghost use Rattle.av1_inter.specs.Places.{AreWithinDepth, corner_of, IsStoredFrom, samples_from};
 ghost use Rattle.av1_blocks.specs.Depths.{IsDepth};
 ghost use Rattle.av1_inter.specs.Scaffolding.{IsBeside, IsFilter, IsStripWidth, IsWithin};
 
 use crate::filter::{Filter, get_filter};
-use crate::lines::filter_horizontal;
-use crate::rounding::prep_bias;
-use crate::strip::strip_width;
+use crate::lines::{filter_horizontal, sums_apart};
+use crate::rounding::{intermediate_bits, prep_bias};
+use crate::strip::{is_one_strip, strip_width};
 use crate::window::{keep_first_rows, next_sums};
 use av1_blocks::{FilterMode, SUBPEL_FILTER_SIZE};
 use av1_frame::{Pixel, PlaneSlice, round_shift};
@@ -43,7 +43,7 @@ fn prepare_row<const N: usize>(
 }
 
 /// A strip whose row fraction is 0: its rows are filtered along themselves.
-#[inline(never)]
+#[inline(always)]
 fn prepare_rows<T: Pixel, const N: usize>(
     tmp: &mut [i16],
     corner: PlaneSlice<'_, T>,
@@ -71,6 +71,62 @@ fn prepare_rows<T: Pixel, const N: usize>(
         let values = filter_horizontal::<T, N>(corner.row(r + 3), &across, bit_depth);
         prepare_row::<N>(tmp, r * width + start, &values, 0, bit_depth);
     }
+}
+
+/// The same, where its rows are filtered.
+#[inline(never)]
+fn prepare_filtered<T: Pixel, const N: usize>(
+    tmp: &mut [i16],
+    corner: PlaneSlice<'_, T>,
+    start: usize,
+    width: usize,
+    height: usize,
+    across: &Filter,
+    bit_depth: usize,
+)
+    requires across_filter { IsFilter across.now.taps }
+    requires tmp_long { height * width ≤ length tmp.old }
+    requires columns { start + N ≤ width }
+    requires short { N ≤ 128 }
+    requires wide { width ≤ 128 }
+    requires low { height ≤ 128 }
+    requires stored { IsStoredFrom corner (N + 7) (height + 7) }
+    requires depths { IsDepth bit_depth }
+    requires within { AreWithinDepth bit_depth (samples_from T.num corner) (N + 7) (height + 7) }
+    ensures value { (r c : ℕ) → r < height → c < N → entry tmp.new (r * width + start + c) ≡ intermediate bit_depth across.now.fraction across.now.taps (samples_from T.num corner.entry) (r + 3) c -ℤ bias bit_depth }
+    ensures others { (i : ℕ) → ((r : ℕ) → r < height → IsBeside (r * width + start) N i) → entry tmp.new i ≡ entry tmp.old i }
+{
+    prepare_rows::<T, N>(tmp, corner, start, width, height, across, bit_depth);
+}
+
+/// The same, where they are not: the compiler sees that no weight is read.
+#[inline(never)]
+fn prepare_copy<T: Pixel, const N: usize>(
+    tmp: &mut [i16],
+    corner: PlaneSlice<'_, T>,
+    start: usize,
+    width: usize,
+    height: usize,
+    across: &Filter,
+    bit_depth: usize,
+)
+    requires across_filter { IsFilter across.now.taps }
+    requires tmp_long { height * width ≤ length tmp.old }
+    requires columns { start + N ≤ width }
+    requires short { N ≤ 128 }
+    requires wide { width ≤ 128 }
+    requires low { height ≤ 128 }
+    requires stored { IsStoredFrom corner (N + 7) (height + 7) }
+    requires depths { IsDepth bit_depth }
+    requires within { AreWithinDepth bit_depth (samples_from T.num corner) (N + 7) (height + 7) }
+    ensures value { (r c : ℕ) → r < height → c < N → entry tmp.new (r * width + start + c) ≡ intermediate bit_depth 0 across.now.taps (samples_from T.num corner.entry) (r + 3) c -ℤ bias bit_depth }
+    ensures others { (i : ℕ) → ((r : ℕ) → r < height → IsBeside (r * width + start) N i) → entry tmp.new i ≡ entry tmp.old i }
+{
+    let across = Filter {
+        fraction: 0,
+        taps: across.taps,
+    };
+    prepare_rows::<T, N>(tmp, corner, start, width, height, &across, bit_depth);
 }
 
 /// A strip whose row fraction is not 0: rows in the intermediate bits are filtered down its columns.
@@ -108,6 +164,40 @@ fn prepare_columns<T: Pixel, const N: usize>(
     }
 }
 
+/// A strip that is filtered down its columns alone, read straight from the reference.
+#[inline(never)]
+fn prepare_columns_alone<T: Pixel, const N: usize>(
+    tmp: &mut [i16],
+    corner: PlaneSlice<'_, T>,
+    start: usize,
+    width: usize,
+    height: usize,
+    down: &[i32; SUBPEL_FILTER_SIZE],
+    bit_depth: usize,
+)
+    requires filter { IsFilter down.now }
+    requires tmp_long { height * width ≤ length tmp.old }
+    requires columns { start + N ≤ width }
+    requires short { N ≤ 128 }
+    requires wide { width ≤ 128 }
+    requires low { height ≤ 128 }
+    requires stored { IsStoredFrom corner (N + 7) (height + 7) }
+    requires depths { IsDepth bit_depth }
+    requires within { AreWithinDepth bit_depth (samples_from T.num corner) (N + 7) (height + 7) }
+    ensures value { (r c : ℕ) → r < height → c < N → entry tmp.new (r * width + start + c) ≡ round_shift (down_samples down.now (samples_from T.num corner.entry) r c) (7 - intermediate_bits bit_depth) -ℤ bias bit_depth }
+    ensures others { (i : ℕ) → ((r : ℕ) → r < height → IsBeside (r * width + start) N i) → entry tmp.new i ≡ entry tmp.old i }
+{
+    // A copy of its own can't be what is written, so its weights stay in registers.
+    let down = *down;
+    let bits = 7 - intermediate_bits(bit_depth);
+    let source = corner.samples();
+    let stride = corner.stride();
+    for r in 0..height {
+        let sums = sums_apart::<T, N>(source, r * stride + 3, stride, &down);
+        prepare_row::<N>(tmp, r * width + start, &sums, bits, bit_depth);
+    }
+}
+
 /// A strip of `N` columns, with or without a filter down its columns.
 fn prepare_block<T: Pixel, const N: usize>(
     tmp: &mut [i16],
@@ -132,10 +222,15 @@ fn prepare_block<T: Pixel, const N: usize>(
     ensures value { (r c : ℕ) → r < height → c < N → entry tmp.new (r * width + start + c) ≡ prepared bit_depth across.now.fraction down.now.fraction across.now.taps down.now.taps (samples_from T.num corner.entry) r c }
     ensures others { (i : ℕ) → ((r : ℕ) → r < height → IsBeside (r * width + start) N i) → entry tmp.new i ≡ entry tmp.old i }
 {
-    if down.fraction != 0 {
-        prepare_columns::<T, N>(tmp, corner, start, width, height, across, down, bit_depth);
+    if down.fraction == 0 && across.fraction == 0 {
+        prepare_copy::<T, N>(tmp, corner, start, width, height, across, bit_depth);
+    } else if down.fraction == 0 {
+        prepare_filtered::<T, N>(tmp, corner, start, width, height, across, bit_depth);
+    } else if across.fraction == 0 {
+        let taps = &down.taps;
+        prepare_columns_alone::<T, N>(tmp, corner, start, width, height, taps, bit_depth);
     } else {
-        prepare_rows::<T, N>(tmp, corner, start, width, height, across, bit_depth);
+        prepare_columns::<T, N>(tmp, corner, start, width, height, across, down, bit_depth);
     }
 }
 
@@ -231,9 +326,11 @@ fn prepare_strips<T: Pixel>(
     ensures value { (r c : ℕ) → r < height → c < width → entry tmp.new (r * width + c) ≡ prepared bit_depth across.now.fraction down.now.fraction across.now.taps down.now.taps (samples_from T.num corner.entry) r c }
     ensures others { (i : ℕ) → height * width ≤ i → entry tmp.new i ≡ entry tmp.old i }
 {
+    // Sums of 32 bits for 32 columns at once don't stay in registers.
+    let wide = down.fraction == 0;
     let mut start = 0;
     while start < width {
-        let columns = strip_width(width - start, true);
+        let columns = strip_width(width - start, wide);
         prepare_strip(
             tmp, corner, start, columns, width, height, across, down, bit_depth,
         );
@@ -272,5 +369,11 @@ pub fn prep_8tap<T: Pixel>(
     let across = get_filter(mode_x, col_frac, width);
     let down = get_filter(mode_y, row_frac, height);
     let corner = src.go_left(3).go_up(3);
-    prepare_strips(tmp, corner, width, height, &across, &down, bit_depth);
+    if is_one_strip(width) {
+        prepare_columns_of(
+            tmp, corner, 0, width, width, height, &across, &down, bit_depth,
+        );
+    } else {
+        prepare_strips(tmp, corner, width, height, &across, &down, bit_depth);
+    }
 }

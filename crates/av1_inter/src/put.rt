@@ -17,6 +17,7 @@ use crate::copies::put_copy;
 use crate::filter::{Filter, get_filter};
 use crate::lines::filter_horizontal;
 use crate::rounding::{greatest, intermediate_bits};
+use crate::square::{is_square, put_square};
 use crate::strip::{is_one_strip, strip_width};
 use crate::window::{keep_first_rows, next_sums};
 use av1_blocks::{FilterMode, SUBPEL_FILTER_SIZE};
@@ -288,7 +289,7 @@ fn put_strips<T: Pixel>(
 }
 
 /// A block that is filtered, at once where it is one strip.
-fn put_filtered<T: Pixel>(
+pub(crate) fn put_filtered<T: Pixel>(
     dst: &mut PlaneRegionMut<'_, T>,
     corner: PlaneSlice<'_, T>,
     width: usize,
@@ -351,7 +352,9 @@ pub fn put_8tap<T: Pixel>(
     ensures fits { InStorage dst.new }
 {
     let corner = src.go_left(3).go_up(3);
-    if col_frac == 0 && row_frac == 0 {
+    if is_square(width, height, bit_depth) {
+        put_square(dst, corner, mode_x, mode_y, col_frac, row_frac);
+    } else if col_frac == 0 && row_frac == 0 {
         put_copy(dst, corner, width, height);
     } else {
         let across = get_filter(mode_x, col_frac, width);

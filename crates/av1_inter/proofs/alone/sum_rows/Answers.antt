@@ -18,8 +18,8 @@ loop-r-preserved g c =
     let value = λ (q t : ℕ). pos (slice_index (map g.T.Pixel.num c.args.source.now) ((r + 3) * s + (q + t))) in
     row_painted_rest c.args.stride c.args.area r _ _ c.loop-r.samples _ _ _ c.requires.rows c.loop-r-test.true c.loop-r.invariant rows.front rows.back
     (c.put_row_sums.ensures ∙ paint_row_same g.row.N _ (λ q _. g.T.Pixel.pixel (clip 8 (round_shift (round_shift (weighted c.args.across.now (value q)) 3) 4))) _ (λ q v h. ap (λ z. g.T.Pixel.pixel (clip 8 (round_shift z 4)))
-    (ap (λ z. round_shift z 2) (c.half_sums-sums.ensures.value q h ∙ weighted_same c.halves_of-halves.result _ (value q) (λ t l. ap (λ n. pos (slice_index (map g.T.Pixel.num c.args.source.now) n)) (along_place ((r + 3) * s) t q)))
-    ∙ rounded_row c.halves_of-halves.result c.args.across.now (value q) c.halves_of-halves.ensures))
+    (ap (λ z. round_shift z 2) (c.half_sums-sums.ensures.value q h ∙ weighted_same c.halves_for-halves.result _ (value q) (λ t l. ap (λ n. pos (slice_index (map g.T.Pixel.num c.args.source.now) n)) (along_place ((r + 3) * s) t q)))
+    ∙ rounded_row c.halves_for-halves.result c.args.across.now (value q) c.halves_for-halves.ensures))
     ∙ ap (λ n. paint_row n (λ q _. g.T.Pixel.pixel (clip 8 (round_shift (round_shift (weighted c.args.across.now (value q)) 3) 4))) c.split_at_mut-row.result.1.now) (sym c.requires.width))
 
 pub half_sums-sums-requires : goal.half_sums-sums-requires
@@ -31,7 +31,7 @@ half_sums-sums-requires g c =
     let long : (r + 3) * s + g.row.N + 7 * 1 ≤ length c.args.source.now = omega (arith, reach) in (
       size,
       (
-        subst IsFilter (sym c.halves_of-halves.ensures) c.requires.filter,
+        subst IsFilter (sym c.halves_for-halves.ensures) c.requires.filter,
         (
           c.requires.short,
           (

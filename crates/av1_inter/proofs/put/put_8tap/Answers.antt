@@ -1,12 +1,13 @@
-use Rattle.std.proofs.lemmas.Int.{ints}
-use Rattle.std.proofs.Common.{ℕ, arith, ◌+◌, unsigned_abs, ◌∙◌, ◌≡◌, ap, List, ℤ}
+use Rattle.std.proofs.lemmas.Int.{ints, to_z-of_z}
+use Rattle.std.proofs.Common.{ℕ, arith, ◌+◌, ◌^◌, ◌<◌, unsigned_abs, ◌∙◌, ◌≡◌, ap, subst, sym, List, ℤ, to_z, of_z, w32}
+use Rattle.av1_blocks.specs.declared.mc.FilterMode.{FilterMode}
 use Rattle.av1_frame.specs.declared.plane_slice.PlaneSlice.{PlaneSlice}
 use Rattle.av1_frame.specs.Regions.{painted}
 use Rattle.av1_frame.specs.declared.plane_region.PlaneRegionMut.{PlaneRegionMut}
 use Rattle.av1_frame.proofs.Regions.{painted_same}
 use Rattle.av1_inter.specs.Motion.{single}
 use Rattle.av1_inter.specs.Filters.{filter_of}
-use Rattle.av1_inter.specs.Places.{corner_of, samples_from}
+use Rattle.av1_inter.specs.Places.{corner_of, IsStoredFrom, samples_from}
 use Rattle.av1_inter.proofs.Cases.{corner_fits, corner_is, corner_within, single_copy}
 use Rattle.av1_inter.proofs.Table.{fraction_made, made_is_filter, taps_made}
 use Rattle.av1_inter.proofs.put.put_8tap.Goals as goal
@@ -34,6 +35,51 @@ named num pixel o dst w h depth fx fx' fy fy' across across' down down' place pl
     ∙ ap (λ f. painted dst w h (λ r q _. pixel (single depth fx' fy' f down (samples_from num place) r q))) a
     ∙ ap (λ f. painted dst w h (λ r q _. pixel (single depth fx' fy' across' f (samples_from num place) r q))) d
     ∙ ap (λ s. painted dst w h (λ r q _. pixel (single depth fx' fy' across' down' (samples_from num s) r q))) p
+
+-- a block of 4x4 samples of 8 bits is the block that the contract names
+square_is : {T : Type 0} (num : T → ℕ) (pixel : ℕ → T) (o dst : PlaneRegionMut T) (w h depth fx fy : ℕ) (mode_x mode_y : FilterMode) (place place' : PlaneSlice T)
+    → 4 ≡ w → 4 ≡ h → 8 ≡ depth → place ≡ place'
+    → o ≡ painted dst 4 4 (λ r q _. pixel (single 8 fx fy (filter_of mode_x fx 4) (filter_of mode_y fy 4) (samples_from num place) r q))
+    → o ≡ painted dst w h (λ r q _. pixel (single depth fx fy (filter_of mode_x fx w) (filter_of mode_y fy h) (samples_from num place') r q))
+square_is {T} num pixel o dst w h depth fx fy mode_x mode_y place place' ew eh ed ep e =
+    subst (λ (n : ℕ). o ≡ painted dst n h (λ r q _. pixel (single depth fx fy (filter_of mode_x fx n) (filter_of mode_y fy h) (samples_from num place') r q))) ew
+    (subst (λ (n : ℕ). o ≡ painted dst 4 n (λ r q _. pixel (single depth fx fy (filter_of mode_x fx 4) (filter_of mode_y fy n) (samples_from num place') r q))) eh
+    (subst (λ (n : ℕ). o ≡ painted dst 4 4 (λ r q _. pixel (single n fx fy (filter_of mode_x fx 4) (filter_of mode_y fy 4) (samples_from num place') r q))) ed
+    (subst (λ (p : PlaneSlice T). o ≡ painted dst 4 4 (λ r q _. pixel (single 8 fx fy (filter_of mode_x fx 4) (filter_of mode_y fy 4) (samples_from num p) r q))) ep e)))
+
+pub put_square-requires-clause-columns : goal.put_square-requires-clause-columns
+put_square-requires-clause-columns g c = let w = c.is_square.ensures.width c.if-is_square.true in omega (arith, w, c.requires.columns)
+
+pub put_square-requires-clause-rows : goal.put_square-requires-clause-rows
+put_square-requires-clause-rows g c = let h = c.is_square.ensures.height c.if-is_square.true in omega (arith, h, c.requires.rows)
+
+pub put_square-requires-clause-bits : goal.put_square-requires-clause-bits
+put_square-requires-clause-bits g c = let d = c.is_square.ensures.depth c.if-is_square.true in omega (arith, d, c.requires.depth)
+
+pub put_square-requires-clause-stored : goal.put_square-requires-clause-stored
+put_square-requires-clause-stored g c =
+    let w : c.args.width + 7 ≡ 11 = ap (λ n. n + 7) (c.is_square.ensures.width c.if-is_square.true) in
+    let h : c.args.height + 7 ≡ 11 = ap (λ n. n + 7) (c.is_square.ensures.height c.if-is_square.true) in
+    subst (λ (p : PlaneSlice g.row.T.Denot). IsStoredFrom p 11 11) (sym (corner_is c.args.src c.go_left.result _ c.go_left.ensures c.go_up-corner.ensures))
+    (subst (λ (n : ℕ). IsStoredFrom (corner_of c.args.src) 11 n) h (subst (λ (n : ℕ). IsStoredFrom (corner_of c.args.src) n (c.args.height + 7)) w c.requires.stored))
+
+pub put_square-requires-clause-within : goal.put_square-requires-clause-within
+put_square-requires-clause-within g c = λ x y l k.
+    let w = c.is_square.ensures.width c.if-is_square.true in
+    let h = c.is_square.ensures.height c.if-is_square.true in
+    let d = c.is_square.ensures.depth c.if-is_square.true in
+    let s = corner_within g.T.Pixel.num c.args.src _ c.args.bit_depth _ _ (corner_is c.args.src c.go_left.result _ c.go_left.ensures c.go_up-corner.ensures) c.requires.within x y (omega (arith, w, l)) (omega (arith, h, k)) in
+    subst (λ (n : ℕ). samples_from g.T.Pixel.num c.go_up-corner.result x y < 2 ^ n) d s
+
+pub returns-then-is_square-clause-painted : goal.returns-then-is_square-clause-painted
+returns-then-is_square-clause-painted g c =
+    let s = samples_from g.T.Pixel.num c.go_up-corner.result in
+    square_is g.T.Pixel.num g.T.Pixel.pixel _ c.args.dst.now c.args.width c.args.height c.args.bit_depth (unsigned_abs c.args.col_frac) (unsigned_abs c.args.row_frac) c.args.mode_x c.args.mode_y _ _
+    (sym (c.is_square.ensures.width c.if-is_square.true)) (sym (c.is_square.ensures.height c.if-is_square.true)) (sym (c.is_square.ensures.depth c.if-is_square.true))
+    (corner_is c.args.src c.go_left.result c.go_up-corner.result c.go_left.ensures c.go_up-corner.ensures)
+    (c.put_square.ensures.painted
+    ∙ ap (λ (z : ℤ). painted c.args.dst.now 4 4 (λ r q _. g.T.Pixel.pixel (single 8 (unsigned_abs z) (unsigned_abs (to_z w32 (of_z w32 c.args.row_frac))) (filter_of c.args.mode_x (unsigned_abs z) 4) (filter_of c.args.mode_y (unsigned_abs (to_z w32 (of_z w32 c.args.row_frac))) 4) s r q))) (to_z-of_z w32 c.args.col_frac c.ranges.col_frac)
+    ∙ ap (λ (z : ℤ). painted c.args.dst.now 4 4 (λ r q _. g.T.Pixel.pixel (single 8 (unsigned_abs c.args.col_frac) (unsigned_abs z) (filter_of c.args.mode_x (unsigned_abs c.args.col_frac) 4) (filter_of c.args.mode_y (unsigned_abs z) 4) s r q))) (to_z-of_z w32 c.args.row_frac c.ranges.row_frac))
 
 pub returns-then-row_frac-eq0-clause-painted : goal.returns-then-row_frac-eq0-clause-painted
 returns-then-row_frac-eq0-clause-painted g c =

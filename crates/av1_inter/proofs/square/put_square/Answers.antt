@@ -1,0 +1,69 @@
+use Rattle.std.proofs.lemmas.Int.{ints, to_z-of_z}
+use Rattle.std.proofs.Common.{arith, ◌+◌, unsigned_abs, ◌∙◌, ◌≡◌, ◌≢◌, ap, inl, refl, ℤ, pos, of_z, w32}
+use Rattle.av1_frame.proofs.Regions.{painted_same}
+use Rattle.av1_frame.specs.Arithmetic.{clip, round_shift}
+use Rattle.av1_frame.specs.Regions.{painted}
+use Rattle.av1_inter.specs.Filters.{filter_of}
+use Rattle.av1_inter.specs.Motion.{down_samples, single, weighted}
+use Rattle.av1_inter.specs.Places.{samples_from}
+use Rattle.av1_inter.proofs.Cases.{single_alone, single_along, single_copy}
+use Rattle.av1_inter.proofs.Table.{fraction_made, made_is_filter, taps_made}
+use Rattle.av1_inter.proofs.square.put_square.Goals as goal
+
+some : (z : ℤ) → of_z w32 z ≢ 0 → unsigned_abs z ≢ 0
+some z h e = let k : z ≡ pos 0 = omega (arith, ints, e) in h (ap (of_z w32) k)
+
+pub put_filtered-requires-clause-across_filter : goal.put_filtered-requires-clause-across_filter
+put_filtered-requires-clause-across_filter g c = made_is_filter c.args.mode_x c.args.col_frac 4 _ c.ranges.col_frac c.requires.col_frac c.get_filter-across.ensures.taps
+
+pub put_filtered-requires-clause-down_filter : goal.put_filtered-requires-clause-down_filter
+put_filtered-requires-clause-down_filter g c = made_is_filter c.args.mode_y c.args.row_frac 4 _ c.ranges.row_frac c.requires.row_frac c.get_filter-down.ensures.taps
+
+pub returns-then-col_frac-eq0-clause-painted : goal.returns-then-col_frac-eq0-clause-painted
+returns-then-col_frac-eq0-clause-painted g c =
+    let fx = unsigned_abs c.args.col_frac in
+    let fy = unsigned_abs c.args.row_frac in
+    let across = filter_of c.args.mode_x fx 4 in
+    let down = filter_of c.args.mode_y fy 4 in
+    let s = samples_from g.T.Pixel.num c.args.corner in
+    let zx : fx ≡ 0 = omega (arith, ints, c.if-col_frac-eq0.true) in
+    let zy : fy ≡ 0 = omega (arith, ints, c.if-row_frac-eq0.true) in
+    painted_same c.args.dst.now _ 4 4 _ (λ r q _. g.T.Pixel.pixel (single 8 fx fy across down s r q)) c.put_copy.ensures.painted
+    (λ r q v l h. ap g.T.Pixel.pixel (single_copy 8 (inl refl) fx fy across down s r q zx zy))
+
+pub returns-else-col_frac-eq0-clause-painted : goal.returns-else-col_frac-eq0-clause-painted
+returns-else-col_frac-eq0-clause-painted g c =
+    let fx = unsigned_abs c.args.col_frac in
+    let fy = unsigned_abs c.args.row_frac in
+    let across = filter_of c.args.mode_x fx 4 in
+    let down = filter_of c.args.mode_y fy 4 in
+    let s = samples_from g.T.Pixel.num c.args.corner in
+    let zy : fy ≡ 0 = omega (arith, ints, c.if-row_frac-eq0.true) in
+    painted_same c.args.dst.now _ 4 4 _ (λ r q _. g.T.Pixel.pixel (single 8 fx fy across down s r q))
+    (c.put_square_rows.ensures.painted
+    ∙ ap (λ (z : ℤ). painted c.args.dst.now 4 4 (λ r q _. g.T.Pixel.pixel (clip 8 (round_shift (round_shift (weighted (filter_of c.args.mode_x (unsigned_abs z) 4) (λ t. pos (s (q + t) (r + 3)))) 3) 4)))) (to_z-of_z w32 c.args.col_frac c.ranges.col_frac))
+    (λ r q v l h. ap g.T.Pixel.pixel (single_along 8 (inl refl) fx fy across down s r q (some c.args.col_frac c.if-col_frac-eq0.false) zy))
+
+pub returns-then-col_frac-eq0-2-clause-painted : goal.returns-then-col_frac-eq0-2-clause-painted
+returns-then-col_frac-eq0-2-clause-painted g c =
+    let fx = unsigned_abs c.args.col_frac in
+    let fy = unsigned_abs c.args.row_frac in
+    let across = filter_of c.args.mode_x fx 4 in
+    let down = filter_of c.args.mode_y fy 4 in
+    let s = samples_from g.T.Pixel.num c.args.corner in
+    let zx : fx ≡ 0 = omega (arith, ints, c.if-col_frac-eq0-2.true) in
+    painted_same c.args.dst.now _ 4 4 _ (λ r q _. g.T.Pixel.pixel (single 8 fx fy across down s r q))
+    (c.put_square_columns.ensures.painted
+    ∙ ap (λ (z : ℤ). painted c.args.dst.now 4 4 (λ r q _. g.T.Pixel.pixel (clip 8 (round_shift (down_samples (filter_of c.args.mode_y (unsigned_abs z) 4) s r q) 7)))) (to_z-of_z w32 c.args.row_frac c.ranges.row_frac))
+    (λ r q v l h. ap g.T.Pixel.pixel (single_alone 8 (inl refl) fx fy across down s r q zx (some c.args.row_frac c.if-row_frac-eq0.false)))
+
+pub returns-else-col_frac-eq0-2-clause-painted : goal.returns-else-col_frac-eq0-2-clause-painted
+returns-else-col_frac-eq0-2-clause-painted g c =
+    let across = c.get_filter-across.result in
+    let down = c.get_filter-down.result in
+    let s = samples_from g.T.Pixel.num c.args.corner in
+    c.put_filtered.ensures.painted
+    ∙ ap (λ n. painted c.args.dst.now 4 4 (λ r q _. g.T.Pixel.pixel (single 8 n down.fraction across.taps down.taps s r q))) (fraction_made c.args.col_frac across.fraction c.ranges.col_frac c.get_filter-across.ensures.fraction)
+    ∙ ap (λ n. painted c.args.dst.now 4 4 (λ r q _. g.T.Pixel.pixel (single 8 (unsigned_abs c.args.col_frac) n across.taps down.taps s r q))) (fraction_made c.args.row_frac down.fraction c.ranges.row_frac c.get_filter-down.ensures.fraction)
+    ∙ ap (λ f. painted c.args.dst.now 4 4 (λ r q _. g.T.Pixel.pixel (single 8 (unsigned_abs c.args.col_frac) (unsigned_abs c.args.row_frac) f down.taps s r q))) (taps_made c.args.mode_x c.args.col_frac 4 across.taps c.ranges.col_frac c.get_filter-across.ensures.taps)
+    ∙ ap (λ f. painted c.args.dst.now 4 4 (λ r q _. g.T.Pixel.pixel (single 8 (unsigned_abs c.args.col_frac) (unsigned_abs c.args.row_frac) (filter_of c.args.mode_x (unsigned_abs c.args.col_frac) 4) f s r q))) (taps_made c.args.mode_y c.args.row_frac 4 down.taps c.ranges.row_frac c.get_filter-down.ensures.taps)

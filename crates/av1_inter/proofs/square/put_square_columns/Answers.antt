@@ -1,0 +1,19 @@
+use Rattle.std.proofs.Common.{◌∙◌, ap}
+use Rattle.av1_frame.specs.Arithmetic.{clip, round_shift}
+use Rattle.av1_frame.specs.Regions.{painted}
+use Rattle.av1_inter.specs.Motion.{down_samples}
+use Rattle.av1_inter.specs.Places.{samples_from}
+use Rattle.av1_inter.proofs.Table.{made_is_filter, made_is_short, taps_made}
+use Rattle.av1_inter.proofs.square.put_square_columns.Goals as goal
+
+pub put_narrow_columns-requires-clause-filter : goal.put_narrow_columns-requires-clause-filter
+put_narrow_columns-requires-clause-filter g c = made_is_filter c.args.mode c.args.row_frac 4 _ c.ranges.row_frac (c.requires.low, c.requires.high) c.get_filter-down.ensures.taps
+
+pub put_narrow_columns-requires-clause-weights : goal.put_narrow_columns-requires-clause-weights
+put_narrow_columns-requires-clause-weights g c = λ _. made_is_short c.args.mode c.args.row_frac _ c.ranges.row_frac c.requires.low c.requires.high c.get_filter-down.ensures.taps
+
+pub returns-clause-painted : goal.returns-clause-painted
+returns-clause-painted g c =
+    c.put_narrow_columns.ensures.painted
+    ∙ ap (λ f. painted c.args.dst.now 4 4 (λ r q _. g.T.Pixel.pixel (clip 8 (round_shift (down_samples f (samples_from g.T.Pixel.num c.args.corner) r q) 7))))
+    (taps_made c.args.mode c.args.row_frac 4 _ c.ranges.row_frac c.get_filter-down.ensures.taps)
