@@ -37,9 +37,10 @@ pub record IsRoom (level x y below : ℕ) : Type 0 where
   pub y_within : y < 2048
   pub room : 3 * level + below < 13
 
-pub room_is : (level x y below : ℕ) → has_room (Node level x y) below ≡ true → IsRoom level x y below
+pub room_is : {level x y below : ℕ} {part : Part} → part ≡ Node level x y → has_room part below ≡ true → IsRoom level x y below
 unfolding has_room
-room_is level x y below e =
+room_is {level} {x} {y} {below} is given =
+    let e : has_room (Node level x y) below ≡ true = subst (λ (p : Part). has_room p below ≡ true) is given in
     let (a, room) = and_parts (nat_le 1 level && nat_le level 4 && nat_lt x 2048 && nat_lt y 2048) (nat_lt (3 * level + below) 13) e in
     let (b, below_y) = and_parts (nat_le 1 level && nat_le level 4 && nat_lt x 2048) (nat_lt y 2048) a in
     let (d, below_x) = and_parts (nat_le 1 level && nat_le level 4) (nat_lt x 2048) b in

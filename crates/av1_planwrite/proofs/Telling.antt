@@ -18,7 +18,8 @@ use Rattle.av1_plan.proofs.Composed.{done_spelled, bind_spelled, header_spelled,
 use Rattle.av1_planwrite.specs.declared.parts.Part.{Part}
 use Rattle.av1_planwrite.specs.declared.parts.Part.TheVariants.{Node, Leaf}
 use Rattle.av1_planwrite.specs.Asked.{After, asked_for, cut_before, down, rows_of}
-use Rattle.av1_planwrite.specs.Building.{Building, LeafFields, Tells, asks_reference, first_part, later_parts, asked_part, cut_first, slot_from, next_slot, slots_without, begun, plan_begun, admits_plane, admits_reference, with_reference, plan_with_reference, with_mark, admits_fields, with_leaf, leaf_of, plan_with_leaf, asks_more}
+use Rattle.av1_planwrite.specs.Building.{Building, LeafFields, Tells, asks_reference, first_part, later_parts, asked_part, cut_first, slot_from, next_slot, slots_without, asks_more}
+use Rattle.av1_planwrite.specs.Building.{begun, plan_begun, admits_plane, admits_reference, with_reference, plan_with_reference, with_mark, admits_fields, with_leaf, leaf_of, plan_with_leaf}
 use Rattle.av1_planwrite.specs.Text.{byte, header_text, plane_text, fields_text, leaf_text}
 use Rattle.av1_planwrite.proofs.AskedSteps.{header_asked, asked_next, counted, carries_planes, reference_asked, mark_asked, leaf_asked, nothing_asked}
 use Rattle.av1_planwrite.proofs.BuilderParts.{asked_first, cut_first_is}
@@ -139,7 +140,8 @@ tells_reference b p y u v t read asked admitted =
     append_assoc p.references (Some three ∷ []) rest ∙ slots_same p.references three h p.header b.slot (length p.references) (sym t.header_is) (sym t.slots) in
     let so_far = goes_as (b.bytes ++ more) (asked_for h (b.slot + 1) b.parts stored p.leaves) (asked_for h (next_slot h (b.slot + 1)) b.parts (plan_with_reference p y u v).references p.leaves) first
     (next ∙ ap (λ (zs : List (Option (List (List ℕ)))). asked_for h (next_slot h (b.slot + 1)) b.parts zs p.leaves) same) in
-    told (with_reference b y u v) (plan_with_reference p y u v) so_far t.header_is (ap length (sym same) ∙ slots_count h p.references three b.slot t.slots) (λ below. carries_planes h (b.slot + 1) (8 - (b.slot + 1)) (omega (arith, below, lt))) (within h (b.slot + 1) (8 - (b.slot + 1)) (omega (arith, lt)))
+    told (with_reference b y u v) (plan_with_reference p y u v) so_far t.header_is (ap length (sym same) ∙ slots_count h p.references three b.slot t.slots)
+    (λ below. carries_planes h (b.slot + 1) (8 - (b.slot + 1)) (omega (arith, below, lt))) (within h (b.slot + 1) (8 - (b.slot + 1)) (omega (arith, lt)))
   where
     slots_same : (stored : List (Option (List (List ℕ)))) (planes : List (List ℕ)) (h g : Header) (slot count : ℕ) → h ≡ g → slot ≡ count
         → stored ++ (Some planes ∷ slots_without h (slot + 1) (8 - (slot + 1))) ≡ stored ++ (Some planes ∷ slots_without g (count + 1) (8 - (count + 1)))

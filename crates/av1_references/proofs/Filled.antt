@@ -53,12 +53,15 @@ module _ {T : Type 0} (num : T → ℕ) (pixel : ℕ → T) (back : (v : T) → 
   }
 
 -- Such a plane holds plane p of a frame, where it was made with that plane's sides and decimations.
-pub filled_holds : {T : Type 0} (num : T → ℕ) (pixel : ℕ → T) (back : (v : T) → pixel (num v) ≡ v) (forth : (v : ℕ) → num (pixel v) ≡ v) (samples : List ℕ) (made filled result : Plane T) (width height dx dy xpad ypad : ℕ) (h : Header) (p : ℕ)
+pub filled_holds : {T : Type 0} (num : T → ℕ) (pixel : ℕ → T) (back : (v : T) → pixel (num v) ≡ v) (forth : (v : ℕ) → num (pixel v) ≡ v) (samples : List ℕ) (made filled result : Plane T) {width height dx dy xpad ypad : ℕ} (h : Header) (p : ℕ)
     → IsWhole made → made.plane_cfg ≡ new_config width height dx dy xpad ypad → xpad ≡ 80 / 2 ^ dx → ypad ≡ 80 / 2 ^ dy → width ≡ plane_width h p → height ≡ plane_height h p → dx ≡ xdec h p → dy ≡ ydec h p
     → All (λ sample. sample < 2 ^ h.depth) samples → filled ≡ painted_plane made (all_visible made.plane_cfg) (λ r c _. pixel (slice_index samples (r * made.plane_cfg.width + c)))
     → result ≡ padded filled → HoldsPlane num h p samples result
-filled_holds {T} num pixel back forth samples made filled result width height dx dy xpad ypad h p whole cfg px py w t ex ey below fill pad =
-    subst (λ (q : Plane T). HoldsPlane num h p samples q) (sym (pad ∙ ap padded fill)) (put_holds num pixel back forth samples made whole h p (le_of_eq (sym (ap (λ s. s.xpad) cfg ∙ px ∙ ap (λ (s : ℕ). 80 / 2 ^ s) ex))) (le_of_eq (sym (ap (λ s. s.ypad) cfg ∙ py ∙ ap (λ (s : ℕ). 80 / 2 ^ s) ey))) (ap (λ s. s.width) cfg ∙ w) (ap (λ s. s.height) cfg ∙ t) (ap (λ s. s.xdec) cfg ∙ ex) (ap (λ s. s.ydec) cfg ∙ ey) below)
+filled_holds {T} num pixel back forth samples made filled result h p whole cfg px py w t ex ey below fill pad =
+    let columns : 80 / 2 ^ xdec h p ≤ made.plane_cfg.xpad = le_of_eq (sym (ap (λ s. s.xpad) cfg ∙ px ∙ ap (λ (s : ℕ). 80 / 2 ^ s) ex)) in
+    let rows : 80 / 2 ^ ydec h p ≤ made.plane_cfg.ypad = le_of_eq (sym (ap (λ s. s.ypad) cfg ∙ py ∙ ap (λ (s : ℕ). 80 / 2 ^ s) ey)) in
+    subst (λ (q : Plane T). HoldsPlane num h p samples q) (sym (pad ∙ ap padded fill))
+    (put_holds num pixel back forth samples made whole h p columns rows (ap (λ s. s.width) cfg ∙ w) (ap (λ s. s.height) cfg ∙ t) (ap (λ s. s.xdec) cfg ∙ ex) (ap (λ s. s.ydec) cfg ∙ ey) below)
 
 -- it is still whole once it is filled
 pub filled_whole : {T : Type 0} (made filled : Plane T) (a : VisibleArea) (f : ℕ → ℕ → T → T) → filled ≡ painted_plane made a f → IsWhole made → IsWhole filled

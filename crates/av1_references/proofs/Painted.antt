@@ -8,7 +8,9 @@ use Rattle.av1_blocks.specs.Blocks.{block_width, block_height}
 use Rattle.av1_frame.specs.declared.frame_invariants.FrameInvariants.{FrameInvariants}
 use Rattle.av1_frame.specs.declared.plane.Plane.{Plane}
 use Rattle.av1_frame.specs.declared.plane_region.PlaneRegionMut.{PlaneRegionMut}
-use Rattle.av1_frame.specs.Areas.{stored_area}
+use Rattle.av1_frame.specs.declared.plane_region.Area.{Area}
+use Rattle.av1_frame.specs.declared.plane_region.Area.TheVariants.{Rect}
+use Rattle.av1_frame.specs.Areas.{area_from, from_origin, stored_area}
 use Rattle.av1_frame.specs.Frames.{slot_plane}
 use Rattle.av1_frame.specs.Planes.{painted_plane}
 use Rattle.av1_frame.specs.Regions.{painted}
@@ -35,8 +37,22 @@ pub record IsLeafRegion {T : Type 0} (plane : Plane T) (area : PlaneArea) (r : P
   pub rows : h ≡ block_height area.size
 
 -- a place that counts from the first sample of the whole plane
-pub from_first : (tile n : ℕ) (offset : ℤ) → tile ≡ 0 → offset ≡ pos n → (pos tile +ℤ offset) ≡ pos n
+from_first : (tile n : ℕ) (offset : ℤ) → tile ≡ 0 → offset ≡ pos n → (pos tile +ℤ offset) ≡ pos n
 from_first tile n offset e h = omega (arith, ints, e, h)
+
+-- such a region, asked for by the leaf's rectangle, beside the first sample of the leaf in the tile that is the whole plane
+pub leaf_region : {T : Type 0} (plane : Plane T) (area : PlaneArea) (r : PlaneRegionMut T) {asked : Area} {tile_x tile_y : ℕ} {x y : ℤ} {w h : ℕ} → r.plane.now ≡ plane → r.plane_cfg ≡ plane.plane_cfg
+    → r.area ≡ area_from plane.plane_cfg (from_origin plane.plane_cfg) asked → asked ≡ Rect (pos area.x) (pos area.y) (block_width area.size) (block_height area.size)
+    → tile_x ≡ 0 → tile_y ≡ 0 → x ≡ pos area.x → y ≡ pos area.y → w ≡ block_width area.size → h ≡ block_height area.size → IsLeafRegion plane area r (pos tile_x +ℤ x) (pos tile_y +ℤ y) w h
+leaf_region plane area r {asked} {tile_x} {tile_y} {x} {y} plane_is cfg_is area_is asked_is first_x first_y x_is y_is columns rows = record {
+  plane_is = plane_is;
+  cfg_is = cfg_is;
+  area_is = area_is ∙ ap (area_from plane.plane_cfg (from_origin plane.plane_cfg)) asked_is;
+  column = from_first tile_x area.x x first_x x_is;
+  row = from_first tile_y area.y y first_y y_is;
+  columns = columns;
+  rows = rows;
+}
 
 -- the plane of such a region that was painted
 pub leaf_painted : {T : Type 0} (plane : Plane T) (area : PlaneArea) (r o : PlaneRegionMut T) (x y : ℤ) (w h : ℕ) (f : ℕ → ℕ → T → T) → IsLeafRegion plane area r x y w h → o ≡ painted r (block_width area.size) (block_height area.size) f → o.plane.now ≡ painted_plane plane (leaf_area area) f
@@ -54,7 +70,8 @@ module _ {T : Type 0} (num : T → ℕ) (pixel : ℕ → T) (value : PlanValue) 
   moved_to f g e same =
       let a = leaf_area area in
       let at : o ≡ painted r a.width a.height (f (pos a.x) (pos a.y) a.width a.height) =
-      e ∙ ap (λ z. painted r w h (f z y w h)) leaf.column ∙ ap (λ z. painted r w h (f (pos area.x) z w h)) leaf.row ∙ ap (λ n. painted r n h (f (pos area.x) (pos area.y) n h)) leaf.columns ∙ ap (λ n. painted r (block_width area.size) n (f (pos area.x) (pos area.y) (block_width area.size) n)) leaf.rows in
+      e ∙ ap (λ z. painted r w h (f z y w h)) leaf.column ∙ ap (λ z. painted r w h (f (pos a.x) z w h)) leaf.row
+      ∙ ap (λ n. painted r n h (f (pos a.x) (pos a.y) n h)) leaf.columns ∙ ap (λ n. painted r a.width n (f (pos a.x) (pos a.y) a.width n)) leaf.rows in
       painted_same r o a.width a.height (f (pos a.x) (pos a.y) a.width a.height) g at same
 
   pub single_region : (reference : RefType) (mv : MotionVector) → has_reference value.header reference ≡ true → PredictsSingle num pixel fi p reference x y mv w h r o
@@ -70,7 +87,8 @@ module _ {T : Type 0} (num : T → ℕ) (pixel : ℕ → T) (value : PlanValue) 
   -- what is prepared of a reference
   prepared_same : (reference : RefType) (q : Plane T) (mv : MotionVector) → has_reference value.header reference ≡ true → slot_plane fi (slot_of fi reference) p ≡ Some q → (i j : ℕ)
       → i < block_height area.size → j < block_width area.size
-      → prepared_in fi.bit_depth fi.default_filter (as_reference num q) (pos area.x) (pos area.y) mv (block_width area.size) (block_height area.size) i j ≡ prepared_in value.header.depth value.header.filter (reference_plane value (slot_in value.header reference) p) (pos area.x) (pos area.y) mv (block_width area.size) (block_height area.size) i j
+      → prepared_in fi.bit_depth fi.default_filter (as_reference num q) (pos area.x) (pos area.y) mv (block_width area.size) (block_height area.size) i j
+      ≡ prepared_in value.header.depth value.header.filter (reference_plane value (slot_in value.header reference) p) (pos area.x) (pos area.y) mv (block_width area.size) (block_height area.size) i j
   prepared_same reference q mv has is i j l k =
       let a = leaf_area area in
       ap (λ (d : ℕ). prepared_in d fi.default_filter (as_reference num q) (pos a.x) (pos a.y) mv a.width a.height i j) holds.settings.depth

@@ -32,8 +32,10 @@ module _ {T : Type 0} (num : T → ℕ) (filter : FilterMode) (depth : ℕ) (is_
   abbrev value : PlanValue
   value = record { header = header_of filter depth; references = None ∷ None ∷ Some (y ∷ u ∷ v ∷ []) ∷ None ∷ None ∷ Some (y' ∷ u' ∷ v' ∷ []) ∷ None ∷ None ∷ []; leaves = [] }
 
-  pub filled_serves : (made first second : FrameInvariants T) → made ≡ new_frame 16 8 filter depth true references_named → first ≡ record made { slots = slice_set made.slots 2 (Some s) } → second ≡ record first { slots = slice_set first.slots 5 (Some t) }
-      → HoldsPlane num (header_of filter depth) 0 y s.y → HoldsPlane num (header_of filter depth) 1 u s.u → HoldsPlane num (header_of filter depth) 2 v s.v → HoldsPlane num (header_of filter depth) 0 y' t.y → HoldsPlane num (header_of filter depth) 1 u' t.u → HoldsPlane num (header_of filter depth) 2 v' t.v
+  pub filled_serves : (made first second : FrameInvariants T) → made ≡ new_frame 16 8 filter depth true references_named
+      → first ≡ record made { slots = slice_set made.slots 2 (Some s) } → second ≡ record first { slots = slice_set first.slots 5 (Some t) }
+      → HoldsPlane num (header_of filter depth) 0 y s.y → HoldsPlane num (header_of filter depth) 1 u s.u → HoldsPlane num (header_of filter depth) 2 v s.v
+      → HoldsPlane num (header_of filter depth) 0 y' t.y → HoldsPlane num (header_of filter depth) 1 u' t.u → HoldsPlane num (header_of filter depth) 2 v' t.v
       → (a : PlanValue) × (ServesPlan num a second × ((has_reference a.header LAST_FRAME ≡ true) × (has_reference a.header ALTREF_FRAME ≡ true)))
   unfolding has_slot has_reference
   filled_serves made first second new set_first set_second a b c d e f =

@@ -25,8 +25,9 @@ use Rattle.av1_sequence.specs.declared.error.FrameError.{FrameError}
 use Rattle.av1_sequence.specs.declared.head.FrameHead.{FrameHead}
 use Rattle.av1_sequence.specs.declared.last.Last.{Last}
 use Rattle.av1_sequence.specs.declared.last.Last.TheVariants as lasts
+use Rattle.av1_sequence.specs.declared.sequence.Sequence.TheInside.{Inside}
 use Rattle.av1_sequence.specs.Frames.{IsHead, frame_bytes, frame_header, frame_of, frame_references, most_bytes, plan_bytes}
-use Rattle.av1_sequence.specs.Kept.{AreReady, IsKeptAt, Kept, KeepsFrames, own, plane_shown, planes_shown, shown_at, shown_in, slots_shown}
+use Rattle.av1_sequence.specs.Kept.{AreReady, Kept, own, plane_shown, planes_shown, shown_at, shown_in, slots_shown}
 use Rattle.av1_sequence.specs.Last.{last_shown}
 use Rattle.av1_sequence.specs.Outcomes.{Accepts, Refuses, RefusesPart, accepted, plan_over}
 use Rattle.av1_sequence.specs.Output.{IsWritable}
@@ -56,7 +57,23 @@ kept_of h slots last = record { frames = h; slots = slots; last = last }
 abbrev seen : Header → FrameInvariants ℕ → List (Option ℕ) → Option Frame → Kept
 seen h fi places last = record { frames = h; slots = slots_shown h fi places; last = last }
 
-module _ (k : Kept) (h : Header) (fi : FrameInvariants ℕ) (places : List (Option ℕ)) (last : Option Frame) (view : seen h fi places last ≡ k) where
+-- of one that was opened, whose fields these are
+abbrev opened : Inside → Kept
+opened s = seen s.pictures.header s.pictures.fi s.pictures.places (last_shown s.pictures.header s.pictures.fi s.apart s.last)
+
+module _ (k : Kept) (s : Inside) (view : opened s ≡ k) where
+  abbrev h : Header
+  h = s.pictures.header
+
+  abbrev fi : FrameInvariants ℕ
+  fi = s.pictures.fi
+
+  abbrev places : List (Option ℕ)
+  places = s.pictures.places
+
+  abbrev last : Option Frame
+  last = last_shown h fi s.apart s.last
+
   header_seen : h ≡ k.frames
   header_seen = ap (λ (v : Kept). v.frames) view
 
@@ -94,10 +111,10 @@ module _ (k : Kept) (h : Header) (fi : FrameInvariants ℕ) (places : List (Opti
       pub valid_over : ((stored : List (Option (List (List ℕ)))) → first_fault (in_frame own_h stored lv) ≡ None) → first_fault (plan_over k head lv) ≡ None
       valid_over valid = over (λ g stored. first_fault (in_frame g stored lv) ≡ None) (valid (frame_references k.slots head))
 
-      pub spelled_over : KeepsFrames h fi places → IsHead head → ((stored : List (Option (List (List ℕ)))) → AreText (plan_behind own_h stored) part (in_frame own_h stored lv)) → ∥ IsSpelled grammar (plan_over k head lv) ∥₁
-      spelled_over keeps is found =
+      pub spelled_over : IsHead head → ((stored : List (Option (List (List ℕ)))) → AreText (plan_behind own_h stored) part (in_frame own_h stored lv)) → ∥ IsSpelled grammar (plan_over k head lv) ∥₁
+      spelled_over is found =
           subst (λ (v : Kept). ∥ IsSpelled grammar (plan_over v head lv) ∥₁) view
-          ∣ frame_spelled h fi places head keeps is part (plan_over (seen h fi places last) head lv)
+          ∣ frame_spelled h fi places head s.pictures.keeps is part (plan_over (seen h fi places last) head lv)
           (subst (λ (g : Header). AreText (plan_behind g (frame_references (slots_shown h fi places) head)) part (in_frame g (frame_references (slots_shown h fi places) head) lv)) own_is (found (frame_references (slots_shown h fi places) head))) ∣₁
 
       -- what follows for an answer
@@ -107,8 +124,8 @@ module _ (k : Kept) (h : Header) (fi : FrameInvariants ℕ) (places : List (Opti
       accepts_over new (Err e) short found valid is = tt
 
     -- the frame's own header
-    pub own_read : KeepsFrames h fi places → IsHead head → (own_h : Header) → own_h ≡ frame_header k.frames k.slots head → IsReadFrame own_h
-    own_read keeps is own_h e = subst IsReadFrame (own_seen ∙ sym e) (read_header h (slots_shown h fi places) head keeps.frame is)
+    pub own_read : IsHead head → (own_h : Header) → own_h ≡ frame_header k.frames k.slots head → IsReadFrame own_h
+    own_read is own_h e = subst IsReadFrame (own_seen ∙ sym e) (read_header h (slots_shown h fi places) head s.pictures.keeps.frame is)
 
     pub own_ready : (own_h : Header) (planes : Planes ℕ) → own_h ≡ frame_header k.frames k.slots head → AreReady h planes → AreReady own_h planes
     own_ready own_h planes e ready = subst (λ (g : Header). AreReady g planes) (own_seen ∙ sym e) (ready_in h (slots_shown h fi places) head planes ready)
@@ -119,8 +136,8 @@ module _ (k : Kept) (h : Header) (fi : FrameInvariants ℕ) (places : List (Opti
         let back = e ∙ sym own_seen in
         ready_after h (slots_shown h fi places) head p q (ready_out h (slots_shown h fi places) head p (subst (λ (g : Header). AreReady g p) back ready)) (subst (λ (g : Header). StoresAll own g q) back stores) same
 
-    pub room_over : (own_h : Header) (room : WalkRoom) → own_h ≡ frame_header k.frames k.slots head → HasRoomFor h room → HasRoomFor own_h room
-    room_over own_h room e has = subst (λ (g : Header). HasRoomFor g room) (own_seen ∙ sym e) has
+    pub room_over : (own_h : Header) → own_h ≡ frame_header k.frames k.slots head → HasRoomFor own_h s.memory
+    room_over own_h e = subst (λ (g : Header). HasRoomFor g s.memory) (own_seen ∙ sym e) s.room
 
     -- the plan that is walked
     pub plan_is_over : (own_h : Header) (lv : PlanValue) (set : FrameInvariants ℕ) → own_h ≡ frame_header k.frames k.slots head → ∥ IsSpelled grammar (plan_over k head lv) ∥₁ → first_fault (plan_over k head lv) ≡ None
@@ -179,20 +196,20 @@ module _ (k : Kept) (h : Header) (fi : FrameInvariants ℕ) (places : List (Opti
       (ap Some shows ∙ sym (ap (option_map (λ (f : Frame). slice_index_or f p [])) is))
 
   -- the same of a frame at a place
-  pub placed_seen : (place p : ℕ) (plane : Plane ℕ) → IsKeptAt h fi place → last ≡ shown_at h fi place → ((frame : Frame) → shown_at h fi place ≡ Some frame → plane_shown h p plane ≡ slice_index_or frame p [])
+  pub placed_seen : (place p : ℕ) (plane : Plane ℕ) → s.last ≡ lasts.At place → ((frame : Frame) → shown_at h fi place ≡ Some frame → plane_shown h p plane ≡ slice_index_or frame p [])
       → Some (plane_shown k.frames p plane) ≡ option_map (λ (f : Frame). slice_index_or f p []) k.last
-  placed_seen place p plane stands is shows =
-      let (t, t_is) = filled_planes (slice_index_or fi.slots place None) stands.filled in
+  placed_seen place p plane at shows =
+      let (t, t_is) = filled_planes (slice_index_or fi.slots place None) (s.placed place at).filled in
       let here : shown_at h fi place ≡ Some (planes_shown h t.y t.u t.v) = ap (option_map (λ (t : Slot ℕ). planes_shown h t.y t.u t.v)) t_is in
-      plane_seen p plane (planes_shown h t.y t.u t.v) (is ∙ here) (shows (planes_shown h t.y t.u t.v) here)
+      plane_seen p plane (planes_shown h t.y t.u t.v) (ap (last_shown h fi s.apart) at ∙ here) (shows (planes_shown h t.y t.u t.v) here)
 
   pub writable_seen : (p : ℕ) (plane : Plane ℕ) → IsWritable h p plane → IsWritable k.frames p plane
   writable_seen p plane w = subst (λ (g : Header). IsWritable g p plane) header_seen w
 
-  pub slot_seen : KeepsFrames h fi places → (slot place p y : ℕ) (row : List ℕ) → slot < 8 → slice_index_or places slot None ≡ Some place → ((frame : Frame) → shown_at h fi place ≡ Some frame → row ≡ row_of h p y frame)
+  pub slot_seen : (slot place p y : ℕ) (row : List ℕ) → slot < 8 → slice_index_or places slot None ≡ Some place → ((frame : Frame) → shown_at h fi place ≡ Some frame → row ≡ row_of h p y frame)
       → Some row ≡ option_map (row_of k.frames p y) (slice_index_or k.slots slot None)
-  slot_seen keeps slot place p y row lt at row_is =
-      let stands = keeps.kept slot place lt at in
+  slot_seen slot place p y row lt at row_is =
+      let stands = s.pictures.keeps.kept slot place lt at in
       let (t, t_is) = filled_planes (slice_index_or fi.slots place None) stands.filled in
       let shows : shown_at h fi place ≡ Some (planes_shown h t.y t.u t.v) = ap (option_map (λ (t : Slot ℕ). planes_shown h t.y t.u t.v)) t_is in
       moved_row (Some row) p y (λ v. slice_index_or v.slots slot None)

@@ -108,9 +108,9 @@ module _ (h : Header) (planes : Planes ℕ) (ready : AreReady h planes) where
 pub record IsPut (fi made : FrameInvariants ℕ) (planes : Planes ℕ) (place : ℕ) : Type 0 where
   pub is : made ≡ record fi { slots = slice_set fi.slots place (Some (record { y = padded planes.y; u = padded planes.u; v = padded planes.v })) }
 
-pub put_in : (fi made : FrameInvariants ℕ) (planes : Planes ℕ) (n place : ℕ) (y u v : Plane ℕ) → n ≡ place → y ≡ padded planes.y → u ≡ padded planes.u → v ≡ padded planes.v
+pub put_in : (fi made : FrameInvariants ℕ) (planes : Planes ℕ) {n place : ℕ} {y u v : Plane ℕ} → n ≡ place → y ≡ padded planes.y → u ≡ padded planes.u → v ≡ padded planes.v
     → made ≡ record fi { slots = slice_set fi.slots n (Some (record { y = y; u = u; v = v })) } → IsPut fi made planes place
-put_in fi made planes n place y u v n_is y_is u_is v_is e =
+put_in fi made planes {n} {place} {y} {u} {v} n_is y_is u_is v_is e =
     let with_planes : FrameInvariants ℕ → ℕ → Plane ℕ → Plane ℕ → Plane ℕ → FrameInvariants ℕ = λ fi n y u v. record fi { slots = slice_set fi.slots n (Some (record { y = y; u = u; v = v })) } in
     record {
       is = e ∙ ap (λ (n : ℕ). with_planes fi n y u v) n_is ∙ ap (λ (y : Plane ℕ). with_planes fi place y u v) y_is ∙ ap (λ (u : Plane ℕ). with_planes fi place (padded planes.y) u v) u_is
@@ -125,7 +125,7 @@ pub record AreReplaced (places replaced : List (Option ℕ)) (refresh place : �
   pub new : (s : ℕ) → s < 8 → has_bit refresh s ≡ true → slice_index_or replaced s None ≡ Some place
   pub old : (s : ℕ) → s < 8 → has_bit refresh s ≡ false → slice_index_or replaced s None ≡ slice_index_or places s None
 
-module _ (h : Header) (planes : Planes ℕ) (ready : AreReady h planes) (fi made : FrameInvariants ℕ) (places replaced : List (Option ℕ)) (refresh place : ℕ) (keeps : KeepsFrames h fi places)
+module _ {h : Header} {planes : Planes ℕ} (ready : AreReady h planes) {fi made : FrameInvariants ℕ} {places replaced : List (Option ℕ)} {refresh place : ℕ} (keeps : KeepsFrames h fi places)
     (are : AreReplaced places replaced refresh place) (put : IsPut fi made planes place) where
   pub put_keeps : KeepsFrames h made replaced
   put_keeps = subst (λ (m : FrameInvariants ℕ). KeepsFrames h m replaced) (sym put.is) (keeps_after h planes ready fi places replaced refresh place keeps are.below are.free are.new are.old are.count)

@@ -17,10 +17,10 @@ use Rattle.av1_streams.specs.Streams.{AppendsPrefix}
 use Rattle.av1_streams.specs.Tasks.{read_failed, too_long, write_failed}
 use Rattle.av1_streams.proofs.Performing.{is_err}
 use Rattle.av1_streams.proofs.Prefixes.{AppendsPrefix-after}
-use Rattle.av1_tile.specs.Canvas.{Y, U, V}
+use Rattle.av1_tile.specs.Canvas.{Component, Y, U, V}
 use Rattle.av1_tile.specs.Edge.{sample_of}
 use Rattle.av1_tile.specs.Output.{by_rows, planes_of, sample_bytes, visible}
-use Rattle.av1_tile.specs.PlaneBlocks.{extent_of}
+use Rattle.av1_tile.specs.PlaneBlocks.{extent_of, number}
 use Rattle.av1_tile.specs.Reference.{slow_walk}
 use Rattle.av1_sequence.specs.declared.error.FrameError.{FrameError}
 use Rattle.av1_sequence.specs.declared.error.FrameError.TheVariants as frame_errors
@@ -52,9 +52,12 @@ header_is : (h : Header) (refs : List (Option Frame)) (part : List ℕ) (p : Pla
 unfolding plan_behind
 header_is h refs part p (vs, spells, is) = spelled_header (superblocks h) h refs vs p spells
 
+-- the bytes of one plane, and of all, written at this depth
+abbrev plane_at_depth : ℕ → PlanValue → Component → List ℕ
+plane_at_depth depth plan k = flat_map (sample_bytes depth) (by_rows (extent_of plan.header (number k)) (λ x y. sample_of (slow_walk plan k x y)))
+
 abbrev text_at_depth : ℕ → PlanValue → List ℕ
-text_at_depth depth plan =
-    flat_map (sample_bytes depth) (by_rows (extent_of plan.header 0) (λ x y. sample_of (slow_walk plan Y x y))) ++ flat_map (sample_bytes depth) (by_rows (extent_of plan.header 1) (λ x y. sample_of (slow_walk plan U x y))) ++ flat_map (sample_bytes depth) (by_rows (extent_of plan.header 2) (λ x y. sample_of (slow_walk plan V x y)))
+text_at_depth depth plan = plane_at_depth depth plan Y ++ plane_at_depth depth plan U ++ plane_at_depth depth plan V
 
 -- the frame of a plan is written as the plan's planes are
 text_of_frame : (k : Kept) (head : FrameHead) (part : List ℕ) (plan : PlanValue) → IsValidFrame k head part plan → frame_text k.frames (frame_of plan) ≡ planes_of plan

@@ -9,6 +9,7 @@ use Rattle.av1_frame.specs.declared.frame_invariants.FrameInvariants.{FrameInvar
 use Rattle.av1_frame.specs.declared.plane.Plane.{Plane}
 use Rattle.av1_frame.specs.declared.plane.PlaneConfig.{PlaneConfig}
 use Rattle.av1_frame.specs.Planes.{InPlane, painted_plane}
+use Rattle.av1_intra.specs.ChromaFromLuma.{ac_at}
 use Rattle.av1_plan.specs.declared.geometry.PlaneArea.{PlaneArea}
 use Rattle.av1_plan.specs.declared.geometry.TransformBlock.{TransformBlock}
 use Rattle.av1_blocks.specs.declared.mc.FilterMode.TheVariants.{REGULAR}
@@ -24,7 +25,7 @@ use Rattle.av1_tile.specs.declared.plane_block.Prediction.TheVariants as predict
 use Rattle.av1_tile.specs.PlaneBlocks.{is_whole}
 use Rattle.av1_tile.specs.Reference.{added, block_residue, no_luma}
 use Rattle.av1_tile.specs.Steps.{Step, predict, add, block_steps, joined, own_prediction, plane_steps, steps_at, whole_area, whole_steps}
-use Rattle.av1_tile.specs.Walk.{BlockFits, IsPlaceIn, IsPlaneOf, PredictionFits, Stores, area_at, edges_in, fast_in, has_edge}
+use Rattle.av1_tile.specs.Walk.{BlockFits, IsPlaceIn, IsPlaneOf, PredictionFits, Stores, area_at, edges_in, fast_in, has_edge, with_header}
 use Rattle.av1_tile.proofs.TransformBlocks.{block_is}
 use Rattle.av1_tile.proofs.WithinDepth.{BeginsIn, added_stores, own_stores, whole_stores}
 
@@ -62,52 +63,59 @@ module _ (h : Header) (block : PlaneBlock) (at : BlockPlace) where
   block_counted count after triples found e = e ∙ two_steps edges_in count triples found
 
 -- a plan of which nothing is asked
-pub no_plan : PlanValue
+no_plan : PlanValue
 no_plan = record { header = record { version = 1; width = 8; height = 8; depth = 8; sampling = 0; filter = REGULAR; edge_filter = false; slots = []; mask = 0 }; references = []; leaves = [] }
 
--- planes after the two steps of a block of a plan
-module _ {T : Type 0} (num : T → ℕ) (pixel : ℕ → T) (law : (v : ℕ) → num (pixel v) ≡ v) (back : (x : T) → pixel (num x) ≡ x) (plan : PlanValue) (luma : PlaneBlock → ℕ → ℕ → ℤ) (block : PlaneBlock) (at : BlockPlace)
-    (place : IsPlaceIn plan.header block at) (before between : Plane T)
-    (predicted : between ≡ fold (fast_in num pixel plan block.plane luma) before (own_prediction block at.number (area_at block at))) where
+-- planes after the two steps of a block of plans with this header
+module _ {T : Type 0} (num : T → ℕ) (pixel : ℕ → T) (law : (v : ℕ) → num (pixel v) ≡ v) (back : (x : T) → pixel (num x) ≡ x) (h : Header) (block : PlaneBlock) (at : BlockPlace) (place : IsPlaceIn h block at)
+    (ac : List ℤ) (before between : Plane T)
+    (predicted : (value : PlanValue) → between ≡ fold (fast_in num pixel (with_header h value) block.plane (λ _. ac_at (tx_width block.area.tx_size) ac)) before (own_prediction block at.number (area_at block at))) where
+  abbrev luma : PlaneBlock → ℕ → ℕ → ℤ
+  luma = λ _. ac_at (tx_width block.area.tx_size) ac
+
+  -- what a step does to the plane
+  abbrev turn : PlanValue → Plane T → Step → Plane T
+  turn value = fast_in num pixel (with_header h value) block.plane luma
+
   -- between them the samples lie within the depth
-  pub between_stores : Stores num plan.header block.plane before → 8 ≤ plan.header.depth → Stores num plan.header block.plane between
+  pub between_stores : Stores num h block.plane before → 8 ≤ h.depth → Stores num h block.plane between
   between_stores stores deep =
-      subst (Stores num plan.header block.plane) (sym predicted) (own_stores num pixel law back plan block.plane luma before stores deep block at.number (area_at block at) (begins_in plan.header block at place))
+      subst (Stores num h block.plane) (sym (predicted no_plan))
+      (own_stores num pixel law back (with_header h no_plan) block.plane luma before stores deep block at.number (area_at block at) (begins_in h block at place))
 
   -- the plane is laid out as before
-  pub between_layout : between.plane_cfg ≡ before.plane_cfg
+  between_layout : between.plane_cfg ≡ before.plane_cfg
   unfolding fast_in
-  between_layout = ap (λ (p : Plane T). p.plane_cfg) predicted ∙ go (is_whole block.prediction)
+  between_layout = ap (λ (p : Plane T). p.plane_cfg) (predicted no_plan) ∙ go (is_whole block.prediction)
     where
-      go : (t : Bool) → (fold (fast_in num pixel plan block.plane luma) before (if t then [] else predict block at.number (area_at block at) ∷ [])).plane_cfg ≡ before.plane_cfg
+      go : (t : Bool) → (fold (turn no_plan) before (if t then [] else predict block at.number (area_at block at) ∷ [])).plane_cfg ≡ before.plane_cfg
       go true = refl
       go false = refl
 
   -- the block lies in it
-  pub between_inside : Stores num plan.header block.plane between → InPlane (area_at block at) before → InPlane (area_at block at) between
-  between_inside stores inside = record {
-    storage = stores.place.whole;
+  pub between_inside : Stores num h block.plane before → 8 ≤ h.depth → InPlane (area_at block at) before → InPlane (area_at block at) between
+  between_inside stores deep inside = record {
+    storage = (between_stores stores deep).place.whole;
     columns = subst (λ (c : PlaneConfig). c.xorigin + at.x + tx_width block.area.tx_size ≤ c.stride) (sym between_layout) inside.columns;
     rows = subst (λ (c : PlaneConfig). c.yorigin + at.y + tx_height block.area.tx_size ≤ c.alloc_height) (sym between_layout) inside.rows;
   }
 
-  module _ (h : Header) (is : h ≡ plan.header) (triples : List Triple) (after : Plane T)
-      (painted : after ≡ painted_plane between (area_at block at) (λ r c v. pixel (added h.depth (num v) (block_residue h.depth block triples at.number r c)))) where
-    added_is : after ≡ fast_in num pixel plan block.plane luma between (add block triples at.number (area_at block at))
+  module _ (triples : List Triple) (after : Plane T) (painted : after ≡ painted_plane between (area_at block at) (λ r c v. pixel (added h.depth (num v) (block_residue h.depth block triples at.number r c)))) where
+    added_is : (value : PlanValue) → after ≡ turn value between (add block triples at.number (area_at block at))
     unfolding fast_in
-    added_is = painted ∙ ap (λ (k : Header). painted_plane between (area_at block at) (λ r c v. pixel (added k.depth (num v) (block_residue k.depth block triples at.number r c)))) is
+    added_is value = painted
 
     -- after them they are the plane that has gone through the block's steps
-    pub block_walked : transform_block plan.header block.plane block.area at.number ≡ Some (record { x = at.x; y = at.y })
-        → after ≡ fold (fast_in num pixel plan block.plane luma) before (steps_at plan.header block triples at.number)
-    block_walked found =
-        added_is ∙ ap (λ (p : Plane T). fast_in num pixel plan block.plane luma p (add block triples at.number (area_at block at))) predicted
-        ∙ two_steps plan.header block at (fast_in num pixel plan block.plane luma) before triples found
+    pub block_walked : transform_block h block.plane block.area at.number ≡ Some (record { x = at.x; y = at.y }) → (value : PlanValue) → after ≡ fold (turn value) before (steps_at h block triples at.number)
+    block_walked found value =
+        added_is value ∙ ap (λ (p : Plane T). turn value p (add block triples at.number (area_at block at))) (predicted value)
+        ∙ two_steps h block at (turn value) before triples found
 
     -- whose samples lie within the depth
-    pub after_stores : Stores num plan.header block.plane between → Stores num plan.header block.plane after
-    after_stores stores =
-        subst (Stores num plan.header block.plane) (sym added_is) (added_stores num pixel law back plan block.plane luma between stores block triples at.number (area_at block at))
+    pub after_stores : Stores num h block.plane before → 8 ≤ h.depth → Stores num h block.plane after
+    after_stores stores deep =
+        subst (Stores num h block.plane) (sym (added_is no_plan))
+        (added_stores num pixel law back (with_header h no_plan) block.plane luma between (between_stores stores deep) block triples at.number (area_at block at))
 
     pub after_layout : after.plane_cfg ≡ before.plane_cfg
     after_layout = ap (λ (p : Plane T). p.plane_cfg) painted ∙ between_layout

@@ -33,7 +33,9 @@ loaded_fit b block l (t ∷ ts) h f =
     loaded_fit b block (with_triple block l t) ts (either_fits b (t.block == block) (set l t.place t.value) l (λ i. set_fits b l t.place i t.value h v) h) (λ k d n. f (suc k) d (omega arith))
 
 -- the loaded coefficients, in front of what lies behind them
-pub front_is : {C : Type 0} (val : C → ℤ) (n coded block : ℕ) (ts : List Triple) (new old : List C) → n ≡ coded → n ≤ length old → length new ≡ length (take n old) → map val new ≡ fold (with_triple block) (replicate (length (take n old)) (pos 0)) ts → map val (take n (new ++ drop n old)) ≡ fold (with_triple block) (replicate coded (pos 0)) ts
+pub front_is : {C : Type 0} (val : C → ℤ) (n coded block : ℕ) (ts : List Triple) (new old : List C) → n ≡ coded → n ≤ length old → length new ≡ length (take n old)
+    → map val new ≡ fold (with_triple block) (replicate (length (take n old)) (pos 0)) ts
+    → map val (take n (new ++ drop n old)) ≡ fold (with_triple block) (replicate coded (pos 0)) ts
 front_is val n coded block ts new old e l h k =
     let m : length (take n old) ≡ n = omega (arith, length-take n old) in
     let len : length new ≡ n = h ∙ m in

@@ -144,7 +144,9 @@ module _ (extent : PlaneExtent) (written : Written) (s : ℕ → ℕ → ℕ) (a
         let inside : x < extent.width = omega (arith, ex) in
         let t = lt-ltb x extent.width inside in
         let u = lt-ltb 0 a.width some in
-        let all : (nat_lt 0 (suc y) && nat_lt x extent.width && (nat_lt 0 a.width || right)) ≡ true = ap (λ (b : Bool). b && nat_lt x extent.width && (nat_lt 0 a.width || right)) (lt-ltb 0 (suc y) (omega arith)) ∙ ap (λ (b : Bool). true && b && (nat_lt 0 a.width || right)) t ∙ ap (λ (b : Bool). true && true && (b || right)) u in
+        let all : (nat_lt 0 (suc y) && nat_lt x extent.width && (nat_lt 0 a.width || right)) ≡ true =
+        ap (λ (b : Bool). b && nat_lt x extent.width && (nat_lt 0 a.width || right)) (lt-ltb 0 (suc y) (omega arith))
+        ∙ ap (λ (b : Bool). true && b && (nat_lt 0 a.width || right)) t ∙ ap (λ (b : Bool). true && true && (b || right)) u in
         sym (known_inside x y inside (omega (arith, ey))) ∙ known_value x y (k ∙ all)
 
     first_known_left : (x y : ℕ) → a.x ≡ suc x → a.y ≡ y → written x y ≡ Some (s x y)
@@ -159,7 +161,9 @@ module _ (extent : PlaneExtent) (written : Written) (s : ℕ → ℕ → ℕ) (a
         let inside : y < extent.height = omega (arith, ey) in
         let t = lt-ltb y extent.height inside in
         let u = lt-ltb 0 a.height some in
-        let all : (nat_lt 0 (suc x) && nat_lt y extent.height && (nat_lt 0 a.height || low)) ≡ true = ap (λ (b : Bool). b && nat_lt y extent.height && (nat_lt 0 a.height || low)) (lt-ltb 0 (suc x) (omega arith)) ∙ ap (λ (b : Bool). true && b && (nat_lt 0 a.height || low)) t ∙ ap (λ (b : Bool). true && true && (b || low)) u in
+        let all : (nat_lt 0 (suc x) && nat_lt y extent.height && (nat_lt 0 a.height || low)) ≡ true =
+        ap (λ (b : Bool). b && nat_lt y extent.height && (nat_lt 0 a.height || low)) (lt-ltb 0 (suc x) (omega arith))
+        ∙ ap (λ (b : Bool). true && b && (nat_lt 0 a.height || low)) t ∙ ap (λ (b : Bool). true && true && (b || low)) u in
         sym (known_inside x y (omega (arith, ex)) inside) ∙ known_value x y (k ∙ all)
 
     -- a place above

@@ -166,7 +166,8 @@ whole_with h planes j p s t same = record { plane = places_with h planes j p s.p
 rows_same : (width first n : ℕ) (f g : ℕ → ℕ → ℕ) → ((x y : ℕ) → x < width → y < first + n → f x y ≡ g x y) → flat_map (λ y. by_index width (λ x. f x y)) (range_with_len first n) ≡ flat_map (λ y. by_index width (λ x. g x y)) (range_with_len first n)
 rows_same width first zero f g e = refl
 rows_same width first (suc n) f g e =
-    ap (λ (l : List ℕ). l ++ flat_map (λ y. by_index width (λ x. f x y)) (range_with_len (first + 1) n)) (listed_same width (λ x. f x first) (λ x. g x first) (λ x h. e x first h (omega arith))) ∙ ap (λ (l : List ℕ). by_index width (λ x. g x first) ++ l) (rows_same width (first + 1) n f g (λ x y h k. e x y h (omega arith)))
+    ap (λ (l : List ℕ). l ++ flat_map (λ y. by_index width (λ x. f x y)) (range_with_len (first + 1) n)) (listed_same width (λ x. f x first) (λ x. g x first) (λ x h. e x first h (omega arith)))
+    ∙ ap (λ (l : List ℕ). by_index width (λ x. g x first) ++ l) (rows_same width (first + 1) n f g (λ x y h k. e x y h (omega arith)))
 
 plane_bytes_same : (extent : PlaneExtent) (f g : ℕ → ℕ → ℕ) → ((x y : ℕ) → x < extent.width → y < extent.height → f x y ≡ g x y) → plane_bytes extent f ≡ plane_bytes extent g
 plane_bytes_same extent f g e =
@@ -179,7 +180,8 @@ visible_same h f g e =
     let a = plane_bytes_same (extent_of h 0) (f Y) (g Y) (e Y) in
     let b = plane_bytes_same (extent_of h 1) (f U) (g U) (e U) in
     let c = plane_bytes_same (extent_of h 2) (f V) (g V) (e V) in
-    ap (λ (l : List ℕ). l ++ plane_bytes (extent_of h 1) (f U) ++ plane_bytes (extent_of h 2) (f V)) a ∙ ap (λ (l : List ℕ). plane_bytes (extent_of h 0) (g Y) ++ l ++ plane_bytes (extent_of h 2) (f V)) b ∙ ap (λ (l : List ℕ). plane_bytes (extent_of h 0) (g Y) ++ plane_bytes (extent_of h 1) (g U) ++ l) c
+    ap (λ (l : List ℕ). l ++ plane_bytes (extent_of h 1) (f U) ++ plane_bytes (extent_of h 2) (f V)) a
+    ∙ ap (λ (l : List ℕ). plane_bytes (extent_of h 0) (g Y) ++ l ++ plane_bytes (extent_of h 2) (f V)) b ∙ ap (λ (l : List ℕ). plane_bytes (extent_of h 0) (g Y) ++ plane_bytes (extent_of h 1) (g U) ++ l) c
 
 module _ {T : Type 0} (num : T → ℕ) (pixel : ℕ → T) (law : (v : ℕ) → num (pixel v) ≡ v) (back : (x : T) → pixel (num x) ≡ x) where
   -- a rectangle that is turned in the plane as on the canvas

@@ -158,7 +158,9 @@ parts_again [] before at more short =
 parts_again (part ∷ parts) before at more short =
     let rest = flat_map part_text parts in
     let place : at + length (part_text part ++ rest) ≡ at + length (part_text part) + length rest = omega (arith, length-append (part_text part) rest) in
-    rw (append_assoc (part_text part) rest more, part_again at part (rest ++ more) (All-head (λ part. length part < 2 ^ 32) part parts short), parts_again parts (before ++ part ∷ []) (at + length (part_text part)) more (All-tail (λ part. length part < 2 ^ 32) part parts short), append_assoc before (part ∷ []) parts, place) refl
+    let first = part_again at part (rest ++ more) (All-head (λ part. length part < 2 ^ 32) part parts short) in
+    let later = parts_again parts (before ++ part ∷ []) (at + length (part_text part)) more (All-tail (λ part. length part < 2 ^ 32) part parts short) in
+    rw (append_assoc (part_text part) rest more, first, later, append_assoc before (part ∷ []) parts, place) refl
 
 found : (bytes : List ℕ) (f : FileValue) → AreBytes bytes → read_file bytes ≡ Ok f → IsGridText bytes f
 unfolding read_file

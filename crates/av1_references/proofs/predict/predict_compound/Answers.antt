@@ -1,8 +1,7 @@
-use Rattle.std.proofs.Common.{◌∙◌, ap, rules, arith, pos, ◌+ℤ◌}
+use Rattle.std.proofs.Common.{rules, arith}
 use Rattle.av1_blocks.specs.Blocks.{block_width, block_height}
-use Rattle.av1_frame.specs.Areas.{area_from, from_origin}
 use Rattle.av1_inter.specs.Reference.{reference_of as reference_in}
-use Rattle.av1_references.proofs.Painted.{from_first, IsLeafRegion, compound_region}
+use Rattle.av1_references.proofs.Painted.{leaf_region, compound_region}
 use Rattle.av1_references.proofs.Served.{served_shorter}
 use Rattle.av1_references.proofs.predict.predict_compound.Goals as goal
 
@@ -20,14 +19,10 @@ pub returns : goal.returns
 returns g c = λ value holds has_first has_second.
     let plane = c.args.plane.now in
     let area = c.args.area in
-    let leaf : IsLeafRegion plane area c.region_mut-region.result (pos c.whole_tile-tile.result.x +ℤ c.first_sample.result.x) (pos c.whole_tile-tile.result.y +ℤ c.first_sample.result.y) c.width.result c.height.result = record {
-      plane_is = c.region_mut-region.ensures.plane;
-      cfg_is = c.region_mut-region.ensures.cfg;
-      area_is = c.region_mut-region.ensures.area ∙ ap (area_from plane.plane_cfg (from_origin plane.plane_cfg)) c.visible_area.ensures;
-      column = from_first c.whole_tile-tile.result.x area.x c.first_sample.result.x c.whole_tile-tile.ensures.x c.first_sample.ensures.x;
-      row = from_first c.whole_tile-tile.result.y area.y c.first_sample.result.y c.whole_tile-tile.ensures.y c.first_sample.ensures.y;
-      columns = c.width.ensures.value;
-      rows = c.height.ensures.value;
-    } in
-    let e = compound_region g.T.Pixel.num g.T.Pixel.pixel value c.args.fi.now holds c.args.p c.requires.plane plane area c.region_mut-region.result c.predict_inter_compound.new.dst (pos c.whole_tile-tile.result.x +ℤ c.first_sample.result.x) (pos c.whole_tile-tile.result.y +ℤ c.first_sample.result.y) c.width.result c.height.result leaf c.args.references c.args.mvs has_first has_second c.predict_inter_compound.ensures.painted in
+    let region = c.region_mut-region in
+    let tile = c.whole_tile-tile in
+    let leaf = leaf_region plane area region.result region.ensures.plane region.ensures.cfg region.ensures.area c.visible_area.ensures
+    tile.ensures.x tile.ensures.y c.first_sample.ensures.x c.first_sample.ensures.y c.width.ensures.value c.height.ensures.value in
+    let predicted = c.predict_inter_compound in
+    let e = compound_region g.T.Pixel.num g.T.Pixel.pixel value c.args.fi.now holds c.args.p c.requires.plane plane area region.result predicted.new.dst _ _ _ _ leaf c.args.references c.args.mvs has_first has_second predicted.ensures.painted in
     search rules

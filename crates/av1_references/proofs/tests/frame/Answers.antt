@@ -31,6 +31,7 @@ padded_plane-requires-6-clause-samples g c = record { count = c.chroma-4.ensures
 
 pub returns-clause-held : goal.returns-clause-held
 returns-clause-held g c =
-    filled_serves g.T.Pixel.num SHARP c.args.depth c.requires.depths c.luma.result c.chroma.result c.chroma-2.result c.luma-2.result c.chroma-3.result c.chroma-4.result (record { y = c.in_ok-y.y; u = c.in_ok-u.u; v = c.in_ok-v.v }) (record { y = c.in_ok-y-2.y; u = c.in_ok-u-2.u; v = c.in_ok-v-2.v }) c.in_ok-fi.fi c.set_slot.new.self c.set_slot-2.new.self
+    filled_serves g.T.Pixel.num SHARP c.args.depth c.requires.depths c.luma.result c.chroma.result c.chroma-2.result c.luma-2.result c.chroma-3.result c.chroma-4.result
+    (record { y = c.in_ok-y.y; u = c.in_ok-u.u; v = c.in_ok-v.v }) (record { y = c.in_ok-y-2.y; u = c.in_ok-u-2.u; v = c.in_ok-v-2.v }) c.in_ok-fi.fi c.set_slot.new.self c.set_slot-2.new.self
     (c.in_ok-fi.ensures ∙ ap (λ (n : ℕ). new_frame 16 8 SHARP n true references_named) c.from-bit_depth.ensures) c.set_slot.ensures c.set_slot-2.ensures
     c.in_ok-y.ensures c.in_ok-u.ensures c.in_ok-v.ensures c.in_ok-y-2.ensures c.in_ok-u-2.ensures c.in_ok-v-2.ensures

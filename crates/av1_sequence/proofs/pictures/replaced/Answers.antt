@@ -39,12 +39,14 @@ loop-slot-init c = record { count = c.requires; new = λ s lt. absurd (omega (ar
 
 pub loop-slot-preserved : goal.loop-slot-preserved
 loop-slot-preserved c =
-    let places = c.args.places in
-    let held = c.loop-slot.invariant in
-    let are : AreReplaced places c.loop-slot.replaced c.args.refresh c.args.place c.loop-slot.slot = record { count = held.count; new = held.new; old = held.old; rest = held.rest } in
-    let next : AreReplaced places c.if-has_bit.replaced c.args.refresh c.args.place (c.loop-slot.slot + 1) =
+    let a = c.args in
+    let step = c.loop-slot in
+    let held = step.invariant in
+    let are : AreReplaced a.places step.replaced a.refresh a.place step.slot = record { count = held.count; new = held.new; old = held.old; rest = held.rest } in
+    let past : List (Option ℕ) → Type 0 = λ xs. AreReplaced a.places xs a.refresh a.place (step.slot + 1) in
+    let next : past c.if-has_bit.replaced =
     elim c.if-has_bit.branch [
-      | then-has_bit w ↦ subst (λ (xs : List (Option ℕ)). AreReplaced places xs c.args.refresh c.args.place (c.loop-slot.slot + 1)) (sym w.replaced-is) (one_more places c.loop-slot.replaced c.args.refresh c.args.place c.loop-slot.slot c.loop-slot-test.true are (sym c.has_bit.ensures ∙ w.if-has_bit.true))
-      | else-has_bit w ↦ subst (λ (xs : List (Option ℕ)). AreReplaced places xs c.args.refresh c.args.place (c.loop-slot.slot + 1)) (sym w.replaced-is) (none_more places c.loop-slot.replaced c.args.refresh c.args.place c.loop-slot.slot are (sym c.has_bit.ensures ∙ w.if-has_bit.false))
+      | then-has_bit w ↦ subst past (sym w.replaced-is) (one_more a.places step.replaced a.refresh a.place step.slot c.loop-slot-test.true are (sym c.has_bit.ensures ∙ w.if-has_bit.true))
+      | else-has_bit w ↦ subst past (sym w.replaced-is) (none_more a.places step.replaced a.refresh a.place step.slot are (sym c.has_bit.ensures ∙ w.if-has_bit.false))
     ] in
     record { count = next.count; new = next.new; old = next.old; rest = next.rest }

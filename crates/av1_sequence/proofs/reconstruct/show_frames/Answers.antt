@@ -18,14 +18,16 @@ show_frame-requires-clause-text g c = text_at c.args.file.now.frames.items c.loo
 pub returns-in_err-show_frame-clause-shows : goal.returns-in_err-show_frame-clause-shows
 returns-in_err-show_frame-clause-shows g c =
     let (written, lead, appended) = c.loop-index.invariant.shown in
-    stops (file_value c.args.file.now) c.loop-index.index (frame_value c.index.result.now) (frame_at c.args.file.now.frames.items c.loop-index.index c.index.result.now (omega (arith, c.loop-index-test.true, c.len-index-end.ensures)) c.index.ensures) c.loop-index.sequence c.show_frame.new.sequence written
+    let here = frame_at c.args.file.now.frames.items c.loop-index.index c.index.result.now (omega (arith, c.loop-index-test.true, c.len-index-end.ensures)) c.index.ensures in
+    stops (file_value c.args.file.now) c.loop-index.index (frame_value c.index.result.now) here c.loop-index.sequence c.show_frame.new.sequence written
     _ _ _ lead appended c.from_residual-in_err-show_frame.result c.in_err-show_frame.field-0.0 c.from_residual-in_err-show_frame.ensures.1 c.in_err-show_frame.ensures.shows
 
 pub loop-index-preserved : goal.loop-index-preserved
 loop-index-preserved g c =
     let (written, lead, appended) = c.loop-index.invariant.shown in
+    let here = frame_at c.args.file.now.frames.items c.loop-index.index c.index.result.now (omega (arith, c.loop-index-test.true, c.len-index-end.ensures)) c.index.ensures in
     record {
-      shown = goes_on (file_value c.args.file.now) c.loop-index.index (frame_value c.index.result.now) (frame_at c.args.file.now.frames.items c.loop-index.index c.index.result.now (omega (arith, c.loop-index-test.true, c.len-index-end.ensures)) c.index.ensures) c.loop-index.sequence c.show_frame.new.sequence written
+      shown = goes_on (file_value c.args.file.now) c.loop-index.index (frame_value c.index.result.now) here c.loop-index.sequence c.show_frame.new.sequence written
           _ _ _ lead appended c.in_ok-show_frame.ensures.shows;
       later = omega (arith, c.loop-index.invariant.later, c.show_frame.ensures.later);
     }

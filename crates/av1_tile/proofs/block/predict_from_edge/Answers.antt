@@ -22,7 +22,8 @@ edge_is : (g : given.Over) (c : goal.After-edge-1 g)
 edge_is g c =
     let a = c.args in
     let r = c.as_region in
-    edge_placed g.T.Pixel.num a.header.now a.block.now a.at c.requires.place a.plane.now c.requires.stores.place r.result r.ensures.plane r.ensures.cfg r.ensures.area a.mode a.param c.offset_at.result c.from.result c.region_mut-region.result.plane.now c.offset_at.ensures c.from.ensures c.region_mut-region.ensures.plane
+    edge_placed g.T.Pixel.num a.header.now a.block.now a.at c.requires.place a.plane.now c.requires.stores.place r.result r.ensures.plane r.ensures.cfg r.ensures.area a.mode a.param
+    c.offset_at.result c.from.result c.region_mut-region.result.plane.now c.offset_at.ensures c.from.ensures c.region_mut-region.ensures.plane
 
 pub predict_region-requires-clause-left : goal.predict_region-requires-clause-left
 predict_region-requires-clause-left g c = c.get_intra_edges.ensures.left ∙ ap (λ (k : Edge). reverse k.left) (edge_is g c)
@@ -37,8 +38,11 @@ pub returns-clause-painted : goal.returns-clause-painted
 returns-clause-painted g c =
     let a = c.args in
     let region = c.region_mut-region in
-    let area = area_at a.block.now a.at in
-    let f = λ (q : Plane g.row.T.Denot) (r k : ℕ) (v : g.row.T.Denot). g.T.Pixel.pixel (by_mode (extent_of a.header.now a.block.now.plane) a.filter a.mode a.param area (placed_edge a.header.now a.block.now.plane a.block.now a.at.number area g.T.Pixel.num q) (ac_at (tx_width a.block.now.area.tx_size) a.luma.now) r k) in
+    let block = a.block.now in
+    let area = area_at block a.at in
+    let edge = placed_edge a.header.now block.plane block a.at.number area g.T.Pixel.num in
+    let luma = ac_at (tx_width block.area.tx_size) a.luma.now in
+    let f = λ (q : Plane g.row.T.Denot) (r k : ℕ) (v : g.row.T.Denot). g.T.Pixel.pixel (by_mode (extent_of a.header.now block.plane) a.filter a.mode a.param area (edge q) luma r k) in
     let place : region.result.area ≡ stored_area a.plane.now.plane_cfg area = search rules in
     let done = region_painted a.plane.now area (f a.plane.now) region.result c.predict_region.new.region region.ensures.plane region.ensures.cfg place
     (c.predict_region.ensures.painted ∙ ap (λ (q : Plane g.row.T.Denot). painted region.result area.width area.height (f q)) region.ensures.plane) in

@@ -23,4 +23,7 @@ returns-clause-painted g c =
     let r = c.requires in
     let tile = c.whole_plane-tile in
     let held = edge_held g.T.Pixel.num a.edge.now _ r.left r.corner r.above in
-    painted_same _ _ _ _ _ _ c.predict_intra.ensures.painted (λ q p v k l. ap g.T.Pixel.pixel (region_predicted g.T.Pixel.num a.header.now a.block.now a.at a.region.now tile.result tile.ensures.x tile.ensures.y r.area a.filter a.mode a.param (ac_at (tx_width a.block.now.area.tx_size) a.luma.now) c.from-bit_depth.result a.edge.now q p r.width r.height c.from-bit_depth.ensures held))
+    let luma = ac_at (tx_width a.block.now.area.tx_size) a.luma.now in
+    let depth = c.from-bit_depth in
+    painted_same _ _ _ _ _ _ c.predict_intra.ensures.painted (λ q p v k l.
+    ap g.T.Pixel.pixel (region_predicted g.T.Pixel.num a.header.now a.block.now a.at a.region.now tile.result tile.ensures.x tile.ensures.y r.area a.filter a.mode a.param luma depth.result a.edge.now q p r.width r.height depth.ensures held))

@@ -55,7 +55,9 @@ returns-after-is_from_luma-clause-walked g c = λ value serves.
           }
       | else-is_from_luma w ↦ absurd (true≢false (sym from ∙ sym c.is_from_luma.ensures ∙ w.if-is_from_luma.false))
     ] in
-    let same_y = luma_same num g.T.Pixel.pixel plan 0 (λ _. ac_at (tx_width (block_by h told Y l).area.tx_size) a.buffers.now.luma.items) (luma_for h (sample_at num a.planes.now.y) Y) (block_by h told Y l) (plain_in_y h l (filter_by h told Y l) (sample_at num a.planes.now.y) (tx_width (block_by h told Y l).area.tx_size) a.buffers.now.luma.items) h a.y.now a.planes.now.y in
+    let block = block_by h told Y l in
+    let before = sample_at num a.planes.now.y in
+    let same_y = luma_same num g.T.Pixel.pixel plan 0 (λ _. ac_at (tx_width block.area.tx_size) a.buffers.now.luma.items) (luma_for h before Y) block (plain_in_y h l (filter_by h told Y l) before (tx_width block.area.tx_size) a.buffers.now.luma.items) h a.y.now a.planes.now.y in
     let same_u = luma_same num g.T.Pixel.pixel plan 1 (λ _. ac_at (tx_width (block_by h told U l).area.tx_size) luma) (luma_for h samples U) (block_by h told U l) (luma_in_u h samples l luma holds (filter_by h told U l)) h a.u.now a.planes.now.u in
     let same_v = luma_same num g.T.Pixel.pixel plan 2 (λ _. ac_at (tx_width (block_by h told V l).area.tx_size) luma) (luma_for h samples V) (block_by h told V l) (luma_in_v h samples l luma holds (filter_by h told V l)) h a.v.now a.planes.now.v in
     leaf_walked num g.T.Pixel.pixel plan a.planes.now _ (λ k. block_by h told k l) l carried

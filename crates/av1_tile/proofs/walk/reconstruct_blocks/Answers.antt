@@ -65,7 +65,8 @@ loop-n-preserved g c =
       own = c.leading_count.ensures.own;
       end = c.leading_count.ensures.end;
     } in
-    let turn : ((value : PlanValue) → after ≡ fold (step value) before (steps_at h block all n)) × (edges_after ≡ fold edges_in edges (steps_at h block all n)) × Stores g.T.Pixel.num h block.plane after × (after.plane_cfg ≡ before.plane_cfg) × (c.match-place_in.buffers.luma.items ≡ c.loop-n.buffers.luma.items) =
+    let turn : ((value : PlanValue) → after ≡ fold (step value) before (steps_at h block all n)) × (edges_after ≡ fold edges_in edges (steps_at h block all n))
+    × Stores g.T.Pixel.num h block.plane after × (after.plane_cfg ≡ before.plane_cfg) × (c.match-place_in.buffers.luma.items ≡ c.loop-n.buffers.luma.items) =
     elim c.match-place_in.branch [
       | in-Some w ↦
           let number : w.in-Some.place.number ≡ n = w.in-Some.ensures.some.1 ∙ held.number in

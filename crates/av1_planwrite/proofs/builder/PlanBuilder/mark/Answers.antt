@@ -3,43 +3,37 @@ use Rattle.av1_plan.specs.Grammar.{is_mark}
 use Rattle.av1_planwrite.specs.declared.parts.Part.{Part}
 use Rattle.av1_planwrite.specs.declared.parts.Part.TheVariants.{Node}
 use Rattle.av1_planwrite.specs.Builder.{building}
-use Rattle.av1_planwrite.specs.Building.{Building, Tells, later_parts}
-use Rattle.av1_planwrite.specs.Stacks.{has_room}
+use Rattle.av1_planwrite.specs.Building.{Building, Tells}
 use Rattle.av1_planwrite.specs.Text.{byte}
-use Rattle.av1_planwrite.proofs.BuilderParts.{IsRoom, room_is, asked_first, marked, written_well}
+use Rattle.av1_planwrite.proofs.BuilderParts.{room_is, asked_first, marked, written_well}
 use Rattle.av1_planwrite.proofs.Telling.{tells_mark}
 use Rattle.av1_planwrite.proofs.builder.PlanBuilder.mark.Goals as goal
 
-room : (c : goal.In-Some-Node) → IsRoom c.in-Some-Node.level c.in-Some-Node.x c.in-Some-Node.y (length (later_parts c.args.self.now.parts))
-room c =
-    let n = c.in-Some-Node in
-    room_is n.level n.x n.y (length (later_parts c.args.self.now.parts)) (subst (λ (p : Part). has_room p (length (later_parts c.args.self.now.parts)) ≡ true) n.field-0-is n.ensures.room)
-
 pub is_mark-requires-clause-level : goal.is_mark-requires-clause-level
-is_mark-requires-clause-level c = let r = room c in r.most
+is_mark-requires-clause-level c = let r = room_is c.in-Some-Node.field-0-is c.in-Some-Node.ensures.room in r.most
 
 pub is_mark-requires-clause-x : goal.is_mark-requires-clause-x
-is_mark-requires-clause-x c = let r = room c in omega (arith, r.x_within)
+is_mark-requires-clause-x c = let r = room_is c.in-Some-Node.field-0-is c.in-Some-Node.ensures.room in omega (arith, r.x_within)
 
 pub is_mark-requires-clause-y : goal.is_mark-requires-clause-y
-is_mark-requires-clause-y c = let r = room c in omega (arith, r.y_within)
+is_mark-requires-clause-y c = let r = room_is c.in-Some-Node.field-0-is c.in-Some-Node.ensures.room in omega (arith, r.y_within)
 
 pub cut-requires-clause-level : goal.cut-requires-clause-level
 cut-requires-clause-level c =
     let n = c.in-Some-Node in
-    let r = room_is n.level n.x n.y (length (later_parts c.args.self.now.parts)) (subst (λ (p : Part). has_room p (length (later_parts c.args.self.now.parts)) ≡ true) n.field-0-is n.ensures.room) in
+    let r = room_is n.field-0-is n.ensures.room in
     (r.some, r.most)
 
 pub cut-requires-clause-place : goal.cut-requires-clause-place
 cut-requires-clause-place c =
     let n = c.in-Some-Node in
-    let r = room_is n.level n.x n.y (length (later_parts c.args.self.now.parts)) (subst (λ (p : Part). has_room p (length (later_parts c.args.self.now.parts)) ≡ true) n.field-0-is n.ensures.room) in
+    let r = room_is n.field-0-is n.ensures.room in
     (r.x_within, r.y_within)
 
 pub cut-requires-clause-room : goal.cut-requires-clause-room
 cut-requires-clause-room c =
     let n = c.in-Some-Node in
-    let r = room_is n.level n.x n.y (length (later_parts c.args.self.now.parts)) (subst (λ (p : Part). has_room p (length (later_parts c.args.self.now.parts)) ≡ true) n.field-0-is n.ensures.room) in
+    let r = room_is n.field-0-is n.ensures.room in
     omega (arith, r.room, ap (λ (ps : List Part). length ps) c.pass_part.ensures.stack)
 
 pub returns-clause-given : goal.returns-clause-given
@@ -52,7 +46,7 @@ returns-clause-given c =
 pub returns-clause-told : goal.returns-clause-told
 returns-clause-told c = λ p t.
     let n = c.in-Some-Node in
-    let r = room_is n.level n.x n.y (length (later_parts c.args.self.now.parts)) (subst (λ (p : Part). has_room p (length (later_parts c.args.self.now.parts)) ≡ true) n.field-0-is n.ensures.room) in
+    let r = room_is n.field-0-is n.ensures.room in
     let asked = sym n.ensures.value ∙ ap Some n.field-0-is in
     let admitted : is_mark c.args.self.now.header n.level n.x n.y c.args.mark ≡ true = sym c.is_mark.ensures.value ∙ c.if-not-is_mark.false in
     subst (λ (b : Building). Tells b p) (sym (returns-clause-given c)) (tells_mark (building c.args.self.now) p n.level n.x n.y c.args.mark t asked r.some (omega arith) admitted)

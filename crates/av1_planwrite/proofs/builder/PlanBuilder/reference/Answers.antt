@@ -12,7 +12,8 @@ pub returns-clause-told : goal.returns-clause-told
 returns-clause-told c =
     let s = c.args.self.now in
     let h = s.header in
-    let written = written_well (c.planes-written.new.self.bytes.items ≡ s.text.bytes.items ++ (plane_text h.depth c.args.y.now ++ plane_text h.depth c.args.u.now ++ plane_text h.depth c.args.v.now)) c.planes-written.result _ c.settle.result _ c.in_ok-settle.was c.settle.ensures.answer c.planes-written.ensures.text in
+    let texts = plane_text h.depth c.args.y.now ++ plane_text h.depth c.args.u.now ++ plane_text h.depth c.args.v.now in
+    let written = written_well (c.planes-written.new.self.bytes.items ≡ s.text.bytes.items ++ texts) c.planes-written.result _ c.settle.result _ c.in_ok-settle.was c.settle.ensures.answer c.planes-written.ensures.text in
     let given = building_is h h _ _ _ _ _ _ refl c.next_slot-self.ensures.value refl (c.in_ok-settle.ensures.kept ∙ written) in
     let admitted : admits_reference h c.args.y.now c.args.u.now c.args.v.now ≡ true = sym c.admits_reference.ensures ∙ c.if-not-admits_reference.false in
     λ p t. subst (λ (b : Building). Tells b (plan_with_reference p c.args.y.now c.args.u.now c.args.v.now)) (sym given)

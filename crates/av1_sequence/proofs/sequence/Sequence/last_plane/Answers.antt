@@ -1,6 +1,5 @@
 use Rattle.std.proofs.Common.{ap, sym, subst, ◌∙◌}
 use Rattle.av1_sequence.specs.Kept.{plane_shown, planes_shown}
-use Rattle.av1_sequence.specs.Last.{last_shown}
 use Rattle.av1_sequence.specs.Output.{IsWritable}
 use Rattle.av1_sequence.proofs.Framed.{last_apart, placed_seen, plane_seen, writable_seen}
 use Rattle.av1_sequence.proofs.KeptRows.{apart_plane, apart_writable}
@@ -10,7 +9,7 @@ pub returns-in-Some-clause-shown : goal.returns-in-Some-clause-shown
 returns-in-Some-clause-shown c =
     let h = c.self.inside.pictures.header in
     let planes = c.in-Some.planes in
-    plane_seen c.args.self.now c.self.inside.pictures.header c.self.inside.pictures.fi c.self.inside.pictures.places (last_shown c.self.inside.pictures.header c.self.inside.pictures.fi c.self.inside.apart c.self.inside.last) c.self.view_is c.args.p c.plane_in.result.now (planes_shown h planes.y planes.u planes.v)
+    plane_seen c.args.self.now c.self.inside c.self.view_is c.args.p c.plane_in.result.now (planes_shown h planes.y planes.u planes.v)
     (last_apart h c.self.inside.pictures.fi c.self.inside.apart c.self.inside.last planes c.in-Apart.is c.in-Some.is)
     (ap (plane_shown h c.args.p) c.plane_in.ensures ∙ apart_plane h planes c.args.p c.requires.plane)
 
@@ -18,13 +17,12 @@ pub returns-in-Some-clause-writable : goal.returns-in-Some-clause-writable
 returns-in-Some-clause-writable c =
     let h = c.self.inside.pictures.header in
     let planes = c.in-Some.planes in
-    writable_seen c.args.self.now c.self.inside.pictures.header c.self.inside.pictures.fi c.self.inside.pictures.places (last_shown c.self.inside.pictures.header c.self.inside.pictures.fi c.self.inside.apart c.self.inside.last) c.self.view_is c.args.p c.plane_in.result.now
+    writable_seen c.args.self.now c.self.inside c.self.view_is c.args.p c.plane_in.result.now
     (subst (IsWritable h c.args.p) (sym c.plane_in.ensures) (apart_writable h planes c.args.p c.self.inside.pictures.keeps.frame c.requires.plane (c.self.inside.ready planes c.in-Some.is)))
 
 pub returns-in-At-clause-shown : goal.returns-in-At-clause-shown
 returns-in-At-clause-shown c =
-    placed_seen c.args.self.now c.self.inside.pictures.header c.self.inside.pictures.fi c.self.inside.pictures.places (last_shown c.self.inside.pictures.header c.self.inside.pictures.fi c.self.inside.apart c.self.inside.last) c.self.view_is c.in-At.place c.args.p c.plane_at.result.now (c.self.inside.placed c.in-At.place c.in-At.is)
-    (ap (last_shown c.self.inside.pictures.header c.self.inside.pictures.fi c.self.inside.apart) c.in-At.is) c.plane_at.ensures.shown
+    placed_seen c.args.self.now c.self.inside c.self.view_is c.in-At.place c.args.p c.plane_at.result.now c.in-At.is c.plane_at.ensures.shown
 
 pub returns-in-At-clause-writable : goal.returns-in-At-clause-writable
-returns-in-At-clause-writable c = writable_seen c.args.self.now c.self.inside.pictures.header c.self.inside.pictures.fi c.self.inside.pictures.places (last_shown c.self.inside.pictures.header c.self.inside.pictures.fi c.self.inside.apart c.self.inside.last) c.self.view_is c.args.p c.plane_at.result.now c.plane_at.ensures.writable
+returns-in-At-clause-writable c = writable_seen c.args.self.now c.self.inside c.self.view_is c.args.p c.plane_at.result.now c.plane_at.ensures.writable
