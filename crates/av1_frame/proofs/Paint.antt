@@ -160,3 +160,6 @@ row_painted_rest stride a r f s t front rest new h l e p q b =
     let fits : n + a.width ≤ length s = row_within stride a (length s) r h l in
     let same : length t ≡ length s = ap length e ∙ length_paint stride _ f s in
     ap (λ u. u ++ new) p ∙ ap (λ u. take n t ++ u) (b ∙ ap (paint_row a.width (f r)) q) ∙ rest_is n a.width (f r) t (omega arith) ∙ ap (λ u. with_part n u (paint_row a.width (f r) (part n a.width u))) e ∙ paint_more stride a a.width r a.width f s h.some h.columns (omega arith) fits
+
+-- a loop that writes a rectangle of a slice row by row; `row_painted_rest` closes it
+pub ruleset rectangle_painting = (paint_none, length_paint, row_starts_within, row_within)

@@ -1,14 +1,15 @@
--- A loop that paints a region row by row.
+-- A loop that paints a region row by row, and one that paints its samples while they are lent.
 use Rattle.std.proofs.Common.{ℕ, ◌+◌, ◌*◌, ◌<◌, ◌≤◌, ◌≡◌, List, length, ap, arith, ◌∙◌, subst, sym}
 use Rattle.av1_frame.specs.declared.plane_region.PlaneRegionMut.{PlaneRegionMut}
 use Rattle.av1_frame.specs.declared.plane_region.OuterArea.{OuterArea}
 use Rattle.av1_frame.specs.declared.plane_region.StoredArea.{StoredArea}
-use Rattle.av1_frame.specs.Samples.{corner, with_part, row_start, row_of, paint_row}
+use Rattle.av1_frame.specs.Samples.{corner, with_part, row_start, row_of, paint, paint_row}
 use Rattle.av1_frame.specs.Areas.{IsStorage, AreaFits, AreRows}
 use Rattle.av1_frame.specs.declared.plane.PlaneConfig.{PlaneConfig}
 use Rattle.av1_frame.specs.Regions.{painted, painted_within, with_samples, with_area, with_outer, outer_area, stored, InStorage}
 use Rattle.av1_frame.proofs.Fits.{row_end_le, rows_le}
 use Rattle.av1_frame.proofs.Paint.{paint_none, paint_more, paint_same, length_paint, length_with_part}
+use Rattle.av1_frame.proofs.Update.{with_whole}
 
 -- storage of as many samples
 pub same_storage : (cfg : PlaneConfig) (m n : ℕ) → m ≡ n → IsStorage cfg n → IsStorage cfg m
@@ -72,3 +73,13 @@ corner_rows r w h s p q =
       rows = rows_le (r.area.y + h) r.plane_cfg.alloc_height r.plane_cfg.stride _ f.storage.fills (omega (arith, f.rows));
       few = f.storage.few;
     }
+
+-- a region all of whose samples were lent and painted
+pub lent_painted : {T : Type 0} (r : PlaneRegionMut T) (w h : ℕ) (a : StoredArea) (f g : ℕ → ℕ → T → T) (s ws : List T) → a ≡ corner r.area w h → s ≡ stored r → ws ≡ paint r.plane_cfg.stride a f s
+    → ((q p : ℕ) (v : T) → q < h → p < w → f q p v ≡ g q p v) → with_samples r (with_part 0 (stored r) ws) ≡ painted r w h g
+lent_painted r w h a f g s ws b l e same =
+    let m : ws ≡ paint r.plane_cfg.stride (corner r.area w h) f (stored r) = e ∙ ap (λ b. paint r.plane_cfg.stride b f s) b ∙ ap (paint r.plane_cfg.stride (corner r.area w h) f) l in
+    ap (with_samples r) (with_whole (stored r) ws (ap length m ∙ length_paint _ _ f (stored r)) ∙ m ∙ paint_same r.plane_cfg.stride _ f g (stored r) same)
+
+-- a region that lends all its samples to a loop over a slice
+pub ruleset region_lending = (corner_rows, painted_in_storage, with_whole, length_paint)

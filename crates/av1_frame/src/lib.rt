@@ -7,13 +7,17 @@
 //! - `Pixel` and `Coefficient` are numbers of a fixed width: number and value go back and forth, and samples are ordered as
 //!   their numbers are.
 //! - `clip` is the sample of a depth that is nearest to a number.
-//! - A row of a region or of a slice is the plane's samples. `fill_row` and `copy_row` change the first samples of a row.
+//! - A row of a region or of a slice is the plane's samples. `fill_row` and `copy_row` change the first samples of a row, `fill_area`
+//!   those of a rectangle.
 //! - What is written through a region stands in the plane when the borrow ends, and all other samples, the settings and the
 //!   rectangle stay. A call that writes says so in one equation, `output.new ≡ painted output.old width height f`, where
 //!   `f row column old` is the new sample (`specs/Regions.antt`). For a caller that counts from the first visible sample the
 //!   same is `painted_plane` (`specs/Planes.antt`), and `proofs/Planes.antt` reads it sample by sample. A loop that writes row by
 //!   row is proved by the lemmas `region_painting` (`proofs/Regions.antt`), one that writes a row by `row_painting`
 //!   (`proofs/Paint.antt`).
+//! - Below a region the same is said of a slice: `samples.new ≡ paint stride area f samples.old`, where `AreRows` holds of the
+//!   rectangle. `PlaneRegionMut` lends its samples to such a call. The loop is proved by `rectangle_painting` and `row_painted_rest`
+//!   (`proofs/Paint.antt`), the call that lends by `region_lending` (`proofs/Regions.antt`).
 //! - `Plane::pad` leaves every visible sample, and after it a stored place outside is the nearest visible sample.
 //! - A slot of `FrameInvariants` holds the planes that were put there last.
 //!
@@ -49,5 +53,5 @@ pub use plane_region::{
     Area, OuterArea, PlaneRegion, PlaneRegionMut, Rect, StoredArea, visible_area,
 };
 pub use plane_slice::PlaneSlice;
-pub use rows::{copy_row, fill_row, zero_coefficients, zero_samples};
+pub use rows::{copy_row, fill_area, fill_row, zero_coefficients, zero_samples};
 pub use tile_state::{CodedBlockInfo, TileRect, TileStateMut};

@@ -1,20 +1,35 @@
-//! Rows of samples, one sample after another, and rows of zeros.
+//! Rows of samples, one sample after another, rectangles of one value, and rows of zeros.
 
 ghost use Rattle.std.specs.Prelude.{◌≡◌, ◌≤◌, length, slice_index_or, pos, IfOk, replicate, vec_len};
-ghost use Rattle.av1_frame.specs.Samples.{paint_row};
+ghost use Rattle.av1_frame.specs.Areas.{AreRows};
+ghost use Rattle.av1_frame.specs.Samples.{paint, paint_row};
 
 use crate::pixel::{Coefficient, Pixel};
+use crate::plane_region::StoredArea;
 use std::alloc::{AllocError, Global};
 
 /// The first `width` samples of the row become `value`.
 #[inline]
 #[tactic(auto, using(crate::proofs::Paint::row_painting))]
-pub fn fill_row<T: Pixel>(row: &mut [T], value: T, width: usize)
+pub fn fill_row<T: Copy>(row: &mut [T], value: T, width: usize)
     requires { width ≤ length row.old }
     ensures { row.new ≡ paint_row width (λ _ _. value) row.old }
 {
     for c in 0..width {
         row[c] = value;
+    }
+}
+
+/// Each sample of the rectangle becomes `value`. The rows of `samples` stand `stride` apart.
+#[inline(always)]
+#[tactic(auto, using(crate::proofs::Paint::rectangle_painting))]
+pub fn fill_area<T: Copy>(samples: &mut [T], stride: usize, area: StoredArea, value: T)
+    requires rows { AreRows stride area (length samples.old) }
+    ensures { samples.new ≡ paint stride area (λ _ _ _. value) samples.old }
+{
+    for r in 0..area.height {
+        let (_, row) = samples.split_at_mut((area.y + r) * stride + area.x);
+        fill_row(row, value, area.width);
     }
 }
 

@@ -1,8 +1,8 @@
 //! Each generic call once at 8 and once at 16 bits, and worked places and sums.
 
 use crate::{
-    Area, BlockOffset, Coefficient, FrameInvariants, Pixel, Plane, PlaneOffset, Rect,
-    TileBlockOffset, TileRect, clamp, clip, copy_row, fill_row, round_shift,
+    Area, BlockOffset, Coefficient, FrameInvariants, Pixel, Plane, PlaneOffset, Rect, StoredArea,
+    TileBlockOffset, TileRect, clamp, clip, copy_row, fill_area, fill_row, round_shift,
 };
 use av1_blocks::FilterMode;
 use std::test::Fail;
@@ -49,8 +49,9 @@ macro_rules! all_samples {
         let mut region = plane.as_region_mut();
         let area = region.corner(2, 1);
         assert!($rt; area.x == 0 && area.y == 0 && area.width == 2 && area.height == 1, "its first samples");
-        region.samples_mut()[7] = 97;
-        assert!($rt; region.row(1).starts_with(&[10, 11, 12, 97]), "written in the plane");
+        fill_area(region.samples_mut(), 4, StoredArea { x: 2, y: 0, width: 1, height: 2 }, 97);
+        assert!($rt; region.row(0).starts_with(&[0, 1, 97, 3]), "one column");
+        assert!($rt; region.row(1).starts_with(&[10, 11, 97, 13]), "of two rows");
         Ok(())
     }};
 }

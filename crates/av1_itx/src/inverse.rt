@@ -8,7 +8,8 @@ ghost use Rattle.av1_blocks.specs.Transforms.{tx_width, tx_height, coded_area, v
 ghost use Rattle.av1_dct.specs.Arithmetic.{at, FitsBits};
 ghost use Rattle.av1_lists.specs.Counts.{raised};
 ghost use Rattle.av1_frame.specs.Arithmetic.{clip, round_shift};
-ghost use Rattle.av1_frame.specs.Samples.{paint_row};
+ghost use Rattle.av1_frame.specs.Areas.{AreRows};
+ghost use Rattle.av1_frame.specs.Samples.{paint, paint_row};
 ghost use Rattle.av1_frame.specs.Regions.{InStorage, painted};
 ghost use Rattle.av1_itx.specs.Kinds.{column_kind, row_kind};
 ghost use Rattle.av1_itx.specs.LaneGroups.{lane_groups};
@@ -19,7 +20,7 @@ use crate::columns::column_pass;
 use crate::lanes::Lanes;
 use crate::rows::row_pass;
 use av1_blocks::{OutOfMemory, TxSize, TxType};
-use av1_frame::{Pixel, PlaneRegionMut, clip, round_shift};
+use av1_frame::{Pixel, PlaneRegionMut, StoredArea, clip, round_shift};
 use std::alloc::Global;
 
 /// The values of one block between its passes, of one row or column, and of eight columns.
@@ -86,28 +87,27 @@ fn add_row<T: Pixel>(
     }
 }
 
-// Adds the values, row by row, to the region's first h rows and w columns.
-#[tactic(auto, using(av1_frame::proofs::Regions::region_painting, av1_frame::proofs::Fits::row_end_le))]
+// Adds the values, row by row, to the samples of the rectangle.
+#[tactic(auto, using(av1_frame::proofs::Paint::rectangle_painting))]
 fn add_rows<T: Pixel>(
-    output: &mut PlaneRegionMut<'_, T>,
+    samples: &mut [T],
+    stride: usize,
+    area: StoredArea,
     buffer: &[i32],
-    w: usize,
-    h: usize,
     shift: usize,
     bd: usize,
 )
-    requires fits { InStorage output.old }
-    requires columns { w ≤ output.old.area.width }
-    requires rows { h ≤ output.old.area.height }
-    requires buffer_long { length buffer.now ≡ h * w }
+    requires rows { AreRows stride area (length samples.old) }
+    requires buffer_long { length buffer.now ≡ area.height * area.width }
     requires depth { bd ≤ T.BITS }
     requires shift_in { shift ≤ 4 }
-    requires fit { (r c : ℕ) → r < h → c < w → FitsBits 24 (at buffer.now (r * w + c)) }
-    ensures painted { output.new ≡ painted output.old w h (λ r c v. T.pixel (clip bd (pos (T.num v) +ℤ round_shift (at buffer.now (r * w + c)) shift))) }
-    ensures fits { InStorage output.new }
+    requires fit { (r c : ℕ) → r < area.height → c < area.width → FitsBits 24 (at buffer.now (r * area.width + c)) }
+    ensures { samples.new ≡ paint stride area (λ r c v. T.pixel (clip bd (pos (T.num v) +ℤ round_shift (at buffer.now (r * area.width + c)) shift))) samples.old }
 {
-    for r in 0..h {
-        add_row(output.row_mut(r), buffer, r * w, w, shift, bd);
+    let width = area.width;
+    for r in 0..area.height {
+        let (_, row) = samples.split_at_mut((area.y + r) * stride + area.x);
+        add_row(row, buffer, r * width, width, shift, bd);
     }
 }
 
@@ -128,7 +128,9 @@ fn add_block<T: Pixel>(
     scaled: &mut [i32],
     lanes: &mut Lanes,
     input: &[T::Coeff],
-    output: &mut PlaneRegionMut<'_, T>,
+    samples: &mut [T],
+    stride: usize,
+    area: StoredArea,
     tx_size: TxSize,
     tx_type: TxType,
     bd: usize,
@@ -141,17 +143,16 @@ fn add_block<T: Pixel>(
     requires scaled_len { length scaled.old ≡ coded_area tx_size }
     requires input_len { coded_area tx_size ≤ length input.now }
     requires input_fits { (i : ℕ) → i < coded_area tx_size → FitsBits (bd + 8) (at (map T.Coeff.val input.now) i) }
-    requires fits { InStorage output.old }
-    requires columns { tx_width tx_size ≤ output.old.area.width }
-    requires rows { tx_height tx_size ≤ output.old.area.height }
-    ensures painted { output.new ≡ painted output.old (tx_width tx_size) (tx_height tx_size) (λ r c v. T.pixel (clip bd (pos (T.num v) +ℤ residue tx_size tx_type bd (map T.Coeff.val input.now) r c))) }
-    ensures fits { InStorage output.new }
+    requires rows { AreRows stride area (length samples.old) }
+    requires width { area.width ≡ tx_width tx_size }
+    requires height { area.height ≡ tx_height tx_size }
+    ensures painted { samples.new ≡ paint stride area (λ r c v. T.pixel (clip bd (pos (T.num v) +ℤ residue tx_size tx_type bd (map T.Coeff.val input.now) r c))) samples.old }
     ensures counts { lanes.new.count.groups ≡ raised lanes.old.count.groups (lane_groups tx_size tx_type) }
 {
     row_pass(input, scaled, lanes, buffer, tx_size, tx_type, bd);
     column_pass(buffer, lanes, tx_size, tx_type, bd);
     let shift = column_shift_of(tx_type);
-    add_rows(output, buffer, tx_size.width(), tx_size.height(), shift, bd);
+    add_rows(samples, stride, area, buffer, shift, bd);
 }
 
 // The same over a whole buffer.
@@ -160,7 +161,9 @@ fn add_over<T: Pixel>(
     scaled: &mut [i32],
     lanes: &mut Lanes,
     input: &[T::Coeff],
-    output: &mut PlaneRegionMut<'_, T>,
+    samples: &mut [T],
+    stride: usize,
+    area: StoredArea,
     tx_size: TxSize,
     tx_type: TxType,
     bd: usize,
@@ -173,11 +176,10 @@ fn add_over<T: Pixel>(
     requires scaled_len { 1024 ≤ length scaled.old }
     requires input_len { coded_area tx_size ≤ length input.now }
     requires input_fits { (i : ℕ) → i < coded_area tx_size → FitsBits (bd + 8) (at (map T.Coeff.val input.now) i) }
-    requires fits { InStorage output.old }
-    requires columns { tx_width tx_size ≤ output.old.area.width }
-    requires rows { tx_height tx_size ≤ output.old.area.height }
-    ensures painted { output.new ≡ painted output.old (tx_width tx_size) (tx_height tx_size) (λ r c v. T.pixel (clip bd (pos (T.num v) +ℤ residue tx_size tx_type bd (map T.Coeff.val input.now) r c))) }
-    ensures fits { InStorage output.new }
+    requires rows { AreRows stride area (length samples.old) }
+    requires width { area.width ≡ tx_width tx_size }
+    requires height { area.height ≡ tx_height tx_size }
+    ensures painted { samples.new ≡ paint stride area (λ r c v. T.pixel (clip bd (pos (T.num v) +ℤ residue tx_size tx_type bd (map T.Coeff.val input.now) r c))) samples.old }
     ensures counts { lanes.new.count.groups ≡ raised lanes.old.count.groups (lane_groups tx_size tx_type) }
 {
     let places = tx_size.height() * tx_size.width();
@@ -187,18 +189,58 @@ fn add_over<T: Pixel>(
         &mut scaled[..coefficients],
         lanes,
         input,
-        output,
+        samples,
+        stride,
+        area,
         tx_size,
         tx_type,
         bd,
     );
 }
 
-/// Adds the residue of coefficients to the first rows and columns of `output`, and clips: the specification's "2D inverse transform
-/// process" and the addition of "Reconstruction".
+/// Adds the residue of coefficients to the samples of a rectangle, which has the transform's sides, and clips: the specification's
+/// "2D inverse transform process" and the addition of "Reconstruction". The rows of `samples` stand `stride` apart.
 ///
 /// The coefficient of row r and column c stands at `c * min(height, 32) + r` of `input`; the rows and columns from 32 on have none.
-/// All samples outside the transform's sides stay.
+/// All samples outside the rectangle stay.
+pub fn inverse_transform_add_to<T: Pixel>(
+    scratch: &mut TxScratch,
+    input: &[T::Coeff],
+    samples: &mut [T],
+    stride: usize,
+    area: StoredArea,
+    tx_size: TxSize,
+    tx_type: TxType,
+    bd: usize,
+)
+    requires depths { IsDepth bd }
+    requires depth { bd ≤ T.BITS }
+    requires valid { IsTrue (valid_av1_transform tx_size tx_type) }
+    requires lossless { tx_type ≡ WHT_WHT → tx_size ≡ TX_4X4 }
+    requires input_len { coded_area tx_size ≤ length input.now }
+    requires input_fits { (i : ℕ) → i < coded_area tx_size → FitsBits (bd + 8) (at (map T.Coeff.val input.now) i) }
+    requires rows { AreRows stride area (length samples.old) }
+    requires width { area.width ≡ tx_width tx_size }
+    requires height { area.height ≡ tx_height tx_size }
+    ensures painted { samples.new ≡ paint stride area (λ r c v. T.pixel (clip bd (pos (T.num v) +ℤ residue tx_size tx_type bd (map T.Coeff.val input.now) r c))) samples.old }
+    ensures lanes { scratch.new.lanes.count.groups ≡ raised scratch.old.lanes.count.groups (lane_groups tx_size tx_type) }
+{
+    add_over(
+        scratch.buffer.as_mut_slice(),
+        scratch.scaled.as_mut_slice(),
+        &mut scratch.lanes,
+        input,
+        samples,
+        stride,
+        area,
+        tx_size,
+        tx_type,
+        bd,
+    );
+}
+
+/// The same to the first rows and columns of `output`, as many as the transform has. All samples outside them stay.
+#[tactic(auto, using(av1_frame::proofs::Regions::region_lending))]
 pub fn inverse_transform_add_with<T: Pixel>(
     scratch: &mut TxScratch,
     input: &[T::Coeff],
@@ -220,12 +262,14 @@ pub fn inverse_transform_add_with<T: Pixel>(
     ensures fits { InStorage output.new }
     ensures lanes { scratch.new.lanes.count.groups ≡ raised scratch.old.lanes.count.groups (lane_groups tx_size tx_type) }
 {
-    add_over(
-        scratch.buffer.as_mut_slice(),
-        scratch.scaled.as_mut_slice(),
-        &mut scratch.lanes,
+    let stride = output.plane_cfg.stride;
+    let area = output.corner(tx_size.width(), tx_size.height());
+    inverse_transform_add_to(
+        scratch,
         input,
-        output,
+        output.samples_mut(),
+        stride,
+        area,
         tx_size,
         tx_type,
         bd,

@@ -4,9 +4,10 @@
 //! The crate stands on `av1_lists` for lists by index, on `av1_blocks` for the sizes and types of transforms, on `av1_dct` for the inverse cosine transforms and the
 //! arithmetic of all of them, and on `av1_frame` for samples and the regions that they lie in. It promises to the walk above it:
 //!
-//! - `inverse_transform_add_with` turns each sample of a block into itself plus `residue` of `specs/Residue.antt`, clipped to the
-//!   depth, and leaves all other samples as they were. It runs over a `TxScratch` that is made once, allocates nothing and always
-//!   succeeds. `inverse_transform_add` makes its own scratch; where memory is refused it changes nothing.
+//! - `inverse_transform_add_to` turns each sample of a rectangle of a slice into itself plus `residue` of `specs/Residue.antt`,
+//!   clipped to the depth, and leaves all other samples as they were; `inverse_transform_add_with` does so in a region. Both run over
+//!   a `TxScratch` that is made once, allocate nothing and always succeed. `inverse_transform_add` makes its own scratch; where memory
+//!   is refused it changes nothing.
 //! - Columns that take the cosine transform go through `cosine_lanes` eight at a time, where there are eight or more. A scratch counts
 //!   these groups: `TxScratch::lane_groups`, which each call raises by `lane_groups` of `specs/LaneGroups.antt`.
 //! - `av1_iadst4`, `av1_iflipadst16`, `av1_iidentity32`, `av1_iwht4` and their like give the definitions of `specs/Adst.antt`,
@@ -41,7 +42,9 @@ pub use adst::{
     av1_iadst4, av1_iadst8, av1_iadst16, av1_iflipadst4, av1_iflipadst8, av1_iflipadst16,
 };
 pub use identity::{av1_iidentity4, av1_iidentity8, av1_iidentity16, av1_iidentity32};
-pub use inverse::{TxScratch, inverse_transform_add, inverse_transform_add_with};
+pub use inverse::{
+    TxScratch, inverse_transform_add, inverse_transform_add_to, inverse_transform_add_with,
+};
 pub use kinds::{TxType1D, get_1d_tx_types};
 pub use laws::{
     columns_never_wrap, flipped_is_reversed, networks_never_wrap, networks_of_zeros,

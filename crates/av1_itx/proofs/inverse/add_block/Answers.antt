@@ -1,9 +1,9 @@
-use Rattle.std.proofs.Common.{arith, ℕ, ◌+◌, ◌*◌, ◌∙◌, ap, sym, subst, pos, map, ℤ, ◌+ℤ◌}
+use Rattle.std.proofs.Common.{arith, ℕ, ◌<◌, ◌+◌, ◌*◌, ◌∙◌, ap, sym, subst, pos, map, ℤ, ◌+ℤ◌}
 use Rattle.av1_blocks.specs.Transforms.{tx_width, tx_height}
 use Rattle.av1_dct.specs.Arithmetic.{at, FitsBits}
 use Rattle.av1_frame.specs.Arithmetic.{clip, round_shift}
-use Rattle.av1_frame.specs.Regions.{painted}
-use Rattle.av1_frame.proofs.Regions.{painted_same}
+use Rattle.av1_frame.specs.Samples.{paint}
+use Rattle.av1_frame.proofs.Paint.{paint_same}
 use Rattle.av1_itx.specs.Residue.{column_shift}
 use Rattle.av1_itx.proofs.Passes.{row-fits, column-fits, residue_is}
 use Rattle.av1_itx.proofs.inverse.add_block.Goals as goal
@@ -17,19 +17,20 @@ pub add_rows-requires-clause-fit : goal.add_rows-requires-clause-fit
 add_rows-requires-clause-fit g c = λ r q hr hq.
     let P : ℤ → Type 0 = λ z. FitsBits 24 z in
     let Q : ℕ → Type 0 = λ n. FitsBits 24 (at c.column_pass.new.buffer (r * n + q)) in
-    subst Q (sym c.width.ensures.value) (subst P (sym (c.column_pass.ensures.value r q (omega arith) (omega arith))) (column-fits c.args.tx_size c.args.tx_type c.args.bd _ r (omega arith)))
+    subst Q (sym c.requires.width) (subst P (sym (c.column_pass.ensures.value r q (omega arith) (omega arith))) (column-fits c.args.tx_size c.args.tx_type c.args.bd _ r (omega arith)))
 
 pub returns-clause-painted : goal.returns-clause-painted
 returns-clause-painted g c =
-    let o = c.args.output.now in
+    let a = c.args.area in
     let size = c.args.tx_size in
     let type = c.args.tx_type in
     let cs = map g.T.Coeff.Coefficient.val c.args.input.now in
     let buf = c.column_pass.new.buffer in
     let put_on = λ (z : ℤ) (v : _). g.T.Pixel.pixel (clip c.args.bd (pos (g.T.Pixel.num v) +ℤ z)) in
-    painted_same o _ (tx_width size) (tx_height size) (λ r q v. put_on (round_shift (at buf (r * tx_width size + q)) (column_shift type)) v) _
-    (c.add_rows.ensures.painted
-    ∙ ap (λ n. painted o n c.height.result (λ r q v. put_on (round_shift (at buf (r * n + q)) c.column_shift_of-shift.result) v)) c.width.ensures.value
-    ∙ ap (λ n. painted o (tx_width size) n (λ r q v. put_on (round_shift (at buf (r * tx_width size + q)) c.column_shift_of-shift.result) v)) c.height.ensures.value
-    ∙ ap (λ n. painted o (tx_width size) (tx_height size) (λ r q v. put_on (round_shift (at buf (r * tx_width size + q)) n) v)) c.column_shift_of-shift.ensures.value)
-    (λ r q v hr hq. ap (λ z. put_on z v) (residue_is size type c.args.bd cs (λ y. at c.row_pass.new.buffer (y * tx_width size + q)) r q _ (c.column_pass.ensures.value r q hr hq) (λ y hy. c.row_pass.ensures.value y q hy hq)))
+    c.add_rows.ensures
+    ∙ ap (λ n. paint c.args.stride a (λ r q v. put_on (round_shift (at buf (r * n + q)) c.column_shift_of-shift.result) v) c.args.samples.now) c.requires.width
+    ∙ ap (λ n. paint c.args.stride a (λ r q v. put_on (round_shift (at buf (r * tx_width size + q)) n) v) c.args.samples.now) c.column_shift_of-shift.ensures.value
+    ∙ paint_same c.args.stride a _ _ c.args.samples.now (λ r q v hr hq.
+    let h : r < tx_height size = omega (arith, c.requires.height) in
+    let k : q < tx_width size = omega (arith, c.requires.width) in
+    ap (λ z. put_on z v) (residue_is size type c.args.bd cs (λ y. at c.row_pass.new.buffer (y * tx_width size + q)) r q _ (c.column_pass.ensures.value r q h k) (λ y hy. c.row_pass.ensures.value y q hy k)))
