@@ -5,7 +5,8 @@
 ghost use Rattle.std.specs.Prelude.{◌≡◌, ℕ, ◌+◌, ◌*◌, ◌^◌, ◌<◌, ◌≤◌, length, map, take, ◌++◌, pos, ℤ, slice_index_or, ◌≤ℤ◌, ◌<ℤ◌, ◌+ℤ◌, ◌*ℤ◌, if◌then◌else◌, unsigned_abs};
 ghost use Rattle.std.specs.Ordering.{int_eq};
 ghost use Rattle.av1_frame.specs.Arithmetic.{clip};
-ghost use Rattle.av1_frame.specs.Samples.{paint_row, row_of};
+ghost use Rattle.av1_frame.specs.Areas.{AreRows};
+ghost use Rattle.av1_frame.specs.Samples.{paint, paint_row, row_of};
 ghost use Rattle.av1_frame.specs.Regions.{InStorage, painted, stored};
 ghost use Rattle.av1_edges.specs.Sides.{base};
 ghost use Rattle.av1_intra.specs.Sides.{numbers};
@@ -13,8 +14,8 @@ ghost use Rattle.av1_intra.specs.Dc.{mean};
 ghost use Rattle.av1_intra.specs.ChromaFromLuma.{scaled_luma, from_luma, ac_at, first_sample};
 
 use crate::dc::{half_sample, mean_of, side_mean};
-use crate::rows::fill_rows;
-use av1_frame::{Pixel, PlaneRegionMut, clip};
+use crate::rows::fill_block;
+use av1_frame::{Pixel, PlaneRegionMut, StoredArea, clip};
 
 /// A difference of luma at its weight, in 64ths.
 fn weighted(alpha: i16, difference: i16) -> i32
@@ -66,35 +67,61 @@ fn row_from_luma<T: Pixel>(
     }
 }
 
-/// A block whose DC prediction is `dc` throughout.
-#[tactic(auto, using(av1_frame::proofs::Regions::region_painting))]
+/// A rectangle whose DC prediction is `dc` throughout.
+#[tactic(auto, using(av1_frame::proofs::Paint::rectangle_painting))]
 fn block_from_luma<T: Pixel>(
-    output: &mut PlaneRegionMut<'_, T>,
+    samples: &mut [T],
+    stride: usize,
+    area: StoredArea,
     ac: &[i16],
     alpha: i16,
     dc: T,
-    width: usize,
-    height: usize,
     bit_depth: usize,
 )
-    requires fits { InStorage output.old }
-    requires columns { width ≤ output.old.area.width }
-    requires rows { height ≤ output.old.area.height }
-    requires width { width ≤ 128 }
-    requires height { height ≤ 128 }
-    requires ac_long { width * height ≤ length ac.now }
+    requires rows { AreRows stride area (length samples.old) }
+    requires width { area.width ≤ 128 }
+    requires height { area.height ≤ 128 }
+    requires ac_long { area.width * area.height ≤ length ac.now }
     requires depth { bit_depth ≤ T.BITS }
-    ensures painted { output.new ≡ painted output.old width height
-        (λ r c _. T.pixel (clip bit_depth (pos (T.num dc) +ℤ scaled_luma alpha (ac_at width ac.now r c)))) }
-    ensures fits { InStorage output.new }
+    ensures { samples.new ≡ paint stride area (λ r c _. T.pixel (clip bit_depth (pos (T.num dc) +ℤ scaled_luma alpha (ac_at area.width ac.now r c)))) samples.old }
 {
-    for r in 0..height {
-        let row = output.row_mut(r);
+    let width = area.width;
+    for r in 0..area.height {
+        let (_, row) = samples.split_at_mut((area.y + r) * stride + area.x);
         row_from_luma(row, ac, r * width, alpha, dc, width, bit_depth);
     }
 }
 
+/// Predicts the samples of a rectangle from luma: each becomes the DC prediction `dc`, and what its difference in `ac` adds to it at the
+/// weight `alpha`, clipped to the depth. The rows of `samples` stand `stride` apart.
+///
+/// `ac` holds the differences of luma from its mean in eighths, row by row (see `pred_cfl_ac`), and `alpha` is in eighths, too. Without
+/// a weight `dc` is kept as it is, and `ac` is not read.
+pub fn pred_cfl_to<T: Pixel>(
+    samples: &mut [T],
+    stride: usize,
+    area: StoredArea,
+    ac: &[i16],
+    alpha: i16,
+    dc: T,
+    bit_depth: usize,
+)
+    requires rows { AreRows stride area (length samples.old) }
+    requires width { area.width ≤ 128 }
+    requires height { area.height ≤ 128 }
+    requires ac_long { area.width * area.height ≤ length ac.now }
+    requires depth { bit_depth ≤ T.BITS }
+    ensures { samples.new ≡ paint stride area (λ r c _. T.pixel (from_luma bit_depth alpha (T.num dc) (ac_at area.width ac.now r c))) samples.old }
+{
+    if alpha == 0 {
+        fill_block(samples, stride, area, dc);
+    } else {
+        block_from_luma(samples, stride, area, ac, alpha, dc, bit_depth);
+    }
+}
+
 /// A block whose DC prediction is `dc` throughout, which it keeps without a weight.
+#[tactic(auto, using(av1_frame::proofs::Regions::region_lending))]
 fn flat_from_luma<T: Pixel>(
     output: &mut PlaneRegionMut<'_, T>,
     ac: &[i16],
@@ -115,11 +142,9 @@ fn flat_from_luma<T: Pixel>(
         (λ r c _. T.pixel (from_luma bit_depth alpha (T.num dc) (ac_at width ac.now r c))) }
     ensures fits { InStorage output.new }
 {
-    if alpha == 0 {
-        fill_rows(output, dc, width, height);
-    } else {
-        block_from_luma(output, ac, alpha, dc, width, height, bit_depth);
-    }
+    let stride = output.plane_cfg.stride;
+    let area = output.corner(width, height);
+    pred_cfl_to(output.samples_mut(), stride, area, ac, alpha, dc, bit_depth);
 }
 
 /// Predicts the first `height` rows and `width` columns of `output` from luma: each sample becomes the first one of `output`, and
@@ -151,7 +176,7 @@ pub fn pred_cfl_inner<T: Pixel>(
         return;
     }
     let dc = output.row(0)[0];
-    block_from_luma(output, ac, alpha, dc, width, height, bit_depth);
+    flat_from_luma(output, ac, alpha, dc, width, height, bit_depth);
 }
 
 /// Predicts the first `height` rows and `width` columns of `output` from luma: each sample becomes that of `pred_dc`, and what its

@@ -25,8 +25,8 @@ pub fn sum_of<T: Pixel>(samples: &[T]) -> u32
     total
 }
 
-/// The mean of the samples of two sides.
-pub(crate) fn mean_of<T: Pixel>(left: &[T], above: &[T]) -> T
+/// The mean of the samples of two sides, of which one may be empty, rounded: the DC prediction of a block between them.
+pub fn mean_of<T: Pixel>(left: &[T], above: &[T]) -> T
     requires some { 0 < length left.now + length above.now }
     requires left_short { length left.now ≤ 64 }
     requires above_short { length above.now ≤ 64 }
@@ -46,8 +46,8 @@ pub(crate) fn side_mean<T: Pixel>(side: &[T]) -> T
     T::from_u32((sum_of(side) + count / 2) / count)
 }
 
-/// The sample in the middle of the range of this depth.
-pub(crate) fn half_sample<T: Pixel>(bit_depth: usize) -> T
+/// The sample in the middle of the range of this depth: the DC prediction of a block without sides.
+pub fn half_sample<T: Pixel>(bit_depth: usize) -> T
     requires low { 8 ≤ bit_depth }
     requires high { bit_depth ≤ T.BITS }
     ensures { result ≡ T.pixel (base bit_depth) }

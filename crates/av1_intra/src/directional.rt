@@ -5,6 +5,8 @@
 ghost use Rattle.std.specs.Prelude.{◌≡◌, ℕ, ◌+◌, ◌-◌, ◌*◌, ◌^◌, ◌<◌, ◌≤◌, length, List, map, reverse, if◌then◌else◌, nat_lt, IsTrue, pos, ◌-ℤ◌, ◌<ℤ◌, ◌≤ℤ◌, FitsSigned};
 ghost use Rattle.std.specs.Int.{w64};
 ghost use Rattle.std.specs.Option.{option_map};
+ghost use Rattle.av1_frame.specs.Areas.{AreRows};
+ghost use Rattle.av1_frame.specs.Samples.{paint};
 ghost use Rattle.av1_frame.specs.Regions.{InStorage, painted};
 ghost use Rattle.av1_intra.specs.Sides.{numbers};
 ghost use Rattle.av1_intra.specs.Neighbours.{uses_smooth_filter};
@@ -15,82 +17,77 @@ use crate::angle::dr_intra_derivative;
 use crate::interpolation::{rows_below_90, rows_between, rows_past_180};
 use crate::neighbours::IntraEdgeFilterParameters;
 use crate::prepared_side::{PreparedSide, prepare_above, prepare_left};
-use av1_frame::{Pixel, PlaneRegionMut};
+use av1_frame::{Pixel, PlaneRegionMut, StoredArea};
 
 /// A block that is predicted along a direction.
 #[derive(Clone, Copy)]
-pub(crate) struct DirectionalBlock {
+pub struct DirectionalBlock {
     /// The angle, in degrees.
-    pub(crate) p_angle: usize,
+    pub p_angle: usize,
     /// How many columns it has.
-    pub(crate) width: usize,
+    pub width: usize,
     /// How many rows it has.
-    pub(crate) height: usize,
+    pub height: usize,
     /// The depth of its samples, in bits.
-    pub(crate) bit_depth: usize,
+    pub bit_depth: usize,
     /// Whether a neighbour has a smooth mode, where the edge filter is on.
-    pub(crate) smooth_filter: Option<bool>,
+    pub smooth_filter: Option<bool>,
     /// How many visible columns of the plane there are from its first on.
-    pub(crate) visible_columns: usize,
+    pub visible_columns: usize,
     /// How many visible rows of the plane there are from its first on.
-    pub(crate) visible_rows: usize,
+    pub visible_rows: usize,
 }
 
 /// The samples of an angle below 90.
 fn directional_below_90<T: Pixel>(
-    output: &mut PlaneRegionMut<'_, T>,
+    samples: &mut [T],
+    stride: usize,
+    area: StoredArea,
     above: &[T],
     corner: T,
     block: DirectionalBlock,
 )
-    requires fits { InStorage output.old }
-    requires columns { block.width ≤ output.old.area.width }
-    requires rows { block.height ≤ output.old.area.height }
-    requires width { block.width ≤ 64 }
-    requires height { block.height ≤ 64 }
+    requires rows { AreRows stride area (length samples.old) }
+    requires width { area.width ≡ block.width }
+    requires height { area.height ≡ block.height }
+    requires few_columns { block.width ≤ 64 }
+    requires few_rows { block.height ≤ 64 }
     requires angle { IsTrue (is_interpolated block.p_angle) }
     requires range { block.p_angle < 90 }
     requires long { block.width + block.height ≤ length above.now }
     requires depth { block.bit_depth ≤ T.BITS }
-    ensures painted { (left : List ℕ) → output.new ≡ painted output.old block.width block.height (λ i j _. T.pixel (directional block (T.num corner) (map T.num above.now) left i j)) }
-    ensures fits { InStorage output.new }
+    ensures { (left : List ℕ) → samples.new ≡ paint stride area (λ i j _. T.pixel (directional block (T.num corner) (map T.num above.now) left i j)) samples.old }
 {
     let dx = dr_intra_derivative(block.p_angle);
     let places = block.width + block.height;
     let smoothed = block.width.min(block.visible_columns) + block.height;
     let mut side = PreparedSide::empty();
     prepare_above(&mut side, above, corner, block, smoothed, places);
-    rows_below_90(
-        output,
-        &side,
-        dx,
-        block.width,
-        block.height,
-        block.bit_depth,
-    );
+    rows_below_90(samples, stride, area, &side, places, dx, block.bit_depth);
 }
 
 /// The samples of an angle between 90 and 180.
 fn directional_between<T: Pixel>(
-    output: &mut PlaneRegionMut<'_, T>,
+    samples: &mut [T],
+    stride: usize,
+    area: StoredArea,
     above: &[T],
     left: &[T],
     corner: T,
     block: DirectionalBlock,
 )
-    requires fits { InStorage output.old }
-    requires columns { block.width ≤ output.old.area.width }
-    requires rows { block.height ≤ output.old.area.height }
-    requires width { block.width ≤ 64 }
-    requires height { block.height ≤ 64 }
+    requires rows { AreRows stride area (length samples.old) }
+    requires width { area.width ≡ block.width }
+    requires height { area.height ≡ block.height }
+    requires few_columns { block.width ≤ 64 }
+    requires few_rows { block.height ≤ 64 }
     requires angle { IsTrue (is_interpolated block.p_angle) }
     requires low { 90 < block.p_angle }
     requires high { block.p_angle < 180 }
     requires above_long { block.width ≤ length above.now }
     requires left_long { block.height ≤ length left.now }
     requires depth { block.bit_depth ≤ T.BITS }
-    ensures painted { output.new ≡ painted output.old block.width block.height (λ i j _. T.pixel (directional block (T.num corner) (map T.num above.now) (reverse (map T.num left.now)) i j)) }
-    ensures fits { InStorage output.new }
+    ensures { samples.new ≡ paint stride area (λ i j _. T.pixel (directional block (T.num corner) (map T.num above.now) (reverse (map T.num left.now)) i j)) samples.old }
 {
     let dx = dr_intra_derivative(180 - block.p_angle);
     let dy = dr_intra_derivative(block.p_angle - 90);
@@ -101,77 +98,73 @@ fn directional_between<T: Pixel>(
     let mut left_side = PreparedSide::empty();
     prepare_left(&mut left_side, left, corner, block, rows, block.height);
     rows_between(
-        output,
+        samples,
+        stride,
+        area,
         &side,
         &left_side,
         dx,
         dy,
-        block.width,
-        block.height,
         block.bit_depth,
     );
 }
 
 /// The samples of an angle past 180.
 fn directional_past_180<T: Pixel>(
-    output: &mut PlaneRegionMut<'_, T>,
+    samples: &mut [T],
+    stride: usize,
+    area: StoredArea,
     left: &[T],
     corner: T,
     block: DirectionalBlock,
 )
-    requires fits { InStorage output.old }
-    requires columns { block.width ≤ output.old.area.width }
-    requires rows { block.height ≤ output.old.area.height }
-    requires width { block.width ≤ 64 }
-    requires height { block.height ≤ 64 }
+    requires rows { AreRows stride area (length samples.old) }
+    requires width { area.width ≡ block.width }
+    requires height { area.height ≡ block.height }
+    requires few_columns { block.width ≤ 64 }
+    requires few_rows { block.height ≤ 64 }
     requires angle { IsTrue (is_interpolated block.p_angle) }
     requires range { 180 < block.p_angle }
     requires long { block.height + block.width ≤ length left.now }
     requires depth { block.bit_depth ≤ T.BITS }
-    ensures painted { (above : List ℕ) → output.new ≡ painted output.old block.width block.height (λ i j _. T.pixel (directional block (T.num corner) above (reverse (map T.num left.now)) i j)) }
-    ensures fits { InStorage output.new }
+    ensures { (above : List ℕ) → samples.new ≡ paint stride area (λ i j _. T.pixel (directional block (T.num corner) above (reverse (map T.num left.now)) i j)) samples.old }
 {
     let dy = dr_intra_derivative(270 - block.p_angle);
     let places = block.height + block.width;
     let smoothed = block.height.min(block.visible_rows) + block.width;
     let mut side = PreparedSide::empty();
     prepare_left(&mut side, left, corner, block, smoothed, places);
-    rows_past_180(
-        output,
-        &side,
-        dy,
-        block.width,
-        block.height,
-        block.bit_depth,
-    );
+    rows_past_180(samples, stride, area, &side, dy, block.bit_depth);
 }
 
-/// The samples of a block, by the range in which its angle lies.
-fn predict_block<T: Pixel>(
-    output: &mut PlaneRegionMut<'_, T>,
+/// Predicts the samples of a rectangle along the angle of `block`, whose width and height are the rectangle's: as `pred_directional`, from
+/// sides of the same places and the sample `corner` above the left one. The rows of `samples` stand `stride` apart.
+pub fn pred_directional_to<T: Pixel>(
+    samples: &mut [T],
+    stride: usize,
+    area: StoredArea,
     above: &[T],
     left: &[T],
     corner: T,
     block: DirectionalBlock,
 )
-    requires fits { InStorage output.old }
-    requires columns { block.width ≤ output.old.area.width }
-    requires rows { block.height ≤ output.old.area.height }
-    requires width { block.width ≤ 64 }
-    requires height { block.height ≤ 64 }
+    requires rows { AreRows stride area (length samples.old) }
+    requires width { area.width ≡ block.width }
+    requires height { area.height ≡ block.height }
+    requires few_columns { block.width ≤ 64 }
+    requires few_rows { block.height ≤ 64 }
     requires angle { IsTrue (is_interpolated block.p_angle) }
     requires above_long { block.p_angle < 180 → block.width + (if nat_lt block.p_angle 90 then block.height else 0) ≤ length above.now }
     requires left_long { 90 < block.p_angle → block.height + (if nat_lt 180 block.p_angle then block.width else 0) ≤ length left.now }
     requires depth { block.bit_depth ≤ T.BITS }
-    ensures painted { output.new ≡ painted output.old block.width block.height (λ i j _. T.pixel (directional block (T.num corner) (map T.num above.now) (reverse (map T.num left.now)) i j)) }
-    ensures fits { InStorage output.new }
+    ensures { samples.new ≡ paint stride area (λ i j _. T.pixel (directional block (T.num corner) (map T.num above.now) (reverse (map T.num left.now)) i j)) samples.old }
 {
     if block.p_angle < 90 {
-        directional_below_90(output, above, corner, block);
+        directional_below_90(samples, stride, area, above, corner, block);
     } else if block.p_angle < 180 {
-        directional_between(output, above, left, corner, block);
+        directional_between(samples, stride, area, above, left, corner, block);
     } else {
-        directional_past_180(output, left, corner, block);
+        directional_past_180(samples, stride, area, left, corner, block);
     }
 }
 
@@ -208,6 +201,7 @@ fn visible_from(visible: usize, first: isize) -> usize
 /// places beside the block only those are smoothed that lie in the plane's visible columns and rows.
 ///
 /// AV1 specification: directional intra prediction process.
+#[tactic(auto, using(av1_frame::proofs::Regions::region_lending))]
 pub fn pred_directional<T: Pixel>(
     output: &mut PlaneRegionMut<'_, T>,
     above: &[T],
@@ -242,5 +236,15 @@ pub fn pred_directional<T: Pixel>(
         visible_columns: visible_from(output.plane_cfg.width, output.rect().x),
         visible_rows: visible_from(output.plane_cfg.height, output.rect().y),
     };
-    predict_block(output, above, left, top_left[0], block);
+    let stride = output.plane_cfg.stride;
+    let area = output.corner(width, height);
+    pred_directional_to(
+        output.samples_mut(),
+        stride,
+        area,
+        above,
+        left,
+        top_left[0],
+        block,
+    );
 }

@@ -1,14 +1,14 @@
 //! Rows of a block along a direction.
 
 ghost use Rattle.std.specs.Prelude.{◌≡◌, ℕ, ◌+◌, ◌-◌, ◌*◌, ◌/◌, ◌^◌, ◌<◌, ◌≤◌, length};
-ghost use Rattle.av1_frame.specs.Samples.{paint_row};
-ghost use Rattle.av1_frame.specs.Regions.{InStorage, painted};
+ghost use Rattle.av1_frame.specs.Areas.{AreRows};
+ghost use Rattle.av1_frame.specs.Samples.{paint, paint_row};
 ghost use Rattle.av1_intra.specs.Sides.{entries};
 ghost use Rattle.av1_intra.specs.Angles.{ArePair};
 ghost use Rattle.av1_intra.specs.Directional.{at, below_90, between};
 
 use crate::prepared_side::PreparedSide;
-use av1_frame::{Pixel, PlaneRegionMut, clip, fill_row};
+use av1_frame::{Pixel, StoredArea, clip, fill_row};
 
 /// The samples of a row from the place on that its line meets at `n / 64` past the corner. `UPSAMPLING` is that of the side,
 /// known to the compiler.
@@ -153,85 +153,80 @@ fn row_past_180<T: Pixel>(
     }
 }
 
-/// The samples of an angle below 90 of derivative `dx`.
-#[tactic(auto, using(av1_frame::proofs::Regions::region_painting))]
+/// The samples of a rectangle, by an angle below 90 of derivative `dx`; past the last of its `sides` places the side above repeats.
+#[tactic(auto, using(av1_frame::proofs::Paint::rectangle_painting))]
 pub(crate) fn rows_below_90<T: Pixel>(
-    output: &mut PlaneRegionMut<'_, T>,
+    samples: &mut [T],
+    stride: usize,
+    area: StoredArea,
     above: &PreparedSide,
+    sides: usize,
     dx: usize,
-    width: usize,
-    height: usize,
     bit_depth: usize,
 )
-    requires fits { InStorage output.old }
-    requires columns { width ≤ output.old.area.width }
-    requires rows { height ≤ output.old.area.height }
-    requires width { width ≤ 64 }
-    requires height { height ≤ 64 }
+    requires rows { AreRows stride area (length samples.old) }
+    requires width { area.width ≤ 64 }
+    requires height { area.height ≤ 64 }
+    requires sides { sides ≤ 128 }
     requires upsampling { above.now.upsampling ≤ 1 }
     requires dx { dx ≤ 1023 }
     requires depth { bit_depth ≤ T.BITS }
-    ensures painted { output.new ≡ painted output.old width height (λ i j _. T.pixel (below_90 bit_depth (entries above.now.numbers) above.now.upsampling (width + height) ((i + 1) * dx + 64) j)) }
-    ensures fits { InStorage output.new }
+    ensures { samples.new ≡ paint stride area (λ i j _. T.pixel (below_90 bit_depth (entries above.now.numbers) above.now.upsampling sides ((i + 1) * dx + 64) j)) samples.old }
 {
-    let sides = width + height;
-    for i in 0..height {
+    for i in 0..area.height {
         let n = (i + 1) * dx + 64;
-        row_below_90(output.row_mut(i), above, sides, n, width, bit_depth);
+        let (_, row) = samples.split_at_mut((area.y + i) * stride + area.x);
+        row_below_90(row, above, sides, n, area.width, bit_depth);
     }
 }
 
-/// The samples of an angle between 90 and 180 of derivatives `dx` and `dy`.
-#[tactic(auto, using(av1_frame::proofs::Regions::region_painting))]
+/// The samples of a rectangle, by an angle between 90 and 180 of derivatives `dx` and `dy`.
+#[tactic(auto, using(av1_frame::proofs::Paint::rectangle_painting))]
 pub(crate) fn rows_between<T: Pixel>(
-    output: &mut PlaneRegionMut<'_, T>,
+    samples: &mut [T],
+    stride: usize,
+    area: StoredArea,
     above: &PreparedSide,
     left: &PreparedSide,
     dx: usize,
     dy: usize,
-    width: usize,
-    height: usize,
     bit_depth: usize,
 )
-    requires fits { InStorage output.old }
-    requires columns { width ≤ output.old.area.width }
-    requires rows { height ≤ output.old.area.height }
-    requires width { width ≤ 64 }
-    requires height { height ≤ 64 }
+    requires rows { AreRows stride area (length samples.old) }
+    requires width { area.width ≤ 64 }
+    requires height { area.height ≤ 64 }
     requires above_upsampling { above.now.upsampling ≤ 1 }
     requires left_upsampling { left.now.upsampling ≤ 1 }
     requires pair { ArePair dx dy }
     requires depth { bit_depth ≤ T.BITS }
-    ensures painted { output.new ≡ painted output.old width height (λ i j _. T.pixel (between bit_depth (entries above.now.numbers) above.now.upsampling (entries left.now.numbers) left.now.upsampling dx dy i j)) }
-    ensures fits { InStorage output.new }
+    ensures { samples.new ≡ paint stride area (λ i j _. T.pixel (between bit_depth (entries above.now.numbers) above.now.upsampling (entries left.now.numbers) left.now.upsampling dx dy i j)) samples.old }
 {
-    for i in 0..height {
-        row_between(output.row_mut(i), above, left, dx, dy, i, width, bit_depth);
+    for i in 0..area.height {
+        let (_, row) = samples.split_at_mut((area.y + i) * stride + area.x);
+        row_between(row, above, left, dx, dy, i, area.width, bit_depth);
     }
 }
 
-/// The samples of an angle past 180 of derivative `dy`.
-#[tactic(auto, using(av1_frame::proofs::Regions::region_painting))]
+/// The samples of a rectangle, by an angle past 180 of derivative `dy`.
+#[tactic(auto, using(av1_frame::proofs::Paint::rectangle_painting))]
 pub(crate) fn rows_past_180<T: Pixel>(
-    output: &mut PlaneRegionMut<'_, T>,
+    samples: &mut [T],
+    stride: usize,
+    area: StoredArea,
     left: &PreparedSide,
     dy: usize,
-    width: usize,
-    height: usize,
     bit_depth: usize,
 )
-    requires fits { InStorage output.old }
-    requires columns { width ≤ output.old.area.width }
-    requires rows { height ≤ output.old.area.height }
-    requires width { width ≤ 64 }
-    requires height { height ≤ 64 }
+    requires rows { AreRows stride area (length samples.old) }
+    requires width { area.width ≤ 64 }
+    requires height { area.height ≤ 64 }
     requires upsampling { left.now.upsampling ≤ 1 }
     requires dy { dy ≤ 40 }
     requires depth { bit_depth ≤ T.BITS }
-    ensures painted { output.new ≡ painted output.old width height (λ i j _. T.pixel (at bit_depth (entries left.now.numbers) left.now.upsampling ((j + 1) * dy + 64) i)) }
-    ensures fits { InStorage output.new }
+    ensures { samples.new ≡ paint stride area (λ i j _. T.pixel (at bit_depth (entries left.now.numbers) left.now.upsampling ((j + 1) * dy + 64) i)) samples.old }
 {
-    for i in 0..height {
-        row_past_180(output.row_mut(i), left, dy, i, width, bit_depth);
+    for i in 0..area.height {
+        let (_, row) = samples.split_at_mut((area.y + i) * stride + area.x);
+        row_past_180(row, left, dy, i, area.width, bit_depth);
     }
 }

@@ -7,6 +7,9 @@
 //!   definition for all intra modes, `predicted` (`specs/Predicted.antt`), over the edge that `get_intra_edges` prepares, and leave all
 //!   others as they were, in one equation, `output.new ≡ painted output.old width height f`.
 //! - So do the predictors of one kind, each by its own definition; they stand in the module `rust`.
+//! - Below a region the same is said of a slice: `pred_v_to`, `pred_h_to`, `pred_paeth_to`, `pred_smooth_to`, `pred_smooth_v_to`,
+//!   `pred_smooth_h_to`, `pred_directional_to` and `pred_cfl_to` predict the samples of a rectangle, whose rows stand a stride apart,
+//!   `samples.new ≡ paint stride area f samples.old`. DC prediction is `fill_block` by `mean_of` two sides, or by `half_sample` without.
 //! - `leaf_luma_ac` and `pred_cfl_ac` put into a slice, row by row, how far the luma over each sample of chroma is from its mean, and
 //!   leave the rest of the slice (`specs/ChromaFromLuma.antt`).
 //! - `filter_edge` and `upsample_edge` prepare a side in a slice, entry by entry, and leave the rest of the slice.
@@ -44,13 +47,19 @@ mod tile_luma;
 mod upsampling;
 mod variant;
 
-pub use dc::sum_of;
+pub use chroma_from_luma::pred_cfl_to;
+pub use dc::{half_sample, mean_of, sum_of};
+pub use directional::{DirectionalBlock, pred_directional_to};
 pub use laws::{
     lines_meet_their_sides, luma_differences_fit, modes_have_angles, predictions_lie_within,
     prepared_edges_suffice,
 };
 pub use luma::{LumaLeaf, leaf_luma_ac};
 pub use neighbours::IntraEdgeFilterParameters;
+pub use paeth::pred_paeth_to;
 pub use predict::{dispatch_predict_intra, predict_intra};
+pub use rows::fill_block;
+pub use smooth::{pred_smooth_h_to, pred_smooth_to, pred_smooth_v_to};
+pub use straight::{pred_h_to, pred_v_to};
 pub use tile_luma::luma_ac;
 pub use variant::PredictionVariant;

@@ -3,13 +3,14 @@
 //! AV1 specification: basic intra prediction process.
 
 ghost use Rattle.std.specs.Prelude.{◌≡◌, ℕ, ◌+◌, ◌-◌, ◌*◌, ◌^◌, ◌<◌, ◌≤◌, length, ◌⊎◌};
-ghost use Rattle.av1_frame.specs.Samples.{paint_row};
+ghost use Rattle.av1_frame.specs.Areas.{AreRows};
+ghost use Rattle.av1_frame.specs.Samples.{paint, paint_row};
 ghost use Rattle.av1_frame.specs.Regions.{InStorage, painted};
 ghost use Rattle.av1_intra.specs.Sides.{numbers, from_top};
 ghost use Rattle.av1_intra.specs.Paeth.{paeth};
 
 use crate::samples::number_at;
-use av1_frame::{Pixel, PlaneRegionMut};
+use av1_frame::{Pixel, PlaneRegionMut, StoredArea};
 
 /// The one of `left`, `above` and `corner` that is nearest to `above + left - corner`.
 #[tactic(auto, using(std::proofs::lemmas::Bool::Decides::nat_tests), unfolding(crate::specs::Paeth::paeth))]
@@ -54,12 +55,38 @@ fn paeth_row<T: Pixel>(
     }
 }
 
+/// Predicts the samples of a rectangle: each becomes the one of the sample `above` its column, the `left` one of its row and the
+/// corner `above_left` that is nearest to the first two less the third. The rows of `samples` stand `stride` apart.
+///
+/// `above` runs from the left, and `left` from the bottom up: of as many samples as the rectangle has rows, the last is that of the
+/// first row. Samples past those beside the rectangle are not read.
+#[tactic(auto, using(av1_frame::proofs::Paint::rectangle_painting))]
+pub fn pred_paeth_to<T: Pixel>(
+    samples: &mut [T],
+    stride: usize,
+    area: StoredArea,
+    above: &[T],
+    left: &[T],
+    above_left: T,
+)
+    requires rows { AreRows stride area (length samples.old) }
+    requires above_long { area.width ≤ length above.now }
+    requires left_long { area.height ≤ length left.now }
+    ensures { samples.new ≡ paint stride area (λ r c _. T.pixel (paeth (numbers T.num above.now c) (from_top T.num area.height left.now r) (T.num above_left))) samples.old }
+{
+    for r in 0..area.height {
+        let k = area.height - 1 - r;
+        let (_, row) = samples.split_at_mut((area.y + r) * stride + area.x);
+        paeth_row(row, above, left, k, above_left, area.width);
+    }
+}
+
 /// Predicts the first `height` rows and `width` columns of `output`: each sample becomes the one of the sample `above` its
 /// column, the `left` one of its row and the corner `above_left` that is nearest to the first two less the third.
 ///
 /// `above` runs from the left, and `left` from the bottom up: its sample at `height - 1` is that of the first row. Samples past
 /// the first `width` and `height` are not read.
-#[tactic(auto, using(av1_frame::proofs::Regions::region_painting))]
+#[tactic(auto, using(av1_frame::proofs::Regions::region_lending))]
 pub fn pred_paeth<T: Pixel>(
     output: &mut PlaneRegionMut<'_, T>,
     above: &[T],
@@ -77,8 +104,7 @@ pub fn pred_paeth<T: Pixel>(
         (λ r c _. T.pixel (paeth (numbers T.num above.now c) (from_top T.num height left.now r) (T.num above_left))) }
     ensures fits { InStorage output.new }
 {
-    for r in 0..height {
-        let k = height - 1 - r;
-        paeth_row(output.row_mut(r), above, left, k, above_left, width);
-    }
+    let stride = output.plane_cfg.stride;
+    let area = output.corner(width, height);
+    pred_paeth_to(output.samples_mut(), stride, area, above, left, above_left);
 }

@@ -1,11 +1,52 @@
-//! Rows that take one sample.
+//! Rectangles that take one sample.
 
-ghost use Rattle.std.specs.Prelude.{◌≡◌, ◌≤◌};
+ghost use Rattle.std.specs.Prelude.{◌≡◌, ◌≤◌, length};
+ghost use Rattle.av1_frame.specs.Areas.{AreRows};
+ghost use Rattle.av1_frame.specs.Samples.{paint};
 ghost use Rattle.av1_frame.specs.Regions.{InStorage, painted};
 
-use av1_frame::{Pixel, PlaneRegionMut, fill_row};
+use av1_frame::{Pixel, PlaneRegionMut, StoredArea, fill_area};
+
+/// Each sample of the rectangle becomes `value`, as by `fill_area`; the widths of transforms are known to the compiler. The rows of
+/// `samples` stand `stride` apart.
+pub fn fill_block<T: Pixel>(samples: &mut [T], stride: usize, area: StoredArea, value: T)
+    requires rows { AreRows stride area (length samples.old) }
+    ensures { samples.new ≡ paint stride area (λ _ _ _. value) samples.old }
+{
+    match area.width {
+        4 => fill_columns(samples, stride, area, value, 4),
+        8 => fill_columns(samples, stride, area, value, 8),
+        16 => fill_columns(samples, stride, area, value, 16),
+        32 => fill_columns(samples, stride, area, value, 32),
+        64 => fill_columns(samples, stride, area, value, 64),
+        _ => fill_area(samples, stride, area, value),
+    }
+}
+
+/// As `fill_block`, in line, so that the compiler knows the width of the rows that it fills.
+#[inline(always)]
+fn fill_columns<T: Pixel>(
+    samples: &mut [T],
+    stride: usize,
+    area: StoredArea,
+    value: T,
+    width: usize,
+)
+    requires rows { AreRows stride area (length samples.old) }
+    requires width { area.width ≡ width }
+    ensures { samples.new ≡ paint stride area (λ _ _ _. value) samples.old }
+{
+    let columns = StoredArea {
+        x: area.x,
+        y: area.y,
+        width,
+        height: area.height,
+    };
+    fill_area(samples, stride, columns, value);
+}
 
 /// Each sample of the first `height` rows and `width` columns becomes `value`.
+#[tactic(auto, using(av1_frame::proofs::Regions::region_lending))]
 pub(crate) fn fill_rows<T: Pixel>(
     output: &mut PlaneRegionMut<'_, T>,
     value: T,
@@ -18,27 +59,7 @@ pub(crate) fn fill_rows<T: Pixel>(
     ensures painted { output.new ≡ painted output.old width height (λ _ _ _. value) }
     ensures fits { InStorage output.new }
 {
-    match width {
-        4 => fill_down(output, value, 4, height),
-        8 => fill_down(output, value, 8, height),
-        16 => fill_down(output, value, 16, height),
-        32 => fill_down(output, value, 32, height),
-        64 => fill_down(output, value, 64, height),
-        _ => fill_down(output, value, width, height),
-    }
-}
-
-/// As `fill_rows`, in line, so that the compiler knows the width of the rows that it fills.
-#[inline(always)]
-#[tactic(auto, using(av1_frame::proofs::Regions::region_painting))]
-fn fill_down<T: Pixel>(output: &mut PlaneRegionMut<'_, T>, value: T, width: usize, height: usize)
-    requires fits { InStorage output.old }
-    requires columns { width ≤ output.old.area.width }
-    requires rows { height ≤ output.old.area.height }
-    ensures painted { output.new ≡ painted output.old width height (λ _ _ _. value) }
-    ensures fits { InStorage output.new }
-{
-    for r in 0..height {
-        fill_row(output.row_mut(r), value, width);
-    }
+    let stride = output.plane_cfg.stride;
+    let area = output.corner(width, height);
+    fill_block(output.samples_mut(), stride, area, value);
 }

@@ -4,13 +4,14 @@
 
 ghost use Rattle.std.specs.Prelude.{◌≡◌, ℕ, ◌+◌, ◌-◌, ◌*◌, ◌/◌, ◌^◌, ◌<◌, ◌≤◌, length, slice_index};
 ghost use Rattle.av1_blocks.specs.Transforms.{IsTransformSide};
-ghost use Rattle.av1_frame.specs.Samples.{paint_row};
+ghost use Rattle.av1_frame.specs.Areas.{AreRows};
+ghost use Rattle.av1_frame.specs.Samples.{paint, paint_row};
 ghost use Rattle.av1_frame.specs.Regions.{InStorage, painted};
 ghost use Rattle.av1_intra.specs.Sides.{numbers, from_top};
 ghost use Rattle.av1_intra.specs.Smooth.{weights, mix, smooth, smooth_v, smooth_h};
 
 use crate::samples::number_at;
-use av1_frame::{Pixel, PlaneRegionMut};
+use av1_frame::{Pixel, PlaneRegionMut, StoredArea};
 
 const WEIGHTS_4: [u8; 4] = [255, 149, 85, 64];
 
@@ -132,12 +133,49 @@ fn smooth_h_row<T: Pixel>(
     }
 }
 
+/// Predicts the samples of a rectangle: each becomes the mean of that of `pred_smooth_v_to` and that of `pred_smooth_h_to`, rounded
+/// once. The rows of `samples` stand `stride` apart.
+///
+/// `above` runs from the left, and `left` from the bottom up: its first sample is that of the lowest row. Samples past those beside
+/// the rectangle are not read.
+#[tactic(auto, using(av1_frame::proofs::Paint::rectangle_painting))]
+pub fn pred_smooth_to<T: Pixel>(
+    samples: &mut [T],
+    stride: usize,
+    area: StoredArea,
+    above: &[T],
+    left: &[T],
+)
+    requires rows { AreRows stride area (length samples.old) }
+    requires width { IsTransformSide area.width }
+    requires height { IsTransformSide area.height }
+    requires above_long { area.width ≤ length above.now }
+    requires left_long { area.height ≤ length left.now }
+    ensures { samples.new ≡ paint stride area (λ r c _. T.pixel (smooth area.width area.height (numbers T.num above.now) (from_top T.num area.height left.now) r c)) samples.old }
+{
+    let row_weights = smooth_weights(area.height);
+    let column_weights = smooth_weights(area.width);
+    for r in 0..area.height {
+        let (_, row) = samples.split_at_mut((area.y + r) * stride + area.x);
+        smooth_row(
+            row,
+            above,
+            left,
+            row_weights,
+            column_weights,
+            r,
+            area.width,
+            area.height,
+        );
+    }
+}
+
 /// Predicts the first `height` rows and `width` columns of `output`: each sample becomes the mean of that of `pred_smooth_v`
 /// and that of `pred_smooth_h`, rounded once.
 ///
 /// `above` runs from the left, and `left` from the bottom up: its first sample is that of the lowest row. Samples past the
 /// first `width` and `height` are not read.
-#[tactic(auto, using(av1_frame::proofs::Regions::region_painting))]
+#[tactic(auto, using(av1_frame::proofs::Regions::region_lending))]
 pub fn pred_smooth<T: Pixel>(
     output: &mut PlaneRegionMut<'_, T>,
     above: &[T],
@@ -156,19 +194,35 @@ pub fn pred_smooth<T: Pixel>(
         (λ r c _. T.pixel (smooth width height (numbers T.num above.now) (from_top T.num height left.now) r c)) }
     ensures fits { InStorage output.new }
 {
-    let row_weights = smooth_weights(height);
-    let column_weights = smooth_weights(width);
-    for r in 0..height {
-        smooth_row(
-            output.row_mut(r),
-            above,
-            left,
-            row_weights,
-            column_weights,
-            r,
-            width,
-            height,
-        );
+    let stride = output.plane_cfg.stride;
+    let area = output.corner(width, height);
+    pred_smooth_to(output.samples_mut(), stride, area, above, left);
+}
+
+/// Predicts the samples of a rectangle: each becomes a mean of the sample in its row of `left` and the last one `above`, which weighs
+/// the more the further to the right the column is. The rows of `samples` stand `stride` apart.
+///
+/// `above` runs from the left, and `left` from the bottom up: its first sample is that of the lowest row. Samples past those beside
+/// the rectangle are not read.
+#[tactic(auto, using(av1_frame::proofs::Paint::rectangle_painting))]
+pub fn pred_smooth_h_to<T: Pixel>(
+    samples: &mut [T],
+    stride: usize,
+    area: StoredArea,
+    above: &[T],
+    left: &[T],
+)
+    requires rows { AreRows stride area (length samples.old) }
+    requires width { IsTransformSide area.width }
+    requires above_long { area.width ≤ length above.now }
+    requires left_long { area.height ≤ length left.now }
+    ensures { samples.new ≡ paint stride area (λ r c _. T.pixel (smooth_h area.width (numbers T.num above.now) (from_top T.num area.height left.now) r c)) samples.old }
+{
+    let weights = smooth_weights(area.width);
+    for r in 0..area.height {
+        let k = area.height - 1 - r;
+        let (_, row) = samples.split_at_mut((area.y + r) * stride + area.x);
+        smooth_h_row(row, above, left, weights, k, area.width);
     }
 }
 
@@ -176,7 +230,7 @@ pub fn pred_smooth<T: Pixel>(
 /// `left` and the last one `above`, which weighs the more the further to the right the column is.
 ///
 /// `above` runs from the left, and `left` from the bottom up. Samples past the first `width` and `height` are not read.
-#[tactic(auto, using(av1_frame::proofs::Regions::region_painting))]
+#[tactic(auto, using(av1_frame::proofs::Regions::region_lending))]
 pub fn pred_smooth_h<T: Pixel>(
     output: &mut PlaneRegionMut<'_, T>,
     above: &[T],
@@ -194,10 +248,34 @@ pub fn pred_smooth_h<T: Pixel>(
         (λ r c _. T.pixel (smooth_h width (numbers T.num above.now) (from_top T.num height left.now) r c)) }
     ensures fits { InStorage output.new }
 {
-    let weights = smooth_weights(width);
-    for r in 0..height {
-        let k = height - 1 - r;
-        smooth_h_row(output.row_mut(r), above, left, weights, k, width);
+    let stride = output.plane_cfg.stride;
+    let area = output.corner(width, height);
+    pred_smooth_h_to(output.samples_mut(), stride, area, above, left);
+}
+
+/// Predicts the samples of a rectangle: each becomes a mean of the sample in its column of `above` and the lowest one on the left,
+/// which weighs the more the further down the row is. The rows of `samples` stand `stride` apart.
+///
+/// `above` runs from the left, and `left` from the bottom up: its first sample is that of the lowest row. Samples past those beside
+/// the rectangle are not read.
+#[tactic(auto, using(av1_frame::proofs::Paint::rectangle_painting))]
+pub fn pred_smooth_v_to<T: Pixel>(
+    samples: &mut [T],
+    stride: usize,
+    area: StoredArea,
+    above: &[T],
+    left: &[T],
+)
+    requires rows { AreRows stride area (length samples.old) }
+    requires height { IsTransformSide area.height }
+    requires above_long { area.width ≤ length above.now }
+    requires left_long { area.height ≤ length left.now }
+    ensures { samples.new ≡ paint stride area (λ r c _. T.pixel (smooth_v area.height (numbers T.num above.now) (from_top T.num area.height left.now) r c)) samples.old }
+{
+    let weights = smooth_weights(area.height);
+    for r in 0..area.height {
+        let (_, row) = samples.split_at_mut((area.y + r) * stride + area.x);
+        smooth_v_row(row, above, left, weights[r], area.width);
     }
 }
 
@@ -206,7 +284,7 @@ pub fn pred_smooth_h<T: Pixel>(
 ///
 /// `above` runs from the left, and `left` from the bottom up: its first sample is the lowest. Samples past the first `width`
 /// and `height` are not read.
-#[tactic(auto, using(av1_frame::proofs::Regions::region_painting))]
+#[tactic(auto, using(av1_frame::proofs::Regions::region_lending))]
 pub fn pred_smooth_v<T: Pixel>(
     output: &mut PlaneRegionMut<'_, T>,
     above: &[T],
@@ -224,8 +302,7 @@ pub fn pred_smooth_v<T: Pixel>(
         (λ r c _. T.pixel (smooth_v height (numbers T.num above.now) (from_top T.num height left.now) r c)) }
     ensures fits { InStorage output.new }
 {
-    let weights = smooth_weights(height);
-    for r in 0..height {
-        smooth_v_row(output.row_mut(r), above, left, weights[r], width);
-    }
+    let stride = output.plane_cfg.stride;
+    let area = output.corner(width, height);
+    pred_smooth_v_to(output.samples_mut(), stride, area, above, left);
 }

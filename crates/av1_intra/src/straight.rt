@@ -3,14 +3,55 @@
 //! AV1 specification: directional intra prediction process, for the angles 90 and 180.
 
 ghost use Rattle.std.specs.Prelude.{◌≡◌, ℕ, ◌+◌, ◌-◌, ◌*◌, ◌^◌, ◌<◌, ◌≤◌, length};
+ghost use Rattle.av1_frame.specs.Areas.{AreRows};
+ghost use Rattle.av1_frame.specs.Samples.{paint, paint_row};
 ghost use Rattle.av1_frame.specs.Regions.{InStorage, painted};
 ghost use Rattle.av1_intra.specs.Sides.{numbers, from_top};
 
 use crate::samples::number_at;
-use av1_frame::{Pixel, PlaneRegionMut, copy_row, fill_row};
+use av1_frame::{Pixel, PlaneRegionMut, StoredArea, copy_row, fill_row};
+
+/// Predicts the samples of a rectangle: each row becomes the samples of `above`, which runs from the left. The rows of `samples` stand
+/// `stride` apart. Samples of `above` past the rectangle's width are not read.
+pub fn pred_v_to<T: Pixel>(samples: &mut [T], stride: usize, area: StoredArea, above: &[T])
+    requires rows { AreRows stride area (length samples.old) }
+    requires above_long { area.width ≤ length above.now }
+    ensures { samples.new ≡ paint stride area (λ _ c _. T.pixel (numbers T.num above.now c)) samples.old }
+{
+    match area.width {
+        4 => copy_down(samples, stride, area, above, 4),
+        8 => copy_down(samples, stride, area, above, 8),
+        16 => copy_down(samples, stride, area, above, 16),
+        32 => copy_down(samples, stride, area, above, 32),
+        64 => copy_down(samples, stride, area, above, 64),
+        _ => copy_down(samples, stride, area, above, area.width),
+    }
+}
+
+/// As `pred_v_to`, in line, so that the compiler knows the width of the rows that it copies.
+#[inline(always)]
+#[tactic(auto, using(av1_frame::proofs::Paint::rectangle_painting))]
+fn copy_down<T: Pixel>(
+    samples: &mut [T],
+    stride: usize,
+    area: StoredArea,
+    above: &[T],
+    width: usize,
+)
+    requires rows { AreRows stride area (length samples.old) }
+    requires width { area.width ≡ width }
+    requires above_long { width ≤ length above.now }
+    ensures { samples.new ≡ paint stride area (λ _ c _. T.pixel (numbers T.num above.now c)) samples.old }
+{
+    for r in 0..area.height {
+        let (_, row) = samples.split_at_mut((area.y + r) * stride + area.x);
+        copy_row(row, above, width);
+    }
+}
 
 /// Predicts the first `height` rows and `width` columns of `output`: each row becomes the samples of `above`, which runs from the
 /// left. Samples past the first `width` are not read.
+#[tactic(auto, using(av1_frame::proofs::Regions::region_lending))]
 pub fn pred_v<T: Pixel>(
     output: &mut PlaneRegionMut<'_, T>,
     above: &[T],
@@ -24,29 +65,60 @@ pub fn pred_v<T: Pixel>(
     ensures painted { output.new ≡ painted output.old width height (λ _ c _. T.pixel (numbers T.num above.now c)) }
     ensures fits { InStorage output.new }
 {
-    match width {
-        4 => copy_down(output, above, 4, height),
-        8 => copy_down(output, above, 8, height),
-        16 => copy_down(output, above, 16, height),
-        32 => copy_down(output, above, 32, height),
-        64 => copy_down(output, above, 64, height),
-        _ => copy_down(output, above, width, height),
+    let stride = output.plane_cfg.stride;
+    let area = output.corner(width, height);
+    pred_v_to(output.samples_mut(), stride, area, above);
+}
+
+/// Predicts the samples of a rectangle: each row becomes its sample of `left`, again and again. The rows of `samples` stand `stride`
+/// apart.
+///
+/// `left` runs from the bottom up: of as many samples as the rectangle has rows, the last is that of the first row. Samples past
+/// those are not read.
+pub fn pred_h_to<T: Pixel>(samples: &mut [T], stride: usize, area: StoredArea, left: &[T])
+    requires rows { AreRows stride area (length samples.old) }
+    requires left_long { area.height ≤ length left.now }
+    ensures { samples.new ≡ paint stride area (λ r _ _. T.pixel (from_top T.num area.height left.now r)) samples.old }
+{
+    match area.width {
+        4 => copy_across(samples, stride, area, left, 4),
+        8 => copy_across(samples, stride, area, left, 8),
+        16 => copy_across(samples, stride, area, left, 16),
+        32 => copy_across(samples, stride, area, left, 32),
+        64 => copy_across(samples, stride, area, left, 64),
+        _ => copy_across(samples, stride, area, left, area.width),
     }
 }
 
-/// As `pred_v`, in line, so that the compiler knows the width of the rows that it copies.
+/// The first `width` samples of a row become the sample at place `k` of `left`.
 #[inline(always)]
-#[tactic(auto, using(av1_frame::proofs::Regions::region_painting))]
-fn copy_down<T: Pixel>(output: &mut PlaneRegionMut<'_, T>, above: &[T], width: usize, height: usize)
-    requires fits { InStorage output.old }
-    requires columns { width ≤ output.old.area.width }
-    requires rows { height ≤ output.old.area.height }
-    requires above_long { width ≤ length above.now }
-    ensures painted { output.new ≡ painted output.old width height (λ _ c _. T.pixel (numbers T.num above.now c)) }
-    ensures fits { InStorage output.new }
+fn copy_along<T: Pixel>(row: &mut [T], left: &[T], k: usize, width: usize)
+    requires row_long { width ≤ length row.old }
+    requires left_long { k < length left.now }
+    ensures { row.new ≡ paint_row width (λ _ _. T.pixel (numbers T.num left.now k)) row.old }
 {
-    for r in 0..height {
-        copy_row(output.row_mut(r), above, width);
+    let sample = T::from_u32(number_at(left, k));
+    fill_row(row, sample, width);
+}
+
+/// As `pred_h_to`, in line, so that the compiler knows the width of the rows that it fills.
+#[inline(always)]
+#[tactic(auto, using(av1_frame::proofs::Paint::rectangle_painting))]
+fn copy_across<T: Pixel>(
+    samples: &mut [T],
+    stride: usize,
+    area: StoredArea,
+    left: &[T],
+    width: usize,
+)
+    requires rows { AreRows stride area (length samples.old) }
+    requires width { area.width ≡ width }
+    requires left_long { area.height ≤ length left.now }
+    ensures { samples.new ≡ paint stride area (λ r _ _. T.pixel (from_top T.num area.height left.now r)) samples.old }
+{
+    for r in 0..area.height {
+        let (_, row) = samples.split_at_mut((area.y + r) * stride + area.x);
+        copy_along(row, left, area.height - 1 - r, width);
     }
 }
 
@@ -54,6 +126,7 @@ fn copy_down<T: Pixel>(output: &mut PlaneRegionMut<'_, T>, above: &[T], width: u
 ///
 /// `left` runs from the bottom up: its sample at `height - 1` is that of the first row. Samples past the first `height` are not
 /// read.
+#[tactic(auto, using(av1_frame::proofs::Regions::region_lending))]
 pub fn pred_h<T: Pixel>(output: &mut PlaneRegionMut<'_, T>, left: &[T], width: usize, height: usize)
     requires fits { InStorage output.old }
     requires columns { width ≤ output.old.area.width }
@@ -62,34 +135,7 @@ pub fn pred_h<T: Pixel>(output: &mut PlaneRegionMut<'_, T>, left: &[T], width: u
     ensures painted { output.new ≡ painted output.old width height (λ r _ _. T.pixel (from_top T.num height left.now r)) }
     ensures fits { InStorage output.new }
 {
-    match width {
-        4 => copy_across(output, left, 4, height),
-        8 => copy_across(output, left, 8, height),
-        16 => copy_across(output, left, 16, height),
-        32 => copy_across(output, left, 32, height),
-        64 => copy_across(output, left, 64, height),
-        _ => copy_across(output, left, width, height),
-    }
-}
-
-/// As `pred_h`, in line, so that the compiler knows the width of the rows that it fills.
-#[inline(always)]
-#[tactic(auto, using(av1_frame::proofs::Regions::region_painting))]
-fn copy_across<T: Pixel>(
-    output: &mut PlaneRegionMut<'_, T>,
-    left: &[T],
-    width: usize,
-    height: usize,
-)
-    requires fits { InStorage output.old }
-    requires columns { width ≤ output.old.area.width }
-    requires rows { height ≤ output.old.area.height }
-    requires left_long { height ≤ length left.now }
-    ensures painted { output.new ≡ painted output.old width height (λ r _ _. T.pixel (from_top T.num height left.now r)) }
-    ensures fits { InStorage output.new }
-{
-    for r in 0..height {
-        let sample = T::from_u32(number_at(left, height - 1 - r));
-        fill_row(output.row_mut(r), sample, width);
-    }
+    let stride = output.plane_cfg.stride;
+    let area = output.corner(width, height);
+    pred_h_to(output.samples_mut(), stride, area, left);
 }

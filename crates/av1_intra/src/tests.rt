@@ -4,14 +4,14 @@ mod luma;
 mod modes;
 mod tile_luma;
 
-use crate::IntraEdgeFilterParameters;
 use crate::rust::{
     dr_intra_derivative, filter_edge, pred_dc, pred_dc_128, pred_dc_left, pred_dc_top,
     pred_directional, pred_h, pred_paeth, pred_smooth, pred_smooth_h, pred_smooth_v, pred_v,
     select_ief_strength, select_ief_upsample, upsample_edge,
 };
+use crate::{IntraEdgeFilterParameters, pred_h_to};
 use av1_blocks::{PredictionMode, RefType};
-use av1_frame::{Area, CodedBlockInfo, Plane};
+use av1_frame::{Area, CodedBlockInfo, Plane, StoredArea};
 use std::test::Fail;
 
 const ABOVE: [u8; 8] = [33, 34, 35, 36, 37, 38, 39, 40];
@@ -96,6 +96,24 @@ fn the_left_side_is_copied_across(rt: HostRuntime) -> Result<(), Fail> {
         pred_h(output, &LEFT_OF_FOUR, 4, 4),
         [[31; 4], [30; 4], [29; 4], [28; 4]]
     )
+}
+
+#[test]
+fn a_rectangle_of_a_slice_is_predicted(rt: HostRuntime) {
+    let mut samples = [7u8; 24];
+    let area = StoredArea {
+        x: 1,
+        y: 1,
+        width: 4,
+        height: 2,
+    };
+    pred_h_to(&mut samples, 6, area, &[30, 31]);
+    let row = [7, 31, 31, 31, 31, 7];
+    let last = [7, 30, 30, 30, 30, 7];
+    assert!(rt; samples.starts_with(&[7; 6]), "above it");
+    assert!(rt; samples[6..].starts_with(&row), "its first row");
+    assert!(rt; samples[12..].starts_with(&last), "its last row");
+    assert!(rt; samples[18..].starts_with(&[7; 6]), "below it");
 }
 
 #[test]

@@ -1,9 +1,9 @@
 use Rattle.std.proofs.Common.{◌≡◌, pos, ◌+ℤ◌}
 use Rattle.av1_frame.specs.Arithmetic.{clip}
-use Rattle.av1_frame.specs.Regions.{painted}
+use Rattle.av1_frame.specs.Samples.{corner, paint}
 use Rattle.av1_intra.specs.ChromaFromLuma.{scaled_luma, ac_at}
 use Rattle.av1_intra.proofs.chroma_from_luma.block_from_luma.Given as goal
 
 abbrev pub invariant-loop-r : goal.invariant-loop-r
 invariant-loop-r g l =
-    l.output ≡ painted l.initial.output l.width l.r (λ r c _. g.T.Pixel.pixel (clip l.bit_depth (pos (g.T.Pixel.num l.dc) +ℤ scaled_luma l.alpha (ac_at l.width l.ac r c))))
+    l.samples ≡ paint l.stride (corner l.area l.area.width l.r) (λ r c _. g.T.Pixel.pixel (clip l.bit_depth (pos (g.T.Pixel.num l.dc) +ℤ scaled_luma l.alpha (ac_at l.area.width l.ac r c)))) l.initial.samples

@@ -1,17 +1,17 @@
-use Rattle.std.proofs.Common.{ap, ◌∙◌, sym, w16}
+use Rattle.std.proofs.Common.{ℕ, ℤ, ◌*◌, ◌≤◌, length, ap, ◌∙◌, subst, sym, w16}
 use Rattle.std.proofs.lemmas.Int.{to_z-of_z}
-use Rattle.av1_frame.proofs.Regions.{painted_same}
-use Rattle.av1_intra.specs.ChromaFromLuma.{ac_at}
-use Rattle.av1_intra.proofs.Weighted.{unweighted, weighed, no_weight, some_weight}
+use Rattle.av1_frame.specs.declared.plane_region.StoredArea.{StoredArea}
+use Rattle.av1_frame.proofs.Regions.{lent_painted}
+use Rattle.av1_intra.specs.ChromaFromLuma.{ac_at, from_luma}
 use Rattle.av1_intra.proofs.chroma_from_luma.flat_from_luma.Goals as goal
 
-pub returns-then-alpha-eq0-clause-painted : goal.returns-then-alpha-eq0-clause-painted
-returns-then-alpha-eq0-clause-painted g c =
-    let t = no_weight c.args.alpha c.ranges.alpha c.if-alpha-eq0.true in
-    painted_same _ _ _ _ _ _ c.fill_rows.ensures.painted (λ q p v h k. sym (ap g.T.Pixel.pixel (unweighted c.args.bit_depth c.args.alpha (g.T.Pixel.num c.args.dc) (ac_at c.args.width c.args.ac.now q p) t) ∙ g.met.T.Pixel.pixel_of_num c.args.dc))
+pub pred_cfl_to-requires-clause-ac_long : goal.pred_cfl_to-requires-clause-ac_long
+pred_cfl_to-requires-clause-ac_long g c =
+    subst (λ (a : StoredArea). a.width * a.height ≤ length c.args.ac.now) (sym c.corner-area.ensures) c.requires.ac_long
 
-pub returns-else-alpha-eq0-clause-painted : goal.returns-else-alpha-eq0-clause-painted
-returns-else-alpha-eq0-clause-painted g c =
-    let a = to_z-of_z w16 c.args.alpha c.ranges.alpha in
-    let t = some_weight c.args.alpha c.if-alpha-eq0.false in
-    painted_same _ _ _ _ _ _ c.block_from_luma.ensures.painted (λ q p v h k. ap g.T.Pixel.pixel (weighed c.args.bit_depth c.args.alpha _ (g.T.Pixel.num c.args.dc) (ac_at c.args.width c.args.ac.now q p) a t))
+pub returns-clause-painted : goal.returns-clause-painted
+returns-clause-painted g c =
+    let a = c.args in
+    let F = λ (z : ℤ) (b : StoredArea) (q p : ℕ). from_luma a.bit_depth z (g.T.Pixel.num a.dc) (ac_at b.width a.ac.now q p) in
+    lent_painted a.output.now a.width a.height c.corner-area.result _ _ c.samples_mut.result.now c.pred_cfl_to.new.samples c.corner-area.ensures c.samples_mut.ensures.value c.pred_cfl_to.ensures
+    (λ q p _ _ _. ap g.T.Pixel.pixel (ap (λ z. F z c.corner-area.result q p) (to_z-of_z w16 a.alpha c.ranges.alpha) ∙ ap (λ b. F a.alpha b q p) c.corner-area.ensures))

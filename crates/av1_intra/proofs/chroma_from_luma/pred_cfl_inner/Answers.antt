@@ -4,7 +4,7 @@ use Rattle.std.proofs.lemmas.List.{get_or-map}
 use Rattle.av1_frame.proofs.Regions.{painted_same}
 use Rattle.av1_intra.specs.ChromaFromLuma.{ac_at, first_sample, from_luma}
 use Rattle.av1_intra.proofs.Unchanged.{painted_unchanged}
-use Rattle.av1_intra.proofs.Weighted.{weighed, unweighed_choice, weighed_choice, no_weight, some_weight}
+use Rattle.av1_intra.proofs.Weighted.{unweighed_choice, weighed_choice, no_weight, some_weight}
 use Rattle.av1_intra.proofs.chroma_from_luma.pred_cfl_inner.Goals as goal
 
 pub returns-then-alpha-eq0-clause-painted : goal.returns-then-alpha-eq0-clause-painted
@@ -19,6 +19,6 @@ returns-clause-painted g c =
     let t = some_weight c.args.alpha c.if-alpha-eq0.false in
     let x = c.index-row-0.result in
     let first : num x ≡ first_sample num c.args.output.now = ap num c.index-row-0.is ∙ sym (get_or-map num c.row.result.now 0 x 0 (omega (arith, c.row.ensures.len))) ∙ ap (λ s. get_or (map num s) 0 0) c.row.ensures.value in
-    painted_same _ _ _ _ _ _ c.block_from_luma.ensures.painted (λ q p v h k.
+    painted_same _ _ _ _ _ _ c.flat_from_luma.ensures.painted (λ q p v h k.
     let d = ac_at c.args.width c.args.ac.now q p in
-    ap g.T.Pixel.pixel (weighed c.args.bit_depth c.args.alpha _ (num x) d a t ∙ ap (λ n. from_luma c.args.bit_depth c.args.alpha n d) first ∙ sym (weighed_choice c.args.alpha (num v) _ t)))
+    ap g.T.Pixel.pixel (ap (λ z. from_luma c.args.bit_depth z (num x) d) a ∙ ap (λ n. from_luma c.args.bit_depth c.args.alpha n d) first ∙ sym (weighed_choice c.args.alpha (num v) _ t)))

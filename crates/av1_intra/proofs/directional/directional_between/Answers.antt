@@ -1,6 +1,6 @@
 use Rattle.std.proofs.Common.{◌≡◌, ℕ, ◌+◌, ◌-◌, min, map, take, reverse, ap, ◌∙◌, subst, sym}
 use mathlib.Core.Path.{fun_ext}
-use Rattle.av1_frame.specs.Regions.{painted}
+use Rattle.av1_frame.specs.Samples.{paint}
 use Rattle.av1_intra.specs.Sides.{Side, entries, distance}
 use Rattle.av1_intra.specs.Angles.{derivative, ArePair}
 use Rattle.av1_intra.specs.Directional.{side, between, prepared, upsampling}
@@ -14,9 +14,8 @@ rows_between-requires-clause-pair g c =
     let h = between_pair p c.requires.angle c.requires.low c.requires.high in
     subst (ArePair c.dr_intra_derivative-dx.result) (sym c.dr_intra_derivative-dy.ensures) (subst (λ n. ArePair n (derivative (p - 90))) (sym c.dr_intra_derivative-dx.ensures) h)
 
-pub returns-clause-painted : goal.returns-clause-painted
-returns-clause-painted g c =
-    let out = c.args.output.now in
+pub returns : goal.returns
+returns g c =
     let b = c.args.block in
     let p = b.p_angle in
     let s = b.width + b.height in
@@ -35,10 +34,10 @@ returns-clause-painted g c =
     let E : entries x.new.ready.numbers ≡ P m = x.ensures.numbers ∙ ap P c.min-columns.ensures in
     let D : entries y.new.ready.numbers ≡ Q n = y.ensures.numbers ∙ ap Q c.min-rows.ensures in
     let F = λ (B : Side) (u : ℕ) (C : Side) (v dx dy i j : ℕ). between b.bit_depth B u C v dx dy i j in
-    let G = λ (f : ℕ → ℕ → ℕ). painted out b.width b.height (λ i j _. g.T.Pixel.pixel (f i j)) in
+    let G = λ (f : ℕ → ℕ → ℕ). paint c.args.stride c.args.area (λ i j _. g.T.Pixel.pixel (f i j)) c.args.samples.now in
     let dx = c.dr_intra_derivative-dx in
     let dy = c.dr_intra_derivative-dy in
-    c.rows_between.ensures.painted
+    c.rows_between.ensures
     ∙ ap (λ (B : Side). G (F B x.new.ready.upsampling (entries y.new.ready.numbers) y.new.ready.upsampling dx.result dy.result)) E
     ∙ ap (λ (u : ℕ). G (F (P m) u (entries y.new.ready.numbers) y.new.ready.upsampling dx.result dy.result)) x.ensures.upsampling
     ∙ ap (λ (B : Side). G (F (P m) U B y.new.ready.upsampling dx.result dy.result)) D

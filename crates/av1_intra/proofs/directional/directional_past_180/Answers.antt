@@ -1,6 +1,6 @@
 use Rattle.std.proofs.Common.{◌≡◌, ℕ, ◌+◌, ◌*◌, min, map, take, reverse, arith, ap, ◌∙◌}
 use mathlib.Core.Path.{fun_ext}
-use Rattle.av1_frame.specs.Regions.{painted}
+use Rattle.av1_frame.specs.Samples.{paint}
 use Rattle.av1_intra.specs.Sides.{Side, entries, distance}
 use Rattle.av1_intra.specs.Directional.{side, at, prepared, upsampling}
 use Rattle.av1_intra.proofs.Derivatives.{past_180_few}
@@ -19,9 +19,8 @@ pub rows_past_180-requires-clause-dy : goal.rows_past_180-requires-clause-dy
 rows_past_180-requires-clause-dy g c =
     let h = past_180_few c.args.block.p_angle c.requires.angle c.requires.range in omega arith
 
-pub returns-clause-painted : goal.returns-clause-painted
-returns-clause-painted g c = λ above.
-    let out = c.args.output.now in
+pub returns : goal.returns
+returns g c = λ above.
     let b = c.args.block in
     let s = b.width + b.height in
     let left = reverse (map g.T.Pixel.num c.args.left.now) in
@@ -29,8 +28,8 @@ returns-clause-painted g c = λ above.
     let P = λ (n : ℕ). prepared b (distance b.p_angle 180) (n + b.width) (b.height + b.width) L in
     let E : entries c.prepare_left.new.ready.numbers ≡ P (min b.height b.visible_rows) = c.prepare_left.ensures.numbers ∙ ap P c.min.ensures in
     let F = λ (B : Side) (u dy i j : ℕ). at b.bit_depth B u ((j + 1) * dy + 64) i in
-    let G = λ (f : ℕ → ℕ → ℕ). painted out b.width b.height (λ i j _. g.T.Pixel.pixel (f i j)) in
-    c.rows_past_180.ensures.painted
+    let G = λ (f : ℕ → ℕ → ℕ). paint c.args.stride c.args.area (λ i j _. g.T.Pixel.pixel (f i j)) c.args.samples.now in
+    c.rows_past_180.ensures
     ∙ ap (λ (B : Side). G (F B c.prepare_left.new.ready.upsampling c.dr_intra_derivative-dy.result)) E
     ∙ ap (λ (u : ℕ). G (F (P (min b.height b.visible_rows)) u c.dr_intra_derivative-dy.result)) c.prepare_left.ensures.upsampling
     ∙ ap (λ (dy : ℕ). G (F (P (min b.height b.visible_rows)) (upsampling b (distance b.p_angle 180)) dy)) c.dr_intra_derivative-dy.ensures

@@ -1,9 +1,9 @@
 use Rattle.std.proofs.Common.{◌≡◌}
-use Rattle.av1_frame.specs.Regions.{painted}
+use Rattle.av1_frame.specs.Samples.{corner, paint}
 use Rattle.av1_intra.specs.Sides.{entries}
 use Rattle.av1_intra.specs.Directional.{between}
 use Rattle.av1_intra.proofs.interpolation.rows_between.Given as goal
 
 abbrev pub invariant-loop-i : goal.invariant-loop-i
 invariant-loop-i g l =
-    l.output ≡ painted l.initial.output l.width l.i (λ i j _. g.T.Pixel.pixel (between l.bit_depth (entries l.above.numbers) l.above.upsampling (entries l.left.numbers) l.left.upsampling l.dx l.dy i j))
+    l.samples ≡ paint l.stride (corner l.area l.area.width l.i) (λ i j _. g.T.Pixel.pixel (between l.bit_depth (entries l.above.numbers) l.above.upsampling (entries l.left.numbers) l.left.upsampling l.dx l.dy i j)) l.initial.samples

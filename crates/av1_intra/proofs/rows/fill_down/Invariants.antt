@@ -1,6 +1,0 @@
-use Rattle.std.proofs.Common.{◌≡◌}
-use Rattle.av1_frame.specs.Regions.{painted}
-use Rattle.av1_intra.proofs.rows.fill_down.Given as goal
-
-abbrev pub invariant-loop-r : goal.invariant-loop-r
-invariant-loop-r g l = l.output ≡ painted l.initial.output l.width l.r (λ _ _ _. l.value)

@@ -1,9 +1,0 @@
-use Rattle.std.proofs.Common.{◌≡◌, ◌+◌, ◌-◌, ◌/◌, slice_index}
-use Rattle.av1_frame.specs.Regions.{painted}
-use Rattle.av1_intra.specs.Sides.{numbers}
-use Rattle.av1_intra.specs.Smooth.{mix}
-use Rattle.av1_intra.proofs.smooth.pred_smooth_h.Given as goal
-
-abbrev pub invariant-loop-r : goal.invariant-loop-r
-invariant-loop-r g l =
-    l.output ≡ painted l.initial.output l.width l.r (λ r c _. g.T.Pixel.pixel ((mix (slice_index l.weights c) (numbers g.T.Pixel.num l.left (l.height - 1 - r)) (numbers g.T.Pixel.num l.above (l.width - 1)) + 128) / 256))

@@ -1,9 +1,0 @@
-use Rattle.std.proofs.Common.{◌≡◌, ◌+◌, ◌/◌, slice_index}
-use Rattle.av1_frame.specs.Regions.{painted}
-use Rattle.av1_intra.specs.Sides.{numbers}
-use Rattle.av1_intra.specs.Smooth.{mix}
-use Rattle.av1_intra.proofs.smooth.pred_smooth_v.Given as goal
-
-abbrev pub invariant-loop-r : goal.invariant-loop-r
-invariant-loop-r g l =
-    l.output ≡ painted l.initial.output l.width l.r (λ r c _. g.T.Pixel.pixel ((mix (slice_index l.weights r) (numbers g.T.Pixel.num l.above c) (numbers g.T.Pixel.num l.left 0) + 128) / 256))
