@@ -79,6 +79,11 @@ module _ (depth : ℕ) (is_depth : IsDepth depth) where
   single_rows (suc j) zero across down samples r c h e = refl
   single_rows fx (suc k) across down samples r c h e = absurd (omega (arith, e))
 
+  -- a row that is filtered
+  pub intermediate_along : (fx : ℕ) (across : List ℤ) (samples : ℕ → ℕ → ℕ) (y c : ℕ) → fx ≢ 0 → round_shift (weighted across (λ t. pos (samples (c + t) y))) (7 - intermediate_bits depth) ≡ intermediate depth fx across samples y c
+  intermediate_along zero across samples y c h = absurd (h refl)
+  intermediate_along (suc j) across samples y c h = refl
+
   -- a block that is filtered along its rows
   pub single_along : (fx fy : ℕ) (across down : List ℤ) (samples : ℕ → ℕ → ℕ) (r c : ℕ) → fx ≢ 0 → fy ≡ 0
       → clip depth (round_shift (intermediate depth 1 across samples (r + 3) c) (intermediate_bits depth)) ≡ single depth fx fy across down samples r c

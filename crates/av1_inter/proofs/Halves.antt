@@ -1,13 +1,14 @@
 -- Sums by halved weights, as the machine forms them in 16 bits, and how great they are.
-use Rattle.std.proofs.Common.{ℕ, zero, suc, ◌+◌, ◌*◌, ◌<◌, ◌≤◌, ◌≡◌, ◌∙◌, ap, refl, arith, subst, sym, ℤ, pos, negsuc, ◌+ℤ◌, ◌*ℤ◌, neg_ℤ, ◌≤ℤ◌, List, [], ◌∷◌, length, unsigned_abs, w16, w32, to_z, of_z, FitsSigned}
+use Rattle.std.proofs.Common.{ℕ, zero, suc, ◌+◌, ◌*◌, ◌^◌, ◌<◌, ◌≤◌, ◌≡◌, ◌∙◌, ap, refl, arith, subst, sym, ℤ, pos, negsuc, ◌+ℤ◌, ◌*ℤ◌, neg_ℤ, ◌≤ℤ◌, List, [], ◌∷◌, length, unsigned_abs, w16, w32, to_z, of_z, FitsSigned}
 use Rattle.std.specs.Int.{int_max, int_min, int_shr}
 use Rattle.std.specs.Int.Signed.{shr_z}
 use Rattle.std.proofs.lemmas.Int.{int_max_is, int_min_is, ints, to_z-of_z}
+use Rattle.std.proofs.lemmas.Nat.{mul-le}
 use Rattle.std.proofs.lemmas.List.{same_lists, get_or_default, length-map}
 use Rattle.av1_frame.specs.Arithmetic.{clip, round_shift}
 use Rattle.av1_inter.specs.Motion.{entry, sum_to, weighted}
-use Rattle.av1_inter.specs.Scaffolding.{Between, doubled, IsFilter}
-use Rattle.av1_inter.proofs.Sums.{filter_between, gain, gains_more, gains_part, loss, losses_more, losses_part, product_between}
+use Rattle.av1_inter.specs.Scaffolding.{Between, doubled, gains, IsFilter, losses, SumsFit}
+use Rattle.av1_inter.proofs.Sums.{filter_between, gain, gains_more, gains_part, loss, losses_more, losses_part, product_between, small_sum}
 
 -- entry t of the doubled weights
 pub entry_doubled : (halves : List ℤ) (t : ℕ) → entry (doubled halves) t ≡ pos 2 *ℤ entry halves t
@@ -41,50 +42,72 @@ half_between (negsuc n) t e b = record { low = omega (arith, ints, e, b.low); hi
 pub halves_between : (halves : List ℤ) (value : ℕ → ℤ) (k : ℕ) → IsFilter (doubled halves) → k ≤ 8 → ((t : ℕ) → t < 8 → Between 0 255 (value t)) → Between 7140 23460 (sum_to k (λ t. entry halves t *ℤ value t))
 halves_between halves value k f h v = half_between _ _ (doubled_sum halves value k) (filter_between (doubled halves) value 0 255 k f h v)
 
-pub half_fits : (z : ℤ) → Between 7140 23460 z → FitsSigned w16 z
-half_fits (pos n) h = record { sfits = omega (arith, ints, h.high) }
-half_fits (negsuc n) h = record { sfits = omega (arith, ints, h.low) }
+-- a number of 16 bits
+pub short_sum_fits : (z : ℤ) → Between 32767 32767 z → FitsSigned w16 z
+short_sum_fits (pos n) h = record { sfits = omega (arith, ints, h.high) }
+short_sum_fits (negsuc n) h = record { sfits = omega (arith, ints, h.low) }
 
-byte_fits : (z : ℤ) → Between 0 255 z → FitsSigned w16 z
-byte_fits (pos n) h = record { sfits = omega (arith, ints, h.high) }
-byte_fits (negsuc n) h = absurd (omega (arith, ints, h.low))
+short_fits : (n : ℕ) (z : ℤ) → n < 2 ^ 15 → Between 0 n z → FitsSigned w16 z
+short_fits n (pos m) l h = record { sfits = omega (arith, ints, h.high, l) }
+short_fits n (negsuc m) l h = absurd (omega (arith, ints, h.low))
 
--- a sample of 8 bits, as it was read
-pub byte_read : (z : ℤ) → Between 0 255 z → to_z w16 (of_z w16 z) ≡ z
-byte_read z h = to_z-of_z w16 z (byte_fits z h)
+-- a sample up to n, as it was read
+pub short_read : (n : ℕ) (z : ℤ) → n < 2 ^ 15 → Between 0 n z → to_z w16 (of_z w16 z) ≡ z
+short_read n z l h = to_z-of_z w16 z (short_fits n z l h)
 
-half_product_fits : (s t : ℤ) → t ≡ pos 2 *ℤ s → neg_ℤ (pos 46920) ≤ℤ t → t ≤ℤ pos 46920 → FitsSigned w16 s
-half_product_fits (pos n) t e l h = record { sfits = omega (arith, ints, e, h) }
-half_product_fits (negsuc n) t e l h = record { sfits = omega (arith, ints, e, l) }
+pub short_kept : (n : ℕ) (z : ℤ) → n < 2 ^ 15 → Between 0 n z → Between 0 n (to_z w16 (of_z w16 z))
+short_kept n z l h = let P : ℤ → Type 0 = λ v. Between 0 n v in subst P (sym (short_read n z l h)) h
 
--- each product by a halved weight
-product_small : (halves : List ℤ) (t : ℕ) (v : ℤ) → IsFilter (doubled halves) → t < 8 → Between 0 255 v → FitsSigned w16 (entry halves t *ℤ v)
-product_small halves t v f h w =
-    let taps = doubled halves in
-    let p = product_between (entry taps t) v 0 255 w in
-    let more = gains_more taps t (omega (arith, f.size)) in
-    let less = losses_more taps t (omega (arith, f.size)) in
-    let g : gain (entry taps t) ≤ 184 = omega (arith, more, gains_part taps (suc t), f.gains) in
-    let l : loss (entry taps t) ≤ 56 = omega (arith, less, losses_part taps (suc t), f.losses) in
-    let e : entry taps t *ℤ v ≡ pos 2 *ℤ (entry halves t *ℤ v) = ap (λ z. z *ℤ v) (entry_doubled halves t) ∙ twice (entry halves t) v in
-    half_product_fits _ _ e (omega (arith, ints, p.low, p.high, g, l)) (omega (arith, ints, p.low, p.high, g, l))
+-- each product by a small weight
+short_product_small : (weights : List ℤ) (n t : ℕ) (v : ℤ) → SumsFit weights n → t < 8 → Between 0 n v → FitsSigned w16 (entry weights t *ℤ v)
+short_product_small weights n t v f h w =
+    let p = product_between (entry weights t) v 0 n w in
+    let more = gains_more weights t (omega (arith, f.size)) in
+    let less = losses_more weights t (omega (arith, f.size)) in
+    let g : gain (entry weights t) ≤ gains weights = omega (arith, more, gains_part weights (suc t)) in
+    let l : loss (entry weights t) ≤ losses weights = omega (arith, less, losses_part weights (suc t)) in
+    let gn : gain (entry weights t) * n ≤ gains weights * n = mul-le _ n _ n g (omega arith) in
+    let ln : loss (entry weights t) * n ≤ losses weights * n = mul-le _ n _ n l (omega arith) in
+    short_sum_fits _ (record { low = omega (arith, ints, p.low, ln, f.losses); high = omega (arith, ints, p.high, gn, f.gains) })
 
-product_of : (halves : List ℤ) (t : ℕ) (v : ℤ) → FitsSigned w16 (entry halves t) → Between 0 255 v → to_z w16 (of_z w16 (entry halves t)) *ℤ to_z w16 (of_z w16 v) ≡ entry halves t *ℤ v
-product_of halves t v f w = ap (λ z. z *ℤ to_z w16 (of_z w16 v)) (to_z-of_z w16 _ f) ∙ ap (λ z. entry halves t *ℤ z) (byte_read v w)
+short_product_of : (weights : List ℤ) (n t : ℕ) (v : ℤ) → n < 2 ^ 15 → FitsSigned w16 (entry weights t) → Between 0 n v → to_z w16 (of_z w16 (entry weights t)) *ℤ to_z w16 (of_z w16 v) ≡ entry weights t *ℤ v
+short_product_of weights n t v s f w = ap (λ z. z *ℤ to_z w16 (of_z w16 v)) (to_z-of_z w16 _ f) ∙ ap (λ z. entry weights t *ℤ z) (short_read n v s w)
 
-pub half_product : (halves : List ℤ) (t : ℕ) (v : ℤ) → IsFilter (doubled halves) → t < 8 → FitsSigned w16 (entry halves t) → Between 0 255 v → FitsSigned w16 (to_z w16 (of_z w16 (entry halves t)) *ℤ to_z w16 (of_z w16 v))
-half_product halves t v f h e w =
+pub short_product : (weights : List ℤ) (n t : ℕ) (v : ℤ) → SumsFit weights n → n < 2 ^ 15 → t < 8 → FitsSigned w16 (entry weights t) → Between 0 n v → FitsSigned w16 (to_z w16 (of_z w16 (entry weights t)) *ℤ to_z w16 (of_z w16 v))
+short_product weights n t v f s h e w =
     let P : ℤ → Type 0 = λ z. FitsSigned w16 z in
-    subst P (sym (product_of halves t v e w)) (product_small halves t v f h w)
+    subst P (sym (short_product_of weights n t v s e w)) (short_product_small weights n t v f h w)
 
-pub half_product_stored : (halves : List ℤ) (t : ℕ) (v : ℤ) → IsFilter (doubled halves) → t < 8 → FitsSigned w16 (entry halves t) → Between 0 255 v → to_z w16 (of_z w16 (to_z w16 (of_z w16 (entry halves t)) *ℤ to_z w16 (of_z w16 v))) ≡ entry halves t *ℤ v
-half_product_stored halves t v f h e w = to_z-of_z w16 _ (half_product halves t v f h e w) ∙ product_of halves t v e w
+pub short_product_stored : (weights : List ℤ) (n t : ℕ) (v : ℤ) → SumsFit weights n → n < 2 ^ 15 → t < 8 → FitsSigned w16 (entry weights t) → Between 0 n v → to_z w16 (of_z w16 (to_z w16 (of_z w16 (entry weights t)) *ℤ to_z w16 (of_z w16 v))) ≡ entry weights t *ℤ v
+short_product_stored weights n t v f s h e w = to_z-of_z w16 _ (short_product weights n t v f s h e w) ∙ short_product_of weights n t v s e w
 
-pub next_half_fits : (halves : List ℤ) (value : ℕ → ℤ) (t : ℕ) (s p : ℤ) → IsFilter (doubled halves) → t < 8 → ((i : ℕ) → i < 8 → Between 0 255 (value i)) → s ≡ sum_to t (λ i. entry halves i *ℤ value i) → p ≡ entry halves t *ℤ value t → FitsSigned w16 (s +ℤ p)
+pub next_short_fits : (weights : List ℤ) (value : ℕ → ℤ) (n t : ℕ) (s p : ℤ) → SumsFit weights n → t < 8 → ((i : ℕ) → i < 8 → Between 0 n (value i)) → s ≡ sum_to t (λ i. entry weights i *ℤ value i) → p ≡ entry weights t *ℤ value t → FitsSigned w16 (s +ℤ p)
 unfolding sum_to
-next_half_fits halves value t s p f h v es ep =
-    let w = halves_between halves value (suc t) f (omega arith) v in
-    half_fits _ (record { low = omega (arith, ints, w.low, es, ep); high = omega (arith, ints, w.high, es, ep) })
+next_short_fits weights value n t s p f h v es ep =
+    let w = small_sum weights value n (suc t) f (omega arith) v in
+    short_sum_fits _ (record { low = omega (arith, ints, w.low, es, ep); high = omega (arith, ints, w.high, es, ep) })
+
+-- the bounds of doubled weights
+pub doubled_gains : (halves : List ℤ) → gains (doubled halves) ≡ 2 * gains halves
+doubled_gains [] = refl
+doubled_gains (pos n ∷ xs) =
+    let p : pos 2 *ℤ pos n ≡ pos (2 * n) = omega (arith, ints) in
+    ap (λ z. gains (z ∷ doubled xs)) p ∙ (let e = doubled_gains xs in omega (arith, e))
+doubled_gains (negsuc n ∷ xs) = ap (λ z. gains (z ∷ doubled xs)) (negated n) ∙ doubled_gains xs
+
+pub doubled_losses : (halves : List ℤ) → losses (doubled halves) ≡ 2 * losses halves
+doubled_losses [] = refl
+doubled_losses (pos n ∷ xs) =
+    let p : pos 2 *ℤ pos n ≡ pos (2 * n) = omega (arith, ints) in
+    ap (λ z. losses (z ∷ doubled xs)) p ∙ doubled_losses xs
+doubled_losses (negsuc n ∷ xs) = ap (λ z. losses (z ∷ doubled xs)) (negated n) ∙ (let e = doubled_losses xs in omega (arith, e))
+
+-- half of a filter's sums over samples of 8 bits are formed in 16
+pub bytes_fit : (halves : List ℤ) → IsFilter (doubled halves) → SumsFit halves 255
+bytes_fit halves f =
+    let g = doubled_gains halves in
+    let l = doubled_losses halves in
+    record { size = sym (length-map halves _) ∙ f.size; gains = omega (arith, g, f.gains); losses = omega (arith, l, f.losses) }
 
 -- lists of eight that agree at each entry
 pub halves_are : (halves taps : List ℤ) → length halves ≡ 8 → IsFilter taps → ((t : ℕ) → t < 8 → entry halves t ≡ int_shr (entry taps t) 1) → doubled halves ≡ taps
@@ -113,10 +136,6 @@ rounded_column halves taps value e = sym (ap (λ (w : List ℤ). round_shift (we
 
 pub rounded_row : (halves taps : List ℤ) (value : ℕ → ℤ) → doubled halves ≡ taps → round_shift (weighted halves value) 2 ≡ round_shift (weighted taps value) 3
 rounded_row halves taps value e = sym (ap (λ (w : List ℤ). round_shift (weighted w value) 3) (sym e) ∙ ap (λ z. shr_z (z +ℤ pos 4) 8) (doubled_sum halves value 8) ∙ shr_8 (weighted halves value))
-
--- and so is a value that was read
-pub byte_kept : (z : ℤ) → Between 0 255 z → Between 0 255 (to_z w16 (of_z w16 z))
-byte_kept z h = let P : ℤ → Type 0 = λ v. Between 0 255 v in subst P (sym (byte_read z h)) h
 
 -- half of a weight
 shr_small : (z : ℤ) → neg_ℤ (pos 184) ≤ℤ z → z ≤ℤ pos 184 → FitsSigned w16 (int_shr z 1)
@@ -165,14 +184,14 @@ cut_steps (negsuc n) m (negsuc k) e f =
 pub cut_is : (z m r : ℤ) → FitsSigned w16 z → FitsSigned w16 m → m ≡ int_max (to_z w16 (of_z w16 z)) (pos 0) → r ≡ int_min (to_z w16 (of_z w16 m)) (pos 255) → unsigned_abs (to_z w16 (of_z w16 r)) ≡ clip 8 z
 cut_is z m r fz fm e f =
     let s = cut_steps z m r (e ∙ ap (λ u. int_max u (pos 0)) (to_z-of_z w16 z fz)) (f ∙ ap (λ u. int_min u (pos 255)) (to_z-of_z w16 m fm)) in
-    ap unsigned_abs (byte_read r s.0) ∙ s.1
+    ap unsigned_abs (short_read 255 r (omega arith) s.0) ∙ s.1
 
 -- a sample's number of 8 bits
-pub number_between : (n : ℕ) → n < 256 → Between 0 255 (pos n)
+pub number_between : (n : ℕ) → n ≤ 255 → Between 0 255 (pos n)
 number_between n h = record { low = omega (arith, ints); high = omega (arith, ints, h) }
 
 -- a filter's sum that is known as a value
-pub half_sum_between : (halves : List ℤ) (f : ℕ → ℕ) (z : ℤ) → IsFilter (doubled halves) → ((t : ℕ) → t < 8 → f t < 256) → z ≡ weighted halves (λ t. pos (f t)) → Between 7140 23460 z
+pub half_sum_between : (halves : List ℤ) (f : ℕ → ℕ) (z : ℤ) → IsFilter (doubled halves) → ((t : ℕ) → t < 8 → f t ≤ 255) → z ≡ weighted halves (λ t. pos (f t)) → Between 7140 23460 z
 half_sum_between halves f z h bytes e =
     let P : ℤ → Type 0 = λ v. Between 7140 23460 v in
     subst P (sym e) (halves_between halves (λ t. pos (f t)) 8 h (omega arith) (λ t l. number_between (f t) (bytes t l)))

@@ -16,4 +16,5 @@ pub mod Within
 pub mod SameReferences
 pub mod Sources
 pub mod Halves
+pub mod OuterSums
 pub mod HeldSums

@@ -6,7 +6,7 @@ use Rattle.std.proofs.Math.Nat.{mod-eq_of_lt}
 use Rattle.std.proofs.Math.Pow.{pow_mono}
 use Rattle.av1_frame.specs.Arithmetic.{round_shift}
 use Rattle.av1_inter.specs.Motion.{entry, intermediate_bits, intermediate_at, sum_to, weighted}
-use Rattle.av1_inter.specs.Scaffolding.{Between, gains, losses, IsFilter, IsInner, IsWithin}
+use Rattle.av1_inter.specs.Scaffolding.{Between, gains, losses, IsFilter, IsInner, IsWithin, SumsFit}
 
 -- a sample, shifted to the left
 pub shifted_is : (z : ℤ) (n b : ℕ) → z ≡ pos n → n < 2 ^ 16 → b ≤ 4 → to_z w32 (of_z w32 z * 2 ^ b % 4294967296) ≡ pos (n * 2 ^ b)
@@ -82,7 +82,8 @@ both_between G g L l a b s p h k =
     let high : (G + g) * b + (L + l) * a ≡ (G * b + L * a) + (g * b + l * a) = grind arith in
     record { low = omega (arith, ints, low, h.low, k.low); high = omega (arith, ints, high, h.high, k.high) }
 
-partial_between : (taps : List ℤ) (value : ℕ → ℤ) (a b k : ℕ) → k ≤ length taps → ((t : ℕ) → t < length taps → Between a b (value t)) → Between (gains (take k taps) * a + losses (take k taps) * b) (gains (take k taps) * b + losses (take k taps) * a) (sum_to k (λ t. entry taps t *ℤ value t))
+-- the first terms of a sum
+pub partial_between : (taps : List ℤ) (value : ℕ → ℤ) (a b k : ℕ) → k ≤ length taps → ((t : ℕ) → t < length taps → Between a b (value t)) → Between (gains (take k taps) * a + losses (take k taps) * b) (gains (take k taps) * b + losses (take k taps) * a) (sum_to k (λ t. entry taps t *ℤ value t))
 unfolding sum_to
 partial_between taps value a b zero h v = record { low = omega (arith, ints); high = omega (arith, ints) }
 partial_between taps value a b (suc k) h v =
@@ -104,6 +105,14 @@ filter_between taps value a b k f h v =
     let la = mul-le _ a 56 a l (omega arith) in
     let lb = mul-le _ b 56 b l (omega arith) in
     record { low = omega (arith, ints, s.low, ga, lb); high = omega (arith, ints, s.high, gb, la) }
+
+-- sums by small weights, also of the first terms alone, over numbers up to n
+pub small_sum : (weights : List ℤ) (value : ℕ → ℤ) (n k : ℕ) → SumsFit weights n → k ≤ 8 → ((t : ℕ) → t < 8 → Between 0 n (value t)) → Between 32767 32767 (sum_to k (λ t. entry weights t *ℤ value t))
+small_sum weights value n k f h v =
+    let s = partial_between weights value 0 n k (omega (arith, f.size)) (λ t l. v t (omega (arith, f.size))) in
+    let g : gains (take k weights) * n ≤ gains weights * n = mul-le _ n _ n (gains_part weights k) (omega arith) in
+    let l : losses (take k weights) * n ≤ losses weights * n = mul-le _ n _ n (losses_part weights k) (omega arith) in
+    record { low = omega (arith, ints, s.low, l, f.losses); high = omega (arith, ints, s.high, g, f.gains) }
 
 -- the same over small values
 pub filter_small : (taps : List ℤ) (value : ℕ → ℤ) (k : ℕ) → IsFilter taps → k ≤ 8 → ((t : ℕ) → t < 8 → IsWithin (2 ^ 22) (value t)) → IsWithin (2 ^ 30) (sum_to k (λ t. entry taps t *ℤ value t))
@@ -151,7 +160,7 @@ pub sum_none : (term : ℕ → ℤ) → sum_to 0 term ≡ pos 0
 unfolding sum_to
 sum_none term = refl
 
-times_none : (v : ℤ) → pos 0 *ℤ v ≡ pos 0
+pub times_none : (v : ℤ) → pos 0 *ℤ v ≡ pos 0
 times_none (pos n) = omega (arith, ints)
 times_none (negsuc n) = omega (arith, ints)
 

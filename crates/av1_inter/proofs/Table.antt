@@ -10,7 +10,7 @@ use Rattle.av1_blocks.specs.declared.mc.FilterMode.TheVariants.{REGULAR, SMOOTH,
 use Rattle.av1_blocks.specs.Filters.{filter_number, subpel_filters}
 use Rattle.av1_inter.specs.Filters.{family, filter_of, short_family}
 use Rattle.av1_inter.specs.Motion.{entry}
-use Rattle.av1_inter.specs.Scaffolding.{gains, IsFilter, IsShort, losses}
+use Rattle.av1_inter.specs.Scaffolding.{gains, IsFilter, IsShort, losses, outer}
 
 both_true : (a b : Bool) → (a && b) ≡ true → (a ≡ true) × (b ≡ true)
 both_true a b e = grind (arith, nat_tests)
@@ -20,6 +20,12 @@ row_at k f = slice_index_or (slice_index_or subpel_filters k []) f []
 
 abbrev is_filter : List ℤ → Bool
 is_filter taps = nat_eq (length taps) 8 && (nat_eq (gains taps) (128 + losses taps) && (nat_le (gains taps) 184 && nat_le (losses taps) 56))
+
+abbrev has_small_outer : List ℤ → Bool
+has_small_outer taps = nat_le (gains (outer taps)) 32 && nat_le (losses (outer taps)) 56
+
+all_outer : all_below 6 (λ k. all_below 16 (λ f. has_small_outer (row_at k f))) ≡ true
+all_outer = refl
 
 all_filters : all_below 6 (λ k. all_below 16 (λ f. is_filter (row_at k f))) ≡ true
 all_filters = refl
@@ -51,7 +57,9 @@ row_is_filter k f h l =
     let b = both_true (nat_eq (length (row_at k f)) 8) (nat_eq (gains (row_at k f)) (128 + losses (row_at k f)) && (nat_le (gains (row_at k f)) 184 && nat_le (losses (row_at k f)) 56)) e in
     let d = both_true (nat_eq (gains (row_at k f)) (128 + losses (row_at k f))) (nat_le (gains (row_at k f)) 184 && nat_le (losses (row_at k f)) 56) b.1 in
     let m = both_true (nat_le (gains (row_at k f)) 184) (nat_le (losses (row_at k f)) 56) d.1 in
-    record { size = equal_is _ _ b.0; whole = equal_is _ _ d.0; gains = at_most_is _ _ m.0; losses = at_most_is _ _ m.1; even = λ t b. row_is_even k f t h l b }
+    let s = below 16 (λ i. has_small_outer (row_at k i)) (below 6 (λ j. all_below 16 (λ i. has_small_outer (row_at j i))) all_outer k h) f l in
+    let o = both_true (nat_le (gains (outer (row_at k f))) 32) (nat_le (losses (outer (row_at k f))) 56) s in
+    record { size = equal_is _ _ b.0; whole = equal_is _ _ d.0; outer_gains = at_most_is _ _ o.0; outer_losses = at_most_is _ _ o.1; gains = at_most_is _ _ m.0; losses = at_most_is _ _ m.1; even = λ t b. row_is_even k f t h l b }
 
 abbrev is_zero : ℤ → Bool
 is_zero (pos n) = nat_eq n 0

@@ -1,5 +1,5 @@
 -- What the crate's own functions promise one another on the way. No public contract cites this file.
-use Rattle.std.specs.Prelude.{◌≡◌, ℕ, suc, ◌+◌, ◌%◌, ◌≤◌, ◌<◌, ◌⊎◌, List, [], ◌∷◌, length, map, slice_index_or, ℤ, pos, negsuc, neg_ℤ, ◌*ℤ◌, ◌≤ℤ◌}
+use Rattle.std.specs.Prelude.{◌≡◌, ℕ, suc, ◌+◌, ◌*◌, ◌%◌, ◌≤◌, ◌<◌, ◌⊎◌, List, [], ◌∷◌, length, map, slice_index_or, ℤ, pos, negsuc, neg_ℤ, ◌*ℤ◌, ◌≤ℤ◌}
 use Rattle.std.specs.Int.{int_shr}
 use Rattle.av1_frame.specs.declared.plane_region.StoredArea.{StoredArea}
 use Rattle.av1_inter.specs.Motion.{entry}
@@ -15,11 +15,17 @@ losses [] = 0
 losses (pos n ∷ taps) = losses taps
 losses (negsuc n ∷ taps) = suc n + losses taps
 
--- eight even weights that sum to 128, of which the positive ones sum to at most 184 and the negative ones to at least -56, as those of
--- every filter do
+-- the outer six of eight weights, with 0 in the place of the middle two
+abbrev pub outer : List ℤ → List ℤ
+outer taps = entry taps 0 ∷ entry taps 1 ∷ entry taps 2 ∷ pos 0 ∷ pos 0 ∷ entry taps 5 ∷ entry taps 6 ∷ entry taps 7 ∷ []
+
+-- eight even weights that sum to 128, of which the positive ones sum to at most 184 and the negative ones to at least -56, and the positive
+-- ones of the outer six to at most 32, as those of every filter do
 pub record IsFilter (taps : List ℤ) : Type 0 where
   pub size : length taps ≡ 8
   pub whole : gains taps ≡ 128 + losses taps
+  pub outer_gains : gains (outer taps) ≤ 32
+  pub outer_losses : losses (outer taps) ≤ 56
   pub gains : gains taps ≤ 184
   pub losses : losses taps ≤ 56
   pub even : (t : ℕ) → t < 8 → pos 2 *ℤ int_shr (entry taps t) 1 ≡ entry taps t
@@ -38,6 +44,12 @@ pub record IsShort (taps : List ℤ) : Type 0 where
 -- twice each weight
 abbrev pub doubled : List ℤ → List ℤ
 doubled halves = map (λ h. pos 2 *ℤ h) halves
+
+-- sums of numbers from 0 to `greatest` by these eight weights, or by the first of them, fit 16 bits
+pub record SumsFit (weights : List ℤ) (greatest : ℕ) : Type 0 where
+  pub size : length weights ≡ 8
+  pub gains : gains weights * greatest ≤ 32767
+  pub losses : losses weights * greatest ≤ 32767
 
 -- z is from -a to b
 pub record Between (a b : ℕ) (z : ℤ) : Type 0 where

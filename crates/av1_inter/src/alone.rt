@@ -10,9 +10,10 @@ ghost use Rattle.av1_frame.specs.Regions.{InStorage, painted};
 ghost use Rattle.av1_inter.specs.Motion.{down_samples, intermediate_bits, weighted};
 ghost use Rattle.av1_inter.specs.Places.{AreWithinDepth, IsStoredFrom, samples_from};
 ghost use Rattle.av1_blocks.specs.Depths.{IsDepth};
-ghost use Rattle.av1_inter.specs.Scaffolding.{IsFilter, IsShort};
+ghost use Rattle.av1_inter.specs.Scaffolding.{doubled, IsFilter, IsInner, IsShort};
 
-use crate::lines::{filter_along, sums_apart};
+use crate::lines::{filter_along, is_inner, sums_apart};
+use crate::mixed::{mixed_sums, put_mixed_sums};
 use crate::narrow::{half_sums, halves_for, put_column_sums, put_row_sums};
 use crate::put::put_row;
 use crate::rounding::intermediate_bits;
@@ -49,7 +50,41 @@ fn sum_columns<T: Pixel, const N: usize, const SHORT: bool>(
     }
 }
 
-/// The same of samples of any depth.
+/// The same of samples of 10 bits, by halved weights, of which the outer two are 0 where `INNER` is true.
+#[inline(always)]
+#[tactic(auto, using(av1_frame::proofs::Paint::row_starts_within, av1_frame::proofs::Paint::row_within, av1_frame::proofs::Paint::length_paint, av1_frame::proofs::Paint::paint_none))]
+fn sum_mixed_columns<T: Pixel, const N: usize, const INNER: bool>(
+    samples: &mut [T],
+    stride: usize,
+    area: StoredArea,
+    source: &[T],
+    source_stride: usize,
+    halves: &[i16; SUBPEL_FILTER_SIZE],
+)
+    requires filter { IsFilter (doubled halves.now) }
+    requires inner { INNER ≡ true → IsInner (doubled halves.now) }
+    requires rows { AreRows stride area (length samples.old) }
+    requires width { area.width ≡ N }
+    requires short { N ≤ 128 }
+    requires bits { 10 ≤ T.BITS }
+    requires reach { (r : ℕ) → r < area.height + 7 → r * source_stride + (N + 7) ≤ length source.now }
+    requires within { (r c : ℕ) → r < area.height + 7 → c < N + 7 → slice_index (map T.num source.now) (r * source_stride + c) < 1024 }
+    ensures { samples.new ≡ paint stride area (λ r c _. T.pixel (clip 10 (round_shift (weighted (doubled halves.now) (λ t. pos (slice_index (map T.num source.now) ((r + t) * source_stride + (c + 3))))) 7))) samples.old }
+{
+    for r in 0..area.height {
+        let sums = mixed_sums::<T, N, INNER>(
+            source,
+            r * source_stride + 3,
+            source_stride,
+            halves,
+            32,
+        );
+        let (_, row) = samples.split_at_mut((area.y + r) * stride + area.x);
+        put_mixed_sums::<T, N>(row, &sums);
+    }
+}
+
+/// The same of samples of any depth, by the weights themselves.
 #[inline(never)]
 #[tactic(auto, using(av1_frame::proofs::Paint::row_starts_within, av1_frame::proofs::Paint::row_within, av1_frame::proofs::Paint::length_paint, av1_frame::proofs::Paint::paint_none))]
 fn sum_wide_columns<T: Pixel, const N: usize>(
@@ -107,7 +142,35 @@ fn sum_rows<T: Pixel, const N: usize, const SHORT: bool>(
     }
 }
 
-/// The same of samples of any depth.
+/// The same of samples of 10 bits, by halved weights, of which the outer two are 0 where `INNER` is true.
+#[inline(always)]
+#[tactic(auto, using(av1_frame::proofs::Paint::row_starts_within, av1_frame::proofs::Paint::row_within, av1_frame::proofs::Paint::length_paint, av1_frame::proofs::Paint::paint_none))]
+fn sum_mixed_rows<T: Pixel, const N: usize, const INNER: bool>(
+    samples: &mut [T],
+    stride: usize,
+    area: StoredArea,
+    source: &[T],
+    source_stride: usize,
+    halves: &[i16; SUBPEL_FILTER_SIZE],
+)
+    requires filter { IsFilter (doubled halves.now) }
+    requires inner { INNER ≡ true → IsInner (doubled halves.now) }
+    requires rows { AreRows stride area (length samples.old) }
+    requires width { area.width ≡ N }
+    requires short { N ≤ 128 }
+    requires bits { 10 ≤ T.BITS }
+    requires reach { (r : ℕ) → r < area.height + 7 → r * source_stride + (N + 7) ≤ length source.now }
+    requires within { (r c : ℕ) → r < area.height + 7 → c < N + 7 → slice_index (map T.num source.now) (r * source_stride + c) < 1024 }
+    ensures { samples.new ≡ paint stride area (λ r c _. T.pixel (clip 10 (round_shift (round_shift (weighted (doubled halves.now) (λ t. pos (slice_index (map T.num source.now) ((r + 3) * source_stride + (c + t))))) 3) 4))) samples.old }
+{
+    for r in 0..area.height {
+        let sums = mixed_sums::<T, N, INNER>(source, (r + 3) * source_stride, 1, halves, 34);
+        let (_, row) = samples.split_at_mut((area.y + r) * stride + area.x);
+        put_mixed_sums::<T, N>(row, &sums);
+    }
+}
+
+/// The same of samples of any depth, by the weights themselves.
 #[inline(never)]
 #[tactic(auto, using(av1_frame::proofs::Paint::row_starts_within, av1_frame::proofs::Paint::row_within, av1_frame::proofs::Paint::length_paint, av1_frame::proofs::Paint::paint_none))]
 fn sum_wide_rows<T: Pixel, const N: usize>(
@@ -171,7 +234,65 @@ pub(crate) fn put_narrow_columns<T: Pixel, const N: usize, const SHORT: bool>(
     );
 }
 
-/// The same of samples of any depth.
+/// A strip of samples of 10 bits that is filtered down its columns alone, by a filter whose outer two weights are 0 where `INNER` is true.
+#[inline(never)]
+fn put_mixed_columns_by<T: Pixel, const N: usize, const INNER: bool>(
+    dst: &mut PlaneRegionMut<'_, T>,
+    corner: PlaneSlice<'_, T>,
+    height: usize,
+    down: &[i32; SUBPEL_FILTER_SIZE],
+)
+    requires filter { IsFilter down.now }
+    requires inner { INNER ≡ true → IsInner down.now }
+    requires fits { InStorage dst.old }
+    requires columns { N ≤ dst.old.area.width }
+    requires rows { height ≤ dst.old.area.height }
+    requires short { N ≤ 128 }
+    requires stored { IsStoredFrom corner (N + 7) (height + 7) }
+    requires bits { 10 ≤ T.BITS }
+    requires within { AreWithinDepth 10 (samples_from T.num corner) (N + 7) (height + 7) }
+    ensures painted { dst.new ≡ painted dst.old N height (λ r c _. T.pixel (clip 10 (round_shift (down_samples down.now (samples_from T.num corner.entry) r c) 7))) }
+    ensures fits { InStorage dst.new }
+{
+    let halves = halves_for::<false>(down);
+    let stride = dst.plane_cfg.stride;
+    let area = dst.corner(N, height);
+    sum_mixed_columns::<T, N, INNER>(
+        dst.samples_mut(),
+        stride,
+        area,
+        corner.samples(),
+        corner.stride(),
+        &halves,
+    );
+}
+
+/// A strip of samples of 10 bits that is filtered down its columns alone.
+fn put_mixed_columns<T: Pixel, const N: usize>(
+    dst: &mut PlaneRegionMut<'_, T>,
+    corner: PlaneSlice<'_, T>,
+    height: usize,
+    down: &[i32; SUBPEL_FILTER_SIZE],
+)
+    requires filter { IsFilter down.now }
+    requires fits { InStorage dst.old }
+    requires columns { N ≤ dst.old.area.width }
+    requires rows { height ≤ dst.old.area.height }
+    requires short { N ≤ 128 }
+    requires stored { IsStoredFrom corner (N + 7) (height + 7) }
+    requires bits { 10 ≤ T.BITS }
+    requires within { AreWithinDepth 10 (samples_from T.num corner) (N + 7) (height + 7) }
+    ensures painted { dst.new ≡ painted dst.old N height (λ r c _. T.pixel (clip 10 (round_shift (down_samples down.now (samples_from T.num corner.entry) r c) 7))) }
+    ensures fits { InStorage dst.new }
+{
+    if is_inner(down) {
+        put_mixed_columns_by::<T, N, true>(dst, corner, height, down);
+    } else {
+        put_mixed_columns_by::<T, N, false>(dst, corner, height, down);
+    }
+}
+
+/// A strip of samples of any depth that is filtered down its columns alone.
 fn put_wide_columns<T: Pixel, const N: usize>(
     dst: &mut PlaneRegionMut<'_, T>,
     corner: PlaneSlice<'_, T>,
@@ -226,6 +347,8 @@ pub(crate) fn put_columns_alone<T: Pixel, const N: usize>(
 {
     if bit_depth == 8 {
         put_narrow_columns::<T, N, false>(dst, corner, height, down);
+    } else if bit_depth == 10 {
+        put_mixed_columns::<T, N>(dst, corner, height, down);
     } else {
         put_wide_columns::<T, N>(dst, corner, height, down, bit_depth);
     }
@@ -263,7 +386,65 @@ pub(crate) fn put_narrow_rows<T: Pixel, const N: usize, const SHORT: bool>(
     );
 }
 
-/// The same of samples of any depth.
+/// A strip of samples of 10 bits that is filtered along its rows alone, by a filter whose outer two weights are 0 where `INNER` is true.
+#[inline(never)]
+fn put_mixed_rows_by<T: Pixel, const N: usize, const INNER: bool>(
+    dst: &mut PlaneRegionMut<'_, T>,
+    corner: PlaneSlice<'_, T>,
+    height: usize,
+    across: &[i32; SUBPEL_FILTER_SIZE],
+)
+    requires filter { IsFilter across.now }
+    requires inner { INNER ≡ true → IsInner across.now }
+    requires fits { InStorage dst.old }
+    requires columns { N ≤ dst.old.area.width }
+    requires rows { height ≤ dst.old.area.height }
+    requires short { N ≤ 128 }
+    requires stored { IsStoredFrom corner (N + 7) (height + 7) }
+    requires bits { 10 ≤ T.BITS }
+    requires within { AreWithinDepth 10 (samples_from T.num corner) (N + 7) (height + 7) }
+    ensures painted { dst.new ≡ painted dst.old N height (λ r c _. T.pixel (clip 10 (round_shift (round_shift (weighted across.now (λ t. pos (samples_from T.num corner.entry (c + t) (r + 3)))) 3) 4))) }
+    ensures fits { InStorage dst.new }
+{
+    let halves = halves_for::<false>(across);
+    let stride = dst.plane_cfg.stride;
+    let area = dst.corner(N, height);
+    sum_mixed_rows::<T, N, INNER>(
+        dst.samples_mut(),
+        stride,
+        area,
+        corner.samples(),
+        corner.stride(),
+        &halves,
+    );
+}
+
+/// A strip of samples of 10 bits that is filtered along its rows alone.
+fn put_mixed_rows<T: Pixel, const N: usize>(
+    dst: &mut PlaneRegionMut<'_, T>,
+    corner: PlaneSlice<'_, T>,
+    height: usize,
+    across: &[i32; SUBPEL_FILTER_SIZE],
+)
+    requires filter { IsFilter across.now }
+    requires fits { InStorage dst.old }
+    requires columns { N ≤ dst.old.area.width }
+    requires rows { height ≤ dst.old.area.height }
+    requires short { N ≤ 128 }
+    requires stored { IsStoredFrom corner (N + 7) (height + 7) }
+    requires bits { 10 ≤ T.BITS }
+    requires within { AreWithinDepth 10 (samples_from T.num corner) (N + 7) (height + 7) }
+    ensures painted { dst.new ≡ painted dst.old N height (λ r c _. T.pixel (clip 10 (round_shift (round_shift (weighted across.now (λ t. pos (samples_from T.num corner.entry (c + t) (r + 3)))) 3) 4))) }
+    ensures fits { InStorage dst.new }
+{
+    if is_inner(across) {
+        put_mixed_rows_by::<T, N, true>(dst, corner, height, across);
+    } else {
+        put_mixed_rows_by::<T, N, false>(dst, corner, height, across);
+    }
+}
+
+/// A strip of samples of any depth that is filtered along its rows alone.
 fn put_wide_rows<T: Pixel, const N: usize>(
     dst: &mut PlaneRegionMut<'_, T>,
     corner: PlaneSlice<'_, T>,
@@ -319,6 +500,8 @@ pub(crate) fn put_rows_alone<T: Pixel, const N: usize>(
 {
     if bit_depth == 8 {
         put_narrow_rows::<T, N, false>(dst, corner, height, across);
+    } else if bit_depth == 10 {
+        put_mixed_rows::<T, N>(dst, corner, height, across);
     } else {
         put_wide_rows::<T, N>(dst, corner, height, across, bit_depth);
     }

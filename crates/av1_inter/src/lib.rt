@@ -31,6 +31,7 @@ mod copies;
 mod filter;
 mod laws;
 mod lines;
+mod mixed;
 mod moved;
 mod narrow;
 mod predict;

@@ -1,15 +1,16 @@
-//! Samples of 8 bits that are filtered along one direction alone, in sums of 16 bits.
+//! Sums of 16 bits, and samples of 8 bits that are filtered along one direction alone.
 //!
-//! Every weight is even, so that half a sum of eight samples is the sum by halved weights: it lies from -7140 to 23460.
+//! Every weight is even, so that half a sum of eight samples is the sum by halved weights: over samples of 8 bits it lies from -7140 to
+//! 23460. Sums by other weights are formed in 16 bits too, where these are small enough for the greatest sample.
 //!
 //! AV1 specification: block inter prediction process.
 
-ghost use Rattle.std.specs.Prelude.{◌≡◌, true, ℕ, ◌+◌, ◌*◌, ◌≤◌, ◌<◌, pos, length, map, slice_index};
+ghost use Rattle.std.specs.Prelude.{◌≡◌, true, ℕ, ◌+◌, ◌*◌, ◌^◌, ◌≤◌, ◌<◌, pos, length, map, slice_index};
 ghost use Rattle.std.specs.Int.{int_shr};
 ghost use Rattle.av1_frame.specs.Arithmetic.{clip, round_shift};
 ghost use Rattle.av1_frame.specs.Samples.{paint_row};
 ghost use Rattle.av1_inter.specs.Motion.{entry, weighted};
-ghost use Rattle.av1_inter.specs.Scaffolding.{Between, doubled, IsFilter, IsInner, IsShort};
+ghost use Rattle.av1_inter.specs.Scaffolding.{Between, doubled, IsFilter, IsInner, IsShort, SumsFit};
 
 use av1_blocks::SUBPEL_FILTER_SIZE;
 use av1_frame::Pixel;
@@ -72,11 +73,15 @@ pub(crate) fn halves_for<const SHORT: bool>(
     }
 }
 
-/// The sum of eight samples, each times its halved weight.
+/// The sum of eight samples up to `GREATEST`, each times its halved weight.
 #[inline(always)]
-fn weigh_halves(halves: &[i16; SUBPEL_FILTER_SIZE], values: [i16; SUBPEL_FILTER_SIZE]) -> i16
-    requires filter { IsFilter (doubled halves.now) }
-    requires bytes { (t : ℕ) → t < 8 → Between 0 255 (entry values t) }
+fn weigh_halves<const GREATEST: usize>(
+    halves: &[i16; SUBPEL_FILTER_SIZE],
+    values: [i16; SUBPEL_FILTER_SIZE],
+) -> i16
+    requires sums { SumsFit halves.now GREATEST }
+    requires small { GREATEST < 2 ^ 15 }
+    requires within { (t : ℕ) → t < 8 → Between 0 GREATEST (entry values t) }
     ensures { result ≡ weighted halves.now (entry values) }
 {
     let mut sum = 0;
@@ -88,10 +93,14 @@ fn weigh_halves(halves: &[i16; SUBPEL_FILTER_SIZE], values: [i16; SUBPEL_FILTER_
 
 /// The same where the outer two weights are 0.
 #[inline(always)]
-fn weigh_inner_halves(halves: &[i16; SUBPEL_FILTER_SIZE], values: [i16; SUBPEL_FILTER_SIZE]) -> i16
-    requires filter { IsFilter (doubled halves.now) }
+fn weigh_inner_halves<const GREATEST: usize>(
+    halves: &[i16; SUBPEL_FILTER_SIZE],
+    values: [i16; SUBPEL_FILTER_SIZE],
+) -> i16
+    requires sums { SumsFit halves.now GREATEST }
+    requires small { GREATEST < 2 ^ 15 }
     requires inner { IsInner halves.now }
-    requires bytes { (t : ℕ) → t < 8 → Between 0 255 (entry values t) }
+    requires within { (t : ℕ) → t < 8 → Between 0 GREATEST (entry values t) }
     ensures { result ≡ weighted halves.now (entry values) }
 {
     let mut sum = 0;
@@ -101,66 +110,69 @@ fn weigh_inner_halves(halves: &[i16; SUBPEL_FILTER_SIZE], values: [i16; SUBPEL_F
     sum
 }
 
-/// The sample at a place, which has 8 bits.
+/// The sample at a place, which is at most `GREATEST`.
 #[inline(always)]
-fn byte_at<T: Pixel>(samples: &[T], place: usize) -> i16
+fn short_at<T: Pixel, const GREATEST: usize>(samples: &[T], place: usize) -> i16
     requires inside { place < length samples.now }
-    requires byte { slice_index (map T.num samples.now) place < 256 }
+    requires small { GREATEST < 2 ^ 15 }
+    requires within { slice_index (map T.num samples.now) place ≤ GREATEST }
     ensures value { result ≡ pos (slice_index (map T.num samples.now) place) }
-    ensures within { Between 0 255 result }
+    ensures within { Between 0 GREATEST result }
 {
     samples[place].to_i32() as i16
 }
 
 /// The sum of eight samples that stand `step` apart, each times its halved weight.
 #[inline(always)]
-fn half_sum<T: Pixel, const INNER: bool>(
+fn half_sum<T: Pixel, const GREATEST: usize, const INNER: bool>(
     samples: &[T],
     start: usize,
     step: usize,
     halves: &[i16; SUBPEL_FILTER_SIZE],
 ) -> i16
-    requires filter { IsFilter (doubled halves.now) }
+    requires sums { SumsFit halves.now GREATEST }
+    requires small { GREATEST < 2 ^ 15 }
     requires inner { INNER ≡ true → IsInner halves.now }
     requires long { start + 7 * step < length samples.now }
-    requires bytes { (t : ℕ) → t < 8 → slice_index (map T.num samples.now) (start + t * step) < 256 }
+    requires within { (t : ℕ) → t < 8 → slice_index (map T.num samples.now) (start + t * step) ≤ GREATEST }
     ensures { result ≡ weighted halves.now (λ t. pos (slice_index (map T.num samples.now) (start + t * step))) }
 {
     let values = [
-        byte_at(samples, start),
-        byte_at(samples, start + step),
-        byte_at(samples, start + 2 * step),
-        byte_at(samples, start + 3 * step),
-        byte_at(samples, start + 4 * step),
-        byte_at(samples, start + 5 * step),
-        byte_at(samples, start + 6 * step),
-        byte_at(samples, start + 7 * step),
+        short_at::<T, GREATEST>(samples, start),
+        short_at::<T, GREATEST>(samples, start + step),
+        short_at::<T, GREATEST>(samples, start + 2 * step),
+        short_at::<T, GREATEST>(samples, start + 3 * step),
+        short_at::<T, GREATEST>(samples, start + 4 * step),
+        short_at::<T, GREATEST>(samples, start + 5 * step),
+        short_at::<T, GREATEST>(samples, start + 6 * step),
+        short_at::<T, GREATEST>(samples, start + 7 * step),
     ];
     if INNER {
-        weigh_inner_halves(halves, values)
+        weigh_inner_halves::<GREATEST>(halves, values)
     } else {
-        weigh_halves(halves, values)
+        weigh_halves::<GREATEST>(halves, values)
     }
 }
 
 /// Such sums from each of `N` places on.
 #[inline(always)]
-fn half_sums_by<T: Pixel, const N: usize, const INNER: bool>(
+pub(crate) fn half_sums_by<T: Pixel, const N: usize, const GREATEST: usize, const INNER: bool>(
     samples: &[T],
     start: usize,
     step: usize,
     halves: &[i16; SUBPEL_FILTER_SIZE],
 ) -> [i16; N]
-    requires filter { IsFilter (doubled halves.now) }
+    requires sums { SumsFit halves.now GREATEST }
+    requires small { GREATEST < 2 ^ 15 }
     requires inner { INNER ≡ true → IsInner halves.now }
     requires short { N ≤ 128 }
     requires long { start + N + 7 * step ≤ length samples.now }
-    requires bytes { (c t : ℕ) → c < N → t < 8 → slice_index (map T.num samples.now) (start + c + t * step) < 256 }
+    requires within { (c t : ℕ) → c < N → t < 8 → slice_index (map T.num samples.now) (start + c + t * step) ≤ GREATEST }
     ensures { (c : ℕ) → c < N → entry result c ≡ weighted halves.now (λ t. pos (slice_index (map T.num samples.now) (start + c + t * step))) }
 {
     let mut sums = [0; N];
     for c in 0..N {
-        sums[c] = half_sum::<T, INNER>(samples, start + c, step, halves);
+        sums[c] = half_sum::<T, GREATEST, INNER>(samples, start + c, step, halves);
     }
     sums
 }
@@ -173,7 +185,7 @@ fn are_inner(halves: &[i16; SUBPEL_FILTER_SIZE]) -> bool
     halves[0] == 0 && halves[7] == 0
 }
 
-/// The same, by the inner weights alone where that is all.
+/// Such sums of samples of 8 bits, by the inner weights alone where that is all.
 #[inline(always)]
 pub(crate) fn half_sums<T: Pixel, const N: usize>(
     samples: &[T],
@@ -184,14 +196,14 @@ pub(crate) fn half_sums<T: Pixel, const N: usize>(
     requires filter { IsFilter (doubled halves.now) }
     requires short { N ≤ 128 }
     requires long { start + N + 7 * step ≤ length samples.now }
-    requires bytes { (c t : ℕ) → c < N → t < 8 → slice_index (map T.num samples.now) (start + c + t * step) < 256 }
+    requires bytes { (c t : ℕ) → c < N → t < 8 → slice_index (map T.num samples.now) (start + c + t * step) ≤ 255 }
     ensures value { (c : ℕ) → c < N → entry result c ≡ weighted halves.now (λ t. pos (slice_index (map T.num samples.now) (start + c + t * step))) }
     ensures within { (c : ℕ) → c < N → Between 7140 23460 (entry result c) }
 {
     if are_inner(halves) {
-        half_sums_by::<T, N, true>(samples, start, step, halves)
+        half_sums_by::<T, N, 255, true>(samples, start, step, halves)
     } else {
-        half_sums_by::<T, N, false>(samples, start, step, halves)
+        half_sums_by::<T, N, 255, false>(samples, start, step, halves)
     }
 }
 

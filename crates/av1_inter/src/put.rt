@@ -25,7 +25,7 @@ use av1_frame::{Area, Pixel, PlaneRegionMut, PlaneSlice, round_shift};
 
 /// The sample of a depth that is nearest to a value. It is cut to 16 bits first, which is one step for eight values.
 #[inline(always)]
-fn nearest_sample<T: Pixel>(value: i32, bit_depth: usize) -> T
+pub(crate) fn nearest_sample<T: Pixel>(value: i32, bit_depth: usize) -> T
     requires depths { IsDepth bit_depth }
     requires depth { bit_depth ≤ T.BITS }
     ensures { result ≡ T.pixel (clip bit_depth value) }

@@ -37,7 +37,7 @@ half_sums-sums-requires g c =
           c.requires.short,
           (
             long,
-            λ q t h l. subst (λ (n : ℕ). slice_index (map g.T.Pixel.num c.args.source.now) n < 256) (sym (down_place r t s q)) (c.requires.bytes (r + t) (q + 3) (omega arith) (omega arith)),
+            λ q t h l. let b = c.requires.bytes (r + t) (q + 3) (omega arith) (omega arith) in subst (λ (n : ℕ). slice_index (map g.T.Pixel.num c.args.source.now) n ≤ 255) (sym (down_place r t s q)) (omega (arith, b)),
           ),
         ),
       ),

@@ -36,7 +36,7 @@ half_sums-sums-requires g c =
           c.requires.short,
           (
             long,
-            λ q t h l. subst (λ (n : ℕ). slice_index (map g.T.Pixel.num c.args.source.now) n < 256) (sym (along_place ((r + 3) * s) t q)) (c.requires.bytes (r + 3) (q + t) (omega arith) (omega arith)),
+            λ q t h l. let b = c.requires.bytes (r + 3) (q + t) (omega arith) (omega arith) in subst (λ (n : ℕ). slice_index (map g.T.Pixel.num c.args.source.now) n ≤ 255) (sym (along_place ((r + 3) * s) t q)) (omega (arith, b)),
           ),
         ),
       ),

@@ -2,7 +2,7 @@ use Rattle.std.proofs.Common.{arith, ap, ◌+◌}
 use Rattle.av1_frame.proofs.Regions.{painted_same}
 use Rattle.av1_inter.specs.Motion.{single}
 use Rattle.av1_inter.specs.Places.{samples_from}
-use Rattle.av1_inter.proofs.Cases.{single_down, single_rows}
+use Rattle.av1_inter.proofs.Cases.{single_alone, single_down, single_rows}
 use Rattle.av1_inter.proofs.put.put_block.Goals as goal
 
 pub returns-then-down-eq0-clause-painted : goal.returns-then-down-eq0-clause-painted
@@ -20,3 +20,11 @@ returns-else-across-eq0-clause-painted g c =
     let s = samples_from g.T.Pixel.num c.args.corner in
     painted_same c.args.dst.now _ g.row.N c.args.height _ (λ r q _. g.T.Pixel.pixel (single c.args.bit_depth across.fraction down.fraction across.taps down.taps s r q)) c.put_columns.ensures.painted
     (λ r q v l h. ap g.T.Pixel.pixel (single_down c.args.bit_depth c.requires.depths across.fraction down.fraction across.taps down.taps s r q c.if-down-eq0.false))
+
+pub returns-then-across-eq0-clause-painted : goal.returns-then-across-eq0-clause-painted
+returns-then-across-eq0-clause-painted g c =
+    let across = c.args.across.now in
+    let down = c.args.down.now in
+    let s = samples_from g.T.Pixel.num c.args.corner in
+    painted_same c.args.dst.now _ g.row.N c.args.height _ (λ r q _. g.T.Pixel.pixel (single c.args.bit_depth across.fraction down.fraction across.taps down.taps s r q)) c.put_columns_alone.ensures.painted
+    (λ r q v l h. ap g.T.Pixel.pixel (single_alone c.args.bit_depth c.requires.depths across.fraction down.fraction across.taps down.taps s r q c.if-across-eq0.true c.if-down-eq0.false))
