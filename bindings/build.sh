@@ -1,0 +1,105 @@
+#!/bin/sh
+# Builds the library for C and Rust into bindings/out, and tries it from both. It prints what ran, and ends in 'N passed, M failed'.
+# It needs rt, gcc, clang, valgrind, cargo. `rt lib` proves the library first, so a first run takes as long as that.
+cd "$(dirname "$0")" || exit 1
+here=$PWD
+kit=$(dirname "$(rt doc)")
+work=$(mktemp -d)
+trap 'rm -rf "$work"' EXIT
+plan=$here/../crates/av1_vectors/stdin
+planes=$here/../crates/av1_vectors/stdout
+passed=0
+failed=0
+
+# try NAME COMMAND..: one try, whose output is shown where it fails
+try() {
+    name=$1
+    shift
+    if "$@" >"$work/log" 2>&1; then
+        passed=$((passed + 1))
+        echo "ok      $name"
+        tail -n 1 "$work/log" | grep '^of \|^each of ' | sed 's/^/        /'
+    else
+        failed=$((failed + 1))
+        echo "FAILED  $name"
+        tail -n 20 "$work/log" | sed 's/^/        /'
+    fi
+}
+
+# archive BACKEND FOLDER: the library, with what it takes memory by, in one archive
+archive() {
+    mkdir -p "$2" &&
+        (cd ../crates/av1_c && rt lib $1) &&
+        cp ../crates/av1_c/out/libav1_c.a "$2" &&
+        (cd "$work" && ar x "$kit/c/liblibc_c.a") &&
+        ar rs "$2/libav1_c.a" "$work"/heap*.o
+}
+
+# numbers FILE PATTERN: the names of statuses and kinds, each with its number
+numbers() {
+    sed -n "s/$2/\1 \2/p" "$1" | sort
+}
+
+# same_numbers: Rattle, C and Rust give each status the same number
+same_numbers() {
+    numbers ../crates/av1_c/src/status.rt '^pub const \([A-Z_]*\): u32 = \([0-9]*\);.*' >"$work/rattle"
+    numbers c/av1_c.h '^ *AV1_\([A-Z_]*\) = \([0-9]*\).*' >"$work/c"
+    numbers rust/src/sys.rs '^pub const \([A-Z_]*\): u32 = \([0-9]*\);.*' >"$work/rust"
+    test -s "$work/rattle" && cmp "$work/rattle" "$work/c" && cmp "$work/rattle" "$work/rust"
+}
+
+# reconstructs WRAPPER FOLDER COMPILER..: the example writes the worked plan's planes
+reconstructs() {
+    wrapper=$1
+    folder=$2
+    shift 2
+    "$@" -Wall -Wextra -Werror -Ic c/reconstruct_plan.c "$folder/libav1_c.a" -o "$work/example" &&
+        $wrapper "$work/example" "$plan" >"$work/planes" && cmp "$work/planes" "$planes"
+}
+
+# runs WRAPPER FILE FOLDER COMPILER..: a program of calls ends well
+runs() {
+    wrapper=$1
+    file=$2
+    folder=$3
+    shift 3
+    "$@" -Wall -Wextra -Werror -Ic "c/$file" "$folder/libav1_c.a" -o "$work/program" && $wrapper "$work/program" "$plan" "$planes"
+}
+
+# shared FOLDER: the archive as a shared library
+shared() {
+    gcc -shared -fPIC -Wl,--whole-archive "$1/libav1_c.a" -Wl,--no-whole-archive -o "$work/libav1_c.so" &&
+        gcc -Wall -Wextra -Werror -Ic c/calls.c -L"$work" -lav1_c -Wl,-rpath,"$work" -o "$work/program" && "$work/program" "$plan" "$planes"
+}
+
+# as_the_program NUMBER: of the plan of a number the example writes what the program of the repository writes
+as_the_program() {
+    (cd ../crates/av1_vectors && rt run -- make "$1" >"$work/made" && rt run <"$work/made" >"$work/expected") &&
+        gcc -O2 -Ic c/reconstruct_plan.c out/libav1_c.a -o "$work/example" &&
+        "$work/example" "$work/made" >"$work/planes" && cmp "$work/planes" "$work/expected"
+}
+
+memcheck="valgrind -q --error-exitcode=1 --leak-check=full --show-leak-kinds=all"
+
+try "the library, by LLVM" archive "" out
+try "the library, by Rattle's own compiler" archive "--backend rattle" out/rattle
+try "the same numbers in Rattle, C and Rust" same_numbers
+try "the header, as C99" gcc -std=c99 -pedantic -Wall -Wextra -Werror -fsyntax-only c/av1_c.h
+try "the header, as C++" g++ -x c++ -pedantic -Wall -Wextra -Werror -fsyntax-only c/av1_c.h
+for folder in out out/rattle; do
+    for compiler in "gcc -O2" "gcc -O2 -fPIE -pie" "gcc -O2 -static" "gcc -O2 -flto" "clang -O2" "clang -g -fsanitize=address,undefined" "gcc -g -fsanitize=address,undefined"; do
+        try "$folder: $compiler reconstruct_plan.c" reconstructs "" $folder $compiler
+        try "$folder: $compiler calls.c" runs "" calls.c $folder $compiler
+        try "$folder: $compiler starved.c" runs "" starved.c $folder $compiler
+    done
+    try "$folder: valgrind reconstruct_plan.c" reconstructs "$memcheck" $folder gcc -g -O1
+    try "$folder: valgrind calls.c" runs "$memcheck" calls.c $folder gcc -g -O1
+    try "$folder: valgrind starved.c" runs "$memcheck" starved.c $folder gcc -g -O1
+    try "$folder: a shared library" shared $folder
+    try "$folder: cargo test" env AV1_C_FOLDER="$here/$folder" cargo test --offline --manifest-path rust/Cargo.toml --target-dir "$here/out/target"
+done
+for number in 1 2 3 4 5; do
+    try "as the program: make $number" as_the_program $number
+done
+echo "$passed passed, $failed failed"
+test $failed = 0

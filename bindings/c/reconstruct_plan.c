@@ -1,0 +1,55 @@
+/* An example: reads a plan from the file that is named, and writes its planes to standard output.
+ *   cc reconstruct_plan.c libav1_c.a -o reconstruct_plan && ./reconstruct_plan FILE > planes */
+#include "av1_c.h"
+
+#include <stdio.h>
+#include <stdlib.h>
+
+/* One byte more than the longest plan has is enough to be told that a file is too long. */
+#define MOST (((size_t)1 << 26) + 1)
+
+static const char *const kinds[] = {"", "block size", "transform", "mode", "vector", "missing reference", "coefficient"};
+
+static int refused(uint32_t status, const av1_refusal *refusal) {
+    switch (status) {
+    case AV1_TOO_LONG: fputs("too long\n", stderr); break;
+    case AV1_MALFORMED: fprintf(stderr, "malformed at %u\n", refusal->at); break;
+    case AV1_INVALID: fprintf(stderr, "invalid leaf %u: %s\n", refusal->leaf, kinds[refusal->kind]); break;
+    default: fputs("out of memory\n", stderr); break;
+    }
+    return 1;
+}
+
+/* The bytes of a file, and their number in `len`; NULL where that fails. */
+static uint8_t *read_file(const char *name, size_t *len) {
+    FILE *file = fopen(name, "rb");
+    uint8_t *bytes = file ? malloc(MOST) : NULL;
+    *len = bytes ? fread(bytes, 1, MOST, file) : 0;
+    if (bytes && ferror(file)) {
+        free(bytes);
+        bytes = NULL;
+    }
+    if (file) fclose(file);
+    return bytes;
+}
+
+int main(int count, char **words) {
+    size_t len, wanted, written;
+    av1_refusal refusal;
+    uint8_t *plan = count == 2 ? read_file(words[1], &len) : NULL;
+    if (!plan) {
+        fputs("usage: reconstruct_plan FILE\n", stderr);
+        return 2;
+    }
+    int result = 1;
+    uint32_t status = av1_planes_len(plan, len, &wanted, &refusal);
+    uint8_t *planes = status == AV1_DONE ? malloc(wanted) : NULL;
+    if (planes) status = av1_reconstruct_plan(plan, len, planes, wanted, &written, &refusal);
+    if (planes && status == AV1_DONE)
+        result = fwrite(planes, 1, written, stdout) == written && fflush(stdout) == 0 ? 0 : 1;
+    else
+        result = refused(status, &refusal);
+    free(planes);
+    free(plan);
+    return result;
+}

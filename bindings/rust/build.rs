@@ -1,0 +1,22 @@
+//! Finds the archive: in the folder that the variable AV1_C_FOLDER names, else in `bindings/out`, where `bindings/build.sh` puts it.
+
+use std::env;
+use std::path::PathBuf;
+
+fn main() {
+    println!("cargo:rerun-if-env-changed=AV1_C_FOLDER");
+    let folder = match env::var_os("AV1_C_FOLDER") {
+        Some(folder) => PathBuf::from(folder),
+        None => PathBuf::from(env::var_os("CARGO_MANIFEST_DIR").expect("cargo names its folder"))
+            .join("../out"),
+    };
+    let archive = folder.join("libav1_c.a");
+    println!("cargo:rerun-if-changed={}", archive.display());
+    assert!(
+        archive.is_file(),
+        "no {}: bindings/build.sh builds it; AV1_C_FOLDER names another folder",
+        archive.display()
+    );
+    println!("cargo:rustc-link-search=native={}", folder.display());
+    println!("cargo:rustc-link-lib=static=av1_c");
+}

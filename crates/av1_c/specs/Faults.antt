@@ -1,0 +1,53 @@
+-- What is told of a fault.
+use Rattle.std.specs.Prelude.{ℕ}
+use Rattle.av1_plan.specs.declared.error.PlanError.{PlanError}
+use Rattle.av1_plan.specs.declared.error.PlanError.TheVariants as plan_errors
+use Rattle.av1_plan.specs.declared.error.Invalid.{Invalid as InvalidLeaf}
+use Rattle.av1_plan.specs.declared.error.InvalidKind.{InvalidKind}
+use Rattle.av1_plan.specs.declared.error.InvalidKind.TheVariants as kinds
+use Rattle.av1_c.specs.declared.fault.PlanFault.{PlanFault}
+use Rattle.av1_c.specs.declared.fault.PlanFault.TheVariants.{Memory, RoomTooSmall, TooLong, Malformed, Invalid}
+use Rattle.av1_c.specs.declared.fault.Refusal.{Refusal}
+use Rattle.av1_c.specs.declared.status.TheConstants.{OUT_OF_MEMORY, ROOM_TOO_SMALL, TOO_LONG, MALFORMED, INVALID, INVALID_BLOCK_SIZE, TRANSFORM, MODE, VECTOR, MISSING_REFERENCE, COEFFICIENT}
+
+-- an error of parsing
+abbrev pub plan_fault : PlanError → PlanFault
+plan_fault (plan_errors.Malformed at) = Malformed at
+plan_fault plan_errors.Memory = Memory
+
+-- the first faulty leaf and its first reason
+abbrev pub invalid_fault : InvalidLeaf → PlanFault
+invalid_fault fault = Invalid fault.leaf fault.kind
+
+-- the number of a reason
+abbrev pub kind_number : InvalidKind → ℕ
+kind_number kinds.InvalidBlockSize = INVALID_BLOCK_SIZE
+kind_number kinds.Transform = TRANSFORM
+kind_number kinds.Mode = MODE
+kind_number kinds.Vector = VECTOR
+kind_number kinds.MissingReference = MISSING_REFERENCE
+kind_number kinds.Coefficient = COEFFICIENT
+
+-- the status of a call that ended so
+abbrev pub status_of : PlanFault → ℕ
+status_of Memory = OUT_OF_MEMORY
+status_of RoomTooSmall = ROOM_TOO_SMALL
+status_of TooLong = TOO_LONG
+status_of (Malformed at) = MALFORMED
+status_of (Invalid leaf kind) = INVALID
+
+-- the field at fault
+abbrev pub malformed_at : ℕ → Refusal
+malformed_at at = record { at = at; leaf = 0; kind = 0 }
+
+-- the first faulty leaf, and why
+abbrev pub invalid_leaf : ℕ → InvalidKind → Refusal
+invalid_leaf leaf kind = record { at = 0; leaf = leaf; kind = kind_number kind }
+
+-- what is told of a fault, where this was told before
+abbrev pub told : PlanFault → Refusal → Refusal
+told Memory before = before
+told RoomTooSmall before = before
+told TooLong before = before
+told (Malformed at) before = malformed_at at
+told (Invalid leaf kind) before = invalid_leaf leaf kind

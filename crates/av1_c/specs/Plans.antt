@@ -1,0 +1,66 @@
+-- What the calls on plans say of the bytes and of the caller's buffer.
+use Rattle.std.specs.Prelude.{◌≡◌, ℕ, ◌<◌, ◌≤◌, nat_le, if◌then◌else◌, List, ◌++◌, length, drop, Ok, Err, ⊤}
+use Rattle.av1_plan.specs.Grammar.{header}
+use Rattle.av1_plan.specs.Spelling.{IsPrefix, Spells, text}
+use Rattle.av1_plan.specs.declared.header.Header.{Header}
+use Rattle.av1_recon.specs.Outcomes.{HasOutcome, Outcome}
+use Rattle.av1_recon.specs.declared.error.ReconError.TheVariants as errors
+use Rattle.av1_c.specs.declared.fault.PlanFault.{PlanFault}
+use Rattle.av1_c.specs.declared.fault.PlanFault.TheVariants.{Memory, RoomTooSmall, TooLong, Malformed, Invalid}
+use Rattle.av1_c.specs.declared.status.TheConstants.{DONE, OUT_OF_MEMORY, ROOM_TOO_SMALL, TOO_LONG, MALFORMED, INVALID}
+
+-- ---- what the bytes are
+
+-- they begin with the fields of this header
+abbrev pub BeginWith : List ℕ → Header → Type 0
+BeginWith bytes h = (values : List ℕ) × Spells header values h × IsPrefix (text header values) bytes
+
+-- they are a valid plan, and P holds of its planes by the slow definition
+abbrev pub ComeToPlanes : List ℕ → (List ℕ → Type 0) → Type 0
+ComeToPlanes bytes P = (planes : List ℕ) × HasOutcome bytes (Ok planes) × P planes
+
+-- ---- the buffer
+
+-- The front of the buffer is now these bytes, of which there are this many, and the rest of it is as it was.
+pub record AreWritten (bytes room room' : List ℕ) (count : ℕ) : Type 0 where
+  pub count_is : count ≡ length bytes
+  pub fits : length bytes ≤ length room
+  pub front : room' ≡ bytes ++ drop (length bytes) room
+
+-- ---- statuses
+
+-- the status that an outcome of bytes asks for, where the buffer is this long; bytes come to none of the last three
+abbrev pub status_for : ℕ → Outcome → ℕ
+status_for room (Ok planes) = if nat_le (length planes) room then DONE else ROOM_TOO_SMALL
+status_for room (Err errors.TooLong) = TOO_LONG
+status_for room (Err (errors.Malformed at)) = MALFORMED
+status_for room (Err (errors.Invalid leaf kind)) = INVALID
+status_for room (Err errors.ReadFault) = OUT_OF_MEMORY
+status_for room (Err errors.WriteFault) = OUT_OF_MEMORY
+status_for room (Err errors.Memory) = OUT_OF_MEMORY
+
+-- ---- why nothing is written: words of private contracts
+
+-- the fault is that of the bytes, or of a buffer of this length
+abbrev pub IsCause : List ℕ → ℕ → PlanFault → Type 0
+IsCause bytes room Memory = ⊤
+IsCause bytes room RoomTooSmall = ComeToPlanes bytes (λ planes. room < length planes)
+IsCause bytes room TooLong = HasOutcome bytes (Err errors.TooLong)
+IsCause bytes room (Malformed at) = HasOutcome bytes (Err (errors.Malformed at))
+IsCause bytes room (Invalid leaf kind) = HasOutcome bytes (Err (errors.Invalid leaf kind))
+
+-- the fault is one of the header at their front
+abbrev pub IsHeaderFault : List ℕ → PlanFault → Type 0
+IsHeaderFault bytes Memory = ⊤
+IsHeaderFault bytes RoomTooSmall = ⊥
+IsHeaderFault bytes TooLong = HasOutcome bytes (Err errors.TooLong)
+IsHeaderFault bytes (Malformed at) = HasOutcome bytes (Err (errors.Malformed at))
+IsHeaderFault bytes (Invalid leaf kind) = ⊥
+
+-- so many bytes were to be written to a buffer of this length
+abbrev pub IsWritingFault : ℕ → ℕ → PlanFault → Type 0
+IsWritingFault len room Memory = ⊤
+IsWritingFault len room RoomTooSmall = room < len
+IsWritingFault len room TooLong = ⊥
+IsWritingFault len room (Malformed at) = ⊥
+IsWritingFault len room (Invalid leaf kind) = ⊥

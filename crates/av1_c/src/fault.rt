@@ -1,0 +1,112 @@
+//! Why a call on a plan wrote nothing, and what of it is told.
+ghost use Rattle.std.specs.Prelude.{◌≡◌};
+ghost use Rattle.av1_c.specs.Faults.{kind_number, invalid_fault, plan_fault, status_of, told};
+ghost use Rattle.av1_c.specs.declared.fault.PlanFault.TheVariants as faults;
+
+use crate::status::{
+    COEFFICIENT, INVALID, INVALID_BLOCK_SIZE, MALFORMED, MISSING_REFERENCE, MODE, OUT_OF_MEMORY,
+    ROOM_TOO_SMALL, TOO_LONG, TRANSFORM, VECTOR,
+};
+use av1_blocks::OutOfMemory;
+use av1_plan::{Invalid, InvalidKind, PlanError};
+
+/// Why a call on a plan wrote nothing.
+#[derive(Clone, Copy, Debug, PartialEq, Eq)]
+pub enum PlanFault {
+    /// An allocation was refused.
+    Memory,
+    /// The buffer is shorter than the planes.
+    RoomTooSmall,
+    /// There are more bytes than the longest plan has.
+    TooLong,
+    /// The field that begins at byte `at` is cut, has a value that is not admitted, or is left over after the end.
+    Malformed { at: u32 },
+    /// Leaf number `leaf`, counted from 0 in coding order, is the first that is refused, and why.
+    Invalid { leaf: u32, kind: InvalidKind },
+}
+
+/// What a plan is refused for: a field at fault, or a leaf and why. What is not told is 0.
+#[repr(C)]
+#[derive(Clone, Copy, Debug, PartialEq, Eq)]
+pub struct Refusal {
+    /// The byte at which the field at fault begins.
+    pub at: u32,
+    /// The first faulty leaf, counted from 0 in coding order.
+    pub leaf: u32,
+    /// Why it is refused.
+    pub kind: u32,
+}
+
+impl From<PlanError> for PlanFault {
+    ghost from_gives = { λ error fault. fault ≡ plan_fault error };
+
+    fn from(error: PlanError) -> Self {
+        match error {
+            PlanError::Malformed { at } => PlanFault::Malformed { at },
+            PlanError::Memory => PlanFault::Memory,
+        }
+    }
+}
+
+impl From<Invalid> for PlanFault {
+    ghost from_gives = { λ error fault. fault ≡ invalid_fault error };
+
+    fn from(error: Invalid) -> Self {
+        PlanFault::Invalid {
+            leaf: error.leaf,
+            kind: error.kind,
+        }
+    }
+}
+
+impl From<OutOfMemory> for PlanFault {
+    ghost from_gives = { λ _ fault. fault ≡ faults.Memory };
+
+    fn from(_: OutOfMemory) -> Self {
+        PlanFault::Memory
+    }
+}
+
+// The number of a reason for which a leaf is refused.
+fn kind_number(kind: InvalidKind) -> u32
+    ensures { result ≡ kind_number kind }
+{
+    match kind {
+        InvalidKind::InvalidBlockSize => INVALID_BLOCK_SIZE,
+        InvalidKind::Transform => TRANSFORM,
+        InvalidKind::Mode => MODE,
+        InvalidKind::Vector => VECTOR,
+        InvalidKind::MissingReference => MISSING_REFERENCE,
+        InvalidKind::Coefficient => COEFFICIENT,
+    }
+}
+
+impl PlanFault {
+    /// The status of a call that ended so. What the plan is refused for is told, and nothing where it isn't.
+    pub fn tell(self, refusal: &mut Refusal) -> u32
+        ensures status { result ≡ status_of self }
+        ensures refusal { refusal.new ≡ told self refusal.old }
+    {
+        match self {
+            PlanFault::Memory => OUT_OF_MEMORY,
+            PlanFault::RoomTooSmall => ROOM_TOO_SMALL,
+            PlanFault::TooLong => TOO_LONG,
+            PlanFault::Malformed { at } => {
+                *refusal = Refusal {
+                    at,
+                    leaf: 0,
+                    kind: 0,
+                };
+                MALFORMED
+            }
+            PlanFault::Invalid { leaf, kind } => {
+                *refusal = Refusal {
+                    at: 0,
+                    leaf,
+                    kind: kind_number(kind),
+                };
+                INVALID
+            }
+        }
+    }
+}

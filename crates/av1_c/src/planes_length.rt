@@ -1,0 +1,67 @@
+//! How many bytes the planes of a plan have.
+ghost use Rattle.std.specs.Prelude.{◌≡◌, ◌≢◌, ◌⊎◌, ◌↔◌, ℕ, ◌<◌, ◌≤◌, length, Err, IfOk, IfErr, IsOkAnd, IsErrOf};
+ghost use Rattle.av1_plan.specs.Plan.{PlanValue};
+ghost use Rattle.av1_plan.specs.declared.header.Header.{Header};
+ghost use Rattle.av1_recon.specs.Outcomes.{ArePlan, HasOutcome};
+ghost use Rattle.av1_recon.specs.declared.error.ReconError.TheVariants as errors;
+ghost use Rattle.av1_streams.specs.Streams.{max_plan_bytes};
+ghost use Rattle.av1_tile.specs.Output.{planes_of};
+ghost use Rattle.av1_trace.specs.Samples.{planes_len};
+ghost use Rattle.av1_c.specs.Faults.{malformed_at};
+ghost use Rattle.av1_c.specs.Plans.{BeginWith, IsHeaderFault};
+
+use crate::fault::{PlanFault, Refusal};
+use crate::status::{DONE, MALFORMED, OUT_OF_MEMORY, TOO_LONG};
+use av1_plan::Reader;
+use av1_recon::MAX_PLAN_BYTES;
+use av1_trace::planes_len;
+
+/// How many bytes the planes of a plan have, by the header at its front.
+///
+/// # Errors
+///
+/// `TooLong`, then `Malformed`.
+fn wanted(bytes: &[u8]) -> Result<usize, PlanFault>
+    ensures found { IfOk result (λ len. (header : Header) × BeginWith bytes.now header × (len ≡ planes_len header)) }
+    ensures fault { IfErr result (IsHeaderFault bytes.now) }
+    ensures too_long { max_plan_bytes < length bytes.now → IsErrOf result PlanFault.TooLong }
+    ensures only { (header : Header) → BeginWith bytes.now header → length bytes.now ≤ max_plan_bytes
+        → IsOkAnd result (λ len. len ≡ planes_len header) ⊎ IsErrOf result PlanFault.Memory }
+{
+    if bytes.len() > MAX_PLAN_BYTES {
+        return Err(PlanFault::TooLong);
+    }
+    let mut reader = Reader { rest: bytes, at: 0 };
+    let header = reader.header()?;
+    Ok(planes_len(&header))
+}
+
+/// Tells by the header at the front of a plan how many bytes its planes have: those that [`av1_reconstruct_plan`] writes.
+///
+/// `DONE`: `len` has the number. `TOO_LONG`, `MALFORMED`: the bytes are refused, the latter for the field that begins at `refusal.at`. All
+/// that stands behind the header is left unread.
+#[unsafe(no_mangle)]
+pub extern "C" fn av1_planes_len(bytes: &[u8], len: &mut usize, refusal: &mut Refusal) -> u32
+    // The bytes begin with a header, and this is the length of its planes.
+    ensures done { result ≡ DONE → (header : Header) × BeginWith bytes.now header × (len.new ≡ planes_len header) }
+    // Every plan has this length.
+    ensures plan { (value : PlanValue) → ArePlan bytes.now value → ((result ≡ DONE) × (len.new ≡ length (planes_of value))) ⊎ (result ≡ OUT_OF_MEMORY) }
+    // The bytes are refused, and this is why.
+    ensures too_long { (result ≡ TOO_LONG) ↔ (max_plan_bytes < length bytes.now) }
+    ensures malformed { result ≡ MALFORMED → (at : ℕ) × HasOutcome bytes.now (Err (errors.Malformed at)) × (refusal.new ≡ malformed_at at) }
+    // A header is found where there is one.
+    ensures header { (header : Header) → BeginWith bytes.now header → length bytes.now ≤ max_plan_bytes
+        → ((result ≡ DONE) × (len.new ≡ planes_len header)) ⊎ (result ≡ OUT_OF_MEMORY) }
+    // What is not told stays as it was.
+    ensures kept { result ≢ DONE → len.new ≡ len.old }
+    ensures untold { result ≢ MALFORMED → refusal.new ≡ refusal.old }
+    ensures known { (result ≡ DONE) ⊎ ((result ≡ OUT_OF_MEMORY) ⊎ ((result ≡ TOO_LONG) ⊎ (result ≡ MALFORMED))) }
+{
+    match wanted(bytes) {
+        Ok(found) => {
+            *len = found;
+            DONE
+        }
+        Err(fault) => fault.tell(refusal),
+    }
+}

@@ -1,0 +1,37 @@
+//! The numbers that calls answer with. C's header and the Rust crate have the same under the same names.
+
+/// All was done.
+pub const DONE: u32 = 0;
+
+/// Memory ran out.
+pub const OUT_OF_MEMORY: u32 = 1;
+
+/// The buffer that was to be written is too short.
+pub const ROOM_TOO_SMALL: u32 = 2;
+
+/// There are more bytes than the longest plan has.
+pub const TOO_LONG: u32 = 3;
+
+/// The bytes are no plan.
+pub const MALFORMED: u32 = 4;
+
+/// A leaf of the plan is refused.
+pub const INVALID: u32 = 5;
+
+/// Why a leaf is refused: chroma of its size has no size of its own.
+pub const INVALID_BLOCK_SIZE: u32 = 1;
+
+/// A transform is longer than its leaf, or of a type that its size does not have.
+pub const TRANSFORM: u32 = 2;
+
+/// A mode, an angle step or an alpha that its leaf cannot have.
+pub const MODE: u32 = 3;
+
+/// A motion vector out of range.
+pub const VECTOR: u32 = 4;
+
+/// A reference to a slot without planes.
+pub const MISSING_REFERENCE: u32 = 5;
+
+/// A coefficient out of order, out of its block or out of range.
+pub const COEFFICIENT: u32 = 6;
