@@ -154,7 +154,8 @@ pub row_starts_within : (stride : ℕ) (a : StoredArea) (n y : ℕ) → AreRows 
 row_starts_within stride a n y f h = let e = row_within stride a n y f h in omega arith
 
 -- one more row: all from the row on was taken, the row was painted, and it was joined again
-pub row_painted_rest : {X : Type 0} (stride : ℕ) (a : StoredArea) (r : ℕ) (f : ℕ → ℕ → X → X) (s t front rest new : List X) → AreRows stride a (length s) → r < a.height → t ≡ paint stride (corner a a.width r) f s → let n : ℕ = (a.y + r) * stride + a.x in front ≡ take n t → rest ≡ drop n t → new ≡ paint_row a.width (f r) rest → front ++ new ≡ paint stride (corner a a.width (r + 1)) f s
+pub row_painted_rest : {X : Type 0} (stride : ℕ) (a : StoredArea) (r : ℕ) (f : ℕ → ℕ → X → X) (s t front rest new : List X) → AreRows stride a (length s) → r < a.height → t ≡ paint stride (corner a a.width r) f s
+    → let n : ℕ = (a.y + r) * stride + a.x in front ≡ take n t → rest ≡ drop n t → new ≡ paint_row a.width (f r) rest → front ++ new ≡ paint stride (corner a a.width (r + 1)) f s
 row_painted_rest stride a r f s t front rest new h l e p q b =
     let n : ℕ = (a.y + r) * stride + a.x in
     let fits : n + a.width ≤ length s = row_within stride a (length s) r h l in

@@ -2,15 +2,9 @@
 use Rattle.std.proofs.Common.{ℤ, pos, drop, ℕ, ◌-◌, ◌+◌, ◌*◌, ◌<◌, ◌≡◌, ◌∙◌, ap, sym, arith, List, length, map, get_or, slice_index}
 use Rattle.std.proofs.lemmas.Int.{ints}
 use Rattle.std.proofs.lemmas.List.{drop-map, get_or-drop, get_or-map}
-use Rattle.av1_frame.specs.declared.plane_region.PlaneRegionMut.{PlaneRegionMut}
-use Rattle.av1_frame.specs.declared.plane_region.StoredArea.{StoredArea}
 use Rattle.av1_frame.specs.declared.plane_slice.PlaneSlice.{PlaneSlice}
-use Rattle.av1_frame.specs.Regions.{painted, stored, with_samples}
-use Rattle.av1_frame.specs.Samples.{corner, paint, with_part}
 use Rattle.av1_frame.specs.Slices.{all_from, IsStoredPlace, RowIsStored}
-use Rattle.av1_frame.proofs.Paint.{length_paint, paint_same}
 use Rattle.av1_frame.proofs.Slices.{all_from_fits, all_from_sample}
-use Rattle.av1_frame.proofs.Update.{with_whole}
 use Rattle.av1_frame.specs.Arithmetic.{round_shift}
 use Rattle.av1_inter.specs.Motion.{weighted}
 use Rattle.av1_inter.specs.Places.{IsStoredFrom, samples_from}
@@ -49,13 +43,6 @@ module _ {T : Type 0} (num : T → ℕ) (place : PlaneSlice T) (columns rows : �
   source_reaches source stride x y e f h k =
       let m : y * stride + x ≡ y * place.plane.now.plane_cfg.stride + x = ap (λ n. y * n + x) f in
       omega (arith, m, source_long source x y e h k)
-
--- a region all of whose samples were lent and painted
-pub lent_painted : {T : Type 0} (r : PlaneRegionMut T) (w h : ℕ) (a : StoredArea) (f g : ℕ → ℕ → T → T) (s ws : List T) → a ≡ corner r.area w h → s ≡ stored r → ws ≡ paint r.plane_cfg.stride a f s
-    → ((q p : ℕ) (v : T) → q < h → p < w → f q p v ≡ g q p v) → with_samples r (with_part 0 (stored r) ws) ≡ painted r w h g
-lent_painted r w h a f g s ws b l e same =
-    let m : ws ≡ paint r.plane_cfg.stride (corner r.area w h) f (stored r) = e ∙ ap (λ b. paint r.plane_cfg.stride b f s) b ∙ ap (paint r.plane_cfg.stride (corner r.area w h) f) l in
-    ap (with_samples r) (with_whole (stored r) ws (ap length m ∙ length_paint _ _ f (stored r)) ∙ m ∙ paint_same r.plane_cfg.stride _ f g (stored r) same)
 
 -- where sample t of a sum down column c stands, and of one along row r
 pub down_place : (r t stride c : ℕ) → r * stride + 3 + c + t * stride ≡ (r + t) * stride + (c + 3)

@@ -1,7 +1,8 @@
 -- What reading a value says, from what reading its bytes and what finding it in them say.
 use Rattle.std.proofs.Common.{◌≡◌, ◌≢◌, ℕ, ◌+◌, ◌<◌, ◌≤◌, List, length, get_or, Option, Result, Ok, Err, refl, sym, ap, subst, ◌∙◌, arith}
 use Rattle.std.proofs.lemmas.List.{get_or_default}
-use Rattle.std.specs.Prelude.{IfOk, IfErr, IsErrAnd}
+use Rattle.std.specs.Prelude.{IfOk, IfErr, IsErrAnd, Vec}
+use Rattle.std.specs.declared.alloc.Global.{Global}
 use Rattle.std.specs.Io.KnownBytes.{Consumes, IsAtEnd}
 use Rattle.av1_streams.specs.Faults.{FaultCounted}
 use Rattle.av1_streams.specs.Streams.{AreBytes, Takes, TakesAtMost}
@@ -27,6 +28,10 @@ pub read_whole : {S : Type 0} (limit : ℕ) (left : S → Option (List ℕ)) (fa
     → AreReadWhole limit left faults source source' bytes
 read_whole limit left faults source source' read bytes same fits short consumed end later =
     subst (AreReadWhole limit left faults source source') (sym same) (record { fits = fits; short = short; consumed = consumed; end = end; later = later })
+
+-- what reading bytes answers where it fails
+abbrev pub read_err : ReadError → Result (Vec ℕ Global) ReadError
+read_err e = Err e
 
 -- what an error of reading blames
 abbrev pub read_cause : ReadError → Cause

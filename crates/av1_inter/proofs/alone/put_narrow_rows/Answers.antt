@@ -1,8 +1,8 @@
 use Rattle.std.proofs.Common.{arith, ◌∙◌, ◌+◌, ◌*◌, ◌<◌, ap, subst, sym, map, pos, slice_index, ℕ}
 use Rattle.av1_frame.specs.Arithmetic.{clip, round_shift}
 use Rattle.av1_frame.specs.declared.plane_region.StoredArea.{StoredArea}
-use Rattle.av1_frame.proofs.Regions.{written_in_storage}
-use Rattle.av1_inter.proofs.Sources.{lent_painted, source_reaches, source_sample}
+use Rattle.av1_frame.proofs.Regions.{lent_painted, written_in_storage}
+use Rattle.av1_inter.proofs.Sources.{source_reaches, source_sample}
 use Rattle.av1_inter.proofs.Sums.{weighted_same}
 use Rattle.av1_inter.proofs.alone.put_narrow_rows.Goals as goal
 

@@ -1,9 +1,9 @@
 use Rattle.std.proofs.Common.{arith, ◌∙◌, ◌+◌, ◌-◌, ◌*◌, ◌^◌, ◌<◌, ap, subst, sym, map, pos, slice_index, ℕ}
 use Rattle.av1_frame.specs.Arithmetic.{clip, round_shift}
 use Rattle.av1_frame.specs.declared.plane_region.StoredArea.{StoredArea}
-use Rattle.av1_frame.proofs.Regions.{written_in_storage}
+use Rattle.av1_frame.proofs.Regions.{lent_painted, written_in_storage}
 use Rattle.av1_inter.specs.Motion.{intermediate_bits}
-use Rattle.av1_inter.proofs.Sources.{lent_painted, source_reaches, source_sample}
+use Rattle.av1_inter.proofs.Sources.{source_reaches, source_sample}
 use Rattle.av1_inter.proofs.Sums.{weighted_same}
 use Rattle.av1_inter.proofs.alone.put_wide_rows.Goals as goal
 
@@ -23,7 +23,8 @@ sum_wide_rows-requires-clause-within g c = λ r q h l.
 pub returns-clause-painted : goal.returns-clause-painted
 returns-clause-painted g c =
     lent_painted c.args.dst.now g.row.N c.args.height c.corner-area.result _ _ c.samples_mut.result.now c.sum_wide_rows.new.samples c.corner-area.ensures c.samples_mut.ensures.value c.sum_wide_rows.ensures
-    (λ q p v h l. ap (λ z. g.T.Pixel.pixel (clip c.args.bit_depth (round_shift (round_shift z (7 - intermediate_bits c.args.bit_depth)) (intermediate_bits c.args.bit_depth)))) (weighted_same c.args.across.now _ _ (λ t k. ap pos (ap (λ s. slice_index (map g.T.Pixel.num c.samples.result.now) ((q + 3) * s + (p + t))) c.stride.ensures
+    (λ q p v h l. ap (λ z. g.T.Pixel.pixel (clip c.args.bit_depth (round_shift (round_shift z (7 - intermediate_bits c.args.bit_depth)) (intermediate_bits c.args.bit_depth))))
+    (weighted_same c.args.across.now _ _ (λ t k. ap pos (ap (λ s. slice_index (map g.T.Pixel.num c.samples.result.now) ((q + 3) * s + (p + t))) c.stride.ensures
     ∙ source_sample g.T.Pixel.num c.args.corner _ _ c.requires.stored c.samples.result.now (p + t) (q + 3) c.samples.ensures (omega arith) (omega arith)))))
 
 pub returns-clause-fits : goal.returns-clause-fits

@@ -6,4 +6,5 @@ use Rattle.av1_inter.proofs.alone.sum_wide_rows.Given as goal
 
 abbrev pub invariant-loop-r : goal.invariant-loop-r
 invariant-loop-r g l =
-    l.samples ≡ paint l.stride (corner l.area l.area.width l.r) (λ r c _. g.T.Pixel.pixel (clip l.bit_depth (round_shift (round_shift (weighted l.across (λ t. pos (slice_index (map g.T.Pixel.num l.source) ((r + 3) * l.source_stride + (c + t))))) (7 - intermediate_bits l.bit_depth)) (intermediate_bits l.bit_depth)))) l.initial.samples
+    l.samples ≡ paint l.stride (corner l.area l.area.width l.r)
+    (λ r c _. g.T.Pixel.pixel (clip l.bit_depth (round_shift (round_shift (weighted l.across (λ t. pos (slice_index (map g.T.Pixel.num l.source) ((r + 3) * l.source_stride + (c + t))))) (7 - intermediate_bits l.bit_depth)) (intermediate_bits l.bit_depth)))) l.initial.samples

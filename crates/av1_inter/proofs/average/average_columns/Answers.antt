@@ -1,6 +1,5 @@
 use Rattle.std.proofs.Common.{refl}
-use Rattle.av1_frame.proofs.Regions.{written_in_storage}
-use Rattle.av1_inter.proofs.Sources.{lent_painted}
+use Rattle.av1_frame.proofs.Regions.{lent_painted, written_in_storage}
 use Rattle.av1_inter.proofs.average.average_columns.Goals as goal
 
 pub returns-clause-painted : goal.returns-clause-painted

@@ -1,7 +1,7 @@
 use Rattle.std.proofs.Common.{arith, ◌∙◌, ◌+◌, ◌*◌, ap, get_or}
 use Rattle.av1_frame.specs.declared.plane_region.StoredArea.{StoredArea}
-use Rattle.av1_frame.proofs.Regions.{written_in_storage}
-use Rattle.av1_inter.proofs.Sources.{lent_painted, source_pixel, source_reaches}
+use Rattle.av1_frame.proofs.Regions.{lent_painted, written_in_storage}
+use Rattle.av1_inter.proofs.Sources.{source_pixel, source_reaches}
 use Rattle.av1_inter.proofs.copies.put_samples_of.Goals as goal
 
 pub copy_rows-requires-clause-source_rows : goal.copy_rows-requires-clause-source_rows

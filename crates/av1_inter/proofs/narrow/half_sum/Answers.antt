@@ -15,14 +15,18 @@ values_of a b d e f g h i =
 pub weigh_inner_halves-requires-clause-within : goal.weigh_inner_halves-requires-clause-within
 weigh_inner_halves-requires-clause-within g c =
     each_of_eight (λ t. Between 0 g.row.GREATEST (entry (values_of c.short_at.result c.short_at-2.result c.short_at-3.result c.short_at-4.result c.short_at-5.result c.short_at-6.result c.short_at-7.result c.short_at-8.result) t))
-    (short_kept g.row.GREATEST _ c.requires.small c.short_at.ensures.within) (short_kept g.row.GREATEST _ c.requires.small c.short_at-2.ensures.within) (short_kept g.row.GREATEST _ c.requires.small c.short_at-3.ensures.within) (short_kept g.row.GREATEST _ c.requires.small c.short_at-4.ensures.within)
-    (short_kept g.row.GREATEST _ c.requires.small c.short_at-5.ensures.within) (short_kept g.row.GREATEST _ c.requires.small c.short_at-6.ensures.within) (short_kept g.row.GREATEST _ c.requires.small c.short_at-7.ensures.within) (short_kept g.row.GREATEST _ c.requires.small c.short_at-8.ensures.within)
+    (short_kept g.row.GREATEST _ c.requires.small c.short_at.ensures.within) (short_kept g.row.GREATEST _ c.requires.small c.short_at-2.ensures.within) (short_kept g.row.GREATEST _ c.requires.small c.short_at-3.ensures.within)
+    (short_kept g.row.GREATEST _ c.requires.small c.short_at-4.ensures.within)
+    (short_kept g.row.GREATEST _ c.requires.small c.short_at-5.ensures.within) (short_kept g.row.GREATEST _ c.requires.small c.short_at-6.ensures.within) (short_kept g.row.GREATEST _ c.requires.small c.short_at-7.ensures.within)
+    (short_kept g.row.GREATEST _ c.requires.small c.short_at-8.ensures.within)
 
 pub weigh_halves-requires-clause-within : goal.weigh_halves-requires-clause-within
 weigh_halves-requires-clause-within g c =
     each_of_eight (λ t. Between 0 g.row.GREATEST (entry (values_of c.short_at.result c.short_at-2.result c.short_at-3.result c.short_at-4.result c.short_at-5.result c.short_at-6.result c.short_at-7.result c.short_at-8.result) t))
-    (short_kept g.row.GREATEST _ c.requires.small c.short_at.ensures.within) (short_kept g.row.GREATEST _ c.requires.small c.short_at-2.ensures.within) (short_kept g.row.GREATEST _ c.requires.small c.short_at-3.ensures.within) (short_kept g.row.GREATEST _ c.requires.small c.short_at-4.ensures.within)
-    (short_kept g.row.GREATEST _ c.requires.small c.short_at-5.ensures.within) (short_kept g.row.GREATEST _ c.requires.small c.short_at-6.ensures.within) (short_kept g.row.GREATEST _ c.requires.small c.short_at-7.ensures.within) (short_kept g.row.GREATEST _ c.requires.small c.short_at-8.ensures.within)
+    (short_kept g.row.GREATEST _ c.requires.small c.short_at.ensures.within) (short_kept g.row.GREATEST _ c.requires.small c.short_at-2.ensures.within) (short_kept g.row.GREATEST _ c.requires.small c.short_at-3.ensures.within)
+    (short_kept g.row.GREATEST _ c.requires.small c.short_at-4.ensures.within)
+    (short_kept g.row.GREATEST _ c.requires.small c.short_at-5.ensures.within) (short_kept g.row.GREATEST _ c.requires.small c.short_at-6.ensures.within) (short_kept g.row.GREATEST _ c.requires.small c.short_at-7.ensures.within)
+    (short_kept g.row.GREATEST _ c.requires.small c.short_at-8.ensures.within)
 
 pub returns-then-this-ne0 : goal.returns-then-this-ne0
 returns-then-this-ne0 g c =

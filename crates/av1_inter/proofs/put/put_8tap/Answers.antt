@@ -78,7 +78,8 @@ returns-then-is_square-clause-painted g c =
     (sym (c.is_square.ensures.width c.if-is_square.true)) (sym (c.is_square.ensures.height c.if-is_square.true)) (sym (c.is_square.ensures.depth c.if-is_square.true))
     (corner_is c.args.src c.go_left.result c.go_up-corner.result c.go_left.ensures c.go_up-corner.ensures)
     (c.put_square.ensures.painted
-    ∙ ap (λ (z : ℤ). painted c.args.dst.now 4 4 (λ r q _. g.T.Pixel.pixel (single 8 (unsigned_abs z) (unsigned_abs (to_z w32 (of_z w32 c.args.row_frac))) (filter_of c.args.mode_x (unsigned_abs z) 4) (filter_of c.args.mode_y (unsigned_abs (to_z w32 (of_z w32 c.args.row_frac))) 4) s r q))) (to_z-of_z w32 c.args.col_frac c.ranges.col_frac)
+    ∙ ap (λ (z : ℤ). painted c.args.dst.now 4 4 (λ r q _. g.T.Pixel.pixel (single 8 (unsigned_abs z) (unsigned_abs (to_z w32 (of_z w32 c.args.row_frac))) (filter_of c.args.mode_x (unsigned_abs z) 4) (filter_of c.args.mode_y (unsigned_abs (to_z w32 (of_z w32 c.args.row_frac))) 4) s r q)))
+    (to_z-of_z w32 c.args.col_frac c.ranges.col_frac)
     ∙ ap (λ (z : ℤ). painted c.args.dst.now 4 4 (λ r q _. g.T.Pixel.pixel (single 8 (unsigned_abs c.args.col_frac) (unsigned_abs z) (filter_of c.args.mode_x (unsigned_abs c.args.col_frac) 4) (filter_of c.args.mode_y (unsigned_abs z) 4) s r q))) (to_z-of_z w32 c.args.row_frac c.ranges.row_frac))
 
 pub returns-then-row_frac-eq0-clause-painted : goal.returns-then-row_frac-eq0-clause-painted

@@ -66,4 +66,5 @@ returns-else-col_frac-eq0-2-clause-painted g c =
     ∙ ap (λ n. painted c.args.dst.now 4 4 (λ r q _. g.T.Pixel.pixel (single 8 n down.fraction across.taps down.taps s r q))) (fraction_made c.args.col_frac across.fraction c.ranges.col_frac c.get_filter-across.ensures.fraction)
     ∙ ap (λ n. painted c.args.dst.now 4 4 (λ r q _. g.T.Pixel.pixel (single 8 (unsigned_abs c.args.col_frac) n across.taps down.taps s r q))) (fraction_made c.args.row_frac down.fraction c.ranges.row_frac c.get_filter-down.ensures.fraction)
     ∙ ap (λ f. painted c.args.dst.now 4 4 (λ r q _. g.T.Pixel.pixel (single 8 (unsigned_abs c.args.col_frac) (unsigned_abs c.args.row_frac) f down.taps s r q))) (taps_made c.args.mode_x c.args.col_frac 4 across.taps c.ranges.col_frac c.get_filter-across.ensures.taps)
-    ∙ ap (λ f. painted c.args.dst.now 4 4 (λ r q _. g.T.Pixel.pixel (single 8 (unsigned_abs c.args.col_frac) (unsigned_abs c.args.row_frac) (filter_of c.args.mode_x (unsigned_abs c.args.col_frac) 4) f s r q))) (taps_made c.args.mode_y c.args.row_frac 4 down.taps c.ranges.row_frac c.get_filter-down.ensures.taps)
+    ∙ ap (λ f. painted c.args.dst.now 4 4 (λ r q _. g.T.Pixel.pixel (single 8 (unsigned_abs c.args.col_frac) (unsigned_abs c.args.row_frac) (filter_of c.args.mode_x (unsigned_abs c.args.col_frac) 4) f s r q)))
+    (taps_made c.args.mode_y c.args.row_frac 4 down.taps c.ranges.row_frac c.get_filter-down.ensures.taps)

@@ -3,4 +3,5 @@ use Rattle.av1_inter.proofs.tests.prepared.Goals as goal
 
 pub prep_8tap-requires-clause-within : goal.prep_8tap-requires-clause-within
 prep_8tap-requires-clause-within g c =
-    block_within g.T.Pixel.num c.in_ok-reference.reference c.slice-src.result c.args.samples.now _ c.args.depth c.args.motion.width c.args.motion.height c.in_ok-reference.ensures.cfg c.in_ok-reference.ensures.samples c.slice-src.ensures.plane c.slice-src.ensures.x c.slice-src.ensures.y c.requires.within c.requires.width c.requires.height
+    block_within g.T.Pixel.num c.in_ok-reference.reference c.slice-src.result c.args.samples.now _ c.args.depth c.args.motion.width c.args.motion.height
+    c.in_ok-reference.ensures.cfg c.in_ok-reference.ensures.samples c.slice-src.ensures.plane c.slice-src.ensures.x c.slice-src.ensures.y c.requires.within c.requires.width c.requires.height

@@ -1,9 +1,6 @@
-use Rattle.std.proofs.Common.{ℕ, Result, Err, ap, refl}
-use Rattle.std.specs.declared.alloc.Global.{Global}
-use Rattle.std.specs.Prelude.{Vec}
+use Rattle.std.proofs.Common.{ap, refl}
 use Rattle.av1_streams.specs.Streams.{max_plan_bytes}
-use Rattle.av1_streams.specs.declared.read.ReadError.{ReadError}
-use Rattle.av1_streams.proofs.Reading.{finds, read_whole, unread}
+use Rattle.av1_streams.proofs.Reading.{finds, read_err, read_whole, unread}
 use Rattle.av1_recon.specs.declared.error.ReconError.TheVariants.{Memory}
 use Rattle.av1_recon.specs.Errors.{read_error}
 use Rattle.av1_recon.specs.Outcomes.{cause}
@@ -11,9 +8,6 @@ use Rattle.av1_recon.specs.Reading.{IsFound}
 use Rattle.av1_recon.proofs.Outcomes.{short_refused}
 use Rattle.av1_recon.proofs.Reading.{blames}
 use Rattle.av1_recon.proofs.read.read_plan.Goals as goal
-
-abbrev err : ReadError → Result (Vec ℕ Global) ReadError
-err e = Err e
 
 pub returns : goal.returns
 returns g c =
@@ -26,4 +20,4 @@ pub returns-in_err-bytes : goal.returns-in_err-bytes
 returns-in_err-bytes g c =
     let read = c.in_err-bytes.ensures in
     unread max_plan_bytes cause IsFound g.R.Source.left g.R.Source.faults _ _ c.from_residual.result c.in_err-bytes.field-0.0 (read_error c.in_err-bytes.field-0.0) (blames c.in_err-bytes.field-0.0)
-    read.taken read.later (λ h. read.read_fault (ap err h)) (λ h. read.too_long (ap err h)) c.from_residual.ensures.1
+    read.taken read.later (λ h. read.read_fault (ap read_err h)) (λ h. read.too_long (ap read_err h)) c.from_residual.ensures.1

@@ -1,21 +1,15 @@
-use Rattle.std.proofs.Common.{ℕ, Result, Err, ap, arith}
-use Rattle.std.specs.declared.alloc.Global.{Global}
-use Rattle.std.specs.Prelude.{Vec}
+use Rattle.std.proofs.Common.{ap}
 use Rattle.av1_streams.specs.Streams.{max_plan_bytes}
-use Rattle.av1_streams.specs.declared.read.ReadError.{ReadError}
-use Rattle.av1_streams.proofs.Reading.{read_whole}
+use Rattle.av1_streams.proofs.Reading.{read_err, read_whole}
 use Rattle.av1_sequence.specs.File.{file_value}
 use Rattle.av1_sequence.proofs.InTurn.{not_file, shows, unread}
 use Rattle.av1_sequence.proofs.reconstruct.reconstruct_sequence.Goals as goal
-
-abbrev err : ReadError → Result (Vec ℕ Global) ReadError
-err e = Err e
 
 pub returns-in_err-bytes : goal.returns-in_err-bytes
 returns-in_err-bytes g c =
     let read = c.in_err-bytes.ensures in
     unread g.R.Source.left g.R.Source.faults g.W.Sink.taken g.W.Sink.faults _ _ _ c.from_residual.result c.in_err-bytes.field-0.0 c.from_residual.ensures.1 read.taken read.later
-    (λ h. read.read_fault (ap err h)) (λ h. read.too_long (ap err h)) (λ h. read.longer (ap err h))
+    (λ h. read.read_fault (ap read_err h)) (λ h. read.too_long (ap read_err h)) (λ h. read.longer (ap read_err h))
 
 pub returns-in_err-file : goal.returns-in_err-file
 returns-in_err-file g c =

@@ -1,9 +1,6 @@
-use Rattle.std.proofs.Common.{ℕ, Result, Err, ap, refl}
-use Rattle.std.specs.declared.alloc.Global.{Global}
-use Rattle.std.specs.Prelude.{Vec}
+use Rattle.std.proofs.Common.{ap, refl}
 use Rattle.std.proofs.lemmas.Result.{IfOk-weaker}
-use Rattle.av1_streams.specs.declared.read.ReadError.{ReadError}
-use Rattle.av1_streams.proofs.Reading.{finds, read_whole, unread}
+use Rattle.av1_streams.proofs.Reading.{finds, read_err, read_whole, unread}
 use Rattle.av1_trace.specs.declared.error.TraceError.TheVariants.{Memory}
 use Rattle.av1_trace.specs.Checking.{cause}
 use Rattle.av1_trace.specs.TraceErrors.{read_error}
@@ -12,9 +9,6 @@ use Rattle.av1_trace.proofs.Reading.{blames}
 use Rattle.av1_trace.proofs.TraceOutcomes.{short_refused}
 use Rattle.av1_view.specs.TracePages.{IsFound}
 use Rattle.av1_view.proofs.trace.read_trace.Goals as goal
-
-abbrev err : ReadError → Result (Vec ℕ Global) ReadError
-err e = Err e
 
 pub returns : goal.returns
 returns g c =
@@ -27,4 +21,4 @@ pub returns-in_err-bytes : goal.returns-in_err-bytes
 returns-in_err-bytes g c =
     let read = c.in_err-bytes.ensures in
     unread max_trace_bytes cause IsFound g.R.Source.left g.R.Source.faults _ _ c.from_residual.result c.in_err-bytes.field-0.0 (read_error c.in_err-bytes.field-0.0) (blames c.in_err-bytes.field-0.0)
-    read.taken read.later (λ h. read.read_fault (ap err h)) (λ h. read.too_long (ap err h)) c.from_residual.ensures.1
+    read.taken read.later (λ h. read.read_fault (ap read_err h)) (λ h. read.too_long (ap read_err h)) c.from_residual.ensures.1
