@@ -26,6 +26,18 @@ const UNTOLD: Refusal = Refusal {
     kind: 7,
 };
 
+/// What stands at a place of the buffer: 131 in luma, since DC takes on what the first block was lifted by, 128 in chroma, and behind the
+/// planes what stood there.
+fn expected(place: usize) -> u8 {
+    if place < 64 {
+        131
+    } else if place < PLANES {
+        128
+    } else {
+        9
+    }
+}
+
 #[test]
 fn a_plan_is_written_to_the_front_of_the_buffer(rt: HostRuntime) -> Result<(), Fail> {
     let mut room = [9u8; PLANES + 2];
@@ -35,10 +47,9 @@ fn a_plan_is_written_to_the_front_of_the_buffer(rt: HostRuntime) -> Result<(), F
     assert_eq!(rt; status, DONE);
     assert_eq!(rt; written, PLANES);
     assert_eq!(rt; refusal, UNTOLD);
-    // 131 in luma, since DC takes on what the first block was lifted by; 128 in chroma.
-    assert!(rt; room[..64].iter().all(|sample| *sample == 131));
-    assert!(rt; room[64..PLANES].iter().all(|sample| *sample == 128));
-    assert!(rt; room[PLANES..].iter().all(|sample| *sample == 9));
+    for (place, sample) in room.iter().enumerate() {
+        assert_eq!(rt; *sample, expected(place));
+    }
     Ok(())
 }
 
