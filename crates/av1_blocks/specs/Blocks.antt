@@ -1,5 +1,5 @@
 -- The sides of blocks in luma samples, and what follows from them.
-use Rattle.std.specs.Prelude.{◌≡◌, ◌<◌, ◌≤◌, ℕ, ◌==◌, nat_lt, ◌&&◌, not, max, Bool, List, codes, if◌then◌else◌, Option, Some, None}
+use Rattle.std.specs.Prelude.{◌≡◌, ◌<◌, ◌≤◌, ℕ, ◌==◌, nat_lt, nat_le, ◌&&◌, not, max, Bool, List, codes, if◌then◌else◌, Option, Some, None}
 use Rattle.std.specs.Ordering.{nat_cmp}
 use Rattle.std.specs.declared.cmp.Ordering.{Ordering}
 use Rattle.std.specs.declared.cmp.Ordering.TheVariants.{Less, Equal, Greater}
@@ -121,6 +121,10 @@ pub record IsNoGreater (a b : BlockSize) : Type 0 where
 pub record IsWiderAndLower (a b : BlockSize) : Type 0 where
   pub width : block_width b < block_width a
   pub height : block_height a < block_height b
+
+-- No side is past 32, so that chroma may be predicted from luma.
+unfoldable pub cfl_allowed : BlockSize → Bool
+cfl_allowed size = nat_le (block_width size) 32 && nat_le (block_height size) 32
 
 -- The sides as a text, width first.
 abbrev pub block_text : BlockSize → List ℕ

@@ -1,6 +1,7 @@
 -- What is done to motion vectors, component by component. Components are eighths of a sample, in numbers of 16 bits.
-use Rattle.std.specs.Prelude.{◌≡◌, ℕ, ◌≤◌, ℤ, pos, negsuc, ◌+ℤ◌, ◌*ℤ◌, ◌<ℤ◌, nat_abs, int_div, int_rem, FitsSigned}
+use Rattle.std.specs.Prelude.{◌≡◌, ℕ, ◌≤◌, ℤ, pos, ◌+ℤ◌, ◌*ℤ◌, int_lt, nat_abs, int_div, int_rem, Bool, ◌&&◌, FitsSigned}
 use Rattle.std.specs.Int.{w16, int_shr}
+use Rattle.av1_blocks.specs.declared.context.TheConstants.{MV_LOW, MV_UPP}
 use Rattle.av1_blocks.specs.declared.mc.MotionVector.{MotionVector}
 
 -- Each component fits its 16 bits.
@@ -38,9 +39,9 @@ pub record IsNoLonger (v w : MotionVector) : Type 0 where
   pub col : nat_abs v.col ≤ nat_abs w.col
 
 -- Strictly between the bounds of a component.
-abbrev pub IsValidComponent : ℤ → Type 0
-IsValidComponent z = (negsuc 16383 <ℤ z) × (z <ℤ pos 16384)
+unfoldable pub is_valid_component : ℤ → Bool
+is_valid_component z = int_lt MV_LOW z && int_lt z MV_UPP
 
 -- Both components are: the vectors that a bitstream may hold.
-abbrev pub IsValid : MotionVector → Type 0
-IsValid v = IsValidComponent v.row × IsValidComponent v.col
+unfoldable pub is_valid_vector : MotionVector → Bool
+is_valid_vector v = is_valid_component v.row && is_valid_component v.col

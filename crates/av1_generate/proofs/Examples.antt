@@ -1,9 +1,10 @@
 -- Worked pieces of plans: the first numbers that are drawn, a header, and the first superblock of some numbers, as a program in Rust
 -- writes them that was made from the same description.
 use Rattle.std.proofs.Common.{◌≡◌, ℕ, suc, List, [], ◌∷◌, refl}
+use Rattle.av1_blocks.specs.Blocks.{cfl_allowed}
 use Rattle.av1_plan.specs.Geometry.{xdec, ydec, carries_chroma}
 use Rattle.av1_plan.specs.Grammar.{whole_size, part_size}
-use Rattle.av1_plan.specs.Validity.{cfl_allowed, is_inter_size}
+use Rattle.av1_plan.specs.Validity.{is_inter_size}
 use Rattle.av1_generate.specs.Draft.{Draft, written, each}
 use Rattle.av1_generate.specs.Generator.{less, frame, slots, header, step, weight, chroma_step, chroma_modes, chroma_mode, intra, component, motion, single, compound, kind_of, kind, type_within, tx_type, luma_tx_size, luma_transforms, triple, triples, chroma_triples, leaf, part, parts, block}
 use Rattle.av1_generate.specs.Numbers.{state_after, number_of, state, drawn}

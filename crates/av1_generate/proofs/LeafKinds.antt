@@ -7,7 +7,9 @@ use Rattle.av1_blocks.specs.declared.mc.MotionVector.{MotionVector}
 use Rattle.av1_blocks.specs.declared.partition.BlockSize.{BlockSize}
 use Rattle.av1_blocks.specs.declared.partition.RefType.{RefType}
 use Rattle.av1_blocks.specs.declared.predict.PredictionMode.{PredictionMode}
+use Rattle.av1_blocks.specs.Blocks.{cfl_allowed}
 use Rattle.av1_blocks.specs.Modes.{is_cfl}
+use Rattle.av1_blocks.specs.Vectors.{is_valid_component, is_valid_vector}
 use Rattle.av1_plan.specs.declared.header.Header.{Header}
 use Rattle.av1_plan.specs.declared.leaf.ChromaMode.{ChromaMode}
 use Rattle.av1_plan.specs.declared.leaf.ChromaMode.TheVariants.{Plain, Cfl}
@@ -17,7 +19,7 @@ use Rattle.av1_plan.specs.Format.{one, two, any, Format, done, ◌>>=◌, field}
 use Rattle.av1_plan.specs.Geometry.{has_slot}
 use Rattle.av1_plan.specs.Grammar.{byte_from}
 use Rattle.av1_plan.specs.Grammar as grammar
-use Rattle.av1_plan.specs.Validity.{is_step, cfl_allowed, is_chroma_from_luma, is_chroma_mode, is_inter_size, has_modes, is_valid_component, is_valid_vector, has_vectors, has_reference, has_references}
+use Rattle.av1_plan.specs.Validity.{is_step, is_chroma_from_luma, is_chroma_mode, is_inter_size, has_modes, has_vectors, has_reference, has_references}
 use Rattle.av1_generate.specs.Draft.{writes, draws, ◌>>◌, only_if}
 use Rattle.av1_generate.specs.Generator.{less, frame, step, weight, chroma_step, chroma_modes, chroma_mode, intra, component, motion, single, compound, kind_of, kind}
 use Rattle.av1_lists.proofs.Below.{all_below, below}

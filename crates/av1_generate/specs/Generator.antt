@@ -8,13 +8,14 @@ use Rattle.av1_blocks.specs.declared.partition.BlockSize.TheVariants.{BLOCK_4X4}
 use Rattle.av1_blocks.specs.declared.partition.PartitionType.TheVariants.{PARTITION_HORZ, PARTITION_VERT}
 use Rattle.av1_blocks.specs.declared.transform.TxSize.{TxSize}
 use Rattle.av1_blocks.specs.declared.transform.TxSize.TheVariants.{TX_4X4, TX_32X32, TX_64X64}
+use Rattle.av1_blocks.specs.Blocks.{cfl_allowed}
 use Rattle.av1_blocks.specs.Chroma.{largest_chroma_tx_size}
 use Rattle.av1_blocks.specs.Transforms.{tx_number, tx_sqr_up, block_tx_size}
 use Rattle.av1_plan.specs.declared.header.Header.{Header}
 use Rattle.av1_plan.specs.Format.{Length, one, two, four, limit}
 use Rattle.av1_plan.specs.Geometry.{carries_chroma, plane_width, plane_height}
 use Rattle.av1_plan.specs.Grammar.{half_side, whole_size, part_size}
-use Rattle.av1_plan.specs.Validity.{cfl_allowed, is_inter_size}
+use Rattle.av1_plan.specs.Validity.{is_inter_size}
 use Rattle.av1_generate.specs.Draft.{Draft, writes, draws, ◌>>◌, only_if, each, written}
 use Rattle.av1_generate.specs.Numbers.{drawn}
 

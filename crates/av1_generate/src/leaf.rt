@@ -8,7 +8,7 @@ use av1_blocks::{BlockSize, OutOfMemory};
 use av1_plan::is_inter_size;
 
 /// How many chroma modes a leaf of this size may have: chroma from luma, the last, is for sides up to 32.
-#[tactic(auto, unfolding(crate::specs::Generator::chroma_modes, av1_plan::specs::Validity::cfl_allowed))]
+#[tactic(auto, unfolding(crate::specs::Generator::chroma_modes, av1_blocks::specs::Blocks::cfl_allowed))]
 fn chroma_modes(size: BlockSize) -> u16
     ensures value { result ≡ chroma_modes size }
     ensures least { 13 ≤ result }

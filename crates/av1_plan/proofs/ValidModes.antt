@@ -1,17 +1,13 @@
--- What holds of the modes, vectors and references of a valid leaf.
-use Rattle.std.proofs.Common.{ℕ, ℤ, pos, negsuc, zero, suc, ◌-◌, ◌≡◌, ◌≤◌, ◌<◌, nat_lt, nat_abs, int_lt, Bool, true, false, ◌&&◌, ◌||◌, not, Option, Some, None, All, slice_index_or, refl, sym, arith}
-use Rattle.std.specs.Prelude.{nat_le, ◌==◌, ◌↔◌, IsTrue}
-use Rattle.std.proofs.lemmas.Bool.{and_parts, not-true, false_from_ne_true, true≢false, eqb-true, ltb-true, leb-true}
-use Rattle.std.proofs.lemmas.Int.{ints}
-use Rattle.av1_blocks.specs.declared.context.TheConstants.{MV_LOW, MV_UPP}
-use Rattle.av1_blocks.specs.declared.mc.MotionVector.{MotionVector}
+-- What holds of the modes and references of a valid leaf.
+use Rattle.std.proofs.Common.{ℕ, ℤ, pos, negsuc, zero, suc, ◌-◌, ◌≡◌, ◌≤◌, ◌<◌, nat_lt, nat_abs, Bool, true, false, ◌&&◌, ◌||◌, not, Option, Some, None, All, slice_index_or, refl, arith}
+use Rattle.std.specs.Prelude.{nat_le, ◌==◌}
+use Rattle.std.proofs.lemmas.Bool.{and_parts, not-true, eqb-true, ltb-true, leb-true}
 use Rattle.av1_blocks.specs.declared.partition.BlockSize.{BlockSize}
 use Rattle.av1_blocks.specs.declared.partition.RefType.{RefType}
 use Rattle.av1_blocks.specs.declared.predict.PredictionMode.{PredictionMode}
-use Rattle.av1_blocks.specs.Blocks.{block_width, block_height}
+use Rattle.av1_blocks.specs.Blocks.{block_width, block_height, cfl_allowed}
 use Rattle.av1_blocks.specs.Modes.{is_cfl, is_directional}
 use Rattle.av1_blocks.specs.References.{reference_number}
-use Rattle.av1_blocks.specs.Vectors.{IsValidComponent, IsValid}
 use Rattle.av1_plan.specs.declared.header.Header.{Header}
 use Rattle.av1_plan.specs.declared.leaf.ChromaMode.{ChromaMode}
 use Rattle.av1_plan.specs.declared.leaf.ChromaMode.TheVariants.{Plain, Cfl}
@@ -19,7 +15,7 @@ use Rattle.av1_plan.specs.declared.leaf.LeafKind.{LeafKind}
 use Rattle.av1_plan.specs.declared.leaf.LeafKind.TheVariants.{Intra, Single, Compound}
 use Rattle.av1_plan.specs.Geometry.{has_slot}
 use Rattle.av1_plan.specs.Plan.{LeafValue}
-use Rattle.av1_plan.specs.Validity.{is_step, cfl_allowed, is_chroma_from_luma, is_chroma_mode, is_inter_size, has_modes, is_valid_component, is_valid_vector, has_vectors, has_reference, has_references}
+use Rattle.av1_plan.specs.Validity.{is_step, is_chroma_from_luma, is_chroma_mode, is_inter_size, has_modes, has_reference, has_references}
 use Rattle.av1_plan.proofs.ValidLeaves.{IsValidLeaf, all_by}
 
 -- ---- modes
@@ -107,44 +103,6 @@ modes_by size (Compound mode references mvs) e = inter_size size e
 
 pub valid_modes : (h : Header) (l : LeafValue) → IsValidLeaf h l → HasValidModes l.size l.kind
 valid_modes h l valid = modes_by l.size l.kind valid.modes
-
--- ---- vectors
-
--- vectors that a bitstream may hold
-abbrev pub HasValidVectors : LeafKind → Type 0
-HasValidVectors (Intra mode step chroma) = Unit {0}
-HasValidVectors (Single mode reference mv) = IsValid mv
-HasValidVectors (Compound mode references mvs) = All IsValid mvs
-
-component : (z : ℤ) → is_valid_component z ≡ true → IsValidComponent z
-unfolding is_valid_component
-component z e = let (low, high) = and_parts (int_lt MV_LOW z) (int_lt z MV_UPP) e in (grind (arith, ints), grind (arith, ints))
-
-valid_vector : (mv : MotionVector) → is_valid_vector mv ≡ true → IsValid mv
-unfolding is_valid_vector
-valid_vector mv e = let (row, col) = and_parts (is_valid_component mv.row) (is_valid_component mv.col) e in (component mv.row row, component mv.col col)
-
-component_passes : (z : ℤ) → IsValidComponent z → is_valid_component z ≡ true
-unfolding is_valid_component
-component_passes z is = let low : int_lt MV_LOW z ≡ true = grind (arith, ints) in let high : int_lt z MV_UPP ≡ true = grind (arith, ints) in rw (low, high) refl
-
-vector_passes : (mv : MotionVector) → IsValid mv → is_valid_vector mv ≡ true
-unfolding is_valid_vector
-vector_passes mv is = rw (component_passes mv.row is.0, component_passes mv.col is.1) refl
-
--- a test that decides it is this one
-pub vector_decided : (mv : MotionVector) (b : Bool) → (IsTrue b ↔ IsValid mv) → b ≡ is_valid_vector mv
-vector_decided mv true decides = sym (vector_passes mv (decides.0 refl))
-vector_decided mv false decides = sym (false_from_ne_true (is_valid_vector mv) (λ e. absurd (true≢false (sym (decides.1 (valid_vector mv e))))))
-
-vectors_by : (kind : LeafKind) → has_vectors kind ≡ true → HasValidVectors kind
-unfolding has_vectors
-vectors_by (Intra mode step chroma) e = tt
-vectors_by (Single mode reference mv) e = valid_vector mv e
-vectors_by (Compound mode references mvs) e = all_by is_valid_vector IsValid valid_vector mvs e
-
-pub valid_vectors : (h : Header) (l : LeafValue) → IsValidLeaf h l → HasValidVectors l.kind
-valid_vectors h l valid = vectors_by l.kind valid.vectors
 
 -- ---- references
 

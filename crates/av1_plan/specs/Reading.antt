@@ -1,5 +1,5 @@
 -- What the functions that read give: words of private contracts.
-use Rattle.std.specs.Prelude.{◌≡◌, ℕ, ◌+◌, ◌≤◌, ◌^◌, List, length, take, drop, Result, Ok, Err}
+use Rattle.std.specs.Prelude.{◌≡◌, ℕ, ◌+◌, ◌≤◌, ◌^◌, List, length, take, drop, Result, Ok, Err, ⊤}
 use Rattle.av1_plan.specs.declared.error.PlanError.{PlanError}
 use Rattle.av1_plan.specs.declared.error.PlanError.TheVariants as errors
 use Rattle.av1_plan.specs.declared.reader.Reader.{Reader}
@@ -10,6 +10,11 @@ use Rattle.av1_plan.specs.Format.{Input, Reading}
 abbrev pub Fails : {Y : Type 0} → PlanError → Reading Y → Type 0
 Fails errors.Memory reading = Unit {0}
 Fails (errors.Malformed at) reading = reading ≡ Err at
+
+-- the error names a place: memory did not run out
+abbrev pub IsAtByte : PlanError → Type 0
+IsAtByte errors.Memory = ⊥
+IsAtByte (errors.Malformed at) = ⊤
 
 -- what a function returned, seen by view, is what reading gives, unless memory ran out
 abbrev pub Gives : {X Y : Type 0} → (X → Y) → Result X PlanError → Reading Y → Type 0

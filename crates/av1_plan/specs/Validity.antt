@@ -1,20 +1,19 @@
 -- Which leaves are valid: the six reasons for which one is refused.
 use Rattle.std.specs.Prelude.{ℕ, ℤ, pos, neg_ℤ, int_lt, ◌+◌, ◌-◌, ◌^◌, Bool, true, ◌==◌, ◌&&◌, ◌||◌, not, nat_lt, nat_le, nat_abs, if◌then◌else◌, Option, Some, None, List, [], ◌∷◌, slice_index_or, is_ok}
 use Rattle.std.specs.List.{list_all}
-use Rattle.av1_blocks.specs.declared.mc.MotionVector.{MotionVector}
 use Rattle.av1_blocks.specs.declared.partition.BlockSize.{BlockSize}
 use Rattle.av1_blocks.specs.declared.partition.RefType.{RefType}
 use Rattle.av1_blocks.specs.declared.predict.PredictionMode.{PredictionMode}
-use Rattle.av1_blocks.specs.declared.context.TheConstants.{MV_LOW, MV_UPP}
 use Rattle.av1_blocks.specs.declared.transform.TxSize.{TxSize}
 use Rattle.av1_blocks.specs.declared.transform.TxSize.TheVariants.{TX_4X4}
 use Rattle.av1_blocks.specs.declared.transform.TxType.{TxType}
 use Rattle.av1_blocks.specs.declared.transform.TxType.TheVariants.{WHT_WHT}
-use Rattle.av1_blocks.specs.Blocks.{block_width, block_height}
+use Rattle.av1_blocks.specs.Blocks.{block_width, block_height, cfl_allowed}
 use Rattle.av1_blocks.specs.Chroma.{subsampled_size}
 use Rattle.av1_blocks.specs.Modes.{is_cfl, is_directional}
 use Rattle.av1_blocks.specs.References.{reference_number}
 use Rattle.av1_blocks.specs.Transforms.{tx_number, tx_width, tx_height, tx_type_number, coded_area, valid_av1_transform}
+use Rattle.av1_blocks.specs.Vectors.{is_valid_vector}
 use Rattle.av1_plan.specs.declared.header.Header.{Header}
 use Rattle.av1_plan.specs.declared.geometry.PlaneArea.{PlaneArea}
 use Rattle.av1_plan.specs.declared.leaf.Triple.{Triple}
@@ -49,10 +48,6 @@ has_transforms h size tx_size tx_type None = nat_le (tx_width tx_size) (block_wi
 unfoldable pub is_step : PredictionMode → ℤ → Bool
 is_step mode step = nat_le (nat_abs step) 3 && (nat_abs step == 0 || is_directional mode)
 
--- chroma of a leaf without a side past 32 may be predicted from luma
-unfoldable pub cfl_allowed : BlockSize → Bool
-cfl_allowed size = nat_le (block_width size) 32 && nat_le (block_height size) 32
-
 -- the two weights lie from -16 to 16, and chroma of the leaf may be predicted so
 unfoldable pub is_chroma_from_luma : BlockSize → ℤ → ℤ → Bool
 is_chroma_from_luma size u v = nat_le (nat_abs u) 16 && nat_le (nat_abs v) 16 && cfl_allowed size
@@ -74,14 +69,6 @@ has_modes size (Single mode reference mv) = is_inter_size size
 has_modes size (Compound mode references mvs) = is_inter_size size
 
 -- ---- vectors and references
-
--- strictly between the bounds of a component
-unfoldable pub is_valid_component : ℤ → Bool
-is_valid_component z = int_lt MV_LOW z && int_lt z MV_UPP
-
--- both components are: the vectors that a bitstream may hold
-unfoldable pub is_valid_vector : MotionVector → Bool
-is_valid_vector v = is_valid_component v.row && is_valid_component v.col
 
 -- all vectors of a leaf do
 unfoldable pub has_vectors : LeafKind → Bool

@@ -12,7 +12,6 @@ ghost use Rattle.av1_plan.specs.Validity.{
   is_chroma_mode,
   is_inter_size,
   has_modes,
-  is_valid_vector,
   has_vectors,
   has_reference,
   has_references,
@@ -34,7 +33,7 @@ use crate::header::Header;
 use crate::leaf::{ChromaMode, Leaf, LeafKind, Triple};
 use crate::plan::Plan;
 use av1_blocks::transform::valid_av1_transform;
-use av1_blocks::{BlockSize, MotionVector, PredictionMode, RefType, TxSize, TxType};
+use av1_blocks::{BlockSize, PredictionMode, RefType, TxSize, TxType};
 
 /// Whether chroma of a leaf of this size has a size of its own.
 #[tactic(auto, unfolding(crate::specs::Validity::has_block_size))]
@@ -83,7 +82,7 @@ fn is_step(mode: PredictionMode, step: i8) -> bool
 }
 
 /// Whether a leaf of this size may be predicted from luma with these weights.
-#[tactic(auto, unfolding(crate::specs::Validity::is_chroma_from_luma, crate::specs::Validity::cfl_allowed))]
+#[tactic(auto, unfolding(crate::specs::Validity::is_chroma_from_luma))]
 fn is_chroma_from_luma(size: BlockSize, alpha_u: i8, alpha_v: i8) -> bool
     ensures { result ≡ is_chroma_from_luma size alpha_u alpha_v }
 {
@@ -129,13 +128,6 @@ fn has_modes(size: BlockSize, kind: LeafKind) -> bool
     }
 }
 
-/// Whether a vector is one that a bitstream may hold.
-fn is_valid_vector(mv: MotionVector) -> bool
-    ensures { result ≡ is_valid_vector mv }
-{
-    mv.is_valid()
-}
-
 /// Whether a leaf's vectors are ones that a bitstream may hold.
 #[tactic(auto, unfolding(crate::specs::Validity::has_vectors))]
 fn has_vectors(kind: LeafKind) -> bool
@@ -143,10 +135,10 @@ fn has_vectors(kind: LeafKind) -> bool
 {
     match kind {
         LeafKind::Intra { .. } => true,
-        LeafKind::Single { mv, .. } => is_valid_vector(mv),
+        LeafKind::Single { mv, .. } => mv.is_valid(),
         LeafKind::Compound { mvs, .. } => {
             let [first, second] = mvs;
-            is_valid_vector(first) && is_valid_vector(second)
+            first.is_valid() && second.is_valid()
         }
     }
 }

@@ -19,7 +19,7 @@ impl<'a> Reader<'a> {
     ghost use Rattle.std.specs.Prelude.{◌≡◌, ◌+◌, ◌<◌, ◌≤◌, ◌^◌, length, IfOk, IfErr, OnOk, OnErr};
     ghost use Rattle.av1_plan.specs.Format.{one, two, four, any, read_field, read_part};
     ghost use Rattle.av1_plan.specs.Grammar.{byte_from};
-    ghost use Rattle.av1_plan.specs.Reading.{Gives, input, Fits, Moves};
+    ghost use Rattle.av1_plan.specs.Reading.{Gives, IsAtByte, input, Fits, Moves};
 
     fn malformed<T>(&self) -> Result<T, PlanError>
         ensures { result ≡ Err (PlanError.Malformed self.now.at) }
@@ -44,6 +44,7 @@ impl<'a> Reader<'a> {
     pub fn any_byte(&mut self) -> Result<u8, PlanError>
         requires { Fits self.old }
         ensures read { Gives (λ x. (x, input self.new)) result (read_field (any one) (input self.old)) }
+        ensures told { IfErr result IsAtByte }
         ensures takes { OnOk result (self.old.at < self.new.at) }
         ensures moves { Moves self.old self.new }
     {
@@ -62,6 +63,7 @@ impl<'a> Reader<'a> {
     pub fn any_u16(&mut self) -> Result<u16, PlanError>
         requires { Fits self.old }
         ensures read { Gives (λ x. (x, input self.new)) result (read_field (any two) (input self.old)) }
+        ensures told { IfErr result IsAtByte }
         ensures takes { OnOk result (self.old.at < self.new.at) }
         ensures moves { Moves self.old self.new }
     {
@@ -81,6 +83,7 @@ impl<'a> Reader<'a> {
     pub fn any_u32(&mut self) -> Result<u32, PlanError>
         requires { Fits self.old }
         ensures read { Gives (λ x. (x, input self.new)) result (read_field (any four) (input self.old)) }
+        ensures told { IfErr result IsAtByte }
         ensures takes { OnOk result (self.old.at < self.new.at) }
         ensures moves { Moves self.old self.new }
     {
@@ -118,6 +121,7 @@ impl<'a> Reader<'a> {
     pub fn byte(&mut self, first: u8, last: u8) -> Result<u8, PlanError>
         requires { Fits self.old }
         ensures read { Gives (λ x. (x, input self.new)) result (read_field (byte_from first last) (input self.old)) }
+        ensures told { IfErr result IsAtByte }
         ensures takes { OnOk result (self.old.at < self.new.at) }
         ensures moves { Moves self.old self.new }
         ensures range { IfOk result (λ x. (first ≤ x) × (x ≤ last)) }

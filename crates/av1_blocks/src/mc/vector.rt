@@ -10,8 +10,8 @@ ghost use Rattle.av1_blocks.specs.Vectors.{
   to_fullpel,
   IsFullpel,
   IsNoLonger,
-  IsValidComponent,
-  IsValid,
+  is_valid_component,
+  is_valid_vector,
 };
 
 use crate::context::{MV_LOW, MV_UPP};
@@ -44,8 +44,9 @@ impl MotionVector {
     /// Both components lie strictly between -16384 and 16384, as those of every vector in a
     /// bitstream do.
     #[inline]
+    #[tactic(auto, unfolding(crate::specs::Vectors::is_valid_vector))]
     pub fn is_valid(self) -> bool
-        ensures { IsTrue result ↔ IsValid self }
+        ensures { result ≡ is_valid_vector self }
     {
         is_valid_component(self.row) && is_valid_component(self.col)
     }
@@ -53,8 +54,9 @@ impl MotionVector {
 
 /// Strictly between the bounds of a component.
 #[inline]
+#[tactic(auto, unfolding(crate::specs::Vectors::is_valid_component))]
 fn is_valid_component(component: i16) -> bool
-    ensures { IsTrue result ↔ IsValidComponent component }
+    ensures { result ≡ is_valid_component component }
 {
     MV_LOW < component as i32 && (component as i32) < MV_UPP
 }

@@ -10,6 +10,7 @@ ghost use Rattle.av1_blocks.specs.Blocks.{
   side_log2,
   is_square,
   is_rect_tx_allowed,
+  cfl_allowed,
   HasBlockSides,
   product_cmp,
   IsNoGreater,
@@ -94,8 +95,9 @@ impl BlockSize {
 
     /// Both sides are at most 32 luma samples, so that chroma may be predicted from luma.
     #[inline]
+    #[tactic(auto, unfolding(crate::specs::Blocks::cfl_allowed))]
     pub fn cfl_allowed(self) -> bool
-        ensures { result ≡ (nat_le (block_width self) 32 && nat_le (block_height self) 32) }
+        ensures { result ≡ cfl_allowed self }
     {
         self <= BLOCK_32X32
     }

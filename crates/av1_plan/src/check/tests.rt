@@ -1,7 +1,7 @@
 //! What is looked for in a leaf, each by itself.
 
 use super::*;
-use av1_blocks::FilterMode;
+use av1_blocks::{FilterMode, MotionVector};
 
 /// An 8x8 frame of this sampling.
 fn frame(sampling: u8) -> Header {

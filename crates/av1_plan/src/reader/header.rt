@@ -6,17 +6,18 @@ use crate::reader::Reader;
 use av1_blocks::FilterMode;
 
 impl<'a> Reader<'a> {
-    ghost use Rattle.std.specs.Prelude.{◌≡◌, ◌≤◌, true, IfOk};
+    ghost use Rattle.std.specs.Prelude.{◌≡◌, ◌≤◌, true, IfOk, IfErr};
     ghost use Rattle.av1_plan.specs.Format.{one, two, four, read_field, read};
     ghost use Rattle.av1_plan.specs.Grammar.{where_, is_magic, version, is_side, is_depth, slots, frame, header};
     ghost use Rattle.av1_plan.specs.ReadPlans.{AreSlots, IsSide};
-    ghost use Rattle.av1_plan.specs.Reading.{Gives, input, Fits, Moves};
+    ghost use Rattle.av1_plan.specs.Reading.{Gives, IsAtByte, input, Fits, Moves};
 
     /// The four letters at the front.
     #[tactic(auto, using(crate::proofs::Narrow::narrow))]
     fn magic(&mut self) -> Result<u32, PlanError>
         requires { Fits self.old }
         ensures read { Gives (λ x. (x, input self.new)) result (read_field (where_ four is_magic) (input self.old)) }
+        ensures told { IfErr result IsAtByte }
         ensures moves { Moves self.old self.new }
     {
         let at = self.at;
@@ -33,6 +34,7 @@ impl<'a> Reader<'a> {
     fn version(&mut self) -> Result<u8, PlanError>
         requires { Fits self.old }
         ensures read { Gives (λ x. (x, input self.new)) result (read version (input self.old)) }
+        ensures told { IfErr result IsAtByte }
         ensures moves { Moves self.old self.new }
     {
         let letters = self.magic()?;
@@ -48,6 +50,7 @@ impl<'a> Reader<'a> {
     pub fn side(&mut self) -> Result<u16, PlanError>
         requires { Fits self.old }
         ensures read { Gives (λ x. (x, input self.new)) result (read_field (where_ two is_side) (input self.old)) }
+        ensures told { IfErr result IsAtByte }
         ensures moves { Moves self.old self.new }
         ensures small { IfOk result (λ x. x ≤ 2048) }
         ensures side { IfOk result IsSide }
@@ -66,6 +69,7 @@ impl<'a> Reader<'a> {
     pub fn depth(&mut self) -> Result<u8, PlanError>
         requires { Fits self.old }
         ensures read { Gives (λ x. (x, input self.new)) result (read_field (where_ one is_depth) (input self.old)) }
+        ensures told { IfErr result IsAtByte }
         ensures moves { Moves self.old self.new }
         ensures small { IfOk result (λ x. x ≤ 12) }
         ensures depth { IfOk result (λ x. is_depth x ≡ true) }
@@ -84,6 +88,7 @@ impl<'a> Reader<'a> {
     pub fn slots(&mut self) -> Result<[u8; 7], PlanError>
         requires { Fits self.old }
         ensures read { Gives (λ x. (x, input self.new)) result (read slots (input self.old)) }
+        ensures told { IfErr result IsAtByte }
         ensures moves { Moves self.old self.new }
         ensures range { IfOk result AreSlots }
     {
@@ -110,6 +115,7 @@ impl<'a> Reader<'a> {
     pub fn frame(&mut self, version: u8) -> Result<Header, PlanError>
         requires { Fits self.old }
         ensures read { Gives (λ x. (x, input self.new)) result (read (frame version) (input self.old)) }
+        ensures told { IfErr result IsAtByte }
         ensures moves { Moves self.old self.new }
         ensures small { IfOk result (λ h. (h.width ≤ 2048) × (h.height ≤ 2048) × (h.depth ≤ 12)) }
     {
@@ -135,11 +141,12 @@ impl<'a> Reader<'a> {
         })
     }
 
-    /// What stands before the reference samples.
+    /// What stands before the reference samples. It takes no memory.
     #[tactic(auto, using(crate::proofs::Formats::read_bind), unfolding(crate::specs::Grammar::header))]
     pub fn header(&mut self) -> Result<Header, PlanError>
         requires { Fits self.old }
         ensures read { Gives (λ x. (x, input self.new)) result (read header (input self.old)) }
+        ensures told { IfErr result IsAtByte }
         ensures moves { Moves self.old self.new }
         ensures small { IfOk result (λ h. (h.width ≤ 2048) × (h.height ≤ 2048) × (h.depth ≤ 12)) }
     {
