@@ -1,5 +1,6 @@
 -- A region that is all of the visible plane is counted as the plane is.
-use Rattle.std.proofs.Common.{ℕ, ◌+◌, ◌*◌, ◌≡◌, get_or, map, ap, arith, add-zero, ◌∙◌}
+use Rattle.std.proofs.Common.{ℕ, ◌+◌, ◌*◌, ◌≡◌, List, get_or, map, ap, arith, add-zero, ◌∙◌}
+use Rattle.av1_frame.specs.declared.plane.Plane.{Plane}
 use Rattle.av1_frame.specs.declared.plane.PlaneConfig.{PlaneConfig}
 use Rattle.av1_frame.specs.declared.plane_region.PlaneRegion.{PlaneRegion}
 use Rattle.av1_frame.specs.declared.plane_region.StoredArea.{StoredArea}
@@ -10,31 +11,32 @@ use Rattle.av1_edges.specs.declared.position.TransformPosition.{TransformPositio
 use Rattle.av1_edges.specs.Edges.{has_above_right, has_below_left, region_sample, visible_columns, visible_rows}
 
 -- the region of plane.as_region()
-pub record IsAllVisible {T : Type 0} (r : PlaneRegion T) : Type 0 where
-  pub cfg : r.plane_cfg ≡ r.plane.now.plane_cfg
-  pub area : r.area ≡ stored_area r.plane_cfg (all_visible r.plane_cfg)
+abbrev pub IsAllVisible : {T : Type 0} → PlaneRegion T → Type 0
+IsAllVisible r = r.area ≡ stored_area r.plane_cfg (all_visible r.plane_cfg)
 
 module _ {T : Type 0} (r : PlaneRegion T) (all : IsAllVisible r) where
   first_column : r.area.x ≡ r.plane_cfg.xorigin
-  first_column = ap (λ (a : StoredArea). a.x) all.area ∙ add-zero r.plane_cfg.xorigin
+  first_column = ap (λ (a : StoredArea). a.x) all ∙ add-zero r.plane_cfg.xorigin
 
   first_row : r.area.y ≡ r.plane_cfg.yorigin
-  first_row = ap (λ (a : StoredArea). a.y) all.area ∙ add-zero r.plane_cfg.yorigin
+  first_row = ap (λ (a : StoredArea). a.y) all ∙ add-zero r.plane_cfg.yorigin
 
   pub whole_columns : visible_columns r ≡ r.plane_cfg.width
   whole_columns =
-      let e : r.area.width ≡ r.plane_cfg.width = ap (λ (a : StoredArea). a.width) all.area in omega (arith, first_column)
+      let e : r.area.width ≡ r.plane_cfg.width = ap (λ (a : StoredArea). a.width) all in omega (arith, first_column)
 
   pub whole_rows : visible_rows r ≡ r.plane_cfg.height
   whole_rows =
-      let e : r.area.height ≡ r.plane_cfg.height = ap (λ (a : StoredArea). a.height) all.area in omega (arith, first_row)
+      let e : r.area.height ≡ r.plane_cfg.height = ap (λ (a : StoredArea). a.height) all in omega (arith, first_row)
 
-  pub whole_sample : (num : T → ℕ) (x y : ℕ) → region_sample num r x y ≡ sample_at num r.plane.now x y
-  whole_sample num x y =
+  pub whole_sample : (num : T → ℕ) (plane : Plane T) (x y : ℕ) → r.samples.now ≡ plane.samples → r.plane_cfg ≡ plane.plane_cfg → region_sample num r x y ≡ sample_at num plane x y
+  whole_sample num plane x y same cfg =
       let s = r.plane_cfg.stride in
       let k : (r.area.y + y) * s + r.area.x + x ≡ place_at r.plane_cfg x y =
       ap (λ n. (n + y) * s + r.area.x + x) first_row ∙ omega (arith, first_column) in
-      ap (λ n. get_or (map num r.plane.now.samples) n 0) k ∙ ap (λ (c : PlaneConfig). get_or (map num r.plane.now.samples) (place_at c x y) 0) all.cfg
+      ap (λ n. get_or (map num r.samples.now) n 0) k
+      ∙ ap (λ (c : PlaneConfig). get_or (map num r.samples.now) (place_at c x y) 0) cfg
+      ∙ ap (λ (samples : List T). get_or (map num samples) (place_at plane.plane_cfg x y) 0) same
 
   -- the answers for a transform of the plane
   pub whole_above_right : (at : TransformPosition)

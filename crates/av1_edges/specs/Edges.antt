@@ -23,7 +23,7 @@ use Rattle.av1_lists.specs.Lists.{by_index}
 
 -- the number of the sample at column x of row y of the region, counted from its first
 abbrev pub region_sample : {T : Type 0} → (T → ℕ) → PlaneRegion T → ℕ → ℕ → ℕ
-region_sample num r x y = slice_index (map num r.plane.now.samples) (row_start r.plane_cfg.stride r.area y + x)
+region_sample num r x y = slice_index (map num r.samples.now) (row_start r.plane_cfg.stride r.area y + x)
 
 -- how many of its columns and rows lie in the visible plane
 abbrev pub visible_columns : {T : Type 0} → PlaneRegion T → ℕ

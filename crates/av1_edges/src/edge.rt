@@ -13,6 +13,15 @@ pub struct IntraEdge<'a, T> {
     pub(crate) above: &'a [T],
 }
 
+/// How many places an edge has on each side of its corner.
+#[derive(Clone, Copy, Debug, PartialEq, Eq)]
+pub struct EdgePlaces {
+    /// To the left, and below that.
+    pub left: usize,
+    /// Above, and to the right of that.
+    pub above: usize,
+}
+
 impl<'a, T: Pixel> IntraEdge<'a, T> {
     /// An edge of these samples: those to the left from the bottom up, the corner, which is one sample, and those above.
     pub fn from_slices(left: &'a [T], top_left: &'a [T], above: &'a [T]) -> IntraEdge<'a, T>

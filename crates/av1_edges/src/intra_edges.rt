@@ -7,7 +7,7 @@ ghost use Rattle.av1_edges.specs.Buffers.{CountsOne};
 ghost use Rattle.av1_edges.specs.Edges.{BeginsVisible, PositionFits, position_of, edge_of_parts, prepared_edge, above_places, left_places};
 
 use crate::buffer::{IntraEdgeBuffer, LONGEST_EDGE};
-use crate::edge::IntraEdge;
+use crate::edge::{EdgePlaces, IntraEdge};
 use crate::fill::{corner_of, fill_above, fill_left, smooth_corner};
 use crate::parts::Parts;
 use crate::position::TransformPosition;
@@ -141,6 +141,52 @@ fn position_of(
     }
 }
 
+/// Prepares the samples round a transform, as `get_intra_edges` does, in 257 samples of the caller, and tells how many places the edge has.
+/// The side to its left ends before sample 128, from the bottom up; that one is the corner, and the side above begins behind it. What the
+/// other samples hold afterwards is not told.
+pub fn get_intra_edges_to<T: Pixel>(
+    samples: &mut [T],
+    dst: &PlaneRegion<'_, T>,
+    partition_bo: TileBlockOffset,
+    bx: usize,
+    by: usize,
+    partition_size: BlockSize,
+    po: PlaneOffset,
+    tx_size: TxSize,
+    bit_depth: usize,
+    opt_mode: Option<PredictionMode>,
+    enable_intra_edge_filter: bool,
+    intra_param: IntraParam,
+) -> EdgePlaces
+    requires whole { length samples.old ≡ 257 }
+    requires begins { BeginsVisible dst.now }
+    requires column { pos 0 ≤ℤ po.x }
+    requires row { pos 0 ≤ℤ po.y }
+    requires fits { PositionFits dst.now (position_of partition_bo bx by partition_size po tx_size) }
+    requires low { 8 ≤ bit_depth }
+    requires depth { bit_depth ≤ T.BITS }
+    ensures few_left { result.left ≤ 128 }
+    ensures few_above { result.above ≤ 128 }
+    ensures left { map T.num (part (128 - result.left) result.left samples.new) ≡ reverse (prepared_edge T.num dst.now (position_of partition_bo bx by partition_size po tx_size) bit_depth opt_mode enable_intra_edge_filter intra_param).left }
+    ensures corner { map T.num (part 128 1 samples.new) ≡ (prepared_edge T.num dst.now (position_of partition_bo bx by partition_size po tx_size) bit_depth opt_mode enable_intra_edge_filter intra_param).corner ∷ [] }
+    ensures above { map T.num (part 129 result.above samples.new) ≡ (prepared_edge T.num dst.now (position_of partition_bo bx by partition_size po tx_size) bit_depth opt_mode enable_intra_edge_filter intra_param).above }
+{
+    let at = position_of(partition_bo, bx, by, partition_size, po, tx_size);
+    let parts = Parts::prepared(
+        enable_intra_edge_filter,
+        opt_mode,
+        intra_param,
+        at.x,
+        at.y,
+        tx_size,
+    );
+    fill_edge(samples, dst, at, bit_depth, parts);
+    EdgePlaces {
+        left: left_places(parts, at.tx_size),
+        above: above_places(parts, at.tx_size),
+    }
+}
+
 /// Prepares the samples round a transform, in `edge_buf`.
 ///
 /// The transform has the size `tx_size` and its first sample at `po`, counted from the first sample of the region `dst`. Of the region
@@ -183,20 +229,20 @@ pub fn get_intra_edges<'a, T: Pixel>(
     ensures corner { map T.num result.top_left.now ≡ (prepared_edge T.num dst.now (position_of partition_bo bx by partition_size po tx_size) bit_depth opt_mode enable_intra_edge_filter intra_param).corner ∷ [] }
     ensures above { map T.num result.above.now ≡ (prepared_edge T.num dst.now (position_of partition_bo bx by partition_size po tx_size) bit_depth opt_mode enable_intra_edge_filter intra_param).above }
 {
-    let at = position_of(partition_bo, bx, by, partition_size, po, tx_size);
-    let parts = Parts::prepared(
-        enable_intra_edge_filter,
-        opt_mode,
-        intra_param,
-        at.x,
-        at.y,
-        tx_size,
-    );
     edge_buf.count();
-    fill_edge(edge_buf.samples.as_mut_slice(), dst, at, bit_depth, parts);
-    edge_in(
-        edge_buf,
-        left_places(parts, at.tx_size),
-        above_places(parts, at.tx_size),
-    )
+    let places = get_intra_edges_to(
+        edge_buf.samples.as_mut_slice(),
+        dst,
+        partition_bo,
+        bx,
+        by,
+        partition_size,
+        po,
+        tx_size,
+        bit_depth,
+        opt_mode,
+        enable_intra_edge_filter,
+        intra_param,
+    );
+    edge_in(edge_buf, places.left, places.above)
 }

@@ -13,8 +13,8 @@
 //!   changes the count.
 //! - `prepared_edges_lie_within` is a law: the numbers of an edge lie within the depth that the region's visible samples lie within.
 //!
-//! An edge lies in its buffer: only `IntraEdgeBuffer::new` allocates, and samples are copied once, above by rows and to the left by
-//! columns. Columns, rows, sides and lengths are counted in samples of the region; cells are 4 by 4 luma samples.
+//! An edge lies in its buffer, or in samples of the caller (`get_intra_edges_to`): only `IntraEdgeBuffer::new` allocates, and samples are
+//! copied once, above by rows and to the left by columns. Columns, rows, sides and lengths are counted in samples of the region; cells are 4 by 4 luma samples.
 //!
 //! AV1 specification: intra prediction process: general, the preparation of the arrays AboveRow and LeftCol.
 #![tactic(auto)]
@@ -30,8 +30,8 @@ mod position;
 mod tests;
 
 pub use buffer::IntraEdgeBuffer;
-pub use edge::IntraEdge;
+pub use edge::{EdgePlaces, IntraEdge};
 pub use fill::{base, extend_from, fill_with};
-pub use intra_edges::get_intra_edges;
+pub use intra_edges::{get_intra_edges, get_intra_edges_to};
 pub use laws::prepared_edges_lie_within;
 pub use parts::effective;

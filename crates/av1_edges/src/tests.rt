@@ -6,7 +6,7 @@ ghost use Rattle.av1_edges.specs.Edges.{BeginsVisible};
 ghost use Rattle.av1_lists.specs.Counts.{counted};
 
 use crate::position::{visible_columns, visible_rows};
-use crate::{IntraEdge, IntraEdgeBuffer, get_intra_edges};
+use crate::{EdgePlaces, IntraEdge, IntraEdgeBuffer, get_intra_edges, get_intra_edges_to};
 use av1_blocks::{BlockSize, IntraParam, OutOfMemory, PredictionMode, TxSize};
 use av1_frame::{Area, BlockOffset, Pixel, Plane, PlaneOffset, PlaneRegion, TileBlockOffset};
 use std::alloc::{AllocError, Global};
@@ -381,6 +381,33 @@ fn samples_of_8_bits(rt: HostRuntime) -> Result<(), Fail> {
         113,
         &above,
     );
+    Ok(())
+}
+
+#[test]
+fn an_edge_lies_in_samples_of_the_caller(rt: HostRuntime) -> Result<(), Fail> {
+    let samples = samples::<u8>(rt.alloc(), 256)?;
+    let plane = Plane::from_slice(rt.alloc(), &samples, COLUMNS)?;
+    let region = plane.as_region();
+    assert!(rt; 4 < visible_columns(&region) && 8 < visible_rows(&region));
+    let mut edge = [0u8; 257];
+    let places = get_intra_edges_to(
+        &mut edge,
+        &region,
+        TileBlockOffset(BlockOffset { x: 1, y: 2 }),
+        0,
+        0,
+        BlockSize::BLOCK_4X4,
+        PlaneOffset { x: 4, y: 8 },
+        TxSize::TX_4X4,
+        8,
+        Some(PredictionMode::D45_PRED),
+        false,
+        IntraParam::AngleDelta(0),
+    );
+    assert_eq!(rt; places, EdgePlaces { left: 4, above: 8 });
+    let round = [41, 187, 77, 223, 113, 171, 229, 31, 89, 147, 205, 7, 65];
+    assert!(rt; edge[124..].starts_with(&round));
     Ok(())
 }
 

@@ -1,14 +1,15 @@
 -- Samples that are read by signed places.
-use Rattle.std.proofs.Common.{ℕ, refl, subst, ◌≤ℤ◌, ◌<ℤ◌, ◌+◌, ◌-◌, ◌*◌, ◌/◌, ◌%◌, ◌<◌, ◌≡◌, length, get_or, drop, map, slice_index, ap, arith, ◌∙◌, sym, ℤ, pos, negsuc, ◌+ℤ◌, unsigned_abs}
+use Rattle.std.proofs.Common.{ℕ, List, refl, subst, ◌≤ℤ◌, ◌<ℤ◌, ◌+◌, ◌-◌, ◌*◌, ◌/◌, ◌%◌, ◌<◌, ◌≡◌, length, get_or, drop, map, slice_index, ap, arith, ◌∙◌, sym, ℤ, pos, negsuc, ◌+ℤ◌, unsigned_abs}
 use Rattle.std.proofs.lemmas.List.{get_or-map, get_or-drop, places}
 use Rattle.std.proofs.lemmas.Int.{ints}
 use Rattle.std.proofs.lemmas.Nat.{div-mul-add, mod-mul-add}
 use Rattle.av1_frame.specs.declared.plane.PlaneConfig.{PlaneConfig}
 use Rattle.av1_frame.specs.declared.plane.Plane.{Plane}
+use Rattle.av1_frame.specs.declared.plane_slice.PlaneSlice.{PlaneSlice}
 use Rattle.av1_frame.specs.Samples.{gathered, part}
 use Rattle.av1_frame.specs.Areas.{IsStorage}
 use Rattle.av1_frame.specs.Planes.{IsWhole, place_at, sample_at, nearest, padded}
-use Rattle.av1_frame.specs.Slices.{IsStoredPlace, stored_column, stored_row, stored_sample, row_from, all_from, nearest_visible}
+use Rattle.av1_frame.specs.Slices.{IsStoredPlace, stored_column, stored_row, stored_sample, row_from, all_from, nearest_visible, slice_plane}
 use Rattle.av1_frame.proofs.Fits.{row_end_le}
 use Rattle.av1_frame.proofs.Gather.{get_or-gathered, length-gathered}
 use Rattle.av1_frame.proofs.Planes.{some_item, place_in_storage}
@@ -121,3 +122,8 @@ all_from_sample num p x y r c h s t l =
     let within : i + k < length p.samples = omega (arith, f, n, b) in
     let d = some_item p.samples (i + k) within in
     get_or-map num (drop i p.samples) k d 0 (all_from_fits p x y r c h s t l) ∙ ap num (get_or-drop i p.samples k d) ∙ sym (get_or-map num p.samples (i + k) d 0 within) ∙ ap (λ j. slice_index (map num p.samples) j) f
+
+-- a slice of a plane's samples, with its settings
+pub slice_plane_is : {T : Type 0} (s : PlaneSlice T) (p : Plane T) → s.samples.now ≡ p.samples → s.plane_cfg.now ≡ p.plane_cfg → slice_plane s ≡ p
+slice_plane_is s p e f =
+    ap (λ (ws : List _). record p { samples = ws; plane_cfg = s.plane_cfg.now }) e ∙ ap (λ (cfg : PlaneConfig). record p { plane_cfg = cfg }) f

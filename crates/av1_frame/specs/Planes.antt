@@ -6,6 +6,7 @@ use Rattle.av1_frame.specs.Samples.{with_part, paint, gathered}
 use Rattle.av1_frame.specs.Areas.{VisibleArea, stored_area, IsStorage, AreaFits}
 use Rattle.av1_frame.specs.declared.plane.PlaneConfig.{PlaneConfig}
 use Rattle.av1_frame.specs.declared.plane.Plane.{Plane}
+use Rattle.av1_frame.specs.declared.plane_region.StoredArea.{StoredArea}
 use Rattle.av1_frame.specs.contracts.plane.Plane as plane
 use Rattle.av1_frame.specs.contracts.storage.Storage as storage
 
@@ -24,20 +25,24 @@ new_config width height xdec ydec xpad ypad = record {
   yorigin = ypad;
 }
 
--- the settings of a plane of just these rows
-abbrev pub plain_config : ℕ → ℕ → PlaneConfig
-plain_config width height = record {
-  stride = width;
-  alloc_height = height;
-  width = width;
-  height = height;
+-- the settings of this many rows that stand `stride` apart, of which the rectangle a is visible
+abbrev pub bare_config : ℕ → ℕ → StoredArea → PlaneConfig
+bare_config stride rows a = record {
+  stride = stride;
+  alloc_height = rows;
+  width = a.width;
+  height = a.height;
   xdec = 0;
   ydec = 0;
   xpad = 0;
   ypad = 0;
-  xorigin = 0;
-  yorigin = 0;
+  xorigin = a.x;
+  yorigin = a.y;
 }
+
+-- the settings of a plane of just these rows
+abbrev pub plain_config : ℕ → ℕ → PlaneConfig
+plain_config width height = bare_config width height (record { x = 0; y = 0; width = width; height = height })
 
 -- the samples of p fill its rows, and the visible ones lie among them
 abbrev pub IsWhole : {T : Type 0} → Plane T → Type 0

@@ -22,10 +22,9 @@ pub record InStorage {T : Type 0} (r : PlaneRegionMut T) : Type 0 where
   pub cfg : r.plane.now.plane_cfg ≡ r.plane_cfg
   pub rect : r.rect ≡ rect_of r.plane_cfg r.area
 
--- the same of a region that is only read
+-- the region r lies in the samples that it reads, and its rectangle is that of its settings
 pub record IsReadable {T : Type 0} (r : PlaneRegion T) : Type 0 where
-  pub fits : AreaFits r.area r.plane_cfg (length r.plane.now.samples)
-  pub cfg : r.plane.now.plane_cfg ≡ r.plane_cfg
+  pub fits : AreaFits r.area r.plane_cfg (length r.samples.now)
   pub rect : r.rect ≡ rect_of r.plane_cfg r.area
 
 -- r with the plane p behind its reference, and all else as it is

@@ -1,4 +1,4 @@
--- Slices of a plane: a place, which may lie outside storage, and what is stored from there on.
+-- Slices: a place in stored samples, which may lie outside them, and what is stored from there on.
 use Rattle.std.specs.Prelude.{ℕ, ◌+◌, ◌-◌, ◌*◌, List, drop, map, slice_index, min, ℤ, pos, negsuc, ◌+ℤ◌, ◌≤ℤ◌, ◌<ℤ◌, neg_ℤ, unsigned_abs}
 use Rattle.std.specs.Int.{int_min, int_max}
 use Rattle.av1_frame.specs.declared.plane.PlaneConfig.{PlaneConfig}
@@ -42,7 +42,11 @@ row_from p x y = part (stored_row p.plane_cfg y * p.plane_cfg.stride + stored_co
 abbrev pub all_from : {T : Type 0} → Plane T → ℤ → ℤ → List T
 all_from p x y = drop (stored_row p.plane_cfg y * p.plane_cfg.stride + stored_column p.plane_cfg x) p.samples
 
+-- the samples that s reads and their settings, as a plane has them
+abbrev pub slice_plane : {T : Type 0} → PlaneSlice T → Plane T
+slice_plane s = record { samples = s.samples.now; plane_cfg = s.plane_cfg.now }
+
 -- row r of the slice s is stored
 pub record RowIsStored {T : Type 0} (s : PlaneSlice T) (r : ℕ) : Type 0 where
-  pub whole : IsWhole s.plane.now
-  pub place : IsStoredPlace s.plane.now.plane_cfg s.x (s.y +ℤ pos r)
+  pub whole : IsWhole (slice_plane s)
+  pub place : IsStoredPlace s.plane_cfg.now s.x (s.y +ℤ pos r)

@@ -7,8 +7,9 @@
 //! - `Pixel` and `Coefficient` are numbers of a fixed width: number and value go back and forth, and samples are ordered as
 //!   their numbers are.
 //! - `clip` is the sample of a depth that is nearest to a number.
-//! - A row of a region or of a slice is the plane's samples. `fill_row` and `copy_row` change the first samples of a row, `fill_area`
-//!   those of a rectangle.
+//! - `PlaneRegion` and `PlaneSlice` only read: they hold a slice of samples and its settings, those of a plane or, by `from_slice`, of memory
+//!   that a caller holds, and copy nothing. A row of either is samples of that slice.
+//! - `fill_row` and `copy_row` change the first samples of a row, `fill_area` those of a rectangle.
 //! - What is written through a region stands in the plane when the borrow ends, and all other samples, the settings and the
 //!   rectangle stay. A call that writes says so in one equation, `output.new ≡ painted output.old width height f`, where
 //!   `f row column old` is the new sample (`specs/Regions.antt`). For a caller that counts from the first visible sample the

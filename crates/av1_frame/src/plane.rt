@@ -4,7 +4,7 @@ ghost use Rattle.std.specs.Prelude.{◌≡◌, ℕ, ◌+◌, ◌-◌, ◌*◌, �
 ghost use Rattle.std.specs.Borrow.{sem};
 ghost use Rattle.av1_frame.specs.Samples.{part, with_part};
 ghost use Rattle.av1_frame.specs.Areas.{area_from, from_origin, stored_area, all_visible, IsStored};
-ghost use Rattle.av1_frame.specs.Planes.{place_at, InPlane, LendsPlanePart, IsWhole, new_config, plain_config};
+ghost use Rattle.av1_frame.specs.Planes.{place_at, InPlane, LendsPlanePart, IsWhole, new_config, bare_config, plain_config};
 ghost use Rattle.av1_frame.specs.Regions.{InStorage, IsReadable};
 
 use crate::pixel::Pixel;
@@ -37,6 +37,27 @@ pub struct PlaneConfig {
     pub xorigin: usize,
     /// The stored row of the first visible sample.
     pub yorigin: usize,
+}
+
+impl PlaneConfig {
+    /// The settings of `rows` rows of samples that stand `stride` apart, of which the rectangle `visible` is visible. They count no
+    /// pads, and as many columns and rows as luma has: for others set the fields.
+    pub fn bare(stride: usize, rows: usize, visible: StoredArea) -> PlaneConfig
+        ensures { result ≡ bare_config stride rows visible }
+    {
+        PlaneConfig {
+            stride,
+            alloc_height: rows,
+            width: visible.width,
+            height: visible.height,
+            xdec: 0,
+            ydec: 0,
+            xpad: 0,
+            ypad: 0,
+            xorigin: visible.x,
+            yorigin: visible.y,
+        }
+    }
 }
 
 /// A place in a plane, counted in samples from the first visible one.
@@ -109,18 +130,13 @@ impl<T: Pixel> Plane<T> {
         ensures whole { IfOk result IsWhole }
     {
         let height = samples.len() / stride;
-        let plane_cfg = PlaneConfig {
-            stride,
-            alloc_height: height,
+        let all = StoredArea {
+            x: 0,
+            y: 0,
             width: stride,
             height,
-            xdec: 0,
-            ydec: 0,
-            xpad: 0,
-            ypad: 0,
-            xorigin: 0,
-            yorigin: 0,
         };
+        let plane_cfg = PlaneConfig::bare(stride, height, all);
         let samples = Storage::from_slice(alloc, samples)?;
         Ok(Plane { samples, plane_cfg })
     }
@@ -180,21 +196,18 @@ impl<T: Pixel> Plane<T> {
 
     /// The place `po`, which may lie outside storage.
     pub fn slice(&self, po: PlaneOffset) -> PlaneSlice<'_, T>
-        ensures plane { result.plane.now ≡ self.now }
+        ensures samples { result.samples.now ≡ self.now.samples }
+        ensures cfg { result.plane_cfg.now ≡ self.now.plane_cfg }
         ensures x { result.x ≡ po.x }
         ensures y { result.y ≡ po.y }
     {
-        PlaneSlice {
-            plane: self,
-            x: po.x,
-            y: po.y,
-        }
+        PlaneSlice::from_slice(self.as_slice(), &self.plane_cfg, po)
     }
 
     /// The visible rectangle, to read.
     pub fn as_region(&self) -> PlaneRegion<'_, T>
         requires { IsWhole self.now }
-        ensures plane { result.plane.now ≡ self.now }
+        ensures samples { result.samples.now ≡ self.now.samples }
         ensures cfg { result.plane_cfg ≡ self.now.plane_cfg }
         ensures area { result.area ≡ stored_area self.now.plane_cfg (all_visible self.now.plane_cfg) }
         ensures fits { IsReadable result }
@@ -230,19 +243,12 @@ impl<T: Pixel> Plane<T> {
     pub fn region(&self, area: Area) -> PlaneRegion<'_, T>
         requires whole { IsWhole self.now }
         requires area { IsStored self.now.plane_cfg area }
-        ensures plane { result.plane.now ≡ self.now }
+        ensures samples { result.samples.now ≡ self.now.samples }
         ensures cfg { result.plane_cfg ≡ self.now.plane_cfg }
         ensures area { result.area ≡ area_from self.now.plane_cfg (from_origin self.now.plane_cfg) area }
         ensures fits { IsReadable result }
     {
-        let plane_cfg = self.plane_cfg;
-        let inner = StoredArea::from_origin(plane_cfg).inner(plane_cfg, area);
-        PlaneRegion {
-            plane: self,
-            plane_cfg,
-            area: inner,
-            rect: inner.rect(plane_cfg),
-        }
+        PlaneRegion::from_slice(self.as_slice(), self.plane_cfg, area)
     }
 
     /// The rectangle `area`, to read and write: what is written stands in the plane when the borrow ends.

@@ -1,9 +1,9 @@
-//! Rectangles of a plane, to read and to write.
+//! Rectangles of stored samples: of any that a caller holds, to read, and of a plane, to read and to write.
 
 ghost use Rattle.std.specs.Prelude.{◌≡◌, ℕ, ◌+◌, ◌-◌, ◌*◌, ◌^◌, ◌<◌, ◌≤◌, length, pos, ◌≤ℤ◌};
 ghost use Rattle.std.specs.Borrow.{sem};
 ghost use Rattle.av1_frame.specs.Samples.{corner, row_of};
-ghost use Rattle.av1_frame.specs.Areas.{area_from, from_origin, rect_of, LiesIn, IsPartOf};
+ghost use Rattle.av1_frame.specs.Areas.{area_from, from_origin, rect_of, LiesIn, IsPartOf, IsStorage, IsStored};
 ghost use Rattle.av1_frame.specs.Regions.{LendsRow, LendsSamples, LendsSub, InStorage, IsReadable, stored, with_area, with_outer, outer_area};
 
 use crate::block_unit::BlockOffset;
@@ -147,11 +147,12 @@ pub struct OuterArea {
     rect: Rect,
 }
 
-/// A rectangle of a plane, to read.
+/// A rectangle of stored samples, to read: of a plane, or of memory that a caller holds.
 #[derive(Clone, Copy)]
 pub struct PlaneRegion<'a, T> {
-    pub(crate) plane: &'a Plane<T>,
-    /// The plane's settings.
+    /// All that is stored, one row after another.
+    pub(crate) samples: &'a [T],
+    /// How the samples are stored.
     pub plane_cfg: PlaneConfig,
     pub(crate) area: StoredArea,
     pub(crate) rect: Rect,
@@ -168,7 +169,26 @@ pub struct PlaneRegionMut<'a, T> {
 }
 
 impl<'a, T: Pixel> PlaneRegion<'a, T> {
-    /// The rectangle, counted from the plane's first visible sample.
+    /// The rectangle `area` of `samples`, which are stored as `plane_cfg` says. Nothing is copied: what is read is these samples.
+    /// A `Rect` counts from the first visible sample.
+    pub fn from_slice(samples: &'a [T], plane_cfg: PlaneConfig, area: Area) -> PlaneRegion<'a, T>
+        requires whole { IsStorage plane_cfg (length samples.now) }
+        requires area { IsStored plane_cfg area }
+        ensures samples { result.samples.now ≡ samples.now }
+        ensures cfg { result.plane_cfg ≡ plane_cfg }
+        ensures area { result.area ≡ area_from plane_cfg (from_origin plane_cfg) area }
+        ensures fits { IsReadable result }
+    {
+        let inner = StoredArea::from_origin(plane_cfg).inner(plane_cfg, area);
+        PlaneRegion {
+            samples,
+            plane_cfg,
+            area: inner,
+            rect: inner.rect(plane_cfg),
+        }
+    }
+
+    /// The rectangle, counted from the first visible sample.
     pub fn rect(&self) -> &Rect
         ensures { result.now ≡ self.now.rect }
     {
@@ -180,18 +200,18 @@ impl<'a, T: Pixel> PlaneRegion<'a, T> {
     pub fn row(&self, y: usize) -> &[T]
         requires in_area { y < self.now.area.height }
         requires fits { IsReadable self.now }
-        ensures value { result.now ≡ row_of self.now.plane_cfg.stride self.now.area y self.now.plane.now.samples }
+        ensures value { result.now ≡ row_of self.now.plane_cfg.stride self.now.area y self.now.samples.now }
         ensures len { length result.now ≡ self.now.area.width }
     {
         let start = (self.area.y + y) * self.plane_cfg.stride + self.area.x;
-        part_of(self.plane.as_slice(), start, self.area.width)
+        part_of(self.samples, start, self.area.width)
     }
 
     /// The rectangle `area` of this one. A `Rect` counts from the region's first sample.
     pub fn subregion(&self, area: Area) -> PlaneRegion<'_, T>
         requires fits { IsReadable self.now }
         requires area { IsPartOf self.now.plane_cfg self.now.area area }
-        ensures plane { result.plane.now ≡ self.now.plane.now }
+        ensures samples { result.samples.now ≡ self.now.samples.now }
         ensures area { result.area ≡ area_from self.now.plane_cfg self.now.area area }
         ensures cfg { result.plane_cfg ≡ self.now.plane_cfg }
         ensures fits { IsReadable result }
@@ -199,7 +219,7 @@ impl<'a, T: Pixel> PlaneRegion<'a, T> {
         let plane_cfg = self.plane_cfg;
         let inner = self.area.inner(plane_cfg, area);
         PlaneRegion {
-            plane: self.plane,
+            samples: self.samples,
             plane_cfg,
             area: inner,
             rect: inner.rect(plane_cfg),
@@ -264,13 +284,13 @@ impl<'a, T: Pixel> PlaneRegionMut<'a, T> {
     /// The same rectangle, to read.
     pub fn as_const(&self) -> PlaneRegion<'_, T>
         requires fits { InStorage self.now }
-        ensures plane { result.plane.now ≡ self.now.plane.now }
+        ensures samples { result.samples.now ≡ stored self.now }
         ensures area { result.area ≡ self.now.area }
         ensures cfg { result.plane_cfg ≡ self.now.plane_cfg }
         ensures fits { IsReadable result }
     {
         PlaneRegion {
-            plane: &*self.plane,
+            samples: self.plane.as_slice(),
             plane_cfg: self.plane_cfg,
             area: self.area,
             rect: self.rect,
@@ -281,7 +301,7 @@ impl<'a, T: Pixel> PlaneRegionMut<'a, T> {
     pub fn subregion(&self, area: Area) -> PlaneRegion<'_, T>
         requires fits { InStorage self.now }
         requires area { IsPartOf self.now.plane_cfg self.now.area area }
-        ensures plane { result.plane.now ≡ self.now.plane.now }
+        ensures samples { result.samples.now ≡ stored self.now }
         ensures area { result.area ≡ area_from self.now.plane_cfg self.now.area area }
         ensures cfg { result.plane_cfg ≡ self.now.plane_cfg }
         ensures fits { IsReadable result }
@@ -289,7 +309,7 @@ impl<'a, T: Pixel> PlaneRegionMut<'a, T> {
         let plane_cfg = self.plane_cfg;
         let inner = self.area.inner(plane_cfg, area);
         PlaneRegion {
-            plane: &*self.plane,
+            samples: self.plane.as_slice(),
             plane_cfg,
             area: inner,
             rect: inner.rect(plane_cfg),

@@ -1,18 +1,21 @@
-//! Places in a plane, to read from.
+//! Places in stored samples, to read from.
 
 ghost use Rattle.std.specs.Prelude.{◌≡◌, ◌-◌, ◌^◌, pos, ◌+ℤ◌, ◌-ℤ◌, ◌≤ℤ◌, ◌<ℤ◌, ◌<◌, length, FitsSigned};
 ghost use Rattle.std.specs.Int.{w64};
 ghost use Rattle.av1_frame.specs.Planes.{IsWhole};
-ghost use Rattle.av1_frame.specs.Slices.{RowIsStored, all_from, within_pads, row_from, stored_column, stored_row};
+ghost use Rattle.av1_frame.specs.Slices.{RowIsStored, all_from, slice_plane, within_pads, row_from, stored_column, stored_row};
 
 use crate::pixel::Pixel;
-use crate::plane::Plane;
+use crate::plane::{PlaneConfig, PlaneOffset};
 use crate::storage::part_of;
 
-/// A place in a plane, which may lie outside storage, and the rows from there on.
+/// A place in stored samples, which may lie outside them, and the rows from there on: of a plane, or of memory that a caller holds.
 #[derive(Clone, Copy)]
 pub struct PlaneSlice<'a, T> {
-    pub(crate) plane: &'a Plane<T>,
+    /// All that is stored, one row after another.
+    pub(crate) samples: &'a [T],
+    /// How the samples are stored.
+    pub(crate) plane_cfg: &'a PlaneConfig,
     /// The column, counted from the first visible sample.
     pub(crate) x: isize,
     /// The row, counted from the first visible sample.
@@ -20,15 +23,35 @@ pub struct PlaneSlice<'a, T> {
 }
 
 impl<'a, T: Pixel> PlaneSlice<'a, T> {
+    /// The place `po` in `samples`, which are stored as `plane_cfg` says. Nothing is copied: what is read is these samples.
+    pub fn from_slice(
+        samples: &'a [T],
+        plane_cfg: &'a PlaneConfig,
+        po: PlaneOffset,
+    ) -> PlaneSlice<'a, T>
+        ensures samples { result.samples.now ≡ samples.now }
+        ensures cfg { result.plane_cfg.now ≡ plane_cfg.now }
+        ensures x { result.x ≡ po.x }
+        ensures y { result.y ≡ po.y }
+    {
+        PlaneSlice {
+            samples,
+            plane_cfg,
+            x: po.x,
+            y: po.y,
+        }
+    }
+
     /// The nearest place that is at most the pads left of and above the visible samples, and at most the
     /// first column and row past them.
     pub fn clamp(&self) -> PlaneSlice<'a, T>
-        requires { IsWhole self.now.plane.now }
-        ensures { let cfg = self.now.plane.now.plane_cfg in result ≡ record self.now { x = within_pads self.now.x cfg.xpad cfg.width; y = within_pads self.now.y cfg.ypad cfg.height } }
+        requires { IsWhole (slice_plane self.now) }
+        ensures { let cfg = self.now.plane_cfg.now in result ≡ record self.now { x = within_pads self.now.x cfg.xpad cfg.width; y = within_pads self.now.y cfg.ypad cfg.height } }
     {
-        let cfg = self.plane.config();
+        let cfg = self.plane_cfg;
         PlaneSlice {
-            plane: self.plane,
+            samples: self.samples,
+            plane_cfg: self.plane_cfg,
             x: within_pads(self.x, cfg.xpad, cfg.width),
             y: within_pads(self.y, cfg.ypad, cfg.height),
         }
@@ -41,7 +64,8 @@ impl<'a, T: Pixel> PlaneSlice<'a, T> {
         ensures { result ≡ record self.now { x = self.now.x +ℤ pos xo; y = self.now.y +ℤ pos yo } }
     {
         PlaneSlice {
-            plane: self.plane,
+            samples: self.samples,
+            plane_cfg: self.plane_cfg,
             x: self.x.saturating_add_unsigned(xo),
             y: self.y.saturating_add_unsigned(yo),
         }
@@ -53,7 +77,8 @@ impl<'a, T: Pixel> PlaneSlice<'a, T> {
         ensures { result ≡ record self.now { y = self.now.y -ℤ pos i } }
     {
         PlaneSlice {
-            plane: self.plane,
+            samples: self.samples,
+            plane_cfg: self.plane_cfg,
             x: self.x,
             y: self.y.saturating_sub_unsigned(i),
         }
@@ -65,7 +90,8 @@ impl<'a, T: Pixel> PlaneSlice<'a, T> {
         ensures { result ≡ record self.now { x = self.now.x -ℤ pos i } }
     {
         PlaneSlice {
-            plane: self.plane,
+            samples: self.samples,
+            plane_cfg: self.plane_cfg,
             x: self.x.saturating_sub_unsigned(i),
             y: self.y,
         }
@@ -75,13 +101,13 @@ impl<'a, T: Pixel> PlaneSlice<'a, T> {
     #[tactic(auto, using(crate::proofs::Fits::row_end_le))]
     pub fn row(&self, r: usize) -> &[T]
         requires { RowIsStored self.now r }
-        ensures value { result.now ≡ row_from self.now.plane.now self.now.x (self.now.y +ℤ pos r) }
-        ensures len { length result.now ≡ self.now.plane.now.plane_cfg.stride - stored_column self.now.plane.now.plane_cfg self.now.x }
+        ensures value { result.now ≡ row_from (slice_plane self.now) self.now.x (self.now.y +ℤ pos r) }
+        ensures len { length result.now ≡ self.now.plane_cfg.now.stride - stored_column self.now.plane_cfg.now self.now.x }
     {
-        let stride = self.plane.config().stride;
+        let stride = self.plane_cfg.stride;
         let column = self.stored_column();
         let start = self.stored_row(r) * stride + column;
-        part_of(self.plane.as_slice(), start, stride - column)
+        part_of(self.samples, start, stride - column)
     }
 
     /// All that is stored from the place on: row `r` of it begins at `r * stride()`.
@@ -89,41 +115,41 @@ impl<'a, T: Pixel> PlaneSlice<'a, T> {
     #[tactic(auto, using(crate::proofs::Fits::row_end_le))]
     pub fn samples(&self) -> &[T]
         requires { RowIsStored self.now 0 }
-        ensures { result.now ≡ all_from self.now.plane.now self.now.x self.now.y }
+        ensures { result.now ≡ all_from (slice_plane self.now) self.now.x self.now.y }
     {
         let start = self.stored_row(0) * self.stride() + self.stored_column();
-        let (_, rest) = self.plane.as_slice().split_at(start);
+        let (_, rest) = self.samples.split_at(start);
         rest
     }
 
-    /// How far apart in storage the plane's rows stand.
+    /// How far apart in storage the rows stand.
     #[inline]
     pub fn stride(&self) -> usize
-        ensures { result ≡ self.now.plane.now.plane_cfg.stride }
+        ensures { result ≡ self.now.plane_cfg.now.stride }
     {
-        self.plane.config().stride
+        self.plane_cfg.stride
     }
 
     /// The stored column of the place.
     fn stored_column(&self) -> usize
-        requires whole { IsWhole self.now.plane.now }
-        requires left { let cfg = self.now.plane.now.plane_cfg in pos 0 ≤ℤ (pos cfg.xorigin +ℤ self.now.x) }
-        requires right { let cfg = self.now.plane.now.plane_cfg in (pos cfg.xorigin +ℤ self.now.x) <ℤ pos cfg.stride }
-        ensures value { result ≡ stored_column self.now.plane.now.plane_cfg self.now.x }
-        ensures stored { result < self.now.plane.now.plane_cfg.stride }
+        requires whole { IsWhole (slice_plane self.now) }
+        requires left { let cfg = self.now.plane_cfg.now in pos 0 ≤ℤ (pos cfg.xorigin +ℤ self.now.x) }
+        requires right { let cfg = self.now.plane_cfg.now in (pos cfg.xorigin +ℤ self.now.x) <ℤ pos cfg.stride }
+        ensures value { result ≡ stored_column self.now.plane_cfg.now self.now.x }
+        ensures stored { result < self.now.plane_cfg.now.stride }
     {
-        (self.plane.config().xorigin as isize + self.x) as usize
+        (self.plane_cfg.xorigin as isize + self.x) as usize
     }
 
     /// The stored row of row `r` from the place on.
     fn stored_row(&self, r: usize) -> usize
-        requires whole { IsWhole self.now.plane.now }
-        requires top { let cfg = self.now.plane.now.plane_cfg in pos 0 ≤ℤ (pos cfg.yorigin +ℤ (self.now.y +ℤ pos r)) }
-        requires bottom { let cfg = self.now.plane.now.plane_cfg in (pos cfg.yorigin +ℤ (self.now.y +ℤ pos r)) <ℤ pos cfg.alloc_height }
-        ensures value { result ≡ stored_row self.now.plane.now.plane_cfg (self.now.y +ℤ pos r) }
-        ensures stored { result < self.now.plane.now.plane_cfg.alloc_height }
+        requires whole { IsWhole (slice_plane self.now) }
+        requires top { let cfg = self.now.plane_cfg.now in pos 0 ≤ℤ (pos cfg.yorigin +ℤ (self.now.y +ℤ pos r)) }
+        requires bottom { let cfg = self.now.plane_cfg.now in (pos cfg.yorigin +ℤ (self.now.y +ℤ pos r)) <ℤ pos cfg.alloc_height }
+        ensures value { result ≡ stored_row self.now.plane_cfg.now (self.now.y +ℤ pos r) }
+        ensures stored { result < self.now.plane_cfg.now.alloc_height }
     {
-        let first = self.plane.config().yorigin as isize + self.y;
+        let first = self.plane_cfg.yorigin as isize + self.y;
         first.saturating_add_unsigned(r) as usize
     }
 }

@@ -1,8 +1,9 @@
 //! Each generic call once at 8 and once at 16 bits, and worked places and sums.
 
 use crate::{
-    Area, BlockOffset, Coefficient, FrameInvariants, Pixel, Plane, PlaneOffset, Rect, StoredArea,
-    TileBlockOffset, TileRect, clamp, clip, copy_row, fill_area, fill_row, round_shift,
+    Area, BlockOffset, Coefficient, FrameInvariants, Pixel, Plane, PlaneConfig, PlaneOffset,
+    PlaneRegion, PlaneSlice, Rect, StoredArea, TileBlockOffset, TileRect, clamp, clip, copy_row,
+    fill_area, fill_row, round_shift,
 };
 use av1_blocks::FilterMode;
 use std::test::Fail;
@@ -131,6 +132,30 @@ fn places_are_moved_and_clamped_at_8_bits(rt: HostRuntime) -> Result<(), Fail> {
 #[test]
 fn places_are_moved_and_clamped_at_16_bits(rt: HostRuntime) -> Result<(), Fail> {
     places!(rt, u16)
+}
+
+/// Rows of 6 samples of which the 3 by 2 from column 2 of row 1 on are visible, read where they lie.
+macro_rules! lent_samples {
+    ($rt:ident, $sample:ty) => {{
+        let samples: [$sample; 18] = [0, 1, 2, 3, 4, 5, 10, 11, 12, 13, 14, 15, 20, 21, 22, 23, 24, 25];
+        let cfg = PlaneConfig::bare(6, 3, StoredArea { x: 2, y: 1, width: 3, height: 2 });
+        let visible = PlaneRegion::from_slice(&samples, cfg, Area::Rect { x: 0, y: 0, width: 3, height: 2 });
+        assert!($rt; visible.row(1).starts_with(&[22, 23, 24]), "the second visible row");
+        let place = PlaneSlice::from_slice(&samples, &cfg, PlaneOffset { x: -2, y: -1 });
+        assert!($rt; place.row(0).starts_with(&[0, 1, 2]), "what lies round the visible samples");
+        assert!($rt; place.subslice(1, 2).samples().starts_with(&[21, 22]), "to the end");
+        Ok(())
+    }};
+}
+
+#[test]
+fn samples_of_8_bits_are_read_where_they_lie(rt: HostRuntime) -> Result<(), Fail> {
+    lent_samples!(rt, u8)
+}
+
+#[test]
+fn samples_of_16_bits_are_read_where_they_lie(rt: HostRuntime) -> Result<(), Fail> {
+    lent_samples!(rt, u16)
 }
 
 /// A frame of 64 by 32 luma samples, with the planes of another one in slot 3.

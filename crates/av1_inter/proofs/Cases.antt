@@ -135,7 +135,7 @@ corner_is {T} src left corner e f = f ∙ ap (λ (s : PlaneSlice T). record s { 
 pub corner_fits : {T : Type 0} (src left : PlaneSlice T) (columns rows : ℕ) → left ≡ record src { x = src.x -ℤ pos 3 } → IsStoredFrom (corner_of src) columns rows → FitsSigned w64 (left.y -ℤ pos 3)
 corner_fits {T} src left columns rows e s =
     let y = ap (λ (p : PlaneSlice T). p.y) e in
-    place_fits _ src.plane.now.plane_cfg.yorigin src.plane.now.plane_cfg.alloc_height (omega (arith, ints, y, s.top)) (omega (arith, ints, y, s.bottom)) (omega (arith, s.whole.few_rows, s.whole.visible_rows)) s.whole.few_rows
+    place_fits _ src.plane_cfg.now.yorigin src.plane_cfg.now.alloc_height (omega (arith, ints, y, s.top)) (omega (arith, ints, y, s.bottom)) (omega (arith, s.whole.few_rows, s.whole.visible_rows)) s.whole.few_rows
 
 -- samples from there within the depth
 pub corner_within : {T : Type 0} (num : T → ℕ) (src corner : PlaneSlice T) (depth columns rows : ℕ) → corner ≡ corner_of src → AreWithinDepth depth (samples_from num (corner_of src)) columns rows → AreWithinDepth depth (samples_from num corner) columns rows

@@ -6,7 +6,7 @@ use Rattle.std.proofs.lemmas.Bool.{cases_lt, cases_eq}
 use Rattle.std.proofs.lemmas.Bool.Decides.{nat_tests}
 use Rattle.av1_frame.specs.declared.plane_slice.PlaneSlice.{PlaneSlice}
 use Rattle.av1_frame.specs.Samples.{paint_row}
-use Rattle.av1_frame.specs.Slices.{row_from, stored_column, IsStoredPlace}
+use Rattle.av1_frame.specs.Slices.{row_from, stored_column, IsStoredPlace, slice_plane}
 use Rattle.av1_frame.proofs.Slices.{row_from_sample}
 use Rattle.av1_frame.proofs.Update.{update_is, length-update, get_or-update}
 use Rattle.av1_frame.specs.Arithmetic.{clip, round_shift}
@@ -60,34 +60,35 @@ module _ {T : Type 0} (num : T → ℕ) (place : PlaneSlice T) (columns rows : �
   abs_pos (negsuc a) n m h l = absurd (omega (arith, ints))
 
   -- a place among those rows and columns
-  pub place_is_stored : (y : ℕ) → y < rows → 0 < columns → IsStoredPlace place.plane.now.plane_cfg place.x (place.y +ℤ pos y)
+  pub place_is_stored : (y : ℕ) → y < rows → 0 < columns → IsStoredPlace place.plane_cfg.now place.x (place.y +ℤ pos y)
   place_is_stored y h k = record { left = stored.left; right = omega (arith, ints, stored.right); top = omega (arith, ints, stored.top); bottom = omega (arith, ints, stored.bottom) }
 
   -- column x of row y, read as a row
-  pub row_sample : (row : List T) (x y : ℕ) → row ≡ row_from place.plane.now place.x (place.y +ℤ pos y) → y < rows → x < columns → slice_index (map num row) x ≡ samples_from num place x y
+  pub row_sample : (row : List T) (x y : ℕ) → row ≡ row_from (slice_plane place) place.x (place.y +ℤ pos y) → y < rows → x < columns → slice_index (map num row) x ≡ samples_from num place x y
   row_sample row x y e h k =
-      let r = abs_pos (pos place.plane.now.plane_cfg.xorigin +ℤ place.x) columns place.plane.now.plane_cfg.stride stored.left stored.right in
-      ap (λ u. slice_index (map num u) x) e ∙ row_from_sample num place.plane.now place.x (place.y +ℤ pos y) x stored.whole (place_is_stored y h (omega arith)) (omega (arith, r))
+      let r = abs_pos (pos place.plane_cfg.now.xorigin +ℤ place.x) columns place.plane_cfg.now.stride stored.left stored.right in
+      ap (λ u. slice_index (map num u) x) e ∙ row_from_sample num (slice_plane place) place.x (place.y +ℤ pos y) x stored.whole (place_is_stored y h (omega arith)) (omega (arith, r))
 
 -- a sample of such a row, by its number
 pub copied_is : {T : Type 0} (num : T → ℕ) (pixel : ℕ → T) (back : (v : T) → pixel (num v) ≡ v) (place : PlaneSlice T) (columns rows : ℕ) (stored : IsStoredFrom place columns rows) (row : List T) (x y : ℕ) (v : T)
-    → row ≡ row_from place.plane.now place.x (place.y +ℤ pos y) → y < rows → x < columns → x < length row
+    → row ≡ row_from (slice_plane place) place.x (place.y +ℤ pos y) → y < rows → x < columns → x < length row
     → get_or row x v ≡ pixel (samples_from num place x y)
 copied_is num pixel back place columns rows stored row x y v e h k l =
     sym (back (get_or row x v)) ∙ ap pixel (sym (get_or-map num row x v 0 l) ∙ row_sample num place columns rows stored row x y e h k)
 
 module _ {T : Type 0} (num : T → ℕ) (place : PlaneSlice T) (columns rows : ℕ) (stored : IsStoredFrom place columns rows) where
   -- such a row is long enough
-  pub row_long : columns ≤ place.plane.now.plane_cfg.stride - stored_column place.plane.now.plane_cfg place.x
-  row_long = let r = abs_pos num place columns rows stored (pos place.plane.now.plane_cfg.xorigin +ℤ place.x) columns place.plane.now.plane_cfg.stride stored.left stored.right in omega (arith, r)
+  pub row_long : columns ≤ place.plane_cfg.now.stride - stored_column place.plane_cfg.now place.x
+  row_long = let r = abs_pos num place columns rows stored (pos place.plane_cfg.now.xorigin +ℤ place.x) columns place.plane_cfg.now.stride stored.left stored.right in omega (arith, r)
 
   -- a row in the intermediate bits, read as a row
-  pub intermediate_of_row : (depth fx : ℕ) (across : List ℤ) (row : List T) (y q : ℕ) → row ≡ row_from place.plane.now place.x (place.y +ℤ pos y) → y < rows → q + 7 < columns → intermediate_at depth fx across (slice_index (map num row)) q ≡ intermediate depth fx across (samples_from num place) y q
+  pub intermediate_of_row : (depth fx : ℕ) (across : List ℤ) (row : List T) (y q : ℕ) → row ≡ row_from (slice_plane place) place.x (place.y +ℤ pos y) → y < rows → q + 7 < columns
+      → intermediate_at depth fx across (slice_index (map num row)) q ≡ intermediate depth fx across (samples_from num place) y q
   intermediate_of_row depth fx across row y q e h k = intermediate_same depth fx across _ _ q q (λ t l. row_sample num place columns rows stored row (q + t) y e h (omega arith))
 
   -- a row of a block that is written as such values, rounded and clipped
   pub put_intermediate : {X : Type 0} (pixel : ℕ → X) (depth n w y fx : ℕ) (across : List ℤ) (row : List T) (values : List ℤ) (old new : List X)
-      → n ≡ intermediate_bits depth → row ≡ row_from place.plane.now place.x (place.y +ℤ pos y) → y < rows → w + 7 ≤ columns
+      → n ≡ intermediate_bits depth → row ≡ row_from (slice_plane place) place.x (place.y +ℤ pos y) → y < rows → w + 7 ≤ columns
       → ((q : ℕ) → q < w → entry values q ≡ intermediate_at depth fx across (slice_index (map num row)) q)
       → new ≡ paint_row w (λ c _. pixel (clip depth (round_shift (entry values c) n))) old
       → new ≡ paint_row w (λ c _. pixel (clip depth (round_shift (intermediate depth fx across (samples_from num place) y c) (intermediate_bits depth)))) old

@@ -1,18 +1,14 @@
 -- A block is its strips: what a strip reads, and what strips paint side by side.
-use Rattle.std.proofs.Common.{ℕ, zero, suc, ◌+◌, ◌-◌, ◌/◌, ◌%◌, ◌<◌, ◌≡◌, ◌∙◌, ap, refl, sym, subst, arith, inl, inr, List, get_or, ℤ, pos, ◌+ℤ◌, ◌-ℤ◌, unsigned_abs, ◌^◌, w64, to_z}
-use Rattle.std.proofs.lemmas.Int.{ints, to_z_pos}
+use Rattle.std.proofs.Common.{ℕ, zero, suc, ◌+◌, ◌-◌, ◌/◌, ◌%◌, ◌<◌, ◌≤◌, ◌≡◌, ◌∙◌, ap, sym, subst, arith, inl, inr, List, get_or, ℤ, pos, ◌+ℤ◌, ◌-ℤ◌}
+use Rattle.std.proofs.lemmas.Int.{ints}
 use Rattle.std.proofs.lemmas.Bool.{cases_lt}
 use Rattle.std.proofs.lemmas.Bool.Decides.{nat_tests}
-use Rattle.av1_frame.specs.declared.plane_region.OuterArea.{OuterArea}
-use Rattle.av1_frame.specs.declared.plane_region.PlaneRegionMut.{PlaneRegionMut}
 use Rattle.av1_frame.specs.declared.plane_region.StoredArea.{StoredArea}
 use Rattle.av1_frame.specs.declared.plane_slice.PlaneSlice.{PlaneSlice}
 use Rattle.av1_frame.specs.Arithmetic.{clip, round_shift}
+use Rattle.av1_frame.specs.Areas.{AreRows}
 use Rattle.av1_frame.specs.Samples.{corner, paint, painted_at}
-use Rattle.av1_frame.specs.Regions.{outer_area, painted, painted_within, stored, with_outer, with_area, with_samples}
-use Rattle.av1_frame.specs.Slices.{stored_sample}
-use Rattle.av1_frame.proofs.Paint.{paint_same}
-use Rattle.av1_frame.proofs.Regions.{restored}
+use Rattle.av1_frame.specs.Slices.{stored_sample, slice_plane}
 use Rattle.av1_frame.proofs.Update.{get_or-update, length-update, update_is}
 use Rattle.av1_inter.specs.Motion.{bias, intermediate_bits, prepared, single, unbiased}
 use Rattle.av1_inter.specs.Places.{IsStoredFrom, samples_from}
@@ -44,7 +40,7 @@ module _ {T : Type 0} (num : T → ℕ) (place strip : PlaneSlice T) (n : ℕ) (
   strip_samples x y =
       let right : place.x +ℤ pos n +ℤ pos x ≡ place.x +ℤ pos (n + x) = omega (arith, ints) in
       let same : place.y +ℤ pos 0 +ℤ pos y ≡ place.y +ℤ pos y = omega (arith, ints) in
-      ap (λ (p : PlaneSlice T). samples_from num p x y) is ∙ ap (λ z. stored_sample num place.plane.now z (place.y +ℤ pos 0 +ℤ pos y)) right ∙ ap (λ z. stored_sample num place.plane.now (place.x +ℤ pos (n + x)) z) same
+      ap (λ (p : PlaneSlice T). samples_from num p x y) is ∙ ap (λ z. stored_sample num (slice_plane place) z (place.y +ℤ pos 0 +ℤ pos y)) right ∙ ap (λ z. stored_sample num (slice_plane place) (place.x +ℤ pos (n + x)) z) same
 
   -- what stands round column c of a strip stands round column n + c of the block
   pub strip_same : (r c x y : ℕ) → x < 8 → y < 8 → samples_from num strip (c + x) (r + y) ≡ samples_from num place (n + c + x) (r + y)
@@ -79,38 +75,14 @@ strip_at a w n h p q f g v e =
       ]
     ]
 
-paint_strip : {X : Type 0} (stride : ℕ) (a : StoredArea) (w n h : ℕ) (f g : ℕ → ℕ → X → X) (s : List X) → ((r c : ℕ) (v : X) → r < h → c < n → g r c v ≡ f r (w + c) v) → paint stride (strip_of a w n h) g (paint stride (corner a w h) f s) ≡ paint stride (corner a (w + n) h) f s
+-- the strip after the first w columns
+pub paint_strip : {X : Type 0} (stride : ℕ) (a : StoredArea) (w n h : ℕ) (f g : ℕ → ℕ → X → X) (s : List X) → ((r c : ℕ) (v : X) → r < h → c < n → g r c v ≡ f r (w + c) v) → paint stride (strip_of a w n h) g (paint stride (corner a w h) f s) ≡ paint stride (corner a (w + n) h) f s
 unfolding paint
 paint_strip stride a w n h f g s e =
     update_is _ s _ (length-update _ _ ∙ length-update _ s) (λ k d l.
     get_or-update _ _ k d (omega (arith, length-update (λ k v. painted_at (corner a w h) f (k % stride) (k / stride) v) s))
     ∙ ap (painted_at (strip_of a w n h) g (k % stride) (k / stride)) (get_or-update _ s k d l) ∙ strip_at a w n h (k % stride) (k / stride) f g (get_or s k d) e)
 
--- the strip after the first w columns
-pub painted_strip : {T : Type 0} (r o t : PlaneRegionMut T) (w n h : ℕ) (f g : ℕ → ℕ → T → T) → o ≡ painted r w h f → t ≡ painted_within o (strip_of o.area w n h) g → ((q c : ℕ) (v : T) → q < h → c < n → g q c v ≡ f q (w + c) v) → t ≡ painted r (w + n) h f
-painted_strip {T} r o t w n h f g e is same =
-    is ∙ ap (λ (u : PlaneRegionMut T). painted_within u (strip_of u.area w n h) g) e ∙ ap (with_samples r) (paint_strip r.plane_cfg.stride r.area w n h f g (stored r) same)
-
--- no column is painted yet
-none_at : {X : Type 0} (a : StoredArea) (h p q : ℕ) (f : ℕ → ℕ → X → X) (v : X) → v ≡ painted_at (corner a 0 h) f p q v
-none_at a h p q f v = grind (arith, nat_tests)
-
-paint_no_columns : {X : Type 0} (stride : ℕ) (a : StoredArea) (h : ℕ) (f : ℕ → ℕ → X → X) (s : List X) → s ≡ paint stride (corner a 0 h) f s
-unfolding paint
-paint_no_columns stride a h f s = update_is _ s s refl (λ k d l. none_at a h (k % stride) (k / stride) f (get_or s k d))
-
-pub painted_no_columns : {T : Type 0} (r : PlaneRegionMut T) (h : ℕ) (f : ℕ → ℕ → T → T) → r ≡ painted r 0 h f
-painted_no_columns r h f = ap (with_samples r) (paint_no_columns r.plane_cfg.stride r.area h f (stored r))
-
--- the column at which a strip begins, as it was passed
-pub strip_start : (x n : ℕ) → n < 2 ^ 63 → unsigned_abs (pos x +ℤ to_z w64 n) ≡ x + n
-strip_start x n h = ap (λ z. unsigned_abs (pos x +ℤ z)) (to_z_pos w64 n h)
-
--- a region that was narrowed to a strip, painted by f and restored, where f is g in the strip
-pub strip_restored : {T : Type 0} (r m o t : PlaneRegionMut T) (outer : OuterArea) (a : StoredArea) (start n h : ℕ) (f g : ℕ → ℕ → T → T)
-    → outer ≡ outer_area r → m ≡ with_area r a → o ≡ painted m n h f → t ≡ with_outer o outer → a.x ≡ r.area.x + start → a.y ≡ r.area.y
-    → ((q c : ℕ) (v : T) → q < h → c < n → f q c v ≡ g q c v) → t ≡ painted_within r (strip_of r.area start n h) g
-strip_restored r m o t outer a start n h f g e is p q x y same =
-    restored r m o t outer a n h f e is p q
-    ∙ ap (λ i. painted_within r (record { x = i; y = a.y; width = n; height = h }) f) x ∙ ap (λ i. painted_within r (record { x = r.area.x + start; y = i; width = n; height = h }) f) y
-    ∙ ap (with_samples r) (paint_same r.plane_cfg.stride (strip_of r.area start n h) f g (stored r) same)
+-- a strip lies in the rows that its rectangle lies in
+pub strip_rows : (stride : ℕ) (a : StoredArea) (start columns n : ℕ) → AreRows stride a n → start + columns ≤ a.width → AreRows stride (strip_of a start columns a.height) n
+strip_rows stride a start columns n h l = record { some = h.some; columns = omega (arith, h.columns); rows = h.rows; few = h.few }

@@ -7,7 +7,7 @@ use Rattle.av1_frame.specs.declared.plane.Plane.{Plane}
 use Rattle.av1_frame.specs.Planes.{IsWhole, padded, sample_at}
 use Rattle.av1_frame.proofs.Slices.{padded_sample, padded_whole, visible_below}
 use Rattle.av1_frame.specs.declared.plane_slice.PlaneSlice.{PlaneSlice}
-use Rattle.av1_frame.specs.Slices.{IsStoredPlace, nearest_visible, within_pads}
+use Rattle.av1_frame.specs.Slices.{IsStoredPlace, nearest_visible, within_pads, slice_plane}
 use Rattle.av1_inter.specs.Motion.{prepared, single}
 use Rattle.av1_inter.specs.Places.{corner_of, IsStoredFrom, samples_from}
 use Rattle.av1_blocks.specs.declared.mc.FilterMode.{FilterMode}
@@ -48,24 +48,24 @@ fewer place m n w h a b s = record { whole = s.whole; left = s.left; right = ome
 -- a place that was clamped to the pads
 abbrev pub clamped_of : {T : Type 0} → PlaneSlice T → PlaneSlice T
 clamped_of place =
-    let cfg = place.plane.now.plane_cfg in
+    let cfg = place.plane_cfg.now in
     record place { x = within_pads place.x cfg.xpad cfg.width; y = within_pads place.y cfg.ypad cfg.height }
 
-module _ {T : Type 0} (num : T → ℕ) (place : PlaneSlice T) (zx zy : ℤ) (at_x : place.x ≡ saturate_signed w64 zx) (at_y : place.y ≡ saturate_signed w64 zy) (is_padded : IsPadded num place.plane.now) where
-  clamped_stored : IsStoredFrom (clamped_of place) place.plane.now.plane_cfg.xpad place.plane.now.plane_cfg.ypad
+module _ {T : Type 0} (num : T → ℕ) (place : PlaneSlice T) (zx zy : ℤ) (at_x : place.x ≡ saturate_signed w64 zx) (at_y : place.y ≡ saturate_signed w64 zy) (is_padded : IsPadded num (slice_plane place)) where
+  clamped_stored : IsStoredFrom (clamped_of place) place.plane_cfg.now.xpad place.plane_cfg.now.ypad
   clamped_stored =
       let w = is_padded.whole in
-      let cfg = place.plane.now.plane_cfg in
+      let cfg = place.plane_cfg.now in
       let a = pads_low place.x cfg.xpad cfg.width in
       let b = pads_high place.x cfg.xpad cfg.width in
       let d = pads_low place.y cfg.ypad cfg.height in
       let e = pads_high place.y cfg.ypad cfg.height in
       record { whole = w; left = omega (arith, ints, a, w.left_pad); right = omega (arith, ints, b, w.visible_columns); top = omega (arith, ints, d, w.top_pad); bottom = omega (arith, ints, e, w.visible_rows) }
 
-  clamped_samples : (c r : ℕ) → c < place.plane.now.plane_cfg.xpad → r < place.plane.now.plane_cfg.ypad → samples_from num (clamped_of place) c r ≡ nearest_sample num place.plane.now (zx +ℤ pos c) (zy +ℤ pos r)
+  clamped_samples : (c r : ℕ) → c < place.plane_cfg.now.xpad → r < place.plane_cfg.now.ypad → samples_from num (clamped_of place) c r ≡ nearest_sample num (slice_plane place) (zx +ℤ pos c) (zy +ℤ pos r)
   clamped_samples c r h k =
       let w = is_padded.whole in
-      let p = place.plane.now in
+      let p = slice_plane place in
       let cfg = p.plane_cfg in
       let s = clamped_stored in
       let stored : IsStoredPlace cfg (within_pads place.x cfg.xpad cfg.width +ℤ pos c) (within_pads place.y cfg.ypad cfg.height +ℤ pos r) =
@@ -90,12 +90,12 @@ corner_again : {T : Type 0} (clamped result : PlaneSlice T) → result ≡ recor
 corner_again {T} clamped result e =
     ap corner_of e ∙ ap (λ z. record clamped { x = z; y = clamped.y +ℤ pos 3 -ℤ pos 3 }) (back_again clamped.x) ∙ ap (λ z. record clamped { y = z }) (back_again clamped.y)
 
-pub moved_is : {T : Type 0} (num : T → ℕ) (plane : Plane T) (place clamped result : PlaneSlice T) (zx zy : ℤ) → place.plane.now ≡ plane
+pub moved_is : {T : Type 0} (num : T → ℕ) (plane : Plane T) (place clamped result : PlaneSlice T) (zx zy : ℤ) → slice_plane place ≡ plane
     → place.x ≡ saturate_signed w64 zx → place.y ≡ saturate_signed w64 zy → clamped ≡ clamped_of place
     → result ≡ record clamped { x = clamped.x +ℤ pos 3; y = clamped.y +ℤ pos 3 } → IsPadded num plane → IsMoved num plane (corner_of result) zx zy
 moved_is {T} num plane place clamped result zx zy of x y c r =
     subst (λ (p : Plane T). IsPadded num p → IsMoved num p (corner_of result) zx zy) of (λ is_padded.
-    subst (λ (s : PlaneSlice T). IsMoved num place.plane.now s zx zy) (sym (corner_again clamped result r ∙ c)) (record { stored = clamped_stored num place zx zy x y is_padded; samples = clamped_samples num place zx zy x y is_padded }))
+    subst (λ (s : PlaneSlice T). IsMoved num (slice_plane place) s zx zy) (sym (corner_again clamped result r ∙ c)) (record { stored = clamped_stored num place zx zy x y is_padded; samples = clamped_samples num place zx zy x y is_padded }))
 
 fits_64 : (z : ℤ) → neg_ℤ (pos (2 ^ 63)) ≤ℤ z → z <ℤ pos (2 ^ 63) → FitsSigned w64 z
 fits_64 (pos n) l h = record { sfits = omega (arith, ints, h) }

@@ -2,7 +2,7 @@
 use Rattle.std.specs.Prelude.{ℕ, ◌^◌, ◌<◌, pos, ◌+ℤ◌, ◌-ℤ◌, ◌≤ℤ◌}
 use Rattle.av1_frame.specs.declared.plane_slice.PlaneSlice.{PlaneSlice}
 use Rattle.av1_frame.specs.Planes.{IsWhole}
-use Rattle.av1_frame.specs.Slices.{stored_sample}
+use Rattle.av1_frame.specs.Slices.{stored_sample, slice_plane}
 
 -- the place 3 columns to the left and 3 rows above, where the taps for the first sample begin
 abbrev pub corner_of : {T : Type 0} → PlaneSlice T → PlaneSlice T
@@ -10,15 +10,15 @@ corner_of place = record place { x = place.x -ℤ pos 3; y = place.y -ℤ pos 3 
 
 -- the stored sample at column x and row y, counted from a place
 abbrev pub samples_from : {T : Type 0} → (T → ℕ) → PlaneSlice T → (x y : ℕ) → ℕ
-samples_from num place x y = stored_sample num place.plane.now (place.x +ℤ pos x) (place.y +ℤ pos y)
+samples_from num place x y = stored_sample num (slice_plane place) (place.x +ℤ pos x) (place.y +ℤ pos y)
 
 -- so many columns and rows from a place on are stored
 pub record IsStoredFrom {T : Type 0} (place : PlaneSlice T) (columns rows : ℕ) : Type 0 where
-  pub whole : IsWhole place.plane.now
-  pub left : pos 0 ≤ℤ (pos place.plane.now.plane_cfg.xorigin +ℤ place.x)
-  pub right : (pos place.plane.now.plane_cfg.xorigin +ℤ place.x +ℤ pos columns) ≤ℤ pos place.plane.now.plane_cfg.stride
-  pub top : pos 0 ≤ℤ (pos place.plane.now.plane_cfg.yorigin +ℤ place.y)
-  pub bottom : (pos place.plane.now.plane_cfg.yorigin +ℤ place.y +ℤ pos rows) ≤ℤ pos place.plane.now.plane_cfg.alloc_height
+  pub whole : IsWhole (slice_plane place)
+  pub left : pos 0 ≤ℤ (pos place.plane_cfg.now.xorigin +ℤ place.x)
+  pub right : (pos place.plane_cfg.now.xorigin +ℤ place.x +ℤ pos columns) ≤ℤ pos place.plane_cfg.now.stride
+  pub top : pos 0 ≤ℤ (pos place.plane_cfg.now.yorigin +ℤ place.y)
+  pub bottom : (pos place.plane_cfg.now.yorigin +ℤ place.y +ℤ pos rows) ≤ℤ pos place.plane_cfg.now.alloc_height
 
 -- the samples of those columns and rows lie within the depth
 abbrev pub AreWithinDepth : ℕ → (ℕ → ℕ → ℕ) → (columns rows : ℕ) → Type 0

@@ -6,7 +6,6 @@ ghost use Rattle.std.specs.Prelude.{◌≡◌, true, ℕ, ◌+◌, ◌-◌, ◌*
 ghost use Rattle.av1_frame.specs.Areas.{AreRows};
 ghost use Rattle.av1_frame.specs.Arithmetic.{clip, round_shift};
 ghost use Rattle.av1_frame.specs.Samples.{paint};
-ghost use Rattle.av1_frame.specs.Regions.{InStorage, painted};
 ghost use Rattle.av1_inter.specs.Motion.{down_samples, intermediate_bits, weighted};
 ghost use Rattle.av1_inter.specs.Places.{AreWithinDepth, IsStoredFrom, samples_from};
 ghost use Rattle.av1_blocks.specs.Depths.{IsDepth};
@@ -18,12 +17,12 @@ use crate::narrow::{half_sums, halves_for, put_column_sums, put_row_sums};
 use crate::put::put_row;
 use crate::rounding::intermediate_bits;
 use av1_blocks::SUBPEL_FILTER_SIZE;
-use av1_frame::{Pixel, PlaneRegionMut, PlaneSlice, StoredArea};
+use av1_frame::{Pixel, PlaneSlice, StoredArea};
 
 /// The rectangle's samples become sums down the columns of `source` from the fourth on, whose rows stand `source_stride` apart: those of
 /// row r of the rows r to r + 7.
 #[inline(always)]
-#[tactic(auto, using(av1_frame::proofs::Paint::row_starts_within, av1_frame::proofs::Paint::row_within, av1_frame::proofs::Paint::length_paint, av1_frame::proofs::Paint::paint_none))]
+#[tactic(auto, using(av1_frame::proofs::Paint::rectangle_painting))]
 fn sum_columns<T: Pixel, const N: usize, const SHORT: bool>(
     samples: &mut [T],
     stride: usize,
@@ -52,7 +51,7 @@ fn sum_columns<T: Pixel, const N: usize, const SHORT: bool>(
 
 /// The same of samples of 10 bits, by halved weights, of which the outer two are 0 where `INNER` is true.
 #[inline(always)]
-#[tactic(auto, using(av1_frame::proofs::Paint::row_starts_within, av1_frame::proofs::Paint::row_within, av1_frame::proofs::Paint::length_paint, av1_frame::proofs::Paint::paint_none))]
+#[tactic(auto, using(av1_frame::proofs::Paint::rectangle_painting))]
 fn sum_mixed_columns<T: Pixel, const N: usize, const INNER: bool>(
     samples: &mut [T],
     stride: usize,
@@ -86,7 +85,7 @@ fn sum_mixed_columns<T: Pixel, const N: usize, const INNER: bool>(
 
 /// The same of samples of any depth, by the weights themselves.
 #[inline(never)]
-#[tactic(auto, using(av1_frame::proofs::Paint::row_starts_within, av1_frame::proofs::Paint::row_within, av1_frame::proofs::Paint::length_paint, av1_frame::proofs::Paint::paint_none))]
+#[tactic(auto, using(av1_frame::proofs::Paint::rectangle_painting))]
 fn sum_wide_columns<T: Pixel, const N: usize>(
     samples: &mut [T],
     stride: usize,
@@ -115,7 +114,7 @@ fn sum_wide_columns<T: Pixel, const N: usize>(
 
 /// The rectangle's samples become sums along the rows of `source` from the fourth on: those of column c of the columns c to c + 7.
 #[inline(always)]
-#[tactic(auto, using(av1_frame::proofs::Paint::row_starts_within, av1_frame::proofs::Paint::row_within, av1_frame::proofs::Paint::length_paint, av1_frame::proofs::Paint::paint_none))]
+#[tactic(auto, using(av1_frame::proofs::Paint::rectangle_painting))]
 fn sum_rows<T: Pixel, const N: usize, const SHORT: bool>(
     samples: &mut [T],
     stride: usize,
@@ -144,7 +143,7 @@ fn sum_rows<T: Pixel, const N: usize, const SHORT: bool>(
 
 /// The same of samples of 10 bits, by halved weights, of which the outer two are 0 where `INNER` is true.
 #[inline(always)]
-#[tactic(auto, using(av1_frame::proofs::Paint::row_starts_within, av1_frame::proofs::Paint::row_within, av1_frame::proofs::Paint::length_paint, av1_frame::proofs::Paint::paint_none))]
+#[tactic(auto, using(av1_frame::proofs::Paint::rectangle_painting))]
 fn sum_mixed_rows<T: Pixel, const N: usize, const INNER: bool>(
     samples: &mut [T],
     stride: usize,
@@ -172,7 +171,7 @@ fn sum_mixed_rows<T: Pixel, const N: usize, const INNER: bool>(
 
 /// The same of samples of any depth, by the weights themselves.
 #[inline(never)]
-#[tactic(auto, using(av1_frame::proofs::Paint::row_starts_within, av1_frame::proofs::Paint::row_within, av1_frame::proofs::Paint::length_paint, av1_frame::proofs::Paint::paint_none))]
+#[tactic(auto, using(av1_frame::proofs::Paint::rectangle_painting))]
 fn sum_wide_rows<T: Pixel, const N: usize>(
     samples: &mut [T],
     stride: usize,
@@ -205,27 +204,24 @@ fn sum_wide_rows<T: Pixel, const N: usize>(
 /// A strip of samples of 8 bits that is filtered down its columns alone, by a filter for sides up to 4 where `SHORT` is true.
 #[inline(always)]
 pub(crate) fn put_narrow_columns<T: Pixel, const N: usize, const SHORT: bool>(
-    dst: &mut PlaneRegionMut<'_, T>,
+    samples: &mut [T],
+    stride: usize,
+    area: StoredArea,
     corner: PlaneSlice<'_, T>,
-    height: usize,
     down: &[i32; SUBPEL_FILTER_SIZE],
 )
     requires filter { IsFilter down.now }
     requires weights { SHORT ≡ true → IsShort down.now }
-    requires fits { InStorage dst.old }
-    requires columns { N ≤ dst.old.area.width }
-    requires rows { height ≤ dst.old.area.height }
+    requires rows { AreRows stride area (length samples.old) }
+    requires width { area.width ≡ N }
     requires short { N ≤ 128 }
-    requires stored { IsStoredFrom corner (N + 7) (height + 7) }
+    requires stored { IsStoredFrom corner (area.width + 7) (area.height + 7) }
     requires bits { 8 ≤ T.BITS }
-    requires within { AreWithinDepth 8 (samples_from T.num corner) (N + 7) (height + 7) }
-    ensures painted { dst.new ≡ painted dst.old N height (λ r c _. T.pixel (clip 8 (round_shift (down_samples down.now (samples_from T.num corner.entry) r c) 7))) }
-    ensures fits { InStorage dst.new }
+    requires within { AreWithinDepth 8 (samples_from T.num corner) (area.width + 7) (area.height + 7) }
+    ensures { samples.new ≡ paint stride area (λ r c _. T.pixel (clip 8 (round_shift (down_samples down.now (samples_from T.num corner.entry) r c) 7))) samples.old }
 {
-    let stride = dst.plane_cfg.stride;
-    let area = dst.corner(N, height);
     sum_columns::<T, N, SHORT>(
-        dst.samples_mut(),
+        samples,
         stride,
         area,
         corner.samples(),
@@ -237,28 +233,25 @@ pub(crate) fn put_narrow_columns<T: Pixel, const N: usize, const SHORT: bool>(
 /// A strip of samples of 10 bits that is filtered down its columns alone, by a filter whose outer two weights are 0 where `INNER` is true.
 #[inline(never)]
 fn put_mixed_columns_by<T: Pixel, const N: usize, const INNER: bool>(
-    dst: &mut PlaneRegionMut<'_, T>,
+    samples: &mut [T],
+    stride: usize,
+    area: StoredArea,
     corner: PlaneSlice<'_, T>,
-    height: usize,
     down: &[i32; SUBPEL_FILTER_SIZE],
 )
     requires filter { IsFilter down.now }
     requires inner { INNER ≡ true → IsInner down.now }
-    requires fits { InStorage dst.old }
-    requires columns { N ≤ dst.old.area.width }
-    requires rows { height ≤ dst.old.area.height }
+    requires rows { AreRows stride area (length samples.old) }
+    requires width { area.width ≡ N }
     requires short { N ≤ 128 }
-    requires stored { IsStoredFrom corner (N + 7) (height + 7) }
+    requires stored { IsStoredFrom corner (area.width + 7) (area.height + 7) }
     requires bits { 10 ≤ T.BITS }
-    requires within { AreWithinDepth 10 (samples_from T.num corner) (N + 7) (height + 7) }
-    ensures painted { dst.new ≡ painted dst.old N height (λ r c _. T.pixel (clip 10 (round_shift (down_samples down.now (samples_from T.num corner.entry) r c) 7))) }
-    ensures fits { InStorage dst.new }
+    requires within { AreWithinDepth 10 (samples_from T.num corner) (area.width + 7) (area.height + 7) }
+    ensures { samples.new ≡ paint stride area (λ r c _. T.pixel (clip 10 (round_shift (down_samples down.now (samples_from T.num corner.entry) r c) 7))) samples.old }
 {
     let halves = halves_for::<false>(down);
-    let stride = dst.plane_cfg.stride;
-    let area = dst.corner(N, height);
     sum_mixed_columns::<T, N, INNER>(
-        dst.samples_mut(),
+        samples,
         stride,
         area,
         corner.samples(),
@@ -269,52 +262,48 @@ fn put_mixed_columns_by<T: Pixel, const N: usize, const INNER: bool>(
 
 /// A strip of samples of 10 bits that is filtered down its columns alone.
 fn put_mixed_columns<T: Pixel, const N: usize>(
-    dst: &mut PlaneRegionMut<'_, T>,
+    samples: &mut [T],
+    stride: usize,
+    area: StoredArea,
     corner: PlaneSlice<'_, T>,
-    height: usize,
     down: &[i32; SUBPEL_FILTER_SIZE],
 )
     requires filter { IsFilter down.now }
-    requires fits { InStorage dst.old }
-    requires columns { N ≤ dst.old.area.width }
-    requires rows { height ≤ dst.old.area.height }
+    requires rows { AreRows stride area (length samples.old) }
+    requires width { area.width ≡ N }
     requires short { N ≤ 128 }
-    requires stored { IsStoredFrom corner (N + 7) (height + 7) }
+    requires stored { IsStoredFrom corner (area.width + 7) (area.height + 7) }
     requires bits { 10 ≤ T.BITS }
-    requires within { AreWithinDepth 10 (samples_from T.num corner) (N + 7) (height + 7) }
-    ensures painted { dst.new ≡ painted dst.old N height (λ r c _. T.pixel (clip 10 (round_shift (down_samples down.now (samples_from T.num corner.entry) r c) 7))) }
-    ensures fits { InStorage dst.new }
+    requires within { AreWithinDepth 10 (samples_from T.num corner) (area.width + 7) (area.height + 7) }
+    ensures { samples.new ≡ paint stride area (λ r c _. T.pixel (clip 10 (round_shift (down_samples down.now (samples_from T.num corner.entry) r c) 7))) samples.old }
 {
     if is_inner(down) {
-        put_mixed_columns_by::<T, N, true>(dst, corner, height, down);
+        put_mixed_columns_by::<T, N, true>(samples, stride, area, corner, down);
     } else {
-        put_mixed_columns_by::<T, N, false>(dst, corner, height, down);
+        put_mixed_columns_by::<T, N, false>(samples, stride, area, corner, down);
     }
 }
 
 /// A strip of samples of any depth that is filtered down its columns alone.
 fn put_wide_columns<T: Pixel, const N: usize>(
-    dst: &mut PlaneRegionMut<'_, T>,
+    samples: &mut [T],
+    stride: usize,
+    area: StoredArea,
     corner: PlaneSlice<'_, T>,
-    height: usize,
     down: &[i32; SUBPEL_FILTER_SIZE],
     bit_depth: usize,
 )
     requires filter { IsFilter down.now }
-    requires fits { InStorage dst.old }
-    requires columns { N ≤ dst.old.area.width }
-    requires rows { height ≤ dst.old.area.height }
+    requires rows { AreRows stride area (length samples.old) }
+    requires width { area.width ≡ N }
     requires short { N ≤ 128 }
-    requires stored { IsStoredFrom corner (N + 7) (height + 7) }
+    requires stored { IsStoredFrom corner (area.width + 7) (area.height + 7) }
     requires depths { IsDepth bit_depth }
     requires depth { bit_depth ≤ T.BITS }
-    ensures painted { dst.new ≡ painted dst.old N height (λ r c _. T.pixel (clip bit_depth (round_shift (down_samples down.now (samples_from T.num corner.entry) r c) 7))) }
-    ensures fits { InStorage dst.new }
+    ensures { samples.new ≡ paint stride area (λ r c _. T.pixel (clip bit_depth (round_shift (down_samples down.now (samples_from T.num corner.entry) r c) 7))) samples.old }
 {
-    let stride = dst.plane_cfg.stride;
-    let area = dst.corner(N, height);
     sum_wide_columns::<T, N>(
-        dst.samples_mut(),
+        samples,
         stride,
         area,
         corner.samples(),
@@ -327,57 +316,53 @@ fn put_wide_columns<T: Pixel, const N: usize>(
 /// A strip that is filtered down its columns alone.
 #[inline(never)]
 pub(crate) fn put_columns_alone<T: Pixel, const N: usize>(
-    dst: &mut PlaneRegionMut<'_, T>,
+    samples: &mut [T],
+    stride: usize,
+    area: StoredArea,
     corner: PlaneSlice<'_, T>,
-    height: usize,
     down: &[i32; SUBPEL_FILTER_SIZE],
     bit_depth: usize,
 )
     requires filter { IsFilter down.now }
-    requires fits { InStorage dst.old }
-    requires columns { N ≤ dst.old.area.width }
-    requires rows { height ≤ dst.old.area.height }
+    requires rows { AreRows stride area (length samples.old) }
+    requires width { area.width ≡ N }
     requires short { N ≤ 128 }
-    requires stored { IsStoredFrom corner (N + 7) (height + 7) }
+    requires stored { IsStoredFrom corner (area.width + 7) (area.height + 7) }
     requires depths { IsDepth bit_depth }
     requires depth { bit_depth ≤ T.BITS }
-    requires within { AreWithinDepth bit_depth (samples_from T.num corner) (N + 7) (height + 7) }
-    ensures painted { dst.new ≡ painted dst.old N height (λ r c _. T.pixel (clip bit_depth (round_shift (down_samples down.now (samples_from T.num corner.entry) r c) 7))) }
-    ensures fits { InStorage dst.new }
+    requires within { AreWithinDepth bit_depth (samples_from T.num corner) (area.width + 7) (area.height + 7) }
+    ensures { samples.new ≡ paint stride area (λ r c _. T.pixel (clip bit_depth (round_shift (down_samples down.now (samples_from T.num corner.entry) r c) 7))) samples.old }
 {
     if bit_depth == 8 {
-        put_narrow_columns::<T, N, false>(dst, corner, height, down);
+        put_narrow_columns::<T, N, false>(samples, stride, area, corner, down);
     } else if bit_depth == 10 {
-        put_mixed_columns::<T, N>(dst, corner, height, down);
+        put_mixed_columns::<T, N>(samples, stride, area, corner, down);
     } else {
-        put_wide_columns::<T, N>(dst, corner, height, down, bit_depth);
+        put_wide_columns::<T, N>(samples, stride, area, corner, down, bit_depth);
     }
 }
 
 /// A strip of samples of 8 bits that is filtered along its rows alone, by a filter for sides up to 4 where `SHORT` is true.
 #[inline(always)]
 pub(crate) fn put_narrow_rows<T: Pixel, const N: usize, const SHORT: bool>(
-    dst: &mut PlaneRegionMut<'_, T>,
+    samples: &mut [T],
+    stride: usize,
+    area: StoredArea,
     corner: PlaneSlice<'_, T>,
-    height: usize,
     across: &[i32; SUBPEL_FILTER_SIZE],
 )
     requires filter { IsFilter across.now }
     requires weights { SHORT ≡ true → IsShort across.now }
-    requires fits { InStorage dst.old }
-    requires columns { N ≤ dst.old.area.width }
-    requires rows { height ≤ dst.old.area.height }
+    requires rows { AreRows stride area (length samples.old) }
+    requires width { area.width ≡ N }
     requires short { N ≤ 128 }
-    requires stored { IsStoredFrom corner (N + 7) (height + 7) }
+    requires stored { IsStoredFrom corner (area.width + 7) (area.height + 7) }
     requires bits { 8 ≤ T.BITS }
-    requires within { AreWithinDepth 8 (samples_from T.num corner) (N + 7) (height + 7) }
-    ensures painted { dst.new ≡ painted dst.old N height (λ r c _. T.pixel (clip 8 (round_shift (round_shift (weighted across.now (λ t. pos (samples_from T.num corner.entry (c + t) (r + 3)))) 3) 4))) }
-    ensures fits { InStorage dst.new }
+    requires within { AreWithinDepth 8 (samples_from T.num corner) (area.width + 7) (area.height + 7) }
+    ensures { samples.new ≡ paint stride area (λ r c _. T.pixel (clip 8 (round_shift (round_shift (weighted across.now (λ t. pos (samples_from T.num corner.entry (c + t) (r + 3)))) 3) 4))) samples.old }
 {
-    let stride = dst.plane_cfg.stride;
-    let area = dst.corner(N, height);
     sum_rows::<T, N, SHORT>(
-        dst.samples_mut(),
+        samples,
         stride,
         area,
         corner.samples(),
@@ -389,28 +374,25 @@ pub(crate) fn put_narrow_rows<T: Pixel, const N: usize, const SHORT: bool>(
 /// A strip of samples of 10 bits that is filtered along its rows alone, by a filter whose outer two weights are 0 where `INNER` is true.
 #[inline(never)]
 fn put_mixed_rows_by<T: Pixel, const N: usize, const INNER: bool>(
-    dst: &mut PlaneRegionMut<'_, T>,
+    samples: &mut [T],
+    stride: usize,
+    area: StoredArea,
     corner: PlaneSlice<'_, T>,
-    height: usize,
     across: &[i32; SUBPEL_FILTER_SIZE],
 )
     requires filter { IsFilter across.now }
     requires inner { INNER ≡ true → IsInner across.now }
-    requires fits { InStorage dst.old }
-    requires columns { N ≤ dst.old.area.width }
-    requires rows { height ≤ dst.old.area.height }
+    requires rows { AreRows stride area (length samples.old) }
+    requires width { area.width ≡ N }
     requires short { N ≤ 128 }
-    requires stored { IsStoredFrom corner (N + 7) (height + 7) }
+    requires stored { IsStoredFrom corner (area.width + 7) (area.height + 7) }
     requires bits { 10 ≤ T.BITS }
-    requires within { AreWithinDepth 10 (samples_from T.num corner) (N + 7) (height + 7) }
-    ensures painted { dst.new ≡ painted dst.old N height (λ r c _. T.pixel (clip 10 (round_shift (round_shift (weighted across.now (λ t. pos (samples_from T.num corner.entry (c + t) (r + 3)))) 3) 4))) }
-    ensures fits { InStorage dst.new }
+    requires within { AreWithinDepth 10 (samples_from T.num corner) (area.width + 7) (area.height + 7) }
+    ensures { samples.new ≡ paint stride area (λ r c _. T.pixel (clip 10 (round_shift (round_shift (weighted across.now (λ t. pos (samples_from T.num corner.entry (c + t) (r + 3)))) 3) 4))) samples.old }
 {
     let halves = halves_for::<false>(across);
-    let stride = dst.plane_cfg.stride;
-    let area = dst.corner(N, height);
     sum_mixed_rows::<T, N, INNER>(
-        dst.samples_mut(),
+        samples,
         stride,
         area,
         corner.samples(),
@@ -421,53 +403,49 @@ fn put_mixed_rows_by<T: Pixel, const N: usize, const INNER: bool>(
 
 /// A strip of samples of 10 bits that is filtered along its rows alone.
 fn put_mixed_rows<T: Pixel, const N: usize>(
-    dst: &mut PlaneRegionMut<'_, T>,
+    samples: &mut [T],
+    stride: usize,
+    area: StoredArea,
     corner: PlaneSlice<'_, T>,
-    height: usize,
     across: &[i32; SUBPEL_FILTER_SIZE],
 )
     requires filter { IsFilter across.now }
-    requires fits { InStorage dst.old }
-    requires columns { N ≤ dst.old.area.width }
-    requires rows { height ≤ dst.old.area.height }
+    requires rows { AreRows stride area (length samples.old) }
+    requires width { area.width ≡ N }
     requires short { N ≤ 128 }
-    requires stored { IsStoredFrom corner (N + 7) (height + 7) }
+    requires stored { IsStoredFrom corner (area.width + 7) (area.height + 7) }
     requires bits { 10 ≤ T.BITS }
-    requires within { AreWithinDepth 10 (samples_from T.num corner) (N + 7) (height + 7) }
-    ensures painted { dst.new ≡ painted dst.old N height (λ r c _. T.pixel (clip 10 (round_shift (round_shift (weighted across.now (λ t. pos (samples_from T.num corner.entry (c + t) (r + 3)))) 3) 4))) }
-    ensures fits { InStorage dst.new }
+    requires within { AreWithinDepth 10 (samples_from T.num corner) (area.width + 7) (area.height + 7) }
+    ensures { samples.new ≡ paint stride area (λ r c _. T.pixel (clip 10 (round_shift (round_shift (weighted across.now (λ t. pos (samples_from T.num corner.entry (c + t) (r + 3)))) 3) 4))) samples.old }
 {
     if is_inner(across) {
-        put_mixed_rows_by::<T, N, true>(dst, corner, height, across);
+        put_mixed_rows_by::<T, N, true>(samples, stride, area, corner, across);
     } else {
-        put_mixed_rows_by::<T, N, false>(dst, corner, height, across);
+        put_mixed_rows_by::<T, N, false>(samples, stride, area, corner, across);
     }
 }
 
 /// A strip of samples of any depth that is filtered along its rows alone.
 fn put_wide_rows<T: Pixel, const N: usize>(
-    dst: &mut PlaneRegionMut<'_, T>,
+    samples: &mut [T],
+    stride: usize,
+    area: StoredArea,
     corner: PlaneSlice<'_, T>,
-    height: usize,
     across: &[i32; SUBPEL_FILTER_SIZE],
     bit_depth: usize,
 )
     requires filter { IsFilter across.now }
-    requires fits { InStorage dst.old }
-    requires columns { N ≤ dst.old.area.width }
-    requires rows { height ≤ dst.old.area.height }
+    requires rows { AreRows stride area (length samples.old) }
+    requires width { area.width ≡ N }
     requires short { N ≤ 128 }
-    requires stored { IsStoredFrom corner (N + 7) (height + 7) }
+    requires stored { IsStoredFrom corner (area.width + 7) (area.height + 7) }
     requires depths { IsDepth bit_depth }
     requires depth { bit_depth ≤ T.BITS }
-    requires within { AreWithinDepth bit_depth (samples_from T.num corner) (N + 7) (height + 7) }
-    ensures painted { dst.new ≡ painted dst.old N height (λ r c _. T.pixel (clip bit_depth (round_shift (round_shift (weighted across.now (λ t. pos (samples_from T.num corner.entry (c + t) (r + 3)))) (7 - intermediate_bits bit_depth)) (intermediate_bits bit_depth)))) }
-    ensures fits { InStorage dst.new }
+    requires within { AreWithinDepth bit_depth (samples_from T.num corner) (area.width + 7) (area.height + 7) }
+    ensures { samples.new ≡ paint stride area (λ r c _. T.pixel (clip bit_depth (round_shift (round_shift (weighted across.now (λ t. pos (samples_from T.num corner.entry (c + t) (r + 3)))) (7 - intermediate_bits bit_depth)) (intermediate_bits bit_depth)))) samples.old }
 {
-    let stride = dst.plane_cfg.stride;
-    let area = dst.corner(N, height);
     sum_wide_rows::<T, N>(
-        dst.samples_mut(),
+        samples,
         stride,
         area,
         corner.samples(),
@@ -480,29 +458,28 @@ fn put_wide_rows<T: Pixel, const N: usize>(
 /// A strip that is filtered along its rows alone.
 #[inline(never)]
 pub(crate) fn put_rows_alone<T: Pixel, const N: usize>(
-    dst: &mut PlaneRegionMut<'_, T>,
+    samples: &mut [T],
+    stride: usize,
+    area: StoredArea,
     corner: PlaneSlice<'_, T>,
-    height: usize,
     across: &[i32; SUBPEL_FILTER_SIZE],
     bit_depth: usize,
 )
     requires filter { IsFilter across.now }
-    requires fits { InStorage dst.old }
-    requires columns { N ≤ dst.old.area.width }
-    requires rows { height ≤ dst.old.area.height }
+    requires rows { AreRows stride area (length samples.old) }
+    requires width { area.width ≡ N }
     requires short { N ≤ 128 }
-    requires stored { IsStoredFrom corner (N + 7) (height + 7) }
+    requires stored { IsStoredFrom corner (area.width + 7) (area.height + 7) }
     requires depths { IsDepth bit_depth }
     requires depth { bit_depth ≤ T.BITS }
-    requires within { AreWithinDepth bit_depth (samples_from T.num corner) (N + 7) (height + 7) }
-    ensures painted { dst.new ≡ painted dst.old N height (λ r c _. T.pixel (clip bit_depth (round_shift (round_shift (weighted across.now (λ t. pos (samples_from T.num corner.entry (c + t) (r + 3)))) (7 - intermediate_bits bit_depth)) (intermediate_bits bit_depth)))) }
-    ensures fits { InStorage dst.new }
+    requires within { AreWithinDepth bit_depth (samples_from T.num corner) (area.width + 7) (area.height + 7) }
+    ensures { samples.new ≡ paint stride area (λ r c _. T.pixel (clip bit_depth (round_shift (round_shift (weighted across.now (λ t. pos (samples_from T.num corner.entry (c + t) (r + 3)))) (7 - intermediate_bits bit_depth)) (intermediate_bits bit_depth)))) samples.old }
 {
     if bit_depth == 8 {
-        put_narrow_rows::<T, N, false>(dst, corner, height, across);
+        put_narrow_rows::<T, N, false>(samples, stride, area, corner, across);
     } else if bit_depth == 10 {
-        put_mixed_rows::<T, N>(dst, corner, height, across);
+        put_mixed_rows::<T, N>(samples, stride, area, corner, across);
     } else {
-        put_wide_rows::<T, N>(dst, corner, height, across, bit_depth);
+        put_wide_rows::<T, N>(samples, stride, area, corner, across, bit_depth);
     }
 }

@@ -110,7 +110,7 @@ fn average_by_array<T: Pixel, const N: usize>(
 
 /// The rectangle's samples become the averages of the values, which stand row by row.
 #[inline(never)]
-#[tactic(auto, using(av1_frame::proofs::Paint::row_starts_within, av1_frame::proofs::Paint::row_within, av1_frame::proofs::Paint::length_paint, av1_frame::proofs::Paint::paint_none))]
+#[tactic(auto, using(av1_frame::proofs::Paint::rectangle_painting))]
 fn average_rows<T: Pixel, const N: usize>(
     samples: &mut [T],
     stride: usize,
@@ -122,11 +122,11 @@ fn average_rows<T: Pixel, const N: usize>(
     requires rows { AreRows stride area (length samples.old) }
     requires width { area.width ≡ N }
     requires short { N ≤ 128 }
-    requires first_long { area.height * N ≤ length tmp1.now }
-    requires second_long { area.height * N ≤ length tmp2.now }
+    requires first_long { area.height * area.width ≤ length tmp1.now }
+    requires second_long { area.height * area.width ≤ length tmp2.now }
     requires depths { IsDepth bit_depth }
     requires depth { bit_depth ≤ T.BITS }
-    ensures { samples.new ≡ paint stride area (λ r c _. T.pixel (averaged bit_depth (entry tmp1.now (r * N + c)) (entry tmp2.now (r * N + c)))) samples.old }
+    ensures { samples.new ≡ paint stride area (λ r c _. T.pixel (averaged bit_depth (entry tmp1.now (r * area.width + c)) (entry tmp2.now (r * area.width + c)))) samples.old }
 {
     for r in 0..area.height {
         let (_, row) = samples.split_at_mut((area.y + r) * stride + area.x);
@@ -134,57 +134,67 @@ fn average_rows<T: Pixel, const N: usize>(
     }
 }
 
-/// A block of `N` columns.
-fn average_columns<T: Pixel, const N: usize>(
-    dst: &mut PlaneRegionMut<'_, T>,
+/// The same of a rectangle of any width.
+#[tactic(auto, using(av1_frame::proofs::Paint::rectangle_painting, av1_frame::proofs::Fits::row_end_le))]
+fn average_any<T: Pixel>(
+    samples: &mut [T],
+    stride: usize,
+    area: StoredArea,
     tmp1: &[i16],
     tmp2: &[i16],
-    height: usize,
     bit_depth: usize,
 )
-    requires fits { InStorage dst.old }
-    requires columns { N ≤ dst.old.area.width }
-    requires rows { height ≤ dst.old.area.height }
-    requires short { N ≤ 128 }
-    requires first_long { height * N ≤ length tmp1.now }
-    requires second_long { height * N ≤ length tmp2.now }
+    requires rows { AreRows stride area (length samples.old) }
+    requires first_long { area.height * area.width ≤ length tmp1.now }
+    requires second_long { area.height * area.width ≤ length tmp2.now }
     requires depths { IsDepth bit_depth }
     requires depth { bit_depth ≤ T.BITS }
-    ensures painted { dst.new ≡ painted dst.old N height (λ r c _. T.pixel (averaged bit_depth (entry tmp1.now (r * N + c)) (entry tmp2.now (r * N + c)))) }
-    ensures fits { InStorage dst.new }
+    ensures { samples.new ≡ paint stride area (λ r c _. T.pixel (averaged bit_depth (entry tmp1.now (r * area.width + c)) (entry tmp2.now (r * area.width + c)))) samples.old }
 {
-    let stride = dst.plane_cfg.stride;
-    let area = dst.corner(N, height);
-    average_rows::<T, N>(dst.samples_mut(), stride, area, tmp1, tmp2, bit_depth);
+    let width = area.width;
+    for r in 0..area.height {
+        let (_, row) = samples.split_at_mut((area.y + r) * stride + area.x);
+        average_row(row, tmp1, tmp2, r * width, width, bit_depth);
+    }
 }
 
-/// A block of any width.
-#[tactic(auto, using(av1_frame::proofs::Regions::region_painting, av1_frame::proofs::Fits::row_end_le))]
-fn average_any<T: Pixel>(
-    dst: &mut PlaneRegionMut<'_, T>,
+/// Each sample of a rectangle becomes the average of its two prepared values, which stand row by row in `tmp1` and `tmp2`. The rows of
+/// `samples` stand `stride` apart.
+pub fn mc_avg_to<T: Pixel>(
+    samples: &mut [T],
+    stride: usize,
+    area: StoredArea,
     tmp1: &[i16],
     tmp2: &[i16],
-    width: usize,
-    height: usize,
     bit_depth: usize,
 )
-    requires fits { InStorage dst.old }
-    requires columns { width ≤ dst.old.area.width }
-    requires rows { height ≤ dst.old.area.height }
-    requires first_long { height * width ≤ length tmp1.now }
-    requires second_long { height * width ≤ length tmp2.now }
+    requires rows { AreRows stride area (length samples.old) }
+    requires first_long { area.height * area.width ≤ length tmp1.now }
+    requires second_long { area.height * area.width ≤ length tmp2.now }
     requires depths { IsDepth bit_depth }
     requires depth { bit_depth ≤ T.BITS }
-    ensures painted { dst.new ≡ painted dst.old width height (λ r c _. T.pixel (averaged bit_depth (entry tmp1.now (r * width + c)) (entry tmp2.now (r * width + c)))) }
-    ensures fits { InStorage dst.new }
+    ensures { samples.new ≡ paint stride area (λ r c _. T.pixel (averaged bit_depth (entry tmp1.now (r * area.width + c)) (entry tmp2.now (r * area.width + c)))) samples.old }
 {
-    for r in 0..height {
-        average_row(dst.row_mut(r), tmp1, tmp2, r * width, width, bit_depth);
+    if area.width == 4 {
+        average_rows::<T, 4>(samples, stride, area, tmp1, tmp2, bit_depth);
+    } else if area.width == 8 {
+        average_rows::<T, 8>(samples, stride, area, tmp1, tmp2, bit_depth);
+    } else if area.width == 16 {
+        average_rows::<T, 16>(samples, stride, area, tmp1, tmp2, bit_depth);
+    } else if area.width == 32 {
+        average_rows::<T, 32>(samples, stride, area, tmp1, tmp2, bit_depth);
+    } else if area.width == 64 {
+        average_rows::<T, 64>(samples, stride, area, tmp1, tmp2, bit_depth);
+    } else if area.width == 128 {
+        average_rows::<T, 128>(samples, stride, area, tmp1, tmp2, bit_depth);
+    } else {
+        average_any(samples, stride, area, tmp1, tmp2, bit_depth);
     }
 }
 
 /// Each sample of the first `height` rows and `width` columns of `dst` becomes the average of its two prepared values, which stand row
 /// by row in `tmp1` and `tmp2`.
+#[tactic(auto, using(av1_frame::proofs::Regions::region_lending))]
 pub fn mc_avg<T: Pixel>(
     dst: &mut PlaneRegionMut<'_, T>,
     tmp1: &[i16],
@@ -203,19 +213,7 @@ pub fn mc_avg<T: Pixel>(
     ensures painted { dst.new ≡ painted dst.old width height (λ r c _. T.pixel (averaged bit_depth (entry tmp1.now (r * width + c)) (entry tmp2.now (r * width + c)))) }
     ensures fits { InStorage dst.new }
 {
-    if width == 4 {
-        average_columns::<T, 4>(dst, tmp1, tmp2, height, bit_depth);
-    } else if width == 8 {
-        average_columns::<T, 8>(dst, tmp1, tmp2, height, bit_depth);
-    } else if width == 16 {
-        average_columns::<T, 16>(dst, tmp1, tmp2, height, bit_depth);
-    } else if width == 32 {
-        average_columns::<T, 32>(dst, tmp1, tmp2, height, bit_depth);
-    } else if width == 64 {
-        average_columns::<T, 64>(dst, tmp1, tmp2, height, bit_depth);
-    } else if width == 128 {
-        average_columns::<T, 128>(dst, tmp1, tmp2, height, bit_depth);
-    } else {
-        average_any(dst, tmp1, tmp2, width, height, bit_depth);
-    }
+    let stride = dst.plane_cfg.stride;
+    let area = dst.corner(width, height);
+    mc_avg_to(dst.samples_mut(), stride, area, tmp1, tmp2, bit_depth);
 }

@@ -5,10 +5,10 @@
 ghost use Rattle.std.specs.Prelude.{◌≡◌, ℕ, ◌+◌, ◌*◌, ◌≤◌, ◌<◌, length, slice_index_or};
 ghost use Rattle.av1_frame.specs.Areas.{AreRows};
 ghost use Rattle.av1_frame.specs.Samples.{paint, paint_row};
-ghost use Rattle.av1_frame.specs.Regions.{InStorage, painted};
 ghost use Rattle.av1_inter.specs.Places.{IsStoredFrom, samples_from};
 
-use av1_frame::{Pixel, PlaneRegionMut, PlaneSlice, StoredArea};
+use crate::strip::{as_4x4, is_4x4};
+use av1_frame::{Pixel, PlaneSlice, StoredArea};
 
 /// The first `width` samples of the row become those of `source` from the fourth on.
 #[inline(always)]
@@ -20,23 +20,21 @@ fn copy_inner<T: Pixel>(row: &mut [T], source: &[T], width: usize)
     row[..width].copy_from_slice(&source[3..3 + width]);
 }
 
-/// The block's samples as they stand in the reference.
-#[tactic(auto, using(av1_frame::proofs::Regions::region_painting))]
+/// The rectangle's samples as they stand in the reference. The rows of `samples` stand `stride` apart.
+#[tactic(auto, using(av1_frame::proofs::Paint::rectangle_painting))]
 fn put_samples<T: Pixel>(
-    dst: &mut PlaneRegionMut<'_, T>,
+    samples: &mut [T],
+    stride: usize,
+    area: StoredArea,
     corner: PlaneSlice<'_, T>,
-    width: usize,
-    height: usize,
 )
-    requires fits { InStorage dst.old }
-    requires columns { width ≤ dst.old.area.width }
-    requires rows { height ≤ dst.old.area.height }
-    requires stored { IsStoredFrom corner (width + 7) (height + 7) }
-    ensures painted { dst.new ≡ painted dst.old width height (λ r c _. T.pixel (samples_from T.num corner.entry (c + 3) (r + 3))) }
-    ensures fits { InStorage dst.new }
+    requires rows { AreRows stride area (length samples.old) }
+    requires stored { IsStoredFrom corner (area.width + 7) (area.height + 7) }
+    ensures { samples.new ≡ paint stride area (λ r c _. T.pixel (samples_from T.num corner.entry (c + 3) (r + 3))) samples.old }
 {
-    for r in 0..height {
-        copy_inner(dst.row_mut(r), corner.row(r + 3), width);
+    for r in 0..area.height {
+        let (_, row) = samples.split_at_mut((area.y + r) * stride + area.x);
+        copy_inner(row, corner.row(r + 3), area.width);
     }
 }
 
@@ -70,7 +68,7 @@ fn copy_by_array<T: Pixel, const N: usize>(row: &mut [T], source: &[T])
 }
 
 /// The rectangle's samples become those of `source` from the fourth row and column on, whose rows stand `source_stride` apart.
-#[tactic(auto, using(av1_frame::proofs::Paint::row_starts_within, av1_frame::proofs::Paint::row_within, av1_frame::proofs::Paint::length_paint, av1_frame::proofs::Paint::paint_none))]
+#[tactic(auto, using(av1_frame::proofs::Paint::rectangle_painting))]
 fn copy_rows<T: Pixel, const N: usize>(
     samples: &mut [T],
     stride: usize,
@@ -92,61 +90,68 @@ fn copy_rows<T: Pixel, const N: usize>(
     }
 }
 
-/// The same of a block of `N` columns, whose rows are copied by a few moves.
+/// The same of a rectangle of `N` columns, whose rows are copied by a few moves.
+#[inline(always)]
 fn put_samples_of<T: Pixel, const N: usize>(
-    dst: &mut PlaneRegionMut<'_, T>,
+    samples: &mut [T],
+    stride: usize,
+    area: StoredArea,
     corner: PlaneSlice<'_, T>,
-    height: usize,
 )
-    requires fits { InStorage dst.old }
-    requires columns { N ≤ dst.old.area.width }
-    requires rows { height ≤ dst.old.area.height }
+    requires rows { AreRows stride area (length samples.old) }
+    requires width { area.width ≡ N }
     requires some { 0 < N }
     requires short { N ≤ 128 }
-    requires stored { IsStoredFrom corner (N + 7) (height + 7) }
-    ensures painted { dst.new ≡ painted dst.old N height (λ r c _. T.pixel (samples_from T.num corner.entry (c + 3) (r + 3))) }
-    ensures fits { InStorage dst.new }
+    requires stored { IsStoredFrom corner (area.width + 7) (area.height + 7) }
+    ensures { samples.new ≡ paint stride area (λ r c _. T.pixel (samples_from T.num corner.entry (c + 3) (r + 3))) samples.old }
 {
-    let stride = dst.plane_cfg.stride;
-    let area = dst.corner(N, height);
-    copy_rows::<T, N>(
-        dst.samples_mut(),
-        stride,
-        area,
-        corner.samples(),
-        corner.stride(),
-    );
+    copy_rows::<T, N>(samples, stride, area, corner.samples(), corner.stride());
 }
 
-/// A block that is not filtered.
-pub(crate) fn put_copy<T: Pixel>(
-    dst: &mut PlaneRegionMut<'_, T>,
+/// The same of a rectangle of 4x4 samples, whose rows are written out.
+#[inline(always)]
+pub(crate) fn put_4x4<T: Pixel>(
+    samples: &mut [T],
+    stride: usize,
+    area: StoredArea,
     corner: PlaneSlice<'_, T>,
-    width: usize,
-    height: usize,
 )
-    requires fits { InStorage dst.old }
-    requires columns { width ≤ dst.old.area.width }
-    requires rows { height ≤ dst.old.area.height }
-    requires stored { IsStoredFrom corner (width + 7) (height + 7) }
-    ensures painted { dst.new ≡ painted dst.old width height (λ r c _. T.pixel (samples_from T.num corner.entry (c + 3) (r + 3))) }
-    ensures fits { InStorage dst.new }
+    requires rows { AreRows stride area (length samples.old) }
+    requires width { area.width ≡ 4 }
+    requires height { area.height ≡ 4 }
+    requires stored { IsStoredFrom corner (area.width + 7) (area.height + 7) }
+    ensures { samples.new ≡ paint stride area (λ r c _. T.pixel (samples_from T.num corner.entry (c + 3) (r + 3))) samples.old }
 {
-    if width == 4 && height == 4 {
-        put_samples_of::<T, 4>(dst, corner, 4);
-    } else if width == 4 {
-        put_samples_of::<T, 4>(dst, corner, height);
-    } else if width == 8 {
-        put_samples_of::<T, 8>(dst, corner, height);
-    } else if width == 16 {
-        put_samples_of::<T, 16>(dst, corner, height);
-    } else if width == 32 {
-        put_samples_of::<T, 32>(dst, corner, height);
-    } else if width == 64 {
-        put_samples_of::<T, 64>(dst, corner, height);
-    } else if width == 128 {
-        put_samples_of::<T, 128>(dst, corner, height);
+    put_samples_of::<T, 4>(samples, stride, as_4x4(area), corner);
+}
+
+/// A rectangle that is not filtered.
+#[inline(always)]
+pub(crate) fn put_copy<T: Pixel>(
+    samples: &mut [T],
+    stride: usize,
+    area: StoredArea,
+    corner: PlaneSlice<'_, T>,
+)
+    requires rows { AreRows stride area (length samples.old) }
+    requires stored { IsStoredFrom corner (area.width + 7) (area.height + 7) }
+    ensures { samples.new ≡ paint stride area (λ r c _. T.pixel (samples_from T.num corner.entry (c + 3) (r + 3))) samples.old }
+{
+    if is_4x4(area) {
+        put_4x4(samples, stride, area, corner);
+    } else if area.width == 4 {
+        put_samples_of::<T, 4>(samples, stride, area, corner);
+    } else if area.width == 8 {
+        put_samples_of::<T, 8>(samples, stride, area, corner);
+    } else if area.width == 16 {
+        put_samples_of::<T, 16>(samples, stride, area, corner);
+    } else if area.width == 32 {
+        put_samples_of::<T, 32>(samples, stride, area, corner);
+    } else if area.width == 64 {
+        put_samples_of::<T, 64>(samples, stride, area, corner);
+    } else if area.width == 128 {
+        put_samples_of::<T, 128>(samples, stride, area, corner);
     } else {
-        put_samples(dst, corner, width, height);
+        put_samples(samples, stride, area, corner);
     }
 }

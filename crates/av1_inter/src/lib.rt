@@ -10,6 +10,8 @@
 //!   the reference, and leaves all others.
 //! - `prep_8tap` writes `prepared` of them row by row to the first entries of a buffer, and leaves the others.
 //! - `mc_avg` turns each sample of a block into `averaged` of two prepared values.
+//! - `put_8tap_to` and `mc_avg_to` do the same to a rectangle of a slice, in memory of any caller: `put_8tap` and `mc_avg` lend them the
+//!   samples of a region.
 //! - `predict_inter_single`, `predict_inter_compound` and `predict_inter` do the same over the planes in a frame's slots, moved by
 //!   vectors: `PredictsSingle` and `PredictsCompound` of `specs/Prediction.antt`. The planes are padded, and whatever the vector, a place
 //!   outside reads the nearest visible sample. Where the slot of a single reference is empty nothing is written; what an empty slot gives
@@ -44,11 +46,11 @@ mod strip;
 mod tests;
 mod window;
 
-pub use average::mc_avg;
+pub use average::{mc_avg, mc_avg_to};
 pub use buffers::InterCompoundBuffers;
 pub use laws::{
     constant_references_stay, motion_lies_within, padded_planes_serve, prepared_values_fit,
 };
 pub use predict::{predict_inter, predict_inter_compound, predict_inter_single};
 pub use prepare::prep_8tap;
-pub use put::put_8tap;
+pub use put::{put_8tap, put_8tap_to};

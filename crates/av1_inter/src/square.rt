@@ -5,76 +5,82 @@
 //!
 //! AV1 specification: block inter prediction process.
 
-ghost use Rattle.std.specs.Prelude.{◌≡◌, true, ◌+◌, ◌≤◌, pos, ◌≤ℤ◌, ◌<ℤ◌, unsigned_abs};
+ghost use Rattle.std.specs.Prelude.{◌≡◌, true, ◌+◌, ◌≤◌, pos, ◌≤ℤ◌, ◌<ℤ◌, length, unsigned_abs};
+ghost use Rattle.av1_frame.specs.Areas.{AreRows};
 ghost use Rattle.av1_frame.specs.Arithmetic.{clip, round_shift};
-ghost use Rattle.av1_frame.specs.Regions.{InStorage, painted};
+ghost use Rattle.av1_frame.specs.Samples.{paint};
 ghost use Rattle.av1_inter.specs.Filters.{filter_of};
 ghost use Rattle.av1_inter.specs.Motion.{down_samples, single, weighted};
 ghost use Rattle.av1_inter.specs.Places.{AreWithinDepth, IsStoredFrom, samples_from};
 
 use crate::alone::{put_narrow_columns, put_narrow_rows};
-use crate::copies::put_copy;
+use crate::copies::put_4x4;
 use crate::filter::get_filter;
 use crate::put::put_filtered;
+use crate::strip::{as_4x4, is_4x4};
 use av1_blocks::FilterMode;
-use av1_frame::{Pixel, PlaneRegionMut, PlaneSlice};
+use av1_frame::{Pixel, PlaneSlice, StoredArea};
 
 /// Whether a block has 4x4 samples of 8 bits.
-pub(crate) fn is_square(width: usize, height: usize, bit_depth: usize) -> bool
-    ensures width { result ≡ true → width ≡ 4 }
-    ensures height { result ≡ true → height ≡ 4 }
+pub(crate) fn is_square(area: StoredArea, bit_depth: usize) -> bool
+    ensures width { result ≡ true → area.width ≡ 4 }
+    ensures height { result ≡ true → area.height ≡ 4 }
     ensures depth { result ≡ true → bit_depth ≡ 8 }
 {
-    width == 4 && height == 4 && bit_depth == 8
+    is_4x4(area) && bit_depth == 8
 }
 
 /// Such a block that is filtered along its rows.
 fn put_square_rows<T: Pixel>(
-    dst: &mut PlaneRegionMut<'_, T>,
+    samples: &mut [T],
+    stride: usize,
+    area: StoredArea,
     corner: PlaneSlice<'_, T>,
     mode: FilterMode,
     col_frac: i32,
 )
     requires low { pos 0 ≤ℤ col_frac }
     requires high { col_frac <ℤ pos 16 }
-    requires fits { InStorage dst.old }
-    requires columns { 4 ≤ dst.old.area.width }
-    requires rows { 4 ≤ dst.old.area.height }
-    requires stored { IsStoredFrom corner 11 11 }
+    requires rows { AreRows stride area (length samples.old) }
+    requires width { area.width ≡ 4 }
+    requires height { area.height ≡ 4 }
+    requires stored { IsStoredFrom corner (area.width + 7) (area.height + 7) }
     requires bits { 8 ≤ T.BITS }
-    requires within { AreWithinDepth 8 (samples_from T.num corner) 11 11 }
-    ensures painted { dst.new ≡ painted dst.old 4 4 (λ r c _. T.pixel (clip 8 (round_shift (round_shift (weighted (filter_of mode (unsigned_abs col_frac) 4) (λ t. pos (samples_from T.num corner.entry (c + t) (r + 3)))) 3) 4))) }
-    ensures fits { InStorage dst.new }
+    requires within { AreWithinDepth 8 (samples_from T.num corner) (area.width + 7) (area.height + 7) }
+    ensures { samples.new ≡ paint stride area (λ r c _. T.pixel (clip 8 (round_shift (round_shift (weighted (filter_of mode (unsigned_abs col_frac) 4) (λ t. pos (samples_from T.num corner.entry (c + t) (r + 3)))) 3) 4))) samples.old }
 {
     let across = get_filter(mode, col_frac, 4);
-    put_narrow_rows::<T, 4, true>(dst, corner, 4, &across.taps);
+    put_narrow_rows::<T, 4, true>(samples, stride, as_4x4(area), corner, &across.taps);
 }
 
 /// Such a block that is filtered down its columns.
 fn put_square_columns<T: Pixel>(
-    dst: &mut PlaneRegionMut<'_, T>,
+    samples: &mut [T],
+    stride: usize,
+    area: StoredArea,
     corner: PlaneSlice<'_, T>,
     mode: FilterMode,
     row_frac: i32,
 )
     requires low { pos 0 ≤ℤ row_frac }
     requires high { row_frac <ℤ pos 16 }
-    requires fits { InStorage dst.old }
-    requires columns { 4 ≤ dst.old.area.width }
-    requires rows { 4 ≤ dst.old.area.height }
-    requires stored { IsStoredFrom corner 11 11 }
+    requires rows { AreRows stride area (length samples.old) }
+    requires width { area.width ≡ 4 }
+    requires height { area.height ≡ 4 }
+    requires stored { IsStoredFrom corner (area.width + 7) (area.height + 7) }
     requires bits { 8 ≤ T.BITS }
-    requires within { AreWithinDepth 8 (samples_from T.num corner) 11 11 }
-    ensures painted { dst.new ≡ painted dst.old 4 4 (λ r c _. T.pixel (clip 8 (round_shift (down_samples (filter_of mode (unsigned_abs row_frac) 4) (samples_from T.num corner.entry) r c) 7))) }
-    ensures fits { InStorage dst.new }
+    requires within { AreWithinDepth 8 (samples_from T.num corner) (area.width + 7) (area.height + 7) }
+    ensures { samples.new ≡ paint stride area (λ r c _. T.pixel (clip 8 (round_shift (down_samples (filter_of mode (unsigned_abs row_frac) 4) (samples_from T.num corner.entry) r c) 7))) samples.old }
 {
     let down = get_filter(mode, row_frac, 4);
-    put_narrow_columns::<T, 4, true>(dst, corner, 4, &down.taps);
+    put_narrow_columns::<T, 4, true>(samples, stride, as_4x4(area), corner, &down.taps);
 }
 
 /// Such a block, at every fraction.
 pub(crate) fn put_square<T: Pixel>(
-    dst: &mut PlaneRegionMut<'_, T>,
+    samples: &mut [T],
+    stride: usize,
+    area: StoredArea,
     corner: PlaneSlice<'_, T>,
     mode_x: FilterMode,
     mode_y: FilterMode,
@@ -83,27 +89,26 @@ pub(crate) fn put_square<T: Pixel>(
 )
     requires col_frac { (pos 0 ≤ℤ col_frac) × (col_frac <ℤ pos 16) }
     requires row_frac { (pos 0 ≤ℤ row_frac) × (row_frac <ℤ pos 16) }
-    requires fits { InStorage dst.old }
-    requires columns { 4 ≤ dst.old.area.width }
-    requires rows { 4 ≤ dst.old.area.height }
-    requires stored { IsStoredFrom corner 11 11 }
+    requires rows { AreRows stride area (length samples.old) }
+    requires width { area.width ≡ 4 }
+    requires height { area.height ≡ 4 }
+    requires stored { IsStoredFrom corner (area.width + 7) (area.height + 7) }
     requires bits { 8 ≤ T.BITS }
-    requires within { AreWithinDepth 8 (samples_from T.num corner) 11 11 }
-    ensures painted { dst.new ≡ painted dst.old 4 4 (λ r c _. T.pixel
-        (single 8 (unsigned_abs col_frac) (unsigned_abs row_frac) (filter_of mode_x (unsigned_abs col_frac) 4) (filter_of mode_y (unsigned_abs row_frac) 4) (samples_from T.num corner.entry) r c)) }
-    ensures fits { InStorage dst.new }
+    requires within { AreWithinDepth 8 (samples_from T.num corner) (area.width + 7) (area.height + 7) }
+    ensures { samples.new ≡ paint stride area (λ r c _. T.pixel
+        (single 8 (unsigned_abs col_frac) (unsigned_abs row_frac) (filter_of mode_x (unsigned_abs col_frac) 4) (filter_of mode_y (unsigned_abs row_frac) 4) (samples_from T.num corner.entry) r c)) samples.old }
 {
     if row_frac == 0 {
         if col_frac == 0 {
-            put_copy(dst, corner, 4, 4);
+            put_4x4(samples, stride, area, corner);
         } else {
-            put_square_rows(dst, corner, mode_x, col_frac);
+            put_square_rows(samples, stride, area, corner, mode_x, col_frac);
         }
     } else if col_frac == 0 {
-        put_square_columns(dst, corner, mode_y, row_frac);
+        put_square_columns(samples, stride, area, corner, mode_y, row_frac);
     } else {
         let across = get_filter(mode_x, col_frac, 4);
         let down = get_filter(mode_y, row_frac, 4);
-        put_filtered(dst, corner, 4, 4, &across, &down, 8);
+        put_filtered(samples, stride, area, corner, &across, &down, 8);
     }
 }

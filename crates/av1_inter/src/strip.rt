@@ -1,7 +1,9 @@
-//! The strips of columns in which a block is interpolated.
+//! The strips of columns in which a block is interpolated, and blocks of 4x4 samples.
 
 ghost use Rattle.std.specs.Prelude.{◌≡◌, true, ◌≤◌, ◌<◌};
 ghost use Rattle.av1_inter.specs.Scaffolding.{IsStripWidth};
+
+use av1_frame::StoredArea;
 
 /// How many columns the next strip has, where so many are left. A strip of 32 is one only where `wide` is true.
 pub(crate) fn strip_width(left: usize, wide: bool) -> usize
@@ -28,4 +30,28 @@ pub(crate) fn is_one_strip(width: usize) -> bool
     ensures { result ≡ true → IsStripWidth width }
 {
     width == 4 || width == 8 || width == 16 || width == 32
+}
+
+/// Whether a rectangle has 4x4 samples.
+#[inline(always)]
+pub(crate) fn is_4x4(area: StoredArea) -> bool
+    ensures width { result ≡ true → area.width ≡ 4 }
+    ensures height { result ≡ true → area.height ≡ 4 }
+{
+    area.width == 4 && area.height == 4
+}
+
+/// Such a rectangle. The compiler knows the sides of what is returned.
+#[inline(always)]
+pub(crate) fn as_4x4(area: StoredArea) -> StoredArea
+    requires width { area.width ≡ 4 }
+    requires height { area.height ≡ 4 }
+    ensures { result ≡ area }
+{
+    StoredArea {
+        x: area.x,
+        y: area.y,
+        width: 4,
+        height: 4,
+    }
 }

@@ -1,6 +1,6 @@
 -- The samples of a left side that lie beside a block.
 use Rattle.std.proofs.Common.{ℕ, ◌+◌, ◌-◌, ◌/◌, ◌<◌, ◌≤◌, ◌≡◌, List, ◌++◌, length, get_or, take, drop, map, reverse, sum, arith, ap, ◌∙◌, sym, subst, refl, eqb, true, false}
-use Rattle.std.proofs.lemmas.List.{take-append-drop, reverse-append, take-map, drop-map, length-map, length-append, length-reverse, length-drop, get_or-reverse, get_or-drop, take_all}
+use Rattle.std.proofs.lemmas.List.{take-append-drop, reverse-append, take-map, drop-map, length-map, length-append, length-reverse, length-drop, get_or-reverse, get_or-drop}
 use Rattle.std.proofs.lemmas.List.Sums.{sum_by-append}
 use Rattle.std.proofs.lemmas.List.Sorted.{sum_by-IsPermutation, IsPermutation-reverse}
 use Rattle.std.proofs.Math.Seq.{take-append_seam}
@@ -50,11 +50,9 @@ module _ {X : Type 0} (num : X → ℕ) (left side : List X) (h : ℕ) (e : side
   pub mean_beside : mean (map num side) ≡ mean (take h (reverse (map num left)))
   mean_beside = sym (ap mean beside_reversed ∙ mean_reverse (map num side))
 
-  pub mean_both : (w : ℕ) (above : List X) → length side ≡ h → mean (map num (take h side) ++ map num (take w above)) ≡ mean (take h (reverse (map num left)) ++ take w (map num above))
-  mean_both w above m =
-      let t : take h side ≡ side = take_all h side (omega arith) in
-      ap (λ xs. mean (map num xs ++ map num (take w above))) t
-      ∙ sym (mean_reversed (map num side) (map num (take w above)))
+  pub mean_both : (w : ℕ) (above : List X) → mean (map num side ++ map num (take w above)) ≡ mean (take h (reverse (map num left)) ++ take w (map num above))
+  mean_both w above =
+      sym (mean_reversed (map num side) (map num (take w above)))
       ∙ ap (λ xs. mean (xs ++ map num (take w above))) (sym beside_reversed)
       ∙ ap (λ xs. mean (take h (reverse (map num left)) ++ xs)) (sym (take-map num w above))
 

@@ -1,5 +1,6 @@
 -- What each mode reads and predicts.
-use Rattle.std.proofs.Common.{ℕ, zero, suc, ◌*◌, ◌%◌, ◌≤◌, ◌≡◌, List, refl, true, false, ◌&&◌, eqb, leb, arith, ◌∙◌, sym, subst, ◌⊎◌, inl, inr, ℤ, pos, negsuc, ◌+ℤ◌, ◌*ℤ◌, ◌-ℤ◌, unsigned_abs}
+use Rattle.std.proofs.Common.{ℕ, zero, suc, ◌*◌, ◌%◌, ◌≤◌, ◌≡◌, List, refl, true, false, ◌&&◌, eqb, leb, arith, ◌∙◌, sym, ap, subst, ◌⊎◌, inl, inr, ℤ, pos, negsuc, ◌+ℤ◌, ◌*ℤ◌, ◌-ℤ◌, unsigned_abs}
+use Rattle.std.specs.Prelude.{if◌then◌else◌}
 use Rattle.std.proofs.lemmas.Bool.Decides.{nat_tests}
 use Rattle.std.proofs.lemmas.Int.{ints}
 use Rattle.av1_blocks.specs.declared.predict.PredictionMode.{PredictionMode}
@@ -158,6 +159,36 @@ module _ (mode : PredictionMode) (h : is_directional mode ≡ true) where
         | D203_PRED ↦ λ h. turned_fine 203 z refl (omega arith) (omega arith)
         | _ ↦ λ h a x y. (let f : false ≡ true = h in cc)
       ] h
+
+pub only_cfl : (mode : PredictionMode) → (mode ≡ UV_CFL_PRED → ⊥) → is_cfl mode ≡ true → ⊥
+only_cfl mode = elim mode as (λ m. (m ≡ UV_CFL_PRED → ⊥) → is_cfl m ≡ true → ⊥) [ UV_CFL_PRED ↦ λ x h. x refl | _ ↦ λ x h. (let f : false ≡ true = h in cc) ]
+
+-- a mode that takes no mean reads by its angle, if it has one
+module _ (mode : PredictionMode) (v : PredictionVariant) (p w h : ℕ) (d : mode ≡ DC_PRED → ⊥) (f : mode ≡ UV_CFL_PRED → ⊥) where
+  pub above_else : (if is_directional mode then along_above p w h else w) ≡ places_above mode v p w h
+  above_else =
+      elim mode as (λ m. (m ≡ DC_PRED → ⊥) → (m ≡ UV_CFL_PRED → ⊥) → (if is_directional m then along_above p w h else w) ≡ places_above m v p w h) [
+        | DC_PRED ↦ λ x y. absurd (x refl)
+        | UV_CFL_PRED ↦ λ x y. absurd (y refl)
+        | _ ↦ λ x y. refl
+      ] d f
+
+  pub left_else : (if is_directional mode then along_left p w h else h) ≡ places_left mode v p w h
+  left_else =
+      elim mode as (λ m. (m ≡ DC_PRED → ⊥) → (m ≡ UV_CFL_PRED → ⊥) → (if is_directional m then along_left p w h else h) ≡ places_left m v p w h) [
+        | DC_PRED ↦ λ x y. absurd (x refl)
+        | UV_CFL_PRED ↦ λ x y. absurd (y refl)
+        | _ ↦ λ x y. refl
+      ] d f
+
+-- only luma's mode weighs
+pub weighed_alike : (b : DirectionalBlock) (v : PredictionVariant) (mode : PredictionMode) (x z : ℤ) (ac : ℕ → ℕ → ℤ) (e : Edge) (r c : ℕ) → (is_cfl mode ≡ true → x ≡ z) → predicted b v mode x ac e r c ≡ predicted b v mode z ac e r c
+unfolding predicted
+weighed_alike b v mode x z ac e r c =
+    elim mode as (λ m. (is_cfl m ≡ true → x ≡ z) → predicted b v m x ac e r c ≡ predicted b v m z ac e r c) [
+      | UV_CFL_PRED ↦ λ h. ap (λ (y : ℤ). predicted b v UV_CFL_PRED y ac e r c) (h refl)
+      | _ ↦ λ h. refl
+    ]
 
 -- the modes that mix, and that of the nearest neighbour
 pub smoothly_predicted : (b : DirectionalBlock) (v : PredictionVariant) (mode : PredictionMode) (alpha : ℤ) (ac : ℕ → ℕ → ℤ) (e : Edge) (r c : ℕ)

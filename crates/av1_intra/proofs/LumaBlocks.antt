@@ -73,10 +73,10 @@ covered_small f x y (suc zero) (suc zero) h l e =
 covered_small f x y a b h l e = absurd (omega arith)
 
 -- the numbers of a row of a region
-pub row_numbers : {T : Type 0} (num : T → ℕ) (r : PlaneRegion T) (row : List T) (y c : ℕ) → row ≡ row_of r.plane_cfg.stride r.area y r.plane.now.samples → c < r.area.width → numbers num row c ≡ region_sample num r c y
+pub row_numbers : {T : Type 0} (num : T → ℕ) (r : PlaneRegion T) (row : List T) (y c : ℕ) → row ≡ row_of r.plane_cfg.stride r.area y r.samples.now → c < r.area.width → numbers num row c ≡ region_sample num r c y
 row_numbers num r row y c e h =
     let i = row_start r.plane_cfg.stride r.area y in
-    let s = r.plane.now.samples in
+    let s = r.samples.now in
     ap (λ t. numbers num t c) e ∙ ap (λ t. get_or t c 0) (sym (take-map num r.area.width (drop i s)) ∙ ap (take r.area.width) (sym (drop-map num i s))) ∙ (get_or-take r.area.width (drop i (map num s)) c 0 h ∙ get_or-drop i (map num s) c 0)
 
 -- ---- the mean
@@ -138,7 +138,7 @@ row_luma num l b top below r k i h m c e ft fb =
 -- the same at decimations that are known to be the block's
 pub row_luma_of : {T : Type 0} (num : T → ℕ) (l : PlaneRegion T) (b : ChromaBlock) (top below : List T) (r k i y u v : ℕ) → b.xdec ≡ u → b.ydec ≡ v
     → u ≤ 1 → v ≤ u → k < b.width → i ≡ r * b.width + k → y ≡ min (r * 2 ^ v % 2 ^ 64) b.last_row → r ≤ 128 → columns_read b ≤ l.area.width
-    → top ≡ row_of l.plane_cfg.stride l.area y l.plane.now.samples → below ≡ row_of l.plane_cfg.stride l.area (y + v) l.plane.now.samples
+    → top ≡ row_of l.plane_cfg.stride l.area y l.samples.now → below ≡ row_of l.plane_cfg.stride l.area (y + v) l.samples.now
     → covered (two_rows num top below) u v (min (k * 2 ^ u) b.last_column) 0 ≡ luma_at (region_sample num l) b (i / b.width) (i % b.width)
 row_luma_of num l b top below r k i y u v eu ev h m c e ey few wide et eb =
     let x : b.xdec ≤ 1 = subst (λ n. n ≤ 1) (sym eu) h in

@@ -18,16 +18,16 @@ rest_lies cfg a x y w h p q e f m n =
 
 -- its samples are those of the outer one
 pub rest_sample : {T : Type 0} (num : T → ℕ) (l s : PlaneRegion T) (x y w h p q : ℕ) → x + l.area.x < 2 ^ 63 → y + l.area.y < 2 ^ 63
-    → s.plane.now ≡ l.plane.now → s.area ≡ area_from l.plane_cfg l.area (Rectangle (to_z w64 x) (to_z w64 y) w h) → s.plane_cfg ≡ l.plane_cfg
+    → s.samples.now ≡ l.samples.now → s.area ≡ area_from l.plane_cfg l.area (Rectangle (to_z w64 x) (to_z w64 y) w h) → s.plane_cfg ≡ l.plane_cfg
     → region_sample num s p q ≡ region_sample num l (x + p) (y + q)
 rest_sample num l s x y w h p q m n e f g =
     let a = l.area in
-    let M = map num l.plane.now.samples in
+    let M = map num l.samples.now in
     let d = l.plane_cfg.stride in
     let i : unsigned_abs (pos a.x +ℤ to_z w64 x) ≡ a.x + x = omega (arith, ints) in
     let j : unsigned_abs (pos a.y +ℤ to_z w64 y) ≡ a.y + y = omega (arith, ints) in
     let k : (unsigned_abs (pos a.y +ℤ to_z w64 y) + q) * d ≡ (a.y + (y + q)) * d = ap (λ v. v * d) (omega (arith, j)) in
-    ap (λ v. get_or (map num v.samples) (row_start s.plane_cfg.stride s.area q + p) 0) e
+    ap (λ v. get_or (map num v) (row_start s.plane_cfg.stride s.area q + p) 0) e
     ∙ ap (λ v. get_or M (row_start v.stride s.area q + p) 0) g
     ∙ ap (λ v. get_or M (row_start d v q + p) 0) f
     ∙ ap (λ v. get_or M v 0) (omega (arith, i, k))

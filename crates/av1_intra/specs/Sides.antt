@@ -1,5 +1,5 @@
 -- The samples round a block, as numbers.
-use Rattle.std.specs.Prelude.{◌≡◌, ℕ, ◌+◌, ◌-◌, List, map, slice_index}
+use Rattle.std.specs.Prelude.{ℕ, ◌+◌, ◌-◌, List, map, slice_index}
 
 -- a side of a block: the number of the sample at each place
 abbrev pub Side : Type 0

@@ -19,10 +19,10 @@ use crate::neighbours::IntraEdgeFilterParameters;
 use crate::prepared_side::{PreparedSide, prepare_above, prepare_left};
 use av1_frame::{Pixel, PlaneRegionMut, StoredArea};
 
-/// A block that is predicted along a direction.
+/// A block that is predicted: along a direction, or by a mode that takes none.
 #[derive(Clone, Copy)]
 pub struct DirectionalBlock {
-    /// The angle, in degrees.
+    /// The angle, in degrees; not read by a mode without a direction.
     pub p_angle: usize,
     /// How many columns it has.
     pub width: usize,
@@ -187,6 +187,30 @@ fn visible_from(visible: usize, first: isize) -> usize
     (visible as isize - first).max(0) as usize
 }
 
+/// The block of these sides at the first sample of a region, along an angle.
+pub(crate) fn block_in<T: Pixel>(
+    region: &PlaneRegionMut<'_, T>,
+    p_angle: usize,
+    width: usize,
+    height: usize,
+    bit_depth: usize,
+    ief_params: Option<IntraEdgeFilterParameters>,
+) -> DirectionalBlock
+    requires fits { InStorage region.now }
+    ensures { result ≡ block_at region.now p_angle width height bit_depth ief_params }
+{
+    let rect = *region.rect();
+    DirectionalBlock {
+        p_angle,
+        width,
+        height,
+        bit_depth,
+        smooth_filter: smooth_choice(ief_params),
+        visible_columns: visible_from(region.plane_cfg.width, rect.x),
+        visible_rows: visible_from(region.plane_cfg.height, rect.y),
+    }
+}
+
 /// Predicts the first `height` rows and `width` columns of `output` along the angle `p_angle`, in degrees: one that a directional
 /// mode and an angle step from -3 to 3 give, but for 90 and 180, which copy a side, or another one that `dr_intra_derivative` knows.
 ///
@@ -227,15 +251,7 @@ pub fn pred_directional<T: Pixel>(
         (λ i j _. T.pixel (directional (block_at output.old p_angle width height bit_depth ief_params) (numbers T.num top_left.now 0) (map T.num above.now) (reverse (map T.num left.now)) i j)) }
     ensures fits { InStorage output.new }
 {
-    let block = DirectionalBlock {
-        p_angle,
-        width,
-        height,
-        bit_depth,
-        smooth_filter: smooth_choice(ief_params),
-        visible_columns: visible_from(output.plane_cfg.width, output.rect().x),
-        visible_rows: visible_from(output.plane_cfg.height, output.rect().y),
-    };
+    let block = block_in(output, p_angle, width, height, bit_depth, ief_params);
     let stride = output.plane_cfg.stride;
     let area = output.corner(width, height);
     pred_directional_to(

@@ -9,7 +9,8 @@
 //! - So do the predictors of one kind, each by its own definition; they stand in the module `rust`.
 //! - Below a region the same is said of a slice: `pred_v_to`, `pred_h_to`, `pred_paeth_to`, `pred_smooth_to`, `pred_smooth_v_to`,
 //!   `pred_smooth_h_to`, `pred_directional_to` and `pred_cfl_to` predict the samples of a rectangle, whose rows stand a stride apart,
-//!   `samples.new ≡ paint stride area f samples.old`. DC prediction is `fill_block` by `mean_of` two sides, or by `half_sample` without.
+//!   `samples.new ≡ paint stride area f samples.old`. `dispatch_predict_intra_to` does so by the mode, from the sides of a block, and
+//!   `dispatch_predict_intra` lends it the samples of its region. DC prediction is `fill_block` by `mean_of` two sides, or by `half_sample` without.
 //! - `leaf_luma_ac` and `pred_cfl_ac` put into a slice, row by row, how far the luma over each sample of chroma is from its mean, and
 //!   leave the rest of the slice (`specs/ChromaFromLuma.antt`).
 //! - `filter_edge` and `upsample_edge` prepare a side in a slice, entry by entry, and leave the rest of the slice.
@@ -25,6 +26,7 @@
 #![tactic(auto)]
 
 mod angle;
+mod by_mode;
 mod chroma_from_luma;
 mod dc;
 mod directional;
@@ -39,6 +41,7 @@ mod prepared_side;
 mod rows;
 pub mod rust;
 mod samples;
+mod side_places;
 mod smooth;
 mod straight;
 #[cfg(test)]
@@ -47,6 +50,7 @@ mod tile_luma;
 mod upsampling;
 mod variant;
 
+pub use by_mode::dispatch_predict_intra_to;
 pub use chroma_from_luma::pred_cfl_to;
 pub use dc::{half_sample, mean_of, sum_of};
 pub use directional::{DirectionalBlock, pred_directional_to};
@@ -57,8 +61,9 @@ pub use laws::{
 pub use luma::{LumaLeaf, leaf_luma_ac};
 pub use neighbours::IntraEdgeFilterParameters;
 pub use paeth::pred_paeth_to;
-pub use predict::{dispatch_predict_intra, predict_intra};
+pub use predict::{angle_or_alpha, dispatch_predict_intra, predict_intra};
 pub use rows::fill_block;
+pub use side_places::{places_above, places_left};
 pub use smooth::{pred_smooth_h_to, pred_smooth_to, pred_smooth_v_to};
 pub use straight::{pred_h_to, pred_v_to};
 pub use tile_luma::luma_ac;

@@ -9,7 +9,10 @@ use crate::rust::{
     pred_directional, pred_h, pred_paeth, pred_smooth, pred_smooth_h, pred_smooth_v, pred_v,
     select_ief_strength, select_ief_upsample, upsample_edge,
 };
-use crate::{IntraEdgeFilterParameters, pred_h_to};
+use crate::{
+    DirectionalBlock, IntraEdgeFilterParameters, PredictionVariant, dispatch_predict_intra_to,
+    pred_h_to,
+};
 use av1_blocks::{PredictionMode, RefType};
 use av1_frame::{Area, CodedBlockInfo, Plane, StoredArea};
 use std::test::Fail;
@@ -114,6 +117,45 @@ fn a_rectangle_of_a_slice_is_predicted(rt: HostRuntime) {
     assert!(rt; samples[6..].starts_with(&row), "its first row");
     assert!(rt; samples[12..].starts_with(&last), "its last row");
     assert!(rt; samples[18..].starts_with(&[7; 6]), "below it");
+}
+
+#[test]
+fn a_rectangle_of_a_slice_is_predicted_by_its_mode(rt: HostRuntime) {
+    let mut samples = [7u8; 30];
+    let area = StoredArea {
+        x: 1,
+        y: 0,
+        width: 4,
+        height: 4,
+    };
+    let block = DirectionalBlock {
+        p_angle: 0,
+        width: 4,
+        height: 4,
+        bit_depth: 8,
+        smooth_filter: None,
+        visible_columns: 4,
+        visible_rows: 4,
+    };
+    let mode = PredictionMode::DC_PRED;
+    let variant = PredictionVariant::LEFT;
+    dispatch_predict_intra_to(
+        mode,
+        variant,
+        &mut samples,
+        6,
+        area,
+        block,
+        &LEFT,
+        32,
+        &ABOVE,
+        &[],
+        0,
+    );
+    let row = [7, 30, 30, 30, 30, 7];
+    assert!(rt; samples.starts_with(&row), "its first row");
+    assert!(rt; samples[18..].starts_with(&row), "its last row");
+    assert!(rt; samples[24..].starts_with(&[7; 6]), "below it");
 }
 
 #[test]

@@ -18,7 +18,7 @@ pub enum PredictionVariant {
 
 impl PredictionVariant {
     /// The variant of a block at column `x` of row `y` of the tile.
-    pub(crate) fn new(x: usize, y: usize) -> PredictionVariant
+    pub fn new(x: usize, y: usize) -> PredictionVariant
         ensures { result ≡ variant_at x y }
     {
         match (x, y) {

@@ -12,7 +12,7 @@ use Rattle.av1_dct.specs.Word.{column}
 use Rattle.av1_itx.specs.declared.kinds.TxType1D.{TxType1D}
 use Rattle.av1_itx.specs.declared.kinds.TxType1D.TheVariants.{DCT}
 use Rattle.av1_itx.specs.LaneGroups.{is_cosine}
-use Rattle.av1_itx.specs.Networks.{network, network_with}
+use Rattle.av1_itx.specs.Networks.{HasNetwork, network, network_with}
 use Rattle.av1_itx.proofs.Lines.{place_in}
 use Rattle.av1_lists.proofs.Lists.{by_index-all, by_index-same}
 
@@ -86,13 +86,17 @@ lanes_kept w c d h F buf old inv le lt r hr = let i = inv r d hr lt in grind (ar
 cosine_kind : (kind : TxType1D) → is_cosine kind ≡ true → kind ≡ DCT
 cosine_kind kind = elim kind as (λ t. is_cosine t ≡ true → t ≡ DCT) [ DCT ↦ (λ h. refl) | _ ↦ (λ h. cc) ]
 
-dct_is : (range k : ℕ) (x : List ℤ) → cosine range k x ≡ network DCT range k x
+pub dct_is : (range k : ℕ) (x : List ℤ) → cosine range k x ≡ network DCT range k x
 unfolding network_with
 dct_is range k x = refl
 
 -- a column of cosine transforms is the column of the block
 pub cosine_value : (kind : TxType1D) (range k r : ℕ) (xs : List ℤ) (z : ℤ) → is_cosine kind ≡ true → z ≡ at (cosine range k xs) r → z ≡ at (network kind range k xs) r
 cosine_value kind range k r xs z hk is = is ∙ ap (λ zs. at zs r) (dct_is range k xs ∙ ap (λ t. network t range k xs) (sym (cosine_kind kind hk)))
+
+-- a cosine transform that there is has one of five lengths
+pub cosine_rounds : (kind : TxType1D) (k : ℕ) → is_cosine kind ≡ true → HasNetwork kind k → (1 ≤ k) × (k ≤ 5)
+cosine_rounds kind k told has = subst (λ t. HasNetwork t k) (cosine_kind kind told) has
 
 -- a group that is one of the w / m has its columns, and all of them have all
 pub group_room : (m g w : ℕ) → m * (w / m) ≡ w → g < w / m → m * g + m ≤ w

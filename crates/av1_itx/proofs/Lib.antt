@@ -15,6 +15,7 @@ pub mod Passes
 pub mod ScaledRows
 pub mod Single
 pub mod Eights
+pub mod Copies
 pub mod Sizes
 pub mod Shifts
 pub mod NoWrap

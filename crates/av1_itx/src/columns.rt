@@ -3,7 +3,6 @@
 ghost use Rattle.std.specs.Prelude.{◌≡◌, ℕ, ◌+◌, ◌*◌, ◌^◌, ◌<◌, ◌≤◌, ◌==◌, if◌then◌else◌, length};
 ghost use Rattle.av1_blocks.specs.Transforms.{tx_width, tx_height};
 ghost use Rattle.av1_dct.specs.Arithmetic.{at, clamp_value, FitsBits};
-ghost use Rattle.av1_lists.specs.Counts.{raised};
 ghost use Rattle.av1_frame.specs.Arithmetic.{round_shift};
 ghost use Rattle.av1_itx.specs.Kinds.{column_kind};
 ghost use Rattle.av1_itx.specs.LaneGroups.{is_cosine, lane_groups};
@@ -11,7 +10,7 @@ ghost use Rattle.av1_itx.specs.Networks.{HasNetwork};
 ghost use Rattle.av1_itx.specs.Residue.{column_network, column_power, row_shift};
 
 use crate::kinds::{TxType1D, get_1d_tx_types};
-use crate::lanes::{LANES, Lanes};
+use crate::lanes::{LANES, LaneRoom};
 use av1_blocks::{TxSize, TxType};
 use av1_dct::clamp_value;
 use av1_frame::round_shift;
@@ -62,9 +61,9 @@ fn is_cosine(kind: TxType1D) -> bool
 
 /// Each column of a block, transformed in place: `buffer` has the block row by row. Where the columns take the cosine transform and
 /// there are eight or more, the groups of eight are counted.
-pub(crate) fn column_pass(
+pub(crate) fn column_pass<R: LaneRoom>(
     buffer: &mut [i32],
-    lanes: &mut Lanes,
+    lanes: &mut R,
     tx_size: TxSize,
     tx_type: TxType,
     bd: usize,
@@ -74,7 +73,7 @@ pub(crate) fn column_pass(
     requires buffer_len { length buffer.old ≡ tx_height tx_size * tx_width tx_size }
     requires fit { (r c : ℕ) → r < tx_height tx_size → c < tx_width tx_size → FitsBits 24 (at buffer.old (r * tx_width tx_size + c)) }
     ensures value { (r c : ℕ) → r < tx_height tx_size → c < tx_width tx_size → at buffer.new (r * tx_width tx_size + c) ≡ at (column_network tx_size tx_type bd (λ y. at buffer.old (y * tx_width tx_size + c))) r }
-    ensures counts { lanes.new.count.groups ≡ raised lanes.old.count.groups (lane_groups tx_size tx_type) }
+    ensures counts { R.tally lanes.new ≡ R.raised_by (R.tally lanes.old) (lane_groups tx_size tx_type) }
 {
     let (w, h) = (tx_size.width(), tx_size.height());
     let k = tx_size.height_log2() - 1;
@@ -82,8 +81,6 @@ pub(crate) fn column_pass(
     let (kind, _) = get_1d_tx_types(tx_type);
     round_values(buffer, row_shift_of(tx_size), range);
     if w < LANES || !is_cosine(kind) {
-        // This tells the proof that the count, which stays, is a u64.
-        let _count = lanes.groups();
         lanes.run(buffer, kind, w, h, k, range);
         return;
     }

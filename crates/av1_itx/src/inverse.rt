@@ -17,7 +17,8 @@ ghost use Rattle.av1_itx.specs.Networks.{HasNetwork};
 ghost use Rattle.av1_itx.specs.Residue.{column_power, column_shift, residue, row_power};
 
 use crate::columns::column_pass;
-use crate::lanes::Lanes;
+use crate::lanes::{LaneRoom, Lanes};
+use crate::room::TxRoom;
 use crate::rows::row_pass;
 use av1_blocks::{OutOfMemory, TxSize, TxType};
 use av1_frame::{Pixel, PlaneRegionMut, StoredArea, clip, round_shift};
@@ -123,10 +124,10 @@ fn column_shift_of(tx_type: TxType) -> usize
 }
 
 // The inverse transform over a buffer of just the block's size.
-fn add_block<T: Pixel>(
+fn add_block<T: Pixel, R: LaneRoom>(
     buffer: &mut [i32],
     scaled: &mut [i32],
-    lanes: &mut Lanes,
+    lanes: &mut R,
     input: &[T::Coeff],
     samples: &mut [T],
     stride: usize,
@@ -147,7 +148,7 @@ fn add_block<T: Pixel>(
     requires width { area.width ≡ tx_width tx_size }
     requires height { area.height ≡ tx_height tx_size }
     ensures painted { samples.new ≡ paint stride area (λ r c v. T.pixel (clip bd (pos (T.num v) +ℤ residue tx_size tx_type bd (map T.Coeff.val input.now) r c))) samples.old }
-    ensures counts { lanes.new.count.groups ≡ raised lanes.old.count.groups (lane_groups tx_size tx_type) }
+    ensures counts { R.tally lanes.new ≡ R.raised_by (R.tally lanes.old) (lane_groups tx_size tx_type) }
 {
     row_pass(input, scaled, lanes, buffer, tx_size, tx_type, bd);
     column_pass(buffer, lanes, tx_size, tx_type, bd);
@@ -156,10 +157,10 @@ fn add_block<T: Pixel>(
 }
 
 // The same over a whole buffer.
-fn add_over<T: Pixel>(
+fn add_over<T: Pixel, R: LaneRoom>(
     buffer: &mut [i32],
     scaled: &mut [i32],
-    lanes: &mut Lanes,
+    lanes: &mut R,
     input: &[T::Coeff],
     samples: &mut [T],
     stride: usize,
@@ -180,7 +181,7 @@ fn add_over<T: Pixel>(
     requires width { area.width ≡ tx_width tx_size }
     requires height { area.height ≡ tx_height tx_size }
     ensures painted { samples.new ≡ paint stride area (λ r c v. T.pixel (clip bd (pos (T.num v) +ℤ residue tx_size tx_type bd (map T.Coeff.val input.now) r c))) samples.old }
-    ensures counts { lanes.new.count.groups ≡ raised lanes.old.count.groups (lane_groups tx_size tx_type) }
+    ensures counts { R.tally lanes.new ≡ R.raised_by (R.tally lanes.old) (lane_groups tx_size tx_type) }
 {
     let places = tx_size.height() * tx_size.width();
     let coefficients = tx_size.width().min(32) * tx_size.height().min(32);
@@ -229,6 +230,42 @@ pub fn inverse_transform_add_to<T: Pixel>(
         scratch.buffer.as_mut_slice(),
         scratch.scaled.as_mut_slice(),
         &mut scratch.lanes,
+        input,
+        samples,
+        stride,
+        area,
+        tx_size,
+        tx_type,
+        bd,
+    );
+}
+
+/// The same over room of any owner, as of C. Nothing is counted.
+pub fn inverse_transform_add_in<T: Pixel>(
+    room: &mut TxRoom,
+    input: &[T::Coeff],
+    samples: &mut [T],
+    stride: usize,
+    area: StoredArea,
+    tx_size: TxSize,
+    tx_type: TxType,
+    bd: usize,
+)
+    requires depths { IsDepth bd }
+    requires depth { bd ≤ T.BITS }
+    requires valid { IsTrue (valid_av1_transform tx_size tx_type) }
+    requires lossless { tx_type ≡ WHT_WHT → tx_size ≡ TX_4X4 }
+    requires input_len { coded_area tx_size ≤ length input.now }
+    requires input_fits { (i : ℕ) → i < coded_area tx_size → FitsBits (bd + 8) (at (map T.Coeff.val input.now) i) }
+    requires rows { AreRows stride area (length samples.old) }
+    requires width { area.width ≡ tx_width tx_size }
+    requires height { area.height ≡ tx_height tx_size }
+    ensures painted { samples.new ≡ paint stride area (λ r c v. T.pixel (clip bd (pos (T.num v) +ℤ residue tx_size tx_type bd (map T.Coeff.val input.now) r c))) samples.old }
+{
+    add_over(
+        &mut room.buffer,
+        &mut room.scaled,
+        &mut room.lanes,
         input,
         samples,
         stride,

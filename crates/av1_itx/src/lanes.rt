@@ -1,4 +1,6 @@
 //! Room for rows and columns that are transformed side by side.
+//!
+//! What the passes ask of such room is `LaneRoom`. `Lanes` is on the heap and counts; `LaneLines` is a plain struct that anyone can own.
 
 ghost use Rattle.std.specs.Prelude.{◌≡◌, ℕ, ◌+◌, ◌*◌, ◌/◌, ◌^◌, ◌<◌, ◌≤◌, IfOk, length, vec_len};
 ghost use Rattle.av1_blocks.specs.Transforms.{IsTransformSide, tx_width, tx_height, coded, coded_area};
@@ -21,6 +23,68 @@ use std::simd::prelude::*;
 
 /// How many columns are transformed at a time.
 pub(crate) const LANES: usize = 8;
+
+/// Room in which rows and columns are transformed side by side: eight at a time, or four where there are no more.
+pub(crate) trait LaneRoom {
+    // how many groups of eight columns it has counted, and what that becomes by so many more
+    ghost tally: { Self → ℕ };
+
+    ghost raised_by: { ℕ → ℕ → ℕ };
+
+    /// Each row that has coefficients, transformed: `buffer` has these rows one after the other. Nothing is counted.
+    fn run_rows(
+        &mut self,
+        scaled: &[i32],
+        buffer: &mut [i32],
+        tx_size: TxSize,
+        tx_type: TxType,
+        bd: usize,
+    )
+        requires depth_in { (8 ≤ bd) × (bd ≤ 12) }
+        requires scaled_len { length scaled.now ≡ coded_area tx_size }
+        requires scaled_fit { AllFit (row_range bd) scaled.now }
+        requires has { HasNetwork (row_kind tx_type) (row_power tx_size) }
+        requires buffer_len { length buffer.old ≡ coded (tx_height tx_size) * tx_width tx_size }
+        ensures value { (r c : ℕ) → r < coded (tx_height tx_size) → c < tx_width tx_size → at buffer.new (r * tx_width tx_size + c) ≡ at (network (row_kind tx_type) (row_range bd) (row_power tx_size) (by_index (tx_width tx_size) (scaled_input tx_size scaled.now r))) c }
+        ensures counts { tally self.new ≡ tally self.old };
+
+    /// Each column of a buffer of w columns and h rows, transformed in place by the cosine transform, eight columns at a time. Here h
+    /// is 2^(k+1).
+    fn run_cosine(&mut self, buffer: &mut [i32], w: usize, h: usize, k: usize, range: usize)
+        requires width { 8 * (w / 8) ≡ w }
+        requires few { w ≤ 64 }
+        requires height { IsTransformSide h }
+        requires power { h ≡ 2 * 2 ^ k }
+        requires few_rows { h ≤ 64 }
+        requires rounds { (1 ≤ k) × (k ≤ 5) }
+        requires buffer_len { length buffer.old ≡ h * w }
+        requires range_in { (8 ≤ range) × (range ≤ 20) }
+        requires fit { (r c : ℕ) → r < h → c < w → FitsBits range (at buffer.old (r * w + c)) }
+        ensures value { (r c : ℕ) → r < h → c < w → at buffer.new (r * w + c) ≡ at (cosine range k (by_index h (λ y. at buffer.old (y * w + c)))) r }
+        ensures counts { tally self.new ≡ raised_by (tally self.old) (w / 8) };
+
+    /// The same by the transform of any kind, four columns at a time where there are but four. Nothing is counted.
+    fn run(
+        &mut self,
+        buffer: &mut [i32],
+        kind: TxType1D,
+        w: usize,
+        h: usize,
+        k: usize,
+        range: usize,
+    )
+        requires width { 4 * (w / 4) ≡ w }
+        requires eights { 8 ≤ w → 8 * (w / 8) ≡ w }
+        requires few { w ≤ 64 }
+        requires height { h ≤ 64 }
+        requires power { h ≡ 2 * 2 ^ k }
+        requires has { HasNetwork kind k }
+        requires buffer_len { length buffer.old ≡ h * w }
+        requires range_in { (8 ≤ range) × (range ≤ 20) }
+        requires fit { (r c : ℕ) → r < h → c < w → FitsBits range (at buffer.old (r * w + c)) }
+        ensures value { (r c : ℕ) → r < h → c < w → at buffer.new (r * w + c) ≡ at (network kind range k (by_index h (λ y. at buffer.old (y * w + c)))) r }
+        ensures counts { tally self.new ≡ raised_by (tally self.old) 0 };
+}
 
 /// Room for eight columns at a time, for four where a block has no more, and the count of the groups of eight cosine transforms.
 #[derive(Drop)]
@@ -67,23 +131,27 @@ impl Lanes {
         })
     }
 
-    /// Each row that has coefficients, transformed: `buffer` has these rows one after the other. Nothing is counted.
-    pub(crate) fn run_rows(
+    /// How many groups of eight columns took the cosine transform here.
+    pub(crate) fn groups(&self) -> u64
+        ensures { result ≡ self.now.count.groups }
+    {
+        self.count.groups()
+    }
+}
+
+impl LaneRoom for Lanes {
+    ghost tally = { λ lanes. lanes.count.groups };
+
+    ghost raised_by = { raised };
+
+    fn run_rows(
         &mut self,
         scaled: &[i32],
         buffer: &mut [i32],
         tx_size: TxSize,
         tx_type: TxType,
         bd: usize,
-    )
-        requires depth_in { (8 ≤ bd) × (bd ≤ 12) }
-        requires scaled_len { length scaled.now ≡ coded_area tx_size }
-        requires scaled_fit { AllFit (row_range bd) scaled.now }
-        requires has { HasNetwork (row_kind tx_type) (row_power tx_size) }
-        requires buffer_len { length buffer.old ≡ coded (tx_height tx_size) * tx_width tx_size }
-        ensures value { (r c : ℕ) → r < coded (tx_height tx_size) → c < tx_width tx_size → at buffer.new (r * tx_width tx_size + c) ≡ at (network (row_kind tx_type) (row_range bd) (row_power tx_size) (by_index (tx_width tx_size) (scaled_input tx_size scaled.now r))) c }
-        ensures counts { self.new.count.groups ≡ self.old.count.groups }
-    {
+    ) {
         // This tells the proof that the count, which stays, is a u64.
         let _count = self.groups();
         if tx_size.height() < LANES {
@@ -115,33 +183,7 @@ impl Lanes {
         );
     }
 
-    /// How many groups of eight columns took the cosine transform here.
-    pub(crate) fn groups(&self) -> u64
-        ensures { result ≡ self.now.count.groups }
-    {
-        self.count.groups()
-    }
-
-    /// Each column of a buffer of w columns and h rows, transformed in place by the cosine transform, eight columns at a time. Here h
-    /// is 2^(k+1).
-    pub(crate) fn run_cosine(
-        &mut self,
-        buffer: &mut [i32],
-        w: usize,
-        h: usize,
-        k: usize,
-        range: usize,
-    )
-        requires width { 8 * (w / 8) ≡ w }
-        requires few { w ≤ 64 }
-        requires height { IsTransformSide h }
-        requires power { h ≡ 2 * 2 ^ k }
-        requires buffer_len { length buffer.old ≡ h * w }
-        requires range_in { (8 ≤ range) × (range ≤ 20) }
-        requires fit { (r c : ℕ) → r < h → c < w → FitsBits range (at buffer.old (r * w + c)) }
-        ensures value { (r c : ℕ) → r < h → c < w → at buffer.new (r * w + c) ≡ at (cosine range k (by_index h (λ y. at buffer.old (y * w + c)))) r }
-        ensures counts { self.new.count.groups ≡ raised self.old.count.groups (w / 8) }
-    {
+    fn run_cosine(&mut self, buffer: &mut [i32], w: usize, h: usize, k: usize, range: usize) {
         run_groups(
             buffer,
             self.line.as_mut_slice(),
@@ -155,8 +197,7 @@ impl Lanes {
         );
     }
 
-    /// The same by the transform of any kind, four columns at a time where there are but four. Nothing is counted.
-    pub(crate) fn run(
+    fn run(
         &mut self,
         buffer: &mut [i32],
         kind: TxType1D,
@@ -164,19 +205,9 @@ impl Lanes {
         h: usize,
         k: usize,
         range: usize,
-    )
-        requires width { 4 * (w / 4) ≡ w }
-        requires eights { 8 ≤ w → 8 * (w / 8) ≡ w }
-        requires few { w ≤ 64 }
-        requires height { h ≤ 64 }
-        requires power { h ≡ 2 * 2 ^ k }
-        requires has { HasNetwork kind k }
-        requires buffer_len { length buffer.old ≡ h * w }
-        requires range_in { (8 ≤ range) × (range ≤ 20) }
-        requires fit { (r c : ℕ) → r < h → c < w → FitsBits range (at buffer.old (r * w + c)) }
-        ensures value { (r c : ℕ) → r < h → c < w → at buffer.new (r * w + c) ≡ at (network kind range k (by_index h (λ y. at buffer.old (y * w + c)))) r }
-        ensures counts { self.new.count.groups ≡ self.old.count.groups }
-    {
+    ) {
+        // So does this.
+        let _groups = self.groups();
         if w < LANES {
             let (line, work) = (self.line_of_4.as_mut_slice(), self.work_of_4.as_mut_slice());
             run_words(

@@ -6,8 +6,9 @@
 //!
 //! - `inverse_transform_add_to` turns each sample of a rectangle of a slice into itself plus `residue` of `specs/Residue.antt`,
 //!   clipped to the depth, and leaves all other samples as they were; `inverse_transform_add_with` does so in a region. Both run over
-//!   a `TxScratch` that is made once, allocate nothing and always succeed. `inverse_transform_add` makes its own scratch; where memory
-//!   is refused it changes nothing.
+//!   a `TxScratch` that is made once, allocate nothing and always succeed. `inverse_transform_add_in` does the former over a `TxRoom`, a
+//!   plain struct of arrays that C may own, too. `inverse_transform_add` makes its own scratch; where memory is refused it changes
+//!   nothing.
 //! - Columns that take the cosine transform go through `cosine_lanes` eight at a time, where there are eight or more. A scratch counts
 //!   these groups: `TxScratch::lane_groups`, which each call raises by `lane_groups` of `specs/LaneGroups.antt`.
 //! - `av1_iadst4`, `av1_iflipadst16`, `av1_iidentity32`, `av1_iwht4` and their like give the definitions of `specs/Adst.antt`,
@@ -29,9 +30,11 @@ mod inverse;
 mod kinds;
 mod lane_columns;
 mod lane_rows;
+mod lane_words;
 mod lanes;
 mod laws;
 mod networks;
+mod room;
 mod rows;
 mod shift;
 #[cfg(test)]
@@ -43,12 +46,14 @@ pub use adst::{
 };
 pub use identity::{av1_iidentity4, av1_iidentity8, av1_iidentity16, av1_iidentity32};
 pub use inverse::{
-    TxScratch, inverse_transform_add, inverse_transform_add_to, inverse_transform_add_with,
+    TxScratch, inverse_transform_add, inverse_transform_add_in, inverse_transform_add_to,
+    inverse_transform_add_with,
 };
 pub use kinds::{TxType1D, get_1d_tx_types};
 pub use laws::{
     columns_never_wrap, flipped_is_reversed, networks_never_wrap, networks_of_zeros,
     residue_of_zeros, valid_types_are_those_that_run, walsh_loses_nothing,
 };
+pub use room::TxRoom;
 pub use shift::av1_round_shift_array;
 pub use walsh::av1_iwht4;

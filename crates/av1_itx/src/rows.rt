@@ -9,7 +9,7 @@ ghost use Rattle.av1_itx.specs.Kinds.{row_kind};
 ghost use Rattle.av1_itx.specs.Networks.{HasNetwork};
 ghost use Rattle.av1_itx.specs.Residue.{is_lossless, is_two_to_one, row_power, row_range, row_value, transformed_row};
 
-use crate::lanes::Lanes;
+use crate::lanes::LaneRoom;
 use av1_blocks::{INV_SQRT2, SQRT2_BITS, TxSize, TxType};
 use av1_dct::clamp_value;
 use av1_frame::{Coefficient, round_shift};
@@ -86,10 +86,10 @@ pub(crate) fn clear(line: &mut [i32])
 
 /// Each row of a block, transformed: `buffer` has the block row by row. The rows from 32 on are zeros. `scaled` is room for the
 /// coefficients.
-pub(crate) fn row_pass<C: Coefficient>(
+pub(crate) fn row_pass<C: Coefficient, R: LaneRoom>(
     input: &[C],
     scaled: &mut [i32],
-    lanes: &mut Lanes,
+    lanes: &mut R,
     buffer: &mut [i32],
     tx_size: TxSize,
     tx_type: TxType,
@@ -102,7 +102,7 @@ pub(crate) fn row_pass<C: Coefficient>(
     requires scaled_len { length scaled.old ≡ coded_area tx_size }
     requires buffer_len { length buffer.old ≡ tx_height tx_size * tx_width tx_size }
     ensures value { (r c : ℕ) → r < tx_height tx_size → c < tx_width tx_size → at buffer.new (r * tx_width tx_size + c) ≡ at (transformed_row tx_size tx_type bd (map C.val input.now) r) c }
-    ensures counts { lanes.new.count.groups ≡ lanes.old.count.groups }
+    ensures counts { R.tally lanes.new ≡ R.tally lanes.old }
 {
     let rows = tx_size.height().min(32);
     let w = tx_size.width();

@@ -1,17 +1,18 @@
 //! What rav1e's own transforms answer.
 
-ghost use Rattle.std.specs.Prelude.{◌≤◌};
+ghost use Rattle.std.specs.Prelude.{◌≡◌, ◌≤◌, length};
 ghost use Rattle.std.specs.List.{All};
 ghost use Rattle.av1_dct.specs.Arithmetic.{FitsBits};
 
 use crate::{
-    TxScratch, TxType1D, av1_iadst4, av1_iadst8, av1_iadst16, av1_iflipadst4, av1_iflipadst8,
-    av1_iflipadst16, av1_iidentity4, av1_iidentity8, av1_iidentity16, av1_iidentity32, av1_iwht4,
-    av1_round_shift_array, get_1d_tx_types, inverse_transform_add, inverse_transform_add_with,
+    TxRoom, TxScratch, TxType1D, av1_iadst4, av1_iadst8, av1_iadst16, av1_iflipadst4,
+    av1_iflipadst8, av1_iflipadst16, av1_iidentity4, av1_iidentity8, av1_iidentity16,
+    av1_iidentity32, av1_iwht4, av1_round_shift_array, get_1d_tx_types, inverse_transform_add,
+    inverse_transform_add_in, inverse_transform_add_with,
 };
 use av1_blocks::{TxSize, TxType};
 use av1_dct::clamp_value;
-use av1_frame::{Area, Plane};
+use av1_frame::{Area, Plane, StoredArea};
 use std::test::Fail;
 
 // The inputs of a test fit already, so this changes none of them. It tells the proof that they fit.
@@ -23,6 +24,28 @@ fn clamp_all(values: &mut [i32], bits: usize)
         values[i] = clamp_value(values[i], bits);
     }
 }
+
+// Five coefficients of a block of 16x16, each of which fits.
+fn write_coefficients(input: &mut [i32])
+    requires { length input.old ≡ 256 }
+    ensures { All (FitsBits 18) input.new }
+{
+    input[0] = 3000;
+    input[1] = -2000;
+    input[16] = 1500;
+    input[35] = 777;
+    input[255] = -4000;
+    clamp_all(input, 18);
+}
+
+// The first row that they make of samples of 512 at 10 bits, and the last.
+const FIRST_OF_16: [u16; 16] = [
+    541, 541, 532, 532, 517, 520, 503, 510, 494, 505, 494, 505, 499, 508, 506, 509,
+];
+
+const LAST_OF_16: [u16; 16] = [
+    563, 562, 568, 564, 575, 566, 578, 564, 573, 556, 561, 544, 546, 533, 534, 529,
+];
 
 #[test]
 fn sine_transforms_of_4_values(rt: HostRuntime) {
@@ -220,12 +243,7 @@ fn a_type_names_columns_before_rows(rt: HostRuntime) {
 fn groups_of_eight_columns_answer_as_rav1e(rt: HostRuntime) -> Result<(), Fail> {
     let samples = [512u16; 256];
     let mut input = [0i32; 256];
-    input[0] = 3000;
-    input[1] = -2000;
-    input[16] = 1500;
-    input[35] = 777;
-    input[255] = -4000;
-    clamp_all(&mut input, 18);
+    write_coefficients(&mut input);
     let mut plane = Plane::from_slice(rt.alloc(), &samples, 16)?;
     let mut scratch = TxScratch::new(rt.alloc())?;
     let mut region = plane.region_mut(Area::Rect {
@@ -236,15 +254,45 @@ fn groups_of_eight_columns_answer_as_rav1e(rt: HostRuntime) -> Result<(), Fail> 
     });
     let (size, tx_type) = (TxSize::TX_16X16, TxType::DCT_DCT);
     inverse_transform_add_with(&mut scratch, &input, &mut region, size, tx_type, 10);
-    let first = [
-        541, 541, 532, 532, 517, 520, 503, 510, 494, 505, 494, 505, 499, 508, 506, 509,
-    ];
-    assert!(rt; region.row(0).starts_with(&first), "the first row");
-    let last = [
-        563, 562, 568, 564, 575, 566, 578, 564, 573, 556, 561, 544, 546, 533, 534, 529,
-    ];
-    assert!(rt; region.row(15).starts_with(&last), "the last row");
+    assert!(rt; region.row(0).starts_with(&FIRST_OF_16), "the first row");
+    assert!(rt; region.row(15).starts_with(&LAST_OF_16), "the last row");
     Ok(())
+}
+
+#[test]
+fn blocks_in_a_plain_room_answer_as_rav1e(rt: HostRuntime) {
+    let mut room = TxRoom::new();
+    let mut samples = [512u16; 256];
+    let mut input = [0i32; 256];
+    write_coefficients(&mut input);
+    let area = StoredArea {
+        x: 0,
+        y: 0,
+        width: 16,
+        height: 16,
+    };
+    let (size, tx_type) = (TxSize::TX_16X16, TxType::DCT_DCT);
+    inverse_transform_add_in(&mut room, &input, &mut samples, 16, area, size, tx_type, 10);
+    assert!(rt; samples.starts_with(&FIRST_OF_16), "the first row");
+    assert!(rt; samples[240..].starts_with(&LAST_OF_16), "the last row");
+}
+
+#[test]
+fn four_columns_in_a_plain_room_answer_as_rav1e(rt: HostRuntime) {
+    let mut room = TxRoom::new();
+    let mut samples = [128u8; 16];
+    let mut input = [0i16; 16];
+    input[1] = 100;
+    let area = StoredArea {
+        x: 0,
+        y: 0,
+        width: 4,
+        height: 4,
+    };
+    let (size, tx_type) = (TxSize::TX_4X4, TxType::DCT_DCT);
+    inverse_transform_add_in(&mut room, &input, &mut samples, 4, area, size, tx_type, 8);
+    let diagonal = [samples[3], samples[6], samples[9], samples[12]];
+    assert_eq!(rt; diagonal, [132, 130, 126, 124]);
 }
 
 #[test]

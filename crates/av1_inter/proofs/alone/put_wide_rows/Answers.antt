@@ -1,7 +1,6 @@
 use Rattle.std.proofs.Common.{arith, ◌∙◌, ◌+◌, ◌-◌, ◌*◌, ◌^◌, ◌<◌, ap, subst, sym, map, pos, slice_index, ℕ}
 use Rattle.av1_frame.specs.Arithmetic.{clip, round_shift}
-use Rattle.av1_frame.specs.declared.plane_region.StoredArea.{StoredArea}
-use Rattle.av1_frame.proofs.Regions.{lent_painted, written_in_storage}
+use Rattle.av1_frame.proofs.Paint.{paint_same}
 use Rattle.av1_inter.specs.Motion.{intermediate_bits}
 use Rattle.av1_inter.proofs.Sources.{source_reaches, source_sample}
 use Rattle.av1_inter.proofs.Sums.{weighted_same}
@@ -9,23 +8,18 @@ use Rattle.av1_inter.proofs.alone.put_wide_rows.Goals as goal
 
 pub sum_wide_rows-requires-clause-reach : goal.sum_wide_rows-requires-clause-reach
 sum_wide_rows-requires-clause-reach g c = λ r h.
-    let e = ap (λ (a : StoredArea). a.height) c.corner-area.ensures in
-    let reach = source_reaches g.T.Pixel.num c.args.corner _ _ c.requires.stored c.samples.result.now c.stride.result (g.row.N + 6) r c.samples.ensures c.stride.ensures (omega (arith, e, h)) (omega arith) in
+    let reach = source_reaches g.T.Pixel.num c.args.corner _ _ c.requires.stored c.samples.result.now c.stride.result (g.row.N + 6) r c.samples.ensures c.stride.ensures (omega (arith, h)) (omega (arith, c.requires.width)) in
     omega (arith, reach)
 
 pub sum_wide_rows-requires-clause-within : goal.sum_wide_rows-requires-clause-within
 sum_wide_rows-requires-clause-within g c = λ r q h l.
-    let e = ap (λ (a : StoredArea). a.height) c.corner-area.ensures in
     subst (λ (n : ℕ). n < 2 ^ c.args.bit_depth)
-    (sym (ap (λ s. slice_index (map g.T.Pixel.num c.samples.result.now) (r * s + q)) c.stride.ensures ∙ source_sample g.T.Pixel.num c.args.corner _ _ c.requires.stored c.samples.result.now q r c.samples.ensures (omega (arith, e, h)) l))
-    (c.requires.within q r l (omega (arith, e, h)))
+    (sym (ap (λ s. slice_index (map g.T.Pixel.num c.samples.result.now) (r * s + q)) c.stride.ensures ∙ source_sample g.T.Pixel.num c.args.corner _ _ c.requires.stored c.samples.result.now q r c.samples.ensures (omega (arith, h)) (omega (arith, l, c.requires.width))))
+    (c.requires.within q r (omega (arith, l, c.requires.width)) (omega (arith, h)))
 
-pub returns-clause-painted : goal.returns-clause-painted
-returns-clause-painted g c =
-    lent_painted c.args.dst.now g.row.N c.args.height c.corner-area.result _ _ c.samples_mut.result.now c.sum_wide_rows.new.samples c.corner-area.ensures c.samples_mut.ensures.value c.sum_wide_rows.ensures
+pub returns : goal.returns
+returns g c =
+    c.sum_wide_rows.ensures ∙ paint_same c.args.stride c.args.area _ _ c.args.samples.now
     (λ q p v h l. ap (λ z. g.T.Pixel.pixel (clip c.args.bit_depth (round_shift (round_shift z (7 - intermediate_bits c.args.bit_depth)) (intermediate_bits c.args.bit_depth))))
     (weighted_same c.args.across.now _ _ (λ t k. ap pos (ap (λ s. slice_index (map g.T.Pixel.num c.samples.result.now) ((q + 3) * s + (p + t))) c.stride.ensures
     ∙ source_sample g.T.Pixel.num c.args.corner _ _ c.requires.stored c.samples.result.now (p + t) (q + 3) c.samples.ensures (omega arith) (omega arith)))))
-
-pub returns-clause-fits : goal.returns-clause-fits
-returns-clause-fits g c = written_in_storage c.args.dst.now 0 c.sum_wide_rows.new.samples c.requires.fits

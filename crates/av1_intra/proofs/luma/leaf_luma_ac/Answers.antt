@@ -23,7 +23,7 @@ differences-requires-clause-low g c = λ x y h k.
     let b = c.chroma_block.ensures.value in
     let e =
     rest_sample num l c.subregion-rest.result c.first_column-x.result c.first_row-y.result _ _ x y (omega (arith, c.first_column-x.ensures, c.requires.columns, F.columns, F.storage.few_columns))
-    (omega (arith, c.first_row-y.ensures, c.requires.rows, F.rows, F.storage.few_rows)) c.subregion-rest.ensures.plane c.subregion-rest.ensures.area c.subregion-rest.ensures.cfg in
+    (omega (arith, c.first_row-y.ensures, c.requires.rows, F.rows, F.storage.few_rows)) c.subregion-rest.ensures.samples c.subregion-rest.ensures.area c.subregion-rest.ensures.cfg in
     let i = ap (λ n. region_sample num l (n + x) (c.first_row-y.result + y)) c.first_column-x.ensures in
     let j = ap (λ n. region_sample num l (first_column c.args.leaf + x) (n + y)) c.first_row-y.ensures in
     subst (λ n. n < 4096) (sym (e ∙ i ∙ j)) (c.requires.low x y (subst (λ (b : ChromaBlock). x < columns_read b) b h) (subst (λ (b : ChromaBlock). y < rows_read b) b k))
@@ -37,7 +37,7 @@ returns g c =
     let S = region_sample num c.subregion-rest.result in
     let same : S ≡ (λ x y. region_sample num l (first_column leaf + x) (first_row leaf + y)) = fun_ext (λ x. fun_ext (λ y.
     rest_sample num l c.subregion-rest.result c.first_column-x.result c.first_row-y.result _ _ x y (omega (arith, c.first_column-x.ensures, c.requires.columns, F.columns, F.storage.few_columns))
-    (omega (arith, c.first_row-y.ensures, c.requires.rows, F.rows, F.storage.few_rows)) c.subregion-rest.ensures.plane c.subregion-rest.ensures.area c.subregion-rest.ensures.cfg
+    (omega (arith, c.first_row-y.ensures, c.requires.rows, F.rows, F.storage.few_rows)) c.subregion-rest.ensures.samples c.subregion-rest.ensures.area c.subregion-rest.ensures.cfg
     ∙ ap (λ n. region_sample num l (n + x) (c.first_row-y.result + y)) c.first_column-x.ensures
     ∙ ap (λ n. region_sample num l (first_column leaf + x) (n + y)) c.first_row-y.ensures)) in
     c.differences.ensures

@@ -17,7 +17,7 @@ returns-clause-value g c =
     let area = λ (l : LumaLeaf). (chroma_block l).width * (chroma_block l).height in
     let rows = λ (f : ℕ → ℕ → ℕ) (l : LumaLeaf). with_rows (chroma_block l).width (chroma_block l).height (leaf_difference f l) a.ac.now in
     let same : region_sample num r ≡ tile_luma num y = fun_ext (λ p. fun_ext (λ q.
-    ap (λ s. get_or (map num s.samples) (row_start r.plane_cfg.stride r.area q + p) 0) c.as_const.ensures.plane
+    ap (λ s. get_or (map num s) (row_start r.plane_cfg.stride r.area q + p) 0) c.as_const.ensures.samples
     ∙ ap (λ s. get_or (map num y.plane.now.samples) (row_start s.stride r.area q + p) 0) c.as_const.ensures.cfg
     ∙ ap (λ s. get_or (map num y.plane.now.samples) (row_start y.plane_cfg.stride s q + p) 0) c.as_const.ensures.area)) in
     ap (λ n. take n c.leaf_luma_ac.new.ac) (c.area.ensures ∙ ap area c.leaf_in_tile-leaf.ensures)

@@ -4,7 +4,6 @@ use Rattle.av1_dct.specs.Arithmetic.{at, FitsBits}
 use Rattle.av1_frame.specs.Arithmetic.{clip, round_shift}
 use Rattle.av1_frame.specs.Samples.{paint}
 use Rattle.av1_frame.proofs.Paint.{paint_same}
-use Rattle.av1_itx.specs.Residue.{column_shift}
 use Rattle.av1_itx.proofs.Passes.{row-fits, column-fits, residue_is}
 use Rattle.av1_itx.proofs.inverse.add_block.Goals as goal
 

@@ -6,3 +6,6 @@ add_over-requires-clause-rows_run g c = (both_run c.args.tx_size c.args.tx_type 
 
 pub add_over-requires-clause-columns_run : goal.add_over-requires-clause-columns_run
 add_over-requires-clause-columns_run g c = (both_run c.args.tx_size c.args.tx_type c.requires.valid c.requires.lossless).1
+
+pub returns-clause-lanes : goal.returns-clause-lanes
+returns-clause-lanes g c = c.add_over.ensures.counts

@@ -1,0 +1,99 @@
+use Rattle.std.proofs.lemmas.Int.{ints, to_z-of_z}
+use Rattle.std.proofs.Common.{ℕ, arith, ◌+◌, ◌^◌, ◌<◌, unsigned_abs, ◌∙◌, ◌≡◌, ap, subst, sym, List, ℤ, to_z, of_z, w32}
+use Rattle.av1_blocks.specs.declared.mc.FilterMode.{FilterMode}
+use Rattle.av1_frame.specs.declared.plane_slice.PlaneSlice.{PlaneSlice}
+use Rattle.av1_frame.specs.declared.plane_region.StoredArea.{StoredArea}
+use Rattle.av1_frame.specs.Samples.{paint}
+use Rattle.av1_frame.proofs.Paint.{paint_same}
+use Rattle.av1_inter.specs.Motion.{single}
+use Rattle.av1_inter.specs.Filters.{filter_of}
+use Rattle.av1_inter.specs.Places.{corner_of, samples_from}
+use Rattle.av1_inter.proofs.Cases.{corner_fits, corner_is, corner_within, single_copy}
+use Rattle.av1_inter.proofs.Table.{fraction_made, made_is_filter, taps_made}
+use Rattle.av1_inter.proofs.put.put_8tap_to.Goals as goal
+
+pub go_up-corner-requires : goal.go_up-corner-requires
+go_up-corner-requires g c = corner_fits c.args.src c.go_left.result _ _ c.go_left.ensures c.requires.stored
+
+pub put_filtered-requires-clause-across_filter : goal.put_filtered-requires-clause-across_filter
+put_filtered-requires-clause-across_filter g c = made_is_filter c.args.mode_x c.args.col_frac c.args.area.width _ c.ranges.col_frac c.requires.col_frac c.get_filter-across.ensures.taps
+
+pub put_filtered-requires-clause-down_filter : goal.put_filtered-requires-clause-down_filter
+put_filtered-requires-clause-down_filter g c = made_is_filter c.args.mode_y c.args.row_frac c.args.area.height _ c.ranges.row_frac c.requires.row_frac c.get_filter-down.ensures.taps
+
+pub put_filtered-requires-clause-within : goal.put_filtered-requires-clause-within
+put_filtered-requires-clause-within g c = corner_within g.T.Pixel.num c.args.src _ c.args.bit_depth _ _ (corner_is c.args.src c.go_left.result _ c.go_left.ensures c.go_up-corner.ensures) c.requires.within
+
+-- the filters and the place that were made are those that the contract names
+named : {T : Type 0} (num : T → ℕ) (pixel : ℕ → T) (stride : ℕ) (a : StoredArea) (old new : List T) (depth fx fx' fy fy' : ℕ) (across across' down down' : List ℤ) (place place' : PlaneSlice T)
+    → fx ≡ fx' → fy ≡ fy' → across ≡ across' → down ≡ down' → place ≡ place'
+    → new ≡ paint stride a (λ r q _. pixel (single depth fx fy across down (samples_from num place) r q)) old
+    → new ≡ paint stride a (λ r q _. pixel (single depth fx' fy' across' down' (samples_from num place') r q)) old
+named num pixel stride a old new depth fx fx' fy fy' across across' down down' place place' ex ey ea ed p e =
+    e ∙ ap (λ n. paint stride a (λ r q _. pixel (single depth n fy across down (samples_from num place) r q)) old) ex
+    ∙ ap (λ n. paint stride a (λ r q _. pixel (single depth fx' n across down (samples_from num place) r q)) old) ey
+    ∙ ap (λ f. paint stride a (λ r q _. pixel (single depth fx' fy' f down (samples_from num place) r q)) old) ea
+    ∙ ap (λ f. paint stride a (λ r q _. pixel (single depth fx' fy' across' f (samples_from num place) r q)) old) ed
+    ∙ ap (λ s. paint stride a (λ r q _. pixel (single depth fx' fy' across' down' (samples_from num s) r q)) old) p
+
+-- a block of 4x4 samples of 8 bits is the block that the contract names
+square_is : {T : Type 0} (num : T → ℕ) (pixel : ℕ → T) (stride : ℕ) (a : StoredArea) (old new : List T) (w h depth fx fy : ℕ) (mode_x mode_y : FilterMode) (place place' : PlaneSlice T)
+    → 4 ≡ w → 4 ≡ h → 8 ≡ depth → place ≡ place'
+    → new ≡ paint stride a (λ r q _. pixel (single 8 fx fy (filter_of mode_x fx 4) (filter_of mode_y fy 4) (samples_from num place) r q)) old
+    → new ≡ paint stride a (λ r q _. pixel (single depth fx fy (filter_of mode_x fx w) (filter_of mode_y fy h) (samples_from num place') r q)) old
+square_is num pixel stride a old new w h depth fx fy mode_x mode_y place place' ew eh ed ep e =
+    e ∙ ap (λ n. paint stride a (λ r q _. pixel (single 8 fx fy (filter_of mode_x fx n) (filter_of mode_y fy 4) (samples_from num place) r q)) old) ew
+    ∙ ap (λ n. paint stride a (λ r q _. pixel (single 8 fx fy (filter_of mode_x fx w) (filter_of mode_y fy n) (samples_from num place) r q)) old) eh
+    ∙ ap (λ n. paint stride a (λ r q _. pixel (single n fx fy (filter_of mode_x fx w) (filter_of mode_y fy h) (samples_from num place) r q)) old) ed
+    ∙ ap (λ s. paint stride a (λ r q _. pixel (single depth fx fy (filter_of mode_x fx w) (filter_of mode_y fy h) (samples_from num s) r q)) old) ep
+
+pub put_square-requires-clause-width : goal.put_square-requires-clause-width
+put_square-requires-clause-width g c = c.is_square.ensures.width c.if-is_square.true
+
+pub put_square-requires-clause-height : goal.put_square-requires-clause-height
+put_square-requires-clause-height g c = c.is_square.ensures.height c.if-is_square.true
+
+pub put_square-requires-clause-bits : goal.put_square-requires-clause-bits
+put_square-requires-clause-bits g c = let d = c.is_square.ensures.depth c.if-is_square.true in omega (arith, d, c.requires.depth)
+
+pub put_square-requires-clause-within : goal.put_square-requires-clause-within
+put_square-requires-clause-within g c = λ x y l k.
+    subst (λ (n : ℕ). samples_from g.T.Pixel.num c.go_up-corner.result x y < 2 ^ n) (c.is_square.ensures.depth c.if-is_square.true)
+    (corner_within g.T.Pixel.num c.args.src _ c.args.bit_depth _ _ (corner_is c.args.src c.go_left.result _ c.go_left.ensures c.go_up-corner.ensures) c.requires.within x y l k)
+
+pub returns-then-is_square : goal.returns-then-is_square
+returns-then-is_square g c =
+    let s = samples_from g.T.Pixel.num c.go_up-corner.result in
+    let block = λ (x y : ℤ). paint c.args.stride c.args.area (λ r q _. g.T.Pixel.pixel (single 8 (unsigned_abs x) (unsigned_abs y) (filter_of c.args.mode_x (unsigned_abs x) 4) (filter_of c.args.mode_y (unsigned_abs y) 4) s r q)) c.args.samples.now in
+    square_is g.T.Pixel.num g.T.Pixel.pixel c.args.stride c.args.area c.args.samples.now _ c.args.area.width c.args.area.height c.args.bit_depth (unsigned_abs c.args.col_frac) (unsigned_abs c.args.row_frac) c.args.mode_x c.args.mode_y _ _
+    (sym (c.is_square.ensures.width c.if-is_square.true)) (sym (c.is_square.ensures.height c.if-is_square.true)) (sym (c.is_square.ensures.depth c.if-is_square.true))
+    (corner_is c.args.src c.go_left.result c.go_up-corner.result c.go_left.ensures c.go_up-corner.ensures)
+    (c.put_square.ensures
+    ∙ ap (λ (z : ℤ). block z (to_z w32 (of_z w32 c.args.row_frac)))
+    (to_z-of_z w32 c.args.col_frac c.ranges.col_frac)
+    ∙ ap (λ (z : ℤ). block c.args.col_frac z) (to_z-of_z w32 c.args.row_frac c.ranges.row_frac))
+
+pub returns-then-row_frac-eq0 : goal.returns-then-row_frac-eq0
+returns-then-row_frac-eq0 g c =
+    let num = g.T.Pixel.num in
+    let fx = unsigned_abs c.args.col_frac in
+    let fy = unsigned_abs c.args.row_frac in
+    let across = filter_of c.args.mode_x fx c.args.area.width in
+    let down = filter_of c.args.mode_y fy c.args.area.height in
+    let zx : fx ≡ 0 = omega (arith, ints, c.if-col_frac-eq0.true) in
+    let zy : fy ≡ 0 = omega (arith, ints, c.if-row_frac-eq0.true) in
+    let place = corner_is c.args.src c.go_left.result c.go_up-corner.result c.go_left.ensures c.go_up-corner.ensures in
+    c.put_copy.ensures ∙ paint_same c.args.stride c.args.area _ (λ r q _. g.T.Pixel.pixel (single c.args.bit_depth fx fy across down (samples_from num (corner_of c.args.src)) r q)) c.args.samples.now
+    (λ r q v l h. ap g.T.Pixel.pixel (ap (λ (p : PlaneSlice g.row.T.Denot). samples_from num p (q + 3) (r + 3)) place ∙ single_copy c.args.bit_depth c.requires.depths fx fy across down (samples_from num (corner_of c.args.src)) r q zx zy))
+
+pub returns-else-col_frac-eq0 : goal.returns-else-col_frac-eq0
+returns-else-col_frac-eq0 g c =
+    let across = c.get_filter-across.result in
+    let down = c.get_filter-down.result in
+    named g.T.Pixel.num g.T.Pixel.pixel c.args.stride c.args.area c.args.samples.now _ c.args.bit_depth across.fraction _ down.fraction _ across.taps _ down.taps _ _ _
+    (fraction_made c.args.col_frac across.fraction c.ranges.col_frac c.get_filter-across.ensures.fraction)
+    (fraction_made c.args.row_frac down.fraction c.ranges.row_frac c.get_filter-down.ensures.fraction)
+    (taps_made c.args.mode_x c.args.col_frac c.args.area.width across.taps c.ranges.col_frac c.get_filter-across.ensures.taps)
+    (taps_made c.args.mode_y c.args.row_frac c.args.area.height down.taps c.ranges.row_frac c.get_filter-down.ensures.taps)
+    (corner_is c.args.src c.go_left.result c.go_up-corner.result c.go_left.ensures c.go_up-corner.ensures)
+    c.put_filtered.ensures
