@@ -1,5 +1,5 @@
 -- The parts that a builder holds, on its stack and behind it.
-use Rattle.std.proofs.Common.{◌≡◌, ℕ, zero, suc, ◌+◌, ◌-◌, ◌*◌, ◌<◌, ◌≤◌, inl, inr, Bool, true, false, ◌&&◌, if◌then◌else◌, List, [], ◌∷◌, ◌++◌, Option, Some, None, Result, Ok, Err, refl, sym, ap, subst, ◌∙◌, arith}
+use Rattle.std.proofs.Common.{◌≡◌, ℕ, zero, suc, ◌+◌, ◌-◌, ◌*◌, ◌<◌, ◌≤◌, inl, inr, Bool, true, false, ◌&&◌, ◌||◌, if◌then◌else◌, List, [], ◌∷◌, ◌++◌, Option, Some, None, Result, Ok, Err, refl, sym, ap, subst, ◌∙◌, arith}
 use Rattle.std.specs.Prelude.{nat_lt, nat_le, IsSome, is_some, OnOk}
 use Rattle.std.proofs.lemmas.Bool.{and_parts, ltb-true, leb-true, cases_lt}
 use Rattle.av1_blocks.specs.declared.partition.PartitionType.{PartitionType}
@@ -7,13 +7,14 @@ use Rattle.av1_blocks.specs.declared.partition.PartitionType.TheVariants.{PARTIT
 use Rattle.av1_blocks.specs.declared.memory.OutOfMemory.{OutOfMemory}
 use Rattle.av1_plan.specs.declared.header.Header.{Header}
 use Rattle.av1_plan.specs.Geometry.{is_inside}
-use Rattle.av1_plan.specs.Grammar.{cut_by}
+use Rattle.std.specs.Int.{is_in_range}
+use Rattle.av1_plan.specs.Grammar.{cut_by, is_mark}
 use Rattle.av1_planwrite.specs.declared.error.BuildError.{BuildError}
 use Rattle.av1_planwrite.specs.declared.error.BuildError.TheVariants.{Memory}
 use Rattle.av1_planwrite.specs.declared.parts.Part.{Part}
 use Rattle.av1_planwrite.specs.declared.parts.Part.TheVariants.{Node}
 use Rattle.av1_planwrite.specs.Asked.{across, down, if_inside, block_before, cut_before, superblocks_from}
-use Rattle.av1_planwrite.specs.Building.{Building, asks_reference, asked_part, first_part, later_parts, cut_first, passed, with_mark, settled}
+use Rattle.av1_planwrite.specs.Building.{Building, asks_leaf, asks_reference, asked_part, first_part, later_parts, cut_first, passed, with_mark, settled}
 use Rattle.av1_planwrite.specs.Stacks.{has_room}
 use Rattle.av1_planwrite.specs.Text.{byte}
 use Rattle.av1_planwrite.proofs.LeftSuperblocks.{first_of_none}
@@ -98,6 +99,27 @@ pub none_first : (ps : List Part) → first_part ps ≡ None → ps ≡ []
 none_first [] e = refl
 none_first (p ∷ ps) e = absurd cc
 
+-- a leaf that is asked for is the first part
+pub leaf_first : (b : Building) → asks_leaf (asked_part b) ≡ true → IsSome (first_part b.parts)
+leaf_first b e = by (asks_reference b) (first_part b.parts) e
+  where
+    by : (a : Bool) (o : Option Part) → asks_leaf (if a then None else o) ≡ true → IsSome o
+    by true o e = absurd cc
+    by false None e = absurd cc
+    by false (Some p) e = refl
+
+-- the marks that a node may have are small
+pub mark_small : (h : Header) (level x y mark : ℕ) → is_mark h level x y mark ≡ true → mark ≤ 9
+unfolding is_mark
+mark_small h level x y mark e = by (nat_le mark 3) _ refl e
+  where
+    by : (a s : Bool) → nat_le mark 3 ≡ a → (a || (is_in_range 8 9 mark && s)) ≡ true → mark ≤ 9
+    by true s f e = omega (arith, leb-true mark 3 f)
+    by false s f e =
+        let (range, _) = and_parts (is_in_range 8 9 mark) s e in
+        let (_, most) = and_parts (nat_le 8 mark) (nat_le mark 9) range in
+        leb-true mark 9 most
+
 -- a part is asked for behind the planes
 pub asked_first : (b : Building) (p : Part) → asked_part b ≡ Some p → (asks_reference b ≡ false) × (first_part b.parts ≡ Some p)
 asked_first b p e = by (asks_reference b) e
@@ -109,6 +131,11 @@ asked_first b p e = by (asks_reference b) e
 pub building_is : (h h_2 : Header) (slot slot_2 : ℕ) (ps qs : List Part) (bs cs : List ℕ) → h ≡ h_2 → slot ≡ slot_2 → ps ≡ qs → bs ≡ cs
     → (let b : Building = record { header = h; slot = slot; parts = ps; bytes = bs } in b) ≡ record { header = h_2; slot = slot_2; parts = qs; bytes = cs }
 building_is h h_2 slot slot_2 ps qs bs cs e f g k = rw (e, f, g, k) refl
+
+-- what is asked for doesn't depend on the bytes
+pub other_bytes : (a b : Building) (bytes : List ℕ) → a ≡ b
+    → (let d : Building = record { header = a.header; slot = a.slot; parts = a.parts; bytes = bytes } in d) ≡ record { header = b.header; slot = b.slot; parts = b.parts; bytes = bytes }
+other_bytes a b bytes e = ap (λ (d : Building). (let f : Building = record { header = d.header; slot = d.slot; parts = d.parts; bytes = bytes } in f)) e
 
 -- the parts of a node that is cut by its mark stand on the stack, before those behind it
 pub marked : (b : Building) (h : Header) (slot : ℕ) (stack new rest : List Part) (bytes written : List ℕ) (level x y mark : ℕ) (cut : PartitionType)

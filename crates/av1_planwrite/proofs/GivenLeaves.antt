@@ -33,7 +33,7 @@ use Rattle.av1_plan.specs.Plan.{LeafValue}
 use Rattle.av1_plan.specs.Spelling.{IsSpelled}
 use Rattle.av1_plan.proofs.Composed.{done_spelled, bind_spelled, asks_spelled, byte_admitted, turns_spelled}
 use Rattle.av1_plan.proofs.Numbers.{mode_of, reference_of_number, tx_size_of, tx_type_of}
-use Rattle.av1_planwrite.specs.Building.{is_given, is_named, admits_chroma, admits_kind, is_empty, is_counted, admits_triples, admits_fields}
+use Rattle.av1_planwrite.specs.Building.{is_given, is_named, admits_chroma, admits_kind, admits_counts, admits_fields}
 use Rattle.av1_planwrite.specs.Given.{FitsChroma, FitsKind, FitsTriple}
 
 -- ---- numbers and back
@@ -239,6 +239,12 @@ triple_spelled t fits =
     made : ℤ → Triple
     made value = record { block = t.block; place = t.place; value = value }
 
+abbrev is_empty : List Triple → Bool
+is_empty triples = length triples == 0
+
+abbrev is_counted : List Triple → Bool
+is_counted triples = nat_le (length triples) 65535
+
 triples_spelled : (ts : List Triple) → is_counted ts ≡ true → All FitsTriple ts → IsSpelled grammar.triples ts
 unfolding grammar.triples
 triples_spelled ts few fits =
@@ -271,9 +277,9 @@ pub record FitsFields (kind : LeafKind) (y u v : List Triple) : Type 0 where
   pub v_fits : All FitsTriple v
 
 -- where chroma isn't carried there are no coefficients of it
-pub fits_fields : (carried : Bool) (kind : LeafKind) (uv_type : Option TxType) (y u v : List Triple) → admits_fields carried kind uv_type y u v ≡ true → FitsKind kind → All FitsTriple y
+pub fits_fields : (carried : Bool) (kind : LeafKind) (uv_type : Option TxType) (y u v : List Triple) → admits_fields carried kind uv_type (length y) (length u) (length v) ≡ true → FitsKind kind → All FitsTriple y
     → (is_some uv_type ≡ true → All FitsTriple u) → (is_some uv_type ≡ true → All FitsTriple v) → FitsFields kind y u v
-unfolding admits_fields admits_triples
+unfolding admits_fields admits_counts
 fits_fields true kind uv_type y u v e kind_fits y_fits u_fits v_fits =
     let (a, _) = and_parts (admits_kind true kind && is_given true uv_type) (true && is_counted y && is_counted u && is_counted v) e in
     let (_, given) = and_parts (admits_kind true kind) (is_given true uv_type) a in
@@ -291,9 +297,9 @@ fits_fields false kind uv_type y u v e kind_fits y_fits u_fits v_fits =
     nothing_fits ts none k d lt = absurd (omega (arith, lt, eqb-true (length ts) 0 none))
 
 pub given_leaf : (h : Header) (size : BlockSize) (x y : ℕ) (kind : LeafKind) (tx_size : TxSize) (tx_type : TxType) (uv_type : Option TxType) (ys us vs : List Triple)
-    → admits_fields (carries_chroma h x y size) kind uv_type ys us vs ≡ true → FitsFields kind ys us vs
+    → admits_fields (carries_chroma h x y size) kind uv_type (length ys) (length us) (length vs) ≡ true → FitsFields kind ys us vs
     → IsSpelled (grammar.leaf h size x y) (record { x = x; y = y; size = size; kind = kind; tx_size = tx_size; tx_type = tx_type; uv_type = uv_type; triples = ys ∷ us ∷ vs ∷ [] })
-unfolding grammar.leaf admits_fields admits_triples
+unfolding grammar.leaf admits_fields admits_counts
 given_leaf h size x y kind tx_size tx_type uv_type ys us vs e fits =
     let carried = carries_chroma h x y size in
     let silent = carried || (is_empty us && is_empty vs) in

@@ -12,6 +12,7 @@ pub mod Packed
 pub mod MarkTrees
 pub mod Fronts
 pub mod Stacks
+pub mod States
 pub mod Items
 pub mod LeftSuperblocks
 pub mod FormatLaws
@@ -22,3 +23,4 @@ pub mod BuilderParts
 pub mod ReadHeaders
 pub mod GivenLeaves
 pub mod Telling
+pub mod PlaneSizes

@@ -1,6 +1,8 @@
 -- Samples as bytes, at each depth and piece by piece.
-use Rattle.std.proofs.Common.{◌≡◌, ◌≢◌, ℕ, ◌+◌, List, [], ◌∷◌, ◌++◌, take, drop, refl, sym, ap, ◌∙◌, append_assoc, arith}
+use Rattle.std.proofs.Common.{◌≡◌, ◌≢◌, ℕ, ◌+◌, ◌*◌, ◌≤◌, Bool, true, false, List, [], ◌∷◌, ◌++◌, length, take, drop, refl, sym, ap, ◌∙◌, append_assoc, arith}
+use Rattle.std.specs.Prelude.{◌==◌}
 use Rattle.std.specs.List.{flat_map}
+use Rattle.std.proofs.lemmas.Bool.{eqb-true, eqb-false}
 use Rattle.std.proofs.lemmas.Grind.{common_steps, flat_map-append}
 use Rattle.std.proofs.lemmas.List.{append-nil}
 use lib.Seq.{take-add}
@@ -20,6 +22,33 @@ unfolding plane_text
 above_eight depth [] n = refl
 above_eight depth (s ∷ samples) n =
     ap (λ (l : List ℕ). sample_text 16 s ++ l) (above_eight depth samples n) ∙ ap (λ (l : List ℕ). l ++ flat_map (sample_text depth) samples) (two_bytes depth s n)
+
+-- ---- how many bytes samples have
+
+one_each : (samples : List ℕ) → length (flat_map (sample_text 8) samples) ≡ length samples
+one_each [] = refl
+one_each (s ∷ samples) = omega (arith, one_each samples)
+
+two_each : (samples : List ℕ) → length (flat_map (sample_text 16) samples) ≡ 2 * length samples
+two_each [] = refl
+two_each (s ∷ samples) = omega (arith, two_each samples)
+
+pub length_at_eight : (depth : ℕ) (samples : List ℕ) → depth ≡ 8 → length (plane_text depth samples) ≡ length samples
+length_at_eight depth samples e = ap length (sym (at_eight depth samples e)) ∙ one_each samples
+
+pub length_above_eight : (depth : ℕ) (samples : List ℕ) → depth ≢ 8 → length (plane_text depth samples) ≡ 2 * length samples
+length_above_eight depth samples n = ap length (sym (above_eight depth samples n)) ∙ two_each samples
+
+pub at_most_two : (depth : ℕ) (samples : List ℕ) → length (plane_text depth samples) ≤ 2 * length samples
+at_most_two depth samples = by (depth == 8) refl
+  where
+    by : (b : Bool) → (depth == 8) ≡ b → length (plane_text depth samples) ≤ 2 * length samples
+    by true e = omega (arith, length_at_eight depth samples (eqb-true depth 8 e))
+    by false e = omega (arith, length_above_eight depth samples (eqb-false depth 8 e))
+
+pub ruleset lengths = (length_at_eight, length_above_eight, at_most_two)
+
+-- ---- pieces
 
 -- no samples yet
 pub none_written : (depth : ℕ) (samples bytes : List ℕ) → bytes ≡ bytes ++ plane_text depth (take 0 samples)

@@ -62,6 +62,13 @@ top_with_room xs n d some le room =
     let whole : have_room (get_or xs (n - 1) d ∷ on_top xs (n - 1)) ≡ true = subst (λ (ps : List Part). have_room ps ≡ true) top room in
     subst (λ (ps : List Part). has_room (get_or xs (n - 1) d) (length (later_parts ps)) ≡ true) (sym top) (room_of (get_or xs (n - 1) d) (on_top xs (n - 1)) whole).0
 
+-- the room of one more
+pub room_more : (xs : List Part) (n : ℕ) (d : Part) → n < length xs → have_room (on_top xs (n + 1)) ≡ (has_room (get_or xs n d) n && have_room (on_top xs n))
+unfolding have_room
+room_more xs n d lt = ap have_room (top_is xs n d lt) ∙ ap (λ (m : ℕ). has_room (get_or xs n d) m && have_room (on_top xs n)) (count_on_top xs n (omega (arith, lt)))
+
+pub ruleset room_below = (none_on_top, room_more)
+
 -- a block before others
 pub block_leaf : (h : Header) (level x y : ℕ) (others : List Part) → level ≡ 0 → block_before h level x y others ≡ leaf_before h BLOCK_4X4 x y others
 unfolding block_before

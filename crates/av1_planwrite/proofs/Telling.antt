@@ -18,13 +18,14 @@ use Rattle.av1_plan.proofs.Composed.{done_spelled, bind_spelled, header_spelled,
 use Rattle.av1_planwrite.specs.declared.parts.Part.{Part}
 use Rattle.av1_planwrite.specs.declared.parts.Part.TheVariants.{Node, Leaf}
 use Rattle.av1_planwrite.specs.Asked.{After, asked_for, cut_before, down, rows_of}
-use Rattle.av1_planwrite.specs.Building.{Building, LeafFields, Tells, asks_reference, first_part, later_parts, asked_part, cut_first, slot_from, next_slot, slots_without, asks_more}
+use Rattle.av1_planwrite.specs.Building.{Building, LeafFields, Tells, admits_leaf, asks_leaf, asks_reference, first_part, later_parts, asked_part, cut_first, slot_from, next_slot, slots_without, asks_more}
 use Rattle.av1_planwrite.specs.Building.{begun, plan_begun, admits_plane, admits_reference, with_reference, plan_with_reference, with_mark, admits_fields, with_leaf, leaf_of, plan_with_leaf}
+use Rattle.av1_planwrite.specs.Given.{FitsKind, FitsTriple}
 use Rattle.av1_planwrite.specs.Text.{byte, header_text, plane_text, fields_text, leaf_text}
 use Rattle.av1_planwrite.proofs.AskedSteps.{header_asked, asked_next, counted, carries_planes, reference_asked, mark_asked, leaf_asked, nothing_asked}
 use Rattle.av1_planwrite.proofs.BuilderParts.{asked_first, cut_first_is}
 use Rattle.av1_planwrite.proofs.FormatLaws.{after_both, after_spelled, after_proper, after_complete}
-use Rattle.av1_planwrite.proofs.GivenLeaves.{FitsFields, given_leaf}
+use Rattle.av1_planwrite.proofs.GivenLeaves.{FitsFields, fits_fields, given_leaf}
 use Rattle.av1_planwrite.proofs.LeafTexts.{leaf_told}
 use Rattle.av1_planwrite.proofs.PlanTexts.{header_told, reference_told}
 
@@ -190,7 +191,7 @@ leaf_text_is : (size : BlockSize) (x y : ℕ) (l : LeafFields) → leaf_text (le
 unfolding leaf_text
 leaf_text_is size x y l = refl
 
-pub tells_leaf : (b : Building) (p : PlanValue) (size : BlockSize) (x y : ℕ) (l : LeafFields) → Tells b p → asked_part b ≡ Some (Leaf size x y) → admits_fields (carries_chroma b.header x y size) l.kind l.uv_type l.y l.u l.v ≡ true
+pub tells_leaf : (b : Building) (p : PlanValue) (size : BlockSize) (x y : ℕ) (l : LeafFields) → Tells b p → asked_part b ≡ Some (Leaf size x y) → admits_fields (carries_chroma b.header x y size) l.kind l.uv_type (length l.y) (length l.u) (length l.v) ≡ true
     → FitsFields l.kind l.y l.u l.v → Tells (with_leaf b l) (plan_with_leaf p (asked_part b) l)
 tells_leaf b p size x y l t asked admitted fits =
     let h = b.header in
@@ -206,6 +207,18 @@ tells_leaf b p size x y l t asked admitted fits =
     let on = goes_on b.bytes more (asked_for h b.slot b.parts p.references p.leaves) (grammar.leaf h size x y) g value (goes_of b p t) asks s ((leaf_told h size x y).tells s.values value s.spells ∙ leaf_text_is size x y l) in
     let so_far = goes_as (b.bytes ++ more) (g value) (asked_for h b.slot others p.references (p.leaves ++ value ∷ [])) on (ap (λ (n : ℕ). asked_for h n others p.references (p.leaves ++ value ∷ [])) (sym slot)) in
     subst (λ (o : Option Part). Tells (with_leaf b l) (plan_with_leaf p o l)) (sym asked) (told (with_leaf b l) (plan_with_leaf p (Some (Leaf size x y)) l) so_far t.header_is t.slots t.carries t.most)
+
+-- whichever leaf is asked for
+pub leaf_tells : (b : Building) (p : PlanValue) (l : LeafFields) → Tells b p → asks_leaf (asked_part b) ≡ true → admits_leaf b.header (asked_part b) l ≡ true → FitsKind l.kind
+    → All FitsTriple l.y → (is_some l.uv_type ≡ true → All FitsTriple l.u) → (is_some l.uv_type ≡ true → All FitsTriple l.v) → Tells (with_leaf b l) (plan_with_leaf p (asked_part b) l)
+leaf_tells b p l t asked admitted kind_fits y_fit u_fit v_fit = by (asked_part b) refl asked admitted
+  where
+    by : (o : Option Part) → asked_part b ≡ o → asks_leaf o ≡ true → admits_leaf b.header o l ≡ true → Tells (with_leaf b l) (plan_with_leaf p o l)
+    by None e a f = absurd cc
+    by (Some (Node level x y)) e a f = absurd cc
+    by (Some (Leaf size x y)) e a f =
+        let fits = fits_fields (carries_chroma b.header x y size) l.kind l.uv_type l.y l.u l.v f kind_fits y_fit u_fit v_fit in
+        subst (λ (o : Option Part). Tells (with_leaf b l) (plan_with_leaf p o l)) e (tells_leaf b p size x y l t e f fits)
 
 -- ---- the end
 
@@ -225,13 +238,3 @@ tells_end b p t e =
     ap (λ (n : ℕ). asked_for b.header n b.parts p.references p.leaves) slot ∙ ap (λ (ps : List Part). asked_for b.header 8 ps p.references p.leaves) (no_parts b.parts last)
     ∙ nothing_asked b.header p.references p.leaves ∙ ap (λ (h : Header). done (record { header = h; references = p.references; leaves = p.leaves })) (sym t.header_is) in
     (t.values, after_complete plan p t.values (subst (After plan t.values) whole t.asks), t.bytes_are)
-
--- nothing is asked for behind the slots where there is no first part
-pub none_asked : (b : Building) (o : Option Part) → 8 ≤ b.slot → o ≡ first_part b.parts → is_some o ≡ false → asks_more b ≡ false
-none_asked b o past e f = none (asks_reference b) (is_some (first_part b.parts)) (not_lower b.slot past) (ap (λ (o : Option Part). is_some o) (sym e) ∙ f)
-  where
-    not_lower : (n : ℕ) → 8 ≤ n → nat_lt n 8 ≡ false
-    not_lower n le = grind arith
-
-    none : (a b : Bool) → a ≡ false → b ≡ false → (a || b) ≡ false
-    none a b e f = rw (e, f) refl

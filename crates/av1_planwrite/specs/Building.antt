@@ -73,6 +73,12 @@ refusal false admitted bytes = Some NotNow
 refusal true false bytes = Some NotAdmitted
 refusal true true bytes = if nat_le (length bytes) (2 ^ 26) then None else Some TooLong
 
+-- the same of its arguments alone
+abbrev pub argument_refusal : (asked admitted : Bool) → Option BuildError
+argument_refusal false admitted = Some NotNow
+argument_refusal true false = Some NotAdmitted
+argument_refusal true true = None
+
 -- a call answers so, where this is the reason to refuse it: want of memory may stand in place of any answer but `NotNow`
 abbrev pub Answers : {X : Type 0} → Result X BuildError → Option BuildError → Type 0
 Answers (Ok x) reason = reason ≡ None
@@ -187,26 +193,21 @@ admits_kind carried (Intra mode step chroma) = nat_le (mode_number mode) 13 && i
 admits_kind carried (Single mode reference mv) = is_in_range 14 19 (mode_number mode) && is_named reference
 admits_kind carried (Compound mode references mvs) = is_in_range 20 33 (mode_number mode) && list_all is_named references
 
--- no coefficients
-abbrev pub is_empty : List Triple → Bool
-is_empty triples = length triples == 0
+-- whether a leaf may have so many triples in each plane: none in U and V where chroma isn't carried
+unfoldable pub admits_counts : Bool → (y u v : ℕ) → Bool
+admits_counts carried y u v = (carried || (u == 0 && v == 0)) && nat_le y 65535 && nat_le u 65535 && nat_le v 65535
 
--- whether their count fits its field
-abbrev pub is_counted : List Triple → Bool
-is_counted triples = nat_le (length triples) 65535
-
--- whether the triples of a leaf are admitted: none of U and V where chroma isn't carried
-unfoldable pub admits_triples : Bool → List Triple → List Triple → List Triple → Bool
-admits_triples carried y u v = (carried || (is_empty u && is_empty v)) && is_counted y && is_counted u && is_counted v
-
--- whether these may be the fields of a leaf, by whether it carries chroma
-unfoldable pub admits_fields : Bool → LeafKind → Option TxType → List Triple → List Triple → List Triple → Bool
-admits_fields carried kind uv_type y u v = admits_kind carried kind && is_given carried uv_type && admits_triples carried y u v
+-- whether these may be the fields of a leaf with so many triples, by whether it carries chroma
+unfoldable pub admits_fields : Bool → LeafKind → Option TxType → (y u v : ℕ) → Bool
+admits_fields carried kind uv_type y u v = admits_kind carried kind && is_given carried uv_type && admits_counts carried y u v
 
 -- whether they may be those of the leaf that is asked for
+abbrev pub admits_leaf_fields : Header → Option Part → LeafKind → Option TxType → (y u v : ℕ) → Bool
+admits_leaf_fields h (Some (Leaf size x y)) kind uv_type ys us vs = admits_fields (carries_chroma h x y size) kind uv_type ys us vs
+admits_leaf_fields h _ kind uv_type ys us vs = false
+
 abbrev pub admits_leaf : Header → Option Part → LeafFields → Bool
-admits_leaf h (Some (Leaf size x y)) l = admits_fields (carries_chroma h x y size) l.kind l.uv_type l.y l.u l.v
-admits_leaf h _ l = false
+admits_leaf h part l = admits_leaf_fields h part l.kind l.uv_type (length l.y) (length l.u) (length l.v)
 
 -- the same with a leaf
 abbrev pub with_leaf : Building → LeafFields → Building

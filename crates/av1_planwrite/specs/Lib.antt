@@ -6,6 +6,7 @@ pub mod Asked
 pub mod Building
 pub mod Builder
 pub mod Stacks
+pub mod States
 pub mod Samples
 pub mod Fronts
 pub mod Given

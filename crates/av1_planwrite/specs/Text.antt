@@ -107,11 +107,13 @@ unfoldable pub chroma_triples_text : Bool → List Triple → List Triple → Li
 chroma_triples_text true u v = triples_text u ++ triples_text v
 chroma_triples_text false u v = []
 
+-- what a leaf has before its coefficients
+abbrev pub leading_text : LeafKind → TxSize → TxType → Option TxType → List ℕ
+leading_text kind tx_size tx_type uv_type = kind_text kind ++ byte (tx_number tx_size) ++ byte (tx_type_number tx_type) ++ uv_type_text uv_type
+
 -- a leaf, of which these are the coefficients of Y, U and V
 unfoldable pub fields_text : LeafKind → TxSize → TxType → Option TxType → List Triple → List Triple → List Triple → List ℕ
-fields_text kind tx_size tx_type uv_type y u v =
-    kind_text kind ++ byte (tx_number tx_size) ++ byte (tx_type_number tx_type) ++ uv_type_text uv_type ++ triples_text y
-    ++ chroma_triples_text (is_some uv_type) u v
+fields_text kind tx_size tx_type uv_type y u v = leading_text kind tx_size tx_type uv_type ++ triples_text y ++ chroma_triples_text (is_some uv_type) u v
 
 -- a leaf
 unfoldable pub leaf_text : LeafValue → List ℕ

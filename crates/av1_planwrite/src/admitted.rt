@@ -3,12 +3,12 @@
 ghost use Rattle.std.specs.Prelude.{◌≡◌, ◌<◌, ◌≤◌, ◌^◌, true, nat_le, length};
 ghost use Rattle.std.specs.List.{list_all};
 ghost use Rattle.av1_plan.specs.Grammar.{is_side, is_depth};
-ghost use Rattle.av1_planwrite.specs.Building.{admits_header, admits_plane, admits_reference, is_named, admits_chroma, admits_kind, admits_triples, admits_fields};
+ghost use Rattle.av1_planwrite.specs.Building.{admits_header, admits_plane, admits_reference, is_named, admits_chroma, admits_kind, admits_counts, admits_fields};
 ghost use Rattle.av1_planwrite.specs.Given.{FitsChroma, FitsKind};
 ghost use Rattle.av1_planwrite.specs.Samples.{greatest};
 
 use av1_blocks::{RefType, TxType};
-use av1_plan::{ChromaMode, Header, LeafKind, Triple};
+use av1_plan::{ChromaMode, Header, LeafKind};
 
 // ---- the header
 
@@ -143,31 +143,28 @@ fn admits_kind(carried: bool, kind: LeafKind) -> bool
     }
 }
 
-/// Whether the triples of a leaf are admitted, by whether it carries chroma.
-#[tactic(auto, unfolding(crate::specs::Building::admits_triples))]
-fn admits_triples(carried: bool, y: &[Triple], u: &[Triple], v: &[Triple]) -> bool
-    ensures value { result ≡ admits_triples carried y.now u.now v.now }
-    ensures few { result ≡ true → (length y.now < 2 ^ 16) × (length u.now < 2 ^ 16) × (length v.now < 2 ^ 16) }
+/// Whether a leaf may have so many triples in each plane, by whether it carries chroma.
+#[tactic(auto, unfolding(crate::specs::Building::admits_counts))]
+fn admits_counts(carried: bool, y: usize, u: usize, v: usize) -> bool
+    ensures value { result ≡ admits_counts carried y u v }
+    ensures few { result ≡ true → (y < 2 ^ 16) × (u < 2 ^ 16) × (v < 2 ^ 16) }
 {
-    (carried || (u.is_empty() && v.is_empty()))
-        && y.len() <= 65535
-        && u.len() <= 65535
-        && v.len() <= 65535
+    (carried || (u == 0 && v == 0)) && y <= 65535 && u <= 65535 && v <= 65535
 }
 
-/// Whether these may be the fields of a leaf, by whether it carries chroma.
+/// Whether these may be the fields of a leaf with so many triples in each plane, by whether it carries chroma.
 #[tactic(auto, unfolding(crate::specs::Building::admits_fields))]
 pub fn admits_fields(
     carried: bool,
     kind: LeafKind,
     uv_type: Option<TxType>,
-    y: &[Triple],
-    u: &[Triple],
-    v: &[Triple],
+    y: usize,
+    u: usize,
+    v: usize,
 ) -> bool
-    ensures value { result ≡ admits_fields carried kind uv_type y.now u.now v.now }
+    ensures value { result ≡ admits_fields carried kind uv_type y u v }
     ensures fits { result ≡ true → FitsKind kind }
-    ensures few { result ≡ true → (length y.now < 2 ^ 16) × (length u.now < 2 ^ 16) × (length v.now < 2 ^ 16) }
+    ensures few { result ≡ true → (y < 2 ^ 16) × (u < 2 ^ 16) × (v < 2 ^ 16) }
 {
-    admits_kind(carried, kind) && uv_type.is_some() == carried && admits_triples(carried, y, u, v)
+    admits_kind(carried, kind) && uv_type.is_some() == carried && admits_counts(carried, y, u, v)
 }

@@ -4,7 +4,9 @@
 //! from a source and appends its text without coefficients to a sink. So a plan that was read can be handed on, and an encoder can be shown
 //! what its predictions alone come to.
 //!
-//! A [`PlanBuilder`] is filled by an encoder while it encodes, field by field, and gives a plan's text at the end.
+//! A [`PlanBuilder`] is filled by an encoder while it encodes, field by field, and gives a plan's text at the end. Where the bytes are kept
+//! elsewhere, a [`Progress`] says what is asked for and admitted, and [`header_fields`], [`put_planes`], [`put_leading`] and [`triple_fields`] give what
+//! is appended, and take no memory.
 //!
 //! It stands on `av1_plan` for the grammar and for plans in memory, and on `av1_streams` and `av1_recon` for sources, sinks and what the
 //! calls promise that read a plan and write of it.
@@ -24,11 +26,15 @@ mod admitted;
 mod bare;
 mod builder;
 mod error;
+mod header;
 mod laws;
 mod leaf;
 mod nodes;
 mod parts;
+mod pieces;
+mod progress;
 mod samples;
+mod state;
 mod superblocks;
 mod text;
 mod write;
@@ -36,9 +42,17 @@ mod write;
 pub use bare::bare_plan;
 pub use builder::PlanBuilder;
 pub use error::BuildError;
+pub use header::header_fields;
 pub use laws::{
     a_bare_plan_is_a_plan, a_bare_plan_is_valid, a_plan_has_one_text, the_first_leaf_fixes_the_mark,
 };
+pub use leaf::{MOST_LEADING, put_leading, triple_fields};
+pub use parts::{Part, Stacked};
+pub use pieces::{put, put_byte, put_pair};
+pub use progress::Progress;
+pub use samples::{planes_len, put_planes};
+pub use state::State;
+pub use superblocks::Superblocks;
 pub use write::{write_bare, write_plan};
 
 #[cfg(test)]

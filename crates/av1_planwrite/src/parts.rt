@@ -1,8 +1,8 @@
 //! The parts of a superblock that are still asked for.
 
-ghost use Rattle.std.specs.Prelude.{◌≡◌, ◌≤◌, true, List, length};
+ghost use Rattle.std.specs.Prelude.{◌≡◌, ◌<◌, ◌≤◌, true, List, length};
 ghost use Rattle.av1_planwrite.specs.declared.parts.Part.{Part};
-ghost use Rattle.av1_planwrite.specs.Stacks.{on_top, have_room};
+ghost use Rattle.av1_planwrite.specs.Stacks.{on_top, has_room, have_room};
 
 use av1_blocks::BlockSize;
 use av1_blocks::PartitionType::{self, *};
@@ -21,6 +21,45 @@ pub enum Part {
 // The most that are asked for at once: three of each of the sides 32, 16 and 8, and four of side 4.
 const MOST_PARTS: usize = 13;
 
+/// Parts one on top of the other: the first `count` of these, the last one on top. The others are none of them.
+#[derive(Copy, Clone)]
+pub struct Stacked {
+    pub parts: [Part; MOST_PARTS],
+    pub count: usize,
+}
+
+/// Whether the parts of this one have room in its place, on top of so many.
+#[tactic(auto, unfolding(crate::specs::Stacks::has_room))]
+fn has_room(part: Part, below: usize) -> bool
+    requires { below < 13 }
+    ensures { result ≡ has_room part below }
+{
+    match part {
+        Part::Node { level, x, y } => {
+            1 <= level
+                && level <= 4
+                && x < 2048
+                && y < 2048
+                && 3 * usize::from(level) + below < MOST_PARTS
+        }
+        Part::Leaf { .. } => below < MOST_PARTS,
+    }
+}
+
+/// Whether that holds of each of the first `count` parts.
+#[tactic(auto, using(crate::proofs::Stacks::room_below))]
+fn have_room(parts: &[Part], count: usize) -> bool
+    requires most { count ≤ 13 }
+    requires within { count ≤ length parts.now }
+    ensures { result ≡ have_room (on_top parts.now count) }
+{
+    let mut room = true;
+    for below in 0..count {
+        room = has_room(parts[below], below) && room;
+    }
+    room
+}
+
 /// The parts of a superblock that are asked for, the next one on top.
 #[derive(Drop)]
 pub struct PartStack {
@@ -37,11 +76,12 @@ impl Model for PartStack {
 }
 
 impl PartStack {
-    ghost use Rattle.std.specs.Prelude.{◌≡◌, ◌+◌, ◌-◌, ◌*◌, ◌<◌, ◌≤◌, true, IfSome, [], ◌∷◌, length};
+    ghost use Rattle.std.specs.Prelude.{◌≡◌, ◌+◌, ◌-◌, ◌*◌, ◌<◌, ◌≤◌, true, IfSome, is_some, [], ◌∷◌, length};
     ghost use Rattle.av1_blocks.specs.declared.partition.PartitionType.TheVariants.{PARTITION_SPLIT};
     ghost use Rattle.av1_planwrite.specs.Asked.{leaf_before, block_before, cut_before};
     ghost use Rattle.av1_planwrite.specs.Building.{first_part, later_parts};
-    ghost use Rattle.av1_planwrite.specs.Stacks.{has_room};
+    ghost use Rattle.av1_planwrite.specs.Stacks.{has_room, on_top};
+    ghost use Rattle.av1_planwrite.specs.States.{are_stacked};
 
     /// No parts.
     pub fn new() -> PartStack
@@ -54,6 +94,32 @@ impl PartStack {
                 y: 0,
             }; MOST_PARTS],
             count: 0,
+        }
+    }
+
+    /// The stack of these parts: None where one of them has no room for its own, or there are fewer than `count`.
+    pub fn from_stacked(stacked: &Stacked) -> Option<PartStack>
+        ensures stack { IfSome result (λ s. s ≡ on_top stacked.now.parts stacked.now.count) }
+        ensures exactly { is_some result ≡ are_stacked stacked.now }
+    {
+        let Stacked { parts, count } = *stacked;
+        if count > MOST_PARTS {
+            return None;
+        }
+        if !have_room(&parts, count) {
+            return None;
+        }
+        Some(PartStack { parts, count })
+    }
+
+    /// The parts of the stack.
+    pub fn stacked(&self) -> Stacked
+        ensures stack { on_top result.parts result.count ≡ self.now }
+        ensures stacked { are_stacked result ≡ true }
+    {
+        Stacked {
+            parts: self.parts,
+            count: self.count,
         }
     }
 

@@ -1,6 +1,6 @@
 //! Samples of references, as bytes.
 
-ghost use Rattle.std.specs.Prelude.{◌≡◌, ◌*◌, ◌≤◌, length, take};
+ghost use Rattle.std.specs.Prelude.{◌≡◌, ◌+◌, ◌++◌, ◌*◌, ◌^◌, ◌≤◌, length, take};
 ghost use Rattle.std.specs.List.{flat_map};
 ghost use Rattle.av1_planwrite.specs.Text.{sample_text, plane_text};
 
@@ -34,10 +34,36 @@ fn pack_two(samples: &[u16], bytes: &mut [u8])
     }
 }
 
+/// How many bytes samples of this depth have.
+#[tactic(auto, using(crate::proofs::Packed::lengths))]
+fn text_len(depth: u8, samples: &[u16]) -> usize
+    requires { length samples.now ≤ 2 ^ 22 }
+    ensures len { result ≡ length (plane_text depth samples.now) }
+    ensures few { result ≤ 2 ^ 23 }
+{
+    if depth == 8 {
+        samples.len()
+    } else {
+        2 * samples.len()
+    }
+}
+
+/// How many bytes the planes of a slot have.
+pub fn planes_len(depth: u8, y: &[u16], u: &[u16], v: &[u16]) -> usize
+    requires y { length y.now ≤ 2 ^ 22 }
+    requires u { length u.now ≤ 2 ^ 22 }
+    requires v { length v.now ≤ 2 ^ 22 }
+    ensures len { result ≡ length (plane_text depth y.now ++ plane_text depth u.now ++ plane_text depth v.now) }
+    ensures few { result ≤ 2 ^ 25 }
+{
+    text_len(depth, y) + text_len(depth, u) + text_len(depth, v)
+}
+
 /// Puts samples of this depth at the front of the bytes, and says how many bytes these are.
+#[tactic(auto, using(crate::proofs::Packed::lengths))]
 fn pack(depth: u8, samples: &[u16], bytes: &mut [u8]) -> usize
-    requires room { 2 * length samples.now ≤ length bytes.old }
-    ensures within { result ≤ length bytes.new }
+    requires room { length (plane_text depth samples.now) ≤ length bytes.old }
+    ensures end { result ≡ length (plane_text depth samples.now) }
     ensures bytes { take result bytes.new ≡ plane_text depth samples.now }
 {
     if depth == 8 {
@@ -47,6 +73,27 @@ fn pack(depth: u8, samples: &[u16], bytes: &mut [u8]) -> usize
         pack_two(samples, bytes);
         2 * samples.len()
     }
+}
+
+/// Puts the samples of a plane into a slice behind its first `at`, and says where they end.
+fn put_plane(slice: &mut [u8], at: usize, depth: u8, samples: &[u16]) -> usize
+    requires { at + length (plane_text depth samples.now) ≤ length slice.old }
+    ensures end { result ≡ at + length (plane_text depth samples.now) }
+    ensures text { take result slice.new ≡ take at slice.old ++ plane_text depth samples.now }
+{
+    let (_, free) = slice.split_at_mut(at);
+    at + pack(depth, samples, free)
+}
+
+/// Puts the planes of a slot at the front of a slice, and says how many bytes they have.
+pub fn put_planes(slice: &mut [u8], depth: u8, y: &[u16], u: &[u16], v: &[u16]) -> usize
+    requires { length (plane_text depth y.now ++ plane_text depth u.now ++ plane_text depth v.now) ≤ length slice.old }
+    ensures end { result ≡ length (plane_text depth y.now ++ plane_text depth u.now ++ plane_text depth v.now) }
+    ensures text { take result slice.new ≡ plane_text depth y.now ++ plane_text depth u.now ++ plane_text depth v.now }
+{
+    let at = put_plane(slice, 0, depth, y);
+    let at = put_plane(slice, at, depth, u);
+    put_plane(slice, at, depth, v)
 }
 
 impl Text {

@@ -1,9 +1,7 @@
 //! The superblocks of a frame that are left.
 
-ghost use Rattle.std.specs.Prelude.{◌≡◌, ◌+◌, ◌<◌, ◌≤◌, true, IfSome};
-ghost use Rattle.av1_planwrite.specs.Asked.{across, down, superblocks_from};
-ghost use Rattle.av1_planwrite.specs.Building.{first_part, later_parts};
-ghost use Rattle.av1_planwrite.specs.Stacks.{has_room};
+ghost use Rattle.std.specs.Prelude.{◌≡◌, ◌≤◌};
+ghost use Rattle.av1_planwrite.specs.Asked.{across, down};
 
 use crate::parts::Part;
 use av1_plan::Header;
@@ -33,6 +31,12 @@ fn down(header: &Header) -> u16
 }
 
 impl Superblocks {
+    ghost use Rattle.std.specs.Prelude.{◌≡◌, ◌+◌, ◌<◌, ◌≤◌, true, IfSome};
+    ghost use Rattle.av1_planwrite.specs.Asked.{across, down, superblocks_from};
+    ghost use Rattle.av1_planwrite.specs.Building.{first_part, later_parts};
+    ghost use Rattle.av1_planwrite.specs.Stacks.{has_room};
+    ghost use Rattle.av1_planwrite.specs.States.{is_next_superblock};
+
     /// The first of them, of which nothing is told yet.
     #[tactic(auto, using(crate::proofs::LeftSuperblocks::firsts), unfolding(crate::specs::Stacks::has_room))]
     pub fn first(self, header: &Header) -> Option<Part>
@@ -53,6 +57,17 @@ impl Superblocks {
         } else {
             None
         }
+    }
+
+    /// Whether they are superblocks of this frame, or none behind the last one.
+    #[tactic(auto, unfolding(crate::specs::States::is_next_superblock))]
+    pub fn are_of(self, header: &Header) -> bool
+        requires width { header.now.width ≤ 2048 }
+        requires height { header.now.height ≤ 2048 }
+        ensures { result ≡ is_next_superblock header.now self.row self.col }
+    {
+        let (columns, rows) = (across(header), down(header));
+        self.row < rows && (self.col < columns || (self.col == columns && rows <= self.row + 1))
     }
 
     /// Those behind the first.

@@ -16,7 +16,7 @@ impl Text {
     ghost use Rattle.std.specs.Prelude.{◌≡◌, ◌++◌, length, take, OnOk, OnErr};
     ghost use Rattle.av1_planwrite.specs.Building.{settled};
     ghost use Rattle.av1_planwrite.specs.Fronts.{Begins};
-    ghost use Rattle.av1_planwrite.specs.Text.{byte, pair, quad};
+    ghost use Rattle.av1_planwrite.specs.Text.{byte, pair};
 
     /// Writes a field of one byte.
     pub fn byte(&mut self, value: u8) -> Result<(), OutOfMemory>
@@ -30,15 +30,6 @@ impl Text {
     /// Writes a field of two bytes.
     pub fn pair(&mut self, value: u16) -> Result<(), OutOfMemory>
         ensures text { OnOk result (self.new.bytes.items ≡ self.old.bytes.items ++ pair value) }
-        ensures front { Begins self.old.bytes.items self.new.bytes.items }
-    {
-        self.bytes.extend_from_slice(&value.to_le_bytes())?;
-        Ok(())
-    }
-
-    /// Writes a field of four bytes.
-    pub fn quad(&mut self, value: u32) -> Result<(), OutOfMemory>
-        ensures text { OnOk result (self.new.bytes.items ≡ self.old.bytes.items ++ quad value) }
         ensures front { Begins self.old.bytes.items self.new.bytes.items }
     {
         self.bytes.extend_from_slice(&value.to_le_bytes())?;

@@ -3,44 +3,21 @@
 ghost use Rattle.std.specs.Prelude.{◌≡◌, ◌<◌, ◌≤◌, IfOk};
 ghost use Rattle.av1_plan.specs.Answer.{plan_value};
 ghost use Rattle.av1_planwrite.specs.Bare.{bare, bare_text, IsTextOf};
-ghost use Rattle.av1_planwrite.specs.Text.{letters, plan_text};
+ghost use Rattle.av1_planwrite.specs.Text.{plan_text};
 ghost use Rattle.av1_planwrite.specs.Writing.{told};
 
 use crate::nodes::{Coefficients, Writer};
 use crate::text::Text;
 use av1_blocks::OutOfMemory;
-use av1_plan::{Header, Plan};
+use av1_plan::Plan;
 use std::alloc::Global;
-
-/// The letters of a version.
-fn letters(version: u8) -> [u8; 4]
-    ensures { result ≡ letters version }
-{
-    if version == 2 { *b"RPL2" } else { *b"RPL1" }
-}
 
 impl Text {
     ghost use Rattle.std.specs.Prelude.{◌≡◌, ◌≤◌, ◌<◌, ◌++◌, OnOk, slice_index_or, None};
     ghost use Rattle.av1_plan.specs.Answer.{plan_value};
-    ghost use Rattle.av1_planwrite.specs.Text.{header_text, sample_text, plane_text, slot_text, references_text};
+    ghost use Rattle.av1_planwrite.specs.Text.{sample_text, plane_text, slot_text, references_text};
     ghost use Rattle.av1_plan.specs.Plan.{reference_of};
     ghost use Rattle.av1_planwrite.specs.Writing.{samples_text};
-
-    /// Writes what stands before the reference samples.
-    #[tactic(auto, unfolding(crate::specs::Text::header_text))]
-    pub fn header(&mut self, header: &Header) -> Result<(), OutOfMemory>
-        ensures { OnOk result (self.new.bytes.items ≡ self.old.bytes.items ++ header_text header.now) }
-    {
-        self.copy(&letters(header.version))?;
-        self.pair(header.width)?;
-        self.pair(header.height)?;
-        self.byte(header.depth)?;
-        self.byte(header.sampling)?;
-        self.byte(header.filter.number())?;
-        self.byte(u8::from(header.edge_filter))?;
-        self.copy(&header.slots)?;
-        self.byte(header.mask)
-    }
 
     /// Writes plane `p` of a slot, where it carries planes.
     fn slot_plane(&mut self, plan: &Plan, slot: usize, p: usize) -> Result<(), OutOfMemory>

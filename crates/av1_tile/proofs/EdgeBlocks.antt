@@ -46,12 +46,9 @@ row_is : (a r c : ℕ) → c < a → (r * a + c) / a ≡ r
 row_is a r c h = grind arith
 
 module _ {T : Type 0} (num : T → ℕ) (h : Header) (block : PlaneBlock) (at : BlockPlace) (is : IsPlaceIn h block at) (plane : Plane T) (place : IsPlaneOf h block.plane plane)
-    (r : PlaneRegion T) (r_plane : r.plane.now ≡ plane) (r_cfg : r.plane_cfg ≡ plane.plane_cfg) (r_place : r.area ≡ stored_area plane.plane_cfg (all_visible plane.plane_cfg)) where
+    (r : PlaneRegion T) (r_samples : r.samples.now ≡ plane.samples) (r_cfg : r.plane_cfg ≡ plane.plane_cfg) (r_place : r.area ≡ stored_area plane.plane_cfg (all_visible plane.plane_cfg)) where
   all : IsAllVisible r
-  all = record {
-    cfg = r_cfg ∙ sym (ap (λ (q : Plane T). q.plane_cfg) r_plane);
-    area = r_place ∙ ap (λ (c : PlaneConfig). stored_area c (all_visible c)) (sym r_cfg);
-  }
+  all = r_place ∙ ap (λ (c : PlaneConfig). stored_area c (all_visible c)) (sym r_cfg)
 
   columns : plane_width h block.plane ≡ visible_columns r
   columns = sym (whole_columns r all ∙ ap (λ (c : PlaneConfig). c.width) r_cfg ∙ place.width)
@@ -67,7 +64,7 @@ module _ {T : Type 0} (num : T → ℕ) (h : Header) (block : PlaneBlock) (at : 
       let size = block.leaf.size in
       let bo : TileBlockOffset = record { 0 = record { x = block.leaf.x / 4; y = block.leaf.y / 4 } } in
       let p0 : PlaneOffset = record { x = pos at.x; y = pos at.y } in
-      let samples : region_sample num r ≡ sample_at num plane = fun_ext (λ x. fun_ext (λ y. whole_sample r all num x y ∙ ap (λ (q : Plane T). sample_at num q x y) r_plane)) in
+      let samples : region_sample num r ≡ sample_at num plane = fun_ext (λ x. fun_ext (λ y. whole_sample r all num plane x y r_samples r_cfg)) in
       let across : r.plane_cfg.xdec ≡ xdec h block.plane = ap (λ (c : PlaneConfig). c.xdec) r_cfg ∙ place.xdec in
       let down : r.plane_cfg.ydec ≡ ydec h block.plane = ap (λ (c : PlaneConfig). c.ydec) r_cfg ∙ place.ydec in
       let n = at.number % blocks_across block.area in

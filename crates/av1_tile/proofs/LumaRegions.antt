@@ -19,20 +19,20 @@ use Rattle.av1_intra.specs.declared.luma.LumaLeaf.{LumaLeaf}
 use Rattle.av1_intra.specs.ChromaFromLuma.{ac_at, chroma_block, leaf_difference, with_rows}
 
 -- a region that begins at the first visible sample is counted as the plane is
-pub origin_sample : {T : Type 0} (num : T → ℕ) (plane : Plane T) (r : PlaneRegion T) (width height : ℕ) → r.plane.now ≡ plane → r.plane_cfg ≡ plane.plane_cfg
+pub origin_sample : {T : Type 0} (num : T → ℕ) (plane : Plane T) (r : PlaneRegion T) (width height : ℕ) → r.samples.now ≡ plane.samples → r.plane_cfg ≡ plane.plane_cfg
     → r.area ≡ area_from plane.plane_cfg (from_origin plane.plane_cfg) (Rectangle (pos 0) (pos 0) width height) → region_sample num r ≡ sample_at num plane
 origin_sample {T} num plane r width height same cfg place =
     let column : r.area.x ≡ plane.plane_cfg.xorigin = ap (λ (a : StoredArea). a.x) place ∙ add-zero plane.plane_cfg.xorigin in
     let row : r.area.y ≡ plane.plane_cfg.yorigin = ap (λ (a : StoredArea). a.y) place ∙ add-zero plane.plane_cfg.yorigin in
     fun_ext (λ x. fun_ext (λ y. let k : (r.area.y + y) * r.plane_cfg.stride + r.area.x + x ≡ place_at plane.plane_cfg x y =
     ap (λ (c : PlaneConfig). (r.area.y + y) * c.stride + r.area.x + x) cfg ∙ ap (λ n. (n + y) * plane.plane_cfg.stride + r.area.x + x) row ∙ omega (arith, column) in
-    ap (λ n. get_or (map num r.plane.now.samples) n 0) k ∙ ap (λ (q : Plane T). get_or (map num q.samples) (place_at plane.plane_cfg x y) 0) same))
+    ap (λ n. get_or (map num r.samples.now) n 0) k ∙ ap (λ (samples : List T). get_or (map num samples) (place_at plane.plane_cfg x y) 0) same))
 
 -- samples of a depth up to 12 have numbers of 12 bits
-pub region_below : {T : Type 0} (num : T → ℕ) (depth : ℕ) (r : PlaneRegion T) (x y : ℕ) → depth ≤ 12 → All (λ v. num v < 2 ^ depth) r.plane.now.samples → region_sample num r x y < 4096
+pub region_below : {T : Type 0} (num : T → ℕ) (depth : ℕ) (r : PlaneRegion T) (x y : ℕ) → depth ≤ 12 → All (λ v. num v < 2 ^ depth) r.samples.now → region_sample num r x y < 4096
 region_below num depth r x y low all =
     let m : 2 ^ depth ≤ 2 ^ 12 = pow_mono {i = depth} {j = 12} low in
-    let l : region_sample num r x y < 2 ^ depth = number_below num (2 ^ depth) r.plane.now.samples _ (some_numbers depth) all in
+    let l : region_sample num r x y < 2 ^ depth = number_below num (2 ^ depth) r.samples.now _ (some_numbers depth) all in
     omega (arith, m, l)
 
 -- an entry of a row that is painted

@@ -53,6 +53,14 @@ fn lifted_planes(third: &[u8; 16]) -> [u8; PLANES] {
 }
 
 #[test]
+fn leaves_without_coefficients_are_in_the_middle(rt: HostRuntime) -> Result<(), Fail> {
+    let (answer, taken) = attempt(rt.alloc(), &PLAIN, &[], PLANES)?;
+    assert_eq!(rt; answer, Ok(()));
+    assert!(rt; are_planes(&taken, 128));
+    Ok(())
+}
+
+#[test]
 fn a_leaf_at_45_degrees_takes_what_is_above_right(rt: HostRuntime) -> Result<(), Fail> {
     let (answer, taken) = attempt(rt.alloc(), &LIFTED, &[], PLANES)?;
     let third = [

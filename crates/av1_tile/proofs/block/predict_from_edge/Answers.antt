@@ -22,7 +22,7 @@ edge_is : (g : given.Over) (c : goal.After-edge-1 g)
 edge_is g c =
     let a = c.args in
     let r = c.as_region in
-    edge_placed g.T.Pixel.num a.header.now a.block.now a.at c.requires.place a.plane.now c.requires.stores.place r.result r.ensures.plane r.ensures.cfg r.ensures.area a.mode a.param
+    edge_placed g.T.Pixel.num a.header.now a.block.now a.at c.requires.place a.plane.now c.requires.stores.place r.result r.ensures.samples r.ensures.cfg r.ensures.area a.mode a.param
     c.offset_at.result c.from.result c.region_mut-region.result.plane.now c.offset_at.ensures c.from.ensures c.region_mut-region.ensures.plane
 
 pub predict_region-requires-clause-left : goal.predict_region-requires-clause-left

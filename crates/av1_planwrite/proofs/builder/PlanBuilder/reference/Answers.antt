@@ -1,20 +1,25 @@
-use Rattle.std.proofs.Common.{◌≡◌, ◌++◌, true, refl, sym, subst, ◌∙◌, arith}
-use Rattle.std.proofs.lemmas.Bool.{lt-ltb}
-use Rattle.av1_planwrite.specs.Builder.{building}
-use Rattle.av1_planwrite.specs.Building.{Building, Tells, admits_reference, plan_with_reference}
+use Rattle.std.proofs.Common.{◌≡◌, ◌++◌, List, ℕ, ap, sym, subst, ◌∙◌}
+use Rattle.av1_planwrite.specs.Builder.{built}
+use Rattle.av1_planwrite.specs.Building.{Tells, plan_with_reference}
 use Rattle.av1_planwrite.specs.Text.{plane_text}
-use Rattle.av1_planwrite.proofs.BuilderParts.{building_is, written_well}
-use Rattle.av1_planwrite.proofs.ReadHeaders.{header_read}
-use Rattle.av1_planwrite.proofs.Telling.{tells_reference}
+use Rattle.av1_planwrite.proofs.BuilderParts.{written_well}
 use Rattle.av1_planwrite.proofs.builder.PlanBuilder.reference.Goals as goal
 
+pub returns-clause-given : goal.returns-clause-given
+returns-clause-given c =
+    let items = c.args.self.now.text.bytes.items in
+    let depth = c.args.self.now.progress.header.depth in
+    let texts = plane_text depth c.args.y.now ++ plane_text depth c.args.u.now ++ plane_text depth c.args.v.now in
+    let w = c.planes-written in
+    let written = written_well (w.new.self.bytes.items ≡ items ++ texts) w.result _ c.settle.result _ c.in_ok-settle.was c.settle.ensures.answer w.ensures.text in
+    ap (λ (bytes : List ℕ). built c.pass_reference.new.self bytes) (c.in_ok-settle.ensures.kept ∙ written) ∙ c.pass_reference.ensures.given items c.args.y.now c.args.u.now c.args.v.now
+
 pub returns-clause-told : goal.returns-clause-told
-returns-clause-told c =
-    let s = c.args.self.now in
-    let h = s.header in
-    let texts = plane_text h.depth c.args.y.now ++ plane_text h.depth c.args.u.now ++ plane_text h.depth c.args.v.now in
-    let written = written_well (c.planes-written.new.self.bytes.items ≡ s.text.bytes.items ++ texts) c.planes-written.result _ c.settle.result _ c.in_ok-settle.was c.settle.ensures.answer c.planes-written.ensures.text in
-    let given = building_is h h _ _ _ _ _ _ refl c.next_slot-self.ensures.value refl (c.in_ok-settle.ensures.kept ∙ written) in
-    let admitted : admits_reference h c.args.y.now c.args.u.now c.args.v.now ≡ true = sym c.admits_reference.ensures ∙ c.if-not-admits_reference.false in
-    λ p t. subst (λ (b : Building). Tells b (plan_with_reference p c.args.y.now c.args.u.now c.args.v.now)) (sym given)
-    (tells_reference (building s) p c.args.y.now c.args.u.now c.args.v.now t (header_read h s.admitted s.mask s.seven) (lt-ltb s.slot 8 (omega arith)) admitted)
+returns-clause-told c = λ p t.
+    let items = c.args.self.now.text.bytes.items in
+    let depth = c.args.self.now.progress.header.depth in
+    let texts = plane_text depth c.args.y.now ++ plane_text depth c.args.u.now ++ plane_text depth c.args.v.now in
+    let w = c.planes-written in
+    let written = written_well (w.new.self.bytes.items ≡ items ++ texts) w.result _ c.settle.result _ c.in_ok-settle.was c.settle.ensures.answer w.ensures.text in
+    subst (λ (bytes : List ℕ). Tells (built c.pass_reference.new.self bytes) (plan_with_reference p c.args.y.now c.args.u.now c.args.v.now)) (sym (c.in_ok-settle.ensures.kept ∙ written))
+    (c.pass_reference.ensures.told items c.args.y.now c.args.u.now c.args.v.now p t c.in_ok-check_reference.ensures.admitted)

@@ -3,7 +3,7 @@ use Rattle.av1_planwrite.specs.declared.parts.Part.{Part}
 use Rattle.av1_planwrite.specs.Building.{later_parts}
 use Rattle.av1_planwrite.specs.Stacks.{has_room}
 use Rattle.av1_planwrite.proofs.BuilderParts.{none_first}
-use Rattle.av1_planwrite.proofs.builder.PlanBuilder.first_part.Goals as goal
+use Rattle.av1_planwrite.proofs.progress.Progress.first_part.Goals as goal
 
 pub returns-in-None-clause-room : goal.returns-in-None-clause-room
 returns-in-None-clause-room c =

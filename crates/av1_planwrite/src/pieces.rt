@@ -1,0 +1,34 @@
+//! Pieces of a text, put into a slice one behind the other.
+
+ghost use Rattle.std.specs.Prelude.{◌≡◌, ◌+◌, ◌++◌, ◌≤◌, length, take};
+ghost use Rattle.av1_planwrite.specs.Text.{byte, pair};
+
+/// Puts bytes into a slice behind its first `at`, and says where they end.
+pub fn put(slice: &mut [u8], at: usize, bytes: &[u8]) -> usize
+    requires { at + length bytes.now ≤ length slice.old }
+    ensures end { result ≡ at + length bytes.now }
+    ensures text { take result slice.new ≡ take at slice.old ++ bytes.now }
+{
+    let (_, free) = slice.split_at_mut(at);
+    let (next, _) = free.split_at_mut(bytes.len());
+    next.copy_from_slice(bytes);
+    at + bytes.len()
+}
+
+/// Puts a field of one byte.
+pub fn put_byte(slice: &mut [u8], at: usize, value: u8) -> usize
+    requires { at + 1 ≤ length slice.old }
+    ensures end { result ≡ at + 1 }
+    ensures text { take result slice.new ≡ take at slice.old ++ byte value }
+{
+    put(slice, at, &[value])
+}
+
+/// Puts a field of two bytes, the low one first.
+pub fn put_pair(slice: &mut [u8], at: usize, value: u16) -> usize
+    requires { at + 2 ≤ length slice.old }
+    ensures end { result ≡ at + 2 }
+    ensures text { take result slice.new ≡ take at slice.old ++ pair value }
+{
+    put(slice, at, &value.to_le_bytes())
+}

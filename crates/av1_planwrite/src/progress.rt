@@ -1,0 +1,273 @@
+//! How far a plan in the making has come, wherever its bytes go.
+
+ghost use Rattle.std.specs.Prelude.{◌≡◌, ◌+◌, ◌<◌, ◌≤◌, true, length};
+ghost use Rattle.av1_planwrite.specs.Asked.{across, down};
+ghost use Rattle.av1_planwrite.specs.Building.{admits_header, next_slot};
+
+use crate::admitted::{admits_fields, admits_header, admits_reference};
+use crate::error::BuildError;
+use crate::parts::{Part, PartStack};
+use crate::state::State;
+use crate::superblocks::Superblocks;
+use av1_blocks::TxType;
+use av1_plan::{Header, LeafKind, carries_chroma, cut_by};
+
+/// What a plan in the making asks for next, by its header and the fields behind it: the planes of a slot, the mark of a node, a leaf, or nothing
+/// more. It keeps none of the bytes.
+///
+/// Each field has two calls. The first says why these arguments are refused, if they are. Once the bytes of a field that isn't refused stand, the
+/// second goes past it.
+#[derive(Drop)]
+pub struct Progress {
+    pub(crate) header: Header,
+    // The slot whose planes are asked for next, or 8.
+    slot: usize,
+    // What is asked for of the superblock that is begun.
+    parts: PartStack,
+    // The superblocks behind that one.
+    left: Superblocks,
+    ghost admitted: { admits_header header ≡ true },
+    ghost mask: { header.mask < 256 },
+    ghost seven: { length header.slots ≡ 7 },
+    ghost width: { header.width ≤ 2048 },
+    ghost height: { header.height ≤ 2048 },
+    ghost depth: { header.depth ≤ 12 },
+    ghost slots: { slot ≤ 8 },
+    ghost rows: { left.row < down header },
+    ghost cols: { left.col ≤ across header },
+    ghost last: { left.col ≡ across header → down header ≤ left.row + 1 },
+}
+
+/// The first slot from this one on that carries planes, or 8.
+#[tactic(auto, using(crate::proofs::NextSlots::next_slots))]
+fn next_slot(header: &Header, from: usize) -> usize
+    requires { from ≤ 8 }
+    ensures value { result ≡ next_slot header.now from }
+    ensures within { result ≤ 8 }
+{
+    for slot in from..8 {
+        if header.has_slot(slot) {
+            return slot;
+        }
+    }
+    8
+}
+
+impl Progress {
+    ghost use Rattle.std.specs.Prelude.{◌≡◌, ◌<◌, ◌≤◌, ◌^◌, true, false, List, ℕ, [], length, Some, IfErr, IfSome, IsNone, IsSome, OnOk, is_some};
+    ghost use Rattle.av1_plan.specs.Plan.{PlanValue};
+    ghost use Rattle.av1_planwrite.specs.Builder.{built};
+    ghost use Rattle.av1_planwrite.specs.Building.{LeafFields, Tells, admits_header, admits_leaf_fields, admits_mark, admits_reference, argument_refusal, asked_part, asks_leaf, asks_mark, asks_more, asks_reference, begun, first_part, later_parts, passed, plan_begun, plan_with_reference, with_leaf, with_mark, with_reference};
+    ghost use Rattle.av1_planwrite.specs.Given.{FitsKind};
+    ghost use Rattle.av1_planwrite.specs.Stacks.{has_room};
+    ghost use Rattle.av1_planwrite.specs.States.{is_state, stopped};
+    ghost use Rattle.av1_planwrite.specs.Text.{header_text};
+
+    /// How far a plan of this header has come whose fields behind the header are still to be given: None where a value of it isn't admitted.
+    pub fn new(header: &Header) -> Option<Progress>
+        ensures admitted { IfSome result (λ p. admits_header header.now ≡ true) }
+        ensures refused { IsNone result → admits_header header.now ≡ false }
+        ensures begun { IfSome result (λ p. built p (header_text header.now) ≡ begun header.now) }
+        // The bytes of the header tell of a plan just that.
+        ensures told { IfSome result (λ p. Tells (built p (header_text header.now)) (plan_begun header.now)) }
+    {
+        if !admits_header(header) {
+            return None;
+        }
+        Some(Progress {
+            header: *header,
+            slot: next_slot(header, 0),
+            parts: PartStack::new(),
+            left: Superblocks { row: 0, col: 0 },
+        })
+    }
+
+    /// How far a plan of this header has come that stopped there: None where no plan of this header can stop there.
+    ///
+    /// Which marks led to these parts isn't asked.
+    #[tactic(auto, unfolding(crate::specs::States::is_state))]
+    pub fn resume(header: &Header, state: &State) -> Option<Progress>
+        ensures resumed { IfSome result (λ p. built p [] ≡ stopped header.now state.now) }
+        ensures exactly { is_some result ≡ is_state header.now state.now }
+    {
+        if !admits_header(header) {
+            return None;
+        }
+        if state.slot > 8 {
+            return None;
+        }
+        if !state.left.are_of(header) {
+            return None;
+        }
+        let Some(parts) = PartStack::from_stacked(&state.parts) else {
+            return None;
+        };
+        Some(Progress {
+            header: *header,
+            slot: state.slot,
+            parts,
+            left: state.left,
+        })
+    }
+
+    /// Where the plan stops.
+    pub fn state(&self) -> State
+        ensures stopped { stopped (built self.now []).header result ≡ built self.now [] }
+        ensures valid { is_state (built self.now []).header result ≡ true }
+    {
+        State {
+            slot: self.slot,
+            parts: self.parts.stacked(),
+            left: self.left,
+        }
+    }
+
+    /// The part that is asked for next, behind the planes.
+    fn first_part(&self) -> Option<Part>
+        ensures value { result ≡ first_part (built self.now []).parts }
+        ensures room { IfSome result (λ p. has_room p (length (later_parts self.now.parts)) ≡ true) }
+    {
+        match self.parts.first() {
+            Some(part) => Some(part),
+            None => self.left.first(&self.header),
+        }
+    }
+
+    /// The part that is asked for next: none while planes are.
+    pub fn asked_part(&self) -> Option<Part>
+        ensures value { result ≡ asked_part (built self.now []) }
+        ensures room { IfSome result (λ p. has_room p (length (later_parts self.now.parts)) ≡ true) }
+    {
+        if self.slot < 8 {
+            None
+        } else {
+            self.first_part()
+        }
+    }
+
+    /// Goes past the part that is asked for next.
+    #[tactic(auto, using(crate::proofs::BuilderParts::some_left))]
+    fn pass_part(&mut self)
+        requires { IsSome (first_part (built self.old []).parts) }
+        ensures value { built self.new [] ≡ passed (built self.old []) }
+        ensures stack { self.new.parts ≡ later_parts self.old.parts }
+    {
+        if self.parts.first().is_some() {
+            self.parts.take_first();
+        } else {
+            self.left = self.left.later(&self.header);
+        }
+    }
+
+    /// Whether these planes may come next.
+    ///
+    /// # Errors
+    ///
+    /// `NotNow` where no planes are asked for. `NotAdmitted` where a plane has another number of samples, or one of them isn't below
+    /// `1 << depth`.
+    #[tactic(auto, using(crate::proofs::PlaneSizes::few_in_each))]
+    pub fn check_reference(&self, y: &[u16], u: &[u16], v: &[u16]) -> Result<(), BuildError>
+        ensures asked { OnOk result (asks_reference (built self.now []) ≡ true) }
+        ensures admitted { OnOk result (admits_reference (built self.now []).header y.now u.now v.now ≡ true) }
+        ensures few { OnOk result ((length y.now ≤ 2 ^ 22) × (length u.now ≤ 2 ^ 22) × (length v.now ≤ 2 ^ 22)) }
+        ensures refused { IfErr result (λ e. argument_refusal (asks_reference (built self.now [])) (admits_reference (built self.now []).header y.now u.now v.now) ≡ Some e) }
+    {
+        if self.slot >= 8 {
+            return Err(BuildError::NotNow);
+        }
+        if !admits_reference(&self.header, y, u, v) {
+            return Err(BuildError::NotAdmitted);
+        }
+        Ok(())
+    }
+
+    /// Goes past the planes that are asked for, whose bytes stand behind the others.
+    pub fn pass_reference(&mut self)
+        requires { asks_reference (built self.old []) ≡ true }
+        ensures given { (bytes y u v : List ℕ) → built self.new (with_reference (built self.old bytes) y u v).bytes ≡ with_reference (built self.old bytes) y u v }
+        // What the bytes told of a plan before, they tell of it with admitted planes.
+        ensures told { (bytes y u v : List ℕ) (p : PlanValue) → Tells (built self.old bytes) p → admits_reference (built self.old []).header y u v ≡ true
+            → Tells (built self.new (with_reference (built self.old bytes) y u v).bytes) (plan_with_reference p y u v) }
+    {
+        self.slot = next_slot(&self.header, self.slot + 1);
+    }
+
+    /// Whether this mark may come next.
+    ///
+    /// # Errors
+    ///
+    /// `NotNow` where no mark is asked for. `NotAdmitted` where the node can't have this mark.
+    pub fn check_mark(&self, mark: u8) -> Result<(), BuildError>
+        ensures asked { OnOk result (asks_mark (asked_part (built self.now [])) ≡ true) }
+        ensures admitted { OnOk result (admits_mark (built self.now []).header (asked_part (built self.now [])) mark ≡ true) }
+        ensures refused { IfErr result (λ e. argument_refusal (asks_mark (asked_part (built self.now []))) (admits_mark (built self.now []).header (asked_part (built self.now [])) mark) ≡ Some e) }
+    {
+        let Some(Part::Node { level, x, y }) = self.asked_part() else {
+            return Err(BuildError::NotNow);
+        };
+        if !self.header.is_mark(level, x, y, mark) {
+            return Err(BuildError::NotAdmitted);
+        }
+        Ok(())
+    }
+
+    /// Goes past the mark that is asked for, whose byte stands behind the others. The parts of the node come next.
+    pub fn pass_mark(&mut self, mark: u8)
+        requires { admits_mark (built self.old []).header (asked_part (built self.old [])) mark ≡ true }
+        ensures given { (bytes : List ℕ) → built self.new (with_mark (built self.old bytes) mark).bytes ≡ with_mark (built self.old bytes) mark }
+        // What the bytes told of a plan before, they tell of it with the mark.
+        ensures told { (bytes : List ℕ) (p : PlanValue) → Tells (built self.old bytes) p → Tells (built self.new (with_mark (built self.old bytes) mark).bytes) p }
+    {
+        let Some(Part::Node { level, x, y }) = self.asked_part() else {
+            return;
+        };
+        self.pass_part();
+        self.parts.cut(&self.header, level, x, y, cut_by(mark));
+    }
+
+    /// Whether a leaf may come next that is predicted so and has so many triples in Y, U and V.
+    ///
+    /// # Errors
+    ///
+    /// `NotNow` where no leaf is asked for. `NotAdmitted` where the chroma type or, of an intra leaf, the chroma mode is given though the leaf
+    /// carries no chroma, or is missing though it does; where it carries none and `u` or `v` isn't 0; where a mode isn't of its kind, or a reference
+    /// isn't one of LAST to ALTREF; and where a plane has more than 65,535 triples.
+    pub fn check_leaf(
+        &self,
+        kind: &LeafKind,
+        uv_type: Option<TxType>,
+        y: usize,
+        u: usize,
+        v: usize,
+    ) -> Result<(), BuildError>
+        ensures asked { OnOk result (asks_leaf (asked_part (built self.now [])) ≡ true) }
+        ensures admitted { OnOk result (admits_leaf_fields (built self.now []).header (asked_part (built self.now [])) kind.now uv_type y u v ≡ true) }
+        ensures fits { OnOk result (FitsKind kind.now) }
+        ensures few { OnOk result ((y < 2 ^ 16) × (u < 2 ^ 16) × (v < 2 ^ 16)) }
+        ensures refused { IfErr result (λ e. argument_refusal (asks_leaf (asked_part (built self.now []))) (admits_leaf_fields (built self.now []).header (asked_part (built self.now [])) kind.now uv_type y u v) ≡ Some e) }
+    {
+        let Some(Part::Leaf { size, x, y: row }) = self.asked_part() else {
+            return Err(BuildError::NotNow);
+        };
+        let carried = carries_chroma(&self.header, x, row, size);
+        if !admits_fields(carried, *kind, uv_type, y, u, v) {
+            return Err(BuildError::NotAdmitted);
+        }
+        Ok(())
+    }
+
+    /// Goes past the leaf that is asked for, whose bytes stand behind the others.
+    pub fn pass_leaf(&mut self)
+        requires { asks_leaf (asked_part (built self.old [])) ≡ true }
+        ensures { (bytes : List ℕ) (l : LeafFields) → built self.new (with_leaf (built self.old bytes) l).bytes ≡ with_leaf (built self.old bytes) l }
+    {
+        self.pass_part();
+    }
+
+    /// Whether a field is still asked for.
+    pub fn asks_more(&self) -> bool
+        ensures { result ≡ asks_more (built self.now []) }
+    {
+        self.slot < 8 || self.first_part().is_some()
+    }
+}
