@@ -6,7 +6,7 @@ use Rattle.av1_plan.specs.Format.{Format, Input, Reading, asks, done, ended, on_
 use Rattle.av1_plan.specs.Grammar.{header, plan, references, superblocks}
 use Rattle.av1_plan.specs.Plan.{PlanValue}
 use Rattle.av1_plan.specs.ReadPlans.{IsReadFrame}
-use Rattle.av1_plan.specs.Reading.{Fails}
+use Rattle.av1_plan.specs.Reading.{Fails, IsAtByte}
 use Rattle.av1_plan.specs.Spelling.{AreRefused, AreText, IsPrefix, IsSpelled, Spells, text}
 use Rattle.av1_plan.specs.declared.error.PlanError.{PlanError}
 use Rattle.av1_plan.specs.declared.error.PlanError.TheVariants as errors
@@ -64,22 +64,21 @@ no_plan bytes at fits e =
     all_refused plan bytes at fits (ap (λ (r : Reading (PlanValue × Input)). on_ok r ended) stops)
 
 pub header_fault : (bytes : List ℕ) (result : Result ℕ PlanFault) (e : PlanError) → AreBytes bytes → length bytes ≤ max_plan_bytes → IsErrAnd result (λ fault. fault ≡ plan_fault e) → Fails e (read header (start bytes))
-    → IfErr result (IsHeaderFault bytes)
-header_fault bytes (Ok len) e fits short is fails = absurd is
-header_fault bytes (Err fault) errors.Memory fits short is fails = subst (IsHeaderFault bytes) (sym is) tt
-header_fault bytes (Err fault) (errors.Malformed at) fits short is fails = subst (IsHeaderFault bytes) (sym is) (short, no_plan bytes at fits fails)
+    → IsAtByte e → IfErr result (IsHeaderFault bytes)
+header_fault bytes (Ok len) e fits short is fails at_byte = absurd is
+header_fault bytes (Err fault) errors.Memory fits short is fails at_byte = absurd at_byte
+header_fault bytes (Err fault) (errors.Malformed at) fits short is fails at_byte = subst (IsHeaderFault bytes) (sym is) (short, no_plan bytes at fits fails)
 
 clash : (h : Header) (j : Input) (at : ℕ) (r : Reading (Header × Input)) → r ≡ Ok (h, j) → r ≡ Err at → ⊥
 clash h j at (Ok p) e d = absurd cc
 clash h j at (Err b) e d = absurd cc
 
--- none stands there, unless memory ran out
-pub no_header : (bytes : List ℕ) (result : Result ℕ PlanFault) (e : PlanError) → IsErrAnd result (λ fault. fault ≡ plan_fault e) → Fails e (read header (start bytes)) → (h : Header) → BeginWith bytes h → IsErrOf result Memory
-no_header bytes (Ok len) e is fails h front = absurd is
-no_header bytes (Err fault) errors.Memory is fails h front = ap (λ (f : PlanFault). Err f) is
-no_header bytes (Err fault) (errors.Malformed at) is fails h front =
+-- none stands there
+pub no_header : (bytes : List ℕ) (e : PlanError) → Fails e (read header (start bytes)) → IsAtByte e → (h : Header) → BeginWith bytes h → ⊥
+no_header bytes errors.Memory fails at_byte h front = at_byte
+no_header bytes (errors.Malformed at) fails at_byte h front =
     let (j, read_is) = read_front bytes h front in
-    absurd (clash h j at (read header (start bytes)) read_is fails)
+    clash h j at (read header (start bytes)) read_is fails
 
 -- ---- the header of a plan
 
@@ -111,23 +110,6 @@ plan_begins bytes value are = begins bytes value are.1
 
 -- ---- what is answered
 
-abbrev ok : ℕ → Result ℕ PlanFault
-ok len = Ok len
-
-abbrev err : PlanFault → Result ℕ PlanFault
-err fault = Err fault
-
 -- the length that the header tells is that of the planes
-pub told_len : (value : PlanValue) (len : ℕ) → (len ≡ planes_len value.header) ⊎ IsErrOf (ok len) Memory → ((0 ≡ DONE) × (len ≡ length (planes_of value))) ⊎ (0 ≡ OUT_OF_MEMORY)
-told_len value len (inl is) = inl (refl, wanted_is value value.header len is refl)
-told_len value len (inr refused) = absurd cc
-
--- the status of a call that answered a fault
-abbrev status_in : Result ℕ PlanFault → ℕ
-status_in (Ok len) = DONE
-status_in (Err fault) = status_of fault
-
--- where a header stands at the front, the fault is want of memory
-pub memory_alone : (fault : PlanFault) (status : ℕ) → status ≡ status_of fault → ⊥ ⊎ IsErrOf (err fault) Memory → status ≡ OUT_OF_MEMORY
-memory_alone fault status is (inl never) = absurd never
-memory_alone fault status is (inr e) = is ∙ ap status_in e
+pub told_len : (value : PlanValue) (len : ℕ) → len ≡ planes_len value.header → (0 ≡ DONE) × (len ≡ length (planes_of value))
+told_len value len is = (refl, wanted_is value value.header len is refl)

@@ -1,17 +1,18 @@
 -- The status of a call is the one that the outcome of the bytes asks for.
-use Rattle.std.proofs.Common.{◌≡◌, ◌⊎◌, inl, inr, ℕ, ◌≤◌, List, length, Result, Ok, Err, Bool, sym, ap, subst, ◌∙◌}
+use Rattle.std.proofs.Common.{◌≡◌, ◌⊎◌, inl, inr, ℕ, ◌<◌, ◌≤◌, List, length, Result, Ok, Err, Bool, refl, sym, ap, subst, ◌∙◌, arith}
 use Rattle.std.specs.Prelude.{IfErr, IsErrAnd, if◌then◌else◌}
 use Rattle.std.proofs.lemmas.Bool.{le-leb, lt-leb}
 use Rattle.av1_recon.specs.Outcomes.{HasOutcome, Outcome}
 use Rattle.av1_recon.specs.declared.error.ReconError.{ReconError}
 use Rattle.av1_recon.specs.declared.error.ReconError.TheVariants as errors
 use Rattle.av1_recon.proofs.Outcomes.{one_outcome}
+use Rattle.av1_streams.specs.Streams.{max_plan_bytes}
 use Rattle.av1_tile.specs.Output.{planes_of}
 use Rattle.av1_c.specs.Faults.{status_of}
 use Rattle.av1_c.specs.Plans.{IsCause, status_for}
 use Rattle.av1_c.specs.declared.fault.PlanFault.{PlanFault}
 use Rattle.av1_c.specs.declared.fault.PlanFault.TheVariants.{Invalid, Malformed, Memory, RoomTooSmall, TooLong}
-use Rattle.av1_c.specs.declared.status.TheConstants.{DONE, OUT_OF_MEMORY, ROOM_TOO_SMALL}
+use Rattle.av1_c.specs.declared.status.TheConstants.{DONE, OUT_OF_MEMORY, ROOM_TOO_SMALL, TOO_LONG}
 
 -- a fault of the bytes is a cause whatever the buffer
 pub passed_on : (bytes : List ℕ) (room : ℕ) (result : Result ℕ PlanFault) (e : PlanFault) → IsErrAnd result (λ fault. fault ≡ e) → ((room : ℕ) → IsCause bytes room e) → IfErr result (IsCause bytes room)
@@ -38,3 +39,23 @@ fault_for bytes room RoomTooSmall status (planes, has, small) is outcome other =
 fault_for bytes room TooLong status cause is outcome other = inl (is ∙ refused_for bytes room errors.TooLong cause outcome other)
 fault_for bytes room (Malformed at) status cause is outcome other = inl (is ∙ refused_for bytes room (errors.Malformed at) cause outcome other)
 fault_for bytes room (Invalid leaf kind) status cause is outcome other = inl (is ∙ refused_for bytes room (errors.Invalid leaf kind) cause outcome other)
+
+-- bytes that come to planes are not too long
+pub few_bytes : (bytes planes : List ℕ) → HasOutcome bytes (Ok planes) → length bytes ≤ max_plan_bytes
+few_bytes bytes planes (value, (few, text), valid, written) = few
+
+-- nothing stands in the place of that there are too many
+pub too_long_for : (bytes : List ℕ) (room : ℕ) (fault : PlanFault) → IsCause bytes room fault → max_plan_bytes < length bytes → status_of fault ≡ TOO_LONG
+too_long_for bytes room Memory few long = absurd (omega (arith, few, long))
+too_long_for bytes room RoomTooSmall (planes, has, small) long = let few = few_bytes bytes planes has in absurd (omega (arith, few, long))
+too_long_for bytes room TooLong cause long = refl
+too_long_for bytes room (Malformed at) (few, refused) long = absurd (omega (arith, few, long))
+too_long_for bytes room (Invalid leaf kind) (value, (few, text), fault) long = absurd (omega (arith, few, long))
+
+-- and only then is it said
+pub told_long : (bytes : List ℕ) (room : ℕ) (fault : PlanFault) → IsCause bytes room fault → status_of fault ≡ TOO_LONG → max_plan_bytes < length bytes
+told_long bytes room Memory few is = absurd (omega (arith, is))
+told_long bytes room RoomTooSmall small is = absurd (omega (arith, is))
+told_long bytes room TooLong long is = long
+told_long bytes room (Malformed at) refused is = absurd (omega (arith, is))
+told_long bytes room (Invalid leaf kind) refused is = absurd (omega (arith, is))

@@ -5,6 +5,7 @@ use Rattle.av1_plan.specs.Spelling.{IsPrefix, Spells, text}
 use Rattle.av1_plan.specs.declared.header.Header.{Header}
 use Rattle.av1_recon.specs.Outcomes.{HasOutcome, Outcome}
 use Rattle.av1_recon.specs.declared.error.ReconError.TheVariants as errors
+use Rattle.av1_streams.specs.Streams.{max_plan_bytes}
 use Rattle.av1_c.specs.declared.fault.PlanFault.{PlanFault}
 use Rattle.av1_c.specs.declared.fault.PlanFault.TheVariants.{Memory, RoomTooSmall, TooLong, Malformed, Invalid}
 use Rattle.av1_c.specs.declared.status.TheConstants.{DONE, OUT_OF_MEMORY, ROOM_TOO_SMALL, TOO_LONG, MALFORMED, INVALID}
@@ -43,7 +44,7 @@ status_for room (Err errors.Memory) = OUT_OF_MEMORY
 
 -- the fault is that of the bytes, or of a buffer of this length
 abbrev pub IsCause : List ℕ → ℕ → PlanFault → Type 0
-IsCause bytes room Memory = ⊤
+IsCause bytes room Memory = length bytes ≤ max_plan_bytes
 IsCause bytes room RoomTooSmall = ComeToPlanes bytes (λ planes. room < length planes)
 IsCause bytes room TooLong = HasOutcome bytes (Err errors.TooLong)
 IsCause bytes room (Malformed at) = HasOutcome bytes (Err (errors.Malformed at))
@@ -51,7 +52,7 @@ IsCause bytes room (Invalid leaf kind) = HasOutcome bytes (Err (errors.Invalid l
 
 -- the fault is one of the header at their front
 abbrev pub IsHeaderFault : List ℕ → PlanFault → Type 0
-IsHeaderFault bytes Memory = ⊤
+IsHeaderFault bytes Memory = ⊥
 IsHeaderFault bytes RoomTooSmall = ⊥
 IsHeaderFault bytes TooLong = HasOutcome bytes (Err errors.TooLong)
 IsHeaderFault bytes (Malformed at) = HasOutcome bytes (Err (errors.Malformed at))

@@ -11,7 +11,7 @@ ghost use Rattle.av1_c.specs.Faults.{malformed_at};
 ghost use Rattle.av1_c.specs.Plans.{BeginWith, IsHeaderFault};
 
 use crate::fault::{PlanFault, Refusal};
-use crate::status::{DONE, MALFORMED, OUT_OF_MEMORY, TOO_LONG};
+use crate::status::{DONE, MALFORMED, TOO_LONG};
 use av1_plan::Reader;
 use av1_recon::MAX_PLAN_BYTES;
 use av1_trace::planes_len;
@@ -26,7 +26,7 @@ fn wanted(bytes: &[u8]) -> Result<usize, PlanFault>
     ensures fault { IfErr result (IsHeaderFault bytes.now) }
     ensures too_long { max_plan_bytes < length bytes.now → IsErrOf result PlanFault.TooLong }
     ensures only { (header : Header) → BeginWith bytes.now header → length bytes.now ≤ max_plan_bytes
-        → IsOkAnd result (λ len. len ≡ planes_len header) ⊎ IsErrOf result PlanFault.Memory }
+        → IsOkAnd result (λ len. len ≡ planes_len header) }
 {
     if bytes.len() > MAX_PLAN_BYTES {
         return Err(PlanFault::TooLong);
@@ -39,23 +39,23 @@ fn wanted(bytes: &[u8]) -> Result<usize, PlanFault>
 /// Tells by the header at the front of a plan how many bytes its planes have: those that [`av1_reconstruct_plan`] writes.
 ///
 /// `DONE`: `len` has the number. `TOO_LONG`, `MALFORMED`: the bytes are refused, the latter for the field that begins at `refusal.at`. All
-/// that stands behind the header is left unread.
+/// that stands behind the header is left unread, and no memory is taken.
 #[unsafe(no_mangle)]
 pub extern "C" fn av1_planes_len(bytes: &[u8], len: &mut usize, refusal: &mut Refusal) -> u32
     // The bytes begin with a header, and this is the length of its planes.
     ensures done { result ≡ DONE → (header : Header) × BeginWith bytes.now header × (len.new ≡ planes_len header) }
     // Every plan has this length.
-    ensures plan { (value : PlanValue) → ArePlan bytes.now value → ((result ≡ DONE) × (len.new ≡ length (planes_of value))) ⊎ (result ≡ OUT_OF_MEMORY) }
+    ensures plan { (value : PlanValue) → ArePlan bytes.now value → (result ≡ DONE) × (len.new ≡ length (planes_of value)) }
     // The bytes are refused, and this is why.
     ensures too_long { (result ≡ TOO_LONG) ↔ (max_plan_bytes < length bytes.now) }
     ensures malformed { result ≡ MALFORMED → (at : ℕ) × HasOutcome bytes.now (Err (errors.Malformed at)) × (refusal.new ≡ malformed_at at) }
     // A header is found where there is one.
     ensures header { (header : Header) → BeginWith bytes.now header → length bytes.now ≤ max_plan_bytes
-        → ((result ≡ DONE) × (len.new ≡ planes_len header)) ⊎ (result ≡ OUT_OF_MEMORY) }
+        → (result ≡ DONE) × (len.new ≡ planes_len header) }
     // What is not told stays as it was.
     ensures kept { result ≢ DONE → len.new ≡ len.old }
     ensures untold { result ≢ MALFORMED → refusal.new ≡ refusal.old }
-    ensures known { (result ≡ DONE) ⊎ ((result ≡ OUT_OF_MEMORY) ⊎ ((result ≡ TOO_LONG) ⊎ (result ≡ MALFORMED))) }
+    ensures known { (result ≡ DONE) ⊎ ((result ≡ TOO_LONG) ⊎ (result ≡ MALFORMED)) }
 {
     match wanted(bytes) {
         Ok(found) => {

@@ -1,10 +1,11 @@
 //! Planes written to memory of the caller.
-ghost use Rattle.std.specs.Prelude.{◌≡◌, ◌≢◌, ◌⊎◌, ℕ, ◌<◌, ◌≤◌, None, length, Err, IfOk, IfErr, OnErr};
+ghost use Rattle.std.specs.Prelude.{◌≡◌, ◌≢◌, ◌⊎◌, ◌↔◌, ℕ, ◌<◌, ◌≤◌, None, length, Err, IfOk, IfErr, OnErr};
 ghost use Rattle.av1_plan.specs.Answer.{plan_value};
 ghost use Rattle.av1_plan.specs.Validity.{first_fault};
 ghost use Rattle.av1_plan.specs.declared.error.InvalidKind.{InvalidKind};
 ghost use Rattle.av1_recon.specs.Outcomes.{ArePlan, HasOutcome, Outcome};
 ghost use Rattle.av1_recon.specs.declared.error.ReconError.TheVariants as errors;
+ghost use Rattle.av1_streams.specs.Streams.{max_plan_bytes};
 ghost use Rattle.av1_tile.specs.Output.{planes_of};
 ghost use Rattle.av1_c.specs.Faults.{malformed_at, invalid_leaf};
 ghost use Rattle.av1_c.specs.Plans.{AreWritten, ComeToPlanes, IsCause, IsWritingFault, status_for};
@@ -90,7 +91,7 @@ pub extern "C" fn av1_reconstruct_plan(
     // The bytes are a valid plan, the front of the buffer is its planes by the slow definition, and the rest of it is as it was.
     ensures done { result ≡ DONE → ComeToPlanes bytes.now (λ planes. AreWritten planes room.old room.new written.new) }
     // The bytes are refused, and this is why.
-    ensures too_long { result ≡ TOO_LONG → HasOutcome bytes.now (Err errors.TooLong) }
+    ensures too_long { (result ≡ TOO_LONG) ↔ (max_plan_bytes < length bytes.now) }
     ensures malformed { result ≡ MALFORMED → (at : ℕ) × HasOutcome bytes.now (Err (errors.Malformed at)) × (refusal.new ≡ malformed_at at) }
     ensures invalid { result ≡ INVALID → (leaf : ℕ) × ((kind : InvalidKind) × HasOutcome bytes.now (Err (errors.Invalid leaf kind)) × (refusal.new ≡ invalid_leaf leaf kind)) }
     // The bytes are a valid plan, and its planes are longer than the buffer.

@@ -18,6 +18,51 @@ pub const MALFORMED: u32 = 4;
 /// A leaf of the plan is refused.
 pub const INVALID: u32 = 5;
 
+/// No size has this number, or no block has such a side.
+pub const BAD_SIZE: u32 = 6;
+
+/// No type has this number, or the size has no such type.
+pub const BAD_TYPE: u32 = 7;
+
+/// Samples have no such depth.
+pub const BAD_DEPTH: u32 = 8;
+
+/// A rectangle does not lie in its buffer.
+pub const BAD_AREA: u32 = 9;
+
+/// A list has too few elements.
+pub const TOO_SHORT: u32 = 10;
+
+/// A coefficient has more bits than the depth admits.
+pub const BAD_COEFFICIENT: u32 = 11;
+
+/// A sample has more bits than the depth.
+pub const BAD_SAMPLE: u32 = 12;
+
+/// No mode or filter has this number.
+pub const BAD_MODE: u32 = 13;
+
+/// An angle that its mode does not have.
+pub const BAD_ANGLE: u32 = 14;
+
+/// No filter has this fraction of a sample.
+pub const BAD_FRACTION: u32 = 15;
+
+/// No planes have such decimations.
+pub const BAD_SAMPLING: u32 = 16;
+
+/// So many columns or rows without luma of their own leave none with it.
+pub const BAD_PAD: u32 = 17;
+
+/// A plan in the making asks for another kind of field next.
+pub const NOT_NOW: u32 = 40;
+
+/// An argument has a value that is not admitted here.
+pub const NOT_ADMITTED: u32 = 41;
+
+/// The numbers of a builder are those of none.
+pub const BAD_STATE: u32 = 42;
+
 /// Why a leaf is refused: chroma of its size has no size of its own.
 pub const INVALID_BLOCK_SIZE: u32 = 1;
 

@@ -1,5 +1,4 @@
-use Rattle.std.proofs.Common.{inr}
-use Rattle.av1_c.proofs.Headers.{memory_alone, plan_begins, told_len}
+use Rattle.av1_c.proofs.Headers.{plan_begins, told_len}
 use Rattle.av1_c.proofs.planes_length.av1_planes_len.Goals as goal
 
 pub returns-in-Ok-clause-plan : goal.returns-in-Ok-clause-plan
@@ -7,7 +6,7 @@ returns-in-Ok-clause-plan c = λ value are. told_len value c.in-Ok.found (c.in-O
 
 pub returns-in-Err-clause-plan : goal.returns-in-Err-clause-plan
 returns-in-Err-clause-plan c =
-    λ value are. inr (memory_alone c.in-Err.fault c.tell.result c.tell.ensures.status (c.in-Err.ensures.only value.header (plan_begins c.args.bytes.now value are) are.0))
+    λ value are. absurd (c.in-Err.ensures.only value.header (plan_begins c.args.bytes.now value are) are.0)
 
 pub returns-in-Err-clause-header : goal.returns-in-Err-clause-header
-returns-in-Err-clause-header c = λ h front short. inr (memory_alone c.in-Err.fault c.tell.result c.tell.ensures.status (c.in-Err.ensures.only h front short))
+returns-in-Err-clause-header c = λ h front short. absurd (c.in-Err.ensures.only h front short)

@@ -1,5 +1,5 @@
-use Rattle.std.proofs.Common.{inl, length}
-use Rattle.av1_c.proofs.Statuses.{done_for, fault_for}
+use Rattle.std.proofs.Common.{◌∙◌, arith, inl, length, sym}
+use Rattle.av1_c.proofs.Statuses.{done_for, fault_for, few_bytes, told_long, too_long_for}
 use Rattle.av1_c.proofs.reconstruct.av1_reconstruct_plan.Goals as goal
 
 pub returns-in-Ok-clause-exactly : goal.returns-in-Ok-clause-exactly
@@ -10,3 +10,17 @@ returns-in-Ok-clause-exactly c =
 
 pub returns-in-Err-clause-exactly : goal.returns-in-Err-clause-exactly
 returns-in-Err-clause-exactly c = λ outcome other. fault_for c.args.bytes.now (length c.args.room.now) c.in-Err.fault c.tell.result c.in-Err.ensures.fault c.tell.ensures.status outcome other
+
+pub returns-in-Ok-clause-too_long : goal.returns-in-Ok-clause-too_long
+returns-in-Ok-clause-too_long c =
+    let (planes, comes, written) = c.in-Ok.ensures.written in
+    let few = few_bytes c.args.bytes.now planes comes in
+    (λ is. absurd (omega (arith, is)), λ long. absurd (omega (arith, few, long)))
+
+pub returns-in-Err-clause-too_long : goal.returns-in-Err-clause-too_long
+returns-in-Err-clause-too_long c =
+    let status = c.tell.ensures.status in
+    let cause = c.in-Err.ensures.fault in (
+      λ is. told_long c.args.bytes.now (length c.args.room.now) c.in-Err.fault cause (sym status ∙ is),
+      λ long. status ∙ too_long_for c.args.bytes.now (length c.args.room.now) c.in-Err.fault cause long,
+    )

@@ -1,0 +1,77 @@
+-- What a call asks of a block of an intra mode is what predicting it asks, and what is refused is not what is asked for.
+use Rattle.std.proofs.Common.{ℕ, ℤ, ◌≡◌, ◌≢◌, ◌≤◌, List, Bool, true, false, arith, ap, ◌∙◌, sym, subst, unsigned_abs}
+use Rattle.std.specs.Prelude.{Some, None}
+use Rattle.av1_blocks.specs.Modes.{is_directional}
+use Rattle.av1_blocks.specs.declared.predict.IntraParam.TheVariants.{AngleDelta}
+use Rattle.av1_blocks.specs.declared.predict.PredictionMode.{PredictionMode}
+use Rattle.av1_blocks.specs.declared.transform.TxSize.{TxSize}
+use Rattle.av1_frame.specs.Areas.{AreRows}
+use Rattle.av1_frame.specs.Samples.{paint}
+use Rattle.av1_frame.specs.declared.plane_region.StoredArea.{StoredArea}
+use Rattle.av1_intra.specs.Angles.{is_interpolated}
+use Rattle.av1_intra.specs.ChromaFromLuma.{ac_at}
+use Rattle.av1_intra.specs.Predicted.{angle_or_alpha, edge_round, predicted}
+use Rattle.av1_intra.specs.declared.directional.DirectionalBlock.{DirectionalBlock}
+use Rattle.av1_intra.specs.declared.variant.PredictionVariant.{PredictionVariant}
+use Rattle.av1_intra.proofs.ByMode.{angle_fine, angle_given}
+use Rattle.av1_c.proofs.Blocks.{same_size}
+use Rattle.av1_c.specs.Arguments.{IsSize, LiesOutside, rectangle}
+use Rattle.av1_c.specs.IntraBlocks.{AreLong, HasSides, IsIntraBlock, IsIntraFault, IsIntraMode, block_of, mode_in, variant_in, with_prediction}
+use Rattle.av1_c.specs.declared.argument.BadArgument.{BadArgument}
+use Rattle.av1_c.specs.declared.argument.BadArgument.TheVariants as bad
+use Rattle.av1_c.specs.declared.intra.IntraBlock.{IntraBlock}
+
+-- a test that is true where something holds, and that was false, says that it does not hold
+pub denied : {P : Type 0} (told : Bool) → (P → told ≡ true) → told ≡ false → ¬ P
+denied told tells untrue p = let e : true ≡ false = sym (tells p) ∙ untrue in cc
+
+-- the rectangle of the block does not lie in the samples
+pub outside_of : (number stride x y samples : ℕ) (size : TxSize) (area : StoredArea) → IsSize number size → area ≡ rectangle x y size → ¬ AreRows stride area samples → LiesOutside number stride x y samples
+outside_of number stride x y samples size area is placed never =
+    (size, is, λ rows. never (subst (λ (a : StoredArea). AreRows stride a samples) (sym placed) rows))
+
+-- what is as long as one block reads it is so for the same block
+pub long_for : (block other : DirectionalBlock) (variant v : PredictionVariant) (mode m : PredictionMode) (left above ac : ℕ) → block ≡ other → variant ≡ v → mode ≡ m
+    → AreLong other v m left above ac → AreLong block variant mode left above ac
+long_for block other variant v mode m left above ac e f h long =
+    subst (λ (k : DirectionalBlock). AreLong k variant mode left above ac) (sym e)
+    (subst (λ (k : PredictionVariant). AreLong other k mode left above ac) (sym f) (subst (λ (k : PredictionMode). AreLong other v k left above ac) (sym h) long))
+
+-- so few steps give an angle that directional prediction takes
+pub turned_angle : (mode : PredictionMode) (step : ℤ) → unsigned_abs step ≤ 3 → is_directional mode ≡ true
+    → unsigned_abs (angle_or_alpha mode (AngleDelta step)) ≢ 90 → unsigned_abs (angle_or_alpha mode (AngleDelta step)) ≢ 180 → is_interpolated (unsigned_abs (angle_or_alpha mode (AngleDelta step))) ≡ true
+turned_angle mode step few h = angle_fine mode h (angle_or_alpha mode (AngleDelta step)) (angle_given mode (AngleDelta step) few (omega arith))
+
+-- a block that is asked for is refused for nothing
+pub faultless : (bits : ℕ) (b : IntraBlock) (mode : PredictionMode) (stride x y left above ac samples : ℕ) (fault : BadArgument) (size : TxSize) → IsIntraFault bits b mode stride x y left above ac samples fault
+    → IsIntraBlock bits b mode stride x y left above ac samples size → ⊥
+faultless bits b mode stride x y left above ac samples bad.Size size none block = let e : Some size ≡ None = sym block.sized ∙ none in cc
+faultless bits b mode stride x y left above ac samples bad.Angle size never block = never block.turn
+faultless bits b mode stride x y left above ac samples bad.Depth size never block = never block.depth
+faultless bits b mode stride x y left above ac samples bad.Area size (s, is, never) block =
+    never (subst (λ t. AreRows stride (rectangle x y t) samples) (same_size b.tx_size size s block.sized is) block.rows)
+faultless bits b mode stride x y left above ac samples bad.Short size (s, is, never) block =
+    never (subst (λ t. HasSides b mode t left above ac) (same_size b.tx_size size s block.sized is) block.sides)
+faultless bits b mode stride x y left above ac samples fault size never block = never
+
+-- what was painted in the block's own words is what the call says
+pub predicted_so : {T : Type 0} (num : T → ℕ) (pixel : ℕ → T) (b : IntraBlock) (mode m : PredictionMode) (size : TxSize) (stride x y : ℕ) (left : List T) (corner : T) (above : List T) (ac : List ℤ) (alpha z : ℤ)
+    → (before after : List T) (area : StoredArea) (block : DirectionalBlock) (v : PredictionVariant)
+    → area ≡ rectangle x y size → m ≡ mode_in b mode → v ≡ variant_in b → block ≡ block_of b (mode_in b mode) size → z ≡ alpha
+    → after ≡ paint stride area (λ r c _. pixel (predicted block v m z (ac_at block.width ac) (edge_round num left (num corner) above) r c)) before
+    → after ≡ with_prediction num pixel b mode stride x y size left corner above ac alpha before
+predicted_so {T} num pixel b mode m size stride x y left corner above ac alpha z before after area block v area_is mode_is variant_is block_is alpha_is painted =
+    let P = λ (a : StoredArea) (k : DirectionalBlock) (u : PredictionVariant) (n : PredictionMode) (w : ℤ).
+    paint stride a (λ r c (_ : T). pixel (predicted k u n w (ac_at k.width ac) (edge_round num left (num corner) above) r c)) before in
+    let A = rectangle x y size in
+    let K = block_of b (mode_in b mode) size in
+    painted
+    ∙ ap (λ a. P a block v m z) area_is
+    ∙ ap (λ k. P A k v m z) block_is
+    ∙ ap (λ u. P A K u m z) variant_is
+    ∙ ap (λ n. P A K (variant_in b) n z) mode_is
+    ∙ ap (λ w. P A K (variant_in b) (mode_in b mode) w) alpha_is
+
+-- a number names one mode
+pub one_mode : (number : ℕ) (m n : PredictionMode) → IsIntraMode number m → IsIntraMode number n → m ≡ n
+one_mode number m n is other = let e : Some m ≡ Some n = sym is.named ∙ other.named in cc

@@ -1,0 +1,42 @@
+use Rattle.std.proofs.Common.{ℕ, ◌≡◌, ◌++◌, true, arith, tests, ap, ◌∙◌, drop, length, subst}
+use Rattle.std.proofs.lemmas.Slice.{drop-append-drop}
+use Rattle.av1_c.specs.IntraBlocks.{IsDepthWithin}
+use Rattle.av1_c.specs.IntraEdges.{edge_in}
+use Rattle.av1_c.proofs.EdgeCalls.{held_before}
+use Rattle.av1_c.proofs.intra_edge.prepare_by.Goals as goal
+
+pub returns-else-not-begins_in-clause-done : goal.returns-else-not-begins_in-clause-done
+returns-else-not-begins_in-clause-done g c = λ _.
+    let a = c.args in
+    let names = c.in-Ok.names in
+    let f = c.in-Ok.ensures in
+    let held = c.prepare_in.ensures in
+    let lies : c.is_tile.result ≡ true = grind (arith, tests, c.if-not-is_tile.false) in
+    let begins : c.begins_in.result ≡ true = grind (arith, tests, c.if-not-begins_in.false) in
+    let whole : length c.prepare_in.new.room ≡ 257 = omega arith in (
+      names.mode,
+      (
+        names.size,
+        (
+          names.block,
+          (
+            record {
+              roomy = c.if-edge-lt-EDGE_SAMPLES.false;
+              moded = f.mode;
+              sized = f.size;
+              blocked = f.block;
+              turn = f.turn;
+              depth = subst (λ (n : ℕ). IsDepthWithin n a.block.now.bit_depth) c.BITS.ensures f.depth;
+              lies = c.is_tile.ensures.true_is lies;
+              begins = c.begins_in.ensures.true_is begins;
+            },
+            (held.0, (held.1.0, held_before g.T.Pixel.num (edge_in g.T.Pixel.num held.0 a.block.now names.mode names.size names.block) c.prepare_in.new.room c.split_at_mut-room.result.1.now whole held.1.1)),
+          ),
+        ),
+      ),
+    )
+
+pub returns-else-not-begins_in-clause-rest : goal.returns-else-not-begins_in-clause-rest
+returns-else-not-begins_in-clause-rest g c =
+    let room = c.prepare_in.new.room in
+    ap (λ zs. drop 257 (room ++ zs)) c.split_at_mut-room.ensures.back ∙ drop-append-drop 257 c.args.edge.now room 257 (omega arith) (omega arith)

@@ -1,0 +1,17 @@
+use Rattle.std.proofs.Common.{◌≡◌, true, false, arith, tests, subst, sym, ℕ, ◌<◌}
+use Rattle.av1_c.proofs.Blocks.{refused_too, too_large}
+use Rattle.av1_c.proofs.transform_add.deep_block_of.Goals as goal
+
+pub returns-in_err-block-clause-fault : goal.returns-in_err-block-clause-fault
+returns-in_err-block-clause-fault c =
+    refused_too c.args.bit_depth c.args.tx_size c.args.tx_type c.args.stride c.args.x c.args.y c.args.coefficients.now c.args.samples c.from_residual.result c.in_err-block.field-0.0 c.from_residual.ensures.1 c.in_err-block.ensures.fault
+
+pub returns-then-not-all_fit-clause-fault : goal.returns-then-not-all_fit-clause-fault
+returns-then-not-all_fit-clause-fault c =
+    let failed : c.all_fit.result ≡ false = grind (arith, tests, c.if-not-all_fit.true) in
+    let block = c.in_ok-block.block in
+    too_large c.args.bit_depth c.args.tx_size c.args.coefficients.now block.size c.all_fit.result c.in_ok-block.ensures.found.sized
+    (λ all. c.all_fit.ensures.is_true (λ i h. all i (subst (λ (n : ℕ). i < n) c.coded_area.ensures.value h))) failed
+
+pub returns-clause-fit : goal.returns-clause-fit
+returns-clause-fit c = λ i h. c.all_fit.ensures.true_is (let yes : c.all_fit.result ≡ true = grind (arith, tests, c.if-not-all_fit.false) in yes) i (subst (λ (n : ℕ). i < n) (sym c.coded_area.ensures.value) h)

@@ -1,0 +1,88 @@
+-- What the numbers of C's builder stand for.
+use Rattle.std.specs.Prelude.{◌≡◌, ℕ, ◌+◌, ◌^◌, ◌≤◌, ◌==◌, Bool, true, ◌&&◌, ◌||◌, nat_lt, nat_le, if◌then◌else◌, List, ◌++◌, length, map, take, drop, Option, Some, None, slice_get}
+use Rattle.std.specs.List.{list_all}
+use Rattle.av1_blocks.specs.declared.mc.FilterMode.{FilterMode}
+use Rattle.av1_blocks.specs.declared.mc.FilterMode.TheVariants.{SWITCHABLE}
+use Rattle.av1_blocks.specs.declared.mc.TheConstants.FilterMode as filters
+use Rattle.av1_blocks.specs.declared.partition.BlockSize.TheVariants.{BLOCK_4X4}
+use Rattle.av1_blocks.specs.declared.partition.TheConstants.BlockSize as sizes
+use Rattle.av1_plan.specs.declared.header.Header.{Header}
+use Rattle.av1_planwrite.specs.declared.error.BuildError.TheVariants.{TooLong}
+use Rattle.av1_planwrite.specs.declared.parts.Part.{Part}
+use Rattle.av1_planwrite.specs.declared.parts.Part.TheVariants.{Node, Leaf}
+use Rattle.av1_planwrite.specs.declared.state.State.{State}
+use Rattle.av1_planwrite.specs.Building.{Building}
+use Rattle.av1_planwrite.specs.States.{is_state, stopped}
+use Rattle.av1_c.specs.declared.build_fault.BuildFault.{BuildFault}
+use Rattle.av1_c.specs.declared.build_fault.BuildFault.TheVariants.{Refused, RoomTooSmall}
+use Rattle.av1_c.specs.declared.builder.Builder.{Builder}
+use Rattle.av1_c.specs.declared.builder.BuilderPart.{BuilderPart}
+use Rattle.av1_c.specs.declared.plan_header.PlanHeader.{PlanHeader}
+
+-- the value of a number, where it has one
+abbrev pub or_else : {A : Type 0} → Option A → A → A
+or_else (Some x) other = x
+or_else None other = other
+
+-- ---- headers
+
+-- the filter of a number: past the last one that no plan may have
+abbrev pub filter_of : ℕ → FilterMode
+filter_of number = or_else (slice_get filters.ALL number) SWITCHABLE
+
+-- the header of these numbers
+abbrev pub header_of : PlanHeader → Header
+header_of n = record {
+  version = n.version;
+  width = n.width;
+  height = n.height;
+  depth = n.depth;
+  sampling = n.sampling;
+  filter = filter_of n.filter;
+  edge_filter = nat_lt 0 n.edge_filter;
+  slots = n.slots;
+  mask = n.mask;
+}
+
+-- ---- what is asked for next
+
+-- the part of these numbers
+abbrev pub part_of : BuilderPart → Part
+part_of n = if n.kind == 1 then Node n.number n.x n.y else Leaf (or_else (slice_get sizes.ALL n.number) BLOCK_4X4) n.x n.y
+
+-- whether these are the numbers of a part
+abbrev pub is_part : BuilderPart → Bool
+is_part n = n.kind == 1 || (n.kind == 0 && nat_lt n.number 22)
+
+-- how far the plan has come
+abbrev pub state_of : Builder → State
+state_of b = record { slot = b.slot; parts = record { parts = map part_of b.parts; count = b.count }; left = record { row = b.row; col = b.col } }
+
+-- whether these are the numbers of a builder over a buffer of this length
+abbrev pub is_builder : Builder → ℕ → Bool
+is_builder b room = nat_le b.written room && list_all is_part b.parts && is_state (header_of b.header) (state_of b)
+
+-- the plan in the making that a builder and its buffer hold
+abbrev pub plan_of : Builder → List ℕ → Building
+plan_of b room =
+    let s = stopped (header_of b.header) (state_of b) in
+    record { header = s.header; slot = s.slot; parts = s.parts; bytes = take b.written room }
+
+-- ---- what a call leaves
+
+-- So many bytes of the buffer were kept, and behind them these were written, up to this end. What stands behind it is as before.
+pub record AreAppended (room room' more : List ℕ) (written end : ℕ) : Type 0 where
+  pub end_is : end ≡ written + length more
+  pub fits : end ≤ length room
+  pub short : end ≤ 2 ^ 26
+  pub room_is : room' ≡ take written room ++ more ++ drop end room
+
+-- why a plan of so many bytes doesn't stand in a buffer in which it has no place
+abbrev pub room_fault : ℕ → BuildFault
+room_fault len = if nat_le len (2 ^ 26) then RoomTooSmall else Refused TooLong
+
+-- The builder and its buffer hold this plan, and what stands in the buffer behind its bytes is as before.
+pub record Hold (b : Builder) (room before : List ℕ) (plan : Building) : Type 0 where
+  pub valid : is_builder b (length room) ≡ true
+  pub holds : plan_of b room ≡ plan
+  pub behind : drop b.written room ≡ drop b.written before

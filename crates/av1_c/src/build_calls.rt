@@ -1,0 +1,177 @@
+//! The calls of a builder, but that on leaves.
+
+ghost use Rattle.std.specs.Prelude.{◌≡◌, ◌≢◌, ◌+◌, ◌≤◌, true, length, take, if◌then◌else◌, OnErr, OnOk};
+ghost use Rattle.av1_plan.specs.Grammar.{plan};
+ghost use Rattle.av1_plan.specs.Plan.{PlanValue};
+ghost use Rattle.av1_plan.specs.Spelling.{AreText};
+ghost use Rattle.av1_planwrite.specs.Building.{Tells, asks_more, begun, header_refusal, mark_refusal, plan_begun, plan_with_reference, reference_refusal, with_mark, with_reference};
+ghost use Rattle.av1_c.specs.BuildFaults.{answered, asked_status};
+ghost use Rattle.av1_c.specs.Builders.{Hold, header_of, is_builder, plan_of};
+
+use crate::appending::{append, append_planes};
+use crate::build_fault::{BuildFault, answer};
+use crate::builder::Builder;
+use crate::plan_header::PlanHeader;
+use crate::status::{BAD_STATE, DONE, NOT_NOW};
+use av1_planwrite::{BuildError, Progress, header_fields};
+
+// ---- the header
+
+/// Begins a plan, whose header's fields stand at the front of the buffer then.
+///
+/// # Errors
+///
+/// `NotAdmitted`, then `TooLong`, then `RoomTooSmall`.
+fn begin(header: &PlanHeader, builder: &mut Builder, room: &mut [u8]) -> Result<(), BuildFault>
+    ensures holds { OnOk result (Hold builder.new room.new room.old (begun (header_of header.now))) }
+    ensures status { answered result ≡ asked_status true (header_refusal (header_of header.now)) 20 (length room.old) }
+    ensures told { OnOk result (Tells (plan_of builder.new room.new) (plan_begun (header_of header.now))) }
+    ensures kept { OnErr result ((builder.new ≡ builder.old) × (room.new ≡ room.old)) }
+{
+    let fields = header.header();
+    let Some(progress) = Progress::new(&fields) else {
+        return Err(BuildFault::Refused(BuildError::NotAdmitted));
+    };
+    let end = append(room, 0, &header_fields(&fields))?;
+    *builder = Builder::stopped(*header, &progress.state(), end);
+    Ok(())
+}
+
+/// Begins a plan of this header, whose fields stand at the front of `room` then: the first 20 bytes. What `builder` held before is lost.
+///
+/// `DONE`: that was done. `NOT_ADMITTED`: a value of the header is not admitted. `ROOM_TOO_SMALL`: the fields don't fit `room`.
+#[unsafe(no_mangle)]
+pub extern "C" fn av1_builder_begin(
+    header: &PlanHeader,
+    builder: &mut Builder,
+    room: &mut [u8],
+) -> u32
+    // The plan has exactly the fields of this header.
+    ensures done { result ≡ DONE → Hold builder.new room.new room.old (begun (header_of header.now)) }
+    // The status is the one that the header and the length of the buffer ask for.
+    ensures status { result ≡ asked_status true (header_refusal (header_of header.now)) 20 (length room.old) }
+    // The bytes tell of a plan its header.
+    ensures told { result ≡ DONE → Tells (plan_of builder.new room.new) (plan_begun (header_of header.now)) }
+    // After a refusal all is as before.
+    ensures kept { result ≢ DONE → (builder.new ≡ builder.old) × (room.new ≡ room.old) }
+{
+    answer(begin(header, builder, room))
+}
+
+// ---- planes
+
+/// Appends the planes of the next slot of the mask.
+///
+/// # Errors
+///
+/// `BadState`, then `NotNow`, then `NotAdmitted`, then `TooLong`, then `RoomTooSmall`.
+fn give_reference(
+    builder: &mut Builder,
+    room: &mut [u8],
+    y: &[u16],
+    u: &[u16],
+    v: &[u16],
+) -> Result<(), BuildFault>
+    ensures holds { OnOk result (Hold builder.new room.new room.old (with_reference (plan_of builder.old room.old) y.now u.now v.now)) }
+    ensures status { answered result ≡ asked_status (is_builder builder.old (length room.old)) (reference_refusal (plan_of builder.old room.old) y.now u.now v.now) (length (with_reference (plan_of builder.old room.old) y.now u.now v.now).bytes) (length room.old) }
+    ensures told { (p : PlanValue) → Tells (plan_of builder.old room.old) p → OnOk result (Tells (plan_of builder.new room.new) (plan_with_reference p y.now u.now v.now)) }
+    ensures kept { OnErr result ((builder.new ≡ builder.old) × (room.new ≡ room.old)) }
+{
+    let mut progress = builder.progress(room.len())?;
+    progress.check_reference(y, u, v)?;
+    let end = append_planes(room, builder.written, builder.header.depth, y, u, v)?;
+    progress.pass_reference();
+    *builder = Builder::stopped(builder.header, &progress.state(), end);
+    Ok(())
+}
+
+/// Gives the planes of the next slot of the mask, each row by row: they are appended to the bytes in `room`.
+///
+/// `DONE`: that was done. `NOT_NOW`: no planes are asked for. `NOT_ADMITTED`: a plane has another number of samples, or one of them is not below
+/// `1 << depth`. `TOO_LONG`: the bytes would be more than 2^26. `ROOM_TOO_SMALL`: they would not fit `room`. `BAD_STATE`: `builder` is none over `room`.
+#[unsafe(no_mangle)]
+pub extern "C" fn av1_builder_reference(
+    builder: &mut Builder,
+    room: &mut [u8],
+    y: &[u16],
+    u: &[u16],
+    v: &[u16],
+) -> u32
+    // Exactly these planes are appended.
+    ensures done { result ≡ DONE → Hold builder.new room.new room.old (with_reference (plan_of builder.old room.old) y.now u.now v.now) }
+    // The status is the one that is asked for.
+    ensures status { result ≡ asked_status (is_builder builder.old (length room.old)) (reference_refusal (plan_of builder.old room.old) y.now u.now v.now) (length (with_reference (plan_of builder.old room.old) y.now u.now v.now).bytes) (length room.old) }
+    // What the bytes told of a plan before, they tell of it with what is given.
+    ensures told { (p : PlanValue) → Tells (plan_of builder.old room.old) p → result ≡ DONE → Tells (plan_of builder.new room.new) (plan_with_reference p y.now u.now v.now) }
+    // After a refusal all is as before.
+    ensures kept { result ≢ DONE → (builder.new ≡ builder.old) × (room.new ≡ room.old) }
+{
+    answer(give_reference(builder, room, y, u, v))
+}
+
+// ---- marks
+
+/// Appends the mark of the next node.
+///
+/// # Errors
+///
+/// `BadState`, then `NotNow`, then `NotAdmitted`, then `TooLong`, then `RoomTooSmall`.
+fn give_mark(builder: &mut Builder, room: &mut [u8], mark: u8) -> Result<(), BuildFault>
+    ensures holds { OnOk result (Hold builder.new room.new room.old (with_mark (plan_of builder.old room.old) mark)) }
+    ensures status { answered result ≡ asked_status (is_builder builder.old (length room.old)) (mark_refusal (plan_of builder.old room.old) mark) (length (with_mark (plan_of builder.old room.old) mark).bytes) (length room.old) }
+    ensures told { (p : PlanValue) → Tells (plan_of builder.old room.old) p → OnOk result (Tells (plan_of builder.new room.new) p) }
+    ensures kept { OnErr result ((builder.new ≡ builder.old) × (room.new ≡ room.old)) }
+{
+    let mut progress = builder.progress(room.len())?;
+    progress.check_mark(mark)?;
+    let end = append(room, builder.written, &[mark])?;
+    progress.pass_mark(mark);
+    *builder = Builder::stopped(builder.header, &progress.state(), end);
+    Ok(())
+}
+
+/// Gives the mark of the next node: it is appended to the bytes in `room`.
+///
+/// `DONE`: that was done. `NOT_NOW`: no mark is asked for. `NOT_ADMITTED`: the node can't have this mark. `TOO_LONG`: the bytes would be more than
+/// 2^26. `ROOM_TOO_SMALL`: they would not fit `room`. `BAD_STATE`: `builder` is none over `room`.
+#[unsafe(no_mangle)]
+pub extern "C" fn av1_builder_mark(builder: &mut Builder, room: &mut [u8], mark: u8) -> u32
+    // Exactly this mark is appended.
+    ensures done { result ≡ DONE → Hold builder.new room.new room.old (with_mark (plan_of builder.old room.old) mark) }
+    // The status is the one that is asked for.
+    ensures status { result ≡ asked_status (is_builder builder.old (length room.old)) (mark_refusal (plan_of builder.old room.old) mark) (length (with_mark (plan_of builder.old room.old) mark).bytes) (length room.old) }
+    // What the bytes told of a plan before, they tell of it with what is given.
+    ensures told { (p : PlanValue) → Tells (plan_of builder.old room.old) p → result ≡ DONE → Tells (plan_of builder.new room.new) p }
+    // After a refusal all is as before.
+    ensures kept { result ≢ DONE → (builder.new ≡ builder.old) × (room.new ≡ room.old) }
+{
+    answer(give_mark(builder, room, mark))
+}
+
+// ---- the end
+
+/// Tells how many bytes the plan has, once all its fields are given: those at the front of `room`.
+///
+/// `DONE`: `len` has the number. `NOT_NOW`: a field is still asked for. `BAD_STATE`: `builder` is none over `room`. The plan can be gone on with
+/// after any of them.
+#[unsafe(no_mangle)]
+pub extern "C" fn av1_builder_finish(builder: &Builder, room: &[u8], len: &mut usize) -> u32
+    ensures done { result ≡ DONE → take len.new room.now ≡ (plan_of builder.now room.now).bytes }
+    ensures within { result ≡ DONE → len.new ≤ length room.now }
+    // They are the text of the plan of which all is told.
+    ensures text { (p : PlanValue) → Tells (plan_of builder.now room.now) p → result ≡ DONE → AreText plan (take len.new room.now) p }
+    // The status is the one that is asked for.
+    ensures status { result ≡ (if is_builder builder.now (length room.now) then (if asks_more (plan_of builder.now room.now) then NOT_NOW else DONE) else BAD_STATE) }
+    ensures kept { result ≢ DONE → len.new ≡ len.old }
+{
+    match builder.progress(room.len()) {
+        Ok(progress) => {
+            if progress.asks_more() {
+                return NOT_NOW;
+            }
+            *len = builder.written;
+            DONE
+        }
+        Err(_) => BAD_STATE,
+    }
+}

@@ -1,0 +1,98 @@
+//! The call of a builder on leaves.
+
+ghost use Rattle.std.specs.Prelude.{◌≡◌, ◌≢◌, ◌<◌, ◌&&◌, ◌^◌, true, [], Some, length, IfErr, OnErr, OnOk};
+ghost use Rattle.av1_plan.specs.Plan.{PlanValue};
+ghost use Rattle.av1_planwrite.specs.Builder.{built};
+ghost use Rattle.av1_planwrite.specs.Building.{Tells, admits_leaf_fields, argument_refusal, asked_part, asks_leaf, plan_with_leaf, with_leaf};
+ghost use Rattle.av1_planwrite.specs.Given.{FitsKind};
+ghost use Rattle.av1_c.specs.BuildFaults.{answered, asked_status};
+ghost use Rattle.av1_c.specs.Builders.{Hold, is_builder, plan_of};
+ghost use Rattle.av1_c.specs.Leaves.{are_numbers, fields_of, kind_of, numbers_refusal, uv_type_of};
+
+use crate::append_leaf::append_leaf;
+use crate::build_fault::{BuildFault, answer};
+use crate::builder::Builder;
+use crate::leaf_numbers::{Coefficient, LeafNumbers};
+use crate::status::DONE;
+use av1_planwrite::{BuildError, Part, Progress};
+
+/// Whether a leaf of these numbers may come next that has so many coefficients in Y, U and V.
+///
+/// # Errors
+///
+/// `NotNow` where no leaf is asked for, then `NotAdmitted`.
+fn check_leaf(
+    progress: &Progress,
+    leaf: &LeafNumbers,
+    y: usize,
+    u: usize,
+    v: usize,
+) -> Result<(), BuildError>
+    ensures asked { OnOk result (asks_leaf (asked_part (built progress.now [])) ≡ true) }
+    ensures numbers { OnOk result (are_numbers leaf.now ≡ true) }
+    ensures admitted { OnOk result (admits_leaf_fields (built progress.now []).header (asked_part (built progress.now [])) (kind_of leaf.now) (uv_type_of leaf.now) y u v ≡ true) }
+    ensures fits { OnOk result (FitsKind (kind_of leaf.now)) }
+    ensures few { OnOk result ((y < 2 ^ 16) × (u < 2 ^ 16) × (v < 2 ^ 16)) }
+    ensures refused { IfErr result (λ e. argument_refusal (asks_leaf (asked_part (built progress.now [])))
+        (are_numbers leaf.now && admits_leaf_fields (built progress.now []).header (asked_part (built progress.now [])) (kind_of leaf.now) (uv_type_of leaf.now) y u v) ≡ Some e) }
+{
+    let Some(Part::Leaf { .. }) = progress.asked_part() else {
+        return Err(BuildError::NotNow);
+    };
+    if !leaf.are_numbers() {
+        return Err(BuildError::NotAdmitted);
+    }
+    progress.check_leaf(&leaf.kind(), leaf.uv_type(), y, u, v)
+}
+
+/// Appends the fields of the next leaf.
+///
+/// # Errors
+///
+/// `BadState`, then `NotNow`, then `NotAdmitted`, then `TooLong`, then `RoomTooSmall`.
+fn give_leaf(
+    builder: &mut Builder,
+    room: &mut [u8],
+    leaf: &LeafNumbers,
+    y: &[Coefficient],
+    u: &[Coefficient],
+    v: &[Coefficient],
+) -> Result<(), BuildFault>
+    ensures holds { OnOk result (Hold builder.new room.new room.old (with_leaf (plan_of builder.old room.old) (fields_of leaf.now y.now u.now v.now))) }
+    ensures status { answered result ≡ asked_status (is_builder builder.old (length room.old)) (numbers_refusal (plan_of builder.old room.old) leaf.now y.now u.now v.now) (length (with_leaf (plan_of builder.old room.old) (fields_of leaf.now y.now u.now v.now)).bytes) (length room.old) }
+    ensures told { (p : PlanValue) → Tells (plan_of builder.old room.old) p → OnOk result (Tells (plan_of builder.new room.new) (plan_with_leaf p (asked_part (plan_of builder.old room.old)) (fields_of leaf.now y.now u.now v.now))) }
+    ensures kept { OnErr result ((builder.new ≡ builder.old) × (room.new ≡ room.old)) }
+{
+    let mut progress = builder.progress(room.len())?;
+    check_leaf(&progress, leaf, y.len(), u.len(), v.len())?;
+    let end = append_leaf(room, builder.written, leaf, y, u, v)?;
+    progress.pass_leaf();
+    *builder = Builder::stopped(builder.header, &progress.state(), end);
+    Ok(())
+}
+
+/// Gives the next leaf, with its coefficients in Y, U and V: its fields are appended to the bytes in `room`. Its size and its place come from the marks.
+///
+/// `DONE`: that was done. `NOT_NOW`: no leaf is asked for. `NOT_ADMITTED`: a number names nothing or is not admitted here, chroma is given though the
+/// leaf carries none or is missing though it does, there are coefficients of chroma that it doesn't carry, or more than 65,535 of a plane.
+/// `TOO_LONG`: the bytes would be more than 2^26. `ROOM_TOO_SMALL`: they would not fit `room`. `BAD_STATE`: `builder` is none over `room`.
+#[unsafe(no_mangle)]
+pub extern "C" fn av1_builder_leaf(
+    builder: &mut Builder,
+    room: &mut [u8],
+    leaf: &LeafNumbers,
+    y: &[Coefficient],
+    u: &[Coefficient],
+    v: &[Coefficient],
+) -> u32
+    // Exactly the fields of this leaf are appended.
+    ensures done { result ≡ DONE → Hold builder.new room.new room.old (with_leaf (plan_of builder.old room.old) (fields_of leaf.now y.now u.now v.now)) }
+    // The status is the one that is asked for.
+    ensures status { result ≡ asked_status (is_builder builder.old (length room.old)) (numbers_refusal (plan_of builder.old room.old) leaf.now y.now u.now v.now) (length (with_leaf (plan_of builder.old room.old) (fields_of leaf.now y.now u.now v.now)).bytes) (length room.old) }
+    // What the bytes told of a plan before, they tell of it with what is given.
+    ensures told { (p : PlanValue) → Tells (plan_of builder.old room.old) p → result ≡ DONE → Tells (plan_of builder.new room.new) (plan_with_leaf p (asked_part (plan_of builder.old room.old)) (fields_of leaf.now y.now u.now v.now)) }
+    // After a refusal all is as before.
+    ensures kept { result ≢ DONE → (builder.new ≡ builder.old) × (room.new ≡ room.old) }
+{
+    answer(give_leaf(builder, room, leaf, y, u, v))
+}
