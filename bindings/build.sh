@@ -79,6 +79,7 @@ as_the_program() {
         "$work/example" "$work/made" >"$work/planes" && cmp "$work/planes" "$work/expected"
 }
 
+programs="calls starved transform_block motion_block luma intra build_plan"
 memcheck="valgrind -q --error-exitcode=1 --leak-check=full --show-leak-kinds=all"
 
 try "the library, by LLVM" archive "" out
@@ -89,12 +90,14 @@ try "the header, as C++" g++ -x c++ -pedantic -Wall -Wextra -Werror -fsyntax-onl
 for folder in out out/rattle; do
     for compiler in "gcc -O2" "gcc -O2 -fPIE -pie" "gcc -O2 -static" "gcc -O2 -flto" "clang -O2" "clang -g -fsanitize=address,undefined" "gcc -g -fsanitize=address,undefined"; do
         try "$folder: $compiler reconstruct_plan.c" reconstructs "" $folder $compiler
-        try "$folder: $compiler calls.c" runs "" calls.c $folder $compiler
-        try "$folder: $compiler starved.c" runs "" starved.c $folder $compiler
+        for program in $programs; do
+            try "$folder: $compiler $program.c" runs "" $program.c $folder $compiler
+        done
     done
     try "$folder: valgrind reconstruct_plan.c" reconstructs "$memcheck" $folder gcc -g -O1
-    try "$folder: valgrind calls.c" runs "$memcheck" calls.c $folder gcc -g -O1
-    try "$folder: valgrind starved.c" runs "$memcheck" starved.c $folder gcc -g -O1
+    for program in $programs; do
+        try "$folder: valgrind $program.c" runs "$memcheck" $program.c $folder gcc -g -O1
+    done
     try "$folder: a shared library" shared $folder
     try "$folder: cargo test" env AV1_C_FOLDER="$here/$folder" cargo test --offline --manifest-path rust/Cargo.toml --target-dir "$here/out/target"
 done

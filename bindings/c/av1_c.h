@@ -1,9 +1,11 @@
 /* AV1 block reconstruction: the calls of libav1_c.a. docs/LIBRARY.md says how to build and link it, and what of it is proved.
  *
  * Every call answers a status. After any but AV1_DONE what it was to write is as it was, so that a refused call leaves no trace but what
- * `refusal` says. Every argument is tested, but for what no call can test, and what the caller therefore owes:
+ * `refusal` says, and what it may leave in scratch. Every argument is tested, but for what no call can test, and what the caller therefore owes:
  *   - each pointer leads to as many elements as the length beside it says (it may be NULL where that length is 0), or to one value;
  *   - what a call writes to (each pointer without `const`) overlaps nothing else that the call is given. What it reads may overlap.
+ * A rectangle whose rows stand `stride` samples apart lies in its samples where x + width <= stride and (y + height) * stride <= their number: its
+ * last row is there as far as the stride, too.
  * Calls keep nothing from one to the next, and may run at the same time in threads, over memory that they don't share.
  * Numbers are of the machine's own byte order; those inside a plan and samples of 16 bits in planes are little-endian. */
 #ifndef AV1_C_H
@@ -23,7 +25,24 @@ enum {
     AV1_ROOM_TOO_SMALL = 2, /* the buffer that was to be written is too short */
     AV1_TOO_LONG = 3,       /* there are more bytes than the longest plan has: 2^26 */
     AV1_MALFORMED = 4,      /* the bytes are no plan */
-    AV1_INVALID = 5         /* a leaf of the plan is refused */
+    AV1_INVALID = 5,        /* a leaf of the plan is refused */
+    /* of calls on a block: */
+    AV1_BAD_SIZE = 6,         /* no size has this number, or no block has such a side */
+    AV1_BAD_TYPE = 7,         /* no type has this number, or the size has no such type */
+    AV1_BAD_DEPTH = 8,        /* samples have no such depth */
+    AV1_BAD_AREA = 9,         /* a rectangle does not lie in its buffer */
+    AV1_TOO_SHORT = 10,       /* a list has too few elements */
+    AV1_BAD_COEFFICIENT = 11, /* a coefficient has more bits than the depth admits */
+    AV1_BAD_SAMPLE = 12,      /* a sample has more bits than the depth */
+    AV1_BAD_MODE = 13,        /* no mode or filter has this number */
+    AV1_BAD_ANGLE = 14,       /* an angle that its mode does not have */
+    AV1_BAD_FRACTION = 15,    /* no filter has this fraction of a sample */
+    AV1_BAD_SAMPLING = 16,    /* no planes have such decimations */
+    AV1_BAD_PAD = 17,         /* so many columns or rows without luma of their own leave none with it */
+    /* of calls of a builder: */
+    AV1_NOT_NOW = 40,         /* a plan in the making asks for another kind of field next */
+    AV1_NOT_ADMITTED = 41,    /* an argument has a value that is not admitted here */
+    AV1_BAD_STATE = 42        /* the numbers of a builder are those of none */
 };
 
 /* Why a leaf is refused: `kind` of a refusal. */
@@ -57,8 +76,305 @@ uint32_t av1_planes_len(const uint8_t *bytes, size_t bytes_len, size_t *len, av1
  *   room, room_len     the buffer, in bytes
  *   written            AV1_DONE: how many bytes were written, which is what av1_planes_len tells
  *   refusal            AV1_MALFORMED, AV1_INVALID: the field or the leaf at fault
- * Answers any of the statuses. It takes memory from the heap while it runs, and gives all of it back. */
+ * Answers AV1_DONE, AV1_OUT_OF_MEMORY, AV1_ROOM_TOO_SMALL, AV1_TOO_LONG, AV1_MALFORMED or AV1_INVALID. It takes memory from the heap while it
+ * runs, and gives all of it back. */
 uint32_t av1_reconstruct_plan(const uint8_t *bytes, size_t bytes_len, uint8_t *room, size_t room_len, size_t *written, av1_refusal *refusal);
+
+/* Room for one block between and within the passes of its transform. What it holds before a call doesn't matter, so that it need not be
+ * cleared, and nothing in it is of use after one. Calls that run at the same time need one each. It lies well at an address that is a
+ * multiple of 64. */
+typedef struct {
+    int32_t words[9728];
+} av1_transform_scratch;
+
+/* Adds the residue of a block's coefficients to samples of 8 bits, and clips, at a depth of 8: the AV1 specification's "2D inverse transform
+ * process" and the addition of "Reconstruction". It takes no memory.
+ *   scratch                            room for the call
+ *   coefficients, coefficients_len     that of row r and column c at c * min(height, 32) + r; rows and columns from 32 on have none, and
+ *                                      what stands behind those of the transform is not read
+ *   samples, samples_len, stride       the samples, in rows that stand `stride` samples apart
+ *   x, y                               the column and the row of the block's first sample
+ *   tx_size, tx_type                   the transform's numbers, as in plans (docs/PLAN_FORMAT.md)
+ * Answers AV1_DONE, AV1_BAD_SIZE, AV1_BAD_TYPE, AV1_BAD_AREA or AV1_TOO_SHORT. */
+uint32_t av1_inverse_transform_add_8(av1_transform_scratch *scratch, const int16_t *coefficients, size_t coefficients_len, uint8_t *samples,
+                                     size_t samples_len, size_t stride, size_t x, size_t y, uint8_t tx_size, uint8_t tx_type);
+
+/* The same for samples of 16 bits at a depth of 8, 10 or 12, of which each coefficient has at most bit_depth + 8 bits, its sign among them.
+ * A sample that is past the depth is clipped with what is added to it.
+ * Answers AV1_BAD_DEPTH or AV1_BAD_COEFFICIENT, too. */
+uint32_t av1_inverse_transform_add_16(av1_transform_scratch *scratch, const int32_t *coefficients, size_t coefficients_len, uint16_t *samples,
+                                      size_t samples_len, size_t stride, size_t x, size_t y, uint8_t tx_size, uint8_t tx_type,
+                                      size_t bit_depth);
+
+/* A block that is moved between the samples of its reference. */
+typedef struct {
+    size_t width;     /* how many columns it has: from 1 to 128 */
+    size_t height;    /* how many rows it has: from 1 to 128 */
+    uint8_t col_frac; /* how far it is moved right, in sixteenths of a sample: below 16 */
+    uint8_t row_frac; /* how far it is moved down, in sixteenths of a sample: below 16 */
+    uint8_t filter_x; /* the number of the filter along its rows, as in plans: 0 regular, 1 smooth, 2 sharp, 3 bilinear */
+    uint8_t filter_y; /* the number of the filter down its columns */
+} av1_motion_block;
+
+/* Predicts a block from one reference of samples of 8 bits: the AV1 specification's "Block inter prediction process". Each sample of the
+ * block's rectangle becomes the one at its place in the reference, moved by the block's fractions. A side up to 4 takes the filters for such
+ * sides. It takes no memory.
+ *   dst, dst_len, dst_stride    the samples that are written, in rows that stand `dst_stride` samples apart
+ *   dst_x, dst_y                the column and the row of the rectangle's first sample
+ *   src, src_len, src_stride    the reference
+ *   src_x, src_y                the column and the row of the block's first sample in it; 3 columns and rows before the block and 4 after it
+ *                               are read, at every fraction
+ *   block                       its sides, and how it is moved
+ * Answers AV1_DONE, AV1_BAD_SIZE (a side), AV1_BAD_MODE (a filter), AV1_BAD_FRACTION or AV1_BAD_AREA (of either rectangle). */
+uint32_t av1_put_8tap_8(uint8_t *dst, size_t dst_len, size_t dst_stride, size_t dst_x, size_t dst_y, const uint8_t *src, size_t src_len,
+                        size_t src_stride, size_t src_x, size_t src_y, const av1_motion_block *block);
+
+/* The same for samples of 16 bits at a depth of 8, 10 or 12, of which none that is read is past the depth.
+ * Answers AV1_BAD_DEPTH or AV1_BAD_SAMPLE, too. */
+uint32_t av1_put_8tap_16(uint16_t *dst, size_t dst_len, size_t dst_stride, size_t dst_x, size_t dst_y, const uint16_t *src, size_t src_len,
+                         size_t src_stride, size_t src_x, size_t src_y, const av1_motion_block *block, size_t bit_depth);
+
+/* Prepares a block of samples of 8 bits for the average with another: the same process with the rounding of compound prediction. A value is
+ * 16 times a sample. It takes no memory.
+ *   values, values_len          the first `height * width` become those of the block, row by row; the others stay
+ *   src .. block                as above
+ * Answers AV1_DONE, AV1_BAD_SIZE, AV1_BAD_MODE, AV1_BAD_FRACTION, AV1_BAD_AREA or AV1_TOO_SHORT (the values). */
+uint32_t av1_prep_8tap_8(int16_t *values, size_t values_len, const uint8_t *src, size_t src_len, size_t src_stride, size_t src_x,
+                         size_t src_y, const av1_motion_block *block);
+
+/* The same for samples of 16 bits at a depth of 8, 10 or 12, of which none that is read is past the depth. Above depth 8 values are less by
+ * 8192; at 12 they are 4 times a sample.
+ * Answers AV1_BAD_DEPTH or AV1_BAD_SAMPLE, too. */
+uint32_t av1_prep_8tap_16(int16_t *values, size_t values_len, const uint16_t *src, size_t src_len, size_t src_stride, size_t src_x,
+                          size_t src_y, const av1_motion_block *block, size_t bit_depth);
+
+/* Averages two prepared blocks at a depth of 8. It takes no memory.
+ *   samples, samples_len, stride    the samples, in rows that stand `stride` samples apart
+ *   x, y, width, height             the rectangle that is written: its first sample, and its sides from 1 to 128
+ *   first, first_len                the values of one block, row by row, as av1_prep_8tap_8 leaves them; what stands behind them is not read
+ *   second, second_len              those of the other
+ * Answers AV1_DONE, AV1_BAD_SIZE, AV1_BAD_AREA or AV1_TOO_SHORT. */
+uint32_t av1_mc_avg_8(uint8_t *samples, size_t samples_len, size_t stride, size_t x, size_t y, size_t width, size_t height,
+                      const int16_t *first, size_t first_len, const int16_t *second, size_t second_len);
+
+/* The same for samples of 16 bits at a depth of 8, 10 or 12.
+ * Answers AV1_BAD_DEPTH, too. */
+uint32_t av1_mc_avg_16(uint16_t *samples, size_t samples_len, size_t stride, size_t x, size_t y, size_t width, size_t height,
+                       const int16_t *first, size_t first_len, const int16_t *second, size_t second_len, size_t bit_depth);
+
+/* A block that an intra mode predicts. */
+typedef struct {
+    uint8_t mode;             /* 0 DC, 1 V, 2 H, 3 D45, 4 D135, 5 D113, 6 D157, 7 D203, 8 D67, 9 SMOOTH, 10 SMOOTH_V, 11 SMOOTH_H, 12 PAETH */
+    uint8_t tx_size;          /* 0 4x4, 1 8x8, 2 16x16, 3 32x32, 4 64x64, 5 4x8, 6 8x4, 7 8x16, 8 16x8, 9 16x32, 10 32x16, 11 32x64, 12 64x32,
+                                 13 4x16, 14 16x4, 15 8x32, 16 32x8, 17 16x64, 18 64x16: columns by rows */
+    int8_t angle_step;        /* how many steps of 3 degrees modes 1 to 8 turn, from -3 to 3; 0 in other modes */
+    uint8_t bit_depth;        /* 8, 10 or 12 */
+    uint8_t has_left;         /* 0: the left side lies outside of the block's tile */
+    uint8_t has_above;        /* 0: the side above lies outside of it */
+    uint8_t edge_filter;      /* 0: the edge filter is off */
+    uint8_t smooth_neighbour; /* 0: no neighbour has a smooth mode (IsSmooth); not read where the filter is off */
+    size_t visible_columns;   /* how many visible columns of the plane there are from the block's first on: the filter smooths none past those */
+    size_t visible_rows;      /* how many visible rows */
+} av1_intra_block;
+
+/* Predicts the samples of a block by its intra mode, from the sides round it. All other samples stay.
+ *   samples, samples_len  rows that stand `stride` apart, of which the last ends where the samples do, or before
+ *   x, y                  the column and the row at which the block begins
+ *   left, left_len        from the bottom up: the last sample stands beside the first row
+ *   corner                the sample between the two sides
+ *   above, above_len      from the left
+ * Of each side the places nearest to the corner are read: none, as many as the block is long there, or in a direction below 90 (above) or
+ * past 180 degrees (left) as many more as it is long on its other side. Samples past the depth are taken as they are.
+ * Answers AV1_DONE, AV1_BAD_MODE, AV1_BAD_SIZE, AV1_BAD_ANGLE, AV1_BAD_DEPTH (av1_predict_intra_8 takes 8 alone), AV1_BAD_AREA or
+ * AV1_TOO_SHORT. */
+uint32_t av1_predict_intra_8(uint8_t *samples, size_t samples_len, size_t stride, size_t x, size_t y, const av1_intra_block *block,
+                             const uint8_t *left, size_t left_len, uint8_t corner, const uint8_t *above, size_t above_len);
+uint32_t av1_predict_intra_16(uint16_t *samples, size_t samples_len, size_t stride, size_t x, size_t y, const av1_intra_block *block,
+                              const uint16_t *left, size_t left_len, uint16_t corner, const uint16_t *above, size_t above_len);
+
+/* Predicts the samples of a block of chroma from luma: each becomes the DC prediction by the sides that lie in the tile, and what its difference
+ * in `ac` adds to it, clipped to the depth. All else is as in av1_predict_intra_8, but that the block's mode is not read, and that its
+ * angle_step is 0.
+ *   ac, ac_len            the differences of luma from its mean in eighths, row by row, as many as the block has samples
+ *   alpha                 the weight, in eighths
+ * Answers as av1_predict_intra_8, but never AV1_BAD_MODE. */
+uint32_t av1_predict_cfl_8(uint8_t *samples, size_t samples_len, size_t stride, size_t x, size_t y, const av1_intra_block *block,
+                           const uint8_t *left, size_t left_len, const uint8_t *above, size_t above_len, const int16_t *ac, size_t ac_len,
+                           int16_t alpha);
+uint32_t av1_predict_cfl_16(uint16_t *samples, size_t samples_len, size_t stride, size_t x, size_t y, const av1_intra_block *block,
+                            const uint16_t *left, size_t left_len, const uint16_t *above, size_t above_len, const int16_t *ac, size_t ac_len,
+                            int16_t alpha);
+
+/* How many samples the room of an edge has. */
+#define AV1_EDGE_SAMPLES 257
+/* The number that names no mode. */
+#define AV1_ANY_MODE 255
+
+/* A plane in memory of the caller, and a tile of it. */
+typedef struct {
+    size_t stride;          /* how far the rows of its samples stand apart */
+    size_t x;               /* the column of its first visible sample */
+    size_t y;               /* the row of its first visible sample */
+    size_t width;           /* how many visible columns it has */
+    size_t height;          /* how many visible rows it has */
+    size_t tile_x;          /* the first column of the tile, counted from the first visible one */
+    size_t tile_y;          /* the first row of the tile, counted from the first visible one */
+    size_t tile_width;      /* how many columns of the plane the tile has */
+    size_t tile_height;     /* how many rows of the plane the tile has */
+    uint8_t halved_columns; /* 0: it has as many columns as luma, else half of them */
+    uint8_t halved_rows;    /* 0: it has as many rows as luma, else half of them */
+} av1_edge_plane;
+
+/* A transform whose edge is prepared. */
+typedef struct {
+    size_t x;            /* the column of its first sample in the tile */
+    size_t y;            /* the row of its first sample in the tile */
+    size_t cell_x;       /* the column of its block in the tile, counted in cells of 4 by 4 luma samples */
+    size_t cell_y;       /* the row of its block in the tile, counted in cells */
+    size_t unit_x;       /* its column in its block, counted in transforms */
+    size_t unit_y;       /* its row in its block, counted in transforms */
+    uint8_t block_size;  /* the block's size in luma, by its number in plans: 0 4x4, 1 4x8, 2 8x4, 3 8x8, 4 8x16, 5 16x8, 6 16x16, 7 16x32,
+                            8 32x16, 9 32x32, 10 32x64, 11 64x32, 12 64x64, 13 64x128, 14 128x64, 15 128x128, 16 4x16, 17 16x4, 18 8x32,
+                            19 32x8, 20 16x64, 21 64x16 */
+    uint8_t tx_size;     /* its own size, as in av1_intra_block */
+    uint8_t mode;        /* the mode that is to predict it, as in av1_intra_block, or 13 (chroma from luma), or AV1_ANY_MODE: all parts */
+    int8_t angle_step;   /* how many steps of 3 degrees modes 1 to 8 turn, from -3 to 3; 0 in other modes; not read with AV1_ANY_MODE */
+    uint8_t bit_depth;   /* 8, 10 or 12 */
+    uint8_t edge_filter; /* 0: the edge filter is off */
+} av1_edge_block;
+
+/* Prepares the edge of a transform for the mode that is to predict it, from the samples of its plane.
+ *   edge, edge_len        AV1_EDGE_SAMPLES samples, or more, of which the rest stays: the first 128 are the left side, from the bottom up, and
+ *                         end beside the transform's first row; sample 128 is the corner; the side above begins behind it. What those
+ *                         hold that the mode doesn't read is not told. av1_predict_intra_8 takes (edge, 128), edge[128], (edge + 129, 128).
+ *   samples, samples_len  the plane's, of which those before the transform in coding order have to be there
+ * Answers AV1_DONE, AV1_ROOM_TOO_SMALL, AV1_BAD_MODE, AV1_BAD_SIZE (of the transform or the block), AV1_BAD_ANGLE, AV1_BAD_DEPTH
+ * (av1_intra_edge_8 takes 8 alone) or AV1_BAD_AREA: the plane does not lie in the samples, or the tile in the plane, or the transform does
+ * not begin in the tile, or not within 65536 units of 4 samples from its block's first. That `x` and `y` are the place of the cell and the unit
+ * is not tested. Samples past the depth are taken as they are. */
+uint32_t av1_intra_edge_8(uint8_t *edge, size_t edge_len, const uint8_t *samples, size_t samples_len, const av1_edge_plane *plane,
+                          const av1_edge_block *block);
+uint32_t av1_intra_edge_16(uint16_t *edge, size_t edge_len, const uint16_t *samples, size_t samples_len, const av1_edge_plane *plane,
+                           const av1_edge_block *block);
+
+/* A block of chroma that is predicted from luma. */
+typedef struct {
+    uint8_t block_size; /* 0 4x4, 1 4x8, 2 8x4, 3 8x8, 4 8x16, 5 16x8, 6 16x16, 7 16x32, 8 32x16, 9 32x32, 16 4x16, 17 16x4, 18 8x32,
+                           19 32x8: columns by rows of chroma */
+    uint8_t xdec;       /* 1: chroma has half of luma's columns (4:2:2 and 4:2:0); else 0 */
+    uint8_t ydec;       /* 1: chroma has half of luma's rows, too (4:2:0); else 0 */
+    size_t w_pad;       /* how many units of 4 columns of chroma, the block's last ones, have no luma of their own */
+    size_t h_pad;       /* how many units of 4 rows */
+} av1_cfl_block;
+
+/* Puts into `ac`, row by row, how far the luma over each sample of a block of chroma is from its mean, in eighths, at a depth of 8: the averages
+ * of the AV1 specification's "predict chroma from luma process", by which chroma is then predicted. The other entries of `ac` stay. It takes no
+ * memory.
+ *   ac, ac_len             the differences: as many as the block has samples, or more
+ *   luma, luma_len, stride samples of luma, in rows that stand `stride` samples apart
+ *   x, y                   the column and the row at which the block's luma begins
+ * Read are the columns and rows over those of chroma that have luma of their own, and at least 8, but none past the block. The other columns and
+ * rows of chroma repeat the last of these.
+ * Answers AV1_DONE, AV1_BAD_SIZE, AV1_BAD_SAMPLING, AV1_BAD_PAD, AV1_BAD_AREA or AV1_TOO_SHORT. */
+uint32_t av1_cfl_ac_8(int16_t *ac, size_t ac_len, const uint8_t *luma, size_t luma_len, size_t stride, size_t x, size_t y,
+                      const av1_cfl_block *block);
+
+/* The same for samples of 16 bits at a depth of 8, 10 or 12.
+ * Answers AV1_BAD_DEPTH, or AV1_BAD_SAMPLE where one of the samples that are read is past the depth, too. */
+uint32_t av1_cfl_ac_16(int16_t *ac, size_t ac_len, const uint16_t *luma, size_t luma_len, size_t stride, size_t x, size_t y,
+                       const av1_cfl_block *block, size_t bit_depth);
+
+/* ---- plans built field by field
+ *
+ * An encoder gives a plan's fields while it encodes: av1_builder_begin the header, then av1_builder_reference the planes of each slot that the
+ * mask names, rising, and then, superblock by superblock, av1_builder_mark the mark of each node before its parts and av1_builder_leaf each leaf.
+ * Parts that begin outside the frame are left out. av1_builder_finish tells how long the plan is. The plan's bytes are appended to those at the
+ * front of `room`, a buffer of the caller. It may be moved to a longer one between calls, if those bytes are moved with it. What is asked for next
+ * is kept in an av1_builder of the caller, which no one else writes to. A call that is refused leaves both as they were. No call takes memory. */
+
+/* The frame that a plan is for, and what holds for all its leaves. */
+typedef struct {
+    uint16_t width;      /* columns of luma samples, a multiple of 8 from 8 to 2048 */
+    uint16_t height;     /* rows of luma samples, the same */
+    uint8_t version;     /* 1, or 2, in which a node may be cut into four leaves that are a quarter as wide or as high */
+    uint8_t depth;       /* bits of a sample: 8, 10 or 12 */
+    uint8_t sampling;    /* 0 for 4:2:0, 1 for 4:2:2, 2 for 4:4:4 */
+    uint8_t filter;      /* the interpolation filter: 0 to 3 */
+    uint8_t edge_filter; /* whether intra edges are filtered: not 0 */
+    uint8_t mask;        /* the slots that carry planes: bit s is slot s */
+    uint8_t slots[7];    /* for each reference from LAST to ALTREF the slot that it names, from 0 to 7 */
+} av1_plan_header;
+
+/* A part of a plan that is asked for, at its place in luma samples. */
+typedef struct {
+    uint8_t kind;   /* 1 for a node, 0 for a leaf */
+    uint8_t number; /* of a node the logarithm to base 2 of a quarter of its side, of a leaf the number of its size */
+    uint16_t x, y;
+} av1_builder_part;
+
+/* What a plan in the making asks for next. Calls write it and test it; a caller may read it, and copy it with the bytes to come back to them. */
+typedef struct {
+    size_t written;             /* how many bytes of the plan stand in the buffer */
+    size_t slot;                /* the slot whose planes are asked for next, or 8 */
+    size_t count;               /* how many parts of the superblock that is begun are asked for: those of `parts`, the next one last */
+    uint16_t row, col;          /* the next superblock */
+    av1_plan_header header;
+    av1_builder_part parts[13];
+} av1_builder;
+
+/* A coefficient of a leaf in one plane. */
+typedef struct {
+    int32_t value;
+    uint16_t place; /* the place in the block's list of coefficients */
+    uint8_t block;  /* the transform block, numbered in raster order over the leaf's rectangle in the plane */
+} av1_coefficient;
+
+/* A reference and its vector, in eighths of a luma sample. */
+typedef struct {
+    int16_t row, col;
+    uint8_t reference; /* LAST to ALTREF: 1 to 7 */
+} av1_motion;
+
+/* The fields of a leaf but its coefficients, by the numbers that they have in a plan (docs/PLAN_FORMAT.md). What a leaf does not have is left at 0. */
+typedef struct {
+    av1_motion first;    /* the reference of a leaf that has one or two */
+    av1_motion second;   /* the other one of a leaf that has two */
+    uint8_t mode;        /* 0 to 13 without references, 14 to 19 with one, 20 to 33 with two */
+    int8_t step;         /* without references the steps of 3 degrees on the mode's angle */
+    uint8_t chroma;      /* whether the leaf carries chroma: not 0 */
+    uint8_t chroma_mode; /* without references, where chroma is carried: 0 to 12, or 13 for chroma from luma */
+    int8_t chroma_step;  /* the steps on that mode's angle */
+    int8_t alpha_u;      /* the weights of chroma from luma, in eighths */
+    int8_t alpha_v;
+    uint8_t tx_size;     /* the size and the type of the luma transforms */
+    uint8_t tx_type;
+    uint8_t uv_type;     /* the type of the chroma transforms, where chroma is carried */
+} av1_leaf;
+
+/* Begins a plan of this header, whose 20 bytes stand at the front of `room` then. What the builder held before is lost.
+ * Answers AV1_DONE, AV1_NOT_ADMITTED or AV1_ROOM_TOO_SMALL. */
+uint32_t av1_builder_begin(const av1_plan_header *header, av1_builder *builder, uint8_t *room, size_t room_len);
+
+/* Gives the planes of the next slot of the mask, each row by row without padding, one number a sample.
+ * Answers AV1_DONE, AV1_NOT_NOW (no planes are asked for), AV1_NOT_ADMITTED (a plane has another number of samples, or one of them is not below
+ * 1 << depth), AV1_TOO_LONG, AV1_ROOM_TOO_SMALL or AV1_BAD_STATE. */
+uint32_t av1_builder_reference(av1_builder *builder, uint8_t *room, size_t room_len, const uint16_t *y, size_t y_len, const uint16_t *u, size_t u_len,
+                               const uint16_t *v, size_t v_len);
+
+/* Gives the mark of the next node: 0 to 3 for none, horizontal, vertical and split, 8 and 9 for four leaves above one another and side by side.
+ * Answers AV1_DONE, AV1_NOT_NOW (no mark is asked for), AV1_NOT_ADMITTED, AV1_TOO_LONG, AV1_ROOM_TOO_SMALL or AV1_BAD_STATE. */
+uint32_t av1_builder_mark(av1_builder *builder, uint8_t *room, size_t room_len, uint8_t mark);
+
+/* Gives the next leaf, with its coefficients in Y, U and V. Its size and its place come from the marks.
+ * Answers AV1_DONE, AV1_NOT_NOW (no leaf is asked for), AV1_NOT_ADMITTED (a number names nothing or is not admitted here, chroma is given though the
+ * leaf carries none or is missing though it does, there are coefficients of chroma that it does not carry, or more than 65,535 of a plane),
+ * AV1_TOO_LONG, AV1_ROOM_TOO_SMALL or AV1_BAD_STATE. */
+uint32_t av1_builder_leaf(av1_builder *builder, uint8_t *room, size_t room_len, const av1_leaf *leaf, const av1_coefficient *y, size_t y_len,
+                          const av1_coefficient *u, size_t u_len, const av1_coefficient *v, size_t v_len);
+
+/* Tells how many bytes the plan has once all its fields are given: those at the front of `room`. The builder stays as it is.
+ * Answers AV1_DONE, AV1_NOT_NOW (a field is still asked for) or AV1_BAD_STATE. */
+uint32_t av1_builder_finish(const av1_builder *builder, const uint8_t *room, size_t room_len, size_t *len);
 
 #ifdef __cplusplus
 }

@@ -1,6 +1,13 @@
 //! AV1 block reconstruction by the library `libav1_c.a`, whose calls are proved. `docs/LIBRARY.md` of the repository says what is proved of
 //! them, and how the archive is built.
 //!
+//! [`inverse_transform_add_8`] and [`inverse_transform_add_16`] add the residue of a block to samples of the caller. [`put_8tap_8`] and
+//! [`put_8tap_16`] predict a block from one reference; [`prep_8tap_8`], [`prep_8tap_16`], [`mc_avg_8`] and [`mc_avg_16`] prepare blocks of two, and
+//! average them.
+//! [`predict_intra_8`], [`predict_cfl_8`] and their like for samples of 16 bits predict a block in samples of the caller, and
+//! [`intra_edge_8`] and [`intra_edge_16`] prepare the sides from which they do.
+//! [`cfl_ac_8`] and [`cfl_ac_16`] give the differences of luma from its mean, by which chroma is predicted.
+//! A [`PlanBuilder`] writes a plan field by field to a buffer of the caller.
 //! [`planes_len`] tells how many bytes the planes of a plan have, and [`reconstruct_plan`] writes them to a buffer of the caller:
 //!
 //! ```
@@ -18,7 +25,26 @@
 
 use std::fmt;
 
+mod builder;
+mod intra;
+mod intra_edge;
+mod luma;
+mod motion;
+mod place;
 mod sys;
+mod transform;
+
+pub use builder::{BuildError, Coefficient, Header, Leaf, Motion, PlanBuilder};
+pub use intra::{IntraBlock, predict_cfl_8, predict_cfl_16, predict_intra_8, predict_intra_16};
+pub use intra_edge::{ANY_MODE, EDGE_SAMPLES, EdgeBlock, EdgePlane, intra_edge_8, intra_edge_16};
+pub use luma::{CflBlock, cfl_ac_8, cfl_ac_16};
+pub use motion::{
+    MotionBlock, mc_avg_8, mc_avg_16, prep_8tap_8, prep_8tap_16, put_8tap_8, put_8tap_16,
+};
+pub use place::Place;
+pub use transform::{
+    TransformBlock, TransformScratch, inverse_transform_add_8, inverse_transform_add_16,
+};
 
 /// Why a call did nothing. What it was to write is then as it was.
 #[derive(Clone, Copy, Debug, PartialEq, Eq)]
@@ -41,6 +67,30 @@ pub enum Error {
         /// Why.
         kind: InvalidKind,
     },
+    /// No size has this number, or no block has such a side.
+    BadSize,
+    /// No type has this number, or the size has no such type.
+    BadType,
+    /// Samples have no such depth.
+    BadDepth,
+    /// A rectangle does not lie in its buffer.
+    BadArea,
+    /// A list has too few elements.
+    TooShort,
+    /// A coefficient has more bits than the depth admits.
+    BadCoefficient,
+    /// A sample has more bits than the depth.
+    BadSample,
+    /// No mode or filter has this number.
+    BadMode,
+    /// An angle that its mode does not have.
+    BadAngle,
+    /// No filter has this fraction of a sample.
+    BadFraction,
+    /// No planes have such decimations.
+    BadSampling,
+    /// So many columns or rows without luma of their own leave none with it.
+    BadPad,
 }
 
 /// Why a leaf is refused.
@@ -81,6 +131,18 @@ impl fmt::Display for Error {
             Error::TooLong => f.write_str("too long"),
             Error::Malformed { at } => write!(f, "malformed at {at}"),
             Error::Invalid { leaf, kind } => write!(f, "invalid leaf {leaf}: {kind}"),
+            Error::BadSize => f.write_str("bad size"),
+            Error::BadType => f.write_str("bad type"),
+            Error::BadDepth => f.write_str("bad depth"),
+            Error::BadArea => f.write_str("bad area"),
+            Error::TooShort => f.write_str("too short"),
+            Error::BadCoefficient => f.write_str("bad coefficient"),
+            Error::BadSample => f.write_str("bad sample"),
+            Error::BadMode => f.write_str("bad mode"),
+            Error::BadAngle => f.write_str("bad angle"),
+            Error::BadFraction => f.write_str("bad fraction"),
+            Error::BadSampling => f.write_str("bad sampling"),
+            Error::BadPad => f.write_str("bad pad"),
         }
     }
 }
@@ -112,8 +174,25 @@ fn answer(status: u32, refusal: &sys::Refusal) -> Result<(), Error> {
             leaf: refusal.leaf,
             kind: kind_of(refusal.kind),
         }),
+        sys::BAD_SIZE => Err(Error::BadSize),
+        sys::BAD_TYPE => Err(Error::BadType),
+        sys::BAD_DEPTH => Err(Error::BadDepth),
+        sys::BAD_AREA => Err(Error::BadArea),
+        sys::TOO_SHORT => Err(Error::TooShort),
+        sys::BAD_COEFFICIENT => Err(Error::BadCoefficient),
+        sys::BAD_SAMPLE => Err(Error::BadSample),
+        sys::BAD_MODE => Err(Error::BadMode),
+        sys::BAD_ANGLE => Err(Error::BadAngle),
+        sys::BAD_FRACTION => Err(Error::BadFraction),
+        sys::BAD_SAMPLING => Err(Error::BadSampling),
+        sys::BAD_PAD => Err(Error::BadPad),
         _ => unreachable!("status {status}"),
     }
+}
+
+// What a call that tells nothing but its status says.
+fn told(status: u32) -> Result<(), Error> {
+    answer(status, &sys::Refusal::default())
 }
 
 /// How many bytes the planes of a plan have: those that [`reconstruct_plan`] writes. It reads the 20 bytes of the header at the front of

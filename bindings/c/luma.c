@@ -1,0 +1,131 @@
+/* The differences of luma from its mean: by the library, beside the formula of the AV1 specification, in memory that is no longer than it is
+ * read, and calls as the header says not to. */
+#include "av1_c.h"
+
+#include <stdio.h>
+#include <stdlib.h>
+#include <string.h>
+
+#define CHECK(e) do { if (!(e)) { fprintf(stderr, "%s:%d: %s\n", __FILE__, __LINE__, #e); exit(1); } } while (0)
+
+enum { SIZES = 22, X = 3, Y = 2, MOST = 32 * 32, UNTOUCHED = 77 };
+
+static const size_t widths[SIZES] = {4, 4, 8, 8, 8, 16, 16, 16, 32, 32, 32, 64, 64, 64, 128, 128, 4, 16, 8, 32, 16, 64};
+static const size_t heights[SIZES] = {4, 8, 4, 8, 16, 8, 16, 32, 16, 32, 64, 32, 64, 128, 64, 128, 16, 4, 32, 8, 64, 16};
+
+static size_t least(size_t a, size_t b) { return a < b ? a : b; }
+static size_t greatest(size_t a, size_t b) { return a < b ? b : a; }
+
+/* How much of a side is read. */
+static size_t side_read(size_t side, size_t pad, unsigned dec) {
+    return least(side << dec, greatest((side - 4 * pad) << dec, 8));
+}
+
+/* So many samples of this depth, and not one more: whoever reads past them is told of. */
+static uint16_t *some_samples(size_t len, unsigned depth) {
+    static uint64_t state = 1;
+    uint16_t *samples = malloc(len * sizeof *samples);
+    CHECK(samples);
+    for (size_t i = 0; i < len; i++) {
+        state = state * 6364136223846793005u + 1442695040888963407u;
+        samples[i] = (uint16_t)((state >> 33) % ((uint64_t)1 << depth));
+    }
+    return samples;
+}
+
+static uint8_t *bytes_of(const uint16_t *samples, size_t len) {
+    uint8_t *bytes = malloc(len);
+    CHECK(bytes);
+    for (size_t i = 0; i < len; i++) bytes[i] = (uint8_t)samples[i];
+    return bytes;
+}
+
+/* The differences by the formula. */
+static void expect(int16_t *ac, const uint16_t *luma, size_t stride, const av1_cfl_block *b) {
+    size_t w = widths[b->block_size], h = heights[b->block_size], sum = 0;
+    size_t last_x = side_read(w, b->w_pad, b->xdec) - ((size_t)1 << b->xdec), last_y = side_read(h, b->h_pad, b->ydec) - ((size_t)1 << b->ydec);
+    for (size_t r = 0; r < h; r++)
+        for (size_t c = 0; c < w; c++) {
+            size_t x = least(c << b->xdec, last_x), y = least(r << b->ydec, last_y), covered = 0;
+            for (size_t v = 0; v <= b->ydec; v++)
+                for (size_t u = 0; u <= b->xdec; u++) covered += luma[(Y + y + v) * stride + X + x + u];
+            covered <<= 3 - b->xdec - b->ydec;
+            ac[r * w + c] = (int16_t)covered;
+            sum += covered;
+        }
+    for (size_t i = 0; i < w * h; i++) ac[i] = (int16_t)(ac[i] - (int16_t)((sum + w * h / 2) / (w * h)));
+}
+
+/* A block at this depth, in 16 bits and at a depth of 8 also in 8. */
+static void give(const av1_cfl_block *b, unsigned depth) {
+    size_t w = widths[b->block_size], h = heights[b->block_size], stride = X + (w << b->xdec);
+    size_t len = (Y + side_read(h, b->h_pad, b->ydec)) * stride;
+    uint16_t *luma = some_samples(len, depth);
+    uint8_t *bytes = bytes_of(luma, len);
+    int16_t expected[MOST], *ac = malloc(w * h * sizeof *ac);
+    CHECK(ac);
+    expect(expected, luma, stride, b);
+    CHECK(av1_cfl_ac_16(ac, w * h, luma, len, stride, X, Y, b, depth) == AV1_DONE);
+    CHECK(!memcmp(ac, expected, w * h * sizeof *ac));
+    if (depth == 8) {
+        memset(ac, 0, w * h * sizeof *ac);
+        CHECK(av1_cfl_ac_8(ac, w * h, bytes, len, stride, X, Y, b) == AV1_DONE);
+        CHECK(!memcmp(ac, expected, w * h * sizeof *ac));
+    }
+    CHECK(av1_cfl_ac_8(ac, w * h - 1, bytes, len, stride, X, Y, b) == AV1_TOO_SHORT);
+    CHECK(av1_cfl_ac_8(ac, w * h, bytes, len - 1, stride, X, Y, b) == AV1_BAD_AREA);
+    luma[len - 1 - (stride - X - side_read(w, b->w_pad, b->xdec))] = (uint16_t)(1 << depth);
+    CHECK(av1_cfl_ac_16(ac, w * h, luma, len, stride, X, Y, b, depth) == AV1_BAD_SAMPLE);
+    free(luma);
+    free(bytes);
+    free(ac);
+}
+
+static unsigned blocks(void) {
+    unsigned count = 0;
+    for (uint8_t size = 0; size < SIZES; size++)
+        for (uint8_t xdec = 0; xdec < 2 && greatest(widths[size], heights[size]) <= 32; xdec++)
+            for (uint8_t ydec = 0; ydec <= xdec; ydec++)
+                for (size_t w_pad = 0; 4 * w_pad < widths[size]; w_pad++)
+                    for (size_t h_pad = 0; 4 * h_pad < heights[size]; h_pad++)
+                        for (unsigned depth = 8; depth <= 12; depth += 2) {
+                            av1_cfl_block block = {size, xdec, ydec, w_pad, h_pad};
+                            give(&block, depth);
+                            count++;
+                        }
+    return count;
+}
+
+/* A call that is refused, and writes nothing. */
+static void refuse(uint32_t status, av1_cfl_block block, size_t stride, size_t x, size_t y, size_t depth) {
+    uint16_t luma[256] = {0};
+    int16_t ac[64];
+    for (size_t i = 0; i < 64; i++) ac[i] = UNTOUCHED;
+    CHECK(av1_cfl_ac_16(ac, 64, luma, 256, stride, x, y, &block, depth) == status);
+    for (size_t i = 0; i < 64; i++) CHECK(ac[i] == UNTOUCHED);
+}
+
+int main(void) {
+    av1_cfl_block plain = {3, 1, 1, 0, 0};
+    for (unsigned size = 0; size < 256; size++) {
+        av1_cfl_block block = {(uint8_t)size, 1, 1, 0, 0};
+        if (size >= SIZES || greatest(widths[size], heights[size]) > 32) refuse(AV1_BAD_SIZE, block, 16, 0, 0, 8);
+    }
+    for (unsigned decs = 0; decs < 65536; decs++) {
+        av1_cfl_block block = {3, (uint8_t)decs, (uint8_t)(decs >> 8), 0, 0};
+        if (decs != 0 && decs != 1 && decs != 257) refuse(AV1_BAD_SAMPLING, block, 16, 0, 0, 8);
+    }
+    refuse(AV1_BAD_PAD, (av1_cfl_block){3, 1, 1, 2, 0}, 16, 0, 0, 8);
+    refuse(AV1_BAD_PAD, (av1_cfl_block){3, 1, 1, 0, SIZE_MAX}, 16, 0, 0, 8);
+    refuse(AV1_BAD_PAD, (av1_cfl_block){3, 1, 1, (size_t)1 << 62, 0}, 16, 0, 0, 8);
+    refuse(AV1_BAD_AREA, plain, 0, 0, 0, 8);
+    refuse(AV1_BAD_AREA, plain, 16, 1, 0, 8);
+    refuse(AV1_BAD_AREA, plain, 16, SIZE_MAX, 0, 8);
+    refuse(AV1_BAD_AREA, plain, 16, 0, SIZE_MAX - 15, 8);
+    refuse(AV1_BAD_AREA, plain, SIZE_MAX, 0, 0, 8);
+    refuse(AV1_TOO_SHORT, (av1_cfl_block){6, 0, 0, 0, 0}, 16, 0, 0, 8);
+    for (size_t depth = 0; depth < 20; depth++)
+        if (depth != 8 && depth != 10 && depth != 12) refuse(AV1_BAD_DEPTH, plain, 16, 0, 0, depth);
+    printf("of %u blocks each has its differences\n", blocks());
+    return 0;
+}

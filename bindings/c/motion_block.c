@@ -1,0 +1,98 @@
+/* Predicts blocks from references in memory of its own, with no memory from the library, and sees that a refused call changes nothing. */
+#include "av1_c.h"
+
+#include <stdio.h>
+#include <stdlib.h>
+#include <string.h>
+
+#define CHECK(e) do { if (!(e)) { fprintf(stderr, "%s:%d: %s\n", __FILE__, __LINE__, #e); exit(1); } } while (0)
+
+enum { STRIDE = 12, ROWS = 12, ALL = STRIDE * ROWS, ROOM = 64 };
+enum { REGULAR = 0, SMOOTH = 1, SHARP = 2, BILINEAR = 3 };
+
+/* Whether all are one number. */
+static int are_all_8(const uint8_t *samples, size_t count, uint8_t number) {
+    for (size_t i = 0; i < count; i++)
+        if (samples[i] != number) return 0;
+    return 1;
+}
+
+static int are_all_16(const int16_t *values, size_t count, int16_t number) {
+    for (size_t i = 0; i < count; i++)
+        if (values[i] != number) return 0;
+    return 1;
+}
+
+static void moved_blocks(void) {
+    av1_motion_block still = {4, 2, 0, 0, SHARP, BILINEAR}, half = {4, 2, 8, 0, BILINEAR, REGULAR};
+    uint8_t reference[ALL], samples[ROOM];
+    for (size_t i = 0; i < ALL; i++) reference[i] = (uint8_t)(20 * (i % STRIDE) + i / STRIDE);
+    memset(samples, 255, ROOM);
+    CHECK(av1_put_8tap_8(samples, ROOM, 8, 4, 6, reference, ALL, STRIDE, 3, 4, &still) == AV1_DONE);
+    CHECK(are_all_8(samples, 6 * 8 + 4, 255) && are_all_8(samples + 7 * 8, 4, 255));
+    for (size_t c = 0; c < 4; c++) CHECK(samples[6 * 8 + 4 + c] == 20 * (3 + c) + 4 && samples[7 * 8 + 4 + c] == 20 * (3 + c) + 5);
+    CHECK(av1_put_8tap_8(samples, ROOM, 8, 4, 6, reference, ALL, STRIDE, 3, 4, &half) == AV1_DONE);
+    for (size_t c = 0; c < 4; c++) CHECK(samples[6 * 8 + 4 + c] == 20 * (3 + c) + 14 && samples[7 * 8 + 4 + c] == 20 * (3 + c) + 15);
+}
+
+static void averaged_blocks(void) {
+    av1_motion_block block = {4, 2, 5, 9, SMOOTH, SHARP};
+    uint8_t reference[ALL], samples[8];
+    int16_t dark[9] = {0}, light[8];
+    memset(reference, 100, ALL);
+    CHECK(av1_prep_8tap_8(dark, 9, reference, ALL, STRIDE, 3, 3, &block) == AV1_DONE);
+    CHECK(are_all_16(dark, 8, 1600) && dark[8] == 0);
+    memset(reference, 201, ALL);
+    CHECK(av1_prep_8tap_8(light, 8, reference, ALL, STRIDE, 4, 6, &block) == AV1_DONE);
+    CHECK(av1_mc_avg_8(samples, 8, 4, 0, 0, 4, 2, dark, 9, light, 8) == AV1_DONE);
+    CHECK(are_all_8(samples, 8, 151));
+    CHECK(av1_mc_avg_8(samples, 8, 4, 0, 0, 4, 2, dark, 9, light, 7) == AV1_TOO_SHORT);
+    CHECK(av1_mc_avg_8(samples, 8, 4, 0, 1, 4, 2, dark, 9, light, 8) == AV1_BAD_AREA);
+    CHECK(av1_mc_avg_8(samples, 8, 4, 0, 0, 4, 0, dark, 9, light, 8) == AV1_BAD_SIZE);
+    CHECK(are_all_8(samples, 8, 151));
+}
+
+/* Of a reference of ALL samples: the call, and why it is refused. */
+static const struct { size_t room, dst_stride, dst_x, dst_y, src_len, src_stride, src_x, src_y; av1_motion_block block; uint32_t status; } refused[] = {
+    {ROOM, 8, 5, 0, ALL, STRIDE, 4, 4, {4, 2, 0, 0, 0, 0}, AV1_BAD_AREA},    {ROOM, 8, 0, 7, ALL, STRIDE, 4, 4, {4, 2, 0, 0, 0, 0}, AV1_BAD_AREA},
+    {0, 0, 0, 0, ALL, STRIDE, 4, 4, {4, 2, 0, 0, 0, 0}, AV1_BAD_AREA},       {ROOM, 8, 0, 0, ALL, STRIDE, 2, 4, {4, 2, 0, 0, 0, 0}, AV1_BAD_AREA},
+    {ROOM, 8, 0, 0, ALL, STRIDE, 5, 4, {4, 2, 0, 0, 0, 0}, AV1_BAD_AREA},    {ROOM, 8, 0, 0, ALL, STRIDE, 4, SIZE_MAX, {4, 2, 0, 0, 0, 0}, AV1_BAD_AREA},
+    {ROOM, 8, 0, 0, ALL, SIZE_MAX, 4, 4, {4, 2, 0, 0, 0, 0}, AV1_BAD_AREA},  {ROOM, 8, 0, 0, 119, STRIDE, 4, 4, {4, 2, 0, 0, 0, 0}, AV1_BAD_AREA},
+    {ROOM, 8, 0, 0, ALL, STRIDE, 4, 4, {0, 2, 0, 0, 0, 0}, AV1_BAD_SIZE},    {ROOM, 8, 0, 0, ALL, STRIDE, 4, 4, {4, 129, 0, 0, 0, 0}, AV1_BAD_SIZE},
+    {ROOM, 8, 0, 0, ALL, STRIDE, 4, 4, {4, 2, 16, 0, 0, 0}, AV1_BAD_FRACTION}, {ROOM, 8, 0, 0, ALL, STRIDE, 4, 4, {4, 2, 0, 0, 0, 4}, AV1_BAD_MODE},
+};
+
+static void refused_blocks(void) {
+    uint8_t reference[ALL], samples[ROOM];
+    memset(reference, 100, ALL);
+    memset(samples, 7, ROOM);
+    for (size_t i = 0; i < sizeof refused / sizeof refused[0]; i++)
+        CHECK(av1_put_8tap_8(samples, refused[i].room, refused[i].dst_stride, refused[i].dst_x, refused[i].dst_y, reference, refused[i].src_len,
+                             refused[i].src_stride, refused[i].src_x, refused[i].src_y, &refused[i].block) == refused[i].status);
+    CHECK(are_all_8(samples, ROOM, 7));
+}
+
+static void blocks_of_16_bits(void) {
+    av1_motion_block block = {4, 2, 5, 9, SHARP, SMOOTH};
+    uint16_t reference[ALL], samples[8] = {0};
+    int16_t values[8] = {0};
+    for (size_t i = 0; i < ALL; i++) reference[i] = 500;
+    CHECK(av1_put_8tap_16(samples, 8, 4, 0, 0, reference, ALL, STRIDE, 4, 6, &block, 9) == AV1_BAD_DEPTH);
+    reference[ALL - 1] = 1024;
+    CHECK(av1_put_8tap_16(samples, 8, 4, 0, 0, reference, ALL, STRIDE, 4, 6, &block, 10) == AV1_BAD_SAMPLE);
+    CHECK(av1_prep_8tap_16(values, 8, reference, ALL, STRIDE, 4, 6, &block, 10) == AV1_BAD_SAMPLE);
+    CHECK(av1_prep_8tap_16(values, 8, reference, ALL, STRIDE, 4, 5, &block, 10) == AV1_DONE);
+    CHECK(are_all_16(values, 8, -192));
+    CHECK(av1_mc_avg_16(samples, 8, 4, 0, 0, 4, 2, values, 8, values, 8, 9) == AV1_BAD_DEPTH);
+    for (int i = 0; i < 8; i++) CHECK(samples[i] == 0);
+    CHECK(av1_mc_avg_16(samples, 8, 4, 0, 0, 4, 2, values, 8, values, 8, 10) == AV1_DONE);
+    for (int i = 0; i < 8; i++) CHECK(samples[i] == 500);
+}
+
+int main(void) {
+    moved_blocks();
+    averaged_blocks();
+    refused_blocks();
+    blocks_of_16_bits();
+    return 0;
+}

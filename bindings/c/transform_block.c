@@ -1,0 +1,78 @@
+/* Adds the residue of blocks to memory of its own, with no memory from the library, and sees that a refused call changes nothing. */
+#include "av1_c.h"
+
+#include <stdio.h>
+#include <stdlib.h>
+#include <string.h>
+
+#define CHECK(e) do { if (!(e)) { fprintf(stderr, "%s:%d: %s\n", __FILE__, __LINE__, #e); exit(1); } } while (0)
+
+enum { STRIDE = 80, ROWS = 70, ALL = STRIDE * ROWS };
+enum { TX_4X4 = 0, TX_64X64 = 4, DCT_DCT = 0, ADST_DCT = 1, WHT_WHT = 16 };
+
+/* Left as it comes: a call reads nothing that it hasn't written there. */
+static av1_transform_scratch *scratch;
+
+/* Whether the samples of a square are `inside`, and all others `outside`. */
+static int is_square(const uint8_t *samples, size_t x, size_t y, size_t side, uint8_t inside, uint8_t outside) {
+    for (size_t i = 0; i < ALL; i++) {
+        size_t column = i % STRIDE, row = i / STRIDE;
+        int in = x <= column && column < x + side && y <= row && row < y + side;
+        if (samples[i] != (in ? inside : outside)) return 0;
+    }
+    return 1;
+}
+
+static void blocks_of_8_bits(void) {
+    static uint8_t samples[ALL];
+    int16_t dc[1024] = {100};
+    memset(samples, 128, ALL);
+    CHECK(av1_inverse_transform_add_8(scratch, dc, 16, samples, ALL, STRIDE, 76, 66, TX_4X4, DCT_DCT) == AV1_DONE);
+    CHECK(is_square(samples, 76, 66, 4, 131, 128));
+    memset(samples, 250, ALL);
+    dc[0] = 32767;
+    CHECK(av1_inverse_transform_add_8(scratch, dc, 1024, samples, ALL, STRIDE, 3, 2, TX_64X64, DCT_DCT) == AV1_DONE);
+    CHECK(is_square(samples, 3, 2, 64, 255, 250));
+}
+
+/* Of a plane of ALL samples of 128: the call, and why it is refused. */
+static const struct { size_t coefficients, samples, stride, x, y; uint8_t size, type; uint32_t status; } refused[] = {
+    {16, ALL, STRIDE, 77, 0, TX_4X4, DCT_DCT, AV1_BAD_AREA},       {16, ALL, STRIDE, 0, 67, TX_4X4, DCT_DCT, AV1_BAD_AREA},
+    {16, ALL, STRIDE, SIZE_MAX, 0, TX_4X4, DCT_DCT, AV1_BAD_AREA}, {16, ALL, SIZE_MAX, 0, 0, TX_4X4, DCT_DCT, AV1_BAD_AREA},
+    {16, 0, 0, 0, 0, TX_4X4, DCT_DCT, AV1_BAD_AREA},               {15, ALL, STRIDE, 0, 0, TX_4X4, DCT_DCT, AV1_TOO_SHORT},
+    {16, ALL, STRIDE, 0, 0, 19, DCT_DCT, AV1_BAD_SIZE},            {16, ALL, STRIDE, 0, 0, TX_4X4, 17, AV1_BAD_TYPE},
+    {1024, ALL, STRIDE, 0, 0, TX_64X64, ADST_DCT, AV1_BAD_TYPE},   {1024, ALL, STRIDE, 0, 0, TX_64X64, WHT_WHT, AV1_BAD_TYPE},
+};
+
+static void refused_blocks(void) {
+    static uint8_t samples[ALL];
+    int16_t dc[1024] = {100};
+    memset(samples, 128, ALL);
+    for (size_t i = 0; i < sizeof refused / sizeof refused[0]; i++)
+        CHECK(av1_inverse_transform_add_8(scratch, dc, refused[i].coefficients, samples, refused[i].samples, refused[i].stride, refused[i].x,
+                                          refused[i].y, refused[i].size, refused[i].type) == refused[i].status);
+    CHECK(is_square(samples, 0, 0, 0, 0, 128));
+}
+
+static void blocks_of_10_bits(void) {
+    uint16_t samples[16], before[16];
+    int32_t dc[16] = {100};
+    for (int i = 0; i < 16; i++) samples[i] = before[i] = (uint16_t)(64 * i);
+    CHECK(av1_inverse_transform_add_16(scratch, dc, 16, samples, 16, 4, 0, 0, TX_4X4, DCT_DCT, 9) == AV1_BAD_DEPTH);
+    dc[15] = 1 << 17;
+    CHECK(av1_inverse_transform_add_16(scratch, dc, 16, samples, 16, 4, 0, 0, TX_4X4, DCT_DCT, 10) == AV1_BAD_COEFFICIENT);
+    CHECK(!memcmp(samples, before, sizeof samples));
+    dc[15] = 0;
+    CHECK(av1_inverse_transform_add_16(scratch, dc, 16, samples, 16, 4, 0, 0, TX_4X4, DCT_DCT, 10) == AV1_DONE);
+    for (int i = 0; i < 16; i++) CHECK(samples[i] == before[i] + 3);
+}
+
+int main(void) {
+    scratch = malloc(sizeof *scratch);
+    CHECK(scratch);
+    blocks_of_8_bits();
+    refused_blocks();
+    blocks_of_10_bits();
+    free(scratch);
+    return 0;
+}

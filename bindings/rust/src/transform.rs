@@ -1,0 +1,94 @@
+//! The inverse transform of a block, added to samples of the caller.
+
+use crate::{Error, sys, told};
+
+/// Room for one block between and within the passes of its transform. What it holds before a call doesn't matter.
+pub struct TransformScratch(Box<sys::TransformScratch>);
+
+impl TransformScratch {
+    /// Room for every size, 64x64 included.
+    pub fn new() -> TransformScratch {
+        TransformScratch(Box::new(sys::TransformScratch { words: [0; 9728] }))
+    }
+}
+
+impl Default for TransformScratch {
+    fn default() -> TransformScratch {
+        TransformScratch::new()
+    }
+}
+
+/// A transform, and where its block begins.
+#[derive(Clone, Copy, Debug, PartialEq, Eq)]
+pub struct TransformBlock {
+    /// The number of the transform's size in plans, from `TX_4X4`, 0, to `TX_64X16`, 18.
+    pub tx_size: u8,
+    /// The number of its type in plans, from `DCT_DCT`, 0, to `WHT_WHT`, 16.
+    pub tx_type: u8,
+    /// The column of its first sample.
+    pub x: usize,
+    /// The row of its first sample.
+    pub y: usize,
+}
+
+/// Adds the residue of a block's coefficients to samples of 8 bits, whose rows stand `stride` apart, and clips, at a depth of 8. The
+/// coefficient of row r and column c stands at `c * min(height, 32) + r`; the rows and columns from 32 on have none.
+///
+/// # Errors
+///
+/// `BadSize`, then `BadType`, then `BadArea`, then `TooShort`. The samples are then as they were.
+pub fn inverse_transform_add_8(
+    scratch: &mut TransformScratch,
+    coefficients: &[i16],
+    samples: &mut [u8],
+    stride: usize,
+    block: TransformBlock,
+) -> Result<(), Error> {
+    // SAFETY: pointers and lengths are those of slices that are lent for the call, of which `samples` is lent to nobody else.
+    told(unsafe {
+        sys::av1_inverse_transform_add_8(
+            &mut scratch.0,
+            coefficients.as_ptr(),
+            coefficients.len(),
+            samples.as_mut_ptr(),
+            samples.len(),
+            stride,
+            block.x,
+            block.y,
+            block.tx_size,
+            block.tx_type,
+        )
+    })
+}
+
+/// The same for samples of 16 bits at a depth of 8, 10 or 12. A sample that is past the depth is clipped with what is added to it.
+///
+/// # Errors
+///
+/// `BadSize`, then `BadType`, then `BadArea`, then `TooShort`, then `BadDepth`, then `BadCoefficient`: one of the transform's coefficients
+/// has more than `bit_depth + 8` bits, its sign among them. The samples are then as they were.
+pub fn inverse_transform_add_16(
+    scratch: &mut TransformScratch,
+    coefficients: &[i32],
+    samples: &mut [u16],
+    stride: usize,
+    block: TransformBlock,
+    bit_depth: usize,
+) -> Result<(), Error> {
+    // SAFETY: as above.
+    told(unsafe {
+        sys::av1_inverse_transform_add_16(
+            &mut scratch.0,
+            coefficients.as_ptr(),
+            coefficients.len(),
+            samples.as_mut_ptr(),
+            samples.len(),
+            stride,
+            block.x,
+            block.y,
+            block.tx_size,
+            block.tx_type,
+            bit_depth,
+        )
+    })
+}

@@ -1,0 +1,149 @@
+//! Blocks of references, predicted, prepared, averaged and refused.
+
+use av1_c::{
+    Error, MotionBlock, Place, mc_avg_8, mc_avg_16, prep_8tap_8, prep_8tap_16, put_8tap_8,
+    put_8tap_16,
+};
+
+// A block of 4 columns and 2 rows between samples.
+const BLOCK: MotionBlock = MotionBlock {
+    width: 4,
+    height: 2,
+    col_frac: 5,
+    row_frac: 9,
+    filter_x: 2,
+    filter_y: 0,
+};
+
+fn place(stride: usize, x: usize, y: usize) -> Place {
+    Place { stride, x, y }
+}
+
+#[test]
+fn whole_samples_are_copied_to_their_rectangle() {
+    let reference: Vec<u8> = (0..144).collect();
+    let still = MotionBlock {
+        col_frac: 0,
+        row_frac: 0,
+        ..BLOCK
+    };
+    let mut samples = [255; 64];
+    let put = put_8tap_8(
+        &mut samples,
+        place(8, 3, 2),
+        &reference,
+        place(12, 4, 5),
+        &still,
+    );
+    assert_eq!(put, Ok(()));
+    for (i, sample) in samples.iter().enumerate() {
+        let (row, column) = (i / 8, i % 8);
+        let inside = (3..7).contains(&column) && (2..4).contains(&row);
+        let copied = (12 * (row + 3) + column + 1) as u8;
+        assert_eq!(*sample, if inside { copied } else { 255 });
+    }
+}
+
+#[test]
+fn constant_references_stay_as_they_are() {
+    let reference = [500; 144];
+    let mut values = [0; 9];
+    let mut samples = [0; 8];
+    let (to, from) = (place(4, 0, 0), place(12, 3, 3));
+    assert_eq!(
+        prep_8tap_16(&mut values, &reference, from, &BLOCK, 10),
+        Ok(())
+    );
+    assert_eq!(values, [-192, -192, -192, -192, -192, -192, -192, -192, 0]);
+    assert_eq!(
+        mc_avg_16(&mut samples, to, 4, 2, &values, &values, 10),
+        Ok(())
+    );
+    assert_eq!(samples, [500; 8]);
+    assert_eq!(
+        put_8tap_16(&mut samples, to, &reference, from, &BLOCK, 12),
+        Ok(())
+    );
+    assert_eq!(samples, [500; 8]);
+}
+
+#[test]
+fn refused_blocks_leave_the_samples_alone() {
+    let reference = [7; 144];
+    let mut samples = [1; 64];
+    let mut put =
+        |to, from, block: MotionBlock| put_8tap_8(&mut samples, to, &reference, from, &block);
+    let (to, from) = (place(8, 0, 0), place(12, 4, 5));
+    assert_eq!(
+        put(to, from, MotionBlock { width: 0, ..BLOCK }),
+        Err(Error::BadSize)
+    );
+    assert_eq!(
+        put(
+            to,
+            from,
+            MotionBlock {
+                height: 129,
+                ..BLOCK
+            }
+        ),
+        Err(Error::BadSize)
+    );
+    assert_eq!(
+        put(
+            to,
+            from,
+            MotionBlock {
+                filter_x: 4,
+                ..BLOCK
+            }
+        ),
+        Err(Error::BadMode)
+    );
+    assert_eq!(
+        put(
+            to,
+            from,
+            MotionBlock {
+                row_frac: 16,
+                ..BLOCK
+            }
+        ),
+        Err(Error::BadFraction)
+    );
+    assert_eq!(put(place(8, 5, 0), from, BLOCK), Err(Error::BadArea));
+    assert_eq!(put(to, place(12, 2, 5), BLOCK), Err(Error::BadArea));
+    assert_eq!(put(to, place(12, 4, 7), BLOCK), Err(Error::BadArea));
+    assert_eq!(
+        put(to, place(12, 4, usize::MAX), BLOCK),
+        Err(Error::BadArea)
+    );
+    assert_eq!(samples, [1; 64]);
+}
+
+#[test]
+fn lengths_depths_and_samples_are_tested() {
+    let mut reference = [500; 144];
+    let mut values = [2; 8];
+    let mut samples = [1; 8];
+    let (to, from) = (place(4, 0, 0), place(12, 4, 6));
+    assert_eq!(
+        prep_8tap_8(&mut values[..7], &[0; 144], from, &BLOCK),
+        Err(Error::TooShort)
+    );
+    assert_eq!(
+        prep_8tap_16(&mut values, &reference, from, &BLOCK, 9),
+        Err(Error::BadDepth)
+    );
+    reference[143] = 1024;
+    assert_eq!(
+        prep_8tap_16(&mut values, &reference, from, &BLOCK, 10),
+        Err(Error::BadSample)
+    );
+    assert_eq!(
+        mc_avg_8(&mut samples, to, 4, 2, &values, &[0; 7]),
+        Err(Error::TooShort)
+    );
+    assert_eq!(values, [2; 8]);
+    assert_eq!(samples, [1; 8]);
+}

@@ -1,0 +1,98 @@
+//! Blocks of residue, added to samples and refused.
+
+use av1_c::{
+    Error, TransformBlock, TransformScratch, inverse_transform_add_8, inverse_transform_add_16,
+};
+
+// A block of 4x4 by the cosine transform both ways.
+fn block_at(x: usize, y: usize) -> TransformBlock {
+    TransformBlock {
+        tx_size: 0,
+        tx_type: 0,
+        x,
+        y,
+    }
+}
+
+// Coefficients of a block that lifts each sample by 3.
+fn lifted_by_3<T: Copy + From<u8>>() -> [T; 16] {
+    let mut coefficients = [T::from(0); 16];
+    coefficients[0] = T::from(100);
+    coefficients
+}
+
+#[test]
+fn a_residue_is_added_to_its_rectangle() {
+    let mut scratch = TransformScratch::new();
+    let mut samples = [128; 64];
+    let added = inverse_transform_add_8(
+        &mut scratch,
+        &lifted_by_3(),
+        &mut samples,
+        8,
+        block_at(3, 2),
+    );
+    assert_eq!(added, Ok(()));
+    for (i, sample) in samples.iter().enumerate() {
+        let inside = (3..7).contains(&(i % 8)) && (2..6).contains(&(i / 8));
+        assert_eq!(*sample, if inside { 131 } else { 128 });
+    }
+}
+
+#[test]
+fn refused_blocks_leave_the_samples_alone() {
+    let mut scratch = TransformScratch::new();
+    let mut samples = [128; 64];
+    let coefficients = lifted_by_3();
+    let mut refusal = |stride, block| {
+        inverse_transform_add_8(&mut scratch, &coefficients, &mut samples, stride, block)
+    };
+    let size = TransformBlock {
+        tx_size: 19,
+        ..block_at(0, 0)
+    };
+    let kind = TransformBlock {
+        tx_type: 17,
+        ..block_at(0, 0)
+    };
+    let long = TransformBlock {
+        tx_size: 1,
+        ..block_at(0, 0)
+    };
+    let sine = TransformBlock {
+        tx_size: 3,
+        tx_type: 1,
+        ..block_at(0, 0)
+    };
+    assert_eq!(refusal(8, size), Err(Error::BadSize));
+    assert_eq!(refusal(8, kind), Err(Error::BadType));
+    assert_eq!(refusal(8, sine), Err(Error::BadType));
+    assert_eq!(refusal(8, long), Err(Error::TooShort));
+    assert_eq!(refusal(8, block_at(5, 0)), Err(Error::BadArea));
+    assert_eq!(refusal(8, block_at(0, usize::MAX)), Err(Error::BadArea));
+    assert_eq!(refusal(0, block_at(0, 0)), Err(Error::BadArea));
+    assert_eq!(samples, [128; 64]);
+}
+
+#[test]
+fn depths_and_coefficients_are_tested() {
+    let mut scratch = TransformScratch::new();
+    let mut samples = [512; 16];
+    let mut coefficients = lifted_by_3();
+    let mut add = |coefficients: &[i32], depth| {
+        inverse_transform_add_16(
+            &mut scratch,
+            coefficients,
+            &mut samples,
+            4,
+            block_at(0, 0),
+            depth,
+        )
+    };
+    assert_eq!(add(&coefficients, 9), Err(Error::BadDepth));
+    coefficients[15] = 1 << 17;
+    assert_eq!(add(&coefficients, 10), Err(Error::BadCoefficient));
+    coefficients[15] = 0;
+    assert_eq!(add(&coefficients, 10), Ok(()));
+    assert_eq!(samples, [515; 16]);
+}
