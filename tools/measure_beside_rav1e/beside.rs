@@ -1,6 +1,7 @@
 //! Runs one call of this project or of rav1e some times, and prints a digest of what it wrote. `measure.py` builds and runs it.
 #![allow(dead_code, unused_imports, unused_unsafe, non_upper_case_globals, unexpected_cfgs, clippy::all)]
 
+include!("numbers.rs");
 include!("stubs.rs");
 mod mc;
 mod transform;

@@ -1,9 +1,4 @@
-// What rav1e's own files ask of the rest of its crate and of crates beside it, and no more: samples, planes, regions and numbers.
-
-mod cpu_features {
-    #[derive(Copy, Clone, Debug, Default)]
-    pub struct CpuFeatureLevel;
-}
+// What rav1e's own files ask of the rest of its crate, beside samples and numbers, and no more: planes, and regions that are whole planes.
 
 mod context {
     pub const MI_SIZE_LOG2: usize = 2;
@@ -18,77 +13,6 @@ mod partition {
         BLOCK_4X4, BLOCK_4X8, BLOCK_8X4, BLOCK_8X8, BLOCK_8X16, BLOCK_16X8, BLOCK_16X16, BLOCK_16X32, BLOCK_32X16, BLOCK_32X32,
         BLOCK_32X64, BLOCK_64X32, BLOCK_64X64, BLOCK_64X128, BLOCK_128X64, BLOCK_128X128, BLOCK_4X16, BLOCK_16X4, BLOCK_8X32,
         BLOCK_32X8, BLOCK_16X64, BLOCK_64X16,
-    }
-}
-
-mod num_traits {
-    pub trait AsPrimitive<U: Copy + 'static>: Copy + 'static {
-        fn as_(self) -> U;
-    }
-    macro_rules! as_primitive {
-        ($($t:ty),*) => { $( as_primitive!(@ $t => u8, u16, u32, i16, i32, i64, usize, isize); )* };
-        (@ $t:ty => $($u:ty),*) => { $( impl AsPrimitive<$u> for $t { #[inline(always)] fn as_(self) -> $u { self as $u } } )* };
-    }
-    as_primitive!(u8, u16, u32, i16, i32, i64, usize, isize);
-
-    pub trait ToPrimitive {
-        fn to_i32(&self) -> Option<i32>;
-        fn to_u32(&self) -> Option<u32>;
-    }
-    pub trait Zero {
-        fn zero() -> Self;
-    }
-    macro_rules! samples {
-        ($($t:ty),*) => { $(
-            impl ToPrimitive for $t {
-                #[inline(always)] fn to_i32(&self) -> Option<i32> { Some(*self as i32) }
-                #[inline(always)] fn to_u32(&self) -> Option<u32> { Some(*self as u32) }
-            }
-            impl Zero for $t { fn zero() -> $t { 0 } }
-        )* };
-    }
-    samples!(u8, u16);
-}
-
-mod util {
-    pub use crate::num_traits::{AsPrimitive, ToPrimitive, Zero};
-    use std::fmt::Debug;
-
-    pub trait CastFromPrimitive<U>: Copy + 'static {
-        fn cast_from(v: U) -> Self;
-    }
-    pub trait RegisteredPrimitive: Copy + 'static + AsPrimitive<u8> + AsPrimitive<u16> + AsPrimitive<u32> + AsPrimitive<i16>
-        + AsPrimitive<i32> + AsPrimitive<usize> + AsPrimitive<isize> {}
-    macro_rules! registered { ($($t:ty),*) => { $( impl RegisteredPrimitive for $t {} )* }; }
-    registered!(u8, u16, u32, i16, i32);
-    macro_rules! cast_from {
-        ($($t:ty),*) => { $(
-            impl<U: RegisteredPrimitive> CastFromPrimitive<U> for $t { #[inline(always)] fn cast_from(v: U) -> $t { v.as_() } }
-        )* };
-    }
-    cast_from!(u8, u16, u32, i16, i32, usize, isize);
-
-    pub trait Coefficient: RegisteredPrimitive + Debug + CastFromPrimitive<i32> {}
-    impl Coefficient for i16 {}
-    impl Coefficient for i32 {}
-    pub trait Pixel: RegisteredPrimitive + Ord + Debug + Into<u32> + Into<i32> + ToPrimitive + Zero + CastFromPrimitive<u8>
-        + CastFromPrimitive<u16> + CastFromPrimitive<u32> + CastFromPrimitive<i32> {
-        type Coeff: Coefficient;
-    }
-    impl Pixel for u8 {
-        type Coeff = i16;
-    }
-    impl Pixel for u16 {
-        type Coeff = i32;
-    }
-
-    #[inline(always)]
-    pub fn round_shift(value: i32, bit: usize) -> i32 {
-        (value + (1 << bit >> 1)) >> bit
-    }
-    #[inline(always)]
-    pub fn clamp<T: PartialOrd>(input: T, min: T, max: T) -> T {
-        if input < min { min } else if input > max { max } else { input }
     }
 }
 
