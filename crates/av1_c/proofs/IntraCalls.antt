@@ -1,5 +1,5 @@
 -- What a call asks of a block of an intra mode is what predicting it asks, and what is refused is not what is asked for.
-use Rattle.std.proofs.Common.{ℕ, ℤ, ◌≡◌, ◌≢◌, ◌≤◌, List, Bool, true, false, arith, ap, ◌∙◌, sym, subst, unsigned_abs}
+use Rattle.std.proofs.Common.{ℕ, ℤ, ◌≡◌, ◌≢◌, ◌≤◌, List, true, arith, ap, ◌∙◌, sym, subst, unsigned_abs}
 use Rattle.std.specs.Prelude.{Some, None}
 use Rattle.av1_blocks.specs.Modes.{is_directional}
 use Rattle.av1_blocks.specs.declared.predict.IntraParam.TheVariants.{AngleDelta}
@@ -15,20 +15,15 @@ use Rattle.av1_intra.specs.declared.directional.DirectionalBlock.{DirectionalBlo
 use Rattle.av1_intra.specs.declared.variant.PredictionVariant.{PredictionVariant}
 use Rattle.av1_intra.proofs.ByMode.{angle_fine, angle_given}
 use Rattle.av1_c.proofs.Blocks.{same_size}
-use Rattle.av1_c.specs.Arguments.{IsSize, LiesOutside, rectangle}
+use Rattle.av1_c.specs.Arguments.{rectangle}
 use Rattle.av1_c.specs.IntraBlocks.{AreLong, HasSides, IsIntraBlock, IsIntraFault, IsIntraMode, block_of, mode_in, variant_in, with_prediction}
 use Rattle.av1_c.specs.declared.argument.BadArgument.{BadArgument}
 use Rattle.av1_c.specs.declared.argument.BadArgument.TheVariants as bad
 use Rattle.av1_c.specs.declared.intra.IntraBlock.{IntraBlock}
 
--- a test that is true where something holds, and that was false, says that it does not hold
-pub denied : {P : Type 0} (told : Bool) → (P → told ≡ true) → told ≡ false → ¬ P
-denied told tells untrue p = let e : true ≡ false = sym (tells p) ∙ untrue in cc
-
 -- the rectangle of the block does not lie in the samples
-pub outside_of : (number stride x y samples : ℕ) (size : TxSize) (area : StoredArea) → IsSize number size → area ≡ rectangle x y size → ¬ AreRows stride area samples → LiesOutside number stride x y samples
-outside_of number stride x y samples size area is placed never =
-    (size, is, λ rows. never (subst (λ (a : StoredArea). AreRows stride a samples) (sym placed) rows))
+pub outside_of : (stride x y samples : ℕ) (size : TxSize) (area : StoredArea) → area ≡ rectangle x y size → ¬ AreRows stride area samples → ¬ AreRows stride (rectangle x y size) samples
+outside_of stride x y samples size area placed never = λ rows. never (subst (λ (a : StoredArea). AreRows stride a samples) (sym placed) rows)
 
 -- what is as long as one block reads it is so for the same block
 pub long_for : (block other : DirectionalBlock) (variant v : PredictionVariant) (mode m : PredictionMode) (left above ac : ℕ) → block ≡ other → variant ≡ v → mode ≡ m
@@ -46,11 +41,11 @@ turned_angle mode step few h = angle_fine mode h (angle_or_alpha mode (AngleDelt
 pub faultless : (bits : ℕ) (b : IntraBlock) (mode : PredictionMode) (stride x y left above ac samples : ℕ) (fault : BadArgument) (size : TxSize) → IsIntraFault bits b mode stride x y left above ac samples fault
     → IsIntraBlock bits b mode stride x y left above ac samples size → ⊥
 faultless bits b mode stride x y left above ac samples bad.Size size none block = let e : Some size ≡ None = sym block.sized ∙ none in cc
-faultless bits b mode stride x y left above ac samples bad.Angle size never block = never block.turn
-faultless bits b mode stride x y left above ac samples bad.Depth size never block = never block.depth
-faultless bits b mode stride x y left above ac samples bad.Area size (s, is, never) block =
+faultless bits b mode stride x y left above ac samples bad.Angle size (s, (is, never)) block = never block.turn
+faultless bits b mode stride x y left above ac samples bad.Depth size (s, (is, (turn, never))) block = never block.depth
+faultless bits b mode stride x y left above ac samples bad.Area size (s, (is, (turn, (depth, never)))) block =
     never (subst (λ t. AreRows stride (rectangle x y t) samples) (same_size b.tx_size size s block.sized is) block.rows)
-faultless bits b mode stride x y left above ac samples bad.Short size (s, is, never) block =
+faultless bits b mode stride x y left above ac samples bad.Short size (s, (is, (turn, (depth, (rows, never))))) block =
     never (subst (λ t. HasSides b mode t left above ac) (same_size b.tx_size size s block.sized is) block.sides)
 faultless bits b mode stride x y left above ac samples fault size never block = never
 

@@ -3,7 +3,6 @@ use Rattle.std.specs.Prelude.{◌≡◌, ℕ, Some, None, slice_get}
 use Rattle.av1_blocks.specs.Transforms.{tx_height, tx_width}
 use Rattle.av1_blocks.specs.declared.transform.TheConstants.TxSize as tx_sizes
 use Rattle.av1_blocks.specs.declared.transform.TxSize.{TxSize}
-use Rattle.av1_frame.specs.Areas.{AreRows}
 use Rattle.av1_frame.specs.declared.plane_region.StoredArea.{StoredArea}
 use Rattle.av1_c.specs.declared.argument.BadArgument.{BadArgument}
 use Rattle.av1_c.specs.declared.argument.BadArgument.TheVariants as bad
@@ -35,7 +34,3 @@ rectangle x y size = record { x = x; y = y; width = tx_width size; height = tx_h
 
 abbrev pub HasNoSize : ℕ → Type 0
 HasNoSize size_number = slice_get tx_sizes.ALL size_number ≡ None
-
--- the rectangle does not lie in so many samples, in rows of this stride
-abbrev pub LiesOutside : (size_number stride x y samples : ℕ) → Type 0
-LiesOutside size_number stride x y samples = (size : TxSize) × IsSize size_number size × (¬ AreRows stride (rectangle x y size) samples)

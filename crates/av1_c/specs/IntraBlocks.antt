@@ -16,7 +16,7 @@ use Rattle.av1_intra.specs.ChromaFromLuma.{ac_at}
 use Rattle.av1_intra.specs.Predicted.{angle_or_alpha, edge_round, places_above, places_left, predicted, variant_at}
 use Rattle.av1_intra.specs.declared.directional.DirectionalBlock.{DirectionalBlock}
 use Rattle.av1_intra.specs.declared.variant.PredictionVariant.{PredictionVariant}
-use Rattle.av1_c.specs.Arguments.{HasNoSize, IsSize, LiesOutside, rectangle}
+use Rattle.av1_c.specs.Arguments.{HasNoSize, IsSize, rectangle}
 use Rattle.av1_c.specs.declared.argument.BadArgument.{BadArgument}
 use Rattle.av1_c.specs.declared.argument.BadArgument.TheVariants as bad
 use Rattle.av1_c.specs.declared.intra.IntraBlock.{IntraBlock}
@@ -87,24 +87,38 @@ with_prediction num pixel b mode stride x y size left corner above ac alpha samp
     let m = mode_in b mode in
     paint stride (rectangle x y size) (λ r c _. pixel (predicted (block_of b m size) (variant_in b) m alpha (ac_at (tx_width size) ac) (edge_round num left (num corner) above) r c)) samples
 
--- ---- what is refused
+-- ---- what is refused: each reason with what is asked before it, so that the first one that holds is told
 
 -- no intra mode has the number
 abbrev pub HasNoMode : ℕ → Type 0
 HasNoMode number = (mode : PredictionMode) → ¬ IsIntraMode number mode
 
+-- the mode does not turn so many steps
+abbrev pub HasNoAngle : IntraBlock → PredictionMode → Type 0
+HasNoAngle b mode = (size : TxSize) × (IsSize b.tx_size size × (¬ IsTurn mode b.angle_step))
+
+-- samples of so many bits have no such depth
+abbrev pub HasNoDepth : (bits : ℕ) → IntraBlock → PredictionMode → Type 0
+HasNoDepth bits b mode = (size : TxSize) × (IsSize b.tx_size size × (IsTurn mode b.angle_step × (¬ IsDepthWithin bits b.bit_depth)))
+
+-- the block does not lie in the samples
+abbrev pub LiesOutside : (bits : ℕ) → IntraBlock → PredictionMode → (stride x y samples : ℕ) → Type 0
+LiesOutside bits b mode stride x y samples =
+    (size : TxSize) × (IsSize b.tx_size size × (IsTurn mode b.angle_step × (IsDepthWithin bits b.bit_depth × (¬ AreRows stride (rectangle x y size) samples))))
+
 -- a side, or luma, is shorter than the block reads it
-abbrev pub HasShortSides : IntraBlock → PredictionMode → (left above ac : ℕ) → Type 0
-HasShortSides b mode left above ac = (size : TxSize) × IsSize b.tx_size size × (¬ HasSides b mode size left above ac)
+abbrev pub HasShortSides : (bits : ℕ) → IntraBlock → PredictionMode → (stride x y left above ac samples : ℕ) → Type 0
+HasShortSides bits b mode stride x y left above ac samples =
+    (size : TxSize) × (IsSize b.tx_size size × (IsTurn mode b.angle_step × (IsDepthWithin bits b.bit_depth × (AreRows stride (rectangle x y size) samples × (¬ HasSides b mode size left above ac)))))
 
 -- ---- why nothing is written: words of private contracts
 
 abbrev pub IsIntraFault : (bits : ℕ) → IntraBlock → PredictionMode → (stride x y left above ac samples : ℕ) → BadArgument → Type 0
 IsIntraFault bits b mode stride x y left above ac samples bad.Size = HasNoSize b.tx_size
-IsIntraFault bits b mode stride x y left above ac samples bad.Angle = ¬ IsTurn mode b.angle_step
-IsIntraFault bits b mode stride x y left above ac samples bad.Depth = ¬ IsDepthWithin bits b.bit_depth
-IsIntraFault bits b mode stride x y left above ac samples bad.Area = LiesOutside b.tx_size stride x y samples
-IsIntraFault bits b mode stride x y left above ac samples bad.Short = HasShortSides b mode left above ac
+IsIntraFault bits b mode stride x y left above ac samples bad.Angle = HasNoAngle b mode
+IsIntraFault bits b mode stride x y left above ac samples bad.Depth = HasNoDepth bits b mode
+IsIntraFault bits b mode stride x y left above ac samples bad.Area = LiesOutside bits b mode stride x y samples
+IsIntraFault bits b mode stride x y left above ac samples bad.Short = HasShortSides bits b mode stride x y left above ac samples
 IsIntraFault bits b mode stride x y left above ac samples fault = ⊥
 
 -- ---- words of private contracts

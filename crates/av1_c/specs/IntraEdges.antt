@@ -76,6 +76,12 @@ pub record BeginsIn (p : EdgePlane) (b : EdgeBlock) (size : TxSize) : Type 0 whe
   pub few_columns : b.unit_x * transform_columns size < 2 ^ 16
   pub few_rows : b.unit_y * transform_rows size < 2 ^ 16
 
+-- the numbers name a mode, or none, and sizes
+pub record IsNamed (b : EdgeBlock) (mode : Option PredictionMode) (size : TxSize) (block : BlockSize) : Type 0 where
+  pub moded : IsEdgeMode b.mode mode
+  pub sized : IsSize b.tx_size size
+  pub blocked : IsBlockSize b.block_size block
+
 -- The numbers name a transform that has an edge, where samples have so many bits, and the room holds it.
 pub record IsEdge (bits : ℕ) (p : EdgePlane) (b : EdgeBlock) (samples room : ℕ) (mode : Option PredictionMode) (size : TxSize) (block : BlockSize) : Type 0 where
   pub roomy : EDGE_SAMPLES ≤ room
@@ -107,21 +113,29 @@ pub record HoldsEdge {T : Type 0} (num : T → ℕ) (e : Edge) (room : List T) :
   pub corner : map num (part 128 1 room) ≡ e.corner ∷ []
   pub above : map num (part 129 (length e.above) room) ≡ e.above
 
--- ---- what is refused
+-- ---- what is refused of a room that is long enough: each reason with what is asked before it, so that the first one that holds is told
 
 abbrev pub HasNoEdgeMode : ℕ → Type 0
 HasNoEdgeMode number = (mode : Option PredictionMode) → ¬ IsEdgeMode number mode
 
 -- no size of transforms has the number, or no size of blocks
 abbrev pub HasNoSizes : EdgeBlock → Type 0
-HasNoSizes b = HasNoSize b.tx_size ⊎ (slice_get block_sizes.ALL b.block_size ≡ None)
+HasNoSizes b = (mode : Option PredictionMode) × (IsEdgeMode b.mode mode × (HasNoSize b.tx_size ⊎ (slice_get block_sizes.ALL b.block_size ≡ None)))
 
+-- the mode does not turn so many steps
 abbrev pub HasNoTurn : EdgeBlock → Type 0
-HasNoTurn b = (mode : Option PredictionMode) × IsEdgeMode b.mode mode × (¬ IsEdgeTurn mode b.angle_step)
+HasNoTurn b = (mode : Option PredictionMode) × ((size : TxSize) × ((block : BlockSize) × (IsNamed b mode size block × (¬ IsEdgeTurn mode b.angle_step))))
+
+-- samples of so many bits have no such depth
+abbrev pub HasNoDepth : (bits : ℕ) → EdgeBlock → Type 0
+HasNoDepth bits b =
+    (mode : Option PredictionMode) × ((size : TxSize) × ((block : BlockSize) × (IsNamed b mode size block × (IsEdgeTurn mode b.angle_step × (¬ IsDepthWithin bits b.bit_depth)))))
 
 -- the plane or the tile lies outside of what it should lie in, or the transform begins there
-abbrev pub HasNoPlace : EdgePlane → EdgeBlock → (samples : ℕ) → Type 0
-HasNoPlace p b samples = (size : TxSize) × IsSize b.tx_size size × (¬ (LiesIn p samples × BeginsIn p b size))
+abbrev pub HasNoPlace : (bits : ℕ) → EdgePlane → EdgeBlock → (samples : ℕ) → Type 0
+HasNoPlace bits p b samples =
+    (mode : Option PredictionMode) × ((size : TxSize) × ((block : BlockSize) × (IsNamed b mode size block
+    × (IsEdgeTurn mode b.angle_step × (IsDepthWithin bits b.bit_depth × (¬ (LiesIn p samples × BeginsIn p b size)))))))
 
 -- ---- why nothing is written: words of private contracts
 
@@ -129,5 +143,5 @@ abbrev pub IsNameFault : (bits : ℕ) → EdgeBlock → BadArgument → Type 0
 IsNameFault bits b bad.Mode = HasNoEdgeMode b.mode
 IsNameFault bits b bad.Size = HasNoSizes b
 IsNameFault bits b bad.Angle = HasNoTurn b
-IsNameFault bits b bad.Depth = ¬ IsDepthWithin bits b.bit_depth
+IsNameFault bits b bad.Depth = HasNoDepth bits b
 IsNameFault bits b _ = ⊥

@@ -32,6 +32,12 @@ pub record HasLuma (b : CflBlock) (size : BlockSize) : Type 0 where
   pub columns : 4 * b.w_pad < block_width size
   pub rows : 4 * b.h_pad < block_height size
 
+-- the numbers name a block that has luma
+pub record IsChroma (b : CflBlock) (size : BlockSize) : Type 0 where
+  pub sized : IsChromaSize b.block_size size
+  pub sampled : IsSampling b.xdec b.ydec
+  pub padded : HasLuma b size
+
 -- the luma that is read for it
 abbrev pub luma_area : CflBlock → BlockSize → (x y : ℕ) → StoredArea
 luma_area b size x y =
@@ -62,39 +68,48 @@ abbrev pub with_differences : CflBlock → BlockSize → (stride x y : ℕ) → 
 with_differences b size stride x y samples ac =
     with_rows (block_width size) (block_height size) (luma_difference (luma_in stride (luma_area b size x y) samples) (padded_block size b.w_pad b.h_pad b.xdec b.ydec)) ac
 
--- ---- what is refused
+-- ---- what is refused: each reason with what is asked before it, so that the first one that holds is told
 
 -- no size with sides up to 32 has the number
 abbrev pub HasNoChromaSize : ℕ → Type 0
 HasNoChromaSize number = (size : BlockSize) → ¬ IsChromaSize number size
 
+abbrev pub HasNoSampling : CflBlock → Type 0
+HasNoSampling b = (size : BlockSize) × (IsChromaSize b.block_size size × (¬ IsSampling b.xdec b.ydec))
+
 -- so many columns or rows without luma of their own leave none with it
 abbrev pub HasNoLuma : CflBlock → Type 0
-HasNoLuma b = (size : BlockSize) × IsChromaSize b.block_size size × (¬ HasLuma b size)
+HasNoLuma b = (size : BlockSize) × (IsChromaSize b.block_size size × (IsSampling b.xdec b.ydec × (¬ HasLuma b size)))
 
 -- the luma that is read does not lie in so many samples
 abbrev pub LumaLiesOutside : CflBlock → (stride x y samples : ℕ) → Type 0
-LumaLiesOutside b stride x y samples = (size : BlockSize) × IsChromaSize b.block_size size × (¬ AreRows stride (luma_area b size x y) samples)
+LumaLiesOutside b stride x y samples = (size : BlockSize) × (IsChroma b size × (¬ AreRows stride (luma_area b size x y) samples))
 
 -- there are fewer differences than the block has samples
-abbrev pub HasFewDifferences : CflBlock → (ac : ℕ) → Type 0
-HasFewDifferences b ac = (size : BlockSize) × IsChromaSize b.block_size size × (ac < block_width size * block_height size)
+abbrev pub HasFewDifferences : CflBlock → (stride x y ac samples : ℕ) → Type 0
+HasFewDifferences b stride x y ac samples =
+    (size : BlockSize) × (IsChroma b size × (AreRows stride (luma_area b size x y) samples × (ac < block_width size * block_height size)))
+
+-- samples have no such depth
+abbrev pub HasNoLumaDepth : (depth : ℕ) → CflBlock → (stride x y ac samples : ℕ) → Type 0
+HasNoLumaDepth depth b stride x y ac samples = (size : BlockSize) × (IsCflBlock b stride x y ac samples size × (¬ IsDepth depth))
 
 -- some sample that is read is past the depth
-abbrev pub HasDeepLuma : (depth : ℕ) → CflBlock → (stride x y : ℕ) → List ℕ → Type 0
-HasDeepLuma depth b stride x y samples = (size : BlockSize) × IsChromaSize b.block_size size × (¬ AreBelow (2 ^ depth) stride (luma_area b size x y) samples)
+abbrev pub HasDeepLuma : (depth : ℕ) → CflBlock → (stride x y ac : ℕ) → List ℕ → Type 0
+HasDeepLuma depth b stride x y ac samples =
+    (size : BlockSize) × (IsCflBlock b stride x y ac (length samples) size × (IsDepth depth × (¬ AreBelow (2 ^ depth) stride (luma_area b size x y) samples)))
 
 -- ---- why nothing is written: words of private contracts
 
 abbrev pub IsCflFault : CflBlock → (stride x y ac samples : ℕ) → BadArgument → Type 0
 IsCflFault b stride x y ac samples bad.Size = HasNoChromaSize b.block_size
-IsCflFault b stride x y ac samples bad.Sampling = ¬ IsSampling b.xdec b.ydec
+IsCflFault b stride x y ac samples bad.Sampling = HasNoSampling b
 IsCflFault b stride x y ac samples bad.Pad = HasNoLuma b
 IsCflFault b stride x y ac samples bad.Area = LumaLiesOutside b stride x y samples
-IsCflFault b stride x y ac samples bad.Short = HasFewDifferences b ac
+IsCflFault b stride x y ac samples bad.Short = HasFewDifferences b stride x y ac samples
 IsCflFault b stride x y ac samples _ = ⊥
 
 abbrev pub IsDeepCflFault : (depth : ℕ) → CflBlock → (stride x y ac : ℕ) → List ℕ → BadArgument → Type 0
-IsDeepCflFault depth b stride x y ac samples bad.Depth = ¬ IsDepth depth
-IsDeepCflFault depth b stride x y ac samples bad.Sample = HasDeepLuma depth b stride x y samples
+IsDeepCflFault depth b stride x y ac samples bad.Depth = HasNoLumaDepth depth b stride x y ac (length samples)
+IsDeepCflFault depth b stride x y ac samples bad.Sample = HasDeepLuma depth b stride x y ac samples
 IsDeepCflFault depth b stride x y ac samples fault = IsCflFault b stride x y ac (length samples) fault

@@ -54,6 +54,12 @@ pub record AreFractions (block : MotionBlock) : Type 0 where
   pub columns : block.col_frac < 16
   pub rows : block.row_frac < 16
 
+-- its own numbers are those of a block
+pub record IsMotionBlock (block : MotionBlock) : Type 0 where
+  pub sides : AreSides block.width block.height
+  pub filters : AreFilters block
+  pub fractions : AreFractions block
+
 -- all that is read for a block lies in so many samples
 pub record IsSource (from : Place) (block : MotionBlock) (samples : ℕ) : Type 0 where
   pub left : 3 ≤ from.x
@@ -120,15 +126,38 @@ abbrev pub with_average : (depth : ℕ) → (to : Place) → (width height : ℕ
 with_average depth to width height first second samples =
     paint to.stride (rectangle_at to width height) (λ r c _. averaged depth (entry first (r * width + c)) (entry second (r * width + c))) samples
 
--- ---- what is refused
+-- ---- what is refused: each reason with what is asked before it, so that the first one that holds is told
 
--- the block's place, or the one that it is read from, does not lie in the samples
+abbrev pub HasNoFilters : MotionBlock → Type 0
+HasNoFilters block = AreSides block.width block.height × (¬ AreFilters block)
+
+abbrev pub HasNoFractions : MotionBlock → Type 0
+HasNoFractions block = AreSides block.width block.height × (AreFilters block × (¬ AreFractions block))
+
+-- what is read for the block does not lie in the samples
+abbrev pub HasNoSource : (from : Place) → MotionBlock → (samples : ℕ) → Type 0
+HasNoSource from block samples = IsMotionBlock block × (¬ IsSource from block samples)
+
+-- nor does that, or the rectangle that the block is to become
 abbrev pub HasNoPlace : (to : Place) (room : ℕ) (from : Place) (samples : ℕ) → MotionBlock → Type 0
-HasNoPlace to room from samples block = (¬ IsSource from block samples) ⊎ (¬ AreRows to.stride (rectangle_at to block.width block.height) room)
+HasNoPlace to room from samples block = IsMotionBlock block × ((¬ IsSource from block samples) ⊎ (¬ AreRows to.stride (rectangle_at to block.width block.height) room))
+
+-- there are fewer values than the block has samples
+abbrev pub HasFewValues : (room : ℕ) (from : Place) (samples : ℕ) → MotionBlock → Type 0
+HasFewValues room from samples block = IsMotion from block samples × (room < block.height * block.width)
 
 -- some sample that is read for the block is past the depth
 abbrev pub HasDeepSample : (depth : ℕ) → (from : Place) → List ℕ → MotionBlock → Type 0
-HasDeepSample depth from samples block = ¬ AreWithinDepth depth (source_at from samples) (block.width + 7) (block.height + 7)
+HasDeepSample depth from samples block = IsDepth depth × (¬ AreWithinDepth depth (source_at from samples) (block.width + 7) (block.height + 7))
+
+-- the rectangle of an average does not lie in the samples
+abbrev pub LiesNowhere : (to : Place) (room width height : ℕ) → Type 0
+LiesNowhere to room width height = AreSides width height × (¬ AreRows to.stride (rectangle_at to width height) room)
+
+-- one of two blocks has fewer values than their average has samples
+abbrev pub HasFewOfTwo : (to : Place) (room width height first second : ℕ) → Type 0
+HasFewOfTwo to room width height first second =
+    AreSides width height × (AreRows to.stride (rectangle_at to width height) room × ((first < height * width) ⊎ (second < height * width)))
 
 -- what the calls answer
 abbrev pub IsPutStatus : ℕ → Type 0
@@ -163,30 +192,30 @@ config_of from block = bare_config from.stride (rows_for from block) (rectangle_
 
 abbrev pub IsMotionFault : (from : Place) (samples : ℕ) → MotionBlock → BadArgument → Type 0
 IsMotionFault from samples block bad.Size = ¬ AreSides block.width block.height
-IsMotionFault from samples block bad.Mode = ¬ AreFilters block
-IsMotionFault from samples block bad.Fraction = ¬ AreFractions block
-IsMotionFault from samples block bad.Area = ¬ IsSource from block samples
+IsMotionFault from samples block bad.Mode = HasNoFilters block
+IsMotionFault from samples block bad.Fraction = HasNoFractions block
+IsMotionFault from samples block bad.Area = HasNoSource from block samples
 IsMotionFault from samples block _ = ⊥
 
 abbrev pub IsPutFault : (to : Place) (room : ℕ) (from : Place) (samples : ℕ) → MotionBlock → BadArgument → Type 0
 IsPutFault to room from samples block bad.Size = ¬ AreSides block.width block.height
-IsPutFault to room from samples block bad.Mode = ¬ AreFilters block
-IsPutFault to room from samples block bad.Fraction = ¬ AreFractions block
+IsPutFault to room from samples block bad.Mode = HasNoFilters block
+IsPutFault to room from samples block bad.Fraction = HasNoFractions block
 IsPutFault to room from samples block bad.Area = HasNoPlace to room from samples block
 IsPutFault to room from samples block _ = ⊥
 
 abbrev pub IsPrepFault : (room : ℕ) (from : Place) (samples : ℕ) → MotionBlock → BadArgument → Type 0
 IsPrepFault room from samples block bad.Size = ¬ AreSides block.width block.height
-IsPrepFault room from samples block bad.Mode = ¬ AreFilters block
-IsPrepFault room from samples block bad.Fraction = ¬ AreFractions block
-IsPrepFault room from samples block bad.Area = ¬ IsSource from block samples
-IsPrepFault room from samples block bad.Short = room < block.height * block.width
+IsPrepFault room from samples block bad.Mode = HasNoFilters block
+IsPrepFault room from samples block bad.Fraction = HasNoFractions block
+IsPrepFault room from samples block bad.Area = HasNoSource from block samples
+IsPrepFault room from samples block bad.Short = HasFewValues room from samples block
 IsPrepFault room from samples block _ = ⊥
 
 abbrev pub IsAverageFault : (to : Place) (room width height first second : ℕ) → BadArgument → Type 0
 IsAverageFault to room width height first second bad.Size = ¬ AreSides width height
-IsAverageFault to room width height first second bad.Area = ¬ AreRows to.stride (rectangle_at to width height) room
-IsAverageFault to room width height first second bad.Short = (first < height * width) ⊎ (second < height * width)
+IsAverageFault to room width height first second bad.Area = LiesNowhere to room width height
+IsAverageFault to room width height first second bad.Short = HasFewOfTwo to room width height first second
 IsAverageFault to room width height first second _ = ⊥
 
 abbrev pub IsSampleFault : (depth : ℕ) → (from : Place) → List ℕ → MotionBlock → BadArgument → Type 0
@@ -195,15 +224,15 @@ IsSampleFault depth from samples block bad.Sample = HasDeepSample depth from sam
 IsSampleFault depth from samples block _ = ⊥
 
 abbrev pub IsDeepPutFault : (depth : ℕ) (to : Place) (room : ℕ) (from : Place) → List ℕ → MotionBlock → BadArgument → Type 0
-IsDeepPutFault depth to room from samples block bad.Depth = ¬ IsDepth depth
-IsDeepPutFault depth to room from samples block bad.Sample = HasDeepSample depth from samples block
+IsDeepPutFault depth to room from samples block bad.Depth = IsPut to room from (length samples) block × (¬ IsDepth depth)
+IsDeepPutFault depth to room from samples block bad.Sample = IsPut to room from (length samples) block × HasDeepSample depth from samples block
 IsDeepPutFault depth to room from samples block fault = IsPutFault to room from (length samples) block fault
 
 abbrev pub IsDeepPrepFault : (depth room : ℕ) (from : Place) → List ℕ → MotionBlock → BadArgument → Type 0
-IsDeepPrepFault depth room from samples block bad.Depth = ¬ IsDepth depth
-IsDeepPrepFault depth room from samples block bad.Sample = HasDeepSample depth from samples block
+IsDeepPrepFault depth room from samples block bad.Depth = IsPrep room from (length samples) block × (¬ IsDepth depth)
+IsDeepPrepFault depth room from samples block bad.Sample = IsPrep room from (length samples) block × HasDeepSample depth from samples block
 IsDeepPrepFault depth room from samples block fault = IsPrepFault room from (length samples) block fault
 
 abbrev pub IsDeepAverageFault : (depth : ℕ) (to : Place) (room width height first second : ℕ) → BadArgument → Type 0
-IsDeepAverageFault depth to room width height first second bad.Depth = ¬ IsDepth depth
+IsDeepAverageFault depth to room width height first second bad.Depth = IsAverage to room width height first second × (¬ IsDepth depth)
 IsDeepAverageFault depth to room width height first second fault = IsAverageFault to room width height first second fault

@@ -7,8 +7,8 @@ ghost use Rattle.av1_blocks.specs.declared.predict.PredictionMode.{PredictionMod
 ghost use Rattle.av1_blocks.specs.declared.predict.PredictionMode.TheVariants as modes;
 ghost use Rattle.av1_blocks.specs.declared.transform.TxSize.{TxSize as Size};
 ghost use Rattle.av1_intra.specs.Predicted.{angle_or_alpha};
-ghost use Rattle.av1_c.specs.Arguments.{HasNoSize, LiesOutside, rectangle};
-ghost use Rattle.av1_c.specs.IntraBlocks.{AreLong, AreSidesLong, HasNoMode, HasShortSides, IsDepthWithin, IsIntraBlock, IsIntraFault, IsIntraMode, IsTurn, block_of, filter_of, mode_in, variant_in, with_prediction};
+ghost use Rattle.av1_c.specs.Arguments.{HasNoSize, rectangle};
+ghost use Rattle.av1_c.specs.IntraBlocks.{AreLong, AreSidesLong, HasNoAngle, HasNoDepth, HasNoMode, HasShortSides, IsDepthWithin, IsIntraBlock, IsIntraFault, IsIntraMode, IsTurn, LiesOutside, block_of, filter_of, mode_in, variant_in, with_prediction};
 
 use crate::argument::{BadArgument, are_rows};
 use crate::status::{BAD_ANGLE, BAD_AREA, BAD_DEPTH, BAD_MODE, BAD_SIZE, DONE, TOO_SHORT};
@@ -264,10 +264,10 @@ fn predict_by<T: Pixel>(
         × (samples.new ≡ with_prediction T.num T.pixel block mode stride x y size left.now corner above.now ac.now alpha samples.old)) }
     ensures asked { (size : Size) → IsIntraBlock T.BITS block mode stride x y (length left.now) (length above.now) (length ac.now) (length samples.old) size → result ≡ DONE }
     ensures size { result ≡ BAD_SIZE → HasNoSize block.tx_size }
-    ensures angle { result ≡ BAD_ANGLE → ¬ IsTurn mode block.angle_step }
-    ensures depth { result ≡ BAD_DEPTH → ¬ IsDepthWithin T.BITS block.bit_depth }
-    ensures area { result ≡ BAD_AREA → LiesOutside block.tx_size stride x y (length samples.old) }
-    ensures short { result ≡ TOO_SHORT → HasShortSides block mode (length left.now) (length above.now) (length ac.now) }
+    ensures angle { result ≡ BAD_ANGLE → HasNoAngle block mode }
+    ensures depth { result ≡ BAD_DEPTH → HasNoDepth T.BITS block mode }
+    ensures area { result ≡ BAD_AREA → LiesOutside T.BITS block mode stride x y (length samples.old) }
+    ensures short { result ≡ TOO_SHORT → HasShortSides T.BITS block mode stride x y (length left.now) (length above.now) (length ac.now) (length samples.old) }
     ensures kept { result ≢ DONE → samples.new ≡ samples.old }
     ensures known { (result ≡ DONE) ⊎ ((result ≡ BAD_SIZE) ⊎ ((result ≡ BAD_ANGLE) ⊎ ((result ≡ BAD_DEPTH) ⊎ ((result ≡ BAD_AREA) ⊎ (result ≡ TOO_SHORT))))) }
 {
@@ -332,13 +332,13 @@ pub extern "C" fn av1_predict_intra_8(
     // Nothing else is asked of them.
     ensures asked { (mode : Mode) → (size : Size) → IsIntraMode block.now.mode mode
         → IsIntraBlock 8 block.now mode stride x y (length left.now) (length above.now) 0 (length samples.old) size → result ≡ DONE }
-    // An argument is refused, and this is why.
+    // An argument is refused, the first one that has to be, and this is why.
     ensures mode { result ≡ BAD_MODE → HasNoMode block.now.mode }
-    ensures size { result ≡ BAD_SIZE → HasNoSize block.now.tx_size }
-    ensures angle { result ≡ BAD_ANGLE → (mode : Mode) × (IsIntraMode block.now.mode mode × (¬ IsTurn mode block.now.angle_step)) }
-    ensures depth { result ≡ BAD_DEPTH → ¬ IsDepthWithin 8 block.now.bit_depth }
-    ensures area { result ≡ BAD_AREA → LiesOutside block.now.tx_size stride x y (length samples.old) }
-    ensures short { result ≡ TOO_SHORT → (mode : Mode) × (IsIntraMode block.now.mode mode × HasShortSides block.now mode (length left.now) (length above.now) 0) }
+    ensures size { result ≡ BAD_SIZE → (mode : Mode) × (IsIntraMode block.now.mode mode × HasNoSize block.now.tx_size) }
+    ensures angle { result ≡ BAD_ANGLE → (mode : Mode) × (IsIntraMode block.now.mode mode × HasNoAngle block.now mode) }
+    ensures depth { result ≡ BAD_DEPTH → (mode : Mode) × (IsIntraMode block.now.mode mode × HasNoDepth 8 block.now mode) }
+    ensures area { result ≡ BAD_AREA → (mode : Mode) × (IsIntraMode block.now.mode mode × LiesOutside 8 block.now mode stride x y (length samples.old)) }
+    ensures short { result ≡ TOO_SHORT → (mode : Mode) × (IsIntraMode block.now.mode mode × HasShortSides 8 block.now mode stride x y (length left.now) (length above.now) 0 (length samples.old)) }
     // What is refused leaves the samples as they were.
     ensures kept { result ≢ DONE → samples.new ≡ samples.old }
     ensures known { (result ≡ DONE) ⊎ ((result ≡ BAD_MODE) ⊎ ((result ≡ BAD_SIZE) ⊎ ((result ≡ BAD_ANGLE) ⊎ ((result ≡ BAD_DEPTH) ⊎ ((result ≡ BAD_AREA) ⊎ (result ≡ TOO_SHORT)))))) }
@@ -380,13 +380,13 @@ pub extern "C" fn av1_predict_intra_16(
     // Nothing else is asked of them.
     ensures asked { (mode : Mode) → (size : Size) → IsIntraMode block.now.mode mode
         → IsIntraBlock 16 block.now mode stride x y (length left.now) (length above.now) 0 (length samples.old) size → result ≡ DONE }
-    // An argument is refused, and this is why.
+    // An argument is refused, the first one that has to be, and this is why.
     ensures mode { result ≡ BAD_MODE → HasNoMode block.now.mode }
-    ensures size { result ≡ BAD_SIZE → HasNoSize block.now.tx_size }
-    ensures angle { result ≡ BAD_ANGLE → (mode : Mode) × (IsIntraMode block.now.mode mode × (¬ IsTurn mode block.now.angle_step)) }
-    ensures depth { result ≡ BAD_DEPTH → ¬ IsDepthWithin 16 block.now.bit_depth }
-    ensures area { result ≡ BAD_AREA → LiesOutside block.now.tx_size stride x y (length samples.old) }
-    ensures short { result ≡ TOO_SHORT → (mode : Mode) × (IsIntraMode block.now.mode mode × HasShortSides block.now mode (length left.now) (length above.now) 0) }
+    ensures size { result ≡ BAD_SIZE → (mode : Mode) × (IsIntraMode block.now.mode mode × HasNoSize block.now.tx_size) }
+    ensures angle { result ≡ BAD_ANGLE → (mode : Mode) × (IsIntraMode block.now.mode mode × HasNoAngle block.now mode) }
+    ensures depth { result ≡ BAD_DEPTH → (mode : Mode) × (IsIntraMode block.now.mode mode × HasNoDepth 16 block.now mode) }
+    ensures area { result ≡ BAD_AREA → (mode : Mode) × (IsIntraMode block.now.mode mode × LiesOutside 16 block.now mode stride x y (length samples.old)) }
+    ensures short { result ≡ TOO_SHORT → (mode : Mode) × (IsIntraMode block.now.mode mode × HasShortSides 16 block.now mode stride x y (length left.now) (length above.now) 0 (length samples.old)) }
     // What is refused leaves the samples as they were.
     ensures kept { result ≢ DONE → samples.new ≡ samples.old }
     ensures known { (result ≡ DONE) ⊎ ((result ≡ BAD_MODE) ⊎ ((result ≡ BAD_SIZE) ⊎ ((result ≡ BAD_ANGLE) ⊎ ((result ≡ BAD_DEPTH) ⊎ ((result ≡ BAD_AREA) ⊎ (result ≡ TOO_SHORT)))))) }
@@ -433,12 +433,12 @@ pub extern "C" fn av1_predict_cfl_8(
         × (samples.new ≡ with_prediction (λ n. n) (λ n. n) block.now modes.UV_CFL_PRED stride x y size left.now 0 above.now ac.now alpha samples.old)) }
     // Nothing else is asked of them.
     ensures asked { (size : Size) → IsIntraBlock 8 block.now modes.UV_CFL_PRED stride x y (length left.now) (length above.now) (length ac.now) (length samples.old) size → result ≡ DONE }
-    // An argument is refused, and this is why.
+    // An argument is refused, the first one that has to be, and this is why.
     ensures size { result ≡ BAD_SIZE → HasNoSize block.now.tx_size }
-    ensures angle { result ≡ BAD_ANGLE → ¬ IsTurn modes.UV_CFL_PRED block.now.angle_step }
-    ensures depth { result ≡ BAD_DEPTH → ¬ IsDepthWithin 8 block.now.bit_depth }
-    ensures area { result ≡ BAD_AREA → LiesOutside block.now.tx_size stride x y (length samples.old) }
-    ensures short { result ≡ TOO_SHORT → HasShortSides block.now modes.UV_CFL_PRED (length left.now) (length above.now) (length ac.now) }
+    ensures angle { result ≡ BAD_ANGLE → HasNoAngle block.now modes.UV_CFL_PRED }
+    ensures depth { result ≡ BAD_DEPTH → HasNoDepth 8 block.now modes.UV_CFL_PRED }
+    ensures area { result ≡ BAD_AREA → LiesOutside 8 block.now modes.UV_CFL_PRED stride x y (length samples.old) }
+    ensures short { result ≡ TOO_SHORT → HasShortSides 8 block.now modes.UV_CFL_PRED stride x y (length left.now) (length above.now) (length ac.now) (length samples.old) }
     // What is refused leaves the samples as they were.
     ensures kept { result ≢ DONE → samples.new ≡ samples.old }
     ensures known { (result ≡ DONE) ⊎ ((result ≡ BAD_SIZE) ⊎ ((result ≡ BAD_ANGLE) ⊎ ((result ≡ BAD_DEPTH) ⊎ ((result ≡ BAD_AREA) ⊎ (result ≡ TOO_SHORT))))) }
@@ -467,12 +467,12 @@ pub extern "C" fn av1_predict_cfl_16(
         × (samples.new ≡ with_prediction (λ n. n) (λ n. n) block.now modes.UV_CFL_PRED stride x y size left.now 0 above.now ac.now alpha samples.old)) }
     // Nothing else is asked of them.
     ensures asked { (size : Size) → IsIntraBlock 16 block.now modes.UV_CFL_PRED stride x y (length left.now) (length above.now) (length ac.now) (length samples.old) size → result ≡ DONE }
-    // An argument is refused, and this is why.
+    // An argument is refused, the first one that has to be, and this is why.
     ensures size { result ≡ BAD_SIZE → HasNoSize block.now.tx_size }
-    ensures angle { result ≡ BAD_ANGLE → ¬ IsTurn modes.UV_CFL_PRED block.now.angle_step }
-    ensures depth { result ≡ BAD_DEPTH → ¬ IsDepthWithin 16 block.now.bit_depth }
-    ensures area { result ≡ BAD_AREA → LiesOutside block.now.tx_size stride x y (length samples.old) }
-    ensures short { result ≡ TOO_SHORT → HasShortSides block.now modes.UV_CFL_PRED (length left.now) (length above.now) (length ac.now) }
+    ensures angle { result ≡ BAD_ANGLE → HasNoAngle block.now modes.UV_CFL_PRED }
+    ensures depth { result ≡ BAD_DEPTH → HasNoDepth 16 block.now modes.UV_CFL_PRED }
+    ensures area { result ≡ BAD_AREA → LiesOutside 16 block.now modes.UV_CFL_PRED stride x y (length samples.old) }
+    ensures short { result ≡ TOO_SHORT → HasShortSides 16 block.now modes.UV_CFL_PRED stride x y (length left.now) (length above.now) (length ac.now) (length samples.old) }
     // What is refused leaves the samples as they were.
     ensures kept { result ≢ DONE → samples.new ≡ samples.old }
     ensures known { (result ≡ DONE) ⊎ ((result ≡ BAD_SIZE) ⊎ ((result ≡ BAD_ANGLE) ⊎ ((result ≡ BAD_DEPTH) ⊎ ((result ≡ BAD_AREA) ⊎ (result ≡ TOO_SHORT))))) }

@@ -8,7 +8,7 @@ ghost use Rattle.av1_blocks.specs.declared.transform.TxSize.{TxSize as Size};
 ghost use Rattle.av1_edges.specs.Edges.{BeginsVisible};
 ghost use Rattle.av1_frame.specs.declared.plane_region.PlaneRegion.{PlaneRegion as Region};
 ghost use Rattle.av1_c.specs.IntraBlocks.{IsDepthWithin};
-ghost use Rattle.av1_c.specs.IntraEdges.{BeginsIn, HasNoEdgeMode, HasNoPlace, HasNoSizes, HasNoTurn, HoldsEdge, IsBlockSize, IsEdge, IsEdgeMode, IsEdgeTurn, IsNameFault, IsTile, LiesIn, config_of, edge_in, halvings, plane_of};
+ghost use Rattle.av1_c.specs.IntraEdges.{BeginsIn, HasNoDepth, HasNoEdgeMode, HasNoPlace, HasNoSizes, HasNoTurn, HoldsEdge, IsBlockSize, IsEdge, IsEdgeMode, IsEdgeTurn, IsNameFault, IsTile, LiesIn, config_of, edge_in, halvings, plane_of};
 ghost use Rattle.av1_c.specs.Arguments.{IsSize};
 
 use crate::argument::{BadArgument, are_rows};
@@ -324,11 +324,11 @@ fn prepare_by<T: Pixel>(edge: &mut [T], samples: &[T], plane: &EdgePlane, block:
         × ((r : Region T) × (IsTile r plane.now samples.now × HoldsEdge T.num (edge_in T.num r block.now mode size luma) edge.new))))) }
     ensures asked { (mode : Option Mode) → (size : Size) → (luma : Block) → IsEdge T.BITS plane.now block.now (length samples.now) (length edge.old) mode size luma → result ≡ DONE }
     ensures room { result ≡ ROOM_TOO_SMALL → length edge.old < EDGE_SAMPLES }
-    ensures mode { result ≡ BAD_MODE → HasNoEdgeMode block.now.mode }
-    ensures size { result ≡ BAD_SIZE → HasNoSizes block.now }
-    ensures angle { result ≡ BAD_ANGLE → HasNoTurn block.now }
-    ensures depth { result ≡ BAD_DEPTH → ¬ IsDepthWithin T.BITS block.now.bit_depth }
-    ensures area { result ≡ BAD_AREA → HasNoPlace plane.now block.now (length samples.now) }
+    ensures mode { result ≡ BAD_MODE → (EDGE_SAMPLES ≤ length edge.old) × HasNoEdgeMode block.now.mode }
+    ensures size { result ≡ BAD_SIZE → (EDGE_SAMPLES ≤ length edge.old) × HasNoSizes block.now }
+    ensures angle { result ≡ BAD_ANGLE → (EDGE_SAMPLES ≤ length edge.old) × HasNoTurn block.now }
+    ensures depth { result ≡ BAD_DEPTH → (EDGE_SAMPLES ≤ length edge.old) × HasNoDepth T.BITS block.now }
+    ensures area { result ≡ BAD_AREA → (EDGE_SAMPLES ≤ length edge.old) × HasNoPlace T.BITS plane.now block.now (length samples.now) }
     ensures rest { drop EDGE_SAMPLES edge.new ≡ drop EDGE_SAMPLES edge.old }
     ensures kept { result ≢ DONE → edge.new ≡ edge.old }
     ensures known { (result ≡ DONE) ⊎ ((result ≡ ROOM_TOO_SMALL) ⊎ ((result ≡ BAD_MODE) ⊎ ((result ≡ BAD_SIZE) ⊎ ((result ≡ BAD_ANGLE) ⊎ ((result ≡ BAD_DEPTH) ⊎ (result ≡ BAD_AREA)))))) }
@@ -373,13 +373,13 @@ pub extern "C" fn av1_intra_edge_8(
         × ((r : Region ℕ) × (IsTile r plane.now samples.now × HoldsEdge (λ n. n) (edge_in (λ n. n) r block.now mode size luma) edge.new))))) }
     // Nothing else is asked of them.
     ensures asked { (mode : Option Mode) → (size : Size) → (luma : Block) → IsEdge 8 plane.now block.now (length samples.now) (length edge.old) mode size luma → result ≡ DONE }
-    // An argument is refused, and this is why.
+    // An argument is refused, the first one that has to be, and this is why.
     ensures room { result ≡ ROOM_TOO_SMALL → length edge.old < EDGE_SAMPLES }
-    ensures mode { result ≡ BAD_MODE → HasNoEdgeMode block.now.mode }
-    ensures size { result ≡ BAD_SIZE → HasNoSizes block.now }
-    ensures angle { result ≡ BAD_ANGLE → HasNoTurn block.now }
-    ensures depth { result ≡ BAD_DEPTH → ¬ IsDepthWithin 8 block.now.bit_depth }
-    ensures area { result ≡ BAD_AREA → HasNoPlace plane.now block.now (length samples.now) }
+    ensures mode { result ≡ BAD_MODE → (EDGE_SAMPLES ≤ length edge.old) × HasNoEdgeMode block.now.mode }
+    ensures size { result ≡ BAD_SIZE → (EDGE_SAMPLES ≤ length edge.old) × HasNoSizes block.now }
+    ensures angle { result ≡ BAD_ANGLE → (EDGE_SAMPLES ≤ length edge.old) × HasNoTurn block.now }
+    ensures depth { result ≡ BAD_DEPTH → (EDGE_SAMPLES ≤ length edge.old) × HasNoDepth 8 block.now }
+    ensures area { result ≡ BAD_AREA → (EDGE_SAMPLES ≤ length edge.old) × HasNoPlace 8 plane.now block.now (length samples.now) }
     // What stands behind the edge stays, and what is refused writes nothing.
     ensures rest { drop EDGE_SAMPLES edge.new ≡ drop EDGE_SAMPLES edge.old }
     ensures kept { result ≢ DONE → edge.new ≡ edge.old }
@@ -401,13 +401,13 @@ pub extern "C" fn av1_intra_edge_16(
         × ((r : Region ℕ) × (IsTile r plane.now samples.now × HoldsEdge (λ n. n) (edge_in (λ n. n) r block.now mode size luma) edge.new))))) }
     // Nothing else is asked of them.
     ensures asked { (mode : Option Mode) → (size : Size) → (luma : Block) → IsEdge 16 plane.now block.now (length samples.now) (length edge.old) mode size luma → result ≡ DONE }
-    // An argument is refused, and this is why.
+    // An argument is refused, the first one that has to be, and this is why.
     ensures room { result ≡ ROOM_TOO_SMALL → length edge.old < EDGE_SAMPLES }
-    ensures mode { result ≡ BAD_MODE → HasNoEdgeMode block.now.mode }
-    ensures size { result ≡ BAD_SIZE → HasNoSizes block.now }
-    ensures angle { result ≡ BAD_ANGLE → HasNoTurn block.now }
-    ensures depth { result ≡ BAD_DEPTH → ¬ IsDepthWithin 16 block.now.bit_depth }
-    ensures area { result ≡ BAD_AREA → HasNoPlace plane.now block.now (length samples.now) }
+    ensures mode { result ≡ BAD_MODE → (EDGE_SAMPLES ≤ length edge.old) × HasNoEdgeMode block.now.mode }
+    ensures size { result ≡ BAD_SIZE → (EDGE_SAMPLES ≤ length edge.old) × HasNoSizes block.now }
+    ensures angle { result ≡ BAD_ANGLE → (EDGE_SAMPLES ≤ length edge.old) × HasNoTurn block.now }
+    ensures depth { result ≡ BAD_DEPTH → (EDGE_SAMPLES ≤ length edge.old) × HasNoDepth 16 block.now }
+    ensures area { result ≡ BAD_AREA → (EDGE_SAMPLES ≤ length edge.old) × HasNoPlace 16 plane.now block.now (length samples.now) }
     // What stands behind the edge stays, and what is refused writes nothing.
     ensures rest { drop EDGE_SAMPLES edge.new ≡ drop EDGE_SAMPLES edge.old }
     ensures kept { result ≢ DONE → edge.new ≡ edge.old }

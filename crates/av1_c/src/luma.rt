@@ -3,13 +3,12 @@
 //! AV1 specification: predict chroma from luma process.
 ghost use Rattle.std.specs.Prelude.{◌≡◌, ◌≢◌, ◌⊎◌, ℕ, ◌+◌, ◌-◌, ◌*◌, ◌^◌, ◌<◌, ◌≤◌, min, map, IfOk, IfErr, IfSome, None, true, length};
 ghost use Rattle.av1_blocks.specs.Blocks.{block_height, block_width};
-ghost use Rattle.av1_blocks.specs.Depths.{IsDepth};
 ghost use Rattle.av1_blocks.specs.declared.partition.BlockSize.{BlockSize as Size};
 ghost use Rattle.av1_edges.specs.Edges.{region_sample};
 ghost use Rattle.av1_frame.specs.Areas.{AreRows};
 ghost use Rattle.av1_frame.specs.Regions.{IsReadable};
 ghost use Rattle.av1_intra.specs.ChromaFromLuma.{columns_read, last_begun, luma_difference, padded_block, rows_read, with_rows};
-ghost use Rattle.av1_c.specs.LumaBlocks.{HasDeepLuma, HasFewDifferences, HasLuma, HasNoChromaSize, HasNoLuma, IsCflBlock, IsCflFault, IsChromaSize, IsDeepCflFault, IsLumaOfDepth, IsSampling, LumaLiesOutside, luma_area, luma_in, with_differences};
+ghost use Rattle.av1_c.specs.LumaBlocks.{HasDeepLuma, HasFewDifferences, HasLuma, HasNoChromaSize, HasNoLuma, HasNoLumaDepth, HasNoSampling, IsCflBlock, IsCflFault, IsChromaSize, IsDeepCflFault, IsLumaOfDepth, IsSampling, LumaLiesOutside, luma_area, luma_in, with_differences};
 ghost use Rattle.av1_c.specs.Samples.{AreBelow};
 
 use crate::argument::{BadArgument, are_rows, is_depth};
@@ -287,12 +286,12 @@ pub extern "C" fn av1_cfl_ac_8(
         × (ac.new ≡ with_differences block.now size stride x y luma.now ac.old)) }
     // Nothing else is asked of them.
     ensures asked { (size : Size) → IsCflBlock block.now stride x y (length ac.old) (length luma.now) size → result ≡ DONE }
-    // An argument is refused, and this is why.
+    // An argument is refused, the first one that has to be, and this is why.
     ensures size { result ≡ BAD_SIZE → HasNoChromaSize block.now.block_size }
-    ensures sampling { result ≡ BAD_SAMPLING → ¬ IsSampling block.now.xdec block.now.ydec }
+    ensures sampling { result ≡ BAD_SAMPLING → HasNoSampling block.now }
     ensures pad { result ≡ BAD_PAD → HasNoLuma block.now }
     ensures area { result ≡ BAD_AREA → LumaLiesOutside block.now stride x y (length luma.now) }
-    ensures short { result ≡ TOO_SHORT → HasFewDifferences block.now (length ac.old) }
+    ensures short { result ≡ TOO_SHORT → HasFewDifferences block.now stride x y (length ac.old) (length luma.now) }
     // What is refused leaves the differences as they were.
     ensures kept { result ≢ DONE → ac.new ≡ ac.old }
     ensures known { (result ≡ DONE) ⊎ ((result ≡ BAD_SIZE) ⊎ ((result ≡ BAD_SAMPLING) ⊎ ((result ≡ BAD_PAD) ⊎ ((result ≡ BAD_AREA) ⊎ (result ≡ TOO_SHORT))))) }
@@ -327,14 +326,14 @@ pub extern "C" fn av1_cfl_ac_16(
     // Nothing else is asked of them.
     ensures asked { (size : Size) → IsCflBlock block.now stride x y (length ac.old) (length luma.now) size
         → IsLumaOfDepth bit_depth block.now stride x y luma.now size → result ≡ DONE }
-    // An argument is refused, and this is why.
+    // An argument is refused, the first one that has to be, and this is why.
     ensures size { result ≡ BAD_SIZE → HasNoChromaSize block.now.block_size }
-    ensures sampling { result ≡ BAD_SAMPLING → ¬ IsSampling block.now.xdec block.now.ydec }
+    ensures sampling { result ≡ BAD_SAMPLING → HasNoSampling block.now }
     ensures pad { result ≡ BAD_PAD → HasNoLuma block.now }
     ensures area { result ≡ BAD_AREA → LumaLiesOutside block.now stride x y (length luma.now) }
-    ensures short { result ≡ TOO_SHORT → HasFewDifferences block.now (length ac.old) }
-    ensures depth { result ≡ BAD_DEPTH → ¬ IsDepth bit_depth }
-    ensures sample { result ≡ BAD_SAMPLE → HasDeepLuma bit_depth block.now stride x y luma.now }
+    ensures short { result ≡ TOO_SHORT → HasFewDifferences block.now stride x y (length ac.old) (length luma.now) }
+    ensures depth { result ≡ BAD_DEPTH → HasNoLumaDepth bit_depth block.now stride x y (length ac.old) (length luma.now) }
+    ensures sample { result ≡ BAD_SAMPLE → HasDeepLuma bit_depth block.now stride x y (length ac.old) luma.now }
     // What is refused leaves the differences as they were.
     ensures kept { result ≢ DONE → ac.new ≡ ac.old }
     ensures known { (result ≡ DONE) ⊎ ((result ≡ BAD_SIZE) ⊎ ((result ≡ BAD_SAMPLING) ⊎ ((result ≡ BAD_PAD) ⊎ ((result ≡ BAD_AREA) ⊎ ((result ≡ TOO_SHORT)

@@ -1,10 +1,9 @@
 //! The average of two prepared blocks.
 //!
 //! AV1 specification: block inter prediction process, and the average of its two predictions.
-ghost use Rattle.std.specs.Prelude.{◌≡◌, ◌≢◌, ◌⊎◌, ◌*◌, ◌<◌, IfOk, IfErr, length};
+ghost use Rattle.std.specs.Prelude.{◌≡◌, ◌≢◌, IfOk, IfErr, length};
 ghost use Rattle.av1_blocks.specs.Depths.{IsDepth};
-ghost use Rattle.av1_frame.specs.Areas.{AreRows};
-ghost use Rattle.av1_c.specs.Motions.{AreSides, IsAverage, IsAverageFault, IsAverageStatus, IsDeepAverageFault, IsDeepAverageStatus, place, rectangle_at, with_average};
+ghost use Rattle.av1_c.specs.Motions.{AreSides, HasFewOfTwo, IsAverage, IsAverageStatus, IsDeepAverageFault, IsDeepAverageStatus, LiesNowhere, place, with_average};
 
 use crate::argument::{BadArgument, is_depth};
 use crate::motion::{Place, rectangle_at, test_average};
@@ -59,10 +58,10 @@ pub extern "C" fn av1_mc_avg_8(
         IsAverage to (length samples.old) width height (length first.now) (length second.now) × (samples.new ≡ with_average 8 to width height first.now second.now samples.old) }
     // Nothing else is asked of the arguments.
     ensures asked { IsAverage (place stride x y) (length samples.old) width height (length first.now) (length second.now) → result ≡ DONE }
-    // An argument is refused, and this is why.
+    // An argument is refused, the first one that has to be, and this is why.
     ensures size { result ≡ BAD_SIZE → ¬ AreSides width height }
-    ensures area { result ≡ BAD_AREA → ¬ AreRows stride (rectangle_at (place stride x y) width height) (length samples.old) }
-    ensures short { result ≡ TOO_SHORT → (length first.now < height * width) ⊎ (length second.now < height * width) }
+    ensures area { result ≡ BAD_AREA → LiesNowhere (place stride x y) (length samples.old) width height }
+    ensures short { result ≡ TOO_SHORT → HasFewOfTwo (place stride x y) (length samples.old) width height (length first.now) (length second.now) }
     // What is refused leaves the samples as they were.
     ensures kept { result ≢ DONE → samples.new ≡ samples.old }
     ensures known { IsAverageStatus result }
@@ -104,11 +103,11 @@ pub extern "C" fn av1_mc_avg_16(
         IsAverage to (length samples.old) width height (length first.now) (length second.now) × (IsDepth bit_depth × (samples.new ≡ with_average bit_depth to width height first.now second.now samples.old)) }
     // Nothing else is asked of the arguments.
     ensures asked { IsAverage (place stride x y) (length samples.old) width height (length first.now) (length second.now) → IsDepth bit_depth → result ≡ DONE }
-    // An argument is refused, and this is why.
+    // An argument is refused, the first one that has to be, and this is why.
     ensures size { result ≡ BAD_SIZE → ¬ AreSides width height }
-    ensures area { result ≡ BAD_AREA → ¬ AreRows stride (rectangle_at (place stride x y) width height) (length samples.old) }
-    ensures short { result ≡ TOO_SHORT → (length first.now < height * width) ⊎ (length second.now < height * width) }
-    ensures depth { result ≡ BAD_DEPTH → ¬ IsDepth bit_depth }
+    ensures area { result ≡ BAD_AREA → LiesNowhere (place stride x y) (length samples.old) width height }
+    ensures short { result ≡ TOO_SHORT → HasFewOfTwo (place stride x y) (length samples.old) width height (length first.now) (length second.now) }
+    ensures depth { result ≡ BAD_DEPTH → IsAverage (place stride x y) (length samples.old) width height (length first.now) (length second.now) × (¬ IsDepth bit_depth) }
     // What is refused leaves the samples as they were.
     ensures kept { result ≢ DONE → samples.new ≡ samples.old }
     ensures known { IsDeepAverageStatus result }

@@ -1,10 +1,10 @@
 //! A block that is prepared for the average with another.
 //!
 //! AV1 specification: block inter prediction process, with the rounding of compound prediction.
-ghost use Rattle.std.specs.Prelude.{◌≡◌, ◌≢◌, ◌+◌, ◌*◌, ◌<◌, IfOk, IfErr, map, length};
+ghost use Rattle.std.specs.Prelude.{◌≡◌, ◌≢◌, ◌+◌, IfOk, IfErr, map, length};
 ghost use Rattle.av1_blocks.specs.Depths.{IsDepth};
 ghost use Rattle.av1_inter.specs.Places.{AreWithinDepth};
-ghost use Rattle.av1_c.specs.Motions.{AreFilters, AreFractions, AreOfDepth, AreSides, HasDeepSample, HoldBlock, IsDeepPrepFault, IsDeepPrepStatus, IsPrep, IsPrepStatus, IsSource, place, source_at};
+ghost use Rattle.av1_c.specs.Motions.{AreOfDepth, AreSides, HasDeepSample, HasFewValues, HasNoFilters, HasNoFractions, HasNoSource, HoldBlock, IsDeepPrepFault, IsDeepPrepStatus, IsPrep, IsPrepStatus, place, source_at};
 
 use crate::argument::BadArgument;
 use crate::motion::{MotionBlock, Place, config_of, filter_mode, rows_of, test_prep, test_samples};
@@ -82,12 +82,12 @@ pub extern "C" fn av1_prep_8tap_8(
         IsPrep (length values.old) from (length src.now) block.now × HoldBlock 8 block.now (source_at from src.now) values.old values.new }
     // Nothing else is asked of the arguments.
     ensures asked { IsPrep (length values.old) (place src_stride src_x src_y) (length src.now) block.now → result ≡ DONE }
-    // An argument is refused, and this is why.
+    // An argument is refused, the first one that has to be, and this is why.
     ensures size { result ≡ BAD_SIZE → ¬ AreSides block.now.width block.now.height }
-    ensures mode { result ≡ BAD_MODE → ¬ AreFilters block.now }
-    ensures fraction { result ≡ BAD_FRACTION → ¬ AreFractions block.now }
-    ensures area { result ≡ BAD_AREA → ¬ IsSource (place src_stride src_x src_y) block.now (length src.now) }
-    ensures short { result ≡ TOO_SHORT → length values.old < block.now.height * block.now.width }
+    ensures mode { result ≡ BAD_MODE → HasNoFilters block.now }
+    ensures fraction { result ≡ BAD_FRACTION → HasNoFractions block.now }
+    ensures area { result ≡ BAD_AREA → HasNoSource (place src_stride src_x src_y) block.now (length src.now) }
+    ensures short { result ≡ TOO_SHORT → HasFewValues (length values.old) (place src_stride src_x src_y) (length src.now) block.now }
     // What is refused leaves the values as they were.
     ensures kept { result ≢ DONE → values.new ≡ values.old }
     ensures known { IsPrepStatus result }
@@ -127,14 +127,14 @@ pub extern "C" fn av1_prep_8tap_16(
     // Nothing else is asked of the arguments.
     ensures asked { let from = place src_stride src_x src_y in
         IsPrep (length values.old) from (length src.now) block.now → AreOfDepth bit_depth from src.now block.now → result ≡ DONE }
-    // An argument is refused, and this is why.
+    // An argument is refused, the first one that has to be, and this is why.
     ensures size { result ≡ BAD_SIZE → ¬ AreSides block.now.width block.now.height }
-    ensures mode { result ≡ BAD_MODE → ¬ AreFilters block.now }
-    ensures fraction { result ≡ BAD_FRACTION → ¬ AreFractions block.now }
-    ensures area { result ≡ BAD_AREA → ¬ IsSource (place src_stride src_x src_y) block.now (length src.now) }
-    ensures short { result ≡ TOO_SHORT → length values.old < block.now.height * block.now.width }
-    ensures depth { result ≡ BAD_DEPTH → ¬ IsDepth bit_depth }
-    ensures sample { result ≡ BAD_SAMPLE → HasDeepSample bit_depth (place src_stride src_x src_y) src.now block.now }
+    ensures mode { result ≡ BAD_MODE → HasNoFilters block.now }
+    ensures fraction { result ≡ BAD_FRACTION → HasNoFractions block.now }
+    ensures area { result ≡ BAD_AREA → HasNoSource (place src_stride src_x src_y) block.now (length src.now) }
+    ensures short { result ≡ TOO_SHORT → HasFewValues (length values.old) (place src_stride src_x src_y) (length src.now) block.now }
+    ensures depth { result ≡ BAD_DEPTH → IsPrep (length values.old) (place src_stride src_x src_y) (length src.now) block.now × (¬ IsDepth bit_depth) }
+    ensures sample { result ≡ BAD_SAMPLE → IsPrep (length values.old) (place src_stride src_x src_y) (length src.now) block.now × HasDeepSample bit_depth (place src_stride src_x src_y) src.now block.now }
     // What is refused leaves the values as they were.
     ensures kept { result ≢ DONE → values.new ≡ values.old }
     ensures known { IsDeepPrepStatus result }

@@ -5,7 +5,7 @@ ghost use Rattle.std.specs.Prelude.{◌≡◌, ◌≢◌, ◌+◌, ◌≤◌, If
 ghost use Rattle.av1_blocks.specs.Depths.{IsDepth};
 ghost use Rattle.av1_frame.specs.Samples.{paint};
 ghost use Rattle.av1_inter.specs.Places.{AreWithinDepth};
-ghost use Rattle.av1_c.specs.Motions.{AreFilters, AreFractions, AreOfDepth, AreSides, HasDeepSample, HasNoPlace, IsDeepPutFault, IsDeepPutStatus, IsPut, IsPutStatus, moved_sample, place, rectangle_at, source_at, with_block};
+ghost use Rattle.av1_c.specs.Motions.{AreOfDepth, AreSides, HasDeepSample, HasNoFilters, HasNoFractions, HasNoPlace, IsDeepPutFault, IsDeepPutStatus, IsPut, IsPutStatus, moved_sample, place, rectangle_at, source_at, with_block};
 
 use crate::argument::BadArgument;
 use crate::motion::{
@@ -96,10 +96,10 @@ pub extern "C" fn av1_put_8tap_8(
         IsPut to (length dst.old) from (length src.now) block.now × (dst.new ≡ with_block 8 to block.now (source_at from src.now) dst.old) }
     // Nothing else is asked of the arguments.
     ensures asked { IsPut (place dst_stride dst_x dst_y) (length dst.old) (place src_stride src_x src_y) (length src.now) block.now → result ≡ DONE }
-    // An argument is refused, and this is why.
+    // An argument is refused, the first one that has to be, and this is why.
     ensures size { result ≡ BAD_SIZE → ¬ AreSides block.now.width block.now.height }
-    ensures mode { result ≡ BAD_MODE → ¬ AreFilters block.now }
-    ensures fraction { result ≡ BAD_FRACTION → ¬ AreFractions block.now }
+    ensures mode { result ≡ BAD_MODE → HasNoFilters block.now }
+    ensures fraction { result ≡ BAD_FRACTION → HasNoFractions block.now }
     ensures area { result ≡ BAD_AREA → HasNoPlace (place dst_stride dst_x dst_y) (length dst.old) (place src_stride src_x src_y) (length src.now) block.now }
     // What is refused leaves the samples as they were.
     ensures kept { result ≢ DONE → dst.new ≡ dst.old }
@@ -148,13 +148,14 @@ pub extern "C" fn av1_put_8tap_16(
     // Nothing else is asked of the arguments.
     ensures asked { let from = place src_stride src_x src_y in
         IsPut (place dst_stride dst_x dst_y) (length dst.old) from (length src.now) block.now → AreOfDepth bit_depth from src.now block.now → result ≡ DONE }
-    // An argument is refused, and this is why.
+    // An argument is refused, the first one that has to be, and this is why.
     ensures size { result ≡ BAD_SIZE → ¬ AreSides block.now.width block.now.height }
-    ensures mode { result ≡ BAD_MODE → ¬ AreFilters block.now }
-    ensures fraction { result ≡ BAD_FRACTION → ¬ AreFractions block.now }
+    ensures mode { result ≡ BAD_MODE → HasNoFilters block.now }
+    ensures fraction { result ≡ BAD_FRACTION → HasNoFractions block.now }
     ensures area { result ≡ BAD_AREA → HasNoPlace (place dst_stride dst_x dst_y) (length dst.old) (place src_stride src_x src_y) (length src.now) block.now }
-    ensures depth { result ≡ BAD_DEPTH → ¬ IsDepth bit_depth }
-    ensures sample { result ≡ BAD_SAMPLE → HasDeepSample bit_depth (place src_stride src_x src_y) src.now block.now }
+    ensures depth { result ≡ BAD_DEPTH → IsPut (place dst_stride dst_x dst_y) (length dst.old) (place src_stride src_x src_y) (length src.now) block.now × (¬ IsDepth bit_depth) }
+    ensures sample { result ≡ BAD_SAMPLE → IsPut (place dst_stride dst_x dst_y) (length dst.old) (place src_stride src_x src_y) (length src.now) block.now
+        × HasDeepSample bit_depth (place src_stride src_x src_y) src.now block.now }
     // What is refused leaves the samples as they were.
     ensures kept { result ≢ DONE → dst.new ≡ dst.old }
     ensures known { IsDeepPutStatus result }

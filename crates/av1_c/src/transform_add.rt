@@ -4,8 +4,8 @@ ghost use Rattle.av1_blocks.specs.Depths.{IsDepth};
 ghost use Rattle.av1_blocks.specs.declared.transform.TxSize.{TxSize as Size};
 ghost use Rattle.av1_blocks.specs.declared.transform.TxType.{TxType as Kind};
 ghost use Rattle.av1_dct.specs.Arithmetic.{at, FitsBits};
-ghost use Rattle.av1_c.specs.Arguments.{HasNoSize, LiesOutside, rectangle};
-ghost use Rattle.av1_c.specs.Transforms.{AllFitDepth, HasNoType, HasTooFew, HasTooLarge, IsBlock, IsBlockFault, IsDeepFault, IsRunnable, with_residue};
+ghost use Rattle.av1_c.specs.Arguments.{HasNoSize, rectangle};
+ghost use Rattle.av1_c.specs.Transforms.{AllFitDepth, HasNoDepth, HasNoRectangle, HasNoType, HasTooFew, HasTooLarge, IsBlock, IsBlockFault, IsDeepFault, IsRunnable, with_residue};
 
 use crate::argument::{BadArgument, are_rows, area_of, is_depth};
 use crate::status::{BAD_AREA, BAD_COEFFICIENT, BAD_DEPTH, BAD_SIZE, BAD_TYPE, DONE, TOO_SHORT};
@@ -192,11 +192,11 @@ pub extern "C" fn av1_inverse_transform_add_8(
         × (samples.new ≡ with_residue 8 stride x y size kind coefficients.now samples.old)) }
     // Nothing else is asked of them.
     ensures asked { (size : Size) → (kind : Kind) → IsBlock tx_size tx_type stride x y (length coefficients.now) (length samples.old) size kind → result ≡ DONE }
-    // An argument is refused, and this is why.
+    // An argument is refused, the first one that has to be, and this is why.
     ensures size { result ≡ BAD_SIZE → HasNoSize tx_size }
     ensures kind { result ≡ BAD_TYPE → HasNoType tx_size tx_type }
-    ensures area { result ≡ BAD_AREA → LiesOutside tx_size stride x y (length samples.old) }
-    ensures short { result ≡ TOO_SHORT → HasTooFew tx_size (length coefficients.now) }
+    ensures area { result ≡ BAD_AREA → HasNoRectangle tx_size tx_type stride x y (length samples.old) }
+    ensures short { result ≡ TOO_SHORT → HasTooFew tx_size tx_type stride x y (length coefficients.now) (length samples.old) }
     // What is refused leaves the samples as they were.
     ensures kept { result ≢ DONE → samples.new ≡ samples.old }
     ensures known { (result ≡ DONE) ⊎ ((result ≡ BAD_SIZE) ⊎ ((result ≡ BAD_TYPE) ⊎ ((result ≡ BAD_AREA) ⊎ (result ≡ TOO_SHORT)))) }
@@ -250,13 +250,13 @@ pub extern "C" fn av1_inverse_transform_add_16(
     // Nothing else is asked of them.
     ensures asked { (size : Size) → (kind : Kind) → IsBlock tx_size tx_type stride x y (length coefficients.now) (length samples.old) size kind
         → IsDepth bit_depth → AllFitDepth bit_depth size coefficients.now → result ≡ DONE }
-    // An argument is refused, and this is why.
+    // An argument is refused, the first one that has to be, and this is why.
     ensures size { result ≡ BAD_SIZE → HasNoSize tx_size }
     ensures kind { result ≡ BAD_TYPE → HasNoType tx_size tx_type }
-    ensures area { result ≡ BAD_AREA → LiesOutside tx_size stride x y (length samples.old) }
-    ensures short { result ≡ TOO_SHORT → HasTooFew tx_size (length coefficients.now) }
-    ensures depth { result ≡ BAD_DEPTH → ¬ IsDepth bit_depth }
-    ensures coefficient { result ≡ BAD_COEFFICIENT → HasTooLarge bit_depth tx_size coefficients.now }
+    ensures area { result ≡ BAD_AREA → HasNoRectangle tx_size tx_type stride x y (length samples.old) }
+    ensures short { result ≡ TOO_SHORT → HasTooFew tx_size tx_type stride x y (length coefficients.now) (length samples.old) }
+    ensures depth { result ≡ BAD_DEPTH → HasNoDepth bit_depth tx_size tx_type stride x y (length coefficients.now) (length samples.old) }
+    ensures coefficient { result ≡ BAD_COEFFICIENT → HasTooLarge bit_depth tx_size tx_type stride x y coefficients.now (length samples.old) }
     // What is refused leaves the samples as they were.
     ensures kept { result ≢ DONE → samples.new ≡ samples.old }
     ensures known { (result ≡ DONE) ⊎ ((BAD_SIZE ≤ result) × (result ≤ BAD_COEFFICIENT)) }

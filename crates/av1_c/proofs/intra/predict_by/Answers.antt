@@ -7,8 +7,10 @@ use Rattle.av1_frame.specs.declared.plane_region.StoredArea.{StoredArea}
 use Rattle.av1_intra.specs.Angles.{is_interpolated}
 use Rattle.av1_intra.specs.declared.directional.DirectionalBlock.{DirectionalBlock}
 use Rattle.av1_intra.proofs.ByMode.{effective_intra, tx_height_side, tx_width_side}
-use Rattle.av1_c.specs.IntraBlocks.{IsIntraBlock, block_of, mode_in, variant_in}
+use Rattle.av1_c.specs.IntraBlocks.{HasNoDepth, HasShortSides, IsIntraBlock, IsIntraFault, LiesOutside, block_of, mode_in, variant_in}
+use Rattle.av1_c.specs.declared.argument.BadArgument.TheVariants as bad
 use Rattle.av1_tile.proofs.WithinDepth.{deep}
+use Rattle.av1_c.proofs.Blocks.{one_argument}
 use Rattle.av1_c.proofs.IntraCalls.{faultless, long_for, predicted_so, turned_angle}
 use Rattle.av1_c.proofs.intra.predict_by.Goals as goal
 
@@ -55,3 +57,24 @@ returns-in-Err-clause-asked g c = λ size block.
     let a = c.args in
     let asked = subst (λ (n : ℕ). IsIntraBlock n a.block a.mode a.stride a.x a.y (length a.left.now) (length a.above.now) (length a.ac.now) (length a.samples.now) size) (sym c.BITS.ensures) block in
     absurd (faultless _ a.block a.mode a.stride a.x a.y (length a.left.now) (length a.above.now) (length a.ac.now) (length a.samples.now) c.in-Err.fault size c.in-Err.ensures.fault asked)
+
+pub returns-in-Err-clause-depth : goal.returns-in-Err-clause-depth
+returns-in-Err-clause-depth g c = λ e.
+    let a = c.args in
+    let is : c.in-Err.fault ≡ bad.Depth = one_argument c.in-Err.fault bad.Depth (sym c.status.ensures ∙ e) in
+    let fault = subst (IsIntraFault c.BITS.result a.block a.mode a.stride a.x a.y (length a.left.now) (length a.above.now) (length a.ac.now) (length a.samples.now)) is c.in-Err.ensures.fault in
+    subst (λ (n : ℕ). HasNoDepth n a.block a.mode) c.BITS.ensures fault
+
+pub returns-in-Err-clause-area : goal.returns-in-Err-clause-area
+returns-in-Err-clause-area g c = λ e.
+    let a = c.args in
+    let is : c.in-Err.fault ≡ bad.Area = one_argument c.in-Err.fault bad.Area (sym c.status.ensures ∙ e) in
+    let fault = subst (IsIntraFault c.BITS.result a.block a.mode a.stride a.x a.y (length a.left.now) (length a.above.now) (length a.ac.now) (length a.samples.now)) is c.in-Err.ensures.fault in
+    subst (λ (n : ℕ). LiesOutside n a.block a.mode a.stride a.x a.y (length a.samples.now)) c.BITS.ensures fault
+
+pub returns-in-Err-clause-short : goal.returns-in-Err-clause-short
+returns-in-Err-clause-short g c = λ e.
+    let a = c.args in
+    let is : c.in-Err.fault ≡ bad.Short = one_argument c.in-Err.fault bad.Short (sym c.status.ensures ∙ e) in
+    let fault = subst (IsIntraFault c.BITS.result a.block a.mode a.stride a.x a.y (length a.left.now) (length a.above.now) (length a.ac.now) (length a.samples.now)) is c.in-Err.ensures.fault in
+    subst (λ (n : ℕ). HasShortSides n a.block a.mode a.stride a.x a.y (length a.left.now) (length a.above.now) (length a.ac.now) (length a.samples.now)) c.BITS.ensures fault

@@ -8,7 +8,8 @@ use Rattle.av1_frame.specs.Areas.{AreRows}
 use Rattle.av1_frame.specs.declared.plane_region.StoredArea.{StoredArea}
 use Rattle.av1_c.specs.Arguments.{rectangle}
 use Rattle.av1_c.specs.IntraBlocks.{IsIntraBlock, IsTurn, block_of, mode_in, variant_in}
-use Rattle.av1_c.proofs.IntraCalls.{denied, long_for, outside_of}
+use Rattle.av1_c.proofs.Blocks.{denied}
+use Rattle.av1_c.proofs.IntraCalls.{long_for, outside_of}
 use Rattle.av1_c.proofs.intra.prediction_of.Goals as goal
 
 pub are_long-requires : goal.are_long-requires
@@ -23,19 +24,43 @@ are_long-requires c =
 pub returns-then-not-is_turn-clause-fault : goal.returns-then-not-is_turn-clause-fault
 returns-then-not-is_turn-clause-fault c =
     let fits : SFits w8 c.args.block.angle_step = search rules in
-    let untrue : c.is_turn.result ≡ false = grind (arith, tests, c.if-not-is_turn.true) in
-    λ turn. denied c.is_turn.result c.is_turn.ensures.is_true untrue (subst (IsTurn c.args.mode) (sym (to_z-of_z w8 c.args.block.angle_step fits)) turn)
+    let untrue : c.is_turn.result ≡ false = grind (arith, tests, c.if-not-is_turn.true) in (
+      c.in-Some.size,
+      (sym c.from_number.ensures ∙ c.in-Some.is, λ turn. denied c.is_turn.result c.is_turn.ensures.is_true untrue (subst (IsTurn c.args.mode) (sym (to_z-of_z w8 c.args.block.angle_step fits)) turn)),
+    )
 
 pub returns-then-not-is_depth_within-clause-fault : goal.returns-then-not-is_depth_within-clause-fault
 returns-then-not-is_depth_within-clause-fault c =
-    let untrue : c.is_depth_within.result ≡ false = grind (arith, tests, c.if-not-is_depth_within.true) in
-    denied c.is_depth_within.result c.is_depth_within.ensures.is_true untrue
+    let fits : SFits w8 c.args.block.angle_step = search rules in
+    let turn : c.is_turn.result ≡ true = grind (arith, tests, c.if-not-is_turn.false) in
+    let untrue : c.is_depth_within.result ≡ false = grind (arith, tests, c.if-not-is_depth_within.true) in (
+      c.in-Some.size,
+      (
+        sym c.from_number.ensures ∙ c.in-Some.is,
+        (subst (IsTurn c.args.mode) (to_z-of_z w8 c.args.block.angle_step fits) (c.is_turn.ensures.true_is turn), denied c.is_depth_within.result c.is_depth_within.ensures.is_true untrue),
+      ),
+    )
 
 pub returns-then-not-are_rows-clause-fault : goal.returns-then-not-are_rows-clause-fault
 returns-then-not-are_rows-clause-fault c =
     let a = c.args in
-    let untrue : c.are_rows.result ≡ false = grind (arith, tests, c.if-not-are_rows.true) in
-    outside_of a.block.tx_size a.stride a.x a.y a.samples c.in-Some.size c.prediction_in-prediction.result.area (sym c.from_number.ensures ∙ c.in-Some.is) c.prediction_in-prediction.ensures.area (denied c.are_rows.result c.are_rows.ensures.is_true untrue)
+    let size = c.in-Some.size in
+    let fits : SFits w8 a.block.angle_step = search rules in
+    let turn : c.is_turn.result ≡ true = grind (arith, tests, c.if-not-is_turn.false) in
+    let depth : c.is_depth_within.result ≡ true = grind (arith, tests, c.if-not-is_depth_within.false) in
+    let untrue : c.are_rows.result ≡ false = grind (arith, tests, c.if-not-are_rows.true) in (
+      size,
+      (
+        sym c.from_number.ensures ∙ c.in-Some.is,
+        (
+          subst (IsTurn a.mode) (to_z-of_z w8 a.block.angle_step fits) (c.is_turn.ensures.true_is turn),
+          (
+            c.is_depth_within.ensures.true_is depth,
+            outside_of a.stride a.x a.y a.samples size c.prediction_in-prediction.result.area c.prediction_in-prediction.ensures.area (denied c.are_rows.result c.are_rows.ensures.is_true untrue),
+          ),
+        ),
+      ),
+    )
 
 pub returns-then-not-are_long-clause-fault : goal.returns-then-not-are_long-clause-fault
 returns-then-not-are_long-clause-fault c =
@@ -44,8 +69,26 @@ returns-then-not-are_long-clause-fault c =
     let p = c.prediction_in-prediction.result in
     let size = c.in-Some.size in
     let m = mode_in a.block a.mode in
-    let untrue : c.are_long.result ≡ false = grind (arith, tests, c.if-not-are_long.true) in
-    (size, sym c.from_number.ensures ∙ c.in-Some.is, λ sides. denied c.are_long.result c.are_long.ensures.is_true untrue (long_for p.block (block_of a.block m size) p.variant (variant_in a.block) p.mode m a.left a.above a.ac e.block e.variant e.mode sides))
+    let fits : SFits w8 a.block.angle_step = search rules in
+    let turn : c.is_turn.result ≡ true = grind (arith, tests, c.if-not-is_turn.false) in
+    let depth : c.is_depth_within.result ≡ true = grind (arith, tests, c.if-not-is_depth_within.false) in
+    let rows : c.are_rows.result ≡ true = grind (arith, tests, c.if-not-are_rows.false) in
+    let untrue : c.are_long.result ≡ false = grind (arith, tests, c.if-not-are_long.true) in (
+      size,
+      (
+        sym c.from_number.ensures ∙ c.in-Some.is,
+        (
+          subst (IsTurn a.mode) (to_z-of_z w8 a.block.angle_step fits) (c.is_turn.ensures.true_is turn),
+          (
+            c.is_depth_within.ensures.true_is depth,
+            (
+              subst (λ (r : StoredArea). AreRows a.stride r a.samples) e.area (c.are_rows.ensures.true_is rows),
+              λ sides. denied c.are_long.result c.are_long.ensures.is_true untrue (long_for p.block (block_of a.block m size) p.variant (variant_in a.block) p.mode m a.left a.above a.ac e.block e.variant e.mode sides),
+            ),
+          ),
+        ),
+      ),
+    )
 
 pub returns-clause-found : goal.returns-clause-found
 returns-clause-found c =

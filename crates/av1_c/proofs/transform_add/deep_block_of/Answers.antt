@@ -1,16 +1,23 @@
 use Rattle.std.proofs.Common.{◌≡◌, true, false, arith, tests, subst, sym, ℕ, ◌<◌}
-use Rattle.av1_c.proofs.Blocks.{refused_too, too_large}
+use Rattle.av1_c.proofs.Blocks.{denied, refused_too, too_large}
 use Rattle.av1_c.proofs.transform_add.deep_block_of.Goals as goal
 
 pub returns-in_err-block-clause-fault : goal.returns-in_err-block-clause-fault
 returns-in_err-block-clause-fault c =
     refused_too c.args.bit_depth c.args.tx_size c.args.tx_type c.args.stride c.args.x c.args.y c.args.coefficients.now c.args.samples c.from_residual.result c.in_err-block.field-0.0 c.from_residual.ensures.1 c.in_err-block.ensures.fault
 
+pub returns-then-not-is_depth-clause-fault : goal.returns-then-not-is_depth-clause-fault
+returns-then-not-is_depth-clause-fault c =
+    let untrue : c.is_depth.result ≡ false = grind (arith, tests, c.if-not-is_depth.true) in
+    let block = c.in_ok-block.block in
+    (block.size, (block.kind, (c.in_ok-block.ensures.found, denied c.is_depth.result c.is_depth.ensures.is_true untrue)))
+
 pub returns-then-not-all_fit-clause-fault : goal.returns-then-not-all_fit-clause-fault
 returns-then-not-all_fit-clause-fault c =
     let failed : c.all_fit.result ≡ false = grind (arith, tests, c.if-not-all_fit.true) in
+    let deep : c.is_depth.result ≡ true = grind (arith, tests, c.if-not-is_depth.false) in
     let block = c.in_ok-block.block in
-    too_large c.args.bit_depth c.args.tx_size c.args.coefficients.now block.size c.all_fit.result c.in_ok-block.ensures.found.sized
+    too_large c.args.bit_depth c.args.tx_size c.args.tx_type c.args.stride c.args.x c.args.y c.args.coefficients.now c.args.samples block.size block.kind c.all_fit.result c.in_ok-block.ensures.found (c.is_depth.ensures.true_is deep)
     (λ all. c.all_fit.ensures.is_true (λ i h. all i (subst (λ (n : ℕ). i < n) c.coded_area.ensures.value h))) failed
 
 pub returns-clause-fit : goal.returns-clause-fit
