@@ -19,7 +19,8 @@ use Rattle.av1_inter.specs.Filters.{filter_of}
 use Rattle.av1_inter.specs.Motion.{entry, prepared, single}
 use Rattle.av1_inter.specs.Places.{AreWithinDepth, corner_of, IsStoredFrom, samples_from}
 use Rattle.av1_inter.proofs.Strips.{prepared_moved, single_moved}
-use Rattle.av1_c.specs.Motions.{HoldBlock, IsMotion, config_of, filter_mode, moved_sample, rectangle_at, rows_for, source_at}
+use Rattle.av1_c.specs.Arguments.{filter_mode}
+use Rattle.av1_c.specs.Motions.{HoldBlock, IsMotion, config_of, moved_sample, rectangle_at, rows_for, source_at}
 use Rattle.av1_c.specs.declared.motion.MotionBlock.{MotionBlock}
 use Rattle.av1_c.specs.declared.motion.Place.{Place}
 

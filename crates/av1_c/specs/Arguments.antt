@@ -1,5 +1,8 @@
 -- What calls on blocks say of the arguments that they share, and the status of one that refused an argument.
-use Rattle.std.specs.Prelude.{◌≡◌, ℕ, Some, None, slice_get}
+use Rattle.std.specs.Prelude.{◌≡◌, ℕ, Option, Some, None, slice_get}
+use Rattle.av1_blocks.specs.declared.mc.FilterMode.{FilterMode}
+use Rattle.av1_blocks.specs.declared.mc.FilterMode.TheVariants.{SWITCHABLE}
+use Rattle.av1_blocks.specs.declared.mc.TheConstants.FilterMode as filters
 use Rattle.av1_blocks.specs.Transforms.{tx_height, tx_width}
 use Rattle.av1_blocks.specs.declared.transform.TheConstants.TxSize as tx_sizes
 use Rattle.av1_blocks.specs.declared.transform.TxSize.{TxSize}
@@ -21,6 +24,15 @@ argument_status bad.Angle = BAD_ANGLE
 argument_status bad.Fraction = BAD_FRACTION
 argument_status bad.Sampling = BAD_SAMPLING
 argument_status bad.Pad = BAD_PAD
+
+-- the value of a number, where it has one
+abbrev pub or_else : {A : Type 0} → Option A → A → A
+or_else (Some x) other = x
+or_else None other = other
+
+-- the filter of a number: past the last one that no block may have
+abbrev pub filter_mode : ℕ → FilterMode
+filter_mode number = or_else (slice_get filters.ALL number) SWITCHABLE
 
 -- this is the size of the number
 abbrev pub IsSize : ℕ → TxSize → Type 0

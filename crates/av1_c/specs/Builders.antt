@@ -1,9 +1,6 @@
 -- What the numbers of C's builder stand for.
-use Rattle.std.specs.Prelude.{◌≡◌, ℕ, ◌+◌, ◌^◌, ◌≤◌, ◌==◌, Bool, true, ◌&&◌, ◌||◌, nat_lt, nat_le, if◌then◌else◌, List, ◌++◌, length, map, take, drop, Option, Some, None, slice_get}
+use Rattle.std.specs.Prelude.{◌≡◌, ℕ, ◌+◌, ◌^◌, ◌≤◌, ◌==◌, Bool, true, ◌&&◌, ◌||◌, nat_lt, nat_le, if◌then◌else◌, List, ◌++◌, length, map, take, drop, slice_get}
 use Rattle.std.specs.List.{list_all}
-use Rattle.av1_blocks.specs.declared.mc.FilterMode.{FilterMode}
-use Rattle.av1_blocks.specs.declared.mc.FilterMode.TheVariants.{SWITCHABLE}
-use Rattle.av1_blocks.specs.declared.mc.TheConstants.FilterMode as filters
 use Rattle.av1_blocks.specs.declared.partition.BlockSize.TheVariants.{BLOCK_4X4}
 use Rattle.av1_blocks.specs.declared.partition.TheConstants.BlockSize as sizes
 use Rattle.av1_plan.specs.declared.header.Header.{Header}
@@ -13,22 +10,14 @@ use Rattle.av1_planwrite.specs.declared.parts.Part.TheVariants.{Node, Leaf}
 use Rattle.av1_planwrite.specs.declared.state.State.{State}
 use Rattle.av1_planwrite.specs.Building.{Building}
 use Rattle.av1_planwrite.specs.States.{is_state, stopped}
+use Rattle.av1_c.specs.Arguments.{filter_mode, or_else}
 use Rattle.av1_c.specs.declared.build_fault.BuildFault.{BuildFault}
 use Rattle.av1_c.specs.declared.build_fault.BuildFault.TheVariants.{Refused, RoomTooSmall}
 use Rattle.av1_c.specs.declared.builder.Builder.{Builder}
 use Rattle.av1_c.specs.declared.builder.BuilderPart.{BuilderPart}
 use Rattle.av1_c.specs.declared.plan_header.PlanHeader.{PlanHeader}
 
--- the value of a number, where it has one
-abbrev pub or_else : {A : Type 0} → Option A → A → A
-or_else (Some x) other = x
-or_else None other = other
-
 -- ---- headers
-
--- the filter of a number: past the last one that no plan may have
-abbrev pub filter_of : ℕ → FilterMode
-filter_of number = or_else (slice_get filters.ALL number) SWITCHABLE
 
 -- the header of these numbers
 abbrev pub header_of : PlanHeader → Header
@@ -38,7 +27,7 @@ header_of n = record {
   height = n.height;
   depth = n.depth;
   sampling = n.sampling;
-  filter = filter_of n.filter;
+  filter = filter_mode n.filter;
   edge_filter = nat_lt 0 n.edge_filter;
   slots = n.slots;
   mask = n.mask;

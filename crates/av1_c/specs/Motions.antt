@@ -1,9 +1,6 @@
 -- What the calls on blocks of references ask of their arguments, and what they leave.
-use Rattle.std.specs.Prelude.{◌≡◌, ◌⊎◌, ℕ, ◌+◌, ◌-◌, ◌*◌, ◌<◌, ◌≤◌, List, length, slice_index, slice_index_or, ℤ}
+use Rattle.std.specs.Prelude.{◌≡◌, ◌⊎◌, ℕ, ◌+◌, ◌-◌, ◌*◌, ◌<◌, ◌≤◌, List, length, slice_index, ℤ}
 use Rattle.av1_blocks.specs.Depths.{IsDepth}
-use Rattle.av1_blocks.specs.declared.mc.FilterMode.{FilterMode}
-use Rattle.av1_blocks.specs.declared.mc.FilterMode.TheVariants.{REGULAR}
-use Rattle.av1_blocks.specs.declared.mc.TheConstants.FilterMode as filter_modes
 use Rattle.av1_frame.specs.Areas.{AreRows}
 use Rattle.av1_frame.specs.Samples.{paint}
 use Rattle.av1_frame.specs.declared.plane_region.StoredArea.{StoredArea}
@@ -12,6 +9,7 @@ use Rattle.av1_inter.specs.Motion.{averaged, entry, prepared, single}
 use Rattle.av1_inter.specs.Places.{AreWithinDepth}
 use Rattle.av1_frame.specs.Planes.{bare_config}
 use Rattle.av1_frame.specs.declared.plane.PlaneConfig.{PlaneConfig}
+use Rattle.av1_c.specs.Arguments.{filter_mode}
 use Rattle.av1_c.specs.declared.argument.BadArgument.{BadArgument}
 use Rattle.av1_c.specs.declared.argument.BadArgument.TheVariants as bad
 use Rattle.av1_c.specs.declared.motion.MotionBlock.{MotionBlock}
@@ -96,10 +94,6 @@ pub record AreOfDepth (depth : ℕ) (from : Place) (samples : List ℕ) (block :
   pub within : AreWithinDepth depth (source_at from samples) (block.width + 7) (block.height + 7)
 
 -- ---- what is written
-
--- the filter of a number
-abbrev pub filter_mode : ℕ → FilterMode
-filter_mode number = slice_index_or filter_modes.ALL number REGULAR
 
 -- the weights of the filters for a block: along its rows, and down its columns
 abbrev pub across_of : MotionBlock → List ℤ

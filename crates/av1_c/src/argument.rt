@@ -2,13 +2,13 @@
 ghost use Rattle.std.specs.Prelude.{◌≡◌, true, ◌*◌, ◌≤◌};
 ghost use Rattle.av1_blocks.specs.Depths.{IsDepth};
 ghost use Rattle.av1_frame.specs.Areas.{AreRows};
-ghost use Rattle.av1_c.specs.Arguments.{argument_status, rectangle};
+ghost use Rattle.av1_c.specs.Arguments.{argument_status, filter_mode, rectangle};
 
 use crate::status::{
     BAD_ANGLE, BAD_AREA, BAD_COEFFICIENT, BAD_DEPTH, BAD_FRACTION, BAD_MODE, BAD_PAD, BAD_SAMPLE,
     BAD_SAMPLING, BAD_SIZE, BAD_TYPE, TOO_SHORT,
 };
-use av1_blocks::TxSize;
+use av1_blocks::{FilterMode, TxSize};
 use av1_frame::StoredArea;
 
 /// What a call on a block refused.
@@ -96,6 +96,17 @@ pub(crate) fn area_of(x: usize, y: usize, size: TxSize) -> StoredArea
         y,
         width: size.width(),
         height: size.height(),
+    }
+}
+
+/// The filter of a number. One that no block may have stands for all numbers behind the last.
+#[inline(always)]
+pub(crate) fn filter_mode(number: u8) -> FilterMode
+    ensures { result ≡ filter_mode number }
+{
+    match FilterMode::from_number(number) {
+        Some(filter) => filter,
+        None => FilterMode::SWITCHABLE,
     }
 }
 

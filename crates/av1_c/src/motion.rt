@@ -1,10 +1,9 @@
 //! Blocks of references: what is asked of one, and the samples that it is made of.
-ghost use Rattle.std.specs.Prelude.{◌≡◌, true, ◌*◌, ◌<◌, ◌≤◌, IfOk, IfErr, length, take};
-ghost use Rattle.av1_c.specs.Motions.{AreFilters, AreFractions, AreOfDepth, AreSides, IsAverage, IsAverageFault, IsMotion, IsMotionFault, IsPrep, IsPrepFault, IsPut, IsPutFault, IsSampleFault, IsSource, config_of, filter_mode, read_for, rectangle_at, rows_for};
+ghost use Rattle.std.specs.Prelude.{◌≡◌, true, ◌*◌, IfOk, IfErr, length, take};
+ghost use Rattle.av1_c.specs.Motions.{AreFilters, AreFractions, AreOfDepth, AreSides, IsAverage, IsAverageFault, IsMotion, IsMotionFault, IsPrep, IsPrepFault, IsPut, IsPutFault, IsSampleFault, IsSource, config_of, read_for, rectangle_at, rows_for};
 
 use crate::argument::{BadArgument, are_rows, is_depth};
 use crate::samples::are_within;
-use av1_blocks::FilterMode;
 use av1_frame::{Pixel, PlaneConfig, StoredArea};
 
 /// A block that is moved between the samples of its reference.
@@ -47,16 +46,6 @@ pub(crate) fn rectangle_at(at: Place, width: usize, height: usize) -> StoredArea
         width,
         height,
     }
-}
-
-/// The filter of a number in plans.
-#[inline(always)]
-pub(crate) fn filter_mode(number: u8) -> FilterMode
-    requires { number < 4 }
-    ensures { result ≡ filter_mode number }
-{
-    let modes = &FilterMode::ALL;
-    modes[usize::from(number)]
 }
 
 // Whether both sides are from 1 to 128.

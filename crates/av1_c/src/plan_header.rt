@@ -1,9 +1,9 @@
 //! The header of a plan, by numbers.
 
 ghost use Rattle.std.specs.Prelude.{◌≡◌};
-ghost use Rattle.av1_c.specs.Builders.{filter_of, header_of};
+ghost use Rattle.av1_c.specs.Builders.{header_of};
 
-use av1_blocks::FilterMode;
+use crate::argument::filter_mode;
 use av1_plan::Header;
 
 /// The frame that a plan is for, and what holds for all its leaves: the numbers of the fields that a plan begins with.
@@ -30,16 +30,6 @@ pub struct PlanHeader {
     pub slots: [u8; 7],
 }
 
-/// The filter of a number. One that no plan may have stands for all numbers behind the last.
-fn filter_of(number: u8) -> FilterMode
-    ensures { result ≡ filter_of number }
-{
-    match FilterMode::from_number(number) {
-        Some(filter) => filter,
-        None => FilterMode::SWITCHABLE,
-    }
-}
-
 impl PlanHeader {
     /// The header of these numbers.
     pub fn header(&self) -> Header
@@ -51,7 +41,7 @@ impl PlanHeader {
             height: self.height,
             depth: self.depth,
             sampling: self.sampling,
-            filter: filter_of(self.filter),
+            filter: filter_mode(self.filter),
             edge_filter: self.edge_filter > 0,
             slots: self.slots,
             mask: self.mask,

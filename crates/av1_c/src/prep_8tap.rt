@@ -6,8 +6,8 @@ ghost use Rattle.av1_blocks.specs.Depths.{IsDepth};
 ghost use Rattle.av1_inter.specs.Places.{AreWithinDepth};
 ghost use Rattle.av1_c.specs.Motions.{AreOfDepth, AreSides, HasDeepSample, HasFewValues, HasNoFilters, HasNoFractions, HasNoSource, HoldBlock, IsDeepPrepFault, IsDeepPrepStatus, IsPrep, IsPrepStatus, place, source_at};
 
-use crate::argument::BadArgument;
-use crate::motion::{MotionBlock, Place, config_of, filter_mode, rows_of, test_prep, test_samples};
+use crate::argument::{BadArgument, filter_mode};
+use crate::motion::{MotionBlock, Place, config_of, rows_of, test_prep, test_samples};
 use crate::samples::have_8_bits;
 use crate::status::{
     BAD_AREA, BAD_DEPTH, BAD_FRACTION, BAD_MODE, BAD_SAMPLE, BAD_SIZE, DONE, TOO_SHORT,

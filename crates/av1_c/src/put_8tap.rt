@@ -7,10 +7,8 @@ ghost use Rattle.av1_frame.specs.Samples.{paint};
 ghost use Rattle.av1_inter.specs.Places.{AreWithinDepth};
 ghost use Rattle.av1_c.specs.Motions.{AreOfDepth, AreSides, HasDeepSample, HasNoFilters, HasNoFractions, HasNoPlace, IsDeepPutFault, IsDeepPutStatus, IsPut, IsPutStatus, moved_sample, place, rectangle_at, source_at, with_block};
 
-use crate::argument::BadArgument;
-use crate::motion::{
-    MotionBlock, Place, config_of, filter_mode, rectangle_at, rows_of, test_put, test_samples,
-};
+use crate::argument::{BadArgument, filter_mode};
+use crate::motion::{MotionBlock, Place, config_of, rectangle_at, rows_of, test_put, test_samples};
 use crate::samples::have_8_bits;
 use crate::status::{BAD_AREA, BAD_DEPTH, BAD_FRACTION, BAD_MODE, BAD_SAMPLE, BAD_SIZE, DONE};
 use av1_frame::{Pixel, PlaneOffset, PlaneSlice};
