@@ -4,7 +4,6 @@ ghost use Rattle.std.specs.Prelude.{◌≡◌, ◌^◌, ◌<◌, ◌≤◌, IfOk
 ghost use Rattle.av1_blocks.specs.Blocks.{block_width, block_height};
 ghost use Rattle.av1_blocks.specs.References.{reference_number};
 ghost use Rattle.av1_frame.specs.Planes.{InPlane};
-ghost use Rattle.av1_frame.specs.Regions.{InStorage};
 ghost use Rattle.av1_blocks.specs.Depths.{IsDepth};
 ghost use Rattle.av1_inter.specs.Reference.{reference_of as reference_in};
 ghost use Rattle.av1_plan.specs.Plan.{PlanValue};
@@ -94,27 +93,16 @@ fn frame<T: Pixel>(alloc: Global, depth: u8) -> Result<FrameInvariants<T>, OutOf
     Ok(fi)
 }
 
-/// One number of the samples of a row and those before it.
-fn add_row<T: Pixel>(row: &[T], before: u64) -> u64
-    requires { before < 1000003 }
-    ensures { result < 1000003 }
-{
-    let mut sum = before;
-    for sample in row {
-        sum = (sum * 31 + u64::from(sample.to_u32())) % 1000003;
+/// The first eight samples that the plane of a region stores: those of its first row, where it has no padding.
+fn first_samples<T: Pixel>(region: &mut PlaneRegionMut<'_, T>) -> [u32; 8] {
+    let samples = region.samples_mut();
+    let mut first = [0; 8];
+    for k in 0..8 {
+        if let Some(sample) = samples.get(k) {
+            first[k] = sample.to_u32();
+        }
     }
-    sum
-}
-
-/// One number of all samples of a region.
-fn digest<T: Pixel>(region: &PlaneRegionMut<'_, T>) -> u64
-    requires { InStorage region.now }
-{
-    let mut sum = 0;
-    for y in 0..region.rect().height {
-        sum = add_row(region.row(y), sum);
-    }
-    sum
+    first
 }
 
 /// The area of a whole plane, luma's of 16x8 samples or chroma's of 8x4.
@@ -137,7 +125,7 @@ fn blank<T: Pixel>(alloc: Global, area: PlaneArea) -> Result<Plane<T>, OutOfMemo
     Plane::new(alloc, area.size.width(), area.size.height(), 0, 0, 0, 0)
 }
 
-/// One number of a plane that is predicted from one reference.
+/// The first samples of a plane that is predicted from one reference.
 fn single<T: Pixel>(
     alloc: Global,
     fi: &FrameInvariants<T>,
@@ -145,7 +133,7 @@ fn single<T: Pixel>(
     area: PlaneArea,
     reference: RefType,
     mv: MotionVector,
-) -> Result<u64, OutOfMemory>
+) -> Result<[u32; 8], OutOfMemory>
     requires plane { p < 3 }
     requires first { (area.x ≡ 0) × (area.y ≡ 0) }
     requires wide { block_width area.size ≤ 32 }
@@ -164,17 +152,17 @@ fn single<T: Pixel>(
         reference,
         mv,
     );
-    Ok(digest(&plane.as_region_mut()))
+    Ok(first_samples(&mut plane.as_region_mut()))
 }
 
-/// One number of a plane that is predicted from `LAST_FRAME` and `ALTREF_FRAME`.
+/// The first samples of a plane that is predicted from `LAST_FRAME` and `ALTREF_FRAME`.
 fn compound<T: Pixel>(
     alloc: Global,
     fi: &FrameInvariants<T>,
     p: usize,
     area: PlaneArea,
     mvs: [MotionVector; 2],
-) -> Result<u64, OutOfMemory>
+) -> Result<[u32; 8], OutOfMemory>
     requires plane { p < 3 }
     requires first { (area.x ≡ 0) × (area.y ≡ 0) }
     requires wide { block_width area.size ≤ 32 }
@@ -194,16 +182,16 @@ fn compound<T: Pixel>(
         mvs,
         &mut buffers,
     );
-    Ok(digest(&plane.as_region_mut()))
+    Ok(first_samples(&mut plane.as_region_mut()))
 }
 
-/// Whether the three planes of a leaf that is predicted from `ALTREF_FRAME`, and of one that is predicted from both references, have
-/// these numbers.
+/// Whether the three planes of a leaf that is predicted from `ALTREF_FRAME`, and of one that is predicted from both references, begin
+/// with these samples.
 fn predicts<T: Pixel>(
     alloc: Global,
     depth: u8,
-    from_one: [u64; 3],
-    from_two: [u64; 3],
+    from_one: [[u32; 8]; 3],
+    from_two: [[u32; 8]; 3],
 ) -> Result<bool, OutOfMemory>
     requires depths { IsDepth depth }
     requires depth { depth ≤ T.BITS }
@@ -217,25 +205,41 @@ fn predicts<T: Pixel>(
     let y = single(alloc, &fi, 0, luma, reference, mv)?;
     let u = single(alloc, &fi, 1, chroma, reference, mv)?;
     let v = single(alloc, &fi, 2, chroma, reference, mv)?;
-    let from_one_is = [y, u, v] == from_one;
+    let from_one_is = y == from_one[0] && u == from_one[1] && v == from_one[2];
     let y = compound(alloc, &fi, 0, luma, [mv, other])?;
     let u = compound(alloc, &fi, 1, chroma, [mv, other])?;
     let v = compound(alloc, &fi, 2, chroma, [mv, other])?;
-    Ok(from_one_is && [y, u, v] == from_two)
+    Ok(from_one_is && y == from_two[0] && u == from_two[1] && v == from_two[2])
 }
 
 #[test]
 fn a_leaf_is_predicted_as_rav1e_does_at_depth_8(rt: HostRuntime) -> Result<(), Fail> {
-    let from_one = [822037, 453649, 996847];
-    let from_two = [41075, 12702, 120940];
+    let from_one = [
+        [177, 178, 174, 171, 157, 218, 135, 0],
+        [88, 101, 162, 108, 133, 204, 99, 129],
+        [199, 178, 161, 218, 68, 111, 220, 187],
+    ];
+    let from_two = [
+        [38, 79, 135, 85, 82, 71, 88, 135],
+        [169, 165, 179, 166, 89, 121, 47, 61],
+        [145, 144, 86, 105, 160, 195, 73, 113],
+    ];
     assert!(rt; predicts::<u8>(rt.alloc(), 8, from_one, from_two)?);
     Ok(())
 }
 
 #[test]
 fn a_leaf_is_predicted_as_rav1e_does_at_depth_10(rt: HostRuntime) -> Result<(), Fail> {
-    let from_one = [298325, 308468, 651599];
-    let from_two = [669529, 58537, 911016];
+    let from_one = [
+        [480, 486, 460, 898, 686, 87, 767, 527],
+        [381, 404, 483, 491, 613, 765, 838, 404],
+        [482, 505, 584, 592, 714, 866, 939, 505],
+    ];
+    let from_two = [
+        [587, 602, 721, 641, 574, 424, 357, 475],
+        [537, 575, 655, 676, 824, 737, 199, 103],
+        [638, 676, 760, 763, 948, 778, 23, 246],
+    ];
     assert!(rt; predicts::<u16>(rt.alloc(), 10, from_one, from_two)?);
     Ok(())
 }

@@ -2,7 +2,7 @@
 ghost use Rattle.std.specs.Prelude.{◌≡◌, ◌↔◌, ℕ, Result, Some, None, map, string_bytes};
 ghost use Rattle.av1_planwrite.specs.Bare.{bare_text};
 ghost use Rattle.av1_recon.specs.Answers.{Says, line_of as plan_line_of, status_of as plan_status_of};
-ghost use Rattle.av1_recon.specs.Ends.{answer_line as line_of, answer_status as status_of, written};
+ghost use Rattle.av1_recon.specs.Ends.{EndsWith, answer_line as line_of, answer_status as status_of, written};
 ghost use Rattle.av1_recon.specs.Outcomes.{Answer, Converts, plan_task};
 ghost use Rattle.av1_sequence.specs.Files.{Answer as SequenceAnswer};
 ghost use Rattle.av1_sequence.specs.Tasks.{PerformsInTurn, cause_of as sequence_cause};
@@ -13,7 +13,7 @@ ghost use Rattle.av1_trace.specs.declared.error.TraceError.{TraceError};
 ghost use Rattle.av1_trace.specs.Answers.{error_line as trace_line};
 ghost use Rattle.av1_trace.specs.Checking.{cause as trace_cause, trace_task};
 ghost use Rattle.av1_tools.specs.Answers.{sequence_line, tiles_line, trace_done, usage};
-ghost use Rattle.av1_tools.specs.Ends.{Ends};
+ghost use Rattle.av1_tools.specs.Ends.{IsSuccess};
 ghost use Rattle.av1_tools.specs.EndsInTurn.{EndsInTurn};
 ghost use Rattle.av1_tools.specs.Tools.{tool_of};
 ghost use Rattle.av1_tools.specs.declared.tool.Tool.TheVariants.{Tiles, Trace, Sequence, Bare};
@@ -70,10 +70,10 @@ pub fn run_tools<R: Source, W: Sink, E: Sink>(
 
     // What each status says.
     ensures status_1 { (result ≡ 1) ↔ (tool_of (map string_bytes words.now) ≡ None) }
-    ensures tiles_status { tool_of (map string_bytes words.now) ≡ Some Tiles → Ends tiles_task R.left R.faults W.taken W.faults source.old source.new out.old out.new result }
-    ensures trace_status { tool_of (map string_bytes words.now) ≡ Some Trace → Ends trace_task R.left R.faults W.taken W.faults source.old source.new out.old out.new result }
+    ensures tiles_status { tool_of (map string_bytes words.now) ≡ Some Tiles → EndsWith IsSuccess tiles_task R.left R.faults W.taken W.faults source.old source.new out.old out.new result }
+    ensures trace_status { tool_of (map string_bytes words.now) ≡ Some Trace → EndsWith IsSuccess trace_task R.left R.faults W.taken W.faults source.old source.new out.old out.new result }
     ensures sequence_status { tool_of (map string_bytes words.now) ≡ Some Sequence → EndsInTurn R.left R.faults W.taken W.faults source.old source.new out.old out.new result }
-    ensures bare_status { tool_of (map string_bytes words.now) ≡ Some Bare → Ends (plan_task bare_text) R.left R.faults W.taken W.faults source.old source.new out.old out.new result }
+    ensures bare_status { tool_of (map string_bytes words.now) ≡ Some Bare → EndsWith IsSuccess (plan_task bare_text) R.left R.faults W.taken W.faults source.old source.new out.old out.new result }
 {
     match Tool::from_words(words) {
         Some(Tool::Tiles) => report_tiles(reconstruct_tiles(alloc, source, out), err),
