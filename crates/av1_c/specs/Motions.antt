@@ -132,7 +132,7 @@ HasNoFractions block = AreSides block.width block.height × (AreFilters block ×
 abbrev pub HasNoSource : (from : Place) → MotionBlock → (samples : ℕ) → Type 0
 HasNoSource from block samples = IsMotionBlock block × (¬ IsSource from block samples)
 
--- nor does that, or the rectangle that the block is to become
+-- what is read for the block, or the rectangle that it is to become, does not lie in its samples
 abbrev pub HasNoPlace : (to : Place) (room : ℕ) (from : Place) (samples : ℕ) → MotionBlock → Type 0
 HasNoPlace to room from samples block = IsMotionBlock block × ((¬ IsSource from block samples) ⊎ (¬ AreRows to.stride (rectangle_at to block.width block.height) room))
 

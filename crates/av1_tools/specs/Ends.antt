@@ -1,4 +1,4 @@
--- What the exit status says of the bytes and of the output: 0 and 7 are those of success. 1 is that of words that are no tool's name.
+-- Which exit statuses are those of success.
 use Rattle.std.specs.Prelude.{◌≡◌, ◌⊎◌, ℕ}
 
 -- all was written that was to be: 0, or 7 of a trace that differs

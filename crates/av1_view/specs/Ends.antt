@@ -1,4 +1,4 @@
--- What the exit status says of the bytes that were read and of the output: 0 is the one of success.
+-- Which exit status is that of success.
 use Rattle.std.specs.Prelude.{◌≡◌, ℕ}
 
 -- the page was written
