@@ -18,6 +18,7 @@ unsafe extern "C" {
     fn measure_put_16(i: *const u16, n: usize, s: *mut u32, m: usize, w: usize, h: usize, c: i32, r: i32, mode: u8, depth: usize, rounds: usize) -> u32;
     fn measure_prepare_8(i: *const u8, n: usize, t: *mut i16, m: usize, w: usize, h: usize, c: i32, r: i32, mode: u8, depth: usize, rounds: usize) -> u32;
     fn measure_prepare_16(i: *const u16, n: usize, t: *mut i16, m: usize, w: usize, h: usize, c: i32, r: i32, mode: u8, depth: usize, rounds: usize) -> u32;
+    fn measure_cosine(v: *mut i32, m: usize, n: usize, bits: u8, rounds: usize) -> u32;
     fn measure_average_8(a: *const i16, n: usize, b: *const i16, k: usize, s: *mut u32, m: usize, w: usize, h: usize, depth: usize, rounds: usize) -> u32;
     fn measure_average_16(a: *const i16, n: usize, b: *const i16, k: usize, s: *mut u32, m: usize, w: usize, h: usize, depth: usize, rounds: usize) -> u32;
 }
@@ -68,6 +69,17 @@ fn rav1e_average<T: Pixel>(a: &[i16], b: &[i16], sums: &mut [u32], w: usize, h: 
     }
     for (sum, v) in sums.iter_mut().zip(&plane.data) { let v: i32 = (*v).into(); *sum = v as u32; }
 }
+/// Columns side by side, transformed and transformed again.
+fn rav1e_cosine(values: &mut [i32], columns: usize, n: usize, rounds: usize) {
+    use transform::inverse::*;
+    let run = match n { 4 => av1_idct4, 8 => av1_idct8, 16 => av1_idct16, 32 => av1_idct32, _ => av1_idct64 };
+    for c in 0..columns {
+        let (mut a, mut b) = ([0; 64], [0; 64]);
+        for r in 0..n { a[r] = values[r * columns + c]; }
+        for _ in 0..rounds { run(&a[..n], &mut b[..n], 16); run(&b[..n], &mut a[..n], 16); }
+        for r in 0..n { values[r * columns + c] = a[r]; }
+    }
+}
 /// The next of a row of numbers that are the same each time.
 fn next(s: &mut u64) -> u64 { *s = s.wrapping_mul(6364136223846793005).wrapping_add(1442695040888963407); *s >> 33 }
 /// Coefficients of a block, all of them or the ten in its corner.
@@ -89,6 +101,7 @@ fn main() {
     // WHO put WIDTH HEIGHT FRACTION_ACROSS FRACTION_DOWN FILTER DEPTH ROUNDS
     // WHO prepare WIDTH HEIGHT FRACTION_ACROSS FRACTION_DOWN FILTER DEPTH ROUNDS
     // WHO average WIDTH HEIGHT DEPTH ROUNDS
+    // WHO cosine LENGTH BITS ROUNDS, where BITS are those of a lane, or 0 for one column by itself
     let ours = a[1] == "ours";
     match a[2].as_str() {
         "transform" => {
@@ -100,6 +113,15 @@ fn main() {
                 else { rav1e_transform::<u8>(&v, &mut sums, size as u8, kind as u8, depth, rounds) }
             } else if ours { unsafe { assert_eq!(measure_transform_16(v.as_ptr(), v.len(), sums.as_mut_ptr(), sums.len(), size as u8, kind as u8, depth, rounds), 0) } }
             else { rav1e_transform::<u16>(&v, &mut sums, size as u8, kind as u8, depth, rounds) }
+        }
+        "cosine" => {
+            let (length, bits, rounds) = (n(3), n(4), n(5));
+            let columns = if bits == 0 { 1 } else { 8 };
+            let mut s = 5u64;
+            let mut v: Vec<i32> = (0..columns * length).map(|_| (next(&mut s) % (1 << 16)) as i32 - (1 << 15)).collect();
+            if ours { unsafe { assert_eq!(measure_cosine(v.as_mut_ptr(), v.len(), length, bits as u8, rounds), 0) } }
+            else { rav1e_cosine(&mut v, columns, length, rounds) }
+            for (sum, v) in sums.iter_mut().zip(&v) { *sum = *v as u32; }
         }
         "average" => {
             let (w, h, depth, rounds) = (n(3), n(4), n(5), n(6));

@@ -2,6 +2,7 @@
 """Counts the instructions of this project's transforms and motion beside those of rav1e's own plain Rust.
 
     tools/measure_beside_rav1e/measure.py RAV1E WORK transforms [--depth D] [--sparse] [--time] [SIZE..]
+    tools/measure_beside_rav1e/measure.py RAV1E WORK networks [--time] [LENGTH..]
     tools/measure_beside_rav1e/measure.py RAV1E WORK motion [--depth D] [--filter N] [SIDE..]
     tools/measure_beside_rav1e/measure.py RAV1E WORK prepare [--depth D] [--filter N] [SIDE..]
     tools/measure_beside_rav1e/measure.py RAV1E WORK average [--depth D] [SIDE..]
@@ -12,6 +13,9 @@ RAV1E is the source of rav1e 0.8.1 (the folder that has src/), WORK a folder for
 are measured. Filters: 0 regular, 1 smooth, 2 sharp. Each line has the call, the instructions of one call here and in rav1e, and the
 ratio of both. A call is counted as the difference of five runs and one. Both programs are built for the level x86-64-v2, and what they
 write is compared: a line that differs stops the run.
+
+`networks` are the cosine transforms by themselves, at a range of 16 bits: a call is two of one column, or two of eight columns, in lanes of 32
+or of 16 bits, beside rav1e's two of each column.
 
 With `--time` each line has the nanoseconds of one call in place of the instructions: of five pairs of runs, one after the other, the pair whose
 ratio is in the middle, by the processor time of each process. That wants a machine on which nothing else runs.
@@ -36,7 +40,7 @@ from rav1e import plain
 HERE = pathlib.Path(__file__).resolve().parent
 REPOSITORY = HERE.parent.parent
 # The static libraries that are built here: the file that they are made of, and the crates that they use.
-BESIDE = ("beside_rav1e", "calls.txt", "av1_blocks av1_frame av1_itx av1_inter")
+BESIDE = ("beside_rav1e", "calls.txt", "av1_blocks av1_dct av1_frame av1_itx av1_inter")
 BARE = ("bare_calls", "bare_calls.txt", "av1_blocks av1_frame av1_itx av1_inter av1_intra av1_edges")
 
 WIDTHS = [4, 8, 16, 32, 64, 4, 8, 8, 16, 16, 32, 32, 64, 4, 16, 8, 32, 16, 64]
@@ -174,6 +178,11 @@ def calls_of(options):
                 if is_valid(size, kind) and (not options.sizes or name in options.sizes):
                     yield f"{name} {TYPES[kind]}", ["transform", size, kind, options.depth, int(options.sparse)]
         return
+    if options.what == "networks":
+        for length in map(int, options.sizes or (4, 8, 16, 32, 64)):
+            for bits, name in ((0, "one column"), (32, "lanes of 32 bits"), (16, "lanes of 16 bits")):
+                yield f"cosine {length}, {name}", ["cosine", length, bits]
+        return
     for side in map(int, options.sizes or (4, 8, 16, 32, 64, 128)):
         if options.what == "average":
             yield f"{side}x{side}", ["average", side, side, options.depth]
@@ -186,7 +195,7 @@ def main():
     parser = argparse.ArgumentParser(description=__doc__, formatter_class=argparse.RawDescriptionHelpFormatter)
     parser.add_argument("rav1e", type=pathlib.Path)
     parser.add_argument("work", type=pathlib.Path)
-    parser.add_argument("what", choices=("transforms", "motion", "prepare", "average", "archive"))
+    parser.add_argument("what", choices=("transforms", "networks", "motion", "prepare", "average", "archive"))
     parser.add_argument("sizes", nargs="*")
     parser.add_argument("--depth", type=int, choices=(8, 10, 12), default=8)
     parser.add_argument("--sparse", action="store_true", help="ten coefficients in a corner")
@@ -208,7 +217,7 @@ def main():
     with concurrent.futures.ThreadPoolExecutor(at_once) as pool:
         results = list(pool.map(lambda call: measure(program, sides, call[1]), calls))
     for (name, _), (here, there) in zip(calls, results):
-        print(f"{name:26} {here:9.0f} {there:9.0f} {here / there:.2f}")
+        print(f"{name:28} {here:9.0f} {there:9.0f} {here / there:.2f}")
     here, there = (sum(column) for column in zip(*results))
     print(f"over the sum {here / there:.3f}, greatest {max(a / b for a, b in results):.2f}")
 

@@ -1,5 +1,5 @@
 -- What fits in some bits: sums, clamped values and each list of the transform.
-use Rattle.std.proofs.Common.{length, get_or, set, get_or-set_other, ℕ, Bool, true, false, ◌≡◌, ◌+◌, ◌-◌, ◌*◌, ◌/◌, ◌^◌, ◌<◌, ◌≤◌, ◌%◌, ◌||◌, min, nat_lt, nat_le, ℤ, pos, negsuc, ◌+ℤ◌, ◌*ℤ◌, List, arith, ap, sym, subst, ◌∙◌, inl, inr, cond, w32, FitsSigned, add-one, pow-add}
+use Rattle.std.proofs.Common.{length, get_or, set, get_or-set_other, ℕ, Bool, true, false, ◌≡◌, ◌+◌, ◌-◌, ◌*◌, ◌/◌, ◌^◌, ◌<◌, ◌≤◌, ◌%◌, ◌||◌, min, nat_lt, nat_le, ℤ, pos, negsuc, ◌+ℤ◌, ◌*ℤ◌, List, arith, ap, sym, subst, ◌∙◌, inl, inr, cond, w32, FitsSigned, add-one}
 use Rattle.std.specs.List.{All}
 use Rattle.std.specs.Int.Signed.{shr_z}
 use Rattle.std.proofs.lemmas.Bool.{cases_lt}
@@ -24,6 +24,10 @@ shr_fits (negsuc a) h = record { low = grind (arith, ints, h.sfits); high = grin
 pub half_btf-fits : (w0 a w1 b : ℤ) → FitsBits 20 (half_btf w0 a w1 b)
 unfolding half_btf_with
 half_btf-fits w0 a w1 b = shr_fits _ (SFits-int_wrap w32 (w0 *ℤ a +ℤ w1 *ℤ b +ℤ pos 2048))
+
+-- the same of what was found to be such in each lane
+pub turns-fit : {n : ℕ} {f : ℕ → ℤ} (w0 w1 : ℤ) (a b : ℕ → ℤ) → ((i : ℕ) → i < n → f i ≡ half_btf w0 (a i) w1 (b i)) → (i : ℕ) → i < n → FitsBits 20 (f i)
+turns-fit w0 w1 a b is i h = subst (FitsBits 20) (sym (is i h)) (half_btf-fits w0 (a i) w1 (b i))
 
 pub clamp_value-fits : {w : ℕ} (z : ℤ) (b : ℕ) → b ≤ w → FitsBits w (clamp_value z b)
 unfolding clamp_value
@@ -94,8 +98,3 @@ pub rounds_more : (range k j : ℕ) (v u s w : List ℤ) → v ≡ rounds range 
 unfolding rounds_with
 rounds_more range k j v u s w hv hs hw =
     hw ∙ ap (λ z. by_index (2 ^ k) (inner_turn k j z)) (hs ∙ ap (λ z. by_index (2 ^ k) (group_sum range (2 ^ j) z)) hv) ∙ ap (λ n. rounds range k n u) (sym (add-one j))
-
-pub groups_len : (k j : ℕ) → j < k - 1 → 2 ^ k ≡ 2 ^ (k - 1 - j) * (2 * 2 ^ j)
-groups_len k j h =
-    let more : 2 ^ k ≡ 2 ^ (k - 1 - j) * 2 ^ (1 + j) = ap (λ n. 2 ^ n) (let e : k ≡ k - 1 - j + (1 + j) = omega arith in e) ∙ pow-add 2 (k - 1 - j) (1 + j) in
-    more ∙ ap (λ n. 2 ^ (k - 1 - j) * n) (pow-add 2 1 j)

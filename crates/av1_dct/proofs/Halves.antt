@@ -1,13 +1,12 @@
 -- The second half of the words, as it is written, and the network on both halves.
-use Rattle.std.proofs.Common.{ℕ, zero, suc, false, ◌≡◌, ◌-◌, ◌*◌, ◌/◌, ◌^◌, ◌≤◌, ℤ, pos, neg_ℤ, List, [], ◌∷◌, ◌++◌, take, drop, set, length, get_or, arith, ap, sym, subst, refl, ◌∙◌, inl, inr}
+use Rattle.std.proofs.Common.{ℕ, zero, suc, false, ◌≡◌, ◌-◌, ◌*◌, ◌^◌, ◌≤◌, ℤ, pos, List, [], ◌∷◌, ◌++◌, take, drop, length, arith, ap, sym, subst, refl, ◌∙◌, inl, inr}
 use Rattle.std.proofs.lemmas.Bool.{cases_lt}
-use Rattle.std.proofs.lemmas.List.{take_at, take_all, drop_at, drop_all, append-nil, length-append, length-drop, length-take-le, map-append, take-map, drop-map, get_or_append_left, get_or-append_right}
+use Rattle.std.proofs.lemmas.List.{take_at, drop_at, drop_all, append-nil, length-drop, map-append, take-map, drop-map, get_or_append_left, get_or-append_right}
 use Rattle.std.proofs.lemmas.List.FromFn.{length-map-range_with_len}
 use Rattle.std.proofs.Math.Nat.{pow-suc}
 use Rattle.av1_dct.specs.Arithmetic.{AllFit, FitsBits, at}
-use Rattle.av1_dct.specs.Operations.{half_btf}
 use Rattle.av1_dct.specs.Word.{column}
-use Rattle.av1_dct.specs.Cosine.{cos128, outer_turn, mirror_sum, rounds, cosine, cosine_with}
+use Rattle.av1_dct.specs.Cosine.{outer_turn, mirror_sum, rounds, cosine, cosine_with}
 use Rattle.av1_lists.specs.Lists.{by_index}
 use Rattle.av1_dct.specs.InPlace.{joined, network}
 use Rattle.av1_dct.proofs.Groups.{take-fits, drop-fits}
@@ -17,7 +16,7 @@ use Rattle.av1_dct.proofs.Fits.{zero_fits, half_btf-fits, by_index-fits, mirror_
 abbrev pub second_set : {X : Type 0} → ℕ → List X → List X → List X
 second_set m o w = take m w ++ (o ++ drop (length w - m) (drop m w))
 
-second_set_is : {X : Type 0} (m : ℕ) (o w : List X) → second_set m o w ≡ take m w ++ o
+pub second_set_is : {X : Type 0} (m : ℕ) (o w : List X) → second_set m o w ≡ take m w ++ o
 second_set_is m o w =
     let none : drop (length w - m) (drop m w) ≡ [] = drop_all (length w - m) (drop m w) (omega (arith, length-drop m w)) in
     ap (λ xs. take m w ++ (o ++ xs)) none ∙ ap (λ xs. take m w ++ xs) (append-nil o)
@@ -39,28 +38,6 @@ pub second_set-fits : {W : Type 0} (lane : W → ℕ → ℤ) (i m : ℕ) (o w :
 second_set-fits {W} lane i m o w fo fw =
     let P : List ℤ → Type 0 = λ zs. AllFit 20 zs in
     subst P (sym (ap (column lane i) (second_set_is m o w) ∙ map-append (λ (x : W). lane x i) (take m w) o)) (append-fits _ _ (take-fits lane i m w fw) fo)
-
--- both halves of 2^(k+1) words, where o is what became of the second and f their sums and differences
-pub joined_words : {W : Type 0} (lane : W → ℕ → ℤ) (i range k m : ℕ) (w v o f : List W) → 1 ≤ k → m ≡ 2 ^ k → length w ≡ 2 * 2 ^ k → length o ≡ m
-    → column lane i v ≡ by_index (2 ^ k) (outer_turn k (column lane i (take (length w - m) (drop m w))))
-    → column lane i o ≡ rounds range k (k - 1) (column lane i v)
-    → column lane i f ≡ by_index (length (second_set m o w)) (mirror_sum range false (length (second_set m o w) / 2) (column lane i (second_set m o w)))
-    → column lane i f ≡ joined range k (column lane i w)
-joined_words {W} lane i range k m w v o f hk hm hw ho is_v is_o is_f =
-    let g = λ (x : W). lane x i in
-    let zs = column lane i w in
-    let j = second_set_is m o w in
-    let long : length (second_set m o w) ≡ 2 * 2 ^ k = ap length j ∙ omega (arith, length-append (take m w) o, length-take-le m w (omega arith)) in
-    let half : length (second_set m o w) / 2 ≡ 2 ^ k = omega (arith, long) in
-    let rest : column lane i (take (length w - m) (drop m w)) ≡ drop (2 ^ k) zs = ap (column lane i) (take_all (length w - m) (drop m w) (omega (arith, length-drop m w))) ∙ sym (drop-map g m w) ∙ ap (λ n. drop n zs) hm in
-    let odd : column lane i o ≡ rounds range k (k - 1) (by_index (2 ^ k) (outer_turn k (drop (2 ^ k) zs))) = is_o ∙ ap (rounds range k (k - 1)) (is_v ∙ ap (λ ys. by_index (2 ^ k) (outer_turn k ys)) rest) in
-    let even : column lane i (take m w) ≡ take (2 ^ k) zs = sym (take-map g m w) ∙ ap (λ n. take n zs) hm in
-    let whole : column lane i (second_set m o w) ≡ take (2 ^ k) zs ++ rounds range k (k - 1) (by_index (2 ^ k) (outer_turn k (drop (2 ^ k) zs))) =
-    ap (column lane i) j ∙ map-append g (take m w) o ∙ ap (λ ys. ys ++ column lane i o) even ∙ ap (λ ys. take (2 ^ k) zs ++ ys) odd in
-    is_f
-    ∙ ap (λ n. by_index n (mirror_sum range false (length (second_set m o w) / 2) (column lane i (second_set m o w)))) long
-    ∙ ap (λ n. by_index (2 * 2 ^ k) (mirror_sum range false n (column lane i (second_set m o w)))) half
-    ∙ ap (λ ys. by_index (2 * 2 ^ k) (mirror_sum range false (2 ^ k) ys)) whole
 
 pub network-length : (range k : ℕ) (w : List ℤ) → length (network range k w) ≡ 2 * 2 ^ k
 unfolding network
@@ -105,15 +82,6 @@ half-fits {W} lane i range k m w e h fit is_e =
     let P : List ℤ → Type 0 = λ zs. AllFit 20 zs in
     let g = λ (x : W). lane x i in
     subst P (sym (map-append g e (drop m w))) (append-fits _ _ (subst P (sym is_e) (network-fits range k _ h)) (drop-fits lane i m w fit))
-
-pub base_words : {W : Type 0} (lane : W → ℕ → ℤ) (i range : ℕ) (w : List W) (a b x y : W) → length w ≡ 2 → x ≡ get_or w 0 x → y ≡ get_or w 1 y
-    → lane a i ≡ half_btf (cos128 32) (lane x i) (cos128 32) (lane y i) → lane b i ≡ half_btf (cos128 32) (lane x i) (neg_ℤ (cos128 32)) (lane y i)
-    → column lane i (set (set w 0 a) 1 b) ≡ network range 0 (column lane i w)
-unfolding network
-base_words lane i range [] a b x y len ex ey ha hb = absurd (omega (arith, len))
-base_words lane i range (u ∷ []) a b x y len ex ey ha hb = absurd (omega (arith, len))
-base_words lane i range (u ∷ v ∷ []) a b x y len ex ey ha hb = cc (ha, hb, ex, ey)
-base_words lane i range (u ∷ v ∷ z ∷ zs) a b x y len ex ey ha hb = absurd (omega (arith, len))
 
 pub cosine-fits : (range k : ℕ) (x : List ℤ) → range ≤ 20 → AllFit 20 (cosine range k x)
 unfolding cosine_with

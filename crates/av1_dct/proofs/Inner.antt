@@ -1,16 +1,14 @@
 -- Step 3 of the cosine transform, at one place: which of the four rotations it is.
-use Rattle.std.proofs.Common.{ℕ, true, ◌≡◌, ◌+◌, ◌-◌, ◌*◌, ◌/◌, ◌%◌, ◌^◌, ◌<◌, ◌≤◌, ◌||◌, nat_lt, nat_le, min, ℤ, neg_ℤ, List, arith, ap, sym, ◌∙◌, inl, inr, get_or, pow-add}
+use Rattle.std.proofs.Common.{ℕ, true, ◌≡◌, ◌+◌, ◌-◌, ◌*◌, ◌/◌, ◌%◌, ◌^◌, ◌<◌, ◌≤◌, ◌||◌, nat_lt, nat_le, min, ℤ, List, arith, ap, sym, ◌∙◌, inl, inr, get_or, pow-add}
 use Rattle.std.proofs.lemmas.Bool.Decides.{nat_tests}
 use Rattle.std.proofs.lemmas.Bool.{cases_lt}
 use Rattle.std.proofs.lemmas.Nat.{shl-shr, pow_pos}
 use Rattle.std.proofs.Math.Pow.{pow_mono}
 use Rattle.std.proofs.Math.Nat.{mul-le-mul_left}
 use Rattle.av1_dct.specs.Arithmetic.{at}
-use Rattle.av1_dct.specs.Operations.{half_btf}
-use Rattle.av1_dct.specs.Cosine.{brev, cos128, inner_turn, inner_turn_with}
+use Rattle.av1_dct.specs.Cosine.{brev, inner_turn, inner_turn_with}
 use Rattle.av1_dct.specs.declared.weights.TheConstants.{REVERSED}
 use Rattle.av1_dct.proofs.Tables.{REVERSED_is, brev-lt, brev-add}
-use Rattle.av1_dct.proofs.Outer.{even_pow}
 
 pub four : (j : ℕ) → 2 ^ (j + 2) ≡ 4 * 2 ^ j
 four j = omega (arith, pow-add 2 j 2)
@@ -18,30 +16,6 @@ four j = omega (arith, pow-add 2 j 2)
 pub inner-same : (k j : ℕ) (v : List ℤ) (p r i : ℕ) → min i (2 ^ k - 1 - i) ≡ p → r ≡ p % (4 * 2 ^ j) → (nat_lt r (2 ^ j) || nat_le (3 * 2 ^ j) r) ≡ true → at v i ≡ inner_turn k j v i
 unfolding inner_turn_with
 inner-same k j v p r i hp hr t = grind (arith, nat_tests)
-
-pub inner-low-first : (k j : ℕ) (v : List ℤ) (p q r d b : ℕ) (x y : ℤ) → 1 ≤ k → p < 2 ^ k / 2 → q ≡ 2 ^ k - 1 - p → r ≡ p % (4 * 2 ^ j)
-    → d ≡ p / (4 * 2 ^ j) → 2 ^ j ≤ r → r < 2 * 2 ^ j → b ≡ 128 * 2 ^ j / 2 ^ k * (4 * brev (k - j - 3) d + 1) → x ≡ at v p → y ≡ at v q
-    → half_btf (neg_ℤ (cos128 b)) x (cos128 (64 - b)) y ≡ inner_turn k j v p
-unfolding inner_turn_with
-inner-low-first k j v p q r d b x y hk hp hq hr hd h1 h2 hb hx hy = let e = even_pow k hk in grind (arith, nat_tests)
-
-pub inner-high-first : (k j : ℕ) (v : List ℤ) (p q r d b : ℕ) (x y : ℤ) → 1 ≤ k → p < 2 ^ k / 2 → q ≡ 2 ^ k - 1 - p → r ≡ p % (4 * 2 ^ j)
-    → d ≡ p / (4 * 2 ^ j) → 2 ^ j ≤ r → r < 2 * 2 ^ j → b ≡ 128 * 2 ^ j / 2 ^ k * (4 * brev (k - j - 3) d + 1) → x ≡ at v p → y ≡ at v q
-    → half_btf (cos128 (64 - b)) x (cos128 b) y ≡ inner_turn k j v q
-unfolding inner_turn_with
-inner-high-first k j v p q r d b x y hk hp hq hr hd h1 h2 hb hx hy = let e = even_pow k hk in grind (arith, nat_tests)
-
-pub inner-low-second : (k j : ℕ) (v : List ℤ) (p q r d b : ℕ) (x y : ℤ) → 1 ≤ k → p < 2 ^ k / 2 → q ≡ 2 ^ k - 1 - p → r ≡ p % (4 * 2 ^ j)
-    → d ≡ p / (4 * 2 ^ j) → 2 * 2 ^ j ≤ r → r < 3 * 2 ^ j → b ≡ 128 * 2 ^ j / 2 ^ k * (4 * brev (k - j - 3) d + 1) → x ≡ at v p → y ≡ at v q
-    → half_btf (neg_ℤ (cos128 (64 - b))) x (neg_ℤ (cos128 b)) y ≡ inner_turn k j v p
-unfolding inner_turn_with
-inner-low-second k j v p q r d b x y hk hp hq hr hd h1 h2 hb hx hy = let e = even_pow k hk in grind (arith, nat_tests)
-
-pub inner-high-second : (k j : ℕ) (v : List ℤ) (p q r d b : ℕ) (x y : ℤ) → 1 ≤ k → p < 2 ^ k / 2 → q ≡ 2 ^ k - 1 - p → r ≡ p % (4 * 2 ^ j)
-    → d ≡ p / (4 * 2 ^ j) → 2 * 2 ^ j ≤ r → r < 3 * 2 ^ j → b ≡ 128 * 2 ^ j / 2 ^ k * (4 * brev (k - j - 3) d + 1) → x ≡ at v p → y ≡ at v q
-    → half_btf (neg_ℤ (cos128 b)) x (cos128 (64 - b)) y ≡ inner_turn k j v q
-unfolding inner_turn_with
-inner-high-second k j v p q r d b x y hk hp hq hr hd h1 h2 hb hx hy = let e = even_pow k hk in grind (arith, nat_tests)
 
 -- the unit of an angle of step 3: u = 2^(7 - (k - j)), and 4u * 2^(k - j - 3) = 64
 unit_is : (k j : ℕ) → j + 2 ≤ k → k ≤ 5 → (128 / 2 ^ (k - j) ≡ 2 ^ (7 + j - k)) × (128 * 2 ^ j / 2 ^ k ≡ 2 ^ (7 + j - k))

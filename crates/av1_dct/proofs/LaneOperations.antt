@@ -1,5 +1,5 @@
 -- Operations on vectors of n words, lane by lane.
-use Rattle.std.proofs.Common.{ℕ, Bool, true, false, cond, leb, ltb, ◌&&◌, inl, inr, subst, neg_ℤ, ◌≡◌, ◌+◌, ◌-◌, ◌*◌, ◌%◌, ◌^◌, ◌<◌, ℤ, pos, ◌+ℤ◌, ◌*ℤ◌, List, map, replicate, length, get_or, arith, ◌∙◌, ap, refl, set, sym, w32, to_z, of_z, FitsSigned}
+use Rattle.std.proofs.Common.{ℕ, Bool, true, false, cond, leb, ltb, ◌&&◌, inl, inr, subst, neg_ℤ, ◌≡◌, ◌+◌, ◌-◌, ◌*◌, ◌%◌, ◌^◌, ◌<◌, ℤ, pos, ◌+ℤ◌, ◌-ℤ◌, ◌*ℤ◌, List, map, replicate, length, get_or, arith, ◌∙◌, ap, refl, set, sym, w32, to_z, of_z, FitsSigned}
 use Rattle.std.specs.Int.{int_shr, int_min, int_max}
 use Rattle.std.proofs.lemmas.Bool.{cases_lt}
 use Rattle.std.proofs.lemmas.Bool.Decides.{nat_tests}
@@ -9,10 +9,11 @@ use Rattle.std.proofs.lemmas.List.{get_or-map, get_or_default, length-map, lengt
 use Rattle.std.proofs.lemmas.List.Edits.{fill_by_more}
 use Rattle.std.proofs.lemmas.Simd.{get_or-zip2, length-zip2, get_or-replicate, get_or-sel_l, length-sel_l, tops_compared}
 use Rattle.std.proofs.lemmas.Int.{ints, to_z-of_z, of_z-to_z}
-use Rattle.av1_dct.specs.Arithmetic.{at, clamp_value, round12, wrap32}
+use Rattle.av1_dct.specs.Arithmetic.{FitsBits, at, clamp_value, round12, wrap32}
 use Rattle.av1_dct.specs.Operations.{half_btf}
 use Rattle.av1_dct.specs.Word.{lane_of_vector}
 use Rattle.av1_dct.proofs.Lanes.{Bits, bits_at, lane_made}
+use Rattle.av1_dct.proofs.Sums.{sum_fits, difference_fits}
 use Rattle.av1_dct.proofs.Turns.{btf_is, product_is, rounding_is, shifted}
 
 zip_at : {C : Type 0} (n : ℕ) (f : ℕ → ℕ → C) (d : C) (xs ys : List ℕ) (i : ℕ) → i < n → length xs ≡ n → length ys ≡ n → get_or (zip2 f xs ys) i d ≡ f (get_or xs i 0) (get_or ys i 0)
@@ -228,3 +229,31 @@ read_on n start k lanes values room f len same fit = (
     λ q lt. elim (cases_lt q k) [ inl b ↦ fit q b | inr b ↦ (let P : ℕ → Type 0 = λ p. FitsSigned w32 (at values (start + p)) in subst P (omega arith) f) ],
   ),
 )
+
+-- what was computed from two vectors whose lanes were read, into a vector whose lanes are read
+pub restored : (n : ℕ) (F : ℤ → ℤ → ℤ) (x y r : List ℤ) (i : ℕ) → i < n → Bits n (map (of_z w32) x) → Bits n (map (of_z w32) y) → Bits n (map (of_z w32) r)
+    → lane_of_vector r i ≡ F (lane_of_vector (map (to_z w32) (map (of_z w32) x)) i) (lane_of_vector (map (to_z w32) (map (of_z w32) y)) i)
+    → lane_of_vector (map (to_z w32) (map (of_z w32) r)) i ≡ F (lane_of_vector x i) (lane_of_vector y i)
+restored n F x y r i h bx by br is =
+    stored n r i h br ∙ is ∙ ap (λ z. F z (lane_of_vector (map (to_z w32) (map (of_z w32) y)) i)) (stored n x i h bx) ∙ ap (F (lane_of_vector x i)) (stored n y i h by)
+
+-- the same of a rotation, whose weights were cast
+pub restored_turn : (n : ℕ) (w0 w1 : ℤ) (x y r : List ℤ) (i : ℕ) → i < n → FitsSigned w32 w0 → FitsSigned w32 w1 → Bits n (map (of_z w32) x) → Bits n (map (of_z w32) y) → Bits n (map (of_z w32) r)
+    → lane_of_vector r i ≡ half_btf (to_z w32 (of_z w32 w0)) (lane_of_vector (map (to_z w32) (map (of_z w32) x)) i) (to_z w32 (of_z w32 w1)) (lane_of_vector (map (to_z w32) (map (of_z w32) y)) i)
+    → lane_of_vector (map (to_z w32) (map (of_z w32) r)) i ≡ half_btf w0 (lane_of_vector x i) w1 (lane_of_vector y i)
+restored_turn n w0 w1 x y r i h f0 f1 bx by br is =
+    restored n (λ a b. half_btf (to_z w32 (of_z w32 w0)) a (to_z w32 (of_z w32 w1)) b) x y r i h bx by br is
+    ∙ ap (λ w. half_btf w (lane_of_vector x i) (to_z w32 (of_z w32 w1)) (lane_of_vector y i)) (to_z-of_z w32 w0 f0)
+    ∙ ap (λ w. half_btf w0 (lane_of_vector x i) w (lane_of_vector y i)) (to_z-of_z w32 w1 f1)
+
+pub stored-fits : (n : ℕ) (x : List ℤ) (i : ℕ) → i < n → Bits n (map (of_z w32) x) → FitsBits 20 (lane_of_vector x i) → FitsBits 20 (lane_of_vector (map (to_z w32) (map (of_z w32) x)) i)
+stored-fits n x i h bx fit = subst (FitsBits 20) (sym (stored n x i h bx)) fit
+
+-- a sum and a difference of two vectors of 20 bits fit 32 bits
+pub stored_sum-fits : (n : ℕ) (x y : List ℤ) (i : ℕ) → i < n → Bits n (map (of_z w32) x) → Bits n (map (of_z w32) y) → FitsBits 20 (lane_of_vector x i) → FitsBits 20 (lane_of_vector y i)
+    → FitsSigned w32 (lane_of_vector (map (to_z w32) (map (of_z w32) x)) i +ℤ lane_of_vector (map (to_z w32) (map (of_z w32) y)) i)
+stored_sum-fits n x y i h bx by fx fy = sum_fits _ _ (stored-fits n x i h bx fx) (stored-fits n y i h by fy)
+
+pub stored_difference-fits : (n : ℕ) (x y : List ℤ) (i : ℕ) → i < n → Bits n (map (of_z w32) x) → Bits n (map (of_z w32) y) → FitsBits 20 (lane_of_vector x i) → FitsBits 20 (lane_of_vector y i)
+    → FitsSigned w32 (lane_of_vector (map (to_z w32) (map (of_z w32) x)) i -ℤ lane_of_vector (map (to_z w32) (map (of_z w32) y)) i)
+stored_difference-fits n x y i h bx by fx fy = difference_fits _ _ (stored-fits n x i h bx fx) (stored-fits n y i h by fy)

@@ -1,9 +1,7 @@
 pub mod Powers
 pub mod Lengths
-pub mod Runs
-pub mod Mirror
+pub mod Begun
 pub mod Tables
-pub mod Outer
 pub mod Lanes
 pub mod Sums
 pub mod Groups
@@ -16,4 +14,9 @@ pub mod LaneOperations
 pub mod NoWrap
 pub mod Zero
 pub mod Folding
+pub mod Turned
+pub mod Fused
+pub mod Shorts
+pub mod Pairs
+pub mod Joined
 pub mod Examples

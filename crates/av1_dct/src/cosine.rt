@@ -7,53 +7,55 @@ ghost use Rattle.av1_blocks.specs.Transforms.{IsTransformSide};
 ghost use Rattle.av1_dct.specs.Cosine.{brev, cosine};
 ghost use Rattle.av1_lists.specs.Lists.{by_index};
 
-use crate::steps::{sum_mirrored, turn_outer, turn_rounds};
-use crate::weights::{power, reversed_place, weight_of};
+use crate::butterfly::Butterfly;
+use crate::steps::{begin, end, put, round};
+use crate::weights::{minus_weight_of, power, reversed_place, weight_of};
 use crate::word::Word;
 
-// The transform of 2 words.
+// The transform of 4 words.
 #[inline(always)]
-fn network_2<W: Word>(w: &mut [W])
-    requires len { length w.old ≡ 2 }
-    ensures { (range i : ℕ) → i < W.LANES → column W.lane_of i w.new ≡ network range 0 (column W.lane_of i w.old) }
+fn network_4<W: Butterfly>(w: &mut [W], range: usize)
+    requires range_in { (8 ≤ range) × (range ≤ 20) }
+    requires within { range ≤ W.bits }
+    requires len { length w.old ≡ 4 }
+    ensures { (i : ℕ) → i < W.LANES → column W.lane_of i w.new ≡ network range 1 (column W.lane_of i w.old) }
 {
-    let c = weight_of(32);
-    let (x, y) = (w[0], w[1]);
-    w[0] = W::turn(c, x, c, y);
-    w[1] = W::turn(c, x, -c, y);
+    let (half, minus_half) = (weight_of(32), minus_weight_of(32));
+    let (c, s, minus_s) = (weight_of(48), weight_of(16), minus_weight_of(16));
+    let (w0, w1, w2, w3) = (w[0], w[1], w[2], w[3]);
+    let (a, b) = (
+        W::rotate(half, w0, half, w1),
+        W::rotate(half, w0, minus_half, w1),
+    );
+    let (x, y) = (W::rotate(c, w2, minus_s, w3), W::rotate(s, w2, c, w3));
+    put(false, w, 0, 3, a, y, range);
+    put(false, w, 1, 2, b, x, range);
 }
 
-// From the transform of the even inputs in the first half of 2^(K+1) words, and the odd inputs in the second, to that of all.
+// From the transform of the even inputs in the first half of 2^(K+1) words, and the odd inputs in the second, to that of all. Each rotation
+// goes together with the sums behind it, so that what it gives is not stored.
 #[inline(always)]
-fn join_halves<W: Word, const K: usize>(w: &mut [W], range: usize)
+fn join_halves<W: Butterfly, const K: usize>(w: &mut [W], range: usize)
     requires range_in { (8 ≤ range) × (range ≤ 20) }
-    requires k_in { (1 ≤ K) × (K ≤ 5) }
+    requires within { range ≤ W.bits }
+    requires k_in { (2 ≤ K) × (K ≤ 5) }
     requires len { length w.old ≡ 2 * 2 ^ K }
     requires fit { (i : ℕ) → i < W.LANES → AllFit 20 (column W.lane_of i w.old) }
     ensures { (i : ℕ) → i < W.LANES → column W.lane_of i w.new ≡ joined range K (column W.lane_of i w.old) }
 {
     let odd = &mut w[power(K)..];
-    turn_outer::<W, K>(odd);
-    turn_rounds::<W, K>(odd, range);
-    sum_mirrored(false, w, range);
-}
-
-// The transform of 4 words.
-#[inline(always)]
-fn network_4<W: Word>(w: &mut [W], range: usize)
-    requires range_in { (8 ≤ range) × (range ≤ 20) }
-    requires len { length w.old ≡ 4 }
-    requires fit { (i : ℕ) → i < W.LANES → AllFit 20 (column W.lane_of i w.old) }
-    ensures { (i : ℕ) → i < W.LANES → column W.lane_of i w.new ≡ network range 1 (column W.lane_of i w.old) }
-{
-    network_2(&mut w[..2]);
-    join_halves::<W, 1>(w, range);
+    begin::<W, K>(odd, range);
+    round::<W, K, 0>(odd, range);
+    round::<W, K, 1>(odd, range);
+    round::<W, K, 2>(odd, range);
+    end::<W, K>(w, range);
 }
 
 // The transform of 8 words.
 #[inline(always)]
-fn network_8<W: Word>(w: &mut [W], range: usize)
+fn network_8<W: Butterfly>(w: &mut [W], range: usize)
     requires range_in { (8 ≤ range) × (range ≤ 20) }
+    requires within { range ≤ W.bits }
     requires len { length w.old ≡ 8 }
     requires fit { (i : ℕ) → i < W.LANES → AllFit 20 (column W.lane_of i w.old) }
     ensures { (i : ℕ) → i < W.LANES → column W.lane_of i w.new ≡ network range 2 (column W.lane_of i w.old) }
@@ -64,8 +66,9 @@ fn network_8<W: Word>(w: &mut [W], range: usize)
 
 // The transform of 16 words.
 #[inline(always)]
-fn network_16<W: Word>(w: &mut [W], range: usize)
+fn network_16<W: Butterfly>(w: &mut [W], range: usize)
     requires range_in { (8 ≤ range) × (range ≤ 20) }
+    requires within { range ≤ W.bits }
     requires len { length w.old ≡ 16 }
     requires fit { (i : ℕ) → i < W.LANES → AllFit 20 (column W.lane_of i w.old) }
     ensures { (i : ℕ) → i < W.LANES → column W.lane_of i w.new ≡ network range 3 (column W.lane_of i w.old) }
@@ -76,8 +79,9 @@ fn network_16<W: Word>(w: &mut [W], range: usize)
 
 // The transform of 32 words.
 #[inline(always)]
-fn network_32<W: Word>(w: &mut [W], range: usize)
+fn network_32<W: Butterfly>(w: &mut [W], range: usize)
     requires range_in { (8 ≤ range) × (range ≤ 20) }
+    requires within { range ≤ W.bits }
     requires len { length w.old ≡ 32 }
     requires fit { (i : ℕ) → i < W.LANES → AllFit 20 (column W.lane_of i w.old) }
     ensures { (i : ℕ) → i < W.LANES → column W.lane_of i w.new ≡ network range 4 (column W.lane_of i w.old) }
@@ -88,8 +92,9 @@ fn network_32<W: Word>(w: &mut [W], range: usize)
 
 // The transform of 64 words.
 #[inline(always)]
-fn network_64<W: Word>(w: &mut [W], range: usize)
+fn network_64<W: Butterfly>(w: &mut [W], range: usize)
     requires range_in { (8 ≤ range) × (range ≤ 20) }
+    requires within { range ≤ W.bits }
     requires len { length w.old ≡ 64 }
     requires fit { (i : ℕ) → i < W.LANES → AllFit 20 (column W.lane_of i w.old) }
     ensures { (i : ℕ) → i < W.LANES → column W.lane_of i w.new ≡ network range 5 (column W.lane_of i w.old) }
@@ -101,8 +106,9 @@ fn network_64<W: Word>(w: &mut [W], range: usize)
 // The transform of 2^(K+1) words that stand in the order of their reversed places: the even inputs make the first half of them.
 // Each length has a function of its own, so that the compiler knows its angles and places as numbers.
 #[inline(always)]
-fn run_network<W: Word, const K: usize>(w: &mut [W], range: usize)
+fn run_network<W: Butterfly, const K: usize>(w: &mut [W], range: usize)
     requires range_in { (8 ≤ range) × (range ≤ 20) }
+    requires within { range ≤ W.bits }
     requires k_in { (1 ≤ K) × (K ≤ 5) }
     requires len { length w.old ≡ 2 * 2 ^ K }
     requires fit { (i : ℕ) → i < W.LANES → AllFit 20 (column W.lane_of i w.old) }
@@ -119,7 +125,7 @@ fn run_network<W: Word, const K: usize>(w: &mut [W], range: usize)
 
 // Writes the first 2^(K+1) words of `input` in the order of their reversed places.
 #[inline(always)]
-fn reorder<W: Word, const K: usize>(input: &[W], output: &mut [W])
+fn reorder<W: Butterfly, const K: usize>(input: &[W], output: &mut [W])
     requires k_in { K ≤ 5 }
     requires input_len { 2 * 2 ^ K ≤ length input.now }
     requires output_len { length output.old ≡ 2 * 2 ^ K }
@@ -131,8 +137,13 @@ fn reorder<W: Word, const K: usize>(input: &[W], output: &mut [W])
 }
 
 // The transform of N = 2^(K+1) words. Both are constants of each instance, so every loop has its length and its weights as numbers.
-fn cosine_of<W: Word, const K: usize, const N: usize>(input: &[W], output: &mut [W], range: usize)
+fn cosine_of<W: Butterfly, const K: usize, const N: usize>(
+    input: &[W],
+    output: &mut [W],
+    range: usize,
+)
     requires range_in { (8 ≤ range) × (range ≤ 20) }
+    requires within { range ≤ W.bits }
     requires k_in { (1 ≤ K) × (K ≤ 5) }
     requires n_in { N ≡ 2 * 2 ^ K }
     requires input_len { 2 * 2 ^ K ≤ length input.now }
@@ -144,6 +155,27 @@ fn cosine_of<W: Word, const K: usize, const N: usize>(input: &[W], output: &mut 
     let part = &mut output[..N];
     reorder::<W, K>(input, part);
     run_network::<W, K>(part, range);
+}
+
+// The transform of n words, each length by a function of its own.
+#[inline(always)]
+pub(crate) fn cosine_any<W: Butterfly>(n: usize, input: &[W], output: &mut [W], range: usize)
+    requires range_in { (8 ≤ range) × (range ≤ 20) }
+    requires within { range ≤ W.bits }
+    requires n_in { IsTransformSide n }
+    requires input_len { n ≤ length input.now }
+    requires output_len { n ≤ length output.old }
+    requires fit { (i : ℕ) → i < W.LANES → All (FitsBits range) (take n (column W.lane_of i input.now)) }
+    ensures value { (k i : ℕ) → i < W.LANES → n ≡ 2 * 2 ^ k → take n (column W.lane_of i output.new) ≡ cosine range k (take n (column W.lane_of i input.now)) }
+    ensures rest { drop n output.new ≡ drop n output.old }
+{
+    match n {
+        4 => cosine_of::<W, 1, 4>(input, output, range),
+        8 => cosine_of::<W, 2, 8>(input, output, range),
+        16 => cosine_of::<W, 3, 16>(input, output, range),
+        32 => cosine_of::<W, 4, 32>(input, output, range),
+        _ => cosine_of::<W, 5, 64>(input, output, range),
+    }
 }
 
 /// The inverse cosine transform of `n` words, in each lane (the inverse DCT process of the AV1 specification, lane by lane): the
@@ -162,11 +194,5 @@ pub fn cosine_words<W: Word>(n: usize, input: &[W], _work: &mut [W], output: &mu
     ensures value { (k i : ℕ) → i < W.LANES → n ≡ 2 * 2 ^ k → take n (column W.lane_of i output.new) ≡ cosine range k (take n (column W.lane_of i input.now)) }
     ensures rest { drop n output.new ≡ drop n output.old }
 {
-    match n {
-        4 => cosine_of::<W, 1, 4>(input, output, range),
-        8 => cosine_of::<W, 2, 8>(input, output, range),
-        16 => cosine_of::<W, 3, 16>(input, output, range),
-        32 => cosine_of::<W, 4, 32>(input, output, range),
-        _ => cosine_of::<W, 5, 64>(input, output, range),
-    }
+    cosine_any(n, input, output, range);
 }

@@ -5,8 +5,10 @@
 //!
 //! - `av1_idct4` to `av1_idct64` give `cosine` of `specs/Cosine.antt` for their length, and leave the rest of `output` as it was.
 //!   `cosine_words` is the one function behind them, for every length and every `Word`: an `i32`, or eight of them side by side.
-//! - `cosine_lanes` runs eight transforms at a time over `i32x8`, with `cosine` in each lane, and counts them in a `LaneCount`, which no
-//!   other call raises.
+//! - `cosine_lanes` runs eight transforms at a time, over `i32x8`, or over `i16x8` where the range is at most 16, with `cosine` in each
+//!   lane, and counts them in a `LaneCount`, which no other call raises.
+//! - `Butterfly` is what the networks ask of lanes: butterfly rotations, whose results may be wider than a lane, and Hadamard rotations,
+//!   which clamp. Each `Word` has it, and so has `i16x8`.
 //! - `half_btf` and `clamp_value`, the arithmetic of every network, are those of `specs/Operations.antt` and `specs/Arithmetic.antt`.
 //! - Three laws, each on a function with an empty body: a transform adds and subtracts its two halves, zeros give zeros, and at 18
 //!   bits nothing wraps.
@@ -16,10 +18,12 @@
 #![tactic(auto)]
 
 mod arithmetic;
+mod butterfly;
 mod cosine;
 mod inverse;
 mod lane_count;
 mod laws;
+mod narrow;
 mod steps;
 #[cfg(test)]
 mod tests;
@@ -27,8 +31,10 @@ mod weights;
 mod word;
 
 pub use arithmetic::{clamp_value, half_btf};
+pub use butterfly::Butterfly;
 pub use cosine::cosine_words;
 pub use inverse::{av1_idct4, av1_idct8, av1_idct16, av1_idct32, av1_idct64};
 pub use lane_count::{LaneCount, cosine_lanes};
 pub use laws::{cosine_adds_halves, cosine_never_wraps, cosine_of_zeros};
+pub use narrow::WideLanes;
 pub use word::Word;

@@ -1,160 +1,227 @@
 ghost use Rattle.std.specs.Prelude.{◌≡◌, ℕ, ◌+◌, ◌-◌, ◌*◌, ◌/◌, ◌^◌, ◌<◌, ◌≤◌, min, ℤ, List, length};
-ghost use Rattle.av1_dct.specs.Arithmetic.{AllFit};
+ghost use Rattle.av1_dct.specs.Arithmetic.{AllFit, FitsBits, at};
 ghost use Rattle.av1_dct.specs.Word.{column};
-ghost use Rattle.av1_dct.specs.InPlace.{inner_run};
+ghost use Rattle.av1_dct.specs.InPlace.{begun, end_all, ended, paired, rounded, sums};
 ghost use Rattle.av1_dct.specs.Cosine.{outer_turn, mirror_sum, group_sum, inner_turn, rounds};
 ghost use Rattle.av1_lists.specs.Lists.{by_index};
 
-use crate::weights::{inner_angle, outer_angle, power, weight_of};
-use crate::word::Word;
+use crate::butterfly::Butterfly;
+use crate::weights::{
+    group_of, inner_angle, minus_weight_of, outer_angle, place_of, power, weight_of,
+};
 
-// Step 1: butterfly rotations of each place of the lower half with its mirror image.
+// The places p and e become the clamped sum and difference of what two rotations gave, where `odd` the other way round.
 #[inline(always)]
-pub(crate) fn turn_outer<W: Word, const K: usize>(v: &mut [W])
-    requires k_in { (1 ≤ K) × (K ≤ 5) }
-    requires len { length v.old ≡ 2 ^ K }
-    ensures { (i : ℕ) → i < W.LANES → column W.lane_of i v.new ≡ by_index (2 ^ K) (outer_turn K (column W.lane_of i v.old)) }
+pub(crate) fn put<W: Butterfly>(
+    odd: bool,
+    v: &mut [W],
+    p: usize,
+    e: usize,
+    x: W::Wide,
+    y: W::Wide,
+    range: usize,
+)
+    requires range_in { (8 ≤ range) × (range ≤ 20) }
+    requires within { range ≤ W.bits }
+    requires p_in { p < length v.old }
+    requires e_in { e < length v.old }
+    requires first { (i : ℕ) → i < W.LANES → FitsBits 20 (W.wide_lane_of x i) }
+    requires second { (i : ℕ) → i < W.LANES → FitsBits 20 (W.wide_lane_of y i) }
+    ensures value { (i : ℕ) → i < W.LANES → column W.lane_of i v.new ≡ paired odd range p e (W.wide_lane_of x i) (W.wide_lane_of y i) (column W.lane_of i v.old) }
+    ensures fit { (i : ℕ) → i < W.LANES → AllFit 20 (column W.lane_of i v.old) → AllFit 20 (column W.lane_of i v.new) }
 {
-    let m = v.len();
-    for p in 0..m / 2 {
-        let q = m - 1 - p;
-        let a = outer_angle(K, p);
-        let (c, s) = (weight_of(64 - a), weight_of(a));
-        let (x, y) = (v[p], v[q]);
-        v[p] = W::turn(c, x, -s, y);
-        v[q] = W::turn(s, x, c, y);
+    let total = W::sum(x, y, range);
+    if odd {
+        v[p] = W::difference(y, x, range);
+        v[e] = total;
+        return;
     }
+    v[p] = total;
+    v[e] = W::difference(x, y, range);
 }
 
-// Hadamard rotations: each place of the lower half and its mirror image become their clamped sum and difference, where `odd` the
-// other way round.
+// The word at place p.
 #[inline(always)]
-pub(crate) fn sum_mirrored<W: Word>(odd: bool, w: &mut [W], range: usize)
-    requires range_in { (8 ≤ range) × (range ≤ 20) }
-    requires even { 2 * (length w.old / 2) ≡ length w.old }
-    requires fit { (i : ℕ) → i < W.LANES → AllFit 20 (column W.lane_of i w.old) }
-    ensures { (i : ℕ) → i < W.LANES → column W.lane_of i w.new ≡ by_index (length w.old) (mirror_sum range odd (length w.old / 2) (column W.lane_of i w.old)) }
+fn word_at<W: Butterfly>(v: &[W], p: usize) -> W
+    requires p_in { p < length v.now }
+    requires fit { (i : ℕ) → i < W.LANES → AllFit 20 (column W.lane_of i v.now) }
+    ensures value { (i : ℕ) → i < W.LANES → W.lane_of result i ≡ at (column W.lane_of i v.now) p }
+    ensures fits { (i : ℕ) → i < W.LANES → FitsBits 20 (W.lane_of result i) }
 {
-    let n = w.len();
-    for p in 0..n / 2 {
-        let e = n - 1 - p;
-        let (x, y) = (w[p], w[e]);
-        let sum = x.plus(y).clamp_to(range);
-        if odd {
-            w[p] = y.minus(x).clamp_to(range);
-            w[e] = sum;
-            continue;
-        }
-        w[p] = sum;
-        w[e] = x.minus(y).clamp_to(range);
-    }
+    v[p]
 }
 
-// Step 2: Hadamard rotations in each group of 2h places, in each second group the other way round.
+// The same of the words that stand there.
 #[inline(always)]
-fn sum_groups<W: Word>(h: usize, groups: usize, v: &mut [W], range: usize)
+fn put_own<W: Butterfly>(odd: bool, v: &mut [W], p: usize, e: usize, range: usize)
     requires range_in { (8 ≤ range) × (range ≤ 20) }
-    requires some { 1 ≤ h }
-    requires len { length v.old ≡ groups * (2 * h) }
+    requires within { range ≤ W.bits }
+    requires p_in { p < length v.old }
+    requires e_in { e < length v.old }
     requires fit { (i : ℕ) → i < W.LANES → AllFit 20 (column W.lane_of i v.old) }
-    ensures { (i : ℕ) → i < W.LANES → column W.lane_of i v.new ≡ by_index (length v.old) (group_sum range h (column W.lane_of i v.old)) }
+    ensures value { (i : ℕ) → i < W.LANES → let zs = column W.lane_of i v.old in column W.lane_of i v.new ≡ paired odd range p e (at zs p) (at zs e) zs }
+    ensures fit { (i : ℕ) → i < W.LANES → AllFit 20 (column W.lane_of i v.new) }
 {
-    for g in 0..groups {
-        let at = g * (2 * h);
-        sum_mirrored(g % 2 == 1, &mut v[at..at + 2 * h], range);
+    let (x, y) = (word_at(v, p), word_at(v, e));
+    let total = x.own_sum(y, range);
+    if odd {
+        v[p] = y.own_difference(x, range);
+        v[e] = total;
+        return;
     }
+    v[p] = total;
+    v[e] = x.own_difference(y, range);
 }
 
-// Step 3 at the second quarter of the group d of 4h places, where h = 2^J.
+// Turn N of step 1 and the sums of pairs: at pair N and its mirror image. Past the last it does nothing.
 #[inline(always)]
-fn turn_second_quarter<W: Word, const K: usize, const J: usize>(d: usize, v: &mut [W])
-    requires j_in { J + 2 ≤ K }
-    requires k_in { K ≤ 5 }
-    requires d_in { d < 2 ^ (K - J - 3) }
+fn begin_at<W: Butterfly, const K: usize, const N: usize>(v: &mut [W], range: usize)
+    requires range_in { (8 ≤ range) × (range ≤ 20) }
+    requires within { range ≤ W.bits }
+    requires k_in { (2 ≤ K) × (K ≤ 5) }
+    requires n_in { N ≤ 7 }
     requires len { length v.old ≡ 2 ^ K }
-    ensures { (i : ℕ) → i < W.LANES → column W.lane_of i v.new ≡ by_index (2 ^ K) (inner_run K J (d * (4 * 2 ^ J) + 2 ^ J) (column W.lane_of i v.old)) }
+    ensures { (i : ℕ) (u : List ℤ) → i < W.LANES → column W.lane_of i v.old ≡ begun range K N u → column W.lane_of i v.new ≡ begun range K (N + 1) u }
 {
-    let h = power(J);
-    let start = d * (4 * h) + h;
-    let b = inner_angle(K, J, d);
-    let (c, s) = (weight_of(64 - b), weight_of(b));
-    for p in start..start + h {
-        let q = v.len() - 1 - p;
-        let (x, y) = (v[p], v[q]);
-        v[p] = W::turn(-s, x, c, y);
-        v[q] = W::turn(c, x, s, y);
+    let m = power(K);
+    if m / 4 <= N {
+        return;
     }
+    let (p, e) = (2 * N, 2 * N + 1);
+    let (f, q) = (m - 1 - e, m - 1 - p);
+    let (a, b) = (outer_angle(K, p), outer_angle(K, e));
+    let (c, s, n) = (weight_of(64 - a), weight_of(a), minus_weight_of(a));
+    let (cb, sb, nb) = (weight_of(64 - b), weight_of(b), minus_weight_of(b));
+    let (vp, ve, vf, vq) = (v[p], v[e], v[f], v[q]);
+    let (tp, tq) = (W::rotate(c, vp, n, vq), W::rotate(s, vp, c, vq));
+    let (te, tf) = (W::rotate(cb, ve, nb, vf), W::rotate(sb, ve, cb, vf));
+    put(N % 2 == 1, v, p, e, tp, te, range);
+    put(f / 2 % 2 == 1, v, f, q, tf, tq, range);
 }
 
-// Step 3 at the third quarter of the group d of 4h places, where h = 2^J.
+// Turn N of round J's rotations and of the sums of twice as large groups behind them: two pairs in a group of 2^(J+2) places that are not
+// turned, and two that are, there and in its mirror image. Past the last it does nothing.
 #[inline(always)]
-fn turn_third_quarter<W: Word, const K: usize, const J: usize>(d: usize, v: &mut [W])
+fn round_at<W: Butterfly, const K: usize, const J: usize, const N: usize>(v: &mut [W], range: usize)
+    requires range_in { (8 ≤ range) × (range ≤ 20) }
+    requires within { range ≤ W.bits }
     requires j_in { J + 3 ≤ K }
     requires k_in { K ≤ 5 }
-    requires d_in { d < 2 ^ (K - J - 3) }
+    requires n_in { N ≤ 3 }
     requires len { length v.old ≡ 2 ^ K }
-    ensures { (i : ℕ) → i < W.LANES → column W.lane_of i v.new ≡ by_index (2 ^ K) (inner_run K J (d * (4 * 2 ^ J) + 2 * 2 ^ J) (column W.lane_of i v.old)) }
+    requires fit { (i : ℕ) → i < W.LANES → AllFit 20 (column W.lane_of i v.old) }
+    ensures value { (i : ℕ) (u : List ℤ) → i < W.LANES → column W.lane_of i v.old ≡ rounded range K J N u → column W.lane_of i v.new ≡ rounded range K J (N + 1) u }
+    ensures fit { (i : ℕ) → i < W.LANES → AllFit 20 (column W.lane_of i v.new) }
 {
-    let h = power(J);
-    let start = d * (4 * h) + 2 * h;
+    let (m, h) = (power(K), power(J));
+    if m / 8 <= N {
+        return;
+    }
+    let (d, r) = (group_of(K, J, N), place_of(J, N));
+    let start = d * (4 * h);
+    let upper = m - 4 * h - start;
+    let (odd, odd_above) = (d % 2 == 1, upper / (4 * h) % 2 == 1);
+    put_own(odd, v, start + r, start + 4 * h - 1 - r, range);
+    put_own(odd_above, v, upper + r, upper + 4 * h - 1 - r, range);
     let b = inner_angle(K, J, d);
     let (c, s) = (weight_of(64 - b), weight_of(b));
-    for p in start..start + h {
-        let q = v.len() - 1 - p;
-        let (x, y) = (v[p], v[q]);
-        v[p] = W::turn(-c, x, -s, y);
-        v[q] = W::turn(-s, x, c, y);
-    }
+    let (nc, ns) = (minus_weight_of(64 - b), minus_weight_of(b));
+    let (p, e) = (start + h + r, start + 3 * h - 1 - r);
+    let (q, f) = (m - 1 - p, m - 1 - e);
+    let (vp, ve, vf, vq) = (v[p], v[e], v[f], v[q]);
+    let (tp, tq) = (W::rotate(ns, vp, c, vq), W::rotate(c, vp, s, vq));
+    let (te, tf) = (W::rotate(nc, ve, ns, vf), W::rotate(ns, ve, c, vf));
+    put(odd, v, p, e, tp, te, range);
+    put(odd_above, v, f, q, tf, tq, range);
 }
 
-// Step 3, in groups of 4h places of the lower half. The last size has half a group there, and so no third quarter.
+// Turn N of the last rotations, of the second half, and of the sums of both halves: two pairs of which the odd place is not turned, and two
+// of which it is. Past the last it does nothing.
 #[inline(always)]
-fn turn_inner<W: Word, const K: usize, const J: usize>(v: &mut [W])
-    requires j_in { J + 2 ≤ K }
-    requires k_in { K ≤ 5 }
-    requires len { length v.old ≡ 2 ^ K }
-    ensures { (i : ℕ) → i < W.LANES → column W.lane_of i v.new ≡ by_index (2 ^ K) (inner_turn K J (column W.lane_of i v.old)) }
+fn end_at<W: Butterfly, const K: usize, const N: usize>(w: &mut [W], range: usize)
+    requires range_in { (8 ≤ range) × (range ≤ 20) }
+    requires within { range ≤ W.bits }
+    requires k_in { (2 ≤ K) × (K ≤ 5) }
+    requires n_in { N ≤ 7 }
+    requires len { length w.old ≡ 2 * 2 ^ K }
+    requires fit { (i : ℕ) → i < W.LANES → AllFit 20 (column W.lane_of i w.old) }
+    ensures value { (i : ℕ) (u : List ℤ) → i < W.LANES → column W.lane_of i w.old ≡ ended range K N u → column W.lane_of i w.new ≡ ended range K (N + 1) u }
+    ensures fit { (i : ℕ) → i < W.LANES → AllFit 20 (column W.lane_of i w.new) }
 {
-    if J + 2 == K {
-        turn_second_quarter::<W, K, J>(0, v);
+    let m = power(K);
+    let h = m / 4;
+    if h <= N {
         return;
     }
-    for d in 0..power(K - J - 3) {
-        turn_second_quarter::<W, K, J>(d, v);
-        turn_third_quarter::<W, K, J>(d, v);
-    }
+    put_own(false, w, N, 2 * m - 1 - N, range);
+    put_own(false, w, m - 1 - N, m + N, range);
+    let b = inner_angle(K, K - 2, 0);
+    let (c, s, ns) = (weight_of(64 - b), weight_of(b), minus_weight_of(b));
+    let (p, q) = (h + N, m - 1 - (h + N));
+    let (x, y) = (w[q].widen(), w[p].widen());
+    let (vp, vq) = (w[m + p], w[m + q]);
+    let (tp, tq) = (W::rotate(ns, vp, c, vq), W::rotate(c, vp, s, vq));
+    put(false, w, q, m + p, x, tp, range);
+    put(false, w, p, m + q, y, tq, range);
 }
 
-// Round J, after those before it: steps 2 and 3 for groups of 2^(J+1) places. There are K - 1 rounds; past the last it does nothing.
+// Step 1 and the sums of pairs. All turns are written out, so that the compiler knows their places and weights as numbers.
 #[inline(always)]
-fn run_round<W: Word, const K: usize, const J: usize>(v: &mut [W], range: usize)
+pub(crate) fn begin<W: Butterfly, const K: usize>(v: &mut [W], range: usize)
     requires range_in { (8 ≤ range) × (range ≤ 20) }
-    requires k_in { (1 ≤ K) × (K ≤ 5) }
-    requires j_in { J ≤ 3 }
+    requires within { range ≤ W.bits }
+    requires k_in { (2 ≤ K) × (K ≤ 5) }
     requires len { length v.old ≡ 2 ^ K }
-    requires fit { (i : ℕ) → i < W.LANES → AllFit 20 (column W.lane_of i v.old) }
-    ensures value { (i : ℕ) (u : List ℤ) → i < W.LANES → column W.lane_of i v.old ≡ rounds range K (min J (K - 1)) u → column W.lane_of i v.new ≡ rounds range K (min (J + 1) (K - 1)) u }
+    ensures value { (i : ℕ) → i < W.LANES → column W.lane_of i v.new ≡ sums range K 0 (by_index (2 ^ K) (outer_turn K (column W.lane_of i v.old))) }
     ensures fit { (i : ℕ) → i < W.LANES → AllFit 20 (column W.lane_of i v.new) }
 {
-    if K < J + 2 {
+    begin_at::<W, K, 0>(v, range);
+    begin_at::<W, K, 1>(v, range);
+    begin_at::<W, K, 2>(v, range);
+    begin_at::<W, K, 3>(v, range);
+    begin_at::<W, K, 4>(v, range);
+    begin_at::<W, K, 5>(v, range);
+    begin_at::<W, K, 6>(v, range);
+    begin_at::<W, K, 7>(v, range);
+}
+
+// Round J's rotations and the sums behind them. There are K - 2 such rounds; past the last it does nothing.
+#[inline(always)]
+pub(crate) fn round<W: Butterfly, const K: usize, const J: usize>(v: &mut [W], range: usize)
+    requires range_in { (8 ≤ range) × (range ≤ 20) }
+    requires within { range ≤ W.bits }
+    requires k_in { (2 ≤ K) × (K ≤ 5) }
+    requires j_in { J ≤ 2 }
+    requires len { length v.old ≡ 2 ^ K }
+    requires fit { (i : ℕ) → i < W.LANES → AllFit 20 (column W.lane_of i v.old) }
+    ensures value { (i : ℕ) (u : List ℤ) → i < W.LANES → column W.lane_of i v.old ≡ sums range K (min J (K - 2)) u → column W.lane_of i v.new ≡ sums range K (min (J + 1) (K - 2)) u }
+    ensures fit { (i : ℕ) → i < W.LANES → AllFit 20 (column W.lane_of i v.new) }
+{
+    if K < J + 3 {
         return;
     }
-    sum_groups(power(J), power(K - 1 - J), v, range);
-    turn_inner::<W, K, J>(v);
+    round_at::<W, K, J, 0>(v, range);
+    round_at::<W, K, J, 1>(v, range);
+    round_at::<W, K, J, 2>(v, range);
+    round_at::<W, K, J, 3>(v, range);
 }
 
-// Steps 2 and 3 in turn, for groups of 2, 4, .. places: all rounds, written out so that the compiler knows their places as numbers.
+// The last rotations, of the second half, and the sums of both halves.
 #[inline(always)]
-pub(crate) fn turn_rounds<W: Word, const K: usize>(v: &mut [W], range: usize)
+pub(crate) fn end<W: Butterfly, const K: usize>(w: &mut [W], range: usize)
     requires range_in { (8 ≤ range) × (range ≤ 20) }
-    requires k_in { (1 ≤ K) × (K ≤ 5) }
-    requires len { length v.old ≡ 2 ^ K }
-    requires fit { (i : ℕ) → i < W.LANES → AllFit 20 (column W.lane_of i v.old) }
-    ensures value { (i : ℕ) → i < W.LANES → column W.lane_of i v.new ≡ rounds range K (K - 1) (column W.lane_of i v.old) }
-    ensures fit { (i : ℕ) → i < W.LANES → AllFit 20 (column W.lane_of i v.new) }
+    requires within { range ≤ W.bits }
+    requires k_in { (2 ≤ K) × (K ≤ 5) }
+    requires len { length w.old ≡ 2 * 2 ^ K }
+    requires fit { (i : ℕ) → i < W.LANES → AllFit 20 (column W.lane_of i w.old) }
+    ensures { (i : ℕ) → i < W.LANES → column W.lane_of i w.new ≡ end_all range K (column W.lane_of i w.old) }
 {
-    run_round::<W, K, 0>(v, range);
-    run_round::<W, K, 1>(v, range);
-    run_round::<W, K, 2>(v, range);
-    run_round::<W, K, 3>(v, range);
+    end_at::<W, K, 0>(w, range);
+    end_at::<W, K, 1>(w, range);
+    end_at::<W, K, 2>(w, range);
+    end_at::<W, K, 3>(w, range);
+    end_at::<W, K, 4>(w, range);
+    end_at::<W, K, 5>(w, range);
+    end_at::<W, K, 6>(w, range);
+    end_at::<W, K, 7>(w, range);
 }

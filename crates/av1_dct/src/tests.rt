@@ -238,3 +238,28 @@ fn eight_lanes_answer_as_eight_transforms(rt: HostRuntime) -> Result<(), Fail> {
     );
     Ok(())
 }
+
+#[test]
+fn lanes_of_16_bits_answer_as_eight_transforms(rt: HostRuntime) -> Result<(), Fail> {
+    let mut input = Vec::new(rt.alloc());
+    input.push(i16x8::from_array([0, -32768, 86, 0, 5486, 119, 1, 0]))?;
+    input.push(i16x8::from_array([0, 32767, 202, 0, 28757, -116, -484, 0]))?;
+    input.push(i16x8::from_array([1223, 32767, 0, 0, -6519, 1834, -97, 0]))?;
+    input.push(i16x8::from_array([0, -32768, -13, 15408, 25809, -5649, 1003, 0]))?;
+    let mut work = Vec::new(rt.alloc());
+    work.resize(16, i16x8::splat(0))?;
+    let mut output = Vec::new(rt.alloc());
+    output.resize(4, i16x8::splat(0))?;
+    let mut count = LaneCount::new();
+    cosine_lanes(&mut count, 4, &input, &mut work, &mut output, 16);
+    assert_eq!(rt; count.groups(), 1);
+    assert_eq!(rt;
+        output[0].to_array(),
+        [865, 17734, 243, 5895, 32767, -887, -131, 0]
+    );
+    assert_eq!(rt;
+        output[3].to_array(),
+        [865, -17736, -121, -5895, -32768, 3649, -5, 0]
+    );
+    Ok(())
+}

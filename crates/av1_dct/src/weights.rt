@@ -1,4 +1,4 @@
-ghost use Rattle.std.specs.Prelude.{◌≡◌, ◌+◌, ◌-◌, ◌*◌, ◌/◌, ◌^◌, ◌<◌, ◌≤◌, ℤ, pos, suc, ◌≤ℤ◌};
+ghost use Rattle.std.specs.Prelude.{◌≡◌, ◌+◌, ◌-◌, ◌*◌, ◌/◌, ◌%◌, ◌^◌, ◌<◌, ◌≤◌, ℤ, pos, neg_ℤ, suc, ◌≤ℤ◌};
 ghost use Rattle.av1_dct.specs.Cosine.{cos128, brev};
 
 /// 4096 times the cosine of a * pi / 128, rounded, for a from 0 to 63.
@@ -24,6 +24,16 @@ pub(crate) fn weight_of(a: usize) -> i32
     ensures bounds { (pos 0 ≤ℤ result) × (result ≤ℤ pos 4096) }
 {
     COSPI_INV[a]
+}
+
+// The same below zero.
+#[inline(always)]
+pub(crate) fn minus_weight_of(a: usize) -> i32
+    requires { a < 64 }
+    ensures value { result ≡ neg_ℤ (cos128 a) }
+    ensures bounds { (neg_ℤ (pos 4096) ≤ℤ result) × (result ≤ℤ pos 0) }
+{
+    -weight_of(a)
 }
 
 #[inline(always)]
@@ -56,6 +66,31 @@ pub(crate) fn inner_angle(k: usize, j: usize, d: usize) -> usize
     ensures bounds { (1 ≤ result) × (result ≤ 63) }
 {
     REVERSED[d] + (128 >> (k - j))
+}
+
+// The group of 2^(j+2) places that turn n of round j is for, in the lower half of 2^k places.
+#[inline(always)]
+#[tactic(auto, using(crate::proofs::Turned::group_in, crate::proofs::Turned::group_angle))]
+pub(crate) fn group_of(k: usize, j: usize, n: usize) -> usize
+    requires j_in { j + 3 ≤ k }
+    requires k_in { k ≤ 5 }
+    requires n_in { n < 2 ^ k / 8 }
+    ensures value { result ≡ n / 2 ^ j }
+    ensures angle { result < 2 ^ (k - j - 3) }
+    ensures within { 2 * (result * (4 * 2 ^ j)) + 8 * 2 ^ j ≤ 2 ^ k }
+{
+    n >> j
+}
+
+// Which of its places that turn is for, of 2^j.
+#[inline(always)]
+#[tactic(auto, using(crate::proofs::Turned::rest_in))]
+pub(crate) fn place_of(j: usize, n: usize) -> usize
+    requires { j ≤ 2 }
+    ensures value { result ≡ n % 2 ^ j }
+    ensures small { result < 2 ^ j }
+{
+    n % (1 << j)
 }
 
 // The place, among 2^(k+1), whose bits are those of p in the other order.

@@ -7,7 +7,7 @@ use Rattle.std.proofs.Math.Nat.{mod-eq_of_lt}
 use Rattle.av1_dct.specs.Arithmetic.{at, clamp_value}
 use Rattle.av1_lists.specs.Lists.{by_index}
 use Rattle.av1_itx.specs.Adst.{adst_sum, adst_sum_with, adst_turn, adst_turn_with, turned, round_weights}
-use Rattle.av1_dct.proofs.Mirror.{IsBegun}
+use Rattle.av1_dct.proofs.Begun.{IsBegun}
 use Rattle.av1_dct.proofs.Groups.{put, put-low, put-mid, put-high, length-put, at-part}
 use Rattle.av1_dct.proofs.Places.{at-by_index}
 use Rattle.av1_itx.proofs.Fills.{filled, part_len}

@@ -102,5 +102,8 @@ cosine_rounds kind k told has = subst (λ t. HasNetwork t k) (cosine_kind kind t
 pub group_room : (m g w : ℕ) → m * (w / m) ≡ w → g < w / m → m * g + m ≤ w
 group_room m g w whole lt = let n : m * (g + 1) ≤ m * (w / m) = mul-le-mul_left m (let l : g + 1 ≤ w / m = omega arith in l) in omega arith
 
+pub group_in : {l m g w : ℕ} → m ≡ l → l * (w / l) ≡ w → g < w / m → m * g + l ≤ w
+group_in {l} {m} {g} {w} is whole lt = let whole_m : m * (w / m) ≡ w = subst (λ (n : ℕ). n * (w / n) ≡ w) (sym is) whole in let room = group_room m g w whole_m lt in omega arith
+
 pub all_groups : (m g w : ℕ) → m * (w / m) ≡ w → w / m ≤ g → w ≤ m * g
 all_groups m g w whole le = let n = mul-le-mul_left m le in omega arith

@@ -7,7 +7,7 @@ use Rattle.std.proofs.lemmas.Grind.{get_or-set_at}
 use Rattle.std.proofs.lemmas.List.{length-set, length-take, length-drop}
 use Rattle.av1_dct.specs.Arithmetic.{at, AllFit, FitsBits}
 use Rattle.av1_lists.specs.Lists.{by_index}
-use Rattle.av1_dct.proofs.Mirror.{IsBegun}
+use Rattle.av1_dct.proofs.Begun.{IsBegun}
 
 -- one more place
 pub fill_more : (f : ℕ → ℤ) (xs : List ℤ) (i : ℕ) (v : ℤ) → i < length xs → ((k : ℕ) → k < i → at xs k ≡ f k) → v ≡ f i → (k : ℕ) → k < i + 1 → at (set xs i v) k ≡ f k

@@ -1,10 +1,10 @@
 -- Numbers of few bits, and lists of them.
-use Rattle.std.proofs.Common.{ℕ, zero, suc, ◌≡◌, ◌-◌, ◌*◌, ◌^◌, ◌≤◌, ℤ, pos, List, [], ◌∷◌, take, reverse, length, arith, ap, sym, subst, ◌∙◌, inl, inr}
+use Rattle.std.proofs.Common.{ℕ, zero, suc, ◌≡◌, ◌-◌, ◌*◌, ◌^◌, ◌<◌, ◌≤◌, ℤ, pos, List, All, [], ◌∷◌, map, take, reverse, length, arith, ap, sym, subst, ◌∙◌, inl, inr}
 use Rattle.std.proofs.lemmas.Bool.{cases_lt}
-use Rattle.std.proofs.lemmas.List.{take_all, get_or_past, get_or-reverse, length-reverse}
+use Rattle.std.proofs.lemmas.List.{take_all, map-id, get_or_past, get_or-reverse, length-reverse}
 use Rattle.av1_dct.specs.Arithmetic.{AllFit, FitsBits}
 use Rattle.av1_blocks.specs.Transforms.{IsTransformSide}
-use Rattle.av1_dct.proofs.Fits.{zero_fits}
+use Rattle.av1_dct.proofs.Fits.{zero_fits, all-fit}
 
 -- the lengths that there are cosine transforms of
 pub is_length : (k n : ℕ) → 1 ≤ k → k ≤ 5 → n ≡ 2 * 2 ^ k → IsTransformSide n
@@ -34,3 +34,11 @@ reverse-fits b xs f = λ i.
       | inl h ↦ subst P (sym (get_or-reverse xs i (pos 0) h)) (f (length xs - 1 - i))
       | inr h ↦ subst P (sym (get_or_past (reverse xs) i (pos 0) (omega (arith, length-reverse xs)))) (zero_fits b)
     ]
+
+-- lanes that fit the bits of a range fit 20
+pub fits : {n range : ℕ} (lanes : ℕ → List ℤ) → (8 ≤ range) × (range ≤ 20) → ((i : ℕ) → i < n → All (FitsBits range) (lanes i)) → (i : ℕ) → i < n → AllFit 20 (lanes i)
+fits {range = range} lanes range_in fit = λ i h. all-fit range 20 (lanes i) range_in.1 (fit i h)
+
+-- numbers are words of one lane
+pub numbers-fit : {b : ℕ} (xs : List ℤ) → All (FitsBits b) xs → AllFit b (map (λ x. x) xs)
+numbers-fit {b} xs fit = let P : List ℤ → Type 0 = λ zs. AllFit b zs in subst P (sym (map-id xs)) (all-fit b b xs (omega arith) fit)

@@ -1,15 +1,15 @@
 -- One lane of words that the sine transforms write.
-use Rattle.std.proofs.Common.{ℕ, ◌≡◌, ◌+◌, ◌-◌, ◌*◌, ◌/◌, ◌<◌, ◌≤◌, ℤ, List, [], ◌∷◌, ◌++◌, take, drop, set, reverse, refl, length, get_or, arith, ap, sym, subst, ◌∙◌}
+use Rattle.std.proofs.Common.{ℕ, ◌≡◌, ◌+◌, ◌-◌, ◌*◌, ◌/◌, ◌<◌, ◌≤◌, ℤ, List, [], ◌∷◌, ◌++◌, map, take, drop, set, reverse, refl, length, get_or, arith, ap, sym, subst, ◌∙◌}
 use Rattle.std.proofs.lemmas.List.{length-map, map-append, map-set, reverse-append}
 use Rattle.av1_dct.specs.Arithmetic.{at, AllFit, FitsBits}
 use Rattle.av1_dct.specs.Word.{column}
 use Rattle.av1_dct.proofs.Groups.{put, column-put, column-part}
-use Rattle.av1_dct.proofs.Mirror.{IsBegun}
+use Rattle.av1_dct.proofs.Begun.{IsBegun}
 use Rattle.av1_dct.proofs.Places.{column_get}
 use Rattle.av1_lists.specs.Lists.{by_index}
 use Rattle.av1_itx.specs.Adst.{adst_sum, adst_turn, round_weights}
 use Rattle.av1_itx.proofs.Blocks.{block_done, block_round, blocks_step}
-use Rattle.av1_itx.proofs.Fills.{IsBegun-pair, IsHalved, IsHalved-more}
+use Rattle.av1_itx.proofs.Fills.{IsBegun-pair, IsBegun-start, IsHalved, IsHalved-more}
 use Rattle.av1_itx.proofs.Turns.{weights_at, turned_by}
 
 -- a lane of a word that was read has the bits that all lanes have
@@ -38,6 +38,10 @@ column-reverse {W} lane i (x ∷ xs) =
     ∙ map-append g (reverse xs) (x ∷ [])
     ∙ ap (λ ys. ys ++ (lane x i ∷ [])) (column-reverse lane i xs)
     ∙ sym (reverse-append (lane x i ∷ []) (column lane i xs))
+
+-- words of which a loop has written none
+pub words_begun : {X : Type 0} {f : ℕ → ℤ} {p : ℕ} (g : X → ℤ) (v : List X) → p ≡ 0 → IsBegun (length v) f (map g v) p (map g v)
+words_begun g v none = IsBegun-start _ _ _ _ (length-map v g) none
 
 -- one more pair of neighbours
 pub pair_more : {W : Type 0} (lane : W → ℕ → ℤ) (i n : ℕ) (f : ℕ → ℤ) (old : List ℤ) (v : List W) (p q r : ℕ) (x y : W) → IsBegun n f old p (column lane i v) → q ≡ p + 1 → r ≡ p + 2 → q < n → lane x i ≡ f p → lane y i ≡ f q → IsBegun n f old r (column lane i (set (set v p x) q y))

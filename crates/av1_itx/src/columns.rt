@@ -1,12 +1,13 @@
 //! The second pass: an inverse transform down each column.
 
-ghost use Rattle.std.specs.Prelude.{◌≡◌, ℕ, ◌+◌, ◌*◌, ◌^◌, ◌<◌, ◌≤◌, ◌==◌, if◌then◌else◌, length};
-ghost use Rattle.av1_blocks.specs.Transforms.{tx_width, tx_height};
+ghost use Rattle.std.specs.Prelude.{◌≡◌, ℕ, ◌+◌, ◌*◌, ◌/◌, ◌^◌, ◌<◌, ◌≤◌, ◌==◌, if◌then◌else◌, length};
+ghost use Rattle.av1_blocks.specs.Transforms.{IsTransformSide, tx_width, tx_height};
 ghost use Rattle.av1_dct.specs.Arithmetic.{at, clamp_value, FitsBits};
 ghost use Rattle.av1_frame.specs.Arithmetic.{round_shift};
+ghost use Rattle.av1_lists.specs.Lists.{by_index};
 ghost use Rattle.av1_itx.specs.Kinds.{column_kind};
 ghost use Rattle.av1_itx.specs.LaneGroups.{is_cosine, lane_groups};
-ghost use Rattle.av1_itx.specs.Networks.{HasNetwork};
+ghost use Rattle.av1_itx.specs.Networks.{HasNetwork, network};
 ghost use Rattle.av1_itx.specs.Residue.{column_network, column_power, row_shift};
 
 use crate::kinds::{TxType1D, get_1d_tx_types};
@@ -59,6 +60,37 @@ fn is_cosine(kind: TxType1D) -> bool
     matches!(kind, TxType1D::DCT)
 }
 
+// Each column of a buffer of w columns and h rows, transformed in place. Where it is the cosine transform and there are eight columns
+// or more, the groups of eight are counted.
+fn run_columns<R: LaneRoom>(
+    buffer: &mut [i32],
+    lanes: &mut R,
+    kind: TxType1D,
+    w: usize,
+    h: usize,
+    k: usize,
+    range: usize,
+)
+    requires width { 4 * (w / 4) ≡ w }
+    requires eights { 8 ≤ w → 8 * (w / 8) ≡ w }
+    requires few { w ≤ 64 }
+    requires height { IsTransformSide h }
+    requires few_rows { h ≤ 64 }
+    requires power { h ≡ 2 * 2 ^ k }
+    requires has { HasNetwork kind k }
+    requires buffer_len { length buffer.old ≡ h * w }
+    requires range_in { (8 ≤ range) × (range ≤ 20) }
+    requires fit { (r c : ℕ) → r < h → c < w → FitsBits range (at buffer.old (r * w + c)) }
+    ensures value { (r c : ℕ) → r < h → c < w → at buffer.new (r * w + c) ≡ at (network kind range k (by_index h (λ y. at buffer.old (y * w + c)))) r }
+    ensures counts { R.tally lanes.new ≡ R.raised_by (R.tally lanes.old) (if is_cosine kind then w / 8 else 0) }
+{
+    if w < LANES || !is_cosine(kind) {
+        lanes.run(buffer, kind, w, h, k, range);
+        return;
+    }
+    lanes.run_cosine(buffer, w, h, k, range);
+}
+
 /// Each column of a block, transformed in place: `buffer` has the block row by row. Where the columns take the cosine transform and
 /// there are eight or more, the groups of eight are counted.
 pub(crate) fn column_pass<R: LaneRoom>(
@@ -80,9 +112,5 @@ pub(crate) fn column_pass<R: LaneRoom>(
     let range = (bd + 6).max(16);
     let (kind, _) = get_1d_tx_types(tx_type);
     round_values(buffer, row_shift_of(tx_size), range);
-    if w < LANES || !is_cosine(kind) {
-        lanes.run(buffer, kind, w, h, k, range);
-        return;
-    }
-    lanes.run_cosine(buffer, w, h, k, range);
+    run_columns(buffer, lanes, kind, w, h, k, range);
 }

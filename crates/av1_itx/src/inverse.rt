@@ -171,8 +171,8 @@ fn add_over<T: Pixel, R: LaneRoom>(
 )
     requires depth_in { (8 ≤ bd) × (bd ≤ 12) }
     requires depth { bd ≤ T.BITS }
-    requires rows_run { HasNetwork (row_kind tx_type) (row_power tx_size) }
-    requires columns_run { HasNetwork (column_kind tx_type) (column_power tx_size) }
+    requires valid { IsTrue (valid_av1_transform tx_size tx_type) }
+    requires lossless { tx_type ≡ WHT_WHT → tx_size ≡ TX_4X4 }
     requires buffer_len { 4096 ≤ length buffer.old }
     requires scaled_len { 1024 ≤ length scaled.old }
     requires input_len { coded_area tx_size ≤ length input.now }

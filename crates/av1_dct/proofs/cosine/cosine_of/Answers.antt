@@ -10,5 +10,5 @@ run_network-requires-clause-fit g c = λ i h. let P : List ℤ → Type 0 = λ z
 
 pub returns-clause-value : goal.returns-clause-value
 returns-clause-value g c = λ i h.
-    cosine_words g.W.Word.lane_of i c.args.range g.row.K g.row.N c.args.input.now c.args.output.now c.reorder.new.output c.run_network.new.w c.requires.n_in
+    cosine_words g.W.Butterfly.lane_of i c.args.range g.row.K g.row.N c.args.input.now c.args.output.now c.reorder.new.output c.run_network.new.w c.requires.n_in
     (omega (arith, c.run_network.auto.w, c.reorder.auto.output, length-take-le g.row.N c.args.output.now (omega arith))) (c.reorder.ensures i h) (c.run_network.ensures i h)

@@ -1,20 +1,24 @@
-use Rattle.std.proofs.Common.{arith, sym, subst, List, ℤ}
+use Rattle.std.proofs.Common.{ℕ, ◌-◌, ◌^◌, ◌≡◌, ◌∙◌, min, take, drop, length, arith, ap}
 use Rattle.std.proofs.lemmas.List.{length-drop}
-use Rattle.av1_dct.specs.Arithmetic.{AllFit}
-use Rattle.av1_dct.proofs.Fits.{by_index-fits, outer_turn-fits}
-use Rattle.av1_dct.proofs.Outer.{even_pow}
-use Rattle.av1_dct.proofs.Halves.{joined_words, second_set-fits}
+use Rattle.av1_lists.specs.Lists.{by_index}
+use Rattle.av1_dct.specs.Cosine.{outer_turn}
+use Rattle.av1_dct.specs.InPlace.{sums}
+use Rattle.av1_dct.specs.Word.{column}
+use Rattle.av1_dct.proofs.Halves.{second_set-fits}
+use Rattle.av1_dct.proofs.Joined.{fused_words}
 use Rattle.av1_dct.proofs.cosine.join_halves.Goals as goal
 
-pub turn_rounds-requires-clause-fit : goal.turn_rounds-requires-clause-fit
-turn_rounds-requires-clause-fit g c = λ i h. let P : List ℤ → Type 0 = λ zs. AllFit 20 zs in subst P (sym (c.turn_outer.ensures i h)) (by_index-fits _ _ (λ p. outer_turn-fits g.row.K _ p))
-
-pub sum_mirrored-requires-clause-fit : goal.sum_mirrored-requires-clause-fit
-sum_mirrored-requires-clause-fit g c = λ i h.
-    second_set-fits g.W.Word.lane_of i c.power.result c.turn_rounds.new.v c.args.w.now (c.turn_rounds.ensures.fit i h) (c.requires.fit i h)
+pub end-requires-clause-fit : goal.end-requires-clause-fit
+end-requires-clause-fit g c = λ i h. second_set-fits g.W.Butterfly.lane_of i c.power.result c.round-3.new.v c.args.w.now (c.round-3.ensures.fit i h) (c.requires.fit i h)
 
 pub returns : goal.returns
 returns g c = λ i h.
-    let e = even_pow g.row.K (omega arith) in
-    joined_words g.W.Word.lane_of i c.args.range g.row.K c.power.result c.args.w.now c.turn_outer.new.v c.turn_rounds.new.v c.sum_mirrored.new.w (omega arith) c.power.ensures.value c.requires.len
-    (omega (arith, c.turn_rounds.auto.v, c.turn_outer.auto.v, length-drop c.power.result c.args.w.now)) (c.turn_outer.ensures i h) (c.turn_rounds.ensures.value i h) (c.sum_mirrored.ensures i h)
+    let range = c.args.range in
+    let k = g.row.K in
+    let u = by_index (2 ^ k) (outer_turn k (column g.W.Butterfly.lane_of i (take (length c.args.w.now - c.power.result) (drop c.power.result c.args.w.now)))) in
+    let start = c.begin.ensures.value i h in
+    let none : 0 ≡ min 0 (k - 2) = omega arith in
+    let all : min 3 (k - 2) ≡ k - 2 = omega arith in
+    let done = c.round-3.ensures.value i u h (c.round-2.ensures.value i u h (c.round.ensures.value i u h (start ∙ ap (λ (n : ℕ). sums range k n u) none))) in
+    fused_words g.W.Butterfly.lane_of i range k c.power.result c.args.w.now c.round-3.new.v c.end.new.w (omega arith) (omega arith) c.power.ensures.value c.requires.len
+    (omega (arith, c.round-3.auto.v, c.round-2.auto.v, c.round.auto.v, c.begin.auto.v, length-drop c.power.result c.args.w.now)) (done ∙ ap (λ (n : ℕ). sums range k n u) all) (c.end.ensures i h)

@@ -1,18 +1,17 @@
 use Rattle.std.proofs.Common.{arith, ◌≡◌, ◌+◌, ◌-◌, ◌*◌, ◌%◌, ◌∙◌, refl, length}
-use Rattle.std.proofs.lemmas.List.{length-map}
 use Rattle.av1_dct.specs.Word.{column}
 use Rattle.av1_dct.proofs.Places.{column_get}
-use Rattle.av1_itx.proofs.Fills.{IsBegun-start, IsBegun-end}
+use Rattle.av1_itx.proofs.Fills.{IsBegun-end}
 use Rattle.av1_itx.proofs.Order.{in-even, in-odd}
-use Rattle.av1_itx.proofs.Words.{pair_more}
+use Rattle.av1_itx.proofs.Words.{pair_more, words_begun}
 use Rattle.av1_itx.proofs.adst.permute_in.Goals as goal
 
 pub loop-p-init : goal.loop-p-init
-loop-p-init g c = λ i h. IsBegun-start _ _ _ _ (length-map c.args.v.now _) (omega arith)
+loop-p-init g c = λ i h. words_begun _ _ (omega arith)
 
 pub loop-p-preserved : goal.loop-p-preserved
 loop-p-preserved g c = λ i h.
-    let lane = g.W.Word.lane_of in
+    let lane = g.W.Butterfly.lane_of in
     let x = c.args.input.now in
     let n = length c.args.v.now in
     let p = c.loop-p.p in

@@ -1,6 +1,6 @@
 use Rattle.std.proofs.Common.{length}
 use Rattle.av1_dct.specs.Arithmetic.{at, clamp_value}
-use Rattle.av1_dct.proofs.Mirror.{IsBegun}
+use Rattle.av1_dct.proofs.Begun.{IsBegun}
 use Rattle.av1_frame.specs.Arithmetic.{round_shift}
 use Rattle.av1_itx.proofs.columns.round_values.Given as goal
 

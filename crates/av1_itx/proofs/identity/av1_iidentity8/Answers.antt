@@ -1,12 +1,11 @@
-use Rattle.std.proofs.Common.{arith, ◌∙◌, ap, sym, subst, List, ℤ, take}
+use Rattle.std.proofs.Common.{arith, ◌∙◌, ap, sym, take}
 use Rattle.std.proofs.lemmas.List.{length-take-le, map-id, take_at, drop_at}
-use Rattle.av1_dct.proofs.Fits.{all-fit}
-use Rattle.av1_dct.specs.Arithmetic.{AllFit}
 use Rattle.av1_itx.specs.Identity.{identity}
+use Rattle.av1_itx.proofs.Widths.{numbers-fit}
 use Rattle.av1_itx.proofs.identity.av1_iidentity8.Goals as goal
 
 pub identity_of-requires-clause-fit : goal.identity_of-requires-clause-fit
-identity_of-requires-clause-fit c = λ i h. let P : List ℤ → Type 0 = λ zs. AllFit 20 zs in subst P (sym (map-id (take 8 c.args.input.now))) (all-fit 20 20 (take 8 c.args.input.now) (omega arith) c.requires.fit)
+identity_of-requires-clause-fit c = λ i h. numbers-fit _ c.requires.fit
 
 pub returns-clause-value : goal.returns-clause-value
 returns-clause-value c = take_at _ _ 8 (c.identity_of.auto.output ∙ length-take-le 8 c.args.output.now c.requires.output_len) ∙ sym (map-id c.identity_of.new.output) ∙ c.identity_of.ensures 0 (omega arith) ∙ ap (identity 2) (map-id (take 8 c.args.input.now))

@@ -2,4 +2,4 @@ use Rattle.av1_itx.proofs.Copies.{as_they_were}
 use Rattle.av1_itx.proofs.lane_words.FourLanes.to_vector.Goals as goal
 
 pub returns-clause-same : goal.returns-clause-same
-returns-clause-same c = as_they_were c.args.self.lanes (λ i h. c.have_32_bits.ensures i h)
+returns-clause-same c = as_they_were _ c.have_32_bits.ensures

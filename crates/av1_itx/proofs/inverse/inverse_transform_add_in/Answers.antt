@@ -1,8 +1,0 @@
-use Rattle.av1_itx.proofs.Sizes.{both_run}
-use Rattle.av1_itx.proofs.inverse.inverse_transform_add_in.Goals as goal
-
-pub add_over-requires-clause-rows_run : goal.add_over-requires-clause-rows_run
-add_over-requires-clause-rows_run g c = (both_run c.args.tx_size c.args.tx_type c.requires.valid c.requires.lossless).0
-
-pub add_over-requires-clause-columns_run : goal.add_over-requires-clause-columns_run
-add_over-requires-clause-columns_run g c = (both_run c.args.tx_size c.args.tx_type c.requires.valid c.requires.lossless).1
