@@ -41,6 +41,16 @@ pub fn base(bit_depth: usize) -> u32
     128 << (bit_depth - 8)
 }
 
+/// The sample in the middle of the range of this depth, or `less` before it.
+fn middle_sample<T: Pixel>(less: u32, bit_depth: usize) -> T
+    requires few { less ≤ 1 }
+    requires low { 8 ≤ bit_depth }
+    requires depth { bit_depth ≤ T.BITS }
+    ensures { T.num result ≡ base bit_depth - less }
+{
+    T::from_u32(base(bit_depth) - less)
+}
+
 /// The sample at column `x` of row `y` of the region.
 fn region_sample<T: Pixel>(dst: &PlaneRegion<'_, T>, x: usize, y: usize) -> T
     requires begins { BeginsVisible dst.now }
@@ -74,7 +84,7 @@ pub(crate) fn fill_above<T: Pixel>(
     } else if x > 0 {
         fill_with(above, region_sample(dst, x - 1, 0));
     } else {
-        fill_with(above, T::from_u32(base(bit_depth) - 1));
+        fill_with(above, middle_sample(1, bit_depth));
     }
 }
 
@@ -140,7 +150,7 @@ pub(crate) fn corner_of<T: Pixel>(
     if needed && x + y > 0 {
         region_sample(dst, x.saturating_sub(1), y.saturating_sub(1))
     } else {
-        T::from_u32(base(bit_depth))
+        middle_sample(0, bit_depth)
     }
 }
 

@@ -137,6 +137,16 @@ corner_fits {T} src left columns rows e s =
     let y = ap (λ (p : PlaneSlice T). p.y) e in
     place_fits _ src.plane_cfg.now.yorigin src.plane_cfg.now.alloc_height (omega (arith, ints, y, s.top)) (omega (arith, ints, y, s.bottom)) (omega (arith, s.whole.few_rows, s.whole.visible_rows)) s.whole.few_rows
 
+-- and its column
+pub corner_column_fits : {T : Type 0} (src : PlaneSlice T) (columns rows : ℕ) → IsStoredFrom (corner_of src) columns rows → FitsSigned w64 (src.x -ℤ pos 3)
+corner_column_fits {T} src columns rows s =
+    place_fits _ src.plane_cfg.now.xorigin src.plane_cfg.now.stride s.left (omega (arith, ints, s.right)) (omega (arith, s.whole.few_columns, s.whole.visible_columns)) (omega (arith, s.whole.few_columns, s.whole.visible_columns))
+
+-- the column of a strip
+pub strip_column_fits : {T : Type 0} (corner : PlaneSlice T) (start columns rows : ℕ) → IsStoredFrom corner (start + columns + 7) rows → FitsSigned w64 (corner.x +ℤ pos start)
+strip_column_fits {T} corner start columns rows s =
+    place_fits _ corner.plane_cfg.now.xorigin corner.plane_cfg.now.stride (omega (arith, ints, s.left)) (omega (arith, ints, s.right)) (omega (arith, s.whole.few_columns, s.whole.visible_columns)) (omega (arith, s.whole.few_columns, s.whole.visible_columns))
+
 -- samples from there within the depth
 pub corner_within : {T : Type 0} (num : T → ℕ) (src corner : PlaneSlice T) (depth columns rows : ℕ) → corner ≡ corner_of src → AreWithinDepth depth (samples_from num (corner_of src)) columns rows → AreWithinDepth depth (samples_from num corner) columns rows
 corner_within {T} num src corner depth columns rows e h = subst (λ (p : PlaneSlice T). AreWithinDepth depth (samples_from num p) columns rows) (sym e) h

@@ -90,8 +90,12 @@ strip_more w start n r f old now new fit h row others =
       rest = λ i b. others i (b r (omega arith)) ∙ h.rest i (λ q l. b q (omega arith));
     }
 
-pub strip_all : (w start n r h : ℕ) (f : ℕ → ℕ → ℤ) (old now : List ℤ) → r ≡ h → IsStripWritten w start n r f old now → IsStripWritten w start n h f old now
-strip_all w start n r h f old now e a = subst (λ (k : ℕ). IsStripWritten w start n k f old now) e a
+-- all of its rows
+pub all_done : {w start n r h : ℕ} {f : ℕ → ℕ → ℤ} {old now : List ℤ} → r ≡ h → IsStripWritten w start n r f old now → (q c : ℕ) → q < h → c < n → entry now (q * w + start + c) ≡ f q c
+all_done e a = λ q c l k. a.done q c (omega (arith, e, l)) k
+
+pub all_rest : {w start n r h : ℕ} {f : ℕ → ℕ → ℤ} {old now : List ℤ} → r ≡ h → IsStripWritten w start n r f old now → (i : ℕ) → ((q : ℕ) → q < h → IsBeside (q * w + start) n i) → entry now i ≡ entry old i
+all_rest e a = λ i b. a.rest i (λ q l. b q (omega (arith, e, l)))
 
 -- the first s columns of h rows of w entries are f's, and the entries after those rows are those of `old`
 pub record AreWritten (w s h : ℕ) (f : ℕ → ℕ → ℤ) (old now : List ℤ) : Type 0 where

@@ -18,3 +18,4 @@ pub mod Sources
 pub mod Halves
 pub mod OuterSums
 pub mod HeldSums
+pub mod References

@@ -1,5 +1,5 @@
 -- Rows of a reference, and rows that are painted.
-use Rattle.std.proofs.Common.{◌++◌, take, drop, ℕ, ◌+◌, ◌-◌, ◌%◌, ◌≢◌, ◌<◌, ◌≤◌, ◌≡◌, ◌∙◌, ap, sym, arith, List, length, map, get_or, slice_index, ℤ, pos, negsuc, ◌+ℤ◌, ◌≤ℤ◌, unsigned_abs, inl, inr}
+use Rattle.std.proofs.Common.{drop, ℕ, ◌+◌, ◌-◌, ◌%◌, ◌≢◌, ◌<◌, ◌≤◌, ◌≡◌, ◌∙◌, ap, sym, arith, List, length, map, get_or, slice_index, ℤ, pos, negsuc, ◌+ℤ◌, ◌≤ℤ◌, unsigned_abs, inl, inr}
 use Rattle.std.proofs.lemmas.Int.{ints}
 use Rattle.std.proofs.lemmas.List.{get_or-drop, get_or-map, get_or_default, places}
 use Rattle.std.proofs.lemmas.Bool.{cases_lt, cases_eq}
@@ -40,19 +40,11 @@ copied_twice n row source from blank line new h b d e f =
     ap (λ s. get_or s q v) (e ∙ ap (λ t. paint_row n (λ k u. get_or t k u) blank) d) ∙ painted_sample n q (λ k u. get_or (drop 3 source) k u) blank v l (omega arith) (λ u. get_or_default (drop 3 source) q u v inside)
     ∙ get_or-drop 3 source q v ∙ ap (λ k. get_or source k v) m)
 
--- a row whose first n samples are those of another from place m on
-copied_from : {X : Type 0} (m n : ℕ) (s source ys : List X) → n ≤ length s → n + m ≤ length source → ys ≡ take n (drop m source) → ys ++ drop n s ≡ paint_row n (λ c v. get_or source (c + m) v) s
-unfolding paint_row
-copied_from m n s source ys h l e =
-    ap (λ y. y ++ drop n s) e ∙ update_is _ s _ (grind (arith, places, length-update)) (λ k d q. elim (cases_lt k n) [
-      | inl b ↦ (let z : m + k ≡ k + m = omega arith in grind (arith, nat_tests, places, get_or-update, length-update))
-      | inr b ↦ grind (arith, nat_tests, places, get_or-update, length-update)
-    ])
-
-pub copied_front : {X : Type 0} (n : ℕ) (s source ys : List X) → n ≤ length s → n + 3 ≤ length source → ys ≡ take (3 + n - 3) (drop 3 source) → ys ++ drop n s ≡ paint_row n (λ c v. get_or source (c + 3) v) s
-copied_front n s source ys h l e =
-    let m : 3 + n - 3 ≡ n = omega arith in
-    copied_from 3 n s source ys h l (e ∙ ap (λ k. take k (drop 3 source)) m)
+-- a row that is copied from what stands behind the first three samples of another
+pub copied_behind : {X : Type 0} (n : ℕ) (row source from : List X) → from ≡ drop 3 source → paint_row n (λ c v. get_or from c v) row ≡ paint_row n (λ c v. get_or source (c + 3) v) row
+copied_behind n row source from e =
+    paint_row_same n _ _ row (λ q v l. let m : 3 + q ≡ q + 3 = omega arith in
+    ap (λ s. get_or s q v) e ∙ get_or-drop 3 source q v ∙ ap (λ k. get_or source k v) m)
 
 module _ {T : Type 0} (num : T → ℕ) (place : PlaneSlice T) (columns rows : ℕ) (stored : IsStoredFrom place columns rows) where
   abs_pos : (z : ℤ) (n m : ℕ) → pos 0 ≤ℤ z → (z +ℤ pos n) ≤ℤ pos m → unsigned_abs z + n ≤ m

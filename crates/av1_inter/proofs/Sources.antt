@@ -1,5 +1,5 @@
 -- All that is stored of a reference from a place on, read by rows.
-use Rattle.std.proofs.Common.{ℤ, pos, drop, ℕ, ◌-◌, ◌+◌, ◌*◌, ◌<◌, ◌≡◌, ◌∙◌, ap, sym, arith, List, length, map, get_or, slice_index}
+use Rattle.std.proofs.Common.{ℤ, pos, drop, ℕ, ◌-◌, ◌+◌, ◌*◌, ◌<◌, ◌≤◌, ◌≡◌, ◌∙◌, ap, sym, arith, List, length, map, get_or, slice_index}
 use Rattle.std.proofs.lemmas.Int.{ints}
 use Rattle.std.proofs.lemmas.List.{drop-map, get_or-drop, get_or-map}
 use Rattle.av1_frame.specs.declared.plane_slice.PlaneSlice.{PlaneSlice}
@@ -60,3 +60,17 @@ pub along_sum : {T : Type 0} (num : T → ℕ) (taps : List ℤ) (source line : 
     → round_shift (weighted taps (λ t. pos (slice_index (map num line) (q + t)))) (7 - n) ≡ round_shift (weighted taps (λ t. pos (slice_index (map num source) (start + (q + t))))) (7 - m)
 along_sum num taps source line start n m q e b =
     ap (λ z. round_shift z (7 - n)) (weighted_same taps _ _ (λ t l. ap pos (left_sample num source line start (q + t) e))) ∙ ap (λ (k : ℕ). round_shift (weighted taps (λ t. pos (slice_index (map num source) (start + (q + t))))) (7 - k)) b
+
+-- the rows that the taps for a strip read, in what is stored from its place on: where they end, and their samples
+pub strip_reaches : {T : Type 0} (place : PlaneSlice T) (w h : ℕ) (source : List T) (stride r : ℕ) → IsStoredFrom place (w + 7) (h + 7) → source ≡ all_from (slice_plane place) place.x place.y
+    → stride ≡ place.plane_cfg.now.stride → r < h + 7 → r * stride + (w + 7) ≤ length source
+strip_reaches place w h source stride r stored e f l =
+    let reach = source_reaches (λ _. 0) place (w + 7) (h + 7) stored source stride (w + 6) r e f l (omega arith) in
+    omega (arith, reach)
+
+pub strip_sample : {T : Type 0} (num : T → ℕ) (place : PlaneSlice T) (w h n : ℕ) (source : List T) (stride r c : ℕ) → IsStoredFrom place (w + 7) (h + 7) → w ≡ n → source ≡ all_from (slice_plane place) place.x place.y
+    → stride ≡ place.plane_cfg.now.stride → r < h + 7 → c < n + 7 → slice_index (map num source) (r * stride + c) ≡ samples_from num place c r
+strip_sample num place w h n source stride r c stored width e f l k =
+    ap (λ s. slice_index (map num source) (r * s + c)) f ∙ source_sample num place (w + 7) (h + 7) stored source c r e l (omega arith)
+
+pub ruleset strip_sources = (strip_reaches, strip_sample)

@@ -191,3 +191,11 @@ weighted_same taps f g h = sum_same 8 _ _ (λ t l. ap (λ u. entry taps t *ℤ u
 pub intermediate_same : (depth fraction : ℕ) (taps : List ℤ) (f g : ℕ → ℕ) (c d : ℕ) → ((t : ℕ) → t < 8 → f (c + t) ≡ g (d + t)) → intermediate_at depth fraction taps f c ≡ intermediate_at depth fraction taps g d
 intermediate_same depth zero taps f g c d h = ap (λ n. pos (n * 2 ^ intermediate_bits depth)) (h 3 (omega arith))
 intermediate_same depth (suc k) taps f g c d h = ap (λ z. round_shift z (7 - intermediate_bits depth)) (weighted_same taps _ _ (λ t l. ap pos (h t l)))
+
+-- a sum of eight small values by a filter's weights
+pub weighted_within : (taps : List ℤ) (value : ℕ → ℤ) (z : ℤ) → IsFilter taps → ((t : ℕ) → t < 8 → IsWithin (2 ^ 22) (value t)) → z ≡ weighted taps value → IsWithin (2 ^ 30) z
+weighted_within taps value z f h e = let P : ℤ → Type 0 = λ v. IsWithin 1073741824 v in subst P (sym e) (filter_small taps value 8 f (omega arith) h)
+
+-- the first t products of weights and values are summed
+abbrev pub IsSum : ℤ → ℕ → (weights values : List ℤ) → Type 0
+IsSum sum t weights values = sum ≡ sum_to t (λ i. entry weights i *ℤ entry values i)

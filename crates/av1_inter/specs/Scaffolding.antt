@@ -80,3 +80,7 @@ IsBeside start n i = (i < start) ⊎ (start + n ≤ i)
 -- how many columns a strip may have
 abbrev pub IsStripWidth : ℕ → Type 0
 IsStripWidth n = (n ≡ 32) ⊎ ((n ≡ 16) ⊎ ((n ≡ 8) ⊎ ((n ≡ 4) ⊎ (n ≡ 1))))
+
+-- the samples of a square of so many columns and rows, from a column and a row on
+abbrev pub square_at : (side x y : ℕ) → StoredArea
+square_at side x y = record { x = x; y = y; width = side; height = side }

@@ -12,7 +12,7 @@ ghost use Rattle.av1_blocks.specs.Depths.{IsDepth};
 ghost use Rattle.av1_inter.specs.Scaffolding.{doubled, IsFilter, IsInner, IsShort};
 
 use crate::lines::{filter_along, is_inner, sums_apart};
-use crate::mixed::{mixed_sums, put_mixed_sums};
+use crate::mixed::{mixed_halves, mixed_sums, put_mixed_sums};
 use crate::narrow::{half_sums, halves_for, put_column_sums, put_row_sums};
 use crate::put::put_row;
 use crate::rounding::intermediate_bits;
@@ -203,6 +203,7 @@ fn sum_wide_rows<T: Pixel, const N: usize>(
 
 /// A strip of samples of 8 bits that is filtered down its columns alone, by a filter for sides up to 4 where `SHORT` is true.
 #[inline(always)]
+#[tactic(auto, using(crate::proofs::Sources::strip_sources))]
 pub(crate) fn put_narrow_columns<T: Pixel, const N: usize, const SHORT: bool>(
     samples: &mut [T],
     stride: usize,
@@ -232,6 +233,7 @@ pub(crate) fn put_narrow_columns<T: Pixel, const N: usize, const SHORT: bool>(
 
 /// A strip of samples of 10 bits that is filtered down its columns alone, by a filter whose outer two weights are 0 where `INNER` is true.
 #[inline(never)]
+#[tactic(auto, using(crate::proofs::Sources::strip_sources))]
 fn put_mixed_columns_by<T: Pixel, const N: usize, const INNER: bool>(
     samples: &mut [T],
     stride: usize,
@@ -249,7 +251,7 @@ fn put_mixed_columns_by<T: Pixel, const N: usize, const INNER: bool>(
     requires within { AreWithinDepth 10 (samples_from T.num corner) (area.width + 7) (area.height + 7) }
     ensures { samples.new ≡ paint stride area (λ r c _. T.pixel (clip 10 (round_shift (down_samples down.now (samples_from T.num corner.entry) r c) 7))) samples.old }
 {
-    let halves = halves_for::<false>(down);
+    let halves = mixed_halves::<INNER>(down);
     sum_mixed_columns::<T, N, INNER>(
         samples,
         stride,
@@ -285,6 +287,7 @@ fn put_mixed_columns<T: Pixel, const N: usize>(
 }
 
 /// A strip of samples of any depth that is filtered down its columns alone.
+#[tactic(auto, using(crate::proofs::Sources::strip_sources))]
 fn put_wide_columns<T: Pixel, const N: usize>(
     samples: &mut [T],
     stride: usize,
@@ -344,6 +347,7 @@ pub(crate) fn put_columns_alone<T: Pixel, const N: usize>(
 
 /// A strip of samples of 8 bits that is filtered along its rows alone, by a filter for sides up to 4 where `SHORT` is true.
 #[inline(always)]
+#[tactic(auto, using(crate::proofs::Sources::strip_sources))]
 pub(crate) fn put_narrow_rows<T: Pixel, const N: usize, const SHORT: bool>(
     samples: &mut [T],
     stride: usize,
@@ -373,6 +377,7 @@ pub(crate) fn put_narrow_rows<T: Pixel, const N: usize, const SHORT: bool>(
 
 /// A strip of samples of 10 bits that is filtered along its rows alone, by a filter whose outer two weights are 0 where `INNER` is true.
 #[inline(never)]
+#[tactic(auto, using(crate::proofs::Sources::strip_sources))]
 fn put_mixed_rows_by<T: Pixel, const N: usize, const INNER: bool>(
     samples: &mut [T],
     stride: usize,
@@ -390,7 +395,7 @@ fn put_mixed_rows_by<T: Pixel, const N: usize, const INNER: bool>(
     requires within { AreWithinDepth 10 (samples_from T.num corner) (area.width + 7) (area.height + 7) }
     ensures { samples.new ≡ paint stride area (λ r c _. T.pixel (clip 10 (round_shift (round_shift (weighted across.now (λ t. pos (samples_from T.num corner.entry (c + t) (r + 3)))) 3) 4))) samples.old }
 {
-    let halves = halves_for::<false>(across);
+    let halves = mixed_halves::<INNER>(across);
     sum_mixed_rows::<T, N, INNER>(
         samples,
         stride,
@@ -426,6 +431,7 @@ fn put_mixed_rows<T: Pixel, const N: usize>(
 }
 
 /// A strip of samples of any depth that is filtered along its rows alone.
+#[tactic(auto, using(crate::proofs::Sources::strip_sources))]
 fn put_wide_rows<T: Pixel, const N: usize>(
     samples: &mut [T],
     stride: usize,

@@ -4,7 +4,7 @@
 //!
 //! AV1 specification: block inter prediction process, and the average of its two predictions.
 
-ghost use Rattle.std.specs.Prelude.{◌≡◌, ◌+◌, ◌*◌, ◌^◌, ◌≤◌, ◌<◌, pos, ◌+ℤ◌, ◌*ℤ◌, length};
+ghost use Rattle.std.specs.Prelude.{◌≡◌, false, ◌+◌, ◌*◌, ◌^◌, ◌≤◌, ◌<◌, pos, ◌+ℤ◌, ◌*ℤ◌, length};
 ghost use Rattle.std.specs.Int.{saturate_signed, w16};
 ghost use Rattle.av1_frame.specs.Areas.{AreRows};
 ghost use Rattle.av1_frame.specs.Samples.{paint, paint_row};
@@ -108,35 +108,37 @@ fn average_by_array<T: Pixel, const N: usize>(
     copy_each::<T, N>(row, &line);
 }
 
-/// The rectangle's samples become the averages of the values, which stand row by row.
-#[inline(never)]
-#[tactic(auto, using(av1_frame::proofs::Paint::rectangle_painting))]
-fn average_rows<T: Pixel, const N: usize>(
-    samples: &mut [T],
-    stride: usize,
-    area: StoredArea,
+/// The first `width` samples of the row become the averages of the values from `start` on, by an array of its own unless `ANY` is true:
+/// there are `N` of them then.
+#[inline(always)]
+fn average_row_of<T: Pixel, const N: usize, const ANY: bool>(
+    row: &mut [T],
     tmp1: &[i16],
     tmp2: &[i16],
+    start: usize,
+    width: usize,
     bit_depth: usize,
 )
-    requires rows { AreRows stride area (length samples.old) }
-    requires width { area.width ≡ N }
+    requires row_long { width ≤ length row.old }
+    requires width { ANY ≡ false → width ≡ N }
     requires short { N ≤ 128 }
-    requires first_long { area.height * area.width ≤ length tmp1.now }
-    requires second_long { area.height * area.width ≤ length tmp2.now }
+    requires first_long { start + width ≤ length tmp1.now }
+    requires second_long { start + width ≤ length tmp2.now }
     requires depths { IsDepth bit_depth }
     requires depth { bit_depth ≤ T.BITS }
-    ensures { samples.new ≡ paint stride area (λ r c _. T.pixel (averaged bit_depth (entry tmp1.now (r * area.width + c)) (entry tmp2.now (r * area.width + c)))) samples.old }
+    ensures { row.new ≡ paint_row width (λ c _. T.pixel (averaged bit_depth (entry tmp1.now (start + c)) (entry tmp2.now (start + c)))) row.old }
 {
-    for r in 0..area.height {
-        let (_, row) = samples.split_at_mut((area.y + r) * stride + area.x);
-        average_by_array::<T, N>(row, tmp1, tmp2, r * N, bit_depth);
+    if ANY {
+        average_row(row, tmp1, tmp2, start, width, bit_depth);
+    } else {
+        average_by_array::<T, N>(row, tmp1, tmp2, start, bit_depth);
     }
 }
 
-/// The same of a rectangle of any width.
+/// The rectangle's samples become the averages of the values, which stand row by row. It has `N` columns unless `ANY` is true.
+#[inline(never)]
 #[tactic(auto, using(av1_frame::proofs::Paint::rectangle_painting, av1_frame::proofs::Fits::row_end_le))]
-fn average_any<T: Pixel>(
+fn average_rows<T: Pixel, const N: usize, const ANY: bool>(
     samples: &mut [T],
     stride: usize,
     area: StoredArea,
@@ -145,6 +147,8 @@ fn average_any<T: Pixel>(
     bit_depth: usize,
 )
     requires rows { AreRows stride area (length samples.old) }
+    requires width { ANY ≡ false → area.width ≡ N }
+    requires short { N ≤ 128 }
     requires first_long { area.height * area.width ≤ length tmp1.now }
     requires second_long { area.height * area.width ≤ length tmp2.now }
     requires depths { IsDepth bit_depth }
@@ -154,7 +158,7 @@ fn average_any<T: Pixel>(
     let width = area.width;
     for r in 0..area.height {
         let (_, row) = samples.split_at_mut((area.y + r) * stride + area.x);
-        average_row(row, tmp1, tmp2, r * width, width, bit_depth);
+        average_row_of::<T, N, ANY>(row, tmp1, tmp2, r * width, width, bit_depth);
     }
 }
 
@@ -176,19 +180,19 @@ pub fn mc_avg_to<T: Pixel>(
     ensures { samples.new ≡ paint stride area (λ r c _. T.pixel (averaged bit_depth (entry tmp1.now (r * area.width + c)) (entry tmp2.now (r * area.width + c)))) samples.old }
 {
     if area.width == 4 {
-        average_rows::<T, 4>(samples, stride, area, tmp1, tmp2, bit_depth);
+        average_rows::<T, 4, false>(samples, stride, area, tmp1, tmp2, bit_depth);
     } else if area.width == 8 {
-        average_rows::<T, 8>(samples, stride, area, tmp1, tmp2, bit_depth);
+        average_rows::<T, 8, false>(samples, stride, area, tmp1, tmp2, bit_depth);
     } else if area.width == 16 {
-        average_rows::<T, 16>(samples, stride, area, tmp1, tmp2, bit_depth);
+        average_rows::<T, 16, false>(samples, stride, area, tmp1, tmp2, bit_depth);
     } else if area.width == 32 {
-        average_rows::<T, 32>(samples, stride, area, tmp1, tmp2, bit_depth);
+        average_rows::<T, 32, false>(samples, stride, area, tmp1, tmp2, bit_depth);
     } else if area.width == 64 {
-        average_rows::<T, 64>(samples, stride, area, tmp1, tmp2, bit_depth);
+        average_rows::<T, 64, false>(samples, stride, area, tmp1, tmp2, bit_depth);
     } else if area.width == 128 {
-        average_rows::<T, 128>(samples, stride, area, tmp1, tmp2, bit_depth);
+        average_rows::<T, 128, false>(samples, stride, area, tmp1, tmp2, bit_depth);
     } else {
-        average_any(samples, stride, area, tmp1, tmp2, bit_depth);
+        average_rows::<T, 0, true>(samples, stride, area, tmp1, tmp2, bit_depth);
     }
 }
 

@@ -6,9 +6,10 @@ ghost use Rattle.std.specs.Prelude.{◌≡◌, ℕ, ◌+◌, ◌*◌, ◌≤◌,
 ghost use Rattle.av1_frame.specs.Areas.{AreRows};
 ghost use Rattle.av1_frame.specs.Samples.{paint, paint_row};
 ghost use Rattle.av1_inter.specs.Places.{IsStoredFrom, samples_from};
+ghost use Rattle.av1_inter.specs.Scaffolding.{square_at};
 
-use crate::strip::{as_4x4, is_4x4};
-use av1_frame::{Pixel, PlaneSlice, StoredArea};
+use crate::strip::{is_4x4, is_8x8};
+use av1_frame::{Pixel, PlaneSlice, StoredArea, copy_row};
 
 /// The first `width` samples of the row become those of `source` from the fourth on.
 #[inline(always)]
@@ -17,7 +18,8 @@ fn copy_inner<T: Pixel>(row: &mut [T], source: &[T], width: usize)
     requires source_long { width + 3 ≤ length source.now }
     ensures { row.new ≡ paint_row width (λ c v. slice_index_or source.now (c + 3) v) row.old }
 {
-    row[..width].copy_from_slice(&source[3..3 + width]);
+    let (_, inner) = source.split_at(3);
+    copy_row(row, inner, width);
 }
 
 /// The rectangle's samples as they stand in the reference. The rows of `samples` stand `stride` apart.
@@ -108,21 +110,28 @@ fn put_samples_of<T: Pixel, const N: usize>(
     copy_rows::<T, N>(samples, stride, area, corner.samples(), corner.stride());
 }
 
-/// The same of a rectangle of 4x4 samples, whose rows are written out.
+/// The same of a square of `N` columns and rows from column `x` and row `y` on, which is written out.
 #[inline(always)]
-pub(crate) fn put_4x4<T: Pixel>(
+pub(crate) fn put_square_of<T: Pixel, const N: usize>(
     samples: &mut [T],
     stride: usize,
-    area: StoredArea,
+    x: usize,
+    y: usize,
     corner: PlaneSlice<'_, T>,
 )
-    requires rows { AreRows stride area (length samples.old) }
-    requires width { area.width ≡ 4 }
-    requires height { area.height ≡ 4 }
-    requires stored { IsStoredFrom corner (area.width + 7) (area.height + 7) }
-    ensures { samples.new ≡ paint stride area (λ r c _. T.pixel (samples_from T.num corner.entry (c + 3) (r + 3))) samples.old }
+    requires rows { AreRows stride (square_at N x y) (length samples.old) }
+    requires some { 0 < N }
+    requires short { N ≤ 128 }
+    requires stored { IsStoredFrom corner (N + 7) (N + 7) }
+    ensures { samples.new ≡ paint stride (square_at N x y) (λ r c _. T.pixel (samples_from T.num corner.entry (c + 3) (r + 3))) samples.old }
 {
-    put_samples_of::<T, 4>(samples, stride, as_4x4(area), corner);
+    let square = StoredArea {
+        x,
+        y,
+        width: N,
+        height: N,
+    };
+    put_samples_of::<T, N>(samples, stride, square, corner);
 }
 
 /// A rectangle that is not filtered.
@@ -138,7 +147,9 @@ pub(crate) fn put_copy<T: Pixel>(
     ensures { samples.new ≡ paint stride area (λ r c _. T.pixel (samples_from T.num corner.entry (c + 3) (r + 3))) samples.old }
 {
     if is_4x4(area) {
-        put_4x4(samples, stride, area, corner);
+        put_square_of::<T, 4>(samples, stride, area.x, area.y, corner);
+    } else if is_8x8(area) {
+        put_square_of::<T, 8>(samples, stride, area.x, area.y, corner);
     } else if area.width == 4 {
         put_samples_of::<T, 4>(samples, stride, area, corner);
     } else if area.width == 8 {

@@ -42,6 +42,7 @@ mod put;
 mod rounding;
 mod square;
 mod strip;
+mod taps;
 #[cfg(test)]
 mod tests;
 mod window;

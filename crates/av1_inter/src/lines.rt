@@ -21,8 +21,7 @@ use av1_frame::{Pixel, round_shift};
 fn weigh(taps: &[i32; SUBPEL_FILTER_SIZE], values: [i32; SUBPEL_FILTER_SIZE]) -> i32
     requires filter { IsFilter taps.now }
     requires within { (t : ℕ) → t < 8 → IsWithin (2 ^ 22) (entry values t) }
-    ensures value { result ≡ weighted taps.now (entry values) }
-    ensures within { IsWithin (2 ^ 30) result }
+    ensures { result ≡ weighted taps.now (entry values) }
 {
     let mut sum = 0;
     for t in 0..SUBPEL_FILTER_SIZE {
@@ -37,14 +36,32 @@ fn weigh_inner(taps: &[i32; SUBPEL_FILTER_SIZE], values: [i32; SUBPEL_FILTER_SIZ
     requires filter { IsFilter taps.now }
     requires inner { IsInner taps.now }
     requires within { (t : ℕ) → t < 8 → IsWithin (2 ^ 22) (entry values t) }
-    ensures value { result ≡ weighted taps.now (entry values) }
-    ensures within { IsWithin (2 ^ 30) result }
+    ensures { result ≡ weighted taps.now (entry values) }
 {
     let mut sum = 0;
     for t in 1..7 {
         sum += taps[t] * values[t];
     }
     sum
+}
+
+/// The same, by the inner weights alone where `INNER` is true.
+#[inline(always)]
+fn weigh_by<const INNER: bool>(
+    taps: &[i32; SUBPEL_FILTER_SIZE],
+    values: [i32; SUBPEL_FILTER_SIZE],
+) -> i32
+    requires filter { IsFilter taps.now }
+    requires inner { INNER ≡ true → IsInner taps.now }
+    requires within { (t : ℕ) → t < 8 → IsWithin (2 ^ 22) (entry values t) }
+    ensures value { result ≡ weighted taps.now (entry values) }
+    ensures within { IsWithin (2 ^ 30) result }
+{
+    if INNER {
+        weigh_inner(taps, values)
+    } else {
+        weigh(taps, values)
+    }
 }
 
 /// Whether the outer two weights are 0.
@@ -78,11 +95,7 @@ fn sum_along<T: Pixel, const INNER: bool>(
         row[c + 6].to_i32(),
         row[c + 7].to_i32(),
     ];
-    if INNER {
-        weigh_inner(taps, values)
-    } else {
-        weigh(taps, values)
-    }
+    weigh_by::<INNER>(taps, values)
 }
 
 /// The same of eight samples that stand `step` apart, as those of a column do.
@@ -109,11 +122,7 @@ fn sum_apart<T: Pixel, const INNER: bool>(
         row[c + 6 * step].to_i32(),
         row[c + 7 * step].to_i32(),
     ];
-    if INNER {
-        weigh_inner(taps, values)
-    } else {
-        weigh(taps, values)
-    }
+    weigh_by::<INNER>(taps, values)
 }
 
 /// Such sums from each of `N` places on.
@@ -185,11 +194,7 @@ fn sum_down<const N: usize, const INNER: bool>(
         rows[(y + 6) % 8][c],
         rows[(y + 7) % 8][c],
     ];
-    if INNER {
-        weigh_inner(taps, values)
-    } else {
-        weigh(taps, values)
-    }
+    weigh_by::<INNER>(taps, values)
 }
 
 /// The sums down the first `N` columns of the kept rows from row `y` on.

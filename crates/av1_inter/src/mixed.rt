@@ -12,7 +12,7 @@ ghost use Rattle.av1_frame.specs.Samples.{paint_row};
 ghost use Rattle.av1_inter.specs.Motion.{entry, weighted};
 ghost use Rattle.av1_inter.specs.Scaffolding.{Between, doubled, IsFilter, IsInner, IsWithin, outer};
 
-use crate::narrow::half_sums_by;
+use crate::narrow::{half_sums_by, halves_for};
 use crate::put::nearest_sample;
 use av1_blocks::SUBPEL_FILTER_SIZE;
 use av1_frame::Pixel;
@@ -25,6 +25,20 @@ fn outer_of(halves: &[i16; SUBPEL_FILTER_SIZE]) -> [i16; SUBPEL_FILTER_SIZE]
     [
         halves[0], halves[1], halves[2], 0, 0, halves[5], halves[6], halves[7],
     ]
+}
+
+/// Half of each weight of a filter.
+#[inline(always)]
+pub(crate) fn mixed_halves<const INNER: bool>(
+    taps: &[i32; SUBPEL_FILTER_SIZE],
+) -> [i16; SUBPEL_FILTER_SIZE]
+    requires filter { IsFilter taps.now }
+    requires inner { INNER ≡ true → IsInner taps.now }
+    ensures value { doubled result ≡ taps.now }
+    ensures filter { IsFilter (doubled result) }
+    ensures inner { INNER ≡ true → IsInner (doubled result) }
+{
+    halves_for::<false>(taps)
 }
 
 /// A sample times a halved weight.

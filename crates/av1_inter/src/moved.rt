@@ -50,6 +50,7 @@ fn moved_slice<T: Pixel>(plane: &Plane<T>, at: PlaneOffset, mv: MotionVector) ->
 }
 
 /// Predicts a block at `at` from one reference.
+#[tactic(auto, using(av1_frame::proofs::Slices::visible_below))]
 pub(crate) fn put_moved<T: Pixel>(
     dst: &mut PlaneRegionMut<'_, T>,
     plane: &Plane<T>,
@@ -81,6 +82,7 @@ pub(crate) fn put_moved<T: Pixel>(
 }
 
 /// Prepares a block at `at` from one of two references.
+#[tactic(auto, using(av1_frame::proofs::Slices::visible_below))]
 pub(crate) fn prepare_moved<T: Pixel>(
     tmp: &mut [i16],
     plane: &Plane<T>,

@@ -110,6 +110,25 @@ fn weigh_inner_halves<const GREATEST: usize>(
     sum
 }
 
+/// The same, by the inner weights alone where `INNER` is true.
+#[inline(always)]
+fn weigh_halves_by<const GREATEST: usize, const INNER: bool>(
+    halves: &[i16; SUBPEL_FILTER_SIZE],
+    values: [i16; SUBPEL_FILTER_SIZE],
+) -> i16
+    requires sums { SumsFit halves.now GREATEST }
+    requires small { GREATEST < 2 ^ 15 }
+    requires inner { INNER ≡ true → IsInner halves.now }
+    requires within { (t : ℕ) → t < 8 → Between 0 GREATEST (entry values t) }
+    ensures { result ≡ weighted halves.now (entry values) }
+{
+    if INNER {
+        weigh_inner_halves::<GREATEST>(halves, values)
+    } else {
+        weigh_halves::<GREATEST>(halves, values)
+    }
+}
+
 /// The sample at a place, which is at most `GREATEST`.
 #[inline(always)]
 fn short_at<T: Pixel, const GREATEST: usize>(samples: &[T], place: usize) -> i16
@@ -147,11 +166,7 @@ fn half_sum<T: Pixel, const GREATEST: usize, const INNER: bool>(
         short_at::<T, GREATEST>(samples, start + 6 * step),
         short_at::<T, GREATEST>(samples, start + 7 * step),
     ];
-    if INNER {
-        weigh_inner_halves::<GREATEST>(halves, values)
-    } else {
-        weigh_halves::<GREATEST>(halves, values)
-    }
+    weigh_halves_by::<GREATEST, INNER>(halves, values)
 }
 
 /// Such sums from each of `N` places on.

@@ -15,6 +15,7 @@ use crate::filter::{Filter, get_filter};
 use crate::lines::{filter_horizontal, sums_apart};
 use crate::rounding::{intermediate_bits, prep_bias};
 use crate::strip::{is_one_strip, strip_width};
+use crate::taps::{taps_of_block, taps_of_strip};
 use crate::window::{keep_first_rows, next_sums};
 use av1_blocks::{FilterMode, SUBPEL_FILTER_SIZE};
 use av1_frame::{Pixel, PlaneSlice, round_shift};
@@ -299,7 +300,7 @@ fn prepare_strip<T: Pixel>(
     ensures value { (r c : ℕ) → r < height → c < columns → entry tmp.new (r * width + start + c) ≡ prepared bit_depth across.now.fraction down.now.fraction across.now.taps down.now.taps (samples_from T.num corner.entry) r (start + c) }
     ensures others { (i : ℕ) → ((r : ℕ) → r < height → IsBeside (r * width + start) columns i) → entry tmp.new i ≡ entry tmp.old i }
 {
-    let place = corner.subslice(start, 0);
+    let place = taps_of_strip(corner, start);
     prepare_columns_of(
         tmp, place, start, columns, width, height, across, down, bit_depth,
     );
@@ -338,6 +339,37 @@ fn prepare_strips<T: Pixel>(
     }
 }
 
+/// A block, at once where it is one strip.
+#[inline(always)]
+fn prepare_whole<T: Pixel>(
+    tmp: &mut [i16],
+    corner: PlaneSlice<'_, T>,
+    width: usize,
+    height: usize,
+    across: &Filter,
+    down: &Filter,
+    bit_depth: usize,
+)
+    requires across_filter { IsFilter across.now.taps }
+    requires down_filter { IsFilter down.now.taps }
+    requires tmp_long { height * width ≤ length tmp.old }
+    requires wide { width ≤ 128 }
+    requires low { height ≤ 128 }
+    requires stored { IsStoredFrom corner (width + 7) (height + 7) }
+    requires depths { IsDepth bit_depth }
+    requires within { AreWithinDepth bit_depth (samples_from T.num corner) (width + 7) (height + 7) }
+    ensures value { (r c : ℕ) → r < height → c < width → entry tmp.new (r * width + c) ≡ prepared bit_depth across.now.fraction down.now.fraction across.now.taps down.now.taps (samples_from T.num corner.entry) r c }
+    ensures others { (i : ℕ) → height * width ≤ i → entry tmp.new i ≡ entry tmp.old i }
+{
+    if is_one_strip(width) {
+        prepare_columns_of(
+            tmp, corner, 0, width, width, height, across, down, bit_depth,
+        );
+    } else {
+        prepare_strips(tmp, corner, width, height, across, down, bit_depth);
+    }
+}
+
 /// Prepares a block for the average with another: entry `r * width + c` of `tmp` becomes the value for row r and column c of the block
 /// at its place from `src` on, moved right by `col_frac` and down by `row_frac` sixteenths of a sample. It keeps more bits than a
 /// sample, and is moved down by a bias where the depth is over 8, so that it fits 16 bits. All other entries stay.
@@ -368,12 +400,6 @@ pub fn prep_8tap<T: Pixel>(
 {
     let across = get_filter(mode_x, col_frac, width);
     let down = get_filter(mode_y, row_frac, height);
-    let corner = src.go_left(3).go_up(3);
-    if is_one_strip(width) {
-        prepare_columns_of(
-            tmp, corner, 0, width, width, height, &across, &down, bit_depth,
-        );
-    } else {
-        prepare_strips(tmp, corner, width, height, &across, &down, bit_depth);
-    }
+    let corner = taps_of_block(src);
+    prepare_whole(tmp, corner, width, height, &across, &down, bit_depth);
 }

@@ -20,6 +20,7 @@ use crate::lines::filter_horizontal;
 use crate::rounding::{greatest, intermediate_bits};
 use crate::square::{is_square, put_square};
 use crate::strip::{is_one_strip, strip_width};
+use crate::taps::{taps_of_block, taps_of_strip};
 use crate::window::{keep_first_rows, next_sums};
 use av1_blocks::{FilterMode, SUBPEL_FILTER_SIZE};
 use av1_frame::{Pixel, PlaneRegionMut, PlaneSlice, StoredArea, round_shift};
@@ -251,7 +252,7 @@ fn put_strip<T: Pixel>(
         width: columns,
         height: area.height,
     };
-    let place = corner.subslice(start, 0);
+    let place = taps_of_strip(corner, start);
     put_columns_of(samples, stride, strip, place, across, down, bit_depth);
 }
 
@@ -344,10 +345,10 @@ pub fn put_8tap_to<T: Pixel>(
     ensures { samples.new ≡ paint stride area (λ r c _. T.pixel
         (single bit_depth (unsigned_abs col_frac) (unsigned_abs row_frac) (filter_of mode_x (unsigned_abs col_frac) area.width) (filter_of mode_y (unsigned_abs row_frac) area.height) (samples_from T.num (corner_of src.entry)) r c)) samples.old }
 {
-    let corner = src.go_left(3).go_up(3);
+    let corner = taps_of_block(src);
     if is_square(area, bit_depth) {
         put_square(
-            samples, stride, area, corner, mode_x, mode_y, col_frac, row_frac,
+            samples, stride, area.x, area.y, corner, mode_x, mode_y, col_frac, row_frac,
         );
     } else if col_frac == 0 && row_frac == 0 {
         put_copy(samples, stride, area, corner);

@@ -1,4 +1,4 @@
-//! The strips of columns in which a block is interpolated, and blocks of 4x4 samples.
+//! The strips of columns in which a block is interpolated, and blocks of 4x4 and of 8x8 samples.
 
 ghost use Rattle.std.specs.Prelude.{◌≡◌, true, ◌≤◌, ◌<◌};
 ghost use Rattle.av1_inter.specs.Scaffolding.{IsStripWidth};
@@ -41,17 +41,11 @@ pub(crate) fn is_4x4(area: StoredArea) -> bool
     area.width == 4 && area.height == 4
 }
 
-/// Such a rectangle. The compiler knows the sides of what is returned.
+/// Whether a rectangle has 8x8 samples.
 #[inline(always)]
-pub(crate) fn as_4x4(area: StoredArea) -> StoredArea
-    requires width { area.width ≡ 4 }
-    requires height { area.height ≡ 4 }
-    ensures { result ≡ area }
+pub(crate) fn is_8x8(area: StoredArea) -> bool
+    ensures width { result ≡ true → area.width ≡ 8 }
+    ensures height { result ≡ true → area.height ≡ 8 }
 {
-    StoredArea {
-        x: area.x,
-        y: area.y,
-        width: 4,
-        height: 4,
-    }
+    area.width == 8 && area.height == 8
 }

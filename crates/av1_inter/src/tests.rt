@@ -1,13 +1,15 @@
 //! Worked samples, and answers of rav1e's own functions to the same calls.
 
-ghost use Rattle.std.specs.Prelude.{◌≡◌, ℕ, ◌^◌, ◌≤◌, ◌<◌, pos, ◌≤ℤ◌, ◌<ℤ◌, length, map, slice_index, All, IfOk, true};
+ghost use Rattle.std.specs.Prelude.{◌≡◌, ℕ, ◌+◌, ◌^◌, ◌≤◌, ◌<◌, pos, ◌≤ℤ◌, ◌<ℤ◌, length, map, slice_index, All, IfOk, true};
+ghost use Rattle.av1_frame.specs.Planes.{plain_config};
 ghost use Rattle.av1_frame.specs.Regions.{InStorage};
+ghost use Rattle.av1_inter.specs.Places.{AreWithinDepth, corner_of, samples_from};
 ghost use Rattle.av1_blocks.specs.Depths.{IsDepth};
 ghost use Rattle.av1_inter.specs.Reference.{is_reference, IsReference, IsServed};
 
 use crate::{InterCompoundBuffers, mc_avg, predict_inter, prep_8tap, put_8tap};
 use av1_blocks::{FilterMode, MotionVector, OutOfMemory, PredictionMode, RefType};
-use av1_frame::{FrameInvariants, Pixel, Plane, PlaneOffset, PlaneRegionMut, TileRect};
+use av1_frame::{FrameInvariants, Pixel, Plane, PlaneOffset, PlaneRegionMut, PlaneSlice, TileRect};
 use std::alloc::Global;
 use std::test::Fail;
 
@@ -95,6 +97,19 @@ const BILINEAR: FilterMode = FilterMode::BILINEAR;
 
 const SWITCHABLE: FilterMode = FilterMode::SWITCHABLE;
 
+/// The block at column 3 and row 3 of a plane.
+fn block_of<T: Pixel>(reference: &Plane<T>) -> PlaneSlice<'_, T>
+    ensures samples { result.samples.now ≡ reference.now.samples }
+    ensures cfg { result.plane_cfg.now ≡ reference.now.plane_cfg }
+    ensures x { result.x ≡ pos 3 }
+    ensures y { result.y ≡ pos 3 }
+    ensures within { (samples : _) (rows depth width height : ℕ) → reference.now.plane_cfg ≡ plain_config 16 rows → reference.now.samples ≡ samples
+        → ((k : ℕ) → k < 256 → slice_index (map T.num samples) k < 2 ^ depth) → width ≤ 8 → height ≤ 8
+        → AreWithinDepth depth (samples_from T.num (corner_of result)) (width + 7) (height + 7) }
+{
+    reference.slice(PlaneOffset { x: 3, y: 3 })
+}
+
 /// How a block of at most 8x8 samples is interpolated.
 #[derive(Clone, Copy)]
 struct Motion {
@@ -127,7 +142,7 @@ fn put_case<T: Pixel>(
     let reference = Plane::from_slice(alloc, samples, 16)?;
     let mut plane = Plane::from_slice(alloc, blank, 9)?;
     let mut dst = plane.as_region_mut();
-    let src = reference.slice(PlaneOffset { x: 3, y: 3 });
+    let src = block_of(&reference);
     put_8tap(
         &mut dst,
         src,
@@ -159,7 +174,7 @@ fn prepared<T: Pixel>(
 {
     let reference = Plane::from_slice(alloc, samples, 16)?;
     let mut tmp = [7; 65];
-    let src = reference.slice(PlaneOffset { x: 3, y: 3 });
+    let src = block_of(&reference);
     prep_8tap(
         &mut tmp,
         src,
@@ -379,19 +394,12 @@ fn average_at_depth_10(rt: HostRuntime) -> Result<(), Fail> {
     Ok(())
 }
 
-/// The sample where `k` is 53, the one at column 5 of row 3, and 0 elsewhere.
-fn only_at_53(k: usize, sample: u8) -> u8 {
-    if k == 53 { sample } else { 0 }
-}
-
-/// 16 rows of 16 samples, of which one is not 0.
+/// 16 rows of 16 samples, of which the one at column 5 of row 3 alone is not 0.
 fn one_sample(sample: u8) -> [u8; 256]
     ensures { (k : ℕ) → k < 256 → slice_index result k < 2 ^ 8 }
 {
     let mut samples = [0; 256];
-    for k in 0..256 {
-        samples[k] = only_at_53(k, sample);
-    }
+    samples[53] = sample;
     samples
 }
 

@@ -10,7 +10,7 @@ ghost use Rattle.av1_frame.specs.Samples.{paint};
 ghost use Rattle.av1_frame.specs.Regions.{InStorage, painted};
 ghost use Rattle.av1_intra.specs.Sides.{numbers};
 ghost use Rattle.av1_intra.specs.Neighbours.{uses_smooth_filter};
-ghost use Rattle.av1_intra.specs.Angles.{is_interpolated};
+ghost use Rattle.av1_intra.specs.Angles.{derivative, is_interpolated};
 ghost use Rattle.av1_intra.specs.Directional.{block_at, directional};
 
 use crate::angle::dr_intra_derivative;
@@ -109,6 +109,17 @@ fn directional_between<T: Pixel>(
     );
 }
 
+/// How far down a line of an angle past 180 leads for each column, in 64ths of a sample.
+fn derivative_past_180(p_angle: usize) -> usize
+    requires angle { IsTrue (is_interpolated p_angle) }
+    requires range { 180 < p_angle }
+    ensures value { result ≡ derivative (270 - p_angle) }
+    ensures small { result ≤ 40 }
+    ensures few { p_angle < 213 }
+{
+    dr_intra_derivative(270 - p_angle)
+}
+
 /// The samples of an angle past 180.
 fn directional_past_180<T: Pixel>(
     samples: &mut [T],
@@ -129,7 +140,7 @@ fn directional_past_180<T: Pixel>(
     requires depth { block.bit_depth ≤ T.BITS }
     ensures { (above : List ℕ) → samples.new ≡ paint stride area (λ i j _. T.pixel (directional block (T.num corner) above (reverse (map T.num left.now)) i j)) samples.old }
 {
-    let dy = dr_intra_derivative(270 - block.p_angle);
+    let dy = derivative_past_180(block.p_angle);
     let places = block.height + block.width;
     let smoothed = block.height.min(block.visible_rows) + block.width;
     let mut side = PreparedSide::empty();

@@ -15,7 +15,7 @@ ghost use Rattle.av1_intra.specs.ChromaFromLuma.{covered, two_rows, luma_at, lum
 
 use crate::samples::number_at;
 use av1_blocks::{BlockSize, TxSize};
-use av1_frame::{Area, Pixel, PlaneRegion};
+use av1_frame::{Area, Pixel, PlaneRegion, fill_row};
 
 /// A leaf whose chroma is predicted from its luma.
 #[derive(Clone, Copy, Debug)]
@@ -103,14 +103,12 @@ fn luma_row<T: Pixel, const XDEC: usize, const YDEC: usize>(
     ensures { row.new ≡ paint_row width (λ c _. pos (covered (two_rows T.num top.now below.now) XDEC YDEC (min (c * 2 ^ XDEC) last_column) 0)) row.old }
 {
     let own = width.min((last_column >> XDEC) + 1);
-    'own: for c in 0..own {
+    for c in 0..own {
         row[c] = luma_over::<T, XDEC, YDEC>(top, below, c << XDEC);
     }
     if own < width {
         let last = luma_over::<T, XDEC, YDEC>(top, below, last_column);
-        'repeated: for c in own..width {
-            row[c] = last;
-        }
+        fill_row(&mut row[own..width], last, width - own);
     }
 }
 

@@ -13,10 +13,9 @@ fn samples(alloc: Global) -> Result<Vec<u8>, AllocError>
     ensures whole { IfOk result (λ v. vec_len v ≡ 64) }
     ensures small { IfOk result (λ v. All (λ s. s < 256) v.items) }
 {
-    let mut samples = Vec::with_capacity(alloc, 64)?;
-    for i in 0..64u32 {
-        samples.push(if i < 16 { 0 } else { 10 })?;
-    }
+    let mut samples = Vec::new(alloc);
+    samples.resize(16, 0)?;
+    samples.resize(64, 10)?;
     Ok(samples)
 }
 

@@ -2,12 +2,7 @@ use Rattle.std.proofs.Common.{arith, ap, ◌∙◌, ◌-◌}
 use Rattle.std.proofs.lemmas.Bool.Decides.{nat_tests}
 use Rattle.av1_lists.proofs.Lists.{numbers_are}
 use Rattle.av1_edges.proofs.Samples.{cut_shown}
-use Rattle.av1_frame.proofs.Depths.{half_below}
 use Rattle.av1_edges.proofs.fill.fill_above.Goals as goal
-
-pub from_u32-requires : goal.from_u32-requires
-from_u32-requires g c =
-    let r = c.base.ensures in omega (arith, half_below _ _ _ r.room r.some c.requires.depth)
 
 pub returns-then-y-gt0 : goal.returns-then-y-gt0
 returns-then-y-gt0 g c =
@@ -22,4 +17,4 @@ returns-then-x-gt0 g c =
 pub returns-else-x-gt0 : goal.returns-else-x-gt0
 returns-else-x-gt0 g c =
     let n = g.T.Pixel.num in
-    numbers_are n _ _ _ (omega arith) (λ k d h. ap n (c.fill_with-else-x-gt0.ensures k d (omega arith)) ∙ ap n c.from_u32.ensures ∙ (g.met.T.Pixel.num_of_pixel _ ∙ grind (arith, nat_tests, c.base.ensures.value)))
+    numbers_are n _ _ _ (omega arith) (λ k d h. ap n (c.fill_with-else-x-gt0.ensures k d (omega arith)) ∙ c.middle_sample.ensures ∙ grind (arith, nat_tests))

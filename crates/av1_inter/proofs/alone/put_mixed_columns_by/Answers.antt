@@ -1,30 +1,12 @@
-use Rattle.std.proofs.Common.{arith, ◌∙◌, ◌+◌, ◌*◌, ◌<◌, ap, subst, sym, map, pos, slice_index, ℕ}
+use Rattle.std.proofs.Common.{arith, ◌∙◌, ◌+◌, ◌*◌, ap, map, pos, slice_index}
 use Rattle.av1_frame.specs.Arithmetic.{clip, round_shift}
 use Rattle.av1_frame.proofs.Paint.{paint_same}
-use Rattle.av1_inter.specs.Scaffolding.{IsFilter, IsInner}
 use Rattle.av1_inter.proofs.OuterSums.{doubled_same}
-use Rattle.av1_inter.proofs.Sources.{source_reaches, source_sample}
+use Rattle.av1_inter.proofs.Sources.{source_sample}
 use Rattle.av1_inter.proofs.alone.put_mixed_columns_by.Goals as goal
-
-pub sum_mixed_columns-requires-clause-filter : goal.sum_mixed_columns-requires-clause-filter
-sum_mixed_columns-requires-clause-filter g c = subst IsFilter (sym c.halves_for-halves.ensures) c.requires.filter
-
-pub sum_mixed_columns-requires-clause-inner : goal.sum_mixed_columns-requires-clause-inner
-sum_mixed_columns-requires-clause-inner g c = λ e. subst IsInner (sym c.halves_for-halves.ensures) (c.requires.inner e)
-
-pub sum_mixed_columns-requires-clause-reach : goal.sum_mixed_columns-requires-clause-reach
-sum_mixed_columns-requires-clause-reach g c = λ r h.
-    let reach = source_reaches g.T.Pixel.num c.args.corner _ _ c.requires.stored c.samples.result.now c.stride.result (g.row.N + 6) r c.samples.ensures c.stride.ensures (omega (arith, h)) (omega (arith, c.requires.width)) in
-    omega (arith, reach)
-
-pub sum_mixed_columns-requires-clause-within : goal.sum_mixed_columns-requires-clause-within
-sum_mixed_columns-requires-clause-within g c = λ r q h l.
-    subst (λ (n : ℕ). n < 1024)
-    (sym (ap (λ s. slice_index (map g.T.Pixel.num c.samples.result.now) (r * s + q)) c.stride.ensures ∙ source_sample g.T.Pixel.num c.args.corner _ _ c.requires.stored c.samples.result.now q r c.samples.ensures (omega (arith, h)) (omega (arith, l, c.requires.width))))
-    (c.requires.within q r (omega (arith, l, c.requires.width)) (omega (arith, h)))
 
 pub returns : goal.returns
 returns g c =
     c.sum_mixed_columns.ensures ∙ paint_same c.args.stride c.args.area _ _ c.args.samples.now
-    (λ q p v h l. ap (λ z. g.T.Pixel.pixel (clip 10 (round_shift z 7))) (doubled_same c.halves_for-halves.result c.args.down.now _ _ c.halves_for-halves.ensures (λ t k. ap pos (ap (λ s. slice_index (map g.T.Pixel.num c.samples.result.now) ((q + t) * s + (p + 3))) c.stride.ensures
+    (λ q p v h l. ap (λ z. g.T.Pixel.pixel (clip 10 (round_shift z 7))) (doubled_same c.mixed_halves-halves.result c.args.down.now _ _ c.mixed_halves-halves.ensures.value (λ t k. ap pos (ap (λ s. slice_index (map g.T.Pixel.num c.samples.result.now) ((q + t) * s + (p + 3))) c.stride.ensures
     ∙ source_sample g.T.Pixel.num c.args.corner _ _ c.requires.stored c.samples.result.now (p + 3) (q + t) c.samples.ensures (omega arith) (omega arith)))))

@@ -13,39 +13,20 @@ values_of rows y q =
     (of_z w32 (entry (kept rows (y + 3)) q)) ∷ to_z w32 (of_z w32 (entry (kept rows (y + 4)) q)) ∷ to_z w32 (of_z w32 (entry (kept rows (y + 5)) q)) ∷ to_z w32
     (of_z w32 (entry (kept rows (y + 6)) q)) ∷ to_z w32 (of_z w32 (entry (kept rows (y + 7)) q)) ∷ []
 
-pub weigh_inner-requires-clause-within : goal.weigh_inner-requires-clause-within
-weigh_inner-requires-clause-within g c =
+pub weigh_by-requires-clause-within : goal.weigh_by-requires-clause-within
+weigh_by-requires-clause-within g c =
     let small = λ (t : ℕ) (l : t < 8). read_small _ (c.requires.within t l) in
     let first : c.args.y + 0 ≡ c.args.y = omega arith in
     each_of_eight (λ t. IsWithin 4194304 (entry (values_of c.args.rows.now c.args.y c.args.c) t))
     (subst (λ (n : ℕ). IsWithin 4194304 (to_z w32 (of_z w32 (entry (kept c.args.rows.now n) c.args.c)))) first (small 0 (omega arith))) (small 1 (omega arith)) (small 2 (omega arith))
     (small 3 (omega arith)) (small 4 (omega arith)) (small 5 (omega arith)) (small 6 (omega arith)) (small 7 (omega arith))
 
-pub weigh-requires-clause-within : goal.weigh-requires-clause-within
-weigh-requires-clause-within g c =
-    let small = λ (t : ℕ) (l : t < 8). read_small _ (c.requires.within t l) in
-    let first : c.args.y + 0 ≡ c.args.y = omega arith in
-    each_of_eight (λ t. IsWithin 4194304 (entry (values_of c.args.rows.now c.args.y c.args.c) t))
-    (subst (λ (n : ℕ). IsWithin 4194304 (to_z w32 (of_z w32 (entry (kept c.args.rows.now n) c.args.c)))) first (small 0 (omega arith))) (small 1 (omega arith)) (small 2 (omega arith))
-    (small 3 (omega arith)) (small 4 (omega arith)) (small 5 (omega arith)) (small 6 (omega arith)) (small 7 (omega arith))
-
-pub returns-then-this-ne0-clause-value : goal.returns-then-this-ne0-clause-value
-returns-then-this-ne0-clause-value g c =
-    let s : FitsSigned w32 c.weigh_inner.result = search rules in
+pub returns-clause-value : goal.returns-clause-value
+returns-clause-value g c =
+    let s : FitsSigned w32 c.weigh_by.result = search rules in
     let is = λ (t : ℕ) (l : t < 8). read_is _ (c.requires.within t l) in
     let first : c.args.y ≡ c.args.y + 0 = omega arith in
-    to_z-of_z w32 _ s ∙ c.weigh_inner.ensures.value
-    ∙ weighted_same c.args.taps.now (entry (values_of c.args.rows.now c.args.y c.args.c)) (λ t. entry (kept c.args.rows.now (c.args.y + t)) c.args.c)
-    (each_of_eight (λ t. entry (values_of c.args.rows.now c.args.y c.args.c) t ≡ entry (kept c.args.rows.now (c.args.y + t)) c.args.c)
-    (ap (λ n. to_z w32 (of_z w32 (entry (kept c.args.rows.now n) c.args.c))) first ∙ is 0 (omega arith)) (is 1 (omega arith)) (is 2 (omega arith)) (is 3 (omega arith)) (is 4 (omega arith))
-    (is 5 (omega arith)) (is 6 (omega arith)) (is 7 (omega arith)))
-
-pub returns-else-this-ne0-clause-value : goal.returns-else-this-ne0-clause-value
-returns-else-this-ne0-clause-value g c =
-    let s : FitsSigned w32 c.weigh.result = search rules in
-    let is = λ (t : ℕ) (l : t < 8). read_is _ (c.requires.within t l) in
-    let first : c.args.y ≡ c.args.y + 0 = omega arith in
-    to_z-of_z w32 _ s ∙ c.weigh.ensures.value
+    to_z-of_z w32 _ s ∙ c.weigh_by.ensures.value
     ∙ weighted_same c.args.taps.now (entry (values_of c.args.rows.now c.args.y c.args.c)) (λ t. entry (kept c.args.rows.now (c.args.y + t)) c.args.c)
     (each_of_eight (λ t. entry (values_of c.args.rows.now c.args.y c.args.c) t ≡ entry (kept c.args.rows.now (c.args.y + t)) c.args.c)
     (ap (λ n. to_z w32 (of_z w32 (entry (kept c.args.rows.now n) c.args.c))) first ∙ is 0 (omega arith)) (is 1 (omega arith)) (is 2 (omega arith)) (is 3 (omega arith)) (is 4 (omega arith))

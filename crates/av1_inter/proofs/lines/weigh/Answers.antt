@@ -1,8 +1,7 @@
-use Rattle.std.proofs.Common.{arith, rules, ◌*ℤ◌, sym, subst, w32, FitsSigned, ℤ}
+use Rattle.std.proofs.Common.{rules, ◌*ℤ◌, sym, w32, FitsSigned}
 use Rattle.std.proofs.lemmas.Int.{to_z-of_z}
 use Rattle.av1_inter.specs.Motion.{entry}
-use Rattle.av1_inter.specs.Scaffolding.{IsWithin}
-use Rattle.av1_inter.proofs.Sums.{filter_small, next_fits, next_is, product_fits, product_stored, sum_none}
+use Rattle.av1_inter.proofs.Sums.{next_fits, next_is, product_fits, product_stored, sum_none}
 use Rattle.av1_inter.proofs.lines.weigh.Goals as goal
 
 pub loop-t-init : goal.loop-t-init
@@ -26,8 +25,3 @@ loop-t-preserved c =
     let f : FitsSigned w32 (entry c.args.taps.now t) = search rules in
     let p = product_stored c.args.taps.now t (entry c.args.values t) c.requires.filter c.loop-t-test.true f (c.requires.within t c.loop-t-test.true) in
     next_is (λ i. entry c.args.taps.now i *ℤ entry c.args.values i) t _ _ _ (to_z-of_z w32 _ (next_fits c.args.taps.now (entry c.args.values) t _ _ c.requires.filter c.loop-t-test.true c.requires.within c.loop-t.invariant p)) c.loop-t.invariant p
-
-pub returns-clause-within : goal.returns-clause-within
-returns-clause-within c =
-    let P : ℤ → Type 0 = λ z. IsWithin 1073741824 z in
-    subst P (sym c.loop-t.invariant) (filter_small c.args.taps.now (entry c.args.values) c.loop-t.t c.requires.filter (omega arith) c.requires.within)

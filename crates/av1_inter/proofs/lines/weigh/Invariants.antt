@@ -1,6 +1,5 @@
-use Rattle.std.proofs.Common.{◌≡◌, ◌*ℤ◌}
-use Rattle.av1_inter.specs.Motion.{entry, sum_to}
+use Rattle.av1_inter.proofs.Sums.{IsSum}
 use Rattle.av1_inter.proofs.lines.weigh.Given as goal
 
 abbrev pub invariant-loop-t : goal.invariant-loop-t
-invariant-loop-t l = l.sum ≡ sum_to l.t (λ t. entry l.taps t *ℤ entry l.values t)
+invariant-loop-t l = IsSum l.sum l.t l.taps l.values

@@ -1,8 +1,7 @@
-use Rattle.std.proofs.Common.{arith, rules, ◌≡◌, ◌<◌, ◌*ℤ◌, ◌∙◌, ap, sym, subst, w32, FitsSigned, ℤ}
+use Rattle.std.proofs.Common.{arith, rules, ◌≡◌, ◌<◌, ◌*ℤ◌, ◌∙◌, ap, sym, w32, FitsSigned}
 use Rattle.std.proofs.lemmas.Int.{to_z-of_z}
 use Rattle.av1_inter.specs.Motion.{entry, sum_to}
-use Rattle.av1_inter.specs.Scaffolding.{IsWithin}
-use Rattle.av1_inter.proofs.Sums.{filter_small, next_fits, next_is, product_fits, product_stored, sum_first, sum_last}
+use Rattle.av1_inter.proofs.Sums.{next_fits, next_is, product_fits, product_stored, sum_first, sum_last}
 use Rattle.av1_inter.proofs.lines.weigh_inner.Goals as goal
 
 pub loop-t-init : goal.loop-t-init
@@ -28,12 +27,7 @@ loop-t-preserved c =
     let p = product_stored c.args.taps.now t (entry c.args.values t) c.requires.filter (let l : c.loop-t.t < 8 = omega arith in l) f (c.requires.within t (let l : c.loop-t.t < 8 = omega arith in l)) in
     next_is (λ i. entry c.args.taps.now i *ℤ entry c.args.values i) t _ _ _ (to_z-of_z w32 _ (next_fits c.args.taps.now (entry c.args.values) t _ _ c.requires.filter (let l : c.loop-t.t < 8 = omega arith in l) c.requires.within c.loop-t.invariant p)) c.loop-t.invariant p
 
-pub returns-clause-value : goal.returns-clause-value
-returns-clause-value c =
+pub returns : goal.returns
+returns c =
     let e : c.loop-t.t ≡ 7 = omega arith in
     sum_last c.args.taps.now (entry c.args.values) c.requires.inner _ (c.loop-t.invariant ∙ ap (λ n. sum_to n (λ t. entry c.args.taps.now t *ℤ entry c.args.values t)) e)
-
-pub returns-clause-within : goal.returns-clause-within
-returns-clause-within c =
-    let P : ℤ → Type 0 = λ z. IsWithin 1073741824 z in
-    subst P (sym c.loop-t.invariant) (filter_small c.args.taps.now (entry c.args.values) c.loop-t.t c.requires.filter (omega arith) c.requires.within)

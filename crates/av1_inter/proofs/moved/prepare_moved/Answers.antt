@@ -1,14 +1,9 @@
-use Rattle.std.proofs.Common.{arith, rules, ap, ◌≡◌, ◌∙◌, sym, subst, ℕ, ◌^◌, ◌<◌, w16, w32, FitsSigned}
+use Rattle.std.proofs.Common.{arith, rules, ap, ◌≡◌, ◌∙◌, w16, w32, FitsSigned}
 use Rattle.av1_frame.specs.declared.plane.PlaneConfig.{PlaneConfig}
 use Rattle.av1_inter.specs.Places.{corner_of, samples_from}
 use Rattle.av1_inter.specs.Reference.{moved}
-use Rattle.av1_inter.proofs.Vectors.{fraction_is, moved_within, prepared_is}
+use Rattle.av1_inter.proofs.Vectors.{fraction_is, prepared_is}
 use Rattle.av1_inter.proofs.moved.prepare_moved.Goals as goal
-
-pub prep_8tap-requires-clause-within : goal.prep_8tap-requires-clause-within
-prep_8tap-requires-clause-within g c = λ x y h k.
-    subst (λ (n : ℕ). n < 2 ^ c.args.bit_depth) (sym (c.moved_slice-src.ensures.samples x y (omega (arith, c.requires.reference.xpad)) (omega (arith, c.requires.reference.ypad))))
-    (moved_within g.T.Pixel.num c.args.plane.now c.args.bit_depth c.args.width c.args.height c.requires.reference c.args.at.x c.args.at.y c.args.mv x y)
 
 pub returns : goal.returns
 returns g c = λ r q l h.

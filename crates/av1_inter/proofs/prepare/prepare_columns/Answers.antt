@@ -2,7 +2,7 @@ use Rattle.std.proofs.Common.{arith, ◌-ℤ◌, ◌∙◌, ap, ℤ, sym, subst,
 use Rattle.av1_frame.specs.Arithmetic.{round_shift}
 use Rattle.av1_inter.specs.Motion.{bias}
 use Rattle.av1_inter.specs.Places.{samples_from}
-use Rattle.av1_inter.proofs.Fill.{row_end, strip_all, strip_more, strip_none}
+use Rattle.av1_inter.proofs.Fill.{all_done, all_rest, row_end, strip_more, strip_none}
 use Rattle.av1_inter.proofs.Reach.{down_fits}
 use Rattle.av1_inter.proofs.prepare.prepare_columns.Goals as goal
 
@@ -38,7 +38,7 @@ loop-r-preserved g c = record {
 }
 
 pub returns-clause-value : goal.returns-clause-value
-returns-clause-value g c = (strip_all c.args.width c.args.start g.row.N c.loop-r.r c.args.height _ _ _ (omega arith) c.loop-r.invariant.written).done
+returns-clause-value g c = all_done (omega arith) c.loop-r.invariant.written
 
 pub returns-clause-others : goal.returns-clause-others
-returns-clause-others g c = (strip_all c.args.width c.args.start g.row.N c.loop-r.r c.args.height _ _ _ (omega arith) c.loop-r.invariant.written).rest
+returns-clause-others g c = all_rest (omega arith) c.loop-r.invariant.written

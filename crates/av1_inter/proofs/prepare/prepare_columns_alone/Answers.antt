@@ -2,7 +2,7 @@ use Rattle.std.proofs.Common.{arith, ◌≡◌, ◌+◌, ◌-◌, ◌*◌, ◌<�
 use Rattle.av1_frame.specs.Arithmetic.{round_shift}
 use Rattle.av1_inter.specs.Motion.{bias, down_samples}
 use Rattle.av1_inter.specs.Places.{samples_from}
-use Rattle.av1_inter.proofs.Fill.{row_end, strip_all, strip_more, strip_none}
+use Rattle.av1_inter.proofs.Fill.{all_done, all_rest, row_end, strip_more, strip_none}
 use Rattle.av1_inter.proofs.Fitting.{prepared_fits}
 use Rattle.av1_inter.proofs.Sources.{down_place, source_reaches, source_sample}
 use Rattle.av1_inter.proofs.Sums.{weighted_same}
@@ -61,7 +61,7 @@ loop-r-preserved g c =
     ∙ ap (λ (n : ℕ). round_shift (down_samples c.args.down.now samples r q) (7 - n)) c.intermediate_bits-bits.ensures.value)) c.prepare_row.ensures.others
 
 pub returns-clause-value : goal.returns-clause-value
-returns-clause-value g c = (strip_all c.args.width c.args.start g.row.N c.loop-r.r c.args.height _ _ _ (omega arith) c.loop-r.invariant).done
+returns-clause-value g c = all_done (omega arith) c.loop-r.invariant
 
 pub returns-clause-others : goal.returns-clause-others
-returns-clause-others g c = (strip_all c.args.width c.args.start g.row.N c.loop-r.r c.args.height _ _ _ (omega arith) c.loop-r.invariant).rest
+returns-clause-others g c = all_rest (omega arith) c.loop-r.invariant

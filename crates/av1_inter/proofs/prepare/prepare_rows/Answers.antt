@@ -2,7 +2,7 @@ use Rattle.std.proofs.Common.{arith, ◌+◌, ◌-ℤ◌, ◌∙◌, ap, ℤ, sy
 use Rattle.std.proofs.lemmas.Int.{ints}
 use Rattle.av1_inter.specs.Motion.{bias}
 use Rattle.av1_inter.specs.Places.{samples_from}
-use Rattle.av1_inter.proofs.Fill.{row_end, strip_all, strip_more, strip_none}
+use Rattle.av1_inter.proofs.Fill.{all_done, all_rest, row_end, strip_more, strip_none}
 use Rattle.av1_inter.proofs.Reach.{intermediate_fits, intermediate_within, round_0}
 use Rattle.av1_inter.proofs.Rows.{intermediate_of_row}
 use Rattle.av1_inter.proofs.prepare.prepare_rows.Goals as goal
@@ -46,7 +46,7 @@ loop-r-preserved g c =
     ∙ intermediate_of_row g.T.Pixel.num c.args.corner _ _ c.requires.stored c.args.bit_depth across.fraction across.taps c.row.result.now (c.loop-r.r + 3) q c.row.ensures.value (omega arith) (omega arith))) c.prepare_row.ensures.others
 
 pub returns-clause-value : goal.returns-clause-value
-returns-clause-value g c = (strip_all c.args.width c.args.start g.row.N c.loop-r.r c.args.height _ _ _ (omega arith) c.loop-r.invariant).done
+returns-clause-value g c = all_done (omega arith) c.loop-r.invariant
 
 pub returns-clause-others : goal.returns-clause-others
-returns-clause-others g c = (strip_all c.args.width c.args.start g.row.N c.loop-r.r c.args.height _ _ _ (omega arith) c.loop-r.invariant).rest
+returns-clause-others g c = all_rest (omega arith) c.loop-r.invariant

@@ -1,28 +1,25 @@
 use Rattle.std.proofs.lemmas.Int.{ints, to_z-of_z}
-use Rattle.std.proofs.Common.{ℕ, arith, ◌+◌, ◌^◌, ◌<◌, unsigned_abs, ◌∙◌, ◌≡◌, ap, subst, sym, List, ℤ, to_z, of_z, w32}
+use Rattle.std.proofs.Common.{ℕ, arith, ◌+◌, ◌^◌, ◌<◌, length, unsigned_abs, ◌∙◌, ◌≡◌, ap, subst, sym, List, ℤ, to_z, of_z, w32}
 use Rattle.av1_blocks.specs.declared.mc.FilterMode.{FilterMode}
 use Rattle.av1_frame.specs.declared.plane_slice.PlaneSlice.{PlaneSlice}
 use Rattle.av1_frame.specs.declared.plane_region.StoredArea.{StoredArea}
+use Rattle.av1_frame.specs.Areas.{AreRows}
 use Rattle.av1_frame.specs.Samples.{paint}
 use Rattle.av1_frame.proofs.Paint.{paint_same}
 use Rattle.av1_inter.specs.Motion.{single}
 use Rattle.av1_inter.specs.Filters.{filter_of}
-use Rattle.av1_inter.specs.Places.{corner_of, samples_from}
-use Rattle.av1_inter.proofs.Cases.{corner_fits, corner_is, corner_within, single_copy}
+use Rattle.av1_inter.specs.Places.{corner_of, IsStoredFrom, samples_from}
+use Rattle.av1_inter.specs.Scaffolding.{square_at}
+use Rattle.av1_inter.proofs.Cases.{single_copy}
+use Rattle.av1_inter.proofs.Strips.{square_area}
 use Rattle.av1_inter.proofs.Table.{fraction_made, made_is_filter, taps_made}
 use Rattle.av1_inter.proofs.put.put_8tap_to.Goals as goal
-
-pub go_up-corner-requires : goal.go_up-corner-requires
-go_up-corner-requires g c = corner_fits c.args.src c.go_left.result _ _ c.go_left.ensures c.requires.stored
 
 pub put_filtered-requires-clause-across_filter : goal.put_filtered-requires-clause-across_filter
 put_filtered-requires-clause-across_filter g c = made_is_filter c.args.mode_x c.args.col_frac c.args.area.width _ c.ranges.col_frac c.requires.col_frac c.get_filter-across.ensures.taps
 
 pub put_filtered-requires-clause-down_filter : goal.put_filtered-requires-clause-down_filter
 put_filtered-requires-clause-down_filter g c = made_is_filter c.args.mode_y c.args.row_frac c.args.area.height _ c.ranges.row_frac c.requires.row_frac c.get_filter-down.ensures.taps
-
-pub put_filtered-requires-clause-within : goal.put_filtered-requires-clause-within
-put_filtered-requires-clause-within g c = corner_within g.T.Pixel.num c.args.src _ c.args.bit_depth _ _ (corner_is c.args.src c.go_left.result _ c.go_left.ensures c.go_up-corner.ensures) c.requires.within
 
 -- the filters and the place that were made are those that the contract names
 named : {T : Type 0} (num : T → ℕ) (pixel : ℕ → T) (stride : ℕ) (a : StoredArea) (old new : List T) (depth fx fx' fy fy' : ℕ) (across across' down down' : List ℤ) (place place' : PlaneSlice T)
@@ -47,31 +44,37 @@ square_is num pixel stride a old new w h depth fx fy mode_x mode_y place place' 
     ∙ ap (λ n. paint stride a (λ r q _. pixel (single n fx fy (filter_of mode_x fx w) (filter_of mode_y fy h) (samples_from num place) r q)) old) ed
     ∙ ap (λ s. paint stride a (λ r q _. pixel (single depth fx fy (filter_of mode_x fx w) (filter_of mode_y fy h) (samples_from num s) r q)) old) ep
 
-pub put_square-requires-clause-width : goal.put_square-requires-clause-width
-put_square-requires-clause-width g c = c.is_square.ensures.width c.if-is_square.true
+pub put_square-requires-clause-rows : goal.put_square-requires-clause-rows
+put_square-requires-clause-rows g c =
+    subst (λ (a : StoredArea). AreRows c.args.stride a (length c.args.samples.now)) (square_area c.args.area (c.is_square.ensures.width c.if-is_square.true) (c.is_square.ensures.height c.if-is_square.true)) c.requires.rows
 
-pub put_square-requires-clause-height : goal.put_square-requires-clause-height
-put_square-requires-clause-height g c = c.is_square.ensures.height c.if-is_square.true
+pub put_square-requires-clause-stored : goal.put_square-requires-clause-stored
+put_square-requires-clause-stored g c =
+    subst (λ (a : StoredArea). IsStoredFrom c.taps_of_block-corner.result (a.width + 7) (a.height + 7)) (square_area c.args.area (c.is_square.ensures.width c.if-is_square.true) (c.is_square.ensures.height c.if-is_square.true)) (c.taps_of_block-corner.ensures.stored _ _ c.requires.stored)
+
+pub put_square-requires-clause-within : goal.put_square-requires-clause-within
+put_square-requires-clause-within g c = λ x y l k.
+    let w = c.is_square.ensures.width c.if-is_square.true in
+    let h = c.is_square.ensures.height c.if-is_square.true in
+    subst (λ (n : ℕ). samples_from g.T.Pixel.num c.taps_of_block-corner.result x y < 2 ^ n) (c.is_square.ensures.depth c.if-is_square.true)
+    (c.taps_of_block-corner.ensures.within c.args.bit_depth _ _ c.requires.within x y (omega (arith, w, l)) (omega (arith, h, k)))
 
 pub put_square-requires-clause-bits : goal.put_square-requires-clause-bits
 put_square-requires-clause-bits g c = let d = c.is_square.ensures.depth c.if-is_square.true in omega (arith, d, c.requires.depth)
 
-pub put_square-requires-clause-within : goal.put_square-requires-clause-within
-put_square-requires-clause-within g c = λ x y l k.
-    subst (λ (n : ℕ). samples_from g.T.Pixel.num c.go_up-corner.result x y < 2 ^ n) (c.is_square.ensures.depth c.if-is_square.true)
-    (corner_within g.T.Pixel.num c.args.src _ c.args.bit_depth _ _ (corner_is c.args.src c.go_left.result _ c.go_left.ensures c.go_up-corner.ensures) c.requires.within x y l k)
-
 pub returns-then-is_square : goal.returns-then-is_square
 returns-then-is_square g c =
-    let s = samples_from g.T.Pixel.num c.go_up-corner.result in
-    let block = λ (x y : ℤ). paint c.args.stride c.args.area (λ r q _. g.T.Pixel.pixel (single 8 (unsigned_abs x) (unsigned_abs y) (filter_of c.args.mode_x (unsigned_abs x) 4) (filter_of c.args.mode_y (unsigned_abs y) 4) s r q)) c.args.samples.now in
+    let s = samples_from g.T.Pixel.num c.taps_of_block-corner.result in
+    let block = λ (x y : ℤ). paint c.args.stride (square_at 4 c.args.area.x c.args.area.y) (λ r q _. g.T.Pixel.pixel (single 8 (unsigned_abs x) (unsigned_abs y) (filter_of c.args.mode_x (unsigned_abs x) 4) (filter_of c.args.mode_y (unsigned_abs y) 4) s r q)) c.args.samples.now in
     square_is g.T.Pixel.num g.T.Pixel.pixel c.args.stride c.args.area c.args.samples.now _ c.args.area.width c.args.area.height c.args.bit_depth (unsigned_abs c.args.col_frac) (unsigned_abs c.args.row_frac) c.args.mode_x c.args.mode_y _ _
     (sym (c.is_square.ensures.width c.if-is_square.true)) (sym (c.is_square.ensures.height c.if-is_square.true)) (sym (c.is_square.ensures.depth c.if-is_square.true))
-    (corner_is c.args.src c.go_left.result c.go_up-corner.result c.go_left.ensures c.go_up-corner.ensures)
+    c.taps_of_block-corner.ensures.place
     (c.put_square.ensures
     ∙ ap (λ (z : ℤ). block z (to_z w32 (of_z w32 c.args.row_frac)))
     (to_z-of_z w32 c.args.col_frac c.ranges.col_frac)
-    ∙ ap (λ (z : ℤ). block c.args.col_frac z) (to_z-of_z w32 c.args.row_frac c.ranges.row_frac))
+    ∙ ap (λ (z : ℤ). block c.args.col_frac z) (to_z-of_z w32 c.args.row_frac c.ranges.row_frac)
+    ∙ ap (λ (a : StoredArea). paint c.args.stride a (λ r q _. g.T.Pixel.pixel (single 8 (unsigned_abs c.args.col_frac) (unsigned_abs c.args.row_frac) (filter_of c.args.mode_x (unsigned_abs c.args.col_frac) 4) (filter_of c.args.mode_y (unsigned_abs c.args.row_frac) 4) s r q)) c.args.samples.now)
+    (sym (square_area c.args.area (c.is_square.ensures.width c.if-is_square.true) (c.is_square.ensures.height c.if-is_square.true))))
 
 pub returns-then-row_frac-eq0 : goal.returns-then-row_frac-eq0
 returns-then-row_frac-eq0 g c =
@@ -82,7 +85,7 @@ returns-then-row_frac-eq0 g c =
     let down = filter_of c.args.mode_y fy c.args.area.height in
     let zx : fx ≡ 0 = omega (arith, ints, c.if-col_frac-eq0.true) in
     let zy : fy ≡ 0 = omega (arith, ints, c.if-row_frac-eq0.true) in
-    let place = corner_is c.args.src c.go_left.result c.go_up-corner.result c.go_left.ensures c.go_up-corner.ensures in
+    let place = c.taps_of_block-corner.ensures.place in
     c.put_copy.ensures ∙ paint_same c.args.stride c.args.area _ (λ r q _. g.T.Pixel.pixel (single c.args.bit_depth fx fy across down (samples_from num (corner_of c.args.src)) r q)) c.args.samples.now
     (λ r q v l h. ap g.T.Pixel.pixel (ap (λ (p : PlaneSlice g.row.T.Denot). samples_from num p (q + 3) (r + 3)) place ∙ single_copy c.args.bit_depth c.requires.depths fx fy across down (samples_from num (corner_of c.args.src)) r q zx zy))
 
@@ -95,5 +98,5 @@ returns-else-col_frac-eq0 g c =
     (fraction_made c.args.row_frac down.fraction c.ranges.row_frac c.get_filter-down.ensures.fraction)
     (taps_made c.args.mode_x c.args.col_frac c.args.area.width across.taps c.ranges.col_frac c.get_filter-across.ensures.taps)
     (taps_made c.args.mode_y c.args.row_frac c.args.area.height down.taps c.ranges.row_frac c.get_filter-down.ensures.taps)
-    (corner_is c.args.src c.go_left.result c.go_up-corner.result c.go_left.ensures c.go_up-corner.ensures)
+    c.taps_of_block-corner.ensures.place
     c.put_filtered.ensures

@@ -1,9 +1,9 @@
-use Rattle.std.proofs.Common.{arith, ap, ◌∙◌, ◌+◌, ◌<◌, ◌^◌, ℕ, sym, subst}
+use Rattle.std.proofs.Common.{arith, ap, ◌∙◌, ◌+◌}
 use Rattle.av1_frame.proofs.Paint.{paint_same}
 use Rattle.av1_inter.specs.Motion.{single}
 use Rattle.av1_inter.specs.Places.{samples_from}
 use Rattle.av1_inter.specs.Scaffolding.{strip_of}
-use Rattle.av1_inter.proofs.Strips.{single_moved, strip_rows, strip_same, strip_samples, strip_stored}
+use Rattle.av1_inter.proofs.Strips.{single_moved, strip_rows, strip_same, strip_stored}
 use Rattle.av1_inter.proofs.put.put_strip.Goals as goal
 
 pub overflow_add-x : goal.overflow_add-x
@@ -13,11 +13,7 @@ pub put_columns_of-requires-clause-rows : goal.put_columns_of-requires-clause-ro
 put_columns_of-requires-clause-rows g c = strip_rows c.args.stride c.args.area c.args.start c.args.columns _ c.requires.rows c.requires.columns
 
 pub put_columns_of-requires-clause-stored : goal.put_columns_of-requires-clause-stored
-put_columns_of-requires-clause-stored g c = strip_stored c.args.corner _ c.args.start (c.args.columns + 7) (c.args.area.height + 7) _ c.subslice-place.ensures (omega arith) c.requires.stored
-
-pub put_columns_of-requires-clause-within : goal.put_columns_of-requires-clause-within
-put_columns_of-requires-clause-within g c = λ x y a b.
-    subst (λ (n : ℕ). n < 2 ^ c.args.bit_depth) (sym (strip_samples g.T.Pixel.num c.args.corner _ c.args.start c.subslice-place.ensures x y)) (c.requires.within (c.args.start + x) y (omega arith) b)
+put_columns_of-requires-clause-stored g c = strip_stored c.args.corner _ c.args.start (c.args.columns + 7) (c.args.area.height + 7) _ c.taps_of_strip-place.ensures.place (omega arith) c.requires.stored
 
 pub returns : goal.returns
 returns g c =
@@ -26,4 +22,5 @@ returns g c =
     let num = g.T.Pixel.num in
     c.put_columns_of.ensures ∙ paint_same c.args.stride (strip_of c.args.area c.args.start c.args.columns c.args.area.height) _
     (λ r q _. g.T.Pixel.pixel (single c.args.bit_depth across.fraction down.fraction across.taps down.taps (samples_from num c.args.corner) r (c.args.start + q))) c.args.samples.now
-    (λ r q v a b. ap g.T.Pixel.pixel (single_moved c.args.bit_depth across.taps down.taps (samples_from num c.subslice-place.result) (samples_from num c.args.corner) r q (c.args.start + q) (strip_same num c.args.corner _ c.args.start c.subslice-place.ensures r q) across.fraction down.fraction))
+    (λ r q v a b. ap g.T.Pixel.pixel (single_moved c.args.bit_depth across.taps down.taps (samples_from num c.taps_of_strip-place.result) (samples_from num c.args.corner) r q (c.args.start + q)
+    (strip_same num c.args.corner _ c.args.start c.taps_of_strip-place.ensures.place r q) across.fraction down.fraction))

@@ -1,23 +1,10 @@
-use Rattle.std.proofs.Common.{◌≡◌, ℕ, ◌+◌, ◌*◌, min, map, take, reverse, arith, ap, ◌∙◌}
+use Rattle.std.proofs.Common.{◌≡◌, ℕ, ◌+◌, ◌*◌, min, map, take, reverse, ap, ◌∙◌}
 use mathlib.Core.Path.{fun_ext}
 use Rattle.av1_frame.specs.Samples.{paint}
 use Rattle.av1_intra.specs.Sides.{Side, entries, distance}
 use Rattle.av1_intra.specs.Directional.{side, at, prepared, upsampling}
-use Rattle.av1_intra.proofs.Derivatives.{past_180_few}
 use Rattle.av1_intra.proofs.Ranges.{is_past_180}
 use Rattle.av1_intra.proofs.directional.directional_past_180.Goals as goal
-
-pub overflow_sub-block : goal.overflow_sub-block
-overflow_sub-block g c =
-    let h = past_180_few c.args.block.p_angle c.requires.angle c.requires.range in omega arith
-
-pub prepare_left-requires-clause-angle : goal.prepare_left-requires-clause-angle
-prepare_left-requires-clause-angle g c =
-    let h = past_180_few c.args.block.p_angle c.requires.angle c.requires.range in omega arith
-
-pub rows_past_180-requires-clause-dy : goal.rows_past_180-requires-clause-dy
-rows_past_180-requires-clause-dy g c =
-    let h = past_180_few c.args.block.p_angle c.requires.angle c.requires.range in omega arith
 
 pub returns : goal.returns
 returns g c = λ above.
@@ -30,7 +17,7 @@ returns g c = λ above.
     let F = λ (B : Side) (u dy i j : ℕ). at b.bit_depth B u ((j + 1) * dy + 64) i in
     let G = λ (f : ℕ → ℕ → ℕ). paint c.args.stride c.args.area (λ i j _. g.T.Pixel.pixel (f i j)) c.args.samples.now in
     c.rows_past_180.ensures
-    ∙ ap (λ (B : Side). G (F B c.prepare_left.new.ready.upsampling c.dr_intra_derivative-dy.result)) E
-    ∙ ap (λ (u : ℕ). G (F (P (min b.height b.visible_rows)) u c.dr_intra_derivative-dy.result)) c.prepare_left.ensures.upsampling
-    ∙ ap (λ (dy : ℕ). G (F (P (min b.height b.visible_rows)) (upsampling b (distance b.p_angle 180)) dy)) c.dr_intra_derivative-dy.ensures
+    ∙ ap (λ (B : Side). G (F B c.prepare_left.new.ready.upsampling c.derivative_past_180-dy.result)) E
+    ∙ ap (λ (u : ℕ). G (F (P (min b.height b.visible_rows)) u c.derivative_past_180-dy.result)) c.prepare_left.ensures.upsampling
+    ∙ ap (λ (dy : ℕ). G (F (P (min b.height b.visible_rows)) (upsampling b (distance b.p_angle 180)) dy)) c.derivative_past_180-dy.ensures.value
     ∙ ap G (fun_ext (λ i. fun_ext (λ j. is_past_180 b (g.T.Pixel.num c.args.corner) above left i j c.requires.range)))
