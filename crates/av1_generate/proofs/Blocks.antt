@@ -8,10 +8,9 @@ use Rattle.av1_plan.specs.Grammar.{half_side, whole_size, part_size}
 use Rattle.av1_generate.specs.Draft.{Draft, writes, draws, ◌>>◌}
 use Rattle.av1_generate.specs.Generator.{part, parts, block}
 
-pub block_leaf : (h : Header) (level x y : ℕ) → level ≡ 0 → block h level x y ≡ part h BLOCK_4X4 x y
+pub block_leaf : (h : Header) (x y : ℕ) → block h 0 x y ≡ part h BLOCK_4X4 x y
 unfolding block
-block_leaf h zero x y e = refl
-block_leaf h (suc level) x y e = absurd (omega arith)
+block_leaf h x y = refl
 
 pub block_node : (h : Header) (level x y : ℕ) → 0 < level → block h level x y ≡ draws 4 (λ mark. writes one mark >> parts h level (block h (level - 1)) x y mark)
 unfolding block

@@ -95,6 +95,12 @@ byte_fits bytes fits i = elim (cases_lt i (length bytes)) [
   | inr past ↦ rw (get_or_past bytes i 0 past) (omega arith)
 ]
 
+-- what is read of bytes is what they spell, where one follows from the other and the other from the one
+pub read_exactly : {A : Type 0} (reading : List ℕ → Result A ℕ) (IsText : List ℕ → A → Type 0) → ((bytes : List ℕ) (x : A) → AreBytes bytes → reading bytes ≡ Ok x → IsText bytes x)
+    → ((bytes : List ℕ) (x : A) → IsText bytes x → reading bytes ≡ Ok x)
+    → (bytes : List ℕ) (x : A) → All (λ byte. byte < 2 ^ 8) bytes → (reading bytes ≡ Ok x → IsText bytes x) × (IsText bytes x → reading bytes ≡ Ok x)
+read_exactly reading IsText found back bytes x fits = (found bytes x (byte_fits bytes fits), back bytes x)
+
 -- bytes have some outcome
 pub some_outcome : (bytes : List ℕ) → All (λ byte. byte < 2 ^ 8) bytes → (outcome : Outcome) × HasOutcome bytes outcome
 some_outcome bytes fits = elim (cases_lt max_plan_bytes (length bytes)) [

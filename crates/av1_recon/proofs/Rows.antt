@@ -13,10 +13,16 @@ use Rattle.av1_frame.specs.Planes.{sample_at}
 use Rattle.av1_plan.specs.Geometry.{plane_width, plane_height}
 use Rattle.av1_plan.specs.declared.header.Header.{Header}
 use Rattle.av1_streams.specs.Streams.{AppendsPrefix}
-use Rattle.av1_streams.proofs.Prefixes.{AppendsPrefix-first, AppendsPrefix-after}
+use Rattle.av1_streams.proofs.Prefixes.{AppendsPrefix-all, AppendsPrefix-first, AppendsPrefix-after}
 use Rattle.av1_tile.specs.PlaneBlocks.{extent_of}
 use Rattle.av1_tile.specs.State.{Picture, state_header}
 use Rattle.av1_tile.specs.Output.{plane_bytes, sample_bytes}
+
+-- ---- what was appended
+
+-- all of it is a prefix too
+pub as_prefix : (a b : Option (List ℕ)) {bytes : List ℕ} → Appends a b bytes → AppendsPrefix a b bytes
+as_prefix a b done = AppendsPrefix-all a b _ done
 
 -- ---- pieces of a row
 

@@ -34,29 +34,16 @@ fn sample(k: usize, seed: usize, depth: u8) -> u16
     ((k * k * 7 + k * 13 + seed * 101) % (1 << depth)) as u16
 }
 
-/// The luma samples of a reference.
-fn luma(seed: usize, depth: u8) -> [u16; 128]
+/// The samples of a plane of a reference, which has `N` of them.
+fn samples<const N: usize>(seed: usize, depth: u8) -> [u16; N]
+    requires few { N ≤ 128 }
     requires seed { seed ≤ 100 }
     requires depth { depth ≤ 12 }
-    ensures count { length result ≡ 128 }
+    ensures count { length result ≡ N }
     ensures range { All (λ sample. sample < 2 ^ depth) result }
 {
-    let mut samples = [0; 128];
-    for k in 0..128 {
-        samples[k] = sample(k, seed, depth);
-    }
-    samples
-}
-
-/// The samples of a chroma plane of a reference.
-fn chroma(seed: usize, depth: u8) -> [u16; 32]
-    requires seed { seed ≤ 100 }
-    requires depth { depth ≤ 12 }
-    ensures count { length result ≡ 32 }
-    ensures range { All (λ sample. sample < 2 ^ depth) result }
-{
-    let mut samples = [0; 32];
-    for k in 0..32 {
+    let mut samples = [0; N];
+    for k in 0..N {
         samples[k] = sample(k, seed, depth);
     }
     samples
@@ -82,13 +69,13 @@ fn frame<T: Pixel>(alloc: Global, depth: u8) -> Result<FrameInvariants<T>, OutOf
     };
     let bit_depth = usize::from(depth);
     let mut fi = FrameInvariants::new(alloc, 16, 8, FilterMode::SHARP, bit_depth, true, SLOTS)?;
-    let y = padded_plane(alloc, &header, 0, &luma(6, depth))?;
-    let u = padded_plane(alloc, &header, 1, &chroma(7, depth))?;
-    let v = padded_plane(alloc, &header, 2, &chroma(8, depth))?;
+    let y = padded_plane(alloc, &header, 0, &samples::<128>(6, depth))?;
+    let u = padded_plane(alloc, &header, 1, &samples::<32>(7, depth))?;
+    let v = padded_plane(alloc, &header, 2, &samples::<32>(8, depth))?;
     fi.set_slot(2, y, u, v);
-    let y = padded_plane(alloc, &header, 0, &luma(15, depth))?;
-    let u = padded_plane(alloc, &header, 1, &chroma(16, depth))?;
-    let v = padded_plane(alloc, &header, 2, &chroma(17, depth))?;
+    let y = padded_plane(alloc, &header, 0, &samples::<128>(15, depth))?;
+    let u = padded_plane(alloc, &header, 1, &samples::<32>(16, depth))?;
+    let v = padded_plane(alloc, &header, 2, &samples::<32>(17, depth))?;
     fi.set_slot(5, y, u, v);
     Ok(fi)
 }

@@ -1,12 +1,10 @@
 -- The bytes of a sequence have an outcome, and one alone.
-use Rattle.std.proofs.Common.{◌≡◌, inl, inr, ℕ, ◌<◌, ◌≤◌, List, [], ◌++◌, length, Result, Ok, Err, refl, sym, ap, subst, ◌∙◌}
+use Rattle.std.proofs.Common.{◌≡◌, inl, inr, ℕ, ◌<◌, ◌≤◌, List, [], length, Ok, Err, refl, sym, ap, subst, ◌∙◌}
 use Rattle.std.proofs.lemmas.Bool.{cases_lt}
 use Rattle.av1_plan.specs.Format.{Reading}
 use Rattle.av1_plan.proofs.Parts.{clash, err_is}
 use Rattle.av1_plan.proofs.Spelled.{ok_is}
 use Rattle.av1_streams.specs.Streams.{AreBytes, max_plan_bytes}
-use Rattle.av1_sequence.specs.declared.error.FrameFault.{FrameFault}
-use Rattle.av1_sequence.specs.declared.error.SequenceError.{SequenceError}
 use Rattle.av1_sequence.specs.declared.error.SequenceError.TheVariants as errors
 use Rattle.av1_sequence.specs.Files.{Answer, AreFile, BytesHaveAnOutcome, HasOutcome, OutcomesAreOne, beginning}
 use Rattle.av1_sequence.specs.Grammar.{FileValue, read_file}

@@ -30,7 +30,7 @@ use Rattle.av1_sequence.specs.declared.file.FrameText.{FrameText}
 use Rattle.av1_sequence.specs.declared.head.FrameHead.{FrameHead}
 use Rattle.av1_sequence.specs.Errors.{frame_error}
 use Rattle.av1_sequence.specs.File.{IsReadText, frame_value}
-use Rattle.av1_sequence.specs.Files.{Answer, AreShown, IsFirstRefused, Lead, beginning, error_of}
+use Rattle.av1_sequence.specs.Files.{Answer, AreShown, IsFirstRefused, Lead, beginning}
 use Rattle.av1_sequence.specs.Frames.{frame_header, frame_of, frame_references}
 use Rattle.av1_sequence.specs.Grammar.{FileValue, FrameValue}
 use Rattle.av1_sequence.specs.Kept.{Kept}

@@ -8,7 +8,7 @@ use Rattle.av1_plan.specs.Parts.{length_text, part_text, IsLongestText}
 use Rattle.av1_plan.proofs.Parts.{Parted, done_ok, err_at, fits_behind, front_refused, part_again, parted, stops_behind}
 use Rattle.av1_plan.proofs.Fields.{AreBytes, length-le}
 use Rattle.av1_plan.proofs.Spelled.{bind_ok, end, no_longer, ok_is, reaches, read_again, read_spells}
-use Rattle.av1_recon.proofs.Outcomes.{byte_fits}
+use Rattle.av1_recon.proofs.Outcomes.{byte_fits, read_exactly}
 use Rattle.av1_sequence.specs.declared.head.FrameHead.{FrameHead}
 use Rattle.av1_sequence.specs.Grammar.{FrontValue, FileValue, FrameValue, front, head, read_frame, read_frames, read_file}
 use Rattle.av1_sequence.specs.Texts.{AreFrameTexts, IsBegun, IsFileText, IsFrameText, IsRun, IsSequenceRun, FoundAtText, RefusedAtLongest}
@@ -300,4 +300,4 @@ read_back bytes f t =
     rw (first, frames, ← t.same) refl
 
 pub found_at_text : FoundAtText
-found_at_text bytes f fits = (found bytes f (byte_fits bytes fits), read_back bytes f)
+found_at_text = read_exactly read_file IsFileText found read_back

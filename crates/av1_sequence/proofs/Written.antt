@@ -1,5 +1,5 @@
 -- The rows of the frame that was accepted last, as they are written.
-use Rattle.std.proofs.Common.{ℕ, ◌<◌, ◌≤◌, ◌≡◌, ◌∙◌, ◌^◌, List, [], length, map, All, Option, Some, None, ap, sym, subst, arith, slice_index_or}
+use Rattle.std.proofs.Common.{ℕ, ◌<◌, ◌≤◌, ◌≡◌, ◌∙◌, ◌^◌, List, [], length, map, All, Option, Some, ap, sym, subst, arith, slice_index_or}
 use Rattle.std.specs.List.{flat_map}
 use Rattle.std.specs.Option.{option_map}
 use Rattle.std.proofs.lemmas.List.{map-id}
@@ -45,9 +45,3 @@ plane_written frames g same p plane last shows P holds frame is =
     let here : P (flat_map (sample_bytes frames.depth) (plane_shown frames p plane)) = subst (λ (h : Header). P (plane_bytes (extent_of h p) (sample_at own plane))) same holds in
     let shown : plane_shown frames p plane ≡ slice_index_or frame p [] = same_Some _ _ (shows ∙ ap (option_map (λ (f : Frame). slice_index_or f p [])) is) in
     subst (λ (xs : List ℕ). P (flat_map (sample_bytes frames.depth) xs)) shown here
-
--- a sequence without a last frame has none
-pub none_written : {X : Type 0} (p : ℕ) (last : Option Frame) → None ≡ option_map (λ (f : Frame). slice_index_or f p []) last → (frame : Frame) → last ≡ Some frame → X
-none_written p last shows frame is =
-    let clash : None ≡ Some (slice_index_or frame p []) = shows ∙ ap (option_map (λ (f : Frame). slice_index_or f p [])) is in
-    absurd cc

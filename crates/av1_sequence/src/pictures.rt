@@ -215,6 +215,7 @@ impl Pictures {
     }
 
     /// How many bytes the reference samples of a frame with this head are.
+    #[tactic(auto, using(crate::proofs::Sizes::eight_times))]
     pub fn reference_bytes(&self, head: &FrameHead) -> usize
         ensures value { result ≡ count_of (is_read head.now.slots (slots_shown self.now.header self.now.fi self.now.places)) 8 * frame_bytes self.now.header }
         ensures few { result ≤ 2 ^ 28 }

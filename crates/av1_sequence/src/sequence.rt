@@ -83,7 +83,7 @@ impl Model for Sequence {
 }
 
 impl Sequence {
-    ghost use Rattle.std.specs.Prelude.{◌≡◌, ℕ, ◌<◌, ◌≤◌, ◌^◌, [], None, Some, length, option_map, slice_index_or, IfOk, IfErr, IfSome, OnOk};
+    ghost use Rattle.std.specs.Prelude.{◌≡◌, ℕ, ◌<◌, ◌≤◌, ◌^◌, [], None, Some, length, option_map, slice_index_or, IfOk, IfErr, IfNone, IfSome, OnOk};
     ghost use Rattle.av1_blocks.specs.Depths.{IsDepth};
     ghost use Rattle.av1_plan.specs.Answer.{plan_value};
     ghost use Rattle.av1_plan.specs.Geometry.{plane_height, plane_width};
@@ -196,6 +196,7 @@ impl Sequence {
         requires plane { p < 3 }
         ensures shown { option_map (λ plane. plane_shown self.now.frames p plane.now) result ≡ option_map (λ frame. slice_index_or frame p []) self.now.last }
         ensures writable { IfSome result (λ plane. IsWritable self.now.frames p plane.now) }
+        ensures none { IfNone result (self.now.last ≡ None) }
     {
         match self.last {
             Last::Nowhere => None,

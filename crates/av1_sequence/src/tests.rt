@@ -39,6 +39,7 @@ fn is_row_of(row: Option<&[u16]>, value: u16) -> bool {
 }
 
 /// Whether the last row of the frame that was accepted last is all of this sample.
+#[tactic(auto, using(crate::proofs::TestRows::row_within))]
 fn last_is(sequence: &Sequence, p: usize, value: u16) -> bool
     requires frames { sequence.now.frames ≡ frames_of 8 8 8 2 }
     requires plane { p < 3 }
@@ -47,6 +48,7 @@ fn last_is(sequence: &Sequence, p: usize, value: u16) -> bool
 }
 
 /// The same of the frame in a slot.
+#[tactic(auto, using(crate::proofs::TestRows::row_within))]
 fn slot_is(sequence: &Sequence, slot: usize, p: usize, value: u16) -> bool
     requires frames { sequence.now.frames ≡ frames_of 8 8 8 2 }
     requires slot { slot < 8 }

@@ -35,29 +35,28 @@ fn block_start(start: u16, index: usize, side: usize) -> usize
     usize::from(start) + index * side
 }
 
-/// The transform block in column `column` of row `row` of a leaf's block that has `across` side by side, where it begins in the visible plane.
+/// The transform block of this number, in column `column` of row `row` of a leaf's block, where it begins in the visible plane.
 fn place_in(
     header: &Header,
     block: &PlaneBlock,
-    across: usize,
+    number: usize,
     row: usize,
     column: usize,
 ) -> Option<BlockPlace>
     requires frame { IsReadFrame header.now }
-    requires across { across ≡ blocks_across block.now.area }
-    requires column { column < across }
-    requires few { row * across + column < block_count block.now.area }
-    requires most { block_count block.now.area ≤ 1024 }
-    ensures some { IfSome result (λ at. (IsPlaceIn header.now block.now at) × (at.number ≡ row * across + column)
+    requires number { number ≡ row * blocks_across block.now.area + column }
+    requires column { column < blocks_across block.now.area }
+    requires few { number < block_count block.now.area }
+    ensures some { IfSome result (λ at. (IsPlaceIn header.now block.now at) × (at.number ≡ number)
         × (transform_block header.now block.now.plane block.now.area at.number ≡ Some (record { x = at.x; y = at.y }))) }
-    ensures none { IfNone result (transform_block header.now block.now.plane block.now.area (row * across + column) ≡ None) }
+    ensures none { IfNone result (transform_block header.now block.now.plane block.now.area number ≡ None) }
 {
     let tx_size = block.area.tx_size;
     let x = block_start(block.area.x, column, tx_size.width());
     let y = block_start(block.area.y, row, tx_size.height());
     if x < header.plane_width(block.plane) && y < header.plane_height(block.plane) {
         Some(BlockPlace {
-            number: row * across + column,
+            number,
             column,
             row,
             x,
@@ -190,7 +189,7 @@ fn reconstruct_blocks<T: Pixel>(
     for n in 0..block.area.block_count() {
         let (column, row) = place;
         let end = at + leading_count(&triples[at..], n);
-        if let Some(place) = place_in(header, block, across, row, column) {
+        if let Some(place) = place_in(header, block, n, row, column) {
             let own = &triples[at..end];
             reconstruct_block(plane, buffers, header, block, place, own);
         }

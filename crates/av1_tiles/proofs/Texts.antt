@@ -10,7 +10,7 @@ use Rattle.av1_plan.specs.Parts.{length_text, part_text, IsLongestText}
 use Rattle.av1_plan.proofs.Parts.{Parted, TakesPart, done_ok, err_at, fits_behind, front_refused, part_again, parted, stops_behind}
 use Rattle.av1_plan.proofs.Fields.{AreBytes, length-le}
 use Rattle.av1_plan.proofs.Spelled.{bind_ok, end, no_longer, ok_is, read_again, read_spells}
-use Rattle.av1_recon.proofs.Outcomes.{byte_fits}
+use Rattle.av1_recon.proofs.Outcomes.{byte_fits, read_exactly}
 use Rattle.av1_tiles.specs.Grammar.{FrontValue, FileValue, count_tiles, front, read_parts, read_file}
 use Rattle.av1_tiles.specs.Texts.{IsRun, IsGridRun, IsGridText, FoundAtText, RefusedAtLongest}
 
@@ -195,4 +195,4 @@ read_back bytes f t =
     rw (first, parts) refl
 
 pub found_at_text : FoundAtText
-found_at_text bytes f fits = (found bytes f (byte_fits bytes fits), read_back bytes f)
+found_at_text = read_exactly read_file IsGridText found read_back

@@ -3,14 +3,13 @@ use Rattle.std.proofs.Common.{◌≡◌, ◌≢◌, ℕ, zero, suc, ◌+◌, ◌
 use Rattle.std.specs.Prelude.{◌↔◌, IfNone, IfOk, IfSome, Vec, if◌then◌else◌}
 use Rattle.std.specs.Option.{option_map}
 use Rattle.std.proofs.lemmas.Bool.{cases_Bool, cases_lt, eqb-true}
-use Rattle.std.proofs.lemmas.List.{get_or-map, get_or_default, length-map, take_all}
+use Rattle.std.proofs.lemmas.List.{get_or-map, length-map, take_all}
 use Rattle.av1_blocks.specs.Blocks.{block_width, block_height}
 use Rattle.av1_lists.proofs.Lists.{get_or-by_index, length-by_index}
 use Rattle.av1_plan.specs.declared.header.Header.{Header}
 use Rattle.av1_plan.specs.declared.geometry.PlaneArea.{PlaneArea}
 use Rattle.av1_plan.specs.Geometry.{covers_plane, plane_area, plane_height, plane_width}
 use Rattle.av1_plan.specs.ReadPlans.{IsReadFrame}
-use Rattle.av1_streams.specs.Streams.{AreBytes}
 use Rattle.av1_tile.specs.State.{plan_row}
 use Rattle.av1_plan.specs.declared.leaf.Leaf.{Leaf}
 use Rattle.av1_plan.specs.declared.plan.Plan.{Plan}

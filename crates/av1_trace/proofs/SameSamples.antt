@@ -14,21 +14,14 @@ use Rattle.av1_avail.specs.Order.{is_in}
 use Rattle.av1_lists.specs.Lists.{by_index}
 use Rattle.av1_lists.proofs.Lists.{get_or-by_index, length-by_index}
 use Rattle.av1_order.specs.Neighbours.{in_area}
-use Rattle.av1_order.specs.Plans.{coding_in}
-use Rattle.av1_order.specs.Turns.{IsCodedPlan}
 use Rattle.av1_order.proofs.Neighbours.{areas_tile}
 use Rattle.av1_plan.specs.declared.header.Header.{Header}
 use Rattle.av1_plan.specs.declared.geometry.PlaneArea.{PlaneArea}
 use Rattle.av1_plan.specs.declared.plan.Plan.{Plan}
 use Rattle.av1_plan.specs.Answer.{plan_value}
 use Rattle.av1_plan.specs.Geometry.{covers_plane, plane_area, plane_height, plane_width}
-use Rattle.av1_plan.specs.Grammar.{plan as grammar}
 use Rattle.av1_plan.specs.Plan.{LeafValue, PlanValue}
-use Rattle.av1_plan.specs.Spelling.{IsSpelled}
 use Rattle.av1_plan.specs.Validity.{first_fault}
-use Rattle.av1_plan.proofs.CodingOrder.{plan_trees}
-use Rattle.av1_plan.proofs.ReadPlans.{plan_grid, read_frame}
-use Rattle.av1_plan.proofs.ValidLeaves.{faultless}
 use Rattle.av1_recon.proofs.SamplesByBytes.{same_rows}
 use Rattle.av1_streams.specs.Streams.{AreBytes}
 use Rattle.av1_tile.specs.declared.extent.PlaneExtent.{PlaneExtent}
@@ -38,7 +31,6 @@ use Rattle.av1_tile.specs.Edge.{sample_of}
 use Rattle.av1_tile.specs.PlaneBlocks.{component, extent_of, number}
 use Rattle.av1_tile.specs.Reference.{slow_walk}
 use Rattle.av1_tile.proofs.Pictures.{plan_coded}
-use Rattle.av1_tile.proofs.PlanFits.{whole_frame}
 use Rattle.av1_tile.proofs.Simulation.{visible_same}
 use Rattle.av1_trace.specs.declared.entry.Difference.{Difference}
 use Rattle.av1_trace.specs.Samples.{given, defined, planes_len}

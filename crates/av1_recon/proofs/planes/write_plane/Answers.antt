@@ -1,8 +1,7 @@
 use Rattle.std.proofs.Common.{arith, subst, ◌≡◌}
 use Rattle.std.specs.Io.KnownBytes.{Appends}
 use Rattle.av1_streams.specs.Streams.{AppendsPrefix}
-use Rattle.av1_streams.proofs.Prefixes.{AppendsPrefix-all}
-use Rattle.av1_recon.proofs.Rows.{row_is, Appends-row, AppendsPrefix-row, rows_are_plane}
+use Rattle.av1_recon.proofs.Rows.{row_is, Appends-row, AppendsPrefix-row, as_prefix, rows_are_plane}
 use Rattle.av1_recon.proofs.planes.write_plane.Goals as goal
 
 pub returns-in_err-write_row-clause-prefix : goal.returns-in_err-write_row-clause-prefix
@@ -25,4 +24,4 @@ returns-clause-whole g c =
     subst (Appends _ _) (rows_are_plane g.T.Pixel.num c.args.header.now c.args.plane.now c.args.p c.loop-y.y _ end c.plane_height-y-end.ensures.value) c.loop-y.invariant.so_far
 
 pub returns-clause-prefix : goal.returns-clause-prefix
-returns-clause-prefix g c = AppendsPrefix-all _ _ _ (returns-clause-whole g c)
+returns-clause-prefix g c = as_prefix _ _ (returns-clause-whole g c)

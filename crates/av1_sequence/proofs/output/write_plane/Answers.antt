@@ -4,7 +4,7 @@ use Rattle.std.proofs.lemmas.Result.{on_ok_weaker}
 use Rattle.av1_plan.specs.declared.header.Header.{Header}
 use Rattle.av1_streams.specs.Streams.{AppendsPrefix}
 use Rattle.av1_sequence.specs.Output.{IsWritable}
-use Rattle.av1_sequence.proofs.Written.{none_written, plane_written}
+use Rattle.av1_sequence.proofs.Written.{plane_written}
 use Rattle.av1_sequence.proofs.output.write_plane.Goals as goal
 
 pub write_rows-requires : goal.write_rows-requires
@@ -19,9 +19,3 @@ returns-in-Some-clause-whole g c =
 pub returns-in-Some-clause-prefix : goal.returns-in-Some-clause-prefix
 returns-in-Some-clause-prefix g c =
     plane_written c.args.sequence.now.frames c.header.result.now c.header.ensures c.args.p c.in-Some.plane.now c.args.sequence.now.last c.in-Some.ensures.shown (AppendsPrefix _ _) c.write_rows.ensures.prefix
-
-pub returns-in-None-clause-whole : goal.returns-in-None-clause-whole
-returns-in-None-clause-whole g c = λ frame is. none_written c.args.p c.args.sequence.now.last c.in-None.ensures.shown frame is
-
-pub returns-in-None-clause-prefix : goal.returns-in-None-clause-prefix
-returns-in-None-clause-prefix g c = λ frame is. none_written c.args.p c.args.sequence.now.last c.in-None.ensures.shown frame is

@@ -2,8 +2,7 @@ use Rattle.std.proofs.Common.{arith, subst, ◌<◌, ◌≡◌}
 use Rattle.std.specs.Io.KnownBytes.{Appends}
 use Rattle.av1_plan.specs.Geometry.{plane_height}
 use Rattle.av1_streams.specs.Streams.{AppendsPrefix}
-use Rattle.av1_streams.proofs.Prefixes.{AppendsPrefix-all}
-use Rattle.av1_recon.proofs.Rows.{Appends-row, AppendsPrefix-row, rows_are_plane}
+use Rattle.av1_recon.proofs.Rows.{Appends-row, AppendsPrefix-row, as_prefix, rows_are_plane}
 use Rattle.av1_sequence.specs.Kept.{own}
 use Rattle.av1_sequence.proofs.Written.{row_narrow, row_short, row_text}
 use Rattle.av1_sequence.proofs.output.write_rows.Goals as goal
@@ -39,4 +38,4 @@ returns-clause-whole g c =
     subst (Appends _ _) (rows_are_plane own c.args.header.now c.args.plane.now c.args.p c.loop-y.y _ end c.plane_height-y-end.ensures.value) c.loop-y.invariant.so_far
 
 pub returns-clause-prefix : goal.returns-clause-prefix
-returns-clause-prefix g c = AppendsPrefix-all _ _ _ (returns-clause-whole g c)
+returns-clause-prefix g c = as_prefix _ _ (returns-clause-whole g c)

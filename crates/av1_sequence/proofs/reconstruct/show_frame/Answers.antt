@@ -1,5 +1,4 @@
 use Rattle.std.specs.Io.KnownBytes.{Appends}
-use Rattle.av1_streams.specs.Streams.{AppendsPrefix}
 use Rattle.av1_sequence.specs.File.{frame_value}
 use Rattle.av1_sequence.proofs.Showing.{last_text, no_write, refused_frame, unwritten_frame}
 use Rattle.av1_sequence.proofs.reconstruct.show_frame.Goals as goal

@@ -1,5 +1,4 @@
-use Rattle.std.proofs.Common.{[], arith, refl, ◌<◌, ◌≤◌, ◌≡◌, length, map, Some}
-use Rattle.std.specs.Prelude.{slice_get}
+use Rattle.std.proofs.Common.{[], arith, refl, ◌≤◌, length, map}
 use Rattle.std.proofs.KnownBytes.{Appends-nil}
 use Rattle.std.proofs.lemmas.List.{length-map}
 use Rattle.av1_sequence.specs.File.{file_value, frame_value}

@@ -1,4 +1,4 @@
-use Rattle.std.proofs.Common.{ℕ, ◌+◌, ◌*◌, ◌<◌, ◌≤◌, ◌≡◌, arith, ap, ◌∙◌, refl, subst}
+use Rattle.std.proofs.Common.{ℕ, ◌+◌, ◌*◌, ◌<◌, ◌≤◌, ◌≡◌, arith, ap, ◌∙◌, refl}
 use Rattle.av1_blocks.proofs.Sides.{block_width_range, block_height_range}
 use Rattle.av1_blocks.specs.Transforms.{tx_width, tx_height}
 use Rattle.av1_plan.specs.declared.geometry.PlaneArea.{PlaneArea}
@@ -8,28 +8,17 @@ use Rattle.av1_tile.proofs.walk.place_in.Goals.{else-x-plane_width-via-then-x-pl
 use Rattle.av1_tile.proofs.walk.place_in.Goals as goal
 
 -- a block's column ends within 128 samples, and its row
-reach_x : (a : PlaneArea) (across column width : ℕ) → across ≡ blocks_across a → column < across → width ≡ tx_width a.tx_size → column * width ≤ 128
-reach_x a across column width e is of =
-    let here : column < blocks_across a = omega (arith, e, is) in
-    omega (arith, column_ends a column here, (block_width_range a.size).1, ap (λ (n : ℕ). column * n) of)
+reach_x : (a : PlaneArea) (column width : ℕ) → column < blocks_across a → width ≡ tx_width a.tx_size → column * width ≤ 128
+reach_x a column width is of = omega (arith, column_ends a column is, (block_width_range a.size).1, ap (λ (n : ℕ). column * n) of)
 
-reach_y : (a : PlaneArea) (across row column height : ℕ) → across ≡ blocks_across a → column < across → row * across + column < block_count a → height ≡ tx_height a.tx_size → row * height ≤ 128
-reach_y a across row column height e is few of =
-    let here : column < blocks_across a = omega (arith, e, is) in
-    let there : row * blocks_across a + column < block_count a = subst (λ (n : ℕ). row * n + column < block_count a) e few in
-    omega (arith, row_ends a row column here there, (block_height_range a.size).1, ap (λ (n : ℕ). row * n) of)
+reach_y : (a : PlaneArea) (number row column height : ℕ) → number ≡ row * blocks_across a + column → column < blocks_across a → number < block_count a → height ≡ tx_height a.tx_size → row * height ≤ 128
+reach_y a number row column height e is few of = omega (arith, row_ends a row column is (omega (arith, e, few)), (block_height_range a.size).1, ap (λ (n : ℕ). row * n) of)
 
 pub block_start-x-requires : goal.block_start-x-requires
-block_start-x-requires c = record { near = reach_x c.args.block.now.area c.args.across c.args.column c.width.result c.requires.across c.requires.column c.width.ensures.value }
+block_start-x-requires c = record { near = reach_x c.args.block.now.area c.args.column c.width.result c.requires.column c.width.ensures.value }
 
 pub block_start-y-requires : goal.block_start-y-requires
-block_start-y-requires c = record { near = reach_y c.args.block.now.area c.args.across c.args.row c.args.column c.height.result c.requires.across c.requires.column c.requires.few c.height.ensures.value }
-
-pub overflow_mul-result : goal.overflow_mul-result
-overflow_mul-result c = omega (arith, c.requires.few, c.requires.most)
-
-pub overflow_add-result : goal.overflow_add-result
-overflow_add-result c = omega (arith, c.requires.few, c.requires.most)
+block_start-y-requires c = record { near = reach_y c.args.block.now.area c.args.number c.args.row c.args.column c.height.result c.requires.number c.requires.column c.requires.few c.height.ensures.value }
 
 -- where it begins
 at_start : (x start index side of : ℕ) → x ≡ start + index * side → side ≡ of → x ≡ start + index * of
@@ -42,19 +31,16 @@ returns-then-y-plane_height-clause-some c =
     let a = b.area in
     let row = c.args.row in
     let column = c.args.column in
-    let across = c.args.across in
     let x = c.block_start-x.result in
     let y = c.block_start-y.result in
     let ex : x ≡ a.x + column * tx_width a.tx_size = at_start x a.x column c.width.result (tx_width a.tx_size) c.block_start-x.ensures c.width.ensures.value in
     let ey : y ≡ a.y + row * tx_height a.tx_size = at_start y a.y row c.height.result (tx_height a.tx_size) c.block_start-y.ensures c.height.ensures.value in
-    let is : column < blocks_across a = omega (arith, c.requires.across, c.requires.column) in
-    let number : row * across + column ≡ row * blocks_across a + column = ap (λ (n : ℕ). row * n + column) c.requires.across in
-    let few : row * blocks_across a + column < block_count a = omega (arith, number, c.requires.few) in
+    let few : row * blocks_across a + column < block_count a = omega (arith, c.requires.number, c.requires.few) in
     let bx : x < plane_width h b.plane = omega (arith, c.if-x-plane_width.true, c.plane_width.ensures.value) in
     let by : y < plane_height h b.plane = omega (arith, c.if-y-plane_height.true, c.plane_height.ensures.value) in (
       record {
-        column = is;
-        number = number;
+        column = c.requires.column;
+        number = c.requires.number;
         few = c.requires.few;
         x = ex;
         y = ey;
@@ -64,7 +50,7 @@ returns-then-y-plane_height-clause-some c =
         few_rows = omega (arith, c.if-y-plane_height.true, c.plane_height.ensures.small, c.requires.frame.height.most);
       },
       refl,
-      ap (transform_block h b.plane a) number ∙ block_begins h b.plane a row column x y is ex ey few bx by,
+      ap (transform_block h b.plane a) c.requires.number ∙ block_begins h b.plane a row column x y c.requires.column ex ey few bx by,
     )
 
 pub returns-else-x-plane_width-clause-none : goal.returns-else-x-plane_width-clause-none
@@ -78,10 +64,8 @@ returns-else-x-plane_width-clause-none c =
     let y = c.block_start-y.result in
     let ex : x ≡ a.x + column * tx_width a.tx_size = at_start x a.x column c.width.result (tx_width a.tx_size) c.block_start-x.ensures c.width.ensures.value in
     let ey : y ≡ a.y + row * tx_height a.tx_size = at_start y a.y row c.height.result (tx_height a.tx_size) c.block_start-y.ensures c.height.ensures.value in
-    let is : column < blocks_across a = omega (arith, c.requires.across, c.requires.column) in
-    let number : row * c.args.across + column ≡ row * blocks_across a + column = ap (λ (n : ℕ). row * n + column) c.requires.across in
-    ap (transform_block h b.plane a) number
-    ∙ block_beyond h b.plane a row column x y is ex ey
+    ap (transform_block h b.plane a) c.requires.number
+    ∙ block_beyond h b.plane a row column x y c.requires.column ex ey
     (λ bx by. elim c.else-x-plane_width.branch [
       | else-x-plane_width-via-then-x-plane_width+else-y-plane_height w ↦ omega (arith, by, w.if-y-plane_height.false, w.plane_height.ensures.value)
       | else-x-plane_width-via-else-x-plane_width w ↦ omega (arith, bx, w.if-x-plane_width.false, c.plane_width.ensures.value)

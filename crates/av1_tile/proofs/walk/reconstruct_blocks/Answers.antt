@@ -69,7 +69,7 @@ loop-n-preserved g c =
     × Stores g.T.Pixel.num h block.plane after × (after.plane_cfg ≡ before.plane_cfg) × (c.match-place_in.buffers.luma.items ≡ c.loop-n.buffers.luma.items) =
     elim c.match-place_in.branch [
       | in-Some w ↦
-          let number : w.in-Some.place.number ≡ n = w.in-Some.ensures.some.1 ∙ held.number in
+          let number : w.in-Some.place.number ≡ n = w.in-Some.ensures.some.1 in
           let one = w.reconstruct_block.ensures in
           let own = take (end - at) (drop at all) in (
             λ value. w.plane-is ∙ one.walked value
@@ -81,7 +81,7 @@ loop-n-preserved g c =
             ap (λ (b : _). b.luma.items) w.buffers-is ∙ one.luma,
           )
       | in_default w ↦
-          let none : transform_block h block.plane block.area n ≡ None = ap (transform_block h block.plane block.area) (sym held.number) ∙ w.in_default.ensures.none in (
+          let none : transform_block h block.plane block.area n ≡ None = w.in_default.ensures.none in (
             λ value. w.plane-is ∙ no_steps (step value) h block all n before none,
             ap (λ (b : _). b.edges.prepared) w.buffers-is ∙ no_steps edges_in h block all n edges none,
             subst (Stores g.T.Pixel.num h block.plane) (sym w.plane-is) held.stores,

@@ -1,5 +1,5 @@
 use Rattle.std.proofs.Common.{arith}
-use Rattle.av1_streams.proofs.Prefixes.{AppendsPrefix-all}
+use Rattle.av1_recon.proofs.Rows.{as_prefix}
 use Rattle.av1_trace.specs.DifferenceLines.{difference_line}
 use Rattle.av1_trace.proofs.Items.{Appends-item, Appends-items, AppendsPrefix-item}
 use Rattle.av1_trace.proofs.lines.write_each.Goals as goal
@@ -18,4 +18,4 @@ pub returns-clause-whole : goal.returns-clause-whole
 returns-clause-whole g c = Appends-items difference_line c.args.list.now c.loop-difference.difference-index _ _ c.loop-difference-test.false c.loop-difference.invariant.so_far
 
 pub returns-clause-prefix : goal.returns-clause-prefix
-returns-clause-prefix g c = AppendsPrefix-all _ _ _ (returns-clause-whole g c)
+returns-clause-prefix g c = as_prefix _ _ (returns-clause-whole g c)

@@ -1,11 +1,10 @@
-use Rattle.std.proofs.Common.{ap, refl}
+use Rattle.std.proofs.Common.{refl, rules}
 use Rattle.std.proofs.lemmas.Result.{IfOk-weaker}
-use Rattle.av1_streams.proofs.Reading.{finds, read_err, read_whole, unread}
+use Rattle.av1_streams.proofs.Reading.{finds, read_whole}
 use Rattle.av1_trace.specs.declared.error.TraceError.TheVariants.{Memory}
-use Rattle.av1_trace.specs.TraceErrors.{read_error}
 use Rattle.av1_trace.specs.Checking.{IsFound, cause}
 use Rattle.av1_trace.specs.Traces.{max_trace_bytes}
-use Rattle.av1_trace.proofs.Reading.{blames}
+use Rattle.av1_trace.proofs.Reading.{trace_unread}
 use Rattle.av1_trace.proofs.TraceOutcomes.{short_refused}
 use Rattle.av1_trace.proofs.trace.read_differences.Goals as goal
 
@@ -17,7 +16,4 @@ returns-clause-reads g c =
     (IfOk-weaker c.trace_differences.result _ _ (λ list found. (whole.short, found)) c.trace_differences.ensures.found) c.trace_differences.ensures.refused
 
 pub returns-in_err-bytes-clause-reads : goal.returns-in_err-bytes-clause-reads
-returns-in_err-bytes-clause-reads g c =
-    let read = c.in_err-bytes.ensures in
-    unread max_trace_bytes cause IsFound g.R.Source.left g.R.Source.faults _ _ c.from_residual.result c.in_err-bytes.field-0.0 (read_error c.in_err-bytes.field-0.0) (blames c.in_err-bytes.field-0.0)
-    read.taken read.later (λ h. read.read_fault (ap read_err h)) (λ h. read.too_long (ap read_err h)) c.from_residual.ensures.1
+returns-in_err-bytes-clause-reads g c = search (rules, trace_unread)

@@ -1,5 +1,5 @@
 use Rattle.std.proofs.Common.{arith}
-use Rattle.av1_streams.proofs.Prefixes.{AppendsPrefix-all}
+use Rattle.av1_recon.proofs.Rows.{as_prefix}
 use Rattle.av1_trace.proofs.Items.{Appends-item, Appends-items, AppendsPrefix-item}
 use Rattle.av1_view.specs.Page.{piece_text}
 use Rattle.av1_view.proofs.page.write_pieces.Goals as goal
@@ -18,4 +18,4 @@ pub returns-clause-whole : goal.returns-clause-whole
 returns-clause-whole g c = Appends-items piece_text c.args.pieces.now c.loop-piece.piece-index _ _ c.loop-piece-test.false c.loop-piece.invariant.so_far
 
 pub returns-clause-prefix : goal.returns-clause-prefix
-returns-clause-prefix g c = AppendsPrefix-all _ _ _ (returns-clause-whole g c)
+returns-clause-prefix g c = as_prefix _ _ (returns-clause-whole g c)

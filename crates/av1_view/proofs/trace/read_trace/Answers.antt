@@ -1,11 +1,10 @@
-use Rattle.std.proofs.Common.{ap, refl}
+use Rattle.std.proofs.Common.{refl, rules}
 use Rattle.std.proofs.lemmas.Result.{IfOk-weaker}
-use Rattle.av1_streams.proofs.Reading.{finds, read_err, read_whole, unread}
+use Rattle.av1_streams.proofs.Reading.{finds, read_whole}
 use Rattle.av1_trace.specs.declared.error.TraceError.TheVariants.{Memory}
 use Rattle.av1_trace.specs.Checking.{cause}
-use Rattle.av1_trace.specs.TraceErrors.{read_error}
 use Rattle.av1_trace.specs.Traces.{max_trace_bytes}
-use Rattle.av1_trace.proofs.Reading.{blames}
+use Rattle.av1_trace.proofs.Reading.{trace_unread}
 use Rattle.av1_trace.proofs.TraceOutcomes.{short_refused}
 use Rattle.av1_view.specs.TracePages.{IsFound}
 use Rattle.av1_view.proofs.trace.read_trace.Goals as goal
@@ -18,7 +17,4 @@ returns g c =
     (IfOk-weaker c.trace_of.result _ _ (λ trace found. (whole.short, found)) c.trace_of.ensures.found) c.trace_of.ensures.refused
 
 pub returns-in_err-bytes : goal.returns-in_err-bytes
-returns-in_err-bytes g c =
-    let read = c.in_err-bytes.ensures in
-    unread max_trace_bytes cause IsFound g.R.Source.left g.R.Source.faults _ _ c.from_residual.result c.in_err-bytes.field-0.0 (read_error c.in_err-bytes.field-0.0) (blames c.in_err-bytes.field-0.0)
-    read.taken read.later (λ h. read.read_fault (ap read_err h)) (λ h. read.too_long (ap read_err h)) c.from_residual.ensures.1
+returns-in_err-bytes g c = search (rules, trace_unread)
