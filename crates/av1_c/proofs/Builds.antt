@@ -1,27 +1,26 @@
 -- What a call of a builder leaves, and which status it answers.
-use Rattle.std.proofs.Common.{◌≡◌, ◌≢◌, ℕ, ◌+◌, ◌^◌, ◌<◌, ◌≤◌, Bool, true, false, ◌&&◌, List, [], ◌++◌, length, take, drop, Option, Some, None, Result, Ok, Err, refl, sym, ap, subst, ◌∙◌, arith}
-use Rattle.std.specs.Prelude.{nat_le, if◌then◌else◌, IsErrAnd, OnErr, OnOk}
+use Rattle.std.proofs.Common.{◌≡◌, ◌≢◌, ℕ, ◌+◌, ◌^◌, ◌≤◌, Bool, true, ◌&&◌, List, [], ◌++◌, length, take, drop, Result, Ok, Err, refl, sym, ap, subst, ◌∙◌, arith}
+use Rattle.std.specs.Prelude.{OnErr, OnOk}
 use Rattle.std.specs.List.{list_all}
-use Rattle.std.proofs.lemmas.Bool.{le-leb, lt-leb}
+use Rattle.std.proofs.lemmas.Bool.{le-leb}
 use Rattle.std.proofs.lemmas.List.{length-append, length-drop, length-take-le}
 use Rattle.std.proofs.Math.Seq.{take-append_seam, drop-append_seam}
 use Rattle.av1_plan.specs.declared.header.Header.{Header}
-use Rattle.av1_planwrite.specs.declared.error.BuildError.{BuildError}
 use Rattle.av1_planwrite.specs.declared.error.BuildError.TheVariants.{NotNow, NotAdmitted, TooLong, Memory}
 use Rattle.av1_planwrite.specs.declared.progress.Progress.{Progress}
 use Rattle.av1_planwrite.specs.declared.state.State.{State}
 use Rattle.av1_planwrite.specs.Builder.{built}
-use Rattle.av1_planwrite.specs.Building.{Building, argument_refusal, refusal}
+use Rattle.av1_planwrite.specs.Building.{Building, refusal}
 use Rattle.av1_planwrite.specs.States.{is_state, stopped}
 use Rattle.av1_planwrite.specs.Text.{byte}
 use Rattle.av1_planwrite.proofs.BuilderParts.{other_bytes}
-use Rattle.av1_c.specs.BuildFaults.{answered, build_status, refusal_status, asked_status}
+use Rattle.av1_c.specs.BuildFaults.{answered, build_status, asked_status}
 use Rattle.av1_c.specs.Builders.{AreAppended, Hold, header_of, is_part, state_of}
 use Rattle.av1_c.specs.declared.build_fault.BuildFault.{BuildFault}
 use Rattle.av1_c.specs.declared.build_fault.BuildFault.TheVariants.{BadState, Refused, RoomTooSmall}
 use Rattle.av1_c.specs.declared.builder.Builder.{Builder}
 use Rattle.av1_c.specs.declared.plan_header.PlanHeader.{PlanHeader}
-use Rattle.av1_c.specs.declared.status.TheConstants.{DONE, BAD_STATE}
+use Rattle.av1_c.specs.declared.status.TheConstants.{DONE}
 
 -- ---- what a call leaves
 
@@ -68,56 +67,10 @@ more_bytes room bytes written fields is fits = omega (arith, ap length is, lengt
 
 -- ---- statuses
 
-first_refusal : (asked admitted : Bool) (bytes : List ℕ) (e : BuildError) → argument_refusal asked admitted ≡ Some e → refusal asked admitted bytes ≡ Some e
-first_refusal false admitted bytes e f = f
-first_refusal true false bytes e f = f
-first_refusal true true bytes e f = absurd cc
-
--- the numbers aren't those of a builder
-pub invalid_status : (valid : Bool) (r : Option BuildError) (len room : ℕ) → valid ≡ false → BAD_STATE ≡ asked_status valid r len room
-invalid_status valid r len room e = rw e refl
-
--- the arguments are refused
-pub refused_status : (valid asked admitted : Bool) (bytes : List ℕ) (room : ℕ) (e : BuildError) → valid ≡ true → argument_refusal asked admitted ≡ Some e
-    → refusal_status e ≡ asked_status valid (refusal asked admitted bytes) (length bytes) room
-refused_status valid asked admitted bytes room e v f = rw (v, first_refusal asked admitted bytes e f) refl
-
--- what is appended is too long, or doesn't fit
-pub short_status : (valid asked admitted : Bool) (bytes : List ℕ) (room : ℕ) (fault : BuildFault) → valid ≡ true → asked ≡ true → admitted ≡ true
-    → fault ≡ (if nat_le (length bytes) (2 ^ 26) then RoomTooSmall else Refused TooLong) → (fault ≡ RoomTooSmall → room < length bytes)
-    → build_status fault ≡ asked_status valid (refusal asked admitted bytes) (length bytes) room
-short_status valid asked admitted bytes room fault v e f is small = rw (v, e, f) (by (nat_le (length bytes) (2 ^ 26)) fault is small)
-  where
-    by : (b : Bool) (fault : BuildFault) → fault ≡ (if b then RoomTooSmall else Refused TooLong) → (fault ≡ RoomTooSmall → room < length bytes)
-        → build_status fault ≡ asked_status true (if b then None else Some TooLong) (length bytes) room
-    by true fault is small = ap build_status is ∙ sym (ap (λ (fits : Bool). if fits then DONE else build_status RoomTooSmall) (lt-leb (length bytes) room (small is)))
-    by false fault is small = ap build_status is
-
 -- all is done
 pub done_status : (valid asked admitted : Bool) (bytes : List ℕ) (room : ℕ) → valid ≡ true → asked ≡ true → admitted ≡ true → length bytes ≤ 2 ^ 26 → length bytes ≤ room
     → DONE ≡ asked_status valid (refusal asked admitted bytes) (length bytes) room
 done_status valid asked admitted bytes room v e f short fits = rw (v, e, f, le-leb (length bytes) (2 ^ 26) short, le-leb (length bytes) room fits) refl
-
--- ---- calls that end early
-
--- a call on numbers of no builder
-pub invalid_call : {X : Type 0} (result : Result X BuildFault) (fault : BuildFault) (valid : Bool) (r : Option BuildError) (len room : ℕ) → IsErrAnd result (λ f. f ≡ fault) → fault ≡ BadState → valid ≡ false
-    → answered result ≡ asked_status valid r len room
-invalid_call (Ok x) fault valid r len room e is v = absurd e
-invalid_call (Err f) fault valid r len room e is v = ap build_status (e ∙ is) ∙ invalid_status valid r len room v
-
--- a call whose arguments are refused
-pub refused_call : {X : Type 0} (result : Result X BuildFault) (error : BuildError) (valid asked admitted : Bool) (bytes : List ℕ) (room : ℕ) → IsErrAnd result (λ f. f ≡ Refused error) → valid ≡ true
-    → argument_refusal asked admitted ≡ Some error → answered result ≡ asked_status valid (refusal asked admitted bytes) (length bytes) room
-refused_call (Ok x) error valid asked admitted bytes room e v r = absurd e
-refused_call (Err f) error valid asked admitted bytes room e v r = ap build_status e ∙ refused_status valid asked admitted bytes room error v r
-
--- a call whose bytes are too many, or don't fit
-pub short_call : {X : Type 0} (result : Result X BuildFault) (fault : BuildFault) (valid asked admitted : Bool) (bytes : List ℕ) (room : ℕ) → IsErrAnd result (λ f. f ≡ fault) → valid ≡ true → asked ≡ true → admitted ≡ true
-    → fault ≡ (if nat_le (length bytes) (2 ^ 26) then RoomTooSmall else Refused TooLong) → (fault ≡ RoomTooSmall → room < length bytes)
-    → answered result ≡ asked_status valid (refusal asked admitted bytes) (length bytes) room
-short_call (Ok x) fault valid asked admitted bytes room e v a b is small = absurd e
-short_call (Err f) fault valid asked admitted bytes room e v a b is small = ap build_status e ∙ short_status valid asked admitted bytes room fault v a b is small
 
 -- ---- what is answered
 

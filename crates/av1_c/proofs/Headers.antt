@@ -1,6 +1,6 @@
 -- The header at the front of bytes: where it is read, and what it tells of a plan.
-use Rattle.std.proofs.Common.{◌≡◌, ◌⊎◌, inl, inr, ℕ, ◌+◌, ◌≤◌, List, [], ◌∷◌, ◌++◌, length, Result, Ok, Err, refl, sym, ap, subst, ◌∙◌, append_assoc}
-use Rattle.std.specs.Prelude.{IfErr, IsErrAnd, IsErrOf}
+use Rattle.std.proofs.Common.{◌≡◌, ℕ, ◌+◌, ◌≤◌, List, [], ◌∷◌, ◌++◌, length, Result, Ok, Err, refl, sym, ap, subst, ◌∙◌, append_assoc}
+use Rattle.std.specs.Prelude.{IfErr, IsErrAnd}
 use Rattle.std.specs.Int.{to_le_bytes}
 use Rattle.av1_plan.specs.Format.{Format, Input, Reading, asks, done, ended, on_ok, read, start, width, ◌>>=◌}
 use Rattle.av1_plan.specs.Grammar.{header, plan, references, superblocks}
@@ -20,11 +20,10 @@ use Rattle.av1_recon.specs.Outcomes.{ArePlan}
 use Rattle.av1_streams.specs.Streams.{max_plan_bytes}
 use Rattle.av1_tile.specs.Output.{planes_of}
 use Rattle.av1_trace.specs.Samples.{planes_len}
-use Rattle.av1_c.specs.Faults.{plan_fault, status_of}
+use Rattle.av1_c.specs.Faults.{plan_fault}
 use Rattle.av1_c.specs.Plans.{BeginWith, IsHeaderFault}
 use Rattle.av1_c.specs.declared.fault.PlanFault.{PlanFault}
-use Rattle.av1_c.specs.declared.fault.PlanFault.TheVariants.{Memory}
-use Rattle.av1_c.specs.declared.status.TheConstants.{DONE, OUT_OF_MEMORY}
+use Rattle.av1_c.specs.declared.status.TheConstants.{DONE}
 use Rattle.av1_c.proofs.Lengths.{wanted_is}
 
 -- ---- a header that is read

@@ -1,6 +1,5 @@
--- What a call asks of a block of an intra mode is what predicting it asks, and what is refused is not what is asked for.
+-- What a call asks of a block of an intra mode is what predicting it asks, and what is painted is what the call says.
 use Rattle.std.proofs.Common.{ℕ, ℤ, ◌≡◌, ◌≢◌, ◌≤◌, List, true, arith, ap, ◌∙◌, sym, subst, unsigned_abs}
-use Rattle.std.specs.Prelude.{Some, None}
 use Rattle.av1_blocks.specs.Modes.{is_directional}
 use Rattle.av1_blocks.specs.declared.predict.IntraParam.TheVariants.{AngleDelta}
 use Rattle.av1_blocks.specs.declared.predict.PredictionMode.{PredictionMode}
@@ -14,11 +13,8 @@ use Rattle.av1_intra.specs.Predicted.{angle_or_alpha, edge_round, predicted}
 use Rattle.av1_intra.specs.declared.directional.DirectionalBlock.{DirectionalBlock}
 use Rattle.av1_intra.specs.declared.variant.PredictionVariant.{PredictionVariant}
 use Rattle.av1_intra.proofs.ByMode.{angle_fine, angle_given}
-use Rattle.av1_c.proofs.Blocks.{same_size}
 use Rattle.av1_c.specs.Arguments.{rectangle}
-use Rattle.av1_c.specs.IntraBlocks.{AreLong, HasSides, IsIntraBlock, IsIntraFault, IsIntraMode, block_of, mode_in, variant_in, with_prediction}
-use Rattle.av1_c.specs.declared.argument.BadArgument.{BadArgument}
-use Rattle.av1_c.specs.declared.argument.BadArgument.TheVariants as bad
+use Rattle.av1_c.specs.IntraBlocks.{AreLong, block_of, mode_in, variant_in, with_prediction}
 use Rattle.av1_c.specs.declared.intra.IntraBlock.{IntraBlock}
 
 -- the rectangle of the block does not lie in the samples
@@ -37,18 +33,6 @@ pub turned_angle : (mode : PredictionMode) (step : ℤ) → unsigned_abs step �
     → unsigned_abs (angle_or_alpha mode (AngleDelta step)) ≢ 90 → unsigned_abs (angle_or_alpha mode (AngleDelta step)) ≢ 180 → is_interpolated (unsigned_abs (angle_or_alpha mode (AngleDelta step))) ≡ true
 turned_angle mode step few h = angle_fine mode h (angle_or_alpha mode (AngleDelta step)) (angle_given mode (AngleDelta step) few (omega arith))
 
--- a block that is asked for is refused for nothing
-pub faultless : (bits : ℕ) (b : IntraBlock) (mode : PredictionMode) (stride x y left above ac samples : ℕ) (fault : BadArgument) (size : TxSize) → IsIntraFault bits b mode stride x y left above ac samples fault
-    → IsIntraBlock bits b mode stride x y left above ac samples size → ⊥
-faultless bits b mode stride x y left above ac samples bad.Size size none block = let e : Some size ≡ None = sym block.sized ∙ none in cc
-faultless bits b mode stride x y left above ac samples bad.Angle size (s, (is, never)) block = never block.turn
-faultless bits b mode stride x y left above ac samples bad.Depth size (s, (is, (turn, never))) block = never block.depth
-faultless bits b mode stride x y left above ac samples bad.Area size (s, (is, (turn, (depth, never)))) block =
-    never (subst (λ t. AreRows stride (rectangle x y t) samples) (same_size b.tx_size size s block.sized is) block.rows)
-faultless bits b mode stride x y left above ac samples bad.Short size (s, (is, (turn, (depth, (rows, never))))) block =
-    never (subst (λ t. HasSides b mode t left above ac) (same_size b.tx_size size s block.sized is) block.sides)
-faultless bits b mode stride x y left above ac samples fault size never block = never
-
 -- what was painted in the block's own words is what the call says
 pub predicted_so : {T : Type 0} (num : T → ℕ) (pixel : ℕ → T) (b : IntraBlock) (mode m : PredictionMode) (size : TxSize) (stride x y : ℕ) (left : List T) (corner : T) (above : List T) (ac : List ℤ) (alpha z : ℤ)
     → (before after : List T) (area : StoredArea) (block : DirectionalBlock) (v : PredictionVariant)
@@ -66,7 +50,3 @@ predicted_so {T} num pixel b mode m size stride x y left corner above ac alpha z
     ∙ ap (λ u. P A K u m z) variant_is
     ∙ ap (λ n. P A K (variant_in b) n z) mode_is
     ∙ ap (λ w. P A K (variant_in b) (mode_in b mode) w) alpha_is
-
--- a number names one mode
-pub one_mode : (number : ℕ) (m n : PredictionMode) → IsIntraMode number m → IsIntraMode number n → m ≡ n
-one_mode number m n is other = let e : Some m ≡ Some n = sym is.named ∙ other.named in cc

@@ -1,9 +1,8 @@
 -- The least and the greatest of some numbers tell whether all have so many bits.
-use Rattle.std.proofs.Common.{ℕ, ◌≡◌, ◌⊎◌, inl, inr, ◌+◌, ◌<◌, ℤ, pos, ◌≤ℤ◌, List, arith, sym, subst}
+use Rattle.std.proofs.Common.{ℕ, ◌≡◌, ◌⊎◌, inl, inr, ◌+◌, ◌<◌, ℤ, ◌≤ℤ◌, List, arith, sym, subst}
 use Rattle.std.proofs.lemmas.Bool.{cases_lt}
 use Rattle.std.proofs.lemmas.Int.{ints}
 use Rattle.av1_dct.specs.Arithmetic.{at, FitsBits}
-use Rattle.av1_dct.proofs.Fits.{zero_fits}
 
 -- The first n numbers lie between these two, each of which fits where they do.
 pub record AreLimits (bits n : ℕ) (numbers : List ℤ) (least greatest : ℤ) : Type 0 where
@@ -11,9 +10,6 @@ pub record AreLimits (bits n : ℕ) (numbers : List ℤ) (least greatest : ℤ) 
   pub high : (k : ℕ) → k < n → at numbers k ≤ℤ greatest
   pub least_fits : ((k : ℕ) → k < n → FitsBits bits (at numbers k)) → FitsBits bits least
   pub greatest_fits : ((k : ℕ) → k < n → FitsBits bits (at numbers k)) → FitsBits bits greatest
-
-pub limits_of_none : (bits : ℕ) (numbers : List ℤ) → AreLimits bits 0 numbers (pos 0) (pos 0)
-limits_of_none bits numbers = record { low = λ k h. absurd (omega (arith, h)); high = λ k h. absurd (omega (arith, h)); least_fits = λ _. zero_fits bits; greatest_fits = λ _. zero_fits bits }
 
 -- either of two numbers fits where both do
 either_fits : (bits : ℕ) (z a b : ℤ) → (z ≡ a) ⊎ (z ≡ b) → FitsBits bits a → FitsBits bits b → FitsBits bits z
@@ -38,10 +34,3 @@ limits_on bits n numbers least greatest number least' greatest' is old l0 l1 le 
       least_fits = λ all. either_fits bits least' least number le (old.least_fits (λ k h. all k (omega arith))) (subst (FitsBits bits) (sym is) (all n (omega arith)));
       greatest_fits = λ all. either_fits bits greatest' greatest number ge (old.greatest_fits (λ k h. all k (omega arith))) (subst (FitsBits bits) (sym is) (all n (omega arith)));
     }
-
--- where both fit all do
-pub all_within : (bits n : ℕ) (numbers : List ℤ) (least greatest : ℤ) → AreLimits bits n numbers least greatest → FitsBits bits least → FitsBits bits greatest → (k : ℕ) → k < n → FitsBits bits (at numbers k)
-all_within bits n numbers least greatest limits fl fg k h =
-    let a = limits.low k h in
-    let b = limits.high k h in
-    record { low = omega (arith, ints, a, fl.low); high = omega (arith, ints, b, fg.high) }

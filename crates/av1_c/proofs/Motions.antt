@@ -17,7 +17,7 @@ use Rattle.av1_frame.proofs.Planes.{some_item}
 use Rattle.av1_frame.proofs.Slices.{slice_plane_is}
 use Rattle.av1_inter.specs.Filters.{filter_of}
 use Rattle.av1_inter.specs.Motion.{entry, prepared, single}
-use Rattle.av1_inter.specs.Places.{AreWithinDepth, corner_of, IsStoredFrom, samples_from}
+use Rattle.av1_inter.specs.Places.{corner_of, IsStoredFrom, samples_from}
 use Rattle.av1_inter.proofs.Strips.{prepared_moved, single_moved}
 use Rattle.av1_c.specs.Arguments.{filter_mode}
 use Rattle.av1_c.specs.Motions.{HoldBlock, IsMotion, config_of, moved_sample, rectangle_at, rows_for, source_at}
@@ -37,13 +37,6 @@ read_inside from block n m c r h k =
     let ends : (from.y - 3 + r) * from.stride + (from.x - 3 + c + 1) ≤ rows_for from block * from.stride =
     row_end_le (from.y - 3 + r) (rows_for from block) from.stride (from.x - 3 + c + 1) (rows_for from block * from.stride) refl (omega (arith, s.top)) (omega (arith, s.left, s.rows.columns)) in
     omega (arith, ends)
-
--- samples of 8 bits
-pub bytes_within : (from : Place) (block : MotionBlock) (src : List ℕ) → IsMotion from block (length src) → ((i : ℕ) → i < length src → slice_index src i < 256) → AreWithinDepth 8 (source_at from src) (block.width + 7) (block.height + 7)
-bytes_within from block src m bytes c r h k =
-    let inside = read_inside from block (length src) m c r h k in
-    let long = rows_long from block (length src) m in
-    bytes _ (omega (arith, inside, long))
 
 several : (a b : ℕ) → 0 < b → a ≤ a * b
 several a b h = grind arith

@@ -303,6 +303,50 @@ fn predict_by<T: Pixel>(
     }
 }
 
+/// Predicts a block by the intra mode of its number, where all that the call asks for can be had.
+#[inline(always)]
+fn predict_by_number<T: Pixel>(
+    samples: &mut [T],
+    stride: usize,
+    x: usize,
+    y: usize,
+    block: &IntraBlock,
+    left: &[T],
+    corner: T,
+    above: &[T],
+) -> u32
+    ensures done { result ≡ DONE → (mode : Mode) × ((size : Size) × (IsIntraMode block.now.mode mode
+        × (IsIntraBlock T.BITS block.now mode stride x y (length left.now) (length above.now) 0 (length samples.old) size
+        × (samples.new ≡ with_prediction T.num T.pixel block.now mode stride x y size left.now corner above.now [] (pos 0) samples.old)))) }
+    ensures asked { (mode : Mode) → (size : Size) → IsIntraMode block.now.mode mode
+        → IsIntraBlock T.BITS block.now mode stride x y (length left.now) (length above.now) 0 (length samples.old) size → result ≡ DONE }
+    ensures mode { result ≡ BAD_MODE → HasNoMode block.now.mode }
+    ensures size { result ≡ BAD_SIZE → (mode : Mode) × (IsIntraMode block.now.mode mode × HasNoSize block.now.tx_size) }
+    ensures angle { result ≡ BAD_ANGLE → (mode : Mode) × (IsIntraMode block.now.mode mode × HasNoAngle block.now mode) }
+    ensures depth { result ≡ BAD_DEPTH → (mode : Mode) × (IsIntraMode block.now.mode mode × HasNoDepth T.BITS block.now mode) }
+    ensures area { result ≡ BAD_AREA → (mode : Mode) × (IsIntraMode block.now.mode mode × LiesOutside T.BITS block.now mode stride x y (length samples.old)) }
+    ensures short { result ≡ TOO_SHORT → (mode : Mode) × (IsIntraMode block.now.mode mode × HasShortSides T.BITS block.now mode stride x y (length left.now) (length above.now) 0 (length samples.old)) }
+    ensures kept { result ≢ DONE → samples.new ≡ samples.old }
+    ensures known { (result ≡ DONE) ⊎ ((result ≡ BAD_MODE) ⊎ ((result ≡ BAD_SIZE) ⊎ ((result ≡ BAD_ANGLE) ⊎ ((result ≡ BAD_DEPTH) ⊎ ((result ≡ BAD_AREA) ⊎ (result ≡ TOO_SHORT)))))) }
+{
+    let Some(mode) = mode_of(block.mode) else {
+        return BAD_MODE;
+    };
+    predict_by(
+        *block,
+        mode,
+        samples,
+        stride,
+        x,
+        y,
+        left,
+        corner,
+        above,
+        &[],
+        0,
+    )
+}
+
 /// Predicts the samples of a block by its intra mode, from the sides round it, at a depth of 8: the specification's "intra prediction process"
 /// for one block of a transform's size. The block begins at column `x` of row `y` of `samples`, whose rows stand `stride` apart. All other
 /// samples stay.
@@ -343,22 +387,7 @@ pub extern "C" fn av1_predict_intra_8(
     ensures kept { result ≢ DONE → samples.new ≡ samples.old }
     ensures known { (result ≡ DONE) ⊎ ((result ≡ BAD_MODE) ⊎ ((result ≡ BAD_SIZE) ⊎ ((result ≡ BAD_ANGLE) ⊎ ((result ≡ BAD_DEPTH) ⊎ ((result ≡ BAD_AREA) ⊎ (result ≡ TOO_SHORT)))))) }
 {
-    let Some(mode) = mode_of(block.mode) else {
-        return BAD_MODE;
-    };
-    predict_by(
-        *block,
-        mode,
-        samples,
-        stride,
-        x,
-        y,
-        left,
-        corner,
-        above,
-        &[],
-        0,
-    )
+    predict_by_number(samples, stride, x, y, block, left, corner, above)
 }
 
 /// The same for samples of 16 bits at a depth of 8, 10 or 12. Samples of the sides that are past the depth are taken as they are.
@@ -391,22 +420,7 @@ pub extern "C" fn av1_predict_intra_16(
     ensures kept { result ≢ DONE → samples.new ≡ samples.old }
     ensures known { (result ≡ DONE) ⊎ ((result ≡ BAD_MODE) ⊎ ((result ≡ BAD_SIZE) ⊎ ((result ≡ BAD_ANGLE) ⊎ ((result ≡ BAD_DEPTH) ⊎ ((result ≡ BAD_AREA) ⊎ (result ≡ TOO_SHORT)))))) }
 {
-    let Some(mode) = mode_of(block.mode) else {
-        return BAD_MODE;
-    };
-    predict_by(
-        *block,
-        mode,
-        samples,
-        stride,
-        x,
-        y,
-        left,
-        corner,
-        above,
-        &[],
-        0,
-    )
+    predict_by_number(samples, stride, x, y, block, left, corner, above)
 }
 
 /// Predicts the samples of a block of chroma from luma, at a depth of 8: each becomes the DC prediction by the sides that lie in the tile, and

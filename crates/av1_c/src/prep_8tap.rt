@@ -1,9 +1,8 @@
 //! A block that is prepared for the average with another.
 //!
 //! AV1 specification: block inter prediction process, with the rounding of compound prediction.
-ghost use Rattle.std.specs.Prelude.{◌≡◌, ◌≢◌, ◌+◌, IfOk, IfErr, map, length};
+ghost use Rattle.std.specs.Prelude.{◌≡◌, ◌≢◌, IfOk, IfErr, map, length};
 ghost use Rattle.av1_blocks.specs.Depths.{IsDepth};
-ghost use Rattle.av1_inter.specs.Places.{AreWithinDepth};
 ghost use Rattle.av1_c.specs.Motions.{AreOfDepth, AreSides, HasDeepSample, HasFewValues, HasNoFilters, HasNoFractions, HasNoSource, HoldBlock, IsDeepPrepFault, IsDeepPrepStatus, IsPrep, IsPrepStatus, place, source_at};
 
 use crate::argument::{BadArgument, filter_mode};
@@ -19,8 +18,7 @@ use av1_inter::prep_8tap;
 #[inline(always)]
 fn prep<T: Pixel>(values: &mut [i16], src: &[T], from: Place, block: MotionBlock, bit_depth: usize)
     requires asked { IsPrep (length values.old) from (length src.now) block }
-    requires depths { IsDepth bit_depth }
-    requires within { AreWithinDepth bit_depth (source_at from (map T.num src.now)) (block.width + 7) (block.height + 7) }
+    requires deep { AreOfDepth bit_depth from (map T.num src.now) block }
     ensures { HoldBlock bit_depth block (source_at from (map T.num src.now)) values.old values.new }
 {
     let rows = rows_of(src, from, block);

@@ -1,10 +1,9 @@
 //! A block that is predicted from one reference.
 //!
 //! AV1 specification: block inter prediction process.
-ghost use Rattle.std.specs.Prelude.{◌≡◌, ◌≢◌, ◌+◌, ◌≤◌, IfOk, IfErr, map, length};
+ghost use Rattle.std.specs.Prelude.{◌≡◌, ◌≢◌, ◌≤◌, IfOk, IfErr, map, length};
 ghost use Rattle.av1_blocks.specs.Depths.{IsDepth};
 ghost use Rattle.av1_frame.specs.Samples.{paint};
-ghost use Rattle.av1_inter.specs.Places.{AreWithinDepth};
 ghost use Rattle.av1_c.specs.Motions.{AreOfDepth, AreSides, HasDeepSample, HasNoFilters, HasNoFractions, HasNoPlace, IsDeepPutFault, IsDeepPutStatus, IsPut, IsPutStatus, moved_sample, place, rectangle_at, source_at, with_block};
 
 use crate::argument::{BadArgument, filter_mode};
@@ -25,9 +24,8 @@ fn put<T: Pixel>(
     bit_depth: usize,
 )
     requires asked { IsPut to (length dst.old) from (length src.now) block }
-    requires depths { IsDepth bit_depth }
+    requires deep { AreOfDepth bit_depth from (map T.num src.now) block }
     requires depth { bit_depth ≤ T.BITS }
-    requires within { AreWithinDepth bit_depth (source_at from (map T.num src.now)) (block.width + 7) (block.height + 7) }
     ensures { dst.new ≡ paint to.stride (rectangle_at to block.width block.height) (λ r c _. T.pixel (moved_sample bit_depth block (source_at from (map T.num src.now)) r c)) dst.old }
 {
     let rows = rows_of(src, from, block);

@@ -1,20 +1,12 @@
-use Rattle.std.proofs.Common.{refl, ◌≡◌, ◌<◌, ◌^◌, ◌++◌, [], ◌∷◌, List, ℕ, Some, length, take, ap, sym, subst, ◌∙◌, true, arith}
-use Rattle.std.specs.Prelude.{nat_le, if◌then◌else◌}
+use Rattle.std.proofs.Common.{refl, ◌≡◌, ◌++◌, [], ◌∷◌, List, ℕ, length, take, ap, sym, subst, true, arith}
 use Rattle.av1_planwrite.specs.Builder.{built}
-use Rattle.av1_planwrite.specs.Building.{Building, Tells, admits_mark, argument_refusal, asked_part, asks_mark, with_mark}
+use Rattle.av1_planwrite.specs.Building.{Building, Tells, admits_mark, asked_part, asks_mark, with_mark}
 use Rattle.av1_planwrite.specs.States.{stopped}
 use Rattle.av1_planwrite.proofs.BuilderParts.{other_bytes}
 use Rattle.av1_planwrite.proofs.PlanTexts.{byte_is}
-use Rattle.av1_planwrite.specs.declared.error.BuildError.TheVariants.{TooLong}
-use Rattle.av1_c.specs.declared.build_fault.BuildFault.TheVariants.{Refused, RoomTooSmall}
 use Rattle.av1_c.specs.Builders.{header_of, is_builder, plan_of, state_of}
-use Rattle.av1_c.proofs.Builds.{held, invalid_call, one_more, refused_call, short_call, done_status}
+use Rattle.av1_c.proofs.Builds.{done_status, held, one_more}
 use Rattle.av1_c.proofs.build_calls.give_mark.Goals as goal
-
-pub returns-in_err-progress-clause-status : goal.returns-in_err-progress-clause-status
-returns-in_err-progress-clause-status c =
-    let k = c.in_err-progress in
-    invalid_call c.from_residual.result k.field-0.0 (is_builder c.args.builder.now (length c.args.room.now)) _ _ _ c.from_residual.ensures.1 k.ensures.fault k.ensures.invalid
 
 pub returns-clause-holds : goal.returns-clause-holds
 returns-clause-holds c =
@@ -29,30 +21,6 @@ returns-clause-holds c =
     held b.header c.stopped.result b.written c.in_ok-end.end room _ (c.args.mark ∷ []) c.pass_mark.new.self c.state.result (with_mark plan c.args.mark)
     c.stopped.ensures.header c.stopped.ensures.state c.stopped.ensures.written c.stopped.ensures.valid c.in_ok-end.ensures.appended c.state.ensures.stopped c.state.ensures.valid
     after refl (ap (λ (more : List ℕ). take b.written room ++ more) (byte_is c.args.mark (omega arith)))
-
-pub returns-in_err-check_mark-clause-status : goal.returns-in_err-check_mark-clause-status
-returns-in_err-check_mark-clause-status c =
-    let b = c.args.builder.now in
-    let room = c.args.room.now in
-    let plan = plan_of b room in
-    let k = c.in_err-check_mark in
-    let refused = subst (λ (d : Building). argument_refusal (asks_mark (asked_part d)) (admits_mark d.header (asked_part d) c.args.mark) ≡ Some k.field-0.0) c.in_ok-progress.ensures.resumed k.ensures.refused in
-    refused_call c.from_residual-in_err-check_mark.result k.field-0.0 (is_builder b (length room)) (asks_mark (asked_part plan)) (admits_mark plan.header (asked_part plan) c.args.mark) (with_mark plan c.args.mark).bytes (length room)
-    c.from_residual-in_err-check_mark.ensures.1 c.in_ok-progress.ensures.valid refused
-
-pub returns-in_err-end-clause-status : goal.returns-in_err-end-clause-status
-returns-in_err-end-clause-status c =
-    let b = c.args.builder.now in
-    let room = c.args.room.now in
-    let plan = plan_of b room in
-    let k = c.in_err-end in
-    let start = c.in_ok-progress.ensures.resumed in
-    let asked = subst (λ (d : Building). asks_mark (asked_part d) ≡ true) start c.in_ok-check_mark.ensures.asked in
-    let admitted = subst (λ (d : Building). admits_mark d.header (asked_part d) c.args.mark ≡ true) start c.in_ok-check_mark.ensures.admitted in
-    let len = one_more room b.written c.args.mark c.in_ok-progress.ensures.written in
-    short_call c.from_residual-in_err-end.result k.field-0.0 (is_builder b (length room)) (asks_mark (asked_part plan)) (admits_mark plan.header (asked_part plan) c.args.mark) (with_mark plan c.args.mark).bytes (length room)
-    c.from_residual-in_err-end.ensures.1 c.in_ok-progress.ensures.valid asked admitted
-    (k.ensures.fault ∙ ap (λ (n : ℕ). if nat_le n (2 ^ 26) then RoomTooSmall else Refused TooLong) len) (λ is. subst (λ (n : ℕ). length room < n) len (k.ensures.small is))
 
 pub returns-clause-status : goal.returns-clause-status
 returns-clause-status c =

@@ -1,47 +1,12 @@
-use Rattle.std.proofs.Common.{◌≡◌, ◌<◌, ◌^◌, ◌++◌, [], ℕ, Some, length, ap, refl, sym, subst, ◌∙◌, true, arith}
-use Rattle.std.specs.Prelude.{nat_le, if◌then◌else◌}
+use Rattle.std.proofs.Common.{◌≡◌, ◌++◌, [], length, refl, sym, subst, true, arith}
 use Rattle.av1_planwrite.specs.Builder.{built}
-use Rattle.av1_planwrite.specs.Building.{Building, Tells, admits_reference, argument_refusal, asks_reference, plan_with_reference, with_reference}
+use Rattle.av1_planwrite.specs.Building.{Building, Tells, admits_reference, asks_reference, plan_with_reference, with_reference}
 use Rattle.av1_planwrite.specs.States.{stopped}
-use Rattle.av1_planwrite.specs.declared.error.BuildError.TheVariants.{TooLong}
 use Rattle.av1_planwrite.specs.Text.{plane_text}
 use Rattle.av1_planwrite.proofs.BuilderParts.{other_bytes}
-use Rattle.av1_c.specs.declared.build_fault.BuildFault.TheVariants.{Refused, RoomTooSmall}
 use Rattle.av1_c.specs.Builders.{header_of, is_builder, plan_of, state_of}
-use Rattle.av1_c.proofs.Builds.{held, invalid_call, more_bytes, refused_call, short_call, done_status}
+use Rattle.av1_c.proofs.Builds.{done_status, held, more_bytes}
 use Rattle.av1_c.proofs.build_calls.give_reference.Goals as goal
-
-pub returns-in_err-progress-clause-status : goal.returns-in_err-progress-clause-status
-returns-in_err-progress-clause-status c =
-    let k = c.in_err-progress in
-    invalid_call c.from_residual.result k.field-0.0 (is_builder c.args.builder.now (length c.args.room.now)) _ _ _ c.from_residual.ensures.1 k.ensures.fault k.ensures.invalid
-
-pub returns-in_err-check_reference-clause-status : goal.returns-in_err-check_reference-clause-status
-returns-in_err-check_reference-clause-status c =
-    let b = c.args.builder.now in
-    let room = c.args.room.now in
-    let plan = plan_of b room in
-    let a = c.args in
-    let k = c.in_err-check_reference in
-    let refused = subst (λ (d : Building). argument_refusal (asks_reference d) (admits_reference d.header a.y.now a.u.now a.v.now) ≡ Some k.field-0.0) c.in_ok-progress.ensures.resumed k.ensures.refused in
-    refused_call c.from_residual-in_err-check_reference.result k.field-0.0 (is_builder b (length room)) (asks_reference plan) (admits_reference plan.header a.y.now a.u.now a.v.now) (with_reference plan a.y.now a.u.now a.v.now).bytes (length room)
-    c.from_residual-in_err-check_reference.ensures.1 c.in_ok-progress.ensures.valid refused
-
-pub returns-in_err-end-clause-status : goal.returns-in_err-end-clause-status
-returns-in_err-end-clause-status c =
-    let b = c.args.builder.now in
-    let room = c.args.room.now in
-    let plan = plan_of b room in
-    let a = c.args in
-    let k = c.in_err-end in
-    let start = c.in_ok-progress.ensures.resumed in
-    let asked = subst (λ (d : Building). asks_reference d ≡ true) start c.in_ok-check_reference.ensures.asked in
-    let admitted = subst (λ (d : Building). admits_reference d.header a.y.now a.u.now a.v.now ≡ true) start c.in_ok-check_reference.ensures.admitted in
-    let texts = plane_text b.header.depth a.y.now ++ plane_text b.header.depth a.u.now ++ plane_text b.header.depth a.v.now in
-    let len = more_bytes room texts b.written texts refl c.in_ok-progress.ensures.written in
-    short_call c.from_residual-in_err-end.result k.field-0.0 (is_builder b (length room)) (asks_reference plan) (admits_reference plan.header a.y.now a.u.now a.v.now) (with_reference plan a.y.now a.u.now a.v.now).bytes (length room)
-    c.from_residual-in_err-end.ensures.1 c.in_ok-progress.ensures.valid asked admitted
-    (k.ensures.fault ∙ ap (λ (n : ℕ). if nat_le n (2 ^ 26) then RoomTooSmall else Refused TooLong) len) (λ is. subst (λ (n : ℕ). length room < n) len (k.ensures.small is))
 
 pub returns-clause-status : goal.returns-clause-status
 returns-clause-status c =

@@ -11,7 +11,7 @@ use Rattle.av1_c.specs.IntraBlocks.{HasNoDepth, HasShortSides, IsIntraBlock, IsI
 use Rattle.av1_c.specs.declared.argument.BadArgument.TheVariants as bad
 use Rattle.av1_tile.proofs.WithinDepth.{deep}
 use Rattle.av1_c.proofs.Blocks.{one_argument}
-use Rattle.av1_c.proofs.IntraCalls.{faultless, long_for, predicted_so, turned_angle}
+use Rattle.av1_c.proofs.IntraCalls.{long_for, predicted_so, turned_angle}
 use Rattle.av1_c.proofs.intra.predict_by.Goals as goal
 
 pub dispatch_predict_intra_to-requires : goal.dispatch_predict_intra_to-requires
@@ -51,12 +51,6 @@ returns-in-Ok-clause-done g c = λ _.
             f.block (to_z-of_z w16 a.alpha c.ranges.alpha) c.dispatch_predict_intra_to.ensures,
       ),
     )
-
-pub returns-in-Err-clause-asked : goal.returns-in-Err-clause-asked
-returns-in-Err-clause-asked g c = λ size block.
-    let a = c.args in
-    let asked = subst (λ (n : ℕ). IsIntraBlock n a.block a.mode a.stride a.x a.y (length a.left.now) (length a.above.now) (length a.ac.now) (length a.samples.now) size) (sym c.BITS.ensures) block in
-    absurd (faultless _ a.block a.mode a.stride a.x a.y (length a.left.now) (length a.above.now) (length a.ac.now) (length a.samples.now) c.in-Err.fault size c.in-Err.ensures.fault asked)
 
 pub returns-in-Err-clause-depth : goal.returns-in-Err-clause-depth
 returns-in-Err-clause-depth g c = λ e.

@@ -6,7 +6,7 @@ pub prep_8tap-requires-clause-within : goal.prep_8tap-requires-clause-within
 prep_8tap-requires-clause-within g c = λ x y h k.
     let place = c.from_slice-place in
     let same = read_same c.args.from c.args.block c.args.src.now c.requires.asked.motion place.result (place.ensures.samples ∙ c.rows_of-rows.ensures) (place.ensures.cfg ∙ c.config_of-cfg.ensures) place.ensures.x place.ensures.y g.T.Pixel.num x y h k in
-    subst (λ (n : ℕ). n < 2 ^ c.args.bit_depth) (sym same) (c.requires.within x y h k)
+    subst (λ (n : ℕ). n < 2 ^ c.args.bit_depth) (sym same) (c.requires.deep.within x y h k)
 
 pub returns : goal.returns
 returns g c =

@@ -10,7 +10,7 @@ put_8tap_to-requires-clause-within g c = λ x y h k.
     let height = ap (λ (a : StoredArea). a.height) c.rectangle_at.ensures in
     let same = read_same c.args.from c.args.block c.args.src.now c.requires.asked.motion place.result (place.ensures.samples ∙ c.rows_of-rows.ensures) (place.ensures.cfg ∙ c.config_of-cfg.ensures) place.ensures.x place.ensures.y g.T.Pixel.num
     x y (omega (arith, h, width)) (omega (arith, k, height)) in
-    subst (λ (n : ℕ). n < 2 ^ c.args.bit_depth) (sym same) (c.requires.within x y (omega (arith, h, width)) (omega (arith, k, height)))
+    subst (λ (n : ℕ). n < 2 ^ c.args.bit_depth) (sym same) (c.requires.deep.within x y (omega (arith, h, width)) (omega (arith, k, height)))
 
 pub returns : goal.returns
 returns g c =

@@ -1,10 +1,7 @@
-use Rattle.std.proofs.Common.{arith, rules, ◌≡◌, ◌+◌, ℤ, to_z, of_z, w32, sym, subst, ◌∙◌}
+use Rattle.std.proofs.Common.{rules, ◌≡◌, ◌+◌, ℤ, to_z, of_z, w32, sym, subst, ◌∙◌}
 use Rattle.std.proofs.lemmas.Int.{to_z-of_z}
-use Rattle.av1_c.proofs.Limits.{AreLimits, all_within, limits_of_none, limits_on}
+use Rattle.av1_c.proofs.Limits.{AreLimits, limits_on}
 use Rattle.av1_c.proofs.transform_add.all_fit.Goals as goal
-
-pub loop-i-init : goal.loop-i-init
-loop-i-init c = limits_of_none c.args.bits c.args.numbers.now
 
 pub loop-i-preserved : goal.loop-i-preserved
 loop-i-preserved c =
@@ -22,12 +19,3 @@ loop-i-preserved c =
     let greatest_is : to_z w32 (of_z w32 greatest) ≡ greatest = to_z-of_z w32 greatest (search rules) in
     subst (λ (z : ℤ). AreLimits bits n numbers z (to_z w32 (of_z w32 greatest))) (sym least_is)
     (subst (λ (z : ℤ). AreLimits bits n numbers least z) (sym greatest_is) limits)
-
-pub returns-clause-true_is : goal.returns-clause-true_is
-returns-clause-true_is c = λ told k h.
-    let both = c.both_fit.ensures.true_is told in
-    all_within c.args.bits c.loop-i.i c.args.numbers.now _ _ c.loop-i.invariant both.0 both.1 k (omega arith)
-
-pub returns-clause-is_true : goal.returns-clause-is_true
-returns-clause-is_true c = λ all.
-    c.both_fit.ensures.is_true (c.loop-i.invariant.least_fits (λ k h. all k (omega arith))) (c.loop-i.invariant.greatest_fits (λ k h. all k (omega arith)))

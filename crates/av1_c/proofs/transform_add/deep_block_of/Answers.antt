@@ -1,10 +1,6 @@
 use Rattle.std.proofs.Common.{◌≡◌, true, false, arith, tests, subst, sym, ℕ, ◌<◌}
-use Rattle.av1_c.proofs.Blocks.{denied, refused_too, too_large}
+use Rattle.av1_c.proofs.Blocks.{denied, too_large}
 use Rattle.av1_c.proofs.transform_add.deep_block_of.Goals as goal
-
-pub returns-in_err-block-clause-fault : goal.returns-in_err-block-clause-fault
-returns-in_err-block-clause-fault c =
-    refused_too c.args.bit_depth c.args.tx_size c.args.tx_type c.args.stride c.args.x c.args.y c.args.coefficients.now c.args.samples c.from_residual.result c.in_err-block.field-0.0 c.from_residual.ensures.1 c.in_err-block.ensures.fault
 
 pub returns-then-not-is_depth-clause-fault : goal.returns-then-not-is_depth-clause-fault
 returns-then-not-is_depth-clause-fault c =
