@@ -36,6 +36,14 @@ clamp_value-fits {w} z b h =
     let small : 2 ^ (b - 1) ≤ 2 ^ (w - 1) = pow_mono {i = b - 1} {j = w - 1} (omega arith) in
     record { low = omega (arith, ints, clamps); high = omega (arith, ints, clamps) }
 
+-- what fits is clamped to itself
+pub clamped_same : (b : ℕ) (z : ℤ) → FitsBits b z → clamp_value z b ≡ z
+unfolding clamp_value
+clamped_same b z f = let some = pow_pos (b - 1) in omega (arith, ints, clamps, f.low, f.high)
+
+pub whole_same : (z : ℤ) → FitsSigned w32 z → clamp_value z 32 ≡ z
+whole_same z f = clamped_same 32 z (record { low = omega (arith, ints, f.sfits); high = omega (arith, ints, f.sfits) })
+
 pub cond-fits : {w : ℕ} (b : Bool) (x y : ℤ) → FitsBits w x → FitsBits w y → FitsBits w (cond b x y)
 cond-fits {w} b x y hx hy = elim b as (λ v. FitsBits w (cond v x y)) [ true ↦ hx | false ↦ hy ]
 

@@ -12,6 +12,7 @@ use Rattle.std.proofs.lemmas.Int.{ints, to_z-of_z, of_z-to_z}
 use Rattle.av1_dct.specs.Arithmetic.{FitsBits, at, clamp_value, round12, wrap32}
 use Rattle.av1_dct.specs.Operations.{half_btf}
 use Rattle.av1_dct.specs.Word.{lane_of_vector}
+use Rattle.av1_dct.proofs.Fits.{whole_same}
 use Rattle.av1_dct.proofs.Lanes.{Bits, bits_at, lane_made}
 use Rattle.av1_dct.proofs.Sums.{sum_fits, difference_fits}
 use Rattle.av1_dct.proofs.Turns.{btf_is, product_is, rounding_is, shifted}
@@ -130,6 +131,13 @@ lane_clamp n range high low xs i h eh el fh fl bx =
 pub stored : (n : ℕ) (v : List ℤ) (i : ℕ) → i < n → Bits n (map (of_z w32) v) → lane_of_vector (map (to_z w32) (map (of_z w32) v)) i ≡ lane_of_vector v i
 unfolding lane_of_vector
 stored n v i h b = let bs = map (of_z w32) v in lane_made bs i (omega (arith, b.count)) (bits_at n bs i h b)
+
+-- a lane of words has 32 bits, and is clamped to itself there
+pub word_within : (n : ℕ) (v : List ℤ) (i : ℕ) (z : ℤ) → i < n → Bits n (map (of_z w32) v) → lane_of_vector v i ≡ z → lane_of_vector (map (to_z w32) (map (of_z w32) v)) i ≡ clamp_value z 32
+unfolding lane_of_vector
+word_within n v i z h b is =
+    let bs = map (of_z w32) v in
+    stored n v i h b ∙ sym (whole_same _ (to_z-fits (get_or bs i 0) (bits_at n bs i h b))) ∙ ap (λ u. clamp_value u 32) is
 
 -- a lane of eight numbers
 pub lane_from : (n : ℕ) (v : List ℤ) (i : ℕ) (z : ℤ) → i < n → length v ≡ n → get_or v i (pos 0) ≡ z → FitsSigned w32 z → lane_of_vector (map (to_z w32) (map (of_z w32) v)) i ≡ z

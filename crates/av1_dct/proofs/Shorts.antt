@@ -384,10 +384,6 @@ lane_wide op o does xs ys bx by =
 
 -- ---- reads and writes
 
-pub within_16 : (z : ℤ) → FitsBits 16 z → clamp_value z 16 ≡ z
-unfolding clamp_value
-within_16 z f = grind (arith, ints, f.low, f.high)
-
 -- eight lanes written to neighbouring places
 pub lanes_put : (s : ℕ) (old : List ℤ) (xs : List ℕ) → Words w16 8 xs → s + 8 ≤ length old
     → (p : ℕ) → at (put_chunk s old (map (to_z w32) (widened xs))) p ≡ cond (leb s p && ltb p (s + 8)) (to_z w16 (get_or xs (p - s) 0)) (at old p)

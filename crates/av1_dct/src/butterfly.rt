@@ -65,11 +65,10 @@ pub trait Butterfly: Copy {
         requires second { (i : ℕ) → i < LANES → FitsBits 20 (lane_of o i) }
         ensures { (i : ℕ) → i < LANES → lane_of result i ≡ clamp_value (lane_of self i -ℤ lane_of o i) range };
 
-    /// The numbers from place `start` on, one in each lane.
-    fn read(values: &[i32], start: usize) -> Self
-        requires len { start + LANES ≤ length values.now }
-        requires fit { (i : ℕ) → i < LANES → FitsBits bits (at values.now (start + i)) }
-        ensures { (i : ℕ) → i < LANES → lane_of result i ≡ at values.now (start + i) };
+    /// The numbers from place `start` on, one in each lane, each clamped to the bits that a lane has.
+    fn read_clamped(values: &[i32], start: usize) -> Self
+        requires { start + LANES ≤ length values.now }
+        ensures { (i : ℕ) → i < LANES → lane_of result i ≡ clamp_value (at values.now (start + i)) bits };
 
     /// Writes the numbers of the lanes to the places from `start` on. All others stay.
     fn write(self, values: &mut [i32], start: usize)
@@ -121,8 +120,8 @@ impl Butterfly for i32 {
     }
 
     #[inline(always)]
-    fn read(values: &[i32], start: usize) -> i32 {
-        values[start]
+    fn read_clamped(values: &[i32], start: usize) -> i32 {
+        <i32 as Word>::read(values, start)
     }
 
     #[inline(always)]
@@ -199,12 +198,10 @@ impl Butterfly for i32x4 {
     }
 
     #[inline(always)]
-    fn read(values: &[i32], start: usize) -> i32x4 {
-        let mut lanes = [0; 4];
-        for k in 0..4 {
-            lanes[k] = values[start + k];
-        }
-        i32x4::from_array(lanes)
+    fn read_clamped(values: &[i32], start: usize) -> i32x4 {
+        let numbers = <i32x4 as Word>::read(values, start);
+        let _lanes = numbers.to_array();
+        numbers
     }
 
     #[inline(always)]
@@ -284,12 +281,10 @@ impl Butterfly for i32x8 {
     }
 
     #[inline(always)]
-    fn read(values: &[i32], start: usize) -> i32x8 {
-        let mut lanes = [0; 8];
-        for k in 0..8 {
-            lanes[k] = values[start + k];
-        }
-        i32x8::from_array(lanes)
+    fn read_clamped(values: &[i32], start: usize) -> i32x8 {
+        let numbers = <i32x8 as Word>::read(values, start);
+        let _lanes = numbers.to_array();
+        numbers
     }
 
     #[inline(always)]

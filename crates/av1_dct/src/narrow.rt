@@ -5,6 +5,7 @@ ghost use Rattle.av1_dct.specs.Word.{lane_of_pair, lane_of_short, lane_of_vector
 
 use crate::arithmetic::limits;
 use crate::butterfly::Butterfly;
+use crate::word::Word;
 use std::simd::prelude::*;
 
 /// Eight values of 32 bits: what a rotation of eight lanes of 16 bits gives before it is clamped.
@@ -124,8 +125,10 @@ impl Butterfly for i16x8 {
     }
 
     #[inline(always)]
-    fn read(values: &[i32], start: usize) -> i16x8 {
-        clamp_wide(i32x8::from_slice(&values[start..]), 16)
+    fn read_clamped(values: &[i32], start: usize) -> i16x8 {
+        let numbers = <i32x8 as Word>::read(values, start);
+        let _lanes = numbers.to_array();
+        clamp_wide(numbers, 16)
     }
 
     #[inline(always)]

@@ -1,7 +1,7 @@
-ghost use Rattle.std.specs.Prelude.{◌≡◌, refl, true, ℕ, ◌<◌, ◌≤◌, pos, ◌+ℤ◌, ◌-ℤ◌, ◌*ℤ◌};
+ghost use Rattle.std.specs.Prelude.{◌≡◌, refl, true, ℕ, ◌+◌, ◌<◌, ◌≤◌, pos, length, ◌+ℤ◌, ◌-ℤ◌, ◌*ℤ◌};
 ghost use Rattle.std.specs.Int.RustNames.{FitsSigned};
 ghost use Rattle.std.specs.Int.{int_shr, w32};
-ghost use Rattle.av1_dct.specs.Arithmetic.{clamp_value, round12, wrap32};
+ghost use Rattle.av1_dct.specs.Arithmetic.{at, clamp_value, round12, wrap32};
 ghost use Rattle.av1_dct.specs.Operations.{half_btf};
 
 use crate::arithmetic::{clamp_value, half_btf, limits};
@@ -56,6 +56,11 @@ pub trait Word: Butterfly {
         ensures zeros { result ≡ true → (i : ℕ) → i < Self.LANES → Self.lane_of self i ≡ pos 0 }
         ensures told { ((i : ℕ) → i < Self.LANES → Self.lane_of self i ≡ pos 0) → result ≡ true };
 
+    /// The numbers from place `start` on, one in each lane.
+    fn read(values: &[i32], start: usize) -> Self
+        requires { start + Self.LANES ≤ length values.now }
+        ensures { (i : ℕ) → i < Self.LANES → Self.lane_of result i ≡ at values.now (start + i) };
+
     // each lane has 32 bits
     ghost whole: { Self.bits ≡ 32 };
 }
@@ -109,6 +114,11 @@ impl Word for i32 {
     #[inline(always)]
     fn is_zero(self) -> bool {
         self == 0
+    }
+
+    #[inline(always)]
+    fn read(values: &[i32], start: usize) -> i32 {
+        values[start]
     }
 
     ghost whole = { refl };
@@ -175,6 +185,15 @@ impl Word for i32x4 {
         self.to_array() == [0; 4]
     }
 
+    #[inline(always)]
+    fn read(values: &[i32], start: usize) -> i32x4 {
+        let mut lanes = [0; 4];
+        for k in 0..4 {
+            lanes[k] = values[start + k];
+        }
+        i32x4::from_array(lanes)
+    }
+
     ghost whole = { refl };
 }
 
@@ -237,6 +256,15 @@ impl Word for i32x8 {
     #[inline(always)]
     fn is_zero(self) -> bool {
         self.to_array() == [0; 8]
+    }
+
+    #[inline(always)]
+    fn read(values: &[i32], start: usize) -> i32x8 {
+        let mut lanes = [0; 8];
+        for k in 0..8 {
+            lanes[k] = values[start + k];
+        }
+        i32x8::from_array(lanes)
     }
 
     ghost whole = { refl };

@@ -24,7 +24,7 @@ fn gather_words<W: Butterfly>(buffer: &[i32], line: &mut [W], c: usize, w: usize
     ensures { (i : ℕ) → i < W.LANES → column W.lane_of i line.new ≡ by_index (length line.old) (λ r. at buffer.now (r * w + (c + i))) }
 {
     for r in 0..line.len() {
-        line[r] = W::read(buffer, r * w + c);
+        line[r] = W::read_clamped(buffer, r * w + c);
     }
 }
 

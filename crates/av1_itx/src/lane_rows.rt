@@ -23,7 +23,6 @@ fn gather_rows<W: Word>(scaled: &[i32], line: &mut [W], r: usize, tx_size: TxSiz
     requires rows_in { r + W.LANES ≤ coded (tx_height tx_size) }
     requires line_len { length line.old ≡ tx_width tx_size }
     requires some { 0 < W.LANES }
-    requires fit { AllFit 20 scaled.now }
     ensures { (i : ℕ) → i < W.LANES → column W.lane_of i line.new ≡ by_index (tx_width tx_size) (scaled_input tx_size scaled.now (r + i)) }
 {
     let rows = tx_size.height().min(32);

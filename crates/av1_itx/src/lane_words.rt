@@ -107,9 +107,9 @@ impl Butterfly for FourLanes {
     }
 
     #[inline(always)]
-    fn read(values: &[i32], start: usize) -> FourLanes {
+    fn read_clamped(values: &[i32], start: usize) -> FourLanes {
         FourLanes {
-            lanes: <i32x4 as Butterfly>::read(values, start).to_array(),
+            lanes: <i32x4 as Butterfly>::read_clamped(values, start).to_array(),
         }
     }
 
@@ -188,6 +188,13 @@ impl Word for FourLanes {
         self.to_vector().is_zero()
     }
 
+    #[inline(always)]
+    fn read(values: &[i32], start: usize) -> FourLanes {
+        FourLanes {
+            lanes: <i32x4 as Word>::read(values, start).to_array(),
+        }
+    }
+
     ghost whole = { refl };
 }
 
@@ -235,9 +242,9 @@ impl Butterfly for EightLanes {
     }
 
     #[inline(always)]
-    fn read(values: &[i32], start: usize) -> EightLanes {
+    fn read_clamped(values: &[i32], start: usize) -> EightLanes {
         EightLanes {
-            lanes: <i32x8 as Butterfly>::read(values, start).to_array(),
+            lanes: <i32x8 as Butterfly>::read_clamped(values, start).to_array(),
         }
     }
 
@@ -314,6 +321,13 @@ impl Word for EightLanes {
     #[inline(always)]
     fn is_zero(self) -> bool {
         self.to_vector().is_zero()
+    }
+
+    #[inline(always)]
+    fn read(values: &[i32], start: usize) -> EightLanes {
+        EightLanes {
+            lanes: <i32x8 as Word>::read(values, start).to_array(),
+        }
     }
 
     ghost whole = { refl };

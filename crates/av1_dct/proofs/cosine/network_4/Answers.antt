@@ -1,7 +1,7 @@
-use Rattle.std.proofs.Common.{◌≡◌, arith, neg_ℤ, sym, subst, ◌∙◌}
+use Rattle.std.proofs.Common.{◌≡◌, arith, neg_ℤ, ◌∙◌}
 use Rattle.std.proofs.lemmas.Int.{ints, to_z-of_z}
 use Rattle.std.proofs.lemmas.List.{length-map}
-use Rattle.av1_dct.specs.Arithmetic.{FitsBits, at}
+use Rattle.av1_dct.specs.Arithmetic.{at}
 use Rattle.av1_dct.specs.Operations.{half_btf}
 use Rattle.av1_dct.specs.Cosine.{cos128}
 use Rattle.av1_dct.specs.Word.{column}

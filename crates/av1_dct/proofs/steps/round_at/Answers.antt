@@ -1,6 +1,6 @@
-use Rattle.std.proofs.Common.{◌≡◌, ◌+◌, ◌-◌, ◌*◌, ◌/◌, ◌%◌, ◌==◌, ◌^◌, ◌≤◌, ◌<◌, ℤ, neg_ℤ, arith, ap, sym, subst, ◌∙◌}
+use Rattle.std.proofs.Common.{◌≡◌, ◌+◌, ◌-◌, ◌*◌, ◌/◌, ◌%◌, ◌==◌, ◌^◌, ◌≤◌, ◌<◌, neg_ℤ, arith, ap, sym, ◌∙◌}
 use Rattle.std.proofs.lemmas.Int.{ints, to_z-of_z}
-use Rattle.av1_dct.specs.Arithmetic.{FitsBits, at}
+use Rattle.av1_dct.specs.Arithmetic.{at}
 use Rattle.av1_dct.specs.Operations.{half_btf}
 use Rattle.av1_dct.specs.Word.{column}
 use Rattle.av1_dct.specs.Cosine.{cos128}

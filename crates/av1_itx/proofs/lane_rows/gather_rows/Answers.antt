@@ -2,23 +2,19 @@ use Rattle.std.proofs.Common.{arith, ◌≡◌, ◌+◌, ◌-◌, ◌*◌, ◌�
 use Rattle.std.proofs.lemmas.List.{length-map}
 use Rattle.av1_blocks.specs.Transforms.{tx_width, tx_height, coded}
 use Rattle.av1_dct.specs.Arithmetic.{at}
-use Rattle.av1_dct.proofs.Fits.{fits_wider}
 use Rattle.av1_dct.proofs.Places.{column_fill}
 use Rattle.av1_itx.proofs.Fills.{filled}
 use Rattle.av1_itx.proofs.Passes.{coded_place}
 use Rattle.av1_itx.proofs.ScaledRows.{scaled_is, scaled_past}
 use Rattle.av1_itx.proofs.lane_rows.gather_rows.Goals as goal
 
-pub read-requires-clause-len : goal.read-requires-clause-len
-read-requires-clause-len g c =
+pub read-requires : goal.read-requires
+read-requires g c =
     let size = c.args.tx_size in
     let rows : c.min-rows.result ≡ coded (tx_height size) = omega arith in
     let columns : c.min-columns.result ≡ coded (tx_width size) = omega arith in
     let last = coded_place size (c.args.r + g.W.Butterfly.LANES - 1) c.coded.c c.min-rows.result rows (omega arith) (omega arith) in
     omega arith
-
-pub read-requires-clause-fit : goal.read-requires-clause-fit
-read-requires-clause-fit g c = λ i h. let wide = g.met.W.Word.whole in fits_wider 20 g.W.Butterfly.bits _ (omega (arith, wide)) (c.requires.fit _)
 
 pub coded-preserved : goal.coded-preserved
 coded-preserved g c = λ i h. column_fill g.W.Butterfly.lane_of i (λ k. at c.args.scaled.now (k * c.min-rows.result + c.args.r + i)) c.coded.line c.coded.c _ (omega arith) (c.coded.invariant i h) (c.read.ensures i h)

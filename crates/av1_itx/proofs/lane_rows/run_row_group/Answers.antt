@@ -8,7 +8,6 @@ use Rattle.av1_itx.specs.Kinds.{row_kind}
 use Rattle.av1_itx.specs.Networks.{network}
 use Rattle.av1_itx.specs.Residue.{row_power, row_range}
 use Rattle.av1_itx.specs.Scaled.{scaled_input}
-use Rattle.av1_dct.proofs.Fits.{fits_wider}
 use Rattle.av1_itx.proofs.Zeros.{zero_line}
 use Rattle.av1_itx.proofs.ScaledRows.{scaled_row-fits, scaled_zero}
 use Rattle.av1_itx.proofs.lane_rows.run_row_group.Goals as goal
@@ -18,9 +17,6 @@ returns-then-are_zero g c = λ i k hi hk.
     let line = c.gather_rows.new.line in
     let z = zero_line (column g.W.Butterfly.lane_of i line) (λ p l. c.are_zero.ensures c.if-are_zero.true i p hi (omega (arith, l, length-map line (λ w. g.W.Butterfly.lane_of w i)))) in
     c.clear.ensures _ ∙ scaled_zero c.args.tx_size (row_kind c.args.tx_type) (row_range c.args.bd) (row_power c.args.tx_size) c.args.scaled.now _ (c.args.r + i) k (c.gather_rows.ensures i hi) z
-
-pub gather_rows-requires-clause-fit : goal.gather_rows-requires-clause-fit
-gather_rows-requires-clause-fit g c = λ p. fits_wider (row_range c.args.bd) 20 _ (omega arith) (c.requires.scaled_fit p)
 
 pub inverse_1d-requires-clause-fit : goal.inverse_1d-requires-clause-fit
 inverse_1d-requires-clause-fit g c = λ i h.
