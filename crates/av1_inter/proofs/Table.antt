@@ -1,5 +1,5 @@
 -- The weights of every filter are in bounds, by computing over the table.
-use Rattle.std.proofs.Common.{ℕ, suc, ◌+◌, ◌*◌, ◌/◌, ◌%◌, ◌*ℤ◌, ◌<◌, ◌≤◌, ◌≡◌, ◌∙◌, ap, refl, sym, arith, Bool, true, ◌&&◌, nat_eq, nat_le, List, [], length, slice_index_or, inl, inr, subst, ℤ, pos, negsuc, ◌≤ℤ◌, ◌<ℤ◌, unsigned_abs, w32, to_z, of_z, FitsSigned}
+use Rattle.std.proofs.Common.{ℕ, suc, ◌+◌, ◌*◌, ◌/◌, ◌%◌, ◌*ℤ◌, ◌<◌, ◌≤◌, ◌≡◌, ◌≢◌, ◌∙◌, ap, refl, sym, arith, Bool, true, ◌&&◌, nat_eq, nat_le, List, [], length, slice_index_or, inl, inr, subst, ℤ, pos, negsuc, ◌≤ℤ◌, ◌<ℤ◌, unsigned_abs, w32, to_z, of_z, FitsSigned}
 use Rattle.std.specs.Int.{int_shr}
 use Rattle.std.proofs.lemmas.Bool.{cases_lt}
 use Rattle.std.proofs.lemmas.Bool.Decides.{nat_tests}
@@ -122,6 +122,10 @@ fraction_made z n h e = e ∙ ap unsigned_abs (to_z-of_z w32 z h)
 
 pub taps_made : (mode : FilterMode) (z : ℤ) (side : ℕ) (taps : List ℤ) → FitsSigned w32 z → taps ≡ filter_of mode (unsigned_abs (to_z w32 (of_z w32 z))) side → taps ≡ filter_of mode (unsigned_abs z) side
 taps_made mode z side taps h e = e ∙ ap (λ y. filter_of mode (unsigned_abs y) side) (to_z-of_z w32 z h)
+
+-- a machine's number that is not 0
+pub some_fraction : (z : ℤ) → of_z w32 z ≢ 0 → unsigned_abs z ≢ 0
+some_fraction z h e = let k : z ≡ pos 0 = omega (arith, ints, e) in h (ap (of_z w32) k)
 
 fraction_small : (z : ℤ) → pos 0 ≤ℤ z → z <ℤ pos 16 → unsigned_abs z < 16
 fraction_small (pos n) l h = omega (arith, ints)

@@ -50,7 +50,7 @@ fn sum_columns<T: Pixel, const N: usize, const SHORT: bool>(
 }
 
 /// The same of samples of 10 bits, by halved weights, of which the outer two are 0 where `INNER` is true.
-#[inline(always)]
+#[inline(never)]
 #[tactic(auto, using(av1_frame::proofs::Paint::rectangle_painting))]
 fn sum_mixed_columns<T: Pixel, const N: usize, const INNER: bool>(
     samples: &mut [T],
@@ -70,12 +70,14 @@ fn sum_mixed_columns<T: Pixel, const N: usize, const INNER: bool>(
     requires within { (r c : ℕ) → r < area.height + 7 → c < N + 7 → slice_index (map T.num source.now) (r * source_stride + c) < 1024 }
     ensures { samples.new ≡ paint stride area (λ r c _. T.pixel (clip 10 (round_shift (weighted (doubled halves.now) (λ t. pos (slice_index (map T.num source.now) ((r + t) * source_stride + (c + 3))))) 7))) samples.old }
 {
+    // A copy of its own can't be what is written, so its weights stay in registers.
+    let halves = *halves;
     for r in 0..area.height {
         let sums = mixed_sums::<T, N, INNER>(
             source,
             r * source_stride + 3,
             source_stride,
-            halves,
+            &halves,
             32,
         );
         let (_, row) = samples.split_at_mut((area.y + r) * stride + area.x);
@@ -232,7 +234,7 @@ pub(crate) fn put_narrow_columns<T: Pixel, const N: usize, const SHORT: bool>(
 }
 
 /// A strip of samples of 10 bits that is filtered down its columns alone, by a filter whose outer two weights are 0 where `INNER` is true.
-#[inline(never)]
+#[inline(always)]
 #[tactic(auto, using(crate::proofs::Sources::strip_sources))]
 fn put_mixed_columns_by<T: Pixel, const N: usize, const INNER: bool>(
     samples: &mut [T],
@@ -263,7 +265,7 @@ fn put_mixed_columns_by<T: Pixel, const N: usize, const INNER: bool>(
 }
 
 /// A strip of samples of 10 bits that is filtered down its columns alone.
-fn put_mixed_columns<T: Pixel, const N: usize>(
+pub(crate) fn put_mixed_columns<T: Pixel, const N: usize>(
     samples: &mut [T],
     stride: usize,
     area: StoredArea,

@@ -18,7 +18,7 @@ use crate::copies::put_copy;
 use crate::filter::{Filter, get_filter};
 use crate::lines::filter_horizontal;
 use crate::rounding::{greatest, intermediate_bits};
-use crate::square::{is_square, put_square};
+use crate::square::{is_deep_square, is_square, put_deep_square_columns, put_square};
 use crate::strip::{is_one_strip, strip_width};
 use crate::taps::{taps_of_block, taps_of_strip};
 use crate::window::{keep_first_rows, next_sums};
@@ -352,6 +352,8 @@ pub fn put_8tap_to<T: Pixel>(
         );
     } else if col_frac == 0 && row_frac == 0 {
         put_copy(samples, stride, area, corner);
+    } else if col_frac == 0 && is_deep_square(area, bit_depth) {
+        put_deep_square_columns(samples, stride, area.x, area.y, corner, mode_y, row_frac);
     } else {
         let across = get_filter(mode_x, col_frac, area.width);
         let down = get_filter(mode_y, row_frac, area.height);

@@ -1,7 +1,7 @@
-//! Blocks of 4x4 samples of 8 bits.
+//! Blocks of 4x4 samples of 8 bits, and blocks of 8x8 samples of 10 bits that are filtered down their columns alone.
 //!
-//! Their sides and their depth are known before they run: where they are filtered along one direction alone, the compiler writes out four
-//! rows, and for each sample a sum of four products.
+//! Their sides and their depth are known before they run: where a block of 4x4 samples is filtered along one direction alone, the compiler
+//! writes out four rows, and for each sample a sum of four products.
 //!
 //! AV1 specification: block inter prediction process.
 
@@ -14,11 +14,11 @@ ghost use Rattle.av1_inter.specs.Motion.{down_samples, single, weighted};
 ghost use Rattle.av1_inter.specs.Places.{AreWithinDepth, IsStoredFrom, samples_from};
 ghost use Rattle.av1_inter.specs.Scaffolding.{square_at};
 
-use crate::alone::{put_narrow_columns, put_narrow_rows};
+use crate::alone::{put_mixed_columns, put_narrow_columns, put_narrow_rows};
 use crate::copies::put_square_of;
 use crate::filter::get_filter;
 use crate::put::put_filtered;
-use crate::strip::is_4x4;
+use crate::strip::{is_4x4, is_8x8};
 use av1_blocks::FilterMode;
 use av1_frame::{Pixel, PlaneSlice, StoredArea};
 
@@ -127,4 +127,41 @@ pub(crate) fn put_square<T: Pixel>(
         };
         put_filtered(samples, stride, square, corner, &across, &down, 8);
     }
+}
+
+/// Whether a block has 8x8 samples of 10 bits.
+pub(crate) fn is_deep_square(area: StoredArea, bit_depth: usize) -> bool
+    ensures width { result ≡ true → area.width ≡ 8 }
+    ensures height { result ≡ true → area.height ≡ 8 }
+    ensures depth { result ≡ true → bit_depth ≡ 10 }
+{
+    is_8x8(area) && bit_depth == 10
+}
+
+/// Such a block at column `x` and row `y` that is filtered down its columns alone.
+pub(crate) fn put_deep_square_columns<T: Pixel>(
+    samples: &mut [T],
+    stride: usize,
+    x: usize,
+    y: usize,
+    corner: PlaneSlice<'_, T>,
+    mode: FilterMode,
+    row_frac: i32,
+)
+    requires low { pos 0 ≤ℤ row_frac }
+    requires high { row_frac <ℤ pos 16 }
+    requires rows { AreRows stride (square_at 8 x y) (length samples.old) }
+    requires stored { IsStoredFrom corner 15 15 }
+    requires bits { 10 ≤ T.BITS }
+    requires within { AreWithinDepth 10 (samples_from T.num corner) 15 15 }
+    ensures { samples.new ≡ paint stride (square_at 8 x y) (λ r c _. T.pixel (clip 10 (round_shift (down_samples (filter_of mode (unsigned_abs row_frac) 8) (samples_from T.num corner.entry) r c) 7))) samples.old }
+{
+    let down = get_filter(mode, row_frac, 8);
+    let square = StoredArea {
+        x,
+        y,
+        width: 8,
+        height: 8,
+    };
+    put_mixed_columns::<T, 8>(samples, stride, square, corner, &down.taps);
 }

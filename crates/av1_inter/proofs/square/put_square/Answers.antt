@@ -1,5 +1,5 @@
 use Rattle.std.proofs.lemmas.Int.{ints, to_z-of_z}
-use Rattle.std.proofs.Common.{arith, ◌+◌, unsigned_abs, ◌∙◌, ◌≡◌, ◌≢◌, ap, inl, refl, ℤ, pos, of_z, w32}
+use Rattle.std.proofs.Common.{arith, ◌+◌, unsigned_abs, ◌∙◌, ◌≡◌, ap, inl, refl, ℤ, pos, w32}
 use Rattle.av1_frame.proofs.Paint.{paint_same}
 use Rattle.av1_frame.specs.Arithmetic.{clip, round_shift}
 use Rattle.av1_frame.specs.Samples.{paint}
@@ -8,11 +8,8 @@ use Rattle.av1_inter.specs.Motion.{down_samples, single, weighted}
 use Rattle.av1_inter.specs.Places.{samples_from}
 use Rattle.av1_inter.specs.Scaffolding.{square_at}
 use Rattle.av1_inter.proofs.Cases.{single_alone, single_along, single_copy}
-use Rattle.av1_inter.proofs.Table.{fraction_made, made_is_filter, taps_made}
+use Rattle.av1_inter.proofs.Table.{fraction_made, made_is_filter, some_fraction, taps_made}
 use Rattle.av1_inter.proofs.square.put_square.Goals as goal
-
-some : (z : ℤ) → of_z w32 z ≢ 0 → unsigned_abs z ≢ 0
-some z h e = let k : z ≡ pos 0 = omega (arith, ints, e) in h (ap (of_z w32) k)
 
 pub put_filtered-requires-clause-across_filter : goal.put_filtered-requires-clause-across_filter
 put_filtered-requires-clause-across_filter g c = made_is_filter c.args.mode_x c.args.col_frac 4 _ c.ranges.col_frac c.requires.col_frac c.get_filter-across.ensures.taps
@@ -43,7 +40,7 @@ returns-else-col_frac-eq0 g c =
     c.put_square_rows.ensures
     ∙ ap (λ (z : ℤ). paint c.args.stride (square_at 4 c.args.x c.args.y) (λ r q _. g.T.Pixel.pixel (clip 8 (round_shift (round_shift (weighted (filter_of c.args.mode_x (unsigned_abs z) 4) (λ t. pos (s (q + t) (r + 3)))) 3) 4))) c.args.samples.now) (to_z-of_z w32 c.args.col_frac c.ranges.col_frac)
     ∙ paint_same c.args.stride (square_at 4 c.args.x c.args.y) _ (λ r q _. g.T.Pixel.pixel (single 8 fx fy across down s r q)) c.args.samples.now
-    (λ r q v l h. ap g.T.Pixel.pixel (single_along 8 (inl refl) fx fy across down s r q (some c.args.col_frac c.if-col_frac-eq0.false) zy))
+    (λ r q v l h. ap g.T.Pixel.pixel (single_along 8 (inl refl) fx fy across down s r q (some_fraction c.args.col_frac c.if-col_frac-eq0.false) zy))
 
 pub returns-then-col_frac-eq0-2 : goal.returns-then-col_frac-eq0-2
 returns-then-col_frac-eq0-2 g c =
@@ -56,7 +53,7 @@ returns-then-col_frac-eq0-2 g c =
     c.put_square_columns.ensures
     ∙ ap (λ (z : ℤ). paint c.args.stride (square_at 4 c.args.x c.args.y) (λ r q _. g.T.Pixel.pixel (clip 8 (round_shift (down_samples (filter_of c.args.mode_y (unsigned_abs z) 4) s r q) 7))) c.args.samples.now) (to_z-of_z w32 c.args.row_frac c.ranges.row_frac)
     ∙ paint_same c.args.stride (square_at 4 c.args.x c.args.y) _ (λ r q _. g.T.Pixel.pixel (single 8 fx fy across down s r q)) c.args.samples.now
-    (λ r q v l h. ap g.T.Pixel.pixel (single_alone 8 (inl refl) fx fy across down s r q zx (some c.args.row_frac c.if-row_frac-eq0.false)))
+    (λ r q v l h. ap g.T.Pixel.pixel (single_alone 8 (inl refl) fx fy across down s r q zx (some_fraction c.args.row_frac c.if-row_frac-eq0.false)))
 
 pub returns-else-col_frac-eq0-2 : goal.returns-else-col_frac-eq0-2
 returns-else-col_frac-eq0-2 g c =
