@@ -12,9 +12,6 @@ pub record IsDone (c : ℕ) (f : ℕ → ℤ) (old now : List ℤ) : Type 0 wher
   pub done : (k : ℕ) → k < c → entry now k ≡ f k
   pub rest : (k : ℕ) → c ≤ k → entry now k ≡ entry old k
 
-pub done_none : (f : ℕ → ℤ) (s : List ℤ) → IsDone 0 f s s
-done_none f s = record { done = λ k h. absurd (omega arith); rest = λ k h. refl }
-
 pub done_more : (c : ℕ) (f : ℕ → ℤ) (old now : List ℤ) (v : ℤ) → IsDone c f old now → c < length now → v ≡ f c → IsDone (c + 1) f old (set now c v)
 done_more c f old now v h l e =
     record {
@@ -51,9 +48,6 @@ each_more P c now v h l p k b =
 pub record IsDoneFrom (start c : ℕ) (f : ℕ → ℤ) (old now : List ℤ) : Type 0 where
   pub done : (k : ℕ) → k < c → entry now (start + k) ≡ f k
   pub rest : (i : ℕ) → (i < start) ⊎ (start + c ≤ i) → entry now i ≡ entry old i
-
-pub done_from_none : (start : ℕ) (f : ℕ → ℤ) (s : List ℤ) → IsDoneFrom start 0 f s s
-done_from_none start f s = record { done = λ k h. absurd (omega arith); rest = λ i h. refl }
 
 pub done_from_more : (start c : ℕ) (f : ℕ → ℤ) (old now : List ℤ) (v : ℤ) → IsDoneFrom start c f old now → start + c < length now → v ≡ f c → IsDoneFrom start (c + 1) f old (set now (start + c) v)
 done_from_more start c f old now v h l e =

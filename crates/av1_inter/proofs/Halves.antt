@@ -109,12 +109,15 @@ bytes_fit halves f =
     let l = doubled_losses halves in
     record { size = sym (length-map halves _) ∙ f.size; gains = omega (arith, g, f.gains); losses = omega (arith, l, f.losses) }
 
--- lists of eight that agree at each entry
+-- a list of eight that agrees with a filter at each entry
+pub filter_is : (weights taps : List ℤ) → length weights ≡ 8 → IsFilter taps → ((t : ℕ) → t < 8 → entry weights t ≡ entry taps t) → weights ≡ taps
+filter_is weights taps l f h =
+    let n : length weights ≡ length taps = l ∙ sym f.size in
+    same_lists weights taps n (λ k d b. let m : k < 8 = omega (arith, n, f.size, b) in
+    get_or_default weights k d (pos 0) b ∙ h k m ∙ sym (get_or_default taps k d (pos 0) (omega (arith, f.size, m))))
+
 pub halves_are : (halves taps : List ℤ) → length halves ≡ 8 → IsFilter taps → ((t : ℕ) → t < 8 → entry halves t ≡ int_shr (entry taps t) 1) → doubled halves ≡ taps
-halves_are halves taps l f h =
-    let n : length (doubled halves) ≡ length taps = length-map halves _ ∙ l ∙ sym f.size in
-    same_lists (doubled halves) taps n (λ k d b. let m : k < 8 = omega (arith, n, f.size, b) in
-    get_or_default (doubled halves) k d (pos 0) b ∙ (entry_doubled halves k ∙ ap (λ z. pos 2 *ℤ z) (h k m) ∙ f.even k m) ∙ sym (get_or_default taps k d (pos 0) (omega (arith, f.size, m))))
+halves_are halves taps l f h = filter_is (doubled halves) taps (length-map halves _ ∙ l) f (λ k m. entry_doubled halves k ∙ ap (λ z. pos 2 *ℤ z) (h k m) ∙ f.even k m)
 
 shr_128 : (z : ℤ) → shr_z (pos 2 *ℤ z +ℤ pos 64) 128 ≡ shr_z (z +ℤ pos 32) 64
 shr_128 z = shr_at (z +ℤ pos 32) (pos 2 *ℤ z +ℤ pos 64) (omega (arith, ints))
@@ -142,16 +145,19 @@ shr_small : (z : ℤ) → neg_ℤ (pos 184) ≤ℤ z → z ≤ℤ pos 184 → Fi
 shr_small (pos n) l h = record { sfits = omega (arith, ints, h) }
 shr_small (negsuc n) l h = record { sfits = omega (arith, ints, l) }
 
-weight_small : (z : ℤ) → gain z ≤ 184 → loss z ≤ 56 → (neg_ℤ (pos 184) ≤ℤ z) × (z ≤ℤ pos 184)
-weight_small (pos n) g l = (omega (arith, ints), omega (arith, ints, g))
-weight_small (negsuc n) g l = (omega (arith, ints, l), omega (arith, ints))
+weight_by : (z : ℤ) → gain z ≤ 184 → loss z ≤ 56 → Between 56 184 z
+weight_by (pos n) g l = record { low = omega (arith, ints); high = omega (arith, ints, g) }
+weight_by (negsuc n) g l = record { low = omega (arith, ints, l); high = omega (arith, ints) }
 
-pub half_weight_fits : (taps : List ℤ) (t : ℕ) → IsFilter taps → t < 8 → FitsSigned w16 (int_shr (entry taps t) 1)
-half_weight_fits taps t f h =
+-- a weight
+pub weight_between : (taps : List ℤ) (t : ℕ) → IsFilter taps → t < 8 → Between 56 184 (entry taps t)
+weight_between taps t f h =
     let more = gains_more taps t (omega (arith, f.size)) in
     let less = losses_more taps t (omega (arith, f.size)) in
-    let w = weight_small (entry taps t) (omega (arith, more, gains_part taps (suc t), f.gains)) (omega (arith, less, losses_part taps (suc t), f.losses)) in
-    shr_small (entry taps t) w.0 w.1
+    weight_by (entry taps t) (omega (arith, more, gains_part taps (suc t), f.gains)) (omega (arith, less, losses_part taps (suc t), f.losses))
+
+pub half_weight_fits : (taps : List ℤ) (t : ℕ) → IsFilter taps → t < 8 → FitsSigned w16 (int_shr (entry taps t) 1)
+half_weight_fits taps t f h = let w = weight_between taps t f h in shr_small (entry taps t) (omega (arith, ints, w.low)) w.high
 
 -- as the machine forms it
 pub half_weight_is : (taps : List ℤ) (t : ℕ) → IsFilter taps → t < 8 → FitsSigned w32 (entry taps t) → to_z w32 (of_z w32 (int_shr (to_z w32 (of_z w32 (entry taps t))) 1)) ≡ int_shr (entry taps t) 1

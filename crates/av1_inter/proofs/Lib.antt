@@ -18,4 +18,7 @@ pub mod Sources
 pub mod Halves
 pub mod OuterSums
 pub mod HeldSums
+pub mod PairSums
 pub mod References
+pub mod DeepRows
+pub mod EightSums

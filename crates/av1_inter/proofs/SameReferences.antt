@@ -1,14 +1,12 @@
 -- References that show the same predict the same.
-use Rattle.std.proofs.Common.{ℕ, ◌<◌, ◌≡◌, ap, ◌∙◌, ℤ, pos}
+use Rattle.std.proofs.Common.{ℕ, ◌<◌, ◌≡◌, ap, ◌∙◌, ℤ}
 use mathlib.Core.Path.{fun_ext}
 use Rattle.av1_blocks.specs.declared.mc.FilterMode.{FilterMode}
 use Rattle.av1_blocks.specs.declared.mc.MotionVector.{MotionVector}
-use Rattle.av1_frame.specs.Areas.{VisibleArea}
 use Rattle.av1_frame.proofs.Slices.{visible_below}
 use Rattle.av1_inter.specs.Filters.{filter_of}
-use Rattle.av1_inter.specs.Motion.{single, prepared, averaged}
+use Rattle.av1_inter.specs.Motion.{single, prepared}
 use Rattle.av1_inter.specs.Reference.{ReferencePlane, moved_in, single_in, prepared_in, sixteenths}
-use Rattle.av1_inter.specs.Prediction.{single_prediction, compound_prediction}
 
 -- two references with the same sides, halved in the same way, whose visible samples agree; each has some
 pub record ShowSame (p q : ReferencePlane) : Type 0 where
@@ -54,14 +52,3 @@ module _ (p q : ReferencePlane) (same : ShowSame p q) where
       let fy = sixteenths mv.row q.ydec in
       ap (λ u. prepared_in depth mode u x y mv width height r c) is_first
       ∙ ap (λ s. prepared depth fx fy (filter_of mode fx width) (filter_of mode fy height) s r c) (moved_same x y mv)
-
-  pub single_same : (depth : ℕ) (mode : FilterMode) (mv : MotionVector) (a : VisibleArea) (r c : ℕ)
-      → single_prediction depth mode p mv a r c ≡ single_prediction depth mode q mv a r c
-  single_same depth mode mv a r c = single_in_same depth mode (pos a.x) (pos a.y) mv a.width a.height r c
-
-pub compound_same : (p q s t : ReferencePlane) → ShowSame p q → ShowSame s t
-    → (depth : ℕ) (mode : FilterMode) (first_mv second_mv : MotionVector) (a : VisibleArea) (r c : ℕ)
-    → compound_prediction depth mode p s first_mv second_mv a r c ≡ compound_prediction depth mode q t first_mv second_mv a r c
-compound_same p q s t first second depth mode first_mv second_mv a r c =
-    ap (λ z. averaged depth z (prepared_in depth mode s (pos a.x) (pos a.y) second_mv a.width a.height r c)) (prepared_in_same p q first depth mode (pos a.x) (pos a.y) first_mv a.width a.height r c)
-    ∙ ap (averaged depth (prepared_in depth mode q (pos a.x) (pos a.y) first_mv a.width a.height r c)) (prepared_in_same s t second depth mode (pos a.x) (pos a.y) second_mv a.width a.height r c)

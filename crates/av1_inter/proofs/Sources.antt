@@ -1,15 +1,13 @@
 -- All that is stored of a reference from a place on, read by rows.
-use Rattle.std.proofs.Common.{ℤ, pos, drop, ℕ, ◌-◌, ◌+◌, ◌*◌, ◌<◌, ◌≤◌, ◌≡◌, ◌∙◌, ap, sym, arith, List, length, map, get_or, slice_index}
+use Rattle.std.proofs.Common.{inl, inr, ℕ, ◌+◌, ◌*◌, ◌^◌, ◌<◌, ◌≤◌, ◌≡◌, ◌∙◌, ap, subst, sym, arith, List, length, map, get_or, slice_index}
 use Rattle.std.proofs.lemmas.Int.{ints}
-use Rattle.std.proofs.lemmas.List.{drop-map, get_or-drop, get_or-map}
+use Rattle.std.proofs.lemmas.List.{get_or-map}
+use Rattle.av1_blocks.specs.Depths.{IsDepth}
 use Rattle.av1_frame.specs.declared.plane_slice.PlaneSlice.{PlaneSlice}
 use Rattle.av1_frame.specs.Slices.{all_from, IsStoredPlace, RowIsStored, slice_plane}
 use Rattle.av1_frame.proofs.Slices.{all_from_fits, all_from_sample}
-use Rattle.av1_frame.specs.Arithmetic.{round_shift}
-use Rattle.av1_inter.specs.Motion.{weighted}
 use Rattle.av1_inter.specs.Places.{IsStoredFrom, samples_from}
 use Rattle.av1_inter.proofs.Rows.{place_is_stored, row_long}
-use Rattle.av1_inter.proofs.Sums.{weighted_same}
 
 module _ {T : Type 0} (num : T → ℕ) (place : PlaneSlice T) (columns rows : ℕ) (is_stored : IsStoredFrom place columns rows) where
   first_is_stored : 0 < columns → 0 < rows → IsStoredPlace place.plane_cfg.now place.x place.y
@@ -44,22 +42,18 @@ module _ {T : Type 0} (num : T → ℕ) (place : PlaneSlice T) (columns rows : �
       let m : y * stride + x ≡ y * place.plane_cfg.now.stride + x = ap (λ n. y * n + x) f in
       omega (arith, m, source_long source x y e h k)
 
+-- a sample of any depth has 12 bits at most
+pub within_12 : (depth n : ℕ) → IsDepth depth → n < 2 ^ depth → n < 4096
+within_12 depth n (inl e) h = omega (arith, (let small : n < 2 ^ 8 = subst (λ d. n < 2 ^ d) e h in small))
+within_12 depth n (inr (inl e)) h = omega (arith, (let small : n < 2 ^ 10 = subst (λ d. n < 2 ^ d) e h in small))
+within_12 depth n (inr (inr e)) h = subst (λ d. n < 2 ^ d) e h
+
 -- where sample t of a sum down column c stands, and of one along row r
 pub down_place : (r t stride c : ℕ) → r * stride + 3 + c + t * stride ≡ (r + t) * stride + (c + 3)
 down_place r t stride c = grind arith
 
 pub along_place : (start t c : ℕ) → start + c + t * 1 ≡ start + (c + t)
 along_place start t c = omega arith
-
--- a sample of what is left behind a place, and a sum of such samples, rounded
-pub left_sample : {T : Type 0} (num : T → ℕ) (source line : List T) (start i : ℕ) → line ≡ drop start source → slice_index (map num line) i ≡ slice_index (map num source) (start + i)
-left_sample num source line start i e =
-    ap (λ s. slice_index (map num s) i) e ∙ ap (λ s. slice_index s i) (sym (drop-map num start source)) ∙ get_or-drop start (map num source) i 0
-
-pub along_sum : {T : Type 0} (num : T → ℕ) (taps : List ℤ) (source line : List T) (start n m q : ℕ) → line ≡ drop start source → n ≡ m
-    → round_shift (weighted taps (λ t. pos (slice_index (map num line) (q + t)))) (7 - n) ≡ round_shift (weighted taps (λ t. pos (slice_index (map num source) (start + (q + t))))) (7 - m)
-along_sum num taps source line start n m q e b =
-    ap (λ z. round_shift z (7 - n)) (weighted_same taps _ _ (λ t l. ap pos (left_sample num source line start (q + t) e))) ∙ ap (λ (k : ℕ). round_shift (weighted taps (λ t. pos (slice_index (map num source) (start + (q + t))))) (7 - k)) b
 
 -- the rows that the taps for a strip read, in what is stored from its place on: where they end, and their samples
 pub strip_reaches : {T : Type 0} (place : PlaneSlice T) (w h : ℕ) (source : List T) (stride r : ℕ) → IsStoredFrom place (w + 7) (h + 7) → source ≡ all_from (slice_plane place) place.x place.y

@@ -16,12 +16,6 @@ shifted_is z n b e h l =
     let small : n * 2 ^ b < 4294967296 = omega arith in
     ap (λ y. to_z w32 (of_z w32 y * 2 ^ b % 4294967296)) e ∙ ap (to_z w32) (mod-eq_of_lt small) ∙ to_z_pos w32 (n * 2 ^ b) (omega arith)
 
--- two prepared values and their biases
-pub averaged_sum : (a b p x y q : ℤ) → x ≡ to_z w16 (of_z w16 a) → y ≡ to_z w16 (of_z w16 b) → q ≡ p → FitsSigned w16 a → FitsSigned w16 b
-    → IsWithin 8192 p
-    → to_z w32 (of_z w32 (to_z w32 (of_z w32 (to_z w32 (of_z w32 x) +ℤ to_z w32 (of_z w32 y))) +ℤ to_z w32 (of_z w32 (pos 2 *ℤ to_z w32 (of_z w32 q))))) ≡ a +ℤ b +ℤ pos 2 *ℤ p
-averaged_sum a b p x y q ea eb ep fa fb w = omega (arith, ints, w.low, w.high, ea, eb, ep, fa, fb)
-
 -- a value less its bias, in 16 bits
 pub stored_is : (r b x y : ℤ) → x ≡ r → y ≡ b → FitsSigned w32 x → IsWithin 8192 b → FitsSigned w16 (r -ℤ b) → to_z w16 (of_z w16 (to_z w32 (of_z w32 (to_z w32 (of_z w32 x) -ℤ to_z w32 (of_z w32 y))))) ≡ r -ℤ b
 stored_is r b x y er eb fr w f = omega (arith, ints, er, eb, fr, w.low, w.high, f)
@@ -90,7 +84,7 @@ partial_between taps value a b (suc k) h v =
     let s = both_between _ _ _ _ a b _ _ (partial_between taps value a b k (omega arith) v) (product_between (entry taps k) (value k) a b (v k (omega arith))) in
     rw (gains_more taps k (omega arith), losses_more taps k (omega arith)) s
 
-fits_of : (z : ℤ) → neg_ℤ (pos (2 ^ 30)) ≤ℤ z → z ≤ℤ pos (2 ^ 30) → FitsSigned w32 z
+pub fits_of : (z : ℤ) → neg_ℤ (pos (2 ^ 30)) ≤ℤ z → z ≤ℤ pos (2 ^ 30) → FitsSigned w32 z
 fits_of (pos n) l h = record { sfits = omega (arith, ints, h) }
 fits_of (negsuc n) l h = record { sfits = omega (arith, ints, l) }
 

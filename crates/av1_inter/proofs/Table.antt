@@ -131,8 +131,9 @@ fraction_small : (z : ℤ) → pos 0 ≤ℤ z → z <ℤ pos 16 → unsigned_abs
 fraction_small (pos n) l h = omega (arith, ints)
 fraction_small (negsuc n) l h = absurd (omega (arith, ints))
 
-pub made_is_filter : (mode : FilterMode) (z : ℤ) (side : ℕ) (taps : List ℤ) → FitsSigned w32 z → (pos 0 ≤ℤ z) × (z <ℤ pos 16) → taps ≡ filter_of mode (unsigned_abs (to_z w32 (of_z w32 z))) side → IsFilter taps
-made_is_filter mode z side taps h r e = subst IsFilter (sym (taps_made mode z side taps h e)) (filter_of_is_filter mode (unsigned_abs z) side (fraction_small z r.0 r.1))
+-- the weights that were read are those of a filter, and for a side of 4 the outer four are 0
+pub read_is_filter : (mode : FilterMode) (z : ℤ) (side : ℕ) (taps : List ℤ) → FitsSigned w32 z → pos 0 ≤ℤ z → z <ℤ pos 16 → taps ≡ filter_of mode (unsigned_abs (to_z w32 (of_z w32 z))) side → IsFilter taps
+read_is_filter mode z side taps f l h e = subst IsFilter (sym (taps_made mode z side taps f e)) (filter_of_is_filter mode (unsigned_abs z) side (fraction_small z l h))
 
-pub made_is_short : (mode : FilterMode) (z : ℤ) (taps : List ℤ) → FitsSigned w32 z → pos 0 ≤ℤ z → z <ℤ pos 16 → taps ≡ filter_of mode (unsigned_abs (to_z w32 (of_z w32 z))) 4 → IsShort taps
-made_is_short mode z taps h l m e = subst IsShort (sym (taps_made mode z 4 taps h e)) (short_of mode (unsigned_abs z) (fraction_small z l m))
+pub read_is_short : (mode : FilterMode) (z : ℤ) (side : ℕ) (taps : List ℤ) → FitsSigned w32 z → pos 0 ≤ℤ z → z <ℤ pos 16 → taps ≡ filter_of mode (unsigned_abs (to_z w32 (of_z w32 z))) side → side ≡ 4 → IsShort taps
+read_is_short mode z side taps f l h e s = subst IsShort (sym (taps_made mode z side taps f e)) (subst (λ (n : ℕ). IsShort (filter_of mode (unsigned_abs z) n)) (sym s) (short_of mode (unsigned_abs z) (fraction_small z l h)))

@@ -2,20 +2,21 @@
 //!
 //! AV1 specification: block inter prediction process.
 
-ghost use Rattle.std.specs.Prelude.{◌≡◌, true, ℕ, ◌+◌, ◌-◌, ◌*◌, ◌^◌, ◌≤◌, ◌<◌, pos, length, map, slice_index};
+ghost use Rattle.std.specs.Prelude.{◌≡◌, true, ℕ, ◌+◌, ◌-◌, ◌*◌, ◌/◌, ◌^◌, ◌≤◌, ◌<◌, pos, length, map, slice_index};
 ghost use Rattle.av1_frame.specs.Areas.{AreRows};
 ghost use Rattle.av1_frame.specs.Arithmetic.{clip, round_shift};
-ghost use Rattle.av1_frame.specs.Samples.{paint};
-ghost use Rattle.av1_inter.specs.Motion.{down_samples, intermediate_bits, weighted};
+ghost use Rattle.av1_frame.specs.Samples.{paint, paint_row};
+ghost use Rattle.av1_inter.specs.Motion.{down_samples, entry, intermediate_bits, weighted};
 ghost use Rattle.av1_inter.specs.Places.{AreWithinDepth, IsStoredFrom, samples_from};
 ghost use Rattle.av1_blocks.specs.Depths.{IsDepth};
-ghost use Rattle.av1_inter.specs.Scaffolding.{doubled, IsFilter, IsInner, IsShort};
+ghost use Rattle.av1_inter.specs.Scaffolding.{doubled, IsFilter, IsInner, IsShort, IsWithin};
 
-use crate::lines::{filter_along, is_inner, sums_apart};
+use crate::lines::{is_inner, sums_apart};
 use crate::mixed::{mixed_halves, mixed_sums, put_mixed_sums};
 use crate::narrow::{half_sums, halves_for, put_column_sums, put_row_sums};
-use crate::put::put_row;
-use crate::rounding::intermediate_bits;
+use crate::pairs::put_row_pairs;
+use crate::put::{nearest_sample, put_row};
+use crate::taps::taps_of_strip;
 use av1_blocks::SUBPEL_FILTER_SIZE;
 use av1_frame::{Pixel, PlaneSlice, StoredArea};
 
@@ -171,35 +172,55 @@ fn sum_mixed_rows<T: Pixel, const N: usize, const INNER: bool>(
     }
 }
 
-/// The same of samples of any depth, by the weights themselves.
+/// A sum along a row of samples of 12 bits, as a sample: the two roundings are one.
+#[inline(always)]
+fn deep_sample<T: Pixel>(sum: i32) -> T
+    requires bits { 12 ≤ T.BITS }
+    requires within { IsWithin (2 ^ 30) sum }
+    ensures { result ≡ T.pixel (clip 12 (round_shift (round_shift sum 5) 2)) }
+{
+    nearest_sample((sum + 80) >> 7, 12)
+}
+
+/// The first `N` samples of the row become such sums.
+#[inline(always)]
+#[tactic(auto, using(av1_frame::proofs::Paint::row_painting))]
+fn put_deep_sums<T: Pixel, const N: usize>(row: &mut [T], sums: &[i32; N])
+    requires row_long { N ≤ length row.old }
+    requires short { N ≤ 128 }
+    requires within { (c : ℕ) → c < N → IsWithin (2 ^ 30) (entry sums.now c) }
+    requires bits { 12 ≤ T.BITS }
+    ensures { row.new ≡ paint_row N (λ c _. T.pixel (clip 12 (round_shift (round_shift (entry sums.now c) 5) 2))) row.old }
+{
+    for c in 0..N {
+        row[c] = deep_sample(sums[c]);
+    }
+}
+
+/// The same of samples of 12 bits, by the weights themselves.
 #[inline(never)]
 #[tactic(auto, using(av1_frame::proofs::Paint::rectangle_painting))]
-fn sum_wide_rows<T: Pixel, const N: usize>(
+fn sum_deep_rows<T: Pixel, const N: usize>(
     samples: &mut [T],
     stride: usize,
     area: StoredArea,
     source: &[T],
     source_stride: usize,
     across: &[i32; SUBPEL_FILTER_SIZE],
-    bit_depth: usize,
 )
     requires filter { IsFilter across.now }
     requires rows { AreRows stride area (length samples.old) }
     requires width { area.width ≡ N }
     requires short { N ≤ 128 }
-    requires depths { IsDepth bit_depth }
-    requires depth { bit_depth ≤ T.BITS }
+    requires bits { 12 ≤ T.BITS }
     requires reach { (r : ℕ) → r < area.height + 7 → r * source_stride + (N + 7) ≤ length source.now }
-    requires within { (r c : ℕ) → r < area.height + 7 → c < N + 7 → slice_index (map T.num source.now) (r * source_stride + c) < 2 ^ bit_depth }
-    ensures { samples.new ≡ paint stride area (λ r c _. T.pixel (clip bit_depth (round_shift (round_shift (weighted across.now (λ t. pos (slice_index (map T.num source.now) ((r + 3) * source_stride + (c + t))))) (7 - intermediate_bits bit_depth)) (intermediate_bits bit_depth)))) samples.old }
+    ensures { samples.new ≡ paint stride area (λ r c _. T.pixel (clip 12 (round_shift (round_shift (weighted across.now (λ t. pos (slice_index (map T.num source.now) ((r + 3) * source_stride + (c + t))))) 5) 2))) samples.old }
 {
     let across = *across;
-    let bits = intermediate_bits(bit_depth);
     for r in 0..area.height {
-        let (_, line) = source.split_at((r + 3) * source_stride);
-        let values = filter_along::<T, N>(line, &across, 7 - bits);
+        let sums = sums_apart::<T, N>(source, (r + 3) * source_stride, 1, &across);
         let (_, row) = samples.split_at_mut((area.y + r) * stride + area.x);
-        put_row::<T, N>(row, &values, bits, bit_depth);
+        put_deep_sums::<T, N>(row, &sums);
     }
 }
 
@@ -265,7 +286,7 @@ fn put_mixed_columns_by<T: Pixel, const N: usize, const INNER: bool>(
 }
 
 /// A strip of samples of 10 bits that is filtered down its columns alone.
-pub(crate) fn put_mixed_columns<T: Pixel, const N: usize>(
+fn put_mixed_columns<T: Pixel, const N: usize>(
     samples: &mut [T],
     stride: usize,
     area: StoredArea,
@@ -288,9 +309,9 @@ pub(crate) fn put_mixed_columns<T: Pixel, const N: usize>(
     }
 }
 
-/// A strip of samples of any depth that is filtered down its columns alone.
+/// A strip of samples of any depth, and of any size, that is filtered down its columns alone.
 #[tactic(auto, using(crate::proofs::Sources::strip_sources))]
-fn put_wide_columns<T: Pixel, const N: usize>(
+fn put_any_columns<T: Pixel, const N: usize>(
     samples: &mut [T],
     stride: usize,
     area: StoredArea,
@@ -316,6 +337,71 @@ fn put_wide_columns<T: Pixel, const N: usize>(
         down,
         bit_depth,
     );
+}
+
+/// The same of a strip whose columns are some times eight and whose rows are even in number: eight columns at a time.
+fn put_eights<T: Pixel, const N: usize>(
+    samples: &mut [T],
+    stride: usize,
+    area: StoredArea,
+    corner: PlaneSlice<'_, T>,
+    down: &[i32; SUBPEL_FILTER_SIZE],
+    bit_depth: usize,
+)
+    requires filter { IsFilter down.now }
+    requires rows { AreRows stride area (length samples.old) }
+    requires width { area.width ≡ N }
+    requires eights { 8 * (N / 8) ≡ N }
+    requires even { 2 * (area.height / 2) ≡ area.height }
+    requires short { N ≤ 128 }
+    requires stored { IsStoredFrom corner (area.width + 7) (area.height + 7) }
+    requires depths { IsDepth bit_depth }
+    requires depth { bit_depth ≤ T.BITS }
+    requires within { AreWithinDepth bit_depth (samples_from T.num corner) (area.width + 7) (area.height + 7) }
+    ensures { samples.new ≡ paint stride area (λ r c _. T.pixel (clip bit_depth (round_shift (down_samples down.now (samples_from T.num corner.entry) r c) 7))) samples.old }
+{
+    for g in 0..N / 8 {
+        let strip = StoredArea {
+            x: area.x + 8 * g,
+            y: area.y,
+            width: 8,
+            height: area.height,
+        };
+        put_row_pairs(
+            samples,
+            stride,
+            strip,
+            taps_of_strip(corner, 8 * g),
+            down,
+            bit_depth,
+        );
+    }
+}
+
+/// The same, by eights where its size allows that.
+fn put_wide_columns<T: Pixel, const N: usize>(
+    samples: &mut [T],
+    stride: usize,
+    area: StoredArea,
+    corner: PlaneSlice<'_, T>,
+    down: &[i32; SUBPEL_FILTER_SIZE],
+    bit_depth: usize,
+)
+    requires filter { IsFilter down.now }
+    requires rows { AreRows stride area (length samples.old) }
+    requires width { area.width ≡ N }
+    requires short { N ≤ 128 }
+    requires stored { IsStoredFrom corner (area.width + 7) (area.height + 7) }
+    requires depths { IsDepth bit_depth }
+    requires depth { bit_depth ≤ T.BITS }
+    requires within { AreWithinDepth bit_depth (samples_from T.num corner) (area.width + 7) (area.height + 7) }
+    ensures { samples.new ≡ paint stride area (λ r c _. T.pixel (clip bit_depth (round_shift (down_samples down.now (samples_from T.num corner.entry) r c) 7))) samples.old }
+{
+    if N % 8 == 0 && area.height % 2 == 0 {
+        put_eights::<T, N>(samples, stride, area, corner, down, bit_depth);
+    } else {
+        put_any_columns::<T, N>(samples, stride, area, corner, down, bit_depth);
+    }
 }
 
 /// A strip that is filtered down its columns alone.
@@ -432,34 +518,30 @@ fn put_mixed_rows<T: Pixel, const N: usize>(
     }
 }
 
-/// A strip of samples of any depth that is filtered along its rows alone.
+/// A strip of samples of 12 bits that is filtered along its rows alone.
 #[tactic(auto, using(crate::proofs::Sources::strip_sources))]
-fn put_wide_rows<T: Pixel, const N: usize>(
+fn put_deep_rows<T: Pixel, const N: usize>(
     samples: &mut [T],
     stride: usize,
     area: StoredArea,
     corner: PlaneSlice<'_, T>,
     across: &[i32; SUBPEL_FILTER_SIZE],
-    bit_depth: usize,
 )
     requires filter { IsFilter across.now }
     requires rows { AreRows stride area (length samples.old) }
     requires width { area.width ≡ N }
     requires short { N ≤ 128 }
     requires stored { IsStoredFrom corner (area.width + 7) (area.height + 7) }
-    requires depths { IsDepth bit_depth }
-    requires depth { bit_depth ≤ T.BITS }
-    requires within { AreWithinDepth bit_depth (samples_from T.num corner) (area.width + 7) (area.height + 7) }
-    ensures { samples.new ≡ paint stride area (λ r c _. T.pixel (clip bit_depth (round_shift (round_shift (weighted across.now (λ t. pos (samples_from T.num corner.entry (c + t) (r + 3)))) (7 - intermediate_bits bit_depth)) (intermediate_bits bit_depth)))) samples.old }
+    requires bits { 12 ≤ T.BITS }
+    ensures { samples.new ≡ paint stride area (λ r c _. T.pixel (clip 12 (round_shift (round_shift (weighted across.now (λ t. pos (samples_from T.num corner.entry (c + t) (r + 3)))) 5) 2))) samples.old }
 {
-    sum_wide_rows::<T, N>(
+    sum_deep_rows::<T, N>(
         samples,
         stride,
         area,
         corner.samples(),
         corner.stride(),
         across,
-        bit_depth,
     );
 }
 
@@ -488,6 +570,6 @@ pub(crate) fn put_rows_alone<T: Pixel, const N: usize>(
     } else if bit_depth == 10 {
         put_mixed_rows::<T, N>(samples, stride, area, corner, across);
     } else {
-        put_wide_rows::<T, N>(samples, stride, area, corner, across, bit_depth);
+        put_deep_rows::<T, N>(samples, stride, area, corner, across);
     }
 }

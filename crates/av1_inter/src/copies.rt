@@ -8,7 +8,6 @@ ghost use Rattle.av1_frame.specs.Samples.{paint, paint_row};
 ghost use Rattle.av1_inter.specs.Places.{IsStoredFrom, samples_from};
 ghost use Rattle.av1_inter.specs.Scaffolding.{square_at};
 
-use crate::strip::{is_4x4, is_8x8};
 use av1_frame::{Pixel, PlaneSlice, StoredArea, copy_row};
 
 /// The first `width` samples of the row become those of `source` from the fourth on.
@@ -134,7 +133,7 @@ pub(crate) fn put_square_of<T: Pixel, const N: usize>(
     put_samples_of::<T, N>(samples, stride, square, corner);
 }
 
-/// A rectangle that is not filtered.
+/// A rectangle that is not filtered, and is no square of 4 or 8 columns: these are copied without asking for their width.
 #[inline(always)]
 pub(crate) fn put_copy<T: Pixel>(
     samples: &mut [T],
@@ -146,11 +145,7 @@ pub(crate) fn put_copy<T: Pixel>(
     requires stored { IsStoredFrom corner (area.width + 7) (area.height + 7) }
     ensures { samples.new ≡ paint stride area (λ r c _. T.pixel (samples_from T.num corner.entry (c + 3) (r + 3))) samples.old }
 {
-    if is_4x4(area) {
-        put_square_of::<T, 4>(samples, stride, area.x, area.y, corner);
-    } else if is_8x8(area) {
-        put_square_of::<T, 8>(samples, stride, area.x, area.y, corner);
-    } else if area.width == 4 {
+    if area.width == 4 {
         put_samples_of::<T, 4>(samples, stride, area, corner);
     } else if area.width == 8 {
         put_samples_of::<T, 8>(samples, stride, area, corner);

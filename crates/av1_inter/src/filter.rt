@@ -4,6 +4,7 @@
 
 ghost use Rattle.std.specs.Prelude.{◌≡◌, pos, ◌≤ℤ◌, ◌<ℤ◌, unsigned_abs};
 ghost use Rattle.av1_inter.specs.Filters.{family, filter_of, short_family};
+ghost use Rattle.av1_inter.specs.Scaffolding.{IsFilter, IsShort};
 
 use av1_blocks::{FilterMode, SUBPEL_FILTER_SIZE, SUBPEL_FILTERS};
 
@@ -37,15 +38,27 @@ fn family(mode: FilterMode, length: usize) -> usize
     }
 }
 
+/// The weights of a mode at `frac` sixteenths, along a side of `length` samples.
+fn taps_at(mode: FilterMode, frac: i32, length: usize) -> [i32; SUBPEL_FILTER_SIZE]
+    requires low { pos 0 ≤ℤ frac }
+    requires high { frac <ℤ pos 16 }
+    ensures { result ≡ filter_of mode (unsigned_abs frac) length }
+{
+    let filters = &SUBPEL_FILTERS;
+    filters[family(mode, length)][frac as usize]
+}
+
 /// The filter of a mode at `frac` sixteenths, along a side of `length` samples.
 pub(crate) fn get_filter(mode: FilterMode, frac: i32, length: usize) -> Filter
     requires low { pos 0 ≤ℤ frac }
     requires high { frac <ℤ pos 16 }
     ensures fraction { result.fraction ≡ unsigned_abs frac }
     ensures taps { result.taps ≡ filter_of mode (unsigned_abs frac) length }
+    ensures filter { IsFilter result.taps }
+    ensures short { length ≡ 4 → IsShort result.taps }
 {
-    let fraction = frac as usize;
-    let filters = &SUBPEL_FILTERS;
-    let taps = filters[family(mode, length)][fraction];
-    Filter { fraction, taps }
+    Filter {
+        fraction: frac as usize,
+        taps: taps_at(mode, frac, length),
+    }
 }

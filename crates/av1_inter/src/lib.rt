@@ -36,6 +36,7 @@ mod lines;
 mod mixed;
 mod moved;
 mod narrow;
+mod pairs;
 mod predict;
 mod prepare;
 mod put;

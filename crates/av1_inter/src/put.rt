@@ -18,7 +18,7 @@ use crate::copies::put_copy;
 use crate::filter::{Filter, get_filter};
 use crate::lines::filter_horizontal;
 use crate::rounding::{greatest, intermediate_bits};
-use crate::square::{is_deep_square, is_square, put_deep_square_columns, put_square};
+use crate::square::{is_square, put_square};
 use crate::strip::{is_one_strip, strip_width};
 use crate::taps::{taps_of_block, taps_of_strip};
 use crate::window::{keep_first_rows, next_sums};
@@ -346,14 +346,16 @@ pub fn put_8tap_to<T: Pixel>(
         (single bit_depth (unsigned_abs col_frac) (unsigned_abs row_frac) (filter_of mode_x (unsigned_abs col_frac) area.width) (filter_of mode_y (unsigned_abs row_frac) area.height) (samples_from T.num (corner_of src.entry)) r c)) samples.old }
 {
     let corner = taps_of_block(src);
-    if is_square(area, bit_depth) {
-        put_square(
-            samples, stride, area.x, area.y, corner, mode_x, mode_y, col_frac, row_frac,
+    if is_square::<4>(area) {
+        put_square::<T, 4>(
+            samples, stride, area.x, area.y, corner, mode_x, mode_y, col_frac, row_frac, bit_depth,
+        );
+    } else if is_square::<8>(area) {
+        put_square::<T, 8>(
+            samples, stride, area.x, area.y, corner, mode_x, mode_y, col_frac, row_frac, bit_depth,
         );
     } else if col_frac == 0 && row_frac == 0 {
         put_copy(samples, stride, area, corner);
-    } else if col_frac == 0 && is_deep_square(area, bit_depth) {
-        put_deep_square_columns(samples, stride, area.x, area.y, corner, mode_y, row_frac);
     } else {
         let across = get_filter(mode_x, col_frac, area.width);
         let down = get_filter(mode_y, row_frac, area.height);

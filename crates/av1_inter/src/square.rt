@@ -1,38 +1,38 @@
-//! Blocks of 4x4 samples of 8 bits, and blocks of 8x8 samples of 10 bits that are filtered down their columns alone.
+//! Blocks of 4x4 and of 8x8 samples.
 //!
-//! Their sides and their depth are known before they run: where a block of 4x4 samples is filtered along one direction alone, the compiler
-//! writes out four rows, and for each sample a sum of four products.
+//! Their sides are known before they run, so that only the filters that a block takes are looked up, and a block of 4x4 samples of 8 bits
+//! that is filtered along one direction alone is written out: four rows, and for each sample a sum of four products.
 //!
 //! AV1 specification: block inter prediction process.
 
-ghost use Rattle.std.specs.Prelude.{◌≡◌, true, ◌+◌, ◌≤◌, pos, ◌≤ℤ◌, ◌<ℤ◌, length, unsigned_abs};
+ghost use Rattle.std.specs.Prelude.{◌≡◌, true, ◌+◌, ◌-◌, ◌≤◌, ◌<◌, pos, ◌≤ℤ◌, ◌<ℤ◌, length, unsigned_abs};
 ghost use Rattle.av1_frame.specs.Areas.{AreRows};
 ghost use Rattle.av1_frame.specs.Arithmetic.{clip, round_shift};
 ghost use Rattle.av1_frame.specs.Samples.{paint};
 ghost use Rattle.av1_inter.specs.Filters.{filter_of};
-ghost use Rattle.av1_inter.specs.Motion.{down_samples, single, weighted};
+ghost use Rattle.av1_blocks.specs.Depths.{IsDepth};
+ghost use Rattle.av1_inter.specs.Motion.{down_samples, intermediate_bits, single, weighted};
 ghost use Rattle.av1_inter.specs.Places.{AreWithinDepth, IsStoredFrom, samples_from};
 ghost use Rattle.av1_inter.specs.Scaffolding.{square_at};
 
-use crate::alone::{put_mixed_columns, put_narrow_columns, put_narrow_rows};
+use crate::alone::{put_columns_alone, put_narrow_columns, put_narrow_rows, put_rows_alone};
 use crate::copies::put_square_of;
 use crate::filter::get_filter;
 use crate::put::put_filtered;
-use crate::strip::{is_4x4, is_8x8};
 use av1_blocks::FilterMode;
 use av1_frame::{Pixel, PlaneSlice, StoredArea};
 
-/// Whether a block has 4x4 samples of 8 bits.
-pub(crate) fn is_square(area: StoredArea, bit_depth: usize) -> bool
-    ensures width { result ≡ true → area.width ≡ 4 }
-    ensures height { result ≡ true → area.height ≡ 4 }
-    ensures depth { result ≡ true → bit_depth ≡ 8 }
+/// Whether a rectangle is a square of `N` columns and rows.
+#[inline(always)]
+pub(crate) fn is_square<const N: usize>(area: StoredArea) -> bool
+    ensures width { result ≡ true → area.width ≡ N }
+    ensures height { result ≡ true → area.height ≡ N }
 {
-    is_4x4(area) && bit_depth == 8
+    area.width == N && area.height == N
 }
 
-/// Such a block that is filtered along its rows.
-fn put_square_rows<T: Pixel>(
+/// A square of `N` columns and rows from column `x` and row `y` on that is filtered along its rows.
+fn put_square_rows<T: Pixel, const N: usize>(
     samples: &mut [T],
     stride: usize,
     x: usize,
@@ -40,27 +40,34 @@ fn put_square_rows<T: Pixel>(
     corner: PlaneSlice<'_, T>,
     mode: FilterMode,
     col_frac: i32,
+    bit_depth: usize,
 )
     requires low { pos 0 ≤ℤ col_frac }
     requires high { col_frac <ℤ pos 16 }
-    requires rows { AreRows stride (square_at 4 x y) (length samples.old) }
-    requires stored { IsStoredFrom corner 11 11 }
-    requires bits { 8 ≤ T.BITS }
-    requires within { AreWithinDepth 8 (samples_from T.num corner) 11 11 }
-    ensures { samples.new ≡ paint stride (square_at 4 x y) (λ r c _. T.pixel (clip 8 (round_shift (round_shift (weighted (filter_of mode (unsigned_abs col_frac) 4) (λ t. pos (samples_from T.num corner.entry (c + t) (r + 3)))) 3) 4))) samples.old }
+    requires rows { AreRows stride (square_at N x y) (length samples.old) }
+    requires short { N ≤ 128 }
+    requires stored { IsStoredFrom corner (N + 7) (N + 7) }
+    requires depths { IsDepth bit_depth }
+    requires depth { bit_depth ≤ T.BITS }
+    requires within { AreWithinDepth bit_depth (samples_from T.num corner) (N + 7) (N + 7) }
+    ensures { samples.new ≡ paint stride (square_at N x y) (λ r c _. T.pixel (clip bit_depth (round_shift (round_shift (weighted (filter_of mode (unsigned_abs col_frac) N) (λ t. pos (samples_from T.num corner.entry (c + t) (r + 3)))) (7 - intermediate_bits bit_depth)) (intermediate_bits bit_depth)))) samples.old }
 {
-    let across = get_filter(mode, col_frac, 4);
+    let across = get_filter(mode, col_frac, N);
     let square = StoredArea {
         x,
         y,
-        width: 4,
-        height: 4,
+        width: N,
+        height: N,
     };
-    put_narrow_rows::<T, 4, true>(samples, stride, square, corner, &across.taps);
+    if N == 4 && bit_depth == 8 {
+        put_narrow_rows::<T, N, true>(samples, stride, square, corner, &across.taps);
+    } else {
+        put_rows_alone::<T, N>(samples, stride, square, corner, &across.taps, bit_depth);
+    }
 }
 
-/// Such a block that is filtered down its columns.
-fn put_square_columns<T: Pixel>(
+/// Such a square that is filtered down its columns.
+fn put_square_columns<T: Pixel, const N: usize>(
     samples: &mut [T],
     stride: usize,
     x: usize,
@@ -68,27 +75,34 @@ fn put_square_columns<T: Pixel>(
     corner: PlaneSlice<'_, T>,
     mode: FilterMode,
     row_frac: i32,
+    bit_depth: usize,
 )
     requires low { pos 0 ≤ℤ row_frac }
     requires high { row_frac <ℤ pos 16 }
-    requires rows { AreRows stride (square_at 4 x y) (length samples.old) }
-    requires stored { IsStoredFrom corner 11 11 }
-    requires bits { 8 ≤ T.BITS }
-    requires within { AreWithinDepth 8 (samples_from T.num corner) 11 11 }
-    ensures { samples.new ≡ paint stride (square_at 4 x y) (λ r c _. T.pixel (clip 8 (round_shift (down_samples (filter_of mode (unsigned_abs row_frac) 4) (samples_from T.num corner.entry) r c) 7))) samples.old }
+    requires rows { AreRows stride (square_at N x y) (length samples.old) }
+    requires short { N ≤ 128 }
+    requires stored { IsStoredFrom corner (N + 7) (N + 7) }
+    requires depths { IsDepth bit_depth }
+    requires depth { bit_depth ≤ T.BITS }
+    requires within { AreWithinDepth bit_depth (samples_from T.num corner) (N + 7) (N + 7) }
+    ensures { samples.new ≡ paint stride (square_at N x y) (λ r c _. T.pixel (clip bit_depth (round_shift (down_samples (filter_of mode (unsigned_abs row_frac) N) (samples_from T.num corner.entry) r c) 7))) samples.old }
 {
-    let down = get_filter(mode, row_frac, 4);
+    let down = get_filter(mode, row_frac, N);
     let square = StoredArea {
         x,
         y,
-        width: 4,
-        height: 4,
+        width: N,
+        height: N,
     };
-    put_narrow_columns::<T, 4, true>(samples, stride, square, corner, &down.taps);
+    if N == 4 && bit_depth == 8 {
+        put_narrow_columns::<T, N, true>(samples, stride, square, corner, &down.taps);
+    } else {
+        put_columns_alone::<T, N>(samples, stride, square, corner, &down.taps, bit_depth);
+    }
 }
 
-/// Such a block at column `x` and row `y`, at every fraction.
-pub(crate) fn put_square<T: Pixel>(
+/// Such a square, at every fraction.
+pub(crate) fn put_square<T: Pixel, const N: usize>(
     samples: &mut [T],
     stride: usize,
     x: usize,
@@ -98,70 +112,37 @@ pub(crate) fn put_square<T: Pixel>(
     mode_y: FilterMode,
     col_frac: i32,
     row_frac: i32,
+    bit_depth: usize,
 )
     requires col_frac { (pos 0 ≤ℤ col_frac) × (col_frac <ℤ pos 16) }
     requires row_frac { (pos 0 ≤ℤ row_frac) × (row_frac <ℤ pos 16) }
-    requires rows { AreRows stride (square_at 4 x y) (length samples.old) }
-    requires stored { IsStoredFrom corner 11 11 }
-    requires bits { 8 ≤ T.BITS }
-    requires within { AreWithinDepth 8 (samples_from T.num corner) 11 11 }
-    ensures { samples.new ≡ paint stride (square_at 4 x y) (λ r c _. T.pixel
-        (single 8 (unsigned_abs col_frac) (unsigned_abs row_frac) (filter_of mode_x (unsigned_abs col_frac) 4) (filter_of mode_y (unsigned_abs row_frac) 4) (samples_from T.num corner.entry) r c)) samples.old }
+    requires rows { AreRows stride (square_at N x y) (length samples.old) }
+    requires some { 0 < N }
+    requires short { N ≤ 128 }
+    requires stored { IsStoredFrom corner (N + 7) (N + 7) }
+    requires depths { IsDepth bit_depth }
+    requires depth { bit_depth ≤ T.BITS }
+    requires within { AreWithinDepth bit_depth (samples_from T.num corner) (N + 7) (N + 7) }
+    ensures { samples.new ≡ paint stride (square_at N x y) (λ r c _. T.pixel
+        (single bit_depth (unsigned_abs col_frac) (unsigned_abs row_frac) (filter_of mode_x (unsigned_abs col_frac) N) (filter_of mode_y (unsigned_abs row_frac) N) (samples_from T.num corner.entry) r c)) samples.old }
 {
     if row_frac == 0 {
         if col_frac == 0 {
-            put_square_of::<T, 4>(samples, stride, x, y, corner);
+            put_square_of::<T, N>(samples, stride, x, y, corner);
         } else {
-            put_square_rows(samples, stride, x, y, corner, mode_x, col_frac);
+            put_square_rows::<T, N>(samples, stride, x, y, corner, mode_x, col_frac, bit_depth);
         }
     } else if col_frac == 0 {
-        put_square_columns(samples, stride, x, y, corner, mode_y, row_frac);
+        put_square_columns::<T, N>(samples, stride, x, y, corner, mode_y, row_frac, bit_depth);
     } else {
-        let across = get_filter(mode_x, col_frac, 4);
-        let down = get_filter(mode_y, row_frac, 4);
+        let across = get_filter(mode_x, col_frac, N);
+        let down = get_filter(mode_y, row_frac, N);
         let square = StoredArea {
             x,
             y,
-            width: 4,
-            height: 4,
+            width: N,
+            height: N,
         };
-        put_filtered(samples, stride, square, corner, &across, &down, 8);
+        put_filtered(samples, stride, square, corner, &across, &down, bit_depth);
     }
-}
-
-/// Whether a block has 8x8 samples of 10 bits.
-pub(crate) fn is_deep_square(area: StoredArea, bit_depth: usize) -> bool
-    ensures width { result ≡ true → area.width ≡ 8 }
-    ensures height { result ≡ true → area.height ≡ 8 }
-    ensures depth { result ≡ true → bit_depth ≡ 10 }
-{
-    is_8x8(area) && bit_depth == 10
-}
-
-/// Such a block at column `x` and row `y` that is filtered down its columns alone.
-pub(crate) fn put_deep_square_columns<T: Pixel>(
-    samples: &mut [T],
-    stride: usize,
-    x: usize,
-    y: usize,
-    corner: PlaneSlice<'_, T>,
-    mode: FilterMode,
-    row_frac: i32,
-)
-    requires low { pos 0 ≤ℤ row_frac }
-    requires high { row_frac <ℤ pos 16 }
-    requires rows { AreRows stride (square_at 8 x y) (length samples.old) }
-    requires stored { IsStoredFrom corner 15 15 }
-    requires bits { 10 ≤ T.BITS }
-    requires within { AreWithinDepth 10 (samples_from T.num corner) 15 15 }
-    ensures { samples.new ≡ paint stride (square_at 8 x y) (λ r c _. T.pixel (clip 10 (round_shift (down_samples (filter_of mode (unsigned_abs row_frac) 8) (samples_from T.num corner.entry) r c) 7))) samples.old }
-{
-    let down = get_filter(mode, row_frac, 8);
-    let square = StoredArea {
-        x,
-        y,
-        width: 8,
-        height: 8,
-    };
-    put_mixed_columns::<T, 8>(samples, stride, square, corner, &down.taps);
 }

@@ -1,4 +1,4 @@
-//! The strips of columns in which a block is interpolated, and blocks of 4x4 and of 8x8 samples.
+//! The strips of columns in which a block is interpolated.
 
 ghost use Rattle.std.specs.Prelude.{◌≡◌, true, ◌≤◌, ◌<◌};
 ghost use Rattle.av1_inter.specs.Scaffolding.{IsStripWidth};
@@ -30,22 +30,4 @@ pub(crate) fn is_one_strip(width: usize) -> bool
     ensures { result ≡ true → IsStripWidth width }
 {
     width == 4 || width == 8 || width == 16 || width == 32
-}
-
-/// Whether a rectangle has 4x4 samples.
-#[inline(always)]
-pub(crate) fn is_4x4(area: StoredArea) -> bool
-    ensures width { result ≡ true → area.width ≡ 4 }
-    ensures height { result ≡ true → area.height ≡ 4 }
-{
-    area.width == 4 && area.height == 4
-}
-
-/// Whether a rectangle has 8x8 samples.
-#[inline(always)]
-pub(crate) fn is_8x8(area: StoredArea) -> bool
-    ensures width { result ≡ true → area.width ≡ 8 }
-    ensures height { result ≡ true → area.height ≡ 8 }
-{
-    area.width == 8 && area.height == 8
 }

@@ -2,14 +2,8 @@ use Rattle.std.proofs.Common.{ℕ, ◌∙◌, ap, List, ℤ, ◌≡◌}
 use Rattle.av1_frame.specs.declared.plane_slice.PlaneSlice.{PlaneSlice}
 use Rattle.av1_inter.specs.Motion.{prepared}
 use Rattle.av1_inter.specs.Places.{samples_from}
-use Rattle.av1_inter.proofs.Table.{fraction_made, made_is_filter, taps_made}
+use Rattle.av1_inter.proofs.Table.{fraction_made, taps_made}
 use Rattle.av1_inter.proofs.prepare.prep_8tap.Goals as goal
-
-pub prepare_whole-requires-clause-across_filter : goal.prepare_whole-requires-clause-across_filter
-prepare_whole-requires-clause-across_filter g c = made_is_filter c.args.mode_x c.args.col_frac c.args.width _ c.ranges.col_frac c.requires.col_frac c.get_filter-across.ensures.taps
-
-pub prepare_whole-requires-clause-down_filter : goal.prepare_whole-requires-clause-down_filter
-prepare_whole-requires-clause-down_filter g c = made_is_filter c.args.mode_y c.args.row_frac c.args.height _ c.ranges.row_frac c.requires.row_frac c.get_filter-down.ensures.taps
 
 -- the filters and the place that were made are those that the contract names
 named : {T : Type 0} (num : T → ℕ) (z : ℤ) (depth r q fx fx' fy fy' : ℕ) (across across' down down' : List ℤ) (place place' : PlaneSlice T) → fx ≡ fx'

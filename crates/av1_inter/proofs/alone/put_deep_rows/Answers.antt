@@ -1,14 +1,13 @@
-use Rattle.std.proofs.Common.{arith, ◌∙◌, ◌+◌, ◌-◌, ◌*◌, ap, map, pos, slice_index}
+use Rattle.std.proofs.Common.{arith, ◌∙◌, ◌+◌, ◌*◌, ap, map, pos, slice_index}
 use Rattle.av1_frame.specs.Arithmetic.{clip, round_shift}
 use Rattle.av1_frame.proofs.Paint.{paint_same}
-use Rattle.av1_inter.specs.Motion.{intermediate_bits}
 use Rattle.av1_inter.proofs.Sources.{source_sample}
 use Rattle.av1_inter.proofs.Sums.{weighted_same}
-use Rattle.av1_inter.proofs.alone.put_wide_rows.Goals as goal
+use Rattle.av1_inter.proofs.alone.put_deep_rows.Goals as goal
 
 pub returns : goal.returns
 returns g c =
-    c.sum_wide_rows.ensures ∙ paint_same c.args.stride c.args.area _ _ c.args.samples.now
-    (λ q p v h l. ap (λ z. g.T.Pixel.pixel (clip c.args.bit_depth (round_shift (round_shift z (7 - intermediate_bits c.args.bit_depth)) (intermediate_bits c.args.bit_depth))))
+    c.sum_deep_rows.ensures ∙ paint_same c.args.stride c.args.area _ _ c.args.samples.now
+    (λ q p v h l. ap (λ z. g.T.Pixel.pixel (clip 12 (round_shift (round_shift z 5) 2)))
     (weighted_same c.args.across.now _ _ (λ t k. ap pos (ap (λ s. slice_index (map g.T.Pixel.num c.samples.result.now) ((q + 3) * s + (p + t))) c.stride.ensures
     ∙ source_sample g.T.Pixel.num c.args.corner _ _ c.requires.stored c.samples.result.now (p + t) (q + 3) c.samples.ensures (omega arith) (omega arith)))))

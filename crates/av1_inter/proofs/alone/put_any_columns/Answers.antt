@@ -3,7 +3,7 @@ use Rattle.av1_frame.specs.Arithmetic.{clip, round_shift}
 use Rattle.av1_frame.proofs.Paint.{paint_same}
 use Rattle.av1_inter.proofs.Sources.{source_sample}
 use Rattle.av1_inter.proofs.Sums.{weighted_same}
-use Rattle.av1_inter.proofs.alone.put_wide_columns.Goals as goal
+use Rattle.av1_inter.proofs.alone.put_any_columns.Goals as goal
 
 pub returns : goal.returns
 returns g c =

@@ -1,0 +1,126 @@
+-- Sums of two products, as the machine forms them: numbers of 16 bits in lanes of 32.
+use Rattle.std.proofs.Common.{ℕ, ◌+◌, ◌*◌, ◌%◌, ◌<◌, ◌≡◌, ◌∙◌, ap, arith, subst, sym, ℤ, pos, negsuc, ◌+ℤ◌, ◌*ℤ◌, List, ◌++◌, length, map, get_or, w16, w32, to_z, of_z, FitsSigned}
+use Rattle.std.proofs.Math.IntN.{*ℤ_comm}
+use Rattle.std.proofs.Math.ListN.{get_or-map}
+use Rattle.std.proofs.lemmas.Int.{int_wrap_fits, ints, to_z-of_z, wrapping_add-bits, wrapping_mul_is}
+use Rattle.std.proofs.lemmas.List.{get_or_append_left, get_or-append-add, length-map}
+use Rattle.std.proofs.lemmas.Simd.{Each1-from_get_or}
+use Rattle.std.specs.Int.{int_wrap}
+use Rattle.std.specs.Simd.Lanes.{Each1}
+use Rattle.av1_lists.specs.Lists.{by_index}
+use Rattle.av1_lists.proofs.Lists.{get_or-by_index}
+use Rattle.av1_inter.specs.Motion.{entry}
+use Rattle.av1_inter.specs.Scaffolding.{Between}
+use Rattle.av1_inter.proofs.Halves.{short_read, short_sum_fits}
+use Rattle.av1_inter.proofs.Sums.{fits_of, product_between}
+
+pub weight_fits : (z : ℤ) → Between 56 184 z → FitsSigned w16 z
+weight_fits z b = short_sum_fits z (record { low = omega (arith, ints, b.low); high = omega (arith, ints, b.high) })
+
+wide_weight : (z : ℤ) → Between 56 184 z → FitsSigned w32 z
+wide_weight z b = fits_of z (omega (arith, ints, b.low)) (omega (arith, ints, b.high))
+
+-- a weight that is read in 32 bits and stored in 16
+pub short_weight_fits : (z : ℤ) → Between 56 184 z → FitsSigned w16 (to_z w32 (of_z w32 z))
+short_weight_fits z b = let P : ℤ → Type 0 = λ v. FitsSigned w16 v in subst P (sym (to_z-of_z w32 z (wide_weight z b))) (weight_fits z b)
+
+pub short_weight_is : (z : ℤ) → Between 56 184 z → to_z w16 (of_z w16 (to_z w32 (of_z w32 z))) ≡ z
+short_weight_is z b = ap (λ v. to_z w16 (of_z w16 v)) (to_z-of_z w32 z (wide_weight z b)) ∙ to_z-of_z w16 z (weight_fits z b)
+
+-- a product of a weight and a sample
+pub small_product : (w x : ℤ) → Between 56 184 w → Between 0 4095 x → Between 229320 753480 (w *ℤ x)
+small_product (pos n) x bw bx = let p = product_between (pos n) x 0 4095 bx in record { low = omega (arith, ints, p.low, bw.high); high = omega (arith, ints, p.high, bw.high) }
+small_product (negsuc n) x bw bx = let p = product_between (negsuc n) x 0 4095 bx in record { low = omega (arith, ints, p.low, bw.low); high = omega (arith, ints, p.high, bw.low) }
+
+product_word : (w x : ℤ) → Between 56 184 w → Between 0 4095 x → to_z w32 (of_z w32 x * of_z w32 w % 4294967296) ≡ w *ℤ x
+product_word w x bw bx =
+    let p = small_product w x bw bx in
+    wrapping_mul_is w32 x w (fits_of x (omega (arith, ints, bx.low)) (omega (arith, ints, bx.high))) (wide_weight w bw)
+    ∙ ap (int_wrap w32) (*ℤ_comm x w)
+    ∙ int_wrap_fits w32 (w *ℤ x) (fits_of _ (omega (arith, ints, p.low)) (omega (arith, ints, p.high)))
+
+-- a sum of two products in 32 bits
+abbrev sum_word : (x w y v : ℤ) → ℤ
+sum_word x w y v = to_z w32 ((of_z w32 x * of_z w32 w % 4294967296 + of_z w32 y * of_z w32 v % 4294967296) % 4294967296)
+
+sum_word_is : (w v x y : ℤ) → Between 56 184 w → Between 56 184 v → Between 0 4095 x → Between 0 4095 y → sum_word x w y v ≡ w *ℤ x +ℤ v *ℤ y
+sum_word_is w v x y bw bv bx by =
+    let a = of_z w32 x * of_z w32 w % 4294967296 in
+    let b = of_z w32 y * of_z w32 v % 4294967296 in
+    let p = small_product w x bw bx in
+    let q = small_product v y bv by in
+    wrapping_add-bits w32 a b (omega arith) (omega arith)
+    ∙ ap (λ z. int_wrap w32 (z +ℤ to_z w32 b)) (product_word w x bw bx)
+    ∙ ap (λ z. int_wrap w32 (w *ℤ x +ℤ z)) (product_word v y bv by)
+    ∙ int_wrap_fits w32 _ (fits_of _ (omega (arith, ints, p.low, q.low)) (omega (arith, ints, p.high, q.high)))
+
+-- a word that was read twice
+abbrev reread : ℕ → ℤ
+reread n = to_z w16 (of_z w16 (to_z w16 n))
+
+reread_is : (n : ℕ) (x : ℤ) → n ≡ of_z w16 x → Between 0 4095 x → reread n ≡ x
+reread_is n x e b = let r = short_read 4095 x (omega arith) b in ap reread e ∙ ap (λ z. to_z w16 (of_z w16 z)) r ∙ r
+
+-- word i of two lists of numbers side by side
+abbrev word_of : List ℤ → List ℤ → ℕ → ℕ
+word_of xs ys i = get_or (map (of_z w16) xs ++ map (of_z w16) ys) i 0
+
+-- what is read of it fits 32 bits
+pub word_fits : (xs ys : List ℤ) (i : ℕ) → FitsSigned w32 (reread (word_of xs ys i))
+word_fits xs ys i = fits_of (reread (word_of xs ys i)) (omega (arith, ints)) (omega (arith, ints))
+
+first_word : (xs ys : List ℤ) (i : ℕ) → length xs ≡ 8 → i < 8 → word_of xs ys i ≡ of_z w16 (entry xs i)
+first_word xs ys i n h =
+    get_or_append_left (map (of_z w16) xs) (map (of_z w16) ys) 0 i (omega (arith, n, length-map xs (of_z w16))) ∙ get_or-map (of_z w16) xs i (pos 0)
+
+second_word : (xs ys : List ℤ) (i : ℕ) → length xs ≡ 8 → word_of xs ys (8 + i) ≡ of_z w16 (entry ys i)
+second_word xs ys i n =
+    let m : length (map (of_z w16) xs) ≡ 8 = omega (arith, n, length-map xs (of_z w16)) in
+    ap (λ k. word_of xs ys (k + i)) (sym m) ∙ get_or-append-add (map (of_z w16) xs) (map (of_z w16) ys) i 0 ∙ get_or-map (of_z w16) ys i (pos 0)
+
+-- lane i of the sums
+abbrev pair_lane : (w v : ℤ) → List ℤ → List ℤ → ℕ → ℤ
+pair_lane w v xs ys i = sum_word (reread (word_of xs ys i)) (to_z w16 (of_z w16 w)) (reread (word_of xs ys (8 + i))) (to_z w16 (of_z w16 v))
+
+pair_lane_is : (w v : ℤ) (xs ys : List ℤ) (i : ℕ) → length xs ≡ 8 → i < 8 → Between 56 184 w → Between 56 184 v → Between 0 4095 (entry xs i) → Between 0 4095 (entry ys i)
+    → pair_lane w v xs ys i ≡ w *ℤ entry xs i +ℤ v *ℤ entry ys i
+pair_lane_is w v xs ys i n h bw bv bx by =
+    let x = entry xs i in
+    let y = entry ys i in
+    let q = reread (word_of xs ys (8 + i)) in
+    let t = to_z w16 (of_z w16 v) in
+    ap (λ z. sum_word z (to_z w16 (of_z w16 w)) q t) (reread_is _ x (first_word xs ys i n h) bx)
+    ∙ ap (λ z. sum_word x z q t) (to_z-of_z w16 w (weight_fits w bw))
+    ∙ ap (λ z. sum_word x w z t) (reread_is _ y (second_word xs ys i n) by)
+    ∙ ap (λ z. sum_word x w y z) (to_z-of_z w16 v (weight_fits v bv))
+    ∙ sum_word_is w v x y bw bv bx by
+
+-- eight sums
+pub pairs_are : (w v : ℤ) (xs ys : List ℤ) → length xs ≡ 8 → Between 56 184 w → Between 56 184 v → ((i : ℕ) → i < 8 → Between 0 4095 (entry xs i)) → ((i : ℕ) → i < 8 → Between 0 4095 (entry ys i))
+    → (i : ℕ) → i < 8 → entry (by_index 8 (pair_lane w v xs ys)) i ≡ w *ℤ entry xs i +ℤ v *ℤ entry ys i
+pairs_are w v xs ys n bw bv bx by i h = get_or-by_index 8 (pair_lane w v xs ys) i (pos 0) h ∙ pair_lane_is w v xs ys i n h bw bv (bx i h) (by i h)
+
+-- a sample of 12 bits as a number
+sample_fits : (n : ℕ) → n < 4096 → FitsSigned w16 (pos n)
+sample_fits n h = record { sfits = omega (arith, ints, h) }
+
+-- eight samples in lanes of 32 bits
+module _ (xs : List ℤ) (value : ℕ → ℕ) (count : length xs ≡ 8) (are : (i : ℕ) → i < 8 → entry xs i ≡ pos (value i)) (small : (i : ℕ) → i < 8 → value i < 4096) where
+  wide_lane : (i : ℕ) → i < 8 → to_z w32 (get_or (map (of_z w32) xs) i 0) ≡ pos (value i)
+  wide_lane i h =
+      ap (to_z w32) (get_or-map (of_z w32) xs i (pos 0)) ∙ ap (λ z. to_z w32 (of_z w32 z)) (are i h)
+      ∙ to_z-of_z w32 (pos (value i)) (let k = small i h in fits_of (pos (value i)) (omega (arith, ints, k)) (omega (arith, ints, k)))
+
+  -- each fits 16 bits
+  pub lanes_fit : Each1 (λ n. FitsSigned w16 (to_z w32 n)) (map (of_z w32) xs)
+  lanes_fit =
+      let P : ℕ → Type 0 = λ n. FitsSigned w16 (to_z w32 n) in
+      let Q : ℤ → Type 0 = λ z. FitsSigned w16 z in
+      Each1-from_get_or P (map (of_z w32) xs) 0 (λ i l. let h : i < 8 = omega (arith, count, length-map xs (of_z w32)) in subst Q (sym (wide_lane i h)) (sample_fits (value i) (small i h)))
+
+  -- and is the same number there
+  pub lanes_are : (i : ℕ) → i < 8 → entry (map (to_z w16) (map (λ n. of_z w16 (to_z w32 n)) (map (of_z w32) xs))) i ≡ pos (value i)
+  lanes_are i h =
+      get_or-map (to_z w16) (map (λ n. of_z w16 (to_z w32 n)) (map (of_z w32) xs)) i 0
+      ∙ ap (to_z w16) (get_or-map (λ n. of_z w16 (to_z w32 n)) (map (of_z w32) xs) i 0)
+      ∙ ap (λ z. to_z w16 (of_z w16 z)) (wide_lane i h) ∙ to_z-of_z w16 (pos (value i)) (sample_fits (value i) (small i h))
