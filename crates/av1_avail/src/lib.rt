@@ -21,8 +21,6 @@ mod bits;
 mod laws;
 mod superblock;
 mod tables;
-#[cfg(test)]
-mod tests;
 
 pub use availability::{has_bottom_left, has_top_right};
 pub use bits::{has_bl, has_tr};

@@ -19,8 +19,6 @@ pub mod memory;
 mod numbers;
 pub mod partition;
 pub mod predict;
-#[cfg(test)]
-mod tests;
 pub mod transform;
 
 pub use context::{

@@ -32,23 +32,13 @@ mod build_calls;
 mod build_fault;
 mod build_leaf;
 mod builder;
-#[cfg(test)]
-mod builder_tests;
-#[cfg(test)]
-mod edge_tests;
 mod fault;
 mod intra;
 mod intra_edge;
-#[cfg(test)]
-mod intra_tests;
 mod leaf_numbers;
 mod luma;
-#[cfg(test)]
-mod luma_tests;
 mod mc_avg;
 mod motion;
-#[cfg(test)]
-mod motion_tests;
 mod plan_header;
 mod planes_length;
 mod prep_8tap;
@@ -56,11 +46,7 @@ mod put_8tap;
 mod reconstruct;
 mod samples;
 mod status;
-#[cfg(test)]
-mod tests;
 mod transform_add;
-#[cfg(test)]
-mod transform_tests;
 
 pub use build_calls::{
     av1_builder_begin, av1_builder_finish, av1_builder_mark, av1_builder_reference,

@@ -25,8 +25,6 @@ mod lane_count;
 mod laws;
 mod narrow;
 mod steps;
-#[cfg(test)]
-mod tests;
 mod weights;
 mod word;
 

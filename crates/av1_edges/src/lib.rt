@@ -26,8 +26,6 @@ mod intra_edges;
 mod laws;
 mod parts;
 mod position;
-#[cfg(test)]
-mod tests;
 
 pub use buffer::IntraEdgeBuffer;
 pub use edge::{EdgePlaces, IntraEdge};

@@ -1,12 +1,11 @@
 -- A loop that paints a region row by row, and one that paints its samples while they are lent.
 use Rattle.std.proofs.Common.{ℕ, ◌+◌, ◌*◌, ◌<◌, ◌≤◌, ◌≡◌, List, length, ap, arith, ◌∙◌, subst, sym}
 use Rattle.av1_frame.specs.declared.plane_region.PlaneRegionMut.{PlaneRegionMut}
-use Rattle.av1_frame.specs.declared.plane_region.OuterArea.{OuterArea}
 use Rattle.av1_frame.specs.declared.plane_region.StoredArea.{StoredArea}
 use Rattle.av1_frame.specs.Samples.{corner, with_part, row_start, row_of, paint, paint_row}
 use Rattle.av1_frame.specs.Areas.{IsStorage, AreaFits, AreRows}
 use Rattle.av1_frame.specs.declared.plane.PlaneConfig.{PlaneConfig}
-use Rattle.av1_frame.specs.Regions.{painted, painted_within, with_samples, with_area, with_outer, outer_area, stored, InStorage}
+use Rattle.av1_frame.specs.Regions.{painted, painted_within, with_samples, stored, InStorage}
 use Rattle.av1_frame.proofs.Fits.{row_end_le, rows_le}
 use Rattle.av1_frame.proofs.Paint.{paint_none, paint_more, paint_same, length_paint, length_with_part}
 use Rattle.av1_frame.proofs.Update.{with_whole}
@@ -47,11 +46,6 @@ module _ {T : Type 0} (r o : PlaneRegionMut T) (w y : ℕ) (f : ℕ → ℕ → 
 
 -- a loop that writes a region row by row
 pub ruleset region_painting = (painted_none, painted_in_storage, painted_more)
-
--- a region that was narrowed to the rectangle a, painted and restored
-pub restored : {T : Type 0} (r m o t : PlaneRegionMut T) (outer : OuterArea) (a : StoredArea) (w h : ℕ) (f : ℕ → ℕ → T → T) → outer ≡ outer_area r → m ≡ with_area r a → o ≡ painted m w h f → t ≡ with_outer o outer → t ≡ painted_within r (corner a w h) f
-restored r m o t outer a w h f e n p q =
-    q ∙ ap (with_outer o) e ∙ ap (λ u. with_outer u (outer_area r)) (p ∙ ap (λ u. painted u w h f) n)
 
 -- a region that was painted in part still lies in storage
 pub painted_within_in_storage : {T : Type 0} (r o : PlaneRegionMut T) (a : StoredArea) (f : ℕ → ℕ → T → T) → o ≡ painted_within r a f → InStorage r → InStorage o

@@ -7,7 +7,6 @@ use Rattle.av1_frame.specs.Areas.{rect_of, AreaFits}
 use Rattle.av1_frame.specs.Planes.{plane_row}
 use Rattle.av1_frame.specs.declared.plane.Plane.{Plane}
 use Rattle.av1_frame.specs.declared.plane_region.StoredArea.{StoredArea}
-use Rattle.av1_frame.specs.declared.plane_region.OuterArea.{OuterArea}
 use Rattle.av1_frame.specs.declared.plane_region.PlaneRegion.{PlaneRegion}
 use Rattle.av1_frame.specs.declared.plane_region.PlaneRegionMut.{PlaneRegionMut}
 use Rattle.av1_frame.specs.contracts.plane_region.PlaneRegionMut as region
@@ -34,18 +33,6 @@ with_plane r p = record r { plane = record r.plane { now = p } }
 -- r with the samples ws in its plane, and all else as it is
 abbrev pub with_samples : {T : Type 0} → PlaneRegionMut T → List T → PlaneRegionMut T
 with_samples r ws = with_plane r (record r.plane.now { samples = ws })
-
--- r as the rectangle a of its plane
-abbrev pub with_area : {T : Type 0} → PlaneRegionMut T → StoredArea → PlaneRegionMut T
-with_area r a = record r { area = a; rect = rect_of r.plane_cfg a }
-
--- the rectangle that r is
-abbrev pub outer_area : {T : Type 0} → PlaneRegionMut T → OuterArea
-outer_area r = record { area = r.area; rect = r.rect }
-
--- r as the rectangle that it was
-abbrev pub with_outer : {T : Type 0} → PlaneRegionMut T → OuterArea → PlaneRegionMut T
-with_outer r a = record r { area = a.area; rect = a.rect }
 
 -- r with each sample v of its first h rows and w columns turned to f ROW COLUMN v; all others stay
 abbrev pub painted : {T : Type 0} → PlaneRegionMut T → ℕ → ℕ → (ℕ → ℕ → T → T) → PlaneRegionMut T

@@ -41,8 +41,6 @@ mod plane_slice;
 mod rows;
 mod slots;
 mod storage;
-#[cfg(test)]
-mod tests;
 mod tile_state;
 
 pub use block_unit::{BlockOffset, TileBlockOffset};
@@ -50,9 +48,7 @@ pub use frame_invariants::FrameInvariants;
 pub use math::{clamp, clip, round_shift};
 pub use pixel::{Coefficient, Pixel, coefficient_laws, pixel_laws};
 pub use plane::{Plane, PlaneConfig, PlaneOffset};
-pub use plane_region::{
-    Area, OuterArea, PlaneRegion, PlaneRegionMut, Rect, StoredArea, visible_area,
-};
+pub use plane_region::{Area, PlaneRegion, PlaneRegionMut, Rect, StoredArea, visible_area};
 pub use plane_slice::PlaneSlice;
 pub use rows::{copy_row, fill_area, fill_row, zero_coefficients, zero_samples};
 pub use tile_state::{CodedBlockInfo, TileRect, TileStateMut};

@@ -4,7 +4,7 @@ ghost use Rattle.std.specs.Prelude.{◌≡◌, ℕ, ◌+◌, ◌-◌, ◌*◌, �
 ghost use Rattle.std.specs.Borrow.{sem};
 ghost use Rattle.av1_frame.specs.Samples.{corner, row_of};
 ghost use Rattle.av1_frame.specs.Areas.{area_from, from_origin, rect_of, LiesIn, IsPartOf, IsStorage, IsStored};
-ghost use Rattle.av1_frame.specs.Regions.{LendsRow, LendsSamples, LendsSub, InStorage, IsReadable, stored, with_area, with_outer, outer_area};
+ghost use Rattle.av1_frame.specs.Regions.{LendsRow, LendsSamples, LendsSub, InStorage, IsReadable, stored};
 
 use crate::block_unit::BlockOffset;
 use crate::pixel::Pixel;
@@ -140,13 +140,6 @@ impl StoredArea {
     }
 }
 
-/// The rectangle that a region had before it was narrowed, for `PlaneRegionMut::restore`.
-#[derive(Clone, Copy, Debug, PartialEq, Eq)]
-pub struct OuterArea {
-    area: StoredArea,
-    rect: Rect,
-}
-
 /// A rectangle of stored samples, to read: of a plane, or of memory that a caller holds.
 #[derive(Clone, Copy)]
 pub struct PlaneRegion<'a, T> {
@@ -205,6 +198,16 @@ impl<'a, T: Pixel> PlaneRegion<'a, T> {
     {
         let start = (self.area.y + y) * self.plane_cfg.stride + self.area.x;
         part_of(self.samples, start, self.area.width)
+    }
+
+    /// The same rectangle.
+    pub fn as_const(&self) -> PlaneRegion<'_, T>
+        ensures samples { result.samples.now ≡ self.now.samples.now }
+        ensures area { result.area ≡ self.now.area }
+        ensures rect { result.rect ≡ self.now.rect }
+        ensures cfg { result.plane_cfg ≡ self.now.plane_cfg }
+    {
+        *self
     }
 
     /// The rectangle `area` of this one. A `Rect` counts from the region's first sample.
@@ -318,8 +321,6 @@ impl<'a, T: Pixel> PlaneRegionMut<'a, T> {
 
     /// The rectangle `area` of this one, to read and write: what is written stands in the region when the
     /// borrow ends. A `Rect` counts from the region's first sample.
-    ///
-    /// Proofs cannot follow a region that was made here into another call that writes: `narrow` serves there.
     pub fn subregion_mut(&mut self, area: Area) -> PlaneRegionMut<'_, T>
         requires fits { InStorage self.old }
         requires area { IsPartOf self.old.plane_cfg self.old.area area }
@@ -338,32 +339,5 @@ impl<'a, T: Pixel> PlaneRegionMut<'a, T> {
             area: inner,
             rect,
         }
-    }
-
-    /// Makes the region the rectangle `area` of itself, and answers what it was: `restore` undoes this.
-    /// A `Rect` counts from the region's first sample.
-    pub fn narrow(&mut self, area: Area) -> OuterArea
-        requires fits { InStorage self.old }
-        requires area { IsPartOf self.old.plane_cfg self.old.area area }
-        ensures outer { result ≡ outer_area self.old }
-        ensures after { self.new ≡ with_area self.old (area_from self.old.plane_cfg self.old.area area) }
-        ensures fits { InStorage self.new }
-    {
-        let outer = OuterArea {
-            area: self.area,
-            rect: self.rect,
-        };
-        let inner = self.area.inner(self.plane_cfg, area);
-        self.rect = inner.rect(self.plane_cfg);
-        self.area = inner;
-        outer
-    }
-
-    /// Makes the region the rectangle that it was before `narrow`.
-    pub fn restore(&mut self, outer: OuterArea)
-        ensures { self.new ≡ with_outer self.old outer }
-    {
-        self.area = outer.area;
-        self.rect = outer.rect;
     }
 }

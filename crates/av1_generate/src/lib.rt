@@ -13,6 +13,3 @@ mod nodes;
 mod transforms;
 
 pub use make::make_plan;
-
-#[cfg(test)]
-mod tests;

@@ -44,8 +44,6 @@ mod rounding;
 mod square;
 mod strip;
 mod taps;
-#[cfg(test)]
-mod tests;
 mod window;
 
 pub use average::{mc_avg, mc_avg_to};

@@ -44,8 +44,6 @@ mod samples;
 mod side_places;
 mod smooth;
 mod straight;
-#[cfg(test)]
-mod tests;
 mod tile_luma;
 mod upsampling;
 mod variant;

@@ -37,8 +37,6 @@ mod networks;
 mod room;
 mod rows;
 mod shift;
-#[cfg(test)]
-mod tests;
 mod walsh;
 
 pub use adst::{

@@ -322,6 +322,3 @@ pub fn check_plan(plan: &Plan) -> Result<(), Invalid>
 {
     check_leaves(plan.header(), plan)
 }
-
-#[cfg(test)]
-mod tests;

@@ -53,6 +53,3 @@ pub use parse::{parse_leaves, parse_leaves_apart, parse_plan};
 pub use plan::Plan;
 pub use planes::Planes;
 pub use reader::Reader;
-
-#[cfg(test)]
-mod tests;

@@ -54,6 +54,3 @@ pub use samples::{planes_len, put_planes};
 pub use state::State;
 pub use superblocks::Superblocks;
 pub use write::{write_bare, write_plan};
-
-#[cfg(test)]
-mod tests;

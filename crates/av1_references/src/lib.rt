@@ -20,8 +20,6 @@ mod fill;
 mod frame;
 mod laws;
 mod predict;
-#[cfg(test)]
-mod tests;
 
 pub use frame::frame_invariants;
 pub use laws::motion_lies_within_depth;

@@ -33,6 +33,3 @@ pub use head::FrameHead;
 pub use laws::{accepted_alone_count, sequence_outcome_laws, sequences_are_texts};
 pub use reconstruct::reconstruct_sequence;
 pub use sequence::Sequence;
-
-#[cfg(test)]
-mod tests;

@@ -18,8 +18,6 @@ mod line;
 mod read;
 mod sink;
 mod source;
-#[cfg(test)]
-mod tests;
 mod write;
 
 pub use line::{LINE_BYTES, Line};

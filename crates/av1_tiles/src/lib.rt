@@ -36,6 +36,3 @@ pub use joined::{Frame, Samples, join_frame, join_tiles};
 pub use laws::{grids_are_texts, outcomes_are_one, tiles_are_isolated};
 pub use reconstruct::reconstruct_tiles;
 pub use tile::{parse_tile, read_tile, tile_area};
-
-#[cfg(test)]
-mod tests;

@@ -22,8 +22,6 @@ mod error;
 mod laws;
 mod lines;
 mod samples;
-#[cfg(test)]
-mod tests;
 mod trace;
 
 pub use answer::report_error;

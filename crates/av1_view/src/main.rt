@@ -18,8 +18,6 @@ mod page;
 mod planes;
 mod program;
 mod template;
-#[cfg(test)]
-mod tests;
 mod trace;
 mod view;
 
