@@ -1,6 +1,0 @@
-use Rattle.std.proofs.Common.{ℕ, ◌<◌, slice_index_or, ℤ}
-use Rattle.av1_dct.specs.Arithmetic.{FitsBits}
-use Rattle.av1_dct.proofs.tests.clamp_all.Given as goal
-
-abbrev pub invariant-loop-i : goal.invariant-loop-i
-invariant-loop-i l = (k : ℕ) (d : ℤ) → k < l.i → FitsBits l.range (slice_index_or l.values k d)

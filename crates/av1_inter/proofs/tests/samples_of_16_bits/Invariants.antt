@@ -1,5 +1,0 @@
-use Rattle.std.proofs.Common.{ℕ, ◌<◌, ◌^◌, slice_index}
-use Rattle.av1_inter.proofs.tests.samples_of_16_bits.Given as goal
-
-abbrev pub invariant-loop-k : goal.invariant-loop-k
-invariant-loop-k l = (i : ℕ) → i < l.k → slice_index l.samples i < 2 ^ l.depth
