@@ -3,36 +3,40 @@
 HEAD = """# What is trusted
 
 All that the headline theorem says, in one reading. The theorem is the contract of `reconstruct_plan`
-([reconstruct.rt](../crates/av1_recon/src/reconstruct.rt)): the record `Reconstructs`, the last definition of this page. Before it stand
-the definitions that it cites, and those that these cite in turn, each once and before it is used. A machine checks the
-proofs, so nobody has to read them; but a mistake in one of these definitions would be believed. This page is what to hold
-beside the AV1 specification. None of it runs: the program is other code, proved to give what stands here.
+([reconstruct.rt](../crates/av1_recon/src/reconstruct.rt)): the record `Reconstructs`, the last definition of this page.
+Before it stand the definitions that it cites, and those that these cite in turn, each once and before it is used. A
+machine checks the proofs, so nobody has to read them; but a mistake in one of these definitions would be believed. This
+page is what to hold beside the AV1 specification. None of it runs: the program is other code, proved to give what
+stands here.
 
-[`trusted.py`](../tools/trusted/trusted.py) writes the page from the files that the checker reads, and fails with `--check` where they differ.
-To see one sample go through all chapters first, read [SAMPLE](SAMPLE.md).
+[`trusted.py`](../tools/trusted/trusted.py) writes the page from the files that the checker reads, and fails with
+`--check` where they differ. To see one sample go through all chapters first, read [SAMPLE](SAMPLE.md).
 
-> **The notation.** `f : A → B → C` takes an `A` and a `B` and gives a `C`. The lines below are its equations, tried from the top; those of
-> a table stand side by side, without its name. A call is `f x y`; `λ x. e` is the function of x that gives e.
-> `ℕ` are the numbers from 0 on: `2 - 5` is 0, `/` rounds down, `%` is the remainder. `ℤ` has negative ones too: `pos n` is n,
-> `negsuc n` is -(n + 1), and `+ℤ`, `-ℤ`, `*ℤ` compute. `x ∷ xs` is a list that begins with x, `[]` the empty one, `xs ++ ys` one behind the
-> other. `Some x` or `None` is an optional value, `Ok x` or `Err e` a result, `p.0` and `p.1` the parts of a pair, `a.x` a field.
-> A test (`==`, `nat_lt`, `&&`) gives `true` or `false`. A statement (`Type 0`) holds or not: `x ≡ y` says that both are the same, `A × B` is
-> A and B, `A ⊎ B` A or B, `A → B` A implies B, `¬ A` not A, `(x : A) → B` B for every x, `(x : A) × B` B for some x; `⊤` always holds, `⊥` never.
-> In a format or a `do`, `x ← f` reads what f asks for and calls it x. A struct or enum of Rust counts as its fields, with integers as
-> `ℕ`, or `ℤ` where signed. `elim b [ true ↦ x | false ↦ y ]` chooses by cases.
+> **The notation.** `f : A → B → C` takes an `A` and a `B` and gives a `C`. The lines below are its equations, tried from
+> the top; those of a table stand side by side, without its name. A call is `f x y`; `λ x. e` is the function of x that
+> gives e. `ℕ` are the numbers from 0 on: `zero` is 0, `suc n` is n + 1, `2 - 5` is 0, `/` rounds down, `%` is the remainder.
+> `ℤ` has negative ones too: `pos n` is n, `negsuc n` is -(n + 1), and `+ℤ`, `-ℤ`, `*ℤ` compute. `x ∷ xs` is a `List` that
+> begins with x, `[]` the empty one, `xs ++ ys` one behind the other. `Some x` or `None` is an `Option`, `Ok x` or `Err e` a
+> `Result`, `p.0` and `p.1` are the parts of a pair, `a.x` is a field. A test (`==`, `nat_lt`, `&&`) gives a `Bool`, `true` or
+> `false`. A statement (`Type 0`) holds or not: `x ≡ y` says that both are the same, `A × B` is A and B, `A ⊎ B` A or B,
+> `A → B` A implies B, `¬ A` not A, `(x : A) → B` B for every x, `(x : A) × B` B for some x; `⊤` always holds, `⊥` never. In a
+> format or a `do`, `x ← f` reads what f asks for and calls it x. A struct or enum of Rust counts as its fields, with
+> integers as `ℕ`, or `ℤ` where signed. `elim b [ true ↦ x | false ↦ y ]` chooses by cases.
 
 What is not defined here is the toolchain's standard library, of which these words occur:
 
 | word | what it is |
 |---|---|
-| `nat_lt`, `nat_le`, `int_lt`, `int_eq`, `is_in_range a b v` | tests: less, at most, equal; v is from a to b |
+| `nat_lt`, `nat_le`, `int_lt`, `int_eq`, `is_in_range a b v`; `IsTrue b` | tests: less, at most, equal; v is from a to b; the statement that b is true |
+| `min`, `max`, `int_min`, `int_max`, `bit_xor` | the smaller, the greater of two numbers, of two integers; bits that differ |
 | `slice_index_or xs i d`, `slice_index xs i`, `slice_set xs i v` | item i, or d where there is none; item i of a list of numbers, or 0; the list with v there |
-| `take`, `drop`, `map`, `flat_map`, `fold f s xs`, `reverse`, `sum`, `replicate`, `find`, `list_all` | of lists, as everywhere; a fold goes from the left |
+| `length`, `take`, `drop`, `map`, `flat_map`, `fold f s xs`, `reverse`, `sum`, `replicate`, `find`, `list_all` | of lists, as everywhere; a fold goes from the left |
 | `range_with_len a n` | a, a + 1 and so on, n of them |
 | `option_map`, `unwrap_or o d`, `result_unwrap_or r d`, `is_ok` | of options and results: d where there is no value |
 | `nat_abs`, `unsigned_abs`, `neg_ℤ` | the size of an integer; its negation |
 | `int_shr x k`, `int_wrap w z`, `int_rem_euclid` | x / 2^k, rounded down; z cut to the bits of w in two's complement; the remainder that is not negative |
 | `from_le_bytes`, `to_le_bytes`, `cast_signed w n`, `codes` | a number of bytes, the low one first, and back; n read in two's complement; the bytes of a text |
+| `Width`: `w8`, `w16`, `w32` | how many bits an integer has |
 | `OnOk r P`, `IfErr r P`, `IfSome o P` | P holds where r is Ok, of its error, of the value; nothing is said else |
 | `IsOk r`, `IsOkAnd r P`, `IsErrAnd r P` | r is Ok; and P holds of its value; r is an error of which P holds |
 | `Appends s s' xs`, `Consumes s s' xs`, `IsAtEnd s` | what a sink took became longer by xs; xs were taken from the front of a source; nothing is left in it. Each says nothing of one that does not tell its bytes (`None`) |
@@ -71,9 +75,10 @@ CHAPTERS = [
      "av1_intra/Sides av1_intra/Dc av1_intra/Paeth av1_intra/Smooth av1_intra/Angles av1_intra/Neighbours "
      "av1_intra/EdgeFilter av1_intra/Upsampling av1_intra/Directional av1_intra/ChromaFromLuma av1_intra/Predicted"),
     ("Motion", """
-     Prediction from one reference or two: the filters (Subpel_Filters), the block inter prediction process with
-     its two roundings, the motion vector scaling process at a scale of one, and the average of two predictions.
-     References are the plan's own planes; a place outside of them reads the nearest visible sample.""",
+     Prediction from one reference or two: the filters (Subpel_Filters), the block inter prediction process with its
+     two roundings, the motion vector scaling process at a scale of one, and the average of two predictions. References
+     are the plan's own planes; a place outside of them reads the nearest visible sample. Along sides up to 4 the sharp
+     filter is rav1e's, and [not AV1's](DIFFERENCES.md#where-plans-arent-av1).""",
      "av1_blocks/Filters av1_frame/Slices av1_inter/Filters av1_inter/Motion av1_inter/Reference "
      "av1_inter/Prediction av1_references/References"),
     ("Transforms", """

@@ -5,7 +5,7 @@
 
 ROOT is CRATE.NAME, CRATE.FILE.NAME, or CRATE for all that the contracts of a crate cite; without one it is `Reconstructs` of `av1_recon`,
 and what is printed is docs/TRUSTED.md. --check fails where the two differ, where the page's last definition doesn't reach another one
-there, where a word has no definition, and where a definition is cited before it stands. --count tells how many definitions, lines and
+there, where a word has no definition and isn't told of at the head of the page, and where a definition is cited before it stands. --count tells how many definitions, lines and
 files there are by crate.
 
 `definitions.py` reads the definitions, `chapters.py` has the chapters and what each begins with, `reached.py` looks at the page alone."""
@@ -16,7 +16,7 @@ import re
 import sys
 import textwrap
 from chapters import CHAPTERS, HEAD, OTHERS, TAIL
-from definitions import citations, closure, modules, read, resolve, roots_of
+from definitions import citations, closure, modules, read, resolve, roots_of, words_of_std
 from reached import not_reached
 
 PAGE = "docs/TRUSTED.md"
@@ -190,11 +190,19 @@ def count(reached):
 
 
 def faults_of(reached):
-    """the words of definitions that mean nothing, and the definitions that are cited before they stand"""
+    """the words of definitions that mean nothing, or are the standard library's and not told, and definitions that are
+    cited before they stand"""
     order = [d for _, _, types, own in in_chapters(reached) for d in types + [d for _, found in own for d in found]]
-    at = {d: i for i, d in enumerate(order)}
-    return ["not resolved: %s %s: %s" % (place(d), d.name, word) for d in reached for word in citations(d)[1]] + [
-        "cited before it stands: %s, by %s of %s" % (other.name, d.name, place(d)) for d in order for other in citations(d)[0] if at[other] > at[d]]
+    at, told_of = {d: i for i, d in enumerate(order)}, set(re.findall(r"[^\s`():,.]+", HEAD))
+    return [
+        "not resolved: %s %s: %s" % (place(d), d.name, word) for d in reached for word in citations(d)[1]
+    ] + [
+        "not told of at the head of the page: %s" % word
+        for word in sorted(set().union(*map(words_of_std, reached)) - told_of)
+    ] + [
+        "cited before it stands: %s, by %s of %s" % (other.name, d.name, place(d))
+        for d in order for other in citations(d)[0] if at[other] > at[d]
+    ]
 
 
 def faults_of_page(out, reached):
