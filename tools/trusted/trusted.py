@@ -185,8 +185,6 @@ def count(reached):
     print("beside them %d types and constants of Rust, %d lines" % (len(reached) - len(specs), lines_of([d for d in reached if d.is_rust])))
     everything = [d for m in modules().values() for d in dict.fromkeys(m.definitions.values())]
     print("of %d definitions, %d lines in %d files" % (len(everything), lines_of(everything), len(modules())))
-    for fault in faults_of(reached):
-        print(fault)
 
 
 def faults_of(reached):
