@@ -137,11 +137,20 @@ fn block(pick: &mut Numbers, (mode, step): (u8, i8), size: usize, from_luma: boo
     Block { mode, size: size as u8, step, sides, filter, visible, left, above, margins, way, luma, seed: pick.below(1 << 31) as u32 }
 }
 
-/// Every mode with every step in every size.
+/// Modes with their steps in all sizes and formats.
 pub fn intra_modes(pick: &mut Numbers) {
     let modes = modes();
     for turn in 0..4000 {
         block(pick, modes[(turn / 76 + turn / 4) % modes.len()], turn / 4 % 19, false).record(turn);
+    }
+}
+
+/// Every mode with every step in every size, without the edge filter, with it, and with it beside a smooth neighbour.
+pub fn every_mode(pick: &mut Numbers) {
+    let modes = modes();
+    for turn in 0..3 * 19 * modes.len() {
+        let it = block(pick, modes[turn / 57], turn / 3 % 19, false);
+        Block { filter: turn as u8 % 3, ..it }.record(turn);
     }
 }
 

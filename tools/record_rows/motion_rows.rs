@@ -111,6 +111,27 @@ pub fn prepares(pick: &mut Numbers) {
     }
 }
 
+/// Every width by every choice of filters that have outer weights (the sharp one's) and of others, along rows, down columns or both.
+pub fn every_width(pick: &mut Numbers) {
+    for turn in 0..2 * 4 * 7 * 3 * 4 * 2 {
+        let others = [pick.one_of(&[0, 1, 3]), pick.one_of(&[0, 1, 3])];
+        let (width, sharp, moved) = (2 << (turn / 4 % 7), turn / 28 % 4, turn / 112 % 3);
+        let filter = |at: usize| if sharp >> at & 1 == 1 { 2 } else { others[at] };
+        let heights = if turn / 336 % 2 == 0 { [8, 8, 8] } else { [6, 16, 20] };
+        let fraction = |pick: &mut Numbers, is_moved: bool| if is_moved { 1 + pick.below(15) as u8 } else { 0 };
+        let it = Block {
+            width: width as u8,
+            height: pick.one_of(&heights),
+            across: fraction(pick, moved != 1),
+            down: fraction(pick, moved != 0),
+            filters: (filter(0), filter(1)),
+            way: pick.one_of(&[0, 0, 1]),
+            seed: pick.below(1 << 31) as u32,
+        };
+        if turn < 672 { it.put(turn, Margins::pick(pick)) } else { it.prepare(turn) }
+    }
+}
+
 /// Every pair of filters with every fraction along rows or down columns or both, at short and long sides.
 pub fn every_filter(pick: &mut Numbers) {
     for turn in 0..4 * 16 * 15 {

@@ -32,7 +32,10 @@ fn main() {
     luma_rows::luma(pick);
     availability_rows::availability(pick);
     transform_rows::every_range(pick);
+    transform_rows::ends_and_few(pick);
+    motion_rows::every_width(pick);
     motion_rows::every_filter(pick);
+    intra_rows::every_mode(pick);
     motion_rows::refused(pick);
     motion_rows::refused_averages(pick);
     intra_rows::refused(pick);

@@ -32,6 +32,7 @@ pub fn networks(pick: &mut Numbers) {
     }
 }
 
+/// Every transform of one dimension at every range, in every way.
 pub fn every_range(pick: &mut Numbers) {
     for number in 0..16 {
         for range in 8..=20 {
@@ -66,6 +67,17 @@ pub fn transforms(pick: &mut Numbers) {
         let full = format_of(turn).1.depth as u8 + 8;
         let bits = pick.one_of(&[full, full, full - 1, full - 3, full - 6]);
         let drawn = Signed { bits, way: pick.one_of(&[0, 0, 0, 1, 2]), spare: pick.one_of(&[0, 0, 2, 4, 8]) };
+        let margins = Margins::pick(pick);
+        block(turn, pairs[turn / 4 % pairs.len()], drawn, margins, pick.below(1 << 31) as u32);
+    }
+}
+
+/// Every pair of size and type in every format, at the ends of the range of coefficients, and with few coefficients.
+pub fn ends_and_few(pick: &mut Numbers) {
+    let pairs = pairs();
+    for turn in 0..8 * pairs.len() {
+        let bits = format_of(turn).1.depth as u8 + 8;
+        let drawn = if turn < 4 * pairs.len() { Signed { bits, way: 1, spare: 0 } } else { Signed { bits: bits - 2, way: 0, spare: 6 } };
         let margins = Margins::pick(pick);
         block(turn, pairs[turn / 4 % pairs.len()], drawn, margins, pick.below(1 << 31) as u32);
     }
