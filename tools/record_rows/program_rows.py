@@ -18,6 +18,8 @@ def one_leaf(add):
         add("one leaf, a value that its field does not have", changed(HALVED, (place, value)))
     for mode, step in ((13, 0), (1, 4), (0, 1), (1, 252), (8, 3), (12, 255)):
         add("one leaf, mode or step", changed(HALVED, (MODE, mode), (STEP, step)))
+    for mode in range(13):
+        add("one leaf, chroma mode", changed(HALVED, (CHROMA, mode), (24, 255 if mode in range(1, 9) else 0), (EDGE_FILTER, mode % 2)))
     add("one leaf, chroma of a large leaf", header(sampling=0) + b"\0" + leaf(weights=(1, 1), tx_size=4))
     for them in ([(0, 5, 1), (0, 5, 2)], [(0, 1024, 1)], [(1, 0, 1)], [(0, 0, 32768)], [(0, 0, -32769)], [(0, 0, 32767)], [(0, 1023, -32768)]):
         add("one leaf, triples", header(sampling=0) + b"\0" + leaf(tx_size=4, y=them))
@@ -121,13 +123,14 @@ def refusals(add):
         add("refusals, halves", header(64, 64, sampling=sampling) + bytes([mark]) + 2 * leaf())
     for size, kind, uv_type in ((4, 0, 0), (4, 1, 0), (0, 0, 16), (0, 16, 0), (3, 9, 0), (3, 10, 0), (2, 15, 9), (2, 16, 0)):
         add("refusals, transforms", header(sampling=2) + b"\0" + leaf(tx_size=size, tx_type=kind, uv_type=uv_type))
-    for sampling, mode, step, mark in ((2, 13, 0, 0), (2, 1, 4, 0), (2, 0, 1, 0), (2, 1, -3, 0), (0, 1, -4, 3)):
-        add("refusals, modes", header(64, 64, sampling=sampling) + bytes([mark]) + (1 if mark == 0 else 4) * (
-            (b"\0" if mark else b"") + leaf(mode=mode, step=step)))
-    for marks, count in ((b"\0", 1), (b"\3", 4)):
-        add("refusals, chroma from luma", header(64, 64) + marks + count * ((b"\0" if count > 1 else b"") + leaf(weights=(1, 1))))
+    for mode, step in ((13, 0), (1, 4), (0, 1), (1, -3)):
+        add("refusals, modes", header(64, 64) + b"\0" + leaf(mode=mode, step=step))
+    add("refusals, modes", header(64, 64, sampling=0) + b"\3" + 4 * (b"\0" + leaf(mode=1, step=-4)))
+    add("refusals, chroma from luma", header(64, 64) + b"\0" + leaf(weights=(1, 1)))
+    add("refusals, chroma from luma", header(64, 64) + b"\3" + 4 * (b"\0" + leaf(weights=(1, 1))))
     faulty = leaf(mode=19, step=9, vectors=[(1, 16384, 0)], tx_size=4, tx_type=3, y=[(9, 9, 9), (0, 0, 0)])
-    for it in (faulty, leaf(mode=19, vectors=[(1, 16384, 0)], tx_size=4, y=[(9, 9, 9)]), leaf(mode=19, vectors=[(1, 0, 0)], tx_size=4, y=[(9, 9, 9)])):
+    far, lost = (leaf(mode=19, vectors=[(1, row, 0)], tx_size=4, y=[(9, 9, 9)]) for row in (16384, 0))
+    for it in (faulty, far, lost):
         add("refusals, order", header(64, 64, sampling=1) + b"\0" + it)
         add("refusals, order in halves", header(64, 64, sampling=1) + b"\2" + 2 * it)
 
@@ -147,7 +150,7 @@ def faults(add):
             add("faults, cut", plan[:count], piece=9)
     for plan, step in ((PLAN, 1), (HALVED_QUARTERS, 1), (DIRECTIONAL, 2)):
         for place in range(0, len(plan), step):
-            for value in {plan[place] ^ 1, plan[place] + 1 & 255, 255, plan[place] ^ 128}:
+            for value in sorted({plan[place] ^ 1, plan[place] + 1 & 255, 255, plan[place] ^ 128}):
                 add("faults, changed", changed(plan, (place, value)), piece=33)
     for room in range(0, 200, 9):
         add("faults, room", PLAN, piece=9, out=(room, 5, NEVER))
@@ -178,14 +181,18 @@ def made(add):
     add("made, full", PLAN, ("make", "5"), failing_read=0, out=(26, 7, NEVER))
 
 
+# Of random plans the slots that have planes, and how many kinds of fields vary: up to all 15.
+MASKS = (0, 1, 0, 0, 2, 0, 0, 64, 0, 0, 5)
+STAGES = (15, 15, *range(1, 8), 15, 15, *range(8, 16))
+
+
 def random_plans(runs):
     """Random plans of every sampling, depth and version, good and broken, and a few larger ones."""
     kinds = [(sampling, depth, magic) for sampling in range(3) for depth in (8, 10, 12) for magic in (1, 2)]
     for seed in range(318):
         sampling, depth, magic = kinds[seed % len(kinds)]
-        mask = 0 if seed % 3 else [1, 2, 5, 64][seed // 3 % 4]
-        side = 136 if seed >= 300 else 32
-        options = (f"samp={sampling}", f"depth={depth}", f"magic={magic}", f"maxside={side}", f"mask={mask}", "stage=15")
+        options = (f"samp={sampling}", f"depth={depth}", f"magic={magic}", f"maxside={32 if seed < 300 else 136}",
+                   f"mask={MASKS[seed % len(MASKS)]}", f"stage={STAGES[seed % len(STAGES)]}")
         for kind in ("random", "randombad"):
             plan = runs.oracle.made(kind, str(seed), *options)
             if len(plan) < 60_000:

@@ -66,7 +66,8 @@ def worked_sequences(add):
         sequence([(1, FROM_ABOVE), (2, FROM_LEFT), (0, of_two_slots, slots)]), sequence([(1, AGAIN)]),
         sequence([(255, FROM_ABOVE), (1, FROM_LEFT), (0, AGAIN)]), sequence([(1, FROM_ABOVE), (255, b"\4"), (0, AGAIN)]),
         sequence([(1, FROM_ABOVE), (0, BROKEN)]), sequence([(1, FROM_ABOVE)], count=0), b"RPL1"]
-    cases += [changed(TWO_FRAMES, it) for it in ((12, 4), (13, 2), (14, 8), (20, 8), (4, 12), (8, 9), (9, 3), (21, 0), (10, 0), (10, 3), (22, 13))]
+    fields = ((12, 4), (13, 2), (14, 8), (20, 8), (4, 12), (8, 9), (9, 3), (21, 0), (10, 0), (10, 3), (22, 13))
+    cases += [changed(TWO_FRAMES, it) for it in fields]
     cases += [sequence([(1, FROM_ABOVE), (2, AGAIN), (0, of_two_slots, slots)], 16, 24, depth, sampling)
               for depth in (8, 10, 12) for sampling in range(3)]
     for it in cases:
