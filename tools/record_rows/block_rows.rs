@@ -6,8 +6,8 @@ use std::io::Write;
 
 // The statuses of refused calls.
 pub const BAD_SIZE: u8 = 6;
-pub const TOO_SHORT: u8 = 10;
 pub const BAD_AREA: u8 = 9;
+pub const TOO_SHORT: u8 = 10;
 pub const BAD_MODE: u8 = 13;
 pub const BAD_ANGLE: u8 = 14;
 pub const BAD_FRACTION: u8 = 15;

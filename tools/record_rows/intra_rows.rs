@@ -174,7 +174,7 @@ pub fn refused(pick: &mut Numbers) {
         let mode = if from_luma { (DC_PRED, 0) } else { pick.one_of(&modes) };
         let mut it = block(pick, mode, sizes[turn % sizes.len()], from_luma);
         let faults = 1 + pick.below(7);
-        if faults & 1 > 0 {
+        if faults & 1 > 0 && !from_luma {
             it.mode = pick.one_of(&[13, 14, 33, 34, 255]);
         }
         if faults & 2 > 0 {
@@ -184,8 +184,6 @@ pub fn refused(pick: &mut Numbers) {
             let (left, above) = (it.left.saturating_sub(1), it.above.saturating_sub(1));
             (it.left, it.above) = pick.one_of(&[(0, 0), (left, it.above), (it.left, above)]);
         }
-        if it.status() != 0 || from_luma {
-            it.record(turn);
-        }
+        it.record(turn);
     }
 }

@@ -3,11 +3,10 @@ from plans import (DIRECTIONAL, DOWN_TO_4, FLAT, FROM_LUMA_420, FROM_LUMA_422, H
                    QUARTERS, REFERRING, SINGLE, SMALL_QUARTERS, WIDE, changed, header, leaf, of_two, planes)
 from runs import NEVER
 
-# Sides, the mark, the mode, the step, the size and the types of a plan of one leaf, and its count of luma triples.
-WIDTH, HEIGHT, DEPTH, SAMPLING, EDGE_FILTER, MASK, MARK, MODE, STEP, CHROMA, SIZE, TYPE, CHROMA_TYPE, COUNT = (
-    4, 6, 8, 9, 11, 19, 20, 21, 22, 23, 25, 26, 27, 28)
-# Of the plan of four leaves the modes of the first two, the first's fields, and its triple.
-FIRST_MODE, FIRST_STEP, FIRST_SIZE, FIRST_TYPE, TRIPLE = 24, 25, 28, 29, 33
+# Where fields stand: of the header, of a plan of one leaf, and of the first leaf of the plan of four.
+WIDTH, HEIGHT, DEPTH, SAMPLING, EDGE_FILTER, MASK = 4, 6, 8, 9, 11, 19
+MARK, MODE, STEP, CHROMA, CHROMA_STEP, SIZE, TYPE, CHROMA_TYPE = 20, 21, 22, 23, 24, 25, 26, 27
+FIRST_MODE, FIRST_STEP, FIRST_SIZE, FIRST_TYPE = 24, 25, 28, 29
 
 
 def one_leaf(add):
@@ -19,7 +18,7 @@ def one_leaf(add):
     for mode, step in ((13, 0), (1, 4), (0, 1), (1, 252), (8, 3), (12, 255)):
         add("one leaf, mode or step", changed(HALVED, (MODE, mode), (STEP, step)))
     for mode in range(13):
-        add("one leaf, chroma mode", changed(HALVED, (CHROMA, mode), (24, 255 if mode in range(1, 9) else 0), (EDGE_FILTER, mode % 2)))
+        add("one leaf, chroma mode", changed(HALVED, (CHROMA, mode), (CHROMA_STEP, 255 * (mode in range(1, 9))), (EDGE_FILTER, mode % 2)))
     add("one leaf, chroma of a large leaf", header(sampling=0) + b"\0" + leaf(weights=(1, 1), tx_size=4))
     for them in ([(0, 5, 1), (0, 5, 2)], [(0, 1024, 1)], [(1, 0, 1)], [(0, 0, 32768)], [(0, 0, -32769)], [(0, 0, 32767)], [(0, 1023, -32768)]):
         add("one leaf, triples", header(sampling=0) + b"\0" + leaf(tx_size=4, y=them))
@@ -128,7 +127,7 @@ def refusals(add):
     add("refusals, modes", header(64, 64, sampling=0) + b"\3" + 4 * (b"\0" + leaf(mode=1, step=-4)))
     add("refusals, chroma from luma", header(64, 64) + b"\0" + leaf(weights=(1, 1)))
     add("refusals, chroma from luma", header(64, 64) + b"\3" + 4 * (b"\0" + leaf(weights=(1, 1))))
-    faulty = leaf(mode=19, step=9, vectors=[(1, 16384, 0)], tx_size=4, tx_type=3, y=[(9, 9, 9), (0, 0, 0)])
+    faulty = leaf(mode=19, vectors=[(1, 16384, 0)], tx_size=4, tx_type=3, y=[(9, 9, 9), (0, 0, 0)])
     far, lost = (leaf(mode=19, vectors=[(1, row, 0)], tx_size=4, y=[(9, 9, 9)]) for row in (16384, 0))
     for it in (faulty, far, lost):
         add("refusals, order", header(64, 64, sampling=1) + b"\0" + it)

@@ -1,10 +1,10 @@
 #!/usr/bin/env python3
 """Records rows: calls on blocks and runs of the programs, each with what rav1e's own code answers.
 
-    tools/record_rows/record_rows.py RAV1E ORACLE WORK FOLDER
+    tools/record_rows/record_rows.py RAV1E ORACLE WORK FILE
 
-RAV1E is the source of rav1e 0.8.1 (the folder that has src/), WORK a folder for what is built, and FOLDER gets the files `stdin`, the rows
-as docs/ROWS.md says, and `stdout`, what `av1_rows` prints of them: `crates/av1_rows`. ORACLE is a program that answers by rav1e's code as the
+RAV1E is the source of rav1e 0.8.1 (the folder that has src/), WORK a folder for what is built. FILE gets the rows, as docs/ROWS.md says:
+`crates/av1_rows/stdin`. What `av1_rows` prints of them goes to `stdout` beside it. ORACLE is a program that answers by rav1e's code as the
 programs are to. From its standard input to its standard output it takes a plan, and with `tools WORD` what `av1_tools WORD` takes; it has
 their statuses and lines, and `make N` and `sum N`. With `random SEED`, `randomtiles SEED`, `randomtrace SEED`, `randomsequence SEED`, and
 `randombad ..` for `random ..`, it writes a random plan or file of a seed, within limits such as `maxside=32`.
@@ -57,14 +57,13 @@ def counted(rows):
 
 def main():
     if len(sys.argv) != 5:
-        sys.exit("usage: record_rows.py RAV1E ORACLE WORK FOLDER")
-    rav1e, oracle, work, folder = map(pathlib.Path, sys.argv[1:])
+        sys.exit("usage: record_rows.py RAV1E ORACLE WORK FILE")
+    rav1e, oracle, work, file = map(pathlib.Path, sys.argv[1:])
     work.mkdir(parents=True, exist_ok=True)
     rows = of_runs(oracle, work) + on_blocks(rav1e, work)
     lines = "".join(f"{kind}: {count} rows, 0 differ\n" for kind, count in zip(KINDS, counted(rows)))
-    folder.mkdir(parents=True, exist_ok=True)
-    (folder / "stdin").write_bytes(MAGIC + rows)
-    (folder / "stdout").write_text(lines)
+    file.write_bytes(MAGIC + rows)
+    file.with_name("stdout").write_text(lines)
     print(lines + f"{len(MAGIC + rows)} bytes")
 
 
