@@ -84,7 +84,8 @@ def references(add):
     for it in cases:
         add("references", it, out=(256, 7, NEVER))
     for vector in ((1, 0, 16383), (1, 0, -16383), (1, 0, 16384), (1, 0, -16384), (1, -16384, 0), (7, 5, 3), (2, 0, 0)):
-        add("references, vector", MOVED[:212] + b"\0" + leaf(mode=14, vectors=[vector], tx_size=4))
+        for mode in (14, 19):
+            add("references, vector", MOVED[:212] + b"\0" + leaf(mode=mode, vectors=[vector], tx_size=4))
         add("references, vector without planes", REFERRING + b"\0" + leaf(mode=14, vectors=[vector], tx_size=4))
     for mode in range(14, 34):
         vectors = [(1, 3, -5)] if mode < 20 else [(1, 3, -5), (3, -7, 9)]
@@ -111,7 +112,7 @@ def refusals(add):
     cases = (
         PLAN[:82], PLAN + b"\0", b"", changed(PLAN, (MASK, 1)), ONE_HALF, ONE_HALF + b"\0", changed(WIDE, (30, 2)), changed(WIDE, (30, 8)),
         changed(PLAN, (FIRST_SIZE, 1)), changed(FLAT, (SIZE, 1), (TYPE, 16)), changed(FLAT, (CHROMA_TYPE, 16)),
-        changed(FLAT + FLAT[MARK:], (WIDTH, 72), (34, 4)))
+        changed(FLAT + FLAT[MARK:], (WIDTH, 72), (34, 4)), changed(PLAN, (36, 0), (37, 128)))
     for it in cases:
         add("refusals", it)
     fields = ((4, 12), (8, 9), (9, 3), (10, 4), (MASK, 1), (20, 4), (24, 14), (24, 20), (24, 34), (26, 14), (28, 19), (29, 17), (33, 1), (34, 16),
@@ -173,9 +174,10 @@ def lines(add):
 
 def made(add):
     """Plans of numbers, and the four lines on one."""
-    for number in ("0", "0000000005", "1024", "4294967295"):
+    for number in ("0", "1", "0000000005", "7", "1024", "4294967295"):
         add("made", PLAN, ("make", number), failing_read=0, out=(900_000, 65536, NEVER))
-    add("made, sums", PLAN, ("sum", "05"), failing_read=0)
+    for number in ("0", "05"):
+        add("made, sums", PLAN, ("sum", number), failing_read=0)
     add("made, sums", PLAN, ("sum", "5"), failing_read=0, out=(100, 7, 3))
     add("made, full", PLAN, ("make", "5"), failing_read=0, out=(26, 7, NEVER))
 
