@@ -1,0 +1,92 @@
+-- What the calls that add a residue say of their arguments: of numbers of a size and a type, of where the first sample stands (column x of
+-- row y), of rows that stand `stride` apart, of how many samples there are, and of the coefficients.
+use Rattle.std.specs.Prelude.{◌≡◌, ℕ, ◌+◌, ◌<◌, ◌≤◌, IsTrue, Some, ℤ, pos, ◌+ℤ◌, List, length, slice_get}
+use Rattle.av1_blocks.specs.Depths.{IsDepth}
+use Rattle.av1_blocks.specs.Transforms.{coded_area, valid_av1_transform}
+use Rattle.av1_blocks.specs.declared.transform.TheConstants.TxType as tx_types
+use Rattle.av1_blocks.specs.declared.transform.TxSize.{TxSize}
+use Rattle.av1_blocks.specs.declared.transform.TxSize.TheVariants.{TX_4X4}
+use Rattle.av1_blocks.specs.declared.transform.TxType.{TxType}
+use Rattle.av1_blocks.specs.declared.transform.TxType.TheVariants.{WHT_WHT}
+use Rattle.av1_dct.specs.Arithmetic.{at, FitsBits}
+use Rattle.av1_frame.specs.Areas.{AreRows}
+use Rattle.av1_frame.specs.Arithmetic.{clip}
+use Rattle.av1_frame.specs.Samples.{paint}
+use Rattle.av1_itx.specs.Residue.{residue}
+use Rattle.av1_calls.specs.Arguments.{HasNoSize, IsSize, rectangle}
+use Rattle.av1_calls.specs.declared.argument.BadArgument.{BadArgument}
+use Rattle.av1_calls.specs.declared.argument.BadArgument.TheVariants as bad
+
+-- ---- what is asked for
+
+-- this is the type of the number
+abbrev pub IsType : ℕ → TxType → Type 0
+IsType number type = slice_get tx_types.ALL number ≡ Some type
+
+-- The size has an inverse transform of this type; the lossless one is of 4x4 alone.
+pub record IsRunnable (size : TxSize) (type : TxType) : Type 0 where
+  pub valid : IsTrue (valid_av1_transform size type)
+  pub lossless : type ≡ WHT_WHT → size ≡ TX_4X4
+
+-- the numbers name a size, and a type that it has
+pub record IsTransform (size_number type_number : ℕ) (size : TxSize) (type : TxType) : Type 0 where
+  pub sized : IsSize size_number size
+  pub typed : IsType type_number type
+  pub runs : IsRunnable size type
+
+-- The numbers name a transform, its rectangle lies in so many samples, and there are so many coefficients or more as it has.
+pub record IsBlock (size_number type_number stride x y coefficients samples : ℕ) (size : TxSize) (type : TxType) : Type 0 where
+  pub sized : IsSize size_number size
+  pub typed : IsType type_number type
+  pub runs : IsRunnable size type
+  pub rows : AreRows stride (rectangle x y size) samples
+  pub long : coded_area size ≤ coefficients
+
+-- each coefficient of the transform fits this depth
+abbrev pub AllFitDepth : ℕ → TxSize → List ℤ → Type 0
+AllFitDepth depth size coefficients = (i : ℕ) → i < coded_area size → FitsBits (depth + 8) (at coefficients i)
+
+-- the samples with the residue added to the rectangle, clipped to the depth; all others stay
+abbrev pub with_residue : (depth stride x y : ℕ) → TxSize → TxType → List ℤ → List ℕ → List ℕ
+with_residue depth stride x y size type coefficients samples =
+    paint stride (rectangle x y size) (λ r c v. clip depth (pos v +ℤ residue size type depth coefficients r c)) samples
+
+-- ---- what is refused: each reason with what is asked before it, so that the first one that holds is told
+
+-- the size has no transform of the type of this number, if there is one
+abbrev pub HasNoType : ℕ → ℕ → Type 0
+HasNoType size_number type_number = (size : TxSize) × IsSize size_number size × ((type : TxType) → IsType type_number type → ¬ IsRunnable size type)
+
+-- the rectangle of the transform does not lie in the samples
+abbrev pub HasNoRectangle : (size_number type_number stride x y samples : ℕ) → Type 0
+HasNoRectangle size_number type_number stride x y samples =
+    (size : TxSize) × ((type : TxType) × (IsTransform size_number type_number size type × (¬ AreRows stride (rectangle x y size) samples)))
+
+-- there are fewer coefficients than it has
+abbrev pub HasTooFew : (size_number type_number stride x y coefficients samples : ℕ) → Type 0
+HasTooFew size_number type_number stride x y coefficients samples =
+    (size : TxSize) × ((type : TxType) × (IsTransform size_number type_number size type × (AreRows stride (rectangle x y size) samples × (coefficients < coded_area size))))
+
+-- samples have no such depth
+abbrev pub HasNoDepth : (depth size_number type_number stride x y coefficients samples : ℕ) → Type 0
+HasNoDepth depth size_number type_number stride x y coefficients samples =
+    (size : TxSize) × ((type : TxType) × (IsBlock size_number type_number stride x y coefficients samples size type × (¬ IsDepth depth)))
+
+-- some coefficient of the transform has too many bits
+abbrev pub HasTooLarge : (depth size_number type_number stride x y : ℕ) → List ℤ → (samples : ℕ) → Type 0
+HasTooLarge depth size_number type_number stride x y coefficients samples =
+    (size : TxSize) × ((type : TxType) × (IsBlock size_number type_number stride x y (length coefficients) samples size type × (IsDepth depth × (¬ AllFitDepth depth size coefficients))))
+
+-- ---- why nothing is written: words of private contracts
+
+abbrev pub IsBlockFault : (size_number type_number stride x y coefficients samples : ℕ) → BadArgument → Type 0
+IsBlockFault size_number type_number stride x y coefficients samples bad.Size = HasNoSize size_number
+IsBlockFault size_number type_number stride x y coefficients samples bad.Kind = HasNoType size_number type_number
+IsBlockFault size_number type_number stride x y coefficients samples bad.Area = HasNoRectangle size_number type_number stride x y samples
+IsBlockFault size_number type_number stride x y coefficients samples bad.Short = HasTooFew size_number type_number stride x y coefficients samples
+IsBlockFault size_number type_number stride x y coefficients samples fault = ⊥
+
+abbrev pub IsDeepFault : (depth size_number type_number stride x y : ℕ) → List ℤ → ℕ → BadArgument → Type 0
+IsDeepFault depth size_number type_number stride x y coefficients samples bad.Depth = HasNoDepth depth size_number type_number stride x y (length coefficients) samples
+IsDeepFault depth size_number type_number stride x y coefficients samples bad.Coefficient = HasTooLarge depth size_number type_number stride x y coefficients samples
+IsDeepFault depth size_number type_number stride x y coefficients samples fault = IsBlockFault size_number type_number stride x y (length coefficients) samples fault
