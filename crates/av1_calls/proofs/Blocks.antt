@@ -1,10 +1,10 @@
--- What a block is refused for.
-use Rattle.std.proofs.Common.{refl, ℕ, ◌-◌, ◌≡◌, ◌∙◌, ℤ, List, [], ◌∷◌, length, slice_index_or, Bool, true, false, ap, sym}
+-- What a block is refused for, and what a residue that is added says.
+use Rattle.std.proofs.Common.{refl, inl, ℕ, ◌-◌, ◌≡◌, ◌∙◌, ℤ, List, [], ◌∷◌, length, slice_index_or, Bool, true, false, ap, sym}
 use Rattle.av1_blocks.specs.Depths.{IsDepth}
 use Rattle.av1_blocks.specs.declared.transform.TxSize.{TxSize}
 use Rattle.av1_blocks.specs.declared.transform.TxType.{TxType}
-use Rattle.av1_calls.specs.Arguments.{argument_status}
-use Rattle.av1_calls.specs.Transforms.{AllFitDepth, HasTooLarge, IsBlock}
+use Rattle.av1_calls.specs.Arguments.{IfWide, argument_status}
+use Rattle.av1_calls.specs.Transforms.{AddsResidue, AllFitDepth, AreOfDepth, HasTooLarge, IsBlock, with_residue}
 use Rattle.av1_calls.specs.declared.argument.BadArgument.{BadArgument}
 use Rattle.av1_calls.specs.declared.argument.BadArgument.TheVariants as bad
 
@@ -30,3 +30,19 @@ pub too_large : (depth size_number type_number stride x y : ℕ) (coefficients :
     → IsDepth depth → (AllFitDepth depth size coefficients → told ≡ true) → told ≡ false → HasTooLarge depth size_number type_number stride x y coefficients samples
 too_large depth size_number type_number stride x y coefficients samples size type told block is tells failed =
     (size, (type, (block, (is, denied told tells failed))))
+
+-- a call that added a residue
+pub adds_residue : (wide : Bool) (depth size_number type_number stride x y : ℕ) (coefficients : List ℤ) (before after : List ℕ) (size : TxSize) (type : TxType) → IsBlock size_number type_number stride x y (length coefficients) (length before) size type
+    → IfWide wide (AreOfDepth depth size coefficients) → after ≡ with_residue depth stride x y size type coefficients before → AddsResidue wide depth size_number type_number stride x y coefficients before after 0
+adds_residue wide depth size_number type_number stride x y coefficients before after size type block fit added = record {
+  done = λ _. (size, (type, (block, (fit, added))));
+  asked = λ _ _ _ _. refl;
+  size = λ e. cc;
+  kind = λ e. cc;
+  area = λ e. cc;
+  short = λ e. cc;
+  depth = λ e. cc;
+  coefficient = λ e. cc;
+  kept = λ other. absurd (other refl);
+  known = inl refl;
+}

@@ -1,5 +1,6 @@
 -- What a call asks of a block of an intra mode is what predicting it asks, and what is painted is what the call says.
-use Rattle.std.proofs.Common.{ℕ, ℤ, ◌≡◌, ◌≢◌, ◌≤◌, List, true, arith, ap, ◌∙◌, sym, subst, unsigned_abs}
+use Rattle.std.proofs.Common.{ℕ, ℤ, ◌≡◌, ◌≢◌, ◌≤◌, List, true, inl, inr, arith, ap, ◌∙◌, sym, subst, unsigned_abs}
+use Rattle.av1_blocks.specs.Depths.{IsDepth}
 use Rattle.av1_blocks.specs.Modes.{is_directional}
 use Rattle.av1_blocks.specs.declared.predict.IntraParam.TheVariants.{AngleDelta}
 use Rattle.av1_blocks.specs.declared.predict.PredictionMode.{PredictionMode}
@@ -27,6 +28,12 @@ pub long_for : (block other : DirectionalBlock) (variant v : PredictionVariant) 
 long_for block other variant v mode m left above ac e f h long =
     subst (λ (k : DirectionalBlock). AreLong k variant mode left above ac) (sym e)
     (subst (λ (k : PredictionVariant). AreLong other k mode left above ac) (sym f) (subst (λ (k : PredictionMode). AreLong other v k left above ac) (sym h) long))
+
+-- no depth is below 8
+pub least_depth : (depth : ℕ) → IsDepth depth → 8 ≤ depth
+least_depth depth (inl e) = omega (arith, e)
+least_depth depth (inr (inl e)) = omega (arith, e)
+least_depth depth (inr (inr e)) = omega (arith, e)
 
 -- so few steps give an angle that directional prediction takes
 pub turned_angle : (mode : PredictionMode) (step : ℤ) → unsigned_abs step ≤ 3 → is_directional mode ≡ true

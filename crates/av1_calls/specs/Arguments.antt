@@ -1,5 +1,5 @@
 -- What calls on blocks say of the arguments that they share, and the status of one that refused an argument.
-use Rattle.std.specs.Prelude.{◌≡◌, ℕ, Option, Some, None, slice_get}
+use Rattle.std.specs.Prelude.{◌≡◌, ℕ, Bool, true, false, ⊤, Option, Some, None, slice_get}
 use Rattle.av1_blocks.specs.declared.mc.FilterMode.{FilterMode}
 use Rattle.av1_blocks.specs.declared.mc.FilterMode.TheVariants.{SWITCHABLE}
 use Rattle.av1_blocks.specs.declared.mc.TheConstants.FilterMode as filters
@@ -41,6 +41,18 @@ IsSize number size = slice_get tx_sizes.ALL number ≡ Some size
 -- the rectangle of a transform whose first sample stands at column x of row y
 abbrev pub rectangle : ℕ → ℕ → TxSize → StoredArea
 rectangle x y size = record { x = x; y = y; width = tx_width size; height = tx_height size }
+
+-- ---- what only calls for samples of 16 bits have, which are told from those for samples of 8 bits by `wide`
+
+-- they ask this of their arguments
+abbrev pub IfWide : (wide : Bool) → Type 0 → Type 0
+IfWide true asked = asked
+IfWide false asked = ⊤
+
+-- they may answer so
+abbrev pub OnlyWide : (wide : Bool) → Type 0 → Type 0
+OnlyWide true told = told
+OnlyWide false told = ⊥
 
 -- ---- what is refused
 

@@ -1,7 +1,7 @@
 -- What the calls that predict a block by an intra mode say of their arguments: of the block in numbers, of where its first sample stands
 -- (column x of row y), of rows that stand `stride` apart, and of how many samples there are, on each side and in all.
 -- AV1 specification: intra prediction process.
-use Rattle.std.specs.Prelude.{◌≡◌, ℕ, ◌*◌, ◌≤◌, ◌==◌, IsTrue, not, if◌then◌else◌, Bool, false, List, Option, None, Some, slice_get, ℤ, pos, unsigned_abs}
+use Rattle.std.specs.Prelude.{◌≡◌, ◌≢◌, ◌⊎◌, ℕ, ◌*◌, ◌≤◌, ◌==◌, IsTrue, not, if◌then◌else◌, Bool, false, List, [], length, Option, None, Some, slice_get, ℤ, pos, unsigned_abs}
 use Rattle.av1_blocks.specs.Depths.{IsDepth}
 use Rattle.av1_blocks.specs.Modes.{is_cfl, is_directional, is_intra}
 use Rattle.av1_blocks.specs.Transforms.{tx_height, tx_width}
@@ -20,6 +20,7 @@ use Rattle.av1_calls.specs.Arguments.{HasNoSize, IsSize, rectangle}
 use Rattle.av1_calls.specs.declared.argument.BadArgument.{BadArgument}
 use Rattle.av1_calls.specs.declared.argument.BadArgument.TheVariants as bad
 use Rattle.av1_calls.specs.declared.intra.IntraBlock.{IntraBlock}
+use Rattle.av1_calls.specs.declared.status.TheConstants.{BAD_ANGLE, BAD_AREA, BAD_DEPTH, BAD_MODE, BAD_SIZE, DONE, TOO_SHORT}
 
 -- ---- what is asked for
 
@@ -110,6 +111,46 @@ LiesOutside bits b mode stride x y samples =
 abbrev pub HasShortSides : (bits : ℕ) → IntraBlock → PredictionMode → (stride x y left above ac samples : ℕ) → Type 0
 HasShortSides bits b mode stride x y left above ac samples =
     (size : TxSize) × (IsSize b.tx_size size × (IsTurn mode b.angle_step × (IsDepthWithin bits b.bit_depth × (AreRows stride (rectangle x y size) samples × (¬ HasSides b mode size left above ac)))))
+
+-- ---- what the calls say: samples of at most so many bits were `before` and are `after`, and `answer` is the status
+
+-- Of a block that is predicted by this mode.
+pub record PredictsBy {T : Type 0} (bits : ℕ) (num : T → ℕ) (pixel : ℕ → T) (block : IntraBlock) (by : PredictionMode) (stride x y : ℕ) (left : List T) (corner : T) (above : List T) (ac : List ℤ) (alpha : ℤ) (before after : List T) (answer : ℕ) : Type 0 where
+  -- The arguments name a block, and its samples are those of its mode.
+  pub done : answer ≡ DONE → (size : TxSize) × (IsIntraBlock bits block by stride x y (length left) (length above) (length ac) (length before) size
+      × (after ≡ with_prediction num pixel block by stride x y size left corner above ac alpha before))
+  -- Nothing else is asked of them.
+  pub asked : (size : TxSize) → IsIntraBlock bits block by stride x y (length left) (length above) (length ac) (length before) size → answer ≡ DONE
+  -- An argument is refused, the first one that has to be, and this is why.
+  pub size : answer ≡ BAD_SIZE → HasNoSize block.tx_size
+  pub angle : answer ≡ BAD_ANGLE → HasNoAngle block by
+  pub depth : answer ≡ BAD_DEPTH → HasNoDepth bits block by
+  pub area : answer ≡ BAD_AREA → LiesOutside bits block by stride x y (length before)
+  pub short : answer ≡ TOO_SHORT → HasShortSides bits block by stride x y (length left) (length above) (length ac) (length before)
+  -- What is refused leaves the samples as they were.
+  pub kept : answer ≢ DONE → after ≡ before
+  pub known : (answer ≡ DONE) ⊎ ((answer ≡ BAD_SIZE) ⊎ ((answer ≡ BAD_ANGLE) ⊎ ((answer ≡ BAD_DEPTH) ⊎ ((answer ≡ BAD_AREA) ⊎ (answer ≡ TOO_SHORT)))))
+
+-- Of a block that is predicted by the mode of its number.
+pub record Predicts {T : Type 0} (bits : ℕ) (num : T → ℕ) (pixel : ℕ → T) (block : IntraBlock) (stride x y : ℕ) (left : List T) (corner : T) (above : List T) (before after : List T) (answer : ℕ) : Type 0 where
+  -- The arguments name a mode and a block, and its samples are those of its mode.
+  pub done : answer ≡ DONE → (by : PredictionMode) × ((size : TxSize) × (IsIntraMode block.mode by
+      × (IsIntraBlock bits block by stride x y (length left) (length above) 0 (length before) size
+      × (after ≡ with_prediction num pixel block by stride x y size left corner above [] (pos 0) before))))
+  -- Nothing else is asked of them.
+  pub asked : (by : PredictionMode) → (size : TxSize) → IsIntraMode block.mode by
+      → IsIntraBlock bits block by stride x y (length left) (length above) 0 (length before) size → answer ≡ DONE
+  -- An argument is refused, the first one that has to be, and this is why.
+  pub mode : answer ≡ BAD_MODE → HasNoMode block.mode
+  pub size : answer ≡ BAD_SIZE → (by : PredictionMode) × (IsIntraMode block.mode by × HasNoSize block.tx_size)
+  pub angle : answer ≡ BAD_ANGLE → (by : PredictionMode) × (IsIntraMode block.mode by × HasNoAngle block by)
+  pub depth : answer ≡ BAD_DEPTH → (by : PredictionMode) × (IsIntraMode block.mode by × HasNoDepth bits block by)
+  pub area : answer ≡ BAD_AREA → (by : PredictionMode) × (IsIntraMode block.mode by × LiesOutside bits block by stride x y (length before))
+  pub short : answer ≡ TOO_SHORT → (by : PredictionMode) × (IsIntraMode block.mode by
+      × HasShortSides bits block by stride x y (length left) (length above) 0 (length before))
+  -- What is refused leaves the samples as they were.
+  pub kept : answer ≢ DONE → after ≡ before
+  pub known : (answer ≡ DONE) ⊎ ((answer ≡ BAD_MODE) ⊎ ((answer ≡ BAD_SIZE) ⊎ ((answer ≡ BAD_ANGLE) ⊎ ((answer ≡ BAD_DEPTH) ⊎ ((answer ≡ BAD_AREA) ⊎ (answer ≡ TOO_SHORT))))))
 
 -- ---- why nothing is written: words of private contracts
 

@@ -1,7 +1,7 @@
 -- What the calls that prepare the edge of a transform say of their arguments: of a plane and a tile, of the transform in numbers, and of how
 -- many samples there are.
 -- AV1 specification: intra prediction process: general.
-use Rattle.std.specs.Prelude.{◌≡◌, ◌⊎◌, ℕ, ◌+◌, ◌-◌, ◌*◌, ◌^◌, ◌<◌, ◌≤◌, ◌==◌, not, if◌then◌else◌, IsTrue, List, [], ◌∷◌, length, map, reverse, take, Option, None, Some, slice_get, ℤ, pos}
+use Rattle.std.specs.Prelude.{◌≡◌, ◌≢◌, ◌⊎◌, ℕ, ◌+◌, ◌-◌, ◌*◌, ◌^◌, ◌<◌, ◌≤◌, ◌==◌, not, if◌then◌else◌, IsTrue, List, [], ◌∷◌, drop, length, map, reverse, take, Option, None, Some, slice_get, ℤ, pos}
 use Rattle.av1_avail.specs.Cells.{transform_columns, transform_rows}
 use Rattle.av1_blocks.specs.declared.partition.BlockSize.{BlockSize}
 use Rattle.av1_blocks.specs.declared.partition.TheConstants.BlockSize as block_sizes
@@ -26,6 +26,7 @@ use Rattle.av1_calls.specs.declared.argument.BadArgument.TheVariants as bad
 use Rattle.av1_calls.specs.declared.intra_edge.EdgeBlock.{EdgeBlock}
 use Rattle.av1_calls.specs.declared.intra_edge.EdgePlane.{EdgePlane}
 use Rattle.av1_calls.specs.declared.intra_edge.TheConstants.{ANY_MODE, EDGE_SAMPLES}
+use Rattle.av1_calls.specs.declared.status.TheConstants.{BAD_ANGLE, BAD_AREA, BAD_DEPTH, BAD_MODE, BAD_SIZE, DONE, ROOM_TOO_SMALL}
 
 -- ---- what is asked for
 
@@ -136,6 +137,27 @@ abbrev pub HasNoPlace : (bits : ℕ) → EdgePlane → EdgeBlock → (samples : 
 HasNoPlace bits p b samples =
     (mode : Option PredictionMode) × ((size : TxSize) × ((block : BlockSize) × (IsNamed b mode size block
     × (IsEdgeTurn mode b.angle_step × (IsDepthWithin bits b.bit_depth × (¬ (LiesIn p samples × BeginsIn p b size)))))))
+
+-- ---- what the calls say
+
+-- Of the edge of a transform: what its room held `before` and holds `after`, where samples have at most so many bits. `answer` is the status.
+pub record PreparesEdge {T : Type 0} (bits : ℕ) (num : T → ℕ) (plane : EdgePlane) (at : EdgeBlock) (samples before after : List T) (answer : ℕ) : Type 0 where
+  -- The arguments name a transform in a tile, and the room holds the edge that is prepared there.
+  pub done : answer ≡ DONE → (mode : Option PredictionMode) × ((size : TxSize) × ((block : BlockSize) × (IsEdge bits plane at (length samples) (length before) mode size block
+      × ((r : PlaneRegion T) × (IsTile r plane samples × HoldsEdge num (edge_in num r at mode size block) after)))))
+  -- Nothing else is asked of them.
+  pub asked : (mode : Option PredictionMode) → (size : TxSize) → (block : BlockSize) → IsEdge bits plane at (length samples) (length before) mode size block → answer ≡ DONE
+  -- An argument is refused, the first one that has to be, and this is why.
+  pub room : answer ≡ ROOM_TOO_SMALL → length before < EDGE_SAMPLES
+  pub mode : answer ≡ BAD_MODE → (EDGE_SAMPLES ≤ length before) × HasNoEdgeMode at.mode
+  pub size : answer ≡ BAD_SIZE → (EDGE_SAMPLES ≤ length before) × HasNoSizes at
+  pub angle : answer ≡ BAD_ANGLE → (EDGE_SAMPLES ≤ length before) × HasNoTurn at
+  pub depth : answer ≡ BAD_DEPTH → (EDGE_SAMPLES ≤ length before) × HasNoDepth bits at
+  pub area : answer ≡ BAD_AREA → (EDGE_SAMPLES ≤ length before) × HasNoPlace bits plane at (length samples)
+  -- What stands behind the edge stays, and what is refused writes nothing.
+  pub rest : drop EDGE_SAMPLES after ≡ drop EDGE_SAMPLES before
+  pub kept : answer ≢ DONE → after ≡ before
+  pub known : (answer ≡ DONE) ⊎ ((answer ≡ ROOM_TOO_SMALL) ⊎ ((answer ≡ BAD_MODE) ⊎ ((answer ≡ BAD_SIZE) ⊎ ((answer ≡ BAD_ANGLE) ⊎ ((answer ≡ BAD_DEPTH) ⊎ (answer ≡ BAD_AREA))))))
 
 -- ---- why nothing is written: words of private contracts
 

@@ -1,7 +1,7 @@
 -- What the calls that give chroma from luma its luma say of their arguments: of a block of chroma in numbers, of where its luma begins
 -- (column x of row y), of rows that stand `stride` apart, and of how many samples there are, and how many differences.
 -- AV1 specification: predict chroma from luma process.
-use Rattle.std.specs.Prelude.{◌≡◌, ℕ, ◌*◌, ◌^◌, ◌<◌, ◌≤◌, List, length, Some, slice_get, ℤ}
+use Rattle.std.specs.Prelude.{◌≡◌, ◌≢◌, ◌⊎◌, Bool, ℕ, ◌*◌, ◌^◌, ◌<◌, ◌≤◌, List, length, Some, slice_get, ℤ}
 use Rattle.av1_blocks.specs.Blocks.{block_height, block_width}
 use Rattle.av1_blocks.specs.Depths.{IsDepth}
 use Rattle.av1_blocks.specs.declared.partition.BlockSize.{BlockSize}
@@ -9,10 +9,12 @@ use Rattle.av1_blocks.specs.declared.partition.TheConstants.BlockSize as block_s
 use Rattle.av1_frame.specs.Areas.{AreRows}
 use Rattle.av1_frame.specs.declared.plane_region.StoredArea.{StoredArea}
 use Rattle.av1_intra.specs.ChromaFromLuma.{columns_read, luma_difference, padded_block, rows_read, with_rows}
+use Rattle.av1_calls.specs.Arguments.{IfWide, OnlyWide}
 use Rattle.av1_calls.specs.Samples.{AreBelow, area_sample}
 use Rattle.av1_calls.specs.declared.argument.BadArgument.{BadArgument}
 use Rattle.av1_calls.specs.declared.argument.BadArgument.TheVariants as bad
 use Rattle.av1_calls.specs.declared.luma.CflBlock.{CflBlock}
+use Rattle.av1_calls.specs.declared.status.TheConstants.{BAD_AREA, BAD_DEPTH, BAD_PAD, BAD_SAMPLE, BAD_SAMPLING, BAD_SIZE, DONE, TOO_SHORT}
 
 -- ---- what is asked for
 
@@ -98,6 +100,29 @@ HasNoLumaDepth depth b stride x y ac samples = (size : BlockSize) × (IsCflBlock
 abbrev pub HasDeepLuma : (depth : ℕ) → CflBlock → (stride x y ac : ℕ) → List ℕ → Type 0
 HasDeepLuma depth b stride x y ac samples =
     (size : BlockSize) × (IsCflBlock b stride x y ac (length samples) size × (IsDepth depth × (¬ AreBelow (2 ^ depth) stride (luma_area b size x y) samples)))
+
+-- ---- what the calls say
+
+-- Of luma's differences, which were `before` and are `after`, at this depth. `answer` is the status.
+pub record GivesDifferences (wide : Bool) (bit_depth : ℕ) (block : CflBlock) (stride x y : ℕ) (luma : List ℕ) (before after : List ℤ) (answer : ℕ) : Type 0 where
+  -- The arguments name a block, and the differences are those of its luma.
+  pub done : answer ≡ DONE → (size : BlockSize) × (IsCflBlock block stride x y (length before) (length luma) size
+      × (IfWide wide (IsLumaOfDepth bit_depth block stride x y luma size) × (after ≡ with_differences block size stride x y luma before)))
+  -- Nothing else is asked of them.
+  pub asked : (size : BlockSize) → IsCflBlock block stride x y (length before) (length luma) size
+      → IfWide wide (IsLumaOfDepth bit_depth block stride x y luma size) → answer ≡ DONE
+  -- An argument is refused, the first one that has to be, and this is why.
+  pub size : answer ≡ BAD_SIZE → HasNoChromaSize block.block_size
+  pub sampling : answer ≡ BAD_SAMPLING → HasNoSampling block
+  pub pad : answer ≡ BAD_PAD → HasNoLuma block
+  pub area : answer ≡ BAD_AREA → LumaLiesOutside block stride x y (length luma)
+  pub short : answer ≡ TOO_SHORT → HasFewDifferences block stride x y (length before) (length luma)
+  pub depth : answer ≡ BAD_DEPTH → OnlyWide wide (HasNoLumaDepth bit_depth block stride x y (length before) (length luma))
+  pub sample : answer ≡ BAD_SAMPLE → OnlyWide wide (HasDeepLuma bit_depth block stride x y (length before) luma)
+  -- What is refused leaves the differences as they were.
+  pub kept : answer ≢ DONE → after ≡ before
+  pub known : (answer ≡ DONE) ⊎ ((answer ≡ BAD_SIZE) ⊎ ((answer ≡ BAD_SAMPLING) ⊎ ((answer ≡ BAD_PAD) ⊎ ((answer ≡ BAD_AREA) ⊎ ((answer ≡ TOO_SHORT)
+      ⊎ OnlyWide wide ((answer ≡ BAD_DEPTH) ⊎ (answer ≡ BAD_SAMPLE)))))))
 
 -- ---- why nothing is written: words of private contracts
 

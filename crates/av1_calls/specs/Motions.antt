@@ -1,5 +1,5 @@
 -- What the calls on blocks of references ask of their arguments, and what they leave.
-use Rattle.std.specs.Prelude.{◌≡◌, ◌⊎◌, ℕ, ◌+◌, ◌-◌, ◌*◌, ◌<◌, ◌≤◌, List, length, slice_index, ℤ}
+use Rattle.std.specs.Prelude.{◌≡◌, ◌≢◌, ◌⊎◌, Bool, ℕ, ◌+◌, ◌-◌, ◌*◌, ◌<◌, ◌≤◌, List, length, slice_index, ℤ}
 use Rattle.av1_blocks.specs.Depths.{IsDepth}
 use Rattle.av1_frame.specs.Areas.{AreRows}
 use Rattle.av1_frame.specs.Samples.{paint}
@@ -9,7 +9,7 @@ use Rattle.av1_inter.specs.Motion.{averaged, entry, prepared, single}
 use Rattle.av1_inter.specs.Places.{AreWithinDepth}
 use Rattle.av1_frame.specs.Planes.{bare_config}
 use Rattle.av1_frame.specs.declared.plane.PlaneConfig.{PlaneConfig}
-use Rattle.av1_calls.specs.Arguments.{filter_mode}
+use Rattle.av1_calls.specs.Arguments.{IfWide, OnlyWide, filter_mode}
 use Rattle.av1_calls.specs.declared.argument.BadArgument.{BadArgument}
 use Rattle.av1_calls.specs.declared.argument.BadArgument.TheVariants as bad
 use Rattle.av1_calls.specs.declared.motion.MotionBlock.{MotionBlock}
@@ -153,24 +153,71 @@ abbrev pub HasFewOfTwo : (to : Place) (room width height first second : ℕ) →
 HasFewOfTwo to room width height first second =
     AreSides width height × (AreRows to.stride (rectangle_at to width height) room × ((first < height * width) ⊎ (second < height * width)))
 
--- what the calls answer
-abbrev pub IsPutStatus : ℕ → Type 0
-IsPutStatus status = (status ≡ DONE) ⊎ ((status ≡ BAD_SIZE) ⊎ ((status ≡ BAD_MODE) ⊎ ((status ≡ BAD_FRACTION) ⊎ (status ≡ BAD_AREA))))
+-- the statuses of the calls
+abbrev pub IsPutStatus : (wide : Bool) → ℕ → Type 0
+IsPutStatus wide status =
+    (status ≡ DONE) ⊎ ((status ≡ BAD_SIZE) ⊎ ((status ≡ BAD_MODE) ⊎ ((status ≡ BAD_FRACTION) ⊎ ((status ≡ BAD_AREA) ⊎ OnlyWide wide ((status ≡ BAD_DEPTH) ⊎ (status ≡ BAD_SAMPLE))))))
 
-abbrev pub IsDeepPutStatus : ℕ → Type 0
-IsDeepPutStatus status = IsPutStatus status ⊎ ((status ≡ BAD_DEPTH) ⊎ (status ≡ BAD_SAMPLE))
+abbrev pub IsPrepStatus : (wide : Bool) → ℕ → Type 0
+IsPrepStatus wide status = IsPutStatus wide status ⊎ (status ≡ TOO_SHORT)
 
-abbrev pub IsPrepStatus : ℕ → Type 0
-IsPrepStatus status = IsPutStatus status ⊎ (status ≡ TOO_SHORT)
+abbrev pub IsAverageStatus : (wide : Bool) → ℕ → Type 0
+IsAverageStatus wide status = (status ≡ DONE) ⊎ ((status ≡ BAD_SIZE) ⊎ ((status ≡ BAD_AREA) ⊎ ((status ≡ TOO_SHORT) ⊎ OnlyWide wide (status ≡ BAD_DEPTH))))
 
-abbrev pub IsDeepPrepStatus : ℕ → Type 0
-IsDeepPrepStatus status = IsDeepPutStatus status ⊎ (status ≡ TOO_SHORT)
+-- ---- what the calls say: what was `before` them is `after` them as it is told here, and `answer` is their status
 
-abbrev pub IsAverageStatus : ℕ → Type 0
-IsAverageStatus status = (status ≡ DONE) ⊎ ((status ≡ BAD_SIZE) ⊎ ((status ≡ BAD_AREA) ⊎ (status ≡ TOO_SHORT)))
+-- Of a block that is predicted from a reference, at this depth.
+pub record Puts (wide : Bool) (bit_depth : ℕ) (to from : Place) (block : MotionBlock) (src before after : List ℕ) (answer : ℕ) : Type 0 where
+  -- The block can be read, its rectangle can be written, and it holds the block.
+  pub done : answer ≡ DONE → IsPut to (length before) from (length src) block × (IfWide wide (AreOfDepth bit_depth from src block)
+      × (after ≡ with_block bit_depth to block (source_at from src) before))
+  -- Nothing else is asked of the arguments.
+  pub asked : IsPut to (length before) from (length src) block → IfWide wide (AreOfDepth bit_depth from src block) → answer ≡ DONE
+  -- An argument is refused, the first one that has to be, and this is why.
+  pub size : answer ≡ BAD_SIZE → ¬ AreSides block.width block.height
+  pub mode : answer ≡ BAD_MODE → HasNoFilters block
+  pub fraction : answer ≡ BAD_FRACTION → HasNoFractions block
+  pub area : answer ≡ BAD_AREA → HasNoPlace to (length before) from (length src) block
+  pub depth : answer ≡ BAD_DEPTH → OnlyWide wide (IsPut to (length before) from (length src) block × (¬ IsDepth bit_depth))
+  pub sample : answer ≡ BAD_SAMPLE → OnlyWide wide (IsPut to (length before) from (length src) block × HasDeepSample bit_depth from src block)
+  -- What is refused leaves the samples as they were.
+  pub kept : answer ≢ DONE → after ≡ before
+  pub known : IsPutStatus wide answer
 
-abbrev pub IsDeepAverageStatus : ℕ → Type 0
-IsDeepAverageStatus status = IsAverageStatus status ⊎ (status ≡ BAD_DEPTH)
+-- Of a block that is prepared from a reference, at this depth.
+pub record Prepares (wide : Bool) (bit_depth : ℕ) (from : Place) (block : MotionBlock) (src : List ℕ) (before after : List ℤ) (answer : ℕ) : Type 0 where
+  -- The block can be read, and its values stand at the front.
+  pub done : answer ≡ DONE → IsPrep (length before) from (length src) block × (IfWide wide (AreOfDepth bit_depth from src block)
+      × HoldBlock bit_depth block (source_at from src) before after)
+  -- Nothing else is asked of the arguments.
+  pub asked : IsPrep (length before) from (length src) block → IfWide wide (AreOfDepth bit_depth from src block) → answer ≡ DONE
+  -- An argument is refused, the first one that has to be, and this is why.
+  pub size : answer ≡ BAD_SIZE → ¬ AreSides block.width block.height
+  pub mode : answer ≡ BAD_MODE → HasNoFilters block
+  pub fraction : answer ≡ BAD_FRACTION → HasNoFractions block
+  pub area : answer ≡ BAD_AREA → HasNoSource from block (length src)
+  pub short : answer ≡ TOO_SHORT → HasFewValues (length before) from (length src) block
+  pub depth : answer ≡ BAD_DEPTH → OnlyWide wide (IsPrep (length before) from (length src) block × (¬ IsDepth bit_depth))
+  pub sample : answer ≡ BAD_SAMPLE → OnlyWide wide (IsPrep (length before) from (length src) block × HasDeepSample bit_depth from src block)
+  -- What is refused leaves the values as they were.
+  pub kept : answer ≢ DONE → after ≡ before
+  pub known : IsPrepStatus wide answer
+
+-- Of two prepared blocks that are averaged, at this depth.
+pub record Averages (wide : Bool) (bit_depth : ℕ) (to : Place) (width height : ℕ) (first second : List ℤ) (before after : List ℕ) (answer : ℕ) : Type 0 where
+  -- The rectangle can be written, and holds the averages.
+  pub done : answer ≡ DONE → IsAverage to (length before) width height (length first) (length second) × (IfWide wide (IsDepth bit_depth)
+      × (after ≡ with_average bit_depth to width height first second before))
+  -- Nothing else is asked of the arguments.
+  pub asked : IsAverage to (length before) width height (length first) (length second) → IfWide wide (IsDepth bit_depth) → answer ≡ DONE
+  -- An argument is refused, the first one that has to be, and this is why.
+  pub size : answer ≡ BAD_SIZE → ¬ AreSides width height
+  pub area : answer ≡ BAD_AREA → LiesNowhere to (length before) width height
+  pub short : answer ≡ TOO_SHORT → HasFewOfTwo to (length before) width height (length first) (length second)
+  pub depth : answer ≡ BAD_DEPTH → OnlyWide wide (IsAverage to (length before) width height (length first) (length second) × (¬ IsDepth bit_depth))
+  -- What is refused leaves the samples as they were.
+  pub kept : answer ≢ DONE → after ≡ before
+  pub known : IsAverageStatus wide answer
 
 -- ---- words of private contracts: how a block is read
 

@@ -1,6 +1,6 @@
 -- What the calls that add a residue say of their arguments: of numbers of a size and a type, of where the first sample stands (column x of
 -- row y), of rows that stand `stride` apart, of how many samples there are, and of the coefficients.
-use Rattle.std.specs.Prelude.{◌≡◌, ℕ, ◌+◌, ◌<◌, ◌≤◌, IsTrue, Some, ℤ, pos, ◌+ℤ◌, List, length, slice_get}
+use Rattle.std.specs.Prelude.{◌≡◌, ◌≢◌, ◌⊎◌, Bool, ℕ, ◌+◌, ◌<◌, ◌≤◌, IsTrue, Some, ℤ, pos, ◌+ℤ◌, List, length, slice_get}
 use Rattle.av1_blocks.specs.Depths.{IsDepth}
 use Rattle.av1_blocks.specs.Transforms.{coded_area, valid_av1_transform}
 use Rattle.av1_blocks.specs.declared.transform.TheConstants.TxType as tx_types
@@ -13,9 +13,10 @@ use Rattle.av1_frame.specs.Areas.{AreRows}
 use Rattle.av1_frame.specs.Arithmetic.{clip}
 use Rattle.av1_frame.specs.Samples.{paint}
 use Rattle.av1_itx.specs.Residue.{residue}
-use Rattle.av1_calls.specs.Arguments.{HasNoSize, IsSize, rectangle}
+use Rattle.av1_calls.specs.Arguments.{HasNoSize, IfWide, IsSize, OnlyWide, rectangle}
 use Rattle.av1_calls.specs.declared.argument.BadArgument.{BadArgument}
 use Rattle.av1_calls.specs.declared.argument.BadArgument.TheVariants as bad
+use Rattle.av1_calls.specs.declared.status.TheConstants.{BAD_AREA, BAD_COEFFICIENT, BAD_DEPTH, BAD_SIZE, BAD_TYPE, DONE, TOO_SHORT}
 
 -- ---- what is asked for
 
@@ -45,6 +46,10 @@ pub record IsBlock (size_number type_number stride x y coefficients samples : �
 -- each coefficient of the transform fits this depth
 abbrev pub AllFitDepth : ℕ → TxSize → List ℤ → Type 0
 AllFitDepth depth size coefficients = (i : ℕ) → i < coded_area size → FitsBits (depth + 8) (at coefficients i)
+
+-- samples have this depth, and coefficients fit it
+abbrev pub AreOfDepth : ℕ → TxSize → List ℤ → Type 0
+AreOfDepth depth size coefficients = IsDepth depth × AllFitDepth depth size coefficients
 
 -- the samples with the residue added to the rectangle, clipped to the depth; all others stay
 abbrev pub with_residue : (depth stride x y : ℕ) → TxSize → TxType → List ℤ → List ℕ → List ℕ
@@ -76,6 +81,28 @@ HasNoDepth depth size_number type_number stride x y coefficients samples =
 abbrev pub HasTooLarge : (depth size_number type_number stride x y : ℕ) → List ℤ → (samples : ℕ) → Type 0
 HasTooLarge depth size_number type_number stride x y coefficients samples =
     (size : TxSize) × ((type : TxType) × (IsBlock size_number type_number stride x y (length coefficients) samples size type × (IsDepth depth × (¬ AllFitDepth depth size coefficients))))
+
+-- ---- what the calls say
+
+-- Of a residue that is added to samples at this depth: they were `before` and are `after`, and `answer` is the status.
+pub record AddsResidue (wide : Bool) (bit_depth size_number type_number stride x y : ℕ) (coefficients : List ℤ) (before after : List ℕ) (answer : ℕ) : Type 0 where
+  -- The arguments name a transform, and its residue is added.
+  pub done : answer ≡ DONE → (size : TxSize) × ((type : TxType) × (IsBlock size_number type_number stride x y (length coefficients) (length before) size type
+      × (IfWide wide (AreOfDepth bit_depth size coefficients) × (after ≡ with_residue bit_depth stride x y size type coefficients before))))
+  -- Nothing else is asked of them.
+  pub asked : (size : TxSize) → (type : TxType) → IsBlock size_number type_number stride x y (length coefficients) (length before) size type
+      → IfWide wide (AreOfDepth bit_depth size coefficients) → answer ≡ DONE
+  -- An argument is refused, the first one that has to be, and this is why.
+  pub size : answer ≡ BAD_SIZE → HasNoSize size_number
+  pub kind : answer ≡ BAD_TYPE → HasNoType size_number type_number
+  pub area : answer ≡ BAD_AREA → HasNoRectangle size_number type_number stride x y (length before)
+  pub short : answer ≡ TOO_SHORT → HasTooFew size_number type_number stride x y (length coefficients) (length before)
+  pub depth : answer ≡ BAD_DEPTH → OnlyWide wide (HasNoDepth bit_depth size_number type_number stride x y (length coefficients) (length before))
+  pub coefficient : answer ≡ BAD_COEFFICIENT → OnlyWide wide (HasTooLarge bit_depth size_number type_number stride x y coefficients (length before))
+  -- What is refused leaves the samples as they were.
+  pub kept : answer ≢ DONE → after ≡ before
+  pub known : (answer ≡ DONE) ⊎ ((answer ≡ BAD_SIZE) ⊎ ((answer ≡ BAD_TYPE) ⊎ ((answer ≡ BAD_AREA) ⊎ ((answer ≡ TOO_SHORT)
+      ⊎ OnlyWide wide ((answer ≡ BAD_DEPTH) ⊎ (answer ≡ BAD_COEFFICIENT))))))
 
 -- ---- why nothing is written: words of private contracts
 

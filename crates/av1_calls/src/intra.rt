@@ -1,14 +1,12 @@
 //! Intra prediction of a block in samples of the caller, from the sides that it hands in.
 //!
 //! AV1 specification: intra prediction process.
-ghost use Rattle.std.specs.Prelude.{◌≡◌, ◌≢◌, ◌⊎◌, ℕ, ◌+◌, ◌*◌, ◌≤◌, IfOk, IfErr, IfSome, IsTrue, None, true, length, unsigned_abs, [], pos};
+ghost use Rattle.std.specs.Prelude.{◌≡◌, ◌+◌, ◌*◌, ◌≤◌, IfOk, IfErr, IfSome, IsTrue, None, true, unsigned_abs};
 ghost use Rattle.av1_blocks.specs.Modes.{is_intra};
-ghost use Rattle.av1_blocks.specs.declared.predict.PredictionMode.{PredictionMode as Mode};
 ghost use Rattle.av1_blocks.specs.declared.predict.PredictionMode.TheVariants as modes;
-ghost use Rattle.av1_blocks.specs.declared.transform.TxSize.{TxSize as Size};
 ghost use Rattle.av1_intra.specs.Predicted.{angle_or_alpha};
-ghost use Rattle.av1_calls.specs.Arguments.{HasNoSize, rectangle};
-ghost use Rattle.av1_calls.specs.IntraBlocks.{AreLong, AreSidesLong, HasNoAngle, HasNoDepth, HasNoMode, HasShortSides, IsDepthWithin, IsIntraBlock, IsIntraFault, IsIntraMode, IsTurn, LiesOutside, block_of, filter_of, mode_in, variant_in, with_prediction};
+ghost use Rattle.av1_calls.specs.Arguments.{rectangle};
+ghost use Rattle.av1_calls.specs.IntraBlocks.{Predicts, PredictsBy, AreLong, AreSidesLong, HasNoMode, IsDepthWithin, IsIntraBlock, IsIntraFault, IsIntraMode, IsTurn, block_of, filter_of, mode_in, variant_in};
 
 use crate::argument::{BadArgument, are_rows};
 use crate::status::{BAD_ANGLE, BAD_AREA, BAD_DEPTH, BAD_MODE, BAD_SIZE, DONE, TOO_SHORT};
@@ -260,16 +258,7 @@ fn predict_by<T: Pixel>(
     alpha: i16,
 ) -> u32
     requires intra { IsTrue (is_intra mode) }
-    ensures done { result ≡ DONE → (size : Size) × (IsIntraBlock T.BITS block mode stride x y (length left.now) (length above.now) (length ac.now) (length samples.old) size
-        × (samples.new ≡ with_prediction T.num T.pixel block mode stride x y size left.now corner above.now ac.now alpha samples.old)) }
-    ensures asked { (size : Size) → IsIntraBlock T.BITS block mode stride x y (length left.now) (length above.now) (length ac.now) (length samples.old) size → result ≡ DONE }
-    ensures size { result ≡ BAD_SIZE → HasNoSize block.tx_size }
-    ensures angle { result ≡ BAD_ANGLE → HasNoAngle block mode }
-    ensures depth { result ≡ BAD_DEPTH → HasNoDepth T.BITS block mode }
-    ensures area { result ≡ BAD_AREA → LiesOutside T.BITS block mode stride x y (length samples.old) }
-    ensures short { result ≡ TOO_SHORT → HasShortSides T.BITS block mode stride x y (length left.now) (length above.now) (length ac.now) (length samples.old) }
-    ensures kept { result ≢ DONE → samples.new ≡ samples.old }
-    ensures known { (result ≡ DONE) ⊎ ((result ≡ BAD_SIZE) ⊎ ((result ≡ BAD_ANGLE) ⊎ ((result ≡ BAD_DEPTH) ⊎ ((result ≡ BAD_AREA) ⊎ (result ≡ TOO_SHORT))))) }
+    ensures { PredictsBy T.BITS T.num T.pixel block mode stride x y left.now corner above.now ac.now alpha samples.old samples.new result }
 {
     match prediction_of(
         T::BITS,
@@ -315,19 +304,7 @@ fn predict_by_number<T: Pixel>(
     corner: T,
     above: &[T],
 ) -> u32
-    ensures done { result ≡ DONE → (mode : Mode) × ((size : Size) × (IsIntraMode block.now.mode mode
-        × (IsIntraBlock T.BITS block.now mode stride x y (length left.now) (length above.now) 0 (length samples.old) size
-        × (samples.new ≡ with_prediction T.num T.pixel block.now mode stride x y size left.now corner above.now [] (pos 0) samples.old)))) }
-    ensures asked { (mode : Mode) → (size : Size) → IsIntraMode block.now.mode mode
-        → IsIntraBlock T.BITS block.now mode stride x y (length left.now) (length above.now) 0 (length samples.old) size → result ≡ DONE }
-    ensures mode { result ≡ BAD_MODE → HasNoMode block.now.mode }
-    ensures size { result ≡ BAD_SIZE → (mode : Mode) × (IsIntraMode block.now.mode mode × HasNoSize block.now.tx_size) }
-    ensures angle { result ≡ BAD_ANGLE → (mode : Mode) × (IsIntraMode block.now.mode mode × HasNoAngle block.now mode) }
-    ensures depth { result ≡ BAD_DEPTH → (mode : Mode) × (IsIntraMode block.now.mode mode × HasNoDepth T.BITS block.now mode) }
-    ensures area { result ≡ BAD_AREA → (mode : Mode) × (IsIntraMode block.now.mode mode × LiesOutside T.BITS block.now mode stride x y (length samples.old)) }
-    ensures short { result ≡ TOO_SHORT → (mode : Mode) × (IsIntraMode block.now.mode mode × HasShortSides T.BITS block.now mode stride x y (length left.now) (length above.now) 0 (length samples.old)) }
-    ensures kept { result ≢ DONE → samples.new ≡ samples.old }
-    ensures known { (result ≡ DONE) ⊎ ((result ≡ BAD_MODE) ⊎ ((result ≡ BAD_SIZE) ⊎ ((result ≡ BAD_ANGLE) ⊎ ((result ≡ BAD_DEPTH) ⊎ ((result ≡ BAD_AREA) ⊎ (result ≡ TOO_SHORT)))))) }
+    ensures { Predicts T.BITS T.num T.pixel block.now stride x y left.now corner above.now samples.old samples.new result }
 {
     let Some(mode) = mode_of(block.mode) else {
         return BAD_MODE;
@@ -368,23 +345,7 @@ pub fn av1_predict_intra_8(
     corner: u8,
     above: &[u8],
 ) -> u32
-    // The arguments name a block, and its samples are those of its mode.
-    ensures done { result ≡ DONE → (mode : Mode) × ((size : Size) × (IsIntraMode block.now.mode mode
-        × (IsIntraBlock 8 block.now mode stride x y (length left.now) (length above.now) 0 (length samples.old) size
-        × (samples.new ≡ with_prediction (λ n. n) (λ n. n) block.now mode stride x y size left.now corner above.now [] (pos 0) samples.old)))) }
-    // Nothing else is asked of them.
-    ensures asked { (mode : Mode) → (size : Size) → IsIntraMode block.now.mode mode
-        → IsIntraBlock 8 block.now mode stride x y (length left.now) (length above.now) 0 (length samples.old) size → result ≡ DONE }
-    // An argument is refused, the first one that has to be, and this is why.
-    ensures mode { result ≡ BAD_MODE → HasNoMode block.now.mode }
-    ensures size { result ≡ BAD_SIZE → (mode : Mode) × (IsIntraMode block.now.mode mode × HasNoSize block.now.tx_size) }
-    ensures angle { result ≡ BAD_ANGLE → (mode : Mode) × (IsIntraMode block.now.mode mode × HasNoAngle block.now mode) }
-    ensures depth { result ≡ BAD_DEPTH → (mode : Mode) × (IsIntraMode block.now.mode mode × HasNoDepth 8 block.now mode) }
-    ensures area { result ≡ BAD_AREA → (mode : Mode) × (IsIntraMode block.now.mode mode × LiesOutside 8 block.now mode stride x y (length samples.old)) }
-    ensures short { result ≡ TOO_SHORT → (mode : Mode) × (IsIntraMode block.now.mode mode × HasShortSides 8 block.now mode stride x y (length left.now) (length above.now) 0 (length samples.old)) }
-    // What is refused leaves the samples as they were.
-    ensures kept { result ≢ DONE → samples.new ≡ samples.old }
-    ensures known { (result ≡ DONE) ⊎ ((result ≡ BAD_MODE) ⊎ ((result ≡ BAD_SIZE) ⊎ ((result ≡ BAD_ANGLE) ⊎ ((result ≡ BAD_DEPTH) ⊎ ((result ≡ BAD_AREA) ⊎ (result ≡ TOO_SHORT)))))) }
+    ensures { Predicts 8 (λ n. n) (λ n. n) block.now stride x y left.now corner above.now samples.old samples.new result }
 {
     predict_by_number(samples, stride, x, y, block, left, corner, above)
 }
@@ -400,23 +361,7 @@ pub fn av1_predict_intra_16(
     corner: u16,
     above: &[u16],
 ) -> u32
-    // The arguments name a block, and its samples are those of its mode.
-    ensures done { result ≡ DONE → (mode : Mode) × ((size : Size) × (IsIntraMode block.now.mode mode
-        × (IsIntraBlock 16 block.now mode stride x y (length left.now) (length above.now) 0 (length samples.old) size
-        × (samples.new ≡ with_prediction (λ n. n) (λ n. n) block.now mode stride x y size left.now corner above.now [] (pos 0) samples.old)))) }
-    // Nothing else is asked of them.
-    ensures asked { (mode : Mode) → (size : Size) → IsIntraMode block.now.mode mode
-        → IsIntraBlock 16 block.now mode stride x y (length left.now) (length above.now) 0 (length samples.old) size → result ≡ DONE }
-    // An argument is refused, the first one that has to be, and this is why.
-    ensures mode { result ≡ BAD_MODE → HasNoMode block.now.mode }
-    ensures size { result ≡ BAD_SIZE → (mode : Mode) × (IsIntraMode block.now.mode mode × HasNoSize block.now.tx_size) }
-    ensures angle { result ≡ BAD_ANGLE → (mode : Mode) × (IsIntraMode block.now.mode mode × HasNoAngle block.now mode) }
-    ensures depth { result ≡ BAD_DEPTH → (mode : Mode) × (IsIntraMode block.now.mode mode × HasNoDepth 16 block.now mode) }
-    ensures area { result ≡ BAD_AREA → (mode : Mode) × (IsIntraMode block.now.mode mode × LiesOutside 16 block.now mode stride x y (length samples.old)) }
-    ensures short { result ≡ TOO_SHORT → (mode : Mode) × (IsIntraMode block.now.mode mode × HasShortSides 16 block.now mode stride x y (length left.now) (length above.now) 0 (length samples.old)) }
-    // What is refused leaves the samples as they were.
-    ensures kept { result ≢ DONE → samples.new ≡ samples.old }
-    ensures known { (result ≡ DONE) ⊎ ((result ≡ BAD_MODE) ⊎ ((result ≡ BAD_SIZE) ⊎ ((result ≡ BAD_ANGLE) ⊎ ((result ≡ BAD_DEPTH) ⊎ ((result ≡ BAD_AREA) ⊎ (result ≡ TOO_SHORT)))))) }
+    ensures { Predicts 16 (λ n. n) (λ n. n) block.now stride x y left.now corner above.now samples.old samples.new result }
 {
     predict_by_number(samples, stride, x, y, block, left, corner, above)
 }
@@ -439,20 +384,7 @@ pub fn av1_predict_cfl_8(
     ac: &[i16],
     alpha: i16,
 ) -> u32
-    // The arguments name a block, and its samples are those of chroma from luma.
-    ensures done { result ≡ DONE → (size : Size) × (IsIntraBlock 8 block.now modes.UV_CFL_PRED stride x y (length left.now) (length above.now) (length ac.now) (length samples.old) size
-        × (samples.new ≡ with_prediction (λ n. n) (λ n. n) block.now modes.UV_CFL_PRED stride x y size left.now 0 above.now ac.now alpha samples.old)) }
-    // Nothing else is asked of them.
-    ensures asked { (size : Size) → IsIntraBlock 8 block.now modes.UV_CFL_PRED stride x y (length left.now) (length above.now) (length ac.now) (length samples.old) size → result ≡ DONE }
-    // An argument is refused, the first one that has to be, and this is why.
-    ensures size { result ≡ BAD_SIZE → HasNoSize block.now.tx_size }
-    ensures angle { result ≡ BAD_ANGLE → HasNoAngle block.now modes.UV_CFL_PRED }
-    ensures depth { result ≡ BAD_DEPTH → HasNoDepth 8 block.now modes.UV_CFL_PRED }
-    ensures area { result ≡ BAD_AREA → LiesOutside 8 block.now modes.UV_CFL_PRED stride x y (length samples.old) }
-    ensures short { result ≡ TOO_SHORT → HasShortSides 8 block.now modes.UV_CFL_PRED stride x y (length left.now) (length above.now) (length ac.now) (length samples.old) }
-    // What is refused leaves the samples as they were.
-    ensures kept { result ≢ DONE → samples.new ≡ samples.old }
-    ensures known { (result ≡ DONE) ⊎ ((result ≡ BAD_SIZE) ⊎ ((result ≡ BAD_ANGLE) ⊎ ((result ≡ BAD_DEPTH) ⊎ ((result ≡ BAD_AREA) ⊎ (result ≡ TOO_SHORT))))) }
+    ensures { PredictsBy 8 (λ n. n) (λ n. n) block.now modes.UV_CFL_PRED stride x y left.now 0 above.now ac.now alpha samples.old samples.new result }
 {
     let mode = PredictionMode::UV_CFL_PRED;
     predict_by(
@@ -472,20 +404,7 @@ pub fn av1_predict_cfl_16(
     ac: &[i16],
     alpha: i16,
 ) -> u32
-    // The arguments name a block, and its samples are those of chroma from luma.
-    ensures done { result ≡ DONE → (size : Size) × (IsIntraBlock 16 block.now modes.UV_CFL_PRED stride x y (length left.now) (length above.now) (length ac.now) (length samples.old) size
-        × (samples.new ≡ with_prediction (λ n. n) (λ n. n) block.now modes.UV_CFL_PRED stride x y size left.now 0 above.now ac.now alpha samples.old)) }
-    // Nothing else is asked of them.
-    ensures asked { (size : Size) → IsIntraBlock 16 block.now modes.UV_CFL_PRED stride x y (length left.now) (length above.now) (length ac.now) (length samples.old) size → result ≡ DONE }
-    // An argument is refused, the first one that has to be, and this is why.
-    ensures size { result ≡ BAD_SIZE → HasNoSize block.now.tx_size }
-    ensures angle { result ≡ BAD_ANGLE → HasNoAngle block.now modes.UV_CFL_PRED }
-    ensures depth { result ≡ BAD_DEPTH → HasNoDepth 16 block.now modes.UV_CFL_PRED }
-    ensures area { result ≡ BAD_AREA → LiesOutside 16 block.now modes.UV_CFL_PRED stride x y (length samples.old) }
-    ensures short { result ≡ TOO_SHORT → HasShortSides 16 block.now modes.UV_CFL_PRED stride x y (length left.now) (length above.now) (length ac.now) (length samples.old) }
-    // What is refused leaves the samples as they were.
-    ensures kept { result ≢ DONE → samples.new ≡ samples.old }
-    ensures known { (result ≡ DONE) ⊎ ((result ≡ BAD_SIZE) ⊎ ((result ≡ BAD_ANGLE) ⊎ ((result ≡ BAD_DEPTH) ⊎ ((result ≡ BAD_AREA) ⊎ (result ≡ TOO_SHORT))))) }
+    ensures { PredictsBy 16 (λ n. n) (λ n. n) block.now modes.UV_CFL_PRED stride x y left.now 0 above.now ac.now alpha samples.old samples.new result }
 {
     let mode = PredictionMode::UV_CFL_PRED;
     predict_by(

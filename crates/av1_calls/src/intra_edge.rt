@@ -1,14 +1,13 @@
 //! The edge of a transform, from which an intra mode predicts it, prepared in samples of the caller from those of its plane.
 //!
 //! AV1 specification: intra prediction process: general.
-ghost use Rattle.std.specs.Prelude.{◌≡◌, ◌≢◌, ◌⊎◌, ℕ, ◌+◌, ◌*◌, ◌^◌, ◌<◌, ◌≤◌, Option, IfOk, IfErr, true, length, drop, pos};
-ghost use Rattle.av1_blocks.specs.declared.partition.BlockSize.{BlockSize as Block};
+ghost use Rattle.std.specs.Prelude.{◌≡◌, ◌+◌, ◌*◌, ◌^◌, ◌<◌, ◌≤◌, Option, IfOk, IfErr, true, length, pos};
 ghost use Rattle.av1_blocks.specs.declared.predict.PredictionMode.{PredictionMode as Mode};
 ghost use Rattle.av1_blocks.specs.declared.transform.TxSize.{TxSize as Size};
 ghost use Rattle.av1_edges.specs.Edges.{BeginsVisible};
 ghost use Rattle.av1_frame.specs.declared.plane_region.PlaneRegion.{PlaneRegion as Region};
 ghost use Rattle.av1_calls.specs.IntraBlocks.{IsDepthWithin};
-ghost use Rattle.av1_calls.specs.IntraEdges.{BeginsIn, HasNoDepth, HasNoEdgeMode, HasNoPlace, HasNoSizes, HasNoTurn, HoldsEdge, IsBlockSize, IsEdge, IsEdgeMode, IsEdgeTurn, IsNameFault, IsTile, LiesIn, config_of, edge_in, halvings, plane_of};
+ghost use Rattle.av1_calls.specs.IntraEdges.{PreparesEdge, BeginsIn, HasNoEdgeMode, HoldsEdge, IsBlockSize, IsEdgeMode, IsEdgeTurn, IsNameFault, IsTile, LiesIn, config_of, edge_in, halvings, plane_of};
 ghost use Rattle.av1_calls.specs.Arguments.{IsSize};
 
 use crate::argument::{BadArgument, are_rows};
@@ -320,18 +319,7 @@ fn prepare_in<T: Pixel>(
 /// Prepares the edge of a transform, where all that the call asks for can be had.
 #[inline(always)]
 fn prepare_by<T: Pixel>(edge: &mut [T], samples: &[T], plane: &EdgePlane, block: &EdgeBlock) -> u32
-    ensures done { result ≡ DONE → (mode : Option Mode) × ((size : Size) × ((luma : Block) × (IsEdge T.BITS plane.now block.now (length samples.now) (length edge.old) mode size luma
-        × ((r : Region T) × (IsTile r plane.now samples.now × HoldsEdge T.num (edge_in T.num r block.now mode size luma) edge.new))))) }
-    ensures asked { (mode : Option Mode) → (size : Size) → (luma : Block) → IsEdge T.BITS plane.now block.now (length samples.now) (length edge.old) mode size luma → result ≡ DONE }
-    ensures room { result ≡ ROOM_TOO_SMALL → length edge.old < EDGE_SAMPLES }
-    ensures mode { result ≡ BAD_MODE → (EDGE_SAMPLES ≤ length edge.old) × HasNoEdgeMode block.now.mode }
-    ensures size { result ≡ BAD_SIZE → (EDGE_SAMPLES ≤ length edge.old) × HasNoSizes block.now }
-    ensures angle { result ≡ BAD_ANGLE → (EDGE_SAMPLES ≤ length edge.old) × HasNoTurn block.now }
-    ensures depth { result ≡ BAD_DEPTH → (EDGE_SAMPLES ≤ length edge.old) × HasNoDepth T.BITS block.now }
-    ensures area { result ≡ BAD_AREA → (EDGE_SAMPLES ≤ length edge.old) × HasNoPlace T.BITS plane.now block.now (length samples.now) }
-    ensures rest { drop EDGE_SAMPLES edge.new ≡ drop EDGE_SAMPLES edge.old }
-    ensures kept { result ≢ DONE → edge.new ≡ edge.old }
-    ensures known { (result ≡ DONE) ⊎ ((result ≡ ROOM_TOO_SMALL) ⊎ ((result ≡ BAD_MODE) ⊎ ((result ≡ BAD_SIZE) ⊎ ((result ≡ BAD_ANGLE) ⊎ ((result ≡ BAD_DEPTH) ⊎ (result ≡ BAD_AREA)))))) }
+    ensures { PreparesEdge T.BITS T.num plane.now block.now samples.now edge.old edge.new result }
 {
     if edge.len() < EDGE_SAMPLES {
         return ROOM_TOO_SMALL;
@@ -367,22 +355,7 @@ pub fn av1_intra_edge_8(
     plane: &EdgePlane,
     block: &EdgeBlock,
 ) -> u32
-    // The arguments name a transform in a tile, and the room holds the edge that is prepared there.
-    ensures done { result ≡ DONE → (mode : Option Mode) × ((size : Size) × ((luma : Block) × (IsEdge 8 plane.now block.now (length samples.now) (length edge.old) mode size luma
-        × ((r : Region ℕ) × (IsTile r plane.now samples.now × HoldsEdge (λ n. n) (edge_in (λ n. n) r block.now mode size luma) edge.new))))) }
-    // Nothing else is asked of them.
-    ensures asked { (mode : Option Mode) → (size : Size) → (luma : Block) → IsEdge 8 plane.now block.now (length samples.now) (length edge.old) mode size luma → result ≡ DONE }
-    // An argument is refused, the first one that has to be, and this is why.
-    ensures room { result ≡ ROOM_TOO_SMALL → length edge.old < EDGE_SAMPLES }
-    ensures mode { result ≡ BAD_MODE → (EDGE_SAMPLES ≤ length edge.old) × HasNoEdgeMode block.now.mode }
-    ensures size { result ≡ BAD_SIZE → (EDGE_SAMPLES ≤ length edge.old) × HasNoSizes block.now }
-    ensures angle { result ≡ BAD_ANGLE → (EDGE_SAMPLES ≤ length edge.old) × HasNoTurn block.now }
-    ensures depth { result ≡ BAD_DEPTH → (EDGE_SAMPLES ≤ length edge.old) × HasNoDepth 8 block.now }
-    ensures area { result ≡ BAD_AREA → (EDGE_SAMPLES ≤ length edge.old) × HasNoPlace 8 plane.now block.now (length samples.now) }
-    // What stands behind the edge stays, and what is refused writes nothing.
-    ensures rest { drop EDGE_SAMPLES edge.new ≡ drop EDGE_SAMPLES edge.old }
-    ensures kept { result ≢ DONE → edge.new ≡ edge.old }
-    ensures known { (result ≡ DONE) ⊎ ((result ≡ ROOM_TOO_SMALL) ⊎ ((result ≡ BAD_MODE) ⊎ ((result ≡ BAD_SIZE) ⊎ ((result ≡ BAD_ANGLE) ⊎ ((result ≡ BAD_DEPTH) ⊎ (result ≡ BAD_AREA)))))) }
+    ensures { PreparesEdge 8 (λ n. n) plane.now block.now samples.now edge.old edge.new result }
 {
     prepare_by(edge, samples, plane, block)
 }
@@ -394,22 +367,7 @@ pub fn av1_intra_edge_16(
     plane: &EdgePlane,
     block: &EdgeBlock,
 ) -> u32
-    // The arguments name a transform in a tile, and the room holds the edge that is prepared there.
-    ensures done { result ≡ DONE → (mode : Option Mode) × ((size : Size) × ((luma : Block) × (IsEdge 16 plane.now block.now (length samples.now) (length edge.old) mode size luma
-        × ((r : Region ℕ) × (IsTile r plane.now samples.now × HoldsEdge (λ n. n) (edge_in (λ n. n) r block.now mode size luma) edge.new))))) }
-    // Nothing else is asked of them.
-    ensures asked { (mode : Option Mode) → (size : Size) → (luma : Block) → IsEdge 16 plane.now block.now (length samples.now) (length edge.old) mode size luma → result ≡ DONE }
-    // An argument is refused, the first one that has to be, and this is why.
-    ensures room { result ≡ ROOM_TOO_SMALL → length edge.old < EDGE_SAMPLES }
-    ensures mode { result ≡ BAD_MODE → (EDGE_SAMPLES ≤ length edge.old) × HasNoEdgeMode block.now.mode }
-    ensures size { result ≡ BAD_SIZE → (EDGE_SAMPLES ≤ length edge.old) × HasNoSizes block.now }
-    ensures angle { result ≡ BAD_ANGLE → (EDGE_SAMPLES ≤ length edge.old) × HasNoTurn block.now }
-    ensures depth { result ≡ BAD_DEPTH → (EDGE_SAMPLES ≤ length edge.old) × HasNoDepth 16 block.now }
-    ensures area { result ≡ BAD_AREA → (EDGE_SAMPLES ≤ length edge.old) × HasNoPlace 16 plane.now block.now (length samples.now) }
-    // What stands behind the edge stays, and what is refused writes nothing.
-    ensures rest { drop EDGE_SAMPLES edge.new ≡ drop EDGE_SAMPLES edge.old }
-    ensures kept { result ≢ DONE → edge.new ≡ edge.old }
-    ensures known { (result ≡ DONE) ⊎ ((result ≡ ROOM_TOO_SMALL) ⊎ ((result ≡ BAD_MODE) ⊎ ((result ≡ BAD_SIZE) ⊎ ((result ≡ BAD_ANGLE) ⊎ ((result ≡ BAD_DEPTH) ⊎ (result ≡ BAD_AREA)))))) }
+    ensures { PreparesEdge 16 (λ n. n) plane.now block.now samples.now edge.old edge.new result }
 {
     prepare_by(edge, samples, plane, block)
 }

@@ -43,4 +43,5 @@ pub use status::{
     BAD_ANGLE, BAD_AREA, BAD_COEFFICIENT, BAD_DEPTH, BAD_FRACTION, BAD_MODE, BAD_PAD, BAD_SAMPLE,
     BAD_SAMPLING, BAD_SIZE, BAD_TYPE, DONE, ROOM_TOO_SMALL, TOO_SHORT,
 };
+pub use av1_itx::TxRoom;
 pub use transform_add::{av1_inverse_transform_add_8, av1_inverse_transform_add_16};

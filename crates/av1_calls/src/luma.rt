@@ -1,14 +1,13 @@
 //! How far luma is from its mean over each sample of a block of chroma, by samples of the caller.
 //!
 //! AV1 specification: predict chroma from luma process.
-ghost use Rattle.std.specs.Prelude.{◌≡◌, ◌≢◌, ◌⊎◌, ℕ, ◌+◌, ◌-◌, ◌*◌, ◌^◌, ◌<◌, ◌≤◌, min, map, IfOk, IfErr, IfSome, None, true, length};
+ghost use Rattle.std.specs.Prelude.{true, false, ◌≡◌, ℕ, ◌+◌, ◌-◌, ◌*◌, ◌^◌, ◌<◌, ◌≤◌, min, map, IfOk, IfErr, IfSome, None, length};
 ghost use Rattle.av1_blocks.specs.Blocks.{block_height, block_width};
-ghost use Rattle.av1_blocks.specs.declared.partition.BlockSize.{BlockSize as Size};
 ghost use Rattle.av1_edges.specs.Edges.{region_sample};
 ghost use Rattle.av1_frame.specs.Areas.{AreRows};
 ghost use Rattle.av1_frame.specs.Regions.{IsReadable};
 ghost use Rattle.av1_intra.specs.ChromaFromLuma.{columns_read, last_begun, luma_difference, padded_block, rows_read, with_rows};
-ghost use Rattle.av1_calls.specs.LumaBlocks.{HasDeepLuma, HasFewDifferences, HasLuma, HasNoChromaSize, HasNoLuma, HasNoLumaDepth, HasNoSampling, IsCflBlock, IsCflFault, IsChromaSize, IsDeepCflFault, IsLumaOfDepth, IsSampling, LumaLiesOutside, luma_area, luma_in, with_differences};
+ghost use Rattle.av1_calls.specs.LumaBlocks.{GivesDifferences, HasLuma, HasNoChromaSize, IsCflBlock, IsCflFault, IsChromaSize, IsDeepCflFault, IsLumaOfDepth, IsSampling, luma_area, luma_in, with_differences};
 ghost use Rattle.av1_calls.specs.Samples.{AreBelow};
 
 use crate::argument::{BadArgument, are_rows, is_depth};
@@ -280,20 +279,7 @@ pub fn av1_cfl_ac_8(
     y: usize,
     block: &CflBlock,
 ) -> u32
-    // The arguments name a block, and the differences are those of its luma.
-    ensures done { result ≡ DONE → (size : Size) × (IsCflBlock block.now stride x y (length ac.old) (length luma.now) size
-        × (ac.new ≡ with_differences block.now size stride x y luma.now ac.old)) }
-    // Nothing else is asked of them.
-    ensures asked { (size : Size) → IsCflBlock block.now stride x y (length ac.old) (length luma.now) size → result ≡ DONE }
-    // An argument is refused, the first one that has to be, and this is why.
-    ensures size { result ≡ BAD_SIZE → HasNoChromaSize block.now.block_size }
-    ensures sampling { result ≡ BAD_SAMPLING → HasNoSampling block.now }
-    ensures pad { result ≡ BAD_PAD → HasNoLuma block.now }
-    ensures area { result ≡ BAD_AREA → LumaLiesOutside block.now stride x y (length luma.now) }
-    ensures short { result ≡ TOO_SHORT → HasFewDifferences block.now stride x y (length ac.old) (length luma.now) }
-    // What is refused leaves the differences as they were.
-    ensures kept { result ≢ DONE → ac.new ≡ ac.old }
-    ensures known { (result ≡ DONE) ⊎ ((result ≡ BAD_SIZE) ⊎ ((result ≡ BAD_SAMPLING) ⊎ ((result ≡ BAD_PAD) ⊎ ((result ≡ BAD_AREA) ⊎ (result ≡ TOO_SHORT))))) }
+    ensures { GivesDifferences false 8 block.now stride x y luma.now ac.old ac.new result }
 {
     let block = *block;
     match luma_of(block, stride, x, y, ac.len(), luma.len()) {
@@ -318,24 +304,7 @@ pub fn av1_cfl_ac_16(
     block: &CflBlock,
     bit_depth: usize,
 ) -> u32
-    // The arguments name a block, and the differences are those of its luma.
-    ensures done { result ≡ DONE → (size : Size) × (IsCflBlock block.now stride x y (length ac.old) (length luma.now) size
-        × (IsLumaOfDepth bit_depth block.now stride x y luma.now size × (ac.new ≡ with_differences block.now size stride x y luma.now ac.old))) }
-    // Nothing else is asked of them.
-    ensures asked { (size : Size) → IsCflBlock block.now stride x y (length ac.old) (length luma.now) size
-        → IsLumaOfDepth bit_depth block.now stride x y luma.now size → result ≡ DONE }
-    // An argument is refused, the first one that has to be, and this is why.
-    ensures size { result ≡ BAD_SIZE → HasNoChromaSize block.now.block_size }
-    ensures sampling { result ≡ BAD_SAMPLING → HasNoSampling block.now }
-    ensures pad { result ≡ BAD_PAD → HasNoLuma block.now }
-    ensures area { result ≡ BAD_AREA → LumaLiesOutside block.now stride x y (length luma.now) }
-    ensures short { result ≡ TOO_SHORT → HasFewDifferences block.now stride x y (length ac.old) (length luma.now) }
-    ensures depth { result ≡ BAD_DEPTH → HasNoLumaDepth bit_depth block.now stride x y (length ac.old) (length luma.now) }
-    ensures sample { result ≡ BAD_SAMPLE → HasDeepLuma bit_depth block.now stride x y (length ac.old) luma.now }
-    // What is refused leaves the differences as they were.
-    ensures kept { result ≢ DONE → ac.new ≡ ac.old }
-    ensures known { (result ≡ DONE) ⊎ ((result ≡ BAD_SIZE) ⊎ ((result ≡ BAD_SAMPLING) ⊎ ((result ≡ BAD_PAD) ⊎ ((result ≡ BAD_AREA) ⊎ ((result ≡ TOO_SHORT)
-        ⊎ ((result ≡ BAD_DEPTH) ⊎ (result ≡ BAD_SAMPLE))))))) }
+    ensures { GivesDifferences true bit_depth block.now stride x y luma.now ac.old ac.new result }
 {
     let block = *block;
     match deep_luma_of(block, luma, stride, x, y, ac.len(), bit_depth) {

@@ -1,9 +1,9 @@
 //! The average of two prepared blocks.
 //!
 //! AV1 specification: block inter prediction process, and the average of its two predictions.
-ghost use Rattle.std.specs.Prelude.{◌≡◌, ◌≢◌, IfOk, IfErr, length};
+ghost use Rattle.std.specs.Prelude.{true, false, IfOk, IfErr};
 ghost use Rattle.av1_blocks.specs.Depths.{IsDepth};
-ghost use Rattle.av1_calls.specs.Motions.{AreSides, HasFewOfTwo, IsAverage, IsAverageStatus, IsDeepAverageFault, IsDeepAverageStatus, LiesNowhere, place, with_average};
+ghost use Rattle.av1_calls.specs.Motions.{Averages, IsAverage, IsDeepAverageFault, place};
 
 use crate::argument::{BadArgument, is_depth};
 use crate::motion::{Place, rectangle_at, test_average};
@@ -52,18 +52,7 @@ pub fn av1_mc_avg_8(
     first: &[i16],
     second: &[i16],
 ) -> u32
-    // The rectangle can be written, and holds the averages.
-    ensures done { result ≡ DONE → let to = place stride x y in
-        IsAverage to (length samples.old) width height (length first.now) (length second.now) × (samples.new ≡ with_average 8 to width height first.now second.now samples.old) }
-    // Nothing else is asked of the arguments.
-    ensures asked { IsAverage (place stride x y) (length samples.old) width height (length first.now) (length second.now) → result ≡ DONE }
-    // An argument is refused, the first one that has to be, and this is why.
-    ensures size { result ≡ BAD_SIZE → ¬ AreSides width height }
-    ensures area { result ≡ BAD_AREA → LiesNowhere (place stride x y) (length samples.old) width height }
-    ensures short { result ≡ TOO_SHORT → HasFewOfTwo (place stride x y) (length samples.old) width height (length first.now) (length second.now) }
-    // What is refused leaves the samples as they were.
-    ensures kept { result ≢ DONE → samples.new ≡ samples.old }
-    ensures known { IsAverageStatus result }
+    ensures { Averages false 8 (place stride x y) width height first.now second.now samples.old samples.new result }
 {
     let to = Place { stride, x, y };
     match test_average(to, samples.len(), width, height, first.len(), second.len()) {
@@ -96,19 +85,7 @@ pub fn av1_mc_avg_16(
     second: &[i16],
     bit_depth: usize,
 ) -> u32
-    // The rectangle can be written, and holds the averages.
-    ensures done { result ≡ DONE → let to = place stride x y in
-        IsAverage to (length samples.old) width height (length first.now) (length second.now) × (IsDepth bit_depth × (samples.new ≡ with_average bit_depth to width height first.now second.now samples.old)) }
-    // Nothing else is asked of the arguments.
-    ensures asked { IsAverage (place stride x y) (length samples.old) width height (length first.now) (length second.now) → IsDepth bit_depth → result ≡ DONE }
-    // An argument is refused, the first one that has to be, and this is why.
-    ensures size { result ≡ BAD_SIZE → ¬ AreSides width height }
-    ensures area { result ≡ BAD_AREA → LiesNowhere (place stride x y) (length samples.old) width height }
-    ensures short { result ≡ TOO_SHORT → HasFewOfTwo (place stride x y) (length samples.old) width height (length first.now) (length second.now) }
-    ensures depth { result ≡ BAD_DEPTH → IsAverage (place stride x y) (length samples.old) width height (length first.now) (length second.now) × (¬ IsDepth bit_depth) }
-    // What is refused leaves the samples as they were.
-    ensures kept { result ≢ DONE → samples.new ≡ samples.old }
-    ensures known { IsDeepAverageStatus result }
+    ensures { Averages true bit_depth (place stride x y) width height first.now second.now samples.old samples.new result }
 {
     let to = Place { stride, x, y };
     match test_deep_average(

@@ -1,9 +1,8 @@
 //! A block that is prepared for the average with another.
 //!
 //! AV1 specification: block inter prediction process, with the rounding of compound prediction.
-ghost use Rattle.std.specs.Prelude.{◌≡◌, ◌≢◌, IfOk, IfErr, map, length};
-ghost use Rattle.av1_blocks.specs.Depths.{IsDepth};
-ghost use Rattle.av1_calls.specs.Motions.{AreOfDepth, AreSides, HasDeepSample, HasFewValues, HasNoFilters, HasNoFractions, HasNoSource, HoldBlock, IsDeepPrepFault, IsDeepPrepStatus, IsPrep, IsPrepStatus, place, source_at};
+ghost use Rattle.std.specs.Prelude.{true, false, IfOk, IfErr, map, length};
+ghost use Rattle.av1_calls.specs.Motions.{Prepares, AreOfDepth, HoldBlock, IsDeepPrepFault, IsPrep, place, source_at};
 
 use crate::argument::{BadArgument, filter_mode};
 use crate::motion::{MotionBlock, Place, config_of, rows_of, test_prep, test_samples};
@@ -74,20 +73,7 @@ pub fn av1_prep_8tap_8(
     src_y: usize,
     block: &MotionBlock,
 ) -> u32
-    // The block can be read, and its values stand at the front.
-    ensures done { result ≡ DONE → let from = place src_stride src_x src_y in
-        IsPrep (length values.old) from (length src.now) block.now × HoldBlock 8 block.now (source_at from src.now) values.old values.new }
-    // Nothing else is asked of the arguments.
-    ensures asked { IsPrep (length values.old) (place src_stride src_x src_y) (length src.now) block.now → result ≡ DONE }
-    // An argument is refused, the first one that has to be, and this is why.
-    ensures size { result ≡ BAD_SIZE → ¬ AreSides block.now.width block.now.height }
-    ensures mode { result ≡ BAD_MODE → HasNoFilters block.now }
-    ensures fraction { result ≡ BAD_FRACTION → HasNoFractions block.now }
-    ensures area { result ≡ BAD_AREA → HasNoSource (place src_stride src_x src_y) block.now (length src.now) }
-    ensures short { result ≡ TOO_SHORT → HasFewValues (length values.old) (place src_stride src_x src_y) (length src.now) block.now }
-    // What is refused leaves the values as they were.
-    ensures kept { result ≢ DONE → values.new ≡ values.old }
-    ensures known { IsPrepStatus result }
+    ensures { Prepares false 8 (place src_stride src_x src_y) block.now src.now values.old values.new result }
 {
     let block = *block;
     let from = Place {
@@ -117,23 +103,7 @@ pub fn av1_prep_8tap_16(
     block: &MotionBlock,
     bit_depth: usize,
 ) -> u32
-    // The block can be read, and its values stand at the front.
-    ensures done { result ≡ DONE → let from = place src_stride src_x src_y in
-        IsPrep (length values.old) from (length src.now) block.now × (AreOfDepth bit_depth from src.now block.now × HoldBlock bit_depth block.now (source_at from src.now) values.old values.new) }
-    // Nothing else is asked of the arguments.
-    ensures asked { let from = place src_stride src_x src_y in
-        IsPrep (length values.old) from (length src.now) block.now → AreOfDepth bit_depth from src.now block.now → result ≡ DONE }
-    // An argument is refused, the first one that has to be, and this is why.
-    ensures size { result ≡ BAD_SIZE → ¬ AreSides block.now.width block.now.height }
-    ensures mode { result ≡ BAD_MODE → HasNoFilters block.now }
-    ensures fraction { result ≡ BAD_FRACTION → HasNoFractions block.now }
-    ensures area { result ≡ BAD_AREA → HasNoSource (place src_stride src_x src_y) block.now (length src.now) }
-    ensures short { result ≡ TOO_SHORT → HasFewValues (length values.old) (place src_stride src_x src_y) (length src.now) block.now }
-    ensures depth { result ≡ BAD_DEPTH → IsPrep (length values.old) (place src_stride src_x src_y) (length src.now) block.now × (¬ IsDepth bit_depth) }
-    ensures sample { result ≡ BAD_SAMPLE → IsPrep (length values.old) (place src_stride src_x src_y) (length src.now) block.now × HasDeepSample bit_depth (place src_stride src_x src_y) src.now block.now }
-    // What is refused leaves the values as they were.
-    ensures kept { result ≢ DONE → values.new ≡ values.old }
-    ensures known { IsDeepPrepStatus result }
+    ensures { Prepares true bit_depth (place src_stride src_x src_y) block.now src.now values.old values.new result }
 {
     let block = *block;
     let from = Place {

@@ -1,10 +1,9 @@
 //! A block that is predicted from one reference.
 //!
 //! AV1 specification: block inter prediction process.
-ghost use Rattle.std.specs.Prelude.{◌≡◌, ◌≢◌, ◌≤◌, IfOk, IfErr, map, length};
-ghost use Rattle.av1_blocks.specs.Depths.{IsDepth};
+ghost use Rattle.std.specs.Prelude.{true, false, ◌≡◌, ◌≤◌, IfOk, IfErr, map, length};
 ghost use Rattle.av1_frame.specs.Samples.{paint};
-ghost use Rattle.av1_calls.specs.Motions.{AreOfDepth, AreSides, HasDeepSample, HasNoFilters, HasNoFractions, HasNoPlace, IsDeepPutFault, IsDeepPutStatus, IsPut, IsPutStatus, moved_sample, place, rectangle_at, source_at, with_block};
+ghost use Rattle.av1_calls.specs.Motions.{Puts, AreOfDepth, IsDeepPutFault, IsPut, moved_sample, place, rectangle_at, source_at};
 
 use crate::argument::{BadArgument, filter_mode};
 use crate::motion::{MotionBlock, Place, config_of, rectangle_at, rows_of, test_put, test_samples};
@@ -86,19 +85,7 @@ pub fn av1_put_8tap_8(
     src_y: usize,
     block: &MotionBlock,
 ) -> u32
-    // The block can be read and written, and its samples stand in the rectangle.
-    ensures done { result ≡ DONE → let to = place dst_stride dst_x dst_y in let from = place src_stride src_x src_y in
-        IsPut to (length dst.old) from (length src.now) block.now × (dst.new ≡ with_block 8 to block.now (source_at from src.now) dst.old) }
-    // Nothing else is asked of the arguments.
-    ensures asked { IsPut (place dst_stride dst_x dst_y) (length dst.old) (place src_stride src_x src_y) (length src.now) block.now → result ≡ DONE }
-    // An argument is refused, the first one that has to be, and this is why.
-    ensures size { result ≡ BAD_SIZE → ¬ AreSides block.now.width block.now.height }
-    ensures mode { result ≡ BAD_MODE → HasNoFilters block.now }
-    ensures fraction { result ≡ BAD_FRACTION → HasNoFractions block.now }
-    ensures area { result ≡ BAD_AREA → HasNoPlace (place dst_stride dst_x dst_y) (length dst.old) (place src_stride src_x src_y) (length src.now) block.now }
-    // What is refused leaves the samples as they were.
-    ensures kept { result ≢ DONE → dst.new ≡ dst.old }
-    ensures known { IsPutStatus result }
+    ensures { Puts false 8 (place dst_stride dst_x dst_y) (place src_stride src_x src_y) block.now src.now dst.old dst.new result }
 {
     let block = *block;
     let to = Place {
@@ -136,23 +123,7 @@ pub fn av1_put_8tap_16(
     block: &MotionBlock,
     bit_depth: usize,
 ) -> u32
-    // The block can be read and written, and its samples stand in the rectangle.
-    ensures done { result ≡ DONE → let to = place dst_stride dst_x dst_y in let from = place src_stride src_x src_y in
-        IsPut to (length dst.old) from (length src.now) block.now × (AreOfDepth bit_depth from src.now block.now × (dst.new ≡ with_block bit_depth to block.now (source_at from src.now) dst.old)) }
-    // Nothing else is asked of the arguments.
-    ensures asked { let from = place src_stride src_x src_y in
-        IsPut (place dst_stride dst_x dst_y) (length dst.old) from (length src.now) block.now → AreOfDepth bit_depth from src.now block.now → result ≡ DONE }
-    // An argument is refused, the first one that has to be, and this is why.
-    ensures size { result ≡ BAD_SIZE → ¬ AreSides block.now.width block.now.height }
-    ensures mode { result ≡ BAD_MODE → HasNoFilters block.now }
-    ensures fraction { result ≡ BAD_FRACTION → HasNoFractions block.now }
-    ensures area { result ≡ BAD_AREA → HasNoPlace (place dst_stride dst_x dst_y) (length dst.old) (place src_stride src_x src_y) (length src.now) block.now }
-    ensures depth { result ≡ BAD_DEPTH → IsPut (place dst_stride dst_x dst_y) (length dst.old) (place src_stride src_x src_y) (length src.now) block.now × (¬ IsDepth bit_depth) }
-    ensures sample { result ≡ BAD_SAMPLE → IsPut (place dst_stride dst_x dst_y) (length dst.old) (place src_stride src_x src_y) (length src.now) block.now
-        × HasDeepSample bit_depth (place src_stride src_x src_y) src.now block.now }
-    // What is refused leaves the samples as they were.
-    ensures kept { result ≢ DONE → dst.new ≡ dst.old }
-    ensures known { IsDeepPutStatus result }
+    ensures { Puts true bit_depth (place dst_stride dst_x dst_y) (place src_stride src_x src_y) block.now src.now dst.old dst.new result }
 {
     let block = *block;
     let to = Place {

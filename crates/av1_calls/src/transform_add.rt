@@ -1,11 +1,9 @@
 //! The residue of a block, added to samples of the caller.
-ghost use Rattle.std.specs.Prelude.{◌≡◌, ◌≢◌, ◌⊎◌, ℕ, ◌+◌, ◌<◌, ◌≤◌, IfOk, IfErr, true, length, ◌≤ℤ◌};
+ghost use Rattle.std.specs.Prelude.{true, false, ◌≡◌, ◌⊎◌, ℕ, ◌+◌, ◌<◌, ◌≤◌, IfOk, IfErr, length, ◌≤ℤ◌};
 ghost use Rattle.av1_blocks.specs.Depths.{IsDepth};
-ghost use Rattle.av1_blocks.specs.declared.transform.TxSize.{TxSize as Size};
-ghost use Rattle.av1_blocks.specs.declared.transform.TxType.{TxType as Kind};
 ghost use Rattle.av1_dct.specs.Arithmetic.{at, FitsBits};
-ghost use Rattle.av1_calls.specs.Arguments.{HasNoSize, rectangle};
-ghost use Rattle.av1_calls.specs.Transforms.{AllFitDepth, HasNoDepth, HasNoRectangle, HasNoType, HasTooFew, HasTooLarge, IsBlock, IsBlockFault, IsDeepFault, IsRunnable, with_residue};
+ghost use Rattle.av1_calls.specs.Arguments.{rectangle};
+ghost use Rattle.av1_calls.specs.Transforms.{AddsResidue, AllFitDepth, IsBlock, IsBlockFault, IsDeepFault, IsRunnable};
 
 use crate::argument::{BadArgument, are_rows, area_of, is_depth};
 use crate::status::{BAD_AREA, BAD_COEFFICIENT, BAD_DEPTH, BAD_SIZE, BAD_TYPE, DONE, TOO_SHORT};
@@ -186,19 +184,7 @@ pub fn av1_inverse_transform_add_8(
     tx_size: u8,
     tx_type: u8,
 ) -> u32
-    // The arguments name a transform, and its residue is added.
-    ensures done { result ≡ DONE → (size : Size) × ((kind : Kind) × IsBlock tx_size tx_type stride x y (length coefficients.now) (length samples.old) size kind
-        × (samples.new ≡ with_residue 8 stride x y size kind coefficients.now samples.old)) }
-    // Nothing else is asked of them.
-    ensures asked { (size : Size) → (kind : Kind) → IsBlock tx_size tx_type stride x y (length coefficients.now) (length samples.old) size kind → result ≡ DONE }
-    // An argument is refused, the first one that has to be, and this is why.
-    ensures size { result ≡ BAD_SIZE → HasNoSize tx_size }
-    ensures kind { result ≡ BAD_TYPE → HasNoType tx_size tx_type }
-    ensures area { result ≡ BAD_AREA → HasNoRectangle tx_size tx_type stride x y (length samples.old) }
-    ensures short { result ≡ TOO_SHORT → HasTooFew tx_size tx_type stride x y (length coefficients.now) (length samples.old) }
-    // What is refused leaves the samples as they were.
-    ensures kept { result ≢ DONE → samples.new ≡ samples.old }
-    ensures known { (result ≡ DONE) ⊎ ((result ≡ BAD_SIZE) ⊎ ((result ≡ BAD_TYPE) ⊎ ((result ≡ BAD_AREA) ⊎ (result ≡ TOO_SHORT)))) }
+    ensures { AddsResidue false 8 tx_size tx_type stride x y coefficients.now samples.old samples.new result }
 {
     match block_of(
         tx_size,
@@ -242,22 +228,7 @@ pub fn av1_inverse_transform_add_16(
     tx_type: u8,
     bit_depth: usize,
 ) -> u32
-    // The arguments name a transform, and its residue is added.
-    ensures done { result ≡ DONE → (size : Size) × ((kind : Kind) × IsBlock tx_size tx_type stride x y (length coefficients.now) (length samples.old) size kind
-        × (IsDepth bit_depth × (AllFitDepth bit_depth size coefficients.now × (samples.new ≡ with_residue bit_depth stride x y size kind coefficients.now samples.old)))) }
-    // Nothing else is asked of them.
-    ensures asked { (size : Size) → (kind : Kind) → IsBlock tx_size tx_type stride x y (length coefficients.now) (length samples.old) size kind
-        → IsDepth bit_depth → AllFitDepth bit_depth size coefficients.now → result ≡ DONE }
-    // An argument is refused, the first one that has to be, and this is why.
-    ensures size { result ≡ BAD_SIZE → HasNoSize tx_size }
-    ensures kind { result ≡ BAD_TYPE → HasNoType tx_size tx_type }
-    ensures area { result ≡ BAD_AREA → HasNoRectangle tx_size tx_type stride x y (length samples.old) }
-    ensures short { result ≡ TOO_SHORT → HasTooFew tx_size tx_type stride x y (length coefficients.now) (length samples.old) }
-    ensures depth { result ≡ BAD_DEPTH → HasNoDepth bit_depth tx_size tx_type stride x y (length coefficients.now) (length samples.old) }
-    ensures coefficient { result ≡ BAD_COEFFICIENT → HasTooLarge bit_depth tx_size tx_type stride x y coefficients.now (length samples.old) }
-    // What is refused leaves the samples as they were.
-    ensures kept { result ≢ DONE → samples.new ≡ samples.old }
-    ensures known { (result ≡ DONE) ⊎ ((BAD_SIZE ≤ result) × (result ≤ BAD_COEFFICIENT)) }
+    ensures { AddsResidue true bit_depth tx_size tx_type stride x y coefficients.now samples.old samples.new result }
 {
     match deep_block_of(
         tx_size,

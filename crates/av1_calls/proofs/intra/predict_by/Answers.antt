@@ -1,4 +1,4 @@
-use Rattle.std.proofs.Common.{ℕ, ◌≡◌, ◌≢◌, ◌≤◌, true, ap, ◌∙◌, sym, subst, length, w16}
+use Rattle.std.proofs.Common.{ℕ, ◌≡◌, ◌≢◌, ◌≤◌, true, refl, inl, rules, ap, ◌∙◌, sym, subst, length, w16}
 use Rattle.std.proofs.lemmas.Int.{to_z-of_z}
 use Rattle.av1_blocks.specs.Modes.{is_directional, is_intra}
 use Rattle.av1_lists.specs.Sides.{IsTransformSide}
@@ -7,11 +7,8 @@ use Rattle.av1_frame.specs.declared.plane_region.StoredArea.{StoredArea}
 use Rattle.av1_intra.specs.Angles.{is_interpolated}
 use Rattle.av1_intra.specs.declared.directional.DirectionalBlock.{DirectionalBlock}
 use Rattle.av1_intra.proofs.ByMode.{effective_intra, tx_height_side, tx_width_side}
-use Rattle.av1_calls.specs.IntraBlocks.{HasNoDepth, HasShortSides, IsIntraBlock, IsIntraFault, LiesOutside, block_of, mode_in, variant_in}
-use Rattle.av1_calls.specs.declared.argument.BadArgument.TheVariants as bad
-use Rattle.av1_tile.proofs.WithinDepth.{deep}
-use Rattle.av1_calls.proofs.Blocks.{one_argument}
-use Rattle.av1_calls.proofs.IntraCalls.{long_for, predicted_so, turned_angle}
+use Rattle.av1_calls.specs.IntraBlocks.{IsIntraBlock, PredictsBy, block_of, mode_in, variant_in}
+use Rattle.av1_calls.proofs.IntraCalls.{least_depth, long_for, predicted_so, turned_angle}
 use Rattle.av1_calls.proofs.intra.predict_by.Goals as goal
 
 pub dispatch_predict_intra_to-requires : goal.dispatch_predict_intra_to-requires
@@ -35,40 +32,34 @@ dispatch_predict_intra_to-requires g c =
       above_long = long.above_long;
       left_long = long.left_long;
       ac_long = long.ac_long;
-      low = P (λ k. 8 ≤ k.bit_depth) (deep b.bit_depth f.found.depth.known);
+      low = P (λ k. 8 ≤ k.bit_depth) (least_depth b.bit_depth f.found.depth.known);
       high = P (λ k. k.bit_depth ≤ g.T.Pixel.BITS) (subst (λ n. b.bit_depth ≤ n) bits f.found.depth.fits);
     }
 
-pub returns-in-Ok-clause-done : goal.returns-in-Ok-clause-done
-returns-in-Ok-clause-done g c = λ _.
+pub returns-in-Ok : goal.returns-in-Ok
+returns-in-Ok g c =
     let a = c.args in
     let p = c.in-Ok.found in
-    let f = c.in-Ok.ensures in (
-      p.size,
-      (
-        subst (λ (n : ℕ). IsIntraBlock n a.block a.mode a.stride a.x a.y (length a.left.now) (length a.above.now) (length a.ac.now) (length a.samples.now) p.size) c.BITS.ensures f.found,
-        predicted_so g.T.Pixel.num g.T.Pixel.pixel a.block a.mode p.mode p.size a.stride a.x a.y a.left.now a.corner a.above.now a.ac.now a.alpha _ a.samples.now c.dispatch_predict_intra_to.new.samples p.area p.block p.variant f.area f.mode f.variant
-            f.block (to_z-of_z w16 a.alpha c.ranges.alpha) c.dispatch_predict_intra_to.ensures,
-      ),
-    )
+    let f = c.in-Ok.ensures in
+    let found = subst (λ (n : ℕ). IsIntraBlock n a.block a.mode a.stride a.x a.y (length a.left.now) (length a.above.now) (length a.ac.now) (length a.samples.now) p.size) c.BITS.ensures f.found in
+    let painted = predicted_so g.T.Pixel.num g.T.Pixel.pixel a.block a.mode p.mode p.size a.stride a.x a.y a.left.now a.corner a.above.now a.ac.now a.alpha _ a.samples.now c.dispatch_predict_intra_to.new.samples p.area p.block p.variant f.area f.mode f.variant
+    f.block (to_z-of_z w16 a.alpha c.ranges.alpha) c.dispatch_predict_intra_to.ensures in
+    record {
+      done = λ _. (p.size, (found, painted));
+      asked = λ _ _. refl;
+      size = λ e. cc;
+      angle = λ e. cc;
+      depth = λ e. cc;
+      area = λ e. cc;
+      short = λ e. cc;
+      kept = λ other. absurd (other refl);
+      known = inl refl;
+    }
 
-pub returns-in-Err-clause-depth : goal.returns-in-Err-clause-depth
-returns-in-Err-clause-depth g c = λ e.
+pub returns-in-Err : goal.returns-in-Err
+returns-in-Err g c =
     let a = c.args in
-    let is : c.in-Err.fault ≡ bad.Depth = one_argument c.in-Err.fault bad.Depth (sym c.status.ensures ∙ e) in
-    let fault = subst (IsIntraFault c.BITS.result a.block a.mode a.stride a.x a.y (length a.left.now) (length a.above.now) (length a.ac.now) (length a.samples.now)) is c.in-Err.ensures.fault in
-    subst (λ (n : ℕ). HasNoDepth n a.block a.mode) c.BITS.ensures fault
-
-pub returns-in-Err-clause-area : goal.returns-in-Err-clause-area
-returns-in-Err-clause-area g c = λ e.
-    let a = c.args in
-    let is : c.in-Err.fault ≡ bad.Area = one_argument c.in-Err.fault bad.Area (sym c.status.ensures ∙ e) in
-    let fault = subst (IsIntraFault c.BITS.result a.block a.mode a.stride a.x a.y (length a.left.now) (length a.above.now) (length a.ac.now) (length a.samples.now)) is c.in-Err.ensures.fault in
-    subst (λ (n : ℕ). LiesOutside n a.block a.mode a.stride a.x a.y (length a.samples.now)) c.BITS.ensures fault
-
-pub returns-in-Err-clause-short : goal.returns-in-Err-clause-short
-returns-in-Err-clause-short g c = λ e.
-    let a = c.args in
-    let is : c.in-Err.fault ≡ bad.Short = one_argument c.in-Err.fault bad.Short (sym c.status.ensures ∙ e) in
-    let fault = subst (IsIntraFault c.BITS.result a.block a.mode a.stride a.x a.y (length a.left.now) (length a.above.now) (length a.ac.now) (length a.samples.now)) is c.in-Err.ensures.fault in
-    subst (λ (n : ℕ). HasShortSides n a.block a.mode a.stride a.x a.y (length a.left.now) (length a.above.now) (length a.ac.now) (length a.samples.now)) c.BITS.ensures fault
+    let num = g.T.Pixel.num in
+    let pixel = g.T.Pixel.pixel in
+    let told : PredictsBy c.BITS.result num pixel a.block a.mode a.stride a.x a.y a.left.now a.corner a.above.now a.ac.now a.alpha a.samples.now a.samples.now c.status.result = search rules in
+    subst (λ (n : ℕ). PredictsBy n num pixel a.block a.mode a.stride a.x a.y a.left.now a.corner a.above.now a.ac.now a.alpha a.samples.now a.samples.now c.status.result) c.BITS.ensures told
