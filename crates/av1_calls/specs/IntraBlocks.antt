@@ -115,24 +115,32 @@ HasShortSides bits b mode stride x y left above ac samples =
 -- ---- what the calls say: samples of at most so many bits were `before` and are `after`, and `answer` is the status
 
 -- Of a block that is predicted by this mode.
-pub record PredictsBy {T : Type 0} (bits : ℕ) (num : T → ℕ) (pixel : ℕ → T) (block : IntraBlock) (by : PredictionMode) (stride x y : ℕ) (left : List T) (corner : T) (above : List T) (ac : List ℤ) (alpha : ℤ) (before after : List T) (answer : ℕ) : Type 0 where
+pub record PredictsBy {T : Type 0} (bits : ℕ) (num : T → ℕ) (pixel : ℕ → T) (block : IntraBlock) (by : PredictionMode)
+    (stride x y : ℕ) (left : List T) (corner : T) (above : List T) (ac : List ℤ) (alpha : ℤ) (before after : List T)
+    (answer : ℕ) : Type 0 where
   -- The arguments name a block, and its samples are those of its mode.
-  pub done : answer ≡ DONE → (size : TxSize) × (IsIntraBlock bits block by stride x y (length left) (length above) (length ac) (length before) size
+  pub done : answer ≡ DONE → (size : TxSize)
+      × (IsIntraBlock bits block by stride x y (length left) (length above) (length ac) (length before) size
       × (after ≡ with_prediction num pixel block by stride x y size left corner above ac alpha before))
   -- Nothing else is asked of them.
-  pub asked : (size : TxSize) → IsIntraBlock bits block by stride x y (length left) (length above) (length ac) (length before) size → answer ≡ DONE
+  pub asked : (size : TxSize)
+      → IsIntraBlock bits block by stride x y (length left) (length above) (length ac) (length before) size
+      → answer ≡ DONE
   -- An argument is refused, the first one that has to be, and this is why.
   pub size : answer ≡ BAD_SIZE → HasNoSize block.tx_size
   pub angle : answer ≡ BAD_ANGLE → HasNoAngle block by
   pub depth : answer ≡ BAD_DEPTH → HasNoDepth bits block by
   pub area : answer ≡ BAD_AREA → LiesOutside bits block by stride x y (length before)
-  pub short : answer ≡ TOO_SHORT → HasShortSides bits block by stride x y (length left) (length above) (length ac) (length before)
+  pub short : answer ≡ TOO_SHORT
+      → HasShortSides bits block by stride x y (length left) (length above) (length ac) (length before)
   -- What is refused leaves the samples as they were.
   pub kept : answer ≢ DONE → after ≡ before
-  pub known : (answer ≡ DONE) ⊎ ((answer ≡ BAD_SIZE) ⊎ ((answer ≡ BAD_ANGLE) ⊎ ((answer ≡ BAD_DEPTH) ⊎ ((answer ≡ BAD_AREA) ⊎ (answer ≡ TOO_SHORT)))))
+  pub known : (answer ≡ DONE) ⊎ ((answer ≡ BAD_SIZE) ⊎ ((answer ≡ BAD_ANGLE) ⊎ ((answer ≡ BAD_DEPTH)
+      ⊎ ((answer ≡ BAD_AREA) ⊎ (answer ≡ TOO_SHORT)))))
 
 -- Of a block that is predicted by the mode of its number.
-pub record Predicts {T : Type 0} (bits : ℕ) (num : T → ℕ) (pixel : ℕ → T) (block : IntraBlock) (stride x y : ℕ) (left : List T) (corner : T) (above : List T) (before after : List T) (answer : ℕ) : Type 0 where
+pub record Predicts {T : Type 0} (bits : ℕ) (num : T → ℕ) (pixel : ℕ → T) (block : IntraBlock) (stride x y : ℕ)
+    (left : List T) (corner : T) (above : List T) (before after : List T) (answer : ℕ) : Type 0 where
   -- The arguments name a mode and a block, and its samples are those of its mode.
   pub done : answer ≡ DONE → (by : PredictionMode) × ((size : TxSize) × (IsIntraMode block.mode by
       × (IsIntraBlock bits block by stride x y (length left) (length above) 0 (length before) size
@@ -145,12 +153,14 @@ pub record Predicts {T : Type 0} (bits : ℕ) (num : T → ℕ) (pixel : ℕ →
   pub size : answer ≡ BAD_SIZE → (by : PredictionMode) × (IsIntraMode block.mode by × HasNoSize block.tx_size)
   pub angle : answer ≡ BAD_ANGLE → (by : PredictionMode) × (IsIntraMode block.mode by × HasNoAngle block by)
   pub depth : answer ≡ BAD_DEPTH → (by : PredictionMode) × (IsIntraMode block.mode by × HasNoDepth bits block by)
-  pub area : answer ≡ BAD_AREA → (by : PredictionMode) × (IsIntraMode block.mode by × LiesOutside bits block by stride x y (length before))
+  pub area : answer ≡ BAD_AREA → (by : PredictionMode)
+      × (IsIntraMode block.mode by × LiesOutside bits block by stride x y (length before))
   pub short : answer ≡ TOO_SHORT → (by : PredictionMode) × (IsIntraMode block.mode by
       × HasShortSides bits block by stride x y (length left) (length above) 0 (length before))
   -- What is refused leaves the samples as they were.
   pub kept : answer ≢ DONE → after ≡ before
-  pub known : (answer ≡ DONE) ⊎ ((answer ≡ BAD_MODE) ⊎ ((answer ≡ BAD_SIZE) ⊎ ((answer ≡ BAD_ANGLE) ⊎ ((answer ≡ BAD_DEPTH) ⊎ ((answer ≡ BAD_AREA) ⊎ (answer ≡ TOO_SHORT))))))
+  pub known : (answer ≡ DONE) ⊎ ((answer ≡ BAD_MODE) ⊎ ((answer ≡ BAD_SIZE) ⊎ ((answer ≡ BAD_ANGLE)
+      ⊎ ((answer ≡ BAD_DEPTH) ⊎ ((answer ≡ BAD_AREA) ⊎ (answer ≡ TOO_SHORT))))))
 
 -- ---- why nothing is written: words of private contracts
 

@@ -141,12 +141,15 @@ HasNoPlace bits p b samples =
 -- ---- what the calls say
 
 -- Of the edge of a transform: what its room held `before` and holds `after`, where samples have at most so many bits. `answer` is the status.
-pub record PreparesEdge {T : Type 0} (bits : ℕ) (num : T → ℕ) (plane : EdgePlane) (at : EdgeBlock) (samples before after : List T) (answer : ℕ) : Type 0 where
+pub record PreparesEdge {T : Type 0} (bits : ℕ) (num : T → ℕ) (plane : EdgePlane) (at : EdgeBlock)
+    (samples before after : List T) (answer : ℕ) : Type 0 where
   -- The arguments name a transform in a tile, and the room holds the edge that is prepared there.
-  pub done : answer ≡ DONE → (mode : Option PredictionMode) × ((size : TxSize) × ((block : BlockSize) × (IsEdge bits plane at (length samples) (length before) mode size block
+  pub done : answer ≡ DONE → (mode : Option PredictionMode) × ((size : TxSize) × ((block : BlockSize)
+      × (IsEdge bits plane at (length samples) (length before) mode size block
       × ((r : PlaneRegion T) × (IsTile r plane samples × HoldsEdge num (edge_in num r at mode size block) after)))))
   -- Nothing else is asked of them.
-  pub asked : (mode : Option PredictionMode) → (size : TxSize) → (block : BlockSize) → IsEdge bits plane at (length samples) (length before) mode size block → answer ≡ DONE
+  pub asked : (mode : Option PredictionMode) → (size : TxSize) → (block : BlockSize)
+      → IsEdge bits plane at (length samples) (length before) mode size block → answer ≡ DONE
   -- An argument is refused, the first one that has to be, and this is why.
   pub room : answer ≡ ROOM_TOO_SMALL → length before < EDGE_SAMPLES
   pub mode : answer ≡ BAD_MODE → (EDGE_SAMPLES ≤ length before) × HasNoEdgeMode at.mode
@@ -157,7 +160,8 @@ pub record PreparesEdge {T : Type 0} (bits : ℕ) (num : T → ℕ) (plane : Edg
   -- What stands behind the edge stays, and what is refused writes nothing.
   pub rest : drop EDGE_SAMPLES after ≡ drop EDGE_SAMPLES before
   pub kept : answer ≢ DONE → after ≡ before
-  pub known : (answer ≡ DONE) ⊎ ((answer ≡ ROOM_TOO_SMALL) ⊎ ((answer ≡ BAD_MODE) ⊎ ((answer ≡ BAD_SIZE) ⊎ ((answer ≡ BAD_ANGLE) ⊎ ((answer ≡ BAD_DEPTH) ⊎ (answer ≡ BAD_AREA))))))
+  pub known : (answer ≡ DONE) ⊎ ((answer ≡ ROOM_TOO_SMALL) ⊎ ((answer ≡ BAD_MODE) ⊎ ((answer ≡ BAD_SIZE)
+      ⊎ ((answer ≡ BAD_ANGLE) ⊎ ((answer ≡ BAD_DEPTH) ⊎ (answer ≡ BAD_AREA))))))
 
 -- ---- why nothing is written: words of private contracts
 

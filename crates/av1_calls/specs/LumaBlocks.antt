@@ -104,10 +104,12 @@ HasDeepLuma depth b stride x y ac samples =
 -- ---- what the calls say
 
 -- Of luma's differences, which were `before` and are `after`, at this depth. `answer` is the status.
-pub record GivesDifferences (wide : Bool) (bit_depth : ℕ) (block : CflBlock) (stride x y : ℕ) (luma : List ℕ) (before after : List ℤ) (answer : ℕ) : Type 0 where
+pub record GivesDifferences (wide : Bool) (bit_depth : ℕ) (block : CflBlock) (stride x y : ℕ) (luma : List ℕ)
+    (before after : List ℤ) (answer : ℕ) : Type 0 where
   -- The arguments name a block, and the differences are those of its luma.
   pub done : answer ≡ DONE → (size : BlockSize) × (IsCflBlock block stride x y (length before) (length luma) size
-      × (IfWide wide (IsLumaOfDepth bit_depth block stride x y luma size) × (after ≡ with_differences block size stride x y luma before)))
+      × (IfWide wide (IsLumaOfDepth bit_depth block stride x y luma size)
+      × (after ≡ with_differences block size stride x y luma before)))
   -- Nothing else is asked of them.
   pub asked : (size : BlockSize) → IsCflBlock block stride x y (length before) (length luma) size
       → IfWide wide (IsLumaOfDepth bit_depth block stride x y luma size) → answer ≡ DONE
@@ -117,11 +119,13 @@ pub record GivesDifferences (wide : Bool) (bit_depth : ℕ) (block : CflBlock) (
   pub pad : answer ≡ BAD_PAD → HasNoLuma block
   pub area : answer ≡ BAD_AREA → LumaLiesOutside block stride x y (length luma)
   pub short : answer ≡ TOO_SHORT → HasFewDifferences block stride x y (length before) (length luma)
-  pub depth : answer ≡ BAD_DEPTH → OnlyWide wide (HasNoLumaDepth bit_depth block stride x y (length before) (length luma))
+  pub depth : answer ≡ BAD_DEPTH
+      → OnlyWide wide (HasNoLumaDepth bit_depth block stride x y (length before) (length luma))
   pub sample : answer ≡ BAD_SAMPLE → OnlyWide wide (HasDeepLuma bit_depth block stride x y (length before) luma)
   -- What is refused leaves the differences as they were.
   pub kept : answer ≢ DONE → after ≡ before
-  pub known : (answer ≡ DONE) ⊎ ((answer ≡ BAD_SIZE) ⊎ ((answer ≡ BAD_SAMPLING) ⊎ ((answer ≡ BAD_PAD) ⊎ ((answer ≡ BAD_AREA) ⊎ ((answer ≡ TOO_SHORT)
+  pub known : (answer ≡ DONE) ⊎ ((answer ≡ BAD_SIZE) ⊎ ((answer ≡ BAD_SAMPLING) ⊎ ((answer ≡ BAD_PAD)
+      ⊎ ((answer ≡ BAD_AREA) ⊎ ((answer ≡ TOO_SHORT)
       ⊎ OnlyWide wide ((answer ≡ BAD_DEPTH) ⊎ (answer ≡ BAD_SAMPLE)))))))
 
 -- ---- why nothing is written: words of private contracts

@@ -156,65 +156,81 @@ HasFewOfTwo to room width height first second =
 -- the statuses of the calls
 abbrev pub IsPutStatus : (wide : Bool) → ℕ → Type 0
 IsPutStatus wide status =
-    (status ≡ DONE) ⊎ ((status ≡ BAD_SIZE) ⊎ ((status ≡ BAD_MODE) ⊎ ((status ≡ BAD_FRACTION) ⊎ ((status ≡ BAD_AREA) ⊎ OnlyWide wide ((status ≡ BAD_DEPTH) ⊎ (status ≡ BAD_SAMPLE))))))
+    (status ≡ DONE) ⊎ ((status ≡ BAD_SIZE) ⊎ ((status ≡ BAD_MODE) ⊎ ((status ≡ BAD_FRACTION) ⊎ ((status ≡ BAD_AREA)
+    ⊎ OnlyWide wide ((status ≡ BAD_DEPTH) ⊎ (status ≡ BAD_SAMPLE))))))
 
 abbrev pub IsPrepStatus : (wide : Bool) → ℕ → Type 0
 IsPrepStatus wide status = IsPutStatus wide status ⊎ (status ≡ TOO_SHORT)
 
 abbrev pub IsAverageStatus : (wide : Bool) → ℕ → Type 0
-IsAverageStatus wide status = (status ≡ DONE) ⊎ ((status ≡ BAD_SIZE) ⊎ ((status ≡ BAD_AREA) ⊎ ((status ≡ TOO_SHORT) ⊎ OnlyWide wide (status ≡ BAD_DEPTH))))
+IsAverageStatus wide status =
+    (status ≡ DONE) ⊎ ((status ≡ BAD_SIZE) ⊎ ((status ≡ BAD_AREA) ⊎ ((status ≡ TOO_SHORT) ⊎ OnlyWide wide (status ≡ BAD_DEPTH))))
 
 -- ---- what the calls say: what was `before` them is `after` them as it is told here, and `answer` is their status
 
 -- Of a block that is predicted from a reference, at this depth.
-pub record Puts (wide : Bool) (bit_depth : ℕ) (to from : Place) (block : MotionBlock) (src before after : List ℕ) (answer : ℕ) : Type 0 where
+pub record Puts (wide : Bool) (bit_depth : ℕ) (to from : Place) (block : MotionBlock) (src before after : List ℕ)
+    (answer : ℕ) : Type 0 where
   -- The block can be read, its rectangle can be written, and it holds the block.
-  pub done : answer ≡ DONE → IsPut to (length before) from (length src) block × (IfWide wide (AreOfDepth bit_depth from src block)
+  pub done : answer ≡ DONE → IsPut to (length before) from (length src) block
+      × (IfWide wide (AreOfDepth bit_depth from src block)
       × (after ≡ with_block bit_depth to block (source_at from src) before))
   -- Nothing else is asked of the arguments.
-  pub asked : IsPut to (length before) from (length src) block → IfWide wide (AreOfDepth bit_depth from src block) → answer ≡ DONE
+  pub asked : IsPut to (length before) from (length src) block → IfWide wide (AreOfDepth bit_depth from src block)
+      → answer ≡ DONE
   -- An argument is refused, the first one that has to be, and this is why.
   pub size : answer ≡ BAD_SIZE → ¬ AreSides block.width block.height
   pub mode : answer ≡ BAD_MODE → HasNoFilters block
   pub fraction : answer ≡ BAD_FRACTION → HasNoFractions block
   pub area : answer ≡ BAD_AREA → HasNoPlace to (length before) from (length src) block
-  pub depth : answer ≡ BAD_DEPTH → OnlyWide wide (IsPut to (length before) from (length src) block × (¬ IsDepth bit_depth))
-  pub sample : answer ≡ BAD_SAMPLE → OnlyWide wide (IsPut to (length before) from (length src) block × HasDeepSample bit_depth from src block)
+  pub depth : answer ≡ BAD_DEPTH
+      → OnlyWide wide (IsPut to (length before) from (length src) block × (¬ IsDepth bit_depth))
+  pub sample : answer ≡ BAD_SAMPLE
+      → OnlyWide wide (IsPut to (length before) from (length src) block × HasDeepSample bit_depth from src block)
   -- What is refused leaves the samples as they were.
   pub kept : answer ≢ DONE → after ≡ before
   pub known : IsPutStatus wide answer
 
 -- Of a block that is prepared from a reference, at this depth.
-pub record Prepares (wide : Bool) (bit_depth : ℕ) (from : Place) (block : MotionBlock) (src : List ℕ) (before after : List ℤ) (answer : ℕ) : Type 0 where
+pub record Prepares (wide : Bool) (bit_depth : ℕ) (from : Place) (block : MotionBlock) (src : List ℕ)
+    (before after : List ℤ) (answer : ℕ) : Type 0 where
   -- The block can be read, and its values stand at the front.
-  pub done : answer ≡ DONE → IsPrep (length before) from (length src) block × (IfWide wide (AreOfDepth bit_depth from src block)
+  pub done : answer ≡ DONE → IsPrep (length before) from (length src) block
+      × (IfWide wide (AreOfDepth bit_depth from src block)
       × HoldBlock bit_depth block (source_at from src) before after)
   -- Nothing else is asked of the arguments.
-  pub asked : IsPrep (length before) from (length src) block → IfWide wide (AreOfDepth bit_depth from src block) → answer ≡ DONE
+  pub asked : IsPrep (length before) from (length src) block → IfWide wide (AreOfDepth bit_depth from src block)
+      → answer ≡ DONE
   -- An argument is refused, the first one that has to be, and this is why.
   pub size : answer ≡ BAD_SIZE → ¬ AreSides block.width block.height
   pub mode : answer ≡ BAD_MODE → HasNoFilters block
   pub fraction : answer ≡ BAD_FRACTION → HasNoFractions block
   pub area : answer ≡ BAD_AREA → HasNoSource from block (length src)
   pub short : answer ≡ TOO_SHORT → HasFewValues (length before) from (length src) block
-  pub depth : answer ≡ BAD_DEPTH → OnlyWide wide (IsPrep (length before) from (length src) block × (¬ IsDepth bit_depth))
-  pub sample : answer ≡ BAD_SAMPLE → OnlyWide wide (IsPrep (length before) from (length src) block × HasDeepSample bit_depth from src block)
+  pub depth : answer ≡ BAD_DEPTH
+      → OnlyWide wide (IsPrep (length before) from (length src) block × (¬ IsDepth bit_depth))
+  pub sample : answer ≡ BAD_SAMPLE
+      → OnlyWide wide (IsPrep (length before) from (length src) block × HasDeepSample bit_depth from src block)
   -- What is refused leaves the values as they were.
   pub kept : answer ≢ DONE → after ≡ before
   pub known : IsPrepStatus wide answer
 
 -- Of two prepared blocks that are averaged, at this depth.
-pub record Averages (wide : Bool) (bit_depth : ℕ) (to : Place) (width height : ℕ) (first second : List ℤ) (before after : List ℕ) (answer : ℕ) : Type 0 where
+pub record Averages (wide : Bool) (bit_depth : ℕ) (to : Place) (width height : ℕ) (first second : List ℤ)
+    (before after : List ℕ) (answer : ℕ) : Type 0 where
   -- The rectangle can be written, and holds the averages.
-  pub done : answer ≡ DONE → IsAverage to (length before) width height (length first) (length second) × (IfWide wide (IsDepth bit_depth)
+  pub done : answer ≡ DONE → IsAverage to (length before) width height (length first) (length second)
+      × (IfWide wide (IsDepth bit_depth)
       × (after ≡ with_average bit_depth to width height first second before))
   -- Nothing else is asked of the arguments.
-  pub asked : IsAverage to (length before) width height (length first) (length second) → IfWide wide (IsDepth bit_depth) → answer ≡ DONE
+  pub asked : IsAverage to (length before) width height (length first) (length second) → IfWide wide (IsDepth bit_depth)
+      → answer ≡ DONE
   -- An argument is refused, the first one that has to be, and this is why.
   pub size : answer ≡ BAD_SIZE → ¬ AreSides width height
   pub area : answer ≡ BAD_AREA → LiesNowhere to (length before) width height
   pub short : answer ≡ TOO_SHORT → HasFewOfTwo to (length before) width height (length first) (length second)
-  pub depth : answer ≡ BAD_DEPTH → OnlyWide wide (IsAverage to (length before) width height (length first) (length second) × (¬ IsDepth bit_depth))
+  pub depth : answer ≡ BAD_DEPTH
+      → OnlyWide wide (IsAverage to (length before) width height (length first) (length second) × (¬ IsDepth bit_depth))
   -- What is refused leaves the samples as they were.
   pub kept : answer ≢ DONE → after ≡ before
   pub known : IsAverageStatus wide answer

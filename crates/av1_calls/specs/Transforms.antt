@@ -85,20 +85,26 @@ HasTooLarge depth size_number type_number stride x y coefficients samples =
 -- ---- what the calls say
 
 -- Of a residue that is added to samples at this depth: they were `before` and are `after`, and `answer` is the status.
-pub record AddsResidue (wide : Bool) (bit_depth size_number type_number stride x y : ℕ) (coefficients : List ℤ) (before after : List ℕ) (answer : ℕ) : Type 0 where
+pub record AddsResidue (wide : Bool) (bit_depth size_number type_number stride x y : ℕ) (coefficients : List ℤ)
+    (before after : List ℕ) (answer : ℕ) : Type 0 where
   -- The arguments name a transform, and its residue is added.
-  pub done : answer ≡ DONE → (size : TxSize) × ((type : TxType) × (IsBlock size_number type_number stride x y (length coefficients) (length before) size type
-      × (IfWide wide (AreOfDepth bit_depth size coefficients) × (after ≡ with_residue bit_depth stride x y size type coefficients before))))
+  pub done : answer ≡ DONE → (size : TxSize) × ((type : TxType)
+      × (IsBlock size_number type_number stride x y (length coefficients) (length before) size type
+      × (IfWide wide (AreOfDepth bit_depth size coefficients)
+      × (after ≡ with_residue bit_depth stride x y size type coefficients before))))
   -- Nothing else is asked of them.
-  pub asked : (size : TxSize) → (type : TxType) → IsBlock size_number type_number stride x y (length coefficients) (length before) size type
+  pub asked : (size : TxSize) → (type : TxType)
+      → IsBlock size_number type_number stride x y (length coefficients) (length before) size type
       → IfWide wide (AreOfDepth bit_depth size coefficients) → answer ≡ DONE
   -- An argument is refused, the first one that has to be, and this is why.
   pub size : answer ≡ BAD_SIZE → HasNoSize size_number
   pub kind : answer ≡ BAD_TYPE → HasNoType size_number type_number
   pub area : answer ≡ BAD_AREA → HasNoRectangle size_number type_number stride x y (length before)
   pub short : answer ≡ TOO_SHORT → HasTooFew size_number type_number stride x y (length coefficients) (length before)
-  pub depth : answer ≡ BAD_DEPTH → OnlyWide wide (HasNoDepth bit_depth size_number type_number stride x y (length coefficients) (length before))
-  pub coefficient : answer ≡ BAD_COEFFICIENT → OnlyWide wide (HasTooLarge bit_depth size_number type_number stride x y coefficients (length before))
+  pub depth : answer ≡ BAD_DEPTH
+      → OnlyWide wide (HasNoDepth bit_depth size_number type_number stride x y (length coefficients) (length before))
+  pub coefficient : answer ≡ BAD_COEFFICIENT
+      → OnlyWide wide (HasTooLarge bit_depth size_number type_number stride x y coefficients (length before))
   -- What is refused leaves the samples as they were.
   pub kept : answer ≢ DONE → after ≡ before
   pub known : (answer ≡ DONE) ⊎ ((answer ≡ BAD_SIZE) ⊎ ((answer ≡ BAD_TYPE) ⊎ ((answer ≡ BAD_AREA) ⊎ ((answer ≡ TOO_SHORT)

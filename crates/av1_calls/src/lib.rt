@@ -28,6 +28,7 @@ mod status;
 mod transform_add;
 
 pub use argument::filter_mode;
+pub use av1_itx::TxRoom;
 pub use intra::{
     IntraBlock, av1_predict_cfl_8, av1_predict_cfl_16, av1_predict_intra_8, av1_predict_intra_16,
 };
@@ -43,5 +44,4 @@ pub use status::{
     BAD_ANGLE, BAD_AREA, BAD_COEFFICIENT, BAD_DEPTH, BAD_FRACTION, BAD_MODE, BAD_PAD, BAD_SAMPLE,
     BAD_SAMPLING, BAD_SIZE, BAD_TYPE, DONE, ROOM_TOO_SMALL, TOO_SHORT,
 };
-pub use av1_itx::TxRoom;
 pub use transform_add::{av1_inverse_transform_add_8, av1_inverse_transform_add_16};
