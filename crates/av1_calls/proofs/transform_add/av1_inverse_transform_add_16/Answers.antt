@@ -1,4 +1,4 @@
-use Rattle.std.proofs.Common.{ℕ, ℤ, List, pos, tt, ◌+ℤ◌, ◌∙◌, ap}
+use Rattle.std.proofs.Common.{ℕ, ℤ, List, pos, ◌+ℤ◌, ◌∙◌, ap}
 use Rattle.std.proofs.lemmas.List.{map-id}
 use Rattle.av1_frame.specs.Arithmetic.{clip}
 use Rattle.av1_frame.specs.Samples.{paint}
