@@ -7,7 +7,11 @@ use Rattle.av1_frame.specs.declared.plane_region.StoredArea.{StoredArea}
 use Rattle.av1_intra.specs.Angles.{is_interpolated}
 use Rattle.av1_intra.specs.declared.directional.DirectionalBlock.{DirectionalBlock}
 use Rattle.av1_intra.proofs.ByMode.{effective_intra, tx_height_side, tx_width_side}
-use Rattle.av1_calls.specs.IntraBlocks.{IsIntraBlock, PredictsBy, block_of, mode_in, variant_in}
+use Rattle.av1_calls.specs.IntraBlocks.{HasNoDepth, HasShortSides, IsIntraBlock, IsIntraFault, LiesOutside, block_of, mode_in, variant_in}
+use Rattle.av1_calls.specs.Arguments.{argument_status}
+use Rattle.av1_calls.specs.declared.argument.BadArgument.{BadArgument}
+use Rattle.av1_calls.specs.declared.argument.BadArgument.TheVariants as bad
+use Rattle.av1_calls.proofs.Blocks.{one_argument}
 use Rattle.av1_calls.proofs.IntraCalls.{least_depth, long_for, predicted_so, turned_angle}
 use Rattle.av1_calls.proofs.intra.predict_by.Goals as goal
 
@@ -59,7 +63,18 @@ returns-in-Ok g c =
 pub returns-in-Err : goal.returns-in-Err
 returns-in-Err g c =
     let a = c.args in
-    let num = g.T.Pixel.num in
-    let pixel = g.T.Pixel.pixel in
-    let told : PredictsBy c.BITS.result num pixel a.block a.mode a.stride a.x a.y a.left.now a.corner a.above.now a.ac.now a.alpha a.samples.now a.samples.now c.status.result = search rules in
-    subst (λ (n : ℕ). PredictsBy n num pixel a.block a.mode a.stride a.x a.y a.left.now a.corner a.above.now a.ac.now a.alpha a.samples.now a.samples.now c.status.result) c.BITS.ensures told
+    let bits = c.BITS.ensures in
+    let fault = c.in-Err.ensures.fault in
+    let is = λ (other : BadArgument) (e : c.status.result ≡ argument_status other). one_argument c.in-Err.fault other (sym c.status.ensures ∙ e) in
+    let Told = IsIntraFault c.BITS.result a.block a.mode a.stride a.x a.y (length a.left.now) (length a.above.now) (length a.ac.now) (length a.samples.now) in
+    record {
+      done = search rules;
+      asked = search rules;
+      size = λ e. subst Told (is bad.Size e) fault;
+      angle = λ e. subst Told (is bad.Angle e) fault;
+      depth = λ e. subst (λ (n : ℕ). HasNoDepth n a.block a.mode) bits (subst Told (is bad.Depth e) fault);
+      area = λ e. subst (λ (n : ℕ). LiesOutside n a.block a.mode a.stride a.x a.y (length a.samples.now)) bits (subst Told (is bad.Area e) fault);
+      short = λ e. subst (λ (n : ℕ). HasShortSides n a.block a.mode a.stride a.x a.y (length a.left.now) (length a.above.now) (length a.ac.now) (length a.samples.now)) bits (subst Told (is bad.Short e) fault);
+      kept = λ _. refl;
+      known = search rules;
+    }
