@@ -9,7 +9,7 @@ ghost use Rattle.av1_calls.specs.Arguments.{rectangle};
 ghost use Rattle.av1_calls.specs.IntraBlocks.{Predicts, PredictsBy, AreLong, AreSidesLong, HasNoMode, IsDepthWithin, IsIntraBlock, IsIntraFault, IsIntraMode, IsTurn, block_of, filter_of, mode_in, variant_in};
 
 use crate::argument::{BadArgument, are_rows};
-use crate::status::{BAD_ANGLE, BAD_AREA, BAD_DEPTH, BAD_MODE, BAD_SIZE, DONE, TOO_SHORT};
+use crate::status::{BAD_MODE, DONE};
 use av1_blocks::{IntraParam, PredictionMode, TxSize};
 use av1_edges::effective;
 use av1_frame::{Pixel, StoredArea};

@@ -12,7 +12,7 @@ ghost use Rattle.av1_calls.specs.Arguments.{IsSize};
 
 use crate::argument::{BadArgument, are_rows};
 use crate::intra::{is_depth_within, is_turn};
-use crate::status::{BAD_ANGLE, BAD_AREA, BAD_DEPTH, BAD_MODE, BAD_SIZE, DONE, ROOM_TOO_SMALL};
+use crate::status::{BAD_AREA, DONE, ROOM_TOO_SMALL};
 use av1_blocks::{BlockSize, IntraParam, PredictionMode, TxSize};
 use av1_edges::get_intra_edges_to;
 use av1_frame::{

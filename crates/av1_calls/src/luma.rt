@@ -12,9 +12,7 @@ ghost use Rattle.av1_calls.specs.Samples.{AreBelow};
 
 use crate::argument::{BadArgument, are_rows, is_depth};
 use crate::samples::{are_within, have_8_bits};
-use crate::status::{
-    BAD_AREA, BAD_DEPTH, BAD_PAD, BAD_SAMPLE, BAD_SAMPLING, BAD_SIZE, DONE, TOO_SHORT,
-};
+use crate::status::DONE;
 use av1_blocks::BlockSize;
 use av1_frame::{Pixel, PlaneConfig, PlaneRegion, StoredArea, visible_area};
 use av1_intra::rust::pred_cfl_ac;

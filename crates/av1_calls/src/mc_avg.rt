@@ -7,7 +7,7 @@ ghost use Rattle.av1_calls.specs.Motions.{Averages, IsAverage, IsDeepAverageFaul
 
 use crate::argument::{BadArgument, is_depth};
 use crate::motion::{Place, rectangle_at, test_average};
-use crate::status::{BAD_AREA, BAD_DEPTH, BAD_SIZE, DONE, TOO_SHORT};
+use crate::status::DONE;
 use av1_inter::mc_avg_to;
 
 /// The tests of an average at a depth.

@@ -7,9 +7,7 @@ ghost use Rattle.av1_calls.specs.Motions.{Prepares, AreOfDepth, HoldBlock, IsDee
 use crate::argument::{BadArgument, filter_mode};
 use crate::motion::{MotionBlock, Place, config_of, rows_of, test_prep, test_samples};
 use crate::samples::have_8_bits;
-use crate::status::{
-    BAD_AREA, BAD_DEPTH, BAD_FRACTION, BAD_MODE, BAD_SAMPLE, BAD_SIZE, DONE, TOO_SHORT,
-};
+use crate::status::DONE;
 use av1_frame::{Pixel, PlaneOffset, PlaneSlice};
 use av1_inter::prep_8tap;
 

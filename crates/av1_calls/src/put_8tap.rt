@@ -8,7 +8,7 @@ ghost use Rattle.av1_calls.specs.Motions.{Puts, AreOfDepth, IsDeepPutFault, IsPu
 use crate::argument::{BadArgument, filter_mode};
 use crate::motion::{MotionBlock, Place, config_of, rectangle_at, rows_of, test_put, test_samples};
 use crate::samples::have_8_bits;
-use crate::status::{BAD_AREA, BAD_DEPTH, BAD_FRACTION, BAD_MODE, BAD_SAMPLE, BAD_SIZE, DONE};
+use crate::status::DONE;
 use av1_frame::{Pixel, PlaneOffset, PlaneSlice};
 use av1_inter::put_8tap_to;
 

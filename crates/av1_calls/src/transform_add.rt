@@ -6,7 +6,7 @@ ghost use Rattle.av1_calls.specs.Arguments.{rectangle};
 ghost use Rattle.av1_calls.specs.Transforms.{AddsResidue, AllFitDepth, IsBlock, IsBlockFault, IsDeepFault, IsRunnable};
 
 use crate::argument::{BadArgument, are_rows, area_of, is_depth};
-use crate::status::{BAD_AREA, BAD_COEFFICIENT, BAD_DEPTH, BAD_SIZE, BAD_TYPE, DONE, TOO_SHORT};
+use crate::status::DONE;
 use av1_blocks::{TxSize, TxType, valid_av1_transform};
 use av1_frame::StoredArea;
 use av1_itx::{TxRoom, inverse_transform_add_in};

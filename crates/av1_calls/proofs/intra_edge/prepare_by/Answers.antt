@@ -1,4 +1,4 @@
-use Rattle.std.proofs.Common.{ℕ, ◌≡◌, ◌≤◌, ◌++◌, true, false, refl, inl, rules, arith, tests, ap, sym, ◌∙◌, drop, length, subst}
+use Rattle.std.proofs.Common.{ℕ, ◌≡◌, ◌≤◌, ◌++◌, true, false, refl, inl, rules, arith, tests, ap, ◌∙◌, drop, length, subst}
 use Rattle.std.proofs.lemmas.Slice.{drop-append-drop}
 use Rattle.av1_calls.specs.IntraBlocks.{IsDepthWithin}
 use Rattle.av1_calls.specs.IntraEdges.{BeginsIn, HasNoPlace, IsEdge, LiesIn, PreparesEdge, edge_in}
