@@ -1,4 +1,4 @@
-//! All that the program does.
+//! All that the tools do.
 ghost use Rattle.std.specs.Prelude.{◌≡◌, ◌↔◌, ℕ, Result, Some, None, map, string_bytes};
 ghost use Rattle.av1_planwrite.specs.Bare.{bare_text};
 ghost use Rattle.av1_recon.specs.Answers.{Says, line_of as plan_line_of, status_of as plan_status_of};
@@ -12,11 +12,11 @@ ghost use Rattle.av1_tiles.specs.Tasks.{cause_of as tiles_cause, tiles_task};
 ghost use Rattle.av1_trace.specs.declared.error.TraceError.{TraceError};
 ghost use Rattle.av1_trace.specs.Answers.{error_line as trace_line};
 ghost use Rattle.av1_trace.specs.Checking.{cause as trace_cause, trace_task};
-ghost use Rattle.av1_tools.specs.Answers.{sequence_line, tiles_line, trace_done, usage};
-ghost use Rattle.av1_tools.specs.Ends.{IsSuccess};
-ghost use Rattle.av1_tools.specs.EndsInTurn.{EndsInTurn};
-ghost use Rattle.av1_tools.specs.Tools.{tool_of};
-ghost use Rattle.av1_tools.specs.declared.tool.Tool.TheVariants.{Tiles, Trace, Sequence, Bare};
+ghost use Rattle.av1_toolbox.specs.Answers.{sequence_line, tiles_line, trace_done, usage};
+ghost use Rattle.av1_toolbox.specs.Ends.{IsSuccess};
+ghost use Rattle.av1_toolbox.specs.EndsInTurn.{EndsInTurn};
+ghost use Rattle.av1_toolbox.specs.Tools.{tool_of};
+ghost use Rattle.av1_toolbox.specs.declared.tool.Tool.TheVariants.{Tiles, Trace, Sequence, Bare};
 
 use crate::answer::{report_sequence, report_tiles, report_trace};
 use crate::tool::Tool;

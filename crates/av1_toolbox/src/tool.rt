@@ -1,8 +1,8 @@
 //! The tools, and their names.
 ghost use Rattle.std.specs.Prelude.{◌≡◌, map, string_bytes};
-ghost use Rattle.av1_tools.specs.Tools.{named, tool_of};
+ghost use Rattle.av1_toolbox.specs.Tools.{named, tool_of};
 
-/// What the program does with the bytes that it reads.
+/// What is done with the bytes that are read.
 #[derive(Clone, Copy, Debug, PartialEq, Eq)]
 pub enum Tool {
     /// Reconstructs a grid of tiles.

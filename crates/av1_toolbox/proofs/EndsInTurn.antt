@@ -9,7 +9,7 @@ use Rattle.av1_sequence.specs.Tasks.{ErrorAnswers, IsBeforeFrames, PerformsInTur
 use Rattle.av1_streams.specs.Tasks.{Cause, read_failed, too_long, refused, write_failed, no_memory}
 use Rattle.av1_streams.proofs.Performing.{any}
 use Rattle.av1_recon.specs.Ends.{error_status, answer_status, written}
-use Rattle.av1_tools.specs.EndsInTurn.{EndsInTurn}
+use Rattle.av1_toolbox.specs.EndsInTurn.{EndsInTurn}
 
 -- a failed read comes before the frames
 before_frames : (e : SequenceError) → cause_of e ≡ read_failed → IsBeforeFrames e

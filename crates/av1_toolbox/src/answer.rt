@@ -6,7 +6,7 @@ ghost use Rattle.av1_sequence.specs.Tasks.{cause_of as sequence_cause};
 ghost use Rattle.av1_tiles.specs.Tasks.{cause_of as tiles_cause};
 ghost use Rattle.av1_trace.specs.Answers.{error_line as trace_line};
 ghost use Rattle.av1_trace.specs.Checking.{cause as trace_cause};
-ghost use Rattle.av1_tools.specs.Answers.{frame_fault_text, sequence_line, tile_fault_text, tiles_line, trace_done};
+ghost use Rattle.av1_toolbox.specs.Answers.{frame_fault_text, sequence_line, tile_fault_text, tiles_line, trace_done};
 
 use av1_recon::{Sink, malformed_line, plain_line, push_invalid, push_malformed, say};
 use av1_sequence::{FrameFault, SequenceError};

@@ -5,11 +5,11 @@ use Rattle.av1_recon.specs.Outcomes.{plan_task}
 use Rattle.av1_recon.proofs.Ends.{ends, plan_status}
 use Rattle.av1_tiles.specs.Tasks.{tiles_task}
 use Rattle.av1_trace.specs.Checking.{trace_task}
-use Rattle.av1_tools.specs.Answers.{trace_done}
-use Rattle.av1_tools.specs.Ends.{IsSuccess}
-use Rattle.av1_tools.proofs.Ends.{apart, trace_ends}
-use Rattle.av1_tools.proofs.EndsInTurn.{ends_in_turn}
-use Rattle.av1_tools.proofs.program.run_tools.Goals as goal
+use Rattle.av1_toolbox.specs.Answers.{trace_done}
+use Rattle.av1_toolbox.specs.Ends.{IsSuccess}
+use Rattle.av1_toolbox.proofs.Ends.{apart, trace_ends}
+use Rattle.av1_toolbox.proofs.EndsInTurn.{ends_in_turn}
+use Rattle.av1_toolbox.proofs.program.run_tools.Goals as goal
 
 pub returns-in-Some-Tiles-clause-tiles_status : goal.returns-in-Some-Tiles-clause-tiles_status
 returns-in-Some-Tiles-clause-tiles_status g c = λ command.

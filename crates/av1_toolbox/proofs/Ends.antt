@@ -1,8 +1,8 @@
 -- The statuses of success: they are none of a failure, and each call that succeeds has one.
 use Rattle.std.proofs.Common.{inl, inr, ℕ, zero, suc, ◌<◌, refl, arith}
 use Rattle.av1_recon.proofs.Ends.{AreApart}
-use Rattle.av1_tools.specs.Answers.{trace_done}
-use Rattle.av1_tools.specs.Ends.{IsSuccess}
+use Rattle.av1_toolbox.specs.Answers.{trace_done}
+use Rattle.av1_toolbox.specs.Ends.{IsSuccess}
 
 -- no number between them is one
 between : (n : ℕ) → 0 < n → n < 7 → IsSuccess n → ⊥

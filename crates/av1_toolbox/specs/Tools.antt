@@ -1,7 +1,7 @@
 -- The words after the program's name.
 use Rattle.std.specs.Prelude.{ℕ, List, [], ◌∷◌, Option, Some, None, bytes_eq, codes, if◌then◌else◌}
-use Rattle.av1_tools.specs.declared.tool.Tool.{Tool}
-use Rattle.av1_tools.specs.declared.tool.Tool.TheVariants.{Tiles, Trace, Sequence, Bare}
+use Rattle.av1_toolbox.specs.declared.tool.Tool.{Tool}
+use Rattle.av1_toolbox.specs.declared.tool.Tool.TheVariants.{Tiles, Trace, Sequence, Bare}
 
 -- the tool of this name
 unfoldable pub named : List ℕ → Option Tool
