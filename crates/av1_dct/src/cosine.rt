@@ -3,7 +3,7 @@ ghost use Rattle.std.specs.List.{All};
 ghost use Rattle.av1_dct.specs.Arithmetic.{at, AllFit, FitsBits};
 ghost use Rattle.av1_dct.specs.Word.{column};
 ghost use Rattle.av1_dct.specs.InPlace.{joined, network};
-ghost use Rattle.av1_blocks.specs.Transforms.{IsTransformSide};
+ghost use Rattle.av1_lists.specs.Sides.{IsTransformSide};
 ghost use Rattle.av1_dct.specs.Cosine.{brev, cosine};
 ghost use Rattle.av1_lists.specs.Lists.{by_index};
 

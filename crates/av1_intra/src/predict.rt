@@ -3,7 +3,8 @@
 //! AV1 specification: intra prediction process.
 
 ghost use Rattle.std.specs.Prelude.{◌≡◌, ℕ, ◌+◌, ◌-◌, ◌*◌, ◌<◌, ◌≤◌, length, IsTrue, ℤ, pos, ◌-ℤ◌, ◌≤ℤ◌, unsigned_abs};
-ghost use Rattle.av1_blocks.specs.Transforms.{IsTransformSide, tx_width, tx_height};
+ghost use Rattle.av1_blocks.specs.Transforms.{tx_width, tx_height};
+ghost use Rattle.av1_lists.specs.Sides.{IsTransformSide};
 ghost use Rattle.av1_blocks.specs.Modes.{is_intra, is_cfl};
 ghost use Rattle.av1_frame.specs.Regions.{InStorage, painted};
 ghost use Rattle.av1_edges.specs.Parts.{effective, step_of};

@@ -3,7 +3,7 @@ use Rattle.std.proofs.Common.{ℕ, zero, suc, ◌≡◌, ◌-◌, ◌*◌, ◌^�
 use Rattle.std.proofs.lemmas.Bool.{cases_lt}
 use Rattle.std.proofs.lemmas.List.{take_all, map-id, get_or_past, get_or-reverse, length-reverse}
 use Rattle.av1_dct.specs.Arithmetic.{AllFit, FitsBits}
-use Rattle.av1_blocks.specs.Transforms.{IsTransformSide}
+use Rattle.av1_lists.specs.Sides.{IsTransformSide}
 use Rattle.av1_dct.proofs.Fits.{zero_fits, all-fit}
 
 -- the lengths that there are cosine transforms of

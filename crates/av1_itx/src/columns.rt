@@ -1,7 +1,8 @@
 //! The second pass: an inverse transform down each column.
 
 ghost use Rattle.std.specs.Prelude.{◌≡◌, ℕ, ◌+◌, ◌*◌, ◌/◌, ◌^◌, ◌<◌, ◌≤◌, ◌==◌, if◌then◌else◌, length};
-ghost use Rattle.av1_blocks.specs.Transforms.{IsTransformSide, tx_width, tx_height};
+ghost use Rattle.av1_blocks.specs.Transforms.{tx_width, tx_height};
+ghost use Rattle.av1_lists.specs.Sides.{IsTransformSide};
 ghost use Rattle.av1_dct.specs.Arithmetic.{at, clamp_value, FitsBits};
 ghost use Rattle.av1_frame.specs.Arithmetic.{round_shift};
 ghost use Rattle.av1_lists.specs.Lists.{by_index};

@@ -3,7 +3,7 @@
 ghost use Rattle.std.specs.Prelude.{◌≡◌, ℕ, ◌+◌, ◌-◌, ◌*◌, ◌/◌, ◌^◌, ◌<◌, ◌≤◌, nat_le, nat_lt, ◌&&◌, if◌then◌else◌, length};
 ghost use Rattle.av1_dct.specs.Arithmetic.{at, FitsBits};
 ghost use Rattle.av1_lists.specs.Counts.{raised};
-ghost use Rattle.av1_blocks.specs.Transforms.{IsTransformSide};
+ghost use Rattle.av1_lists.specs.Sides.{IsTransformSide};
 ghost use Rattle.av1_dct.specs.Cosine.{cosine};
 ghost use Rattle.av1_lists.specs.Lists.{by_index};
 ghost use Rattle.av1_dct.specs.Word.{column};

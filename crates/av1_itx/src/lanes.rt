@@ -3,7 +3,8 @@
 //! What the passes ask of such room is `LaneRoom`. `Lanes` is on the heap and counts; `LaneLines` is a plain struct that anyone can own.
 
 ghost use Rattle.std.specs.Prelude.{◌≡◌, ℕ, ◌+◌, ◌*◌, ◌/◌, ◌^◌, ◌<◌, ◌≤◌, IfOk, length, vec_len};
-ghost use Rattle.av1_blocks.specs.Transforms.{IsTransformSide, tx_width, tx_height, coded, coded_area};
+ghost use Rattle.av1_blocks.specs.Transforms.{tx_width, tx_height, coded, coded_area};
+ghost use Rattle.av1_lists.specs.Sides.{IsTransformSide};
 ghost use Rattle.av1_dct.specs.Arithmetic.{at, AllFit, FitsBits};
 ghost use Rattle.av1_lists.specs.Counts.{raised};
 ghost use Rattle.av1_dct.specs.Cosine.{cosine};

@@ -2,8 +2,8 @@
 //!
 //! The crate stands on the standard library alone and has no code of its own to run. To the crates above it gives
 //! the word `by_index` (`specs/Lists.antt`) and its lemmas (`proofs/Lists.antt`), lemmas on runs of numbers
-//! (`proofs/Ranges.antt`), a test of all numbers below a bound (`proofs/Below.antt`), and the words for counts that
-//! stay at the last value of a `u64` (`specs/Counts.antt`).
+//! (`proofs/Ranges.antt`), a test of all numbers below a bound (`proofs/Below.antt`), the words for counts that
+//! stay at the last value of a `u64` (`specs/Counts.antt`), and the sides of transforms (`specs/Sides.antt`).
 #![tactic(auto)]
 
 ghost use Rattle.std.specs.Prelude.{◌≡◌, ℕ, ◌<◌, length, slice_index};

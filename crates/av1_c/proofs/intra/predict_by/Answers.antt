@@ -1,7 +1,7 @@
 use Rattle.std.proofs.Common.{ℕ, ◌≡◌, ◌≢◌, ◌≤◌, true, ap, ◌∙◌, sym, subst, length, w16}
 use Rattle.std.proofs.lemmas.Int.{to_z-of_z}
 use Rattle.av1_blocks.specs.Modes.{is_directional, is_intra}
-use Rattle.av1_blocks.specs.Transforms.{IsTransformSide}
+use Rattle.av1_lists.specs.Sides.{IsTransformSide}
 use Rattle.av1_frame.specs.Areas.{AreRows}
 use Rattle.av1_frame.specs.declared.plane_region.StoredArea.{StoredArea}
 use Rattle.av1_intra.specs.Angles.{is_interpolated}

@@ -2,7 +2,7 @@ use mir.Val.{SFits}
 use Rattle.std.proofs.Common.{rules, ℕ, ◌*◌, ◌≡◌, ◌≢◌, ◌≤◌, true, ap, ◌∙◌, sym, subst, length, unsigned_abs, to_z, of_z, w16, w64}
 use Rattle.std.proofs.lemmas.Int.{to_z-of_z}
 use Rattle.std.proofs.lemmas.List.{get_or-map}
-use Rattle.av1_blocks.specs.Transforms.{IsTransformSide}
+use Rattle.av1_lists.specs.Sides.{IsTransformSide}
 use Rattle.av1_blocks.specs.Modes.{is_directional}
 use Rattle.av1_frame.proofs.Regions.{lent_painted}
 use Rattle.av1_intra.specs.Sides.{numbers}
