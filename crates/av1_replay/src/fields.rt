@@ -1,0 +1,124 @@
+//! The fields of rows.
+
+/// What is left of the bytes, read field by field from the front. Numbers stand with their low byte first.
+///
+/// Each reading gives `None` where too few bytes are left for it.
+#[derive(Drop)]
+pub struct Fields<'a> {
+    left: &'a [u8],
+}
+
+impl<'a> Fields<'a> {
+    ghost use Rattle.std.specs.Prelude.{◌≡◌, ◌↔◌, ◌+◌, ◌-◌, ◌<◌, ◌≤◌, ◌∷◌, [], length, take, drop, IfSome, OnSome, IfNone, IsTrue, cond};
+    ghost use Rattle.std.specs.Int.{cast_signed, from_le_bytes, w8, w16, w32};
+    ghost use Rattle.std.specs.Prelude.{slice_index};
+    ghost use Rattle.av1_replay.specs.Fields.{unread, Moves, Lacks};
+
+    /// The fields of these bytes.
+    pub fn new(bytes: &'a [u8]) -> Fields<'a>
+        ensures { unread result ≡ bytes.entry.now }
+    {
+        Fields { left: bytes }
+    }
+
+    /// Whether no byte is left.
+    pub fn are_read(&self) -> bool
+        ensures { IsTrue result ↔ (length (unread self.now) ≡ 0) }
+    {
+        self.left.is_empty()
+    }
+
+    /// So many bytes.
+    pub fn bytes(&mut self, count: usize) -> Option<&'a [u8]>
+        ensures moves { OnSome result (Moves count (unread self.old) (unread self.new)) }
+        ensures found { IfSome result (λ front. front.now ≡ take count (unread self.old)) }
+        ensures lacks { IfNone result (Lacks count (unread self.old) (unread self.new)) }
+        ensures later { length (unread self.new) ≤ length (unread self.old) }
+    {
+        let (front, left) = self.left.split_at_checked(count)?;
+        self.left = left;
+        Some(front)
+    }
+
+    /// A byte.
+    pub fn byte(&mut self) -> Option<u8>
+        ensures moves { OnSome result (Moves 1 (unread self.old) (unread self.new)) }
+        ensures found { IfSome result (λ byte. take 1 (unread self.old) ≡ byte ∷ []) }
+        ensures lacks { IfNone result (Lacks 1 (unread self.old) (unread self.new)) }
+        ensures later { length (unread self.new) ≤ length (unread self.old) }
+    {
+        match self.left {
+            [byte, left @ ..] => {
+                self.left = left;
+                Some(*byte)
+            }
+            _ => None,
+        }
+    }
+
+    /// A number from -128 to 127 in two's complement.
+    pub fn signed(&mut self) -> Option<i8>
+        ensures moves { OnSome result (Moves 1 (unread self.old) (unread self.new)) }
+        ensures found { IfSome result (λ number. number ≡ cast_signed w8 (slice_index (unread self.old) 0)) }
+        ensures lacks { IfNone result (Lacks 1 (unread self.old) (unread self.new)) }
+        ensures later { length (unread self.new) ≤ length (unread self.old) }
+    {
+        Some(self.byte()?.cast_signed())
+    }
+
+    /// A number of two bytes.
+    pub fn two(&mut self) -> Option<u16>
+        ensures moves { OnSome result (Moves 2 (unread self.old) (unread self.new)) }
+        ensures found { IfSome result (λ number. number ≡ from_le_bytes w16 (take 2 (unread self.old))) }
+        ensures lacks { IfNone result (Lacks 2 (unread self.old) (unread self.new)) }
+        ensures later { length (unread self.new) ≤ length (unread self.old) }
+    {
+        match self.left {
+            [a, b, left @ ..] => {
+                let number = u16::from_le_bytes([*a, *b]);
+                self.left = left;
+                Some(number)
+            }
+            _ => None,
+        }
+    }
+
+    /// A number of four bytes.
+    pub fn four(&mut self) -> Option<u32>
+        ensures moves { OnSome result (Moves 4 (unread self.old) (unread self.new)) }
+        ensures found { IfSome result (λ number. number ≡ from_le_bytes w32 (take 4 (unread self.old))) }
+        ensures lacks { IfNone result (Lacks 4 (unread self.old) (unread self.new)) }
+        ensures later { length (unread self.new) ≤ length (unread self.old) }
+    {
+        match self.left {
+            [a, b, c, d, left @ ..] => {
+                let number = u32::from_le_bytes([*a, *b, *c, *d]);
+                self.left = left;
+                Some(number)
+            }
+            _ => None,
+        }
+    }
+
+    /// A number of four bytes, and so many bytes.
+    pub fn part(&mut self) -> Option<&'a [u8]>
+        ensures shorter { OnSome result (length (unread self.new) + 4 ≤ length (unread self.old)) }
+        ensures found { IfSome result (λ front. front.now ≡ take (from_le_bytes w32 (take 4 (unread self.old))) (drop 4 (unread self.old))) }
+        ensures rest { IfSome result (λ front. unread self.new ≡ drop (length front.now) (drop 4 (unread self.old))) }
+        ensures later { length (unread self.new) ≤ length (unread self.old) }
+    {
+        let count = self.four()?;
+        self.bytes(count as usize)
+    }
+
+    /// A number of one byte, and so many bytes.
+    pub fn short_part(&mut self) -> Option<&'a [u8]>
+        ensures short { IfSome result (λ front. length front.now < 256) }
+        ensures found { IfSome result (λ front. front.now ≡ take (slice_index (unread self.old) 0) (drop 1 (unread self.old))) }
+        ensures rest { IfSome result (λ front. unread self.new ≡ drop (length front.now) (drop 1 (unread self.old))) }
+        ensures later { length (unread self.new) ≤ length (unread self.old) }
+    {
+        let count = self.byte()?;
+        self.bytes(usize::from(count))
+    }
+}
