@@ -1,0 +1,5 @@
+pub mod Errors
+pub mod Rows
+pub mod Tallies
+pub mod Reports
+pub mod Replays
