@@ -1,9 +1,9 @@
 //! What a call answered.
 
-ghost use Rattle.std.specs.Prelude.{◌≡◌, ◌↔◌, ◌≤◌, ℕ, List, [], length, min, IfOk, IsTrue};
+ghost use Rattle.std.specs.Prelude.{◌≡◌, ◌↔◌, ◌≤◌, ℕ, List, [], length, min, IfOk, IfSome, IsTrue};
 ghost use Rattle.std.specs.List.{flat_map};
 ghost use Rattle.std.specs.Int.{cast_unsigned, to_le_bytes, w16, w32};
-ghost use Rattle.av1_replay.specs.Answers.{Agrees, Tells};
+ghost use Rattle.av1_replay.specs.Answers.{wanted_before, Agrees, Tells};
 ghost use Rattle.av1_replay.specs.Digest.{Holds};
 ghost use Rattle.av1_replay.specs.Fields.{unread};
 
@@ -89,6 +89,7 @@ pub struct Wanted<'a> {
 impl<'a> Wanted<'a> {
     /// The next answer: its status, a text behind its length, the number of bytes and their digest.
     pub fn read(fields: &mut Fields<'a>) -> Option<Wanted<'a>>
+        ensures found { IfSome result (λ wanted. unread fields.old ≡ wanted_before wanted (unread fields.new)) }
         ensures later { length (unread fields.new) ≤ length (unread fields.old) }
     {
         let status = fields.byte()?;

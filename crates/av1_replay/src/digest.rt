@@ -33,6 +33,7 @@ pub struct Digest {
 
 impl Digest {
     /// The digest of no bytes.
+    #[tactic(auto, using(crate::proofs::Digests::none_held))]
     pub fn new() -> Digest
         ensures { Holds result [] }
     {
@@ -86,6 +87,7 @@ impl Digest {
     }
 }
 
+#[tactic(auto, using(crate::proofs::Digests::by_table))]
 fn after_four_bits(sum: u32) -> u32
     ensures { result ≡ after_four_bits sum }
 {

@@ -9,16 +9,21 @@ pub struct Fields<'a> {
 }
 
 impl<'a> Fields<'a> {
-    ghost use Rattle.std.specs.Prelude.{◌≡◌, ◌↔◌, ◌+◌, ◌-◌, ◌<◌, ◌≤◌, ◌∷◌, [], length, take, drop, IfSome, OnSome, IfNone, IsTrue, cond};
-    ghost use Rattle.std.specs.Int.{cast_signed, from_le_bytes, w8, w16, w32};
-    ghost use Rattle.std.specs.Prelude.{slice_index};
-    ghost use Rattle.av1_replay.specs.Fields.{unread, Moves, Lacks};
+    ghost use Rattle.std.specs.Prelude.{◌≡◌, ◌↔◌, ◌<◌, ◌≤◌, ◌∷◌, ◌++◌, length, IfSome, IfNone, IsTrue};
+    ghost use Rattle.av1_replay.specs.Fields.{four_before, part_before, short_part_before, signed_before, two_before, unread, Lacks};
 
     /// The fields of these bytes.
     pub fn new(bytes: &'a [u8]) -> Fields<'a>
         ensures { unread result ≡ bytes.entry.now }
     {
         Fields { left: bytes }
+    }
+
+    /// The bytes that are left.
+    pub fn left_bytes(&self) -> &'a [u8]
+        ensures { result.now ≡ unread self.now }
+    {
+        self.left
     }
 
     /// Whether no byte is left.
@@ -30,8 +35,8 @@ impl<'a> Fields<'a> {
 
     /// So many bytes.
     pub fn bytes(&mut self, count: usize) -> Option<&'a [u8]>
-        ensures moves { OnSome result (Moves count (unread self.old) (unread self.new)) }
-        ensures found { IfSome result (λ front. front.now ≡ take count (unread self.old)) }
+        ensures found { IfSome result (λ front. unread self.old ≡ front.now ++ unread self.new) }
+        ensures counted { IfSome result (λ front. length front.now ≡ count) }
         ensures lacks { IfNone result (Lacks count (unread self.old) (unread self.new)) }
         ensures later { length (unread self.new) ≤ length (unread self.old) }
     {
@@ -42,8 +47,7 @@ impl<'a> Fields<'a> {
 
     /// A byte.
     pub fn byte(&mut self) -> Option<u8>
-        ensures moves { OnSome result (Moves 1 (unread self.old) (unread self.new)) }
-        ensures found { IfSome result (λ byte. take 1 (unread self.old) ≡ byte ∷ []) }
+        ensures found { IfSome result (λ byte. unread self.old ≡ byte ∷ unread self.new) }
         ensures lacks { IfNone result (Lacks 1 (unread self.old) (unread self.new)) }
         ensures later { length (unread self.new) ≤ length (unread self.old) }
     {
@@ -58,8 +62,7 @@ impl<'a> Fields<'a> {
 
     /// A number from -128 to 127 in two's complement.
     pub fn signed(&mut self) -> Option<i8>
-        ensures moves { OnSome result (Moves 1 (unread self.old) (unread self.new)) }
-        ensures found { IfSome result (λ number. number ≡ cast_signed w8 (slice_index (unread self.old) 0)) }
+        ensures found { IfSome result (λ number. unread self.old ≡ signed_before number (unread self.new)) }
         ensures lacks { IfNone result (Lacks 1 (unread self.old) (unread self.new)) }
         ensures later { length (unread self.new) ≤ length (unread self.old) }
     {
@@ -68,8 +71,7 @@ impl<'a> Fields<'a> {
 
     /// A number of two bytes.
     pub fn two(&mut self) -> Option<u16>
-        ensures moves { OnSome result (Moves 2 (unread self.old) (unread self.new)) }
-        ensures found { IfSome result (λ number. number ≡ from_le_bytes w16 (take 2 (unread self.old))) }
+        ensures found { IfSome result (λ number. unread self.old ≡ two_before number (unread self.new)) }
         ensures lacks { IfNone result (Lacks 2 (unread self.old) (unread self.new)) }
         ensures later { length (unread self.new) ≤ length (unread self.old) }
     {
@@ -85,8 +87,7 @@ impl<'a> Fields<'a> {
 
     /// A number of four bytes.
     pub fn four(&mut self) -> Option<u32>
-        ensures moves { OnSome result (Moves 4 (unread self.old) (unread self.new)) }
-        ensures found { IfSome result (λ number. number ≡ from_le_bytes w32 (take 4 (unread self.old))) }
+        ensures found { IfSome result (λ number. unread self.old ≡ four_before number (unread self.new)) }
         ensures lacks { IfNone result (Lacks 4 (unread self.old) (unread self.new)) }
         ensures later { length (unread self.new) ≤ length (unread self.old) }
     {
@@ -102,9 +103,7 @@ impl<'a> Fields<'a> {
 
     /// A number of four bytes, and so many bytes.
     pub fn part(&mut self) -> Option<&'a [u8]>
-        ensures shorter { OnSome result (length (unread self.new) + 4 ≤ length (unread self.old)) }
-        ensures found { IfSome result (λ front. front.now ≡ take (from_le_bytes w32 (take 4 (unread self.old))) (drop 4 (unread self.old))) }
-        ensures rest { IfSome result (λ front. unread self.new ≡ drop (length front.now) (drop 4 (unread self.old))) }
+        ensures found { IfSome result (λ part. unread self.old ≡ part_before part.now (unread self.new)) }
         ensures later { length (unread self.new) ≤ length (unread self.old) }
     {
         let count = self.four()?;
@@ -113,9 +112,8 @@ impl<'a> Fields<'a> {
 
     /// A number of one byte, and so many bytes.
     pub fn short_part(&mut self) -> Option<&'a [u8]>
-        ensures short { IfSome result (λ front. length front.now < 256) }
-        ensures found { IfSome result (λ front. front.now ≡ take (slice_index (unread self.old) 0) (drop 1 (unread self.old))) }
-        ensures rest { IfSome result (λ front. unread self.new ≡ drop (length front.now) (drop 1 (unread self.old))) }
+        ensures short { IfSome result (λ part. length part.now < 256) }
+        ensures found { IfSome result (λ part. unread self.old ≡ short_part_before part.now (unread self.new)) }
         ensures later { length (unread self.new) ≤ length (unread self.old) }
     {
         let count = self.byte()?;
