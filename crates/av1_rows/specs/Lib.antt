@@ -1,4 +1,5 @@
 pub mod Errors
+pub mod Runs
 pub mod Rows
 pub mod Tallies
 pub mod Reports

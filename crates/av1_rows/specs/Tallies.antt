@@ -2,7 +2,7 @@
 use Rattle.std.specs.Prelude.{ℕ, List, Option, Some, None, Bool, set, get_or, replicate, fold, if◌then◌else◌}
 use Rattle.core.specs.Option.{option_map}
 use Rattle.av1_lists.specs.Counts.{counted}
-use Rattle.av1_rows.specs.Rows.{Told, Replayed, told_by, kinds}
+use Rattle.av1_rows.specs.Rows.{Told, Replayed, told_by, wanted_by, kinds}
 use Rattle.av1_rows.specs.declared.tally.Difference.{Difference}
 use Rattle.av1_rows.specs.declared.tally.Tally.{Tally}
 
@@ -45,10 +45,13 @@ with_row counts kind agrees came wanted = record {
   first = if agrees then counts.first else earlier counts.first (record { row = counts.count; kind = kind; came = came; wanted = wanted });
 }
 
+abbrev pub with_replayed : Counts → Replayed → Counts
+with_replayed counts replayed = with_row counts replayed.row.kind replayed.agrees replayed.came (wanted_by replayed.row.wanted)
+
 -- no rows
 abbrev pub no_rows : Counts
 no_rows = record { count = 0; rows = replicate kinds 0; differ = replicate kinds 0; first = None }
 
 -- the counts of rows
 abbrev pub counts_of : List Replayed → Counts
-counts_of rows = fold (λ counts row. with_row counts row.kind row.agrees row.came row.wanted) no_rows rows
+counts_of rows = fold with_replayed no_rows rows

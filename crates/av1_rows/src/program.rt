@@ -1,6 +1,6 @@
 //! All that the program does.
 
-ghost use Rattle.std.specs.Prelude.{◌≡◌, ◌≢◌, ◌↔◌, ◌⊎◌, ◌≤◌, ℕ, List, Bool, IsTrue, IsErrOf, IfSome, IfOk, IfErr, OnOk};
+ghost use Rattle.std.specs.Prelude.{◌≡◌, ◌≢◌, ◌↔◌, ◌⊎◌, ◌≤◌, ℕ, List, Bool, IsTrue, IsErrOf, IsNone, IfSome, IfOk, IfErr, OnOk};
 ghost use Rattle.std.specs.Io.KnownBytes.{Appends};
 ghost use Rattle.av1_recon.specs.Answers.{Says};
 ghost use Rattle.av1_streams.specs.Faults.{FaultCounted};
@@ -8,10 +8,10 @@ ghost use Rattle.av1_streams.specs.Streams.{AppendsPrefix};
 ghost use Rattle.av1_replay.specs.Fields.{unread};
 ghost use Rattle.av1_rows.specs.Replays.{Answer, Refuses, Rows, line_of, status_of};
 ghost use Rattle.av1_rows.specs.Reports.{report};
-ghost use Rattle.av1_rows.specs.Rows.{AllAgree, AreReplayed, BeginWith, Replayed};
-ghost use Rattle.av1_rows.specs.Tallies.{counts_by, counts_of};
+ghost use Rattle.av1_rows.specs.Rows.{AllAgree, AreReplayed, IsReplayed, Replayed, row_before};
+ghost use Rattle.av1_rows.specs.Tallies.{counts_by, counts_of, with_replayed};
 ghost use Rattle.av1_rows.specs.declared.error.RowsError.{RowsError};
-ghost use Rattle.av1_rows.specs.declared.error.RowsError.TheVariants.{ReadFault, WriteFault};
+ghost use Rattle.av1_rows.specs.declared.error.RowsError.TheVariants.{Malformed, Memory, ReadFault, WriteFault};
 
 use crate::error::RowsError;
 use crate::report::{report_error, report_of};
@@ -65,11 +65,7 @@ pub fn replay_rows<R: Source, W: Sink, E: Sink>(
 }
 
 // Reads rows from the source to its end, replays each, and writes the report of them. It gives whether all agree.
-fn replay<R: Source, W: Sink>(
-    alloc: Global,
-    source: &mut R,
-    out: &mut W,
-) -> Result<bool, RowsError>
+fn replay<R: Source, W: Sink>(alloc: Global, source: &mut R, out: &mut W) -> Result<bool, RowsError>
     ensures done { IfOk result (λ agree. Rows (R.left source.old) (λ rows. (IsTrue agree ↔ AllAgree rows) × Appends (W.taken out.old) (W.taken out.new) (report rows))) }
     ensures refused { IfErr result (λ e. IfSome (R.left source.old) (Refuses e)) }
     ensures read_fault { IsErrOf result ReadFault → FaultCounted (R.faults source.old) (R.faults source.new) }
@@ -103,7 +99,8 @@ fn replay_bytes(alloc: Global, bytes: &[u8]) -> Result<Tally, RowsError>
 
 // Replays the next row.
 fn replay_next(alloc: Global, fields: &mut Fields, tally: &mut Tally) -> Result<(), RowsError>
-    ensures replayed { OnOk result (Replays (unread fields.old) (unread fields.new) (counts_by tally.old) (counts_by tally.new)) }
+    ensures replayed { OnOk result ((next : Replayed) × IsReplayed next × (unread fields.old ≡ row_before next.row (unread fields.new))
+        × (counts_by tally.new ≡ with_replayed (counts_by tally.old) next)) }
     ensures refused { IfErr result (λ e. (e ≡ Malformed (counts_by tally.old).count) ⊎ (e ≡ Memory)) }
 {
     let number = tally.count;

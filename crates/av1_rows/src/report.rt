@@ -1,10 +1,11 @@
 //! What is written of rows, and of errors.
 
-ghost use Rattle.std.specs.Prelude.{◌≡◌, ◌<◌, ◌≤◌, ◌++◌, codes, length, IfOk, get_or};
+ghost use Rattle.std.specs.Prelude.{◌≡◌, ◌≤◌, ◌++◌, Some, codes, decimal, length, IfOk, OnOk};
 ghost use Rattle.av1_recon.specs.Answers.{Says};
 ghost use Rattle.av1_recon.specs.Ends.{error_status};
 ghost use Rattle.av1_rows.specs.Replays.{cause, error_line};
-ghost use Rattle.av1_rows.specs.Reports.{answer_text, first_text, kind_line, kind_text, numbers_text, report_text, row_line};
+ghost use Rattle.av1_rows.specs.declared.error.RowsError.TheVariants.{Malformed};
+ghost use Rattle.av1_rows.specs.Reports.{answer_text, first_text, kind_line, kind_text, numbers_text, report_text};
 ghost use Rattle.av1_rows.specs.Rows.{told_by};
 ghost use Rattle.av1_rows.specs.Tallies.{counts_by, differs_by};
 
