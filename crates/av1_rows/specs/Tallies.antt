@@ -1,6 +1,5 @@
 -- How many rows of each kind there are, and how many differ.
 use Rattle.std.specs.Prelude.{ℕ, List, Option, Some, None, Bool, set, get_or, replicate, fold, if◌then◌else◌}
-use Rattle.core.specs.Option.{option_map}
 use Rattle.av1_lists.specs.Counts.{counted}
 use Rattle.av1_rows.specs.Rows.{Told, Replayed, told_by, wanted_by, kinds}
 use Rattle.av1_rows.specs.declared.tally.Difference.{Difference}
@@ -24,8 +23,12 @@ pub record Counts : Type 0 where
 abbrev pub differs_by : Difference → Differs
 differs_by difference = record { row = difference.row; kind = difference.kind; came = told_by difference.came; wanted = told_by difference.wanted }
 
+abbrev pub first_by : Option Difference → Option Differs
+first_by None = None
+first_by (Some difference) = Some (differs_by difference)
+
 abbrev pub counts_by : Tally → Counts
-counts_by tally = record { count = tally.count; rows = tally.rows; differ = tally.differ; first = option_map differs_by tally.first }
+counts_by tally = record { count = tally.count; rows = tally.rows; differ = tally.differ; first = first_by tally.first }
 
 -- one more at this place, up to the last value of a `u64`
 abbrev pub one_more : List ℕ → ℕ → List ℕ

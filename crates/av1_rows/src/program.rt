@@ -75,8 +75,8 @@ fn replay<R: Source, W: Sink>(alloc: Global, source: &mut R, out: &mut W) -> Res
 {
     let bytes = read_bytes(alloc, source, MAX_PLAN_BYTES)?;
     let tally = replay_bytes(alloc, &bytes)?;
-    let report = report_of(alloc, &tally)?;
-    write_bytes(out, &report)?;
+    let text = report_of(alloc, &tally)?;
+    write_bytes(out, &text)?;
     Ok(tally.agrees())
 }
 
@@ -86,10 +86,10 @@ fn replay_bytes(alloc: Global, bytes: &[u8]) -> Result<Tally, RowsError>
         × (IsNone (counts_by tally).first ↔ AllAgree rows)) }
     ensures refused { IfErr result (λ e. Refuses e bytes.now × (e ≢ ReadFault) × (e ≢ WriteFault)) }
 {
-    let mut fields = Fields::new(bytes);
-    if fields.bytes(MAGIC.len()) != Some(MAGIC) {
+    let Some(rows) = bytes.strip_prefix(MAGIC) else {
         return Err(RowsError::NoRows);
-    }
+    };
+    let mut fields = Fields::new(rows);
     let mut tally = Tally::new();
     'rows: while !fields.are_read() {
         replay_next(alloc, &mut fields, &mut tally)?;

@@ -44,6 +44,7 @@ fn kind_text(kind: usize) -> &'static [u8]
 /// # Errors
 ///
 /// Memory for the text.
+#[tactic(auto, using(crate::proofs::Lines::no_lines, crate::proofs::Lines::lines_more))]
 pub fn report_of(alloc: Global, tally: &Tally) -> Result<Vec<u8>, AllocError>
     ensures { IfOk result (λ report. report.items ≡ report_text (counts_by tally.now)) }
 {

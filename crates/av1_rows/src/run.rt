@@ -1,8 +1,6 @@
 //! A run of a program over memory.
 
 ghost use Rattle.std.specs.Prelude.{◌≡◌, ◌<◌, ◌≤◌, length, IfSome};
-ghost use Rattle.av1_replay.specs.Fields.{unread};
-ghost use Rattle.av1_rows.specs.Runs.{pieces_before, room_before, run_before};
 
 use av1_recon::{MemSink, SliceSource, run};
 use av1_replay::{Answer, CallFault, Digest, Fields};
@@ -32,6 +30,9 @@ pub struct Pieces {
 }
 
 impl Pieces {
+    ghost use Rattle.av1_replay.specs.Fields.{unread};
+    ghost use Rattle.av1_rows.specs.Runs.{pieces_before};
+
     fn read(fields: &mut Fields) -> Option<Pieces>
         ensures found { IfSome result (λ pieces. unread fields.old ≡ pieces_before pieces (unread fields.new)) }
         ensures later { length (unread fields.new) ≤ length (unread fields.old) }
@@ -53,6 +54,9 @@ pub struct Room {
 }
 
 impl Room {
+    ghost use Rattle.av1_replay.specs.Fields.{unread};
+    ghost use Rattle.av1_rows.specs.Runs.{room_before};
+
     fn read(fields: &mut Fields) -> Option<Room>
         ensures found { IfSome result (λ room. unread fields.old ≡ room_before room (unread fields.new)) }
         ensures later { length (unread fields.new) ≤ length (unread fields.old) }
@@ -80,6 +84,9 @@ pub struct Run<'a> {
 }
 
 impl<'a> Run<'a> {
+    ghost use Rattle.av1_replay.specs.Fields.{unread};
+    ghost use Rattle.av1_rows.specs.Runs.{run_before};
+
     /// The next run, of this program. `None` where its fields are cut, a piece has no bytes or a sink room for more than 64 MiB.
     pub fn read(program: Program, fields: &mut Fields<'a>) -> Option<Run<'a>>
         ensures found { IfSome result (λ found. unread fields.old ≡ run_before found (unread fields.new)) }
