@@ -53,18 +53,6 @@ pub record AreSoFar (bytes left : List ℕ) (counts : Counts) : Type 0 where
   pub counted : counts ≡ counts_of rows
   pub clean : IsNone counts.first ↔ AllAgree rows
 
--- no row so far
-pub none_so_far : (bytes left : List ℕ) (counts : Counts) → bytes ≡ magic ++ left → counts ≡ no_rows → AreSoFar bytes left counts
-none_so_far bytes left counts begin counted =
-    let all : AllAgree [] = All-nil (λ (replayed : Replayed). IsTrue replayed.agrees) in
-    let each : All IsReplayed [] = All-nil IsReplayed in
-    record {
-      rows = [];
-      begin = record { text = begin; each = each };
-      counted = counted;
-      clean = subst (λ (c : Counts). IsNone c.first ↔ AllAgree []) (sym counted) (λ none. all, λ a. refl);
-    }
-
 -- one row more
 pub more_so_far : (bytes left left' : List ℕ) (counts counts' : Counts) (next : Replayed) → AreSoFar bytes left counts → IsReplayed next → left ≡ row_before next.row left'
     → counts' ≡ with_replayed counts next → AreSoFar bytes left' counts'
@@ -74,13 +62,6 @@ more_so_far bytes left left' counts counts' next before is read counted = record
   counted = counted ∙ ap (λ c. with_replayed c next) before.counted ∙ sym (fold_more with_replayed no_rows before.rows next);
   clean = subst (λ (c : Counts). IsNone c.first ↔ AllAgree (before.rows ++ next ∷ [])) (sym counted)
       (clean_more next.agrees counts.first _ before.rows next refl before.clean);
-}
-
--- nothing is left
-pub all_so_far : (bytes left : List ℕ) (rows : List Replayed) → BeginWith bytes rows left → left ≡ [] → AreReplayed bytes rows
-all_so_far bytes left rows begin none = record {
-  text = begin.text ∙ ap (λ t. (magic ++ rows_text rows) ++ t) none ∙ append-nil (magic ++ rows_text rows);
-  each = begin.each;
 }
 
 -- ---- answers
@@ -96,11 +77,3 @@ told_agrees wanted came e = record {
   same_count = ap (λ (t : Told). t.count) e;
   same_sum = ap (λ (t : Told). t.digest) e;
 }
-
--- what is left behind a row is shorter
-pub shorter : (row : Row) (left left' : List ℕ) → left ≡ row_before row left' → length left' < length left
-shorter row left left' read =
-    let all : length left ≡ suc (length (to_le_bytes w32 (length (body row))) + (length (body row) + length left')) =
-    ap length read ∙ ap suc (length-append (to_le_bytes w32 (length (body row))) (body row ++ left')
-    ∙ ap (λ n. length (to_le_bytes w32 (length (body row))) + n) (length-append (body row) left')) in
-    omega (arith, all)
