@@ -1,5 +1,5 @@
 -- What is left of the bytes of rows, and how fields stand in them.
-use Rattle.std.specs.Prelude.{◌≡◌, ℕ, ◌<◌, ℤ, List, ◌∷◌, ◌++◌, length}
+use Rattle.std.specs.Prelude.{◌≡◌, ℕ, ◌<◌, ℤ, Bool, if◌then◌else◌, List, ◌∷◌, ◌++◌, length}
 use Rattle.std.specs.Int.{cast_unsigned, to_le_bytes, w8, w16, w32}
 use Rattle.av1_replay.specs.declared.fields.Fields.{Fields as Unread}
 
@@ -12,7 +12,11 @@ pub record Lacks (count : ℕ) (old new : List ℕ) : Type 0 where
   pub fewer : length old < count
   pub same : new ≡ old
 
--- a number of one byte in two's complement, before other bytes
+-- a byte that is 1 or 0, before other bytes
+abbrev pub flag_before : Bool → List ℕ → List ℕ
+flag_before flag others = (if flag then 1 else 0) ∷ others
+
+-- a number of one byte in two's complement
 abbrev pub signed_before : ℤ → List ℕ → List ℕ
 signed_before number others = cast_unsigned w8 number ∷ others
 

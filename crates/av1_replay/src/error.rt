@@ -1,5 +1,8 @@
 //! Why a call was not made.
 
+ghost use Rattle.std.specs.Prelude.{◌≡◌};
+ghost use Rattle.av1_replay.specs.declared.error.CallFault.TheVariants.{Memory};
+
 use av1_blocks::OutOfMemory;
 use std::alloc::{AllocError, AllocFailed};
 
@@ -13,23 +16,25 @@ pub enum CallFault {
 }
 
 impl From<OutOfMemory> for CallFault {
-    ghost use Rattle.std.specs.Prelude.{◌≡◌};
+    ghost from_gives = { λ _ e. e ≡ Memory };
 
-    fn from(_: OutOfMemory) -> CallFault
-        ensures { result ≡ CallFault.Memory }
-    {
+    fn from(_refused: OutOfMemory) -> CallFault {
         CallFault::Memory
     }
 }
 
 impl From<AllocError> for CallFault {
-    fn from(_: AllocError) -> CallFault {
+    ghost from_gives = { λ _ e. e ≡ Memory };
+
+    fn from(_refused: AllocError) -> CallFault {
         CallFault::Memory
     }
 }
 
 impl<T: Drop> From<AllocFailed<T>> for CallFault {
-    fn from(_: AllocFailed<T>) -> CallFault {
+    ghost from_gives = { λ _ e. e ≡ Memory };
+
+    fn from(_refused: AllocFailed<T>) -> CallFault {
         CallFault::Memory
     }
 }

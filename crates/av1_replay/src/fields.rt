@@ -10,7 +10,7 @@ pub struct Fields<'a> {
 
 impl<'a> Fields<'a> {
     ghost use Rattle.std.specs.Prelude.{◌≡◌, ◌↔◌, ◌<◌, ◌≤◌, ◌∷◌, ◌++◌, length, IfSome, IfNone, IsTrue};
-    ghost use Rattle.av1_replay.specs.Fields.{four_before, part_before, short_part_before, signed_before, two_before, unread, Lacks};
+    ghost use Rattle.av1_replay.specs.Fields.{flag_before, four_before, part_before, short_part_before, signed_before, two_before, unread, Lacks};
 
     /// The fields of these bytes.
     pub fn new(bytes: &'a [u8]) -> Fields<'a>
@@ -56,6 +56,18 @@ impl<'a> Fields<'a> {
                 self.left = left;
                 Some(*byte)
             }
+            _ => None,
+        }
+    }
+
+    /// A byte that is 0 or 1.
+    pub fn flag(&mut self) -> Option<bool>
+        ensures found { IfSome result (λ flag. unread self.old ≡ flag_before flag (unread self.new)) }
+        ensures later { length (unread self.new) ≤ length (unread self.old) }
+    {
+        match self.byte()? {
+            0 => Some(false),
+            1 => Some(true),
             _ => None,
         }
     }

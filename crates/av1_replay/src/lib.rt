@@ -2,9 +2,15 @@
 #![tactic(auto)]
 
 mod answer;
+mod availability;
 mod digest;
+mod drawn;
 mod error;
 mod fields;
+mod network;
+mod samples;
+mod transform;
+mod way;
 
 pub use answer::{Answer, Wanted};
 pub use digest::Digest;
