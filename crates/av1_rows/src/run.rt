@@ -1,6 +1,7 @@
 //! A run of a program over memory.
 
-ghost use Rattle.std.specs.Prelude.{◌≡◌, ◌<◌, ◌≤◌, length, IfSome};
+ghost use Rattle.std.specs.Prelude.{◌≡◌, ◌<◌, ◌≤◌, length, IfOk, IfSome};
+ghost use Rattle.av1_replay.specs.Answers.{Tells};
 
 use av1_recon::{MemSink, SliceSource, run};
 use av1_replay::{Answer, CallFault, Digest, Fields};
@@ -133,7 +134,9 @@ impl<'a> Run<'a> {
 }
 
 // What a run left.
-fn answer_of(alloc: Global, status: u8, out: &[u8], err: &[u8]) -> Result<Answer, CallFault> {
+fn answer_of(alloc: Global, status: u8, out: &[u8], err: &[u8]) -> Result<Answer, CallFault>
+    ensures { IfOk result (λ came. Tells came status err.now out.now) }
+{
     let mut digest = Digest::new();
     for byte in out {
         digest.push(*byte);

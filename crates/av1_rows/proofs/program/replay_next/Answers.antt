@@ -12,6 +12,10 @@ returns-clause-replayed c =
     let is : IsReplayed next = record {
       known = c.in-Some.ensures.known;
       told = (λ t. agree_told row.wanted came (c.is-agrees.ensures.0 t), λ e. c.is-agrees.ensures.1 (told_agrees row.wanted came e));
-    } in
-    (next, is, c.in-Some.ensures.found, c.in_ok-add.ensures
-    ∙ ap (λ kind. with_row (counts_by c.args.tally.now) kind c.is-agrees.result (told_by came) (wanted_by row.wanted)) c.from.ensures)
+    } in (
+      next,
+      is,
+      c.in-Some.ensures.found,
+      c.in_ok-add.ensures
+          ∙ ap (λ kind. with_row (counts_by c.args.tally.now) kind c.is-agrees.result (told_by came) (wanted_by row.wanted)) c.from.ensures,
+    )
