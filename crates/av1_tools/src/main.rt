@@ -2,15 +2,12 @@
 //! another encoder with a plan, `sequence` reconstructs frames that are predicted from those before them, and `bare` writes a plan without its
 //! coefficients.
 //!
-//! All that the program does is [`program::run_tools`]; here are its real source and sinks. The words of its command line, the flush of
+//! All that the program does is `av1_toolbox::run_tools`; here are its real source and sinks. The words of its command line, the flush of
 //! its output and its exit status are `av1_recon::run_on_words`.
 #![tactic(auto)]
 
-mod answer;
-mod program;
-mod tool;
-
 use av1_recon::{ReadSource, WriteSink, run_on_words};
+use av1_toolbox::run_tools;
 use std::process::ExitCode;
 
 fn main(rt: HostRuntime) -> ExitCode {
@@ -18,6 +15,6 @@ fn main(rt: HostRuntime) -> ExitCode {
         let mut source = ReadSource::new(rt.stdin());
         let mut out = WriteSink::new(rt.stdout());
         let mut err = WriteSink::new(rt.stderr());
-        program::run_tools(rt.alloc(), words, &mut source, &mut out, &mut err)
+        run_tools(rt.alloc(), words, &mut source, &mut out, &mut err)
     })
 }

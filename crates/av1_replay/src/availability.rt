@@ -1,0 +1,133 @@
+//! Whether the samples beside a transform are coded before it.
+
+ghost use Rattle.std.specs.Prelude.{◌≡◌, ◌≤◌, IfSome, length};
+ghost use Rattle.av1_replay.specs.Fields.{unread};
+ghost use Rattle.av1_replay.specs.Calls.{availability_before, block_before, unit_before};
+
+use crate::answer::Answer;
+use crate::digest::Digest;
+use crate::fields::Fields;
+use av1_avail::{has_bl, has_bottom_left, has_top_right, has_tr};
+use av1_blocks::{BlockSize, TxSize};
+use av1_frame::{BlockOffset, TileBlockOffset};
+use std::alloc::Global;
+
+/// A block by its size and the cell that it begins at.
+#[derive(Clone, Copy)]
+pub struct Block {
+    size: BlockSize,
+    x: u8,
+    y: u8,
+}
+
+impl Block {
+    #[tactic(auto, using(crate::proofs::Numbered::block_numbered))]
+    fn read(fields: &mut Fields) -> Option<Block>
+        ensures found { IfSome result (λ block. unread fields.old ≡ block_before block (unread fields.new)) }
+        ensures later { length (unread fields.new) ≤ length (unread fields.old) }
+    {
+        let size = BlockSize::from_number(fields.byte()?)?;
+        let x = fields.byte()?;
+        let y = fields.byte()?;
+        Some(Block { size, x, y })
+    }
+}
+
+/// A transform by its size and the row and column of units that it begins at in its block.
+#[derive(Clone, Copy)]
+pub struct Unit {
+    size: TxSize,
+    row: u8,
+    column: u8,
+}
+
+impl Unit {
+    #[tactic(auto, using(crate::proofs::Numbered::size_numbered))]
+    fn read(fields: &mut Fields) -> Option<Unit>
+        ensures found { IfSome result (λ unit. unread fields.old ≡ unit_before unit (unread fields.new)) }
+        ensures later { length (unread fields.new) ≤ length (unread fields.old) }
+    {
+        let size = TxSize::from_number(fields.byte()?)?;
+        let row = fields.byte()?;
+        let column = fields.byte()?;
+        Some(Unit { size, row, column })
+    }
+}
+
+/// A transform in a block, and what lies in the frame beside it.
+#[derive(Clone, Copy)]
+pub struct Availability {
+    block: Block,
+    /// Whether the row above lies in the frame, or the one below.
+    first: bool,
+    /// Whether the column on the right lies in the frame, or the one on the left.
+    second: bool,
+    unit: Unit,
+    halved_columns: bool,
+    halved_rows: bool,
+}
+
+impl Availability {
+    /// The next one.
+    pub fn read(fields: &mut Fields) -> Option<Availability>
+        ensures found { IfSome result (λ asked. unread fields.old ≡ availability_before asked (unread fields.new)) }
+        ensures later { length (unread fields.new) ≤ length (unread fields.old) }
+    {
+        let block = Block::read(fields)?;
+        let first = fields.flag()?;
+        let second = fields.flag()?;
+        let unit = Unit::read(fields)?;
+        let halved_columns = fields.flag()?;
+        let halved_rows = fields.flag()?;
+        Some(Availability {
+            block,
+            first,
+            second,
+            unit,
+            halved_columns,
+            halved_rows,
+        })
+    }
+
+    /// Its answer: whether those above right and below left are, by the tables, then both by the bits of the block's place, a byte each.
+    pub fn replay(&self, alloc: Global) -> Answer {
+        let place = TileBlockOffset(BlockOffset {
+            x: usize::from(self.block.x),
+            y: usize::from(self.block.y),
+        });
+        let mut digest = Digest::new();
+        digest.push(u8::from(self.is_above_right(place)));
+        digest.push(u8::from(self.is_below_left(place)));
+        digest.push(u8::from(has_tr(place, self.block.size)));
+        digest.push(u8::from(has_bl(place, self.block.size)));
+        Answer::plain(alloc, 0, digest)
+    }
+
+    fn is_above_right(&self, place: TileBlockOffset) -> bool {
+        has_top_right(
+            self.block.size,
+            place,
+            self.first,
+            self.second,
+            self.unit.size,
+            usize::from(self.unit.row),
+            usize::from(self.unit.column),
+            usize::from(self.halved_columns),
+            usize::from(self.halved_rows),
+        )
+    }
+
+    fn is_below_left(&self, place: TileBlockOffset) -> bool {
+        has_bottom_left(
+            self.block.size,
+            place,
+            self.first,
+            self.second,
+            self.unit.size,
+            usize::from(self.unit.row),
+            usize::from(self.unit.column),
+            usize::from(self.halved_columns),
+            usize::from(self.halved_rows),
+        )
+    }
+}

@@ -1,0 +1,6 @@
+pub mod Errors
+pub mod Runs
+pub mod Rows
+pub mod Tallies
+pub mod Reports
+pub mod Replays

@@ -1,0 +1,65 @@
+-- What the exit status says of the bytes and of the output.
+use Rattle.std.specs.Prelude.{◌≡◌, ◌≢◌, ◌⊎◌, ℕ, ◌<◌, ◌-◌, ◌^◌, List, [], ◌++◌, length, take, min, codes, decimal, Option, Result, Ok, Err, Bool, true, false, IfSome, ⊤}
+use Rattle.std.specs.Io.KnownBytes.{Appends}
+use Rattle.av1_streams.specs.Faults.{FaultCounted}
+use Rattle.av1_streams.specs.Streams.{AppendsPrefix, max_plan_bytes}
+use Rattle.av1_streams.specs.Tasks.{Cause, read_failed, too_long, refused, write_failed, no_memory}
+use Rattle.av1_recon.specs.Ends.{error_status}
+use Rattle.av1_rows.specs.declared.error.RowsError.{RowsError}
+use Rattle.av1_rows.specs.declared.error.RowsError.TheVariants.{ReadFault, TooLong, NoRows, Malformed, Memory, WriteFault}
+use Rattle.av1_rows.specs.Reports.{report}
+use Rattle.av1_rows.specs.Rows.{Replayed, BeginWith, AreReplayed, AllAgree, magic}
+use Rattle.av1_rows.specs.Tallies.{counts_of}
+
+-- ---- errors
+
+-- what an error blames
+abbrev pub cause : RowsError → Cause
+cause ReadFault = read_failed
+cause TooLong = too_long
+cause NoRows = refused
+cause (Malformed row) = refused
+cause Memory = no_memory
+cause WriteFault = write_failed
+
+-- Why bytes are refused: they are too long, don't begin as a file does, or begin so with rows that were replayed, as many as the
+-- number that is told, behind which stands what was not. Other errors say nothing of the bytes.
+abbrev pub Refuses : RowsError → List ℕ → Type 0
+Refuses TooLong bytes = max_plan_bytes < length bytes
+Refuses NoRows bytes = take 4 bytes ≢ magic
+Refuses (Malformed row) bytes = (rows : List Replayed) × (rest : List ℕ) × BeginWith bytes rows rest × (rest ≢ []) × (row ≡ (counts_of rows).count)
+Refuses ReadFault bytes = ⊤
+Refuses Memory bytes = ⊤
+Refuses WriteFault bytes = ⊤
+
+-- ---- answers
+
+-- whether all rows agree, or why they were not replayed
+abbrev pub Answer : Type 0
+Answer = Result Bool RowsError
+
+-- the exit status of an answer
+abbrev pub status_of : Answer → ℕ
+status_of (Ok true) = 0
+status_of (Ok false) = 1
+status_of (Err e) = error_status (cause e)
+
+-- the line for an error
+abbrev pub error_line : RowsError → List ℕ
+error_line ReadFault = codes "read fault\n"
+error_line TooLong = codes "too long\n"
+error_line NoRows = codes "no rows\n"
+error_line (Malformed row) = codes "malformed row " ++ decimal row ++ codes "\n"
+error_line Memory = codes "out of memory\n"
+error_line WriteFault = codes "write fault\n"
+
+-- the line for an answer, none for rows that were replayed
+abbrev pub line_of : Answer → List ℕ
+line_of (Ok agree) = []
+line_of (Err e) = error_line e
+
+-- ---- what was done
+
+-- the bytes are a file of rows, each of which was replayed, and P holds of them
+abbrev pub Rows : Option (List ℕ) → (List Replayed → Type 0) → Type 0
+Rows left P = IfSome left (λ bytes. (rows : List Replayed) × AreReplayed bytes rows × P rows)

@@ -1,0 +1,19 @@
+-- How the fields of a run stand in its row.
+use Rattle.std.specs.Prelude.{ℕ, List}
+use Rattle.av1_replay.specs.Fields.{four_before, part_before, short_part_before}
+use Rattle.av1_rows.specs.declared.run.Pieces.{Pieces}
+use Rattle.av1_rows.specs.declared.run.Room.{Room}
+use Rattle.av1_rows.specs.declared.run.Run.{Run}
+
+-- how many bytes a piece has at most, and which call fails
+abbrev pub pieces_before : Pieces → List ℕ → List ℕ
+pieces_before pieces others = four_before pieces.size (four_before pieces.failing others)
+
+-- how many bytes a sink takes, and its pieces
+abbrev pub room_before : Room → List ℕ → List ℕ
+room_before room others = four_before room.count (pieces_before room.pieces others)
+
+-- the words, the source, the sinks of the output and of lines, the input, and how many zeros stand behind it
+abbrev pub run_before : Run → List ℕ → List ℕ
+run_before r others =
+    short_part_before r.words.now (pieces_before r.source (room_before r.out (room_before r.err (part_before r.input.now (four_before r.zeros others)))))

@@ -1,0 +1,90 @@
+//! How many rows of each kind there were, and how many differ.
+
+ghost use Rattle.std.specs.Prelude.{◌≡◌, ◌<◌, IfOk, IsNone, OnOk, IsTrue, ◌↔◌};
+ghost use Rattle.av1_replay.specs.Answers.{Agrees};
+ghost use Rattle.av1_rows.specs.Rows.{told_by, wanted_by};
+ghost use Rattle.av1_rows.specs.Tallies.{counts_by, no_rows, with_row};
+
+use crate::row::KINDS;
+use av1_replay::{Answer, Wanted};
+use std::alloc::{AllocError, Global};
+
+/// A row that differs.
+#[derive(Drop)]
+pub struct Difference {
+    /// Its number, from 0.
+    pub row: u64,
+    /// The number of its kind.
+    pub kind: usize,
+    pub came: Answer,
+    pub wanted: Answer,
+}
+
+/// How many rows there were. Each count stays at the last value of a `u64`.
+#[derive(Drop)]
+pub struct Tally {
+    /// How many in all.
+    pub count: u64,
+    /// How many of each kind.
+    pub rows: [u64; KINDS],
+    /// How many of each kind differ.
+    pub differ: [u64; KINDS],
+    /// The first one that does.
+    pub first: Option<Difference>,
+}
+
+impl Tally {
+    /// No rows so far.
+    pub fn new() -> Tally
+        ensures { counts_by result ≡ no_rows }
+    {
+        Tally {
+            count: 0,
+            rows: [0; KINDS],
+            differ: [0; KINDS],
+            first: None,
+        }
+    }
+
+    /// One more row of a kind, of which this answer came, and whether it is the wanted one.
+    ///
+    /// # Errors
+    ///
+    /// Memory for the first difference.
+    pub fn add(
+        &mut self,
+        alloc: Global,
+        kind: usize,
+        agrees: bool,
+        came: Answer,
+        wanted: Wanted,
+    ) -> Result<(), AllocError>
+        requires { kind < KINDS }
+        ensures { OnOk result (counts_by self.new ≡ with_row (counts_by self.old) kind agrees (told_by came) (wanted_by wanted.entry)) }
+    {
+        let row = self.count;
+        self.count = row.saturating_add(1);
+        self.rows[kind] = self.rows[kind].saturating_add(1);
+        if agrees {
+            return Ok(());
+        }
+        self.differ[kind] = self.differ[kind].saturating_add(1);
+        if self.first.is_none() {
+            let wanted = wanted.to_answer(alloc)?;
+            self.first = Some(Difference {
+                row,
+                kind,
+                came,
+                wanted,
+            });
+        }
+        Ok(())
+    }
+
+    /// Whether no row differs.
+    pub fn agrees(&self) -> bool
+        ensures { IsTrue result ↔ IsNone (counts_by self.now).first }
+    {
+        self.first.is_none()
+    }
+}
