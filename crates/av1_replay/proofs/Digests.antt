@@ -1,12 +1,11 @@
 -- Steps of the digest: four bits by a table, and one more byte.
-use Rattle.std.proofs.Common.{◌≡◌, true, ℕ, ◌+◌, ◌-◌, ◌*◌, ◌/◌, ◌%◌, ◌^◌, ◌<◌, ◌≤◌, List, [], ◌∷◌, ◌++◌, arith, sym, ap, subst, refl, ◌∙◌}
+use Rattle.std.proofs.Common.{◌≡◌, true, ℕ, ◌+◌, ◌*◌, ◌/◌, ◌%◌, ◌^◌, ◌<◌, List, [], ◌∷◌, ◌++◌, arith, sym, ap, refl, ◌∙◌}
 use Rattle.std.proofs.Common.{eqb-true}
 use Rattle.std.proofs.lemmas.List.{length-append}
 use Rattle.std.specs.Prelude.{bit_xor, length, min, nat_eq, slice_index_or, suc, zero}
 use Rattle.std.specs.Int.Bits.{xor_assoc, xor_self, xor_zero_l, xor_zero_r}
 use Rattle.std.proofs.lemmas.Nat.{xor_block, xor_comm, xor_shr, xor_mod, mod_below}
 use Rattle.av1_lists.proofs.Below.{all_below, below}
-use Rattle.av1_replay.specs.declared.digest.Digest.{Digest as Sums}
 use Rattle.av1_replay.specs.Digest.{after_bit, after_four_bits, after_byte, after_bytes, Holds}
 
 -- what four bits make of each remainder below 16

@@ -1,5 +1,5 @@
 -- What a number names in a list of all has that number.
-use Rattle.std.proofs.Common.{◌≡◌, true, Bool, ℕ, ◌<◌, List, Option, Some, None, length, arith, sym, ap, subst, refl, ◌∙◌, eqb-true}
+use Rattle.std.proofs.Common.{◌≡◌, true, Bool, ℕ, ◌<◌, List, Option, Some, None, length, subst, refl, eqb-true}
 use Rattle.std.proofs.lemmas.Option.{slice_get_within}
 use Rattle.std.specs.Prelude.{nat_eq, slice_get}
 use Rattle.av1_blocks.specs.Blocks.{block_number}

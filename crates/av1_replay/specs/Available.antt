@@ -1,5 +1,5 @@
 -- What the calls on availability answer.
-use Rattle.std.specs.Prelude.{ℕ, Bool, ◌&&◌, List, [], ◌∷◌, if◌then◌else◌}
+use Rattle.std.specs.Prelude.{ℕ, Bool, ◌&&◌, List, [], if◌then◌else◌}
 use Rattle.av1_avail.specs.Availability.{table_bottom_left, table_top_right}
 use Rattle.av1_avail.specs.Bits.{bits_bottom_left, bits_top_right}
 use Rattle.av1_avail.specs.Cells.{transform_columns, transform_rows}

@@ -1,4 +1,4 @@
-use Rattle.std.proofs.Common.{◌≡◌, ap, ◌∙◌}
+use Rattle.std.proofs.Common.{ap, ◌∙◌}
 use Rattle.std.specs.Prelude.{bit_xor}
 use Rattle.av1_replay.specs.Digest.{after_four_bits}
 use Rattle.av1_replay.proofs.Digests.{pushed}
