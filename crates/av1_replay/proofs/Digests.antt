@@ -1,12 +1,11 @@
 -- Steps of the digest: four bits by a table, and one more byte.
-use Rattle.std.proofs.Common.{◌≡◌, true, ℕ, ◌+◌, ◌-◌, ◌*◌, ◌/◌, ◌%◌, ◌^◌, ◌<◌, ◌≤◌, List, [], ◌∷◌, ◌++◌, arith, sym, ap, subst, refl, ◌∙◌}
+use Rattle.std.proofs.Common.{◌≡◌, true, ℕ, ◌+◌, ◌*◌, ◌/◌, ◌%◌, ◌^◌, ◌<◌, List, [], ◌∷◌, ◌++◌, arith, sym, ap, refl, ◌∙◌}
 use Rattle.std.proofs.Common.{eqb-true}
 use Rattle.std.proofs.lemmas.List.{length-append}
 use Rattle.std.specs.Prelude.{bit_xor, length, min, nat_eq, slice_index_or, suc, zero}
 use Rattle.std.specs.Int.Bits.{xor_assoc, xor_self, xor_zero_l, xor_zero_r}
 use Rattle.std.proofs.lemmas.Nat.{xor_block, xor_comm, xor_shr, xor_mod, mod_below}
 use Rattle.av1_lists.proofs.Below.{all_below, below}
-use Rattle.av1_replay.specs.declared.digest.Digest.{Digest as Sums}
 use Rattle.av1_replay.specs.Digest.{after_bit, after_four_bits, after_byte, after_bytes, Holds}
 
 -- what four bits make of each remainder below 16
@@ -75,10 +74,10 @@ by_table sum =
     let none : sum / 16 * 2 ^ 4 + 0 ≡ sum / 16 * 16 = omega arith in
     let low_alone : 0 * 2 ^ 4 + sum % 16 ≡ sum % 16 = omega arith in
     let apart : sum ≡ bit_xor (sum / 16 * 16) (sum % 16)
-      = parts ∙ sym (xor_block 4 (sum / 16) 0 0 (sum % 16) (omega arith) low) ∙ ap (λ n. bit_xor n (0 * 2 ^ 4 + sum % 16)) none
-      ∙ ap (λ n. bit_xor (sum / 16 * 16) n) low_alone in
+    = parts ∙ sym (xor_block 4 (sum / 16) 0 0 (sum % 16) (omega arith) low) ∙ ap (λ n. bit_xor n (0 * 2 ^ 4 + sum % 16)) none
+    ∙ ap (λ n. bit_xor (sum / 16 * 16) n) low_alone in
     let there : slice_index_or table (sum % 16) 0 ≡ after_four_bits (sum % 16)
-      = eqb-true _ _ (below 16 (λ r. nat_eq (slice_index_or table r 0) (after_four_bits r)) tabled (sum % 16) low) in
+    = eqb-true _ _ (below 16 (λ r. nat_eq (slice_index_or table r 0) (after_four_bits r)) tabled (sum % 16) low) in
     ap (λ n. bit_xor n (sum / 16)) there
     ∙ xor_comm (after_four_bits (sum % 16)) (sum / 16)
     ∙ ap (λ n. bit_xor n (after_four_bits (sum % 16))) (sym (four_moved (sum / 16)))
@@ -96,9 +95,9 @@ kept n = omega arith
 
 -- one more byte is held
 pub pushed :
-  (sum count middle after counted byte : ℕ) (bytes : List ℕ) → Holds (record { sum = sum; count = count }) bytes →
-  middle ≡ after_four_bits (bit_xor sum byte) → after ≡ after_four_bits middle → counted ≡ min (count + 1) 4294967295 →
-  Holds (record { sum = after; count = counted }) (bytes ++ byte ∷ [])
+    (sum count middle after counted byte : ℕ) (bytes : List ℕ) → Holds (record { sum = sum; count = count }) bytes →
+    middle ≡ after_four_bits (bit_xor sum byte) → after ≡ after_four_bits middle → counted ≡ min (count + 1) 4294967295 →
+    Holds (record { sum = after; count = counted }) (bytes ++ byte ∷ [])
 unfolding after_byte
 pushed sum count middle after counted byte bytes held d e f =
     let one : length (bytes ++ byte ∷ []) ≡ length bytes + 1 = length-append bytes (byte ∷ []) in

@@ -1,5 +1,5 @@
 -- How many samples rectangles have.
-use Rattle.std.proofs.Common.{◌≡◌, ℕ, ◌+◌, ◌*◌, ◌<◌, ◌≤◌, arith}
+use Rattle.std.proofs.Common.{ℕ, ◌*◌, ◌≤◌}
 use Rattle.std.proofs.lemmas.Nat.{mul-le}
 
 -- a rectangle with its margins

@@ -1,5 +1,5 @@
 -- What an answer says, and when it is the one that is wanted.
-use Rattle.std.specs.Prelude.{◌≡◌, ℕ, ◌-◌, ◌^◌, List, [], ◌∷◌, length, min}
+use Rattle.std.specs.Prelude.{◌≡◌, ℕ, ◌-◌, ◌^◌, List, ◌∷◌, length, min}
 use Rattle.av1_replay.specs.Digest.{crc32}
 use Rattle.av1_replay.specs.Fields.{four_before, short_part_before}
 use Rattle.av1_replay.specs.declared.answer.Answer.{Answer}

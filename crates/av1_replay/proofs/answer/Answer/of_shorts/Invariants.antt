@@ -1,6 +1,6 @@
 use Rattle.std.specs.Prelude.{take}
 use Rattle.std.specs.List.{flat_map}
-use Rattle.std.specs.Int.{cast_unsigned, to_le_bytes, w16, w32}
+use Rattle.std.specs.Int.{cast_unsigned, to_le_bytes, w16}
 use Rattle.av1_replay.specs.Digest.{Holds}
 use Rattle.av1_replay.proofs.answer.Answer.of_shorts.Given as goal
 
