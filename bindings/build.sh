@@ -35,16 +35,19 @@ archive() {
         ar rs "$2/libav1_c.a" "$work"/heap*.o
 }
 
-# numbers FILE PATTERN: the names of statuses and kinds, each with its number
+# numbers PATTERN FILE..: the names of statuses and kinds, each with its number
 numbers() {
-    sed -n "s/$2/\1 \2/p" "$1" | sort
+    pattern=$1
+    shift
+    sed -n "s/$pattern/\1 \2/p" "$@" | sort
 }
 
 # same_numbers: Rattle, C and Rust give each status the same number
 same_numbers() {
-    numbers ../crates/av1_c/src/status.rt '^pub const \([A-Z_]*\): u32 = \([0-9]*\);.*' >"$work/rattle"
-    numbers c/av1_c.h '^ *AV1_\([A-Z_]*\) = \([0-9]*\).*' >"$work/c"
-    numbers rust/src/sys.rs '^pub const \([A-Z_]*\): u32 = \([0-9]*\);.*' >"$work/rust"
+    constant='^pub const \([A-Z_]*\): u32 = \([0-9]*\);.*'
+    numbers "$constant" ../crates/av1_calls/src/status.rt ../crates/av1_c/src/status.rt >"$work/rattle"
+    numbers '^ *AV1_\([A-Z_]*\) = \([0-9]*\).*' c/av1_c.h >"$work/c"
+    numbers "$constant" rust/src/sys.rs >"$work/rust"
     test -s "$work/rattle" && cmp "$work/rattle" "$work/c" && cmp "$work/rattle" "$work/rust"
 }
 

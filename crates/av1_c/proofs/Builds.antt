@@ -20,7 +20,7 @@ use Rattle.av1_c.specs.declared.build_fault.BuildFault.{BuildFault}
 use Rattle.av1_c.specs.declared.build_fault.BuildFault.TheVariants.{BadState, Refused, RoomTooSmall}
 use Rattle.av1_c.specs.declared.builder.Builder.{Builder}
 use Rattle.av1_c.specs.declared.plan_header.PlanHeader.{PlanHeader}
-use Rattle.av1_c.specs.declared.status.TheConstants.{DONE}
+use Rattle.av1_calls.specs.declared.status.TheConstants.{DONE}
 
 -- ---- what a call leaves
 

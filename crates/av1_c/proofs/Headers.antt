@@ -23,7 +23,7 @@ use Rattle.av1_trace.specs.Samples.{planes_len}
 use Rattle.av1_c.specs.Faults.{plan_fault}
 use Rattle.av1_c.specs.Plans.{BeginWith, IsHeaderFault}
 use Rattle.av1_c.specs.declared.fault.PlanFault.{PlanFault}
-use Rattle.av1_c.specs.declared.status.TheConstants.{DONE}
+use Rattle.av1_calls.specs.declared.status.TheConstants.{DONE}
 use Rattle.av1_c.proofs.Lengths.{wanted_is}
 
 -- ---- a header that is read

@@ -1,14 +1,7 @@
 pub mod Headers
-pub mod IntraCalls
-pub mod EdgeCalls
 pub mod Lengths
 pub mod Statuses
-pub mod Blocks
-pub mod Limits
-pub mod Lanes
-pub mod Motions
 pub mod Appended
 pub mod Arrays
 pub mod Builds
 pub mod LeafBytes
-pub mod LumaCalls

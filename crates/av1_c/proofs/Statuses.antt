@@ -12,7 +12,8 @@ use Rattle.av1_c.specs.Faults.{status_of}
 use Rattle.av1_c.specs.Plans.{IsCause, status_for}
 use Rattle.av1_c.specs.declared.fault.PlanFault.{PlanFault}
 use Rattle.av1_c.specs.declared.fault.PlanFault.TheVariants.{Invalid, Malformed, Memory, RoomTooSmall, TooLong}
-use Rattle.av1_c.specs.declared.status.TheConstants.{DONE, OUT_OF_MEMORY, ROOM_TOO_SMALL, TOO_LONG}
+use Rattle.av1_calls.specs.declared.status.TheConstants.{DONE, ROOM_TOO_SMALL}
+use Rattle.av1_c.specs.declared.status.TheConstants.{OUT_OF_MEMORY, TOO_LONG}
 
 -- a fault of the bytes is a cause whatever the buffer
 pub passed_on : (bytes : List ℕ) (room : ℕ) (result : Result ℕ PlanFault) (e : PlanFault) → IsErrAnd result (λ fault. fault ≡ e) → ((room : ℕ) → IsCause bytes room e) → IfErr result (IsCause bytes room)

@@ -4,7 +4,8 @@ use Rattle.av1_planwrite.specs.declared.error.BuildError.{BuildError}
 use Rattle.av1_planwrite.specs.declared.error.BuildError.TheVariants as errors
 use Rattle.av1_c.specs.declared.build_fault.BuildFault.{BuildFault}
 use Rattle.av1_c.specs.declared.build_fault.BuildFault.TheVariants.{BadState, Refused, RoomTooSmall}
-use Rattle.av1_c.specs.declared.status.TheConstants.{DONE, OUT_OF_MEMORY, ROOM_TOO_SMALL, TOO_LONG, NOT_NOW, NOT_ADMITTED, BAD_STATE}
+use Rattle.av1_calls.specs.declared.status.TheConstants.{DONE, ROOM_TOO_SMALL}
+use Rattle.av1_c.specs.declared.status.TheConstants.{OUT_OF_MEMORY, TOO_LONG, NOT_NOW, NOT_ADMITTED, BAD_STATE}
 
 -- the status of a call that a plan refuses so
 abbrev pub refusal_status : BuildError → ℕ

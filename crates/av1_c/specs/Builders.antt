@@ -10,7 +10,7 @@ use Rattle.av1_planwrite.specs.declared.parts.Part.TheVariants.{Node, Leaf}
 use Rattle.av1_planwrite.specs.declared.state.State.{State}
 use Rattle.av1_planwrite.specs.Building.{Building}
 use Rattle.av1_planwrite.specs.States.{is_state, stopped}
-use Rattle.av1_c.specs.Arguments.{filter_mode, or_else}
+use Rattle.av1_calls.specs.Arguments.{filter_mode, or_else}
 use Rattle.av1_c.specs.declared.build_fault.BuildFault.{BuildFault}
 use Rattle.av1_c.specs.declared.build_fault.BuildFault.TheVariants.{Refused, RoomTooSmall}
 use Rattle.av1_c.specs.declared.builder.Builder.{Builder}

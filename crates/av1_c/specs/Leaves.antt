@@ -21,7 +21,7 @@ use Rattle.av1_plan.specs.declared.leaf.Triple.{Triple}
 use Rattle.av1_planwrite.specs.declared.error.BuildError.{BuildError}
 use Rattle.av1_planwrite.specs.Building.{Building, LeafFields, admits_leaf, asked_part, asks_leaf, refusal, with_leaf}
 use Rattle.av1_planwrite.specs.Text.{fields_text}
-use Rattle.av1_c.specs.Arguments.{or_else}
+use Rattle.av1_calls.specs.Arguments.{or_else}
 use Rattle.av1_c.specs.declared.leaf_numbers.Coefficient.{Coefficient}
 use Rattle.av1_c.specs.declared.leaf_numbers.LeafNumbers.{LeafNumbers}
 use Rattle.av1_c.specs.declared.leaf_numbers.Motion.{Motion}

@@ -1,12 +1,5 @@
 pub mod Faults
 pub mod Plans
-pub mod Arguments
-pub mod IntraBlocks
-pub mod IntraEdges
-pub mod Transforms
-pub mod Motions
-pub mod Samples
 pub mod Builders
 pub mod BuildFaults
 pub mod Leaves
-pub mod LumaBlocks

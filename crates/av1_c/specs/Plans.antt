@@ -8,7 +8,8 @@ use Rattle.av1_recon.specs.declared.error.ReconError.TheVariants as errors
 use Rattle.av1_streams.specs.Streams.{max_plan_bytes}
 use Rattle.av1_c.specs.declared.fault.PlanFault.{PlanFault}
 use Rattle.av1_c.specs.declared.fault.PlanFault.TheVariants.{Memory, RoomTooSmall, TooLong, Malformed, Invalid}
-use Rattle.av1_c.specs.declared.status.TheConstants.{DONE, OUT_OF_MEMORY, ROOM_TOO_SMALL, TOO_LONG, MALFORMED, INVALID}
+use Rattle.av1_calls.specs.declared.status.TheConstants.{DONE, ROOM_TOO_SMALL}
+use Rattle.av1_c.specs.declared.status.TheConstants.{OUT_OF_MEMORY, TOO_LONG, MALFORMED, INVALID}
 
 -- ---- what the bytes are
 

@@ -12,7 +12,8 @@ use crate::appending::{append, append_planes};
 use crate::build_fault::{BuildFault, answer};
 use crate::builder::Builder;
 use crate::plan_header::PlanHeader;
-use crate::status::{BAD_STATE, DONE, NOT_NOW};
+use crate::status::{BAD_STATE, NOT_NOW};
+use av1_calls::DONE;
 use av1_planwrite::{BuildError, Progress, header_fields};
 
 // ---- the header

@@ -4,9 +4,8 @@ ghost use Rattle.std.specs.Prelude.{◌≡◌};
 ghost use Rattle.av1_c.specs.BuildFaults.{answered, build_status};
 ghost use Rattle.av1_c.specs.declared.build_fault.BuildFault.TheVariants as faults;
 
-use crate::status::{
-    BAD_STATE, DONE, NOT_ADMITTED, NOT_NOW, OUT_OF_MEMORY, ROOM_TOO_SMALL, TOO_LONG,
-};
+use crate::status::{BAD_STATE, NOT_ADMITTED, NOT_NOW, OUT_OF_MEMORY, TOO_LONG};
+use av1_calls::{DONE, ROOM_TOO_SMALL};
 use av1_planwrite::BuildError;
 
 /// Why a call of a builder did nothing.

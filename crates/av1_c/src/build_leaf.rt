@@ -13,7 +13,7 @@ use crate::append_leaf::append_leaf;
 use crate::build_fault::{BuildFault, answer};
 use crate::builder::Builder;
 use crate::leaf_numbers::{Coefficient, LeafNumbers};
-use crate::status::DONE;
+use av1_calls::DONE;
 use av1_planwrite::{BuildError, Part, Progress};
 
 /// Whether a leaf of these numbers may come next that has so many coefficients in Y, U and V.

@@ -5,9 +5,10 @@ ghost use Rattle.av1_c.specs.declared.fault.PlanFault.TheVariants as faults;
 
 use crate::status::{
     COEFFICIENT, INVALID, INVALID_BLOCK_SIZE, MALFORMED, MISSING_REFERENCE, MODE, OUT_OF_MEMORY,
-    ROOM_TOO_SMALL, TOO_LONG, TRANSFORM, VECTOR,
+    TOO_LONG, TRANSFORM, VECTOR,
 };
 use av1_blocks::OutOfMemory;
+use av1_calls::ROOM_TOO_SMALL;
 use av1_plan::{Invalid, InvalidKind, PlanError};
 
 /// Why a call on a plan wrote nothing.

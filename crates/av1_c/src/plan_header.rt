@@ -3,7 +3,7 @@
 ghost use Rattle.std.specs.Prelude.{◌≡◌};
 ghost use Rattle.av1_c.specs.Builders.{header_of};
 
-use crate::argument::filter_mode;
+use av1_calls::filter_mode;
 use av1_plan::Header;
 
 /// The frame that a plan is for, and what holds for all its leaves: the numbers of the fields that a plan begins with.

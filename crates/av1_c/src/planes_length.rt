@@ -11,7 +11,8 @@ ghost use Rattle.av1_c.specs.Faults.{malformed_at};
 ghost use Rattle.av1_c.specs.Plans.{BeginWith, IsHeaderFault};
 
 use crate::fault::{PlanFault, Refusal};
-use crate::status::{DONE, MALFORMED, TOO_LONG};
+use crate::status::{MALFORMED, TOO_LONG};
+use av1_calls::DONE;
 use av1_plan::Reader;
 use av1_recon::MAX_PLAN_BYTES;
 use av1_trace::planes_len;

@@ -11,7 +11,8 @@ ghost use Rattle.av1_c.specs.Faults.{malformed_at, invalid_leaf};
 ghost use Rattle.av1_c.specs.Plans.{AreWritten, ComeToPlanes, IsCause, IsWritingFault, status_for};
 
 use crate::fault::{PlanFault, Refusal};
-use crate::status::{DONE, INVALID, MALFORMED, OUT_OF_MEMORY, ROOM_TOO_SMALL, TOO_LONG};
+use crate::status::{INVALID, MALFORMED, OUT_OF_MEMORY, TOO_LONG};
+use av1_calls::{DONE, ROOM_TOO_SMALL};
 use av1_plan::{Plan, check_plan, parse_plan};
 use av1_recon::{MAX_PLAN_BYTES, MemSink, reconstruct_valid};
 use av1_trace::planes_len;

@@ -1,13 +1,8 @@
-//! The numbers that calls answer with. C's header and the Rust crate have the same under the same names.
-
-/// All was done.
-pub const DONE: u32 = 0;
+//! The numbers that only calls on plans answer with; `av1_calls` has those that calls on blocks have, too. C's header and the Rust crate have
+//! the same under the same names.
 
 /// Memory ran out.
 pub const OUT_OF_MEMORY: u32 = 1;
-
-/// The buffer that was to be written is too short.
-pub const ROOM_TOO_SMALL: u32 = 2;
 
 /// There are more bytes than the longest plan has.
 pub const TOO_LONG: u32 = 3;
@@ -17,42 +12,6 @@ pub const MALFORMED: u32 = 4;
 
 /// A leaf of the plan is refused.
 pub const INVALID: u32 = 5;
-
-/// No size has this number, or no block has such a side.
-pub const BAD_SIZE: u32 = 6;
-
-/// No type has this number, or the size has no such type.
-pub const BAD_TYPE: u32 = 7;
-
-/// Samples have no such depth.
-pub const BAD_DEPTH: u32 = 8;
-
-/// A rectangle does not lie in its buffer.
-pub const BAD_AREA: u32 = 9;
-
-/// A list has too few elements.
-pub const TOO_SHORT: u32 = 10;
-
-/// A coefficient has more bits than the depth admits.
-pub const BAD_COEFFICIENT: u32 = 11;
-
-/// A sample has more bits than the depth.
-pub const BAD_SAMPLE: u32 = 12;
-
-/// No mode or filter has this number.
-pub const BAD_MODE: u32 = 13;
-
-/// An angle that its mode does not have.
-pub const BAD_ANGLE: u32 = 14;
-
-/// No filter has this fraction of a sample.
-pub const BAD_FRACTION: u32 = 15;
-
-/// No planes have such decimations.
-pub const BAD_SAMPLING: u32 = 16;
-
-/// So many columns or rows without luma of their own leave none with it.
-pub const BAD_PAD: u32 = 17;
 
 /// A plan in the making asks for another kind of field next.
 pub const NOT_NOW: u32 = 40;

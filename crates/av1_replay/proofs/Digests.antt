@@ -75,10 +75,10 @@ by_table sum =
     let none : sum / 16 * 2 ^ 4 + 0 ≡ sum / 16 * 16 = omega arith in
     let low_alone : 0 * 2 ^ 4 + sum % 16 ≡ sum % 16 = omega arith in
     let apart : sum ≡ bit_xor (sum / 16 * 16) (sum % 16)
-      = parts ∙ sym (xor_block 4 (sum / 16) 0 0 (sum % 16) (omega arith) low) ∙ ap (λ n. bit_xor n (0 * 2 ^ 4 + sum % 16)) none
-      ∙ ap (λ n. bit_xor (sum / 16 * 16) n) low_alone in
+    = parts ∙ sym (xor_block 4 (sum / 16) 0 0 (sum % 16) (omega arith) low) ∙ ap (λ n. bit_xor n (0 * 2 ^ 4 + sum % 16)) none
+    ∙ ap (λ n. bit_xor (sum / 16 * 16) n) low_alone in
     let there : slice_index_or table (sum % 16) 0 ≡ after_four_bits (sum % 16)
-      = eqb-true _ _ (below 16 (λ r. nat_eq (slice_index_or table r 0) (after_four_bits r)) tabled (sum % 16) low) in
+    = eqb-true _ _ (below 16 (λ r. nat_eq (slice_index_or table r 0) (after_four_bits r)) tabled (sum % 16) low) in
     ap (λ n. bit_xor n (sum / 16)) there
     ∙ xor_comm (after_four_bits (sum % 16)) (sum / 16)
     ∙ ap (λ n. bit_xor n (after_four_bits (sum % 16))) (sym (four_moved (sum / 16)))
@@ -96,9 +96,9 @@ kept n = omega arith
 
 -- one more byte is held
 pub pushed :
-  (sum count middle after counted byte : ℕ) (bytes : List ℕ) → Holds (record { sum = sum; count = count }) bytes →
-  middle ≡ after_four_bits (bit_xor sum byte) → after ≡ after_four_bits middle → counted ≡ min (count + 1) 4294967295 →
-  Holds (record { sum = after; count = counted }) (bytes ++ byte ∷ [])
+    (sum count middle after counted byte : ℕ) (bytes : List ℕ) → Holds (record { sum = sum; count = count }) bytes →
+    middle ≡ after_four_bits (bit_xor sum byte) → after ≡ after_four_bits middle → counted ≡ min (count + 1) 4294967295 →
+    Holds (record { sum = after; count = counted }) (bytes ++ byte ∷ [])
 unfolding after_byte
 pushed sum count middle after counted byte bytes held d e f =
     let one : length (bytes ++ byte ∷ []) ≡ length bytes + 1 = length-append bytes (byte ∷ []) in

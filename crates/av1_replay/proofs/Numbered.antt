@@ -18,9 +18,9 @@ has_number number n None = true
 has_number number n (Some a) = nat_eq n (number a)
 
 numbered :
-  {A : Type 0} (all : List A) (number : A → ℕ) (count n : ℕ) (a : A) →
-  all_below count (λ k. has_number number k (slice_get all k)) ≡ true → length all ≡ count →
-  slice_get all n ≡ Some a → n ≡ number a
+    {A : Type 0} (all : List A) (number : A → ℕ) (count n : ℕ) (a : A) →
+    all_below count (λ k. has_number number k (slice_get all k)) ≡ true → length all ≡ count →
+    slice_get all n ≡ Some a → n ≡ number a
 numbered all number count n a tried long found =
     let within : n < count = subst (λ m. n < m) long (slice_get_within all n a found) in
     eqb-true n (number a) (subst (λ item. has_number number n item ≡ true) found (below count (λ k. has_number number k (slice_get all k)) tried n within))

@@ -1,8 +1,9 @@
 -- Numbers of some bits.
-use Rattle.std.proofs.Common.{◌≡◌, ℕ, ◌+◌, ◌-◌, ◌*◌, ◌/◌, ◌%◌, ◌^◌, ◌<◌, ◌≤◌, arith, sym, ap, subst, ◌∙◌, Fits, w32, w64}
+use Rattle.std.proofs.Common.{◌≡◌, ℕ, ◌+◌, ◌-◌, ◌*◌, ◌/◌, ◌%◌, ◌^◌, ◌<◌, ◌≤◌, arith, sym, ap, subst, ◌∙◌, inl, inr}
 use Rattle.std.proofs.Common.{div-lt_iff_lt-mul}
 use Rattle.std.proofs.Math.Nat.{mod-eq_of_lt}
 use Rattle.std.proofs.Math.Pow.{pow_mono}
+use Rattle.av1_blocks.specs.Depths.{IsDepth}
 use Rattle.std.proofs.lemmas.Nat.{pow_pos, pow-add}
 
 -- the upper bits of a number of 64
@@ -12,8 +13,8 @@ upper_below x k h few =
     let whole : 2 ^ 64 ≡ 2 ^ k * 2 ^ (64 - k) = ap (λ n. 2 ^ n) parts ∙ pow-add 2 k (64 - k) in
     (div-lt_iff_lt-mul (pow_pos (64 - k))).1 (subst (λ n. x < n) whole h)
 
-pub upper_fits : (x k : ℕ) → Fits w64 x → k ≤ 31 → Fits w32 (x / 2 ^ (64 - k))
-upper_fits x k h few =
+pub upper_few : (x k : ℕ) → x < 2 ^ 64 → k ≤ 31 → x / 2 ^ (64 - k) < 2 ^ 32
+upper_few x k h few =
     let small : x / 2 ^ (64 - k) < 2 ^ k = upper_below x k h few in
     let below : 2 ^ k ≤ 2 ^ 31 = pow_mono few in
     omega (arith, small, below)
@@ -39,3 +40,9 @@ half_few k few = pow_mono {i = k - 1} {j = 19} (omega (arith, few))
 -- a number of fewer bits
 pub deeper : (x k n : ℕ) → k ≤ n → x < 2 ^ k → x < 2 ^ n
 deeper x k n few h = let e : 2 ^ k ≤ 2 ^ n = pow_mono few in omega arith
+
+-- 1 is a sample of any depth
+pub one_below : (depth n : ℕ) → IsDepth depth → depth ≤ n → 1 < 2 ^ n
+one_below depth n (inl e) h = deeper 1 8 n (omega (arith, e, h)) (omega arith)
+one_below depth n (inr (inl e)) h = deeper 1 8 n (omega (arith, e, h)) (omega arith)
+one_below depth n (inr (inr e)) h = deeper 1 8 n (omega (arith, e, h)) (omega arith)

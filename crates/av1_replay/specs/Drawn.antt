@@ -44,9 +44,11 @@ signed_in_way drawn same state =
     if drawn.spare == 0
     then (centred drawn.bits (in_way drawn.way drawn.bits same state).0, (in_way drawn.way drawn.bits same state).1)
     else (if upper drawn.spare state == 0
-          then (centred drawn.bits (in_way drawn.way drawn.bits same (next_state state)).0,
-                (in_way drawn.way drawn.bits same (next_state state)).1)
-          else (pos 0, next_state state))
+    then (
+      centred drawn.bits (in_way drawn.way drawn.bits same (next_state state)).0,
+      (in_way drawn.way drawn.bits same (next_state state)).1,
+    )
+    else (pos 0, next_state state))
 
 -- so many, one after another, and the state after them
 unfoldable pub repeated : {X : Type 0} → (ℕ → X × ℕ) → ℕ → ℕ → List X × ℕ

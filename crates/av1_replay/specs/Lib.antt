@@ -4,3 +4,4 @@ pub mod Answers
 pub mod Drawn
 pub mod Rows
 pub mod Calls
+pub mod Available

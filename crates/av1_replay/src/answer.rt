@@ -40,11 +40,7 @@ impl Answer {
     pub fn of_samples<T: Pixel>(alloc: Global, status: u32, samples: &[T]) -> Answer
         ensures { Tells result (min status 255) [] (flat_map (λ sample. to_le_bytes w16 (T.num sample)) samples.now) }
     {
-        let mut digest = Digest::new();
-        for sample in samples {
-            digest.push_two(sample.to_u32() as u16);
-        }
-        Answer::plain(alloc, short_status(status), digest)
+        Answer::plain(alloc, short_status(status), digest_of(samples))
     }
 
     /// The same of numbers of 16 bits.
@@ -68,6 +64,17 @@ impl Answer {
         }
         Answer::plain(alloc, 0, digest)
     }
+}
+
+// The digest of samples: two bytes each.
+fn digest_of<T: Pixel>(samples: &[T]) -> Digest
+    ensures { Holds result (flat_map (λ sample. to_le_bytes w16 (T.num sample)) samples.now) }
+{
+    let mut digest = Digest::new();
+    for sample in samples {
+        digest.push_two(sample.to_u32() as u16);
+    }
+    digest
 }
 
 // The status of a call on a block, of which there are few.

@@ -1,6 +1,8 @@
 //! Whether the samples beside a transform are coded before it.
 
-ghost use Rattle.std.specs.Prelude.{◌≡◌, ◌≤◌, IfSome, length};
+ghost use Rattle.std.specs.Prelude.{◌≡◌, ◌≤◌, [], IfSome, length};
+ghost use Rattle.av1_replay.specs.Answers.{Tells};
+ghost use Rattle.av1_replay.specs.Available.{above_right, available_bytes, below_left};
 ghost use Rattle.av1_replay.specs.Fields.{unread};
 ghost use Rattle.av1_replay.specs.Calls.{availability_before, block_before, unit_before};
 
@@ -30,6 +32,17 @@ impl Block {
         let x = fields.byte()?;
         let y = fields.byte()?;
         Some(Block { size, x, y })
+    }
+
+    // The cell that it begins at.
+    fn place(&self) -> TileBlockOffset
+        ensures x { result.0.x ≡ self.now.x }
+        ensures y { result.0.y ≡ self.now.y }
+    {
+        TileBlockOffset(BlockOffset {
+            x: usize::from(self.x),
+            y: usize::from(self.y),
+        })
     }
 }
 
@@ -90,23 +103,24 @@ impl Availability {
     }
 
     /// Its answer: whether those above right and below left are, by the tables, then both by the bits of the block's place, a byte each.
-    pub fn replay(&self, alloc: Global) -> Answer {
-        let place = TileBlockOffset(BlockOffset {
-            x: usize::from(self.block.x),
-            y: usize::from(self.block.y),
-        });
+    pub fn replay(&self, alloc: Global) -> Answer
+        ensures { Tells result 0 [] (available_bytes self.now) }
+    {
+        let place = self.block.place();
         let mut digest = Digest::new();
-        digest.push(u8::from(self.is_above_right(place)));
-        digest.push(u8::from(self.is_below_left(place)));
+        digest.push(u8::from(self.is_above_right()));
+        digest.push(u8::from(self.is_below_left()));
         digest.push(u8::from(has_tr(place, self.block.size)));
         digest.push(u8::from(has_bl(place, self.block.size)));
         Answer::plain(alloc, 0, digest)
     }
 
-    fn is_above_right(&self, place: TileBlockOffset) -> bool {
+    fn is_above_right(&self) -> bool
+        ensures { result ≡ above_right self.now }
+    {
         has_top_right(
             self.block.size,
-            place,
+            self.block.place(),
             self.first,
             self.second,
             self.unit.size,
@@ -117,10 +131,12 @@ impl Availability {
         )
     }
 
-    fn is_below_left(&self, place: TileBlockOffset) -> bool {
+    fn is_below_left(&self) -> bool
+        ensures { result ≡ below_left self.now }
+    {
         has_bottom_left(
             self.block.size,
-            place,
+            self.block.place(),
             self.first,
             self.second,
             self.unit.size,

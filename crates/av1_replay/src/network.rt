@@ -87,7 +87,6 @@ fn cosine(number: u8, input: &[i32], output: &mut [i32], range: usize)
     }
 }
 
-#[tactic(auto, using(crate::proofs::Fitting::front_fits))]
 fn sine(number: u8, input: &[i32], output: &mut [i32], range: usize)
     requires least { 8 ≤ range }
     requires most { range ≤ 20 }
@@ -106,7 +105,6 @@ fn sine(number: u8, input: &[i32], output: &mut [i32], range: usize)
 }
 
 // The identities and the Walsh-Hadamard transform.
-#[tactic(auto, using(crate::proofs::Fitting::front_fits))]
 fn rest(number: u8, input: &[i32], output: &mut [i32], range: usize)
     requires least { 8 ≤ range }
     requires most { range ≤ 20 }

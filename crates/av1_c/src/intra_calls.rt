@@ -1,0 +1,135 @@
+//! Blocks that intra modes predict, their edges and luma for their chroma, for C. Each call is that of `av1_calls` of the same name, which says what it does.
+ghost use Rattle.std.specs.Prelude.{false, true};
+ghost use Rattle.av1_blocks.specs.declared.predict.PredictionMode.TheVariants as modes;
+ghost use Rattle.av1_calls.specs.IntraBlocks.{Predicts, PredictsBy};
+ghost use Rattle.av1_calls.specs.IntraEdges.{PreparesEdge};
+ghost use Rattle.av1_calls.specs.LumaBlocks.{GivesDifferences};
+
+use av1_calls::{CflBlock, EdgeBlock, EdgePlane, IntraBlock};
+
+/// Predicts a block by its intra mode from the sides round it, at a depth of 8.
+#[unsafe(no_mangle)]
+pub extern "C" fn av1_predict_intra_8(
+    samples: &mut [u8],
+    stride: usize,
+    x: usize,
+    y: usize,
+    block: &IntraBlock,
+    left: &[u8],
+    corner: u8,
+    above: &[u8],
+) -> u32
+    ensures { Predicts 8 (λ n. n) (λ n. n) block.now stride x y left.now corner above.now samples.old samples.new result }
+{
+    av1_calls::av1_predict_intra_8(samples, stride, x, y, block, left, corner, above)
+}
+
+/// The same for samples of 16 bits.
+#[unsafe(no_mangle)]
+pub extern "C" fn av1_predict_intra_16(
+    samples: &mut [u16],
+    stride: usize,
+    x: usize,
+    y: usize,
+    block: &IntraBlock,
+    left: &[u16],
+    corner: u16,
+    above: &[u16],
+) -> u32
+    ensures { Predicts 16 (λ n. n) (λ n. n) block.now stride x y left.now corner above.now samples.old samples.new result }
+{
+    av1_calls::av1_predict_intra_16(samples, stride, x, y, block, left, corner, above)
+}
+
+/// Predicts a block of chroma from luma, at a depth of 8.
+#[unsafe(no_mangle)]
+pub extern "C" fn av1_predict_cfl_8(
+    samples: &mut [u8],
+    stride: usize,
+    x: usize,
+    y: usize,
+    block: &IntraBlock,
+    left: &[u8],
+    above: &[u8],
+    ac: &[i16],
+    alpha: i16,
+) -> u32
+    ensures { PredictsBy 8 (λ n. n) (λ n. n) block.now modes.UV_CFL_PRED stride x y left.now 0 above.now ac.now alpha samples.old samples.new result }
+{
+    av1_calls::av1_predict_cfl_8(samples, stride, x, y, block, left, above, ac, alpha)
+}
+
+/// The same for samples of 16 bits.
+#[unsafe(no_mangle)]
+pub extern "C" fn av1_predict_cfl_16(
+    samples: &mut [u16],
+    stride: usize,
+    x: usize,
+    y: usize,
+    block: &IntraBlock,
+    left: &[u16],
+    above: &[u16],
+    ac: &[i16],
+    alpha: i16,
+) -> u32
+    ensures { PredictsBy 16 (λ n. n) (λ n. n) block.now modes.UV_CFL_PRED stride x y left.now 0 above.now ac.now alpha samples.old samples.new result }
+{
+    av1_calls::av1_predict_cfl_16(samples, stride, x, y, block, left, above, ac, alpha)
+}
+
+/// Prepares the edge of a transform for the mode that is to predict it, at a depth of 8.
+#[unsafe(no_mangle)]
+pub extern "C" fn av1_intra_edge_8(
+    edge: &mut [u8],
+    samples: &[u8],
+    plane: &EdgePlane,
+    block: &EdgeBlock,
+) -> u32
+    ensures { PreparesEdge 8 (λ n. n) plane.now block.now samples.now edge.old edge.new result }
+{
+    av1_calls::av1_intra_edge_8(edge, samples, plane, block)
+}
+
+/// The same for samples of 16 bits.
+#[unsafe(no_mangle)]
+pub extern "C" fn av1_intra_edge_16(
+    edge: &mut [u16],
+    samples: &[u16],
+    plane: &EdgePlane,
+    block: &EdgeBlock,
+) -> u32
+    ensures { PreparesEdge 16 (λ n. n) plane.now block.now samples.now edge.old edge.new result }
+{
+    av1_calls::av1_intra_edge_16(edge, samples, plane, block)
+}
+
+/// Gives the differences of luma from its mean over a block of chroma, at a depth of 8.
+#[unsafe(no_mangle)]
+pub extern "C" fn av1_cfl_ac_8(
+    ac: &mut [i16],
+    luma: &[u8],
+    stride: usize,
+    x: usize,
+    y: usize,
+    block: &CflBlock,
+) -> u32
+    ensures { GivesDifferences false 8 block.now stride x y luma.now ac.old ac.new result }
+{
+    av1_calls::av1_cfl_ac_8(ac, luma, stride, x, y, block)
+}
+
+/// The same for samples of 16 bits.
+#[unsafe(no_mangle)]
+pub extern "C" fn av1_cfl_ac_16(
+    ac: &mut [i16],
+    luma: &[u16],
+    stride: usize,
+    x: usize,
+    y: usize,
+    block: &CflBlock,
+    bit_depth: usize,
+) -> u32
+    ensures { GivesDifferences true bit_depth block.now stride x y luma.now ac.old ac.new result }
+{
+    av1_calls::av1_cfl_ac_16(ac, luma, stride, x, y, block, bit_depth)
+}

@@ -1,0 +1,59 @@
+//! Residues of blocks, for C. Each call is that of `av1_calls` of the same name, which says what it does.
+ghost use Rattle.std.specs.Prelude.{false, true};
+ghost use Rattle.av1_calls.specs.Transforms.{AddsResidue};
+
+use av1_calls::TxRoom;
+
+/// Adds the residue of coefficients to the samples of a rectangle, at a depth of 8.
+#[unsafe(no_mangle)]
+pub extern "C" fn av1_inverse_transform_add_8(
+    scratch: &mut TxRoom,
+    coefficients: &[i16],
+    samples: &mut [u8],
+    stride: usize,
+    x: usize,
+    y: usize,
+    tx_size: u8,
+    tx_type: u8,
+) -> u32
+    ensures { AddsResidue false 8 tx_size tx_type stride x y coefficients.now samples.old samples.new result }
+{
+    av1_calls::av1_inverse_transform_add_8(
+        scratch,
+        coefficients,
+        samples,
+        stride,
+        x,
+        y,
+        tx_size,
+        tx_type,
+    )
+}
+
+/// The same for samples of 16 bits.
+#[unsafe(no_mangle)]
+pub extern "C" fn av1_inverse_transform_add_16(
+    scratch: &mut TxRoom,
+    coefficients: &[i32],
+    samples: &mut [u16],
+    stride: usize,
+    x: usize,
+    y: usize,
+    tx_size: u8,
+    tx_type: u8,
+    bit_depth: usize,
+) -> u32
+    ensures { AddsResidue true bit_depth tx_size tx_type stride x y coefficients.now samples.old samples.new result }
+{
+    av1_calls::av1_inverse_transform_add_16(
+        scratch,
+        coefficients,
+        samples,
+        stride,
+        x,
+        y,
+        tx_size,
+        tx_type,
+        bit_depth,
+    )
+}

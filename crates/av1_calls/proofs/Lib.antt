@@ -1,0 +1,7 @@
+pub mod IntraCalls
+pub mod EdgeCalls
+pub mod Blocks
+pub mod Limits
+pub mod Lanes
+pub mod Motions
+pub mod LumaCalls

@@ -1,0 +1,180 @@
+-- What the calls that predict a block by an intra mode say of their arguments: of the block in numbers, of where its first sample stands
+-- (column x of row y), of rows that stand `stride` apart, and of how many samples there are, on each side and in all.
+-- AV1 specification: intra prediction process.
+use Rattle.std.specs.Prelude.{◌≡◌, ◌≢◌, ◌⊎◌, ℕ, ◌*◌, ◌≤◌, ◌==◌, IsTrue, not, if◌then◌else◌, Bool, false, List, [], length, Option, None, Some, slice_get, ℤ, pos, unsigned_abs}
+use Rattle.av1_blocks.specs.Depths.{IsDepth}
+use Rattle.av1_blocks.specs.Modes.{is_cfl, is_directional, is_intra}
+use Rattle.av1_blocks.specs.Transforms.{tx_height, tx_width}
+use Rattle.av1_blocks.specs.declared.predict.IntraParam.TheVariants.{AngleDelta}
+use Rattle.av1_blocks.specs.declared.predict.PredictionMode.{PredictionMode}
+use Rattle.av1_blocks.specs.declared.predict.TheConstants.PredictionMode as modes
+use Rattle.av1_blocks.specs.declared.transform.TxSize.{TxSize}
+use Rattle.av1_edges.specs.Parts.{effective}
+use Rattle.av1_frame.specs.Areas.{AreRows}
+use Rattle.av1_frame.specs.Samples.{paint}
+use Rattle.av1_intra.specs.ChromaFromLuma.{ac_at}
+use Rattle.av1_intra.specs.Predicted.{angle_or_alpha, edge_round, places_above, places_left, predicted, variant_at}
+use Rattle.av1_intra.specs.declared.directional.DirectionalBlock.{DirectionalBlock}
+use Rattle.av1_intra.specs.declared.variant.PredictionVariant.{PredictionVariant}
+use Rattle.av1_calls.specs.Arguments.{HasNoSize, IsSize, rectangle}
+use Rattle.av1_calls.specs.declared.argument.BadArgument.{BadArgument}
+use Rattle.av1_calls.specs.declared.argument.BadArgument.TheVariants as bad
+use Rattle.av1_calls.specs.declared.intra.IntraBlock.{IntraBlock}
+use Rattle.av1_calls.specs.declared.status.TheConstants.{BAD_ANGLE, BAD_AREA, BAD_DEPTH, BAD_MODE, BAD_SIZE, DONE, TOO_SHORT}
+
+-- ---- what is asked for
+
+-- this is the intra mode of the number; chroma from luma has a call of its own
+pub record IsIntraMode (number : ℕ) (mode : PredictionMode) : Type 0 where
+  pub named : slice_get modes.ALL number ≡ Some mode
+  pub intra : IsTrue (is_intra mode)
+  pub own : is_cfl mode ≡ false
+
+-- the mode turns so many steps: up to three either way from its angle, and none where it has no angle
+pub record IsTurn (mode : PredictionMode) (step : ℤ) : Type 0 where
+  pub few : unsigned_abs step ≤ 3
+  pub straight : is_directional mode ≡ false → step ≡ pos 0
+
+-- a depth of samples of so many bits
+pub record IsDepthWithin (bits depth : ℕ) : Type 0 where
+  pub known : IsDepth depth
+  pub fits : depth ≤ bits
+
+-- the edge filter: none where it is off, else whether a neighbour is smooth
+abbrev pub filter_of : (on smooth : ℕ) → Option Bool
+filter_of on smooth = if on == 0 then None else Some (not (smooth == 0))
+
+-- the mode by which a block is predicted: where a side lies outside Paeth prediction has fewer neighbours
+abbrev pub mode_in : IntraBlock → PredictionMode → PredictionMode
+mode_in b mode = effective mode b.has_left b.has_above
+
+-- its sides that lie in its tile
+abbrev pub variant_in : IntraBlock → PredictionVariant
+variant_in b = variant_at b.has_left b.has_above
+
+-- the block of this size and mode; the angle of a mode without a direction is not read
+abbrev pub block_of : IntraBlock → PredictionMode → TxSize → DirectionalBlock
+block_of b mode size = record {
+  p_angle = unsigned_abs (angle_or_alpha mode (AngleDelta b.angle_step));
+  width = tx_width size;
+  height = tx_height size;
+  bit_depth = b.bit_depth;
+  smooth_filter = filter_of b.edge_filter b.smooth_neighbour;
+  visible_columns = b.visible_columns;
+  visible_rows = b.visible_rows;
+}
+
+-- The sides, and luma's differences, are as long as a block reads them that is predicted by this mode.
+pub record AreLong (b : DirectionalBlock) (variant : PredictionVariant) (mode : PredictionMode) (left above ac : ℕ) : Type 0 where
+  pub left_long : places_left mode variant b.p_angle b.width b.height ≤ left
+  pub above_long : places_above mode variant b.p_angle b.width b.height ≤ above
+  pub ac_long : IsTrue (is_cfl mode) → b.width * b.height ≤ ac
+
+-- the same of a block in numbers
+abbrev pub HasSides : IntraBlock → PredictionMode → TxSize → (left above ac : ℕ) → Type 0
+HasSides b mode size left above ac = AreLong (block_of b (mode_in b mode) size) (variant_in b) (mode_in b mode) left above ac
+
+-- The block has this size, and all else that prediction by this mode asks for, where samples have so many bits.
+pub record IsIntraBlock (bits : ℕ) (b : IntraBlock) (mode : PredictionMode) (stride x y left above ac samples : ℕ) (size : TxSize) : Type 0 where
+  pub sized : IsSize b.tx_size size
+  pub turn : IsTurn mode b.angle_step
+  pub depth : IsDepthWithin bits b.bit_depth
+  pub rows : AreRows stride (rectangle x y size) samples
+  pub sides : HasSides b mode size left above ac
+
+-- the samples with those of the rectangle predicted by this mode; all others stay
+abbrev pub with_prediction : {T : Type 0} → (T → ℕ) → (ℕ → T) → IntraBlock → PredictionMode → (stride x y : ℕ) → TxSize → (left : List T) → (corner : T) → (above : List T) → (ac : List ℤ) → (alpha : ℤ) → List T → List T
+with_prediction num pixel b mode stride x y size left corner above ac alpha samples =
+    let m = mode_in b mode in
+    paint stride (rectangle x y size) (λ r c _. pixel (predicted (block_of b m size) (variant_in b) m alpha (ac_at (tx_width size) ac) (edge_round num left (num corner) above) r c)) samples
+
+-- ---- what is refused: each reason with what is asked before it, so that the first one that holds is told
+
+-- no intra mode has the number
+abbrev pub HasNoMode : ℕ → Type 0
+HasNoMode number = (mode : PredictionMode) → ¬ IsIntraMode number mode
+
+-- the mode does not turn so many steps
+abbrev pub HasNoAngle : IntraBlock → PredictionMode → Type 0
+HasNoAngle b mode = (size : TxSize) × (IsSize b.tx_size size × (¬ IsTurn mode b.angle_step))
+
+-- samples of so many bits have no such depth
+abbrev pub HasNoDepth : (bits : ℕ) → IntraBlock → PredictionMode → Type 0
+HasNoDepth bits b mode = (size : TxSize) × (IsSize b.tx_size size × (IsTurn mode b.angle_step × (¬ IsDepthWithin bits b.bit_depth)))
+
+-- the block does not lie in the samples
+abbrev pub LiesOutside : (bits : ℕ) → IntraBlock → PredictionMode → (stride x y samples : ℕ) → Type 0
+LiesOutside bits b mode stride x y samples =
+    (size : TxSize) × (IsSize b.tx_size size × (IsTurn mode b.angle_step × (IsDepthWithin bits b.bit_depth × (¬ AreRows stride (rectangle x y size) samples))))
+
+-- a side, or luma, is shorter than the block reads it
+abbrev pub HasShortSides : (bits : ℕ) → IntraBlock → PredictionMode → (stride x y left above ac samples : ℕ) → Type 0
+HasShortSides bits b mode stride x y left above ac samples =
+    (size : TxSize) × (IsSize b.tx_size size × (IsTurn mode b.angle_step × (IsDepthWithin bits b.bit_depth × (AreRows stride (rectangle x y size) samples × (¬ HasSides b mode size left above ac)))))
+
+-- ---- what the calls say: samples of at most so many bits were `before` and are `after`, and `answer` is the status
+
+-- Of a block that is predicted by this mode.
+pub record PredictsBy {T : Type 0} (bits : ℕ) (num : T → ℕ) (pixel : ℕ → T) (block : IntraBlock) (by : PredictionMode)
+    (stride x y : ℕ) (left : List T) (corner : T) (above : List T) (ac : List ℤ) (alpha : ℤ) (before after : List T)
+    (answer : ℕ) : Type 0 where
+  -- The arguments name a block, and its samples are those of its mode.
+  pub done : answer ≡ DONE → (size : TxSize)
+      × (IsIntraBlock bits block by stride x y (length left) (length above) (length ac) (length before) size
+      × (after ≡ with_prediction num pixel block by stride x y size left corner above ac alpha before))
+  -- Nothing else is asked of them.
+  pub asked : (size : TxSize)
+      → IsIntraBlock bits block by stride x y (length left) (length above) (length ac) (length before) size
+      → answer ≡ DONE
+  -- An argument is refused, the first one that has to be, and this is why.
+  pub size : answer ≡ BAD_SIZE → HasNoSize block.tx_size
+  pub angle : answer ≡ BAD_ANGLE → HasNoAngle block by
+  pub depth : answer ≡ BAD_DEPTH → HasNoDepth bits block by
+  pub area : answer ≡ BAD_AREA → LiesOutside bits block by stride x y (length before)
+  pub short : answer ≡ TOO_SHORT
+      → HasShortSides bits block by stride x y (length left) (length above) (length ac) (length before)
+  -- What is refused leaves the samples as they were.
+  pub kept : answer ≢ DONE → after ≡ before
+  pub known : (answer ≡ DONE) ⊎ ((answer ≡ BAD_SIZE) ⊎ ((answer ≡ BAD_ANGLE) ⊎ ((answer ≡ BAD_DEPTH)
+      ⊎ ((answer ≡ BAD_AREA) ⊎ (answer ≡ TOO_SHORT)))))
+
+-- Of a block that is predicted by the mode of its number.
+pub record Predicts {T : Type 0} (bits : ℕ) (num : T → ℕ) (pixel : ℕ → T) (block : IntraBlock) (stride x y : ℕ)
+    (left : List T) (corner : T) (above : List T) (before after : List T) (answer : ℕ) : Type 0 where
+  -- The arguments name a mode and a block, and its samples are those of its mode.
+  pub done : answer ≡ DONE → (by : PredictionMode) × ((size : TxSize) × (IsIntraMode block.mode by
+      × (IsIntraBlock bits block by stride x y (length left) (length above) 0 (length before) size
+      × (after ≡ with_prediction num pixel block by stride x y size left corner above [] (pos 0) before))))
+  -- Nothing else is asked of them.
+  pub asked : (by : PredictionMode) → (size : TxSize) → IsIntraMode block.mode by
+      → IsIntraBlock bits block by stride x y (length left) (length above) 0 (length before) size → answer ≡ DONE
+  -- An argument is refused, the first one that has to be, and this is why.
+  pub mode : answer ≡ BAD_MODE → HasNoMode block.mode
+  pub size : answer ≡ BAD_SIZE → (by : PredictionMode) × (IsIntraMode block.mode by × HasNoSize block.tx_size)
+  pub angle : answer ≡ BAD_ANGLE → (by : PredictionMode) × (IsIntraMode block.mode by × HasNoAngle block by)
+  pub depth : answer ≡ BAD_DEPTH → (by : PredictionMode) × (IsIntraMode block.mode by × HasNoDepth bits block by)
+  pub area : answer ≡ BAD_AREA → (by : PredictionMode)
+      × (IsIntraMode block.mode by × LiesOutside bits block by stride x y (length before))
+  pub short : answer ≡ TOO_SHORT → (by : PredictionMode) × (IsIntraMode block.mode by
+      × HasShortSides bits block by stride x y (length left) (length above) 0 (length before))
+  -- What is refused leaves the samples as they were.
+  pub kept : answer ≢ DONE → after ≡ before
+  pub known : (answer ≡ DONE) ⊎ ((answer ≡ BAD_MODE) ⊎ ((answer ≡ BAD_SIZE) ⊎ ((answer ≡ BAD_ANGLE)
+      ⊎ ((answer ≡ BAD_DEPTH) ⊎ ((answer ≡ BAD_AREA) ⊎ (answer ≡ TOO_SHORT))))))
+
+-- ---- why nothing is written: words of private contracts
+
+abbrev pub IsIntraFault : (bits : ℕ) → IntraBlock → PredictionMode → (stride x y left above ac samples : ℕ) → BadArgument → Type 0
+IsIntraFault bits b mode stride x y left above ac samples bad.Size = HasNoSize b.tx_size
+IsIntraFault bits b mode stride x y left above ac samples bad.Angle = HasNoAngle b mode
+IsIntraFault bits b mode stride x y left above ac samples bad.Depth = HasNoDepth bits b mode
+IsIntraFault bits b mode stride x y left above ac samples bad.Area = LiesOutside bits b mode stride x y samples
+IsIntraFault bits b mode stride x y left above ac samples bad.Short = HasShortSides bits b mode stride x y left above ac samples
+IsIntraFault bits b mode stride x y left above ac samples fault = ⊥
+
+-- ---- words of private contracts
+
+-- The sides by themselves are as long as a block reads them that is predicted by this mode.
+pub record AreSidesLong (b : DirectionalBlock) (variant : PredictionVariant) (mode : PredictionMode) (left above : ℕ) : Type 0 where
+  pub left_long : places_left mode variant b.p_angle b.width b.height ≤ left
+  pub above_long : places_above mode variant b.p_angle b.width b.height ≤ above

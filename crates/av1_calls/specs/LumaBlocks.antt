@@ -1,0 +1,144 @@
+-- What the calls that give chroma from luma its luma say of their arguments: of a block of chroma in numbers, of where its luma begins
+-- (column x of row y), of rows that stand `stride` apart, and of how many samples there are, and how many differences.
+-- AV1 specification: predict chroma from luma process.
+use Rattle.std.specs.Prelude.{◌≡◌, ◌≢◌, ◌⊎◌, Bool, ℕ, ◌*◌, ◌^◌, ◌<◌, ◌≤◌, List, length, Some, slice_get, ℤ}
+use Rattle.av1_blocks.specs.Blocks.{block_height, block_width}
+use Rattle.av1_blocks.specs.Depths.{IsDepth}
+use Rattle.av1_blocks.specs.declared.partition.BlockSize.{BlockSize}
+use Rattle.av1_blocks.specs.declared.partition.TheConstants.BlockSize as block_sizes
+use Rattle.av1_frame.specs.Areas.{AreRows}
+use Rattle.av1_frame.specs.declared.plane_region.StoredArea.{StoredArea}
+use Rattle.av1_intra.specs.ChromaFromLuma.{columns_read, luma_difference, padded_block, rows_read, with_rows}
+use Rattle.av1_calls.specs.Arguments.{IfWide, OnlyWide}
+use Rattle.av1_calls.specs.Samples.{AreBelow, area_sample}
+use Rattle.av1_calls.specs.declared.argument.BadArgument.{BadArgument}
+use Rattle.av1_calls.specs.declared.argument.BadArgument.TheVariants as bad
+use Rattle.av1_calls.specs.declared.luma.CflBlock.{CflBlock}
+use Rattle.av1_calls.specs.declared.status.TheConstants.{BAD_AREA, BAD_DEPTH, BAD_PAD, BAD_SAMPLE, BAD_SAMPLING, BAD_SIZE, DONE, TOO_SHORT}
+
+-- ---- what is asked for
+
+-- this is the size of the number, and no side of it is longer than 32
+pub record IsChromaSize (number : ℕ) (size : BlockSize) : Type 0 where
+  pub named : slice_get block_sizes.ALL number ≡ Some size
+  pub narrow : block_width size ≤ 32
+  pub low : block_height size ≤ 32
+
+-- the decimations of chroma in 4:4:4, 4:2:2 or 4:2:0
+pub record IsSampling (xdec ydec : ℕ) : Type 0 where
+  pub columns : xdec ≤ 1
+  pub rows : ydec ≤ xdec
+
+-- some columns and some rows of the block have luma of their own
+pub record HasLuma (b : CflBlock) (size : BlockSize) : Type 0 where
+  pub columns : 4 * b.w_pad < block_width size
+  pub rows : 4 * b.h_pad < block_height size
+
+-- the numbers name a block that has luma
+pub record IsChroma (b : CflBlock) (size : BlockSize) : Type 0 where
+  pub sized : IsChromaSize b.block_size size
+  pub sampled : IsSampling b.xdec b.ydec
+  pub padded : HasLuma b size
+
+-- the luma that is read for it
+abbrev pub luma_area : CflBlock → BlockSize → (x y : ℕ) → StoredArea
+luma_area b size x y =
+    let block = padded_block size b.w_pad b.h_pad b.xdec b.ydec in
+    record { x = x; y = y; width = columns_read block; height = rows_read block }
+
+-- The block has this size, its luma lies in so many samples, and there are as many differences as it has samples, or more.
+pub record IsCflBlock (b : CflBlock) (stride x y ac samples : ℕ) (size : BlockSize) : Type 0 where
+  pub sized : IsChromaSize b.block_size size
+  pub sampled : IsSampling b.xdec b.ydec
+  pub padded : HasLuma b size
+  pub rows : AreRows stride (luma_area b size x y) samples
+  pub long : block_width size * block_height size ≤ ac
+
+-- the samples have this depth, and none that is read is past it
+pub record IsLumaOfDepth (depth : ℕ) (b : CflBlock) (stride x y : ℕ) (samples : List ℕ) (size : BlockSize) : Type 0 where
+  pub known : IsDepth depth
+  pub within : AreBelow (2 ^ depth) stride (luma_area b size x y) samples
+
+-- ---- what is written
+
+-- the sample at column p and row q of the luma of a rectangle
+abbrev pub luma_in : (stride : ℕ) → StoredArea → List ℕ → (p q : ℕ) → ℕ
+luma_in stride area samples p q = area_sample stride area samples q p
+
+-- the list with the differences of the block's luma from their mean, row by row, in its first entries; all others stay
+abbrev pub with_differences : CflBlock → BlockSize → (stride x y : ℕ) → List ℕ → List ℤ → List ℤ
+with_differences b size stride x y samples ac =
+    with_rows (block_width size) (block_height size) (luma_difference (luma_in stride (luma_area b size x y) samples) (padded_block size b.w_pad b.h_pad b.xdec b.ydec)) ac
+
+-- ---- what is refused: each reason with what is asked before it, so that the first one that holds is told
+
+-- no size with sides up to 32 has the number
+abbrev pub HasNoChromaSize : ℕ → Type 0
+HasNoChromaSize number = (size : BlockSize) → ¬ IsChromaSize number size
+
+abbrev pub HasNoSampling : CflBlock → Type 0
+HasNoSampling b = (size : BlockSize) × (IsChromaSize b.block_size size × (¬ IsSampling b.xdec b.ydec))
+
+-- so many columns or rows without luma of their own leave none with it
+abbrev pub HasNoLuma : CflBlock → Type 0
+HasNoLuma b = (size : BlockSize) × (IsChromaSize b.block_size size × (IsSampling b.xdec b.ydec × (¬ HasLuma b size)))
+
+-- the luma that is read does not lie in so many samples
+abbrev pub LumaLiesOutside : CflBlock → (stride x y samples : ℕ) → Type 0
+LumaLiesOutside b stride x y samples = (size : BlockSize) × (IsChroma b size × (¬ AreRows stride (luma_area b size x y) samples))
+
+-- there are fewer differences than the block has samples
+abbrev pub HasFewDifferences : CflBlock → (stride x y ac samples : ℕ) → Type 0
+HasFewDifferences b stride x y ac samples =
+    (size : BlockSize) × (IsChroma b size × (AreRows stride (luma_area b size x y) samples × (ac < block_width size * block_height size)))
+
+-- samples have no such depth
+abbrev pub HasNoLumaDepth : (depth : ℕ) → CflBlock → (stride x y ac samples : ℕ) → Type 0
+HasNoLumaDepth depth b stride x y ac samples = (size : BlockSize) × (IsCflBlock b stride x y ac samples size × (¬ IsDepth depth))
+
+-- some sample that is read is past the depth
+abbrev pub HasDeepLuma : (depth : ℕ) → CflBlock → (stride x y ac : ℕ) → List ℕ → Type 0
+HasDeepLuma depth b stride x y ac samples =
+    (size : BlockSize) × (IsCflBlock b stride x y ac (length samples) size × (IsDepth depth × (¬ AreBelow (2 ^ depth) stride (luma_area b size x y) samples)))
+
+-- ---- what the calls say
+
+-- Of luma's differences, which were `before` and are `after`, at this depth. `answer` is the status.
+pub record GivesDifferences (wide : Bool) (bit_depth : ℕ) (block : CflBlock) (stride x y : ℕ) (luma : List ℕ)
+    (before after : List ℤ) (answer : ℕ) : Type 0 where
+  -- The arguments name a block, and the differences are those of its luma.
+  pub done : answer ≡ DONE → (size : BlockSize) × (IsCflBlock block stride x y (length before) (length luma) size
+      × (IfWide wide (IsLumaOfDepth bit_depth block stride x y luma size)
+      × (after ≡ with_differences block size stride x y luma before)))
+  -- Nothing else is asked of them.
+  pub asked : (size : BlockSize) → IsCflBlock block stride x y (length before) (length luma) size
+      → IfWide wide (IsLumaOfDepth bit_depth block stride x y luma size) → answer ≡ DONE
+  -- An argument is refused, the first one that has to be, and this is why.
+  pub size : answer ≡ BAD_SIZE → HasNoChromaSize block.block_size
+  pub sampling : answer ≡ BAD_SAMPLING → HasNoSampling block
+  pub pad : answer ≡ BAD_PAD → HasNoLuma block
+  pub area : answer ≡ BAD_AREA → LumaLiesOutside block stride x y (length luma)
+  pub short : answer ≡ TOO_SHORT → HasFewDifferences block stride x y (length before) (length luma)
+  pub depth : answer ≡ BAD_DEPTH
+      → OnlyWide wide (HasNoLumaDepth bit_depth block stride x y (length before) (length luma))
+  pub sample : answer ≡ BAD_SAMPLE → OnlyWide wide (HasDeepLuma bit_depth block stride x y (length before) luma)
+  -- What is refused leaves the differences as they were.
+  pub kept : answer ≢ DONE → after ≡ before
+  pub known : (answer ≡ DONE) ⊎ ((answer ≡ BAD_SIZE) ⊎ ((answer ≡ BAD_SAMPLING) ⊎ ((answer ≡ BAD_PAD)
+      ⊎ ((answer ≡ BAD_AREA) ⊎ ((answer ≡ TOO_SHORT)
+      ⊎ OnlyWide wide ((answer ≡ BAD_DEPTH) ⊎ (answer ≡ BAD_SAMPLE)))))))
+
+-- ---- why nothing is written: words of private contracts
+
+abbrev pub IsCflFault : CflBlock → (stride x y ac samples : ℕ) → BadArgument → Type 0
+IsCflFault b stride x y ac samples bad.Size = HasNoChromaSize b.block_size
+IsCflFault b stride x y ac samples bad.Sampling = HasNoSampling b
+IsCflFault b stride x y ac samples bad.Pad = HasNoLuma b
+IsCflFault b stride x y ac samples bad.Area = LumaLiesOutside b stride x y samples
+IsCflFault b stride x y ac samples bad.Short = HasFewDifferences b stride x y ac samples
+IsCflFault b stride x y ac samples _ = ⊥
+
+abbrev pub IsDeepCflFault : (depth : ℕ) → CflBlock → (stride x y ac : ℕ) → List ℕ → BadArgument → Type 0
+IsDeepCflFault depth b stride x y ac samples bad.Depth = HasNoLumaDepth depth b stride x y ac (length samples)
+IsDeepCflFault depth b stride x y ac samples bad.Sample = HasDeepLuma depth b stride x y ac samples
+IsDeepCflFault depth b stride x y ac samples fault = IsCflFault b stride x y ac (length samples) fault

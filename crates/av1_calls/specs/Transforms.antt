@@ -1,0 +1,125 @@
+-- What the calls that add a residue say of their arguments: of numbers of a size and a type, of where the first sample stands (column x of
+-- row y), of rows that stand `stride` apart, of how many samples there are, and of the coefficients.
+use Rattle.std.specs.Prelude.{◌≡◌, ◌≢◌, ◌⊎◌, Bool, ℕ, ◌+◌, ◌<◌, ◌≤◌, IsTrue, Some, ℤ, pos, ◌+ℤ◌, List, length, slice_get}
+use Rattle.av1_blocks.specs.Depths.{IsDepth}
+use Rattle.av1_blocks.specs.Transforms.{coded_area, valid_av1_transform}
+use Rattle.av1_blocks.specs.declared.transform.TheConstants.TxType as tx_types
+use Rattle.av1_blocks.specs.declared.transform.TxSize.{TxSize}
+use Rattle.av1_blocks.specs.declared.transform.TxSize.TheVariants.{TX_4X4}
+use Rattle.av1_blocks.specs.declared.transform.TxType.{TxType}
+use Rattle.av1_blocks.specs.declared.transform.TxType.TheVariants.{WHT_WHT}
+use Rattle.av1_dct.specs.Arithmetic.{at, FitsBits}
+use Rattle.av1_frame.specs.Areas.{AreRows}
+use Rattle.av1_frame.specs.Arithmetic.{clip}
+use Rattle.av1_frame.specs.Samples.{paint}
+use Rattle.av1_itx.specs.Residue.{residue}
+use Rattle.av1_calls.specs.Arguments.{HasNoSize, IfWide, IsSize, OnlyWide, rectangle}
+use Rattle.av1_calls.specs.declared.argument.BadArgument.{BadArgument}
+use Rattle.av1_calls.specs.declared.argument.BadArgument.TheVariants as bad
+use Rattle.av1_calls.specs.declared.status.TheConstants.{BAD_AREA, BAD_COEFFICIENT, BAD_DEPTH, BAD_SIZE, BAD_TYPE, DONE, TOO_SHORT}
+
+-- ---- what is asked for
+
+-- this is the type of the number
+abbrev pub IsType : ℕ → TxType → Type 0
+IsType number type = slice_get tx_types.ALL number ≡ Some type
+
+-- The size has an inverse transform of this type; the lossless one is of 4x4 alone.
+pub record IsRunnable (size : TxSize) (type : TxType) : Type 0 where
+  pub valid : IsTrue (valid_av1_transform size type)
+  pub lossless : type ≡ WHT_WHT → size ≡ TX_4X4
+
+-- the numbers name a size, and a type that it has
+pub record IsTransform (size_number type_number : ℕ) (size : TxSize) (type : TxType) : Type 0 where
+  pub sized : IsSize size_number size
+  pub typed : IsType type_number type
+  pub runs : IsRunnable size type
+
+-- The numbers name a transform, its rectangle lies in so many samples, and there are so many coefficients or more as it has.
+pub record IsBlock (size_number type_number stride x y coefficients samples : ℕ) (size : TxSize) (type : TxType) : Type 0 where
+  pub sized : IsSize size_number size
+  pub typed : IsType type_number type
+  pub runs : IsRunnable size type
+  pub rows : AreRows stride (rectangle x y size) samples
+  pub long : coded_area size ≤ coefficients
+
+-- each coefficient of the transform fits this depth
+abbrev pub AllFitDepth : ℕ → TxSize → List ℤ → Type 0
+AllFitDepth depth size coefficients = (i : ℕ) → i < coded_area size → FitsBits (depth + 8) (at coefficients i)
+
+-- samples have this depth, and coefficients fit it
+abbrev pub AreOfDepth : ℕ → TxSize → List ℤ → Type 0
+AreOfDepth depth size coefficients = IsDepth depth × AllFitDepth depth size coefficients
+
+-- the samples with the residue added to the rectangle, clipped to the depth; all others stay
+abbrev pub with_residue : (depth stride x y : ℕ) → TxSize → TxType → List ℤ → List ℕ → List ℕ
+with_residue depth stride x y size type coefficients samples =
+    paint stride (rectangle x y size) (λ r c v. clip depth (pos v +ℤ residue size type depth coefficients r c)) samples
+
+-- ---- what is refused: each reason with what is asked before it, so that the first one that holds is told
+
+-- the size has no transform of the type of this number, if there is one
+abbrev pub HasNoType : ℕ → ℕ → Type 0
+HasNoType size_number type_number = (size : TxSize) × IsSize size_number size × ((type : TxType) → IsType type_number type → ¬ IsRunnable size type)
+
+-- the rectangle of the transform does not lie in the samples
+abbrev pub HasNoRectangle : (size_number type_number stride x y samples : ℕ) → Type 0
+HasNoRectangle size_number type_number stride x y samples =
+    (size : TxSize) × ((type : TxType) × (IsTransform size_number type_number size type × (¬ AreRows stride (rectangle x y size) samples)))
+
+-- there are fewer coefficients than it has
+abbrev pub HasTooFew : (size_number type_number stride x y coefficients samples : ℕ) → Type 0
+HasTooFew size_number type_number stride x y coefficients samples =
+    (size : TxSize) × ((type : TxType) × (IsTransform size_number type_number size type × (AreRows stride (rectangle x y size) samples × (coefficients < coded_area size))))
+
+-- samples have no such depth
+abbrev pub HasNoDepth : (depth size_number type_number stride x y coefficients samples : ℕ) → Type 0
+HasNoDepth depth size_number type_number stride x y coefficients samples =
+    (size : TxSize) × ((type : TxType) × (IsBlock size_number type_number stride x y coefficients samples size type × (¬ IsDepth depth)))
+
+-- some coefficient of the transform has too many bits
+abbrev pub HasTooLarge : (depth size_number type_number stride x y : ℕ) → List ℤ → (samples : ℕ) → Type 0
+HasTooLarge depth size_number type_number stride x y coefficients samples =
+    (size : TxSize) × ((type : TxType) × (IsBlock size_number type_number stride x y (length coefficients) samples size type × (IsDepth depth × (¬ AllFitDepth depth size coefficients))))
+
+-- ---- what the calls say
+
+-- Of a residue that is added to samples at this depth: they were `before` and are `after`, and `answer` is the status.
+pub record AddsResidue (wide : Bool) (bit_depth size_number type_number stride x y : ℕ) (coefficients : List ℤ)
+    (before after : List ℕ) (answer : ℕ) : Type 0 where
+  -- The arguments name a transform, and its residue is added.
+  pub done : answer ≡ DONE → (size : TxSize) × ((type : TxType)
+      × (IsBlock size_number type_number stride x y (length coefficients) (length before) size type
+      × (IfWide wide (AreOfDepth bit_depth size coefficients)
+      × (after ≡ with_residue bit_depth stride x y size type coefficients before))))
+  -- Nothing else is asked of them.
+  pub asked : (size : TxSize) → (type : TxType)
+      → IsBlock size_number type_number stride x y (length coefficients) (length before) size type
+      → IfWide wide (AreOfDepth bit_depth size coefficients) → answer ≡ DONE
+  -- An argument is refused, the first one that has to be, and this is why.
+  pub size : answer ≡ BAD_SIZE → HasNoSize size_number
+  pub kind : answer ≡ BAD_TYPE → HasNoType size_number type_number
+  pub area : answer ≡ BAD_AREA → HasNoRectangle size_number type_number stride x y (length before)
+  pub short : answer ≡ TOO_SHORT → HasTooFew size_number type_number stride x y (length coefficients) (length before)
+  pub depth : answer ≡ BAD_DEPTH
+      → OnlyWide wide (HasNoDepth bit_depth size_number type_number stride x y (length coefficients) (length before))
+  pub coefficient : answer ≡ BAD_COEFFICIENT
+      → OnlyWide wide (HasTooLarge bit_depth size_number type_number stride x y coefficients (length before))
+  -- What is refused leaves the samples as they were.
+  pub kept : answer ≢ DONE → after ≡ before
+  pub known : (answer ≡ DONE) ⊎ ((answer ≡ BAD_SIZE) ⊎ ((answer ≡ BAD_TYPE) ⊎ ((answer ≡ BAD_AREA) ⊎ ((answer ≡ TOO_SHORT)
+      ⊎ OnlyWide wide ((answer ≡ BAD_DEPTH) ⊎ (answer ≡ BAD_COEFFICIENT))))))
+
+-- ---- why nothing is written: words of private contracts
+
+abbrev pub IsBlockFault : (size_number type_number stride x y coefficients samples : ℕ) → BadArgument → Type 0
+IsBlockFault size_number type_number stride x y coefficients samples bad.Size = HasNoSize size_number
+IsBlockFault size_number type_number stride x y coefficients samples bad.Kind = HasNoType size_number type_number
+IsBlockFault size_number type_number stride x y coefficients samples bad.Area = HasNoRectangle size_number type_number stride x y samples
+IsBlockFault size_number type_number stride x y coefficients samples bad.Short = HasTooFew size_number type_number stride x y coefficients samples
+IsBlockFault size_number type_number stride x y coefficients samples fault = ⊥
+
+abbrev pub IsDeepFault : (depth size_number type_number stride x y : ℕ) → List ℤ → ℕ → BadArgument → Type 0
+IsDeepFault depth size_number type_number stride x y coefficients samples bad.Depth = HasNoDepth depth size_number type_number stride x y (length coefficients) samples
+IsDeepFault depth size_number type_number stride x y coefficients samples bad.Coefficient = HasTooLarge depth size_number type_number stride x y coefficients samples
+IsDeepFault depth size_number type_number stride x y coefficients samples fault = IsBlockFault size_number type_number stride x y (length coefficients) samples fault

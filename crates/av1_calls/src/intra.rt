@@ -1,0 +1,413 @@
+//! Intra prediction of a block in samples of the caller, from the sides that it hands in.
+//!
+//! AV1 specification: intra prediction process.
+ghost use Rattle.std.specs.Prelude.{◌≡◌, ◌+◌, ◌*◌, ◌≤◌, IfOk, IfErr, IfSome, IsTrue, None, true, unsigned_abs};
+ghost use Rattle.av1_blocks.specs.Modes.{is_intra};
+ghost use Rattle.av1_blocks.specs.declared.predict.PredictionMode.TheVariants as modes;
+ghost use Rattle.av1_intra.specs.Predicted.{angle_or_alpha};
+ghost use Rattle.av1_calls.specs.Arguments.{rectangle};
+ghost use Rattle.av1_calls.specs.IntraBlocks.{Predicts, PredictsBy, AreLong, AreSidesLong, HasNoMode, IsDepthWithin, IsIntraBlock, IsIntraFault, IsIntraMode, IsTurn, block_of, filter_of, mode_in, variant_in};
+
+use crate::argument::{BadArgument, are_rows};
+use crate::status::{BAD_MODE, DONE};
+use av1_blocks::{IntraParam, PredictionMode, TxSize};
+use av1_edges::effective;
+use av1_frame::{Pixel, StoredArea};
+use av1_intra::{
+    DirectionalBlock, PredictionVariant, angle_or_alpha, dispatch_predict_intra_to, places_above,
+    places_left,
+};
+
+/// A block that an intra mode predicts, in numbers.
+#[repr(C)]
+#[derive(Clone, Copy, Debug, PartialEq, Eq)]
+pub struct IntraBlock {
+    /// The number of its mode, from 0 (`DC_PRED`) to 12 (`PAETH_PRED`). Chroma from luma doesn't read it.
+    pub mode: u8,
+    /// The number of its size among those of transforms, from 0 (`TX_4X4`) to 18 (`TX_64X16`).
+    pub tx_size: u8,
+    /// How many steps of 3 degrees a directional mode turns, from -3 to 3; 0 in other modes.
+    pub angle_step: i8,
+    /// The depth of its samples, in bits: 8, 10 or 12.
+    pub bit_depth: u8,
+    /// Whether its left side lies in its tile: 0 where it doesn't.
+    pub has_left: u8,
+    /// Whether the side above lies in its tile: 0 where it doesn't.
+    pub has_above: u8,
+    /// Whether the edge filter is on: 0 where it is off.
+    pub edge_filter: u8,
+    /// Whether a neighbour has a smooth mode: 0 where none has. It is not read where the filter is off.
+    pub smooth_neighbour: u8,
+    /// How many visible columns of the plane there are from its first on. The filter smooths no place beside it past those.
+    pub visible_columns: usize,
+    /// How many visible rows of the plane there are from its first on.
+    pub visible_rows: usize,
+}
+
+/// A block as it is predicted, and the rectangle that it is.
+#[derive(Clone, Copy)]
+struct Prediction {
+    size: TxSize,
+    mode: PredictionMode,
+    variant: PredictionVariant,
+    block: DirectionalBlock,
+    area: StoredArea,
+}
+
+// The intra mode of this number, but for chroma from luma.
+#[inline(always)]
+fn mode_of(number: u8) -> Option<PredictionMode>
+    ensures found { IfSome result (IsIntraMode number) }
+    ensures none { result ≡ None → HasNoMode number }
+{
+    let mode = PredictionMode::from_number(number)?;
+    if mode.is_intra() && !mode.is_cfl() {
+        Some(mode)
+    } else {
+        None
+    }
+}
+
+// Whether a mode turns so many steps.
+#[inline(always)]
+pub(crate) fn is_turn(mode: PredictionMode, step: i8) -> bool
+    ensures true_is { result ≡ true → IsTurn mode step }
+    ensures is_true { IsTurn mode step → result ≡ true }
+{
+    -3 <= step && step <= 3 && (mode.is_directional() || step == 0)
+}
+
+// Whether samples of so many bits have this depth.
+#[inline(always)]
+pub(crate) fn is_depth_within(bits: usize, depth: u8) -> bool
+    ensures true_is { result ≡ true → IsDepthWithin bits depth }
+    ensures is_true { IsDepthWithin bits depth → result ≡ true }
+{
+    (depth == 8 && 8 <= bits) || (depth == 10 && 10 <= bits) || (depth == 12 && 12 <= bits)
+}
+
+// The choice of the edge filter.
+#[inline(always)]
+fn filter_of(on: u8, smooth: u8) -> Option<bool>
+    ensures { result ≡ filter_of on smooth }
+{
+    if on == 0 { None } else { Some(smooth != 0) }
+}
+
+// The angle of a mode that turns so many steps, in degrees.
+#[inline(always)]
+fn angle_of(mode: PredictionMode, step: i8) -> usize
+    ensures { result ≡ unsigned_abs (angle_or_alpha mode (IntraParam.AngleDelta step)) }
+{
+    angle_or_alpha(mode, IntraParam::AngleDelta(step)).unsigned_abs()
+}
+
+// The block of this size and mode.
+#[inline(always)]
+fn block_of(block: IntraBlock, mode: PredictionMode, size: TxSize) -> DirectionalBlock
+    ensures { result ≡ block_of block mode size }
+{
+    DirectionalBlock {
+        p_angle: angle_of(mode, block.angle_step),
+        width: size.width(),
+        height: size.height(),
+        bit_depth: usize::from(block.bit_depth),
+        smooth_filter: filter_of(block.edge_filter, block.smooth_neighbour),
+        visible_columns: block.visible_columns,
+        visible_rows: block.visible_rows,
+    }
+}
+
+// What is predicted in the rectangle at column `x` of row `y`.
+#[inline(always)]
+fn prediction_in(
+    block: IntraBlock,
+    mode: PredictionMode,
+    size: TxSize,
+    x: usize,
+    y: usize,
+) -> Prediction
+    ensures size { result.size ≡ size }
+    ensures mode { result.mode ≡ mode_in block mode }
+    ensures variant { result.variant ≡ variant_in block }
+    ensures block { result.block ≡ block_of block (mode_in block mode) size }
+    ensures area { result.area ≡ rectangle x y size }
+{
+    let has_left = usize::from(block.has_left);
+    let has_above = usize::from(block.has_above);
+    let mode = effective(mode, has_left, has_above);
+    let block = block_of(block, mode, size);
+    Prediction {
+        size,
+        mode,
+        variant: PredictionVariant::new(has_left, has_above),
+        block,
+        area: StoredArea {
+            x,
+            y,
+            width: block.width,
+            height: block.height,
+        },
+    }
+}
+
+// Whether the sides are as long as a block reads them.
+#[inline(always)]
+fn are_sides_long(
+    block: DirectionalBlock,
+    variant: PredictionVariant,
+    mode: PredictionMode,
+    left: usize,
+    above: usize,
+) -> bool
+    requires width { block.width ≤ 64 }
+    requires height { block.height ≤ 64 }
+    ensures true_is { result ≡ true → AreSidesLong block variant mode left above }
+    ensures is_true { AreSidesLong block variant mode left above → result ≡ true }
+{
+    let (angle, width, height) = (block.p_angle, block.width, block.height);
+    places_left(mode, variant, angle, width, height) <= left
+        && places_above(mode, variant, angle, width, height) <= above
+}
+
+// Whether the sides and luma's differences are as long as a block reads them. No mode reads more of a side than both sides of the block.
+#[inline(always)]
+fn are_long(
+    block: DirectionalBlock,
+    variant: PredictionVariant,
+    mode: PredictionMode,
+    left: usize,
+    above: usize,
+    ac: usize,
+) -> bool
+    requires width { block.width ≤ 64 }
+    requires height { block.height ≤ 64 }
+    ensures true_is { result ≡ true → AreLong block variant mode left above ac }
+    ensures is_true { AreLong block variant mode left above ac → result ≡ true }
+{
+    let (width, height) = (block.width, block.height);
+    (width + height <= left && width + height <= above
+        || are_sides_long(block, variant, mode, left, above))
+        && (!mode.is_cfl() || width * height <= ac)
+}
+
+/// What the numbers ask for, where samples have so many bits.
+///
+/// # Errors
+///
+/// `Size`, then `Angle`, then `Depth`, then `Area`, then `Short`.
+#[inline(always)]
+fn prediction_of(
+    bits: usize,
+    block: IntraBlock,
+    mode: PredictionMode,
+    stride: usize,
+    x: usize,
+    y: usize,
+    left: usize,
+    above: usize,
+    ac: usize,
+    samples: usize,
+) -> Result<Prediction, BadArgument>
+    ensures found { IfOk result (λ p. IsIntraBlock bits block mode stride x y left above ac samples p.size) }
+    ensures mode { IfOk result (λ p. p.mode ≡ mode_in block mode) }
+    ensures variant { IfOk result (λ p. p.variant ≡ variant_in block) }
+    ensures block { IfOk result (λ p. p.block ≡ block_of block (mode_in block mode) p.size) }
+    ensures area { IfOk result (λ p. p.area ≡ rectangle x y p.size) }
+    ensures fault { IfErr result (IsIntraFault bits block mode stride x y left above ac samples) }
+{
+    let Some(size) = TxSize::from_number(block.tx_size) else {
+        return Err(BadArgument::Size);
+    };
+    if !is_turn(mode, block.angle_step) {
+        return Err(BadArgument::Angle);
+    }
+    if !is_depth_within(bits, block.bit_depth) {
+        return Err(BadArgument::Depth);
+    }
+    let prediction = prediction_in(block, mode, size, x, y);
+    if !are_rows(stride, prediction.area, samples) {
+        return Err(BadArgument::Area);
+    }
+    if !are_long(
+        prediction.block,
+        prediction.variant,
+        prediction.mode,
+        left,
+        above,
+        ac,
+    ) {
+        return Err(BadArgument::Short);
+    }
+    Ok(prediction)
+}
+
+/// Predicts a block by an intra mode, where all that the call asks for can be had.
+#[inline(always)]
+fn predict_by<T: Pixel>(
+    block: IntraBlock,
+    mode: PredictionMode,
+    samples: &mut [T],
+    stride: usize,
+    x: usize,
+    y: usize,
+    left: &[T],
+    corner: T,
+    above: &[T],
+    ac: &[i16],
+    alpha: i16,
+) -> u32
+    requires intra { IsTrue (is_intra mode) }
+    ensures { PredictsBy T.BITS T.num T.pixel block mode stride x y left.now corner above.now ac.now alpha samples.old samples.new result }
+{
+    match prediction_of(
+        T::BITS,
+        block,
+        mode,
+        stride,
+        x,
+        y,
+        left.len(),
+        above.len(),
+        ac.len(),
+        samples.len(),
+    ) {
+        Ok(found) => {
+            dispatch_predict_intra_to(
+                found.mode,
+                found.variant,
+                samples,
+                stride,
+                found.area,
+                found.block,
+                left,
+                corner,
+                above,
+                ac,
+                alpha,
+            );
+            DONE
+        }
+        Err(fault) => fault.status(),
+    }
+}
+
+/// Predicts a block by the intra mode of its number, where all that the call asks for can be had.
+#[inline(always)]
+fn predict_by_number<T: Pixel>(
+    samples: &mut [T],
+    stride: usize,
+    x: usize,
+    y: usize,
+    block: &IntraBlock,
+    left: &[T],
+    corner: T,
+    above: &[T],
+) -> u32
+    ensures { Predicts T.BITS T.num T.pixel block.now stride x y left.now corner above.now samples.old samples.new result }
+{
+    let Some(mode) = mode_of(block.mode) else {
+        return BAD_MODE;
+    };
+    predict_by(
+        *block,
+        mode,
+        samples,
+        stride,
+        x,
+        y,
+        left,
+        corner,
+        above,
+        &[],
+        0,
+    )
+}
+
+/// Predicts the samples of a block by its intra mode, from the sides round it, at a depth of 8: the specification's "intra prediction process"
+/// for one block of a transform's size. The block begins at column `x` of row `y` of `samples`, whose rows stand `stride` apart. All other
+/// samples stay.
+///
+/// `left` runs from the bottom up, and its last sample stands beside the first row; `above` runs from the left; `corner` stands between them.
+/// Of each side those places are read that are nearest to the corner: as many as the block is long there, in a direction past the corner
+/// of the block as many more as it is long on its other side, and none where the mode doesn't read the side.
+///
+/// `DONE`: that was done. `BAD_MODE`, `BAD_SIZE`: no intra mode, or no size, has the number. `BAD_ANGLE`: the mode does not turn so many
+/// steps. `BAD_DEPTH`: the samples have no such depth. `BAD_AREA`: the block does not lie in the samples. `TOO_SHORT`: a side is shorter than
+/// it is read.
+pub fn av1_predict_intra_8(
+    samples: &mut [u8],
+    stride: usize,
+    x: usize,
+    y: usize,
+    block: &IntraBlock,
+    left: &[u8],
+    corner: u8,
+    above: &[u8],
+) -> u32
+    ensures { Predicts 8 (λ n. n) (λ n. n) block.now stride x y left.now corner above.now samples.old samples.new result }
+{
+    predict_by_number(samples, stride, x, y, block, left, corner, above)
+}
+
+/// The same for samples of 16 bits at a depth of 8, 10 or 12. Samples of the sides that are past the depth are taken as they are.
+pub fn av1_predict_intra_16(
+    samples: &mut [u16],
+    stride: usize,
+    x: usize,
+    y: usize,
+    block: &IntraBlock,
+    left: &[u16],
+    corner: u16,
+    above: &[u16],
+) -> u32
+    ensures { Predicts 16 (λ n. n) (λ n. n) block.now stride x y left.now corner above.now samples.old samples.new result }
+{
+    predict_by_number(samples, stride, x, y, block, left, corner, above)
+}
+
+/// Predicts the samples of a block of chroma from luma, at a depth of 8: each becomes the DC prediction by the sides that lie in the tile, and
+/// what its difference in `ac` adds to it at the weight `alpha`, clipped to the depth. Without a weight it is that prediction.
+///
+/// `ac` holds the differences of luma from its mean, row by row, as many as the block has samples; they and `alpha` are in eighths. All else is
+/// as in [`av1_predict_intra_8`], but that the mode of the block is not read, and that it turns no steps.
+///
+/// AV1 specification: predict chroma from luma process.
+pub fn av1_predict_cfl_8(
+    samples: &mut [u8],
+    stride: usize,
+    x: usize,
+    y: usize,
+    block: &IntraBlock,
+    left: &[u8],
+    above: &[u8],
+    ac: &[i16],
+    alpha: i16,
+) -> u32
+    ensures { PredictsBy 8 (λ n. n) (λ n. n) block.now modes.UV_CFL_PRED stride x y left.now 0 above.now ac.now alpha samples.old samples.new result }
+{
+    let mode = PredictionMode::UV_CFL_PRED;
+    predict_by(
+        *block, mode, samples, stride, x, y, left, 0, above, ac, alpha,
+    )
+}
+
+/// The same for samples of 16 bits at a depth of 8, 10 or 12. Samples of the sides that are past the depth are taken as they are.
+pub fn av1_predict_cfl_16(
+    samples: &mut [u16],
+    stride: usize,
+    x: usize,
+    y: usize,
+    block: &IntraBlock,
+    left: &[u16],
+    above: &[u16],
+    ac: &[i16],
+    alpha: i16,
+) -> u32
+    ensures { PredictsBy 16 (λ n. n) (λ n. n) block.now modes.UV_CFL_PRED stride x y left.now 0 above.now ac.now alpha samples.old samples.new result }
+{
+    let mode = PredictionMode::UV_CFL_PRED;
+    predict_by(
+        *block, mode, samples, stride, x, y, left, 0, above, ac, alpha,
+    )
+}

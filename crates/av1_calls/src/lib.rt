@@ -1,0 +1,47 @@
+//! Calls on one block of samples, which test all of their arguments.
+//!
+//! [`av1_inverse_transform_add_8`] and [`av1_inverse_transform_add_16`] add the residue of a block to samples. [`av1_put_8tap_8`] and
+//! [`av1_put_8tap_16`] predict one from a reference; [`av1_prep_8tap_8`] and [`av1_prep_8tap_16`] prepare one of two references, and
+//! [`av1_mc_avg_8`] and [`av1_mc_avg_16`] average what they prepare. [`av1_predict_intra_8`], [`av1_predict_cfl_8`] and their like for samples
+//! of 16 bits predict a block from the sides that they are handed, [`av1_intra_edge_8`] and [`av1_intra_edge_16`] prepare these sides from a
+//! plane, and [`av1_cfl_ac_8`] and [`av1_cfl_ac_16`] give the differences of luma from its mean, by which chroma is predicted.
+//!
+//! It stands on `av1_itx` for the transforms of blocks, on `av1_inter` for their motion, and on `av1_edges` and `av1_intra` for their prediction.
+//! `av1_c` exports the calls for C.
+//!
+//! Promised: no call asks anything of its arguments, or takes memory, and each returns. Its answer is one of the statuses of `src/status.rt`.
+//! [`DONE`] says that the arguments are good, and what each sample has become (`specs/Transforms.antt`, `specs/Motions.antt`,
+//! `specs/IntraBlocks.antt`, `specs/IntraEdges.antt`), or each difference of luma (`specs/LumaBlocks.antt`). Good arguments give [`DONE`]. Each other
+//! status names the first argument that is at fault, and leaves everything as it was.
+#![tactic(auto)]
+
+mod argument;
+mod intra;
+mod intra_edge;
+mod luma;
+mod mc_avg;
+mod motion;
+mod prep_8tap;
+mod put_8tap;
+mod samples;
+mod status;
+mod transform_add;
+
+pub use argument::filter_mode;
+pub use av1_itx::TxRoom;
+pub use intra::{
+    IntraBlock, av1_predict_cfl_8, av1_predict_cfl_16, av1_predict_intra_8, av1_predict_intra_16,
+};
+pub use intra_edge::{
+    ANY_MODE, EDGE_SAMPLES, EdgeBlock, EdgePlane, av1_intra_edge_8, av1_intra_edge_16,
+};
+pub use luma::{CflBlock, av1_cfl_ac_8, av1_cfl_ac_16};
+pub use mc_avg::{av1_mc_avg_8, av1_mc_avg_16};
+pub use motion::MotionBlock;
+pub use prep_8tap::{av1_prep_8tap_8, av1_prep_8tap_16};
+pub use put_8tap::{av1_put_8tap_8, av1_put_8tap_16};
+pub use status::{
+    BAD_ANGLE, BAD_AREA, BAD_COEFFICIENT, BAD_DEPTH, BAD_FRACTION, BAD_MODE, BAD_PAD, BAD_SAMPLE,
+    BAD_SAMPLING, BAD_SIZE, BAD_TYPE, DONE, ROOM_TOO_SMALL, TOO_SHORT,
+};
+pub use transform_add::{av1_inverse_transform_add_8, av1_inverse_transform_add_16};

@@ -1,0 +1,315 @@
+//! How far luma is from its mean over each sample of a block of chroma, by samples of the caller.
+//!
+//! AV1 specification: predict chroma from luma process.
+ghost use Rattle.std.specs.Prelude.{true, false, ◌≡◌, ℕ, ◌+◌, ◌-◌, ◌*◌, ◌^◌, ◌<◌, ◌≤◌, min, map, IfOk, IfErr, IfSome, None, length};
+ghost use Rattle.av1_blocks.specs.Blocks.{block_height, block_width};
+ghost use Rattle.av1_edges.specs.Edges.{region_sample};
+ghost use Rattle.av1_frame.specs.Areas.{AreRows};
+ghost use Rattle.av1_frame.specs.Regions.{IsReadable};
+ghost use Rattle.av1_intra.specs.ChromaFromLuma.{columns_read, last_begun, luma_difference, padded_block, rows_read, with_rows};
+ghost use Rattle.av1_calls.specs.LumaBlocks.{GivesDifferences, HasLuma, HasNoChromaSize, IsCflBlock, IsCflFault, IsChromaSize, IsDeepCflFault, IsLumaOfDepth, IsSampling, luma_area, luma_in, with_differences};
+ghost use Rattle.av1_calls.specs.Samples.{AreBelow};
+
+use crate::argument::{BadArgument, are_rows, is_depth};
+use crate::samples::{are_within, have_8_bits};
+use crate::status::DONE;
+use av1_blocks::BlockSize;
+use av1_frame::{Pixel, PlaneConfig, PlaneRegion, StoredArea, visible_area};
+use av1_intra::rust::pred_cfl_ac;
+
+/// A block of chroma that is predicted from luma, in numbers.
+#[repr(C)]
+#[derive(Clone, Copy, Debug, PartialEq, Eq)]
+pub struct CflBlock {
+    /// The number of its size in samples of chroma among those of blocks, from 0 (`BLOCK_4X4`) on: none with a side past 32.
+    pub block_size: u8,
+    /// 1 where chroma has half of luma's columns, else 0.
+    pub xdec: u8,
+    /// 1 where chroma has half of luma's rows, too, else 0.
+    pub ydec: u8,
+    /// How many units of 4 columns, its last ones, have no luma of their own.
+    pub w_pad: usize,
+    /// How many units of 4 rows, its last ones, have no luma of their own.
+    pub h_pad: usize,
+}
+
+/// The size of a block of chroma, and the rectangle of luma that is read for it.
+#[derive(Clone, Copy)]
+struct Luma {
+    size: BlockSize,
+    area: StoredArea,
+}
+
+// The size of this number, if no side of it is longer than 32.
+#[inline(always)]
+fn chroma_size(number: u8) -> Option<BlockSize>
+    ensures found { IfSome result (IsChromaSize number) }
+    ensures none { result ≡ None → HasNoChromaSize number }
+{
+    let size = BlockSize::from_number(number)?;
+    if size.width() <= 32 && size.height() <= 32 {
+        Some(size)
+    } else {
+        None
+    }
+}
+
+// Whether planes of chroma have these decimations.
+#[inline(always)]
+fn is_sampling(xdec: u8, ydec: u8) -> bool
+    ensures true_is { result ≡ true → IsSampling xdec ydec }
+    ensures is_true { IsSampling xdec ydec → result ≡ true }
+{
+    xdec <= 1 && ydec <= xdec
+}
+
+// Whether so many units of 4 leave some of a side that is no longer than 32.
+#[inline(always)]
+fn leave_some(side: usize, pad: usize) -> bool
+    requires { side ≤ 32 }
+    ensures true_is { result ≡ true → 4 * pad < side }
+    ensures is_true { 4 * pad < side → result ≡ true }
+{
+    pad < 8 && 4 * pad < side
+}
+
+#[inline(always)]
+fn has_luma(block: CflBlock, size: BlockSize) -> bool
+    requires narrow { block_width size ≤ 32 }
+    requires low { block_height size ≤ 32 }
+    ensures true_is { result ≡ true → HasLuma block size }
+    ensures is_true { HasLuma block size → result ≡ true }
+{
+    leave_some(size.width(), block.w_pad) && leave_some(size.height(), block.h_pad)
+}
+
+// How many columns, or rows, of luma are read for a side of chroma.
+#[inline(always)]
+fn side_read(side: usize, pad: usize, decimation: usize) -> usize
+    requires decimation { decimation ≤ 1 }
+    requires pad { 4 * pad < side }
+    requires side { side ≤ 32 }
+    ensures value { result ≡ min (side * 2 ^ decimation) (last_begun ((side - 4 * pad) * 2 ^ decimation) decimation + 2 ^ decimation) }
+    ensures some { 0 < result }
+{
+    (side << decimation).min(((side - 4 * pad) << decimation).max(8))
+}
+
+// The rectangle of luma that is read for a block of this size.
+#[inline(always)]
+fn luma_area(block: CflBlock, size: BlockSize, x: usize, y: usize) -> StoredArea
+    requires sampled { IsSampling block.xdec block.ydec }
+    requires padded { HasLuma block size }
+    requires narrow { block_width size ≤ 32 }
+    requires low { block_height size ≤ 32 }
+    ensures value { result ≡ luma_area block size x y }
+    ensures some_columns { 0 < result.width }
+    ensures some_rows { 0 < result.height }
+{
+    StoredArea {
+        x,
+        y,
+        width: side_read(size.width(), block.w_pad, usize::from(block.xdec)),
+        height: side_read(size.height(), block.h_pad, usize::from(block.ydec)),
+    }
+}
+
+/// What the numbers ask for, where there are so many differences and so many samples.
+///
+/// # Errors
+///
+/// `Size`, then `Sampling`, then `Pad`, then `Area`, then `Short`.
+#[inline(always)]
+fn luma_of(
+    block: CflBlock,
+    stride: usize,
+    x: usize,
+    y: usize,
+    ac: usize,
+    samples: usize,
+) -> Result<Luma, BadArgument>
+    ensures found { IfOk result (λ luma. IsCflBlock block stride x y ac samples luma.size) }
+    ensures area { IfOk result (λ luma. luma.area ≡ luma_area block luma.size x y) }
+    ensures some_columns { IfOk result (λ luma. 0 < luma.area.width) }
+    ensures some_rows { IfOk result (λ luma. 0 < luma.area.height) }
+    ensures fault { IfErr result (IsCflFault block stride x y ac samples) }
+{
+    let Some(size) = chroma_size(block.block_size) else {
+        return Err(BadArgument::Size);
+    };
+    if !is_sampling(block.xdec, block.ydec) {
+        return Err(BadArgument::Sampling);
+    }
+    if !has_luma(block, size) {
+        return Err(BadArgument::Pad);
+    }
+    let area = luma_area(block, size, x, y);
+    if !are_rows(stride, area, samples) {
+        return Err(BadArgument::Area);
+    }
+    if ac < size.area() {
+        return Err(BadArgument::Short);
+    }
+    Ok(Luma { size, area })
+}
+
+/// The same where samples have more than 8 bits.
+///
+/// # Errors
+///
+/// `Size`, then `Sampling`, then `Pad`, then `Area`, then `Short`, then `Depth`, then `Sample`.
+fn deep_luma_of(
+    block: CflBlock,
+    samples: &[u16],
+    stride: usize,
+    x: usize,
+    y: usize,
+    ac: usize,
+    bit_depth: usize,
+) -> Result<Luma, BadArgument>
+    ensures found { IfOk result (λ luma. IsCflBlock block stride x y ac (length samples.now) luma.size) }
+    ensures area { IfOk result (λ luma. luma.area ≡ luma_area block luma.size x y) }
+    ensures some_columns { IfOk result (λ luma. 0 < luma.area.width) }
+    ensures some_rows { IfOk result (λ luma. 0 < luma.area.height) }
+    ensures depth { IfOk result (λ luma. IsLumaOfDepth bit_depth block stride x y samples.now luma.size) }
+    ensures fault { IfErr result (IsDeepCflFault bit_depth block stride x y ac samples.now) }
+{
+    let luma = luma_of(block, stride, x, y, ac, samples.len())?;
+    if !is_depth(bit_depth) {
+        return Err(BadArgument::Depth);
+    }
+    if !are_within(samples, stride, luma.area, bit_depth) {
+        return Err(BadArgument::Sample);
+    }
+    Ok(luma)
+}
+
+/// A rectangle of samples as a region.
+#[inline(always)]
+fn region_of<T: Pixel>(samples: &[T], stride: usize, area: StoredArea) -> PlaneRegion<'_, T>
+    requires rows { AreRows stride area (length samples.now) }
+    requires some_columns { 0 < area.width }
+    requires some_rows { 0 < area.height }
+    ensures readable { IsReadable result }
+    ensures columns { result.area.width ≡ area.width }
+    ensures lines { result.area.height ≡ area.height }
+    ensures same { (p q : ℕ) → p < area.width → q < area.height → region_sample T.num result p q ≡ luma_in stride area (map T.num samples.now) p q }
+{
+    let rows = area.y + area.height;
+    let (samples, _) = samples.split_at(rows * stride);
+    let plane_cfg = PlaneConfig::bare(stride, rows, area);
+    PlaneRegion::from_slice(
+        samples,
+        plane_cfg,
+        visible_area(0, 0, area.width, area.height),
+    )
+}
+
+/// The first entries become the differences of a block with these decimations.
+#[inline(always)]
+fn put_differences<T: Pixel, const XDEC: usize, const YDEC: usize>(
+    ac: &mut [i16],
+    samples: &[T],
+    stride: usize,
+    luma: Luma,
+    w_pad: usize,
+    h_pad: usize,
+)
+    requires xdec { XDEC ≤ 1 }
+    requires ydec { YDEC ≤ XDEC }
+    requires w_pad { 4 * w_pad < block_width luma.size }
+    requires h_pad { 4 * h_pad < block_height luma.size }
+    requires long { block_width luma.size * block_height luma.size ≤ length ac.old }
+    requires rows { AreRows stride luma.area (length samples.now) }
+    requires some_columns { 0 < luma.area.width }
+    requires some_rows { 0 < luma.area.height }
+    requires columns { luma.area.width ≡ columns_read (padded_block luma.size w_pad h_pad XDEC YDEC) }
+    requires lines { luma.area.height ≡ rows_read (padded_block luma.size w_pad h_pad XDEC YDEC) }
+    requires low { AreBelow 4096 stride luma.area (map T.num samples.now) }
+    ensures { ac.new ≡ with_rows (block_width luma.size) (block_height luma.size) (luma_difference (luma_in stride luma.area (map T.num samples.now)) (padded_block luma.size w_pad h_pad XDEC YDEC)) ac.old }
+{
+    let region = region_of(samples, stride, luma.area);
+    pred_cfl_ac::<T, XDEC, YDEC>(ac, &region, luma.size, w_pad, h_pad);
+}
+
+/// The same by its decimations.
+#[inline(always)]
+fn put_differences_of<T: Pixel>(
+    ac: &mut [i16],
+    samples: &[T],
+    stride: usize,
+    x: usize,
+    y: usize,
+    luma: Luma,
+    block: CflBlock,
+)
+    requires asked { IsCflBlock block stride x y (length ac.old) (length samples.now) luma.size }
+    requires area { luma.area ≡ luma_area block luma.size x y }
+    requires some_columns { 0 < luma.area.width }
+    requires some_rows { 0 < luma.area.height }
+    requires low { AreBelow 4096 stride luma.area (map T.num samples.now) }
+    ensures { ac.new ≡ with_differences block luma.size stride x y (map T.num samples.now) ac.old }
+{
+    let (w_pad, h_pad) = (block.w_pad, block.h_pad);
+    if block.xdec == 0 {
+        put_differences::<T, 0, 0>(ac, samples, stride, luma, w_pad, h_pad);
+    } else if block.ydec == 0 {
+        put_differences::<T, 1, 0>(ac, samples, stride, luma, w_pad, h_pad);
+    } else {
+        put_differences::<T, 1, 1>(ac, samples, stride, luma, w_pad, h_pad);
+    }
+}
+
+/// Puts into `ac`, row by row, how far the luma over each sample of a block of chroma is from its mean, in eighths, at a depth of 8: the
+/// averages of the specification's "predict chroma from luma process", which `av1_predict_cfl_8` takes. The other entries of `ac` stay.
+///
+/// The block's luma begins at column `x` of row `y` of `luma`, whose rows stand `stride` apart. Read are the columns and rows over those
+/// of chroma that have luma of their own, and at least 8, but none past the block; the others repeat the last of these.
+///
+/// `DONE`: that was done. `BAD_SIZE`: no size with sides up to 32 has the number. `BAD_SAMPLING`: chroma has no such decimations. `BAD_PAD`:
+/// no column, or no row, has luma of its own. `BAD_AREA`: the luma that is read does not lie in the samples. `TOO_SHORT`: `ac` has fewer
+/// entries than the block has samples.
+pub fn av1_cfl_ac_8(
+    ac: &mut [i16],
+    luma: &[u8],
+    stride: usize,
+    x: usize,
+    y: usize,
+    block: &CflBlock,
+) -> u32
+    ensures { GivesDifferences false 8 block.now stride x y luma.now ac.old ac.new result }
+{
+    let block = *block;
+    match luma_of(block, stride, x, y, ac.len(), luma.len()) {
+        Ok(found) => {
+            have_8_bits(luma);
+            put_differences_of(ac, luma, stride, x, y, found, block);
+            DONE
+        }
+        Err(fault) => fault.status(),
+    }
+}
+
+/// The same for samples of 16 bits at a depth of 8, 10 or 12.
+///
+/// `BAD_DEPTH`: samples have no such depth. `BAD_SAMPLE`: one of those that are read is past it.
+pub fn av1_cfl_ac_16(
+    ac: &mut [i16],
+    luma: &[u16],
+    stride: usize,
+    x: usize,
+    y: usize,
+    block: &CflBlock,
+    bit_depth: usize,
+) -> u32
+    ensures { GivesDifferences true bit_depth block.now stride x y luma.now ac.old ac.new result }
+{
+    let block = *block;
+    match deep_luma_of(block, luma, stride, x, y, ac.len(), bit_depth) {
+        Ok(found) => {
+            put_differences_of(ac, luma, stride, x, y, found, block);
+            DONE
+        }
+        Err(refused) => refused.status(),
+    }
+}

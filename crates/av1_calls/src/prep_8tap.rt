@@ -1,0 +1,119 @@
+//! A block that is prepared for the average with another.
+//!
+//! AV1 specification: block inter prediction process, with the rounding of compound prediction.
+ghost use Rattle.std.specs.Prelude.{true, false, IfOk, IfErr, map, length};
+ghost use Rattle.av1_calls.specs.Motions.{Prepares, AreOfDepth, HoldBlock, IsDeepPrepFault, IsPrep, place, source_at};
+
+use crate::argument::{BadArgument, filter_mode};
+use crate::motion::{MotionBlock, Place, config_of, rows_of, test_prep, test_samples};
+use crate::samples::have_8_bits;
+use crate::status::DONE;
+use av1_frame::{Pixel, PlaneOffset, PlaneSlice};
+use av1_inter::prep_8tap;
+
+/// The first values become those of the block.
+#[inline(always)]
+fn prep<T: Pixel>(values: &mut [i16], src: &[T], from: Place, block: MotionBlock, bit_depth: usize)
+    requires asked { IsPrep (length values.old) from (length src.now) block }
+    requires deep { AreOfDepth bit_depth from (map T.num src.now) block }
+    ensures { HoldBlock bit_depth block (source_at from (map T.num src.now)) values.old values.new }
+{
+    let rows = rows_of(src, from, block);
+    let cfg = config_of(from, block, src.len());
+    let place = PlaneSlice::from_slice(rows, &cfg, PlaneOffset { x: 0, y: 0 });
+    prep_8tap(
+        values,
+        place,
+        block.width,
+        block.height,
+        i32::from(block.col_frac),
+        i32::from(block.row_frac),
+        filter_mode(block.filter_x),
+        filter_mode(block.filter_y),
+        bit_depth,
+    );
+}
+
+/// The tests of a block of samples of 16 bits.
+///
+/// # Errors
+///
+/// `Size`, then `Mode`, then `Fraction`, then `Area`, then `Short`, then `Depth`, then `Sample`.
+#[inline(always)]
+fn test_deep_prep(
+    room: usize,
+    from: Place,
+    samples: &[u16],
+    block: MotionBlock,
+    bit_depth: usize,
+) -> Result<(), BadArgument>
+    ensures good { IfOk result (λ _. IsPrep room from (length samples.now) block) }
+    ensures deep { IfOk result (λ _. AreOfDepth bit_depth from samples.now block) }
+    ensures fault { IfErr result (IsDeepPrepFault bit_depth room from samples.now block) }
+{
+    test_prep(room, from, samples.len(), block)?;
+    test_samples(from, samples, block, bit_depth)
+}
+
+/// Prepares a block of a reference for the average with another, at a depth of 8: the specification's "Block inter prediction process" with
+/// the rounding of compound prediction. The first `height * width` of `values` become those of the block, row by row, and the others stay.
+/// The block stands in `src` at column `src_x` of row `src_y`, moved by its fractions. Rows of samples stand `src_stride` apart.
+///
+/// 3 columns and rows before the block and 4 after it are read, at every fraction. A value is 16 times a sample.
+///
+/// `DONE`: that was done. `BAD_SIZE`: a side is 0, or above 128. `BAD_MODE`: a filter has no such number. `BAD_FRACTION`: a fraction is 16
+/// or more. `BAD_AREA`: what is read does not lie in the samples. `TOO_SHORT`: there are fewer values than the block has samples.
+pub fn av1_prep_8tap_8(
+    values: &mut [i16],
+    src: &[u8],
+    src_stride: usize,
+    src_x: usize,
+    src_y: usize,
+    block: &MotionBlock,
+) -> u32
+    ensures { Prepares false 8 (place src_stride src_x src_y) block.now src.now values.old values.new result }
+{
+    let block = *block;
+    let from = Place {
+        stride: src_stride,
+        x: src_x,
+        y: src_y,
+    };
+    match test_prep(values.len(), from, src.len(), block) {
+        Ok(()) => {
+            have_8_bits(src);
+            prep(values, src, from, block, 8);
+            DONE
+        }
+        Err(fault) => fault.status(),
+    }
+}
+
+/// The same for samples of 16 bits at a depth of 8, 10 or 12. At depths above 8 values are less by 8192; at 12 they are 4 times a sample.
+///
+/// `BAD_DEPTH`: samples have no such depth. `BAD_SAMPLE`: one of those that are read is past it.
+pub fn av1_prep_8tap_16(
+    values: &mut [i16],
+    src: &[u16],
+    src_stride: usize,
+    src_x: usize,
+    src_y: usize,
+    block: &MotionBlock,
+    bit_depth: usize,
+) -> u32
+    ensures { Prepares true bit_depth (place src_stride src_x src_y) block.now src.now values.old values.new result }
+{
+    let block = *block;
+    let from = Place {
+        stride: src_stride,
+        x: src_x,
+        y: src_y,
+    };
+    match test_deep_prep(values.len(), from, src, block, bit_depth) {
+        Ok(()) => {
+            prep(values, src, from, block, bit_depth);
+            DONE
+        }
+        Err(refused) => refused.status(),
+    }
+}

@@ -1,0 +1,225 @@
+//! Whether samples of the caller lie within a depth.
+ghost use Rattle.std.specs.Prelude.{◌≡◌, true, ℕ, ◌+◌, ◌*◌, ◌^◌, ◌<◌, ◌≤◌, length, slice_index};
+ghost use Rattle.av1_blocks.specs.Depths.{IsDepth};
+ghost use Rattle.av1_frame.specs.Areas.{AreRows};
+ghost use Rattle.av1_calls.specs.Samples.{AreBelow, AreLanesBelow, IsGreatest, TakesIn, TakesInRows, rectangle_of};
+
+use av1_frame::StoredArea;
+use std::simd::prelude::*;
+
+// Reads each sample, so that the proof knows that it has 8 bits: it compiles to nothing.
+pub(crate) fn have_8_bits(samples: &[u8])
+    ensures { (i : ℕ) → i < length samples.now → slice_index samples.now i < 256 }
+{
+    for i in 0..samples.len() {
+        let _sample = samples[i];
+    }
+}
+
+fn sample_at(samples: &[u16], i: usize) -> u16
+    requires { i < length samples.now }
+    ensures { result ≡ slice_index samples.now i }
+{
+    samples[i]
+}
+
+fn greater(a: u16, b: u16) -> u16
+    ensures above_first { a ≤ result }
+    ensures above_second { b ≤ result }
+    ensures reached { (bound : ℕ) → a ≤ bound → b ≤ bound → result ≤ bound }
+{
+    if a < b { b } else { a }
+}
+
+// The greater of `least` and the greatest of `count` samples from `start` on.
+fn greatest_from(samples: &[u16], start: usize, count: usize, least: u16) -> u16
+    requires long { start + count ≤ length samples.now }
+    ensures above { least ≤ result }
+    ensures each { (i : ℕ) → i < count → slice_index samples.now (start + i) ≤ result }
+    ensures reached { (bound : ℕ) → least ≤ bound → ((i : ℕ) → i < count → slice_index samples.now (start + i) ≤ bound) → result ≤ bound }
+{
+    let mut greatest = least;
+    for i in 0..count {
+        greatest = greater(greatest, sample_at(samples, start + i));
+    }
+    greatest
+}
+
+// The greatest sample of a rectangle, and 0 where it has none.
+fn greatest_of(samples: &[u16], stride: usize, area: StoredArea) -> u16
+    requires { AreRows stride area (length samples.now) }
+    ensures { IsGreatest stride area samples.now result }
+{
+    let mut greatest = 0;
+    for r in 0..area.height {
+        let start = (area.y + r) * stride + area.x;
+        greatest = greatest_from(samples, start, area.width, greatest);
+    }
+    greatest
+}
+
+// The greater of each lane and one of the eight samples from `start` on.
+#[inline(always)]
+fn with_eight(greatest: u16x8, samples: &[u16], start: usize) -> u16x8
+    requires { start + 8 ≤ length samples.now }
+    ensures { TakesIn samples.now start 8 greatest result }
+{
+    greatest.simd_max(u16x8::from_slice(&samples[start..]))
+}
+
+// The same of a row from `start` on, of which the last eight are taken once more where it is no multiple of eight long.
+#[inline(always)]
+fn with_row(greatest: u16x8, samples: &[u16], start: usize, width: usize, eights: usize) -> u16x8
+    requires some { 8 ≤ width }
+    requires eights { 8 * eights ≤ width }
+    requires rest { width ≤ 8 * eights + 8 }
+    requires long { start + width ≤ length samples.now }
+    ensures { TakesIn samples.now start width greatest result }
+{
+    let mut lanes = greatest;
+    for k in 0..eights {
+        lanes = with_eight(lanes, samples, start + 8 * k);
+    }
+    with_eight(lanes, samples, start + width - 8)
+}
+
+// In each lane the greatest of some samples of a rectangle, each of which is in one of them.
+#[inline(always)]
+fn greatest_lanes(samples: &[u16], stride: usize, area: StoredArea, eights: usize) -> u16x8
+    requires rows { AreRows stride area (length samples.now) }
+    requires some { 8 ≤ area.width }
+    requires eights { 8 * eights ≤ area.width }
+    requires rest { area.width ≤ 8 * eights + 8 }
+    ensures { TakesInRows stride area samples.now area.height result }
+{
+    let mut lanes = u16x8::splat(0);
+    let mut start = area.y * stride + area.x;
+    for _row in 0..area.height {
+        lanes = with_row(lanes, samples, start, area.width, eights);
+        start += stride;
+    }
+    lanes
+}
+
+#[inline(always)]
+fn are_lanes_below(lanes: u16x8, bound: u16) -> bool
+    ensures true_is { result ≡ true → AreLanesBelow bound lanes }
+    ensures is_true { AreLanesBelow bound lanes → result ≡ true }
+{
+    lanes.simd_ge(u16x8::splat(bound)).to_bitmask() == 0
+}
+
+// Whether each sample of a rectangle with so many columns is below a bound.
+#[inline(always)]
+fn are_wide_below(
+    samples: &[u16],
+    stride: usize,
+    area: StoredArea,
+    eights: usize,
+    bound: u16,
+) -> bool
+    requires rows { AreRows stride area (length samples.now) }
+    requires some { 0 < bound }
+    requires some_columns { 8 ≤ area.width }
+    requires eights { 8 * eights ≤ area.width }
+    requires rest { area.width ≤ 8 * eights + 8 }
+    ensures true_is { result ≡ true → AreBelow bound stride area samples.now }
+    ensures is_true { AreBelow bound stride area samples.now → result ≡ true }
+{
+    are_lanes_below(greatest_lanes(samples, stride, area, eights), bound)
+}
+
+// Whether each sample of the rectangle with these sides at column `x` of row `y` is below a bound.
+#[inline(never)]
+fn are_any_below(
+    samples: &[u16],
+    stride: usize,
+    x: usize,
+    y: usize,
+    width: usize,
+    height: usize,
+    bound: u16,
+) -> bool
+    requires rows { AreRows stride (rectangle_of x y width height) (length samples.now) }
+    requires some { 0 < bound }
+    ensures true_is { result ≡ true → AreBelow bound stride (rectangle_of x y width height) samples.now }
+    ensures is_true { AreBelow bound stride (rectangle_of x y width height) samples.now → result ≡ true }
+{
+    let area = StoredArea {
+        x,
+        y,
+        width,
+        height,
+    };
+    if width < 8 {
+        greatest_of(samples, stride, area) < bound
+    } else {
+        are_wide_below(samples, stride, area, (width - 1) / 8, bound)
+    }
+}
+
+// The same, with a loop of its own for each usual width. Numbers by themselves are handed on in registers.
+#[inline(never)]
+fn are_below(
+    samples: &[u16],
+    stride: usize,
+    x: usize,
+    y: usize,
+    width: usize,
+    height: usize,
+    bound: u16,
+) -> bool
+    requires rows { AreRows stride (rectangle_of x y width height) (length samples.now) }
+    requires some { 0 < bound }
+    ensures true_is { result ≡ true → AreBelow bound stride (rectangle_of x y width height) samples.now }
+    ensures is_true { AreBelow bound stride (rectangle_of x y width height) samples.now → result ≡ true }
+{
+    let area = StoredArea {
+        x,
+        y,
+        width,
+        height,
+    };
+    if width < 8 {
+        return are_any_below(samples, stride, x, y, width, height, bound);
+    }
+    match (width - 1) / 8 {
+        0 => are_wide_below(samples, stride, area, 0, bound),
+        1 => are_wide_below(samples, stride, area, 1, bound),
+        2 => are_wide_below(samples, stride, area, 2, bound),
+        3 => are_wide_below(samples, stride, area, 3, bound),
+        4 => are_wide_below(samples, stride, area, 4, bound),
+        7 => are_wide_below(samples, stride, area, 7, bound),
+        8 => are_wide_below(samples, stride, area, 8, bound),
+        16 => are_wide_below(samples, stride, area, 16, bound),
+        _ => are_any_below(samples, stride, x, y, width, height, bound),
+    }
+}
+
+// The first number that has more bits than the depth.
+#[inline(always)]
+fn bound_of(bit_depth: usize) -> u16
+    requires { IsDepth bit_depth }
+    ensures { result ≡ 2 ^ bit_depth }
+{
+    1 << bit_depth
+}
+
+// Whether no sample of a rectangle is past the depth.
+#[inline(always)]
+pub(crate) fn are_within(samples: &[u16], stride: usize, area: StoredArea, bit_depth: usize) -> bool
+    requires rows { AreRows stride area (length samples.now) }
+    requires depths { IsDepth bit_depth }
+    ensures true_is { result ≡ true → AreBelow (2 ^ bit_depth) stride area samples.now }
+    ensures is_true { AreBelow (2 ^ bit_depth) stride area samples.now → result ≡ true }
+{
+    are_below(
+        samples,
+        stride,
+        area.x,
+        area.y,
+        area.width,
+        area.height,
+        bound_of(bit_depth),
+    )
+}

@@ -1,0 +1,258 @@
+//! The residue of a block, added to samples of the caller.
+ghost use Rattle.std.specs.Prelude.{true, false, ◌≡◌, ◌⊎◌, ℕ, ◌+◌, ◌<◌, ◌≤◌, IfOk, IfErr, length, ◌≤ℤ◌};
+ghost use Rattle.av1_blocks.specs.Depths.{IsDepth};
+ghost use Rattle.av1_dct.specs.Arithmetic.{at, FitsBits};
+ghost use Rattle.av1_calls.specs.Arguments.{rectangle};
+ghost use Rattle.av1_calls.specs.Transforms.{AddsResidue, AllFitDepth, IsBlock, IsBlockFault, IsDeepFault, IsRunnable};
+
+use crate::argument::{BadArgument, are_rows, area_of, is_depth};
+use crate::status::DONE;
+use av1_blocks::{TxSize, TxType, valid_av1_transform};
+use av1_frame::StoredArea;
+use av1_itx::{TxRoom, inverse_transform_add_in};
+
+/// A transform, and the rectangle to which its residue is added.
+#[derive(Clone, Copy)]
+struct Block {
+    size: TxSize,
+    kind: TxType,
+    area: StoredArea,
+}
+
+// Whether the size has an inverse transform of this type.
+#[inline(always)]
+fn is_runnable(size: TxSize, kind: TxType) -> bool
+    ensures true_is { result ≡ true → IsRunnable size kind }
+    ensures is_true { IsRunnable size kind → result ≡ true }
+{
+    valid_av1_transform(size, kind) && (kind != TxType::WHT_WHT || size == TxSize::TX_4X4)
+}
+
+/// The block that the numbers name. So many coefficients are there, and so many samples.
+///
+/// # Errors
+///
+/// `Size`, then `Kind`, then `Area`, then `Short`.
+#[inline(always)]
+fn block_of(
+    tx_size: u8,
+    tx_type: u8,
+    stride: usize,
+    x: usize,
+    y: usize,
+    coefficients: usize,
+    samples: usize,
+) -> Result<Block, BadArgument>
+    ensures found { IfOk result (λ block. IsBlock tx_size tx_type stride x y coefficients samples block.size block.kind) }
+    ensures area { IfOk result (λ block. block.area ≡ rectangle x y block.size) }
+    ensures fault { IfErr result (IsBlockFault tx_size tx_type stride x y coefficients samples) }
+{
+    let Some(size) = TxSize::from_number(tx_size) else {
+        return Err(BadArgument::Size);
+    };
+    let Some(kind) = TxType::from_number(tx_type) else {
+        return Err(BadArgument::Kind);
+    };
+    if !is_runnable(size, kind) {
+        return Err(BadArgument::Kind);
+    }
+    let area = area_of(x, y, size);
+    if !are_rows(stride, area, samples) {
+        return Err(BadArgument::Area);
+    }
+    if coefficients < size.coded_area() {
+        return Err(BadArgument::Short);
+    }
+    Ok(Block { size, kind, area })
+}
+
+// Reads each number, so that the proof knows that it has 16 bits: it compiles to nothing.
+fn have_16_bits(coefficients: &[i16])
+    ensures { (i : ℕ) → i < length coefficients.now → FitsBits 16 (at coefficients.now i) }
+{
+    for i in 0..coefficients.len() {
+        let _number = coefficients[i];
+    }
+}
+
+fn lesser(a: i32, b: i32) -> i32
+    ensures below_first { result ≤ℤ a }
+    ensures below_second { result ≤ℤ b }
+    ensures either { (result ≡ a) ⊎ (result ≡ b) }
+{
+    if b < a { b } else { a }
+}
+
+fn greater(a: i32, b: i32) -> i32
+    ensures above_first { a ≤ℤ result }
+    ensures above_second { b ≤ℤ result }
+    ensures either { (result ≡ a) ⊎ (result ≡ b) }
+{
+    if a < b { b } else { a }
+}
+
+fn number_at(numbers: &[i32], i: usize) -> i32
+    requires { i < length numbers.now }
+    ensures { result ≡ at numbers.now i }
+{
+    numbers[i]
+}
+
+// Whether the number has so many bits.
+fn fits(number: i32, bits: usize) -> bool
+    requires { (1 ≤ bits) × (bits ≤ 32) }
+    ensures true_is { result ≡ true → FitsBits bits number }
+    ensures is_true { FitsBits bits number → result ≡ true }
+{
+    let half = 1i64 << (bits - 1);
+    let number = i64::from(number);
+    -half <= number && number < half
+}
+
+fn both_fit(least: i32, greatest: i32, bits: usize) -> bool
+    requires { (1 ≤ bits) × (bits ≤ 32) }
+    ensures true_is { result ≡ true → FitsBits bits least × FitsBits bits greatest }
+    ensures is_true { FitsBits bits least → FitsBits bits greatest → result ≡ true }
+{
+    fits(least, bits) && fits(greatest, bits)
+}
+
+// Whether each of the first numbers has so many bits. One pass finds the least and the greatest, several numbers at a time.
+fn all_fit(numbers: &[i32], count: usize, bits: usize) -> bool
+    requires some_bits { (1 ≤ bits) × (bits ≤ 32) }
+    requires long { count ≤ length numbers.now }
+    ensures true_is { result ≡ true → (i : ℕ) → i < count → FitsBits bits (at numbers.now i) }
+    ensures is_true { ((i : ℕ) → i < count → FitsBits bits (at numbers.now i)) → result ≡ true }
+{
+    let (mut least, mut greatest) = (0, 0);
+    for i in 0..count {
+        let number = number_at(numbers, i);
+        least = lesser(least, number);
+        greatest = greater(greatest, number);
+    }
+    both_fit(least, greatest, bits)
+}
+
+/// The same where samples have more than 8 bits.
+///
+/// # Errors
+///
+/// `Size`, then `Kind`, then `Area`, then `Short`, then `Depth`, then `Coefficient`.
+#[inline(always)]
+fn deep_block_of(
+    tx_size: u8,
+    tx_type: u8,
+    stride: usize,
+    x: usize,
+    y: usize,
+    coefficients: &[i32],
+    samples: usize,
+    bit_depth: usize,
+) -> Result<Block, BadArgument>
+    ensures found { IfOk result (λ block. IsBlock tx_size tx_type stride x y (length coefficients.now) samples block.size block.kind) }
+    ensures area { IfOk result (λ block. block.area ≡ rectangle x y block.size) }
+    ensures depth { IfOk result (λ _. IsDepth bit_depth) }
+    ensures fit { IfOk result (λ block. AllFitDepth bit_depth block.size coefficients.now) }
+    ensures fault { IfErr result (IsDeepFault bit_depth tx_size tx_type stride x y coefficients.now samples) }
+{
+    let block = block_of(tx_size, tx_type, stride, x, y, coefficients.len(), samples)?;
+    if !is_depth(bit_depth) {
+        return Err(BadArgument::Depth);
+    }
+    if !all_fit(coefficients, block.size.coded_area(), bit_depth + 8) {
+        return Err(BadArgument::Coefficient);
+    }
+    Ok(block)
+}
+
+/// Adds the residue of coefficients to the samples of a rectangle, which has the transform's sides, and clips, at a depth of 8: the
+/// specification's "2D inverse transform process" and the addition of "Reconstruction". The rectangle begins at column `x` of row `y`, and
+/// rows of samples stand `stride` apart. The size and the type are told by their numbers in plans.
+///
+/// The coefficient of row r and column c stands at `c * min(height, 32) + r`; the rows and columns from 32 on have none. What `scratch` holds
+/// before the call doesn't matter.
+///
+/// `DONE`: that was done. `BAD_SIZE`, `BAD_TYPE`: a number names none, or the size has no such type. `BAD_AREA`: the rectangle does not lie
+/// in the samples. `TOO_SHORT`: there are fewer coefficients than the transform has.
+pub fn av1_inverse_transform_add_8(
+    scratch: &mut TxRoom,
+    coefficients: &[i16],
+    samples: &mut [u8],
+    stride: usize,
+    x: usize,
+    y: usize,
+    tx_size: u8,
+    tx_type: u8,
+) -> u32
+    ensures { AddsResidue false 8 tx_size tx_type stride x y coefficients.now samples.old samples.new result }
+{
+    match block_of(
+        tx_size,
+        tx_type,
+        stride,
+        x,
+        y,
+        coefficients.len(),
+        samples.len(),
+    ) {
+        Ok(block) => {
+            have_16_bits(coefficients);
+            inverse_transform_add_in(
+                scratch,
+                coefficients,
+                samples,
+                stride,
+                block.area,
+                block.size,
+                block.kind,
+                8,
+            );
+            DONE
+        }
+        Err(fault) => fault.status(),
+    }
+}
+
+/// The same for samples of 16 bits at a depth of 8, 10 or 12. A sample that is past the depth is clipped with what is added to it.
+///
+/// `BAD_DEPTH`: samples have no such depth. `BAD_COEFFICIENT`: one of the transform's coefficients has more than `bit_depth + 8` bits, its
+/// sign among them.
+pub fn av1_inverse_transform_add_16(
+    scratch: &mut TxRoom,
+    coefficients: &[i32],
+    samples: &mut [u16],
+    stride: usize,
+    x: usize,
+    y: usize,
+    tx_size: u8,
+    tx_type: u8,
+    bit_depth: usize,
+) -> u32
+    ensures { AddsResidue true bit_depth tx_size tx_type stride x y coefficients.now samples.old samples.new result }
+{
+    match deep_block_of(
+        tx_size,
+        tx_type,
+        stride,
+        x,
+        y,
+        coefficients,
+        samples.len(),
+        bit_depth,
+    ) {
+        Ok(block) => {
+            inverse_transform_add_in(
+                scratch,
+                coefficients,
+                samples,
+                stride,
+                block.area,
+                block.size,
+                block.kind,
+                bit_depth,
+            );
+            DONE
+        }
+        Err(refused) => refused.status(),
+    }
+}

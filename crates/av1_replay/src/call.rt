@@ -1,0 +1,93 @@
+//! Calls on one block, by the kinds of rows.
+
+ghost use Rattle.std.specs.Prelude.{◌≡◌, ◌≤◌, length, IfErr, IfSome};
+ghost use Rattle.av1_replay.specs.Calls.{call_before, kind_of};
+ghost use Rattle.av1_replay.specs.Fields.{unread};
+
+use crate::answer::Answer;
+use crate::availability::Availability;
+use crate::edge::Edge;
+use crate::error::CallFault;
+use crate::fields::Fields;
+use crate::intra::{FromLuma, Intra};
+use crate::luma::Luma;
+use crate::motion::{Average, Reference};
+use crate::network::Network;
+use crate::samples::Margins;
+use crate::transform::Transform;
+use std::alloc::Global;
+
+/// A call on one block.
+#[derive(Clone, Copy)]
+pub enum BlockCall {
+    /// Kind 2: a one-dimensional transform.
+    Network(Network),
+    /// Kind 3: the inverse transform of a block.
+    Transform(Transform),
+    /// Kind 4: prediction from a reference.
+    Put(Reference, Margins),
+    /// Kind 5: a prepared block of a reference.
+    Prepare(Reference),
+    /// Kind 6: the average of two prepared blocks.
+    Average(Average),
+    /// Kind 7: prediction by an intra mode.
+    Intra(Intra),
+    /// Kind 8: chroma from luma.
+    FromLuma(FromLuma),
+    /// Kind 9: the edge of a transform.
+    Edge(Edge),
+    /// Kind 10: luma's differences from its mean.
+    Luma(Luma),
+    /// Kind 11: what is coded before a transform.
+    Availability(Availability),
+}
+
+impl BlockCall {
+    /// The next call, of the kind of this number: 2 to 11.
+    pub fn read(kind: u8, fields: &mut Fields) -> Option<BlockCall>
+        ensures known { IfSome result (λ call. kind ≡ kind_of call) }
+        ensures found { IfSome result (λ call. unread fields.old ≡ call_before call (unread fields.new)) }
+        ensures later { length (unread fields.new) ≤ length (unread fields.old) }
+    {
+        match kind {
+            2 => Some(BlockCall::Network(Network::read(fields)?)),
+            3 => Some(BlockCall::Transform(Transform::read(fields)?)),
+            4 => {
+                let reference = Reference::read(fields)?;
+                let margins = Margins::read(fields)?;
+                Some(BlockCall::Put(reference, margins))
+            }
+            5 => Some(BlockCall::Prepare(Reference::read(fields)?)),
+            6 => Some(BlockCall::Average(Average::read(fields)?)),
+            7 => Some(BlockCall::Intra(Intra::read(fields)?)),
+            8 => Some(BlockCall::FromLuma(FromLuma::read(fields)?)),
+            9 => Some(BlockCall::Edge(Edge::read(fields)?)),
+            10 => Some(BlockCall::Luma(Luma::read(fields)?)),
+            11 => Some(BlockCall::Availability(Availability::read(fields)?)),
+            _ => None,
+        }
+    }
+
+    /// Its answer. What was written is all that the call was given to write to, two bytes for each sample or 16-bit value, four for each
+    /// value of a one-dimensional transform; of an edge it is the part that the row asks for.
+    ///
+    /// # Errors
+    ///
+    /// `Memory`: an allocation was refused.
+    pub fn replay(&self, alloc: Global) -> Result<Answer, CallFault>
+        ensures { IfErr result (λ fault. fault ≡ CallFault.Memory) }
+    {
+        match self {
+            BlockCall::Network(network) => network.replay(alloc),
+            BlockCall::Transform(transform) => transform.replay(alloc),
+            BlockCall::Put(reference, margins) => reference.put(alloc, *margins),
+            BlockCall::Prepare(reference) => reference.prepare(alloc),
+            BlockCall::Average(average) => average.replay(alloc),
+            BlockCall::Intra(intra) => intra.replay(alloc),
+            BlockCall::FromLuma(from_luma) => from_luma.replay(alloc),
+            BlockCall::Edge(edge) => edge.replay(alloc),
+            BlockCall::Luma(luma) => luma.replay(alloc),
+            BlockCall::Availability(availability) => Ok(availability.replay(alloc)),
+        }
+    }
+}

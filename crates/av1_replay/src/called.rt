@@ -1,0 +1,285 @@
+//! The calls on one block by the type of its samples.
+
+ghost use Rattle.std.specs.Prelude.{◌≡◌, length};
+
+use crate::samples::Target;
+use av1_calls::{
+    CflBlock, EdgeBlock, EdgePlane, IntraBlock, MotionBlock, av1_cfl_ac_8, av1_cfl_ac_16,
+    av1_intra_edge_8, av1_intra_edge_16, av1_mc_avg_8, av1_mc_avg_16, av1_predict_cfl_8,
+    av1_predict_cfl_16, av1_predict_intra_8, av1_predict_intra_16, av1_prep_8tap_8,
+    av1_prep_8tap_16, av1_put_8tap_8, av1_put_8tap_16,
+};
+use av1_frame::Pixel;
+
+/// The column and row of a block in its reference: what the filters read begins with the first sample.
+pub const BEFORE: usize = 3;
+
+/// The samples of a reference, whose rows stand `stride` apart.
+#[derive(Clone, Copy)]
+pub struct Source<'a, T> {
+    pub samples: &'a [T],
+    pub stride: usize,
+}
+
+/// The sides of a block.
+#[derive(Clone, Copy)]
+pub struct Sides<'a, T> {
+    pub left: &'a [T],
+    pub corner: T,
+    pub above: &'a [T],
+}
+
+/// Samples that blocks are made of. Each call gives its status.
+pub trait Called: Pixel {
+    /// Predicts a block from a reference.
+    fn put(
+        to: &mut [Self],
+        target: Target,
+        from: Source<Self>,
+        block: &MotionBlock,
+        depth: u8,
+    ) -> u32;
+
+    /// Prepares a block of a reference.
+    fn prepare(values: &mut [i16], from: Source<Self>, block: &MotionBlock, depth: u8) -> u32;
+
+    /// Averages two prepared blocks.
+    fn average(to: &mut [Self], target: Target, first: &[i16], second: &[i16], depth: u8) -> u32;
+
+    /// Predicts a block from its sides.
+    fn predict(to: &mut [Self], target: Target, block: &IntraBlock, sides: Sides<Self>) -> u32;
+
+    /// Predicts a block of chroma from its sides and luma's differences.
+    fn predict_from_luma(
+        to: &mut [Self],
+        target: Target,
+        block: &IntraBlock,
+        sides: Sides<Self>,
+        differences: &[i16],
+        alpha: i16,
+    ) -> u32;
+
+    /// Prepares the edge of a transform.
+    fn prepare_edge(
+        edge: &mut [Self],
+        samples: &[Self],
+        plane: &EdgePlane,
+        block: &EdgeBlock,
+    ) -> u32;
+
+    /// Puts how far luma is from its mean.
+    fn put_differences(
+        differences: &mut [i16],
+        luma: Source<Self>,
+        target: Target,
+        block: &CflBlock,
+        depth: u8,
+    ) -> u32;
+}
+
+impl Called for u8 {
+    fn put(
+        to: &mut [u8],
+        target: Target,
+        from: Source<u8>,
+        block: &MotionBlock,
+        _depth: u8,
+    ) -> u32 {
+        av1_put_8tap_8(
+            to,
+            target.stride,
+            target.area.x,
+            target.area.y,
+            from.samples,
+            from.stride,
+            BEFORE,
+            BEFORE,
+            block,
+        )
+    }
+
+    fn prepare(values: &mut [i16], from: Source<u8>, block: &MotionBlock, _depth: u8) -> u32 {
+        av1_prep_8tap_8(values, from.samples, from.stride, BEFORE, BEFORE, block)
+    }
+
+    fn average(to: &mut [u8], target: Target, first: &[i16], second: &[i16], _depth: u8) -> u32 {
+        let area = target.area;
+        av1_mc_avg_8(
+            to,
+            target.stride,
+            area.x,
+            area.y,
+            area.width,
+            area.height,
+            first,
+            second,
+        )
+    }
+
+    fn predict(to: &mut [u8], target: Target, block: &IntraBlock, sides: Sides<u8>) -> u32 {
+        av1_predict_intra_8(
+            to,
+            target.stride,
+            target.area.x,
+            target.area.y,
+            block,
+            sides.left,
+            sides.corner,
+            sides.above,
+        )
+    }
+
+    fn predict_from_luma(
+        to: &mut [u8],
+        target: Target,
+        block: &IntraBlock,
+        sides: Sides<u8>,
+        differences: &[i16],
+        alpha: i16,
+    ) -> u32 {
+        av1_predict_cfl_8(
+            to,
+            target.stride,
+            target.area.x,
+            target.area.y,
+            block,
+            sides.left,
+            sides.above,
+            differences,
+            alpha,
+        )
+    }
+
+    fn prepare_edge(edge: &mut [u8], samples: &[u8], plane: &EdgePlane, block: &EdgeBlock) -> u32 {
+        av1_intra_edge_8(edge, samples, plane, block)
+    }
+
+    fn put_differences(
+        differences: &mut [i16],
+        luma: Source<u8>,
+        target: Target,
+        block: &CflBlock,
+        _depth: u8,
+    ) -> u32 {
+        av1_cfl_ac_8(
+            differences,
+            luma.samples,
+            luma.stride,
+            target.area.x,
+            target.area.y,
+            block,
+        )
+    }
+}
+
+impl Called for u16 {
+    fn put(
+        to: &mut [u16],
+        target: Target,
+        from: Source<u16>,
+        block: &MotionBlock,
+        depth: u8,
+    ) -> u32 {
+        av1_put_8tap_16(
+            to,
+            target.stride,
+            target.area.x,
+            target.area.y,
+            from.samples,
+            from.stride,
+            BEFORE,
+            BEFORE,
+            block,
+            usize::from(depth),
+        )
+    }
+
+    fn prepare(values: &mut [i16], from: Source<u16>, block: &MotionBlock, depth: u8) -> u32 {
+        let depth = usize::from(depth);
+        av1_prep_8tap_16(
+            values,
+            from.samples,
+            from.stride,
+            BEFORE,
+            BEFORE,
+            block,
+            depth,
+        )
+    }
+
+    fn average(to: &mut [u16], target: Target, first: &[i16], second: &[i16], depth: u8) -> u32 {
+        let area = target.area;
+        av1_mc_avg_16(
+            to,
+            target.stride,
+            area.x,
+            area.y,
+            area.width,
+            area.height,
+            first,
+            second,
+            usize::from(depth),
+        )
+    }
+
+    fn predict(to: &mut [u16], target: Target, block: &IntraBlock, sides: Sides<u16>) -> u32 {
+        av1_predict_intra_16(
+            to,
+            target.stride,
+            target.area.x,
+            target.area.y,
+            block,
+            sides.left,
+            sides.corner,
+            sides.above,
+        )
+    }
+
+    fn predict_from_luma(
+        to: &mut [u16],
+        target: Target,
+        block: &IntraBlock,
+        sides: Sides<u16>,
+        differences: &[i16],
+        alpha: i16,
+    ) -> u32 {
+        av1_predict_cfl_16(
+            to,
+            target.stride,
+            target.area.x,
+            target.area.y,
+            block,
+            sides.left,
+            sides.above,
+            differences,
+            alpha,
+        )
+    }
+
+    fn prepare_edge(
+        edge: &mut [u16],
+        samples: &[u16],
+        plane: &EdgePlane,
+        block: &EdgeBlock,
+    ) -> u32 {
+        av1_intra_edge_16(edge, samples, plane, block)
+    }
+
+    fn put_differences(
+        differences: &mut [i16],
+        luma: Source<u16>,
+        target: Target,
+        block: &CflBlock,
+        depth: u8,
+    ) -> u32 {
+        av1_cfl_ac_16(
+            differences,
+            luma.samples,
+            luma.stride,
+            target.area.x,
+            target.area.y,
+            block,
+            usize::from(depth),
+        )
+    }
+}
