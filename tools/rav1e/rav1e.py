@@ -7,5 +7,5 @@ def plain(text):
     text = re.sub(r"^cfg_if::cfg_if! \{\n.*?^\}\n", "pub use self::rust::*;\n", text, flags=re.M | re.S)
     text = re.sub(r"^ *use simd_helpers::.*\n|^ *#\[cold_for_target_arch.*\n", "", text, flags=re.M)
     text = re.sub(r"^#\[macro_use\]\npub mod forward_shared;\n|^pub (use self::forward::|mod forward;).*\n", "", text, flags=re.M)
-    text = re.sub(r"^fn (av1_idct\d+)", r"pub fn \1", text, flags=re.M)
+    text = re.sub(r"^fn (av1_i\w+)", r"pub fn \1", text, flags=re.M)
     return text.replace("use num_traits::*;", "use crate::num_traits::*;")

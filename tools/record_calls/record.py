@@ -53,12 +53,13 @@ def changed(file, text):
     return text
 
 
-def build(rav1e, work):
-    """The recorder."""
+def build(rav1e, work, recorder=HERE / "recorder.rs", more=()):
+    """A recorder of rav1e's answers: `WORK/recorder`, by this file and more beside it."""
     (work / "transform").mkdir(parents=True, exist_ok=True)
     for file in ("mc.rs", "partition.rs", "predict.rs", "recon_intra.rs", "transform/mod.rs", "transform/inverse.rs"):
         (work / file).write_text(changed(file, (rav1e / "src" / file).read_text()))
-    for file in (HERE / "recorder.rs", HERE / "stubs.rs", HERE.parent / "rav1e" / "numbers.rs", TESTS / "calls.rs"):
+    shared = (HERE / "stubs.rs", HERE / "answers.rs", HERE.parent / "rav1e" / "numbers.rs", TESTS / "calls.rs")
+    for file in (recorder, *shared, *more):
         shutil.copy(file, work)
     shutil.copytree(TESTS / "calls", work / "calls", dirs_exist_ok=True)
     subprocess.run(["rustc", "--edition", "2024", "-A", "warnings", "-C", "opt-level=3", "-C", "overflow-checks=off", "-o",

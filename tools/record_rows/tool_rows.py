@@ -1,0 +1,144 @@
+"""Runs of the tools: grids of tiles, traces, sequences, plans without their coefficients."""
+from plans import (DIRECTIONAL, DOWN_TO_4, FROM_LUMA_420, HALVED, MOVED, ONE_HALF, PLAIN, PLAN, QUARTERS, changed, header, leaf, of_two, planes,
+                   sequence, tiles, trace)
+from runs import NEVER, TOOLS, WORDS_OF_TOOLS, reads_of
+
+# A leaf of 64x64 from above, one by DC, one from the left, and one from the first slot.
+FROM_ABOVE, BY_DC, FROM_LEFT = (b"\0" + leaf(mode=mode, tx_size=4) for mode in (1, 0, 2))
+AGAIN = b"\0" + leaf(mode=19, vectors=[(1, 0, 0)], tx_size=4)
+BROKEN = b"\0" + leaf(mode=1, step=4, tx_size=4)
+
+TWO_TILES = tiles([FROM_ABOVE, BY_DC])
+PLANES_OF_PLAN = planes(131, 128, 128)
+SAME = trace(PLAN, PLANES_OF_PLAN)
+OTHER = changed(SAME, (91 + 4, 130))
+TWO_FRAMES = sequence([(1, FROM_ABOVE), (0, AGAIN)])
+
+
+def worked_tiles(add):
+    """Grids of tiles: whole, cut, with starts that none has, with parts that are refused, and the first of these."""
+    ramp = bytes(8 * list(range(128))) + planes(128, count=2048)
+    moves = [b"\0" + leaf(mode=19, vectors=[(1, 0, column)], tx_size=4) for column in (8, -8)]
+    slant = [b"\0" + leaf(mode=mode, tx_size=4) for mode in (1, 1, 2, 3)]
+    grid = [64 * it for it in range(1, 32)]
+    cases = [
+        TWO_TILES, tiles([FROM_ABOVE, BY_DC], columns=(72,)), tiles([FROM_ABOVE, b"\4" + BY_DC[1:]]), tiles([b"\4", BY_DC]), tiles([BROKEN, b"\4"]),
+        tiles([FROM_ABOVE, BROKEN + b"x"]), tiles([BROKEN, BY_DC]) + b"x", TWO_TILES[:-1], TWO_TILES[:45], tiles([FROM_ABOVE, b""]),
+        changed(TWO_TILES, (20, 0)), changed(TWO_TILES, (20, 33)), changed(TWO_TILES, (4, 88)), changed(TWO_TILES, (46, 4), (28, 4)),
+        tiles([FROM_ABOVE] + 31 * [BY_DC], width=2048, columns=grid), tiles(moves, mask=1, references=ramp), tiles([FROM_ABOVE, moves[0]]),
+        tiles(slant, height=72, rows=(64,)), tiles([FROM_ABOVE, BY_DC], depth=10, mask=1, references=b"\0\4" + bytes(6142)), b"", b"RPL1"]
+    cases += [tiles([FROM_ABOVE, BY_DC], columns=starts) for starts in ((0,), (128,), (64, 64), (64, 192), ())]
+    cases += [tiles(slant, height=72, rows=(64,), depth=depth, sampling=sampling) for depth in (8, 10, 12) for sampling in range(3)]
+    for it in cases:
+        add("tiles", it, ("tiles",), out=(2**20, 100, NEVER))
+    for count in range(len(TWO_TILES)):
+        add("tiles, cut", TWO_TILES[:count], ("tiles",))
+
+
+def worked_traces(add):
+    """Traces: the plan's own planes, others, those that are cut or too long, and plans that are refused."""
+    worse = header() + DOWN_TO_4 + leaf() + leaf(y=[(0, 16, 1)]) + leaf() + leaf()
+    several = changed(SAME, (91 + 4, 130), (91 + 13, 0), (91 + 64, 129))
+    quarter = header(sampling=0) + DOWN_TO_4 + 3 * leaf(carried=False) + leaf()
+    ten = header(depth=10, sampling=0) + b"\0" + leaf(tx_size=4)
+    cases = [
+        SAME, OTHER, several, changed(SAME, (91 + 15, 1), (91 + 21, 2), (91 + 24, 3)), SAME[:-1], SAME + b"\0", trace(PLAN, b""), SAME[:90],
+        trace(PLAN, PLANES_OF_PLAN, 2**26 + 1), trace(PLAN, PLANES_OF_PLAN, 2**26), b"RTL1" + SAME[4:], b"", trace(PLAN[:-1], PLANES_OF_PLAN[:5]),
+        trace(b"", b""), trace(worse, PLANES_OF_PLAN), trace(PLAN, bytes([9]) * 192), trace(HALVED, planes(128, count=96)),
+        trace(quarter, planes(128) + b"\1" + planes(128, count=31)), trace(ten, b"\0\2" * 95 + b"\xff\xff"), trace(ten, b"\0\2" * 95 + b"\0"),
+        trace(changed(HALVED, (8, 10)), b"\xff" * 192), trace(DIRECTIONAL, bytes(384)), trace(FROM_LUMA_420, planes(127, count=96))]
+    cases += [changed(SAME, it) for it in ((3, 0x32), (7, 5), (5, 2), (4, 84), (28, 4), (36, 1), (4, 82))]
+    for it in cases:
+        add("trace", it, ("trace",), out=(2000, 100, NEVER))
+    for count in range(0, len(SAME), 3):
+        add("trace, cut", SAME[:count], ("trace",))
+    for place in range(91, len(SAME), 5):
+        add("trace, one sample", changed(SAME, (place, 255 - SAME[place])), ("trace",))
+
+
+def worked_sequences(add):
+    """Sequences: frames from those before, empty slots, refused frames behind accepted ones, heads that are refused."""
+    of_two_slots = b"\0" + leaf(mode=33, vectors=[(1, 0, 0), (2, 0, 0)], tx_size=4)
+    slots = (0, 1, 0, 0, 0, 0, 0)
+    cases = [
+        TWO_FRAMES, sequence([(0, FROM_ABOVE), (0, AGAIN)]), sequence([]), sequence([])[:11], sequence([(1, FROM_ABOVE), (0, b"\4"), (0, FROM_ABOVE)]),
+        sequence([(1, FROM_ABOVE), (0, AGAIN + b"x")]), sequence([(1, BROKEN)]) + b"x", sequence([(1, FROM_ABOVE)], count=2), TWO_FRAMES[:-1],
+        sequence([(1, FROM_ABOVE), (2, FROM_LEFT), (0, of_two_slots, slots)]), sequence([(1, AGAIN)]),
+        sequence([(255, FROM_ABOVE), (1, FROM_LEFT), (0, AGAIN)]), sequence([(1, FROM_ABOVE), (255, b"\4"), (0, AGAIN)]),
+        sequence([(1, FROM_ABOVE), (0, BROKEN)]), sequence([(1, FROM_ABOVE)], count=0), b"RPL1"]
+    fields = ((12, 4), (13, 2), (14, 8), (20, 8), (4, 12), (8, 9), (9, 3), (21, 0), (10, 0), (10, 3), (22, 13))
+    cases += [changed(TWO_FRAMES, it) for it in fields]
+    cases += [sequence([(1, FROM_ABOVE), (2, AGAIN), (0, of_two_slots, slots)], 16, 24, depth, sampling)
+              for depth in (8, 10, 12) for sampling in range(3)]
+    for it in cases:
+        add("sequence", it, ("sequence",), out=(2**16, 100, NEVER))
+    for count in range(len(TWO_FRAMES)):
+        add("sequence, cut", TWO_FRAMES[:count], ("sequence",))
+
+
+def worked_plans(add):
+    """Plans of which the coefficients are left out."""
+    worse = header() + DOWN_TO_4 + leaf() + leaf(y=[(0, 16, 1)]) + leaf() + leaf()
+    quarters = header(64, 64, magic=b"RPL2") + b"\x08" + leaf(tx_size=18, y=[(0, 0, 5)]) + 3 * leaf(tx_size=18)
+    cases = [
+        PLAN, PLAIN, HALVED, HALVED[:-1], worse, QUARTERS, quarters, MOVED, of_two(9), of_two(16384), DIRECTIONAL, FROM_LUMA_420, ONE_HALF,
+        ONE_HALF + b"\0", header(mask=1) + planes(10, 128, 128) + AGAIN, b"", changed(PLAN, (19, 1)), changed(PLAN, (34, 16))]
+    for it in cases:
+        add("bare", it, ("bare",), out=(500, 7, NEVER))
+    for count in range(len(PLAN)):
+        add("bare, cut", PLAN[:count], ("bare",))
+
+
+def faults(add):
+    """Each read and many writes that fail, sinks with little room, in pieces; and words that name no tool."""
+    files = {"tiles": TWO_TILES, "trace": changed(OTHER, (91 + 64, 1)), "sequence": TWO_FRAMES, "bare": PLAN}
+    for word, file in files.items():
+        for piece in (7, 64):
+            for call in range(reads_of(len(file), piece) + 1):
+                add(f"{word}, read", file, (word,), piece=piece, failing_read=call)
+        for piece, calls in ((5, (0, 1, 2, 3, 5, 7, 8, 9, 14, 15, 16, 20, 21, 30, 50, 100)), (100, (0, 1, 2, 3, 4, 24, 30, 31, 47, 48))):
+            for call in calls:
+                add(f"{word}, write", file, (word,), out=(4096, piece, call))
+        for room in (0, 1, 10, 76, 97, 104, 192, 200, 383, 384, 3071, 3072):
+            add(f"{word}, room", file, (word,), out=(room, 100, NEVER))
+    refused = {"tiles": TWO_TILES[:-1], "trace": SAME[:-1], "sequence": changed(TWO_FRAMES, (21, 0)), "bare": PLAN[:-1]}
+    for word, file in refused.items():
+        for err in ((5, 1, NEVER), (60, 3, 2), (0, 7, NEVER), (60, 7, 0)):
+            add(f"{word}, line", file, (word,), err=err)
+        for call in (0, 5, 23, 24):
+            add(f"{word}, line behind a write that fails", file, (word,), out=(4096, 100, call))
+    for words in ((), ("x",), ("--help",), ("tiles", "tiles"), ("bare", "1"), ("Tiles",), ("",), ("tile",), ("traces",), ("make", "1"), ("bare", "")):
+        add("words", PLAN, words, failing_read=0)
+    add("words, line", PLAN, ("x",), err=(20, 6, NEVER))
+
+
+# Sides of random grids, in which one or more tiles fit.
+GRIDS = ((72, 8), (8, 72), (128, 16), (72, 72), (24, 136), (136, 24), (64, 64), (200, 8))
+
+
+def random_files(runs, count):
+    """Random files of each tool, good and broken."""
+    for seed in range(count):
+        width, height = GRIDS[seed % len(GRIDS)]
+        mask = [0, 0, 1][seed % 3]
+        options = {
+            "tiles": (f"w={width}", f"h={height}", "coef=20", f"mask={mask}"),
+            "trace": (f"maxside={[16, 24, 32, 72][seed % 4]}", f"mask={mask}"),
+            "sequence": (f"maxside={[16, 24, 40, 72][seed % 4]}",),
+            "bare": ("maxside=24", f"mask={mask}", "stage=15")}
+        for word in WORDS_OF_TOOLS:
+            for kind in ("random", "randombad"):
+                name = kind + ("" if word == "bare" else word)
+                file = runs.oracle.made(name, str(seed), *options[word])
+                if len(file) < 12_000:
+                    runs.add(name, file, (word,), kind=TOOLS, piece=4096, out=(2**20, 4096, NEVER))
+
+
+def record(runs):
+    def add(*call, **more):
+        runs.add(*call, kind=TOOLS, **more)
+
+    for rows in (worked_tiles, worked_traces, worked_sequences, worked_plans, faults):
+        rows(add)
+    add("too long", words=("tiles",), piece=2**26 + 1, zeros=2**26 + 1)
+    random_files(runs, 64)
