@@ -1,11 +1,11 @@
 -- What a file of rows is, and what it is to have replayed one.
 use Rattle.std.specs.Prelude.{◌≡◌, ◌↔◌, ℕ, ◌<◌, List, [], ◌∷◌, ◌++◌, Bool, IsTrue, All, flat_map, codes}
 use Rattle.av1_replay.specs.Answers.{wanted_before}
-use Rattle.av1_replay.specs.Calls.{call_before}
+use Rattle.av1_replay.specs.Calls.{call_before, kind_of}
 use Rattle.av1_replay.specs.Fields.{part_before}
 use Rattle.av1_replay.specs.declared.answer.Answer.{Answer}
 use Rattle.av1_replay.specs.declared.answer.Wanted.{Wanted}
-use Rattle.av1_rows.specs.Runs.{run_before}
+use Rattle.av1_rows.specs.Runs.{program_kind, run_before}
 use Rattle.av1_rows.specs.declared.row.Call.{Call}
 use Rattle.av1_rows.specs.declared.row.Call.TheVariants.{Run, Block}
 use Rattle.av1_rows.specs.declared.row.Row.{Row}
@@ -16,14 +16,19 @@ use Rattle.av1_rows.specs.declared.row.Row.{Row}
 abbrev pub kinds : ℕ
 kinds = 12
 
+-- the number of a call's kind
+abbrev pub call_kind : Call → ℕ
+call_kind (Run r) = program_kind r.program
+call_kind (Block call) = kind_of call
+
 -- the fields of a call, before other bytes
-abbrev pub fields_before : ℕ → Call → List ℕ → List ℕ
-fields_before kind (Run r) others = run_before r others
-fields_before kind (Block call) others = call_before kind call others
+abbrev pub fields_before : Call → List ℕ → List ℕ
+fields_before (Run r) others = run_before r others
+fields_before (Block call) others = call_before call others
 
 -- what follows the length of a row: the fields of its call, and the answer that it wants
 abbrev pub body : Row → List ℕ
-body row = fields_before row.kind row.call (wanted_before row.wanted [])
+body row = fields_before row.call (wanted_before row.wanted [])
 
 -- a row, before other bytes: the number of its kind, how many bytes follow in four bytes, and these
 abbrev pub row_before : Row → List ℕ → List ℕ
@@ -51,9 +56,10 @@ pub record Replayed : Type 0 where
   pub came : Told
   pub agrees : Bool
 
--- its kind is one of those that there are, and it is told truly whether it agrees
+-- its kind is that of its call, one of those that there are, and it is told truly whether it agrees
 pub record IsReplayed (replayed : Replayed) : Type 0 where
   pub known : replayed.row.kind < kinds
+  pub kind : replayed.row.kind ≡ call_kind replayed.row.call
   pub told : IsTrue replayed.agrees ↔ (wanted_by replayed.row.wanted ≡ replayed.came)
 
 -- ---- files

@@ -2,8 +2,15 @@
 use Rattle.std.specs.Prelude.{ℕ, List}
 use Rattle.av1_replay.specs.Fields.{four_before, part_before, short_part_before}
 use Rattle.av1_rows.specs.declared.run.Pieces.{Pieces}
+use Rattle.av1_rows.specs.declared.run.Program.{Program}
+use Rattle.av1_rows.specs.declared.run.Program.TheVariants.{Reconstruction, Tools}
 use Rattle.av1_rows.specs.declared.run.Room.{Room}
 use Rattle.av1_rows.specs.declared.run.Run.{Run}
+
+-- the number of the kind of a program's runs
+abbrev pub program_kind : Program → ℕ
+program_kind Reconstruction = 0
+program_kind Tools = 1
 
 -- how many bytes a piece has at most, and which call fails
 abbrev pub pieces_before : Pieces → List ℕ → List ℕ

@@ -2,7 +2,7 @@
 
 ghost use Rattle.std.specs.Prelude.{◌≡◌, ◌<◌, ◌≤◌, length, IfSome};
 ghost use Rattle.av1_replay.specs.Fields.{unread};
-ghost use Rattle.av1_rows.specs.Rows.{fields_before, row_before};
+ghost use Rattle.av1_rows.specs.Rows.{call_kind, fields_before, row_before};
 
 use crate::run::{Program, Run};
 use av1_replay::{Answer, BlockCall, CallFault, Fields, Wanted};
@@ -23,7 +23,8 @@ pub enum Call<'a> {
 impl<'a> Call<'a> {
     /// The next call, of the kind of this number. `None` where the kind is none, or the fields are cut or say no call.
     pub fn read(kind: u8, fields: &mut Fields<'a>) -> Option<Call<'a>>
-        ensures found { IfSome result (λ call. unread fields.old ≡ fields_before kind call (unread fields.new)) }
+        ensures kind { IfSome result (λ call. kind ≡ call_kind call) }
+        ensures found { IfSome result (λ call. unread fields.old ≡ fields_before call (unread fields.new)) }
     {
         match kind {
             0 => Some(Call::Run(Run::read(Program::Reconstruction, fields)?)),
@@ -59,6 +60,7 @@ impl<'a> Row<'a> {
     /// is none, its fields say no call, or bytes are left over.
     pub fn read(fields: &mut Fields<'a>) -> Option<Row<'a>>
         ensures known { IfSome result (λ row. row.kind < KINDS) }
+        ensures kind { IfSome result (λ row. row.kind ≡ call_kind row.call) }
         ensures found { IfSome result (λ row. unread fields.old ≡ row_before row (unread fields.new)) }
     {
         let kind = fields.byte()?;

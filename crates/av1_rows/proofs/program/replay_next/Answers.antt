@@ -11,6 +11,7 @@ returns-clause-replayed c =
     let next : Replayed = record { row = row; came = told_by came; agrees = c.is-agrees.result } in
     let is : IsReplayed next = record {
       known = c.in-Some.ensures.known;
+      kind = c.in-Some.ensures.kind;
       told = (λ t. agree_told row.wanted came (c.is-agrees.ensures.0 t), λ e. c.is-agrees.ensures.1 (told_agrees row.wanted came e));
     } in (
       next,
