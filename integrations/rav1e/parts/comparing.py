@@ -63,8 +63,7 @@ class Comparison:
             self.tell(frame.number, "refused: " + made.stderr.decode().strip())
             self.counts["refused"] += 1
         elif made.stdout != frame.planes:
-            self.tell(frame.number, "program and encoder differ: " + self.first_leaf(frame, frame.trace))
-            self.counts["program"] += 1
+            self.differs(frame, "program", "program and encoder differ", self.first_leaf(frame, frame.trace))
         self.planes.append(made.stdout)
         seen = frame.plan.cropped(frame.filtered or frame.planes, frame.true)
         dav1d = self.next_of_dav1d(len(seen))
@@ -86,14 +85,17 @@ class Comparison:
         said = self.first_leaf(frame, b"RTR1" + struct.pack("<I", len(plan)) + plan + given)
         if said == "same":
             self.counts["follow"] += 1
-        elif self.leaf is not None and frame.plan.short_sharp(self.leaf):
-            self.tell(frame.number, "listed, the sharp filter along a short side: " + said)
-            self.counts["listed"] += 1
         else:
             first = next((i for i, (a, b) in enumerate(zip(seen, dav1d)) if a != b), None)
             place = "lengths" if first is None else frame.true.place(first // frame.true.each)
-            self.tell(frame.number, f"encoder and decoder differ first at {place}: {said}")
-            self.counts["unlisted"] += 1
+            self.differs(frame, "unlisted", f"encoder and decoder differ first at {place}", said)
+
+    def differs(self, frame, count, what, said):
+        """Counts a difference whose first leaf was named: a listed departure, or one of `count`."""
+        if self.leaf is not None and frame.plan.short_sharp(self.leaf):
+            what, count = f"listed, the sharp filter along a short side: {what}", "listed"
+        self.tell(frame.number, f"{what}: {said}")
+        self.counts[count] += 1
 
     def decoders_planes(self, frame, dav1d, plan):
         """The decoder's planes; past the true sides, which a decoder doesn't write, those of the program."""
