@@ -139,9 +139,12 @@ fn draw_partition<T: Pixel>(
       ways.push(PARTITION_VERT_4);
     }
   }
-  // A large node is cut in four more often, so that a frame isn't a few large leaves.
-  if bsize >= BlockSize::BLOCK_32X32 && !one_in(3) {
+  // A large node is cut in four more often, so that a frame isn't a few large leaves; and a small one stays whole more often
+  // where leaves can have references.
+  if bsize >= BlockSize::BLOCK_32X32 && one_in(2) {
     PARTITION_SPLIT
+  } else if bsize == BlockSize::BLOCK_8X8 && fi.frame_type.has_inter() && one_in(2) {
+    PARTITION_NONE
   } else {
     one_of(&ways)
   }
@@ -230,10 +233,12 @@ fn draw_inter<T: Pixel>(
   fi: &FrameInvariants<T>, cw: &mut ContextWriter, bsize: BlockSize, at: TileBlockOffset,
 ) -> Prediction {
   let two = one_in(3);
-  let references = if two {
-    [one_of(&FORWARD), one_of(&BACKWARD)]
-  } else {
-    [if one_in(2) { one_of(&FORWARD) } else { one_of(&BACKWARD) }, NONE_FRAME]
+  // The first of each list comes more often, so that leaves have neighbours of the same reference, and thus candidates.
+  let pick = |from: &[RefType]| if one_in(2) { from[0] } else { one_of(from) };
+  let references = match (two, one_in(2)) {
+    (true, _) => [pick(&FORWARD), pick(&BACKWARD)],
+    (_, true) => [pick(&FORWARD), NONE_FRAME],
+    _ => [pick(&BACKWARD), NONE_FRAME],
   };
   let mut stack = ArrayVec::new();
   let context = cw.find_mvrefs(at, references, &mut stack, bsize, fi, two);

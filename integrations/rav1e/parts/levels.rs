@@ -11,7 +11,7 @@ use crate::util::{CastFromPrimitive, Coefficient};
 use std::sync::atomic::{AtomicBool, Ordering::Relaxed};
 
 /// Where more than one coefficient isn't 0 their magnitudes sum up to at most this, so that no value inside a transform
-/// leaves the bits that AV1 asks a stream to keep to (16 in columns at depth 8 and 10, where an identity of 4 gains 1.42).
+/// leaves the bits that AV1 asks a stream to keep to (16 in columns at depths 8 and 10, where an identity of 4 gains 1.42).
 const MOST_IN_ALL: i64 = 1 << 14;
 
 /// Set while a leaf is coded whose luma blocks must each have a coefficient.
@@ -73,13 +73,14 @@ impl Quantizers {
   }
 }
 
-fn signed<C: Coefficient>(level: i64) -> C {
-  C::cast_from(if one_in(2) { -level as i32 } else { level as i32 })
+fn signed<C: Coefficient>(negative: bool, level: i64) -> C {
+  C::cast_from(if negative { -level as i32 } else { level as i32 })
 }
 
 fn draw_one_at_an_end<C: Coefficient>(scan: &[u16], q: &Quantizers, end: i64, levels: &mut [C]) {
   let place = if one_in(2) { 0 } else { one_of(scan) as usize };
-  levels[place] = signed(q.greatest(place, end));
+  let negative = one_in(2);
+  levels[place] = signed(negative, q.greatest(place, end + negative as i64));
 }
 
 /// Levels up to 3, one in `every` place on average, as far as the sum of what they stand for admits.
@@ -89,7 +90,7 @@ fn draw_small<C: Coefficient>(scan: &[u16], every: usize, q: &Quantizers, levels
     let level = 1 + below(3) as i64;
     let magnitude = q.magnitude(place as usize, level);
     if one_in(every) && magnitude <= left {
-      levels[place as usize] = signed(level);
+      levels[place as usize] = signed(one_in(2), level);
       left -= magnitude;
     }
   }
