@@ -18,6 +18,7 @@ class Comparison:
         self.lines = []
         self.counts = dict.fromkeys(COUNTS, 0)
         self.sequence = "none"
+        self.apart = False  # program and encoder differ somewhere, so their references do
         self.dav1d, self.aomdec = read(folder, "dav1d.yuv"), read(folder, "aomdec.yuv")
         self.slots = [None] * 8  # by slot: the encoder's, dav1d's frame, both cropped
         self.planes = []
@@ -37,7 +38,7 @@ class Comparison:
         if self.dav1d or self.aomdec:
             self.tell("last", f"decoders have {len(self.dav1d)} and {len(self.aomdec)} bytes more")
             self.counts["unlisted"] += 1
-        self.compare_sequence(whole and not filtered)
+        self.compare_sequence(whole and not filtered and not self.apart)
 
     def again(self, slot):
         """A frame that is shown again: both decoders write what they hold."""
@@ -64,6 +65,7 @@ class Comparison:
             self.counts["refused"] += 1
         elif made.stdout != frame.planes:
             self.differs(frame, "program", "program and encoder differ", self.first_leaf(frame, frame.trace))
+            self.apart = True
         self.planes.append(made.stdout)
         seen = frame.plan.cropped(frame.filtered or frame.planes, frame.true)
         dav1d = self.next_of_dav1d(len(seen))
@@ -92,8 +94,9 @@ class Comparison:
 
     def differs(self, frame, count, what, said):
         """Counts a difference whose first leaf was named: a listed departure, or one of `count`."""
-        if self.leaf is not None and frame.plan.short_sharp(self.leaf):
-            what, count = f"listed, the sharp filter along a short side: {what}", "listed"
+        departure = self.leaf and frame.plan.departure(self.leaf)
+        if departure:
+            what, count = f"listed, {departure}: {what}", "listed"
         self.tell(frame.number, f"{what}: {said}")
         self.counts[count] += 1
 
@@ -116,7 +119,8 @@ class Comparison:
         return f"{lines[0]} ({self.leaf}, filter {frame.plan.filter})"
 
     def compare_sequence(self, can_be_said):
-        """A sequence's slots hold what was reconstructed past the true sides, and nothing filtered: else it can't be said."""
+        """A sequence's slots hold what the program made, also past the true sides, and nothing filtered: where the encoder's
+        hold something else nothing can be said."""
         if not can_be_said:
             self.sequence = "not said"
             return

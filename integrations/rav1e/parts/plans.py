@@ -156,7 +156,29 @@ class Plan(Frame):
             self.at += 7 * count
         return leaf
 
-    def short_sharp(self, leaf):
-        """Whether rav1e departs from AV1 in this leaf: the sharp filter along a side up to 4 of a predicted rectangle."""
+    def departure(self, leaf):
+        """What docs/DIFFERENCES.md lists of this leaf, where rav1e departs from AV1, or None."""
         sides = (leaf.w >> self.xdec, leaf.h >> self.ydec)
-        return self.filter == 2 and bool(leaf.references) and min(sides) <= 4
+        if self.filter == 2 and leaf.references and min(sides) <= 4:
+            return "the sharp filter along a short side"
+        if self.depth == 12 and any(wraps(*block) for block in self.transforms(leaf)):
+            return "an identity that wraps at 32 bits"
+        return None
+
+    def transforms(self, leaf):
+        """The size, type and triples of the leaf's transforms in each plane."""
+        w, h = min(max(leaf.w >> self.xdec, 4), 64), min(max(leaf.h >> self.ydec, 4), 64)
+        small = (w if w < 64 else 32, h if h < 64 else 32)
+        yield SIZES[leaf.size], leaf.type, leaf.coefficients[0]
+        for triples in leaf.coefficients[1:]:
+            yield small, leaf.chroma_type, triples
+
+
+def wraps(size, kind, triples):
+    """Whether an identity along rows of 4 or 16 passes 32 bits: its factor, in 1/4096, is that of one or two roots of 2."""
+    factor = {4: 5793, 16: 11586}.get(size[0])
+    if not factor or TYPES[kind] not in ("IDTX", "V_DCT", "V_ADST", "V_FLIPADST"):
+        return False
+    halved = size[0] in (size[1] * 2, size[1] // 2)
+    greatest = max((abs(value) for _, _, value in triples), default=0)
+    return (greatest * 2896 + 2048 >> 12 if halved else greatest) * factor + 2048 >= 1 << 31

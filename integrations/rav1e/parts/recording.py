@@ -63,9 +63,17 @@ def write_sequence(folder):
 
 
 def decode(folder):
-    """What dav1d makes of the bits, with frames that aren't shown, and what libaom makes of them, without."""
+    """What dav1d's plain code and what libaom make of the bits: dav1d also of frames that aren't shown.  Says whether dav1d's
+    assembly makes the same of them."""
     bits = os.path.join(folder, "clip.ivf")
-    subprocess.run(["dav1d", "--quiet", "-i", bits, "-o", os.path.join(folder, "dav1d.yuv"), "--muxer", "yuv",
-                    "--threads", "1", "--outputinvisible", "1"], check=True, capture_output=True)
+
+    def dav1d(name, mask):
+        subprocess.run(["dav1d", "--quiet", "-i", bits, "-o", os.path.join(folder, name), "--muxer", "yuv", "--threads", "1",
+                        "--outputinvisible", "1", "--cpumask", mask], check=True, capture_output=True)
+        return read(folder, name)
+
     subprocess.run(["aomdec", "--rawvideo", "--threads=1", "-o", os.path.join(folder, "aomdec.yuv"), bits],
                    check=True, capture_output=True)
+    same = dav1d("assembly.yuv", "-1") == dav1d("dav1d.yuv", "0")
+    os.remove(os.path.join(folder, "assembly.yuv"))
+    return same
