@@ -4,6 +4,7 @@
 
 use crate::drawing::{below, on, one_in, one_of};
 use crate::quantize::{ac_q, dc_q, get_log_tx_scale};
+use crate::recorder::setting;
 use crate::scan_order::av1_scan_orders;
 use crate::transform::{TxSize, TxType};
 use crate::util::{CastFromPrimitive, Coefficient};
@@ -37,7 +38,7 @@ pub fn draw<C: Coefficient>(
     shift: get_log_tx_scale(size),
   };
   let scan = &av1_scan_orders[size as usize][kind as usize].scan[..levels.len()];
-  let end = (1i64 << (depth + 7)) - 1;
+  let end = greatest_magnitude(size, kind, depth);
   let way = below(8);
   if way >= 3 {
     levels.fill(C::cast_from(0));
@@ -53,6 +54,23 @@ pub fn draw<C: Coefficient>(
     levels[0] = C::cast_from(1);
   }
   scan.iter().rposition(|&place| levels[place as usize] != C::cast_from(0)).map_or(0, |last| last + 1)
+}
+
+/// The end of what a coefficient may be: depth + 8 bits.  At depth 12 rav1e's identities of 4 and 16 along rows wrap at 32 bits
+/// where AV1's don't; such coefficients are kept below that, unless RECORD_WRAPPING is set.
+fn greatest_magnitude(size: TxSize, kind: TxType, depth: usize) -> i64 {
+  let end = (1i64 << (depth + 7)) - 1;
+  let identity = matches!(kind, TxType::IDTX | TxType::V_DCT | TxType::V_ADST | TxType::V_FLIPADST);
+  let most = match size.width() {
+    4 => 370_000,
+    16 => 185_000,
+    _ => end,
+  };
+  if identity && setting("RECORD_WRAPPING").is_none() {
+    end.min(most)
+  } else {
+    end
+  }
 }
 
 /// The quantizers of a transform block and how far its products are shifted.
