@@ -1,0 +1,157 @@
+"""Compares a recorded folder frame by frame, and reduces a difference to its first leaf."""
+import os
+import struct
+import subprocess
+
+from .recording import Again, events, read
+
+# What a frame can be, in the order in which `compared.txt` counts them.
+COUNTS = ("frames", "again", "refused", "program", "encoder", "aomdec", "listed", "follow", "unlisted")
+
+
+class Comparison:
+    """The comparison of one folder."""
+
+    def __init__(self, folder, program, tools):
+        self.folder, self.program, self.tools = folder, program, tools
+        self.name = os.path.basename(os.path.normpath(folder))
+        self.lines = []
+        self.counts = dict.fromkeys(COUNTS, 0)
+        self.sequence = "none"
+        self.apart = False  # program and encoder differ somewhere, so their references do
+        self.dav1d, self.aomdec = read(folder, "dav1d.yuv"), read(folder, "aomdec.yuv")
+        self.slots = [None] * 8  # by slot: the encoder's, dav1d's frame, both cropped
+        self.planes = []
+
+    def tell(self, frame, text):
+        self.lines.append(f"{self.name} frame {frame}: {text}")
+
+    def run(self):
+        """Compares each frame, then the sequence."""
+        whole = filtered = False
+        for event in events(self.folder):
+            if isinstance(event, Again):
+                self.again(event.slot)
+            else:
+                self.frame(event)
+                whole, filtered = event.whole(), event.filtered is not None
+        if self.dav1d or self.aomdec:
+            self.tell("last", f"decoders have {len(self.dav1d)} and {len(self.aomdec)} bytes more")
+            self.counts["unlisted"] += 1
+        self.compare_sequence(whole and not filtered and not self.apart)
+
+    def again(self, slot):
+        """A frame that is shown again: both decoders write what they hold."""
+        self.counts["again"] += 1
+        ours, decoded = self.slots[slot]
+        dav1d, aomdec = self.next_of_dav1d(len(ours)), self.next_of_aomdec(len(ours))
+        if dav1d != decoded or aomdec != decoded:
+            self.tell(f"again of slot {slot}", "decoders differ from what they held")
+            self.counts["unlisted"] += 1
+
+    def next_of_dav1d(self, size):
+        taken, self.dav1d = self.dav1d[:size], self.dav1d[size:]
+        return taken
+
+    def next_of_aomdec(self, size):
+        taken, self.aomdec = self.aomdec[:size], self.aomdec[size:]
+        return taken
+
+    def frame(self, frame):
+        self.counts["frames"] += 1
+        made = subprocess.run([self.program], input=frame.plan.data, capture_output=True)
+        if made.returncode:
+            self.tell(frame.number, "refused: " + made.stderr.decode().strip())
+            self.counts["refused"] += 1
+        elif made.stdout != frame.planes:
+            self.differs(frame, "program", "program and encoder differ", self.first_leaf(frame, frame.trace))
+            self.apart = True
+        self.planes.append(made.stdout)
+        seen = frame.plan.cropped(frame.filtered or frame.planes, frame.true)
+        dav1d = self.next_of_dav1d(len(seen))
+        if frame.shown and self.next_of_aomdec(len(seen)) != dav1d:
+            self.tell(frame.number, "dav1d and aomdec differ")
+            self.counts["aomdec"] += 1
+        if dav1d != seen:
+            self.counts["encoder"] += 1
+            self.explain(frame, seen, dav1d)
+        for slot in range(8):
+            if frame.refresh >> slot & 1:
+                self.slots[slot] = (seen, dav1d)
+
+    def explain(self, frame, seen, dav1d):
+        """The decoder's planes are no encoder's: why, on the decoder's references."""
+        held = {s: frame.plan.padded(self.slots[s][1], frame.true) for s in range(8) if frame.plan.mask >> s & 1}
+        plan = frame.plan.with_references(held)
+        given = self.decoders_planes(frame, dav1d, plan)
+        said = self.first_leaf(frame, b"RTR1" + struct.pack("<I", len(plan)) + plan + given)
+        if said == "same":
+            self.counts["follow"] += 1
+        else:
+            first = next((i for i, (a, b) in enumerate(zip(seen, dav1d)) if a != b), None)
+            place = "lengths" if first is None else frame.true.place(first // frame.true.each)
+            self.differs(frame, "unlisted", f"encoder and decoder differ first at {place}", said)
+
+    def differs(self, frame, count, what, said):
+        """Counts a difference whose first leaf was named: a listed departure, or one of `count`."""
+        departure = self.leaf and frame.plan.departure(self.leaf)
+        if departure:
+            what, count = f"listed, {departure}: {what}", "listed"
+        self.tell(frame.number, f"{what}: {said}")
+        self.counts[count] += 1
+
+    def decoders_planes(self, frame, dav1d, plan):
+        """The decoder's planes; past the true sides, which a decoder doesn't write, those of the program."""
+        if frame.whole():
+            return dav1d
+        made = subprocess.run([self.program], input=plan, capture_output=True).stdout
+        return overlaid(frame.plan, made, frame.true, dav1d) if made else frame.plan.padded(dav1d, frame.true)
+
+    def first_leaf(self, frame, trace):
+        """What the tool `trace` says first, with the leaf's own words; the leaf is kept in `leaf`."""
+        self.leaf = None
+        said = subprocess.run([self.tools, "trace"], input=trace, capture_output=True)
+        lines = (said.stdout or said.stderr).decode().splitlines() or ["nothing"]
+        words = lines[0].split()
+        if words[0] != "leaf":
+            return lines[0]
+        self.leaf = list(frame.plan.leaves())[int(words[1])]
+        return f"{lines[0]} ({self.leaf}, filter {frame.plan.filter})"
+
+    def compare_sequence(self, can_be_said):
+        """A sequence's slots hold what the program made, also past the true sides, and nothing filtered: where the encoder's
+        hold something else nothing can be said."""
+        if not can_be_said:
+            self.sequence = "not said"
+            return
+        made = subprocess.run([self.tools, "sequence"], input=read(self.folder, "sequence"), capture_output=True)
+        if made.returncode:
+            self.sequence = "refused: " + made.stderr.decode().strip()
+        else:
+            self.sequence = "same" if made.stdout == b"".join(self.planes) else "differs"
+        if self.sequence != "same":
+            self.counts["unlisted"] += 1
+
+    def unlisted(self):
+        """How much is no listed departure."""
+        return self.counts["unlisted"] + self.counts["program"] + self.counts["refused"] + self.counts["aomdec"]
+
+    def write(self):
+        """Adds the last line, and writes all lines into the folder."""
+        counts = " ".join(f"{name} {count}" for name, count in self.counts.items())
+        self.lines.append(f"{self.name}: {counts} sequence {self.sequence}")
+        with open(os.path.join(self.folder, "compared.txt"), "w", encoding="utf-8") as file:
+            file.write("\n".join(self.lines) + "\n")
+
+
+def overlaid(large, planes, small, given):
+    """The planes of the frame `large`, with `given` of the smaller frame `small` laid over their upper left."""
+    out, at, taken = bytearray(planes), 0, 0
+    for (w, h), (sw, sh) in zip(large.sides(), small.sides()):
+        for y in range(sh):
+            row = sw * large.each
+            first = at + y * w * large.each
+            out[first:first + row] = given[taken:taken + row]
+            taken += row
+        at += w * h * large.each
+    return bytes(out)

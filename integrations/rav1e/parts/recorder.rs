@@ -1,0 +1,396 @@
+//! Writes a plan of each frame that the encoder codes, and the planes that it holds itself.
+//!
+//! `edits.py` puts this file into a copy of rav1e 0.5.1, with the calls of it: `start` and `finish` about a frame, `begin` and
+//! `end` about a leaf, `block` at each transform block.  An encoder that decides by trying codes a place several times; the
+//! last time is the one that stays in its planes and in its bits.  So the recorder keeps the last leaf over each cell of 4x4.
+
+use crate::api::ChromaSampling;
+use crate::context::{has_chroma, CFLParams, TileBlockOffset};
+use crate::drawing;
+use crate::encoder::{FrameInvariants, FrameState};
+use crate::frame::Frame;
+use crate::mc::{FilterMode, MotionVector};
+use crate::partition::{BlockSize, RefType};
+use crate::predict::{AngleDelta, PredictionMode};
+use crate::transform::{TxSize, TxType};
+use crate::util::{CastFromPrimitive, Pixel};
+
+use std::fs::OpenOptions;
+use std::io::Write;
+use std::sync::{Mutex, OnceLock};
+
+/// The number of an intra mode is at most that of chroma from luma.
+const CHROMA_FROM_LUMA: u8 = 13;
+/// The first mode with two references.
+const FIRST_WITH_TWO: u8 = 20;
+/// The side of a superblock, in cells.
+const SUPERBLOCK: usize = 16;
+
+/// A coefficient that isn't 0: the number of its block, its place there, its value.
+type Triple = (u8, u16, i32);
+
+struct Leaf {
+  x: usize,
+  y: usize,
+  size: BlockSize,
+  luma: u8,
+  chroma: u8,
+  steps: AngleDelta,
+  weights: [i8; 2],
+  references: [RefType; 2],
+  vectors: [MotionVector; 2],
+  transform: u8,
+  luma_type: u8,
+  chroma_type: u8,
+  carries_chroma: bool,
+  coefficients: [Vec<Triple>; 3],
+}
+
+impl Leaf {
+  fn is_intra(&self) -> bool {
+    self.luma <= CHROMA_FROM_LUMA
+  }
+
+  fn references(&self) -> usize {
+    match self.luma {
+      0..=CHROMA_FROM_LUMA => 0,
+      n if n < FIRST_WITH_TWO => 1,
+      _ => 2,
+    }
+  }
+}
+
+struct Recorder {
+  folder: String,
+  frame: usize,
+  xdec: usize,
+  ydec: usize,
+  cols: usize,
+  rows: usize,
+  leaves: Vec<Leaf>,
+  cells: Vec<usize>,
+  current: Option<Leaf>,
+  on: bool,
+}
+
+static RECORDER: Mutex<Option<Recorder>> = Mutex::new(None);
+
+/// A setting, by its variable of the environment; one that is empty isn't set.
+pub fn setting(name: &str) -> Option<String> {
+  std::env::var(name).ok().filter(|value| !value.is_empty())
+}
+
+/// Whether deblocking, CDEF and restoration stay as the encoder wants them.
+pub fn filters_on() -> bool {
+  setting("RECORD_LOOP_FILTERS").is_some()
+}
+
+/// Whether the search tries nodes of four leaves in a column or a row.
+pub fn quarters() -> bool {
+  setting("RECORD_QUARTERS").is_some()
+}
+
+/// Whether the search tries transform types on leaves that are predicted from references.
+pub fn inter_types() -> bool {
+  setting("RECORD_ALL_TYPES").is_some()
+}
+
+/// Whether the stream's intra edge filter is on.
+pub fn edge_filter() -> bool {
+  setting("RECORD_NO_EDGE_FILTER").is_none()
+}
+
+/// Which short filter stands for `filter` along sides up to 4, 0 the regular one and 1 the smooth one: rav1e's choice, or
+/// with RECORD_SHORT_AS_AV1 that of AV1, which takes the regular one for the sharp filter.
+pub fn short_filter(filter: usize) -> usize {
+  static AS_AV1: OnceLock<bool> = OnceLock::new();
+  if *AS_AV1.get_or_init(|| setting("RECORD_SHORT_AS_AV1").is_some()) {
+    filter & 1
+  } else {
+    filter.min(1)
+  }
+}
+
+/// The interpolation filter of a frame: RECORD_FILTER is its number, `turn` for all but the sharp one in turn, or `drawn`.
+pub fn filter_of(frame: usize) -> FilterMode {
+  let number = match setting("RECORD_FILTER").as_deref() {
+    None => 0,
+    Some("turn") => [0, 1, 3][frame % 3],
+    Some("drawn") => drawing::below(4),
+    Some(word) => word.parse::<usize>().expect("a filter is 0 to 3"),
+  };
+  [FilterMode::REGULAR, FilterMode::SMOOTH, FilterMode::SHARP, FilterMode::BILINEAR][number]
+}
+
+/// A frame is to be coded.  It has one tile.
+pub fn start<T: Pixel>(fi: &FrameInvariants<T>, fs: &FrameState<T>) {
+  let Some(folder) = setting("RECORD_FOLDER") else { return };
+  assert_eq!(fi.sequence.tiling.tile_count(), 1);
+  let mut recorder = RECORDER.lock().unwrap();
+  let frame = recorder.as_ref().map_or(0, |r| r.frame);
+  *recorder = Some(Recorder {
+    folder,
+    frame,
+    xdec: fs.rec.planes[1].cfg.xdec,
+    ydec: fs.rec.planes[1].cfg.ydec,
+    cols: fi.w_in_b,
+    rows: fi.h_in_b,
+    leaves: vec![],
+    cells: vec![usize::MAX; fi.w_in_b * fi.h_in_b],
+    current: None,
+    on: true,
+  });
+}
+
+/// Does `what` with the recorder while a frame is coded.
+fn with_recorder(what: impl FnOnce(&mut Recorder)) {
+  if let Some(recorder) = RECORDER.lock().unwrap().as_mut().filter(|r| r.on) {
+    what(recorder);
+  }
+}
+
+/// A leaf is to be coded.  What isn't `kept` is a trial whose planes the encoder doesn't make.
+#[allow(clippy::too_many_arguments)]
+pub fn begin(
+  at: TileBlockOffset, size: BlockSize, luma: PredictionMode, chroma: PredictionMode, steps: AngleDelta, cfl: CFLParams,
+  references: [RefType; 2], vectors: [MotionVector; 2], transform: TxSize, luma_type: TxType, sampling: ChromaSampling,
+  kept: bool,
+) {
+  if !kept {
+    return;
+  }
+  with_recorder(|r| {
+    let weight = |plane| if chroma.is_cfl() { cfl.alpha(plane) as i8 } else { 0 };
+    r.current = Some(Leaf {
+      x: at.0.x,
+      y: at.0.y,
+      size,
+      luma: luma as u8,
+      chroma: chroma as u8,
+      steps,
+      weights: [weight(0), weight(1)],
+      references,
+      vectors,
+      transform: transform as u8,
+      luma_type: luma_type as u8,
+      chroma_type: 0,
+      carries_chroma: has_chroma(at, size, r.xdec, r.ydec, sampling),
+      coefficients: [vec![], vec![], vec![]],
+    });
+  });
+}
+
+/// The coefficients of one transform block of the leaf that is being coded, as the inverse transform gets them, or none of
+/// them where the leaf is skipped.  (x, y) is the block's first sample in its plane.
+pub fn block<C: Copy>(plane: usize, x: isize, y: isize, size: TxSize, kind: TxType, coefficients: &[C])
+where
+  i32: CastFromPrimitive<C>,
+{
+  with_recorder(|r| {
+    let (xdec, ydec) = if plane == 0 { (0, 0) } else { (r.xdec, r.ydec) };
+    let Some(leaf) = r.current.as_mut() else { return };
+    if plane > 0 {
+      leaf.chroma_type = kind as u8;
+    }
+    let left = (leaf.x >> xdec) * 4;
+    let top = (leaf.y >> ydec) * 4;
+    let across = (leaf.size.width() >> xdec).max(4) / size.width();
+    let number = (y as usize - top) / size.height() * across + (x as usize - left) / size.width();
+    let values = coefficients.iter().map(|&c| i32::cast_from(c)).enumerate();
+    leaf.coefficients[plane].extend(
+      values.filter(|&(_, value)| value != 0).map(|(place, value)| (number as u8, place as u16, value)),
+    );
+  });
+}
+
+/// The leaf is coded.
+pub fn end() {
+  with_recorder(|r| {
+    if let Some(leaf) = r.current.take() {
+      let number = r.leaves.len();
+      for y in leaf.y..(leaf.y + leaf.size.height_mi()).min(r.rows) {
+        for x in leaf.x..(leaf.x + leaf.size.width_mi()).min(r.cols) {
+          r.cells[y * r.cols + x] = number;
+        }
+      }
+      r.leaves.push(leaf);
+    }
+  });
+}
+
+/// The planes of `cols` by `rows` cells, as a plan's references and a trace's planes stand.
+fn write_planes<T: Pixel>(out: &mut Vec<u8>, frame: &Frame<T>, cols: usize, rows: usize, depth: usize) {
+  for plane in frame.planes.iter() {
+    let width = (cols * 4) >> plane.cfg.xdec;
+    let height = (rows * 4) >> plane.cfg.ydec;
+    for row in plane.data_origin().chunks(plane.cfg.stride).take(height) {
+      for &sample in &row[..width] {
+        let sample = u16::cast_from(sample);
+        if depth == 8 {
+          out.push(sample as u8);
+        } else {
+          out.extend_from_slice(&sample.to_le_bytes());
+        }
+      }
+    }
+  }
+}
+
+impl Recorder {
+  fn at(&self, x: usize, y: usize) -> &Leaf {
+    &self.leaves[self.cells[y * self.cols + x]]
+  }
+
+  fn prediction(out: &mut Vec<u8>, leaf: &Leaf) {
+    out.push(leaf.luma);
+    if leaf.is_intra() {
+      out.push(leaf.steps.y as u8);
+      if leaf.carries_chroma {
+        out.push(leaf.chroma);
+        if leaf.chroma == CHROMA_FROM_LUMA {
+          out.extend(leaf.weights.iter().map(|&weight| weight as u8));
+        } else {
+          out.push(leaf.steps.uv as u8);
+        }
+      }
+    }
+    for i in 0..leaf.references() {
+      out.push(leaf.references[i] as u8);
+      out.extend_from_slice(&leaf.vectors[i].row.to_le_bytes());
+      out.extend_from_slice(&leaf.vectors[i].col.to_le_bytes());
+    }
+  }
+
+  fn leaf(&self, out: &mut Vec<u8>, x: usize, y: usize, w: usize, h: usize) {
+    let leaf = self.at(x, y);
+    assert_eq!((leaf.x, leaf.y), (x, y));
+    assert_eq!((leaf.size.width_mi(), leaf.size.height_mi()), (w, h));
+    Self::prediction(out, leaf);
+    out.push(leaf.transform);
+    out.push(leaf.luma_type);
+    if leaf.carries_chroma {
+      out.push(leaf.chroma_type);
+    }
+    for triples in &leaf.coefficients[..if leaf.carries_chroma { 3 } else { 1 }] {
+      out.extend_from_slice(&(triples.len() as u16).to_le_bytes());
+      for &(block, place, value) in triples {
+        out.push(block);
+        out.extend_from_slice(&place.to_le_bytes());
+        out.extend_from_slice(&value.to_le_bytes());
+      }
+    }
+  }
+
+  fn node(&self, out: &mut Vec<u8>, x: usize, y: usize, side: usize) {
+    if x >= self.cols || y >= self.rows {
+      return;
+    }
+    let first = self.at(x, y);
+    let (mut w, mut h) = (first.size.width_mi(), first.size.height_mi());
+    assert_eq!((first.x, first.y), (x, y));
+    let mark = match (w * 4 / side, h * 4 / side) {
+      (4, 4) => 0,
+      (4, 2) => 1,
+      (2, 4) => 2,
+      (4, 1) => 8,
+      (1, 4) => 9,
+      _ => 3,
+    };
+    out.push(mark);
+    if mark == 3 && side > 2 {
+      let half = side / 2;
+      for (dx, dy) in [(0, 0), (half, 0), (0, half), (half, half)] {
+        self.node(out, x + dx, y + dy, half);
+      }
+      return;
+    }
+    if mark == 3 {
+      (w, h) = (1, 1);
+    }
+    for dy in (0..side).step_by(h) {
+      for dx in (0..side).step_by(w) {
+        if x + dx < self.cols && y + dy < self.rows {
+          self.leaf(out, x + dx, y + dy, w, h);
+        }
+      }
+    }
+  }
+
+  /// Whether the plan is one of version 2: some leaf is four times as long as it is wide, or as wide as it is long.
+  fn has_quarters(&self) -> bool {
+    let sizes = self.cells.iter().map(|&n| (self.leaves[n].size.width(), self.leaves[n].size.height()));
+    sizes.into_iter().any(|(w, h)| w == 4 * h || h == 4 * w)
+  }
+
+  /// Bit s: some leaf is predicted from slot s.
+  fn mask(&self, slots: &[u8]) -> u8 {
+    let leaves = self.cells.iter().map(|&n| &self.leaves[n]);
+    leaves
+      .flat_map(|leaf| leaf.references[..leaf.references()].iter())
+      .fold(0, |mask, &reference| mask | 1 << slots[reference as usize - 1])
+  }
+
+  fn plan<T: Pixel>(&self, fi: &FrameInvariants<T>, mask: u8) -> (Vec<u8>, usize) {
+    let depth = fi.sequence.bit_depth;
+    let mut plan = if self.has_quarters() { b"RPL2".to_vec() } else { b"RPL1".to_vec() };
+    plan.extend_from_slice(&(4 * self.cols as u16).to_le_bytes());
+    plan.extend_from_slice(&(4 * self.rows as u16).to_le_bytes());
+    let sampling = 2 - self.xdec - self.ydec;
+    plan.extend([depth as u8, sampling as u8, fi.default_filter as u8, fi.sequence.enable_intra_edge_filter as u8]);
+    plan.extend(fi.ref_frames.iter().map(|&slot| if fi.intra_only { 0 } else { slot }));
+    plan.push(mask);
+    for slot in (0..8).filter(|slot| mask >> slot & 1 == 1) {
+      let held = fi.rec_buffer.frames[slot].as_ref().unwrap();
+      write_planes(&mut plan, &held.frame, self.cols, self.rows, depth);
+    }
+    let head = plan.len();
+    for y in (0..self.rows).step_by(SUPERBLOCK) {
+      for x in (0..self.cols).step_by(SUPERBLOCK) {
+        self.node(&mut plan, x, y, SUPERBLOCK);
+      }
+    }
+    (plan, head)
+  }
+
+  fn log(&self, line: &str) {
+    let name = format!("{}/index.txt", self.folder);
+    let mut file = OpenOptions::new().create(true).append(true).open(name).unwrap();
+    file.write_all(line.as_bytes()).unwrap();
+  }
+}
+
+/// The frame is coded and not yet filtered: writes its plan and its trace, and tells of it in `index.txt`.
+pub fn finish<T: Pixel>(fi: &FrameInvariants<T>, fs: &FrameState<T>) {
+  with_recorder(|r| {
+    let (plan, head) = r.plan(fi, r.mask(&fi.ref_frames));
+    let name = format!("{}/{:04}", r.folder, r.frame);
+    std::fs::write(format!("{name}.plan"), &plan).unwrap();
+    let mut trace = b"RTR1".to_vec();
+    trace.extend_from_slice(&(plan.len() as u32).to_le_bytes());
+    trace.extend_from_slice(&plan);
+    write_planes(&mut trace, &fs.rec, r.cols, r.rows, fi.sequence.bit_depth);
+    std::fs::write(format!("{name}.trace"), &trace).unwrap();
+    r.log(&format!(
+      "coded {} shown {} refresh {} head {head} quantizer {} width {} height {}\n",
+      r.frame, fi.show_frame as u8, fi.refresh_frame_flags, fi.base_q_idx, fi.width, fi.height
+    ));
+    r.frame += 1;
+    r.on = false;
+  });
+}
+
+/// The frame is filtered: what other frames and the viewer see.
+pub fn filtered<T: Pixel>(fi: &FrameInvariants<T>, fs: &FrameState<T>) {
+  if let Some(r) = RECORDER.lock().unwrap().as_ref().filter(|_| filters_on()) {
+    let mut planes = vec![];
+    write_planes(&mut planes, &fs.rec, r.cols, r.rows, fi.sequence.bit_depth);
+    std::fs::write(format!("{}/{:04}.filtered", r.folder, r.frame - 1), &planes).unwrap();
+  }
+}
+
+/// A frame isn't coded: what a slot holds is shown again.
+pub fn shown_again(slot: usize) {
+  if let Some(r) = RECORDER.lock().unwrap().as_ref() {
+    r.log(&format!("again {slot}\n"));
+  }
+}
