@@ -1,7 +1,5 @@
 //! The calls on one block by the type of its samples.
 
-ghost use Rattle.std.specs.Prelude.{◌≡◌, length};
-
 use crate::samples::Target;
 use av1_calls::{
     CflBlock, EdgeBlock, EdgePlane, IntraBlock, MotionBlock, av1_cfl_ac_8, av1_cfl_ac_16,

@@ -1,6 +1,6 @@
 //! A digest of bytes.
 
-ghost use Rattle.std.specs.Prelude.{◌≡◌, ℕ, ◌-◌, ◌^◌, List, [], ◌∷◌, ◌++◌, length, min, slice_index};
+ghost use Rattle.std.specs.Prelude.{◌≡◌, ℕ, ◌-◌, ◌^◌, List, [], ◌∷◌, ◌++◌, length, min};
 ghost use Rattle.std.specs.Int.{to_le_bytes, w16, w32};
 ghost use Rattle.av1_replay.specs.Digest.{Holds, after_four_bits, crc32};
 

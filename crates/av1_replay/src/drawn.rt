@@ -1,6 +1,6 @@
 //! Numbers that a seed alone decides, so that rows are short.
 
-ghost use Rattle.std.specs.Prelude.{◌≡◌, ℕ, ◌+◌, ◌-◌, ◌^◌, ◌<◌, ◌≤◌, All, IfOk, length, map, pos};
+ghost use Rattle.std.specs.Prelude.{◌≡◌, ◌+◌, ◌-◌, ◌^◌, ◌<◌, ◌≤◌, All, IfOk, length, map, pos};
 ghost use Rattle.av1_dct.specs.Arithmetic.{FitsBits};
 ghost use Rattle.av1_replay.specs.Drawn.{centred, drawn_samples, drawn_signed, in_way, next_state, same_for, signed_in_way, upper, word};
 

@@ -1,6 +1,6 @@
 //! Prediction from references.
 
-ghost use Rattle.std.specs.Prelude.{◌≡◌, ◌+◌, ◌*◌, ◌≤◌, IfErr, IfOk, IfSome, length};
+ghost use Rattle.std.specs.Prelude.{◌≡◌, ◌+◌, ◌≤◌, IfErr, IfSome, length};
 ghost use Rattle.av1_replay.specs.Fields.{unread};
 ghost use Rattle.av1_replay.specs.Rows.{depth_of};
 

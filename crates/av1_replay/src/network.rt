@@ -1,6 +1,6 @@
 //! One-dimensional transforms.
 
-ghost use Rattle.std.specs.Prelude.{◌≡◌, ◌≤◌, ◌∷◌, All, IfErr, IfSome, length, take, ℕ};
+ghost use Rattle.std.specs.Prelude.{◌≡◌, ◌≤◌, All, IfErr, IfSome, length};
 ghost use Rattle.av1_dct.specs.Arithmetic.{FitsBits};
 ghost use Rattle.av1_replay.specs.Fields.{unread};
 

@@ -1,8 +1,7 @@
 //! The format of samples, and rectangles of them.
 
-ghost use Rattle.std.specs.Prelude.{◌≡◌, ◌+◌, ◌*◌, ◌<◌, ◌≤◌, ◌∷◌, length, IfSome};
+ghost use Rattle.std.specs.Prelude.{◌≡◌, ◌+◌, ◌*◌, ◌≤◌, ◌∷◌, length, IfSome};
 ghost use Rattle.av1_blocks.specs.Depths.{IsDepth};
-ghost use Rattle.av1_frame.specs.Areas.{AreRows};
 ghost use Rattle.av1_replay.specs.Fields.{unread};
 ghost use Rattle.av1_replay.specs.Rows.{depth_of, format_number, margins_before};
 
