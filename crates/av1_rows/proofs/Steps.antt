@@ -1,15 +1,14 @@
 -- Rows, one after the other: which were replayed, what is left of the bytes, and the counts.
-use Rattle.std.proofs.Common.{◌≡◌, ◌↔◌, ℕ, suc, ◌+◌, ◌<◌, List, [], ◌∷◌, ◌++◌, Option, Some, None, Bool, true, false, refl, sym, ap, subst, ◌∙◌, append_assoc, length-append, arith}
-use Rattle.std.specs.Prelude.{All, IsNone, IsTrue, fold, length, if◌then◌else◌}
+use Rattle.std.proofs.Common.{◌≡◌, ◌↔◌, ℕ, List, [], ◌∷◌, ◌++◌, Option, Some, None, Bool, true, false, refl, sym, ap, subst, ◌∙◌, append_assoc}
+use Rattle.std.specs.Prelude.{IsNone, IsTrue, fold, length, if◌then◌else◌}
 use Rattle.std.specs.Int.{to_le_bytes, w32}
 use Rattle.std.proofs.lemmas.List.{append-nil, flat_map_more}
-use Rattle.std.proofs.lemmas.List.Elements.{All-nil, All-push, All-pop}
+use Rattle.std.proofs.lemmas.List.Elements.{All-push, All-pop}
 use Rattle.av1_replay.specs.Answers.{Agrees}
 use Rattle.av1_replay.specs.declared.answer.Answer.{Answer}
 use Rattle.av1_replay.specs.declared.answer.Wanted.{Wanted}
-use Rattle.av1_rows.specs.Rows.{Replayed, Told, told_by, wanted_by, IsReplayed, BeginWith, AreReplayed, AllAgree, body, magic, row_before, rows_text}
+use Rattle.av1_rows.specs.Rows.{Replayed, Told, told_by, wanted_by, IsReplayed, BeginWith, AllAgree, body, magic, row_before, rows_text}
 use Rattle.av1_rows.specs.Tallies.{Counts, Differs, counts_of, earlier, no_rows, with_replayed}
-use Rattle.av1_rows.specs.declared.row.Row.{Row}
 
 -- a fold over one item more
 pub fold_more : {A B : Type 0} (f : B → A → B) (b : B) (xs : List A) (x : A) → fold f b (xs ++ x ∷ []) ≡ f (fold f b xs) x

@@ -1,14 +1,11 @@
 -- What the exit status says of the bytes and of the output.
-use Rattle.std.specs.Prelude.{◌≡◌, ◌≢◌, ◌⊎◌, ℕ, ◌<◌, ◌-◌, ◌^◌, List, [], ◌++◌, length, take, min, codes, decimal, Option, Result, Ok, Err, Bool, true, false, IfSome, ⊤}
-use Rattle.std.specs.Io.KnownBytes.{Appends}
-use Rattle.av1_streams.specs.Faults.{FaultCounted}
-use Rattle.av1_streams.specs.Streams.{AppendsPrefix, max_plan_bytes}
+use Rattle.std.specs.Prelude.{◌≡◌, ◌≢◌, ℕ, ◌<◌, List, [], ◌++◌, length, take, codes, decimal, Option, Result, Ok, Err, Bool, true, false, IfSome, ⊤}
+use Rattle.av1_streams.specs.Streams.{max_plan_bytes}
 use Rattle.av1_streams.specs.Tasks.{Cause, read_failed, too_long, refused, write_failed, no_memory}
 use Rattle.av1_recon.specs.Ends.{error_status}
 use Rattle.av1_rows.specs.declared.error.RowsError.{RowsError}
 use Rattle.av1_rows.specs.declared.error.RowsError.TheVariants.{ReadFault, TooLong, NoRows, Malformed, Memory, WriteFault}
-use Rattle.av1_rows.specs.Reports.{report}
-use Rattle.av1_rows.specs.Rows.{Replayed, BeginWith, AreReplayed, AllAgree, magic}
+use Rattle.av1_rows.specs.Rows.{Replayed, BeginWith, AreReplayed, magic}
 use Rattle.av1_rows.specs.Tallies.{counts_of}
 
 -- ---- errors
