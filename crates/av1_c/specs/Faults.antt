@@ -9,7 +9,8 @@ use Rattle.av1_c.specs.declared.fault.PlanFault.{PlanFault}
 use Rattle.av1_c.specs.declared.fault.PlanFault.TheVariants.{Memory, RoomTooSmall, TooLong, Malformed, Invalid}
 use Rattle.av1_c.specs.declared.fault.Refusal.{Refusal}
 use Rattle.av1_calls.specs.declared.status.TheConstants.{ROOM_TOO_SMALL}
-use Rattle.av1_c.specs.declared.status.TheConstants.{OUT_OF_MEMORY, TOO_LONG, MALFORMED, INVALID, INVALID_BLOCK_SIZE, TRANSFORM, MODE, VECTOR, MISSING_REFERENCE, COEFFICIENT}
+use Rattle.av1_c.specs.declared.status.TheConstants.{OUT_OF_MEMORY, TOO_LONG, MALFORMED, INVALID, INVALID_BLOCK_SIZE}
+use Rattle.av1_c.specs.declared.status.TheConstants.{TRANSFORM, MODE, VECTOR, MISSING_REFERENCE, COEFFICIENT}
 
 -- an error of parsing
 abbrev pub plan_fault : PlanError → PlanFault

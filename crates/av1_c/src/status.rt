@@ -1,5 +1,5 @@
-//! The numbers that only calls on plans answer with; `av1_calls` has those that calls on blocks have, too. C's header and the Rust crate have
-//! the same under the same names.
+//! The numbers that only calls on plans answer with; `av1_calls` has those that calls on blocks have, too. C's header
+//! and the Rust crate have the same under the same names.
 
 /// Memory ran out.
 pub const OUT_OF_MEMORY: u32 = 1;

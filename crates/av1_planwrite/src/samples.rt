@@ -119,7 +119,8 @@ impl Text {
 
     /// Writes the planes of a slot.
     pub fn planes(&mut self, depth: u8, y: &[u16], u: &[u16], v: &[u16]) -> Result<(), OutOfMemory>
-        ensures text { OnOk result (self.new.bytes.items ≡ self.old.bytes.items ++ (plane_text depth y.now ++ plane_text depth u.now ++ plane_text depth v.now)) }
+        ensures text { OnOk result (self.new.bytes.items ≡ self.old.bytes.items
+            ++ (plane_text depth y.now ++ plane_text depth u.now ++ plane_text depth v.now)) }
         ensures front { Begins self.old.bytes.items self.new.bytes.items }
     {
         self.plane(depth, y)?;

@@ -19,7 +19,8 @@ status_complete (Err (Malformed at)) h = elim h [ inl ok ↦ absurd cc | inr mem
 status_complete (Err (Invalid leaf kind)) h = elim h [ inl ok ↦ absurd cc | inr memory ↦ absurd cc ]
 
 -- where the bytes are refused
-pub status_refused : (answer : Answer) (e : ReconError) → Tells (plan_task planes_of) answer (Err e) → (status_of answer ≡ 2) ⊎ ((status_of answer ≡ 3) ⊎ (status_of answer ≡ 4))
+pub status_refused : (answer : Answer) (e : ReconError) → Tells (plan_task planes_of) answer (Err e) →
+    (status_of answer ≡ 2) ⊎ ((status_of answer ≡ 3) ⊎ (status_of answer ≡ 4))
 status_refused (Ok done) e h = absurd h
 status_refused (Err Memory) e h = inr (inl refl)
 status_refused (Err ReadFault) e h = inr (inr refl)

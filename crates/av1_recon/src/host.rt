@@ -10,8 +10,9 @@ const WRITE_FAULT: u8 = 5;
 // The status where the words could not be taken.
 const NO_WORDS: u8 = 6;
 
-/// Does `run` with the words after the program's name, flushes the output and gives the status with which the program is to
-/// end. It is that of `run`, but 5 where the flush fails after status 0, and 6 where the words cannot be taken from the system.
+/// Does `run` with the words after the program's name, flushes the output and gives the status with which the program
+/// is to end. It is that of `run`, but 5 where the flush fails after status 0, and 6 where the words cannot be taken
+/// from the system.
 pub fn run_on_words<F: FnOnce(&[String]) -> u8>(rt: &HostRuntime, run: F) -> ExitCode
     requires { F.IsAlwaysCallable run }
 {

@@ -2,8 +2,8 @@
 //!
 //! A [`Source`] gives bytes and a [`Sink`] takes them, in pieces of any size, and each counts its
 //! faults. [`read_bytes`] reads a source to its end, [`read_plan_bytes`] one that has a plan, and
-//! [`write_bytes`] writes all of a slice, or a prefix of it up to a fault. They are generic, so what they promise holds of standard input
-//! and output ([`ReadSource`], [`WriteSink`]) as of memory ([`SliceSource`], [`MemSink`]), whose
+//! [`write_bytes`] writes all of a slice, or a prefix of it up to a fault. They are generic, so what they promise holds
+//! of standard input and output ([`ReadSource`], [`WriteSink`]) as of memory ([`SliceSource`], [`MemSink`]), whose
 //! calls fail on request. A [`Line`] is a line of text for such a sink, built without memory.
 //!
 //! It stands on std, and takes the answer for want of memory from `av1_blocks`.

@@ -53,8 +53,8 @@ pub fn read_plan_bytes<R: Source>(alloc: Global, source: &mut R) -> Result<Vec<u
     read_bytes(alloc, source, MAX_PLAN_BYTES)
 }
 
-/// All that the source has left, read to its end, at most `limit` bytes: from 64 KiB, which the first read asks for, to 1 TiB. Each read
-/// asks for as much as there is room for. The first that fails ends the call.
+/// All that the source has left, read to its end, at most `limit` bytes: from 64 KiB, which the first read asks for, to
+/// 1 TiB. Each read asks for as much as there is room for. The first that fails ends the call.
 pub fn read_bytes<R: Source>(
     alloc: Global,
     source: &mut R,

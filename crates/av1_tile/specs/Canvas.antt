@@ -35,4 +35,5 @@ drawn a f written = λ x y. turned (in_visible a x y) (f (y - a.y) (x - a.x)) (w
 
 -- the canvas with its part in a plane as written, and all else as it is
 abbrev pub with_written : Component → Written → Canvas → Canvas
-with_written component written canvas = λ other. elim (is_same other component) [ true ↦ written | false ↦ canvas other ]
+with_written component written canvas =
+    λ other. elim (is_same other component) [ true ↦ written | false ↦ canvas other ]

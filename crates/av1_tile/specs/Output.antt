@@ -24,7 +24,8 @@ plane_bytes extent f = flat_map (sample_bytes extent.depth) (by_rows extent f)
 -- the visible planes: Y, then U, then V
 unfoldable pub visible : Header → (Component → ℕ → ℕ → ℕ) → List ℕ
 visible header f =
-    plane_bytes (extent_of header 0) (f Y) ++ plane_bytes (extent_of header 1) (f U) ++ plane_bytes (extent_of header 2) (f V)
+    plane_bytes (extent_of header 0) (f Y) ++ plane_bytes (extent_of header 1) (f U)
+    ++ plane_bytes (extent_of header 2) (f V)
 
 -- the bytes that a plan comes to
 unfoldable pub planes_of : PlanValue → List ℕ

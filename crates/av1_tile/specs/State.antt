@@ -15,8 +15,8 @@ use Rattle.av1_tile.specs.Reference.{slow_walk}
 use Rattle.av1_tile.specs.Steps.{steps}
 use Rattle.av1_tile.specs.Walk.{plane_of, StoresAll, HasRoom, edges_after}
 
--- what callers see of a state: the header that it was made for, the references that it holds, its planes, and how many edges were prepared
--- in it
+-- what callers see of a state: the header that it was made for, the references that it holds, its planes, and how many
+-- edges were prepared in it
 pub record Picture (T : Type 0) : Type 0 where
   pub header : Header
   pub references : FrameInvariants T
@@ -63,7 +63,8 @@ plan_row plan p y = by_index (extent_of plan.header p).width (λ x. sample_of (s
 
 -- the state shows what the plan comes to, row by row
 abbrev pub ShowsRows : {T : Type 0} → (T → ℕ) → PlanValue → Picture T → Type 0
-ShowsRows num plan s = (p y : ℕ) → p < 3 → y < (extent_of plan.header p).height → state_row num s p y ≡ plan_row plan p y
+ShowsRows num plan s = (p y : ℕ) → p < 3 → y < (extent_of plan.header p).height →
+    state_row num s p y ≡ plan_row plan p y
 
 -- each stored sample of the three planes is this one
 pub record IsFilledWith {T : Type 0} (value : T) (s : Picture T) : Type 0 where

@@ -23,7 +23,8 @@ pub struct Planes<T> {
     pub v: Plane<T>,
 }
 
-/// How many samples `pad` samples of luma are in a direction in which a sample stands for 1 of luma (`decimation` 0) or 2 (1).
+/// How many samples `pad` samples of luma are in a direction in which a sample stands for 1 of luma (`decimation` 0) or
+/// 2 (1).
 fn pad_of(pad: usize, decimation: usize) -> usize
     requires { decimation ≤ 1 }
     ensures value { result ≡ pad / 2 ^ decimation }
@@ -32,8 +33,8 @@ fn pad_of(pad: usize, decimation: usize) -> usize
     pad >> decimation
 }
 
-/// A plane of zeros with the sides of plane `p` (0 for Y, 1 for U and 2 for V) of a frame, and on every side `pad` samples of luma besides: half
-/// as many samples in directions in which the plane is halved.
+/// A plane of zeros with the sides of plane `p` (0 for Y, 1 for U and 2 for V) of a frame, and on every side `pad`
+/// samples of luma besides: half as many samples in directions in which the plane is halved.
 ///
 /// Storage is that of whole superblocks. An error is want of memory.
 fn plane_of_frame<T: Pixel>(
@@ -84,8 +85,8 @@ impl<T: Pixel> Planes<T> {
     ghost use Rattle.av1_tile.specs.PlaneBlocks.{component};
     ghost use Rattle.av1_tile.specs.Walk.{AreFrame, HasPads, HasRoom, plane_of, StoresAll};
 
-    /// Planes of zeros for a frame, with room for whole superblocks, and on every side `pad` samples of luma besides, in directions in which a
-    /// plane is halved half as many. An error is want of memory.
+    /// Planes of zeros for a frame, with room for whole superblocks, and on every side `pad` samples of luma besides,
+    /// in directions in which a plane is halved half as many. An error is want of memory.
     pub fn new(alloc: Global, header: &Header, pad: usize) -> Result<Planes<T>, OutOfMemory>
         requires frame { IsReadFrame header.now }
         requires pad { pad ≤ 256 }

@@ -10,8 +10,8 @@ use crate::state::TileState;
 use av1_frame::Pixel;
 use av1_plan::Plan;
 
-/// Reconstructs a plan: predicts its leaves in coding order, and adds the residues of their transform blocks. The visible planes are then
-/// those of the slow definition, whatever they held before.
+/// Reconstructs a plan: predicts its leaves in coding order, and adds the residues of their transform blocks. The
+/// visible planes are then those of the slow definition, whatever they held before.
 ///
 /// The plan is valid, and the state was made for it, or for one with its header and its references.
 pub fn reconstruct_tile<T: Pixel>(state: &mut TileState<T>, plan: &Plan)

@@ -12,7 +12,8 @@ use av1_references::frame_invariants;
 use std::alloc::Global;
 use std::marker::Model;
 
-/// The planes of a frame that is reconstructed, the references that it is predicted from, and the memory that the walk works in.
+/// The planes of a frame that is reconstructed, the references that it is predicted from, and the memory that the walk
+/// works in.
 #[derive(Drop)]
 pub struct TileState<T: Pixel> {
     header: Header,
@@ -35,10 +36,23 @@ impl<T: Pixel> TileState<T> {
     ghost use Rattle.av1_plan.specs.Answer.{plan_value};
     ghost use Rattle.av1_plan.specs.Validity.{first_fault};
     ghost use Rattle.av1_tile.specs.PlaneBlocks.{extent_of};
-    ghost use Rattle.av1_tile.specs.State.{edges_of, IsFilledWith, IsSound, MadeFor, shown, ShowsRows, state_edges, state_header, state_planes, state_references, state_row};
+    ghost use Rattle.av1_tile.specs.State.{
+      edges_of,
+      IsFilledWith,
+      IsSound,
+      MadeFor,
+      shown,
+      ShowsRows,
+      state_edges,
+      state_header,
+      state_planes,
+      state_references,
+      state_row,
+    };
     ghost use Rattle.av1_tile.specs.Output.{planes_of, visible};
 
-    /// Takes all the memory that the reconstruction of a plan needs. The plan is valid, and its depth one that the samples have.
+    /// Takes all the memory that the reconstruction of a plan needs. The plan is valid, and its depth one that the
+    /// samples have.
     pub fn new(alloc: Global, plan: &Plan) -> Result<TileState<T>, OutOfMemory>
         requires valid { first_fault (plan_value plan.now) ≡ None }
         requires depth { (plan_value plan.now).header.depth ≤ T.BITS }
@@ -73,8 +87,8 @@ impl<T: Pixel> TileState<T> {
         &self.planes
     }
 
-    /// How many edges were prepared in the state, up to the last value of a `u64`: none in a new one, and one for each prediction of a
-    /// transform block from the samples round it.
+    /// How many edges were prepared in the state, up to the last value of a `u64`: none in a new one, and one for each
+    /// prediction of a transform block from the samples round it.
     pub fn edges(&self) -> u64
         ensures { result ≡ state_edges self.now }
     {
@@ -91,7 +105,8 @@ impl<T: Pixel> TileState<T> {
         self.planes.row(&self.header, p, y)
     }
 
-    /// Each sample that is stored of the three planes becomes `value`, which lies within the depth; nothing else changes.
+    /// Each sample that is stored of the three planes becomes `value`, which lies within the depth; nothing else
+    /// changes.
     pub fn fill_with(&mut self, value: T)
         requires sound { IsSound T.num self.old }
         requires within { T.num value < 2 ^ (state_header self.old).depth }

@@ -4,7 +4,8 @@ use Rattle.av1_plan.specs.Plan.{PlanValue}
 use Rattle.av1_streams.specs.Streams.{AreBytes, max_plan_bytes}
 use Rattle.av1_tiles.specs.declared.error.TileFault.{TileFault}
 use Rattle.av1_tiles.specs.declared.error.TilesError.{TilesError}
-use Rattle.av1_tiles.specs.declared.error.TilesError.TheVariants.{ReadFault, TooLong, Malformed, Tile, WriteFault, Memory}
+use Rattle.av1_tiles.specs.declared.error.TilesError.TheVariants.{ReadFault, TooLong, Malformed, Tile, WriteFault}
+use Rattle.av1_tiles.specs.declared.error.TilesError.TheVariants.{Memory}
 use Rattle.av1_tiles.specs.Grammar.{FileValue, count_tiles, read_file}
 use Rattle.av1_tiles.specs.Validity.{IsTile, IsRefusedTile}
 
@@ -29,7 +30,8 @@ RefusesTiles f TooLong = ⊥
 RefusesTiles f (Malformed at) = ⊥
 RefusesTiles f WriteFault = ⊥
 
--- Why bytes are refused: they are too long, or no grid of tiles, or a grid of which this tile is the first that is refused.
+-- Why bytes are refused: they are too long, or no grid of tiles, or a grid of which this tile is the first that is
+-- refused.
 abbrev pub AreRefusedFor : List ℕ → TilesError → Type 0
 AreRefusedFor bytes TooLong = max_plan_bytes < length bytes
 AreRefusedFor bytes (Malformed at) = (length bytes ≤ max_plan_bytes) × (read_file bytes ≡ Err at)

@@ -34,7 +34,8 @@ th { color: #b8c0c9; }
 #triples { max-height: 96px; margin-top: 4px; overflow: auto; white-space: pre; font: 12px/1.35 ui-monospace, monospace; }
 #list { position: relative; height: 190px; overflow: auto; border: 1px solid var(--line); }
 #rows { position: relative; }
-#rows div { position: absolute; left: 0; right: 0; height: 18px; padding: 0 6px; overflow: hidden; white-space: nowrap; font: 12px/18px ui-monospace, monospace; cursor: pointer; }
+#rows div { position: absolute; left: 0; right: 0; height: 18px; padding: 0 6px; overflow: hidden; white-space: nowrap; font: 12px/18px ui-monospace, monospace;
+      cursor: pointer; }
 #rows div[aria-selected=true] { background: #005a8c; }
 #differences { padding: 2px 8px; border: 2px solid #e69f00; }
 :focus-visible { outline: 3px solid var(--mark); outline-offset: -3px; }
@@ -60,7 +61,8 @@ th { color: #b8c0c9; }
 <div id=\"triples\" tabindex=\"0\" role=\"region\" aria-label=\"Coefficients of the leaf\"></div>
 </section>
 <section aria-label=\"Leaves\">
-<p><label for=\"search\">Leaves <kbd>/</kbd></label> <input id=\"search\" type=\"search\" placeholder=\"17, or paeth 16x8, or differs\" aria-controls=\"list\"> <output id=\"found\"></output></p>
+<p><label for=\"search\">Leaves <kbd>/</kbd></label> <input id=\"search\" type=\"search\" placeholder=\"17, or paeth 16x8,
+    or differs\" aria-controls=\"list\"> <output id=\"found\"></output></p>
 <div id=\"list\" role=\"listbox\" tabindex=\"0\" aria-label=\"Leaves that are found\"><div id=\"rows\"></div></div>
 </section>
 <details>
@@ -206,7 +208,8 @@ function readPlan(bytes) {
   return { bytes, view, frame, leaves, end: at };
 }
 
-// The rectangle of a leaf in a plane, with the sides of its transforms there; null where it covers no part of the plane.
+// The rectangle of a leaf in a plane, with the sides of its transforms there; null where it covers no part of the
+// plane.
 function areaOf(frame, leaf, p) {
   const [wide, high] = TRANSFORM_SIZES[leaf.transformSize];
   if (p === 0) return { x: leaf.x, y: leaf.y, width: leaf.width, height: leaf.height, wide, high };
@@ -352,8 +355,10 @@ const motionText = (m) => REFERENCES[m.reference] + ' ' + m.row + ' ' + m.column
 const coefficientCount = (l) => l.triples.reduce((sum, t) => sum + t.count, 0);
 
 function summaryOf(l) {
-  const mode = l.motions ? MODES[l.mode] + ' ' + l.motions.map(motionText).join(', ') : withStep(l.mode, l.step) + (l.carried ? ' chroma ' + chromaText(l) : '');
-  return l.number + '  ' + l.width + 'x' + l.height + ' at ' + l.x + ' ' + l.y + '  ' + mode + '  ' + TRANSFORM_TYPES[l.transformType] + '  ' + coefficientCount(l);
+  const mode =
+      l.motions ? MODES[l.mode] + ' ' + l.motions.map(motionText).join(', ') : withStep(l.mode, l.step) + (l.carried ? ' chroma ' + chromaText(l) : '');
+  return l.number + '  ' + l.width + 'x' + l.height + ' at ' + l.x + ' ' + l.y + '  ' + mode + '  ' + TRANSFORM_TYPES[l.transformType] + '  ' +
+      coefficientCount(l);
 }
 
 // ---- What is shown.
@@ -465,7 +470,8 @@ function drawnLines() {
   const pixels = new Uint32Array(image.data.buffer);
   if (layers.transforms) for (const leaf of leaves) eachTransform(leaf, (box) => edge(pixels, box, 0xb0e9b456));
   if (layers.leaves) for (const leaf of leaves) edge(pixels, leaf, 0xa0ffffff);
-  if (layers.superblocks) for (let y = 0; y < frame.height; y += 64) for (let x = 0; x < frame.width; x += 64) edge(pixels, { x, y, width: 64, height: 64 }, 0xff42e4f0);
+  if (layers.superblocks) for (let y = 0; y < frame.height; y += 64) for (let x = 0; x < frame.width; x += 64) edge(pixels, { x, y, width: 64, height: 64 },
+        0xff42e4f0);
   lines.getContext('2d').putImageData(image, 0, 0);
   return lines;
 }
@@ -498,8 +504,8 @@ const down = (y) => (y - state.top) * state.zoom;
 
 const SHADE = '#00000080';
 
-// Strokes over dark ones, so that they are seen on every ground. A path is a list of what draws a part of it; a few parts are stroked at a
-// time, since a long path takes a browser far longer than its parts.
+// Strokes over dark ones, so that they are seen on every ground. A path is a list of what draws a part of it; a few
+// parts are stroked at a time, since a long path takes a browser far longer than its parts.
 function strokeTwice(context, colour, width, dashes, path) {
   const parts = 40;
   context.setLineDash(dashes);
@@ -632,16 +638,19 @@ function slant(context, x, y, degrees, reach, colour, dashes) {
     strokeTwice(context, colour, 1.5, dashes, [line(x, y)]);
   } else {
     const middle = reach + 4;
-    copyMark(context, markOf(['slant', degrees, reach, colour].join(), 2 * middle, 2 * middle, (c) => strokeTwice(c, colour, 1.5, dashes, [line(middle, middle)])), x, y);
+    copyMark(context,
+          markOf(['slant', degrees, reach, colour].join(), 2 * middle, 2 * middle, (c) => strokeTwice(c, colour, 1.5, dashes, [line(middle, middle)])), x, y);
   }
 }
 
-// Vectors as arrows from a leaf's middle to the middle of what it is predicted from; those to the second reference are dashed.
+// Vectors as arrows from a leaf's middle to the middle of what it is predicted from; those to the second reference are
+// dashed.
 function drawVectors(context, seen) {
   const colour = colourOf('vectors');
   const inter = seen.filter((leaf) => leaf.motions && Math.min(leaf.width, leaf.height) * state.zoom >= 8);
   for (let second = 0; second < 2; second++) {
-    strokeTwice(context, colour, 1.5, second ? [5, 3] : [], inter.filter((leaf) => leaf.motions[second]).map((leaf) => (c) => arrow(c, leaf, leaf.motions[second])));
+    strokeTwice(context, colour, 1.5, second ? [5, 3] : [],
+          inter.filter((leaf) => leaf.motions[second]).map((leaf) => (c) => arrow(c, leaf, leaf.motions[second])));
   }
   for (const leaf of inter) {
     const size = Math.min(13, leaf.width * state.zoom / 9);
@@ -694,7 +703,8 @@ function drawValues(context, part) {
     for (let x = part.left >> xdec; x << xdec < part.right; x++) {
       const middle = across((x << xdec) + (1 << xdec) / 2);
       const centre = down((y << ydec) + (1 << ydec) / 2);
-      if (rgb) PLANES.forEach((name, q) => textAt(context, valueAt(frame, state.source, q, x >> frame.xdecs[q], y >> frame.ydecs[q]), middle, centre + (q - 1) * size * 1.2, size, '#ffffff'));
+      if (rgb) PLANES.forEach((name, q) => textAt(context, valueAt(frame, state.source, q, x >> frame.xdecs[q], y >> frame.ydecs[q]), middle,
+              centre + (q - 1) * size * 1.2, size, '#ffffff'));
       else textAt(context, valueAt(frame, state.source, p, x, y), middle, centre, size, '#ffffff');
     }
   }
@@ -763,7 +773,8 @@ function fieldsOf(l) {
   const fields = [['size and place', l.width + 'x' + l.height + ' at column ' + l.x + ', row ' + l.y]];
   if (l.motions) {
     fields.push(['mode', l.mode + ' ' + MODES[l.mode]]);
-    for (const m of l.motions) fields.push(['reference', m.reference + ' ' + REFERENCES[m.reference] + ', slot ' + frame.slots[m.reference - 1]], ['vector', 'row ' + m.row + ', column ' + m.column + ' eighths']);
+    for (const m of l.motions) fields.push(['reference', m.reference + ' ' + REFERENCES[m.reference] + ', slot ' + frame.slots[m.reference - 1]],
+            ['vector', 'row ' + m.row + ', column ' + m.column + ' eighths']);
   } else {
     const angle = (mode, step) => mode >= 1 && mode <= 8 ? ', ' + angleOf(mode, step) + ' degrees' : '';
     fields.push(['luma mode', l.mode + ' ' + withStep(l.mode, l.step) + angle(l.mode, l.step)]);
@@ -783,7 +794,9 @@ function fieldsOf(l) {
 const MOST_TRIPLES = 400;
 
 function triplesText(l) {
-  const texts = l.triples.flatMap((t, p) => coefficientsOf(plan, l, p).map((c) => PLANES[p] + ' block ' + c.block + ' place ' + c.place + ' (column ' + c.column + ', row ' + c.row + ') value ' + c.value));
+  const texts =
+      l.triples.flatMap((t, p) => coefficientsOf(plan, l,
+          p).map((c) => PLANES[p] + ' block ' + c.block + ' place ' + c.place + ' (column ' + c.column + ', row ' + c.row + ') value ' + c.value));
   const more = texts.length - MOST_TRIPLES;
   return texts.slice(0, MOST_TRIPLES).join('\\n') + (more > 0 ? '\\nand ' + more + ' more' : '');
 }
@@ -791,8 +804,11 @@ function triplesText(l) {
 function showPlace() {
   const l = leafAt(state.x, state.y);
   element('place').textContent = 'leaf ' + l.number + ', sample at column ' + state.x + ', row ' + state.y;
-  element('samples').replaceChildren(row('', ...PLANES), ...sources.map((s) => row(s.name, ...PLANES.map((name, p) => valueAt(frame, s, p, state.x >> frame.xdecs[p], state.y >> frame.ydecs[p])))));
-  const found = differences.list.filter((d) => d.leaf === l.number).map((d) => [PLANES[d.plane] + ' differs', 'row ' + d.row + ', column ' + d.column + ', given ' + d.given + ', defined ' + d.defined]);
+  element('samples').replaceChildren(row('', ...PLANES),
+        ...sources.map((s) => row(s.name, ...PLANES.map((name, p) => valueAt(frame, s, p, state.x >> frame.xdecs[p], state.y >> frame.ydecs[p])))));
+  const found =
+      differences.list.filter((d) => d.leaf === l.number).map((d) => [PLANES[d.plane] + ' differs', 'row ' + d.row + ', column ' + d.column + ',
+          given ' + d.given + ', defined ' + d.defined]);
   element('fields').replaceChildren(...fieldsOf(l).concat(found).map((f) => row(...f)));
   element('triples').textContent = triplesText(l);
 }
@@ -801,7 +817,8 @@ function showPlace() {
 
 const ROW = 18;
 
-// The leaves that a search finds: the one of a number, else those whose line has each word; `differs` finds those that do.
+// The leaves that a search finds: the one of a number, else those whose line has each word; `differs` finds those that
+// do.
 function search(text) {
   const words = text.toLowerCase().split(/\\s+/).filter((word) => word);
   if (words.length === 0) return null;
@@ -862,7 +879,8 @@ function moveToLeaf(number) {
   const leaf = leaves[number];
   const index = state.found ? state.found.indexOf(number) : number;
   const list = element('list');
-  if (index >= 0 && (index * ROW < list.scrollTop || (index + 1) * ROW > list.scrollTop + list.clientHeight)) list.scrollTop = index * ROW - list.clientHeight / 2;
+  if (index >= 0 && (index * ROW < list.scrollTop || (index + 1) * ROW > list.scrollTop + list.clientHeight)) list.scrollTop =
+      index * ROW - list.clientHeight / 2;
   moveTo(leaf.x, leaf.y);
 }
 
@@ -964,7 +982,8 @@ const next = (names, name) => names[(names.indexOf(name) + 1) % names.length];
 
 // What a key does on the picture and in the list.
 const KEYS = {
-  '+': () => zoomAt(1.25, state.x + 0.5, state.y + 0.5), '=': () => zoomAt(1.25, state.x + 0.5, state.y + 0.5), '-': () => zoomAt(0.8, state.x + 0.5, state.y + 0.5),
+  '+': () => zoomAt(1.25, state.x + 0.5, state.y + 0.5), '=': () => zoomAt(1.25, state.x + 0.5, state.y + 0.5),
+      '-': () => zoomAt(0.8, state.x + 0.5, state.y + 0.5),
   0: fitFrame, f: fitLeaf, n: () => step(1), p: () => step(-1), d: () => stepDifference(1), e: () => stepDifference(-1),
   s: () => setSource(next(sources.map((s) => s.name), state.source.name)), c: () => setComponent(next(['RGB', ...PLANES], state.component)),
   '/': () => element('search').focus(), Escape: () => canvas.focus(),
@@ -1066,7 +1085,8 @@ function start() {
 
 // What tests read: the model of the page, and its switches.
 window.view = {
-  plan, frame, leaves, differences, layers, state, sources, leafAt, draw, moveTo, moveToLeaf, fit, fitFrame, fitLeaf, zoomAt, setLayer, setSource, setComponent, setSearch, summaryOf,
+  plan, frame, leaves, differences, layers, state, sources, leafAt, draw, moveTo, moveToLeaf, fit, fitFrame, fitLeaf, zoomAt, setLayer, setSource, setComponent,
+      setSearch, summaryOf,
   sample: (name, p, x, y) => valueAt(frame, sources.find((s) => s.name === name), p, x, y),
   coefficients: (number, p) => coefficientsOf(plan, leaves[number], p),
   transformSides: (leaf) => TRANSFORM_SIZES[leaf.transformSize],

@@ -7,22 +7,26 @@ use Rattle.av1_tile.proofs.state.TileState.run.Goals as goal
 
 pub reconstruct-requires-clause-plan : goal.reconstruct-requires-clause-plan
 reconstruct-requires-clause-plan g c =
-    let s = c.self.inside in
-    (plan_value c.args.plan.now, made_over g.T.Pixel.num c.args.plan.now c.args.self.now s.header s.fi s.planes s.memory.edges c.self.view_is c.requires.valid c.requires.made)
+    let s = c.self.inside in (
+      plan_value c.args.plan.now,
+      made_over g.T.Pixel.num c.args.plan.now c.args.self.now s.header s.fi s.planes s.memory.edges c.self.view_is c.requires.valid c.requires.made,
+    )
 
 pub returns-clause-visible : goal.returns-clause-visible
 returns-clause-visible g c =
     let s = c.self.inside in
     let walk = c.reconstruct in
     let is = made_over g.T.Pixel.num c.args.plan.now c.args.self.now s.header s.fi s.planes s.memory.edges c.self.view_is c.requires.valid c.requires.made in
-    state_visible g.T.Pixel.num (plan_value c.args.plan.now) s.header s.fi walk.new.planes walk.new.self.edges (sym is.header) (walk.ensures.shown (plan_value c.args.plan.now) is)
+    state_visible g.T.Pixel.num (plan_value c.args.plan.now) s.header s.fi walk.new.planes walk.new.self.edges (sym is.header)
+    (walk.ensures.shown (plan_value c.args.plan.now) is)
 
 pub returns-clause-rows : goal.returns-clause-rows
 returns-clause-rows g c =
     let s = c.self.inside in
     let walk = c.reconstruct in
     let is = made_over g.T.Pixel.num c.args.plan.now c.args.self.now s.header s.fi s.planes s.memory.edges c.self.view_is c.requires.valid c.requires.made in
-    state_rows g.T.Pixel.num (plan_value c.args.plan.now) s.header s.fi walk.new.planes walk.new.self.edges (sym is.header) (walk.ensures.shown (plan_value c.args.plan.now) is)
+    state_rows g.T.Pixel.num (plan_value c.args.plan.now) s.header s.fi walk.new.planes walk.new.self.edges (sym is.header)
+    (walk.ensures.shown (plan_value c.args.plan.now) is)
 
 pub returns-clause-edges : goal.returns-clause-edges
 returns-clause-edges g c =
