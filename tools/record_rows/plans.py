@@ -111,10 +111,3 @@ FROM_LUMA_420 = bytes.fromhex(
 FROM_LUMA_422 = bytes.fromhex(
     "52504c3108000800080103000304010307040400030005030dfaf5060b090600000600ffffffff0007000cfeffff001d00beffffff001f00b4010000"
     "0413000e000000041f001f00000006000054008efeffff005500f401000000aa0039feffff00ce00f9ffffff006801aeffffff00be01000000000000")
-
-# Where plans aren't AV1 (docs/DIFFERENCES.md). A column of 128 in U, seen half a sample aside through the sharp filter; and in an identity of 4
-# and of 16 values at depth 12 the least coefficient that wraps.
-COLUMN_OF_U = planes(128) + 4 * b"\0\x80\0\0" + planes(128, count=16)
-SHARP_IN_CHROMA = changed(REFERRING, (9, 0), (10, 2), (19, 1)) + COLUMN_OF_U + b"\3\3\3\0" + leaf(mode=19, vectors=[(1, 0, 8)], tx_size=1)
-WRAPPING_4 = header(depth=12) + DOWN_TO_4 + leaf(tx_type=9, y=[(0, 0, 370703)]) + 3 * leaf()
-WRAPPING_16 = header(16, 16, depth=12) + b"\3\3\0" + leaf(tx_size=2, tx_type=9, y=[(0, 0, 185352)])

@@ -1,18 +1,12 @@
 """Runs of the program on worked plans, whole, broken, cut and in pieces."""
 from plans import (DIRECTIONAL, DOWN_TO_4, FLAT, FROM_LUMA_420, FROM_LUMA_422, HALVED, HALVED_QUARTERS, LIFTED, MOVED, ONE_HALF, PLAIN, PLAN,
-                   QUARTERS, REFERRING, SHARP_IN_CHROMA, SINGLE, SMALL_QUARTERS, WIDE, WRAPPING_16, WRAPPING_4, changed, header, leaf, of_two, planes)
+                   QUARTERS, REFERRING, SINGLE, SMALL_QUARTERS, WIDE, changed, header, leaf, of_two, planes)
 from runs import NEVER
 
 # Where fields stand: of the header, of a plan of one leaf, and of the first leaf of the plan of four.
 WIDTH, HEIGHT, DEPTH, SAMPLING, EDGE_FILTER, MASK = 4, 6, 8, 9, 11, 19
 MARK, MODE, STEP, CHROMA, CHROMA_STEP, SIZE, TYPE, CHROMA_TYPE = 20, 21, 22, 23, 24, 25, 26, 27
 FIRST_MODE, FIRST_STEP, FIRST_SIZE, FIRST_TYPE = 24, 25, 28, 29
-
-
-def departures(add):
-    """Where plans aren't AV1: rows 0 to 2, which docs/DIFFERENCES.md names."""
-    for it in (SHARP_IN_CHROMA, WRAPPING_4, WRAPPING_16):
-        add("departures", it)
 
 
 def one_leaf(add):
@@ -207,7 +201,7 @@ def random_plans(runs):
 
 
 def record(runs):
-    for rows in (departures, one_leaf, four_leaves, frames, references, refusals, faults, lines, made):
+    for rows in (one_leaf, four_leaves, frames, references, refusals, faults, lines, made):
         rows(runs.add)
     runs.add("too long", piece=2**26 + 1, zeros=2**26 + 1)
     random_plans(runs)

@@ -24,6 +24,7 @@ import sys
 HERE = pathlib.Path(__file__).resolve().parent
 sys.dont_write_bytecode = True
 sys.path += [str(HERE), str(HERE.parent / "record_calls"), str(HERE.parent / "rav1e")]
+import departure_rows
 import program_rows
 import record as calls
 import runs
@@ -42,6 +43,7 @@ def on_blocks(rav1e, work):
 def of_runs(oracle, work):
     """The rows of runs; WORK/names gets what each is, by its number."""
     rows = runs.Runs(runs.Oracle(str(oracle.resolve())))
+    departure_rows.record(rows)
     program_rows.record(rows)
     tool_rows.record(rows)
     (work / "names").write_text("".join(f"{at} {name}\n" for at, name in enumerate(rows.names)))
