@@ -5,8 +5,9 @@
 
 What the archive has is read from the crates `av1_c` and `av1_calls`: the size of each struct that crosses to C, the type
 and the place of each of its fields, the number of each constant, the parameters of each call and its answer. It is put
-down as assertions about `c/av1_c.h` in `c/declared.c`, and about the Rust crate in `rust/src/declared.rs`. Those compile
-only where they hold. `c/av1_c.map` names the calls for the linker. With --check nothing is written, and the status is 1 where a file isn't what would be written.
+down as assertions about `c/av1_c.h` in `c/declared.c`, and about the Rust crate in `rust/src/declared.rs`, which compile
+only where they hold. `c/av1_c.map` names the calls for the linker. With --check nothing is written, and the status is 1
+where a file isn't what would be written.
 """
 import pathlib
 import re

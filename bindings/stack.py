@@ -9,8 +9,9 @@ the sum is a bound, whatever the arguments are. It has the 128 bytes below the s
 has not what functions of the C library take (they are named). It stops at what it can't follow: a call of itself, a call
 by a pointer, a frame of no fixed length.
 
-Prints the bytes of each call. With --check each must be at most what the comment on the stack in `c/av1_c.h` says of it,
-else the status is 1. It needs gcc and binutils.
+`c/stack.c` makes each call with many arguments and sees how deep it goes, which must be no deeper than that. Prints for each
+call the bytes that were worked out, and those that were seen. With --check what was worked out must be at most what the
+comment on the stack in `c/av1_c.h` says. The status is 1 where either isn't so. It needs gcc and binutils.
 """
 import pathlib
 import re
@@ -139,6 +140,22 @@ class Function:
                 raise Unknown("%s: %s" % (self.name, text))
 
 
+def on_the_stack():
+    """The bytes of the arguments of each call that are passed on the stack: all behind the sixth."""
+    text = (HERE / "c" / "declared.c").read_text("utf8")
+    counts = {name: listed.count(",") + 1 for name, listed in re.findall(r"^uint32_t (av1_\w+)\((.*?)\);", text, re.M | re.S)}
+    return {name: -(-max(0, count - 6) // 2) * 2 * WORD for name, count in counts.items()}
+
+
+def seen(archive):
+    """How deep each call went, as c/stack.c tells it."""
+    with tempfile.TemporaryDirectory() as work:
+        subprocess.run(["gcc", "-O2", "-Wall", "-Wextra", "-Werror", HERE / "c" / "stack.c", archive, "-o", work + "/stack"], check=True)
+        plan = HERE.parent / "crates" / "av1_vectors" / "stdin"
+        told = subprocess.run([work + "/stack", plan], check=True, capture_output=True, text=True).stdout
+    return {name: int(number) for name, number in (line.split() for line in told.splitlines())}
+
+
 def functions_of(archive):
     with tempfile.TemporaryDirectory() as work:
         library = work + "/library.so"
@@ -196,15 +213,17 @@ def main():
     words = [word for word in sys.argv[1:] if word != "--check"]
     if len(words) != 1:
         sys.exit(__doc__)
-    calls = re.findall(r"av1_\w+(?=;)", (HERE / "c" / "av1_c.map").read_text("utf8"))
+    passed, went = on_the_stack(), seen(words[0])
     stack = Stack(functions_of(words[0]))
-    taken = {name: WORD + stack.of(name) + RED_ZONE for name in calls}
+    taken = {name: passed[name] + WORD + stack.of(name) + RED_ZONE for name in passed}
     said = stated() if "--check" in sys.argv[1:] else taken
-    faults = [name for name in calls if not taken[name] <= said.get(name, 0)] + [name for name in said if name not in taken]
-    for name in calls:
-        print("%8d  %s%s" % (taken[name], name, "  not what the header says" if name in faults else ""))
+    faults = {name: "more than the header says" for name in taken if taken[name] > said.get(name, 0)}
+    faults.update({name: "deeper than was worked out" for name in taken if went[name] > taken[name]})
+    print("worked out, seen, in bytes")
+    for name in sorted(taken):
+        print("%8d %8d  %s%s" % (taken[name], went[name], name, "  " + faults[name] if name in faults else ""))
     print("beside them what these take: %s" % ", ".join(sorted(stack.outside)))
-    return 1 if faults else 0
+    return 1 if faults or set(said) != set(taken) else 0
 
 
 if __name__ == "__main__":
