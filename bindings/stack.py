@@ -150,7 +150,9 @@ def on_the_stack():
 def seen(archive):
     """How deep each call went, as c/stack.c tells it."""
     with tempfile.TemporaryDirectory() as work:
-        subprocess.run(["gcc", "-O2", "-Wall", "-Wextra", "-Werror", HERE / "c" / "stack.c", archive, "-o", work + "/stack"], check=True)
+        # By -maccumulate-outgoing-args the calls of a function all begin at one place of the stack.
+        subprocess.run(["gcc", "-O2", "-maccumulate-outgoing-args", "-Wall", "-Wextra", "-Werror", HERE / "c" / "stack.c", archive,
+                        "-Wl,-z,now", "-o", work + "/stack"], check=True)
         plan = HERE.parent / "crates" / "av1_vectors" / "stdin"
         told = subprocess.run([work + "/stack", plan], check=True, capture_output=True, text=True).stdout
     return {name: int(number) for name, number in (line.split() for line in told.splitlines())}

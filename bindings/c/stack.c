@@ -8,27 +8,29 @@
 
 #define CHECK(e) do { if (!(e)) { fprintf(stderr, "%s:%d: %s\n", __FILE__, __LINE__, #e); exit(1); } } while (0)
 
-enum { PAINTED = 1 << 18, NEAREST = 128, PAINT = 0xA5, ABOVE = 2 * sizeof(void *), SIDE = 256, MIDDLE = 64, MOST = 4096 };
+enum { PAINTED = 1 << 14, NEAREST = 16, ABOVE = 2, SIDE = 256, MIDDLE = 64, MOST = 4096 };
 
-/* Paints what lies below the stack's end, but for the nearest bytes. */
-__attribute__((noinline)) static void paint(void) {
-    volatile uint8_t *end = __builtin_frame_address(0);
-    for (ptrdiff_t i = NEAREST + 1; i < PAINTED; i++) end[-i] = PAINT;
+static const uint64_t paint = 0xA5A5A5A5A5A5A5A5;
+
+/* Paints the words that lie below the stack's end, but for the nearest ones. */
+__attribute__((noinline)) static void paint_below(void) {
+    volatile uint64_t *end = __builtin_frame_address(0);
+    for (ptrdiff_t i = NEAREST + 1; i < PAINTED; i++) end[-i] = paint;
 }
 
-/* How many bytes a function took that was called where this one is. */
+/* How many bytes a function took that was called where this one is; 0 stands for few. */
 __attribute__((noinline)) static size_t taken(void) {
-    volatile uint8_t *end = __builtin_frame_address(0);
+    volatile uint64_t *end = __builtin_frame_address(0);
     ptrdiff_t i = PAINTED - 1;
-    while (i > NEAREST && end[-i] == PAINT) i--;
+    while (i > NEAREST && end[-i] == paint) i--;
     CHECK(i < PAINTED - 1);
-    return (size_t)i + ABOVE;
+    return i > NEAREST ? (size_t)(i + ABOVE) * sizeof paint : 0;
 }
 
 /* The deepest of all calls of this kind so far is kept in `deepest`. */
 #define DEEP(call)                                       \
     do {                                                 \
-        paint();                                         \
+        paint_below();                                   \
         uint32_t status = (call);                        \
         size_t bytes = taken();                          \
         CHECK(status == AV1_DONE);                       \
@@ -70,9 +72,9 @@ enum motion { PUT_8, PUT_16, PREP_8, PREP_16 };
 
 static void motion(enum motion kind, const char *name) {
     size_t deepest = 0, all = SIDE * SIDE, from = MIDDLE, side = 128 * 128;
-    for (uint8_t way = 0; way < 16 * 4; way++)
+    for (uint8_t way = 0; way < 4 * 4; way++)
         for (unsigned size = 0; size < 64; size++) {
-            av1_motion_block block = {(size_t)1 << size % 8, (size_t)1 << size / 8, way % 4 * 5, way / 4 % 4 * 5, way / 16, 3 - way / 16};
+            av1_motion_block block = {(size_t)1 << size % 8, (size_t)1 << size / 8, way % 2 * 5, way / 2 % 2 * 5, way / 4, 3 - way / 4};
             switch (kind) {
             case PUT_8: DEEP(av1_put_8tap_8(plane_8, all, SIDE, 0, 0, other_8, all, SIDE, from, from, &block)); break;
             case PUT_16: DEEP(av1_put_8tap_16(plane_16, all, SIDE, 0, 0, other_16, all, SIDE, from, from, &block, 10)); break;
@@ -121,7 +123,7 @@ static void intra(enum intra kind, int is_deep, const char *name) {
     size_t deepest = 0;
     for (uint8_t size = 0; size < 19; size++)
         for (uint8_t mode = 0; mode < 13; mode++)
-            for (int8_t step = -3; step <= 3; step++) {
+            for (int8_t step = -3; step <= 3; step += 3) {
                 if (step != 0 && (mode < 1 || mode > 8 || kind == CFL)) continue;
                 for (uint8_t sides = 0; sides < 8; sides++) {
                     av1_intra_block block = {mode, size, step, is_deep ? 10 : 8, sides & 1, sides >> 1 & 1, sides >> 2, 1, 100, 100};
@@ -155,7 +157,7 @@ static void whole(const uint8_t *plan, size_t len) {
     deepest = 0;
     DEEP(av1_reconstruct_plan(plan, len, room, sizeof room, &written, &refusal));
     tell("av1_reconstruct_plan", deepest);
-    paint();
+    paint_below();
     CHECK(av1_c_version() == AV1_C_VERSION);
     tell("av1_c_version", taken());
 }
