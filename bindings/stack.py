@@ -204,7 +204,7 @@ def stated():
     part = re.search(r"/\* Stack: .*?\*/", text, re.S)
     said, bytes_of = {}, 0
     for line in part[0].splitlines() if part else []:
-        match = re.match(r"^ \*   ([\d,]+)?  +(av1_[\w, ]+)$", line)
+        match = re.match(r"^ \*   ([\d,]+)?  +(av1_[\w, ]+?)(?: \*/)?$", line)
         if match:
             bytes_of = int(match[1].replace(",", "")) if match[1] else bytes_of
             said.update({name.strip(): bytes_of for name in match[2].split(",") if name.strip()})
