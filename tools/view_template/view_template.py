@@ -53,6 +53,14 @@ def page(plan, planes, bare, given=b""):
     return front + b"".join(base64.b64encode(data) + part for data, part in zip([plan, planes, bare, given], rest)) + b"".join(rest[4:])
 
 
+def with_planes_of_steps(page, predictions, residue):
+    """A page to which planes of predictions and of residue are added, of which the program gives none: two bytes a number of the residue."""
+    elements = b"".join(b'<script type="text/plain" id="%s">%s</script>\n' % (name, base64.b64encode(data)) for name, data in (
+        (b"predictions-bytes", predictions), (b"residue-bytes", b"".join(value.to_bytes(2, "little", signed=True) for value in residue))))
+    before = parts()[4].encode().rsplit(b"<script>", 1)[0]
+    return page.replace(before, before + elements, 1)
+
+
 def source():
     """The module of constants."""
     lines = ["//! The constant parts of the page, written by `tools/view_template` from the files in `data/`."]

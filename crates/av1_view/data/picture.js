@@ -89,7 +89,7 @@ function draw() {
   if (layers.vectors) drawSourceBoxes(context);
   drawCursor(context);
   element('scale').textContent = state.zoom.toFixed(2) + ' pixels a sample, ' + state.source.name + ', ' + state.component;
-  element('dense').textContent = dense.length === 0 ? '' : 'Too dense here to show in full: ' + dense.join(', ') + '. Zoom in.';
+  element('dense').textContent = dense.length === 0 ? '' : 'from nearer: ' + dense.join(', ');
 }
 
 function drawCursor(context) {

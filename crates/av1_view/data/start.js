@@ -12,7 +12,7 @@ function listen() {
   element('list').addEventListener('scroll', showList);
   element('list').addEventListener('click', (event) => { if (event.target.dataset.leaf) moveToLeaf(Number(event.target.dataset.leaf)); });
   new ResizeObserver(resize).observe(canvas);
-  window.addEventListener('resize', resize);
+  watchScale();
   window.matchMedia('(prefers-color-scheme: light)').addEventListener('change', takeScheme);
 }
 
@@ -28,6 +28,12 @@ function resize() {
   canvas.height = Math.round(state.height * scale);
   if (fresh) fitFrame();
   draw();
+}
+
+// The device's scale changes where the window moves to another screen, or is zoomed.
+function watchScale() {
+  const scale = window.matchMedia('(resolution: ' + window.devicePixelRatio + 'dppx)');
+  scale.addEventListener('change', () => { resize(); watchScale(); }, { once: true });
 }
 
 // The ground of the picture is that of the page, light or dark.
@@ -52,7 +58,7 @@ function start() {
 
 // What tests read: the model of the page, and its switches.
 window.view = {
-  plan, frame, leaves, cells, differences, departures, layers, layersHere: LAYERS_HERE, state, sources, leafAt, draw, moveTo, moveToLeaf, fit, fitFrame,
+  plan, frame, leaves, marks, differences, departures, layers, layersHere: LAYERS_HERE, state, sources, leafAt, draw, moveTo, moveToLeaf, fit, fitFrame,
   fitLeaf, zoomAt, setLayer, setSource, setComponent, setGain, setProperty, chooseClass, setSearch, setLocked, summaryOf,
   sample: (name, p, x, y) => valueAt(frame, sources.find((s) => s.name === name), p, x, y),
   coefficients: (number, p) => coefficientsOf(plan, leaves[number], p),

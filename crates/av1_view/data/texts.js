@@ -9,7 +9,7 @@ const motionText = (m) => REFERENCES[m.reference] + ' ' + m.row + ' ' + m.column
 function eighths(value) {
   const whole = Math.floor(value / 8);
   const part = value - 8 * whole;
-  return whole + (part ? ' and ' + part + '/8' : '');
+  return whole + (part ? ' + ' + part + '/8' : '');
 }
 
 // A leaf in a line.

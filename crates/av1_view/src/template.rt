@@ -25,7 +25,7 @@ body { display: flex; background: var(--ground); color: var(--ink); font: 14px/1
 main { position: relative; flex: 1; min-width: 50%; }
 #picture { position: absolute; width: 100%; height: 100%; cursor: crosshair; touch-action: none; }
 #status { position: absolute; left: 8px; right: 8px; bottom: 8px; display: flex; flex-wrap: wrap; gap: 4px; margin: 0; pointer-events: none; }
-#status span { padding: 2px 8px; background: var(--bar); }
+#status span { padding: 1px 8px; background: var(--bar); font-size: 12px; }
 #status span:empty { display: none; }
 #source {
   position: absolute; top: 8px; right: 8px; display: flex; flex-wrap: wrap; justify-content: end; gap: 8px; max-width: 100%; padding: 8px;
@@ -618,7 +618,7 @@ const motionText = (m) => REFERENCES[m.reference] + ' ' + m.row + ' ' + m.column
 function eighths(value) {
   const whole = Math.floor(value / 8);
   const part = value - 8 * whole;
-  return whole + (part ? ' and ' + part + '/8' : '');
+  return whole + (part ? ' + ' + part + '/8' : '');
 }
 
 // A leaf in a line.
@@ -1296,7 +1296,7 @@ function draw() {
   if (layers.vectors) drawSourceBoxes(context);
   drawCursor(context);
   element('scale').textContent = state.zoom.toFixed(2) + ' pixels a sample, ' + state.source.name + ', ' + state.component;
-  element('dense').textContent = dense.length === 0 ? '' : 'Too dense here to show in full: ' + dense.join(', ') + '. Zoom in.';
+  element('dense').textContent = dense.length === 0 ? '' : 'from nearer: ' + dense.join(', ');
 }
 
 function drawCursor(context) {
@@ -1777,7 +1777,7 @@ function listen() {
   element('list').addEventListener('scroll', showList);
   element('list').addEventListener('click', (event) => { if (event.target.dataset.leaf) moveToLeaf(Number(event.target.dataset.leaf)); });
   new ResizeObserver(resize).observe(canvas);
-  window.addEventListener('resize', resize);
+  watchScale();
   window.matchMedia('(prefers-color-scheme: light)').addEventListener('change', takeScheme);
 }
 
@@ -1793,6 +1793,12 @@ function resize() {
   canvas.height = Math.round(state.height * scale);
   if (fresh) fitFrame();
   draw();
+}
+
+// The device's scale changes where the window moves to another screen, or is zoomed.
+function watchScale() {
+  const scale = window.matchMedia('(resolution: ' + window.devicePixelRatio + 'dppx)');
+  scale.addEventListener('change', () => { resize(); watchScale(); }, { once: true });
 }
 
 // The ground of the picture is that of the page, light or dark.
@@ -1817,7 +1823,7 @@ function start() {
 
 // What tests read: the model of the page, and its switches.
 window.view = {
-  plan, frame, leaves, cells, differences, departures, layers, layersHere: LAYERS_HERE, state, sources, leafAt, draw, moveTo, moveToLeaf, fit, fitFrame,
+  plan, frame, leaves, marks, differences, departures, layers, layersHere: LAYERS_HERE, state, sources, leafAt, draw, moveTo, moveToLeaf, fit, fitFrame,
   fitLeaf, zoomAt, setLayer, setSource, setComponent, setGain, setProperty, chooseClass, setSearch, setLocked, summaryOf,
   sample: (name, p, x, y) => valueAt(frame, sources.find((s) => s.name === name), p, x, y),
   coefficients: (number, p) => coefficientsOf(plan, leaves[number], p),
