@@ -4,21 +4,23 @@
 const MATRICES = [['BT.709', 0.2126, 0.0722], ['BT.601', 0.299, 0.114], ['BT.2020', 0.2627, 0.0593]].flatMap(([name, red, blue]) =>
   ['full range', 'limited range'].map((range) => ({ name: name + ', ' + range, red, blue, full: range === 'full range' })));
 
-// What writes the pixel of a luma sample, of a source and a component, at a place among pixels.
+// What writes the pixels of a row of luma samples, of a source and a component, at a place among pixels: those of some columns.
 function painterOf(frame, source, component, matrix, gain) {
   const { starts, widths, xdecs, ydecs } = frame;
   const { of, less, signed } = source;
   const scale = (signed ? gain : 1) / (1 << (frame.depth - 8));
   const middle = signed ? 128 : 0;
-  const level = (p, x, y) => {
-    const i = starts[p] + (y >> ydecs[p]) * widths[p] + (x >> xdecs[p]);
-    return middle + (less ? of[i] - less[i] : of[i]) * scale;
-  };
+  const level = less ? (i) => middle + (of[i] - less[i]) * scale : (i) => middle + of[i] * scale;
+  const rowOf = (p, y) => starts[p] + (y >> ydecs[p]) * widths[p];
   const p = PLANES.indexOf(component);
   if (p >= 0) {
-    return (pixels, at, x, y) => {
-      pixels[at] = pixels[at + 1] = pixels[at + 2] = level(p, x, y);
-      pixels[at + 3] = 255;
+    return (pixels, from, y, columns) => {
+      const row = rowOf(p, y);
+      const xdec = xdecs[p];
+      for (let i = 0, at = from; i < columns.length; i++, at += 4) {
+        pixels[at] = pixels[at + 1] = pixels[at + 2] = level(row + (columns[i] >> xdec));
+        pixels[at + 3] = 255;
+      }
     };
   }
   const luma = matrix.full || signed ? 1 : 255 / 219;
@@ -29,24 +31,27 @@ function painterOf(frame, source, component, matrix, gain) {
   const uBlue = 2 * (1 - matrix.blue) * chroma;
   const uGreen = uBlue * matrix.blue / green;
   const vGreen = vRed * matrix.red / green;
-  return (pixels, at, x, y) => {
-    const l = (level(0, x, y) - dark) * luma;
-    const u = level(1, x, y) - 128;
-    const v = level(2, x, y) - 128;
-    pixels[at] = l + vRed * v;
-    pixels[at + 1] = l - uGreen * u - vGreen * v;
-    pixels[at + 2] = l + uBlue * u;
-    pixels[at + 3] = 255;
+  const xdec = xdecs[1];
+  return (pixels, from, y, columns) => {
+    const [lumaRow, uRow, vRow] = [rowOf(0, y), rowOf(1, y), rowOf(2, y)];
+    for (let i = 0, at = from; i < columns.length; i++, at += 4) {
+      const l = (level(lumaRow + columns[i]) - dark) * luma;
+      const u = level(uRow + (columns[i] >> xdec)) - 128;
+      const v = level(vRow + (columns[i] >> xdec)) - 128;
+      pixels[at] = l + vRed * v;
+      pixels[at + 1] = l - uGreen * u - vGreen * v;
+      pixels[at + 2] = l + uBlue * u;
+      pixels[at + 3] = 255;
+    }
   };
 }
 
 // A picture of some columns and rows, one pixel a luma sample; past the frame the nearest sample stands, as a vector reads it.
 function paint(frame, painter, left, top, width, height) {
   const image = new ImageData(width, height);
-  for (let row = 0, at = 0; row < height; row++) {
-    const y = Math.min(Math.max(top + row, 0), frame.height - 1);
-    for (let column = 0; column < width; column++, at += 4) painter(image.data, at, Math.min(Math.max(left + column, 0), frame.width - 1), y);
-  }
+  const within = (place, end) => Math.min(Math.max(place, 0), end - 1);
+  const columns = Int32Array.from({ length: width }, (none, column) => within(left + column, frame.width));
+  for (let row = 0; row < height; row++) painter(image.data, 4 * width * row, within(top + row, frame.height), columns);
   return image;
 }
 

@@ -2,7 +2,7 @@
 
 // More marks than these can't be told apart, and leaves are tinted in place of them.
 const MOST_RINGS = 200;
-const MOST_CROSSES = 5000;
+const MOST_CROSSES = 1500;
 const CROSSES_ZOOM = 8;
 
 // Those that may be seen, one for each leaf and plane, or nothing where they are too many.

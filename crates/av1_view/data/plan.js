@@ -1,11 +1,16 @@
 // ---- Bytes.
 
-// The bytes that an element of the page holds in base64, decoded in pieces of whole groups; none where the page has no such element.
+// The bytes that an element of the page holds in base64; none where the page has no such element.
 function bytesOf(id) {
   const holder = document.getElementById(id);
   if (!holder) return new Uint8Array(0);
   const text = holder.textContent;
   holder.textContent = '';
+  return Uint8Array.fromBase64 ? Uint8Array.fromBase64(text) : decoded(text);
+}
+
+// The same where the browser has no such call: pieces of whole groups, one behind the other.
+function decoded(text) {
   const padding = text.endsWith('==') ? 2 : text.endsWith('=') ? 1 : 0;
   const bytes = new Uint8Array(text.length / 4 * 3 - padding);
   const piece = 1 << 16;
