@@ -7,6 +7,8 @@ import re
 import sys
 
 SHORT, LONG = 120, 160
+# In the first line of a file that a tool writes.
+WRITTEN = "written by `tools/"
 TOKEN = re.compile(r'"(?:[^"\\]|\\.)*"|--(?= |$).*|[(){}\[\]⟨⟩](?!\])|\[\]|[^\s(){}⟨⟩\[\]"]+')
 OPENS, CLOSES = set("({[⟨"), set(")}]⟩")
 FLAT = ("ensures ", "requires ")
@@ -139,6 +141,8 @@ def main(words):
     for path in files_of([it for it in words if it != "--check"] or ["crates"]):
         with open(path, encoding="utf-8") as file:
             text = file.read()
+        if WRITTEN in text.split("\n", 1)[0]:
+            continue
         if not only_checks:
             new = "\n".join(wrapped(text.split("\n"), path))
             if new != text:

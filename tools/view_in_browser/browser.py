@@ -34,7 +34,7 @@ class Browser:
         self.session = self.call("Target.attachToTarget", targetId=target, flatten=True)["sessionId"]
         for domain in ("Page", "Runtime", "Network"):
             self.call(domain + ".enable")
-        self.call("Emulation.setDeviceMetricsOverride", width=width, height=height, deviceScaleFactor=1, mobile=False)
+        self.window(width, height)
 
     def __enter__(self):
         return self
@@ -86,6 +86,14 @@ class Browser:
             raise RuntimeError(f"{expression}: {answer['exceptionDetails']}")
         return answer["result"].get("value")
 
+    def window(self, width, height, scale=1):
+        """A window of this size in CSS pixels, on a device with so many pixels in each on a side."""
+        self.call("Emulation.setDeviceMetricsOverride", width=width, height=height, deviceScaleFactor=scale, mobile=False)
+
+    def scheme(self, name):
+        """What the reader prefers, `light` or `dark`."""
+        self.call("Emulation.setEmulatedMedia", features=[{"name": "prefers-color-scheme", "value": name}])
+
     def key(self, key, text="", modifiers=0):
         for kind in ("keyDown", "keyUp"):
             parameters = {"type": kind, "key": key, "modifiers": modifiers}
@@ -95,6 +103,29 @@ class Browser:
 
     def mouse(self, kind, x, y, **more):
         self.call("Input.dispatchMouseEvent", type=kind, x=x, y=y, **more)
+
+    def click(self, x, y):
+        self.mouse("mouseMoved", x, y)
+        self.mouse("mousePressed", x, y, button="left", buttons=1, clickCount=1)
+        self.mouse("mouseReleased", x, y, button="left", buttons=0, clickCount=1)
+
+    def drag(self, x, y, right, below):
+        """Presses at a place, moves in three steps, and lets go."""
+        self.mouse("mouseMoved", x, y)
+        self.mouse("mousePressed", x, y, button="left", buttons=1, clickCount=1)
+        for part in (1, 2, 3):
+            self.mouse("mouseMoved", x + right * part / 3, y + below * part / 3, button="left", buttons=1)
+        self.mouse("mouseReleased", x + right, y + below, button="left", buttons=0, clickCount=1)
+
+    def wheel(self, x, y, right, below, modifiers=0):
+        self.mouse("mouseWheel", x, y, deltaX=right, deltaY=below, modifiers=modifiers)
+
+    def json(self, expression):
+        """The same as a value of Python."""
+        return json.loads(self.value(f"JSON.stringify({expression})"))
+
+    def text(self, element):
+        return self.value(f"document.getElementById('{element}').textContent")
 
     def faults(self):
         """The page's own errors, and what it asked of the network beside its file."""

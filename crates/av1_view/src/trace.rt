@@ -88,7 +88,7 @@ fn append_trace<W: Sink>(
     let shown = Shown {
         plan: &parts.plan,
         planes: &parts.planes,
-        predictions: &parts.predictions,
+        bare_planes: &parts.bare_planes,
         given,
     };
     write_page(shown, sink)?;
