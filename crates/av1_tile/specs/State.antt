@@ -1,5 +1,5 @@
 -- What the state of a reconstruction shows.
-use Rattle.std.specs.Prelude.{◌≡◌, ◌<◌, ℕ, List, All}
+use Rattle.std.specs.Prelude.{◌≡◌, ◌<◌, ℕ, List}
 use Rattle.std.specs.List.{fold}
 use Rattle.av1_lists.specs.Lists.{by_index}
 use Rattle.av1_frame.specs.declared.frame_invariants.FrameInvariants.{FrameInvariants}
@@ -13,7 +13,7 @@ use Rattle.av1_tile.specs.Edge.{sample_of}
 use Rattle.av1_tile.specs.PlaneBlocks.{component, extent_of}
 use Rattle.av1_tile.specs.Reference.{slow_walk}
 use Rattle.av1_tile.specs.Steps.{steps}
-use Rattle.av1_tile.specs.Walk.{plane_of, StoresAll, HasRoom, edges_after}
+use Rattle.av1_tile.specs.Walk.{plane_of, StoresAll, HasRoom, AreFilledWith, edges_after}
 
 -- what callers see of a state: the header that it was made for, the references that it holds, its planes, and how many
 -- edges were prepared in it
@@ -66,8 +66,6 @@ abbrev pub ShowsRows : {T : Type 0} → (T → ℕ) → PlanValue → Picture T 
 ShowsRows num plan s = (p y : ℕ) → p < 3 → y < (extent_of plan.header p).height →
     state_row num s p y ≡ plan_row plan p y
 
--- each stored sample of the three planes is this one
-pub record IsFilledWith {T : Type 0} (value : T) (s : Picture T) : Type 0 where
-  pub y : All (λ v. v ≡ value) s.planes.y.samples
-  pub u : All (λ v. v ≡ value) s.planes.u.samples
-  pub v : All (λ v. v ≡ value) s.planes.v.samples
+-- each stored sample of its planes is this one
+abbrev pub IsFilledWith : {T : Type 0} → T → Picture T → Type 0
+IsFilledWith value s = AreFilledWith value s.planes
