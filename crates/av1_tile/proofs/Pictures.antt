@@ -94,8 +94,8 @@ new_stores num zero h p cfg (Err e) none width height across down is samples who
 
 -- and each of its samples is that zero
 pub new_zeros : {T E : Type 0} (zero : T) (r : Result (Plane T) E)
-    → IfOk r (λ plane. plane.samples ≡ replicate (plane.plane_cfg.alloc_height * plane.plane_cfg.stride) zero) →
-    IfOk r (λ plane. All (λ v. v ≡ zero) plane.samples)
+    → IfOk r (λ plane. plane.samples ≡ replicate (plane.plane_cfg.alloc_height * plane.plane_cfg.stride) zero)
+    → IfOk r (λ plane. All (λ v. v ≡ zero) plane.samples)
 new_zeros zero (Ok plane) samples = filled_all (λ v. v ≡ zero) plane _ zero samples refl
 new_zeros zero (Err e) samples = tt
 
