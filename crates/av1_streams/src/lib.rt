@@ -10,8 +10,9 @@
 //!
 //! Promised to the layer above: every call returns. Where a source or a sink tells its bytes, the
 //! clauses say which were taken from it and which stand on it after every answer, the failing ones
-//! too. Counts of faults never fall, and an answer that blames a fault comes only where the count
-//! rose, or stands at the last value of a `u64`.
+//! too. A count of faults rises by one, up to the last value of a `u64`, where a read or a write
+//! fails, and nowhere else; a call over many of them that blames a fault has counted one, and every
+//! other answer of it leaves the count as it was.
 #![tactic(auto)]
 
 mod line;

@@ -1,6 +1,6 @@
 -- What a state shows once its plan has been walked.
-use Rattle.std.proofs.Common.{ℕ, ◌<◌, ◌*◌, ◌^◌, ◌≡◌, true, false, List, length, get_or, map, ap, arith, ◌∙◌, sym, subst, None, All, Result, Ok, Err, IfOk}
-use Rattle.std.proofs.Common.{replicate}
+use Rattle.std.proofs.Common.{ℕ, ◌<◌, ◌*◌, ◌^◌, ◌≡◌, true, false, List, length, get_or, map, ap, refl, arith, ◌∙◌, sym, subst, None, All, Result, Ok, Err}
+use Rattle.std.proofs.Common.{IfOk, replicate}
 use Rattle.std.proofs.lemmas.List.Elements.{All-replicate}
 use Rattle.std.proofs.lemmas.Nat.{pow_pos}
 use Rattle.std.specs.List.{fold}
@@ -15,6 +15,7 @@ use Rattle.av1_frame.specs.declared.plane.PlaneConfig.{PlaneConfig}
 use Rattle.av1_frame.specs.Planes.{InPlane, IsWhole, place_at, sample_at}
 use Rattle.av1_frame.specs.Samples.{part}
 use Rattle.av1_frame.proofs.Planes.{run_in_storage}
+use Rattle.av1_frame.proofs.Within.{filled_all}
 use Rattle.av1_order.specs.Plans.{coding_in}
 use Rattle.av1_order.specs.Turns.{IsCodedPlan}
 use Rattle.av1_plan.specs.declared.header.Header.{Header}
@@ -90,6 +91,13 @@ new_stores num zero h p cfg (Ok plane) none width height across down is samples 
       (All-replicate (λ v. num v < 2 ^ h.depth) _ zero (subst (λ (n : ℕ). n < 2 ^ h.depth) (sym none) (pow_pos h.depth)));
 }
 new_stores num zero h p cfg (Err e) none width height across down is samples whole = tt
+
+-- and each of its samples is that zero
+pub new_zeros : {T E : Type 0} (zero : T) (r : Result (Plane T) E)
+    → IfOk r (λ plane. plane.samples ≡ replicate (plane.plane_cfg.alloc_height * plane.plane_cfg.stride) zero)
+    → IfOk r (λ plane. All (λ v. v ≡ zero) plane.samples)
+new_zeros zero (Ok plane) samples = filled_all (λ v. v ≡ zero) plane _ zero samples refl
+new_zeros zero (Err e) samples = tt
 
 -- ---- planes of a frame
 

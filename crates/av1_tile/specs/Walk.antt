@@ -210,6 +210,12 @@ pub record SameLayout {T : Type 0} (p q : Planes T) : Type 0 where
   pub u : q.u.plane_cfg ≡ p.u.plane_cfg
   pub v : q.v.plane_cfg ≡ p.v.plane_cfg
 
+-- each stored sample of the three planes is this one
+pub record AreFilledWith {T : Type 0} (value : T) (planes : Planes T) : Type 0 where
+  pub y : All (λ v. v ≡ value) planes.y.samples
+  pub u : All (λ v. v ≡ value) planes.u.samples
+  pub v : All (λ v. v ≡ value) planes.v.samples
+
 -- ---- blocks and leaves
 
 -- a triple that stands in its block and fits the depth

@@ -1,6 +1,6 @@
 //! The three planes of a picture.
 
-ghost use Rattle.std.specs.Prelude.{◌≡◌, ◌/◌, ◌^◌, ◌<◌, ◌≤◌, IfOk, map};
+ghost use Rattle.std.specs.Prelude.{◌≡◌, ◌/◌, ◌^◌, ◌<◌, ◌≤◌, All, IfOk, map};
 ghost use Rattle.av1_frame.specs.Planes.{sample_at};
 ghost use Rattle.av1_lists.specs.Lists.{by_index};
 ghost use Rattle.av1_plan.specs.Geometry.{plane_width, plane_height};
@@ -48,6 +48,7 @@ fn plane_of_frame<T: Pixel>(
     ensures stores { IfOk result (λ plane. Stores T.num header.now p plane) }
     ensures room { IfOk result (λ plane. HasRoomIn header.now p plane.plane_cfg) }
     ensures pad { IfOk result (λ plane. HasPad header.now p pad plane.plane_cfg) }
+    ensures zeros { IfOk result (λ plane. All (λ v. v ≡ T.pixel 0) plane.samples) }
 {
     let xdec = header.xdec(p);
     let ydec = header.ydec(p);
@@ -83,7 +84,7 @@ impl<T: Pixel> Planes<T> {
     ghost use Rattle.av1_plan.specs.Geometry.{plane_width, plane_height};
     ghost use Rattle.av1_plan.specs.ReadPlans.{IsReadFrame};
     ghost use Rattle.av1_tile.specs.PlaneBlocks.{component};
-    ghost use Rattle.av1_tile.specs.Walk.{AreFrame, HasPads, HasRoom, plane_of, StoresAll};
+    ghost use Rattle.av1_tile.specs.Walk.{AreFilledWith, AreFrame, HasPads, HasRoom, plane_of, StoresAll};
 
     /// Planes of zeros for a frame, with room for whole superblocks, and on every side `pad` samples of luma besides,
     /// in directions in which a plane is halved half as many. An error is want of memory.
@@ -93,6 +94,7 @@ impl<T: Pixel> Planes<T> {
         ensures stores { IfOk result (λ planes. StoresAll T.num header.now planes) }
         ensures room { IfOk result (λ planes. HasRoom header.now planes) }
         ensures pads { IfOk result (λ planes. HasPads header.now pad planes) }
+        ensures zeros { IfOk result (λ planes. AreFilledWith (T.pixel 0) planes) }
     {
         let y = plane_of_frame(alloc, header, 0, pad)?;
         let u = plane_of_frame(alloc, header, 1, pad)?;

@@ -1,6 +1,6 @@
 //! The planes of a frame, put together of those of its tiles.
 
-ghost use Rattle.std.specs.Prelude.{◌≡◌, ◌<◌, ◌≤◌, ◌^◌, length, map, slice_index, ◌≢◌, ℕ, None, OnOk, IfOk, IfErr};
+ghost use Rattle.std.specs.Prelude.{◌≡◌, ◌<◌, ◌≤◌, ◌^◌, length, map, slice_index, ◌≢◌, ℕ, None, OnOk, OnErr, IfOk, IfErr};
 ghost use Rattle.av1_frame.specs.Planes.{InPlane, painted_plane};
 ghost use Rattle.av1_frame.specs.Regions.{InStorage, painted};
 ghost use Rattle.av1_frame.specs.Samples.{paint_row};
@@ -183,7 +183,8 @@ pub fn reconstruct_alone<T: Pixel>(
     Ok(TilePicture { header, planes })
 }
 
-/// Reconstructs one tile in this memory, and puts it into the planes of its frame.
+/// Reconstructs one tile in this memory, and puts it into the planes of its frame. At an error the planes are as they
+/// were before.
 pub fn reconstruct_in<T: Pixel>(
     alloc: Global,
     planes: &mut Planes<T>,
@@ -202,6 +203,7 @@ pub fn reconstruct_in<T: Pixel>(
         × ((other : ℕ) (plan : PlanValue) → other < count_tiles (front_value file.now.front) → other ≢ index
         → ShowsTile (front_value file.now.front) other plan (samples_of T.num planes.old) →
         ShowsTile (front_value file.now.front) other plan (samples_of T.num planes.new))) }
+    ensures untouched { OnErr result (planes.new ≡ planes.old) }
     ensures planes { AreFrame file.now.front.header planes.new }
     ensures cells { memory.new.cells ≡ memory.old.cells }
     ensures refused { IfErr result (λ e. RefusesTile (file_value file.now) index e) }
