@@ -15,10 +15,10 @@
 //! Promised: every call returns. Of a call on a plan status `DONE` says that the bytes are a valid plan, and that the
 //! front of the buffer is its planes by the slow definition, the rest of it as before. Each other status has its cause,
 //! and leaves the buffer and the count as they were. The status is the one that the bytes come to (`status_for`,
-//! `specs/Plans.antt`), or that of want of memory. Of a builder's call it says that exactly the fields of the call were
-//! appended, and that the builder asks for what the grammar asks for behind them; each other status has its cause, and
-//! leaves the builder and the buffer as they were (`specs/Builders.antt`, `specs/BuildFaults.antt`). A call on a block
-//! says what that of `av1_calls` says.
+//! `specs/Plans.antt`), or that of running out of memory. Of a builder's call it says that exactly the fields of the
+//! call were appended, and that the builder asks for what the grammar asks for behind them; each other status has its
+//! cause, and leaves the builder and the buffer as they were (`specs/Builders.antt`, `specs/BuildFaults.antt`). A call
+//! on a block says what that of `av1_calls` says.
 #![tactic(auto)]
 
 mod append_leaf;

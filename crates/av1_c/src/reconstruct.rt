@@ -56,7 +56,7 @@ fn write_planes(alloc: Global, plan: &Plan, room: &mut [u8]) -> Result<usize, Pl
             room[..len].copy_from_slice(sink.bytes());
             Ok(len)
         }
-        // The sink has room for all planes, so that nothing but want of memory stops it.
+        // The sink has room for all planes, so that nothing but running out of memory stops it.
         Err(_) => Err(PlanFault::Memory),
     }
 }

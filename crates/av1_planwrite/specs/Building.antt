@@ -81,7 +81,7 @@ argument_refusal false admitted = Some NotNow
 argument_refusal true false = Some NotAdmitted
 argument_refusal true true = None
 
--- a call answers so, where this is the reason to refuse it: want of memory may stand in place of any answer but
+-- a call answers so, where this is the reason to refuse it: running out of memory may stand in place of any answer but
 -- `NotNow`
 abbrev pub Answers : {X : Type 0} → Result X BuildError → Option BuildError → Type 0
 Answers (Ok x) reason = reason ≡ None
@@ -90,7 +90,7 @@ Answers (Err NotAdmitted) reason = reason ≡ Some NotAdmitted
 Answers (Err TooLong) reason = reason ≡ Some TooLong
 Answers (Err Memory) reason = reason ≢ Some NotNow
 
--- what is answered once so many bytes stand, the last of them just written: want of memory, or too many
+-- what is answered once so many bytes stand, the last of them just written: out of memory, or too many
 abbrev pub settled : {X : Type 0} → Result X OutOfMemory → ℕ → Result X BuildError
 settled (Ok x) count = if nat_le count (2 ^ 26) then Ok x else Err TooLong
 settled (Err e) count = Err Memory

@@ -8,7 +8,7 @@ use Rattle.av1_recon.specs.declared.error.ReconError.TheVariants.{ReadFault, Too
 use Rattle.av1_recon.specs.Answers.{status_of}
 use Rattle.av1_recon.specs.Outcomes.{Answer, cause, plan_task}
 
--- of Ok and want of memory
+-- of Ok and of running out of memory
 pub status_complete : (answer : Answer) → IsOk answer ⊎ IsErrAnd answer (λ e. cause e ≡ no_memory) → (status_of answer ≡ 0) ⊎ (status_of answer ≡ 3)
 status_complete (Ok done) h = inl refl
 status_complete (Err Memory) h = inr refl

@@ -21,7 +21,7 @@ refused_part k head part (errors.Malformed at) short why = (short, why)
 refused_part k head part (errors.Invalid leaf kind) short why = (short, why)
 refused_part k head part errors.Memory short why = short
 
--- want of memory
+-- running out of memory
 pub refused_memory : (k : Kept) (head : FrameHead) (part : List ℕ) (e : FrameError) → plan_bytes k.frames k.slots head part ≤ most_bytes → e ≡ errors.Memory →
     Refuses k head part e
 refused_memory k head part e short is = rw is short

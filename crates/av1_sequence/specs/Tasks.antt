@@ -41,8 +41,8 @@ Tells (Ok done) outcome = IsOk outcome
 Tells (Err e) outcome = ErrorTells (cause_of e) e outcome
 
 -- What an answer says of bytes that were read and of the sink: after Ok and after a refusal what the outcome writes was
--- appended, after a failed write a prefix of it, and after want of memory the planes of some first frames, each whole.
--- After a failed read the sink is as it was.
+-- appended, after a failed write a prefix of it, and after running out of memory the planes of some first frames, each
+-- whole. After a failed read the sink is as it was.
 abbrev pub ErrorAnswers : Cause → SequenceError → List ℕ → Option (List ℕ) → Option (List ℕ) → Type 0
 ErrorAnswers too_long e bytes taken taken' = (written : List ℕ) × HasOutcome bytes written (Err e) ×
     Appends taken taken' written
@@ -72,9 +72,9 @@ IsBeforeFrames errors.Memory = ⊥
 pub record PerformsInTurn {S K : Type 0} (left : S → Option (List ℕ)) (source_faults : S → ℕ)
     (taken : K → Option (List ℕ)) (sink_faults : K → ℕ) (source source' : S) (sink sink' : K)
     (answer : Answer) : Type 0 where
-  -- Ok, a refusal, a failed write and want of memory each say of the source's bytes and of the sink what they do.
+  -- Ok, a refusal, a failed write and running out of memory each say what became of the source's bytes and of the sink.
   pub answers : IfSome (left source) (λ bytes. Answers answer bytes (taken sink) (taken sink'))
-  -- A refusal exactly where it is the outcome, but for faults and want of memory.
+  -- A refusal exactly where it is the outcome, unless a read or a write failed or memory ran out.
   pub exactly : IfSome (left source) (λ bytes. (written : List ℕ) (outcome : Answer) →
       HasOutcome bytes written outcome → Tells answer outcome)
   -- A fault only where the count rose or stands at its last value.

@@ -8,8 +8,8 @@ use Rattle.av1_streams.specs.Streams.{AreBytes, Takes, TakesAtMost, AppendsPrefi
 
 -- ---- what a call is to do
 
--- what an error blames: a read that failed, a byte past the limit, the bytes themselves, a write that failed, or want
--- of memory
+-- what an error blames: a read that failed, a byte past the limit, the bytes themselves, a write that failed, or that
+-- memory ran out
 pub data Cause : Type 0 where
   read_failed : Cause
   too_long : Cause
@@ -91,7 +91,7 @@ Answers task (Err e) bytes taken taken' = ErrorAnswers task (task.cause e) e byt
 
 -- ---- what a call does
 
--- What a call does that reads bytes from a source to its end and writes of what they come to to a sink.
+-- What a call does that reads bytes from a source to its end and writes to a sink what they come to.
 pub record Performs {O A E S K : Type 0} (task : Task O A E) (left : S → Option (List ℕ)) (source_faults : S → ℕ)
     (taken : K → Option (List ℕ)) (sink_faults : K → ℕ)
     (source source' : S) (sink sink' : K) (answer : Result A E) : Type 0 where
@@ -99,8 +99,8 @@ pub record Performs {O A E S K : Type 0} (task : Task O A E) (left : S → Optio
   pub ok : OnOk answer
       (IfSome (left source)
       (λ bytes. ComeTo task bytes (λ outcome. Appends (taken sink) (taken sink') (task.written outcome))))
-  -- A refusal only where it is the outcome of the bytes, and exactly there but for faults and want of memory. After Ok
-  -- the answer says of the outcome what it is to say.
+  -- A refusal only where it is the outcome of the bytes, and exactly there unless a read or a write failed or memory
+  -- ran out. After Ok the answer says of the outcome what it is to say.
   pub refused : IfErr answer (λ e. IsRefusal (task.cause e) →
       IfSome (left source) (λ bytes. task.HasOutcome bytes (Err e)))
   pub exactly : IfSome (left source) (λ bytes. (outcome : Result O E) → task.HasOutcome bytes outcome →
@@ -173,6 +173,6 @@ pub record WritesBytes {A E K : Type 0} (cause : E → Cause) (taken : K → Opt
   -- After a failed write a prefix of them was, and the count rose or stands at its last value.
   pub prefix : IsErrAnd answer (λ e. cause e ≡ write_failed) → AppendsPrefix (taken sink) (taken sink') bytes
   pub write_fault : IsErrAnd answer (λ e. cause e ≡ write_failed) → FaultCounted (faults sink) (faults sink')
-  -- Every other error is want of memory, before the first written byte.
+  -- Every other error is running out of memory, before the first written byte.
   pub unwritten : IfErr answer (λ e. cause e ≢ write_failed → (cause e ≡ no_memory) × (sink' ≡ sink))
   pub later : faults sink ≤ faults sink'

@@ -6,7 +6,7 @@
 //! of standard input and output ([`ReadSource`], [`WriteSink`]) as of memory ([`SliceSource`], [`MemSink`]), whose
 //! calls fail on request. A [`Line`] is a line of text for such a sink, built without memory.
 //!
-//! It stands on std, and takes the answer for want of memory from `av1_blocks`.
+//! It stands on `av1_lists` for counts, and takes the answer for running out of memory from `av1_blocks`.
 //!
 //! Promised to the layer above: every call returns. Where a source or a sink tells its bytes, the
 //! clauses say which were taken from it and which stand on it after every answer, the failing ones

@@ -40,12 +40,14 @@ abbrev pub place : (ℕ → Option ℕ) → ℕ → ℕ → ℕ
 place sample first zero = unwrap_or (sample 0) first
 place sample first (suc i) = unwrap_or (sample (suc i)) (place sample first i)
 
--- what the first place above a block at column x holds where nothing is known there
+-- What the first place above a block at column x holds where nothing is known there, as in row 0: the sample to the
+-- left of the block, or half of the range less 1.
 abbrev pub first_above : PlaneExtent → Written → ℕ → ℕ
 first_above extent written zero = base extent.depth - 1
 first_above extent written (suc x) = sample_of (written x 0)
 
--- what the first place to the left of a block at row y holds where nothing is known there
+-- What the first place to the left of a block at row y holds where nothing is known there, as in column 0: the sample
+-- above the block, or half of the range plus 1.
 abbrev pub first_left : PlaneExtent → Written → ℕ → ℕ
 first_left extent written zero = base extent.depth + 1
 first_left extent written (suc y) = sample_of (written 0 y)
@@ -71,6 +73,7 @@ reach_left extent written mode step a i =
     if nat_lt i (a.height + where_needed (needs_below_left mode step) (min a.width a.height))
     then known_left extent written a.x (a.y + i) else None
 
+-- the side above, and the one to the left from the top down
 abbrev pub above_side : PlaneExtent → Written → PredictionMode → ℤ → VisibleArea → List ℕ
 above_side extent written mode step a =
     by_index (a.width + where_needed (needs_above_right mode step) a.height)

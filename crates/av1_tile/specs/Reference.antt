@@ -126,7 +126,7 @@ slow_in plan canvas component (add block triples n a) =
     drawn a (λ r c o. option_map (λ v. added plan.header.depth v (block_residue plan.header.depth block triples n r c))
     o) (canvas component)
 
--- what a step of the plan writes
+-- the canvas after a step of the plan
 unfoldable pub slow_step : PlanValue → Canvas → PlaneStep → Canvas
 slow_step plan canvas s = with_written s.component (slow_in plan canvas s.component s.step) canvas
 

@@ -49,6 +49,7 @@ block_steps block triples n (Some b) =
     if is_whole block.prediction then add block triples n (block_area block b) ∷ []
     else predict block n (block_area block b) ∷ add block triples n (block_area block b) ∷ []
 
+-- the same by its number
 unfoldable pub steps_at : Header → PlaneBlock → List Triple → ℕ → List Step
 steps_at h block triples n = block_steps block triples n (transform_block h block.plane block.area n)
 
@@ -56,7 +57,7 @@ steps_at h block triples n = block_steps block triples n (transform_block h bloc
 abbrev pub whole_steps : PlaneBlock → List Step
 whole_steps block = if is_whole block.prediction then predict block 0 (whole_area block) ∷ [] else []
 
--- the steps of a leaf's block: its transform blocks in raster order
+-- the steps of a leaf's block: its whole area where it is from references, then its transform blocks in raster order
 abbrev pub plane_steps : Header → PlaneBlock → List Triple → List Step
 plane_steps h block triples = whole_steps block ++ joined (block_count block.area) (steps_at h block triples)
 
@@ -65,6 +66,7 @@ pub record PlaneStep : Type 0 where
   pub component : Component
   pub step : Step
 
+-- steps that are all in one plane
 abbrev pub in_component : Component → List Step → List PlaneStep
 in_component component steps = map (λ (s : Step). record { component = component; step = s }) steps
 

@@ -38,7 +38,7 @@ impl<T: Pixel> WalkMemory<T> {
     ghost use Rattle.av1_tile.specs.Walk.{HasRoom, SameLayout, StoresAll};
 
     /// Takes the memory for frames with this header's sides, and for all that have no more cells of 4 by 4 luma
-    /// samples. No edge has been prepared in it yet. An error is want of memory.
+    /// samples. No edge has been prepared in it yet. An error is running out of memory.
     pub fn new(alloc: Global, header: &Header) -> Result<WalkMemory<T>, OutOfMemory>
         ensures room { IfOk result (λ m. HasRoomFor header.now m) }
         ensures edges { IfOk result (λ m. m.edges ≡ 0) }

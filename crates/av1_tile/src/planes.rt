@@ -36,7 +36,7 @@ fn pad_of(pad: usize, decimation: usize) -> usize
 /// A plane of zeros with the sides of plane `p` (0 for Y, 1 for U and 2 for V) of a frame, and on every side `pad`
 /// samples of luma besides: half as many samples in directions in which the plane is halved.
 ///
-/// Storage is that of whole superblocks. An error is want of memory.
+/// Storage is that of whole superblocks. An error is running out of memory.
 fn plane_of_frame<T: Pixel>(
     alloc: Global,
     header: &Header,
@@ -87,7 +87,7 @@ impl<T: Pixel> Planes<T> {
     ghost use Rattle.av1_tile.specs.Walk.{AreFilledWith, AreFrame, HasPads, HasRoom, plane_of, StoresAll};
 
     /// Planes of zeros for a frame, with room for whole superblocks, and on every side `pad` samples of luma besides,
-    /// in directions in which a plane is halved half as many. An error is want of memory.
+    /// in directions in which a plane is halved half as many. An error is running out of memory.
     pub fn new(alloc: Global, header: &Header, pad: usize) -> Result<Planes<T>, OutOfMemory>
         requires frame { IsReadFrame header.now }
         requires pad { pad ≤ 256 }

@@ -21,7 +21,7 @@ pub record IsFirstRefused (f : FileValue) (i : ℕ) (fault : TileFault) : Type 0
   pub before : (k : ℕ) → k < i → (plan : PlanValue) × IsTile f k plan
   pub refused : IsRefusedTile f i fault
 
--- why the tiles of a grid are refused; want of memory says nothing
+-- why the tiles of a grid are refused; running out of memory says nothing
 abbrev pub RefusesTiles : FileValue → TilesError → Type 0
 RefusesTiles f (Tile i fault) = IsFirstRefused f i fault
 RefusesTiles f Memory = ⊤

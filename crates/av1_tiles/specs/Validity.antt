@@ -22,7 +22,7 @@ IsRefusedTile f i (faults.Malformed at) = AreRefused (tile_plan f.front i) (part
 IsRefusedTile f i (faults.Invalid leaf kind) = (plan : PlanValue) × AreText (tile_plan f.front i) (part_of f i) plan ×
     (first_fault plan ≡ Some (record { leaf = leaf; kind = kind }))
 
--- the same of an answer; want of memory says nothing
+-- the same of an answer; running out of memory says nothing
 abbrev pub RefusesTile : FileValue → ℕ → TileError → Type 0
 RefusesTile f i (errors.Refused fault) = IsRefusedTile f i fault
 RefusesTile f i errors.Memory = ⊤

@@ -162,7 +162,7 @@ pub fn place_tile<T: Pixel>(
     place_in(&mut planes.v, header, area, 2, tile);
 }
 
-/// The picture that a valid plan comes to, reconstructed in this memory. An error is want of memory.
+/// The picture that a valid plan comes to, reconstructed in this memory. An error is running out of memory.
 pub fn reconstruct_alone<T: Pixel>(
     alloc: Global,
     plan: &Plan,

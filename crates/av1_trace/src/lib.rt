@@ -14,8 +14,8 @@
 //! Promised: the list is `differences` (`specs/Differences.antt`): nothing is left out and nothing else is in it. It is
 //! empty exactly where the bytes are those of the plan's planes. Bytes that are no trace are refused with the first
 //! field at fault (`specs/Traces.antt`). The outcome of bytes is one definition, `HasOutcome` (`specs/Checking.antt`),
-//! and what [`check_trace`] does is read off it by the record `Performs` of `av1_streams`. Want of memory is the one
-//! free answer, and comes before the first written byte.
+//! and what [`check_trace`] does is read off it by the record `Performs` of `av1_streams`. Running out of memory is the
+//! one free answer, and comes before the first written byte.
 #![tactic(auto)]
 
 mod answer;
