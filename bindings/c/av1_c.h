@@ -11,12 +11,25 @@
 #ifndef AV1_C_H
 #define AV1_C_H
 
+#if !defined(__x86_64__) || defined(__ILP32__) || !defined(__linux__)
+#error "the archive behind this header is code for Linux on x86-64, with pointers of 64 bits"
+#endif
+
 #include <stddef.h>
 #include <stdint.h>
 
 #ifdef __cplusplus
 extern "C" {
 #endif
+
+/* The version of this header. As long as major is 0, archives of one minor version go with its headers, and no others. */
+#define AV1_C_VERSION_MAJOR 0
+#define AV1_C_VERSION_MINOR 1
+#define AV1_C_VERSION_PATCH 0
+#define AV1_C_VERSION (AV1_C_VERSION_MAJOR * 65536u + AV1_C_VERSION_MINOR * 256u + AV1_C_VERSION_PATCH)
+
+/* The version of the archive that is linked, made up in the same way. */
+uint32_t av1_c_version(void);
 
 /* Statuses. */
 enum {
@@ -48,11 +61,11 @@ enum {
 /* Why a leaf is refused: `kind` of a refusal. */
 enum {
     AV1_INVALID_BLOCK_SIZE = 1, /* chroma of its size has no size of its own */
-    AV1_TRANSFORM = 2,          /* a transform is longer than the leaf, or of a type that its size does not have */
-    AV1_MODE = 3,               /* a mode, an angle step or an alpha that the leaf cannot have */
-    AV1_VECTOR = 4,             /* a motion vector out of range */
+    AV1_INVALID_TRANSFORM = 2,  /* a transform is longer than the leaf, or of a type that its size does not have */
+    AV1_INVALID_MODE = 3,       /* a mode, an angle step or an alpha that the leaf cannot have */
+    AV1_INVALID_VECTOR = 4,     /* a motion vector out of range */
     AV1_MISSING_REFERENCE = 5,  /* a reference to a slot without planes */
-    AV1_COEFFICIENT = 6         /* a coefficient out of order, out of its block or out of range */
+    AV1_INVALID_COEFFICIENT = 6 /* a coefficient out of order, out of its block or out of range */
 };
 
 /* What a plan is refused for. It is written by a call that answers AV1_MALFORMED or AV1_INVALID, and by no other. */

@@ -6,8 +6,9 @@ ghost use Rattle.av1_dct.specs.Word.{lane_of_vector};
 use crate::word::Word;
 use std::simd::prelude::*;
 
-/// Numbers side by side, the lanes, with the two steps that a cosine transform is made of: butterfly rotations and Hadamard rotations, in
-/// each lane. What a butterfly rotation gives may need more bits than a lane has; the Hadamard rotation behind it clamps.
+/// Numbers side by side, the lanes, with the two steps that a cosine transform is made of: butterfly rotations and
+/// Hadamard rotations, in each lane. What a butterfly rotation gives may need more bits than a lane has; the Hadamard
+/// rotation behind it clamps.
 pub trait Butterfly: Copy {
     /// What a butterfly rotation gives: as many lanes, which are wide enough for it.
     type Wide: Copy;

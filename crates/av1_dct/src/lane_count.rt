@@ -33,8 +33,8 @@ impl LaneCount {
     }
 }
 
-/// Eight inverse cosine transforms of `n` values at a time, one in each lane, as `cosine_words`: over `i32x8`, or over `i16x8` where the
-/// range is at most 16. It counts one group.
+/// Eight inverse cosine transforms of `n` values at a time, one in each lane, as `cosine_words`: over `i32x8`, or over
+/// `i16x8` where the range is at most 16. It counts one group.
 #[inline(always)]
 pub fn cosine_lanes<W: Butterfly>(
     count: &mut LaneCount,

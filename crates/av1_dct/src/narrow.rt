@@ -37,7 +37,8 @@ fn short_limits(range: usize) -> (i16, i16)
     (top as i16, low as i16)
 }
 
-// `clamp_value` in each lane. The first two steps and the cast are one operation, and at 16 bits the last two fall away.
+// `clamp_value` in each lane. The first two steps and the cast are one operation, and at 16 bits the last two fall
+// away.
 #[inline(always)]
 fn clamp_wide(v: i32x8, range: usize) -> i16x8
     requires { (8 ≤ range) × (range ≤ 16) }

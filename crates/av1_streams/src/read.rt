@@ -1,6 +1,7 @@
 //! The bytes of a source, read to their end.
 ghost use Rattle.std.specs.Prelude.{◌≡◌, ◌+◌, ◌<◌, ◌≤◌, ◌^◌, length, take, drop, IsErrOf, IfOk, IfSome, OnOk, OnErr, vec_len};
 ghost use Rattle.std.specs.Io.KnownBytes.{Consumes, Keeps, IsAtEnd};
+ghost use Rattle.av1_lists.specs.Counts.{counted};
 ghost use Rattle.av1_streams.specs.Faults.{HasCause, FaultCounted};
 ghost use Rattle.av1_streams.specs.Streams.{AreBytes, Takes, TakesAtMost, max_plan_bytes};
 ghost use Rattle.av1_streams.specs.declared.read.ReadError.TheVariants.{Memory};
@@ -46,15 +47,18 @@ pub fn read_plan_bytes<R: Source>(alloc: Global, source: &mut R) -> Result<Vec<u
     ensures too_long { IsErrOf result ReadError.TooLong → Takes (max_plan_bytes + 1) (R.left source.old) (R.left source.new) }
     ensures longer { IsErrOf result ReadError.TooLong → IfSome (R.left source.old) (λ left. max_plan_bytes < length left) }
 
-    // `ReadFault` comes only where a read failed.
+    // `ReadFault` comes exactly where a read failed: it counts this one, and every other answer leaves the count as it
+    // was.
     ensures read_fault { IsErrOf result ReadError.ReadFault → FaultCounted (R.faults source.old) (R.faults source.new) }
     ensures later { R.faults source.old ≤ R.faults source.new }
+    ensures counted { IsErrOf result ReadError.ReadFault → R.faults source.new ≡ counted (R.faults source.old) }
+    ensures uncounted { ¬ IsErrOf result ReadError.ReadFault → R.faults source.new ≡ R.faults source.old }
 {
     read_bytes(alloc, source, MAX_PLAN_BYTES)
 }
 
-/// All that the source has left, read to its end, at most `limit` bytes: from 64 KiB, which the first read asks for, to 1 TiB. Each read
-/// asks for as much as there is room for. The first that fails ends the call.
+/// All that the source has left, read to its end, at most `limit` bytes: from 64 KiB, which the first read asks for, to
+/// 1 TiB. Each read asks for as much as there is room for. The first that fails ends the call.
 pub fn read_bytes<R: Source>(
     alloc: Global,
     source: &mut R,
@@ -73,9 +77,12 @@ pub fn read_bytes<R: Source>(
     ensures too_long { IsErrOf result ReadError.TooLong → Takes (limit + 1) (R.left source.old) (R.left source.new) }
     ensures longer { IsErrOf result ReadError.TooLong → IfSome (R.left source.old) (λ left. limit < length left) }
 
-    // `ReadFault` comes only where a read failed.
+    // `ReadFault` comes exactly where a read failed: it counts this one, and every other answer leaves the count as it
+    // was.
     ensures read_fault { IsErrOf result ReadError.ReadFault → FaultCounted (R.faults source.old) (R.faults source.new) }
     ensures later { R.faults source.old ≤ R.faults source.new }
+    ensures counted { IsErrOf result ReadError.ReadFault → R.faults source.new ≡ counted (R.faults source.old) }
+    ensures uncounted { ¬ IsErrOf result ReadError.ReadFault → R.faults source.new ≡ R.faults source.old }
 {
     let mut bytes = Vec::new(alloc);
     let mut filled = 0;
@@ -121,6 +128,8 @@ fn read_at<R: Source>(source: &mut R, bytes: &mut [u8], filled: usize) -> Result
     ensures end { IfOk result (λ count. count ≡ 0 → IsAtEnd (R.left source.new)) }
     ensures err { OnErr result (Keeps (R.left source.old) (R.left source.new)) }
     ensures cause { HasCause (R.faults source.old) (R.faults source.new) result }
+    ensures uncounted { OnOk result (R.faults source.new ≡ R.faults source.old) }
+    ensures counted { OnErr result (R.faults source.new ≡ counted (R.faults source.old)) }
 {
     source.read(&mut bytes[filled..])
 }

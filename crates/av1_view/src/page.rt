@@ -34,7 +34,8 @@ pub enum Piece<'a> {
     Bytes(&'a [u8]),
 }
 
-/// Appends the page of these bytes to the sink. The first write that fails ends the call, and a prefix of the page stands.
+/// Appends the page of these bytes to the sink. The first write that fails ends the call, and a prefix of the page
+/// stands.
 #[tactic(auto, unfolding(crate::specs::Page::page))]
 pub fn write_page<W: Sink>(shown: Shown<'_>, sink: &mut W) -> Result<(), WriteFault>
     ensures whole { OnOk result (Appends (W.taken sink.old) (W.taken sink.new)

@@ -23,14 +23,15 @@ pub fn planes(alloc: Global, plan: &Plan) -> Result<Vec<u8>, OutOfMemory>
     ensures { IfOk result (λ bytes. bytes.items ≡ planes_of (plan_value plan.now)) }
 {
     let mut sink = Gathered::new(alloc);
-    // What is gathered in memory fails only for want of it.
+    // What is gathered in memory fails only where memory runs out.
     match reconstruct_valid(alloc, plan, &mut sink) {
         Ok(()) => Ok(sink.into_bytes()),
         Err(_) => Err(OutOfMemory),
     }
 }
 
-/// The bytes of the visible planes of the frame without coefficients: of a valid plan of which all coefficients are left out.
+/// The bytes of the visible planes of the frame without coefficients: of a valid plan of which all coefficients are
+/// left out.
 ///
 /// # Errors
 ///

@@ -17,13 +17,13 @@ use av1_planwrite::write_plan;
 use av1_recon::{ReconError, Sink, Source, read_plan};
 use std::alloc::Global;
 
-/// Reads a plan from the source to its end, and appends a page to the sink that shows it: the constant parts of the page, and between them in
-/// base64 the plan's bytes, its visible planes, and those of the frame without coefficients.
+/// Reads a plan from the source to its end, and appends a page to the sink that shows it: the constant parts of the
+/// page, and between them in base64 the plan's bytes, its visible planes, and those of the frame without coefficients.
 ///
 /// # Errors
 ///
-/// As for [`av1_recon::reconstruct_plan`]: `ReadFault` and `TooLong` while it reads, then `Malformed`, then `Invalid`, then
-/// `WriteFault`. `Memory` may stand in place of any of them, before the first written byte.
+/// As for [`av1_recon::reconstruct_plan`]: `ReadFault` and `TooLong` while it reads, then `Malformed`, then `Invalid`,
+/// then `WriteFault`. `Memory` may stand in place of any of them, before the first written byte.
 pub fn view_plan<R: Source, W: Sink>(
     alloc: Global,
     source: &mut R,

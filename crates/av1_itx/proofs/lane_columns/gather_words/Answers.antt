@@ -12,7 +12,8 @@ loop-r-preserved g c = λ i h.
     let r = c.loop-r.r in
     let e : r * c.args.w + c.args.c + i ≡ r * c.args.w + (c.args.c + i) = omega arith in
     column_fill g.W.Butterfly.lane_of i (λ q. at old (q * c.args.w + (c.args.c + i))) c.loop-r.line r _ (omega arith) (c.loop-r.invariant i h)
-    (c.read_clamped.ensures i h ∙ ap (λ p. clamp_value (at old p) g.W.Butterfly.bits) e ∙ clamped_same g.W.Butterfly.bits _ (c.requires.fit r i (omega arith) h))
+    (c.read_clamped.ensures i h ∙ ap (λ p. clamp_value (at old p) g.W.Butterfly.bits) e
+    ∙ clamped_same g.W.Butterfly.bits _ (c.requires.fit r i (omega arith) h))
 
 pub returns : goal.returns
 returns g c = λ i h. fill_by_all _ _ _ (pos 0) (length-map c.loop-r.line _ ∙ c.loop-r.auto.line) (λ q lt. c.loop-r.invariant i h q (omega arith))

@@ -6,6 +6,7 @@ use Rattle.av1_sequence.proofs.reconstruct.show_frames.Given as goal
 
 abbrev pub invariant-loop-index : goal.invariant-loop-index
 invariant-loop-index g l = record {
-  shown : (written : List ℕ) × Lead (beginning (file_value l.file)) (take l.index (file_value l.file).parts) written l.sequence × Appends (g.W.Sink.taken l.initial.sink) (g.W.Sink.taken l.sink) written;
+  shown : (written : List ℕ) × Lead (beginning (file_value l.file)) (take l.index (file_value l.file).parts) written l.sequence ×
+      Appends (g.W.Sink.taken l.initial.sink) (g.W.Sink.taken l.sink) written;
   later : g.W.Sink.faults l.initial.sink ≤ g.W.Sink.faults l.sink;
 }

@@ -12,7 +12,8 @@ pieces-init g c = record {
 
 pub returns-in_err-write_bytes-clause-prefix : goal.returns-in_err-write_bytes-clause-prefix
 returns-in_err-write_bytes-clause-prefix g c =
-    AppendsPrefix-piece c.args.bytes.now _ _ _ _ c.pieces.at _ c.min-count.result (omega arith) (c.pieces.invariant.groups c.pieces-test.true) c.pieces.invariant.within c.min-count.ensures c.pieces.invariant.so_far
+    AppendsPrefix-piece c.args.bytes.now _ _ _ _ c.pieces.at _ c.min-count.result (omega arith)
+    (c.pieces.invariant.groups c.pieces-test.true) c.pieces.invariant.within c.min-count.ensures c.pieces.invariant.so_far
     (c.as_bytes.ensures ∙ c.encode.ensures) c.write_bytes.ensures.prefix
 
 pub pieces-preserved : goal.pieces-preserved
@@ -21,6 +22,8 @@ pieces-preserved g c =
     record {
       within = omega (arith, c.min-count.ensures, c.pieces.invariant.within);
       groups = λ more. omega (arith, c.min-count.ensures, whole, more);
-      so_far = Appends-piece c.args.bytes.now _ _ _ _ c.pieces.at _ c.min-count.result (omega arith) whole c.pieces.invariant.within c.pieces.invariant.so_far (c.as_bytes.ensures ∙ c.encode.ensures) c.in_ok-write_bytes.ensures.whole;
+      so_far =
+          Appends-piece c.args.bytes.now _ _ _ _ c.pieces.at _ c.min-count.result (omega arith) whole c.pieces.invariant.within c.pieces.invariant.so_far
+          (c.as_bytes.ensures ∙ c.encode.ensures) c.in_ok-write_bytes.ensures.whole;
       later = omega (arith, c.in_ok-write_bytes.ensures.cause.later);
     }

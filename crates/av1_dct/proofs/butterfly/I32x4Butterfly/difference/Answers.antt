@@ -16,7 +16,8 @@ returns c = λ i h.
     let x : Bits 4 (map (of_z w32) c.args.x) = record { count = omega (arith, length-map c.args.x (of_z w32)); fit = search rules } in
     let y : Bits 4 (map (of_z w32) c.args.y) = record { count = omega (arith, length-map c.args.y (of_z w32)); fit = search rules } in
     let t : Bits 4 (map (of_z w32) c.minus-total.result) = record { count = omega (arith, length-map c.minus-total.result (of_z w32)); fit = search rules } in
-    let r : Bits 4 (map (of_z w32) c.clamp_to-clamped.result) = record { count = omega (arith, length-map c.clamp_to-clamped.result (of_z w32)); fit = search rules } in
+    let r : Bits 4 (map (of_z w32) c.clamp_to-clamped.result) =
+    record { count = omega (arith, length-map c.clamp_to-clamped.result (of_z w32)); fit = search rules } in
     let clamp = λ (z : ℤ). clamp_value z c.args.range in
     restored 4 (λ v w. clamp (v -ℤ w)) c.args.x c.args.y c.clamp_to-clamped.result i h x y r
     (c.clamp_to-clamped.ensures i h ∙ ap clamp (stored 4 c.minus-total.result i h t ∙ c.minus-total.ensures i h))

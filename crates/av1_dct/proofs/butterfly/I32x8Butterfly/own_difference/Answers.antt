@@ -16,7 +16,8 @@ returns c = λ i h.
     let a : Bits 8 (map (of_z w32) c.args.self) = record { count = omega (arith, length-map c.args.self (of_z w32)); fit = search rules } in
     let b : Bits 8 (map (of_z w32) c.args.o) = record { count = omega (arith, length-map c.args.o (of_z w32)); fit = search rules } in
     let t : Bits 8 (map (of_z w32) c.minus-total.result) = record { count = omega (arith, length-map c.minus-total.result (of_z w32)); fit = search rules } in
-    let r : Bits 8 (map (of_z w32) c.clamp_to-clamped.result) = record { count = omega (arith, length-map c.clamp_to-clamped.result (of_z w32)); fit = search rules } in
+    let r : Bits 8 (map (of_z w32) c.clamp_to-clamped.result) =
+    record { count = omega (arith, length-map c.clamp_to-clamped.result (of_z w32)); fit = search rules } in
     let clamp = λ (z : ℤ). clamp_value z c.args.range in
     restored 8 (λ v w. clamp (v -ℤ w)) c.args.self c.args.o c.clamp_to-clamped.result i h a b r
     (c.clamp_to-clamped.ensures i h ∙ ap clamp (stored 8 c.minus-total.result i h t ∙ c.minus-total.ensures i h))
