@@ -137,7 +137,7 @@ def look_at_schemes(browser, checks):
 
 def look_at_scale(browser, checks):
     """With two of the device's pixels in one, marks keep their size and get finer."""
-    script = "view.setLocked(true), view.moveTo(8, 8), view.fit({ x: 0, y: 0, width: 128, height: 96 }, 1)"
+    script = "view.marks.clear(), view.setLocked(true), view.moveTo(8, 8), view.fit({ x: 0, y: 0, width: 128, height: 96 }, 1)"
     browser.value(script)
     drawn(browser)
     one = browser.json("[view.state.zoom, Math.max(...[...view.marks.values()].map((m) => m.height))]")
@@ -149,7 +149,7 @@ def look_at_scale(browser, checks):
     checks.same("a mark has twice the pixels", two[1], 2 * one[1])
     ratios = browser.json("((c) => [c.width / c.clientWidth, c.height / c.clientHeight])(document.getElementById('picture'))")
     checks.same("the picture has them", ratios, [2, 2])
-    x, y = place_in_window(browser, 63.5, 20)
+    x, y = place_in_window(browser, 63.5, 72)
     row = pixels(browser, [[x + i / 2, y] for i in range(-8, 8)])
     checks.same("a line of two pixels has four", sum(r > 200 and g > 200 and b < 120 for r, g, b in row), 4)
     browser.window(1100, 700)

@@ -69,7 +69,20 @@ function drawBoxes(context, crowded, width, fill, boxes) {
   return true;
 }
 
+// The picture takes the window's size and the device's scale.
+function takeSize() {
+  const scale = window.devicePixelRatio || 1;
+  if (scale !== state.scale) marks.clear();
+  state.scale = scale;
+  state.width = Math.max(canvas.clientWidth, 1);
+  state.height = Math.max(canvas.clientHeight, 1);
+  const sides = [Math.round(state.width * scale), Math.round(state.height * scale)];
+  if (canvas.width === sides[0] && canvas.height === sides[1]) return;
+  [canvas.width, canvas.height] = sides;
+}
+
 function draw() {
+  takeSize();
   const context = canvas.getContext('2d');
   const part = visiblePart();
   context.setTransform(state.scale, 0, 0, state.scale, 0, 0);

@@ -11,29 +11,15 @@ function listen() {
   element('search').addEventListener('keydown', (event) => { if (event.key === 'Enter' && foundCount() > 0) moveToLeaf(foundAt(0)); });
   element('list').addEventListener('scroll', showList);
   element('list').addEventListener('click', (event) => { if (event.target.dataset.leaf) moveToLeaf(Number(event.target.dataset.leaf)); });
-  new ResizeObserver(resize).observe(canvas);
+  new ResizeObserver(draw).observe(canvas);
   watchScale();
   window.matchMedia('(prefers-color-scheme: light)').addEventListener('change', takeScheme);
-}
-
-// The picture takes the window's size and the device's scale.
-function resize() {
-  const scale = window.devicePixelRatio || 1;
-  if (scale !== state.scale) marks.clear();
-  const fresh = state.width === 1;
-  state.scale = scale;
-  state.width = Math.max(canvas.clientWidth, 1);
-  state.height = Math.max(canvas.clientHeight, 1);
-  canvas.width = Math.round(state.width * scale);
-  canvas.height = Math.round(state.height * scale);
-  if (fresh) fitFrame();
-  draw();
 }
 
 // The device's scale changes where the window moves to another screen, or is zoomed.
 function watchScale() {
   const scale = window.matchMedia('(resolution: ' + window.devicePixelRatio + 'dppx)');
-  scale.addEventListener('change', () => { resize(); watchScale(); }, { once: true });
+  scale.addEventListener('change', () => { draw(); watchScale(); }, { once: true });
 }
 
 // The ground of the picture is that of the page, light or dark.
@@ -46,8 +32,9 @@ function start() {
   addSwitches();
   showFrame();
   takeScheme();
+  takeSize();
+  fitFrame();
   repaint();
-  resize();
   showPlace();
   showClasses();
   followCursor();

@@ -1286,7 +1286,20 @@ function drawBoxes(context, crowded, width, fill, boxes) {
   return true;
 }
 
+// The picture takes the window's size and the device's scale.
+function takeSize() {
+  const scale = window.devicePixelRatio || 1;
+  if (scale !== state.scale) marks.clear();
+  state.scale = scale;
+  state.width = Math.max(canvas.clientWidth, 1);
+  state.height = Math.max(canvas.clientHeight, 1);
+  const sides = [Math.round(state.width * scale), Math.round(state.height * scale)];
+  if (canvas.width === sides[0] && canvas.height === sides[1]) return;
+  [canvas.width, canvas.height] = sides;
+}
+
 function draw() {
+  takeSize();
   const context = canvas.getContext('2d');
   const part = visiblePart();
   context.setTransform(state.scale, 0, 0, state.scale, 0, 0);
@@ -1786,29 +1799,15 @@ function listen() {
   element('search').addEventListener('keydown', (event) => { if (event.key === 'Enter' && foundCount() > 0) moveToLeaf(foundAt(0)); });
   element('list').addEventListener('scroll', showList);
   element('list').addEventListener('click', (event) => { if (event.target.dataset.leaf) moveToLeaf(Number(event.target.dataset.leaf)); });
-  new ResizeObserver(resize).observe(canvas);
+  new ResizeObserver(draw).observe(canvas);
   watchScale();
   window.matchMedia('(prefers-color-scheme: light)').addEventListener('change', takeScheme);
-}
-
-// The picture takes the window's size and the device's scale.
-function resize() {
-  const scale = window.devicePixelRatio || 1;
-  if (scale !== state.scale) marks.clear();
-  const fresh = state.width === 1;
-  state.scale = scale;
-  state.width = Math.max(canvas.clientWidth, 1);
-  state.height = Math.max(canvas.clientHeight, 1);
-  canvas.width = Math.round(state.width * scale);
-  canvas.height = Math.round(state.height * scale);
-  if (fresh) fitFrame();
-  draw();
 }
 
 // The device's scale changes where the window moves to another screen, or is zoomed.
 function watchScale() {
   const scale = window.matchMedia('(resolution: ' + window.devicePixelRatio + 'dppx)');
-  scale.addEventListener('change', () => { resize(); watchScale(); }, { once: true });
+  scale.addEventListener('change', () => { draw(); watchScale(); }, { once: true });
 }
 
 // The ground of the picture is that of the page, light or dark.
@@ -1821,8 +1820,9 @@ function start() {
   addSwitches();
   showFrame();
   takeScheme();
+  takeSize();
+  fitFrame();
   repaint();
-  resize();
   showPlace();
   showClasses();
   followCursor();
