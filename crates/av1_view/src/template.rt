@@ -283,9 +283,10 @@ function areaOf(frame, leaf, p) {
   return { x, y, width, height, wide: Math.min(width, 32), high: Math.min(height, 32) };
 }
 
-// The luma samples of a leaf that lie in the frame.
-function visibleArea(frame, leaf) {
-  return (Math.min(leaf.x + leaf.width, frame.width) - leaf.x) * (Math.min(leaf.y + leaf.height, frame.height) - leaf.y);
+// The part of a leaf that lies in the frame.
+function visibleBox(frame, leaf) {
+  const { x, y } = leaf;
+  return { x, y, width: Math.min(leaf.width, frame.width - x), height: Math.min(leaf.height, frame.height - y) };
 }
 
 // The coefficients of a leaf in a plane: block, place and value, and what the place is.
@@ -612,7 +613,8 @@ function classesOf(frame, leaves, property) {
     if (!found.has(number)) found.set(number, { number, name: property.nameOf(number), colour: property.colourOf(number), count: 0, area: 0 });
     const one = found.get(number);
     one.count++;
-    one.area += visibleArea(frame, leaf);
+    const box = visibleBox(frame, leaf);
+    one.area += box.width * box.height;
   }
   return [...found.values()].sort((a, b) => a.number - b.number);
 }
@@ -706,7 +708,8 @@ const differences = given ? differencesOf(plan, planes, given) : NO_DIFFERENCES;
 const departures = departuresOf(plan);
 
 // Layers that have something to show in this page.
-const HAS_LAYER = { differences: given !== null, departures: departures.size > 0, source: frame.mask !== 0 };
+const hasVectors = leaves.some((leaf) => leaf.motions);
+const HAS_LAYER = { vectors: hasVectors, source: hasVectors, differences: given !== null, departures: departures.size > 0 };
 const LAYERS_HERE = LAYERS.filter((layer) => HAS_LAYER[layer.id] !== false);
 const layers = Object.fromEntries(LAYERS.map((layer) => [layer.id, layer.on && HAS_LAYER[layer.id] !== false]));
 
@@ -918,8 +921,9 @@ function drawModes(context, seen, id, modeOf, place) {
   for (const leaf of seen) {
     const m = modeOf(leaf);
     if (!m) continue;
-    const width = leaf.width * state.zoom;
-    const height = leaf.height * state.zoom;
+    const box = visibleBox(frame, leaf);
+    const width = box.width * state.zoom;
+    const height = box.height * state.zoom;
     const x = across(leaf.x) + width / 2;
     const y = down(leaf.y) + height * place;
     const size = Math.min(13, 1.5 * width / m.text.length, height / 2);
@@ -980,12 +984,13 @@ function drawVectors(context, seen) {
   }
   let room = roomy.length === inter.length;
   for (const leaf of roomy) {
-    const size = Math.min(13, leaf.width * state.zoom / 9);
+    const box = visibleBox(frame, leaf);
+    const size = Math.min(13, box.width * state.zoom / 9);
     if (size < 6) { room = false; continue; }
-    const x = across(leaf.x + leaf.width / 2);
+    const x = across(box.x + box.width / 2);
     const name = MODES[leaf.mode];
-    textAt(context, name, x, down(leaf.y) + size, Math.min(size, 1.5 * leaf.width * state.zoom / name.length), colour);
-    textAt(context, motionsShown(leaf).map((m) => REFERENCES[m.reference]).join(' '), x, down(leaf.y + leaf.height) - size, size, colour);
+    textAt(context, name, x, down(box.y) + size, Math.min(size, 1.5 * box.width * state.zoom / name.length), colour);
+    textAt(context, motionsShown(leaf).map((m) => REFERENCES[m.reference]).join(' '), x, down(box.y + box.height) - size, size, colour);
   }
   return room;
 }
@@ -1133,7 +1138,7 @@ function heatOfLeaves() {
   const share = (greatest) => Math.log2(1 + greatest) / Math.log2(1 + differences.most);
   return cellImage('heat', '', (l) => {
     const greatest = differences.greatest[l.number];
-    return greatest ? pixelOf([255, 90, 0], 40 + Math.round(180 * share(greatest))) : 0;
+    return greatest ? pixelOf([255, 90, 0], 40 + Math.round(120 * share(greatest))) : 0;
   });
 }
 
