@@ -37,8 +37,8 @@ SPEC = importlib.util.spec_from_file_location("view_template", os.path.join(HERE
 TEMPLATE = importlib.util.module_from_spec(SPEC)
 SPEC.loader.exec_module(TEMPLATE)
 
-# The longest time that a frame may take, in milliseconds, and a page to open, in seconds, on a machine with other work.
-MOST_FRAME = 100
+# How long all processors may work for a frame together, in milliseconds, and a page take to open, in seconds, on a machine with other work.
+MOST_FRAME = 60
 MOST_OPENING = 15
 
 
