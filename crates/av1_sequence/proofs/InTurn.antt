@@ -14,7 +14,7 @@ use Rattle.av1_streams.specs.declared.read.ReadError.{ReadError}
 use Rattle.av1_streams.specs.declared.read.ReadError.TheVariants as read_errors
 use Rattle.av1_streams.proofs.Performing.{any, is_err}
 use Rattle.av1_streams.proofs.Prefixes.{AppendsPrefix-first}
-use Rattle.av1_streams.proofs.Reading.{AreReadWhole}
+use Rattle.av1_streams.proofs.Reading.{AreReadWhole, read_err}
 use Rattle.av1_sequence.specs.declared.error.SequenceError.{SequenceError}
 use Rattle.av1_sequence.specs.declared.error.SequenceError.TheVariants as errors
 use Rattle.av1_sequence.specs.Errors.{file_error, read_error}
@@ -99,22 +99,25 @@ module _ {S K : Type 0} (left : S → Option (List ℕ)) (source_faults : S → 
       Answers answer bytes (taken sink) (taken sink')
       → IfErr answer (λ e. (cause_of e ≢ read_failed) × (cause_of e ≢ too_long)) →
       (IsErrAnd answer (λ e. cause_of e ≡ write_failed) → FaultCounted (sink_faults sink) (sink_faults sink'))
+      → (¬ IsErrAnd answer (λ e. cause_of e ≡ write_failed) → sink_faults sink' ≡ sink_faults sink)
       → (IsErrAnd answer IsBeforeFrames → sink' ≡ sink) → sink_faults sink ≤ sink_faults sink' →
       PerformsInTurn left source_faults taken sink_faults source source' sink sink' answer
-  answered source source' sink sink' bytes answer whole given read counted unwritten later =
-      let all : (P : List ℕ → Type 0) → P bytes → IfSome (left source) P = λ P p. Consumes-whole (left source) (left source') bytes P whole.consumed whole.end p
-      in
+  answered source source' sink sink' bytes answer whole given read counted uncounted unwritten later =
+      let all : (P : List ℕ → Type 0) → P bytes → IfSome (left source) P =
+      λ P p. Consumes-whole (left source) (left source') bytes P whole.consumed whole.end p in
       let told = tells answer bytes (taken sink) (taken sink') given in
       record {
         answers = all (λ b. Answers answer b (taken sink) (taken sink')) given;
         exactly = all (λ b. (written : List ℕ) (outcome : Answer) → HasOutcome b written outcome → Tells answer outcome) told;
         read_fault = no_read_fault answer read;
         write_fault = counted;
+        source_uncounted = λ other. whole.uncounted;
+        sink_uncounted = uncounted;
         unwritten = unwritten;
         taken_at_most = (bytes, whole.fits, omega (arith, whole.short), whole.consumed);
         leaves = leaves_end answer (left source) (left source') read whole.end;
         read = (bytes, whole.fits, omega (arith, whole.short), whole.consumed, given);
-        source_later = whole.later;
+        source_later = omega (arith, whole.uncounted);
         sink_later = later;
         complete =
             λ no_read no_write. all (λ b. (written : List ℕ) (done : Unit {0}) → HasOutcome b written (Ok done) →
@@ -125,12 +128,12 @@ module _ {S K : Type 0} (left : S → Option (List ℕ)) (source_faults : S → 
   -- the frames were shown, up to one that was not
   pub shows : (source source' : S) (sink sink' : K) (bytes : List ℕ) (f : FileValue) (answer : Answer) →
       AreReadWhole max_plan_bytes left source_faults source source' bytes → AreFile bytes f
-      → Shows f answer (taken sink) (taken sink') → (IsErrAnd answer (λ e. cause_of e ≡ write_failed) → FaultCounted (sink_faults sink) (sink_faults sink')) →
-      sink_faults sink ≤ sink_faults sink'
+      → Shows f answer (taken sink) (taken sink') → (IsErrAnd answer (λ e. cause_of e ≡ write_failed) → FaultCounted (sink_faults sink) (sink_faults sink'))
+      → (¬ IsErrAnd answer (λ e. cause_of e ≡ write_failed) → sink_faults sink' ≡ sink_faults sink) → sink_faults sink ≤ sink_faults sink'
       → PerformsInTurn left source_faults taken sink_faults source source' sink sink' answer
-  shows source source' sink sink' bytes f answer whole is shown counted later =
+  shows source source' sink sink' bytes f answer whole is shown counted uncounted later =
       answered source source' sink sink' bytes answer whole (answers_of bytes f is answer (taken sink) (taken sink') shown)
-      (no_read f answer (taken sink) (taken sink') shown) counted
+      (no_read f answer (taken sink) (taken sink') shown) counted uncounted
       (in_frames f answer (taken sink) (taken sink') shown) later
 
   -- the bytes are no sequence
@@ -139,10 +142,10 @@ module _ {S K : Type 0} (left : S → Option (List ℕ)) (source_faults : S → 
       → PerformsInTurn left source_faults taken sink_faults source source' sink sink (Err (file_error e))
   not_file_as source source' sink bytes (plan_errors.Malformed at) whole fails =
       answered source source' sink sink bytes (Err (errors.Malformed at)) whole ([], (whole.short, fails, refl), Appends-nil (taken sink))
-      (λ h. absurd cc, λ h. absurd cc) (λ h. absurd cc) (λ h. refl) (omega arith)
+      (λ h. absurd cc, λ h. absurd cc) (λ h. absurd cc) (λ other. refl) (λ h. refl) (omega arith)
   not_file_as source source' sink bytes plan_errors.Memory whole fails =
       answered source source' sink sink bytes (Err errors.Memory) whole ([], inl refl, Appends-nil (taken sink)) (λ h. absurd cc, λ h. absurd cc)
-      (λ h. absurd cc) (λ h. refl) (omega arith)
+      (λ h. absurd cc) (λ other. refl) (λ h. refl) (omega arith)
 
   pub not_file : (source source' : S) (sink : K) (bytes : List ℕ) (answer : Answer) (e : PlanError) → IsErrAnd answer (λ d. d ≡ file_error e) →
       AreReadWhole max_plan_bytes left source_faults source source' bytes
@@ -154,15 +157,18 @@ module _ {S K : Type 0} (left : S → Option (List ℕ)) (source_faults : S → 
   -- the bytes were not read
   unread_as : (source source' : S) (sink : K) (e : ReadError) → TakesAtMost (max_plan_bytes + 1) (left source) (left source') →
       source_faults source ≤ source_faults source'
-      → (e ≡ read_errors.ReadFault → FaultCounted (source_faults source) (source_faults source')) →
+      → (e ≡ read_errors.ReadFault → FaultCounted (source_faults source) (source_faults source'))
+      → (¬ (read_err e ≡ read_err read_errors.ReadFault) → source_faults source' ≡ source_faults source) →
       (e ≡ read_errors.TooLong → Takes (max_plan_bytes + 1) (left source) (left source'))
       → (e ≡ read_errors.TooLong → IfSome (left source) (λ told. max_plan_bytes < length told)) →
       PerformsInTurn left source_faults taken sink_faults source source' sink sink (Err (read_error e))
-  unread_as source source' sink read_errors.ReadFault (bytes, fits, short, consumed) later counted takes longer = record {
+  unread_as source source' sink read_errors.ReadFault (bytes, fits, short, consumed) later counted uncounted takes longer = record {
     answers = any (left source) (λ b. ⊤) (λ b. tt);
     exactly = any (left source) (λ b. (written : List ℕ) (outcome : Answer) → HasOutcome b written outcome → ⊤) (λ b written outcome q. tt);
     read_fault = λ h. counted refl;
     write_fault = λ h. absurd cc;
+    source_uncounted = λ other. absurd (other refl);
+    sink_uncounted = λ other. refl;
     unwritten = λ h. refl;
     taken_at_most = (bytes, fits, short, consumed);
     leaves = tt;
@@ -171,11 +177,13 @@ module _ {S K : Type 0} (left : S → Option (List ℕ)) (source_faults : S → 
     sink_later = omega arith;
     complete = λ no_read no_write. absurd (no_read (counted refl));
   }
-  unread_as source source' sink read_errors.Memory (bytes, fits, short, consumed) later counted takes longer = record {
+  unread_as source source' sink read_errors.Memory (bytes, fits, short, consumed) later counted uncounted takes longer = record {
     answers = any (left source) (λ b. Answers (Err errors.Memory) b (taken sink) (taken sink)) (λ b. ([], inl refl, Appends-nil (taken sink)));
     exactly = any (left source) (λ b. (written : List ℕ) (outcome : Answer) → HasOutcome b written outcome → ⊤) (λ b written outcome q. tt);
     read_fault = λ h. absurd cc;
     write_fault = λ h. absurd cc;
+    source_uncounted = λ other. uncounted (λ h. absurd cc);
+    sink_uncounted = λ other. refl;
     unwritten = λ h. refl;
     taken_at_most = (bytes, fits, short, consumed);
     leaves = tt;
@@ -186,7 +194,7 @@ module _ {S K : Type 0} (left : S → Option (List ℕ)) (source_faults : S → 
         λ no_read no_write. any (left source) (λ b. (written : List ℕ) (done : Unit {0}) → HasOutcome b written (Ok done) →
         IsOk (error_answer errors.Memory) ⊎ IsErrAnd (error_answer errors.Memory) (λ e. cause_of e ≡ no_memory)) (λ b written done q. inr refl);
   }
-  unread_as source source' sink read_errors.TooLong most later counted takes longer =
+  unread_as source source' sink read_errors.TooLong most later counted uncounted takes longer =
       let (bytes, fits, long, consumed) = takes refl in
       let over : max_plan_bytes < length bytes = omega (arith, long) in
       let exact : IfSome (left source) (λ b. (written : List ℕ) (outcome : Answer) → HasOutcome b written outcome → outcome ≡ Err errors.TooLong) =
@@ -196,6 +204,8 @@ module _ {S K : Type 0} (left : S → Option (List ℕ)) (source_faults : S → 
         exactly = exact;
         read_fault = λ h. absurd cc;
         write_fault = λ h. absurd cc;
+        source_uncounted = λ other. uncounted (λ h. absurd cc);
+        sink_uncounted = λ other. refl;
         unwritten = λ h. refl;
         taken_at_most = (bytes, fits, omega (arith, long), consumed);
         leaves = takes refl;
@@ -208,10 +218,11 @@ module _ {S K : Type 0} (left : S → Option (List ℕ)) (source_faults : S → 
 
   pub unread : (source source' : S) (sink : K) (answer : Answer) (e : ReadError) → IsErrAnd answer (λ d. d ≡ read_error e) →
       TakesAtMost (max_plan_bytes + 1) (left source) (left source') → source_faults source ≤ source_faults source'
-      → (e ≡ read_errors.ReadFault → FaultCounted (source_faults source) (source_faults source')) →
+      → (e ≡ read_errors.ReadFault → FaultCounted (source_faults source) (source_faults source'))
+      → (¬ (read_err e ≡ read_err read_errors.ReadFault) → source_faults source' ≡ source_faults source) →
       (e ≡ read_errors.TooLong → Takes (max_plan_bytes + 1) (left source) (left source'))
       → (e ≡ read_errors.TooLong → IfSome (left source) (λ told. max_plan_bytes < length told)) →
       PerformsInTurn left source_faults taken sink_faults source source' sink sink answer
-  unread source source' sink answer e is most later counted takes longer =
+  unread source source' sink answer e is most later counted uncounted takes longer =
       subst (PerformsInTurn left source_faults taken sink_faults source source' sink sink) (sym (is_err answer (read_error e) is))
-      (unread_as source source' sink e most later counted takes longer)
+      (unread_as source source' sink e most later counted uncounted takes longer)

@@ -102,6 +102,12 @@ no_write {X} index error e is h = blames error (sym (ap cause_of is) ∙ h)
     blames (frame_errors.Invalid leaf kind) clash = absurd cc
     blames frame_errors.Memory clash = absurd cc
 
+-- an answer blames what its error does
+pub blamed_by : (answer : Answer) (e : SequenceError) → IsErrAnd answer (λ d. d ≡ e) → cause_of e ≡ write_failed →
+    IsErrAnd answer (λ d. cause_of d ≡ write_failed)
+blamed_by (Ok d) e is h = absurd is
+blamed_by (Err d) e is h = ap cause_of is ∙ h
+
 -- it was accepted, and couldn't be written
 pub unwritten_frame : (k k' : Kept) (index : ℕ) (f : FrameValue) (plan : PlanValue) (answer : Answer) (a b : Option (List ℕ)) →
     IsErrAnd answer (λ e. e ≡ errors.WriteFault) → IsValidFrame k f.head f.part plan → k' ≡ accepted k f.head plan

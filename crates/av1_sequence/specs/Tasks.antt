@@ -77,11 +77,14 @@ pub record PerformsInTurn {S K : Type 0} (left : S → Option (List ℕ)) (sourc
   -- A refusal exactly where it is the outcome, unless a read or a write failed or memory ran out.
   pub exactly : IfSome (left source) (λ bytes. (written : List ℕ) (outcome : Answer) →
       HasOutcome bytes written outcome → Tells answer outcome)
-  -- A fault only where the count rose or stands at its last value.
+  -- A fault only where the source or the sink counted one, and no other answer where one did.
   pub read_fault : IsErrAnd answer (λ e. cause_of e ≡ read_failed) →
       FaultCounted (source_faults source) (source_faults source')
   pub write_fault : IsErrAnd answer (λ e. cause_of e ≡ write_failed) →
       FaultCounted (sink_faults sink) (sink_faults sink')
+  pub source_uncounted : ¬ IsErrAnd answer (λ e. cause_of e ≡ read_failed) →
+      source_faults source' ≡ source_faults source
+  pub sink_uncounted : ¬ IsErrAnd answer (λ e. cause_of e ≡ write_failed) → sink_faults sink' ≡ sink_faults sink
   -- A failed read, too many bytes and a malformed sequence come before anything is written.
   pub unwritten : IsErrAnd answer IsBeforeFrames → sink' ≡ sink
   -- At most a byte past the limit is taken, and what is left is a suffix of what there was.

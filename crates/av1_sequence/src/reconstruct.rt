@@ -46,6 +46,7 @@ fn show_frames<W: Sink>(
     requires file { IsReadFile file.now }
     ensures shows { Shows (file_value file.now) result (W.taken sink.old) (W.taken sink.new) }
     ensures write_fault { IsErrAnd result (λ e. cause_of e ≡ write_failed) → FaultCounted (W.faults sink.old) (W.faults sink.new) }
+    ensures uncounted { ¬ IsErrAnd result (λ e. cause_of e ≡ write_failed) → W.faults sink.new ≡ W.faults sink.old }
     ensures later { W.faults sink.old ≤ W.faults sink.new }
 {
     let mut sequence = Sequence::new(alloc, file.width, file.height, file.depth, file.sampling)?;
@@ -66,6 +67,7 @@ fn show_frame<W: Sink>(
     requires index { index < 65536 }
     ensures shows { ShowsFrame sequence.old index (frame_value frame.now) result sequence.new (W.taken sink.old) (W.taken sink.new) }
     ensures write_fault { IsErrAnd result (λ e. cause_of e ≡ write_failed) → FaultCounted (W.faults sink.old) (W.faults sink.new) }
+    ensures uncounted { ¬ IsErrAnd result (λ e. cause_of e ≡ write_failed) → W.faults sink.new ≡ W.faults sink.old }
     ensures later { W.faults sink.old ≤ W.faults sink.new }
 {
     if let Err(error) = sequence.frame(&frame.head, frame.part) {

@@ -116,6 +116,13 @@ module _ {O A E : Type 0} (task : Task O A E) where
   answered_prefix (Ok a) bytes taken taken' p h = absurd h
   answered_prefix (Err e) bytes taken taken' p h = subst (λ (c : Cause). ErrorAnswers task c e bytes taken taken') h p
 
+-- the count of a sink's faults stays where no write is blamed
+kept_count : {A E K : Type 0} (faults : K → ℕ) (cause : E → Cause) (sink sink' : K) (answer : Result A E) → OnOk answer (faults sink' ≡ faults sink) →
+    IfErr answer (λ e. cause e ≢ write_failed → sink' ≡ sink)
+    → ¬ IsErrAnd answer (λ e. cause e ≡ write_failed) → faults sink' ≡ faults sink
+kept_count faults cause sink sink' (Ok a) same unwritten other = same
+kept_count faults cause sink sink' (Err e) same unwritten other = ap faults (unwritten other)
+
 -- ---- the whole call
 
 module _ {O A E S K : Type 0} (task : Task O A E) (sound : IsSound task) (left : S → Option (List ℕ)) (source_faults : S → ℕ) (taken : K → Option (List ℕ))
@@ -123,14 +130,15 @@ module _ {O A E S K : Type 0} (task : Task O A E) (sound : IsSound task) (left :
   -- the bytes were read to their end, and answered
   pub performs : (source source' : S) (sink sink' : K) (bytes : List ℕ) (answer : Result A E)
       → AreBytes bytes → length bytes ≤ task.limit + 1 → Consumes (left source) (left source') bytes → IsAtEnd (left source') →
-      source_faults source ≤ source_faults source'
+      source_faults source' ≡ source_faults source
       → Answers task answer bytes (taken sink) (taken sink')
       → IfErr answer (λ e. (task.cause e ≢ read_failed) × (task.cause e ≢ too_long))
       → (IsErrAnd answer (λ e. task.cause e ≡ write_failed) → FaultCounted (sink_faults sink) (sink_faults sink'))
+      → OnOk answer (sink_faults sink' ≡ sink_faults sink)
       → IfErr answer (λ e. task.cause e ≢ write_failed → sink' ≡ sink)
       → sink_faults sink ≤ sink_faults sink'
       → Performs task left source_faults taken sink_faults source source' sink sink' answer
-  performs source source' sink sink' bytes answer fits short consumed end source_later answered read counted unwritten sink_later =
+  performs source source' sink sink' bytes answer fits short consumed end source_same answered read counted sink_same unwritten sink_later =
       let all : (P : List ℕ → Type 0) → P bytes → IfSome (left source) P = λ P p. Consumes-whole (left source) (left source') bytes P consumed end p in
       let told = tells task sound answer bytes (taken sink) (taken sink') answered in
       record {
@@ -140,13 +148,15 @@ module _ {O A E S K : Type 0} (task : Task O A E) (sound : IsSound task) (left :
         exactly = all (λ b. (outcome : Result O E) → task.HasOutcome b outcome → Tells task answer outcome) told;
         read_fault = no_read_fault task answer read;
         write_fault = counted;
+        source_uncounted = λ other. source_same;
+        sink_uncounted = kept_count sink_faults task.cause sink sink' answer sink_same unwritten;
         prefix = λ h. all (λ b. ComeTo task b (λ outcome. AppendsPrefix (taken sink) (taken sink') (task.written outcome)))
             (answered_prefix task answer bytes (taken sink) (taken sink') answered h);
         unwritten = unwritten;
         taken_at_most = (bytes, fits, short, consumed);
         leaves = leaves_end task answer (left source) (left source') (if_err answer (λ e n. n.1) read) end;
         read = (bytes, fits, short, consumed, answered);
-        source_later = source_later;
+        source_later = omega (arith, source_same);
         sink_later = sink_later;
         complete = λ no_read no_write. all (λ b. (outcome : O) → task.HasOutcome b (Ok outcome) → IsOk answer ⊎ IsErrAnd answer (λ e. task.cause e ≡ no_memory))
             (λ outcome c. without_fault task answer outcome _ _ (told (Ok outcome) c) (no_read_fault task answer read) counted no_read no_write);
@@ -217,6 +227,8 @@ module _ {O A V E : Type 0} (task : Task O A E) (sound : IsSound task) (Found : 
         exactly = told;
         read_fault = reads.read_fault;
         write_fault = no_write_fault e bytes (left source') found;
+        source_uncounted = reads.uncounted;
+        sink_uncounted = λ other. refl;
         prefix = no_write_fault e bytes (left source') found;
         unwritten = λ h. refl;
         taken_at_most = (bytes, fits, short, consumed);
@@ -275,7 +287,7 @@ module _ {O A E : Type 0} (task : Task O A E) where
       → Performs task left source_faults taken sink_faults source source' sink sink' answer
   carries_on sound Found left source_faults taken sink_faults source source' sink sink' v outcome answer come says reads w =
       let (bytes, fits, short, consumed, (found, end)) = reads.read in
-      performs task sound left source_faults taken sink_faults source source' sink sink' bytes answer fits short consumed end reads.later
+      performs task sound left source_faults taken sink_faults source source' sink sink' bytes answer fits short consumed end (reads.uncounted (λ h. absurd h))
       (answered_by taken sink_faults sink sink' bytes outcome answer (come bytes found) says w)
       (if_err answer (λ e u. error_of_writing (task.cause e) u) w.unwritten)
-      w.write_fault (if_err answer (λ e u n. (u n).1) w.unwritten) w.later
+      w.write_fault w.uncounted (if_err answer (λ e u n. (u n).1) w.unwritten) w.later

@@ -21,13 +21,14 @@ pub record AreReadWhole {S : Type 0} (limit : ℕ) (left : S → Option (List �
   pub short : length bytes ≤ limit
   pub consumed : Consumes (left source) (left source') bytes
   pub end : IsAtEnd (left source')
-  pub later : faults source ≤ faults source'
+  pub uncounted : faults source' ≡ faults source
 
 pub read_whole : {S : Type 0} (limit : ℕ) (left : S → Option (List ℕ)) (faults : S → ℕ) (source source' : S) (read bytes : List ℕ) → bytes ≡ read
-    → AreBytes read → length read ≤ limit → Consumes (left source) (left source') read → IsAtEnd (left source') → faults source ≤ faults source'
+    → AreBytes read → length read ≤ limit → Consumes (left source) (left source') read → IsAtEnd (left source') → faults source' ≡ faults source
     → AreReadWhole limit left faults source source' bytes
-read_whole limit left faults source source' read bytes same fits short consumed end later =
-    subst (AreReadWhole limit left faults source source') (sym same) (record { fits = fits; short = short; consumed = consumed; end = end; later = later })
+read_whole limit left faults source source' read bytes same fits short consumed end uncounted =
+    subst (AreReadWhole limit left faults source source') (sym same)
+    (record { fits = fits; short = short; consumed = consumed; end = end; uncounted = uncounted })
 
 -- what reading bytes answers where it fails
 abbrev pub read_err : ReadError → Result (Vec ℕ Global) ReadError
@@ -65,7 +66,8 @@ module _ {V E : Type 0} (limit : ℕ) (cause : E → Cause) (Found : List ℕ �
     finds source source' bytes memory (Ok v) memory_is refusals whole found errors = record {
       read = (bytes, whole.fits, omega (arith, whole.short), whole.consumed, (found, whole.end));
       read_fault = λ h. absurd h;
-      later = whole.later;
+      uncounted = λ other. whole.uncounted;
+      later = omega (arith, whole.uncounted);
     }
     finds source source' bytes memory (Err e) memory_is refusals whole found errors = record {
       read = (
@@ -79,30 +81,34 @@ module _ {V E : Type 0} (limit : ℕ) (cause : E → Cause) (Found : List ℕ �
           let f = errors (λ k. let same : read_failed ≡ no_memory = sym h ∙ ap cause k ∙ memory_is in absurd cc) in
           let same : read_failed ≡ refused = sym h ∙ refusals e whole.short f in
           absurd cc;
-      later = whole.later;
+      uncounted = λ other. whole.uncounted;
+      later = omega (arith, whole.uncounted);
     }
 
     -- reading them failed
     unread_as : (source source' : S) (e : ReadError) (d : E) (c : Cause) → cause d ≡ c → c ≡ read_cause e
         → TakesAtMost (limit + 1) (left source) (left source') → faults source ≤ faults source'
         → (e ≡ read_errors.ReadFault → FaultCounted (faults source) (faults source'))
+        → (¬ (read_err e ≡ read_err read_errors.ReadFault) → faults source' ≡ faults source)
         → (e ≡ read_errors.TooLong → Takes (limit + 1) (left source) (left source'))
         → Reads limit cause Found left faults source source' (Err d)
-    unread_as source source' read_errors.ReadFault d c is same (bytes, fits, short, consumed) later counted takes =
+    unread_as source source' read_errors.ReadFault d c is same (bytes, fits, short, consumed) later counted uncounted takes =
         let cause_is : cause d ≡ read_failed = is ∙ same in
         record {
           read = (bytes, fits, short, consumed, subst (λ (k : Cause). ErrorFinds limit Found k d bytes (left source')) (sym cause_is) tt);
           read_fault = λ h. counted refl;
+          uncounted = λ other. absurd (other cause_is);
           later = later;
         }
-    unread_as source source' read_errors.Memory d c is same (bytes, fits, short, consumed) later counted takes =
+    unread_as source source' read_errors.Memory d c is same (bytes, fits, short, consumed) later counted uncounted takes =
         let cause_is : cause d ≡ no_memory = is ∙ same in
         record {
           read = (bytes, fits, short, consumed, subst (λ (k : Cause). ErrorFinds limit Found k d bytes (left source')) (sym cause_is) tt);
           read_fault = λ h. let both : no_memory ≡ read_failed = sym cause_is ∙ h in absurd cc;
+          uncounted = λ other. uncounted (λ h. absurd cc);
           later = later;
         }
-    unread_as source source' read_errors.TooLong d c is same most later counted takes =
+    unread_as source source' read_errors.TooLong d c is same most later counted uncounted takes =
         let (bytes, fits, long, consumed) = takes refl in
         let cause_is : cause d ≡ too_long = is ∙ same in
         record {
@@ -114,14 +120,16 @@ module _ {V E : Type 0} (limit : ℕ) (cause : E → Cause) (Found : List ℕ �
             subst (λ (k : Cause). ErrorFinds limit Found k d bytes (left source')) (sym cause_is) (omega (arith, long)),
           );
           read_fault = λ h. let both : too_long ≡ read_failed = sym cause_is ∙ h in absurd cc;
+          uncounted = λ other. uncounted (λ h. absurd cc);
           later = later;
         }
 
     pub unread : (source source' : S) (result : Result V E) (e : ReadError) (d : E) → cause d ≡ read_cause e
         → TakesAtMost (limit + 1) (left source) (left source') → faults source ≤ faults source'
         → (e ≡ read_errors.ReadFault → FaultCounted (faults source) (faults source'))
+        → (¬ (read_err e ≡ read_err read_errors.ReadFault) → faults source' ≡ faults source)
         → (e ≡ read_errors.TooLong → Takes (limit + 1) (left source) (left source'))
         → IsErrAnd result (λ x. x ≡ d) → Reads limit cause Found left faults source source' result
-    unread source source' result e d is most later counted takes err =
+    unread source source' result e d is most later counted uncounted takes err =
         subst (Reads limit cause Found left faults source source') (sym (is_err result d err))
-        (unread_as source source' e d (cause d) refl is most later counted takes)
+        (unread_as source source' e d (cause d) refl is most later counted uncounted takes)

@@ -105,11 +105,14 @@ pub record Performs {O A E S K : Type 0} (task : Task O A E) (left : S → Optio
       IfSome (left source) (λ bytes. task.HasOutcome bytes (Err e)))
   pub exactly : IfSome (left source) (λ bytes. (outcome : Result O E) → task.HasOutcome bytes outcome →
       Tells task answer outcome)
-  -- A fault only where the count rose or stands at its last value.
+  -- A fault only where the source or the sink counted one, and no other answer where one did.
   pub read_fault : IsErrAnd answer (λ e. task.cause e ≡ read_failed) →
       FaultCounted (source_faults source) (source_faults source')
   pub write_fault : IsErrAnd answer (λ e. task.cause e ≡ write_failed) →
       FaultCounted (sink_faults sink) (sink_faults sink')
+  pub source_uncounted : ¬ IsErrAnd answer (λ e. task.cause e ≡ read_failed) →
+      source_faults source' ≡ source_faults source
+  pub sink_uncounted : ¬ IsErrAnd answer (λ e. task.cause e ≡ write_failed) → sink_faults sink' ≡ sink_faults sink
   -- After a failed write a prefix of what the bytes come to stands; after every other error the sink is as it was.
   pub prefix : IsErrAnd answer (λ e. task.cause e ≡ write_failed)
       → IfSome (left source)
@@ -159,8 +162,9 @@ pub record Reads {V E S : Type 0} (limit : ℕ) (cause : E → Cause) (HasOutcom
   pub read : (bytes : List ℕ) × AreBytes bytes × (length bytes ≤ limit + 1) ×
       Consumes (left source) (left source') bytes
       × Finds limit cause HasOutcome result bytes (left source')
-  -- A fault only where the count rose or stands at its last value.
+  -- A fault only where the source counted one, and no other answer where it did.
   pub read_fault : IsErrAnd result (λ e. cause e ≡ read_failed) → FaultCounted (faults source) (faults source')
+  pub uncounted : ¬ IsErrAnd result (λ e. cause e ≡ read_failed) → faults source' ≡ faults source
   pub later : faults source ≤ faults source'
 
 -- ---- the half that writes
@@ -168,9 +172,10 @@ pub record Reads {V E S : Type 0} (limit : ℕ) (cause : E → Cause) (HasOutcom
 -- What a call does that writes bytes to a sink.
 pub record WritesBytes {A E K : Type 0} (cause : E → Cause) (taken : K → Option (List ℕ)) (faults : K → ℕ)
     (sink sink' : K) (bytes : List ℕ) (answer : Result A E) : Type 0 where
-  -- After Ok they were appended.
+  -- After Ok they were appended, and no fault was counted.
   pub ok : OnOk answer (Appends (taken sink) (taken sink') bytes)
-  -- After a failed write a prefix of them was, and the count rose or stands at its last value.
+  pub uncounted : OnOk answer (faults sink' ≡ faults sink)
+  -- After a failed write a prefix of them was, and a fault was counted.
   pub prefix : IsErrAnd answer (λ e. cause e ≡ write_failed) → AppendsPrefix (taken sink) (taken sink') bytes
   pub write_fault : IsErrAnd answer (λ e. cause e ≡ write_failed) → FaultCounted (faults sink) (faults sink')
   -- Every other error is running out of memory, before the first written byte.

@@ -1,7 +1,6 @@
 //! The bytes of a source, read to their end.
 ghost use Rattle.std.specs.Prelude.{◌≡◌, ◌+◌, ◌<◌, ◌≤◌, ◌^◌, length, take, drop, IsErrOf, IfOk, IfSome, OnOk, OnErr, vec_len};
 ghost use Rattle.std.specs.Io.KnownBytes.{Consumes, Keeps, IsAtEnd};
-ghost use Rattle.av1_lists.specs.Counts.{counted};
 ghost use Rattle.av1_streams.specs.Faults.{HasCause, FaultCounted};
 ghost use Rattle.av1_streams.specs.Streams.{AreBytes, Takes, TakesAtMost, max_plan_bytes};
 ghost use Rattle.av1_streams.specs.declared.read.ReadError.TheVariants.{Memory};
@@ -50,9 +49,8 @@ pub fn read_plan_bytes<R: Source>(alloc: Global, source: &mut R) -> Result<Vec<u
     // `ReadFault` comes exactly where a read failed: it counts this one, and every other answer leaves the count as it
     // was.
     ensures read_fault { IsErrOf result ReadError.ReadFault → FaultCounted (R.faults source.old) (R.faults source.new) }
-    ensures later { R.faults source.old ≤ R.faults source.new }
-    ensures counted { IsErrOf result ReadError.ReadFault → R.faults source.new ≡ counted (R.faults source.old) }
     ensures uncounted { ¬ IsErrOf result ReadError.ReadFault → R.faults source.new ≡ R.faults source.old }
+    ensures later { R.faults source.old ≤ R.faults source.new }
 {
     read_bytes(alloc, source, MAX_PLAN_BYTES)
 }
@@ -80,9 +78,8 @@ pub fn read_bytes<R: Source>(
     // `ReadFault` comes exactly where a read failed: it counts this one, and every other answer leaves the count as it
     // was.
     ensures read_fault { IsErrOf result ReadError.ReadFault → FaultCounted (R.faults source.old) (R.faults source.new) }
-    ensures later { R.faults source.old ≤ R.faults source.new }
-    ensures counted { IsErrOf result ReadError.ReadFault → R.faults source.new ≡ counted (R.faults source.old) }
     ensures uncounted { ¬ IsErrOf result ReadError.ReadFault → R.faults source.new ≡ R.faults source.old }
+    ensures later { R.faults source.old ≤ R.faults source.new }
 {
     let mut bytes = Vec::new(alloc);
     let mut filled = 0;
@@ -128,8 +125,6 @@ fn read_at<R: Source>(source: &mut R, bytes: &mut [u8], filled: usize) -> Result
     ensures end { IfOk result (λ count. count ≡ 0 → IsAtEnd (R.left source.new)) }
     ensures err { OnErr result (Keeps (R.left source.old) (R.left source.new)) }
     ensures cause { HasCause (R.faults source.old) (R.faults source.new) result }
-    ensures uncounted { OnOk result (R.faults source.new ≡ R.faults source.old) }
-    ensures counted { OnErr result (R.faults source.new ≡ counted (R.faults source.old)) }
 {
     source.read(&mut bytes[filled..])
 }

@@ -1,6 +1,5 @@
 //! Where bytes go.
-ghost use Rattle.std.specs.Prelude.{◌≡◌, ◌⊎◌, ◌↔◌, ℕ, ◌-◌, ◌<◌, ◌≤◌, min, List, [], length, Option, Some, Contains, IsErr, IfOk, OnOk, OnErr, vec_len};
-ghost use Rattle.std.specs.Prelude.{vec_capacity};
+ghost use Rattle.std.specs.Prelude.{◌≡◌, ◌⊎◌, ◌↔◌, ℕ, ◌-◌, ◌<◌, ◌≤◌, min, List, [], length, Option, Some, Contains, IsErr, IfOk, vec_len, vec_capacity};
 ghost use Rattle.std.specs.Io.{WritesAtMost};
 ghost use Rattle.std.specs.Io.KnownBytes.{WriteAppends};
 ghost use Rattle.av1_lists.specs.Counts.{counted};
@@ -26,9 +25,7 @@ pub trait Sink {
         ensures some { IfOk result (λ count. 0 < count) }
         ensures bound { WritesAtMost result buf.now }
         ensures bytes { WriteAppends (taken self.old) (taken self.new) result buf.now }
-        ensures cause { HasCause (faults self.old) (faults self.new) result }
-        ensures uncounted { OnOk result (faults self.new ≡ faults self.old) }
-        ensures counted { OnErr result (faults self.new ≡ counted (faults self.old)) };
+        ensures cause { HasCause (faults self.old) (faults self.new) result };
 }
 
 /// A sink in memory: it has room for so many bytes, a write takes at most `piece` of them, and the
@@ -96,8 +93,6 @@ impl Sink for MemSink<'_> {
         ensures bound { WritesAtMost result buf.now }
         ensures bytes { WriteAppends (Some (sink_bytes self.old)) (Some (sink_bytes self.new)) result buf.now }
         ensures cause { HasCause (sink_faults self.old) (sink_faults self.new) result }
-        ensures uncounted { OnOk result (sink_faults self.new ≡ sink_faults self.old) }
-        ensures counted { OnErr result (sink_faults self.new ≡ counted (sink_faults self.old)) }
 
         // It takes what fits, up to a piece, and fails without room and in the numbered calls alone.
         ensures count { IfOk result (λ n. n ≡ min (sink_piece self.old) (min (sink_room self.old - length (sink_bytes self.old)) (length buf.now))) }
@@ -156,8 +151,6 @@ impl<W: Write> Sink for WriteSink<W> {
         ensures bound { WritesAtMost result buf.now }
         ensures bytes { WriteAppends (W.contents (writer_of self.old)) (W.contents (writer_of self.new)) result buf.now }
         ensures cause { HasCause (writer_faults self.old) (writer_faults self.new) result }
-        ensures uncounted { OnOk result (writer_faults self.new ≡ writer_faults self.old) }
-        ensures counted { OnErr result (writer_faults self.new ≡ counted (writer_faults self.old)) }
     {
         match self.inner.write(buf) {
             Ok(count) if 0 < count => Ok(count),

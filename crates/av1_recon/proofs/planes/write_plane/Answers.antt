@@ -1,4 +1,4 @@
-use Rattle.std.proofs.Common.{arith, subst, ◌≡◌}
+use Rattle.std.proofs.Common.{arith, subst, ◌≡◌, ◌∙◌}
 use Rattle.std.specs.Io.KnownBytes.{Appends}
 use Rattle.av1_streams.specs.Streams.{AppendsPrefix}
 use Rattle.av1_recon.proofs.Rows.{row_is, Appends-row, AppendsPrefix-row, as_prefix, rows_are_plane}
@@ -18,7 +18,7 @@ loop-y-preserved g c =
       so_far =
           Appends-row g.T.Pixel.num c.args.header.now c.args.plane.now c.args.p c.loop-y.y _ _ _ c.loop-y.invariant.so_far
           (subst (Appends _ _) row c.in_ok-write_row.ensures.whole);
-      later = omega (arith, c.in_ok-write_row.ensures.cause.later);
+      uncounted = c.in_ok-write_row.ensures.cause.uncounted ∙ c.loop-y.invariant.uncounted;
     }
 
 pub returns-clause-whole : goal.returns-clause-whole

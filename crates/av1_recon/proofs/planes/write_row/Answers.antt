@@ -1,4 +1,4 @@
-use Rattle.std.proofs.Common.{arith}
+use Rattle.std.proofs.Common.{arith, ◌∙◌}
 use Rattle.av1_recon.proofs.Rows.{Appends-piece, AppendsPrefix-piece}
 use Rattle.av1_recon.proofs.planes.write_row.Goals as goal
 
@@ -13,5 +13,5 @@ pieces-preserved g c = record {
   so_far =
       Appends-piece g.T.Pixel.num c.args.depth c.args.row.now _ _ _ c.pieces.at _ c.min-count.result _ (omega arith) c.pieces.invariant.so_far
       c.pack-len.ensures.bytes c.in_ok-write_bytes.ensures.whole;
-  later = omega (arith, c.in_ok-write_bytes.ensures.cause.later);
+  uncounted = c.in_ok-write_bytes.ensures.cause.uncounted ∙ c.pieces.invariant.uncounted;
 }

@@ -1,4 +1,4 @@
-use Rattle.std.proofs.Common.{arith, subst, ◌<◌, ◌≡◌}
+use Rattle.std.proofs.Common.{arith, subst, ◌<◌, ◌≡◌, ◌∙◌}
 use Rattle.std.specs.Io.KnownBytes.{Appends}
 use Rattle.av1_plan.specs.Geometry.{plane_height}
 use Rattle.av1_streams.specs.Streams.{AppendsPrefix}
@@ -33,7 +33,7 @@ loop-y-preserved g c =
       so_far =
           Appends-row own c.args.header.now c.args.plane.now c.args.p c.loop-y.y _ _ _ c.loop-y.invariant.so_far
           (subst (Appends _ _) row c.in_ok-write_row.ensures.whole);
-      later = omega (arith, c.in_ok-write_row.ensures.cause.later);
+      uncounted = c.in_ok-write_row.ensures.cause.uncounted ∙ c.loop-y.invariant.uncounted;
     }
 
 pub returns-clause-whole : goal.returns-clause-whole

@@ -1,6 +1,8 @@
+use Rattle.std.proofs.Common.{refl}
 use Rattle.std.specs.Io.KnownBytes.{Appends}
+use Rattle.av1_sequence.specs.declared.error.SequenceError.TheVariants as errors
 use Rattle.av1_sequence.specs.File.{frame_value}
-use Rattle.av1_sequence.proofs.Showing.{last_text, no_write, refused_frame, unwritten_frame}
+use Rattle.av1_sequence.proofs.Showing.{blamed_by, last_text, no_write, refused_frame, unwritten_frame}
 use Rattle.av1_sequence.proofs.reconstruct.show_frame.Goals as goal
 
 pub returns-in-Err-clause-shows : goal.returns-in-Err-clause-shows
@@ -20,6 +22,9 @@ returns-in_err-write_last-clause-shows g c =
 
 pub returns-in_err-write_last-clause-write_fault : goal.returns-in_err-write_last-clause-write_fault
 returns-in_err-write_last-clause-write_fault g c = λ h. c.in_err-write_last.ensures.cause.failed
+
+pub returns-in_err-write_last-clause-uncounted : goal.returns-in_err-write_last-clause-uncounted
+returns-in_err-write_last-clause-uncounted g c = λ other. absurd (other (blamed_by c.from_residual.result errors.WriteFault c.from_residual.ensures.1 refl))
 
 pub returns-clause-shows : goal.returns-clause-shows
 returns-clause-shows g c =

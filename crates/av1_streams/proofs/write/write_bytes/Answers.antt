@@ -11,5 +11,5 @@ pub writing-preserved : goal.writing-preserved
 writing-preserved g c = record {
   within = omega (arith, c.in_ok-written.ensures.bound);
   so_far = Appends-more _ _ _ _ _ _ c.writing.invariant.so_far c.in_ok-written.ensures.bytes;
-  uncounted = c.in_ok-written.ensures.uncounted ∙ c.writing.invariant.uncounted;
+  uncounted = c.in_ok-written.ensures.cause.uncounted ∙ c.writing.invariant.uncounted;
 }

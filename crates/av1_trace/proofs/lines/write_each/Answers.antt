@@ -1,4 +1,4 @@
-use Rattle.std.proofs.Common.{arith}
+use Rattle.std.proofs.Common.{◌∙◌}
 use Rattle.av1_recon.proofs.Rows.{as_prefix}
 use Rattle.av1_trace.specs.DifferenceLines.{difference_line}
 use Rattle.av1_trace.proofs.Items.{Appends-item, Appends-items, AppendsPrefix-item}
@@ -14,7 +14,7 @@ loop-difference-preserved g c = record {
   so_far =
       Appends-item difference_line c.args.list.now c.loop-difference.difference-index _ _ _ _ c.loop-difference-test.true c.loop-difference.invariant.so_far
       c.in_ok-write_difference.ensures.whole;
-  later = omega (arith, c.in_ok-write_difference.ensures.cause.later);
+  uncounted = c.in_ok-write_difference.ensures.cause.uncounted ∙ c.loop-difference.invariant.uncounted;
 }
 
 pub returns-clause-whole : goal.returns-clause-whole

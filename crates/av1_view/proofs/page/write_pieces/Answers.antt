@@ -1,4 +1,4 @@
-use Rattle.std.proofs.Common.{arith}
+use Rattle.std.proofs.Common.{◌∙◌}
 use Rattle.av1_recon.proofs.Rows.{as_prefix}
 use Rattle.av1_trace.proofs.Items.{Appends-item, Appends-items, AppendsPrefix-item}
 use Rattle.av1_view.specs.Page.{piece_text}
@@ -14,7 +14,7 @@ loop-piece-preserved g c = record {
   so_far =
       Appends-item piece_text c.args.pieces.now c.loop-piece.piece-index _ _ _ _ c.loop-piece-test.true c.loop-piece.invariant.so_far
       c.in_ok-write_piece.ensures.whole;
-  later = omega (arith, c.in_ok-write_piece.ensures.cause.later);
+  uncounted = c.in_ok-write_piece.ensures.cause.uncounted ∙ c.loop-piece.invariant.uncounted;
 }
 
 pub returns-clause-whole : goal.returns-clause-whole
