@@ -98,6 +98,8 @@ def worked(browser, pages, checks, options):
     wanted = [{"block": 0, "place": 0, "value": 100, "column": 0, "row": 0}]
     checks.same("worked: a coefficient", browser.json("view.coefficients(0, 0)"), wanted)
     checks.same("worked: a pixel", browser.json("view.pixel(3, 3)"), [131, 131, 131, 255])
+    decoded = browser.json("['', 'a', 'ab', 'abc', 'abcd'].map((text) => String.fromCharCode(...decoded(btoa(text))))")
+    checks.same("worked: bytes are decoded where the browser has no call for it", decoded, ["", "a", "ab", "abc", "abcd"])
     checks.same("worked: faults of the page", browser.faults(), [])
     path, _, _ = pages.write("same", data, plans.trace_of(data, planes, []))
     browser.open(path)
