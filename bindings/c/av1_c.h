@@ -31,6 +31,15 @@ extern "C" {
 /* The version of the archive that is linked, made up in the same way. */
 uint32_t av1_c_version(void);
 
+/* Stack: a call takes at most so many bytes of it, its arguments and its return address among them; bindings/stack.py works it out from the code of
+ * the archive. Beside them come what `malloc` and its like take, where a call takes memory, and `memcpy`, `memmove` and `memset`.
+ *    1,024  av1_builder_begin, av1_builder_finish, av1_c_version, av1_cfl_ac_8, av1_cfl_ac_16, av1_intra_edge_8, av1_intra_edge_16, av1_mc_avg_8,
+ *           av1_mc_avg_16, av1_planes_len
+ *    2,048  av1_builder_leaf, av1_builder_mark, av1_builder_reference, av1_inverse_transform_add_8, av1_inverse_transform_add_16
+ *    4,096  av1_predict_cfl_8, av1_predict_cfl_16, av1_predict_intra_8, av1_predict_intra_16, av1_prep_8tap_8, av1_prep_8tap_16, av1_put_8tap_8,
+ *           av1_put_8tap_16
+ *   16,384  av1_reconstruct_plan */
+
 /* Statuses. */
 enum {
     AV1_DONE = 0,           /* all was done */
