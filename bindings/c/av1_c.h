@@ -105,7 +105,7 @@ uint32_t av1_reconstruct_plan(const uint8_t *bytes, size_t bytes_len, uint8_t *r
 /* ---- calls on blocks: where several arguments are bad, the status is the one that the call's comment names first ---- */
 
 /* Room for one block between and within the passes of its transform. What it holds before a call doesn't matter, so that it need not be
- * cleared, and nothing in it is of use after one. Calls that run at the same time need one each. It lies well at an address that is a
+ * cleared, and nothing in it is of use after one. Calls that run at the same time need one each. It is best placed at an address that is a
  * multiple of 64. */
 typedef struct {
     int32_t words[9728];

@@ -127,6 +127,23 @@ class Browser:
     def text(self, element):
         return self.value(f"document.getElementById('{element}').textContent")
 
+    def processor_time(self):
+        """How long processors have worked for the browser so far, in seconds, whatever else they did."""
+        parents, times = {}, {}
+        for name in filter(str.isdigit, os.listdir("/proc")):
+            try:
+                with open(f"/proc/{name}/stat", encoding="latin-1") as file:
+                    fields = file.read().rsplit(")", 1)[1].split()
+            except OSError:
+                continue
+            parents[int(name)], times[int(name)] = int(fields[1]), int(fields[11]) + int(fields[12])
+        own = {self.process.pid}
+        while True:
+            more = {child for child, parent in parents.items() if parent in own} - own
+            if not more:
+                return sum(times.get(name, 0) for name in own) / os.sysconf("SC_CLK_TCK")
+            own |= more
+
     def faults(self):
         """The page's own errors, and what it asked of the network beside its file."""
         names = ("Runtime.exceptionThrown",)

@@ -48,7 +48,8 @@ function classesOf(frame, leaves, property) {
     if (!found.has(number)) found.set(number, { number, name: property.nameOf(number), colour: property.colourOf(number), count: 0, area: 0 });
     const one = found.get(number);
     one.count++;
-    one.area += visibleArea(frame, leaf);
+    const box = visibleBox(frame, leaf);
+    one.area += box.width * box.height;
   }
   return [...found.values()].sort((a, b) => a.number - b.number);
 }

@@ -6,34 +6,40 @@ const MATRICES = [['BT.709', 0.2126, 0.0722], ['BT.601', 0.299, 0.114], ['BT.202
 
 // What writes the pixels of a row of luma samples, of a source and a component, at a place among pixels: those of some columns.
 function painterOf(frame, source, component, matrix, gain) {
-  const { starts, widths, xdecs, ydecs } = frame;
   const { of, less, signed } = source;
   const scale = (signed ? gain : 1) / (1 << (frame.depth - 8));
   const middle = signed ? 128 : 0;
   const level = less ? (i) => middle + (of[i] - less[i]) * scale : (i) => middle + of[i] * scale;
-  const rowOf = (p, y) => starts[p] + (y >> ydecs[p]) * widths[p];
   const p = PLANES.indexOf(component);
-  if (p >= 0) {
-    return (pixels, from, y, columns) => {
-      const row = rowOf(p, y);
-      const xdec = xdecs[p];
-      for (let i = 0, at = from; i < columns.length; i++, at += 4) {
-        pixels[at] = pixels[at + 1] = pixels[at + 2] = level(row + (columns[i] >> xdec));
-        pixels[at + 3] = 255;
-      }
-    };
-  }
-  const luma = matrix.full || signed ? 1 : 255 / 219;
-  const chroma = matrix.full || signed ? 1 : 255 / 224;
-  const dark = luma === 1 ? 0 : 16;
+  return p < 0 ? colourPainter(frame, level, matrix, matrix.full || signed) : greyPainter(frame, level, p);
+}
+
+// The place of the first sample of a row of luma, in a plane.
+const rowStart = (frame, p, y) => frame.starts[p] + (y >> frame.ydecs[p]) * frame.widths[p];
+
+function greyPainter(frame, level, p) {
+  const xdec = frame.xdecs[p];
+  return (pixels, from, y, columns) => {
+    const row = rowStart(frame, p, y);
+    for (let i = 0, at = from; i < columns.length; i++, at += 4) {
+      pixels[at] = pixels[at + 1] = pixels[at + 2] = level(row + (columns[i] >> xdec));
+      pixels[at + 3] = 255;
+    }
+  };
+}
+
+function colourPainter(frame, level, matrix, full) {
+  const luma = full ? 1 : 255 / 219;
+  const chroma = full ? 1 : 255 / 224;
+  const dark = full ? 0 : 16;
   const green = 1 - matrix.red - matrix.blue;
   const vRed = 2 * (1 - matrix.red) * chroma;
   const uBlue = 2 * (1 - matrix.blue) * chroma;
   const uGreen = uBlue * matrix.blue / green;
   const vGreen = vRed * matrix.red / green;
-  const xdec = xdecs[1];
+  const xdec = frame.xdecs[1];
   return (pixels, from, y, columns) => {
-    const [lumaRow, uRow, vRow] = [rowOf(0, y), rowOf(1, y), rowOf(2, y)];
+    const [lumaRow, uRow, vRow] = [0, 1, 2].map((p) => rowStart(frame, p, y));
     for (let i = 0, at = from; i < columns.length; i++, at += 4) {
       const l = (level(lumaRow + columns[i]) - dark) * luma;
       const u = level(uRow + (columns[i] >> xdec)) - 128;

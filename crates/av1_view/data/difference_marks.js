@@ -51,7 +51,7 @@ function heatOfLeaves() {
   const share = (greatest) => Math.log2(1 + greatest) / Math.log2(1 + differences.most);
   return cellImage('heat', '', (l) => {
     const greatest = differences.greatest[l.number];
-    return greatest ? pixelOf([255, 90, 0], 40 + Math.round(180 * share(greatest))) : 0;
+    return greatest ? pixelOf([255, 90, 0], 40 + Math.round(120 * share(greatest))) : 0;
   });
 }
 

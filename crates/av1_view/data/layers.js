@@ -69,8 +69,9 @@ function drawModes(context, seen, id, modeOf, place) {
   for (const leaf of seen) {
     const m = modeOf(leaf);
     if (!m) continue;
-    const width = leaf.width * state.zoom;
-    const height = leaf.height * state.zoom;
+    const box = visibleBox(frame, leaf);
+    const width = box.width * state.zoom;
+    const height = box.height * state.zoom;
     const x = across(leaf.x) + width / 2;
     const y = down(leaf.y) + height * place;
     const size = Math.min(13, 1.5 * width / m.text.length, height / 2);
@@ -131,12 +132,13 @@ function drawVectors(context, seen) {
   }
   let room = roomy.length === inter.length;
   for (const leaf of roomy) {
-    const size = Math.min(13, leaf.width * state.zoom / 9);
+    const box = visibleBox(frame, leaf);
+    const size = Math.min(13, box.width * state.zoom / 9);
     if (size < 6) { room = false; continue; }
-    const x = across(leaf.x + leaf.width / 2);
+    const x = across(box.x + box.width / 2);
     const name = MODES[leaf.mode];
-    textAt(context, name, x, down(leaf.y) + size, Math.min(size, 1.5 * leaf.width * state.zoom / name.length), colour);
-    textAt(context, motionsShown(leaf).map((m) => REFERENCES[m.reference]).join(' '), x, down(leaf.y + leaf.height) - size, size, colour);
+    textAt(context, name, x, down(box.y) + size, Math.min(size, 1.5 * box.width * state.zoom / name.length), colour);
+    textAt(context, motionsShown(leaf).map((m) => REFERENCES[m.reference]).join(' '), x, down(box.y + box.height) - size, size, colour);
   }
   return room;
 }

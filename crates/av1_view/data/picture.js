@@ -102,7 +102,7 @@ function draw() {
   if (layers.vectors) drawSourceBoxes(context);
   drawCursor(context);
   element('scale').textContent = state.zoom.toFixed(2) + ' pixels a sample, ' + state.source.name + ', ' + state.component;
-  element('dense').textContent = dense.length === 0 ? '' : 'from nearer: ' + dense.join(', ');
+  element('dense').textContent = dense.length === 0 ? '' : 'zoom in for ' + dense.join(', ');
 }
 
 function drawCursor(context) {

@@ -120,9 +120,10 @@ function areaOf(frame, leaf, p) {
   return { x, y, width, height, wide: Math.min(width, 32), high: Math.min(height, 32) };
 }
 
-// The luma samples of a leaf that lie in the frame.
-function visibleArea(frame, leaf) {
-  return (Math.min(leaf.x + leaf.width, frame.width) - leaf.x) * (Math.min(leaf.y + leaf.height, frame.height) - leaf.y);
+// The part of a leaf that lies in the frame.
+function visibleBox(frame, leaf) {
+  const { x, y } = leaf;
+  return { x, y, width: Math.min(leaf.width, frame.width - x), height: Math.min(leaf.height, frame.height - y) };
 }
 
 // The coefficients of a leaf in a plane: block, place and value, and what the place is.

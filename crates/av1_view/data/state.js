@@ -28,7 +28,8 @@ const differences = given ? differencesOf(plan, planes, given) : NO_DIFFERENCES;
 const departures = departuresOf(plan);
 
 // Layers that have something to show in this page.
-const HAS_LAYER = { differences: given !== null, departures: departures.size > 0, source: frame.mask !== 0 };
+const hasVectors = leaves.some((leaf) => leaf.motions);
+const HAS_LAYER = { vectors: hasVectors, source: hasVectors, differences: given !== null, departures: departures.size > 0 };
 const LAYERS_HERE = LAYERS.filter((layer) => HAS_LAYER[layer.id] !== false);
 const layers = Object.fromEntries(LAYERS.map((layer) => [layer.id, layer.on && HAS_LAYER[layer.id] !== false]));
 

@@ -25,7 +25,7 @@ function modeFields(frame, l) {
     return [['mode', l.mode + ' ' + MODES[l.mode]], ...l.motions.flatMap((m) => [
       ['reference', m.reference + ' ' + REFERENCES[m.reference] + ', slot ' + frame.slots[m.reference - 1]],
       ['vector', 'row ' + m.row + ', column ' + m.column + ' eighths'],
-      ['its source', 'from column ' + eighths(8 * l.x + m.column) + ', row ' + eighths(8 * l.y + m.row)],
+      ['its source', 'column ' + eighths(8 * l.x + m.column) + ', row ' + eighths(8 * l.y + m.row)],
     ])];
   }
   const angle = (mode, step) => mode >= 1 && mode <= 8 ? ', ' + angleOf(mode, step) + ' degrees' : '';

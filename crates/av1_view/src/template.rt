@@ -283,9 +283,10 @@ function areaOf(frame, leaf, p) {
   return { x, y, width, height, wide: Math.min(width, 32), high: Math.min(height, 32) };
 }
 
-// The luma samples of a leaf that lie in the frame.
-function visibleArea(frame, leaf) {
-  return (Math.min(leaf.x + leaf.width, frame.width) - leaf.x) * (Math.min(leaf.y + leaf.height, frame.height) - leaf.y);
+// The part of a leaf that lies in the frame.
+function visibleBox(frame, leaf) {
+  const { x, y } = leaf;
+  return { x, y, width: Math.min(leaf.width, frame.width - x), height: Math.min(leaf.height, frame.height - y) };
 }
 
 // The coefficients of a leaf in a plane: block, place and value, and what the place is.
@@ -411,34 +412,40 @@ const MATRICES = [['BT.709', 0.2126, 0.0722], ['BT.601', 0.299, 0.114], ['BT.202
 
 // What writes the pixels of a row of luma samples, of a source and a component, at a place among pixels: those of some columns.
 function painterOf(frame, source, component, matrix, gain) {
-  const { starts, widths, xdecs, ydecs } = frame;
   const { of, less, signed } = source;
   const scale = (signed ? gain : 1) / (1 << (frame.depth - 8));
   const middle = signed ? 128 : 0;
   const level = less ? (i) => middle + (of[i] - less[i]) * scale : (i) => middle + of[i] * scale;
-  const rowOf = (p, y) => starts[p] + (y >> ydecs[p]) * widths[p];
   const p = PLANES.indexOf(component);
-  if (p >= 0) {
-    return (pixels, from, y, columns) => {
-      const row = rowOf(p, y);
-      const xdec = xdecs[p];
-      for (let i = 0, at = from; i < columns.length; i++, at += 4) {
-        pixels[at] = pixels[at + 1] = pixels[at + 2] = level(row + (columns[i] >> xdec));
-        pixels[at + 3] = 255;
-      }
-    };
-  }
-  const luma = matrix.full || signed ? 1 : 255 / 219;
-  const chroma = matrix.full || signed ? 1 : 255 / 224;
-  const dark = luma === 1 ? 0 : 16;
+  return p < 0 ? colourPainter(frame, level, matrix, matrix.full || signed) : greyPainter(frame, level, p);
+}
+
+// The place of the first sample of a row of luma, in a plane.
+const rowStart = (frame, p, y) => frame.starts[p] + (y >> frame.ydecs[p]) * frame.widths[p];
+
+function greyPainter(frame, level, p) {
+  const xdec = frame.xdecs[p];
+  return (pixels, from, y, columns) => {
+    const row = rowStart(frame, p, y);
+    for (let i = 0, at = from; i < columns.length; i++, at += 4) {
+      pixels[at] = pixels[at + 1] = pixels[at + 2] = level(row + (columns[i] >> xdec));
+      pixels[at + 3] = 255;
+    }
+  };
+}
+
+function colourPainter(frame, level, matrix, full) {
+  const luma = full ? 1 : 255 / 219;
+  const chroma = full ? 1 : 255 / 224;
+  const dark = full ? 0 : 16;
   const green = 1 - matrix.red - matrix.blue;
   const vRed = 2 * (1 - matrix.red) * chroma;
   const uBlue = 2 * (1 - matrix.blue) * chroma;
   const uGreen = uBlue * matrix.blue / green;
   const vGreen = vRed * matrix.red / green;
-  const xdec = xdecs[1];
+  const xdec = frame.xdecs[1];
   return (pixels, from, y, columns) => {
-    const [lumaRow, uRow, vRow] = [rowOf(0, y), rowOf(1, y), rowOf(2, y)];
+    const [lumaRow, uRow, vRow] = [0, 1, 2].map((p) => rowStart(frame, p, y));
     for (let i = 0, at = from; i < columns.length; i++, at += 4) {
       const l = (level(lumaRow + columns[i]) - dark) * luma;
       const u = level(uRow + (columns[i] >> xdec)) - 128;
@@ -612,7 +619,8 @@ function classesOf(frame, leaves, property) {
     if (!found.has(number)) found.set(number, { number, name: property.nameOf(number), colour: property.colourOf(number), count: 0, area: 0 });
     const one = found.get(number);
     one.count++;
-    one.area += visibleArea(frame, leaf);
+    const box = visibleBox(frame, leaf);
+    one.area += box.width * box.height;
   }
   return [...found.values()].sort((a, b) => a.number - b.number);
 }
@@ -644,7 +652,7 @@ function modeFields(frame, l) {
     return [['mode', l.mode + ' ' + MODES[l.mode]], ...l.motions.flatMap((m) => [
       ['reference', m.reference + ' ' + REFERENCES[m.reference] + ', slot ' + frame.slots[m.reference - 1]],
       ['vector', 'row ' + m.row + ', column ' + m.column + ' eighths'],
-      ['its source', 'from column ' + eighths(8 * l.x + m.column) + ', row ' + eighths(8 * l.y + m.row)],
+      ['its source', 'column ' + eighths(8 * l.x + m.column) + ', row ' + eighths(8 * l.y + m.row)],
     ])];
   }
   const angle = (mode, step) => mode >= 1 && mode <= 8 ? ', ' + angleOf(mode, step) + ' degrees' : '';
@@ -706,7 +714,8 @@ const differences = given ? differencesOf(plan, planes, given) : NO_DIFFERENCES;
 const departures = departuresOf(plan);
 
 // Layers that have something to show in this page.
-const HAS_LAYER = { differences: given !== null, departures: departures.size > 0, source: frame.mask !== 0 };
+const hasVectors = leaves.some((leaf) => leaf.motions);
+const HAS_LAYER = { vectors: hasVectors, source: hasVectors, differences: given !== null, departures: departures.size > 0 };
 const LAYERS_HERE = LAYERS.filter((layer) => HAS_LAYER[layer.id] !== false);
 const layers = Object.fromEntries(LAYERS.map((layer) => [layer.id, layer.on && HAS_LAYER[layer.id] !== false]));
 
@@ -918,8 +927,9 @@ function drawModes(context, seen, id, modeOf, place) {
   for (const leaf of seen) {
     const m = modeOf(leaf);
     if (!m) continue;
-    const width = leaf.width * state.zoom;
-    const height = leaf.height * state.zoom;
+    const box = visibleBox(frame, leaf);
+    const width = box.width * state.zoom;
+    const height = box.height * state.zoom;
     const x = across(leaf.x) + width / 2;
     const y = down(leaf.y) + height * place;
     const size = Math.min(13, 1.5 * width / m.text.length, height / 2);
@@ -980,12 +990,13 @@ function drawVectors(context, seen) {
   }
   let room = roomy.length === inter.length;
   for (const leaf of roomy) {
-    const size = Math.min(13, leaf.width * state.zoom / 9);
+    const box = visibleBox(frame, leaf);
+    const size = Math.min(13, box.width * state.zoom / 9);
     if (size < 6) { room = false; continue; }
-    const x = across(leaf.x + leaf.width / 2);
+    const x = across(box.x + box.width / 2);
     const name = MODES[leaf.mode];
-    textAt(context, name, x, down(leaf.y) + size, Math.min(size, 1.5 * leaf.width * state.zoom / name.length), colour);
-    textAt(context, motionsShown(leaf).map((m) => REFERENCES[m.reference]).join(' '), x, down(leaf.y + leaf.height) - size, size, colour);
+    textAt(context, name, x, down(box.y) + size, Math.min(size, 1.5 * box.width * state.zoom / name.length), colour);
+    textAt(context, motionsShown(leaf).map((m) => REFERENCES[m.reference]).join(' '), x, down(box.y + box.height) - size, size, colour);
   }
   return room;
 }
@@ -1133,7 +1144,7 @@ function heatOfLeaves() {
   const share = (greatest) => Math.log2(1 + greatest) / Math.log2(1 + differences.most);
   return cellImage('heat', '', (l) => {
     const greatest = differences.greatest[l.number];
-    return greatest ? pixelOf([255, 90, 0], 40 + Math.round(180 * share(greatest))) : 0;
+    return greatest ? pixelOf([255, 90, 0], 40 + Math.round(120 * share(greatest))) : 0;
   });
 }
 
@@ -1319,7 +1330,7 @@ function draw() {
   if (layers.vectors) drawSourceBoxes(context);
   drawCursor(context);
   element('scale').textContent = state.zoom.toFixed(2) + ' pixels a sample, ' + state.source.name + ', ' + state.component;
-  element('dense').textContent = dense.length === 0 ? '' : 'from nearer: ' + dense.join(', ');
+  element('dense').textContent = dense.length === 0 ? '' : 'zoom in for ' + dense.join(', ');
 }
 
 function drawCursor(context) {
