@@ -14,6 +14,10 @@ OPENS, CLOSES = set("({[⟨"), set(")}]⟩")
 FLAT = ("ensures ", "requires ")
 COMMENT = re.compile(r"(\s*(?:--|//[/!]?))(\s+)(\S.*)")
 IMPORT = re.compile(r"((?:pub |ghost )*use [^{]*\{)([^{}]*)(\};?)")
+# What no line ends with, and what none begins with.
+HEADS = {"use", "pub", "abbrev", "λ", "let", "record", ":", "if", "then", "else"}
+TAILS = {"=", ":", "→", "∷", "≡", "where", "Type", "0"}
+# How badly a line parts before and after a word.
 BEFORE = {"∙": 0, "else": 0, "++": 1, "&&": 1, "||": 1, "then": 2, "in": 0}
 AFTER = {"=": 0, "→": 0, "∷": 1, "×": 1, "≡": 2}
 
@@ -34,27 +38,29 @@ def limit_of(path, line):
     return SHORT if is_short else LONG
 
 
+def worth_of(before, word, depth, is_clause):
+    """How badly a line parts between two words, so deep in brackets."""
+    if is_clause and depth == 0 and word == "{":
+        return 20
+    if before in HEADS or word in TAILS:
+        return 7
+    if before[-1] in ",;":
+        return 0 if before[-1] == "," else -1
+    if before == "=" and depth > 0:
+        return 4
+    worth = min(AFTER.get(before, 4), BEFORE.get(word, 4))
+    is_between = before[-1] in CLOSES and word in OPENS
+    return min(worth, 2) if is_between or before[-1] == "." and len(before) > 1 else worth
+
+
 def places(line):
-    """Where the line may be broken: of each white space the column, how deep in brackets it is, and how well it parts."""
+    """Where the line may be broken: of each white space the column, how deep in brackets it is, and how badly it parts."""
+    is_clause = line.lstrip().startswith(FLAT)
     depth, last, found = 0, None, []
     for token in TOKEN.finditer(line):
         word = token.group()
         if last is not None and token.start() > last.end():
-            before = last.group()
-            worth = min(AFTER.get(before, 4), BEFORE.get(word, 4))
-            if before[-1] in ",;":
-                worth = 0 if before[-1] == "," else -1
-            elif before == "=" and depth > 0:
-                worth = 4
-            elif before[-1] in CLOSES and word in OPENS:
-                worth = 2
-            elif before[-1] == "." and len(before) > 1:
-                worth = min(worth, 2)
-            if depth == 0 and word == "{" and line.lstrip().startswith(("ensures", "requires")):
-                worth = 20
-            elif before in ("use", "pub", "abbrev", "λ", "let", "record", ":", "if", "then", "else") or word in ("=", ":", "→", "∷", "≡", "where", "Type", "0"):
-                worth = 7
-            found.append((token.start(), depth, worth))
+            found.append((token.start(), depth, worth_of(last.group(), word, depth, is_clause)))
         if word in OPENS:
             depth += 1
         elif word in CLOSES:
