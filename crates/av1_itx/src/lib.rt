@@ -38,6 +38,7 @@ mod room;
 mod rows;
 mod shift;
 mod walsh;
+mod words;
 
 pub use adst::{
     av1_iadst4, av1_iadst8, av1_iadst16, av1_iflipadst4, av1_iflipadst8, av1_iflipadst16,

@@ -23,23 +23,23 @@ pub run_blocks-requires-2-clause-table : goal.run_blocks-requires-2-clause-table
 run_blocks-requires-2-clause-table g c = block_8
 
 pub run_blocks-requires-2-clause-fit : goal.run_blocks-requires-2-clause-fit
-run_blocks-requires-2-clause-fit g c = λ i h. let P : List ℤ → Type 0 = λ zs. AllFit 20 zs in subst P (sym (c.run_blocks.ensures i h)) (round-fits c.args.range 8 _ _ (column g.W.Butterfly.lane_of i c.turn_pairs.new.v) c.requires.range_in.1)
+run_blocks-requires-2-clause-fit g c = λ i h. let P : List ℤ → Type 0 = λ zs. AllFit 20 zs in subst P (sym (c.run_blocks.ensures i h)) (round-fits c.args.range 8 _ _ (column g.W.Word.lane_of i c.turn_pairs.new.v) c.requires.range_in.1)
 
 pub run_blocks-requires-3-clause-table : goal.run_blocks-requires-3-clause-table
 run_blocks-requires-3-clause-table g c = block_4
 
 pub run_blocks-requires-3-clause-fit : goal.run_blocks-requires-3-clause-fit
-run_blocks-requires-3-clause-fit g c = λ i h. let P : List ℤ → Type 0 = λ zs. AllFit 20 zs in subst P (sym (c.run_blocks-2.ensures i h)) (round-fits c.args.range 4 _ _ (column g.W.Butterfly.lane_of i c.run_blocks.new.v) c.requires.range_in.1)
+run_blocks-requires-3-clause-fit g c = λ i h. let P : List ℤ → Type 0 = λ zs. AllFit 20 zs in subst P (sym (c.run_blocks-2.ensures i h)) (round-fits c.args.range 4 _ _ (column g.W.Word.lane_of i c.run_blocks.new.v) c.requires.range_in.1)
 
 pub permute_out-requires-clause-table : goal.permute_out-requires-clause-table
 permute_out-requires-clause-table g c = places_16
 
 pub permute_out-requires-clause-fit : goal.permute_out-requires-clause-fit
-permute_out-requires-clause-fit g c = λ i h. let P : List ℤ → Type 0 = λ zs. AllFit 20 zs in subst P (sym (c.run_blocks-3.ensures i h)) (round-fits c.args.range 2 _ _ (column g.W.Butterfly.lane_of i c.run_blocks-2.new.v) c.requires.range_in.1)
+permute_out-requires-clause-fit g c = λ i h. let P : List ℤ → Type 0 = λ zs. AllFit 20 zs in subst P (sym (c.run_blocks-3.ensures i h)) (round-fits c.args.range 2 _ _ (column g.W.Word.lane_of i c.run_blocks-2.new.v) c.requires.range_in.1)
 
 pub returns : goal.returns
 returns g c = λ i h.
-    let lane = g.W.Butterfly.lane_of in
+    let lane = g.W.Word.lane_of in
     let range = c.args.range in
     let u = c.permute_in.new.v in
     let v0 = c.turn_pairs.new.v in

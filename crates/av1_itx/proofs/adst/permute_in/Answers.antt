@@ -11,7 +11,7 @@ loop-p-init g c = λ i h. words_begun _ _ (omega arith)
 
 pub loop-p-preserved : goal.loop-p-preserved
 loop-p-preserved g c = λ i h.
-    let lane = g.W.Butterfly.lane_of in
+    let lane = g.W.Word.lane_of in
     let x = c.args.input.now in
     let n = length c.args.v.now in
     let p = c.loop-p.p in

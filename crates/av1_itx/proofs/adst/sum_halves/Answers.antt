@@ -16,7 +16,7 @@ loop-p-init g c = λ i h. IsHalved-start _ _ _ (length-map c.args.v.now _ ∙ sy
 
 pub plus-requires : goal.plus-requires
 plus-requires g c = λ i h.
-    let lane = g.W.Butterfly.lane_of in
+    let lane = g.W.Word.lane_of in
     let inv = c.loop-p.invariant i h in
     let p = c.loop-p.p in
     let q = p + length c.args.v.now / 2 in
@@ -27,7 +27,7 @@ plus-requires g c = λ i h.
 
 pub minus-requires : goal.minus-requires
 minus-requires g c = λ i h.
-    let lane = g.W.Butterfly.lane_of in
+    let lane = g.W.Word.lane_of in
     let inv = c.loop-p.invariant i h in
     let p = c.loop-p.p in
     let q = p + length c.args.v.now / 2 in
@@ -38,7 +38,7 @@ minus-requires g c = λ i h.
 
 pub loop-p-preserved : goal.loop-p-preserved
 loop-p-preserved g c = λ i h.
-    let lane = g.W.Butterfly.lane_of in
+    let lane = g.W.Word.lane_of in
     let inv = c.loop-p.invariant i h in
     let old = column lane i c.args.v.now in
     let s = length c.args.v.now / 2 in
@@ -51,4 +51,4 @@ loop-p-preserved g c = λ i h.
     (sum_second c.args.range s old p _ _ _ (omega arith) ex ey (c.clamp_to-in-loop-p.ensures i h ∙ ap (λ z. clamp_value z c.args.range) (c.minus.ensures i h)))
 
 pub returns : goal.returns
-returns g c = λ i h. IsHalved-end _ _ _ _ _ (omega arith) (c.loop-p.invariant i h) ∙ ap (λ n. by_index n (adst_sum c.args.range (length c.args.v.now / 2) (column g.W.Butterfly.lane_of i c.args.v.now))) c.requires.even
+returns g c = λ i h. IsHalved-end _ _ _ _ _ (omega arith) (c.loop-p.invariant i h) ∙ ap (λ n. by_index n (adst_sum c.args.range (length c.args.v.now / 2) (column g.W.Word.lane_of i c.args.v.now))) c.requires.even
