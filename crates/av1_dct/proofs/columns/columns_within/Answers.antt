@@ -4,7 +4,7 @@ use Rattle.av1_dct.specs.Arithmetic.{AllFit, at}
 use Rattle.av1_dct.specs.Columns.{column_of}
 use Rattle.av1_dct.specs.Cosine.{cosine}
 use Rattle.av1_dct.specs.Word.{column}
-use Rattle.av1_dct.proofs.Columns.{column_run, lanes_done}
+use Rattle.av1_dct.proofs.InColumns.{column_run, lanes_done}
 use Rattle.av1_dct.proofs.Fits.{by_index-fits, clamp_value-fits}
 use Rattle.av1_dct.proofs.columns.columns_within.Goals as goal
 

@@ -1,5 +1,5 @@
 use Rattle.std.proofs.Common.{arith}
-use Rattle.av1_dct.proofs.Columns.{block_at, columns_at}
+use Rattle.av1_dct.proofs.InColumns.{block_at, columns_at}
 use Rattle.av1_dct.proofs.columns.cosine_columns.Goals as goal
 
 pub columns_of-requires-clause-block_len : goal.columns_of-requires-clause-block_len

@@ -2,7 +2,7 @@ use Rattle.std.proofs.Common.{ℕ, suc, ◌≡◌, ◌+◌, ◌*◌, ◌^◌, ar
 use Rattle.av1_dct.specs.Arithmetic.{at, clamp_value}
 use Rattle.av1_dct.specs.Columns.{column_of}
 use Rattle.av1_dct.specs.InPlace.{cut_place}
-use Rattle.av1_dct.proofs.Columns.{row_room}
+use Rattle.av1_dct.proofs.InColumns.{row_room}
 use Rattle.av1_dct.proofs.Places.{at-by_index, column_fill}
 use Rattle.av1_dct.proofs.columns.read_eight.Goals as goal
 

@@ -1,7 +1,7 @@
 use Rattle.std.proofs.Common.{◌*◌, ◌^◌, arith, ◌∙◌}
 use Rattle.std.proofs.lemmas.List.{length-take-le}
 use Rattle.av1_dct.specs.Word.{lane_of_vector}
-use Rattle.av1_dct.proofs.Narrow.{front_column}
+use Rattle.av1_dct.proofs.CutWords.{front_column}
 use Rattle.av1_dct.proofs.narrow_lanes.cosine_short_of.Goals as goal
 
 pub returns-clause-value : goal.returns-clause-value

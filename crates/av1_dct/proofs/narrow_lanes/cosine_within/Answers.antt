@@ -2,7 +2,7 @@ use Rattle.std.proofs.Common.{arith, sym, subst, List, ℤ, ◌∙◌}
 use Rattle.av1_dct.specs.Word.{column, lane_of_vector}
 use Rattle.av1_dct.specs.Arithmetic.{AllFit}
 use Rattle.av1_dct.proofs.Fits.{by_index-fits, clamp_value-fits}
-use Rattle.av1_dct.proofs.Narrow.{narrow_words}
+use Rattle.av1_dct.proofs.CutWords.{narrow_words}
 use Rattle.av1_dct.proofs.narrow_lanes.cosine_within.Goals as goal
 
 pub run_network-requires-clause-within : goal.run_network-requires-clause-within

@@ -4,7 +4,7 @@ use Rattle.av1_dct.specs.Arithmetic.{at}
 use Rattle.av1_dct.specs.Word.{column, lane_of_vector}
 use Rattle.av1_dct.proofs.Lanes.{Bits}
 use Rattle.av1_dct.proofs.LaneOperations.{stored}
-use Rattle.av1_dct.proofs.Narrow.{columns_same}
+use Rattle.av1_dct.proofs.CutWords.{columns_same}
 use Rattle.av1_dct.proofs.Places.{column_fill, column_get}
 use Rattle.av1_dct.proofs.narrow_lanes.spread_words.Goals as goal
 

@@ -1,7 +1,7 @@
 use Rattle.std.proofs.Common.{arith, ◌-◌, ◌+◌, ◌*◌, length}
 use Rattle.av1_dct.specs.Arithmetic.{at}
 use Rattle.av1_dct.specs.Word.{column}
-use Rattle.av1_dct.proofs.Columns.{lanes_row}
+use Rattle.av1_dct.proofs.InColumns.{lanes_row}
 use Rattle.av1_dct.proofs.Places.{column_get}
 use Rattle.av1_itx.proofs.lane_columns.scatter_words.Goals as goal
 

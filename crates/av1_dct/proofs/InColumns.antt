@@ -11,7 +11,7 @@ use Rattle.av1_dct.specs.Columns.{column_of, columns_done}
 use Rattle.av1_dct.specs.Cosine.{cosine}
 use Rattle.av1_dct.specs.InPlace.{cut_place, network}
 use Rattle.av1_dct.specs.Word.{column}
-use Rattle.av1_dct.proofs.Narrow.{narrow_words}
+use Rattle.av1_dct.proofs.CutWords.{narrow_words}
 use Rattle.av1_dct.proofs.Powers.{power_only}
 
 -- the end of a part of row r, in h rows of w places
