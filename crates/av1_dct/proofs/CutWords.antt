@@ -15,7 +15,8 @@ use Rattle.av1_dct.proofs.Places.{cosine_is}
 use Rattle.av1_dct.proofs.Tables.{brev-lt}
 
 -- two lists of words that agree in a lane, place by place
-pub columns_same : {W V : Type 0} (lane : W → ℕ → ℤ) (other : V → ℕ → ℤ) (i : ℕ) (ws : List W) (vs : List V) → length ws ≡ length vs → ((q : ℕ) → q < length vs → at (column lane i ws) q ≡ at (column other i vs) q) → column lane i ws ≡ column other i vs
+pub columns_same : {W V : Type 0} (lane : W → ℕ → ℤ) (other : V → ℕ → ℤ) (i : ℕ) (ws : List W) (vs : List V) → length ws ≡ length vs →
+    ((q : ℕ) → q < length vs → at (column lane i ws) q ≡ at (column other i vs) q) → column lane i ws ≡ column other i vs
 columns_same {W} {V} lane other i ws vs len same =
     let n = length vs in
     let zs = column other i vs in
@@ -23,7 +24,8 @@ columns_same {W} {V} lane other i ws vs len same =
     ∙ sym (fill_by_all (at zs) zs n (pos 0) (length-map vs _) (λ q lt. refl))
 
 -- what fits 16 bits is not changed by the cut
-cut_whole : (k : ℕ) (x : List ℤ) → All (FitsBits 16) (take (2 * 2 ^ k) x) → by_index (2 * 2 ^ k) (cut_place k x) ≡ by_index (2 * 2 ^ k) (λ p. at (take (2 * 2 ^ k) x) (brev (suc k) p))
+cut_whole : (k : ℕ) (x : List ℤ) → All (FitsBits 16) (take (2 * 2 ^ k) x) →
+    by_index (2 * 2 ^ k) (cut_place k x) ≡ by_index (2 * 2 ^ k) (λ p. at (take (2 * 2 ^ k) x) (brev (suc k) p))
 cut_whole k x fit =
     let fits = all-fit 16 16 (take (2 * 2 ^ k) x) (omega arith) fit in
     by_index-same (2 * 2 ^ k) _ _ (λ p h.
@@ -40,7 +42,8 @@ narrow_words {S} lane i k x cut run fit is_cut is_run =
     is_run ∙ ap (network 16 k) (is_cut ∙ cut_whole k x fit) ∙ sym (cosine_is 16 k (take (2 * 2 ^ k) x))
 
 -- the front of a slice that was written
-pub front_column : {W : Type 0} (lane : W → ℕ → ℤ) (i n m : ℕ) (new old : List W) → length new ≡ n → take n (column lane i (new ++ drop m old)) ≡ column lane i new
+pub front_column : {W : Type 0} (lane : W → ℕ → ℤ) (i n m : ℕ) (new old : List W) → length new ≡ n →
+    take n (column lane i (new ++ drop m old)) ≡ column lane i new
 front_column {W} lane i n m new old len =
     let g = λ (x : W). lane x i in
     take-map g n (new ++ drop m old) ∙ ap (map g) (take_at new (drop m old) n len)

@@ -3,7 +3,8 @@ use Rattle.std.specs.Prelude.{◌≡◌, pos, negsuc, [], ◌∷◌, refl}
 use Rattle.std.specs.Int.{int_wrap}
 use Rattle.av1_dct.specs.Arithmetic.{clamp_value}
 use Rattle.av1_dct.specs.Operations.{half_btf, half_btf_with}
-use Rattle.av1_dct.specs.Cosine.{cosine, brev, cos128, cosine_with, odd_half_with, group_sum_with, inner_turn_with, mirror_sum_with, outer_turn_with, rounds_with}
+use Rattle.av1_dct.specs.Cosine.{cosine, brev, cos128, cosine_with, odd_half_with, group_sum_with, inner_turn_with, mirror_sum_with, outer_turn_with}
+use Rattle.av1_dct.specs.Cosine.{rounds_with}
 
 one_weight : half_btf (cos128 32) (pos 524287) (cos128 32) (pos 524287) ≡ negsuc 307200
 unfolding half_btf_with cos128 int_wrap
@@ -21,11 +22,13 @@ inputs4_range20 : cosine 20 1 (pos 524287 ∷ negsuc 524287 ∷ pos 524287 ∷ n
 unfolding cosine_with odd_half_with mirror_sum_with rounds_with inner_turn_with group_sum_with outer_turn_with brev cos128 half_btf_with clamp_value int_wrap
 inputs4_range20 = refl
 
-inputs8_range16 : cosine 16 2 (pos 0 ∷ negsuc 32767 ∷ negsuc 0 ∷ negsuc 32767 ∷ pos 16384 ∷ negsuc 32767 ∷ negsuc 0 ∷ pos 1 ∷ []) ≡ (negsuc 21184 ∷ negsuc 293 ∷ negsuc 4038 ∷ negsuc 3847 ∷ pos 27018 ∷ negsuc 19130 ∷ negsuc 22871 ∷ pos 32767 ∷ [])
+inputs8_range16 : cosine 16 2 (pos 0 ∷ negsuc 32767 ∷ negsuc 0 ∷ negsuc 32767 ∷ pos 16384 ∷ negsuc 32767 ∷ negsuc 0 ∷ pos 1 ∷ []) ≡
+    (negsuc 21184 ∷ negsuc 293 ∷ negsuc 4038 ∷ negsuc 3847 ∷ pos 27018 ∷ negsuc 19130 ∷ negsuc 22871 ∷ pos 32767 ∷ [])
 unfolding cosine_with odd_half_with mirror_sum_with rounds_with inner_turn_with group_sum_with outer_turn_with brev cos128 half_btf_with clamp_value int_wrap
 inputs8_range16 = refl
 
-inputs8_range20 : cosine 20 2 (pos 524287 ∷ negsuc 524287 ∷ pos 524287 ∷ negsuc 524287 ∷ negsuc 524287 ∷ pos 524287 ∷ negsuc 524287 ∷ pos 524287 ∷ []) ≡ (negsuc 240513 ∷ negsuc 342563 ∷ pos 524287 ∷ negsuc 172927 ∷ negsuc 394623 ∷ negsuc 432477 ∷ negsuc 524287 ∷ pos 524287 ∷ [])
+inputs8_range20 : cosine 20 2 (pos 524287 ∷ negsuc 524287 ∷ pos 524287 ∷ negsuc 524287 ∷ negsuc 524287 ∷ pos 524287 ∷ negsuc 524287 ∷ pos 524287 ∷ []) ≡
+    (negsuc 240513 ∷ negsuc 342563 ∷ pos 524287 ∷ negsuc 172927 ∷ negsuc 394623 ∷ negsuc 432477 ∷ negsuc 524287 ∷ pos 524287 ∷ [])
 unfolding cosine_with odd_half_with mirror_sum_with rounds_with inner_turn_with group_sum_with outer_turn_with brev cos128 half_btf_with clamp_value int_wrap
 inputs8_range20 = refl
 

@@ -1,5 +1,6 @@
 -- What fits in some bits: sums, clamped values and each list of the transform.
-use Rattle.std.proofs.Common.{length, get_or, set, get_or-set_other, ℕ, Bool, true, false, ◌≡◌, ◌+◌, ◌-◌, ◌*◌, ◌/◌, ◌^◌, ◌<◌, ◌≤◌, ◌%◌, ◌||◌, min, nat_lt, nat_le, ℤ, pos, negsuc, ◌+ℤ◌, ◌*ℤ◌, List, arith, ap, sym, subst, ◌∙◌, inl, inr, cond, w32, FitsSigned, add-one}
+use Rattle.std.proofs.Common.{length, get_or, set, get_or-set_other, ℕ, Bool, true, false, ◌≡◌, ◌+◌, ◌-◌, ◌*◌, ◌/◌, ◌^◌, ◌<◌, ◌≤◌, ◌%◌, ◌||◌, min, nat_lt}
+use Rattle.std.proofs.Common.{nat_le, ℤ, pos, negsuc, ◌+ℤ◌, ◌*ℤ◌, List, arith, ap, sym, subst, ◌∙◌, inl, inr, cond, w32, FitsSigned, add-one}
 use Rattle.std.specs.List.{All}
 use Rattle.std.specs.Int.Signed.{shr_z}
 use Rattle.std.proofs.lemmas.Bool.{cases_lt}
@@ -11,7 +12,8 @@ use Rattle.std.proofs.lemmas.Grind.{get_or-set_at}
 use Rattle.std.proofs.lemmas.List.FromFn.{get_or-map-range_with_len, length-map-range_with_len}
 use Rattle.av1_dct.specs.Arithmetic.{AllFit, FitsBits, clamp_value}
 use Rattle.av1_dct.specs.Operations.{half_btf, half_btf_with}
-use Rattle.av1_dct.specs.Cosine.{outer_turn, mirror_sum, group_sum, inner_turn, rounds, group_sum_with, inner_turn_with, mirror_sum_with, outer_turn_with, rounds_with}
+use Rattle.av1_dct.specs.Cosine.{outer_turn, mirror_sum, group_sum, inner_turn, rounds, group_sum_with, inner_turn_with, mirror_sum_with, outer_turn_with}
+use Rattle.av1_dct.specs.Cosine.{rounds_with}
 use Rattle.av1_lists.specs.Lists.{by_index}
 
 pub zero_fits : (b : ℕ) → FitsBits b (pos 0)
@@ -70,7 +72,8 @@ all-fit b w xs h all = λ i.
     ]
 
 -- one more number of a list whose first i fit
-pub fits_more : (b : ℕ) (xs : List ℤ) (i k : ℕ) (x d : ℤ) → i < length xs → ((j : ℕ) (e : ℤ) → j < i → FitsBits b (get_or xs j e)) → FitsBits b x → k < i + 1 → FitsBits b (get_or (set xs i x) k d)
+pub fits_more : (b : ℕ) (xs : List ℤ) (i k : ℕ) (x d : ℤ) → i < length xs → ((j : ℕ) (e : ℤ) → j < i → FitsBits b (get_or xs j e)) → FitsBits b x →
+    k < i + 1 → FitsBits b (get_or (set xs i x) k d)
 fits_more b xs i k x d h below here lt =
     let P : ℤ → Type 0 = λ z. FitsBits b z in
     elim (cases_lt k i) [
@@ -102,7 +105,9 @@ inner_turn-fits k j v i h =
     (cond-fits first _ _ (half_btf-fits _ _ _ _) (half_btf-fits _ _ _ _)))
 
 -- one more round
-pub rounds_more : (range k j : ℕ) (v u s w : List ℤ) → v ≡ rounds range k j u → s ≡ by_index (2 ^ k) (group_sum range (2 ^ j) v) → w ≡ by_index (2 ^ k) (inner_turn k j s) → w ≡ rounds range k (j + 1) u
+pub rounds_more : (range k j : ℕ) (v u s w : List ℤ) → v ≡ rounds range k j u → s ≡ by_index (2 ^ k) (group_sum range (2 ^ j) v) →
+    w ≡ by_index (2 ^ k) (inner_turn k j s) → w ≡ rounds range k (j + 1) u
 unfolding rounds_with
 rounds_more range k j v u s w hv hs hw =
-    hw ∙ ap (λ z. by_index (2 ^ k) (inner_turn k j z)) (hs ∙ ap (λ z. by_index (2 ^ k) (group_sum range (2 ^ j) z)) hv) ∙ ap (λ n. rounds range k n u) (sym (add-one j))
+    hw ∙ ap (λ z. by_index (2 ^ k) (inner_turn k j z)) (hs ∙ ap (λ z. by_index (2 ^ k) (group_sum range (2 ^ j) z)) hv)
+    ∙ ap (λ n. rounds range k n u) (sym (add-one j))

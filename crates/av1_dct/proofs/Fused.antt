@@ -1,11 +1,13 @@
 -- What one turn of the fused steps does, and that the turns together do the whole step. All of it is computed, for each length.
-use Rattle.std.proofs.Common.{refl, arith, zero, suc, ℕ, ◌≡◌, ◌<◌, ◌≤◌, ◌+◌, ◌-◌, ◌*◌, ◌/◌, ◌%◌, ◌==◌, ◌^◌, false, min, ◌++◌, nat_lt, if◌then◌else◌, neg_ℤ, ℤ, pos, List, [], ◌∷◌, length}
+use Rattle.std.proofs.Common.{refl, arith, zero, suc, ℕ, ◌≡◌, ◌<◌, ◌≤◌, ◌+◌, ◌-◌, ◌*◌, ◌/◌, ◌%◌, ◌==◌, ◌^◌, false, min, ◌++◌, nat_lt, if◌then◌else◌, neg_ℤ}
+use Rattle.std.proofs.Common.{ℤ, pos, List, [], ◌∷◌, length}
 use Rattle.std.proofs.lemmas.Bool.Decides.{nat_tests}
 use Rattle.std.proofs.lemmas.List.FromFn.{fill_by_all}
 use Rattle.av1_lists.specs.Lists.{by_index}
 use Rattle.av1_dct.specs.Arithmetic.{at}
 use Rattle.av1_dct.specs.Operations.{half_btf}
-use Rattle.av1_dct.specs.Cosine.{brev, cos128, group_sum, group_sum_with, mirror_sum, mirror_sum_with, outer_turn, outer_turn_with, inner_turn, inner_turn_with, rounds, rounds_with}
+use Rattle.av1_dct.specs.Cosine.{brev, cos128, group_sum, group_sum_with, mirror_sum, mirror_sum_with, outer_turn, outer_turn_with, inner_turn}
+use Rattle.av1_dct.specs.Cosine.{inner_turn_with, rounds, rounds_with}
 use Rattle.av1_dct.specs.InPlace.{network, paired, sums, begun, begun_at, begin_all, rounded, rounded_at, round_all, ended, ended_at, end_all}
 
 -- step 1 and the sums at pair n and its mirror image
@@ -88,7 +90,8 @@ begin_next range zero n u low high few = absurd (omega arith)
 begin_next range (suc zero) n u low high few = absurd (omega arith)
 begin_next range (suc (suc (suc (suc (suc (suc k)))))) n u low high few = absurd (omega arith)
 
-pub round_next : (range k j n : ℕ) (s : List ℤ) → j + 3 ≤ k → k ≤ 5 → n < 2 ^ k / 8 → round_turn range k j n (rounded range k j n s) ≡ rounded range k j (n + 1) s
+pub round_next : (range k j n : ℕ) (s : List ℤ) → j + 3 ≤ k → k ≤ 5 → n < 2 ^ k / 8 →
+    round_turn range k j n (rounded range k j n s) ≡ rounded range k j (n + 1) s
 unfolding rounded group_sum_with mirror_sum_with outer_turn_with inner_turn_with brev
 round_next range (suc (suc (suc zero))) zero zero s low high few = refl
 round_next range (suc (suc (suc zero))) zero (suc n) s low high few = absurd (omega arith)
@@ -291,7 +294,9 @@ none_yet t x y = grind (arith, nat_tests)
 
 pub begun_start : (range k : ℕ) (u : List ℤ) → length u ≡ 2 ^ k → u ≡ begun range k 0 u
 unfolding begun
-begun_start range k u len = fill_by_all (begun_at range k 0 u) u (2 ^ k) (pos 0) len (λ i lt. none_yet (min i (2 ^ k - 1 - i)) (group_sum range 1 (by_index (2 ^ k) (outer_turn k u)) i) (at u i))
+begun_start range k u len =
+    fill_by_all (begun_at range k 0 u) u (2 ^ k)
+    (pos 0) len (λ i lt. none_yet (min i (2 ^ k - 1 - i)) (group_sum range 1 (by_index (2 ^ k) (outer_turn k u)) i) (at u i))
 
 pub rounded_start : (range k j : ℕ) (s : List ℤ) → length s ≡ 2 ^ k → s ≡ rounded range k j 0 s
 unfolding rounded
@@ -305,7 +310,8 @@ unfolding ended
 ended_start range k w len = fill_by_all (ended_at range k 0 w) w (2 * 2 ^ k) (pos 0) len (λ i lt.
     let m = 2 ^ k in
     let p = if nat_lt i m then m - 1 - i else i - m in
-    none_yet (min p (m - 1 - p) % 2 ^ (k - 2)) (mirror_sum range false m (by_index m (at w) ++ by_index m (inner_turn k (k - 2) (by_index m (λ q. at w (m + q))))) i) (at w i))
+    none_yet (min p (m - 1 - p) % 2 ^ (k - 2))
+    (mirror_sum range false m (by_index m (at w) ++ by_index m (inner_turn k (k - 2) (by_index m (λ q. at w (m + q))))) i) (at w i))
 
 -- what the steps come to, in the words of the transform
 pub begin_sums : (range k : ℕ) (u : List ℤ) → begin_all range k u ≡ sums range k 0 (by_index (2 ^ k) (outer_turn k u))

@@ -1,6 +1,7 @@
 -- Step 2 of the cosine transform, group by group, each group a part of the list.
 use Rattle.std.proofs.Common.{ℕ, ◌≡◌, ◌+◌, ◌-◌, ◌<◌, ◌≤◌, ℤ, pos, List, ◌++◌, take, drop, length, arith, ap, ◌∙◌, sym, subst, refl, inl, inr}
-use Rattle.std.proofs.lemmas.List.{map-append, take-map, drop-map, length-take-le, length-take, length-drop, length-append, get_or_append_left, get_or-append_right, get_or-take, get_or-drop, get_or_past}
+use Rattle.std.proofs.lemmas.List.{map-append, take-map, drop-map, length-take-le, length-take, length-drop, length-append, get_or_append_left}
+use Rattle.std.proofs.lemmas.List.{get_or-append_right, get_or-take, get_or-drop, get_or_past}
 use Rattle.std.proofs.lemmas.Bool.{cases_lt}
 use Rattle.av1_dct.specs.Arithmetic.{AllFit, FitsBits, at}
 use Rattle.av1_dct.specs.Word.{column}
@@ -29,7 +30,15 @@ put-high a k xs ys i h len le =
     ∙ ap (λ n. at xs n) (let e : a + (k + (i - a - k)) ≡ i = omega arith in e)
 
 pub length-put : (a k : ℕ) (xs ys : List ℤ) → length ys ≡ k → a + k ≤ length xs → length (put a k xs ys) ≡ length xs
-length-put a k xs ys h le = omega (arith, length-append (take a xs) (ys ++ drop k (drop a xs)), length-append ys (drop k (drop a xs)), length-take-le a xs (omega arith), length-drop k (drop a xs), length-drop a xs)
+length-put a k xs ys h le =
+    omega (
+      arith,
+      length-append (take a xs) (ys ++ drop k (drop a xs)),
+      length-append ys (drop k (drop a xs)),
+      length-take-le a xs (omega arith),
+      length-drop k (drop a xs),
+      length-drop a xs,
+    )
 
 -- what a part of a list reads
 pub at-part : (a k : ℕ) (xs : List ℤ) (i : ℕ) → i < k → at (take k (drop a xs)) i ≡ at xs (a + i)
@@ -46,8 +55,10 @@ part_fits a n zs old fit same = λ j.
 pub column-part : {W : Type 0} (lane : W → ℕ → ℤ) (i a n : ℕ) (v : List W) → column lane i (take n (drop a v)) ≡ take n (drop a (column lane i v))
 column-part {W} lane i a n v = let f = λ (w : W). lane w i in simp (take-map f, drop-map f)
 
-pub words_fit : {W : Type 0} (lane : W → ℕ → ℤ) (i a n : ℕ) (v : List W) (m : ℕ) (f : ℕ → ℤ) (old : List ℤ) → IsBegun m f old a (column lane i v) → AllFit 20 old → AllFit 20 (column lane i (take n (drop a v)))
-words_fit lane i a n v m f old s fit = let P : List ℤ → Type 0 = λ zs. AllFit 20 zs in subst P (sym (column-part lane i a n v)) (part_fits a n (column lane i v) old fit s.rest)
+pub words_fit : {W : Type 0} (lane : W → ℕ → ℤ) (i a n : ℕ) (v : List W) (m : ℕ) (f : ℕ → ℤ) (old : List ℤ) → IsBegun m f old a (column lane i v) →
+    AllFit 20 old → AllFit 20 (column lane i (take n (drop a v)))
+words_fit lane i a n v m f old s fit = let P : List ℤ → Type 0 = λ zs. AllFit 20 zs
+    in subst P (sym (column-part lane i a n v)) (part_fits a n (column lane i v) old fit s.rest)
 
 pub take-fits : {W : Type 0} (lane : W → ℕ → ℤ) (i n : ℕ) (w : List W) → AllFit 20 (column lane i w) → AllFit 20 (column lane i (take n w))
 take-fits {W} lane i n w fit =

@@ -1,5 +1,6 @@
 -- The second half of the words, as it is written, and the network on both halves.
-use Rattle.std.proofs.Common.{ℕ, zero, suc, false, ◌≡◌, ◌-◌, ◌*◌, ◌^◌, ◌≤◌, ℤ, pos, List, [], ◌∷◌, ◌++◌, take, drop, length, arith, ap, sym, subst, refl, ◌∙◌, inl, inr}
+use Rattle.std.proofs.Common.{ℕ, zero, suc, false, ◌≡◌, ◌-◌, ◌*◌, ◌^◌, ◌≤◌, ℤ, pos, List, [], ◌∷◌, ◌++◌, take, drop, length, arith, ap, sym, subst, refl}
+use Rattle.std.proofs.Common.{◌∙◌, inl, inr}
 use Rattle.std.proofs.lemmas.Bool.{cases_lt}
 use Rattle.std.proofs.lemmas.List.{take_at, drop_at, drop_all, append-nil, length-drop, map-append, take-map, drop-map, get_or_append_left, get_or-append_right}
 use Rattle.std.proofs.lemmas.List.FromFn.{length-map-range_with_len}
@@ -34,7 +35,8 @@ two_fit x y hx hy zero = hx
 two_fit x y hx hy (suc zero) = hy
 two_fit x y hx hy (suc (suc i)) = zero_fits 20
 
-pub second_set-fits : {W : Type 0} (lane : W → ℕ → ℤ) (i m : ℕ) (o w : List W) → AllFit 20 (column lane i o) → AllFit 20 (column lane i w) → AllFit 20 (column lane i (second_set m o w))
+pub second_set-fits : {W : Type 0} (lane : W → ℕ → ℤ) (i m : ℕ) (o w : List W) → AllFit 20 (column lane i o) → AllFit 20 (column lane i w) →
+    AllFit 20 (column lane i (second_set m o w))
 second_set-fits {W} lane i m o w fo fw =
     let P : List ℤ → Type 0 = λ zs. AllFit 20 zs in
     subst P (sym (ap (column lane i) (second_set_is m o w) ∙ map-append (λ (x : W). lane x i) (take m w) o)) (append-fits _ _ (take-fits lane i m w fw) fo)
@@ -73,11 +75,13 @@ network_words {W} lane i range k m w e f hm is_e is_f =
     let even : column lane i e ≡ network range k (take (2 ^ suc k) zs) = is_e ∙ ap (network range k) (sym (take-map g m w) ∙ ap (λ n. take n zs) hm) in
     let rest : column lane i (drop m w) ≡ drop (2 ^ suc k) zs = sym (drop-map g m w) ∙ ap (λ n. drop n zs) hm in
     is_f
-    ∙ ap (joined range (suc k)) (map-append g e (drop m w) ∙ ap (λ ys. ys ++ column lane i (drop m w)) even ∙ ap (λ ys. network range k (take (2 ^ suc k) zs) ++ ys) rest)
+    ∙ ap (joined range (suc k)) (map-append g e (drop m w) ∙ ap (λ ys. ys ++ column lane i (drop m w)) even
+    ∙ ap (λ ys. network range k (take (2 ^ suc k) zs) ++ ys) rest)
     ∙ network-joined range k zs
 
 -- and such words fit before they are joined
-pub half-fits : {W : Type 0} (lane : W → ℕ → ℤ) (i range k m : ℕ) (w e : List W) → range ≤ 20 → AllFit 20 (column lane i w) → column lane i e ≡ network range k (column lane i (take m w)) → AllFit 20 (column lane i (e ++ drop m w))
+pub half-fits : {W : Type 0} (lane : W → ℕ → ℤ) (i range k m : ℕ) (w e : List W) → range ≤ 20 → AllFit 20 (column lane i w) →
+    column lane i e ≡ network range k (column lane i (take m w)) → AllFit 20 (column lane i (e ++ drop m w))
 half-fits {W} lane i range k m w e h fit is_e =
     let P : List ℤ → Type 0 = λ zs. AllFit 20 zs in
     let g = λ (x : W). lane x i in

@@ -34,7 +34,8 @@ lanes_row w c l n k G H v buf new room hk now before here = λ r q hr hq.
           elim (cases_lt q c) [
             | inl lo ↦ grind (arith, nat_tests)
             | inr lo ↦ elim (cases_lt q (c + l)) [
-              | inl hi ↦ (let d : r * w + q - (k * w + c) ≡ q - c = omega arith in let u : v (r * w + q - (k * w + c)) ≡ G k q = ap v d ∙ here q lo hi in grind (arith, nat_tests))
+              | inl hi ↦ (let d : r * w + q - (k * w + c) ≡ q - c = omega arith in let u : v (r * w + q - (k * w + c)) ≡ G k q = ap v d ∙ here q lo hi
+                  in grind (arith, nat_tests))
               | inr hi ↦ grind (arith, nat_tests)
             ]
           ]
@@ -70,7 +71,8 @@ lanes_done c q x y z v is same =
     ]
 
 -- columns of n values, once n is known as a number
-pub columns_at : (j k n w c r q : ℕ) (old : List ℤ) {z : ℤ} → n ≡ 2 * 2 ^ j → n ≡ 2 * 2 ^ k → z ≡ columns_done (2 * 2 ^ j) w c (cosine 16 j) old r q → z ≡ columns_done n w c (cosine 16 k) old r q
+pub columns_at : (j k n w c r q : ℕ) (old : List ℤ) {z : ℤ} → n ≡ 2 * 2 ^ j → n ≡ 2 * 2 ^ k → z ≡ columns_done (2 * 2 ^ j) w c (cosine 16 j) old r q →
+    z ≡ columns_done n w c (cosine 16 k) old r q
 columns_at j k n w c r q old ej ek is =
     is ∙ ap (λ m. columns_done m w c (cosine 16 j) old r q) (sym ej)
     ∙ ap (λ m. columns_done n w c (cosine 16 m) old r q) (power_only j k (sym ej ∙ ek))

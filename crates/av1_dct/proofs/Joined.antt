@@ -20,8 +20,10 @@ end_joined range k zs s v low high len_zs len_s is =
     let m = 2 ^ k in
     let ws = take m zs ++ s in
     let len : length (take m zs) ≡ m = length-take-le m zs (omega arith) in
-    let first : take m zs ≡ by_index m (at ws) = fill_by_all (at ws) (take m zs) m (pos 0) len (λ i lt. sym (get_or_append_left (take m zs) s (pos 0) i (omega (arith, len)))) in
-    let place : (i : ℕ) → at ws (m + i) ≡ at s i = λ i. get_or-append_right (take m zs) s m (m + i) (pos 0) len (omega arith) ∙ ap (at s) (let e : m + i - m ≡ i = omega arith in e) in
+    let first : take m zs ≡ by_index m (at ws) =
+    fill_by_all (at ws) (take m zs) m (pos 0) len (λ i lt. sym (get_or_append_left (take m zs) s (pos 0) i (omega (arith, len)))) in
+    let place : (i : ℕ) → at ws (m + i) ≡ at s i = λ i. get_or-append_right (take m zs) s m (m + i) (pos 0) len (omega arith)
+    ∙ ap (at s) (let e : m + i - m ≡ i = omega arith in e) in
     let second : s ≡ by_index m (λ i. at ws (m + i)) = fill_by_all (λ i. at ws (m + i)) s m (pos 0) len_s (λ i lt. sym (place i)) in
     ap (λ (x : List ℤ). by_index (2 * m) (mirror_sum range false m (x ++ by_index m (inner_turn k (k - 2) (by_index m (λ i. at ws (m + i))))))) (sym first)
     ∙ ap (λ (y : List ℤ). by_index (2 * m) (mirror_sum range false m (take m zs ++ by_index m (inner_turn k (k - 2) y)))) (sym second ∙ is)
@@ -36,7 +38,8 @@ fused_words {W} lane i range k m w o f low high hm hw ho is_o is_f =
     let g = λ (x : W). lane x i in
     let zs = column lane i w in
     let v = by_index (2 ^ k) (outer_turn k (drop (2 ^ k) zs)) in
-    let rest : column lane i (take (length w - m) (drop m w)) ≡ drop (2 ^ k) zs = ap (column lane i) (take_all (length w - m) (drop m w) (omega (arith, length-drop m w))) ∙ sym (drop-map g m w) ∙ ap (λ (n : ℕ). drop n zs) hm in
+    let rest : column lane i (take (length w - m) (drop m w)) ≡ drop (2 ^ k) zs =
+    ap (column lane i) (take_all (length w - m) (drop m w) (omega (arith, length-drop m w))) ∙ sym (drop-map g m w) ∙ ap (λ (n : ℕ). drop n zs) hm in
     let odd : column lane i o ≡ sums range k (k - 2) v = is_o ∙ ap (λ (ys : List ℤ). sums range k (k - 2) (by_index (2 ^ k) (outer_turn k ys))) rest in
     let even : column lane i (take m w) ≡ take (2 ^ k) zs = sym (take-map g m w) ∙ ap (λ (n : ℕ). take n zs) hm in
     let whole : column lane i (second_set m o w) ≡ take (2 ^ k) zs ++ column lane i o =

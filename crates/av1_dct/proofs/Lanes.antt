@@ -1,5 +1,6 @@
 -- Sums and differences in one lane of a vector of n words.
-use Rattle.std.proofs.Common.{ℕ, ◌≡◌, ◌+◌, ◌-◌, ◌%◌, ◌^◌, ◌<◌, pos, ◌+ℤ◌, ◌-ℤ◌, List, map, length, get_or, arith, ◌∙◌, ap, sym, w32, to_z, of_z, Fits, FitsSigned}
+use Rattle.std.proofs.Common.{ℕ, ◌≡◌, ◌+◌, ◌-◌, ◌%◌, ◌^◌, ◌<◌, pos, ◌+ℤ◌, ◌-ℤ◌, List, map, length, get_or, arith, ◌∙◌, ap, sym, w32, to_z, of_z, Fits}
+use Rattle.std.proofs.Common.{FitsSigned}
 use Rattle.std.specs.Simd.Lanes.{Each1, zip2}
 use Rattle.std.proofs.lemmas.List.{get_or-map, length-map}
 use Rattle.std.proofs.lemmas.Simd.{get_or-zip2, length-zip2, Each1-get_or}
@@ -23,9 +24,11 @@ lane_made bs i h f =
     ∙ ap (of_z w32) (get_or-map (to_z w32) bs i 0 (pos 0) h)
     ∙ of_z-to_z w32 _ f)
 
-pub lane_plus : (n : ℕ) (xs ys : List ℕ) (i : ℕ) → i < n → Bits n xs → Bits n ys → FitsSigned w32 (to_z w32 (get_or xs i 0) +ℤ to_z w32 (get_or ys i 0)) → lane_of_vector (map (to_z w32) (zip2 (λ x y. (x + y) % 4294967296) xs ys)) i ≡ to_z w32 (get_or xs i 0) +ℤ to_z w32 (get_or ys i 0)
+pub lane_plus : (n : ℕ) (xs ys : List ℕ) (i : ℕ) → i < n → Bits n xs → Bits n ys → FitsSigned w32 (to_z w32 (get_or xs i 0) +ℤ to_z w32 (get_or ys i 0)) →
+    lane_of_vector (map (to_z w32) (zip2 (λ x y. (x + y) % 4294967296) xs ys)) i ≡ to_z w32 (get_or xs i 0) +ℤ to_z w32 (get_or ys i 0)
 lane_plus n xs ys i h bx by f =
-    let z : get_or (zip2 (λ x y. (x + y) % 4294967296) xs ys) i 0 ≡ (get_or xs i 0 + get_or ys i 0) % 4294967296 = get_or-zip2 (λ (x y : ℕ). (x + y) % 4294967296) xs ys i 0 0 0 (omega (arith, bx.count)) (omega (arith, by.count)) in
+    let z : get_or (zip2 (λ x y. (x + y) % 4294967296) xs ys) i 0 ≡ (get_or xs i 0 + get_or ys i 0) % 4294967296 =
+    get_or-zip2 (λ (x y : ℕ). (x + y) % 4294967296) xs ys i 0 0 0 (omega (arith, bx.count)) (omega (arith, by.count)) in
     lane_made _ i (omega (arith, length-zip2 (λ (x y : ℕ). (x + y) % 4294967296) xs ys (bx.count ∙ sym by.count), bx.count)) (omega (arith, z))
     ∙ ap (to_z w32) z
     ∙ wrapping_add-bits w32 _ _ (bits_at n xs i h bx) (bits_at n ys i h by)
@@ -35,7 +38,8 @@ pub lane_minus : (n : ℕ) (xs ys : List ℕ) (i : ℕ) → i < n → Bits n xs 
     → FitsSigned w32 (to_z w32 (get_or xs i 0) -ℤ to_z w32 (get_or ys i 0))
     → lane_of_vector (map (to_z w32) (zip2 (λ x y. (x + (4294967296 - y)) % 4294967296) xs ys)) i ≡ to_z w32 (get_or xs i 0) -ℤ to_z w32 (get_or ys i 0)
 lane_minus n xs ys i h bx by f =
-    let z : get_or (zip2 (λ x y. (x + (4294967296 - y)) % 4294967296) xs ys) i 0 ≡ (get_or xs i 0 + (4294967296 - get_or ys i 0)) % 4294967296 = get_or-zip2 (λ (x y : ℕ). (x + (4294967296 - y)) % 4294967296) xs ys i 0 0 0 (omega (arith, bx.count)) (omega (arith, by.count)) in
+    let z : get_or (zip2 (λ x y. (x + (4294967296 - y)) % 4294967296) xs ys) i 0 ≡ (get_or xs i 0 + (4294967296 - get_or ys i 0)) % 4294967296 =
+    get_or-zip2 (λ (x y : ℕ). (x + (4294967296 - y)) % 4294967296) xs ys i 0 0 0 (omega (arith, bx.count)) (omega (arith, by.count)) in
     lane_made _ i (omega (arith, length-zip2 (λ (x y : ℕ). (x + (4294967296 - y)) % 4294967296) xs ys (bx.count ∙ sym by.count), bx.count)) (omega (arith, z))
     ∙ ap (to_z w32) z
     ∙ wrapping_sub-bits w32 _ _ (bits_at n xs i h bx) (bits_at n ys i h by)

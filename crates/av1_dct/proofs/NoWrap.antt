@@ -1,5 +1,6 @@
 -- Inputs of 18 bits and a range up to 18: none of a network's sums and products leaves 32 bits.
-use Rattle.std.proofs.Common.{unsigned_abs, ℕ, zero, suc, Bool, true, false, ◌≡◌, ◌+◌, ◌-◌, ◌*◌, ◌/◌, ◌^◌, ◌≤◌, ◌%◌, ◌==◌, ◌||◌, min, nat_lt, nat_le, ℤ, pos, neg_ℤ, ◌+ℤ◌, ◌-ℤ◌, ◌*ℤ◌, List, [], ◌∷◌, ◌++◌, arith, ap, refl, sym, ◌∙◌, inl, inr, cond, w32, FitsSigned}
+use Rattle.std.proofs.Common.{unsigned_abs, ℕ, zero, suc, Bool, true, false, ◌≡◌, ◌+◌, ◌-◌, ◌*◌, ◌/◌, ◌^◌, ◌≤◌, ◌%◌, ◌==◌, ◌||◌, min, nat_lt, nat_le, ℤ}
+use Rattle.std.proofs.Common.{pos, neg_ℤ, ◌+ℤ◌, ◌-ℤ◌, ◌*ℤ◌, List, [], ◌∷◌, ◌++◌, arith, ap, refl, sym, ◌∙◌, inl, inr, cond, w32, FitsSigned}
 use Rattle.std.specs.Int.{int_shr}
 use Rattle.std.specs.List.{All}
 use Rattle.std.proofs.lemmas.Bool.{cases_lt}
@@ -8,7 +9,8 @@ use Rattle.std.proofs.Math.Nat.{mul-le-mul}
 use Rattle.std.proofs.lemmas.List.{get_or_past}
 use Rattle.av1_dct.specs.Arithmetic.{AllFit, FitsBits, at, clamp_value}
 use Rattle.av1_dct.specs.Operations.{Operations, AreRight32, wrapping, half_btf, half_btf_with}
-use Rattle.av1_dct.specs.Cosine.{evens, odds, cos128_lookup, cos128, brev, outer_turn_with, mirror_sum_with, group_sum_with, inner_turn_with, rounds_with, odd_half_with, cosine_with, rounds, odd_half, cosine}
+use Rattle.av1_dct.specs.Cosine.{evens, odds, cos128_lookup, cos128, brev, outer_turn_with, mirror_sum_with, group_sum_with, inner_turn_with, rounds_with}
+use Rattle.av1_dct.specs.Cosine.{odd_half_with, cosine_with, rounds, odd_half, cosine}
 use Rattle.av1_lists.specs.Lists.{by_index}
 use Rattle.av1_lists.proofs.Lists.{by_index-same}
 use Rattle.av1_dct.proofs.Tables.{weight_bounds}
@@ -37,7 +39,8 @@ product w a h f =
     let m = mul-le-mul h.size n in
     omega (arith, unsigned_abs-mul w a, m)
 
-pub turn-same : (ops : Operations) → AreRight32 ops → (w0 x w1 y : ℤ) → Weight w0 → Weight w1 → FitsBits 18 x → FitsBits 18 y → half_btf_with ops w0 x w1 y ≡ half_btf w0 x w1 y
+pub turn-same : (ops : Operations) → AreRight32 ops → (w0 x w1 y : ℤ) → Weight w0 → Weight w1 → FitsBits 18 x → FitsBits 18 y →
+    half_btf_with ops w0 x w1 y ≡ half_btf w0 x w1 y
 unfolding half_btf_with
 turn-same ops r w0 x w1 y h0 h1 fx fy =
     let p = product w0 x h0 fx in
@@ -59,13 +62,16 @@ minus-same a r x y fx fy = r.minus x y (omega (arith, ints, fx.low, fx.high, fy.
 pub cond-same : (b : Bool) (x x' y y' : ℤ) → x ≡ x' → y ≡ y' → cond b x y ≡ cond b x' y'
 cond-same b x x' y y' hx hy = elim b as (λ v. cond v x y ≡ cond v x' y') [ true ↦ hx | false ↦ hy ]
 
-mirror-same : (a : Operations) → AreRight32 a → (range : ℕ) (odd : Bool) (m : ℕ) (v : List ℤ) (i : ℕ) → AllFit 20 v → mirror_sum_with a range odd m v i ≡ mirror_sum_with wrapping range odd m v i
+mirror-same : (a : Operations) → AreRight32 a → (range : ℕ) (odd : Bool) (m : ℕ) (v : List ℤ) (i : ℕ) → AllFit 20 v →
+    mirror_sum_with a range odd m v i ≡ mirror_sum_with wrapping range odd m v i
 unfolding mirror_sum_with
 mirror-same a r range odd m v i h =
     let e = 2 * m - 1 - i in
-    cond-same (cond odd (nat_le m i) (nat_lt i m)) _ _ _ _ (ap (λ z. clamp_value z range) (plus-same a r _ _ (h i) (h e))) (ap (λ z. clamp_value z range) (minus-same a r _ _ (h e) (h i)))
+    cond-same (cond odd (nat_le m i) (nat_lt i m)) _ _ _ _ (ap (λ z. clamp_value z range) (plus-same a r _ _ (h i) (h e)))
+    (ap (λ z. clamp_value z range) (minus-same a r _ _ (h e) (h i)))
 
-group-same : (a : Operations) → AreRight32 a → (range h : ℕ) (v : List ℤ) (i : ℕ) → AllFit 20 v → group_sum_with a range h v i ≡ group_sum_with wrapping range h v i
+group-same : (a : Operations) → AreRight32 a → (range h : ℕ) (v : List ℤ) (i : ℕ) → AllFit 20 v →
+    group_sum_with a range h v i ≡ group_sum_with wrapping range h v i
 unfolding group_sum_with
 group-same a r range h v i all =
     let g = i / (2 * h) in
@@ -100,7 +106,8 @@ inner-same t right k j v i all =
     let first = nat_lt r (2 * h) in
     cond-same (nat_lt r h || nat_le (3 * h) r) _ _ _ _ refl
     (cond-same (nat_lt i (m / 2)) _ _ _ _
-    (cond-same first _ _ _ _ (turn-same t right _ _ _ _ (neg-small _ s) c (all p) (all q)) (turn-same t right _ _ _ _ (neg-small _ c) (neg-small _ s) (all p) (all q)))
+    (cond-same first _ _ _ _ (turn-same t right _ _ _ _ (neg-small _ s) c (all p) (all q))
+    (turn-same t right _ _ _ _ (neg-small _ c) (neg-small _ s) (all p) (all q)))
     (cond-same first _ _ _ _ (turn-same t right _ _ _ _ c s (all p) (all q)) (turn-same t right _ _ _ _ (neg-small _ s) c (all p) (all q))))
 
 rounds-fit : (range k j : ℕ) (v : List ℤ) → range ≤ 20 → AllFit 20 v → AllFit 20 (rounds range k j v)
@@ -108,14 +115,16 @@ unfolding rounds_with
 rounds-fit range k zero v r h = h
 rounds-fit range k (suc j) v r h = by_index-fits (2 ^ k) _ (λ i. inner_turn-fits k j _ i (by_index-fits (2 ^ k) _ (λ e. group_sum-fits range (2 ^ j) _ e r)))
 
-rounds-same : (a : Operations) → AreRight32 a → (range k j : ℕ) (v : List ℤ) → range ≤ 18 → AllFit 20 v → rounds_with a range k j v ≡ rounds_with wrapping range k j v
+rounds-same : (a : Operations) → AreRight32 a → (range k j : ℕ) (v : List ℤ) → range ≤ 18 → AllFit 20 v →
+    rounds_with a range k j v ≡ rounds_with wrapping range k j v
 unfolding rounds_with
 rounds-same a t range k zero v r h = refl
 rounds-same a t range k (suc j) v r h =
     let w = rounds range k j v in
     let s = by_index (2 ^ k) (group_sum_with wrapping range (2 ^ j) w) in
     ap (λ w. by_index (2 ^ k) (inner_turn_with a k j (by_index (2 ^ k) (group_sum_with a range (2 ^ j) w)))) (rounds-same a t range k j v r h)
-    ∙ ap (λ s. by_index (2 ^ k) (inner_turn_with a k j s)) (by_index-same (2 ^ k) _ _ (λ i _. group-same a t range (2 ^ j) w i (rounds-fit range k j v (omega arith) h)))
+    ∙ ap (λ s. by_index (2 ^ k) (inner_turn_with a k j s))
+    (by_index-same (2 ^ k) _ _ (λ i _. group-same a t range (2 ^ j) w i (rounds-fit range k j v (omega arith) h)))
     ∙ by_index-same (2 ^ k) _ _ (λ i _. inner-same a t k j s i (by_index-fits (2 ^ k) _ (λ e. sums range (2 ^ j) _ e r)))
 
 odd_half-fits : (range k : ℕ) (y : List ℤ) → range ≤ 20 → AllFit 20 (odd_half range k y)
@@ -128,7 +137,9 @@ odd_half-same a t range k y r h =
     let m = 2 ^ suc k in
     let v = by_index m (λ p. at y (brev (suc k) p)) in
     let u = by_index m (outer_turn_with wrapping (suc k) v) in
-    ap (rounds_with a range (suc k) k) (by_index-same m (outer_turn_with a (suc k) v) (outer_turn_with wrapping (suc k) v) (λ i _. outer-same a t (suc k) v i (by_index-fits m _ (λ p. h (brev (suc k) p)))))
+    ap (rounds_with a range (suc k) k)
+    (by_index-same m (outer_turn_with a (suc k) v) (outer_turn_with wrapping (suc k) v)
+    (λ i _. outer-same a t (suc k) v i (by_index-fits m _ (λ p. h (brev (suc k) p)))))
     ∙ rounds-same a t range (suc k) k u r (by_index-fits m _ (λ i. outer_turn-fits (suc k) v i))
 
 pub no_wrap : (a : Operations) → AreRight32 a → (range k : ℕ) (x : List ℤ) → range ≤ 18 → AllFit 18 x → cosine_with a range k x ≡ cosine range k x
@@ -140,9 +151,13 @@ no_wrap a t range zero x r h =
 no_wrap a t range (suc k) x r h =
     let m = 2 ^ suc k in
     let small : range ≤ 20 = omega arith in
-    ap (λ even. by_index (2 * m) (mirror_sum_with a range false m (even ++ odd_half_with a range k (odds m x)))) (no_wrap a t range k (evens m x) r (by_index-fits m _ (λ i. h (2 * i))))
-    ∙ ap (λ odd. by_index (2 * m) (mirror_sum_with a range false m (cosine range k (evens m x) ++ odd))) (odd_half-same a t range k (odds m x) r (by_index-fits m _ (λ i. h (2 * i + 1))))
-    ∙ by_index-same (2 * m) _ _ (λ i _. mirror-same a t range false m _ i (append-fits _ _ (cosine-fits range k (evens m x) small) (odd_half-fits range k (odds m x) small)))
+    ap (λ even. by_index (2 * m) (mirror_sum_with a range false m (even ++ odd_half_with a range k (odds m x))))
+    (no_wrap a t range k (evens m x) r (by_index-fits m _ (λ i. h (2 * i))))
+    ∙ ap (λ odd. by_index (2 * m) (mirror_sum_with a range false m (cosine range k (evens m x) ++ odd)))
+    (odd_half-same a t range k (odds m x) r (by_index-fits m _ (λ i. h (2 * i + 1))))
+    ∙ by_index-same (2 * m) _ _
+    (λ i _. mirror-same a t range false m _ i (append-fits _ _ (cosine-fits range k (evens m x) small) (odd_half-fits range k (odds m x) small)))
 
-pub never_wraps : (ops : Operations) → AreRight32 ops → (range k : ℕ) (x : List ℤ) → range ≤ 18 → All (FitsBits 18) x → cosine_with ops range k x ≡ cosine range k x
+pub never_wraps : (ops : Operations) → AreRight32 ops → (range k : ℕ) (x : List ℤ) → range ≤ 18 → All (FitsBits 18) x →
+    cosine_with ops range k x ≡ cosine range k x
 never_wraps ops right range k x r fit = no_wrap ops right range k x r (all-fit 18 18 x (omega arith) fit)

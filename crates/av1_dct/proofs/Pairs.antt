@@ -1,5 +1,6 @@
 -- Two places of a list of words that become a clamped sum and difference, lane by lane.
-use Rattle.std.proofs.Common.{refl, zero, suc, [], ◌∷◌, ◌⊎◌, inl, inr, ℕ, ◌≡◌, ◌≤◌, ◌<◌, Bool, true, false, ℤ, ◌+ℤ◌, ◌-ℤ◌, List, length, set, get_or, arith, ap, sym, subst, ◌∙◌}
+use Rattle.std.proofs.Common.{refl, zero, suc, [], ◌∷◌, ◌⊎◌, inl, inr, ℕ, ◌≡◌, ◌≤◌, ◌<◌, Bool, true, false, ℤ, ◌+ℤ◌, ◌-ℤ◌, List, length, set, get_or, arith}
+use Rattle.std.proofs.Common.{ap, sym, subst, ◌∙◌}
 use Rattle.std.proofs.lemmas.Int.{ints}
 use Rattle.std.proofs.lemmas.List.{map-set}
 use Rattle.av1_dct.specs.Arithmetic.{AllFit, FitsBits, at, clamp_value}
@@ -8,7 +9,8 @@ use Rattle.av1_dct.specs.InPlace.{paired}
 use Rattle.av1_dct.proofs.Fits.{clamp_value-fits}
 use Rattle.av1_dct.proofs.Places.{column_get}
 
-column_sets : {W : Type 0} (lane : W → ℕ → ℤ) (i p e : ℕ) (v : List W) (a b : W) (x y : ℤ) → lane a i ≡ x → lane b i ≡ y → column lane i (set (set v p a) e b) ≡ set (set (column lane i v) p x) e y
+column_sets : {W : Type 0} (lane : W → ℕ → ℤ) (i p e : ℕ) (v : List W) (a b : W) (x y : ℤ) → lane a i ≡ x → lane b i ≡ y →
+    column lane i (set (set v p a) e b) ≡ set (set (column lane i v) p x) e y
 column_sets {W} lane i p e v a b x y ea eb =
     let f = λ (w : W). lane w i in
     map-set f (set v p a) e b
@@ -16,12 +18,15 @@ column_sets {W} lane i p e v a b x y ea eb =
     ∙ ap (λ z. set (set (column lane i v) p z) e (f b)) ea
     ∙ ap (λ z. set (set (column lane i v) p x) e z) eb
 
-pub put_odd : {W : Type 0} (lane : W → ℕ → ℤ) (i range p e : ℕ) (x y : ℤ) (v : List W) (a b : W) (odd : Bool) → odd ≡ true → lane a i ≡ clamp_value (y -ℤ x) range → lane b i ≡ clamp_value (x +ℤ y) range
+pub put_odd : {W : Type 0} (lane : W → ℕ → ℤ) (i range p e : ℕ) (x y : ℤ) (v : List W) (a b : W) (odd : Bool) → odd ≡ true →
+    lane a i ≡ clamp_value (y -ℤ x) range → lane b i ≡ clamp_value (x +ℤ y) range
     → column lane i (set (set v p a) e b) ≡ paired odd range p e x y (column lane i v)
-put_odd lane i range p e x y v a b true is ea eb = let swap : x +ℤ y ≡ y +ℤ x = omega (arith, ints) in column_sets lane i p e v a b _ _ ea (eb ∙ ap (λ z. clamp_value z range) swap)
+put_odd lane i range p e x y v a b true is ea eb = let swap : x +ℤ y ≡ y +ℤ x = omega (arith, ints)
+    in column_sets lane i p e v a b _ _ ea (eb ∙ ap (λ z. clamp_value z range) swap)
 put_odd lane i range p e x y v a b false is ea eb = absurd (let t : false ≡ true = is in cc)
 
-pub put_even : {W : Type 0} (lane : W → ℕ → ℤ) (i range p e : ℕ) (x y : ℤ) (v : List W) (a b : W) (odd : Bool) → odd ≡ false → lane a i ≡ clamp_value (x +ℤ y) range → lane b i ≡ clamp_value (x -ℤ y) range
+pub put_even : {W : Type 0} (lane : W → ℕ → ℤ) (i range p e : ℕ) (x y : ℤ) (v : List W) (a b : W) (odd : Bool) → odd ≡ false →
+    lane a i ≡ clamp_value (x +ℤ y) range → lane b i ≡ clamp_value (x -ℤ y) range
     → column lane i (set (set v p a) e b) ≡ paired odd range p e x y (column lane i v)
 put_even lane i range p e x y v a b false is ea eb = column_sets lane i p e v a b _ _ ea eb
 put_even lane i range p e x y v a b true is ea eb = absurd (let t : true ≡ false = is in cc)
@@ -46,5 +51,6 @@ paired-fits true range p e x y zs few fit = set-fits _ e _ (set-fits zs p _ fit 
 paired-fits false range p e x y zs few fit = set-fits _ e _ (set-fits zs p _ fit (clamp_value-fits _ range few)) (clamp_value-fits _ range few)
 
 -- the word that was read from a place
-pub column_at : {W : Type 0} (lane : W → ℕ → ℤ) (i : ℕ) (v : List W) (k q : ℕ) (x : W) → k ≡ q → k < length v → x ≡ get_or v k x → lane x i ≡ at (column lane i v) q
+pub column_at : {W : Type 0} (lane : W → ℕ → ℤ) (i : ℕ) (v : List W) (k q : ℕ) (x : W) → k ≡ q → k < length v → x ≡ get_or v k x →
+    lane x i ≡ at (column lane i v) q
 column_at lane i v k q x same lt is = column_get lane i v k x lt is ∙ ap (at (column lane i v)) same

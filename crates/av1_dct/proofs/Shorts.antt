@@ -1,5 +1,7 @@
 -- Lanes of 16 bits, and the vectors of 32 bits that they are computed in.
-use Rattle.std.proofs.Common.{inl, inr, refl, ℕ, zero, suc, ◌≡◌, ◌+◌, ◌-◌, ◌*◌, ◌%◌, ◌^◌, ◌<◌, ◌≤◌, ◌++◌, ◌&&◌, leb, ltb, Bool, true, false, cond, ℤ, pos, neg_ℤ, ◌+ℤ◌, ◌-ℤ◌, List, [], ◌∷◌, map, replicate, take, length, get_or, arith, ap, sym, subst, ◌∙◌, w16, w32, to_z, of_z, Fits, FitsSigned}
+use Rattle.std.proofs.Common.{inl, inr, refl, ℕ, zero, suc, ◌≡◌, ◌+◌, ◌-◌, ◌*◌, ◌%◌, ◌^◌, ◌<◌, ◌≤◌, ◌++◌, ◌&&◌, leb, ltb, Bool, true, false, cond, ℤ, pos}
+use Rattle.std.proofs.Common.{neg_ℤ, ◌+ℤ◌, ◌-ℤ◌, List, [], ◌∷◌, map, replicate, take, length, get_or, arith, ap, sym, subst, ◌∙◌, w16, w32, to_z, of_z}
+use Rattle.std.proofs.Common.{Fits, FitsSigned}
 use Rattle.std.proofs.lemmas.Bool.{cases_lt}
 use Rattle.std.proofs.lemmas.Bool.Decides.{nat_tests}
 use Rattle.std.proofs.lemmas.Int.{ints, to_z-of_z, of_z-to_z, int_wrap_fits, wrapping_add-bits, wrapping_sub-bits}
@@ -75,13 +77,16 @@ again w (x ∷ xs) zero = refl
 again w (x ∷ xs) (suc i) = again w xs i
 
 -- a vector that was handed on, in a lane that is known
-kept : (w : Width) (v : List ℤ) (i : ℕ) (z : ℤ) → FitsSigned w z → to_z w (get_or (map (of_z w) v) i 0) ≡ z → to_z w (get_or (map (of_z w) (map (to_z w) (map (of_z w) v))) i 0) ≡ z
+kept : (w : Width) (v : List ℤ) (i : ℕ) (z : ℤ) → FitsSigned w z → to_z w (get_or (map (of_z w) v) i 0) ≡ z →
+    to_z w (get_or (map (of_z w) (map (to_z w) (map (of_z w) v))) i 0) ≡ z
 kept w v i z f e = ap (to_z w) (again w (map (of_z w) v) i) ∙ ap (λ (u : ℤ). to_z w (of_z w u)) e ∙ to_z-of_z w z f
 
 -- ---- rotations
 
 short_turn : (w0 w1 : ℤ) (x y : ℕ) → FitsSigned w32 w0 → FitsSigned w32 w1 → Fits w16 x → Fits w16 y
-    → let t = to_z w32 (((of_z w32 w0 * of_z w32 (to_z w16 x) % 4294967296 + of_z w32 w1 * of_z w32 (to_z w16 y) % 4294967296) % 4294967296 + 2048) % 4294967296) in
+    → let t =
+    to_z w32 (((of_z w32 w0 * of_z w32 (to_z w16 x) % 4294967296 + of_z w32 w1 * of_z w32 (to_z w16 y) % 4294967296) % 4294967296 + 2048) % 4294967296)
+    in
     to_z w32 (of_z w32 (to_z w32 (of_z w32 (shr_z t 4096)))) ≡ half_btf w0 (to_z w16 x) w1 (to_z w16 y)
 short_turn w0 w1 x y f0 f1 fx fy =
     let n = ((of_z w32 w0 * of_z w32 (to_z w16 x) % 4294967296 + of_z w32 w1 * of_z w32 (to_z w16 y) % 4294967296) % 4294967296 + 2048) % 4294967296 in
@@ -111,10 +116,15 @@ pub lane_weighed : (w0 w1 : ℤ) (zs : List ℕ) → FitsSigned w32 w0 → FitsS
 unfolding lane_of_vector
 lane_weighed w0 w1 zs f0 f1 b =
     let z : ℕ → ℕ = λ i. get_or zs i 0 in
-    let turned = below 4 (λ i. let t = to_z w32 (((of_z w32 w0 * of_z w32 (to_z w16 (z (2 * i))) % 4294967296 + of_z w32 w1 * of_z w32 (to_z w16 (z (2 * i + 1))) % 4294967296) % 4294967296 + 2048) % 4294967296) in
+    let turned =
+    below 4 (λ i.
+    let t = to_z w32
+    (((of_z w32 w0 * of_z w32 (to_z w16 (z (2 * i))) % 4294967296 + of_z w32 w1 * of_z w32 (to_z w16 (z (2 * i + 1))) % 4294967296) % 4294967296 +
+    2048) % 4294967296) in
     to_z w32 (of_z w32 (to_z w32 (of_z w32 (shr_z t 4096)))) ≡ half_btf w0 (to_z w16 (z (2 * i))) w1 (to_z w16 (z (2 * i + 1))))
     (λ i h. short_turn w0 w1 (z (2 * i)) (z (2 * i + 1)) f0 f1 (word_at b (2 * i) (omega arith)) (word_at b (2 * i + 1) (omega arith))) in
-    let S : List ℕ → ℕ → Type 0 = λ xs i. lane_of_vector (map (to_z w32) (turned_words w0 w1 xs)) i ≡ half_btf w0 (to_z w16 (z (2 * i))) w1 (to_z w16 (z (2 * i + 1))) in
+    let S : List ℕ → ℕ → Type 0 =
+    λ xs i. lane_of_vector (map (to_z w32) (turned_words w0 w1 xs)) i ≡ half_btf w0 (to_z w16 (z (2 * i))) w1 (to_z w16 (z (2 * i + 1))) in
     written_out 8 (λ xs. (i : ℕ) → i < 4 → S xs i) zs b.count (each_below 4 (S (by_index 8 z)) turned)
 
 -- the words of two vectors side by side
@@ -136,7 +146,8 @@ Weighed w0 w1 r zs = (i : ℕ) → i < 4 → WeighedAt w0 w1 r zs i
 -- the same, of the words x and y
 abbrev Told : (w0 w1 : ℤ) → List ℤ → ℕ → (x y : ℕ) → Type 0
 Told w0 w1 r i x y =
-    lane_of_vector r i ≡ half_btf (to_z w32 (of_z w32 w0)) (to_z w16 (of_z w16 (to_z w16 (of_z w16 (to_z w16 x))))) (to_z w32 (of_z w32 w1)) (to_z w16 (of_z w16 (to_z w16 (of_z w16 (to_z w16 y)))))
+    lane_of_vector r i ≡ half_btf (to_z w32 (of_z w32 w0)) (to_z w16 (of_z w16 (to_z w16 (of_z w16 (to_z w16 x))))) (to_z w32 (of_z w32 w1))
+    (to_z w16 (of_z w16 (to_z w16 (of_z w16 (to_z w16 y)))))
 
 passed_twice : (x : ℕ) → Fits w16 x → to_z w16 (of_z w16 (to_z w16 (of_z w16 (to_z w16 x)))) ≡ to_z w16 x
 passed_twice x f = let e = of_z-to_z w16 x f.fits in ap (λ (n : ℕ). to_z w16 (of_z w16 (to_z w16 n))) e ∙ ap (to_z w16) e
@@ -156,15 +167,19 @@ lane_told w0 w1 r i x y f0 f1 fx fy e =
     ∙ ap (λ (z : ℤ). half_btf w0 (to_z w16 x) w1 z) (passed_twice y fy))
 
 -- eight rotations in two times four
-pub lane_turned : (w0 w1 : ℤ) (xs ys : List ℕ) (r q : List ℤ) → FitsSigned w32 w0 → FitsSigned w32 w1 → Words w16 8 xs → Words w16 8 ys → Weighed w0 w1 r (low_words xs ys) → Weighed w0 w1 q (high_words xs ys)
-    → (i : ℕ) → i < 8 → lane_of_pair (map (to_z w32) (map (of_z w32) r)) (map (to_z w32) (map (of_z w32) q)) i ≡ half_btf w0 (to_z w16 (get_or xs i 0)) w1 (to_z w16 (get_or ys i 0))
+pub lane_turned : (w0 w1 : ℤ) (xs ys : List ℕ) (r q : List ℤ) → FitsSigned w32 w0 → FitsSigned w32 w1 → Words w16 8 xs → Words w16 8 ys →
+    Weighed w0 w1 r (low_words xs ys) → Weighed w0 w1 q (high_words xs ys)
+    → (i : ℕ) → i < 8 →
+    lane_of_pair (map (to_z w32) (map (of_z w32) r)) (map (to_z w32) (map (of_z w32) q)) i ≡
+    half_btf w0 (to_z w16 (get_or xs i 0)) w1 (to_z w16 (get_or ys i 0))
 unfolding lane_of_pair lane_of_short
 lane_turned w0 w1 xs ys r q f0 f1 bx by =
     let x : ℕ → ℕ = λ i. get_or xs i 0 in
     let y : ℕ → ℕ = λ i. get_or ys i 0 in
     let X : List ℕ = by_index 8 x in
     let Y : List ℕ = by_index 8 y in
-    let S : ℕ → Type 0 = λ i. lane_of_pair (map (to_z w32) (map (of_z w32) r)) (map (to_z w32) (map (of_z w32) q)) i ≡ half_btf w0 (to_z w16 (x i)) w1 (to_z w16 (y i)) in
+    let S : ℕ → Type 0 =
+    λ i. lane_of_pair (map (to_z w32) (map (of_z w32) r)) (map (to_z w32) (map (of_z w32) q)) i ≡ half_btf w0 (to_z w16 (x i)) w1 (to_z w16 (y i)) in
     let P : List ℕ → List ℕ → Type 0 = λ us vs. Weighed w0 w1 r (low_words us vs) → Weighed w0 w1 q (high_words us vs) → (i : ℕ) → i < 8 → S i in
     written_out 8 (λ us. P us ys) xs bx.count
     (written_out 8 (P X) ys by.count (λ low high.
@@ -183,11 +198,14 @@ word_widened x h = let f = short_fits32 x h.fits in ap (λ (z : ℤ). to_z w32 (
 
 -- eight lanes in two times four
 pub lane_widened : (xs : List ℕ) → Words w16 8 xs → (i : ℕ) → i < 8
-    → lane_of_pair (map (to_z w32) (pick_l 0 (widened xs ++ widened xs) (0 ∷ 1 ∷ 2 ∷ 3 ∷ []))) (map (to_z w32) (pick_l 0 (widened xs ++ widened xs) (4 ∷ 5 ∷ 6 ∷ 7 ∷ []))) i ≡ to_z w16 (get_or xs i 0)
+    → lane_of_pair (map (to_z w32) (pick_l 0 (widened xs ++ widened xs) (0 ∷ 1 ∷ 2 ∷ 3 ∷ [])))
+    (map (to_z w32) (pick_l 0 (widened xs ++ widened xs) (4 ∷ 5 ∷ 6 ∷ 7 ∷ []))) i ≡ to_z w16 (get_or xs i 0)
 unfolding lane_of_pair lane_of_vector
 lane_widened xs b =
     let x : ℕ → ℕ = λ i. get_or xs i 0 in
-    let S : List ℕ → ℕ → Type 0 = λ us i. lane_of_pair (map (to_z w32) (pick_l 0 (widened us ++ widened us) (0 ∷ 1 ∷ 2 ∷ 3 ∷ []))) (map (to_z w32) (pick_l 0 (widened us ++ widened us) (4 ∷ 5 ∷ 6 ∷ 7 ∷ []))) i ≡ to_z w16 (x i) in
+    let S : List ℕ → ℕ → Type 0 =
+    λ us i. lane_of_pair (map (to_z w32) (pick_l 0 (widened us ++ widened us) (0 ∷ 1 ∷ 2 ∷ 3 ∷ [])))
+    (map (to_z w32) (pick_l 0 (widened us ++ widened us) (4 ∷ 5 ∷ 6 ∷ 7 ∷ []))) i ≡ to_z w16 (x i) in
     let wide = below 8 (λ i. to_z w32 (of_z w32 (to_z w32 (of_z w32 (to_z w16 (x i))))) ≡ to_z w16 (x i)) (λ i h. word_widened (x i) (word_at b i h)) in
     written_out 8 (λ us. (i : ℕ) → i < 8 → S us i) xs b.count (each_below 8 (S (by_index 8 x)) wide)
 
@@ -276,38 +294,47 @@ clamped_is high low c fh fl =
     ∙ ap (λ (z : ℤ). clamped_z high z (to_z w16 c)) (to_z-of_z w16 low fl)
 
 -- what is cut to 16 bits is clamped to fewer as it was
-twice_clamped : (k : ℕ) (z high low : ℤ) → high ≡ pos (k - 1) → low ≡ neg_ℤ (pos k) → FitsSigned w16 high → FitsSigned w16 low → clamped_z high low (cut_z z) ≡ int_max low (int_min z high)
+twice_clamped : (k : ℕ) (z high low : ℤ) → high ≡ pos (k - 1) → low ≡ neg_ℤ (pos k) → FitsSigned w16 high → FitsSigned w16 low →
+    clamped_z high low (cut_z z) ≡ int_max low (int_min z high)
 twice_clamped k z high low eh el fh fl = grind (arith, ints, fh.sfits, fl.sfits)
 
-word_clamped : (range : ℕ) (high low : ℤ) (n : ℕ) → high ≡ pos (2 ^ (range - 1) - 1) → low ≡ neg_ℤ (pos (2 ^ (range - 1))) → FitsSigned w16 high → FitsSigned w16 low
+word_clamped : (range : ℕ) (high low : ℤ) (n : ℕ) → high ≡ pos (2 ^ (range - 1) - 1) → low ≡ neg_ℤ (pos (2 ^ (range - 1))) → FitsSigned w16 high →
+    FitsSigned w16 low
     → to_z w16 (of_z w16 (to_z w16 (clamped high low (of_z w16 (to_z w32 (cut n)))))) ≡ clamp_value (to_z w32 n) range
 unfolding clamp_value
 word_clamped range high low n eh el fh fl =
     let z = to_z w32 n in
     let c = of_z w16 (to_z w32 (cut n)) in
     let ec : to_z w16 c ≡ cut_z z = ap (λ (u : ℤ). to_z w16 (of_z w16 u)) (cut_is n) ∙ to_z-of_z w16 (cut_z z) (cut_z-fits z) in
-    let e : to_z w16 (clamped high low c) ≡ int_max low (int_min z high) = clamped_is high low c fh fl ∙ ap (clamped_z high low) ec ∙ twice_clamped (2 ^ (range - 1)) z high low eh el fh fl in
+    let e : to_z w16 (clamped high low c) ≡ int_max low (int_min z high) = clamped_is high low c fh fl ∙ ap (clamped_z high low) ec
+    ∙ twice_clamped (2 ^ (range - 1)) z high low eh el fh fl in
     let f : FitsSigned w16 (int_max low (int_min z high)) = grind (arith, ints, fh.sfits, fl.sfits) in
     ap (λ (u : ℤ). to_z w16 (of_z w16 u)) e ∙ to_z-of_z w16 _ f
     ∙ ap (λ (u : ℤ). int_max u (int_min z high)) el
     ∙ ap (λ (u : ℤ). int_max (neg_ℤ (pos (2 ^ (range - 1)))) (int_min z u)) eh
 
 -- eight words of 32 bits, clamped
-pub lane_clamped : (range : ℕ) (high low : ℤ) (vs : List ℕ) → high ≡ pos (2 ^ (range - 1) - 1) → low ≡ neg_ℤ (pos (2 ^ (range - 1))) → FitsSigned w16 high → FitsSigned w16 low → Words w32 8 vs
-    → (i : ℕ) → i < 8 → lane_of_short (map (to_z w16) (clamped_words high low (map (λ n. of_z w16 (to_z w32 n)) (cut_words vs)))) i ≡ clamp_value (to_z w32 (get_or vs i 0)) range
+pub lane_clamped : (range : ℕ) (high low : ℤ) (vs : List ℕ) → high ≡ pos (2 ^ (range - 1) - 1) → low ≡ neg_ℤ (pos (2 ^ (range - 1))) → FitsSigned w16 high →
+    FitsSigned w16 low → Words w32 8 vs
+    → (i : ℕ) → i < 8 → lane_of_short (map (to_z w16) (clamped_words high low (map (λ n. of_z w16 (to_z w32 n)) (cut_words vs)))) i ≡
+    clamp_value (to_z w32 (get_or vs i 0)) range
 unfolding lane_of_short
 lane_clamped range high low vs eh el fh fl b =
     let v : ℕ → ℕ = λ i. get_or vs i 0 in
-    let S : List ℕ → ℕ → Type 0 = λ us i. lane_of_short (map (to_z w16) (clamped_words high low (map (λ n. of_z w16 (to_z w32 n)) (cut_words us)))) i ≡ clamp_value (to_z w32 (v i)) range in
-    let told = below 8 (λ i. to_z w16 (of_z w16 (to_z w16 (clamped high low (of_z w16 (to_z w32 (cut (v i))))))) ≡ clamp_value (to_z w32 (v i)) range) (λ i h. word_clamped range high low (v i) eh el fh fl) in
+    let S : List ℕ → ℕ → Type 0 = λ us i. lane_of_short (map (to_z w16) (clamped_words high low (map (λ n. of_z w16 (to_z w32 n)) (cut_words us)))) i ≡
+    clamp_value (to_z w32 (v i)) range in
+    let told = below 8 (λ i. to_z w16 (of_z w16 (to_z w16 (clamped high low (of_z w16 (to_z w32 (cut (v i))))))) ≡ clamp_value (to_z w32 (v i)) range)
+    (λ i h. word_clamped range high low (v i) eh el fh fl) in
     written_out 8 (λ us. (i : ℕ) → i < 8 → S us i) vs b.count (each_below 8 (S (by_index 8 v)) told)
 
 -- ---- sums and differences
 
 -- what a call that clamps gives
-pub clamped_told : (r : List ℤ) (range i : ℕ) (u z : ℤ) → range ≤ 16 → lane_of_short r i ≡ clamp_value u range → u ≡ z → lane_of_short (map (to_z w16) (map (of_z w16) r)) i ≡ clamp_value z range
+pub clamped_told : (r : List ℤ) (range i : ℕ) (u z : ℤ) → range ≤ 16 → lane_of_short r i ≡ clamp_value u range → u ≡ z →
+    lane_of_short (map (to_z w16) (map (of_z w16) r)) i ≡ clamp_value z range
 unfolding lane_of_short
-clamped_told r range i u z small e is = kept w16 r i (clamp_value z range) (fits_signed16 _ (clamp_value-fits z range small)) (e ∙ ap (λ (v : ℤ). clamp_value v range) is)
+clamped_told r range i u z small e is =
+    kept w16 r i (clamp_value z range) (fits_signed16 _ (clamp_value-fits z range small)) (e ∙ ap (λ (v : ℤ). clamp_value v range) is)
 
 passed_word : (n : ℕ) (z : ℤ) → FitsSigned w32 z → to_z w32 n ≡ z → to_z w32 (of_z w32 (to_z w32 n)) ≡ z
 passed_word n z f e = ap (λ (u : ℤ). to_z w32 (of_z w32 u)) e ∙ to_z-of_z w32 z f
@@ -340,7 +367,8 @@ word_difference a b ha hb fa fb =
 abbrev pub pair_at : List ℕ → List ℕ → ℕ → ℤ
 pair_at low high i = cond (ltb i 4) (to_z w32 (get_or low i 0)) (to_z w32 (get_or high (i - 4) 0))
 
-fits_apart : (low high : List ℕ) → ((i : ℕ) → i < 8 → FitsBits 20 (pair_at low high i)) → (i : ℕ) → i < 4 → FitsBits 20 (to_z w32 (get_or low i 0)) × FitsBits 20 (to_z w32 (get_or high i 0))
+fits_apart : (low high : List ℕ) → ((i : ℕ) → i < 8 → FitsBits 20 (pair_at low high i)) → (i : ℕ) → i < 4 →
+    FitsBits 20 (to_z w32 (get_or low i 0)) × FitsBits 20 (to_z w32 (get_or high i 0))
 fits_apart low high f i h = (
   each_below 4 (λ k. FitsBits 20 (to_z w32 (get_or low k 0))) (below 4 (λ k. FitsBits 20 (pair_at low high k)) (λ k l. f k (omega arith))) i h,
   each_below 4 (λ k. FitsBits 20 (to_z w32 (get_or high k 0))) (below 4 (λ k. FitsBits 20 (pair_at low high (4 + k))) (λ k l. f (4 + k) (omega arith))) i h,
@@ -349,11 +377,13 @@ fits_apart low high f i h = (
 -- an operation on two times four lanes, joined to eight
 pub lane_joined : (op : ℕ → ℕ → ℕ) (o : ℤ → ℤ → ℤ) → Does op o → (xl xh yl yh : List ℕ) → Words w32 4 xl → Words w32 4 xh → Words w32 4 yl → Words w32 4 yh
     → ((i : ℕ) → i < 8 → FitsBits 20 (pair_at xl xh i)) → ((i : ℕ) → i < 8 → FitsBits 20 (pair_at yl yh i))
-    → (i : ℕ) → i < 8 → lane_of_vector (map (to_z w32) (pick_l 0 (zip2 op xl yl ++ zip2 op xh yh) (0 ∷ 1 ∷ 2 ∷ 3 ∷ 4 ∷ 5 ∷ 6 ∷ 7 ∷ []))) i ≡ o (pair_at xl xh i) (pair_at yl yh i)
+    → (i : ℕ) → i < 8 → lane_of_vector (map (to_z w32) (pick_l 0 (zip2 op xl yl ++ zip2 op xh yh) (0 ∷ 1 ∷ 2 ∷ 3 ∷ 4 ∷ 5 ∷ 6 ∷ 7 ∷ []))) i ≡
+    o (pair_at xl xh i) (pair_at yl yh i)
 unfolding lane_of_vector
 lane_joined op o does xl xh yl yh bxl bxh byl byh fx fy =
     let S : List ℕ → List ℕ → List ℕ → List ℕ → ℕ → Type 0 = λ us us' vs vs' i.
-    lane_of_vector (map (to_z w32) (pick_l 0 (zip2 op us vs ++ zip2 op us' vs') (0 ∷ 1 ∷ 2 ∷ 3 ∷ 4 ∷ 5 ∷ 6 ∷ 7 ∷ []))) i ≡ o (pair_at xl xh i) (pair_at yl yh i) in
+    lane_of_vector (map (to_z w32) (pick_l 0 (zip2 op us vs ++ zip2 op us' vs') (0 ∷ 1 ∷ 2 ∷ 3 ∷ 4 ∷ 5 ∷ 6 ∷ 7 ∷ []))) i ≡ o (pair_at xl xh i)
+    (pair_at yl yh i) in
     let a : ℕ → ℕ = λ i. get_or xl i 0 in
     let a' : ℕ → ℕ = λ i. get_or xh i 0 in
     let b : ℕ → ℕ = λ i. get_or yl i 0 in
@@ -378,7 +408,8 @@ unfolding lane_of_vector
 lane_wide op o does xs ys bx by =
     let x : ℕ → ℕ = λ i. get_or xs i 0 in
     let y : ℕ → ℕ = λ i. get_or ys i 0 in
-    let S : List ℕ → List ℕ → ℕ → Type 0 = λ us vs i. lane_of_vector (map (to_z w32) (zip2 op (widened us) (widened vs))) i ≡ o (to_z w16 (x i)) (to_z w16 (y i)) in
+    let S : List ℕ → List ℕ → ℕ → Type 0 =
+    λ us vs i. lane_of_vector (map (to_z w32) (zip2 op (widened us) (widened vs))) i ≡ o (to_z w16 (x i)) (to_z w16 (y i)) in
     let P : ℤ → Type 0 = λ z. FitsBits 20 z in
     let same = λ (n : ℕ) (f : Fits w16 n). to_z-of_z w32 (to_z w16 n) (short_fits32 n f.fits) in
     let fits = λ (n : ℕ) (f : Fits w16 n). subst P (sym (same n f)) (fits_wider 16 20 (to_z w16 n) (omega arith) (any_short n)) in

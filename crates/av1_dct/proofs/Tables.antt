@@ -47,7 +47,8 @@ brev-add (suc d) k p h =
     rw suc-add (brev-suc (d + k) p wide ∙ omega (arith, brev-add d k p h, ap (λ n. n * brev k p) (pow-suc 2 d)))
 
 pub unit_is : (k : ℕ) → k ≤ 5 → 32 / 2 ^ k ≡ 2 ^ (5 - k)
-unit_is k h = ap (λ n. n / 2 ^ k) (let e : 32 ≡ 2 ^ (5 - k) * 2 ^ k = ap (λ i. 2 ^ i) (let f : 5 ≡ 5 - k + k = omega arith in f) ∙ pow-add 2 (5 - k) k in e) ∙ shl-shr (2 ^ (5 - k)) k
+unit_is k h = ap (λ n. n / 2 ^ k) (let e : 32 ≡ 2 ^ (5 - k) * 2 ^ k = ap (λ i. 2 ^ i) (let f : 5 ≡ 5 - k + k = omega arith in f) ∙ pow-add 2 (5 - k) k in e)
+    ∙ shl-shr (2 ^ (5 - k)) k
 
 -- an angle of step 1, from the table
 pub outer_is : (k p : ℕ) → k ≤ 5 → p < 2 ^ k → get_or REVERSED p 0 + 32 / 2 ^ k ≡ 32 / 2 ^ k * (2 * brev k p + 1)

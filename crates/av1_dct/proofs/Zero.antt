@@ -1,14 +1,17 @@
 -- The transform of zeros is zeros.
-use Rattle.std.proofs.Common.{ℕ, zero, suc, Bool, true, false, cond, ◌≡◌, ◌+◌, ◌-◌, ◌*◌, ◌/◌, ◌%◌, ◌^◌, ◌||◌, nat_lt, nat_le, min, ℤ, pos, ◌+ℤ◌, ◌-ℤ◌, ◌*ℤ◌, List, [], ◌∷◌, ◌++◌, take, drop, length, arith, ap, refl, ◌∙◌, inl, inr, sym, replicate}
+use Rattle.std.proofs.Common.{ℕ, zero, suc, Bool, true, false, cond, ◌≡◌, ◌+◌, ◌-◌, ◌*◌, ◌/◌, ◌%◌, ◌^◌, ◌||◌, nat_lt, nat_le, min, ℤ, pos, ◌+ℤ◌, ◌-ℤ◌, ◌*ℤ◌}
+use Rattle.std.proofs.Common.{List, [], ◌∷◌, ◌++◌, take, drop, length, arith, ap, refl, ◌∙◌, inl, inr, sym, replicate}
 use Rattle.std.specs.Int.{int_wrap, int_shr}
 use Rattle.std.proofs.lemmas.Int.{ints, clamps}
 use Rattle.std.proofs.lemmas.Nat.{pow_pos}
 use Rattle.std.proofs.lemmas.Bool.{cases_lt}
-use Rattle.std.proofs.lemmas.List.{get_or_past, get_or_append_left, get_or-append_right, get_or-take, get_or-drop, length-take, length-replicate, get_or-replicate, ext_get_or}
+use Rattle.std.proofs.lemmas.List.{get_or_past, get_or_append_left, get_or-append_right, get_or-take, get_or-drop, length-take, length-replicate}
+use Rattle.std.proofs.lemmas.List.{get_or-replicate, ext_get_or}
 use Rattle.std.proofs.lemmas.List.FromFn.{length-map-range_with_len}
 use Rattle.av1_dct.specs.Arithmetic.{at, clamp_value, wrap32}
 use Rattle.av1_dct.specs.Operations.{half_btf, half_btf_with}
-use Rattle.av1_dct.specs.Cosine.{evens, outer_turn, mirror_sum, group_sum, inner_turn, rounds, cosine, cosine_with, odd_half_with, group_sum_with, inner_turn_with, mirror_sum_with, outer_turn_with, rounds_with}
+use Rattle.av1_dct.specs.Cosine.{evens, outer_turn, mirror_sum, group_sum, inner_turn, rounds, cosine, cosine_with, odd_half_with, group_sum_with}
+use Rattle.av1_dct.specs.Cosine.{inner_turn_with, mirror_sum_with, outer_turn_with, rounds_with}
 use Rattle.av1_lists.specs.Lists.{by_index}
 use Rattle.av1_dct.proofs.Halves.{cosine-length}
 use Rattle.av1_dct.proofs.Places.{at-by_index}
@@ -108,7 +111,9 @@ cosine-zero range zero x h = record { at = two-zero _ _ (half_btf-zero _ _ _ _ (
 cosine-zero range (suc k) x h =
     let m = 2 ^ suc k in
     let even = cosine-zero range k (evens m x) (by_index-zero _ _ (λ i. h.at (2 * i))) in
-    let odd = rounds-zero range (suc k) k _ (by_index-zero _ _ (λ i. outer-zero (suc k) _ i (by_index-zero m _ (λ p. (by_index-zero m _ (λ q. h.at (2 * q + 1))).at _)))) in
+    let odd =
+    rounds-zero range (suc k) k _
+    (by_index-zero _ _ (λ i. outer-zero (suc k) _ i (by_index-zero m _ (λ p. (by_index-zero m _ (λ q. h.at (2 * q + 1))).at _)))) in
     by_index-zero _ _ (λ i. mirror-zero range false m _ i (append-zero _ _ even odd))
 
 pub zeros : (range k : ℕ) → cosine range k (replicate (2 * 2 ^ k) (pos 0)) ≡ replicate (2 * 2 ^ k) (pos 0)

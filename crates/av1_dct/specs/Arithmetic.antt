@@ -6,7 +6,8 @@ use Rattle.std.specs.Int.{int_shr, int_wrap, int_min, int_max, w32}
 abbrev pub wrap32 : ℤ → ℤ
 wrap32 z = int_wrap w32 z
 
--- a sum of products with weights in twelve-bit fixed point, wrapped at 32 bits and rounded to a whole number, a half upward
+-- a sum of products with weights in twelve-bit fixed point, wrapped at 32 bits and rounded to a whole number, a half
+-- upward
 abbrev pub round12 : ℤ → ℤ
 round12 s = int_shr (wrap32 (s +ℤ pos 2048)) 12
 

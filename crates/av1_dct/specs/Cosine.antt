@@ -1,15 +1,22 @@
 -- The inverse cosine transform.
-use Rattle.std.specs.Prelude.{ℕ, zero, suc, ◌+◌, ◌-◌, ◌*◌, ◌^◌, ◌/◌, ◌%◌, ◌==◌, Bool, false, nat_lt, nat_le, ◌||◌, min, if◌then◌else◌, ℤ, pos, neg_ℤ, List, [], ◌∷◌, ◌++◌, map, take, drop}
+use Rattle.std.specs.Prelude.{ℕ, zero, suc, ◌+◌, ◌-◌, ◌*◌, ◌^◌, ◌/◌, ◌%◌, ◌==◌, Bool, false, nat_lt, nat_le, ◌||◌}
+use Rattle.std.specs.Prelude.{min, if◌then◌else◌, ℤ, pos, neg_ℤ, List, [], ◌∷◌, ◌++◌, map, take, drop}
 use Rattle.av1_lists.specs.Lists.{by_index}
 use Rattle.av1_dct.specs.Arithmetic.{at, clamp_value}
 use Rattle.av1_dct.specs.Operations.{Operations, wrapping, half_btf_with}
 
--- The inverse DCT process of the AV1 specification, for 2^(k+1) values. A transform is made of butterfly rotations (a value and
--- its mirror image are turned by an angle) and Hadamard rotations (they become their clamped sum and difference).
+-- The inverse DCT process of the AV1 specification, for 2^(k+1) values. A transform is made of butterfly rotations (a
+-- value and its mirror image are turned by an angle) and Hadamard rotations (they become their clamped sum and
+-- difference).
 
 -- 4096 times the cosine of a * pi / 128, rounded, for a from 0 to 63
 abbrev pub cos128_lookup : List ℤ
-cos128_lookup = map pos (4096 ∷ 4095 ∷ 4091 ∷ 4085 ∷ 4076 ∷ 4065 ∷ 4052 ∷ 4036 ∷ 4017 ∷ 3996 ∷ 3973 ∷ 3948 ∷ 3920 ∷ 3889 ∷ 3857 ∷ 3822 ∷ 3784 ∷ 3745 ∷ 3703 ∷ 3659 ∷ 3612 ∷ 3564 ∷ 3513 ∷ 3461 ∷ 3406 ∷ 3349 ∷ 3290 ∷ 3229 ∷ 3166 ∷ 3102 ∷ 3035 ∷ 2967 ∷ 2896 ∷ 2824 ∷ 2751 ∷ 2675 ∷ 2598 ∷ 2520 ∷ 2440 ∷ 2359 ∷ 2276 ∷ 2191 ∷ 2106 ∷ 2019 ∷ 1931 ∷ 1842 ∷ 1751 ∷ 1660 ∷ 1567 ∷ 1474 ∷ 1380 ∷ 1285 ∷ 1189 ∷ 1092 ∷ 995 ∷ 897 ∷ 799 ∷ 700 ∷ 601 ∷ 501 ∷ 401 ∷ 301 ∷ 201 ∷ 101 ∷ [])
+cos128_lookup =
+    map pos (4096 ∷ 4095 ∷ 4091 ∷ 4085 ∷ 4076 ∷ 4065 ∷ 4052 ∷ 4036 ∷ 4017 ∷ 3996 ∷ 3973 ∷ 3948 ∷ 3920 ∷ 3889 ∷
+    3857 ∷ 3822 ∷ 3784 ∷ 3745 ∷ 3703 ∷ 3659 ∷ 3612 ∷ 3564 ∷ 3513 ∷ 3461 ∷ 3406 ∷ 3349 ∷ 3290 ∷ 3229 ∷ 3166 ∷
+    3102 ∷ 3035 ∷ 2967 ∷ 2896 ∷ 2824 ∷ 2751 ∷ 2675 ∷ 2598 ∷ 2520 ∷ 2440 ∷ 2359 ∷ 2276 ∷ 2191 ∷ 2106 ∷ 2019 ∷
+    1931 ∷ 1842 ∷ 1751 ∷ 1660 ∷ 1567 ∷ 1474 ∷ 1380 ∷ 1285 ∷ 1189 ∷ 1092 ∷ 995 ∷ 897 ∷ 799 ∷ 700 ∷ 601 ∷ 501 ∷
+    401 ∷ 301 ∷ 201 ∷ 101 ∷ [])
 
 -- the weight of an angle, its cosine; its sine is the weight of 64 - a
 unfoldable pub cos128 : ℕ → ℤ
@@ -34,7 +41,8 @@ outer_turn_with ops k v i =
 abbrev pub outer_turn : ℕ → List ℤ → ℕ → ℤ
 outer_turn = outer_turn_with wrapping
 
--- Hadamard rotations, on 2m values: place i and its mirror image become their clamped sum and difference, where odd the other way round.
+-- Hadamard rotations, on 2m values: place i and its mirror image become their clamped sum and difference, where odd the
+-- other way round.
 unfoldable pub mirror_sum_with : Operations → ℕ → Bool → ℕ → List ℤ → ℕ → ℤ
 mirror_sum_with ops range odd m w i =
     let e = 2 * m - 1 - i in
@@ -54,7 +62,8 @@ group_sum_with ops range h v i =
 abbrev pub group_sum : ℕ → ℕ → List ℤ → ℕ → ℤ
 group_sum = group_sum_with wrapping
 
--- Step 3, on m = 2^k values in groups of 2h = 2^(j+1) places: butterfly rotations of the inner half of each two groups with their mirror images.
+-- Step 3, on m = 2^k values in groups of 2h = 2^(j+1) places: butterfly rotations of the inner half of each two groups
+-- with their mirror images.
 unfoldable pub inner_turn_with : Operations → ℕ → ℕ → List ℤ → ℕ → ℤ
 inner_turn_with ops k j v i =
     let m = 2 ^ k in
@@ -103,10 +112,12 @@ evens m x = by_index m (λ i. at x (2 * i))
 abbrev pub odds : ℕ → List ℤ → List ℤ
 odds m x = by_index m (λ i. at x (2 * i + 1))
 
--- The inverse cosine transform of 2^(k+1) values: that of the even inputs and what becomes of the odd ones, added and subtracted (step 4).
+-- The inverse cosine transform of 2^(k+1) values: that of the even inputs and what becomes of the odd ones, added and
+-- subtracted (step 4).
 unfoldable pub cosine_with : Operations → ℕ → ℕ → List ℤ → List ℤ
 cosine_with ops range zero x =
-    half_btf_with ops (cos128 32) (at x 0) (cos128 32) (at x 1) ∷ half_btf_with ops (cos128 32) (at x 0) (neg_ℤ (cos128 32)) (at x 1) ∷ []
+    half_btf_with ops (cos128 32) (at x 0) (cos128 32) (at x 1) ∷ half_btf_with ops (cos128 32) (at x 0)
+    (neg_ℤ (cos128 32)) (at x 1) ∷ []
 cosine_with ops range (suc k) x =
     let m = 2 ^ suc k in
     let even = cosine_with ops range k (evens m x) in

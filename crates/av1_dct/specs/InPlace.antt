@@ -1,16 +1,19 @@
 -- What single functions of the crate do in place; no public contract cites this file.
-use Rattle.std.specs.Prelude.{ℕ, zero, suc, ◌+◌, ◌-◌, ◌*◌, ◌/◌, ◌%◌, ◌^◌, nat_lt, min, if◌then◌else◌, Bool, false, ℤ, neg_ℤ, ◌+ℤ◌, ◌-ℤ◌, List, [], ◌∷◌, ◌++◌, set, take, drop}
+use Rattle.std.specs.Prelude.{ℕ, zero, suc, ◌+◌, ◌-◌, ◌*◌, ◌/◌, ◌%◌, ◌^◌, nat_lt, min, if◌then◌else◌, Bool, false}
+use Rattle.std.specs.Prelude.{ℤ, neg_ℤ, ◌+ℤ◌, ◌-ℤ◌, List, [], ◌∷◌, ◌++◌, set, take, drop}
 use Rattle.av1_dct.specs.Arithmetic.{at, clamp_value}
 use Rattle.av1_dct.specs.Operations.{half_btf}
 use Rattle.av1_dct.specs.Cosine.{brev, cos128, group_sum, outer_turn, mirror_sum, rounds, inner_turn}
 use Rattle.av1_lists.specs.Lists.{by_index}
 
--- From the transform of the even inputs, in the first half of 2^(k+1) values, and the odd inputs, in the second half in the order of
--- their reversed places, to the transform of all: steps 1 to 3 on the second half, and the sums and differences of both.
+-- From the transform of the even inputs, in the first half of 2^(k+1) values, and the odd inputs, in the second half in
+-- the order of their reversed places, to the transform of all: steps 1 to 3 on the second half, and the sums and
+-- differences of both.
 abbrev pub joined : ℕ → ℕ → List ℤ → List ℤ
 joined range k w =
     let m = 2 ^ k in
-    by_index (2 * m) (mirror_sum range false m (take m w ++ rounds range k (k - 1) (by_index m (outer_turn k (drop m w)))))
+    by_index (2 * m)
+    (mirror_sum range false m (take m w ++ rounds range k (k - 1) (by_index m (outer_turn k (drop m w)))))
 
 -- The inverse cosine transform of 2^(k+1) values that stand in the order of their reversed places: even inputs first.
 unfoldable pub network : ℕ → ℕ → List ℤ → List ℤ
@@ -30,7 +33,8 @@ sums range k c u = by_index (2 ^ k) (group_sum range (2 ^ c) (rounds range k c u
 -- the places p and e become the clamped sum and difference of two values, where odd the other way round
 abbrev pub paired : Bool → (range p e : ℕ) → (x y : ℤ) → List ℤ → List ℤ
 paired odd range p e x y v =
-    set (set v p (if odd then clamp_value (y -ℤ x) range else clamp_value (x +ℤ y) range)) e (if odd then clamp_value (y +ℤ x) range else clamp_value (x -ℤ y) range)
+    set (set v p (if odd then clamp_value (y -ℤ x) range else clamp_value (x +ℤ y) range)) e
+    (if odd then clamp_value (y +ℤ x) range else clamp_value (x -ℤ y) range)
 
 -- step 1 and the sums of pairs: all of 2^k places
 abbrev pub begin_all : (range k : ℕ) → List ℤ → List ℤ
@@ -65,7 +69,9 @@ rounded range k j n s = by_index (2 ^ k) (rounded_at range k j n s)
 abbrev pub end_all : (range k : ℕ) → List ℤ → List ℤ
 end_all range k w =
     let m = 2 ^ k in
-    by_index (2 * m) (mirror_sum range false m (by_index m (at w) ++ by_index m (inner_turn k (k - 2) (by_index m (λ i. at w (m + i))))))
+    by_index (2 * m)
+    (mirror_sum range false m (by_index m (at w)
+    ++ by_index m (inner_turn k (k - 2) (by_index m (λ i. at w (m + i))))))
 
 -- the same at eight places for each of the first n turns
 abbrev pub ended_at : (range k n : ℕ) → List ℤ → ℕ → ℤ
@@ -73,7 +79,8 @@ ended_at range k n w i =
     let m = 2 ^ k in
     let p = if nat_lt i m then m - 1 - i else i - m in
     if nat_lt (min p (m - 1 - p) % 2 ^ (k - 2)) n
-    then mirror_sum range false m (by_index m (at w) ++ by_index m (inner_turn k (k - 2) (by_index m (λ i. at w (m + i))))) i
+    then mirror_sum range false m (by_index m (at w)
+    ++ by_index m (inner_turn k (k - 2) (by_index m (λ i. at w (m + i))))) i
     else at w i
 
 unfoldable pub ended : (range k n : ℕ) → List ℤ → List ℤ

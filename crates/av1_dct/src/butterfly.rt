@@ -4,8 +4,9 @@ ghost use Rattle.av1_dct.specs.Operations.{half_btf};
 
 use crate::word::Word;
 
-/// Numbers side by side, the lanes, with the two steps that a cosine transform is made of: butterfly rotations and Hadamard rotations, in
-/// each lane. What a butterfly rotation gives may need more bits than a lane has; the Hadamard rotation behind it clamps.
+/// Numbers side by side, the lanes, with the two steps that a cosine transform is made of: butterfly rotations and
+/// Hadamard rotations, in each lane. What a butterfly rotation gives may need more bits than a lane has; the Hadamard
+/// rotation behind it clamps.
 pub(crate) trait Butterfly: Copy {
     /// What a butterfly rotation gives: as many lanes, which are wide enough for it.
     type Wide: Copy;

@@ -14,8 +14,8 @@ use crate::narrow::{SHORT_BITS, Short, ShortLanes};
 use crate::weights::{power, reversed_place};
 use std::simd::prelude::*;
 
-// Reads the rows that come to eight places, from 8A on, in the order of reversed places: one word of eight neighbours from each. Past the
-// last it does nothing. Its place is a constant, so that the compiler knows each row as a number.
+// Reads the rows that come to eight places, from 8A on, in the order of reversed places: one word of eight neighbours
+// from each. Past the last it does nothing. Its place is a constant, so that the compiler knows each row as a number.
 #[inline(always)]
 fn read_eight<S: Short, const K: usize, const A: usize>(
     block: &[i32],
@@ -29,8 +29,10 @@ fn read_eight<S: Short, const K: usize, const A: usize>(
     requires few { stride ≤ 64 }
     requires block_len { length block.now ≡ 2 * 2 ^ K * stride }
     requires words_len { length words.old ≡ 2 * 2 ^ K }
-    requires before { (i q : ℕ) → i < 8 → q < 8 * A → q < 2 * 2 ^ K → at (column S.lane_of i words.old) q ≡ cut_place K (column_of (2 * 2 ^ K) stride (start + i) block.now) q }
-    ensures { (i q : ℕ) → i < 8 → q < 8 * A + 8 → q < 2 * 2 ^ K → at (column S.lane_of i words.new) q ≡ cut_place K (column_of (2 * 2 ^ K) stride (start + i) block.now) q }
+    requires before { (i q : ℕ) → i < 8 → q < 8 * A → q < 2 * 2 ^ K →
+        at (column S.lane_of i words.old) q ≡ cut_place K (column_of (2 * 2 ^ K) stride (start + i) block.now) q }
+    ensures { (i q : ℕ) → i < 8 → q < 8 * A + 8 → q < 2 * 2 ^ K →
+        at (column S.lane_of i words.new) q ≡ cut_place K (column_of (2 * 2 ^ K) stride (start + i) block.now) q }
 {
     let n = 2 * power(K);
     let first = 8 * A;
@@ -45,12 +47,7 @@ fn read_eight<S: Short, const K: usize, const A: usize>(
 
 // Reads eight neighbouring columns, one in each lane, in the order of reversed places.
 #[inline(always)]
-fn read_words<S: Short, const K: usize>(
-    block: &[i32],
-    start: usize,
-    stride: usize,
-    words: &mut [S],
-)
+fn read_words<S: Short, const K: usize>(block: &[i32], start: usize, stride: usize, words: &mut [S])
     requires k_in { K ≤ 5 }
     requires columns_in { start + 8 ≤ stride }
     requires few { stride ≤ 64 }
@@ -75,7 +72,9 @@ fn write_words<S: Short>(words: &[S], block: &mut [i32], start: usize, stride: u
     requires few { stride ≤ 64 }
     requires lines { length words.now ≤ 64 }
     requires block_len { length block.old ≡ length words.now * stride }
-    ensures { (r q : ℕ) → r < length words.now → q < stride → at block.new (r * stride + q) ≡ (if nat_le start q && nat_lt q (start + 8) then at (column S.lane_of (q - start) words.now) r else at block.old (r * stride + q)) }
+    ensures { (r q : ℕ) → r < length words.now → q < stride →
+        at block.new (r * stride + q) ≡ (if nat_le start q && nat_lt q (start + 8) then at (column S.lane_of (q - start) words.now) r
+        else at block.old (r * stride + q)) }
 {
     for r in 0..words.len() {
         let word = words[r];
@@ -122,10 +121,12 @@ fn columns_of<const K: usize, const N: usize>(block: &mut [i32], start: usize, s
     columns_within::<ShortLanes, K>(block, start, stride, &mut words);
 }
 
-/// Eight neighbouring columns of a block, transformed in place (the inverse DCT process of the AV1 specification, down each column). The
-/// block has `n` rows of `stride` values, at most 64, and the columns are those from `start` on; all others stay. Here n is 2^(k+1).
+/// Eight neighbouring columns of a block, transformed in place (the inverse DCT process of the AV1 specification, down
+/// each column). The block has `n` rows of `stride` values, at most 64, and the columns are those from `start` on; all
+/// others stay. Here n is 2^(k+1).
 ///
-/// Inputs have 16 signed bits, and sums are clamped to 16, as in the columns of samples of 8 and of 10 bits. Nothing is counted.
+/// Inputs have 16 signed bits, and sums are clamped to 16, as in the columns of samples of 8 and of 10 bits. Nothing is
+/// counted.
 pub fn cosine_columns(n: usize, block: &mut [i32], start: usize, stride: usize)
     requires n_in { IsTransformSide n }
     requires columns_in { start + 8 ≤ stride }

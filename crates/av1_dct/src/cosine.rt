@@ -32,8 +32,8 @@ fn network_4<W: Butterfly>(w: &mut [W], range: usize)
     put(false, w, 1, 2, b, x, range);
 }
 
-// From the transform of the even inputs in the first half of 2^(K+1) words, and the odd inputs in the second, to that of all. Each rotation
-// goes together with the sums behind it, so that what it gives is not stored.
+// From the transform of the even inputs in the first half of 2^(K+1) words, and the odd inputs in the second, to that
+// of all. Each rotation goes together with the sums behind it, so that what it gives is not stored.
 #[inline(always)]
 fn join_halves<W: Butterfly, const K: usize>(w: &mut [W], range: usize)
     requires range_in { (8 ≤ range) × (range ≤ 20) }
@@ -103,8 +103,8 @@ fn network_64<W: Butterfly>(w: &mut [W], range: usize)
     join_halves::<W, 5>(w, range);
 }
 
-// The transform of 2^(K+1) words that stand in the order of their reversed places: the even inputs make the first half of them.
-// Each length has a function of its own, so that the compiler knows its angles and places as numbers.
+// The transform of 2^(K+1) words that stand in the order of their reversed places: the even inputs make the first half
+// of them. Each length has a function of its own, so that the compiler knows its angles and places as numbers.
 #[inline(always)]
 pub(crate) fn run_network<W: Butterfly, const K: usize>(w: &mut [W], range: usize)
     requires range_in { (8 ≤ range) × (range ≤ 20) }
@@ -136,7 +136,8 @@ fn reorder<W: Butterfly, const K: usize>(input: &[W], output: &mut [W])
     }
 }
 
-// The transform of N = 2^(K+1) words. Both are constants of each instance, so every loop has its length and its weights as numbers.
+// The transform of N = 2^(K+1) words. Both are constants of each instance, so every loop has its length and its weights
+// as numbers.
 fn cosine_of<W: Butterfly, const K: usize, const N: usize>(
     input: &[W],
     output: &mut [W],
@@ -149,7 +150,8 @@ fn cosine_of<W: Butterfly, const K: usize, const N: usize>(
     requires input_len { 2 * 2 ^ K ≤ length input.now }
     requires output_len { 2 * 2 ^ K ≤ length output.old }
     requires fit { (i : ℕ) → i < W.LANES → All (FitsBits range) (take (2 * 2 ^ K) (column W.lane_of i input.now)) }
-    ensures value { (i : ℕ) → i < W.LANES → take (2 * 2 ^ K) (column W.lane_of i output.new) ≡ cosine range K (take (2 * 2 ^ K) (column W.lane_of i input.now)) }
+    ensures value { (i : ℕ) → i < W.LANES →
+        take (2 * 2 ^ K) (column W.lane_of i output.new) ≡ cosine range K (take (2 * 2 ^ K) (column W.lane_of i input.now)) }
     ensures rest { drop (2 * 2 ^ K) output.new ≡ drop (2 * 2 ^ K) output.old }
 {
     let part = &mut output[..N];
@@ -178,11 +180,12 @@ pub(crate) fn cosine_any<W: Butterfly>(n: usize, input: &[W], output: &mut [W], 
     }
 }
 
-/// The inverse cosine transform of `n` words, in each lane (the inverse DCT process of the AV1 specification, lane by lane): the
-/// first n words of `output` become that of the first n words of `input`, and the rest of `output` stays. Here n is 2^(k+1). Sums
-/// are clamped to `range` signed bits.
+/// The inverse cosine transform of `n` words, in each lane (the inverse DCT process of the AV1 specification, lane by
+/// lane): the first n words of `output` become that of the first n words of `input`, and the rest of `output` stays.
+/// Here n is 2^(k+1). Sums are clamped to `range` signed bits.
 ///
-/// `_work` is room for a transform that does not run in place. This one does, within `output`, so that any length will do.
+/// `_work` is room for a transform that does not run in place. This one does, within `output`, so that any length will
+/// do.
 #[inline(always)]
 pub fn cosine_words<W: Word>(n: usize, input: &[W], _work: &mut [W], output: &mut [W], range: usize)
     requires range_in { (8 ≤ range) × (range ≤ 20) }

@@ -35,7 +35,8 @@ impl LaneCount {
     }
 }
 
-// Eight transforms of n values. Lanes of 16 bits serve where the range has as many; for 4 values they would not pay for the cut.
+// Eight transforms of n values. Lanes of 16 bits serve where the range has as many; for 4 values they would not pay for
+// the cut.
 #[inline(always)]
 fn cosine_eight(n: usize, input: &[i32x8], output: &mut [i32x8], range: usize)
     requires range_in { (8 ≤ range) × (range ≤ 20) }
@@ -43,7 +44,8 @@ fn cosine_eight(n: usize, input: &[i32x8], output: &mut [i32x8], range: usize)
     requires input_len { n ≤ length input.now }
     requires output_len { n ≤ length output.old }
     requires fit { (i : ℕ) → i < 8 → All (FitsBits range) (take n (column lane_of_vector i input.now)) }
-    ensures value { (k i : ℕ) → i < 8 → n ≡ 2 * 2 ^ k → take n (column lane_of_vector i output.new) ≡ cosine range k (take n (column lane_of_vector i input.now)) }
+    ensures value { (k i : ℕ) → i < 8 → n ≡ 2 * 2 ^ k →
+        take n (column lane_of_vector i output.new) ≡ cosine range k (take n (column lane_of_vector i input.now)) }
     ensures rest { drop n output.new ≡ drop n output.old }
 {
     if range == SHORT_BITS && 8 <= n {
@@ -53,9 +55,11 @@ fn cosine_eight(n: usize, input: &[i32x8], output: &mut [i32x8], range: usize)
     }
 }
 
-/// Eight inverse cosine transforms of `n` values at a time, one in each lane, as `cosine_words` over `i32x8`. It counts one group.
+/// Eight inverse cosine transforms of `n` values at a time, one in each lane, as `cosine_words` over `i32x8`. It counts
+/// one group.
 ///
-/// `_work` is room for a transform that does not run in place. This one does, within `output`, so that any length will do.
+/// `_work` is room for a transform that does not run in place. This one does, within `output`, so that any length will
+/// do.
 #[inline(always)]
 pub fn cosine_lanes(
     count: &mut LaneCount,
@@ -70,7 +74,8 @@ pub fn cosine_lanes(
     requires input_len { n ≤ length input.now }
     requires output_len { n ≤ length output.old }
     requires fit { (i : ℕ) → i < 8 → All (FitsBits range) (take n (column lane_of_vector i input.now)) }
-    ensures value { (k i : ℕ) → i < 8 → n ≡ 2 * 2 ^ k → take n (column lane_of_vector i output.new) ≡ cosine range k (take n (column lane_of_vector i input.now)) }
+    ensures value { (k i : ℕ) → i < 8 → n ≡ 2 * 2 ^ k →
+        take n (column lane_of_vector i output.new) ≡ cosine range k (take n (column lane_of_vector i input.now)) }
     ensures rest { drop n output.new ≡ drop n output.old }
     ensures counts { count.new.groups ≡ counted count.old.groups }
 {

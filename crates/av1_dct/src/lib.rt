@@ -1,20 +1,25 @@
-//! Inverse cosine transforms of 4, 8, 16, 32 and 64 values: the inverse DCT process of the AV1 specification, with the weights, the
-//! rounding and the wrapped sums of rav1e.
+//! Inverse cosine transforms of 4, 8, 16, 32 and 64 values: the inverse DCT process of the AV1 specification, with the
+//! weights, the rounding and the wrapped sums of rav1e.
 //!
 //! The crate stands on the standard library and on `av1_lists`. It promises to the two-dimensional transforms above it:
 //!
-//! - `av1_idct4` to `av1_idct64` give `cosine` of `specs/Cosine.antt` for their length, and leave the rest of `output` as it was.
-//!   `cosine_words` is the one function behind them, for every length and every `Word`: an `i32`, or eight of them side by side.
-//! - `cosine_lanes` runs eight transforms at a time over `i32x8`, with `cosine` in each lane, and counts them in a `LaneCount`, which no
-//!   other call raises. Where the range is 16 it cuts the words to lanes of 16 bits, and widens what comes out.
-//! - `cosine_columns` transforms eight neighbouring columns of a block in place, where values have 16 bits. It counts nothing.
-//! - `half_btf` and `clamp_value`, the arithmetic of every network, are those of `specs/Operations.antt` and `specs/Arithmetic.antt`.
-//! - Three laws, each on a function with an empty body: a transform adds and subtracts its two halves, zeros give zeros, and at 18
-//!   bits nothing wraps.
+//! - `av1_idct4` to `av1_idct64` give `cosine` of `specs/Cosine.antt` for their length, and leave the rest of `output`
+//!   as it was. `cosine_words` is the one function behind them, for every length and every `Word`: an `i32`, or eight
+//!   of them side by side.
+//! - `cosine_lanes` runs eight transforms at a time over `i32x8`, with `cosine` in each lane, and counts them in a
+//!   `LaneCount`, which no other call raises. Where the range is 16 it cuts the words to lanes of 16 bits, and widens
+//!   what comes out.
+//! - `cosine_columns` transforms eight neighbouring columns of a block in place, where values have 16 bits. It counts
+//!   nothing.
+//! - `half_btf` and `clamp_value`, the arithmetic of every network, are those of `specs/Operations.antt` and
+//!   `specs/Arithmetic.antt`.
+//! - Three laws, each on a function with an empty body: a transform adds and subtracts its two halves, zeros give
+//!   zeros, and at 18 bits nothing wraps.
 //!
-//! Within the crate, `Butterfly` is what the networks ask of lanes: butterfly rotations, whose results may be wider than a lane, and
-//! Hadamard rotations, which clamp. Each `Word` has it, and so have eight lanes of 16 bits. A transform works in place, in the order of
-//! reversed places. Its length is a constant of each instance, so that the compiler writes out its loops and knows its weights as numbers.
+//! Within the crate, `Butterfly` is what the networks ask of lanes: butterfly rotations, whose results may be wider
+//! than a lane, and Hadamard rotations, which clamp. Each `Word` has it, and so have eight lanes of 16 bits. A
+//! transform works in place, in the order of reversed places. Its length is a constant of each instance, so that the
+//! compiler writes out its loops and knows its weights as numbers.
 #![tactic(auto)]
 
 mod arithmetic;

@@ -41,7 +41,8 @@ fn short_limits(range: usize) -> (i16, i16)
     (top as i16, low as i16)
 }
 
-// `clamp_value` in each lane. The first two steps and the cast are one operation, and at 16 bits the last two fall away.
+// `clamp_value` in each lane. The first two steps and the cast are one operation, and at 16 bits the last two fall
+// away.
 #[inline(always)]
 fn clamp_wide(v: i32x8, range: usize) -> i16x8
     requires { (8 ≤ range) × (range ≤ 16) }
@@ -204,9 +205,7 @@ impl Short for ShortLanes {
 
     #[inline(always)]
     fn write(self, values: &mut [i32], start: usize) {
-        self.lanes
-            .cast::<i32>()
-            .copy_to_slice(&mut values[start..]);
+        self.lanes.cast::<i32>().copy_to_slice(&mut values[start..]);
     }
 
     ghost eight = { refl };

@@ -1,4 +1,5 @@
-//! Eight transforms over `i32x8` whose values have 16 bits: the words are cut to narrow lanes, run there, and widened again.
+//! Eight transforms over `i32x8` whose values have 16 bits: the words are cut to narrow lanes, run there, and widened
+//! again.
 
 ghost use Rattle.std.specs.Prelude.{◌≡◌, ℕ, ◌+◌, ◌*◌, ◌^◌, ◌<◌, ◌≤◌, length, slice_index_or, take, drop};
 ghost use Rattle.std.specs.List.{All};
@@ -23,8 +24,8 @@ fn taken<W: Copy>(words: &[W], p: usize) -> W
     words[p]
 }
 
-// Cuts the words that come to eight places, from 8A on, in the order of reversed places. Past the last it does nothing. Its place is a
-// constant, so that the compiler knows each place as a number.
+// Cuts the words that come to eight places, from 8A on, in the order of reversed places. Past the last it does nothing.
+// Its place is a constant, so that the compiler knows each place as a number.
 #[inline(always)]
 fn cut_eight<S: Short, const K: usize, const A: usize>(input: &[i32x8], words: &mut [S])
     requires k_in { K ≤ 5 }
@@ -78,7 +79,8 @@ fn spread_words<S: Short>(words: &[S], output: &mut [i32x8])
     }
 }
 
-// Eight transforms of 2^(K+1) values of 16 bits: the words are cut, run through the network, and what comes out is widened.
+// Eight transforms of 2^(K+1) values of 16 bits: the words are cut, run through the network, and what comes out is
+// widened.
 #[inline(always)]
 fn cosine_within<S: Short, const K: usize>(input: &[i32x8], words: &mut [S], output: &mut [i32x8])
     requires k_in { (1 ≤ K) × (K ≤ 5) }
@@ -101,7 +103,8 @@ fn cosine_short_of<const K: usize, const N: usize>(input: &[i32x8], output: &mut
     requires input_len { 2 * 2 ^ K ≤ length input.now }
     requires output_len { 2 * 2 ^ K ≤ length output.old }
     requires fit { (i : ℕ) → i < 8 → All (FitsBits 16) (take (2 * 2 ^ K) (column lane_of_vector i input.now)) }
-    ensures value { (i : ℕ) → i < 8 → take (2 * 2 ^ K) (column lane_of_vector i output.new) ≡ cosine 16 K (take (2 * 2 ^ K) (column lane_of_vector i input.now)) }
+    ensures value { (i : ℕ) → i < 8 →
+        take (2 * 2 ^ K) (column lane_of_vector i output.new) ≡ cosine 16 K (take (2 * 2 ^ K) (column lane_of_vector i input.now)) }
     ensures rest { drop (2 * 2 ^ K) output.new ≡ drop (2 * 2 ^ K) output.old }
 {
     let zero = ShortLanes {

@@ -27,7 +27,8 @@ pub(crate) fn put<W: Butterfly>(
     requires e_in { e < length v.old }
     requires first { (i : ℕ) → i < W.LANES → FitsBits 20 (W.wide_lane_of x i) }
     requires second { (i : ℕ) → i < W.LANES → FitsBits 20 (W.wide_lane_of y i) }
-    ensures value { (i : ℕ) → i < W.LANES → column W.lane_of i v.new ≡ paired odd range p e (W.wide_lane_of x i) (W.wide_lane_of y i) (column W.lane_of i v.old) }
+    ensures value { (i : ℕ) → i < W.LANES →
+        column W.lane_of i v.new ≡ paired odd range p e (W.wide_lane_of x i) (W.wide_lane_of y i) (column W.lane_of i v.old) }
     ensures fit { (i : ℕ) → i < W.LANES → AllFit 20 (column W.lane_of i v.old) → AllFit 20 (column W.lane_of i v.new) }
 {
     let total = W::sum(x, y, range);
@@ -99,8 +100,8 @@ fn begin_at<W: Butterfly, const K: usize, const N: usize>(v: &mut [W], range: us
     put(f / 2 % 2 == 1, v, f, q, tf, tq, range);
 }
 
-// Turn N of round J's rotations and of the sums of twice as large groups behind them: two pairs in a group of 2^(J+2) places that are not
-// turned, and two that are, there and in its mirror image. Past the last it does nothing.
+// Turn N of round J's rotations and of the sums of twice as large groups behind them: two pairs in a group of 2^(J+2)
+// places that are not turned, and two that are, there and in its mirror image. Past the last it does nothing.
 #[inline(always)]
 fn round_at<W: Butterfly, const K: usize, const J: usize, const N: usize>(v: &mut [W], range: usize)
     requires range_in { (8 ≤ range) × (range ≤ 20) }
@@ -110,7 +111,8 @@ fn round_at<W: Butterfly, const K: usize, const J: usize, const N: usize>(v: &mu
     requires n_in { N ≤ 3 }
     requires len { length v.old ≡ 2 ^ K }
     requires fit { (i : ℕ) → i < W.LANES → AllFit 20 (column W.lane_of i v.old) }
-    ensures value { (i : ℕ) (u : List ℤ) → i < W.LANES → column W.lane_of i v.old ≡ rounded range K J N u → column W.lane_of i v.new ≡ rounded range K J (N + 1) u }
+    ensures value { (i : ℕ) (u : List ℤ) → i < W.LANES → column W.lane_of i v.old ≡ rounded range K J N u →
+        column W.lane_of i v.new ≡ rounded range K J (N + 1) u }
     ensures fit { (i : ℕ) → i < W.LANES → AllFit 20 (column W.lane_of i v.new) }
 {
     let (m, h) = (power(K), power(J));
@@ -135,8 +137,8 @@ fn round_at<W: Butterfly, const K: usize, const J: usize, const N: usize>(v: &mu
     put(odd_above, v, f, q, tf, tq, range);
 }
 
-// Turn N of the last rotations, of the second half, and of the sums of both halves: two pairs of which the odd place is not turned, and two
-// of which it is. Past the last it does nothing.
+// Turn N of the last rotations, of the second half, and of the sums of both halves: two pairs of which the odd place is
+// not turned, and two of which it is. Past the last it does nothing.
 #[inline(always)]
 fn end_at<W: Butterfly, const K: usize, const N: usize>(w: &mut [W], range: usize)
     requires range_in { (8 ≤ range) × (range ≤ 20) }
@@ -165,7 +167,8 @@ fn end_at<W: Butterfly, const K: usize, const N: usize>(w: &mut [W], range: usiz
     put(false, w, p, m + q, y, tq, range);
 }
 
-// Step 1 and the sums of pairs. All turns are written out, so that the compiler knows their places and weights as numbers.
+// Step 1 and the sums of pairs. All turns are written out, so that the compiler knows their places and weights as
+// numbers.
 #[inline(always)]
 pub(crate) fn begin<W: Butterfly, const K: usize>(v: &mut [W], range: usize)
     requires range_in { (8 ≤ range) × (range ≤ 20) }
@@ -194,7 +197,8 @@ pub(crate) fn round<W: Butterfly, const K: usize, const J: usize>(v: &mut [W], r
     requires j_in { J ≤ 2 }
     requires len { length v.old ≡ 2 ^ K }
     requires fit { (i : ℕ) → i < W.LANES → AllFit 20 (column W.lane_of i v.old) }
-    ensures value { (i : ℕ) (u : List ℤ) → i < W.LANES → column W.lane_of i v.old ≡ sums range K (min J (K - 2)) u → column W.lane_of i v.new ≡ sums range K (min (J + 1) (K - 2)) u }
+    ensures value { (i : ℕ) (u : List ℤ) → i < W.LANES → column W.lane_of i v.old ≡ sums range K (min J (K - 2)) u →
+        column W.lane_of i v.new ≡ sums range K (min (J + 1) (K - 2)) u }
     ensures fit { (i : ℕ) → i < W.LANES → AllFit 20 (column W.lane_of i v.new) }
 {
     if K < J + 3 {

@@ -9,7 +9,8 @@ use crate::arithmetic::{clamp_value, half_btf, limits};
 use std::simd::prelude::*;
 
 /// Some `i32` side by side, the lanes: lane i of an operation's result is that operation of lane i of its arguments.
-/// The networks are written over words, and so run one transform over `i32`, four at a time over `i32x4` and eight over `i32x8`.
+/// The networks are written over words, and so run one transform over `i32`, four at a time over `i32x4` and eight over
+/// `i32x8`.
 pub trait Word: Copy {
     /// How many lanes there are.
     const LANES: usize;

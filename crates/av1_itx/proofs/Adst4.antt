@@ -25,7 +25,8 @@ rounded_is z s t y hs ht hz =
     hz ∙ ap round12 hs ∙ ap (λ n. int_shr n 12) (int_wrap-add_left w32 t (pos 2048)) ∙ ap round12 ht
 
 -- three products
-pub three : (w0 x0 w1 x1 w2 x2 p q r : ℤ) → p ≡ wrap32 (pos 0 +ℤ w0 *ℤ x0) → q ≡ wrap32 (p +ℤ w1 *ℤ x1) → r ≡ wrap32 (q +ℤ w2 *ℤ x2) → r ≡ wrap32 (pos 0 +ℤ w0 *ℤ x0 +ℤ w1 *ℤ x1 +ℤ w2 *ℤ x2)
+pub three : (w0 x0 w1 x1 w2 x2 p q r : ℤ) → p ≡ wrap32 (pos 0 +ℤ w0 *ℤ x0) → q ≡ wrap32 (p +ℤ w1 *ℤ x1) → r ≡ wrap32 (q +ℤ w2 *ℤ x2) →
+    r ≡ wrap32 (pos 0 +ℤ w0 *ℤ x0 +ℤ w1 *ℤ x1 +ℤ w2 *ℤ x2)
 three w0 x0 w1 x1 w2 x2 p q r hp hq hr = one_more q _ r w2 x2 (one_more p _ q w1 x1 hp hq) hr
 
 -- what the outputs are made of: the sums of the outer values for the first two, and the product of the second value
@@ -38,13 +39,18 @@ Second x s = s ≡ wrap32 (pos 0 +ℤ pos 2482 *ℤ at x 0 +ℤ negsuc 1320 *ℤ
 abbrev pub Third : (x : List ℤ) → ℤ → Type 0
 Third x s = s ≡ wrap32 (pos 0 +ℤ pos 3344 *ℤ at x 1)
 
-first_sum : (x0 x1 x2 x3 : ℤ) → pos 0 +ℤ pos 1321 *ℤ x0 +ℤ pos 3803 *ℤ x2 +ℤ pos 2482 *ℤ x3 +ℤ pos 1 *ℤ (pos 0 +ℤ pos 3344 *ℤ x1) ≡ pos 1321 *ℤ x0 +ℤ pos 3344 *ℤ x1 +ℤ pos 3803 *ℤ x2 +ℤ pos 2482 *ℤ x3
+first_sum : (x0 x1 x2 x3 : ℤ) →
+    pos 0 +ℤ pos 1321 *ℤ x0 +ℤ pos 3803 *ℤ x2 +ℤ pos 2482 *ℤ x3 +ℤ pos 1 *ℤ (pos 0 +ℤ pos 3344 *ℤ x1) ≡
+    pos 1321 *ℤ x0 +ℤ pos 3344 *ℤ x1 +ℤ pos 3803 *ℤ x2 +ℤ pos 2482 *ℤ x3
 first_sum x0 x1 x2 x3 = omega (arith, ints)
 
-second_sum : (x0 x1 x2 x3 : ℤ) → pos 0 +ℤ pos 2482 *ℤ x0 +ℤ negsuc 1320 *ℤ x2 +ℤ negsuc 3802 *ℤ x3 +ℤ pos 1 *ℤ (pos 0 +ℤ pos 3344 *ℤ x1) ≡ pos 2482 *ℤ x0 +ℤ pos 3344 *ℤ x1 +ℤ negsuc 1320 *ℤ x2 +ℤ negsuc 3802 *ℤ x3
+second_sum : (x0 x1 x2 x3 : ℤ) → pos 0 +ℤ pos 2482 *ℤ x0 +ℤ negsuc 1320 *ℤ x2 +ℤ negsuc 3802 *ℤ x3 +ℤ pos 1 *ℤ (pos 0 +ℤ pos 3344 *ℤ x1) ≡
+    pos 2482 *ℤ x0 +ℤ pos 3344 *ℤ x1 +ℤ negsuc 1320 *ℤ x2 +ℤ negsuc 3802 *ℤ x3
 second_sum x0 x1 x2 x3 = omega (arith, ints)
 
-fourth_sum : (x0 x1 x2 x3 : ℤ) → pos 0 +ℤ pos 1321 *ℤ x0 +ℤ pos 3803 *ℤ x2 +ℤ pos 2482 *ℤ x3 +ℤ pos 1 *ℤ (pos 0 +ℤ pos 2482 *ℤ x0 +ℤ negsuc 1320 *ℤ x2 +ℤ negsuc 3802 *ℤ x3) +ℤ negsuc 0 *ℤ (pos 0 +ℤ pos 3344 *ℤ x1) ≡ pos 3803 *ℤ x0 +ℤ negsuc 3343 *ℤ x1 +ℤ pos 2482 *ℤ x2 +ℤ negsuc 1320 *ℤ x3
+fourth_sum : (x0 x1 x2 x3 : ℤ) →
+    pos 0 +ℤ pos 1321 *ℤ x0 +ℤ pos 3803 *ℤ x2 +ℤ pos 2482 *ℤ x3 +ℤ pos 1 *ℤ (pos 0 +ℤ pos 2482 *ℤ x0 +ℤ negsuc 1320 *ℤ x2 +ℤ negsuc 3802 *ℤ x3) +ℤ negsuc 0
+    *ℤ (pos 0 +ℤ pos 3344 *ℤ x1) ≡ pos 3803 *ℤ x0 +ℤ negsuc 3343 *ℤ x1 +ℤ pos 2482 *ℤ x2 +ℤ negsuc 1320 *ℤ x3
 fourth_sum x0 x1 x2 x3 = omega (arith, ints)
 
 no_more : (z : ℤ) → pos 0 +ℤ z ≡ z
@@ -67,7 +73,10 @@ adst4_is x s0 s1 s2 pa pb pc pd pe a b c d h0 h1 h2 ea ha eb hb ec hc ed ee hd =
     let t1 = pos 0 +ℤ pos 2482 *ℤ x0 +ℤ negsuc 1320 *ℤ x2 +ℤ negsuc 3802 *ℤ x3 in
     let t2 = pos 0 +ℤ pos 3344 *ℤ x1 in
     four_same a b c d _ _ _ _
-    (rounded_is a pa (t0 +ℤ pos 1 *ℤ t2) (pos 1321 *ℤ x0 +ℤ pos 3344 *ℤ x1 +ℤ pos 3803 *ℤ x2 +ℤ pos 2482 *ℤ x3) (one_wrapped s0 t0 pa (pos 1) s2 t2 h0 h2 ea) (first_sum x0 x1 x2 x3) ha)
-    (rounded_is b pb (t1 +ℤ pos 1 *ℤ t2) (pos 2482 *ℤ x0 +ℤ pos 3344 *ℤ x1 +ℤ negsuc 1320 *ℤ x2 +ℤ negsuc 3802 *ℤ x3) (one_wrapped s1 t1 pb (pos 1) s2 t2 h1 h2 eb) (second_sum x0 x1 x2 x3) hb)
+    (rounded_is a pa (t0 +ℤ pos 1 *ℤ t2) (pos 1321 *ℤ x0 +ℤ pos 3344 *ℤ x1 +ℤ pos 3803 *ℤ x2 +ℤ pos 2482 *ℤ x3)
+    (one_wrapped s0 t0 pa (pos 1) s2 t2 h0 h2 ea) (first_sum x0 x1 x2 x3) ha)
+    (rounded_is b pb (t1 +ℤ pos 1 *ℤ t2) (pos 2482 *ℤ x0 +ℤ pos 3344 *ℤ x1 +ℤ negsuc 1320 *ℤ x2 +ℤ negsuc 3802 *ℤ x3)
+    (one_wrapped s1 t1 pb (pos 1) s2 t2 h1 h2 eb) (second_sum x0 x1 x2 x3) hb)
     (rounded_is c pc (pos 0 +ℤ pos 3344 *ℤ (x0 -ℤ x2 +ℤ x3)) (pos 3344 *ℤ (x0 -ℤ x2 +ℤ x3)) ec (no_more _) hc)
-    (rounded_is d pe (t0 +ℤ pos 1 *ℤ t1 +ℤ negsuc 0 *ℤ t2) (pos 3803 *ℤ x0 +ℤ negsuc 3343 *ℤ x1 +ℤ pos 2482 *ℤ x2 +ℤ negsuc 1320 *ℤ x3) (one_wrapped pd (t0 +ℤ pos 1 *ℤ t1) pe (negsuc 0) s2 t2 (one_wrapped s0 t0 pd (pos 1) s1 t1 h0 h1 ed) h2 ee) (fourth_sum x0 x1 x2 x3) hd)
+    (rounded_is d pe (t0 +ℤ pos 1 *ℤ t1 +ℤ negsuc 0 *ℤ t2) (pos 3803 *ℤ x0 +ℤ negsuc 3343 *ℤ x1 +ℤ pos 2482 *ℤ x2 +ℤ negsuc 1320 *ℤ x3)
+    (one_wrapped pd (t0 +ℤ pos 1 *ℤ t1) pe (negsuc 0) s2 t2 (one_wrapped s0 t0 pd (pos 1) s1 t1 h0 h1 ed) h2 ee) (fourth_sum x0 x1 x2 x3) hd)

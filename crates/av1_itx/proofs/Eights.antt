@@ -1,5 +1,6 @@
 -- Columns n at a time.
-use Rattle.std.proofs.Common.{ℕ, true, refl, cond, ltb, leb, ◌&&◌, ◌≡◌, ◌+◌, ◌-◌, ◌*◌, ◌/◌, ◌<◌, ◌≤◌, ℤ, List, ◌++◌, take, length, arith, ap, sym, ◌∙◌, inl, inr, subst}
+use Rattle.std.proofs.Common.{ℕ, true, refl, cond, ltb, leb, ◌&&◌, ◌≡◌, ◌+◌, ◌-◌, ◌*◌, ◌/◌, ◌<◌, ◌≤◌, ℤ, List, ◌++◌, take, length, arith, ap, sym, ◌∙◌, inl}
+use Rattle.std.proofs.Common.{inr, subst}
 use Rattle.std.specs.List.{All}
 use Rattle.std.proofs.Math.Nat.{mul-le-mul_left}
 use Rattle.std.proofs.lemmas.Bool.{cases_lt}
@@ -27,24 +28,30 @@ groups_more w c d m h F G D old new ed before now here = λ r q hr hq.
     elim (cases_lt q c) [
       | inl lo ↦ grind (arith, nat_tests)
       | inr lo ↦ elim (cases_lt q (c + m)) [
-        | inl hi ↦ (let s : c + (q - c) ≡ q = omega arith in let u : D (q - c) r ≡ F r q = here (q - c) r (omega arith) hr ∙ ap (F r) s in grind (arith, nat_tests))
+        | inl hi ↦ (let s : c + (q - c) ≡ q = omega arith in let u : D (q - c) r ≡ F r q = here (q - c) r (omega arith) hr ∙ ap (F r) s
+            in grind (arith, nat_tests))
         | inr hi ↦ grind (arith, nat_tests)
       ]
     ]
 
 -- the lanes that were gathered fit
-pub lanes-fit : {W : Type 0} (lane : W → ℕ → ℤ) (h range i n : ℕ) (f : ℕ → ℤ) (line rest : List W) → n ≡ h → length line ≡ h → column lane i line ≡ by_index n f → ((r : ℕ) → r < h → FitsBits range (f r)) → All (FitsBits range) (column lane i (take h (line ++ rest)))
+pub lanes-fit : {W : Type 0} (lane : W → ℕ → ℤ) (h range i n : ℕ) (f : ℕ → ℤ) (line rest : List W) → n ≡ h → length line ≡ h →
+    column lane i line ≡ by_index n f → ((r : ℕ) → r < h → FitsBits range (f r)) → All (FitsBits range) (column lane i (take h (line ++ rest)))
 lanes-fit lane h range i n f line rest en len is fit =
     let P : List ℤ → Type 0 = λ zs. All (FitsBits range) zs in
     let e : column lane i (take h (line ++ rest)) ≡ by_index n f = ap (column lane i) (take_at line rest h len) ∙ is in
     subst P (sym e) (by_index-all (FitsBits range) _ _ (λ r l. fit r (omega arith)))
 
 -- all of a lane
-pub whole_lane : {W : Type 0} (lane : W → ℕ → ℤ) (i h : ℕ) (line rest : List W) → length line ≡ h → take h (column lane i (take h (line ++ rest))) ≡ column lane i (take h (line ++ rest))
-whole_lane {W} lane i h line rest len = take_all h (column lane i (take h (line ++ rest))) (omega (arith, length-map (take h (line ++ rest)) (λ (x : W). lane x i), ap length (take_at line rest h len)))
+pub whole_lane : {W : Type 0} (lane : W → ℕ → ℤ) (i h : ℕ) (line rest : List W) → length line ≡ h →
+    take h (column lane i (take h (line ++ rest))) ≡ column lane i (take h (line ++ rest))
+whole_lane {W} lane i h line rest len =
+    take_all h (column lane i (take h (line ++ rest)))
+    (omega (arith, length-map (take h (line ++ rest)) (λ (x : W). lane x i), ap length (take_at line rest h len)))
 
 -- a lane that was gathered and run
-pub lane_run : {W : Type 0} (lane : W → ℕ → ℤ) (h i n : ℕ) (made : List ℤ → List ℤ) (f g : ℕ → ℤ) (line rest out rest2 : List W) → n ≡ h → length line ≡ h → length out ≡ h
+pub lane_run : {W : Type 0} (lane : W → ℕ → ℤ) (h i n : ℕ) (made : List ℤ → List ℤ) (f g : ℕ → ℤ) (line rest out rest2 : List W) → n ≡ h → length line ≡ h →
+    length out ≡ h
     → column lane i line ≡ by_index n f
     → column lane i out ≡ made (column lane i (take h (line ++ rest)))
     → ((r : ℕ) → r < h → f r ≡ g r)
@@ -54,7 +61,9 @@ lane_run lane h i n made f g line rest out rest2 en len lo is is_out same =
     ∙ ap made (ap (column lane i) (take_at line rest h len) ∙ is ∙ ap (λ m. by_index m f) en ∙ by_index-same h f g same)
 
 -- a column that no group has reached
-pub lanes_kept : (w c d h : ℕ) (F : ℕ → ℕ → ℤ) (buf old : List ℤ) → ((r q : ℕ) → r < h → q < w → at buf (r * w + q) ≡ cond (ltb q c) (F r q) (at old (r * w + q))) → c ≤ d → d < w → (r : ℕ) → r < h → at buf (r * w + d) ≡ at old (r * w + d)
+pub lanes_kept : (w c d h : ℕ) (F : ℕ → ℕ → ℤ) (buf old : List ℤ) →
+    ((r q : ℕ) → r < h → q < w → at buf (r * w + q) ≡ cond (ltb q c) (F r q) (at old (r * w + q))) → c ≤ d → d < w → (r : ℕ) → r < h →
+    at buf (r * w + d) ≡ at old (r * w + d)
 lanes_kept w c d h F buf old inv le lt r hr = let i = inv r d hr lt in grind (arith, nat_tests)
 
 cosine_kind : (kind : TxType1D) → is_cosine kind ≡ true → kind ≡ DCT
@@ -65,7 +74,8 @@ unfolding network_with
 dct_is range k x = refl
 
 -- a column of cosine transforms is the column of the block
-pub cosine_value : (kind : TxType1D) (range k r : ℕ) (xs : List ℤ) (z : ℤ) → is_cosine kind ≡ true → z ≡ at (cosine range k xs) r → z ≡ at (network kind range k xs) r
+pub cosine_value : (kind : TxType1D) (range k r : ℕ) (xs : List ℤ) (z : ℤ) → is_cosine kind ≡ true → z ≡ at (cosine range k xs) r →
+    z ≡ at (network kind range k xs) r
 cosine_value kind range k r xs z hk is = is ∙ ap (λ zs. at zs r) (dct_is range k xs ∙ ap (λ t. network t range k xs) (sym (cosine_kind kind hk)))
 
 -- a cosine transform that there is has one of five lengths
@@ -77,7 +87,8 @@ pub group_room : (m g w : ℕ) → m * (w / m) ≡ w → g < w / m → m * g + m
 group_room m g w whole lt = let n : m * (g + 1) ≤ m * (w / m) = mul-le-mul_left m (let l : g + 1 ≤ w / m = omega arith in l) in omega arith
 
 pub group_in : {l m g w : ℕ} → m ≡ l → l * (w / l) ≡ w → g < w / m → m * g + l ≤ w
-group_in {l} {m} {g} {w} is whole lt = let whole_m : m * (w / m) ≡ w = subst (λ (n : ℕ). n * (w / n) ≡ w) (sym is) whole in let room = group_room m g w whole_m lt in omega arith
+group_in {l} {m} {g} {w} is whole lt = let whole_m : m * (w / m) ≡ w = subst (λ (n : ℕ). n * (w / n) ≡ w) (sym is) whole in let room =
+    group_room m g w whole_m lt in omega arith
 
 pub all_groups : (m g w : ℕ) → m * (w / m) ≡ w → w / m ≤ g → w ≤ m * g
 all_groups m g w whole le = let n = mul-le-mul_left m le in omega arith

@@ -1,5 +1,6 @@
 -- Lists that a loop fills from the front, in place.
-use Rattle.std.proofs.Common.{ℕ, ◌≡◌, ◌+◌, ◌*◌, ◌<◌, ◌≤◌, ℤ, pos, List, [], ◌∷◌, map, take, drop, length, set, get_or, arith, ap, sym, subst, refl, ◌∙◌, inl, inr, get_or-set_other}
+use Rattle.std.proofs.Common.{ℕ, ◌≡◌, ◌+◌, ◌*◌, ◌<◌, ◌≤◌, ℤ, pos, List, [], ◌∷◌, map, take, drop, length, set, get_or, arith, ap, sym, subst, refl, ◌∙◌}
+use Rattle.std.proofs.Common.{inl, inr, get_or-set_other}
 use Rattle.std.specs.List.{range_with_len}
 use Rattle.std.proofs.lemmas.Bool.{cases_lt}
 use Rattle.std.proofs.lemmas.List.FromFn.{fill_by_all, get_or-map-range_with_len}
@@ -10,7 +11,8 @@ use Rattle.av1_lists.specs.Lists.{by_index}
 use Rattle.av1_dct.proofs.Begun.{IsBegun}
 
 -- one more place
-pub fill_more : (f : ℕ → ℤ) (xs : List ℤ) (i : ℕ) (v : ℤ) → i < length xs → ((k : ℕ) → k < i → at xs k ≡ f k) → v ≡ f i → (k : ℕ) → k < i + 1 → at (set xs i v) k ≡ f k
+pub fill_more : (f : ℕ → ℤ) (xs : List ℤ) (i : ℕ) (v : ℤ) → i < length xs → ((k : ℕ) → k < i → at xs k ≡ f k) → v ≡ f i → (k : ℕ) → k < i + 1 →
+    at (set xs i v) k ≡ f k
 fill_more f xs i v h below here = λ k lt. grind (arith, get_or-set_at, get_or-set_other, length-set, below k)
 
 -- all places
@@ -21,7 +23,8 @@ pub IsBegun-start : (n : ℕ) (f : ℕ → ℤ) (v : List ℤ) (p : ℕ) → len
 IsBegun-start n f v p len none = record { len = len; low = λ i h. absurd (omega arith); rest = λ i h. refl }
 
 -- one more pair
-pub IsBegun-pair : (n : ℕ) (f : ℕ → ℤ) (old v : List ℤ) (p q r : ℕ) (x y : ℤ) → IsBegun n f old p v → q ≡ p + 1 → r ≡ p + 2 → q < n → x ≡ f p → y ≡ f q → IsBegun n f old r (set (set v p x) q y)
+pub IsBegun-pair : (n : ℕ) (f : ℕ → ℤ) (old v : List ℤ) (p q r : ℕ) (x y : ℤ) → IsBegun n f old p v → q ≡ p + 1 → r ≡ p + 2 → q < n → x ≡ f p → y ≡ f q →
+    IsBegun n f old r (set (set v p x) q y)
 IsBegun-pair n f old v p q r x y h is_q is_r lt is_x is_y = record {
   len = grind (arith, h.len, length-set);
   low = λ i g. grind (arith, get_or-set_at, get_or-set_other, length-set, h.low i);
@@ -40,9 +43,16 @@ pub record IsHalved (s : ℕ) (f : ℕ → ℤ) (old : List ℤ) (j : ℕ) (v : 
   pub rest : (i : ℕ) → s + j ≤ i → at v i ≡ at old i
 
 pub IsHalved-start : (s : ℕ) (f : ℕ → ℤ) (v : List ℤ) → length v ≡ 2 * s → IsHalved s f v 0 v
-IsHalved-start s f v len = record { len = len; low = λ i h. absurd (omega arith); mid = λ i h g. refl; high = λ i h g. absurd (omega arith); rest = λ i h. refl }
+IsHalved-start s f v len = record {
+  len = len;
+  low = λ i h. absurd (omega arith);
+  mid = λ i h g. refl;
+  high = λ i h g. absurd (omega arith);
+  rest = λ i h. refl;
+}
 
-pub IsHalved-more : (s : ℕ) (f : ℕ → ℤ) (old v : List ℤ) (j q : ℕ) (x y : ℤ) → IsHalved s f old j v → q ≡ j + s → j < s → x ≡ f j → y ≡ f q → IsHalved s f old (j + 1) (set (set v j x) q y)
+pub IsHalved-more : (s : ℕ) (f : ℕ → ℤ) (old v : List ℤ) (j q : ℕ) (x y : ℤ) → IsHalved s f old j v → q ≡ j + s → j < s → x ≡ f j → y ≡ f q →
+    IsHalved s f old (j + 1) (set (set v j x) q y)
 IsHalved-more s f old v j q x y h is_q lt is_x is_y = record {
   len = grind (arith, h.len, length-set);
   low = λ i g. grind (arith, get_or-set_at, get_or-set_other, length-set, h.low i, h.len);
@@ -52,7 +62,8 @@ IsHalved-more s f old v j q x y h is_q lt is_x is_y = record {
 }
 
 pub IsHalved-end : (s : ℕ) (f : ℕ → ℤ) (old : List ℤ) (j : ℕ) (v : List ℤ) → s ≤ j → IsHalved s f old j v → v ≡ by_index (2 * s) f
-IsHalved-end s f old j v le h = fill_by_all f v (2 * s) (pos 0) h.len (λ i g. elim (cases_lt i s) [ inl k ↦ h.low i (omega arith) | inr k ↦ h.high i k (omega arith) ])
+IsHalved-end s f old j v le h =
+    fill_by_all f v (2 * s) (pos 0) h.len (λ i g. elim (cases_lt i s) [ inl k ↦ h.low i (omega arith) | inr k ↦ h.high i k (omega arith) ])
 
 -- what a part of a list has
 pub part_len : {X : Type 0} (a k : ℕ) (xs : List X) → a + k ≤ length xs → length (take k (drop a xs)) ≡ k

@@ -1,5 +1,6 @@
 -- Rows and columns of a list that stands row by row.
-use Rattle.std.proofs.Common.{ℕ, cond, ltb, ◌≡◌, ◌==◌, ◌+◌, ◌-◌, ◌*◌, ◌<◌, ◌≤◌, ℤ, pos, List, map, length, set, get_or, arith, ap, sym, subst, refl, ◌∙◌, inl, inr, get_or-set_other, get_or-set_same}
+use Rattle.std.proofs.Common.{ℕ, cond, ltb, ◌≡◌, ◌==◌, ◌+◌, ◌-◌, ◌*◌, ◌<◌, ◌≤◌, ℤ, pos, List, map, length, set, get_or, arith, ap, sym, subst, refl, ◌∙◌}
+use Rattle.std.proofs.Common.{inl, inr, get_or-set_other, get_or-set_same}
 use Rattle.std.proofs.lemmas.Bool.{cases_lt, cases_eq, cases_order}
 use Rattle.std.proofs.lemmas.Bool.Decides.{nat_tests}
 use Rattle.std.proofs.lemmas.List.{get_or-map}
@@ -13,7 +14,8 @@ place_in r c w h hr hc = let e = row_end_le r h w (c + 1) (h * w) refl hr (omega
 
 -- a place of a block lies in a buffer of all its places
 pub place_in_block : {width height n : ℕ} (r c w h : ℕ) → w ≡ width → h ≡ height → n ≡ height * width → r < h → c < w → r * w + c < n
-place_in_block {width} {height} r c w h ew eh en hr hc = subst (λ m. r * w + c < m) (ap (λ k. k * w) eh ∙ ap (λ k. height * k) ew ∙ sym en) (place_in r c w h hr hc)
+place_in_block {width} {height} r c w h ew eh en hr hc =
+    subst (λ m. r * w + c < m) (ap (λ k. k * w) eh ∙ ap (λ k. height * k) ew ∙ sym en) (place_in r c w h hr hc)
 
 -- places of different rows differ
 pub place_before : (r c w q : ℕ) → r < q → c < w → r * w + c < q * w
@@ -28,7 +30,8 @@ same_place r q w c d hc hd e =
     ]
 
 -- m more rows of w places, from place a on
-pub rows_more : (w q m n a : ℕ) (f : ℕ → ℕ → ℤ) (buf out : List ℤ) → ((r c : ℕ) → r < q → c < w → at buf (r * w + c) ≡ f r c) → a ≡ q * w → n ≡ m * w → length out ≡ n → a + n ≤ length buf
+pub rows_more : (w q m n a : ℕ) (f : ℕ → ℕ → ℤ) (buf out : List ℤ) → ((r c : ℕ) → r < q → c < w → at buf (r * w + c) ≡ f r c) → a ≡ q * w → n ≡ m * w →
+    length out ≡ n → a + n ≤ length buf
     → ((j c : ℕ) → j < m → c < w → at out (j * w + c) ≡ f (q + j) c) → (r c : ℕ) → r < q + m → c < w → at (put a n buf out) (r * w + c) ≡ f r c
 rows_more w q m n a f buf out before is_a is_n len room here = λ r c hr hc.
     elim (cases_lt r q) [
@@ -49,7 +52,8 @@ column_step w c n k old buf t v hc hk len is inv = λ r q hr hq.
     let inside = place_in k c w n hk hc in
     let same = same_place r k w q c hq hc in
     elim (cases_eq (r * w + q) (k * w + c)) [
-      | inl e ↦ (let s = same e in let z : at (set buf (k * w + c) v) (r * w + q) ≡ v = ap (at (set buf (k * w + c) v)) e ∙ get_or-set_same buf (k * w + c) v (pos 0) (omega arith) in grind (arith, nat_tests, s.0, s.1))
+      | inl e ↦ (let s = same e in let z : at (set buf (k * w + c) v) (r * w + q) ≡ v = ap (at (set buf (k * w + c) v)) e
+          ∙ get_or-set_same buf (k * w + c) v (pos 0) (omega arith) in grind (arith, nat_tests, s.0, s.1))
       | inr e ↦ (let z : at (set buf (k * w + c) v) (r * w + q) ≡ at buf (r * w + q) = grind (arith, get_or-set_other) in grind (arith, nat_tests))
     ]
 
@@ -85,7 +89,9 @@ pub read_at : {X : Type 0} (f : X → ℤ) (xs : List X) (q : ℕ) (x : X) → q
 read_at f xs q x h e = ap f e ∙ sym (get_or-map f xs q x (pos 0) h)
 
 -- a buffer whose columns were all written
-pub column_written : (w c h : ℕ) (buf old : List ℤ) (F : ℕ → ℕ → ℤ) → ((r q : ℕ) → r < h → q < w → at buf (r * w + q) ≡ cond (ltb q c) (F r q) (at old (r * w + q))) → w ≤ c → (r q : ℕ) → r < h → q < w → at buf (r * w + q) ≡ F r q
+pub column_written : (w c h : ℕ) (buf old : List ℤ) (F : ℕ → ℕ → ℤ) →
+    ((r q : ℕ) → r < h → q < w → at buf (r * w + q) ≡ cond (ltb q c) (F r q) (at old (r * w + q))) → w ≤ c → (r q : ℕ) → r < h → q < w →
+    at buf (r * w + q) ≡ F r q
 column_written w c h buf old F inv le r q hr hq = let i = inv r q hr hq in grind (arith, nat_tests)
 
 -- where group g of m rows of w places begins, and that it is one of h rows

@@ -7,7 +7,8 @@ use Rattle.av1_itx.proofs.Fills.{four_same}
 use Rattle.av1_itx.specs.Walsh.{walsh, walsh_with}
 
 -- the values, from the half h and the outputs
-solved : (a b c d a' b' c' d' h h' : ℤ) → (a +ℤ b -ℤ (c -ℤ d) ≡ a' +ℤ b' -ℤ (c' -ℤ d') → h ≡ h') → a +ℤ b -ℤ (h -ℤ d) ≡ a' +ℤ b' -ℤ (h' -ℤ d') → h -ℤ d ≡ h' -ℤ d' → h -ℤ b ≡ h' -ℤ b' → c -ℤ d +ℤ (h -ℤ b) ≡ c' -ℤ d' +ℤ (h' -ℤ b') → a ∷ b ∷ c ∷ d ∷ [] ≡ a' ∷ b' ∷ c' ∷ d' ∷ []
+solved : (a b c d a' b' c' d' h h' : ℤ) → (a +ℤ b -ℤ (c -ℤ d) ≡ a' +ℤ b' -ℤ (c' -ℤ d') → h ≡ h') → a +ℤ b -ℤ (h -ℤ d) ≡ a' +ℤ b' -ℤ (h' -ℤ d') →
+    h -ℤ d ≡ h' -ℤ d' → h -ℤ b ≡ h' -ℤ b' → c -ℤ d +ℤ (h -ℤ b) ≡ c' -ℤ d' +ℤ (h' -ℤ b') → a ∷ b ∷ c ∷ d ∷ [] ≡ a' ∷ b' ∷ c' ∷ d' ∷ []
 solved a b c d a' b' c' d' h h' half e0 e1 e2 e3 =
     let same : a +ℤ b -ℤ (c -ℤ d) ≡ a' +ℤ b' -ℤ (c' -ℤ d') = omega (arith, ints) in
     let g = half same in

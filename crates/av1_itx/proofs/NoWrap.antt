@@ -1,5 +1,6 @@
 -- Inputs of 18 bits and a range up to 18: none of a transform's sums and products leaves 32 bits.
-use Rattle.std.proofs.Common.{unsigned_abs, ℕ, zero, suc, ◌≡◌, ◌+◌, ◌-◌, ◌*◌, ◌/◌, ◌^◌, ◌≤◌, ◌%◌, ◌==◌, nat_lt, max, true, false, cond, ℤ, pos, negsuc, ◌+ℤ◌, ◌-ℤ◌, ◌*ℤ◌, List, reverse, All, arith, ap, refl, sym, ◌∙◌, w32, FitsSigned}
+use Rattle.std.proofs.Common.{unsigned_abs, ℕ, zero, suc, ◌≡◌, ◌+◌, ◌-◌, ◌*◌, ◌/◌, ◌^◌, ◌≤◌, ◌%◌, ◌==◌, nat_lt, max, true, false, cond, ℤ, pos, negsuc}
+use Rattle.std.proofs.Common.{◌+ℤ◌, ◌-ℤ◌, ◌*ℤ◌, List, reverse, All, arith, ap, refl, sym, ◌∙◌, w32, FitsSigned}
 use Rattle.std.specs.Int.{int_shr}
 use Rattle.std.proofs.lemmas.Int.{ints, int_wrap_fits, unsigned_abs-mul}
 use Rattle.std.proofs.Math.Nat.{mul-le-mul}
@@ -15,8 +16,10 @@ use Rattle.av1_frame.specs.Arithmetic.{round_shift}
 use Rattle.av1_itx.proofs.Fills.{four_same}
 use Rattle.av1_itx.specs.declared.kinds.TxType1D.{TxType1D}
 use Rattle.av1_itx.specs.declared.kinds.TxType1D.TheVariants.{DCT, ADST, FLIPADST, IDENTITY, WHT}
-use Rattle.av1_itx.specs.Adst.{turned_with, turned, turn_weights, back_weights, start_weights, round_weights, adst_in, adst_start_with, adst_start, adst_sum_with, adst_sum, adst_turn_with, adst_turn}
-use Rattle.av1_itx.specs.Adst.{adst_rounds_with, adst_rounds, adst_out_with, adst_out, out_place, adst_more_with, adst_more, weighted_with, weighted, adst4_with, adst4, adst_with, adst}
+use Rattle.av1_itx.specs.Adst.{turned_with, turned, turn_weights, back_weights, start_weights, round_weights, adst_in, adst_start_with, adst_start}
+use Rattle.av1_itx.specs.Adst.{adst_sum_with, adst_sum, adst_turn_with, adst_turn}
+use Rattle.av1_itx.specs.Adst.{adst_rounds_with, adst_rounds, adst_out_with, adst_out, out_place, adst_more_with, adst_more, weighted_with, weighted}
+use Rattle.av1_itx.specs.Adst.{adst4_with, adst4, adst_with, adst}
 use Rattle.av1_itx.specs.Identity.{scaled_with, scaled, identity_with}
 use Rattle.av1_itx.specs.Walsh.{walsh_with, walsh}
 use Rattle.av1_itx.specs.Networks.{network_with, network}
@@ -60,7 +63,8 @@ module _ (ops : Operations) (right : AreRight32 ops) where
   turned-same : (w : ℤ × ℤ) (v : List ℤ) (i : ℕ) → Weights w → AllFit 18 v → turned_with ops w.0 w.1 v i ≡ turned w.0 w.1 v i
   unfolding turned_with
   turned-same w v i s h =
-      cond-same (i % 2 == 0) _ _ _ _ (turn-same ops right _ _ _ _ s.first s.second (h i) (h (i + 1))) (turn-same ops right _ _ _ _ s.second (neg-small _ s.first) (h (i - 1)) (h i))
+      cond-same (i % 2 == 0) _ _ _ _ (turn-same ops right _ _ _ _ s.first s.second (h i) (h (i + 1)))
+      (turn-same ops right _ _ _ _ s.second (neg-small _ s.first) (h (i - 1)) (h i))
 
   start-same : (n : ℕ) (v : List ℤ) (i : ℕ) → AllFit 18 v → adst_start_with ops n v i ≡ adst_start n v i
   unfolding adst_start_with
@@ -69,7 +73,8 @@ module _ (ops : Operations) (right : AreRight32 ops) where
   sum-same : (range s : ℕ) (v : List ℤ) (i : ℕ) → AllFit 20 v → adst_sum_with ops range s v i ≡ adst_sum range s v i
   unfolding adst_sum_with
   sum-same range s v i h =
-      cond-same (nat_lt (i % (2 * s)) s) _ _ _ _ (ap (λ z. clamp_value z range) (plus-same ops right _ _ (h i) (h (i + s)))) (ap (λ z. clamp_value z range) (minus-same ops right _ _ (h (i - s)) (h i)))
+      cond-same (nat_lt (i % (2 * s)) s) _ _ _ _ (ap (λ z. clamp_value z range) (plus-same ops right _ _ (h i) (h (i + s))))
+      (ap (λ z. clamp_value z range) (minus-same ops right _ _ (h (i - s)) (h i)))
 
   turn_of-same : (s : ℕ) (v : List ℤ) (i : ℕ) → AllFit 18 v → adst_turn_with ops s v i ≡ adst_turn s v i
   unfolding adst_turn_with
@@ -90,7 +95,8 @@ module _ (ops : Operations) (right : AreRight32 ops) where
 
   out-same : (k : ℕ) (v : List ℤ) (i : ℕ) → AllFit 20 v → adst_out_with ops k v i ≡ adst_out k v i
   unfolding adst_out_with
-  out-same k v i h = let f = h (out_place k i) in cond-same (i % 2 == 0) _ _ _ _ refl (right.minus (pos 0) (at v (out_place k i)) (omega (arith, ints, f.low, f.high)))
+  out-same k v i h = let f = h (out_place k i)
+      in cond-same (i % 2 == 0) _ _ _ _ refl (right.minus (pos 0) (at v (out_place k i)) (omega (arith, ints, f.low, f.high)))
 
   more-same : (range k : ℕ) (x : List ℤ) → range ≤ 18 → AllFit 18 x → adst_more_with ops range k x ≡ adst_more range k x
   unfolding adst_more_with
@@ -99,7 +105,8 @@ module _ (ops : Operations) (right : AreRight32 ops) where
       let u = by_index n (adst_in n x) in
       let v = by_index n (adst_start n u) in
       let fit = start-fits n n u in
-      ap (λ z. by_index n (adst_out_with ops k (adst_rounds_with ops range k k z))) (by_index-same n (adst_start_with ops n u) (adst_start n u) (λ i _. start-same n u i (by_index-fits n _ (λ p. placed n x p h))))
+      ap (λ z. by_index n (adst_out_with ops k (adst_rounds_with ops range k k z)))
+      (by_index-same n (adst_start_with ops n u) (adst_start n u) (λ i _. start-same n u i (by_index-fits n _ (λ p. placed n x p h))))
       ∙ ap (λ z. by_index n (adst_out_with ops k z)) (rounds-same range k k v r fit)
       ∙ by_index-same n _ _ (λ i _. out-same k (adst_rounds range k k v) i (rounds-fit range k k v (omega arith) fit))
 
@@ -119,7 +126,8 @@ module _ (ops : Operations) (right : AreRight32 ops) where
   scaled-same (suc (suc (suc zero))) z f = scale-same (pos 11586) z (omega arith) f
   scaled-same (suc (suc (suc (suc k)))) z f = right.times (pos 4) z (omega (arith, ints, f.low, f.high))
 
-  weighted-same : (a b c d : ℤ) (v : List ℤ) → unsigned_abs a + unsigned_abs b + unsigned_abs c + unsigned_abs d ≤ 16000 → AllFit 18 v → weighted_with ops a b c d v ≡ weighted a b c d v
+  weighted-same : (a b c d : ℤ) (v : List ℤ) → unsigned_abs a + unsigned_abs b + unsigned_abs c + unsigned_abs d ≤ 16000 → AllFit 18 v →
+      weighted_with ops a b c d v ≡ weighted a b c d v
   unfolding weighted_with
   weighted-same a b c d v h f =
       let x = at v 0 in
@@ -137,10 +145,12 @@ module _ (ops : Operations) (right : AreRight32 ops) where
       let e2 = right.plus (a *ℤ x) (b *ℤ y) (omega (arith, ints)) in
       let e3 = right.plus (a *ℤ x +ℤ b *ℤ y) (c *ℤ z) (omega (arith, ints)) in
       let e4 = right.plus (a *ℤ x +ℤ b *ℤ y +ℤ c *ℤ z) (d *ℤ w) (omega (arith, ints)) in
-      let sum : ops.plus (ops.plus (ops.plus (ops.times a x) (ops.times b y)) (ops.times c z)) (ops.times d w) ≡ a *ℤ x +ℤ b *ℤ y +ℤ c *ℤ z +ℤ d *ℤ w = cc (ea, eb, ec, ed, e2, e3, e4) in
+      let sum : ops.plus (ops.plus (ops.plus (ops.times a x) (ops.times b y)) (ops.times c z)) (ops.times d w) ≡ a *ℤ x +ℤ b *ℤ y +ℤ c *ℤ z +ℤ d *ℤ w =
+      cc (ea, eb, ec, ed, e2, e3, e4) in
       ap ops.round sum ∙ round-same (a *ℤ x +ℤ b *ℤ y +ℤ c *ℤ z +ℤ d *ℤ w) (omega (arith, ints))
 
-  third-same : (x y z : ℤ) → FitsBits 18 x → FitsBits 18 y → FitsBits 18 z → ops.round (ops.times (pos 3344) (ops.plus (ops.minus x y) z)) ≡ round12 (pos 3344 *ℤ (x -ℤ y +ℤ z))
+  third-same : (x y z : ℤ) → FitsBits 18 x → FitsBits 18 y → FitsBits 18 z →
+      ops.round (ops.times (pos 3344) (ops.plus (ops.minus x y) z)) ≡ round12 (pos 3344 *ℤ (x -ℤ y +ℤ z))
   third-same x y z fx fy fz =
       ap (λ n. ops.round (ops.times (pos 3344) (ops.plus n z))) (right.minus x y (omega (arith, ints, fx.low, fx.high, fy.low, fy.high)))
       ∙ ap (λ n. ops.round (ops.times (pos 3344) n)) (right.plus (x -ℤ y) z (omega (arith, ints, fx.low, fx.high, fy.low, fy.high, fz.low, fz.high)))
@@ -171,7 +181,8 @@ module _ (ops : Operations) (right : AreRight32 ops) where
       let a3 = f 3 in
       let s0 = at x 0 +ℤ at x 1 in
       let s2 = at x 2 -ℤ at x 3 in
-      let d : FitsBits 22 (s0 -ℤ s2) = record { low = omega (arith, ints, a0.low, a1.low, a2.high, a3.low); high = omega (arith, ints, a0.high, a1.high, a2.low, a3.high) } in
+      let d : FitsBits 22 (s0 -ℤ s2) =
+      record { low = omega (arith, ints, a0.low, a1.low, a2.high, a3.low); high = omega (arith, ints, a0.high, a1.high, a2.low, a3.high) } in
       let s4 = int_shr (s0 -ℤ s2) 1 in
       let b = half-fits _ d in
       let e0 = right.plus (at x 0) (at x 1) (omega (arith, ints, a0.low, a1.low, a0.high, a1.high)) in
@@ -191,9 +202,11 @@ module _ (ops : Operations) (right : AreRight32 ops) where
   network-same IDENTITY range k x r h = by_index-same (2 * 2 ^ k) _ _ (λ i _. scaled-same k (at x i) (h i))
   network-same WHT range k x r h = walsh-same x h
 
-pub never_wraps : (ops : Operations) → AreRight32 ops → (kind : TxType1D) (range k : ℕ) (x : List ℤ) → range ≤ 18 → All (FitsBits 18) x → network_with ops kind range k x ≡ network kind range k x
+pub never_wraps : (ops : Operations) → AreRight32 ops → (kind : TxType1D) (range k : ℕ) (x : List ℤ) → range ≤ 18 → All (FitsBits 18) x →
+    network_with ops kind range k x ≡ network kind range k x
 never_wraps ops right kind range k x r h = network-same ops right kind range k x r (all-fit 18 18 x (omega arith) h)
 
 -- what a column's transform takes
 pub column_inputs : (size : TxSize) (depth : ℕ) (f : ℕ → ℤ) → depth ≤ 12 → All (FitsBits 18) (column_input size depth f)
-column_inputs size depth f h = by_index-all (FitsBits 18) (tx_height size) _ (λ r l. clamp_value-fits {w = 18} (round_shift (f r) (row_shift size)) (column_range depth) (omega arith))
+column_inputs size depth f h =
+    by_index-all (FitsBits 18) (tx_height size) _ (λ r l. clamp_value-fits {w = 18} (round_shift (f r) (row_shift size)) (column_range depth) (omega arith))

@@ -37,7 +37,8 @@ out_place-lt k i h =
     let P : ℕ → Type 0 = λ m. brev (suc k) (bit_xor i (i / 2)) < m in
     subst P n (brev-lt (suc k) _ (xor_lt (suc k) i (i / 2) (omega arith) (omega arith)))
 
-places : (k n : ℕ) (ps : List ℕ) → n ≡ 2 * 2 ^ k → ps ≡ map (out_place k) (range_with_len 0 n) → (i : ℕ) → i < 2 * 2 ^ k → (get_or ps i 0 ≡ out_place k i) × (get_or ps i 0 < 2 * 2 ^ k)
+places : (k n : ℕ) (ps : List ℕ) → n ≡ 2 * 2 ^ k → ps ≡ map (out_place k) (range_with_len 0 n) → (i : ℕ) → i < 2 * 2 ^ k →
+    (get_or ps i 0 ≡ out_place k i) × (get_or ps i 0 < 2 * 2 ^ k)
 places k n ps len e i h =
     let P : ℕ → Type 0 = λ m. m < 2 * 2 ^ k in
     let is : get_or ps i 0 ≡ out_place k i = listed (out_place k) ps n 0 e i (omega arith) in

@@ -8,7 +8,8 @@ use Rattle.av1_dct.proofs.Fits.{by_index-fits, cond-fits, fits_wider}
 use Rattle.av1_dct.proofs.Halves.{cosine-fits}
 use Rattle.av1_itx.specs.declared.kinds.TxType1D.{TxType1D}
 use Rattle.av1_itx.specs.declared.kinds.TxType1D.TheVariants.{DCT, ADST, FLIPADST, IDENTITY, WHT}
-use Rattle.av1_itx.specs.Adst.{adst, adst_with, adst4, adst4_with, weighted, weighted_with, adst_start, adst_in, adst_out, adst_out_with, adst_rounds, adst_rounds_with, adst_more, adst_more_with}
+use Rattle.av1_itx.specs.Adst.{adst, adst_with, adst4, adst4_with, weighted, weighted_with, adst_start, adst_in, adst_out, adst_out_with, adst_rounds}
+use Rattle.av1_itx.specs.Adst.{adst_rounds_with, adst_more, adst_more_with}
 use Rattle.av1_itx.specs.Identity.{scaled, scaled_with, identity_with}
 use Rattle.av1_itx.specs.Walsh.{walsh, walsh_with}
 use Rattle.av1_itx.specs.Networks.{network, network_with}
@@ -36,7 +37,8 @@ weighted-fits a b c d x = round12-fits (a *ℤ at x 0 +ℤ b *ℤ at x 1 +ℤ c 
 
 adst4-fits : (x : List ℤ) → AllFit 24 (adst4 x)
 unfolding adst4_with
-adst4-fits x = four_fit 24 _ _ _ _ (weighted-fits _ _ _ _ x) (weighted-fits _ _ _ _ x) (round12-fits (pos 3344 *ℤ (at x 0 -ℤ at x 2 +ℤ at x 3))) (weighted-fits _ _ _ _ x)
+adst4-fits x = four_fit 24 _ _ _ _ (weighted-fits _ _ _ _ x) (weighted-fits _ _ _ _ x) (round12-fits (pos 3344 *ℤ (at x 0 -ℤ at x 2 +ℤ at x 3)))
+    (weighted-fits _ _ _ _ x)
 
 pub half-fits : (z : ℤ) → FitsBits 22 z → FitsBits 22 (int_shr z 1)
 half-fits (pos a) f = record { low = omega (arith, ints); high = omega (arith, ints, f.high) }
@@ -49,13 +51,23 @@ walsh-fits x f =
     let a1 = f 1 in
     let a2 = f 2 in
     let a3 = f 3 in
-    let sum : FitsBits 22 (at x 0 +ℤ at x 1 -ℤ (at x 2 -ℤ at x 3)) = record { low = omega (arith, ints, a0.low, a1.low, a2.high, a3.low, a0.high, a1.high, a2.low, a3.high); high = omega (arith, ints, a0.low, a1.low, a2.high, a3.low, a0.high, a1.high, a2.low, a3.high) } in
+    let sum : FitsBits 22 (at x 0 +ℤ at x 1 -ℤ (at x 2 -ℤ at x 3)) =
+    record {
+      low = omega (arith, ints, a0.low, a1.low, a2.high, a3.low, a0.high, a1.high, a2.low, a3.high);
+      high = omega (arith, ints, a0.low, a1.low, a2.high, a3.low, a0.high, a1.high, a2.low, a3.high);
+    } in
     let h = half-fits _ sum in
     four_fit 24 _ _ _ _
-    (record { low = omega (arith, ints, a0.low, a1.low, a2.high, a3.low, a0.high, a1.high, a2.low, a3.high, h.low, h.high); high = omega (arith, ints, a0.low, a1.low, a2.high, a3.low, a0.high, a1.high, a2.low, a3.high, h.low, h.high) })
+    (record {
+      low = omega (arith, ints, a0.low, a1.low, a2.high, a3.low, a0.high, a1.high, a2.low, a3.high, h.low, h.high);
+      high = omega (arith, ints, a0.low, a1.low, a2.high, a3.low, a0.high, a1.high, a2.low, a3.high, h.low, h.high);
+    })
     (record { low = omega (arith, ints, a3.low, a3.high, h.low, h.high); high = omega (arith, ints, a3.low, a3.high, h.low, h.high) })
     (record { low = omega (arith, ints, a1.low, a1.high, h.low, h.high); high = omega (arith, ints, a1.low, a1.high, h.low, h.high) })
-    (record { low = omega (arith, ints, a2.low, a3.high, a2.high, a3.low, a1.low, a1.high, h.low, h.high); high = omega (arith, ints, a2.low, a3.high, a2.high, a3.low, a1.low, a1.high, h.low, h.high) })
+    (record {
+      low = omega (arith, ints, a2.low, a3.high, a2.high, a3.low, a1.low, a1.high, h.low, h.high);
+      high = omega (arith, ints, a2.low, a3.high, a2.high, a3.low, a1.low, a1.high, h.low, h.high);
+    })
 
 pub rounds-fit : (range k c : ℕ) (v : List ℤ) → range ≤ 20 → AllFit 20 v → AllFit 20 (adst_rounds range k c v)
 unfolding adst_rounds_with

@@ -1,5 +1,6 @@
 -- The rows and the columns of a block.
-use Rattle.std.proofs.Common.{ℕ, Bool, true, false, cond, ltb, ◌≡◌, ◌≤◌, ◌<◌, ◌+◌, ◌*◌, ◌/◌, ◌^◌, ℤ, pos, ◌*ℤ◌, List, All, arith, ap, sym, subst, ◌∙◌, refl, inl, inr}
+use Rattle.std.proofs.Common.{ℕ, Bool, true, false, cond, ltb, ◌≡◌, ◌≤◌, ◌<◌, ◌+◌, ◌*◌, ◌/◌, ◌^◌, ℤ, pos, ◌*ℤ◌, List, All, arith, ap, sym, subst, ◌∙◌, refl}
+use Rattle.std.proofs.Common.{inl, inr}
 use Rattle.std.specs.Int.{int_shr}
 use Rattle.std.proofs.lemmas.Bool.{cases_lt}
 use Rattle.std.proofs.lemmas.Bool.Decides.{nat_tests}
@@ -14,7 +15,8 @@ use Rattle.av1_dct.proofs.Zero.{IsZero, clamp-zero, cond-zero, by_index-zero}
 use Rattle.av1_frame.specs.Arithmetic.{round_shift}
 use Rattle.av1_itx.specs.Kinds.{row_kind, column_kind}
 use Rattle.av1_itx.specs.Networks.{network}
-use Rattle.av1_itx.specs.Residue.{row_value, row_input, row_power, row_range, row_shift, is_two_to_one, is_lossless, transformed_row, column_input, column_network, column_power, column_range, column_shift, transformed_column, residue}
+use Rattle.av1_itx.specs.Residue.{row_value, row_input, row_power, row_range, row_shift, is_two_to_one, is_lossless, transformed_row, column_input}
+use Rattle.av1_itx.specs.Residue.{column_network, column_power, column_range, column_shift, transformed_column, residue}
 use Rattle.av1_lists.proofs.Lists.{by_index-all, by_index-same}
 use Rattle.av1_dct.proofs.Fits.{zero_fits, clamp_value-fits, all-fit}
 use Rattle.av1_itx.proofs.Lines.{place_in}
@@ -22,15 +24,18 @@ use Rattle.av1_itx.proofs.Outputs.{network-fits}
 use Rattle.av1_itx.proofs.Zeros.{network-zero, zero_line}
 
 -- the place of a coefficient is one of the block's
-pub coded_place : (size : TxSize) (r c rows : ℕ) → rows ≡ coded (tx_height size) → c < coded (tx_width size) → r < coded (tx_height size) → c * rows + r < coded_area size
+pub coded_place : (size : TxSize) (r c rows : ℕ) → rows ≡ coded (tx_height size) → c < coded (tx_width size) → r < coded (tx_height size) →
+    c * rows + r < coded_area size
 coded_place size r c rows e hc hr = subst (λ n. c * n + r < coded_area size) (sym e) (place_in c r (coded (tx_height size)) (coded (tx_width size)) hc hr)
 
-input_in : (size : TxSize) (type : TxType) (depth : ℕ) (cs : List ℤ) (r c : ℕ) → c < coded (tx_width size) → row_value size type depth (at cs (c * coded (tx_height size) + r)) ≡ row_input size type depth cs r c
+input_in : (size : TxSize) (type : TxType) (depth : ℕ) (cs : List ℤ) (r c : ℕ) → c < coded (tx_width size) →
+    row_value size type depth (at cs (c * coded (tx_height size) + r)) ≡ row_input size type depth cs r c
 unfolding row_input
 input_in size type depth cs r c h = grind (arith, nat_tests)
 
 -- an input of a row, in the coded part and past it
-pub input_is : (size : TxSize) (type : TxType) (depth : ℕ) (cs : List ℤ) (r c rows : ℕ) (v z : ℤ) → rows ≡ coded (tx_height size) → c < coded (tx_width size) → v ≡ at cs (c * rows + r) → z ≡ row_value size type depth v → z ≡ row_input size type depth cs r c
+pub input_is : (size : TxSize) (type : TxType) (depth : ℕ) (cs : List ℤ) (r c rows : ℕ) (v z : ℤ) → rows ≡ coded (tx_height size) →
+    c < coded (tx_width size) → v ≡ at cs (c * rows + r) → z ≡ row_value size type depth v → z ≡ row_input size type depth cs r c
 input_is size type depth cs r c rows v z e h is made =
     made ∙ ap (row_value size type depth) (is ∙ ap (λ n. at cs (c * n + r)) e) ∙ input_in size type depth cs r c h
 
@@ -40,16 +45,23 @@ input_past size type depth cs r c h = grind (arith, nat_tests)
 
 input-fits : (size : TxSize) (type : TxType) (depth : ℕ) (cs : List ℤ) (r c : ℕ) → FitsBits (row_range depth) (row_input size type depth cs r c)
 unfolding row_input row_value
-input-fits size type depth cs r c = elim (ltb c (coded (tx_width size))) as (λ b. FitsBits (row_range depth) (cond b (row_value size type depth (at cs (c * coded (tx_height size) + r))) (pos 0))) [ true ↦ clamp_value-fits _ (row_range depth) (omega arith) | false ↦ zero_fits (row_range depth) ]
+input-fits size type depth cs r c =
+    elim (ltb c (coded (tx_width size))) as
+    (λ b. FitsBits (row_range depth) (cond b (row_value size type depth (at cs (c * coded (tx_height size) + r))) (pos 0)))
+    [ true ↦ clamp_value-fits _ (row_range depth) (omega arith) | false ↦ zero_fits (row_range depth) ]
 
-pub inputs-fit : (size : TxSize) (type : TxType) (depth : ℕ) (cs : List ℤ) (r : ℕ) → All (FitsBits (row_range depth)) (by_index (tx_width size) (row_input size type depth cs r))
+pub inputs-fit : (size : TxSize) (type : TxType) (depth : ℕ) (cs : List ℤ) (r : ℕ) →
+    All (FitsBits (row_range depth)) (by_index (tx_width size) (row_input size type depth cs r))
 inputs-fit size type depth cs r = by_index-all (FitsBits (row_range depth)) _ _ (λ c h. input-fits size type depth cs r c)
 
-pub row_is : (size : TxSize) (type : TxType) (depth : ℕ) (cs : List ℤ) (r c : ℕ) → r < coded (tx_height size) → at (network (row_kind type) (row_range depth) (row_power size) (by_index (tx_width size) (row_input size type depth cs r))) c ≡ at (transformed_row size type depth cs r) c
+pub row_is : (size : TxSize) (type : TxType) (depth : ℕ) (cs : List ℤ) (r c : ℕ) → r < coded (tx_height size) →
+    at (network (row_kind type) (row_range depth) (row_power size) (by_index (tx_width size) (row_input size type depth cs r))) c ≡
+    at (transformed_row size type depth cs r) c
 unfolding transformed_row
 row_is size type depth cs r c h = grind (arith, nat_tests)
 
-pub row_past : (size : TxSize) (type : TxType) (depth : ℕ) (cs : List ℤ) (r c : ℕ) → coded (tx_height size) ≤ r → at (transformed_row size type depth cs r) c ≡ pos 0
+pub row_past : (size : TxSize) (type : TxType) (depth : ℕ) (cs : List ℤ) (r c : ℕ) → coded (tx_height size) ≤ r →
+    at (transformed_row size type depth cs r) c ≡ pos 0
 unfolding transformed_row
 row_past size type depth cs r c h = grind (arith, nat_tests)
 
@@ -57,7 +69,9 @@ pub row-fits : (size : TxSize) (type : TxType) (depth : ℕ) (cs : List ℤ) (r 
 row-fits size type depth cs r c h =
     let P : ℤ → Type 0 = λ z. FitsBits 24 z in
     elim (cases_lt r (coded (tx_height size))) [
-      | inl b ↦ subst P (row_is size type depth cs r c b) (network-fits (row_kind type) (row_range depth) (row_power size) _ (omega arith) (all-fit (row_range depth) 20 _ (omega arith) (inputs-fit size type depth cs r)) c)
+      | inl b ↦ subst P (row_is size type depth cs r c b)
+          (network-fits (row_kind type) (row_range depth) (row_power size) _ (omega arith)
+          (all-fit (row_range depth) 20 _ (omega arith) (inputs-fit size type depth cs r)) c)
       | inr b ↦ subst P (sym (row_past size type depth cs r c b)) (zero_fits 24)
     ]
 
@@ -67,16 +81,21 @@ column_inputs-fit n s range f = by_index-all (FitsBits range) _ _ (λ r h. clamp
 
 pub column-fits : (size : TxSize) (type : TxType) (depth : ℕ) (f : ℕ → ℤ) (r : ℕ) → depth ≤ 12 → FitsBits 24 (at (column_network size type depth f) r)
 unfolding column_network
-column-fits size type depth f r h = network-fits (column_kind type) (column_range depth) (column_power size) _ (omega arith) (all-fit (column_range depth) 20 _ (omega arith) (column_inputs-fit (tx_height size) (row_shift size) (column_range depth) f)) r
+column-fits size type depth f r h =
+    network-fits (column_kind type) (column_range depth) (column_power size) _ (omega arith)
+    (all-fit (column_range depth) 20 _ (omega arith) (column_inputs-fit (tx_height size) (row_shift size) (column_range depth) f)) r
 
-pub column_network-is : (size : TxSize) (type : TxType) (depth : ℕ) (f : ℕ → ℤ) → network (column_kind type) (column_range depth) (column_power size) (column_input size depth f) ≡ column_network size type depth f
+pub column_network-is : (size : TxSize) (type : TxType) (depth : ℕ) (f : ℕ → ℤ) →
+    network (column_kind type) (column_range depth) (column_power size) (column_input size depth f) ≡ column_network size type depth f
 unfolding column_network
 column_network-is size type depth f = refl
 
-pub column_ext : (size : TxSize) (type : TxType) (depth : ℕ) (f g : ℕ → ℤ) → ((r : ℕ) → r < tx_height size → f r ≡ g r) → column_network size type depth f ≡ column_network size type depth g
+pub column_ext : (size : TxSize) (type : TxType) (depth : ℕ) (f g : ℕ → ℤ) → ((r : ℕ) → r < tx_height size → f r ≡ g r) →
+    column_network size type depth f ≡ column_network size type depth g
 unfolding column_network
 column_ext size type depth f g h =
-    ap (network (column_kind type) (column_range depth) (column_power size)) (by_index-same _ _ _ (λ r l. ap (λ z. clamp_value (round_shift z (row_shift size)) (column_range depth)) (h r l)))
+    ap (network (column_kind type) (column_range depth) (column_power size))
+    (by_index-same _ _ _ (λ r l. ap (λ z. clamp_value (round_shift z (row_shift size)) (column_range depth)) (h r l)))
 
 -- both passes
 pub residue_is : (size : TxSize) (type : TxType) (depth : ℕ) (cs : List ℤ) (f : ℕ → ℤ) (r c : ℕ) (z : ℤ) → z ≡ at (column_network size type depth f) r
@@ -87,7 +106,8 @@ residue_is size type depth cs f r c z is h =
     ap (λ v. round_shift v (column_shift type)) (is ∙ ap (λ l. at l r) (column_ext size type depth f _ h))
 
 -- a coefficient by how its block is scaled
-pub row_value-is : (size : TxSize) (type : TxType) (depth : ℕ) (t l : Bool) (v z : ℤ) → t ≡ is_two_to_one size → l ≡ is_lossless type → z ≡ clamp_value (cond t (round_shift (pos 2896 *ℤ v) 12) (cond l (int_shr v 2) v)) (row_range depth) → z ≡ row_value size type depth v
+pub row_value-is : (size : TxSize) (type : TxType) (depth : ℕ) (t l : Bool) (v z : ℤ) → t ≡ is_two_to_one size → l ≡ is_lossless type →
+    z ≡ clamp_value (cond t (round_shift (pos 2896 *ℤ v) 12) (cond l (int_shr v 2) v)) (row_range depth) → z ≡ row_value size type depth v
 unfolding row_value
 row_value-is size type depth t l v z et el is =
     is ∙ ap (λ b. clamp_value (cond b (round_shift (pos 2896 *ℤ v) 12) (cond l (int_shr v 2) v)) (row_range depth)) et
@@ -108,12 +128,14 @@ shifted-zero z b h =
 
 input-zero : (size : TxSize) (type : TxType) (depth : ℕ) (cs : List ℤ) (r c : ℕ) → IsZero cs → row_input size type depth cs r c ≡ pos 0
 unfolding row_input
-input-zero size type depth cs r c z = cond-zero (ltb c (coded (tx_width size))) _ _ (ap (row_value size type depth) (z.at _) ∙ row_value-zero size type depth) refl
+input-zero size type depth cs r c z =
+    cond-zero (ltb c (coded (tx_width size))) _ _ (ap (row_value size type depth) (z.at _) ∙ row_value-zero size type depth) refl
 
 row-zero : (size : TxSize) (type : TxType) (depth : ℕ) (cs : List ℤ) (r c : ℕ) → IsZero cs → at (transformed_row size type depth cs r) c ≡ pos 0
 row-zero size type depth cs r c z =
     elim (cases_lt r (coded (tx_height size))) [
-      | inl b ↦ (let n = network-zero (row_kind type) (row_range depth) (row_power size) (by_index (tx_width size) (row_input size type depth cs r)) (by_index-zero _ _ (λ x. input-zero size type depth cs r x z)) in sym (row_is size type depth cs r c b) ∙ n.at c)
+      | inl b ↦ (let n = network-zero (row_kind type) (row_range depth) (row_power size) (by_index (tx_width size) (row_input size type depth cs r))
+          (by_index-zero _ _ (λ x. input-zero size type depth cs r x z)) in sym (row_is size type depth cs r c b) ∙ n.at c)
       | inr b ↦ row_past size type depth cs r c b
     ]
 
@@ -122,5 +144,7 @@ pub residue-zero : (size : TxSize) (type : TxType) (depth : ℕ) (cs : List ℤ)
 unfolding residue transformed_column column_network
 residue-zero size type depth cs r c h =
     let z = zero_line cs (λ i l. h i (pos 0) l) in
-    let n = network-zero (column_kind type) (column_range depth) (column_power size) _ (by_index-zero (tx_height size) _ (λ y. clamp-zero _ (column_range depth) (shifted-zero _ (row_shift size) (row-zero size type depth cs y c z)))) in
+    let n = network-zero (column_kind type) (column_range depth)
+    (column_power size) _
+    (by_index-zero (tx_height size) _ (λ y. clamp-zero _ (column_range depth) (shifted-zero _ (row_shift size) (row-zero size type depth cs y c z)))) in
     shifted-zero _ (column_shift type) (n.at r)

@@ -24,7 +24,8 @@ unfolding scaled_input
 scaled_in size s r c h = grind (arith, nat_tests)
 
 -- an input of a row, in the coded part and past it
-pub scaled_is : (size : TxSize) (s : List ℤ) (r c rows : ℕ) → rows ≡ coded (tx_height size) → c < coded (tx_width size) → at s (c * rows + r) ≡ scaled_input size s r c
+pub scaled_is : (size : TxSize) (s : List ℤ) (r c rows : ℕ) → rows ≡ coded (tx_height size) → c < coded (tx_width size) →
+    at s (c * rows + r) ≡ scaled_input size s r c
 scaled_is size s r c rows e h = ap (λ n. at s (c * n + r)) e ∙ scaled_in size s r c h
 
 pub scaled_past : (size : TxSize) (s : List ℤ) (r c : ℕ) → coded (tx_width size) ≤ c → pos 0 ≡ scaled_input size s r c
@@ -33,19 +34,22 @@ scaled_past size s r c h = grind (arith, nat_tests)
 
 scaled-fits : (size : TxSize) (b : ℕ) (s : List ℤ) (r c : ℕ) → AllFit b s → FitsBits b (scaled_input size s r c)
 unfolding scaled_input
-scaled-fits size b s r c fit = elim (ltb c (coded (tx_width size))) as (λ t. FitsBits b (cond t (at s (c * coded (tx_height size) + r)) (pos 0))) [ true ↦ fit _ | false ↦ zero_fits b ]
+scaled-fits size b s r c fit = elim (ltb c (coded (tx_width size))) as (λ t. FitsBits b (cond t (at s (c * coded (tx_height size) + r)) (pos 0)))
+    [ true ↦ fit _ | false ↦ zero_fits b ]
 
 pub scaled_row-fits : (size : TxSize) (b : ℕ) (s : List ℤ) (r : ℕ) → AllFit b s → All (FitsBits b) (by_index (tx_width size) (scaled_input size s r))
 scaled_row-fits size b s r fit = by_index-all (FitsBits b) _ _ (λ c h. scaled-fits size b s r c fit)
 
 -- a row of zeros
-pub scaled_zero : (size : TxSize) (kind : TxType1D) (range k : ℕ) (s line : List ℤ) (r c : ℕ) → line ≡ by_index (tx_width size) (scaled_input size s r) → IsZero line → pos 0 ≡ at (network kind range k (by_index (tx_width size) (scaled_input size s r))) c
+pub scaled_zero : (size : TxSize) (kind : TxType1D) (range k : ℕ) (s line : List ℤ) (r c : ℕ) → line ≡ by_index (tx_width size) (scaled_input size s r) →
+    IsZero line → pos 0 ≡ at (network kind range k (by_index (tx_width size) (scaled_input size s r))) c
 scaled_zero size kind range k s line r c is z =
     let n = network-zero kind range k line z in
     sym (n.at c) ∙ ap (λ l. at (network kind range k l) c) is
 
 -- scaled coefficients fit
-pub all_scaled-fit : (size : TxSize) (type : TxType) (depth n : ℕ) (cs s : List ℤ) → length s ≡ n → ((i : ℕ) → i < n → at s i ≡ row_value size type depth (at cs i)) → AllFit (row_range depth) s
+pub all_scaled-fit : (size : TxSize) (type : TxType) (depth n : ℕ) (cs s : List ℤ) → length s ≡ n →
+    ((i : ℕ) → i < n → at s i ≡ row_value size type depth (at cs i)) → AllFit (row_range depth) s
 unfolding row_value
 all_scaled-fit size type depth n cs s len is = λ i.
     let P : ℤ → Type 0 = λ z. FitsBits (row_range depth) z in
@@ -54,17 +58,23 @@ all_scaled-fit size type depth n cs s len is = λ i.
       | inr h ↦ subst P (sym (get_or_past s i (pos 0) (omega arith))) (zero_fits (row_range depth))
     ]
 
-scaled_same : (size : TxSize) (type : TxType) (depth : ℕ) (cs s : List ℤ) (r c : ℕ) → r < coded (tx_height size) → ((i : ℕ) → i < coded_area size → at s i ≡ row_value size type depth (at cs i)) → scaled_input size s r c ≡ row_input size type depth cs r c
+scaled_same : (size : TxSize) (type : TxType) (depth : ℕ) (cs s : List ℤ) (r c : ℕ) → r < coded (tx_height size) →
+    ((i : ℕ) → i < coded_area size → at s i ≡ row_value size type depth (at cs i)) → scaled_input size s r c ≡ row_input size type depth cs r c
 scaled_same size type depth cs s r c hr is =
     let rows = coded (tx_height size) in
     elim (cases_lt c (coded (tx_width size))) [
-      | inl h ↦ sym (scaled_in size s r c h) ∙ (let e : rows ≡ coded (tx_height size) = omega arith in input_is size type depth cs r c rows (at cs (c * rows + r)) (at s (c * rows + r)) e h (ap (λ n. at cs (c * n + r)) e) (is (c * rows + r) (coded_place size r c rows e h hr)))
+      | inl h ↦ sym (scaled_in size s r c h)
+          ∙ (let e : rows ≡ coded (tx_height size) = omega arith
+          in input_is size type depth cs r c rows (at cs (c * rows + r)) (at s (c * rows + r)) e h (ap (λ n. at cs (c * n + r)) e)
+          (is (c * rows + r) (coded_place size r c rows e h hr)))
       | inr h ↦ sym (scaled_past size s r c h) ∙ input_past size type depth cs r c h
     ]
 
 -- such a row, transformed
 pub scaled_row : (size : TxSize) (type : TxType) (depth : ℕ) (cs s : List ℤ) (r c : ℕ) → r < coded (tx_height size)
     → ((i : ℕ) → i < coded_area size → at s i ≡ row_value size type depth (at cs i))
-    → at (network (row_kind type) (row_range depth) (row_power size) (by_index (tx_width size) (scaled_input size s r))) c ≡ at (transformed_row size type depth cs r) c
+    → at (network (row_kind type) (row_range depth) (row_power size) (by_index (tx_width size) (scaled_input size s r))) c ≡
+    at (transformed_row size type depth cs r) c
 scaled_row size type depth cs s r c hr is =
-    ap (λ xs. at (network (row_kind type) (row_range depth) (row_power size) xs) c) (by_index-same _ _ _ (λ x hx. scaled_same size type depth cs s r x hr is)) ∙ row_is size type depth cs r c hr
+    ap (λ xs. at (network (row_kind type) (row_range depth) (row_power size) xs) c)
+    (by_index-same _ _ _ (λ x hx. scaled_same size type depth cs s r x hr is)) ∙ row_is size type depth cs r c hr

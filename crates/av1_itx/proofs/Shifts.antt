@@ -1,5 +1,6 @@
 -- Shifts of values to the left, and of the first values of a list.
-use Rattle.std.proofs.Common.{ℕ, ◌≡◌, ◌*◌, ◌/◌, ◌%◌, ◌^◌, ◌<◌, ◌≤◌, ℤ, pos, negsuc, ◌+ℤ◌, ◌*ℤ◌, ◌<ℤ◌, List, ◌++◌, map, take, drop, arith, ap, sym, subst, unsigned_abs, ◌∙◌, w32, to_z, of_z, FitsSigned}
+use Rattle.std.proofs.Common.{ℕ, ◌≡◌, ◌*◌, ◌/◌, ◌%◌, ◌^◌, ◌<◌, ◌≤◌, ℤ, pos, negsuc, ◌+ℤ◌, ◌*ℤ◌, ◌<ℤ◌, List, ◌++◌, map, take, drop, arith, ap, sym, subst}
+use Rattle.std.proofs.Common.{unsigned_abs, ◌∙◌, w32, to_z, of_z, FitsSigned}
 use Rattle.std.specs.Int.{int_wrap}
 use Rattle.std.proofs.lemmas.Int.{ints, to_z-of_z, wrapping_mul-bits, int_wrap-mul_right}
 use Rattle.std.proofs.lemmas.List.{map-id, take-append-drop}

@@ -23,7 +23,8 @@ by_rows P w (suc h) f p lt =
     ]
 
 -- such a column is the column of the block
-pub column_value : (size : TxSize) (type : TxType) (depth h k shift range r : ℕ) (kind : TxType1D) (f : ℕ → ℤ) (z : ℤ) → kind ≡ column_kind type → h ≡ tx_height size → k ≡ column_power size → shift ≡ row_shift size → range ≡ column_range depth
+pub column_value : (size : TxSize) (type : TxType) (depth h k shift range r : ℕ) (kind : TxType1D) (f : ℕ → ℤ) (z : ℤ) → kind ≡ column_kind type →
+    h ≡ tx_height size → k ≡ column_power size → shift ≡ row_shift size → range ≡ column_range depth
     → z ≡ at (network kind range k (by_index h (λ y. clamp_value (round_shift (f y) shift) range))) r
     → z ≡ at (column_network size type depth f) r
 column_value size type depth h k shift range r kind f z ek eh ep es er is =

@@ -1,9 +1,12 @@
 -- Which transforms each size has.
 use Rattle.std.proofs.Common.{true, false, ◌≡◌, ◌≤◌, ◌↔◌, max, IsTrue, arith, ap, refl}
 use Rattle.av1_blocks.specs.declared.transform.TxSize.{TxSize}
-use Rattle.av1_blocks.specs.declared.transform.TxSize.TheVariants.{TX_4X4, TX_32X32, TX_64X64, TX_16X32, TX_32X16, TX_32X64, TX_64X32, TX_8X32, TX_32X8, TX_16X64, TX_64X16}
+use Rattle.av1_blocks.specs.declared.transform.TxSize.TheVariants.{TX_4X4, TX_32X32, TX_64X64, TX_16X32, TX_32X16, TX_32X64, TX_64X32, TX_8X32, TX_32X8}
+use Rattle.av1_blocks.specs.declared.transform.TxSize.TheVariants.{TX_16X64, TX_64X16}
 use Rattle.av1_blocks.specs.declared.transform.TxType.{TxType}
-use Rattle.av1_blocks.specs.declared.transform.TxType.TheVariants.{DCT_DCT, ADST_DCT, DCT_ADST, ADST_ADST, FLIPADST_DCT, DCT_FLIPADST, FLIPADST_FLIPADST, ADST_FLIPADST, FLIPADST_ADST, IDTX, V_DCT, H_DCT, V_ADST, H_ADST, V_FLIPADST, H_FLIPADST, WHT_WHT}
+use Rattle.av1_blocks.specs.declared.transform.TxType.TheVariants.{DCT_DCT, ADST_DCT, DCT_ADST, ADST_ADST, FLIPADST_DCT, DCT_FLIPADST, FLIPADST_FLIPADST}
+use Rattle.av1_blocks.specs.declared.transform.TxType.TheVariants.{ADST_FLIPADST, FLIPADST_ADST, IDTX, V_DCT, H_DCT, V_ADST, H_ADST, V_FLIPADST, H_FLIPADST}
+use Rattle.av1_blocks.specs.declared.transform.TxType.TheVariants.{WHT_WHT}
 use Rattle.av1_blocks.specs.Transforms.{tx_width, tx_height, valid_av1_transform}
 use Rattle.av1_itx.specs.Kinds.{row_kind, column_kind}
 use Rattle.av1_itx.specs.Residue.{row_power, column_power, HasNetworks}
@@ -13,7 +16,9 @@ no_truth h = cc
 
 -- rows and columns have 4 to 64 values
 sides : (size : TxSize) → (1 ≤ row_power size) × (row_power size ≤ 5) × (1 ≤ column_power size) × (column_power size ≤ 5)
-sides size = elim size as (λ t. (1 ≤ row_power t) × (row_power t ≤ 5) × (1 ≤ column_power t) × (column_power t ≤ 5)) [ TX_4X4 ↦ (omega arith, omega arith, omega arith, omega arith) | _ ↦ (omega arith, omega arith, omega arith, omega arith) ]
+sides size =
+    elim size as (λ t. (1 ≤ row_power t) × (row_power t ≤ 5) × (1 ≤ column_power t) × (column_power t ≤ 5))
+    [ TX_4X4 ↦ (omega arith, omega arith, omega arith, omega arith) | _ ↦ (omega arith, omega arith, omega arith, omega arith) ]
 
 -- where the identity may be used no side is greater than 32
 identity_sides : (size : TxSize) → IsTrue (valid_av1_transform size IDTX) → (row_power size ≤ 4) × (column_power size ≤ 4)
@@ -105,10 +110,19 @@ mixed_sides size =
     ]
 
 -- there rows and columns have a transform of one kind
-one_kind : (size : TxSize) (type : TxType) → IsTrue (valid_av1_transform size type) → 32 ≤ max (tx_width size) (tx_height size) → row_kind type ≡ column_kind type
+one_kind : (size : TxSize) (type : TxType) → IsTrue (valid_av1_transform size type) → 32 ≤ max (tx_width size) (tx_height size) →
+    row_kind type ≡ column_kind type
 one_kind size type =
     elim type as (λ t. IsTrue (valid_av1_transform size t) → 32 ≤ max (tx_width size) (tx_height size) → row_kind t
-    ≡ column_kind t) [ DCT_DCT ↦ (λ v h. refl) | ADST_ADST ↦ (λ v h. refl) | FLIPADST_FLIPADST ↦ (λ v h. refl) | IDTX ↦ (λ v h. refl) | WHT_WHT ↦ (λ v h. refl) | _ ↦ (λ v h. absurd (mixed_sides size v h)) ]
+    ≡ column_kind t) [
+      | DCT_DCT ↦ (λ v h. refl)
+      | ADST_ADST ↦ (λ v h. refl)
+      | FLIPADST_FLIPADST ↦ (λ v h. refl)
+      | IDTX ↦ (λ v h. refl)
+      | WHT_WHT ↦ (λ v h. refl)
+      | _ ↦
+          (λ v h. absurd (mixed_sides size v h))
+    ]
 
 cosine_valid : (size : TxSize) → IsTrue (valid_av1_transform size DCT_DCT)
 cosine_valid size = elim size as (λ t. IsTrue (valid_av1_transform t DCT_DCT)) [ TX_4X4 ↦ refl | _ ↦ refl ]
@@ -165,7 +179,8 @@ lossless_size : (size : TxSize) → row_power size ≡ 1 → column_power size �
 lossless_size size = elim size as (λ t. row_power t ≡ 1 → column_power t ≡ 1 → t ≡ TX_4X4) [ TX_4X4 ↦ (λ r c. refl) | _ ↦ (λ r c. absurd (omega arith)) ]
 
 -- a type whose transforms exist may be used, but that they are of one kind where a side has 32 samples or more
-may_be_used : (size : TxSize) (type : TxType) → HasNetworks size type → (32 ≤ max (tx_width size) (tx_height size) → row_kind type ≡ column_kind type) → IsTrue (valid_av1_transform size type) × (type ≡ WHT_WHT → size ≡ TX_4X4)
+may_be_used : (size : TxSize) (type : TxType) → HasNetworks size type → (32 ≤ max (tx_width size) (tx_height size) → row_kind type ≡ column_kind type) →
+    IsTrue (valid_av1_transform size type) × (type ≡ WHT_WHT → size ≡ TX_4X4)
 may_be_used size type =
     elim type as (λ t. HasNetworks size t → (32 ≤ max (tx_width size) (tx_height size) → row_kind t ≡ column_kind t) → IsTrue (valid_av1_transform size t) ×
     (t ≡ WHT_WHT → size ≡ TX_4X4)) [
@@ -225,5 +240,7 @@ may_be_used size type =
           (ap (λ t. valid_av1_transform t WHT_WHT) e, λ _. e))
     ]
 
-pub those_that_run : (size : TxSize) (type : TxType) → (IsTrue (valid_av1_transform size type) × (type ≡ WHT_WHT → size ≡ TX_4X4)) ↔ (HasNetworks size type × (32 ≤ max (tx_width size) (tx_height size) → row_kind type ≡ column_kind type))
+pub those_that_run : (size : TxSize) (type : TxType) →
+    (IsTrue (valid_av1_transform size type) × (type ≡ WHT_WHT → size ≡ TX_4X4)) ↔ (HasNetworks size type ×
+    (32 ≤ max (tx_width size) (tx_height size) → row_kind type ≡ column_kind type))
 those_that_run size type = (λ v. (both_run size type v.0 v.1, one_kind size type v.0), λ n. may_be_used size type n.0 n.1)

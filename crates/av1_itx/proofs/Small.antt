@@ -24,11 +24,16 @@ halved-fits (pos a) f = record { low = omega (arith, ints); high = omega (arith,
 halved-fits (negsuc a) f = record { low = omega (arith, ints, f.low); high = omega (arith, ints) }
 
 -- half of the sum of two values of 29 bits less the difference of two
-pub half-fits : {a b c d s t u v : ℤ} → FitsBits 29 a → FitsBits 29 b → FitsBits 29 c → FitsBits 29 d → s ≡ a +ℤ b → t ≡ c -ℤ d → u ≡ s -ℤ t → v ≡ int_shr u 1 → FitsBits 30 v
+pub half-fits : {a b c d s t u v : ℤ} → FitsBits 29 a → FitsBits 29 b → FitsBits 29 c → FitsBits 29 d → s ≡ a +ℤ b → t ≡ c -ℤ d → u ≡ s -ℤ t →
+    v ≡ int_shr u 1 → FitsBits 30 v
 half-fits {u = u} fa fb fc fd es et eu ev =
-    let r : FitsBits 31 u = record { low = omega (arith, ints, fa.low, fa.high, fb.low, fb.high, fc.low, fc.high, fd.low, fd.high, es, et, eu); high = omega (arith, ints, fa.low, fa.high, fb.low, fb.high, fc.low, fc.high, fd.low, fd.high, es, et, eu) } in
+    let r : FitsBits 31 u = record {
+      low = omega (arith, ints, fa.low, fa.high, fb.low, fb.high, fc.low, fc.high, fd.low, fd.high, es, et, eu);
+      high = omega (arith, ints, fa.low, fa.high, fb.low, fb.high, fc.low, fc.high, fd.low, fd.high, es, et, eu);
+    } in
     subst (λ (z : ℤ). FitsBits 30 z) (sym ev) (halved-fits u r)
 
-pub walsh_is : (x : List ℤ) (s4 a b c d : ℤ) → s4 ≡ int_shr (at x 0 +ℤ at x 1 -ℤ (at x 2 -ℤ at x 3)) 1 → a ≡ at x 0 +ℤ at x 1 -ℤ (s4 -ℤ at x 3) → b ≡ s4 -ℤ at x 3 → c ≡ s4 -ℤ at x 1 → d ≡ at x 2 -ℤ at x 3 +ℤ (s4 -ℤ at x 1) → a ∷ b ∷ c ∷ d ∷ [] ≡ walsh x
+pub walsh_is : (x : List ℤ) (s4 a b c d : ℤ) → s4 ≡ int_shr (at x 0 +ℤ at x 1 -ℤ (at x 2 -ℤ at x 3)) 1 → a ≡ at x 0 +ℤ at x 1 -ℤ (s4 -ℤ at x 3) →
+    b ≡ s4 -ℤ at x 3 → c ≡ s4 -ℤ at x 1 → d ≡ at x 2 -ℤ at x 3 +ℤ (s4 -ℤ at x 1) → a ∷ b ∷ c ∷ d ∷ [] ≡ walsh x
 unfolding walsh_with
 walsh_is x s4 a b c d hs ha hb hc hd = cc

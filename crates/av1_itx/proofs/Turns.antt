@@ -1,5 +1,6 @@
 -- Turns of pairs of neighbours.
-use Rattle.std.proofs.Common.{ℕ, ◌≡◌, ◌+◌, ◌-◌, ◌*◌, ◌/◌, ◌%◌, ℤ, pos, neg_ℤ, List, get_or, arith, ap, sym, subst, ◌∙◌, inl, inr, ◌≤ℤ◌, nat_lt, max, cond, true, false}
+use Rattle.std.proofs.Common.{ℕ, ◌≡◌, ◌+◌, ◌-◌, ◌*◌, ◌/◌, ◌%◌, ℤ, pos, neg_ℤ, List, get_or, arith, ap, sym, subst, ◌∙◌, inl, inr, ◌≤ℤ◌, nat_lt, max, cond}
+use Rattle.std.proofs.Common.{true, false}
 use Rattle.std.proofs.lemmas.Bool.{cases_eq, cases_lt}
 use Rattle.std.proofs.lemmas.Int.{ints}
 use Rattle.std.proofs.lemmas.List.{get_or_past}
@@ -28,7 +29,8 @@ unfolding turned_with
 turned-odd w0 w1 v i e = grind (arith, nat_tests)
 
 -- a pair that reads the same elsewhere
-pub turned-same : (w0 w1 : ℤ) (u v : List ℤ) (t i : ℕ) → t % 2 ≡ i % 2 → at u t ≡ at v i → (t % 2 ≡ 0 → at u (t + 1) ≡ at v (i + 1)) → ((t % 2 ≡ 0 → ⊥) → at u (t - 1) ≡ at v (i - 1)) → turned w0 w1 u t ≡ turned w0 w1 v i
+pub turned-same : (w0 w1 : ℤ) (u v : List ℤ) (t i : ℕ) → t % 2 ≡ i % 2 → at u t ≡ at v i → (t % 2 ≡ 0 → at u (t + 1) ≡ at v (i + 1)) →
+    ((t % 2 ≡ 0 → ⊥) → at u (t - 1) ≡ at v (i - 1)) → turned w0 w1 u t ≡ turned w0 w1 v i
 turned-same w0 w1 u v t i e here next last =
     elim (cases_eq (t % 2) 0) [
       | inl h ↦ sym (turned-even w0 w1 u t h)
@@ -40,7 +42,8 @@ turned-same w0 w1 u v t i e here next last =
     ]
 
 -- the two places of pair p
-pub pair_first : (ws : List (ℤ × ℤ)) (v : List ℤ) (p : ℕ) (w0 w1 x y z : ℤ) → w0 ≡ (weights_at ws p).0 → w1 ≡ (weights_at ws p).1 → x ≡ at v (2 * p) → y ≡ at v (2 * p + 1) → z ≡ half_btf w0 x w1 y → z ≡ turned_by ws v (2 * p)
+pub pair_first : (ws : List (ℤ × ℤ)) (v : List ℤ) (p : ℕ) (w0 w1 x y z : ℤ) → w0 ≡ (weights_at ws p).0 → w1 ≡ (weights_at ws p).1 → x ≡ at v (2 * p) →
+    y ≡ at v (2 * p + 1) → z ≡ half_btf w0 x w1 y → z ≡ turned_by ws v (2 * p)
 pair_first ws v p w0 w1 x y z e0 e1 ex ey is =
     let half : 2 * p / 2 ≡ p = omega arith in
     let even : 2 * p % 2 ≡ 0 = omega arith in
@@ -50,13 +53,15 @@ pair_first ws v p w0 w1 x y z e0 e1 ex ey is =
     ∙ turned-even (weights_at ws p).0 (weights_at ws p).1 v (2 * p) even
     ∙ ap (λ n. turned (weights_at ws n).0 (weights_at ws n).1 v (2 * p)) (sym half)
 
-pub pair_second : (ws : List (ℤ × ℤ)) (v : List ℤ) (p : ℕ) (w0 w1 m x y z : ℤ) → w0 ≡ (weights_at ws p).0 → w1 ≡ (weights_at ws p).1 → m ≡ neg_ℤ w0 → x ≡ at v (2 * p) → y ≡ at v (2 * p + 1) → z ≡ half_btf w1 x m y → z ≡ turned_by ws v (2 * p + 1)
+pub pair_second : (ws : List (ℤ × ℤ)) (v : List ℤ) (p : ℕ) (w0 w1 m x y z : ℤ) → w0 ≡ (weights_at ws p).0 → w1 ≡ (weights_at ws p).1 → m ≡ neg_ℤ w0 →
+    x ≡ at v (2 * p) → y ≡ at v (2 * p + 1) → z ≡ half_btf w1 x m y → z ≡ turned_by ws v (2 * p + 1)
 pair_second ws v p w0 w1 m x y z e0 e1 em ex ey is =
     let half : (2 * p + 1) / 2 ≡ p = omega arith in
     let before : 2 * p + 1 - 1 ≡ 2 * p = omega arith in
     is
     ∙ ap (λ w. half_btf w x m y) e1 ∙ ap (λ w. half_btf (weights_at ws p).1 x w y) (em ∙ ap neg_ℤ e0)
-    ∙ ap (λ w. half_btf (weights_at ws p).1 w (neg_ℤ (weights_at ws p).0) y) (ex ∙ ap (at v) (sym before)) ∙ ap (λ w. half_btf (weights_at ws p).1 (at v (2 * p + 1 - 1)) (neg_ℤ (weights_at ws p).0) w) ey
+    ∙ ap (λ w. half_btf (weights_at ws p).1 w (neg_ℤ (weights_at ws p).0) y) (ex ∙ ap (at v) (sym before))
+    ∙ ap (λ w. half_btf (weights_at ws p).1 (at v (2 * p + 1 - 1)) (neg_ℤ (weights_at ws p).0) w) ey
     ∙ turned-odd (weights_at ws p).0 (weights_at ws p).1 v (2 * p + 1) (λ h. omega arith)
     ∙ ap (λ n. turned (weights_at ws n).0 (weights_at ws n).1 v (2 * p + 1)) (sym half)
 

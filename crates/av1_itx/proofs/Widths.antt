@@ -1,5 +1,6 @@
 -- Numbers of few bits, and lists of them.
-use Rattle.std.proofs.Common.{ℕ, zero, suc, ◌≡◌, ◌-◌, ◌*◌, ◌^◌, ◌<◌, ◌≤◌, ℤ, pos, List, All, [], ◌∷◌, map, take, reverse, length, arith, ap, sym, subst, ◌∙◌, inl, inr}
+use Rattle.std.proofs.Common.{ℕ, zero, suc, ◌≡◌, ◌-◌, ◌*◌, ◌^◌, ◌<◌, ◌≤◌, ℤ, pos, List, All, [], ◌∷◌, map, take, reverse, length, arith, ap, sym, subst}
+use Rattle.std.proofs.Common.{◌∙◌, inl, inr}
 use Rattle.std.proofs.lemmas.Bool.{cases_lt}
 use Rattle.std.proofs.lemmas.List.{take_all, map-id, get_or_past, get_or-reverse, length-reverse}
 use Rattle.av1_dct.specs.Arithmetic.{AllFit, FitsBits}
@@ -36,7 +37,8 @@ reverse-fits b xs f = λ i.
     ]
 
 -- lanes that fit the bits of a range fit 20
-pub fits : {n range : ℕ} (lanes : ℕ → List ℤ) → (8 ≤ range) × (range ≤ 20) → ((i : ℕ) → i < n → All (FitsBits range) (lanes i)) → (i : ℕ) → i < n → AllFit 20 (lanes i)
+pub fits : {n range : ℕ} (lanes : ℕ → List ℤ) → (8 ≤ range) × (range ≤ 20) → ((i : ℕ) → i < n → All (FitsBits range) (lanes i)) → (i : ℕ) → i < n →
+    AllFit 20 (lanes i)
 fits {range = range} lanes range_in fit = λ i h. all-fit range 20 (lanes i) range_in.1 (fit i h)
 
 -- numbers are words of one lane

@@ -1,5 +1,6 @@
 -- The transforms of zeros are zeros.
-use Rattle.std.proofs.Common.{ℕ, zero, suc, ◌≡◌, ◌+◌, ◌-◌, ◌*◌, ◌^◌, ◌<◌, ℤ, pos, ◌+ℤ◌, ◌-ℤ◌, ◌*ℤ◌, List, [], ◌∷◌, length, reverse, arith, ap, sym, refl, ◌∙◌, inl, inr, replicate}
+use Rattle.std.proofs.Common.{ℕ, zero, suc, ◌≡◌, ◌+◌, ◌-◌, ◌*◌, ◌^◌, ◌<◌, ℤ, pos, ◌+ℤ◌, ◌-ℤ◌, ◌*ℤ◌, List, [], ◌∷◌, length, reverse, arith, ap, sym, refl}
+use Rattle.std.proofs.Common.{◌∙◌, inl, inr, replicate}
 use Rattle.std.specs.Int.{int_shr, int_wrap}
 use Rattle.std.proofs.lemmas.Bool.{cases_lt}
 use Rattle.std.proofs.lemmas.Int.{ints}
@@ -10,7 +11,8 @@ use Rattle.av1_dct.proofs.Halves.{cosine-length}
 use Rattle.av1_dct.proofs.Zero.{IsZero, half_btf-zero, clamp-zero, sum-zero, cond-zero, by_index-zero, cosine-zero}
 use Rattle.av1_itx.specs.declared.kinds.TxType1D.{TxType1D}
 use Rattle.av1_itx.specs.declared.kinds.TxType1D.TheVariants.{DCT, ADST, FLIPADST, IDENTITY, WHT}
-use Rattle.av1_itx.specs.Adst.{adst, adst_with, adst4, adst4_with, weighted, weighted_with, turned, turned_with, adst_start, adst_start_with, adst_sum, adst_sum_with, adst_turn_with, adst_in, adst_out, adst_out_with, adst_rounds, adst_rounds_with, adst_more, adst_more_with}
+use Rattle.av1_itx.specs.Adst.{adst, adst_with, adst4, adst4_with, weighted, weighted_with, turned, turned_with, adst_start, adst_start_with, adst_sum}
+use Rattle.av1_itx.specs.Adst.{adst_sum_with, adst_turn_with, adst_in, adst_out, adst_out_with, adst_rounds, adst_rounds_with, adst_more, adst_more_with}
 use Rattle.av1_itx.specs.Identity.{scaled, scaled_with, identity_with}
 use Rattle.av1_itx.specs.Walsh.{walsh, walsh_with}
 use Rattle.av1_itx.specs.Networks.{HasNetwork, network, network_with}
@@ -52,7 +54,11 @@ third-zero x y z hx hy hz = omega (arith, ints)
 
 adst4-zero : (x : List ℤ) → IsZero x → IsZero (adst4 x)
 unfolding adst4_with
-adst4-zero x h = record { at = four-zero _ _ _ _ (weighted-zero _ _ _ _ x h) (weighted-zero _ _ _ _ x h) (round12-zero (pos 3344 *ℤ (at x 0 -ℤ at x 2 +ℤ at x 3)) (third-zero _ _ _ (h.at 0) (h.at 2) (h.at 3))) (weighted-zero _ _ _ _ x h) }
+adst4-zero x h =
+    record {
+      at = four-zero _ _ _ _ (weighted-zero _ _ _ _ x h) (weighted-zero _ _ _ _ x h)
+          (round12-zero (pos 3344 *ℤ (at x 0 -ℤ at x 2 +ℤ at x 3)) (third-zero _ _ _ (h.at 0) (h.at 2) (h.at 3))) (weighted-zero _ _ _ _ x h);
+    }
 
 turned-zero : (w0 w1 : ℤ) (v : List ℤ) (i : ℕ) → IsZero v → turned w0 w1 v i ≡ pos 0
 unfolding turned_with
@@ -64,7 +70,9 @@ rounds-zero range k zero v h = h
 rounds-zero range k (suc c) v h =
     let s = 2 ^ (k - c) in
     let w = rounds-zero range k c v h in
-    let u = by_index-zero (2 * 2 ^ k) (adst_sum range s (adst_rounds range k c v)) (λ p. cond-zero _ _ _ (clamp-zero _ range (sum-zero _ _ (w.at p) (w.at (p + s))).0) (clamp-zero _ range (sum-zero _ _ (w.at (p - s)) (w.at p)).1)) in
+    let u = by_index-zero (2 * 2 ^ k) (adst_sum range s (adst_rounds range k c v))
+    (λ p. cond-zero _ _ _ (clamp-zero _ range (sum-zero _ _ (w.at p) (w.at (p + s))).0) (clamp-zero _ range (sum-zero _ _ (w.at (p - s)) (w.at p)).1))
+    in
     by_index-zero _ _ (λ i. cond-zero _ _ _ (u.at i) (turned-zero _ _ _ i u))
 
 more-zero : (range k : ℕ) (x : List ℤ) → IsZero x → IsZero (adst_more range k x)
@@ -93,7 +101,10 @@ walsh-zero x z =
     let a2 = z.at 2 in
     let a3 = z.at 3 in
     let h = half-zero (at x 0 +ℤ at x 1 -ℤ (at x 2 -ℤ at x 3)) (omega (arith, ints, a0, a1, a2, a3)) in
-    record { at = four-zero _ _ _ _ (omega (arith, ints, a0, a1, a2, a3, h)) (omega (arith, ints, a0, a1, a2, a3, h)) (omega (arith, ints, a0, a1, a2, a3, h)) (omega (arith, ints, a0, a1, a2, a3, h)) }
+    record {
+      at = four-zero _ _ _ _ (omega (arith, ints, a0, a1, a2, a3, h)) (omega (arith, ints, a0, a1, a2, a3, h))
+          (omega (arith, ints, a0, a1, a2, a3, h)) (omega (arith, ints, a0, a1, a2, a3, h));
+    }
 
 reverse-zero : (xs : List ℤ) → IsZero xs → IsZero (reverse xs)
 reverse-zero xs z = record {

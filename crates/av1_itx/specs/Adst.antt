@@ -1,5 +1,6 @@
 -- The inverse asymmetric sine transforms (the inverse ADST4, ADST8 and ADST16 processes of the AV1 specification).
-use Rattle.std.specs.Prelude.{ℕ, zero, suc, ◌+◌, ◌-◌, ◌*◌, ◌^◌, ◌/◌, ◌%◌, ◌==◌, nat_lt, max, if◌then◌else◌, ℤ, pos, neg_ℤ, List, [], ◌∷◌}
+use Rattle.std.specs.Prelude.{ℕ, zero, suc, ◌+◌, ◌-◌, ◌*◌, ◌^◌, ◌/◌, ◌%◌, ◌==◌, nat_lt, max, if◌then◌else◌, ℤ, pos}
+use Rattle.std.specs.Prelude.{neg_ℤ, List, [], ◌∷◌}
 use Rattle.std.specs.Int.Bits.{bit_xor}
 use Rattle.av1_dct.specs.Arithmetic.{at, clamp_value}
 use Rattle.av1_dct.specs.Operations.{Operations, wrapping, half_btf_with}
@@ -22,7 +23,8 @@ sinpi_4_9 = pos 3803
 -- four values by four weights, rounded
 unfoldable pub weighted_with : Operations → ℤ → ℤ → ℤ → ℤ → List ℤ → ℤ
 weighted_with ops a b c d x =
-    ops.round (ops.plus (ops.plus (ops.plus (ops.times a (at x 0)) (ops.times b (at x 1))) (ops.times c (at x 2))) (ops.times d (at x 3)))
+    ops.round (ops.plus (ops.plus (ops.plus (ops.times a (at x 0)) (ops.times b (at x 1))) (ops.times c (at x 2)))
+    (ops.times d (at x 3)))
 
 abbrev pub weighted : ℤ → ℤ → ℤ → ℤ → List ℤ → ℤ
 weighted = weighted_with wrapping
@@ -39,8 +41,8 @@ adst4_with ops x =
 abbrev pub adst4 : List ℤ → List ℤ
 adst4 = adst4_with wrapping
 
--- Two neighbours u, v by the weights w0 and w1 (a butterfly rotation): they become w0 u + w1 v and w1 u - w0 v, rounded. This is
--- place i of the pair 2p, 2p + 1.
+-- Two neighbours u, v by the weights w0 and w1 (a butterfly rotation): they become w0 u + w1 v and w1 u - w0 v,
+-- rounded. This is place i of the pair 2p, 2p + 1.
 unfoldable pub turned_with : Operations → ℤ → ℤ → List ℤ → ℕ → ℤ
 turned_with ops w0 w1 v i =
     if i % 2 == 0
@@ -83,8 +85,8 @@ adst_sum_with ops range s v i =
 abbrev pub adst_sum : ℕ → ℕ → List ℤ → ℕ → ℤ
 adst_sum = adst_sum_with wrapping
 
--- Then the pairs of the upper s places of each block are turned: the first s/4 of them, at least one, and the others the other way
--- round. These are the weights of pair p of them.
+-- Then the pairs of the upper s places of each block are turned: the first s/4 of them, at least one, and the others
+-- the other way round. These are the weights of pair p of them.
 abbrev pub round_weights : ℕ → ℕ → ℤ × ℤ
 round_weights s p =
     if nat_lt p (max 1 (s / 4))
@@ -128,7 +130,9 @@ adst_out = adst_out_with wrapping
 unfoldable pub adst_more_with : Operations → ℕ → ℕ → List ℤ → List ℤ
 adst_more_with ops range k x =
     let n = 2 * 2 ^ k in
-    by_index n (adst_out_with ops k (adst_rounds_with ops range k k (by_index n (adst_start_with ops n (by_index n (adst_in n x))))))
+    by_index n
+    (adst_out_with ops k
+    (adst_rounds_with ops range k k (by_index n (adst_start_with ops n (by_index n (adst_in n x))))))
 
 abbrev pub adst_more : ℕ → ℕ → List ℤ → List ℤ
 adst_more = adst_more_with wrapping

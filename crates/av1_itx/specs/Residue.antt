@@ -1,8 +1,13 @@
--- The 2D inverse transform process of the AV1 specification: an inverse transform along each row of coefficients, then one down each column.
-use Rattle.std.specs.Prelude.{ℕ, ◌+◌, ◌-◌, ◌*◌, ◌==◌, ◌||◌, nat_lt, max, if◌then◌else◌, Bool, true, false, ℤ, pos, ◌*ℤ◌, List, []}
+-- The 2D inverse transform process of the AV1 specification: an inverse transform along each row of coefficients, then
+-- one down each column.
+use Rattle.std.specs.Prelude.{ℕ, ◌+◌, ◌-◌, ◌*◌, ◌==◌, ◌||◌, nat_lt, max, if◌then◌else◌, Bool, true, false, ℤ, pos}
+use Rattle.std.specs.Prelude.{◌*ℤ◌, List, []}
 use Rattle.std.specs.Int.{int_shr}
 use Rattle.av1_blocks.specs.declared.transform.TxSize.{TxSize}
-use Rattle.av1_blocks.specs.declared.transform.TxSize.TheVariants.{TX_4X4, TX_8X8, TX_16X16, TX_32X32, TX_64X64, TX_4X8, TX_8X4, TX_8X16, TX_16X8, TX_16X32, TX_32X16, TX_32X64, TX_64X32, TX_4X16, TX_16X4, TX_8X32, TX_32X8, TX_16X64, TX_64X16}
+use Rattle.av1_blocks.specs.declared.transform.TxSize.TheVariants.{TX_4X4, TX_8X8, TX_16X16, TX_32X32, TX_64X64}
+use Rattle.av1_blocks.specs.declared.transform.TxSize.TheVariants.{TX_4X8, TX_8X4, TX_8X16, TX_16X8, TX_16X32}
+use Rattle.av1_blocks.specs.declared.transform.TxSize.TheVariants.{TX_32X16, TX_32X64, TX_64X32, TX_4X16, TX_16X4}
+use Rattle.av1_blocks.specs.declared.transform.TxSize.TheVariants.{TX_8X32, TX_32X8, TX_16X64, TX_64X16}
 use Rattle.av1_blocks.specs.declared.transform.TxType.{TxType}
 use Rattle.av1_blocks.specs.declared.transform.TxType.TheVariants.{WHT_WHT}
 use Rattle.av1_blocks.specs.Blocks.{side_log2}
@@ -66,35 +71,43 @@ row_range depth = depth + 8
 abbrev pub column_range : ℕ → ℕ
 column_range depth = max (depth + 6) 16
 
--- a coefficient as the rows take it: scaled by the square root of one half in a block of two to one, by a quarter in a lossless one
+-- a coefficient as the rows take it: scaled by the square root of one half in a block of two to one, by a quarter in a
+-- lossless one
 unfoldable pub row_value : TxSize → TxType → ℕ → ℤ → ℤ
 row_value size type depth z =
-    clamp_value (if is_two_to_one size then round_shift (pos 2896 *ℤ z) 12 else if is_lossless type then int_shr z 2 else z) (row_range depth)
+    clamp_value (if is_two_to_one size then round_shift (pos 2896 *ℤ z) 12 else if is_lossless type then int_shr z 2
+    else z) (row_range depth)
 
 -- what the row r takes at column c: coefficients stand column by column, and there are none from row and column 32 on
 unfoldable pub row_input : TxSize → TxType → ℕ → List ℤ → ℕ → ℕ → ℤ
 row_input size type depth coefficients r c =
-    if nat_lt c (coded (tx_width size)) then row_value size type depth (at coefficients (c * coded (tx_height size) + r)) else pos 0
+    if nat_lt c (coded (tx_width size))
+    then row_value size type depth (at coefficients (c * coded (tx_height size) + r)) else pos 0
 
 -- row r after its transform; the rows from 32 on are all zeros, which is what places past a list's end read as
 unfoldable pub transformed_row : TxSize → TxType → ℕ → List ℤ → ℕ → List ℤ
 transformed_row size type depth coefficients r =
     if nat_lt r (coded (tx_height size))
-    then network (row_kind type) (row_range depth) (row_power size) (by_index (tx_width size) (row_input size type depth coefficients r))
+    then network (row_kind type) (row_range depth) (row_power size)
+    (by_index (tx_width size) (row_input size type depth coefficients r))
     else []
 
 -- what a column takes whose values after the rows are f 0, f 1, ..
 abbrev pub column_input : TxSize → ℕ → (ℕ → ℤ) → List ℤ
-column_input size depth f = by_index (tx_height size) (λ r. clamp_value (round_shift (f r) (row_shift size)) (column_range depth))
+column_input size depth f =
+    by_index (tx_height size) (λ r. clamp_value (round_shift (f r) (row_shift size)) (column_range depth))
 
 -- such a column after its transform
 unfoldable pub column_network : TxSize → TxType → ℕ → (ℕ → ℤ) → List ℤ
-column_network size type depth f = network (column_kind type) (column_range depth) (column_power size) (column_input size depth f)
+column_network size type depth f =
+    network (column_kind type) (column_range depth) (column_power size) (column_input size depth f)
 
 -- column c after its transform
 unfoldable pub transformed_column : TxSize → TxType → ℕ → List ℤ → ℕ → List ℤ
-transformed_column size type depth coefficients c = column_network size type depth (λ r. at (transformed_row size type depth coefficients r) c)
+transformed_column size type depth coefficients c =
+    column_network size type depth (λ r. at (transformed_row size type depth coefficients r) c)
 
 -- The residue of a block's coefficients: what is added to the sample at row r and column c.
 unfoldable pub residue : TxSize → TxType → ℕ → List ℤ → ℕ → ℕ → ℤ
-residue size type depth coefficients r c = round_shift (at (transformed_column size type depth coefficients c) r) (column_shift type)
+residue size type depth coefficients r c =
+    round_shift (at (transformed_column size type depth coefficients c) r) (column_shift type)

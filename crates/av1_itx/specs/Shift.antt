@@ -3,7 +3,8 @@ use Rattle.std.specs.Prelude.{zero, suc, ◌^◌, ◌/◌, ℤ, pos, negsuc, ◌
 use Rattle.av1_dct.specs.Arithmetic.{wrap32}
 use Rattle.av1_frame.specs.Arithmetic.{round_shift}
 
--- v shifted by `bit`: to the right with rounding where that is positive, to the left, wrapped at 32 bits, where it is negative
+-- v shifted by `bit`: to the right with rounding where that is positive, to the left, wrapped at 32 bits, where it is
+-- negative
 abbrev pub shifted : ℤ → ℤ → ℤ
 shifted (pos zero) v = v
 shifted (pos (suc b)) v = round_shift v (suc b)

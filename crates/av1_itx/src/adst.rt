@@ -9,7 +9,8 @@ ghost use Rattle.av1_itx.specs.Adst.{adst, adst4, adst_more, adst_in, adst_out, 
 
 use crate::words::BlockWord;
 
-// The weights of the turns of neighbours: of all pairs at the start, and of the pairs of the upper half of a block of 16, 8 and 4.
+// The weights of the turns of neighbours: of all pairs at the start, and of the pairs of the upper half of a block of
+// 16, 8 and 4.
 const START_8: [(i32, i32); 4] = [(4076, 401), (3612, 1931), (2598, 3166), (1189, 3920)];
 
 const START_16: [(i32, i32); 8] = [
@@ -39,7 +40,9 @@ const PLACES_16: [usize; 16] = [0, 8, 12, 4, 6, 14, 10, 2, 3, 11, 15, 7, 5, 13, 
 fn turn_pairs<W: BlockWord>(v: &mut [W], weights: &[(i32, i32)])
     requires len { length v.old ≡ 2 * length weights.now }
     requires small { (p : ℕ) → p < length weights.now → FitsBits 20 (slice_index_or weights.now p (pos 0, pos 0)).0 }
-    ensures { (i : ℕ) → i < W.LANES → column W.lane_of i v.new ≡ by_index (length v.old) (λ k. let w = slice_index_or weights.now (k / 2) (pos 0, pos 0) in turned w.0 w.1 (column W.lane_of i v.old) k) }
+    ensures { (i : ℕ) → i < W.LANES →
+        column W.lane_of i v.new ≡ by_index (length v.old) (λ k. let w = slice_index_or weights.now (k / 2) (pos 0, pos 0)
+        in turned w.0 w.1 (column W.lane_of i v.old) k) }
 {
     for p in 0..weights.len() {
         let (w0, w1) = weights[p];
@@ -75,7 +78,8 @@ fn run_block<W: BlockWord>(v: &mut [W], weights: &[(i32, i32)], range: usize)
     requires len { length v.old ≡ 2 * (2 * length weights.now) }
     requires table { (p : ℕ) → p < length weights.now → slice_index_or weights.now p (pos 0, pos 0) ≡ round_weights (2 * length weights.now) p }
     requires fit { (i : ℕ) → i < W.LANES → AllFit 20 (column W.lane_of i v.old) }
-    ensures { (i : ℕ) → i < W.LANES → let s = 2 * length weights.now in column W.lane_of i v.new ≡ by_index (2 * s) (adst_turn s (by_index (2 * s) (adst_sum range s (column W.lane_of i v.old)))) }
+    ensures { (i : ℕ) → i < W.LANES → let s = 2 * length weights.now
+        in column W.lane_of i v.new ≡ by_index (2 * s) (adst_turn s (by_index (2 * s) (adst_sum range s (column W.lane_of i v.old)))) }
 {
     let s = 2 * weights.len();
     sum_halves(v, range);
@@ -90,7 +94,8 @@ fn run_blocks<W: BlockWord>(v: &mut [W], blocks: usize, weights: &[(i32, i32)], 
     requires len { length v.old ≡ blocks * (2 * (2 * length weights.now)) }
     requires table { (p : ℕ) → p < length weights.now → slice_index_or weights.now p (pos 0, pos 0) ≡ round_weights (2 * length weights.now) p }
     requires fit { (i : ℕ) → i < W.LANES → AllFit 20 (column W.lane_of i v.old) }
-    ensures { (i : ℕ) → i < W.LANES → let s = 2 * length weights.now in column W.lane_of i v.new ≡ by_index (length v.old) (adst_turn s (by_index (length v.old) (adst_sum range s (column W.lane_of i v.old)))) }
+    ensures { (i : ℕ) → i < W.LANES → let s = 2 * length weights.now
+        in column W.lane_of i v.new ≡ by_index (length v.old) (adst_turn s (by_index (length v.old) (adst_sum range s (column W.lane_of i v.old)))) }
 {
     let n = 4 * weights.len();
     for b in 0..blocks {

@@ -43,7 +43,8 @@ fn row_shift_of(tx_size: TxSize) -> usize
     }
 }
 
-// Each value of a buffer as the columns take it: rounded and clamped. One pass over neighbours is cheaper than one down each column.
+// Each value of a buffer as the columns take it: rounded and clamped. One pass over neighbours is cheaper than one down
+// each column.
 fn round_values(buffer: &mut [i32], shift: usize, range: usize)
     requires shift_in { shift ≤ 4 }
     requires range_in { (8 ≤ range) × (range ≤ 20) }
@@ -61,8 +62,8 @@ fn is_cosine(kind: TxType1D) -> bool
     matches!(kind, TxType1D::DCT)
 }
 
-// Each column of a buffer of w columns and h rows, transformed in place. Where it is the cosine transform and there are eight columns
-// or more, room that counts counts the groups of eight.
+// Each column of a buffer of w columns and h rows, transformed in place. Where it is the cosine transform and there are
+// eight columns or more, room that counts counts the groups of eight.
 fn run_columns<R: LaneRoom>(
     buffer: &mut [i32],
     lanes: &mut R,
@@ -92,8 +93,8 @@ fn run_columns<R: LaneRoom>(
     lanes.run_cosine(buffer, w, h, k, range);
 }
 
-/// Each column of a block, transformed in place: `buffer` has the block row by row. Where the columns take the cosine transform and
-/// there are eight or more, room that counts counts the groups of eight.
+/// Each column of a block, transformed in place: `buffer` has the block row by row. Where the columns take the cosine
+/// transform and there are eight or more, room that counts counts the groups of eight.
 pub(crate) fn column_pass<R: LaneRoom>(
     buffer: &mut [i32],
     lanes: &mut R,
@@ -105,7 +106,8 @@ pub(crate) fn column_pass<R: LaneRoom>(
     requires has { HasNetwork (column_kind tx_type) (column_power tx_size) }
     requires buffer_len { length buffer.old ≡ tx_height tx_size * tx_width tx_size }
     requires fit { (r c : ℕ) → r < tx_height tx_size → c < tx_width tx_size → FitsBits 24 (at buffer.old (r * tx_width tx_size + c)) }
-    ensures value { (r c : ℕ) → r < tx_height tx_size → c < tx_width tx_size → at buffer.new (r * tx_width tx_size + c) ≡ at (column_network tx_size tx_type bd (λ y. at buffer.old (y * tx_width tx_size + c))) r }
+    ensures value { (r c : ℕ) → r < tx_height tx_size → c < tx_width tx_size →
+        at buffer.new (r * tx_width tx_size + c) ≡ at (column_network tx_size tx_type bd (λ y. at buffer.old (y * tx_width tx_size + c))) r }
     ensures counts { R.tally lanes.new ≡ R.raised_by (R.tally lanes.old) (lane_groups tx_size tx_type) }
 {
     let (w, h) = (tx_size.width(), tx_size.height());

@@ -43,8 +43,8 @@ pub(crate) fn identity_of<W: BlockWord>(k: usize, input: &[W], output: &mut [W])
     }
 }
 
-/// The inverse identity transform of 4 values: each is scaled by the square root of 2. The rest of `output` stays, and `_range` is
-/// not read.
+/// The inverse identity transform of 4 values: each is scaled by the square root of 2. The rest of `output` stays, and
+/// `_range` is not read.
 pub fn av1_iidentity4(input: &[i32], output: &mut [i32], _range: usize)
     requires input_len { 4 ≤ length input.now }
     requires output_len { 4 ≤ length output.old }

@@ -103,7 +103,8 @@ fn add_rows<T: Pixel>(
     requires depth { bd ≤ T.BITS }
     requires shift_in { shift ≤ 4 }
     requires fit { (r c : ℕ) → r < area.height → c < area.width → FitsBits 24 (at buffer.now (r * area.width + c)) }
-    ensures { samples.new ≡ paint stride area (λ r c v. T.pixel (clip bd (pos (T.num v) +ℤ round_shift (at buffer.now (r * area.width + c)) shift))) samples.old }
+    ensures { samples.new ≡ paint stride area (λ r c v. T.pixel (clip bd (pos (T.num v) +ℤ round_shift (at buffer.now (r * area.width + c)) shift)))
+        samples.old }
 {
     let width = area.width;
     for r in 0..area.height {
@@ -147,7 +148,8 @@ fn add_block<T: Pixel, R: LaneRoom>(
     requires rows { AreRows stride area (length samples.old) }
     requires width { area.width ≡ tx_width tx_size }
     requires height { area.height ≡ tx_height tx_size }
-    ensures painted { samples.new ≡ paint stride area (λ r c v. T.pixel (clip bd (pos (T.num v) +ℤ residue tx_size tx_type bd (map T.Coeff.val input.now) r c))) samples.old }
+    ensures painted { samples.new ≡
+        paint stride area (λ r c v. T.pixel (clip bd (pos (T.num v) +ℤ residue tx_size tx_type bd (map T.Coeff.val input.now) r c))) samples.old }
     ensures counts { R.tally lanes.new ≡ R.raised_by (R.tally lanes.old) (lane_groups tx_size tx_type) }
 {
     row_pass(input, scaled, lanes, buffer, tx_size, tx_type, bd);
@@ -180,7 +182,8 @@ fn add_over<T: Pixel, R: LaneRoom>(
     requires rows { AreRows stride area (length samples.old) }
     requires width { area.width ≡ tx_width tx_size }
     requires height { area.height ≡ tx_height tx_size }
-    ensures painted { samples.new ≡ paint stride area (λ r c v. T.pixel (clip bd (pos (T.num v) +ℤ residue tx_size tx_type bd (map T.Coeff.val input.now) r c))) samples.old }
+    ensures painted { samples.new ≡
+        paint stride area (λ r c v. T.pixel (clip bd (pos (T.num v) +ℤ residue tx_size tx_type bd (map T.Coeff.val input.now) r c))) samples.old }
     ensures counts { R.tally lanes.new ≡ R.raised_by (R.tally lanes.old) (lane_groups tx_size tx_type) }
 {
     let places = tx_size.height() * tx_size.width();
@@ -199,11 +202,12 @@ fn add_over<T: Pixel, R: LaneRoom>(
     );
 }
 
-/// Adds the residue of coefficients to the samples of a rectangle, which has the transform's sides, and clips: the specification's
-/// "2D inverse transform process" and the addition of "Reconstruction". The rows of `samples` stand `stride` apart.
+/// Adds the residue of coefficients to the samples of a rectangle, which has the transform's sides, and clips: the
+/// specification's "2D inverse transform process" and the addition of "Reconstruction". The rows of `samples` stand
+/// `stride` apart.
 ///
-/// The coefficient of row r and column c stands at `c * min(height, 32) + r` of `input`; the rows and columns from 32 on have none.
-/// All samples outside the rectangle stay.
+/// The coefficient of row r and column c stands at `c * min(height, 32) + r` of `input`; the rows and columns from 32
+/// on have none. All samples outside the rectangle stay.
 pub fn inverse_transform_add_to<T: Pixel>(
     scratch: &mut TxScratch,
     input: &[T::Coeff],
@@ -223,7 +227,8 @@ pub fn inverse_transform_add_to<T: Pixel>(
     requires rows { AreRows stride area (length samples.old) }
     requires width { area.width ≡ tx_width tx_size }
     requires height { area.height ≡ tx_height tx_size }
-    ensures painted { samples.new ≡ paint stride area (λ r c v. T.pixel (clip bd (pos (T.num v) +ℤ residue tx_size tx_type bd (map T.Coeff.val input.now) r c))) samples.old }
+    ensures painted { samples.new ≡
+        paint stride area (λ r c v. T.pixel (clip bd (pos (T.num v) +ℤ residue tx_size tx_type bd (map T.Coeff.val input.now) r c))) samples.old }
     ensures lanes { scratch.new.lanes.count.groups ≡ raised scratch.old.lanes.count.groups (lane_groups tx_size tx_type) }
 {
     add_over(
@@ -260,7 +265,8 @@ pub fn inverse_transform_add_in<T: Pixel>(
     requires rows { AreRows stride area (length samples.old) }
     requires width { area.width ≡ tx_width tx_size }
     requires height { area.height ≡ tx_height tx_size }
-    ensures painted { samples.new ≡ paint stride area (λ r c v. T.pixel (clip bd (pos (T.num v) +ℤ residue tx_size tx_type bd (map T.Coeff.val input.now) r c))) samples.old }
+    ensures painted { samples.new ≡
+        paint stride area (λ r c v. T.pixel (clip bd (pos (T.num v) +ℤ residue tx_size tx_type bd (map T.Coeff.val input.now) r c))) samples.old }
 {
     add_over(
         &mut room.buffer,
@@ -295,7 +301,8 @@ pub fn inverse_transform_add_with<T: Pixel>(
     requires fits { InStorage output.old }
     requires columns { tx_width tx_size ≤ output.old.area.width }
     requires rows { tx_height tx_size ≤ output.old.area.height }
-    ensures painted { output.new ≡ painted output.old (tx_width tx_size) (tx_height tx_size) (λ r c v. T.pixel (clip bd (pos (T.num v) +ℤ residue tx_size tx_type bd (map T.Coeff.val input.now) r c))) }
+    ensures painted { output.new ≡ painted output.old (tx_width tx_size) (tx_height tx_size)
+        (λ r c v. T.pixel (clip bd (pos (T.num v) +ℤ residue tx_size tx_type bd (map T.Coeff.val input.now) r c))) }
     ensures fits { InStorage output.new }
     ensures lanes { scratch.new.lanes.count.groups ≡ raised scratch.old.lanes.count.groups (lane_groups tx_size tx_type) }
 {
@@ -331,7 +338,8 @@ pub fn inverse_transform_add<T: Pixel>(
     requires fits { InStorage output.old }
     requires columns { tx_width tx_size ≤ output.old.area.width }
     requires rows { tx_height tx_size ≤ output.old.area.height }
-    ensures painted { OnOk result (output.new ≡ painted output.old (tx_width tx_size) (tx_height tx_size) (λ r c v. T.pixel (clip bd (pos (T.num v) +ℤ residue tx_size tx_type bd (map T.Coeff.val input.now) r c)))) }
+    ensures painted { OnOk result (output.new ≡ painted output.old (tx_width tx_size) (tx_height tx_size)
+        (λ r c v. T.pixel (clip bd (pos (T.num v) +ℤ residue tx_size tx_type bd (map T.Coeff.val input.now) r c)))) }
     ensures refused { OnErr result (output.new ≡ output.old) }
     ensures fits { InStorage output.new }
 {

@@ -36,7 +36,8 @@ fn scatter_words<W: BlockWord>(buffer: &mut [i32], line: &[W], c: usize, w: usiz
     requires few { w ≤ 64 }
     requires lines { length line.now ≤ 64 }
     requires buffer_len { length buffer.old ≡ length line.now * w }
-    ensures { (r q : ℕ) → r < length line.now → q < w → at buffer.new (r * w + q) ≡ (if nat_le c q && nat_lt q (c + W.LANES) then at (column W.lane_of (q - c) line.now) r else at buffer.old (r * w + q)) }
+    ensures { (r q : ℕ) → r < length line.now → q < w →
+        at buffer.new (r * w + q) ≡ (if nat_le c q && nat_lt q (c + W.LANES) then at (column W.lane_of (q - c) line.now) r else at buffer.old (r * w + q)) }
 {
     for r in 0..line.len() {
         let lanes = line[r];
@@ -44,8 +45,8 @@ fn scatter_words<W: BlockWord>(buffer: &mut [i32], line: &[W], c: usize, w: usiz
     }
 }
 
-/// Each group of eight columns, transformed in place by the cosine transform: `buffer` has w columns and h rows, row by row. Here h is
-/// 2^(k+1).
+/// Each group of eight columns, transformed in place by the cosine transform: `buffer` has w columns and h rows, row by
+/// row. Here h is 2^(k+1).
 pub(crate) fn run_groups(
     buffer: &mut [i32],
     line: &mut [i32x8],

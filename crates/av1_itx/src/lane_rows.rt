@@ -102,7 +102,9 @@ fn run_row_group<W: BlockWord>(
     requires work_len { 16 ≤ length work.old }
     requires transformed_len { length transformed.old ≡ tx_width tx_size }
     requires part_len { length part.old ≡ W.LANES * tx_width tx_size }
-    ensures { (i c : ℕ) → i < W.LANES → c < tx_width tx_size → at part.new (i * tx_width tx_size + c) ≡ at (network (row_kind tx_type) (row_range bd) (row_power tx_size) (by_index (tx_width tx_size) (scaled_input tx_size scaled.now (r + i)))) c }
+    ensures { (i c : ℕ) → i < W.LANES → c < tx_width tx_size →
+        at part.new (i * tx_width tx_size + c) ≡
+        at (network (row_kind tx_type) (row_range bd) (row_power tx_size) (by_index (tx_width tx_size) (scaled_input tx_size scaled.now (r + i)))) c }
 {
     gather_rows(scaled, line, r, tx_size);
     if are_zero(line) {
@@ -121,7 +123,8 @@ fn run_row_group<W: BlockWord>(
     spread_words(part, transformed, tx_size.width());
 }
 
-/// Each row that has coefficients, transformed, as many at a time as there are lanes: `buffer` has these rows one after the other.
+/// Each row that has coefficients, transformed, as many at a time as there are lanes: `buffer` has these rows one after
+/// the other.
 pub(crate) fn run_row_groups<W: BlockWord>(
     scaled: &[i32],
     line: &mut [W],
@@ -143,7 +146,9 @@ pub(crate) fn run_row_groups<W: BlockWord>(
     requires work_len { 16 ≤ length work.old }
     requires transformed_len { 64 ≤ length transformed.old }
     requires buffer_len { length buffer.old ≡ coded (tx_height tx_size) * tx_width tx_size }
-    ensures { (r c : ℕ) → r < coded (tx_height tx_size) → c < tx_width tx_size → at buffer.new (r * tx_width tx_size + c) ≡ at (network (row_kind tx_type) (row_range bd) (row_power tx_size) (by_index (tx_width tx_size) (scaled_input tx_size scaled.now r))) c }
+    ensures { (r c : ℕ) → r < coded (tx_height tx_size) → c < tx_width tx_size →
+        at buffer.new (r * tx_width tx_size + c) ≡
+        at (network (row_kind tx_type) (row_range bd) (row_power tx_size) (by_index (tx_width tx_size) (scaled_input tx_size scaled.now r))) c }
 {
     let m = W::LANES;
     let w = tx_size.width();

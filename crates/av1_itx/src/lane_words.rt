@@ -1,7 +1,7 @@
 //! Words that lie in memory as arrays of C do.
 //!
-//! A vector of `std::simd` can't cross to C, neither by itself nor in a struct. These words can, and each operation of theirs is that of the
-//! vector of their lanes.
+//! A vector of `std::simd` can't cross to C, neither by itself nor in a struct. These words can, and each operation of
+//! theirs is that of the vector of their lanes.
 
 ghost use Rattle.std.specs.Prelude.{◌≡◌, ℕ, ◌<◌, length};
 ghost use Rattle.std.specs.Int.RustNames.{FitsSigned};

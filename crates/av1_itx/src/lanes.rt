@@ -1,6 +1,7 @@
 //! Room for rows and columns that are transformed side by side.
 //!
-//! What the passes ask of such room is `LaneRoom`. `Lanes` is on the heap and counts; `LaneLines` is a plain struct that anyone can own.
+//! What the passes ask of such room is `LaneRoom`. `Lanes` is on the heap and counts; `LaneLines` is a plain struct
+//! that anyone can own.
 
 ghost use Rattle.std.specs.Prelude.{◌≡◌, ℕ, ◌+◌, ◌*◌, ◌/◌, ◌^◌, ◌<◌, ◌≤◌, IfOk, length, vec_len};
 ghost use Rattle.av1_blocks.specs.Transforms.{tx_width, tx_height, coded, coded_area};
@@ -46,11 +47,13 @@ pub(crate) trait LaneRoom {
         requires scaled_fit { AllFit (row_range bd) scaled.now }
         requires has { HasNetwork (row_kind tx_type) (row_power tx_size) }
         requires buffer_len { length buffer.old ≡ coded (tx_height tx_size) * tx_width tx_size }
-        ensures value { (r c : ℕ) → r < coded (tx_height tx_size) → c < tx_width tx_size → at buffer.new (r * tx_width tx_size + c) ≡ at (network (row_kind tx_type) (row_range bd) (row_power tx_size) (by_index (tx_width tx_size) (scaled_input tx_size scaled.now r))) c }
+        ensures value { (r c : ℕ) → r < coded (tx_height tx_size) → c < tx_width tx_size →
+            at buffer.new (r * tx_width tx_size + c) ≡
+            at (network (row_kind tx_type) (row_range bd) (row_power tx_size) (by_index (tx_width tx_size) (scaled_input tx_size scaled.now r))) c }
         ensures counts { tally self.new ≡ tally self.old };
 
-    /// Each column of a buffer of w columns and h rows, transformed in place by the cosine transform, eight columns at a time. Here h
-    /// is 2^(k+1).
+    /// Each column of a buffer of w columns and h rows, transformed in place by the cosine transform, eight columns at
+    /// a time. Here h is 2^(k+1).
     fn run_cosine(&mut self, buffer: &mut [i32], w: usize, h: usize, k: usize, range: usize)
         requires width { 8 * (w / 8) ≡ w }
         requires few { w ≤ 64 }
@@ -87,7 +90,8 @@ pub(crate) trait LaneRoom {
         ensures counts { tally self.new ≡ raised_by (tally self.old) 0 };
 }
 
-/// Room for eight columns at a time, for four where a block has no more, and the count of the groups of eight cosine transforms.
+/// Room for eight columns at a time, for four where a block has no more, and the count of the groups of eight cosine
+/// transforms.
 #[derive(Drop)]
 pub struct Lanes {
     line: Vec<i32x8>,

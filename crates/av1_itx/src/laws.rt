@@ -16,10 +16,11 @@ ghost use Rattle.av1_itx.specs.Walsh.{walsh};
 ghost use Rattle.av1_itx.specs.Networks.{HasNetwork, network, network_with};
 ghost use Rattle.av1_itx.specs.Residue.{HasNetworks, column_input, column_range, residue};
 
-/// A law: coefficients that are all zero have no residue, whatever the size, the type and the depth. So a block without coefficients
-/// needs no inverse transform.
+/// A law: coefficients that are all zero have no residue, whatever the size, the type and the depth. So a block without
+/// coefficients needs no inverse transform.
 pub fn residue_of_zeros()
-    ensures { (size : TxSize) (type : TxType) (depth : ℕ) (coefficients : List ℤ) (r c : ℕ) → All (λ z. z ≡ pos 0) coefficients → residue size type depth coefficients r c ≡ pos 0 }
+    ensures { (size : TxSize) (type : TxType) (depth : ℕ) (coefficients : List ℤ) (r c : ℕ) → All (λ z. z ≡ pos 0) coefficients →
+        residue size type depth coefficients r c ≡ pos 0 }
 {}
 
 /// A law: every inverse transform of zeros gives zeros. So a row of zeros need not be transformed.
@@ -37,17 +38,21 @@ pub fn walsh_loses_nothing()
     ensures { (x y : List ℤ) → length x ≡ 4 → length y ≡ 4 → walsh x ≡ walsh y → x ≡ y }
 {}
 
-/// A law: the types that may be used at a size are just those whose two transforms exist there, but that rows and columns take
-/// transforms of one kind where a side has 32 samples or more (the format has no others there, `V_DCT` at 32x32 among them), and
-/// that the lossless type is for 4x4 alone.
+/// A law: the types that may be used at a size are just those whose two transforms exist there, but that rows and
+/// columns take transforms of one kind where a side has 32 samples or more (the format has no others there, `V_DCT` at
+/// 32x32 among them), and that the lossless type is for 4x4 alone.
 pub fn valid_types_are_those_that_run()
-    ensures { (size : TxSize) (type : TxType) → (IsTrue (valid_av1_transform size type) × (type ≡ WHT_WHT → size ≡ TX_4X4)) ↔ (HasNetworks size type × (32 ≤ max (tx_width size) (tx_height size) → row_kind type ≡ column_kind type)) }
+    ensures { (size : TxSize) (type : TxType) →
+        (IsTrue (valid_av1_transform size type) × (type ≡ WHT_WHT → size ≡ TX_4X4)) ↔ (HasNetworks size type ×
+        (32 ≤ max (tx_width size) (tx_height size) → row_kind type ≡ column_kind type)) }
 {}
 
-/// A law: where every input is a number of 18 signed bits and the range is at most 18, no sum and no product of an inverse transform
-/// leaves 32 bits. Operations that may give any number at all where a result does not fit still give the same outputs.
+/// A law: where every input is a number of 18 signed bits and the range is at most 18, no sum and no product of an
+/// inverse transform leaves 32 bits. Operations that may give any number at all where a result does not fit still give
+/// the same outputs.
 pub fn networks_never_wrap()
-    ensures { (ops : Operations) → AreRight32 ops → (kind : TxType1D) (range k : ℕ) (x : List ℤ) → range ≤ 18 → All (FitsBits 18) x → network_with ops kind range k x ≡ network kind range k x }
+    ensures { (ops : Operations) → AreRight32 ops → (kind : TxType1D) (range k : ℕ) (x : List ℤ) → range ≤ 18 → All (FitsBits 18) x →
+        network_with ops kind range k x ≡ network kind range k x }
 {}
 
 /// A law: at depths up to 12 the transforms of the columns have such inputs and such a range, whatever the rows gave.

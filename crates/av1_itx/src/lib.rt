@@ -1,27 +1,30 @@
-//! Inverse transforms of blocks, bit for bit those of the AV1 specification: from the coefficients of a block to what is added to
-//! its samples.
+//! Inverse transforms of blocks, bit for bit those of the AV1 specification: from the coefficients of a block to what
+//! is added to its samples.
 //!
-//! The crate stands on `av1_lists` for lists by index, on `av1_blocks` for the sizes and types of transforms, on `av1_dct` for the inverse cosine transforms and the
-//! arithmetic of all of them, and on `av1_frame` for samples and the regions that they lie in. It promises to the walk above it:
+//! The crate stands on `av1_lists` for lists by index, on `av1_blocks` for the sizes and types of transforms, on
+//! `av1_dct` for the inverse cosine transforms and the arithmetic of all of them, and on `av1_frame` for samples and
+//! the regions that they lie in. It promises to the walk above it:
 //!
-//! - `inverse_transform_add_to` turns each sample of a rectangle of a slice into itself plus `residue` of `specs/Residue.antt`,
-//!   clipped to the depth, and leaves all other samples as they were; `inverse_transform_add_with` does so in a region. Both run over
-//!   a `TxScratch` that is made once, allocate nothing and always succeed. `inverse_transform_add_in` does the former over a `TxRoom`, a
-//!   plain struct of arrays that C may own, too. `inverse_transform_add` makes its own scratch; where memory is refused it changes
-//!   nothing.
-//! - Columns that take the cosine transform, where there are eight or more, go eight at a time. Over a scratch they go through
-//!   `cosine_lanes`, and the scratch counts these groups: `TxScratch::lane_groups`, which each call raises by `lane_groups` of
-//!   `specs/LaneGroups.antt`. Over a `TxRoom` nothing is counted. All other columns, and all rows, go eight or four at a time.
-//! - `av1_iadst4`, `av1_iflipadst16`, `av1_iidentity32`, `av1_iwht4` and their like give the definitions of `specs/Adst.antt`,
-//!   `specs/Identity.antt` and `specs/Walsh.antt` on the first values of a slice, and leave the rest of `output`.
-//! - the laws, functions that do nothing: zeros have no residue and are not changed by any transform, a flipped transform is the
-//!   plain one reversed, the Walsh-Hadamard transform loses nothing, every valid type has its two transforms, and nothing wraps at
-//!   32 bits where inputs and range have 18, as those of the columns always do.
+//! - `inverse_transform_add_to` turns each sample of a rectangle of a slice into itself plus `residue` of
+//!   `specs/Residue.antt`, clipped to the depth, and leaves all other samples as they were;
+//!   `inverse_transform_add_with` does so in a region. Both run over a `TxScratch` that is made once, allocate nothing
+//!   and always succeed. `inverse_transform_add_in` does the former over a `TxRoom`, a plain struct of arrays that C
+//!   may own, too. `inverse_transform_add` makes its own scratch; where memory is refused it changes nothing.
+//! - Columns that take the cosine transform, where there are eight or more, go eight at a time. Over a scratch they go
+//!   through `cosine_lanes`, and the scratch counts these groups: `TxScratch::lane_groups`, which each call raises by
+//!   `lane_groups` of `specs/LaneGroups.antt`. Over a `TxRoom` nothing is counted. All other columns, and all rows, go
+//!   eight or four at a time.
+//! - `av1_iadst4`, `av1_iflipadst16`, `av1_iidentity32`, `av1_iwht4` and their like give the definitions of
+//!   `specs/Adst.antt`, `specs/Identity.antt` and `specs/Walsh.antt` on the first values of a slice, and leave the rest
+//!   of `output`.
+//! - the laws, functions that do nothing: zeros have no residue and are not changed by any transform, a flipped
+//!   transform is the plain one reversed, the Walsh-Hadamard transform loses nothing, every valid type has its two
+//!   transforms, and nothing wraps at 32 bits where inputs and range have 18, as those of the columns always do.
 //!
-//! A block is one of `TxSize`'s, `w` columns by `h` rows of samples. Its coefficients stand column by column, at most 32 of each
-//! column and 32 columns: that of row r and column c at `c * min(h, 32) + r`. `bd` is the depth of the samples in bits, and `range`
-//! the number of bits that values within a transform are clamped to. At a depth of 12 sums of the rows can leave 32 bits; they wrap
-//! there, as in rav1e, and the definitions say so.
+//! A block is one of `TxSize`'s, `w` columns by `h` rows of samples. Its coefficients stand column by column, at most
+//! 32 of each column and 32 columns: that of row r and column c at `c * min(h, 32) + r`. `bd` is the depth of the
+//! samples in bits, and `range` the number of bits that values within a transform are clamped to. At a depth of 12 sums
+//! of the rows can leave 32 bits; they wrap there, as in rav1e, and the definitions say so.
 #![tactic(auto)]
 
 mod adst;

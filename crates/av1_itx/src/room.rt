@@ -123,8 +123,8 @@ impl LaneRoom for LaneLines {
     }
 }
 
-/// Room for the values of one block between its passes and within them: 38,912 bytes, whose values before a call don't matter. It is a
-/// struct of arrays of `i32` alone, so that C or Rust may own it.
+/// Room for the values of one block between its passes and within them: 38,912 bytes, whose values before a call don't
+/// matter. It is a struct of arrays of `i32` alone, so that C or Rust may own it.
 #[repr(C)]
 #[derive(Drop)]
 pub struct TxRoom {

@@ -84,8 +84,8 @@ pub(crate) fn clear(line: &mut [i32])
     }
 }
 
-/// Each row of a block, transformed: `buffer` has the block row by row. The rows from 32 on are zeros. `scaled` is room for the
-/// coefficients.
+/// Each row of a block, transformed: `buffer` has the block row by row. The rows from 32 on are zeros. `scaled` is room
+/// for the coefficients.
 pub(crate) fn row_pass<C: Coefficient, R: LaneRoom>(
     input: &[C],
     scaled: &mut [i32],
@@ -101,7 +101,8 @@ pub(crate) fn row_pass<C: Coefficient, R: LaneRoom>(
     requires has { HasNetwork (row_kind tx_type) (row_power tx_size) }
     requires scaled_len { length scaled.old ≡ coded_area tx_size }
     requires buffer_len { length buffer.old ≡ tx_height tx_size * tx_width tx_size }
-    ensures value { (r c : ℕ) → r < tx_height tx_size → c < tx_width tx_size → at buffer.new (r * tx_width tx_size + c) ≡ at (transformed_row tx_size tx_type bd (map C.val input.now) r) c }
+    ensures value { (r c : ℕ) → r < tx_height tx_size → c < tx_width tx_size →
+        at buffer.new (r * tx_width tx_size + c) ≡ at (transformed_row tx_size tx_type bd (map C.val input.now) r) c }
     ensures counts { R.tally lanes.new ≡ R.tally lanes.old }
 {
     let rows = tx_size.height().min(32);

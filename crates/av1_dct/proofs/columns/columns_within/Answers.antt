@@ -34,5 +34,7 @@ returns g c = λ r q hr hq.
     let len : length c.run_network.new.w ≡ 2 * 2 ^ g.row.K = omega (arith, c.run_network.auto.w, c.read_words.auto.words, c.requires.words_len) in
     lanes_done start q (at (column lane (q - start) c.run_network.new.w) r) (at (cosine 16 g.row.K (column_of (2 * 2 ^ g.row.K) c.args.stride q old)) r) _ _
     (c.write_words.ensures r q (omega (arith, len)) hq)
-    (λ lo hi. column_run lane g.row.K c.args.stride start q r old c.read_words.new.words c.run_network.new.w lo (λ y hy. c.requires.fit y (q - start) hy (omega arith)) (c.read_words.ensures (q - start) (omega arith))
+    (λ lo hi.
+    column_run lane g.row.K c.args.stride start q r old c.read_words.new.words c.run_network.new.w lo
+    (λ y hy. c.requires.fit y (q - start) hy (omega arith)) (c.read_words.ensures (q - start) (omega arith))
     (c.run_network.ensures (q - start) (omega (arith, hi, lo, g.met.S.Short.eight))))

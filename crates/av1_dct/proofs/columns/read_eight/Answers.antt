@@ -13,7 +13,9 @@ pub loop-q-init : goal.loop-q-init
 loop-q-init g c = λ i p h lt room. c.requires.before i p h (omega arith) room
 
 pub read-requires : goal.read-requires
-read-requires g c = let room = row_room c.reversed_place-row.result (c.args.start + 8) c.args.stride (2 * 2 ^ g.row.K) c.reversed_place-row.ensures.bound c.requires.columns_in in omega (arith, room, c.requires.block_len)
+read-requires g c = let room =
+    row_room c.reversed_place-row.result (c.args.start + 8) c.args.stride (2 * 2 ^ g.row.K) c.reversed_place-row.ensures.bound c.requires.columns_in
+    in omega (arith, room, c.requires.block_len)
 
 pub loop-q-preserved : goal.loop-q-preserved
 loop-q-preserved g c = λ i p h lt room.
@@ -22,7 +24,8 @@ loop-q-preserved g c = λ i p h lt room.
     let row = c.reversed_place-row.result in
     let zs = column_of n c.args.stride (c.args.start + i) old in
     let e : row * c.args.stride + c.args.start + i ≡ row * c.args.stride + (c.args.start + i) = omega arith in
-    column_fill g.S.Butterfly.lane_of i (cut_place g.row.K zs) c.loop-q.words _ c.read.result (omega arith) (λ y below. c.loop-q.invariant i y h (omega arith) (omega arith))
+    column_fill g.S.Butterfly.lane_of i (cut_place g.row.K zs) c.loop-q.words _ c.read.result (omega arith)
+    (λ y below. c.loop-q.invariant i y h (omega arith) (omega arith))
     (c.read.ensures i h ∙ ap (λ (m : ℕ). clamp_value (at old m) 16) e
     ∙ ap (λ z. clamp_value z 16) (sym (at-by_index n (λ r. at old (r * c.args.stride + (c.args.start + i))) row c.reversed_place-row.ensures.bound))
     ∙ ap (λ (r : ℕ). clamp_value (at zs r) 16) c.reversed_place-row.ensures.value) p (omega arith)

@@ -35,5 +35,8 @@ returns g c = λ i h.
     let b = c.read_eight-2.auto.words in
     let d = c.read_eight-3.auto.words in
     let e = c.read_eight-4.auto.words in
-    fill_by_all _ _ _ (pos 0) (length-map c.read_eight-8.new.words _ ∙ (c.read_eight-8.auto.words ∙ c.read_eight-7.auto.words ∙ c.read_eight-6.auto.words ∙ c.read_eight-5.auto.words ∙ e ∙ d ∙ b ∙ a) ∙ c.requires.words_len)
+    fill_by_all _ _ _ (pos 0)
+    (length-map c.read_eight-8.new.words _
+    ∙ (c.read_eight-8.auto.words ∙ c.read_eight-7.auto.words ∙ c.read_eight-6.auto.words ∙ c.read_eight-5.auto.words ∙ e ∙ d ∙ b ∙ a)
+    ∙ c.requires.words_len)
     (λ q lt. c.read_eight-8.ensures i q h (omega (arith, small)) lt)

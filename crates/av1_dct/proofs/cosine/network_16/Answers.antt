@@ -12,4 +12,5 @@ join_halves-requires-clause-fit g c = λ i h.
 
 pub returns : goal.returns
 returns g c = λ i h.
-    network_words g.W.Butterfly.lane_of i c.args.range 2 8 c.args.w.now c.network_8.new.w c.join_halves.new.w refl (c.network_8.ensures i h) (c.join_halves.ensures i h)
+    network_words g.W.Butterfly.lane_of i c.args.range 2 8 c.args.w.now c.network_8.new.w c.join_halves.new.w refl (c.network_8.ensures i h)
+    (c.join_halves.ensures i h)

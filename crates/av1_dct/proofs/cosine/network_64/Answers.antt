@@ -19,4 +19,5 @@ join_halves-requires-clause-fit g c = λ i h.
 
 pub returns : goal.returns
 returns g c = λ i h.
-    network_words g.W.Butterfly.lane_of i c.args.range 4 32 c.args.w.now c.network_32.new.w c.join_halves.new.w refl (c.network_32.ensures i h) (c.join_halves.ensures i h)
+    network_words g.W.Butterfly.lane_of i c.args.range 4 32 c.args.w.now c.network_32.new.w c.join_halves.new.w refl (c.network_32.ensures i h)
+    (c.join_halves.ensures i h)

@@ -6,7 +6,9 @@ use Rattle.av1_dct.specs.Cosine.{cosine}
 use Rattle.av1_dct.proofs.inverse.av1_idct4.Goals as goal
 
 pub cosine_words-requires-clause-fit : goal.cosine_words-requires-clause-fit
-cosine_words-requires-clause-fit c = λ i h. let P : List ℤ → Type 0 = λ zs. All (FitsBits c.args.range) (take 4 zs) in subst P (sym (map-id c.args.input.now)) c.requires.fit
+cosine_words-requires-clause-fit c = λ i h. let P : List ℤ → Type 0 = λ zs. All (FitsBits c.args.range) (take 4 zs)
+    in subst P (sym (map-id c.args.input.now)) c.requires.fit
 
 pub returns-clause-value : goal.returns-clause-value
-returns-clause-value c = ap (take 4) (sym (map-id c.cosine_words.new.output)) ∙ c.cosine_words.ensures.value 1 0 (omega arith) refl ∙ ap (λ ys. cosine c.args.range 1 (take 4 ys)) (map-id c.args.input.now)
+returns-clause-value c = ap (take 4) (sym (map-id c.cosine_words.new.output)) ∙ c.cosine_words.ensures.value 1 0 (omega arith) refl
+    ∙ ap (λ ys. cosine c.args.range 1 (take 4 ys)) (map-id c.args.input.now)

@@ -16,5 +16,6 @@ run_network-requires-clause-fit g c = λ i h.
 pub returns : goal.returns
 returns g c = λ i h.
     c.spread_words.ensures i h
-    ∙ narrow_words g.S.Butterfly.lane_of i g.row.K (column lane_of_vector i c.args.input.now) c.cut_words.new.words c.run_network.new.w (c.requires.fit i h) (c.cut_words.ensures i h)
+    ∙ narrow_words g.S.Butterfly.lane_of i g.row.K (column lane_of_vector i c.args.input.now) c.cut_words.new.words c.run_network.new.w (c.requires.fit i h)
+    (c.cut_words.ensures i h)
     (c.run_network.ensures i (omega (arith, g.met.S.Short.eight)))

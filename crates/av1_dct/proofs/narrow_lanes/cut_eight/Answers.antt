@@ -19,8 +19,11 @@ loop-q-preserved g c = λ i p h lt room.
     let zs = column lane_of_vector i c.args.input.now in
     let word = c.taken-word.result in
     let b : Bits 8 (map (of_z w32) word) = record { count = omega (arith, length-map word (of_z w32)); fit = search rules } in
-    column_fill g.S.Butterfly.lane_of i (cut_place g.row.K zs) c.loop-q.words _ c.cut.result (omega arith) (λ y below. c.loop-q.invariant i y h (omega arith) (omega arith))
-    (c.cut.ensures i h ∙ ap (λ z. clamp_value z 16) (stored 8 word i h b ∙ column_get lane_of_vector i c.args.input.now _ _ (omega arith) c.taken-word.ensures ∙ ap (at zs) c.reversed_place.ensures.value)) p (omega arith)
+    column_fill g.S.Butterfly.lane_of i (cut_place g.row.K zs) c.loop-q.words _ c.cut.result (omega arith)
+    (λ y below. c.loop-q.invariant i y h (omega arith) (omega arith))
+    (c.cut.ensures i h
+    ∙ ap (λ z. clamp_value z 16) (stored 8 word i h b ∙ column_get lane_of_vector i c.args.input.now _ _ (omega arith) c.taken-word.ensures
+    ∙ ap (at zs) c.reversed_place.ensures.value)) p (omega arith)
 
 pub returns : goal.returns
 returns g c = λ i q h lt room. c.loop-q.invariant i q h (omega (arith, c.power.ensures.value)) room

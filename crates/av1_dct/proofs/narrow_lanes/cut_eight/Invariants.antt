@@ -6,4 +6,5 @@ use Rattle.av1_dct.proofs.narrow_lanes.cut_eight.Given as goal
 
 abbrev pub invariant-loop-q : goal.invariant-loop-q
 invariant-loop-q g l =
-    (i p : ℕ) → i < 8 → p < 8 * g.row.A + l.q → p < 2 * 2 ^ g.row.K → at (column g.S.Butterfly.lane_of i l.words) p ≡ cut_place g.row.K (column lane_of_vector i l.input) p
+    (i p : ℕ) → i < 8 → p < 8 * g.row.A + l.q → p < 2 * 2 ^ g.row.K →
+    at (column g.S.Butterfly.lane_of i l.words) p ≡ cut_place g.row.K (column lane_of_vector i l.input) p

@@ -35,5 +35,8 @@ returns g c = λ i h.
     let b = c.cut_eight-2.auto.words in
     let d = c.cut_eight-3.auto.words in
     let e = c.cut_eight-4.auto.words in
-    fill_by_all _ _ _ (pos 0) (length-map c.cut_eight-8.new.words _ ∙ (c.cut_eight-8.auto.words ∙ c.cut_eight-7.auto.words ∙ c.cut_eight-6.auto.words ∙ c.cut_eight-5.auto.words ∙ e ∙ d ∙ b ∙ a) ∙ c.requires.words_len)
+    fill_by_all _ _ _ (pos 0)
+    (length-map c.cut_eight-8.new.words _
+    ∙ (c.cut_eight-8.auto.words ∙ c.cut_eight-7.auto.words ∙ c.cut_eight-6.auto.words ∙ c.cut_eight-5.auto.words ∙ e ∙ d ∙ b ∙ a)
+    ∙ c.requires.words_len)
     (λ q lt. c.cut_eight-8.ensures i q h (omega (arith, small)) lt)

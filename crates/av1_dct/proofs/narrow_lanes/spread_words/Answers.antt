@@ -15,8 +15,11 @@ pub loop-p-preserved : goal.loop-p-preserved
 loop-p-preserved g c = λ i h.
     let wide = c.spread-wide.result in
     let b : Bits 8 (map (of_z w32) wide) = record { count = omega (arith, length-map wide (of_z w32)); fit = search rules } in
-    column_fill lane_of_vector i (λ q. at (column g.S.Butterfly.lane_of i c.args.words.now) q) c.loop-p.output c.loop-p.p _ (omega arith) (c.loop-p.invariant i h)
+    column_fill lane_of_vector i (λ q. at (column g.S.Butterfly.lane_of i c.args.words.now) q) c.loop-p.output c.loop-p.p _ (omega arith)
+    (c.loop-p.invariant i h)
     (stored 8 wide i h b ∙ c.spread-wide.ensures i h ∙ column_get g.S.Butterfly.lane_of i c.args.words.now _ _ (omega arith) c.index-words-p.is)
 
 pub returns : goal.returns
-returns g c = λ i h. columns_same lane_of_vector g.S.Butterfly.lane_of i c.loop-p.output c.args.words.now (omega (arith, c.loop-p.auto.output, c.requires.len)) (λ q lt. c.loop-p.invariant i h q (omega arith))
+returns g c =
+    λ i h. columns_same lane_of_vector g.S.Butterfly.lane_of i c.loop-p.output c.args.words.now (omega (arith, c.loop-p.auto.output, c.requires.len))
+    (λ q lt. c.loop-p.invariant i h q (omega arith))

@@ -11,8 +11,13 @@ pub returns-clause-value : goal.returns-clause-value
 returns-clause-value g c = λ i h.
     let u = column g.W.Butterfly.lane_of i c.args.v.now in
     let start = begun_start c.args.range g.row.K u (length-map c.args.v.now _ ∙ c.requires.len) in
-    (c.begin_at-8.ensures i u h (c.begin_at-7.ensures i u h (c.begin_at-6.ensures i u h (c.begin_at-5.ensures i u h (c.begin_at-4.ensures i u h (c.begin_at-3.ensures i u h (c.begin_at-2.ensures i u h (c.begin_at.ensures i u h start))))))))
-    ∙ begun_all c.args.range g.row.K 8 u (omega arith) (omega arith) (quarter_few g.row.K (omega arith) (omega arith)) (omega arith) ∙ begin_sums c.args.range g.row.K u
+    (c.begin_at-8.ensures i u h
+    (c.begin_at-7.ensures i u h
+    (c.begin_at-6.ensures i u h
+    (c.begin_at-5.ensures i u h
+    (c.begin_at-4.ensures i u h (c.begin_at-3.ensures i u h (c.begin_at-2.ensures i u h (c.begin_at.ensures i u h start))))))))
+    ∙ begun_all c.args.range g.row.K 8 u (omega arith) (omega arith) (quarter_few g.row.K (omega arith) (omega arith)) (omega arith)
+    ∙ begin_sums c.args.range g.row.K u
 
 pub returns-clause-fit : goal.returns-clause-fit
 returns-clause-fit g c = λ i h.

@@ -14,7 +14,8 @@ returns-then-m g c = λ i u h is.
     let m = c.power-m.ensures.value in
     let past = c.if-m.true in
     let many : 2 ^ g.row.K / 4 ≤ g.row.N = omega (arith, m, past) in
-    is ∙ begun_all c.args.range g.row.K g.row.N u (omega arith) (omega arith) many (omega arith) ∙ sym (begun_all c.args.range g.row.K (g.row.N + 1) u (omega arith) (omega arith) (omega (arith, many)) (omega arith))
+    is ∙ begun_all c.args.range g.row.K g.row.N u (omega arith) (omega arith) many (omega arith)
+    ∙ sym (begun_all c.args.range g.row.K (g.row.N + 1) u (omega arith) (omega arith) (omega (arith, many)) (omega arith))
 
 pub put-requires-clause-first : goal.put-requires-clause-first
 put-requires-clause-first g c = turns-fit _ _ _ _ c.rotate-tp.ensures

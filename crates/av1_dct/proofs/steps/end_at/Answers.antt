@@ -17,12 +17,14 @@ returns-then-h-clause-value g c = λ i u h is.
     let m = c.power-m.ensures.value in
     let past = c.if-h.true in
     let many : 2 ^ g.row.K / 4 ≤ g.row.N = omega (arith, m, past) in
-    is ∙ ended_all c.args.range g.row.K g.row.N u (omega arith) (omega arith) many (omega arith) ∙ sym (ended_all c.args.range g.row.K (g.row.N + 1) u (omega arith) (omega arith) (omega (arith, many)) (omega arith))
+    is ∙ ended_all c.args.range g.row.K g.row.N u (omega arith) (omega arith) many (omega arith)
+    ∙ sym (ended_all c.args.range g.row.K (g.row.N + 1) u (omega arith) (omega arith) (omega (arith, many)) (omega arith))
 
 pub put-requires-clause-first : goal.put-requires-clause-first
 put-requires-clause-first g c = λ i h.
     let P : ℤ → Type 0 = λ z. FitsBits 20 z in
-    subst P (sym (c.widen-x.ensures i h ∙ column_get g.W.Butterfly.lane_of i c.put_own-2.new.v _ c.index-w-q.result (omega arith) c.index-w-q.is)) (c.put_own-2.ensures.fit i h _)
+    subst P (sym (c.widen-x.ensures i h ∙ column_get g.W.Butterfly.lane_of i c.put_own-2.new.v _ c.index-w-q.result (omega arith) c.index-w-q.is))
+    (c.put_own-2.ensures.fit i h _)
 
 pub put-requires-clause-second : goal.put-requires-clause-second
 put-requires-clause-second g c = turns-fit _ _ _ _ c.rotate-tp.ensures
@@ -30,7 +32,8 @@ put-requires-clause-second g c = turns-fit _ _ _ _ c.rotate-tp.ensures
 pub put-requires-2-clause-first : goal.put-requires-2-clause-first
 put-requires-2-clause-first g c = λ i h.
     let P : ℤ → Type 0 = λ z. FitsBits 20 z in
-    subst P (sym (c.widen-y.ensures i h ∙ column_get g.W.Butterfly.lane_of i c.put_own-2.new.v _ c.index-w-p.result (omega arith) c.index-w-p.is)) (c.put_own-2.ensures.fit i h _)
+    subst P (sym (c.widen-y.ensures i h ∙ column_get g.W.Butterfly.lane_of i c.put_own-2.new.v _ c.index-w-p.result (omega arith) c.index-w-p.is))
+    (c.put_own-2.ensures.fit i h _)
 
 pub put-requires-2-clause-second : goal.put-requires-2-clause-second
 put-requires-2-clause-second g c = turns-fit _ _ _ _ c.rotate-tq.ensures
@@ -58,10 +61,17 @@ returns-clause-value g c = λ i u h is.
     let e2 = c.put_own-2.ensures.value i h in
     let v2 = paired false range (m - 1 - n) (m + n) (at v1 (m - 1 - n)) (at v1 (m + n)) v1 in
     let h2 : zs ≡ v2 = cc in
-    let xx : wide c.widen-x.result i ≡ at zs q = c.widen-x.ensures i h ∙ column_at lane i w (c.power-m.result - 1 - (c.power-m.result / 4 + n)) q c.index-w-q.result (omega (arith, em, quarters)) (omega (arith, em, some)) c.index-w-q.is in
-    let xy : wide c.widen-y.result i ≡ at zs p = c.widen-y.ensures i h ∙ column_at lane i w (c.power-m.result / 4 + n) p c.index-w-p.result (omega (arith, em, quarters)) (omega (arith, em, some)) c.index-w-p.is in
-    let xp : lane c.index-w-m.result i ≡ at zs (m + p) = column_at lane i w (c.power-m.result + (c.power-m.result / 4 + n)) (m + p) c.index-w-m.result (omega (arith, em, quarters)) (omega (arith, em, some)) c.index-w-m.is in
-    let xq : lane c.index-w-m-2.result i ≡ at zs (m + q) = column_at lane i w (c.power-m.result + (c.power-m.result - 1 - (c.power-m.result / 4 + n))) (m + q) c.index-w-m-2.result (omega (arith, em, quarters)) (omega (arith, em, some)) c.index-w-m-2.is in
+    let xx : wide c.widen-x.result i ≡ at zs q = c.widen-x.ensures i h
+    ∙ column_at lane i w (c.power-m.result - 1 - (c.power-m.result / 4 + n)) q c.index-w-q.result (omega (arith, em, quarters))
+    (omega (arith, em, some)) c.index-w-q.is in
+    let xy : wide c.widen-y.result i ≡ at zs p = c.widen-y.ensures i h
+    ∙ column_at lane i w (c.power-m.result / 4 + n) p c.index-w-p.result (omega (arith, em, quarters)) (omega (arith, em, some)) c.index-w-p.is in
+    let xp : lane c.index-w-m.result i ≡ at zs (m + p) =
+    column_at lane i w (c.power-m.result + (c.power-m.result / 4 + n)) (m + p) c.index-w-m.result (omega (arith, em, quarters))
+    (omega (arith, em, some)) c.index-w-m.is in
+    let xq : lane c.index-w-m-2.result i ≡ at zs (m + q) =
+    column_at lane i w (c.power-m.result + (c.power-m.result - 1 - (c.power-m.result / 4 + n)))
+    (m + q) c.index-w-m-2.result (omega (arith, em, quarters)) (omega (arith, em, some)) c.index-w-m-2.is in
     let fp = c.rotate-tp.ensures i h in
     let fq = c.rotate-tq.ensures i h in
     let eb = c.inner_angle-b.ensures.value in

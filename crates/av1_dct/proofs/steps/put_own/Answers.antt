@@ -30,10 +30,12 @@ pub returns-then-odd-clause-fit : goal.returns-then-odd-clause-fit
 returns-then-odd-clause-fit g c = λ i h.
     let P : List ℤ → Type 0 = λ zs. AllFit 20 zs in
     let zs = column g.W.Butterfly.lane_of i c.args.v.now in
-    subst P (sym (returns-then-odd-clause-value g c i h)) (paired-fits c.args.odd c.args.range c.args.p c.args.e (at zs c.args.p) (at zs c.args.e) zs c.requires.range_in.1 (c.requires.fit i h))
+    subst P (sym (returns-then-odd-clause-value g c i h))
+    (paired-fits c.args.odd c.args.range c.args.p c.args.e (at zs c.args.p) (at zs c.args.e) zs c.requires.range_in.1 (c.requires.fit i h))
 
 pub returns-clause-fit : goal.returns-clause-fit
 returns-clause-fit g c = λ i h.
     let P : List ℤ → Type 0 = λ zs. AllFit 20 zs in
     let zs = column g.W.Butterfly.lane_of i c.args.v.now in
-    subst P (sym (returns-clause-value g c i h)) (paired-fits c.args.odd c.args.range c.args.p c.args.e (at zs c.args.p) (at zs c.args.e) zs c.requires.range_in.1 (c.requires.fit i h))
+    subst P (sym (returns-clause-value g c i h))
+    (paired-fits c.args.odd c.args.range c.args.p c.args.e (at zs c.args.p) (at zs c.args.e) zs c.requires.range_in.1 (c.requires.fit i h))

@@ -65,10 +65,23 @@ returns-clause-value g c = λ i u hl is.
     let e = start + 3 * h - 1 - r in
     let q = m - 1 - p in
     let f = m - 1 - e in
-    let xp : lane c.index-v-p.result i ≡ at zs p = column_at lane i w (c.group_of-d.result * (4 * c.power-h.result) + c.power-h.result + c.place_of-r.result) p c.index-v-p.result (let same : (c.group_of-d.result * (4 * c.power-h.result) + c.power-h.result + c.place_of-r.result) ≡ p = cc in same) (omega arith) c.index-v-p.is in
-    let xe : lane c.index-v-e.result i ≡ at zs e = column_at lane i w (c.group_of-d.result * (4 * c.power-h.result) + 3 * c.power-h.result - 1 - c.place_of-r.result) e c.index-v-e.result (let same : (c.group_of-d.result * (4 * c.power-h.result) + 3 * c.power-h.result - 1 - c.place_of-r.result) ≡ e = cc in same) (omega arith) c.index-v-e.is in
-    let xf : lane c.index-v-f.result i ≡ at zs f = column_at lane i w (c.power-m.result - 1 - (c.group_of-d.result * (4 * c.power-h.result) + 3 * c.power-h.result - 1 - c.place_of-r.result)) f c.index-v-f.result (let same : (c.power-m.result - 1 - (c.group_of-d.result * (4 * c.power-h.result) + 3 * c.power-h.result - 1 - c.place_of-r.result)) ≡ f = cc in same) (omega arith) c.index-v-f.is in
-    let xq : lane c.index-v-q.result i ≡ at zs q = column_at lane i w (c.power-m.result - 1 - (c.group_of-d.result * (4 * c.power-h.result) + c.power-h.result + c.place_of-r.result)) q c.index-v-q.result (let same : (c.power-m.result - 1 - (c.group_of-d.result * (4 * c.power-h.result) + c.power-h.result + c.place_of-r.result)) ≡ q = cc in same) (omega arith) c.index-v-q.is in
+    let xp : lane c.index-v-p.result i ≡ at zs p =
+    column_at lane i w (c.group_of-d.result * (4 * c.power-h.result) + c.power-h.result + c.place_of-r.result) p c.index-v-p.result
+    (let same : (c.group_of-d.result * (4 * c.power-h.result) + c.power-h.result + c.place_of-r.result) ≡ p = cc in same) (omega arith) c.index-v-p.is
+    in
+    let xe : lane c.index-v-e.result i ≡ at zs e =
+    column_at lane i w (c.group_of-d.result * (4 * c.power-h.result) + 3 * c.power-h.result - 1 - c.place_of-r.result) e c.index-v-e.result
+    (let same : (c.group_of-d.result * (4 * c.power-h.result) + 3 * c.power-h.result - 1 - c.place_of-r.result) ≡ e = cc in same)
+    (omega arith) c.index-v-e.is in
+    let xf : lane c.index-v-f.result i ≡ at zs f =
+    column_at lane i w (c.power-m.result - 1 - (c.group_of-d.result * (4 * c.power-h.result) + 3 * c.power-h.result - 1 - c.place_of-r.result)) f
+    c.index-v-f.result
+    (let same : (c.power-m.result - 1 - (c.group_of-d.result * (4 * c.power-h.result) + 3 * c.power-h.result - 1 - c.place_of-r.result)) ≡ f = cc
+    in same) (omega arith) c.index-v-f.is in
+    let xq : lane c.index-v-q.result i ≡ at zs q =
+    column_at lane i w (c.power-m.result - 1 - (c.group_of-d.result * (4 * c.power-h.result) + c.power-h.result + c.place_of-r.result)) q
+    c.index-v-q.result (let same : (c.power-m.result - 1 - (c.group_of-d.result * (4 * c.power-h.result) + c.power-h.result + c.place_of-r.result)) ≡
+    q = cc in same) (omega arith) c.index-v-q.is in
     let fp = c.rotate-tp.ensures i hl in
     let fq = c.rotate-tq.ensures i hl in
     let fe = c.rotate-te.ensures i hl in

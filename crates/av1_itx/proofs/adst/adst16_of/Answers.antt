@@ -17,25 +17,29 @@ pub run_blocks-requires-clause-table : goal.run_blocks-requires-clause-table
 run_blocks-requires-clause-table g c = block_16
 
 pub run_blocks-requires-clause-fit : goal.run_blocks-requires-clause-fit
-run_blocks-requires-clause-fit g c = λ i h. let P : List ℤ → Type 0 = λ zs. AllFit 20 zs in subst P (sym (c.turn_pairs.ensures i h)) (turned_by-fits START_16 _ _)
+run_blocks-requires-clause-fit g c = λ i h. let P : List ℤ → Type 0 = λ zs. AllFit 20 zs
+    in subst P (sym (c.turn_pairs.ensures i h)) (turned_by-fits START_16 _ _)
 
 pub run_blocks-requires-2-clause-table : goal.run_blocks-requires-2-clause-table
 run_blocks-requires-2-clause-table g c = block_8
 
 pub run_blocks-requires-2-clause-fit : goal.run_blocks-requires-2-clause-fit
-run_blocks-requires-2-clause-fit g c = λ i h. let P : List ℤ → Type 0 = λ zs. AllFit 20 zs in subst P (sym (c.run_blocks.ensures i h)) (round-fits c.args.range 8 _ _ (column g.W.Word.lane_of i c.turn_pairs.new.v) c.requires.range_in.1)
+run_blocks-requires-2-clause-fit g c = λ i h. let P : List ℤ → Type 0 = λ zs. AllFit 20 zs
+    in subst P (sym (c.run_blocks.ensures i h)) (round-fits c.args.range 8 _ _ (column g.W.Word.lane_of i c.turn_pairs.new.v) c.requires.range_in.1)
 
 pub run_blocks-requires-3-clause-table : goal.run_blocks-requires-3-clause-table
 run_blocks-requires-3-clause-table g c = block_4
 
 pub run_blocks-requires-3-clause-fit : goal.run_blocks-requires-3-clause-fit
-run_blocks-requires-3-clause-fit g c = λ i h. let P : List ℤ → Type 0 = λ zs. AllFit 20 zs in subst P (sym (c.run_blocks-2.ensures i h)) (round-fits c.args.range 4 _ _ (column g.W.Word.lane_of i c.run_blocks.new.v) c.requires.range_in.1)
+run_blocks-requires-3-clause-fit g c = λ i h. let P : List ℤ → Type 0 = λ zs. AllFit 20 zs
+    in subst P (sym (c.run_blocks-2.ensures i h)) (round-fits c.args.range 4 _ _ (column g.W.Word.lane_of i c.run_blocks.new.v) c.requires.range_in.1)
 
 pub permute_out-requires-clause-table : goal.permute_out-requires-clause-table
 permute_out-requires-clause-table g c = places_16
 
 pub permute_out-requires-clause-fit : goal.permute_out-requires-clause-fit
-permute_out-requires-clause-fit g c = λ i h. let P : List ℤ → Type 0 = λ zs. AllFit 20 zs in subst P (sym (c.run_blocks-3.ensures i h)) (round-fits c.args.range 2 _ _ (column g.W.Word.lane_of i c.run_blocks-2.new.v) c.requires.range_in.1)
+permute_out-requires-clause-fit g c = λ i h. let P : List ℤ → Type 0 = λ zs. AllFit 20 zs
+    in subst P (sym (c.run_blocks-3.ensures i h)) (round-fits c.args.range 2 _ _ (column g.W.Word.lane_of i c.run_blocks-2.new.v) c.requires.range_in.1)
 
 pub returns : goal.returns
 returns g c = λ i h.
@@ -49,8 +53,15 @@ returns g c = λ i h.
     let l0 = c.turn_pairs.auto.v ∙ c.permute_in.auto.v ∙ c.requires.work_len in
     let l1 = c.run_blocks.auto.v ∙ l0 in
     let l2 = c.run_blocks-2.auto.v ∙ l1 in
-    let r1 = rounds_more range 3 0 8 16 (column lane i v0) (column lane i v0) (column lane i v1) refl refl (no_rounds range 3 (column lane i v0)) (c.run_blocks.ensures i h ∙ by_length lane i v0 (λ m. by_index m (block_round range 8 m (column lane i v0)))) (length-map v0 _ ∙ l0) in
-    let r2 = rounds_more range 3 1 4 16 (column lane i v0) (column lane i v1) (column lane i v2) refl refl (r1) (c.run_blocks-2.ensures i h ∙ by_length lane i v1 (λ m. by_index m (block_round range 4 m (column lane i v1)))) (length-map v1 _ ∙ l1) in
-    let r3 = rounds_more range 3 2 2 16 (column lane i v0) (column lane i v2) (column lane i v3) refl refl (r2) (c.run_blocks-3.ensures i h ∙ by_length lane i v2 (λ m. by_index m (block_round range 2 m (column lane i v2)))) (length-map v2 _ ∙ l2) in
-    more_is range 3 16 START_16 (column lane i c.args.input.now) (column lane i u) (column lane i v0) (column lane i v3) (column lane i c.permute_out.new.output) refl start_16
-    (c.permute_in.ensures i h ∙ ap (λ m. by_index m (adst_in m (column lane i c.args.input.now))) c.requires.work_len) (c.turn_pairs.ensures i h ∙ by_length lane i u (λ m. by_index m (turned_by START_16 (column lane i u)))) r3 (c.permute_out.ensures i h)
+    let r1 = rounds_more range 3 0 8 16 (column lane i v0) (column lane i v0) (column lane i v1) refl refl (no_rounds range 3 (column lane i v0))
+    (c.run_blocks.ensures i h ∙ by_length lane i v0 (λ m. by_index m (block_round range 8 m (column lane i v0)))) (length-map v0 _ ∙ l0) in
+    let r2 =
+    rounds_more range 3 1 4 16 (column lane i v0) (column lane i v1) (column lane i v2) refl refl (r1)
+    (c.run_blocks-2.ensures i h ∙ by_length lane i v1 (λ m. by_index m (block_round range 4 m (column lane i v1)))) (length-map v1 _ ∙ l1) in
+    let r3 =
+    rounds_more range 3 2 2 16 (column lane i v0) (column lane i v2) (column lane i v3) refl refl (r2)
+    (c.run_blocks-3.ensures i h ∙ by_length lane i v2 (λ m. by_index m (block_round range 2 m (column lane i v2)))) (length-map v2 _ ∙ l2) in
+    more_is range 3 16 START_16 (column lane i c.args.input.now) (column lane i u) (column lane i v0) (column lane i v3)
+    (column lane i c.permute_out.new.output) refl start_16
+    (c.permute_in.ensures i h ∙ ap (λ m. by_index m (adst_in m (column lane i c.args.input.now))) c.requires.work_len)
+    (c.turn_pairs.ensures i h ∙ by_length lane i u (λ m. by_index m (turned_by START_16 (column lane i u)))) r3 (c.permute_out.ensures i h)

@@ -13,4 +13,5 @@ returns-in-2 g c = λ i h. c.adst8_of.ensures i h ∙ ap (λ k. adst c.args.rang
 
 pub returns-in_default : goal.returns-in_default
 unfolding adst_with
-returns-in_default g c = λ i h. let e : 3 ≡ c.args.k = omega arith in c.adst16_of.ensures i h ∙ ap (λ k. adst c.args.range k (column g.W.Word.lane_of i c.args.input.now)) e
+returns-in_default g c = λ i h. let e : 3 ≡ c.args.k = omega arith in c.adst16_of.ensures i h
+    ∙ ap (λ k. adst c.args.range k (column g.W.Word.lane_of i c.args.input.now)) e

@@ -37,9 +37,12 @@ loop-p-preserved g c = λ i h.
     let ez = c.splat-zero.ensures i h in
     let ex = column_get lane i c.args.v.now a c.index-v-s.result (omega (arith, first.1)) c.index-v-s.is in
     let ey = column_get lane i c.args.v.now b c.index-v-t.result (omega (arith, second.1)) c.index-v-t.is in
-    pair_more lane i (length c.args.output.now) _ (column lane i c.args.output.now) c.loop-p.output (2 * p) (2 * p + 1) _ _ _ (c.loop-p.invariant i h) refl (omega arith) (omega arith)
+    pair_more lane i (length c.args.output.now) _ (column lane i c.args.output.now) c.loop-p.output (2 * p)
+    (2 * p + 1) _ _ _ (c.loop-p.invariant i h) refl (omega arith) (omega arith)
     (ex ∙ ap (at v) first.0 ∙ out-even k v (2 * p) even)
-    (c.minus.ensures i h ∙ ap (λ z. z -ℤ lane c.index-v-t.result i) ez ∙ ap (λ z. pos 0 -ℤ z) ey ∙ ap (λ q. pos 0 -ℤ at v q) second.0 ∙ out-odd k v (2 * p + 1) (λ e. omega arith))
+    (c.minus.ensures i h ∙ ap (λ z. z -ℤ lane c.index-v-t.result i) ez ∙ ap (λ z. pos 0 -ℤ z) ey ∙ ap (λ q. pos 0 -ℤ at v q) second.0
+    ∙ out-odd k v (2 * p + 1) (λ e. omega arith))
 
 pub returns : goal.returns
-returns g c = λ i h. IsBegun-end _ _ _ _ _ (omega arith) (c.loop-p.invariant i h) ∙ ap (λ n. by_index n (adst_out c.args.k (column g.W.Word.lane_of i c.args.v.now))) c.requires.output_len
+returns g c = λ i h. IsBegun-end _ _ _ _ _ (omega arith) (c.loop-p.invariant i h)
+    ∙ ap (λ n. by_index n (adst_out c.args.k (column g.W.Word.lane_of i c.args.v.now))) c.requires.output_len

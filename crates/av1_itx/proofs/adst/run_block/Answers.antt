@@ -10,4 +10,6 @@ turn_pairs-requires-clause-small g c = λ p h.
     subst P (sym (c.requires.table p h)) (round_weights-fit (2 * length c.args.weights.now) p)
 
 pub returns : goal.returns
-returns g c = λ i h. block_words g.W.Word.lane_of i c.args.range c.args.weights.now c.args.v.now c.sum_halves.new.v c.turn_pairs.new.v c.requires.len c.requires.table (c.sum_halves.ensures i h) (c.turn_pairs.ensures i h)
+returns g c =
+    λ i h. block_words g.W.Word.lane_of i c.args.range c.args.weights.now c.args.v.now c.sum_halves.new.v c.turn_pairs.new.v c.requires.len c.requires.table
+    (c.sum_halves.ensures i h) (c.turn_pairs.ensures i h)

@@ -12,7 +12,8 @@ pub loop-b-init : goal.loop-b-init
 loop-b-init g c = λ i h. words_begun _ _ (omega arith)
 
 pub run_block-requires-clause-fit : goal.run_block-requires-clause-fit
-run_block-requires-clause-fit g c = λ i h. words_fit g.W.Word.lane_of i (c.loop-b.b * (4 * length c.args.weights.now)) _ c.loop-b.v _ _ _ (c.loop-b.invariant i h) (c.requires.fit i h)
+run_block-requires-clause-fit g c =
+    λ i h. words_fit g.W.Word.lane_of i (c.loop-b.b * (4 * length c.args.weights.now)) _ c.loop-b.v _ _ _ (c.loop-b.invariant i h) (c.requires.fit i h)
 
 pub loop-b-preserved : goal.loop-b-preserved
 loop-b-preserved g c = λ i h.
@@ -25,4 +26,5 @@ loop-b-preserved g c = λ i h.
 pub returns : goal.returns
 returns g c = λ i h.
     let room = mul-le-mul_right (4 * length c.args.weights.now) c.loop-b-test.false in
-    IsBegun-end _ (block_round c.args.range (2 * length c.args.weights.now) (length c.args.v.now) (column g.W.Word.lane_of i c.args.v.now)) _ _ _ (omega (arith, c.requires.len, room)) (c.loop-b.invariant i h)
+    IsBegun-end _ (block_round c.args.range (2 * length c.args.weights.now) (length c.args.v.now) (column g.W.Word.lane_of i c.args.v.now)) _ _ _
+    (omega (arith, c.requires.len, room)) (c.loop-b.invariant i h)

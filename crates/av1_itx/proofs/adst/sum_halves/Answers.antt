@@ -51,4 +51,5 @@ loop-p-preserved g c = λ i h.
     (sum_second c.args.range s old p _ _ _ (omega arith) ex ey (c.clamp_to-in-loop-p.ensures i h ∙ ap (λ z. clamp_value z c.args.range) (c.minus.ensures i h)))
 
 pub returns : goal.returns
-returns g c = λ i h. IsHalved-end _ _ _ _ _ (omega arith) (c.loop-p.invariant i h) ∙ ap (λ n. by_index n (adst_sum c.args.range (length c.args.v.now / 2) (column g.W.Word.lane_of i c.args.v.now))) c.requires.even
+returns g c = λ i h. IsHalved-end _ _ _ _ _ (omega arith) (c.loop-p.invariant i h)
+    ∙ ap (λ n. by_index n (adst_sum c.args.range (length c.args.v.now / 2) (column g.W.Word.lane_of i c.args.v.now))) c.requires.even

@@ -28,7 +28,9 @@ loop-p-preserved g c = λ i h.
     let neg : pos 0 -ℤ w.0 ≡ neg_ℤ w.0 = omega (arith, ints) in
     let next : 2 * (p + 1) ≡ 2 * p + 2 = omega arith in
     let z1 = pair_first c.args.weights.now old p w.0 w.1 _ _ _ refl refl ex ey d1 in
-    let z2 = pair_second c.args.weights.now old p w.0 w.1 (neg_ℤ w.0) _ _ _ refl refl refl ex ey (d2 ∙ ap (λ n. half_btf w.1 (lane c.index-v-a.result i) n (lane c.index-v-b.result i)) neg) in
+    let z2 =
+    pair_second c.args.weights.now old p w.0 w.1 (neg_ℤ w.0) _ _ _ refl refl refl ex ey (d2
+    ∙ ap (λ n. half_btf w.1 (lane c.index-v-a.result i) n (lane c.index-v-b.result i)) neg) in
     pair_more lane i (length c.args.v.now) _ old c.loop-p.v (2 * p) (2 * p + 1) _ _ _ inv refl next (omega arith) z1 z2
 
 pub returns : goal.returns

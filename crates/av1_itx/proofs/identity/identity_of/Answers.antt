@@ -10,7 +10,8 @@ use Rattle.av1_itx.proofs.identity.identity_of.Goals as goal
 pub scaled_of-requires-clause-fits : goal.scaled_of-requires-clause-fits
 scaled_of-requires-clause-fits g c = λ i h.
     let P : ℤ → Type 0 = λ z. FitsBits 20 z in
-    subst P (sym (column_get g.W.Word.lane_of i c.args.input.now c.loop-p.p c.index-input-p.result (omega arith) c.index-input-p.is)) (c.requires.fit i h c.loop-p.p)
+    subst P (sym (column_get g.W.Word.lane_of i c.args.input.now c.loop-p.p c.index-input-p.result (omega arith) c.index-input-p.is))
+    (c.requires.fit i h c.loop-p.p)
 
 pub loop-p-preserved : goal.loop-p-preserved
 loop-p-preserved g c = λ i h.
@@ -21,4 +22,5 @@ loop-p-preserved g c = λ i h.
 
 pub returns : goal.returns
 unfolding identity_with
-returns g c = λ i h. filled _ _ _ c.loop-p.p (length-map c.loop-p.output _ ∙ c.loop-p.auto.output ∙ c.requires.output_len) (omega arith) (c.loop-p.invariant i h)
+returns g c = λ i h. filled _ _ _ c.loop-p.p (length-map c.loop-p.output _ ∙ c.loop-p.auto.output ∙ c.requires.output_len) (omega arith)
+    (c.loop-p.invariant i h)

@@ -10,13 +10,16 @@ use Rattle.av1_itx.proofs.inverse.add_block.Goals as goal
 pub column_pass-requires-clause-fit : goal.column_pass-requires-clause-fit
 column_pass-requires-clause-fit g c = λ r q hr hq.
     let P : ℤ → Type 0 = λ z. FitsBits 24 z in
-    subst P (sym (c.row_pass.ensures.value r q hr hq)) (row-fits c.args.tx_size c.args.tx_type c.args.bd (map g.T.Coeff.Coefficient.val c.args.input.now) r q (omega arith))
+    subst P (sym (c.row_pass.ensures.value r q hr hq))
+    (row-fits c.args.tx_size c.args.tx_type c.args.bd (map g.T.Coeff.Coefficient.val c.args.input.now) r q (omega arith))
 
 pub add_rows-requires-clause-fit : goal.add_rows-requires-clause-fit
 add_rows-requires-clause-fit g c = λ r q hr hq.
     let P : ℤ → Type 0 = λ z. FitsBits 24 z in
     let Q : ℕ → Type 0 = λ n. FitsBits 24 (at c.column_pass.new.buffer (r * n + q)) in
-    subst Q (sym c.requires.width) (subst P (sym (c.column_pass.ensures.value r q (omega arith) (omega arith))) (column-fits c.args.tx_size c.args.tx_type c.args.bd _ r (omega arith)))
+    subst Q (sym c.requires.width)
+    (subst P (sym (c.column_pass.ensures.value r q (omega arith) (omega arith)))
+    (column-fits c.args.tx_size c.args.tx_type c.args.bd _ r (omega arith)))
 
 pub returns-clause-painted : goal.returns-clause-painted
 returns-clause-painted g c =
@@ -28,8 +31,11 @@ returns-clause-painted g c =
     let put_on = λ (z : ℤ) (v : _). g.T.Pixel.pixel (clip c.args.bd (pos (g.T.Pixel.num v) +ℤ z)) in
     c.add_rows.ensures
     ∙ ap (λ n. paint c.args.stride a (λ r q v. put_on (round_shift (at buf (r * n + q)) c.column_shift_of-shift.result) v) c.args.samples.now) c.requires.width
-    ∙ ap (λ n. paint c.args.stride a (λ r q v. put_on (round_shift (at buf (r * tx_width size + q)) n) v) c.args.samples.now) c.column_shift_of-shift.ensures.value
+    ∙ ap (λ n. paint c.args.stride a (λ r q v. put_on (round_shift (at buf (r * tx_width size + q)) n) v) c.args.samples.now)
+    c.column_shift_of-shift.ensures.value
     ∙ paint_same c.args.stride a _ _ c.args.samples.now (λ r q v hr hq.
     let h : r < tx_height size = omega (arith, c.requires.height) in
     let k : q < tx_width size = omega (arith, c.requires.width) in
-    ap (λ z. put_on z v) (residue_is size type c.args.bd cs (λ y. at c.row_pass.new.buffer (y * tx_width size + q)) r q _ (c.column_pass.ensures.value r q h k) (λ y hy. c.row_pass.ensures.value y q hy k)))
+    ap (λ z. put_on z v)
+    (residue_is size type c.args.bd cs (λ y. at c.row_pass.new.buffer (y * tx_width size + q)) r q _ (c.column_pass.ensures.value r q h k)
+    (λ y hy. c.row_pass.ensures.value y q hy k)))

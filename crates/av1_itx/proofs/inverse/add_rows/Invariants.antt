@@ -6,4 +6,5 @@ use Rattle.av1_itx.proofs.inverse.add_rows.Given as goal
 
 abbrev pub invariant-loop-r : goal.invariant-loop-r
 invariant-loop-r g l =
-    l.samples ≡ paint l.stride (corner l.area l.area.width l.r) (λ r c v. g.T.Pixel.pixel (clip l.bd (pos (g.T.Pixel.num v) +ℤ round_shift (at l.buffer (r * l.area.width + c)) l.shift))) l.initial.samples
+    l.samples ≡ paint l.stride (corner l.area l.area.width l.r)
+    (λ r c v. g.T.Pixel.pixel (clip l.bd (pos (g.T.Pixel.num v) +ℤ round_shift (at l.buffer (r * l.area.width + c)) l.shift))) l.initial.samples

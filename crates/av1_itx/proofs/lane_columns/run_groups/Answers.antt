@@ -18,7 +18,9 @@ cosine_lanes-requires-clause-fit c = λ i h.
     let at_column = 8 * c.loop-g.g in
     subst Q (sym (whole_lane lane_of_vector i c.args.h c.gather_words.new.line _ len))
     (lanes-fit lane_of_vector c.args.h c.args.range i _ _ c.gather_words.new.line _ line_len len (c.gather_words.ensures i h)
-    (λ r hr. subst P (sym (lanes_kept c.args.w at_column (at_column + i) c.args.h _ c.loop-g.buffer c.args.buffer.now c.loop-g.invariant.1 (omega arith) (omega arith) r hr)) (c.requires.fit r (at_column + i) hr (omega arith))))
+    (λ r hr.
+    subst P (sym (lanes_kept c.args.w at_column (at_column + i) c.args.h _ c.loop-g.buffer c.args.buffer.now c.loop-g.invariant.1 (omega arith)
+    (omega arith) r hr)) (c.requires.fit r (at_column + i) hr (omega arith))))
 
 pub loop-g-preserved : goal.loop-g-preserved
 loop-g-preserved c =
@@ -35,13 +37,18 @@ loop-g-preserved c =
     let all : length (take h (out ++ drop h c.loop-g.transformed)) ≡ h = ap length (take_at out (drop h c.loop-g.transformed) h lo) ∙ lo in
     let D = λ (i r : ℕ). at (column lane i (take h (out ++ drop h c.loop-g.transformed))) r in (
       omega (arith, c.cosine_lanes.ensures.counts, c.loop-g.invariant.0),
-      groups_more w at_column (8 * (c.loop-g.g + 1)) 8 h F (λ r q. at old (r * w + q)) D c.loop-g.buffer c.scatter_words.new.buffer (omega arith) c.loop-g.invariant.1
+      groups_more w at_column (8 * (c.loop-g.g + 1)) 8 h F (λ r q. at old (r * w + q)) D c.loop-g.buffer c.scatter_words.new.buffer (omega arith)
+          c.loop-g.invariant.1
           (λ r q hr hq. c.scatter_words.ensures r q (omega arith) hq)
-          (λ i r hi hr. ap (λ zs. at zs r) (lane_run lane h i _ (cosine c.args.range c.args.k) _ (λ y. at old (y * w + (at_column + i))) c.gather_words.new.line _ out _ line_len
+          (λ i r hi hr. ap (λ zs. at zs r)
+          (lane_run lane h i _ (cosine c.args.range c.args.k) _ (λ y. at old (y * w + (at_column + i))) c.gather_words.new.line _ out _ line_len
           len lo (c.gather_words.ensures i hi)
-          (sym (take_all h (column lane i out) (omega (arith, length-map out (λ x. lane x i)))) ∙ c.cosine_lanes.ensures.value c.args.k i hi c.requires.power ∙ ap (cosine c.args.range c.args.k) (whole_lane lane i h c.gather_words.new.line _ len))
+          (sym (take_all h (column lane i out) (omega (arith, length-map out (λ x. lane x i))))
+          ∙ c.cosine_lanes.ensures.value c.args.k i hi c.requires.power
+          ∙ ap (cosine c.args.range c.args.k) (whole_lane lane i h c.gather_words.new.line _ len))
           (λ y hy. lanes_kept w at_column (at_column + i) h F c.loop-g.buffer old c.loop-g.invariant.1 (omega arith) (omega arith) y hy))),
     )
 
 pub returns-clause-value : goal.returns-clause-value
-returns-clause-value c = λ r q hr hq. column_written c.args.w (8 * c.loop-g.g) c.args.h c.loop-g.buffer c.args.buffer.now _ c.loop-g.invariant.1 (omega arith) r q hr hq
+returns-clause-value c =
+    λ r q hr hq. column_written c.args.w (8 * c.loop-g.g) c.args.h c.loop-g.buffer c.args.buffer.now _ c.loop-g.invariant.1 (omega arith) r q hr hq

@@ -13,9 +13,14 @@ inverse_1d-requires-clause-fit g c = λ i h.
     let P : ℤ → Type 0 = λ z. FitsBits c.args.range z in
     let line_len = length-take-le c.args.h c.loop-g.line (omega arith) in
     let at_column = c.LANES-m.result * c.loop-g.g in
-    let room = (let w = c.args.w in let m = c.LANES-m.result in let whole : m * (w / m) ≡ w = subst (λ (n : ℕ). n * (w / n) ≡ w) (sym c.LANES-m.ensures) c.requires.width in group_room m c.loop-g.g w whole (omega arith)) in
+    let room =
+    (let w = c.args.w in let m = c.LANES-m.result
+    in let whole : m * (w / m) ≡ w = subst (λ (n : ℕ). n * (w / n) ≡ w) (sym c.LANES-m.ensures) c.requires.width
+    in group_room m c.loop-g.g w whole (omega arith)) in
     lanes-fit g.W.Word.lane_of c.args.h c.args.range i _ _ c.gather_words.new.line _ line_len (c.gather_words.auto.line ∙ line_len) (c.gather_words.ensures i h)
-    (λ r hr. subst P (sym (lanes_kept c.args.w at_column (at_column + i) c.args.h _ c.loop-g.buffer c.args.buffer.now c.loop-g.invariant (omega arith) (omega arith) r hr)) (c.requires.fit r (at_column + i) hr (omega arith)))
+    (λ r hr.
+    subst P (sym (lanes_kept c.args.w at_column (at_column + i) c.args.h _ c.loop-g.buffer c.args.buffer.now c.loop-g.invariant (omega arith)
+    (omega arith) r hr)) (c.requires.fit r (at_column + i) hr (omega arith)))
 
 pub loop-g-preserved : goal.loop-g-preserved
 loop-g-preserved g c =
@@ -24,7 +29,10 @@ loop-g-preserved g c =
     let w = c.args.w in
     let h = c.args.h in
     let at_column = c.LANES-m.result * c.loop-g.g in
-    let room = (let w = c.args.w in let m = c.LANES-m.result in let whole : m * (w / m) ≡ w = subst (λ (n : ℕ). n * (w / n) ≡ w) (sym c.LANES-m.ensures) c.requires.width in group_room m c.loop-g.g w whole (omega arith)) in
+    let room =
+    (let w = c.args.w in let m = c.LANES-m.result
+    in let whole : m * (w / m) ≡ w = subst (λ (n : ℕ). n * (w / n) ≡ w) (sym c.LANES-m.ensures) c.requires.width
+    in group_room m c.loop-g.g w whole (omega arith)) in
     let old = c.args.buffer.now in
     let F = λ (r q : ℕ). at (network c.args.kind c.args.range c.args.k (by_index h (λ y. at old (y * w + q)))) r in
     let line_len = length-take-le h c.loop-g.line (omega arith) in
@@ -32,9 +40,12 @@ loop-g-preserved g c =
     let lo : length out ≡ h = c.inverse_1d.auto.output ∙ length-take-le h c.loop-g.transformed (omega arith) in
     let all : length (take h (out ++ drop h c.loop-g.transformed)) ≡ h = ap length (take_at out (drop h c.loop-g.transformed) h lo) ∙ lo in
     let D = λ (i r : ℕ). at (column lane i (take h (out ++ drop h c.loop-g.transformed))) r in
-    groups_more w at_column (c.LANES-m.result * (c.loop-g.g + 1)) m h F (λ r q. at old (r * w + q)) D c.loop-g.buffer c.scatter_words.new.buffer (omega arith) c.loop-g.invariant
+    groups_more w at_column (c.LANES-m.result * (c.loop-g.g + 1)) m h F (λ r q. at old (r * w + q)) D c.loop-g.buffer c.scatter_words.new.buffer
+    (omega arith) c.loop-g.invariant
     (λ r q hr hq. c.scatter_words.ensures r q (omega arith) hq)
-    (λ i r hi hr. ap (λ zs. at zs r) (lane_run lane h i _ (network c.args.kind c.args.range c.args.k) _ (λ y. at old (y * w + (at_column + i))) c.gather_words.new.line _ out _ line_len
+    (λ i r hi hr. ap (λ zs. at zs r)
+    (lane_run lane h i _ (network c.args.kind c.args.range c.args.k) _ (λ y. at old (y * w + (at_column + i))) c.gather_words.new.line _ out _
+    line_len
     (c.gather_words.auto.line ∙ line_len) lo (c.gather_words.ensures i hi) (c.inverse_1d.ensures i hi)
     (λ y hy. lanes_kept w at_column (at_column + i) h F c.loop-g.buffer old c.loop-g.invariant (omega arith) (omega arith) y hy)))
 

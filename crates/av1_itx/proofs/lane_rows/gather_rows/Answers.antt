@@ -17,7 +17,9 @@ read-requires g c =
     omega arith
 
 pub coded-preserved : goal.coded-preserved
-coded-preserved g c = λ i h. column_fill g.W.Word.lane_of i (λ k. at c.args.scaled.now (k * c.min-rows.result + c.args.r + i)) c.coded.line c.coded.c _ (omega arith) (c.coded.invariant i h) (c.read.ensures i h)
+coded-preserved g c =
+    λ i h. column_fill g.W.Word.lane_of i (λ k. at c.args.scaled.now (k * c.min-rows.result + c.args.r + i)) c.coded.line c.coded.c _ (omega arith)
+    (c.coded.invariant i h) (c.read.ensures i h)
 
 pub rest-init : goal.rest-init
 rest-init g c = λ i h k l.
@@ -25,12 +27,16 @@ rest-init g c = λ i h k l.
     let s = c.args.scaled.now in
     let rows : c.min-rows.result ≡ coded (tx_height size) = omega arith in
     let columns : c.min-columns.result ≡ coded (tx_width size) = omega arith in
-    c.coded.invariant i h k (omega arith) ∙ ap (at s) (let e : k * c.min-rows.result + c.args.r + i ≡ k * c.min-rows.result + (c.args.r + i) = omega arith in e) ∙ scaled_is size s (c.args.r + i) k c.min-rows.result rows (omega arith)
+    c.coded.invariant i h k (omega arith)
+    ∙ ap (at s) (let e : k * c.min-rows.result + c.args.r + i ≡ k * c.min-rows.result + (c.args.r + i) = omega arith in e)
+    ∙ scaled_is size s (c.args.r + i) k c.min-rows.result rows (omega arith)
 
 pub rest-preserved : goal.rest-preserved
 rest-preserved g c = λ i h.
     let columns : c.min-columns.result ≡ coded (tx_width c.args.tx_size) = omega arith in
-    column_fill g.W.Word.lane_of i _ c.rest.line c.rest.c _ (omega arith) (c.rest.invariant i h) (c.splat.ensures i h ∙ scaled_past c.args.tx_size c.args.scaled.now (c.args.r + i) c.rest.c (omega arith))
+    column_fill g.W.Word.lane_of i _ c.rest.line c.rest.c _ (omega arith) (c.rest.invariant i h)
+    (c.splat.ensures i h ∙ scaled_past c.args.tx_size c.args.scaled.now (c.args.r + i) c.rest.c (omega arith))
 
 pub returns : goal.returns
-returns g c = λ i h. filled (tx_width c.args.tx_size) _ _ c.rest.c (length-map c.rest.line _ ∙ (let e : _ ≡ tx_width c.args.tx_size = omega arith in e)) (omega arith) (c.rest.invariant i h)
+returns g c = λ i h. filled (tx_width c.args.tx_size) _ _ c.rest.c (length-map c.rest.line _ ∙ (let e : _ ≡ tx_width c.args.tx_size = omega arith in e))
+    (omega arith) (c.rest.invariant i h)

@@ -9,4 +9,6 @@ use Rattle.av1_itx.specs.Scaled.{scaled_input}
 use Rattle.av1_itx.proofs.lane_rows.run_row_groups.Given as goal
 
 abbrev pub invariant-loop-g : goal.invariant-loop-g
-invariant-loop-g g l = (r c : ℕ) → r < l.m * l.g → c < l.w → at l.buffer (r * l.w + c) ≡ at (network (row_kind l.tx_type) (row_range l.bd) (row_power l.tx_size) (by_index (tx_width l.tx_size) (scaled_input l.tx_size l.scaled r))) c
+invariant-loop-g g l = (r c : ℕ) → r < l.m * l.g → c < l.w →
+    at l.buffer (r * l.w + c) ≡
+    at (network (row_kind l.tx_type) (row_range l.bd) (row_power l.tx_size) (by_index (tx_width l.tx_size) (scaled_input l.tx_size l.scaled r))) c

@@ -14,7 +14,9 @@ pub cosine_words-requires-clause-fit : goal.cosine_words-requires-clause-fit
 cosine_words-requires-clause-fit g c = λ i h.
     let x = column g.W.Word.lane_of i c.args.input.now in
     let P : List ℤ → Type 0 = λ zs. All (FitsBits c.args.range) zs in
-    subst P (sym (take_all (length c.args.output.now) x (omega (arith, length-map c.args.input.now (λ w. g.W.Word.lane_of w i), c.requires.input_len, c.requires.output_len)))) (c.requires.fit i h)
+    subst P (sym
+    (take_all (length c.args.output.now) x
+    (omega (arith, length-map c.args.input.now (λ w. g.W.Word.lane_of w i), c.requires.input_len, c.requires.output_len)))) (c.requires.fit i h)
 
 pub returns : goal.returns
 returns g c = λ i h.
@@ -23,4 +25,5 @@ returns g c = λ i h.
     let y = column g.W.Word.lane_of i c.cosine_words.new.output in
     sym (take_all n y (omega (arith, length-map c.cosine_words.new.output (λ w. g.W.Word.lane_of w i), c.cosine_words.auto.output)))
     ∙ c.cosine_words.ensures.value c.args.k i h c.requires.output_len
-    ∙ ap (cosine c.args.range c.args.k) (take_all n x (omega (arith, length-map c.args.input.now (λ w. g.W.Word.lane_of w i), c.requires.input_len, c.requires.output_len)))
+    ∙ ap (cosine c.args.range c.args.k)
+    (take_all n x (omega (arith, length-map c.args.input.now (λ w. g.W.Word.lane_of w i), c.requires.input_len, c.requires.output_len)))

@@ -29,11 +29,14 @@ returns-in-ADST g c = λ i h. c.adst_of.ensures i h ∙ ap (λ k. network k c.ar
 pub returns-in-FLIPADST : goal.returns-in-FLIPADST
 unfolding network_with
 returns-in-FLIPADST g c = λ i h.
-    ap (column g.W.Word.lane_of i) c.reverse.ensures.after ∙ column-reverse g.W.Word.lane_of i c.adst_of-in-FLIPADST.new.output ∙ ap reverse (c.adst_of-in-FLIPADST.ensures i h) ∙ ap (λ k. network k c.args.range c.args.k (column g.W.Word.lane_of i c.args.input.now)) (sym c.in-FLIPADST.is)
+    ap (column g.W.Word.lane_of i) c.reverse.ensures.after ∙ column-reverse g.W.Word.lane_of i c.adst_of-in-FLIPADST.new.output
+    ∙ ap reverse (c.adst_of-in-FLIPADST.ensures i h)
+    ∙ ap (λ k. network k c.args.range c.args.k (column g.W.Word.lane_of i c.args.input.now)) (sym c.in-FLIPADST.is)
 
 pub returns-in-IDENTITY : goal.returns-in-IDENTITY
 unfolding network_with
-returns-in-IDENTITY g c = λ i h. c.identity_of.ensures i h ∙ ap (λ k. network k c.args.range c.args.k (column g.W.Word.lane_of i c.args.input.now)) (sym c.in-IDENTITY.is)
+returns-in-IDENTITY g c = λ i h. c.identity_of.ensures i h
+    ∙ ap (λ k. network k c.args.range c.args.k (column g.W.Word.lane_of i c.args.input.now)) (sym c.in-IDENTITY.is)
 
 pub returns-in-WHT : goal.returns-in-WHT
 unfolding network_with

@@ -11,7 +11,8 @@ returns-then-bit-eq0 c = not_shifted c.args.bit c.args.size c.args.arr.now (omeg
 pub round_each-requires-clause-fits : goal.round_each-requires-clause-fits
 round_each-requires-clause-fits c =
     let P : List ℤ → Type 0 = λ xs. All (SumFits c.args.bit) xs in
-    let same : take c.min-size.result c.args.arr.now ≡ take c.args.size c.args.arr.now = ap (λ n. take n c.args.arr.now) c.min-size.ensures ∙ take_min c.args.size c.args.arr.now in
+    let same : take c.min-size.result c.args.arr.now ≡ take c.args.size c.args.arr.now = ap (λ n. take n c.args.arr.now) c.min-size.ensures
+    ∙ take_min c.args.size c.args.arr.now in
     let fits = subst P (sym same) c.requires.fits in
     let f = c.ranges.bit in
     let amount : c.unsigned_abs-amount.result ≡ unsigned_abs c.args.bit = c.unsigned_abs-amount.ensures.value ∙ ap unsigned_abs (to_z-of_z w8 _ f) in

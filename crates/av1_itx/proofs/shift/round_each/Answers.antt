@@ -13,4 +13,6 @@ loop-i-preserved c =
     let f : FitsSigned w32 (at v i) = search rules in
     let g : FitsSigned w32 c.round_shift.result = search rules in
     let d = simp to_z-of_z at c.round_shift.ensures in
-    ap (set v i) (to_z-of_z w32 _ g ∙ d) ∙ map_over_more (λ z. round_shift z c.args.bit) c.args.values.now v i (at v i) (omega arith) c.loop-i.invariant (get_or_default v i (pos 0) (at v i) (omega arith))
+    ap (set v i) (to_z-of_z w32 _ g ∙ d)
+    ∙ map_over_more (λ z. round_shift z c.args.bit) c.args.values.now v i (at v i)
+    (omega arith) c.loop-i.invariant (get_or_default v i (pos 0) (at v i) (omega arith))

@@ -10,4 +10,6 @@ loop-i-preserved c =
     let v = c.loop-i.values in
     let i = c.loop-i.i in
     let f : FitsSigned w32 (at v i) = search rules in
-    ap (set v i) (shift_left_is (at v i) c.args.bit f c.requires.bit_in) ∙ map_over_more (λ z. wrap32 (z *ℤ pos (2 ^ c.args.bit))) c.args.values.now v i (at v i) (omega arith) c.loop-i.invariant (get_or_default v i (pos 0) (at v i) (omega arith))
+    ap (set v i) (shift_left_is (at v i) c.args.bit f c.requires.bit_in)
+    ∙ map_over_more (λ z. wrap32 (z *ℤ pos (2 ^ c.args.bit))) c.args.values.now v i (at v i)
+    (omega arith) c.loop-i.invariant (get_or_default v i (pos 0) (at v i) (omega arith))

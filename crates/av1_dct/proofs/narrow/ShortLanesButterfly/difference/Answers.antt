@@ -11,4 +11,5 @@ returns c =
     let bxh : Words w32 4 (map (of_z w32) c.args.x.high) = record { count = omega (arith, length-map c.args.x.high (of_z w32)); fit = search rules } in
     let byl : Words w32 4 (map (of_z w32) c.args.y.low) = record { count = omega (arith, length-map c.args.y.low (of_z w32)); fit = search rules } in
     let byh : Words w32 4 (map (of_z w32) c.args.y.high) = record { count = omega (arith, length-map c.args.y.high (of_z w32)); fit = search rules } in
-    λ i h. clamped_told c.clamp_wide.result c.args.range i _ _ c.requires.within (c.clamp_wide.ensures i h) (lane_joined minus32 (λ x y. x -ℤ y) word_difference _ _ _ _ bxl bxh byl byh c.requires.first c.requires.second i h)
+    λ i h. clamped_told c.clamp_wide.result c.args.range i _ _ c.requires.within (c.clamp_wide.ensures i h)
+    (lane_joined minus32 (λ x y. x -ℤ y) word_difference _ _ _ _ bxl bxh byl byh c.requires.first c.requires.second i h)

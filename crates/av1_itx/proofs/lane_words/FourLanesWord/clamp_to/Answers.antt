@@ -8,4 +8,5 @@ use Rattle.av1_itx.proofs.lane_words.FourLanesWord.clamp_to.Goals as goal
 pub returns : goal.returns
 returns c = λ i h.
     let of = lane_handed_on 4 c.args.self.lanes c.to_vector.result i h (omega arith) c.to_vector.ensures.same (c.to_vector.ensures.fit i h) in
-    lane_read 4 c.clamp_to.result i h (omega (arith, length-map c.clamp_to.result (of_z w32))) ∙ c.clamp_to.ensures i h ∙ ap (λ x. clamp_value x c.args.range) of
+    lane_read 4 c.clamp_to.result i h (omega (arith, length-map c.clamp_to.result (of_z w32))) ∙ c.clamp_to.ensures i h
+    ∙ ap (λ x. clamp_value x c.args.range) of

@@ -8,7 +8,8 @@ use Rattle.av1_itx.proofs.words.I32x4BlockWord.is_zero.Goals as goal
 pub returns-clause-zeros : goal.returns-clause-zeros
 returns-clause-zeros c = λ zero i h.
     let same = (slice_eq-Decides Decides-int_eq _ _ _ c.eq.ensures).0 zero in
-    sym (lane_read 4 c.args.self i h (omega (arith, length-map c.args.self (of_z w32)))) ∙ ap (λ (zs : List ℤ). get_or zs i (pos 0)) same ∙ get_or-replicate 4 i (pos 0) (pos 0) h
+    sym (lane_read 4 c.args.self i h (omega (arith, length-map c.args.self (of_z w32)))) ∙ ap (λ (zs : List ℤ). get_or zs i (pos 0)) same
+    ∙ get_or-replicate 4 i (pos 0) (pos 0) h
 
 pub returns-clause-told : goal.returns-clause-told
 returns-clause-told c = λ zero.
