@@ -1,9 +1,8 @@
 #!/bin/sh
 # Builds the library for C and Rust into bindings/out, and tries it from both. It prints what ran, and ends in 'N passed, M failed'.
-# It needs rt, gcc, clang, valgrind, cargo. `rt lib` proves the library first, so a first run takes as long as that.
+# It needs rt, gcc, clang, valgrind, cargo, Python. `rt lib` proves the library first, so a first run takes as long as that.
 cd "$(dirname "$0")" || exit 1
 here=$PWD
-kit=$(dirname "$(rt doc)")
 work=$(mktemp -d)
 trap 'rm -rf "$work"' EXIT
 plan=$here/../crates/av1_vectors/stdin
@@ -24,15 +23,6 @@ try() {
         echo "FAILED  $name"
         tail -n 20 "$work/log" | sed 's/^/        /'
     fi
-}
-
-# archive BACKEND FOLDER: the library, with what it takes memory by, in one archive
-archive() {
-    mkdir -p "$2" &&
-        (cd ../crates/av1_c && rt lib $1) &&
-        cp ../crates/av1_c/out/libav1_c.a "$2" &&
-        (cd "$work" && ar x "$kit/c/liblibc_c.a") &&
-        ar rs "$2/libav1_c.a" "$work"/heap*.o
 }
 
 # numbers PATTERN FILE..: the names of statuses and kinds, each with its number
@@ -69,10 +59,22 @@ runs() {
     "$@" -Wall -Wextra -Werror -Ic "c/$file" "$folder/libav1_c.a" -o "$work/program" && $wrapper "$work/program" "$plan" "$planes"
 }
 
-# shared FOLDER: the archive as a shared library
+# asserted COMPILER..: the header declares what the archive has
+asserted() {
+    "$@" -pedantic -Wall -Wextra -Werror -fsyntax-only -Ic c/declared.c
+}
+
+# refused_elsewhere TARGET: the header says on another target that there is no archive for it
+refused_elsewhere() {
+    ! clang --target="$1" -fsyntax-only -x c c/av1_c.h 2>"$work/said" && grep 'error: "the archive behind this header' "$work/said"
+}
+
+# shared FOLDER: the archive as a shared library, which shows the calls alone
 shared() {
-    gcc -shared -fPIC -Wl,--whole-archive "$1/libav1_c.a" -Wl,--no-whole-archive -o "$work/libav1_c.so" &&
-        gcc -Wall -Wextra -Werror -Ic c/calls.c -L"$work" -lav1_c -Wl,-rpath,"$work" -o "$work/program" && "$work/program" "$plan" "$planes"
+    ./shared.sh "$1/libav1_c.a" "$work" &&
+        gcc -Wall -Wextra -Werror -Ic c/calls.c -L"$work" -lav1_c -Wl,-rpath,"$work" -o "$work/program" && "$work/program" "$plan" "$planes" &&
+        sed -n 's/^ *\(av1_[a-z0-9_]*\);$/\1/p' c/av1_c.map | sort >"$work/calls" &&
+        nm -D --defined-only "$work/libav1_c.so" | sed 's/.* //' | sort >"$work/shown" && cmp "$work/calls" "$work/shown"
 }
 
 # as_the_program NUMBER: of the plan of a number the example writes what the program of the repository writes
@@ -85,11 +87,19 @@ as_the_program() {
 programs="calls starved transform_block motion_block luma intra build_plan"
 memcheck="valgrind -q --error-exitcode=1 --leak-check=full --show-leak-kinds=all"
 
-try "the library, by LLVM" archive "" out
-try "the library, by Rattle's own compiler" archive "--backend rattle" out/rattle
+try "the library, by LLVM" ./archive.sh out
+try "the library, by Rattle's own compiler" ./archive.sh out/rattle --backend rattle
 try "the same numbers in Rattle, C and Rust" same_numbers
+try "the assertions on header and crate are those of the archive" ./declared.py --check
 try "the header, as C99" gcc -std=c99 -pedantic -Wall -Wextra -Werror -fsyntax-only c/av1_c.h
 try "the header, as C++" g++ -x c++ -pedantic -Wall -Wextra -Werror -fsyntax-only c/av1_c.h
+try "the header, asserted in C by gcc" asserted gcc -std=c11
+try "the header, asserted in C by clang" asserted clang -std=c11
+try "the header, asserted in C++" asserted g++ -std=c++11 -x c++
+try "the header, for ARM" refused_elsewhere aarch64-linux-gnu
+try "the header, for 32 bits" refused_elsewhere i686-linux-gnu
+try "the header, for Windows" refused_elsewhere x86_64-windows-gnu
+try "the stack that calls take" ./stack.py --check out/libav1_c.a
 for folder in out out/rattle; do
     for compiler in "gcc -O2" "gcc -O2 -fPIE -pie" "gcc -O2 -static" "gcc -O2 -flto" "clang -O2" "clang -g -fsanitize=address,undefined" "gcc -g -fsanitize=address,undefined"; do
         try "$folder: $compiler reconstruct_plan.c" reconstructs "" $folder $compiler

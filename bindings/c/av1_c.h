@@ -11,12 +11,34 @@
 #ifndef AV1_C_H
 #define AV1_C_H
 
+#if !defined(__x86_64__) || defined(__ILP32__) || !defined(__linux__)
+#error "the archive behind this header is code for Linux on x86-64, with pointers of 64 bits"
+#endif
+
 #include <stddef.h>
 #include <stdint.h>
 
 #ifdef __cplusplus
 extern "C" {
 #endif
+
+/* The version of this header. As long as major is 0, archives of one minor version go with its headers, and no others. */
+#define AV1_C_VERSION_MAJOR 0
+#define AV1_C_VERSION_MINOR 1
+#define AV1_C_VERSION_PATCH 0
+#define AV1_C_VERSION (AV1_C_VERSION_MAJOR * 65536u + AV1_C_VERSION_MINOR * 256u + AV1_C_VERSION_PATCH)
+
+/* The version of the archive that is linked, made up in the same way. */
+uint32_t av1_c_version(void);
+
+/* Stack: a call takes at most so many bytes of it, its arguments and its return address among them; bindings/stack.py works it out from the code of
+ * the archive. Beside them come what `malloc` and its like take, where a call takes memory, and `memcpy`, `memmove` and `memset`.
+ *    1,024  av1_builder_begin, av1_builder_finish, av1_c_version, av1_cfl_ac_8, av1_cfl_ac_16, av1_intra_edge_8, av1_intra_edge_16, av1_mc_avg_8,
+ *           av1_mc_avg_16, av1_planes_len
+ *    2,048  av1_builder_leaf, av1_builder_mark, av1_builder_reference, av1_inverse_transform_add_8, av1_inverse_transform_add_16
+ *    4,096  av1_predict_cfl_8, av1_predict_cfl_16, av1_predict_intra_8, av1_predict_intra_16, av1_prep_8tap_8, av1_prep_8tap_16, av1_put_8tap_8,
+ *           av1_put_8tap_16
+ *   16,384  av1_reconstruct_plan */
 
 /* Statuses. */
 enum {
@@ -48,11 +70,11 @@ enum {
 /* Why a leaf is refused: `kind` of a refusal. */
 enum {
     AV1_INVALID_BLOCK_SIZE = 1, /* chroma of its size has no size of its own */
-    AV1_TRANSFORM = 2,          /* a transform is longer than the leaf, or of a type that its size does not have */
-    AV1_MODE = 3,               /* a mode, an angle step or an alpha that the leaf cannot have */
-    AV1_VECTOR = 4,             /* a motion vector out of range */
+    AV1_INVALID_TRANSFORM = 2,  /* a transform is longer than the leaf, or of a type that its size does not have */
+    AV1_INVALID_MODE = 3,       /* a mode, an angle step or an alpha that the leaf cannot have */
+    AV1_INVALID_VECTOR = 4,     /* a motion vector out of range */
     AV1_MISSING_REFERENCE = 5,  /* a reference to a slot without planes */
-    AV1_COEFFICIENT = 6         /* a coefficient out of order, out of its block or out of range */
+    AV1_INVALID_COEFFICIENT = 6 /* a coefficient out of order, out of its block or out of range */
 };
 
 /* What a plan is refused for. It is written by a call that answers AV1_MALFORMED or AV1_INVALID, and by no other. */
@@ -83,7 +105,7 @@ uint32_t av1_reconstruct_plan(const uint8_t *bytes, size_t bytes_len, uint8_t *r
 /* ---- calls on blocks: where several arguments are bad, the status is the one that the call's comment names first ---- */
 
 /* Room for one block between and within the passes of its transform. What it holds before a call doesn't matter, so that it need not be
- * cleared, and nothing in it is of use after one. Calls that run at the same time need one each. It lies well at an address that is a
+ * cleared, and nothing in it is of use after one. Calls that run at the same time need one each. It is best placed at an address that is a
  * multiple of 64. */
 typedef struct {
     int32_t words[9728];

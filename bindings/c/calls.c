@@ -131,6 +131,7 @@ static void changed_plans(const uint8_t *plan, size_t len, unsigned count) {
 int main(int count, char **words) {
     static uint8_t plan[MOST], planes[MOST];
     CHECK(count == 3);
+    CHECK(av1_c_version() == AV1_C_VERSION);
     size_t len = read_file(words[1], plan), wanted = read_file(words[2], planes);
     lengths(plan, len, wanted);
     plans(plan, len, planes, wanted);

@@ -1,14 +1,16 @@
-//! Finds the archive: in the folder that the variable AV1_C_FOLDER names, else in `bindings/out`, where `bindings/build.sh` puts it.
+//! Finds the archive: in the folder that the variable AV1_C_FOLDER names; else in `native`, where a release has it; else in `bindings/out`,
+//! where `bindings/build.sh` puts it.
 
 use std::env;
 use std::path::PathBuf;
 
 fn main() {
     println!("cargo:rerun-if-env-changed=AV1_C_FOLDER");
+    let here = PathBuf::from(env::var_os("CARGO_MANIFEST_DIR").expect("cargo names its folder"));
     let folder = match env::var_os("AV1_C_FOLDER") {
         Some(folder) => PathBuf::from(folder),
-        None => PathBuf::from(env::var_os("CARGO_MANIFEST_DIR").expect("cargo names its folder"))
-            .join("../out"),
+        None if here.join("native").is_dir() => here.join("native"),
+        None => here.join("../out"),
     };
     let archive = folder.join("libav1_c.a");
     println!("cargo:rerun-if-changed={}", archive.display());

@@ -1,17 +1,19 @@
 #!/usr/bin/env python3
 """Records rows: calls on blocks and runs of the programs, each with what rav1e's own code answers.
 
-    tools/record_rows/record_rows.py RAV1E ORACLE WORK FILE
+    tools/record_rows/record_rows.py RAV1E ORACLE WORK FILE [FRAMES]
 
 RAV1E is the source of rav1e 0.8.1 (the folder that has src/), WORK a folder for what is built. FILE gets the rows, as docs/ROWS.md says:
 `crates/av1_rows/stdin`. What `av1_rows` prints of them goes to `stdout` beside it. ORACLE is a program that answers by rav1e's code as the
 programs are to. From its standard input to its standard output it takes a plan, and with `tools WORD` what `av1_tools WORD` takes; it has
 their statuses and lines, and `make N` and `sum N`. With `random SEED`, `randomtiles SEED`, `randomtrace SEED`, `randomsequence SEED`, and
-`randombad ..` for `random ..`, it writes a random plan or file of a seed, within limits such as `maxside=32`.
+`randombad ..` for `random ..`, it writes a random plan or file of a seed, within limits such as `maxside=32`. FRAMES are rows that
+`integrations/rav1e/corpus` wrote; without them FILE keeps those that it has.
 
 It needs `rustc` and Python 3 alone, takes a few minutes, and writes the same bytes each time. No answer comes from this project: of calls on
 blocks they are those of rav1e's functions (`recorder.rs`), of refused ones the status that docs/LIBRARY.md gives the argument that is tested
-first; of runs they are the oracle's, cut by the rules of sources and sinks (`runs.py`) where a read or a write fails.
+first; of runs they are the oracle's, cut by the rules of sources and sinks (`runs.py`) where a read or a write fails; of coded frames they
+are a decoder's.
 """
 import collections
 import pathlib
@@ -22,6 +24,7 @@ import sys
 HERE = pathlib.Path(__file__).resolve().parent
 sys.dont_write_bytecode = True
 sys.path += [str(HERE), str(HERE.parent / "record_calls"), str(HERE.parent / "rav1e")]
+import departure_rows
 import program_rows
 import record as calls
 import runs
@@ -40,27 +43,48 @@ def on_blocks(rav1e, work):
 def of_runs(oracle, work):
     """The rows of runs; WORK/names gets what each is, by its number."""
     rows = runs.Runs(runs.Oracle(str(oracle.resolve())))
+    departure_rows.record(rows)
     program_rows.record(rows)
     tool_rows.record(rows)
     (work / "names").write_text("".join(f"{at} {name}\n" for at, name in enumerate(rows.names)))
     return b"".join(rows.rows)
 
 
+def each(rows):
+    """The kind of each row, and the place behind it."""
+    at = 0
+    while at < len(rows):
+        kind, length = struct.unpack_from("<BI", rows, at)
+        at += 5 + length
+        yield kind, at
+
+
+def frames_of(rows):
+    """The rows of coded frames, which stand behind the last call on a block."""
+    return rows[max((end for kind, end in each(rows) if kind > runs.TOOLS), default=0):]
+
+
 def counted(rows):
     """How many rows of each kind there are."""
-    counts, at = collections.Counter(), 0
-    while at < len(rows):
-        counts[rows[at]] += 1
-        at += 5 + struct.unpack_from("<I", rows, at + 1)[0]
+    counts = collections.Counter(kind for kind, _ in each(rows))
     return [counts[kind] for kind in range(len(KINDS))]
 
 
+def rows_in(file):
+    """The rows of a file."""
+    data = file.read_bytes()
+    if not data.startswith(MAGIC):
+        sys.exit(f"{file} has no rows")
+    return data[len(MAGIC):]
+
+
 def main():
-    if len(sys.argv) != 5:
-        sys.exit("usage: record_rows.py RAV1E ORACLE WORK FILE")
-    rav1e, oracle, work, file = map(pathlib.Path, sys.argv[1:])
+    if len(sys.argv) not in (5, 6):
+        sys.exit("usage: record_rows.py RAV1E ORACLE WORK FILE [FRAMES]")
+    rav1e, oracle, work, file, *frames = map(pathlib.Path, sys.argv[1:])
     work.mkdir(parents=True, exist_ok=True)
-    rows = of_runs(oracle, work) + on_blocks(rav1e, work)
+    of_frames = rows_in(frames[0]) if frames else frames_of(rows_in(file))
+    rows = of_runs(oracle, work) + on_blocks(rav1e, work) + of_frames
     lines = "".join(f"{kind}: {count} rows, 0 differ\n" for kind, count in zip(KINDS, counted(rows)))
     file.write_bytes(MAGIC + rows)
     file.with_name("stdout").write_text(lines)

@@ -83,6 +83,16 @@ def parts_of(kind, words, data, output):
     return lines_in_halves(output) if words == ("trace",) else [output]
 
 
+def row_of(kind, words, source, sinks, data, zeros, answer):
+    """A row: a run with these words over a source (piece, the read that fails) and two sinks; its status, line and output."""
+    status, line, output = answer
+    text = "".join(word + "\n" for word in words).encode()
+    body = bytes([len(text)]) + text + struct.pack("<II", *source) + b"".join(sink.fields() for sink in sinks)
+    body += struct.pack("<I", len(data)) + data + struct.pack("<I", zeros)
+    body += bytes([status, len(line)]) + line + struct.pack("<II", len(output), zlib.crc32(output))
+    return bytes([kind]) + struct.pack("<I", len(body)) + body
+
+
 class Runs:
     """The rows of runs, and a name for each."""
 
@@ -105,12 +115,8 @@ class Runs:
 
     def add(self, name, data=b"", words=(), kind=PROGRAM, piece=30, failing_read=NEVER, out=(2**20, 7, NEVER), err=(60, 7, NEVER), zeros=0):
         """A row: what a run with these words over such a source and sinks answers. Sinks: room, piece, the call that fails."""
-        out, err = Sink(*out), Sink(*err)
-        status, line = self.answer(kind, tuple(words), data + bytes(zeros), (piece, failing_read), out)
+        source, out, err = (piece, failing_read), Sink(*out), Sink(*err)
+        status, line = self.answer(kind, tuple(words), data + bytes(zeros), source, out)
         err.write(line)
-        text = "".join(word + "\n" for word in words).encode()
-        body = bytes([len(text)]) + text + struct.pack("<II", piece, failing_read) + out.fields() + err.fields()
-        body += struct.pack("<I", len(data)) + data + struct.pack("<I", zeros)
-        body += bytes([status, len(err.taken)]) + err.taken + struct.pack("<II", len(out.taken), zlib.crc32(out.taken))
-        self.rows.append(bytes([kind]) + struct.pack("<I", len(body)) + body)
+        self.rows.append(row_of(kind, words, source, (out, err), data, zeros, (status, err.taken, out.taken)))
         self.names.append(name)

@@ -1,5 +1,5 @@
 """Runs of the tools: grids of tiles, traces, sequences, plans without their coefficients."""
-from plans import (DIRECTIONAL, DOWN_TO_4, FROM_LUMA_420, HALVED, MOVED, ONE_HALF, PLAIN, PLAN, QUARTERS, changed, header, leaf, of_two, planes,
+from plans import (DIRECTIONAL, DOWN_TO_4, FROM_LUMA_420, HALVED, MOVED, ONE_HALF, PLAIN, PLAN, QUARTERS, SINGLE, changed, header, leaf, of_two, planes,
                    sequence, tiles, trace)
 from runs import NEVER, TOOLS, WORDS_OF_TOOLS, reads_of
 
@@ -17,15 +17,13 @@ TWO_FRAMES = sequence([(1, FROM_ABOVE), (0, AGAIN)])
 
 def worked_tiles(add):
     """Grids of tiles: whole, cut, with starts that none has, with parts that are refused, and the first of these."""
-    ramp = bytes(8 * list(range(128))) + planes(128, count=2048)
-    moves = [b"\0" + leaf(mode=19, vectors=[(1, 0, column)], tx_size=4) for column in (8, -8)]
     slant = [b"\0" + leaf(mode=mode, tx_size=4) for mode in (1, 1, 2, 3)]
     grid = [64 * it for it in range(1, 32)]
     cases = [
         TWO_TILES, tiles([FROM_ABOVE, BY_DC], columns=(72,)), tiles([FROM_ABOVE, b"\4" + BY_DC[1:]]), tiles([b"\4", BY_DC]), tiles([BROKEN, b"\4"]),
         tiles([FROM_ABOVE, BROKEN + b"x"]), tiles([BROKEN, BY_DC]) + b"x", TWO_TILES[:-1], TWO_TILES[:45], tiles([FROM_ABOVE, b""]),
         changed(TWO_TILES, (20, 0)), changed(TWO_TILES, (20, 33)), changed(TWO_TILES, (4, 88)), changed(TWO_TILES, (46, 4), (28, 4)),
-        tiles([FROM_ABOVE] + 31 * [BY_DC], width=2048, columns=grid), tiles(moves, mask=1, references=ramp), tiles([FROM_ABOVE, moves[0]]),
+        tiles([FROM_ABOVE] + 31 * [BY_DC], width=2048, columns=grid), tiles([FROM_ABOVE, SINGLE]),
         tiles(slant, height=72, rows=(64,)), tiles([FROM_ABOVE, BY_DC], depth=10, mask=1, references=b"\0\4" + bytes(6142)), b"", b"RPL1"]
     cases += [tiles([FROM_ABOVE, BY_DC], columns=starts) for starts in ((0,), (128,), (64, 64), (64, 192), ())]
     cases += [tiles(slant, height=72, rows=(64,), depth=depth, sampling=sampling) for depth in (8, 10, 12) for sampling in range(3)]

@@ -90,7 +90,7 @@ def run(program, words, plan, library, refuse):
 
 
 def judged(answer, whole):
-    """What came, where it may come. A call alone, of which nothing is printed, tells want of memory by its status."""
+    """What came, where it may come. A call alone, of which nothing is printed, tells by its status that memory ran out."""
     memory = (3, b"", b"out of memory\n" if whole else b"")
     return {(0, whole, b""): WHOLE, memory: MEMORY, (6, b"", b""): WORDS}.get(answer)
 

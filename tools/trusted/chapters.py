@@ -6,22 +6,25 @@ All that the headline theorem says, in one reading. The theorem is the contract 
 ([reconstruct.rt](../crates/av1_recon/src/reconstruct.rt)): the record `Reconstructs`, the last definition of this page.
 Before it stand the definitions that it cites, and those that these cite in turn, each once and before it is used. A
 machine checks the proofs, so nobody has to read them; but a mistake in one of these definitions would be believed. This
-page is what to hold beside the AV1 specification. None of it runs: the program is other code, proved to give what
-stands here.
+page is what to hold beside the AV1 specification. But for some types and constants of Rust none of it runs: the program
+is other code, proved to give what stands here.
 
 [`trusted.py`](../tools/trusted/trusted.py) writes the page from the files that the checker reads, and fails with
-`--check` where they differ. To see one sample go through all chapters first, read [SAMPLE](SAMPLE.md).
+`--check` where they differ. To see one sample go through all chapters first, read [SAMPLE](SAMPLE.md); to see the
+statement first, chapter 9.
 
-> **The notation.** `f : A → B → C` takes an `A` and a `B` and gives a `C`. The lines below are its equations, tried from
-> the top; those of a table stand side by side, without its name. A call is `f x y`; `λ x. e` is the function of x that
-> gives e. `ℕ` are the numbers from 0 on: `zero` is 0, `suc n` is n + 1, `2 - 5` is 0, `/` rounds down, `%` is the remainder.
-> `ℤ` has negative ones too: `pos n` is n, `negsuc n` is -(n + 1), and `+ℤ`, `-ℤ`, `*ℤ` compute. `x ∷ xs` is a `List` that
-> begins with x, `[]` the empty one, `xs ++ ys` one behind the other. `Some x` or `None` is an `Option`, `Ok x` or `Err e` a
-> `Result`, `p.0` and `p.1` are the parts of a pair, `a.x` is a field. A test (`==`, `nat_lt`, `&&`) gives a `Bool`, `true` or
-> `false`. A statement (`Type 0`) holds or not: `x ≡ y` says that both are the same, `A × B` is A and B, `A ⊎ B` A or B,
-> `A → B` A implies B, `¬ A` not A, `(x : A) → B` B for every x, `(x : A) × B` B for some x; `⊤` always holds, `⊥` never. In a
-> format or a `do`, `x ← f` reads what f asks for and calls it x. A struct or enum of Rust counts as its fields, with
-> integers as `ℕ`, or `ℤ` where signed. `elim b [ true ↦ x | false ↦ y ]` chooses by cases.
+> **The notation.** `f : A → B → C` takes an `A` and a `B` and gives a `C`. The lines below are its equations, tried
+> from the top; those of a table stand side by side, without its name. A call is `f x y`, and leaves out what stands in
+> braces, as `{A : Type 0}`; an argument that the lines use and don't name (h and p of `in_area`) stands before the
+> others. `λ x. e` is the function of x that gives e. `ℕ` are the numbers from 0 on: `zero` is 0, `suc n` is n + 1,
+> `2 - 5` is 0, `/` rounds down, `%` is the remainder. `ℤ` has negative ones too: `pos n` is n, `negsuc n` is -(n + 1),
+> and `+ℤ`, `-ℤ`, `*ℤ` compute. `x ∷ xs` is a `List` that begins with x, `[]` the empty one, `xs ++ ys` one behind the
+> other. `Some x` or `None` is an `Option`, `Ok x` or `Err e` a `Result`, `p.0` and `p.1` are the parts of a pair, `a.x`
+> is a field. A test (`==`, `nat_lt`, `&&`) gives a `Bool`, `true` or `false`. A statement (`Type 0`) holds or not:
+> `x ≡ y` says that both are the same, `A × B` is A and B, `A ⊎ B` A or B, `A → B` A implies B, `¬ A` not A,
+> `(x : A) → B` B for every x, `(x : A) × B` B for some x; `⊤` always holds, `⊥` never. In a format or a `do`, `x ← f`
+> reads what f asks for and calls it x. A struct or enum of Rust counts as its fields, with integers as `ℕ`, or `ℤ`
+> where signed. `elim b [ true ↦ x | false ↦ y ]` chooses by cases.
 
 What is not defined here is the toolchain's standard library, of which these words occur:
 
@@ -57,8 +60,8 @@ CHAPTERS = [
      "av1_blocks/References av1_blocks/Vectors"),
     ("Plans and their validity", """
      The plan format is this project's own: what a decoder knows of a frame after entropy decoding. A format is
-     a value that says which field comes next and what its value decides; a text is read off it without a
-     parser. The order of partitions and blocks is that of decode tile and decode partition syntax; geometry is
+     a value that says which field comes next and what its value decides; which bytes are its text is said without
+     a parser. The order of partitions and blocks is that of decode tile and decode partition syntax; geometry is
      that of the residual syntax (which transform blocks a plane has), and of HasChroma in decode block syntax.
      A plan is valid where no leaf has one of six faults.""",
      "av1_plan/Format av1_plan/Plan av1_plan/Geometry av1_plan/Grammar av1_plan/Spelling av1_plan/Validity"),
@@ -70,8 +73,7 @@ CHAPTERS = [
     ("Intra modes", """
      What each of the 14 intra modes makes of an edge: the DC, basic (Paeth), smooth and directional (V and H
      among them) intra prediction processes, with the intra filter type, edge filter and upsampling processes on
-     which directional modes rest, and the predict chroma from luma process. `predicted` at the end is the whole
-     by mode.""",
+     which directional modes rest, and the predict chroma from luma process. `predicted` is the whole, by mode.""",
      "av1_intra/Sides av1_intra/Dc av1_intra/Paeth av1_intra/Smooth av1_intra/Angles av1_intra/Neighbours "
      "av1_intra/EdgeFilter av1_intra/Upsampling av1_intra/Directional av1_intra/ChromaFromLuma av1_intra/Predicted"),
     ("Motion", """
@@ -84,7 +86,8 @@ CHAPTERS = [
     ("Transforms", """
      The residue of a transform block: the 2D inverse transform process over the inverse DCT, ADST, identity and
      Walsh-Hadamard processes, step by step with every rounding and clamp, as butterflies and not as sums of
-     cosines. Sums wrap at 32 bits, as a release build of rav1e does.""",
+     cosines. Sums of products wrap at 32 bits, as in a release build of rav1e; in identities at depth 12 that
+     [isn't AV1's](DIFFERENCES.md#where-plans-arent-av1).""",
      "av1_dct/Arithmetic av1_dct/Operations av1_dct/Cosine av1_itx/Adst av1_itx/Identity av1_itx/Walsh "
      "av1_itx/Kinds av1_itx/Networks av1_itx/Residue"),
     ("Steps and the canvas", """
@@ -98,14 +101,17 @@ CHAPTERS = [
     ("Outcomes and the theorem", """
      What bytes come to, and what a call may say of it. AV1 has no such process: here stand the sources and
      sinks, faults and refusals. `Performs` is the record of clauses of every call that reads bytes and writes
-     what they come to; `Reconstructs` is that record for the planes of a plan. Where a source doesn't tell its
-     bytes (standard input), `left` is `None`, and the clauses under `IfSome (left source)` say nothing: then
-     `read` is the one that binds the answer to some bytes.""",
+     what they come to; `Reconstructs` is that record for the planes of a plan. Its arguments are those of a
+     [source](../crates/av1_streams/src/source.rt) and a [sink](../crates/av1_streams/src/sink.rt), which say for
+     each kind what they are: `left` are the bytes that a source has left, `taken` those that a sink took, beside
+     them counts of faults; a name with a prime is the value after the call. Where a source doesn't tell its bytes
+     (standard input), `left` is `None`, and the clauses under `IfSome (left source)` say nothing: then `read` is
+     the one that binds the answer to some bytes.""",
      "av1_lists/Counts av1_streams/Streams av1_streams/Faults av1_streams/Tasks av1_recon/Outcomes"),
 ]
 
 OTHERS = [
-    ("av1_recon", "the top calls beside `reconstruct_plan`: halves, sums, made plans, statuses and lines"),
+    ("av1_recon", "the top calls beside `reconstruct_plan`: reading and writing alone, sums, made plans, statuses and lines"),
     ("av1_c", "the library for C: plans and builders, statuses, what stands in a caller's memory"),
     ("av1_calls", "calls on one block that test all their arguments"),
     ("av1_tiles", "grids of tiles, and the frame that they come to"),

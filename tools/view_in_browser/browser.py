@@ -34,7 +34,7 @@ class Browser:
         self.session = self.call("Target.attachToTarget", targetId=target, flatten=True)["sessionId"]
         for domain in ("Page", "Runtime", "Network"):
             self.call(domain + ".enable")
-        self.call("Emulation.setDeviceMetricsOverride", width=width, height=height, deviceScaleFactor=1, mobile=False)
+        self.window(width, height)
 
     def __enter__(self):
         return self
@@ -86,6 +86,14 @@ class Browser:
             raise RuntimeError(f"{expression}: {answer['exceptionDetails']}")
         return answer["result"].get("value")
 
+    def window(self, width, height, scale=1):
+        """A window of this size in CSS pixels, on a device with so many pixels in each on a side."""
+        self.call("Emulation.setDeviceMetricsOverride", width=width, height=height, deviceScaleFactor=scale, mobile=False)
+
+    def scheme(self, name):
+        """What the reader prefers, `light` or `dark`."""
+        self.call("Emulation.setEmulatedMedia", features=[{"name": "prefers-color-scheme", "value": name}])
+
     def key(self, key, text="", modifiers=0):
         for kind in ("keyDown", "keyUp"):
             parameters = {"type": kind, "key": key, "modifiers": modifiers}
@@ -95,6 +103,46 @@ class Browser:
 
     def mouse(self, kind, x, y, **more):
         self.call("Input.dispatchMouseEvent", type=kind, x=x, y=y, **more)
+
+    def click(self, x, y):
+        self.mouse("mouseMoved", x, y)
+        self.mouse("mousePressed", x, y, button="left", buttons=1, clickCount=1)
+        self.mouse("mouseReleased", x, y, button="left", buttons=0, clickCount=1)
+
+    def drag(self, x, y, right, below):
+        """Presses at a place, moves in three steps, and lets go."""
+        self.mouse("mouseMoved", x, y)
+        self.mouse("mousePressed", x, y, button="left", buttons=1, clickCount=1)
+        for part in (1, 2, 3):
+            self.mouse("mouseMoved", x + right * part / 3, y + below * part / 3, button="left", buttons=1)
+        self.mouse("mouseReleased", x + right, y + below, button="left", buttons=0, clickCount=1)
+
+    def wheel(self, x, y, right, below, modifiers=0):
+        self.mouse("mouseWheel", x, y, deltaX=right, deltaY=below, modifiers=modifiers)
+
+    def json(self, expression):
+        """The same as a value of Python."""
+        return json.loads(self.value(f"JSON.stringify({expression})"))
+
+    def text(self, element):
+        return self.value(f"document.getElementById('{element}').textContent")
+
+    def processor_time(self):
+        """How long processors have worked for the browser so far, in seconds, whatever else they did."""
+        parents, times = {}, {}
+        for name in filter(str.isdigit, os.listdir("/proc")):
+            try:
+                with open(f"/proc/{name}/stat", encoding="latin-1") as file:
+                    fields = file.read().rsplit(")", 1)[1].split()
+            except OSError:
+                continue
+            parents[int(name)], times[int(name)] = int(fields[1]), int(fields[11]) + int(fields[12])
+        own = {self.process.pid}
+        while True:
+            more = {child for child, parent in parents.items() if parent in own} - own
+            if not more:
+                return sum(times.get(name, 0) for name in own) / os.sysconf("SC_CLK_TCK")
+            own |= more
 
     def faults(self):
         """The page's own errors, and what it asked of the network beside its file."""

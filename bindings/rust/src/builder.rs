@@ -83,6 +83,7 @@ pub struct Leaf {
 
 /// Why a call of a builder did nothing. The builder and its buffer are then as they were.
 #[derive(Clone, Copy, Debug, PartialEq, Eq)]
+#[non_exhaustive]
 pub enum BuildError {
     /// A plan asks for another kind of field next.
     NotNow,

@@ -23,9 +23,19 @@
 
 #![deny(missing_docs, unsafe_op_in_unsafe_fn)]
 
+#[cfg(not(all(
+    target_arch = "x86_64",
+    target_os = "linux",
+    target_pointer_width = "64"
+)))]
+compile_error!("the archive of this crate is code for Linux on x86-64, with pointers of 64 bits");
+
 use std::fmt;
 
 mod builder;
+#[cfg(test)]
+#[rustfmt::skip]
+mod declared;
 mod intra;
 mod intra_edge;
 mod luma;
@@ -33,6 +43,7 @@ mod motion;
 mod place;
 mod sys;
 mod transform;
+mod version;
 
 pub use builder::{BuildError, Coefficient, Header, Leaf, Motion, PlanBuilder};
 pub use intra::{IntraBlock, predict_cfl_8, predict_cfl_16, predict_intra_8, predict_intra_16};
@@ -45,9 +56,11 @@ pub use place::Place;
 pub use transform::{
     TransformBlock, TransformScratch, inverse_transform_add_8, inverse_transform_add_16,
 };
+pub use version::{VERSION, version};
 
 /// Why a call did nothing. What it was to write is then as it was.
 #[derive(Clone, Copy, Debug, PartialEq, Eq)]
+#[non_exhaustive]
 pub enum Error {
     /// Memory ran out.
     OutOfMemory,
@@ -95,6 +108,7 @@ pub enum Error {
 
 /// Why a leaf is refused.
 #[derive(Clone, Copy, Debug, PartialEq, Eq)]
+#[non_exhaustive]
 pub enum InvalidKind {
     /// Chroma of its size has no size of its own.
     InvalidBlockSize,
@@ -153,11 +167,11 @@ impl std::error::Error for Error {}
 fn kind_of(number: u32) -> InvalidKind {
     match number {
         sys::INVALID_BLOCK_SIZE => InvalidKind::InvalidBlockSize,
-        sys::TRANSFORM => InvalidKind::Transform,
-        sys::MODE => InvalidKind::Mode,
-        sys::VECTOR => InvalidKind::Vector,
+        sys::INVALID_TRANSFORM => InvalidKind::Transform,
+        sys::INVALID_MODE => InvalidKind::Mode,
+        sys::INVALID_VECTOR => InvalidKind::Vector,
         sys::MISSING_REFERENCE => InvalidKind::MissingReference,
-        sys::COEFFICIENT => InvalidKind::Coefficient,
+        sys::INVALID_COEFFICIENT => InvalidKind::Coefficient,
         _ => unreachable!("kind {number}"),
     }
 }

@@ -27,11 +27,11 @@ pub const NOT_ADMITTED: u32 = 41;
 pub const BAD_STATE: u32 = 42;
 
 pub const INVALID_BLOCK_SIZE: u32 = 1;
-pub const TRANSFORM: u32 = 2;
-pub const MODE: u32 = 3;
-pub const VECTOR: u32 = 4;
+pub const INVALID_TRANSFORM: u32 = 2;
+pub const INVALID_MODE: u32 = 3;
+pub const INVALID_VECTOR: u32 = 4;
 pub const MISSING_REFERENCE: u32 = 5;
-pub const COEFFICIENT: u32 = 6;
+pub const INVALID_COEFFICIENT: u32 = 6;
 
 /// `av1_refusal`.
 #[repr(C)]
@@ -71,7 +71,9 @@ pub struct Builder {
     pub parts: [BuilderPart; 13],
 }
 
-unsafe extern "C" {
+extern "C" {
+    pub fn av1_c_version() -> u32;
+
     pub fn av1_planes_len(
         bytes: *const u8,
         bytes_len: usize,

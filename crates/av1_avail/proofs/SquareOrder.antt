@@ -1,5 +1,6 @@
 -- The order of aligned squares: four quarters are coded one after the other.
-use Rattle.std.proofs.Common.{◌≡◌, ℕ, zero, suc, ◌^◌, ◌<◌, ◌+◌, ◌-◌, ◌*◌, ◌/◌, ◌%◌, ◌≤◌, ◌⊎◌, inl, inr, Bool, true, false, ◌&&◌, ◌||◌, leb, ltb, refl, ◌∙◌, arith, add_assoc}
+use Rattle.std.proofs.Common.{◌≡◌, ℕ, zero, suc, ◌^◌, ◌<◌, ◌+◌, ◌-◌, ◌*◌, ◌/◌, ◌%◌, ◌≤◌, ◌⊎◌, inl, inr, Bool, true, false, ◌&&◌, ◌||◌, leb, ltb, refl, ◌∙◌}
+use Rattle.std.proofs.Common.{arith, add_assoc}
 use Rattle.std.proofs.lemmas.Bool.{cases_eq, ne_eqb, and_parts, false_from_ne_true, leb-true, ltb-true}
 use Rattle.av1_avail.proofs.Shift.{is_earlier-shift, is_in-shift}
 use Rattle.std.proofs.Math.Bool.{beq}

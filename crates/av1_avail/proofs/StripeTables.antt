@@ -95,11 +95,14 @@ module _ (b square : BlockSize) (row column : ℕ) where
   flat_top_right_holds flat place =
       agrees_at is_flat top_right_bit flat_above b square row column (flat_passes b square flat) place (flat_above_agrees b square)
 
-  pub upright_bottom_left_holds : IsUpright b square → IsInRaster b row column → block_bit (bottom_left_table b) b row column ≡ upright_bottom_left square row column
+  pub upright_bottom_left_holds : IsUpright b square → IsInRaster b row column →
+      block_bit (bottom_left_table b) b row column ≡ upright_bottom_left square row column
   upright_bottom_left_holds upright place =
       agrees_at is_upright bottom_left_bit upright_below b square row column (upright_passes b square upright) place (upright_below_agrees b square)
 
-  pub flat_bottom_left_holds : IsFlat b square → IsInRaster b row column → 0 < column → block_bit (bottom_left_table b) b row column ≡ flat_bottom_left square row column
+  pub flat_bottom_left_holds : IsFlat b square → IsInRaster b row column → 0 < column →
+      block_bit (bottom_left_table b) b row column ≡ flat_bottom_left square row column
   flat_bottom_left_holds flat place past =
       rw (ne_eqb column 0 (λ e. omega arith)) at
-      (agrees_at is_flat (past_first bottom_left_bit) (past_first flat_below) b square row column (flat_passes b square flat) place (flat_below_agrees b square))
+      (agrees_at is_flat (past_first bottom_left_bit)
+      (past_first flat_below) b square row column (flat_passes b square flat) place (flat_below_agrees b square))

@@ -52,7 +52,16 @@ module _ (b : BlockSize) (small : IsSmall b) (t : TxSize) (r c sx sy i : ℕ) (h
       ≡ next_before bx by (block_columns b) (block_rows b) sx sy (transform_rows t) r c x y
   unfolding next_before
   next_before-shift k m bx by x y =
-      simp (to_cells sx k x hx, to_cells sy m y hy, to_units sx k bx hx, to_units sy m by hy, square_corner-shift b small, is_in-shift, is_before_in_block-shift, is_earlier-shift)
+      simp (
+        to_cells sx k x hx,
+        to_cells sy m y hy,
+        to_units sx k bx hx,
+        to_units sy m by hy,
+        square_corner-shift b small,
+        is_in-shift,
+        is_before_in_block-shift,
+        is_earlier-shift,
+      )
 
   unit_column : (x : ℕ) → corner (block_columns b) x / 2 ^ sx ≡ units sx * (x / 16) + corner (block_columns b) (start (block_columns b) x) / 2 ^ sx
   unit_column x = rw (column-shift b small x) at (to_units sx (x / 16) (corner (block_columns b) (start (block_columns b) x)) hx)

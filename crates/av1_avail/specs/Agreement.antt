@@ -1,5 +1,5 @@
--- How the answers stand to coding order. (AV1 specification: transform block syntax, which finds haveAboveRt and haveBelowLft from the
--- flags of what is decoded.)
+-- How the answers stand to coding order. (AV1 specification: transform block syntax, which finds haveAboveRt and
+-- haveBelowLft from the flags of what is decoded.)
 use Rattle.std.specs.Prelude.{◌≡◌, ◌<◌, ◌≤◌, ℕ, Bool, ◌+◌, ◌-◌, ◌*◌, ◌/◌, ◌%◌, ◌^◌, min, max}
 use Rattle.av1_blocks.specs.declared.partition.BlockSize.{BlockSize}
 use Rattle.av1_blocks.specs.declared.transform.TxSize.{TxSize}
@@ -13,8 +13,8 @@ use Rattle.av1_avail.specs.Order.{is_earlier, next_before}
 abbrev pub IsSmall : BlockSize → Type 0
 IsSmall b = max (block_width b) (block_height b) ≤ 64
 
--- The block's sides in a halved direction are 8 samples or more; equal transforms of the size tile its samples in the plane; and one of
--- them begins row_off units below and col_off units right of the block's first unit.
+-- The block's sides in a halved direction are 8 samples or more; equal transforms of the size tile its samples in the
+-- plane; and one of them begins row_off units below and col_off units right of the block's first unit.
 pub record IsTile (b : BlockSize) (t : TxSize) (row_off col_off ss_x ss_y : ℕ) : Type 0 where
   pub small : IsSmall b
   pub halved_x : ss_x ≤ 1
@@ -32,7 +32,8 @@ pub record IsTile (b : BlockSize) (t : TxSize) (row_off col_off ss_x ss_y : ℕ)
 abbrev pub run_length : TxSize → ℕ
 run_length t = min (transform_columns t) (transform_rows t)
 
--- Of the row above the transform, the i-th unit from its right end on is coded before it. The block holds the tile's cell at x and y.
+-- Of the row above the transform, the i-th unit from its right end on is coded before it. The block holds the tile's
+-- cell at x and y.
 unfoldable pub top_right_before : BlockSize → (x y : ℕ) → TxSize → (row_off col_off ss_x ss_y i : ℕ) → Bool
 top_right_before b x y t row_off col_off ss_x ss_y i =
     let bx = corner (block_columns b) x in
@@ -51,14 +52,17 @@ bottom_left_before b x y t row_off col_off ss_x ss_y i =
 -- Of each unit of the runs past a transform, the tables answer what coding order says.
 pub record TablesAnswerOrder (b : BlockSize) (t : TxSize) (x y row_off col_off ss_x ss_y : ℕ) : Type 0 where
   pub top_right : (i : ℕ) → i < run_length t
-      → table_top_right b x y (transform_columns t) row_off col_off ss_x ≡ top_right_before b x y t row_off col_off ss_x ss_y i
+      → table_top_right b x y (transform_columns t) row_off col_off ss_x ≡
+      top_right_before b x y t row_off col_off ss_x ss_y i
   pub bottom_left : (i : ℕ) → i < run_length t
-      → table_bottom_left b x y (transform_rows t) row_off col_off ss_x ss_y ≡ bottom_left_before b x y t row_off col_off ss_x ss_y i
+      → table_bottom_left b x y (transform_rows t) row_off col_off ss_x ss_y ≡
+      bottom_left_before b x y t row_off col_off ss_x ss_y i
 
 -- They do for every transform that tiles a block with sides up to 64.
 abbrev pub TablesFollowOrder : Type 0
 TablesFollowOrder =
-    (b : BlockSize) (t : TxSize) (x y row_off col_off ss_x ss_y : ℕ) → IsTile b t row_off col_off ss_x ss_y → TablesAnswerOrder b t x y row_off col_off ss_x ss_y
+    (b : BlockSize) (t : TxSize) (x y row_off col_off ss_x ss_y : ℕ) → IsTile b t row_off col_off ss_x ss_y →
+    TablesAnswerOrder b t x y row_off col_off ss_x ss_y
 
 -- No side of the block is longer than 64 samples, and none more than twice the other.
 pub record IsNearSquare (b : BlockSize) : Type 0 where
@@ -70,8 +74,8 @@ pub record IsNearSquare (b : BlockSize) : Type 0 where
 abbrev pub square_corner : (s c : ℕ) → ℕ
 square_corner s c = c - c % s
 
--- The cell right of the block and one row above it is coded before the aligned square of the block's greater side that holds the block,
--- which itself holds the tile's cell at x and y.
+-- The cell right of the block and one row above it is coded before the aligned square of the block's greater side that
+-- holds the block, which itself holds the tile's cell at x and y.
 unfoldable pub top_right_earlier : BlockSize → (x y : ℕ) → Bool
 top_right_earlier b x y =
     let bx = corner (block_columns b) x in

@@ -21,7 +21,7 @@ transform_columns t = tx_width t / 4
 abbrev pub transform_rows : TxSize → ℕ
 transform_rows t = tx_height t / 4
 
--- Blocks of this side lie side by side from the tile's first cell on. The first cell of the one that holds the tile's cell c, counted
--- from one superblock before the tile.
+-- Blocks of this side lie side by side from the tile's first cell on. The first cell of the one that holds the tile's
+-- cell c, counted from one superblock before the tile.
 abbrev pub corner : (side c : ℕ) → ℕ
 corner side c = 16 + (c - c % side)

@@ -1,4 +1,5 @@
--- A 4:1 block is one of four stripes of a square, and its list in a table follows from that of the square of its greater side.
+-- A 4:1 block is one of four stripes of a square, and its list in a table follows from that of the square of its
+-- greater side.
 use Rattle.std.specs.Prelude.{◌≡◌, ℕ, Bool, not, ◌*◌, ◌/◌, ◌%◌, ◌<◌, ◌==◌, ◌&&◌, ◌||◌}
 use Rattle.av1_blocks.specs.declared.partition.BlockSize.{BlockSize}
 use Rattle.av1_blocks.specs.Blocks.{block_width, block_height}
@@ -24,7 +25,8 @@ pub record IsInRaster (b : BlockSize) (row column : ℕ) : Type 0 where
 
 -- Above right of an upright stripe: coded, but for the last stripe as above right of the square.
 abbrev pub upright_top_right : (square : BlockSize) (row column : ℕ) → Bool
-upright_top_right square row column = not (column % 4 == 3) || block_bit (top_right_table square) square row (column / 4)
+upright_top_right square row column =
+    not (column % 4 == 3) || block_bit (top_right_table square) square row (column / 4)
 
 -- Above right of a flat stripe: not coded, but for the first stripe as above right of the square.
 abbrev pub flat_top_right : (square : BlockSize) (row column : ℕ) → Bool

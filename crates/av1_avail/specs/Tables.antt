@@ -1,9 +1,16 @@
--- For the blocks of each size in a raster 128 luma samples wide and high: whether what lies above right, and what lies below left, is coded
--- before the block. The lists are rav1e's; only bits of blocks in the first 64 by 64 samples are ever read. The AV1 specification has no
--- such tables: it keeps flags of what is decoded (clear block decoded flags function).
+-- For the blocks of each size in a raster 128 luma samples wide and high: whether what lies above right, and what lies
+-- below left, is coded before the block. The lists are rav1e's; only bits of blocks in the first 64 by 64 samples are
+-- ever read. The AV1 specification has no such tables: it keeps flags of what is decoded (clear block decoded flags
+-- function).
 use Rattle.std.specs.Prelude.{ℕ, List, [], ◌∷◌, Bool, ◌+◌, ◌*◌, ◌/◌, ◌%◌, ◌^◌, ◌==◌, slice_index}
 use Rattle.av1_blocks.specs.declared.partition.BlockSize.{BlockSize}
-use Rattle.av1_blocks.specs.declared.partition.BlockSize.TheVariants.{BLOCK_4X4, BLOCK_4X8, BLOCK_8X4, BLOCK_8X8, BLOCK_8X16, BLOCK_16X8, BLOCK_16X16, BLOCK_16X32, BLOCK_32X16, BLOCK_32X32, BLOCK_32X64, BLOCK_64X32, BLOCK_64X64, BLOCK_64X128, BLOCK_128X64, BLOCK_128X128, BLOCK_4X16, BLOCK_16X4, BLOCK_8X32, BLOCK_32X8, BLOCK_16X64, BLOCK_64X16}
+use Rattle.av1_blocks.specs.declared.partition.BlockSize.TheVariants.{BLOCK_4X4, BLOCK_4X8, BLOCK_8X4, BLOCK_8X8}
+use Rattle.av1_blocks.specs.declared.partition.BlockSize.TheVariants.{BLOCK_8X16, BLOCK_16X8, BLOCK_16X16, BLOCK_16X32}
+use Rattle.av1_blocks.specs.declared.partition.BlockSize.TheVariants.{BLOCK_32X16, BLOCK_32X32, BLOCK_32X64}
+use Rattle.av1_blocks.specs.declared.partition.BlockSize.TheVariants.{BLOCK_64X32, BLOCK_64X64, BLOCK_64X128}
+use Rattle.av1_blocks.specs.declared.partition.BlockSize.TheVariants.{BLOCK_128X64, BLOCK_128X128, BLOCK_4X16}
+use Rattle.av1_blocks.specs.declared.partition.BlockSize.TheVariants.{BLOCK_16X4, BLOCK_8X32, BLOCK_32X8, BLOCK_16X64}
+use Rattle.av1_blocks.specs.declared.partition.BlockSize.TheVariants.{BLOCK_64X16}
 use Rattle.av1_avail.specs.Cells.{block_columns}
 
 -- Bit i of a list of bytes: bit `i % 8` of entry `i / 8`.
@@ -42,7 +49,8 @@ top_right_table BLOCK_8X8 =
     255 ∷ 255 ∷ 85 ∷ 85 ∷ 119 ∷ 119 ∷ 85 ∷ 85 ∷ 127 ∷ 127 ∷ 85 ∷ 85 ∷ 119 ∷ 119 ∷ 85 ∷ 85 ∷
     255 ∷ 127 ∷ 85 ∷ 85 ∷ 119 ∷ 119 ∷ 85 ∷ 85 ∷ 127 ∷ 127 ∷ 85 ∷ 85 ∷ 119 ∷ 119 ∷ 85 ∷ 85 ∷
     []
-top_right_table BLOCK_8X16 = 255 ∷ 255 ∷ 119 ∷ 119 ∷ 127 ∷ 127 ∷ 119 ∷ 119 ∷ 255 ∷ 127 ∷ 119 ∷ 119 ∷ 127 ∷ 127 ∷ 119 ∷ 119 ∷ []
+top_right_table BLOCK_8X16 = 255 ∷ 255 ∷ 119 ∷ 119 ∷ 127 ∷ 127 ∷ 119 ∷ 119 ∷ 255 ∷ 127 ∷ 119 ∷ 119 ∷ 127 ∷ 127 ∷ 119 ∷
+    119 ∷ []
 top_right_table BLOCK_16X8 = 255 ∷ 0 ∷ 85 ∷ 0 ∷ 119 ∷ 0 ∷ 85 ∷ 0 ∷ 127 ∷ 0 ∷ 85 ∷ 0 ∷ 119 ∷ 0 ∷ 85 ∷ 0 ∷ []
 top_right_table BLOCK_16X16 = 255 ∷ 85 ∷ 119 ∷ 85 ∷ 127 ∷ 85 ∷ 119 ∷ 85 ∷ []
 top_right_table BLOCK_16X32 = 255 ∷ 119 ∷ 127 ∷ 119 ∷ []

@@ -113,16 +113,18 @@ fn bottom_left_by_table(
     )
 }
 
-/// Whether the samples above right of a transform are coded before it: those of the row above it, from its right end on, as many as its
-/// lesser side.
+/// Whether the samples above right of a transform are coded before it: those of the row above it, from its right end
+/// on, as many as its lesser side.
 ///
-/// `partition_bo` is a cell of the block of size `bsize`, counted from its tile's first cell; the block lies among others of its size
-/// from there on. The transform begins `row_off` units below and `col_off` units right of the block's first unit; a unit is 4 by 4
-/// samples of the plane, whose decimations are `ss_x` and `ss_y`. `top_available` and `right_available` say that the row above and the
-/// column on the right lie in the frame: where one doesn't, the answer is no.
+/// `partition_bo` is a cell of the block of size `bsize`, counted from its tile's first cell; the block lies among
+/// others of its size from there on. The transform begins `row_off` units below and `col_off` units right of the
+/// block's first unit; a unit is 4 by 4 samples of the plane, whose decimations are `ss_x` and `ss_y`. `top_available`
+/// and `right_available` say that the row above and the column on the right lie in the frame: where one doesn't, the
+/// answer is no.
 ///
-/// For transforms that tile a block with sides up to 64 the answer is that of coding order. For all others it is rav1e's: at the centre
-/// of a block 128 samples wide it is no, although those samples are coded before and a comment in rav1e says so.
+/// For transforms that tile a block with sides up to 64 the answer is that of coding order. For all others it is
+/// rav1e's: at the centre of a block 128 samples wide it is no, although those samples are coded before and a comment
+/// in rav1e says so.
 ///
 /// AV1 specification: transform block syntax (haveAboveRt).
 pub fn has_top_right(
@@ -140,11 +142,14 @@ pub fn has_top_right(
     requires halved_y { ss_y ≤ 1 }
     requires row_fits { row_off < 2 ^ 16 }
     requires col_fits { col_off < 2 ^ 16 }
-    ensures by_table { result ≡ (top_available && right_available && table_top_right bsize partition_bo.0.x partition_bo.0.y (transform_columns tx_size) row_off col_off ss_x) }
+    ensures by_table { result ≡
+        (top_available && right_available && table_top_right bsize partition_bo.0.x partition_bo.0.y (transform_columns tx_size) row_off col_off ss_x) }
     // for each unit of the run, so the run is coded as a whole or not at all
-    ensures by_order { (i : ℕ) → IsTile bsize tx_size row_off col_off ss_x ss_y → i < run_length tx_size → result ≡ (top_available && right_available && top_right_before bsize partition_bo.0.x partition_bo.0.y tx_size row_off col_off ss_x ss_y i) }
+    ensures by_order { (i : ℕ) → IsTile bsize tx_size row_off col_off ss_x ss_y → i < run_length tx_size →
+        result ≡ (top_available && right_available && top_right_before bsize partition_bo.0.x partition_bo.0.y tx_size row_off col_off ss_x ss_y i) }
     // as `has_tr` answers
-    ensures by_bits { IsNearSquare bsize → IsWhole bsize tx_size row_off col_off ss_x ss_y → result ≡ (top_available && right_available && bits_top_right bsize partition_bo.0.x partition_bo.0.y) }
+    ensures by_bits { IsNearSquare bsize → IsWhole bsize tx_size row_off col_off ss_x ss_y →
+        result ≡ (top_available && right_available && bits_top_right bsize partition_bo.0.x partition_bo.0.y) }
     ensures centre { block_columns bsize ≡ 32 → row_off ≡ 16 / 2 ^ ss_y → col_off + transform_columns tx_size ≡ 16 / 2 ^ ss_x → result ≡ false }
 {
     if !top_available || !right_available {
@@ -153,12 +158,12 @@ pub fn has_top_right(
     top_right_by_table(bsize, partition_bo, tx_size, row_off, col_off, ss_x)
 }
 
-/// Whether the samples below left of a transform are coded before it: those of the column left of it, from its lower end on, as many as
-/// its lesser side.
+/// Whether the samples below left of a transform are coded before it: those of the column left of it, from its lower
+/// end on, as many as its lesser side.
 ///
-/// The arguments are those of `has_top_right`; `bottom_available` and `left_available` say that the row below and the column on the left
-/// lie in the frame. For transforms that tile a block with sides up to 64 the answer is that of coding order; for all others it is
-/// rav1e's.
+/// The arguments are those of `has_top_right`; `bottom_available` and `left_available` say that the row below and the
+/// column on the left lie in the frame. For transforms that tile a block with sides up to 64 the answer is that of
+/// coding order; for all others it is rav1e's.
 ///
 /// AV1 specification: transform block syntax (haveBelowLft).
 pub fn has_bottom_left(
@@ -176,11 +181,14 @@ pub fn has_bottom_left(
     requires halved_y { ss_y ≤ 1 }
     requires row_fits { row_off < 2 ^ 16 }
     requires col_fits { col_off < 2 ^ 16 }
-    ensures by_table { result ≡ (bottom_available && left_available && table_bottom_left bsize partition_bo.0.x partition_bo.0.y (transform_rows tx_size) row_off col_off ss_x ss_y) }
+    ensures by_table { result ≡
+        (bottom_available && left_available && table_bottom_left bsize partition_bo.0.x partition_bo.0.y (transform_rows tx_size) row_off col_off ss_x ss_y) }
     // for each unit of the run, so the run is coded as a whole or not at all
-    ensures by_order { (i : ℕ) → IsTile bsize tx_size row_off col_off ss_x ss_y → i < run_length tx_size → result ≡ (bottom_available && left_available && bottom_left_before bsize partition_bo.0.x partition_bo.0.y tx_size row_off col_off ss_x ss_y i) }
+    ensures by_order { (i : ℕ) → IsTile bsize tx_size row_off col_off ss_x ss_y → i < run_length tx_size →
+        result ≡ (bottom_available && left_available && bottom_left_before bsize partition_bo.0.x partition_bo.0.y tx_size row_off col_off ss_x ss_y i) }
     // as `has_bl` answers
-    ensures by_bits { IsNearSquare bsize → IsWhole bsize tx_size row_off col_off ss_x ss_y → result ≡ (bottom_available && left_available && bits_bottom_left bsize partition_bo.0.x partition_bo.0.y) }
+    ensures by_bits { IsNearSquare bsize → IsWhole bsize tx_size row_off col_off ss_x ss_y →
+        result ≡ (bottom_available && left_available && bits_bottom_left bsize partition_bo.0.x partition_bo.0.y) }
 {
     if !bottom_available || !left_available {
         return false;

@@ -8,8 +8,8 @@ use crate::superblock::{SUPERBLOCK_CELLS, SUPERBLOCK_LOG2};
 use av1_blocks::BlockSize;
 use av1_frame::TileBlockOffset;
 
-/// Whether the way up the quadtree of a superblock, from the node of `2^shift` cells a side that holds column `x` of row `y`, goes through
-/// upper right quarters to a lower right one. What is right of that comes later.
+/// Whether the way up the quadtree of a superblock, from the node of `2^shift` cells a side that holds column `x` of
+/// row `y`, goes through upper right quarters to a lower right one. What is right of that comes later.
 ///
 /// ```text
 /// +-------+-------+
@@ -76,12 +76,12 @@ fn bottom_left_by_bits(bo: TileBlockOffset, bsize: BlockSize) -> bool
     )
 }
 
-/// Whether the cell right of a block and one row above it is coded before it. The block holds the cell `bo`, counted from its tile's
-/// first cell, among others of its size from there on.
+/// Whether the cell right of a block and one row above it is coded before it. The block holds the cell `bo`, counted
+/// from its tile's first cell, among others of its size from there on.
 ///
-/// No frame edge enters. For squares and 2:1 sizes up to 64 the answer is that of coding order, and the same as that of `has_top_right`
-/// for a transform as large as the block. For the 4:1 sizes it is rav1e's answer and may differ from both; for sizes with a side of 128
-/// it is no.
+/// No frame edge enters. For squares and 2:1 sizes up to 64 the answer is that of coding order, and the same as that of
+/// `has_top_right` for a transform as large as the block. For the 4:1 sizes it is rav1e's answer and may differ from
+/// both; for sizes with a side of 128 it is no.
 pub fn has_tr(bo: TileBlockOffset, bsize: BlockSize) -> bool
     ensures by_bits { result ≡ bits_top_right bsize bo.0.x bo.0.y }
     ensures by_order { IsNearSquare bsize → result ≡ top_right_earlier bsize bo.0.x bo.0.y }
@@ -89,12 +89,12 @@ pub fn has_tr(bo: TileBlockOffset, bsize: BlockSize) -> bool
     top_right_by_bits(bo, bsize)
 }
 
-/// Whether the cell left of a block and one row below it is coded before it. The block holds the cell `bo`, counted from its tile's
-/// first cell, among others of its size from there on.
+/// Whether the cell left of a block and one row below it is coded before it. The block holds the cell `bo`, counted
+/// from its tile's first cell, among others of its size from there on.
 ///
 /// No frame edge enters. For squares and 2:1 sizes up to 64 the answer is that of coding order, and the same as that of
-/// `has_bottom_left` for a transform as large as the block. For the 4:1 sizes it is rav1e's answer and may differ from both; for sizes
-/// with a side of 128 it is no.
+/// `has_bottom_left` for a transform as large as the block. For the 4:1 sizes it is rav1e's answer and may differ from
+/// both; for sizes with a side of 128 it is no.
 pub fn has_bl(bo: TileBlockOffset, bsize: BlockSize) -> bool
     ensures by_bits { result ≡ bits_bottom_left bsize bo.0.x bo.0.y }
     ensures by_order { IsNearSquare bsize → result ≡ bottom_left_earlier bsize bo.0.x bo.0.y }

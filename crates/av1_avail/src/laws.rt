@@ -20,17 +20,21 @@ pub fn quarters_are_in_turn()
     ensures { (k nx ny : ℕ) → k < 4 → nx % (2 * 2 ^ k) ≡ 0 → ny % (2 * 2 ^ k) ≡ 0 → AreInTurn (2 ^ k) nx ny }
 {}
 
-/// A law: the lists of the 4:1 sizes follow from the lists of the squares of their greater sides, whose stripes they are. In the first
-/// column of the raster nothing is asked below left of a flat stripe.
+/// A law: the lists of the 4:1 sizes follow from the lists of the squares of their greater sides, whose stripes they
+/// are. In the first column of the raster nothing is asked below left of a flat stripe.
 pub fn stripes_follow_squares()
-    ensures upright_top_right { (b square : BlockSize) (row column : ℕ) → IsUpright b square → IsInRaster b row column → block_bit (top_right_table b) b row column ≡ upright_top_right square row column }
-    ensures flat_top_right { (b square : BlockSize) (row column : ℕ) → IsFlat b square → IsInRaster b row column → block_bit (top_right_table b) b row column ≡ flat_top_right square row column }
-    ensures upright_bottom_left { (b square : BlockSize) (row column : ℕ) → IsUpright b square → IsInRaster b row column → block_bit (bottom_left_table b) b row column ≡ upright_bottom_left square row column }
-    ensures flat_bottom_left { (b square : BlockSize) (row column : ℕ) → IsFlat b square → IsInRaster b row column → 0 < column → block_bit (bottom_left_table b) b row column ≡ flat_bottom_left square row column }
+    ensures upright_top_right { (b square : BlockSize) (row column : ℕ) → IsUpright b square → IsInRaster b row column →
+        block_bit (top_right_table b) b row column ≡ upright_top_right square row column }
+    ensures flat_top_right { (b square : BlockSize) (row column : ℕ) → IsFlat b square → IsInRaster b row column →
+        block_bit (top_right_table b) b row column ≡ flat_top_right square row column }
+    ensures upright_bottom_left { (b square : BlockSize) (row column : ℕ) → IsUpright b square → IsInRaster b row column →
+        block_bit (bottom_left_table b) b row column ≡ upright_bottom_left square row column }
+    ensures flat_bottom_left { (b square : BlockSize) (row column : ℕ) → IsFlat b square → IsInRaster b row column → 0 < column →
+        block_bit (bottom_left_table b) b row column ≡ flat_bottom_left square row column }
 {}
 
-/// A law: for each transform that tiles a block with sides up to 64, in a plane halved or not, the tables answer what coding order says of
-/// every unit of the run above right of it, and of the one below left of it.
+/// A law: for each transform that tiles a block with sides up to 64, in a plane halved or not, the tables answer what
+/// coding order says of every unit of the run above right of it, and of the one below left of it.
 pub fn tables_follow_order()
     ensures { TablesFollowOrder }
 {}

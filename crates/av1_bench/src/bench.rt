@@ -6,8 +6,8 @@ use av1_recon::{ReconError, Sink, Source, read_plan, write_sums};
 use std::alloc::Global;
 use std::num::NonZeroU32;
 
-/// Reads a plan from the source to its end, reconstructs it as often as `rounds` says in one state, and appends four lines to
-/// the sink: the number of its leaves, and the sum of the visible samples of each plane.
+/// Reads a plan from the source to its end, reconstructs it as often as `rounds` says in one state, and appends four
+/// lines to the sink: the number of its leaves, and the sum of the visible samples of each plane.
 ///
 /// # Errors
 ///

@@ -10,8 +10,9 @@ use crate::count::count_of;
 use av1_recon::{Sink, Source, report, say};
 use std::alloc::Global;
 
-/// Reads a plan from `source`, reconstructs it as often as the one word says, writes its four lines to `out`, and gives the
-/// exit status: that of `av1_recon::report` and its line on `err`, or 1 and a line of usage where the words are no number, or 0.
+/// Reads a plan from `source`, reconstructs it as often as the one word says, writes its four lines to `out`, and gives
+/// the exit status: that of `av1_recon::report` and its line on `err`, or 1 and a line of usage where the words are no
+/// number, or 0.
 pub fn run<R: Source, W: Sink, E: Sink>(
     alloc: Global,
     words: &[String],

@@ -1,7 +1,13 @@
 -- The block and the transform of a plane that is decimated.
 use Rattle.std.specs.Prelude.{◌≡◌, ℕ, ◌==◌, ◌&&◌, ◌/◌, ◌^◌, max, not, Bool, if◌then◌else◌, Result, Ok, Err}
 use Rattle.av1_blocks.specs.declared.partition.BlockSize.{BlockSize}
-use Rattle.av1_blocks.specs.declared.partition.BlockSize.TheVariants.{BLOCK_4X4, BLOCK_4X8, BLOCK_8X4, BLOCK_8X8, BLOCK_8X16, BLOCK_16X8, BLOCK_16X16, BLOCK_16X32, BLOCK_32X16, BLOCK_32X32, BLOCK_32X64, BLOCK_64X32, BLOCK_64X64, BLOCK_64X128, BLOCK_128X64, BLOCK_128X128, BLOCK_4X16, BLOCK_16X4, BLOCK_8X32, BLOCK_32X8, BLOCK_16X64, BLOCK_64X16}
+use Rattle.av1_blocks.specs.declared.partition.BlockSize.TheVariants.{BLOCK_4X4, BLOCK_4X8, BLOCK_8X4, BLOCK_8X8}
+use Rattle.av1_blocks.specs.declared.partition.BlockSize.TheVariants.{BLOCK_8X16, BLOCK_16X8, BLOCK_16X16, BLOCK_16X32}
+use Rattle.av1_blocks.specs.declared.partition.BlockSize.TheVariants.{BLOCK_32X16, BLOCK_32X32, BLOCK_32X64}
+use Rattle.av1_blocks.specs.declared.partition.BlockSize.TheVariants.{BLOCK_64X32, BLOCK_64X64, BLOCK_64X128}
+use Rattle.av1_blocks.specs.declared.partition.BlockSize.TheVariants.{BLOCK_128X64, BLOCK_128X128, BLOCK_4X16}
+use Rattle.av1_blocks.specs.declared.partition.BlockSize.TheVariants.{BLOCK_16X4, BLOCK_8X32, BLOCK_32X8, BLOCK_16X64}
+use Rattle.av1_blocks.specs.declared.partition.BlockSize.TheVariants.{BLOCK_64X16}
 use Rattle.av1_blocks.specs.declared.partition.InvalidBlockSize.{InvalidBlockSize}
 use Rattle.av1_blocks.specs.declared.transform.TxSize.{TxSize}
 use Rattle.std.specs.Result.{result_unwrap_or}
@@ -55,7 +61,8 @@ halved BLOCK_64X16 = BLOCK_32X8
 abbrev pub subsampled_size : BlockSize → (xdec ydec : ℕ) → Result BlockSize InvalidBlockSize
 subsampled_size b xdec ydec =
     if xdec == 0 && ydec == 0 then Ok b
-    else (if xdec == 1 && ydec == 0 then halved_columns b else (if xdec == 1 && ydec == 1 then Ok (halved b) else Err (record {})))
+    else (if xdec == 1 && ydec == 0 then halved_columns b
+    else (if xdec == 1 && ydec == 1 then Ok (halved b) else Err (record {})))
 
 -- A side of the plane's block: the luma side decimated, and at least 4.
 abbrev pub plane_side : (side decimation : ℕ) → ℕ

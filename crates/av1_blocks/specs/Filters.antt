@@ -1,5 +1,5 @@
--- The interpolation filters of motion compensation: their weights at the offsets -3 to 4, in parts of 128, for each sixteenth of
--- the way from one sample to the next.
+-- The interpolation filters of motion compensation: their weights at the offsets -3 to 4, in parts of 128, for each
+-- sixteenth of the way from one sample to the next.
 use Rattle.std.specs.Prelude.{◌≡◌, ℕ, ◌*◌, ◌-◌, ℤ, pos, neg_ℤ, ◌+ℤ◌, List, [], ◌∷◌, map}
 use Rattle.av1_blocks.specs.declared.mc.FilterMode.{FilterMode}
 use Rattle.av1_blocks.specs.declared.mc.FilterMode.TheVariants.{REGULAR, SMOOTH, SHARP, BILINEAR, SWITCHABLE}

@@ -1,7 +1,16 @@
 -- The numbers, angles and kinds of prediction modes.
 use Rattle.std.specs.Prelude.{ℕ, ℤ, pos, nat_lt, nat_le, ◌&&◌, Bool, true, false, List, [], ◌∷◌}
 use Rattle.av1_blocks.specs.declared.predict.PredictionMode.{PredictionMode}
-use Rattle.av1_blocks.specs.declared.predict.PredictionMode.TheVariants.{DC_PRED, V_PRED, H_PRED, D45_PRED, D135_PRED, D113_PRED, D157_PRED, D203_PRED, D67_PRED, SMOOTH_PRED, SMOOTH_V_PRED, SMOOTH_H_PRED, PAETH_PRED, UV_CFL_PRED, NEARESTMV, NEAR0MV, NEAR1MV, NEAR2MV, GLOBALMV, NEWMV, NEAREST_NEARESTMV, NEAR_NEAR0MV, NEAR_NEAR1MV, NEAR_NEAR2MV, NEAREST_NEWMV, NEW_NEARESTMV, NEAR_NEW0MV, NEAR_NEW1MV, NEAR_NEW2MV, NEW_NEAR0MV, NEW_NEAR1MV, NEW_NEAR2MV, GLOBAL_GLOBALMV, NEW_NEWMV}
+use Rattle.av1_blocks.specs.declared.predict.PredictionMode.TheVariants.{DC_PRED, V_PRED, H_PRED, D45_PRED, D135_PRED}
+use Rattle.av1_blocks.specs.declared.predict.PredictionMode.TheVariants.{D113_PRED, D157_PRED, D203_PRED, D67_PRED}
+use Rattle.av1_blocks.specs.declared.predict.PredictionMode.TheVariants.{SMOOTH_PRED, SMOOTH_V_PRED, SMOOTH_H_PRED}
+use Rattle.av1_blocks.specs.declared.predict.PredictionMode.TheVariants.{PAETH_PRED, UV_CFL_PRED, NEARESTMV, NEAR0MV}
+use Rattle.av1_blocks.specs.declared.predict.PredictionMode.TheVariants.{NEAR1MV, NEAR2MV, GLOBALMV, NEWMV}
+use Rattle.av1_blocks.specs.declared.predict.PredictionMode.TheVariants.{NEAREST_NEARESTMV, NEAR_NEAR0MV, NEAR_NEAR1MV}
+use Rattle.av1_blocks.specs.declared.predict.PredictionMode.TheVariants.{NEAR_NEAR2MV, NEAREST_NEWMV, NEW_NEARESTMV}
+use Rattle.av1_blocks.specs.declared.predict.PredictionMode.TheVariants.{NEAR_NEW0MV, NEAR_NEW1MV, NEAR_NEW2MV}
+use Rattle.av1_blocks.specs.declared.predict.PredictionMode.TheVariants.{NEW_NEAR0MV, NEW_NEAR1MV, NEW_NEAR2MV}
+use Rattle.av1_blocks.specs.declared.predict.PredictionMode.TheVariants.{GLOBAL_GLOBALMV, NEW_NEWMV}
 
 -- The number of a mode.
 abbrev pub mode_number : PredictionMode → ℕ
@@ -109,7 +118,8 @@ ref_mv_idx _ = 1
 
 -- The intra modes of luma in the order in which they are tried.
 abbrev pub tried_intra_modes : List PredictionMode
-tried_intra_modes = DC_PRED ∷ H_PRED ∷ V_PRED ∷ SMOOTH_PRED ∷ SMOOTH_H_PRED ∷ SMOOTH_V_PRED ∷ PAETH_PRED ∷ D45_PRED ∷ D135_PRED ∷ D113_PRED ∷ D157_PRED ∷ D203_PRED ∷ D67_PRED ∷ []
+tried_intra_modes = DC_PRED ∷ H_PRED ∷ V_PRED ∷ SMOOTH_PRED ∷ SMOOTH_H_PRED ∷ SMOOTH_V_PRED ∷ PAETH_PRED ∷ D45_PRED ∷
+    D135_PRED ∷ D113_PRED ∷ D157_PRED ∷ D203_PRED ∷ D67_PRED ∷ []
 
 -- The inter mode that is tried where one alone is.
 abbrev pub tried_inter_modes : List PredictionMode
@@ -117,4 +127,5 @@ tried_inter_modes = NEARESTMV ∷ []
 
 -- The modes with two references in the order in which they are tried.
 abbrev pub tried_compound_modes : List PredictionMode
-tried_compound_modes = GLOBAL_GLOBALMV ∷ NEAREST_NEARESTMV ∷ NEW_NEWMV ∷ NEAREST_NEWMV ∷ NEW_NEARESTMV ∷ NEAR_NEAR0MV ∷ NEAR_NEAR1MV ∷ NEAR_NEAR2MV ∷ []
+tried_compound_modes = GLOBAL_GLOBALMV ∷ NEAREST_NEARESTMV ∷ NEW_NEWMV ∷ NEAREST_NEWMV ∷ NEW_NEARESTMV ∷ NEAR_NEAR0MV ∷
+    NEAR_NEAR1MV ∷ NEAR_NEAR2MV ∷ []

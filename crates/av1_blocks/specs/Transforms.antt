@@ -1,11 +1,23 @@
 -- The sides of transforms in samples of their plane, their types, and which go together.
 use Rattle.std.specs.Prelude.{◌≡◌, ℕ, ◌*◌, ◌==◌, ◌||◌, min, max, Bool, true, false, List, [], ◌∷◌, if◌then◌else◌}
 use Rattle.av1_blocks.specs.declared.partition.BlockSize.{BlockSize}
-use Rattle.av1_blocks.specs.declared.partition.BlockSize.TheVariants.{BLOCK_4X4, BLOCK_4X8, BLOCK_8X4, BLOCK_8X8, BLOCK_8X16, BLOCK_16X8, BLOCK_16X16, BLOCK_16X32, BLOCK_32X16, BLOCK_32X32, BLOCK_32X64, BLOCK_64X32, BLOCK_64X64, BLOCK_64X128, BLOCK_128X64, BLOCK_128X128, BLOCK_4X16, BLOCK_16X4, BLOCK_8X32, BLOCK_32X8, BLOCK_16X64, BLOCK_64X16}
+use Rattle.av1_blocks.specs.declared.partition.BlockSize.TheVariants.{BLOCK_4X4, BLOCK_4X8, BLOCK_8X4, BLOCK_8X8}
+use Rattle.av1_blocks.specs.declared.partition.BlockSize.TheVariants.{BLOCK_8X16, BLOCK_16X8, BLOCK_16X16, BLOCK_16X32}
+use Rattle.av1_blocks.specs.declared.partition.BlockSize.TheVariants.{BLOCK_32X16, BLOCK_32X32, BLOCK_32X64}
+use Rattle.av1_blocks.specs.declared.partition.BlockSize.TheVariants.{BLOCK_64X32, BLOCK_64X64, BLOCK_64X128}
+use Rattle.av1_blocks.specs.declared.partition.BlockSize.TheVariants.{BLOCK_128X64, BLOCK_128X128, BLOCK_4X16}
+use Rattle.av1_blocks.specs.declared.partition.BlockSize.TheVariants.{BLOCK_16X4, BLOCK_8X32, BLOCK_32X8, BLOCK_16X64}
+use Rattle.av1_blocks.specs.declared.partition.BlockSize.TheVariants.{BLOCK_64X16}
 use Rattle.av1_blocks.specs.declared.transform.TxSize.{TxSize}
-use Rattle.av1_blocks.specs.declared.transform.TxSize.TheVariants.{TX_4X4, TX_8X8, TX_16X16, TX_32X32, TX_64X64, TX_4X8, TX_8X4, TX_8X16, TX_16X8, TX_16X32, TX_32X16, TX_32X64, TX_64X32, TX_4X16, TX_16X4, TX_8X32, TX_32X8, TX_16X64, TX_64X16}
+use Rattle.av1_blocks.specs.declared.transform.TxSize.TheVariants.{TX_4X4, TX_8X8, TX_16X16, TX_32X32, TX_64X64, TX_4X8}
+use Rattle.av1_blocks.specs.declared.transform.TxSize.TheVariants.{TX_8X4, TX_8X16, TX_16X8, TX_16X32, TX_32X16}
+use Rattle.av1_blocks.specs.declared.transform.TxSize.TheVariants.{TX_32X64, TX_64X32, TX_4X16, TX_16X4, TX_8X32}
+use Rattle.av1_blocks.specs.declared.transform.TxSize.TheVariants.{TX_32X8, TX_16X64, TX_64X16}
 use Rattle.av1_blocks.specs.declared.transform.TxType.{TxType}
-use Rattle.av1_blocks.specs.declared.transform.TxType.TheVariants.{DCT_DCT, ADST_DCT, DCT_ADST, ADST_ADST, FLIPADST_DCT, DCT_FLIPADST, FLIPADST_FLIPADST, ADST_FLIPADST, FLIPADST_ADST, IDTX, V_DCT, H_DCT, V_ADST, H_ADST, V_FLIPADST, H_FLIPADST, WHT_WHT}
+use Rattle.av1_blocks.specs.declared.transform.TxType.TheVariants.{DCT_DCT, ADST_DCT, DCT_ADST, ADST_ADST, FLIPADST_DCT}
+use Rattle.av1_blocks.specs.declared.transform.TxType.TheVariants.{DCT_FLIPADST, FLIPADST_FLIPADST, ADST_FLIPADST}
+use Rattle.av1_blocks.specs.declared.transform.TxType.TheVariants.{FLIPADST_ADST, IDTX, V_DCT, H_DCT, V_ADST, H_ADST}
+use Rattle.av1_blocks.specs.declared.transform.TxType.TheVariants.{V_FLIPADST, H_FLIPADST, WHT_WHT}
 
 -- The number of a size.
 abbrev pub tx_number : TxSize → ℕ
@@ -220,8 +232,8 @@ abbrev pub is_identity : TxType → Bool
 is_identity IDTX = true
 is_identity _ = false
 
--- The type may be used at the size: the cosine transform alone where a side is 64, with the identity where the greater is 32, and
--- every type below.
+-- The type may be used at the size: the cosine transform alone where a side is 64, with the identity where the greater
+-- is 32, and every type below.
 abbrev pub valid_av1_transform : TxSize → TxType → Bool
 valid_av1_transform size type =
     let side = max (tx_width size) (tx_height size) in

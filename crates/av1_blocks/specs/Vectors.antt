@@ -1,5 +1,6 @@
 -- What is done to motion vectors, component by component. Components are eighths of a sample, in numbers of 16 bits.
-use Rattle.std.specs.Prelude.{◌≡◌, ℕ, ◌≤◌, ℤ, pos, ◌+ℤ◌, ◌*ℤ◌, int_lt, nat_abs, int_div, int_rem, Bool, ◌&&◌, FitsSigned}
+use Rattle.std.specs.Prelude.{◌≡◌, ℕ, ◌≤◌, ℤ, pos, ◌+ℤ◌, ◌*ℤ◌, int_lt, nat_abs, int_div, int_rem, Bool, ◌&&◌}
+use Rattle.std.specs.Prelude.{FitsSigned}
 use Rattle.std.specs.Int.{w16, int_shr}
 use Rattle.av1_blocks.specs.declared.context.TheConstants.{MV_LOW, MV_UPP}
 use Rattle.av1_blocks.specs.declared.mc.MotionVector.{MotionVector}

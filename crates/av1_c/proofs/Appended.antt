@@ -19,6 +19,7 @@ appended room front next rest more written len end e fits short f g h l = record
 }
 
 -- a fault is handed on
-pub passed_on : {X : Type 0} (result : Result X BuildFault) (fault : BuildFault) (P : BuildFault → Type 0) → IsErrAnd result (λ f. f ≡ fault) → P fault → IfErr result P
+pub passed_on : {X : Type 0} (result : Result X BuildFault) (fault : BuildFault) (P : BuildFault → Type 0) → IsErrAnd result (λ f. f ≡ fault) → P fault →
+    IfErr result P
 passed_on (Ok x) fault P e p = absurd e
 passed_on (Err f) fault P e p = subst P (sym e) p

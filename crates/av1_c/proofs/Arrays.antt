@@ -5,7 +5,8 @@ use Rattle.std.proofs.lemmas.Bool.{and_parts}
 use Rattle.std.proofs.lemmas.List.{take_all, take_more_set}
 
 -- one more is written that passes a test
-pub all_set : {A : Type 0} (p : A → Bool) (xs : List A) (n : ℕ) (x : A) → n < length xs → list_all p (take n xs) ≡ true → p x ≡ true → list_all p (take (n + 1) (set xs n x)) ≡ true
+pub all_set : {A : Type 0} (p : A → Bool) (xs : List A) (n : ℕ) (x : A) → n < length xs → list_all p (take n xs) ≡ true → p x ≡ true →
+    list_all p (take (n + 1) (set xs n x)) ≡ true
 all_set {A = A} p xs n x lt e f = ap (list_all p) (take_more_set xs n x lt) ∙ both (take n xs) e
   where
     both : (ys : List A) → list_all p ys ≡ true → list_all p (ys ++ x ∷ []) ≡ true

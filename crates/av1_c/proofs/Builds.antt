@@ -1,5 +1,6 @@
 -- What a call of a builder leaves, and which status it answers.
-use Rattle.std.proofs.Common.{◌≡◌, ◌≢◌, ℕ, ◌+◌, ◌^◌, ◌≤◌, Bool, true, ◌&&◌, List, [], ◌++◌, length, take, drop, Result, Ok, Err, refl, sym, ap, subst, ◌∙◌, arith}
+use Rattle.std.proofs.Common.{◌≡◌, ◌≢◌, ℕ, ◌+◌, ◌^◌, ◌≤◌, Bool, true, ◌&&◌, List, [], ◌++◌, length, take, drop, Result, Ok, Err, refl, sym, ap, subst, ◌∙◌}
+use Rattle.std.proofs.Common.{arith}
 use Rattle.std.specs.Prelude.{OnErr, OnOk}
 use Rattle.std.specs.List.{list_all}
 use Rattle.std.proofs.lemmas.Bool.{le-leb}
@@ -28,10 +29,13 @@ front_is : (room room' more : List ℕ) (written end : ℕ) → AreAppended room
     → (take end room' ≡ take written room ++ more) × ((drop end room' ≡ drop end room) × (length room' ≡ length room))
 front_is room room' more written end a =
     let front = take written room ++ more in
-    let len : length front ≡ end = omega (arith, length-append (take written room) more, length-take-le written room (omega (arith, a.fits, a.end_is)), a.end_is) in
+    let len : length front ≡ end =
+    omega (arith, length-append (take written room) more, length-take-le written room (omega (arith, a.fits, a.end_is)), a.end_is) in
     let whole : room' ≡ front ++ drop end room = a.room_is in
-    let kept : take end room' ≡ front = ap (take end) whole ∙ subst (λ (n : ℕ). take n (front ++ drop end room) ≡ front) len (take-append_seam front (drop end room)) in
-    let behind : drop end room' ≡ drop end room = ap (drop end) whole ∙ subst (λ (n : ℕ). drop n (front ++ drop end room) ≡ drop end room) len (drop-append_seam front (drop end room)) in
+    let kept : take end room' ≡ front = ap (take end) whole
+    ∙ subst (λ (n : ℕ). take n (front ++ drop end room) ≡ front) len (take-append_seam front (drop end room)) in
+    let behind : drop end room' ≡ drop end room = ap (drop end) whole
+    ∙ subst (λ (n : ℕ). drop n (front ++ drop end room) ≡ drop end room) len (drop-append_seam front (drop end room)) in
     (kept, (behind, omega (arith, ap length whole, length-append front (drop end room), length-drop end room, len, a.fits)))
 
 -- a builder that holds how far the plan has come, over the bytes that were appended
@@ -62,13 +66,15 @@ pub one_more : (room : List ℕ) (written mark : ℕ) → written ≤ length roo
 one_more room written mark fits = omega (arith, length-append (take written room) (byte mark), length-take-le written room fits)
 
 -- and behind other fields
-pub more_bytes : (room bytes : List ℕ) (written : ℕ) (fields : List ℕ) → bytes ≡ fields → written ≤ length room → written + length bytes ≡ length (take written room ++ fields)
+pub more_bytes : (room bytes : List ℕ) (written : ℕ) (fields : List ℕ) → bytes ≡ fields → written ≤ length room →
+    written + length bytes ≡ length (take written room ++ fields)
 more_bytes room bytes written fields is fits = omega (arith, ap length is, length-append (take written room) fields, length-take-le written room fits)
 
 -- ---- statuses
 
 -- all is done
-pub done_status : (valid asked admitted : Bool) (bytes : List ℕ) (room : ℕ) → valid ≡ true → asked ≡ true → admitted ≡ true → length bytes ≤ 2 ^ 26 → length bytes ≤ room
+pub done_status : (valid asked admitted : Bool) (bytes : List ℕ) (room : ℕ) → valid ≡ true → asked ≡ true → admitted ≡ true → length bytes ≤ 2 ^ 26 →
+    length bytes ≤ room
     → DONE ≡ asked_status valid (refusal asked admitted bytes) (length bytes) room
 done_status valid asked admitted bytes room v e f short fits = rw (v, e, f, le-leb (length bytes) (2 ^ 26) short, le-leb (length bytes) room fits) refl
 

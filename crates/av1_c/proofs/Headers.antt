@@ -44,7 +44,8 @@ read_front bytes h (values, spells, (more, parts)) =
     (record { at = 0 + length (text header values); rest = more }, ap (λ (l : List ℕ). read header (start l)) parts ∙ read_again header values h 0 more spells)
 
 -- so that it is the one that was read
-pub same_len : (bytes : List ℕ) (h : Header) (j : Input) (len : ℕ) → read header (start bytes) ≡ Ok (h, j) → len ≡ planes_len h → (g : Header) → BeginWith bytes g → len ≡ planes_len g
+pub same_len : (bytes : List ℕ) (h : Header) (j : Input) (len : ℕ) → read header (start bytes) ≡ Ok (h, j) → len ≡ planes_len h → (g : Header) →
+    BeginWith bytes g → len ≡ planes_len g
 same_len bytes h j len e is g front =
     let (k, again) = read_front bytes g front in
     is ∙ ap (λ (q : Header × Input). planes_len q.0) (ok_is (h, j) (g, k) (sym e ∙ again))
@@ -59,10 +60,12 @@ behind h = references h >>= λ planes. superblocks h >>= λ leaves. done (record
 no_plan : (bytes : List ℕ) (at : ℕ) → AreBytes bytes → read header (start bytes) ≡ Err at → AreRefused plan bytes at
 unfolding plan
 no_plan bytes at fits e =
-    let stops : read plan (start bytes) ≡ Err at = read_bind header behind (start bytes) ∙ ap (λ (r : Reading (Header × Input)). on_ok r (λ p. read (behind p.0) p.1)) e in
+    let stops : read plan (start bytes) ≡ Err at = read_bind header behind (start bytes)
+    ∙ ap (λ (r : Reading (Header × Input)). on_ok r (λ p. read (behind p.0) p.1)) e in
     all_refused plan bytes at fits (ap (λ (r : Reading (PlanValue × Input)). on_ok r ended) stops)
 
-pub header_fault : (bytes : List ℕ) (result : Result ℕ PlanFault) (e : PlanError) → AreBytes bytes → length bytes ≤ max_plan_bytes → IsErrAnd result (λ fault. fault ≡ plan_fault e) → Fails e (read header (start bytes))
+pub header_fault : (bytes : List ℕ) (result : Result ℕ PlanFault) (e : PlanError) → AreBytes bytes → length bytes ≤ max_plan_bytes →
+    IsErrAnd result (λ fault. fault ≡ plan_fault e) → Fails e (read header (start bytes))
     → IsAtByte e → IfErr result (IsHeaderFault bytes)
 header_fault bytes (Ok len) e fits short is fails at_byte = absurd is
 header_fault bytes (Err fault) errors.Memory fits short is fails at_byte = absurd at_byte

@@ -1,5 +1,6 @@
 -- The bytes of a leaf that is told by its numbers.
-use Rattle.std.proofs.Common.{◌≡◌, ℕ, ◌+◌, ◌*◌, ◌<◌, ◌≤◌, Bool, true, false, if◌then◌else◌, List, [], ◌∷◌, ◌++◌, length, map, take, get_or, All, Option, pos, refl, sym, ap, subst, ◌∙◌, append_assoc, length-append, arith}
+use Rattle.std.proofs.Common.{◌≡◌, ℕ, ◌+◌, ◌*◌, ◌<◌, ◌≤◌, Bool, true, false, if◌then◌else◌, List, [], ◌∷◌, ◌++◌, length, map, take, get_or, All, Option, pos}
+use Rattle.std.proofs.Common.{refl, sym, ap, subst, ◌∙◌, append_assoc, length-append, arith}
 use Rattle.std.specs.Prelude.{is_some}
 use Rattle.std.specs.List.{flat_map}
 use Rattle.std.proofs.lemmas.List.{append-nil, get_or-map, length-map, take_all}
@@ -24,7 +25,8 @@ pub all_triples : (coefficients : List Coefficient) (n : ℕ) (front : List ℕ)
 unfolding triples_text
 all_triples coefficients n front le = rw (take_all n coefficients le, length-map coefficients triple_of) refl
 
-pub all_fit : (coefficients : List Coefficient) → ((k : ℕ) (d : Coefficient) → k < length coefficients → FitsTriple (triple_of (get_or coefficients k d))) → All FitsTriple (map triple_of coefficients)
+pub all_fit : (coefficients : List Coefficient) → ((k : ℕ) (d : Coefficient) → k < length coefficients → FitsTriple (triple_of (get_or coefficients k d))) →
+    All FitsTriple (map triple_of coefficients)
 all_fit coefficients fit k d lt =
     let none : Coefficient = record { value = pos 0; place = 0; block = 0 } in
     let lt_here : k < length coefficients = omega (arith, lt, length-map coefficients triple_of) in
@@ -34,7 +36,8 @@ pub no_chroma : (carried : Bool) (front : List ℕ) (u v : List Triple) → carr
 unfolding chroma_triples_text
 no_chroma carried front u v e = rw e (sym (append-nil front))
 
-pub with_chroma : (carried : Bool) (front : List ℕ) (u v : List Triple) → carried ≡ true → front ++ triples_text u ++ triples_text v ≡ front ++ chroma_triples_text carried u v
+pub with_chroma : (carried : Bool) (front : List ℕ) (u v : List Triple) → carried ≡ true →
+    front ++ triples_text u ++ triples_text v ≡ front ++ chroma_triples_text carried u v
 unfolding chroma_triples_text
 with_chroma carried front u v e = rw e (append_assoc front (triples_text u) (triples_text v))
 
@@ -65,15 +68,26 @@ leaf_length n ys us vs carried front count e f g =
     let v = map triple_of vs in
     let chroma = chroma_triples_text (is_some (uv_type_of n)) u v in
     let chroma_is : length chroma ≡ (if carried then 4 + 7 * (length us + length vs) else 0) =
-    chroma_length (is_some (uv_type_of n)) u v ∙ same (is_some (uv_type_of n)) carried (length u) (length us) (length v) (length vs) (sym e) (length-map us triple_of) (length-map vs triple_of) in
-    omega (arith, f, g, length-append (leading ++ triples_text y) chroma, length-append leading (triples_text y), triples_length y, length-map ys triple_of, chroma_is)
+    chroma_length (is_some (uv_type_of n)) u v
+    ∙ same (is_some (uv_type_of n)) carried (length u) (length us) (length v) (length vs) (sym e) (length-map us triple_of) (length-map vs triple_of) in
+    omega (
+      arith,
+      f,
+      g,
+      length-append (leading ++ triples_text y) chroma,
+      length-append leading (triples_text y),
+      triples_length y,
+      length-map ys triple_of,
+      chroma_is,
+    )
   where
     same : (a b : Bool) (k l m n : ℕ) → a ≡ b → k ≡ l → m ≡ n → (if a then 4 + 7 * (k + m) else 0) ≡ (if b then 4 + 7 * (l + n) else 0)
     same a b k l m n e f g = rw (e, f, g) refl
 
 -- what is written of a leaf, one behind the other
 pub leaf_is : (n : LeafNumbers) (ys us vs : List Coefficient) (carried : Bool) → carried ≡ is_some (uv_type_of n)
-    → leading_text (kind_of n) (tx_size_of n.tx_size) (tx_type_of n.tx_type) (uv_type_of n) ++ triples_text (map triple_of ys) ++ chroma_triples_text carried (map triple_of us) (map triple_of vs)
+    → leading_text (kind_of n) (tx_size_of n.tx_size) (tx_type_of n.tx_type) (uv_type_of n) ++ triples_text (map triple_of ys)
+    ++ chroma_triples_text carried (map triple_of us) (map triple_of vs)
     ≡ leaf_bytes n ys us vs
 unfolding fields_text
 leaf_is n ys us vs carried e =
@@ -81,7 +95,8 @@ leaf_is n ys us vs carried e =
     ap (λ (b : Bool). front ++ chroma_triples_text b (map triple_of us) (map triple_of vs)) e
 
 -- the numbers before the coefficients, each by a call
-pub leading_is : (n : LeafNumbers) (kind : LeafKind) (tx_size : TxSize) (tx_type : TxType) (uv_type : Option TxType) → kind ≡ kind_of n → tx_size ≡ tx_size_of n.tx_size → tx_type ≡ tx_type_of n.tx_type → uv_type ≡ uv_type_of n
+pub leading_is : (n : LeafNumbers) (kind : LeafKind) (tx_size : TxSize) (tx_type : TxType) (uv_type : Option TxType) → kind ≡ kind_of n →
+    tx_size ≡ tx_size_of n.tx_size → tx_type ≡ tx_type_of n.tx_type → uv_type ≡ uv_type_of n
     → leading_text kind tx_size tx_type uv_type ≡ leading_text (kind_of n) (tx_size_of n.tx_size) (tx_type_of n.tx_type) (uv_type_of n)
 leading_is n kind tx_size tx_type uv_type e f g h = rw (e, f, g, h) refl
 

@@ -1,5 +1,6 @@
 -- How many bytes the planes of a plan have.
-use Rattle.std.proofs.Common.{◌≡◌, ℕ, ◌+◌, ◌*◌, ◌/◌, ◌%◌, ◌==◌, ◌≤◌, Bool, true, false, List, [], ◌∷◌, ◌++◌, length, take, refl, sym, ap, ◌∙◌, arith, length-append}
+use Rattle.std.proofs.Common.{◌≡◌, ℕ, ◌+◌, ◌*◌, ◌/◌, ◌%◌, ◌==◌, ◌≤◌, Bool, true, false, List, [], ◌∷◌, ◌++◌, length, take, refl, sym, ap, ◌∙◌, arith}
+use Rattle.std.proofs.Common.{length-append}
 use Rattle.std.specs.Prelude.{if◌then◌else◌}
 use Rattle.std.specs.List.{flat_map}
 use Rattle.std.proofs.lemmas.List.{length-take}
@@ -65,6 +66,7 @@ pub wanted_is : (value : PlanValue) (h : Header) (len : ℕ) → len ≡ planes_
 wanted_is value h len is same = is ∙ ap planes_len same ∙ sym (length-planes_of value)
 
 -- the front of a buffer is as long as the planes that were written to an empty sink
-pub same_length : (value : PlanValue) (len : ℕ) (room before taken : List ℕ) → len ≤ length room → len ≡ length (planes_of value) → before ≡ [] → taken ≡ before ++ planes_of value → length (take len room) ≡ length taken
+pub same_length : (value : PlanValue) (len : ℕ) (room before taken : List ℕ) → len ≤ length room → len ≡ length (planes_of value) → before ≡ [] →
+    taken ≡ before ++ planes_of value → length (take len room) ≡ length taken
 same_length value len room before taken fits is empty appended =
     omega (arith, length-take len room, fits, is, ap length empty, ap length appended, length-append before (planes_of value))

@@ -16,7 +16,8 @@ use Rattle.av1_calls.specs.declared.status.TheConstants.{DONE, ROOM_TOO_SMALL}
 use Rattle.av1_c.specs.declared.status.TheConstants.{OUT_OF_MEMORY, TOO_LONG}
 
 -- a fault of the bytes is a cause whatever the buffer
-pub passed_on : (bytes : List ℕ) (room : ℕ) (result : Result ℕ PlanFault) (e : PlanFault) → IsErrAnd result (λ fault. fault ≡ e) → ((room : ℕ) → IsCause bytes room e) → IfErr result (IsCause bytes room)
+pub passed_on : (bytes : List ℕ) (room : ℕ) (result : Result ℕ PlanFault) (e : PlanFault) → IsErrAnd result (λ fault. fault ≡ e) →
+    ((room : ℕ) → IsCause bytes room e) → IfErr result (IsCause bytes room)
 passed_on bytes room (Ok count) e is cause = absurd is
 passed_on bytes room (Err fault) e is cause = subst (IsCause bytes room) (sym is) (cause room)
 
@@ -24,15 +25,18 @@ abbrev by_length : Bool → ℕ
 by_length fits = if fits then DONE else ROOM_TOO_SMALL
 
 -- 0 is asked for where planes fit
-pub done_for : (bytes planes : List ℕ) (room : ℕ) → HasOutcome bytes (Ok planes) → length planes ≤ room → (outcome : Outcome) → HasOutcome bytes outcome → DONE ≡ status_for room outcome
+pub done_for : (bytes planes : List ℕ) (room : ℕ) → HasOutcome bytes (Ok planes) → length planes ≤ room → (outcome : Outcome) → HasOutcome bytes outcome →
+    DONE ≡ status_for room outcome
 done_for bytes planes room has fits outcome other =
     sym (ap (status_for room) (one_outcome planes_of bytes (Ok planes) outcome has other) ∙ ap by_length (le-leb (length planes) room fits))
 
-refused_for : (bytes : List ℕ) (room : ℕ) (e : ReconError) → HasOutcome bytes (Err e) → (outcome : Outcome) → HasOutcome bytes outcome → status_for room (Err e) ≡ status_for room outcome
+refused_for : (bytes : List ℕ) (room : ℕ) (e : ReconError) → HasOutcome bytes (Err e) → (outcome : Outcome) → HasOutcome bytes outcome →
+    status_for room (Err e) ≡ status_for room outcome
 refused_for bytes room e has outcome other = sym (ap (status_for room) (one_outcome planes_of bytes (Err e) outcome has other))
 
 -- and the status of a fault where this is the cause
-pub fault_for : (bytes : List ℕ) (room : ℕ) (fault : PlanFault) (status : ℕ) → IsCause bytes room fault → status ≡ status_of fault → (outcome : Outcome) → HasOutcome bytes outcome
+pub fault_for : (bytes : List ℕ) (room : ℕ) (fault : PlanFault) (status : ℕ) → IsCause bytes room fault → status ≡ status_of fault → (outcome : Outcome) →
+    HasOutcome bytes outcome
     → (status ≡ status_for room outcome) ⊎ (status ≡ OUT_OF_MEMORY)
 fault_for bytes room Memory status cause is outcome other = inr is
 fault_for bytes room RoomTooSmall status (planes, has, small) is outcome other =

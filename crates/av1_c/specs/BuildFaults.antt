@@ -25,8 +25,8 @@ abbrev pub answered : {X : Type 0} → Result X BuildFault → ℕ
 answered (Ok x) = DONE
 answered (Err fault) = build_status fault
 
--- The status that a call asks for: whether the caller's numbers are those of a builder, why the plan refuses the call, and whether the plan, which
--- would then have so many bytes, fits the buffer.
+-- The status that a call asks for: whether the caller's numbers are those of a builder, why the plan refuses the call,
+-- and whether the plan, which would then have so many bytes, fits the buffer.
 abbrev pub asked_status : (valid : Bool) → Option BuildError → (len room : ℕ) → ℕ
 asked_status false refusal len room = BAD_STATE
 asked_status true (Some e) len room = refusal_status e

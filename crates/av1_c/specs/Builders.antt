@@ -1,5 +1,6 @@
 -- What the numbers of C's builder stand for.
-use Rattle.std.specs.Prelude.{◌≡◌, ℕ, ◌+◌, ◌^◌, ◌≤◌, ◌==◌, Bool, true, ◌&&◌, ◌||◌, nat_lt, nat_le, if◌then◌else◌, List, ◌++◌, length, map, take, drop, slice_get}
+use Rattle.std.specs.Prelude.{◌≡◌, ℕ, ◌+◌, ◌^◌, ◌≤◌, ◌==◌, Bool, true, ◌&&◌, ◌||◌, nat_lt, nat_le, if◌then◌else◌, List}
+use Rattle.std.specs.Prelude.{◌++◌, length, map, take, drop, slice_get}
 use Rattle.std.specs.List.{list_all}
 use Rattle.av1_blocks.specs.declared.partition.BlockSize.TheVariants.{BLOCK_4X4}
 use Rattle.av1_blocks.specs.declared.partition.TheConstants.BlockSize as sizes
@@ -37,7 +38,8 @@ header_of n = record {
 
 -- the part of these numbers
 abbrev pub part_of : BuilderPart → Part
-part_of n = if n.kind == 1 then Node n.number n.x n.y else Leaf (or_else (slice_get sizes.ALL n.number) BLOCK_4X4) n.x n.y
+part_of n = if n.kind == 1 then Node n.number n.x n.y
+    else Leaf (or_else (slice_get sizes.ALL n.number) BLOCK_4X4) n.x n.y
 
 -- whether these are the numbers of a part
 abbrev pub is_part : BuilderPart → Bool
@@ -45,7 +47,11 @@ is_part n = n.kind == 1 || (n.kind == 0 && nat_lt n.number 22)
 
 -- how far the plan has come
 abbrev pub state_of : Builder → State
-state_of b = record { slot = b.slot; parts = record { parts = map part_of b.parts; count = b.count }; left = record { row = b.row; col = b.col } }
+state_of b = record {
+  slot = b.slot;
+  parts = record { parts = map part_of b.parts; count = b.count };
+  left = record { row = b.row; col = b.col };
+}
 
 -- whether these are the numbers of a builder over a buffer of this length
 abbrev pub is_builder : Builder → ℕ → Bool
@@ -59,7 +65,8 @@ plan_of b room =
 
 -- ---- what a call leaves
 
--- So many bytes of the buffer were kept, and behind them these were written, up to this end. What stands behind it is as before.
+-- So many bytes of the buffer were kept, and behind them these were written, up to this end. What stands behind it is
+-- as before.
 pub record AreAppended (room room' more : List ℕ) (written end : ℕ) : Type 0 where
   pub end_is : end ≡ written + length more
   pub fits : end ≤ length room

@@ -9,7 +9,9 @@ use Rattle.av1_c.specs.declared.fault.PlanFault.{PlanFault}
 use Rattle.av1_c.specs.declared.fault.PlanFault.TheVariants.{Memory, RoomTooSmall, TooLong, Malformed, Invalid}
 use Rattle.av1_c.specs.declared.fault.Refusal.{Refusal}
 use Rattle.av1_calls.specs.declared.status.TheConstants.{ROOM_TOO_SMALL}
-use Rattle.av1_c.specs.declared.status.TheConstants.{OUT_OF_MEMORY, TOO_LONG, MALFORMED, INVALID, INVALID_BLOCK_SIZE, TRANSFORM, MODE, VECTOR, MISSING_REFERENCE, COEFFICIENT}
+use Rattle.av1_c.specs.declared.status.TheConstants.{OUT_OF_MEMORY, TOO_LONG, MALFORMED, INVALID}
+use Rattle.av1_c.specs.declared.status.TheConstants.{INVALID_BLOCK_SIZE, INVALID_TRANSFORM, INVALID_MODE}
+use Rattle.av1_c.specs.declared.status.TheConstants.{INVALID_VECTOR, MISSING_REFERENCE, INVALID_COEFFICIENT}
 
 -- an error of parsing
 abbrev pub plan_fault : PlanError → PlanFault
@@ -23,11 +25,11 @@ invalid_fault fault = Invalid fault.leaf fault.kind
 -- the number of a reason
 abbrev pub kind_number : InvalidKind → ℕ
 kind_number kinds.InvalidBlockSize = INVALID_BLOCK_SIZE
-kind_number kinds.Transform = TRANSFORM
-kind_number kinds.Mode = MODE
-kind_number kinds.Vector = VECTOR
+kind_number kinds.Transform = INVALID_TRANSFORM
+kind_number kinds.Mode = INVALID_MODE
+kind_number kinds.Vector = INVALID_VECTOR
 kind_number kinds.MissingReference = MISSING_REFERENCE
-kind_number kinds.Coefficient = COEFFICIENT
+kind_number kinds.Coefficient = INVALID_COEFFICIENT
 
 -- the status of a call that ended so
 abbrev pub status_of : PlanFault → ℕ

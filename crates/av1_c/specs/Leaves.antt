@@ -1,5 +1,6 @@
 -- What the numbers of a leaf stand for.
-use Rattle.std.specs.Prelude.{ℕ, ◌==◌, Bool, ◌&&◌, nat_lt, nat_le, if◌then◌else◌, List, [], ◌∷◌, map, Option, Some, None, slice_get}
+use Rattle.std.specs.Prelude.{ℕ, ◌==◌, Bool, ◌&&◌, nat_lt, nat_le, if◌then◌else◌, List, [], ◌∷◌, map, Option, Some}
+use Rattle.std.specs.Prelude.{None, slice_get}
 use Rattle.av1_blocks.specs.declared.mc.MotionVector.{MotionVector}
 use Rattle.av1_blocks.specs.declared.partition.RefType.{RefType}
 use Rattle.av1_blocks.specs.declared.partition.RefType.TheVariants.{NONE_FRAME}
@@ -26,7 +27,8 @@ use Rattle.av1_c.specs.declared.leaf_numbers.Coefficient.{Coefficient}
 use Rattle.av1_c.specs.declared.leaf_numbers.LeafNumbers.{LeafNumbers}
 use Rattle.av1_c.specs.declared.leaf_numbers.Motion.{Motion}
 
--- the mode of a number: past the last one that of chroma from luma, with which no leaf with two references may be predicted, nor plain chroma
+-- the mode of a number: past the last one that of chroma from luma, with which no leaf with two references may be
+-- predicted, nor plain chroma
 abbrev pub mode_of : ℕ → PredictionMode
 mode_of number = or_else (slice_get modes.ALL number) UV_CFL_PRED
 
@@ -52,14 +54,16 @@ vector_of m = record { row = m.row; col = m.col }
 abbrev pub chroma_of : LeafNumbers → Option ChromaMode
 chroma_of n =
     if n.chroma == 0 then None
-    else (if n.chroma_mode == 13 then Some (Cfl n.alpha_u n.alpha_v) else Some (Plain (mode_of n.chroma_mode) n.chroma_step))
+    else (if n.chroma_mode == 13 then Some (Cfl n.alpha_u n.alpha_v)
+    else Some (Plain (mode_of n.chroma_mode) n.chroma_step))
 
 -- how a leaf is predicted
 abbrev pub kind_of : LeafNumbers → LeafKind
 kind_of n =
     if nat_lt n.mode 14 then Intra (mode_of n.mode) n.step (chroma_of n)
     else (if nat_lt n.mode 20 then Single (mode_of n.mode) (reference_of n.first.reference) (vector_of n.first)
-    else Compound (mode_of n.mode) (reference_of n.first.reference ∷ reference_of n.second.reference ∷ []) (vector_of n.first ∷ vector_of n.second ∷ []))
+    else Compound (mode_of n.mode) (reference_of n.first.reference ∷ reference_of n.second.reference ∷ [])
+    (vector_of n.first ∷ vector_of n.second ∷ []))
 
 -- the type of its chroma transforms, where it carries chroma
 abbrev pub uv_type_of : LeafNumbers → Option TxType
@@ -85,8 +89,8 @@ fields_of n y u v = record {
 abbrev pub leaf_bytes : LeafNumbers → (y u v : List Coefficient) → List ℕ
 leaf_bytes n y u v = let l = fields_of n y u v in fields_text l.kind l.tx_size l.tx_type l.uv_type l.y l.u l.v
 
--- The first reason that holds for which this leaf is refused: no leaf is asked for; a number names nothing, or the fields aren't admitted; or the bytes
--- would be too many.
+-- The first reason that holds for which this leaf is refused: no leaf is asked for; a number names nothing, or the
+-- fields aren't admitted; or the bytes would be too many.
 abbrev pub numbers_refusal : Building → LeafNumbers → (y u v : List Coefficient) → Option BuildError
 numbers_refusal b n y u v =
     let l = fields_of n y u v in

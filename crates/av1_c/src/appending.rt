@@ -69,9 +69,11 @@ pub fn append_planes(
 ) -> Result<usize, BuildFault>
     requires written { written ≤ length room.old }
     requires few { (length y.now ≤ 2 ^ 22) × (length u.now ≤ 2 ^ 22) × (length v.now ≤ 2 ^ 22) }
-    ensures appended { IfOk result (λ end. AreAppended room.old room.new (plane_text depth y.now ++ plane_text depth u.now ++ plane_text depth v.now) written end) }
+    ensures appended { IfOk result
+        (λ end. AreAppended room.old room.new (plane_text depth y.now ++ plane_text depth u.now ++ plane_text depth v.now) written end) }
     ensures fault { IfErr result (λ fault. fault ≡ room_fault (written + length (plane_text depth y.now ++ plane_text depth u.now ++ plane_text depth v.now))) }
-    ensures small { IfErr result (λ fault. fault ≡ faults.RoomTooSmall → length room.old < written + length (plane_text depth y.now ++ plane_text depth u.now ++ plane_text depth v.now)) }
+    ensures small { IfErr result (λ fault. fault ≡ faults.RoomTooSmall →
+        length room.old < written + length (plane_text depth y.now ++ plane_text depth u.now ++ plane_text depth v.now)) }
     ensures kept { OnErr result (room.new ≡ room.old) }
 {
     let len = planes_len(depth, y, u, v);

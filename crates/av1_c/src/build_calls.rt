@@ -4,7 +4,8 @@ ghost use Rattle.std.specs.Prelude.{◌≡◌, ◌≢◌, ◌+◌, ◌≤◌, tr
 ghost use Rattle.av1_plan.specs.Grammar.{plan};
 ghost use Rattle.av1_plan.specs.Plan.{PlanValue};
 ghost use Rattle.av1_plan.specs.Spelling.{AreText};
-ghost use Rattle.av1_planwrite.specs.Building.{Tells, asks_more, begun, header_refusal, mark_refusal, plan_begun, plan_with_reference, reference_refusal, with_mark, with_reference};
+ghost use Rattle.av1_planwrite.specs.Building.{Tells, asks_more, begun, header_refusal, mark_refusal, plan_begun, plan_with_reference, reference_refusal};
+ghost use Rattle.av1_planwrite.specs.Building.{with_mark, with_reference};
 ghost use Rattle.av1_c.specs.BuildFaults.{answered, asked_status};
 ghost use Rattle.av1_c.specs.Builders.{Hold, header_of, is_builder, plan_of};
 
@@ -38,9 +39,11 @@ fn begin(header: &PlanHeader, builder: &mut Builder, room: &mut [u8]) -> Result<
     Ok(())
 }
 
-/// Begins a plan of this header, whose fields stand at the front of `room` then: the first 20 bytes. What `builder` held before is lost.
+/// Begins a plan of this header, whose fields stand at the front of `room` then: the first 20 bytes. What `builder`
+/// held before is lost.
 ///
-/// `DONE`: that was done. `NOT_ADMITTED`: a value of the header is not admitted. `ROOM_TOO_SMALL`: the fields don't fit `room`.
+/// `DONE`: that was done. `NOT_ADMITTED`: a value of the header is not admitted. `ROOM_TOO_SMALL`: the fields don't fit
+/// `room`.
 #[unsafe(no_mangle)]
 pub extern "C" fn av1_builder_begin(
     header: &PlanHeader,
@@ -74,8 +77,11 @@ fn give_reference(
     v: &[u16],
 ) -> Result<(), BuildFault>
     ensures holds { OnOk result (Hold builder.new room.new room.old (with_reference (plan_of builder.old room.old) y.now u.now v.now)) }
-    ensures status { answered result ≡ asked_status (is_builder builder.old (length room.old)) (reference_refusal (plan_of builder.old room.old) y.now u.now v.now) (length (with_reference (plan_of builder.old room.old) y.now u.now v.now).bytes) (length room.old) }
-    ensures told { (p : PlanValue) → Tells (plan_of builder.old room.old) p → OnOk result (Tells (plan_of builder.new room.new) (plan_with_reference p y.now u.now v.now)) }
+    ensures status { answered result ≡ asked_status (is_builder builder.old (length room.old))
+        (reference_refusal (plan_of builder.old room.old) y.now u.now v.now) (length (with_reference (plan_of builder.old room.old) y.now u.now v.now).bytes)
+        (length room.old) }
+    ensures told { (p : PlanValue) → Tells (plan_of builder.old room.old) p →
+        OnOk result (Tells (plan_of builder.new room.new) (plan_with_reference p y.now u.now v.now)) }
     ensures kept { OnErr result ((builder.new ≡ builder.old) × (room.new ≡ room.old)) }
 {
     let mut progress = builder.progress(room.len())?;
@@ -88,8 +94,9 @@ fn give_reference(
 
 /// Gives the planes of the next slot of the mask, each row by row: they are appended to the bytes in `room`.
 ///
-/// `DONE`: that was done. `NOT_NOW`: no planes are asked for. `NOT_ADMITTED`: a plane has another number of samples, or one of them is not below
-/// `1 << depth`. `TOO_LONG`: the bytes would be more than 2^26. `ROOM_TOO_SMALL`: they would not fit `room`. `BAD_STATE`: `builder` is none over `room`.
+/// `DONE`: that was done. `NOT_NOW`: no planes are asked for. `NOT_ADMITTED`: a plane has another number of samples, or
+/// one of them is not below `1 << depth`. `TOO_LONG`: the bytes would be more than 2^26. `ROOM_TOO_SMALL`: they would
+/// not fit `room`. `BAD_STATE`: `builder` is none over `room`.
 #[unsafe(no_mangle)]
 pub extern "C" fn av1_builder_reference(
     builder: &mut Builder,
@@ -101,9 +108,11 @@ pub extern "C" fn av1_builder_reference(
     // Exactly these planes are appended.
     ensures done { result ≡ DONE → Hold builder.new room.new room.old (with_reference (plan_of builder.old room.old) y.now u.now v.now) }
     // The status is the one that is asked for.
-    ensures status { result ≡ asked_status (is_builder builder.old (length room.old)) (reference_refusal (plan_of builder.old room.old) y.now u.now v.now) (length (with_reference (plan_of builder.old room.old) y.now u.now v.now).bytes) (length room.old) }
+    ensures status { result ≡ asked_status (is_builder builder.old (length room.old)) (reference_refusal (plan_of builder.old room.old) y.now u.now v.now)
+        (length (with_reference (plan_of builder.old room.old) y.now u.now v.now).bytes) (length room.old) }
     // What the bytes told of a plan before, they tell of it with what is given.
-    ensures told { (p : PlanValue) → Tells (plan_of builder.old room.old) p → result ≡ DONE → Tells (plan_of builder.new room.new) (plan_with_reference p y.now u.now v.now) }
+    ensures told { (p : PlanValue) → Tells (plan_of builder.old room.old) p → result ≡ DONE →
+        Tells (plan_of builder.new room.new) (plan_with_reference p y.now u.now v.now) }
     // After a refusal all is as before.
     ensures kept { result ≢ DONE → (builder.new ≡ builder.old) × (room.new ≡ room.old) }
 {
@@ -119,7 +128,8 @@ pub extern "C" fn av1_builder_reference(
 /// `BadState`, then `NotNow`, then `NotAdmitted`, then `TooLong`, then `RoomTooSmall`.
 fn give_mark(builder: &mut Builder, room: &mut [u8], mark: u8) -> Result<(), BuildFault>
     ensures holds { OnOk result (Hold builder.new room.new room.old (with_mark (plan_of builder.old room.old) mark)) }
-    ensures status { answered result ≡ asked_status (is_builder builder.old (length room.old)) (mark_refusal (plan_of builder.old room.old) mark) (length (with_mark (plan_of builder.old room.old) mark).bytes) (length room.old) }
+    ensures status { answered result ≡ asked_status (is_builder builder.old (length room.old)) (mark_refusal (plan_of builder.old room.old) mark)
+        (length (with_mark (plan_of builder.old room.old) mark).bytes) (length room.old) }
     ensures told { (p : PlanValue) → Tells (plan_of builder.old room.old) p → OnOk result (Tells (plan_of builder.new room.new) p) }
     ensures kept { OnErr result ((builder.new ≡ builder.old) × (room.new ≡ room.old)) }
 {
@@ -133,14 +143,16 @@ fn give_mark(builder: &mut Builder, room: &mut [u8], mark: u8) -> Result<(), Bui
 
 /// Gives the mark of the next node: it is appended to the bytes in `room`.
 ///
-/// `DONE`: that was done. `NOT_NOW`: no mark is asked for. `NOT_ADMITTED`: the node can't have this mark. `TOO_LONG`: the bytes would be more than
-/// 2^26. `ROOM_TOO_SMALL`: they would not fit `room`. `BAD_STATE`: `builder` is none over `room`.
+/// `DONE`: that was done. `NOT_NOW`: no mark is asked for. `NOT_ADMITTED`: the node can't have this mark. `TOO_LONG`:
+/// the bytes would be more than 2^26. `ROOM_TOO_SMALL`: they would not fit `room`. `BAD_STATE`: `builder` is none over
+/// `room`.
 #[unsafe(no_mangle)]
 pub extern "C" fn av1_builder_mark(builder: &mut Builder, room: &mut [u8], mark: u8) -> u32
     // Exactly this mark is appended.
     ensures done { result ≡ DONE → Hold builder.new room.new room.old (with_mark (plan_of builder.old room.old) mark) }
     // The status is the one that is asked for.
-    ensures status { result ≡ asked_status (is_builder builder.old (length room.old)) (mark_refusal (plan_of builder.old room.old) mark) (length (with_mark (plan_of builder.old room.old) mark).bytes) (length room.old) }
+    ensures status { result ≡ asked_status (is_builder builder.old (length room.old)) (mark_refusal (plan_of builder.old room.old) mark)
+        (length (with_mark (plan_of builder.old room.old) mark).bytes) (length room.old) }
     // What the bytes told of a plan before, they tell of it with what is given.
     ensures told { (p : PlanValue) → Tells (plan_of builder.old room.old) p → result ≡ DONE → Tells (plan_of builder.new room.new) p }
     // After a refusal all is as before.
@@ -153,8 +165,8 @@ pub extern "C" fn av1_builder_mark(builder: &mut Builder, room: &mut [u8], mark:
 
 /// Tells how many bytes the plan has, once all its fields are given: those at the front of `room`.
 ///
-/// `DONE`: `len` has the number. `NOT_NOW`: a field is still asked for. `BAD_STATE`: `builder` is none over `room`. The plan can be gone on with
-/// after any of them.
+/// `DONE`: `len` has the number. `NOT_NOW`: a field is still asked for. `BAD_STATE`: `builder` is none over `room`. The
+/// plan can be gone on with after any of them.
 #[unsafe(no_mangle)]
 pub extern "C" fn av1_builder_finish(builder: &Builder, room: &[u8], len: &mut usize) -> u32
     ensures done { result ≡ DONE → take len.new room.now ≡ (plan_of builder.now room.now).bytes }
@@ -162,7 +174,8 @@ pub extern "C" fn av1_builder_finish(builder: &Builder, room: &[u8], len: &mut u
     // They are the text of the plan of which all is told.
     ensures text { (p : PlanValue) → Tells (plan_of builder.now room.now) p → result ≡ DONE → AreText plan (take len.new room.now) p }
     // The status is the one that is asked for.
-    ensures status { result ≡ (if is_builder builder.now (length room.now) then (if asks_more (plan_of builder.now room.now) then NOT_NOW else DONE) else BAD_STATE) }
+    ensures status { result ≡ (if is_builder builder.now (length room.now) then (if asks_more (plan_of builder.now room.now) then NOT_NOW else DONE)
+        else BAD_STATE) }
     ensures kept { result ≢ DONE → len.new ≡ len.old }
 {
     match builder.progress(room.len()) {

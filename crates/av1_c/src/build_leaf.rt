@@ -30,11 +30,13 @@ fn check_leaf(
 ) -> Result<(), BuildError>
     ensures asked { OnOk result (asks_leaf (asked_part (built progress.now [])) ≡ true) }
     ensures numbers { OnOk result (are_numbers leaf.now ≡ true) }
-    ensures admitted { OnOk result (admits_leaf_fields (built progress.now []).header (asked_part (built progress.now [])) (kind_of leaf.now) (uv_type_of leaf.now) y u v ≡ true) }
+    ensures admitted { OnOk result (admits_leaf_fields (built progress.now []).header (asked_part (built progress.now [])) (kind_of leaf.now)
+        (uv_type_of leaf.now) y u v ≡ true) }
     ensures fits { OnOk result (FitsKind (kind_of leaf.now)) }
     ensures few { OnOk result ((y < 2 ^ 16) × (u < 2 ^ 16) × (v < 2 ^ 16)) }
     ensures refused { IfErr result (λ e. argument_refusal (asks_leaf (asked_part (built progress.now [])))
-        (are_numbers leaf.now && admits_leaf_fields (built progress.now []).header (asked_part (built progress.now [])) (kind_of leaf.now) (uv_type_of leaf.now) y u v) ≡ Some e) }
+        (are_numbers leaf.now && admits_leaf_fields (built progress.now []).header (asked_part (built progress.now [])) (kind_of leaf.now)
+        (uv_type_of leaf.now) y u v) ≡ Some e) }
 {
     let Some(Part::Leaf { .. }) = progress.asked_part() else {
         return Err(BuildError::NotNow);
@@ -59,8 +61,12 @@ fn give_leaf(
     v: &[Coefficient],
 ) -> Result<(), BuildFault>
     ensures holds { OnOk result (Hold builder.new room.new room.old (with_leaf (plan_of builder.old room.old) (fields_of leaf.now y.now u.now v.now))) }
-    ensures status { answered result ≡ asked_status (is_builder builder.old (length room.old)) (numbers_refusal (plan_of builder.old room.old) leaf.now y.now u.now v.now) (length (with_leaf (plan_of builder.old room.old) (fields_of leaf.now y.now u.now v.now)).bytes) (length room.old) }
-    ensures told { (p : PlanValue) → Tells (plan_of builder.old room.old) p → OnOk result (Tells (plan_of builder.new room.new) (plan_with_leaf p (asked_part (plan_of builder.old room.old)) (fields_of leaf.now y.now u.now v.now))) }
+    ensures status { answered result ≡ asked_status (is_builder builder.old (length room.old))
+        (numbers_refusal (plan_of builder.old room.old) leaf.now y.now u.now v.now)
+        (length (with_leaf (plan_of builder.old room.old) (fields_of leaf.now y.now u.now v.now)).bytes) (length room.old) }
+    ensures told { (p : PlanValue) → Tells (plan_of builder.old room.old) p →
+        OnOk result
+        (Tells (plan_of builder.new room.new) (plan_with_leaf p (asked_part (plan_of builder.old room.old)) (fields_of leaf.now y.now u.now v.now))) }
     ensures kept { OnErr result ((builder.new ≡ builder.old) × (room.new ≡ room.old)) }
 {
     let mut progress = builder.progress(room.len())?;
@@ -71,11 +77,13 @@ fn give_leaf(
     Ok(())
 }
 
-/// Gives the next leaf, with its coefficients in Y, U and V: its fields are appended to the bytes in `room`. Its size and its place come from the marks.
+/// Gives the next leaf, with its coefficients in Y, U and V: its fields are appended to the bytes in `room`. Its size
+/// and its place come from the marks.
 ///
-/// `DONE`: that was done. `NOT_NOW`: no leaf is asked for. `NOT_ADMITTED`: a number names nothing or is not admitted here, chroma is given though the
-/// leaf carries none or is missing though it does, there are coefficients of chroma that it doesn't carry, or more than 65,535 of a plane.
-/// `TOO_LONG`: the bytes would be more than 2^26. `ROOM_TOO_SMALL`: they would not fit `room`. `BAD_STATE`: `builder` is none over `room`.
+/// `DONE`: that was done. `NOT_NOW`: no leaf is asked for. `NOT_ADMITTED`: a number names nothing or is not admitted
+/// here, chroma is given though the leaf carries none or is missing though it does, there are coefficients of chroma
+/// that it doesn't carry, or more than 65,535 of a plane. `TOO_LONG`: the bytes would be more than 2^26.
+/// `ROOM_TOO_SMALL`: they would not fit `room`. `BAD_STATE`: `builder` is none over `room`.
 #[unsafe(no_mangle)]
 pub extern "C" fn av1_builder_leaf(
     builder: &mut Builder,
@@ -88,9 +96,12 @@ pub extern "C" fn av1_builder_leaf(
     // Exactly the fields of this leaf are appended.
     ensures done { result ≡ DONE → Hold builder.new room.new room.old (with_leaf (plan_of builder.old room.old) (fields_of leaf.now y.now u.now v.now)) }
     // The status is the one that is asked for.
-    ensures status { result ≡ asked_status (is_builder builder.old (length room.old)) (numbers_refusal (plan_of builder.old room.old) leaf.now y.now u.now v.now) (length (with_leaf (plan_of builder.old room.old) (fields_of leaf.now y.now u.now v.now)).bytes) (length room.old) }
+    ensures status { result ≡ asked_status (is_builder builder.old (length room.old))
+        (numbers_refusal (plan_of builder.old room.old) leaf.now y.now u.now v.now)
+        (length (with_leaf (plan_of builder.old room.old) (fields_of leaf.now y.now u.now v.now)).bytes) (length room.old) }
     // What the bytes told of a plan before, they tell of it with what is given.
-    ensures told { (p : PlanValue) → Tells (plan_of builder.old room.old) p → result ≡ DONE → Tells (plan_of builder.new room.new) (plan_with_leaf p (asked_part (plan_of builder.old room.old)) (fields_of leaf.now y.now u.now v.now)) }
+    ensures told { (p : PlanValue) → Tells (plan_of builder.old room.old) p → result ≡ DONE →
+        Tells (plan_of builder.new room.new) (plan_with_leaf p (asked_part (plan_of builder.old room.old)) (fields_of leaf.now y.now u.now v.now)) }
     // After a refusal all is as before.
     ensures kept { result ≢ DONE → (builder.new ≡ builder.old) × (room.new ≡ room.old) }
 {

@@ -4,8 +4,8 @@ ghost use Rattle.av1_c.specs.Faults.{kind_number, invalid_fault, plan_fault, sta
 ghost use Rattle.av1_c.specs.declared.fault.PlanFault.TheVariants as faults;
 
 use crate::status::{
-    COEFFICIENT, INVALID, INVALID_BLOCK_SIZE, MALFORMED, MISSING_REFERENCE, MODE, OUT_OF_MEMORY,
-    TOO_LONG, TRANSFORM, VECTOR,
+    INVALID, INVALID_BLOCK_SIZE, INVALID_COEFFICIENT, INVALID_MODE, INVALID_TRANSFORM,
+    INVALID_VECTOR, MALFORMED, MISSING_REFERENCE, OUT_OF_MEMORY, TOO_LONG,
 };
 use av1_blocks::OutOfMemory;
 use av1_calls::ROOM_TOO_SMALL;
@@ -74,11 +74,11 @@ fn kind_number(kind: InvalidKind) -> u32
 {
     match kind {
         InvalidKind::InvalidBlockSize => INVALID_BLOCK_SIZE,
-        InvalidKind::Transform => TRANSFORM,
-        InvalidKind::Mode => MODE,
-        InvalidKind::Vector => VECTOR,
+        InvalidKind::Transform => INVALID_TRANSFORM,
+        InvalidKind::Mode => INVALID_MODE,
+        InvalidKind::Vector => INVALID_VECTOR,
         InvalidKind::MissingReference => MISSING_REFERENCE,
-        InvalidKind::Coefficient => COEFFICIENT,
+        InvalidKind::Coefficient => INVALID_COEFFICIENT,
     }
 }
 

@@ -28,7 +28,8 @@ pub struct Motion {
     pub reference: u8,
 }
 
-/// The fields of a leaf but its coefficients, by the numbers that they have in a plan. What a leaf doesn't have is left at 0.
+/// The fields of a leaf but its coefficients, by the numbers that they have in a plan. What a leaf doesn't have is left
+/// at 0.
 #[repr(C)]
 #[derive(Clone, Copy)]
 pub struct LeafNumbers {
@@ -69,7 +70,8 @@ impl Coefficient {
     }
 }
 
-// The mode of a number. Past the last one it is that of chroma from luma, which is admitted in none of the places where this is called.
+// The mode of a number. Past the last one it is that of chroma from luma, which is admitted in none of the places where
+// this is called.
 fn mode_of(number: u8) -> PredictionMode
     ensures { result ≡ mode_of number }
 {

@@ -1,23 +1,24 @@
 //! Block reconstruction for C: the calls that an archive exports, over memory of the caller.
 //!
-//! [`av1_planes_len`] tells how many bytes the planes of a plan have, and [`av1_reconstruct_plan`] writes them to a buffer of the caller.
-//! [`av1_builder_begin`] and the calls behind it write a plan field by field to a buffer of the caller, who keeps a [`Builder`] between them, and
-//! take no memory.
-//! The calls on one block (`src/transform_calls.rt`, `src/motion_calls.rt`, `src/intra_calls.rt`) are those of `av1_calls`, and take no memory
-//! either.
-//! Each call tests all of its arguments, and answers one of the statuses of `src/status.rt` and of `av1_calls`. What is owed by the caller is told
-//! by no test: each pointer leads to as many elements as the length beside it says, and what is written overlaps nothing else.
+//! [`av1_planes_len`] tells how many bytes the planes of a plan have, and [`av1_reconstruct_plan`] writes them to a
+//! buffer of the caller. [`av1_builder_begin`] and the calls behind it write a plan field by field to a buffer of the
+//! caller, who keeps a [`Builder`] between them, and take no memory. The calls on one block (`src/transform_calls.rt`,
+//! `src/motion_calls.rt`, `src/intra_calls.rt`) are those of `av1_calls`, and take no memory either.
+//! [`av1_c_version`] tells which version of the archive it is that is called. Each call tests all of its arguments, and
+//! answers one of the statuses of `src/status.rt` and of `av1_calls`. What is owed by the caller is told by no test:
+//! each pointer leads to as many elements as the length beside it says, and what is written overlaps nothing else.
 //!
-//! It stands on `av1_plan` for the grammar and the check of plans, on `av1_recon` for the planes that a plan comes to, on `av1_trace` for
-//! their length, on `av1_planwrite` for what a plan asks for next and the bytes of its fields, and on `av1_calls` for all that is done with
-//! one block.
+//! It stands on `av1_plan` for the grammar and the check of plans, on `av1_recon` for the planes that a plan comes to,
+//! on `av1_trace` for their length, on `av1_planwrite` for what a plan asks for next and the bytes of its fields, and
+//! on `av1_calls` for all that is done with one block.
 //!
-//! Promised: every call returns. Of a call on a plan status `DONE` says that the bytes are a valid plan, and that the front of the buffer is its
-//! planes by the slow definition, the rest of it as before. Each other status has its cause, and leaves the buffer and the count as they were.
-//! The status is the one that the bytes come to (`status_for`, `specs/Plans.antt`), or that of want of memory. Of a builder's call it says that
-//! exactly the fields of the call were appended, and that the builder asks for what the grammar asks for behind them; each other status has its
-//! cause, and leaves the builder and the buffer as they were (`specs/Builders.antt`, `specs/BuildFaults.antt`). A call on a block says what that
-//! of `av1_calls` says.
+//! Promised: every call returns. Of a call on a plan status `DONE` says that the bytes are a valid plan, and that the
+//! front of the buffer is its planes by the slow definition, the rest of it as before. Each other status has its cause,
+//! and leaves the buffer and the count as they were. The status is the one that the bytes come to (`status_for`,
+//! `specs/Plans.antt`), or that of running out of memory. Of a builder's call it says that exactly the fields of the
+//! call were appended, and that the builder asks for what the grammar asks for behind them; each other status has its
+//! cause, and leaves the builder and the buffer as they were (`specs/Builders.antt`, `specs/BuildFaults.antt`). A call
+//! on a block says what that of `av1_calls` says.
 #![tactic(auto)]
 
 mod append_leaf;
@@ -35,6 +36,7 @@ mod planes_length;
 mod reconstruct;
 mod status;
 mod transform_calls;
+mod version;
 
 pub use build_calls::{
     av1_builder_begin, av1_builder_finish, av1_builder_mark, av1_builder_reference,
@@ -54,7 +56,8 @@ pub use plan_header::PlanHeader;
 pub use planes_length::av1_planes_len;
 pub use reconstruct::av1_reconstruct_plan;
 pub use status::{
-    BAD_STATE, COEFFICIENT, INVALID, INVALID_BLOCK_SIZE, MALFORMED, MISSING_REFERENCE, MODE,
-    NOT_ADMITTED, NOT_NOW, OUT_OF_MEMORY, TOO_LONG, TRANSFORM, VECTOR,
+    BAD_STATE, INVALID, INVALID_BLOCK_SIZE, INVALID_COEFFICIENT, INVALID_MODE, INVALID_TRANSFORM,
+    INVALID_VECTOR, MALFORMED, MISSING_REFERENCE, NOT_ADMITTED, NOT_NOW, OUT_OF_MEMORY, TOO_LONG,
 };
 pub use transform_calls::{av1_inverse_transform_add_8, av1_inverse_transform_add_16};
+pub use version::av1_c_version;

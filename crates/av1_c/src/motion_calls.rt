@@ -1,4 +1,5 @@
-//! Blocks that are predicted from references, for C. Each call is that of `av1_calls` of the same name, which says what it does.
+//! Blocks that are predicted from references, for C. Each call is that of `av1_calls` of the same name, which says what
+//! it does.
 ghost use Rattle.std.specs.Prelude.{false, true};
 ghost use Rattle.av1_calls.specs.Motions.{Averages, Prepares, Puts, place};
 

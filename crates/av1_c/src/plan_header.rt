@@ -14,7 +14,8 @@ pub struct PlanHeader {
     pub width: u16,
     /// Rows of luma samples, a multiple of 8 from 8 to 2048.
     pub height: u16,
-    /// The version of the grammar: 1, or 2, in which a node may be cut into four leaves that are a quarter as wide or as high.
+    /// The version of the grammar: 1, or 2, in which a node may be cut into four leaves that are a quarter as wide or
+    /// as high.
     pub version: u8,
     /// Bits of a sample: 8, 10 or 12.
     pub depth: u8,

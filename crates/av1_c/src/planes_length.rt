@@ -37,10 +37,11 @@ fn wanted(bytes: &[u8]) -> Result<usize, PlanFault>
     Ok(planes_len(&header))
 }
 
-/// Tells by the header at the front of a plan how many bytes its planes have: those that [`av1_reconstruct_plan`] writes.
+/// Tells by the header at the front of a plan how many bytes its planes have: those that [`av1_reconstruct_plan`]
+/// writes.
 ///
-/// `DONE`: `len` has the number. `TOO_LONG`, `MALFORMED`: the bytes are refused, the latter for the field that begins at `refusal.at`. All
-/// that stands behind the header is left unread, and no memory is taken.
+/// `DONE`: `len` has the number. `TOO_LONG`, `MALFORMED`: the bytes are refused, the latter for the field that begins
+/// at `refusal.at`. All that stands behind the header is left unread, and no memory is taken.
 #[unsafe(no_mangle)]
 pub extern "C" fn av1_planes_len(bytes: &[u8], len: &mut usize, refusal: &mut Refusal) -> u32
     // The bytes begin with a header, and this is the length of its planes.

@@ -56,12 +56,13 @@ fn write_planes(alloc: Global, plan: &Plan, room: &mut [u8]) -> Result<usize, Pl
             room[..len].copy_from_slice(sink.bytes());
             Ok(len)
         }
-        // The sink has room for all planes, so that nothing but want of memory stops it.
+        // The sink has room for all planes, so that nothing but running out of memory stops it.
         Err(_) => Err(PlanFault::Memory),
     }
 }
 
-/// Writes the visible planes of the plan that these bytes are to the front of the buffer, and says how many bytes they have.
+/// Writes the visible planes of the plan that these bytes are to the front of the buffer, and says how many bytes they
+/// have.
 ///
 /// # Errors
 ///
@@ -75,12 +76,12 @@ fn reconstruct_into(alloc: Global, bytes: &[u8], room: &mut [u8]) -> Result<usiz
     write_planes(alloc, &plan, room)
 }
 
-/// Reconstructs the plan that these bytes are, and writes its visible planes to the front of `room`: Y, U and V, each row by row, one byte a
-/// sample at depth 8, else two, the low one first. `written` then has the number of bytes.
+/// Reconstructs the plan that these bytes are, and writes its visible planes to the front of `room`: Y, U and V, each
+/// row by row, one byte a sample at depth 8, else two, the low one first. `written` then has the number of bytes.
 ///
-/// `DONE`: that was done. `TOO_LONG`, `MALFORMED`, `INVALID`: the bytes are refused, for the field that begins at `refusal.at`, or for leaf
-/// `refusal.leaf` and by the reason `refusal.kind`. `ROOM_TOO_SMALL`: the planes of the plan are longer than `room`. `OUT_OF_MEMORY`: memory
-/// ran out.
+/// `DONE`: that was done. `TOO_LONG`, `MALFORMED`, `INVALID`: the bytes are refused, for the field that begins at
+/// `refusal.at`, or for leaf `refusal.leaf` and by the reason `refusal.kind`. `ROOM_TOO_SMALL`: the planes of the plan
+/// are longer than `room`. `OUT_OF_MEMORY`: memory ran out.
 #[unsafe(no_mangle)]
 pub extern "C" fn av1_reconstruct_plan(
     alloc: Global,
@@ -89,12 +90,14 @@ pub extern "C" fn av1_reconstruct_plan(
     written: &mut usize,
     refusal: &mut Refusal,
 ) -> u32
-    // The bytes are a valid plan, the front of the buffer is its planes by the slow definition, and the rest of it is as it was.
+    // The bytes are a valid plan, the front of the buffer is its planes by the slow definition, and the rest of it is
+    // as it was.
     ensures done { result ≡ DONE → ComeToPlanes bytes.now (λ planes. AreWritten planes room.old room.new written.new) }
     // The bytes are refused, and this is why.
     ensures too_long { (result ≡ TOO_LONG) ↔ (max_plan_bytes < length bytes.now) }
     ensures malformed { result ≡ MALFORMED → (at : ℕ) × HasOutcome bytes.now (Err (errors.Malformed at)) × (refusal.new ≡ malformed_at at) }
-    ensures invalid { result ≡ INVALID → (leaf : ℕ) × ((kind : InvalidKind) × HasOutcome bytes.now (Err (errors.Invalid leaf kind)) × (refusal.new ≡ invalid_leaf leaf kind)) }
+    ensures invalid { result ≡ INVALID →
+        (leaf : ℕ) × ((kind : InvalidKind) × HasOutcome bytes.now (Err (errors.Invalid leaf kind)) × (refusal.new ≡ invalid_leaf leaf kind)) }
     // The bytes are a valid plan, and its planes are longer than the buffer.
     ensures small { result ≡ ROOM_TOO_SMALL → ComeToPlanes bytes.now (λ planes. length room.old < length planes) }
     // The status is the one that the bytes and the length of the buffer ask for, unless memory ran out.

@@ -1,5 +1,5 @@
-//! The numbers that only calls on plans answer with; `av1_calls` has those that calls on blocks have, too. C's header and the Rust crate have
-//! the same under the same names.
+//! The numbers that only calls on plans answer with; `av1_calls` has those that calls on blocks have, too. C's header
+//! and the Rust crate have the same under the same names.
 
 /// Memory ran out.
 pub const OUT_OF_MEMORY: u32 = 1;
@@ -26,16 +26,16 @@ pub const BAD_STATE: u32 = 42;
 pub const INVALID_BLOCK_SIZE: u32 = 1;
 
 /// A transform is longer than its leaf, or of a type that its size does not have.
-pub const TRANSFORM: u32 = 2;
+pub const INVALID_TRANSFORM: u32 = 2;
 
 /// A mode, an angle step or an alpha that its leaf cannot have.
-pub const MODE: u32 = 3;
+pub const INVALID_MODE: u32 = 3;
 
 /// A motion vector out of range.
-pub const VECTOR: u32 = 4;
+pub const INVALID_VECTOR: u32 = 4;
 
 /// A reference to a slot without planes.
 pub const MISSING_REFERENCE: u32 = 5;
 
 /// A coefficient out of order, out of its block or out of range.
-pub const COEFFICIENT: u32 = 6;
+pub const INVALID_COEFFICIENT: u32 = 6;

@@ -13,7 +13,8 @@ pub denied : {P : Type 0} (told : Bool) → (P → told ≡ true) → told ≡ f
 denied told tells untrue p = let e : true ≡ false = sym (tells p) ∙ untrue in cc
 
 abbrev arguments : List BadArgument
-arguments = bad.Size ∷ bad.Kind ∷ bad.Depth ∷ bad.Area ∷ bad.Short ∷ bad.Coefficient ∷ bad.Sample ∷ bad.Mode ∷ bad.Angle ∷ bad.Fraction ∷ bad.Sampling ∷ bad.Pad ∷ []
+arguments = bad.Size ∷ bad.Kind ∷ bad.Depth ∷ bad.Area ∷ bad.Short ∷ bad.Coefficient ∷ bad.Sample ∷ bad.Mode ∷ bad.Angle ∷ bad.Fraction ∷ bad.Sampling ∷
+    bad.Pad ∷ []
 
 abbrev argument_of : ℕ → BadArgument
 argument_of status = slice_index_or arguments (status - 6) bad.Size
@@ -26,14 +27,18 @@ pub one_argument : (fault other : BadArgument) → argument_status fault ≡ arg
 one_argument fault other is = sym (argument_back fault) ∙ ap argument_of is ∙ argument_back other
 
 -- some coefficient is too large, as a test tells
-pub too_large : (depth size_number type_number stride x y : ℕ) (coefficients : List ℤ) (samples : ℕ) (size : TxSize) (type : TxType) (told : Bool) → IsBlock size_number type_number stride x y (length coefficients) samples size type
-    → IsDepth depth → (AllFitDepth depth size coefficients → told ≡ true) → told ≡ false → HasTooLarge depth size_number type_number stride x y coefficients samples
+pub too_large : (depth size_number type_number stride x y : ℕ) (coefficients : List ℤ) (samples : ℕ) (size : TxSize) (type : TxType) (told : Bool) →
+    IsBlock size_number type_number stride x y (length coefficients) samples size type
+    → IsDepth depth → (AllFitDepth depth size coefficients → told ≡ true) → told ≡ false →
+    HasTooLarge depth size_number type_number stride x y coefficients samples
 too_large depth size_number type_number stride x y coefficients samples size type told block is tells failed =
     (size, (type, (block, (is, denied told tells failed))))
 
 -- a call that added a residue
-pub adds_residue : (wide : Bool) (depth size_number type_number stride x y : ℕ) (coefficients : List ℤ) (before after : List ℕ) (size : TxSize) (type : TxType) → IsBlock size_number type_number stride x y (length coefficients) (length before) size type
-    → IfWide wide (AreOfDepth depth size coefficients) → after ≡ with_residue depth stride x y size type coefficients before → AddsResidue wide depth size_number type_number stride x y coefficients before after 0
+pub adds_residue : (wide : Bool) (depth size_number type_number stride x y : ℕ) (coefficients : List ℤ) (before after : List ℕ) (size : TxSize)
+    (type : TxType) → IsBlock size_number type_number stride x y (length coefficients) (length before) size type
+    → IfWide wide (AreOfDepth depth size coefficients) → after ≡ with_residue depth stride x y size type coefficients before →
+    AddsResidue wide depth size_number type_number stride x y coefficients before after 0
 adds_residue wide depth size_number type_number stride x y coefficients before after size type block fit added = record {
   done = λ _. (size, (type, (block, (fit, added))));
   asked = λ _ _ _ _. refl;

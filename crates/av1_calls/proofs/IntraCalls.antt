@@ -19,15 +19,18 @@ use Rattle.av1_calls.specs.IntraBlocks.{AreLong, block_of, mode_in, variant_in, 
 use Rattle.av1_calls.specs.declared.intra.IntraBlock.{IntraBlock}
 
 -- the rectangle of the block does not lie in the samples
-pub outside_of : (stride x y samples : ℕ) (size : TxSize) (area : StoredArea) → area ≡ rectangle x y size → ¬ AreRows stride area samples → ¬ AreRows stride (rectangle x y size) samples
+pub outside_of : (stride x y samples : ℕ) (size : TxSize) (area : StoredArea) → area ≡ rectangle x y size → ¬ AreRows stride area samples →
+    ¬ AreRows stride (rectangle x y size) samples
 outside_of stride x y samples size area placed never = λ rows. never (subst (λ (a : StoredArea). AreRows stride a samples) (sym placed) rows)
 
 -- what is as long as one block reads it is so for the same block
-pub long_for : (block other : DirectionalBlock) (variant v : PredictionVariant) (mode m : PredictionMode) (left above ac : ℕ) → block ≡ other → variant ≡ v → mode ≡ m
+pub long_for : (block other : DirectionalBlock) (variant v : PredictionVariant) (mode m : PredictionMode) (left above ac : ℕ) → block ≡ other → variant ≡ v →
+    mode ≡ m
     → AreLong other v m left above ac → AreLong block variant mode left above ac
 long_for block other variant v mode m left above ac e f h long =
     subst (λ (k : DirectionalBlock). AreLong k variant mode left above ac) (sym e)
-    (subst (λ (k : PredictionVariant). AreLong other k mode left above ac) (sym f) (subst (λ (k : PredictionMode). AreLong other v k left above ac) (sym h) long))
+    (subst (λ (k : PredictionVariant). AreLong other k mode left above ac) (sym f)
+    (subst (λ (k : PredictionMode). AreLong other v k left above ac) (sym h) long))
 
 -- no depth is below 8
 pub least_depth : (depth : ℕ) → IsDepth depth → 8 ≤ depth
@@ -37,16 +40,19 @@ least_depth depth (inr (inr e)) = omega (arith, e)
 
 -- so few steps give an angle that directional prediction takes
 pub turned_angle : (mode : PredictionMode) (step : ℤ) → unsigned_abs step ≤ 3 → is_directional mode ≡ true
-    → unsigned_abs (angle_or_alpha mode (AngleDelta step)) ≢ 90 → unsigned_abs (angle_or_alpha mode (AngleDelta step)) ≢ 180 → is_interpolated (unsigned_abs (angle_or_alpha mode (AngleDelta step))) ≡ true
+    → unsigned_abs (angle_or_alpha mode (AngleDelta step)) ≢ 90 → unsigned_abs (angle_or_alpha mode (AngleDelta step)) ≢ 180 →
+    is_interpolated (unsigned_abs (angle_or_alpha mode (AngleDelta step))) ≡ true
 turned_angle mode step few h = angle_fine mode h (angle_or_alpha mode (AngleDelta step)) (angle_given mode (AngleDelta step) few (omega arith))
 
 -- what was painted in the block's own words is what the call says
-pub predicted_so : {T : Type 0} (num : T → ℕ) (pixel : ℕ → T) (b : IntraBlock) (mode m : PredictionMode) (size : TxSize) (stride x y : ℕ) (left : List T) (corner : T) (above : List T) (ac : List ℤ) (alpha z : ℤ)
+pub predicted_so : {T : Type 0} (num : T → ℕ) (pixel : ℕ → T) (b : IntraBlock) (mode m : PredictionMode) (size : TxSize) (stride x y : ℕ) (left : List T)
+    (corner : T) (above : List T) (ac : List ℤ) (alpha z : ℤ)
     → (before after : List T) (area : StoredArea) (block : DirectionalBlock) (v : PredictionVariant)
     → area ≡ rectangle x y size → m ≡ mode_in b mode → v ≡ variant_in b → block ≡ block_of b (mode_in b mode) size → z ≡ alpha
     → after ≡ paint stride area (λ r c _. pixel (predicted block v m z (ac_at block.width ac) (edge_round num left (num corner) above) r c)) before
     → after ≡ with_prediction num pixel b mode stride x y size left corner above ac alpha before
-predicted_so {T} num pixel b mode m size stride x y left corner above ac alpha z before after area block v area_is mode_is variant_is block_is alpha_is painted =
+predicted_so {T} num pixel b mode m size stride x y left corner above ac alpha z before after area block v area_is mode_is variant_is block_is alpha_is
+    painted =
     let P = λ (a : StoredArea) (k : DirectionalBlock) (u : PredictionVariant) (n : PredictionMode) (w : ℤ).
     paint stride a (λ r c (_ : T). pixel (predicted k u n w (ac_at k.width ac) (edge_round num left (num corner) above) r c)) before in
     let A = rectangle x y size in

@@ -1,5 +1,6 @@
 -- Eight lanes that samples are taken in to, each the greater of what it was and of one of them.
-use Rattle.std.proofs.Common.{◌≡◌, ℕ, suc, ◌+◌, ◌-◌, ◌*◌, ◌^◌, ◌<◌, ◌≤◌, Bool, true, false, cond, ltb, leb, List, [], ◌∷◌, map, length, get_or, replicate, refl, sym, ap, subst, ◌∙◌, inl, inr, arith, w16}
+use Rattle.std.proofs.Common.{◌≡◌, ℕ, suc, ◌+◌, ◌-◌, ◌*◌, ◌^◌, ◌<◌, ◌≤◌, Bool, true, false, cond, ltb, leb, List, [], ◌∷◌, map, length, get_or, replicate, refl}
+use Rattle.std.proofs.Common.{sym, ap, subst, ◌∙◌, inl, inr, arith, w16}
 use Rattle.std.proofs.lemmas.Bool.{cases_lt, ltb-true, ltb-false}
 use Rattle.std.proofs.lemmas.Simd.{length-zip2, get_or-zip2, get_or-sel_l, get_or-replicate, tops_compared, length-chunk, get_or-chunk}
 use lib.Lanes.{zip2, sel_l, mask_l, top, chunk}
@@ -19,7 +20,8 @@ at_most a b = cond (leb a b) 65535 0
 abbrev pub chosen : List ℕ → List ℕ → List ℕ
 chosen old new = sel_l (map (top 15) (zip2 less old new)) new old
 
-greater_lane : (old new : List ℕ) → length old ≡ 8 → length new ≡ 8 → (i : ℕ) → i < 8 → get_or (chosen old new) i 0 ≡ cond (ltb (get_or old i 0) (get_or new i 0)) (get_or new i 0) (get_or old i 0)
+greater_lane : (old new : List ℕ) → length old ≡ 8 → length new ≡ 8 → (i : ℕ) → i < 8 →
+    get_or (chosen old new) i 0 ≡ cond (ltb (get_or old i 0) (get_or new i 0)) (get_or new i 0) (get_or old i 0)
 greater_lane old new p q i h =
     let long : length (zip2 ltb old new) ≡ 8 = length-zip2 ltb old new (p ∙ sym q) ∙ p in
     ap (λ ms. get_or (sel_l ms new old) i 0) (tops_compared w16 ltb old new)
@@ -48,11 +50,13 @@ both_below a b n h k = go (ltb a b)
     go false = h
 
 -- the greater of lanes and of eight samples
-pub takes_in : (samples : List ℕ) (start : ℕ) (old : List ℕ) → length old ≡ 8 → start + 8 ≤ length samples → TakesIn samples start 8 old (chosen old (chunk start 8 samples))
+pub takes_in : (samples : List ℕ) (start : ℕ) (old : List ℕ) → length old ≡ 8 → start + 8 ≤ length samples →
+    TakesIn samples start 8 old (chosen old (chunk start 8 samples))
 takes_in samples start old long room =
     let new : List ℕ = chunk start 8 samples in
     let q : length new ≡ 8 = length-chunk start 8 samples room in
-    let is : (i : ℕ) → i < 8 → get_or (chosen old new) i 0 ≡ cond (ltb (get_or old i 0) (get_or new i 0)) (get_or new i 0) (get_or old i 0) = greater_lane old new long q in
+    let is : (i : ℕ) → i < 8 → get_or (chosen old new) i 0 ≡ cond (ltb (get_or old i 0) (get_or new i 0)) (get_or new i 0) (get_or old i 0) =
+    greater_lane old new long q in
     let sample : (i : ℕ) → i < 8 → get_or new i 0 ≡ get_or samples (start + i) 0 = λ i h. get_or-chunk start 8 samples i 0 h in
     record {
       lanes = λ n all i h. old_below _ _ n (subst (λ (x : ℕ). x < n) (is i h) (all i h));
@@ -61,7 +65,8 @@ takes_in samples start old long room =
     }
 
 -- samples from t on are taken in behind those from s on, and may be among these
-pub taken_on : (samples : List ℕ) (s m t k n : ℕ) {old mid new : List ℕ} → TakesIn samples s m old mid → TakesIn samples t k mid new → s ≤ t → t ≤ s + m → s + n ≡ t + k → m ≤ n → TakesIn samples s n old new
+pub taken_on : (samples : List ℕ) (s m t k n : ℕ) {old mid new : List ℕ} → TakesIn samples s m old mid → TakesIn samples t k mid new → s ≤ t → t ≤ s + m →
+    s + n ≡ t + k → m ≤ n → TakesIn samples s n old new
 taken_on samples s m t k n first second low near ends more = record {
   lanes = λ b all. first.lanes b (second.lanes b all);
   each = λ b all i h. elim (cases_lt i m) [
@@ -80,7 +85,8 @@ no_rows stride area samples = record {
 }
 
 -- one row more
-pub row_on : (stride : ℕ) (area : StoredArea) (samples : List ℕ) (rows : ℕ) {old new : List ℕ} → TakesInRows stride area samples rows old → TakesIn samples (row_start stride area rows) area.width old new → TakesInRows stride area samples (rows + 1) new
+pub row_on : (stride : ℕ) (area : StoredArea) (samples : List ℕ) (rows : ℕ) {old new : List ℕ} → TakesInRows stride area samples rows old →
+    TakesIn samples (row_start stride area rows) area.width old new → TakesInRows stride area samples (rows + 1) new
 row_on stride area samples rows first row = record {
   each = λ b all r c h k. elim (cases_lt r rows) [
     | inl lt ↦ first.each b (row.lanes b all) r c lt k
@@ -109,7 +115,8 @@ pub next_row : (stride r : ℕ) (area : StoredArea) → row_start stride area r 
 next_row stride r area = grind arith
 
 -- the mask of lanes that reach a bound, where none does
-pub none_reaches : (bound : ℕ) (lanes : List ℕ) → ((i : ℕ) → i < length lanes → get_or lanes i 0 < bound) → mask_l (map (top 15) (zip2 at_most (replicate (length lanes) bound) lanes)) ≡ 0
+pub none_reaches : (bound : ℕ) (lanes : List ℕ) → ((i : ℕ) → i < length lanes → get_or lanes i 0 < bound) →
+    mask_l (map (top 15) (zip2 at_most (replicate (length lanes) bound) lanes)) ≡ 0
 none_reaches bound [] below = refl
 none_reaches bound (x ∷ xs) below =
     let first : leb bound x ≡ false = grind (arith, below 0 (omega arith)) in

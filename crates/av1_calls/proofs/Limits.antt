@@ -31,6 +31,9 @@ limits_on bits n numbers least greatest number least' greatest' is old l0 l1 le 
         | inl lt ↦ (let o = old.high k lt in omega (arith, ints, o, g0))
         | inr from ↦ (let e : k ≡ n = omega arith in subst (λ (m : ℕ). at numbers m ≤ℤ greatest') (sym e) (subst (λ (z : ℤ). z ≤ℤ greatest') is g1))
       ];
-      least_fits = λ all. either_fits bits least' least number le (old.least_fits (λ k h. all k (omega arith))) (subst (FitsBits bits) (sym is) (all n (omega arith)));
-      greatest_fits = λ all. either_fits bits greatest' greatest number ge (old.greatest_fits (λ k h. all k (omega arith))) (subst (FitsBits bits) (sym is) (all n (omega arith)));
+      least_fits =
+          λ all. either_fits bits least' least number le (old.least_fits (λ k h. all k (omega arith))) (subst (FitsBits bits) (sym is) (all n (omega arith)));
+      greatest_fits =
+          λ all. either_fits bits greatest' greatest number ge (old.greatest_fits (λ k h. all k (omega arith)))
+          (subst (FitsBits bits) (sym is) (all n (omega arith)));
     }

@@ -1,5 +1,6 @@
 -- The differences of the luma of a rectangle of samples.
-use Rattle.std.proofs.Common.{refl, ℕ, zero, suc, ℤ, min, max, ◌≡◌, ◌∙◌, ◌+◌, ◌-◌, ◌*◌, ◌/◌, ◌%◌, ◌^◌, ◌<◌, ◌≤◌, inl, inr, List, length, take, map, get_or, slice_index, pos, ◌+ℤ◌, unsigned_abs, arith, ap, sym, subst}
+use Rattle.std.proofs.Common.{refl, ℕ, zero, suc, ℤ, min, max, ◌≡◌, ◌∙◌, ◌+◌, ◌-◌, ◌*◌, ◌/◌, ◌%◌, ◌^◌, ◌<◌, ◌≤◌, inl, inr, List, length, take, map, get_or}
+use Rattle.std.proofs.Common.{slice_index, pos, ◌+ℤ◌, unsigned_abs, arith, ap, sym, subst}
 use Rattle.std.proofs.lemmas.Bool.{cases_lt}
 use Rattle.std.proofs.lemmas.Bool.Decides.{nat_tests}
 use Rattle.std.proofs.lemmas.Int.{ints}
@@ -29,8 +30,10 @@ front_sample : {T : Type 0} (num : T → ℕ) (samples : List T) (n k : ℕ) →
 front_sample num samples n k h = ap (λ xs. get_or xs k 0) (sym (take-map num n samples)) ∙ get_or-take n (map num samples) k 0 h
 
 -- its samples are those of the rectangle
-pub region_same : {T : Type 0} (num : T → ℕ) (stride : ℕ) (area : StoredArea) (samples front : List T) (cfg : PlaneConfig) (visible : Area) (r : PlaneRegion T) → AreRows stride area (length samples)
-    → front ≡ take ((area.y + area.height) * stride) samples → cfg ≡ bare_config stride (area.y + area.height) area → visible ≡ Rectangle (pos 0) (pos 0) area.width area.height
+pub region_same : {T : Type 0} (num : T → ℕ) (stride : ℕ) (area : StoredArea) (samples front : List T) (cfg : PlaneConfig) (visible : Area)
+    (r : PlaneRegion T) → AreRows stride area (length samples)
+    → front ≡ take ((area.y + area.height) * stride) samples → cfg ≡ bare_config stride (area.y + area.height) area →
+    visible ≡ Rectangle (pos 0) (pos 0) area.width area.height
     → r.samples.now ≡ front → r.plane_cfg ≡ cfg → r.area ≡ area_from cfg (from_origin cfg) visible
     → (p q : ℕ) → p < area.width → q < area.height → region_sample num r p q ≡ luma_in stride area (map num samples) p q
 region_same num stride area samples front cfg visible r lies front_is cfg_is visible_is samples_are kept placed p q h k =
@@ -40,17 +43,20 @@ region_same num stride area samples front cfg visible r lies front_is cfg_is vis
     let i : unsigned_abs (pos area.x +ℤ pos 0) ≡ area.x = omega (arith, ints) in
     let j : unsigned_abs (pos area.y +ℤ pos 0) ≡ area.y = omega (arith, ints) in
     let line : (unsigned_abs (pos area.y +ℤ pos 0) + q) * stride ≡ (area.y + q) * stride = ap (λ v. (v + q) * stride) j in
-    let ends : (area.y + q) * stride + (area.x + p + 1) ≤ n = row_end_le (area.y + q) (area.y + area.height) stride (area.x + p + 1) n refl (omega arith) (omega (arith, lies.columns)) in
+    let ends : (area.y + q) * stride + (area.x + p + 1) ≤ n =
+    row_end_le (area.y + q) (area.y + area.height) stride (area.x + p + 1) n refl (omega arith) (omega (arith, lies.columns)) in
     ap (λ v. get_or (map num v) (row_start r.plane_cfg.stride r.area q + p) 0) (samples_are ∙ front_is)
     ∙ ap (λ (v : PlaneConfig). get_or numbers (row_start v.stride r.area q + p) 0) (kept ∙ cfg_is)
-    ∙ ap (λ (v : StoredArea). get_or numbers (row_start stride v q + p) 0) (placed ∙ ap (λ (c : PlaneConfig). area_from c (from_origin c) visible) cfg_is ∙ ap (area_from bare (from_origin bare)) visible_is)
+    ∙ ap (λ (v : StoredArea). get_or numbers (row_start stride v q + p) 0) (placed ∙ ap (λ (c : PlaneConfig). area_from c (from_origin c) visible) cfg_is
+    ∙ ap (area_from bare (from_origin bare)) visible_is)
     ∙ ap (λ v. get_or numbers v 0) (omega (arith, i, line))
     ∙ front_sample num samples n (row_start stride area q + p) (omega (arith, ends))
 
 -- ---- what is read
 
 -- how much of a side is read: the side, or all up to the last sample that chroma begins at and what it covers
-pub read_side : (side pad decimation longest read : ℕ) → decimation ≤ 1 → 4 * pad < side → side ≤ 32 → longest ≡ max ((side - 4 * pad) * 2 ^ decimation % 2 ^ 64) 8 → read ≡ min (side * 2 ^ decimation % 2 ^ 64) longest
+pub read_side : (side pad decimation longest read : ℕ) → decimation ≤ 1 → 4 * pad < side → side ≤ 32 →
+    longest ≡ max ((side - 4 * pad) * 2 ^ decimation % 2 ^ 64) 8 → read ≡ min (side * 2 ^ decimation % 2 ^ 64) longest
     → read ≡ min (side * 2 ^ decimation) (last_begun ((side - 4 * pad) * 2 ^ decimation) decimation + 2 ^ decimation)
 read_side side pad zero longest read few some short e f = omega (arith, e, f)
 read_side side pad (suc zero) longest read few some short e f = omega (arith, e, f)
@@ -76,4 +82,5 @@ differences_same f g size w_pad h_pad xdec ydec before after x y some agree put 
     let w : ℕ = block_width size in
     let h : ℕ = block_height size in
     put ∙ row_same (w * h) _ _ before (λ k v l.
-    luma_difference_same f g (padded_block size w_pad h_pad xdec ydec) x y agree (k / w) (k % w) ((div-lt_iff_lt-mul some).1 (subst (λ n. k < n) (mul_comm w h) l)) (mod-lt k some))
+    luma_difference_same f g (padded_block size w_pad h_pad xdec ydec) x y agree (k / w) (k % w)
+    ((div-lt_iff_lt-mul some).1 (subst (λ n. k < n) (mul_comm w h) l)) (mod-lt k some))

@@ -1,5 +1,6 @@
 -- What a block is read from is what the motion of `av1_inter` reads.
-use Rattle.std.proofs.Common.{refl, ℕ, ℤ, ◌≡◌, ◌∙◌, ◌+◌, ◌-◌, ◌*◌, ◌<◌, ◌≤◌, List, length, take, map, get_or, slice_index, pos, ◌+ℤ◌, ◌-ℤ◌, unsigned_abs, FitsSigned, w32, to_z, of_z, arith, ap, sym, subst}
+use Rattle.std.proofs.Common.{refl, ℕ, ℤ, ◌≡◌, ◌∙◌, ◌+◌, ◌-◌, ◌*◌, ◌<◌, ◌≤◌, List, length, take, map, get_or, slice_index, pos, ◌+ℤ◌, ◌-ℤ◌, unsigned_abs}
+use Rattle.std.proofs.Common.{FitsSigned, w32, to_z, of_z, arith, ap, sym, subst}
 use Rattle.std.proofs.lemmas.Int.{ints, to_z-of_z}
 use Rattle.std.proofs.lemmas.List.{get_or-map, places}
 use Rattle.av1_blocks.specs.declared.mc.FilterMode.{FilterMode}
@@ -31,11 +32,13 @@ rows_long from block n m =
     subst (λ (r : ℕ). r * from.stride ≤ n) last m.source.rows.rows
 
 -- and so does each sample
-pub read_inside : (from : Place) (block : MotionBlock) (n : ℕ) → IsMotion from block n → (c r : ℕ) → c < block.width + 7 → r < block.height + 7 → (from.y - 3 + r) * from.stride + (from.x - 3) + c < rows_for from block * from.stride
+pub read_inside : (from : Place) (block : MotionBlock) (n : ℕ) → IsMotion from block n → (c r : ℕ) → c < block.width + 7 → r < block.height + 7 →
+    (from.y - 3 + r) * from.stride + (from.x - 3) + c < rows_for from block * from.stride
 read_inside from block n m c r h k =
     let s = m.source in
     let ends : (from.y - 3 + r) * from.stride + (from.x - 3 + c + 1) ≤ rows_for from block * from.stride =
-    row_end_le (from.y - 3 + r) (rows_for from block) from.stride (from.x - 3 + c + 1) (rows_for from block * from.stride) refl (omega (arith, s.top)) (omega (arith, s.left, s.rows.columns)) in
+    row_end_le (from.y - 3 + r) (rows_for from block) from.stride (from.x - 3 + c + 1) (rows_for from block * from.stride) refl (omega (arith, s.top))
+    (omega (arith, s.left, s.rows.columns)) in
     omega (arith, ends)
 
 several : (a b : ℕ) → 0 < b → a ≤ a * b
@@ -92,7 +95,8 @@ module _ {T : Type 0} (from : Place) (block : MotionBlock) (src : List T) (motio
       ∙ ap (λ k. slice_index (map num (take n src)) k) same
       ∙ front_sample num src n i (read_inside from block (length src) motion c r h k) (rows_long from block (length src) motion)
 
-  module _ (at : PlaneSlice T) (samples : at.samples.now ≡ take (rows_for from block * from.stride) src) (cfg : at.plane_cfg.now ≡ config_of from block) (x : at.x ≡ pos 0) (y : at.y ≡ pos 0) where
+  module _ (at : PlaneSlice T) (samples : at.samples.now ≡ take (rows_for from block * from.stride) src) (cfg : at.plane_cfg.now ≡ config_of from block)
+      (x : at.x ≡ pos 0) (y : at.y ≡ pos 0) where
     -- all that is read is stored
     pub read_stored : IsStoredFrom (corner_of at) (block.width + 7) (block.height + 7)
     read_stored =
@@ -110,7 +114,8 @@ module _ {T : Type 0} (from : Place) (block : MotionBlock) (src : List T) (motio
         }
 
     -- and each sample is that of the source
-    pub read_same : (num : T → ℕ) (c r : ℕ) → c < block.width + 7 → r < block.height + 7 → samples_from num (corner_of at) c r ≡ source_at from (map num src) c r
+    pub read_same : (num : T → ℕ) (c r : ℕ) → c < block.width + 7 → r < block.height + 7 →
+        samples_from num (corner_of at) c r ≡ source_at from (map num src) c r
     read_same num c r h k =
         ap (λ (p : Plane T). stored_sample num p (at.x -ℤ pos 3 +ℤ pos c) (at.y -ℤ pos 3 +ℤ pos r)) (slice_plane_is at read_plane samples cfg)
         ∙ ap (λ z. stored_sample num read_plane (z -ℤ pos 3 +ℤ pos c) (at.y -ℤ pos 3 +ℤ pos r)) x
@@ -124,17 +129,21 @@ fraction_is z n h e =
     subst (λ (u : ℤ). unsigned_abs (to_z w32 (of_z w32 u)) ≡ n) (sym e) (ap unsigned_abs (to_z-of_z w32 (pos n) fits))
 
 -- what is painted of the place that is read is the block
-pub put_is : {T : Type 0} (pixel : ℕ → T) (depth : ℕ) (to : Place) (block : MotionBlock) (old new : List T) (area : StoredArea) (fx fy : ℕ) (mx my : FilterMode) (s t : ℕ → ℕ → ℕ)
-    → area ≡ rectangle_at to block.width block.height → fx ≡ block.col_frac → fy ≡ block.row_frac → mx ≡ filter_mode block.filter_x → my ≡ filter_mode block.filter_y
+pub put_is : {T : Type 0} (pixel : ℕ → T) (depth : ℕ) (to : Place) (block : MotionBlock) (old new : List T) (area : StoredArea) (fx fy : ℕ) (mx my : FilterMode)
+    (s t : ℕ → ℕ → ℕ)
+    → area ≡ rectangle_at to block.width block.height → fx ≡ block.col_frac → fy ≡ block.row_frac → mx ≡ filter_mode block.filter_x →
+    my ≡ filter_mode block.filter_y
     → ((c r : ℕ) → c < block.width + 7 → r < block.height + 7 → s c r ≡ t c r)
     → new ≡ paint to.stride area (λ r c _. pixel (single depth fx fy (filter_of mx fx area.width) (filter_of my fy area.height) s r c)) old
     → new ≡ paint to.stride (rectangle_at to block.width block.height) (λ r c _. pixel (moved_sample depth block t r c)) old
 put_is pixel depth to block old new area fx fy mx my s t placed ex ey mx_is my_is same e =
     let a : StoredArea = rectangle_at to block.width block.height in
-    let P = λ (i j : ℕ) (m n : FilterMode). paint to.stride a (λ r c _. pixel (single depth i j (filter_of m i block.width) (filter_of n j block.height) s r c)) old in
+    let P = λ (i j : ℕ) (m n : FilterMode). paint to.stride a (λ r c _. pixel (single depth i j (filter_of m i block.width) (filter_of n j block.height) s r c))
+    old in
     e
     ∙ ap (λ (b : StoredArea). paint to.stride b (λ r c _. pixel (single depth fx fy (filter_of mx fx b.width) (filter_of my fy b.height) s r c)) old) placed
-    ∙ ap (λ i. P i fy mx my) ex ∙ ap (λ j. P block.col_frac j mx my) ey ∙ ap (λ m. P block.col_frac block.row_frac m my) mx_is ∙ ap (λ n. P block.col_frac block.row_frac (filter_mode block.filter_x) n) my_is
+    ∙ ap (λ i. P i fy mx my) ex ∙ ap (λ j. P block.col_frac j mx my) ey ∙ ap (λ m. P block.col_frac block.row_frac m my) mx_is
+    ∙ ap (λ n. P block.col_frac block.row_frac (filter_mode block.filter_x) n) my_is
     ∙ paint_same to.stride a _ (λ r c _. pixel (moved_sample depth block t r c)) old
     (λ r c v l h. ap pixel (single_moved depth _ _ s t r c c (λ x y i j. same (c + x) (r + y) (omega arith) (omega arith)) block.col_frac block.row_frac))
 
@@ -142,7 +151,8 @@ put_is pixel depth to block old new area fx fy mx my s t placed ex ey mx_is my_i
 pub prep_is : (depth : ℕ) (block : MotionBlock) (before after : List ℤ) (fx fy : ℕ) (mx my : FilterMode) (s t : ℕ → ℕ → ℕ)
     → fx ≡ block.col_frac → fy ≡ block.row_frac → mx ≡ filter_mode block.filter_x → my ≡ filter_mode block.filter_y
     → ((c r : ℕ) → c < block.width + 7 → r < block.height + 7 → s c r ≡ t c r)
-    → ((r c : ℕ) → r < block.height → c < block.width → entry after (r * block.width + c) ≡ prepared depth fx fy (filter_of mx fx block.width) (filter_of my fy block.height) s r c)
+    → ((r c : ℕ) → r < block.height → c < block.width →
+    entry after (r * block.width + c) ≡ prepared depth fx fy (filter_of mx fx block.width) (filter_of my fy block.height) s r c)
     → ((i : ℕ) → block.height * block.width ≤ i → entry after i ≡ entry before i)
     → HoldBlock depth block t before after
 prep_is depth block before after fx fy mx my s t ex ey mx_is my_is same values others =

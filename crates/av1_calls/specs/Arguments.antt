@@ -9,7 +9,9 @@ use Rattle.av1_blocks.specs.declared.transform.TxSize.{TxSize}
 use Rattle.av1_frame.specs.declared.plane_region.StoredArea.{StoredArea}
 use Rattle.av1_calls.specs.declared.argument.BadArgument.{BadArgument}
 use Rattle.av1_calls.specs.declared.argument.BadArgument.TheVariants as bad
-use Rattle.av1_calls.specs.declared.status.TheConstants.{BAD_SIZE, BAD_TYPE, BAD_DEPTH, BAD_AREA, TOO_SHORT, BAD_COEFFICIENT, BAD_SAMPLE, BAD_MODE, BAD_ANGLE, BAD_FRACTION, BAD_SAMPLING, BAD_PAD}
+use Rattle.av1_calls.specs.declared.status.TheConstants.{BAD_SIZE, BAD_TYPE, BAD_DEPTH, BAD_AREA, TOO_SHORT}
+use Rattle.av1_calls.specs.declared.status.TheConstants.{BAD_COEFFICIENT, BAD_SAMPLE, BAD_MODE, BAD_ANGLE, BAD_FRACTION}
+use Rattle.av1_calls.specs.declared.status.TheConstants.{BAD_SAMPLING, BAD_PAD}
 
 abbrev pub argument_status : BadArgument → ℕ
 argument_status bad.Size = BAD_SIZE

@@ -1,7 +1,8 @@
--- What the calls that predict a block by an intra mode say of their arguments: of the block in numbers, of where its first sample stands
--- (column x of row y), of rows that stand `stride` apart, and of how many samples there are, on each side and in all.
--- AV1 specification: intra prediction process.
-use Rattle.std.specs.Prelude.{◌≡◌, ◌≢◌, ◌⊎◌, ℕ, ◌*◌, ◌≤◌, ◌==◌, IsTrue, not, if◌then◌else◌, Bool, false, List, [], length, Option, None, Some, slice_get, ℤ, pos, unsigned_abs}
+-- What the calls that predict a block by an intra mode say of their arguments: of the block in numbers, of where its
+-- first sample stands (column x of row y), of rows that stand `stride` apart, and of how many samples there are, on
+-- each side and in all. AV1 specification: intra prediction process.
+use Rattle.std.specs.Prelude.{◌≡◌, ◌≢◌, ◌⊎◌, ℕ, ◌*◌, ◌≤◌, ◌==◌, IsTrue, not, if◌then◌else◌, Bool, false, List, []}
+use Rattle.std.specs.Prelude.{length, Option, None, Some, slice_get, ℤ, pos, unsigned_abs}
 use Rattle.av1_blocks.specs.Depths.{IsDepth}
 use Rattle.av1_blocks.specs.Modes.{is_cfl, is_directional, is_intra}
 use Rattle.av1_blocks.specs.Transforms.{tx_height, tx_width}
@@ -20,7 +21,8 @@ use Rattle.av1_calls.specs.Arguments.{HasNoSize, IsSize, rectangle}
 use Rattle.av1_calls.specs.declared.argument.BadArgument.{BadArgument}
 use Rattle.av1_calls.specs.declared.argument.BadArgument.TheVariants as bad
 use Rattle.av1_calls.specs.declared.intra.IntraBlock.{IntraBlock}
-use Rattle.av1_calls.specs.declared.status.TheConstants.{BAD_ANGLE, BAD_AREA, BAD_DEPTH, BAD_MODE, BAD_SIZE, DONE, TOO_SHORT}
+use Rattle.av1_calls.specs.declared.status.TheConstants.{BAD_ANGLE, BAD_AREA, BAD_DEPTH, BAD_MODE, BAD_SIZE, DONE}
+use Rattle.av1_calls.specs.declared.status.TheConstants.{TOO_SHORT}
 
 -- ---- what is asked for
 
@@ -65,17 +67,20 @@ block_of b mode size = record {
 }
 
 -- The sides, and luma's differences, are as long as a block reads them that is predicted by this mode.
-pub record AreLong (b : DirectionalBlock) (variant : PredictionVariant) (mode : PredictionMode) (left above ac : ℕ) : Type 0 where
+pub record AreLong (b : DirectionalBlock) (variant : PredictionVariant) (mode : PredictionMode)
+    (left above ac : ℕ) : Type 0 where
   pub left_long : places_left mode variant b.p_angle b.width b.height ≤ left
   pub above_long : places_above mode variant b.p_angle b.width b.height ≤ above
   pub ac_long : IsTrue (is_cfl mode) → b.width * b.height ≤ ac
 
 -- the same of a block in numbers
 abbrev pub HasSides : IntraBlock → PredictionMode → TxSize → (left above ac : ℕ) → Type 0
-HasSides b mode size left above ac = AreLong (block_of b (mode_in b mode) size) (variant_in b) (mode_in b mode) left above ac
+HasSides b mode size left above ac =
+    AreLong (block_of b (mode_in b mode) size) (variant_in b) (mode_in b mode) left above ac
 
 -- The block has this size, and all else that prediction by this mode asks for, where samples have so many bits.
-pub record IsIntraBlock (bits : ℕ) (b : IntraBlock) (mode : PredictionMode) (stride x y left above ac samples : ℕ) (size : TxSize) : Type 0 where
+pub record IsIntraBlock (bits : ℕ) (b : IntraBlock) (mode : PredictionMode) (stride x y left above ac samples : ℕ)
+    (size : TxSize) : Type 0 where
   pub sized : IsSize b.tx_size size
   pub turn : IsTurn mode b.angle_step
   pub depth : IsDepthWithin bits b.bit_depth
@@ -83,10 +88,14 @@ pub record IsIntraBlock (bits : ℕ) (b : IntraBlock) (mode : PredictionMode) (s
   pub sides : HasSides b mode size left above ac
 
 -- the samples with those of the rectangle predicted by this mode; all others stay
-abbrev pub with_prediction : {T : Type 0} → (T → ℕ) → (ℕ → T) → IntraBlock → PredictionMode → (stride x y : ℕ) → TxSize → (left : List T) → (corner : T) → (above : List T) → (ac : List ℤ) → (alpha : ℤ) → List T → List T
+abbrev pub with_prediction : {T : Type 0} → (T → ℕ) → (ℕ → T) → IntraBlock → PredictionMode → (stride x y : ℕ) →
+    TxSize → (left : List T) → (corner : T) → (above : List T) → (ac : List ℤ) → (alpha : ℤ) → List T → List T
 with_prediction num pixel b mode stride x y size left corner above ac alpha samples =
     let m = mode_in b mode in
-    paint stride (rectangle x y size) (λ r c _. pixel (predicted (block_of b m size) (variant_in b) m alpha (ac_at (tx_width size) ac) (edge_round num left (num corner) above) r c)) samples
+    paint stride (rectangle x y size)
+    (λ r c _.
+    pixel (predicted (block_of b m size) (variant_in b) m alpha (ac_at (tx_width size) ac)
+    (edge_round num left (num corner) above) r c)) samples
 
 -- ---- what is refused: each reason with what is asked before it, so that the first one that holds is told
 
@@ -100,17 +109,25 @@ HasNoAngle b mode = (size : TxSize) × (IsSize b.tx_size size × (¬ IsTurn mode
 
 -- samples of so many bits have no such depth
 abbrev pub HasNoDepth : (bits : ℕ) → IntraBlock → PredictionMode → Type 0
-HasNoDepth bits b mode = (size : TxSize) × (IsSize b.tx_size size × (IsTurn mode b.angle_step × (¬ IsDepthWithin bits b.bit_depth)))
+HasNoDepth bits b mode =
+    (size : TxSize) × (IsSize b.tx_size size × (IsTurn mode b.angle_step × (¬ IsDepthWithin bits b.bit_depth)))
 
 -- the block does not lie in the samples
 abbrev pub LiesOutside : (bits : ℕ) → IntraBlock → PredictionMode → (stride x y samples : ℕ) → Type 0
 LiesOutside bits b mode stride x y samples =
-    (size : TxSize) × (IsSize b.tx_size size × (IsTurn mode b.angle_step × (IsDepthWithin bits b.bit_depth × (¬ AreRows stride (rectangle x y size) samples))))
+    (size : TxSize) ×
+    (IsSize b.tx_size size ×
+    (IsTurn mode b.angle_step ×
+    (IsDepthWithin bits b.bit_depth × (¬ AreRows stride (rectangle x y size) samples))))
 
 -- a side, or luma, is shorter than the block reads it
 abbrev pub HasShortSides : (bits : ℕ) → IntraBlock → PredictionMode → (stride x y left above ac samples : ℕ) → Type 0
 HasShortSides bits b mode stride x y left above ac samples =
-    (size : TxSize) × (IsSize b.tx_size size × (IsTurn mode b.angle_step × (IsDepthWithin bits b.bit_depth × (AreRows stride (rectangle x y size) samples × (¬ HasSides b mode size left above ac)))))
+    (size : TxSize) ×
+    (IsSize b.tx_size size ×
+    (IsTurn mode b.angle_step ×
+    (IsDepthWithin bits b.bit_depth ×
+    (AreRows stride (rectangle x y size) samples × (¬ HasSides b mode size left above ac)))))
 
 -- ---- what the calls say: samples of at most so many bits were `before` and are `after`, and `answer` is the status
 
@@ -164,17 +181,20 @@ pub record Predicts {T : Type 0} (bits : ℕ) (num : T → ℕ) (pixel : ℕ →
 
 -- ---- why nothing is written: words of private contracts
 
-abbrev pub IsIntraFault : (bits : ℕ) → IntraBlock → PredictionMode → (stride x y left above ac samples : ℕ) → BadArgument → Type 0
+abbrev pub IsIntraFault : (bits : ℕ) → IntraBlock → PredictionMode → (stride x y left above ac samples : ℕ) →
+    BadArgument → Type 0
 IsIntraFault bits b mode stride x y left above ac samples bad.Size = HasNoSize b.tx_size
 IsIntraFault bits b mode stride x y left above ac samples bad.Angle = HasNoAngle b mode
 IsIntraFault bits b mode stride x y left above ac samples bad.Depth = HasNoDepth bits b mode
 IsIntraFault bits b mode stride x y left above ac samples bad.Area = LiesOutside bits b mode stride x y samples
-IsIntraFault bits b mode stride x y left above ac samples bad.Short = HasShortSides bits b mode stride x y left above ac samples
+IsIntraFault bits b mode stride x y left above ac samples bad.Short =
+    HasShortSides bits b mode stride x y left above ac samples
 IsIntraFault bits b mode stride x y left above ac samples fault = ⊥
 
 -- ---- words of private contracts
 
 -- The sides by themselves are as long as a block reads them that is predicted by this mode.
-pub record AreSidesLong (b : DirectionalBlock) (variant : PredictionVariant) (mode : PredictionMode) (left above : ℕ) : Type 0 where
+pub record AreSidesLong (b : DirectionalBlock) (variant : PredictionVariant) (mode : PredictionMode)
+    (left above : ℕ) : Type 0 where
   pub left_long : places_left mode variant b.p_angle b.width b.height ≤ left
   pub above_long : places_above mode variant b.p_angle b.width b.height ≤ above

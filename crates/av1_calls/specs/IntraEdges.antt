@@ -1,7 +1,7 @@
--- What the calls that prepare the edge of a transform say of their arguments: of a plane and a tile, of the transform in numbers, and of how
--- many samples there are.
--- AV1 specification: intra prediction process: general.
-use Rattle.std.specs.Prelude.{◌≡◌, ◌≢◌, ◌⊎◌, ℕ, ◌+◌, ◌-◌, ◌*◌, ◌^◌, ◌<◌, ◌≤◌, ◌==◌, not, if◌then◌else◌, IsTrue, List, [], ◌∷◌, drop, length, map, reverse, take, Option, None, Some, slice_get, ℤ, pos}
+-- What the calls that prepare the edge of a transform say of their arguments: of a plane and a tile, of the transform
+-- in numbers, and of how many samples there are. AV1 specification: intra prediction process: general.
+use Rattle.std.specs.Prelude.{◌≡◌, ◌≢◌, ◌⊎◌, ℕ, ◌+◌, ◌-◌, ◌*◌, ◌^◌, ◌<◌, ◌≤◌, ◌==◌, not, if◌then◌else◌, IsTrue, List}
+use Rattle.std.specs.Prelude.{[], ◌∷◌, drop, length, map, reverse, take, Option, None, Some, slice_get, ℤ, pos}
 use Rattle.av1_avail.specs.Cells.{transform_columns, transform_rows}
 use Rattle.av1_blocks.specs.declared.partition.BlockSize.{BlockSize}
 use Rattle.av1_blocks.specs.declared.partition.TheConstants.BlockSize as block_sizes
@@ -26,7 +26,8 @@ use Rattle.av1_calls.specs.declared.argument.BadArgument.TheVariants as bad
 use Rattle.av1_calls.specs.declared.intra_edge.EdgeBlock.{EdgeBlock}
 use Rattle.av1_calls.specs.declared.intra_edge.EdgePlane.{EdgePlane}
 use Rattle.av1_calls.specs.declared.intra_edge.TheConstants.{ANY_MODE, EDGE_SAMPLES}
-use Rattle.av1_calls.specs.declared.status.TheConstants.{BAD_ANGLE, BAD_AREA, BAD_DEPTH, BAD_MODE, BAD_SIZE, DONE, ROOM_TOO_SMALL}
+use Rattle.av1_calls.specs.declared.status.TheConstants.{BAD_ANGLE, BAD_AREA, BAD_DEPTH, BAD_MODE, BAD_SIZE, DONE}
+use Rattle.av1_calls.specs.declared.status.TheConstants.{ROOM_TOO_SMALL}
 
 -- ---- what is asked for
 
@@ -56,7 +57,10 @@ halvings halved = if halved == 0 then 0 else 1
 
 -- the plane's settings
 abbrev pub config_of : EdgePlane → PlaneConfig
-config_of p = record (bare_config p.stride (p.y + p.height) (plane_of p)) { xdec = halvings p.halved_columns; ydec = halvings p.halved_rows }
+config_of p = record (bare_config p.stride (p.y + p.height) (plane_of p)) {
+  xdec = halvings p.halved_columns;
+  ydec = halvings p.halved_rows;
+}
 
 -- r is the tile in these samples
 pub record IsTile {T : Type 0} (r : PlaneRegion T) (p : EdgePlane) (samples : List T) : Type 0 where
@@ -84,7 +88,8 @@ pub record IsNamed (b : EdgeBlock) (mode : Option PredictionMode) (size : TxSize
   pub blocked : IsBlockSize b.block_size block
 
 -- The numbers name a transform that has an edge, where samples have so many bits, and the room holds it.
-pub record IsEdge (bits : ℕ) (p : EdgePlane) (b : EdgeBlock) (samples room : ℕ) (mode : Option PredictionMode) (size : TxSize) (block : BlockSize) : Type 0 where
+pub record IsEdge (bits : ℕ) (p : EdgePlane) (b : EdgeBlock) (samples room : ℕ) (mode : Option PredictionMode)
+    (size : TxSize) (block : BlockSize) : Type 0 where
   pub roomy : EDGE_SAMPLES ≤ room
   pub moded : IsEdgeMode b.mode mode
   pub sized : IsSize b.tx_size size
@@ -102,11 +107,14 @@ abbrev pub place_of : EdgeBlock → PlaneOffset
 place_of b = record { x = pos b.x; y = pos b.y }
 
 -- the edge in a region
-abbrev pub edge_in : {T : Type 0} → (T → ℕ) → PlaneRegion T → EdgeBlock → Option PredictionMode → TxSize → BlockSize → Edge
+abbrev pub edge_in : {T : Type 0} → (T → ℕ) → PlaneRegion T → EdgeBlock → Option PredictionMode → TxSize → BlockSize →
+    Edge
 edge_in num r b mode size block =
-    prepared_edge num r (position_of (cell_of b) b.unit_x b.unit_y block (place_of b) size) b.bit_depth mode (not (b.edge_filter == 0)) (AngleDelta b.angle_step)
+    prepared_edge num r (position_of (cell_of b) b.unit_x b.unit_y block (place_of b) size) b.bit_depth mode
+    (not (b.edge_filter == 0)) (AngleDelta b.angle_step)
 
--- The room holds the edge: the left side from the bottom up before sample 128, which is the corner, and the side above behind it.
+-- The room holds the edge: the left side from the bottom up before sample 128, which is the corner, and the side above
+-- behind it.
 pub record HoldsEdge {T : Type 0} (num : T → ℕ) (e : Edge) (room : List T) : Type 0 where
   pub few_left : length e.left ≤ 128
   pub few_above : length e.above ≤ 128
@@ -114,23 +122,31 @@ pub record HoldsEdge {T : Type 0} (num : T → ℕ) (e : Edge) (room : List T) :
   pub corner : map num (part 128 1 room) ≡ e.corner ∷ []
   pub above : map num (part 129 (length e.above) room) ≡ e.above
 
--- ---- what is refused of a room that is long enough: each reason with what is asked before it, so that the first one that holds is told
+-- ---- what is refused of a room that is long enough: each reason with what is asked before it, so that the first one
+-- that holds is told
 
 abbrev pub HasNoEdgeMode : ℕ → Type 0
 HasNoEdgeMode number = (mode : Option PredictionMode) → ¬ IsEdgeMode number mode
 
 -- no size of transforms has the number, or no size of blocks
 abbrev pub HasNoSizes : EdgeBlock → Type 0
-HasNoSizes b = (mode : Option PredictionMode) × (IsEdgeMode b.mode mode × (HasNoSize b.tx_size ⊎ (slice_get block_sizes.ALL b.block_size ≡ None)))
+HasNoSizes b =
+    (mode : Option PredictionMode) ×
+    (IsEdgeMode b.mode mode × (HasNoSize b.tx_size ⊎ (slice_get block_sizes.ALL b.block_size ≡ None)))
 
 -- the mode does not turn so many steps
 abbrev pub HasNoTurn : EdgeBlock → Type 0
-HasNoTurn b = (mode : Option PredictionMode) × ((size : TxSize) × ((block : BlockSize) × (IsNamed b mode size block × (¬ IsEdgeTurn mode b.angle_step))))
+HasNoTurn b =
+    (mode : Option PredictionMode) ×
+    ((size : TxSize) × ((block : BlockSize) × (IsNamed b mode size block × (¬ IsEdgeTurn mode b.angle_step))))
 
 -- samples of so many bits have no such depth
 abbrev pub HasNoDepth : (bits : ℕ) → EdgeBlock → Type 0
 HasNoDepth bits b =
-    (mode : Option PredictionMode) × ((size : TxSize) × ((block : BlockSize) × (IsNamed b mode size block × (IsEdgeTurn mode b.angle_step × (¬ IsDepthWithin bits b.bit_depth)))))
+    (mode : Option PredictionMode) ×
+    ((size : TxSize) ×
+    ((block : BlockSize) ×
+    (IsNamed b mode size block × (IsEdgeTurn mode b.angle_step × (¬ IsDepthWithin bits b.bit_depth)))))
 
 -- the plane or the tile lies outside of what it should lie in, or the transform begins there
 abbrev pub HasNoPlace : (bits : ℕ) → EdgePlane → EdgeBlock → (samples : ℕ) → Type 0
@@ -140,7 +156,8 @@ HasNoPlace bits p b samples =
 
 -- ---- what the calls say
 
--- Of the edge of a transform: what its room held `before` and holds `after`, where samples have at most so many bits. `answer` is the status.
+-- Of the edge of a transform: what its room held `before` and holds `after`, where samples have at most so many bits.
+-- `answer` is the status.
 pub record PreparesEdge {T : Type 0} (bits : ℕ) (num : T → ℕ) (plane : EdgePlane) (at : EdgeBlock)
     (samples before after : List T) (answer : ℕ) : Type 0 where
   -- The arguments name a transform in a tile, and the room holds the edge that is prepared there.

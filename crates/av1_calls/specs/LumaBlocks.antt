@@ -1,6 +1,6 @@
--- What the calls that give chroma from luma its luma say of their arguments: of a block of chroma in numbers, of where its luma begins
--- (column x of row y), of rows that stand `stride` apart, and of how many samples there are, and how many differences.
--- AV1 specification: predict chroma from luma process.
+-- What the calls that give chroma from luma its luma say of their arguments: of a block of chroma in numbers, of where
+-- its luma begins (column x of row y), of rows that stand `stride` apart, and of how many samples there are, and how
+-- many differences. AV1 specification: predict chroma from luma process.
 use Rattle.std.specs.Prelude.{◌≡◌, ◌≢◌, ◌⊎◌, Bool, ℕ, ◌*◌, ◌^◌, ◌<◌, ◌≤◌, List, length, Some, slice_get, ℤ}
 use Rattle.av1_blocks.specs.Blocks.{block_height, block_width}
 use Rattle.av1_blocks.specs.Depths.{IsDepth}
@@ -14,7 +14,8 @@ use Rattle.av1_calls.specs.Samples.{AreBelow, area_sample}
 use Rattle.av1_calls.specs.declared.argument.BadArgument.{BadArgument}
 use Rattle.av1_calls.specs.declared.argument.BadArgument.TheVariants as bad
 use Rattle.av1_calls.specs.declared.luma.CflBlock.{CflBlock}
-use Rattle.av1_calls.specs.declared.status.TheConstants.{BAD_AREA, BAD_DEPTH, BAD_PAD, BAD_SAMPLE, BAD_SAMPLING, BAD_SIZE, DONE, TOO_SHORT}
+use Rattle.av1_calls.specs.declared.status.TheConstants.{BAD_AREA, BAD_DEPTH, BAD_PAD, BAD_SAMPLE, BAD_SAMPLING}
+use Rattle.av1_calls.specs.declared.status.TheConstants.{BAD_SIZE, DONE, TOO_SHORT}
 
 -- ---- what is asked for
 
@@ -46,7 +47,8 @@ luma_area b size x y =
     let block = padded_block size b.w_pad b.h_pad b.xdec b.ydec in
     record { x = x; y = y; width = columns_read block; height = rows_read block }
 
--- The block has this size, its luma lies in so many samples, and there are as many differences as it has samples, or more.
+-- The block has this size, its luma lies in so many samples, and there are as many differences as it has samples, or
+-- more.
 pub record IsCflBlock (b : CflBlock) (stride x y ac samples : ℕ) (size : BlockSize) : Type 0 where
   pub sized : IsChromaSize b.block_size size
   pub sampled : IsSampling b.xdec b.ydec
@@ -55,7 +57,8 @@ pub record IsCflBlock (b : CflBlock) (stride x y ac samples : ℕ) (size : Block
   pub long : block_width size * block_height size ≤ ac
 
 -- the samples have this depth, and none that is read is past it
-pub record IsLumaOfDepth (depth : ℕ) (b : CflBlock) (stride x y : ℕ) (samples : List ℕ) (size : BlockSize) : Type 0 where
+pub record IsLumaOfDepth (depth : ℕ) (b : CflBlock) (stride x y : ℕ) (samples : List ℕ)
+    (size : BlockSize) : Type 0 where
   pub known : IsDepth depth
   pub within : AreBelow (2 ^ depth) stride (luma_area b size x y) samples
 
@@ -68,7 +71,9 @@ luma_in stride area samples p q = area_sample stride area samples q p
 -- the list with the differences of the block's luma from their mean, row by row, in its first entries; all others stay
 abbrev pub with_differences : CflBlock → BlockSize → (stride x y : ℕ) → List ℕ → List ℤ → List ℤ
 with_differences b size stride x y samples ac =
-    with_rows (block_width size) (block_height size) (luma_difference (luma_in stride (luma_area b size x y) samples) (padded_block size b.w_pad b.h_pad b.xdec b.ydec)) ac
+    with_rows (block_width size) (block_height size)
+    (luma_difference (luma_in stride (luma_area b size x y) samples)
+    (padded_block size b.w_pad b.h_pad b.xdec b.ydec)) ac
 
 -- ---- what is refused: each reason with what is asked before it, so that the first one that holds is told
 
@@ -85,21 +90,27 @@ HasNoLuma b = (size : BlockSize) × (IsChromaSize b.block_size size × (IsSampli
 
 -- the luma that is read does not lie in so many samples
 abbrev pub LumaLiesOutside : CflBlock → (stride x y samples : ℕ) → Type 0
-LumaLiesOutside b stride x y samples = (size : BlockSize) × (IsChroma b size × (¬ AreRows stride (luma_area b size x y) samples))
+LumaLiesOutside b stride x y samples =
+    (size : BlockSize) × (IsChroma b size × (¬ AreRows stride (luma_area b size x y) samples))
 
 -- there are fewer differences than the block has samples
 abbrev pub HasFewDifferences : CflBlock → (stride x y ac samples : ℕ) → Type 0
 HasFewDifferences b stride x y ac samples =
-    (size : BlockSize) × (IsChroma b size × (AreRows stride (luma_area b size x y) samples × (ac < block_width size * block_height size)))
+    (size : BlockSize) ×
+    (IsChroma b size ×
+    (AreRows stride (luma_area b size x y) samples × (ac < block_width size * block_height size)))
 
 -- samples have no such depth
 abbrev pub HasNoLumaDepth : (depth : ℕ) → CflBlock → (stride x y ac samples : ℕ) → Type 0
-HasNoLumaDepth depth b stride x y ac samples = (size : BlockSize) × (IsCflBlock b stride x y ac samples size × (¬ IsDepth depth))
+HasNoLumaDepth depth b stride x y ac samples =
+    (size : BlockSize) × (IsCflBlock b stride x y ac samples size × (¬ IsDepth depth))
 
 -- some sample that is read is past the depth
 abbrev pub HasDeepLuma : (depth : ℕ) → CflBlock → (stride x y ac : ℕ) → List ℕ → Type 0
 HasDeepLuma depth b stride x y ac samples =
-    (size : BlockSize) × (IsCflBlock b stride x y ac (length samples) size × (IsDepth depth × (¬ AreBelow (2 ^ depth) stride (luma_area b size x y) samples)))
+    (size : BlockSize) ×
+    (IsCflBlock b stride x y ac (length samples) size ×
+    (IsDepth depth × (¬ AreBelow (2 ^ depth) stride (luma_area b size x y) samples)))
 
 -- ---- what the calls say
 

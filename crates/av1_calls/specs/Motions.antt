@@ -14,7 +14,8 @@ use Rattle.av1_calls.specs.declared.argument.BadArgument.{BadArgument}
 use Rattle.av1_calls.specs.declared.argument.BadArgument.TheVariants as bad
 use Rattle.av1_calls.specs.declared.motion.MotionBlock.{MotionBlock}
 use Rattle.av1_calls.specs.declared.motion.Place.{Place}
-use Rattle.av1_calls.specs.declared.status.TheConstants.{BAD_AREA, BAD_DEPTH, BAD_FRACTION, BAD_MODE, BAD_SAMPLE, BAD_SIZE, DONE, TOO_SHORT}
+use Rattle.av1_calls.specs.declared.status.TheConstants.{BAD_AREA, BAD_DEPTH, BAD_FRACTION, BAD_MODE, BAD_SAMPLE}
+use Rattle.av1_calls.specs.declared.status.TheConstants.{BAD_SIZE, DONE, TOO_SHORT}
 
 -- ---- a block and its places
 
@@ -104,21 +105,26 @@ down_of block = filter_of (filter_mode block.filter_y) block.row_frac block.heig
 
 -- the sample at row r and column c of the block
 abbrev pub moved_sample : (depth : ℕ) → MotionBlock → (ℕ → ℕ → ℕ) → (r c : ℕ) → ℕ
-moved_sample depth block source r c = single depth block.col_frac block.row_frac (across_of block) (down_of block) source r c
+moved_sample depth block source r c =
+    single depth block.col_frac block.row_frac (across_of block) (down_of block) source r c
 
 -- the samples with the block in its rectangle; all others stay
 abbrev pub with_block : (depth : ℕ) → (to : Place) → MotionBlock → (ℕ → ℕ → ℕ) → List ℕ → List ℕ
-with_block depth to block source samples = paint to.stride (rectangle_at to block.width block.height) (λ r c _. moved_sample depth block source r c) samples
+with_block depth to block source samples =
+    paint to.stride (rectangle_at to block.width block.height) (λ r c _. moved_sample depth block source r c) samples
 
 -- Values become those that are prepared of the block, row by row, and what is behind them stays.
 pub record HoldBlock (depth : ℕ) (block : MotionBlock) (source : ℕ → ℕ → ℕ) (before after : List ℤ) : Type 0 where
-  pub values : (r c : ℕ) → r < block.height → c < block.width → entry after (r * block.width + c) ≡ prepared depth block.col_frac block.row_frac (across_of block) (down_of block) source r c
+  pub values : (r c : ℕ) → r < block.height → c < block.width →
+      entry after (r * block.width + c) ≡ prepared depth block.col_frac block.row_frac (across_of block)
+      (down_of block) source r c
   pub others : (i : ℕ) → block.height * block.width ≤ i → entry after i ≡ entry before i
 
 -- the samples with the averages of prepared values in the rectangle; all others stay
 abbrev pub with_average : (depth : ℕ) → (to : Place) → (width height : ℕ) → (first second : List ℤ) → List ℕ → List ℕ
 with_average depth to width height first second samples =
-    paint to.stride (rectangle_at to width height) (λ r c _. averaged depth (entry first (r * width + c)) (entry second (r * width + c))) samples
+    paint to.stride (rectangle_at to width height)
+    (λ r c _. averaged depth (entry first (r * width + c)) (entry second (r * width + c))) samples
 
 -- ---- what is refused: each reason with what is asked before it, so that the first one that holds is told
 
@@ -134,7 +140,9 @@ HasNoSource from block samples = IsMotionBlock block × (¬ IsSource from block 
 
 -- what is read for the block, or the rectangle that it is to become, does not lie in its samples
 abbrev pub HasNoPlace : (to : Place) (room : ℕ) (from : Place) (samples : ℕ) → MotionBlock → Type 0
-HasNoPlace to room from samples block = IsMotionBlock block × ((¬ IsSource from block samples) ⊎ (¬ AreRows to.stride (rectangle_at to block.width block.height) room))
+HasNoPlace to room from samples block =
+    IsMotionBlock block ×
+    ((¬ IsSource from block samples) ⊎ (¬ AreRows to.stride (rectangle_at to block.width block.height) room))
 
 -- there are fewer values than the block has samples
 abbrev pub HasFewValues : (room : ℕ) (from : Place) (samples : ℕ) → MotionBlock → Type 0
@@ -142,7 +150,8 @@ HasFewValues room from samples block = IsMotion from block samples × (room < bl
 
 -- some sample that is read for the block is past the depth
 abbrev pub HasDeepSample : (depth : ℕ) → (from : Place) → List ℕ → MotionBlock → Type 0
-HasDeepSample depth from samples block = IsDepth depth × (¬ AreWithinDepth depth (source_at from samples) (block.width + 7) (block.height + 7))
+HasDeepSample depth from samples block =
+    IsDepth depth × (¬ AreWithinDepth depth (source_at from samples) (block.width + 7) (block.height + 7))
 
 -- the rectangle of an average does not lie in the samples
 abbrev pub LiesNowhere : (to : Place) (room width height : ℕ) → Type 0
@@ -151,7 +160,8 @@ LiesNowhere to room width height = AreSides width height × (¬ AreRows to.strid
 -- one of two blocks has fewer values than their average has samples
 abbrev pub HasFewOfTwo : (to : Place) (room width height first second : ℕ) → Type 0
 HasFewOfTwo to room width height first second =
-    AreSides width height × (AreRows to.stride (rectangle_at to width height) room × ((first < height * width) ⊎ (second < height * width)))
+    AreSides width height ×
+    (AreRows to.stride (rectangle_at to width height) room × ((first < height * width) ⊎ (second < height * width)))
 
 -- the statuses of the calls
 abbrev pub IsPutStatus : (wide : Bool) → ℕ → Type 0
@@ -164,7 +174,8 @@ IsPrepStatus wide status = IsPutStatus wide status ⊎ (status ≡ TOO_SHORT)
 
 abbrev pub IsAverageStatus : (wide : Bool) → ℕ → Type 0
 IsAverageStatus wide status =
-    (status ≡ DONE) ⊎ ((status ≡ BAD_SIZE) ⊎ ((status ≡ BAD_AREA) ⊎ ((status ≡ TOO_SHORT) ⊎ OnlyWide wide (status ≡ BAD_DEPTH))))
+    (status ≡ DONE) ⊎
+    ((status ≡ BAD_SIZE) ⊎ ((status ≡ BAD_AREA) ⊎ ((status ≡ TOO_SHORT) ⊎ OnlyWide wide (status ≡ BAD_DEPTH))))
 
 -- ---- what the calls say: what was `before` them is `after` them as it is told here, and `answer` is their status
 
@@ -280,16 +291,22 @@ IsSampleFault depth from samples block bad.Depth = ¬ IsDepth depth
 IsSampleFault depth from samples block bad.Sample = HasDeepSample depth from samples block
 IsSampleFault depth from samples block _ = ⊥
 
-abbrev pub IsDeepPutFault : (depth : ℕ) (to : Place) (room : ℕ) (from : Place) → List ℕ → MotionBlock → BadArgument → Type 0
-IsDeepPutFault depth to room from samples block bad.Depth = IsPut to room from (length samples) block × (¬ IsDepth depth)
-IsDeepPutFault depth to room from samples block bad.Sample = IsPut to room from (length samples) block × HasDeepSample depth from samples block
+abbrev pub IsDeepPutFault : (depth : ℕ) (to : Place) (room : ℕ) (from : Place) → List ℕ → MotionBlock →
+    BadArgument → Type 0
+IsDeepPutFault depth to room from samples block bad.Depth = IsPut to room from (length samples) block ×
+    (¬ IsDepth depth)
+IsDeepPutFault depth to room from samples block bad.Sample = IsPut to room from (length samples) block ×
+    HasDeepSample depth from samples block
 IsDeepPutFault depth to room from samples block fault = IsPutFault to room from (length samples) block fault
 
 abbrev pub IsDeepPrepFault : (depth room : ℕ) (from : Place) → List ℕ → MotionBlock → BadArgument → Type 0
 IsDeepPrepFault depth room from samples block bad.Depth = IsPrep room from (length samples) block × (¬ IsDepth depth)
-IsDeepPrepFault depth room from samples block bad.Sample = IsPrep room from (length samples) block × HasDeepSample depth from samples block
+IsDeepPrepFault depth room from samples block bad.Sample = IsPrep room from (length samples) block ×
+    HasDeepSample depth from samples block
 IsDeepPrepFault depth room from samples block fault = IsPrepFault room from (length samples) block fault
 
 abbrev pub IsDeepAverageFault : (depth : ℕ) (to : Place) (room width height first second : ℕ) → BadArgument → Type 0
-IsDeepAverageFault depth to room width height first second bad.Depth = IsAverage to room width height first second × (¬ IsDepth depth)
-IsDeepAverageFault depth to room width height first second fault = IsAverageFault to room width height first second fault
+IsDeepAverageFault depth to room width height first second bad.Depth = IsAverage to room width height first second ×
+    (¬ IsDepth depth)
+IsDeepAverageFault depth to room width height first second fault =
+    IsAverageFault to room width height first second fault

@@ -1,6 +1,8 @@
--- What the calls that add a residue say of their arguments: of numbers of a size and a type, of where the first sample stands (column x of
--- row y), of rows that stand `stride` apart, of how many samples there are, and of the coefficients.
-use Rattle.std.specs.Prelude.{◌≡◌, ◌≢◌, ◌⊎◌, Bool, ℕ, ◌+◌, ◌<◌, ◌≤◌, IsTrue, Some, ℤ, pos, ◌+ℤ◌, List, length, slice_get}
+-- What the calls that add a residue say of their arguments: of numbers of a size and a type, of where the first sample
+-- stands (column x of row y), of rows that stand `stride` apart, of how many samples there are, and of the
+-- coefficients.
+use Rattle.std.specs.Prelude.{◌≡◌, ◌≢◌, ◌⊎◌, Bool, ℕ, ◌+◌, ◌<◌, ◌≤◌, IsTrue, Some, ℤ, pos, ◌+ℤ◌, List, length}
+use Rattle.std.specs.Prelude.{slice_get}
 use Rattle.av1_blocks.specs.Depths.{IsDepth}
 use Rattle.av1_blocks.specs.Transforms.{coded_area, valid_av1_transform}
 use Rattle.av1_blocks.specs.declared.transform.TheConstants.TxType as tx_types
@@ -16,7 +18,8 @@ use Rattle.av1_itx.specs.Residue.{residue}
 use Rattle.av1_calls.specs.Arguments.{HasNoSize, IfWide, IsSize, OnlyWide, rectangle}
 use Rattle.av1_calls.specs.declared.argument.BadArgument.{BadArgument}
 use Rattle.av1_calls.specs.declared.argument.BadArgument.TheVariants as bad
-use Rattle.av1_calls.specs.declared.status.TheConstants.{BAD_AREA, BAD_COEFFICIENT, BAD_DEPTH, BAD_SIZE, BAD_TYPE, DONE, TOO_SHORT}
+use Rattle.av1_calls.specs.declared.status.TheConstants.{BAD_AREA, BAD_COEFFICIENT, BAD_DEPTH, BAD_SIZE, BAD_TYPE, DONE}
+use Rattle.av1_calls.specs.declared.status.TheConstants.{TOO_SHORT}
 
 -- ---- what is asked for
 
@@ -35,8 +38,10 @@ pub record IsTransform (size_number type_number : ℕ) (size : TxSize) (type : T
   pub typed : IsType type_number type
   pub runs : IsRunnable size type
 
--- The numbers name a transform, its rectangle lies in so many samples, and there are so many coefficients or more as it has.
-pub record IsBlock (size_number type_number stride x y coefficients samples : ℕ) (size : TxSize) (type : TxType) : Type 0 where
+-- The numbers name a transform, its rectangle lies in so many samples, and there are so many coefficients or more as it
+-- has.
+pub record IsBlock (size_number type_number stride x y coefficients samples : ℕ) (size : TxSize)
+    (type : TxType) : Type 0 where
   pub sized : IsSize size_number size
   pub typed : IsType type_number type
   pub runs : IsRunnable size type
@@ -60,27 +65,38 @@ with_residue depth stride x y size type coefficients samples =
 
 -- the size has no transform of the type of this number, if there is one
 abbrev pub HasNoType : ℕ → ℕ → Type 0
-HasNoType size_number type_number = (size : TxSize) × IsSize size_number size × ((type : TxType) → IsType type_number type → ¬ IsRunnable size type)
+HasNoType size_number type_number = (size : TxSize) × IsSize size_number size ×
+    ((type : TxType) → IsType type_number type → ¬ IsRunnable size type)
 
 -- the rectangle of the transform does not lie in the samples
 abbrev pub HasNoRectangle : (size_number type_number stride x y samples : ℕ) → Type 0
 HasNoRectangle size_number type_number stride x y samples =
-    (size : TxSize) × ((type : TxType) × (IsTransform size_number type_number size type × (¬ AreRows stride (rectangle x y size) samples)))
+    (size : TxSize) ×
+    ((type : TxType) ×
+    (IsTransform size_number type_number size type × (¬ AreRows stride (rectangle x y size) samples)))
 
 -- there are fewer coefficients than it has
 abbrev pub HasTooFew : (size_number type_number stride x y coefficients samples : ℕ) → Type 0
 HasTooFew size_number type_number stride x y coefficients samples =
-    (size : TxSize) × ((type : TxType) × (IsTransform size_number type_number size type × (AreRows stride (rectangle x y size) samples × (coefficients < coded_area size))))
+    (size : TxSize) ×
+    ((type : TxType) ×
+    (IsTransform size_number type_number size type ×
+    (AreRows stride (rectangle x y size) samples × (coefficients < coded_area size))))
 
 -- samples have no such depth
 abbrev pub HasNoDepth : (depth size_number type_number stride x y coefficients samples : ℕ) → Type 0
 HasNoDepth depth size_number type_number stride x y coefficients samples =
-    (size : TxSize) × ((type : TxType) × (IsBlock size_number type_number stride x y coefficients samples size type × (¬ IsDepth depth)))
+    (size : TxSize) ×
+    ((type : TxType) ×
+    (IsBlock size_number type_number stride x y coefficients samples size type × (¬ IsDepth depth)))
 
 -- some coefficient of the transform has too many bits
 abbrev pub HasTooLarge : (depth size_number type_number stride x y : ℕ) → List ℤ → (samples : ℕ) → Type 0
 HasTooLarge depth size_number type_number stride x y coefficients samples =
-    (size : TxSize) × ((type : TxType) × (IsBlock size_number type_number stride x y (length coefficients) samples size type × (IsDepth depth × (¬ AllFitDepth depth size coefficients))))
+    (size : TxSize) ×
+    ((type : TxType) ×
+    (IsBlock size_number type_number stride x y (length coefficients) samples size type ×
+    (IsDepth depth × (¬ AllFitDepth depth size coefficients))))
 
 -- ---- what the calls say
 
@@ -107,7 +123,8 @@ pub record AddsResidue (wide : Bool) (bit_depth size_number type_number stride x
       → OnlyWide wide (HasTooLarge bit_depth size_number type_number stride x y coefficients (length before))
   -- What is refused leaves the samples as they were.
   pub kept : answer ≢ DONE → after ≡ before
-  pub known : (answer ≡ DONE) ⊎ ((answer ≡ BAD_SIZE) ⊎ ((answer ≡ BAD_TYPE) ⊎ ((answer ≡ BAD_AREA) ⊎ ((answer ≡ TOO_SHORT)
+  pub known : (answer ≡ DONE) ⊎
+      ((answer ≡ BAD_SIZE) ⊎ ((answer ≡ BAD_TYPE) ⊎ ((answer ≡ BAD_AREA) ⊎ ((answer ≡ TOO_SHORT)
       ⊎ OnlyWide wide ((answer ≡ BAD_DEPTH) ⊎ (answer ≡ BAD_COEFFICIENT))))))
 
 -- ---- why nothing is written: words of private contracts
@@ -115,11 +132,16 @@ pub record AddsResidue (wide : Bool) (bit_depth size_number type_number stride x
 abbrev pub IsBlockFault : (size_number type_number stride x y coefficients samples : ℕ) → BadArgument → Type 0
 IsBlockFault size_number type_number stride x y coefficients samples bad.Size = HasNoSize size_number
 IsBlockFault size_number type_number stride x y coefficients samples bad.Kind = HasNoType size_number type_number
-IsBlockFault size_number type_number stride x y coefficients samples bad.Area = HasNoRectangle size_number type_number stride x y samples
-IsBlockFault size_number type_number stride x y coefficients samples bad.Short = HasTooFew size_number type_number stride x y coefficients samples
+IsBlockFault size_number type_number stride x y coefficients samples bad.Area =
+    HasNoRectangle size_number type_number stride x y samples
+IsBlockFault size_number type_number stride x y coefficients samples bad.Short =
+    HasTooFew size_number type_number stride x y coefficients samples
 IsBlockFault size_number type_number stride x y coefficients samples fault = ⊥
 
 abbrev pub IsDeepFault : (depth size_number type_number stride x y : ℕ) → List ℤ → ℕ → BadArgument → Type 0
-IsDeepFault depth size_number type_number stride x y coefficients samples bad.Depth = HasNoDepth depth size_number type_number stride x y (length coefficients) samples
-IsDeepFault depth size_number type_number stride x y coefficients samples bad.Coefficient = HasTooLarge depth size_number type_number stride x y coefficients samples
-IsDeepFault depth size_number type_number stride x y coefficients samples fault = IsBlockFault size_number type_number stride x y (length coefficients) samples fault
+IsDeepFault depth size_number type_number stride x y coefficients samples bad.Depth =
+    HasNoDepth depth size_number type_number stride x y (length coefficients) samples
+IsDeepFault depth size_number type_number stride x y coefficients samples bad.Coefficient =
+    HasTooLarge depth size_number type_number stride x y coefficients samples
+IsDeepFault depth size_number type_number stride x y coefficients samples fault =
+    IsBlockFault size_number type_number stride x y (length coefficients) samples fault

@@ -62,7 +62,8 @@ impl BadArgument {
     }
 }
 
-// Whether so many rows lie in so many samples. Their product has twice the bits of a number, so that no overflow is asked for.
+// Whether so many rows lie in so many samples. Their product has twice the bits of a number, so that no overflow is
+// asked for.
 #[inline(always)]
 fn are_lines(rows: usize, stride: usize, samples: usize) -> bool
     ensures true_is { result ≡ true → rows * stride ≤ samples }

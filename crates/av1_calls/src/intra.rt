@@ -6,7 +6,8 @@ ghost use Rattle.av1_blocks.specs.Modes.{is_intra};
 ghost use Rattle.av1_blocks.specs.declared.predict.PredictionMode.TheVariants as modes;
 ghost use Rattle.av1_intra.specs.Predicted.{angle_or_alpha};
 ghost use Rattle.av1_calls.specs.Arguments.{rectangle};
-ghost use Rattle.av1_calls.specs.IntraBlocks.{Predicts, PredictsBy, AreLong, AreSidesLong, HasNoMode, IsDepthWithin, IsIntraBlock, IsIntraFault, IsIntraMode, IsTurn, block_of, filter_of, mode_in, variant_in};
+ghost use Rattle.av1_calls.specs.IntraBlocks.{Predicts, PredictsBy, AreLong, AreSidesLong, HasNoMode, IsDepthWithin, IsIntraBlock, IsIntraFault, IsIntraMode};
+ghost use Rattle.av1_calls.specs.IntraBlocks.{IsTurn, block_of, filter_of, mode_in, variant_in};
 
 use crate::argument::{BadArgument, are_rows};
 use crate::status::{BAD_MODE, DONE};
@@ -38,7 +39,8 @@ pub struct IntraBlock {
     pub edge_filter: u8,
     /// Whether a neighbour has a smooth mode: 0 where none has. It is not read where the filter is off.
     pub smooth_neighbour: u8,
-    /// How many visible columns of the plane there are from its first on. The filter smooths no place beside it past those.
+    /// How many visible columns of the plane there are from its first on. The filter smooths no place beside it past
+    /// those.
     pub visible_columns: usize,
     /// How many visible rows of the plane there are from its first on.
     pub visible_rows: usize,
@@ -170,7 +172,8 @@ fn are_sides_long(
         && places_above(mode, variant, angle, width, height) <= above
 }
 
-// Whether the sides and luma's differences are as long as a block reads them. No mode reads more of a side than both sides of the block.
+// Whether the sides and luma's differences are as long as a block reads them. No mode reads more of a side than both
+// sides of the block.
 #[inline(always)]
 fn are_long(
     block: DirectionalBlock,
@@ -324,17 +327,18 @@ fn predict_by_number<T: Pixel>(
     )
 }
 
-/// Predicts the samples of a block by its intra mode, from the sides round it, at a depth of 8: the specification's "intra prediction process"
-/// for one block of a transform's size. The block begins at column `x` of row `y` of `samples`, whose rows stand `stride` apart. All other
-/// samples stay.
+/// Predicts the samples of a block by its intra mode, from the sides round it, at a depth of 8: the specification's
+/// "intra prediction process" for one block of a transform's size. The block begins at column `x` of row `y` of
+/// `samples`, whose rows stand `stride` apart. All other samples stay.
 ///
-/// `left` runs from the bottom up, and its last sample stands beside the first row; `above` runs from the left; `corner` stands between them.
-/// Of each side those places are read that are nearest to the corner: as many as the block is long there, in a direction past the corner
-/// of the block as many more as it is long on its other side, and none where the mode doesn't read the side.
+/// `left` runs from the bottom up, and its last sample stands beside the first row; `above` runs from the left;
+/// `corner` stands between them. Of each side those places are read that are nearest to the corner: as many as the
+/// block is long there, in a direction past the corner of the block as many more as it is long on its other side, and
+/// none where the mode doesn't read the side.
 ///
-/// `DONE`: that was done. `BAD_MODE`, `BAD_SIZE`: no intra mode, or no size, has the number. `BAD_ANGLE`: the mode does not turn so many
-/// steps. `BAD_DEPTH`: the samples have no such depth. `BAD_AREA`: the block does not lie in the samples. `TOO_SHORT`: a side is shorter than
-/// it is read.
+/// `DONE`: that was done. `BAD_MODE`, `BAD_SIZE`: no intra mode, or no size, has the number. `BAD_ANGLE`: the mode does
+/// not turn so many steps. `BAD_DEPTH`: the samples have no such depth. `BAD_AREA`: the block does not lie in the
+/// samples. `TOO_SHORT`: a side is shorter than it is read.
 pub fn av1_predict_intra_8(
     samples: &mut [u8],
     stride: usize,
@@ -350,7 +354,8 @@ pub fn av1_predict_intra_8(
     predict_by_number(samples, stride, x, y, block, left, corner, above)
 }
 
-/// The same for samples of 16 bits at a depth of 8, 10 or 12. Samples of the sides that are past the depth are taken as they are.
+/// The same for samples of 16 bits at a depth of 8, 10 or 12. Samples of the sides that are past the depth are taken as
+/// they are.
 pub fn av1_predict_intra_16(
     samples: &mut [u16],
     stride: usize,
@@ -366,11 +371,13 @@ pub fn av1_predict_intra_16(
     predict_by_number(samples, stride, x, y, block, left, corner, above)
 }
 
-/// Predicts the samples of a block of chroma from luma, at a depth of 8: each becomes the DC prediction by the sides that lie in the tile, and
-/// what its difference in `ac` adds to it at the weight `alpha`, clipped to the depth. Without a weight it is that prediction.
+/// Predicts the samples of a block of chroma from luma, at a depth of 8: each becomes the DC prediction by the sides
+/// that lie in the tile, and what its difference in `ac` adds to it at the weight `alpha`, clipped to the depth.
+/// Without a weight it is that prediction.
 ///
-/// `ac` holds the differences of luma from its mean, row by row, as many as the block has samples; they and `alpha` are in eighths. All else is
-/// as in [`av1_predict_intra_8`], but that the mode of the block is not read, and that it turns no steps.
+/// `ac` holds the differences of luma from its mean, row by row, as many as the block has samples; they and `alpha` are
+/// in eighths. All else is as in [`av1_predict_intra_8`], but that the mode of the block is not read, and that it turns
+/// no steps.
 ///
 /// AV1 specification: predict chroma from luma process.
 pub fn av1_predict_cfl_8(
@@ -392,7 +399,8 @@ pub fn av1_predict_cfl_8(
     )
 }
 
-/// The same for samples of 16 bits at a depth of 8, 10 or 12. Samples of the sides that are past the depth are taken as they are.
+/// The same for samples of 16 bits at a depth of 8, 10 or 12. Samples of the sides that are past the depth are taken as
+/// they are.
 pub fn av1_predict_cfl_16(
     samples: &mut [u16],
     stride: usize,

@@ -1,4 +1,5 @@
-//! The edge of a transform, from which an intra mode predicts it, prepared in samples of the caller from those of its plane.
+//! The edge of a transform, from which an intra mode predicts it, prepared in samples of the caller from those of its
+//! plane.
 //!
 //! AV1 specification: intra prediction process: general.
 ghost use Rattle.std.specs.Prelude.{◌≡◌, ◌+◌, ◌*◌, ◌^◌, ◌<◌, ◌≤◌, Option, IfOk, IfErr, true, length, pos};
@@ -7,7 +8,8 @@ ghost use Rattle.av1_blocks.specs.declared.transform.TxSize.{TxSize as Size};
 ghost use Rattle.av1_edges.specs.Edges.{BeginsVisible};
 ghost use Rattle.av1_frame.specs.declared.plane_region.PlaneRegion.{PlaneRegion as Region};
 ghost use Rattle.av1_calls.specs.IntraBlocks.{IsDepthWithin};
-ghost use Rattle.av1_calls.specs.IntraEdges.{PreparesEdge, BeginsIn, HasNoEdgeMode, HoldsEdge, IsBlockSize, IsEdgeMode, IsEdgeTurn, IsNameFault, IsTile, LiesIn, config_of, edge_in, halvings, plane_of};
+ghost use Rattle.av1_calls.specs.IntraEdges.{PreparesEdge, BeginsIn, HasNoEdgeMode, HoldsEdge, IsBlockSize, IsEdgeMode, IsEdgeTurn, IsNameFault, IsTile};
+ghost use Rattle.av1_calls.specs.IntraEdges.{LiesIn, config_of, edge_in, halvings, plane_of};
 ghost use Rattle.av1_calls.specs.Arguments.{IsSize};
 
 use crate::argument::{BadArgument, are_rows};
@@ -76,7 +78,8 @@ pub struct EdgeBlock {
     pub tx_size: u8,
     /// The number of the mode that is to predict it, from 0 (`DC_PRED`) to 13 (`UV_CFL_PRED`), or [`ANY_MODE`].
     pub mode: u8,
-    /// How many steps of 3 degrees a directional mode turns, from -3 to 3; 0 in other modes. It is not read with [`ANY_MODE`].
+    /// How many steps of 3 degrees a directional mode turns, from -3 to 3; 0 in other modes. It is not read with
+    /// [`ANY_MODE`].
     pub angle_step: i8,
     /// The depth of its samples, in bits: 8, 10 or 12.
     pub bit_depth: u8,
@@ -337,18 +340,19 @@ fn prepare_by<T: Pixel>(edge: &mut [T], samples: &[T], plane: &EdgePlane, block:
     }
 }
 
-/// Prepares the edge of a transform for the mode that is to predict it, at a depth of 8: the specification's "intra prediction process:
-/// general", the samples of the arrays AboveRow and LeftCol. `samples` are those of the plane, of which those before the transform in coding
-/// order have to be there.
+/// Prepares the edge of a transform for the mode that is to predict it, at a depth of 8: the specification's "intra
+/// prediction process: general", the samples of the arrays AboveRow and LeftCol. `samples` are those of the plane, of
+/// which those before the transform in coding order have to be there.
 ///
-/// The left side stands in the first 128 samples of `edge`, from the bottom up, and ends there; sample 128 is the corner, and the side above
-/// begins behind it. So `av1_predict_intra_8` takes them as `edge[..128]`, `edge[128]` and `edge[129..]`. What a mode doesn't read of the first
-/// 257 samples is not told.
+/// The left side stands in the first 128 samples of `edge`, from the bottom up, and ends there; sample 128 is the
+/// corner, and the side above begins behind it. So `av1_predict_intra_8` takes them as `edge[..128]`, `edge[128]` and
+/// `edge[129..]`. What a mode doesn't read of the first 257 samples is not told.
 ///
-/// `DONE`: that was done. `ROOM_TOO_SMALL`: the edge has fewer than 257 samples. `BAD_MODE`, `BAD_SIZE`: no intra mode, or no size, has the number.
-/// `BAD_ANGLE`: the mode does not turn so many steps. `BAD_DEPTH`: the samples have no such depth. `BAD_AREA`: the plane does not lie in the
-/// samples, or the tile in the plane, or the transform does not begin in the tile, or not within 65536 units of 4 samples from its block's first.
-/// That `x` and `y` are the place of the cell and the unit is not tested.
+/// `DONE`: that was done. `ROOM_TOO_SMALL`: the edge has fewer than 257 samples. `BAD_MODE`, `BAD_SIZE`: no intra mode,
+/// or no size, has the number. `BAD_ANGLE`: the mode does not turn so many steps. `BAD_DEPTH`: the samples have no such
+/// depth. `BAD_AREA`: the plane does not lie in the samples, or the tile in the plane, or the transform does not begin
+/// in the tile, or not within 65536 units of 4 samples from its block's first. That `x` and `y` are the place of the
+/// cell and the unit is not tested.
 pub fn av1_intra_edge_8(
     edge: &mut [u8],
     samples: &[u8],

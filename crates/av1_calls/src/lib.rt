@@ -1,18 +1,20 @@
 //! Calls on one block of samples, which test all of their arguments.
 //!
-//! [`av1_inverse_transform_add_8`] and [`av1_inverse_transform_add_16`] add the residue of a block to samples. [`av1_put_8tap_8`] and
-//! [`av1_put_8tap_16`] predict one from a reference; [`av1_prep_8tap_8`] and [`av1_prep_8tap_16`] prepare one of two references, and
-//! [`av1_mc_avg_8`] and [`av1_mc_avg_16`] average what they prepare. [`av1_predict_intra_8`], [`av1_predict_cfl_8`] and their like for samples
-//! of 16 bits predict a block from the sides that they are handed, [`av1_intra_edge_8`] and [`av1_intra_edge_16`] prepare these sides from a
-//! plane, and [`av1_cfl_ac_8`] and [`av1_cfl_ac_16`] give the differences of luma from its mean, by which chroma is predicted.
+//! [`av1_inverse_transform_add_8`] and [`av1_inverse_transform_add_16`] add the residue of a block to samples.
+//! [`av1_put_8tap_8`] and [`av1_put_8tap_16`] predict one from a reference; [`av1_prep_8tap_8`] and
+//! [`av1_prep_8tap_16`] prepare one of two references, and [`av1_mc_avg_8`] and [`av1_mc_avg_16`] average what they
+//! prepare. [`av1_predict_intra_8`], [`av1_predict_cfl_8`] and their like for samples of 16 bits predict a block from
+//! the sides that they are handed, [`av1_intra_edge_8`] and [`av1_intra_edge_16`] prepare these sides from a plane, and
+//! [`av1_cfl_ac_8`] and [`av1_cfl_ac_16`] give the differences of luma from its mean, by which chroma is predicted.
 //!
-//! It stands on `av1_itx` for the transforms of blocks, on `av1_inter` for their motion, and on `av1_edges` and `av1_intra` for their prediction.
-//! `av1_c` exports the calls for C.
+//! It stands on `av1_itx` for the transforms of blocks, on `av1_inter` for their motion, and on `av1_edges` and
+//! `av1_intra` for their prediction. `av1_c` exports the calls for C.
 //!
-//! Promised: no call asks anything of its arguments, or takes memory, and each returns. Its answer is one of the statuses of `src/status.rt`.
-//! [`DONE`] says that the arguments are good, and what each sample has become (`specs/Transforms.antt`, `specs/Motions.antt`,
-//! `specs/IntraBlocks.antt`, `specs/IntraEdges.antt`), or each difference of luma (`specs/LumaBlocks.antt`). Good arguments give [`DONE`]. Each other
-//! status names the first argument that is at fault, and leaves everything as it was.
+//! Promised: no call asks anything of its arguments, or takes memory, and each returns. Its answer is one of the
+//! statuses of `src/status.rt`. [`DONE`] says that the arguments are good, and what each sample has become
+//! (`specs/Transforms.antt`, `specs/Motions.antt`, `specs/IntraBlocks.antt`, `specs/IntraEdges.antt`), or each
+//! difference of luma (`specs/LumaBlocks.antt`). Good arguments give [`DONE`]. Each other status names the first
+//! argument that is at fault, and leaves everything as it was.
 #![tactic(auto)]
 
 mod argument;

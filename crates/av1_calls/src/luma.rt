@@ -7,7 +7,8 @@ ghost use Rattle.av1_edges.specs.Edges.{region_sample};
 ghost use Rattle.av1_frame.specs.Areas.{AreRows};
 ghost use Rattle.av1_frame.specs.Regions.{IsReadable};
 ghost use Rattle.av1_intra.specs.ChromaFromLuma.{columns_read, last_begun, luma_difference, padded_block, rows_read, with_rows};
-ghost use Rattle.av1_calls.specs.LumaBlocks.{GivesDifferences, HasLuma, HasNoChromaSize, IsCflBlock, IsCflFault, IsChromaSize, IsDeepCflFault, IsLumaOfDepth, IsSampling, luma_area, luma_in, with_differences};
+ghost use Rattle.av1_calls.specs.LumaBlocks.{GivesDifferences, HasLuma, HasNoChromaSize, IsCflBlock, IsCflFault, IsChromaSize, IsDeepCflFault, IsLumaOfDepth};
+ghost use Rattle.av1_calls.specs.LumaBlocks.{IsSampling, luma_area, luma_in, with_differences};
 ghost use Rattle.av1_calls.specs.Samples.{AreBelow};
 
 use crate::argument::{BadArgument, are_rows, is_depth};
@@ -21,7 +22,8 @@ use av1_intra::rust::pred_cfl_ac;
 #[repr(C)]
 #[derive(Clone, Copy, Debug, PartialEq, Eq)]
 pub struct CflBlock {
-    /// The number of its size in samples of chroma among those of blocks, from 0 (`BLOCK_4X4`) on: none with a side past 32.
+    /// The number of its size in samples of chroma among those of blocks, from 0 (`BLOCK_4X4`) on: none with a side
+    /// past 32.
     pub block_size: u8,
     /// 1 where chroma has half of luma's columns, else 0.
     pub xdec: u8,
@@ -226,7 +228,8 @@ fn put_differences<T: Pixel, const XDEC: usize, const YDEC: usize>(
     requires columns { luma.area.width ≡ columns_read (padded_block luma.size w_pad h_pad XDEC YDEC) }
     requires lines { luma.area.height ≡ rows_read (padded_block luma.size w_pad h_pad XDEC YDEC) }
     requires low { AreBelow 4096 stride luma.area (map T.num samples.now) }
-    ensures { ac.new ≡ with_rows (block_width luma.size) (block_height luma.size) (luma_difference (luma_in stride luma.area (map T.num samples.now)) (padded_block luma.size w_pad h_pad XDEC YDEC)) ac.old }
+    ensures { ac.new ≡ with_rows (block_width luma.size) (block_height luma.size)
+        (luma_difference (luma_in stride luma.area (map T.num samples.now)) (padded_block luma.size w_pad h_pad XDEC YDEC)) ac.old }
 {
     let region = region_of(samples, stride, luma.area);
     pred_cfl_ac::<T, XDEC, YDEC>(ac, &region, luma.size, w_pad, h_pad);
@@ -260,15 +263,17 @@ fn put_differences_of<T: Pixel>(
     }
 }
 
-/// Puts into `ac`, row by row, how far the luma over each sample of a block of chroma is from its mean, in eighths, at a depth of 8: the
-/// averages of the specification's "predict chroma from luma process", which `av1_predict_cfl_8` takes. The other entries of `ac` stay.
+/// Puts into `ac`, row by row, how far the luma over each sample of a block of chroma is from its mean, in eighths, at
+/// a depth of 8: the averages of the specification's "predict chroma from luma process", which `av1_predict_cfl_8`
+/// takes. The other entries of `ac` stay.
 ///
-/// The block's luma begins at column `x` of row `y` of `luma`, whose rows stand `stride` apart. Read are the columns and rows over those
-/// of chroma that have luma of their own, and at least 8, but none past the block; the others repeat the last of these.
+/// The block's luma begins at column `x` of row `y` of `luma`, whose rows stand `stride` apart. Read are the columns
+/// and rows over those of chroma that have luma of their own, and at least 8, but none past the block; the others
+/// repeat the last of these.
 ///
-/// `DONE`: that was done. `BAD_SIZE`: no size with sides up to 32 has the number. `BAD_SAMPLING`: chroma has no such decimations. `BAD_PAD`:
-/// no column, or no row, has luma of its own. `BAD_AREA`: the luma that is read does not lie in the samples. `TOO_SHORT`: `ac` has fewer
-/// entries than the block has samples.
+/// `DONE`: that was done. `BAD_SIZE`: no size with sides up to 32 has the number. `BAD_SAMPLING`: chroma has no such
+/// decimations. `BAD_PAD`: no column, or no row, has luma of its own. `BAD_AREA`: the luma that is read does not lie in
+/// the samples. `TOO_SHORT`: `ac` has fewer entries than the block has samples.
 pub fn av1_cfl_ac_8(
     ac: &mut [i16],
     luma: &[u8],

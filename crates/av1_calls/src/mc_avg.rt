@@ -36,12 +36,12 @@ fn test_deep_average(
     }
 }
 
-/// Each sample of a rectangle becomes the average of two prepared values, at a depth of 8. The rectangle begins at column `x` of row `y` of
-/// `samples`, whose rows stand `stride` apart; the values stand row by row at the front of `first` and of `second`, as `av1_prep_8tap_8` leaves
-/// them. All other samples stay.
+/// Each sample of a rectangle becomes the average of two prepared values, at a depth of 8. The rectangle begins at
+/// column `x` of row `y` of `samples`, whose rows stand `stride` apart; the values stand row by row at the front of
+/// `first` and of `second`, as `av1_prep_8tap_8` leaves them. All other samples stay.
 ///
-/// `DONE`: that was done. `BAD_SIZE`: a side is 0, or above 128. `BAD_AREA`: the rectangle does not lie in the samples. `TOO_SHORT`: there are
-/// fewer values than the rectangle has samples.
+/// `DONE`: that was done. `BAD_SIZE`: a side is 0, or above 128. `BAD_AREA`: the rectangle does not lie in the samples.
+/// `TOO_SHORT`: there are fewer values than the rectangle has samples.
 pub fn av1_mc_avg_8(
     samples: &mut [u8],
     stride: usize,

@@ -1,6 +1,7 @@
 //! Blocks of references: what is asked of one, and the samples that it is made of.
 ghost use Rattle.std.specs.Prelude.{◌≡◌, true, ◌*◌, IfOk, IfErr, length, take};
-ghost use Rattle.av1_calls.specs.Motions.{AreFilters, AreFractions, AreOfDepth, AreSides, IsAverage, IsAverageFault, IsMotion, IsMotionFault, IsPrep, IsPrepFault, IsPut, IsPutFault, IsSampleFault, IsSource, config_of, read_for, rectangle_at, rows_for};
+ghost use Rattle.av1_calls.specs.Motions.{AreFilters, AreFractions, AreOfDepth, AreSides, IsAverage, IsAverageFault, IsMotion, IsMotionFault, IsPrep};
+ghost use Rattle.av1_calls.specs.Motions.{IsPrepFault, IsPut, IsPutFault, IsSampleFault, IsSource, config_of, read_for, rectangle_at, rows_for};
 
 use crate::argument::{BadArgument, are_rows, is_depth};
 use crate::samples::are_within;
@@ -169,7 +170,8 @@ pub(crate) fn test_prep(
     }
 }
 
-/// Whether two prepared blocks of so many values have these sides, and their average can be written to a place in `room` samples.
+/// Whether two prepared blocks of so many values have these sides, and their average can be written to a place in
+/// `room` samples.
 ///
 /// # Errors
 ///

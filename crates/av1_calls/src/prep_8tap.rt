@@ -55,14 +55,16 @@ fn test_deep_prep(
     test_samples(from, samples, block, bit_depth)
 }
 
-/// Prepares a block of a reference for the average with another, at a depth of 8: the specification's "Block inter prediction process" with
-/// the rounding of compound prediction. The first `height * width` of `values` become those of the block, row by row, and the others stay.
-/// The block stands in `src` at column `src_x` of row `src_y`, moved by its fractions. Rows of samples stand `src_stride` apart.
+/// Prepares a block of a reference for the average with another, at a depth of 8: the specification's "Block inter
+/// prediction process" with the rounding of compound prediction. The first `height * width` of `values` become those of
+/// the block, row by row, and the others stay. The block stands in `src` at column `src_x` of row `src_y`, moved by its
+/// fractions. Rows of samples stand `src_stride` apart.
 ///
 /// 3 columns and rows before the block and 4 after it are read, at every fraction. A value is 16 times a sample.
 ///
-/// `DONE`: that was done. `BAD_SIZE`: a side is 0, or above 128. `BAD_MODE`: a filter has no such number. `BAD_FRACTION`: a fraction is 16
-/// or more. `BAD_AREA`: what is read does not lie in the samples. `TOO_SHORT`: there are fewer values than the block has samples.
+/// `DONE`: that was done. `BAD_SIZE`: a side is 0, or above 128. `BAD_MODE`: a filter has no such number.
+/// `BAD_FRACTION`: a fraction is 16 or more. `BAD_AREA`: what is read does not lie in the samples. `TOO_SHORT`: there
+/// are fewer values than the block has samples.
 pub fn av1_prep_8tap_8(
     values: &mut [i16],
     src: &[u8],
@@ -89,7 +91,8 @@ pub fn av1_prep_8tap_8(
     }
 }
 
-/// The same for samples of 16 bits at a depth of 8, 10 or 12. At depths above 8 values are less by 8192; at 12 they are 4 times a sample.
+/// The same for samples of 16 bits at a depth of 8, 10 or 12. At depths above 8 values are less by 8192; at 12 they are
+/// 4 times a sample.
 ///
 /// `BAD_DEPTH`: samples have no such depth. `BAD_SAMPLE`: one of those that are read is past it.
 pub fn av1_prep_8tap_16(

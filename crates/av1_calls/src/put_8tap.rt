@@ -25,7 +25,8 @@ fn put<T: Pixel>(
     requires asked { IsPut to (length dst.old) from (length src.now) block }
     requires deep { AreOfDepth bit_depth from (map T.num src.now) block }
     requires depth { bit_depth ≤ T.BITS }
-    ensures { dst.new ≡ paint to.stride (rectangle_at to block.width block.height) (λ r c _. T.pixel (moved_sample bit_depth block (source_at from (map T.num src.now)) r c)) dst.old }
+    ensures { dst.new ≡ paint to.stride (rectangle_at to block.width block.height)
+        (λ r c _. T.pixel (moved_sample bit_depth block (source_at from (map T.num src.now)) r c)) dst.old }
 {
     let rows = rows_of(src, from, block);
     let cfg = config_of(from, block, src.len());
@@ -65,15 +66,16 @@ fn test_deep_put(
     test_samples(from, samples, block, bit_depth)
 }
 
-/// Predicts the samples of a rectangle of the block's sides from those of a reference, at a depth of 8: the specification's "Block inter
-/// prediction process" for one reference. The rectangle begins at column `dst_x` of row `dst_y` of `dst`. Each of its samples becomes the one
-/// at its place from column `src_x` of row `src_y` of `src` on, moved by the block's fractions; all others stay. Rows stand `dst_stride` and
-/// `src_stride` samples apart. A side up to 4 takes the filters for such sides.
+/// Predicts the samples of a rectangle of the block's sides from those of a reference, at a depth of 8: the
+/// specification's "Block inter prediction process" for one reference. The rectangle begins at column `dst_x` of row
+/// `dst_y` of `dst`. Each of its samples becomes the one at its place from column `src_x` of row `src_y` of `src` on,
+/// moved by the block's fractions; all others stay. Rows stand `dst_stride` and `src_stride` samples apart. A side up
+/// to 4 takes the filters for such sides.
 ///
 /// Of the reference 3 columns and rows before the block and 4 after it are read, at every fraction.
 ///
-/// `DONE`: that was done. `BAD_SIZE`: a side is 0, or above 128. `BAD_MODE`: a filter has no such number. `BAD_FRACTION`: a fraction is 16
-/// or more. `BAD_AREA`: the rectangle, or what is read, does not lie in its samples.
+/// `DONE`: that was done. `BAD_SIZE`: a side is 0, or above 128. `BAD_MODE`: a filter has no such number.
+/// `BAD_FRACTION`: a fraction is 16 or more. `BAD_AREA`: the rectangle, or what is read, does not lie in its samples.
 pub fn av1_put_8tap_8(
     dst: &mut [u8],
     dst_stride: usize,

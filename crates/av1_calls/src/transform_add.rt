@@ -117,7 +117,8 @@ fn both_fit(least: i32, greatest: i32, bits: usize) -> bool
     fits(least, bits) && fits(greatest, bits)
 }
 
-// Whether each of the first numbers has so many bits. One pass finds the least and the greatest, several numbers at a time.
+// Whether each of the first numbers has so many bits. One pass finds the least and the greatest, several numbers at a
+// time.
 fn all_fit(numbers: &[i32], count: usize, bits: usize) -> bool
     requires some_bits { (1 ≤ bits) × (bits ≤ 32) }
     requires long { count ≤ length numbers.now }
@@ -165,15 +166,16 @@ fn deep_block_of(
     Ok(block)
 }
 
-/// Adds the residue of coefficients to the samples of a rectangle, which has the transform's sides, and clips, at a depth of 8: the
-/// specification's "2D inverse transform process" and the addition of "Reconstruction". The rectangle begins at column `x` of row `y`, and
-/// rows of samples stand `stride` apart. The size and the type are told by their numbers in plans.
+/// Adds the residue of coefficients to the samples of a rectangle, which has the transform's sides, and clips, at a
+/// depth of 8: the specification's "2D inverse transform process" and the addition of "Reconstruction". The rectangle
+/// begins at column `x` of row `y`, and rows of samples stand `stride` apart. The size and the type are told by their
+/// numbers in plans.
 ///
-/// The coefficient of row r and column c stands at `c * min(height, 32) + r`; the rows and columns from 32 on have none. What `scratch` holds
-/// before the call doesn't matter.
+/// The coefficient of row r and column c stands at `c * min(height, 32) + r`; the rows and columns from 32 on have
+/// none. What `scratch` holds before the call doesn't matter.
 ///
-/// `DONE`: that was done. `BAD_SIZE`, `BAD_TYPE`: a number names none, or the size has no such type. `BAD_AREA`: the rectangle does not lie
-/// in the samples. `TOO_SHORT`: there are fewer coefficients than the transform has.
+/// `DONE`: that was done. `BAD_SIZE`, `BAD_TYPE`: a number names none, or the size has no such type. `BAD_AREA`: the
+/// rectangle does not lie in the samples. `TOO_SHORT`: there are fewer coefficients than the transform has.
 pub fn av1_inverse_transform_add_8(
     scratch: &mut TxRoom,
     coefficients: &[i16],
@@ -213,10 +215,11 @@ pub fn av1_inverse_transform_add_8(
     }
 }
 
-/// The same for samples of 16 bits at a depth of 8, 10 or 12. A sample that is past the depth is clipped with what is added to it.
+/// The same for samples of 16 bits at a depth of 8, 10 or 12. A sample that is past the depth is clipped with what is
+/// added to it.
 ///
-/// `BAD_DEPTH`: samples have no such depth. `BAD_COEFFICIENT`: one of the transform's coefficients has more than `bit_depth + 8` bits, its
-/// sign among them.
+/// `BAD_DEPTH`: samples have no such depth. `BAD_COEFFICIENT`: one of the transform's coefficients has more than
+/// `bit_depth + 8` bits, its sign among them.
 pub fn av1_inverse_transform_add_16(
     scratch: &mut TxRoom,
     coefficients: &[i32],

@@ -14,17 +14,20 @@ use Rattle.av1_avail.proofs.BitOrder.{top_right_by_bits, bottom_left_by_bits}
 own_size : (b : BlockSize) (sx sy : ℕ) → sx ≡ 0 → sy ≡ 0 → supersample_chroma_bsize b sx sy ≡ b
 own_size b sx sy x y = rw (x, y) refl
 
-module _ (b : BlockSize) (cx cy : ℕ) (t : TxSize) (bx by sx sy : ℕ) (near : IsNearSquare b) (whole : IsWhole b t (by * transform_rows t) (bx * transform_columns t) sx sy) where
+module _ (b : BlockSize) (cx cy : ℕ) (t : TxSize) (bx by sx sy : ℕ) (near : IsNearSquare b)
+    (whole : IsWhole b t (by * transform_rows t) (bx * transform_columns t) sx sy) where
   pub above_by_bits : (x columns : ℕ) → has_before (by * transform_rows t) cy sy ≡ true → nat_lt (x + tx_width t) columns ≡ true
       → bits_top_right b cx cy ≡ takes_above_right b cx cy t bx by sx sy x columns
   above_by_bits x columns above right =
       rw (above, right)
-      (sym (ap (λ (s : BlockSize). table_top_right s cx cy (transform_columns t) (by * transform_rows t) (bx * transform_columns t) sx) (own_size b sx sy whole.plain_x whole.plain_y)
+      (sym (ap (λ (s : BlockSize). table_top_right s cx cy (transform_columns t) (by * transform_rows t) (bx * transform_columns t) sx)
+      (own_size b sx sy whole.plain_x whole.plain_y)
       ∙ top_right_by_bits b cx cy near t (by * transform_rows t) (bx * transform_columns t) sx sy whole))
 
   pub left_by_bits : (y rows : ℕ) → nat_lt (y + tx_height t) rows ≡ true → has_before (bx * transform_columns t) cx sx ≡ true
       → bits_bottom_left b cx cy ≡ takes_below_left b cx cy t bx by sx sy y rows
   left_by_bits y rows below left =
       rw (below, left)
-      (sym (ap (λ (s : BlockSize). table_bottom_left s cx cy (transform_rows t) (by * transform_rows t) (bx * transform_columns t) sx sy) (own_size b sx sy whole.plain_x whole.plain_y)
+      (sym (ap (λ (s : BlockSize). table_bottom_left s cx cy (transform_rows t) (by * transform_rows t) (bx * transform_columns t) sx sy)
+      (own_size b sx sy whole.plain_x whole.plain_y)
       ∙ bottom_left_by_bits b cx cy near t (by * transform_rows t) (bx * transform_columns t) sx sy whole))

@@ -26,18 +26,25 @@ chosen_else : (b : Bool) (v m n : ℕ) → b ≡ false → v ≡ n → v ≡ con
 chosen_else b v m n e h = h ∙ ap (λ t. cond t m n) (sym e)
 
 module _ {T : Type 0} (num : T → ℕ) (r : PlaneRegion T) (at : TransformPosition) (depth : ℕ) (parts : Parts) where
-  pub left_is : (xs : List T) (n t : ℕ) → map num xs ≡ reverse (by_index n (left_at (region_sample num r) (base depth) at.x at.y t)) → n ≡ left_places parts at.tx_size → t ≡ num_avail_left r at (parts.below_left && has_below_left r at) → map num xs ≡ reverse (edge_of_parts num r at depth parts).left
+  pub left_is : (xs : List T) (n t : ℕ) → map num xs ≡ reverse (by_index n (left_at (region_sample num r) (base depth) at.x at.y t)) →
+      n ≡ left_places parts at.tx_size → t ≡ num_avail_left r at (parts.below_left && has_below_left r at) →
+      map num xs ≡ reverse (edge_of_parts num r at depth parts).left
   unfolding edge_of_parts
   left_is xs n t e l h =
-      e ∙ ap (λ m. reverse (by_index m (left_at (region_sample num r) (base depth) at.x at.y t))) l ∙ ap (λ m. reverse (by_index (left_places parts at.tx_size) (left_at (region_sample num r) (base depth) at.x at.y m))) h
+      e ∙ ap (λ m. reverse (by_index m (left_at (region_sample num r) (base depth) at.x at.y t))) l
+      ∙ ap (λ m. reverse (by_index (left_places parts at.tx_size) (left_at (region_sample num r) (base depth) at.x at.y m))) h
 
-  pub above_is : (xs : List T) (n t : ℕ) → map num xs ≡ by_index n (above_at (region_sample num r) (base depth) at.x at.y t) → n ≡ above_places parts at.tx_size → t ≡ num_avail_above r at (parts.above_right && has_above_right r at) → map num xs ≡ (edge_of_parts num r at depth parts).above
+  pub above_is : (xs : List T) (n t : ℕ) → map num xs ≡ by_index n (above_at (region_sample num r) (base depth) at.x at.y t) →
+      n ≡ above_places parts at.tx_size → t ≡ num_avail_above r at (parts.above_right && has_above_right r at) →
+      map num xs ≡ (edge_of_parts num r at depth parts).above
   unfolding edge_of_parts
   above_is xs n t e l h =
-      e ∙ ap (λ m. by_index m (above_at (region_sample num r) (base depth) at.x at.y t)) l ∙ ap (λ m. by_index (above_places parts at.tx_size) (above_at (region_sample num r) (base depth) at.x at.y m)) h
+      e ∙ ap (λ m. by_index m (above_at (region_sample num r) (base depth) at.x at.y t)) l
+      ∙ ap (λ m. by_index (above_places parts at.tx_size) (above_at (region_sample num r) (base depth) at.x at.y m)) h
 
   -- the corner, without and with smoothing
-  pub corner_plain : (v : T) → num v ≡ cond parts.corner (corner_at (region_sample num r) (base depth) at.x at.y) (base depth) → parts.smoothed ≡ false → num v ≡ (edge_of_parts num r at depth parts).corner
+  pub corner_plain : (v : T) → num v ≡ cond parts.corner (corner_at (region_sample num r) (base depth) at.x at.y) (base depth) → parts.smoothed ≡ false →
+      num v ≡ (edge_of_parts num r at depth parts).corner
   unfolding edge_of_parts
   corner_plain v e s = chosen_else parts.smoothed (num v) _ _ s e
 
@@ -53,4 +60,5 @@ module _ {T : Type 0} (num : T → ℕ) (r : PlaneRegion T) (at : TransformPosit
       let m = cond parts.corner (corner_at (region_sample num r) (base depth) at.x at.y) (base depth) in
       let x : num l ≡ f 0 = ap num here ∙ last_reversed num left (left_places parts at.tx_size) f l lefts hl in
       let y : num a ≡ g 0 = ap num there ∙ first_by_index num above (above_places parts at.tx_size) g a aboves ha in
-      chosen_then parts.smoothed (num v) _ _ s (e ∙ ap (λ n. smoothed n (num k) (num a)) x ∙ ap (λ n. smoothed (f 0) n (num a)) corner ∙ ap (smoothed (f 0) m) y)
+      chosen_then parts.smoothed (num v) _ _ s (e ∙ ap (λ n. smoothed n (num k) (num a)) x ∙ ap (λ n. smoothed (f 0) n (num a)) corner
+      ∙ ap (smoothed (f 0) m) y)

@@ -8,7 +8,8 @@ use Rattle.av1_edges.specs.Edges.{BeginsVisible, region_sample}
 use Rattle.av1_frame.proofs.RowParts.{part_sample}
 
 -- column c of row y of a region
-pub row_sample : {T : Type 0} (num : T → ℕ) (r : PlaneRegion T) (row : List T) (y c : ℕ) (d : T) → BeginsVisible r → row ≡ row_of r.plane_cfg.stride r.area y r.samples.now → y < r.area.height → c < r.area.width → num (get_or row c d) ≡ region_sample num r c y
+pub row_sample : {T : Type 0} (num : T → ℕ) (r : PlaneRegion T) (row : List T) (y c : ℕ) (d : T) → BeginsVisible r →
+    row ≡ row_of r.plane_cfg.stride r.area y r.samples.now → y < r.area.height → c < r.area.width → num (get_or row c d) ≡ region_sample num r c y
 row_sample num r row y c d b e hy hc =
     let f = row_fits r.area r.plane_cfg _ y b.readable.fits hy in
     ap (λ (s : List _). num (get_or s c d)) e ∙ part_sample num r.samples.now (row_start r.plane_cfg.stride r.area y) r.area.width c _ d hc f (omega arith)
@@ -27,4 +28,5 @@ pub cut_shown : {T : Type 0} (num : T → ℕ) (r : PlaneRegion T) (row : List T
 cut_shown num r row y x n k d b e w hy hx h =
     let f : x + n - x ≡ n = omega arith in
     let l : length (take n (drop x row)) ≡ n = length-take-le n (drop x row) (omega (arith, length-drop x row)) in
-    ap (λ j. num (get_or (take j (drop x row)) (min k (length (take j (drop x row)) - 1)) d)) f ∙ ap (λ j. num (get_or (take n (drop x row)) (min k (j - 1)) d)) l ∙ cut_sample num r row y x n (min k (n - 1)) d b e hy hx (omega arith)
+    ap (λ j. num (get_or (take j (drop x row)) (min k (length (take j (drop x row)) - 1)) d)) f
+    ∙ ap (λ j. num (get_or (take n (drop x row)) (min k (j - 1)) d)) l ∙ cut_sample num r row y x n (min k (n - 1)) d b e hy hx (omega arith)

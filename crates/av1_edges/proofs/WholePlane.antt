@@ -29,7 +29,8 @@ module _ {T : Type 0} (r : PlaneRegion T) (all : IsAllVisible r) where
   whole_rows =
       let e : r.area.height ≡ r.plane_cfg.height = ap (λ (a : StoredArea). a.height) all in omega (arith, first_row)
 
-  pub whole_sample : (num : T → ℕ) (plane : Plane T) (x y : ℕ) → r.samples.now ≡ plane.samples → r.plane_cfg ≡ plane.plane_cfg → region_sample num r x y ≡ sample_at num plane x y
+  pub whole_sample : (num : T → ℕ) (plane : Plane T) (x y : ℕ) → r.samples.now ≡ plane.samples → r.plane_cfg ≡ plane.plane_cfg →
+      region_sample num r x y ≡ sample_at num plane x y
   whole_sample num plane x y same cfg =
       let s = r.plane_cfg.stride in
       let k : (r.area.y + y) * s + r.area.x + x ≡ place_at r.plane_cfg x y =
@@ -41,12 +42,15 @@ module _ {T : Type 0} (r : PlaneRegion T) (all : IsAllVisible r) where
   -- the answers for a transform of the plane
   pub whole_above_right : (at : TransformPosition)
       → has_above_right r at
-      ≡ takes_above_right at.partition_size at.partition_bo.0.x at.partition_bo.0.y at.tx_size at.bx at.by r.plane_cfg.xdec r.plane_cfg.ydec at.x r.plane_cfg.width
+      ≡ takes_above_right at.partition_size at.partition_bo.0.x at.partition_bo.0.y at.tx_size at.bx at.by r.plane_cfg.xdec r.plane_cfg.ydec at.x
+      r.plane_cfg.width
   whole_above_right at =
-      ap (takes_above_right at.partition_size at.partition_bo.0.x at.partition_bo.0.y at.tx_size at.bx at.by r.plane_cfg.xdec r.plane_cfg.ydec at.x) whole_columns
+      ap (takes_above_right at.partition_size at.partition_bo.0.x at.partition_bo.0.y at.tx_size at.bx at.by r.plane_cfg.xdec r.plane_cfg.ydec at.x)
+      whole_columns
 
   pub whole_below_left : (at : TransformPosition)
       → has_below_left r at
-      ≡ takes_below_left at.partition_size at.partition_bo.0.x at.partition_bo.0.y at.tx_size at.bx at.by r.plane_cfg.xdec r.plane_cfg.ydec at.y r.plane_cfg.height
+      ≡ takes_below_left at.partition_size at.partition_bo.0.x at.partition_bo.0.y at.tx_size at.bx at.by r.plane_cfg.xdec r.plane_cfg.ydec at.y
+      r.plane_cfg.height
   whole_below_left at =
       ap (takes_below_left at.partition_size at.partition_bo.0.x at.partition_bo.0.y at.tx_size at.bx at.by r.plane_cfg.xdec r.plane_cfg.ydec at.y) whole_rows

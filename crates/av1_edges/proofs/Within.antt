@@ -12,7 +12,8 @@ use Rattle.av1_frame.proofs.Within.{chosen_below}
 use Rattle.av1_edges.specs.declared.parts.Parts.{Parts}
 use Rattle.av1_edges.specs.declared.position.TransformPosition.{TransformPosition}
 use Rattle.av1_edges.specs.Sides.{base, num_avail, above_at, left_at, corner_at, smoothed}
-use Rattle.av1_edges.specs.Edges.{region_sample, visible_columns, visible_rows, edge_of_parts, above_places, left_places, num_avail_above, num_avail_left, has_above_right, has_below_left}
+use Rattle.av1_edges.specs.Edges.{region_sample, visible_columns, visible_rows, edge_of_parts, above_places, left_places, num_avail_above, num_avail_left}
+use Rattle.av1_edges.specs.Edges.{has_above_right, has_below_left}
 use Rattle.av1_edges.specs.Within.{EdgeIsWithin}
 
 -- ---- half of the range, and what stands in for samples that are not there

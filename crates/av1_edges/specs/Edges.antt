@@ -1,6 +1,7 @@
 -- The edge round a transform's samples, as it is read from a region by place.
 -- AV1 specification: intra prediction process: general; transform block syntax (haveAboveRt, haveBelowLft).
-use Rattle.std.specs.Prelude.{ℕ, ◌+◌, ◌-◌, ◌*◌, ◌^◌, ◌<◌, ◌≤◌, List, Bool, ◌&&◌, min, if◌then◌else◌, map, slice_index, Option, unsigned_abs}
+use Rattle.std.specs.Prelude.{ℕ, ◌+◌, ◌-◌, ◌*◌, ◌^◌, ◌<◌, ◌≤◌, List, Bool, ◌&&◌, min, if◌then◌else◌, map, slice_index}
+use Rattle.std.specs.Prelude.{Option, unsigned_abs}
 use Rattle.av1_blocks.specs.declared.predict.PredictionMode.{PredictionMode}
 use Rattle.av1_blocks.specs.declared.predict.IntraParam.{IntraParam}
 use Rattle.av1_blocks.specs.declared.partition.BlockSize.{BlockSize}
@@ -65,17 +66,20 @@ position_of partition_bo bx by partition_size po tx_size = record {
 abbrev pub has_above_right : {T : Type 0} → PlaneRegion T → TransformPosition → Bool
 has_above_right r at =
     let cfg = r.plane_cfg in
-    takes_above_right at.partition_size at.partition_bo.0.x at.partition_bo.0.y at.tx_size at.bx at.by cfg.xdec cfg.ydec at.x (visible_columns r)
+    takes_above_right at.partition_size at.partition_bo.0.x at.partition_bo.0.y at.tx_size at.bx at.by cfg.xdec cfg.ydec
+    at.x (visible_columns r)
 
 -- the samples below left of it are available
 abbrev pub has_below_left : {T : Type 0} → PlaneRegion T → TransformPosition → Bool
 has_below_left r at =
     let cfg = r.plane_cfg in
-    takes_below_left at.partition_size at.partition_bo.0.x at.partition_bo.0.y at.tx_size at.bx at.by cfg.xdec cfg.ydec at.y (visible_rows r)
+    takes_below_left at.partition_size at.partition_bo.0.x at.partition_bo.0.y at.tx_size at.bx at.by cfg.xdec cfg.ydec
+    at.y (visible_rows r)
 
 -- ---- the edge
 
--- the samples round a transform: above it from left to right, to its left from the top down, and the one above and left of it
+-- the samples round a transform: above it from left to right, to its left from the top down, and the one above and left
+-- of it
 pub record Edge : Type 0 where
   pub above : List ℕ
   pub left : List ℕ
@@ -90,20 +94,23 @@ abbrev pub num_avail_left : {T : Type 0} → PlaneRegion T → TransformPosition
 num_avail_left r at goes_on =
     num_avail (visible_rows r) at.y (tx_height at.tx_size) goes_on (min (tx_width at.tx_size) (tx_height at.tx_size))
 
--- how many places the side above has: as many as the transform has columns, and with what is above right as many more as it has rows
+-- how many places the side above has: as many as the transform has columns, and with what is above right as many more
+-- as it has rows
 abbrev pub above_places : Parts → TxSize → ℕ
 above_places parts tx_size = tx_width tx_size + where_needed parts.above_right (tx_height tx_size)
 
--- how many the left side has, where it is prepared: as many as the transform has rows, and with what is below left as many more as it has
--- columns
+-- how many the left side has, where it is prepared: as many as the transform has rows, and with what is below left as
+-- many more as it has columns
 abbrev pub left_places : Parts → TxSize → ℕ
-left_places parts tx_size = where_needed parts.left (tx_height tx_size) + where_needed parts.below_left (tx_width tx_size)
+left_places parts tx_size =
+    where_needed parts.left (tx_height tx_size) + where_needed parts.below_left (tx_width tx_size)
 
 -- the edge of which these parts are prepared
 unfoldable pub edge_of_parts : {T : Type 0} → (T → ℕ) → PlaneRegion T → TransformPosition → (depth : ℕ) → Parts → Edge
 edge_of_parts num r at depth parts =
     let sample = region_sample num r in
-    let above = above_at sample (base depth) at.x at.y (num_avail_above r at (parts.above_right && has_above_right r at)) in
+    let above =
+    above_at sample (base depth) at.x at.y (num_avail_above r at (parts.above_right && has_above_right r at)) in
     let left = left_at sample (base depth) at.x at.y (num_avail_left r at (parts.below_left && has_below_left r at)) in
     let corner = if parts.corner then corner_at sample (base depth) at.x at.y else base depth in
     record {
@@ -113,6 +120,8 @@ edge_of_parts num r at depth parts =
     }
 
 -- the edge of a mode, where one is named
-abbrev pub prepared_edge : {T : Type 0} → (T → ℕ) → PlaneRegion T → TransformPosition → (depth : ℕ) → Option PredictionMode → (filter : Bool) → IntraParam → Edge
+abbrev pub prepared_edge : {T : Type 0} → (T → ℕ) → PlaneRegion T → TransformPosition → (depth : ℕ) →
+    Option PredictionMode → (filter : Bool) → IntraParam → Edge
 prepared_edge num r at depth mode filter param =
-    edge_of_parts num r at depth (prepared_parts filter mode (step_of param) at.x at.y (tx_width at.tx_size) (tx_height at.tx_size))
+    edge_of_parts num r at depth (prepared_parts filter mode (step_of param) at.x at.y (tx_width at.tx_size)
+    (tx_height at.tx_size))

@@ -1,15 +1,18 @@
 -- Which parts of the edge round a block its mode needs.
 -- AV1 specification: intra prediction process: general.
-use Rattle.std.specs.Prelude.{ℕ, zero, suc, ◌+◌, Bool, true, false, ◌&&◌, not, nat_lt, nat_le, ℤ, pos, ◌+ℤ◌, ◌*ℤ◌, int_lt, Option, Some, None}
+use Rattle.std.specs.Prelude.{ℕ, zero, suc, ◌+◌, Bool, true, false, ◌&&◌, not, nat_lt, nat_le, ℤ, pos, ◌+ℤ◌, ◌*ℤ◌}
+use Rattle.std.specs.Prelude.{int_lt, Option, Some, None}
 use Rattle.std.specs.Ordering.{int_eq}
 use Rattle.av1_blocks.specs.declared.predict.PredictionMode.{PredictionMode}
-use Rattle.av1_blocks.specs.declared.predict.PredictionMode.TheVariants.{DC_PRED, V_PRED, H_PRED, PAETH_PRED, UV_CFL_PRED}
+use Rattle.av1_blocks.specs.declared.predict.PredictionMode.TheVariants.{DC_PRED, V_PRED, H_PRED, PAETH_PRED}
+use Rattle.av1_blocks.specs.declared.predict.PredictionMode.TheVariants.{UV_CFL_PRED}
 use Rattle.av1_blocks.specs.declared.predict.IntraParam.{IntraParam}
 use Rattle.av1_blocks.specs.declared.predict.IntraParam.TheVariants.{AngleDelta}
 use Rattle.av1_blocks.specs.Modes.{is_directional, intra_mode_to_angle}
 use Rattle.av1_edges.specs.declared.parts.Parts.{Parts}
 
--- the mode that a block at column x of row y is predicted by: at the left and upper end Paeth prediction has fewer neighbours
+-- the mode that a block at column x of row y is predicted by: at the left and upper end Paeth prediction has fewer
+-- neighbours
 abbrev pub effective : PredictionMode → ℕ → ℕ → PredictionMode
 effective PAETH_PRED zero zero = DC_PRED
 effective PAETH_PRED zero (suc y) = V_PRED
@@ -48,12 +51,15 @@ abbrev pub needs_corner : PredictionMode → ℤ → Bool
 needs_corner PAETH_PRED step = true
 needs_corner mode step = is_directional mode && is_slanted (angle mode step)
 
--- where the edge filter smooths the corner: between straight down and straight to the right, on blocks of w by h samples that are large
+-- where the edge filter smooths the corner: between straight down and straight to the right, on blocks of w by h
+-- samples that are large
 abbrev pub smooths_corner : Bool → PredictionMode → ℤ → (w h : ℕ) → Bool
 smooths_corner filter mode step w h =
-    filter && is_directional mode && int_lt (pos 90) (angle mode step) && int_lt (angle mode step) (pos 180) && nat_le 24 (w + h)
+    filter && is_directional mode && int_lt (pos 90) (angle mode step) && int_lt (angle mode step) (pos 180)
+    && nat_le 24 (w + h)
 
--- the parts that a mode in effect needs, of a block of w by h samples at column x; filter says whether the edge filter is on
+-- the parts that a mode in effect needs, of a block of w by h samples at column x; filter says whether the edge filter
+-- is on
 abbrev pub parts_for : Bool → PredictionMode → ℤ → (x w h : ℕ) → Parts
 parts_for filter mode step x w h = record {
   left = needs_left mode x;
@@ -63,7 +69,9 @@ parts_for filter mode step x w h = record {
   smoothed = smooths_corner filter mode step w h;
 }
 
--- the parts that are prepared for a block at column x of row y: those that its mode needs, and all where no mode is named
+-- the parts that are prepared for a block at column x of row y: those that its mode needs, and all where no mode is
+-- named
 abbrev pub prepared_parts : Bool → Option PredictionMode → ℤ → (x y w h : ℕ) → Parts
-prepared_parts filter None step x y w h = record { left = true; below_left = true; above_right = true; corner = true; smoothed = false }
+prepared_parts filter None step x y w h =
+    record { left = true; below_left = true; above_right = true; corner = true; smoothed = false }
 prepared_parts filter (Some mode) step x y w h = parts_for filter (effective mode x y) step x w h

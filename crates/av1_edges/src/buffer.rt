@@ -10,8 +10,8 @@ use std::alloc::Global;
 /// The most places on one side of an edge: twice the side of the largest transform.
 pub(crate) const LONGEST_EDGE: usize = 128;
 
-/// Room for the samples round a transform, 257 of them: 128 to its left from the bottom up, the corner, and 128 above it from left to
-/// right. It counts the edges that are prepared in it.
+/// Room for the samples round a transform, 257 of them: 128 to its left from the bottom up, the corner, and 128 above
+/// it from left to right. It counts the edges that are prepared in it.
 #[derive(Drop)]
 pub struct IntraEdgeBuffer<T> {
     pub(crate) samples: Vec<T>,

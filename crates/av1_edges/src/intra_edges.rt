@@ -68,8 +68,8 @@ fn edge_corner<T: Pixel>(
     }
 }
 
-/// Fills the samples of a buffer with the edge of `parts`: the left side ends before the corner, which stands in the middle, and the
-/// side above begins behind it.
+/// Fills the samples of a buffer with the edge of `parts`: the left side ends before the corner, which stands in the
+/// middle, and the side above begins behind it.
 fn fill_edge<T: Pixel>(
     samples: &mut [T],
     dst: &PlaneRegion<'_, T>,
@@ -84,7 +84,8 @@ fn fill_edge<T: Pixel>(
     requires depth { bit_depth ≤ T.BITS }
     requires inside { 0 < at.x → parts.left ≡ true }
     requires smooth { parts.smoothed ≡ true → parts.left ≡ true }
-    ensures left { let n = left_places parts at.tx_size in map T.num (part (128 - n) n samples.new) ≡ reverse (edge_of_parts T.num dst.now at bit_depth parts).left }
+    ensures left { let n = left_places parts at.tx_size
+        in map T.num (part (128 - n) n samples.new) ≡ reverse (edge_of_parts T.num dst.now at bit_depth parts).left }
     ensures corner { map T.num (part 128 1 samples.new) ≡ (edge_of_parts T.num dst.now at bit_depth parts).corner ∷ [] }
     ensures above { map T.num (part 129 (above_places parts at.tx_size) samples.new) ≡ (edge_of_parts T.num dst.now at bit_depth parts).above }
 {
@@ -141,9 +142,9 @@ fn position_of(
     }
 }
 
-/// Prepares the samples round a transform, as `get_intra_edges` does, in 257 samples of the caller, and tells how many places the edge has.
-/// The side to its left ends before sample 128, from the bottom up; that one is the corner, and the side above begins behind it. What the
-/// other samples hold afterwards is not told.
+/// Prepares the samples round a transform, as `get_intra_edges` does, in 257 samples of the caller, and tells how many
+/// places the edge has. The side to its left ends before sample 128, from the bottom up; that one is the corner, and
+/// the side above begins behind it. What the other samples hold afterwards is not told.
 pub fn get_intra_edges_to<T: Pixel>(
     samples: &mut [T],
     dst: &PlaneRegion<'_, T>,
@@ -167,9 +168,14 @@ pub fn get_intra_edges_to<T: Pixel>(
     requires depth { bit_depth ≤ T.BITS }
     ensures few_left { result.left ≤ 128 }
     ensures few_above { result.above ≤ 128 }
-    ensures left { map T.num (part (128 - result.left) result.left samples.new) ≡ reverse (prepared_edge T.num dst.now (position_of partition_bo bx by partition_size po tx_size) bit_depth opt_mode enable_intra_edge_filter intra_param).left }
-    ensures corner { map T.num (part 128 1 samples.new) ≡ (prepared_edge T.num dst.now (position_of partition_bo bx by partition_size po tx_size) bit_depth opt_mode enable_intra_edge_filter intra_param).corner ∷ [] }
-    ensures above { map T.num (part 129 result.above samples.new) ≡ (prepared_edge T.num dst.now (position_of partition_bo bx by partition_size po tx_size) bit_depth opt_mode enable_intra_edge_filter intra_param).above }
+    ensures left { map T.num (part (128 - result.left) result.left samples.new) ≡
+        reverse (prepared_edge T.num dst.now (position_of partition_bo bx by partition_size po tx_size) bit_depth opt_mode enable_intra_edge_filter
+        intra_param).left }
+    ensures corner { map T.num (part 128 1 samples.new) ≡
+        (prepared_edge T.num dst.now (position_of partition_bo bx by partition_size po tx_size) bit_depth opt_mode enable_intra_edge_filter intra_param).corner
+        ∷ [] }
+    ensures above { map T.num (part 129 result.above samples.new) ≡
+        (prepared_edge T.num dst.now (position_of partition_bo bx by partition_size po tx_size) bit_depth opt_mode enable_intra_edge_filter intra_param).above }
 {
     let at = position_of(partition_bo, bx, by, partition_size, po, tx_size);
     let parts = Parts::prepared(
@@ -189,19 +195,21 @@ pub fn get_intra_edges_to<T: Pixel>(
 
 /// Prepares the samples round a transform, in `edge_buf`.
 ///
-/// The transform has the size `tx_size` and its first sample at `po`, counted from the first sample of the region `dst`. Of the region
-/// only what lies in the visible plane is read. The transform is the one in column `bx` and row `by` of its block, counted in
-/// transforms; the block has the luma size `partition_size` and begins at the cell `partition_bo` of the tile.
+/// The transform has the size `tx_size` and its first sample at `po`, counted from the first sample of the region
+/// `dst`. Of the region only what lies in the visible plane is read. The transform is the one in column `bx` and row
+/// `by` of its block, counted in transforms; the block has the luma size `partition_size` and begins at the cell
+/// `partition_bo` of the tile.
 ///
-/// The side above holds the row above the transform from its first column on, as many samples as it is wide; the side to the left holds
-/// the column before it, as many as it is high. At the region's upper end the former is the sample to the left of the transform, and at
-/// the left end the latter is the sample above it, again and again; where there is neither, they are half of the range of samples of
-/// `bit_depth` less 1 and plus 1. What continues them, where the angle of `opt_mode` and `intra_param` needs it, is read as far as
-/// the lesser side of the transform, where `has_top_right` or `has_bottom_left` says that it is coded before. Past the last sample that
-/// is available, and at the ends of the region, that one is repeated. The left side is empty for a mode that takes a mean, at the left end.
+/// The side above holds the row above the transform from its first column on, as many samples as it is wide; the side
+/// to the left holds the column before it, as many as it is high. At the region's upper end the former is the sample to
+/// the left of the transform, and at the left end the latter is the sample above it, again and again; where there is
+/// neither, they are half of the range of samples of `bit_depth` less 1 and plus 1. What continues them, where the
+/// angle of `opt_mode` and `intra_param` needs it, is read as far as the lesser side of the transform, where
+/// `has_top_right` or `has_bottom_left` says that it is coded before. Past the last sample that is available, and at
+/// the ends of the region, that one is repeated. The left side is empty for a mode that takes a mean, at the left end.
 ///
-/// The corner is half of the range unless the mode needs it. Where `enable_intra_edge_filter` is set, it is smoothed for an angle
-/// between 90 and 180 degrees and sides that come to 24 or more.
+/// The corner is half of the range unless the mode needs it. Where `enable_intra_edge_filter` is set, it is smoothed
+/// for an angle between 90 and 180 degrees and sides that come to 24 or more.
 ///
 /// AV1 specification: intra prediction process: general; for the smoothing filter corner process.
 pub fn get_intra_edges<'a, T: Pixel>(
@@ -225,9 +233,14 @@ pub fn get_intra_edges<'a, T: Pixel>(
     requires low { 8 ≤ bit_depth }
     requires depth { bit_depth ≤ T.BITS }
     ensures* count { sem 𝓛 (CountsOne T.row edge_buf.entry) }
-    ensures left { map T.num result.left.now ≡ reverse (prepared_edge T.num dst.now (position_of partition_bo bx by partition_size po tx_size) bit_depth opt_mode enable_intra_edge_filter intra_param).left }
-    ensures corner { map T.num result.top_left.now ≡ (prepared_edge T.num dst.now (position_of partition_bo bx by partition_size po tx_size) bit_depth opt_mode enable_intra_edge_filter intra_param).corner ∷ [] }
-    ensures above { map T.num result.above.now ≡ (prepared_edge T.num dst.now (position_of partition_bo bx by partition_size po tx_size) bit_depth opt_mode enable_intra_edge_filter intra_param).above }
+    ensures left { map T.num result.left.now ≡
+        reverse (prepared_edge T.num dst.now (position_of partition_bo bx by partition_size po tx_size) bit_depth opt_mode enable_intra_edge_filter
+        intra_param).left }
+    ensures corner { map T.num result.top_left.now ≡
+        (prepared_edge T.num dst.now (position_of partition_bo bx by partition_size po tx_size) bit_depth opt_mode enable_intra_edge_filter intra_param).corner
+        ∷ [] }
+    ensures above { map T.num result.above.now ≡
+        (prepared_edge T.num dst.now (position_of partition_bo bx by partition_size po tx_size) bit_depth opt_mode enable_intra_edge_filter intra_param).above }
 {
     edge_buf.count();
     let places = get_intra_edges_to(

@@ -10,7 +10,8 @@ ghost use Rattle.av1_edges.specs.Within.{EdgeIsWithin};
 
 use av1_frame::Pixel;
 
-/// The edge of a transform in the visible part of a region whose visible samples lie within the depth lies within it too, for every mode.
+/// The edge of a transform in the visible part of a region whose visible samples lie within the depth lies within it
+/// too, for every mode.
 pub fn prepared_edges_lie_within<T: Pixel>()
     ensures { (r : PlaneRegion T) (at : TransformPosition) (depth : ℕ) (mode : Option PredictionMode) (filter : Bool) (param : IntraParam) → 8 ≤ depth
         → at.x < visible_columns r → at.y < visible_rows r

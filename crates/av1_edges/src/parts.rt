@@ -4,7 +4,8 @@
 
 ghost use Rattle.std.specs.Prelude.{◌≡◌, ◌<◌, true};
 ghost use Rattle.av1_blocks.specs.Transforms.{tx_width, tx_height};
-ghost use Rattle.av1_edges.specs.Parts.{effective, step_of, angle, needs_left, needs_below_left, needs_above_right, needs_corner, smooths_corner, parts_for, prepared_parts};
+ghost use Rattle.av1_edges.specs.Parts.{effective, step_of, angle, needs_left, needs_below_left, needs_above_right, needs_corner, smooths_corner, parts_for};
+ghost use Rattle.av1_edges.specs.Parts.{prepared_parts};
 
 use av1_blocks::{ANGLE_STEP, IntraParam, PredictionMode, TxSize, intra_mode_to_angle};
 
@@ -23,8 +24,8 @@ pub(crate) struct Parts {
     pub(crate) smoothed: bool,
 }
 
-/// The mode that a block at column `x` of row `y` of its tile is predicted by: at the left and upper end Paeth prediction has
-/// fewer neighbours.
+/// The mode that a block at column `x` of row `y` of its tile is predicted by: at the left and upper end Paeth
+/// prediction has fewer neighbours.
 pub fn effective(mode: PredictionMode, x: usize, y: usize) -> PredictionMode
     ensures { result ≡ effective mode x y }
 {

@@ -6,7 +6,8 @@ ghost use Rattle.av1_edges.specs.Sides.{num_avail, where_needed};
 ghost use Rattle.av1_avail.specs.Agreement.{IsNearSquare, IsWhole};
 ghost use Rattle.av1_avail.specs.Asked.{has_before};
 ghost use Rattle.av1_avail.specs.Cells.{transform_columns, transform_rows};
-ghost use Rattle.av1_edges.specs.Edges.{BeginsVisible, PositionFits, visible_columns, visible_rows, has_above_right, has_below_left, num_avail_above, num_avail_left};
+ghost use Rattle.av1_edges.specs.Edges.{BeginsVisible, PositionFits, visible_columns, visible_rows, has_above_right, has_below_left, num_avail_above};
+ghost use Rattle.av1_edges.specs.Edges.{num_avail_left};
 
 use av1_avail::{has_bl, has_bottom_left, has_top_right, has_tr};
 use av1_blocks::{BlockSize, TxSize, supersample_chroma_bsize};
@@ -79,11 +80,12 @@ fn num_avail(limit: usize, first: usize, count: usize, goes_on: bool, run: usize
 }
 
 impl TransformPosition {
-    /// The transform is its whole block, in a plane of these decimations that isn't halved, and no side of it is more than twice the
-    /// other: the bits of the block's place then say what is coded before it.
+    /// The transform is its whole block, in a plane of these decimations that isn't halved, and no side of it is more
+    /// than twice the other: the bits of the block's place then say what is coded before it.
     fn is_told_by_bits(self, xdec: usize, ydec: usize) -> bool
         ensures near { result ≡ true → IsNearSquare self.partition_size }
-        ensures whole { result ≡ true → IsWhole self.partition_size self.tx_size (self.by * transform_rows self.tx_size) (self.bx * transform_columns self.tx_size) xdec ydec }
+        ensures whole { result ≡ true →
+            IsWhole self.partition_size self.tx_size (self.by * transform_rows self.tx_size) (self.bx * transform_columns self.tx_size) xdec ydec }
     {
         let width = self.tx_size.width();
         let height = self.tx_size.height();

@@ -13,7 +13,8 @@ pub sum_fits : (v : ℤ) (b : ℕ) → FitsSigned w32 v → b ≤ 30 → (v +ℤ
 sum_fits v b f h g = let s = half_small b h in omega (arith, ints, f, g)
 
 -- the machine's shift of that sum
-pub round_shift_is : (v : ℤ) (b : ℕ) → FitsSigned w32 (v +ℤ pos (2 ^ b / 2)) → (x : ℤ) → x ≡ v +ℤ pos (2 ^ b / 2) → to_z w32 (of_z w32 (shr_z x (2 ^ b))) ≡ round_shift v b
+pub round_shift_is : (v : ℤ) (b : ℕ) → FitsSigned w32 (v +ℤ pos (2 ^ b / 2)) → (x : ℤ) → x ≡ v +ℤ pos (2 ^ b / 2) →
+    to_z w32 (of_z w32 (shr_z x (2 ^ b))) ≡ round_shift v b
 round_shift_is v b f x e =
     let s : FitsSigned w32 (shr_z (v +ℤ pos (2 ^ b / 2)) (2 ^ b)) = record { sfits = omega (arith, mag_shr (v +ℤ pos (2 ^ b / 2)) (2 ^ b), f.sfits) } in
     ap (λ z. to_z w32 (of_z w32 (shr_z z (2 ^ b)))) e ∙ to_z-of_z w32 _ s

@@ -8,7 +8,8 @@ use Rattle.av1_frame.specs.Samples.{gathered, with_part, part}
 use Rattle.av1_frame.specs.Areas.{IsStorage}
 use Rattle.av1_frame.specs.Planes.{IsWhole, nearest, padded}
 use Rattle.av1_frame.proofs.Fits.{row_end_le}
-use Rattle.av1_frame.proofs.Gather.{gathered_twice, gathered_same, length-gathered, row_place, row_place_at, row_bound, row_stored, rows_more, side_place, sides_more}
+use Rattle.av1_frame.proofs.Gather.{gathered_twice, gathered_same, length-gathered, row_place, row_place_at, row_bound, row_stored, rows_more, side_place}
+use Rattle.av1_frame.proofs.Gather.{sides_more}
 use Rattle.av1_frame.proofs.Regions.{same_storage}
 
 -- p with what stands at the place g k at each place k of storage
@@ -21,7 +22,8 @@ module _ {T : Type 0} (p q : Plane T) (g : ℕ → ℕ) where
       subst (λ (u : Plane T). IsStorage u.plane_cfg (length u.samples)) (sym e) (same_storage p.plane_cfg _ _ (length-gathered g p.samples) h)
 
   -- row r of storage
-  pub row_in : (r stride : ℕ) → IsWhole p → q ≡ gathered_plane p g → stride ≡ p.plane_cfg.stride → r < p.plane_cfg.alloc_height → r * stride + stride ≤ length q.samples
+  pub row_in : (r stride : ℕ) → IsWhole p → q ≡ gathered_plane p g → stride ≡ p.plane_cfg.stride → r < p.plane_cfg.alloc_height →
+      r * stride + stride ≤ length q.samples
   row_in r stride h e s l =
       let n : length q.samples ≡ length p.samples = ap (λ (u : Plane T). length u.samples) e ∙ length-gathered g p.samples in
       let m = row_end_le r p.plane_cfg.alloc_height p.plane_cfg.stride p.plane_cfg.stride (length p.samples) h.fills l (omega arith) in
@@ -42,7 +44,8 @@ module _ {T : Type 0} (p q t : Plane T) (stride y : ℕ) (whole : IsWhole p) (sa
       let some : 0 < n = omega (arith, whole.some_columns, whole.visible_columns) in
       h ∙ ap (λ (u : ℕ). record q { samples = with_part (y * u) q.samples (part (from * u) u q.samples) }) same
       ∙ ap (λ (u : Plane T). record u { samples = with_part (y * n) u.samples (part (from * n) n u.samples) }) e
-      ∙ ap (λ (s : List T). record p { samples = s }) (rows_more n from first y p.plane_cfg.alloc_height p.samples some whole.fills f row l (before_end from first end y apart m))
+      ∙ ap (λ (s : List T). record p { samples = s })
+      (rows_more n from first y p.plane_cfg.alloc_height p.samples some whole.fills f row l (before_end from first end y apart m))
 
   -- one more row has its sides filled
   pub sides_filled_more : (x w : ℕ) (old new : List T) → x ≡ p.plane_cfg.xorigin → w ≡ p.plane_cfg.width
@@ -54,13 +57,16 @@ module _ {T : Type 0} (p q t : Plane T) (stride y : ℕ) (whole : IsWhole p) (sa
       let cfg = p.plane_cfg in
       let s = gathered (side_place n cfg.xorigin cfg.width y) p.samples in
       let a : new ≡ gathered (nearest cfg.xorigin cfg.width) (part (y * n) n s) =
-      f ∙ ap (λ i. gathered (nearest i w) old) ex ∙ ap (λ i. gathered (nearest cfg.xorigin i) old) ew ∙ ap (gathered (nearest cfg.xorigin cfg.width)) (o ∙ ap (λ i. part (y * i) i q.samples) same ∙ ap (λ (u : Plane T). part (y * n) n u.samples) e) in
+      f ∙ ap (λ i. gathered (nearest i w) old) ex ∙ ap (λ i. gathered (nearest cfg.xorigin i) old) ew
+      ∙ ap (gathered (nearest cfg.xorigin cfg.width)) (o ∙ ap (λ i. part (y * i) i q.samples) same ∙ ap (λ (u : Plane T). part (y * n) n u.samples) e) in
       h ∙ ap (λ (u : ℕ). record q { samples = with_part (y * u) q.samples new }) same
       ∙ ap (λ (u : Plane T). record u { samples = with_part (y * n) u.samples new }) e
-      ∙ ap (λ (v : List T). record p { samples = v }) (sides_more n cfg.xorigin cfg.width y cfg.alloc_height p.samples new whole.some_columns (omega (arith, whole.visible_columns)) whole.fills row a)
+      ∙ ap (λ (v : List T). record p { samples = v })
+      (sides_more n cfg.xorigin cfg.width y cfg.alloc_height p.samples new whole.some_columns (omega (arith, whole.visible_columns)) whole.fills row a)
 
 -- all those rows are copies
-pub rows_copied : {T : Type 0} (p t : Plane T) (from first y end : ℕ) → y ≡ end → t ≡ gathered_plane p (row_place p.plane_cfg.stride from first y) → t ≡ gathered_plane p (row_place p.plane_cfg.stride from first end)
+pub rows_copied : {T : Type 0} (p t : Plane T) (from first y end : ℕ) → y ≡ end → t ≡ gathered_plane p (row_place p.plane_cfg.stride from first y) →
+    t ≡ gathered_plane p (row_place p.plane_cfg.stride from first end)
 rows_copied p t from first y end e a =
     a ∙ ap (λ i. gathered_plane p (row_place p.plane_cfg.stride from first i)) e
 
@@ -84,17 +90,21 @@ all_sides_bound cfg n k h l =
     omega (arith, m)
 
 -- each row had its sides filled
-pub sides_filled : {T : Type 0} (p t : Plane T) (y : ℕ) → IsWhole p → p.plane_cfg.alloc_height ≤ y → t ≡ gathered_plane p (side_place p.plane_cfg.stride p.plane_cfg.xorigin p.plane_cfg.width y) → t ≡ gathered_plane p (all_sides p.plane_cfg)
+pub sides_filled : {T : Type 0} (p t : Plane T) (y : ℕ) → IsWhole p → p.plane_cfg.alloc_height ≤ y →
+    t ≡ gathered_plane p (side_place p.plane_cfg.stride p.plane_cfg.xorigin p.plane_cfg.width y) → t ≡ gathered_plane p (all_sides p.plane_cfg)
 sides_filled p t y h l a =
     let cfg = p.plane_cfg in
     let n = length p.samples in
     let g = side_place cfg.stride cfg.xorigin cfg.width y in
-    let e : (k : ℕ) → k < n → g k ≡ all_sides cfg k = λ k m. (let r = row_stored cfg.stride cfg.alloc_height n k h.fills m in all_taken (k / cfg.stride) y cfg.stride (nearest cfg.xorigin cfg.width (k % cfg.stride)) (k % cfg.stride) (omega (arith, r, l))) in
+    let e : (k : ℕ) → k < n → g k ≡ all_sides cfg k =
+    λ k m. (let r = row_stored cfg.stride cfg.alloc_height n k h.fills m
+    in all_taken (k / cfg.stride) y cfg.stride (nearest cfg.xorigin cfg.width (k % cfg.stride)) (k % cfg.stride) (omega (arith, r, l))) in
     a ∙ ap (λ s. record p { samples = s }) (gathered_same g (all_sides cfg) p.samples (λ k m. all_sides_bound cfg n k h m) e)
 
 nearest_row : (yorigin height alloc_height r : ℕ) → 0 < height → yorigin + height ≤ alloc_height → r < alloc_height
     → cond (leb 0 (cond (leb (yorigin + height - 1 + 1) r && ltb r alloc_height) (yorigin + height - 1) r) && ltb
-    (cond (leb (yorigin + height - 1 + 1) r && ltb r alloc_height) (yorigin + height - 1) r) yorigin) yorigin (cond (leb (yorigin + height - 1 + 1) r && ltb r alloc_height) (yorigin + height - 1) r) ≡ nearest yorigin height r
+    (cond (leb (yorigin + height - 1 + 1) r && ltb r alloc_height) (yorigin + height - 1) r) yorigin) yorigin
+    (cond (leb (yorigin + height - 1 + 1) r && ltb r alloc_height) (yorigin + height - 1) r) ≡ nearest yorigin height r
 nearest_row yorigin height alloc_height r h l m =
     elim (cases_lt r yorigin) [
       | inl b ↦ grind (arith, nat_tests)
@@ -105,14 +115,18 @@ nearest_row yorigin height alloc_height r h l m =
     ]
 
 padded_samples : {T : Type 0} (cfg : PlaneConfig) (s : List T) → IsStorage cfg (length s)
-    → gathered (all_sides cfg) (gathered (below_rows cfg cfg.stride) (gathered (above_rows cfg cfg.stride) s)) ≡ gathered (λ k. nearest cfg.yorigin cfg.height (k / cfg.stride) * cfg.stride + nearest cfg.xorigin cfg.width (k % cfg.stride)) s
+    → gathered (all_sides cfg) (gathered (below_rows cfg cfg.stride) (gathered (above_rows cfg cfg.stride) s)) ≡
+    gathered (λ k. nearest cfg.yorigin cfg.height (k / cfg.stride) * cfg.stride + nearest cfg.xorigin cfg.width (k % cfg.stride)) s
 padded_samples cfg s h =
     let n = cfg.stride in
     let ab = above_rows cfg n in
     let be = below_rows cfg n in
     let some : 0 < n = omega (arith, h.some_columns, h.visible_columns) in
-    let bab : (k : ℕ) → k < length s → ab k < length s = λ k l. row_bound n cfg.yorigin 0 cfg.yorigin cfg.alloc_height (length s) k some h.fills (omega (arith, h.visible_rows, h.some_rows)) l in
-    let bbe : (k : ℕ) → k < length s → be k < length s = λ k l. row_bound n (cfg.yorigin + cfg.height - 1) (cfg.yorigin + cfg.height - 1 + 1) cfg.alloc_height cfg.alloc_height (length s) k some h.fills (omega (arith, h.visible_rows, h.some_rows)) l in
+    let bab : (k : ℕ) → k < length s → ab k < length s =
+    λ k l. row_bound n cfg.yorigin 0 cfg.yorigin cfg.alloc_height (length s) k some h.fills (omega (arith, h.visible_rows, h.some_rows)) l in
+    let bbe : (k : ℕ) → k < length s → be k < length s =
+    λ k l. row_bound n (cfg.yorigin + cfg.height - 1)
+    (cfg.yorigin + cfg.height - 1 + 1) cfg.alloc_height cfg.alloc_height (length s) k some h.fills (omega (arith, h.visible_rows, h.some_rows)) l in
     let bsi : (k : ℕ) → k < length s → all_sides cfg k < length s = λ k l. all_sides_bound cfg (length s) k h l in
     let e : (k : ℕ) → k < length s → ab (be (all_sides cfg k)) ≡ nearest cfg.yorigin cfg.height (k / n) * n + nearest cfg.xorigin cfg.width (k % n) = λ k l. (
     let c = nearest cfg.xorigin cfg.width (k % n) in
@@ -120,14 +134,20 @@ padded_samples cfg s h =
     let m : c < n = omega (arith, h.visible_columns, h.some_columns) in
     ap ab (row_place_at n (cfg.yorigin + cfg.height - 1) (cfg.yorigin + cfg.height - 1 + 1) cfg.alloc_height r c m)
     ∙ row_place_at n cfg.yorigin 0 cfg.yorigin _ c m
-    ∙ ap (λ i. i * n + c) (nearest_row cfg.yorigin cfg.height cfg.alloc_height r h.some_rows (omega (arith, h.visible_rows)) (row_stored n cfg.alloc_height (length s) k h.fills l))
+    ∙ ap (λ i. i * n + c)
+    (nearest_row cfg.yorigin cfg.height cfg.alloc_height r h.some_rows (omega (arith, h.visible_rows))
+    (row_stored n cfg.alloc_height (length s) k h.fills l))
     ) in
-    ap (gathered (all_sides cfg)) (gathered_twice ab be s bab bbe) ∙ gathered_twice (λ k. ab (be k)) (all_sides cfg) s (λ k l. bab (be k) (bbe k l)) bsi ∙ gathered_same _ _ s (λ k l. let b = bab (be (all_sides cfg k)) (bbe (all_sides cfg k) (bsi k l)) in omega (arith, b, e k l)) e
+    ap (gathered (all_sides cfg)) (gathered_twice ab be s bab bbe) ∙ gathered_twice (λ k. ab (be k)) (all_sides cfg) s (λ k l. bab (be k) (bbe k l)) bsi
+    ∙ gathered_same _ _ s (λ k l. let b = bab (be (all_sides cfg k)) (bbe (all_sides cfg k) (bsi k l)) in omega (arith, b, e k l)) e
 
 -- the rows above and below copied, and then all sides filled
-pub padded_is : {T : Type 0} (cfg : PlaneConfig) (p q r t : Plane T) → cfg ≡ p.plane_cfg → IsWhole p → q ≡ gathered_plane p (above_rows cfg p.plane_cfg.stride) → r ≡ gathered_plane q (below_rows cfg q.plane_cfg.stride) → t ≡ gathered_plane r (all_sides r.plane_cfg) → t ≡ padded p
+pub padded_is : {T : Type 0} (cfg : PlaneConfig) (p q r t : Plane T) → cfg ≡ p.plane_cfg → IsWhole p →
+    q ≡ gathered_plane p (above_rows cfg p.plane_cfg.stride) → r ≡ gathered_plane q (below_rows cfg q.plane_cfg.stride) →
+    t ≡ gathered_plane r (all_sides r.plane_cfg) → t ≡ padded p
 padded_is cfg p q r t c h a b d =
     d
-    ∙ ap (λ u. gathered_plane u (all_sides u.plane_cfg)) (b ∙ ap (λ u. gathered_plane u (below_rows cfg u.plane_cfg.stride)) (a ∙ ap (λ i. gathered_plane p (above_rows i p.plane_cfg.stride)) c) ∙ ap
+    ∙ ap (λ u. gathered_plane u (all_sides u.plane_cfg))
+    (b ∙ ap (λ u. gathered_plane u (below_rows cfg u.plane_cfg.stride)) (a ∙ ap (λ i. gathered_plane p (above_rows i p.plane_cfg.stride)) c) ∙ ap
     (λ i. gathered_plane (gathered_plane p (above_rows p.plane_cfg p.plane_cfg.stride)) (below_rows i p.plane_cfg.stride)) c)
     ∙ ap (λ s. record p { samples = s }) (padded_samples p.plane_cfg p.samples h)

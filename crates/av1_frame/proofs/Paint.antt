@@ -1,5 +1,6 @@
 -- The steps of a loop that paints a rectangle row by row, and of one that paints a row sample by sample.
-use Rattle.std.proofs.Common.{ℕ, ◌+◌, ◌-◌, ◌*◌, ◌/◌, ◌%◌, ◌<◌, ◌≤◌, ◌≡◌, List, length, take, drop, ◌++◌, get_or, set, refl, ap, arith, ◌∙◌, sym, cond, ◌⊎◌, leb, ltb, inl, inr}
+use Rattle.std.proofs.Common.{ℕ, ◌+◌, ◌-◌, ◌*◌, ◌/◌, ◌%◌, ◌<◌, ◌≤◌, ◌≡◌, List, length, take, drop, ◌++◌, get_or, set, refl, ap, arith, ◌∙◌, sym, cond, ◌⊎◌, leb}
+use Rattle.std.proofs.Common.{ltb, inl, inr}
 use Rattle.std.proofs.lemmas.List.{places, get_or-set_same, get_or-set_other, length-set, get_or_default}
 use Rattle.std.proofs.lemmas.Bool.Decides.{nat_tests}
 use Rattle.std.proofs.lemmas.Bool.{cases_eq, cases_lt, cases_order}
@@ -16,13 +17,16 @@ unfolding paint_row
 paint_row_none g s = update_is _ s s refl (λ k d l. grind (arith, nat_tests))
 
 -- one more sample of a row
-pub paint_row_more : {X : Type 0} (c : ℕ) (g : ℕ → X → X) (s : List X) (v : X) → c < length s → v ≡ g c (get_or s c v) → set (paint_row c g s) c v ≡ paint_row (c + 1) g s
+pub paint_row_more : {X : Type 0} (c : ℕ) (g : ℕ → X → X) (s : List X) (v : X) → c < length s → v ≡ g c (get_or s c v) →
+    set (paint_row c g s) c v ≡ paint_row (c + 1) g s
 unfolding paint_row
 paint_row_more c g s v h e =
-    update_is _ s (set (paint_row c g s) c v) (grind (arith, length-set, length-update)) (λ k d l. grind (arith, nat_tests, get_or-set_same, get_or-set_other, get_or-update, length-update, get_or_default, cases_eq k c))
+    update_is _ s (set (paint_row c g s) c v) (grind (arith, length-set, length-update))
+    (λ k d l. grind (arith, nat_tests, get_or-set_same, get_or-set_other, get_or-update, length-update, get_or_default, cases_eq k c))
 
 -- the same, where the sample x was read from the row t before
-pub paint_row_step : {X : Type 0} (c : ℕ) (g : ℕ → X → X) (s t : List X) (x v : X) → t ≡ paint_row c g s → c < length s → x ≡ get_or t c x → v ≡ g c x → set t c v ≡ paint_row (c + 1) g s
+pub paint_row_step : {X : Type 0} (c : ℕ) (g : ℕ → X → X) (s t : List X) (x v : X) → t ≡ paint_row c g s → c < length s → x ≡ get_or t c x → v ≡ g c x →
+    set t c v ≡ paint_row (c + 1) g s
 unfolding paint_row
 paint_row_step c g s t x v a h e r =
     let y : x ≡ get_or s c x = e ∙ ap (λ u. get_or u c x) a ∙ (get_or-update _ s c x h ∙ grind (arith, nat_tests)) in
@@ -49,12 +53,14 @@ unfolding paint
 paint_none stride a w f s = update_is _ s s refl (λ k d l. grind (arith, nat_tests))
 
 -- the sample of a row that is painted, past its start at i
-row_elem : {X : Type 0} (i n w k : ℕ) (g : ℕ → X → X) (s : List X) (d : X) → i ≤ k → k < length s → w ≤ n → i + n ≤ length s → get_or (paint_row w g (part i n s)) (k - i) (get_or s k d) ≡ cond (ltb (k - i) w) (g (k - i) (get_or s k d)) (get_or s k d)
+row_elem : {X : Type 0} (i n w k : ℕ) (g : ℕ → X → X) (s : List X) (d : X) → i ≤ k → k < length s → w ≤ n → i + n ≤ length s →
+    get_or (paint_row w g (part i n s)) (k - i) (get_or s k d) ≡ cond (ltb (k - i) w) (g (k - i) (get_or s k d)) (get_or s k d)
 unfolding paint_row
 row_elem i n w k g s d h l q e = grind (arith, nat_tests, places, get_or-update, length-update)
 
 -- each sample after such a row is written back
-with_row : {X : Type 0} (i n w k : ℕ) (g : ℕ → X → X) (s : List X) (d : X) → w ≤ n → i + n ≤ length s → k < length s → get_or (with_part i s (paint_row w g (part i n s))) k d ≡ cond (leb i k) (cond (ltb (k - i) w) (g (k - i) (get_or s k d)) (get_or s k d)) (get_or s k d)
+with_row : {X : Type 0} (i n w k : ℕ) (g : ℕ → X → X) (s : List X) (d : X) → w ≤ n → i + n ≤ length s → k < length s →
+    get_or (with_part i s (paint_row w g (part i n s))) k d ≡ cond (leb i k) (cond (ltb (k - i) w) (g (k - i) (get_or s k d)) (get_or s k d)) (get_or s k d)
 unfolding paint_row
 with_row i n w k g s d q e l =
     get_or-update _ s k d l ∙ elim (cases_lt k i) [
@@ -65,7 +71,8 @@ with_row i n w k g s d q e l =
 -- the sample at row q and column p, when row r is painted
 row_painted : {X : Type 0} (stride : ℕ) (a : StoredArea) (w r k p q : ℕ) (f : ℕ → ℕ → X → X) (u v : X) → a.x + w ≤ stride → p < stride
     → k ≡ q * stride + p → u ≡ painted_at (corner a w r) f p q v
-    → cond (leb ((a.y + r) * stride + a.x) k) (cond (ltb (k - ((a.y + r) * stride + a.x)) w) (f r (k - ((a.y + r) * stride + a.x)) u) u) u ≡ painted_at (corner a w (r + 1)) f p q v
+    → cond (leb ((a.y + r) * stride + a.x) k) (cond (ltb (k - ((a.y + r) * stride + a.x)) w) (f r (k - ((a.y + r) * stride + a.x)) u) u) u ≡
+    painted_at (corner a w (r + 1)) f p q v
 row_painted stride a w r k p q f u v h l e t =
     elim (cases_order q (a.y + r)) [
       | inl b ↦ (let m : q * stride ≡ (a.y + r) * stride = ap (λ n. n * stride) b in grind (arith, nat_tests))
@@ -76,14 +83,17 @@ row_painted stride a w r k p q f u v h l e t =
 -- one more row of a rectangle
 pub paint_more : {X : Type 0} (stride : ℕ) (a : StoredArea) (w r n : ℕ) (f : ℕ → ℕ → X → X) (s : List X) → 0 < stride → a.x + n ≤ stride → w ≤ n
     → (a.y + r) * stride + a.x + n ≤ length s
-    → with_part ((a.y + r) * stride + a.x) (paint stride (corner a w r) f s) (paint_row w (f r) (part ((a.y + r) * stride + a.x) n (paint stride (corner a w r) f s))) ≡ paint stride (corner a w (r + 1)) f s
+    → with_part ((a.y + r) * stride + a.x) (paint stride (corner a w r) f s)
+    (paint_row w (f r) (part ((a.y + r) * stride + a.x) n (paint stride (corner a w r) f s))) ≡ paint stride (corner a w (r + 1)) f s
 unfolding paint paint_row
 paint_more stride a w r n f s z p q h =
     update_is _ s _ (grind (arith, length-update)) (λ k d l. let e : k ≡ k / stride * stride + k % stride = omega arith in
-    with_row _ n w k (f r) (paint stride (corner a w r) f s) d q (omega (arith, length-update)) (omega (arith, length-update)) ∙ row_painted stride a w r k (k % stride) (k / stride) f _ _ (omega arith) (omega arith) e (get_or-update _ s k d l))
+    with_row _ n w k (f r) (paint stride (corner a w r) f s) d q (omega (arith, length-update)) (omega (arith, length-update))
+    ∙ row_painted stride a w r k (k % stride) (k / stride) f _ _ (omega arith) (omega arith) e (get_or-update _ s k d l))
 
 -- the sample at column p of row q of a painted rectangle, and of all else
-pub paint_at : {X : Type 0} (stride : ℕ) (a : StoredArea) (f : ℕ → ℕ → X → X) (s : List X) (p q : ℕ) (d : X) → p < stride → q * stride + p < length s → get_or (paint stride a f s) (q * stride + p) d ≡ painted_at a f p q (get_or s (q * stride + p) d)
+pub paint_at : {X : Type 0} (stride : ℕ) (a : StoredArea) (f : ℕ → ℕ → X → X) (s : List X) (p q : ℕ) (d : X) → p < stride → q * stride + p < length s →
+    get_or (paint stride a f s) (q * stride + p) d ≡ painted_at a f p q (get_or s (q * stride + p) d)
 unfolding paint
 paint_at stride a f s p q d h l =
     get_or-update _ s (q * stride + p) d l ∙ rw (div-mul-add q stride p h, mod-mul-add q stride p h) refl
@@ -94,7 +104,8 @@ pub paint_inside : {X : Type 0} (stride : ℕ) (a : StoredArea) (f : ℕ → ℕ
 paint_inside stride a f s r c d h e w l =
     let t = paint_at stride a f s (a.x + c) (a.y + r) d (omega arith) l in grind (arith, nat_tests)
 
-same_at : {X : Type 0} (a : StoredArea) (p q : ℕ) (f g : ℕ → ℕ → X → X) (v : X) → ((r c : ℕ) (v : X) → r < a.height → c < a.width → f r c v ≡ g r c v) → painted_at a f p q v ≡ painted_at a g p q v
+same_at : {X : Type 0} (a : StoredArea) (p q : ℕ) (f g : ℕ → ℕ → X → X) (v : X) → ((r c : ℕ) (v : X) → r < a.height → c < a.width → f r c v ≡ g r c v) →
+    painted_at a f p q v ≡ painted_at a g p q v
 same_at a p q f g v e =
     elim (cases_lt p a.x) [
       | inl b ↦ grind (arith, nat_tests)
@@ -111,7 +122,8 @@ same_at a p q f g v e =
     ]
 
 -- two changes that agree in the rectangle paint the same
-pub paint_same : {X : Type 0} (stride : ℕ) (a : StoredArea) (f g : ℕ → ℕ → X → X) (s : List X) → ((r c : ℕ) (v : X) → r < a.height → c < a.width → f r c v ≡ g r c v) → paint stride a f s ≡ paint stride a g s
+pub paint_same : {X : Type 0} (stride : ℕ) (a : StoredArea) (f g : ℕ → ℕ → X → X) (s : List X) →
+    ((r c : ℕ) (v : X) → r < a.height → c < a.width → f r c v ≡ g r c v) → paint stride a f s ≡ paint stride a g s
 unfolding paint
 paint_same stride a f g s e =
     update_is _ s _ (length-update _ s) (λ k d l. get_or-update _ s k d l ∙ same_at a (k % stride) (k / stride) f g (get_or s k d) e)
@@ -132,17 +144,21 @@ unfolding paint_row
 length-paint_row w g s = length-update _ s
 
 -- a row of the rest of a slice, from its place n on, is painted: each element after that
-rest_elem : {X : Type 0} (n w k : ℕ) (g : ℕ → X → X) (t : List X) (d : X) → n + w ≤ length t → k < length t → get_or (take n t ++ paint_row w g (drop n t)) k d ≡ cond (leb n k) (cond (ltb (k - n) w) (g (k - n) (get_or t k d)) (get_or t k d)) (get_or t k d)
+rest_elem : {X : Type 0} (n w k : ℕ) (g : ℕ → X → X) (t : List X) (d : X) → n + w ≤ length t → k < length t →
+    get_or (take n t ++ paint_row w g (drop n t)) k d ≡ cond (leb n k) (cond (ltb (k - n) w) (g (k - n) (get_or t k d)) (get_or t k d)) (get_or t k d)
 unfolding paint_row
 rest_elem n w k g t d h l =
     elim (cases_lt k n) [
       | inl b ↦ grind (arith, nat_tests, places, length-update)
-      | inr b ↦ (let q : k - n < length (drop n t) = grind (arith, places) in let e = get_or-update (λ c v. cond (ltb c w) (g c v) v) (drop n t) (k - n) d q in grind (arith, nat_tests, places, length-update))
+      | inr b ↦ (let q : k - n < length (drop n t) = grind (arith, places) in let e = get_or-update (λ c v. cond (ltb c w) (g c v) v) (drop n t) (k - n) d q
+          in grind (arith, nat_tests, places, length-update))
     ]
 
-rest_is : {X : Type 0} (n w : ℕ) (g : ℕ → X → X) (t : List X) → n + w ≤ length t → take n t ++ paint_row w g (drop n t) ≡ with_part n t (paint_row w g (part n w t))
+rest_is : {X : Type 0} (n w : ℕ) (g : ℕ → X → X) (t : List X) → n + w ≤ length t →
+    take n t ++ paint_row w g (drop n t) ≡ with_part n t (paint_row w g (part n w t))
 rest_is n w g t h =
-    update_is _ t _ (let e = length-paint_row w g (drop n t) in grind (arith, places)) (λ k d l. rest_elem n w k g t d h l ∙ sym (with_row n w w k g t d (omega arith) h l) ∙ get_or-update _ t k d l)
+    update_is _ t _ (let e = length-paint_row w g (drop n t) in grind (arith, places))
+    (λ k d l. rest_elem n w k g t d h l ∙ sym (with_row n w w k g t d (omega arith) h l) ∙ get_or-update _ t k d l)
 
 -- row y of the rectangle a ends in them, and begins in them
 pub row_within : (stride : ℕ) (a : StoredArea) (n y : ℕ) → AreRows stride a n → y < a.height → (a.y + y) * stride + a.x + a.width ≤ n
@@ -154,13 +170,16 @@ pub row_starts_within : (stride : ℕ) (a : StoredArea) (n y : ℕ) → AreRows 
 row_starts_within stride a n y f h = let e = row_within stride a n y f h in omega arith
 
 -- one more row: all from the row on was taken, the row was painted, and it was joined again
-pub row_painted_rest : {X : Type 0} (stride : ℕ) (a : StoredArea) (r : ℕ) (f : ℕ → ℕ → X → X) (s t front rest new : List X) → AreRows stride a (length s) → r < a.height → t ≡ paint stride (corner a a.width r) f s
-    → let n : ℕ = (a.y + r) * stride + a.x in front ≡ take n t → rest ≡ drop n t → new ≡ paint_row a.width (f r) rest → front ++ new ≡ paint stride (corner a a.width (r + 1)) f s
+pub row_painted_rest : {X : Type 0} (stride : ℕ) (a : StoredArea) (r : ℕ) (f : ℕ → ℕ → X → X) (s t front rest new : List X) → AreRows stride a (length s) →
+    r < a.height → t ≡ paint stride (corner a a.width r) f s
+    → let n : ℕ = (a.y + r) * stride + a.x in front ≡ take n t → rest ≡ drop n t → new ≡ paint_row a.width (f r) rest →
+    front ++ new ≡ paint stride (corner a a.width (r + 1)) f s
 row_painted_rest stride a r f s t front rest new h l e p q b =
     let n : ℕ = (a.y + r) * stride + a.x in
     let fits : n + a.width ≤ length s = row_within stride a (length s) r h l in
     let same : length t ≡ length s = ap length e ∙ length_paint stride _ f s in
-    ap (λ u. u ++ new) p ∙ ap (λ u. take n t ++ u) (b ∙ ap (paint_row a.width (f r)) q) ∙ rest_is n a.width (f r) t (omega arith) ∙ ap (λ u. with_part n u (paint_row a.width (f r) (part n a.width u))) e ∙ paint_more stride a a.width r a.width f s h.some h.columns (omega arith) fits
+    ap (λ u. u ++ new) p ∙ ap (λ u. take n t ++ u) (b ∙ ap (paint_row a.width (f r)) q) ∙ rest_is n a.width (f r) t (omega arith)
+    ∙ ap (λ u. with_part n u (paint_row a.width (f r) (part n a.width u))) e ∙ paint_more stride a a.width r a.width f s h.some h.columns (omega arith) fits
 
 -- a loop that writes a rectangle of a slice row by row; `row_painted_rest` closes it
 pub ruleset rectangle_painting = (paint_none, length_paint, row_starts_within, row_within)

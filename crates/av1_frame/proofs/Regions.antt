@@ -34,10 +34,12 @@ module _ {T : Type 0} (r o : PlaneRegionMut T) (w y : ℕ) (f : ℕ → ℕ → 
   painted_more row new e h p q a b =
       let g = h.fits in
       let c : new ≡ paint_row w (f y) (row_of o.plane_cfg.stride o.area y (stored o)) = b ∙ ap (paint_row w (f y)) a in
-      let l : (r.area.y + y) * r.plane_cfg.stride + (r.area.x + r.area.width) ≤ length (stored r) = row_end_le _ r.plane_cfg.alloc_height _ _ _ g.storage.fills (omega (arith, g.rows)) g.columns in
+      let l : (r.area.y + y) * r.plane_cfg.stride + (r.area.x + r.area.width) ≤ length (stored r) =
+      row_end_le _ r.plane_cfg.alloc_height _ _ _ g.storage.fills (omega (arith, g.rows)) g.columns in
       let some : 0 < r.plane_cfg.stride = omega (arith, g.storage.some_columns, g.storage.visible_columns) in
       ap (λ n. with_samples o (with_part (row_start o.plane_cfg.stride o.area y) (stored o) n)) c
-      ∙ ap (λ u. with_samples u (with_part (row_start u.plane_cfg.stride u.area y) (stored u) (paint_row w (f y) (row_of u.plane_cfg.stride u.area y (stored u))))) e
+      ∙ ap (λ u.
+      with_samples u (with_part (row_start u.plane_cfg.stride u.area y) (stored u) (paint_row w (f y) (row_of u.plane_cfg.stride u.area y (stored u))))) e
       ∙ ap (with_samples r) (paint_more r.plane_cfg.stride r.area w y r.area.width f (stored r) some g.columns p (omega arith))
 
   -- the same by another change that agrees on those rows and columns
@@ -48,7 +50,8 @@ module _ {T : Type 0} (r o : PlaneRegionMut T) (w y : ℕ) (f : ℕ → ℕ → 
 pub ruleset region_painting = (painted_none, painted_in_storage, painted_more)
 
 -- a region that was painted in part still lies in storage
-pub painted_within_in_storage : {T : Type 0} (r o : PlaneRegionMut T) (a : StoredArea) (f : ℕ → ℕ → T → T) → o ≡ painted_within r a f → InStorage r → InStorage o
+pub painted_within_in_storage : {T : Type 0} (r o : PlaneRegionMut T) (a : StoredArea) (f : ℕ → ℕ → T → T) → o ≡ painted_within r a f → InStorage r →
+    InStorage o
 painted_within_in_storage r o a f e h =
     subst InStorage (sym e) (record { fits = same_fits r.area r.plane_cfg _ _ (length_paint _ _ f (stored r)) h.fits; cfg = h.cfg; rect = h.rect })
 
@@ -58,7 +61,8 @@ written_in_storage r i ws h =
     record { fits = same_fits r.area r.plane_cfg _ _ (length_with_part i (stored r) ws) h.fits; cfg = h.cfg; rect = h.rect }
 
 -- the first rows and columns of a region are rows of its samples
-pub corner_rows : {T : Type 0} (r : PlaneRegionMut T) (w h : ℕ) → InStorage r → w ≤ r.area.width → h ≤ r.area.height → AreRows r.plane_cfg.stride (corner r.area w h) (length (stored r))
+pub corner_rows : {T : Type 0} (r : PlaneRegionMut T) (w h : ℕ) → InStorage r → w ≤ r.area.width → h ≤ r.area.height →
+    AreRows r.plane_cfg.stride (corner r.area w h) (length (stored r))
 corner_rows r w h s p q =
     let f = s.fits in
     record {
@@ -69,10 +73,12 @@ corner_rows r w h s p q =
     }
 
 -- a region all of whose samples were lent and painted
-pub lent_painted : {T : Type 0} (r : PlaneRegionMut T) (w h : ℕ) (a : StoredArea) (f g : ℕ → ℕ → T → T) (s ws : List T) → a ≡ corner r.area w h → s ≡ stored r → ws ≡ paint r.plane_cfg.stride a f s
+pub lent_painted : {T : Type 0} (r : PlaneRegionMut T) (w h : ℕ) (a : StoredArea) (f g : ℕ → ℕ → T → T) (s ws : List T) → a ≡ corner r.area w h → s ≡ stored r →
+    ws ≡ paint r.plane_cfg.stride a f s
     → ((q p : ℕ) (v : T) → q < h → p < w → f q p v ≡ g q p v) → with_samples r (with_part 0 (stored r) ws) ≡ painted r w h g
 lent_painted r w h a f g s ws b l e same =
-    let m : ws ≡ paint r.plane_cfg.stride (corner r.area w h) f (stored r) = e ∙ ap (λ b. paint r.plane_cfg.stride b f s) b ∙ ap (paint r.plane_cfg.stride (corner r.area w h) f) l in
+    let m : ws ≡ paint r.plane_cfg.stride (corner r.area w h) f (stored r) = e ∙ ap (λ b. paint r.plane_cfg.stride b f s) b
+    ∙ ap (paint r.plane_cfg.stride (corner r.area w h) f) l in
     ap (with_samples r) (with_whole (stored r) ws (ap length m ∙ length_paint _ _ f (stored r)) ∙ m ∙ paint_same r.plane_cfg.stride _ f g (stored r) same)
 
 -- a region that lends all its samples to a loop over a slice

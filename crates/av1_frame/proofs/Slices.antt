@@ -1,5 +1,6 @@
 -- Samples that are read by signed places.
-use Rattle.std.proofs.Common.{ℕ, List, refl, subst, ◌≤ℤ◌, ◌<ℤ◌, ◌+◌, ◌-◌, ◌*◌, ◌/◌, ◌%◌, ◌<◌, ◌≡◌, length, get_or, drop, map, slice_index, ap, arith, ◌∙◌, sym, ℤ, pos, negsuc, ◌+ℤ◌, unsigned_abs}
+use Rattle.std.proofs.Common.{ℕ, List, refl, subst, ◌≤ℤ◌, ◌<ℤ◌, ◌+◌, ◌-◌, ◌*◌, ◌/◌, ◌%◌, ◌<◌, ◌≡◌, length, get_or, drop, map, slice_index, ap, arith, ◌∙◌, sym}
+use Rattle.std.proofs.Common.{ℤ, pos, negsuc, ◌+ℤ◌, unsigned_abs}
 use Rattle.std.proofs.lemmas.List.{get_or-map, get_or-drop, places}
 use Rattle.std.proofs.lemmas.Int.{ints}
 use Rattle.std.proofs.lemmas.Nat.{div-mul-add, mod-mul-add}
@@ -42,14 +43,16 @@ moved_right origin x c h =
     ap unsigned_abs f
 
 -- a stored column and row are a place of storage
-stored_place : (cfg : PlaneConfig) (n : ℕ) (x y : ℤ) (c : ℕ) → IsStorage cfg n → IsStoredPlace cfg x y → stored_column cfg x + c < cfg.stride → stored_row cfg y * cfg.stride + stored_column cfg x + c < n
+stored_place : (cfg : PlaneConfig) (n : ℕ) (x y : ℤ) (c : ℕ) → IsStorage cfg n → IsStoredPlace cfg x y → stored_column cfg x + c < cfg.stride →
+    stored_row cfg y * cfg.stride + stored_column cfg x + c < n
 stored_place cfg n x y c h s l =
     let r = abs_below (pos cfg.yorigin +ℤ y) cfg.alloc_height s.top s.bottom in
     let e = row_end_le (stored_row cfg y) cfg.alloc_height cfg.stride (stored_column cfg x + c + 1) n h.fills r (omega arith) in
     omega (arith, e)
 
 -- what stands at a place after padding
-pub padded_sample : {T : Type 0} (num : T → ℕ) (p : Plane T) (x y : ℤ) → IsWhole p → IsStoredPlace p.plane_cfg x y → stored_sample num (padded p) x y ≡ sample_at num p (nearest_visible p.plane_cfg.width x) (nearest_visible p.plane_cfg.height y)
+pub padded_sample : {T : Type 0} (num : T → ℕ) (p : Plane T) (x y : ℤ) → IsWhole p → IsStoredPlace p.plane_cfg x y →
+    stored_sample num (padded p) x y ≡ sample_at num p (nearest_visible p.plane_cfg.width x) (nearest_visible p.plane_cfg.height y)
 padded_sample num p x y h s =
     let cfg = p.plane_cfg in
     let row = stored_row cfg y in
@@ -64,25 +67,30 @@ padded_sample num p x y h s =
     let vx = visible_below cfg.width x h.some_columns in
     let vy = visible_below cfg.height y h.some_rows in
     let to = place_at cfg nx ny in
-    let m : to < length p.samples = place_in_storage cfg (length p.samples) nx ny h (omega (arith, vx, h.visible_columns)) (omega (arith, vy, h.visible_rows)) in
+    let m : to < length p.samples = place_in_storage cfg (length p.samples) nx ny h (omega (arith, vx, h.visible_columns)) (omega (arith, vy, h.visible_rows))
+    in
     let e : g k ≡ to =
     rw (div-mul-add row cfg.stride column c, mod-mul-add row cfg.stride column c) (ap (λ i. i * cfg.stride + nearest cfg.xorigin cfg.width column)
-    (nearest_is cfg.yorigin cfg.height y h.some_rows s.top) ∙ ap (λ i. (cfg.yorigin + ny) * cfg.stride + i) (nearest_is cfg.xorigin cfg.width x h.some_columns s.left)) in
+    (nearest_is cfg.yorigin cfg.height y h.some_rows s.top)
+    ∙ ap (λ i. (cfg.yorigin + ny) * cfg.stride + i) (nearest_is cfg.xorigin cfg.width x h.some_columns s.left)) in
     let d = some_item p.samples k l in
-    get_or-map num (gathered g p.samples) k d 0 (omega (arith, l, length-gathered g p.samples)) ∙ ap num (get_or-gathered g p.samples k d l (omega (arith, e, m)) ∙ ap (λ i. get_or p.samples i d) e) ∙ sym (get_or-map num p.samples to d 0 m)
+    get_or-map num (gathered g p.samples) k d 0 (omega (arith, l, length-gathered g p.samples))
+    ∙ ap num (get_or-gathered g p.samples k d l (omega (arith, e, m)) ∙ ap (λ i. get_or p.samples i d) e) ∙ sym (get_or-map num p.samples to d 0 m)
 
 pub padded_whole : {T : Type 0} (p : Plane T) → IsWhole p → IsWhole (padded p)
 padded_whole p = same_storage p.plane_cfg _ _ (length-gathered _ p.samples)
 
 -- a plane that was padded
-pub padded_has : {T : Type 0} (num : T → ℕ) (p q : Plane T) → q ≡ padded p → IsWhole p → (x y : ℤ) → IsStoredPlace p.plane_cfg x y → stored_sample num q x y ≡ sample_at num p (nearest_visible p.plane_cfg.width x) (nearest_visible p.plane_cfg.height y)
+pub padded_has : {T : Type 0} (num : T → ℕ) (p q : Plane T) → q ≡ padded p → IsWhole p → (x y : ℤ) → IsStoredPlace p.plane_cfg x y →
+    stored_sample num q x y ≡ sample_at num p (nearest_visible p.plane_cfg.width x) (nearest_visible p.plane_cfg.height y)
 padded_has num p q e h x y s = ap (λ u. stored_sample num u x y) e ∙ padded_sample num p x y h s
 
 pub padded_is_whole : {T : Type 0} (p q : Plane T) → q ≡ padded p → IsWhole p → IsWhole q
 padded_is_whole {T} p q e h = subst (λ (u : Plane T). IsStorage u.plane_cfg (length u.samples)) (sym e) (padded_whole p h)
 
 -- column c of a row that is read from a place on
-pub row_from_sample : {T : Type 0} (num : T → ℕ) (p : Plane T) (x y : ℤ) (c : ℕ) → IsWhole p → IsStoredPlace p.plane_cfg x y → stored_column p.plane_cfg x + c < p.plane_cfg.stride → slice_index (map num (row_from p x y)) c ≡ stored_sample num p (x +ℤ pos c) y
+pub row_from_sample : {T : Type 0} (num : T → ℕ) (p : Plane T) (x y : ℤ) (c : ℕ) → IsWhole p → IsStoredPlace p.plane_cfg x y →
+    stored_column p.plane_cfg x + c < p.plane_cfg.stride → slice_index (map num (row_from p x y)) c ≡ stored_sample num p (x +ℤ pos c) y
 row_from_sample num p x y c h s l =
     let cfg = p.plane_cfg in
     let i = stored_row cfg y * cfg.stride + stored_column cfg x in
@@ -91,13 +99,15 @@ row_from_sample num p x y c h s l =
     let d = some_item p.samples (i + c) b in
     let e : get_or (part i w p.samples) c d ≡ get_or p.samples (i + c) d = grind (arith, places) in
     let f : i + c ≡ stored_row cfg y * cfg.stride + stored_column cfg (x +ℤ pos c) = omega (arith, moved_right cfg.xorigin x c s.left) in
-    get_or-map num (part i w p.samples) c d 0 (grind (arith, places, b)) ∙ ap num e ∙ sym (get_or-map num p.samples (i + c) d 0 b) ∙ ap (λ j. slice_index (map num p.samples) j) f
+    get_or-map num (part i w p.samples) c d 0 (grind (arith, places, b)) ∙ ap num e ∙ sym (get_or-map num p.samples (i + c) d 0 b)
+    ∙ ap (λ j. slice_index (map num p.samples) j) f
 
 rows_and_columns : (a r stride b c : ℕ) → a * stride + b + (r * stride + c) ≡ (a + r) * stride + (b + c)
 rows_and_columns a r stride b c = grind arith
 
 -- column c of row r of all that is stored from a place on lies in storage
-pub all_from_fits : {T : Type 0} (p : Plane T) (x y : ℤ) (r c : ℕ) → IsWhole p → IsStoredPlace p.plane_cfg x y → IsStoredPlace p.plane_cfg x (y +ℤ pos r) → stored_column p.plane_cfg x + c < p.plane_cfg.stride
+pub all_from_fits : {T : Type 0} (p : Plane T) (x y : ℤ) (r c : ℕ) → IsWhole p → IsStoredPlace p.plane_cfg x y → IsStoredPlace p.plane_cfg x (y +ℤ pos r) →
+    stored_column p.plane_cfg x + c < p.plane_cfg.stride
     → r * p.plane_cfg.stride + c < length (all_from p x y)
 all_from_fits p x y r c h s t l =
     let cfg = p.plane_cfg in
@@ -108,7 +118,8 @@ all_from_fits p x y r c h s t l =
     grind (arith, places, e, b)
 
 -- that sample
-pub all_from_sample : {T : Type 0} (num : T → ℕ) (p : Plane T) (x y : ℤ) (r c : ℕ) → IsWhole p → IsStoredPlace p.plane_cfg x y → IsStoredPlace p.plane_cfg x (y +ℤ pos r) → stored_column p.plane_cfg x + c < p.plane_cfg.stride
+pub all_from_sample : {T : Type 0} (num : T → ℕ) (p : Plane T) (x y : ℤ) (r c : ℕ) → IsWhole p → IsStoredPlace p.plane_cfg x y →
+    IsStoredPlace p.plane_cfg x (y +ℤ pos r) → stored_column p.plane_cfg x + c < p.plane_cfg.stride
     → slice_index (map num (all_from p x y)) (r * p.plane_cfg.stride + c) ≡ stored_sample num p (x +ℤ pos c) (y +ℤ pos r)
 all_from_sample num p x y r c h s t l =
     let cfg = p.plane_cfg in
@@ -118,10 +129,12 @@ all_from_sample num p x y r c h s t l =
     let m : stored_row cfg (y +ℤ pos r) ≡ stored_row cfg y + r = moved_right cfg.yorigin y r s.top in
     let n : stored_column cfg (x +ℤ pos c) ≡ stored_column cfg x + c = moved_right cfg.xorigin x c s.left in
     let f : i + k ≡ stored_row cfg (y +ℤ pos r) * cfg.stride + stored_column cfg (x +ℤ pos c) =
-    rows_and_columns (stored_row cfg y) r cfg.stride (stored_column cfg x) c ∙ ap (λ q. q * cfg.stride + (stored_column cfg x + c)) (sym m) ∙ ap (λ q. stored_row cfg (y +ℤ pos r) * cfg.stride + q) (sym n) in
+    rows_and_columns (stored_row cfg y) r cfg.stride (stored_column cfg x) c ∙ ap (λ q. q * cfg.stride + (stored_column cfg x + c)) (sym m)
+    ∙ ap (λ q. stored_row cfg (y +ℤ pos r) * cfg.stride + q) (sym n) in
     let within : i + k < length p.samples = omega (arith, f, n, b) in
     let d = some_item p.samples (i + k) within in
-    get_or-map num (drop i p.samples) k d 0 (all_from_fits p x y r c h s t l) ∙ ap num (get_or-drop i p.samples k d) ∙ sym (get_or-map num p.samples (i + k) d 0 within) ∙ ap (λ j. slice_index (map num p.samples) j) f
+    get_or-map num (drop i p.samples) k d 0 (all_from_fits p x y r c h s t l) ∙ ap num (get_or-drop i p.samples k d)
+    ∙ sym (get_or-map num p.samples (i + k) d 0 within) ∙ ap (λ j. slice_index (map num p.samples) j) f
 
 -- a slice of a plane's samples, with its settings
 pub slice_plane_is : {T : Type 0} (s : PlaneSlice T) (p : Plane T) → s.samples.now ≡ p.samples → s.plane_cfg.now ≡ p.plane_cfg → slice_plane s ≡ p

@@ -23,12 +23,14 @@ unfolding update
 get_or-update f s k d h = get_or-map_from 0 f s k d h ∙ ap (λ n. f n (get_or s k d)) (omega arith)
 
 -- a list that has f of each element is the update
-pub update_is : {X : Type 0} (f : ℕ → X → X) (s t : List X) → length t ≡ length s → ((k : ℕ) (d : X) → k < length s → get_or t k d ≡ f k (get_or s k d)) → t ≡ update f s
+pub update_is : {X : Type 0} (f : ℕ → X → X) (s t : List X) → length t ≡ length s → ((k : ℕ) (d : X) → k < length s → get_or t k d ≡ f k (get_or s k d)) →
+    t ≡ update f s
 update_is f s t e h =
     same_lists t (update f s) (e ∙ sym (length-update f s)) (λ k d l. h k d (omega arith) ∙ sym (get_or-update f s k d (omega arith)))
 
 -- what a Vec of n elements s, seen as t, ends as after a write to its part from i on
-pub vec_part_is : {X : Type 0} (n i : ℕ) (s t ws : List X) → s ≡ t → n ≡ length s → i ≤ length t → take n (take i s ++ (ws ++ drop (length ws) (drop i s)) ++ drop (length (take i s ++ (ws ++ drop (length ws) (drop i s)))) s) ≡ with_part i t ws
+pub vec_part_is : {X : Type 0} (n i : ℕ) (s t ws : List X) → s ≡ t → n ≡ length s → i ≤ length t →
+    take n (take i s ++ (ws ++ drop (length ws) (drop i s)) ++ drop (length (take i s ++ (ws ++ drop (length ws) (drop i s)))) s) ≡ with_part i t ws
 vec_part_is n i s t ws v e h =
     let l : length s ≡ length t = ap length v in
     update_is _ s _ (grind (arith, places)) (λ k d l. grind (arith, places, nat_tests)) ∙ ap (λ u. with_part i u ws) v

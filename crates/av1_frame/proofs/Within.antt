@@ -1,5 +1,6 @@
 -- What holds of each stored sample of a plane, and what painting leaves of it.
-use Rattle.std.proofs.Common.{ℕ, ◌+◌, ◌-◌, ◌/◌, ◌%◌, ◌^◌, ◌<◌, ◌≡◌, ℤ, pos, negsuc, List, [], ◌∷◌, length, get_or, map, replicate, slice_index, min, Bool, true, false, cond, refl, ap, subst, sym, arith, ◌∙◌, inl, inr}
+use Rattle.std.proofs.Common.{ℕ, ◌+◌, ◌-◌, ◌/◌, ◌%◌, ◌^◌, ◌<◌, ◌≡◌, ℤ, pos, negsuc, List, [], ◌∷◌, length, get_or, map, replicate, slice_index, min, Bool, true}
+use Rattle.std.proofs.Common.{false, cond, refl, ap, subst, sym, arith, ◌∙◌, inl, inr}
 use Rattle.std.specs.List.{All}
 use Rattle.std.proofs.lemmas.Bool.Decides.{nat_tests}
 use Rattle.std.proofs.lemmas.Bool.{cases_lt}
@@ -53,7 +54,8 @@ module _ {X : Type 0} (P : X → Type 0) (stride : ℕ) (a : StoredArea) (f : �
       All-from_get_or P (paint stride a f (x ∷ xs)) x (λ k l. let m : k < length (x ∷ xs) = omega (arith, l, length_paint stride a f (x ∷ xs)) in
       let v = get_or (x ∷ xs) k x in
       let ok = All-get_or P (x ∷ xs) k x m all in
-      subst P (sym (get_or-update (λ i w. painted_at a f (i % stride) (i / stride) w) (x ∷ xs) k x m)) (at_place P a (k % stride) (k / stride) f v (λ r c i j. h r c v i j ok) ok))
+      subst P (sym (get_or-update (λ i w. painted_at a f (i % stride) (i / stride) w) (x ∷ xs) k x m))
+      (at_place P a (k % stride) (k / stride) f v (λ r c i j. h r c v i j ok) ok))
 
 module _ {T : Type 0} (P : T → Type 0) (p : Plane T) (a : VisibleArea) (f : ℕ → ℕ → T → T) where
   -- a plane of which a rectangle's samples are given back is the same
@@ -78,7 +80,8 @@ pub clipped_plane_kept : {T : Type 0} (num : T → ℕ) (pixel : ℕ → T) → 
     → (depth : ℕ) (p : Plane T) (a : VisibleArea) → All (λ v. num v < 2 ^ depth) p.samples
     → painted_plane p a (λ r c v. pixel (min (num v) (2 ^ depth - 1))) ≡ p
 clipped_plane_kept num pixel back depth p a all =
-    painted_plane_kept (λ v. num v < 2 ^ depth) p a (λ r c v. pixel (min (num v) (2 ^ depth - 1))) all (λ r c v i j l. let e : min (num v) (2 ^ depth - 1) ≡ num v = omega (arith, l) in ap pixel e ∙ back v)
+    painted_plane_kept (λ v. num v < 2 ^ depth) p a (λ r c v. pixel (min (num v) (2 ^ depth - 1))) all (λ r c v i j l. let e : min (num v) (2 ^ depth - 1) ≡
+    num v = omega (arith, l) in ap pixel e ∙ back v)
 
 -- ---- other planes
 

@@ -1,5 +1,6 @@
 -- Rectangles of a plane: of its visible samples, of its storage, and those that an area names.
-use Rattle.std.specs.Prelude.{◌≡◌, ℕ, ◌+◌, ◌-◌, ◌*◌, ◌/◌, ◌^◌, ◌≤◌, ◌<◌, Bool, ◌&&◌, nat_le, nat_lt, ℤ, pos, ◌+ℤ◌, ◌-ℤ◌, ◌≤ℤ◌, unsigned_abs}
+use Rattle.std.specs.Prelude.{◌≡◌, ℕ, ◌+◌, ◌-◌, ◌*◌, ◌/◌, ◌^◌, ◌≤◌, ◌<◌, Bool, ◌&&◌, nat_le, nat_lt, ℤ, pos, ◌+ℤ◌, ◌-ℤ◌}
+use Rattle.std.specs.Prelude.{◌≤ℤ◌, unsigned_abs}
 use Rattle.av1_frame.specs.declared.plane.PlaneConfig.{PlaneConfig}
 use Rattle.av1_frame.specs.declared.plane_region.StoredArea.{StoredArea}
 use Rattle.av1_frame.specs.declared.plane_region.Rect.{Rect}
@@ -27,11 +28,22 @@ in_visible a x y = (nat_le a.x x && nat_lt x (a.x + a.width)) && (nat_le a.y y &
 
 -- the rectangle of storage a, counted from the first visible sample
 abbrev pub rect_of : PlaneConfig → StoredArea → Rect
-rect_of cfg a = record { x = pos a.x -ℤ pos cfg.xorigin; y = pos a.y -ℤ pos cfg.yorigin; width = a.width; height = a.height }
+rect_of cfg a = record {
+  x = pos a.x -ℤ pos cfg.xorigin;
+  y = pos a.y -ℤ pos cfg.yorigin;
+  width = a.width;
+  height = a.height;
+}
 
 -- storage from the first visible sample on
 abbrev pub from_origin : PlaneConfig → StoredArea
-from_origin cfg = record { x = cfg.xorigin; y = cfg.yorigin; width = cfg.stride - cfg.xorigin; height = cfg.alloc_height - cfg.yorigin }
+from_origin cfg =
+    record {
+      x = cfg.xorigin;
+      y = cfg.yorigin;
+      width = cfg.stride - cfg.xorigin;
+      height = cfg.alloc_height - cfg.yorigin;
+    }
 
 -- the first column or row of the block at a cell of 4 luma samples, in a plane of this decimation
 abbrev pub block_start : ℕ → ℕ → ℕ
@@ -48,7 +60,8 @@ first_row cfg a (BlockStartingAt bo) = pos (a.y + block_start bo.y cfg.ydec)
 
 -- the rectangle of storage that it names
 abbrev pub area_from : PlaneConfig → StoredArea → Area → StoredArea
-area_from cfg a (Rectangle x y width height) = record { x = unsigned_abs (pos a.x +ℤ x); y = unsigned_abs (pos a.y +ℤ y); width = width; height = height }
+area_from cfg a (Rectangle x y width height) =
+    record { x = unsigned_abs (pos a.x +ℤ x); y = unsigned_abs (pos a.y +ℤ y); width = width; height = height }
 area_from cfg a (BlockStartingAt bo) = record {
   x = a.x + block_start bo.x cfg.xdec;
   y = a.y + block_start bo.y cfg.ydec;

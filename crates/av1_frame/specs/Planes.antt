@@ -72,7 +72,11 @@ nearest first count i = max first (min i (first + count - 1))
 abbrev pub padded : {T : Type 0} → Plane T → Plane T
 padded p =
     let cfg = p.plane_cfg in
-    record p { samples = gathered (λ k. nearest cfg.yorigin cfg.height (k / cfg.stride) * cfg.stride + nearest cfg.xorigin cfg.width (k % cfg.stride)) p.samples }
+    record p {
+      samples = gathered
+          (λ k. nearest cfg.yorigin cfg.height (k / cfg.stride) * cfg.stride + nearest cfg.xorigin cfg.width
+          (k % cfg.stride)) p.samples;
+    }
 
 -- what a `&mut` to storage or to a plane points to, as the logic names it
 abbrev pub storage_row : RattleType → RattleType
@@ -87,4 +91,5 @@ LendsPart T s i result = Lends (storage_row T) (Array T 0) s result (with_part i
 
 -- the same of the part of p's samples
 abbrev pub LendsPlanePart : (T : RattleType) → MutBor (Plane T.Denot) → ℕ → MutBor (List T.Denot) → Fml
-LendsPlanePart T p i result = Lends (plane_row T) (Array T 0) p result (λ ws. record p.now { samples = with_part i p.now.samples ws })
+LendsPlanePart T p i result =
+    Lends (plane_row T) (Array T 0) p result (λ ws. record p.now { samples = with_part i p.now.samples ws })

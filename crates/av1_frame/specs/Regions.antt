@@ -48,7 +48,10 @@ region_row T = region.the_row (record { mir = named 1; lft = [] }) T
 
 -- what is written through row y of r stands in r
 abbrev pub LendsRow : (T : RattleType) → MutBor (PlaneRegionMut T.Denot) → ℕ → MutBor (List T.Denot) → Fml
-LendsRow T r y result = Lends (region_row T) (Array T 0) r result (λ ws. with_samples r.now (with_part (row_start r.now.plane_cfg.stride r.now.area y) (stored r.now) ws))
+LendsRow T r y result =
+    Lends (region_row T)
+    (Array T 0) r result
+    (λ ws. with_samples r.now (with_part (row_start r.now.plane_cfg.stride r.now.area y) (stored r.now) ws))
 
 -- what is written through a part of r, as a region of its own, stands in r
 abbrev pub LendsSub : (T : RattleType) → MutBor (PlaneRegionMut T.Denot) → PlaneRegionMut T.Denot → Fml
@@ -56,4 +59,5 @@ LendsSub T r result = Lends (region_row T) (plane_row T) r result.plane (with_pl
 
 -- what is written through all the samples of r stands in r
 abbrev pub LendsSamples : (T : RattleType) → MutBor (PlaneRegionMut T.Denot) → MutBor (List T.Denot) → Fml
-LendsSamples T r result = Lends (region_row T) (Array T 0) r result (λ ws. with_samples r.now (with_part 0 (stored r.now) ws))
+LendsSamples T r result =
+    Lends (region_row T) (Array T 0) r result (λ ws. with_samples r.now (with_part 0 (stored r.now) ws))

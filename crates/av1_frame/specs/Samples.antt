@@ -1,5 +1,6 @@
 -- Samples in rows of one stride, and what a rectangle of them becomes.
-use Rattle.std.specs.Prelude.{ℕ, ◌+◌, ◌-◌, ◌*◌, ◌/◌, ◌%◌, List, [], ◌∷◌, take, drop, ◌&&◌, Bool, nat_le, nat_lt, if◌then◌else◌, slice_index_or}
+use Rattle.std.specs.Prelude.{ℕ, ◌+◌, ◌-◌, ◌*◌, ◌/◌, ◌%◌, List, [], ◌∷◌, take, drop, ◌&&◌, Bool, nat_le, nat_lt}
+use Rattle.std.specs.Prelude.{if◌then◌else◌, slice_index_or}
 use Rattle.av1_frame.specs.declared.plane_region.StoredArea.{StoredArea}
 
 -- each element by its place, where the first stands at i

@@ -1,5 +1,6 @@
 -- Slices: a place in stored samples, which may lie outside them, and what is stored from there on.
-use Rattle.std.specs.Prelude.{ℕ, ◌+◌, ◌-◌, ◌*◌, List, drop, map, slice_index, min, ℤ, pos, negsuc, ◌+ℤ◌, ◌≤ℤ◌, ◌<ℤ◌, neg_ℤ, unsigned_abs}
+use Rattle.std.specs.Prelude.{ℕ, ◌+◌, ◌-◌, ◌*◌, List, drop, map, slice_index, min, ℤ, pos, negsuc, ◌+ℤ◌, ◌≤ℤ◌, ◌<ℤ◌}
+use Rattle.std.specs.Prelude.{neg_ℤ, unsigned_abs}
 use Rattle.std.specs.Int.{int_min, int_max}
 use Rattle.av1_frame.specs.declared.plane.PlaneConfig.{PlaneConfig}
 use Rattle.av1_frame.specs.declared.plane.Plane.{Plane}
@@ -27,7 +28,8 @@ stored_row cfg y = unsigned_abs (pos cfg.yorigin +ℤ y)
 
 -- the number of the sample that is stored at column x of row y
 abbrev pub stored_sample : {T : Type 0} → (T → ℕ) → Plane T → ℤ → ℤ → ℕ
-stored_sample num p x y = slice_index (map num p.samples) (stored_row p.plane_cfg y * p.plane_cfg.stride + stored_column p.plane_cfg x)
+stored_sample num p x y =
+    slice_index (map num p.samples) (stored_row p.plane_cfg y * p.plane_cfg.stride + stored_column p.plane_cfg x)
 
 -- the visible column or row, of n, that is nearest to z
 abbrev pub nearest_visible : ℕ → ℤ → ℕ
@@ -36,7 +38,8 @@ nearest_visible n (negsuc i) = 0
 
 -- the samples of row y from column x to the end of the stored row
 abbrev pub row_from : {T : Type 0} → Plane T → ℤ → ℤ → List T
-row_from p x y = part (stored_row p.plane_cfg y * p.plane_cfg.stride + stored_column p.plane_cfg x) (p.plane_cfg.stride - stored_column p.plane_cfg x) p.samples
+row_from p x y = part (stored_row p.plane_cfg y * p.plane_cfg.stride + stored_column p.plane_cfg x)
+    (p.plane_cfg.stride - stored_column p.plane_cfg x) p.samples
 
 -- all that is stored from column x of row y on
 abbrev pub all_from : {T : Type 0} → Plane T → ℤ → ℤ → List T

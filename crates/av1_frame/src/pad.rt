@@ -14,7 +14,8 @@ impl<T: Pixel> Plane<T> {
     pub fn pad(&mut self)
         requires { IsWhole self.old }
         ensures all { self.new ≡ padded self.old }
-        ensures samples { let cfg = self.old.plane_cfg in (x y : ℤ) → IsStoredPlace cfg x y → stored_sample T.num self.new x y ≡ sample_at T.num self.old (nearest_visible cfg.width x) (nearest_visible cfg.height y) }
+        ensures samples { let cfg = self.old.plane_cfg in (x y : ℤ) → IsStoredPlace cfg x y →
+            stored_sample T.num self.new x y ≡ sample_at T.num self.old (nearest_visible cfg.width x) (nearest_visible cfg.height y) }
         ensures whole { IsWhole self.new }
     {
         let cfg = self.config();
@@ -31,7 +32,12 @@ impl<T: Pixel> Plane<T> {
         requires order { first ≤ end }
         requires end { end ≤ self.old.plane_cfg.alloc_height }
         requires apart { (from < first) ⊎ (end ≤ from) }
-        ensures { let stride = self.old.plane_cfg.stride in self.new ≡ record self.old { samples = gathered (λ k. (if nat_le first (k / stride) && nat_lt (k / stride) end then from else k / stride) * stride + k % stride) self.old.samples } }
+        ensures { let stride = self.old.plane_cfg.stride
+            in self.new ≡
+            record self.old {
+              samples = gathered (λ k. (if nat_le first (k / stride) && nat_lt (k / stride) end then from else k / stride) * stride + k % stride)
+                  self.old.samples;
+            } }
     {
         let stride = self.config().stride;
         for y in first..end {
@@ -42,7 +48,9 @@ impl<T: Pixel> Plane<T> {
     /// Makes the samples left and right of the visible columns those of the nearest one, in each stored row.
     fn pad_rows(&mut self)
         requires { IsWhole self.old }
-        ensures { let cfg = self.old.plane_cfg in self.new ≡ record self.old { samples = gathered (λ k. k / cfg.stride * cfg.stride + nearest cfg.xorigin cfg.width (k % cfg.stride)) self.old.samples } }
+        ensures { let cfg = self.old.plane_cfg
+            in self.new ≡
+            record self.old { samples = gathered (λ k. k / cfg.stride * cfg.stride + nearest cfg.xorigin cfg.width (k % cfg.stride)) self.old.samples } }
     {
         let cfg = self.config();
         for y in 0..cfg.alloc_height {

@@ -40,8 +40,8 @@ pub struct PlaneConfig {
 }
 
 impl PlaneConfig {
-    /// The settings of `rows` rows of samples that stand `stride` apart, of which the rectangle `visible` is visible. They count no
-    /// pads, and as many columns and rows as luma has: for others set the fields.
+    /// The settings of `rows` rows of samples that stand `stride` apart, of which the rectangle `visible` is visible.
+    /// They count no pads, and as many columns and rows as luma has: for others set the fields.
     pub fn bare(stride: usize, rows: usize, visible: StoredArea) -> PlaneConfig
         ensures { result ≡ bare_config stride rows visible }
     {

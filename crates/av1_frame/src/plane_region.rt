@@ -162,8 +162,8 @@ pub struct PlaneRegionMut<'a, T> {
 }
 
 impl<'a, T: Pixel> PlaneRegion<'a, T> {
-    /// The rectangle `area` of `samples`, which are stored as `plane_cfg` says. Nothing is copied: what is read is these samples.
-    /// A `Rect` counts from the first visible sample.
+    /// The rectangle `area` of `samples`, which are stored as `plane_cfg` says. Nothing is copied: what is read is
+    /// these samples. A `Rect` counts from the first visible sample.
     pub fn from_slice(samples: &'a [T], plane_cfg: PlaneConfig, area: Area) -> PlaneRegion<'a, T>
         requires whole { IsStorage plane_cfg (length samples.now) }
         requires area { IsStored plane_cfg area }

@@ -9,7 +9,8 @@ use crate::pixel::Pixel;
 use crate::plane::{PlaneConfig, PlaneOffset};
 use crate::storage::part_of;
 
-/// A place in stored samples, which may lie outside them, and the rows from there on: of a plane, or of memory that a caller holds.
+/// A place in stored samples, which may lie outside them, and the rows from there on: of a plane, or of memory that a
+/// caller holds.
 #[derive(Clone, Copy)]
 pub struct PlaneSlice<'a, T> {
     /// All that is stored, one row after another.
@@ -23,7 +24,8 @@ pub struct PlaneSlice<'a, T> {
 }
 
 impl<'a, T: Pixel> PlaneSlice<'a, T> {
-    /// The place `po` in `samples`, which are stored as `plane_cfg` says. Nothing is copied: what is read is these samples.
+    /// The place `po` in `samples`, which are stored as `plane_cfg` says. Nothing is copied: what is read is these
+    /// samples.
     pub fn from_slice(
         samples: &'a [T],
         plane_cfg: &'a PlaneConfig,
@@ -46,7 +48,8 @@ impl<'a, T: Pixel> PlaneSlice<'a, T> {
     /// first column and row past them.
     pub fn clamp(&self) -> PlaneSlice<'a, T>
         requires { IsWhole (slice_plane self.now) }
-        ensures { let cfg = self.now.plane_cfg.now in result ≡ record self.now { x = within_pads self.now.x cfg.xpad cfg.width; y = within_pads self.now.y cfg.ypad cfg.height } }
+        ensures { let cfg = self.now.plane_cfg.now
+            in result ≡ record self.now { x = within_pads self.now.x cfg.xpad cfg.width; y = within_pads self.now.y cfg.ypad cfg.height } }
     {
         let cfg = self.plane_cfg;
         PlaneSlice {

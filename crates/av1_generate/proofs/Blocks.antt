@@ -12,7 +12,8 @@ pub block_leaf : (h : Header) (x y : ℕ) → block h 0 x y ≡ part h BLOCK_4X4
 unfolding block
 block_leaf h x y = refl
 
-pub block_node : (h : Header) (level x y : ℕ) → 0 < level → block h level x y ≡ draws 4 (λ mark. writes one mark >> parts h level (block h (level - 1)) x y mark)
+pub block_node : (h : Header) (level x y : ℕ) → 0 < level →
+    block h level x y ≡ draws 4 (λ mark. writes one mark >> parts h level (block h (level - 1)) x y mark)
 unfolding block
 block_node h zero x y lt = absurd (omega arith)
 block_node h (suc level) x y lt =
@@ -36,7 +37,8 @@ unfolding parts
 vert_parts h level quarter x y mark e = rw e refl
 
 pub split_parts : (h : Header) (level : ℕ) (quarter : ℕ → ℕ → Draft) (x y mark : ℕ) → mark ≡ 3
-    → parts h level quarter x y mark ≡ (quarter x y >> quarter (x + half_side level) y >> quarter x (y + half_side level) >> quarter (x + half_side level) (y + half_side level))
+    → parts h level quarter x y mark ≡
+    (quarter x y >> quarter (x + half_side level) y >> quarter x (y + half_side level) >> quarter (x + half_side level) (y + half_side level))
 unfolding parts
 split_parts h level quarter x y mark e = rw e refl
 

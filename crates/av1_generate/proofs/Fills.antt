@@ -92,12 +92,14 @@ weaker le h a = record {
 }
 
 -- whatever number below k is drawn
-pub drawing : {A : Type 0} {f : Format A} {n : ℕ} {P : A → Type 0} (k : ℕ) (d : ℕ → Draft) → 0 < k → ((v : ℕ) → v < k → Fills (d v) f n P) → Fills (draws k d) f n P
+pub drawing : {A : Type 0} {f : Format A} {n : ℕ} {P : A → Type 0} (k : ℕ) (d : ℕ → Draft) → 0 < k → ((v : ℕ) → v < k → Fills (d v) f n P) →
+    Fills (draws k d) f n P
 drawing k d lt h = record { fills = λ next number s. (h (number (next s.1) % k) (omega arith)).fills next number (s.0, next s.1) }
 
 -- ---- lists
 
-pub fills_lone : {A : Type 0} {d : Draft} {f : Format A} {n : ℕ} {P : A → Type 0} {Q : List A → Type 0} → Fills d f n P → ((x : A) → P x → Q (x ∷ [])) → Fills d (lone f) n Q
+pub fills_lone : {A : Type 0} {d : Draft} {f : Format A} {n : ℕ} {P : A → Type 0} {Q : List A → Type 0} → Fills d f n P → ((x : A) → P x → Q (x ∷ [])) →
+    Fills d (lone f) n Q
 fills_lone {n = n} a h = weaker (omega arith) (λ x q. q) (ends (λ x. done (x ∷ [])) a (λ x p. fills_done (x ∷ []) (h x p)))
 
 -- what holds of two lists holds of one behind the other, and of none
@@ -105,22 +107,26 @@ pub record Grows {A : Type 0} (P : List A → Type 0) : Type 0 where
   pub none : P []
   pub both : (xs ys : List A) → P xs → P ys → P (xs ++ ys)
 
-pub fills_both : {A : Type 0} {d e : Draft} {f g : Format (List A)} {m n : ℕ} {P : List A → Type 0} → Grows P → Fills d f m P → Fills e g n P → Fills (d >> e) (f ++> g) (m + n) P
+pub fills_both : {A : Type 0} {d e : Draft} {f g : Format (List A)} {m n : ℕ} {P : List A → Type 0} → Grows P → Fills d f m P → Fills e g n P →
+    Fills (d >> e) (f ++> g) (m + n) P
 fills_both {g = g} {m = m} {n = n} {P = P} grows a b =
     weaker (omega arith) (λ x q. q)
     (follows (λ xs. g >>= λ ys. done (xs ++ ys)) a (λ xs p. ends (λ ys. done (xs ++ ys)) b (λ ys q. fills_done (xs ++ ys) (grows.both xs ys p q))))
 
 -- four of them: a format puts them together from the left, a draft from the right
-pub four_fill : {A : Type 0} {a b c d : Draft} {f g h k : Format (List A)} {n : ℕ} {P : List A → Type 0} → Grows P → Fills a f n P → Fills b g n P → Fills c h n P → Fills d k n P
+pub four_fill : {A : Type 0} {a b c d : Draft} {f g h k : Format (List A)} {n : ℕ} {P : List A → Type 0} → Grows P → Fills a f n P → Fills b g n P →
+    Fills c h n P → Fills d k n P
     → Fills (a >> b >> c >> d) (f ++> g ++> h ++> k) (4 * n) P
 four_fill {a = a} {b = b} {c = c} {d = d} {f = f} {g = g} {h = h} {k = k} {n = n} {P = P} grows r s t u =
     let whole : Fills (((a >> b) >> c) >> d) (f ++> g ++> h ++> k) (n + n + n + n) P = fills_both grows (fills_both grows (fills_both grows r s) t) u in
     let same : Fills (a >> b >> c >> d) (f ++> g ++> h ++> k) (n + n + n + n) P = record { fills = whole.fills } in
     weaker (omega arith) (λ x q. q) same
 
-pub fills_each : {A : Type 0} {P : List A → Type 0} (d : ℕ → Draft) (f : ℕ → Format (List A)) (m i n : ℕ) → Grows P → ((j : ℕ) → i ≤ j → j < i + n → Fills (d j) (f j) m P)
+pub fills_each : {A : Type 0} {P : List A → Type 0} (d : ℕ → Draft) (f : ℕ → Format (List A)) (m i n : ℕ) → Grows P →
+    ((j : ℕ) → i ≤ j → j < i + n → Fills (d j) (f j) m P)
     → Fills (each d i n) (in_turn f i n) (n * m) P
 unfolding each in_turn
 fills_each d f m i zero grows h = weaker (omega arith) (λ x q. q) (fills_done [] grows.none)
 fills_each d f m i (suc n) grows h =
-    weaker (omega arith) (λ x q. q) (fills_both grows (h i (omega arith) (omega arith)) (fills_each d f m (i + 1) n grows (λ j le lt. h j (omega arith) (omega arith))))
+    weaker (omega arith) (λ x q. q)
+    (fills_both grows (h i (omega arith) (omega arith)) (fills_each d f m (i + 1) n grows (λ j le lt. h j (omega arith) (omega arith))))

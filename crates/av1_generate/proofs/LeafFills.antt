@@ -1,5 +1,6 @@
 -- A leaf that is drawn is of the plan grammar, and none of the six reasons holds for which one is refused.
-use Rattle.std.proofs.Common.{◌≡◌, ℕ, zero, suc, ◌+◌, ◌*◌, ◌/◌, ◌<◌, ◌≤◌, Bool, true, false, List, [], ◌∷◌, Option, None, slice_index_or, refl, subst, sym, arith, lit≤}
+use Rattle.std.proofs.Common.{◌≡◌, ℕ, zero, suc, ◌+◌, ◌*◌, ◌/◌, ◌<◌, ◌≤◌, Bool, true, false, List, [], ◌∷◌, Option, None, slice_index_or, refl, subst, sym}
+use Rattle.std.proofs.Common.{arith, lit≤}
 use Rattle.std.proofs.lemmas.Bool.{lt-ltb}
 use Rattle.av1_blocks.specs.declared.partition.BlockSize.{BlockSize}
 use Rattle.av1_blocks.specs.declared.partition.BlockSize.TheVariants.{BLOCK_4X4}
@@ -10,10 +11,12 @@ use Rattle.av1_plan.specs.declared.header.Header.{Header}
 use Rattle.av1_plan.specs.declared.leaf.LeafKind.{LeafKind}
 use Rattle.av1_plan.specs.declared.leaf.Triple.{Triple}
 use Rattle.av1_plan.specs.Format.{Format, done, ◌>>=◌}
-use Rattle.av1_plan.specs.Geometry.{xdec, ydec, plane_width, plane_height, carries_chroma, plane_place, plane_size, plane_tx_size, plane_area, blocks_across, block_count, block_at, has_block}
+use Rattle.av1_plan.specs.Geometry.{xdec, ydec, plane_width, plane_height, carries_chroma, plane_place, plane_size, plane_tx_size, plane_area, blocks_across}
+use Rattle.av1_plan.specs.Geometry.{block_count, block_at, has_block}
 use Rattle.av1_plan.specs.Grammar as grammar
 use Rattle.av1_plan.specs.Plan.{LeafValue}
-use Rattle.av1_plan.specs.Validity.{are_coefficients, has_plane_coefficients, has_coefficients, has_block_size, has_transforms, has_modes, has_vectors, has_references, fault_of}
+use Rattle.av1_plan.specs.Validity.{are_coefficients, has_plane_coefficients, has_coefficients, has_block_size, has_transforms, has_modes, has_vectors}
+use Rattle.av1_plan.specs.Validity.{has_references, fault_of}
 use Rattle.av1_generate.specs.Generator.{frame, luma_tx_size, chroma_triples, leaf, part}
 use Rattle.av1_generate.proofs.Fills.{Fills, follows, ends, fills_done, weaker}
 use Rattle.av1_generate.proofs.LeafKinds.{kind_fills}
@@ -39,11 +42,12 @@ luma_places size (suc v) = lit≤ tt
 luma_first : (number x y : ℕ) (size : BlockSize) (s : TxSize) → (v : ℕ) × (s ≡ luma_tx_size size v) → x < 512 → y < 512
     → HasFirstBlock (frame number) 0 (plane_area (frame number) x y size s 0)
 unfolding frame plane_area plane_tx_size
-luma_first number x y size s (v, is) lt_x lt_y = subst (λ (t : TxSize). HasFirstBlock (frame number) 0 (plane_area (frame number) x y size t 0)) (sym is) (record {
-  block = luma_block number x y size v lt_x lt_y;
-  places = luma_places size v;
-  depth = refl;
-})
+luma_first number x y size s (v, is) lt_x lt_y =
+    subst (λ (t : TxSize). HasFirstBlock (frame number) 0 (plane_area (frame number) x y size t 0)) (sym is) (record {
+      block = luma_block number x y size v lt_x lt_y;
+      places = luma_places size v;
+      depth = refl;
+    })
 
 chroma_block : (number x y : ℕ) (size : BlockSize) (s : TxSize) (q : ℕ) → x < 512 → y < 512
     → has_block (frame number) (suc q) (plane_area (frame number) x y size s (suc q)) 0 ≡ true
@@ -80,7 +84,8 @@ chroma_triples_fill number x y size s true lt_x lt_y =
     ends (λ v. done (u ∷ v ∷ [])) (triples_fill (frame number) 2 _ (chroma_first number x y size s 1 lt_x lt_y)) (λ v pv. fills_done (u ∷ v ∷ []) (pu, pv)))
 chroma_triples_fill number x y size s false lt_x lt_y = weaker (lit≤ tt) (λ lists p. p) (fills_done ([] ∷ [] ∷ []) tt)
 
-coefficients_are : (number : ℕ) (c : Bool) (l : LeafValue) (ts : List Triple) (lists : List (List Triple)) → carries_chroma (frame number) l.x l.y l.size ≡ c → l.triples ≡ ts ∷ lists
+coefficients_are : (number : ℕ) (c : Bool) (l : LeafValue) (ts : List Triple) (lists : List (List Triple)) → carries_chroma (frame number) l.x l.y l.size ≡ c →
+    l.triples ≡ ts ∷ lists
     → FitIn number l.x l.y l.size l.tx_size 0 ts → FitChroma number l.x l.y l.size l.tx_size c lists → has_coefficients (frame number) l ≡ true
 unfolding has_coefficients has_plane_coefficients
 coefficients_are number true l ts lists carried is luma chroma = rw (is, carried, luma, chroma.0, chroma.1) refl
@@ -88,7 +93,8 @@ coefficients_are number false l ts lists carried is luma chroma = rw (is, carrie
 
 -- ---- a leaf
 
-no_fault : (h : Header) (l : LeafValue) → has_block_size h l.size ≡ true → has_transforms h l.size l.tx_size l.tx_type l.uv_type ≡ true → has_modes l.size l.kind ≡ true
+no_fault : (h : Header) (l : LeafValue) → has_block_size h l.size ≡ true → has_transforms h l.size l.tx_size l.tx_type l.uv_type ≡ true →
+    has_modes l.size l.kind ≡ true
     → has_vectors l.kind ≡ true → has_references h l.kind ≡ true → has_coefficients h l ≡ true → fault_of h l ≡ None
 unfolding fault_of
 no_fault h l size transforms modes vectors references coefficients = rw (size, transforms, modes, vectors, references, coefficients) refl
@@ -103,16 +109,21 @@ leaf_of x y size kind p uv ts lists = record { x = x; y = y; size = size; kind =
 -- the format of a leaf that carries chroma or not
 abbrev leaf_format : Bool → BlockSize → ℕ → ℕ → Format LeafValue
 leaf_format c size x y =
-    grammar.leaf_kind c >>= λ kind. luma >>= λ p. grammar.uv_type c >>= λ uv. grammar.triples >>= λ ts. grammar.chroma_triples c >>= λ lists. done (leaf_of x y size kind p uv ts lists)
+    grammar.leaf_kind c >>= λ kind. luma >>= λ p. grammar.uv_type c >>= λ uv. grammar.triples >>= λ ts. grammar.chroma_triples c >>= λ lists.
+    done (leaf_of x y size kind p uv ts lists)
 
 leaf_by : (number x y : ℕ) (size : BlockSize) (c : Bool) → carries_chroma (frame number) x y size ≡ c → x < 512 → y < 512
     → Fills (leaf size c) (leaf_format c size x y) 83 (λ l. fault_of (frame number) l ≡ None)
 unfolding leaf
 leaf_by number x y size c carried lt_x lt_y =
-    follows (λ kind. luma >>= λ p. grammar.uv_type c >>= λ uv. grammar.triples >>= λ ts. grammar.chroma_triples c >>= λ lists. done (leaf_of x y size kind p uv ts lists)) (kind_fills number size c) (λ kind k.
-    follows (λ p. grammar.uv_type c >>= λ uv. grammar.triples >>= λ ts. grammar.chroma_triples c >>= λ lists. done (leaf_of x y size kind p uv ts lists)) (luma_fills size) (λ p fits.
-    follows (λ uv. grammar.triples >>= λ ts. grammar.chroma_triples c >>= λ lists. done (leaf_of x y size kind p uv ts lists)) (chroma_type_fills size c) (λ uv u.
-    follows (λ ts. grammar.chroma_triples c >>= λ lists. done (leaf_of x y size kind p uv ts lists)) (triples_fill (frame number) 0 _ (luma_first number x y size p.0 fits.choice lt_x lt_y)) (λ ts t.
+    follows (λ kind. luma >>= λ p. grammar.uv_type c >>= λ uv. grammar.triples >>= λ ts. grammar.chroma_triples c >>= λ lists.
+    done (leaf_of x y size kind p uv ts lists)) (kind_fills number size c) (λ kind k.
+    follows (λ p. grammar.uv_type c >>= λ uv. grammar.triples >>= λ ts. grammar.chroma_triples c >>= λ lists. done (leaf_of x y size kind p uv ts lists))
+    (luma_fills size) (λ p fits.
+    follows (λ uv. grammar.triples >>= λ ts. grammar.chroma_triples c >>= λ lists. done (leaf_of x y size kind p uv ts lists)) (chroma_type_fills size c)
+    (λ uv u.
+    follows (λ ts. grammar.chroma_triples c >>= λ lists. done (leaf_of x y size kind p uv ts lists))
+    (triples_fill (frame number) 0 _ (luma_first number x y size p.0 fits.choice lt_x lt_y)) (λ ts t.
     ends (λ lists. done (leaf_of x y size kind p uv ts lists)) (chroma_triples_fill number x y size p.0 c lt_x lt_y) (λ lists l.
     let leaf = leaf_of x y size kind p uv ts lists in
     fills_done leaf (no_fault (frame number) leaf (size_is number size) (transforms_are number size p uv fits u) k.modes k.vectors k.references

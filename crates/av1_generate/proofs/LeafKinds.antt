@@ -1,5 +1,6 @@
 -- The kind of a leaf that is drawn is of the plan grammar, and fits the leaf.
-use Rattle.std.proofs.Common.{◌≡◌, ℕ, zero, suc, ◌+◌, ◌<◌, ◌≤◌, Bool, true, false, ◌||◌, not, if◌then◌else◌, [], ◌∷◌, Some, None, refl, arith, lit<, lit≤, w8, w16}
+use Rattle.std.proofs.Common.{◌≡◌, ℕ, zero, suc, ◌+◌, ◌<◌, ◌≤◌, Bool, true, false, ◌||◌, not, if◌then◌else◌, [], ◌∷◌, Some, None, refl, arith, lit<, lit≤, w8}
+use Rattle.std.proofs.Common.{w16}
 use Rattle.std.specs.Prelude.{nat_le, nat_lt, nat_abs, ◌==◌}
 use Rattle.std.specs.Int.{cast_signed, is_in_range}
 use Rattle.std.proofs.lemmas.Bool.{lt-ltb, le-ltb, eqb-true, eqb-false}
@@ -21,7 +22,8 @@ use Rattle.av1_plan.specs.Grammar.{byte_from}
 use Rattle.av1_plan.specs.Grammar as grammar
 use Rattle.av1_plan.specs.Validity.{is_step, is_chroma_from_luma, is_chroma_mode, is_inter_size, has_modes, has_vectors, has_reference, has_references}
 use Rattle.av1_generate.specs.Draft.{writes, draws, ◌>>◌, only_if}
-use Rattle.av1_generate.specs.Generator.{less, frame, step, weight, chroma_step, chroma_modes, chroma_mode, intra, component, motion, single, compound, kind_of, kind}
+use Rattle.av1_generate.specs.Generator.{less, frame, step, weight, chroma_step, chroma_modes, chroma_mode, intra, component, motion, single, compound, kind_of}
+use Rattle.av1_generate.specs.Generator.{kind}
 use Rattle.av1_lists.proofs.Below.{all_below, below}
 use Rattle.av1_plan.proofs.Numbers.{mode_of, reference_of_number}
 use Rattle.av1_generate.proofs.FieldKinds.{byte_is, less_is}
@@ -71,7 +73,8 @@ wide_by : (b : Bool) → 13 < (if b then 14 else 13) → b ≡ true
 wide_by true lt = refl
 wide_by false lt = absurd (omega arith)
 
-weights_are : (size : BlockSize) (u v : ℕ) → 13 < chroma_modes size → nat_le (nat_abs (cast_signed w8 u)) 16 ≡ true → nat_le (nat_abs (cast_signed w8 v)) 16 ≡ true
+weights_are : (size : BlockSize) (u v : ℕ) → 13 < chroma_modes size → nat_le (nat_abs (cast_signed w8 u)) 16 ≡ true →
+    nat_le (nat_abs (cast_signed w8 v)) 16 ≡ true
     → is_chroma_mode size (Cfl (cast_signed w8 u) (cast_signed w8 v)) ≡ true
 unfolding is_chroma_mode is_chroma_from_luma chroma_modes
 weights_are size u v lt pu pv = rw (pu, pv) (wide_by (cfl_allowed size) lt)
@@ -87,7 +90,8 @@ chroma_by true size mode e lt lt_14 =
 chroma_by false size mode e lt lt_14 =
     let other : mode ≡ 13 → ⊥ = eqb-false mode 13 e in
     weaker (lit≤ tt) (λ c p. p)
-    (ends (λ step. done (Plain (mode_of mode) (cast_signed w8 step))) (step_fills mode (omega arith)) (λ step p. fills_done (Plain (mode_of mode) (cast_signed w8 step)) p))
+    (ends (λ step. done (Plain (mode_of mode) (cast_signed w8 step))) (step_fills mode (omega arith))
+    (λ step p. fills_done (Plain (mode_of mode) (cast_signed w8 step)) p))
 
 few_modes : (size : BlockSize) → (0 < chroma_modes size) × (chroma_modes size ≤ 14)
 unfolding chroma_modes
@@ -122,7 +126,8 @@ unfolding grammar.intra has_modes has_vectors has_references
 intra_rest h size true mode lt =
     follows (λ step. grammar.chroma_mode >>= λ chroma. done (Intra (mode_of mode) (cast_signed w8 step) (Some chroma))) (step_fills mode lt) (λ step ps.
     ends (λ chroma. done (Intra (mode_of mode) (cast_signed w8 step) (Some chroma))) (chroma_fills size) (λ chroma pc.
-    fills_done (Intra (mode_of mode) (cast_signed w8 step) (Some chroma)) (record { modes = rw (not_cfl mode lt, ps, pc) refl; vectors = refl; references = refl })))
+    fills_done (Intra (mode_of mode) (cast_signed w8 step) (Some chroma))
+    (record { modes = rw (not_cfl mode lt, ps, pc) refl; vectors = refl; references = refl })))
 intra_rest h size false mode lt =
     weaker (lit≤ tt) (λ k p. p)
     (follows (λ step. done (Intra (mode_of mode) (cast_signed w8 step) None)) (step_fills mode lt) (λ step ps.
@@ -130,7 +135,8 @@ intra_rest h size false mode lt =
 
 -- what is asked for behind the luma mode
 abbrev behind : Bool → ℕ → Format LeafKind
-behind carried number = if nat_lt number 14 then grammar.intra carried (mode_of number) else (if nat_lt number 20 then grammar.single (mode_of number) else grammar.compound (mode_of number))
+behind carried number = if nat_lt number 14 then grammar.intra carried (mode_of number)
+    else (if nat_lt number 20 then grammar.single (mode_of number) else grammar.compound (mode_of number))
 
 intra_fills : (h : Header) (size : BlockSize) (carried : Bool) → Fills (intra size carried) (grammar.leaf_kind carried) 5 (IsFitting h size)
 unfolding intra grammar.leaf_kind
@@ -162,9 +168,11 @@ reference_is : (number v : ℕ) → v < 7 → has_reference (frame number) (refe
 unfolding frame has_reference has_slot
 reference_is number v lt = below 7 (λ v. has_reference (frame number) (reference_of_number (1 + v))) refl v lt
 
-reference_fills : (number : ℕ) → Fills (draws 7 (λ v. writes one (1 + v))) (field (byte_from 1 7)) 1 (λ v. has_reference (frame number) (reference_of_number v) ≡ true)
+reference_fills : (number : ℕ) →
+    Fills (draws 7 (λ v. writes one (1 + v))) (field (byte_from 1 7)) 1 (λ v. has_reference (frame number) (reference_of_number v) ≡ true)
 reference_fills number = drawing 7 (λ v. writes one (1 + v)) (lit< tt) (λ v lt.
-    asked_last (byte_from 1 7) (λ v. done v) (1 + v) (byte_is 1 7 (1 + v) (lit< tt) (omega arith) (omega arith)) (fills_done (1 + v) (reference_is number v lt)))
+    asked_last (byte_from 1 7) (λ v. done v) (1 + v) (byte_is 1 7 (1 + v) (lit< tt) (omega arith) (omega arith))
+    (fills_done (1 + v) (reference_is number v lt)))
 
 -- a reference and its vector
 abbrev moving : Format (RefType × MotionVector)
@@ -185,19 +193,22 @@ mode_fills k first last some le small = drawing k (λ v. writes one (first + v))
     asked_last (byte_from 0 33) (λ v. done v) (first + v) (byte_is 0 33 (first + v) (lit< tt) (omega arith) (omega arith))
     (fills_done (first + v) (omega arith, omega arith)))
 
-single_rest : (number : ℕ) (size : BlockSize) (mode : PredictionMode) → is_inter_size size ≡ true → Fills motion (grammar.single mode) 5 (IsFitting (frame number) size)
+single_rest : (number : ℕ) (size : BlockSize) (mode : PredictionMode) → is_inter_size size ≡ true →
+    Fills motion (grammar.single mode) 5 (IsFitting (frame number) size)
 unfolding grammar.single grammar.reference_frame grammar.vector has_modes is_inter_size has_vectors has_references
 single_rest number size mode inter =
     ends (λ p. done (Single mode p.0 p.1)) (motion_fills number) (λ p m.
     fills_done (Single mode p.0 p.1) (record { modes = inter; vectors = m.short; references = m.present }))
 
-single_fills : (number : ℕ) (size : BlockSize) (carried : Bool) → is_inter_size size ≡ true → Fills single (grammar.leaf_kind carried) 6 (IsFitting (frame number) size)
+single_fills : (number : ℕ) (size : BlockSize) (carried : Bool) → is_inter_size size ≡ true →
+    Fills single (grammar.leaf_kind carried) 6 (IsFitting (frame number) size)
 unfolding single grammar.leaf_kind
 single_fills number size carried inter =
     follows {n = 5} (behind carried) (mode_fills 6 14 19 (lit< tt) (lit≤ tt) (lit≤ tt)) (λ n p.
     rw (le-ltb n 14 p.0, lt-ltb n 20 (omega arith)) (single_rest number size (mode_of n) inter))
 
-compound_rest : (number : ℕ) (size : BlockSize) (mode : PredictionMode) → is_inter_size size ≡ true → Fills (motion >> motion) (grammar.compound mode) 10 (IsFitting (frame number) size)
+compound_rest : (number : ℕ) (size : BlockSize) (mode : PredictionMode) → is_inter_size size ≡ true →
+    Fills (motion >> motion) (grammar.compound mode) 10 (IsFitting (frame number) size)
 unfolding grammar.compound grammar.reference_frame grammar.vector has_modes is_inter_size has_vectors has_references
 compound_rest number size mode inter =
     follows (λ p. moving >>= λ q. done (Compound mode (p.0 ∷ q.0 ∷ []) (p.1 ∷ q.1 ∷ []))) (motion_fills number) (λ p m.
@@ -205,7 +216,8 @@ compound_rest number size mode inter =
     fills_done (Compound mode (p.0 ∷ q.0 ∷ []) (p.1 ∷ q.1 ∷ []))
     (record { modes = inter; vectors = rw (m.short, l.short) refl; references = rw (m.present, l.present) refl })))
 
-compound_fills : (number : ℕ) (size : BlockSize) (carried : Bool) → is_inter_size size ≡ true → Fills compound (grammar.leaf_kind carried) 11 (IsFitting (frame number) size)
+compound_fills : (number : ℕ) (size : BlockSize) (carried : Bool) → is_inter_size size ≡ true →
+    Fills compound (grammar.leaf_kind carried) 11 (IsFitting (frame number) size)
 unfolding compound grammar.leaf_kind
 compound_fills number size carried inter =
     follows {n = 10} (behind carried) (mode_fills 14 20 33 (lit< tt) (lit≤ tt) (lit≤ tt)) (λ n p.

@@ -4,7 +4,8 @@ use Rattle.std.specs.Prelude.{nat_le}
 use Rattle.av1_blocks.specs.declared.partition.BlockSize.{BlockSize}
 use Rattle.av1_blocks.specs.declared.partition.BlockSize.TheVariants.{BLOCK_4X4}
 use Rattle.av1_blocks.specs.declared.transform.TxSize.{TxSize}
-use Rattle.av1_blocks.specs.declared.transform.TxSize.TheVariants.{TX_4X4, TX_8X8, TX_16X16, TX_32X32, TX_64X64, TX_4X8, TX_8X4, TX_8X16, TX_16X8, TX_16X32, TX_32X16, TX_32X64, TX_64X32, TX_4X16, TX_16X4, TX_8X32, TX_32X8, TX_16X64, TX_64X16}
+use Rattle.av1_blocks.specs.declared.transform.TxSize.TheVariants.{TX_4X4, TX_8X8, TX_16X16, TX_32X32, TX_64X64, TX_4X8, TX_8X4, TX_8X16, TX_16X8, TX_16X32}
+use Rattle.av1_blocks.specs.declared.transform.TxSize.TheVariants.{TX_32X16, TX_32X64, TX_64X32, TX_4X16, TX_16X4, TX_8X32, TX_32X8, TX_16X64, TX_64X16}
 use Rattle.av1_blocks.specs.declared.transform.TheConstants.TxSize as tx_sizes
 use Rattle.av1_blocks.specs.declared.transform.TxType.{TxType}
 use Rattle.av1_blocks.specs.Blocks.{block_width, block_height}
@@ -40,8 +41,10 @@ two_types size cosine identity = drawing 2 (λ v. writes one (9 * v)) (lit< tt) 
     each_type (suc (suc v)) lt = absurd (omega arith)
 
 -- all but the Walsh-Hadamard transform
-many_types : (size : TxSize) → all_below 16 (λ v. is_transform size (tx_type_of v)) ≡ true → Fills (draws 16 (λ v. writes one v)) grammar.tx_type 1 (λ t. is_transform size t ≡ true)
-many_types size all = drawing 16 (λ v. writes one v) (lit< tt) (λ v lt. one_type size v (omega arith) (below 16 (λ v. is_transform size (tx_type_of v)) all v lt))
+many_types : (size : TxSize) → all_below 16 (λ v. is_transform size (tx_type_of v)) ≡ true →
+    Fills (draws 16 (λ v. writes one v)) grammar.tx_type 1 (λ t. is_transform size t ≡ true)
+many_types size all =
+    drawing 16 (λ v. writes one v) (lit< tt) (λ v lt. one_type size v (omega arith) (below 16 (λ v. is_transform size (tx_type_of v)) all v lt))
 
 pub type_fills : (size : TxSize) → Fills (tx_type size) grammar.tx_type 1 (λ t. is_transform size t ≡ true)
 unfolding tx_type type_within is_transform
@@ -109,7 +112,9 @@ luma_fills size =
     let t = luma_tx_size size v in
     asked {n = 1} (byte_from 0 18) (λ v. grammar.tx_type >>= λ type. done (slice_index_or tx_sizes.ALL v TX_4X4, type)) (tx_number t)
     (byte_is 0 18 (tx_number t) (lit< tt) (omega arith) (numbered t))
-    (rw (named t) (ends (λ type. done (t, type)) (type_fills t) (λ type is. fills_done (t, type) (record { choice = (v, refl); within = luma_within size v; type = is })))))
+    (rw (named t)
+    (ends (λ type. done (t, type)) (type_fills t)
+    (λ type is. fills_done (t, type) (record { choice = (v, refl); within = luma_within size v; type = is })))))
 
 -- ---- chroma
 
@@ -118,7 +123,8 @@ abbrev pub IsChromaType : BlockSize → Option TxType → Type 0
 IsChromaType size (Some t) = is_transform (largest_chroma_tx_size size 1 1) t ≡ true
 IsChromaType size None = Unit {0}
 
-pub chroma_type_fills : (size : BlockSize) (carried : Bool) → Fills (only_if carried (tx_type (largest_chroma_tx_size size 1 1))) (grammar.uv_type carried) 1 (IsChromaType size)
+pub chroma_type_fills : (size : BlockSize) (carried : Bool) →
+    Fills (only_if carried (tx_type (largest_chroma_tx_size size 1 1))) (grammar.uv_type carried) 1 (IsChromaType size)
 unfolding grammar.uv_type
 chroma_type_fills size true = ends (λ t. done (Some t)) (type_fills (largest_chroma_tx_size size 1 1)) (λ t is. fills_done (Some t) is)
 chroma_type_fills size false = weaker (lit≤ tt) (λ t p. p) (fills_done None tt)

@@ -33,8 +33,11 @@ triple_of j value = record { block = 0; place = j; value = cast_signed w32 value
 triple_fills : (j : ℕ) → j < 4 → Fills (triple j) grammar.triple 7 (IsAt j)
 unfolding triple grammar.triple
 triple_fills j lt =
-    asked (any one) (λ block. field (any two) >>= λ place. field (any four) >>= λ value. done (record { block = block; place = place; value = cast_signed w32 value })) 0 (record { fits = lit< tt; admitted = refl })
-    (asked (any two) (λ place. field (any four) >>= λ value. done (record { block = 0; place = place; value = cast_signed w32 value })) j (record { fits = omega arith; admitted = refl })
+    asked (any one)
+    (λ block. field (any two) >>= λ place. field (any four) >>= λ value. done (record { block = block; place = place; value = cast_signed w32 value })) 0
+    (record { fits = lit< tt; admitted = refl })
+    (asked (any two) (λ place. field (any four) >>= λ value. done (record { block = 0; place = place; value = cast_signed w32 value })) j
+    (record { fits = omega arith; admitted = refl })
     (drawing 401 (λ v. writes four (less four v 200)) (lit< tt) (λ v lt_401.
     asked_last (any four) (λ value. done (triple_of j value)) (less four v 200) (less_is four v 200)
     (fills_done (triple_of j (less four v 200)) (record { block = refl; place = refl; value = value_is v lt_401 })))))
@@ -58,7 +61,8 @@ record Fit (h : Header) (p : ℕ) (a : PlaneArea) (j : ℕ) (ts : List Triple) :
 
 coefficient_is : (h : Header) (p : ℕ) (a : PlaneArea) (j : ℕ) (t : Triple) → j < 4 → HasFirstBlock h p a → IsAt j t → is_coefficient h p a t ≡ true
 unfolding is_coefficient
-coefficient_is h p a j t lt first at = rw (at.block, at.place, first.block, first.depth, lt-ltb j (coded_area a.tx_size) (omega (arith, first.places)), at.value) refl
+coefficient_is h p a j t lt first at =
+    rw (at.block, at.place, first.block, first.depth, lt-ltb j (coded_area a.tx_size) (omega (arith, first.places)), at.value) refl
 
 later : (j : ℕ) (s t : Triple) → IsAt j s → IsAt (j + 1) t → is_before s t ≡ true
 unfolding is_before
@@ -67,16 +71,22 @@ later j s t at next = rw (at.block, at.place, next.block, next.place, lt-ltb j (
 both : (a b : Bool) → a ≡ true → b ≡ true → (a && b) ≡ true
 both a b e f = rw (e, f) refl
 
-fit_cons : (h : Header) (p : ℕ) (a : PlaneArea) (j : ℕ) (t : Triple) (ts : List Triple) → j < 4 → HasFirstBlock h p a → IsAt j t → Fit h p a (j + 1) ts → Fit h p a j (t ∷ ts)
+fit_cons : (h : Header) (p : ℕ) (a : PlaneArea) (j : ℕ) (t : Triple) (ts : List Triple) → j < 4 → HasFirstBlock h p a → IsAt j t → Fit h p a (j + 1) ts →
+    Fit h p a j (t ∷ ts)
 unfolding rise
-fit_cons h p a j t [] lt first at rest = record { coefficients = both (is_coefficient h p a t) true (coefficient_is h p a j t lt first at) refl; rises = refl; starts = at }
+fit_cons h p a j t [] lt first at rest = record {
+  coefficients = both (is_coefficient h p a t) true (coefficient_is h p a j t lt first at) refl;
+  rises = refl;
+  starts = at;
+}
 fit_cons h p a j t (u ∷ ts) lt first at rest = record {
   coefficients = both (is_coefficient h p a t) (list_all (is_coefficient h p a) (u ∷ ts)) (coefficient_is h p a j t lt first at) rest.coefficients;
   rises = both (is_before t u) (rise (u ∷ ts)) (later j t u at rest.starts) rest.rises;
   starts = at;
 }
 
-some_fill : (h : Header) (p : ℕ) (a : PlaneArea) (j n : ℕ) → j + n ≤ 3 → HasFirstBlock h p a → Fills (each triple j n) (in_turn (λ _. lone grammar.triple) j n) (n * 7) (Fit h p a j)
+some_fill : (h : Header) (p : ℕ) (a : PlaneArea) (j n : ℕ) → j + n ≤ 3 → HasFirstBlock h p a →
+    Fills (each triple j n) (in_turn (λ _. lone grammar.triple) j n) (n * 7) (Fit h p a j)
 unfolding each in_turn rise
 some_fill h p a j zero le first = weaker (omega arith) (λ ts q. q) (fills_done [] (record { coefficients = refl; rises = refl; starts = tt }))
 some_fill h p a j (suc n) le first =

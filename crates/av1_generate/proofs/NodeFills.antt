@@ -90,12 +90,14 @@ parts_fill number level side x y (suc zero) lt node quarter =
     weaker (omega (arith, room_is level)) (λ ls p. p)
     (fills_both (valid_grows (frame number))
     (part_fills number x y (part_size (suc level) PARTITION_HORZ) (omega (arith, node.right, node.some)) (omega (arith, node.below, node.some)))
-    (part_fills number x (y + half_side (suc level)) (part_size (suc level) PARTITION_HORZ) (omega (arith, node.right, node.some)) (omega (arith, node.below, node.some, node.half))))
+    (part_fills number x (y + half_side (suc level)) (part_size (suc level) PARTITION_HORZ) (omega (arith, node.right, node.some))
+    (omega (arith, node.below, node.some, node.half))))
 parts_fill number level side x y (suc (suc zero)) lt node quarter =
     weaker (omega (arith, room_is level)) (λ ls p. p)
     (fills_both (valid_grows (frame number))
     (part_fills number x y (part_size (suc level) PARTITION_VERT) (omega (arith, node.right, node.some)) (omega (arith, node.below, node.some)))
-    (part_fills number (x + half_side (suc level)) y (part_size (suc level) PARTITION_VERT) (omega (arith, node.right, node.some, node.half)) (omega (arith, node.below, node.some))))
+    (part_fills number (x + half_side (suc level)) y (part_size (suc level) PARTITION_VERT) (omega (arith, node.right, node.some, node.half))
+    (omega (arith, node.below, node.some))))
 parts_fill number level side x y (suc (suc (suc (suc mark)))) lt node quarter = absurd (omega (arith, lt))
 parts_fill number level side x y (suc (suc (suc zero))) lt node quarter =
     let right = x + half_side (suc level) in
@@ -116,18 +118,22 @@ block_fills number (suc level) x y in_x in_y =
     rw (lt-ltb x 512 (omega (arith, node.right, node.some)), lt-ltb y 512 (omega (arith, node.below, node.some)))
     (drawing 4 (λ mark. writes one mark >> parts (frame number) (suc level) (block (frame number) level) x y mark) (lit< tt) (λ mark lt.
     asked {n = 4 * room level} (where_ one (grammar.is_mark (frame number) (suc level) x y))
-    (λ v. grammar.parts (frame number) (suc level) (grammar.block (frame number) level) x y (grammar.cut_by v)) mark (mark_is (frame number) (suc level) x y mark lt)
+    (λ v. grammar.parts (frame number) (suc level) (grammar.block (frame number) level) x y (grammar.cut_by v)) mark
+    (mark_is (frame number) (suc level) x y mark lt)
     (parts_fill number level (4 * 2 ^ level) x y mark lt node (block_fills number level))))
 
 -- ---- superblocks
 
-row_fills : (number row : ℕ) → row < 8 → Fills (superblock_row (frame number) row) (grammar.superblock_row (frame number) row) (8 * room 4) (AreValid (frame number))
+row_fills : (number row : ℕ) → row < 8 →
+    Fills (superblock_row (frame number) row) (grammar.superblock_row (frame number) row) (8 * room 4) (AreValid (frame number))
 unfolding superblock_row grammar.superblock_row frame
 row_fills number row lt =
-    fills_each (λ col. block (frame number) 4 (64 * col) (64 * row)) (λ col. grammar.block (frame number) 4 (64 * col) (64 * row)) (room 4) 0 8 (valid_grows (frame number))
+    fills_each (λ col. block (frame number) 4 (64 * col) (64 * row)) (λ col. grammar.block (frame number) 4 (64 * col) (64 * row))
+    (room 4) 0 8 (valid_grows (frame number))
     (λ col le lt_8. block_fills number 4 (64 * col) (64 * row) (omega arith) (omega arith))
 
 pub superblocks_fill : (number : ℕ) → Fills (superblocks (frame number)) (grammar.superblocks (frame number)) (8 * (8 * room 4)) (AreValid (frame number))
 unfolding superblocks grammar.superblocks frame
 superblocks_fill number =
-    fills_each (superblock_row (frame number)) (grammar.superblock_row (frame number)) (8 * room 4) 0 8 (valid_grows (frame number)) (λ row le lt. row_fills number row (omega arith))
+    fills_each (superblock_row (frame number)) (grammar.superblock_row (frame number)) (8 * room 4) 0 8 (valid_grows (frame number))
+    (λ row le lt. row_fills number row (omega arith))

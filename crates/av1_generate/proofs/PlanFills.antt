@@ -30,7 +30,8 @@ slots_fill : Fills slots grammar.slots 7 (λ s. s ≡ zeros)
 unfolding slots grammar.slots each
 slots_fill =
     let k = byte_from 0 7 in
-    asked {n = 6} k _ 0 zero_is (asked {n = 5} k _ 0 zero_is (asked {n = 4} k _ 0 zero_is (asked {n = 3} k _ 0 zero_is (asked {n = 2} k _ 0 zero_is (asked {n = 1} k _ 0 zero_is
+    asked {n = 6} k _ 0 zero_is
+    (asked {n = 5} k _ 0 zero_is (asked {n = 4} k _ 0 zero_is (asked {n = 3} k _ 0 zero_is (asked {n = 2} k _ 0 zero_is (asked {n = 1} k _ 0 zero_is
     (asked {n = 0} k _ 0 zero_is (fills_done zeros refl)))))))
 
 side_is : IsAdmitted (where_ two is_side) 512
@@ -57,7 +58,8 @@ behind h = grammar.references h >>= λ references. grammar.superblocks h >>= λ 
 
 behind_fills : (number : ℕ) → Fills (reference (frame number) number >> superblocks (frame number)) (behind (frame number)) 2151744 (λ p. first_fault p ≡ None)
 behind_fills number =
-    follows (λ references. grammar.superblocks (frame number) >>= λ leaves. done (record { header = frame number; references = references; leaves = leaves })) (references_fill number) (λ references any.
+    follows (λ references. grammar.superblocks (frame number) >>= λ leaves. done (record { header = frame number; references = references; leaves = leaves }))
+    (references_fill number) (λ references any.
     ends (λ leaves. done (record { header = frame number; references = references; leaves = leaves })) (superblocks_fill number) (λ leaves valid.
     fills_done (record { header = frame number; references = references; leaves = leaves }) (no_first_fault (frame number) 0 leaves valid)))
 
@@ -65,7 +67,8 @@ plan_fills : (number : ℕ) → Fills (plan number) grammar.plan 2151764 (λ p. 
 unfolding plan grammar.plan
 plan_fills number =
     follows {n = 2151744} behind (header_fills number) (λ h is.
-    subst (λ (u : Header). Fills (reference (frame number) number >> superblocks (frame number)) (behind u) 2151744 (λ p. first_fault p ≡ None)) (sym is) (behind_fills number))
+    subst (λ (u : Header). Fills (reference (frame number) number >> superblocks (frame number)) (behind u) 2151744 (λ p. first_fault p ≡ None)) (sym is)
+    (behind_fills number))
 
 filled : (number : ℕ) → Filled grammar.plan 2151764 (λ p. first_fault p ≡ None) [] (plan_bytes number)
 unfolding plan_bytes

@@ -23,7 +23,9 @@ sample_fills : (number p x y : ℕ) → Fills (writes two (sample number p x y))
 unfolding sample
 sample_fills number p x y =
     let v = (7 * x + 13 * y + 101 * p + number % 1024) % 1024 in
-    fills_lone {Q = Any} (asked_last {P = λ v. Unit {0}} (grammar.sample 10) (λ v. done v) v (record { fits = omega arith; admitted = lt-ltb v 1024 (omega arith) }) (fills_done v tt)) (λ v p. tt)
+    fills_lone {Q = Any}
+    (asked_last {P = λ v. Unit {0}} (grammar.sample 10) (λ v. done v) v (record { fits = omega arith; admitted = lt-ltb v 1024 (omega arith) })
+    (fills_done v tt)) (λ v p. tt)
 
 -- a run of samples, and behind it others
 run_fills : (number p y x n m k : ℕ) (d : Draft) → ((i : ℕ) → Fills d (samples i m) k Any) → (i : ℕ)
@@ -32,12 +34,14 @@ unfolding each in_turn
 run_fills number p y x zero m k d rest i = rw (zero-add m) (record { fills = (weaker {n = 2 * 0 + k} (omega arith) (λ xs q. q) (rest i)).fills })
 run_fills number p y x (suc n) m k d rest i =
     let e : suc n + m ≡ suc (n + m) = omega arith in
-    let one : Fills (writes two (sample number p x y) >> (each (λ x. writes two (sample number p x y)) (x + 1) n >> d)) (samples i (suc (n + m))) (2 * suc n + k) Any
+    let one : Fills (writes two (sample number p x y) >> (each (λ x. writes two (sample number p x y)) (x + 1) n >> d)) (samples i (suc (n + m)))
+    (2 * suc n + k) Any
     = weaker (omega arith) (λ xs q. q) (fills_both any_grows (sample_fills number p x y) (run_fills number p y (x + 1) n m k d rest (i + 1))) in
     rw e (record { fills = one.fills })
 
 -- rows, of so many samples each
-rows_fill : (number p columns y rows : ℕ) (i : ℕ) → Fills (each (λ y. each (λ x. writes two (sample number p x y)) 0 columns) y rows) (samples i (rows * columns)) (rows * (2 * columns)) Any
+rows_fill : (number p columns y rows : ℕ) (i : ℕ) →
+    Fills (each (λ y. each (λ x. writes two (sample number p x y)) 0 columns) y rows) (samples i (rows * columns)) (rows * (2 * columns)) Any
 unfolding each in_turn
 rows_fill number p columns y zero i = rw (zero-mul columns) (weaker (omega arith) (λ xs q. q) (fills_done [] tt))
 rows_fill number p columns y (suc rows) i =

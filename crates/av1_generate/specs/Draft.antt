@@ -1,5 +1,5 @@
--- Drafts of texts: numbers that are drawn and fields that are written, one after the other, where what was drawn may decide what
--- comes next.
+-- Drafts of texts: numbers that are drawn and fields that are written, one after the other, where what was drawn may
+-- decide what comes next.
 use Rattle.std.specs.Prelude.{ℕ, zero, suc, ◌+◌, ◌%◌, List, ◌++◌, Bool, if◌then◌else◌}
 use Rattle.std.specs.Int.{to_le_bytes}
 use Rattle.av1_plan.specs.Format.{Length, width}
@@ -24,8 +24,8 @@ unfoldable pub each : (ℕ → Draft) → ℕ → ℕ → Draft
 each d i zero = nothing
 each d i (suc n) = d i >> each d (i + 1) n
 
--- The bytes of a draft behind those that stand already, and the state after it. A draw goes on to the next state; the number that
--- belongs to that state, modulo k, is drawn.
+-- The bytes of a draft behind those that stand already, and the state after it. A draw goes on to the next state; the
+-- number that belongs to that state, modulo k, is drawn.
 abbrev pub written : (next number : ℕ → ℕ) → Draft → List ℕ × ℕ → List ℕ × ℕ
 written next number nothing s = s
 written next number (writes size v) s = (s.0 ++ to_le_bytes (width size) v, s.1)

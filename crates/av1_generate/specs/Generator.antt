@@ -1,5 +1,6 @@
 -- The plan of a number: what is drawn and what is written, field by field.
-use Rattle.std.specs.Prelude.{ℕ, zero, suc, codes, ◌+◌, ◌-◌, ◌*◌, ◌/◌, ◌%◌, ◌==◌, Bool, if◌then◌else◌, List, [], ◌∷◌, slice_index_or}
+use Rattle.std.specs.Prelude.{ℕ, zero, suc, codes, ◌+◌, ◌-◌, ◌*◌, ◌/◌, ◌%◌, ◌==◌, Bool, if◌then◌else◌, List, [], ◌∷◌}
+use Rattle.std.specs.Prelude.{slice_index_or}
 use Rattle.std.specs.Int.{w32, from_le_bytes, is_in_range}
 use Rattle.av1_blocks.specs.declared.mc.FilterMode.TheVariants.{REGULAR}
 use Rattle.av1_blocks.specs.declared.mc.TheConstants.FilterMode as filter_modes
@@ -121,8 +122,8 @@ kind size carried = if is_inter_size size then draws 4 (kind_of size carried) el
 
 -- ---- how it is transformed
 
--- the type of a transform by the square of its greater side: the cosine transform alone at 64, or the identity (9) at 32, and all
--- but the Walsh-Hadamard transform below
+-- the type of a transform by the square of its greater side: the cosine transform alone at 64, or the identity (9) at
+-- 32, and all but the Walsh-Hadamard transform below
 unfoldable pub type_within : TxSize → Draft
 type_within TX_64X64 = writes one 0
 type_within TX_32X32 = draws 2 (λ v. writes one (9 * v))
@@ -166,14 +167,17 @@ leaf size carried =
 unfoldable pub part : Header → BlockSize → ℕ → ℕ → Draft
 part h size x y = leaf size (carries_chroma h x y size)
 
--- the parts of a node of this level by its mark (none, horizontal, vertical, split), where quarter gives the part of half the side
--- at a place
+-- the parts of a node of this level by its mark (none, horizontal, vertical, split), where quarter gives the part of
+-- half the side at a place
 unfoldable pub parts : Header → ℕ → (ℕ → ℕ → Draft) → ℕ → ℕ → ℕ → Draft
 parts h level quarter x y zero = part h (whole_size level) x y
-parts h level quarter x y (suc zero) = part h (part_size level PARTITION_HORZ) x y >> part h (part_size level PARTITION_HORZ) x (y + half_side level)
-parts h level quarter x y (suc (suc zero)) = part h (part_size level PARTITION_VERT) x y >> part h (part_size level PARTITION_VERT) (x + half_side level) y
+parts h level quarter x y (suc zero) =
+    part h (part_size level PARTITION_HORZ) x y >> part h (part_size level PARTITION_HORZ) x (y + half_side level)
+parts h level quarter x y (suc (suc zero)) =
+    part h (part_size level PARTITION_VERT) x y >> part h (part_size level PARTITION_VERT) (x + half_side level) y
 parts h level quarter x y (suc (suc (suc mark))) =
-    quarter x y >> quarter (x + half_side level) y >> quarter x (y + half_side level) >> quarter (x + half_side level) (y + half_side level)
+    quarter x y >> quarter (x + half_side level) y >> quarter x (y + half_side level) >> quarter (x + half_side level)
+    (y + half_side level)
 
 -- a part of side 4 * 2 ^ level: a 4x4 leaf at level 0, else a node, whose mark is drawn
 unfoldable pub block : Header → ℕ → ℕ → ℕ → Draft

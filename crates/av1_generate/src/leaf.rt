@@ -23,7 +23,8 @@ impl Maker {
     ghost use Rattle.av1_generate.specs.Generator.{step, weight, chroma_step, chroma_mode, intra, component, motion, single, compound, kind};
     ghost use Rattle.av1_generate.specs.Making.{work, run};
 
-    /// Writes the step on the angle of the mode with this number: from -3 to 3 on the modes 1 to 8, which have an angle.
+    /// Writes the step on the angle of the mode with this number: from -3 to 3 on the modes 1 to 8, which have an
+    /// angle.
     #[tactic(auto, unfolding(crate::specs::Generator::step, crate::specs::Generator::less))]
     fn step(&mut self, mode: u16) -> Result<(), OutOfMemory>
         ensures { OnOk result (work self.new ≡ run (step mode) (work self.old)) }

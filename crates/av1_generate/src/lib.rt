@@ -1,9 +1,9 @@
 //! A large plan from a number, for measuring and for trying out.
 //!
-//! `make_plan` draws a plan of 512 by 512 samples from a number: every mark, every kind of leaf and the coefficients, from a linear
-//! congruential generator that begins with the number. The crate stands on `av1_plan` for the plan grammar, and takes no part in
-//! reconstruction. To the crates above it promises that the bytes are those of the definition (`specs/Generator.antt`), and the text of
-//! a valid plan.
+//! `make_plan` draws a plan of 512 by 512 samples from a number: every mark, every kind of leaf and the coefficients,
+//! from a linear congruential generator that begins with the number. The crate stands on `av1_plan` for the plan
+//! grammar, and takes no part in reconstruction. To the crates above it promises that the bytes are those of the
+//! definition (`specs/Generator.antt`), and the text of a valid plan.
 #![tactic(auto)]
 
 mod leaf;

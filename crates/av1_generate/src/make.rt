@@ -9,7 +9,8 @@ use av1_blocks::{FilterMode, OutOfMemory};
 use av1_plan::Header;
 use std::alloc::Global;
 
-/// The frame of the plan of a number: 512 by 512, depth 10, 4:2:0. Every reference names slot 0, which alone carries planes.
+/// The frame of the plan of a number: 512 by 512, depth 10, 4:2:0. Every reference names slot 0, which alone carries
+/// planes.
 #[tactic(auto, unfolding(crate::specs::Generator::frame))]
 fn frame(number: u32) -> Header
     ensures { result ≡ frame number }

@@ -10,8 +10,8 @@ impl Maker {
     ghost use Rattle.av1_generate.specs.Generator.{tx_type, luma_transforms, triple, triples, chroma_triples, leaf};
     ghost use Rattle.av1_generate.specs.Making.{work, run};
 
-    /// Writes a type that transforms of this size may have: the cosine transform alone at 64, or the identity (9) at 32, and all but the
-    /// Walsh-Hadamard transform below.
+    /// Writes a type that transforms of this size may have: the cosine transform alone at 64, or the identity (9) at
+    /// 32, and all but the Walsh-Hadamard transform below.
     #[tactic(auto, unfolding(crate::specs::Generator::tx_type, crate::specs::Generator::type_within))]
     fn tx_type(&mut self, size: TxSize) -> Result<(), OutOfMemory>
         ensures { OnOk result (work self.new ≡ run (tx_type size) (work self.old)) }

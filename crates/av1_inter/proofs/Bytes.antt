@@ -1,5 +1,6 @@
 -- Planes of samples of 8 bits, and a frame whose references they are.
-use Rattle.std.proofs.Common.{ℕ, zero, suc, ◌-◌, ◌<◌, ◌≤◌, ◌≡◌, ◌∙◌, ap, sym, subst, refl, arith, rules, List, [], ◌∷◌, All, get_or, length, Bool, true, false, nat_le, if◌then◌else◌, Some, replicate, slice_set}
+use Rattle.std.proofs.Common.{ℕ, zero, suc, ◌-◌, ◌<◌, ◌≤◌, ◌≡◌, ◌∙◌, ap, sym, subst, refl, arith, rules, List, [], ◌∷◌, All, get_or, length, Bool, true, false}
+use Rattle.std.proofs.Common.{nat_le, if◌then◌else◌, Some, replicate, slice_set}
 use Rattle.std.proofs.lemmas.List.Elements.{All-head, All-tail}
 use Rattle.av1_blocks.specs.declared.mc.FilterMode.{FilterMode}
 use Rattle.av1_blocks.specs.declared.partition.RefType.TheVariants.{LAST_FRAME}
@@ -37,10 +38,14 @@ written_within i s ws h g = λ k d l.
     subst (λ n. n < 256) (sym (get_or-update f s k d inside)) (either_within (nat_le i k) _ _ (read_within ws (k - i) (get_or s k d) g v) v)
 
 -- such a plane is a reference, once it is padded
-pub reference_is : (p q : Plane ℕ) → q ≡ padded p → IsWhole p → 15 ≤ p.plane_cfg.xpad → 15 ≤ p.plane_cfg.ypad → AreBytes p.samples → IsReference (λ sample. sample) q 8 8 8
+pub reference_is : (p q : Plane ℕ) → q ≡ padded p → IsWhole p → 15 ≤ p.plane_cfg.xpad → 15 ≤ p.plane_cfg.ypad → AreBytes p.samples →
+    IsReference (λ sample. sample) q 8 8 8
 reference_is p q e whole xpad ypad bytes = subst (λ (u : Plane ℕ). IsReference (λ sample. sample) u 8 8 8) (sym e) (record {
   padded = padded_is_padded (λ sample. sample) p (padded p) refl whole;
-  within = λ x y column row. subst (λ n. n < 256) (sym (visible_stays (λ sample. sample) p x y whole column row ∙ ap (λ (s : List ℕ). get_or s (place_at p.plane_cfg x y) 0) (map-id p.samples))) (read_within p.samples (place_at p.plane_cfg x y) 0 bytes (omega arith));
+  within =
+      λ x y column row. subst (λ n. n < 256)
+      (sym (visible_stays (λ sample. sample) p x y whole column row ∙ ap (λ (s : List ℕ). get_or s (place_at p.plane_cfg x y) 0) (map-id p.samples)))
+      (read_within p.samples (place_at p.plane_cfg x y) 0 bytes (omega arith));
   xpad = xpad;
   ypad = ypad;
 })
@@ -49,7 +54,8 @@ reference_is p q e whole xpad ypad bytes = subst (λ (u : Plane ℕ). IsReferenc
 smaller : (p : Plane ℕ) (side : ℕ) → side ≤ 8 → IsReference (λ sample. sample) p 8 8 8 → IsReference (λ sample. sample) p 8 side side
 smaller p side l s = record { padded = s.padded; within = s.within; xpad = omega (arith, s.xpad, l); ypad = omega (arith, s.ypad, l) }
 
-each_plane : (s : Slot ℕ) (side : ℕ) → side ≤ 8 → IsReference (λ sample. sample) s.y 8 8 8 → IsReference (λ sample. sample) s.u 8 8 8 → IsReference (λ sample. sample) s.v 8 8 8 → (p : ℕ) → IsReference (λ sample. sample) (plane_of s p) 8 side side
+each_plane : (s : Slot ℕ) (side : ℕ) → side ≤ 8 → IsReference (λ sample. sample) s.y 8 8 8 → IsReference (λ sample. sample) s.u 8 8 8 →
+    IsReference (λ sample. sample) s.v 8 8 8 → (p : ℕ) → IsReference (λ sample. sample) (plane_of s p) 8 side side
 each_plane s side l y u v zero = smaller s.y side l y
 each_plane s side l y u v (suc zero) = smaller s.u side l u
 each_plane s side l y u v (suc (suc p)) = smaller s.v side l v
@@ -59,9 +65,11 @@ pub served_is : (fi filled : FrameInvariants ℕ) (mode : FilterMode) (edges : B
     → filled ≡ record fi { slots = slice_set fi.slots 0 (Some s) } → IsReference (λ sample. sample) s.y 8 8 8
     → IsReference (λ sample. sample) s.u 8 8 8 → IsReference (λ sample. sample) s.v 8 8 8 → (p side : ℕ) → side ≤ 8
     → IsServed (λ sample. sample) filled LAST_FRAME p side side
-served_is fi filled mode edges s is set y u v p side l = subst (λ (f : FrameInvariants ℕ). IsServed (λ sample. sample) f LAST_FRAME p side side) (sym (set ∙ ap (λ (f : FrameInvariants ℕ). record f { slots = slice_set f.slots 0 (Some s) }) is)) (record {
-  inter = search rules;
-  some = search rules;
-  slot = search rules;
-  plane = λ plane e. subst (λ (q : Plane ℕ). IsReference (λ sample. sample) q 8 side side) (same_Some _ plane e) (each_plane s side l y u v p);
-})
+served_is fi filled mode edges s is set y u v p side l =
+    subst (λ (f : FrameInvariants ℕ). IsServed (λ sample. sample) f LAST_FRAME p side side)
+    (sym (set ∙ ap (λ (f : FrameInvariants ℕ). record f { slots = slice_set f.slots 0 (Some s) }) is)) (record {
+      inter = search rules;
+      some = search rules;
+      slot = search rules;
+      plane = λ plane e. subst (λ (q : Plane ℕ). IsReference (λ sample. sample) q 8 side side) (same_Some _ plane e) (each_plane s side l y u v p);
+    })

@@ -1,5 +1,6 @@
 -- The four cases of the fractions: where only one filter runs, the other's rounding loses nothing.
-use Rattle.std.proofs.Common.{ℕ, zero, suc, ◌+◌, ◌-◌, ◌*◌, ◌^◌, ◌<◌, ◌≡◌, ◌≢◌, ◌∙◌, ap, refl, sym, subst, arith, ℤ, pos, negsuc, ◌+ℤ◌, ◌-ℤ◌, ◌*ℤ◌, ◌≤ℤ◌, List, inl, inr, w64, FitsSigned}
+use Rattle.std.proofs.Common.{ℕ, zero, suc, ◌+◌, ◌-◌, ◌*◌, ◌^◌, ◌<◌, ◌≡◌, ◌≢◌, ◌∙◌, ap, refl, sym, subst, arith, ℤ, pos, negsuc, ◌+ℤ◌, ◌-ℤ◌, ◌*ℤ◌, ◌≤ℤ◌, List}
+use Rattle.std.proofs.Common.{inl, inr, w64, FitsSigned}
 use Rattle.std.specs.Int.Signed.{shr_z}
 use Rattle.std.proofs.lemmas.Int.{ints}
 use Rattle.av1_frame.specs.Arithmetic.{clip, round_shift}
@@ -32,7 +33,8 @@ shr_2048 z = shr_at (z +ℤ pos 64) (pos 16 *ℤ z +ℤ pos 1024) (omega (arith,
   where
     shr_at : (w v : ℤ) → v ≡ pos 16 *ℤ w → shr_z v 2048 ≡ shr_z w 128
     shr_at (pos m) v e = ap (λ u. shr_z u 2048) e ∙ ap pos (omega arith)
-    shr_at (negsuc m) v e = ap (λ u. shr_z u 2048) (e ∙ (let k : pos 16 *ℤ negsuc m ≡ negsuc (16 * m + 15) = omega (arith, ints) in k)) ∙ ap negsuc (omega arith)
+    shr_at (negsuc m) v e = ap (λ u. shr_z u 2048) (e ∙ (let k : pos 16 *ℤ negsuc m ≡ negsuc (16 * m + 15) = omega (arith, ints) in k))
+        ∙ ap negsuc (omega arith)
 
 shr_512 : (z : ℤ) → shr_z (pos 4 *ℤ z +ℤ pos 256) 512 ≡ shr_z (z +ℤ pos 64) 128
 shr_512 z = shr_at (z +ℤ pos 64) (pos 4 *ℤ z +ℤ pos 256) (omega (arith, ints))
@@ -56,31 +58,36 @@ shr_128_of_4 z = shr_at (z +ℤ pos 16) (pos 4 *ℤ z +ℤ pos 64) (omega (arith
     shr_at (negsuc m) v e = ap (λ u. shr_z u 128) (e ∙ (let k : pos 4 *ℤ negsuc m ≡ negsuc (4 * m + 3) = omega (arith, ints) in k)) ∙ ap negsuc (omega arith)
 
 -- samples that are moved to the intermediate bits, summed and rounded back
-put_down : (depth : ℕ) → IsDepth depth → (taps : List ℤ) (s : ℕ → ℕ) → round_shift (weighted taps (λ t. pos (s t * 2 ^ intermediate_bits depth))) (7 + intermediate_bits depth) ≡ round_shift (weighted taps (λ t. pos (s t))) 7
+put_down : (depth : ℕ) → IsDepth depth → (taps : List ℤ) (s : ℕ → ℕ) →
+    round_shift (weighted taps (λ t. pos (s t * 2 ^ intermediate_bits depth))) (7 + intermediate_bits depth) ≡ round_shift (weighted taps (λ t. pos (s t))) 7
 put_down depth (inl e) taps s = rw e (ap (λ z. shr_z (z +ℤ pos 1024) 2048) (sum_16 taps s 8) ∙ shr_2048 (weighted taps (λ t. pos (s t))))
 put_down depth (inr (inl e)) taps s = rw e (ap (λ z. shr_z (z +ℤ pos 1024) 2048) (sum_16 taps s 8) ∙ shr_2048 (weighted taps (λ t. pos (s t))))
 put_down depth (inr (inr e)) taps s = rw e (ap (λ z. shr_z (z +ℤ pos 256) 512) (sum_4 taps s 8) ∙ shr_512 (weighted taps (λ t. pos (s t))))
 
-prepare_down : (depth : ℕ) → IsDepth depth → (taps : List ℤ) (s : ℕ → ℕ) → round_shift (weighted taps (λ t. pos (s t * 2 ^ intermediate_bits depth))) 7 ≡ round_shift (weighted taps (λ t. pos (s t))) (7 - intermediate_bits depth)
+prepare_down : (depth : ℕ) → IsDepth depth → (taps : List ℤ) (s : ℕ → ℕ) →
+    round_shift (weighted taps (λ t. pos (s t * 2 ^ intermediate_bits depth))) 7 ≡ round_shift (weighted taps (λ t. pos (s t))) (7 - intermediate_bits depth)
 prepare_down depth (inl e) taps s = rw e (ap (λ z. shr_z (z +ℤ pos 64) 128) (sum_16 taps s 8) ∙ shr_128_of_16 (weighted taps (λ t. pos (s t))))
 prepare_down depth (inr (inl e)) taps s = rw e (ap (λ z. shr_z (z +ℤ pos 64) 128) (sum_16 taps s 8) ∙ shr_128_of_16 (weighted taps (λ t. pos (s t))))
 prepare_down depth (inr (inr e)) taps s = rw e (ap (λ z. shr_z (z +ℤ pos 64) 128) (sum_4 taps s 8) ∙ shr_128_of_4 (weighted taps (λ t. pos (s t))))
 
 module _ (depth : ℕ) (is_depth : IsDepth depth) where
   -- a block that is filtered down its columns
-  pub single_down : (fx fy : ℕ) (across down : List ℤ) (samples : ℕ → ℕ → ℕ) (r c : ℕ) → fy ≢ 0 → clip depth (round_shift (down_intermediate depth fx across down samples r c) (7 + intermediate_bits depth)) ≡ single depth fx fy across down samples r c
+  pub single_down : (fx fy : ℕ) (across down : List ℤ) (samples : ℕ → ℕ → ℕ) (r c : ℕ) → fy ≢ 0 →
+      clip depth (round_shift (down_intermediate depth fx across down samples r c) (7 + intermediate_bits depth)) ≡ single depth fx fy across down samples r c
   single_down fx zero across down samples r c h = absurd (h refl)
   single_down zero (suc k) across down samples r c h = ap (clip depth) (put_down depth is_depth down (λ t. samples (c + 3) (r + t)))
   single_down (suc j) (suc k) across down samples r c h = refl
 
   -- a block that is filtered along its rows alone, if at all
-  pub single_rows : (fx fy : ℕ) (across down : List ℤ) (samples : ℕ → ℕ → ℕ) (r c : ℕ) → samples (c + 3) (r + 3) < 2 ^ depth → fy ≡ 0 → clip depth (round_shift (intermediate depth fx across samples (r + 3) c) (intermediate_bits depth)) ≡ single depth fx fy across down samples r c
+  pub single_rows : (fx fy : ℕ) (across down : List ℤ) (samples : ℕ → ℕ → ℕ) (r c : ℕ) → samples (c + 3) (r + 3) < 2 ^ depth → fy ≡ 0 →
+      clip depth (round_shift (intermediate depth fx across samples (r + 3) c) (intermediate_bits depth)) ≡ single depth fx fy across down samples r c
   single_rows zero zero across down samples r c h e = rounded_back depth is_depth (samples (c + 3) (r + 3)) h
   single_rows (suc j) zero across down samples r c h e = refl
   single_rows fx (suc k) across down samples r c h e = absurd (omega (arith, e))
 
   -- a row that is filtered
-  pub intermediate_along : (fx : ℕ) (across : List ℤ) (samples : ℕ → ℕ → ℕ) (y c : ℕ) → fx ≢ 0 → round_shift (weighted across (λ t. pos (samples (c + t) y))) (7 - intermediate_bits depth) ≡ intermediate depth fx across samples y c
+  pub intermediate_along : (fx : ℕ) (across : List ℤ) (samples : ℕ → ℕ → ℕ) (y c : ℕ) → fx ≢ 0 →
+      round_shift (weighted across (λ t. pos (samples (c + t) y))) (7 - intermediate_bits depth) ≡ intermediate depth fx across samples y c
   intermediate_along zero across samples y c h = absurd (h refl)
   intermediate_along (suc j) across samples y c h = refl
 
@@ -99,13 +106,15 @@ module _ (depth : ℕ) (is_depth : IsDepth depth) where
   single_alone (suc j) (suc k) across down samples r c e h = absurd (omega (arith, e))
 
   -- a block that is not filtered
-  pub single_copy : (fx fy : ℕ) (across down : List ℤ) (samples : ℕ → ℕ → ℕ) (r c : ℕ) → fx ≡ 0 → fy ≡ 0 → samples (c + 3) (r + 3) ≡ single depth fx fy across down samples r c
+  pub single_copy : (fx fy : ℕ) (across down : List ℤ) (samples : ℕ → ℕ → ℕ) (r c : ℕ) → fx ≡ 0 → fy ≡ 0 →
+      samples (c + 3) (r + 3) ≡ single depth fx fy across down samples r c
   single_copy zero zero across down samples r c h e = refl
   single_copy (suc j) fy across down samples r c h e = absurd (omega (arith, h))
   single_copy zero (suc k) across down samples r c h e = absurd (omega (arith, e))
 
   -- a block that is prepared down its columns
-  pub prepared_down : (fx fy : ℕ) (across down : List ℤ) (samples : ℕ → ℕ → ℕ) (r c : ℕ) → fy ≢ 0 → round_shift (down_intermediate depth fx across down samples r c) 7 -ℤ bias depth ≡ prepared depth fx fy across down samples r c
+  pub prepared_down : (fx fy : ℕ) (across down : List ℤ) (samples : ℕ → ℕ → ℕ) (r c : ℕ) → fy ≢ 0 →
+      round_shift (down_intermediate depth fx across down samples r c) 7 -ℤ bias depth ≡ prepared depth fx fy across down samples r c
   prepared_down fx zero across down samples r c h = absurd (h refl)
   prepared_down zero (suc k) across down samples r c h = ap (λ z. z -ℤ bias depth) (prepare_down depth is_depth down (λ t. samples (c + 3) (r + t)))
   prepared_down (suc j) (suc k) across down samples r c h = refl
@@ -118,7 +127,8 @@ module _ (depth : ℕ) (is_depth : IsDepth depth) where
   prepared_alone (suc j) (suc k) across down samples r c e h = absurd (omega (arith, e))
 
   -- a block that is prepared along its rows alone, or not filtered
-  pub prepared_rows : (fx fy : ℕ) (across down : List ℤ) (samples : ℕ → ℕ → ℕ) (r c : ℕ) → fy ≡ 0 → intermediate depth fx across samples (r + 3) c -ℤ bias depth ≡ prepared depth fx fy across down samples r c
+  pub prepared_rows : (fx fy : ℕ) (across down : List ℤ) (samples : ℕ → ℕ → ℕ) (r c : ℕ) → fy ≡ 0 →
+      intermediate depth fx across samples (r + 3) c -ℤ bias depth ≡ prepared depth fx fy across down samples r c
   prepared_rows fx zero across down samples r c e = refl
   prepared_rows fx (suc k) across down samples r c e = absurd (omega (arith, e))
 
@@ -128,25 +138,32 @@ place_fits (pos k) o n l h a b = record { sfits = omega (arith, ints, l, h) }
 place_fits (negsuc k) o n l h a b = record { sfits = omega (arith, ints, l, h) }
 
 -- the place that the two steps to the corner lead to
-pub corner_is : {T : Type 0} (src left corner : PlaneSlice T) → left ≡ record src { x = src.x -ℤ pos 3 } → corner ≡ record left { y = left.y -ℤ pos 3 } → corner ≡ corner_of src
+pub corner_is : {T : Type 0} (src left corner : PlaneSlice T) → left ≡ record src { x = src.x -ℤ pos 3 } → corner ≡ record left { y = left.y -ℤ pos 3 } →
+    corner ≡ corner_of src
 corner_is {T} src left corner e f = f ∙ ap (λ (s : PlaneSlice T). record s { y = s.y -ℤ pos 3 }) e
 
 -- and its row
-pub corner_fits : {T : Type 0} (src left : PlaneSlice T) (columns rows : ℕ) → left ≡ record src { x = src.x -ℤ pos 3 } → IsStoredFrom (corner_of src) columns rows → FitsSigned w64 (left.y -ℤ pos 3)
+pub corner_fits : {T : Type 0} (src left : PlaneSlice T) (columns rows : ℕ) → left ≡ record src { x = src.x -ℤ pos 3 } →
+    IsStoredFrom (corner_of src) columns rows → FitsSigned w64 (left.y -ℤ pos 3)
 corner_fits {T} src left columns rows e s =
     let y = ap (λ (p : PlaneSlice T). p.y) e in
-    place_fits _ src.plane_cfg.now.yorigin src.plane_cfg.now.alloc_height (omega (arith, ints, y, s.top)) (omega (arith, ints, y, s.bottom)) (omega (arith, s.whole.few_rows, s.whole.visible_rows)) s.whole.few_rows
+    place_fits _ src.plane_cfg.now.yorigin src.plane_cfg.now.alloc_height (omega (arith, ints, y, s.top)) (omega (arith, ints, y, s.bottom))
+    (omega (arith, s.whole.few_rows, s.whole.visible_rows)) s.whole.few_rows
 
 -- and its column
 pub corner_column_fits : {T : Type 0} (src : PlaneSlice T) (columns rows : ℕ) → IsStoredFrom (corner_of src) columns rows → FitsSigned w64 (src.x -ℤ pos 3)
 corner_column_fits {T} src columns rows s =
-    place_fits _ src.plane_cfg.now.xorigin src.plane_cfg.now.stride s.left (omega (arith, ints, s.right)) (omega (arith, s.whole.few_columns, s.whole.visible_columns)) (omega (arith, s.whole.few_columns, s.whole.visible_columns))
+    place_fits _ src.plane_cfg.now.xorigin src.plane_cfg.now.stride s.left (omega (arith, ints, s.right))
+    (omega (arith, s.whole.few_columns, s.whole.visible_columns)) (omega (arith, s.whole.few_columns, s.whole.visible_columns))
 
 -- the column of a strip
-pub strip_column_fits : {T : Type 0} (corner : PlaneSlice T) (start columns rows : ℕ) → IsStoredFrom corner (start + columns + 7) rows → FitsSigned w64 (corner.x +ℤ pos start)
+pub strip_column_fits : {T : Type 0} (corner : PlaneSlice T) (start columns rows : ℕ) → IsStoredFrom corner (start + columns + 7) rows →
+    FitsSigned w64 (corner.x +ℤ pos start)
 strip_column_fits {T} corner start columns rows s =
-    place_fits _ corner.plane_cfg.now.xorigin corner.plane_cfg.now.stride (omega (arith, ints, s.left)) (omega (arith, ints, s.right)) (omega (arith, s.whole.few_columns, s.whole.visible_columns)) (omega (arith, s.whole.few_columns, s.whole.visible_columns))
+    place_fits _ corner.plane_cfg.now.xorigin corner.plane_cfg.now.stride (omega (arith, ints, s.left)) (omega (arith, ints, s.right))
+    (omega (arith, s.whole.few_columns, s.whole.visible_columns)) (omega (arith, s.whole.few_columns, s.whole.visible_columns))
 
 -- samples from there within the depth
-pub corner_within : {T : Type 0} (num : T → ℕ) (src corner : PlaneSlice T) (depth columns rows : ℕ) → corner ≡ corner_of src → AreWithinDepth depth (samples_from num (corner_of src)) columns rows → AreWithinDepth depth (samples_from num corner) columns rows
+pub corner_within : {T : Type 0} (num : T → ℕ) (src corner : PlaneSlice T) (depth columns rows : ℕ) → corner ≡ corner_of src →
+    AreWithinDepth depth (samples_from num (corner_of src)) columns rows → AreWithinDepth depth (samples_from num corner) columns rows
 corner_within {T} num src corner depth columns rows e h = subst (λ (p : PlaneSlice T). AreWithinDepth depth (samples_from num p) columns rows) (sym e) h

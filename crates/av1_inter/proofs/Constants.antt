@@ -1,5 +1,6 @@
 -- A filter keeps a sample that all its weights see.
-use Rattle.std.proofs.Common.{ℕ, zero, suc, ◌+◌, ◌-◌, ◌*◌, ◌^◌, ◌<◌, ◌≤◌, ◌≡◌, ◌≢◌, ◌∙◌, ap, arith, ℤ, pos, negsuc, ◌+ℤ◌, ◌-ℤ◌, ◌*ℤ◌, List, length, take, inl, inr}
+use Rattle.std.proofs.Common.{ℕ, zero, suc, ◌+◌, ◌-◌, ◌*◌, ◌^◌, ◌<◌, ◌≤◌, ◌≡◌, ◌≢◌, ◌∙◌, ap, arith, ℤ, pos, negsuc, ◌+ℤ◌, ◌-ℤ◌, ◌*ℤ◌, List, length, take, inl}
+use Rattle.std.proofs.Common.{inr}
 use Rattle.std.proofs.lemmas.Int.{ints}
 use Rattle.std.proofs.lemmas.List.{take_all}
 use Rattle.av1_frame.specs.Arithmetic.{clip, round_shift}
@@ -19,7 +20,8 @@ both_are G g L l v s p h k =
     let b : (L + l) * v ≡ L * v + l * v = grind arith in
     omega (arith, ints, a, b, h, k)
 
-partial_is : (taps : List ℤ) (v k : ℕ) → k ≤ length taps → sum_to k (λ t. entry taps t *ℤ pos v) ≡ pos (gains (take k taps) * v) -ℤ pos (losses (take k taps) * v)
+partial_is : (taps : List ℤ) (v k : ℕ) → k ≤ length taps →
+    sum_to k (λ t. entry taps t *ℤ pos v) ≡ pos (gains (take k taps) * v) -ℤ pos (losses (take k taps) * v)
 unfolding sum_to
 partial_is taps v zero h = omega (arith, ints)
 partial_is taps v (suc k) h =
@@ -30,7 +32,8 @@ partial_is taps v (suc k) h =
 pub weighted_constant : (taps : List ℤ) (v : ℕ) → IsFilter taps → weighted taps (λ t. pos v) ≡ pos (128 * v)
 weighted_constant taps v f =
     let s = partial_is taps v 8 (omega (arith, f.size)) ∙ ap (λ u. pos (gains u * v) -ℤ pos (losses u * v)) (take_all 8 taps (omega (arith, f.size))) in
-    let a : gains taps * v ≡ 128 * v + losses taps * v = ap (λ n. n * v) f.whole ∙ (let d : (128 + losses taps) * v ≡ 128 * v + losses taps * v = grind arith in d) in
+    let a : gains taps * v ≡ 128 * v + losses taps * v = ap (λ n. n * v) f.whole
+    ∙ (let d : (128 + losses taps) * v ≡ 128 * v + losses taps * v = grind arith in d) in
     omega (arith, ints, s, a)
 
 -- the roundings of such sums
@@ -56,28 +59,37 @@ clip_stays : (depth v : ℕ) → v < 2 ^ depth → clip depth (pos v) ≡ v
 clip_stays depth v h = omega arith
 
 -- a row that is constant where the taps stand
-intermediate_constant : (depth : ℕ) → IsDepth depth → (fx : ℕ) (across : List ℤ) (row : ℕ → ℕ) (c v : ℕ) → IsFilter across → ((t : ℕ) → t < 8 → row (c + t) ≡ v) → intermediate_at depth fx across row c ≡ pos (v * 2 ^ intermediate_bits depth)
+intermediate_constant : (depth : ℕ) → IsDepth depth → (fx : ℕ) (across : List ℤ) (row : ℕ → ℕ) (c v : ℕ) → IsFilter across →
+    ((t : ℕ) → t < 8 → row (c + t) ≡ v) → intermediate_at depth fx across row c ≡ pos (v * 2 ^ intermediate_bits depth)
 intermediate_constant depth d zero across row c v f h = ap (λ n. pos (n * 2 ^ intermediate_bits depth)) (h 3 (omega arith))
 intermediate_constant depth d (suc k) across row c v f h =
-    ap (λ z. round_shift z (7 - intermediate_bits depth)) (weighted_same across (λ t. pos (row (c + t))) (λ t. pos v) (λ t l. ap pos (h t l)) ∙ weighted_constant across v f)
+    ap (λ z. round_shift z (7 - intermediate_bits depth)) (weighted_same across (λ t. pos (row (c + t))) (λ t. pos v) (λ t l. ap pos (h t l))
+    ∙ weighted_constant across v f)
     ∙ first_rounding depth d v
 
 -- samples that are constant where a block's sample reads them give that sample
-pub single_constant : (depth : ℕ) → IsDepth depth → (fx fy : ℕ) (across down : List ℤ) (samples : ℕ → ℕ → ℕ) (r c v : ℕ) → IsFilter across → IsFilter down → v < 2 ^ depth → ((x y : ℕ) → x < c + 8 → y < r + 8 → samples x y ≡ v) → single depth fx fy across down samples r c ≡ v
+pub single_constant : (depth : ℕ) → IsDepth depth → (fx fy : ℕ) (across down : List ℤ) (samples : ℕ → ℕ → ℕ) (r c v : ℕ) → IsFilter across → IsFilter down →
+    v < 2 ^ depth → ((x y : ℕ) → x < c + 8 → y < r + 8 → samples x y ≡ v) → single depth fx fy across down samples r c ≡ v
 single_constant depth d zero zero across down samples r c v f g l h = h (c + 3) (r + 3) (omega arith) (omega arith)
 single_constant depth d zero (suc k) across down samples r c v f g l h =
-    ap (λ z. clip depth (round_shift z 7)) (weighted_same down (λ t. pos (samples (c + 3) (r + t))) (λ t. pos v) (λ t m. ap pos (h (c + 3) (r + t) (omega arith) (omega arith))) ∙ weighted_constant down v g)
+    ap (λ z. clip depth (round_shift z 7))
+    (weighted_same down (λ t. pos (samples (c + 3) (r + t))) (λ t. pos v) (λ t m. ap pos (h (c + 3) (r + t) (omega arith) (omega arith)))
+    ∙ weighted_constant down v g)
     ∙ ap (clip depth) (only_rounding v) ∙ clip_stays depth v l
 single_constant depth d (suc j) zero across down samples r c v f g l h =
-    ap (λ z. clip depth (round_shift z (intermediate_bits depth))) (intermediate_constant depth d (suc j) across (λ x. samples x (r + 3)) c v f (λ t m. h (c + t) (r + 3) (omega arith) (omega arith)))
+    ap (λ z. clip depth (round_shift z (intermediate_bits depth)))
+    (intermediate_constant depth d (suc j) across (λ x. samples x (r + 3)) c v f (λ t m. h (c + t) (r + 3) (omega arith) (omega arith)))
     ∙ ap (clip depth) (last_rounding depth d v) ∙ clip_stays depth v l
 single_constant depth d (suc j) (suc k) across down samples r c v f g l h =
-    ap (λ z. clip depth (round_shift z (7 + intermediate_bits depth))) (weighted_same down (λ t. intermediate depth (suc j) across samples (r + t) c) (λ t. pos (v * 2 ^ intermediate_bits depth))
-    (λ t m. intermediate_constant depth d (suc j) across (λ x. samples x (r + t)) c v f (λ i n. h (c + i) (r + t) (omega arith) (omega arith))) ∙ weighted_constant down (v * 2 ^ intermediate_bits depth) g)
+    ap (λ z. clip depth (round_shift z (7 + intermediate_bits depth)))
+    (weighted_same down (λ t. intermediate depth (suc j) across samples (r + t) c) (λ t. pos (v * 2 ^ intermediate_bits depth))
+    (λ t m. intermediate_constant depth d (suc j) across (λ x. samples x (r + t)) c v f (λ i n. h (c + i) (r + t) (omega arith) (omega arith)))
+    ∙ weighted_constant down (v * 2 ^ intermediate_bits depth) g)
     ∙ ap (clip depth) (both_roundings depth d v) ∙ clip_stays depth v l
 
 -- a sample in the intermediate bits, rounded back
-pub rounded_back : (depth : ℕ) → IsDepth depth → (v : ℕ) → v < 2 ^ depth → clip depth (round_shift (pos (v * 2 ^ intermediate_bits depth)) (intermediate_bits depth)) ≡ v
+pub rounded_back : (depth : ℕ) → IsDepth depth → (v : ℕ) → v < 2 ^ depth →
+    clip depth (round_shift (pos (v * 2 ^ intermediate_bits depth)) (intermediate_bits depth)) ≡ v
 rounded_back depth d v h = ap (clip depth) (last_rounding depth d v) ∙ clip_stays depth v h
 
 -- a depth that is neither 8 nor 10

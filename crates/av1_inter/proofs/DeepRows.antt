@@ -12,8 +12,10 @@ use Rattle.av1_inter.proofs.Sums.{weighted_same}
 pub deep_row_long : (r n stride len : ℕ) → (r + 7) * stride + (n + 7) ≤ len → r * stride + 3 + n + 7 * stride ≤ len
 deep_row_long r n stride len reach = let last : (r + 7) * stride ≡ r * stride + 7 * stride = grind arith in omega (arith, last, reach)
 
-pub deep_row_within : (f : ℕ → ℕ) (depth stride r n : ℕ) → IsDepth depth → ((t c : ℕ) → t < 8 → c < n + 7 → f ((r + t) * stride + c) < 2 ^ depth) → (q t : ℕ) → q < n → t < 8 → f (r * stride + 3 + q + t * stride) < 4096
-deep_row_within f depth stride r n d within = λ q t h l. subst (λ (k : ℕ). f k < 4096) (sym (down_place r t stride q)) (within_12 depth _ d (within t (q + 3) l (omega arith)))
+pub deep_row_within : (f : ℕ → ℕ) (depth stride r n : ℕ) → IsDepth depth → ((t c : ℕ) → t < 8 → c < n + 7 → f ((r + t) * stride + c) < 2 ^ depth) → (q t : ℕ) →
+    q < n → t < 8 → f (r * stride + 3 + q + t * stride) < 4096
+deep_row_within f depth stride r n d within =
+    λ q t h l. subst (λ (k : ℕ). f k < 4096) (sym (down_place r t stride q)) (within_12 depth _ d (within t (q + 3) l (omega arith)))
 
 -- a row that is painted by sums
 pub deep_row_painted : {T : Type 0} (pixel : ℕ → T) (depth n : ℕ) (taps : List ℤ) (f : ℕ → ℕ) (stride r : ℕ) (sums : List ℤ) (rest new : List T)

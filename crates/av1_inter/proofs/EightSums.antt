@@ -25,7 +25,8 @@ joined : (a b c d e f g h w x y z : ℤ) → w ≡ a +ℤ b → x ≡ c +ℤ d �
 joined a b c d e f g h w x y z ew ex ey ez = omega (arith, ints, ew, ex, ey, ez)
 
 -- four such pairs are the whole sum
-pub weighted_pairs : (taps : List ℤ) (value : ℕ → ℤ) (w x y z : ℤ) → w ≡ entry taps 0 *ℤ value 0 +ℤ entry taps 1 *ℤ value 1 → x ≡ entry taps 2 *ℤ value 2 +ℤ entry taps 3 *ℤ value 3
+pub weighted_pairs : (taps : List ℤ) (value : ℕ → ℤ) (w x y z : ℤ) → w ≡ entry taps 0 *ℤ value 0 +ℤ entry taps 1 *ℤ value 1 →
+    x ≡ entry taps 2 *ℤ value 2 +ℤ entry taps 3 *ℤ value 3
     → y ≡ entry taps 4 *ℤ value 4 +ℤ entry taps 5 *ℤ value 5 → z ≡ entry taps 6 *ℤ value 6 +ℤ entry taps 7 *ℤ value 7 → w +ℤ x +ℤ y +ℤ z ≡ weighted taps value
 unfolding sum_to
 weighted_pairs taps value w x y z ew ex ey ez =
@@ -33,21 +34,25 @@ weighted_pairs taps value w x y z ew ex ey ez =
     joined (term 0) (term 1) (term 2) (term 3) (term 4) (term 5) (term 6) (term 7) w x y z ew ex ey ez
 
 -- three pairs are, where the outer two weights are 0
-joined_inner : (a b c d e f g h w x y : ℤ) → a ≡ pos 0 → h ≡ pos 0 → w ≡ b +ℤ c → x ≡ d +ℤ e → y ≡ f +ℤ g → w +ℤ x +ℤ y ≡ pos 0 +ℤ a +ℤ b +ℤ c +ℤ d +ℤ e +ℤ f +ℤ g +ℤ h
+joined_inner : (a b c d e f g h w x y : ℤ) → a ≡ pos 0 → h ≡ pos 0 → w ≡ b +ℤ c → x ≡ d +ℤ e → y ≡ f +ℤ g →
+    w +ℤ x +ℤ y ≡ pos 0 +ℤ a +ℤ b +ℤ c +ℤ d +ℤ e +ℤ f +ℤ g +ℤ h
 joined_inner a b c d e f g h w x y ea eh ew ex ey = omega (arith, ints, ea, eh, ew, ex, ey)
 
 no_product : (a v : ℤ) → a ≡ pos 0 → a *ℤ v ≡ pos 0
 no_product a v e = ap (λ z. z *ℤ v) e ∙ times_none v
 
-pub weighted_inner : (taps : List ℤ) (value : ℕ → ℤ) (w x y : ℤ) → IsInner taps → w ≡ entry taps 1 *ℤ value 1 +ℤ entry taps 2 *ℤ value 2 → x ≡ entry taps 3 *ℤ value 3 +ℤ entry taps 4 *ℤ value 4
+pub weighted_inner : (taps : List ℤ) (value : ℕ → ℤ) (w x y : ℤ) → IsInner taps → w ≡ entry taps 1 *ℤ value 1 +ℤ entry taps 2 *ℤ value 2 →
+    x ≡ entry taps 3 *ℤ value 3 +ℤ entry taps 4 *ℤ value 4
     → y ≡ entry taps 5 *ℤ value 5 +ℤ entry taps 6 *ℤ value 6 → w +ℤ x +ℤ y ≡ weighted taps value
 unfolding sum_to
 weighted_inner taps value w x y inner ew ex ey =
     let term = λ (t : ℕ). entry taps t *ℤ value t in
-    joined_inner (term 0) (term 1) (term 2) (term 3) (term 4) (term 5) (term 6) (term 7) w x y (no_product _ (value 0) inner.first) (no_product _ (value 7) inner.last) ew ex ey
+    joined_inner (term 0) (term 1) (term 2) (term 3) (term 4) (term 5) (term 6) (term 7) w x y (no_product _ (value 0) inner.first)
+    (no_product _ (value 7) inner.last) ew ex ey
 
 -- a sample's place, counted otherwise
-pub sample_below : (samples : List ℕ) (start step c t i : ℕ) → ((c t : ℕ) → c < 8 → t < 8 → slice_index samples (start + c + t * step) < 4096) → c < 8 → t < 8 → i ≡ start + c + t * step → slice_index samples i < 4096
+pub sample_below : (samples : List ℕ) (start step c t i : ℕ) → ((c t : ℕ) → c < 8 → t < 8 → slice_index samples (start + c + t * step) < 4096) → c < 8 → t < 8 →
+    i ≡ start + c + t * step → slice_index samples i < 4096
 sample_below samples start step c t i h a b e = let P : ℕ → Type 0 = λ k. slice_index samples k < 4096 in subst P (sym e) (h c t a b)
 
 pub sample_between : (z : ℤ) (n : ℕ) → z ≡ pos n → n < 4096 → Between 0 4095 z
@@ -75,7 +80,8 @@ three_fit a b c f g h =
     subst P (sym (three_added a b c f g h)) (fits_of _ (omega (arith, ints, f.low, g.low, h.low)) (omega (arith, ints, f.high, g.high, h.high)))
 
 all_added : (a b c d : ℤ) → IsWithin (2 ^ 21) a → IsWithin (2 ^ 21) b → IsWithin (2 ^ 21) c → IsWithin (2 ^ 21) d
-    → to_z w32 (of_z w32 (to_z w32 (of_z w32 (to_z w32 (of_z w32 a) +ℤ to_z w32 (of_z w32 b))) +ℤ to_z w32 (of_z w32 c))) +ℤ to_z w32 (of_z w32 d) ≡ a +ℤ b +ℤ c +ℤ d
+    → to_z w32 (of_z w32 (to_z w32 (of_z w32 (to_z w32 (of_z w32 a) +ℤ to_z w32 (of_z w32 b))) +ℤ to_z w32 (of_z w32 c))) +ℤ to_z w32 (of_z w32 d) ≡
+    a +ℤ b +ℤ c +ℤ d
 all_added a b c d f g h k =
     ap (λ z. to_z w32 (of_z w32 z) +ℤ to_z w32 (of_z w32 d)) (three_added a b c f g h)
     ∙ added (a +ℤ b +ℤ c) d (record { low = omega (arith, ints, f.low, g.low, h.low); high = omega (arith, ints, f.high, g.high, h.high) }) k
@@ -88,14 +94,21 @@ pub three_within : (a b c z : ℤ) → IsWithin (2 ^ 21) a → IsWithin (2 ^ 21)
 three_within a b c z f g h e = record { low = omega (arith, ints, f.low, g.low, h.low, e); high = omega (arith, ints, f.high, g.high, h.high, e) }
 
 pub four_fit : (a b c d : ℤ) → IsWithin (2 ^ 21) a → IsWithin (2 ^ 21) b → IsWithin (2 ^ 21) c → IsWithin (2 ^ 21) d
-    → FitsSigned w32 (to_z w32 (of_z w32 (to_z w32 (of_z w32 (to_z w32 (of_z w32 a) +ℤ to_z w32 (of_z w32 b))) +ℤ to_z w32 (of_z w32 c))) +ℤ to_z w32 (of_z w32 d))
+    → FitsSigned w32
+    (to_z w32 (of_z w32 (to_z w32 (of_z w32 (to_z w32 (of_z w32 a) +ℤ to_z w32 (of_z w32 b))) +ℤ to_z w32 (of_z w32 c))) +ℤ to_z w32 (of_z w32 d))
 four_fit a b c d f g h k =
     let P : ℤ → Type 0 = λ z. FitsSigned w32 z in
-    subst P (sym (all_added a b c d f g h k)) (fits_of _ (omega (arith, ints, f.low, g.low, h.low, k.low)) (omega (arith, ints, f.high, g.high, h.high, k.high)))
+    subst P (sym (all_added a b c d f g h k))
+    (fits_of _ (omega (arith, ints, f.low, g.low, h.low, k.low)) (omega (arith, ints, f.high, g.high, h.high, k.high)))
 
 pub four_added : (a b c d : ℤ) → IsWithin (2 ^ 21) a → IsWithin (2 ^ 21) b → IsWithin (2 ^ 21) c → IsWithin (2 ^ 21) d
-    → to_z w32 (of_z w32 (to_z w32 (of_z w32 (to_z w32 (of_z w32 (to_z w32 (of_z w32 a) +ℤ to_z w32 (of_z w32 b))) +ℤ to_z w32 (of_z w32 c))) +ℤ to_z w32 (of_z w32 d))) ≡ a +ℤ b +ℤ c +ℤ d
+    → to_z w32
+    (of_z w32
+    (to_z w32 (of_z w32 (to_z w32 (of_z w32 (to_z w32 (of_z w32 a) +ℤ to_z w32 (of_z w32 b))) +ℤ to_z w32 (of_z w32 c))) +ℤ to_z w32 (of_z w32 d))) ≡
+    a +ℤ b +ℤ c +ℤ d
 four_added a b c d f g h k = to_z-of_z w32 _ (four_fit a b c d f g h k) ∙ all_added a b c d f g h k
 
-pub four_within : (a b c d z : ℤ) → IsWithin (2 ^ 21) a → IsWithin (2 ^ 21) b → IsWithin (2 ^ 21) c → IsWithin (2 ^ 21) d → z ≡ a +ℤ b +ℤ c +ℤ d → IsWithin (2 ^ 30) z
-four_within a b c d z f g h k e = record { low = omega (arith, ints, f.low, g.low, h.low, k.low, e); high = omega (arith, ints, f.high, g.high, h.high, k.high, e) }
+pub four_within : (a b c d z : ℤ) → IsWithin (2 ^ 21) a → IsWithin (2 ^ 21) b → IsWithin (2 ^ 21) c → IsWithin (2 ^ 21) d → z ≡ a +ℤ b +ℤ c +ℤ d →
+    IsWithin (2 ^ 30) z
+four_within a b c d z f g h k e =
+    record { low = omega (arith, ints, f.low, g.low, h.low, k.low, e); high = omega (arith, ints, f.high, g.high, h.high, k.high, e) }

@@ -1,5 +1,6 @@
 -- What holds of each of eight numbers, and values that are eight columns of rows.
-use Rattle.std.proofs.Common.{ℕ, zero, suc, ◌^◌, ◌<◌, ◌≡◌, ◌∙◌, ap, sym, subst, arith, ℤ, pos, negsuc, w32, to_z, of_z, FitsSigned, List, length, map, slice_index, get_or}
+use Rattle.std.proofs.Common.{ℕ, zero, suc, ◌^◌, ◌<◌, ◌≡◌, ◌∙◌, ap, sym, subst, arith, ℤ, pos, negsuc, w32, to_z, of_z, FitsSigned, List, length, map}
+use Rattle.std.proofs.Common.{slice_index, get_or}
 use Rattle.std.proofs.lemmas.Int.{ints, to_z-of_z}
 use Rattle.std.proofs.lemmas.List.{get_or-map}
 use Rattle.av1_inter.specs.Scaffolding.{IsWithin}
@@ -31,5 +32,6 @@ pub read_small : (z : ℤ) → IsWithin (2 ^ 22) z → IsWithin (2 ^ 22) (to_z w
 read_small z h = let P : ℤ → Type 0 = λ v. IsWithin (2 ^ 22) v in subst P (sym (read_is z h)) h
 
 -- the sample at column k of a row, as it was read
-pub sample_is : {T : Type 0} (num : T → ℕ) (row : List T) (k : ℕ) (x : T) (z : ℤ) → k < length row → x ≡ get_or row k x → z ≡ pos (num x) → num x < 2 ^ 16 → to_z w32 (of_z w32 z) ≡ pos (slice_index (map num row) k)
+pub sample_is : {T : Type 0} (num : T → ℕ) (row : List T) (k : ℕ) (x : T) (z : ℤ) → k < length row → x ≡ get_or row k x → z ≡ pos (num x) → num x < 2 ^ 16 →
+    to_z w32 (of_z w32 z) ≡ pos (slice_index (map num row) k)
 sample_is num row k x z h is e f = read_is z (sample_small z (num x) e f) ∙ e ∙ ap pos (sym (get_or-map num row k x 0 h ∙ ap num (sym is)))

@@ -1,5 +1,6 @@
 -- Loops that write the entries of a list one after another.
-use Rattle.std.proofs.Common.{ℕ, ap, subst, sym, ◌*◌, ◌+◌, ◌-◌, ◌<◌, ◌≤◌, ◌≡◌, ◌⊎◌, ℤ, pos, List, length, replicate, set, refl, arith, ◌∙◌, inl, inr, get_or-set_other}
+use Rattle.std.proofs.Common.{ℕ, ap, subst, sym, ◌*◌, ◌+◌, ◌-◌, ◌<◌, ◌≤◌, ◌≡◌, ◌⊎◌, ℤ, pos, List, length, replicate, set, refl, arith, ◌∙◌, inl, inr}
+use Rattle.std.proofs.Common.{get_or-set_other}
 use Rattle.std.proofs.Math.Nat.{mul-le-mul_right}
 use Rattle.std.proofs.lemmas.Bool.{cases_eq, cases_lt, cases_order}
 use Rattle.std.proofs.lemmas.Grind.{get_or-set_at}
@@ -37,7 +38,8 @@ line_more n c f now v h l e = record {
 }
 
 -- what holds of the first c entries and of the next
-pub each_more : (P : ℤ → Type 0) (c : ℕ) (now : List ℤ) (v : ℤ) → ((k : ℕ) → k < c → P (entry now k)) → c < length now → P v → (k : ℕ) → k < c + 1 → P (entry (set now c v) k)
+pub each_more : (P : ℤ → Type 0) (c : ℕ) (now : List ℤ) (v : ℤ) → ((k : ℕ) → k < c → P (entry now k)) → c < length now → P v → (k : ℕ) → k < c + 1 →
+    P (entry (set now c v) k)
 each_more P c now v h l p k b =
     elim (cases_eq k c) [
       | inl same ↦ (let n : entry (set now c v) k ≡ v = grind (arith, get_or-set_at) in subst P (sym n) p)
@@ -49,7 +51,8 @@ pub record IsDoneFrom (start c : ℕ) (f : ℕ → ℤ) (old now : List ℤ) : T
   pub done : (k : ℕ) → k < c → entry now (start + k) ≡ f k
   pub rest : (i : ℕ) → (i < start) ⊎ (start + c ≤ i) → entry now i ≡ entry old i
 
-pub done_from_more : (start c : ℕ) (f : ℕ → ℤ) (old now : List ℤ) (v : ℤ) → IsDoneFrom start c f old now → start + c < length now → v ≡ f c → IsDoneFrom start (c + 1) f old (set now (start + c) v)
+pub done_from_more : (start c : ℕ) (f : ℕ → ℤ) (old now : List ℤ) (v : ℤ) → IsDoneFrom start c f old now → start + c < length now → v ≡ f c →
+    IsDoneFrom start (c + 1) f old (set now (start + c) v)
 done_from_more start c f old now v h l e =
     record {
       done = λ k b. elim (cases_eq k c) [
@@ -85,10 +88,12 @@ strip_more w start n r f old now new fit h row others =
     }
 
 -- all of its rows
-pub all_done : {w start n r h : ℕ} {f : ℕ → ℕ → ℤ} {old now : List ℤ} → r ≡ h → IsStripWritten w start n r f old now → (q c : ℕ) → q < h → c < n → entry now (q * w + start + c) ≡ f q c
+pub all_done : {w start n r h : ℕ} {f : ℕ → ℕ → ℤ} {old now : List ℤ} → r ≡ h → IsStripWritten w start n r f old now → (q c : ℕ) → q < h → c < n →
+    entry now (q * w + start + c) ≡ f q c
 all_done e a = λ q c l k. a.done q c (omega (arith, e, l)) k
 
-pub all_rest : {w start n r h : ℕ} {f : ℕ → ℕ → ℤ} {old now : List ℤ} → r ≡ h → IsStripWritten w start n r f old now → (i : ℕ) → ((q : ℕ) → q < h → IsBeside (q * w + start) n i) → entry now i ≡ entry old i
+pub all_rest : {w start n r h : ℕ} {f : ℕ → ℕ → ℤ} {old now : List ℤ} → r ≡ h → IsStripWritten w start n r f old now → (i : ℕ) →
+    ((q : ℕ) → q < h → IsBeside (q * w + start) n i) → entry now i ≡ entry old i
 all_rest e a = λ i b. a.rest i (λ q l. b q (omega (arith, e, l)))
 
 -- the first s columns of h rows of w entries are f's, and the entries after those rows are those of `old`

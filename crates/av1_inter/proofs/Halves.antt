@@ -1,5 +1,6 @@
 -- Sums by halved weights, as the machine forms them in 16 bits, and how great they are.
-use Rattle.std.proofs.Common.{ℕ, zero, suc, ◌+◌, ◌*◌, ◌^◌, ◌<◌, ◌≤◌, ◌≡◌, ◌∙◌, ap, refl, arith, subst, sym, ℤ, pos, negsuc, ◌+ℤ◌, ◌*ℤ◌, neg_ℤ, ◌≤ℤ◌, List, [], ◌∷◌, length, unsigned_abs, w16, w32, to_z, of_z, FitsSigned}
+use Rattle.std.proofs.Common.{ℕ, zero, suc, ◌+◌, ◌*◌, ◌^◌, ◌<◌, ◌≤◌, ◌≡◌, ◌∙◌, ap, refl, arith, subst, sym, ℤ, pos, negsuc, ◌+ℤ◌, ◌*ℤ◌, neg_ℤ, ◌≤ℤ◌, List, []}
+use Rattle.std.proofs.Common.{◌∷◌, length, unsigned_abs, w16, w32, to_z, of_z, FitsSigned}
 use Rattle.std.specs.Int.{int_max, int_min, int_shr}
 use Rattle.std.specs.Int.Signed.{shr_z}
 use Rattle.std.proofs.lemmas.Int.{int_max_is, int_min_is, ints, to_z-of_z}
@@ -23,15 +24,18 @@ twice : (h v : ℤ) → (pos 2 *ℤ h) *ℤ v ≡ pos 2 *ℤ (h *ℤ v)
 twice (pos n) (pos m) = let k : 2 * n * m ≡ 2 * (n * m) = grind arith in omega (arith, ints, k)
 twice (pos n) (negsuc m) = let k : 2 * n * suc m ≡ 2 * (n * suc m) = grind arith in omega (arith, ints, k)
 twice (negsuc n) (pos m) = ap (λ z. z *ℤ pos m) (negated n) ∙ (let k : suc (2 * n + 1) * m ≡ 2 * (suc n * m) = grind arith in omega (arith, ints, k))
-twice (negsuc n) (negsuc m) = ap (λ z. z *ℤ negsuc m) (negated n) ∙ (let k : suc (2 * n + 1) * suc m ≡ 2 * (suc n * suc m) = grind arith in omega (arith, ints, k))
+twice (negsuc n) (negsuc m) = ap (λ z. z *ℤ negsuc m) (negated n)
+    ∙ (let k : suc (2 * n + 1) * suc m ≡ 2 * (suc n * suc m) = grind arith in omega (arith, ints, k))
 
 -- a sum by the doubled weights is twice the sum
-pub doubled_sum : (halves : List ℤ) (value : ℕ → ℤ) (k : ℕ) → sum_to k (λ t. entry (doubled halves) t *ℤ value t) ≡ pos 2 *ℤ sum_to k (λ t. entry halves t *ℤ value t)
+pub doubled_sum : (halves : List ℤ) (value : ℕ → ℤ) (k : ℕ) →
+    sum_to k (λ t. entry (doubled halves) t *ℤ value t) ≡ pos 2 *ℤ sum_to k (λ t. entry halves t *ℤ value t)
 unfolding sum_to
 doubled_sum halves value zero = refl
 doubled_sum halves value (suc k) =
     let e = doubled_sum halves value k in
-    let p : entry (doubled halves) k *ℤ value k ≡ pos 2 *ℤ (entry halves k *ℤ value k) = ap (λ z. z *ℤ value k) (entry_doubled halves k) ∙ twice (entry halves k) (value k) in
+    let p : entry (doubled halves) k *ℤ value k ≡ pos 2 *ℤ (entry halves k *ℤ value k) = ap (λ z. z *ℤ value k) (entry_doubled halves k)
+    ∙ twice (entry halves k) (value k) in
     omega (arith, ints, e, p)
 
 half_between : (s t : ℤ) → t ≡ pos 2 *ℤ s → Between (184 * 0 + 56 * 255) (184 * 255 + 56 * 0) t → Between 7140 23460 s
@@ -39,7 +43,8 @@ half_between (pos n) t e b = record { low = omega (arith, ints, e, b.low); high 
 half_between (negsuc n) t e b = record { low = omega (arith, ints, e, b.low); high = omega (arith, ints, e, b.high) }
 
 -- half a filter's sum, also of its first weights alone, over samples of 8 bits
-pub halves_between : (halves : List ℤ) (value : ℕ → ℤ) (k : ℕ) → IsFilter (doubled halves) → k ≤ 8 → ((t : ℕ) → t < 8 → Between 0 255 (value t)) → Between 7140 23460 (sum_to k (λ t. entry halves t *ℤ value t))
+pub halves_between : (halves : List ℤ) (value : ℕ → ℤ) (k : ℕ) → IsFilter (doubled halves) → k ≤ 8 → ((t : ℕ) → t < 8 → Between 0 255 (value t)) →
+    Between 7140 23460 (sum_to k (λ t. entry halves t *ℤ value t))
 halves_between halves value k f h v = half_between _ _ (doubled_sum halves value k) (filter_between (doubled halves) value 0 255 k f h v)
 
 -- a number of 16 bits
@@ -70,18 +75,22 @@ short_product_small weights n t v f h w =
     let ln : loss (entry weights t) * n ≤ losses weights * n = mul-le _ n _ n l (omega arith) in
     short_sum_fits _ (record { low = omega (arith, ints, p.low, ln, f.losses); high = omega (arith, ints, p.high, gn, f.gains) })
 
-short_product_of : (weights : List ℤ) (n t : ℕ) (v : ℤ) → n < 2 ^ 15 → FitsSigned w16 (entry weights t) → Between 0 n v → to_z w16 (of_z w16 (entry weights t)) *ℤ to_z w16 (of_z w16 v) ≡ entry weights t *ℤ v
+short_product_of : (weights : List ℤ) (n t : ℕ) (v : ℤ) → n < 2 ^ 15 → FitsSigned w16 (entry weights t) → Between 0 n v →
+    to_z w16 (of_z w16 (entry weights t)) *ℤ to_z w16 (of_z w16 v) ≡ entry weights t *ℤ v
 short_product_of weights n t v s f w = ap (λ z. z *ℤ to_z w16 (of_z w16 v)) (to_z-of_z w16 _ f) ∙ ap (λ z. entry weights t *ℤ z) (short_read n v s w)
 
-pub short_product : (weights : List ℤ) (n t : ℕ) (v : ℤ) → SumsFit weights n → n < 2 ^ 15 → t < 8 → FitsSigned w16 (entry weights t) → Between 0 n v → FitsSigned w16 (to_z w16 (of_z w16 (entry weights t)) *ℤ to_z w16 (of_z w16 v))
+pub short_product : (weights : List ℤ) (n t : ℕ) (v : ℤ) → SumsFit weights n → n < 2 ^ 15 → t < 8 → FitsSigned w16 (entry weights t) → Between 0 n v →
+    FitsSigned w16 (to_z w16 (of_z w16 (entry weights t)) *ℤ to_z w16 (of_z w16 v))
 short_product weights n t v f s h e w =
     let P : ℤ → Type 0 = λ z. FitsSigned w16 z in
     subst P (sym (short_product_of weights n t v s e w)) (short_product_small weights n t v f h w)
 
-pub short_product_stored : (weights : List ℤ) (n t : ℕ) (v : ℤ) → SumsFit weights n → n < 2 ^ 15 → t < 8 → FitsSigned w16 (entry weights t) → Between 0 n v → to_z w16 (of_z w16 (to_z w16 (of_z w16 (entry weights t)) *ℤ to_z w16 (of_z w16 v))) ≡ entry weights t *ℤ v
+pub short_product_stored : (weights : List ℤ) (n t : ℕ) (v : ℤ) → SumsFit weights n → n < 2 ^ 15 → t < 8 → FitsSigned w16 (entry weights t) → Between 0 n v →
+    to_z w16 (of_z w16 (to_z w16 (of_z w16 (entry weights t)) *ℤ to_z w16 (of_z w16 v))) ≡ entry weights t *ℤ v
 short_product_stored weights n t v f s h e w = to_z-of_z w16 _ (short_product weights n t v f s h e w) ∙ short_product_of weights n t v s e w
 
-pub next_short_fits : (weights : List ℤ) (value : ℕ → ℤ) (n t : ℕ) (s p : ℤ) → SumsFit weights n → t < 8 → ((i : ℕ) → i < 8 → Between 0 n (value i)) → s ≡ sum_to t (λ i. entry weights i *ℤ value i) → p ≡ entry weights t *ℤ value t → FitsSigned w16 (s +ℤ p)
+pub next_short_fits : (weights : List ℤ) (value : ℕ → ℤ) (n t : ℕ) (s p : ℤ) → SumsFit weights n → t < 8 → ((i : ℕ) → i < 8 → Between 0 n (value i)) →
+    s ≡ sum_to t (λ i. entry weights i *ℤ value i) → p ≡ entry weights t *ℤ value t → FitsSigned w16 (s +ℤ p)
 unfolding sum_to
 next_short_fits weights value n t s p f h v es ep =
     let w = small_sum weights value n (suc t) f (omega arith) v in
@@ -116,8 +125,10 @@ filter_is weights taps l f h =
     same_lists weights taps n (λ k d b. let m : k < 8 = omega (arith, n, f.size, b) in
     get_or_default weights k d (pos 0) b ∙ h k m ∙ sym (get_or_default taps k d (pos 0) (omega (arith, f.size, m))))
 
-pub halves_are : (halves taps : List ℤ) → length halves ≡ 8 → IsFilter taps → ((t : ℕ) → t < 8 → entry halves t ≡ int_shr (entry taps t) 1) → doubled halves ≡ taps
-halves_are halves taps l f h = filter_is (doubled halves) taps (length-map halves _ ∙ l) f (λ k m. entry_doubled halves k ∙ ap (λ z. pos 2 *ℤ z) (h k m) ∙ f.even k m)
+pub halves_are : (halves taps : List ℤ) → length halves ≡ 8 → IsFilter taps → ((t : ℕ) → t < 8 → entry halves t ≡ int_shr (entry taps t) 1) →
+    doubled halves ≡ taps
+halves_are halves taps l f h =
+    filter_is (doubled halves) taps (length-map halves _ ∙ l) f (λ k m. entry_doubled halves k ∙ ap (λ z. pos 2 *ℤ z) (h k m) ∙ f.even k m)
 
 shr_128 : (z : ℤ) → shr_z (pos 2 *ℤ z +ℤ pos 64) 128 ≡ shr_z (z +ℤ pos 32) 64
 shr_128 z = shr_at (z +ℤ pos 32) (pos 2 *ℤ z +ℤ pos 64) (omega (arith, ints))
@@ -134,11 +145,16 @@ shr_8 z = shr_at (z +ℤ pos 2) (pos 2 *ℤ z +ℤ pos 4) (omega (arith, ints))
     shr_at (negsuc m) v e = ap (λ u. shr_z u 8) (e ∙ (let k : pos 2 *ℤ negsuc m ≡ negsuc (2 * m + 1) = omega (arith, ints) in k)) ∙ ap negsuc (omega arith)
 
 -- a sum by a filter's weights, rounded, from half of it
-pub rounded_column : (halves taps : List ℤ) (value : ℕ → ℤ) → doubled halves ≡ taps → round_shift (weighted halves value) 6 ≡ round_shift (weighted taps value) 7
-rounded_column halves taps value e = sym (ap (λ (w : List ℤ). round_shift (weighted w value) 7) (sym e) ∙ ap (λ z. shr_z (z +ℤ pos 64) 128) (doubled_sum halves value 8) ∙ shr_128 (weighted halves value))
+pub rounded_column : (halves taps : List ℤ) (value : ℕ → ℤ) → doubled halves ≡ taps →
+    round_shift (weighted halves value) 6 ≡ round_shift (weighted taps value) 7
+rounded_column halves taps value e =
+    sym (ap (λ (w : List ℤ). round_shift (weighted w value) 7) (sym e) ∙ ap (λ z. shr_z (z +ℤ pos 64) 128) (doubled_sum halves value 8)
+    ∙ shr_128 (weighted halves value))
 
 pub rounded_row : (halves taps : List ℤ) (value : ℕ → ℤ) → doubled halves ≡ taps → round_shift (weighted halves value) 2 ≡ round_shift (weighted taps value) 3
-rounded_row halves taps value e = sym (ap (λ (w : List ℤ). round_shift (weighted w value) 3) (sym e) ∙ ap (λ z. shr_z (z +ℤ pos 4) 8) (doubled_sum halves value 8) ∙ shr_8 (weighted halves value))
+rounded_row halves taps value e =
+    sym (ap (λ (w : List ℤ). round_shift (weighted w value) 3) (sym e) ∙ ap (λ z. shr_z (z +ℤ pos 4) 8) (doubled_sum halves value 8)
+    ∙ shr_8 (weighted halves value))
 
 -- half of a weight
 shr_small : (z : ℤ) → neg_ℤ (pos 184) ≤ℤ z → z ≤ℤ pos 184 → FitsSigned w16 (int_shr z 1)
@@ -160,7 +176,8 @@ pub half_weight_fits : (taps : List ℤ) (t : ℕ) → IsFilter taps → t < 8 �
 half_weight_fits taps t f h = let w = weight_between taps t f h in shr_small (entry taps t) (omega (arith, ints, w.low)) w.high
 
 -- as the machine forms it
-pub half_weight_is : (taps : List ℤ) (t : ℕ) → IsFilter taps → t < 8 → FitsSigned w32 (entry taps t) → to_z w32 (of_z w32 (int_shr (to_z w32 (of_z w32 (entry taps t))) 1)) ≡ int_shr (entry taps t) 1
+pub half_weight_is : (taps : List ℤ) (t : ℕ) → IsFilter taps → t < 8 → FitsSigned w32 (entry taps t) →
+    to_z w32 (of_z w32 (int_shr (to_z w32 (of_z w32 (entry taps t))) 1)) ≡ int_shr (entry taps t) 1
 half_weight_is taps t f h e =
     ap (λ z. to_z w32 (of_z w32 (int_shr z 1))) (to_z-of_z w32 _ e) ∙ to_z-of_z w32 _ (half_wide _ (half_weight_fits taps t f h))
   where
@@ -187,7 +204,8 @@ cut_steps (negsuc n) m (negsuc k) e f =
     let b = int_min_is m (pos 255) in
     absurd (omega (arith, ints, a, b, e, f))
 
-pub cut_is : (z m r : ℤ) → FitsSigned w16 z → FitsSigned w16 m → m ≡ int_max (to_z w16 (of_z w16 z)) (pos 0) → r ≡ int_min (to_z w16 (of_z w16 m)) (pos 255) → unsigned_abs (to_z w16 (of_z w16 r)) ≡ clip 8 z
+pub cut_is : (z m r : ℤ) → FitsSigned w16 z → FitsSigned w16 m → m ≡ int_max (to_z w16 (of_z w16 z)) (pos 0) → r ≡ int_min (to_z w16 (of_z w16 m)) (pos 255) →
+    unsigned_abs (to_z w16 (of_z w16 r)) ≡ clip 8 z
 cut_is z m r fz fm e f =
     let s = cut_steps z m r (e ∙ ap (λ u. int_max u (pos 0)) (to_z-of_z w16 z fz)) (f ∙ ap (λ u. int_min u (pos 255)) (to_z-of_z w16 m fm)) in
     ap unsigned_abs (short_read 255 r (omega arith) s.0) ∙ s.1
@@ -197,7 +215,8 @@ pub number_between : (n : ℕ) → n ≤ 255 → Between 0 255 (pos n)
 number_between n h = record { low = omega (arith, ints); high = omega (arith, ints, h) }
 
 -- a filter's sum that is known as a value
-pub half_sum_between : (halves : List ℤ) (f : ℕ → ℕ) (z : ℤ) → IsFilter (doubled halves) → ((t : ℕ) → t < 8 → f t ≤ 255) → z ≡ weighted halves (λ t. pos (f t)) → Between 7140 23460 z
+pub half_sum_between : (halves : List ℤ) (f : ℕ → ℕ) (z : ℤ) → IsFilter (doubled halves) → ((t : ℕ) → t < 8 → f t ≤ 255) →
+    z ≡ weighted halves (λ t. pos (f t)) → Between 7140 23460 z
 half_sum_between halves f z h bytes e =
     let P : ℤ → Type 0 = λ v. Between 7140 23460 v in
     subst P (sym e) (halves_between halves (λ t. pos (f t)) 8 h (omega arith) (λ t l. number_between (f t) (bytes t l)))

@@ -1,5 +1,6 @@
 -- Sums of two products, as the machine forms them: numbers of 16 bits in lanes of 32.
-use Rattle.std.proofs.Common.{ℕ, ◌+◌, ◌*◌, ◌%◌, ◌<◌, ◌≡◌, ◌∙◌, ap, arith, subst, sym, ℤ, pos, negsuc, ◌+ℤ◌, ◌*ℤ◌, List, ◌++◌, length, map, get_or, w16, w32, to_z, of_z, FitsSigned}
+use Rattle.std.proofs.Common.{ℕ, ◌+◌, ◌*◌, ◌%◌, ◌<◌, ◌≡◌, ◌∙◌, ap, arith, subst, sym, ℤ, pos, negsuc, ◌+ℤ◌, ◌*ℤ◌, List, ◌++◌, length, map, get_or, w16, w32}
+use Rattle.std.proofs.Common.{to_z, of_z, FitsSigned}
 use Rattle.std.proofs.Math.IntN.{*ℤ_comm}
 use Rattle.std.proofs.Math.ListN.{get_or-map}
 use Rattle.std.proofs.lemmas.Int.{int_wrap_fits, ints, to_z-of_z, wrapping_add-bits, wrapping_mul_is}
@@ -29,8 +30,10 @@ short_weight_is z b = ap (λ v. to_z w16 (of_z w16 v)) (to_z-of_z w32 z (wide_we
 
 -- a product of a weight and a sample
 pub small_product : (w x : ℤ) → Between 56 184 w → Between 0 4095 x → Between 229320 753480 (w *ℤ x)
-small_product (pos n) x bw bx = let p = product_between (pos n) x 0 4095 bx in record { low = omega (arith, ints, p.low, bw.high); high = omega (arith, ints, p.high, bw.high) }
-small_product (negsuc n) x bw bx = let p = product_between (negsuc n) x 0 4095 bx in record { low = omega (arith, ints, p.low, bw.low); high = omega (arith, ints, p.high, bw.low) }
+small_product (pos n) x bw bx = let p = product_between (pos n) x 0 4095 bx
+    in record { low = omega (arith, ints, p.low, bw.high); high = omega (arith, ints, p.high, bw.high) }
+small_product (negsuc n) x bw bx = let p = product_between (negsuc n) x 0 4095 bx
+    in record { low = omega (arith, ints, p.low, bw.low); high = omega (arith, ints, p.high, bw.low) }
 
 product_word : (w x : ℤ) → Between 56 184 w → Between 0 4095 x → to_z w32 (of_z w32 x * of_z w32 w % 4294967296) ≡ w *ℤ x
 product_word w x bw bx =
@@ -82,7 +85,8 @@ second_word xs ys i n =
 abbrev pair_lane : (w v : ℤ) → List ℤ → List ℤ → ℕ → ℤ
 pair_lane w v xs ys i = sum_word (reread (word_of xs ys i)) (to_z w16 (of_z w16 w)) (reread (word_of xs ys (8 + i))) (to_z w16 (of_z w16 v))
 
-pair_lane_is : (w v : ℤ) (xs ys : List ℤ) (i : ℕ) → length xs ≡ 8 → i < 8 → Between 56 184 w → Between 56 184 v → Between 0 4095 (entry xs i) → Between 0 4095 (entry ys i)
+pair_lane_is : (w v : ℤ) (xs ys : List ℤ) (i : ℕ) → length xs ≡ 8 → i < 8 → Between 56 184 w → Between 56 184 v → Between 0 4095 (entry xs i) →
+    Between 0 4095 (entry ys i)
     → pair_lane w v xs ys i ≡ w *ℤ entry xs i +ℤ v *ℤ entry ys i
 pair_lane_is w v xs ys i n h bw bv bx by =
     let x = entry xs i in
@@ -96,7 +100,8 @@ pair_lane_is w v xs ys i n h bw bv bx by =
     ∙ sum_word_is w v x y bw bv bx by
 
 -- eight sums
-pub pairs_are : (w v : ℤ) (xs ys : List ℤ) → length xs ≡ 8 → Between 56 184 w → Between 56 184 v → ((i : ℕ) → i < 8 → Between 0 4095 (entry xs i)) → ((i : ℕ) → i < 8 → Between 0 4095 (entry ys i))
+pub pairs_are : (w v : ℤ) (xs ys : List ℤ) → length xs ≡ 8 → Between 56 184 w → Between 56 184 v → ((i : ℕ) → i < 8 → Between 0 4095 (entry xs i)) →
+    ((i : ℕ) → i < 8 → Between 0 4095 (entry ys i))
     → (i : ℕ) → i < 8 → entry (by_index 8 (pair_lane w v xs ys)) i ≡ w *ℤ entry xs i +ℤ v *ℤ entry ys i
 pairs_are w v xs ys n bw bv bx by i h = get_or-by_index 8 (pair_lane w v xs ys) i (pos 0) h ∙ pair_lane_is w v xs ys i n h bw bv (bx i h) (by i h)
 
@@ -105,7 +110,8 @@ sample_fits : (n : ℕ) → n < 4096 → FitsSigned w16 (pos n)
 sample_fits n h = record { sfits = omega (arith, ints, h) }
 
 -- eight samples in lanes of 32 bits
-module _ (xs : List ℤ) (value : ℕ → ℕ) (count : length xs ≡ 8) (are : (i : ℕ) → i < 8 → entry xs i ≡ pos (value i)) (small : (i : ℕ) → i < 8 → value i < 4096) where
+module _ (xs : List ℤ) (value : ℕ → ℕ) (count : length xs ≡ 8) (are : (i : ℕ) → i < 8 → entry xs i ≡ pos (value i))
+    (small : (i : ℕ) → i < 8 → value i < 4096) where
   wide_lane : (i : ℕ) → i < 8 → to_z w32 (get_or (map (of_z w32) xs) i 0) ≡ pos (value i)
   wide_lane i h =
       ap (to_z w32) (get_or-map (of_z w32) xs i (pos 0)) ∙ ap (λ z. to_z w32 (of_z w32 z)) (are i h)
@@ -116,7 +122,8 @@ module _ (xs : List ℤ) (value : ℕ → ℕ) (count : length xs ≡ 8) (are : 
   lanes_fit =
       let P : ℕ → Type 0 = λ n. FitsSigned w16 (to_z w32 n) in
       let Q : ℤ → Type 0 = λ z. FitsSigned w16 z in
-      Each1-from_get_or P (map (of_z w32) xs) 0 (λ i l. let h : i < 8 = omega (arith, count, length-map xs (of_z w32)) in subst Q (sym (wide_lane i h)) (sample_fits (value i) (small i h)))
+      Each1-from_get_or P (map (of_z w32) xs) 0 (λ i l. let h : i < 8 = omega (arith, count, length-map xs (of_z w32))
+      in subst Q (sym (wide_lane i h)) (sample_fits (value i) (small i h)))
 
   -- and is the same number there
   pub lanes_are : (i : ℕ) → i < 8 → entry (map (to_z w16) (map (λ n. of_z w16 (to_z w32 n)) (map (of_z w32) xs))) i ≡ pos (value i)

@@ -20,13 +20,19 @@ module _ (depth : ℕ) (across down : List ℤ) (s t : ℕ → ℕ → ℕ) (r c
   pub single_moved : (fx fy : ℕ) → single depth fx fy across down s r c ≡ single depth fx fy across down t r d
   single_moved zero zero = same 3 3 (omega arith) (omega arith)
   single_moved zero (suc k) = ap (λ z. clip depth (round_shift z 7)) (weighted_same down _ _ (λ i l. ap pos (same 3 i (omega arith) l)))
-  single_moved (suc j) zero = ap (λ z. clip depth (round_shift z (intermediate_bits depth))) (intermediate_same depth (suc j) across (λ x. s x (r + 3)) (λ x. t x (r + 3)) c d (λ i l. same i 3 l (omega arith)))
-  single_moved (suc j) (suc k) = ap (λ z. clip depth (round_shift z (7 + intermediate_bits depth))) (weighted_same down _ _ (λ i l. intermediate_same depth (suc j) across (λ x. s x (r + i)) (λ x. t x (r + i)) c d (λ m n. same m i n l)))
+  single_moved (suc j) zero =
+      ap (λ z. clip depth (round_shift z (intermediate_bits depth)))
+      (intermediate_same depth (suc j) across (λ x. s x (r + 3)) (λ x. t x (r + 3)) c d (λ i l. same i 3 l (omega arith)))
+  single_moved (suc j) (suc k) =
+      ap (λ z. clip depth (round_shift z (7 + intermediate_bits depth)))
+      (weighted_same down _ _ (λ i l. intermediate_same depth (suc j) across (λ x. s x (r + i)) (λ x. t x (r + i)) c d (λ m n. same m i n l)))
 
   unbiased_moved : (fx fy : ℕ) → unbiased depth fx fy across down s r c ≡ unbiased depth fx fy across down t r d
   unbiased_moved fx zero = intermediate_same depth fx across (λ x. s x (r + 3)) (λ x. t x (r + 3)) c d (λ i l. same i 3 l (omega arith))
   unbiased_moved zero (suc k) = ap (λ z. round_shift z (7 - intermediate_bits depth)) (weighted_same down _ _ (λ i l. ap pos (same 3 i (omega arith) l)))
-  unbiased_moved (suc j) (suc k) = ap (λ z. round_shift z 7) (weighted_same down _ _ (λ i l. intermediate_same depth (suc j) across (λ x. s x (r + i)) (λ x. t x (r + i)) c d (λ m n. same m i n l)))
+  unbiased_moved (suc j) (suc k) =
+      ap (λ z. round_shift z 7)
+      (weighted_same down _ _ (λ i l. intermediate_same depth (suc j) across (λ x. s x (r + i)) (λ x. t x (r + i)) c d (λ m n. same m i n l)))
 
   pub prepared_moved : (fx fy : ℕ) → prepared depth fx fy across down s r c ≡ prepared depth fx fy across down t r d
   prepared_moved fx fy = ap (λ z. z -ℤ bias depth) (unbiased_moved fx fy)
@@ -40,7 +46,8 @@ module _ {T : Type 0} (num : T → ℕ) (place strip : PlaneSlice T) (n : ℕ) (
   strip_samples x y =
       let right : place.x +ℤ pos n +ℤ pos x ≡ place.x +ℤ pos (n + x) = omega (arith, ints) in
       let same : place.y +ℤ pos 0 +ℤ pos y ≡ place.y +ℤ pos y = omega (arith, ints) in
-      ap (λ (p : PlaneSlice T). samples_from num p x y) is ∙ ap (λ z. stored_sample num (slice_plane place) z (place.y +ℤ pos 0 +ℤ pos y)) right ∙ ap (λ z. stored_sample num (slice_plane place) (place.x +ℤ pos (n + x)) z) same
+      ap (λ (p : PlaneSlice T). samples_from num p x y) is ∙ ap (λ z. stored_sample num (slice_plane place) z (place.y +ℤ pos 0 +ℤ pos y)) right
+      ∙ ap (λ z. stored_sample num (slice_plane place) (place.x +ℤ pos (n + x)) z) same
 
   -- what stands round column c of a strip stands round column n + c of the block
   pub strip_same : (r c x y : ℕ) → x < 8 → y < 8 → samples_from num strip (c + x) (r + y) ≡ samples_from num place (n + c + x) (r + y)
@@ -49,14 +56,24 @@ module _ {T : Type 0} (num : T → ℕ) (place strip : PlaneSlice T) (n : ℕ) (
       strip_samples (c + x) (r + y) ∙ ap (λ i. samples_from num place i (r + y)) e
 
 right_stored : {T : Type 0} (place : PlaneSlice T) (n columns rows : ℕ) → IsStoredFrom place (n + columns) rows → IsStoredFrom (to_right place n) columns rows
-right_stored place n columns rows s = record { whole = s.whole; left = omega (arith, ints, s.left); right = omega (arith, ints, s.right); top = omega (arith, ints, s.top); bottom = omega (arith, ints, s.bottom) }
+right_stored place n columns rows s =
+    record {
+      whole = s.whole;
+      left = omega (arith, ints, s.left);
+      right = omega (arith, ints, s.right);
+      top = omega (arith, ints, s.top);
+      bottom = omega (arith, ints, s.bottom);
+    }
 
-pub strip_stored : {T : Type 0} (place strip : PlaneSlice T) (n columns rows all : ℕ) → strip ≡ to_right place n → n + columns ≡ all → IsStoredFrom place all rows → IsStoredFrom strip columns rows
+pub strip_stored : {T : Type 0} (place strip : PlaneSlice T) (n columns rows all : ℕ) → strip ≡ to_right place n → n + columns ≡ all →
+    IsStoredFrom place all rows → IsStoredFrom strip columns rows
 strip_stored {T} place strip n columns rows all is e s =
-    subst (λ (p : PlaneSlice T). IsStoredFrom p columns rows) (sym is) (right_stored place n columns rows (subst (λ (m : ℕ). IsStoredFrom place m rows) (sym e) s))
+    subst (λ (p : PlaneSlice T). IsStoredFrom p columns rows) (sym is)
+    (right_stored place n columns rows (subst (λ (m : ℕ). IsStoredFrom place m rows) (sym e) s))
 
 -- a sample that is painted in the first w columns, or in the n columns after them
-strip_at : {X : Type 0} (a : StoredArea) (w n h p q : ℕ) (f g : ℕ → ℕ → X → X) (v : X) → ((r c : ℕ) (v : X) → r < h → c < n → g r c v ≡ f r (w + c) v) → painted_at (strip_of a w n h) g p q (painted_at (corner a w h) f p q v) ≡ painted_at (corner a (w + n) h) f p q v
+strip_at : {X : Type 0} (a : StoredArea) (w n h p q : ℕ) (f g : ℕ → ℕ → X → X) (v : X) → ((r c : ℕ) (v : X) → r < h → c < n → g r c v ≡ f r (w + c) v) →
+    painted_at (strip_of a w n h) g p q (painted_at (corner a w h) f p q v) ≡ painted_at (corner a (w + n) h) f p q v
 strip_at a w n h p q f g v e =
     elim (cases_lt p a.x) [
       | inl b ↦ grind (arith, nat_tests)
@@ -68,7 +85,8 @@ strip_at a w n h p q f g v e =
             | inl i ↦ grind (arith, nat_tests)
             | inr i ↦ elim (cases_lt p (a.x + w + n)) [
               | inr j ↦ grind (arith, nat_tests)
-              | inl j ↦ (let t = e (q - a.y) (p - (a.x + w)) v (omega arith) (omega arith) in let z : w + (p - (a.x + w)) ≡ p - a.x = omega arith in grind (arith, nat_tests))
+              | inl j ↦ (let t = e (q - a.y) (p - (a.x + w)) v (omega arith) (omega arith) in let z : w + (p - (a.x + w)) ≡ p - a.x = omega arith
+                  in grind (arith, nat_tests))
             ]
           ]
         ]
@@ -76,15 +94,19 @@ strip_at a w n h p q f g v e =
     ]
 
 -- the strip after the first w columns
-pub paint_strip : {X : Type 0} (stride : ℕ) (a : StoredArea) (w n h : ℕ) (f g : ℕ → ℕ → X → X) (s : List X) → ((r c : ℕ) (v : X) → r < h → c < n → g r c v ≡ f r (w + c) v) → paint stride (strip_of a w n h) g (paint stride (corner a w h) f s) ≡ paint stride (corner a (w + n) h) f s
+pub paint_strip : {X : Type 0} (stride : ℕ) (a : StoredArea) (w n h : ℕ) (f g : ℕ → ℕ → X → X) (s : List X) →
+    ((r c : ℕ) (v : X) → r < h → c < n → g r c v ≡ f r (w + c) v) →
+    paint stride (strip_of a w n h) g (paint stride (corner a w h) f s) ≡ paint stride (corner a (w + n) h) f s
 unfolding paint
 paint_strip stride a w n h f g s e =
     update_is _ s _ (length-update _ _ ∙ length-update _ s) (λ k d l.
     get_or-update _ _ k d (omega (arith, length-update (λ k v. painted_at (corner a w h) f (k % stride) (k / stride) v) s))
-    ∙ ap (painted_at (strip_of a w n h) g (k % stride) (k / stride)) (get_or-update _ s k d l) ∙ strip_at a w n h (k % stride) (k / stride) f g (get_or s k d) e)
+    ∙ ap (painted_at (strip_of a w n h) g (k % stride) (k / stride)) (get_or-update _ s k d l)
+    ∙ strip_at a w n h (k % stride) (k / stride) f g (get_or s k d) e)
 
 -- a strip lies in the rows that its rectangle lies in
-pub strip_rows : (stride : ℕ) (a : StoredArea) (start columns n : ℕ) → AreRows stride a n → start + columns ≤ a.width → AreRows stride (strip_of a start columns a.height) n
+pub strip_rows : (stride : ℕ) (a : StoredArea) (start columns n : ℕ) → AreRows stride a n → start + columns ≤ a.width →
+    AreRows stride (strip_of a start columns a.height) n
 strip_rows stride a start columns n h l = record { some = h.some; columns = omega (arith, h.columns); rows = h.rows; few = h.few }
 
 -- a rectangle that is a square

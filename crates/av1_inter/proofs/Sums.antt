@@ -1,5 +1,6 @@
 -- Sums of weighted values, as the machine forms them, and how great they are.
-use Rattle.std.proofs.Common.{ℕ, zero, suc, ◌+◌, ◌-◌, ◌*◌, ◌%◌, ◌^◌, ◌<◌, ◌≤◌, ◌≡◌, ◌∙◌, ap, refl, arith, subst, sym, ℤ, pos, negsuc, ◌+ℤ◌, ◌-ℤ◌, ◌*ℤ◌, neg_ℤ, ◌≤ℤ◌, List, [], ◌∷◌, length, take, w16, w32, to_z, of_z, FitsSigned}
+use Rattle.std.proofs.Common.{ℕ, zero, suc, ◌+◌, ◌-◌, ◌*◌, ◌%◌, ◌^◌, ◌<◌, ◌≤◌, ◌≡◌, ◌∙◌, ap, refl, arith, subst, sym, ℤ, pos, negsuc, ◌+ℤ◌, ◌-ℤ◌, ◌*ℤ◌, neg_ℤ}
+use Rattle.std.proofs.Common.{◌≤ℤ◌, List, [], ◌∷◌, length, take, w16, w32, to_z, of_z, FitsSigned}
 use Rattle.std.proofs.lemmas.Int.{ints, to_z-of_z, to_z_pos}
 use Rattle.std.proofs.lemmas.Nat.{mul-le}
 use Rattle.std.proofs.Math.Nat.{mod-eq_of_lt}
@@ -17,7 +18,8 @@ shifted_is z n b e h l =
     ap (λ y. to_z w32 (of_z w32 y * 2 ^ b % 4294967296)) e ∙ ap (to_z w32) (mod-eq_of_lt small) ∙ to_z_pos w32 (n * 2 ^ b) (omega arith)
 
 -- a value less its bias, in 16 bits
-pub stored_is : (r b x y : ℤ) → x ≡ r → y ≡ b → FitsSigned w32 x → IsWithin 8192 b → FitsSigned w16 (r -ℤ b) → to_z w16 (of_z w16 (to_z w32 (of_z w32 (to_z w32 (of_z w32 x) -ℤ to_z w32 (of_z w32 y))))) ≡ r -ℤ b
+pub stored_is : (r b x y : ℤ) → x ≡ r → y ≡ b → FitsSigned w32 x → IsWithin 8192 b → FitsSigned w16 (r -ℤ b) →
+    to_z w16 (of_z w16 (to_z w32 (of_z w32 (to_z w32 (of_z w32 x) -ℤ to_z w32 (of_z w32 y))))) ≡ r -ℤ b
 stored_is r b x y er eb fr w f = omega (arith, ints, er, eb, fr, w.low, w.high, f)
 
 -- a weight's part of the positive ones, and of the negative ones
@@ -70,18 +72,21 @@ losses_part (pos n ∷ xs) (suc k) = losses_part xs k
 losses_part (negsuc n ∷ xs) (suc k) = let e = losses_part xs k in omega (arith, e)
 
 -- two bounds that are added
-both_between : (G g L l a b : ℕ) (s p : ℤ) → Between (G * a + L * b) (G * b + L * a) s → Between (g * a + l * b) (g * b + l * a) p → Between ((G + g) * a + (L + l) * b) ((G + g) * b + (L + l) * a) (s +ℤ p)
+both_between : (G g L l a b : ℕ) (s p : ℤ) → Between (G * a + L * b) (G * b + L * a) s → Between (g * a + l * b) (g * b + l * a) p →
+    Between ((G + g) * a + (L + l) * b) ((G + g) * b + (L + l) * a) (s +ℤ p)
 both_between G g L l a b s p h k =
     let low : (G + g) * a + (L + l) * b ≡ (G * a + L * b) + (g * a + l * b) = grind arith in
     let high : (G + g) * b + (L + l) * a ≡ (G * b + L * a) + (g * b + l * a) = grind arith in
     record { low = omega (arith, ints, low, h.low, k.low); high = omega (arith, ints, high, h.high, k.high) }
 
 -- the first terms of a sum
-pub partial_between : (taps : List ℤ) (value : ℕ → ℤ) (a b k : ℕ) → k ≤ length taps → ((t : ℕ) → t < length taps → Between a b (value t)) → Between (gains (take k taps) * a + losses (take k taps) * b) (gains (take k taps) * b + losses (take k taps) * a) (sum_to k (λ t. entry taps t *ℤ value t))
+pub partial_between : (taps : List ℤ) (value : ℕ → ℤ) (a b k : ℕ) → k ≤ length taps → ((t : ℕ) → t < length taps → Between a b (value t)) →
+    Between (gains (take k taps) * a + losses (take k taps) * b) (gains (take k taps) * b + losses (take k taps) * a) (sum_to k (λ t. entry taps t *ℤ value t))
 unfolding sum_to
 partial_between taps value a b zero h v = record { low = omega (arith, ints); high = omega (arith, ints) }
 partial_between taps value a b (suc k) h v =
-    let s = both_between _ _ _ _ a b _ _ (partial_between taps value a b k (omega arith) v) (product_between (entry taps k) (value k) a b (v k (omega arith))) in
+    let s = both_between _ _ _ _ a b _ _ (partial_between taps value a b k (omega arith) v) (product_between (entry taps k) (value k) a b (v k (omega arith)))
+    in
     rw (gains_more taps k (omega arith), losses_more taps k (omega arith)) s
 
 pub fits_of : (z : ℤ) → neg_ℤ (pos (2 ^ 30)) ≤ℤ z → z ≤ℤ pos (2 ^ 30) → FitsSigned w32 z
@@ -89,7 +94,8 @@ fits_of (pos n) l h = record { sfits = omega (arith, ints, h) }
 fits_of (negsuc n) l h = record { sfits = omega (arith, ints, l) }
 
 -- a filter's sums, also of its first taps alone, over values from -a to b
-pub filter_between : (taps : List ℤ) (value : ℕ → ℤ) (a b k : ℕ) → IsFilter taps → k ≤ 8 → ((t : ℕ) → t < 8 → Between a b (value t)) → Between (184 * a + 56 * b) (184 * b + 56 * a) (sum_to k (λ t. entry taps t *ℤ value t))
+pub filter_between : (taps : List ℤ) (value : ℕ → ℤ) (a b k : ℕ) → IsFilter taps → k ≤ 8 → ((t : ℕ) → t < 8 → Between a b (value t)) →
+    Between (184 * a + 56 * b) (184 * b + 56 * a) (sum_to k (λ t. entry taps t *ℤ value t))
 filter_between taps value a b k f h v =
     let s = partial_between taps value a b k (omega (arith, f.size)) (λ t l. v t (omega (arith, f.size))) in
     let g : gains (take k taps) ≤ 184 = omega (arith, gains_part taps k, f.gains) in
@@ -101,7 +107,8 @@ filter_between taps value a b k f h v =
     record { low = omega (arith, ints, s.low, ga, lb); high = omega (arith, ints, s.high, gb, la) }
 
 -- sums by small weights, also of the first terms alone, over numbers up to n
-pub small_sum : (weights : List ℤ) (value : ℕ → ℤ) (n k : ℕ) → SumsFit weights n → k ≤ 8 → ((t : ℕ) → t < 8 → Between 0 n (value t)) → Between 32767 32767 (sum_to k (λ t. entry weights t *ℤ value t))
+pub small_sum : (weights : List ℤ) (value : ℕ → ℤ) (n k : ℕ) → SumsFit weights n → k ≤ 8 → ((t : ℕ) → t < 8 → Between 0 n (value t)) →
+    Between 32767 32767 (sum_to k (λ t. entry weights t *ℤ value t))
 small_sum weights value n k f h v =
     let s = partial_between weights value 0 n k (omega (arith, f.size)) (λ t l. v t (omega (arith, f.size))) in
     let g : gains (take k weights) * n ≤ gains weights * n = mul-le _ n _ n (gains_part weights k) (omega arith) in
@@ -109,7 +116,8 @@ small_sum weights value n k f h v =
     record { low = omega (arith, ints, s.low, l, f.losses); high = omega (arith, ints, s.high, g, f.gains) }
 
 -- the same over small values
-pub filter_small : (taps : List ℤ) (value : ℕ → ℤ) (k : ℕ) → IsFilter taps → k ≤ 8 → ((t : ℕ) → t < 8 → IsWithin (2 ^ 22) (value t)) → IsWithin (2 ^ 30) (sum_to k (λ t. entry taps t *ℤ value t))
+pub filter_small : (taps : List ℤ) (value : ℕ → ℤ) (k : ℕ) → IsFilter taps → k ≤ 8 → ((t : ℕ) → t < 8 → IsWithin (2 ^ 22) (value t)) →
+    IsWithin (2 ^ 30) (sum_to k (λ t. entry taps t *ℤ value t))
 filter_small taps value k f h v =
     let s = filter_between taps value (2 ^ 22) (2 ^ 22) k f h (λ t l. let w = v t l in record { low = w.low; high = w.high }) in
     record { low = omega (arith, ints, s.low); high = omega (arith, ints, s.high) }
@@ -125,20 +133,25 @@ product_small taps t v f h w =
     fits_of _ (omega (arith, ints, p.low, p.high, g, l)) (omega (arith, ints, p.low, p.high, g, l))
 
 -- a product as the machine forms it
-pub product_of : (taps : List ℤ) (t : ℕ) (v : ℤ) → FitsSigned w32 (entry taps t) → IsWithin (2 ^ 22) v → to_z w32 (of_z w32 (entry taps t)) *ℤ to_z w32 (of_z w32 v) ≡ entry taps t *ℤ v
+pub product_of : (taps : List ℤ) (t : ℕ) (v : ℤ) → FitsSigned w32 (entry taps t) → IsWithin (2 ^ 22) v →
+    to_z w32 (of_z w32 (entry taps t)) *ℤ to_z w32 (of_z w32 v) ≡ entry taps t *ℤ v
 product_of taps t v f w =
-    ap (λ z. z *ℤ to_z w32 (of_z w32 v)) (to_z-of_z w32 _ f) ∙ ap (λ z. entry taps t *ℤ z) (to_z-of_z w32 v (fits_of v (omega (arith, ints, w.low)) (omega (arith, ints, w.high))))
+    ap (λ z. z *ℤ to_z w32 (of_z w32 v)) (to_z-of_z w32 _ f)
+    ∙ ap (λ z. entry taps t *ℤ z) (to_z-of_z w32 v (fits_of v (omega (arith, ints, w.low)) (omega (arith, ints, w.high))))
 
-pub product_fits : (taps : List ℤ) (t : ℕ) (v : ℤ) → IsFilter taps → t < 8 → FitsSigned w32 (entry taps t) → IsWithin (2 ^ 22) v → FitsSigned w32 (to_z w32 (of_z w32 (entry taps t)) *ℤ to_z w32 (of_z w32 v))
+pub product_fits : (taps : List ℤ) (t : ℕ) (v : ℤ) → IsFilter taps → t < 8 → FitsSigned w32 (entry taps t) → IsWithin (2 ^ 22) v →
+    FitsSigned w32 (to_z w32 (of_z w32 (entry taps t)) *ℤ to_z w32 (of_z w32 v))
 product_fits taps t v f h e w =
     let P : ℤ → Type 0 = λ z. FitsSigned w32 z in
     subst P (sym (product_of taps t v e w)) (product_small taps t v f h w)
 
-pub product_stored : (taps : List ℤ) (t : ℕ) (v : ℤ) → IsFilter taps → t < 8 → FitsSigned w32 (entry taps t) → IsWithin (2 ^ 22) v → to_z w32 (of_z w32 (to_z w32 (of_z w32 (entry taps t)) *ℤ to_z w32 (of_z w32 v))) ≡ entry taps t *ℤ v
+pub product_stored : (taps : List ℤ) (t : ℕ) (v : ℤ) → IsFilter taps → t < 8 → FitsSigned w32 (entry taps t) → IsWithin (2 ^ 22) v →
+    to_z w32 (of_z w32 (to_z w32 (of_z w32 (entry taps t)) *ℤ to_z w32 (of_z w32 v))) ≡ entry taps t *ℤ v
 product_stored taps t v f h e w = to_z-of_z w32 _ (product_fits taps t v f h e w) ∙ product_of taps t v e w
 
 -- the term after those of a sum
-pub next_fits : (taps : List ℤ) (value : ℕ → ℤ) (t : ℕ) (s p : ℤ) → IsFilter taps → t < 8 → ((i : ℕ) → i < 8 → IsWithin (2 ^ 22) (value i)) → s ≡ sum_to t (λ i. entry taps i *ℤ value i) → p ≡ entry taps t *ℤ value t → FitsSigned w32 (s +ℤ p)
+pub next_fits : (taps : List ℤ) (value : ℕ → ℤ) (t : ℕ) (s p : ℤ) → IsFilter taps → t < 8 → ((i : ℕ) → i < 8 → IsWithin (2 ^ 22) (value i)) →
+    s ≡ sum_to t (λ i. entry taps i *ℤ value i) → p ≡ entry taps t *ℤ value t → FitsSigned w32 (s +ℤ p)
 unfolding sum_to
 next_fits taps value t s p f h v es ep =
     let w = filter_small taps value (suc t) f (omega arith) v in
@@ -182,12 +195,14 @@ pub weighted_same : (taps : List ℤ) (f g : ℕ → ℤ) → ((t : ℕ) → t <
 weighted_same taps f g h = sum_same 8 _ _ (λ t l. ap (λ u. entry taps t *ℤ u) (h t l))
 
 -- column c of a row depends on eight samples
-pub intermediate_same : (depth fraction : ℕ) (taps : List ℤ) (f g : ℕ → ℕ) (c d : ℕ) → ((t : ℕ) → t < 8 → f (c + t) ≡ g (d + t)) → intermediate_at depth fraction taps f c ≡ intermediate_at depth fraction taps g d
+pub intermediate_same : (depth fraction : ℕ) (taps : List ℤ) (f g : ℕ → ℕ) (c d : ℕ) → ((t : ℕ) → t < 8 → f (c + t) ≡ g (d + t)) →
+    intermediate_at depth fraction taps f c ≡ intermediate_at depth fraction taps g d
 intermediate_same depth zero taps f g c d h = ap (λ n. pos (n * 2 ^ intermediate_bits depth)) (h 3 (omega arith))
 intermediate_same depth (suc k) taps f g c d h = ap (λ z. round_shift z (7 - intermediate_bits depth)) (weighted_same taps _ _ (λ t l. ap pos (h t l)))
 
 -- a sum of eight small values by a filter's weights
-pub weighted_within : (taps : List ℤ) (value : ℕ → ℤ) (z : ℤ) → IsFilter taps → ((t : ℕ) → t < 8 → IsWithin (2 ^ 22) (value t)) → z ≡ weighted taps value → IsWithin (2 ^ 30) z
+pub weighted_within : (taps : List ℤ) (value : ℕ → ℤ) (z : ℤ) → IsFilter taps → ((t : ℕ) → t < 8 → IsWithin (2 ^ 22) (value t)) → z ≡ weighted taps value →
+    IsWithin (2 ^ 30) z
 weighted_within taps value z f h e = let P : ℤ → Type 0 = λ v. IsWithin 1073741824 v in subst P (sym e) (filter_small taps value 8 f (omega arith) h)
 
 -- the first t products of weights and values are summed

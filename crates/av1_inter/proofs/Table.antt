@@ -1,5 +1,6 @@
 -- The weights of every filter are in bounds, by computing over the table.
-use Rattle.std.proofs.Common.{ℕ, suc, ◌+◌, ◌*◌, ◌/◌, ◌%◌, ◌*ℤ◌, ◌<◌, ◌≤◌, ◌≡◌, ◌≢◌, ◌∙◌, ap, refl, sym, arith, Bool, true, ◌&&◌, nat_eq, nat_le, List, [], length, slice_index_or, inl, inr, subst, ℤ, pos, negsuc, ◌≤ℤ◌, ◌<ℤ◌, unsigned_abs, w32, to_z, of_z, FitsSigned}
+use Rattle.std.proofs.Common.{ℕ, suc, ◌+◌, ◌*◌, ◌/◌, ◌%◌, ◌*ℤ◌, ◌<◌, ◌≤◌, ◌≡◌, ◌≢◌, ◌∙◌, ap, refl, sym, arith, Bool, true, ◌&&◌, nat_eq, nat_le, List, []}
+use Rattle.std.proofs.Common.{length, slice_index_or, inl, inr, subst, ℤ, pos, negsuc, ◌≤ℤ◌, ◌<ℤ◌, unsigned_abs, w32, to_z, of_z, FitsSigned}
 use Rattle.std.specs.Int.{int_shr}
 use Rattle.std.proofs.lemmas.Bool.{cases_lt}
 use Rattle.std.proofs.lemmas.Bool.Decides.{nat_tests}
@@ -49,17 +50,28 @@ even_is (negsuc n) e = let m : n % 2 ≡ 1 = equal_is _ _ e in let h : 2 * (n / 
 
 row_is_even : (k f t : ℕ) → k < 6 → f < 16 → t < 8 → pos 2 *ℤ int_shr (slice_index_or (row_at k f) t (pos 0)) 1 ≡ slice_index_or (row_at k f) t (pos 0)
 row_is_even k f t h l m =
-    even_is _ (below 8 (λ i. is_even (slice_index_or (row_at k f) i (pos 0))) (below 16 (λ j. all_below 8 (λ i. is_even (slice_index_or (row_at k j) i (pos 0)))) (below 6 (λ n. all_below 16 (λ j. all_below 8 (λ i. is_even (slice_index_or (row_at n j) i (pos 0))))) all_even k h) f l) t m)
+    even_is _ (below 8 (λ i. is_even (slice_index_or (row_at k f) i (pos 0)))
+    (below 16 (λ j. all_below 8 (λ i. is_even (slice_index_or (row_at k j) i (pos 0))))
+    (below 6 (λ n. all_below 16 (λ j. all_below 8 (λ i. is_even (slice_index_or (row_at n j) i (pos 0))))) all_even k h) f l) t m)
 
 row_is_filter : (k f : ℕ) → k < 6 → f < 16 → IsFilter (row_at k f)
 row_is_filter k f h l =
     let e = below 16 (λ i. is_filter (row_at k i)) (below 6 (λ j. all_below 16 (λ i. is_filter (row_at j i))) all_filters k h) f l in
-    let b = both_true (nat_eq (length (row_at k f)) 8) (nat_eq (gains (row_at k f)) (128 + losses (row_at k f)) && (nat_le (gains (row_at k f)) 184 && nat_le (losses (row_at k f)) 56)) e in
+    let b = both_true (nat_eq (length (row_at k f)) 8)
+    (nat_eq (gains (row_at k f)) (128 + losses (row_at k f)) && (nat_le (gains (row_at k f)) 184 && nat_le (losses (row_at k f)) 56)) e in
     let d = both_true (nat_eq (gains (row_at k f)) (128 + losses (row_at k f))) (nat_le (gains (row_at k f)) 184 && nat_le (losses (row_at k f)) 56) b.1 in
     let m = both_true (nat_le (gains (row_at k f)) 184) (nat_le (losses (row_at k f)) 56) d.1 in
     let s = below 16 (λ i. has_small_outer (row_at k i)) (below 6 (λ j. all_below 16 (λ i. has_small_outer (row_at j i))) all_outer k h) f l in
     let o = both_true (nat_le (gains (outer (row_at k f))) 32) (nat_le (losses (outer (row_at k f))) 56) s in
-    record { size = equal_is _ _ b.0; whole = equal_is _ _ d.0; outer_gains = at_most_is _ _ o.0; outer_losses = at_most_is _ _ o.1; gains = at_most_is _ _ m.0; losses = at_most_is _ _ m.1; even = λ t b. row_is_even k f t h l b }
+    record {
+      size = equal_is _ _ b.0;
+      whole = equal_is _ _ d.0;
+      outer_gains = at_most_is _ _ o.0;
+      outer_losses = at_most_is _ _ o.1;
+      gains = at_most_is _ _ m.0;
+      losses = at_most_is _ _ m.1;
+      even = λ t b. row_is_even k f t h l b;
+    }
 
 abbrev is_zero : ℤ → Bool
 is_zero (pos n) = nat_eq n 0
@@ -120,7 +132,8 @@ filter_of_is_filter mode fraction side h = row_is_filter (family mode side) frac
 pub fraction_made : (z : ℤ) (n : ℕ) → FitsSigned w32 z → n ≡ unsigned_abs (to_z w32 (of_z w32 z)) → n ≡ unsigned_abs z
 fraction_made z n h e = e ∙ ap unsigned_abs (to_z-of_z w32 z h)
 
-pub taps_made : (mode : FilterMode) (z : ℤ) (side : ℕ) (taps : List ℤ) → FitsSigned w32 z → taps ≡ filter_of mode (unsigned_abs (to_z w32 (of_z w32 z))) side → taps ≡ filter_of mode (unsigned_abs z) side
+pub taps_made : (mode : FilterMode) (z : ℤ) (side : ℕ) (taps : List ℤ) → FitsSigned w32 z → taps ≡ filter_of mode (unsigned_abs (to_z w32 (of_z w32 z))) side →
+    taps ≡ filter_of mode (unsigned_abs z) side
 taps_made mode z side taps h e = e ∙ ap (λ y. filter_of mode (unsigned_abs y) side) (to_z-of_z w32 z h)
 
 -- a machine's number that is not 0
@@ -132,8 +145,13 @@ fraction_small (pos n) l h = omega (arith, ints)
 fraction_small (negsuc n) l h = absurd (omega (arith, ints))
 
 -- the weights that were read are those of a filter, and for a side of 4 the outer four are 0
-pub read_is_filter : (mode : FilterMode) (z : ℤ) (side : ℕ) (taps : List ℤ) → FitsSigned w32 z → pos 0 ≤ℤ z → z <ℤ pos 16 → taps ≡ filter_of mode (unsigned_abs (to_z w32 (of_z w32 z))) side → IsFilter taps
-read_is_filter mode z side taps f l h e = subst IsFilter (sym (taps_made mode z side taps f e)) (filter_of_is_filter mode (unsigned_abs z) side (fraction_small z l h))
+pub read_is_filter : (mode : FilterMode) (z : ℤ) (side : ℕ) (taps : List ℤ) → FitsSigned w32 z → pos 0 ≤ℤ z → z <ℤ pos 16 →
+    taps ≡ filter_of mode (unsigned_abs (to_z w32 (of_z w32 z))) side → IsFilter taps
+read_is_filter mode z side taps f l h e =
+    subst IsFilter (sym (taps_made mode z side taps f e)) (filter_of_is_filter mode (unsigned_abs z) side (fraction_small z l h))
 
-pub read_is_short : (mode : FilterMode) (z : ℤ) (side : ℕ) (taps : List ℤ) → FitsSigned w32 z → pos 0 ≤ℤ z → z <ℤ pos 16 → taps ≡ filter_of mode (unsigned_abs (to_z w32 (of_z w32 z))) side → side ≡ 4 → IsShort taps
-read_is_short mode z side taps f l h e s = subst IsShort (sym (taps_made mode z side taps f e)) (subst (λ (n : ℕ). IsShort (filter_of mode (unsigned_abs z) n)) (sym s) (short_of mode (unsigned_abs z) (fraction_small z l h)))
+pub read_is_short : (mode : FilterMode) (z : ℤ) (side : ℕ) (taps : List ℤ) → FitsSigned w32 z → pos 0 ≤ℤ z → z <ℤ pos 16 →
+    taps ≡ filter_of mode (unsigned_abs (to_z w32 (of_z w32 z))) side → side ≡ 4 → IsShort taps
+read_is_short mode z side taps f l h e s =
+    subst IsShort (sym (taps_made mode z side taps f e))
+    (subst (λ (n : ℕ). IsShort (filter_of mode (unsigned_abs z) n)) (sym s) (short_of mode (unsigned_abs z) (fraction_small z l h)))

@@ -6,17 +6,19 @@ use Rattle.av1_inter.specs.Filters.{filter_of}
 use Rattle.av1_inter.specs.Motion.{prepared, single}
 use Rattle.av1_blocks.specs.Depths.{IsDepth}
 
--- A reference that has one number wherever the taps for a sample stand gives that number, at every fraction and with every filter: the
--- weights of each filter sum to 128, and no rounding moves such a sum.
+-- A reference that has one number wherever the taps for a sample stand gives that number, at every fraction and with
+-- every filter: the weights of each filter sum to 128, and no rounding moves such a sum.
 abbrev pub ConstantsStay : Type 0
 ConstantsStay =
-    (depth fx fy : ℕ) (mode_x mode_y : FilterMode) (width height : ℕ) (samples : ℕ → ℕ → ℕ) (r c value : ℕ) → IsDepth depth → fx < 16 → fy < 16 → value < 2 ^ depth
+    (depth fx fy : ℕ) (mode_x mode_y : FilterMode) (width height : ℕ) (samples : ℕ → ℕ → ℕ) (r c value : ℕ) →
+    IsDepth depth → fx < 16 → fy < 16 → value < 2 ^ depth
     → ((x y : ℕ) → x < c + 8 → y < r + 8 → samples x y ≡ value)
     → single depth fx fy (filter_of mode_x fx width) (filter_of mode_y fy height) samples r c ≡ value
 
 -- Every prepared value of samples within the depth fits 16 bits.
 abbrev pub PreparedFits : Type 0
 PreparedFits =
-    (depth fx fy : ℕ) (mode_x mode_y : FilterMode) (width height : ℕ) (samples : ℕ → ℕ → ℕ) (r c : ℕ) → IsDepth depth → fx < 16 → fy < 16
+    (depth fx fy : ℕ) (mode_x mode_y : FilterMode) (width height : ℕ) (samples : ℕ → ℕ → ℕ) (r c : ℕ) → IsDepth depth →
+    fx < 16 → fy < 16
     → ((x y : ℕ) → x < c + 8 → y < r + 8 → samples x y < 2 ^ depth)
     → FitsSigned w16 (prepared depth fx fy (filter_of mode_x fx width) (filter_of mode_y fy height) samples r c)

@@ -1,5 +1,6 @@
 -- What a vector reads of a reference: block inter prediction process, motion vector scaling process at a scale of one.
-use Rattle.std.specs.Prelude.{◌≡◌, ℕ, ◌+◌, ◌-◌, ◌^◌, ◌<◌, ◌≤◌, ℤ, pos, ◌+ℤ◌, ◌-ℤ◌, ◌*ℤ◌, unsigned_abs, slice_index, slice_index_or, List, Some, ◌≢◌, Bool, true, false}
+use Rattle.std.specs.Prelude.{◌≡◌, ℕ, ◌+◌, ◌-◌, ◌^◌, ◌<◌, ◌≤◌, ℤ, pos, ◌+ℤ◌, ◌-ℤ◌, ◌*ℤ◌, unsigned_abs, slice_index}
+use Rattle.std.specs.Prelude.{slice_index_or, List, Some, ◌≢◌, Bool, true, false}
 use Rattle.std.specs.Int.{int_shr, int_rem_euclid}
 use Rattle.av1_blocks.specs.declared.mc.FilterMode.{FilterMode}
 use Rattle.av1_blocks.specs.declared.mc.MotionVector.{MotionVector}
@@ -14,7 +15,8 @@ use Rattle.av1_frame.specs.Slices.{IsStoredPlace, nearest_visible, stored_sample
 use Rattle.av1_inter.specs.Filters.{filter_of}
 use Rattle.av1_inter.specs.Motion.{prepared, single}
 
--- the whole samples that a component of a vector, in eighths of a luma sample, moves a block in a plane of this decimation
+-- the whole samples that a component of a vector, in eighths of a luma sample, moves a block in a plane of this
+-- decimation
 abbrev pub whole_part : ℤ → (decimation : ℕ) → ℤ
 whole_part component decimation = int_shr component (3 + decimation)
 
@@ -22,7 +24,8 @@ whole_part component decimation = int_shr component (3 + decimation)
 abbrev pub sixteenths : ℤ → (decimation : ℕ) → ℕ
 sixteenths component decimation = unsigned_abs (int_rem_euclid (component *ℤ pos (2 ^ (1 - decimation))) (pos 16))
 
--- What is seen of a reference: the sides of its visible plane, how the plane is halved, and the sample at each column and row.
+-- What is seen of a reference: the sides of its visible plane, how the plane is halved, and the sample at each column
+-- and row.
 pub record ReferencePlane : Type 0 where
   pub width : ℕ
   pub height : ℕ
@@ -34,19 +37,23 @@ pub record ReferencePlane : Type 0 where
 abbrev pub nearest_in : ReferencePlane → (x y : ℤ) → ℕ
 nearest_in reference x y = reference.sample (nearest_visible reference.width x) (nearest_visible reference.height y)
 
--- the samples round a block at column x and row y that a vector moves, counted from 3 columns left of and 3 rows above its first one
+-- the samples round a block at column x and row y that a vector moves, counted from 3 columns left of and 3 rows above
+-- its first one
 abbrev pub moved_in : ReferencePlane → (x y : ℤ) → MotionVector → (c r : ℕ) → ℕ
-moved_in reference x y mv c r = nearest_in reference (x +ℤ (whole_part mv.col reference.xdec -ℤ pos 3) +ℤ pos c) (y +ℤ (whole_part mv.row reference.ydec -ℤ pos 3) +ℤ pos r)
+moved_in reference x y mv c r = nearest_in reference (x +ℤ (whole_part mv.col reference.xdec -ℤ pos 3) +ℤ pos c)
+    (y +ℤ (whole_part mv.row reference.ydec -ℤ pos 3) +ℤ pos r)
 
 -- the sample at row r and column c of a block of these sides at column x and row y that is predicted from one reference
-abbrev pub single_in : (depth : ℕ) → FilterMode → ReferencePlane → (x y : ℤ) → MotionVector → (width height : ℕ) → (r c : ℕ) → ℕ
+abbrev pub single_in : (depth : ℕ) → FilterMode → ReferencePlane → (x y : ℤ) → MotionVector → (width height : ℕ) →
+    (r c : ℕ) → ℕ
 single_in depth mode reference x y mv width height =
     let fx = sixteenths mv.col reference.xdec in
     let fy = sixteenths mv.row reference.ydec in
     single depth fx fy (filter_of mode fx width) (filter_of mode fy height) (moved_in reference x y mv)
 
 -- and what is prepared there of one of two
-abbrev pub prepared_in : (depth : ℕ) → FilterMode → ReferencePlane → (x y : ℤ) → MotionVector → (width height : ℕ) → (r c : ℕ) → ℤ
+abbrev pub prepared_in : (depth : ℕ) → FilterMode → ReferencePlane → (x y : ℤ) → MotionVector → (width height : ℕ) →
+    (r c : ℕ) → ℤ
 prepared_in depth mode reference x y mv width height =
     let fx = sixteenths mv.col reference.xdec in
     let fy = sixteenths mv.row reference.ydec in
@@ -69,16 +76,19 @@ nearest_sample num plane = nearest_in (as_reference num plane)
 abbrev pub moved : {T : Type 0} → (T → ℕ) → Plane T → (x y : ℤ) → MotionVector → (c r : ℕ) → ℕ
 moved num plane = moved_in (as_reference num plane)
 
-abbrev pub moved_single : {T : Type 0} → (T → ℕ) → (depth : ℕ) → FilterMode → Plane T → (x y : ℤ) → MotionVector → (width height : ℕ) → (r c : ℕ) → ℕ
+abbrev pub moved_single : {T : Type 0} → (T → ℕ) → (depth : ℕ) → FilterMode → Plane T → (x y : ℤ) → MotionVector →
+    (width height : ℕ) → (r c : ℕ) → ℕ
 moved_single num depth mode plane = single_in depth mode (as_reference num plane)
 
-abbrev pub moved_prepared : {T : Type 0} → (T → ℕ) → (depth : ℕ) → FilterMode → Plane T → (x y : ℤ) → MotionVector → (width height : ℕ) → (r c : ℕ) → ℤ
+abbrev pub moved_prepared : {T : Type 0} → (T → ℕ) → (depth : ℕ) → FilterMode → Plane T → (x y : ℤ) → MotionVector →
+    (width height : ℕ) → (r c : ℕ) → ℤ
 moved_prepared num depth mode plane = prepared_in depth mode (as_reference num plane)
 
 -- a plane whose stored samples outside the visible ones are those of the nearest visible places
 pub record IsPadded {T : Type 0} (num : T → ℕ) (plane : Plane T) : Type 0 where
   pub whole : IsWhole plane
-  pub samples : (x y : ℤ) → IsStoredPlace plane.plane_cfg x y → stored_sample num plane x y ≡ nearest_sample num plane x y
+  pub samples : (x y : ℤ) → IsStoredPlace plane.plane_cfg x y →
+      stored_sample num plane x y ≡ nearest_sample num plane x y
 
 -- such a plane, with samples of this depth and pads for a block of these sides
 pub record IsReference {T : Type 0} (num : T → ℕ) (plane : Plane T) (depth width height : ℕ) : Type 0 where
@@ -93,7 +103,8 @@ slot_of fi reference = slice_index fi.ref_frames (reference_number reference - 1
 
 -- the plane of a reference, where its slot is filled, is one for a block of these sides
 abbrev pub HasReference : {T : Type 0} → (T → ℕ) → FrameInvariants T → RefType → (p width height : ℕ) → Type 0
-HasReference {T} num fi reference p width height = (plane : Plane T) → slot_plane fi (slot_of fi reference) p ≡ Some plane → IsReference num plane fi.bit_depth width height
+HasReference {T} num fi reference p width height = (plane : Plane T) →
+    slot_plane fi (slot_of fi reference) p ≡ Some plane → IsReference num plane fi.bit_depth width height
 
 -- the first or second of two references, and of two vectors
 abbrev pub reference_of : List RefType → ℕ → RefType
@@ -103,7 +114,8 @@ abbrev pub vector_of : List MotionVector → ℕ → MotionVector
 vector_of mvs i = slice_index_or mvs i (record { row = pos 0; col = pos 0 })
 
 -- a block of these sides can be predicted from a reference in plane p
-pub record IsServed {T : Type 0} (num : T → ℕ) (fi : FrameInvariants T) (reference : RefType) (p width height : ℕ) : Type 0 where
+pub record IsServed {T : Type 0} (num : T → ℕ) (fi : FrameInvariants T) (reference : RefType)
+    (p width height : ℕ) : Type 0 where
   pub inter : reference ≢ INTRA_FRAME
   pub some : reference ≢ NONE_FRAME
   pub slot : slot_of fi reference < 8

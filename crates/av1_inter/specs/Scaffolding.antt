@@ -1,5 +1,6 @@
 -- What the crate's own functions promise one another on the way. No public contract cites this file.
-use Rattle.std.specs.Prelude.{◌≡◌, ℕ, suc, ◌+◌, ◌*◌, ◌%◌, ◌≤◌, ◌<◌, ◌⊎◌, List, [], ◌∷◌, length, map, slice_index_or, ℤ, pos, negsuc, neg_ℤ, ◌*ℤ◌, ◌≤ℤ◌}
+use Rattle.std.specs.Prelude.{◌≡◌, ℕ, suc, ◌+◌, ◌*◌, ◌%◌, ◌≤◌, ◌<◌, ◌⊎◌, List, [], ◌∷◌, length, map, slice_index_or, ℤ}
+use Rattle.std.specs.Prelude.{pos, negsuc, neg_ℤ, ◌*ℤ◌, ◌≤ℤ◌}
 use Rattle.std.specs.Int.{int_shr}
 use Rattle.av1_frame.specs.declared.plane_region.StoredArea.{StoredArea}
 use Rattle.av1_inter.specs.Motion.{entry}
@@ -17,10 +18,11 @@ losses (negsuc n ∷ taps) = suc n + losses taps
 
 -- the outer six of eight weights, with 0 in the place of the middle two
 abbrev pub outer : List ℤ → List ℤ
-outer taps = entry taps 0 ∷ entry taps 1 ∷ entry taps 2 ∷ pos 0 ∷ pos 0 ∷ entry taps 5 ∷ entry taps 6 ∷ entry taps 7 ∷ []
+outer taps = entry taps 0 ∷ entry taps 1 ∷ entry taps 2 ∷ pos 0 ∷ pos 0 ∷ entry taps 5 ∷ entry taps 6 ∷ entry taps 7 ∷
+    []
 
--- eight even weights that sum to 128, of which the positive ones sum to at most 184 and the negative ones to at least -56, and the positive
--- ones of the outer six to at most 32, as those of every filter do
+-- eight even weights that sum to 128, of which the positive ones sum to at most 184 and the negative ones to at least
+-- -56, and the positive ones of the outer six to at most 32, as those of every filter do
 pub record IsFilter (taps : List ℤ) : Type 0 where
   pub size : length taps ≡ 8
   pub whole : gains taps ≡ 128 + losses taps

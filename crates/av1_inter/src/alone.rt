@@ -20,8 +20,8 @@ use crate::taps::taps_of_strip;
 use av1_blocks::SUBPEL_FILTER_SIZE;
 use av1_frame::{Pixel, PlaneSlice, StoredArea};
 
-/// The rectangle's samples become sums down the columns of `source` from the fourth on, whose rows stand `source_stride` apart: those of
-/// row r of the rows r to r + 7.
+/// The rectangle's samples become sums down the columns of `source` from the fourth on, whose rows stand
+/// `source_stride` apart: those of row r of the rows r to r + 7.
 #[inline(always)]
 #[tactic(auto, using(av1_frame::proofs::Paint::rectangle_painting))]
 fn sum_columns<T: Pixel, const N: usize, const SHORT: bool>(
@@ -40,7 +40,10 @@ fn sum_columns<T: Pixel, const N: usize, const SHORT: bool>(
     requires bits { 8 ≤ T.BITS }
     requires reach { (r : ℕ) → r < area.height + 7 → r * source_stride + (N + 7) ≤ length source.now }
     requires bytes { (r c : ℕ) → r < area.height + 7 → c < N + 7 → slice_index (map T.num source.now) (r * source_stride + c) < 256 }
-    ensures { samples.new ≡ paint stride area (λ r c _. T.pixel (clip 8 (round_shift (weighted down.now (λ t. pos (slice_index (map T.num source.now) ((r + t) * source_stride + (c + 3))))) 7))) samples.old }
+    ensures { samples.new ≡
+        paint stride area
+        (λ r c _. T.pixel (clip 8 (round_shift (weighted down.now (λ t. pos (slice_index (map T.num source.now) ((r + t) * source_stride + (c + 3))))) 7)))
+        samples.old }
 {
     let halves = halves_for::<SHORT>(down);
     for r in 0..area.height {
@@ -69,7 +72,11 @@ fn sum_mixed_columns<T: Pixel, const N: usize, const INNER: bool>(
     requires bits { 10 ≤ T.BITS }
     requires reach { (r : ℕ) → r < area.height + 7 → r * source_stride + (N + 7) ≤ length source.now }
     requires within { (r c : ℕ) → r < area.height + 7 → c < N + 7 → slice_index (map T.num source.now) (r * source_stride + c) < 1024 }
-    ensures { samples.new ≡ paint stride area (λ r c _. T.pixel (clip 10 (round_shift (weighted (doubled halves.now) (λ t. pos (slice_index (map T.num source.now) ((r + t) * source_stride + (c + 3))))) 7))) samples.old }
+    ensures { samples.new ≡
+        paint stride area
+        (λ r c _.
+        T.pixel (clip 10 (round_shift (weighted (doubled halves.now) (λ t. pos (slice_index (map T.num source.now) ((r + t) * source_stride + (c + 3))))) 7)))
+        samples.old }
 {
     // A copy of its own can't be what is written, so its weights stay in registers.
     let halves = *halves;
@@ -105,7 +112,11 @@ fn sum_wide_columns<T: Pixel, const N: usize>(
     requires depths { IsDepth bit_depth }
     requires depth { bit_depth ≤ T.BITS }
     requires reach { (r : ℕ) → r < area.height + 7 → r * source_stride + (N + 7) ≤ length source.now }
-    ensures { samples.new ≡ paint stride area (λ r c _. T.pixel (clip bit_depth (round_shift (weighted down.now (λ t. pos (slice_index (map T.num source.now) ((r + t) * source_stride + (c + 3))))) 7))) samples.old }
+    ensures { samples.new ≡
+        paint stride area
+        (λ r c _.
+        T.pixel (clip bit_depth (round_shift (weighted down.now (λ t. pos (slice_index (map T.num source.now) ((r + t) * source_stride + (c + 3))))) 7)))
+        samples.old }
 {
     let down = *down;
     for r in 0..area.height {
@@ -115,7 +126,8 @@ fn sum_wide_columns<T: Pixel, const N: usize>(
     }
 }
 
-/// The rectangle's samples become sums along the rows of `source` from the fourth on: those of column c of the columns c to c + 7.
+/// The rectangle's samples become sums along the rows of `source` from the fourth on: those of column c of the columns
+/// c to c + 7.
 #[inline(always)]
 #[tactic(auto, using(av1_frame::proofs::Paint::rectangle_painting))]
 fn sum_rows<T: Pixel, const N: usize, const SHORT: bool>(
@@ -134,7 +146,12 @@ fn sum_rows<T: Pixel, const N: usize, const SHORT: bool>(
     requires bits { 8 ≤ T.BITS }
     requires reach { (r : ℕ) → r < area.height + 7 → r * source_stride + (N + 7) ≤ length source.now }
     requires bytes { (r c : ℕ) → r < area.height + 7 → c < N + 7 → slice_index (map T.num source.now) (r * source_stride + c) < 256 }
-    ensures { samples.new ≡ paint stride area (λ r c _. T.pixel (clip 8 (round_shift (round_shift (weighted across.now (λ t. pos (slice_index (map T.num source.now) ((r + 3) * source_stride + (c + t))))) 3) 4))) samples.old }
+    ensures { samples.new ≡
+        paint stride area
+        (λ r c _.
+        T.pixel (clip 8
+        (round_shift (round_shift (weighted across.now (λ t. pos (slice_index (map T.num source.now) ((r + 3) * source_stride + (c + t))))) 3) 4)))
+        samples.old }
 {
     let halves = halves_for::<SHORT>(across);
     for r in 0..area.height {
@@ -163,7 +180,12 @@ fn sum_mixed_rows<T: Pixel, const N: usize, const INNER: bool>(
     requires bits { 10 ≤ T.BITS }
     requires reach { (r : ℕ) → r < area.height + 7 → r * source_stride + (N + 7) ≤ length source.now }
     requires within { (r c : ℕ) → r < area.height + 7 → c < N + 7 → slice_index (map T.num source.now) (r * source_stride + c) < 1024 }
-    ensures { samples.new ≡ paint stride area (λ r c _. T.pixel (clip 10 (round_shift (round_shift (weighted (doubled halves.now) (λ t. pos (slice_index (map T.num source.now) ((r + 3) * source_stride + (c + t))))) 3) 4))) samples.old }
+    ensures { samples.new ≡
+        paint stride area
+        (λ r c _.
+        T.pixel (clip 10
+        (round_shift (round_shift (weighted (doubled halves.now) (λ t. pos (slice_index (map T.num source.now) ((r + 3) * source_stride + (c + t))))) 3)
+        4))) samples.old }
 {
     for r in 0..area.height {
         let sums = mixed_sums::<T, N, INNER>(source, (r + 3) * source_stride, 1, halves, 34);
@@ -214,7 +236,12 @@ fn sum_deep_rows<T: Pixel, const N: usize>(
     requires short { N ≤ 128 }
     requires bits { 12 ≤ T.BITS }
     requires reach { (r : ℕ) → r < area.height + 7 → r * source_stride + (N + 7) ≤ length source.now }
-    ensures { samples.new ≡ paint stride area (λ r c _. T.pixel (clip 12 (round_shift (round_shift (weighted across.now (λ t. pos (slice_index (map T.num source.now) ((r + 3) * source_stride + (c + t))))) 5) 2))) samples.old }
+    ensures { samples.new ≡
+        paint stride area
+        (λ r c _.
+        T.pixel (clip 12
+        (round_shift (round_shift (weighted across.now (λ t. pos (slice_index (map T.num source.now) ((r + 3) * source_stride + (c + t))))) 5) 2)))
+        samples.old }
 {
     let across = *across;
     for r in 0..area.height {
@@ -224,7 +251,8 @@ fn sum_deep_rows<T: Pixel, const N: usize>(
     }
 }
 
-/// A strip of samples of 8 bits that is filtered down its columns alone, by a filter for sides up to 4 where `SHORT` is true.
+/// A strip of samples of 8 bits that is filtered down its columns alone, by a filter for sides up to 4 where `SHORT` is
+/// true.
 #[inline(always)]
 #[tactic(auto, using(crate::proofs::Sources::strip_sources))]
 pub(crate) fn put_narrow_columns<T: Pixel, const N: usize, const SHORT: bool>(
@@ -242,7 +270,8 @@ pub(crate) fn put_narrow_columns<T: Pixel, const N: usize, const SHORT: bool>(
     requires stored { IsStoredFrom corner (area.width + 7) (area.height + 7) }
     requires bits { 8 ≤ T.BITS }
     requires within { AreWithinDepth 8 (samples_from T.num corner) (area.width + 7) (area.height + 7) }
-    ensures { samples.new ≡ paint stride area (λ r c _. T.pixel (clip 8 (round_shift (down_samples down.now (samples_from T.num corner.entry) r c) 7))) samples.old }
+    ensures { samples.new ≡ paint stride area (λ r c _. T.pixel (clip 8 (round_shift (down_samples down.now (samples_from T.num corner.entry) r c) 7)))
+        samples.old }
 {
     sum_columns::<T, N, SHORT>(
         samples,
@@ -254,7 +283,8 @@ pub(crate) fn put_narrow_columns<T: Pixel, const N: usize, const SHORT: bool>(
     );
 }
 
-/// A strip of samples of 10 bits that is filtered down its columns alone, by a filter whose outer two weights are 0 where `INNER` is true.
+/// A strip of samples of 10 bits that is filtered down its columns alone, by a filter whose outer two weights are 0
+/// where `INNER` is true.
 #[inline(always)]
 #[tactic(auto, using(crate::proofs::Sources::strip_sources))]
 fn put_mixed_columns_by<T: Pixel, const N: usize, const INNER: bool>(
@@ -272,7 +302,8 @@ fn put_mixed_columns_by<T: Pixel, const N: usize, const INNER: bool>(
     requires stored { IsStoredFrom corner (area.width + 7) (area.height + 7) }
     requires bits { 10 ≤ T.BITS }
     requires within { AreWithinDepth 10 (samples_from T.num corner) (area.width + 7) (area.height + 7) }
-    ensures { samples.new ≡ paint stride area (λ r c _. T.pixel (clip 10 (round_shift (down_samples down.now (samples_from T.num corner.entry) r c) 7))) samples.old }
+    ensures { samples.new ≡ paint stride area (λ r c _. T.pixel (clip 10 (round_shift (down_samples down.now (samples_from T.num corner.entry) r c) 7)))
+        samples.old }
 {
     let halves = mixed_halves::<INNER>(down);
     sum_mixed_columns::<T, N, INNER>(
@@ -300,7 +331,8 @@ fn put_mixed_columns<T: Pixel, const N: usize>(
     requires stored { IsStoredFrom corner (area.width + 7) (area.height + 7) }
     requires bits { 10 ≤ T.BITS }
     requires within { AreWithinDepth 10 (samples_from T.num corner) (area.width + 7) (area.height + 7) }
-    ensures { samples.new ≡ paint stride area (λ r c _. T.pixel (clip 10 (round_shift (down_samples down.now (samples_from T.num corner.entry) r c) 7))) samples.old }
+    ensures { samples.new ≡ paint stride area (λ r c _. T.pixel (clip 10 (round_shift (down_samples down.now (samples_from T.num corner.entry) r c) 7)))
+        samples.old }
 {
     if is_inner(down) {
         put_mixed_columns_by::<T, N, true>(samples, stride, area, corner, down);
@@ -326,7 +358,8 @@ fn put_any_columns<T: Pixel, const N: usize>(
     requires stored { IsStoredFrom corner (area.width + 7) (area.height + 7) }
     requires depths { IsDepth bit_depth }
     requires depth { bit_depth ≤ T.BITS }
-    ensures { samples.new ≡ paint stride area (λ r c _. T.pixel (clip bit_depth (round_shift (down_samples down.now (samples_from T.num corner.entry) r c) 7))) samples.old }
+    ensures { samples.new ≡ paint stride area (λ r c _. T.pixel (clip bit_depth (round_shift (down_samples down.now (samples_from T.num corner.entry) r c) 7)))
+        samples.old }
 {
     sum_wide_columns::<T, N>(
         samples,
@@ -358,7 +391,8 @@ fn put_eights<T: Pixel, const N: usize>(
     requires depths { IsDepth bit_depth }
     requires depth { bit_depth ≤ T.BITS }
     requires within { AreWithinDepth bit_depth (samples_from T.num corner) (area.width + 7) (area.height + 7) }
-    ensures { samples.new ≡ paint stride area (λ r c _. T.pixel (clip bit_depth (round_shift (down_samples down.now (samples_from T.num corner.entry) r c) 7))) samples.old }
+    ensures { samples.new ≡ paint stride area (λ r c _. T.pixel (clip bit_depth (round_shift (down_samples down.now (samples_from T.num corner.entry) r c) 7)))
+        samples.old }
 {
     for g in 0..N / 8 {
         let strip = StoredArea {
@@ -395,7 +429,8 @@ fn put_wide_columns<T: Pixel, const N: usize>(
     requires depths { IsDepth bit_depth }
     requires depth { bit_depth ≤ T.BITS }
     requires within { AreWithinDepth bit_depth (samples_from T.num corner) (area.width + 7) (area.height + 7) }
-    ensures { samples.new ≡ paint stride area (λ r c _. T.pixel (clip bit_depth (round_shift (down_samples down.now (samples_from T.num corner.entry) r c) 7))) samples.old }
+    ensures { samples.new ≡ paint stride area (λ r c _. T.pixel (clip bit_depth (round_shift (down_samples down.now (samples_from T.num corner.entry) r c) 7)))
+        samples.old }
 {
     if N % 8 == 0 && area.height % 2 == 0 {
         put_eights::<T, N>(samples, stride, area, corner, down, bit_depth);
@@ -422,7 +457,8 @@ pub(crate) fn put_columns_alone<T: Pixel, const N: usize>(
     requires depths { IsDepth bit_depth }
     requires depth { bit_depth ≤ T.BITS }
     requires within { AreWithinDepth bit_depth (samples_from T.num corner) (area.width + 7) (area.height + 7) }
-    ensures { samples.new ≡ paint stride area (λ r c _. T.pixel (clip bit_depth (round_shift (down_samples down.now (samples_from T.num corner.entry) r c) 7))) samples.old }
+    ensures { samples.new ≡ paint stride area (λ r c _. T.pixel (clip bit_depth (round_shift (down_samples down.now (samples_from T.num corner.entry) r c) 7)))
+        samples.old }
 {
     if bit_depth == 8 {
         put_narrow_columns::<T, N, false>(samples, stride, area, corner, down);
@@ -433,7 +469,8 @@ pub(crate) fn put_columns_alone<T: Pixel, const N: usize>(
     }
 }
 
-/// A strip of samples of 8 bits that is filtered along its rows alone, by a filter for sides up to 4 where `SHORT` is true.
+/// A strip of samples of 8 bits that is filtered along its rows alone, by a filter for sides up to 4 where `SHORT` is
+/// true.
 #[inline(always)]
 #[tactic(auto, using(crate::proofs::Sources::strip_sources))]
 pub(crate) fn put_narrow_rows<T: Pixel, const N: usize, const SHORT: bool>(
@@ -451,7 +488,10 @@ pub(crate) fn put_narrow_rows<T: Pixel, const N: usize, const SHORT: bool>(
     requires stored { IsStoredFrom corner (area.width + 7) (area.height + 7) }
     requires bits { 8 ≤ T.BITS }
     requires within { AreWithinDepth 8 (samples_from T.num corner) (area.width + 7) (area.height + 7) }
-    ensures { samples.new ≡ paint stride area (λ r c _. T.pixel (clip 8 (round_shift (round_shift (weighted across.now (λ t. pos (samples_from T.num corner.entry (c + t) (r + 3)))) 3) 4))) samples.old }
+    ensures { samples.new ≡
+        paint stride area
+        (λ r c _. T.pixel (clip 8 (round_shift (round_shift (weighted across.now (λ t. pos (samples_from T.num corner.entry (c + t) (r + 3)))) 3) 4)))
+        samples.old }
 {
     sum_rows::<T, N, SHORT>(
         samples,
@@ -463,7 +503,8 @@ pub(crate) fn put_narrow_rows<T: Pixel, const N: usize, const SHORT: bool>(
     );
 }
 
-/// A strip of samples of 10 bits that is filtered along its rows alone, by a filter whose outer two weights are 0 where `INNER` is true.
+/// A strip of samples of 10 bits that is filtered along its rows alone, by a filter whose outer two weights are 0 where
+/// `INNER` is true.
 #[inline(never)]
 #[tactic(auto, using(crate::proofs::Sources::strip_sources))]
 fn put_mixed_rows_by<T: Pixel, const N: usize, const INNER: bool>(
@@ -481,7 +522,10 @@ fn put_mixed_rows_by<T: Pixel, const N: usize, const INNER: bool>(
     requires stored { IsStoredFrom corner (area.width + 7) (area.height + 7) }
     requires bits { 10 ≤ T.BITS }
     requires within { AreWithinDepth 10 (samples_from T.num corner) (area.width + 7) (area.height + 7) }
-    ensures { samples.new ≡ paint stride area (λ r c _. T.pixel (clip 10 (round_shift (round_shift (weighted across.now (λ t. pos (samples_from T.num corner.entry (c + t) (r + 3)))) 3) 4))) samples.old }
+    ensures { samples.new ≡
+        paint stride area
+        (λ r c _. T.pixel (clip 10 (round_shift (round_shift (weighted across.now (λ t. pos (samples_from T.num corner.entry (c + t) (r + 3)))) 3) 4)))
+        samples.old }
 {
     let halves = mixed_halves::<INNER>(across);
     sum_mixed_rows::<T, N, INNER>(
@@ -509,7 +553,10 @@ fn put_mixed_rows<T: Pixel, const N: usize>(
     requires stored { IsStoredFrom corner (area.width + 7) (area.height + 7) }
     requires bits { 10 ≤ T.BITS }
     requires within { AreWithinDepth 10 (samples_from T.num corner) (area.width + 7) (area.height + 7) }
-    ensures { samples.new ≡ paint stride area (λ r c _. T.pixel (clip 10 (round_shift (round_shift (weighted across.now (λ t. pos (samples_from T.num corner.entry (c + t) (r + 3)))) 3) 4))) samples.old }
+    ensures { samples.new ≡
+        paint stride area
+        (λ r c _. T.pixel (clip 10 (round_shift (round_shift (weighted across.now (λ t. pos (samples_from T.num corner.entry (c + t) (r + 3)))) 3) 4)))
+        samples.old }
 {
     if is_inner(across) {
         put_mixed_rows_by::<T, N, true>(samples, stride, area, corner, across);
@@ -533,7 +580,10 @@ fn put_deep_rows<T: Pixel, const N: usize>(
     requires short { N ≤ 128 }
     requires stored { IsStoredFrom corner (area.width + 7) (area.height + 7) }
     requires bits { 12 ≤ T.BITS }
-    ensures { samples.new ≡ paint stride area (λ r c _. T.pixel (clip 12 (round_shift (round_shift (weighted across.now (λ t. pos (samples_from T.num corner.entry (c + t) (r + 3)))) 5) 2))) samples.old }
+    ensures { samples.new ≡
+        paint stride area
+        (λ r c _. T.pixel (clip 12 (round_shift (round_shift (weighted across.now (λ t. pos (samples_from T.num corner.entry (c + t) (r + 3)))) 5) 2)))
+        samples.old }
 {
     sum_deep_rows::<T, N>(
         samples,
@@ -563,7 +613,12 @@ pub(crate) fn put_rows_alone<T: Pixel, const N: usize>(
     requires depths { IsDepth bit_depth }
     requires depth { bit_depth ≤ T.BITS }
     requires within { AreWithinDepth bit_depth (samples_from T.num corner) (area.width + 7) (area.height + 7) }
-    ensures { samples.new ≡ paint stride area (λ r c _. T.pixel (clip bit_depth (round_shift (round_shift (weighted across.now (λ t. pos (samples_from T.num corner.entry (c + t) (r + 3)))) (7 - intermediate_bits bit_depth)) (intermediate_bits bit_depth)))) samples.old }
+    ensures { samples.new ≡
+        paint stride area
+        (λ r c _.
+        T.pixel (clip bit_depth
+        (round_shift (round_shift (weighted across.now (λ t. pos (samples_from T.num corner.entry (c + t) (r + 3)))) (7 - intermediate_bits bit_depth))
+        (intermediate_bits bit_depth)))) samples.old }
 {
     if bit_depth == 8 {
         put_narrow_rows::<T, N, false>(samples, stride, area, corner, across);

@@ -108,8 +108,8 @@ fn average_by_array<T: Pixel, const N: usize>(
     copy_each::<T, N>(row, &line);
 }
 
-/// The first `width` samples of the row become the averages of the values from `start` on, by an array of its own unless `ANY` is true:
-/// there are `N` of them then.
+/// The first `width` samples of the row become the averages of the values from `start` on, by an array of its own
+/// unless `ANY` is true: there are `N` of them then.
 #[inline(always)]
 fn average_row_of<T: Pixel, const N: usize, const ANY: bool>(
     row: &mut [T],
@@ -135,7 +135,8 @@ fn average_row_of<T: Pixel, const N: usize, const ANY: bool>(
     }
 }
 
-/// The rectangle's samples become the averages of the values, which stand row by row. It has `N` columns unless `ANY` is true.
+/// The rectangle's samples become the averages of the values, which stand row by row. It has `N` columns unless `ANY`
+/// is true.
 #[inline(never)]
 #[tactic(auto, using(av1_frame::proofs::Paint::rectangle_painting, av1_frame::proofs::Fits::row_end_le))]
 fn average_rows<T: Pixel, const N: usize, const ANY: bool>(
@@ -153,7 +154,8 @@ fn average_rows<T: Pixel, const N: usize, const ANY: bool>(
     requires second_long { area.height * area.width ≤ length tmp2.now }
     requires depths { IsDepth bit_depth }
     requires depth { bit_depth ≤ T.BITS }
-    ensures { samples.new ≡ paint stride area (λ r c _. T.pixel (averaged bit_depth (entry tmp1.now (r * area.width + c)) (entry tmp2.now (r * area.width + c)))) samples.old }
+    ensures { samples.new ≡
+        paint stride area (λ r c _. T.pixel (averaged bit_depth (entry tmp1.now (r * area.width + c)) (entry tmp2.now (r * area.width + c)))) samples.old }
 {
     let width = area.width;
     for r in 0..area.height {
@@ -162,8 +164,8 @@ fn average_rows<T: Pixel, const N: usize, const ANY: bool>(
     }
 }
 
-/// Each sample of a rectangle becomes the average of its two prepared values, which stand row by row in `tmp1` and `tmp2`. The rows of
-/// `samples` stand `stride` apart.
+/// Each sample of a rectangle becomes the average of its two prepared values, which stand row by row in `tmp1` and
+/// `tmp2`. The rows of `samples` stand `stride` apart.
 pub fn mc_avg_to<T: Pixel>(
     samples: &mut [T],
     stride: usize,
@@ -177,7 +179,8 @@ pub fn mc_avg_to<T: Pixel>(
     requires second_long { area.height * area.width ≤ length tmp2.now }
     requires depths { IsDepth bit_depth }
     requires depth { bit_depth ≤ T.BITS }
-    ensures { samples.new ≡ paint stride area (λ r c _. T.pixel (averaged bit_depth (entry tmp1.now (r * area.width + c)) (entry tmp2.now (r * area.width + c)))) samples.old }
+    ensures { samples.new ≡
+        paint stride area (λ r c _. T.pixel (averaged bit_depth (entry tmp1.now (r * area.width + c)) (entry tmp2.now (r * area.width + c)))) samples.old }
 {
     if area.width == 4 {
         average_rows::<T, 4, false>(samples, stride, area, tmp1, tmp2, bit_depth);
@@ -196,8 +199,8 @@ pub fn mc_avg_to<T: Pixel>(
     }
 }
 
-/// Each sample of the first `height` rows and `width` columns of `dst` becomes the average of its two prepared values, which stand row
-/// by row in `tmp1` and `tmp2`.
+/// Each sample of the first `height` rows and `width` columns of `dst` becomes the average of its two prepared values,
+/// which stand row by row in `tmp1` and `tmp2`.
 #[tactic(auto, using(av1_frame::proofs::Regions::region_lending))]
 pub fn mc_avg<T: Pixel>(
     dst: &mut PlaneRegionMut<'_, T>,
@@ -214,7 +217,8 @@ pub fn mc_avg<T: Pixel>(
     requires second_long { height * width ≤ length tmp2.now }
     requires depths { IsDepth bit_depth }
     requires depth { bit_depth ≤ T.BITS }
-    ensures painted { dst.new ≡ painted dst.old width height (λ r c _. T.pixel (averaged bit_depth (entry tmp1.now (r * width + c)) (entry tmp2.now (r * width + c)))) }
+    ensures painted { dst.new ≡
+        painted dst.old width height (λ r c _. T.pixel (averaged bit_depth (entry tmp1.now (r * width + c)) (entry tmp2.now (r * width + c)))) }
     ensures fits { InStorage dst.new }
 {
     let stride = dst.plane_cfg.stride;

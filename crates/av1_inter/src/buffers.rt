@@ -8,7 +8,8 @@ use std::alloc::Global;
 /// How many entries the greatest block has.
 const BUFFER_SIZE: usize = 128 * 128;
 
-/// The prepared values of a block from each of two references. It is made once, and each compound prediction writes it anew.
+/// The prepared values of a block from each of two references. It is made once, and each compound prediction writes it
+/// anew.
 #[derive(Debug, Drop)]
 pub struct InterCompoundBuffers {
     pub(crate) first: Vec<i16>,

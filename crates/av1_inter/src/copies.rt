@@ -68,7 +68,8 @@ fn copy_by_array<T: Pixel, const N: usize>(row: &mut [T], source: &[T])
     copy_each::<T, N>(row, &line);
 }
 
-/// The rectangle's samples become those of `source` from the fourth row and column on, whose rows stand `source_stride` apart.
+/// The rectangle's samples become those of `source` from the fourth row and column on, whose rows stand `source_stride`
+/// apart.
 #[tactic(auto, using(av1_frame::proofs::Paint::rectangle_painting))]
 fn copy_rows<T: Pixel, const N: usize>(
     samples: &mut [T],
@@ -133,7 +134,8 @@ pub(crate) fn put_square_of<T: Pixel, const N: usize>(
     put_samples_of::<T, N>(samples, stride, square, corner);
 }
 
-/// A rectangle that is not filtered, and is no square of 4 or 8 columns: these are copied without asking for their width.
+/// A rectangle that is not filtered, and is no square of 4 or 8 columns: these are copied without asking for their
+/// width.
 #[inline(always)]
 pub(crate) fn put_copy<T: Pixel>(
     samples: &mut [T],

@@ -8,8 +8,8 @@ ghost use Rattle.av1_inter.specs.Scaffolding.{IsFilter, IsShort};
 
 use av1_blocks::{FilterMode, SUBPEL_FILTER_SIZE, SUBPEL_FILTERS};
 
-/// A filter along one direction: how many sixteenths past a sample the place is, and the weights of the samples at the offsets
-/// -3 to 4 from it, in parts of 128.
+/// A filter along one direction: how many sixteenths past a sample the place is, and the weights of the samples at the
+/// offsets -3 to 4 from it, in parts of 128.
 #[derive(Clone, Copy)]
 pub(crate) struct Filter {
     pub(crate) fraction: usize,

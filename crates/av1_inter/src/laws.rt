@@ -22,16 +22,17 @@ pub fn prepared_values_fit()
     ensures { PreparedFits }
 {}
 
-/// What `Plane::pad` leaves of a whole plane is padded as references have to be: each stored sample outside the visible ones is that of
-/// the nearest visible place.
+/// What `Plane::pad` leaves of a whole plane is padded as references have to be: each stored sample outside the visible
+/// ones is that of the nearest visible place.
 pub fn padded_planes_serve<T: Pixel>()
     ensures { (plane : Plane T) → IsWhole plane → IsPadded T.num (padded plane) }
 {}
 
-/// A sample that is predicted from a reference whose visible samples lie within the depth lies within it too, whatever the vector. One
-/// that is predicted from two does in any case: their mean is clipped.
+/// A sample that is predicted from a reference whose visible samples lie within the depth lies within it too, whatever
+/// the vector. One that is predicted from two does in any case: their mean is clipped.
 pub fn motion_lies_within()
-    ensures single { (depth : ℕ) (mode : FilterMode) (reference : ReferencePlane) (mv : MotionVector) (a : VisibleArea) (r c : ℕ) → 0 < reference.width → 0 < reference.height
+    ensures single { (depth : ℕ) (mode : FilterMode) (reference : ReferencePlane) (mv : MotionVector) (a : VisibleArea)
+        (r c : ℕ) → 0 < reference.width → 0 < reference.height
         → ((x y : ℕ) → x < reference.width → y < reference.height → reference.sample x y < 2 ^ depth)
         → single_prediction depth mode reference mv a r c < 2 ^ depth }
     ensures compound { (depth : ℕ) (mode : FilterMode) (first second : ReferencePlane) (first_mv second_mv : MotionVector) (a : VisibleArea) (r c : ℕ) →

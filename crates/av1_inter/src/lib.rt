@@ -2,28 +2,30 @@
 //!
 //! AV1 specification: block inter prediction process, rounding variables derivation process.
 //!
-//! The crate stands on `av1_blocks`, for the interpolation filters, and on `av1_frame`, for planes, regions and slices. Its functions
-//! have the names and the values of rav1e's.
+//! The crate stands on `av1_blocks`, for the interpolation filters, and on `av1_frame`, for planes, regions and slices.
+//! Its functions have the names and the values of rav1e's.
 //!
 //! To the crates above it promises:
-//! - `put_8tap` turns each sample of a block into `single` of `specs/Motion.antt`, over the stored samples round the block's place in
-//!   the reference, and leaves all others.
+//! - `put_8tap` turns each sample of a block into `single` of `specs/Motion.antt`, over the stored samples round the
+//!   block's place in the reference, and leaves all others.
 //! - `prep_8tap` writes `prepared` of them row by row to the first entries of a buffer, and leaves the others.
 //! - `mc_avg` turns each sample of a block into `averaged` of two prepared values.
-//! - `put_8tap_to` and `mc_avg_to` do the same to a rectangle of a slice, in memory of any caller: `put_8tap` and `mc_avg` lend them the
-//!   samples of a region.
-//! - `predict_inter_single`, `predict_inter_compound` and `predict_inter` do the same over the planes in a frame's slots, moved by
-//!   vectors: `PredictsSingle` and `PredictsCompound` of `specs/Prediction.antt`. The planes are padded, and whatever the vector, a place
-//!   outside reads the nearest visible sample. Where the slot of a single reference is empty nothing is written; what an empty slot gives
-//!   to a compound prediction is not said.
-//! - `constant_references_stay`, `prepared_values_fit`, `padded_planes_serve` and `motion_lies_within` are laws of these definitions.
+//! - `put_8tap_to` and `mc_avg_to` do the same to a rectangle of a slice, in memory of any caller: `put_8tap` and
+//!   `mc_avg` lend them the samples of a region.
+//! - `predict_inter_single`, `predict_inter_compound` and `predict_inter` do the same over the planes in a frame's
+//!   slots, moved by vectors: `PredictsSingle` and `PredictsCompound` of `specs/Prediction.antt`. The planes are
+//!   padded, and whatever the vector, a place outside reads the nearest visible sample. Where the slot of a single
+//!   reference is empty nothing is written; what an empty slot gives to a compound prediction is not said.
+//! - `constant_references_stay`, `prepared_values_fit`, `padded_planes_serve` and `motion_lies_within` are laws of
+//!   these definitions.
 //!
-//! `specs/Reference.antt` defines motion over a function of places, `moved_in`, and `specs/Prediction.antt` the samples of a plane's whole
-//! area, `single_prediction` and `compound_prediction`: words that need no plane in storage.
+//! `specs/Reference.antt` defines motion over a function of places, `moved_in`, and `specs/Prediction.antt` the samples
+//! of a plane's whole area, `single_prediction` and `compound_prediction`: words that need no plane in storage.
 //!
-//! No intermediate value wraps, and every prepared value fits 16 bits. No call but `InterCompoundBuffers::new` allocates, and no other
-//! can fail. Sides and places are counted in samples, vectors in eighths of a luma sample, fractions in sixteenths of a sample. A filter
-//! has eight taps, so a block needs 3 stored columns and rows before it and 4 after it, at every fraction.
+//! No intermediate value wraps, and every prepared value fits 16 bits. No call but `InterCompoundBuffers::new`
+//! allocates, and no other can fail. Sides and places are counted in samples, vectors in eighths of a luma sample,
+//! fractions in sixteenths of a sample. A filter has eight taps, so a block needs 3 stored columns and rows before it
+//! and 4 after it, at every fraction.
 #![tactic(auto)]
 
 mod alone;

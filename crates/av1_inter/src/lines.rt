@@ -1,8 +1,9 @@
 //! Rows of a strip, and the filters along and across them.
 //!
-//! A block is interpolated in strips of columns, whose width `N` the compiler knows. Values are arrays that are returned and not written in
-//! place: then nothing that is read can be what is written, and the loops over a strip's columns become operations on vectors. Of the rows
-//! on their way to the filter down the columns eight are kept: row `y` stands at `y % 8`.
+//! A block is interpolated in strips of columns, whose width `N` the compiler knows. Values are arrays that are
+//! returned and not written in place: then nothing that is read can be what is written, and the loops over a strip's
+//! columns become operations on vectors. Of the rows on their way to the filter down the columns eight are kept: row
+//! `y` stands at `y % 8`.
 //!
 //! AV1 specification: block inter prediction process.
 
@@ -296,8 +297,8 @@ pub(crate) fn filter_along<T: Pixel, const N: usize>(
     }
 }
 
-/// The first `N` columns of a row in the intermediate bits, filtered along itself where the fraction is not 0. The row begins 3 samples
-/// before the block.
+/// The first `N` columns of a row in the intermediate bits, filtered along itself where the fraction is not 0. The row
+/// begins 3 samples before the block.
 #[inline(always)]
 pub(crate) fn filter_horizontal<T: Pixel, const N: usize>(
     row: &[T],

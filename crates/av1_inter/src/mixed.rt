@@ -1,7 +1,7 @@
 //! Samples of 10 bits that are filtered along one direction alone, in sums of 16 and of 32 bits.
 //!
-//! Weights are halved, as for samples of 8 bits. By the outer six of them a sum of eight samples lies from -28644 to 16368, so that it is
-//! formed in 16 bits. The products of the middle two are added to it in 32 bits.
+//! Weights are halved, as for samples of 8 bits. By the outer six of them a sum of eight samples lies from -28644 to
+//! 16368, so that it is formed in 16 bits. The products of the middle two are added to it in 32 bits.
 //!
 //! AV1 specification: block inter prediction process.
 
@@ -53,7 +53,8 @@ fn product<T: Pixel>(samples: &[T], place: usize, half: i16) -> i32
     i32::from(half) * samples[place].to_i32()
 }
 
-/// The sum of eight samples that stand `step` apart, each times its halved weight, and the rounding, from the sum by the outer halves.
+/// The sum of eight samples that stand `step` apart, each times its halved weight, and the rounding, from the sum by
+/// the outer halves.
 #[inline(always)]
 fn mixed_sum<T: Pixel>(
     samples: &[T],

@@ -33,13 +33,15 @@ fn moved_place(at: isize, component: i16, decimation: usize) -> isize
     at.saturating_add(isize::from(component >> (3 + decimation)) - 3)
 }
 
-/// The place to which a vector moves a block at `at`. Past the pads all samples are those at the frame's side, so it stays within them.
+/// The place to which a vector moves a block at `at`. Past the pads all samples are those at the frame's side, so it
+/// stays within them.
 fn moved_slice<T: Pixel>(plane: &Plane<T>, at: PlaneOffset, mv: MotionVector) -> PlaneSlice<'_, T>
     requires padded { IsPadded T.num plane.now }
     requires xpad { 3 ≤ plane.now.plane_cfg.xpad }
     requires ypad { 3 ≤ plane.now.plane_cfg.ypad }
     ensures stored { let cfg = plane.now.plane_cfg in IsStoredFrom (corner_of result) cfg.xpad cfg.ypad }
-    ensures samples { let cfg = plane.now.plane_cfg in (c r : ℕ) → c < cfg.xpad → r < cfg.ypad → samples_from T.num (corner_of result) c r ≡ moved T.num plane.now at.x at.y mv c r }
+    ensures samples { let cfg = plane.now.plane_cfg in (c r : ℕ) → c < cfg.xpad → r < cfg.ypad →
+        samples_from T.num (corner_of result) c r ≡ moved T.num plane.now at.x at.y mv c r }
 {
     let cfg = plane.config();
     let corner = PlaneOffset {

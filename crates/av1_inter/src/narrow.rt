@@ -1,7 +1,8 @@
 //! Sums of 16 bits, and samples of 8 bits that are filtered along one direction alone.
 //!
-//! Every weight is even, so that half a sum of eight samples is the sum by halved weights: over samples of 8 bits it lies from -7140 to
-//! 23460. Sums by other weights are formed in 16 bits too, where these are small enough for the greatest sample.
+//! Every weight is even, so that half a sum of eight samples is the sum by halved weights: over samples of 8 bits it
+//! lies from -7140 to 23460. Sums by other weights are formed in 16 bits too, where these are small enough for the
+//! greatest sample.
 //!
 //! AV1 specification: block inter prediction process.
 
@@ -38,7 +39,8 @@ fn halves_of(taps: &[i32; SUBPEL_FILTER_SIZE]) -> [i16; SUBPEL_FILTER_SIZE]
     halves
 }
 
-/// Half of each weight of a filter for sides up to 4. The compiler sees which are 0, so that sums have no products for these.
+/// Half of each weight of a filter for sides up to 4. The compiler sees which are 0, so that sums have no products for
+/// these.
 #[inline(always)]
 fn short_halves_of(taps: &[i32; SUBPEL_FILTER_SIZE]) -> [i16; SUBPEL_FILTER_SIZE]
     requires filter { IsFilter taps.now }

@@ -1,7 +1,7 @@
 //! Sums of samples of up to 12 bits in 32 bits, two products at a time.
 //!
-//! A machine multiplies eight numbers of 16 bits by eight others and adds each two neighbouring products in one step. So the samples that
-//! two of the weights belong to are put side by side.
+//! A machine multiplies eight numbers of 16 bits by eight others and adds each two neighbouring products in one step.
+//! So the samples that two of the weights belong to are put side by side.
 //!
 //! AV1 specification: block inter prediction process.
 
@@ -69,8 +69,8 @@ fn pair_sums(first: [i16; 8], second: [i16; 8], weight: i16, other: i16) -> [i32
     low.shuffle(high, [0, 1, 2, 3, 4, 5, 6, 7]).to_array()
 }
 
-/// Two of the eight products of a sum, added: those of the weights `AT` and `AT + 1` with samples that stand `step` apart, from each of
-/// eight places on.
+/// Two of the eight products of a sum, added: those of the weights `AT` and `AT + 1` with samples that stand `step`
+/// apart, from each of eight places on.
 #[inline(always)]
 fn pair_from<T: Pixel, const AT: usize>(
     samples: &[T],
@@ -82,7 +82,9 @@ fn pair_from<T: Pixel, const AT: usize>(
     requires filter { IsFilter weights.now }
     requires long { start + 8 + 7 * step ≤ length samples.now }
     requires within { (c t : ℕ) → c < 8 → t < 8 → slice_index (map T.num samples.now) (start + c + t * step) < 4096 }
-    ensures value { (c : ℕ) → c < 8 → entry result c ≡ entry weights.now AT *ℤ pos (slice_index (map T.num samples.now) (start + c + AT * step)) +ℤ entry weights.now (AT + 1) *ℤ pos (slice_index (map T.num samples.now) (start + c + (AT + 1) * step)) }
+    ensures value { (c : ℕ) → c < 8 →
+        entry result c ≡ entry weights.now AT *ℤ pos (slice_index (map T.num samples.now) (start + c + AT * step)) +ℤ entry weights.now (AT + 1) *ℤ pos
+        (slice_index (map T.num samples.now) (start + c + (AT + 1) * step)) }
     ensures within { (c : ℕ) → c < 8 → IsWithin (2 ^ 21) (entry result c) }
 {
     pair_sums(
@@ -190,8 +192,8 @@ fn sums_by_pairs<T: Pixel, const INNER: bool>(
     }
 }
 
-/// The rectangle's samples become sums down 8 columns of `source` from the fourth on, whose rows stand `source_stride` apart, two rows at a
-/// time, so that what both of them read is read once.
+/// The rectangle's samples become sums down 8 columns of `source` from the fourth on, whose rows stand `source_stride`
+/// apart, two rows at a time, so that what both of them read is read once.
 #[inline(never)]
 #[tactic(auto, using(av1_frame::proofs::Paint::rectangle_painting))]
 fn sum_row_pairs<T: Pixel, const INNER: bool>(
@@ -212,7 +214,11 @@ fn sum_row_pairs<T: Pixel, const INNER: bool>(
     requires depth { bit_depth ≤ T.BITS }
     requires reach { (r : ℕ) → r < area.height + 7 → r * source_stride + 15 ≤ length source.now }
     requires within { (r c : ℕ) → r < area.height + 7 → c < 15 → slice_index (map T.num source.now) (r * source_stride + c) < 2 ^ bit_depth }
-    ensures { samples.new ≡ paint stride area (λ r c _. T.pixel (clip bit_depth (round_shift (weighted down.now (λ t. pos (slice_index (map T.num source.now) ((r + t) * source_stride + (c + 3))))) 7))) samples.old }
+    ensures { samples.new ≡
+        paint stride area
+        (λ r c _.
+        T.pixel (clip bit_depth (round_shift (weighted down.now (λ t. pos (slice_index (map T.num source.now) ((r + t) * source_stride + (c + 3))))) 7)))
+        samples.old }
 {
     let weights = short_weights(down);
     for k in 0..area.height / 2 {
@@ -236,8 +242,8 @@ fn sum_row_pairs<T: Pixel, const INNER: bool>(
     }
 }
 
-/// A strip of 8 columns and an even number of rows that is filtered down its columns alone, by a filter whose outer two weights are 0 where
-/// `INNER` is true.
+/// A strip of 8 columns and an even number of rows that is filtered down its columns alone, by a filter whose outer two
+/// weights are 0 where `INNER` is true.
 #[inline(always)]
 #[tactic(auto, using(crate::proofs::Sources::strip_sources))]
 fn put_row_pairs_by<T: Pixel, const INNER: bool>(
@@ -257,7 +263,8 @@ fn put_row_pairs_by<T: Pixel, const INNER: bool>(
     requires depths { IsDepth bit_depth }
     requires depth { bit_depth ≤ T.BITS }
     requires within { AreWithinDepth bit_depth (samples_from T.num corner) 15 (area.height + 7) }
-    ensures { samples.new ≡ paint stride area (λ r c _. T.pixel (clip bit_depth (round_shift (down_samples down.now (samples_from T.num corner.entry) r c) 7))) samples.old }
+    ensures { samples.new ≡ paint stride area (λ r c _. T.pixel (clip bit_depth (round_shift (down_samples down.now (samples_from T.num corner.entry) r c) 7)))
+        samples.old }
 {
     sum_row_pairs::<T, INNER>(
         samples,
@@ -287,7 +294,8 @@ pub(crate) fn put_row_pairs<T: Pixel>(
     requires depths { IsDepth bit_depth }
     requires depth { bit_depth ≤ T.BITS }
     requires within { AreWithinDepth bit_depth (samples_from T.num corner) 15 (area.height + 7) }
-    ensures { samples.new ≡ paint stride area (λ r c _. T.pixel (clip bit_depth (round_shift (down_samples down.now (samples_from T.num corner.entry) r c) 7))) samples.old }
+    ensures { samples.new ≡ paint stride area (λ r c _. T.pixel (clip bit_depth (round_shift (down_samples down.now (samples_from T.num corner.entry) r c) 7)))
+        samples.old }
 {
     if is_inner(down) {
         put_row_pairs_by::<T, true>(samples, stride, area, corner, down, bit_depth);

@@ -34,11 +34,12 @@ fn is_reference(reference: RefType) -> bool
     !matches!(reference, RefType::INTRA_FRAME | RefType::NONE_FRAME)
 }
 
-/// Predicts a block from one reference: each sample of the first `height` rows and `width` columns of `dst` becomes that of plane `p`
-/// (0 for luma, 1 and 2 for chroma) of the reference, moved by `mv` and interpolated with the frame's filter.
+/// Predicts a block from one reference: each sample of the first `height` rows and `width` columns of `dst` becomes
+/// that of plane `p` (0 for luma, 1 and 2 for chroma) of the reference, moved by `mv` and interpolated with the frame's
+/// filter.
 ///
-/// The block begins at `po`, counted from the tile's first sample. The reference's plane is padded, and reads past its sides give the
-/// nearest visible sample, however far the vector leads. Where the slot is empty, nothing is written.
+/// The block begins at `po`, counted from the tile's first sample. The reference's plane is padded, and reads past its
+/// sides give the nearest visible sample, however far the vector leads. Where the slot is empty, nothing is written.
 pub fn predict_inter_single<T: Pixel>(
     mode: PredictionMode,
     fi: &FrameInvariants<T>,
@@ -93,7 +94,8 @@ fn prepare_from<T: Pixel>(
     requires high { height ≤ 128 }
     requires depths { IsDepth fi.now.bit_depth }
     requires reference { IsServed T.num fi.now reference p width height }
-    ensures { (plane : _) → slot_plane fi.now (slot_of fi.now reference) p ≡ Some plane → (r c : ℕ) → r < height → c < width → entry tmp.new (r * width + c) ≡ moved_prepared T.num fi.now.bit_depth fi.now.default_filter plane at.x at.y mv width height r c }
+    ensures { (plane : _) → slot_plane fi.now (slot_of fi.now reference) p ≡ Some plane → (r c : ℕ) → r < height → c < width →
+        entry tmp.new (r * width + c) ≡ moved_prepared T.num fi.now.bit_depth fi.now.default_filter plane at.x at.y mv width height r c }
 {
     if let Some(plane) = fi.slot(slot_of(fi, reference), p) {
         let filter = fi.default_filter;
@@ -137,9 +139,9 @@ fn predict_over<T: Pixel>(
     mc_avg(dst, tmp1, tmp2, width, height, bit_depth);
 }
 
-/// Predicts a block from two references: each sample of the first `height` rows and `width` columns of `dst` becomes the average of the
-/// two that `predict_inter_single` interpolates, which are rounded only then. Conditions and places are those of `predict_inter_single`.
-/// What a reference whose slot is empty gives is not said.
+/// Predicts a block from two references: each sample of the first `height` rows and `width` columns of `dst` becomes
+/// the average of the two that `predict_inter_single` interpolates, which are rounded only then. Conditions and places
+/// are those of `predict_inter_single`. What a reference whose slot is empty gives is not said.
 pub fn predict_inter_compound<T: Pixel>(
     mode: PredictionMode,
     fi: &FrameInvariants<T>,
@@ -215,10 +217,12 @@ pub fn predict_inter<T: Pixel>(
     requires first { IsServed T.num fi.now (reference_of ref_frames 0) p width height }
     requires second { is_reference (reference_of ref_frames 1) ≡ true → IsServed T.num fi.now (reference_of ref_frames 1) p width height }
     ensures single { is_reference (reference_of ref_frames 1) ≡ false →
-        PredictsSingle T.num T.pixel fi.now p (reference_of ref_frames 0) (pos tile_rect.x +ℤ po.x) (pos tile_rect.y +ℤ po.y) (vector_of mvs 0) width height dst.old dst.new }
+        PredictsSingle T.num T.pixel fi.now p (reference_of ref_frames 0) (pos tile_rect.x +ℤ po.x) (pos tile_rect.y +ℤ po.y)
+        (vector_of mvs 0) width height dst.old dst.new }
     ensures compound { is_reference (reference_of ref_frames 1) ≡ true →
         PredictsCompound T.num T.pixel fi.now p ref_frames (pos tile_rect.x +ℤ po.x) (pos tile_rect.y +ℤ po.y) mvs width height dst.old dst.new }
-    ensures empty { is_reference (reference_of ref_frames 1) ≡ false → slot_plane fi.now (slot_of fi.now (reference_of ref_frames 0)) p ≡ None → dst.new ≡ dst.old }
+    ensures empty { is_reference (reference_of ref_frames 1) ≡ false → slot_plane fi.now (slot_of fi.now (reference_of ref_frames 0)) p ≡ None →
+        dst.new ≡ dst.old }
     ensures fits { InStorage dst.new }
 {
     let [first, second] = ref_frames;

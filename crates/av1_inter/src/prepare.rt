@@ -63,7 +63,9 @@ fn prepare_rows<T: Pixel, const N: usize>(
     requires stored { IsStoredFrom corner (N + 7) (height + 7) }
     requires depths { IsDepth bit_depth }
     requires within { AreWithinDepth bit_depth (samples_from T.num corner) (N + 7) (height + 7) }
-    ensures value { (r c : ℕ) → r < height → c < N → entry tmp.new (r * width + start + c) ≡ intermediate bit_depth across.now.fraction across.now.taps (samples_from T.num corner.entry) (r + 3) c -ℤ bias bit_depth }
+    ensures value { (r c : ℕ) → r < height → c < N →
+        entry tmp.new (r * width + start + c) ≡ intermediate bit_depth across.now.fraction across.now.taps (samples_from T.num corner.entry)
+        (r + 3) c -ℤ bias bit_depth }
     ensures others { (i : ℕ) → ((r : ℕ) → r < height → IsBeside (r * width + start) N i) → entry tmp.new i ≡ entry tmp.old i }
 {
     // A copy of its own can't be what is written, so its weights stay in registers.
@@ -94,7 +96,9 @@ fn prepare_filtered<T: Pixel, const N: usize>(
     requires stored { IsStoredFrom corner (N + 7) (height + 7) }
     requires depths { IsDepth bit_depth }
     requires within { AreWithinDepth bit_depth (samples_from T.num corner) (N + 7) (height + 7) }
-    ensures value { (r c : ℕ) → r < height → c < N → entry tmp.new (r * width + start + c) ≡ intermediate bit_depth across.now.fraction across.now.taps (samples_from T.num corner.entry) (r + 3) c -ℤ bias bit_depth }
+    ensures value { (r c : ℕ) → r < height → c < N →
+        entry tmp.new (r * width + start + c) ≡ intermediate bit_depth across.now.fraction across.now.taps (samples_from T.num corner.entry)
+        (r + 3) c -ℤ bias bit_depth }
     ensures others { (i : ℕ) → ((r : ℕ) → r < height → IsBeside (r * width + start) N i) → entry tmp.new i ≡ entry tmp.old i }
 {
     prepare_rows::<T, N>(tmp, corner, start, width, height, across, bit_depth);
@@ -120,7 +124,8 @@ fn prepare_copy<T: Pixel, const N: usize>(
     requires stored { IsStoredFrom corner (N + 7) (height + 7) }
     requires depths { IsDepth bit_depth }
     requires within { AreWithinDepth bit_depth (samples_from T.num corner) (N + 7) (height + 7) }
-    ensures value { (r c : ℕ) → r < height → c < N → entry tmp.new (r * width + start + c) ≡ intermediate bit_depth 0 across.now.taps (samples_from T.num corner.entry) (r + 3) c -ℤ bias bit_depth }
+    ensures value { (r c : ℕ) → r < height → c < N →
+        entry tmp.new (r * width + start + c) ≡ intermediate bit_depth 0 across.now.taps (samples_from T.num corner.entry) (r + 3) c -ℤ bias bit_depth }
     ensures others { (i : ℕ) → ((r : ℕ) → r < height → IsBeside (r * width + start) N i) → entry tmp.new i ≡ entry tmp.old i }
 {
     let across = Filter {
@@ -152,7 +157,9 @@ fn prepare_columns<T: Pixel, const N: usize>(
     requires stored { IsStoredFrom corner (N + 7) (height + 7) }
     requires depths { IsDepth bit_depth }
     requires within { AreWithinDepth bit_depth (samples_from T.num corner) (N + 7) (height + 7) }
-    ensures value { (r c : ℕ) → r < height → c < N → entry tmp.new (r * width + start + c) ≡ round_shift (down_intermediate bit_depth across.now.fraction across.now.taps down.now.taps (samples_from T.num corner.entry) r c) 7 -ℤ bias bit_depth }
+    ensures value { (r c : ℕ) → r < height → c < N →
+        entry tmp.new (r * width + start + c) ≡
+        round_shift (down_intermediate bit_depth across.now.fraction across.now.taps down.now.taps (samples_from T.num corner.entry) r c) 7 -ℤ bias bit_depth }
     ensures others { (i : ℕ) → ((r : ℕ) → r < height → IsBeside (r * width + start) N i) → entry tmp.new i ≡ entry tmp.old i }
 {
     let across = *across;
@@ -185,7 +192,9 @@ fn prepare_columns_alone<T: Pixel, const N: usize>(
     requires stored { IsStoredFrom corner (N + 7) (height + 7) }
     requires depths { IsDepth bit_depth }
     requires within { AreWithinDepth bit_depth (samples_from T.num corner) (N + 7) (height + 7) }
-    ensures value { (r c : ℕ) → r < height → c < N → entry tmp.new (r * width + start + c) ≡ round_shift (down_samples down.now (samples_from T.num corner.entry) r c) (7 - intermediate_bits bit_depth) -ℤ bias bit_depth }
+    ensures value { (r c : ℕ) → r < height → c < N →
+        entry tmp.new (r * width + start + c) ≡ round_shift (down_samples down.now (samples_from T.num corner.entry) r c)
+        (7 - intermediate_bits bit_depth) -ℤ bias bit_depth }
     ensures others { (i : ℕ) → ((r : ℕ) → r < height → IsBeside (r * width + start) N i) → entry tmp.new i ≡ entry tmp.old i }
 {
     // A copy of its own can't be what is written, so its weights stay in registers.
@@ -220,7 +229,9 @@ fn prepare_block<T: Pixel, const N: usize>(
     requires stored { IsStoredFrom corner (N + 7) (height + 7) }
     requires depths { IsDepth bit_depth }
     requires within { AreWithinDepth bit_depth (samples_from T.num corner) (N + 7) (height + 7) }
-    ensures value { (r c : ℕ) → r < height → c < N → entry tmp.new (r * width + start + c) ≡ prepared bit_depth across.now.fraction down.now.fraction across.now.taps down.now.taps (samples_from T.num corner.entry) r c }
+    ensures value { (r c : ℕ) → r < height → c < N →
+        entry tmp.new (r * width + start + c) ≡
+        prepared bit_depth across.now.fraction down.now.fraction across.now.taps down.now.taps (samples_from T.num corner.entry) r c }
     ensures others { (i : ℕ) → ((r : ℕ) → r < height → IsBeside (r * width + start) N i) → entry tmp.new i ≡ entry tmp.old i }
 {
     if down.fraction == 0 && across.fraction == 0 {
@@ -258,7 +269,9 @@ fn prepare_columns_of<T: Pixel>(
     requires stored { IsStoredFrom corner (columns + 7) (height + 7) }
     requires depths { IsDepth bit_depth }
     requires within { AreWithinDepth bit_depth (samples_from T.num corner) (columns + 7) (height + 7) }
-    ensures value { (r c : ℕ) → r < height → c < columns → entry tmp.new (r * width + start + c) ≡ prepared bit_depth across.now.fraction down.now.fraction across.now.taps down.now.taps (samples_from T.num corner.entry) r c }
+    ensures value { (r c : ℕ) → r < height → c < columns →
+        entry tmp.new (r * width + start + c) ≡
+        prepared bit_depth across.now.fraction down.now.fraction across.now.taps down.now.taps (samples_from T.num corner.entry) r c }
     ensures others { (i : ℕ) → ((r : ℕ) → r < height → IsBeside (r * width + start) columns i) → entry tmp.new i ≡ entry tmp.old i }
 {
     if columns == 32 {
@@ -297,7 +310,9 @@ fn prepare_strip<T: Pixel>(
     requires stored { IsStoredFrom corner (start + columns + 7) (height + 7) }
     requires depths { IsDepth bit_depth }
     requires within { AreWithinDepth bit_depth (samples_from T.num corner) (start + columns + 7) (height + 7) }
-    ensures value { (r c : ℕ) → r < height → c < columns → entry tmp.new (r * width + start + c) ≡ prepared bit_depth across.now.fraction down.now.fraction across.now.taps down.now.taps (samples_from T.num corner.entry) r (start + c) }
+    ensures value { (r c : ℕ) → r < height → c < columns →
+        entry tmp.new (r * width + start + c) ≡
+        prepared bit_depth across.now.fraction down.now.fraction across.now.taps down.now.taps (samples_from T.num corner.entry) r (start + c) }
     ensures others { (i : ℕ) → ((r : ℕ) → r < height → IsBeside (r * width + start) columns i) → entry tmp.new i ≡ entry tmp.old i }
 {
     let place = taps_of_strip(corner, start);
@@ -324,7 +339,9 @@ fn prepare_strips<T: Pixel>(
     requires stored { IsStoredFrom corner (width + 7) (height + 7) }
     requires depths { IsDepth bit_depth }
     requires within { AreWithinDepth bit_depth (samples_from T.num corner) (width + 7) (height + 7) }
-    ensures value { (r c : ℕ) → r < height → c < width → entry tmp.new (r * width + c) ≡ prepared bit_depth across.now.fraction down.now.fraction across.now.taps down.now.taps (samples_from T.num corner.entry) r c }
+    ensures value { (r c : ℕ) → r < height → c < width →
+        entry tmp.new (r * width + c) ≡ prepared bit_depth across.now.fraction down.now.fraction across.now.taps down.now.taps (samples_from T.num corner.entry)
+        r c }
     ensures others { (i : ℕ) → height * width ≤ i → entry tmp.new i ≡ entry tmp.old i }
 {
     // Sums of 32 bits for 32 columns at once don't stay in registers.
@@ -358,7 +375,9 @@ fn prepare_whole<T: Pixel>(
     requires stored { IsStoredFrom corner (width + 7) (height + 7) }
     requires depths { IsDepth bit_depth }
     requires within { AreWithinDepth bit_depth (samples_from T.num corner) (width + 7) (height + 7) }
-    ensures value { (r c : ℕ) → r < height → c < width → entry tmp.new (r * width + c) ≡ prepared bit_depth across.now.fraction down.now.fraction across.now.taps down.now.taps (samples_from T.num corner.entry) r c }
+    ensures value { (r c : ℕ) → r < height → c < width →
+        entry tmp.new (r * width + c) ≡ prepared bit_depth across.now.fraction down.now.fraction across.now.taps down.now.taps (samples_from T.num corner.entry)
+        r c }
     ensures others { (i : ℕ) → height * width ≤ i → entry tmp.new i ≡ entry tmp.old i }
 {
     if is_one_strip(width) {
@@ -370,9 +389,10 @@ fn prepare_whole<T: Pixel>(
     }
 }
 
-/// Prepares a block for the average with another: entry `r * width + c` of `tmp` becomes the value for row r and column c of the block
-/// at its place from `src` on, moved right by `col_frac` and down by `row_frac` sixteenths of a sample. It keeps more bits than a
-/// sample, and is moved down by a bias where the depth is over 8, so that it fits 16 bits. All other entries stay.
+/// Prepares a block for the average with another: entry `r * width + c` of `tmp` becomes the value for row r and column
+/// c of the block at its place from `src` on, moved right by `col_frac` and down by `row_frac` sixteenths of a sample.
+/// It keeps more bits than a sample, and is moved down by a bias where the depth is over 8, so that it fits 16 bits.
+/// All other entries stay.
 ///
 /// The filters are those of `put_8tap`, and so is what has to be stored round the block.
 pub fn prep_8tap<T: Pixel>(
@@ -395,7 +415,8 @@ pub fn prep_8tap<T: Pixel>(
     requires depths { IsDepth bit_depth }
     requires within { AreWithinDepth bit_depth (samples_from T.num (corner_of src)) (width + 7) (height + 7) }
     ensures value { (r c : ℕ) → r < height → c < width → entry tmp.new (r * width + c) ≡
-        prepared bit_depth (unsigned_abs col_frac) (unsigned_abs row_frac) (filter_of mode_x (unsigned_abs col_frac) width) (filter_of mode_y (unsigned_abs row_frac) height) (samples_from T.num (corner_of src.entry)) r c }
+        prepared bit_depth (unsigned_abs col_frac) (unsigned_abs row_frac) (filter_of mode_x (unsigned_abs col_frac) width)
+        (filter_of mode_y (unsigned_abs row_frac) height) (samples_from T.num (corner_of src.entry)) r c }
     ensures others { (i : ℕ) → height * width ≤ i → entry tmp.new i ≡ entry tmp.old i }
 {
     let across = get_filter(mode_x, col_frac, width);

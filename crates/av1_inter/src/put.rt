@@ -77,7 +77,11 @@ fn put_rows<T: Pixel, const N: usize>(
     requires depths { IsDepth bit_depth }
     requires depth { bit_depth ≤ T.BITS }
     requires within { AreWithinDepth bit_depth (samples_from T.num corner) (area.width + 7) (area.height + 7) }
-    ensures { samples.new ≡ paint stride area (λ r c _. T.pixel (clip bit_depth (round_shift (intermediate bit_depth across.now.fraction across.now.taps (samples_from T.num corner.entry) (r + 3) c) (intermediate_bits bit_depth)))) samples.old }
+    ensures { samples.new ≡
+        paint stride area
+        (λ r c _.
+        T.pixel (clip bit_depth (round_shift (intermediate bit_depth across.now.fraction across.now.taps (samples_from T.num corner.entry) (r + 3) c)
+        (intermediate_bits bit_depth)))) samples.old }
 {
     // A copy of its own can't be what is written, so its weights stay in registers.
     let across = *across;
@@ -111,7 +115,12 @@ fn put_columns<T: Pixel, const N: usize>(
     requires depths { IsDepth bit_depth }
     requires depth { bit_depth ≤ T.BITS }
     requires within { AreWithinDepth bit_depth (samples_from T.num corner) (area.width + 7) (area.height + 7) }
-    ensures { samples.new ≡ paint stride area (λ r c _. T.pixel (clip bit_depth (round_shift (down_intermediate bit_depth across.now.fraction across.now.taps down.now.taps (samples_from T.num corner.entry) r c) (7 + intermediate_bits bit_depth)))) samples.old }
+    ensures { samples.new ≡
+        paint stride area
+        (λ r c _.
+        T.pixel (clip bit_depth
+        (round_shift (down_intermediate bit_depth across.now.fraction across.now.taps down.now.taps (samples_from T.num corner.entry) r c)
+        (7 + intermediate_bits bit_depth)))) samples.old }
 {
     let across = *across;
     let down = *down;
@@ -143,7 +152,11 @@ fn put_along<T: Pixel, const N: usize>(
     requires depths { IsDepth bit_depth }
     requires depth { bit_depth ≤ T.BITS }
     requires within { AreWithinDepth bit_depth (samples_from T.num corner) (area.width + 7) (area.height + 7) }
-    ensures { samples.new ≡ paint stride area (λ r c _. T.pixel (clip bit_depth (round_shift (intermediate bit_depth across.now.fraction across.now.taps (samples_from T.num corner.entry) (r + 3) c) (intermediate_bits bit_depth)))) samples.old }
+    ensures { samples.new ≡
+        paint stride area
+        (λ r c _.
+        T.pixel (clip bit_depth (round_shift (intermediate bit_depth across.now.fraction across.now.taps (samples_from T.num corner.entry) (r + 3) c)
+        (intermediate_bits bit_depth)))) samples.old }
 {
     if across.fraction == 0 {
         put_rows::<T, N>(samples, stride, area, corner, across, bit_depth);
@@ -173,7 +186,10 @@ fn put_block<T: Pixel, const N: usize>(
     requires depths { IsDepth bit_depth }
     requires depth { bit_depth ≤ T.BITS }
     requires within { AreWithinDepth bit_depth (samples_from T.num corner) (area.width + 7) (area.height + 7) }
-    ensures { samples.new ≡ paint stride area (λ r c _. T.pixel (single bit_depth across.now.fraction down.now.fraction across.now.taps down.now.taps (samples_from T.num corner.entry) r c)) samples.old }
+    ensures { samples.new ≡
+        paint stride area
+        (λ r c _. T.pixel (single bit_depth across.now.fraction down.now.fraction across.now.taps down.now.taps (samples_from T.num corner.entry) r c))
+        samples.old }
 {
     if down.fraction == 0 {
         put_along::<T, N>(samples, stride, area, corner, across, bit_depth);
@@ -205,7 +221,10 @@ fn put_columns_of<T: Pixel>(
     requires depths { IsDepth bit_depth }
     requires depth { bit_depth ≤ T.BITS }
     requires within { AreWithinDepth bit_depth (samples_from T.num corner) (area.width + 7) (area.height + 7) }
-    ensures { samples.new ≡ paint stride area (λ r c _. T.pixel (single bit_depth across.now.fraction down.now.fraction across.now.taps down.now.taps (samples_from T.num corner.entry) r c)) samples.old }
+    ensures { samples.new ≡
+        paint stride area
+        (λ r c _. T.pixel (single bit_depth across.now.fraction down.now.fraction across.now.taps down.now.taps (samples_from T.num corner.entry) r c))
+        samples.old }
 {
     if area.width == 32 {
         put_block::<T, 32>(samples, stride, area, corner, across, down, bit_depth);
@@ -243,7 +262,10 @@ fn put_strip<T: Pixel>(
     requires depths { IsDepth bit_depth }
     requires depth { bit_depth ≤ T.BITS }
     requires within { AreWithinDepth bit_depth (samples_from T.num corner) (start + columns + 7) (area.height + 7) }
-    ensures { samples.new ≡ paint stride (strip_of area start columns area.height) (λ r c _. T.pixel (single bit_depth across.now.fraction down.now.fraction across.now.taps down.now.taps (samples_from T.num corner.entry) r (start + c))) samples.old }
+    ensures { samples.new ≡ paint stride (strip_of area start columns area.height)
+        (λ r c _.
+        T.pixel (single bit_depth across.now.fraction down.now.fraction across.now.taps down.now.taps (samples_from T.num corner.entry) r (start + c)))
+        samples.old }
 {
     let x = area.x + start;
     let strip = StoredArea {
@@ -275,7 +297,10 @@ fn put_strips<T: Pixel>(
     requires depths { IsDepth bit_depth }
     requires depth { bit_depth ≤ T.BITS }
     requires within { AreWithinDepth bit_depth (samples_from T.num corner) (area.width + 7) (area.height + 7) }
-    ensures { samples.new ≡ paint stride area (λ r c _. T.pixel (single bit_depth across.now.fraction down.now.fraction across.now.taps down.now.taps (samples_from T.num corner.entry) r c)) samples.old }
+    ensures { samples.new ≡
+        paint stride area
+        (λ r c _. T.pixel (single bit_depth across.now.fraction down.now.fraction across.now.taps down.now.taps (samples_from T.num corner.entry) r c))
+        samples.old }
 {
     let mut start = 0;
     while start < area.width {
@@ -307,7 +332,10 @@ pub(crate) fn put_filtered<T: Pixel>(
     requires depths { IsDepth bit_depth }
     requires depth { bit_depth ≤ T.BITS }
     requires within { AreWithinDepth bit_depth (samples_from T.num corner) (area.width + 7) (area.height + 7) }
-    ensures { samples.new ≡ paint stride area (λ r c _. T.pixel (single bit_depth across.now.fraction down.now.fraction across.now.taps down.now.taps (samples_from T.num corner.entry) r c)) samples.old }
+    ensures { samples.new ≡
+        paint stride area
+        (λ r c _. T.pixel (single bit_depth across.now.fraction down.now.fraction across.now.taps down.now.taps (samples_from T.num corner.entry) r c))
+        samples.old }
 {
     if is_one_strip(area.width) && (area.width != 32 || bit_depth == 8) {
         put_columns_of(samples, stride, area, corner, across, down, bit_depth);
@@ -316,12 +344,12 @@ pub(crate) fn put_filtered<T: Pixel>(
     }
 }
 
-/// Predicts the samples of a rectangle from one reference: each becomes the one at its place from `src` on, moved right by `col_frac`
-/// and down by `row_frac` sixteenths of a sample. The rows of `samples` stand `stride` apart.
+/// Predicts the samples of a rectangle from one reference: each becomes the one at its place from `src` on, moved right
+/// by `col_frac` and down by `row_frac` sixteenths of a sample. The rows of `samples` stand `stride` apart.
 ///
-/// `mode_x` filters along the rows and `mode_y` down the columns; a side up to 4 takes the filters for such sides. The sums are rounded
-/// once after each filter, and at the end clipped to the depth. From the place on 3 columns and rows before the block and 4 after it
-/// have to be stored, at every fraction.
+/// `mode_x` filters along the rows and `mode_y` down the columns; a side up to 4 takes the filters for such sides. The
+/// sums are rounded once after each filter, and at the end clipped to the depth. From the place on 3 columns and rows
+/// before the block and 4 after it have to be stored, at every fraction.
 pub fn put_8tap_to<T: Pixel>(
     samples: &mut [T],
     stride: usize,
@@ -343,7 +371,8 @@ pub fn put_8tap_to<T: Pixel>(
     requires depth { bit_depth ≤ T.BITS }
     requires within { AreWithinDepth bit_depth (samples_from T.num (corner_of src)) (area.width + 7) (area.height + 7) }
     ensures { samples.new ≡ paint stride area (λ r c _. T.pixel
-        (single bit_depth (unsigned_abs col_frac) (unsigned_abs row_frac) (filter_of mode_x (unsigned_abs col_frac) area.width) (filter_of mode_y (unsigned_abs row_frac) area.height) (samples_from T.num (corner_of src.entry)) r c)) samples.old }
+        (single bit_depth (unsigned_abs col_frac) (unsigned_abs row_frac) (filter_of mode_x (unsigned_abs col_frac) area.width)
+        (filter_of mode_y (unsigned_abs row_frac) area.height) (samples_from T.num (corner_of src.entry)) r c)) samples.old }
 {
     let corner = taps_of_block(src);
     if is_square::<4>(area) {
@@ -363,12 +392,12 @@ pub fn put_8tap_to<T: Pixel>(
     }
 }
 
-/// Predicts a block from one reference: each sample of the first `height` rows and `width` columns of `dst` becomes the one at its
-/// place from `src` on, moved right by `col_frac` and down by `row_frac` sixteenths of a sample.
+/// Predicts a block from one reference: each sample of the first `height` rows and `width` columns of `dst` becomes the
+/// one at its place from `src` on, moved right by `col_frac` and down by `row_frac` sixteenths of a sample.
 ///
-/// `mode_x` filters along the rows and `mode_y` down the columns; a side up to 4 takes the filters for such sides. The sums are rounded
-/// once after each filter, and at the end clipped to the depth. From the place on 3 columns and rows before the block and 4 after it
-/// have to be stored, at every fraction.
+/// `mode_x` filters along the rows and `mode_y` down the columns; a side up to 4 takes the filters for such sides. The
+/// sums are rounded once after each filter, and at the end clipped to the depth. From the place on 3 columns and rows
+/// before the block and 4 after it have to be stored, at every fraction.
 #[tactic(auto, using(av1_frame::proofs::Regions::region_lending))]
 pub fn put_8tap<T: Pixel>(
     dst: &mut PlaneRegionMut<'_, T>,
@@ -393,7 +422,8 @@ pub fn put_8tap<T: Pixel>(
     requires depth { bit_depth ≤ T.BITS }
     requires within { AreWithinDepth bit_depth (samples_from T.num (corner_of src)) (width + 7) (height + 7) }
     ensures painted { dst.new ≡ painted dst.old width height (λ r c _. T.pixel
-        (single bit_depth (unsigned_abs col_frac) (unsigned_abs row_frac) (filter_of mode_x (unsigned_abs col_frac) width) (filter_of mode_y (unsigned_abs row_frac) height) (samples_from T.num (corner_of src.entry)) r c)) }
+        (single bit_depth (unsigned_abs col_frac) (unsigned_abs row_frac) (filter_of mode_x (unsigned_abs col_frac) width)
+        (filter_of mode_y (unsigned_abs row_frac) height) (samples_from T.num (corner_of src.entry)) r c)) }
     ensures fits { InStorage dst.new }
 {
     let stride = dst.plane_cfg.stride;

@@ -1,7 +1,8 @@
 //! Blocks of 4x4 and of 8x8 samples.
 //!
-//! Their sides are known before they run, so that only the filters that a block takes are looked up, and a block of 4x4 samples of 8 bits
-//! that is filtered along one direction alone is written out: four rows, and for each sample a sum of four products.
+//! Their sides are known before they run, so that only the filters that a block takes are looked up, and a block of 4x4
+//! samples of 8 bits that is filtered along one direction alone is written out: four rows, and for each sample a sum of
+//! four products.
 //!
 //! AV1 specification: block inter prediction process.
 
@@ -50,7 +51,11 @@ fn put_square_rows<T: Pixel, const N: usize>(
     requires depths { IsDepth bit_depth }
     requires depth { bit_depth ≤ T.BITS }
     requires within { AreWithinDepth bit_depth (samples_from T.num corner) (N + 7) (N + 7) }
-    ensures { samples.new ≡ paint stride (square_at N x y) (λ r c _. T.pixel (clip bit_depth (round_shift (round_shift (weighted (filter_of mode (unsigned_abs col_frac) N) (λ t. pos (samples_from T.num corner.entry (c + t) (r + 3)))) (7 - intermediate_bits bit_depth)) (intermediate_bits bit_depth)))) samples.old }
+    ensures { samples.new ≡ paint stride (square_at N x y)
+        (λ r c _.
+        T.pixel (clip bit_depth
+        (round_shift (round_shift (weighted (filter_of mode (unsigned_abs col_frac) N) (λ t. pos (samples_from T.num corner.entry (c + t) (r + 3))))
+        (7 - intermediate_bits bit_depth)) (intermediate_bits bit_depth)))) samples.old }
 {
     let across = get_filter(mode, col_frac, N);
     let square = StoredArea {
@@ -85,7 +90,9 @@ fn put_square_columns<T: Pixel, const N: usize>(
     requires depths { IsDepth bit_depth }
     requires depth { bit_depth ≤ T.BITS }
     requires within { AreWithinDepth bit_depth (samples_from T.num corner) (N + 7) (N + 7) }
-    ensures { samples.new ≡ paint stride (square_at N x y) (λ r c _. T.pixel (clip bit_depth (round_shift (down_samples (filter_of mode (unsigned_abs row_frac) N) (samples_from T.num corner.entry) r c) 7))) samples.old }
+    ensures { samples.new ≡ paint stride (square_at N x y)
+        (λ r c _. T.pixel (clip bit_depth (round_shift (down_samples (filter_of mode (unsigned_abs row_frac) N) (samples_from T.num corner.entry) r c) 7)))
+        samples.old }
 {
     let down = get_filter(mode, row_frac, N);
     let square = StoredArea {
@@ -124,7 +131,8 @@ pub(crate) fn put_square<T: Pixel, const N: usize>(
     requires depth { bit_depth ≤ T.BITS }
     requires within { AreWithinDepth bit_depth (samples_from T.num corner) (N + 7) (N + 7) }
     ensures { samples.new ≡ paint stride (square_at N x y) (λ r c _. T.pixel
-        (single bit_depth (unsigned_abs col_frac) (unsigned_abs row_frac) (filter_of mode_x (unsigned_abs col_frac) N) (filter_of mode_y (unsigned_abs row_frac) N) (samples_from T.num corner.entry) r c)) samples.old }
+        (single bit_depth (unsigned_abs col_frac) (unsigned_abs row_frac) (filter_of mode_x (unsigned_abs col_frac) N)
+        (filter_of mode_y (unsigned_abs row_frac) N) (samples_from T.num corner.entry) r c)) samples.old }
 {
     if row_frac == 0 {
         if col_frac == 0 {

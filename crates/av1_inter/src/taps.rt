@@ -13,7 +13,8 @@ pub(crate) fn taps_of_block<T: Pixel>(src: PlaneSlice<'_, T>) -> PlaneSlice<'_, 
     requires { (columns : ℕ) × (rows : ℕ) × IsStoredFrom (corner_of src) columns rows }
     ensures place { result ≡ corner_of src.entry }
     ensures stored { (columns rows : ℕ) → IsStoredFrom (corner_of src.entry) columns rows → IsStoredFrom result columns rows }
-    ensures within { (depth columns rows : ℕ) → AreWithinDepth depth (samples_from T.num (corner_of src.entry)) columns rows → AreWithinDepth depth (samples_from T.num result) columns rows }
+    ensures within { (depth columns rows : ℕ) → AreWithinDepth depth (samples_from T.num (corner_of src.entry)) columns rows →
+        AreWithinDepth depth (samples_from T.num result) columns rows }
 {
     src.go_left(3).go_up(3)
 }

@@ -25,7 +25,8 @@ fn keep_row<T: Pixel, const N: usize>(
     requires filter { IsFilter across.now.taps }
     requires stored { IsStoredFrom corner (N + 7) (y + 1) }
     requires short { N ≤ 128 }
-    ensures value { (c : ℕ) → c < N → entry (kept rows.new y) c ≡ intermediate bit_depth across.now.fraction across.now.taps (samples_from T.num corner.entry) y c }
+    ensures value { (c : ℕ) → c < N →
+        entry (kept rows.new y) c ≡ intermediate bit_depth across.now.fraction across.now.taps (samples_from T.num corner.entry) y c }
     ensures others { (j : ℕ) → j % 8 ≢ y % 8 → kept rows.new j ≡ kept rows.old j }
 {
     rows[y % 8] = filter_horizontal::<T, N>(corner.row(y), across, bit_depth);
@@ -68,7 +69,8 @@ pub(crate) fn next_sums<T: Pixel, const N: usize>(
     requires room { r < 2 ^ 31 }
     requires kept { Keeps rows.old r (r + 7) N (intermediate bit_depth across.now.fraction across.now.taps (samples_from T.num corner)) }
     ensures kept { Keeps rows.new (r + 1) (r + 8) N (intermediate bit_depth across.now.fraction across.now.taps (samples_from T.num corner.entry)) }
-    ensures value { (c : ℕ) → c < N → entry result c ≡ down_intermediate bit_depth across.now.fraction across.now.taps down.now.taps (samples_from T.num corner.entry) r c }
+    ensures value { (c : ℕ) → c < N →
+        entry result c ≡ down_intermediate bit_depth across.now.fraction across.now.taps down.now.taps (samples_from T.num corner.entry) r c }
     ensures within { (c : ℕ) → c < N → IsWithin (2 ^ 30) (entry result c) }
 {
     keep_row::<T, N>(rows, corner, r + 7, across, bit_depth);

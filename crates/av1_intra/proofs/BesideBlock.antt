@@ -1,6 +1,8 @@
 -- The samples of a left side that lie beside a block.
-use Rattle.std.proofs.Common.{ℕ, ◌+◌, ◌-◌, ◌/◌, ◌<◌, ◌≤◌, ◌≡◌, List, ◌++◌, length, get_or, take, drop, map, reverse, sum, arith, ap, ◌∙◌, sym, subst, refl, eqb, true, false}
-use Rattle.std.proofs.lemmas.List.{take-append-drop, reverse-append, take-map, drop-map, length-map, length-append, length-reverse, length-drop, get_or-reverse, get_or-drop}
+use Rattle.std.proofs.Common.{ℕ, ◌+◌, ◌-◌, ◌/◌, ◌<◌, ◌≤◌, ◌≡◌, List, ◌++◌, length, get_or, take, drop, map, reverse, sum, arith, ap, ◌∙◌, sym, subst, refl, eqb}
+use Rattle.std.proofs.Common.{true, false}
+use Rattle.std.proofs.lemmas.List.{take-append-drop, reverse-append, take-map, drop-map, length-map, length-append, length-reverse, length-drop, get_or-reverse}
+use Rattle.std.proofs.lemmas.List.{get_or-drop}
 use Rattle.std.proofs.lemmas.List.Sums.{sum_by-append}
 use Rattle.std.proofs.lemmas.List.Sorted.{sum_by-IsPermutation, IsPermutation-reverse}
 use Rattle.std.proofs.Math.Seq.{take-append_seam}
@@ -21,7 +23,9 @@ take_reverse h xs l =
     let n = length xs - h in
     let e : reverse xs ≡ reverse (drop n xs) ++ reverse (take n xs) = ap reverse (sym (take-append-drop n xs)) ∙ reverse-append (take n xs) (drop n xs) in
     let m : length (reverse (drop n xs)) ≡ h = length-reverse (drop n xs) ∙ (length-drop n xs ∙ omega arith) in
-    ap (take h) e ∙ subst (λ k. take k (reverse (drop n xs) ++ reverse (take n xs)) ≡ reverse (drop n xs)) m (take-append_seam (reverse (drop n xs)) (reverse (take n xs)))
+    ap (take h) e
+    ∙ subst (λ k. take k (reverse (drop n xs) ++ reverse (take n xs)) ≡ reverse (drop n xs)) m
+    (take-append_seam (reverse (drop n xs)) (reverse (take n xs)))
 
 sum_reverse : (xs : List ℕ) → sum (reverse xs) ≡ sum xs
 sum_reverse xs = sum_by-IsPermutation (λ x. x) xs (reverse xs) (IsPermutation-reverse xs)
@@ -29,8 +33,10 @@ sum_reverse xs = sum_by-IsPermutation (λ x. x) xs (reverse xs) (IsPermutation-r
 -- the mean doesn't depend on the order
 pub mean_reversed : (xs ys : List ℕ) → mean (reverse xs ++ ys) ≡ mean (xs ++ ys)
 mean_reversed xs ys =
-    let s : sum (reverse xs ++ ys) ≡ sum (xs ++ ys) = sum_by-append (λ x. x) (reverse xs) ys ∙ ap (λ n. n + sum ys) (sum_reverse xs) ∙ sym (sum_by-append (λ x. x) xs ys) in
-    let l : length (reverse xs ++ ys) ≡ length (xs ++ ys) = length-append (reverse xs) ys ∙ ap (λ n. n + length ys) (length-reverse xs) ∙ sym (length-append xs ys) in
+    let s : sum (reverse xs ++ ys) ≡ sum (xs ++ ys) = sum_by-append (λ x. x) (reverse xs) ys ∙ ap (λ n. n + sum ys) (sum_reverse xs)
+    ∙ sym (sum_by-append (λ x. x) xs ys) in
+    let l : length (reverse xs ++ ys) ≡ length (xs ++ ys) = length-append (reverse xs) ys ∙ ap (λ n. n + length ys) (length-reverse xs)
+    ∙ sym (length-append xs ys) in
     ap (λ n. (n + length (reverse xs ++ ys) / 2) / length (reverse xs ++ ys)) s ∙ ap (λ n. (sum (xs ++ ys) + n / 2) / n) l
 
 mean_reverse : (xs : List ℕ) → mean (reverse xs) ≡ mean xs
@@ -60,7 +66,8 @@ module _ {X : Type 0} (num : X → ℕ) (left side : List X) (h : ℕ) (e : side
   from_top_beside r m =
       let n : length (map num left) ≡ length left = length-map left num in
       let i : length left - h + (h - 1 - r) ≡ length (map num left) - 1 - r = omega (arith, n) in
-      ap (λ xs. get_or xs (h - 1 - r) 0) beside_numbers ∙ get_or-drop (length left - h) (map num left) (h - 1 - r) 0 ∙ ap (λ k. get_or (map num left) k 0) i ∙ sym (get_or-reverse (map num left) r 0 (omega (arith, n)))
+      ap (λ xs. get_or xs (h - 1 - r) 0) beside_numbers ∙ get_or-drop (length left - h) (map num left) (h - 1 - r) 0 ∙ ap (λ k. get_or (map num left) k 0) i
+      ∙ sym (get_or-reverse (map num left) r 0 (omega (arith, n)))
 
 -- smooth prediction by two left sides that agree on the row and on the last one
 module _ (w h : ℕ) (A L M : ℕ → ℕ) (r c : ℕ) (e : L r ≡ M r) (d : L (h - 1) ≡ M (h - 1)) where
@@ -74,9 +81,11 @@ module _ (w h : ℕ) (A L M : ℕ → ℕ) (r c : ℕ) (e : L r ≡ M r) (d : L 
   smooth_h_same = rw e refl
 
 -- a mode that mixes nothing takes the nearest neighbour
-pub smoothly_nearest : (mode : PredictionMode) (w h : ℕ) (e : Edge) (r c : ℕ) → (mode ≡ SMOOTH_PRED → ⊥) → (mode ≡ SMOOTH_V_PRED → ⊥) → (mode ≡ SMOOTH_H_PRED → ⊥) → paeth (entries e.above c) (entries e.left r) e.corner ≡ smoothly mode w h e r c
+pub smoothly_nearest : (mode : PredictionMode) (w h : ℕ) (e : Edge) (r c : ℕ) → (mode ≡ SMOOTH_PRED → ⊥) → (mode ≡ SMOOTH_V_PRED → ⊥) →
+    (mode ≡ SMOOTH_H_PRED → ⊥) → paeth (entries e.above c) (entries e.left r) e.corner ≡ smoothly mode w h e r c
 smoothly_nearest mode w h e r c =
-    elim mode as (λ m. (m ≡ SMOOTH_PRED → ⊥) → (m ≡ SMOOTH_V_PRED → ⊥) → (m ≡ SMOOTH_H_PRED → ⊥) → paeth (entries e.above c) (entries e.left r) e.corner ≡ smoothly m w h e r c) [
+    elim mode as (λ m. (m ≡ SMOOTH_PRED → ⊥) → (m ≡ SMOOTH_V_PRED → ⊥) → (m ≡ SMOOTH_H_PRED → ⊥) →
+    paeth (entries e.above c) (entries e.left r) e.corner ≡ smoothly m w h e r c) [
       | SMOOTH_PRED ↦ λ x y z. absurd (x refl)
       | SMOOTH_V_PRED ↦ λ x y z. absurd (y refl)
       | SMOOTH_H_PRED ↦ λ x y z. absurd (z refl)

@@ -1,12 +1,15 @@
 -- What each mode reads and predicts.
-use Rattle.std.proofs.Common.{ℕ, zero, suc, ◌*◌, ◌%◌, ◌≤◌, ◌≡◌, List, refl, true, false, ◌&&◌, eqb, leb, arith, ◌∙◌, sym, ap, subst, ◌⊎◌, inl, inr, ℤ, pos, negsuc, ◌+ℤ◌, ◌*ℤ◌, ◌-ℤ◌, unsigned_abs}
+use Rattle.std.proofs.Common.{ℕ, zero, suc, ◌*◌, ◌%◌, ◌≤◌, ◌≡◌, List, refl, true, false, ◌&&◌, eqb, leb, arith, ◌∙◌, sym, ap, subst, ◌⊎◌, inl, inr, ℤ, pos}
+use Rattle.std.proofs.Common.{negsuc, ◌+ℤ◌, ◌*ℤ◌, ◌-ℤ◌, unsigned_abs}
 use Rattle.std.specs.Prelude.{if◌then◌else◌}
 use Rattle.std.proofs.lemmas.Bool.Decides.{nat_tests}
 use Rattle.std.proofs.lemmas.Int.{ints}
 use Rattle.av1_blocks.specs.declared.predict.PredictionMode.{PredictionMode}
-use Rattle.av1_blocks.specs.declared.predict.PredictionMode.TheVariants.{DC_PRED, V_PRED, H_PRED, D45_PRED, D135_PRED, D113_PRED, D157_PRED, D203_PRED, D67_PRED, SMOOTH_PRED, SMOOTH_V_PRED, SMOOTH_H_PRED, PAETH_PRED, UV_CFL_PRED}
+use Rattle.av1_blocks.specs.declared.predict.PredictionMode.TheVariants.{DC_PRED, V_PRED, H_PRED, D45_PRED, D135_PRED, D113_PRED, D157_PRED, D203_PRED}
+use Rattle.av1_blocks.specs.declared.predict.PredictionMode.TheVariants.{D67_PRED, SMOOTH_PRED, SMOOTH_V_PRED, SMOOTH_H_PRED, PAETH_PRED, UV_CFL_PRED}
 use Rattle.av1_blocks.specs.declared.transform.TxSize.{TxSize}
-use Rattle.av1_blocks.specs.declared.transform.TxSize.TheVariants.{TX_4X4, TX_8X8, TX_16X16, TX_32X32, TX_64X64, TX_4X8, TX_8X4, TX_8X16, TX_16X8, TX_16X32, TX_32X16, TX_32X64, TX_64X32, TX_4X16, TX_16X4, TX_8X32, TX_32X8, TX_16X64, TX_64X16}
+use Rattle.av1_blocks.specs.declared.transform.TxSize.TheVariants.{TX_4X4, TX_8X8, TX_16X16, TX_32X32, TX_64X64, TX_4X8, TX_8X4, TX_8X16, TX_16X8, TX_16X32}
+use Rattle.av1_blocks.specs.declared.transform.TxSize.TheVariants.{TX_32X16, TX_32X64, TX_64X32, TX_4X16, TX_16X4, TX_8X32, TX_32X8, TX_16X64, TX_64X16}
 use Rattle.av1_blocks.specs.Transforms.{tx_width, tx_height}
 use Rattle.av1_lists.specs.Sides.{IsTransformSide}
 use Rattle.av1_blocks.specs.Modes.{is_intra, is_directional, is_cfl}
@@ -17,13 +20,16 @@ use Rattle.av1_intra.specs.declared.directional.DirectionalBlock.{DirectionalBlo
 use Rattle.av1_intra.specs.declared.variant.PredictionVariant.{PredictionVariant}
 use Rattle.av1_intra.specs.declared.variant.PredictionVariant.TheVariants.{NONE, LEFT, TOP, BOTH}
 use Rattle.av1_intra.specs.Angles.{is_interpolated, derivative}
-use Rattle.av1_intra.specs.Predicted.{edge_round, dc, along, smoothly, predicted, alpha_of, angle_or_alpha, is_angle_of, along_above, along_left, places_above, places_left}
+use Rattle.av1_intra.specs.Predicted.{edge_round, dc, along, smoothly, predicted, alpha_of, angle_or_alpha, is_angle_of, along_above, along_left, places_above}
+use Rattle.av1_intra.specs.Predicted.{places_left}
 use Rattle.av1_intra.proofs.ModeAngles.{turned_fine}
 
 -- DC prediction doesn't read the corner
-pub dc_corner : {T : Type 0} (num : T → ℕ) (v : PredictionVariant) (depth w h k : ℕ) (left above : List T) → dc v depth w h (edge_round num left 0 above) ≡ dc v depth w h (edge_round num left k above)
+pub dc_corner : {T : Type 0} (num : T → ℕ) (v : PredictionVariant) (depth w h k : ℕ) (left above : List T) →
+    dc v depth w h (edge_round num left 0 above) ≡ dc v depth w h (edge_round num left k above)
 dc_corner num v depth w h k left above =
-    elim v as (λ v. dc v depth w h (edge_round num left 0 above) ≡ dc v depth w h (edge_round num left k above)) [ NONE ↦ refl | LEFT ↦ refl | TOP ↦ refl | BOTH ↦ refl ]
+    elim v as (λ v. dc v depth w h (edge_round num left 0 above) ≡ dc v depth w h (edge_round num left k above))
+    [ NONE ↦ refl | LEFT ↦ refl | TOP ↦ refl | BOTH ↦ refl ]
 
 pub side_small : (n : ℕ) → IsTransformSide n → n ≤ 64
 side_small n (inl e) = omega arith
@@ -81,9 +87,11 @@ tx_height_side t =
     ]
 
 -- an intra mode that is none of these has an angle
-pub rest_directional : (mode : PredictionMode) → is_intra mode ≡ true → (mode ≡ DC_PRED → ⊥) → (mode ≡ UV_CFL_PRED → ⊥) → (mode ≡ SMOOTH_PRED → ⊥) → (mode ≡ SMOOTH_V_PRED → ⊥) → (mode ≡ SMOOTH_H_PRED → ⊥) → (mode ≡ PAETH_PRED → ⊥) → is_directional mode ≡ true
+pub rest_directional : (mode : PredictionMode) → is_intra mode ≡ true → (mode ≡ DC_PRED → ⊥) → (mode ≡ UV_CFL_PRED → ⊥) → (mode ≡ SMOOTH_PRED → ⊥) →
+    (mode ≡ SMOOTH_V_PRED → ⊥) → (mode ≡ SMOOTH_H_PRED → ⊥) → (mode ≡ PAETH_PRED → ⊥) → is_directional mode ≡ true
 rest_directional mode =
-    elim mode as (λ m. is_intra m ≡ true → (m ≡ DC_PRED → ⊥) → (m ≡ UV_CFL_PRED → ⊥) → (m ≡ SMOOTH_PRED → ⊥) → (m ≡ SMOOTH_V_PRED → ⊥) → (m ≡ SMOOTH_H_PRED → ⊥) → (m ≡ PAETH_PRED → ⊥) → is_directional m ≡ true) [
+    elim mode as (λ m. is_intra m ≡ true → (m ≡ DC_PRED → ⊥) → (m ≡ UV_CFL_PRED → ⊥) → (m ≡ SMOOTH_PRED → ⊥) → (m ≡ SMOOTH_V_PRED → ⊥) →
+    (m ≡ SMOOTH_H_PRED → ⊥) → (m ≡ PAETH_PRED → ⊥) → is_directional m ≡ true) [
       | DC_PRED ↦ λ h a b d e f x. absurd (a refl)
       | UV_CFL_PRED ↦ λ h a b d e f x. absurd (b refl)
       | SMOOTH_PRED ↦ λ h a b d e f x. absurd (d refl)
@@ -102,7 +110,8 @@ rest_directional mode =
     ]
 
 module _ (mode : PredictionMode) (h : is_directional mode ≡ true) where
-  pub predicted_along : (b : DirectionalBlock) (v : PredictionVariant) (alpha : ℤ) (ac : ℕ → ℕ → ℤ) (e : Edge) (r c : ℕ) → along b e r c ≡ predicted b v mode alpha ac e r c
+  pub predicted_along : (b : DirectionalBlock) (v : PredictionVariant) (alpha : ℤ) (ac : ℕ → ℕ → ℤ) (e : Edge) (r c : ℕ) →
+      along b e r c ≡ predicted b v mode alpha ac e r c
   unfolding predicted
   predicted_along b v alpha ac e r c =
       elim mode as (λ m. is_directional m ≡ true → along b e r c ≡ predicted b v m alpha ac e r c) [
@@ -149,7 +158,8 @@ module _ (mode : PredictionMode) (h : is_directional mode ≡ true) where
   pub angle_fine : (z : ℤ) → is_angle_of mode z ≡ true → (unsigned_abs z ≡ 90 → ⊥) → (unsigned_abs z ≡ 180 → ⊥) → is_interpolated (unsigned_abs z) ≡ true
   unfolding derivative is_interpolated
   angle_fine z =
-      elim mode as (λ m. is_directional m ≡ true → is_angle_of m z ≡ true → (unsigned_abs z ≡ 90 → ⊥) → (unsigned_abs z ≡ 180 → ⊥) → is_interpolated (unsigned_abs z) ≡ true) [
+      elim mode as (λ m. is_directional m ≡ true → is_angle_of m z ≡ true → (unsigned_abs z ≡ 90 → ⊥) → (unsigned_abs z ≡ 180 → ⊥) →
+      is_interpolated (unsigned_abs z) ≡ true) [
         | V_PRED ↦ λ h. turned_fine 90 z refl (omega arith) (omega arith)
         | H_PRED ↦ λ h. turned_fine 180 z refl (omega arith) (omega arith)
         | D45_PRED ↦ λ h. turned_fine 45 z refl (omega arith) (omega arith)
@@ -183,7 +193,8 @@ module _ (mode : PredictionMode) (v : PredictionVariant) (p w h : ℕ) (d : mode
       ] d f
 
 -- only luma's mode weighs
-pub weighed_alike : (b : DirectionalBlock) (v : PredictionVariant) (mode : PredictionMode) (x z : ℤ) (ac : ℕ → ℕ → ℤ) (e : Edge) (r c : ℕ) → (is_cfl mode ≡ true → x ≡ z) → predicted b v mode x ac e r c ≡ predicted b v mode z ac e r c
+pub weighed_alike : (b : DirectionalBlock) (v : PredictionVariant) (mode : PredictionMode) (x z : ℤ) (ac : ℕ → ℕ → ℤ) (e : Edge) (r c : ℕ) →
+    (is_cfl mode ≡ true → x ≡ z) → predicted b v mode x ac e r c ≡ predicted b v mode z ac e r c
 unfolding predicted
 weighed_alike b v mode x z ac e r c =
     elim mode as (λ m. (is_cfl m ≡ true → x ≡ z) → predicted b v m x ac e r c ≡ predicted b v m z ac e r c) [
@@ -241,7 +252,8 @@ small_weight : (n : ℕ) → n ≤ 16 → leb n 16 ≡ true
 small_weight n h = grind (arith, nat_tests)
 
 -- the angle that a mode and its parameter give is one that the mode has
-pub angle_given : (mode : PredictionMode) (param : IntraParam) → unsigned_abs (step_of param) ≤ 3 → unsigned_abs (alpha_of param) ≤ 16 → is_angle_of mode (angle_or_alpha mode param) ≡ true
+pub angle_given : (mode : PredictionMode) (param : IntraParam) → unsigned_abs (step_of param) ≤ 3 → unsigned_abs (alpha_of param) ≤ 16 →
+    is_angle_of mode (angle_or_alpha mode param) ≡ true
 angle_given mode param h l =
     let s = step_of param in
     elim mode as (λ m. is_angle_of m (angle_or_alpha m param) ≡ true) [

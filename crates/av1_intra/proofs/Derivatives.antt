@@ -1,5 +1,6 @@
 -- The table of pairs of derivatives.
-use Rattle.std.proofs.Common.{ℕ, zero, suc, ◌+◌, ◌-◌, ◌*◌, ◌/◌, ◌^◌, ◌<◌, ◌≤◌, ◌≡◌, Bool, true, false, not, ◌&&◌, ◌||◌, refl, ap, arith, ◌∙◌, sym, ltb, leb, inl, inr, subst}
+use Rattle.std.proofs.Common.{ℕ, zero, suc, ◌+◌, ◌-◌, ◌*◌, ◌/◌, ◌^◌, ◌<◌, ◌≤◌, ◌≡◌, Bool, true, false, not, ◌&&◌, ◌||◌, refl, ap, arith, ◌∙◌, sym, ltb, leb}
+use Rattle.std.proofs.Common.{inl, inr, subst}
 use Rattle.std.proofs.lemmas.Bool.Decides.{nat_tests}
 use Rattle.std.proofs.lemmas.Bool.{cases_eq, cases_lt, and_parts}
 use Rattle.std.proofs.Math.Nat.{mul-lt-mul_of_pos_right, mul-le-mul_left, mul-le-mul_right, mul-le-mul, le-mul_of_pos_right}
@@ -24,7 +25,9 @@ abbrev fine : ℕ → Bool
 fine p =
     not (is_interpolated p)
     || ((ltb p 90 && leb (derivative p) 1023)
-    || (((ltb 90 p && ltb p 180) && ((ltb 0 (derivative (180 - p)) && ltb 0 (derivative (p - 90))) && leb (derivative (180 - p) * derivative (p - 90)) 4096 && (leb (derivative (180 - p)) 4096 && leb (derivative (p - 90)) 4096)))
+    || (((ltb 90 p && ltb p 180)
+    && ((ltb 0 (derivative (180 - p)) && ltb 0 (derivative (p - 90))) && leb (derivative (180 - p) * derivative (p - 90)) 4096
+    && (leb (derivative (180 - p)) 4096 && leb (derivative (p - 90)) 4096)))
     || ((ltb 180 p && ltb p 213) && leb (derivative (270 - p)) 40)))
 
 all_fine : each_below fine 300 ≡ true
@@ -87,14 +90,16 @@ pub upsampled_le : (u a b : ℕ) → a ≤ b → a * 2 ^ u ≤ b * 2 ^ u
 upsampled_le u a b h = mul-le-mul_right (2 ^ u) h
 
 -- the entries that an angle between 90 and 180 reads of either side
-pub above_inside : (u w i j dx dy : ℕ) → u ≤ 1 → w ≤ 64 → j < w → ArePair dx dy → (i + 1) * dx ≤ 64 * (j + 1) → (64 * (j + 1) - (i + 1) * dx) / 2 ^ (6 - u) + 0 * 2 ^ u + 1 ≤ w * 2 ^ u
+pub above_inside : (u w i j dx dy : ℕ) → u ≤ 1 → w ≤ 64 → j < w → ArePair dx dy → (i + 1) * dx ≤ 64 * (j + 1) →
+    (64 * (j + 1) - (i + 1) * dx) / 2 ^ (6 - u) + 0 * 2 ^ u + 1 ≤ w * 2 ^ u
 above_inside u w i j dx dy h l q p e =
     let z = le-mul_of_pos_right (i + 1) p.above in
     let a = entry_bound u (64 * (j + 1) - (i + 1) * dx) 0 (j + 1) h (omega arith) in
     let b = upsampled_le u (j + 1 + 0) w (omega arith) in
     omega arith
 
-pub left_inside : (u s i j dx dy : ℕ) → u ≤ 1 → s ≤ 64 → i < s → ArePair dx dy → 64 * (j + 1) < (i + 1) * dx → (64 * (i + 1) - (j + 1) * dy) / 2 ^ (6 - u) + 0 * 2 ^ u + 1 ≤ s * 2 ^ u
+pub left_inside : (u s i j dx dy : ℕ) → u ≤ 1 → s ≤ 64 → i < s → ArePair dx dy → 64 * (j + 1) < (i + 1) * dx →
+    (64 * (i + 1) - (j + 1) * dy) / 2 ^ (6 - u) + 0 * 2 ^ u + 1 ≤ s * 2 ^ u
 left_inside u s i j dx dy h l q p e =
     let z = le-mul_of_pos_right (j + 1) p.left in
     let a = entry_bound u (64 * (i + 1) - (j + 1) * dy) 0 (i + 1) h (omega arith) in
@@ -120,7 +125,8 @@ pub past_90 : (p : ℕ) → is_interpolated p ≡ true → 90 ≤ p → 90 < p
 unfolding derivative is_interpolated
 past_90 p h l =
     elim (cases_eq p 90) [
-      | inl e ↦ (let f : is_interpolated 90 ≡ false = refl in let g : is_interpolated p ≡ is_interpolated 90 = ap is_interpolated e in absurd (let k : true ≡ false = sym h ∙ g ∙ f in cc))
+      | inl e ↦ (let f : is_interpolated 90 ≡ false = refl in let g : is_interpolated p ≡ is_interpolated 90 = ap is_interpolated e
+          in absurd (let k : true ≡ false = sym h ∙ g ∙ f in cc))
       | inr e ↦ omega arith
     ]
 
@@ -128,6 +134,7 @@ pub past_180 : (p : ℕ) → is_interpolated p ≡ true → 180 ≤ p → 180 < 
 unfolding derivative is_interpolated
 past_180 p h l =
     elim (cases_eq p 180) [
-      | inl e ↦ (let f : is_interpolated 180 ≡ false = refl in let g : is_interpolated p ≡ is_interpolated 180 = ap is_interpolated e in absurd (let k : true ≡ false = sym h ∙ g ∙ f in cc))
+      | inl e ↦ (let f : is_interpolated 180 ≡ false = refl in let g : is_interpolated p ≡ is_interpolated 180 = ap is_interpolated e
+          in absurd (let k : true ≡ false = sym h ∙ g ∙ f in cc))
       | inr e ↦ omega arith
     ]

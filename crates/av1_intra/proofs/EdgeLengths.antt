@@ -4,7 +4,8 @@ use Rattle.std.specs.Prelude.{int_lt}
 use Rattle.std.proofs.lemmas.Bool.Decides.{nat_tests}
 use Rattle.std.proofs.lemmas.Int.{ints}
 use Rattle.av1_blocks.specs.declared.predict.PredictionMode.{PredictionMode}
-use Rattle.av1_blocks.specs.declared.predict.PredictionMode.TheVariants.{DC_PRED, UV_CFL_PRED, V_PRED, H_PRED, D45_PRED, D67_PRED, D113_PRED, D135_PRED, D157_PRED, D203_PRED}
+use Rattle.av1_blocks.specs.declared.predict.PredictionMode.TheVariants.{DC_PRED, UV_CFL_PRED, V_PRED, H_PRED, D45_PRED, D67_PRED, D113_PRED, D135_PRED}
+use Rattle.av1_blocks.specs.declared.predict.PredictionMode.TheVariants.{D157_PRED, D203_PRED}
 use Rattle.av1_blocks.specs.declared.predict.IntraParam.{IntraParam}
 use Rattle.av1_edges.specs.Parts.{step_of, parts_for}
 use Rattle.av1_edges.specs.Sides.{where_needed}
@@ -23,10 +24,14 @@ above_by : (z : ℤ) (w h : ℕ) → along_above (unsigned_abs z) w h ≤ w + wh
 above_by (pos n) w h = grind (arith, nat_tests)
 above_by (negsuc n) w h = grind (arith, nat_tests)
 
-pub enough_above : (filter : Bool) (mode : PredictionMode) (param : IntraParam) (x y w h : ℕ) → places_above mode (variant_at x y) (unsigned_abs (angle_or_alpha mode param)) w h ≤ w + where_needed (parts_for filter mode (step_of param) x w h).above_right h
+pub enough_above : (filter : Bool) (mode : PredictionMode) (param : IntraParam) (x y w h : ℕ) →
+    places_above mode (variant_at x y)
+    (unsigned_abs (angle_or_alpha mode param)) w h ≤ w + where_needed (parts_for filter mode (step_of param) x w h).above_right h
 enough_above filter mode param x y w h =
     let s = step_of param in
-    elim mode as (λ m. places_above m (variant_at x y) (unsigned_abs (angle_or_alpha m param)) w h ≤ w + where_needed (parts_for filter m (step_of param) x w h).above_right h) [
+    elim mode as
+    (λ m. places_above m (variant_at x y)
+    (unsigned_abs (angle_or_alpha m param)) w h ≤ w + where_needed (parts_for filter m (step_of param) x w h).above_right h) [
       | DC_PRED ↦ (let d = dc_above_few x y w in omega (arith, d))
       | UV_CFL_PRED ↦ (let d = dc_above_few x y w in omega (arith, d))
       | V_PRED ↦ above_by (pos 90 +ℤ pos 3 *ℤ s) w h
@@ -57,10 +62,13 @@ turned_up a (pos n) h l = omega (arith, ints)
 turned_up a (negsuc n) h l = omega (arith, ints)
 
 pub enough_left : (filter : Bool) (mode : PredictionMode) (param : IntraParam) (x y w h : ℕ) → unsigned_abs (step_of param) ≤ 3
-    → places_left mode (variant_at x y) (unsigned_abs (angle_or_alpha mode param)) w h ≤ where_needed (parts_for filter mode (step_of param) x w h).left h + where_needed (parts_for filter mode (step_of param) x w h).below_left w
+    → places_left mode (variant_at x y) (unsigned_abs (angle_or_alpha mode param)) w h ≤ where_needed (parts_for filter mode (step_of param) x w h).left h +
+    where_needed (parts_for filter mode (step_of param) x w h).below_left w
 enough_left filter mode param x y w h l =
     let s = step_of param in
-    elim mode as (λ m. places_left m (variant_at x y) (unsigned_abs (angle_or_alpha m param)) w h ≤ where_needed (parts_for filter m (step_of param) x w h).left h + where_needed (parts_for filter m (step_of param) x w h).below_left w) [
+    elim mode as
+    (λ m. places_left m (variant_at x y) (unsigned_abs (angle_or_alpha m param)) w h ≤ where_needed (parts_for filter m (step_of param) x w h).left h +
+    where_needed (parts_for filter m (step_of param) x w h).below_left w) [
       | DC_PRED ↦ dc_left_few x y h 0
       | UV_CFL_PRED ↦ dc_left_few x y h 0
       | V_PRED ↦ left_by (pos 90 +ℤ pos 3 *ℤ s) w h (turned_up 90 s (omega arith) l)

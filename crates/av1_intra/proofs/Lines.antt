@@ -27,17 +27,21 @@ shifted u k h l =
     one_of_two (λ u. k * 2 ^ u % 18446744073709551616 ≡ k * 2 ^ u) u h (omega arith) (omega arith)
 
 -- what the code reads at such shifts
-pub blended_at : (depth : ℕ) (E : Side) (u n k r : ℕ) → u ≤ 1 → n < 2 ^ 20 → k < 2 ^ 20 → r ≡ blend depth E (n / 2 ^ (6 - u) + k * 2 ^ u % 18446744073709551616) (n * 2 ^ u % 18446744073709551616 / 2 % 32) → r ≡ at depth E u n k
+pub blended_at : (depth : ℕ) (E : Side) (u n k r : ℕ) → u ≤ 1 → n < 2 ^ 20 → k < 2 ^ 20 →
+    r ≡ blend depth E (n / 2 ^ (6 - u) + k * 2 ^ u % 18446744073709551616) (n * 2 ^ u % 18446744073709551616 / 2 % 32) → r ≡ at depth E u n k
 unfolding at
 blended_at depth E u n k r h l m q =
-    q ∙ ap (λ x. blend depth E (n / 2 ^ (6 - u) + x) (n * 2 ^ u % 18446744073709551616 / 2 % 32)) (shifted u k h m) ∙ ap (λ x. blend depth E (n / 2 ^ (6 - u) + k * 2 ^ u) (x / 2 % 32)) (shifted u n h l)
+    q ∙ ap (λ x. blend depth E (n / 2 ^ (6 - u) + x) (n * 2 ^ u % 18446744073709551616 / 2 % 32)) (shifted u k h m)
+    ∙ ap (λ x. blend depth E (n / 2 ^ (6 - u) + k * 2 ^ u) (x / 2 % 32)) (shifted u n h l)
 
 -- whole places further along a side is so many entries further
 pub at_further : (depth : ℕ) (E : Side) (u n k : ℕ) → u ≤ 1 → at depth E u n k ≡ at depth E u (n + 64 * k) 0
 unfolding at
 at_further depth E u n k h =
-    let e : n / 2 ^ (6 - u) + k * 2 ^ u ≡ (n + 64 * k) / 2 ^ (6 - u) + 0 * 2 ^ u = one_of_two (λ u. n / 2 ^ (6 - u) + k * 2 ^ u ≡ (n + 64 * k) / 2 ^ (6 - u) + 0 * 2 ^ u) u h (omega arith) (omega arith) in
-    let z : n * 2 ^ u / 2 % 32 ≡ (n + 64 * k) * 2 ^ u / 2 % 32 = one_of_two (λ u. n * 2 ^ u / 2 % 32 ≡ (n + 64 * k) * 2 ^ u / 2 % 32) u h (omega arith) (omega arith) in
+    let e : n / 2 ^ (6 - u) + k * 2 ^ u ≡ (n + 64 * k) / 2 ^ (6 - u) + 0 * 2 ^ u =
+    one_of_two (λ u. n / 2 ^ (6 - u) + k * 2 ^ u ≡ (n + 64 * k) / 2 ^ (6 - u) + 0 * 2 ^ u) u h (omega arith) (omega arith) in
+    let z : n * 2 ^ u / 2 % 32 ≡ (n + 64 * k) * 2 ^ u / 2 % 32 =
+    one_of_two (λ u. n * 2 ^ u / 2 % 32 ≡ (n + 64 * k) * 2 ^ u / 2 % 32) u h (omega arith) (omega arith) in
     ap (λ e. blend depth E e (n * 2 ^ u / 2 % 32)) e ∙ ap (blend depth E ((n + 64 * k) / 2 ^ (6 - u) + 0 * 2 ^ u)) z
 
 -- below 90: how many columns of a row lie before the last place
@@ -72,12 +76,14 @@ left_columns i m dx dy h l =
     let c = mul_assoc (i + 1) dx dy in
     omega arith
 
-pub left_column : (depth : ℕ) (A : Side) (u : ℕ) (L : Side) (v dx dy i j : ℕ) → 64 * (j + 1) < (i + 1) * dx → at depth L v (64 * (i + 1) - (j + 1) * dy) 0 ≡ between depth A u L v dx dy i j
+pub left_column : (depth : ℕ) (A : Side) (u : ℕ) (L : Side) (v dx dy i j : ℕ) → 64 * (j + 1) < (i + 1) * dx →
+    at depth L v (64 * (i + 1) - (j + 1) * dy) 0 ≡ between depth A u L v dx dy i j
 unfolding between
 left_column depth A u L v dx dy i j h = grind (arith, nat_tests)
 
 -- and those that the side above gives, from column m on
-pub above_column : (depth : ℕ) (A : Side) (u : ℕ) (L : Side) (v dx dy i m k : ℕ) → u ≤ 1 → (i + 1) * dx ≤ 64 * (m + 1) → at depth A u (64 * (m + 1) - (i + 1) * dx) k ≡ between depth A u L v dx dy i (m + k)
+pub above_column : (depth : ℕ) (A : Side) (u : ℕ) (L : Side) (v dx dy i m k : ℕ) → u ≤ 1 → (i + 1) * dx ≤ 64 * (m + 1) →
+    at depth A u (64 * (m + 1) - (i + 1) * dx) k ≡ between depth A u L v dx dy i (m + k)
 unfolding between
 above_column depth A u L v dx dy i m k h l =
     let e : 64 * (m + 1) - (i + 1) * dx + 64 * k ≡ 64 * (m + k + 1) - (i + 1) * dx = omega arith in

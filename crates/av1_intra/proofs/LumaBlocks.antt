@@ -1,5 +1,6 @@
 -- The luma over a block of chroma.
-use Rattle.std.proofs.Common.{ℕ, zero, suc, ◌+◌, ◌*◌, ◌/◌, ◌%◌, ◌^◌, ◌<◌, ◌≤◌, ◌≡◌, List, [], ◌∷◌, ◌++◌, length, get_or, take, drop, map, sum, min, arith, ap, ◌∙◌, sym, subst, refl, cond, ltb, inl, inr, ℤ, pos, ◌-ℤ◌, unsigned_abs}
+use Rattle.std.proofs.Common.{ℕ, zero, suc, ◌+◌, ◌*◌, ◌/◌, ◌%◌, ◌^◌, ◌<◌, ◌≤◌, ◌≡◌, List, [], ◌∷◌, ◌++◌, length, get_or, take, drop, map, sum, min, arith, ap}
+use Rattle.std.proofs.Common.{◌∙◌, sym, subst, refl, cond, ltb, inl, inr, ℤ, pos, ◌-ℤ◌, unsigned_abs}
 use Rattle.std.proofs.lemmas.Bool.Decides.{nat_tests}
 use Rattle.std.proofs.lemmas.Bool.{cases_lt}
 use Rattle.std.proofs.lemmas.List.{get_or-take, get_or-drop, take-map, drop-map, length-take-le, get_or_default}
@@ -52,7 +53,8 @@ small_shift d h = let P = λ (d : ℕ). 1 * 2 ^ d % 2 ^ 64 ≤ 2 in by_decimatio
 
 module _ (f g : ℕ → ℕ → ℕ) (x v y : ℕ) where
   -- two lumas that agree over a sample
-  pub covered_same : (a b : ℕ) → a ≤ 1 → b ≤ a → ((s t : ℕ) → s < 2 ^ a → t < 2 ^ b → f (x + s) (v + t) ≡ g (x + s) (y + t)) → covered f a b x v ≡ covered g a b x y
+  pub covered_same : (a b : ℕ) → a ≤ 1 → b ≤ a → ((s t : ℕ) → s < 2 ^ a → t < 2 ^ b → f (x + s) (v + t) ≡ g (x + s) (y + t)) →
+      covered f a b x v ≡ covered g a b x y
   covered_same zero zero h l e = rw (e 0 0 (omega arith) (omega arith)) refl
   covered_same (suc zero) zero h l e = rw (e 0 0 (omega arith) (omega arith), e 1 0 (omega arith) (omega arith)) refl
   covered_same (suc zero) (suc zero) h l e =
@@ -73,11 +75,13 @@ covered_small f x y (suc zero) (suc zero) h l e =
 covered_small f x y a b h l e = absurd (omega arith)
 
 -- the numbers of a row of a region
-pub row_numbers : {T : Type 0} (num : T → ℕ) (r : PlaneRegion T) (row : List T) (y c : ℕ) → row ≡ row_of r.plane_cfg.stride r.area y r.samples.now → c < r.area.width → numbers num row c ≡ region_sample num r c y
+pub row_numbers : {T : Type 0} (num : T → ℕ) (r : PlaneRegion T) (row : List T) (y c : ℕ) → row ≡ row_of r.plane_cfg.stride r.area y r.samples.now →
+    c < r.area.width → numbers num row c ≡ region_sample num r c y
 row_numbers num r row y c e h =
     let i = row_start r.plane_cfg.stride r.area y in
     let s = r.samples.now in
-    ap (λ t. numbers num t c) e ∙ ap (λ t. get_or t c 0) (sym (take-map num r.area.width (drop i s)) ∙ ap (take r.area.width) (sym (drop-map num i s))) ∙ (get_or-take r.area.width (drop i (map num s)) c 0 h ∙ get_or-drop i (map num s) c 0)
+    ap (λ t. numbers num t c) e ∙ ap (λ t. get_or t c 0) (sym (take-map num r.area.width (drop i s)) ∙ ap (take r.area.width) (sym (drop-map num i s)))
+    ∙ (get_or-take r.area.width (drop i (map num s)) c 0 h ∙ get_or-drop i (map num s) c 0)
 
 -- ---- the mean
 
@@ -87,7 +91,8 @@ sum_within [] h = omega arith
 sum_within (x ∷ xs) h =
     let a : unsigned_abs x ≤ 32760 = h 0 (omega arith) in
     let r = sum_within xs (λ k l. h (suc k) (omega arith)) in
-    let s : sum (map unsigned_abs (x ∷ xs)) ≡ unsigned_abs x + sum (map unsigned_abs xs) = sum-map unsigned_abs (x ∷ xs) ∙ sum_by-cons unsigned_abs x xs ∙ ap (λ n. unsigned_abs x + n) (sym (sum-map unsigned_abs xs)) in
+    let s : sum (map unsigned_abs (x ∷ xs)) ≡ unsigned_abs x + sum (map unsigned_abs xs) = sum-map unsigned_abs (x ∷ xs) ∙ sum_by-cons unsigned_abs x xs
+    ∙ ap (λ n. unsigned_abs x + n) (sym (sum-map unsigned_abs xs)) in
     omega (arith, a, r, s)
 
 -- an entry that is not written yet
@@ -119,18 +124,25 @@ entry_painted w k g s t d e h l = ap (λ u. get_or u k d) e ∙ (get_or-update _
 pub row_luma : {T : Type 0} (num : T → ℕ) (l : PlaneRegion T) (b : ChromaBlock) (top below : List T) (r k i : ℕ) → b.xdec ≤ 1 → b.ydec ≤ b.xdec
     → k < b.width → i ≡ r * b.width + k
     → ((c : ℕ) → c < min (b.width * 2 ^ b.xdec) (b.last_column + 2 ^ b.xdec) → numbers num top c ≡ region_sample num l c (min (r * 2 ^ b.ydec) b.last_row))
-    → ((c : ℕ) → c < min (b.width * 2 ^ b.xdec) (b.last_column + 2 ^ b.xdec) → numbers num below c ≡ region_sample num l c (min (r * 2 ^ b.ydec) b.last_row + b.ydec))
+    → ((c : ℕ) → c < min (b.width * 2 ^ b.xdec) (b.last_column + 2 ^ b.xdec) →
+    numbers num below c ≡ region_sample num l c (min (r * 2 ^ b.ydec) b.last_row + b.ydec))
     → covered (two_rows num top below) b.xdec b.ydec (min (k * 2 ^ b.xdec) b.last_column) 0 ≡ luma_at (region_sample num l) b (i / b.width) (i % b.width)
 row_luma num l b top below r k i h m c e ft fb =
     let x = min (k * 2 ^ b.xdec) b.last_column in
     let y = min (r * 2 ^ b.ydec) b.last_row in
     let q : i / b.width ≡ r = ap (λ n. n / b.width) e ∙ div-mul-add r b.width k c in
     let p : i % b.width ≡ k = ap (λ n. n % b.width) e ∙ mod-mul-add r b.width k c in
-    let inside : (s : ℕ) → s < 2 ^ b.xdec → x + s < min (b.width * 2 ^ b.xdec) (b.last_column + 2 ^ b.xdec) = λ s d. by_decimation (λ a. s < 2 ^ a → min (k * 2 ^ a) b.last_column + s < min (b.width * 2 ^ a) (b.last_column + 2 ^ a)) b.xdec h (λ f. omega arith) (λ f. omega arith) d in
-    covered_same (two_rows num top below) (region_sample num l) x 0 y b.xdec b.ydec h m (λ s t d f. rows_agree num l top below b.ydec (x + s) y t (omega arith) f (ft (x + s) (inside s d)) (fb (x + s) (inside s d)))
+    let inside : (s : ℕ) → s < 2 ^ b.xdec → x + s < min (b.width * 2 ^ b.xdec) (b.last_column + 2 ^ b.xdec) =
+    λ s d. by_decimation (λ a. s < 2 ^ a → min (k * 2 ^ a) b.last_column + s < min (b.width * 2 ^ a) (b.last_column + 2 ^ a)) b.xdec h (λ f. omega arith)
+    (λ f. omega arith) d in
+    covered_same (two_rows num top below)
+    (region_sample num l) x 0 y b.xdec b.ydec h m (λ s t d f. rows_agree num l top below b.ydec (x + s) y t (omega arith) f (ft (x + s) (inside s d))
+    (fb (x + s) (inside s d)))
     ∙ sym (ap (λ n. luma_at (region_sample num l) b n (i % b.width)) q ∙ ap (λ n. luma_at (region_sample num l) b r n) p)
   where
-    rows_agree : {T : Type 0} (num : T → ℕ) (l : PlaneRegion T) (top below : List T) (b c y t : ℕ) → b ≤ 1 → t < 2 ^ b → numbers num top c ≡ region_sample num l c y → numbers num below c ≡ region_sample num l c (y + b) → two_rows num top below c (0 + t) ≡ region_sample num l c (y + t)
+    rows_agree : {T : Type 0} (num : T → ℕ) (l : PlaneRegion T) (top below : List T) (b c y t : ℕ) → b ≤ 1 → t < 2 ^ b →
+        numbers num top c ≡ region_sample num l c y → numbers num below c ≡ region_sample num l c (y + b) →
+        two_rows num top below c (0 + t) ≡ region_sample num l c (y + t)
     rows_agree num l top below b c y zero h f d e = d ∙ ap (region_sample num l c) (omega arith)
     rows_agree num l top below (suc zero) c y (suc zero) h f d e = e
     rows_agree num l top below b c y t h f d e = absurd (omega arith)
@@ -143,10 +155,12 @@ pub row_luma_of : {T : Type 0} (num : T → ℕ) (l : PlaneRegion T) (b : Chroma
 row_luma_of num l b top below r k i y u v eu ev h m c e ey few wide et eb =
     let x : b.xdec ≤ 1 = subst (λ n. n ≤ 1) (sym eu) h in
     let z : b.ydec ≤ b.xdec = subst (λ n. n ≤ b.xdec) (sym ev) (subst (λ n. v ≤ n) (sym eu) m) in
-    let w : y ≡ min (r * 2 ^ b.ydec) b.last_row = ey ∙ ap (λ n. min n b.last_row) (row_place v r (omega arith) few) ∙ ap (λ n. min (r * 2 ^ n) b.last_row) (sym ev) in
+    let w : y ≡ min (r * 2 ^ b.ydec) b.last_row = ey ∙ ap (λ n. min n b.last_row) (row_place v r (omega arith) few)
+    ∙ ap (λ n. min (r * 2 ^ n) b.last_row) (sym ev) in
     let q =
     row_luma num l b top below r k i x z c e (λ p d. row_numbers num l top y p et (omega (arith, d, wide)) ∙ ap (region_sample num l p) w)
-    (λ p d. row_numbers num l below (y + v) p eb (omega (arith, d, wide)) ∙ ap (region_sample num l p) (ap (λ n. n + v) w ∙ ap (λ n. min (r * 2 ^ b.ydec) b.last_row + n) (sym ev))) in
+    (λ p d. row_numbers num l below (y + v) p eb (omega (arith, d, wide))
+    ∙ ap (region_sample num l p) (ap (λ n. n + v) w ∙ ap (λ n. min (r * 2 ^ b.ydec) b.last_row + n) (sym ev))) in
     let F = λ (u v : ℕ). covered (two_rows num top below) u v (min (k * 2 ^ u) b.last_column) 0 in
     sym (ap (λ n. F n b.ydec) eu ∙ ap (F u) ev) ∙ q
 
@@ -155,32 +169,44 @@ row_in : (k w h : ℕ) → 0 < w → k < w * h → k / w < h
 row_in k w h s l = (div-lt_iff_lt-mul s).1 (subst (λ n. k < n) (mul_comm w h) l)
 
 -- luma of 12 bits fits 16 bits
-pub luma_small : (luma : ℕ → ℕ → ℕ) (b : ChromaBlock) (r c : ℕ) → b.xdec ≤ 1 → b.ydec ≤ b.xdec → r < b.height → c < b.width → ((x y : ℕ) → x < columns_read b → y < rows_read b → luma x y < 4096) → luma_at luma b r c ≤ 32760
+pub luma_small : (luma : ℕ → ℕ → ℕ) (b : ChromaBlock) (r c : ℕ) → b.xdec ≤ 1 → b.ydec ≤ b.xdec → r < b.height → c < b.width →
+    ((x y : ℕ) → x < columns_read b → y < rows_read b → luma x y < 4096) → luma_at luma b r c ≤ 32760
 luma_small luma b r c h l m n low =
-    let across : (s : ℕ) → s < 2 ^ b.xdec → min (c * 2 ^ b.xdec) b.last_column + s < columns_read b = λ s d. by_decimation (λ a. s < 2 ^ a → min (c * 2 ^ a) b.last_column + s < min (b.width * 2 ^ a) (b.last_column + 2 ^ a)) b.xdec h (λ f. omega arith) (λ f. omega arith) d in
-    let down : (t : ℕ) → t < 2 ^ b.ydec → min (r * 2 ^ b.ydec) b.last_row + t < rows_read b = λ t d. by_decimation (λ a. t < 2 ^ a → min (r * 2 ^ a) b.last_row + t < min (b.height * 2 ^ a) (b.last_row + 2 ^ a)) b.ydec (omega arith) (λ f. omega arith) (λ f. omega arith) d in
+    let across : (s : ℕ) → s < 2 ^ b.xdec → min (c * 2 ^ b.xdec) b.last_column + s < columns_read b =
+    λ s d. by_decimation (λ a. s < 2 ^ a → min (c * 2 ^ a) b.last_column + s < min (b.width * 2 ^ a) (b.last_column + 2 ^ a)) b.xdec h (λ f. omega arith)
+    (λ f. omega arith) d in
+    let down : (t : ℕ) → t < 2 ^ b.ydec → min (r * 2 ^ b.ydec) b.last_row + t < rows_read b =
+    λ t d. by_decimation (λ a. t < 2 ^ a → min (r * 2 ^ a) b.last_row + t < min (b.height * 2 ^ a) (b.last_row + 2 ^ a)) b.ydec (omega arith)
+    (λ f. omega arith) (λ f. omega arith) d in
     covered_small luma _ _ b.xdec b.ydec h l (λ s t p q. low _ _ (across s p) (down t q))
 
 -- the same of the luma of all samples
-pub each_small : (luma : ℕ → ℕ → ℕ) (b : ChromaBlock) (k : ℕ) → b.xdec ≤ 1 → b.ydec ≤ b.xdec → 0 < b.width → k < b.width * b.height → ((x y : ℕ) → x < columns_read b → y < rows_read b → luma x y < 4096) → luma_at luma b (k / b.width) (k % b.width) ≤ 32760
+pub each_small : (luma : ℕ → ℕ → ℕ) (b : ChromaBlock) (k : ℕ) → b.xdec ≤ 1 → b.ydec ≤ b.xdec → 0 < b.width → k < b.width * b.height →
+    ((x y : ℕ) → x < columns_read b → y < rows_read b → luma x y < 4096) → luma_at luma b (k / b.width) (k % b.width) ≤ 32760
 each_small luma b k h l s m low = luma_small luma b (k / b.width) (k % b.width) h l (row_in k b.width b.height s m) (mod-lt k s) low
 
 -- a list in which luma stands
 module _ (luma : ℕ → ℕ → ℕ) (b : ChromaBlock) (s t : List ℤ) where
-  pub luma_entry : t ≡ with_rows b.width b.height (λ r c. pos (luma_at luma b r c)) s → b.width * b.height ≤ length s → (k : ℕ) → k < b.width * b.height → get_or (take (b.width * b.height) t) k (pos 0) ≡ pos (luma_at luma b (k / b.width) (k % b.width))
+  pub luma_entry : t ≡ with_rows b.width b.height (λ r c. pos (luma_at luma b r c)) s → b.width * b.height ≤ length s → (k : ℕ) → k < b.width * b.height →
+      get_or (take (b.width * b.height) t) k (pos 0) ≡ pos (luma_at luma b (k / b.width) (k % b.width))
   luma_entry e h k l =
-      get_or-take (b.width * b.height) t k (pos 0) l ∙ entry_painted (b.width * b.height) k (λ k _. pos (luma_at luma b (k / b.width) (k % b.width))) s t (pos 0) e l (omega arith)
+      get_or-take (b.width * b.height) t k (pos 0) l
+      ∙ entry_painted (b.width * b.height) k (λ k _. pos (luma_at luma b (k / b.width) (k % b.width))) s t (pos 0) e l (omega arith)
 
-  pub luma_length : t ≡ with_rows b.width b.height (λ r c. pos (luma_at luma b r c)) s → b.width * b.height ≤ length s → length (take (b.width * b.height) t) ≡ b.width * b.height
+  pub luma_length : t ≡ with_rows b.width b.height (λ r c. pos (luma_at luma b r c)) s → b.width * b.height ≤ length s →
+      length (take (b.width * b.height) t) ≡ b.width * b.height
   luma_length e h = length-take-le (b.width * b.height) t (subst (λ n. b.width * b.height ≤ n) (sym (painted_length _ _ s t e)) h)
 
-  luma_list : t ≡ with_rows b.width b.height (λ r c. pos (luma_at luma b r c)) s → b.width * b.height ≤ length s → map unsigned_abs (take (b.width * b.height) t) ≡ lumas luma b
+  luma_list : t ≡ with_rows b.width b.height (λ r c. pos (luma_at luma b r c)) s → b.width * b.height ≤ length s →
+      map unsigned_abs (take (b.width * b.height) t) ≡ lumas luma b
   luma_list e h =
-      numbers_are unsigned_abs (λ k. luma_at luma b (k / b.width) (k % b.width)) (take (b.width * b.height) t) (b.width * b.height) (luma_length e h) (λ k d l. ap unsigned_abs (get_or_default (take (b.width * b.height) t) k d (pos 0) (omega (arith, luma_length e h)) ∙ luma_entry e h k l))
+      numbers_are unsigned_abs (λ k. luma_at luma b (k / b.width) (k % b.width)) (take (b.width * b.height) t) (b.width * b.height) (luma_length e h)
+      (λ k d l. ap unsigned_abs (get_or_default (take (b.width * b.height) t) k d (pos 0) (omega (arith, luma_length e h)) ∙ luma_entry e h k l))
 
   -- the mean is taken from it
   pub differences_are : (ys : List ℤ) → t ≡ with_rows b.width b.height (λ r c. pos (luma_at luma b r c)) s → b.width * b.height ≤ length s
-      → ys ≡ paint_row (length (take (b.width * b.height) t)) (λ _ v. v -ℤ pos (mean (map unsigned_abs (take (b.width * b.height) t)))) (take (b.width * b.height) t)
+      → ys ≡ paint_row (length (take (b.width * b.height) t)) (λ _ v. v -ℤ pos (mean (map unsigned_abs (take (b.width * b.height) t))))
+      (take (b.width * b.height) t)
       → ys ++ drop (b.width * b.height) t ≡ with_rows b.width b.height (luma_difference luma b) s
   unfolding luma_difference
   differences_are ys e h q =
@@ -188,4 +214,5 @@ module _ (luma : ℕ → ℕ → ℕ) (b : ChromaBlock) (s t : List ℤ) where
       let m = mean (lumas luma b) in
       let l : length t ≡ length s = painted_length n _ s t e in
       let f = λ (_k : ℕ) (v : ℤ). v -ℤ pos m in
-      painted_front n (length (take n t)) _ f t ys (omega arith) (luma_length e h) q (λ k v d. ap (λ xs. v -ℤ pos (mean xs)) (luma_list e h)) ∙ painted_twice n f (λ k _. pos (luma_at luma b (k / b.width) (k % b.width))) s t e
+      painted_front n (length (take n t)) _ f t ys (omega arith) (luma_length e h) q (λ k v d. ap (λ xs. v -ℤ pos (mean xs)) (luma_list e h))
+      ∙ painted_twice n f (λ k _. pos (luma_at luma b (k / b.width) (k % b.width))) s t e

@@ -17,7 +17,8 @@ listed_within zero f h = omega arith
 listed_within (suc n) f h =
     let r = listed_within n f (λ k l. h k (omega arith)) in
     let l = h n (omega arith) in
-    let e : sum (by_index (suc n) f) ≡ sum (by_index n f) + f n = ap (λ m. sum (by_index m f)) (sym (add-one n)) ∙ sum_by-map-range_with_len_more (λ x. x) f 0 n n (omega arith) in
+    let e : sum (by_index (suc n) f) ≡ sum (by_index n f) + f n = ap (λ m. sum (by_index m f)) (sym (add-one n))
+    ∙ sum_by-map-range_with_len_more (λ x. x) f 0 n n (omega arith) in
     omega (arith, r, l, e)
 
 -- and their mean
@@ -27,7 +28,8 @@ listed_mean n f s h =
     let l = length-by_index n f in
     mean_fits (sum (by_index n f)) (length (by_index n f)) 32761 (omega (arith, l)) (omega (arith, r, l))
 
-pub difference_fits : (luma : ℕ → ℕ → ℕ) (b : ChromaBlock) (r c : ℕ) → b.xdec ≤ 1 → b.ydec ≤ b.xdec → r < b.height → c < b.width → ((x y : ℕ) → x < columns_read b → y < rows_read b → luma x y < 4096) → FitsSigned w16 (luma_difference luma b r c)
+pub difference_fits : (luma : ℕ → ℕ → ℕ) (b : ChromaBlock) (r c : ℕ) → b.xdec ≤ 1 → b.ydec ≤ b.xdec → r < b.height → c < b.width →
+    ((x y : ℕ) → x < columns_read b → y < rows_read b → luma x y < 4096) → FitsSigned w16 (luma_difference luma b r c)
 unfolding luma_difference
 difference_fits luma b r c x y h l low =
     let p : b.width ≤ b.width * b.height = le-mul_of_pos_right b.width (omega arith) in

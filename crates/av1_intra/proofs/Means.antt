@@ -6,7 +6,8 @@ use Rattle.std.proofs.Math.Nat.{pow-le-pow_right}
 use Rattle.av1_intra.specs.Dc.{mean}
 
 -- the sum with one more sample
-pub sum_more : {T : Type 0} (num : T → ℕ) (xs : List T) (i : ℕ) (d : T) → i < length xs → sum (map num (take (i + 1) xs)) ≡ sum (map num (take i xs)) + num (get_or xs i d)
+pub sum_more : {T : Type 0} (num : T → ℕ) (xs : List T) (i : ℕ) (d : T) → i < length xs →
+    sum (map num (take (i + 1) xs)) ≡ sum (map num (take i xs)) + num (get_or xs i d)
 sum_more num xs i d h =
     sum-map num (take (i + 1) xs) ∙ sum_by_more num xs i d h ∙ ap (λ n. n + num (get_or xs i d)) (sym (sum-map num (take i xs)))
 

@@ -18,7 +18,8 @@ near_fine a p = not (leb (distance p a) 9 && eqb (distance p a % 3) 0) || (eqb p
 near_is : (a p : ℕ) → near_fine a p ≡ true → distance p a ≤ 9 → distance p a % 3 ≡ 0 → (p ≡ 90 → ⊥) → (p ≡ 180 → ⊥) → is_interpolated p ≡ true
 near_is a p f d m x y = grind (arith, nat_tests)
 
-pub step_fine : (a p : ℕ) (step : ℤ) → each_below (near_fine a) 300 ≡ true → 9 ≤ a → a < 290 → unsigned_abs step ≤ 3 → pos p ≡ pos a +ℤ pos 3 *ℤ step → (p ≡ 90 → ⊥) → (p ≡ 180 → ⊥) → is_interpolated p ≡ true
+pub step_fine : (a p : ℕ) (step : ℤ) → each_below (near_fine a) 300 ≡ true → 9 ≤ a → a < 290 → unsigned_abs step ≤ 3 → pos p ≡ pos a +ℤ pos 3 *ℤ step →
+    (p ≡ 90 → ⊥) → (p ≡ 180 → ⊥) → is_interpolated p ≡ true
 step_fine a p step t l m h e x y =
     let d = step_distance p a step l h e in
     near_is a p (one_below (near_fine a) 300 p t (omega (arith, d))) (omega (arith, d)) (omega (arith, d)) x y
@@ -32,7 +33,9 @@ near_parts : (d : ℕ) → (leb d 9 && eqb (d % 3) 0) ≡ true → (d ≤ 9) × 
 near_parts d h = (grind (arith, nat_tests), grind (arith, nat_tests))
 
 -- the same of an angle that is given by itself
-pub turned_fine : (a : ℕ) (z : ℤ) → each_below (near_fine a) 300 ≡ true → 9 ≤ a → a < 290 → (leb (unsigned_abs (z -ℤ pos a)) 9 && eqb (unsigned_abs (z -ℤ pos a) % 3) 0) ≡ true → (unsigned_abs z ≡ 90 → ⊥) → (unsigned_abs z ≡ 180 → ⊥) → is_interpolated (unsigned_abs z) ≡ true
+pub turned_fine : (a : ℕ) (z : ℤ) → each_below (near_fine a) 300 ≡ true → 9 ≤ a → a < 290 →
+    (leb (unsigned_abs (z -ℤ pos a)) 9 && eqb (unsigned_abs (z -ℤ pos a) % 3) 0) ≡ true → (unsigned_abs z ≡ 90 → ⊥) → (unsigned_abs z ≡ 180 → ⊥) →
+    is_interpolated (unsigned_abs z) ≡ true
 turned_fine a z t l m h x y =
     let parts = near_parts (unsigned_abs (z -ℤ pos a)) h in
     let n : unsigned_abs (z -ℤ pos a) ≤ 9 = parts.0 in

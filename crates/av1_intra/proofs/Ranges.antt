@@ -13,7 +13,8 @@ delta_is p q h l = grind (arith, ints)
 
 module _ (b : DirectionalBlock) (corner : ℕ) (above left : List ℕ) (i j : ℕ) where
   pub is_below_90 : b.p_angle < 90
-      → below_90 b.bit_depth (prepared b (distance b.p_angle 90) (min b.width b.visible_columns + b.height) (b.width + b.height) (side corner (take (b.width + b.height) above)))
+      → below_90 b.bit_depth (prepared b (distance b.p_angle 90) (min b.width b.visible_columns + b.height) (b.width + b.height)
+      (side corner (take (b.width + b.height) above)))
       (upsampling b (distance b.p_angle 90)) (b.width + b.height) ((i + 1) * derivative b.p_angle + 64) j ≡ directional b corner above left i j
   unfolding directional
   is_below_90 l =
@@ -21,8 +22,10 @@ module _ (b : DirectionalBlock) (corner : ℕ) (above left : List ℕ) (i j : �
       rw t refl
 
   pub is_between : 90 < b.p_angle → b.p_angle < 180
-      → between b.bit_depth (prepared b (distance b.p_angle 90) (min b.width b.visible_columns) b.width (side corner (take b.width above))) (upsampling b (distance b.p_angle 90))
-      (prepared b (distance b.p_angle 180) (min b.height b.visible_rows) b.height (side corner (take b.height left))) (upsampling b (distance b.p_angle 180)) (derivative (180 - b.p_angle))
+      → between b.bit_depth (prepared b (distance b.p_angle 90) (min b.width b.visible_columns) b.width (side corner (take b.width above)))
+      (upsampling b (distance b.p_angle 90))
+      (prepared b (distance b.p_angle 180) (min b.height b.visible_rows) b.height (side corner (take b.height left))) (upsampling b (distance b.p_angle 180))
+      (derivative (180 - b.p_angle))
       (derivative (b.p_angle - 90)) i j ≡ directional b corner above left i j
   unfolding directional
   is_between l m =
@@ -32,7 +35,9 @@ module _ (b : DirectionalBlock) (corner : ℕ) (above left : List ℕ) (i j : �
       rw (t, u, v) (simp add-zero)
 
   pub is_past_180 : 180 < b.p_angle
-      → at b.bit_depth (prepared b (distance b.p_angle 180) (min b.height b.visible_rows + b.width) (b.height + b.width) (side corner (take (b.height + b.width) left))) (upsampling b (distance b.p_angle 180)) ((j + 1) * derivative (270 - b.p_angle) + 64) i ≡ directional b corner above left i j
+      → at b.bit_depth (prepared b (distance b.p_angle 180) (min b.height b.visible_rows + b.width) (b.height + b.width)
+      (side corner (take (b.height + b.width) left))) (upsampling b (distance b.p_angle 180)) ((j + 1) * derivative (270 - b.p_angle) + 64) i ≡
+      directional b corner above left i j
   unfolding directional
   is_past_180 l =
       let t : ltb b.p_angle 90 ≡ false = grind (arith, nat_tests) in

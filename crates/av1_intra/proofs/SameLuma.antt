@@ -12,7 +12,8 @@ use Rattle.av1_intra.specs.declared.variant.PredictionVariant.{PredictionVariant
 use Rattle.av1_intra.specs.declared.luma.ChromaBlock.{ChromaBlock}
 use Rattle.av1_intra.specs.declared.luma.LumaLeaf.{LumaLeaf}
 use Rattle.av1_intra.specs.Dc.{mean}
-use Rattle.av1_intra.specs.ChromaFromLuma.{luma_at, lumas, luma_difference, columns_read, rows_read, chroma_block, first_column, first_row, leaf_difference, from_luma, ac_at}
+use Rattle.av1_intra.specs.ChromaFromLuma.{luma_at, lumas, luma_difference, columns_read, rows_read, chroma_block, first_column, first_row, leaf_difference}
+use Rattle.av1_intra.specs.ChromaFromLuma.{from_luma, ac_at}
 use Rattle.av1_intra.specs.Predicted.{dc, predicted}
 use Rattle.av1_intra.proofs.LumaBlocks.{by_decimation, covered_same}
 
@@ -23,7 +24,8 @@ side_read : (k n last d t : ℕ) → d ≤ 1 → k < n → t < 2 ^ d → min (k 
 side_read k n last d t h l =
     by_decimation (λ d. t < 2 ^ d → min (k * 2 ^ d) last + t < min (n * 2 ^ d) (last + 2 ^ d)) d h (λ m. omega arith) (λ m. omega arith)
 
-module _ (f g : ℕ → ℕ → ℕ) (b : ChromaBlock) (x : b.xdec ≤ 1) (y : b.ydec ≤ b.xdec) (agree : (p q : ℕ) → p < columns_read b → q < rows_read b → f p q ≡ g p q) where
+module _ (f g : ℕ → ℕ → ℕ) (b : ChromaBlock) (x : b.xdec ≤ 1) (y : b.ydec ≤ b.xdec) (agree : (p q : ℕ) → p < columns_read b → q < rows_read b →
+    f p q ≡ g p q) where
   luma_at_same : (r c : ℕ) → r < b.height → c < b.width → luma_at f b r c ≡ luma_at g b r c
   luma_at_same r c h l =
       let p = min (c * 2 ^ b.xdec) b.last_column in
@@ -35,16 +37,19 @@ module _ (f g : ℕ → ℕ → ℕ) (b : ChromaBlock) (x : b.xdec ≤ 1) (y : b
   unfolding luma_difference
   luma_difference_same r c h l =
       let some : 0 < b.width = omega arith in
-      let row : (k : ℕ) → k < b.width * b.height → k / b.width < b.height = λ k m. (div-lt_iff_lt-mul some).1 (subst (λ n. k < n) (mul_comm b.width b.height) m) in
+      let row : (k : ℕ) → k < b.width * b.height → k / b.width < b.height = λ k m. (div-lt_iff_lt-mul some).1 (subst (λ n. k < n) (mul_comm b.width b.height) m)
+      in
       let e : lumas f b ≡ lumas g b = by_index-same (b.width * b.height) _ _ (λ k m. luma_at_same (k / b.width) (k % b.width) (row k m) (mod-lt k some)) in
       ap (λ n. pos n -ℤ pos (mean (lumas f b))) (luma_at_same r c h l) ∙ ap (λ ns. pos (luma_at g b r c) -ℤ pos (mean ns)) e
 
 pub leaf_difference_same : (f g : ℕ → ℕ → ℕ) (leaf : LumaLeaf) (r c : ℕ) → leaf.xdec ≤ 1 → leaf.ydec ≤ leaf.xdec
     → r < (chroma_block leaf).height → c < (chroma_block leaf).width
-    → ((x y : ℕ) → x < columns_read (chroma_block leaf) → y < rows_read (chroma_block leaf) → f (first_column leaf + x) (first_row leaf + y) ≡ g (first_column leaf + x) (first_row leaf + y))
+    → ((x y : ℕ) → x < columns_read (chroma_block leaf) → y < rows_read (chroma_block leaf) →
+    f (first_column leaf + x) (first_row leaf + y) ≡ g (first_column leaf + x) (first_row leaf + y))
     → leaf_difference f leaf r c ≡ leaf_difference g leaf r c
 leaf_difference_same f g leaf r c x y h l agree =
-    luma_difference_same (λ p q. f (first_column leaf + p) (first_row leaf + q)) (λ p q. g (first_column leaf + p) (first_row leaf + q)) (chroma_block leaf) x y agree r c h l
+    luma_difference_same (λ p q. f (first_column leaf + p) (first_row leaf + q)) (λ p q. g (first_column leaf + p) (first_row leaf + q))
+    (chroma_block leaf) x y agree r c h l
 
 -- ---- prediction
 

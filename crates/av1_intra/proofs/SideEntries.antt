@@ -36,31 +36,38 @@ entries_filled w n F t q l h =
     entries_painted w F (replicate n 0) t q (omega (arith, length-replicate {A = ℕ})) (λ e m. h e m ∙ sym (zeros n e))
 
 -- what the filter leaves of a list
-pub entries_filtered : (size n s : ℕ) (old t : List ℕ) → t ≡ paint_row size (λ e _. filtered (size - 1) s (numbers (λ x. x) old) e) old → size ≡ n + 1 → size ≤ length old → entries t ≡ filtered n s (entries old)
+pub entries_filtered : (size n s : ℕ) (old t : List ℕ) → t ≡ paint_row size (λ e _. filtered (size - 1) s (numbers (λ x. x) old) e) old → size ≡ n + 1 →
+    size ≤ length old → entries t ≡ filtered n s (entries old)
 unfolding filtered
 entries_filtered size n s old t q e l =
     let m : size - 1 ≡ n = omega arith in
     let r : numbers (λ (x : ℕ). x) old ≡ entries old = ap entries (map-id old) in
-    let a : t ≡ paint_row size (λ e _. filtered n s (entries old) e) old = q ∙ ap (λ v. paint_row size (λ e _. filtered v s (numbers (λ x. x) old) e) old) m ∙ ap (λ v. paint_row size (λ e _. filtered n s v e) old) r in
+    let a : t ≡ paint_row size (λ e _. filtered n s (entries old) e) old = q ∙ ap (λ v. paint_row size (λ e _. filtered v s (numbers (λ x. x) old) e) old) m
+    ∙ ap (λ v. paint_row size (λ e _. filtered n s v e) old) r in
     entries_painted size (filtered n s (entries old)) old t a l (λ k h. grind (arith, nat_tests))
 
 -- what the upsampling leaves of a list
-pub entries_upsampled : (depth m : ℕ) (old t : List ℕ) → t ≡ paint_row (2 * m + 1) (λ e _. upsampled depth m (numbers (λ x. x) old) e) old → 2 * m + 1 ≤ length old → entries t ≡ upsampled depth m (entries old)
+pub entries_upsampled : (depth m : ℕ) (old t : List ℕ) → t ≡ paint_row (2 * m + 1) (λ e _. upsampled depth m (numbers (λ x. x) old) e) old →
+    2 * m + 1 ≤ length old → entries t ≡ upsampled depth m (entries old)
 unfolding upsampled
 entries_upsampled depth m old t q l =
     let r : numbers (λ (x : ℕ). x) old ≡ entries old = ap entries (map-id old) in
-    let a : t ≡ paint_row (2 * m + 1) (λ e _. upsampled depth m (entries old) e) old = q ∙ ap (λ v. paint_row (2 * m + 1) (λ e _. upsampled depth m v e) old) r in
+    let a : t ≡ paint_row (2 * m + 1) (λ e _. upsampled depth m (entries old) e) old = q ∙ ap (λ v. paint_row (2 * m + 1) (λ e _. upsampled depth m v e) old) r
+    in
     entries_painted (2 * m + 1) (upsampled depth m (entries old)) old t a l (λ k h. grind (arith, nat_tests))
 
 -- a side that holds n places is 0 past them, and holds the number of each
 pub side_past : (x n e : ℕ) (xs : List ℕ) → n + 1 ≤ e → entries (x ∷ take n xs) e ≡ 0
 side_past x n e xs h = get_or_past (x ∷ take n xs) e 0 (grind (arith, places))
 
-pub side_place : {X : Type 0} (num : X → ℕ) (corner x : X) (n k y : ℕ) (xs : List X) → k < n → n ≤ length xs → x ≡ get_or xs k x → y ≡ num x → y ≡ side (num corner) (take n (map num xs)) (k + 1)
+pub side_place : {X : Type 0} (num : X → ℕ) (corner x : X) (n k y : ℕ) (xs : List X) → k < n → n ≤ length xs → x ≡ get_or xs k x → y ≡ num x →
+    y ≡ side (num corner) (take n (map num xs)) (k + 1)
 side_place num corner x n k y xs h l r q =
-    q ∙ ap num r ∙ sym (get_or-map num xs k x 0 (omega arith)) ∙ sym (get_or-take n (map num xs) k 0 h) ∙ sym (ap (λ v. get_or (num corner ∷ take n (map num xs)) v 0) (add-one k))
+    q ∙ ap num r ∙ sym (get_or-map num xs k x 0 (omega arith)) ∙ sym (get_or-take n (map num xs) k 0 h)
+    ∙ sym (ap (λ v. get_or (num corner ∷ take n (map num xs)) v 0) (add-one k))
 
-pub left_place : {X : Type 0} (num : X → ℕ) (corner x : X) (n k y : ℕ) (xs : List X) → k < n → n ≤ length xs → x ≡ get_or xs (length xs - 1 - k) x → y ≡ num x → y ≡ side (num corner) (take n (reverse (map num xs))) (k + 1)
+pub left_place : {X : Type 0} (num : X → ℕ) (corner x : X) (n k y : ℕ) (xs : List X) → k < n → n ≤ length xs → x ≡ get_or xs (length xs - 1 - k) x → y ≡ num x →
+    y ≡ side (num corner) (take n (reverse (map num xs))) (k + 1)
 left_place num corner x n k y xs h l r q =
     let m : length (map num xs) ≡ length xs = simp length-map in
     q ∙ ap num r ∙ sym (get_or-map num xs (length xs - 1 - k) x 0 (omega arith)) ∙ ap (λ v. get_or (map num xs) (v - 1 - k) 0) (sym m)

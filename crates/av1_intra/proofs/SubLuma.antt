@@ -10,7 +10,8 @@ use Rattle.av1_frame.specs.Samples.{row_start}
 use Rattle.av1_edges.specs.Edges.{region_sample}
 
 -- all from a column and a row of it on
-pub rest_lies : (cfg : PlaneConfig) (a : StoredArea) (x y w h : ℕ) → x ≤ a.width → y ≤ a.height → w ≡ a.width → h ≡ a.height → a.x + a.width < 2 ^ 63 → a.y + a.height < 2 ^ 63 → LiesIn a.x a.y cfg a (Rectangle (to_z w64 x) (to_z w64 y) (w - x) (h - y))
+pub rest_lies : (cfg : PlaneConfig) (a : StoredArea) (x y w h : ℕ) → x ≤ a.width → y ≤ a.height → w ≡ a.width → h ≡ a.height → a.x + a.width < 2 ^ 63 →
+    a.y + a.height < 2 ^ 63 → LiesIn a.x a.y cfg a (Rectangle (to_z w64 x) (to_z w64 y) (w - x) (h - y))
 rest_lies cfg a x y w h p q e f m n =
     let i : unsigned_abs (pos a.x +ℤ to_z w64 x) ≡ a.x + x = omega (arith, ints) in
     let j : unsigned_abs (pos a.y +ℤ to_z w64 y) ≡ a.y + y = omega (arith, ints) in

@@ -1,5 +1,6 @@
 -- Luma's part of a sample of chroma.
-use Rattle.std.proofs.Common.{ℕ, zero, suc, ◌+◌, ◌*◌, ◌/◌, ◌≤◌, ◌≡◌, arith, ap, ◌∙◌, sym, cond, refl, true, false, ℤ, pos, negsuc, neg_ℤ, ◌+ℤ◌, ◌*ℤ◌, ◌-ℤ◌, unsigned_abs, to_z, of_z, w16, w32, FitsSigned}
+use Rattle.std.proofs.Common.{ℕ, zero, suc, ◌+◌, ◌*◌, ◌/◌, ◌≤◌, ◌≡◌, arith, ap, ◌∙◌, sym, cond, refl, true, false, ℤ, pos, negsuc, neg_ℤ, ◌+ℤ◌, ◌*ℤ◌, ◌-ℤ◌}
+use Rattle.std.proofs.Common.{unsigned_abs, to_z, of_z, w16, w32, FitsSigned}
 use Rattle.std.proofs.lemmas.Int.{ints, unsigned_abs-mul, to_z-of_z, fits_signed_from_abs}
 use Rattle.std.proofs.lemmas.Bool.Decides.{nat_tests}
 use Rattle.std.proofs.Math.Nat.{mul-le-mul}
@@ -18,7 +19,8 @@ product_small a b f g =
     omega (arith, m, e)
 
 -- the same through words
-pub product_word : (a b : ℤ) → FitsSigned w16 a → FitsSigned w16 b → unsigned_abs (to_z w32 (of_z w32 (to_z w32 (of_z w32 a) *ℤ to_z w32 (of_z w32 b)))) ≤ 1073741824
+pub product_word : (a b : ℤ) → FitsSigned w16 a → FitsSigned w16 b →
+    unsigned_abs (to_z w32 (of_z w32 (to_z w32 (of_z w32 a) *ℤ to_z w32 (of_z w32 b)))) ≤ 1073741824
 product_word a b f g =
     let x : to_z w32 (of_z w32 a) ≡ a = omega (arith, ints) in
     let y : to_z w32 (of_z w32 b) ≡ b = omega (arith, ints) in
@@ -36,7 +38,8 @@ scaled q = let n = pos ((unsigned_abs q + 32) / 64) in cond (int_lt q (pos 0)) (
 not_below : (k : ℕ) → int_lt (pos k) (pos 0) ≡ false
 not_below k = grind (arith, nat_tests)
 
-pub scaled_below : (q p : ℤ) (n : ℕ) → p ≡ q → int_lt p (pos 0) ≡ true → n ≡ unsigned_abs q → unsigned_abs q ≤ 1073741824 → to_z w32 (of_z w32 (pos 0 -ℤ to_z w32 ((n + 32) / 64))) ≡ scaled q
+pub scaled_below : (q p : ℤ) (n : ℕ) → p ≡ q → int_lt p (pos 0) ≡ true → n ≡ unsigned_abs q → unsigned_abs q ≤ 1073741824 →
+    to_z w32 (of_z w32 (pos 0 -ℤ to_z w32 ((n + 32) / 64))) ≡ scaled q
 scaled_below (pos k) p n w h e s = absurd (false-true (sym (not_below k) ∙ ap (λ z. int_lt z (pos 0)) (sym w) ∙ h))
 scaled_below (negsuc k) p n w h e s =
     let m : (n + 32) / 64 ≤ 16777216 = omega (arith, e, s) in
@@ -73,7 +76,8 @@ pub unweighted : (depth : ℕ) (alpha : ℤ) (dc : ℕ) (d : ℤ) → int_eq alp
 unfolding from_luma
 unweighted depth alpha dc d t = rw t refl
 
-pub weighed : (depth : ℕ) (alpha p : ℤ) (dc : ℕ) (d : ℤ) → p ≡ alpha → int_eq alpha (pos 0) ≡ false → clip depth (pos dc +ℤ scaled_luma p d) ≡ from_luma depth alpha dc d
+pub weighed : (depth : ℕ) (alpha p : ℤ) (dc : ℕ) (d : ℤ) → p ≡ alpha → int_eq alpha (pos 0) ≡ false →
+    clip depth (pos dc +ℤ scaled_luma p d) ≡ from_luma depth alpha dc d
 unfolding from_luma
 weighed depth alpha p dc d e t = ap (λ z. clip depth (pos dc +ℤ scaled_luma z d)) e ∙ rw t refl
 

@@ -1,5 +1,6 @@
 -- What is predicted from an edge within a depth lies within it.
-use Rattle.std.proofs.Common.{ℕ, ◌+◌, ◌-◌, ◌*◌, ◌/◌, ◌%◌, ◌^◌, ◌<◌, ◌≤◌, ◌≡◌, List, [], ◌∷◌, length, get_or, sum, slice_index, eqb, ltb, leb, true, false, refl, subst, sym, add-one, arith, inl, inr, ℤ, pos, ◌+ℤ◌, suc, lit≤}
+use Rattle.std.proofs.Common.{ℕ, ◌+◌, ◌-◌, ◌*◌, ◌/◌, ◌%◌, ◌^◌, ◌<◌, ◌≤◌, ◌≡◌, List, [], ◌∷◌, length, get_or, sum, slice_index, eqb, ltb, leb, true, false, refl}
+use Rattle.std.proofs.Common.{subst, sym, add-one, arith, inl, inr, ℤ, pos, ◌+ℤ◌, suc, lit≤}
 use Rattle.std.specs.List.{All, list_all}
 use Rattle.std.specs.Ordering.{int_eq}
 use Rattle.std.proofs.lemmas.Bool.Decides.{nat_tests}
@@ -47,7 +48,8 @@ mean_below bound (n ∷ ns) some all =
 
 entry_tested : (ns : List ℕ) (k : ℕ) → list_all (λ n. leb n 256) ns ≡ true → slice_index ns k ≤ 256
 entry_tested ns k h = elim (cases_lt k (length ns)) [
-  | inl l ↦ (let t : leb (get_or ns k 0) 256 ≡ true = All-get_or (λ n. leb n 256 ≡ true) ns k 0 l (AllPass-from_list_all (λ n. leb n 256) ns h) in grind (arith, nat_tests))
+  | inl l ↦ (let t : leb (get_or ns k 0) 256 ≡ true = All-get_or (λ n. leb n 256 ≡ true) ns k 0 l (AllPass-from_list_all (λ n. leb n 256) ns h)
+      in grind (arith, nat_tests))
   | inr l ↦ subst (λ n. n ≤ 256) (sym (get_or_past ns k 0 l)) (lit≤ tt)
 ]
 
@@ -159,9 +161,11 @@ pub predicted_within : (b : DirectionalBlock) (v : PredictionVariant) (mode : Pr
 unfolding predicted
 predicted_within b v DC_PRED alpha ac e r c deep edge = dc_within b.bit_depth e deep edge v b.width b.height
 predicted_within b v SMOOTH_PRED alpha ac e r c deep edge =
-    smooth_below (2 ^ b.bit_depth) (entries e.above) (entries e.left) (above_within b.bit_depth e deep edge) (left_within b.bit_depth e deep edge) r c b.width b.height
+    smooth_below (2 ^ b.bit_depth) (entries e.above) (entries e.left) (above_within b.bit_depth e deep edge)
+    (left_within b.bit_depth e deep edge) r c b.width b.height
 predicted_within b v SMOOTH_V_PRED alpha ac e r c deep edge =
-    smooth_v_below (2 ^ b.bit_depth) (entries e.above) (entries e.left) (above_within b.bit_depth e deep edge) (left_within b.bit_depth e deep edge) r c b.height
+    smooth_v_below (2 ^ b.bit_depth) (entries e.above) (entries e.left) (above_within b.bit_depth e deep edge)
+    (left_within b.bit_depth e deep edge) r c b.height
 predicted_within b v SMOOTH_H_PRED alpha ac e r c deep edge =
     smooth_h_below (2 ^ b.bit_depth) (entries e.above) (entries e.left) (above_within b.bit_depth e deep edge) (left_within b.bit_depth e deep edge) r c b.width
 predicted_within b v PAETH_PRED alpha ac e r c deep edge =

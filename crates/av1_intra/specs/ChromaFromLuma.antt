@@ -1,7 +1,9 @@
 -- Chroma from luma: chroma follows luma, as far as luma is from its mean.
 -- AV1 specification: predict chroma from luma process.
 -- `luma x y` is the number of the luma sample at column x of row y.
-use Rattle.std.specs.Prelude.{ℕ, ◌+◌, ◌-◌, ◌*◌, ◌/◌, ◌%◌, ◌^◌, ◌==◌, ◌&&◌, not, nat_le, if◌then◌else◌, min, max, List, map, sum, slice_index, slice_index_or, ℤ, pos, neg_ℤ, ◌+ℤ◌, ◌-ℤ◌, ◌*ℤ◌, unsigned_abs, int_lt}
+use Rattle.std.specs.Prelude.{ℕ, ◌+◌, ◌-◌, ◌*◌, ◌/◌, ◌%◌, ◌^◌, ◌==◌, ◌&&◌, not, nat_le, if◌then◌else◌, min, max, List}
+use Rattle.std.specs.Prelude.{map, sum, slice_index, slice_index_or, ℤ, pos, neg_ℤ, ◌+ℤ◌, ◌-ℤ◌, ◌*ℤ◌, unsigned_abs}
+use Rattle.std.specs.Prelude.{int_lt}
 use Rattle.std.specs.Ordering.{int_eq}
 use Rattle.av1_blocks.specs.declared.partition.BlockSize.{BlockSize}
 use Rattle.av1_blocks.specs.Blocks.{block_width, block_height}
@@ -68,7 +70,8 @@ padded_block bsize w_pad h_pad xdec ydec = record {
 
 -- ---- the luma of a leaf, along its rows or its columns
 
--- Where it begins: chroma of a leaf with a side of 4 that is halved belongs to the 8 samples of luma of which the leaf has the last 4.
+-- Where it begins: chroma of a leaf with a side of 4 that is halved belongs to the 8 samples of luma of which the leaf
+-- has the last 4.
 abbrev pub luma_start : (first side decimation : ℕ) → ℕ
 luma_start first side decimation = if not (decimation == 0) && side == 4 then first - 4 else first
 
@@ -84,7 +87,8 @@ averaged_side side coded decimation = side - (side - coded) / (4 * 2 ^ decimatio
 -- the last column (or row) that samples of chroma of the leaf begin at
 abbrev pub last_of_leaf : (first side tx_side visible decimation : ℕ) → ℕ
 last_of_leaf first side tx_side visible decimation =
-    last_begun (averaged_side side (coded_side (luma_start first side decimation) side tx_side visible) decimation) decimation
+    last_begun (averaged_side side (coded_side (luma_start first side decimation) side tx_side visible) decimation)
+    decimation
 
 -- the leaf's block of chroma
 abbrev pub chroma_block : LumaLeaf → ChromaBlock
@@ -111,8 +115,8 @@ leaf_difference luma leaf r c =
 
 -- ---- prediction
 
--- What the difference d of luma, in eighths, adds at the weight alpha, in eighths too: rounded to the nearest number, and away from 0
--- where two are as near.
+-- What the difference d of luma, in eighths, adds at the weight alpha, in eighths too: rounded to the nearest number,
+-- and away from 0 where two are as near.
 abbrev pub scaled_luma : (alpha d : ℤ) → ℤ
 scaled_luma alpha d =
     let q = alpha *ℤ d in

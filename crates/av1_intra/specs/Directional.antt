@@ -1,7 +1,8 @@
 -- The samples of a block that is predicted along a direction.
 -- AV1 specification: directional intra prediction process.
 -- A side gives a number for each entry here: entry 0 is the corner, and entry k + 1 is place k.
-use Rattle.std.specs.Prelude.{ℕ, ◌+◌, ◌-◌, ◌*◌, ◌/◌, ◌%◌, ◌^◌, List, ◌∷◌, take, Bool, nat_le, nat_lt, if◌then◌else◌, min, Option, None, Some, pos}
+use Rattle.std.specs.Prelude.{ℕ, ◌+◌, ◌-◌, ◌*◌, ◌/◌, ◌%◌, ◌^◌, List, ◌∷◌, take, Bool, nat_le, nat_lt, if◌then◌else◌}
+use Rattle.std.specs.Prelude.{min, Option, None, Some, pos}
 use Rattle.std.specs.Option.{option_map}
 use Rattle.av1_frame.specs.Arithmetic.{clip}
 use Rattle.av1_frame.specs.declared.plane_region.PlaneRegionMut.{PlaneRegionMut}
@@ -20,8 +21,10 @@ visible_columns r = r.plane_cfg.xorigin + r.plane_cfg.width - r.area.x
 abbrev pub visible_rows : {T : Type 0} → PlaneRegionMut T → ℕ
 visible_rows r = r.plane_cfg.yorigin + r.plane_cfg.height - r.area.y
 
--- the block of w columns and h rows at the first sample of the region r, along the angle p; its sides are filtered where there are parameters
-abbrev pub block_at : {T : Type 0} → PlaneRegionMut T → ℕ → ℕ → ℕ → ℕ → Option IntraEdgeFilterParameters → DirectionalBlock
+-- the block of w columns and h rows at the first sample of the region r, along the angle p; its sides are filtered
+-- where there are parameters
+abbrev pub block_at : {T : Type 0} → PlaneRegionMut T → ℕ → ℕ → ℕ → ℕ → Option IntraEdgeFilterParameters →
+    DirectionalBlock
 block_at r p w h depth parameters = record {
   p_angle = p;
   width = w;
@@ -48,7 +51,8 @@ entry u n k = n / 2 ^ (6 - u) + k * 2 ^ u
 unfoldable pub at : ℕ → Side → ℕ → ℕ → ℕ → ℕ
 at depth E u n k = blend depth E (entry u n k) (n * 2 ^ u / 2 % 32)
 
--- An angle below 90, in column j of the row whose line meets the side above at n/64 past the corner; past the last of its s places that is repeated.
+-- An angle below 90, in column j of the row whose line meets the side above at n/64 past the corner; past the last of
+-- its s places that is repeated.
 unfoldable pub below_90 : ℕ → Side → ℕ → ℕ → ℕ → ℕ → ℕ
 below_90 depth E u s n j =
     if nat_lt (entry u n j) (s * 2 ^ u) then at depth E u n j else clip depth (pos (E (s * 2 ^ u)))
@@ -76,24 +80,28 @@ prepared b d n m A =
     let F = filtered n (filter_strength (b.width + b.height) smooth d) A in
     if is_upsampled (b.width + b.height) smooth d then upsampled b.bit_depth m F else F)
 
--- how many places past the block's own are read: above where the angle is below 90, and on the left where it is past 180
+-- how many places past the block's own are read: above where the angle is below 90, and on the left where it is past
+-- 180
 abbrev pub more_above : DirectionalBlock → ℕ
 more_above b = if nat_lt b.p_angle 90 then b.height else 0
 
 abbrev pub more_left : DirectionalBlock → ℕ
 more_left b = if nat_lt 180 b.p_angle then b.width else 0
 
--- The side above, prepared: the block's own places count as far as they are visible where the side is smoothed. The places run from the left.
+-- The side above, prepared: the block's own places count as far as they are visible where the side is smoothed. The
+-- places run from the left.
 abbrev pub above_side : DirectionalBlock → ℕ → List ℕ → Side
 above_side b corner above =
     let places = b.width + more_above b in
-    prepared b (distance b.p_angle 90) (min b.width b.visible_columns + more_above b) places (side corner (take places above))
+    prepared b (distance b.p_angle 90)
+    (min b.width b.visible_columns + more_above b) places (side corner (take places above))
 
 -- The left side in the same way. The places run from the top.
 abbrev pub left_side : DirectionalBlock → ℕ → List ℕ → Side
 left_side b corner left =
     let places = b.height + more_left b in
-    prepared b (distance b.p_angle 180) (min b.height b.visible_rows + more_left b) places (side corner (take places left))
+    prepared b (distance b.p_angle 180)
+    (min b.height b.visible_rows + more_left b) places (side corner (take places left))
 
 -- the sample at row i and column j of the block b
 unfoldable pub directional : DirectionalBlock → ℕ → List ℕ → List ℕ → ℕ → ℕ → ℕ

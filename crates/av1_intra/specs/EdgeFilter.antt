@@ -1,10 +1,11 @@
 -- The filter of a side before it is interpolated.
 -- A side gives a number for each entry here: entry 0 is the corner, and entry k + 1 is place k.
-use Rattle.std.specs.Prelude.{ℕ, ◌+◌, ◌-◌, ◌*◌, ◌/◌, ◌==◌, List, [], ◌∷◌, Bool, true, false, ◌&&◌, nat_le, nat_lt, if◌then◌else◌, min}
+use Rattle.std.specs.Prelude.{ℕ, ◌+◌, ◌-◌, ◌*◌, ◌/◌, ◌==◌, List, [], ◌∷◌, Bool, true, false, ◌&&◌, nat_le, nat_lt}
+use Rattle.std.specs.Prelude.{if◌then◌else◌, min}
 use Rattle.av1_intra.specs.Sides.{Side}
 
--- How strongly a side is smoothed, by the sum s of the block's sides, whether a neighbour is smooth, and how far the angle is from the side's own, d degrees.
--- AV1 specification: intra edge filter strength selection process.
+-- How strongly a side is smoothed, by the sum s of the block's sides, whether a neighbour is smooth, and how far the
+-- angle is from the side's own, d degrees. AV1 specification: intra edge filter strength selection process.
 abbrev pub filter_strength : ℕ → Bool → ℕ → ℕ
 filter_strength s true d =
     if nat_le s 8 then (if nat_le 64 d then 2 else if nat_le 40 d then 1 else 0)
@@ -30,8 +31,9 @@ abbrev pub weighted : List ℕ → ℕ → (ℕ → ℕ) → ℕ
 weighted [] j f = 0
 weighted (w ∷ ws) j f = w * f j + weighted ws (j + 1) f
 
--- The first n places of a side smoothed: each becomes the mean of itself and two entries on either side, where those past the corner and past place n - 1 repeat these two. The corner and all other places stay.
--- AV1 specification: intra edge filter process.
+-- The first n places of a side smoothed: each becomes the mean of itself and two entries on either side, where those
+-- past the corner and past place n - 1 repeat these two. The corner and all other places stay. AV1 specification: intra
+-- edge filter process.
 unfoldable pub filtered : ℕ → ℕ → Side → Side
 filtered n strength A = λ e.
     if (nat_lt 0 strength && nat_le 1 e) && nat_le e n

@@ -1,8 +1,10 @@
 -- The samples of a block by its intra mode, from the edge round it.
 -- AV1 specification: intra prediction process.
-use Rattle.std.specs.Prelude.{ℕ, zero, suc, ◌+◌, ◌-◌, ◌%◌, ◌==◌, ◌&&◌, nat_le, nat_lt, if◌then◌else◌, Bool, true, List, map, take, reverse, ◌++◌, ℤ, pos, ◌-ℤ◌, unsigned_abs}
+use Rattle.std.specs.Prelude.{ℕ, zero, suc, ◌+◌, ◌-◌, ◌%◌, ◌==◌, ◌&&◌, nat_le, nat_lt, if◌then◌else◌, Bool, true, List}
+use Rattle.std.specs.Prelude.{map, take, reverse, ◌++◌, ℤ, pos, ◌-ℤ◌, unsigned_abs}
 use Rattle.av1_blocks.specs.declared.predict.PredictionMode.{PredictionMode}
-use Rattle.av1_blocks.specs.declared.predict.PredictionMode.TheVariants.{DC_PRED, SMOOTH_PRED, SMOOTH_V_PRED, SMOOTH_H_PRED, PAETH_PRED, UV_CFL_PRED}
+use Rattle.av1_blocks.specs.declared.predict.PredictionMode.TheVariants.{DC_PRED, SMOOTH_PRED, SMOOTH_V_PRED}
+use Rattle.av1_blocks.specs.declared.predict.PredictionMode.TheVariants.{SMOOTH_H_PRED, PAETH_PRED, UV_CFL_PRED}
 use Rattle.av1_blocks.specs.declared.predict.IntraParam.{IntraParam}
 use Rattle.av1_blocks.specs.declared.predict.IntraParam.TheVariants.{Alpha}
 use Rattle.av1_blocks.specs.Modes.{is_directional, intra_mode_to_angle}
@@ -58,9 +60,10 @@ along b e r c =
     else if b.p_angle == 180 then entries e.left r
     else directional b e.corner e.above e.left r c
 
--- The sample at row r and column c of the block b. Luma's difference from its mean at row r and column c is `ac r c`, and it weighs
--- alpha eighths. Inter modes are not predicted from an edge.
-unfoldable pub predicted : DirectionalBlock → PredictionVariant → PredictionMode → (alpha : ℤ) → (ac : ℕ → ℕ → ℤ) → Edge → ℕ → ℕ → ℕ
+-- The sample at row r and column c of the block b. Luma's difference from its mean at row r and column c is `ac r c`,
+-- and it weighs alpha eighths. Inter modes are not predicted from an edge.
+unfoldable pub predicted : DirectionalBlock → PredictionVariant → PredictionMode → (alpha : ℤ) → (ac : ℕ → ℕ → ℤ) →
+    Edge → ℕ → ℕ → ℕ
 predicted b v DC_PRED alpha ac e r c = dc v b.bit_depth b.width b.height e
 predicted b v SMOOTH_PRED alpha ac e r c = smoothly SMOOTH_PRED b.width b.height e r c
 predicted b v SMOOTH_V_PRED alpha ac e r c = smoothly SMOOTH_V_PRED b.width b.height e r c

@@ -2,14 +2,19 @@
 use Rattle.std.specs.Prelude.{ℕ, ◌+◌, ◌-◌, ◌*◌, ◌/◌, ◌==◌, List, [], ◌∷◌, if◌then◌else◌, slice_index}
 use Rattle.av1_intra.specs.Sides.{Side}
 
--- the weights of the places of a side of n, in 256ths (Sm_Weights_Tx_4x4 to Sm_Weights_Tx_64x64); no block has another side
+-- the weights of the places of a side of n, in 256ths (Sm_Weights_Tx_4x4 to Sm_Weights_Tx_64x64); no block has another
+-- side
 unfoldable pub weights : ℕ → List ℕ
 weights n =
     if n == 4 then 255 ∷ 149 ∷ 85 ∷ 64 ∷ []
     else if n == 8 then 255 ∷ 197 ∷ 146 ∷ 105 ∷ 73 ∷ 50 ∷ 37 ∷ 32 ∷ []
     else if n == 16 then 255 ∷ 225 ∷ 196 ∷ 170 ∷ 145 ∷ 123 ∷ 102 ∷ 84 ∷ 68 ∷ 54 ∷ 43 ∷ 33 ∷ 26 ∷ 20 ∷ 17 ∷ 16 ∷ []
-    else if n == 32 then 255 ∷ 240 ∷ 225 ∷ 210 ∷ 196 ∷ 182 ∷ 169 ∷ 157 ∷ 145 ∷ 133 ∷ 122 ∷ 111 ∷ 101 ∷ 92 ∷ 83 ∷ 74 ∷ 66 ∷ 59 ∷ 52 ∷ 45 ∷ 39 ∷ 34 ∷ 29 ∷ 25 ∷ 21 ∷ 17 ∷ 14 ∷ 12 ∷ 10 ∷ 9 ∷ 8 ∷ 8 ∷ []
-    else if n == 64 then 255 ∷ 248 ∷ 240 ∷ 233 ∷ 225 ∷ 218 ∷ 210 ∷ 203 ∷ 196 ∷ 189 ∷ 182 ∷ 176 ∷ 169 ∷ 163 ∷ 156 ∷ 150 ∷ 144 ∷ 138 ∷ 133 ∷ 127 ∷ 121 ∷ 116 ∷ 111 ∷ 106 ∷ 101 ∷ 96 ∷ 91 ∷ 86 ∷ 82 ∷ 77 ∷ 73 ∷ 69 ∷ 65 ∷ 61 ∷ 57 ∷ 54 ∷ 50 ∷ 47 ∷ 44 ∷ 41 ∷ 38 ∷ 35 ∷ 32 ∷ 29 ∷ 27 ∷ 25 ∷ 22 ∷ 20 ∷ 18 ∷ 16 ∷ 15 ∷ 13 ∷ 12 ∷ 10 ∷ 9 ∷ 8 ∷ 7 ∷ 6 ∷ 6 ∷ 5 ∷ 5 ∷ 4 ∷ 4 ∷ 4 ∷ []
+    else if n == 32 then 255 ∷ 240 ∷ 225 ∷ 210 ∷ 196 ∷ 182 ∷ 169 ∷ 157 ∷ 145 ∷ 133 ∷ 122 ∷ 111 ∷ 101 ∷ 92 ∷ 83 ∷ 74 ∷
+    66 ∷ 59 ∷ 52 ∷ 45 ∷ 39 ∷ 34 ∷ 29 ∷ 25 ∷ 21 ∷ 17 ∷ 14 ∷ 12 ∷ 10 ∷ 9 ∷ 8 ∷ 8 ∷ []
+    else if n == 64 then 255 ∷ 248 ∷ 240 ∷ 233 ∷ 225 ∷ 218 ∷ 210 ∷ 203 ∷ 196 ∷ 189 ∷ 182 ∷ 176 ∷ 169 ∷ 163 ∷ 156 ∷ 150 ∷
+    144 ∷ 138 ∷ 133 ∷ 127 ∷ 121 ∷ 116 ∷ 111 ∷ 106 ∷ 101 ∷ 96 ∷ 91 ∷ 86 ∷ 82 ∷ 77 ∷ 73 ∷ 69 ∷ 65 ∷ 61 ∷ 57 ∷ 54 ∷
+    50 ∷ 47 ∷ 44 ∷ 41 ∷ 38 ∷ 35 ∷ 32 ∷ 29 ∷ 27 ∷ 25 ∷ 22 ∷ 20 ∷ 18 ∷ 16 ∷ 15 ∷ 13 ∷ 12 ∷ 10 ∷ 9 ∷ 8 ∷ 7 ∷ 6 ∷ 6 ∷
+    5 ∷ 5 ∷ 4 ∷ 4 ∷ 4 ∷ []
     else []
 
 -- the sum of 256 times a weighted mean: a by a weight in 256ths, and b by what is left of it

@@ -15,7 +15,8 @@ abbrev pub tile_luma : {T : Type 0} → (T → ℕ) → PlaneRegionMut T → ℕ
 tile_luma num r x y = slice_index (map num (stored r)) (row_start r.plane_cfg.stride r.area y + x)
 
 -- the leaf at a cell of the tile; all counts from the tile's first sample
-abbrev pub leaf_in_tile : {T : Type 0} → TileStateMut T → TileBlockOffset → BlockSize → TxSize → FrameInvariants T → LumaLeaf
+abbrev pub leaf_in_tile : {T : Type 0} → TileStateMut T → TileBlockOffset → BlockSize → TxSize → FrameInvariants T →
+    LumaLeaf
 leaf_in_tile ts bo bsize tx_size fi = record {
   x = 4 * bo.0.x;
   y = 4 * bo.0.y;

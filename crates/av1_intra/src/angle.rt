@@ -3,8 +3,8 @@
 ghost use Rattle.std.specs.Prelude.{◌≡◌};
 ghost use Rattle.av1_intra.specs.Angles.{derivative};
 
-/// How far a line of the angle `p_angle`, in degrees, moves along an edge for each sample away from it, in 64ths of a sample;
-/// 0 for an angle that no directional mode asks for.
+/// How far a line of the angle `p_angle`, in degrees, moves along an edge for each sample away from it, in 64ths of a
+/// sample; 0 for an angle that no directional mode asks for.
 ///
 /// AV1 specification: directional intra prediction process (Dr_Intra_Derivative).
 #[tactic(auto, unfolding(crate::specs::Angles::derivative))]

@@ -100,7 +100,8 @@ fn predict_smooth<T: Pixel>(
     requires height { IsTransformSide area.height }
     requires above_long { area.width ≤ length above.now }
     requires left_long { area.height ≤ length left.now }
-    ensures { samples.new ≡ paint stride area (λ r c _. T.pixel (smoothly mode area.width area.height (edge_round T.num left.now (T.num corner) above.now) r c)) samples.old }
+    ensures { samples.new ≡ paint stride area (λ r c _. T.pixel (smoothly mode area.width area.height (edge_round T.num left.now (T.num corner) above.now) r c))
+        samples.old }
 {
     let left = beside(left, area.height);
     match mode {
@@ -111,16 +112,18 @@ fn predict_smooth<T: Pixel>(
     }
 }
 
-/// Predicts the samples of a rectangle by an intra mode, from the sides round it: as `dispatch_predict_intra`, over `samples`, whose
-/// rows stand `stride` apart. All samples outside the rectangle stay.
+/// Predicts the samples of a rectangle by an intra mode, from the sides round it: as `dispatch_predict_intra`, over
+/// `samples`, whose rows stand `stride` apart. All samples outside the rectangle stay.
 ///
-/// `block` is the rectangle: its sides are those of a transform, and its angle, from 0 to 270 degrees, is that of a directional mode. With
-/// `smooth_filter` the edge filter is on, and tells whether a neighbour has a smooth mode; of the places beside the block only those
-/// are smoothed that lie in its visible columns and rows. `variant` tells which sides lie in the tile, for the modes that take a mean.
-/// `UV_CFL_PRED` adds to the mean the differences of luma in `ac`, row by row, at the weight `alpha`; both are in eighths.
+/// `block` is the rectangle: its sides are those of a transform, and its angle, from 0 to 270 degrees, is that of a
+/// directional mode. With `smooth_filter` the edge filter is on, and tells whether a neighbour has a smooth mode; of
+/// the places beside the block only those are smoothed that lie in its visible columns and rows. `variant` tells which
+/// sides lie in the tile, for the modes that take a mean. `UV_CFL_PRED` adds to the mean the differences of luma in
+/// `ac`, row by row, at the weight `alpha`; both are in eighths.
 ///
-/// `left` runs from the bottom up, and its last sample stands beside the first row; `above` runs from the left, and `corner` stands
-/// between them. Of each side a mode reads as many places as `places_left` and `places_above` say, those nearest to the corner.
+/// `left` runs from the bottom up, and its last sample stands beside the first row; `above` runs from the left, and
+/// `corner` stands between them. Of each side a mode reads as many places as `places_left` and `places_above` say,
+/// those nearest to the corner.
 ///
 /// AV1 specification: intra prediction process.
 pub fn dispatch_predict_intra_to<T: Pixel>(
@@ -149,7 +152,8 @@ pub fn dispatch_predict_intra_to<T: Pixel>(
     requires low { 8 ≤ block.bit_depth }
     requires high { block.bit_depth ≤ T.BITS }
     ensures { samples.new ≡ paint stride area
-        (λ r c _. T.pixel (predicted block variant mode alpha (ac_at block.width ac.now) (edge_round T.num left.now (T.num corner) above.now) r c)) samples.old }
+        (λ r c _. T.pixel (predicted block variant mode alpha (ac_at block.width ac.now) (edge_round T.num left.now (T.num corner) above.now) r c))
+        samples.old }
 {
     match mode {
         PredictionMode::DC_PRED => {

@@ -2,7 +2,8 @@
 //!
 //! AV1 specification: predict chroma from luma process.
 
-ghost use Rattle.std.specs.Prelude.{◌≡◌, ℕ, ◌+◌, ◌*◌, ◌^◌, ◌<◌, ◌≤◌, length, map, take, ◌++◌, pos, ℤ, slice_index_or, ◌≤ℤ◌, ◌<ℤ◌, ◌+ℤ◌, ◌*ℤ◌, if◌then◌else◌, unsigned_abs};
+ghost use Rattle.std.specs.Prelude.{◌≡◌, ℕ, ◌+◌, ◌*◌, ◌^◌, ◌<◌, ◌≤◌, length, map, take, ◌++◌, pos, ℤ, slice_index_or, ◌≤ℤ◌, ◌<ℤ◌, ◌+ℤ◌, ◌*ℤ◌, if◌then◌else◌};
+ghost use Rattle.std.specs.Prelude.{unsigned_abs};
 ghost use Rattle.std.specs.Ordering.{int_eq};
 ghost use Rattle.av1_frame.specs.Arithmetic.{clip};
 ghost use Rattle.av1_frame.specs.Areas.{AreRows};
@@ -59,7 +60,8 @@ fn row_from_luma<T: Pixel>(
     requires row_long { width ≤ length row.old }
     requires ac_long { start + width ≤ length ac.now }
     requires depth { bit_depth ≤ T.BITS }
-    ensures { row.new ≡ paint_row width (λ c _. T.pixel (clip bit_depth (pos (T.num dc) +ℤ scaled_luma alpha (slice_index_or ac.now (start + c) (pos 0))))) row.old }
+    ensures { row.new ≡ paint_row width (λ c _. T.pixel (clip bit_depth (pos (T.num dc) +ℤ scaled_luma alpha (slice_index_or ac.now (start + c) (pos 0)))))
+        row.old }
 {
     let dc = dc.to_i32();
     for c in 0..width {
@@ -83,7 +85,8 @@ fn block_from_luma<T: Pixel>(
     requires height { area.height ≤ 128 }
     requires ac_long { area.width * area.height ≤ length ac.now }
     requires depth { bit_depth ≤ T.BITS }
-    ensures { samples.new ≡ paint stride area (λ r c _. T.pixel (clip bit_depth (pos (T.num dc) +ℤ scaled_luma alpha (ac_at area.width ac.now r c)))) samples.old }
+    ensures { samples.new ≡ paint stride area (λ r c _. T.pixel (clip bit_depth (pos (T.num dc) +ℤ scaled_luma alpha (ac_at area.width ac.now r c))))
+        samples.old }
 {
     let width = area.width;
     for r in 0..area.height {
@@ -92,11 +95,11 @@ fn block_from_luma<T: Pixel>(
     }
 }
 
-/// Predicts the samples of a rectangle from luma: each becomes the DC prediction `dc`, and what its difference in `ac` adds to it at the
-/// weight `alpha`, clipped to the depth. The rows of `samples` stand `stride` apart.
+/// Predicts the samples of a rectangle from luma: each becomes the DC prediction `dc`, and what its difference in `ac`
+/// adds to it at the weight `alpha`, clipped to the depth. The rows of `samples` stand `stride` apart.
 ///
-/// `ac` holds the differences of luma from its mean in eighths, row by row (see `pred_cfl_ac`), and `alpha` is in eighths, too. Without
-/// a weight `dc` is kept as it is, and `ac` is not read.
+/// `ac` holds the differences of luma from its mean in eighths, row by row (see `pred_cfl_ac`), and `alpha` is in
+/// eighths, too. Without a weight `dc` is kept as it is, and `ac` is not read.
 pub fn pred_cfl_to<T: Pixel>(
     samples: &mut [T],
     stride: usize,
@@ -147,10 +150,12 @@ fn flat_from_luma<T: Pixel>(
     pred_cfl_to(output.samples_mut(), stride, area, ac, alpha, dc, bit_depth);
 }
 
-/// Predicts the first `height` rows and `width` columns of `output` from luma: each sample becomes the first one of `output`, and
-/// what its difference in `ac` adds to it at the weight `alpha`, clipped to the depth. Without a weight nothing changes.
+/// Predicts the first `height` rows and `width` columns of `output` from luma: each sample becomes the first one of
+/// `output`, and what its difference in `ac` adds to it at the weight `alpha`, clipped to the depth. Without a weight
+/// nothing changes.
 ///
-/// `ac` holds the differences of luma from its mean in eighths, row by row (see `pred_cfl_ac`), and `alpha` is in eighths, too.
+/// `ac` holds the differences of luma from its mean in eighths, row by row (see `pred_cfl_ac`), and `alpha` is in
+/// eighths, too.
 pub fn pred_cfl_inner<T: Pixel>(
     output: &mut PlaneRegionMut<'_, T>,
     ac: &[i16],
@@ -179,8 +184,8 @@ pub fn pred_cfl_inner<T: Pixel>(
     flat_from_luma(output, ac, alpha, dc, width, height, bit_depth);
 }
 
-/// Predicts the first `height` rows and `width` columns of `output` from luma: each sample becomes that of `pred_dc`, and what its
-/// difference in `ac` adds to it at the weight `alpha`, clipped to the depth.
+/// Predicts the first `height` rows and `width` columns of `output` from luma: each sample becomes that of `pred_dc`,
+/// and what its difference in `ac` adds to it at the weight `alpha`, clipped to the depth.
 pub fn pred_cfl<T: Pixel>(
     output: &mut PlaneRegionMut<'_, T>,
     ac: &[i16],
@@ -209,8 +214,8 @@ pub fn pred_cfl<T: Pixel>(
     flat_from_luma(output, ac, alpha, dc, width, height, bit_depth);
 }
 
-/// Predicts the first `height` rows and `width` columns of `output` from luma: each sample becomes that of `pred_dc_128`, and what
-/// its difference in `ac` adds to it at the weight `alpha`, clipped to the depth.
+/// Predicts the first `height` rows and `width` columns of `output` from luma: each sample becomes that of
+/// `pred_dc_128`, and what its difference in `ac` adds to it at the weight `alpha`, clipped to the depth.
 pub fn pred_cfl_128<T: Pixel>(
     output: &mut PlaneRegionMut<'_, T>,
     ac: &[i16],
@@ -237,8 +242,8 @@ pub fn pred_cfl_128<T: Pixel>(
     flat_from_luma(output, ac, alpha, dc, width, height, bit_depth);
 }
 
-/// Predicts the first `height` rows and `width` columns of `output` from luma: each sample becomes that of `pred_dc_left`, and what
-/// its difference in `ac` adds to it at the weight `alpha`, clipped to the depth.
+/// Predicts the first `height` rows and `width` columns of `output` from luma: each sample becomes that of
+/// `pred_dc_left`, and what its difference in `ac` adds to it at the weight `alpha`, clipped to the depth.
 pub fn pred_cfl_left<T: Pixel>(
     output: &mut PlaneRegionMut<'_, T>,
     ac: &[i16],
@@ -266,8 +271,8 @@ pub fn pred_cfl_left<T: Pixel>(
     flat_from_luma(output, ac, alpha, dc, width, height, bit_depth);
 }
 
-/// Predicts the first `height` rows and `width` columns of `output` from luma: each sample becomes that of `pred_dc_top`, and what
-/// its difference in `ac` adds to it at the weight `alpha`, clipped to the depth.
+/// Predicts the first `height` rows and `width` columns of `output` from luma: each sample becomes that of
+/// `pred_dc_top`, and what its difference in `ac` adds to it at the weight `alpha`, clipped to the depth.
 pub fn pred_cfl_top<T: Pixel>(
     output: &mut PlaneRegionMut<'_, T>,
     ac: &[i16],

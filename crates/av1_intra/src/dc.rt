@@ -55,8 +55,8 @@ pub fn half_sample<T: Pixel>(bit_depth: usize) -> T
     T::from_u32(base(bit_depth))
 }
 
-/// Predicts the first `height` rows and `width` columns of `output`: each sample becomes the mean of the first `height` samples
-/// of `left` and the first `width` of `above`, rounded. `bit_depth` is not read.
+/// Predicts the first `height` rows and `width` columns of `output`: each sample becomes the mean of the first `height`
+/// samples of `left` and the first `width` of `above`, rounded. `bit_depth` is not read.
 pub fn pred_dc<T: Pixel>(
     output: &mut PlaneRegionMut<'_, T>,
     above: &[T],
@@ -81,8 +81,8 @@ pub fn pred_dc<T: Pixel>(
     fill_rows(output, mean, width, height);
 }
 
-/// Predicts the first `height` rows and `width` columns of `output`: each sample becomes half of the range of samples of
-/// `bit_depth`. The sides are not read.
+/// Predicts the first `height` rows and `width` columns of `output`: each sample becomes half of the range of samples
+/// of `bit_depth`. The sides are not read.
 pub fn pred_dc_128<T: Pixel>(
     output: &mut PlaneRegionMut<'_, T>,
     _above: &[T],
@@ -103,8 +103,8 @@ pub fn pred_dc_128<T: Pixel>(
     fill_rows(output, half, width, height);
 }
 
-/// Predicts the first `height` rows and `width` columns of `output`: each sample becomes the mean of the samples of `left`, of
-/// which there are `height`, rounded. `above` and `bit_depth` are not read.
+/// Predicts the first `height` rows and `width` columns of `output`: each sample becomes the mean of the samples of
+/// `left`, of which there are `height`, rounded. `above` and `bit_depth` are not read.
 pub fn pred_dc_left<T: Pixel>(
     output: &mut PlaneRegionMut<'_, T>,
     _above: &[T],
@@ -126,8 +126,8 @@ pub fn pred_dc_left<T: Pixel>(
     fill_rows(output, mean, width, height);
 }
 
-/// Predicts the first `height` rows and `width` columns of `output`: each sample becomes the mean of the first `width` samples of
-/// `above`, rounded. `left` and `bit_depth` are not read.
+/// Predicts the first `height` rows and `width` columns of `output`: each sample becomes the mean of the first `width`
+/// samples of `above`, rounded. `left` and `bit_depth` are not read.
 pub fn pred_dc_top<T: Pixel>(
     output: &mut PlaneRegionMut<'_, T>,
     above: &[T],

@@ -2,7 +2,8 @@
 //!
 //! AV1 specification: directional intra prediction process.
 
-ghost use Rattle.std.specs.Prelude.{◌≡◌, ℕ, ◌+◌, ◌-◌, ◌*◌, ◌^◌, ◌<◌, ◌≤◌, length, List, map, reverse, if◌then◌else◌, nat_lt, IsTrue, pos, ◌-ℤ◌, ◌<ℤ◌, ◌≤ℤ◌, FitsSigned};
+ghost use Rattle.std.specs.Prelude.{◌≡◌, ℕ, ◌+◌, ◌-◌, ◌*◌, ◌^◌, ◌<◌, ◌≤◌, length, List, map, reverse, if◌then◌else◌, nat_lt, IsTrue, pos, ◌-ℤ◌, ◌<ℤ◌, ◌≤ℤ◌};
+ghost use Rattle.std.specs.Prelude.{FitsSigned};
 ghost use Rattle.std.specs.Int.{w64};
 ghost use Rattle.std.specs.Option.{option_map};
 ghost use Rattle.av1_frame.specs.Areas.{AreRows};
@@ -56,7 +57,8 @@ fn directional_below_90<T: Pixel>(
     requires range { block.p_angle < 90 }
     requires long { block.width + block.height ≤ length above.now }
     requires depth { block.bit_depth ≤ T.BITS }
-    ensures { (left : List ℕ) → samples.new ≡ paint stride area (λ i j _. T.pixel (directional block (T.num corner) (map T.num above.now) left i j)) samples.old }
+    ensures { (left : List ℕ) →
+        samples.new ≡ paint stride area (λ i j _. T.pixel (directional block (T.num corner) (map T.num above.now) left i j)) samples.old }
 {
     let dx = dr_intra_derivative(block.p_angle);
     let places = block.width + block.height;
@@ -87,7 +89,8 @@ fn directional_between<T: Pixel>(
     requires above_long { block.width ≤ length above.now }
     requires left_long { block.height ≤ length left.now }
     requires depth { block.bit_depth ≤ T.BITS }
-    ensures { samples.new ≡ paint stride area (λ i j _. T.pixel (directional block (T.num corner) (map T.num above.now) (reverse (map T.num left.now)) i j)) samples.old }
+    ensures { samples.new ≡ paint stride area (λ i j _. T.pixel (directional block (T.num corner) (map T.num above.now) (reverse (map T.num left.now)) i j))
+        samples.old }
 {
     let dx = dr_intra_derivative(180 - block.p_angle);
     let dy = dr_intra_derivative(block.p_angle - 90);
@@ -138,7 +141,8 @@ fn directional_past_180<T: Pixel>(
     requires range { 180 < block.p_angle }
     requires long { block.height + block.width ≤ length left.now }
     requires depth { block.bit_depth ≤ T.BITS }
-    ensures { (above : List ℕ) → samples.new ≡ paint stride area (λ i j _. T.pixel (directional block (T.num corner) above (reverse (map T.num left.now)) i j)) samples.old }
+    ensures { (above : List ℕ) →
+        samples.new ≡ paint stride area (λ i j _. T.pixel (directional block (T.num corner) above (reverse (map T.num left.now)) i j)) samples.old }
 {
     let dy = derivative_past_180(block.p_angle);
     let places = block.height + block.width;
@@ -148,8 +152,9 @@ fn directional_past_180<T: Pixel>(
     rows_past_180(samples, stride, area, &side, dy, block.bit_depth);
 }
 
-/// Predicts the samples of a rectangle along the angle of `block`, whose width and height are the rectangle's: as `pred_directional`, from
-/// sides of the same places and the sample `corner` above the left one. The rows of `samples` stand `stride` apart.
+/// Predicts the samples of a rectangle along the angle of `block`, whose width and height are the rectangle's: as
+/// `pred_directional`, from sides of the same places and the sample `corner` above the left one. The rows of `samples`
+/// stand `stride` apart.
 pub fn pred_directional_to<T: Pixel>(
     samples: &mut [T],
     stride: usize,
@@ -168,7 +173,8 @@ pub fn pred_directional_to<T: Pixel>(
     requires above_long { block.p_angle < 180 → block.width + (if nat_lt block.p_angle 90 then block.height else 0) ≤ length above.now }
     requires left_long { 90 < block.p_angle → block.height + (if nat_lt 180 block.p_angle then block.width else 0) ≤ length left.now }
     requires depth { block.bit_depth ≤ T.BITS }
-    ensures { samples.new ≡ paint stride area (λ i j _. T.pixel (directional block (T.num corner) (map T.num above.now) (reverse (map T.num left.now)) i j)) samples.old }
+    ensures { samples.new ≡ paint stride area (λ i j _. T.pixel (directional block (T.num corner) (map T.num above.now) (reverse (map T.num left.now)) i j))
+        samples.old }
 {
     if block.p_angle < 90 {
         directional_below_90(samples, stride, area, above, corner, block);
@@ -222,18 +228,20 @@ pub(crate) fn block_in<T: Pixel>(
     }
 }
 
-/// Predicts the first `height` rows and `width` columns of `output` along the angle `p_angle`, in degrees: one that a directional
-/// mode and an angle step from -3 to 3 give, but for 90 and 180, which copy a side, or another one that `dr_intra_derivative` knows.
+/// Predicts the first `height` rows and `width` columns of `output` along the angle `p_angle`, in degrees: one that a
+/// directional mode and an angle step from -3 to 3 give, but for 90 and 180, which copy a side, or another one that
+/// `dr_intra_derivative` knows.
 ///
-/// Below 90 degrees a sample is what its line meets on the side `above`, past 180 on the side `left`, and between them on the one
-/// that it meets first. The line meets a side between two samples, and the prediction is between these two, in 32nds.
+/// Below 90 degrees a sample is what its line meets on the side `above`, past 180 on the side `left`, and between them
+/// on the one that it meets first. The line meets a side between two samples, and the prediction is between these two,
+/// in 32nds.
 ///
-/// `above` runs from the left: `width` samples, and below 90 degrees `height` more. `left` runs from the bottom up, and its last
-/// sample is that of the first row: `height` samples, and past 180 degrees `width` more before them. `top_left` is the corner.
-/// A side that the angle doesn't meet is not read. What is predicted is clipped to the depth.
+/// `above` runs from the left: `width` samples, and below 90 degrees `height` more. `left` runs from the bottom up, and
+/// its last sample is that of the first row: `height` samples, and past 180 degrees `width` more before them.
+/// `top_left` is the corner. A side that the angle doesn't meet is not read. What is predicted is clipped to the depth.
 ///
-/// With `ief_params` the sides are first smoothed and upsampled, as the angle, the block's sides and the neighbours ask. Of the
-/// places beside the block only those are smoothed that lie in the plane's visible columns and rows.
+/// With `ief_params` the sides are first smoothed and upsampled, as the angle, the block's sides and the neighbours
+/// ask. Of the places beside the block only those are smoothed that lie in the plane's visible columns and rows.
 ///
 /// AV1 specification: directional intra prediction process.
 #[tactic(auto, using(av1_frame::proofs::Regions::region_lending))]
@@ -259,7 +267,9 @@ pub fn pred_directional<T: Pixel>(
     requires corner { 0 < length top_left.now }
     requires depth { bit_depth ≤ T.BITS }
     ensures painted { output.new ≡ painted output.old width height
-        (λ i j _. T.pixel (directional (block_at output.old p_angle width height bit_depth ief_params) (numbers T.num top_left.now 0) (map T.num above.now) (reverse (map T.num left.now)) i j)) }
+        (λ i j _.
+        T.pixel (directional (block_at output.old p_angle width height bit_depth ief_params) (numbers T.num top_left.now 0) (map T.num above.now)
+        (reverse (map T.num left.now)) i j)) }
     ensures fits { InStorage output.new }
 {
     let block = block_in(output, p_angle, width, height, bit_depth, ief_params);

@@ -7,9 +7,9 @@ ghost use Rattle.av1_intra.specs.EdgeFilter.{filter_strength, kernel, weighted, 
 
 use av1_frame::Pixel;
 
-/// How strongly a side of a block of `width` by `height` samples is smoothed, from 0 for not at all to 3. `smooth_filter` says
-/// that a neighbour has a smooth mode, and `angle_delta` is how far the angle is from the side's own, 90 above and 180 on the
-/// left, in degrees.
+/// How strongly a side of a block of `width` by `height` samples is smoothed, from 0 for not at all to 3.
+/// `smooth_filter` says that a neighbour has a smooth mode, and `angle_delta` is how far the angle is from the side's
+/// own, 90 above and 180 on the left, in degrees.
 ///
 /// Without `smooth_filter`, sides that sum to 25 to 32 are smoothed even where the angle is less than 4 degrees off.
 ///
@@ -93,9 +93,9 @@ fn smoothed(strength: u8, a: u32, b: u32, c: u32, d: u32, e: u32) -> u32
     (sum + 8) / 16
 }
 
-/// Smooths the entries of `edge` from 1 to `size - 1` by the kernel of `strength`, from 1 to 3; strength 0 changes nothing.
-/// Entry 0 is the corner and stays, as all entries from `size` on do. Past either end of the first `size` entries its last one
-/// is repeated.
+/// Smooths the entries of `edge` from 1 to `size - 1` by the kernel of `strength`, from 1 to 3; strength 0 changes
+/// nothing. Entry 0 is the corner and stays, as all entries from `size` on do. Past either end of the first `size`
+/// entries its last one is repeated.
 ///
 /// AV1 specification: intra edge filter process.
 pub fn filter_edge<T: Pixel>(size: usize, strength: u8, edge: &mut [T])

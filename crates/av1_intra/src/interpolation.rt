@@ -10,8 +10,8 @@ ghost use Rattle.av1_intra.specs.Directional.{at, below_90, between};
 use crate::prepared_side::PreparedSide;
 use av1_frame::{Pixel, StoredArea, clip, fill_row};
 
-/// The samples of a row from the place on that its line meets at `n / 64` past the corner. `UPSAMPLING` is that of the side,
-/// known to the compiler.
+/// The samples of a row from the place on that its line meets at `n / 64` past the corner. `UPSAMPLING` is that of the
+/// side, known to the compiler.
 #[tactic(auto, using(av1_frame::proofs::Paint::row_painting), unfolding(crate::specs::Directional::at))]
 fn interpolate_by<T: Pixel, const UPSAMPLING: usize>(
     row: &mut [T],
@@ -49,8 +49,8 @@ fn interpolate_row<T: Pixel>(row: &mut [T], side: &PreparedSide, n: usize, bit_d
     }
 }
 
-/// The first `width` samples of a row whose line meets the side above at `n / 64` of a place past the corner; past the last of its
-/// `sides` places that is repeated.
+/// The first `width` samples of a row whose line meets the side above at `n / 64` of a place past the corner; past the
+/// last of its `sides` places that is repeated.
 #[tactic(auto, unfolding(crate::specs::Directional::below_90))]
 fn row_below_90<T: Pixel>(
     row: &mut [T],
@@ -91,7 +91,8 @@ fn row_from_left<T: Pixel>(
     requires short { length row.old ≤ 64 }
     requires inside { length row.old * dy ≤ 64 * (i + 1) }
     requires depth { bit_depth ≤ T.BITS }
-    ensures { row.new ≡ paint_row (length row.old) (λ j _. T.pixel (at bit_depth (entries left.now.numbers) left.now.upsampling (64 * (i + 1) - (j + 1) * dy) 0)) row.old }
+    ensures { row.new ≡ paint_row (length row.old)
+        (λ j _. T.pixel (at bit_depth (entries left.now.numbers) left.now.upsampling (64 * (i + 1) - (j + 1) * dy) 0)) row.old }
 {
     for j in 0..row.len() {
         let n = 64 * (i + 1) - (j + 1) * dy;
@@ -99,8 +100,8 @@ fn row_from_left<T: Pixel>(
     }
 }
 
-/// The first `width` samples of row `i` at an angle between 90 and 180: the first of them from the left side, the others from the
-/// side above.
+/// The first `width` samples of row `i` at an angle between 90 and 180: the first of them from the left side, the
+/// others from the side above.
 fn row_between<T: Pixel>(
     row: &mut [T],
     above: &PreparedSide,
@@ -118,7 +119,9 @@ fn row_between<T: Pixel>(
     requires left_upsampling { left.now.upsampling ≤ 1 }
     requires pair { ArePair dx dy }
     requires depth { bit_depth ≤ T.BITS }
-    ensures { row.new ≡ paint_row width (λ j _. T.pixel (between bit_depth (entries above.now.numbers) above.now.upsampling (entries left.now.numbers) left.now.upsampling dx dy i j)) row.old }
+    ensures { row.new ≡
+        paint_row width
+        (λ j _. T.pixel (between bit_depth (entries above.now.numbers) above.now.upsampling (entries left.now.numbers) left.now.upsampling dx dy i j)) row.old }
 {
     let line = (i + 1) * dx;
     let split = width.min((line - 1) / 64);
@@ -153,7 +156,8 @@ fn row_past_180<T: Pixel>(
     }
 }
 
-/// The samples of a rectangle, by an angle below 90 of derivative `dx`; past the last of its `sides` places the side above repeats.
+/// The samples of a rectangle, by an angle below 90 of derivative `dx`; past the last of its `sides` places the side
+/// above repeats.
 #[tactic(auto, using(av1_frame::proofs::Paint::rectangle_painting))]
 pub(crate) fn rows_below_90<T: Pixel>(
     samples: &mut [T],
@@ -171,7 +175,8 @@ pub(crate) fn rows_below_90<T: Pixel>(
     requires upsampling { above.now.upsampling ≤ 1 }
     requires dx { dx ≤ 1023 }
     requires depth { bit_depth ≤ T.BITS }
-    ensures { samples.new ≡ paint stride area (λ i j _. T.pixel (below_90 bit_depth (entries above.now.numbers) above.now.upsampling sides ((i + 1) * dx + 64) j)) samples.old }
+    ensures { samples.new ≡
+        paint stride area (λ i j _. T.pixel (below_90 bit_depth (entries above.now.numbers) above.now.upsampling sides ((i + 1) * dx + 64) j)) samples.old }
 {
     for i in 0..area.height {
         let n = (i + 1) * dx + 64;
@@ -199,7 +204,10 @@ pub(crate) fn rows_between<T: Pixel>(
     requires left_upsampling { left.now.upsampling ≤ 1 }
     requires pair { ArePair dx dy }
     requires depth { bit_depth ≤ T.BITS }
-    ensures { samples.new ≡ paint stride area (λ i j _. T.pixel (between bit_depth (entries above.now.numbers) above.now.upsampling (entries left.now.numbers) left.now.upsampling dx dy i j)) samples.old }
+    ensures { samples.new ≡
+        paint stride area
+        (λ i j _. T.pixel (between bit_depth (entries above.now.numbers) above.now.upsampling (entries left.now.numbers) left.now.upsampling dx dy i j))
+        samples.old }
 {
     for i in 0..area.height {
         let (_, row) = samples.split_at_mut((area.y + i) * stride + area.x);
@@ -223,7 +231,8 @@ pub(crate) fn rows_past_180<T: Pixel>(
     requires upsampling { left.now.upsampling ≤ 1 }
     requires dy { dy ≤ 40 }
     requires depth { bit_depth ≤ T.BITS }
-    ensures { samples.new ≡ paint stride area (λ i j _. T.pixel (at bit_depth (entries left.now.numbers) left.now.upsampling ((j + 1) * dy + 64) i)) samples.old }
+    ensures { samples.new ≡ paint stride area (λ i j _. T.pixel (at bit_depth (entries left.now.numbers) left.now.upsampling ((j + 1) * dy + 64) i))
+        samples.old }
 {
     for i in 0..area.height {
         let (_, row) = samples.split_at_mut((area.y + i) * stride + area.x);

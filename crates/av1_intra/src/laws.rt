@@ -17,10 +17,11 @@ ghost use Rattle.av1_intra.specs.declared.luma.LumaLeaf.{LumaLeaf};
 ghost use Rattle.av1_intra.specs.ChromaFromLuma.{chroma_block, columns_read, rows_read, first_column, first_row, leaf_difference};
 ghost use Rattle.av1_intra.specs.Predicted.{predicted, variant_at, angle_or_alpha, places_above, places_left};
 
-/// Every entry that a line reads lies on its side, of the corner and as many places as the angle asks for, upsampled or not. Below 90
-/// degrees the definition itself stops at the last place.
+/// Every entry that a line reads lies on its side, of the corner and as many places as the angle asks for, upsampled or
+/// not. Below 90 degrees the definition itself stops at the last place.
 ///
-/// Between 90 and 180 degrees a line that misses the side above meets the left side below the corner, so that none runs past both.
+/// Between 90 and 180 degrees a line that misses the side above meets the left side below the corner, so that none runs
+/// past both.
 pub fn lines_meet_their_sides()
     ensures above { (p w u i j : ℕ) → IsTrue (is_interpolated p) → 90 < p → p < 180 → u ≤ 1 → w ≤ 64 → j < w
         → (i + 1) * derivative (180 - p) ≤ 64 * (j + 1)
@@ -34,25 +35,29 @@ pub fn lines_meet_their_sides()
         → entry u ((j + 1) * derivative (270 - p) + 64) i + 1 ≤ (w + h) * 2 ^ u }
 {}
 
-/// A directional mode turned by at most three steps of 3 degrees has an angle that `pred_directional` admits, but for 90 and 180.
+/// A directional mode turned by at most three steps of 3 degrees has an angle that `pred_directional` admits, but for
+/// 90 and 180.
 pub fn modes_have_angles()
     ensures { (mode : PredictionMode) (step : ℤ) (p : ℕ) → IsTrue (is_directional mode) → unsigned_abs step ≤ 3
         → pos p ≡ intra_mode_to_angle mode +ℤ pos 3 *ℤ step → p ≢ 90 → p ≢ 180 → IsTrue (is_interpolated p) }
 {}
 
-/// Luma's differences from its mean fit 16 bits, in each block of chroma of a leaf whose samples of luma have at most 12 bits.
+/// Luma's differences from its mean fit 16 bits, in each block of chroma of a leaf whose samples of luma have at most
+/// 12 bits.
 pub fn luma_differences_fit()
-    ensures { (luma : ℕ → ℕ → ℕ) (leaf : LumaLeaf) (r c : ℕ) → leaf.xdec ≤ 1 → leaf.ydec ≤ leaf.xdec → r < (chroma_block leaf).height → c < (chroma_block leaf).width
+    ensures { (luma : ℕ → ℕ → ℕ) (leaf : LumaLeaf) (r c : ℕ) → leaf.xdec ≤ 1 → leaf.ydec ≤ leaf.xdec → r < (chroma_block leaf).height →
+        c < (chroma_block leaf).width
         → ((x y : ℕ) → x < columns_read (chroma_block leaf) → y < rows_read (chroma_block leaf) → luma (first_column leaf + x) (first_row leaf + y) < 4096)
         → FitsSigned w16 (leaf_difference luma leaf r c) }
 {}
 
-/// An edge that is prepared for an intra mode at column x of row y, of w by h samples, has as many places above and to the left as the
-/// mode that is then in effect reads there.
+/// An edge that is prepared for an intra mode at column x of row y, of w by h samples, has as many places above and to
+/// the left as the mode that is then in effect reads there.
 pub fn prepared_edges_suffice()
     ensures above { (filter : Bool) (mode : PredictionMode) (param : IntraParam) (x y w h : ℕ) →
         let m = effective mode x y in
-        places_above m (variant_at x y) (unsigned_abs (angle_or_alpha m param)) w h ≤ w + where_needed (prepared_parts filter (Some mode) (step_of param) x y w h).above_right h }
+        places_above m (variant_at x y)
+        (unsigned_abs (angle_or_alpha m param)) w h ≤ w + where_needed (prepared_parts filter (Some mode) (step_of param) x y w h).above_right h }
     ensures left { (filter : Bool) (mode : PredictionMode) (param : IntraParam) (x y w h : ℕ) → unsigned_abs (step_of param) ≤ 3 →
         let m = effective mode x y in let parts = prepared_parts filter (Some mode) (step_of param) x y w h in
         places_left m (variant_at x y) (unsigned_abs (angle_or_alpha m param)) w h ≤ where_needed parts.left h + where_needed parts.below_left w }
@@ -60,6 +65,7 @@ pub fn prepared_edges_suffice()
 
 /// A sample that is predicted from an edge within the depth lies within it too, for every mode, luma and weight.
 pub fn predictions_lie_within()
-    ensures { (b : DirectionalBlock) (v : PredictionVariant) (mode : PredictionMode) (alpha : ℤ) (ac : ℕ → ℕ → ℤ) (e : Edge) (r c : ℕ) → 8 ≤ b.bit_depth → EdgeIsWithin b.bit_depth e
+    ensures { (b : DirectionalBlock) (v : PredictionVariant) (mode : PredictionMode) (alpha : ℤ) (ac : ℕ → ℕ → ℤ) (e : Edge) (r c : ℕ) → 8 ≤ b.bit_depth →
+        EdgeIsWithin b.bit_depth e
         → predicted b v mode alpha ac e r c < 2 ^ b.bit_depth }
 {}

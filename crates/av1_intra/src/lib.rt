@@ -1,28 +1,29 @@
 //! Intra prediction: the samples of a block from those round it.
 //!
-//! The crate stands on `av1_frame` for samples and regions, on `av1_edges` for the samples round a block, and on `av1_blocks` for modes
-//! and references. Its names and values are those of rav1e. It promises to the crates above it:
+//! The crate stands on `av1_frame` for samples and regions, on `av1_edges` for the samples round a block, and on
+//! `av1_blocks` for modes and references. Its names and values are those of rav1e. It promises to the crates above it:
 //!
-//! - `predict_intra` and `dispatch_predict_intra` turn each sample of the first rows and columns of a region into that of one
-//!   definition for all intra modes, `predicted` (`specs/Predicted.antt`), over the edge that `get_intra_edges` prepares, and leave all
-//!   others as they were, in one equation, `output.new ≡ painted output.old width height f`.
+//! - `predict_intra` and `dispatch_predict_intra` turn each sample of the first rows and columns of a region into that
+//!   of one definition for all intra modes, `predicted` (`specs/Predicted.antt`), over the edge that `get_intra_edges`
+//!   prepares, and leave all others as they were, in one equation, `output.new ≡ painted output.old width height f`.
 //! - So do the predictors of one kind, each by its own definition; they stand in the module `rust`.
-//! - Below a region the same is said of a slice: `pred_v_to`, `pred_h_to`, `pred_paeth_to`, `pred_smooth_to`, `pred_smooth_v_to`,
-//!   `pred_smooth_h_to`, `pred_directional_to` and `pred_cfl_to` predict the samples of a rectangle, whose rows stand a stride apart,
-//!   `samples.new ≡ paint stride area f samples.old`. `dispatch_predict_intra_to` does so by the mode, from the sides of a block, and
-//!   `dispatch_predict_intra` lends it the samples of its region. DC prediction is `fill_block` by `mean_of` two sides, or by `half_sample` without.
-//! - `leaf_luma_ac` and `pred_cfl_ac` put into a slice, row by row, how far the luma over each sample of chroma is from its mean, and
-//!   leave the rest of the slice (`specs/ChromaFromLuma.antt`).
+//! - Below a region the same is said of a slice: `pred_v_to`, `pred_h_to`, `pred_paeth_to`, `pred_smooth_to`,
+//!   `pred_smooth_v_to`, `pred_smooth_h_to`, `pred_directional_to` and `pred_cfl_to` predict the samples of a
+//!   rectangle, whose rows stand a stride apart, `samples.new ≡ paint stride area f samples.old`.
+//!   `dispatch_predict_intra_to` does so by the mode, from the sides of a block, and `dispatch_predict_intra` lends it
+//!   the samples of its region. DC prediction is `fill_block` by `mean_of` two sides, or by `half_sample` without.
+//! - `leaf_luma_ac` and `pred_cfl_ac` put into a slice, row by row, how far the luma over each sample of chroma is from
+//!   its mean, and leave the rest of the slice (`specs/ChromaFromLuma.antt`).
 //! - `filter_edge` and `upsample_edge` prepare a side in a slice, entry by entry, and leave the rest of the slice.
-//! - `select_ief_strength`, `select_ief_upsample` and `dr_intra_derivative` are their tables, and `IntraEdgeFilterParameters` tells
-//!   whether a neighbour has a smooth mode.
-//! - the laws: every entry of a side that a direction reads is there, the modes have angles that `pred_directional` admits, prepared
-//!   edges are as long as their modes read, luma's differences fit 16 bits, and what is predicted from samples within their depth lies
-//!   within it.
+//! - `select_ief_strength`, `select_ief_upsample` and `dr_intra_derivative` are their tables, and
+//!   `IntraEdgeFilterParameters` tells whether a neighbour has a smooth mode.
+//! - the laws: every entry of a side that a direction reads is there, the modes have angles that `pred_directional`
+//!   admits, prepared edges are as long as their modes read, luma's differences fit 16 bits, and what is predicted from
+//!   samples within their depth lies within it.
 //!
-//! Nothing allocates, and nothing is refused: what a call needs stands in its `requires`. Sides are counted in samples and angles
-//! in degrees: 90 points straight up, and 180 to the left. A side above runs from the left, and a left one is stored from the
-//! bottom up.
+//! Nothing allocates, and nothing is refused: what a call needs stands in its `requires`. Sides are counted in samples
+//! and angles in degrees: 90 points straight up, and 180 to the left. A side above runs from the left, and a left one
+//! is stored from the bottom up.
 #![tactic(auto)]
 
 mod angle;

@@ -2,7 +2,8 @@
 //!
 //! AV1 specification: predict chroma from luma process.
 
-ghost use Rattle.std.specs.Prelude.{◌≡◌, ℕ, ◌+◌, ◌-◌, ◌*◌, ◌/◌, ◌%◌, ◌^◌, ◌<◌, ◌≤◌, ◌==◌, ◌&&◌, not, if◌then◌else◌, min, length, map, sum, pos, ℤ, ◌-ℤ◌, ◌≤ℤ◌, unsigned_abs, slice_index_or, IsTrue};
+ghost use Rattle.std.specs.Prelude.{◌≡◌, ℕ, ◌+◌, ◌-◌, ◌*◌, ◌/◌, ◌%◌, ◌^◌, ◌<◌, ◌≤◌, ◌==◌, ◌&&◌, not, if◌then◌else◌, min, length, map, sum, pos, ℤ, ◌-ℤ◌, ◌≤ℤ◌};
+ghost use Rattle.std.specs.Prelude.{unsigned_abs, slice_index_or, IsTrue};
 ghost use Rattle.av1_blocks.specs.Blocks.{block_width, block_height};
 ghost use Rattle.av1_blocks.specs.Transforms.{tx_width, tx_height};
 ghost use Rattle.av1_blocks.specs.Chroma.{plane_side, is_narrow, is_low};
@@ -11,7 +12,8 @@ ghost use Rattle.av1_frame.specs.Regions.{IsReadable};
 ghost use Rattle.av1_edges.specs.Edges.{region_sample};
 ghost use Rattle.av1_intra.specs.Dc.{mean};
 ghost use Rattle.av1_intra.specs.Sides.{numbers};
-ghost use Rattle.av1_intra.specs.ChromaFromLuma.{covered, two_rows, luma_at, luma_difference, leaf_difference, with_rows, columns_read, rows_read, last_begun, padded_block, chroma_block, first_column, first_row, luma_start, coded_side, averaged_side};
+ghost use Rattle.av1_intra.specs.ChromaFromLuma.{covered, two_rows, luma_at, luma_difference, leaf_difference, with_rows, columns_read, rows_read, last_begun};
+ghost use Rattle.av1_intra.specs.ChromaFromLuma.{padded_block, chroma_block, first_column, first_row, luma_start, coded_side, averaged_side};
 
 use crate::samples::number_at;
 use av1_blocks::{BlockSize, TxSize};
@@ -55,8 +57,8 @@ pub(crate) struct ChromaBlock {
     pub(crate) last_row: usize,
 }
 
-/// The luma over one sample of chroma, in eighths: of one, two or four samples from column `x` on, in the row `top` and, where chroma
-/// has half of the rows, in the next one, `below`.
+/// The luma over one sample of chroma, in eighths: of one, two or four samples from column `x` on, in the row `top`
+/// and, where chroma has half of the rows, in the next one, `below`.
 fn luma_over<T: Pixel, const XDEC: usize, const YDEC: usize>(
     top: &[T],
     below: &[T],
@@ -81,8 +83,8 @@ fn luma_over<T: Pixel, const XDEC: usize, const YDEC: usize>(
     (sum << (3 - XDEC - YDEC)) as i16
 }
 
-/// The luma over each sample of a row of chroma, of which there are `width`. Those past the one that begins at `last_column` take that
-/// one's.
+/// The luma over each sample of a row of chroma, of which there are `width`. Those past the one that begins at
+/// `last_column` take that one's.
 #[tactic(auto, using(av1_frame::proofs::Paint::row_painting))]
 fn luma_row<T: Pixel, const XDEC: usize, const YDEC: usize>(
     row: &mut [i16],
@@ -174,8 +176,8 @@ fn subtract_mean(ac: &mut [i16])
     }
 }
 
-/// The last column (or row) of luma that a sample of chroma begins at, in a block of `side` columns of which `pad` units of 4 have no
-/// luma of their own.
+/// The last column (or row) of luma that a sample of chroma begins at, in a block of `side` columns of which `pad`
+/// units of 4 have no luma of their own.
 fn last_begun<const DECIMATION: usize>(side: usize, pad: usize) -> usize
     requires decimation { DECIMATION ≤ 1 }
     requires pad { 4 * pad < side }
@@ -243,10 +245,10 @@ fn block_differences<T: Pixel, const XDEC: usize, const YDEC: usize>(
     subtract_mean(&mut ac[..block.width * block.height]);
 }
 
-/// Puts into `ac`, row by row, how far the luma over each sample of a block of chroma is from its mean, in eighths. The luma of a
-/// sample is the average of those over it, from the first sample of `luma` on; `XDEC` and `YDEC` are 1 where chroma has half of the
-/// columns and of the rows. The last `w_pad` units of 4 columns and `h_pad` units of 4 rows have no luma of their own: they repeat
-/// the column and the row before them. The other entries of `ac` stay.
+/// Puts into `ac`, row by row, how far the luma over each sample of a block of chroma is from its mean, in eighths. The
+/// luma of a sample is the average of those over it, from the first sample of `luma` on; `XDEC` and `YDEC` are 1 where
+/// chroma has half of the columns and of the rows. The last `w_pad` units of 4 columns and `h_pad` units of 4 rows have
+/// no luma of their own: they repeat the column and the row before them. The other entries of `ac` stay.
 pub fn pred_cfl_ac<T: Pixel, const XDEC: usize, const YDEC: usize>(
     ac: &mut [i16],
     luma: &PlaneRegion<'_, T>,
@@ -262,15 +264,17 @@ pub fn pred_cfl_ac<T: Pixel, const XDEC: usize, const YDEC: usize>(
     requires ac_long { block_width plane_bsize * block_height plane_bsize ≤ length ac.old }
     requires columns { columns_read (padded_block plane_bsize w_pad h_pad XDEC YDEC) ≤ luma.now.area.width }
     requires rows { rows_read (padded_block plane_bsize w_pad h_pad XDEC YDEC) ≤ luma.now.area.height }
-    requires low { let block = padded_block plane_bsize w_pad h_pad XDEC YDEC in (x y : ℕ) → x < columns_read block → y < rows_read block → region_sample T.num luma.now x y < 4096 }
-    ensures { ac.new ≡ with_rows (block_width plane_bsize) (block_height plane_bsize) (luma_difference (region_sample T.num luma.now) (padded_block plane_bsize w_pad h_pad XDEC YDEC)) ac.old }
+    requires low { let block = padded_block plane_bsize w_pad h_pad XDEC YDEC in (x y : ℕ) → x < columns_read block → y < rows_read block →
+        region_sample T.num luma.now x y < 4096 }
+    ensures { ac.new ≡ with_rows (block_width plane_bsize) (block_height plane_bsize)
+        (luma_difference (region_sample T.num luma.now) (padded_block plane_bsize w_pad h_pad XDEC YDEC)) ac.old }
 {
     let block = padded_block::<XDEC, YDEC>(plane_bsize, w_pad, h_pad);
     block_differences::<T, XDEC, YDEC>(ac, luma, block);
 }
 
-/// Where the luma begins that chroma of a leaf takes, along one direction: that of a leaf with a side of 4 that is halved is the
-/// luma of the 8 samples of which the leaf has the last 4.
+/// Where the luma begins that chroma of a leaf takes, along one direction: that of a leaf with a side of 4 that is
+/// halved is the luma of the 8 samples of which the leaf has the last 4.
 fn luma_start(first: usize, side: usize, decimation: usize) -> usize
     requires { IsTrue (not (decimation == 0) && side == 4) → 4 ≤ first }
     ensures { result ≡ luma_start first side decimation }
@@ -398,9 +402,9 @@ fn differences<T: Pixel>(ac: &mut [i16], luma: &PlaneRegion<'_, T>, block: Chrom
     }
 }
 
-/// Puts into `ac`, row by row, how far the luma over each sample of chroma of a leaf is from its mean, in eighths. The region `luma`
-/// holds the luma that is decoded before, and the leaf's place counts from its first sample. Past the last transform that begins in
-/// the visible plane the luma before is repeated. The other entries of `ac` stay.
+/// Puts into `ac`, row by row, how far the luma over each sample of chroma of a leaf is from its mean, in eighths. The
+/// region `luma` holds the luma that is decoded before, and the leaf's place counts from its first sample. Past the
+/// last transform that begins in the visible plane the luma before is repeated. The other entries of `ac` stay.
 pub fn leaf_luma_ac<T: Pixel>(ac: &mut [i16], luma: &PlaneRegion<'_, T>, leaf: LumaLeaf)
     requires readable { IsReadable luma.now }
     requires xdec { leaf.xdec ≤ 1 }

@@ -9,7 +9,8 @@ ghost use Rattle.av1_intra.specs.Neighbours.{mode_in, parameters_of, is_smooth, 
 use av1_blocks::{PredictionMode, RefType};
 use av1_frame::CodedBlockInfo;
 
-/// The neighbours above and to the left of a block, in a plane counted 0 for luma. A neighbour outside the tile is `None`.
+/// The neighbours above and to the left of a block, in a plane counted 0 for luma. A neighbour outside the tile is
+/// `None`.
 #[derive(Clone, Copy, Debug, Default, PartialEq, Eq)]
 pub struct IntraEdgeFilterParameters {
     /// The plane: 0 is luma.
@@ -98,8 +99,8 @@ impl IntraEdgeFilterParameters {
         }
     }
 
-    /// Whether one of the neighbours has a smooth mode. In a plane of chroma only a neighbour counts that is predicted from its
-    /// own frame; one whose references are not given doesn't.
+    /// Whether one of the neighbours has a smooth mode. In a plane of chroma only a neighbour counts that is predicted
+    /// from its own frame; one whose references are not given doesn't.
     pub fn use_smooth_filter(self) -> bool
         ensures { result ≡ uses_smooth_filter self }
     {

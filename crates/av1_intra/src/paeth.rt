@@ -55,11 +55,12 @@ fn paeth_row<T: Pixel>(
     }
 }
 
-/// Predicts the samples of a rectangle: each becomes the one of the sample `above` its column, the `left` one of its row and the
-/// corner `above_left` that is nearest to the first two less the third. The rows of `samples` stand `stride` apart.
+/// Predicts the samples of a rectangle: each becomes the one of the sample `above` its column, the `left` one of its
+/// row and the corner `above_left` that is nearest to the first two less the third. The rows of `samples` stand
+/// `stride` apart.
 ///
-/// `above` runs from the left, and `left` from the bottom up: of as many samples as the rectangle has rows, the last is that of the
-/// first row. Samples past those beside the rectangle are not read.
+/// `above` runs from the left, and `left` from the bottom up: of as many samples as the rectangle has rows, the last is
+/// that of the first row. Samples past those beside the rectangle are not read.
 #[tactic(auto, using(av1_frame::proofs::Paint::rectangle_painting))]
 pub fn pred_paeth_to<T: Pixel>(
     samples: &mut [T],
@@ -72,7 +73,8 @@ pub fn pred_paeth_to<T: Pixel>(
     requires rows { AreRows stride area (length samples.old) }
     requires above_long { area.width ≤ length above.now }
     requires left_long { area.height ≤ length left.now }
-    ensures { samples.new ≡ paint stride area (λ r c _. T.pixel (paeth (numbers T.num above.now c) (from_top T.num area.height left.now r) (T.num above_left))) samples.old }
+    ensures { samples.new ≡ paint stride area (λ r c _. T.pixel (paeth (numbers T.num above.now c) (from_top T.num area.height left.now r) (T.num above_left)))
+        samples.old }
 {
     for r in 0..area.height {
         let k = area.height - 1 - r;
@@ -81,11 +83,11 @@ pub fn pred_paeth_to<T: Pixel>(
     }
 }
 
-/// Predicts the first `height` rows and `width` columns of `output`: each sample becomes the one of the sample `above` its
-/// column, the `left` one of its row and the corner `above_left` that is nearest to the first two less the third.
+/// Predicts the first `height` rows and `width` columns of `output`: each sample becomes the one of the sample `above`
+/// its column, the `left` one of its row and the corner `above_left` that is nearest to the first two less the third.
 ///
-/// `above` runs from the left, and `left` from the bottom up: its sample at `height - 1` is that of the first row. Samples past
-/// the first `width` and `height` are not read.
+/// `above` runs from the left, and `left` from the bottom up: its sample at `height - 1` is that of the first row.
+/// Samples past the first `width` and `height` are not read.
 #[tactic(auto, using(av1_frame::proofs::Regions::region_lending))]
 pub fn pred_paeth<T: Pixel>(
     output: &mut PlaneRegionMut<'_, T>,

@@ -11,7 +11,8 @@ ghost use Rattle.av1_edges.specs.Parts.{effective, step_of};
 ghost use Rattle.av1_intra.specs.Sides.{numbers};
 ghost use Rattle.av1_intra.specs.Directional.{block_at};
 ghost use Rattle.av1_intra.specs.ChromaFromLuma.{ac_at};
-ghost use Rattle.av1_intra.specs.Predicted.{edge_round, edge_of, predicted, alpha_of, angle_or_alpha, is_angle_of, places_above, places_left, mode_of_block, variant_of_block};
+ghost use Rattle.av1_intra.specs.Predicted.{edge_round, edge_of, predicted, alpha_of, angle_or_alpha, is_angle_of, places_above, places_left, mode_of_block};
+ghost use Rattle.av1_intra.specs.Predicted.{variant_of_block};
 
 use crate::by_mode::dispatch_predict_intra_to;
 use crate::directional::block_in;
@@ -62,7 +63,9 @@ fn predict_from_sides<T: Pixel>(
     requires low { 8 ≤ bit_depth }
     requires high { bit_depth ≤ T.BITS }
     ensures painted { dst.new ≡ painted dst.old width height
-        (λ r c _. T.pixel (predicted (block_at dst.old (unsigned_abs angle) width height bit_depth ief_params) variant mode angle (ac_at width ac.now) (edge_round T.num left.now (numbers T.num top_left.now 0) above.now) r c)) }
+        (λ r c _.
+        T.pixel (predicted (block_at dst.old (unsigned_abs angle) width height bit_depth ief_params) variant mode angle (ac_at width ac.now)
+        (edge_round T.num left.now (numbers T.num top_left.now 0) above.now) r c)) }
     ensures fits { InStorage dst.new }
 {
     let p_angle = angle.unsigned_abs();
@@ -85,9 +88,10 @@ fn predict_from_sides<T: Pixel>(
     );
 }
 
-/// Predicts the samples of a transform of `tx_size`, in the first rows and columns of `dst`, by an intra mode and the edge round it.
-/// `variant` tells which sides lie in the tile, for the modes that take a mean; `angle` is that of a directional mode, in degrees,
-/// or the weight of luma in `UV_CFL_PRED`, whose `ac` holds the differences of luma row by row. All other samples stay.
+/// Predicts the samples of a transform of `tx_size`, in the first rows and columns of `dst`, by an intra mode and the
+/// edge round it. `variant` tells which sides lie in the tile, for the modes that take a mean; `angle` is that of a
+/// directional mode, in degrees, or the weight of luma in `UV_CFL_PRED`, whose `ac` holds the differences of luma row
+/// by row. All other samples stay.
 ///
 /// `PAETH_PRED` takes the nearest neighbour whatever the variant is: see `predict_intra`.
 pub fn dispatch_predict_intra<T: Pixel>(
@@ -113,7 +117,9 @@ pub fn dispatch_predict_intra<T: Pixel>(
     requires low { 8 ≤ bit_depth }
     requires high { bit_depth ≤ T.BITS }
     ensures painted { let w = tx_width tx_size in let h = tx_height tx_size in dst.new ≡ painted dst.old w h
-        (λ r c _. T.pixel (predicted (block_at dst.old (unsigned_abs angle) w h bit_depth ief_params) variant mode angle (ac_at w ac.now) (edge_of T.num edge_buf.now) r c)) }
+        (λ r c _.
+        T.pixel (predicted (block_at dst.old (unsigned_abs angle) w h bit_depth ief_params) variant mode angle (ac_at w ac.now)
+        (edge_of T.num edge_buf.now) r c)) }
     ensures fits { InStorage dst.new }
 {
     let (left, top_left, above) = edge_buf.as_slices();
@@ -156,12 +162,13 @@ fn place_in_tile(first: isize, tile_first: usize) -> usize
     first as usize - tile_first
 }
 
-/// Predicts the samples of a transform of `tx_size`, in the first rows and columns of `dst`, by an intra mode and the edge round it,
-/// which is the one that `get_intra_edges` prepares for this mode and place. All other samples stay.
+/// Predicts the samples of a transform of `tx_size`, in the first rows and columns of `dst`, by an intra mode and the
+/// edge round it, which is the one that `get_intra_edges` prepares for this mode and place. All other samples stay.
 ///
-/// `intra_param` gives the steps that a directional mode turns, or the weight of luma in `UV_CFL_PRED`, whose `ac` holds the
-/// differences of luma row by row; one of another kind counts as none. `tile_rect` is the tile in which `dst` begins: at its left and
-/// upper end modes that take a mean, and Paeth prediction, do without the sides outside. With `ief_params` the edge filter is on.
+/// `intra_param` gives the steps that a directional mode turns, or the weight of luma in `UV_CFL_PRED`, whose `ac`
+/// holds the differences of luma row by row; one of another kind counts as none. `tile_rect` is the tile in which `dst`
+/// begins: at its left and upper end modes that take a mean, and Paeth prediction, do without the sides outside. With
+/// `ief_params` the edge filter is on.
 pub fn predict_intra<T: Pixel>(
     mode: PredictionMode,
     tile_rect: TileRect,
@@ -182,15 +189,20 @@ pub fn predict_intra<T: Pixel>(
     requires step { unsigned_abs (step_of intra_param) ≤ 3 }
     requires alpha { unsigned_abs (alpha_of intra_param) ≤ 16 }
     requires above_long { let m = mode_of_block dst.old tile_rect mode in
-        places_above m (variant_of_block dst.old tile_rect) (unsigned_abs (angle_or_alpha m intra_param)) (tx_width tx_size) (tx_height tx_size) ≤ length edge_buf.now.above.now }
+        places_above m (variant_of_block dst.old tile_rect) (unsigned_abs (angle_or_alpha m intra_param)) (tx_width tx_size)
+        (tx_height tx_size) ≤ length edge_buf.now.above.now }
     requires left_long { let m = mode_of_block dst.old tile_rect mode in
-        places_left m (variant_of_block dst.old tile_rect) (unsigned_abs (angle_or_alpha m intra_param)) (tx_width tx_size) (tx_height tx_size) ≤ length edge_buf.now.left.now }
+        places_left m (variant_of_block dst.old tile_rect) (unsigned_abs (angle_or_alpha m intra_param)) (tx_width tx_size)
+        (tx_height tx_size) ≤ length edge_buf.now.left.now }
     requires corner { 0 < length edge_buf.now.top_left.now }
     requires ac_long { IsTrue (is_cfl mode) → tx_width tx_size * tx_height tx_size ≤ length ac.now }
     requires low { 8 ≤ bit_depth }
     requires high { bit_depth ≤ T.BITS }
-    ensures painted { let w = tx_width tx_size in let h = tx_height tx_size in let m = mode_of_block dst.old tile_rect mode in let p = angle_or_alpha m intra_param in dst.new ≡ painted dst.old w h
-        (λ r c _. T.pixel (predicted (block_at dst.old (unsigned_abs p) w h bit_depth ief_params) (variant_of_block dst.old tile_rect) m p (ac_at w ac.now) (edge_of T.num edge_buf.now) r c)) }
+    ensures painted { let w = tx_width tx_size in let h = tx_height tx_size in let m = mode_of_block dst.old tile_rect mode
+        in let p = angle_or_alpha m intra_param in dst.new ≡ painted dst.old w h
+        (λ r c _.
+        T.pixel (predicted (block_at dst.old (unsigned_abs p) w h bit_depth ief_params) (variant_of_block dst.old tile_rect) m p (ac_at w ac.now)
+        (edge_of T.num edge_buf.now) r c)) }
     ensures fits { InStorage dst.new }
 {
     let rect = *dst.rect();

@@ -65,7 +65,8 @@ fn prepare(
     requires smoothed { smoothed ≤ 128 }
     requires places { IsTrue upsample → places ≤ 61 }
     requires depth { bit_depth ≤ 16 }
-    ensures { entries numbers.new ≡ (if upsample then upsampled bit_depth places (filtered smoothed strength (entries numbers.old)) else filtered smoothed strength (entries numbers.old)) }
+    ensures { entries numbers.new ≡ (if upsample then upsampled bit_depth places (filtered smoothed strength (entries numbers.old))
+        else filtered smoothed strength (entries numbers.old)) }
 {
     filter_edge(smoothed + 1, strength, numbers);
     if upsample {
@@ -73,7 +74,8 @@ fn prepare(
     }
 }
 
-/// Prepares the side at the angle `straight` as the block's edge filter asks, and tells whether it was upsampled, by 1 or 0.
+/// Prepares the side at the angle `straight` as the block's edge filter asks, and tells whether it was upsampled, by 1
+/// or 0.
 fn filter_side(
     numbers: &mut [u16; ENTRIES],
     block: DirectionalBlock,
@@ -126,7 +128,8 @@ pub(crate) fn prepare_above<T: Pixel>(
     requires long { places ≤ length above.now }
     requires angle { block.p_angle < 300 }
     requires depth { block.bit_depth ≤ 16 }
-    ensures numbers { entries ready.new.numbers ≡ prepared block (distance block.p_angle 90) smoothed places (side (T.num corner) (take places (map T.num above.now))) }
+    ensures numbers { entries ready.new.numbers ≡
+        prepared block (distance block.p_angle 90) smoothed places (side (T.num corner) (take places (map T.num above.now))) }
     ensures upsampling { ready.new.upsampling ≡ upsampling block (distance block.p_angle 90) }
     ensures at_most_one { ready.new.upsampling ≤ 1 }
 {
@@ -134,7 +137,8 @@ pub(crate) fn prepare_above<T: Pixel>(
     ready.upsampling = filter_side(&mut ready.numbers, block, 90, smoothed, places);
 }
 
-/// Makes an empty side the left one with its first `places` places from the top down, of which the first `smoothed` are smoothed.
+/// Makes an empty side the left one with its first `places` places from the top down, of which the first `smoothed` are
+/// smoothed.
 pub(crate) fn prepare_left<T: Pixel>(
     ready: &mut PreparedSide,
     left: &[T],
@@ -150,7 +154,8 @@ pub(crate) fn prepare_left<T: Pixel>(
     requires long { places ≤ length left.now }
     requires angle { block.p_angle < 300 }
     requires depth { block.bit_depth ≤ 16 }
-    ensures numbers { entries ready.new.numbers ≡ prepared block (distance block.p_angle 180) smoothed places (side (T.num corner) (take places (reverse (map T.num left.now)))) }
+    ensures numbers { entries ready.new.numbers ≡
+        prepared block (distance block.p_angle 180) smoothed places (side (T.num corner) (take places (reverse (map T.num left.now)))) }
     ensures upsampling { ready.new.upsampling ≡ upsampling block (distance block.p_angle 180) }
     ensures at_most_one { ready.new.upsampling ≤ 1 }
 {

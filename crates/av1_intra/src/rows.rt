@@ -7,8 +7,8 @@ ghost use Rattle.av1_frame.specs.Regions.{InStorage, painted};
 
 use av1_frame::{Pixel, PlaneRegionMut, StoredArea, fill_area};
 
-/// Each sample of the rectangle becomes `value`, as by `fill_area`; the widths of transforms are known to the compiler. The rows of
-/// `samples` stand `stride` apart.
+/// Each sample of the rectangle becomes `value`, as by `fill_area`; the widths of transforms are known to the compiler.
+/// The rows of `samples` stand `stride` apart.
 pub fn fill_block<T: Pixel>(samples: &mut [T], stride: usize, area: StoredArea, value: T)
     requires rows { AreRows stride area (length samples.old) }
     ensures { samples.new ≡ paint stride area (λ _ _ _. value) samples.old }

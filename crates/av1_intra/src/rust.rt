@@ -1,4 +1,5 @@
-//! The predictors of one kind each, under the module's name in rav1e: its plain functions, beside those for single processors.
+//! The predictors of one kind each, under the module's name in rav1e: its plain functions, beside those for single
+//! processors.
 
 pub use crate::angle::dr_intra_derivative;
 pub use crate::chroma_from_luma::{

@@ -80,7 +80,11 @@ fn smooth_row<T: Pixel>(
     requires r { r < height }
     requires row_weights { height ≤ length row_weights.now }
     requires column_weights { width ≤ length column_weights.now }
-    ensures { row.new ≡ paint_row width (λ c _. T.pixel ((mix (slice_index row_weights.now r) (numbers T.num above.now c) (numbers T.num left.now 0) + mix (slice_index column_weights.now c) (numbers T.num left.now (height - 1 - r)) (numbers T.num above.now (width - 1)) + 256) / 512)) row.old }
+    ensures { row.new ≡
+        paint_row width
+        (λ c _. T.pixel
+        ((mix (slice_index row_weights.now r) (numbers T.num above.now c) (numbers T.num left.now 0) + mix (slice_index column_weights.now c)
+        (numbers T.num left.now (height - 1 - r)) (numbers T.num above.now (width - 1)) + 256) / 512)) row.old }
 {
     let bottom = number_at(left, 0);
     let side = number_at(left, height - 1 - r);
@@ -123,7 +127,9 @@ fn smooth_h_row<T: Pixel>(
     requires above_long { width ≤ length above.now }
     requires left_long { k < length left.now }
     requires weights { width ≤ length weights.now }
-    ensures { row.new ≡ paint_row width (λ c _. T.pixel ((mix (slice_index weights.now c) (numbers T.num left.now k) (numbers T.num above.now (width - 1)) + 128) / 256)) row.old }
+    ensures { row.new ≡
+        paint_row width (λ c _. T.pixel ((mix (slice_index weights.now c) (numbers T.num left.now k) (numbers T.num above.now (width - 1)) + 128) / 256))
+        row.old }
 {
     let side = number_at(left, k);
     let right = number_at(above, width - 1);
@@ -133,11 +139,11 @@ fn smooth_h_row<T: Pixel>(
     }
 }
 
-/// Predicts the samples of a rectangle: each becomes the mean of that of `pred_smooth_v_to` and that of `pred_smooth_h_to`, rounded
-/// once. The rows of `samples` stand `stride` apart.
+/// Predicts the samples of a rectangle: each becomes the mean of that of `pred_smooth_v_to` and that of
+/// `pred_smooth_h_to`, rounded once. The rows of `samples` stand `stride` apart.
 ///
-/// `above` runs from the left, and `left` from the bottom up: its first sample is that of the lowest row. Samples past those beside
-/// the rectangle are not read.
+/// `above` runs from the left, and `left` from the bottom up: its first sample is that of the lowest row. Samples past
+/// those beside the rectangle are not read.
 #[tactic(auto, using(av1_frame::proofs::Paint::rectangle_painting))]
 pub fn pred_smooth_to<T: Pixel>(
     samples: &mut [T],
@@ -151,7 +157,8 @@ pub fn pred_smooth_to<T: Pixel>(
     requires height { IsTransformSide area.height }
     requires above_long { area.width ≤ length above.now }
     requires left_long { area.height ≤ length left.now }
-    ensures { samples.new ≡ paint stride area (λ r c _. T.pixel (smooth area.width area.height (numbers T.num above.now) (from_top T.num area.height left.now) r c)) samples.old }
+    ensures { samples.new ≡
+        paint stride area (λ r c _. T.pixel (smooth area.width area.height (numbers T.num above.now) (from_top T.num area.height left.now) r c)) samples.old }
 {
     let row_weights = smooth_weights(area.height);
     let column_weights = smooth_weights(area.width);
@@ -170,11 +177,11 @@ pub fn pred_smooth_to<T: Pixel>(
     }
 }
 
-/// Predicts the first `height` rows and `width` columns of `output`: each sample becomes the mean of that of `pred_smooth_v`
-/// and that of `pred_smooth_h`, rounded once.
+/// Predicts the first `height` rows and `width` columns of `output`: each sample becomes the mean of that of
+/// `pred_smooth_v` and that of `pred_smooth_h`, rounded once.
 ///
-/// `above` runs from the left, and `left` from the bottom up: its first sample is that of the lowest row. Samples past the
-/// first `width` and `height` are not read.
+/// `above` runs from the left, and `left` from the bottom up: its first sample is that of the lowest row. Samples past
+/// the first `width` and `height` are not read.
 #[tactic(auto, using(av1_frame::proofs::Regions::region_lending))]
 pub fn pred_smooth<T: Pixel>(
     output: &mut PlaneRegionMut<'_, T>,
@@ -199,11 +206,11 @@ pub fn pred_smooth<T: Pixel>(
     pred_smooth_to(output.samples_mut(), stride, area, above, left);
 }
 
-/// Predicts the samples of a rectangle: each becomes a mean of the sample in its row of `left` and the last one `above`, which weighs
-/// the more the further to the right the column is. The rows of `samples` stand `stride` apart.
+/// Predicts the samples of a rectangle: each becomes a mean of the sample in its row of `left` and the last one
+/// `above`, which weighs the more the further to the right the column is. The rows of `samples` stand `stride` apart.
 ///
-/// `above` runs from the left, and `left` from the bottom up: its first sample is that of the lowest row. Samples past those beside
-/// the rectangle are not read.
+/// `above` runs from the left, and `left` from the bottom up: its first sample is that of the lowest row. Samples past
+/// those beside the rectangle are not read.
 #[tactic(auto, using(av1_frame::proofs::Paint::rectangle_painting))]
 pub fn pred_smooth_h_to<T: Pixel>(
     samples: &mut [T],
@@ -216,7 +223,8 @@ pub fn pred_smooth_h_to<T: Pixel>(
     requires width { IsTransformSide area.width }
     requires above_long { area.width ≤ length above.now }
     requires left_long { area.height ≤ length left.now }
-    ensures { samples.new ≡ paint stride area (λ r c _. T.pixel (smooth_h area.width (numbers T.num above.now) (from_top T.num area.height left.now) r c)) samples.old }
+    ensures { samples.new ≡ paint stride area (λ r c _. T.pixel (smooth_h area.width (numbers T.num above.now) (from_top T.num area.height left.now) r c))
+        samples.old }
 {
     let weights = smooth_weights(area.width);
     for r in 0..area.height {
@@ -226,8 +234,8 @@ pub fn pred_smooth_h_to<T: Pixel>(
     }
 }
 
-/// Predicts the first `height` rows and `width` columns of `output`: each sample becomes a mean of the sample in its row of
-/// `left` and the last one `above`, which weighs the more the further to the right the column is.
+/// Predicts the first `height` rows and `width` columns of `output`: each sample becomes a mean of the sample in its
+/// row of `left` and the last one `above`, which weighs the more the further to the right the column is.
 ///
 /// `above` runs from the left, and `left` from the bottom up. Samples past the first `width` and `height` are not read.
 #[tactic(auto, using(av1_frame::proofs::Regions::region_lending))]
@@ -253,11 +261,11 @@ pub fn pred_smooth_h<T: Pixel>(
     pred_smooth_h_to(output.samples_mut(), stride, area, above, left);
 }
 
-/// Predicts the samples of a rectangle: each becomes a mean of the sample in its column of `above` and the lowest one on the left,
-/// which weighs the more the further down the row is. The rows of `samples` stand `stride` apart.
+/// Predicts the samples of a rectangle: each becomes a mean of the sample in its column of `above` and the lowest one
+/// on the left, which weighs the more the further down the row is. The rows of `samples` stand `stride` apart.
 ///
-/// `above` runs from the left, and `left` from the bottom up: its first sample is that of the lowest row. Samples past those beside
-/// the rectangle are not read.
+/// `above` runs from the left, and `left` from the bottom up: its first sample is that of the lowest row. Samples past
+/// those beside the rectangle are not read.
 #[tactic(auto, using(av1_frame::proofs::Paint::rectangle_painting))]
 pub fn pred_smooth_v_to<T: Pixel>(
     samples: &mut [T],
@@ -270,7 +278,8 @@ pub fn pred_smooth_v_to<T: Pixel>(
     requires height { IsTransformSide area.height }
     requires above_long { area.width ≤ length above.now }
     requires left_long { area.height ≤ length left.now }
-    ensures { samples.new ≡ paint stride area (λ r c _. T.pixel (smooth_v area.height (numbers T.num above.now) (from_top T.num area.height left.now) r c)) samples.old }
+    ensures { samples.new ≡ paint stride area (λ r c _. T.pixel (smooth_v area.height (numbers T.num above.now) (from_top T.num area.height left.now) r c))
+        samples.old }
 {
     let weights = smooth_weights(area.height);
     for r in 0..area.height {
@@ -279,11 +288,11 @@ pub fn pred_smooth_v_to<T: Pixel>(
     }
 }
 
-/// Predicts the first `height` rows and `width` columns of `output`: each sample becomes a mean of the sample in its column
-/// of `above` and the lowest one on the left, which weighs the more the further down the row is.
+/// Predicts the first `height` rows and `width` columns of `output`: each sample becomes a mean of the sample in its
+/// column of `above` and the lowest one on the left, which weighs the more the further down the row is.
 ///
-/// `above` runs from the left, and `left` from the bottom up: its first sample is the lowest. Samples past the first `width`
-/// and `height` are not read.
+/// `above` runs from the left, and `left` from the bottom up: its first sample is the lowest. Samples past the first
+/// `width` and `height` are not read.
 #[tactic(auto, using(av1_frame::proofs::Regions::region_lending))]
 pub fn pred_smooth_v<T: Pixel>(
     output: &mut PlaneRegionMut<'_, T>,

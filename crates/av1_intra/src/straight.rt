@@ -11,8 +11,8 @@ ghost use Rattle.av1_intra.specs.Sides.{numbers, from_top};
 use crate::samples::number_at;
 use av1_frame::{Pixel, PlaneRegionMut, StoredArea, copy_row, fill_row};
 
-/// Predicts the samples of a rectangle: each row becomes the samples of `above`, which runs from the left. The rows of `samples` stand
-/// `stride` apart. Samples of `above` past the rectangle's width are not read.
+/// Predicts the samples of a rectangle: each row becomes the samples of `above`, which runs from the left. The rows of
+/// `samples` stand `stride` apart. Samples of `above` past the rectangle's width are not read.
 pub fn pred_v_to<T: Pixel>(samples: &mut [T], stride: usize, area: StoredArea, above: &[T])
     requires rows { AreRows stride area (length samples.old) }
     requires above_long { area.width ≤ length above.now }
@@ -49,8 +49,8 @@ fn copy_down<T: Pixel>(
     }
 }
 
-/// Predicts the first `height` rows and `width` columns of `output`: each row becomes the samples of `above`, which runs from the
-/// left. Samples past the first `width` are not read.
+/// Predicts the first `height` rows and `width` columns of `output`: each row becomes the samples of `above`, which
+/// runs from the left. Samples past the first `width` are not read.
 #[tactic(auto, using(av1_frame::proofs::Regions::region_lending))]
 pub fn pred_v<T: Pixel>(
     output: &mut PlaneRegionMut<'_, T>,
@@ -70,11 +70,11 @@ pub fn pred_v<T: Pixel>(
     pred_v_to(output.samples_mut(), stride, area, above);
 }
 
-/// Predicts the samples of a rectangle: each row becomes its sample of `left`, again and again. The rows of `samples` stand `stride`
-/// apart.
+/// Predicts the samples of a rectangle: each row becomes its sample of `left`, again and again. The rows of `samples`
+/// stand `stride` apart.
 ///
-/// `left` runs from the bottom up: of as many samples as the rectangle has rows, the last is that of the first row. Samples past
-/// those are not read.
+/// `left` runs from the bottom up: of as many samples as the rectangle has rows, the last is that of the first row.
+/// Samples past those are not read.
 pub fn pred_h_to<T: Pixel>(samples: &mut [T], stride: usize, area: StoredArea, left: &[T])
     requires rows { AreRows stride area (length samples.old) }
     requires left_long { area.height ≤ length left.now }
@@ -122,10 +122,11 @@ fn copy_across<T: Pixel>(
     }
 }
 
-/// Predicts the first `height` rows and `width` columns of `output`: each row becomes its sample of `left`, again and again.
+/// Predicts the first `height` rows and `width` columns of `output`: each row becomes its sample of `left`, again and
+/// again.
 ///
-/// `left` runs from the bottom up: its sample at `height - 1` is that of the first row. Samples past the first `height` are not
-/// read.
+/// `left` runs from the bottom up: its sample at `height - 1` is that of the first row. Samples past the first `height`
+/// are not read.
 #[tactic(auto, using(av1_frame::proofs::Regions::region_lending))]
 pub fn pred_h<T: Pixel>(output: &mut PlaneRegionMut<'_, T>, left: &[T], width: usize, height: usize)
     requires fits { InStorage output.old }

@@ -36,8 +36,9 @@ fn leaf_in_tile<T: Pixel>(
     }
 }
 
-/// Puts into `ac`, row by row, how far the luma over each sample of chroma of the leaf at the cell `tile_bo` is from its mean, in
-/// eighths, and gives these entries. The other entries of `ac` stay. See `leaf_luma_ac`, which asks for no tile.
+/// Puts into `ac`, row by row, how far the luma over each sample of chroma of the leaf at the cell `tile_bo` is from
+/// its mean, in eighths, and gives these entries. The other entries of `ac` stay. See `leaf_luma_ac`, which asks for no
+/// tile.
 pub fn luma_ac<'ac, T: Pixel>(
     ac: &'ac mut [i16],
     ts: &mut TileStateMut<'_, T>,
@@ -56,9 +57,11 @@ pub fn luma_ac<'ac, T: Pixel>(
     requires left { IsTrue (is_narrow bsize ts.old.u.plane_cfg.xdec) → 1 ≤ tile_bo.0.x }
     requires top { IsTrue (is_low bsize ts.old.u.plane_cfg.ydec) → 1 ≤ tile_bo.0.y }
     requires ac_long { let b = chroma_block (leaf_in_tile ts.old tile_bo bsize tx_size fi.now) in b.width * b.height ≤ length ac.old }
-    requires columns { let leaf = leaf_in_tile ts.old tile_bo bsize tx_size fi.now in first_column leaf + columns_read (chroma_block leaf) ≤ ts.old.y.area.width }
+    requires columns { let leaf = leaf_in_tile ts.old tile_bo bsize tx_size fi.now
+        in first_column leaf + columns_read (chroma_block leaf) ≤ ts.old.y.area.width }
     requires rows { let leaf = leaf_in_tile ts.old tile_bo bsize tx_size fi.now in first_row leaf + rows_read (chroma_block leaf) ≤ ts.old.y.area.height }
-    requires low { let leaf = leaf_in_tile ts.old tile_bo bsize tx_size fi.now in (x y : ℕ) → x < columns_read (chroma_block leaf) → y < rows_read (chroma_block leaf)
+    requires low { let leaf = leaf_in_tile ts.old tile_bo bsize tx_size fi.now in (x y : ℕ) → x < columns_read (chroma_block leaf) →
+        y < rows_read (chroma_block leaf)
         → tile_luma T.num ts.old.y (first_column leaf + x) (first_row leaf + y) < 4096 }
     ensures value { let leaf = leaf_in_tile ts.old tile_bo bsize tx_size fi.now in let b = chroma_block leaf in
         result.now ≡ take (b.width * b.height) (with_rows b.width b.height (leaf_difference (tile_luma T.num ts.old.y) leaf) ac.old) }

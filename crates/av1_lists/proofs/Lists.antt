@@ -1,5 +1,6 @@
 -- Lists that are told by what stands at each place: their lengths, their items, and lists that are shown to be such.
-use Rattle.std.proofs.Common.{ℕ, zero, suc, refl, ◌+◌, ◌-◌, ◌<◌, ◌≡◌, List, [], ◌∷◌, All, length, get_or, set, map, reverse, ap, arith, ◌∙◌, subst, sym, inl, inr}
+use Rattle.std.proofs.Common.{ℕ, zero, suc, refl, ◌+◌, ◌-◌, ◌<◌, ◌≡◌, List, [], ◌∷◌, All, length, get_or, set, map, reverse, ap, arith, ◌∙◌, subst, sym, inl}
+use Rattle.std.proofs.Common.{inr}
 use Rattle.std.proofs.lemmas.Bool.{cases_lt}
 use Rattle.std.proofs.lemmas.Grind.{get_or-set_at}
 use Rattle.std.proofs.lemmas.List.{get_or-map, get_or-set_other, get_or-reverse, length-map, length-reverse}
@@ -32,7 +33,8 @@ reversed : {A : Type 0} (n : ℕ) (f : ℕ → A) (d : A) → reverse (by_index 
 reversed n f d =
     let l : length (reverse (by_index n f)) ≡ n = length-reverse (by_index n f) ∙ length-by_index n f in
     by_index_is n (λ k. f (n - 1 - k)) (reverse (by_index n f)) d l (λ k h.
-    get_or-reverse (by_index n f) k d (omega (arith, length-by_index n f)) ∙ ap (λ m. get_or (by_index n f) (m - 1 - k) d) (length-by_index n f) ∙ get_or-by_index n f (n - 1 - k) d (omega arith))
+    get_or-reverse (by_index n f) k d (omega (arith, length-by_index n f)) ∙ ap (λ m. get_or (by_index n f) (m - 1 - k) d) (length-by_index n f)
+    ∙ get_or-by_index n f (n - 1 - k) d (omega arith))
 
 -- the same from the last to the first
 pub reverse-by_index : {A : Type 0} (n : ℕ) (f : ℕ → A) → reverse (by_index n f) ≡ by_index n (λ k. f (n - 1 - k))
@@ -42,17 +44,20 @@ reverse-by_index (suc n) f = reversed (suc n) f (f 0)
 -- ---- lists of things that are known by their numbers
 
 -- things whose numbers are f 0, .., f (n - 1)
-pub numbers_are : {T : Type 0} (num : T → ℕ) (f : ℕ → ℕ) (xs : List T) (n : ℕ) → length xs ≡ n → ((k : ℕ) (d : T) → k < n → num (get_or xs k d) ≡ f k) → map num xs ≡ by_index n f
+pub numbers_are : {T : Type 0} (num : T → ℕ) (f : ℕ → ℕ) (xs : List T) (n : ℕ) → length xs ≡ n → ((k : ℕ) (d : T) → k < n → num (get_or xs k d) ≡ f k) →
+    map num xs ≡ by_index n f
 numbers_are num f [] n e h = by_index_is n f [] 0 e (λ k l. absurd (omega arith))
 numbers_are num f (x ∷ xs) n e h =
     by_index_is n f (map num (x ∷ xs)) 0 (length-map (x ∷ xs) num ∙ e) (λ k l. get_or-map num (x ∷ xs) k x 0 (omega arith) ∙ h k x l)
 
 -- the same where they stand from the last to the first
-pub numbers_are_reversed : {T : Type 0} (num : T → ℕ) (f : ℕ → ℕ) (xs : List T) (n : ℕ) → length xs ≡ n → ((k : ℕ) (d : T) → k < n → num (get_or xs k d) ≡ f (n - 1 - k)) → map num xs ≡ reverse (by_index n f)
+pub numbers_are_reversed : {T : Type 0} (num : T → ℕ) (f : ℕ → ℕ) (xs : List T) (n : ℕ) → length xs ≡ n →
+    ((k : ℕ) (d : T) → k < n → num (get_or xs k d) ≡ f (n - 1 - k)) → map num xs ≡ reverse (by_index n f)
 numbers_are_reversed num f xs n e h = numbers_are num (λ k. f (n - 1 - k)) xs n e h ∙ sym (reverse-by_index n f)
 
 -- one more thing whose number is known
-pub set_shown : {T : Type 0} (num : T → ℕ) (xs : List T) (i : ℕ) (v : T) (f : ℕ → ℕ) → num v ≡ f i → i < length xs → ((k : ℕ) (d : T) → k < i → num (get_or xs k d) ≡ f k) → (k : ℕ) (d : T) → k < i + 1 → num (get_or (set xs i v) k d) ≡ f k
+pub set_shown : {T : Type 0} (num : T → ℕ) (xs : List T) (i : ℕ) (v : T) (f : ℕ → ℕ) → num v ≡ f i → i < length xs →
+    ((k : ℕ) (d : T) → k < i → num (get_or xs k d) ≡ f k) → (k : ℕ) (d : T) → k < i + 1 → num (get_or (set xs i v) k d) ≡ f k
 set_shown num xs i v f here l before k d h = elim (cases_lt k i) [
   | inl e ↦ ap num (get_or-set_other xs i k v d (λ s. absurd (omega (arith, s)))) ∙ before k d e
   | inr e ↦ let same : k ≡ i = omega arith in ap num (get_or-set_at xs i k v d same l) ∙ here ∙ ap f (sym same)

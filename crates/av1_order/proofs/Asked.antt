@@ -1,5 +1,6 @@
 -- What is asked of the availability calls is what places tell.
-use Rattle.std.proofs.Common.{◌≡◌, ℕ, zero, suc, ◌+◌, ◌-◌, ◌*◌, ◌/◌, ◌%◌, ◌^◌, ◌<◌, ◌≤◌, max, Bool, true, false, ◌&&◌, ◌||◌, ltb, List, take, length, get_or, refl, sym, ◌∙◌, ap, arith}
+use Rattle.std.proofs.Common.{◌≡◌, ℕ, zero, suc, ◌+◌, ◌-◌, ◌*◌, ◌/◌, ◌%◌, ◌^◌, ◌<◌, ◌≤◌, max, Bool, true, false, ◌&&◌, ◌||◌, ltb, List, take, length, get_or}
+use Rattle.std.proofs.Common.{refl, sym, ◌∙◌, ap, arith}
 use Rattle.std.proofs.Math.Pow.{pow_mono}
 use Rattle.std.proofs.lemmas.Bool.{ltb-true, lt-ltb, true≢false}
 use Rattle.std.proofs.lemmas.Bool.Decides.{nat_tests}
@@ -47,8 +48,10 @@ node-shift (suc (suc (suc (suc zero)))) a h = omega arith
 node-shift (suc (suc (suc (suc (suc k))))) a h = absurd (omega arith)
 
 -- over plain numbers
-shifted : (sx sy bx by w h th r c X Y : ℕ) → (16 + bx) - (16 + bx) % max w h ≡ 16 + (bx - bx % max w h) → (16 + by) - (16 + by) % max w h ≡ 16 + (by - by % max w h)
-    → (units sx + X) * 2 ^ sx ≡ 16 + X * 2 ^ sx → (units sy + Y) * 2 ^ sy ≡ 16 + Y * 2 ^ sy → (16 + bx) / 2 ^ sx ≡ units sx + bx / 2 ^ sx → (16 + by) / 2 ^ sy ≡ units sy + by / 2 ^ sy
+shifted : (sx sy bx by w h th r c X Y : ℕ) → (16 + bx) - (16 + bx) % max w h ≡ 16 + (bx - bx % max w h) →
+    (16 + by) - (16 + by) % max w h ≡ 16 + (by - by % max w h)
+    → (units sx + X) * 2 ^ sx ≡ 16 + X * 2 ^ sx → (units sy + Y) * 2 ^ sy ≡ 16 + Y * 2 ^ sy → (16 + bx) / 2 ^ sx ≡ units sx + bx / 2 ^ sx →
+    (16 + by) / 2 ^ sy ≡ units sy + by / 2 ^ sy
     → next_before (16 + bx) (16 + by) w h sx sy th r c (units sx + X) (units sy + Y) ≡ next_before bx by w h sx sy th r c X Y
 unfolding next_before
 shifted sx sy bx by w h th r c X Y ex ey fx fy gx gy =
@@ -84,7 +87,8 @@ module _ (sx sy : ℕ) (hx : sx ≤ 1) (hy : sy ≤ 1) (s : Step) (is : IsStep s
 
   module _ (b : BlockSize) (t : TxSize) (z : HasSizes s b t) (cx cy j : ℕ) (e : is_in cx cy s.block.x s.block.y s.block.columns s.block.rows ≡ true) where
     pub asked_right : 1 ≤ (area sx sy s.block).y + s.down
-        → top_right_before b cx cy t s.down s.right sx sy j ≡ told_before sx sy s ((area sx sy s.block).x + s.right + s.columns + j) ((area sx sy s.block).y + s.down - 1)
+        → top_right_before b cx cy t s.down s.right sx sy j ≡ told_before sx sy s ((area sx sy s.block).x + s.right + s.columns + j)
+        ((area sx sy s.block).y + s.down - 1)
     unfolding top_right_before
     asked_right pos =
         let a = area sx sy s.block in
@@ -94,7 +98,8 @@ module _ (sx sy : ℕ) (hx : sx ≤ 1) (hy : sy ≤ 1) (s : Step) (is : IsStep s
         rw (← z.columns, ← z.rows, ← z.wide, ← z.high, k.0, k.1, ex, ey) (asked_next (a.x + s.right + s.columns + j) (a.y + s.down - 1))
 
     pub asked_left : 1 ≤ (area sx sy s.block).x + s.right
-        → bottom_left_before b cx cy t s.down s.right sx sy j ≡ told_before sx sy s ((area sx sy s.block).x + s.right - 1) ((area sx sy s.block).y + s.down + s.rows + j)
+        → bottom_left_before b cx cy t s.down s.right sx sy j ≡ told_before sx sy s ((area sx sy s.block).x + s.right - 1)
+        ((area sx sy s.block).y + s.down + s.rows + j)
     unfolding bottom_left_before
     asked_left pos =
         let a = area sx sy s.block in
@@ -209,7 +214,8 @@ module _ (sx sy width height : ℕ) (hx : sx ≤ 1) (hy : sy ≤ 1) (before : Li
             let column = ltb-true end (4 * (width / 2 ^ sx)) f in
             let row : top sx sy s - 1 < 4 * (height / 2 ^ sy) = omega (arith, placed.begins.row) in (
               lt-ltb (top sx sy s - 1) (4 * (height / 2 ^ sy)) row,
-              sym (is_asked.above_right cx cy 0 end (top sx sy s - 1) (in_block cx cy ex ey) (omega arith) (omega arith) (record { column = column; row = row })),
+              sym (is_asked.above_right cx cy 0 end (top sx sy s - 1) (in_block cx cy ex ey) (omega arith) (omega arith)
+                  (record { column = column; row = row })),
             ));
         bottom_left = λ cx cy ex ey.
             when_both (ltb 0 s.right || ltb sx cx) (ltb 0 (left sx sy s)) (ltb foot (4 * (height / 2 ^ sy))) (ltb (left sx sy s - 1) (4 * (width / 2 ^ sx)))
@@ -220,7 +226,8 @@ module _ (sx sy width height : ℕ) (hx : sx ≤ 1) (hy : sy ≤ 1) (before : Li
             let low = ltb-true foot (4 * (height / 2 ^ sy)) f in
             let column : left sx sy s - 1 < 4 * (width / 2 ^ sx) = omega (arith, placed.begins.column) in (
               lt-ltb (left sx sy s - 1) (4 * (width / 2 ^ sx)) column,
-              sym (is_asked.below_left cx cy 0 (left sx sy s - 1) foot (in_block cx cy ex ey) (omega arith) (omega arith) (record { column = column; row = low })),
+              sym (is_asked.below_left cx cy 0 (left sx sy s - 1) foot (in_block cx cy ex ey) (omega arith) (omega arith)
+                  (record { column = column; row = low })),
             ));
       }
 
@@ -235,7 +242,8 @@ module _ (sx sy width height : ℕ) (trees : List (Tree Coding 4)) (is : IsFrame
       placed_step sx sy width height (length trees) (frame_leaves width height trees) (frame_is_ordered sx sy width height trees is) k none lt
 
   told_in_frame : (x y : ℕ) → IsVisible sx sy width height x y
-      → is_covered_sample sx sy (take k (steps_of sx sy width height trees)) x y ≡ told_before sx sy (get_or (steps_of sx sy width height trees) k none) (x / 4) (y / 4)
+      → is_covered_sample sx sy (take k (steps_of sx sy width height trees)) x y ≡ told_before sx sy (get_or (steps_of sx sy width height trees) k none) (x / 4)
+      (y / 4)
   told_in_frame = told sx sy width height (length trees) (frame_leaves width height trees) (frame_is_ordered sx sy width height trees is) k none lt
 
   asked_in_frame : (b : BlockSize) (t : TxSize) → HasSizes (get_or (steps_of sx sy width height trees) k none) b t

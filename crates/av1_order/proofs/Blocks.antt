@@ -1,5 +1,6 @@
 -- A transform block of a leaf as a step: where it begins, its sizes, and that it is written by its own step.
-use Rattle.std.proofs.Common.{◌≡◌, ℕ, zero, suc, ◌+◌, ◌-◌, ◌*◌, ◌/◌, ◌^◌, ◌<◌, ◌≤◌, max, Bool, true, false, ◌&&◌, ◌||◌, List, ◌∷◌, ◌++◌, None, Some, refl, sym, subst, ◌∙◌, ap, arith}
+use Rattle.std.proofs.Common.{◌≡◌, ℕ, zero, suc, ◌+◌, ◌-◌, ◌*◌, ◌/◌, ◌^◌, ◌<◌, ◌≤◌, max, Bool, true, false, ◌&&◌, ◌||◌, List, ◌∷◌, ◌++◌, None, Some, refl, sym}
+use Rattle.std.proofs.Common.{subst, ◌∙◌, ap, arith}
 use Rattle.std.specs.Prelude.{nat_lt, if◌then◌else◌}
 use Rattle.std.specs.List.{filter_map, range_with_len}
 use Rattle.std.proofs.lemmas.Bool.{and_parts, ltb-true, true≢false}
@@ -30,21 +31,25 @@ use Rattle.av1_order.proofs.Sizes.{tx_units}
 
 -- ---- the block that chroma belongs to
 
-whole_sizes : (size : BlockSize) → (max (block_width size / 4) 1 ≡ block_columns (supersample_chroma_bsize size 0 0)) × (max (block_height size / 4) 1 ≡ block_rows (supersample_chroma_bsize size 0 0))
+whole_sizes : (size : BlockSize) → (max (block_width size / 4) 1 ≡ block_columns (supersample_chroma_bsize size 0 0)) ×
+    (max (block_height size / 4) 1 ≡ block_rows (supersample_chroma_bsize size 0 0))
 whole_sizes BLOCK_4X4 = (refl, refl)
 whole_sizes _ = (refl, refl)
 
-half_sizes : (size : BlockSize) → (max (block_width size / 4) 2 ≡ block_columns (supersample_chroma_bsize size 1 0)) × (max (block_height size / 4) 1 ≡ block_rows (supersample_chroma_bsize size 1 0))
+half_sizes : (size : BlockSize) → (max (block_width size / 4) 2 ≡ block_columns (supersample_chroma_bsize size 1 0)) ×
+    (max (block_height size / 4) 1 ≡ block_rows (supersample_chroma_bsize size 1 0))
 half_sizes BLOCK_4X4 = (refl, refl)
 half_sizes _ = (refl, refl)
 
-quarter_sizes : (size : BlockSize) → (max (block_width size / 4) 2 ≡ block_columns (supersample_chroma_bsize size 1 1)) × (max (block_height size / 4) 2 ≡ block_rows (supersample_chroma_bsize size 1 1))
+quarter_sizes : (size : BlockSize) → (max (block_width size / 4) 2 ≡ block_columns (supersample_chroma_bsize size 1 1)) ×
+    (max (block_height size / 4) 2 ≡ block_rows (supersample_chroma_bsize size 1 1))
 quarter_sizes BLOCK_4X4 = (refl, refl)
 quarter_sizes _ = (refl, refl)
 
 -- a widened block has its sizes
 supersampled : (size : BlockSize) (sx sy : ℕ) → sx ≤ 1 → sy ≤ sx
-    → (max (block_width size / 4) (2 ^ sx) ≡ block_columns (supersample_chroma_bsize size sx sy)) × (max (block_height size / 4) (2 ^ sy) ≡ block_rows (supersample_chroma_bsize size sx sy))
+    → (max (block_width size / 4) (2 ^ sx) ≡ block_columns (supersample_chroma_bsize size sx sy)) ×
+    (max (block_height size / 4) (2 ^ sy) ≡ block_rows (supersample_chroma_bsize size sx sy))
 supersampled size zero zero hx hy = whole_sizes size
 supersampled size (suc zero) zero hx hy = half_sizes size
 supersampled size (suc zero) (suc zero) hx hy = quarter_sizes size
@@ -76,9 +81,11 @@ is_there h p a n b e =
       row = subst (λ (c : TransformBlock). c.y < plane_height h p) same (ltb-true (block_at a n).y (plane_height h p) row);
     }
 
-written_there : (sx sy : ℕ) (low : List Step) (s : Step) (high : List Step) (x y : ℕ) → is_in x y (left sx sy s) (top sx sy s) (width_of sx sy s) (height_of sx sy s) ≡ true
+written_there : (sx sy : ℕ) (low : List Step) (s : Step) (high : List Step) (x y : ℕ) →
+    is_in x y (left sx sy s) (top sx sy s) (width_of sx sy s) (height_of sx sy s) ≡ true
     → is_covered_sample sx sy (low ++ s ∷ high) x y ≡ true
-written_there sx sy low s high x y e = covered-append sx sy low (s ∷ high) x y ∙ in_middle (is_covered_sample sx sy low x y) _ (is_covered_sample sx sy high x y) e
+written_there sx sy low s high x y e = covered-append sx sy low (s ∷ high) x y
+    ∙ in_middle (is_covered_sample sx sy low x y) _ (is_covered_sample sx sy high x y) e
   where
     in_middle : (a b c : Bool) → b ≡ true → (a || (b || c)) ≡ true
     in_middle true b c e = refl
@@ -126,7 +133,8 @@ module _ (h : Header) (p : ℕ) (l : LeafValue) (frame : IsWholeFrame h) (grid :
     top_at = sym (ap (λ (c : TransformBlock). c.y) begun.1)
 
     -- where the leaf isn't inter, its own step writes it
-    pub block_written : is_inter l.kind ≡ false → covers_plane h l.x l.y l.size p ≡ true → (x y : ℕ) → is_in x y b.x b.y (tx_width (tx_in h p l)) (tx_height (tx_in h p l)) ≡ true
+    pub block_written : is_inter l.kind ≡ false → covers_plane h l.x l.y l.size p ≡ true → (x y : ℕ) →
+        is_in x y b.x b.y (tx_width (tx_in h p l)) (tx_height (tx_in h p l)) ≡ true
         → is_written h p (steps_in h p l) x y ≡ true
     block_written intra covered x y e =
         let sx = xdec h p in

@@ -1,5 +1,6 @@
 -- The luma that chroma from luma reads is written.
-use Rattle.std.proofs.Common.{◌≡◌, ℕ, zero, suc, ◌+◌, ◌-◌, ◌*◌, ◌/◌, ◌%◌, ◌^◌, ◌<◌, ◌≤◌, ◌⊎◌, max, Bool, true, false, not, ◌&&◌, ◌||◌, eqb, List, [], ◌∷◌, ◌++◌, Option, None, Some, inl, inr, refl, sym, subst, ◌∙◌, ap, arith}
+use Rattle.std.proofs.Common.{◌≡◌, ℕ, zero, suc, ◌+◌, ◌-◌, ◌*◌, ◌/◌, ◌%◌, ◌^◌, ◌<◌, ◌≤◌, ◌⊎◌, max, Bool, true, false, not, ◌&&◌, ◌||◌, eqb, List, [], ◌∷◌, ◌++◌}
+use Rattle.std.proofs.Common.{Option, None, Some, inl, inr, refl, sym, subst, ◌∙◌, ap, arith}
 use Rattle.std.specs.Prelude.{nat_lt, nat_le, if◌then◌else◌, ◌==◌}
 use Rattle.std.proofs.Math.Nat.{mul-add-mod_self_right, mod-eq_of_lt, mul-le-mul_right, mul-div-mul_left, mul_comm}
 use Rattle.std.proofs.Math.Pow.{pow_mono}
@@ -16,7 +17,8 @@ use Rattle.av1_plan.specs.declared.geometry.PlaneArea.{PlaneArea}
 use Rattle.av1_plan.specs.declared.geometry.TransformBlock.{TransformBlock}
 use Rattle.av1_plan.specs.declared.header.Header.{Header}
 use Rattle.av1_plan.specs.CodingOrder.{IsOnGrid, IsQuarterInside, cells_of}
-use Rattle.av1_plan.specs.Geometry.{xdec, ydec, block_at, block_count, blocks_across, carries_chroma, covers_plane, has_block, is_inside, plane_area, plane_height, plane_place, plane_size, plane_tx_size, plane_width, transform_block}
+use Rattle.av1_plan.specs.Geometry.{xdec, ydec, block_at, block_count, blocks_across, carries_chroma, covers_plane, has_block, is_inside, plane_area}
+use Rattle.av1_plan.specs.Geometry.{plane_height, plane_place, plane_size, plane_tx_size, plane_width, transform_block}
 use Rattle.av1_plan.specs.Plan.{LeafValue}
 use Rattle.av1_plan.proofs.ValidLeaves.{IsValidLeaf, fitting_transforms}
 use Rattle.av1_order.specs.ChromaFromLuma.{LumaIsWritten, ReadsWritten, luma_place}
@@ -46,25 +48,44 @@ pub record Reads (s side place frame tx c i : ℕ) : Type 0 where
 reads : (s k j place frame c i : ℕ) → s ≤ 1 → k ≤ 3 → j ≤ k → place % (4 * 2 ^ k) ≡ 0 → frame % 8 ≡ 0 → place < frame → (s ≡ 1 → k ≡ 0 → place / 4 % 2 ≡ 1)
     → c < 4 * (max (4 * 2 ^ k / 4) (2 ^ s) / 2 ^ s) → i < 2 ^ s → Reads s (4 * 2 ^ k) place frame (4 * 2 ^ j) c i
 reads zero zero zero place frame c i hs hk hj at whole lt odd hc hi = record { ends = omega arith; coded = λ e. omega arith; before = λ e. refl }
-reads zero (suc zero) zero place frame c i hs hk hj at whole lt odd hc hi = record { ends = omega arith; coded = λ e. omega arith; before = λ e. absurd (omega arith) }
-reads zero (suc zero) (suc zero) place frame c i hs hk hj at whole lt odd hc hi = record { ends = omega arith; coded = λ e. omega arith; before = λ e. absurd (omega arith) }
-reads zero (suc (suc zero)) zero place frame c i hs hk hj at whole lt odd hc hi = record { ends = omega arith; coded = λ e. omega arith; before = λ e. absurd (omega arith) }
-reads zero (suc (suc zero)) (suc zero) place frame c i hs hk hj at whole lt odd hc hi = record { ends = omega arith; coded = λ e. omega arith; before = λ e. absurd (omega arith) }
-reads zero (suc (suc zero)) (suc (suc zero)) place frame c i hs hk hj at whole lt odd hc hi = record { ends = omega arith; coded = λ e. omega arith; before = λ e. absurd (omega arith) }
-reads zero (suc (suc (suc zero))) zero place frame c i hs hk hj at whole lt odd hc hi = record { ends = omega arith; coded = λ e. omega arith; before = λ e. absurd (omega arith) }
-reads zero (suc (suc (suc zero))) (suc zero) place frame c i hs hk hj at whole lt odd hc hi = record { ends = omega arith; coded = λ e. omega arith; before = λ e. absurd (omega arith) }
-reads zero (suc (suc (suc zero))) (suc (suc zero)) place frame c i hs hk hj at whole lt odd hc hi = record { ends = omega arith; coded = λ e. omega arith; before = λ e. absurd (omega arith) }
-reads zero (suc (suc (suc zero))) (suc (suc (suc zero))) place frame c i hs hk hj at whole lt odd hc hi = record { ends = omega arith; coded = λ e. omega arith; before = λ e. absurd (omega arith) }
-reads (suc zero) zero zero place frame c i hs hk hj at whole lt odd hc hi = let o : place / 4 % 2 ≡ 1 = odd refl refl in record { ends = omega arith; coded = λ e. omega arith; before = λ e. refl }
-reads (suc zero) (suc zero) zero place frame c i hs hk hj at whole lt odd hc hi = record { ends = omega arith; coded = λ e. omega arith; before = λ e. absurd (omega arith) }
-reads (suc zero) (suc zero) (suc zero) place frame c i hs hk hj at whole lt odd hc hi = record { ends = omega arith; coded = λ e. omega arith; before = λ e. absurd (omega arith) }
-reads (suc zero) (suc (suc zero)) zero place frame c i hs hk hj at whole lt odd hc hi = record { ends = omega arith; coded = λ e. omega arith; before = λ e. absurd (omega arith) }
-reads (suc zero) (suc (suc zero)) (suc zero) place frame c i hs hk hj at whole lt odd hc hi = record { ends = omega arith; coded = λ e. omega arith; before = λ e. absurd (omega arith) }
-reads (suc zero) (suc (suc zero)) (suc (suc zero)) place frame c i hs hk hj at whole lt odd hc hi = record { ends = omega arith; coded = λ e. omega arith; before = λ e. absurd (omega arith) }
-reads (suc zero) (suc (suc (suc zero))) zero place frame c i hs hk hj at whole lt odd hc hi = record { ends = omega arith; coded = λ e. omega arith; before = λ e. absurd (omega arith) }
-reads (suc zero) (suc (suc (suc zero))) (suc zero) place frame c i hs hk hj at whole lt odd hc hi = record { ends = omega arith; coded = λ e. omega arith; before = λ e. absurd (omega arith) }
-reads (suc zero) (suc (suc (suc zero))) (suc (suc zero)) place frame c i hs hk hj at whole lt odd hc hi = record { ends = omega arith; coded = λ e. omega arith; before = λ e. absurd (omega arith) }
-reads (suc zero) (suc (suc (suc zero))) (suc (suc (suc zero))) place frame c i hs hk hj at whole lt odd hc hi = record { ends = omega arith; coded = λ e. omega arith; before = λ e. absurd (omega arith) }
+reads zero (suc zero) zero place frame c i hs hk hj at whole lt odd hc hi =
+    record { ends = omega arith; coded = λ e. omega arith; before = λ e. absurd (omega arith) }
+reads zero (suc zero) (suc zero) place frame c i hs hk hj at whole lt odd hc hi =
+    record { ends = omega arith; coded = λ e. omega arith; before = λ e. absurd (omega arith) }
+reads zero (suc (suc zero)) zero place frame c i hs hk hj at whole lt odd hc hi =
+    record { ends = omega arith; coded = λ e. omega arith; before = λ e. absurd (omega arith) }
+reads zero (suc (suc zero)) (suc zero) place frame c i hs hk hj at whole lt odd hc hi =
+    record { ends = omega arith; coded = λ e. omega arith; before = λ e. absurd (omega arith) }
+reads zero (suc (suc zero)) (suc (suc zero)) place frame c i hs hk hj at whole lt odd hc hi =
+    record { ends = omega arith; coded = λ e. omega arith; before = λ e. absurd (omega arith) }
+reads zero (suc (suc (suc zero))) zero place frame c i hs hk hj at whole lt odd hc hi =
+    record { ends = omega arith; coded = λ e. omega arith; before = λ e. absurd (omega arith) }
+reads zero (suc (suc (suc zero))) (suc zero) place frame c i hs hk hj at whole lt odd hc hi =
+    record { ends = omega arith; coded = λ e. omega arith; before = λ e. absurd (omega arith) }
+reads zero (suc (suc (suc zero))) (suc (suc zero)) place frame c i hs hk hj at whole lt odd hc hi =
+    record { ends = omega arith; coded = λ e. omega arith; before = λ e. absurd (omega arith) }
+reads zero (suc (suc (suc zero))) (suc (suc (suc zero))) place frame c i hs hk hj at whole lt odd hc hi =
+    record { ends = omega arith; coded = λ e. omega arith; before = λ e. absurd (omega arith) }
+reads (suc zero) zero zero place frame c i hs hk hj at whole lt odd hc hi = let o : place / 4 % 2 ≡ 1 = odd refl refl
+    in record { ends = omega arith; coded = λ e. omega arith; before = λ e. refl }
+reads (suc zero) (suc zero) zero place frame c i hs hk hj at whole lt odd hc hi =
+    record { ends = omega arith; coded = λ e. omega arith; before = λ e. absurd (omega arith) }
+reads (suc zero) (suc zero) (suc zero) place frame c i hs hk hj at whole lt odd hc hi =
+    record { ends = omega arith; coded = λ e. omega arith; before = λ e. absurd (omega arith) }
+reads (suc zero) (suc (suc zero)) zero place frame c i hs hk hj at whole lt odd hc hi =
+    record { ends = omega arith; coded = λ e. omega arith; before = λ e. absurd (omega arith) }
+reads (suc zero) (suc (suc zero)) (suc zero) place frame c i hs hk hj at whole lt odd hc hi =
+    record { ends = omega arith; coded = λ e. omega arith; before = λ e. absurd (omega arith) }
+reads (suc zero) (suc (suc zero)) (suc (suc zero)) place frame c i hs hk hj at whole lt odd hc hi =
+    record { ends = omega arith; coded = λ e. omega arith; before = λ e. absurd (omega arith) }
+reads (suc zero) (suc (suc (suc zero))) zero place frame c i hs hk hj at whole lt odd hc hi =
+    record { ends = omega arith; coded = λ e. omega arith; before = λ e. absurd (omega arith) }
+reads (suc zero) (suc (suc (suc zero))) (suc zero) place frame c i hs hk hj at whole lt odd hc hi =
+    record { ends = omega arith; coded = λ e. omega arith; before = λ e. absurd (omega arith) }
+reads (suc zero) (suc (suc (suc zero))) (suc (suc zero)) place frame c i hs hk hj at whole lt odd hc hi =
+    record { ends = omega arith; coded = λ e. omega arith; before = λ e. absurd (omega arith) }
+reads (suc zero) (suc (suc (suc zero))) (suc (suc (suc zero))) place frame c i hs hk hj at whole lt odd hc hi =
+    record { ends = omega arith; coded = λ e. omega arith; before = λ e. absurd (omega arith) }
 reads zero zero (suc j) place frame c i hs hk hj at whole lt odd hc hi = absurd (omega arith)
 reads zero (suc zero) (suc (suc j)) place frame c i hs hk hj at whole lt odd hc hi = absurd (omega arith)
 reads zero (suc (suc zero)) (suc (suc (suc j))) place frame c i hs hk hj at whole lt odd hc hi = absurd (omega arith)
@@ -77,7 +98,8 @@ reads (suc zero) (suc (suc (suc zero))) (suc (suc (suc (suc j)))) place frame c 
 reads (suc zero) (suc (suc (suc (suc k)))) j place frame c i hs hk hj at whole lt odd hc hi = absurd (omega arith)
 reads (suc (suc s)) k j place frame c i hs hk hj at whole lt odd hc hi = absurd (omega arith)
 
-sides_power : (size : BlockSize) → (block_width size ≡ 4 * 2 ^ (side_log2 (block_width size) - 2)) × (block_height size ≡ 4 * 2 ^ (side_log2 (block_height size) - 2))
+sides_power : (size : BlockSize) → (block_width size ≡ 4 * 2 ^ (side_log2 (block_width size) - 2)) ×
+    (block_height size ≡ 4 * 2 ^ (side_log2 (block_height size) - 2))
 sides_power BLOCK_4X4 = (refl, refl)
 sides_power _ = (refl, refl)
 
@@ -106,7 +128,8 @@ log_below m n j k em en le =
       | inr less ↦ less
     ]
 
-reads_at : (s side tx k j place frame c i : ℕ) → side ≡ 4 * 2 ^ k → tx ≡ 4 * 2 ^ j → s ≤ 1 → side ≤ 32 → tx ≤ side → place % side ≡ 0 → frame % 8 ≡ 0 → place < frame
+reads_at : (s side tx k j place frame c i : ℕ) → side ≡ 4 * 2 ^ k → tx ≡ 4 * 2 ^ j → s ≤ 1 → side ≤ 32 → tx ≤ side → place % side ≡ 0 → frame % 8 ≡ 0 →
+    place < frame
     → (s ≡ 1 → side ≡ 4 → place / 4 % 2 ≡ 1) → c < 4 * (max (side / 4) (2 ^ s) / 2 ^ s) → i < 2 ^ s → Reads s side place frame tx c i
 reads_at s side tx k j place frame c i es et hs small fits at whole lt odd hc hi =
     let P : ℕ → Type 0 = λ n. (place % n ≡ 0) → (s ≡ 1 → n ≡ 4 → place / 4 % 2 ≡ 1) → c < 4 * (max (n / 4) (2 ^ s) / 2 ^ s) → Reads s n place frame tx c i in
@@ -132,7 +155,8 @@ long_side : (w t : ℕ) → (not (eqb w 4) || nat_le t 8 || eqb t (4 * w)) ≡ t
 long_side w t e four long = grind (arith, nat_tests)
 
 -- the side beside one of 4 ends in the frame
-beside_four : (w t k place frame : ℕ) → (not (eqb w 4) || nat_le t 8 || eqb t (4 * w)) ≡ true → w ≡ 4 → t ≡ 4 * 2 ^ k → place % t ≡ 0 → frame % 8 ≡ 0 → place < frame
+beside_four : (w t k place frame : ℕ) → (not (eqb w 4) || nat_le t 8 || eqb t (4 * w)) ≡ true → w ≡ 4 → t ≡ 4 * 2 ^ k → place % t ≡ 0 → frame % 8 ≡ 0 →
+    place < frame
     → (t ≡ 4 * w → place + t ≤ frame) → place + t ≤ frame
 beside_four w t k place frame e four power at whole lt quarter =
     elim (cases_lt 8 t) [
@@ -166,10 +190,12 @@ block_there h p a c r hc hr in_x in_y =
     let spot : TransformBlock = record { x = a.x + c * tx_width a.tx_size; y = a.y + r * tx_height a.tx_size } in
     let made : ℕ → ℕ → TransformBlock = λ m k. record { x = a.x + m * tx_width a.tx_size; y = a.y + k * tx_height a.tx_size } in
     let found : ℕ → ℕ → Option TransformBlock = λ m k.
-    if nat_lt n (across * (block_height a.size / tx_height a.tx_size)) && nat_lt (made m k).x (plane_width h p) && nat_lt (made m k).y (plane_height h p) then Some (made m k) else None in
+    if nat_lt n (across * (block_height a.size / tx_height a.tx_size)) && nat_lt (made m k).x (plane_width h p)
+    && nat_lt (made m k).y (plane_height h p) then Some (made m k) else None in
     ap (λ m. found m (n / across)) column ∙ ap (λ k. found c k) row
     ∙ passes (nat_lt n (across * (block_height a.size / tx_height a.tx_size))) (nat_lt spot.x (plane_width h p)) (nat_lt spot.y (plane_height h p)) spot
-    (lt-ltb n _ (in_count r across c (block_height a.size / tx_height a.tx_size) hc hr)) (lt-ltb spot.x (plane_width h p) in_x) (lt-ltb spot.y (plane_height h p) in_y)
+    (lt-ltb n _ (in_count r across c (block_height a.size / tx_height a.tx_size) hc hr)) (lt-ltb spot.x (plane_width h p) in_x)
+    (lt-ltb spot.y (plane_height h p) in_y)
 
 pub luma_width : (h : Header) → plane_width h 0 ≡ h.width
 unfolding plane_width xdec
@@ -242,7 +268,8 @@ in_cells_below x at side e f lt = omega arith
 in_cells_before : (x at : ℕ) → at % 4 ≡ 0 → x < at → x / 4 < at / 4
 in_cells_before x at e lt = omega arith
 
-module _ (h : Header) (earlier : List LeafValue) (l : LeafValue) (later : List LeafValue) (is : IsCodedPlan h 0 (earlier ++ l ∷ later)) (quarter : IsQuarterInside h l) where
+module _ (h : Header) (earlier : List LeafValue) (l : LeafValue) (later : List LeafValue) (is : IsCodedPlan h 0 (earlier ++ l ∷ later))
+    (quarter : IsQuarterInside h l) where
   grid : IsOnGrid h l
   grid = cut_grid h 0 earlier l later is
 
@@ -265,7 +292,8 @@ module _ (h : Header) (earlier : List LeafValue) (l : LeafValue) (later : List L
       let column = in_cells_below x l.x (block_width l.size) grid.cell_x cells.0 x1 in
       let row = in_cells_below y l.y (block_height l.size) grid.cell_y cells.1 y1 in
       written_at_turn h 0 earlier l later is x y (visible_in h 0 is.frame x y (omega (arith, luma_width h, in_x)) (omega (arith, luma_height h, in_y)))
-      ∙ near_starts (cells_of l) (cut_on_grid h 0 earlier l later is) (last (xdec h 0) (x / 4)) (last (ydec h 0) (y / 4)) (omega (arith, ex, column)) (omega (arith, ey, row))
+      ∙ near_starts (cells_of l) (cut_on_grid h 0 earlier l later is) (last (xdec h 0) (x / 4)) (last (ydec h 0) (y / 4)) (omega (arith, ex, column))
+      (omega (arith, ey, row))
       (elim near [
         | inl o ↦ inl (let p = in_cells_before x l.x grid.cell_x o in omega (arith, ex, p))
         | inr o ↦ inr (let p = in_cells_before y l.y grid.cell_y o in omega (arith, ey, p))
@@ -273,17 +301,20 @@ module _ (h : Header) (earlier : List LeafValue) (l : LeafValue) (later : List L
 
   ends_down : block_width l.size ≡ 4 → l.y + block_height l.size ≤ h.height
   ends_down four =
-      beside_four (block_width l.size) (block_height l.size) (side_log2 (block_height l.size) - 2) l.y h.height (narrow_sizes l.size).0 four (sides_power l.size).1 grid.side_y is.frame.height
+      beside_four (block_width l.size) (block_height l.size)
+      (side_log2 (block_height l.size) - 2) l.y h.height (narrow_sizes l.size).0 four (sides_power l.size).1 grid.side_y is.frame.height
       inside.1 quarter.high
 
   ends_across : block_height l.size ≡ 4 → l.x + block_width l.size ≤ h.width
   ends_across four =
-      beside_four (block_height l.size) (block_width l.size) (side_log2 (block_width l.size) - 2) l.x h.width (narrow_sizes l.size).1 four (sides_power l.size).0 grid.side_x is.frame.width
+      beside_four (block_height l.size) (block_width l.size)
+      (side_log2 (block_width l.size) - 2) l.x h.width (narrow_sizes l.size).1 four (sides_power l.size).0 grid.side_x is.frame.width
       inside.0 quarter.wide
 
   -- what is read in each direction
   luma_written : (x y : ℕ) → x < l.x + block_width l.size → y < l.y + block_height l.size
-      → (l.x ≤ x → l.x + (x - l.x) / tx_width l.tx_size * tx_width l.tx_size < h.width) → (l.y ≤ y → l.y + (y - l.y) / tx_height l.tx_size * tx_height l.tx_size < h.height)
+      → (l.x ≤ x → l.x + (x - l.x) / tx_width l.tx_size * tx_width l.tx_size < h.width) →
+      (l.y ≤ y → l.y + (y - l.y) / tx_height l.tx_size * tx_height l.tx_size < h.height)
       → (x < l.x → block_width l.size ≡ 4) → (y < l.y → block_height l.size ≡ 4) → is_written h 0 (leaves_steps h 0 (earlier ++ l ∷ [])) x y ≡ true
   luma_written x y x1 y1 coded_x coded_y before_x before_y =
       ap (λ ss. is_written h 0 ss x y) (steps_with h 0 earlier l later is)
@@ -308,7 +339,8 @@ module _ (h : Header) (earlier : List LeafValue) (l : LeafValue) (later : List L
       → (xdec h 1 ≡ 1 → block_width l.size ≡ 4 → l.x / 4 % 2 ≡ 1) × (ydec h 1 ≡ 1 → block_height l.size ≡ 4 → l.y / 4 % 2 ≡ 1)
   unfolding carries_chroma
   odd_cells carried =
-      let p = and_parts (not (xdec h 1 == 1 && block_width l.size == 4 && l.x / 4 % 2 == 0)) (not (ydec h 1 == 1 && block_height l.size == 4 && l.y / 4 % 2 == 0)) carried in
+      let p = and_parts (not (xdec h 1 == 1 && block_width l.size == 4 && l.x / 4 % 2 == 0))
+      (not (ydec h 1 == 1 && block_height l.size == 4 && l.y / 4 % 2 == 0)) carried in
       (odd_axis (xdec h 1) (block_width l.size) (l.x / 4) p.0, odd_axis (ydec h 1) (block_height l.size) (l.y / 4) p.1)
 
   reads_written : carries_chroma h l.x l.y l.size ≡ true → block_width l.size ≤ 32 → block_height l.size ≤ 32
@@ -319,9 +351,12 @@ module _ (h : Header) (earlier : List LeafValue) (l : LeafValue) (later : List L
       let fits = fitting_transforms h l valid in
       let odd = odd_cells carried in
       let sides = in_plane_block h l.size 1 valid.size in
-      let x = reads_at (xdec h 1) (block_width l.size) (tx_width l.tx_size) (side_log2 (block_width l.size) - 2) (side_log2 (tx_width l.tx_size) - 2) l.x h.width c i
-      (sides_power l.size).0 (tx_power l.tx_size).0 (halved_x h 1) narrow fits.width grid.side_x is.frame.width inside.0 odd.0 (subst (λ n. c < n) sides.width hc) hi in
-      let y = reads_at (ydec h 1) (block_height l.size) (tx_height l.tx_size) (side_log2 (block_height l.size) - 2) (side_log2 (tx_height l.tx_size) - 2) l.y h.height r j
+      let x = reads_at (xdec h 1) (block_width l.size) (tx_width l.tx_size) (side_log2 (block_width l.size) - 2)
+      (side_log2 (tx_width l.tx_size) - 2) l.x h.width c i
+      (sides_power l.size).0 (tx_power l.tx_size).0 (halved_x h 1) narrow fits.width grid.side_x is.frame.width inside.0 odd.0
+      (subst (λ n. c < n) sides.width hc) hi in
+      let y = reads_at (ydec h 1) (block_height l.size) (tx_height l.tx_size) (side_log2 (block_height l.size) - 2)
+      (side_log2 (tx_height l.tx_size) - 2) l.y h.height r j
       (sides_power l.size).1 (tx_power l.tx_size).1 low short fits.height grid.side_y is.frame.height inside.1 odd.1 (subst (λ n. r < n) sides.height hr) hj in
       luma_written _ _ x.ends y.ends x.coded y.coded x.before y.before
 

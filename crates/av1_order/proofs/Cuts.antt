@@ -88,12 +88,14 @@ module _ (h : Header) (p : ℕ) (earlier : List LeafValue) (l : LeafValue) (late
       let row = here.row in
       let tiled : All (λ l. carries sx sy l.block ≡ true → IsTiled sx sy l) (map code earlier) =
       All-map (λ l. carries sx sy l.block ≡ true → IsTiled sx sy l) code earlier
-      (λ k d within carried. leaf_tiled h p (get_or earlier k d) (valid_leaf h (get_or earlier k d) (all_front (λ l. fault_of h l ≡ None) earlier (l ∷ later) is.valid k d within))) in
+      (λ k d within carried. leaf_tiled h p (get_or earlier k d)
+      (valid_leaf h (get_or earlier k d) (all_front (λ l. fault_of h l ≡ None) earlier (l ∷ later) is.valid k d within))) in
       let steps : Written sx sy w t (λ x y. false) (plane_steps sx sy w t (map code earlier)) (λ x y. starts (cells_of l) (last sx x) (last sy y)) =
       plane_written sx sy w t (halved_x h p) (halved_y h p) (omega arith) (omega arith) (map code earlier) (λ x y. false) (starts (cells_of l)) cut_before
       (recursion_from_All (λ l. carries sx sy l.block ≡ true → IsTiled sx sy l) (map code earlier) tiled) in
       covered_unit sx sy (plane_steps sx sy w t (map code earlier)) x y
-      ∙ covered_after sx sy w t (λ x y. false) (λ x y. starts (cells_of l) (last sx x) (last sy y)) (plane_steps sx sy w t (map code earlier)) steps (x / 4) (y / 4)
+      ∙ covered_after sx sy w t (λ x y. false) (λ x y. starts (cells_of l) (last sx x) (last sy y)) (plane_steps sx sy w t (map code earlier)) steps (x / 4)
+      (y / 4)
       (record { column = omega arith; row = omega arith })
 
   -- the steps of the leaves up to and with this one

@@ -1,5 +1,6 @@
 -- Each step of a plane lies on the grids of its block and node.
-use Rattle.std.proofs.Common.{◌≡◌, ℕ, zero, suc, zero-add, ◌+◌, ◌-◌, ◌*◌, ◌/◌, ◌%◌, ◌^◌, ◌<◌, ◌≤◌, ◌⊎◌, Bool, true, false, ◌&&◌, ◌||◌, List, [], ◌∷◌, ◌++◌, length, get_or, inl, inr, refl, sym, ap, ◌∙◌, arith}
+use Rattle.std.proofs.Common.{◌≡◌, ℕ, zero, suc, zero-add, ◌+◌, ◌-◌, ◌*◌, ◌/◌, ◌%◌, ◌^◌, ◌<◌, ◌≤◌, ◌⊎◌, Bool, true, false, ◌&&◌, ◌||◌, List, [], ◌∷◌, ◌++◌}
+use Rattle.std.proofs.Common.{length, get_or, inl, inr, refl, sym, ap, ◌∙◌, arith}
 use Rattle.std.proofs.Math.Nat.{add-mod_right, zero-mod}
 use Rattle.std.specs.List.{AllByRecursion}
 use Rattle.std.proofs.lemmas.List.Elements.{All-from_recursion}
@@ -77,7 +78,8 @@ module _ (sx sy : ℕ) where
     pub each_at : (ss : List Step) (k : ℕ) (s : Step) → Each ss → k < length ss → IsPlaced width height (get_or ss k s)
     each_at ss k s a h = All-from_recursion (IsPlaced width height) ss a k s h
 
-    row_each : (b : Block) (c : Coding) (down right n : ℕ) → IsUnitBlock sx sy b → IsTiledBy b c → (down + c.rows ≡ (area sx sy b).rows) ⊎ (down + 2 * c.rows ≤ (area sx sy b).rows)
+    row_each : (b : Block) (c : Coding) (down right n : ℕ) → IsUnitBlock sx sy b → IsTiledBy b c →
+        (down + c.rows ≡ (area sx sy b).rows) ⊎ (down + 2 * c.rows ≤ (area sx sy b).rows)
         → down % c.rows ≡ 0 → right % c.columns ≡ 0 → right + n * c.columns ≡ (area sx sy b).columns → Each (row_steps sx sy width height b c down right n)
     row_each b c down right zero g t next_y dm rm e = tt
     row_each b c down right (suc n) g t next_y dm rm e =
@@ -98,10 +100,14 @@ module _ (sx sy : ℕ) where
         } in
         each-append (if inside then s ∷ [] else []) (row_steps sx sy width height b c down (right + c.columns) n)
         (each-kept s ((area sx sy b).x + right) ((area sx sy b).y + down)
-        (λ begins. record { step = record { block = g; tile = tile; next_x = room right c.columns n (area sx sy b).columns e; next_y = next_y }; begins = begins }))
+        (λ begins. record {
+          step = record { block = g; tile = tile; next_x = room right c.columns n (area sx sy b).columns e; next_y = next_y };
+          begins = begins;
+        }))
         (row_each b c down (right + c.columns) n g t next_y dm (next_at right c.columns rm) next)
 
-    block_each : (b : Block) (c : Coding) (down n : ℕ) → IsUnitBlock sx sy b → IsTiledBy b c → ((area sx sy b).columns / c.columns) * c.columns ≡ (area sx sy b).columns
+    block_each : (b : Block) (c : Coding) (down n : ℕ) → IsUnitBlock sx sy b → IsTiledBy b c →
+        ((area sx sy b).columns / c.columns) * c.columns ≡ (area sx sy b).columns
         → down % c.rows ≡ 0 → down + n * c.rows ≡ (area sx sy b).rows → Each (block_steps sx sy width height b c down n)
     block_each b c down zero g t across dm e = tt
     block_each b c down (suc n) g t across dm e =

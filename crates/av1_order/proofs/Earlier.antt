@@ -56,12 +56,14 @@ below_4 z z' h h' m n e a b f lt = omega arith
 pub same_earlier_16 : (x y x' y' nx ny : ℕ) → x / 16 ≡ x' / 16 → y / 16 ≡ y' / 16 → nx % 16 ≡ 0 → ny % 16 ≡ 0 → is_earlier x y nx ny ≡ is_earlier x' y' nx ny
 unfolding is_earlier interleaved
 same_earlier_16 x y x' y' nx ny ex ey hx hy =
-    same (x / 16) (y / 16) (x' / 16) (y' / 16) (nx / 16) (ny / 16) (interleaved x y) (interleaved x' y') (interleaved nx ny) ex ey (λ h. omega arith) (λ h. omega arith)
+    same (x / 16) (y / 16) (x' / 16) (y' / 16) (nx / 16) (ny / 16) (interleaved x y) (interleaved x' y') (interleaved nx ny) ex ey (λ h. omega arith)
+    (λ h. omega arith)
 
 pub same_earlier_8 : (x y x' y' nx ny : ℕ) → x / 8 ≡ x' / 8 → y / 8 ≡ y' / 8 → nx % 8 ≡ 0 → ny % 8 ≡ 0 → is_earlier x y nx ny ≡ is_earlier x' y' nx ny
 unfolding is_earlier interleaved
 same_earlier_8 x y x' y' nx ny ex ey hx hy =
-    same (x / 16) (y / 16) (x' / 16) (y' / 16) (nx / 16) (ny / 16) (interleaved x y) (interleaved x' y') (interleaved nx ny) (omega arith) (omega arith) (λ h. omega arith) (λ h. omega arith)
+    same (x / 16) (y / 16) (x' / 16) (y' / 16) (nx / 16) (ny / 16) (interleaved x y) (interleaved x' y') (interleaved nx ny) (omega arith) (omega arith)
+    (λ h. omega arith) (λ h. omega arith)
 
 -- the high digits of a cell's number, of squares of 4 and of 2 cells
 abbrev high_4 : (x y : ℕ) → ℕ
@@ -80,7 +82,8 @@ split_2 x y = omega arith
 
 corner_4 : (x y : ℕ) → x % 4 ≡ 0 → y % 4 ≡ 0 → interleaved x y ≡ 16 * high_4 x y
 unfolding interleaved
-corner_4 x y hx hy = let a : x % 2 ≡ 0 = omega arith in let b : x / 2 % 2 ≡ 0 = omega arith in let c : y % 2 ≡ 0 = omega arith in let d : y / 2 % 2 ≡ 0 = omega arith in omega arith
+corner_4 x y hx hy = let a : x % 2 ≡ 0 = omega arith in let b : x / 2 % 2 ≡ 0 = omega arith in let c : y % 2 ≡ 0 = omega arith in let d : y / 2 % 2 ≡ 0 =
+    omega arith in omega arith
 
 corner_2 : (x y : ℕ) → x % 2 ≡ 0 → y % 2 ≡ 0 → interleaved x y ≡ 4 * high_2 x y
 unfolding interleaved
@@ -138,7 +141,8 @@ high_2-apart : (x y a b : ℕ) → x / 16 ≡ a / 16 → y / 16 ≡ b / 16 → h
 high_2-apart x y a b ex ey e =
     let p0 = two (x / 2 % 2) (a / 2 % 2) (y / 2 % 2 + 2 * high_4 x y) (b / 2 % 2 + 2 * high_4 a b) (omega arith) (omega arith) (omega (arith, e)) in
     let p1 = two (y / 2 % 2) (b / 2 % 2) (high_4 x y) (high_4 a b) (omega arith) (omega arith) p0.1 in
-    let p2 = two (x / 4 % 2) (a / 4 % 2) (y / 4 % 2 + 2 * (x / 8 % 2) + 4 * (y / 8 % 2)) (b / 4 % 2 + 2 * (a / 8 % 2) + 4 * (b / 8 % 2)) (omega arith) (omega arith) (omega (arith, p1.1)) in
+    let p2 = two (x / 4 % 2) (a / 4 % 2) (y / 4 % 2 + 2 * (x / 8 % 2) + 4 * (y / 8 % 2)) (b / 4 % 2 + 2 * (a / 8 % 2) + 4 * (b / 8 % 2)) (omega arith)
+    (omega arith) (omega (arith, p1.1)) in
     let p3 = two (y / 4 % 2) (b / 4 % 2) (x / 8 % 2 + 2 * (y / 8 % 2)) (a / 8 % 2 + 2 * (b / 8 % 2)) (omega arith) (omega arith) (omega (arith, p2.1)) in
     let p4 = two (x / 8 % 2) (a / 8 % 2) (y / 8 % 2) (b / 8 % 2) (omega arith) (omega arith) p3.1 in
     (from_digits x a ex p4.0 p2.0 p0.0, from_digits y b ey p4.1 p3.0 p1.0)
@@ -155,7 +159,8 @@ pub earlier_apart : (x y x' y' a b a' b' : ℕ) → x / 2 ≡ x' / 2 → y / 2 �
     → is_earlier x y a b ≡ is_earlier x' y' a' b'
 unfolding is_earlier
 earlier_apart x y x' y' a b a' b' ex ey ea eb ne =
-    apart (x / 16) (y / 16) (x' / 16) (y' / 16) (a / 16) (b / 16) (a' / 16) (b' / 16) (interleaved x y) (interleaved x' y') (interleaved a b) (interleaved a' b')
+    apart (x / 16) (y / 16) (x' / 16) (y' / 16) (a / 16) (b / 16) (a' / 16) (b' / 16) (interleaved x y) (interleaved x' y') (interleaved a b)
+    (interleaved a' b')
     (omega arith) (omega arith) (omega arith) (omega arith)
     (λ sx sy.
     let n : high_2 x y ≡ high_2 a b → ⊥ = λ e. let p = high_2-apart x y a b sx sy e in ne p.0 p.1 in

@@ -1,5 +1,6 @@
 -- The edges of a step, in samples.
-use Rattle.std.proofs.Common.{◌≡◌, ℕ, ◌+◌, ◌-◌, ◌*◌, ◌/◌, ◌<◌, ◌≤◌, min, Bool, false, ◌||◌, leb, ltb, List, [], ◌∷◌, ◌++◌, true, take, length, get_or, inl, inr, refl, sym, ◌∙◌, ap, arith}
+use Rattle.std.proofs.Common.{◌≡◌, ℕ, ◌+◌, ◌-◌, ◌*◌, ◌/◌, ◌<◌, ◌≤◌, min, Bool, false, ◌||◌, leb, ltb, List, [], ◌∷◌, ◌++◌, true, take, length, get_or, inl, inr}
+use Rattle.std.proofs.Common.{refl, sym, ◌∙◌, ap, arith}
 use Rattle.av1_avail.specs.Order.{is_in}
 use Rattle.av1_plan.specs.CodingOrder.{superblock_count}
 use Rattle.av1_plan.specs.Tree.{Placed, frame_leaves}
@@ -29,17 +30,20 @@ both : (a b c d : Bool) → a ≡ c → b ≡ d → (a || b) ≡ (c || d)
 both a b c d e f = rw (e, f) refl
 
 -- what one list of steps covers, and another after it
-pub covered-append : (sx sy : ℕ) (ss ts : List Step) (x y : ℕ) → is_covered_sample sx sy (ss ++ ts) x y ≡ (is_covered_sample sx sy ss x y || is_covered_sample sx sy ts x y)
+pub covered-append : (sx sy : ℕ) (ss ts : List Step) (x y : ℕ) →
+    is_covered_sample sx sy (ss ++ ts) x y ≡ (is_covered_sample sx sy ss x y || is_covered_sample sx sy ts x y)
 covered-append sx sy [] ts x y = refl
 covered-append sx sy (s ∷ ss) ts x y =
     ap (λ b. is_in x y (left sx sy s) (top sx sy s) (width_of sx sy s) (height_of sx sy s) || b) (covered-append sx sy ss ts x y)
-    ∙ sym (or_assoc (is_in x y (left sx sy s) (top sx sy s) (width_of sx sy s) (height_of sx sy s)) (is_covered_sample sx sy ss x y) (is_covered_sample sx sy ts x y))
+    ∙ sym (or_assoc (is_in x y (left sx sy s) (top sx sy s) (width_of sx sy s) (height_of sx sy s)) (is_covered_sample sx sy ss x y)
+    (is_covered_sample sx sy ts x y))
 
 pub covered_unit : (sx sy : ℕ) (ss : List Step) (x y : ℕ) → is_covered_sample sx sy ss x y ≡ is_covered sx sy ss (x / 4) (y / 4)
 covered_unit sx sy [] x y = refl
 covered_unit sx sy (s ∷ ss) x y =
     both (is_in x y (left sx sy s) (top sx sy s) (width_of sx sy s) (height_of sx sy s)) (is_covered_sample sx sy ss x y) (holds sx sy s (x / 4) (y / 4))
-    (is_covered sx sy ss (x / 4) (y / 4)) (in_unit x y ((area sx sy s.block).x + s.right) ((area sx sy s.block).y + s.down) s.columns s.rows) (covered_unit sx sy ss x y)
+    (is_covered sx sy ss (x / 4) (y / 4)) (in_unit x y ((area sx sy s.block).x + s.right) ((area sx sy s.block).y + s.down) s.columns s.rows)
+    (covered_unit sx sy ss x y)
 
 right_place : (n w h i x : ℕ) → i < min (4 * w) (4 * h) → x ≡ 4 * n + 4 * w + i → x / 4 ≡ n + w + i / 4
 right_place n w h i x hi e = omega arith
@@ -72,7 +76,8 @@ module _ (sx sy width height superblocks : ℕ) (leaves : List (Placed Coding)) 
 
   module _ (k : ℕ) (none : Step) (lt : k < length (plane_steps sx sy width height leaves)) where
     pub told : (x y : ℕ) → IsVisible sx sy width height x y
-        → is_covered_sample sx sy (take k (plane_steps sx sy width height leaves)) x y ≡ told_before sx sy (get_or (plane_steps sx sy width height leaves) k none) (x / 4) (y / 4)
+        → is_covered_sample sx sy (take k (plane_steps sx sy width height leaves)) x y ≡
+        told_before sx sy (get_or (plane_steps sx sy width height leaves) k none) (x / 4) (y / 4)
     told x y here =
         covered_unit sx sy (take k (plane_steps sx sy width height leaves)) x y
         ∙ told_by_places sx sy width height superblocks leaves o k none lt (x / 4) (y / 4) (in_units x y here)
@@ -83,7 +88,8 @@ module _ (sx sy width height superblocks : ℕ) (leaves : List (Placed Coding)) 
         (plane_each sx sy width height o.halved_x o.halved_y o.even_width o.even_height leaves (λ x y. false) o.end o.follows
         (recursion_from_All (λ l. carries sx sy l.block ≡ true → IsTiled sx sy l) leaves o.tiled)) lt
 
-    pub edges_are_told : EdgesAreTold sx sy width height (take k (plane_steps sx sy width height leaves)) (get_or (plane_steps sx sy width height leaves) k none)
+    pub edges_are_told : EdgesAreTold sx sy width height (take k (plane_steps sx sy width height leaves))
+        (get_or (plane_steps sx sy width height leaves) k none)
     edges_are_told =
         let s = get_or (plane_steps sx sy width height leaves) k none in
         let a = area sx sy s.block in

@@ -1,5 +1,6 @@
 -- The leaves of a frame follow one another.
-use Rattle.std.proofs.Common.{◌≡◌, ℕ, suc, ◌+◌, ◌*◌, ◌/◌, ◌%◌, ◌<◌, ◌≤◌, Bool, true, false, ◌&&◌, ◌||◌, ltb, eqb, List, [], ◌∷◌, ◌++◌, length, get_or, inl, inr, refl, sym, ◌∙◌, ap, arith}
+use Rattle.std.proofs.Common.{◌≡◌, ℕ, suc, ◌+◌, ◌*◌, ◌/◌, ◌%◌, ◌<◌, ◌≤◌, Bool, true, false, ◌&&◌, ◌||◌, ltb, eqb, List, [], ◌∷◌, ◌++◌, length, get_or, inl, inr}
+use Rattle.std.proofs.Common.{refl, sym, ◌∙◌, ap, arith}
 use Rattle.std.specs.List.{All}
 use Rattle.std.specs.Prelude.{nat_lt, if◌then◌else◌}
 use Rattle.std.proofs.Math.Nat.{mul-le-mul_right}
@@ -100,7 +101,8 @@ module _ {A : Type 0} (width height : ℕ) where
   superblocks_follow [] x y hx hy inside =
       record { column = x; row = y; column_at = hx; row_at = hy; in_row = inside; count = omega arith; follows = λ a b here. refl }
   superblocks_follow (t ∷ ts) x y hx hy inside =
-      go (node_follows width height t x y (omega arith) hx hy) (λ h. superblocks_follow ts (x + 16) y (omega arith) hy (omega (arith, ltb-true (x + 16) width h)))
+      go (node_follows width height t x y (omega arith) hx hy)
+      (λ h. superblocks_follow ts (x + 16) y (omega arith) hy (omega (arith, ltb-true (x + 16) width h)))
       (superblocks_follow ts 0 (y + 16) refl (omega arith) (omega arith)) (nat_lt (x + 16) width) refl
     where
       rest : Bool → List (Placed A)
@@ -121,9 +123,11 @@ module _ {A : Type 0} (width height : ℕ) where
             in_row = r.in_row;
             count = omega (arith, r.count, shift);
             follows =
-                follows-append width height (λ a b. is_earlier a b x y) (λ a b. is_earlier a b (x + 16) y) (λ a b. is_earlier a b r.column r.row) (node_leaves width height t x y)
+                follows-append width height (λ a b. is_earlier a b x y) (λ a b. is_earlier a b (x + 16) y) (λ a b. is_earlier a b r.column r.row)
+                (node_leaves width height t x y)
                 (superblock_leaves width height ts (x + 16) y)
-                (follows-to width height (λ a b. is_earlier a b x y) (λ a b. is_done a b x y 16) (λ a b. is_earlier a b (x + 16) y) (node_leaves width height t x y) node (to_right width height x y hx hy))
+                (follows-to width height (λ a b. is_earlier a b x y) (λ a b. is_done a b x y 16) (λ a b. is_earlier a b (x + 16) y)
+                (node_leaves width height t x y) node (to_right width height x y hx hy))
                 r.follows;
           }
       go node right down false h =
@@ -134,11 +138,14 @@ module _ {A : Type 0} (width height : ℕ) where
             column_at = down.column_at;
             row_at = down.row_at;
             in_row = down.in_row;
-            count = next_row (y / 16) ((y + 16) / 16) ((width + 15) / 16) (x / 16) (0 / 16) (length ts) (down.row / 16 * ((width + 15) / 16) + down.column / 16) (omega arith) refl (omega arith) down.count;
+            count = next_row (y / 16) ((y + 16) / 16) ((width + 15) / 16) (x / 16) (0 / 16) (length ts) (down.row / 16 * ((width + 15) / 16) + down.column / 16)
+                (omega arith) refl (omega arith) down.count;
             follows =
-                follows-append width height (λ a b. is_earlier a b x y) (λ a b. is_earlier a b 0 (y + 16)) (λ a b. is_earlier a b down.column down.row) (node_leaves width height t x y)
+                follows-append width height (λ a b. is_earlier a b x y) (λ a b. is_earlier a b 0 (y + 16)) (λ a b. is_earlier a b down.column down.row)
+                (node_leaves width height t x y)
                 (superblock_leaves width height ts 0 (y + 16))
-                (follows-to width height (λ a b. is_earlier a b x y) (λ a b. is_done a b x y 16) (λ a b. is_earlier a b 0 (y + 16)) (node_leaves width height t x y) node
+                (follows-to width height (λ a b. is_earlier a b x y) (λ a b. is_done a b x y 16) (λ a b. is_earlier a b 0 (y + 16))
+                (node_leaves width height t x y) node
                 (to_left width height x y hx hy last))
                 down.follows;
           }
@@ -164,15 +171,18 @@ module _ {A : Type 0} (width height : ℕ) where
       let last = all.column_at in
       let low = all.row_at in
       superblock_earlier x y all.column all.row last low
-      ∙ or_left (ltb (y / 16) (all.row / 16)) (eqb (y / 16) (all.row / 16) && ltb (x / 16) (all.column / 16)) (lt-ltb (y / 16) (all.row / 16) (omega (arith, place)))
+      ∙ or_left (ltb (y / 16) (all.row / 16)) (eqb (y / 16) (all.row / 16) && ltb (x / 16) (all.column / 16))
+      (lt-ltb (y / 16) (all.row / 16) (omega (arith, place)))
 
   all_coded : (trees : List (Tree A 4)) → 1 ≤ width → length trees ≡ superblock_count width height → (x y : ℕ) → x < width → y < height
       → is_coded (frame_leaves width height trees) x y ≡ true
   all_coded trees pos count x y hx hy =
       let all = frame_follows trees pos in
-      coded_after width height (λ a b. false) all.0 (frame_leaves width height trees) all.1 x y (record { column = hx; row = hy }) ∙ end_is_all trees pos count x y hx hy
+      coded_after width height (λ a b. false) all.0 (frame_leaves width height trees) all.1 x y (record { column = hx; row = hy })
+      ∙ end_is_all trees pos count x y hx hy
 
-pub leaves_lie_on_grid : {A : Type 0} (width height : ℕ) (trees : List (Tree A 4)) → 0 < width → All (λ l. IsLeafBlock width height l.block) (frame_leaves width height trees)
+pub leaves_lie_on_grid : {A : Type 0} (width height : ℕ) (trees : List (Tree A 4)) → 0 < width →
+    All (λ l. IsLeafBlock width height l.block) (frame_leaves width height trees)
 leaves_lie_on_grid width height trees pos =
     let all = frame_follows width height trees pos in leaves_lie width height (λ a b. false) all.0 (frame_leaves width height trees) all.1
 

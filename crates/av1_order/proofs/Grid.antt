@@ -50,7 +50,8 @@ at_widened (suc zero) at side h (odd, inr even) e =
     let m : max side 2 ≡ side = omega (arith, even.2) in let p : at - at % 2 ≡ at = omega (arith, even.1) in rw (m, p) e
 at_widened (suc (suc s)) at side h w e = absurd (omega arith)
 
-pub large_grid : (sx sy : ℕ) → sx ≤ 1 → sy ≤ 1 → (b : Block) (g : IsOnGrid b) → 1 ≤ g.log → IsWhole sx b.x b.columns → IsWhole sy b.y b.rows → IsOnGrid (widened sx sy b)
+pub large_grid : (sx sy : ℕ) → sx ≤ 1 → sy ≤ 1 → (b : Block) (g : IsOnGrid b) → 1 ≤ g.log → IsWhole sx b.x b.columns → IsWhole sy b.y b.rows →
+    IsOnGrid (widened sx sy b)
 unfolding Room
 large_grid sx sy hx hy b g large wx wy =
     let n = large_node sx sy hx hy b g large wx wy in
@@ -82,7 +83,8 @@ half_room y rows e = go (cases_eq (y % 2) 0)
     go (inl a) = inr (omega arith)
     go (inr a) = inl (omega arith)
 
-pub small_grid : (sx sy : ℕ) → sx ≤ 1 → sy ≤ sx → (b : Block) → b.columns ≡ 1 → b.rows ≡ 1 → IsWhole sx b.x b.columns → IsWhole sy b.y b.rows → IsOnGrid (widened sx sy b)
+pub small_grid : (sx sy : ℕ) → sx ≤ 1 → sy ≤ sx → (b : Block) → b.columns ≡ 1 → b.rows ≡ 1 → IsWhole sx b.x b.columns → IsWhole sy b.y b.rows →
+    IsOnGrid (widened sx sy b)
 small_grid zero zero hx hy b ec er wx wy =
     (on_grid 0 (widened 0 0 b) b.x b.y
     (omega arith) (omega arith) (omega arith) (omega arith) (omega arith) (omega arith) (omega arith) (omega arith)
@@ -166,7 +168,8 @@ module _ (sx sy : ℕ) (hx : sx ≤ 1) (hy : sy ≤ 1) (b : Block) (u : IsUnitBl
   in_units_plain : (x y n m s : ℕ) → n % 2 ^ sx ≡ 0 → s % 2 ^ sx ≡ 0 → m % 2 ^ sy ≡ 0 → s % 2 ^ sy ≡ 0
       → is_in (x * 2 ^ sx) (y * 2 ^ sy) n m s s ≡ is_in x y (n / 2 ^ sx) (m / 2 ^ sy) (s / 2 ^ sx) (s / 2 ^ sy)
   unfolding is_in
-  in_units_plain x y n m s a c d e = rw (span_from_units sx n x hx a, span_to_units sx n s x hx a c, span_from_units sy m y hy d, span_to_units sy m s y hy d e) refl
+  in_units_plain x y n m s a c d e =
+      rw (span_from_units sx n x hx a, span_to_units sx n s x hx a c, span_from_units sy m y hy d, span_to_units sy m s y hy d e) refl
 
   side_units : (x y n m s s' : ℕ) → s' ≡ s → is_in x y n m s s ≡ is_in x y n m s' s'
   side_units x y n m s s' e = rw e refl

@@ -1,5 +1,6 @@
 -- A leaf in a plane: a unit belongs to the leaf that holds the unit's last cell.
-use Rattle.std.proofs.Common.{◌≡◌, ℕ, zero, suc, ◌+◌, ◌-◌, ◌*◌, ◌/◌, ◌%◌, ◌^◌, ◌<◌, ◌≤◌, ◌⊎◌, max, Bool, true, false, not, ◌&&◌, ◌||◌, leb, ltb, inl, inr, refl, sym, ◌∙◌, ap, arith}
+use Rattle.std.proofs.Common.{◌≡◌, ℕ, zero, suc, ◌+◌, ◌-◌, ◌*◌, ◌/◌, ◌%◌, ◌^◌, ◌<◌, ◌≤◌, ◌⊎◌, max, Bool, true, false, not, ◌&&◌, ◌||◌, leb, ltb, inl, inr, refl}
+use Rattle.std.proofs.Common.{sym, ◌∙◌, ap, arith}
 use Rattle.std.specs.Prelude.{if◌then◌else◌, ◌==◌}
 use Rattle.std.proofs.lemmas.Bool.{false_from_ne_true, and_parts, and_cases, cases_lt, lt-ltb, le-ltb, true≢false}
 use Rattle.std.proofs.lemmas.Bool.Decides.{nat_tests}
@@ -31,14 +32,16 @@ IsWhole s at side = (s ≡ 1 → side ≡ 1 → at % 2 ≡ 1) × IsEven at side
 pub before_first : (s at side t : ℕ) → s ≤ 1 → IsWhole s at side → ltb (last s t) at ≡ ltb t ((at - at % 2 ^ s) / 2 ^ s)
 unfolding IsWhole
 before_first zero at side t h w = ltb_same (last 0 t) at t ((at - at % 1) / 1) (λ a. omega arith) (λ a. omega arith)
-before_first (suc zero) at side t h (odd, inl one) = let o : at % 2 ≡ 1 = odd refl one in ltb_same (last 1 t) at t ((at - at % 2) / 2) (λ a. omega arith) (λ a. omega arith)
+before_first (suc zero) at side t h (odd, inl one) = let o : at % 2 ≡ 1 = odd refl one
+    in ltb_same (last 1 t) at t ((at - at % 2) / 2) (λ a. omega arith) (λ a. omega arith)
 before_first (suc zero) at side t h (odd, inr even) = let e = even in ltb_same (last 1 t) at t ((at - at % 2) / 2) (λ a. omega arith) (λ a. omega arith)
 before_first (suc (suc s)) at side t h w = absurd (omega arith)
 
 from_first : (s at side t : ℕ) → s ≤ 1 → IsWhole s at side → leb at (last s t) ≡ leb ((at - at % 2 ^ s) / 2 ^ s) t
 unfolding IsWhole
 from_first zero at side t h w = leb_same at (last 0 t) ((at - at % 1) / 1) t (λ a. omega arith) (λ a. omega arith)
-from_first (suc zero) at side t h (odd, inl one) = let o : at % 2 ≡ 1 = odd refl one in leb_same at (last 1 t) ((at - at % 2) / 2) t (λ a. omega arith) (λ a. omega arith)
+from_first (suc zero) at side t h (odd, inl one) = let o : at % 2 ≡ 1 = odd refl one
+    in leb_same at (last 1 t) ((at - at % 2) / 2) t (λ a. omega arith) (λ a. omega arith)
 from_first (suc zero) at side t h (odd, inr even) = let e = even in leb_same at (last 1 t) ((at - at % 2) / 2) t (λ a. omega arith) (λ a. omega arith)
 from_first (suc (suc s)) at side t h w = absurd (omega arith)
 
@@ -115,7 +118,8 @@ opens-at : (sx sy : ℕ) (b : Block) (nx ny s x y : ℕ) → node_x b ≡ nx →
     ≡ (if is_in (x * 2 ^ sx) (y * 2 ^ sy) nx ny s s then (ltb y (area sx sy b).y || ltb x (area sx sy b).x) else is_earlier (x * 2 ^ sx) (y * 2 ^ sy) nx ny)
 opens-at sx sy b nx ny s x y ex ey es = rw (ex, ey, es) refl
 
-alike : (nx ny s lx ly cx cy : ℕ) (p q r t : Bool) → is_in lx ly nx ny s s ≡ is_in cx cy nx ny s s → p ≡ r → q ≡ t → is_earlier lx ly nx ny ≡ is_earlier cx cy nx ny
+alike : (nx ny s lx ly cx cy : ℕ) (p q r t : Bool) → is_in lx ly nx ny s s ≡ is_in cx cy nx ny s s → p ≡ r → q ≡ t →
+    is_earlier lx ly nx ny ≡ is_earlier cx cy nx ny
     → (if is_in lx ly nx ny s s then (p || q) else is_earlier lx ly nx ny) ≡ (if is_in cx cy nx ny s s then (r || t) else is_earlier cx cy nx ny)
 alike nx ny s lx ly cx cy p q r t a b c d = rw (a, b, c, d) refl
 
@@ -211,7 +215,8 @@ one_cell x y u v = go (is_in u v x y 1 1) refl
 
 small_plain : (x y lx ly cx cy nx ny ax ay tx ty : ℕ) → lx / 2 ≡ cx / 2 → ly / 2 ≡ cy / 2 → x / 2 ≡ nx / 2 → y / 2 ≡ ny / 2 → nx % 2 ≡ 0 → ny % 2 ≡ 0
     → (lx / 2 ≡ x / 2 → (lx ≡ x) × (ax ≤ tx)) → (ly / 2 ≡ y / 2 → (ly < y → ty < ay) × (ty < ay → ly < y))
-    → (if is_in lx ly x y 1 1 then (ltb ly y || ltb lx x) else is_earlier lx ly x y) ≡ (if is_in cx cy nx ny 2 2 then (ltb ty ay || ltb tx ax) else is_earlier cx cy nx ny)
+    → (if is_in lx ly x y 1 1 then (ltb ly y || ltb lx x) else is_earlier lx ly x y) ≡ (if is_in cx cy nx ny 2 2 then (ltb ty ay || ltb tx ax)
+    else is_earlier cx cy nx ny)
 small_plain x y lx ly cx cy nx ny ax ay tx ty elx ely ex ey hx hy fx fy = one_cell x y lx ly ∙ go (is_in cx cy nx ny 2 2) refl
   where
     go : (q : Bool) → is_in cx cy nx ny 2 2 ≡ q → is_earlier lx ly x y ≡ (if q then (ltb ty ay || ltb tx ax) else is_earlier cx cy nx ny)
@@ -226,10 +231,12 @@ small_plain x y lx ly cx cy nx ny ax ay tx ty elx ely ex ey hx hy fx fy = one_ce
         (λ a b. clash (placed cx cy nx ny 2 2 (record { left = omega arith; right = omega arith; top = omega arith; bottom = omega arith })) e)
 
 alike_at : (nx ny s lx ly cx cy bx by ax ay x y : ℕ) → lx ≡ cx → ly ≡ cy → lx ≡ x → ly ≡ y → ax ≡ bx → ay ≡ by
-    → (if is_in lx ly nx ny s s then (ltb ly by || ltb lx bx) else is_earlier lx ly nx ny) ≡ (if is_in cx cy nx ny s s then (ltb y ay || ltb x ax) else is_earlier cx cy nx ny)
+    → (if is_in lx ly nx ny s s then (ltb ly by || ltb lx bx) else is_earlier lx ly nx ny) ≡ (if is_in cx cy nx ny s s then (ltb y ay || ltb x ax)
+    else is_earlier cx cy nx ny)
 alike_at nx ny s lx ly cx cy bx by ax ay x y a b c d e f = rw (e, f, ← a, ← b, ← c, ← d) refl
 
-pub small_opens : (sx sy : ℕ) → sx ≤ 1 → sy ≤ sx → (b : Block) → node_side b ≡ 1 → b.columns ≡ 1 → b.rows ≡ 1 → IsWhole sx b.x b.columns → IsWhole sy b.y b.rows → (x y : ℕ)
+pub small_opens : (sx sy : ℕ) → sx ≤ 1 → sy ≤ sx → (b : Block) → node_side b ≡ 1 → b.columns ≡ 1 → b.rows ≡ 1 → IsWhole sx b.x b.columns →
+    IsWhole sy b.y b.rows → (x y : ℕ)
     → starts b (last sx x) (last sy y) ≡ opens sx sy (widened sx sy b) x y
 unfolding IsWhole
 small_opens zero zero hx hy b side ec er wx wy x y =
@@ -247,7 +254,8 @@ small_opens (suc zero) zero hx hy b side ec er (ox, ex) wy x y =
     let ny = b.y - b.y % 2 in
     starts-at b b.x b.y 1 (last 1 x) (last 0 y) (node_place b b.x 1 side (omega arith)) (node_row b b.y 1 side (omega arith)) side
     ∙ small_plain b.x b.y (last 1 x) (last 0 y) (x * 2) (y * 1) nx ny ((b.x - b.x % 2) / 2) ((b.y - b.y % 1) / 1) x y
-    (omega arith) (omega arith) (omega arith) (omega arith) (omega arith) (omega arith) (λ e. (omega arith, omega arith)) (λ e. ((λ a. omega arith), (λ a. omega arith)))
+    (omega arith) (omega arith) (omega arith) (omega arith) (omega arith) (omega arith) (λ e. (omega arith, omega arith))
+    (λ e. ((λ a. omega arith), (λ a. omega arith)))
     ∙ sym (opens-at 1 0 w nx ny 2 x y (node_place w nx 2 side' (omega arith)) (node_row w ny 2 side' (omega arith)) side')
 small_opens (suc zero) (suc zero) hx hy b side ec er (ox, ex) (oy, ey) x y =
     let odd : b.x % 2 ≡ 1 = ox refl ec in
@@ -258,7 +266,8 @@ small_opens (suc zero) (suc zero) hx hy b side ec er (ox, ex) (oy, ey) x y =
     let ny = b.y - b.y % 2 in
     starts-at b b.x b.y 1 (last 1 x) (last 1 y) (node_place b b.x 1 side (omega arith)) (node_row b b.y 1 side (omega arith)) side
     ∙ small_plain b.x b.y (last 1 x) (last 1 y) (x * 2) (y * 2) nx ny ((b.x - b.x % 2) / 2) ((b.y - b.y % 2) / 2) x y
-    (omega arith) (omega arith) (omega arith) (omega arith) (omega arith) (omega arith) (λ e. (omega arith, omega arith)) (λ e. ((λ a. omega arith), (λ a. omega arith)))
+    (omega arith) (omega arith) (omega arith) (omega arith) (omega arith) (omega arith) (λ e. (omega arith, omega arith))
+    (λ e. ((λ a. omega arith), (λ a. omega arith)))
     ∙ sym (opens-at 1 1 w nx ny 2 x y (node_place w nx 2 side' (omega arith)) (node_row w ny 2 side' (omega arith)) side')
 small_opens zero (suc sy) hx hy b side ec er wx wy x y = absurd (omega arith)
 small_opens (suc zero) (suc (suc sy)) hx hy b side ec er wx wy x y = absurd (omega arith)

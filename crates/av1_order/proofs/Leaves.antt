@@ -1,5 +1,6 @@
 -- Leaves one after the other, each of which finds coded just what places tell.
-use Rattle.std.proofs.Common.{◌≡◌, ℕ, zero, suc, ◌+◌, ◌*◌, ◌/◌, ◌%◌, ◌^◌, ◌<◌, ◌≤◌, ◌⊎◌, Bool, true, false, ◌&&◌, ◌||◌, ltb, List, [], ◌∷◌, ◌++◌, take, length, get_or, inl, inr, refl, sym, ◌∙◌, ap, arith}
+use Rattle.std.proofs.Common.{◌≡◌, ℕ, zero, suc, ◌+◌, ◌*◌, ◌/◌, ◌%◌, ◌^◌, ◌<◌, ◌≤◌, ◌⊎◌, Bool, true, false, ◌&&◌, ◌||◌, ltb, List, [], ◌∷◌, ◌++◌, take, length}
+use Rattle.std.proofs.Common.{get_or, inl, inr, refl, sym, ◌∙◌, ap, arith}
 use Rattle.std.specs.Prelude.{nat_lt, if◌then◌else◌}
 use Rattle.std.specs.List.{All}
 use Rattle.std.proofs.Math.Bool.{or-false, or_assoc}
@@ -58,7 +59,8 @@ module _ (width height : ℕ) where
     pub row : y < height
 
   -- a part of a node on its grid that begins in the frame
-  pub leaf_block : (k : ℕ) (b : Block) → k ≤ 4 → IsPart k b.columns → IsPart k b.rows → b.x % b.columns ≡ 0 → b.y % b.rows ≡ 0 → IsInFrame b.x b.y → IsLeafBlock width height b
+  pub leaf_block : (k : ℕ) (b : Block) → k ≤ 4 → IsPart k b.columns → IsPart k b.rows → b.x % b.columns ≡ 0 → b.y % b.rows ≡ 0 → IsInFrame b.x b.y →
+      IsLeafBlock width height b
   leaf_block k b small w h across along begins =
       let w_most = w.most in
       let w_least = w.least in
@@ -99,7 +101,8 @@ module _ {A : Type 0} (width height : ℕ) where
   -- Where the cells of d are coded before the leaves, each leaf finds just its own cells coded, and then the cells of e are coded.
   abbrev pub Follows : (d : ℕ → ℕ → Bool) → List (Placed A) → (e : ℕ → ℕ → Bool) → Type 0
   Follows d [] e = Agree width height d e
-  Follows d (l ∷ ls) e = Agree width height d (starts l.block) × IsOnGrid l.block × Follows (λ x y. d x y || holds_cell l x y) ls e × IsLeafBlock width height l.block
+  Follows d (l ∷ ls) e = Agree width height d (starts l.block) × IsOnGrid l.block × Follows (λ x y. d x y || holds_cell l x y) ls e ×
+      IsLeafBlock width height l.block
 
   pub follows-from : (c d e : ℕ → ℕ → Bool) (ls : List (Placed A)) → Agree width height c d → Follows d ls e → Follows c ls e
   follows-from c d e [] a f = λ x y h. a x y h ∙ f x y h

@@ -16,7 +16,8 @@ use Rattle.av1_order.proofs.Units.{early}
 use Rattle.av1_order.proofs.Grid.{IsUnitBlock, node_in_units, place_units, room_units}
 
 -- The cells left of and above an aligned square, in its rows and columns too, are coded before it.
-pub near_earlier : (k x y nx ny : ℕ) → k ≤ 4 → nx % 2 ^ k ≡ 0 → ny % 2 ^ k ≡ 0 → x < nx + 2 ^ k → y < ny + 2 ^ k → (x < nx) ⊎ (y < ny) → is_earlier x y nx ny ≡ true
+pub near_earlier : (k x y nx ny : ℕ) → k ≤ 4 → nx % 2 ^ k ≡ 0 → ny % 2 ^ k ≡ 0 → x < nx + 2 ^ k → y < ny + 2 ^ k → (x < nx) ⊎ (y < ny) →
+    is_earlier x y nx ny ≡ true
 near_earlier k x y nx ny h hx hy x1 y1 near = go (cases_lt x nx) (cases_lt y ny)
   where
     go : (x < nx) ⊎ (nx ≤ x) → (y < ny) ⊎ (ny ≤ y) → is_earlier x y nx ny ≡ true
@@ -29,7 +30,8 @@ near_earlier k x y nx ny h hx hy x1 y1 near = go (cases_lt x nx) (cases_lt y ny)
         ∙ always_earlier nx y nx ny (omega arith) (omega arith) (inr b)
     go (inr a) (inr b) = absurd (omega arith)
 
-near_plain : (bx by w h th r c x y : ℕ) → x < bx + w → y < by + h → y < by + r + th → (x < bx + c) ⊎ (y < by + r) → is_before_in_block bx by w h th r c x y ≡ true
+near_plain : (bx by w h th r c x y : ℕ) → x < bx + w → y < by + h → y < by + r + th → (x < bx + c) ⊎ (y < by + r) →
+    is_before_in_block bx by w h th r c x y ≡ true
 unfolding is_before_in_block
 near_plain bx by w h th r c x y hx hy y1 near = grind (arith, nat_tests)
 
@@ -168,7 +170,8 @@ module _ (sx sy : ℕ) (hx : sx ≤ 1) (hy : sy ≤ 1) (s : Step) (is : IsStep s
       else early sx sy s.block x y)
   unfolding next_before
   plain x y =
-      ap (λ q. if q then is_before_in_block (area sx sy s.block).x (area sx sy s.block).y (area sx sy s.block).columns (area sx sy s.block).rows s.rows s.down s.right x y
+      ap (λ q. if q then is_before_in_block (area sx sy s.block).x (area sx sy s.block).y (area sx sy s.block).columns (area sx sy s.block).rows s.rows s.down
+      s.right x y
       else early sx sy s.block x y) (node_in_units sx sy hx hy s.block is.block x y)
 
   near : (x y : ℕ) → x < node_x s.block / 2 ^ sx + 2 ^ is.block.grid.log / 2 ^ sx → y < node_y s.block / 2 ^ sy + 2 ^ is.block.grid.log / 2 ^ sy
@@ -221,7 +224,8 @@ module _ (sx sy : ℕ) (hx : sx ≤ 1) (hy : sy ≤ 1) (s : Step) (is : IsStep s
       let a = area sx sy s.block in
       let m = 2 ^ is.block.grid.log in
       plain x y
-      ∙ near_before (early sx sy s.block) (node_x s.block / 2 ^ sx) (node_y s.block / 2 ^ sy) (m / 2 ^ sx) (m / 2 ^ sy) a.x a.y a.columns a.rows s.columns s.rows s.down s.right
+      ∙ near_before (early sx sy s.block) (node_x s.block / 2 ^ sx) (node_y s.block / 2 ^ sy) (m / 2 ^ sx)
+      (m / 2 ^ sy) a.x a.y a.columns a.rows s.columns s.rows s.down s.right
       near beside below left_units top_units (room_units sx (node_x s.block) m s.block.x s.block.columns hx is.block.across is.block.grid.room_x)
       (room_units sy (node_y s.block) m s.block.y s.block.rows hy is.block.along is.block.grid.room_y) is.next_x is.next_y x y x1 y1 o
 
@@ -231,7 +235,8 @@ module _ (sx sy : ℕ) (hx : sx ≤ 1) (hy : sy ≤ 1) (s : Step) (is : IsStep s
       let a = area sx sy s.block in
       let m = 2 ^ is.block.grid.log in
       plain (a.x + s.right + s.columns + j) v
-      ∙ run_right (early sx sy s.block) (node_x s.block / 2 ^ sx) (node_y s.block / 2 ^ sy) (m / 2 ^ sx) (m / 2 ^ sy) a.x a.y a.columns a.rows s.columns s.rows s.down s.right
+      ∙ run_right (early sx sy s.block) (node_x s.block / 2 ^ sx) (node_y s.block / 2 ^ sy) (m / 2 ^ sx)
+      (m / 2 ^ sy) a.x a.y a.columns a.rows s.columns s.rows s.down s.right
       near beside below left_units top_units (room_units sx (node_x s.block) m s.block.x s.block.columns hx is.block.across is.block.grid.room_x)
       (room_units sy (node_y s.block) m s.block.y s.block.rows hy is.block.along is.block.grid.room_y) is.next_x is.next_y j v hj hv
       ∙ sym (plain (a.x + s.right + s.columns) v)
@@ -242,7 +247,8 @@ module _ (sx sy : ℕ) (hx : sx ≤ 1) (hy : sy ≤ 1) (s : Step) (is : IsStep s
       let a = area sx sy s.block in
       let m = 2 ^ is.block.grid.log in
       plain u (a.y + s.down + s.rows + j)
-      ∙ run_down (early sx sy s.block) (node_x s.block / 2 ^ sx) (node_y s.block / 2 ^ sy) (m / 2 ^ sx) (m / 2 ^ sy) a.x a.y a.columns a.rows s.columns s.rows s.down s.right
+      ∙ run_down (early sx sy s.block) (node_x s.block / 2 ^ sx) (node_y s.block / 2 ^ sy) (m / 2 ^ sx)
+      (m / 2 ^ sy) a.x a.y a.columns a.rows s.columns s.rows s.down s.right
       near beside below left_units top_units (room_units sx (node_x s.block) m s.block.x s.block.columns hx is.block.across is.block.grid.room_x)
       (room_units sy (node_y s.block) m s.block.y s.block.rows hy is.block.along is.block.grid.room_y) is.next_x is.next_y j u hj hu
       ∙ sym (plain u (a.y + s.down + s.rows))

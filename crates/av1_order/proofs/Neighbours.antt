@@ -1,5 +1,6 @@
 -- Each visible sample lies in the area of one leaf, and a record for each cell shows a leaf's neighbours.
-use Rattle.std.proofs.Common.{◌≡◌, ℕ, zero, suc, ◌+◌, ◌-◌, ◌*◌, ◌/◌, ◌%◌, ◌^◌, ◌<◌, ◌≤◌, ◌⊎◌, max, Bool, true, false, ◌&&◌, ◌||◌, cond, ltb, eqb, List, [], ◌∷◌, ◌++◌, get_or, map, Option, None, Some, inl, inr, refl, sym, subst, ◌∙◌, ap, arith}
+use Rattle.std.proofs.Common.{◌≡◌, ℕ, zero, suc, ◌+◌, ◌-◌, ◌*◌, ◌/◌, ◌%◌, ◌^◌, ◌<◌, ◌≤◌, ◌⊎◌, max, Bool, true, false, ◌&&◌, ◌||◌, cond, ltb, eqb, List, [], ◌∷◌}
+use Rattle.std.proofs.Common.{◌++◌, get_or, map, Option, None, Some, inl, inr, refl, sym, subst, ◌∙◌, ap, arith}
 use Rattle.std.specs.Prelude.{nat_lt, if◌then◌else◌, is_some, find, fold, count_by}
 use Rattle.std.specs.List.{All, AllByRecursion}
 use Rattle.std.specs.Option.{option_map_or}
@@ -20,7 +21,8 @@ use Rattle.av1_plan.specs.Validity.{fault_of}
 use Rattle.av1_plan.proofs.ValidLeaves.{IsValidLeaf, valid_leaf}
 use Rattle.av1_avail.specs.Order.{is_in, is_earlier}
 use Rattle.av1_order.specs.Leaves.{holds_cell, is_coded}
-use Rattle.av1_order.specs.Neighbours.{AreasAreCells, AreasTile, LastCellsLieInside, LeavesFindNeighbours, NeighboursAreNoted, area_of, in_area, last_cell, leaf_holds, noted}
+use Rattle.av1_order.specs.Neighbours.{AreasAreCells, AreasTile, LastCellsLieInside, LeavesFindNeighbours, NeighboursAreNoted, area_of, in_area, last_cell}
+use Rattle.av1_order.specs.Neighbours.{leaf_holds, noted}
 use Rattle.av1_order.specs.Plans.{IsWholeFrame, coding_in}
 use Rattle.av1_order.specs.Steps.{area, widened}
 use Rattle.av1_order.specs.Turns.{IsCodedPlan}
@@ -41,7 +43,8 @@ use Rattle.av1_order.proofs.Turns.{plane_columns, plane_rows}
 -- ---- a leaf's area and its cells
 
 -- a side of one cell, or an even one
-even_sides : (size : BlockSize) → ((eqb (block_width size / 4) 1 || eqb (block_width size / 4 % 2) 0) ≡ true) × ((eqb (block_height size / 4) 1 || eqb (block_height size / 4 % 2) 0) ≡ true)
+even_sides : (size : BlockSize) → ((eqb (block_width size / 4) 1 || eqb (block_width size / 4 % 2) 0) ≡ true) ×
+    ((eqb (block_height size / 4) 1 || eqb (block_height size / 4 % 2) 0) ≡ true)
 even_sides BLOCK_4X4 = (refl, refl)
 even_sides _ = (refl, refl)
 
@@ -88,7 +91,8 @@ module _ (h : Header) (p : ℕ) (l : LeafValue) (grid : IsLeafOnGrid h l) (valid
   low = omega (arith, halved_x h p, halved_y h p)
 
   -- a leaf that covers a part of the plane lies on whole units once it is widened
-  pub leaf_whole : covers_plane h l.x l.y l.size p ≡ true → IsWhole (xdec h p) (cells_of l).x (cells_of l).columns × IsWhole (ydec h p) (cells_of l).y (cells_of l).rows
+  pub leaf_whole : covers_plane h l.x l.y l.size p ≡ true → IsWhole (xdec h p) (cells_of l).x (cells_of l).columns ×
+      IsWhole (ydec h p) (cells_of l).y (cells_of l).rows
   leaf_whole covered =
       let even = leaf_even h l grid in carried (xdec h p) (ydec h p) (halved_x h p) low (cells_of l) (carries_is h p l ∙ covered) even.0 even.1
 
@@ -183,7 +187,8 @@ module _ (h : Header) (p : ℕ) (cx cy : ℕ) (here : IsInFrame (h.width / 4) (h
       after : ℕ → ℕ → Bool
       after = λ x y. d x y || holds_cell (placed (coding_in h p) l) x y
 
-      go : fold show None ls ≡ find held_by ls → (b : Bool) → held_by l ≡ b → fold show (if held_by l then Some l else None) ls ≡ cond (held_by l) (Some l) (find held_by ls)
+      go : fold show None ls ≡ find held_by ls → (b : Bool) → held_by l ≡ b →
+          fold show (if held_by l then Some l else None) ls ≡ cond (held_by l) (Some l) (find held_by ls)
       go rest true holds =
           ap (λ b. fold show (if b then Some l else None) ls) holds
           ∙ shown_on after e ls (Some l) f.2 (now_coded (d cx cy) (held_by l) holds)
@@ -248,7 +253,8 @@ areas_tile h p leaves is x y column row =
     let pos : 0 < w = omega arith in
     let here = cell_in_frame h p is.frame x y column row in
     let all = frame_follows w t trees pos in
-    count_same (λ l. in_area h p l x y) (λ l. leaf_holds l (last_cell sx x) (last_cell sy y)) leaves (same_tests h p is.frame x y column row leaves is.grid is.valid)
+    count_same (λ l. in_area h p l x y)
+    (λ l. leaf_holds l (last_cell sx x) (last_cell sy y)) leaves (same_tests h p is.frame x y column row leaves is.grid is.valid)
     ∙ one_holds h p (last_cell sx x) (last_cell sy y) here (λ x y. false) all.0 leaves
     (subst (λ ls. Follows w t (λ x y. false) ls all.0) is.ordered.2 all.1) refl
     (end_is_all w t trees pos is.ordered.1 (last_cell sx x) (last_cell sy y) here.column here.row)
@@ -310,11 +316,14 @@ before_leaf : (s at side t : ℕ) → s ≤ 1 → IsWhole s at side → suc t �
 before_leaf s at side t h whole e = ltb-true (last s t) at (before_first s at side t h whole ∙ lt-ltb t ((at - at % 2 ^ s) / 2 ^ s) (omega (arith, e)))
 
 module _ (h : Header) (p : ℕ) (earlier : List LeafValue) (l : LeafValue) (later : List LeafValue) (is : IsCodedPlan h p (earlier ++ l ∷ later)) where
-  earlier_tests : (x y : ℕ) → x < plane_width h p → y < plane_height h p → SameTest (λ l. in_area h p l x y) (λ l. leaf_holds l (last_cell (xdec h p) x) (last_cell (ydec h p) y)) earlier
+  earlier_tests : (x y : ℕ) → x < plane_width h p → y < plane_height h p →
+      SameTest (λ l. in_area h p l x y) (λ l. leaf_holds l (last_cell (xdec h p) x) (last_cell (ydec h p) y)) earlier
   earlier_tests x y column row =
-      same_tests h p is.frame x y column row earlier (all_front (IsLeafOnGrid h) earlier (l ∷ later) is.grid) (all_front (λ l. fault_of h l ≡ None) earlier (l ∷ later) is.valid)
+      same_tests h p is.frame x y column row earlier (all_front (IsLeafOnGrid h) earlier (l ∷ later) is.grid)
+      (all_front (λ l. fault_of h l ≡ None) earlier (l ∷ later) is.valid)
 
-  shown_there : (x y : ℕ) → x < plane_width h p → y < plane_height h p → noted earlier (last_cell (xdec h p) x) (last_cell (ydec h p) y) ≡ area_of h p earlier x y
+  shown_there : (x y : ℕ) → x < plane_width h p → y < plane_height h p →
+      noted earlier (last_cell (xdec h p) x) (last_cell (ydec h p) y) ≡ area_of h p earlier x y
   shown_there x y column row =
       let cx = last_cell (xdec h p) x in
       let cy = last_cell (ydec h p) y in
@@ -331,7 +340,8 @@ module _ (h : Header) (p : ℕ) (earlier : List LeafValue) (l : LeafValue) (late
       let here = cell_in_frame h p is.frame x y column row in
       ap is_some (find_same (λ l. in_area h p l x y) (λ l. leaf_holds l cx cy) earlier (earlier_tests x y column row))
       ∙ found_coded h p cx cy here earlier
-      ∙ coded_after (h.width / 4) (h.height / 4) (λ x y. false) (starts (cells_of l)) (map (placed (coding_in h p)) earlier) (cut_before h p earlier l later is) cx cy here
+      ∙ coded_after (h.width / 4) (h.height / 4) (λ x y. false) (starts (cells_of l)) (map (placed (coding_in h p)) earlier)
+      (cut_before h p earlier l later is) cx cy here
       ∙ near_starts (cells_of l) (cut_on_grid h p earlier l later is) cx cy x1 y1 near
 
   module _ (covered : covers_plane h l.x l.y l.size p ≡ true) where
@@ -362,7 +372,12 @@ module _ (h : Header) (p : ℕ) (earlier : List LeafValue) (l : LeafValue) (late
         let some_y = some_units b.rows sy rows_low in
         places (last sx units.x) (last sy units.y) b.x b.y b.columns b.rows
         (last_in_leaf sx sy (halved_x h p) rows_low b whole.0 whole.1 units.x units.y
-        ∙ held units.x units.y units.x units.y units.columns units.rows (record { left = omega arith; right = omega (arith, some_x); top = omega arith; bottom = omega (arith, some_y) }))
+        ∙ held units.x units.y units.x units.y units.columns units.rows (record {
+          left = omega arith;
+          right = omega (arith, some_x);
+          top = omega arith;
+          bottom = omega (arith, some_y);
+        }))
 
     inside : (l.x < h.width) × (l.y < h.height)
     unfolding is_inside
@@ -425,6 +440,7 @@ noted_code {A} code first leaves cx cy = from_on None leaves
     one true o l = refl
     one false o l = refl
 
-    from_on : (o : Option LeafValue) (ls : List LeafValue) → fold step (coded o) ls ≡ coded (fold (λ shown l. if leaf_holds l cx cy then Some l else shown) o ls)
+    from_on : (o : Option LeafValue) (ls : List LeafValue) →
+        fold step (coded o) ls ≡ coded (fold (λ shown l. if leaf_holds l cx cy then Some l else shown) o ls)
     from_on o [] = refl
     from_on o (l ∷ ls) = ap (λ v. fold step v ls) (one (leaf_holds l cx cy) o l) ∙ from_on (if leaf_holds l cx cy then Some l else o) ls

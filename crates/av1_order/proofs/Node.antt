@@ -1,5 +1,6 @@
 -- The leaves of a node follow one another.
-use Rattle.std.proofs.Common.{◌≡◌, ℕ, zero, suc, ◌+◌, ◌*◌, ◌%◌, ◌^◌, ◌<◌, ◌≤◌, ◌⊎◌, Bool, true, false, ◌&&◌, ◌||◌, ltb, List, [], ◌∷◌, ◌++◌, inl, inr, refl, sym, ◌∙◌, arith}
+use Rattle.std.proofs.Common.{◌≡◌, ℕ, zero, suc, ◌+◌, ◌*◌, ◌%◌, ◌^◌, ◌<◌, ◌≤◌, ◌⊎◌, Bool, true, false, ◌&&◌, ◌||◌, ltb, List, [], ◌∷◌, ◌++◌, inl, inr, refl}
+use Rattle.std.proofs.Common.{sym, ◌∙◌, arith}
 use Rattle.std.specs.Prelude.{nat_lt, if◌then◌else◌}
 use Rattle.std.proofs.Math.Nat.{pow-succ'}
 use Rattle.std.proofs.lemmas.Nat.{pow_pos}
@@ -30,7 +31,8 @@ half_at (suc (suc zero)) n h e = omega arith
 half_at (suc (suc (suc zero))) n h e = omega arith
 half_at (suc (suc (suc (suc k)))) n h e = absurd (omega arith)
 
-quarter_at : (k n : ℕ) → k ≤ 2 → n % 2 ^ suc (suc k) ≡ 0 → (n % 2 ^ k ≡ 0) × ((n + 2 ^ k) % 2 ^ k ≡ 0) × ((n + 2 * 2 ^ k) % 2 ^ k ≡ 0) × ((n + 3 * 2 ^ k) % 2 ^ k ≡ 0)
+quarter_at : (k n : ℕ) → k ≤ 2 → n % 2 ^ suc (suc k) ≡ 0 → (n % 2 ^ k ≡ 0) × ((n + 2 ^ k) % 2 ^ k ≡ 0) × ((n + 2 * 2 ^ k) % 2 ^ k ≡ 0) ×
+    ((n + 3 * 2 ^ k) % 2 ^ k ≡ 0)
 quarter_at zero n h e = omega arith
 quarter_at (suc zero) n h e = omega arith
 quarter_at (suc (suc zero)) n h e = omega arith
@@ -94,10 +96,12 @@ column_closes : (nx ny s x0 x1 h x y : ℕ) → x1 ≡ x0 + h → Places x y nx 
 unfolding is_in
 column_closes nx ny s x0 x1 h x y e p = let l = p.top in let r = p.bottom in grind (arith, nat_tests)
 
-row_cut : (width height nx ny s y0 y1 x y : ℕ) → x < width → y < height → (nat_lt nx width && nat_lt y0 height) ≡ false → y0 ≤ y1 → Places x y nx ny s s → ltb y y0 ≡ ltb y y1
+row_cut : (width height nx ny s y0 y1 x y : ℕ) → x < width → y < height → (nat_lt nx width && nat_lt y0 height) ≡ false → y0 ≤ y1 → Places x y nx ny s s →
+    ltb y y0 ≡ ltb y y1
 row_cut width height nx ny s y0 y1 x y hx hy out le p = let l = p.left in grind (arith, nat_tests)
 
-column_cut : (width height nx ny s x0 x1 x y : ℕ) → x < width → y < height → (nat_lt x0 width && nat_lt ny height) ≡ false → x0 ≤ x1 → Places x y nx ny s s → ltb x x0 ≡ ltb x x1
+column_cut : (width height nx ny s x0 x1 x y : ℕ) → x < width → y < height → (nat_lt x0 width && nat_lt ny height) ≡ false → x0 ≤ x1 → Places x y nx ny s s →
+    ltb x x0 ≡ ltb x x1
 column_cut width height nx ny s x0 x1 x y hx hy out le p = let l = p.top in grind (arith, nat_tests)
 
 outer : (nx ny s x y x0 y0 w h : ℕ) → nx ≤ x0 → x0 + w ≤ nx + s → ny ≤ y0 → y0 + h ≤ ny + s → is_in x y x0 y0 w h ≡ true → is_in x y nx ny s s ≡ true
@@ -107,7 +111,8 @@ outer nx ny s x y x0 y0 w h a b c d e =
     placed x y nx ny s s (record { left = omega arith; right = omega arith; top = omega arith; bottom = omega arith })
 
 -- a block on a node's grid
-pub on_grid : (k : ℕ) (b : Block) (nx ny : ℕ) → k ≤ 4 → nx % 2 ^ k ≡ 0 → ny % 2 ^ k ≡ 0 → node_side b ≡ 2 ^ k → nx ≤ b.x → b.x < nx + 2 ^ k → ny ≤ b.y → b.y < ny + 2 ^ k
+pub on_grid : (k : ℕ) (b : Block) (nx ny : ℕ) → k ≤ 4 → nx % 2 ^ k ≡ 0 → ny % 2 ^ k ≡ 0 → node_side b ≡ 2 ^ k → nx ≤ b.x → b.x < nx + 2 ^ k → ny ≤ b.y →
+    b.y < ny + 2 ^ k
     → (b.x + b.columns ≡ nx + 2 ^ k) ⊎ (b.x + 2 * b.columns ≤ nx + 2 ^ k) → (b.y + b.rows ≡ ny + 2 ^ k) ⊎ (b.y + 2 * b.rows ≤ ny + 2 ^ k)
     → IsEven b.x b.columns → IsEven b.y b.rows → b.x % b.columns ≡ 0 → b.y % b.rows ≡ 0 → IsOnGrid b × (node_x b ≡ nx) × (node_y b ≡ ny)
 on_grid k b nx ny small hx hy side x0 x1 y0 y1 rx ry ex ey mx my =
@@ -165,16 +170,19 @@ quarter_part k = record { log = k; is = refl; most = omega arith; least = omega 
 
 module _ {A : Type 0} (width height : ℕ) where
   -- a part as wide as its node
-  row_follows : (k nx ny y0 y1 h : ℕ) (c : A) → k ≤ 4 → IsPart k h → nx % 2 ^ k ≡ 0 → ny % 2 ^ k ≡ 0 → 1 ≤ h → ny ≤ y0 → y1 ≡ y0 + h → (y1 ≡ ny + 2 ^ k) ⊎ (y1 + h ≤ ny + 2 ^ k)
+  row_follows : (k nx ny y0 y1 h : ℕ) (c : A) → k ≤ 4 → IsPart k h → nx % 2 ^ k ≡ 0 → ny % 2 ^ k ≡ 0 → 1 ≤ h → ny ≤ y0 → y1 ≡ y0 + h →
+      (y1 ≡ ny + 2 ^ k) ⊎ (y1 + h ≤ ny + 2 ^ k)
       → IsEven y0 h → y0 % h ≡ 0 → Follows width height (at nx ny (2 ^ k) (above y0)) (part_leaves width height nx y0 (2 ^ k) h c) (at nx ny (2 ^ k) (above y1))
   row_follows k nx ny y0 y1 h c small part hx hy pos low e room even at_y =
       let s = 2 ^ k in
       let one = pow_pos k in
       let high : y1 ≤ ny + s = omega arith in
       let b : Block = record { x = nx; y = y0; columns = s; rows = h } in
-      let g = on_grid k b nx ny small hx hy (omega arith) (omega arith) (omega arith) low (omega arith) (inl refl) (grind arith) (even_at k nx small hx) even hx at_y in
+      let g = on_grid k b nx ny small hx hy (omega arith) (omega arith) (omega arith) low (omega arith) (inl refl) (grind arith)
+      (even_at k nx small hx) even hx at_y in
       follows-kept width height (at nx ny s (above y0)) (at nx ny s (above y1)) nx y0 (record { block = b; content = c } ∷ []) (λ begins. (
-        (λ x y here. between nx ny s x y (above y0) (λ x y. ltb y y0 || ltb x nx) (row_opens nx ny s y0 x y) ∙ sym (opened b nx ny s x y (λ x y. ltb y y0 || ltb x nx) g.1 g.2 (omega arith))),
+        (λ x y here. between nx ny s x y (above y0) (λ x y. ltb y y0 || ltb x nx) (row_opens nx ny s y0 x y)
+            ∙ sym (opened b nx ny s x y (λ x y. ltb y y0 || ltb x nx) g.1 g.2 (omega arith))),
         g.0,
         (λ x y here.
             choose (is_in x y nx ny s s) (is_in x y nx y0 s h) (ltb y y0) (ltb y y0 || is_in x y nx y0 s h) (is_earlier x y nx ny) refl
@@ -185,16 +193,20 @@ module _ {A : Type 0} (width height : ℕ) where
       (λ out x y here. between nx ny s x y (above y0) (above y1) (row_cut width height nx ny s y0 y1 x y here.column here.row out (omega arith)))
 
   -- a part as high as its node
-  column_follows : (k nx ny x0 x1 h : ℕ) (c : A) → k ≤ 4 → IsPart k h → nx % 2 ^ k ≡ 0 → ny % 2 ^ k ≡ 0 → 1 ≤ h → nx ≤ x0 → x1 ≡ x0 + h → (x1 ≡ nx + 2 ^ k) ⊎ (x1 + h ≤ nx + 2 ^ k)
-      → IsEven x0 h → x0 % h ≡ 0 → Follows width height (at nx ny (2 ^ k) (left_of x0)) (part_leaves width height x0 ny h (2 ^ k) c) (at nx ny (2 ^ k) (left_of x1))
+  column_follows : (k nx ny x0 x1 h : ℕ) (c : A) → k ≤ 4 → IsPart k h → nx % 2 ^ k ≡ 0 → ny % 2 ^ k ≡ 0 → 1 ≤ h → nx ≤ x0 → x1 ≡ x0 + h →
+      (x1 ≡ nx + 2 ^ k) ⊎ (x1 + h ≤ nx + 2 ^ k)
+      → IsEven x0 h → x0 % h ≡ 0 →
+      Follows width height (at nx ny (2 ^ k) (left_of x0)) (part_leaves width height x0 ny h (2 ^ k) c) (at nx ny (2 ^ k) (left_of x1))
   column_follows k nx ny x0 x1 h c small part hx hy pos low e room even at_x =
       let s = 2 ^ k in
       let one = pow_pos k in
       let high : x1 ≤ nx + s = omega arith in
       let b : Block = record { x = x0; y = ny; columns = h; rows = s } in
-      let g = on_grid k b nx ny small hx hy (omega arith) low (omega arith) (omega arith) (omega arith) (grind arith) (inl refl) even (even_at k ny small hy) at_x hy in
+      let g = on_grid k b nx ny small hx hy (omega arith) low (omega arith) (omega arith) (omega arith) (grind arith)
+      (inl refl) even (even_at k ny small hy) at_x hy in
       follows-kept width height (at nx ny s (left_of x0)) (at nx ny s (left_of x1)) x0 ny (record { block = b; content = c } ∷ []) (λ begins. (
-        (λ x y here. between nx ny s x y (left_of x0) (λ x y. ltb y ny || ltb x x0) (column_opens nx ny s x0 x y) ∙ sym (opened b nx ny s x y (λ x y. ltb y ny || ltb x x0) g.1 g.2 (omega arith))),
+        (λ x y here. between nx ny s x y (left_of x0) (λ x y. ltb y ny || ltb x x0) (column_opens nx ny s x0 x y)
+            ∙ sym (opened b nx ny s x y (λ x y. ltb y ny || ltb x x0) g.1 g.2 (omega arith))),
         g.0,
         (λ x y here.
             choose (is_in x y nx ny s s) (is_in x y x0 ny h s) (ltb x x0) (ltb x x0 || is_in x y x0 ny h s) (is_earlier x y nx ny) refl
@@ -214,7 +226,8 @@ module _ {A : Type 0} (width height : ℕ) where
       (follows-to width height (at nx ny s (above ny)) (at nx ny s (above y1)) (λ x y. is_done x y nx ny s) ls f
       (λ x y here. close_node nx ny s x y (above y1) (all_above nx ny s y1 x y e)))
 
-  columns_node : (k nx ny x1 : ℕ) (ls : List (Placed A)) → x1 ≡ nx + 2 ^ k → Follows width height (at nx ny (2 ^ k) (left_of nx)) ls (at nx ny (2 ^ k) (left_of x1))
+  columns_node : (k nx ny x1 : ℕ) (ls : List (Placed A)) → x1 ≡ nx + 2 ^ k →
+      Follows width height (at nx ny (2 ^ k) (left_of nx)) ls (at nx ny (2 ^ k) (left_of x1))
       → Follows width height (λ x y. is_earlier x y nx ny) ls (λ x y. is_done x y nx ny (2 ^ k))
   columns_node k nx ny x1 ls e f =
       let s = 2 ^ k in
@@ -239,10 +252,13 @@ module _ {A : Type 0} (width height : ℕ) where
       let y_at = half_at k ny hk hy in
       rw (← e)
       (rows_node (suc k) nx ny (ny + h + h) (part_leaves width height nx ny s h c ++ part_leaves width height nx (ny + h) s h d) (omega arith)
-      (follows-append width height (at nx ny s (above ny)) (at nx ny s (above (ny + h))) (at nx ny s (above (ny + h + h))) (part_leaves width height nx ny s h c)
+      (follows-append width height (at nx ny s (above ny)) (at nx ny s (above (ny + h))) (at nx ny s (above (ny + h + h)))
+      (part_leaves width height nx ny s h c)
       (part_leaves width height nx (ny + h) s h d)
-      (row_follows (suc k) nx ny ny (ny + h) h c (omega arith) (half_part k) hx hy p (omega arith) refl (inr (omega arith)) (even_at k ny (omega arith) y_at.0) y_at.0)
-      (row_follows (suc k) nx ny (ny + h) (ny + h + h) h d (omega arith) (half_part k) hx hy p (omega arith) refl (inl (omega arith)) (even_at k (ny + h) (omega arith) y_at.1) y_at.1)))
+      (row_follows (suc k) nx ny ny (ny + h) h c (omega arith) (half_part k) hx hy p (omega arith) refl (inr (omega arith))
+      (even_at k ny (omega arith) y_at.0) y_at.0)
+      (row_follows (suc k) nx ny (ny + h) (ny + h + h) h d (omega arith) (half_part k) hx hy p (omega arith) refl (inl (omega arith))
+      (even_at k (ny + h) (omega arith) y_at.1) y_at.1)))
 
   vert_follows : (k nx ny : ℕ) (c d : A) → k ≤ 3 → nx % 2 ^ suc k ≡ 0 → ny % 2 ^ suc k ≡ 0
       → Follows width height (λ x y. is_earlier x y nx ny) (node_leaves width height (vert {k = k} c d) nx ny) (λ x y. is_done x y nx ny (2 ^ suc k))
@@ -254,13 +270,17 @@ module _ {A : Type 0} (width height : ℕ) where
       let x_at = half_at k nx hk hx in
       rw (← e)
       (columns_node (suc k) nx ny (nx + h + h) (part_leaves width height nx ny h s c ++ part_leaves width height (nx + h) ny h s d) (omega arith)
-      (follows-append width height (at nx ny s (left_of nx)) (at nx ny s (left_of (nx + h))) (at nx ny s (left_of (nx + h + h))) (part_leaves width height nx ny h s c)
+      (follows-append width height (at nx ny s (left_of nx)) (at nx ny s (left_of (nx + h))) (at nx ny s (left_of (nx + h + h)))
+      (part_leaves width height nx ny h s c)
       (part_leaves width height (nx + h) ny h s d)
-      (column_follows (suc k) nx ny nx (nx + h) h c (omega arith) (half_part k) hx hy p (omega arith) refl (inr (omega arith)) (even_at k nx (omega arith) x_at.0) x_at.0)
-      (column_follows (suc k) nx ny (nx + h) (nx + h + h) h d (omega arith) (half_part k) hx hy p (omega arith) refl (inl (omega arith)) (even_at k (nx + h) (omega arith) x_at.1) x_at.1)))
+      (column_follows (suc k) nx ny nx (nx + h) h c (omega arith) (half_part k) hx hy p (omega arith) refl (inr (omega arith))
+      (even_at k nx (omega arith) x_at.0) x_at.0)
+      (column_follows (suc k) nx ny (nx + h) (nx + h + h) h d (omega arith) (half_part k) hx hy p (omega arith) refl (inl (omega arith))
+      (even_at k (nx + h) (omega arith) x_at.1) x_at.1)))
 
   horz_4_follows : (k nx ny : ℕ) (a b c d : A) → k ≤ 2 → nx % 2 ^ suc (suc k) ≡ 0 → ny % 2 ^ suc (suc k) ≡ 0
-      → Follows width height (λ x y. is_earlier x y nx ny) (node_leaves width height (horz_4 {k = k} a b c d) nx ny) (λ x y. is_done x y nx ny (2 ^ suc (suc k)))
+      → Follows width height (λ x y. is_earlier x y nx ny) (node_leaves width height (horz_4 {k = k} a b c d) nx ny)
+      (λ x y. is_done x y nx ny (2 ^ suc (suc k)))
   horz_4_follows k nx ny a b c d hk hx hy =
       let e : 2 ^ suc (suc k) ≡ 4 * 2 ^ k = four_times k in
       let s = 2 ^ suc (suc k) in
@@ -277,13 +297,18 @@ module _ {A : Type 0} (width height : ℕ) where
       (follows-append width height (t (above ny)) (t (above (ny + 3 * h))) (t (above (ny + 3 * h + h))) (one ++ two ++ three) four
       (follows-append width height (t (above ny)) (t (above (ny + 2 * h))) (t (above (ny + 3 * h))) (one ++ two) three
       (follows-append width height (t (above ny)) (t (above (ny + h))) (t (above (ny + 2 * h))) one two
-      (row_follows (suc (suc k)) nx ny ny (ny + h) h a (omega arith) (quarter_part k) hx hy p (omega arith) refl (inr (omega arith)) (even_at k ny (omega arith) y_at.0) y_at.0)
-      (row_follows (suc (suc k)) nx ny (ny + h) (ny + 2 * h) h b (omega arith) (quarter_part k) hx hy p (omega arith) (omega arith) (inr (omega arith)) (even_at k (ny + h) (omega arith) y_at.1) y_at.1))
-      (row_follows (suc (suc k)) nx ny (ny + 2 * h) (ny + 3 * h) h c (omega arith) (quarter_part k) hx hy p (omega arith) (omega arith) (inr (omega arith)) (even_at k (ny + 2 * h) (omega arith) y_at.2) y_at.2))
-      (row_follows (suc (suc k)) nx ny (ny + 3 * h) (ny + 3 * h + h) h d (omega arith) (quarter_part k) hx hy p (omega arith) refl (inl (omega arith)) (even_at k (ny + 3 * h) (omega arith) y_at.3) y_at.3)))
+      (row_follows (suc (suc k)) nx ny ny (ny + h) h a (omega arith) (quarter_part k) hx hy p (omega arith) refl (inr (omega arith))
+      (even_at k ny (omega arith) y_at.0) y_at.0)
+      (row_follows (suc (suc k)) nx ny (ny + h) (ny + 2 * h) h b (omega arith) (quarter_part k) hx hy p (omega arith) (omega arith) (inr (omega arith))
+      (even_at k (ny + h) (omega arith) y_at.1) y_at.1))
+      (row_follows (suc (suc k)) nx ny (ny + 2 * h) (ny + 3 * h) h c (omega arith) (quarter_part k) hx hy p (omega arith) (omega arith) (inr (omega arith))
+      (even_at k (ny + 2 * h) (omega arith) y_at.2) y_at.2))
+      (row_follows (suc (suc k)) nx ny (ny + 3 * h) (ny + 3 * h + h) h d (omega arith) (quarter_part k) hx hy p (omega arith) refl (inl (omega arith))
+      (even_at k (ny + 3 * h) (omega arith) y_at.3) y_at.3)))
 
   vert_4_follows : (k nx ny : ℕ) (a b c d : A) → k ≤ 2 → nx % 2 ^ suc (suc k) ≡ 0 → ny % 2 ^ suc (suc k) ≡ 0
-      → Follows width height (λ x y. is_earlier x y nx ny) (node_leaves width height (vert_4 {k = k} a b c d) nx ny) (λ x y. is_done x y nx ny (2 ^ suc (suc k)))
+      → Follows width height (λ x y. is_earlier x y nx ny) (node_leaves width height (vert_4 {k = k} a b c d) nx ny)
+      (λ x y. is_done x y nx ny (2 ^ suc (suc k)))
   vert_4_follows k nx ny a b c d hk hx hy =
       let e : 2 ^ suc (suc k) ≡ 4 * 2 ^ k = four_times k in
       let s = 2 ^ suc (suc k) in
@@ -300,10 +325,14 @@ module _ {A : Type 0} (width height : ℕ) where
       (follows-append width height (t (left_of nx)) (t (left_of (nx + 3 * h))) (t (left_of (nx + 3 * h + h))) (one ++ two ++ three) four
       (follows-append width height (t (left_of nx)) (t (left_of (nx + 2 * h))) (t (left_of (nx + 3 * h))) (one ++ two) three
       (follows-append width height (t (left_of nx)) (t (left_of (nx + h))) (t (left_of (nx + 2 * h))) one two
-      (column_follows (suc (suc k)) nx ny nx (nx + h) h a (omega arith) (quarter_part k) hx hy p (omega arith) refl (inr (omega arith)) (even_at k nx (omega arith) x_at.0) x_at.0)
-      (column_follows (suc (suc k)) nx ny (nx + h) (nx + 2 * h) h b (omega arith) (quarter_part k) hx hy p (omega arith) (omega arith) (inr (omega arith)) (even_at k (nx + h) (omega arith) x_at.1) x_at.1))
-      (column_follows (suc (suc k)) nx ny (nx + 2 * h) (nx + 3 * h) h c (omega arith) (quarter_part k) hx hy p (omega arith) (omega arith) (inr (omega arith)) (even_at k (nx + 2 * h) (omega arith) x_at.2) x_at.2))
-      (column_follows (suc (suc k)) nx ny (nx + 3 * h) (nx + 3 * h + h) h d (omega arith) (quarter_part k) hx hy p (omega arith) refl (inl (omega arith)) (even_at k (nx + 3 * h) (omega arith) x_at.3) x_at.3)))
+      (column_follows (suc (suc k)) nx ny nx (nx + h) h a (omega arith) (quarter_part k) hx hy p (omega arith) refl (inr (omega arith))
+      (even_at k nx (omega arith) x_at.0) x_at.0)
+      (column_follows (suc (suc k)) nx ny (nx + h) (nx + 2 * h) h b (omega arith) (quarter_part k) hx hy p (omega arith) (omega arith) (inr (omega arith))
+      (even_at k (nx + h) (omega arith) x_at.1) x_at.1))
+      (column_follows (suc (suc k)) nx ny (nx + 2 * h) (nx + 3 * h) h c (omega arith) (quarter_part k) hx hy p (omega arith) (omega arith) (inr (omega arith))
+      (even_at k (nx + 2 * h) (omega arith) x_at.2) x_at.2))
+      (column_follows (suc (suc k)) nx ny (nx + 3 * h) (nx + 3 * h + h) h d (omega arith) (quarter_part k) hx hy p (omega arith) refl (inl (omega arith))
+      (even_at k (nx + 3 * h) (omega arith) x_at.3) x_at.3)))
 
   -- a quarter of a node, after those before it
   quarter : (h qx qy : ℕ) (d : ℕ → ℕ → Bool) (ls : List (Placed A)) → ((x y : ℕ) → is_earlier x y qx qy ≡ d x y)
@@ -318,7 +347,8 @@ module _ {A : Type 0} (width height : ℕ) where
       → Follows width height (λ x y. is_earlier x y nx ny) (node_leaves width height a nx ny) (λ x y. is_done x y nx ny (2 ^ k))
       → Follows width height (λ x y. is_earlier x y (nx + 2 ^ k) ny) (node_leaves width height b (nx + 2 ^ k) ny) (λ x y. is_done x y (nx + 2 ^ k) ny (2 ^ k))
       → Follows width height (λ x y. is_earlier x y nx (ny + 2 ^ k)) (node_leaves width height c nx (ny + 2 ^ k)) (λ x y. is_done x y nx (ny + 2 ^ k) (2 ^ k))
-      → Follows width height (λ x y. is_earlier x y (nx + 2 ^ k) (ny + 2 ^ k)) (node_leaves width height d (nx + 2 ^ k) (ny + 2 ^ k)) (λ x y. is_done x y (nx + 2 ^ k) (ny + 2 ^ k) (2 ^ k))
+      → Follows width height (λ x y. is_earlier x y (nx + 2 ^ k) (ny + 2 ^ k)) (node_leaves width height d (nx + 2 ^ k) (ny + 2 ^ k))
+      (λ x y. is_done x y (nx + 2 ^ k) (ny + 2 ^ k) (2 ^ k))
       → Follows width height (λ x y. is_earlier x y nx ny) (node_leaves width height (split {k = k} a b c d) nx ny) (λ x y. is_done x y nx ny (2 * 2 ^ k))
   split_follows k nx ny a b c d hk hx hy fa fb fc fd =
       let h = 2 ^ k in

@@ -1,5 +1,6 @@
 -- The steps of a block by the numbers of its transforms, in raster order over the whole block.
-use Rattle.std.proofs.Common.{◌≡◌, ℕ, zero, suc, ◌+◌, ◌-◌, ◌*◌, ◌/◌, ◌%◌, ◌^◌, ◌<◌, Bool, true, false, ◌&&◌, List, [], ◌∷◌, ◌++◌, Option, None, Some, refl, sym, ◌∙◌, ap, arith}
+use Rattle.std.proofs.Common.{◌≡◌, ℕ, zero, suc, ◌+◌, ◌-◌, ◌*◌, ◌/◌, ◌%◌, ◌^◌, ◌<◌, Bool, true, false, ◌&&◌, List, [], ◌∷◌, ◌++◌, Option, None, Some, refl, sym}
+use Rattle.std.proofs.Common.{◌∙◌, ap, arith}
 use Rattle.std.specs.Prelude.{nat_lt, if◌then◌else◌}
 use Rattle.std.specs.List.{filter_map, range_with_len, cons_option}
 use Rattle.std.proofs.Math.Nat.{mul-add-mod_self_right, mod-eq_of_lt}
@@ -58,7 +59,8 @@ module _ (sx sy width height : ℕ) (b : Block) (c : Coding) where
       ∙ ap (λ ss. row_steps sx sy width height b c (r * c.rows) 0 across ++ ss)
       (rows_numbered (r + 1) n ∙ ap (λ z. filter_map numbered (range_with_len z (n * across))) on)
       ∙ ap (λ ss. ss ++ filter_map numbered (range_with_len (r * across + across) (n * across)))
-      (ap (λ z. row_steps sx sy width height b c (r * c.rows) z across) nothing ∙ row_numbered r 0 across (omega arith) ∙ ap (λ z. filter_map numbered (range_with_len z across)) first)
+      (ap (λ z. row_steps sx sy width height b c (r * c.rows) z across) nothing ∙ row_numbered r 0 across (omega arith)
+      ∙ ap (λ z. filter_map numbered (range_with_len z across)) first)
       ∙ sym (filter_map-append numbered (range_with_len (r * across) across) (range_with_len (r * across + across) (n * across)))
       ∙ ap (filter_map numbered) (sym (range-append (r * across) across (n * across)) ∙ ap (range_with_len (r * across)) more)
 
@@ -67,7 +69,8 @@ module _ (sx sy width height : ℕ) (b : Block) (c : Coding) where
   block_numbered rows =
       let rows_zero : 0 ≡ 0 * c.rows = omega arith in
       let first : 0 * across ≡ 0 = omega arith in
-      ap (λ z. block_steps sx sy width height b c z rows) rows_zero ∙ rows_numbered 0 rows ∙ ap (λ z. filter_map numbered (range_with_len z (rows * across))) first
+      ap (λ z. block_steps sx sy width height b c z rows) rows_zero ∙ rows_numbered 0 rows
+      ∙ ap (λ z. filter_map numbered (range_with_len z (rows * across))) first
 
 -- what is kept of the numbers up to one that is kept, and after it
 pub kept_cut : {X : Type 0} (f : ℕ → Option X) (n all : ℕ) (x : X) → n < all → f n ≡ Some x

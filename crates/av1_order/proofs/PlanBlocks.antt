@@ -1,12 +1,14 @@
 -- The steps of a plan's leaves are their transform blocks.
-use Rattle.std.proofs.Common.{◌≡◌, ℕ, zero, suc, ◌+◌, ◌*◌, ◌/◌, ◌%◌, ◌^◌, ◌<◌, ◌≤◌, max, Bool, true, false, ◌&&◌, List, [], ◌∷◌, map, Option, None, Some, option_map, refl, sym, ◌∙◌, ap, arith}
+use Rattle.std.proofs.Common.{◌≡◌, ℕ, zero, suc, ◌+◌, ◌*◌, ◌/◌, ◌%◌, ◌^◌, ◌<◌, ◌≤◌, max, Bool, true, false, ◌&&◌, List, [], ◌∷◌, map, Option, None, Some}
+use Rattle.std.proofs.Common.{option_map, refl, sym, ◌∙◌, ap, arith}
 use Rattle.std.specs.Prelude.{nat_lt, if◌then◌else◌}
 use Rattle.std.specs.List.{filter_map, range_with_len, cons_option}
 use Rattle.std.proofs.Math.Nat.{mul-div-mul_left, mul_comm}
 use Rattle.av1_blocks.specs.Blocks.{block_width, block_height}
 use Rattle.av1_blocks.specs.Transforms.{tx_width, tx_height}
 use Rattle.av1_plan.specs.declared.header.Header.{Header}
-use Rattle.av1_plan.specs.Geometry.{xdec, ydec, covers_plane, plane_size, plane_tx_size, plane_area, plane_width, plane_height, blocks_across, block_count, block_at, has_block, transform_block, transform_blocks}
+use Rattle.av1_plan.specs.Geometry.{xdec, ydec, covers_plane, plane_size, plane_tx_size, plane_area, plane_width, plane_height, blocks_across, block_count}
+use Rattle.av1_plan.specs.Geometry.{block_at, has_block, transform_block, transform_blocks}
 use Rattle.av1_plan.specs.CodingOrder.{cells_of, IsOnGrid}
 use Rattle.av1_plan.specs.Plan.{LeafValue}
 use Rattle.av1_plan.proofs.ValidLeaves.{IsValidLeaf, valid_leaf}
@@ -85,13 +87,16 @@ module _ (h : Header) (p : ℕ) (l : LeafValue) (frame : IsWholeFrame h) (grid :
   pub across_is : blocks_across area_in ≡ units_in.columns / (coding_in h p l).columns
   unfolding blocks_across plane_area plane_size
   across_is =
-      quotient (block_width (plane_size h l.size p)) (tx_width (plane_tx_size h l.size l.tx_size p)) (max (block_width l.size / 4) (2 ^ xdec h p) / 2 ^ xdec h p)
+      quotient (block_width (plane_size h l.size p)) (tx_width (plane_tx_size h l.size l.tx_size p))
+      (max (block_width l.size / 4) (2 ^ xdec h p) / 2 ^ xdec h p)
       (tx_width (plane_tx_size h l.size l.tx_size p) / 4) (in_plane_block h l.size p valid.size).width (tx_units (plane_tx_size h l.size l.tx_size p)).0
 
   pub count_is : block_count area_in ≡ units_in.rows / (coding_in h p l).rows * (units_in.columns / (coding_in h p l).columns)
   unfolding block_count plane_area plane_size
   count_is =
-      let down = quotient (block_height (plane_size h l.size p)) (tx_height (plane_tx_size h l.size l.tx_size p)) (max (block_height l.size / 4) (2 ^ ydec h p) / 2 ^ ydec h p)
+      let down =
+      quotient (block_height (plane_size h l.size p)) (tx_height (plane_tx_size h l.size l.tx_size p))
+      (max (block_height l.size / 4) (2 ^ ydec h p) / 2 ^ ydec h p)
       (tx_height (plane_tx_size h l.size l.tx_size p) / 4) (in_plane_block h l.size p valid.size).height (tx_units (plane_tx_size h l.size l.tx_size p)).1 in
       let a = area_in in
       ap (λ z. z * (block_height a.size / tx_height a.tx_size)) across_is
@@ -132,16 +137,24 @@ module _ (h : Header) (p : ℕ) (l : LeafValue) (frame : IsWholeFrame h) (grid :
   pub same_number : (n : ℕ) → n < block_count area_in → option_map (place_of (xdec h p) (ydec h p)) (numbered_in n) ≡ transform_block h p area_in n
   same_number n lt =
       let c = coding_in h p l in
-      let s : Step = record { block = widened (xdec h p) (ydec h p) (cells_of l); right = column_of n * c.columns; down = row_of n * c.rows; columns = c.columns; rows = c.rows } in
+      let s : Step = record {
+        block = widened (xdec h p) (ydec h p) (cells_of l);
+        right = column_of n * c.columns;
+        down = row_of n * c.rows;
+        columns = c.columns;
+        rows = c.rows;
+      } in
       through (begins n) s (place_of (xdec h p) (ydec h p)) ∙ sym (block_is n lt)
 
-  coded_steps : (carried inter : Bool) → carried ≡ true → inter ≡ false → (once by_blocks : List Step) → (if carried then (if inter then once else by_blocks) else []) ≡ by_blocks
+  coded_steps : (carried inter : Bool) → carried ≡ true → inter ≡ false → (once by_blocks : List Step) →
+      (if carried then (if inter then once else by_blocks) else []) ≡ by_blocks
   coded_steps true false e f once by_blocks = refl
   coded_steps false inter e f once by_blocks = absurd (true≢false (sym e))
   coded_steps true true e f once by_blocks = absurd (true≢false f)
 
   -- the steps of a leaf that is not inter, by the numbers of its transform blocks
-  pub leaf_numbered : is_inter l.kind ≡ false → covers_plane h l.x l.y l.size p ≡ true → steps_in h p l ≡ filter_map numbered_in (range_with_len 0 (block_count area_in))
+  pub leaf_numbered : is_inter l.kind ≡ false → covers_plane h l.x l.y l.size p ≡ true →
+      steps_in h p l ≡ filter_map numbered_in (range_with_len 0 (block_count area_in))
   leaf_numbered intra covered =
       let b = widened (xdec h p) (ydec h p) (cells_of l) in
       let c = coding_in h p l in
@@ -153,7 +166,8 @@ module _ (h : Header) (p : ℕ) (l : LeafValue) (frame : IsWholeFrame h) (grid :
       ∙ block_numbered (xdec h p) (ydec h p) (h.width / 4) (h.height / 4) b c rows
       ∙ ap (λ n. filter_map numbered_in (range_with_len 0 n)) (sym count_is)
 
-  blocks_covered : is_inter l.kind ≡ false → covers_plane h l.x l.y l.size p ≡ true → map (place_of (xdec h p) (ydec h p)) (steps_in h p l) ≡ transform_blocks h p area_in
+  blocks_covered : is_inter l.kind ≡ false → covers_plane h l.x l.y l.size p ≡ true →
+      map (place_of (xdec h p) (ydec h p)) (steps_in h p l) ≡ transform_blocks h p area_in
   unfolding transform_blocks
   blocks_covered intra covered =
       let place = place_of (xdec h p) (ydec h p) in

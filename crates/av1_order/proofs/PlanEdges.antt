@@ -25,7 +25,8 @@ use Rattle.av1_order.proofs.Planes.{plane_steps-append, frame_is_ordered}
 use Rattle.av1_order.proofs.Plans.{halved_x, halved_y, plans_are_frames}
 
 -- a sample of the visible plane
-pub visible_in : (h : Header) (p : ℕ) → IsWholeFrame h → (x y : ℕ) → x < plane_width h p → y < plane_height h p → IsVisible (xdec h p) (ydec h p) (h.width / 4) (h.height / 4) x y
+pub visible_in : (h : Header) (p : ℕ) → IsWholeFrame h → (x y : ℕ) → x < plane_width h p → y < plane_height h p →
+    IsVisible (xdec h p) (ydec h p) (h.width / 4) (h.height / 4) x y
 unfolding plane_width plane_height
 visible_in h p frame x y column row =
     let low : ydec h p ≤ 1 = omega (arith, halved_x h p, halved_y h p) in
@@ -68,7 +69,8 @@ module _ (h : Header) (p : ℕ) (earlier : List LeafValue) (l : LeafValue) (late
       let high = filter_map f (range_with_len (n + 1) (all - n - 1)) in
       ap steps (ordered ∙ map-append code earlier (l ∷ later))
       ∙ plane_steps-append (xdec h p) (ydec h p) (h.width / 4) (h.height / 4) (map code earlier) (map code (l ∷ later))
-      ∙ ap (λ ss. steps (map code earlier) ++ (ss ++ steps (map code later))) (leaf_numbered h p l frame grid valid intra covered ∙ kept_cut f n all s within is)
+      ∙ ap (λ ss. steps (map code earlier) ++ (ss ++ steps (map code later)))
+      (leaf_numbered h p l frame grid valid intra covered ∙ kept_cut f n all s within is)
       ∙ ap (λ ss. steps (map code earlier) ++ ss) (append_assoc low (s ∷ high) (steps (map code later)))
       ∙ sym (append_assoc (steps (map code earlier)) low (s ∷ (high ++ steps (map code later))))
 

@@ -10,7 +10,8 @@ use Rattle.av1_blocks.specs.declared.transform.TxType.TheVariants.{DCT_DCT}
 use Rattle.av1_plan.specs.declared.geometry.TransformBlock.{TransformBlock}
 use Rattle.av1_plan.specs.declared.header.Header.{Header}
 use Rattle.av1_plan.specs.declared.leaf.LeafKind.TheVariants.{Intra}
-use Rattle.av1_plan.specs.Geometry.{xdec, ydec, block_at, block_count, blocks_across, carries_chroma, covers_plane, has_block, plane_area, plane_height, plane_place, plane_size, plane_tx_size, plane_width, transform_block}
+use Rattle.av1_plan.specs.Geometry.{xdec, ydec, block_at, block_count, blocks_across, carries_chroma, covers_plane, has_block, plane_area, plane_height}
+use Rattle.av1_plan.specs.Geometry.{plane_place, plane_size, plane_tx_size, plane_width, transform_block}
 use Rattle.av1_plan.specs.Plan.{LeafValue}
 use Rattle.av1_plan.specs.Tree.{Placed}
 use Rattle.av1_avail.specs.Availability.{table_top_right, table_bottom_left}
@@ -22,10 +23,29 @@ use Rattle.av1_order.specs.Steps.{Coding, plane_steps}
 use Rattle.av1_order.specs.Turns.{answer_above_right, answer_below_left, is_written_above, is_written_left, leaf_block, steps_before}
 
 header : Header
-header = record { version = 1; width = 8; height = 8; depth = 8; sampling = 0; filter = REGULAR; edge_filter = false; slots = 0 ∷ 0 ∷ 0 ∷ 0 ∷ 0 ∷ 0 ∷ 0 ∷ []; mask = 0 }
+header = record {
+  version = 1;
+  width = 8;
+  height = 8;
+  depth = 8;
+  sampling = 0;
+  filter = REGULAR;
+  edge_filter = false;
+  slots = 0 ∷ 0 ∷ 0 ∷ 0 ∷ 0 ∷ 0 ∷ 0 ∷ [];
+  mask = 0;
+}
 
 leaf : ℕ → ℕ → PredictionMode → LeafValue
-leaf x y mode = record { x = x; y = y; size = BLOCK_4X4; kind = Intra mode (pos 0) None; tx_size = TX_4X4; tx_type = DCT_DCT; uv_type = None; triples = [] ∷ [] ∷ [] ∷ [] }
+leaf x y mode = record {
+  x = x;
+  y = y;
+  size = BLOCK_4X4;
+  kind = Intra mode (pos 0) None;
+  tx_size = TX_4X4;
+  tx_type = DCT_DCT;
+  uv_type = None;
+  triples = [] ∷ [] ∷ [] ∷ [];
+}
 
 -- told apart by their modes
 first : LeafValue
@@ -50,7 +70,8 @@ corner x y = record { x = x; y = y }
 -- ---- answers: above right of the third leaf stands the second, and right of the fourth the frame ends
 
 third_block : leaf_block header 0 third 0 ≡ Some (corner 0 4)
-unfolding header third corner xdec ydec plane_width plane_height plane_area plane_place plane_size plane_tx_size blocks_across block_count block_at has_block transform_block
+unfolding header third corner xdec ydec plane_width plane_height plane_area plane_place plane_size plane_tx_size blocks_across block_count block_at has_block
+    transform_block
 third_block = refl
 
 third_answer : answer_above_right header 0 third 0 (corner 0 4) ≡ true

@@ -1,5 +1,6 @@
 -- From the order of the leaves to the order of a plane's steps.
-use Rattle.std.proofs.Common.{◌≡◌, ℕ, zero, suc, ◌/◌, ◌%◌, ◌^◌, ◌<◌, ◌≤◌, max, Bool, true, false, ◌||◌, List, [], ◌∷◌, ◌++◌, inl, inr, refl, sym, ◌∙◌, ap, arith, length, get_or}
+use Rattle.std.proofs.Common.{◌≡◌, ℕ, zero, suc, ◌/◌, ◌%◌, ◌^◌, ◌<◌, ◌≤◌, max, Bool, true, false, ◌||◌, List, [], ◌∷◌, ◌++◌, inl, inr, refl, sym, ◌∙◌, ap}
+use Rattle.std.proofs.Common.{arith, length, get_or}
 use Rattle.std.specs.List.{AllByRecursion}
 use Rattle.std.proofs.lemmas.List.Elements.{recursion_from_All}
 use Rattle.av1_order.proofs.Choices.{or_nothing}
@@ -13,7 +14,8 @@ use Rattle.av1_order.specs.Steps.{Coding, Step, carries, widened, area, IsFrame,
 use Rattle.av1_order.specs.Places.{IsInPlane, is_covered, frame_before, told_before, OrderByPlaces}
 use Rattle.av1_order.proofs.Nodes.{node_side}
 use Rattle.av1_order.proofs.Leaves.{starts, IsEven, IsOnGrid, IsInFrame, Follows}
-use Rattle.av1_order.proofs.Units.{in_node, opens, closes, in_area, Written, written-from, written-to, written-append, once_written, all_written, closed, covered_before, covered_after}
+use Rattle.av1_order.proofs.Units.{in_node, opens, closes, in_area, Written, written-from, written-to, written-append, once_written, all_written, closed}
+use Rattle.av1_order.proofs.Units.{covered_before, covered_after}
 use Rattle.av1_order.proofs.Halved.{last, IsWhole, last_in_leaf, carried, not_carried, large_opens, small_opens}
 use Rattle.av1_order.proofs.Grid.{IsUnitBlock, unit_block, large_grid, small_grid, held_in_node}
 use Rattle.av1_order.proofs.Frame.{frame_follows, end_is_all}
@@ -38,7 +40,8 @@ in_plane sx sy hx hy b g wx wy =
           let ec = one_side b.x b.columns g.even_x (omega arith) in
           let er = one_side b.y b.rows g.even_y (omega arith) in
           record {
-            units = unit_block sx sy hx (omega arith) (widened sx sy b) (small_grid sx sy hx hy b ec er wx wy) (wide_enough b.columns sx) (wide_enough b.rows sy);
+            units = unit_block sx sy hx (omega arith) (widened sx sy b) (small_grid sx sy hx hy b ec er wx wy) (wide_enough b.columns sx)
+                (wide_enough b.rows sy);
             same = small_opens sx sy hx hy b side ec er wx wy;
           }
       | inr ne ↦
@@ -81,12 +84,14 @@ module _ (sx sy width height : ℕ) (hx : sx ≤ 1) (hy : sy ≤ sx) where
           let held = held_in_node sx sy hx hy' w p.units in
           written-from sx sy width height (λ x y. starts l.block (last sx x) (last sy y)) (opens sx sy w)
           (λ x y. starts l.block (last sx x) (last sy y) || holds_cell l (last sx x) (last sy y)) (coded l.content.is_inter) (λ x y here. p.same x y)
-          (written-to sx sy width height (opens sx sy w) (closes sx sy w) (λ x y. starts l.block (last sx x) (last sy y) || holds_cell l (last sx x) (last sy y)) (coded l.content.is_inter)
+          (written-to sx sy width height (opens sx sy w) (closes sx sy w)
+          (λ x y. starts l.block (last sx x) (last sy y) || holds_cell l (last sx x) (last sy y)) (coded l.content.is_inter)
           (inner held (tiled e) l.content.is_inter)
           (λ x y here.
           closed sx sy width height w held x y ∙ ap (λ o. o || in_area sx sy w x y) (sym (p.same x y))
           ∙ ap (λ i. starts l.block (last sx x) (last sy y) || i) (sym (last_in_leaf sx sy hx hy' l.block whole.0 whole.1 x y))))
-      go false e = λ x y here. or_nothing (starts l.block (last sx x) (last sy y)) (holds_cell l (last sx x) (last sy y)) (not_carried sx sy hx hy' l.block e x y)
+      go false e =
+          λ x y here. or_nothing (starts l.block (last sx x) (last sy y)) (holds_cell l (last sx x) (last sy y)) (not_carried sx sy hx hy' l.block e x y)
 
   in_frame : (s t w : ℕ) → s ≤ 1 → w % 2 ≡ 0 → t < w / 2 ^ s → last s t < w
   in_frame zero t w h e lt = omega arith
@@ -98,7 +103,8 @@ module _ (sx sy width height : ℕ) (hx : sx ≤ 1) (hy : sy ≤ sx) where
     framed x y here =
         record { column = in_frame sx x width hx even_width here.column; row = in_frame sy y height (omega arith) even_height here.row }
 
-    pub plane_written : (ls : List (Placed Coding)) (d e : ℕ → ℕ → Bool) → Follows width height d ls e → AllByRecursion (λ l. carries sx sy l.block ≡ true → IsTiled sx sy l) ls
+    pub plane_written : (ls : List (Placed Coding)) (d e : ℕ → ℕ → Bool) → Follows width height d ls e →
+        AllByRecursion (λ l. carries sx sy l.block ≡ true → IsTiled sx sy l) ls
         → Written sx sy width height (λ x y. d (last sx x) (last sy y)) (plane_steps sx sy width height ls) (λ x y. e (last sx x) (last sy y))
     plane_written [] d e f tiled = λ x y here. f (last sx x) (last sy y) (framed x y here)
     plane_written (l ∷ ls) d e f tiled =
@@ -107,7 +113,8 @@ module _ (sx sy width height : ℕ) (hx : sx ≤ 1) (hy : sy ≤ sx) where
         (written-from sx sy width height (λ x y. d (last sx x) (last sy y)) (λ x y. starts l.block (last sx x) (last sy y))
         (λ x y. d (last sx x) (last sy y) || holds_cell l (last sx x) (last sy y)) (leaf_steps sx sy width height l)
         (λ x y here. f.0 (last sx x) (last sy y) (framed x y here))
-        (written-to sx sy width height (λ x y. starts l.block (last sx x) (last sy y)) (λ x y. starts l.block (last sx x) (last sy y) || holds_cell l (last sx x) (last sy y))
+        (written-to sx sy width height (λ x y. starts l.block (last sx x) (last sy y))
+        (λ x y. starts l.block (last sx x) (last sy y) || holds_cell l (last sx x) (last sy y))
         (λ x y. d (last sx x) (last sy y) || holds_cell l (last sx x) (last sy y)) (leaf_steps sx sy width height l) (leaf_written l f.1 tiled.0)
         (λ x y here. ap (λ o. o || holds_cell l (last sx x) (last sy y)) (sym (f.0 (last sx x) (last sy y) (framed x y here))))))
         (plane_written ls (λ x y. d x y || holds_cell l x y) e f.2 tiled.1)
@@ -142,7 +149,8 @@ module _ (sx sy width height superblocks : ℕ) (leaves : List (Placed Coding)) 
   pub told_by_places : (k : ℕ) (none : Step) → k < length (plane_steps sx sy width height leaves) → (x y : ℕ) → IsInPlane sx sy width height x y
       → frame_before sx sy (plane_steps sx sy width height leaves) k x y ≡ told_before sx sy (get_or (plane_steps sx sy width height leaves) k none) x y
   told_by_places k none lt x y here =
-      covered_before sx sy width height (λ x y. false) (λ x y. o.end (last sx x) (last sy y)) (plane_steps sx sy width height leaves) k none steps_written lt x y here
+      covered_before sx sy width height (λ x y. false) (λ x y. o.end (last sx x) (last sy y))
+      (plane_steps sx sy width height leaves) k none steps_written lt x y here
 
   -- and all steps have written each unit of the visible plane
   pub units_are_written : superblocks ≡ superblock_count width height → (x y : ℕ) → IsInPlane sx sy width height x y

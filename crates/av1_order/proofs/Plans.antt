@@ -107,7 +107,8 @@ plans_are_frames h p leaves trees frame valid ordered =
     let w = frame.width in
     let v = frame.height in
     let some = frame.some in
-    let tiled = λ (l : LeafValue) (e : fault_of h l ≡ None) (carried : carries (xdec h p) (ydec h p) (cells_of l) ≡ true). leaf_tiled h p l (valid_leaf h l e) in
+    let tiled = λ (l : LeafValue) (e : fault_of h l ≡ None) (carried : carries (xdec h p) (ydec h p) (cells_of l) ≡ true). leaf_tiled h p l (valid_leaf h l e)
+    in
     record {
       halved_x = halved_x h p;
       halved_y = halved_y h p;
@@ -117,5 +118,6 @@ plans_are_frames h p leaves trees frame valid ordered =
       tiled =
           rw ordered
           (All-map (λ l. carries (xdec h p) (ydec h p) l.block ≡ true → IsTiled (xdec h p) (ydec h p) l) (placed (coding_in h p)) leaves
-          (All-weaker (λ l. fault_of h l ≡ None) (λ l. carries (xdec h p) (ydec h p) (cells_of l) ≡ true → IsTiled (xdec h p) (ydec h p) (placed (coding_in h p) l)) tiled leaves valid));
+          (All-weaker (λ l. fault_of h l ≡ None) (λ l. carries (xdec h p) (ydec h p) (cells_of l) ≡ true →
+          IsTiled (xdec h p) (ydec h p) (placed (coding_in h p) l)) tiled leaves valid));
     }

@@ -22,5 +22,6 @@ pub placed : (x y rx ry w h : ℕ) → Places x y rx ry w h → is_in x y rx ry 
 unfolding is_in
 placed x y rx ry w h p =
     and_from (leb rx x && ltb x (rx + w) && leb ry y) (ltb y (ry + h))
-    (and_from (leb rx x && ltb x (rx + w)) (leb ry y) (and_from (leb rx x) (ltb x (rx + w)) (le-leb rx x p.left) (lt-ltb x (rx + w) p.right)) (le-leb ry y p.top))
+    (and_from (leb rx x && ltb x (rx + w)) (leb ry y) (and_from (leb rx x) (ltb x (rx + w)) (le-leb rx x p.left) (lt-ltb x (rx + w) p.right))
+    (le-leb ry y p.top))
     (lt-ltb y (ry + h) p.bottom)

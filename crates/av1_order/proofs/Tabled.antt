@@ -43,7 +43,8 @@ is_tabled sx sy width height before s b t sizes lies asked answered =
 
 -- of leaves in order, whatever trees they are of
 pub told_where_cut : (sx sy width height superblocks : ℕ) (leaves : List (Placed Coding)) → IsOrdered sx sy width height superblocks leaves
-    → (before : List Step) (s : Step) (after : List Step) → plane_steps sx sy width height leaves ≡ before ++ s ∷ after → IsToldAtCut sx sy width height before s
+    → (before : List Step) (s : Step) (after : List Step) → plane_steps sx sy width height leaves ≡ before ++ s ∷ after →
+    IsToldAtCut sx sy width height before s
 told_where_cut sx sy width height superblocks leaves o before s after cut =
     let low : sy ≤ 1 = omega (arith, o.halved_x, o.halved_y) in
     let lies = placed_at_cut sx sy width height superblocks leaves o before s after cut in

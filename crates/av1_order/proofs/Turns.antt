@@ -1,5 +1,6 @@
 -- The availability calls, asked at a transform block of a plan, answer what is written.
-use Rattle.std.proofs.Common.{◌≡◌, ℕ, ◌+◌, ◌-◌, ◌*◌, ◌/◌, ◌%◌, ◌^◌, ◌<◌, ◌≤◌, min, Bool, true, false, ◌&&◌, ◌||◌, List, ◌∷◌, ◌++◌, Some, inl, inr, refl, sym, ◌∙◌, ap, arith}
+use Rattle.std.proofs.Common.{◌≡◌, ℕ, ◌+◌, ◌-◌, ◌*◌, ◌/◌, ◌%◌, ◌^◌, ◌<◌, ◌≤◌, min, Bool, true, false, ◌&&◌, ◌||◌, List, ◌∷◌, ◌++◌, Some, inl, inr, refl, sym}
+use Rattle.std.proofs.Common.{◌∙◌, ap, arith}
 use Rattle.std.specs.Prelude.{nat_lt}
 use Rattle.std.proofs.lemmas.Bool.{cases_lt, le-ltb, lt-ltb, ltb-true}
 use Rattle.av1_blocks.specs.declared.partition.BlockSize.{BlockSize}
@@ -22,7 +23,8 @@ use Rattle.av1_order.specs.Asked.{IsAsked, IsAnswered}
 use Rattle.av1_order.specs.Plans.{IsWholeFrame, is_inter}
 use Rattle.av1_order.specs.Samples.{EdgesAreTold, left, top, width_of, height_of, is_covered_sample}
 use Rattle.av1_order.specs.Steps.{Step}
-use Rattle.av1_order.specs.Turns.{EdgeIsAnswered, EdgesAreAnswered, IsCodedPlan, PlansAreWritten, SidesAreAnswered, SidesAreKnown, answer_above_right, answer_below_left, is_written, leaf_block, steps_before, tx_in}
+use Rattle.av1_order.specs.Turns.{EdgeIsAnswered, EdgesAreAnswered, IsCodedPlan, PlansAreWritten, SidesAreAnswered, SidesAreKnown, answer_above_right}
+use Rattle.av1_order.specs.Turns.{answer_below_left, is_written, leaf_block, steps_before, tx_in}
 use Rattle.av1_order.proofs.Asked.{cell_in_block, have_at, is_asked}
 use Rattle.av1_order.proofs.Blocks.{counted, high_at, is_there, left_at, numbered_at, sizes_at, step_at, top_at, wide_at}
 use Rattle.av1_order.proofs.Cuts.{cut_grid, cut_valid}
@@ -76,8 +78,10 @@ in_run w t c r i ew et h = omega arith
 
 module _ (h : Header) (p : ℕ) (l : LeafValue) (frame : IsWholeFrame h) (grid : IsOnGrid h l) (valid : IsValidLeaf h l) (n : ℕ) (b : TransformBlock)
     (at : leaf_block h p l n ≡ Some b) (before : List Step)
-    (asked : IsAsked (xdec h p) (ydec h p) (h.width / 4) (h.height / 4) before (step_at h p l frame grid valid n) (supersample_chroma_bsize l.size (xdec h p) (ydec h p)) (tx_in h p l))
-    (answered : IsAnswered (xdec h p) (ydec h p) (h.width / 4) (h.height / 4) before (step_at h p l frame grid valid n) (supersample_chroma_bsize l.size (xdec h p) (ydec h p)) (tx_in h p l))
+    (asked : IsAsked (xdec h p) (ydec h p) (h.width / 4) (h.height / 4) before (step_at h p l frame grid valid n)
+    (supersample_chroma_bsize l.size (xdec h p) (ydec h p)) (tx_in h p l))
+    (answered : IsAnswered (xdec h p) (ydec h p) (h.width / 4) (h.height / 4) before (step_at h p l frame grid valid n)
+    (supersample_chroma_bsize l.size (xdec h p) (ydec h p)) (tx_in h p l))
     (told : EdgesAreTold (xdec h p) (ydec h p) (h.width / 4) (h.height / 4) before (step_at h p l frame grid valid n))
     (lies : IsPlaced (xdec h p) (ydec h p) (h.width / 4) (h.height / 4) (step_at h p l frame grid valid n)) where
   abbrev s : Step
@@ -134,13 +138,15 @@ module _ (h : Header) (p : ℕ) (l : LeafValue) (frame : IsWholeFrame h) (grid :
       ≡ (has_before s.down (l.y / 4) (ydec h p) && nat_lt (b.x + tx_width (tx_in h p l)) (plane_width h p)
       && table_top_right size (l.x / 4) (l.y / 4) (transform_columns (tx_in h p l)) s.down s.right (xdec h p))
   above_is =
-      ap (λ a. takes_above_right l.size (l.x / 4) (l.y / 4) (tx_in h p l) (n % a) (n / a) (xdec h p) (ydec h p) b.x (plane_width h p)) (across_is h p l frame grid valid)
+      ap (λ a. takes_above_right l.size (l.x / 4) (l.y / 4) (tx_in h p l) (n % a) (n / a) (xdec h p) (ydec h p) b.x (plane_width h p))
+      (across_is h p l frame grid valid)
 
   below_is : answer_below_left h p l n b
       ≡ (nat_lt (b.y + tx_height (tx_in h p l)) (plane_height h p) && has_before s.right (l.x / 4) (xdec h p)
       && table_bottom_left size (l.x / 4) (l.y / 4) (transform_rows (tx_in h p l)) s.down s.right (xdec h p) (ydec h p))
   below_is =
-      ap (λ a. takes_below_left l.size (l.x / 4) (l.y / 4) (tx_in h p l) (n % a) (n / a) (xdec h p) (ydec h p) b.y (plane_height h p)) (across_is h p l frame grid valid)
+      ap (λ a. takes_below_left l.size (l.x / 4) (l.y / 4) (tx_in h p l) (n % a) (n / a) (xdec h p) (ydec h p) b.y (plane_height h p))
+      (across_is h p l frame grid valid)
 
   pub edge_answered : EdgeIsAnswered h p l before n b
   edge_answered =
@@ -186,7 +192,8 @@ module _ (h : Header) (p : ℕ) (l : LeafValue) (frame : IsWholeFrame h) (grid :
             asked.below_left cx cy i (b.x - 1) (b.y + tx_height t + i) held (omega (arith, x_is, some_columns)) (omega (arith, y_is, high)) here
             ∙ sym (table_left i near)
             ∙ sym (below_is ∙ and_turned in_height have_x left_table
-            ∙ both_true have_x in_height left_table (have_at sx s.right cx s.block.x (halved_x h p) refl ∙ lt-ltb 0 (left sx sy s) (omega (arith, x_is, some_columns)))
+            ∙ both_true have_x in_height left_table (have_at sx s.right cx s.block.x (halved_x h p) refl
+            ∙ lt-ltb 0 (left sx sy s) (omega (arith, x_is, some_columns)))
             (lt-ltb (b.y + tx_height t) (plane_height h p) (omega (arith, visible))));
         near = λ x y x1 y1 side in_x in_y.
             told.near x y (omega (arith, x_is, wide, x1)) (omega (arith, y_is, high, y1))
@@ -219,35 +226,42 @@ sides_known h p l before n b edge begun_x begun_y =
     let some = tx_some (tx_in h p l) in
     record {
       above = λ j near.
-          where_both (nat_lt 0 b.y) (nat_lt (b.x + j) (plane_width h p)) (nat_lt (b.y - 1) (plane_height h p)) (is_written h p before (b.x + j) (b.y - 1)) (nat_lt j w || answer_above_right h p l n b)
+          where_both (nat_lt 0 b.y) (nat_lt (b.x + j) (plane_width h p)) (nat_lt (b.y - 1) (plane_height h p)) (is_written h p before (b.x + j) (b.y - 1))
+          (nat_lt j w || answer_above_right h p l n b)
           (λ some_rows visible.
           let row = ltb-true 0 b.y some_rows in
           let column = ltb-true (b.x + j) (plane_width h p) visible in
           let answer = answer_above_right h p l n b in (
             lt-ltb (b.y - 1) (plane_height h p) (omega (arith, begun_y)),
             elim (cases_lt j w) [
-              | inl own ↦ edge.near (b.x + j) (b.y - 1) (omega (arith, own)) (omega (arith, row)) (inr (omega (arith, row))) column (omega (arith, begun_y)) ∙ sym (before_end j w answer own)
+              | inl own ↦ edge.near (b.x + j) (b.y - 1) (omega (arith, own)) (omega (arith, row)) (inr (omega (arith, row))) column (omega (arith, begun_y))
+                  ∙ sym (before_end j w answer own)
               | inr past ↦
                   let place : b.x + j ≡ b.x + w + (j - w) = omega (arith, past) in
-                  ap (λ x. is_written h p before x (b.y - 1)) place ∙ edge.run_above (j - w) (omega (arith, near, past)) row (omega (arith, column, past)) ∙ sym (past_end j w answer past)
+                  ap (λ x. is_written h p before x (b.y - 1)) place ∙ edge.run_above (j - w) (omega (arith, near, past)) row (omega (arith, column, past))
+                  ∙ sym (past_end j w answer past)
             ],
           ));
       left = λ i near.
-          where_both (nat_lt 0 b.x) (nat_lt (b.y + i) (plane_height h p)) (nat_lt (b.x - 1) (plane_width h p)) (is_written h p before (b.x - 1) (b.y + i)) (nat_lt i t || answer_below_left h p l n b)
+          where_both (nat_lt 0 b.x) (nat_lt (b.y + i) (plane_height h p)) (nat_lt (b.x - 1) (plane_width h p)) (is_written h p before (b.x - 1) (b.y + i))
+          (nat_lt i t || answer_below_left h p l n b)
           (λ some_columns visible.
           let column = ltb-true 0 b.x some_columns in
           let row = ltb-true (b.y + i) (plane_height h p) visible in
           let answer = answer_below_left h p l n b in (
             lt-ltb (b.x - 1) (plane_width h p) (omega (arith, begun_x)),
             elim (cases_lt i t) [
-              | inl own ↦ edge.near (b.x - 1) (b.y + i) (omega (arith, column)) (omega (arith, own)) (inl (omega (arith, column))) (omega (arith, begun_x)) row ∙ sym (before_end i t answer own)
+              | inl own ↦ edge.near (b.x - 1) (b.y + i) (omega (arith, column)) (omega (arith, own)) (inl (omega (arith, column))) (omega (arith, begun_x)) row
+                  ∙ sym (before_end i t answer own)
               | inr past ↦
                   let place : b.y + i ≡ b.y + t + (i - t) = omega (arith, past) in
-                  ap (λ y. is_written h p before (b.x - 1) y) place ∙ edge.run_left (i - t) (omega (arith, near, past)) column (omega (arith, row, past)) ∙ sym (past_end i t answer past)
+                  ap (λ y. is_written h p before (b.x - 1) y) place ∙ edge.run_left (i - t) (omega (arith, near, past)) column (omega (arith, row, past))
+                  ∙ sym (past_end i t answer past)
             ],
           ));
       corner = λ column row.
-          edge.near (b.x - 1) (b.y - 1) (omega (arith, column)) (omega (arith, row)) (inl (omega (arith, column))) (omega (arith, begun_x)) (omega (arith, begun_y));
+          edge.near (b.x - 1) (b.y - 1) (omega (arith, column)) (omega (arith, row)) (inl (omega (arith, column))) (omega (arith, begun_x))
+          (omega (arith, begun_y));
     }
 
 module _ (h : Header) (p : ℕ) (earlier : List LeafValue) (l : LeafValue) (later : List LeafValue) (is : IsCodedPlan h p (earlier ++ l ∷ later))

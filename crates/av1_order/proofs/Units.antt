@@ -1,5 +1,6 @@
 -- The steps of one leaf in a plane, over its units.
-use Rattle.std.proofs.Common.{◌≡◌, ℕ, zero, suc, ◌+◌, ◌*◌, ◌/◌, ◌%◌, ◌^◌, ◌<◌, ◌≤◌, Bool, true, false, ◌&&◌, ◌||◌, ltb, List, [], ◌∷◌, ◌++◌, length, get_or, inl, inr, refl, sym, ◌∙◌, ap, arith}
+use Rattle.std.proofs.Common.{◌≡◌, ℕ, zero, suc, ◌+◌, ◌*◌, ◌/◌, ◌%◌, ◌^◌, ◌<◌, ◌≤◌, Bool, true, false, ◌&&◌, ◌||◌, ltb, List, [], ◌∷◌, ◌++◌, length, get_or}
+use Rattle.std.proofs.Common.{inl, inr, refl, sym, ◌∙◌, ap, arith}
 use Rattle.std.specs.Prelude.{nat_lt, if◌then◌else◌}
 use Rattle.std.proofs.Math.Bool.{or-false, or_assoc}
 use Rattle.std.proofs.lemmas.Bool.{and_cases, ltb-false, false_from_ne_true}
@@ -62,7 +63,8 @@ module _ (sx sy width height : ℕ) where
   written-append d e g [] ts f f' = written-from d e g ts f f'
   written-append d e g (s ∷ ss) ts f f' = (f.0, written-append (λ x y. d x y || holds sx sy s x y) e g ss ts f.1 f')
 
-  pub covered_after : (d e : ℕ → ℕ → Bool) (ss : List Step) → Written d ss e → (x y : ℕ) → IsInPlane sx sy width height x y → (d x y || is_covered sx sy ss x y) ≡ e x y
+  pub covered_after : (d e : ℕ → ℕ → Bool) (ss : List Step) → Written d ss e → (x y : ℕ) → IsInPlane sx sy width height x y →
+      (d x y || is_covered sx sy ss x y) ≡ e x y
   covered_after d e [] f x y h = or-false (d x y) ∙ f x y h
   covered_after d e (t ∷ ss) f x y h =
       sym (or_assoc (d x y) (holds sx sy t x y) (is_covered sx sy ss x y)) ∙ covered_after (λ x y. d x y || holds sx sy t x y) e ss f.1 x y h
@@ -72,7 +74,8 @@ module _ (sx sy width height : ℕ) where
   covered_before d e [] k s f lt x y h = absurd (omega arith)
   covered_before d e (t ∷ ss) zero s f lt x y h = or-false (d x y) ∙ f.0 x y h
   covered_before d e (t ∷ ss) (suc k) s f lt x y h =
-      sym (or_assoc (d x y) (holds sx sy t x y) (frame_before sx sy ss k x y)) ∙ covered_before (λ x y. d x y || holds sx sy t x y) e ss k s f.1 (omega arith) x y h
+      sym (or_assoc (d x y) (holds sx sy t x y) (frame_before sx sy ss k x y))
+      ∙ covered_before (λ x y. d x y || holds sx sy t x y) e ss k s f.1 (omega arith) x y h
 
   outside : (a b w h x y : ℕ) → (nat_lt a (width / 2 ^ sx) && nat_lt b (height / 2 ^ sy)) ≡ false → IsInPlane sx sy width height x y → is_in x y a b w h ≡ false
   outside a b w h x y out here =
@@ -97,7 +100,8 @@ module _ (sx sy width height : ℕ) where
 
     module _ (held : (x y : ℕ) → in_area sx sy b x y ≡ true → in_node sx sy b x y ≡ true) where
       step_on : (down right w h x y : ℕ) → right + w ≤ (area sx sy b).columns → down + h ≤ (area sx sy b).rows
-          → (before_at sx sy b h down right x y || is_in x y ((area sx sy b).x + right) ((area sx sy b).y + down) w h) ≡ before_at sx sy b h down (right + w) x y
+          → (before_at sx sy b h down right x y || is_in x y ((area sx sy b).x + right) ((area sx sy b).y + down) w h) ≡
+          before_at sx sy b h down (right + w) x y
       step_on down right w h x y hw hh =
           let a = area sx sy b in
           choose (in_node sx sy b x y) (is_in x y (a.x + right) (a.y + down) w h) (is_before_in_block a.x a.y a.columns a.rows h down right x y)
@@ -128,12 +132,14 @@ module _ (sx sy width height : ℕ) where
           written-append (before_at sx sy b c.rows down right) (before_at sx sy b c.rows down (right + c.columns)) (before_at sx sy b c.rows down a.columns)
           (if nat_lt (a.x + right) (width / 2 ^ sx) && nat_lt (a.y + down) (height / 2 ^ sy) then s ∷ [] else [])
           (row_steps sx sy width height b c down (right + c.columns) n)
-          (kept (before_at sx sy b c.rows down right) (before_at sx sy b c.rows down (right + c.columns)) s (nat_lt (a.x + right) (width / 2 ^ sx) && nat_lt (a.y + down) (height / 2 ^ sy))
+          (kept (before_at sx sy b c.rows down right)
+          (before_at sx sy b c.rows down (right + c.columns)) s (nat_lt (a.x + right) (width / 2 ^ sx) && nat_lt (a.y + down) (height / 2 ^ sy))
           ((λ x y here. refl), (λ x y here. step_on down right c.columns c.rows x y fits hd))
           (λ out x y here. skip down right c.columns c.rows x y fits hd out here))
           (row_written c down (right + c.columns) n next hd)
 
-      block_written : (c : Coding) (down n : ℕ) → ((area sx sy b).columns / c.columns) * c.columns ≡ (area sx sy b).columns → down + n * c.rows ≡ (area sx sy b).rows
+      block_written : (c : Coding) (down n : ℕ) → ((area sx sy b).columns / c.columns) * c.columns ≡ (area sx sy b).columns →
+          down + n * c.rows ≡ (area sx sy b).rows
           → Written (before_at sx sy b c.rows down 0) (block_steps sx sy width height b c down n) (before_at sx sy b c.rows (area sx sy b).rows 0)
       block_written c down zero across e = λ x y here. ap (λ d. before_at sx sy b c.rows d 0 x y) (omega arith)
       block_written c down (suc n) across e =
@@ -146,11 +152,13 @@ module _ (sx sy width height : ℕ) where
           (row_steps sx sy width height b c down 0 (a.columns / c.columns))
           (row_written c down 0 (a.columns / c.columns) (omega (arith, across)) fits)
           (λ x y here. either_way (in_node sx sy b x y) (is_before_in_block a.x a.y a.columns a.rows c.rows down a.columns x y)
-          (is_before_in_block a.x a.y a.columns a.rows c.rows (down + c.rows) 0 x y) (early sx sy b x y) (λ q. row_end a.x a.y a.columns a.rows c.rows down x y fits)))
+          (is_before_in_block a.x a.y a.columns a.rows c.rows (down + c.rows) 0 x y) (early sx sy b x y)
+          (λ q. row_end a.x a.y a.columns a.rows c.rows down x y fits)))
           (block_written c (down + c.rows) n across next)
 
       -- an area that is coded at once, or by transforms
-      pub once_written : Written (opens sx sy b) (record { block = b; right = 0; down = 0; columns = (area sx sy b).columns; rows = (area sx sy b).rows } ∷ []) (closes sx sy b)
+      pub once_written : Written (opens sx sy b) (record { block = b; right = 0; down = 0; columns = (area sx sy b).columns; rows = (area sx sy b).rows } ∷ [])
+          (closes sx sy b)
       unfolding next_before
       once_written =
           let a = area sx sy b in (
@@ -158,7 +166,8 @@ module _ (sx sy width height : ℕ) where
             (λ x y here.
                 ap (λ q. q || is_in x y (a.x + 0) (a.y + 0) a.columns a.rows) (opened a.rows x y)
                 ∙ step_on 0 0 a.columns a.rows x y (omega arith) (omega arith)
-                ∙ either_way (in_node sx sy b x y) (is_before_in_block a.x a.y a.columns a.rows a.rows 0 (0 + a.columns) x y) (ltb y a.y || ltb x a.x || in_area sx sy b x y) (early sx sy b x y)
+                ∙ either_way (in_node sx sy b x y) (is_before_in_block a.x a.y a.columns a.rows a.rows 0 (0 + a.columns) x y)
+                (ltb y a.y || ltb x a.x || in_area sx sy b x y) (early sx sy b x y)
                 (λ q. block_whole a.x a.y a.columns a.rows x y)),
           )
 
@@ -166,8 +175,10 @@ module _ (sx sy width height : ℕ) where
           → Written (opens sx sy b) (block_steps sx sy width height b c 0 ((area sx sy b).rows / c.rows)) (closes sx sy b)
       all_written c wide high across along =
           let a = area sx sy b in
-          written-from (opens sx sy b) (before_at sx sy b c.rows 0 0) (closes sx sy b) (block_steps sx sy width height b c 0 (a.rows / c.rows)) (λ x y here. opened c.rows x y)
-          (written-to (before_at sx sy b c.rows 0 0) (before_at sx sy b c.rows a.rows 0) (closes sx sy b) (block_steps sx sy width height b c 0 (a.rows / c.rows))
+          written-from (opens sx sy b) (before_at sx sy b c.rows 0 0) (closes sx sy b) (block_steps sx sy width height b c 0 (a.rows / c.rows))
+          (λ x y here. opened c.rows x y)
+          (written-to (before_at sx sy b c.rows 0 0) (before_at sx sy b c.rows a.rows 0) (closes sx sy b)
+          (block_steps sx sy width height b c 0 (a.rows / c.rows))
           (block_written c 0 (a.rows / c.rows) (whole_multiple a.columns c.columns wide across) (omega (arith, whole_multiple a.rows c.rows high along)))
           (λ x y here. either_way (in_node sx sy b x y) (is_before_in_block a.x a.y a.columns a.rows c.rows a.rows 0 x y)
           (ltb y a.y || ltb x a.x || in_area sx sy b x y) (early sx sy b x y) (λ q. block_end a.x a.y a.columns a.rows c.rows x y)))
@@ -175,4 +186,5 @@ module _ (sx sy width height : ℕ) where
       pub closed : (x y : ℕ) → closes sx sy b x y ≡ (opens sx sy b x y || in_area sx sy b x y)
       closed x y =
           let a = area sx sy b in
-          sym (choose (in_node sx sy b x y) (in_area sx sy b x y) (ltb y a.y || ltb x a.x) (ltb y a.y || ltb x a.x || in_area sx sy b x y) (early sx sy b x y) refl (held x y))
+          sym (choose (in_node sx sy b x y) (in_area sx sy b x y) (ltb y a.y || ltb x a.x) (ltb y a.y || ltb x a.x || in_area sx sy b x y)
+          (early sx sy b x y) refl (held x y))

@@ -37,7 +37,8 @@ large_covers : (h : Header) (p : ℕ) (l : LeafValue) → is_inter_size l.size �
 unfolding is_inter_size covers_plane carries_chroma
 large_covers h p l e =
     let (wide, high) = and_parts (nat_le 8 (block_width l.size)) (nat_le 8 (block_height l.size)) e in
-    second_true (p == 0) _ (no_small_side _ _ _ _ (block_width l.size) (block_height l.size) (leb-true 8 (block_width l.size) wide) (leb-true 8 (block_height l.size) high))
+    second_true (p == 0) _ (no_small_side _ _ _ _ (block_width l.size) (block_height l.size) (leb-true 8 (block_width l.size) wide)
+    (leb-true 8 (block_height l.size) high))
 
 inter_is_large : (size : BlockSize) (kind : LeafKind) → is_inter kind ≡ true → has_modes size kind ≡ true → is_inter_size size ≡ true
 unfolding has_modes
@@ -45,7 +46,8 @@ inter_is_large size (Intra mode step chroma) e modes = absurd (true≢false (sym
 inter_is_large size (Single mode reference mv) e modes = modes
 inter_is_large size (Compound mode references mvs) e modes = modes
 
-coded_whole : (carried inter : Bool) → carried ≡ true → inter ≡ true → (once by_blocks : List Step) → (if carried then (if inter then once else by_blocks) else []) ≡ once
+coded_whole : (carried inter : Bool) → carried ≡ true → inter ≡ true → (once by_blocks : List Step) →
+    (if carried then (if inter then once else by_blocks) else []) ≡ once
 coded_whole true true e f once by_blocks = refl
 coded_whole true false e f once by_blocks = absurd (true≢false (sym f))
 coded_whole false inter e f once by_blocks = absurd (true≢false (sym e))
@@ -122,7 +124,8 @@ module _ (h : Header) (p : ℕ) (l : LeafValue) (frame : IsWholeFrame h) (grid :
       sy : ℕ
       sy = ydec h p
 
-      inside : is_in x y (left (xdec h p) (ydec h p) (whole_step h p l)) (top (xdec h p) (ydec h p) (whole_step h p l)) (width_of (xdec h p) (ydec h p) (whole_step h p l)) (height_of (xdec h p) (ydec h p) (whole_step h p l)) ≡ true
+      inside : is_in x y (left (xdec h p) (ydec h p) (whole_step h p l)) (top (xdec h p) (ydec h p) (whole_step h p l))
+          (width_of (xdec h p) (ydec h p) (whole_step h p l)) (height_of (xdec h p) (ydec h p) (whole_step h p l)) ≡ true
       inside =
           let u = units_in h p l frame grid valid in
           let c = coding_in h p l in
@@ -136,7 +139,8 @@ module _ (h : Header) (p : ℕ) (l : LeafValue) (frame : IsWholeFrame h) (grid :
           let column = ends_within (column_of h p l frame grid valid n) c.columns many u.columns (column_within n many some) across in
           let row = ends_within (row_of h p l frame grid valid n) c.rows rows u.rows (row_within n rows many count) along in
           in_part x y b.x b.y (tx_width (tx_in h p l)) (tx_height (tx_in h p l)) _ _ _ _
-          (omega (arith, left_at h p l frame grid valid n b at)) (omega (arith, left_at h p l frame grid valid n b at, wide_at h p l frame grid valid n, column))
+          (omega (arith, left_at h p l frame grid valid n b at))
+          (omega (arith, left_at h p l frame grid valid n b at, wide_at h p l frame grid valid n, column))
           (omega (arith, top_at h p l frame grid valid n b at)) (omega (arith, top_at h p l frame grid valid n b at, high_at h p l frame grid valid n, row)) e
         where
           some_columns : (n r a : ℕ) → n < r * a → 0 < a

@@ -1,6 +1,7 @@
 -- What is asked of the availability calls: what is written above right of a transform, and below left of it.
 -- AV1 specification: transform block syntax and clear block decoded flags function.
-use Rattle.std.specs.Prelude.{◌≡◌, true, ℕ, Bool, ◌+◌, ◌-◌, ◌*◌, ◌/◌, ◌%◌, ◌^◌, ◌<◌, nat_lt, ◌&&◌, ◌||◌, List, take, length, get_or}
+use Rattle.std.specs.Prelude.{◌≡◌, true, ℕ, Bool, ◌+◌, ◌-◌, ◌*◌, ◌/◌, ◌%◌, ◌^◌, ◌<◌, nat_lt, ◌&&◌, ◌||◌, List, take}
+use Rattle.std.specs.Prelude.{length, get_or}
 use Rattle.av1_blocks.specs.declared.partition.BlockSize.{BlockSize}
 use Rattle.av1_blocks.specs.declared.transform.TxSize.{TxSize}
 use Rattle.av1_plan.specs.Tree.{Tree}
@@ -18,8 +19,9 @@ pub record HasSizes (s : Step) (b : BlockSize) (t : TxSize) : Type 0 where
   pub high : s.rows ≡ transform_rows t
 
 module _ (sx sy width height : ℕ) where
-  -- The step is one of the equal transforms of its block. Put with whichever cell of the block, the questions on the units above right of it
-  -- and below left of it are answered by what the steps before it have written of the visible plane.
+  -- The step is one of the equal transforms of its block. Put with whichever cell of the block, the questions on the
+  -- units above right of it and below left of it are answered by what the steps before it have written of the visible
+  -- plane.
   pub record IsAsked (before : List Step) (s : Step) (b : BlockSize) (t : TxSize) : Type 0 where
     pub tile : IsTile b t s.down s.right sx sy
     pub above_right : (cx cy i x y : ℕ) → is_in cx cy s.block.x s.block.y s.block.columns s.block.rows ≡ true
@@ -31,35 +33,45 @@ module _ (sx sy width height : ℕ) where
 
   -- the sample at x of the row above y is visible and in one of the steps
   abbrev pub above_before : List Step → (x y : ℕ) → Bool
-  above_before before x y = nat_lt 0 y && nat_lt x (4 * (width / 2 ^ sx)) && nat_lt (y - 1) (4 * (height / 2 ^ sy)) && is_covered_sample sx sy before x (y - 1)
+  above_before before x y = nat_lt 0 y && nat_lt x (4 * (width / 2 ^ sx)) && nat_lt (y - 1) (4 * (height / 2 ^ sy))
+      && is_covered_sample sx sy before x (y - 1)
 
   -- so is the sample at y of the column left of x
   abbrev pub beside_before : List Step → (x y : ℕ) → Bool
-  beside_before before x y = nat_lt 0 x && nat_lt y (4 * (height / 2 ^ sy)) && nat_lt (x - 1) (4 * (width / 2 ^ sx)) && is_covered_sample sx sy before (x - 1) y
+  beside_before before x y = nat_lt 0 x && nat_lt y (4 * (height / 2 ^ sy)) && nat_lt (x - 1) (4 * (width / 2 ^ sx))
+      && is_covered_sample sx sy before (x - 1) y
 
-  -- a transform has samples above it (or left of it): it isn't in the block's first row, or the leaf isn't in the first row of the plane's units
+  -- a transform has samples above it (or left of it): it isn't in the block's first row, or the leaf isn't in the first
+  -- row of the plane's units
   abbrev pub have : (s offset cell : ℕ) → Bool
   have s offset cell = nat_lt 0 offset || nat_lt s cell
 
-  -- Put with the leaf's cell, and with what places tell of the frame's sides, they are answered by what is visible and written.
+  -- Put with the leaf's cell, and with what places tell of the frame's sides, they are answered by what is visible and
+  -- written.
   pub record IsAnswered (before : List Step) (s : Step) (b : BlockSize) (t : TxSize) : Type 0 where
     pub top_right : (cx cy : ℕ) → cx - cx % 2 ^ sx ≡ s.block.x → cy - cy % 2 ^ sy ≡ s.block.y
-        → (have sy s.down cy && nat_lt (left sx sy s + width_of sx sy s) (4 * (width / 2 ^ sx)) && top_right_before b cx cy t s.down s.right sx sy 0)
+        → (have sy s.down cy && nat_lt (left sx sy s + width_of sx sy s) (4 * (width / 2 ^ sx))
+        && top_right_before b cx cy t s.down s.right sx sy 0)
         ≡ above_before before (left sx sy s + width_of sx sy s) (top sx sy s)
     pub bottom_left : (cx cy : ℕ) → cx - cx % 2 ^ sx ≡ s.block.x → cy - cy % 2 ^ sy ≡ s.block.y
-        → (have sx s.right cx && nat_lt (top sx sy s + height_of sx sy s) (4 * (height / 2 ^ sy)) && bottom_left_before b cx cy t s.down s.right sx sy 0)
+        → (have sx s.right cx && nat_lt (top sx sy s + height_of sx sy s) (4 * (height / 2 ^ sy))
+        && bottom_left_before b cx cy t s.down s.right sx sy 0)
         ≡ beside_before before (left sx sy s) (top sx sy s + height_of sx sy s)
 
 -- Each step of each plane of each frame is so asked,
 abbrev pub EdgesAsAsked : Type 0
 EdgesAsAsked =
-    (sx sy width height : ℕ) (trees : List (Tree Coding 4)) → IsFrame sx sy width height trees → (k : ℕ) (none : Step) → k < length (steps_of sx sy width height trees)
+    (sx sy width height : ℕ) (trees : List (Tree Coding 4)) → IsFrame sx sy width height trees → (k : ℕ) (none : Step) →
+    k < length (steps_of sx sy width height trees)
     → (b : BlockSize) (t : TxSize) → HasSizes (get_or (steps_of sx sy width height trees) k none) b t
-    → IsAsked sx sy width height (take k (steps_of sx sy width height trees)) (get_or (steps_of sx sy width height trees) k none) b t
+    → IsAsked sx sy width height (take k (steps_of sx sy width height trees))
+    (get_or (steps_of sx sy width height trees) k none) b t
 
 -- and so answered.
 abbrev pub CallsAnswerOrder : Type 0
 CallsAnswerOrder =
-    (sx sy width height : ℕ) (trees : List (Tree Coding 4)) → IsFrame sx sy width height trees → (k : ℕ) (none : Step) → k < length (steps_of sx sy width height trees)
+    (sx sy width height : ℕ) (trees : List (Tree Coding 4)) → IsFrame sx sy width height trees → (k : ℕ) (none : Step) →
+    k < length (steps_of sx sy width height trees)
     → (b : BlockSize) (t : TxSize) → HasSizes (get_or (steps_of sx sy width height trees) k none) b t
-    → IsAnswered sx sy width height (take k (steps_of sx sy width height trees)) (get_or (steps_of sx sy width height trees) k none) b t
+    → IsAnswered sx sy width height (take k (steps_of sx sy width height trees))
+    (get_or (steps_of sx sy width height trees) k none) b t

@@ -1,6 +1,7 @@
 -- Which luma samples chroma from luma reads, and that they are written.
 -- AV1 specification: predict chroma from luma process; transform block syntax (MaxLumaW, MaxLumaH).
-use Rattle.std.specs.Prelude.{◌≡◌, true, ℕ, ◌+◌, ◌-◌, ◌*◌, ◌/◌, ◌^◌, ◌<◌, ◌≤◌, min, max, ◌==◌, nat_le, ◌&&◌, if◌then◌else◌, List, [], ◌∷◌, ◌++◌}
+use Rattle.std.specs.Prelude.{◌≡◌, true, ℕ, ◌+◌, ◌-◌, ◌*◌, ◌/◌, ◌^◌, ◌<◌, ◌≤◌, min, max, ◌==◌, nat_le, ◌&&◌}
+use Rattle.std.specs.Prelude.{if◌then◌else◌, List, [], ◌∷◌, ◌++◌}
 use Rattle.std.specs.Int.{next_multiple_of}
 use Rattle.av1_blocks.specs.Blocks.{block_width, block_height}
 use Rattle.av1_blocks.specs.Transforms.{tx_width, tx_height}
@@ -10,7 +11,8 @@ use Rattle.av1_plan.specs.Geometry.{xdec, ydec, carries_chroma, plane_size}
 use Rattle.av1_plan.specs.Plan.{LeafValue}
 use Rattle.av1_order.specs.Turns.{IsCodedPlan, is_written, leaves_steps}
 
--- Along one direction, in luma samples: chroma is halved there where s is 1. The leaf has a side of this length, and begins at this place.
+-- Along one direction, in luma samples: chroma is halved there where s is 1. The leaf has a side of this length, and
+-- begins at this place.
 module _ (s side place : ℕ) where
   -- where the luma that is read begins: where the side is 4 and the direction halved, at the cell before the leaf's
   abbrev pub luma_start : ℕ
@@ -34,13 +36,17 @@ module _ (s side place : ℕ) where
 abbrev pub ReadsWritten : Header → LeafValue → List LeafValue → (c r : ℕ) → Type 0
 ReadsWritten h l leaves c r =
     (i j : ℕ) → i < 2 ^ xdec h 1 → j < 2 ^ ydec h 1
-    → is_written h 0 (leaves_steps h 0 leaves) (luma_place (xdec h 1) (block_width l.size) l.x h.width (tx_width l.tx_size) c i)
+    → is_written h 0 (leaves_steps h 0 leaves)
+    (luma_place (xdec h 1) (block_width l.size) l.x h.width (tx_width l.tx_size) c i)
     (luma_place (ydec h 1) (block_height l.size) l.y h.height (tx_height l.tx_size) r j)
     ≡ true
 
--- It is so of each leaf that carries chroma and has no side past 32, once its own luma steps and those of the leaves before it are done.
+-- It is so of each leaf that carries chroma and has no side past 32, once its own luma steps and those of the leaves
+-- before it are done.
 abbrev pub LumaIsWritten : Type 0
 LumaIsWritten =
-    (h : Header) (earlier : List LeafValue) (l : LeafValue) (later : List LeafValue) → IsCodedPlan h 0 (earlier ++ l ∷ later)
+    (h : Header) (earlier : List LeafValue) (l : LeafValue) (later : List LeafValue) →
+    IsCodedPlan h 0 (earlier ++ l ∷ later)
     → carries_chroma h l.x l.y l.size ≡ true → block_width l.size ≤ 32 → block_height l.size ≤ 32 → IsQuarterInside h l
-    → (c r : ℕ) → c < block_width (plane_size h l.size 1) → r < block_height (plane_size h l.size 1) → ReadsWritten h l (earlier ++ l ∷ []) c r
+    → (c r : ℕ) → c < block_width (plane_size h l.size 1) → r < block_height (plane_size h l.size 1) →
+    ReadsWritten h l (earlier ++ l ∷ []) c r

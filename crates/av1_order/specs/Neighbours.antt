@@ -1,6 +1,7 @@
--- Which leaf holds a sample of a plane, and how the neighbours of a leaf are found from a record that is kept for each cell.
--- AV1 specification: intra filter type process.
-use Rattle.std.specs.Prelude.{◌≡◌, true, ℕ, Bool, ◌+◌, ◌-◌, ◌*◌, ◌/◌, ◌^◌, ◌<◌, ◌&&◌, if◌then◌else◌, None, Option, Some, is_some, List, ◌∷◌, ◌++◌, find, fold, count_by}
+-- Which leaf holds a sample of a plane, and how the neighbours of a leaf are found from a record that is kept for each
+-- cell. AV1 specification: intra filter type process.
+use Rattle.std.specs.Prelude.{◌≡◌, true, ℕ, Bool, ◌+◌, ◌-◌, ◌*◌, ◌/◌, ◌^◌, ◌<◌, ◌&&◌, if◌then◌else◌, None, Option, Some}
+use Rattle.std.specs.Prelude.{is_some, List, ◌∷◌, ◌++◌, find, fold, count_by}
 use Rattle.av1_blocks.specs.Blocks.{block_width, block_height}
 use Rattle.av1_plan.specs.declared.header.Header.{Header}
 use Rattle.av1_plan.specs.CodingOrder.{IsOnGrid, cells_of}
@@ -15,11 +16,13 @@ use Rattle.av1_order.specs.Turns.{IsCodedPlan}
 abbrev pub leaf_holds : LeafValue → (cx cy : ℕ) → Bool
 leaf_holds l cx cy = is_in cx cy (cells_of l).x (cells_of l).y (cells_of l).columns (cells_of l).rows
 
--- Along one direction, which is halved where s is 1: the last cell of the unit of 4 samples that holds place z of a plane.
+-- Along one direction, which is halved where s is 1: the last cell of the unit of 4 samples that holds place z of a
+-- plane.
 abbrev pub last_cell : (s z : ℕ) → ℕ
 last_cell s z = z / 4 * 2 ^ s + (2 ^ s - 1)
 
--- The leaf that a record kept for each cell shows there, once the leaves, one after the other, have each been noted in all of their cells.
+-- The leaf that a record kept for each cell shows there, once the leaves, one after the other, have each been noted in
+-- all of their cells.
 abbrev pub noted : List LeafValue → (cx cy : ℕ) → Option LeafValue
 noted leaves cx cy = fold (λ shown l. if leaf_holds l cx cy then Some l else shown) None leaves
 
@@ -34,11 +37,12 @@ module _ (h : Header) (p : ℕ) where
   abbrev pub area_of : List LeafValue → (x y : ℕ) → Option LeafValue
   area_of leaves x y = find (λ l. in_area l x y) leaves
 
-  -- The leaves before one that covers a part of the plane: of each visible sample whose leaf is among them the record shows that leaf, and of
-  -- every other nothing. Where there are samples above the leaf's area, the one above its first sample lies in an area of theirs; and so to
-  -- the left.
+  -- The leaves before one that covers a part of the plane: of each visible sample whose leaf is among them the record
+  -- shows that leaf, and of every other nothing. Where there are samples above the leaf's area, the one above its first
+  -- sample lies in an area of theirs; and so to the left.
   pub record NeighboursAreNoted (earlier : List LeafValue) (l : LeafValue) : Type 0 where
-    pub shown : (x y : ℕ) → x < plane_width h p → y < plane_height h p → noted earlier (last_cell (xdec h p) x) (last_cell (ydec h p) y) ≡ area_of earlier x y
+    pub shown : (x y : ℕ) → x < plane_width h p → y < plane_height h p →
+        noted earlier (last_cell (xdec h p) x) (last_cell (ydec h p) y) ≡ area_of earlier x y
     pub above :
         let a = plane_area h l.x l.y l.size l.tx_size p in 0 < a.y → is_some (area_of earlier a.x (a.y - 1)) ≡ true
     pub beside :
@@ -53,7 +57,8 @@ AreasAreCells =
 -- Each visible sample of a plan lies in the area of exactly one leaf.
 abbrev pub AreasTile : Type 0
 AreasTile =
-    (h : Header) (p : ℕ) (leaves : List LeafValue) → IsCodedPlan h p leaves → (x y : ℕ) → x < plane_width h p → y < plane_height h p
+    (h : Header) (p : ℕ) (leaves : List LeafValue) → IsCodedPlan h p leaves → (x y : ℕ) → x < plane_width h p →
+    y < plane_height h p
     → count_by (λ l. in_area h p l x y) leaves ≡ 1
 
 -- The last cell of each visible sample's unit lies in the frame, so that a record of the frame's cells has it.
@@ -65,5 +70,6 @@ LastCellsLieInside =
 -- At each leaf of a plan that covers a part of the plane, the record of the leaves before it shows its neighbours.
 abbrev pub LeavesFindNeighbours : Type 0
 LeavesFindNeighbours =
-    (h : Header) (p : ℕ) (earlier : List LeafValue) (l : LeafValue) (later : List LeafValue) → IsCodedPlan h p (earlier ++ l ∷ later)
+    (h : Header) (p : ℕ) (earlier : List LeafValue) (l : LeafValue) (later : List LeafValue) →
+    IsCodedPlan h p (earlier ++ l ∷ later)
     → covers_plane h l.x l.y l.size p ≡ true → NeighboursAreNoted h p earlier l

@@ -30,6 +30,8 @@ module _ (sx sy : ℕ) where
 -- The order of every plane of every frame follows from position alone.
 abbrev pub OrderByPlaces : Type 0
 OrderByPlaces =
-    (sx sy width height : ℕ) (trees : List (Tree Coding 4)) → IsFrame sx sy width height trees → (k : ℕ) (none : Step) → k < length (steps_of sx sy width height trees)
+    (sx sy width height : ℕ) (trees : List (Tree Coding 4)) → IsFrame sx sy width height trees → (k : ℕ) (none : Step) →
+    k < length (steps_of sx sy width height trees)
     → (x y : ℕ) → IsInPlane sx sy width height x y
-    → frame_before sx sy (steps_of sx sy width height trees) k x y ≡ told_before sx sy (get_or (steps_of sx sy width height trees) k none) x y
+    → frame_before sx sy (steps_of sx sy width height trees) k x y ≡
+    told_before sx sy (get_or (steps_of sx sy width height trees) k none) x y

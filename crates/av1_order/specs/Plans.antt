@@ -1,6 +1,5 @@
--- The leaves of a plan in a plane: how they are coded there, and that their steps are their transform blocks. Planes are counted 0 for Y,
--- 1 for U and 2 for V.
--- AV1 specification: residual syntax and transform block syntax.
+-- The leaves of a plan in a plane: how they are coded there, and that their steps are their transform blocks. Planes
+-- are counted 0 for Y, 1 for U and 2 for V. AV1 specification: residual syntax and transform block syntax.
 use Rattle.std.specs.Prelude.{◌≡◌, true, false, ℕ, Bool, ◌/◌, ◌%◌, ◌<◌, None, List, [], map}
 use Rattle.std.specs.List.{All}
 use Rattle.av1_blocks.specs.Transforms.{tx_width, tx_height}
@@ -44,21 +43,24 @@ pub record IsWholeFrame (h : Header) : Type 0 where
   pub width : h.width % 8 ≡ 0
   pub height : h.height % 8 ≡ 0
 
--- The steps of a leaf that is not inter are its transform blocks that begin in the visible plane, in raster order, where it covers a part of
--- the plane; else it has none.
+-- The steps of a leaf that is not inter are its transform blocks that begin in the visible plane, in raster order,
+-- where it covers a part of the plane; else it has none.
 pub record StepsAreBlocks (h : Header) (p : ℕ) (l : LeafValue) : Type 0 where
   pub covered : covers_plane h l.x l.y l.size p ≡ true
-      → map (place_of (xdec h p) (ydec h p)) (steps_in h p l) ≡ transform_blocks h p (plane_area h l.x l.y l.size l.tx_size p)
+      → map (place_of (xdec h p) (ydec h p)) (steps_in h p l) ≡
+      transform_blocks h p (plane_area h l.x l.y l.size l.tx_size p)
   pub uncovered : covers_plane h l.x l.y l.size p ≡ false → steps_in h p l ≡ []
 
 -- it is so of each valid leaf of a frame in each plane
 abbrev pub LeavesHaveTheirBlocks : Type 0
 LeavesHaveTheirBlocks =
-    (h : Header) (p : ℕ) (l : LeafValue) → IsWholeFrame h → IsOnGrid h l → fault_of h l ≡ None → is_inter l.kind ≡ false → StepsAreBlocks h p l
+    (h : Header) (p : ℕ) (l : LeafValue) → IsWholeFrame h → IsOnGrid h l → fault_of h l ≡ None →
+    is_inter l.kind ≡ false → StepsAreBlocks h p l
 
 -- Each plane of a valid plan, whose leaves are those of trees of marks, is a plane of a frame in coding order.
 abbrev pub PlansAreFrames : Type 0
 PlansAreFrames =
-    (h : Header) (p : ℕ) (leaves : List LeafValue) (trees : List (Tree Coding 4)) → IsWholeFrame h → All (λ l. fault_of h l ≡ None) leaves
+    (h : Header) (p : ℕ) (leaves : List LeafValue) (trees : List (Tree Coding 4)) → IsWholeFrame h →
+    All (λ l. fault_of h l ≡ None) leaves
     → frame_leaves (h.width / 4) (h.height / 4) trees ≡ map (placed (coding_in h p)) leaves
     → IsFrame (xdec h p) (ydec h p) (h.width / 4) (h.height / 4) trees

@@ -1,7 +1,8 @@
 -- What is written round a step when its turn comes, in samples of its plane.
--- AV1 specification: transform block syntax and clear block decoded flags function, which tell the intra prediction process what lies above,
--- above right, left and below left of a transform.
-use Rattle.std.specs.Prelude.{◌≡◌, true, false, ℕ, Bool, ◌+◌, ◌-◌, ◌*◌, ◌/◌, ◌^◌, ◌<◌, ◌⊎◌, min, ◌||◌, List, [], ◌∷◌, take, length, get_or}
+-- AV1 specification: transform block syntax and clear block decoded flags function, which tell the intra prediction
+-- process what lies above, above right, left and below left of a transform.
+use Rattle.std.specs.Prelude.{◌≡◌, true, false, ℕ, Bool, ◌+◌, ◌-◌, ◌*◌, ◌/◌, ◌^◌, ◌<◌, ◌⊎◌, min, ◌||◌, List, [], ◌∷◌}
+use Rattle.std.specs.Prelude.{take, length, get_or}
 use Rattle.av1_plan.specs.CodingOrder.{superblock_count}
 use Rattle.av1_plan.specs.Tree.{Tree}
 use Rattle.av1_avail.specs.Order.{is_in}
@@ -29,11 +30,13 @@ module _ (sx sy : ℕ) where
 
   -- by places alone, the unit right of the step and one row above it is coded before the step
   abbrev pub above_right_told : Step → Bool
-  above_right_told s = told_before sx sy s ((area sx sy s.block).x + s.right + s.columns) ((area sx sy s.block).y + s.down - 1)
+  above_right_told s =
+      told_before sx sy s ((area sx sy s.block).x + s.right + s.columns) ((area sx sy s.block).y + s.down - 1)
 
   -- so is the unit left of it and one row below it
   abbrev pub below_left_told : Step → Bool
-  below_left_told s = told_before sx sy s ((area sx sy s.block).x + s.right - 1) ((area sx sy s.block).y + s.down + s.rows)
+  below_left_told s =
+      told_before sx sy s ((area sx sy s.block).x + s.right - 1) ((area sx sy s.block).y + s.down + s.rows)
 
   -- a frame of so many columns and rows of cells
   module _ (width height : ℕ) where
@@ -42,23 +45,31 @@ module _ (sx sy : ℕ) where
       pub column : x < 4 * (width / 2 ^ sx)
       pub row : y < 4 * (height / 2 ^ sy)
 
-    -- What the steps before a step have written of the visible plane round it. Of the run above it on its right, and of the run on its left
-    -- below it, each as long as the step's lesser side: all or nothing, as places tell. Of what lies above it or left of it: all.
+    -- What the steps before a step have written of the visible plane round it. Of the run above it on its right, and of
+    -- the run on its left below it, each as long as the step's lesser side: all or nothing, as places tell. Of what
+    -- lies above it or left of it: all.
     pub record EdgesAreTold (before : List Step) (s : Step) : Type 0 where
-      pub above_right : (i x y : ℕ) → i < min (width_of s) (height_of s) → x ≡ left s + width_of s + i → y + 1 ≡ top s → IsVisible x y
+      pub above_right : (i x y : ℕ) → i < min (width_of s) (height_of s) → x ≡ left s + width_of s + i → y + 1 ≡ top s →
+          IsVisible x y
           → is_covered_sample before x y ≡ above_right_told s
-      pub below_left : (i x y : ℕ) → i < min (width_of s) (height_of s) → x + 1 ≡ left s → y ≡ top s + height_of s + i → IsVisible x y
+      pub below_left : (i x y : ℕ) → i < min (width_of s) (height_of s) → x + 1 ≡ left s → y ≡ top s + height_of s + i →
+          IsVisible x y
           → is_covered_sample before x y ≡ below_left_told s
-      pub near : (x y : ℕ) → x < left s + width_of s → y < top s + height_of s → (x < left s) ⊎ (y < top s) → IsVisible x y → is_covered_sample before x y ≡ true
+      pub near : (x y : ℕ) → x < left s + width_of s → y < top s + height_of s → (x < left s) ⊎ (y < top s) →
+          IsVisible x y → is_covered_sample before x y ≡ true
 
 -- It is so of each step of each plane of each frame.
 abbrev pub EdgesByPlaces : Type 0
 EdgesByPlaces =
-    (sx sy width height : ℕ) (trees : List (Tree Coding 4)) → IsFrame sx sy width height trees → (k : ℕ) (none : Step) → k < length (steps_of sx sy width height trees)
-    → EdgesAreTold sx sy width height (take k (steps_of sx sy width height trees)) (get_or (steps_of sx sy width height trees) k none)
+    (sx sy width height : ℕ) (trees : List (Tree Coding 4)) → IsFrame sx sy width height trees → (k : ℕ) (none : Step) →
+    k < length (steps_of sx sy width height trees)
+    → EdgesAreTold sx sy width height (take k (steps_of sx sy width height trees))
+    (get_or (steps_of sx sy width height trees) k none)
 
 -- Once all steps of a frame that has all its superblocks are done, each sample of each visible plane is written.
 abbrev pub PlanesAreWritten : Type 0
 PlanesAreWritten =
-    (sx sy width height : ℕ) (trees : List (Tree Coding 4)) → IsFrame sx sy width height trees → length trees ≡ superblock_count width height
-    → (x y : ℕ) → IsVisible sx sy width height x y → is_covered_sample sx sy (steps_of sx sy width height trees) x y ≡ true
+    (sx sy width height : ℕ) (trees : List (Tree Coding 4)) → IsFrame sx sy width height trees →
+    length trees ≡ superblock_count width height
+    → (x y : ℕ) → IsVisible sx sy width height x y →
+    is_covered_sample sx sy (steps_of sx sy width height trees) x y ≡ true

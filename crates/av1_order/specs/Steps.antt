@@ -1,18 +1,21 @@
--- The steps of a plane: the rectangles that are predicted at once, one after the other. Places and sides in a plane are counted in units of
--- 4 by 4 of its samples. sx and sy are 1 where the plane is halved in that direction, else 0.
--- AV1 specification: residual syntax and transform block syntax, which go over the transform blocks of a block in each plane.
-use Rattle.std.specs.Prelude.{◌≡◌, true, ℕ, zero, suc, Bool, ◌+◌, ◌-◌, ◌/◌, ◌%◌, ◌^◌, ◌<◌, ◌≤◌, max, ◌==◌, not, nat_lt, ◌&&◌, if◌then◌else◌, List, [], ◌∷◌, ◌++◌}
+-- The steps of a plane: the rectangles that are predicted at once, one after the other. Places and sides in a plane are
+-- counted in units of 4 by 4 of its samples. sx and sy are 1 where the plane is halved in that direction, else 0. AV1
+-- specification: residual syntax and transform block syntax, which go over the transform blocks of a block in each
+-- plane.
+use Rattle.std.specs.Prelude.{◌≡◌, true, ℕ, zero, suc, Bool, ◌+◌, ◌-◌, ◌/◌, ◌%◌, ◌^◌, ◌<◌, ◌≤◌, max, ◌==◌, not, nat_lt}
+use Rattle.std.specs.Prelude.{◌&&◌, if◌then◌else◌, List, [], ◌∷◌, ◌++◌}
 use Rattle.std.specs.List.{All}
 use Rattle.av1_plan.specs.Tree.{Block, Placed, Tree, frame_leaves}
 
--- How a leaf is coded in a plane: as one rectangle where it is inter, else by transforms of so many columns and rows of units.
+-- How a leaf is coded in a plane: as one rectangle where it is inter, else by transforms of so many columns and rows of
+-- units.
 pub record Coding : Type 0 where
   pub is_inter : Bool
   pub columns : ℕ
   pub rows : ℕ
 
--- A rectangle that is predicted at once: so many columns and rows of units, from the unit that is `right` units right of the first unit of
--- its block and `down` units below it. The block is counted in cells.
+-- A rectangle that is predicted at once: so many columns and rows of units, from the unit that is `right` units right
+-- of the first unit of its block and `down` units below it. The block is counted in cells.
 pub record Step : Type 0 where
   pub block : Block
   pub right : ℕ
@@ -21,13 +24,19 @@ pub record Step : Type 0 where
   pub rows : ℕ
 
 module _ (sx sy : ℕ) where
-  -- In a halved direction a leaf of one cell at an even place carries no samples of the plane; the one behind it carries them for both.
+  -- In a halved direction a leaf of one cell at an even place carries no samples of the plane; the one behind it
+  -- carries them for both.
   abbrev pub carries : Block → Bool
   carries b = not (sx == 1 && b.columns == 1 && b.x % 2 == 0) && not (sy == 1 && b.rows == 1 && b.y % 2 == 0)
 
   -- the cells whose units the leaf carries: its own, widened to whole units
   abbrev pub widened : Block → Block
-  widened b = record { x = b.x - b.x % 2 ^ sx; y = b.y - b.y % 2 ^ sy; columns = max b.columns (2 ^ sx); rows = max b.rows (2 ^ sy) }
+  widened b = record {
+    x = b.x - b.x % 2 ^ sx;
+    y = b.y - b.y % 2 ^ sy;
+    columns = max b.columns (2 ^ sx);
+    rows = max b.rows (2 ^ sy);
+  }
 
   -- a block of whole units, counted in units
   abbrev pub area : Block → Block
@@ -57,7 +66,8 @@ module _ (sx sy : ℕ) where
     -- n rows of them
     abbrev pub block_steps : Block → Coding → (down n : ℕ) → List Step
     block_steps b c down zero = []
-    block_steps b c down (suc n) = row_steps b c down 0 ((area b).columns / c.columns) ++ block_steps b c (down + c.rows) n
+    block_steps b c down (suc n) = row_steps b c down 0 ((area b).columns / c.columns)
+        ++ block_steps b c (down + c.rows) n
 
     -- the steps of a leaf
     abbrev pub leaf_steps : Placed Coding → List Step
@@ -65,7 +75,13 @@ module _ (sx sy : ℕ) where
         let b = widened l.block in
         if carries l.block
         then
-        (if l.content.is_inter then record { block = b; right = 0; down = 0; columns = (area b).columns; rows = (area b).rows } ∷ []
+        (if l.content.is_inter then record {
+          block = b;
+          right = 0;
+          down = 0;
+          columns = (area b).columns;
+          rows = (area b).rows;
+        } ∷ []
         else block_steps b l.content 0 ((area b).rows / l.content.rows))
         else []
 
@@ -78,7 +94,8 @@ module _ (sx sy : ℕ) where
 abbrev pub steps_of : (sx sy width height : ℕ) → List (Tree Coding 4) → List Step
 steps_of sx sy width height trees = plane_steps sx sy width height (frame_leaves width height trees)
 
--- A plane of a frame: halved in its rows only where in its columns too; the sides of the frame are whole units; transforms tile the leaves.
+-- A plane of a frame: halved in its rows only where in its columns too; the sides of the frame are whole units;
+-- transforms tile the leaves.
 pub record IsFrame (sx sy width height : ℕ) (trees : List (Tree Coding 4)) : Type 0 where
   pub halved_x : sx ≤ 1
   pub halved_y : sy ≤ sx

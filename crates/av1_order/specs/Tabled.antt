@@ -13,20 +13,25 @@ use Rattle.av1_order.specs.Samples.{EdgesAreTold, IsVisible, left, top, width_of
 use Rattle.av1_order.specs.Steps.{Coding, IsFrame, Step, steps_of}
 
 module _ (sx sy width height : ℕ) where
-  -- The step's block has the size b, and the step the size t. Put with the leaf's cell, and with what places tell of the frame's sides, the
-  -- tables answer what is visible and written just past the step; put with any cell of the block, they answer what is written of each visible
-  -- sample of the run past it, which is as long as the step's lesser side.
+  -- The step's block has the size b, and the step the size t. Put with the leaf's cell, and with what places tell of
+  -- the frame's sides, the tables answer what is visible and written just past the step; put with any cell of the
+  -- block, they answer what is written of each visible sample of the run past it, which is as long as the step's lesser
+  -- side.
   pub record IsTabled (before : List Step) (s : Step) (b : BlockSize) (t : TxSize) : Type 0 where
     pub top_right : (cx cy : ℕ) → cx - cx % 2 ^ sx ≡ s.block.x → cy - cy % 2 ^ sy ≡ s.block.y
-        → (has_before s.down cy sy && nat_lt (left sx sy s + width_of sx sy s) (4 * (width / 2 ^ sx)) && table_top_right b cx cy (transform_columns t) s.down s.right sx)
+        → (has_before s.down cy sy && nat_lt (left sx sy s + width_of sx sy s) (4 * (width / 2 ^ sx))
+        && table_top_right b cx cy (transform_columns t) s.down s.right sx)
         ≡ above_before sx sy width height before (left sx sy s + width_of sx sy s) (top sx sy s)
     pub bottom_left : (cx cy : ℕ) → cx - cx % 2 ^ sx ≡ s.block.x → cy - cy % 2 ^ sy ≡ s.block.y
-        → (has_before s.right cx sx && nat_lt (top sx sy s + height_of sx sy s) (4 * (height / 2 ^ sy)) && table_bottom_left b cx cy (transform_rows t) s.down s.right sx sy)
+        → (has_before s.right cx sx && nat_lt (top sx sy s + height_of sx sy s) (4 * (height / 2 ^ sy))
+        && table_bottom_left b cx cy (transform_rows t) s.down s.right sx sy)
         ≡ beside_before sx sy width height before (left sx sy s) (top sx sy s + height_of sx sy s)
-    pub above_right : (cx cy i x y : ℕ) → is_in cx cy s.block.x s.block.y s.block.columns s.block.rows ≡ true → i < min (width_of sx sy s) (height_of sx sy s)
+    pub above_right : (cx cy i x y : ℕ) → is_in cx cy s.block.x s.block.y s.block.columns s.block.rows ≡ true →
+        i < min (width_of sx sy s) (height_of sx sy s)
         → x ≡ left sx sy s + width_of sx sy s + i → y + 1 ≡ top sx sy s → IsVisible sx sy width height x y
         → is_covered_sample sx sy before x y ≡ table_top_right b cx cy (transform_columns t) s.down s.right sx
-    pub below_left : (cx cy i x y : ℕ) → is_in cx cy s.block.x s.block.y s.block.columns s.block.rows ≡ true → i < min (width_of sx sy s) (height_of sx sy s)
+    pub below_left : (cx cy i x y : ℕ) → is_in cx cy s.block.x s.block.y s.block.columns s.block.rows ≡ true →
+        i < min (width_of sx sy s) (height_of sx sy s)
         → x + 1 ≡ left sx sy s → y ≡ top sx sy s + height_of sx sy s + i → IsVisible sx sy width height x y
         → is_covered_sample sx sy before x y ≡ table_bottom_left b cx cy (transform_rows t) s.down s.right sx sy
 
@@ -38,5 +43,6 @@ module _ (sx sy width height : ℕ) where
 -- It is so wherever the steps of a plane of a frame are cut at one of them.
 abbrev pub CutsAreTold : Type 0
 CutsAreTold =
-    (sx sy width height : ℕ) (trees : List (Tree Coding 4)) → IsFrame sx sy width height trees → (before : List Step) (s : Step) (after : List Step)
+    (sx sy width height : ℕ) (trees : List (Tree Coding 4)) → IsFrame sx sy width height trees →
+    (before : List Step) (s : Step) (after : List Step)
     → steps_of sx sy width height trees ≡ before ++ s ∷ after → IsToldAtCut sx sy width height before s

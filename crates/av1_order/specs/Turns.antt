@@ -1,14 +1,16 @@
--- What is written of a plane when the turn of a transform block of a plan comes, and what the availability calls answer then. Planes are
--- counted 0 for Y, 1 for U and 2 for V.
--- AV1 specification: residual syntax and transform block syntax (haveAboveRt, haveBelowLft).
-use Rattle.std.specs.Prelude.{◌≡◌, true, false, ℕ, Bool, ◌+◌, ◌-◌, ◌*◌, ◌/◌, ◌%◌, ◌^◌, ◌<◌, ◌⊎◌, min, nat_lt, ◌&&◌, ◌||◌, if◌then◌else◌, None, Option, Some, List, ◌∷◌, ◌++◌, map}
+-- What is written of a plane when the turn of a transform block of a plan comes, and what the availability calls answer
+-- then. Planes are counted 0 for Y, 1 for U and 2 for V. AV1 specification: residual syntax and transform block syntax
+-- (haveAboveRt, haveBelowLft).
+use Rattle.std.specs.Prelude.{◌≡◌, true, false, ℕ, Bool, ◌+◌, ◌-◌, ◌*◌, ◌/◌, ◌%◌, ◌^◌, ◌<◌, ◌⊎◌, min, nat_lt, ◌&&◌}
+use Rattle.std.specs.Prelude.{◌||◌, if◌then◌else◌, None, Option, Some, List, ◌∷◌, ◌++◌, map}
 use Rattle.std.specs.List.{All, filter_map, range_with_len}
 use Rattle.av1_blocks.specs.declared.transform.TxSize.{TxSize}
 use Rattle.av1_blocks.specs.Transforms.{tx_width, tx_height}
 use Rattle.av1_plan.specs.declared.geometry.TransformBlock.{TransformBlock}
 use Rattle.av1_plan.specs.declared.header.Header.{Header}
 use Rattle.av1_plan.specs.CodingOrder.{AreInCodingOrder, IsOnGrid, cells_of, placed}
-use Rattle.av1_plan.specs.Geometry.{xdec, ydec, blocks_across, covers_plane, plane_area, plane_height, plane_tx_size, plane_width, transform_block}
+use Rattle.av1_plan.specs.Geometry.{xdec, ydec, blocks_across, covers_plane, plane_area, plane_height, plane_tx_size}
+use Rattle.av1_plan.specs.Geometry.{plane_width, transform_block}
 use Rattle.av1_plan.specs.Plan.{LeafValue}
 use Rattle.av1_plan.specs.Validity.{fault_of}
 use Rattle.av1_avail.specs.Asked.{takes_above_right, takes_below_left}
@@ -26,7 +28,8 @@ pub record IsCodedPlan (h : Header) (p : ℕ) (leaves : List LeafValue) : Type 0
 module _ (h : Header) (p : ℕ) where
   -- the steps of leaves in the plane
   abbrev pub leaves_steps : List LeafValue → List Step
-  leaves_steps leaves = plane_steps (xdec h p) (ydec h p) (h.width / 4) (h.height / 4) (map (placed (coding_in h p)) leaves)
+  leaves_steps leaves =
+      plane_steps (xdec h p) (ydec h p) (h.width / 4) (h.height / 4) (map (placed (coding_in h p)) leaves)
 
   -- they write the sample at column x of row y
   abbrev pub is_written : List Step → (x y : ℕ) → Bool
@@ -49,10 +52,12 @@ module _ (h : Header) (p : ℕ) where
 
   -- the sample at x of the row above y is visible and written, as is that at y of the column left of x
   abbrev pub is_written_above : List Step → (x y : ℕ) → Bool
-  is_written_above steps x y = nat_lt 0 y && nat_lt x (plane_width h p) && nat_lt (y - 1) (plane_height h p) && is_written steps x (y - 1)
+  is_written_above steps x y = nat_lt 0 y && nat_lt x (plane_width h p) && nat_lt (y - 1) (plane_height h p)
+      && is_written steps x (y - 1)
 
   abbrev pub is_written_left : List Step → (x y : ℕ) → Bool
-  is_written_left steps x y = nat_lt 0 x && nat_lt y (plane_height h p) && nat_lt (x - 1) (plane_width h p) && is_written steps (x - 1) y
+  is_written_left steps x y = nat_lt 0 x && nat_lt y (plane_height h p) && nat_lt (x - 1) (plane_width h p)
+      && is_written steps (x - 1) y
 
   -- a leaf's transform blocks in the plane
   module _ (l : LeafValue) where
@@ -70,50 +75,67 @@ module _ (h : Header) (p : ℕ) where
     -- what is answered for block n, which begins at b
     abbrev pub answer_above_right : ℕ → TransformBlock → Bool
     answer_above_right n b =
-        takes_above_right l.size (l.x / 4) (l.y / 4) tx_in (n % leaf_across) (n / leaf_across) (xdec h p) (ydec h p) b.x (plane_width h p)
+        takes_above_right l.size (l.x / 4) (l.y / 4) tx_in (n % leaf_across) (n / leaf_across) (xdec h p)
+        (ydec h p) b.x (plane_width h p)
 
     abbrev pub answer_below_left : ℕ → TransformBlock → Bool
     answer_below_left n b =
-        takes_below_left l.size (l.x / 4) (l.y / 4) tx_in (n % leaf_across) (n / leaf_across) (xdec h p) (ydec h p) b.y (plane_height h p)
+        takes_below_left l.size (l.x / 4) (l.y / 4) tx_in (n % leaf_across) (n / leaf_across) (xdec h p)
+        (ydec h p) b.y (plane_height h p)
 
-    -- Block n begins at b, and these steps come before it. The answer above right is whether the first sample there is visible and written;
-    -- of the run, as long as the block's lesser side, all that is visible is written where the answer is yes, and nothing else. So it is
-    -- below left. What is visible above the block, to its left and at its corner is written.
+    -- Block n begins at b, and these steps come before it. The answer above right is whether the first sample there is
+    -- visible and written; of the run, as long as the block's lesser side, all that is visible is written where the
+    -- answer is yes, and nothing else. So it is below left. What is visible above the block, to its left and at its
+    -- corner is written.
     pub record EdgeIsAnswered (before : List Step) (n : ℕ) (b : TransformBlock) : Type 0 where
       pub above_right : answer_above_right n b ≡ is_written_above before (b.x + tx_width tx_in) b.y
       pub below_left : answer_below_left n b ≡ is_written_left before b.x (b.y + tx_height tx_in)
-      pub run_above : (i : ℕ) → i < min (tx_width tx_in) (tx_height tx_in) → 0 < b.y → b.x + tx_width tx_in + i < plane_width h p
+      pub run_above : (i : ℕ) → i < min (tx_width tx_in) (tx_height tx_in) → 0 < b.y →
+          b.x + tx_width tx_in + i < plane_width h p
           → is_written before (b.x + tx_width tx_in + i) (b.y - 1) ≡ answer_above_right n b
-      pub run_left : (i : ℕ) → i < min (tx_width tx_in) (tx_height tx_in) → 0 < b.x → b.y + tx_height tx_in + i < plane_height h p
+      pub run_left : (i : ℕ) → i < min (tx_width tx_in) (tx_height tx_in) → 0 < b.x →
+          b.y + tx_height tx_in + i < plane_height h p
           → is_written before (b.x - 1) (b.y + tx_height tx_in + i) ≡ answer_below_left n b
-      pub near : (x y : ℕ) → x < b.x + tx_width tx_in → y < b.y + tx_height tx_in → (x < b.x) ⊎ (y < b.y) → x < plane_width h p → y < plane_height h p
+      pub near : (x y : ℕ) → x < b.x + tx_width tx_in → y < b.y + tx_height tx_in → (x < b.x) ⊎ (y < b.y) →
+          x < plane_width h p → y < plane_height h p
           → is_written before x y ≡ true
 
-    -- Of the side above, as far as a mode may reach, each place is visible and written just where there is a row above, the place lies in the
-    -- frame, and it lies before the block's end or the answer is yes; and so of the left side. The corner is written where there is one.
+    -- Of the side above, as far as a mode may reach, each place is visible and written just where there is a row above,
+    -- the place lies in the frame, and it lies before the block's end or the answer is yes; and so of the left side.
+    -- The corner is written where there is one.
     pub record SidesAreKnown (before : List Step) (n : ℕ) (b : TransformBlock) : Type 0 where
       pub above : (j : ℕ) → j < tx_width tx_in + min (tx_width tx_in) (tx_height tx_in)
-          → is_written_above before (b.x + j) b.y ≡ (nat_lt 0 b.y && nat_lt (b.x + j) (plane_width h p) && (nat_lt j (tx_width tx_in) || answer_above_right n b))
+          → is_written_above before (b.x + j) b.y ≡
+          (nat_lt 0 b.y && nat_lt (b.x + j) (plane_width h p)
+          && (nat_lt j (tx_width tx_in) || answer_above_right n b))
       pub left : (i : ℕ) → i < tx_height tx_in + min (tx_width tx_in) (tx_height tx_in)
-          → is_written_left before b.x (b.y + i) ≡ (nat_lt 0 b.x && nat_lt (b.y + i) (plane_height h p) && (nat_lt i (tx_height tx_in) || answer_below_left n b))
+          → is_written_left before b.x (b.y + i) ≡
+          (nat_lt 0 b.x && nat_lt (b.y + i) (plane_height h p)
+          && (nat_lt i (tx_height tx_in) || answer_below_left n b))
       pub corner : 0 < b.x → 0 < b.y → is_written before (b.x - 1) (b.y - 1) ≡ true
 
--- It is so of each transform block, in each plane, of each leaf of a plan that is not inter, whatever the other leaves are.
+-- It is so of each transform block, in each plane, of each leaf of a plan that is not inter, whatever the other leaves
+-- are.
 abbrev pub EdgesAreAnswered : Type 0
 EdgesAreAnswered =
-    (h : Header) (p : ℕ) (earlier : List LeafValue) (l : LeafValue) (later : List LeafValue) → IsCodedPlan h p (earlier ++ l ∷ later)
-    → is_inter l.kind ≡ false → covers_plane h l.x l.y l.size p ≡ true → (n : ℕ) (b : TransformBlock) → leaf_block h p l n ≡ Some b
+    (h : Header) (p : ℕ) (earlier : List LeafValue) (l : LeafValue) (later : List LeafValue) →
+    IsCodedPlan h p (earlier ++ l ∷ later)
+    → is_inter l.kind ≡ false → covers_plane h l.x l.y l.size p ≡ true → (n : ℕ) (b : TransformBlock) →
+    leaf_block h p l n ≡ Some b
     → EdgeIsAnswered h p l (steps_before h p earlier l n) n b
 
 -- So each place of its sides is known just where the answers say.
 abbrev pub SidesAreAnswered : Type 0
 SidesAreAnswered =
-    (h : Header) (p : ℕ) (earlier : List LeafValue) (l : LeafValue) (later : List LeafValue) → IsCodedPlan h p (earlier ++ l ∷ later)
-    → is_inter l.kind ≡ false → covers_plane h l.x l.y l.size p ≡ true → (n : ℕ) (b : TransformBlock) → leaf_block h p l n ≡ Some b
+    (h : Header) (p : ℕ) (earlier : List LeafValue) (l : LeafValue) (later : List LeafValue) →
+    IsCodedPlan h p (earlier ++ l ∷ later)
+    → is_inter l.kind ≡ false → covers_plane h l.x l.y l.size p ≡ true → (n : ℕ) (b : TransformBlock) →
+    leaf_block h p l n ≡ Some b
     → SidesAreKnown h p l (steps_before h p earlier l n) n b
 
 -- In the end each visible sample of each plane of a plan is written.
 abbrev pub PlansAreWritten : Type 0
 PlansAreWritten =
-    (h : Header) (p : ℕ) (leaves : List LeafValue) → IsCodedPlan h p leaves → (x y : ℕ) → x < plane_width h p → y < plane_height h p
+    (h : Header) (p : ℕ) (leaves : List LeafValue) → IsCodedPlan h p leaves → (x y : ℕ) → x < plane_width h p →
+    y < plane_height h p
     → is_written h p (leaves_steps h p leaves) x y ≡ true

@@ -13,8 +13,11 @@ joined (done z) g x y [] ws s t = (subst (λ u. Spells (g u) ws y) (sym s) t, ap
 joined (done z) g x y (v ∷ vs) ws s t = absurd s
 joined (asks k next) g x y [] ws s t = absurd s
 joined (asks k next) g x y (v ∷ vs) ws s t =
-    let (a, b) = joined (next v) g x y vs ws s.1 t in
-    ((s.0, a), ap (λ (us : List ℕ). to_le_bytes (width k.size) v ++ us) b ∙ sym (append_assoc (to_le_bytes (width k.size) v) (text (next v) vs) (text (g x) ws)))
+    let (a, b) = joined (next v) g x y vs ws s.1 t in (
+      (s.0, a),
+      ap (λ (us : List ℕ). to_le_bytes (width k.size) v ++ us) b
+          ∙ sym (append_assoc (to_le_bytes (width k.size) v) (text (next v) vs) (text (g x) ws)),
+    )
 
 -- the values of both, apart
 pub record AreApart {A B : Type 0} (f : Format A) (g : A → Format B) (y : B) (vs : List ℕ) : Type 0 where
@@ -38,7 +41,8 @@ apart (asks k next) g y (v ∷ vs) s =
       front_spells = (s.0, a.front_spells);
       behind_spells = a.behind_spells;
       values = ap (λ (us : List ℕ). v ∷ us) a.values;
-      bytes = ap (λ (us : List ℕ). to_le_bytes (width k.size) v ++ us) a.bytes ∙ sym (append_assoc (to_le_bytes (width k.size) v) (text (next v) a.front) (text (g a.between) a.behind));
+      bytes = ap (λ (us : List ℕ). to_le_bytes (width k.size) v ++ us) a.bytes
+          ∙ sym (append_assoc (to_le_bytes (width k.size) v) (text (next v) a.front) (text (g a.between) a.behind));
     }
 
 -- ---- one format for another
@@ -51,7 +55,8 @@ pub takes_over_same : {A : Type 0} (P : A → Type 0) (f g : Format A) → f ≡
 takes_over_same P f g e = subst (TakesOver P (λ x. x) f) e (record { carried = λ vs x s p. (s, refl) })
 
 -- one behind another
-pub takes_over_both : {A B C D : Type 0} (P : A → Type 0) (Q : B → Type 0) (view : A → C) (view_all : B → D) (f : Format A) (g : A → Format B) (f_2 : Format C) (g_2 : C → Format D)
+pub takes_over_both : {A B C D : Type 0} (P : A → Type 0) (Q : B → Type 0) (view : A → C) (view_all : B → D) (f : Format A) (g : A → Format B) (f_2 : Format C)
+    (g_2 : C → Format D)
     → TakesOver P view f f_2 → ((x : A) → P x → TakesOver Q view_all (g x) (g_2 (view x))) → ((x : A) (ws : List ℕ) (y : B) → Spells (g x) ws y → Q y → P x)
     → TakesOver Q view_all (f >>= g) (f_2 >>= g_2)
 takes_over_both P Q view view_all f g f_2 g_2 front behind back = record {

@@ -1,5 +1,6 @@
 -- The leaves of a plan are those of trees of marks. Places are counted in cells of 4 by 4 samples of luma.
-use Rattle.std.proofs.Common.{◌≡◌, ℕ, zero, suc, ◌+◌, ◌-◌, ◌*◌, ◌/◌, ◌^◌, ◌≤◌, ◌<◌, nat_lt, inl, inr, Bool, true, false, ◌&&◌, if◌then◌else◌, List, [], ◌∷◌, ◌++◌, length, map, refl, sym, ap, subst, ◌∙◌, append_assoc, None, pos, arith}
+use Rattle.std.proofs.Common.{◌≡◌, ℕ, zero, suc, ◌+◌, ◌-◌, ◌*◌, ◌/◌, ◌^◌, ◌≤◌, ◌<◌, nat_lt, inl, inr, Bool, true, false, ◌&&◌, if◌then◌else◌, List, [], ◌∷◌}
+use Rattle.std.proofs.Common.{◌++◌, length, map, refl, sym, ap, subst, ◌∙◌, append_assoc, None, pos, arith}
 use Rattle.std.proofs.Math.Nat.{mul_comm}
 use Rattle.std.proofs.Math.Logic.{∥∥₁_map}
 use Rattle.std.proofs.lemmas.Bool.{cases_lt, lt-ltb, le-ltb}
@@ -19,14 +20,16 @@ use Rattle.av1_plan.specs.Answer.{plan_value}
 use Rattle.av1_plan.specs.CodingOrder.{cells_of, placed, AreInCodingOrder}
 use Rattle.av1_plan.specs.Format.{Format, ◌++>◌, lone, in_turn}
 use Rattle.av1_plan.specs.Geometry.{is_inside}
-use Rattle.av1_plan.specs.Grammar.{leaf, half_side, quarter_side, whole_size, part_size, part, mark, wide_stripes, tall_stripes, parts, block, superblock_row, superblocks, plan}
+use Rattle.av1_plan.specs.Grammar.{leaf, half_side, quarter_side, whole_size, part_size, part, mark, wide_stripes, tall_stripes, parts, block, superblock_row}
+use Rattle.av1_plan.specs.Grammar.{superblocks, plan}
 use Rattle.av1_plan.specs.Plan.{LeafValue, PlanValue}
 use Rattle.av1_plan.specs.Spelling.{IsSpelled}
 use Rattle.av1_plan.specs.Tree.{Block, Placed, Tree, none, horz, vert, horz_4, vert_4, split, kept, part_leaves, node_leaves, superblock_leaves}
 use Rattle.av1_plan.specs.ReadPlans.{IsSide}
 use Rattle.av1_plan.proofs.ReadFrames.{header_is, plan_pieces}
 use Rattle.av1_plan.proofs.ReadLeaves.{leaf_place}
-use Rattle.av1_plan.proofs.NodeLeaves.{HasCells, whole_cells, wide_cells, tall_cells, wide_stripe_cells, tall_stripe_cells, smallest_cells, behind_half, superblock_place}
+use Rattle.av1_plan.proofs.NodeLeaves.{HasCells, whole_cells, wide_cells, tall_cells, wide_stripe_cells, tall_stripe_cells, smallest_cells, behind_half}
+use Rattle.av1_plan.proofs.NodeLeaves.{superblock_place}
 use Rattle.av1_plan.proofs.Marks.{IsCut, IsStriped, behind_quarter, behind_quarters, spelled_mark, striped_is}
 use Rattle.av1_plan.proofs.Pieces.{AreFour, spelled_bind, spelled_lone, spelled_both, spelled_four, spelled_no_turn, spelled_turn, spelled_where}
 
@@ -38,7 +41,8 @@ four_lt a b = elim (cases_lt a b) [
   | inr le ↦ le-ltb (4 * a) (4 * b) (omega (arith, le)) ∙ sym (le-ltb a b le)
 ]
 
-cells_inside : (width height columns rows x y : ℕ) → width ≡ 4 * columns → height ≡ 4 * rows → (nat_lt (4 * x) width && nat_lt (4 * y) height) ≡ (nat_lt x columns && nat_lt y rows)
+cells_inside : (width height columns rows x y : ℕ) → width ≡ 4 * columns → height ≡ 4 * rows →
+    (nat_lt (4 * x) width && nat_lt (4 * y) height) ≡ (nat_lt x columns && nat_lt y rows)
 cells_inside width height columns rows x y e f = rw (e, f, four_lt x columns, four_lt y rows) refl
 
 quarter : (a b : ℕ) → a ≡ 4 * b → a / 4 ≡ b
@@ -47,12 +51,14 @@ quarter a b e = omega (arith, e)
 abbrev rectangle : (x y columns rows : ℕ) → Block
 rectangle x y columns rows = record { x = x; y = y; columns = columns; rows = rows }
 
-same_rectangle : (a b c d x y columns rows : ℕ) → a ≡ 4 * x → b ≡ 4 * y → c ≡ 4 * columns → d ≡ 4 * rows → rectangle (a / 4) (b / 4) (c / 4) (d / 4) ≡ rectangle x y columns rows
+same_rectangle : (a b c d x y columns rows : ℕ) → a ≡ 4 * x → b ≡ 4 * y → c ≡ 4 * columns → d ≡ 4 * rows →
+    rectangle (a / 4) (b / 4) (c / 4) (d / 4) ≡ rectangle x y columns rows
 same_rectangle a b c d x y columns rows e f g h = rw (quarter a x e, quarter b y f, quarter c columns g, quarter d rows h) refl
 
 -- ---- nodes
 
-module _ {A : Type 0} (filler : A) (code : LeafValue → A) (h : Header) (columns rows : ℕ) (width_is : h.width ≡ 4 * columns) (height_is : h.height ≡ 4 * rows) where
+module _ {A : Type 0} (filler : A) (code : LeafValue → A) (h : Header) (columns rows : ℕ) (width_is : h.width ≡ 4 * columns)
+    (height_is : h.height ≡ 4 * rows) where
   inside_cells : (x y : ℕ) → is_inside h (4 * x) (4 * y) ≡ (nat_lt x columns && nat_lt y rows)
   unfolding is_inside
   inside_cells x y = cells_inside h.width h.height columns rows x y width_is height_is
@@ -71,13 +77,16 @@ module _ {A : Type 0} (filler : A) (code : LeafValue → A) (h : Header) (column
   join xs ys zs ps qs e f is = rw (e, f) (sym (map-append (placed code) xs ys) ∙ ap places is)
 
   -- a leaf of its part, if there is one
-  part_tree : (size : BlockSize) (w d x y : ℕ) (ls : List LeafValue) → HasCells size w d → IsSpelled (part h size (4 * x) (4 * y)) ls → (a : A) × (part_leaves columns rows x y w d a ≡ places ls)
+  part_tree : (size : BlockSize) (w d x y : ℕ) (ls : List LeafValue) → HasCells size w d → IsSpelled (part h size (4 * x) (4 * y)) ls →
+      (a : A) × (part_leaves columns rows x y w d a ≡ places ls)
   unfolding part
   part_tree size w d x y ls cells s = elim (spelled_where (is_inside h (4 * x) (4 * y)) (lone (leaf h size (4 * x) (4 * y))) ls s) [
     | inl (within, t) ↦
         let (l, l_spelled, is) = spelled_lone (leaf h size (4 * x) (4 * y)) ls t in
         let (at_x, at_y, size_is) = leaf_place h size (4 * x) (4 * y) l l_spelled in
-        let same : cells_of l ≡ rectangle x y w d = same_rectangle l.x l.y (block_width l.size) (block_height l.size) x y w d at_x at_y (ap block_width size_is ∙ cells.width) (ap block_height size_is ∙ cells.height) in
+        let same : cells_of l ≡ rectangle x y w d =
+        same_rectangle l.x l.y (block_width l.size) (block_height l.size) x y w d at_x at_y (ap block_width size_is ∙ cells.width)
+        (ap block_height size_is ∙ cells.height) in
         let one : List (Placed A) = record { block = rectangle x y w d; content = code l } ∷ [] in
         let first : one ≡ places (l ∷ []) = ap (λ (b : Block). let p : Placed A = record { block = b; content = code l } in p ∷ []) (sym same) in
         (code l, kept_inside x y one within ∙ first ∙ ap places is)
@@ -93,7 +102,8 @@ module _ {A : Type 0} (filler : A) (code : LeafValue → A) (h : Header) (column
       → ps ≡ places four.first → qs ≡ places four.second → rs ≡ places four.third → ss ≡ places four.fourth → ps ++ qs ++ rs ++ ss ≡ places ls
   join_four f g k m ls four ps qs rs ss a b c d =
       let two = four.first ++ four.second in
-      join (two ++ four.third) four.fourth ls (ps ++ qs ++ rs) ss (join two four.third _ (ps ++ qs) rs (join four.first four.second _ ps qs a b refl) c refl) d four.are
+      join (two ++ four.third) four.fourth ls (ps ++ qs ++ rs) ss (join two four.third _ (ps ++ qs) rs (join four.first four.second _ ps qs a b refl) c refl) d
+      four.are
 
   -- a node of level suc k
   abbrev OfParts : ℕ → ℕ → ℕ → List LeafValue → Type 0
@@ -108,13 +118,15 @@ module _ {A : Type 0} (filler : A) (code : LeafValue → A) (h : Header) (column
       let size = part_size (suc (suc k)) PARTITION_HORZ_4 in
       let cells = wide_stripe_cells k le in
       let t = rw (behind_quarter k y, behind_quarters 2 k y, behind_quarters 3 k y) at s in
-      let four = spelled_four (part h size (4 * x) (4 * y)) (part h size (4 * x) (4 * (y + n))) (part h size (4 * x) (4 * (y + 2 * n))) (part h size (4 * x) (4 * (y + 3 * n))) ls t in
+      let four = spelled_four (part h size (4 * x) (4 * y)) (part h size (4 * x) (4 * (y + n))) (part h size (4 * x) (4 * (y + 2 * n)))
+      (part h size (4 * x) (4 * (y + 3 * n))) ls t in
       let (a, a_is) = part_tree size (4 * n) n x y four.first cells four.first_spelled in
       let (b, b_is) = part_tree size (4 * n) n x (y + n) four.second cells four.second_spelled in
       let (c, c_is) = part_tree size (4 * n) n x (y + 2 * n) four.third cells four.third_spelled in
       let (d, d_is) = part_tree size (4 * n) n x (y + 3 * n) four.fourth cells four.fourth_spelled in (
         horz_4 a b c d,
-        join_four _ _ _ _ ls four (part_leaves columns rows x y (4 * n) n a) (part_leaves columns rows x (y + n) (4 * n) n b) (part_leaves columns rows x (y + 2 * n) (4 * n) n c)
+        join_four _ _ _ _ ls four (part_leaves columns rows x y (4 * n) n a) (part_leaves columns rows x (y + n) (4 * n) n b)
+            (part_leaves columns rows x (y + 2 * n) (4 * n) n c)
             (part_leaves columns rows x (y + 3 * n) (4 * n) n d) a_is b_is c_is d_is,
       )
 
@@ -127,34 +139,41 @@ module _ {A : Type 0} (filler : A) (code : LeafValue → A) (h : Header) (column
       let size = part_size (suc (suc k)) PARTITION_VERT_4 in
       let cells = tall_stripe_cells k le in
       let t = rw (behind_quarter k x, behind_quarters 2 k x, behind_quarters 3 k x) at s in
-      let four = spelled_four (part h size (4 * x) (4 * y)) (part h size (4 * (x + n)) (4 * y)) (part h size (4 * (x + 2 * n)) (4 * y)) (part h size (4 * (x + 3 * n)) (4 * y)) ls t in
+      let four = spelled_four (part h size (4 * x) (4 * y)) (part h size (4 * (x + n)) (4 * y)) (part h size (4 * (x + 2 * n)) (4 * y))
+      (part h size (4 * (x + 3 * n)) (4 * y)) ls t in
       let (a, a_is) = part_tree size n (4 * n) x y four.first cells four.first_spelled in
       let (b, b_is) = part_tree size n (4 * n) (x + n) y four.second cells four.second_spelled in
       let (c, c_is) = part_tree size n (4 * n) (x + 2 * n) y four.third cells four.third_spelled in
       let (d, d_is) = part_tree size n (4 * n) (x + 3 * n) y four.fourth cells four.fourth_spelled in (
         vert_4 a b c d,
-        join_four _ _ _ _ ls four (part_leaves columns rows x y n (4 * n) a) (part_leaves columns rows (x + n) y n (4 * n) b) (part_leaves columns rows (x + 2 * n) y n (4 * n) c)
+        join_four _ _ _ _ ls four (part_leaves columns rows x y n (4 * n) a) (part_leaves columns rows (x + n) y n (4 * n) b)
+            (part_leaves columns rows (x + 2 * n) y n (4 * n) c)
             (part_leaves columns rows (x + 3 * n) y n (4 * n) d) a_is b_is c_is d_is,
       )
 
   -- four nodes
   split_tree : (k x y : ℕ) (ls : List LeafValue) → ((x y : ℕ) (ls : List LeafValue) → IsSpelled (block h k (4 * x) (4 * y)) ls → OfNode k x y ls)
-      → IsSpelled (block h k (4 * x) (4 * y) ++> block h k (4 * x + half_side (suc k)) (4 * y) ++> block h k (4 * x) (4 * y + half_side (suc k)) ++> block h k (4 * x + half_side (suc k)) (4 * y + half_side (suc k))) ls → OfParts k x y ls
+      → IsSpelled (block h k (4 * x) (4 * y) ++> block h k (4 * x + half_side (suc k)) (4 * y) ++> block h k (4 * x)
+      (4 * y + half_side (suc k)) ++> block h k (4 * x + half_side (suc k)) (4 * y + half_side (suc k))) ls → OfParts k x y ls
   split_tree k x y ls part_of s =
       let n = 2 ^ k in
       let t = rw (behind_half k x, behind_half k y) at s in
-      let four = spelled_four (block h k (4 * x) (4 * y)) (block h k (4 * (x + n)) (4 * y)) (block h k (4 * x) (4 * (y + n))) (block h k (4 * (x + n)) (4 * (y + n))) ls t in
+      let four = spelled_four (block h k (4 * x) (4 * y)) (block h k (4 * (x + n)) (4 * y)) (block h k (4 * x) (4 * (y + n)))
+      (block h k (4 * (x + n)) (4 * (y + n))) ls t in
       let (t_1, e_1) = part_of x y four.first four.first_spelled in
       let (t_2, e_2) = part_of (x + n) y four.second four.second_spelled in
       let (t_3, e_3) = part_of x (y + n) four.third four.third_spelled in
       let (t_4, e_4) = part_of (x + n) (y + n) four.fourth four.fourth_spelled in (
         split t_1 t_2 t_3 t_4,
-        join_four _ _ _ _ ls four (kept columns rows x y (node_leaves columns rows t_1 x y)) (kept columns rows (x + n) y (node_leaves columns rows t_2 (x + n) y))
-            (kept columns rows x (y + n) (node_leaves columns rows t_3 x (y + n))) (kept columns rows (x + n) (y + n) (node_leaves columns rows t_4 (x + n) (y + n))) e_1 e_2 e_3 e_4,
+        join_four _ _ _ _ ls four (kept columns rows x y (node_leaves columns rows t_1 x y))
+            (kept columns rows (x + n) y (node_leaves columns rows t_2 (x + n) y))
+            (kept columns rows x (y + n) (node_leaves columns rows t_3 x (y + n)))
+            (kept columns rows (x + n) (y + n) (node_leaves columns rows t_4 (x + n) (y + n))) e_1 e_2 e_3 e_4,
       )
 
   parts_tree : (k x y : ℕ) (cut : PartitionType) (ls : List LeafValue) → suc k ≤ 4 → IsCut h (suc k) (4 * x) (4 * y) cut
-      → ((x y : ℕ) (ls : List LeafValue) → IsSpelled (block h k (4 * x) (4 * y)) ls → OfNode k x y ls) → IsSpelled (parts h (suc k) (block h k) (4 * x) (4 * y) cut) ls → OfParts k x y ls
+      → ((x y : ℕ) (ls : List LeafValue) → IsSpelled (block h k (4 * x) (4 * y)) ls → OfNode k x y ls) →
+      IsSpelled (parts h (suc k) (block h k) (4 * x) (4 * y) cut) ls → OfParts k x y ls
   unfolding parts
   parts_tree k x y PARTITION_NONE ls le cut_in part_of s =
       let (a, is) = part_tree (whole_size (suc k)) (2 ^ suc k) (2 ^ suc k) x y ls (whole_cells (suc k) le) s in
@@ -212,26 +231,33 @@ module _ {A : Type 0} (filler : A) (code : LeafValue → A) (h : Header) (column
   abbrev OfRow : ℕ → ℕ → ℕ → List LeafValue → Type 0
   OfRow n col row ls =
       (trees : List (Tree A 4)) × (length trees ≡ n)
-      × ((more : List (Tree A 4)) → superblock_leaves columns rows (trees ++ more) (16 * col) (16 * row) ≡ places ls ++ superblock_leaves columns rows more 0 (16 * row + 16))
+      × ((more : List (Tree A 4)) → superblock_leaves columns rows (trees ++ more) (16 * col) (16 * row) ≡ places ls
+      ++ superblock_leaves columns rows more 0 (16 * row + 16))
 
-  row_end : (col row : ℕ) (ls xs ys : List LeafValue) (t : Tree A 4) (more : List (Tree A 4)) → columns ≤ 16 * (col + 1) → node_leaves columns rows t (16 * col) (16 * row) ≡ places xs → [] ≡ ys → xs ++ ys ≡ ls
+  row_end : (col row : ℕ) (ls xs ys : List LeafValue) (t : Tree A 4) (more : List (Tree A 4)) → columns ≤ 16 * (col + 1) →
+      node_leaves columns rows t (16 * col) (16 * row) ≡ places xs → [] ≡ ys → xs ++ ys ≡ ls
       → superblock_leaves columns rows (t ∷ more) (16 * col) (16 * row) ≡ places ls ++ superblock_leaves columns rows more 0 (16 * row + 16)
   row_end col row ls xs ys t more le e no_ys is =
       let past = le-ltb (16 * col + 16) columns (omega (arith, le)) in
       let all : xs ≡ ls = sym (append-nil xs) ∙ ap (λ (zs : List LeafValue). xs ++ zs) no_ys ∙ is in
       rw (past, e) (ap (λ (zs : List LeafValue). places zs ++ superblock_leaves columns rows more 0 (16 * row + 16)) all)
 
-  row_more : (col row : ℕ) (ls xs ys : List LeafValue) (t : Tree A 4) (trees more : List (Tree A 4)) → 16 * (col + 1) < columns → node_leaves columns rows t (16 * col) (16 * row) ≡ places xs → xs ++ ys ≡ ls
+  row_more : (col row : ℕ) (ls xs ys : List LeafValue) (t : Tree A 4) (trees more : List (Tree A 4)) → 16 * (col + 1) < columns →
+      node_leaves columns rows t (16 * col) (16 * row) ≡ places xs → xs ++ ys ≡ ls
       → superblock_leaves columns rows (trees ++ more) (16 * (col + 1)) (16 * row) ≡ places ys ++ superblock_leaves columns rows more 0 (16 * row + 16)
       → superblock_leaves columns rows (t ∷ (trees ++ more)) (16 * col) (16 * row) ≡ places ls ++ superblock_leaves columns rows more 0 (16 * row + 16)
   row_more col row ls xs ys t trees more lt e is others =
       let next : 16 * (col + 1) ≡ 16 * col + 16 = omega arith in
       let before = lt-ltb (16 * col + 16) columns (omega (arith, lt)) in
-      let rest = subst (λ (x : ℕ). superblock_leaves columns rows (trees ++ more) x (16 * row) ≡ places ys ++ superblock_leaves columns rows more 0 (16 * row + 16)) next others in
+      let rest =
+      subst (λ (x : ℕ). superblock_leaves columns rows (trees ++ more) x (16 * row) ≡ places ys ++ superblock_leaves columns rows more 0 (16 * row + 16))
+      next others in
       let behind = superblock_leaves columns rows more 0 (16 * row + 16) in
-      rw (before, e, rest) (sym (append_assoc (places xs) (places ys) behind) ∙ ap (λ (ps : List (Placed A)). ps ++ behind) (join xs ys ls (places xs) (places ys) refl refl is))
+      rw (before, e, rest)
+      (sym (append_assoc (places xs) (places ys) behind) ∙ ap (λ (ps : List (Placed A)). ps ++ behind) (join xs ys ls (places xs) (places ys) refl refl is))
 
-  row_trees : (n col row : ℕ) (ls : List LeafValue) → 16 * (col + n) < columns → columns ≤ 16 * (col + suc n) → 16 * row < rows → IsSpelled (in_turn (λ i. block h 4 (64 * i) (64 * row)) col (suc n)) ls → OfRow (suc n) col row ls
+  row_trees : (n col row : ℕ) (ls : List LeafValue) → 16 * (col + n) < columns → columns ≤ 16 * (col + suc n) → 16 * row < rows →
+      IsSpelled (in_turn (λ i. block h 4 (64 * i) (64 * row)) col (suc n)) ls → OfRow (suc n) col row ls
   row_trees zero col row ls last end row_in s =
       let (xs, ys, front, behind, is) = spelled_turn (λ i. block h 4 (64 * i) (64 * row)) col 0 ls s in
       let none_left = spelled_no_turn (λ i. block h 4 (64 * i) (64 * row)) (col + 1) ys behind in
@@ -244,7 +270,8 @@ module _ {A : Type 0} (filler : A) (code : LeafValue → A) (h : Header) (column
       (t ∷ trees, ap suc count, λ more. row_more col row ls xs ys t trees more (omega arith) e is (others more))
 
   -- the trees of all rows from one on
-  all_trees : (n across row : ℕ) (ls : List LeafValue) → (h.width + 63) / 64 ≡ suc across → 16 * across < columns → columns ≤ 16 * suc across → 16 * (row + n) < rows + 16 → IsSpelled (in_turn (superblock_row h) row n) ls
+  all_trees : (n across row : ℕ) (ls : List LeafValue) → (h.width + 63) / 64 ≡ suc across → 16 * across < columns → columns ≤ 16 * suc across →
+      16 * (row + n) < rows + 16 → IsSpelled (in_turn (superblock_row h) row n) ls
       → (trees : List (Tree A 4)) × (length trees ≡ n * suc across) × (superblock_leaves columns rows trees 0 (16 * row) ≡ places ls)
   unfolding superblock_row
   all_trees zero across row ls count last end fits s = ([], omega arith, ap places (spelled_no_turn (superblock_row h) row ls s))
@@ -262,7 +289,8 @@ module _ {A : Type 0} (filler : A) (code : LeafValue → A) (h : Header) (column
 side_cells : (n : ℕ) → IsSide n → n ≡ 4 * (n / 4)
 side_cells n side = omega (arith, side.whole)
 
-across_is : (n : ℕ) → 8 ≤ n → n ≡ 4 * (n / 4) → (across : ℕ) × ((n + 63) / 64 ≡ suc across) × ((n / 4 + 15) / 16 ≡ suc across) × (16 * across < n / 4) × (n / 4 ≤ 16 * suc across)
+across_is : (n : ℕ) → 8 ≤ n → n ≡ 4 * (n / 4) → (across : ℕ) × ((n + 63) / 64 ≡ suc across) × ((n / 4 + 15) / 16 ≡ suc across) × (16 * across < n / 4) ×
+    (n / 4 ≤ 16 * suc across)
 across_is n le whole = ((n - 1) / 64, omega (arith, le, whole), omega (arith, le, whole), omega (arith, le, whole), omega (arith, le, whole))
 
 rows_fit : (n : ℕ) → n ≡ 4 * (n / 4) → ((n + 63) / 64 ≡ (n / 4 + 15) / 16) × (16 * (0 + (n / 4 + 15) / 16) < n / 4 + 16)
@@ -280,7 +308,8 @@ plan_trees filler code p s =
     let (across, count, across_count, last, end) = across_is h.width frame.width.least width_is in
     let (down, fits) = rows_fit h.height height_is in
     let rows_spelled = subst (λ (n : ℕ). IsSpelled (in_turn (superblock_row h) 0 n) p.leaves) down pieces.leaves in
-    let (trees, trees_count, are) = all_trees filler code h (h.width / 4) (h.height / 4) width_is height_is ((h.height / 4 + 15) / 16) across 0 p.leaves count last end fits rows_spelled in
+    let (trees, trees_count, are) =
+    all_trees filler code h (h.width / 4) (h.height / 4) width_is height_is ((h.height / 4 + 15) / 16) across 0 p.leaves count last end fits rows_spelled in
     (trees, trees_count ∙ ap (λ (n : ℕ). (h.height / 4 + 15) / 16 * n) (sym across_count) ∙ mul_comm _ _, are)
 
 some_leaf : LeafValue

@@ -1,5 +1,6 @@
 -- A plan composed of pieces is spelled: a frame in its ranges, slots with planes of the frame's depth, and leaves that are spelled.
-use Rattle.std.proofs.Common.{◌≡◌, ℕ, zero, suc, ◌+◌, ◌<◌, ◌≤◌, ◌^◌, ◌⊎◌, inl, inr, Bool, true, false, List, [], ◌∷◌, ◌++◌, length, get_or, All, Option, Some, None, refl, sym, ap, subst, ◌∙◌, append_assoc, arith, slice_index_or, lit<}
+use Rattle.std.proofs.Common.{◌≡◌, ℕ, zero, suc, ◌+◌, ◌<◌, ◌≤◌, ◌^◌, ◌⊎◌, inl, inr, Bool, true, false, List, [], ◌∷◌, ◌++◌, length, get_or, All, Option, Some}
+use Rattle.std.proofs.Common.{None, refl, sym, ap, subst, ◌∙◌, append_assoc, arith, slice_index_or, lit<}
 use Rattle.std.specs.Prelude.{◌==◌, is_some, if◌then◌else◌}
 use Rattle.std.proofs.lemmas.Bool.{cases_lt, lt-ltb, le-leb}
 use Rattle.std.proofs.lemmas.List.{get_or-map, get_or_default, get_or_past, length-map}
@@ -10,7 +11,8 @@ use Rattle.av1_plan.specs.declared.header.Header.{Header}
 use Rattle.av1_plan.specs.declared.planes.Planes.{Planes}
 use Rattle.av1_plan.specs.Format.{one, two, any, Kind, Format, done, asks, ◌>>=◌, IsAdmitted, field, lone, ◌++>◌, in_turn}
 use Rattle.av1_plan.specs.Geometry.{plane_len, has_slot}
-use Rattle.av1_plan.specs.Grammar.{where_, byte_from, is_side, is_depth, version, slots, frame, header, sample, plane, reference, slot_planes, references, plan, plan_behind, superblocks}
+use Rattle.av1_plan.specs.Grammar.{where_, byte_from, is_side, is_depth, version, slots, frame, header, sample, plane, reference, slot_planes, references, plan}
+use Rattle.av1_plan.specs.Grammar.{plan_behind, superblocks}
 use Rattle.av1_plan.specs.Plan.{PlanValue, slot_value, slot_values, ArePresent}
 use Rattle.av1_plan.specs.ReadPlans.{IsSide, IsReadFrame, ArePlane, IsStoredSlot, AreStoredSlots}
 use Rattle.av1_plan.specs.Pieces.{PiecesArePlan}
@@ -35,10 +37,12 @@ pub lone_spelled : {A : Type 0} (f : Format A) (x : A) → IsSpelled f x → IsS
 lone_spelled f x s = bind_spelled f (λ x. done (x ∷ [])) x (x ∷ []) s (done_spelled (x ∷ []))
 
 pub both_spelled : {A : Type 0} (f g : Format (List A)) (xs ys : List A) → IsSpelled f xs → IsSpelled g ys → IsSpelled (f ++> g) (xs ++ ys)
-both_spelled f g xs ys s t = bind_spelled f (λ xs. g >>= λ ys. done (xs ++ ys)) xs (xs ++ ys) s (bind_spelled g (λ ys. done (xs ++ ys)) ys (xs ++ ys) t (done_spelled (xs ++ ys)))
+both_spelled f g xs ys s t =
+    bind_spelled f (λ xs. g >>= λ ys. done (xs ++ ys)) xs (xs ++ ys) s (bind_spelled g (λ ys. done (xs ++ ys)) ys (xs ++ ys) t (done_spelled (xs ++ ys)))
 
 -- items in turn, one each
-pub turns_spelled : {A : Type 0} (f : ℕ → Format A) (i : ℕ) (xs : List A) → ((k : ℕ) (d : A) → k < length xs → IsSpelled (f (i + k)) (get_or xs k d)) → IsSpelled (in_turn (λ j. lone (f j)) i (length xs)) xs
+pub turns_spelled : {A : Type 0} (f : ℕ → Format A) (i : ℕ) (xs : List A) → ((k : ℕ) (d : A) → k < length xs → IsSpelled (f (i + k)) (get_or xs k d)) →
+    IsSpelled (in_turn (λ j. lone (f j)) i (length xs)) xs
 unfolding in_turn
 turns_spelled f i [] each = done_spelled []
 turns_spelled f i (x ∷ xs) each =
@@ -82,7 +86,12 @@ seven_spelled (a ∷ b ∷ c ∷ d ∷ e ∷ f ∷ g ∷ []) count all = record 
 }
   where
     at : (k v : ℕ) → v ≡ get_or (a ∷ b ∷ c ∷ d ∷ e ∷ f ∷ g ∷ []) k 0 → IsAdmitted (byte_from 0 7) v
-    at k v is = elim (cases_lt k 7) [ inl lt ↦ slot_admitted v (subst (λ (x : ℕ). x < 8) (sym is) (all k 0 lt)) | inr le ↦ slot_admitted v (omega (arith, is, get_or_past (a ∷ b ∷ c ∷ d ∷ e ∷ f ∷ g ∷ []) k 0 le)) ]
+    at k v is =
+        elim (cases_lt k 7) [
+          | inl lt ↦ slot_admitted v (subst (λ (x : ℕ). x < 8) (sym is) (all k 0 lt))
+          | inr le ↦ slot_admitted v
+              (omega (arith, is, get_or_past (a ∷ b ∷ c ∷ d ∷ e ∷ f ∷ g ∷ []) k 0 le))
+        ]
 seven_spelled [] count all = absurd (omega (arith, count))
 seven_spelled (a ∷ []) count all = absurd (omega (arith, count))
 seven_spelled (a ∷ b ∷ []) count all = absurd (omega (arith, count))
@@ -110,17 +119,60 @@ version_spelled (suc (suc zero)) least most = record { values = second_letters.f
 version_spelled (suc (suc (suc n))) least most = absurd (omega (arith, most))
 
 frame_spelled : (version width height depth sampling : ℕ) (filter : FilterMode) (edge_filter : Bool) (xs : List ℕ) (mask : ℕ)
-    → IsReadFrame (record { version = version; width = width; height = height; depth = depth; sampling = sampling; filter = filter; edge_filter = edge_filter; slots = xs; mask = mask })
-    → IsSpelled (frame version) (record { version = version; width = width; height = height; depth = depth; sampling = sampling; filter = filter; edge_filter = edge_filter; slots = xs; mask = mask })
+    → IsReadFrame (record {
+      version = version;
+      width = width;
+      height = height;
+      depth = depth;
+      sampling = sampling;
+      filter = filter;
+      edge_filter = edge_filter;
+      slots = xs;
+      mask = mask;
+    })
+    → IsSpelled (frame version)
+    (record {
+      version = version;
+      width = width;
+      height = height;
+      depth = depth;
+      sampling = sampling;
+      filter = filter;
+      edge_filter = edge_filter;
+      slots = xs;
+      mask = mask;
+    })
 unfolding frame
 frame_spelled version width height depth sampling filter edge_filter xs mask is =
-    let h : Header = record { version = version; width = width; height = height; depth = depth; sampling = sampling; filter = filter; edge_filter = edge_filter; slots = xs; mask = mask } in
+    let h : Header = record {
+      version = version;
+      width = width;
+      height = height;
+      depth = depth;
+      sampling = sampling;
+      filter = filter;
+      edge_filter = edge_filter;
+      slots = xs;
+      mask = mask;
+    } in
     let number = filter_number filter in
-    let end : IsSpelled (done (record { version = version; width = width; height = height; depth = depth; sampling = sampling; filter = filter_of number; edge_filter = choice edge_filter == 1; slots = xs; mask = mask })) h =
+    let end : IsSpelled
+    (done (record {
+      version = version;
+      width = width;
+      height = height;
+      depth = depth;
+      sampling = sampling;
+      filter = filter_of number;
+      edge_filter = choice edge_filter == 1;
+      slots = xs;
+      mask = mask;
+    })) h =
     subst (λ (g : Header). IsSpelled (done g) h) (made filter edge_filter) (done_spelled h) in
     let s9 = asks_spelled (any one) _ mask h (record { fits = is.mask; admitted = refl }) end in
     let s8 = bind_spelled slots _ xs h (seven_spelled xs is.slots.count is.slots.range) s9 in
-    let s7 = asks_spelled (byte_from 0 1) _ (choice edge_filter) h (byte_admitted 0 1 (choice edge_filter) (lit< tt) (zero_le _) (choice_small edge_filter)) s8 in
+    let s7 = asks_spelled (byte_from 0 1) _ (choice edge_filter) h (byte_admitted 0 1 (choice edge_filter) (lit< tt) (zero_le _) (choice_small edge_filter)) s8
+    in
     let s6 = asks_spelled (byte_from 0 3) _ number h (byte_admitted 0 3 number (lit< tt) (zero_le number) (below_four number is.filter)) s7 in
     let s5 = asks_spelled (byte_from 0 2) _ sampling h (byte_admitted 0 2 sampling (lit< tt) (zero_le _) is.sampling) s6 in
     let s4 = asks_spelled (where_ one is_depth) _ depth h (depth_admitted depth is.depth) s5 in
@@ -128,10 +180,52 @@ frame_spelled version width height depth sampling filter edge_filter xs mask is 
     asks_spelled (where_ two is_side) _ width h (side_admitted width is.width) s3
   where
     made : (f : FilterMode) (b : Bool)
-        → Same (record { version = version; width = width; height = height; depth = depth; sampling = sampling; filter = f; edge_filter = b; slots = xs; mask = mask })
-        (record { version = version; width = width; height = height; depth = depth; sampling = sampling; filter = filter_of (filter_number f); edge_filter = choice b == 1; slots = xs; mask = mask })
-    made f true = ap (λ (g : FilterMode). let h : Header = record { version = version; width = width; height = height; depth = depth; sampling = sampling; filter = g; edge_filter = true; slots = xs; mask = mask } in h) (sym (filter_back f))
-    made f false = ap (λ (g : FilterMode). let h : Header = record { version = version; width = width; height = height; depth = depth; sampling = sampling; filter = g; edge_filter = false; slots = xs; mask = mask } in h) (sym (filter_back f))
+        → Same (record {
+          version = version;
+          width = width;
+          height = height;
+          depth = depth;
+          sampling = sampling;
+          filter = f;
+          edge_filter = b;
+          slots = xs;
+          mask = mask;
+        })
+        (record {
+          version = version;
+          width = width;
+          height = height;
+          depth = depth;
+          sampling = sampling;
+          filter = filter_of (filter_number f);
+          edge_filter = choice b == 1;
+          slots = xs;
+          mask = mask;
+        })
+    made f true =
+        ap (λ (g : FilterMode). let h : Header = record {
+          version = version;
+          width = width;
+          height = height;
+          depth = depth;
+          sampling = sampling;
+          filter = g;
+          edge_filter = true;
+          slots = xs;
+          mask = mask;
+        } in h) (sym (filter_back f))
+    made f false =
+        ap (λ (g : FilterMode). let h : Header = record {
+          version = version;
+          width = width;
+          height = height;
+          depth = depth;
+          sampling = sampling;
+          filter = g;
+          edge_filter = false;
+          slots = xs;
+          mask = mask;
+        } in h) (sym (filter_back f))
 
 pub header_spelled : (h : Header) → IsReadFrame h → IsSpelled header h
 unfolding header
@@ -143,15 +237,19 @@ header_spelled h is =
 
 sample_spelled : (depth v : ℕ) → (depth ≡ 8) ⊎ (depth ≡ 10) ⊎ (depth ≡ 12) → v < 2 ^ depth → IsSpelled (field (sample depth)) v
 sample_spelled depth v (inl e) lt =
-    subst (λ (d : ℕ). IsSpelled (field (sample d)) v) (sym e) (record { values = v ∷ []; spells = (record { fits = subst (λ (d : ℕ). v < 2 ^ d) e lt; admitted = refl }, refl) })
+    subst (λ (d : ℕ). IsSpelled (field (sample d)) v) (sym e)
+    (record { values = v ∷ []; spells = (record { fits = subst (λ (d : ℕ). v < 2 ^ d) e lt; admitted = refl }, refl) })
 sample_spelled depth v (inr (inl e)) lt =
     let low : v < 2 ^ 10 = subst (λ (d : ℕ). v < 2 ^ d) e lt in
-    subst (λ (d : ℕ). IsSpelled (field (sample d)) v) (sym e) (record { values = v ∷ []; spells = (record { fits = omega (arith, low); admitted = lt-ltb v (2 ^ 10) low }, refl) })
+    subst (λ (d : ℕ). IsSpelled (field (sample d)) v) (sym e)
+    (record { values = v ∷ []; spells = (record { fits = omega (arith, low); admitted = lt-ltb v (2 ^ 10) low }, refl) })
 sample_spelled depth v (inr (inr e)) lt =
     let low : v < 2 ^ 12 = subst (λ (d : ℕ). v < 2 ^ d) e lt in
-    subst (λ (d : ℕ). IsSpelled (field (sample d)) v) (sym e) (record { values = v ∷ []; spells = (record { fits = omega (arith, low); admitted = lt-ltb v (2 ^ 12) low }, refl) })
+    subst (λ (d : ℕ). IsSpelled (field (sample d)) v) (sym e)
+    (record { values = v ∷ []; spells = (record { fits = omega (arith, low); admitted = lt-ltb v (2 ^ 12) low }, refl) })
 
-pub plane_spelled : (h : Header) (p : ℕ) (xs : List ℕ) → (h.depth ≡ 8) ⊎ (h.depth ≡ 10) ⊎ (h.depth ≡ 12) → ArePlane h p xs → IsSpelled (plane h.depth (plane_len h p)) xs
+pub plane_spelled : (h : Header) (p : ℕ) (xs : List ℕ) → (h.depth ≡ 8) ⊎ (h.depth ≡ 10) ⊎ (h.depth ≡ 12) → ArePlane h p xs →
+    IsSpelled (plane h.depth (plane_len h p)) xs
 unfolding plane
 plane_spelled h p xs depth are =
     subst (λ (n : ℕ). IsSpelled (in_turn (λ _. lone (field (sample h.depth))) 0 n) xs) are.count
@@ -181,18 +279,21 @@ planes_spelled h planes depth a =
     (bind_spelled (plane h.depth (plane_len h 1)) _ a.u three (plane_spelled h 1 a.u depth a.u_is)
     (bind_spelled (plane h.depth (plane_len h 2)) _ a.v three (plane_spelled h 2 a.v depth a.v_is) (done_spelled three))))
 
-slot_spelled : (h : Header) (slot : ℕ) (o : Option (List (List ℕ))) → (h.depth ≡ 8) ⊎ (h.depth ≡ 10) ⊎ (h.depth ≡ 12) → IsListedSlot h slot o → IsSpelled (slot_planes h slot) o
+slot_spelled : (h : Header) (slot : ℕ) (o : Option (List (List ℕ))) → (h.depth ≡ 8) ⊎ (h.depth ≡ 10) ⊎ (h.depth ≡ 12) → IsListedSlot h slot o →
+    IsSpelled (slot_planes h slot) o
 unfolding slot_planes
 slot_spelled h slot (Some planes) depth is =
     let whole : IsSpelled (reference h >>= λ planes. done (Some planes)) (Some planes) =
     bind_spelled (reference h) (λ planes. done (Some planes)) planes (Some planes) (planes_spelled h planes depth is.1) (done_spelled (Some planes)) in
     subst (λ (b : Bool). IsSpelled (if b then (reference h >>= λ planes. done (Some planes)) else done None) (Some planes)) (sym is.0) whole
-slot_spelled h slot None depth is = subst (λ (b : Bool). IsSpelled (if b then (reference h >>= λ planes. done (Some planes)) else done None) None) (sym is) (done_spelled None)
+slot_spelled h slot None depth is = subst (λ (b : Bool). IsSpelled (if b then (reference h >>= λ planes. done (Some planes)) else done None) None) (sym is)
+    (done_spelled None)
 
 abbrev pub AreListedSlots : Header → List (Option (List (List ℕ))) → Type 0
 AreListedSlots h slots = (s : ℕ) → s < 8 → IsListedSlot h s (slice_index_or slots s None)
 
-slots_spelled : (h : Header) (listed : List (Option (List (List ℕ)))) → (h.depth ≡ 8) ⊎ (h.depth ≡ 10) ⊎ (h.depth ≡ 12) → length listed ≡ 8 → AreListedSlots h listed → IsSpelled (references h) listed
+slots_spelled : (h : Header) (listed : List (Option (List (List ℕ)))) → (h.depth ≡ 8) ⊎ (h.depth ≡ 10) ⊎ (h.depth ≡ 12) → length listed ≡ 8 →
+    AreListedSlots h listed → IsSpelled (references h) listed
 unfolding references
 slots_spelled h listed depth eight are =
     subst (λ (n : ℕ). IsSpelled (in_turn (λ slot. lone (slot_planes h slot)) 0 n) listed) eight (turns_spelled (slot_planes h) 0 listed each)
@@ -200,16 +301,19 @@ slots_spelled h listed depth eight are =
     each : (k : ℕ) (d : Option (List (List ℕ))) → k < length listed → IsSpelled (slot_planes h (0 + k)) (get_or listed k d)
     each k d lt =
         let s = slot_spelled h k (slice_index_or listed k None) depth (are k (omega (arith, lt, eight))) in
-        subst (λ (j : ℕ). IsSpelled (slot_planes h j) (get_or listed k d)) (omega arith) (subst (IsSpelled (slot_planes h k)) (get_or_default listed k None d lt) s)
+        subst (λ (j : ℕ). IsSpelled (slot_planes h j) (get_or listed k d)) (omega arith)
+        (subst (IsSpelled (slot_planes h k)) (get_or_default listed k None d lt) s)
 
 -- slots in memory
 listed_slot : (h : Header) (slot : ℕ) (o : Option Planes) → IsStoredSlot h slot o → IsListedSlot h slot (slot_value o)
-listed_slot h slot (Some planes) is = (is.0, record { y = planes.y.items; u = planes.u.items; v = planes.v.items; are = refl; y_is = is.1; u_is = is.2; v_is = is.3 })
+listed_slot h slot (Some planes) is =
+    (is.0, record { y = planes.y.items; u = planes.u.items; v = planes.v.items; are = refl; y_is = is.1; u_is = is.2; v_is = is.3 })
 listed_slot h slot None is = is
 
 listed_slots : (h : Header) (stored : List (Option Planes)) → length stored ≡ 8 → AreStoredSlots h stored 8 → AreListedSlots h (slot_values stored)
 listed_slots h stored eight are s lt =
-    subst (IsListedSlot h s) (sym (get_or-map slot_value stored s None None (omega (arith, lt, eight)))) (listed_slot h s (slice_index_or stored s None) (are s lt))
+    subst (IsListedSlot h s) (sym (get_or-map slot_value stored s None None (omega (arith, lt, eight))))
+    (listed_slot h s (slice_index_or stored s None) (are s lt))
 
 pub stored_present : (h : Header) (stored : List (Option Planes)) (n : ℕ) → AreStoredSlots h stored n → ArePresent h stored n
 stored_present h stored n are s lt = present (slice_index_or stored s None) (are s lt)
@@ -220,14 +324,17 @@ stored_present h stored n are s lt = present (slice_index_or stored s None) (are
 
 -- ---- the whole
 
-pub plan_listed : (h : Header) (listed : List (Option (List (List ℕ)))) (p : PlanValue) → IsReadFrame h → length listed ≡ 8 → AreListedSlots h listed → IsSpelled (plan_behind h listed) p → IsSpelled plan p
+pub plan_listed : (h : Header) (listed : List (Option (List (List ℕ)))) (p : PlanValue) → IsReadFrame h → length listed ≡ 8 → AreListedSlots h listed →
+    IsSpelled (plan_behind h listed) p → IsSpelled plan p
 unfolding plan plan_behind
 plan_listed h listed p is eight are behind =
     bind_spelled header _ h p (header_spelled h is)
     (bind_spelled (references h) _ listed p (slots_spelled h listed is.depth eight are) behind)
 
-pub plan_spelled : (h : Header) (stored : List (Option Planes)) (p : PlanValue) → IsReadFrame h → length stored ≡ 8 → AreStoredSlots h stored 8 → IsSpelled (plan_behind h (slot_values stored)) p → IsSpelled plan p
-plan_spelled h stored p is eight are behind = plan_listed h (slot_values stored) p is (length-map stored slot_value ∙ eight) (listed_slots h stored eight are) behind
+pub plan_spelled : (h : Header) (stored : List (Option Planes)) (p : PlanValue) → IsReadFrame h → length stored ≡ 8 → AreStoredSlots h stored 8 →
+    IsSpelled (plan_behind h (slot_values stored)) p → IsSpelled plan p
+plan_spelled h stored p is eight are behind =
+    plan_listed h (slot_values stored) p is (length-map stored slot_value ∙ eight) (listed_slots h stored eight are) behind
 
 pieces_bytes : (head samples part vb wb ub : List ℕ) → head ≡ vb → samples ≡ wb → part ≡ ub → head ++ samples ++ part ≡ vb ++ (wb ++ ub)
 pieces_bytes head samples part vb wb ub v w u = rw (v, w, u) (append_assoc vb wb ub)
@@ -235,7 +342,12 @@ pieces_bytes head samples part vb wb ub v w u = rw (v, w, u) (append_assoc vb wb
 pub pieces_are_plan : PiecesArePlan
 unfolding plan plan_behind
 pieces_are_plan head samples part h stored p (vs, s, v) (ws, t, w) (us, u, b) =
-    let rest : (h : Header) → List (Option (List (List ℕ))) → Format PlanValue = λ h stored. superblocks h >>= λ leaves. done (record { header = h; references = stored; leaves = leaves }) in
+    let rest : (h : Header) → List (Option (List (List ℕ))) → Format PlanValue =
+    λ h stored. superblocks h >>= λ leaves. done (record { header = h; references = stored; leaves = leaves }) in
     let (behind_spells, behind_bytes) = joined (references h) (rest h) stored p ws us t u in
-    let (whole_spells, whole_bytes) = joined header (λ h. references h >>= rest h) h p vs (ws ++ us) s behind_spells in
-    (vs ++ (ws ++ us), whole_spells, pieces_bytes head samples part _ _ _ v w b ∙ ap (λ (bytes : List ℕ). text header vs ++ bytes) (sym behind_bytes) ∙ sym whole_bytes)
+    let (whole_spells, whole_bytes) = joined header (λ h. references h >>= rest h) h p vs (ws ++ us) s behind_spells in (
+      vs ++ (ws ++ us),
+      whole_spells,
+      pieces_bytes head samples part _ _ _ v w b ∙ ap (λ (bytes : List ℕ). text header vs ++ bytes) (sym behind_bytes)
+          ∙ sym whole_bytes,
+    )

@@ -1,5 +1,6 @@
 -- Triples and leaves that are looked at one after the other.
-use Rattle.std.proofs.Common.{◌≡◌, ℕ, ◌+◌, ◌≤◌, ◌<◌, Bool, true, false, ◌&&◌, List, [], ◌∷◌, length, drop, get_or, Option, Some, None, refl, ◌∙◌, arith, add-one, drop-cons}
+use Rattle.std.proofs.Common.{◌≡◌, ℕ, ◌+◌, ◌≤◌, ◌<◌, Bool, true, false, ◌&&◌, List, [], ◌∷◌, length, drop, get_or, Option, Some, None, refl, ◌∙◌, arith}
+use Rattle.std.proofs.Common.{add-one, drop-cons}
 use Rattle.std.specs.Prelude.{slice_get}
 use Rattle.std.specs.List.{list_all}
 use Rattle.std.proofs.lemmas.List.{drop_all}
@@ -30,19 +31,23 @@ regrouped true false true others = refl
 regrouped true false false others = refl
 regrouped false behind all others = refl
 
-go_on_behind : (h : Header) (p : ℕ) (a : PlaneArea) (s : Triple) (triples : List Triple) → go_on h p a (Some s) triples ≡ (list_all (is_coefficient h p a) triples && rise (s ∷ triples))
+go_on_behind : (h : Header) (p : ℕ) (a : PlaneArea) (s : Triple) (triples : List Triple) →
+    go_on h p a (Some s) triples ≡ (list_all (is_coefficient h p a) triples && rise (s ∷ triples))
 unfolding rise follows
 go_on_behind h p a s [] = refl
-go_on_behind h p a s (t ∷ triples) = rw (go_on_behind h p a t triples) (regrouped (is_coefficient h p a t) (is_before s t) (list_all (is_coefficient h p a) triples) (rise (t ∷ triples)))
+go_on_behind h p a s (t ∷ triples) =
+    rw (go_on_behind h p a t triples) (regrouped (is_coefficient h p a t) (is_before s t) (list_all (is_coefficient h p a) triples) (rise (t ∷ triples)))
 
 -- from the first one on it says what the definition does
 pub go_on_all : (h : Header) (p : ℕ) (a : PlaneArea) (triples : List Triple) → go_on h p a None triples ≡ are_coefficients h p a triples
 unfolding are_coefficients rise follows
 go_on_all h p a [] = refl
-go_on_all h p a (t ∷ triples) = rw (go_on_behind h p a t triples) (regrouped (is_coefficient h p a t) true (list_all (is_coefficient h p a) triples) (rise (t ∷ triples)))
+go_on_all h p a (t ∷ triples) =
+    rw (go_on_behind h p a t triples) (regrouped (is_coefficient h p a t) true (list_all (is_coefficient h p a) triples) (rise (t ∷ triples)))
 
 pub triple_fits : (h : Header) (p : ℕ) (a : PlaneArea) (last : Option Triple) (triples : List Triple) (i : ℕ) (d : Triple) → i < length triples
-    → is_coefficient h p a (get_or triples i d) ≡ true → follows last (get_or triples i d) ≡ true → go_on h p a last (drop i triples) ≡ go_on h p a (Some (get_or triples i d)) (drop (i + 1) triples)
+    → is_coefficient h p a (get_or triples i d) ≡ true → follows last (get_or triples i d) ≡ true →
+    go_on h p a last (drop i triples) ≡ go_on h p a (Some (get_or triples i d)) (drop (i + 1) triples)
 triple_fits h p a last triples i d lt fits behind = rw (front triples i d lt, fits, behind) refl
 
 pub triple_unfit : (h : Header) (p : ℕ) (a : PlaneArea) (last : Option Triple) (triples : List Triple) (i : ℕ) (d : Triple) → i < length triples
@@ -57,7 +62,8 @@ pub triple_not_behind : (h : Header) (p : ℕ) (a : PlaneArea) (last : Option Tr
     → follows last (get_or triples i d) ≡ false → go_on h p a last (drop i triples) ≡ false
 triple_not_behind h p a last triples i d lt not_behind = rw (front triples i d lt, not_behind) (neither (is_coefficient h p a (get_or triples i d)) _)
 
-pub triples_end : (h : Header) (p : ℕ) (a : PlaneArea) (last : Option Triple) (triples : List Triple) (i : ℕ) → length triples ≤ i → go_on h p a last (drop i triples) ≡ true
+pub triples_end : (h : Header) (p : ℕ) (a : PlaneArea) (last : Option Triple) (triples : List Triple) (i : ℕ) → length triples ≤ i →
+    go_on h p a last (drop i triples) ≡ true
 triples_end h p a last triples i le = rw (drop_all i triples le) refl
 
 -- ---- leaves
@@ -67,18 +73,22 @@ item_front xs i x e = front xs i x (slice_get_within xs i x e) ∙ rw (get_or_fr
 
 leaf_front : (triples : List Triple) (leaves : List Leaf) (i : ℕ) (d : Leaf) → i < length leaves
     → drop i (leaf_values triples leaves) ≡ leaf_value triples (get_or leaves i d) ∷ drop (i + 1) (leaf_values triples leaves)
-leaf_front triples leaves i d lt = item_front (leaf_values triples leaves) i _ (stored_leaf triples leaves i (get_or leaves i d) (slice_get-get_or leaves i d lt))
+leaf_front triples leaves i d lt =
+    item_front (leaf_values triples leaves) i _ (stored_leaf triples leaves i (get_or leaves i d) (slice_get-get_or leaves i d lt))
 
-pub leaf_valid : (h : Header) (triples : List Triple) (leaves : List Leaf) (i : ℕ) (d : Leaf) → i < length leaves → fault_of h (leaf_value triples (get_or leaves i d)) ≡ None
+pub leaf_valid : (h : Header) (triples : List Triple) (leaves : List Leaf) (i : ℕ) (d : Leaf) → i < length leaves →
+    fault_of h (leaf_value triples (get_or leaves i d)) ≡ None
     → fault_from h i (drop i (leaf_values triples leaves)) ≡ fault_from h (i + 1) (drop (i + 1) (leaf_values triples leaves))
 unfolding fault_from
 leaf_valid h triples leaves i d lt valid = rw (leaf_front triples leaves i d lt, valid) refl
 
-pub leaf_faulty : (h : Header) (triples : List Triple) (leaves : List Leaf) (i : ℕ) (d : Leaf) (kind : InvalidKind) → i < length leaves → fault_of h (leaf_value triples (get_or leaves i d)) ≡ Some kind
+pub leaf_faulty : (h : Header) (triples : List Triple) (leaves : List Leaf) (i : ℕ) (d : Leaf) (kind : InvalidKind) → i < length leaves →
+    fault_of h (leaf_value triples (get_or leaves i d)) ≡ Some kind
     → fault_from h i (drop i (leaf_values triples leaves)) ≡ Some (record { leaf = i; kind = kind })
 unfolding fault_from
 leaf_faulty h triples leaves i d kind lt faulty = rw (leaf_front triples leaves i d lt, faulty) refl
 
-pub leaves_end : (h : Header) (triples : List Triple) (leaves : List Leaf) (i : ℕ) → length leaves ≤ i → fault_from h i (drop i (leaf_values triples leaves)) ≡ None
+pub leaves_end : (h : Header) (triples : List Triple) (leaves : List Leaf) (i : ℕ) → length leaves ≤ i →
+    fault_from h i (drop i (leaf_values triples leaves)) ≡ None
 unfolding fault_from
 leaves_end h triples leaves i le = rw (drop_all i (leaf_values triples leaves) (omega (arith, length-leaf_values triples leaves))) refl

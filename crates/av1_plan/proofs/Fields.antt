@@ -1,5 +1,6 @@
 -- A field that is read is one that is spelled, and what is spelled is read.
-use Rattle.std.proofs.Common.{◌≡◌, ℕ, ◌+◌, ◌<◌, ◌≤◌, Bool, true, false, ◌&&◌, cond, leb, List, [], ◌∷◌, ◌++◌, length, get_or, take, drop, Ok, Err, refl, sym, ap, subst, ◌∙◌, arith, inl, inr, IsTrue}
+use Rattle.std.proofs.Common.{◌≡◌, ℕ, ◌+◌, ◌<◌, ◌≤◌, Bool, true, false, ◌&&◌, cond, leb, List, [], ◌∷◌, ◌++◌, length, get_or, take, drop, Ok, Err, refl, sym}
+use Rattle.std.proofs.Common.{ap, subst, ◌∙◌, arith, inl, inr, IsTrue}
 use Rattle.std.specs.Int.{w8, byte_len, from_le_bytes, to_le_bytes}
 use Rattle.std.proofs.lemmas.Bool.{cases_lt, leb-true, le-leb}
 use Rattle.std.proofs.lemmas.List.{take_at, drop_at, take-append-drop, length-append, length-take, get_or-drop, get_or-take, get_or_past}
@@ -78,26 +79,30 @@ field_takes k i v j fits e =
     let at-is : i.at + n ≡ j.at = ap (λ (p : ℕ × Input). p.1.at) g.1 in
     let rest-is : drop n i.rest ≡ j.rest = ap (λ (p : ℕ × Input). p.1.rest) g.1 in
     let fits-front = AreBytes-take n i.rest fits in
-    let front : to_le_bytes (width k.size) v ≡ take n i.rest = ap (λ (x : ℕ). to_le_bytes (width k.size) x) (sym v-is) ∙ back k.size (take n i.rest) (omega (arith, length-take n i.rest)) fits-front in
+    let front : to_le_bytes (width k.size) v ≡ take n i.rest = ap (λ (x : ℕ). to_le_bytes (width k.size) x) (sym v-is)
+    ∙ back k.size (take n i.rest) (omega (arith, length-take n i.rest)) fits-front in
     record {
       admitted = record {
         fits = subst (λ (x : ℕ). x < limit k.size) v-is (below k.size (take n i.rest) fits-front);
         admitted = subst (λ (x : ℕ). IsTrue (k.admits x)) v-is t.1;
       };
-      parts = sym (take-append-drop n i.rest) ∙ ap (λ (x : List ℕ). x ++ drop n i.rest) (sym front) ∙ ap (λ (x : List ℕ). to_le_bytes (width k.size) v ++ x) rest-is;
+      parts = sym (take-append-drop n i.rest) ∙ ap (λ (x : List ℕ). x ++ drop n i.rest) (sym front)
+          ∙ ap (λ (x : List ℕ). to_le_bytes (width k.size) v ++ x) rest-is;
       at = sym at-is ∙ ap (λ (x : ℕ). i.at + x) (sym (length-le k.size v));
       fits = subst AreBytes rest-is (AreBytes-drop n i.rest fits);
     }
 
 -- a field of admitted value at the front
-front_field : (k : Kind) (at v : ℕ) (bytes more : List ℕ) → length bytes ≡ byte_len (width k.size) → from_le_bytes (width k.size) bytes ≡ v → IsTrue (k.admits v)
+front_field : (k : Kind) (at v : ℕ) (bytes more : List ℕ) → length bytes ≡ byte_len (width k.size) → from_le_bytes (width k.size) bytes ≡ v →
+    IsTrue (k.admits v)
     → read_field k (record { at = at; rest = bytes ++ more }) ≡ Ok (v, record { at = at + byte_len (width k.size); rest = more })
 unfolding read_field
 front_field k at v bytes more len is h =
     let long : leb (byte_len (width k.size)) (length (bytes ++ more)) ≡ true = le-leb _ _ (omega (arith, length-append bytes more)) in
     rw (long, take_at bytes more (byte_len (width k.size)) len, drop_at bytes more (byte_len (width k.size)) len, is, h) refl
 
-pub field_again : (k : Kind) (at v : ℕ) (more : List ℕ) → IsAdmitted k v → read_field k (record { at = at; rest = to_le_bytes (width k.size) v ++ more }) ≡ Ok (v, record { at = at + byte_len (width k.size); rest = more })
+pub field_again : (k : Kind) (at v : ℕ) (more : List ℕ) → IsAdmitted k v →
+    read_field k (record { at = at; rest = to_le_bytes (width k.size) v ++ more }) ≡ Ok (v, record { at = at + byte_len (width k.size); rest = more })
 field_again k at v more h = front_field k at v (to_le_bytes (width k.size) v) more (length-le k.size v) (again k.size v h.fits) h.admitted
 
 guard_err : (a : Bool) (at : ℕ) (x : ℕ × Input) (d : ℕ) → cond a (ok x) (Err at) ≡ Err d → at ≡ d

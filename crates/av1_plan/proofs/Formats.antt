@@ -6,23 +6,31 @@ use Rattle.av1_plan.specs.declared.error.PlanError.TheVariants as errors
 use Rattle.av1_plan.specs.Format.{Kind, Format, done, asks, ◌>>=◌, Input, Reading, on_ok, read_field, read, nothing, lone, ◌++>◌, in_turn, add}
 use Rattle.av1_plan.specs.Reading.{Fails}
 
-pub on_ok_then : {A B C : Type 0} (r : Reading A) (f : A → Reading B) (g : B → Reading C) (h : A → Reading C) → ((x : A) → h x ≡ on_ok (f x) g) → on_ok r h ≡ on_ok (on_ok r f) g
+pub on_ok_then : {A B C : Type 0} (r : Reading A) (f : A → Reading B) (g : B → Reading C) (h : A → Reading C) → ((x : A) → h x ≡ on_ok (f x) g) →
+    on_ok r h ≡ on_ok (on_ok r f) g
 on_ok_then (Ok x) f g h e = e x
 on_ok_then (Err at) f g h e = refl
 
 pub read_bind : {A B : Type 0} (f : Format A) (g : A → Format B) (i : Input) → read (f >>= g) i ≡ on_ok (read f i) (λ p. read (g p.0) p.1)
 read_bind (done x) g i = refl
-read_bind (asks k next) g i = on_ok_then (read_field k i) (λ p. read (next p.0) p.1) (λ p. read (g p.0) p.1) (λ p. read (next p.0 >>= g) p.1) (λ p. read_bind (next p.0) g p.1)
+read_bind (asks k next) g i = on_ok_then (read_field k i) (λ p. read (next p.0) p.1) (λ p. read (g p.0) p.1) (λ p. read (next p.0 >>= g) p.1)
+    (λ p. read_bind (next p.0) g p.1)
 
 -- ---- reading behind what was read before
 
-pub add_bind : {A B : Type 0} (f : Format A) (g : A → Format (List B)) (xs : List B) (i : Input) → add (f >>= g) (xs, i) ≡ on_ok (read f i) (λ p. add (g p.0) (xs, p.1))
+pub add_bind : {A B : Type 0} (f : Format A) (g : A → Format (List B)) (xs : List B) (i : Input) →
+    add (f >>= g) (xs, i) ≡ on_ok (read f i) (λ p. add (g p.0) (xs, p.1))
 unfolding add
-add_bind f g xs i = rw (read_bind f g i) (sym (on_ok_then (read f i) (λ p. read (g p.0) p.1) (λ p. Ok (xs ++ p.0, p.1)) (λ p. on_ok (read (g p.0) p.1) (λ q. Ok (xs ++ q.0, q.1))) (λ p. refl)))
+add_bind f g xs i =
+    rw (read_bind f g i)
+    (sym (on_ok_then (read f i) (λ p. read (g p.0) p.1) (λ p. Ok (xs ++ p.0, p.1)) (λ p. on_ok (read (g p.0) p.1) (λ q. Ok (xs ++ q.0, q.1))) (λ p. refl)))
 
-pub add_asks : {A : Type 0} (k : Kind) (next : ℕ → Format (List A)) (xs : List A) (i : Input) → add (asks k next) (xs, i) ≡ on_ok (read_field k i) (λ p. add (next p.0) (xs, p.1))
+pub add_asks : {A : Type 0} (k : Kind) (next : ℕ → Format (List A)) (xs : List A) (i : Input) →
+    add (asks k next) (xs, i) ≡ on_ok (read_field k i) (λ p. add (next p.0) (xs, p.1))
 unfolding add
-add_asks k next xs i = sym (on_ok_then (read_field k i) (λ p. read (next p.0) p.1) (λ p. Ok (xs ++ p.0, p.1)) (λ p. on_ok (read (next p.0) p.1) (λ q. Ok (xs ++ q.0, q.1))) (λ p. refl))
+add_asks k next xs i =
+    sym (on_ok_then (read_field k i) (λ p. read (next p.0) p.1) (λ p. Ok (xs ++ p.0, p.1)) (λ p. on_ok (read (next p.0) p.1) (λ q. Ok (xs ++ q.0, q.1)))
+    (λ p. refl))
 
 pub add_done : {A : Type 0} (ys xs : List A) (i : Input) → add (done ys) (xs, i) ≡ Ok (xs ++ ys, i)
 unfolding add
@@ -36,7 +44,8 @@ pub add_lone : {A : Type 0} (f : Format A) (xs : List A) (i : Input) → add (lo
 unfolding add
 add_lone f xs i = add_bind f (λ x. done (x ∷ [])) xs i
 
-regroup : {A : Type 0} (xs ys : List A) (r : Reading (List A × Input)) → on_ok r (λ p. add (done (ys ++ p.0)) (xs, p.1)) ≡ on_ok r (λ p. let q : List A × Input = ((xs ++ ys) ++ p.0, p.1) in Ok q)
+regroup : {A : Type 0} (xs ys : List A) (r : Reading (List A × Input)) →
+    on_ok r (λ p. add (done (ys ++ p.0)) (xs, p.1)) ≡ on_ok r (λ p. let q : List A × Input = ((xs ++ ys) ++ p.0, p.1) in Ok q)
 unfolding add
 regroup xs ys (Ok p) = ap (λ (zs : List _). Ok (zs, p.1)) (sym (append_assoc xs ys p.0))
 regroup xs ys (Err at) = refl
@@ -73,13 +82,15 @@ fails_back (errors.Malformed at) f xs i h = on_ok_err (read f i) (λ p. (xs ++ p
 
 -- ---- one after the other, in a loop
 
-pub turn : {A : Type 0} (f : ℕ → Format (List A)) (count i : ℕ) (s : List A × Input) → i < count → add (in_turn f i (count - i)) s ≡ on_ok (add (f i) s) (add (in_turn f (i + 1) (count - (i + 1))))
+pub turn : {A : Type 0} (f : ℕ → Format (List A)) (count i : ℕ) (s : List A × Input) → i < count →
+    add (in_turn f i (count - i)) s ≡ on_ok (add (f i) s) (add (in_turn f (i + 1) (count - (i + 1))))
 unfolding in_turn
 turn f count i s lt =
     let k : count - i ≡ suc (count - (i + 1)) = omega arith in
     rw k (add_both (f i) (in_turn f (i + 1) (count - (i + 1))) s)
 
-pub turns_end : {A : Type 0} (f : ℕ → Format (List A)) (count i : ℕ) (s : List A × Input) (total : Reading (List A × Input)) → count ≤ i → add (in_turn f i (count - i)) s ≡ total → total ≡ Ok s
+pub turns_end : {A : Type 0} (f : ℕ → Format (List A)) (count i : ℕ) (s : List A × Input) (total : Reading (List A × Input)) → count ≤ i →
+    add (in_turn f i (count - i)) s ≡ total → total ≡ Ok s
 unfolding in_turn
 turns_end f count i s total le so_far =
     let k : count - i ≡ 0 = omega arith in

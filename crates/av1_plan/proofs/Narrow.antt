@@ -3,7 +3,8 @@ use Rattle.std.proofs.Common.{◌≡◌, ℕ, ◌+◌, Bool, true, false, ◌&&�
 use Rattle.std.specs.Int.{byte_len, from_le_bytes}
 use Rattle.av1_plan.specs.Format.{Length, width, Input, any, on_ok, read_field}
 
-narrowed : (whole : Bool) (p : ℕ → Bool) (x : ℕ × Input) (at : ℕ) → cond (whole && p x.0) (Ok x) (Err at) ≡ on_ok (cond (whole && true) (Ok x) (Err at)) (λ q. cond (p q.0) (Ok q) (Err at))
+narrowed : (whole : Bool) (p : ℕ → Bool) (x : ℕ × Input) (at : ℕ) →
+    cond (whole && p x.0) (Ok x) (Err at) ≡ on_ok (cond (whole && true) (Ok x) (Err at)) (λ q. cond (p q.0) (Ok q) (Err at))
 narrowed true p x at = refl
 narrowed false p x at = refl
 

@@ -11,7 +11,8 @@ use Rattle.av1_blocks.specs.Blocks.{block_width, block_height}
 use Rattle.av1_plan.specs.declared.header.Header.{Header}
 use Rattle.av1_plan.specs.Format.{Format, ◌++>◌, lone, in_turn}
 use Rattle.av1_plan.specs.Geometry.{is_inside}
-use Rattle.av1_plan.specs.Grammar.{leaf, half_side, quarter_side, whole_size, part_size, part, mark, wide_stripes, tall_stripes, parts, block, superblock_row, superblocks}
+use Rattle.av1_plan.specs.Grammar.{leaf, half_side, quarter_side, whole_size, part_size, part, mark, wide_stripes, tall_stripes, parts, block, superblock_row}
+use Rattle.av1_plan.specs.Grammar.{superblocks}
 use Rattle.av1_plan.specs.Plan.{LeafValue}
 use Rattle.av1_plan.specs.Spelling.{IsSpelled}
 use Rattle.av1_plan.proofs.Marks.{IsCut, IsStriped, behind_quarter, behind_quarters, spelled_mark, striped_is}
@@ -127,7 +128,8 @@ record HasShape (h : Header) (width height x y : ℕ) : Type 0 where
   wide : width ≡ 4 * height → 4 * x + width ≤ h.width
   high : height ≡ 4 * width → 4 * y + height ≤ h.height
 
-shape_is : (h : Header) (width height columns rows x y : ℕ) → width ≡ 4 * columns → height ≡ 4 * rows → IsShaped h columns rows x y → HasShape h width height x y
+shape_is : (h : Header) (width height columns rows x y : ℕ) → width ≡ 4 * columns → height ≡ 4 * rows → IsShaped h columns rows x y →
+    HasShape h width height x y
 shape_is h width height columns rows x y e f (inl n) =
     let some = n.some in
     let not_wide = n.not_wide in
@@ -196,19 +198,23 @@ stripe_ends h k x y is =
     let side : 2 * half_side (suc (suc k)) ≡ 16 * 2 ^ k = omega (arith, pow-succ' 2 k, pow-succ' 2 (suc k)) in
     (omega (arith, side, is.right), omega (arith, side, is.below))
 
-all_turns : {A : Type 0} (P : A → Type 0) (f : ℕ → Format (List A)) (i n : ℕ) (zs : List A) → ((j : ℕ) (xs : List A) → IsSpelled (f j) xs → All P xs) → IsSpelled (in_turn f i n) zs → All P zs
+all_turns : {A : Type 0} (P : A → Type 0) (f : ℕ → Format (List A)) (i n : ℕ) (zs : List A) → ((j : ℕ) (xs : List A) → IsSpelled (f j) xs → All P xs) →
+    IsSpelled (in_turn f i n) zs → All P zs
 all_turns P f i zero zs each s = subst (All P) (spelled_no_turn f i zs s) (All-nil P)
 all_turns P f i (suc n) zs each s =
     let (xs, ys, front, behind, is) = spelled_turn f i n zs s in
     subst (All P) is (All-append P xs ys (each i xs front) (all_turns P f (i + 1) n ys each behind))
 
-module _ (h : Header) (P : LeafValue → Type 0) (each : (size : BlockSize) (x y : ℕ) (l : LeafValue) → IsPlace h size x y → IsSpelled (leaf h size x y) l → P l) where
-  all_both : (f g : Format (List LeafValue)) (ls : List LeafValue) → ((xs : List LeafValue) → IsSpelled f xs → All P xs) → ((ys : List LeafValue) → IsSpelled g ys → All P ys) → IsSpelled (f ++> g) ls → All P ls
+module _ (h : Header) (P : LeafValue → Type 0) (each : (size : BlockSize) (x y : ℕ) (l : LeafValue) → IsPlace h size x y → IsSpelled (leaf h size x y) l →
+    P l) where
+  all_both : (f g : Format (List LeafValue)) (ls : List LeafValue) → ((xs : List LeafValue) → IsSpelled f xs → All P xs) →
+      ((ys : List LeafValue) → IsSpelled g ys → All P ys) → IsSpelled (f ++> g) ls → All P ls
   all_both f g ls front behind s =
       let (xs, ys, xs_spelled, ys_spelled, is) = spelled_both f g ls s in
       subst (All P) is (All-append P xs ys (front xs xs_spelled) (behind ys ys_spelled))
 
-  all_part : (size : BlockSize) (columns rows x y : ℕ) (ls : List LeafValue) → HasCells size columns rows → IsShaped h columns rows x y → IsOn columns x → IsOn rows y → IsSpelled (part h size (4 * x) (4 * y)) ls → All P ls
+  all_part : (size : BlockSize) (columns rows x y : ℕ) (ls : List LeafValue) → HasCells size columns rows → IsShaped h columns rows x y → IsOn columns x →
+      IsOn rows y → IsSpelled (part h size (4 * x) (4 * y)) ls → All P ls
   unfolding part
   all_part size columns rows x y ls cells shaped at_x at_y s = elim (spelled_where (is_inside h (4 * x) (4 * y)) (lone (leaf h size (4 * x) (4 * y))) ls s) [
     | inl (within, t) ↦
@@ -234,19 +240,24 @@ module _ (h : Header) (P : LeafValue → Type 0) (each : (size : BlockSize) (x y
   abbrev OfNodes : ℕ → Type 0
   OfNodes k = (x y : ℕ) (ls : List LeafValue) → IsOn (2 ^ k) x → IsOn (2 ^ k) y → IsSpelled (block h k (4 * x) (4 * y)) ls → All P ls
 
-  all_four : (f g k m : Format (List LeafValue)) (ls : List LeafValue) → ((xs : List LeafValue) → IsSpelled f xs → All P xs) → ((xs : List LeafValue) → IsSpelled g xs → All P xs)
-      → ((xs : List LeafValue) → IsSpelled k xs → All P xs) → ((xs : List LeafValue) → IsSpelled m xs → All P xs) → IsSpelled (f ++> g ++> k ++> m) ls → All P ls
+  all_four : (f g k m : Format (List LeafValue)) (ls : List LeafValue) → ((xs : List LeafValue) → IsSpelled f xs → All P xs) →
+      ((xs : List LeafValue) → IsSpelled g xs → All P xs)
+      → ((xs : List LeafValue) → IsSpelled k xs → All P xs) → ((xs : List LeafValue) → IsSpelled m xs → All P xs) → IsSpelled (f ++> g ++> k ++> m) ls →
+      All P ls
   all_four f g k m ls a b c d s = all_both (f ++> g ++> k) m ls (λ fgk t. all_both (f ++> g) k fgk (λ fg u. all_both f g fg a b u) c t) d s
 
   -- four nodes
   all_split : (k x y : ℕ) (ls : List LeafValue) → IsOn (2 ^ suc k) x → IsOn (2 ^ suc k) y → OfNodes k
-      → IsSpelled (block h k (4 * x) (4 * y) ++> block h k (4 * x + half_side (suc k)) (4 * y) ++> block h k (4 * x) (4 * y + half_side (suc k)) ++> block h k (4 * x + half_side (suc k)) (4 * y + half_side (suc k))) ls → All P ls
+      → IsSpelled (block h k (4 * x) (4 * y) ++> block h k (4 * x + half_side (suc k)) (4 * y) ++> block h k (4 * x)
+      (4 * y + half_side (suc k)) ++> block h k (4 * x + half_side (suc k)) (4 * y + half_side (suc k))) ls → All P ls
   all_split k x y ls at_x at_y node s =
       let (left, right) = both_halves k x at_x in
       let (upper, lower) = both_halves k y at_y in
       let t = rw (behind_half k x, behind_half k y) at s in
-      all_four (block h k (4 * x) (4 * y)) (block h k (4 * (x + 2 ^ k)) (4 * y)) (block h k (4 * x) (4 * (y + 2 ^ k))) (block h k (4 * (x + 2 ^ k)) (4 * (y + 2 ^ k))) ls
-      (λ zs. node x y zs left upper) (λ zs. node (x + 2 ^ k) y zs right upper) (λ zs. node x (y + 2 ^ k) zs left lower) (λ zs. node (x + 2 ^ k) (y + 2 ^ k) zs right lower) t
+      all_four (block h k (4 * x) (4 * y)) (block h k (4 * (x + 2 ^ k)) (4 * y)) (block h k (4 * x) (4 * (y + 2 ^ k)))
+      (block h k (4 * (x + 2 ^ k)) (4 * (y + 2 ^ k))) ls
+      (λ zs. node x y zs left upper) (λ zs. node (x + 2 ^ k) y zs right upper) (λ zs. node x (y + 2 ^ k) zs left lower)
+      (λ zs. node (x + 2 ^ k) (y + 2 ^ k) zs right lower) t
 
   -- four leaves above one another
   all_wide_stripes : (k x y : ℕ) (ls : List LeafValue) → suc k ≤ 4 → IsOn (2 ^ suc k) x → IsOn (2 ^ suc k) y → IsStriped h (suc k) (4 * x) (4 * y)
@@ -261,11 +272,16 @@ module _ (h : Header) (P : LeafValue → Type 0) (each : (size : BlockSize) (x y
       let wide = quarter_on k x at_x in
       let (first, second, third, fourth) = quarters (2 ^ k) y (quarter_on k y at_y) in
       let t = rw (behind_quarter k y, behind_quarters 2 k y, behind_quarters 3 k y) at s in
-      all_four (part h size (4 * x) (4 * y)) (part h size (4 * x) (4 * (y + n))) (part h size (4 * x) (4 * (y + 2 * n))) (part h size (4 * x) (4 * (y + 3 * n))) ls
-      (λ zs. all_part size (4 * n) n x y zs cells (inr (record { version = is.version; right = omega (arith, right); below = omega (arith, below) })) wide first)
-      (λ zs. all_part size (4 * n) n x (y + n) zs cells (inr (record { version = is.version; right = omega (arith, right); below = omega (arith, below) })) wide second)
-      (λ zs. all_part size (4 * n) n x (y + 2 * n) zs cells (inr (record { version = is.version; right = omega (arith, right); below = omega (arith, below) })) wide third)
-      (λ zs. all_part size (4 * n) n x (y + 3 * n) zs cells (inr (record { version = is.version; right = omega (arith, right); below = omega (arith, below) })) wide fourth) t
+      all_four (part h size (4 * x) (4 * y)) (part h size (4 * x) (4 * (y + n))) (part h size (4 * x) (4 * (y + 2 * n)))
+      (part h size (4 * x) (4 * (y + 3 * n))) ls
+      (λ zs. all_part size (4 * n) n x y zs cells (inr (record { version = is.version; right = omega (arith, right); below = omega (arith, below) })) wide
+      first)
+      (λ zs. all_part size (4 * n) n x (y + n) zs cells (inr (record { version = is.version; right = omega (arith, right); below = omega (arith, below) })) wide
+      second)
+      (λ zs. all_part size (4 * n) n x (y + 2 * n) zs cells (inr (record { version = is.version; right = omega (arith, right); below = omega (arith, below) }))
+      wide third)
+      (λ zs. all_part size (4 * n) n x (y + 3 * n) zs cells (inr (record { version = is.version; right = omega (arith, right); below = omega (arith, below) }))
+      wide fourth) t
 
   -- four leaves side by side
   all_tall_stripes : (k x y : ℕ) (ls : List LeafValue) → suc k ≤ 4 → IsOn (2 ^ suc k) x → IsOn (2 ^ suc k) y → IsStriped h (suc k) (4 * x) (4 * y)
@@ -280,16 +296,23 @@ module _ (h : Header) (P : LeafValue → Type 0) (each : (size : BlockSize) (x y
       let tall = quarter_on k y at_y in
       let (first, second, third, fourth) = quarters (2 ^ k) x (quarter_on k x at_x) in
       let t = rw (behind_quarter k x, behind_quarters 2 k x, behind_quarters 3 k x) at s in
-      all_four (part h size (4 * x) (4 * y)) (part h size (4 * (x + n)) (4 * y)) (part h size (4 * (x + 2 * n)) (4 * y)) (part h size (4 * (x + 3 * n)) (4 * y)) ls
-      (λ zs. all_part size n (4 * n) x y zs cells (inr (record { version = is.version; right = omega (arith, right); below = omega (arith, below) })) first tall)
-      (λ zs. all_part size n (4 * n) (x + n) y zs cells (inr (record { version = is.version; right = omega (arith, right); below = omega (arith, below) })) second tall)
-      (λ zs. all_part size n (4 * n) (x + 2 * n) y zs cells (inr (record { version = is.version; right = omega (arith, right); below = omega (arith, below) })) third tall)
-      (λ zs. all_part size n (4 * n) (x + 3 * n) y zs cells (inr (record { version = is.version; right = omega (arith, right); below = omega (arith, below) })) fourth tall) t
+      all_four (part h size (4 * x) (4 * y)) (part h size (4 * (x + n)) (4 * y)) (part h size (4 * (x + 2 * n)) (4 * y))
+      (part h size (4 * (x + 3 * n)) (4 * y)) ls
+      (λ zs. all_part size n (4 * n) x y zs cells (inr (record { version = is.version; right = omega (arith, right); below = omega (arith, below) })) first
+      tall)
+      (λ zs. all_part size n (4 * n) (x + n) y zs cells (inr (record { version = is.version; right = omega (arith, right); below = omega (arith, below) }))
+      second tall)
+      (λ zs. all_part size n (4 * n) (x + 2 * n) y zs cells (inr (record { version = is.version; right = omega (arith, right); below = omega (arith, below) }))
+      third tall)
+      (λ zs. all_part size n (4 * n) (x + 3 * n) y zs cells (inr (record { version = is.version; right = omega (arith, right); below = omega (arith, below) }))
+      fourth tall) t
 
-  all_parts : (k x y : ℕ) (cut : PartitionType) (ls : List LeafValue) → suc k ≤ 4 → IsOn (2 ^ suc k) x → IsOn (2 ^ suc k) y → IsCut h (suc k) (4 * x) (4 * y) cut → OfNodes k
+  all_parts : (k x y : ℕ) (cut : PartitionType) (ls : List LeafValue) → suc k ≤ 4 → IsOn (2 ^ suc k) x → IsOn (2 ^ suc k) y →
+      IsCut h (suc k) (4 * x) (4 * y) cut → OfNodes k
       → IsSpelled (parts h (suc k) (block h k) (4 * x) (4 * y) cut) ls → All P ls
   unfolding parts
-  all_parts k x y PARTITION_NONE ls le at_x at_y is node s = all_part (whole_size (suc k)) (2 ^ suc k) (2 ^ suc k) x y ls (whole_cells (suc k) le) (inl (near (suc k))) at_x at_y s
+  all_parts k x y PARTITION_NONE ls le at_x at_y is node s =
+      all_part (whole_size (suc k)) (2 ^ suc k) (2 ^ suc k) x y ls (whole_cells (suc k) le) (inl (near (suc k))) at_x at_y s
   all_parts k x y PARTITION_HORZ ls le at_x at_y is node s =
       let wide : IsOn (2 * 2 ^ k) x = subst (λ (d : ℕ). IsOn d x) (pow-succ' 2 k) at_x in
       let cells = wide_cells k le in
@@ -322,4 +345,8 @@ module _ (h : Header) (P : LeafValue → Type 0) (each : (size : BlockSize) (x y
 
   pub all_leaves : (ls : List LeafValue) → IsSpelled (superblocks h) ls → All P ls
   unfolding superblocks superblock_row
-  all_leaves ls s = all_turns P (superblock_row h) 0 _ ls (λ row xs t. all_turns P (λ col. block h 4 (64 * col) (64 * row)) 0 _ xs (λ col ys u. all_block 4 (omega arith) (16 * col) (16 * row) ys (col, refl) (row, refl) (rw (superblock_place col, superblock_place row) at u)) t) s
+  all_leaves ls s =
+      all_turns P (superblock_row h) 0 _ ls
+      (λ row xs t.
+      all_turns P (λ col. block h 4 (64 * col) (64 * row)) 0 _ xs (λ col ys u. all_block 4 (omega arith) (16 * col) (16 * row) ys (col, refl) (row, refl)
+      (rw (superblock_place col, superblock_place row) at u)) t) s

@@ -1,5 +1,6 @@
 -- A part behind its length is read, and bytes that have no front of a container are refused where the longest proper list of fields ends.
-use Rattle.std.proofs.Common.{◌≡◌, ◌⊎◌, inl, inr, ℕ, ◌+◌, ◌<◌, ◌≤◌, ◌^◌, Bool, true, false, cond, leb, List, [], ◌++◌, length, take, drop, Ok, Err, refl, sym, ap, subst, ◌∙◌, append_assoc, length-append, take-append-drop, arith}
+use Rattle.std.proofs.Common.{◌≡◌, ◌⊎◌, inl, inr, ℕ, ◌+◌, ◌<◌, ◌≤◌, ◌^◌, Bool, true, false, cond, leb, List, [], ◌++◌, length, take, drop, Ok, Err, refl, sym}
+use Rattle.std.proofs.Common.{ap, subst, ◌∙◌, append_assoc, length-append, take-append-drop, arith}
 use Rattle.std.proofs.lemmas.Bool.{le-leb, leb-true}
 use Rattle.std.proofs.lemmas.List.{take_at, drop_at, length-take}
 use Rattle.av1_plan.specs.Format.{four, any, Format, Input, Reading, on_ok, read_field, read, read_part, start}
@@ -57,15 +58,24 @@ abbrev pub Parted : Input → Reading (List ℕ × Input) → Type 0
 Parted i (Ok p) = TakesPart i p.0 p.1
 Parted i (Err at) = StopsAt i at
 
-enough : (i : Input) (n : ℕ) (j : Input) → n < 2 ^ 32 → i.rest ≡ length_text n ++ j.rest → j.at ≡ i.at + length (length_text n) → AreBytes j.rest → (b : Bool) → leb n (length j.rest) ≡ b
+enough : (i : Input) (n : ℕ) (j : Input) → n < 2 ^ 32 → i.rest ≡ length_text n ++ j.rest → j.at ≡ i.at + length (length_text n) → AreBytes j.rest → (b : Bool) →
+    leb n (length j.rest) ≡ b
     → Parted i (cond b (Ok (take n j.rest, record { at = j.at + n; rest = drop n j.rest })) (Err j.at))
 enough i n j short parts at fits true e =
     let le : n ≤ length j.rest = leb-true n (length j.rest) e in
     let len : length (take n j.rest) ≡ n = omega (arith, length-take n j.rest, le) in
     record {
       short = omega (arith, len, short);
-      parts = parts ∙ ap (λ l. length_text n ++ l) (sym (take-append-drop n j.rest)) ∙ sym (append_assoc (length_text n) (take n j.rest) (drop n j.rest)) ∙ ap (λ (m : ℕ). (length_text m ++ take n j.rest) ++ drop n j.rest) (sym len);
-      at = omega (arith, at, len, length-append (length_text (length (take n j.rest))) (take n j.rest), length-le four n, length-le four (length (take n j.rest)));
+      parts = parts ∙ ap (λ l. length_text n ++ l) (sym (take-append-drop n j.rest)) ∙ sym (append_assoc (length_text n) (take n j.rest) (drop n j.rest))
+          ∙ ap (λ (m : ℕ). (length_text m ++ take n j.rest) ++ drop n j.rest) (sym len);
+      at = omega (
+        arith,
+        at,
+        len,
+        length-append (length_text (length (take n j.rest))) (take n j.rest),
+        length-le four n,
+        length-le four (length (take n j.rest)),
+      );
       fits = AreBytes-drop n j.rest fits;
     }
 enough i n j short parts at fits false e = record { run = length_text n; is = inr (n, short, refl); front = (j.rest, parts); len = sym at }
@@ -80,27 +90,37 @@ parted i fits = elim (read_field (any four) i) as (λ r. read_field (any four) i
 ] refl
 
 -- a part at the front is read
-pub part_again : (at : ℕ) (part more : List ℕ) → length part < 2 ^ 32 → read_part (record { at = at; rest = part_text part ++ more }) ≡ Ok (part, record { at = at + length (part_text part); rest = more })
+pub part_again : (at : ℕ) (part more : List ℕ) → length part < 2 ^ 32 →
+    read_part (record { at = at; rest = part_text part ++ more }) ≡ Ok (part, record { at = at + length (part_text part); rest = more })
 unfolding read_part
 part_again at part more short =
     let n = length part in
     let long : leb n (length (part ++ more)) ≡ true = le-leb _ _ (omega (arith, length-append part more)) in
     let place : at + 4 + n ≡ at + length (part_text part) = omega (arith, length-append (length_text n) part, length-le four n) in
-    rw (append_assoc (length_text n) part more, field_again (any four) at n (part ++ more) (record { fits = short; admitted = refl }), long, take_at part more n refl, drop_at part more n refl, place) refl
+    rw (
+      append_assoc (length_text n) part more,
+      field_again (any four) at n (part ++ more) (record { fits = short; admitted = refl }),
+      long,
+      take_at part more n refl,
+      drop_at part more n refl,
+      place,
+    ) refl
 
 -- a reading that stops at a part does so behind a length that stands there
 pub stops_behind : (i : Input) (len : ℕ) (more : List ℕ) → len < 2 ^ 32 → i.rest ≡ length_text len ++ more → (at : ℕ) → read_part i ≡ Err at → i.at + 4 ≤ at
 unfolding read_part
 stops_behind i len more short parts at e =
     let field : read_field (any four) i ≡ Ok (len, record { at = i.at + 4; rest = more }) =
-    ap (λ (l : List ℕ). read_field (any four) (record { at = i.at; rest = l })) parts ∙ field_again (any four) i.at len more (record { fits = short; admitted = refl }) in
+    ap (λ (l : List ℕ). read_field (any four) (record { at = i.at; rest = l })) parts
+    ∙ field_again (any four) i.at len more (record { fits = short; admitted = refl }) in
     let there : behind_length (len, record { at = i.at + 4; rest = more }) ≡ Err at = sym (ap (λ (r : Reading (ℕ × Input)). on_ok r behind_length) field) ∙ e in
     omega (arith, err_at (leb len (length more)) (take len more, record { at = i.at + 4 + len; rest = drop len more }) (i.at + 4) at there)
 
 -- ---- a container
 
 -- its front couldn't be read
-pub front_refused : {A : Type 0} (front : Format A) (IsBehind : A → List ℕ → Type 0) (bytes : List ℕ) (at d : ℕ) → AreBytes bytes → read front (start bytes) ≡ Err d → d ≡ at → IsLongestText (IsProperText front IsBehind) bytes at
+pub front_refused : {A : Type 0} (front : Format A) (IsBehind : A → List ℕ → Type 0) (bytes : List ℕ) (at d : ℕ) → AreBytes bytes →
+    read front (start bytes) ≡ Err d → d ≡ at → IsLongestText (IsProperText front IsBehind) bytes at
 front_refused {A} front IsBehind bytes at d fits e same =
     let (values, proper, prefix, len) = reaches front (start bytes) fits in
     let came : end (read front (start bytes)) ≡ d = ap end e in

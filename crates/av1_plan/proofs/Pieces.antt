@@ -42,7 +42,8 @@ spelled_lone f zs s =
     (x, front, spelled_done (x ∷ []) zs rest)
 
 -- the items of one format, and behind them those of the other
-pub spelled_both : {A : Type 0} (f g : Format (List A)) (zs : List A) → IsSpelled (f ++> g) zs → (xs ys : List A) × IsSpelled f xs × IsSpelled g ys × (xs ++ ys ≡ zs)
+pub spelled_both : {A : Type 0} (f g : Format (List A)) (zs : List A) → IsSpelled (f ++> g) zs →
+    (xs ys : List A) × IsSpelled f xs × IsSpelled g ys × (xs ++ ys ≡ zs)
 spelled_both f g zs s =
     let (xs, front, rest) = spelled_bind f (λ xs. g >>= λ ys. done (xs ++ ys)) zs s in
     let (ys, behind, end) = spelled_bind g (λ ys. done (xs ++ ys)) zs rest in
@@ -83,12 +84,14 @@ unfolding in_turn
 spelled_no_turn f i zs s = spelled_nothing zs s
 
 -- one in turn, and then the others
-pub spelled_turn : {A : Type 0} (f : ℕ → Format (List A)) (i n : ℕ) (zs : List A) → IsSpelled (in_turn f i (suc n)) zs → (xs ys : List A) × IsSpelled (f i) xs × IsSpelled (in_turn f (i + 1) n) ys × (xs ++ ys ≡ zs)
+pub spelled_turn : {A : Type 0} (f : ℕ → Format (List A)) (i n : ℕ) (zs : List A) → IsSpelled (in_turn f i (suc n)) zs →
+    (xs ys : List A) × IsSpelled (f i) xs × IsSpelled (in_turn f (i + 1) n) ys × (xs ++ ys ≡ zs)
 unfolding in_turn
 spelled_turn f i n zs s = spelled_both (f i) (in_turn f (i + 1) n) zs s
 
 -- what stands only where a test holds
-pub spelled_where : {A : Type 0} (b : Bool) (f : Format (List A)) (zs : List A) → IsSpelled (if b then f else nothing) zs → ((b ≡ true) × IsSpelled f zs) ⊎ ((b ≡ false) × ([] ≡ zs))
+pub spelled_where : {A : Type 0} (b : Bool) (f : Format (List A)) (zs : List A) → IsSpelled (if b then f else nothing) zs →
+    ((b ≡ true) × IsSpelled f zs) ⊎ ((b ≡ false) × ([] ≡ zs))
 spelled_where true f zs s = inl (refl, s)
 spelled_where false f zs s = inr (refl, spelled_nothing zs s)
 
@@ -97,5 +100,7 @@ spelled_where false f zs s = inr (refl, spelled_nothing zs s)
 -- what holds of all items of two lists holds of those of each
 pub all_apart : {A : Type 0} (P : A → Type 0) (xs ys : List A) → All P (xs ++ ys) → All P xs × All P ys
 all_apart P xs ys all =
-    let count = length-append xs ys in
-    ((λ k d lt. subst P (get_or_append_left xs ys d k lt) (all k d (omega (arith, count, lt)))), (λ k d lt. subst P (get_or-append-add xs ys k d) (all (length xs + k) d (omega (arith, count, lt)))))
+    let count = length-append xs ys in (
+      (λ k d lt. subst P (get_or_append_left xs ys d k lt) (all k d (omega (arith, count, lt)))),
+      (λ k d lt. subst P (get_or-append-add xs ys k d) (all (length xs + k) d (omega (arith, count, lt)))),
+    )

@@ -52,7 +52,8 @@ slots_are xs s =
     let (e, e_in, s5) = spelled_asks _ _ xs s4 in
     let (f, f_in, s6) = spelled_asks _ _ xs s5 in
     let (g, g_in, s7) = spelled_asks _ _ xs s6 in
-    subst AreSlots (spelled_done _ xs s7) (seven_slots a b c d e f g (slot_is a a_in) (slot_is b b_in) (slot_is c c_in) (slot_is d d_in) (slot_is e e_in) (slot_is f f_in) (slot_is g g_in))
+    subst AreSlots (spelled_done _ xs s7)
+    (seven_slots a b c d e f g (slot_is a a_in) (slot_is b b_in) (slot_is c c_in) (slot_is d d_in) (slot_is e e_in) (slot_is f f_in) (slot_is g g_in))
 
 named_version : (letters : ℕ) → (1 ≤ version_of letters) × (version_of letters ≤ 2)
 named_version letters = one_or_two (letters == from_le_bytes w32 (codes "RPL2"))
@@ -112,5 +113,6 @@ plan_pieces p s =
     let (slots, slots_spelled, s2) = spelled_bind (references h) _ p s1 in
     let (leaves, leaves_spelled, s3) = spelled_bind (superblocks h) _ p s2 in
     let end = spelled_done _ p s3 in
-    let whole : HasPieces (record { header = h; references = slots; leaves = leaves }) = record { header = h_spelled; references = slots_spelled; leaves = leaves_spelled } in
+    let whole : HasPieces (record { header = h; references = slots; leaves = leaves }) =
+    record { header = h_spelled; references = slots_spelled; leaves = leaves_spelled } in
     subst HasPieces end whole

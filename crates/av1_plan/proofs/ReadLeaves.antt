@@ -1,5 +1,6 @@
 -- What holds of a leaf that is spelled: its kind is of the plan grammar, and it has what belongs to chroma where it carries chroma.
-use Rattle.std.proofs.Common.{◌≡◌, ℕ, ◌<◌, ◌≤◌, ◌^◌, ◌%◌, true, false, Bool, List, [], ◌∷◌, All, Option, Some, None, not, if◌then◌else◌, refl, sym, ap, subst, arith, w8, w16}
+use Rattle.std.proofs.Common.{◌≡◌, ℕ, ◌<◌, ◌≤◌, ◌^◌, ◌%◌, true, false, Bool, List, [], ◌∷◌, All, Option, Some, None, not, if◌then◌else◌, refl, sym, ap, subst}
+use Rattle.std.proofs.Common.{arith, w8, w16}
 use Rattle.std.specs.Prelude.{nat_lt, ◌==◌, is_some, FitsSigned}
 use Rattle.std.specs.Int.{cast_signed}
 use Rattle.std.proofs.Math.Facts.{Fits-of_lt, sfits_to_z}
@@ -23,7 +24,8 @@ use Rattle.av1_plan.specs.declared.leaf.LeafKind.{LeafKind}
 use Rattle.av1_plan.specs.declared.leaf.LeafKind.TheVariants.{Intra, Single, Compound}
 use Rattle.av1_plan.specs.Format.{one, any, done, ◌>>=◌, field}
 use Rattle.av1_plan.specs.Geometry.{carries_chroma}
-use Rattle.av1_plan.specs.Grammar.{vector, reference_frame, chroma_mode, intra, single, compound, leaf_kind, tx_size, tx_type, uv_type, triples, chroma_triples, leaf}
+use Rattle.av1_plan.specs.Grammar.{vector, reference_frame, chroma_mode, intra, single, compound, leaf_kind, tx_size, tx_type, uv_type, triples, chroma_triples}
+use Rattle.av1_plan.specs.Grammar.{leaf}
 use Rattle.av1_plan.specs.Plan.{LeafValue}
 use Rattle.av1_plan.specs.ReadPlans.{IsReadChroma, IsOtherFrame, IsReadKind, AreThree, IsReadLeaf}
 use Rattle.av1_plan.specs.Spelling.{IsSpelled}
@@ -58,7 +60,8 @@ compound_mode v least lt = rw (mode_number_is v lt) (le-leb 20 v least)
 -- ---- the kind of a leaf
 
 chroma_by : (v : ℕ) (chroma : ChromaMode) (b : Bool) → (v == 13) ≡ b → v ≤ 13
-    → IsSpelled (if b then (field (any one) >>= λ u. field (any one) >>= λ w. done (Cfl (cast_signed w8 u) (cast_signed w8 w))) else (field (any one) >>= λ step. done (Plain (mode_of v) (cast_signed w8 step)))) chroma
+    → IsSpelled (if b then (field (any one) >>= λ u. field (any one) >>= λ w. done (Cfl (cast_signed w8 u) (cast_signed w8 w)))
+    else (field (any one) >>= λ step. done (Plain (mode_of v) (cast_signed w8 step)))) chroma
     → IsReadChroma (Some chroma)
 chroma_by v chroma true e most s =
     let (a, a_in, s1) = spelled_asks _ _ chroma s in
@@ -69,7 +72,8 @@ chroma_by v chroma false e most s =
     let (step, step_in, s1) = spelled_asks _ _ chroma s in
     let other = eqb-false v 13 e in
     let lt : v < 13 = omega (arith, most, other) in
-    let fits : IsReadChroma (Some (Plain (mode_of v) (cast_signed w8 step))) = record { intra = intra_mode v (omega arith); plain = plain_mode v lt; step_fits = byte_fits _ step_in.fits } in
+    let fits : IsReadChroma (Some (Plain (mode_of v) (cast_signed w8 step))) =
+    record { intra = intra_mode v (omega arith); plain = plain_mode v lt; step_fits = byte_fits _ step_in.fits } in
     subst (λ (m : ChromaMode). IsReadChroma (Some m)) (spelled_done _ chroma s1) fits
 
 chroma_is : (chroma : ChromaMode) → IsSpelled chroma_mode chroma → IsReadChroma (Some chroma)
@@ -83,11 +87,13 @@ unfolding intra
 intra_is true mode kind is s =
     let (step, step_in, s1) = spelled_asks _ _ kind s in
     let (chroma, chroma_spelled, s2) = spelled_bind chroma_mode _ kind s1 in
-    let read : IsReadKind true (Intra mode (cast_signed w8 step) (Some chroma)) = record { intra = is; step_fits = byte_fits _ step_in.fits; chroma_carried = refl; chroma_read = chroma_is chroma chroma_spelled } in
+    let read : IsReadKind true (Intra mode (cast_signed w8 step) (Some chroma)) =
+    record { intra = is; step_fits = byte_fits _ step_in.fits; chroma_carried = refl; chroma_read = chroma_is chroma chroma_spelled } in
     subst (IsReadKind true) (spelled_done _ kind s2) read
 intra_is false mode kind is s =
     let (step, step_in, s1) = spelled_asks _ _ kind s in
-    let read : IsReadKind false (Intra mode (cast_signed w8 step) None) = record { intra = is; step_fits = byte_fits _ step_in.fits; chroma_carried = refl; chroma_read = tt } in
+    let read : IsReadKind false (Intra mode (cast_signed w8 step) None) =
+    record { intra = is; step_fits = byte_fits _ step_in.fits; chroma_carried = refl; chroma_read = tt } in
     subst (IsReadKind false) (spelled_done _ kind s1) read
 
 vector_is : (mv : MotionVector) → IsSpelled vector mv → FitsVector mv
@@ -164,8 +170,22 @@ unfolding chroma_triples
 chroma_lists true y lists s =
     let (u, _, s1) = spelled_bind triples _ lists s in
     let (v, _, s2) = spelled_bind triples _ lists s1 in
-    record { y = y; u = u; v = v; are = ap (λ (t : List (List Triple)). y ∷ t) (sym (spelled_done _ lists s2)); u_silent = λ e. absurd cc; v_silent = λ e. absurd cc }
-chroma_lists false y lists s = record { y = y; u = []; v = []; are = ap (λ (t : List (List Triple)). y ∷ t) (sym (spelled_done _ lists s)); u_silent = λ e. refl; v_silent = λ e. refl }
+    record {
+      y = y;
+      u = u;
+      v = v;
+      are = ap (λ (t : List (List Triple)). y ∷ t) (sym (spelled_done _ lists s2));
+      u_silent = λ e. absurd cc;
+      v_silent = λ e. absurd cc;
+    }
+chroma_lists false y lists s = record {
+  y = y;
+  u = [];
+  v = [];
+  are = ap (λ (t : List (List Triple)). y ∷ t) (sym (spelled_done _ lists s));
+  u_silent = λ e. refl;
+  v_silent = λ e. refl;
+}
 
 no_rest : (d n : ℕ) → IsOn d n → n % d ≡ 0
 no_rest d n on = mod-eq-zero_of_dvd d ∣ on ∣₁

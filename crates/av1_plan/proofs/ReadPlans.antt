@@ -1,6 +1,7 @@
 -- What holds of every plan that is read. A plan in memory keeps only that some list of fields spells
 -- it, so each fact is brought out by itself.
-use Rattle.std.proofs.Common.{◌≡◌, ℕ, ◌<◌, ◌≤◌, ◌⊎◌, inl, inr, Bool, true, false, List, [], ◌∷◌, length, Option, Some, None, get_or, All, refl, sym, ap, ◌∙◌, subst, arith}
+use Rattle.std.proofs.Common.{◌≡◌, ℕ, ◌<◌, ◌≤◌, ◌⊎◌, inl, inr, Bool, true, false, List, [], ◌∷◌, length, Option, Some, None, get_or, All, refl, sym, ap, ◌∙◌}
+use Rattle.std.proofs.Common.{subst, arith}
 use Rattle.std.specs.Prelude.{slice_index_or}
 use Rattle.std.proofs.Math.Bool.{Bool-set}
 use Rattle.std.proofs.Math.Bridge.{le_prop}
@@ -119,7 +120,8 @@ have_lengths carried lists are = record {
 }
 
 are_three : (carried : Bool) (lists : List (List Triple)) → HaveLengths carried lists → AreThree carried lists
-are_three carried (y ∷ u ∷ v ∷ []) have = record { y = y; u = u; v = v; are = refl; u_silent = λ e. nil_from_length u (have.u e); v_silent = λ e. nil_from_length v (have.v e) }
+are_three carried (y ∷ u ∷ v ∷ []) have =
+    record { y = y; u = u; v = v; are = refl; u_silent = λ e. nil_from_length u (have.u e); v_silent = λ e. nil_from_length v (have.v e) }
 are_three carried [] have = absurd (omega (arith, have.three))
 are_three carried (y ∷ []) have = absurd (omega (arith, have.three))
 are_three carried (y ∷ u ∷ []) have = absurd (omega (arith, have.three))
@@ -152,16 +154,19 @@ pub read_leaves : (p : Plan) → All (IsReadLeaf p.header) (plan_value p).leaves
 read_leaves p = kept_leaves (plan_value p) p.spelled
 
 pub read_references : (p : Plan) (slot c : ℕ) → slot < 8 → c < 3 → IsReadReference p.header slot c (reference_of (plan_value p) slot c)
-read_references p slot c slot_in lt = ∥∥₁_elim p.spelled (planes p.header slot c _) (λ s. references_are (plan_value p) slot c (plan_pieces (plan_value p) s).references slot_in lt)
+read_references p slot c slot_in lt =
+    ∥∥₁_elim p.spelled (planes p.header slot c _) (λ s. references_are (plan_value p) slot c (plan_pieces (plan_value p) s).references slot_in lt)
 
 samples_of : (h : Header) (slot c : ℕ) (o : Option (List ℕ)) (samples : List ℕ) → o ≡ Some samples → IsReadReference h slot c o → ArePlane h c samples
 samples_of h slot c o samples e is = let read : IsReadReference h slot c (Some samples) = subst (IsReadReference h slot c) e is in read.1
 
 -- the planes of a stored slot
-pub stored_planes : (slots : List (Option StoredPlanes)) (slot : ℕ) (o : Option StoredPlanes) (planes : StoredPlanes) → slot < length slots → o ≡ get_or slots slot o → o ≡ Some planes
+pub stored_planes : (slots : List (Option StoredPlanes)) (slot : ℕ) (o : Option StoredPlanes) (planes : StoredPlanes) → slot < length slots →
+    o ≡ get_or slots slot o → o ≡ Some planes
     → slice_index_or (slot_values slots) slot None ≡ Some (planes_value planes)
 stored_planes slots slot o planes lt at is = get_or-map slot_value slots slot o None lt ∙ ap slot_value (sym at ∙ is)
 
 -- the samples of a slot, where it has some
-pub read_samples : (p : Plan) (slot c : ℕ) (samples : List ℕ) → slot < 8 → c < 3 → reference_of (plan_value p) slot c ≡ Some samples → ArePlane p.header c samples
+pub read_samples : (p : Plan) (slot c : ℕ) (samples : List ℕ) → slot < 8 → c < 3 → reference_of (plan_value p) slot c ≡ Some samples →
+    ArePlane p.header c samples
 read_samples p slot c samples slot_in lt e = samples_of p.header slot c _ samples e (read_references p slot c slot_in lt)

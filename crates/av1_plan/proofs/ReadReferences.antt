@@ -1,5 +1,6 @@
 -- What holds of the reference samples that are spelled: each slot that the mask has carries three planes of the frame's depth.
-use Rattle.std.proofs.Common.{◌≡◌, ℕ, zero, suc, ◌+◌, ◌<◌, ◌^◌, true, false, Bool, List, [], ◌∷◌, ◌++◌, length, get_or, Option, Some, None, refl, ap, subst, ◌∙◌, arith, slice_index_or}
+use Rattle.std.proofs.Common.{◌≡◌, ℕ, zero, suc, ◌+◌, ◌<◌, ◌^◌, true, false, Bool, List, [], ◌∷◌, ◌++◌, length, get_or, Option, Some, None, refl, ap, subst}
+use Rattle.std.proofs.Common.{◌∙◌, arith, slice_index_or}
 use Rattle.std.specs.Prelude.{nat_lt, ◌==◌, if◌then◌else◌}
 use Rattle.std.proofs.lemmas.Bool.{eqb-true, ltb-true}
 use Rattle.std.proofs.lemmas.List.{get_or-map}
@@ -69,7 +70,8 @@ abbrev pub IsReadSlot : Header → ℕ → Option (List (List ℕ)) → Type 0
 IsReadSlot h slot (Some planes) = (has_slot h slot ≡ true) × AreThreePlanes h planes
 IsReadSlot h slot None = has_slot h slot ≡ false
 
-slot_by : (h : Header) (slot : ℕ) (b : Bool) (o : Option (List (List ℕ))) → has_slot h slot ≡ b → IsSpelled (if b then (reference h >>= λ planes. done (Some planes)) else done None) o → IsReadSlot h slot o
+slot_by : (h : Header) (slot : ℕ) (b : Bool) (o : Option (List (List ℕ))) → has_slot h slot ≡ b →
+    IsSpelled (if b then (reference h >>= λ planes. done (Some planes)) else done None) o → IsReadSlot h slot o
 slot_by h slot true o e s =
     let (planes, planes_spelled, s1) = spelled_bind (reference h) _ o s in
     let read : IsReadSlot h slot (Some planes) = (e, reference_is h planes planes_spelled) in
@@ -86,7 +88,8 @@ three_planes h slot (suc zero) planes lt are = are.u
 three_planes h slot (suc (suc zero)) planes lt are = are.v
 three_planes h slot (suc (suc (suc p))) planes lt are = absurd (omega arith)
 
-plane_read : (p : PlanValue) (slot c : ℕ) (o : Option (List (List ℕ))) → c < 3 → slice_index_or p.references slot None ≡ o → IsReadSlot p.header slot o → IsReadReference p.header slot c (reference_of p slot c)
+plane_read : (p : PlanValue) (slot c : ℕ) (o : Option (List (List ℕ))) → c < 3 → slice_index_or p.references slot None ≡ o → IsReadSlot p.header slot o →
+    IsReadReference p.header slot c (reference_of p slot c)
 plane_read p slot c (Some planes) lt e (carried, are) = rw e (carried, three_planes p.header slot c planes lt are)
 plane_read p slot c None lt e is = rw e is
 
@@ -94,11 +97,14 @@ zero-add : (n : ℕ) → 0 + n ≡ n
 zero-add n = omega arith
 
 -- the planes of the eight slots
-pub references_are : (p : PlanValue) (slot c : ℕ) → IsSpelled (references p.header) p.references → slot < 8 → c < 3 → IsReadReference p.header slot c (reference_of p slot c)
+pub references_are : (p : PlanValue) (slot c : ℕ) → IsSpelled (references p.header) p.references → slot < 8 → c < 3 →
+    IsReadReference p.header slot c (reference_of p slot c)
 unfolding references
 references_are p slot c s slot_in lt =
     let are = are_in_turn (slot_planes p.header) 0 8 p.references s in
-    let read : IsReadSlot p.header slot (slice_index_or p.references slot None) = slot_is p.header slot (slice_index_or p.references slot None) (subst (λ (n : ℕ). IsSpelled (slot_planes p.header n) (slice_index_or p.references slot None)) (zero-add slot) (are.each slot None slot_in)) in
+    let read : IsReadSlot p.header slot (slice_index_or p.references slot None) =
+    slot_is p.header slot (slice_index_or p.references slot None)
+    (subst (λ (n : ℕ). IsSpelled (slot_planes p.header n) (slice_index_or p.references slot None)) (zero-add slot) (are.each slot None slot_in)) in
     plane_read p slot c _ lt refl read
 
 stored_by : (h : Header) (slot : ℕ) (o : Option Planes) → IsReadSlot h slot (slot_value o) → IsStoredSlot h slot o
@@ -112,5 +118,7 @@ stored_are h stored eight s slot lt =
     let are = are_in_turn (slot_planes h) 0 8 (slot_values stored) s in
     let o = slice_index_or stored slot None in
     let at : slice_index_or (slot_values stored) slot None ≡ slot_value o = get_or-map slot_value stored slot None None (omega (arith, lt, eight)) in
-    let read : IsSpelled (slot_planes h slot) (slot_value o) = subst (IsSpelled (slot_planes h slot)) at (subst (λ (n : ℕ). IsSpelled (slot_planes h n) (slice_index_or (slot_values stored) slot None)) (zero-add slot) (are.each slot None lt)) in
+    let read : IsSpelled (slot_planes h slot) (slot_value o) =
+    subst (IsSpelled (slot_planes h slot)) at (subst (λ (n : ℕ). IsSpelled (slot_planes h n) (slice_index_or (slot_values stored) slot None))
+    (zero-add slot) (are.each slot None lt)) in
     stored_by h slot o (slot_is h slot (slot_value o) read)

@@ -12,7 +12,8 @@ use Rattle.av1_plan.specs.Plan.{LeafValue, cut, leaf_value, leaf_values, Follow}
 use Rattle.av1_plan.proofs.Triples.{Follow-le}
 
 -- the piece of one plane
-cut_at : (triples : List Triple) (first : ℕ) (counts : List ℕ) (p : ℕ) → get_or (cut triples first counts) p [] ≡ take (get_or counts p 0) (drop (first + sum (take p counts)) triples)
+cut_at : (triples : List Triple) (first : ℕ) (counts : List ℕ) (p : ℕ) →
+    get_or (cut triples first counts) p [] ≡ take (get_or counts p 0) (drop (first + sum (take p counts)) triples)
 cut_at triples first [] zero = refl
 cut_at triples first [] (suc p) = refl
 cut_at triples first (n ∷ counts) zero = let e : first + 0 ≡ first = omega arith in rw e refl
@@ -34,13 +35,15 @@ Follow-within a (k ∷ leaves) b zero l h lt e = rw e (omega (arith, h.0, Follow
 Follow-within a (k ∷ leaves) b (suc i) l h lt e = Follow-within (a + sum k.counts) leaves b i l h.1 (omega arith) e
 
 -- a leaf's triples in a plane lie within the list
-pub span_within : (leaves : List Leaf) (b i p : ℕ) (l : Leaf) → ∥ Follow 0 leaves b ∥₁ → i < length leaves → l ≡ get_or leaves i l → l.first + sum (take p l.counts) + get_or l.counts p 0 ≤ b
+pub span_within : (leaves : List Leaf) (b i p : ℕ) (l : Leaf) → ∥ Follow 0 leaves b ∥₁ → i < length leaves → l ≡ get_or leaves i l →
+    l.first + sum (take p l.counts) + get_or l.counts p 0 ≤ b
 span_within leaves b i p l h lt e =
     let within : l.first + sum l.counts ≤ b = ∥∥₁_elim h le_prop (λ f. Follow-within 0 leaves b i l f lt e) in
     omega (arith, piece_within l.counts p)
 
 -- what a stored leaf says
-pub stored_value : (triples : List Triple) (leaves : List Leaf) (i : ℕ) (l : Leaf) → i < length leaves → l ≡ get_or leaves i l → get_or (leaf_values triples leaves) i (leaf_value triples l) ≡ leaf_value triples l
+pub stored_value : (triples : List Triple) (leaves : List Leaf) (i : ℕ) (l : Leaf) → i < length leaves → l ≡ get_or leaves i l →
+    get_or (leaf_values triples leaves) i (leaf_value triples l) ≡ leaf_value triples l
 unfolding leaf_values
 stored_value triples leaves i l lt e = get_or-map (leaf_value triples) leaves i l (leaf_value triples l) lt ∙ ap (leaf_value triples) (sym e)
 
@@ -50,14 +53,16 @@ length-leaf_values triples leaves = length-map leaves (leaf_value triples)
 
 -- the triples of a stored leaf in a plane
 pub stored_triples_at : (triples : List Triple) (leaves : List Leaf) (i p : ℕ) (l : Leaf) → i < length leaves → l ≡ get_or leaves i l
-    → get_or (get_or (map (λ (v : LeafValue). v.triples) (leaf_values triples leaves)) i []) p [] ≡ take (get_or l.counts p 0) (drop (l.first + sum (take p l.counts)) triples)
+    → get_or (get_or (map (λ (v : LeafValue). v.triples) (leaf_values triples leaves)) i []) p [] ≡ take (get_or l.counts p 0)
+    (drop (l.first + sum (take p l.counts)) triples)
 stored_triples_at triples leaves i p l lt e =
     let v = leaf_value triples l in
     let outer = get_or-map (λ (v : LeafValue). v.triples) (leaf_values triples leaves) i v [] (omega (arith, length-leaf_values triples leaves)) in
     rw (outer, stored_value triples leaves i l lt e) (cut_at triples l.first l.counts p)
 
 -- the leaf of a plan's value that a stored leaf is
-pub stored_leaf : (triples : List Triple) (leaves : List Leaf) (i : ℕ) (l : Leaf) → slice_get leaves i ≡ Some l → slice_get (leaf_values triples leaves) i ≡ Some (leaf_value triples l)
+pub stored_leaf : (triples : List Triple) (leaves : List Leaf) (i : ℕ) (l : Leaf) → slice_get leaves i ≡ Some l →
+    slice_get (leaf_values triples leaves) i ≡ Some (leaf_value triples l)
 unfolding leaf_values
 stored_leaf triples leaves i l e = slice_get-map (leaf_value triples) leaves i ∙ rw e refl
 

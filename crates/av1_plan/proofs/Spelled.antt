@@ -1,5 +1,6 @@
 -- What is read is spelled so, and what is spelled so is read; and how far a reading comes.
-use Rattle.std.proofs.Common.{◌≡◌, Bool, true, false, cond, eqb, ℕ, ◌+◌, ◌≤◌, List, [], ◌∷◌, ◌++◌, length, Ok, Err, refl, sym, ap, subst, ◌∙◌, append_assoc, arith}
+use Rattle.std.proofs.Common.{◌≡◌, Bool, true, false, cond, eqb, ℕ, ◌+◌, ◌≤◌, List, [], ◌∷◌, ◌++◌, length, Ok, Err, refl, sym, ap, subst, ◌∙◌, append_assoc}
+use Rattle.std.proofs.Common.{arith}
 use Rattle.std.specs.Int.{to_le_bytes, byte_len}
 use Rattle.std.proofs.lemmas.List.{append-nil, length-append, nil_from_length}
 use Rattle.std.proofs.lemmas.Bool.{eqb-true}
@@ -27,7 +28,8 @@ bind_ok (Err d) f y e = absurd cc
 ahead : (at n : ℕ) (front rest : List ℕ) → length front ≡ n → at + n + length rest ≡ at + length (front ++ rest)
 ahead at n front rest e = omega (arith, length-append front rest)
 
-behind : (k : Kind) (v : ℕ) (rest more bytes all : List ℕ) → all ≡ to_le_bytes (width k.size) v ++ bytes → bytes ≡ rest ++ more → all ≡ (to_le_bytes (width k.size) v ++ rest) ++ more
+behind : (k : Kind) (v : ℕ) (rest more bytes all : List ℕ) → all ≡ to_le_bytes (width k.size) v ++ bytes → bytes ≡ rest ++ more →
+    all ≡ (to_le_bytes (width k.size) v ++ rest) ++ more
 behind k v rest more bytes all p q = p ∙ ap (λ (t : List ℕ). to_le_bytes (width k.size) v ++ t) q ∙ sym (append_assoc (to_le_bytes (width k.size) v) rest more)
 
 -- ---- what is spelled is read
@@ -35,7 +37,8 @@ behind k v rest more bytes all p q = p ∙ ap (λ (t : List ℕ). to_le_bytes (w
 next_field : (k : Kind) (i : Input) (v : ℕ) (rest more : List ℕ) → IsAdmitted k v → i.rest ≡ (to_le_bytes (width k.size) v ++ rest) ++ more
     → read_field k i ≡ Ok (v, record { at = i.at + byte_len (width k.size); rest = rest ++ more })
 next_field k i v rest more h e =
-    ap (λ (t : List ℕ). read_field k (record { at = i.at; rest = t })) (e ∙ append_assoc (to_le_bytes (width k.size) v) rest more) ∙ field_again k i.at v (rest ++ more) h
+    ap (λ (t : List ℕ). read_field k (record { at = i.at; rest = t })) (e ∙ append_assoc (to_le_bytes (width k.size) v) rest more)
+    ∙ field_again k i.at v (rest ++ more) h
 
 pub read_again : {A : Type 0} (f : Format A) (vs : List ℕ) (x : A) (at : ℕ) (more : List ℕ) → Spells f vs x
     → read f (record { at = at; rest = text f vs ++ more }) ≡ Ok (x, record { at = at + length (text f vs); rest = more })
@@ -49,17 +52,25 @@ read_again (asks k next) (v ∷ vs) x at more h =
 
 -- ---- how far a reading comes
 
-pub reaches : {A : Type 0} (f : Format A) (i : Input) → AreBytes i.rest → (vs : List ℕ) × IsProper f vs × IsPrefix (text f vs) i.rest × (i.at + length (text f vs) ≡ end (read f i))
+pub reaches : {A : Type 0} (f : Format A) (i : Input) → AreBytes i.rest → (vs : List ℕ) × IsProper f vs × IsPrefix (text f vs) i.rest ×
+    (i.at + length (text f vs) ≡ end (read f i))
 reaches (done y) i fits = ([], tt, (i.rest, refl), omega arith)
-reaches (asks k next) i fits = elim (read_field k i) as (λ r. read_field k i ≡ r → (vs : List ℕ) × IsProper (asks k next) vs × IsPrefix (text (asks k next) vs) i.rest × (i.at + length (text (asks k next) vs) ≡ end (on_ok r (λ p. read (next p.0) p.1)))) [
-  | Err at ↦ λ e. ([], tt, (i.rest, refl), omega (arith, field_fails k i at e))
-  | Ok p ↦ λ e.
-      let t = field_takes k i p.0 p.1 fits e in
-      let (vs, proper, (more, is), len) = reaches (next p.0) p.1 t.fits in
-      (p.0 ∷ vs, (t.admitted, proper), (more, behind k p.0 (text (next p.0) vs) more p.1.rest i.rest t.parts is), omega (arith, t.at, len, length-append (to_le_bytes (width k.size) p.0) (text (next p.0) vs)))
-] refl
+reaches (asks k next) i fits =
+    elim (read_field k i) as (λ r. read_field k i ≡ r → (vs : List ℕ) × IsProper (asks k next) vs × IsPrefix (text (asks k next) vs) i.rest ×
+    (i.at + length (text (asks k next) vs) ≡ end (on_ok r (λ p. read (next p.0) p.1)))) [
+      | Err at ↦ λ e. ([], tt, (i.rest, refl), omega (arith, field_fails k i at e))
+      | Ok p ↦ λ e.
+          let t = field_takes k i p.0 p.1 fits e in
+          let (vs, proper, (more, is), len) = reaches (next p.0) p.1 t.fits in (
+            p.0 ∷ vs,
+            (t.admitted, proper),
+            (more, behind k p.0 (text (next p.0) vs) more p.1.rest i.rest t.parts is),
+            omega (arith, t.at, len, length-append (to_le_bytes (width k.size) p.0) (text (next p.0) vs)),
+          )
+    ] refl
 
-pub no_longer : {A : Type 0} (f : Format A) (i : Input) (vs : List ℕ) → AreBytes i.rest → IsProper f vs → IsPrefix (text f vs) i.rest → i.at + length (text f vs) ≤ end (read f i)
+pub no_longer : {A : Type 0} (f : Format A) (i : Input) (vs : List ℕ) → AreBytes i.rest → IsProper f vs → IsPrefix (text f vs) i.rest →
+    i.at + length (text f vs) ≤ end (read f i)
 no_longer f i [] fits h p = omega (arith, (reaches f i fits).3)
 no_longer (done y) i (v ∷ vs) fits h p = absurd h
 no_longer (asks k next) i (v ∷ vs) fits h p =
@@ -71,7 +82,8 @@ no_longer (asks k next) i (v ∷ vs) fits h p =
 
 -- ---- what is read is spelled
 
-pub read_spells : {A : Type 0} (f : Format A) (i : Input) (x : A) (j : Input) → AreBytes i.rest → read f i ≡ Ok (x, j) → (vs : List ℕ) × Spells f vs x × (i.rest ≡ text f vs ++ j.rest)
+pub read_spells : {A : Type 0} (f : Format A) (i : Input) (x : A) (j : Input) → AreBytes i.rest → read f i ≡ Ok (x, j) →
+    (vs : List ℕ) × Spells f vs x × (i.rest ≡ text f vs ++ j.rest)
 read_spells (done y) i x j fits e =
     let p = ok_is (y, i) (x, j) e in
     ([], ap (λ (q : _ × Input). q.0) p, ap (λ (q : _ × Input). q.1.rest) p)

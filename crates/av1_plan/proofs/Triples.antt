@@ -19,7 +19,8 @@ ok p = Ok p
 ok_is : (x y : List Triple × Input) → ok x ≡ ok y → x ≡ y
 ok_is x y e = cc
 
-behind : (r : Reading (List Triple × Input)) (xs ys : List Triple) (n : ℕ) (j : Input) → on_ok r (λ p. ok (xs ++ p.0, p.1)) ≡ ok (ys, j) → length ys ≡ length xs + n → Behind r xs ys n j
+behind : (r : Reading (List Triple × Input)) (xs ys : List Triple) (n : ℕ) (j : Input) → on_ok r (λ p. ok (xs ++ p.0, p.1)) ≡ ok (ys, j) →
+    length ys ≡ length xs + n → Behind r xs ys n j
 behind (Err at) xs ys n j e len = absurd cc
 behind (Ok p) xs ys n j e len =
     let pair = ok_is (xs ++ p.0, p.1) (ys, j) e in
@@ -33,19 +34,24 @@ behind (Ok p) xs ys n j e len =
       extends = record { front = rw (← is) (take_at xs p.0 (length xs) refl); count = len };
     }
 
-pub add_back : (f : Format (List Triple)) (xs ys : List Triple) (n : ℕ) (i j : Input) → add f (xs, i) ≡ Ok (ys, j) → length ys ≡ length xs + n → Behind (read f i) xs ys n j
+pub add_back : (f : Format (List Triple)) (xs ys : List Triple) (n : ℕ) (i j : Input) → add f (xs, i) ≡ Ok (ys, j) → length ys ≡ length xs + n →
+    Behind (read f i) xs ys n j
 unfolding add
 add_back f xs ys n i j e len = behind (read f i) xs ys n j e len
 
 -- ---- what comes behind changes nothing before
 
-pub piece_stays : (old new : List Triple) (first n : ℕ) → take (length old) new ≡ old → first + n ≤ length old → take n (drop first new) ≡ take n (drop first old)
+pub piece_stays : (old new : List Triple) (first n : ℕ) → take (length old) new ≡ old → first + n ≤ length old →
+    take n (drop first new) ≡ take n (drop first old)
 piece_stays old new first n front le =
     let whole : old ++ drop (length old) new ≡ new = ap (λ (t : List Triple). t ++ drop (length old) new) (sym front) ∙ take-append-drop (length old) new in
-    let a : take n (drop first (old ++ drop (length old) new)) ≡ take n (drop first old) = rw (drop-append-le first old (drop (length old) new) (omega arith)) (take-append-le n (drop first old) (drop (length old) new) (omega (arith, length-drop first old))) in
+    let a : take n (drop first (old ++ drop (length old) new)) ≡ take n (drop first old) =
+    rw (drop-append-le first old (drop (length old) new) (omega arith))
+    (take-append-le n (drop first old) (drop (length old) new) (omega (arith, length-drop first old))) in
     subst (λ (t : List Triple). take n (drop first t) ≡ take n (drop first old)) whole a
 
-pub cut_stays : (old new : List Triple) (first : ℕ) (ns : List ℕ) → take (length old) new ≡ old → first + sum ns ≤ length old → cut new first ns ≡ cut old first ns
+pub cut_stays : (old new : List Triple) (first : ℕ) (ns : List ℕ) → take (length old) new ≡ old → first + sum ns ≤ length old →
+    cut new first ns ≡ cut old first ns
 cut_stays old new first [] front le = refl
 cut_stays old new first (n ∷ ns) front le =
     let fits : first + (n + sum ns) ≤ length old = omega (arith, sum_by-cons (λ (x : ℕ). x) n ns) in
@@ -71,7 +77,8 @@ unfolding Follow
 Follow-push a [] b l h e = (e ∙ sym h, omega arith)
 Follow-push a (k ∷ ls) b l h e = (h.0, Follow-push (a + sum k.counts) ls b l h.1 e)
 
-pub leaf_values_stay : (old new : List Triple) (a : ℕ) (ls : List Leaf) (b : ℕ) → Follow a ls b → b ≤ length old → take (length old) new ≡ old → leaf_values new ls ≡ leaf_values old ls
+pub leaf_values_stay : (old new : List Triple) (a : ℕ) (ls : List Leaf) (b : ℕ) → Follow a ls b → b ≤ length old → take (length old) new ≡ old →
+    leaf_values new ls ≡ leaf_values old ls
 unfolding Follow leaf_values
 leaf_values_stay old new a [] b h le front = refl
 leaf_values_stay old new a (l ∷ ls) b h le front =
@@ -79,9 +86,11 @@ leaf_values_stay old new a (l ∷ ls) b h le front =
     let others = leaf_values_stay old new (a + sum l.counts) ls b h.1 le front in
     cc
 
-pub leaf_values_push : (old new : List Triple) (ls : List Leaf) (n : ℕ) (l : Leaf) → Follow 0 ls (length old) → Extends old new n → leaf_values new (ls ++ l ∷ []) ≡ leaf_values old ls ++ leaf_value new l ∷ []
+pub leaf_values_push : (old new : List Triple) (ls : List Leaf) (n : ℕ) (l : Leaf) → Follow 0 ls (length old) → Extends old new n →
+    leaf_values new (ls ++ l ∷ []) ≡ leaf_values old ls ++ leaf_value new l ∷ []
 unfolding leaf_values
-leaf_values_push old new ls n l h e = map-append (leaf_value new) ls (l ∷ []) ∙ ap (λ (vs : List LeafValue). vs ++ leaf_value new l ∷ []) (leaf_values_stay old new 0 ls (length old) h (omega arith) e.front)
+leaf_values_push old new ls n l h e = map-append (leaf_value new) ls (l ∷ [])
+    ∙ ap (λ (vs : List LeafValue). vs ++ leaf_value new l ∷ []) (leaf_values_stay old new 0 ls (length old) h (omega arith) e.front)
 
 -- two lists, one behind the other
 pub two_cut : (a b c : List Triple) (m n : ℕ) → Extends a b m → Extends b c n → added a b m ∷ added b c n ∷ [] ≡ cut c (length a) (m ∷ n ∷ [])
@@ -91,7 +100,8 @@ two_cut a b c m n p q =
     rw (x, ← k) refl
 
 -- the same where the second has been cut already
-pub more_cut : (a b c : List Triple) (m n first : ℕ) (ns : List ℕ) → Extends a b m → Extends b c n → first ≡ length a → added a b m ∷ cut c (length b) ns ≡ cut c first (m ∷ ns)
+pub more_cut : (a b c : List Triple) (m n first : ℕ) (ns : List ℕ) → Extends a b m → Extends b c n → first ≡ length a →
+    added a b m ∷ cut c (length b) ns ≡ cut c first (m ∷ ns)
 more_cut a b c m n first ns p q e =
     let x : added a c m ≡ added a b m = piece_stays b c (length a) m q.front (omega (arith, p.count)) in
     let k : length b ≡ length a + m = p.count in

@@ -1,5 +1,6 @@
 -- What holds of the leaves of a valid plan: each passes all six tests, its transforms fit it, and its triples fit their blocks.
-use Rattle.std.proofs.Common.{ℕ, zero, suc, ◌+◌, ◌≡◌, ◌≤◌, ◌<◌, nat_lt, Bool, true, false, ◌&&◌, ◌||◌, not, if◌then◌else◌, inl, inr, List, [], ◌∷◌, length, get_or, Option, Some, None, All, slice_index_or, refl, subst, arith}
+use Rattle.std.proofs.Common.{ℕ, zero, suc, ◌+◌, ◌≡◌, ◌≤◌, ◌<◌, nat_lt, Bool, true, false, ◌&&◌, ◌||◌, not, if◌then◌else◌, inl, inr, List, [], ◌∷◌, length}
+use Rattle.std.proofs.Common.{get_or, Option, Some, None, All, slice_index_or, refl, subst, arith}
 use Rattle.std.specs.Prelude.{nat_le, ◌==◌}
 use Rattle.std.specs.List.{list_all}
 use Rattle.std.proofs.lemmas.Bool.{and_parts, or_cases, eqb-true, ltb-true, leb-true}
@@ -16,7 +17,8 @@ use Rattle.av1_plan.specs.declared.header.Header.{Header}
 use Rattle.av1_plan.specs.declared.leaf.Triple.{Triple}
 use Rattle.av1_plan.specs.Geometry.{carries_chroma, plane_tx_size, plane_area, has_block}
 use Rattle.av1_plan.specs.Plan.{LeafValue, PlanValue}
-use Rattle.av1_plan.specs.Validity.{fits_signed, is_coefficient, is_before, rise, are_coefficients, has_plane_coefficients, has_coefficients, has_block_size, is_transform, has_transforms, has_modes, has_vectors, has_references, fault_of, or_later, fault_from, first_fault}
+use Rattle.av1_plan.specs.Validity.{fits_signed, is_coefficient, is_before, rise, are_coefficients, has_plane_coefficients, has_coefficients, has_block_size}
+use Rattle.av1_plan.specs.Validity.{is_transform, has_transforms, has_modes, has_vectors, has_references, fault_of, or_later, fault_from, first_fault}
 
 -- ---- the six tests
 
@@ -71,25 +73,34 @@ pub record HasFittingTransforms (h : Header) (l : LeafValue) : Type 0 where
   pub luma : is_transform l.tx_size l.tx_type ≡ true
   pub chroma : (t : TxType) → l.uv_type ≡ Some t → is_transform (plane_tx_size h l.size l.tx_size 1) t ≡ true
 
-luma_fits : (h : Header) (size : BlockSize) (tx_size : TxSize) (tx_type : TxType) (uv_type : Option TxType) → has_transforms h size tx_size tx_type uv_type ≡ true
+luma_fits : (h : Header) (size : BlockSize) (tx_size : TxSize) (tx_type : TxType) (uv_type : Option TxType) →
+    has_transforms h size tx_size tx_type uv_type ≡ true
     → (nat_le (tx_width tx_size) (block_width size) && nat_le (tx_height tx_size) (block_height size) && is_transform tx_size tx_type) ≡ true
 unfolding has_transforms
 luma_fits h size tx_size tx_type None e = e
-luma_fits h size tx_size tx_type (Some t) e = (and_parts (nat_le (tx_width tx_size) (block_width size) && nat_le (tx_height tx_size) (block_height size) && is_transform tx_size tx_type) (is_transform (plane_tx_size h size tx_size 1) t) e).0
+luma_fits h size tx_size tx_type (Some t) e =
+    (and_parts (nat_le (tx_width tx_size) (block_width size) && nat_le (tx_height tx_size) (block_height size) && is_transform tx_size tx_type)
+    (is_transform (plane_tx_size h size tx_size 1) t) e).0
 
-chroma_fits : (h : Header) (size : BlockSize) (tx_size : TxSize) (tx_type t : TxType) → has_transforms h size tx_size tx_type (Some t) ≡ true → is_transform (plane_tx_size h size tx_size 1) t ≡ true
+chroma_fits : (h : Header) (size : BlockSize) (tx_size : TxSize) (tx_type t : TxType) → has_transforms h size tx_size tx_type (Some t) ≡ true →
+    is_transform (plane_tx_size h size tx_size 1) t ≡ true
 unfolding has_transforms
-chroma_fits h size tx_size tx_type t e = (and_parts (nat_le (tx_width tx_size) (block_width size) && nat_le (tx_height tx_size) (block_height size) && is_transform tx_size tx_type) (is_transform (plane_tx_size h size tx_size 1) t) e).1
+chroma_fits h size tx_size tx_type t e =
+    (and_parts (nat_le (tx_width tx_size) (block_width size) && nat_le (tx_height tx_size) (block_height size) && is_transform tx_size tx_type)
+    (is_transform (plane_tx_size h size tx_size 1) t) e).1
 
 pub fitting_transforms : (h : Header) (l : LeafValue) → IsValidLeaf h l → HasFittingTransforms h l
 fitting_transforms h l valid =
-    let (sides, luma) = and_parts (nat_le (tx_width l.tx_size) (block_width l.size) && nat_le (tx_height l.tx_size) (block_height l.size)) (is_transform l.tx_size l.tx_type) (luma_fits h l.size l.tx_size l.tx_type l.uv_type valid.transforms) in
+    let (sides, luma) = and_parts (nat_le (tx_width l.tx_size) (block_width l.size) && nat_le (tx_height l.tx_size) (block_height l.size))
+    (is_transform l.tx_size l.tx_type) (luma_fits h l.size l.tx_size l.tx_type l.uv_type valid.transforms) in
     let (width, height) = and_parts (nat_le (tx_width l.tx_size) (block_width l.size)) (nat_le (tx_height l.tx_size) (block_height l.size)) sides in
     record {
       width = leb-true (tx_width l.tx_size) (block_width l.size) width;
       height = leb-true (tx_height l.tx_size) (block_height l.size) height;
       luma = luma;
-      chroma = λ t is. chroma_fits h l.size l.tx_size l.tx_type t (subst (λ (u : Option TxType). has_transforms h l.size l.tx_size l.tx_type u ≡ true) is valid.transforms);
+      chroma =
+          λ t is. chroma_fits h l.size l.tx_size l.tx_type t
+          (subst (λ (u : Option TxType). has_transforms h l.size l.tx_size l.tx_type u ≡ true) is valid.transforms);
     }
 
 -- ---- triples
@@ -115,7 +126,9 @@ all_by test P each (x ∷ xs) e (suc k) d within = all_by test P each xs (and_pa
 
 fitting_list : (h : Header) (p : ℕ) (a : PlaneArea) (triples : List Triple) → are_coefficients h p a triples ≡ true → All (IsFittingTriple h p a) triples
 unfolding are_coefficients
-fitting_list h p a triples e = all_by (is_coefficient h p a) (IsFittingTriple h p a) (fitting_triple h p a) triples (and_parts (list_all (is_coefficient h p a) triples) (rise triples) e).0
+fitting_list h p a triples e =
+    all_by (is_coefficient h p a) (IsFittingTriple h p a)
+    (fitting_triple h p a) triples (and_parts (list_all (is_coefficient h p a) triples) (rise triples) e).0
 
 -- the leaf's triples in plane p do
 abbrev pub FitIn : Header → LeafValue → ℕ → Type 0
@@ -140,7 +153,8 @@ pub record HasPassed (h : Header) (l : LeafValue) : Type 0 where
 pub passed_planes : (h : Header) (l : LeafValue) → has_coefficients h l ≡ true → HasPassed h l
 unfolding has_coefficients
 passed_planes h l e =
-    let (luma, chroma) = and_parts (has_plane_coefficients h l 0) (not (carries_chroma h l.x l.y l.size) || (has_plane_coefficients h l 1 && has_plane_coefficients h l 2)) e in
+    let (luma, chroma) =
+    and_parts (has_plane_coefficients h l 0) (not (carries_chroma h l.x l.y l.size) || (has_plane_coefficients h l 1 && has_plane_coefficients h l 2)) e in
     let both = where_carried (carries_chroma h l.x l.y l.size) (has_plane_coefficients h l 1) (has_plane_coefficients h l 2) chroma in
     record { y = luma; u = λ carried. (both carried).0; v = λ carried. (both carried).1 }
 
@@ -157,7 +171,9 @@ fitting_triples h l valid =
 
 rising_in : (h : Header) (l : LeafValue) (p : ℕ) → has_plane_coefficients h l p ≡ true → rise (slice_index_or l.triples p []) ≡ true
 unfolding has_plane_coefficients are_coefficients
-rising_in h l p e = (and_parts (list_all (is_coefficient h p (plane_area h l.x l.y l.size l.tx_size p)) (slice_index_or l.triples p [])) (rise (slice_index_or l.triples p [])) e).1
+rising_in h l p e =
+    (and_parts (list_all (is_coefficient h p (plane_area h l.x l.y l.size l.tx_size p)) (slice_index_or l.triples p []))
+    (rise (slice_index_or l.triples p [])) e).1
 
 -- in each plane of which the leaf covers a part, the triples rise
 pub record HasRisingTriples (h : Header) (l : LeafValue) : Type 0 where
@@ -177,7 +193,8 @@ no_later s t e = elim (or_cases (nat_lt s.block t.block) (s.block == t.block && 
   | inr same ↦ omega (arith, eqb-true s.block t.block (and_parts (s.block == t.block) (nat_lt s.place t.place) same).0)
 ]
 
-first_block : (s : Triple) (triples : List Triple) → rise (s ∷ triples) ≡ true → (j : ℕ) (d : Triple) → j < length triples → s.block ≤ (get_or triples j d).block
+first_block : (s : Triple) (triples : List Triple) → rise (s ∷ triples) ≡ true → (j : ℕ) (d : Triple) → j < length triples →
+    s.block ≤ (get_or triples j d).block
 unfolding rise
 first_block s [] e j d lt = absurd (omega arith)
 first_block s (t ∷ triples) e zero d lt = no_later s t (and_parts (is_before s t) (rise (t ∷ triples)) e).0
@@ -191,7 +208,8 @@ rest_rises t [] e = refl
 rest_rises t (u ∷ triples) e = (and_parts (is_before t u) (rise (u ∷ triples)) e).1
 
 -- triples that rise rise by their blocks
-pub blocks_rise : (triples : List Triple) → rise triples ≡ true → (i j : ℕ) (d : Triple) → i ≤ j → j < length triples → (get_or triples i d).block ≤ (get_or triples j d).block
+pub blocks_rise : (triples : List Triple) → rise triples ≡ true → (i j : ℕ) (d : Triple) → i ≤ j → j < length triples →
+    (get_or triples i d).block ≤ (get_or triples j d).block
 blocks_rise [] e i j d le lt = absurd (omega arith)
 blocks_rise (t ∷ triples) e zero zero d le lt = omega arith
 blocks_rise (t ∷ triples) e zero (suc j) d le lt = first_block t triples e j d (omega arith)

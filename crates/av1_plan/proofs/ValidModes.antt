@@ -1,5 +1,6 @@
 -- What holds of the modes and references of a valid leaf.
-use Rattle.std.proofs.Common.{ℕ, ℤ, pos, negsuc, zero, suc, ◌-◌, ◌≡◌, ◌≤◌, ◌<◌, nat_lt, nat_abs, Bool, true, false, ◌&&◌, ◌||◌, not, Option, Some, None, All, slice_index_or, refl, arith}
+use Rattle.std.proofs.Common.{ℕ, ℤ, pos, negsuc, zero, suc, ◌-◌, ◌≡◌, ◌≤◌, ◌<◌, nat_lt, nat_abs, Bool, true, false, ◌&&◌, ◌||◌, not, Option, Some, None, All}
+use Rattle.std.proofs.Common.{slice_index_or, refl, arith}
 use Rattle.std.specs.Prelude.{nat_le, ◌==◌}
 use Rattle.std.proofs.lemmas.Bool.{and_parts, not-true, eqb-true, ltb-true, leb-true}
 use Rattle.av1_blocks.specs.declared.partition.BlockSize.{BlockSize}
@@ -64,7 +65,10 @@ valid_step : (mode : PredictionMode) (step : ℤ) → is_step mode step ≡ true
 unfolding is_step
 valid_step mode step e =
     let (small, flat) = and_parts (nat_le (nat_abs step) 3) (nat_abs step == 0 || is_directional mode) e in
-    record { small = leb-true (nat_abs step) 3 small; flat = λ no_angle. no_size step (eqb-true (nat_abs step) 0 (first_of_two (nat_abs step == 0) (is_directional mode) flat no_angle)) }
+    record {
+      small = leb-true (nat_abs step) 3 small;
+      flat = λ no_angle. no_size step (eqb-true (nat_abs step) 0 (first_of_two (nat_abs step == 0) (is_directional mode) flat no_angle));
+    }
   where
     first_of_two : (a b : Bool) → (a || b) ≡ true → b ≡ false → a ≡ true
     first_of_two true b e f = refl
@@ -76,7 +80,12 @@ valid_weights size u v e =
     let (weights, allowed) = and_parts (nat_le (nat_abs u) 16 && nat_le (nat_abs v) 16) (nat_le (block_width size) 32 && nat_le (block_height size) 32) e in
     let (a, b) = and_parts (nat_le (nat_abs u) 16) (nat_le (nat_abs v) 16) weights in
     let (c, d) = and_parts (nat_le (block_width size) 32) (nat_le (block_height size) 32) allowed in
-    record { u = leb-true (nat_abs u) 16 a; v = leb-true (nat_abs v) 16 b; width = leb-true (block_width size) 32 c; height = leb-true (block_height size) 32 d }
+    record {
+      u = leb-true (nat_abs u) 16 a;
+      v = leb-true (nat_abs v) 16 b;
+      width = leb-true (block_width size) 32 c;
+      height = leb-true (block_height size) 32 d;
+    }
 
 valid_chroma : (size : BlockSize) (chroma : ChromaMode) → is_chroma_mode size chroma ≡ true → IsValidChroma size (Some chroma)
 unfolding is_chroma_mode

@@ -1,5 +1,6 @@
 -- A plan of one version is a plan of the other, wherever each mark is one of both.
-use Rattle.std.proofs.Common.{◌≡◌, ℕ, zero, suc, ◌+◌, ◌*◌, ◌/◌, ◌≤◌, ◌⊎◌, inl, inr, Bool, true, false, ◌&&◌, List, [], ◌∷◌, ◌++◌, get_or, All, refl, sym, ap, subst, ◌∙◌, append_assoc, arith, lit<, lit≤, drop}
+use Rattle.std.proofs.Common.{◌≡◌, ℕ, zero, suc, ◌+◌, ◌*◌, ◌/◌, ◌≤◌, ◌⊎◌, inl, inr, Bool, true, false, ◌&&◌, List, [], ◌∷◌, ◌++◌, get_or, All, refl, sym, ap}
+use Rattle.std.proofs.Common.{subst, ◌∙◌, append_assoc, arith, lit<, lit≤, drop}
 use Rattle.std.specs.Prelude.{codes, ◌==◌, nat_le}
 use Rattle.std.specs.Int.{w32, from_le_bytes, to_le_bytes, is_in_range}
 use Rattle.std.proofs.lemmas.Bool.{and_parts, or_cases, eqb-true, leb-true, le-leb, cases_lt}
@@ -14,7 +15,8 @@ use Rattle.av1_plan.specs.declared.header.Header.{Header}
 use Rattle.av1_plan.specs.CodingOrder.{IsTwoToOne}
 use Rattle.av1_plan.specs.Format.{Format, done, asks, ◌>>=◌, one, width, lone, ◌++>◌}
 use Rattle.av1_plan.specs.Geometry.{xdec, ydec, plane_width, plane_height, has_slot, is_inside, carries_chroma}
-use Rattle.av1_plan.specs.Grammar.{is_magic, version_of, version, slots, frame, header, reference, slot_planes, references, leaf, quarter_side, part_size, part, cut_by, admits_stripes, is_mark, mark, wide_stripes, tall_stripes, parts, block, superblock_row, superblocks, plan}
+use Rattle.av1_plan.specs.Grammar.{is_magic, version_of, version, slots, frame, header, reference, slot_planes, references, leaf, quarter_side, part_size, part}
+use Rattle.av1_plan.specs.Grammar.{cut_by, admits_stripes, is_mark, mark, wide_stripes, tall_stripes, parts, block, superblock_row, superblocks, plan}
 use Rattle.av1_plan.specs.Plan.{LeafValue, PlanValue}
 use Rattle.av1_plan.specs.Spelling.{Spells, IsSpelled, text, AreText}
 use Rattle.av1_plan.specs.Versions.{header_in, plan_in, SecondKeepsFirst, FirstHasRest}
@@ -55,7 +57,8 @@ module _ (P : List LeafValue → Type 0) (split : (xs ys : List LeafValue) → P
   part_taken : (size : BlockSize) (x y : ℕ) → TakesOverList P split (part h size x y) (part (header_in n h) size x y)
   part_taken size x y = takes_over_same P _ _ (part_same n h size x y)
 
-  four_taken : (f g k m f_2 g_2 k_2 m_2 : Format (List LeafValue)) → TakesOverList P split f f_2 → TakesOverList P split g g_2 → TakesOverList P split k k_2 → TakesOverList P split m m_2
+  four_taken : (f g k m f_2 g_2 k_2 m_2 : Format (List LeafValue)) → TakesOverList P split f f_2 → TakesOverList P split g g_2 → TakesOverList P split k k_2 →
+      TakesOverList P split m m_2
       → TakesOverList P split (f ++> g ++> k ++> m) (f_2 ++> g_2 ++> k_2 ++> m_2)
   four_taken f g k m f_2 g_2 k_2 m_2 a b c d =
       list_both P split (f ++> g ++> k) m (f_2 ++> g_2 ++> k_2) m_2 (list_both P split (f ++> g) k (f_2 ++> g_2) k_2 (list_both P split f g f_2 g_2 a b) c) d
@@ -71,15 +74,19 @@ module _ (P : List LeafValue → Type 0) (split : (xs ys : List LeafValue) → P
   parts_taken k x y _ node = four_taken _ _ _ _ _ _ _ _ (node x y) (node _ y) (node x _) (node _ _)
 
   -- a node in the frame, by its mark
-  node_taken : (k x y : ℕ) → suc k ≤ 4 → is_inside h x y ≡ true → ((x y : ℕ) → TakesOverList P split (block h k x y) (block (header_in n h) k x y)) → (vs : List ℕ) (ls : List LeafValue)
+  node_taken : (k x y : ℕ) → suc k ≤ 4 → is_inside h x y ≡ true → ((x y : ℕ) → TakesOverList P split (block h k x y) (block (header_in n h) k x y)) →
+      (vs : List ℕ) (ls : List LeafValue)
       → Spells (mark h (suc k) x y >>= parts h (suc k) (block h k) x y) vs ls → P ls
       → Spells (mark (header_in n h) (suc k) x y >>= parts (header_in n h) (suc k) (block (header_in n h) k) x y) vs ls
-      × (text (mark (header_in n h) (suc k) x y >>= parts (header_in n h) (suc k) (block (header_in n h) k) x y) vs ≡ text (mark h (suc k) x y >>= parts h (suc k) (block h k) x y) vs)
+      × (text (mark (header_in n h) (suc k) x y >>= parts (header_in n h) (suc k) (block (header_in n h) k) x y) vs ≡
+      text (mark h (suc k) x y >>= parts h (suc k) (block h k) x y) vs)
   unfolding mark
   node_taken k x y le within node [] ls s p = absurd s
   node_taken k x y le within node (v ∷ ws) ls s p =
-      let (spells, same) = (parts_taken k x y (cut_by v) node).carried ws ls s.1 p in
-      ((record { fits = s.0.fits; admitted = permits k x y v ws ls le within s.0.admitted s.1 p }, spells), ap (λ (us : List ℕ). to_le_bytes (width one) v ++ us) same)
+      let (spells, same) = (parts_taken k x y (cut_by v) node).carried ws ls s.1 p in (
+        (record { fits = s.0.fits; admitted = permits k x y v ws ls le within s.0.admitted s.1 p }, spells),
+        ap (λ (us : List ℕ). to_le_bytes (width one) v ++ us) same,
+      )
 
   block_taken : (k : ℕ) → k ≤ 4 → (x y : ℕ) → TakesOverList P split (block h k x y) (block (header_in n h) k x y)
   unfolding block is_inside
@@ -117,7 +124,8 @@ module _ (P : List LeafValue → Type 0) (split : (xs ys : List LeafValue) → P
 -- ---- the header
 
 -- what a format spells, seen by view
-seen : {A B : Type 0} (view : A → B) (f : Format A) (vs : List ℕ) (x : A) → Spells f vs x → Spells (f >>= λ x. done (view x)) vs (view x) × (text (f >>= λ x. done (view x)) vs ≡ text f vs)
+seen : {A B : Type 0} (view : A → B) (f : Format A) (vs : List ℕ) (x : A) → Spells f vs x →
+    Spells (f >>= λ x. done (view x)) vs (view x) × (text (f >>= λ x. done (view x)) vs ≡ text f vs)
 seen view (done y) [] x s = (ap view s, refl)
 seen view (done y) (v ∷ vs) x s = absurd s
 seen view (asks k next) [] x s = absurd s
@@ -130,7 +138,8 @@ unfolding frame slots
 frame_in m n = refl
 
 frame_seen : (m n : ℕ) (vs : List ℕ) (h : Header) → Spells (frame m) vs h → Spells (frame n) vs (header_in n h) × (text (frame n) vs ≡ text (frame m) vs)
-frame_seen m n vs h s = subst (λ (f : Format Header). Spells f vs (header_in n h) × (text f vs ≡ text (frame m) vs)) (frame_in m n) (seen (header_in n) (frame m) vs h s)
+frame_seen m n vs h s = subst (λ (f : Format Header). Spells f vs (header_in n h) × (text f vs ≡ text (frame m) vs)) (frame_in m n)
+    (seen (header_in n) (frame m) vs h s)
 
 spelled_twice : (f : Format Header) (vs : List ℕ) (x y : Header) → Spells f vs x → Spells f vs y → x ≡ y
 spelled_twice (done z) [] x y s t = sym s ∙ t
@@ -151,7 +160,8 @@ pub record AreLetters (n : ℕ) (letters : List ℕ) : Type 0 where
   -- bytes that begin so begin with a field of this version
   only : (number : ℕ) (rest more : List ℕ) → is_magic number ≡ true → letters ++ rest ≡ to_le_bytes w32 number ++ more → (version_of number ≡ n) × (rest ≡ more)
 
-first_only : (number : ℕ) (rest more : List ℕ) → is_magic number ≡ true → codes "RPL1" ++ rest ≡ to_le_bytes w32 number ++ more → (version_of number ≡ 1) × (rest ≡ more)
+first_only : (number : ℕ) (rest more : List ℕ) → is_magic number ≡ true → codes "RPL1" ++ rest ≡ to_le_bytes w32 number ++ more →
+    (version_of number ≡ 1) × (rest ≡ more)
 first_only number rest more magic e = elim (or_cases (number == from_le_bytes w32 (codes "RPL1")) (number == from_le_bytes w32 (codes "RPL2")) magic) [
   | inl f ↦
       let is = eqb-true number (from_le_bytes w32 (codes "RPL1")) f in
@@ -162,7 +172,8 @@ first_only number rest more magic e = elim (or_cases (number == from_le_bytes w3
       absurd (omega (arith, clash))
 ]
 
-second_only : (number : ℕ) (rest more : List ℕ) → is_magic number ≡ true → codes "RPL2" ++ rest ≡ to_le_bytes w32 number ++ more → (version_of number ≡ 2) × (rest ≡ more)
+second_only : (number : ℕ) (rest more : List ℕ) → is_magic number ≡ true → codes "RPL2" ++ rest ≡ to_le_bytes w32 number ++ more →
+    (version_of number ≡ 2) × (rest ≡ more)
 second_only number rest more magic e = elim (or_cases (number == from_le_bytes w32 (codes "RPL1")) (number == from_le_bytes w32 (codes "RPL2")) magic) [
   | inl f ↦
       let is = eqb-true number (from_le_bytes w32 (codes "RPL1")) f in
@@ -175,14 +186,25 @@ second_only number rest more magic e = elim (or_cases (number == from_le_bytes w
 
 pub first_letters : AreLetters 1 (codes "RPL1")
 unfolding version
-first_letters = record { field = from_le_bytes w32 (codes "RPL1"); spells = (record { fits = lit< tt; admitted = refl }, refl); bytes = refl; only = first_only }
+first_letters = record {
+  field = from_le_bytes w32 (codes "RPL1");
+  spells = (record { fits = lit< tt; admitted = refl }, refl);
+  bytes = refl;
+  only = first_only;
+}
 
 pub second_letters : AreLetters 2 (codes "RPL2")
 unfolding version
-second_letters = record { field = from_le_bytes w32 (codes "RPL2"); spells = (record { fits = lit< tt; admitted = refl }, refl); bytes = refl; only = second_only }
+second_letters = record {
+  field = from_le_bytes w32 (codes "RPL2");
+  spells = (record { fits = lit< tt; admitted = refl }, refl);
+  bytes = refl;
+  only = second_only;
+}
 
 -- a version that is spelled is that of one field
-version_field : (n : ℕ) (vs : List ℕ) → Spells version vs n → (number : ℕ) × (is_magic number ≡ true) × (version_of number ≡ n) × (text version vs ≡ to_le_bytes w32 number)
+version_field : (n : ℕ) (vs : List ℕ) → Spells version vs n → (number : ℕ) × (is_magic number ≡ true) × (version_of number ≡ n) ×
+    (text version vs ≡ to_le_bytes w32 number)
 unfolding version
 version_field n [] s = absurd s
 version_field n (v ∷ []) s = (v, s.0.admitted, s.1, append-nil (to_le_bytes w32 v))
@@ -196,14 +218,17 @@ rest_header h ws p s =
     let behind = apart (superblocks h) _ p front.behind front.behind_spells in
     ended h front.between behind.between behind.behind p behind.behind_spells
   where
-    ended : (h : Header) (rs : List _) (ls : List LeafValue) (ws : List ℕ) (p : PlanValue) → Spells (done (record { header = h; references = rs; leaves = ls })) ws p → p.header ≡ h
+    ended : (h : Header) (rs : List _) (ls : List LeafValue) (ws : List ℕ) (p : PlanValue) →
+        Spells (done (record { header = h; references = rs; leaves = ls })) ws p → p.header ≡ h
     ended h rs ls [] p s = sym (ap (λ (q : PlanValue). q.header) s)
     ended h rs ls (w ∷ ws) p s = absurd s
 
-bytes_are : (new rest fb rb nb nfb nrb front all : List ℕ) → rest ≡ fb ++ rb → nb ≡ new → nfb ≡ fb → nrb ≡ rb → front ≡ nb ++ nfb → all ≡ front ++ nrb → new ++ rest ≡ all
+bytes_are : (new rest fb rb nb nfb nrb front all : List ℕ) → rest ≡ fb ++ rb → nb ≡ new → nfb ≡ fb → nrb ≡ rb → front ≡ nb ++ nfb → all ≡ front ++ nrb →
+    new ++ rest ≡ all
 bytes_are new rest fb rb nb nfb nrb front all a b c d e f = rw (f, e, b, c, d, a) (sym (append_assoc new fb rb))
 
-module _ (P : List LeafValue → Type 0) (split : (xs ys : List LeafValue) → P (xs ++ ys) → P xs × P ys) (m n : ℕ) (old new : List ℕ) (old_is : AreLetters m old) (new_is : AreLetters n new)
+module _ (P : List LeafValue → Type 0) (split : (xs ys : List LeafValue) → P (xs ++ ys) → P xs × P ys) (m n : ℕ) (old new : List ℕ) (old_is : AreLetters m old)
+    (new_is : AreLetters n new)
     (permits : (h : Header) → h.version ≡ m → Permits P n h) where
   text_in : (rest : List ℕ) (p : PlanValue) → AreText plan (old ++ rest) p → P p.leaves → (p.header.version ≡ m) × AreText plan (new ++ rest) (plan_in n p)
   unfolding plan header
@@ -214,7 +239,8 @@ module _ (P : List LeafValue → Type 0) (split : (xs ys : List LeafValue) → P
       let fb = text (frame head.between) head.behind in
       let rb = text (Rest h) top.behind in
       let (number, magic, names, letters) = version_field head.between head.front head.front_spells in
-      let bytes : old ++ rest ≡ to_le_bytes w32 number ++ (fb ++ rb) = e ∙ top.bytes ∙ ap (λ (xs : List ℕ). xs ++ rb) (head.bytes ∙ ap (λ (xs : List ℕ). xs ++ fb) letters) ∙ append_assoc (to_le_bytes w32 number) fb rb in
+      let bytes : old ++ rest ≡ to_le_bytes w32 number ++ (fb ++ rb) = e ∙ top.bytes
+      ∙ ap (λ (xs : List ℕ). xs ++ rb) (head.bytes ∙ ap (λ (xs : List ℕ). xs ++ fb) letters) ∙ append_assoc (to_le_bytes w32 number) fb rb in
       let (is_m, rest_is) = old_is.only number rest (fb ++ rb) magic bytes in
       let same : head.between ≡ m = sym names ∙ is_m in
       let framed : Spells (frame m) head.behind h = subst (λ (k : ℕ). Spells (frame k) head.behind h) same head.behind_spells in
@@ -227,7 +253,8 @@ module _ (P : List LeafValue → Type 0) (split : (xs ys : List LeafValue) → P
         (
           ((new_is.field ∷ []) ++ head.behind) ++ top.behind,
           all_spells,
-          bytes_are new rest fb rb _ _ _ _ _ rest_is new_is.bytes (frame_bytes ∙ ap (λ (k : ℕ). text (frame k) head.behind) (sym same)) rest_bytes head_bytes all_bytes,
+          bytes_are new rest fb rb _ _ _ _ _ rest_is new_is.bytes (frame_bytes ∙ ap (λ (k : ℕ). text (frame k) head.behind) (sym same)) rest_bytes head_bytes
+              all_bytes,
         ),
       )
 
@@ -260,7 +287,8 @@ second_keeps_first rest p t =
 -- ---- no stripes where no side is more than twice the other
 
 -- a part in the frame is one leaf of its size
-one_leaf : (h : Header) (size : BlockSize) (x y : ℕ) (ls : List LeafValue) → is_inside h x y ≡ true → IsSpelled (part h size x y) ls → (l : LeafValue) × (l.size ≡ size) × (l ∷ [] ≡ ls)
+one_leaf : (h : Header) (size : BlockSize) (x y : ℕ) (ls : List LeafValue) → is_inside h x y ≡ true → IsSpelled (part h size x y) ls →
+    (l : LeafValue) × (l.size ≡ size) × (l ∷ [] ≡ ls)
 unfolding part
 one_leaf h size x y ls within s = elim (spelled_where (is_inside h x y) (lone (leaf h size x y)) ls s) [
   | inl (_, t) ↦
@@ -274,7 +302,8 @@ one_leaf h size x y ls within s = elim (spelled_where (is_inside h x y) (lone (l
     clash false e f = absurd cc
 
 -- the first of four parts has such a leaf
-first_is_two_to_one : (h : Header) (size : BlockSize) (x y : ℕ) (f g k : Format (List LeafValue)) (ls : List LeafValue) → is_inside h x y ≡ true → IsSpelled (part h size x y ++> f ++> g ++> k) ls → All IsTwoToOne ls
+first_is_two_to_one : (h : Header) (size : BlockSize) (x y : ℕ) (f g k : Format (List LeafValue)) (ls : List LeafValue) → is_inside h x y ≡ true →
+    IsSpelled (part h size x y ++> f ++> g ++> k) ls → All IsTwoToOne ls
     → (block_width size ≤ 2 * block_height size) × (block_height size ≤ 2 * block_width size)
 first_is_two_to_one h size x y f g k ls within s all =
     let four = spelled_four (part h size x y) f g k ls s in
@@ -286,7 +315,8 @@ first_is_two_to_one h size x y f g k ls within s all =
     let first : IsTwoToOne l = All-head IsTwoToOne l [] (subst (All IsTwoToOne) (sym alone) front) in
     subst (λ (b : BlockSize). (block_width b ≤ 2 * block_height b) × (block_height b ≤ 2 * block_width b)) size_is (first.not_wide, first.not_high)
 
-no_wide : (h : Header) (k side x y : ℕ) (ls : List LeafValue) → suc k ≤ 4 → 2 ≤ suc k → is_inside h x y ≡ true → IsSpelled (wide_stripes h (part_size (suc k) PARTITION_HORZ_4) side x y) ls → All IsTwoToOne ls → ⊥
+no_wide : (h : Header) (k side x y : ℕ) (ls : List LeafValue) → suc k ≤ 4 → 2 ≤ suc k → is_inside h x y ≡ true →
+    IsSpelled (wide_stripes h (part_size (suc k) PARTITION_HORZ_4) side x y) ls → All IsTwoToOne ls → ⊥
 unfolding wide_stripes
 no_wide h zero side x y ls le two within s all = absurd (omega (arith, two))
 no_wide h (suc k) side x y ls le two within s all =
@@ -294,7 +324,8 @@ no_wide h (suc k) side x y ls le two within s all =
     let not = first_is_two_to_one h _ x y _ _ _ ls within s all in
     absurd (omega (arith, not.0, cells.width, cells.height, pow_pos k))
 
-no_tall : (h : Header) (k side x y : ℕ) (ls : List LeafValue) → suc k ≤ 4 → 2 ≤ suc k → is_inside h x y ≡ true → IsSpelled (tall_stripes h (part_size (suc k) PARTITION_VERT_4) side x y) ls → All IsTwoToOne ls → ⊥
+no_tall : (h : Header) (k side x y : ℕ) (ls : List LeafValue) → suc k ≤ 4 → 2 ≤ suc k → is_inside h x y ≡ true →
+    IsSpelled (tall_stripes h (part_size (suc k) PARTITION_VERT_4) side x y) ls → All IsTwoToOne ls → ⊥
 unfolding tall_stripes
 no_tall h zero side x y ls le two within s all = absurd (omega (arith, two))
 no_tall h (suc k) side x y ls le two within s all =
@@ -302,7 +333,8 @@ no_tall h (suc k) side x y ls le two within s all =
     let not = first_is_two_to_one h _ x y _ _ _ ls within s all in
     absurd (omega (arith, not.1, cells.width, cells.height, pow_pos k))
 
-no_stripes : (h : Header) (k x y v : ℕ) (ls : List LeafValue) → suc k ≤ 4 → 2 ≤ suc k → is_inside h x y ≡ true → 8 ≤ v → v ≤ 9 → IsSpelled (parts h (suc k) (block h k) x y (cut_by v)) ls → All IsTwoToOne ls → ⊥
+no_stripes : (h : Header) (k x y v : ℕ) (ls : List LeafValue) → suc k ≤ 4 → 2 ≤ suc k → is_inside h x y ≡ true → 8 ≤ v → v ≤ 9 →
+    IsSpelled (parts h (suc k) (block h k) x y (cut_by v)) ls → All IsTwoToOne ls → ⊥
 unfolding parts cut_by
 no_stripes h k x y v ls le two within least most s all = elim (eight_or_nine v least most) [
   | inl is ↦ no_wide h k (quarter_side (suc k)) x y ls le two within (subst (λ (v : ℕ). IsSpelled (parts h (suc k) (block h k) x y (cut_by v)) ls) is s) all

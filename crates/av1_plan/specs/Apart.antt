@@ -9,4 +9,14 @@ in_frame h references p = record { header = h; references = references; leaves =
 
 -- the same frame without references
 abbrev pub without_references : Header → Header
-without_references h = record { version = h.version; width = h.width; height = h.height; depth = h.depth; sampling = h.sampling; filter = h.filter; edge_filter = h.edge_filter; slots = h.slots; mask = 0 }
+without_references h = record {
+  version = h.version;
+  width = h.width;
+  height = h.height;
+  depth = h.depth;
+  sampling = h.sampling;
+  filter = h.filter;
+  edge_filter = h.edge_filter;
+  slots = h.slots;
+  mask = 0;
+}

@@ -1,5 +1,5 @@
--- The leaves of a plan stand in coding order: they are those of trees of marks, one tree for each superblock of the frame.
--- AV1 specification: decode partition syntax.
+-- The leaves of a plan stand in coding order: they are those of trees of marks, one tree for each superblock of the
+-- frame. AV1 specification: decode partition syntax.
 use Rattle.std.specs.Prelude.{◌≡◌, ℕ, ◌+◌, ◌*◌, ◌/◌, ◌%◌, ◌≤◌, true, List, length, map}
 use Rattle.av1_blocks.specs.Blocks.{block_width, block_height}
 use Rattle.av1_plan.specs.declared.header.Header.{Header}
@@ -25,8 +25,8 @@ pub record IsOnGrid (h : Header) (l : LeafValue) : Type 0 where
   pub end_y : l.y % 64 + block_height l.size ≤ 64
   pub within : is_inside h l.x l.y ≡ true
 
--- A leaf one of whose sides is four times the other ends in the frame. It is a quarter of a node, and these are coded only where the node lies
--- in the frame.
+-- A leaf one of whose sides is four times the other ends in the frame. It is a quarter of a node, and these are coded
+-- only where the node lies in the frame.
 pub record IsQuarterInside (h : Header) (l : LeafValue) : Type 0 where
   pub wide : block_width l.size ≡ 4 * block_height l.size → l.x + block_width l.size ≤ h.width
   pub high : block_height l.size ≡ 4 * block_width l.size → l.y + block_height l.size ≤ h.height

@@ -1,5 +1,6 @@
 -- Formats of bytes: which fields a text has, one after the other, where each value may decide what is asked for next.
-use Rattle.std.specs.Prelude.{◌==◌, zero, suc, ℕ, ◌+◌, ◌<◌, ◌^◌, Bool, true, IsTrue, ◌&&◌, List, [], ◌∷◌, ◌++◌, length, take, drop, Result, Ok, Err, nat_le, if◌then◌else◌}
+use Rattle.std.specs.Prelude.{◌==◌, zero, suc, ℕ, ◌+◌, ◌<◌, ◌^◌, Bool, true, IsTrue, ◌&&◌, List, [], ◌∷◌, ◌++◌, length}
+use Rattle.std.specs.Prelude.{take, drop, Result, Ok, Err, nat_le, if◌then◌else◌}
 use Rattle.std.specs.Int.{Width, byte_len, from_le_bytes}
 use Rattle.std.specs.Int.{w8, w16, w32}
 
@@ -89,7 +90,8 @@ unfoldable pub read_field : Kind → Input → Reading (ℕ × Input)
 read_field k i =
     let n = byte_len (width k.size) in
     let value = from_le_bytes (width k.size) (take n i.rest) in
-    if nat_le n (length i.rest) && k.admits value then Ok (value, record { at = i.at + n; rest = drop n i.rest }) else Err i.at
+    if nat_le n (length i.rest) && k.admits value then Ok (value, record { at = i.at + n; rest = drop n i.rest })
+    else Err i.at
 
 -- the value that the front spells, and what is left
 abbrev pub read : {A : Type 0} → Format A → Input → Reading (A × Input)
@@ -98,7 +100,10 @@ read (asks k next) i = on_ok (read_field k i) (λ p. read (next p.0) p.1)
 
 -- a part of any length: how many bytes it has, and these, which are one field
 unfoldable pub read_part : Input → Reading (List ℕ × Input)
-read_part i = on_ok (read_field (any four) i) (λ p. if nat_le p.0 (length p.1.rest) then Ok (take p.0 p.1.rest, record { at = p.1.at + p.0; rest = drop p.0 p.1.rest }) else Err p.1.at)
+read_part i =
+    on_ok (read_field (any four) i)
+    (λ p. if nat_le p.0 (length p.1.rest)
+    then Ok (take p.0 p.1.rest, record { at = p.1.at + p.0; rest = drop p.0 p.1.rest }) else Err p.1.at)
 
 -- reads more items, behind those that were read before
 unfoldable pub add : {A : Type 0} → Format (List A) → List A × Input → Reading (List A × Input)

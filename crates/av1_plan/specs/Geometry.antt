@@ -1,5 +1,6 @@
 -- What of each plane a leaf covers. Planes are counted 0 for Y, 1 for U and 2 for V.
-use Rattle.std.specs.Prelude.{ℕ, zero, suc, ◌+◌, ◌*◌, ◌/◌, ◌%◌, ◌^◌, Bool, ◌==◌, ◌&&◌, ◌||◌, not, nat_lt, if◌then◌else◌, Option, Some, None, List}
+use Rattle.std.specs.Prelude.{ℕ, zero, suc, ◌+◌, ◌*◌, ◌/◌, ◌%◌, ◌^◌, Bool, ◌==◌, ◌&&◌, ◌||◌, not, nat_lt, if◌then◌else◌}
+use Rattle.std.specs.Prelude.{Option, Some, None, List}
 use Rattle.std.specs.List.{filter_map, range_with_len}
 use Rattle.std.specs.Result.{result_unwrap_or}
 use Rattle.av1_blocks.specs.declared.partition.BlockSize.{BlockSize}
@@ -45,10 +46,11 @@ is_inside h x y = nat_lt x h.width && nat_lt y h.height
 
 -- ---- leaves
 
--- whether a leaf at a place (x, y) in luma carries chroma: in a halved direction a leaf of side 4 at an even cell does not, and
--- the one behind it carries chroma for both (`HasChroma` of the AV1 specification)
+-- whether a leaf at a place (x, y) in luma carries chroma: in a halved direction a leaf of side 4 at an even cell does
+-- not, and the one behind it carries chroma for both (`HasChroma` of the AV1 specification)
 unfoldable pub carries_chroma : Header → ℕ → ℕ → BlockSize → Bool
-carries_chroma h x y size = not (xdec h 1 == 1 && block_width size == 4 && x / 4 % 2 == 0) && not (ydec h 1 == 1 && block_height size == 4 && y / 4 % 2 == 0)
+carries_chroma h x y size = not (xdec h 1 == 1 && block_width size == 4 && x / 4 % 2 == 0)
+    && not (ydec h 1 == 1 && block_height size == 4 && y / 4 % 2 == 0)
 
 -- whether it covers a part of plane p
 unfoldable pub covers_plane : Header → ℕ → ℕ → BlockSize → ℕ → Bool
@@ -70,7 +72,13 @@ plane_tx_size h size tx_size (suc p) = largest_chroma_tx_size size (xdec h (suc 
 
 -- the rectangle in plane p of a leaf that covers a part of it, and the size of its transforms
 unfoldable pub plane_area : Header → ℕ → ℕ → BlockSize → TxSize → ℕ → PlaneArea
-plane_area h x y size tx_size p = record { x = plane_place p x (xdec h p); y = plane_place p y (ydec h p); size = plane_size h size p; tx_size = plane_tx_size h size tx_size p }
+plane_area h x y size tx_size p =
+    record {
+      x = plane_place p x (xdec h p);
+      y = plane_place p y (ydec h p);
+      size = plane_size h size p;
+      tx_size = plane_tx_size h size tx_size p;
+    }
 
 -- ---- transform blocks, numbered in raster order over the whole rectangle
 
@@ -84,11 +92,13 @@ block_count a = blocks_across a * (block_height a.size / tx_height a.tx_size)
 
 -- where block n begins in the plane
 unfoldable pub block_at : PlaneArea → ℕ → TransformBlock
-block_at a n = record { x = a.x + n % blocks_across a * tx_width a.tx_size; y = a.y + n / blocks_across a * tx_height a.tx_size }
+block_at a n =
+    record { x = a.x + n % blocks_across a * tx_width a.tx_size; y = a.y + n / blocks_across a * tx_height a.tx_size }
 
 -- whether there is a block n, and it begins in the visible plane p
 unfoldable pub has_block : Header → ℕ → PlaneArea → ℕ → Bool
-has_block h p a n = nat_lt n (block_count a) && nat_lt (block_at a n).x (plane_width h p) && nat_lt (block_at a n).y (plane_height h p)
+has_block h p a n = nat_lt n (block_count a) && nat_lt (block_at a n).x (plane_width h p)
+    && nat_lt (block_at a n).y (plane_height h p)
 
 -- block n, where there is one that begins in the visible plane p
 unfoldable pub transform_block : Header → ℕ → PlaneArea → ℕ → Option TransformBlock

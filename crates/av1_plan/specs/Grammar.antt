@@ -1,14 +1,20 @@
 -- The plan grammar: the fields of a plan, in their order. Numbers are little-endian.
-use Rattle.std.specs.Prelude.{codes, zero, suc, ◌+◌, ◌*◌, ◌/◌, ◌%◌, ◌^◌, ◌&&◌, ◌||◌, slice_index_or, Option, Some, None, nat_lt, nat_le, ℕ, Bool, true, false, ◌==◌, if◌then◌else◌, List, [], ◌∷◌}
+use Rattle.std.specs.Prelude.{codes, zero, suc, ◌+◌, ◌*◌, ◌/◌, ◌%◌, ◌^◌, ◌&&◌, ◌||◌, slice_index_or, Option, Some, None}
+use Rattle.std.specs.Prelude.{nat_lt, nat_le, ℕ, Bool, true, false, ◌==◌, if◌then◌else◌, List, [], ◌∷◌}
 use Rattle.std.specs.Result.{result_unwrap_or}
 use Rattle.std.specs.Int.{w8, w16, w32, cast_signed, is_in_range, from_le_bytes}
 use Rattle.av1_blocks.specs.declared.mc.FilterMode.TheVariants.{REGULAR}
 use Rattle.av1_blocks.specs.declared.mc.TheConstants.FilterMode as filter_modes
 use Rattle.av1_blocks.specs.declared.mc.MotionVector.{MotionVector}
 use Rattle.av1_blocks.specs.declared.partition.BlockSize.{BlockSize}
-use Rattle.av1_blocks.specs.declared.partition.BlockSize.TheVariants.{BLOCK_4X4, BLOCK_8X8, BLOCK_16X16, BLOCK_32X32, BLOCK_64X64}
+use Rattle.av1_blocks.specs.declared.partition.BlockSize.TheVariants.{BLOCK_4X4, BLOCK_8X8, BLOCK_16X16, BLOCK_32X32}
+use Rattle.av1_blocks.specs.declared.partition.BlockSize.TheVariants.{BLOCK_64X64}
 use Rattle.av1_blocks.specs.declared.partition.PartitionType.{PartitionType}
-use Rattle.av1_blocks.specs.declared.partition.PartitionType.TheVariants.{PARTITION_NONE, PARTITION_HORZ, PARTITION_VERT, PARTITION_SPLIT, PARTITION_HORZ_A, PARTITION_HORZ_B, PARTITION_VERT_A, PARTITION_VERT_B, PARTITION_HORZ_4, PARTITION_VERT_4}
+use Rattle.av1_blocks.specs.declared.partition.PartitionType.TheVariants.{PARTITION_NONE, PARTITION_HORZ}
+use Rattle.av1_blocks.specs.declared.partition.PartitionType.TheVariants.{PARTITION_VERT, PARTITION_SPLIT}
+use Rattle.av1_blocks.specs.declared.partition.PartitionType.TheVariants.{PARTITION_HORZ_A, PARTITION_HORZ_B}
+use Rattle.av1_blocks.specs.declared.partition.PartitionType.TheVariants.{PARTITION_VERT_A, PARTITION_VERT_B}
+use Rattle.av1_blocks.specs.declared.partition.PartitionType.TheVariants.{PARTITION_HORZ_4, PARTITION_VERT_4}
 use Rattle.av1_blocks.specs.declared.partition.RefType.{RefType}
 use Rattle.av1_blocks.specs.declared.partition.RefType.TheVariants.{INTRA_FRAME}
 use Rattle.av1_blocks.specs.declared.partition.TheConstants.RefType as references_by_number
@@ -22,7 +28,8 @@ use Rattle.av1_blocks.specs.declared.transform.TxType.{TxType}
 use Rattle.av1_blocks.specs.declared.transform.TxType.TheVariants.{DCT_DCT}
 use Rattle.av1_blocks.specs.declared.transform.TheConstants.TxType as tx_types
 use Rattle.av1_blocks.specs.Parts.{subsize}
-use Rattle.av1_plan.specs.Format.{Length, one, two, four, Kind, Format, done, ◌>>=◌, field, any, nothing, lone, ◌++>◌, in_turn}
+use Rattle.av1_plan.specs.Format.{Length, one, two, four, Kind, Format, done, ◌>>=◌, field, any, nothing, lone, ◌++>◌}
+use Rattle.av1_plan.specs.Format.{in_turn}
 use Rattle.av1_plan.specs.Geometry.{plane_len, has_slot, is_inside, carries_chroma}
 use Rattle.av1_plan.specs.Plan.{LeafValue, PlanValue}
 use Rattle.av1_plan.specs.declared.header.Header.{Header}
@@ -89,7 +96,17 @@ frame version = do
   edge_filter ← field (byte_from 0 1)
   slots ← slots
   mask ← field (any one)
-  done (record { version = version; width = width; height = height; depth = depth; sampling = sampling; filter = slice_index_or filter_modes.ALL filter REGULAR; edge_filter = edge_filter == 1; slots = slots; mask = mask })
+  done (record {
+    version = version;
+    width = width;
+    height = height;
+    depth = depth;
+    sampling = sampling;
+    filter = slice_index_or filter_modes.ALL filter REGULAR;
+    edge_filter = edge_filter == 1;
+    slots = slots;
+    mask = mask;
+  })
 
 -- what stands before the reference samples
 unfoldable pub header : Format Header
@@ -228,7 +245,16 @@ leaf h size x y = do
   uv_type ← uv_type (carries_chroma h x y size)
   luma ← triples
   chroma ← chroma_triples (carries_chroma h x y size)
-  done (record { x = x; y = y; size = size; kind = kind; tx_size = tx_size; tx_type = tx_type; uv_type = uv_type; triples = luma ∷ chroma })
+  done (record {
+    x = x;
+    y = y;
+    size = size;
+    kind = kind;
+    tx_size = tx_size;
+    tx_type = tx_type;
+    uv_type = uv_type;
+    triples = luma ∷ chroma;
+  })
 
 -- ---- nodes
 
@@ -258,14 +284,19 @@ part h size x y = inside h x y (lone (leaf h size x y))
 
 -- how a node is cut, by its mark
 unfoldable pub cut_by : ℕ → PartitionType
-cut_by mark = slice_index_or (PARTITION_NONE ∷ PARTITION_HORZ ∷ PARTITION_VERT ∷ PARTITION_SPLIT ∷ PARTITION_HORZ_A ∷ PARTITION_HORZ_B ∷ PARTITION_VERT_A ∷ PARTITION_VERT_B ∷ PARTITION_HORZ_4 ∷ PARTITION_VERT_4 ∷ []) mark PARTITION_NONE
+cut_by mark =
+    slice_index_or (PARTITION_NONE ∷ PARTITION_HORZ ∷ PARTITION_VERT ∷ PARTITION_SPLIT ∷ PARTITION_HORZ_A ∷
+    PARTITION_HORZ_B ∷ PARTITION_VERT_A ∷ PARTITION_VERT_B ∷ PARTITION_HORZ_4 ∷ PARTITION_VERT_4 ∷ []) mark
+    PARTITION_NONE
 
--- whether a node of this level may be cut into four leaves that are a quarter as wide or as high: in the second version a node of side
--- 16 to 64 (level 2 and up) that lies in the frame whole
+-- whether a node of this level may be cut into four leaves that are a quarter as wide or as high: in the second version
+-- a node of side 16 to 64 (level 2 and up) that lies in the frame whole
 unfoldable pub admits_stripes : Header → ℕ → ℕ → ℕ → Bool
-admits_stripes h level x y = h.version == 2 && nat_le 2 level && nat_le (x + 2 * half_side level) h.width && nat_le (y + 2 * half_side level) h.height
+admits_stripes h level x y = h.version == 2 && nat_le 2 level && nat_le (x + 2 * half_side level) h.width
+    && nat_le (y + 2 * half_side level) h.height
 
--- a mark that a node may have: 0 to 3 (none, horizontal, vertical, split), or 8 or 9 (four leaves above one another or side by side)
+-- a mark that a node may have: 0 to 3 (none, horizontal, vertical, split), or 8 or 9 (four leaves above one another or
+-- side by side)
 unfoldable pub is_mark : Header → ℕ → ℕ → ℕ → ℕ → Bool
 is_mark h level x y v = nat_le v 3 || (is_in_range 8 9 v && admits_stripes h level x y)
 
@@ -277,20 +308,26 @@ mark h level x y = do
 
 -- four leaves of this size, each so far below the one before
 unfoldable pub wide_stripes : Header → BlockSize → (side x y : ℕ) → Format (List LeafValue)
-wide_stripes h size side x y = part h size x y ++> part h size x (y + side) ++> part h size x (y + 2 * side) ++> part h size x (y + 3 * side)
+wide_stripes h size side x y =
+    part h size x y ++> part h size x (y + side) ++> part h size x (y + 2 * side) ++> part h size x (y + 3 * side)
 
 -- four leaves of this size, each so far to the right of the one before
 unfoldable pub tall_stripes : Header → BlockSize → (side x y : ℕ) → Format (List LeafValue)
-tall_stripes h size side x y = part h size x y ++> part h size (x + side) y ++> part h size (x + 2 * side) y ++> part h size (x + 3 * side) y
+tall_stripes h size side x y =
+    part h size x y ++> part h size (x + side) y ++> part h size (x + 2 * side) y ++> part h size (x + 3 * side) y
 
 -- the parts of a node of this level that is cut so, where node gives the part of half the side at a place
 unfoldable pub parts : Header → ℕ → (ℕ → ℕ → Format (List LeafValue)) → ℕ → ℕ → PartitionType → Format (List LeafValue)
 parts h level node x y PARTITION_NONE = part h (whole_size level) x y
-parts h level node x y PARTITION_HORZ = part h (part_size level PARTITION_HORZ) x y ++> part h (part_size level PARTITION_HORZ) x (y + half_side level)
-parts h level node x y PARTITION_VERT = part h (part_size level PARTITION_VERT) x y ++> part h (part_size level PARTITION_VERT) (x + half_side level) y
+parts h level node x y PARTITION_HORZ =
+    part h (part_size level PARTITION_HORZ) x y ++> part h (part_size level PARTITION_HORZ) x (y + half_side level)
+parts h level node x y PARTITION_VERT =
+    part h (part_size level PARTITION_VERT) x y ++> part h (part_size level PARTITION_VERT) (x + half_side level) y
 parts h level node x y PARTITION_HORZ_4 = wide_stripes h (part_size level PARTITION_HORZ_4) (quarter_side level) x y
 parts h level node x y PARTITION_VERT_4 = tall_stripes h (part_size level PARTITION_VERT_4) (quarter_side level) x y
-parts h level node x y _ = node x y ++> node (x + half_side level) y ++> node x (y + half_side level) ++> node (x + half_side level) (y + half_side level)
+parts h level node x y _ =
+    node x y ++> node (x + half_side level) y ++> node x (y + half_side level) ++> node (x + half_side level)
+    (y + half_side level)
 
 -- a part of side 4 * 2 ^ level: a 4x4 leaf at level 0, else a node
 unfoldable pub block : Header → ℕ → ℕ → ℕ → Format (List LeafValue)

@@ -5,8 +5,10 @@ use Rattle.av1_plan.specs.Grammar.{header, references, plan, plan_behind}
 use Rattle.av1_plan.specs.Plan.{PlanValue}
 use Rattle.av1_plan.specs.Spelling.{AreText}
 
--- The bytes of a header, those of its references and those of the leaves behind them are, one after the other, the bytes of the plan.
+-- The bytes of a header, those of its references and those of the leaves behind them are, one after the other, the
+-- bytes of the plan.
 abbrev pub PiecesArePlan : Type 0
 PiecesArePlan =
     (head samples part : List ℕ) (h : Header) (stored : List (Option (List (List ℕ)))) (p : PlanValue)
-    → AreText header head h → AreText (references h) samples stored → AreText (plan_behind h stored) part p → AreText plan (head ++ samples ++ part) p
+    → AreText header head h → AreText (references h) samples stored → AreText (plan_behind h stored) part p →
+    AreText plan (head ++ samples ++ part) p

@@ -1,5 +1,6 @@
 -- What a plan says: the value that its bytes spell.
-use Rattle.std.specs.Prelude.{◌≡◌, ℕ, ◌+◌, List, [], ◌∷◌, take, drop, map, sum, Option, Some, None, slice_index_or, is_some, ◌<◌}
+use Rattle.std.specs.Prelude.{◌≡◌, ℕ, ◌+◌, List, [], ◌∷◌, take, drop, map, sum, Option, Some, None, slice_index_or}
+use Rattle.std.specs.Prelude.{is_some, ◌<◌}
 use Rattle.av1_blocks.specs.declared.partition.BlockSize.{BlockSize}
 use Rattle.av1_blocks.specs.declared.transform.TxSize.{TxSize}
 use Rattle.av1_blocks.specs.declared.transform.TxType.{TxType}
@@ -10,8 +11,8 @@ use Rattle.av1_plan.specs.declared.leaf.Leaf.{Leaf}
 use Rattle.av1_plan.specs.declared.planes.Planes.{Planes}
 use Rattle.av1_plan.specs.Geometry.{has_slot}
 
--- a leaf: its place in luma samples, its size, how it is predicted and transformed, and for each of Y, U and V its triples
--- (none for U and V where the leaf carries no chroma)
+-- a leaf: its place in luma samples, its size, how it is predicted and transformed, and for each of Y, U and V its
+-- triples (none for U and V where the leaf carries no chroma)
 pub record LeafValue : Type 0 where
   pub x : ℕ
   pub y : ℕ
@@ -22,8 +23,8 @@ pub record LeafValue : Type 0 where
   pub uv_type : Option TxType
   pub triples : List (List Triple)
 
--- a plan: its header, for each of the eight slots its planes Y, U and V row by row where it carries planes, and its leaves in
--- coding order
+-- a plan: its header, for each of the eight slots its planes Y, U and V row by row where it carries planes, and its
+-- leaves in coding order
 pub record PlanValue : Type 0 where
   pub header : Header
   pub references : List (Option (List (List ℕ)))
@@ -50,7 +51,17 @@ cut triples first (count ∷ counts) = take count (drop first triples) ∷ cut t
 
 -- a leaf whose triples lie in this list
 abbrev pub leaf_value : List Triple → Leaf → LeafValue
-leaf_value triples l = record { x = l.x; y = l.y; size = l.size; kind = l.kind; tx_size = l.tx_size; tx_type = l.tx_type; uv_type = l.uv_type; triples = cut triples l.first l.counts }
+leaf_value triples l =
+    record {
+      x = l.x;
+      y = l.y;
+      size = l.size;
+      kind = l.kind;
+      tx_size = l.tx_size;
+      tx_type = l.tx_type;
+      uv_type = l.uv_type;
+      triples = cut triples l.first l.counts;
+    }
 
 -- the leaves whose triples lie in this list
 unfoldable pub leaf_values : List Triple → List Leaf → List LeafValue
@@ -80,4 +91,5 @@ ArePresent h slots n = (s : ℕ) → s < n → is_some (slice_index_or slots s N
 
 -- the plan with these parts
 abbrev pub value_of : Header → List (Option Planes) → List Leaf → List Triple → PlanValue
-value_of header references leaves triples = record { header = header; references = slot_values references; leaves = leaf_values triples leaves }
+value_of header references leaves triples =
+    record { header = header; references = slot_values references; leaves = leaf_values triples leaves }

@@ -1,5 +1,6 @@
 -- What holds of every plan that is read: its frame, its reference samples and its leaves.
-use Rattle.std.specs.Prelude.{◌≡◌, ℕ, ◌^◌, ◌%◌, ◌<◌, ◌≤◌, ◌⊎◌, Bool, true, false, ℤ, List, [], ◌∷◌, length, Option, Some, None, is_some, slice_index_or, FitsSigned}
+use Rattle.std.specs.Prelude.{◌≡◌, ℕ, ◌^◌, ◌%◌, ◌<◌, ◌≤◌, ◌⊎◌, Bool, true, false, ℤ, List, [], ◌∷◌, length, Option}
+use Rattle.std.specs.Prelude.{Some, None, is_some, slice_index_or, FitsSigned}
 use Rattle.std.specs.Int.{w8}
 use Rattle.std.specs.List.{All}
 use Rattle.av1_blocks.specs.declared.mc.MotionVector.{MotionVector}
@@ -33,7 +34,8 @@ pub record AreSlots (slots : List ℕ) : Type 0 where
   pub count : length slots ≡ 7
   pub range : All (λ slot. slot < 8) slots
 
--- the version is 1 or 2, sampling 0, 1 or 2, and the filter one of the first four (the fifth, switchable, belongs to bitstreams)
+-- the version is 1 or 2, sampling 0, 1 or 2, and the filter one of the first four (the fifth, switchable, belongs to
+-- bitstreams)
 pub record IsReadFrame (h : Header) : Type 0 where
   pub least_version : 1 ≤ h.version
   pub most_version : h.version ≤ 2
@@ -59,7 +61,8 @@ IsReadReference h slot plane None = has_slot h slot ≡ false
 
 -- a slot in memory: its planes exactly where the mask has it
 abbrev pub IsStoredSlot : Header → ℕ → Option Planes → Type 0
-IsStoredSlot h slot (Some planes) = (has_slot h slot ≡ true) × ArePlane h 0 planes.y.items × ArePlane h 1 planes.u.items × ArePlane h 2 planes.v.items
+IsStoredSlot h slot (Some planes) = (has_slot h slot ≡ true) × ArePlane h 0 planes.y.items ×
+    ArePlane h 1 planes.u.items × ArePlane h 2 planes.v.items
 IsStoredSlot h slot None = has_slot h slot ≡ false
 
 -- the first n slots in memory
@@ -129,8 +132,8 @@ pub record AreThree (carried : Bool) (lists : List (List Triple)) : Type 0 where
   pub u_silent : carried ≡ false → u ≡ []
   pub v_silent : carried ≡ false → v ≡ []
 
--- A leaf stands on its grid, and has what belongs to chroma exactly where it carries chroma. A side of it is more than twice the other only in
--- the second version, and then it ends in the frame.
+-- A leaf stands on its grid, and has what belongs to chroma exactly where it carries chroma. A side of it is more than
+-- twice the other only in the second version, and then it ends in the frame.
 pub record IsReadLeaf (h : Header) (l : LeafValue) : Type 0 where
   pub grid : IsOnGrid h l
   pub shape : h.version ≡ 1 → IsTwoToOne l

@@ -1,5 +1,5 @@
--- Which lists of values a format asks for, and which bytes are exactly their fields. Nothing here reads bytes: whole texts are
--- compared.
+-- Which lists of values a format asks for, and which bytes are exactly their fields. Nothing here reads bytes: whole
+-- texts are compared.
 use Rattle.std.specs.Prelude.{◌≡◌, ℕ, ◌≤◌, List, [], ◌∷◌, ◌++◌, length}
 use Rattle.std.specs.Int.{to_le_bytes}
 use Rattle.av1_plan.specs.Format.{Format, done, asks, IsAdmitted, width}

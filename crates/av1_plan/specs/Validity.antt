@@ -1,5 +1,6 @@
 -- Which leaves are valid: the six reasons for which one is refused.
-use Rattle.std.specs.Prelude.{ℕ, ℤ, pos, neg_ℤ, int_lt, ◌+◌, ◌-◌, ◌^◌, Bool, true, ◌==◌, ◌&&◌, ◌||◌, not, nat_lt, nat_le, nat_abs, if◌then◌else◌, Option, Some, None, List, [], ◌∷◌, slice_index_or, is_ok}
+use Rattle.std.specs.Prelude.{ℕ, ℤ, pos, neg_ℤ, int_lt, ◌+◌, ◌-◌, ◌^◌, Bool, true, ◌==◌, ◌&&◌, ◌||◌, not, nat_lt}
+use Rattle.std.specs.Prelude.{nat_le, nat_abs, if◌then◌else◌, Option, Some, None, List, [], ◌∷◌, slice_index_or, is_ok}
 use Rattle.std.specs.List.{list_all}
 use Rattle.av1_blocks.specs.declared.partition.BlockSize.{BlockSize}
 use Rattle.av1_blocks.specs.declared.partition.RefType.{RefType}
@@ -35,12 +36,17 @@ has_block_size h size = is_ok (subsampled_size size (xdec h 1) (ydec h 1))
 
 -- a transform of this size may be of this type; the Walsh-Hadamard transform is for 4x4 alone
 unfoldable pub is_transform : TxSize → TxType → Bool
-is_transform size type = valid_av1_transform size type && (not (tx_type_number type == tx_type_number WHT_WHT) || tx_number size == tx_number TX_4X4)
+is_transform size type =
+    valid_av1_transform size type
+    && (not (tx_type_number type == tx_type_number WHT_WHT) || tx_number size == tx_number TX_4X4)
 
 -- luma's transforms are no longer than the leaf, and all are of a type that their size has
 unfoldable pub has_transforms : Header → BlockSize → TxSize → TxType → Option TxType → Bool
-has_transforms h size tx_size tx_type (Some uv_type) = nat_le (tx_width tx_size) (block_width size) && nat_le (tx_height tx_size) (block_height size) && is_transform tx_size tx_type && is_transform (plane_tx_size h size tx_size 1) uv_type
-has_transforms h size tx_size tx_type None = nat_le (tx_width tx_size) (block_width size) && nat_le (tx_height tx_size) (block_height size) && is_transform tx_size tx_type
+has_transforms h size tx_size tx_type (Some uv_type) = nat_le (tx_width tx_size) (block_width size)
+    && nat_le (tx_height tx_size) (block_height size) && is_transform tx_size tx_type
+    && is_transform (plane_tx_size h size tx_size 1) uv_type
+has_transforms h size tx_size tx_type None = nat_le (tx_width tx_size) (block_width size)
+    && nat_le (tx_height tx_size) (block_height size) && is_transform tx_size tx_type
 
 -- ---- modes
 
@@ -78,7 +84,8 @@ has_vectors (Compound mode references mvs) = list_all is_valid_vector mvs
 
 -- the slot that a reference names carries planes: reference n, from 1 to 7, names the header's slot in place n - 1
 unfoldable pub has_reference : Header → RefType → Bool
-has_reference h reference = let slot = slice_index_or h.slots (reference_number reference - 1) 8 in nat_lt slot 8 && has_slot h slot
+has_reference h reference = let slot = slice_index_or h.slots (reference_number reference - 1) 8
+    in nat_lt slot 8 && has_slot h slot
 
 -- all references of a leaf do
 unfoldable pub has_references : Header → LeafKind → Bool
@@ -94,7 +101,8 @@ fits_signed bits v = not (int_lt v (neg_ℤ (pos (2 ^ (bits - 1))))) && int_lt v
 
 -- the triple names a block that begins in the visible plane, a place of it, and a number of depth + 8 signed bits
 unfoldable pub is_coefficient : Header → ℕ → PlaneArea → Triple → Bool
-is_coefficient h p a t = has_block h p a t.block && nat_lt t.place (coded_area a.tx_size) && fits_signed (h.depth + 8) t.value
+is_coefficient h p a t = has_block h p a t.block && nat_lt t.place (coded_area a.tx_size)
+    && fits_signed (h.depth + 8) t.value
 
 -- a triple stands before another: in an earlier block, or at an earlier place of the same
 unfoldable pub is_before : Triple → Triple → Bool
@@ -117,11 +125,14 @@ are_coefficients h p a triples = list_all (is_coefficient h p a) triples && rise
 
 -- the leaf's triples in plane p
 unfoldable pub has_plane_coefficients : Header → LeafValue → ℕ → Bool
-has_plane_coefficients h l p = are_coefficients h p (plane_area h l.x l.y l.size l.tx_size p) (slice_index_or l.triples p [])
+has_plane_coefficients h l p =
+    are_coefficients h p (plane_area h l.x l.y l.size l.tx_size p) (slice_index_or l.triples p [])
 
 -- the leaf's triples in all planes that it covers
 unfoldable pub has_coefficients : Header → LeafValue → Bool
-has_coefficients h l = has_plane_coefficients h l 0 && (not (carries_chroma h l.x l.y l.size) || (has_plane_coefficients h l 1 && has_plane_coefficients h l 2))
+has_coefficients h l =
+    has_plane_coefficients h l 0
+    && (not (carries_chroma h l.x l.y l.size) || (has_plane_coefficients h l 1 && has_plane_coefficients h l 2))
 
 -- ---- faults
 

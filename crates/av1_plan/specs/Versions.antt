@@ -9,13 +9,24 @@ use Rattle.av1_plan.specs.Spelling.{AreText}
 
 -- the same frame in this version
 abbrev pub header_in : ℕ → Header → Header
-header_in n h = record { version = n; width = h.width; height = h.height; depth = h.depth; sampling = h.sampling; filter = h.filter; edge_filter = h.edge_filter; slots = h.slots; mask = h.mask }
+header_in n h = record {
+  version = n;
+  width = h.width;
+  height = h.height;
+  depth = h.depth;
+  sampling = h.sampling;
+  filter = h.filter;
+  edge_filter = h.edge_filter;
+  slots = h.slots;
+  mask = h.mask;
+}
 
 -- the same plan in this version
 abbrev pub plan_in : ℕ → PlanValue → PlanValue
 plan_in n p = record { header = header_in n p.header; references = p.references; leaves = p.leaves }
 
--- Bytes with the letters of the first version that spell a plan spell the same plan in the second, once they have its letters.
+-- Bytes with the letters of the first version that spell a plan spell the same plan in the second, once they have its
+-- letters.
 abbrev pub SecondKeepsFirst : Type 0
 SecondKeepsFirst =
     (rest : List ℕ) (p : PlanValue) → AreText plan (codes "RPL1" ++ rest) p

@@ -188,7 +188,8 @@ fn fits_depth(depth: u8, value: i32) -> bool
     is_within(value, 1 << (depth + 7))
 }
 
-/// Whether a triple names a block of the area that begins in the visible plane `p`, a place of it and a number in range.
+/// Whether a triple names a block of the area that begins in the visible plane `p`, a place of it and a number in
+/// range.
 #[tactic(auto, unfolding(crate::specs::Validity::is_coefficient, crate::specs::Geometry::transform_block))]
 fn is_coefficient(header: &Header, p: usize, area: &PlaneArea, triple: &Triple) -> bool
     requires { header.now.depth ≤ 12 }
@@ -288,8 +289,8 @@ fn fault_of(header: &Header, plan: &Plan, i: usize, leaf: &Leaf) -> Option<Inval
     }
 }
 
-/// Whether every leaf of a plan is valid in a frame with this header, which may be another than the plan's own: for callers that keep the
-/// references of the leaves themselves.
+/// Whether every leaf of a plan is valid in a frame with this header, which may be another than the plan's own: for
+/// callers that keep the references of the leaves themselves.
 ///
 /// # Errors
 ///

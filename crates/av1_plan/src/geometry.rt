@@ -1,6 +1,7 @@
 //! What of each plane a leaf covers.
 //!
-//! Planes are counted 0 for Y, 1 for U and 2 for V. The check and the reconstruction take a leaf's geometry from here alone.
+//! Planes are counted 0 for Y, 1 for U and 2 for V. The check and the reconstruction take a leaf's geometry from here
+//! alone.
 
 ghost use Rattle.std.specs.Prelude.{◌≡◌, ◌≤◌, ◌<◌};
 ghost use Rattle.av1_plan.specs.Geometry.{carries_chroma, covers_plane, plane_place, plane_size, plane_tx_size, plane_area};
@@ -97,8 +98,8 @@ impl Header {
     }
 }
 
-/// Whether a leaf of this size, at this place in luma samples, carries chroma. In a halved direction a leaf of side 4 at an
-/// even cell does not; the one behind it carries the chroma of both.
+/// Whether a leaf of this size, at this place in luma samples, carries chroma. In a halved direction a leaf of side 4
+/// at an even cell does not; the one behind it carries the chroma of both.
 #[tactic(auto, unfolding(crate::specs::Geometry::carries_chroma))]
 pub fn carries_chroma(header: &Header, x: u16, y: u16, size: BlockSize) -> bool
     ensures { result ≡ carries_chroma header.now x y size }
@@ -119,8 +120,8 @@ fn plane_size(header: &Header, size: BlockSize, p: usize) -> BlockSize
     }
 }
 
-/// The size of the transforms of a leaf in plane `p`, where `tx_size` is that of its luma transforms. A leaf whose size has no
-/// size in chroma is refused by `check_plan`; here its luma size stands for it.
+/// The size of the transforms of a leaf in plane `p`, where `tx_size` is that of its luma transforms. A leaf whose size
+/// has no size in chroma is refused by `check_plan`; here its luma size stands for it.
 #[tactic(auto, unfolding(crate::specs::Geometry::plane_tx_size, crate::specs::Geometry::plane_size))]
 pub fn plane_tx_size(header: &Header, size: BlockSize, tx_size: TxSize, p: usize) -> TxSize
     ensures { result ≡ plane_tx_size header.now size tx_size p }

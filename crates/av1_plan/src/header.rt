@@ -5,7 +5,8 @@ use av1_blocks::FilterMode;
 /// The frame that a plan is for, and what holds for all its leaves.
 #[derive(Copy, Clone, Debug, PartialEq, Eq)]
 pub struct Header {
-    /// The version of the grammar: 1, or 2, in which a node may be cut into four leaves that are a quarter as wide or as high.
+    /// The version of the grammar: 1, or 2, in which a node may be cut into four leaves that are a quarter as wide or
+    /// as high.
     pub version: u8,
     /// Columns of luma samples, a multiple of 8 from 8 to 2048.
     pub width: u16,

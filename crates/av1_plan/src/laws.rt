@@ -12,20 +12,21 @@ pub fn texts_are_of_one_plan()
     ensures { (bytes : List ℕ) (p q : PlanValue) → AreText plan bytes p → AreText plan bytes q → p ≡ q }
 {}
 
-/// A law: a plan of the first version is one of the second. Bytes with the letters `RPL1` that spell a plan spell the same plan with
-/// `RPL2`, but for its version.
+/// A law: a plan of the first version is one of the second. Bytes with the letters `RPL1` that spell a plan spell the
+/// same plan with `RPL2`, but for its version.
 pub fn the_second_version_keeps_the_first()
     ensures { SecondKeepsFirst }
 {}
 
-/// A law: a plan of the second version in which no side of a leaf is more than twice the other is one of the first, with the letters
-/// `RPL1`.
+/// A law: a plan of the second version in which no side of a leaf is more than twice the other is one of the first,
+/// with the letters `RPL1`.
 pub fn the_first_version_has_the_rest()
     ensures { FirstHasRest }
 {}
 
-/// A law: what stands before the leaves of a plan, its references and the leaves behind them are the plan. The bytes of a header, those of
-/// its references and those that [`crate::parse_leaves`] reads are, one after the other, the bytes of what it gives.
+/// A law: what stands before the leaves of a plan, its references and the leaves behind them are the plan. The bytes of
+/// a header, those of its references and those that [`crate::parse_leaves`] reads are, one after the other, the bytes
+/// of what it gives.
 pub fn pieces_are_a_plan()
     ensures { PiecesArePlan }
 {}

@@ -1,29 +1,30 @@
 //! Plans: the block decisions of a frame, as bytes, and which of them are valid.
 //!
-//! A plan says of a frame how it is cut into leaves, how each leaf is predicted, and which coefficients are added. The crate
-//! reads plans from bytes, checks them, and works out what of each plane a leaf covers. It stands on `av1_blocks` for the
-//! words of block decisions, and takes lemmas on lists from `av1_lists`. To the crates above it promises:
+//! A plan says of a frame how it is cut into leaves, how each leaf is predicted, and which coefficients are added. The
+//! crate reads plans from bytes, checks them, and works out what of each plane a leaf covers. It stands on `av1_blocks`
+//! for the words of block decisions, and takes lemmas on lists from `av1_lists`. To the crates above it promises:
 //!
-//! - `parse_plan` reads exactly the bytes that the plan grammar (`specs/Grammar.antt`) spells, and of any others names the
-//!   first field that is cut, not admitted or left over (`Malformed`). It is linear in the bytes and takes no memory for a leaf
-//!   of its own: leaves lie in one list, and their coefficients in another.
-//! - `parse_leaves` reads the leaves alone, for formats that keep the header and the references of a plan elsewhere: what its bytes spell is
-//!   `plan_behind` them. `parse_leaves_apart` does so for callers that keep the references in a form of their own: the leaves are those of the
-//!   frame with any references, and `check_leaves` judges them by the header that it is given (`specs/Apart.antt`). A `Reader` takes the
-//!   fields of a plan one by one, for formats that share them.
-//! - A `Plan` keeps as a fact that a complete proper list of fields spells it. Its leaves stand in coding order: they are those
-//!   of one tree of marks for each superblock of the frame (`specs/Tree.antt`, `specs/CodingOrder.antt`).
-//! - What holds of every plan that is read, its accessors say (`specs/ReadPlans.antt`): the ranges of the frame's numbers, as many
-//!   reference samples as a plane has and each of the frame's depth, and of a leaf that it stands on its grid, and has a chroma
-//!   mode, a chroma type and triples of chroma where it carries chroma alone. A leaf one of whose sides is four times the other
-//!   ends in the frame.
-//! - The grammar has two versions, told by the letters at the front. The second adds two marks, which cut a node into four leaves
-//!   that are a quarter as high or as wide, and is else the same (`specs/Versions.antt`).
-//! - `check_plan` accepts exactly the plans of which no leaf is faulty, and else names the first faulty leaf and the first
-//!   of its reasons (`specs/Validity.antt`): sizes, transforms, modes, vectors, references, and coefficients that rise strictly by
-//!   block and place.
-//! - A leaf's rectangle in a plane, the size of its transforms there and the blocks that begin in the frame are worked out
-//!   here alone (`specs/Geometry.antt`), for the check and for the reconstruction.
+//! - `parse_plan` reads exactly the bytes that the plan grammar (`specs/Grammar.antt`) spells, and of any others names
+//!   the first field that is cut, not admitted or left over (`Malformed`). It is linear in the bytes and takes no
+//!   memory for a leaf of its own: leaves lie in one list, and their coefficients in another.
+//! - `parse_leaves` reads the leaves alone, for formats that keep the header and the references of a plan elsewhere:
+//!   what its bytes spell is `plan_behind` them. `parse_leaves_apart` does so for callers that keep the references in a
+//!   form of their own: the leaves are those of the frame with any references, and `check_leaves` judges them by the
+//!   header that it is given (`specs/Apart.antt`). A `Reader` takes the fields of a plan one by one, for formats that
+//!   share them.
+//! - A `Plan` keeps as a fact that a complete proper list of fields spells it. Its leaves stand in coding order: they
+//!   are those of one tree of marks for each superblock of the frame (`specs/Tree.antt`, `specs/CodingOrder.antt`).
+//! - What holds of every plan that is read, its accessors say (`specs/ReadPlans.antt`): the ranges of the frame's
+//!   numbers, as many reference samples as a plane has and each of the frame's depth, and of a leaf that it stands on
+//!   its grid, and has a chroma mode, a chroma type and triples of chroma where it carries chroma alone. A leaf one of
+//!   whose sides is four times the other ends in the frame.
+//! - The grammar has two versions, told by the letters at the front. The second adds two marks, which cut a node into
+//!   four leaves that are a quarter as high or as wide, and is else the same (`specs/Versions.antt`).
+//! - `check_plan` accepts exactly the plans of which no leaf is faulty, and else names the first faulty leaf and the
+//!   first of its reasons (`specs/Validity.antt`): sizes, transforms, modes, vectors, references, and coefficients that
+//!   rise strictly by block and place.
+//! - A leaf's rectangle in a plane, the size of its transforms there and the blocks that begin in the frame are worked
+//!   out here alone (`specs/Geometry.antt`), for the check and for the reconstruction.
 #![tactic(auto)]
 
 mod access;

@@ -47,8 +47,8 @@ fn read_plan(alloc: Global, bytes: &[u8]) -> Result<Plan, PlanError>
 ///
 /// # Errors
 ///
-/// `Malformed` names the start of the first field at which the bytes stop being a plan: one that is cut, has a value that is not
-/// admitted after the fields before it, or is left over. `Memory` where memory runs out.
+/// `Malformed` names the start of the first field at which the bytes stop being a plan: one that is cut, has a value
+/// that is not admitted after the fields before it, or is left over. `Memory` where memory runs out.
 pub fn parse_plan(alloc: Global, bytes: &[u8]) -> Result<Plan, PlanError>
     requires { length bytes.now ≤ 2 ^ 26 }
     // The bytes are exactly the fields of a complete proper list, which spells the plan.
@@ -91,8 +91,8 @@ fn read_leaves(
     })
 }
 
-/// The plan with this header and these references whose leaves these bytes spell, by the plan grammar: for formats that keep what stands
-/// before the leaves of a plan in another place.
+/// The plan with this header and these references whose leaves these bytes spell, by the plan grammar: for formats that
+/// keep what stands before the leaves of a plan in another place.
 ///
 /// # Errors
 ///
@@ -109,7 +109,8 @@ pub fn parse_leaves(
     requires slots { AreStoredSlots header references.items 8 }
     ensures found { IfOk result (λ p. AreText (plan_behind header (slot_values references.items)) bytes.now (plan_value p)) }
     ensures refused { IfMalformed result (λ at. AreRefused (plan_behind header (slot_values references.items)) bytes.now at) }
-    ensures only { (p : PlanValue) → AreText (plan_behind header (slot_values references.items)) bytes.now p → MatchResult result (λ x. plan_value x ≡ p) (λ e. e ≡ Memory) }
+    ensures only { (p : PlanValue) → AreText (plan_behind header (slot_values references.items)) bytes.now p →
+        MatchResult result (λ x. plan_value x ≡ p) (λ e. e ≡ Memory) }
 {
     read_leaves(alloc, header, references, bytes)
 }
@@ -131,9 +132,9 @@ fn without_references(header: &Header) -> Header
     }
 }
 
-/// The leaves that these bytes spell in a frame with this header, for callers that keep the references themselves. The leaves lie in a plan
-/// whose own frame has no references: with the caller's header and references it is the plan of the leaves (`in_frame`), whatever the
-/// references are, and [`check_leaves`](crate::check_leaves) judges it.
+/// The leaves that these bytes spell in a frame with this header, for callers that keep the references themselves. The
+/// leaves lie in a plan whose own frame has no references: with the caller's header and references it is the plan of
+/// the leaves (`in_frame`), whatever the references are, and [`check_leaves`](crate::check_leaves) judges it.
 ///
 /// # Errors
 ///
@@ -141,7 +142,8 @@ fn without_references(header: &Header) -> Header
 pub fn parse_leaves_apart(alloc: Global, header: &Header, bytes: &[u8]) -> Result<Plan, PlanError>
     requires short { length bytes.now ≤ 2 ^ 26 }
     requires frame { IsReadFrame header.now }
-    ensures found { (references : List (Option (List (List ℕ)))) → IfOk result (λ p. AreText (plan_behind header.now references) bytes.now (in_frame header.now references (plan_value p))) }
+    ensures found { (references : List (Option (List (List ℕ)))) →
+        IfOk result (λ p. AreText (plan_behind header.now references) bytes.now (in_frame header.now references (plan_value p))) }
     ensures refused { (references : List (Option (List (List ℕ)))) → IfMalformed result (λ at. AreRefused (plan_behind header.now references) bytes.now at) }
     ensures only { (references : List (Option (List (List ℕ)))) (p : PlanValue) → AreText (plan_behind header.now references) bytes.now p
         → MatchResult result (λ x. in_frame header.now references (plan_value x) ≡ p) (λ e. e ≡ Memory) }

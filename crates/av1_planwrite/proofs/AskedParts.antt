@@ -7,7 +7,8 @@ use Rattle.av1_blocks.specs.declared.partition.BlockSize.TheVariants.{BLOCK_4X4}
 use Rattle.av1_plan.specs.declared.header.Header.{Header}
 use Rattle.av1_plan.specs.Format.{Format, ◌>>=◌, lone, nothing, ◌++>◌, in_turn}
 use Rattle.av1_plan.specs.Geometry.{is_inside}
-use Rattle.av1_plan.specs.Grammar.{half_side, quarter_side, whole_size, part_size, part, mark, wide_stripes, tall_stripes, parts, block, superblock_row, superblocks}
+use Rattle.av1_plan.specs.Grammar.{half_side, quarter_side, whole_size, part_size, part, mark, wide_stripes, tall_stripes, parts, block, superblock_row}
+use Rattle.av1_plan.specs.Grammar.{superblocks}
 use Rattle.av1_plan.specs.Grammar as grammar
 use Rattle.av1_plan.specs.Plan.{LeafValue}
 use Rattle.av1_planwrite.specs.declared.parts.Part.{Part}
@@ -37,13 +38,16 @@ module _ (h : Header) where
   block_asked : (level x y : ℕ) (others : List Part) → parts_format h (block_before h level x y others) ≡ block h level x y ++> parts_format h others
   unfolding block block_before
   block_asked zero x y others = leaf_asked BLOCK_4X4 x y others
-  block_asked (suc k) x y others = where_inside (is_inside h x y) (mark h (suc k) x y >>= parts h (suc k) (block h k) x y) (Node (suc k) x y) others (node_asked k x y)
+  block_asked (suc k) x y others =
+      where_inside (is_inside h x y) (mark h (suc k) x y >>= parts h (suc k) (block h k) x y) (Node (suc k) x y) others (node_asked k x y)
 
   -- two parts, and four
-  two_asked : (f g k : Leaves) (ps qs : List Part) → parts_format h ps ≡ f ++> parts_format h qs → parts_format h qs ≡ g ++> k → parts_format h ps ≡ f ++> g ++> k
+  two_asked : (f g k : Leaves) (ps qs : List Part) → parts_format h ps ≡ f ++> parts_format h qs → parts_format h qs ≡ g ++> k →
+      parts_format h ps ≡ f ++> g ++> k
   two_asked f g k ps qs a b = a ∙ ap (λ (m : Leaves). f ++> m) b ∙ sym (both_assoc f g k)
 
-  four_asked : (f g k m n : Leaves) (ps qs rs ss : List Part) → parts_format h ps ≡ f ++> parts_format h qs → parts_format h qs ≡ g ++> parts_format h rs → parts_format h rs ≡ k ++> parts_format h ss
+  four_asked : (f g k m n : Leaves) (ps qs rs ss : List Part) → parts_format h ps ≡ f ++> parts_format h qs → parts_format h qs ≡ g ++> parts_format h rs →
+      parts_format h rs ≡ k ++> parts_format h ss
       → parts_format h ss ≡ m ++> n → parts_format h ps ≡ f ++> g ++> k ++> m ++> n
   four_asked f g k m n ps qs rs ss a b c d =
       let last : parts_format h rs ≡ k ++> m ++> n = two_asked k m n rs ss c d in
@@ -57,18 +61,22 @@ module _ (h : Header) where
           ∙ sym (both_assoc (f ++> g) k (m ++> n))
           ∙ sym (both_assoc (f ++> g ++> k) m n)
 
-  pub cut_asked : (k x y : ℕ) (cut : PartitionType) (others : List Part) → parts_format h (cut_before h (suc k) x y cut others) ≡ parts h (suc k) (block h k) x y cut ++> parts_format h others
+  pub cut_asked : (k x y : ℕ) (cut : PartitionType) (others : List Part) →
+      parts_format h (cut_before h (suc k) x y cut others) ≡ parts h (suc k) (block h k) x y cut ++> parts_format h others
   unfolding parts wide_stripes tall_stripes cut_before
   cut_asked k x y PARTITION_NONE others = leaf_asked _ x y others
   cut_asked k x y PARTITION_HORZ others = two_asked _ _ _ _ _ (leaf_asked _ x y _) (leaf_asked _ x _ others)
   cut_asked k x y PARTITION_VERT others = two_asked _ _ _ _ _ (leaf_asked _ x y _) (leaf_asked _ _ y others)
-  cut_asked k x y PARTITION_HORZ_4 others = four_asked _ _ _ _ _ _ _ _ _ (leaf_asked _ x y _) (leaf_asked _ x _ _) (leaf_asked _ x _ _) (leaf_asked _ x _ others)
-  cut_asked k x y PARTITION_VERT_4 others = four_asked _ _ _ _ _ _ _ _ _ (leaf_asked _ x y _) (leaf_asked _ _ y _) (leaf_asked _ _ y _) (leaf_asked _ _ y others)
+  cut_asked k x y PARTITION_HORZ_4 others =
+      four_asked _ _ _ _ _ _ _ _ _ (leaf_asked _ x y _) (leaf_asked _ x _ _) (leaf_asked _ x _ _) (leaf_asked _ x _ others)
+  cut_asked k x y PARTITION_VERT_4 others =
+      four_asked _ _ _ _ _ _ _ _ _ (leaf_asked _ x y _) (leaf_asked _ _ y _) (leaf_asked _ _ y _) (leaf_asked _ _ y others)
   cut_asked k x y _ others =
       let e : suc k - 1 ≡ k = omega arith in
       rw e (four_asked _ _ _ _ _ _ _ _ _ (block_asked k x y _) (block_asked k _ y _) (block_asked k x _ _) (block_asked k _ _ others))
 
-  row_asked : (row col n : ℕ) (others : List Part) → parts_format h (row_before h row col n others) ≡ in_turn (λ col. block h 4 (64 * col) (64 * row)) col n ++> parts_format h others
+  row_asked : (row col n : ℕ) (others : List Part) →
+      parts_format h (row_before h row col n others) ≡ in_turn (λ col. block h 4 (64 * col) (64 * row)) col n ++> parts_format h others
   unfolding in_turn row_before
   row_asked row col zero others = sym (nothing_before (parts_format h others))
   row_asked row col (suc n) others = two_asked _ _ _ _ _ (block_asked 4 (64 * col) (64 * row) _) (row_asked row (col + 1) n others)

@@ -1,5 +1,6 @@
 -- What a plan asks for, call by call.
-use Rattle.std.proofs.Common.{◌≡◌, ℕ, zero, suc, ◌+◌, ◌-◌, ◌<◌, ◌≤◌, Bool, true, false, if◌then◌else◌, List, [], ◌∷◌, ◌++◌, length, Option, Some, None, refl, sym, ap, subst, ◌∙◌, append_assoc, arith}
+use Rattle.std.proofs.Common.{◌≡◌, ℕ, zero, suc, ◌+◌, ◌-◌, ◌<◌, ◌≤◌, Bool, true, false, if◌then◌else◌, List, [], ◌∷◌, ◌++◌, length, Option, Some, None, refl}
+use Rattle.std.proofs.Common.{sym, ap, subst, ◌∙◌, append_assoc, arith}
 use Rattle.std.proofs.lemmas.List.{append-nil}
 use Rattle.av1_blocks.specs.declared.partition.BlockSize.{BlockSize}
 use Rattle.av1_blocks.specs.declared.partition.PartitionType.{PartitionType}
@@ -36,7 +37,8 @@ module _ (h : Header) where
   abbrev left : (slot n : ℕ) → List Part → Slots → List LeafValue → Format PlanValue
   left slot n ps stored leaves = slots_of slot n >>= λ more. behind ps leaves (stored ++ more)
 
-  left_is : (slot n : ℕ) (ps : List Part) (stored : Slots) (leaves : List LeafValue) → n ≡ 8 - slot → asked_for h slot ps stored leaves ≡ left slot n ps stored leaves
+  left_is : (slot n : ℕ) (ps : List Part) (stored : Slots) (leaves : List LeafValue) → n ≡ 8 - slot →
+      asked_for h slot ps stored leaves ≡ left slot n ps stored leaves
   unfolding asked_for
   left_is slot n ps stored leaves e = rw e refl
 
@@ -57,18 +59,22 @@ module _ (h : Header) where
       ap (λ (f : Format Slots). f >>= λ zs. end (stored ++ zs)) (one_slot slot n)
       ∙ bind_assoc (lone (grammar.slot_planes h slot)) (λ xs. more >>= λ ys. done (xs ++ ys)) (λ zs. end (stored ++ zs))
       ∙ bind_assoc (grammar.slot_planes h slot) (λ o. done (o ∷ [])) (λ xs. (more >>= λ ys. done (xs ++ ys)) >>= λ zs. end (stored ++ zs))
-      ∙ bind_same (grammar.slot_planes h slot) (λ o. (more >>= λ ys. done (o ∷ ys)) >>= λ zs. end (stored ++ zs)) (λ o. more >>= λ ys. end (stored ++ o ∷ [] ++ ys)) (λ o. each more end o)
+      ∙ bind_same (grammar.slot_planes h slot) (λ o. (more >>= λ ys. done (o ∷ ys)) >>= λ zs. end (stored ++ zs))
+      (λ o. more >>= λ ys. end (stored ++ o ∷ [] ++ ys)) (λ o. each more end o)
     where
-      each : (more : Format Slots) (end : Slots → Format PlanValue) (o : Option (List (List ℕ))) → (more >>= λ ys. done (o ∷ ys)) >>= (λ zs. end (stored ++ zs)) ≡ more >>= (λ ys. end (stored ++ o ∷ [] ++ ys))
+      each : (more : Format Slots) (end : Slots → Format PlanValue) (o : Option (List (List ℕ))) →
+          (more >>= λ ys. done (o ∷ ys)) >>= (λ zs. end (stored ++ zs)) ≡ more >>= (λ ys. end (stored ++ o ∷ [] ++ ys))
       each more end o =
           bind_assoc more (λ ys. done (o ∷ ys)) (λ zs. end (stored ++ zs))
           ∙ bind_same more (λ ys. end (stored ++ (o ∷ ys))) (λ ys. end (stored ++ o ∷ [] ++ ys)) (λ ys. ap end (sym (append_assoc stored (o ∷ []) ys)))
 
-  given_by : (b : Bool) (k : Option (List (List ℕ)) → Format PlanValue) → b ≡ true → ((if b then (grammar.reference h >>= λ planes. done (Some planes)) else done None) >>= k) ≡ (grammar.reference h >>= λ planes. k (Some planes))
+  given_by : (b : Bool) (k : Option (List (List ℕ)) → Format PlanValue) → b ≡ true →
+      ((if b then (grammar.reference h >>= λ planes. done (Some planes)) else done None) >>= k) ≡ (grammar.reference h >>= λ planes. k (Some planes))
   given_by true k e = bind_assoc (grammar.reference h) (λ planes. done (Some planes)) k
   given_by false k e = absurd cc
 
-  none_by : (b : Bool) (k : Option (List (List ℕ)) → Format PlanValue) → b ≡ false → ((if b then (grammar.reference h >>= λ planes. done (Some planes)) else done None) >>= k) ≡ k None
+  none_by : (b : Bool) (k : Option (List (List ℕ)) → Format PlanValue) → b ≡ false →
+      ((if b then (grammar.reference h >>= λ planes. done (Some planes)) else done None) >>= k) ≡ k None
   none_by true k e = absurd cc
   none_by false k e = refl
 
@@ -78,9 +84,11 @@ module _ (h : Header) where
   unfolding grammar.slot_planes
   slot_given slot n ps stored leaves e = first_slot slot n ps stored leaves ∙ given_by (has_slot h slot) (λ o. left (slot + 1) n ps (stored ++ o ∷ []) leaves) e
 
-  slot_without : (slot n : ℕ) (ps : List Part) (stored : Slots) (leaves : List LeafValue) → has_slot h slot ≡ false → left slot (suc n) ps stored leaves ≡ left (slot + 1) n ps (stored ++ None ∷ []) leaves
+  slot_without : (slot n : ℕ) (ps : List Part) (stored : Slots) (leaves : List LeafValue) → has_slot h slot ≡ false →
+      left slot (suc n) ps stored leaves ≡ left (slot + 1) n ps (stored ++ None ∷ []) leaves
   unfolding grammar.slot_planes
-  slot_without slot n ps stored leaves e = first_slot slot n ps stored leaves ∙ none_by (has_slot h slot) (λ o. left (slot + 1) n ps (stored ++ o ∷ []) leaves) e
+  slot_without slot n ps stored leaves e = first_slot slot n ps stored leaves
+      ∙ none_by (has_slot h slot) (λ o. left (slot + 1) n ps (stored ++ o ∷ []) leaves) e
 
   -- the slots that carry none are told without a field, up to the next that carries planes
   pub counted : (slot n : ℕ) → slot + length (slots_without h slot n) ≡ slot_from h slot n
@@ -88,7 +96,8 @@ module _ (h : Header) where
   counted slot zero = omega arith
   counted slot (suc n) = by (has_slot h slot) (counted (slot + 1) n)
     where
-      by : (b : Bool) → slot + 1 + length (slots_without h (slot + 1) n) ≡ slot_from h (slot + 1) n → slot + length (if b then [] else None ∷ slots_without h (slot + 1) n) ≡ (if b then slot else slot_from h (slot + 1) n)
+      by : (b : Bool) → slot + 1 + length (slots_without h (slot + 1) n) ≡ slot_from h (slot + 1) n →
+          slot + length (if b then [] else None ∷ slots_without h (slot + 1) n) ≡ (if b then slot else slot_from h (slot + 1) n)
       by true rest = omega arith
       by false rest = omega (arith, rest)
 
@@ -98,7 +107,8 @@ module _ (h : Header) where
   carries_planes slot zero lt = absurd (omega (arith, lt))
   carries_planes slot (suc n) lt = by (has_slot h slot) refl lt (λ below. carries_planes (slot + 1) n below)
     where
-      by : (b : Bool) → has_slot h slot ≡ b → (if b then slot else slot_from h (slot + 1) n) < slot + suc n → (slot_from h (slot + 1) n < slot + 1 + n → has_slot h (slot_from h (slot + 1) n) ≡ true)
+      by : (b : Bool) → has_slot h slot ≡ b → (if b then slot else slot_from h (slot + 1) n) < slot + suc n →
+          (slot_from h (slot + 1) n < slot + 1 + n → has_slot h (slot_from h (slot + 1) n) ≡ true)
           → has_slot h (if b then slot else slot_from h (slot + 1) n) ≡ true
       by true e lt later = e
       by false e lt later = later (omega (arith, lt))
@@ -112,14 +122,17 @@ module _ (h : Header) where
   skipped slot (suc n) ps stored leaves e = by (has_slot h slot) refl (skipped (slot + 1) n ps (stored ++ None ∷ []) leaves (omega (arith, e)))
     where
       by : (b : Bool) → has_slot h slot ≡ b
-          → left (slot + 1) n ps (stored ++ None ∷ []) leaves ≡ left (slot_from h (slot + 1) n) (8 - slot_from h (slot + 1) n) ps (stored ++ None ∷ [] ++ slots_without h (slot + 1) n) leaves
-          → left slot (suc n) ps stored leaves ≡ left (if b then slot else slot_from h (slot + 1) n) (8 - (if b then slot else slot_from h (slot + 1) n)) ps (stored ++ (if b then [] else None ∷ slots_without h (slot + 1) n)) leaves
+          → left (slot + 1) n ps (stored ++ None ∷ []) leaves ≡ left (slot_from h (slot + 1) n)
+          (8 - slot_from h (slot + 1) n) ps (stored ++ None ∷ [] ++ slots_without h (slot + 1) n) leaves
+          → left slot (suc n) ps stored leaves ≡ left (if b then slot else slot_from h (slot + 1) n)
+          (8 - (if b then slot else slot_from h (slot + 1) n)) ps (stored ++ (if b then [] else None ∷ slots_without h (slot + 1) n)) leaves
       by true is later =
           let some : 8 - slot ≡ suc n = omega (arith, e) in
           ap (λ (zs : Slots). left slot (suc n) ps zs leaves) (sym (append-nil stored)) ∙ ap (λ (n : ℕ). left slot n ps (stored ++ []) leaves) (sym some)
       by false is later =
           slot_without slot n ps stored leaves is ∙ later
-          ∙ ap (λ (zs : Slots). left (slot_from h (slot + 1) n) (8 - slot_from h (slot + 1) n) ps zs leaves) (append_assoc stored (None ∷ []) (slots_without h (slot + 1) n))
+          ∙ ap (λ (zs : Slots). left (slot_from h (slot + 1) n) (8 - slot_from h (slot + 1) n) ps zs leaves)
+          (append_assoc stored (None ∷ []) (slots_without h (slot + 1) n))
 
   -- what is asked for up to the next slot that carries planes
   pub asked_next : (slot : ℕ) (ps : List Part) (stored : Slots) (leaves : List LeafValue) → slot ≤ 8
@@ -136,7 +149,8 @@ module _ (h : Header) where
       let n : 8 - slot ≡ suc (8 - (slot + 1)) = omega (arith, lt) in
       left_is slot (suc (8 - (slot + 1))) ps stored leaves (sym n)
       ∙ slot_given slot (8 - (slot + 1)) ps stored leaves e
-      ∙ bind_same (grammar.reference h) (λ planes. left (slot + 1) (8 - (slot + 1)) ps (stored ++ Some planes ∷ []) leaves) (λ planes. asked_for h (slot + 1) ps (stored ++ Some planes ∷ []) leaves)
+      ∙ bind_same (grammar.reference h) (λ planes. left (slot + 1) (8 - (slot + 1)) ps (stored ++ Some planes ∷ []) leaves)
+      (λ planes. asked_for h (slot + 1) ps (stored ++ Some planes ∷ []) leaves)
       (λ planes. sym (left_is (slot + 1) (8 - (slot + 1)) ps (stored ++ Some planes ∷ []) leaves refl))
 
   -- behind the slots, the parts
@@ -156,7 +170,8 @@ module _ (h : Header) where
       ∙ ap (λ (f : Format (List LeafValue)). f >>= end) (bind_assoc node cut_format (λ xs. parts_format h ps >>= λ ys. done (xs ++ ys)))
       ∙ bind_assoc node (λ cut. cut_format cut ++> parts_format h ps) end
       ∙ bind_same node (λ cut. (cut_format cut ++> parts_format h ps) >>= end) (λ cut. asked_for h 8 (cut_before h (suc k) x y cut ps) stored leaves)
-      (λ cut. ap (λ (f : Format (List LeafValue)). f >>= end) (sym (cut_asked h k x y cut ps)) ∙ sym (parts_asked (cut_before h (suc k) x y cut ps) stored leaves))
+      (λ cut. ap (λ (f : Format (List LeafValue)). f >>= end) (sym (cut_asked h k x y cut ps))
+      ∙ sym (parts_asked (cut_before h (suc k) x y cut ps) stored leaves))
 
   -- the fields of a leaf
   pub leaf_asked : (size : BlockSize) (x y : ℕ) (ps : List Part) (stored : Slots) (leaves : List LeafValue)
@@ -171,7 +186,8 @@ module _ (h : Header) where
       ∙ bind_assoc f (λ l. done (l ∷ [])) (λ xs. (g >>= λ ys. done (xs ++ ys)) >>= end)
       ∙ bind_same f (λ l. (g >>= λ ys. done (l ∷ ys)) >>= end) (λ l. asked_for h 8 ps stored (leaves ++ l ∷ [])) (λ l.
       bind_assoc g (λ ys. done (l ∷ ys)) end
-      ∙ bind_same g (λ ys. end (l ∷ ys)) (λ ys. done (plan_is h (stored ++ []) (leaves ++ l ∷ [] ++ ys))) (λ ys. ap (λ (ls : List LeafValue). done (plan_is h (stored ++ []) ls)) (sym (append_assoc leaves (l ∷ []) ys)))
+      ∙ bind_same g (λ ys. end (l ∷ ys)) (λ ys. done (plan_is h (stored ++ []) (leaves ++ l ∷ [] ++ ys)))
+      (λ ys. ap (λ (ls : List LeafValue). done (plan_is h (stored ++ []) ls)) (sym (append_assoc leaves (l ∷ []) ys)))
       ∙ sym (parts_asked ps stored (leaves ++ l ∷ [])))
 
   -- nothing behind the last part
@@ -186,11 +202,13 @@ module _ (h : Header) where
   pub plan_asked : (grammar.references h >>= λ stored. superblocks h >>= λ leaves. done (plan_is h stored leaves)) ≡ asked_for h 0 (rows_of h 0 (down h)) [] []
   unfolding grammar.references asked_for
   plan_asked =
-      bind_same (slots_of 0 8) (λ stored. superblocks h >>= λ leaves. done (plan_is h stored leaves)) (λ stored. parts_format h (rows_of h 0 (down h)) >>= λ leaves. done (plan_is h stored leaves))
+      bind_same (slots_of 0 8) (λ stored. superblocks h >>= λ leaves. done (plan_is h stored leaves))
+      (λ stored. parts_format h (rows_of h 0 (down h)) >>= λ leaves. done (plan_is h stored leaves))
       (λ stored. ap (λ (f : Format (List LeafValue)). f >>= λ leaves. done (plan_is h stored leaves)) (sym (superblocks_asked h)))
 
 -- behind the fields of a header, what a plan with this header asks for
-pub header_asked : (h : Header) (vs : List ℕ) → Spells grammar.header vs h → After grammar.plan vs (asked_for h 0 (rows_of h 0 (down h)) [] []) × (text grammar.plan vs ≡ text grammar.header vs)
+pub header_asked : (h : Header) (vs : List ℕ) → Spells grammar.header vs h → After grammar.plan vs (asked_for h 0 (rows_of h 0 (down h)) [] []) ×
+    (text grammar.plan vs ≡ text grammar.header vs)
 unfolding grammar.plan
 header_asked h vs s =
     let (a, b) = after_spelled grammar.header (λ g. grammar.references g >>= λ stored. superblocks g >>= λ leaves. done (plan_is g stored leaves)) h vs s in

@@ -1,5 +1,6 @@
 -- A plan without its coefficients is a plan, and valid where the plan was.
-use Rattle.std.proofs.Common.{◌≡◌, ℕ, zero, suc, ◌+◌, ◌*◌, ◌/◌, ◌≤◌, Bool, true, false, not, ◌&&◌, ◌||◌, if◌then◌else◌, inl, inr, List, [], ◌∷◌, ◌++◌, length, map, Option, Some, None, refl, sym, ap, subst, ◌∙◌, arith, lit<}
+use Rattle.std.proofs.Common.{◌≡◌, ℕ, zero, suc, ◌+◌, ◌*◌, ◌/◌, ◌≤◌, Bool, true, false, not, ◌&&◌, ◌||◌, if◌then◌else◌, inl, inr, List, [], ◌∷◌, ◌++◌, length}
+use Rattle.std.proofs.Common.{map, Option, Some, None, refl, sym, ap, subst, ◌∙◌, arith, lit<}
 use Rattle.std.proofs.lemmas.List.{map-append}
 use Rattle.av1_blocks.specs.declared.partition.BlockSize.{BlockSize}
 use Rattle.av1_blocks.specs.declared.partition.PartitionType.{PartitionType}
@@ -11,10 +12,12 @@ use Rattle.av1_plan.specs.declared.header.Header.{Header}
 use Rattle.av1_plan.specs.declared.leaf.Triple.{Triple}
 use Rattle.av1_plan.specs.Format.{two, any, Format, done, ◌>>=◌, lone, nothing, ◌++>◌, in_turn}
 use Rattle.av1_plan.specs.Geometry.{is_inside, carries_chroma}
-use Rattle.av1_plan.specs.Grammar.{leaf_kind, tx_size, tx_type, uv_type, triple, triples, chroma_triples, leaf, part, mark, wide_stripes, tall_stripes, parts, block, superblock_row, superblocks, header, references, plan}
+use Rattle.av1_plan.specs.Grammar.{leaf_kind, tx_size, tx_type, uv_type, triple, triples, chroma_triples, leaf, part, mark, wide_stripes, tall_stripes, parts}
+use Rattle.av1_plan.specs.Grammar.{block, superblock_row, superblocks, header, references, plan}
 use Rattle.av1_plan.specs.Plan.{LeafValue, PlanValue}
 use Rattle.av1_plan.specs.Spelling.{IsSpelled, AreText, text}
-use Rattle.av1_plan.specs.Validity.{has_block_size, has_transforms, has_modes, has_vectors, has_references, has_coefficients, has_plane_coefficients, are_coefficients, rise, fault_of, fault_from, first_fault, or_later}
+use Rattle.av1_plan.specs.Validity.{has_block_size, has_transforms, has_modes, has_vectors, has_references, has_coefficients, has_plane_coefficients}
+use Rattle.av1_plan.specs.Validity.{are_coefficients, rise, fault_of, fault_from, first_fault, or_later}
 use Rattle.av1_plan.proofs.Composed.{done_spelled, bind_spelled, asks_spelled, lone_spelled, both_spelled}
 use Rattle.av1_plan.proofs.Pieces.{spelled_done, spelled_bind, spelled_lone, spelled_both, spelled_nothing}
 use Rattle.av1_planwrite.specs.Bare.{none_of, bare_leaf, bare, bare_text}
@@ -32,9 +35,12 @@ bare_chroma true lists s =
     let (u, u_spelled, s1) = spelled_bind triples (λ u. triples >>= λ v. done (u ∷ v ∷ [])) lists s in
     let (v, v_spelled, s2) = spelled_bind triples (λ v. done (u ∷ v ∷ [])) lists s1 in
     let none : IsSpelled (triples >>= λ u. triples >>= λ v. done (u ∷ v ∷ [])) ([] ∷ [] ∷ []) =
-    bind_spelled triples (λ u. triples >>= λ v. done (u ∷ v ∷ [])) [] ([] ∷ [] ∷ []) no_triples (bind_spelled triples (λ v. done ([] ∷ v ∷ [])) [] ([] ∷ [] ∷ []) no_triples (done_spelled ([] ∷ [] ∷ []))) in
-    subst (λ (lists : List (List Triple)). IsSpelled (triples >>= λ u. triples >>= λ v. done (u ∷ v ∷ [])) (map none_of lists)) (spelled_done (u ∷ v ∷ []) lists s2) none
-bare_chroma false lists s = subst (λ (lists : List (List Triple)). IsSpelled (done ([] ∷ [] ∷ [])) (map none_of lists)) (spelled_done ([] ∷ [] ∷ []) lists s) (done_spelled ([] ∷ [] ∷ []))
+    bind_spelled triples (λ u. triples >>= λ v. done (u ∷ v ∷ [])) []
+    ([] ∷ [] ∷ []) no_triples (bind_spelled triples (λ v. done ([] ∷ v ∷ [])) [] ([] ∷ [] ∷ []) no_triples (done_spelled ([] ∷ [] ∷ []))) in
+    subst (λ (lists : List (List Triple)). IsSpelled (triples >>= λ u. triples >>= λ v. done (u ∷ v ∷ [])) (map none_of lists))
+    (spelled_done (u ∷ v ∷ []) lists s2) none
+bare_chroma false lists s = subst (λ (lists : List (List Triple)). IsSpelled (done ([] ∷ [] ∷ [])) (map none_of lists)) (spelled_done ([] ∷ [] ∷ []) lists s)
+    (done_spelled ([] ∷ [] ∷ []))
 
 leaf_bare : (h : Header) (size : BlockSize) (x y : ℕ) (l : LeafValue) → IsSpelled (leaf h size x y) l → IsSpelled (leaf h size x y) (bare_leaf l)
 unfolding leaf
@@ -48,8 +54,10 @@ leaf_bare h size x y l s =
     let (chroma, chroma_spelled, s6) = spelled_bind (chroma_triples carried) _ l s5 in
     let b : LeafValue = record { x = x; y = y; size = size; kind = kind; tx_size = tx; tx_type = type; uv_type = uv; triples = [] ∷ map none_of chroma } in
     let whole : IsSpelled (leaf h size x y) b =
-    bind_spelled (leaf_kind carried) _ kind b kind_spelled (bind_spelled tx_size _ tx b tx_spelled (bind_spelled tx_type _ type b type_spelled (bind_spelled (uv_type carried) _ uv b uv_spelled
-    (bind_spelled triples _ [] b no_triples (bind_spelled (chroma_triples carried) _ (map none_of chroma) b (bare_chroma carried chroma chroma_spelled) (done_spelled b)))))) in
+    bind_spelled (leaf_kind carried) _ kind b kind_spelled
+    (bind_spelled tx_size _ tx b tx_spelled (bind_spelled tx_type _ type b type_spelled (bind_spelled (uv_type carried) _ uv b uv_spelled
+    (bind_spelled triples _ [] b no_triples (bind_spelled (chroma_triples carried) _ (map none_of chroma) b (bare_chroma carried chroma chroma_spelled)
+    (done_spelled b)))))) in
     subst (λ (l : LeafValue). IsSpelled (leaf h size x y) (bare_leaf l)) (spelled_done _ l s6) whole
 
 -- ---- nodes
@@ -64,7 +72,8 @@ bares_nothing ls s = subst (λ (ls : List LeafValue). IsSpelled nothing (map bar
 bares_both : (f g : Format (List LeafValue)) → Bares f → Bares g → Bares (f ++> g)
 bares_both f g a b ls s =
     let (xs, ys, front, behind, is) = spelled_both f g ls s in
-    subst (IsSpelled (f ++> g)) (sym (map-append bare_leaf xs ys) ∙ ap (map bare_leaf) is) (both_spelled f g (map bare_leaf xs) (map bare_leaf ys) (a xs front) (b ys behind))
+    subst (IsSpelled (f ++> g)) (sym (map-append bare_leaf xs ys) ∙ ap (map bare_leaf) is)
+    (both_spelled f g (map bare_leaf xs) (map bare_leaf ys) (a xs front) (b ys behind))
 
 bares_four : (f g k m : Format (List LeafValue)) → Bares f → Bares g → Bares k → Bares m → Bares (f ++> g ++> k ++> m)
 bares_four f g k m a b c d = bares_both (f ++> g ++> k) m (bares_both (f ++> g) k (bares_both f g a b) c) d
@@ -83,7 +92,8 @@ module _ (h : Header) where
   unfolding part
   bares_part size x y = bares_where (is_inside h x y) (lone (leaf h size x y)) (λ ls s.
       let (l, l_spelled, is) = spelled_lone (leaf h size x y) ls s in
-      subst (λ (ls : List LeafValue). IsSpelled (lone (leaf h size x y)) (map bare_leaf ls)) is (lone_spelled (leaf h size x y) (bare_leaf l) (leaf_bare h size x y l l_spelled)))
+      subst (λ (ls : List LeafValue). IsSpelled (lone (leaf h size x y)) (map bare_leaf ls)) is
+      (lone_spelled (leaf h size x y) (bare_leaf l) (leaf_bare h size x y l l_spelled)))
 
   bares_parts : (k x y : ℕ) (cut : PartitionType) → ((x y : ℕ) → Bares (block h k x y)) → Bares (parts h (suc k) (block h k) x y cut)
   unfolding parts wide_stripes tall_stripes
@@ -103,7 +113,9 @@ module _ (h : Header) where
 
   bares_superblocks : Bares (superblocks h)
   unfolding superblocks superblock_row
-  bares_superblocks = bares_in_turn (superblock_row h) 0 ((h.height + 63) / 64) (λ row. bares_in_turn (λ col. block h 4 (64 * col) (64 * row)) 0 ((h.width + 63) / 64) (λ col. bares_block 4 (64 * col) (64 * row)))
+  bares_superblocks =
+      bares_in_turn (superblock_row h) 0 ((h.height + 63) / 64)
+      (λ row. bares_in_turn (λ col. block h 4 (64 * col) (64 * row)) 0 ((h.width + 63) / 64) (λ col. bares_block 4 (64 * col) (64 * row)))
 
 -- ---- the whole
 
@@ -120,7 +132,8 @@ bare_spelled p s =
     let whole : IsSpelled plan b =
     bind_spelled header (λ h. references h >>= λ stored. superblocks h >>= λ leaves. done (plan_is h stored leaves)) h b h_spelled
     (bind_spelled (references h) (λ stored. superblocks h >>= λ leaves. done (plan_is h stored leaves)) stored b stored_spelled
-    (bind_spelled (superblocks h) (λ leaves. done (plan_is h stored leaves)) (map bare_leaf leaves) b (bares_superblocks h leaves leaves_spelled) (done_spelled b))) in
+    (bind_spelled (superblocks h) (λ leaves. done (plan_is h stored leaves)) (map bare_leaf leaves) b (bares_superblocks h leaves leaves_spelled)
+    (done_spelled b))) in
     subst (λ (p : PlanValue). IsSpelled plan (bare p)) (spelled_done (plan_is h stored leaves) p s3) whole
 
 -- the text of a plan without coefficients is the text of such a plan
@@ -148,9 +161,12 @@ coefficients_left_out h l = rw (none l.triples 0, none l.triples 1, none l.tripl
 -- the reasons, in their order
 abbrev reasons : (a b c d e f : Bool) → (k1 k2 k3 k4 k5 k6 : InvalidKind) → Option InvalidKind
 reasons a b c d e f k1 k2 k3 k4 k5 k6 =
-    if not a then Some k1 else (if not b then Some k2 else (if not c then Some k3 else (if not d then Some k4 else (if not e then Some k5 else (if not f then Some k6 else None)))))
+    if not a then Some k1
+    else (if not b then Some k2
+    else (if not c then Some k3 else (if not d then Some k4 else (if not e then Some k5 else (if not f then Some k6 else None)))))
 
-no_reason : (a b c d e f : Bool) (k1 k2 k3 k4 k5 k6 : InvalidKind) → reasons a b c d e f k1 k2 k3 k4 k5 k6 ≡ None → reasons a b c d e true k1 k2 k3 k4 k5 k6 ≡ None
+no_reason : (a b c d e f : Bool) (k1 k2 k3 k4 k5 k6 : InvalidKind) → reasons a b c d e f k1 k2 k3 k4 k5 k6 ≡ None →
+    reasons a b c d e true k1 k2 k3 k4 k5 k6 ≡ None
 no_reason false b c d e f k1 k2 k3 k4 k5 k6 is = absurd cc
 no_reason true false c d e f k1 k2 k3 k4 k5 k6 is = absurd cc
 no_reason true true false d e f k1 k2 k3 k4 k5 k6 is = absurd cc
@@ -160,7 +176,10 @@ no_reason true true true true true f k1 k2 k3 k4 k5 k6 is = refl
 
 no_fault : (h : Header) (l : LeafValue) → fault_of h l ≡ None → fault_of h (bare_leaf l) ≡ None
 unfolding fault_of
-no_fault h l is = rw (coefficients_left_out h l) (no_reason (has_block_size h l.size) (has_transforms h l.size l.tx_size l.tx_type l.uv_type) (has_modes l.size l.kind) (has_vectors l.kind) (has_references h l.kind) (has_coefficients h l) _ _ _ _ _ _ is)
+no_fault h l is =
+    rw (coefficients_left_out h l)
+    (no_reason (has_block_size h l.size) (has_transforms h l.size l.tx_size l.tx_type l.uv_type) (has_modes l.size l.kind) (has_vectors l.kind)
+    (has_references h l.kind) (has_coefficients h l) _ _ _ _ _ _ is)
 
 no_first : (n : ℕ) (o : Option InvalidKind) (later : Option Invalid) → or_later n o later ≡ None → (o ≡ None) × (later ≡ None)
 no_first n None later e = (refl, e)

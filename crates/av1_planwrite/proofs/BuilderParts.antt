@@ -1,5 +1,6 @@
 -- The parts that a builder holds, on its stack and behind it.
-use Rattle.std.proofs.Common.{◌≡◌, ℕ, zero, suc, ◌+◌, ◌-◌, ◌*◌, ◌<◌, ◌≤◌, inl, inr, Bool, true, false, ◌&&◌, ◌||◌, if◌then◌else◌, List, [], ◌∷◌, ◌++◌, Option, Some, None, Result, Ok, Err, refl, sym, ap, subst, ◌∙◌, arith}
+use Rattle.std.proofs.Common.{◌≡◌, ℕ, zero, suc, ◌+◌, ◌-◌, ◌*◌, ◌<◌, ◌≤◌, inl, inr, Bool, true, false, ◌&&◌, ◌||◌, if◌then◌else◌, List, [], ◌∷◌, ◌++◌, Option}
+use Rattle.std.proofs.Common.{Some, None, Result, Ok, Err, refl, sym, ap, subst, ◌∙◌, arith}
 use Rattle.std.specs.Prelude.{nat_lt, nat_le, IsSome, is_some, OnOk}
 use Rattle.std.proofs.lemmas.Bool.{and_parts, ltb-true, leb-true, cases_lt}
 use Rattle.av1_blocks.specs.declared.partition.PartitionType.{PartitionType}
@@ -20,12 +21,14 @@ use Rattle.av1_planwrite.specs.Text.{byte}
 use Rattle.av1_planwrite.proofs.LeftSuperblocks.{first_of_none}
 
 -- where there is a first part but none on the stack, a superblock is left
-pub some_left : (h : Header) (ps : List Part) (row col : ℕ) → ps ≡ [] → IsSome (first_part (ps ++ superblocks_from h row col)) → (col ≡ across h → down h ≤ row + 1) → col ≤ across h → col < across h
+pub some_left : (h : Header) (ps : List Part) (row col : ℕ) → ps ≡ [] → IsSome (first_part (ps ++ superblocks_from h row col)) →
+    (col ≡ across h → down h ≤ row + 1) → col ≤ across h → col < across h
 some_left h ps row col e some last le = elim (cases_lt col (across h)) [
   | inl lt ↦ lt
   | inr ge ↦
       let past : col ≡ across h = omega (arith, ge, le) in
-      let none : first_part (ps ++ superblocks_from h row col) ≡ None = ap (λ (qs : List Part). first_part (qs ++ superblocks_from h row col)) e ∙ first_of_none h row col past (last past) in
+      let none : first_part (ps ++ superblocks_from h row col) ≡ None = ap (λ (qs : List Part). first_part (qs ++ superblocks_from h row col)) e
+      ∙ first_of_none h row col past (last past) in
       let dead : is_some {T = Part} None ≡ true = subst (λ (o : Option Part). is_some o ≡ true) none some in
       absurd cc
 ]
@@ -68,17 +71,20 @@ unfolding block_before
 block_first h zero x y ps qs = inside_before h x y _ ps qs
 block_first h (suc level) x y ps qs = inside_before h x y _ ps qs
 
-pub cut_append : (h : Header) (level x y : ℕ) (cut : PartitionType) (ps qs : List Part) → cut_before h level x y cut ps ++ qs ≡ cut_before h level x y cut (ps ++ qs)
+pub cut_append : (h : Header) (level x y : ℕ) (cut : PartitionType) (ps qs : List Part) →
+    cut_before h level x y cut ps ++ qs ≡ cut_before h level x y cut (ps ++ qs)
 unfolding cut_before
 cut_append h level x y PARTITION_NONE ps qs = inside_before h x y _ ps qs
 cut_append h level x y PARTITION_HORZ ps qs = inside_before h x y _ _ qs ∙ ap (if_inside h x y _) (inside_before h x _ _ ps qs)
 cut_append h level x y PARTITION_VERT ps qs = inside_before h x y _ _ qs ∙ ap (if_inside h x y _) (inside_before h _ y _ ps qs)
 cut_append h level x y PARTITION_HORZ_4 ps qs =
     inside_before h x y _ _ qs
-    ∙ ap (if_inside h x y _) (inside_before h x _ _ _ qs ∙ ap (if_inside h x _ _) (inside_before h x _ _ _ qs ∙ ap (if_inside h x _ _) (inside_before h x _ _ ps qs)))
+    ∙ ap (if_inside h x y _)
+    (inside_before h x _ _ _ qs ∙ ap (if_inside h x _ _) (inside_before h x _ _ _ qs ∙ ap (if_inside h x _ _) (inside_before h x _ _ ps qs)))
 cut_append h level x y PARTITION_VERT_4 ps qs =
     inside_before h x y _ _ qs
-    ∙ ap (if_inside h x y _) (inside_before h _ y _ _ qs ∙ ap (if_inside h _ y _) (inside_before h _ y _ _ qs ∙ ap (if_inside h _ y _) (inside_before h _ y _ ps qs)))
+    ∙ ap (if_inside h x y _)
+    (inside_before h _ y _ _ qs ∙ ap (if_inside h _ y _) (inside_before h _ y _ _ qs ∙ ap (if_inside h _ y _) (inside_before h _ y _ ps qs)))
 cut_append h level x y _ ps qs =
     block_first h (level - 1) x y _ qs
     ∙ ap (block_before h (level - 1) x y) (block_first h (level - 1) _ y _ qs
@@ -86,7 +92,8 @@ cut_append h level x y _ ps qs =
     ∙ ap (block_before h (level - 1) x _) (block_first h (level - 1) _ _ ps qs)))
 
 -- the parts of the first, cut by its mark, before those behind it
-pub cut_first_is : (h : Header) (ps : List Part) (level x y mark : ℕ) → first_part ps ≡ Some (Node level x y) → cut_first h ps mark ≡ cut_before h level x y (cut_by mark) (later_parts ps)
+pub cut_first_is : (h : Header) (ps : List Part) (level x y mark : ℕ) → first_part ps ≡ Some (Node level x y) →
+    cut_first h ps mark ≡ cut_before h level x y (cut_by mark) (later_parts ps)
 cut_first_is h [] level x y mark e = absurd cc
 cut_first_is h (p ∷ ps) level x y mark e = ap (λ (o : Option Part). by o) e
   where
@@ -134,12 +141,18 @@ building_is h h_2 slot slot_2 ps qs bs cs e f g k = rw (e, f, g, k) refl
 
 -- what is asked for doesn't depend on the bytes
 pub other_bytes : (a b : Building) (bytes : List ℕ) → a ≡ b
-    → (let d : Building = record { header = a.header; slot = a.slot; parts = a.parts; bytes = bytes } in d) ≡ record { header = b.header; slot = b.slot; parts = b.parts; bytes = bytes }
+    → (let d : Building = record { header = a.header; slot = a.slot; parts = a.parts; bytes = bytes } in d) ≡ record {
+      header = b.header;
+      slot = b.slot;
+      parts = b.parts;
+      bytes = bytes;
+    }
 other_bytes a b bytes e = ap (λ (d : Building). (let f : Building = record { header = d.header; slot = d.slot; parts = d.parts; bytes = bytes } in f)) e
 
 -- the parts of a node that is cut by its mark stand on the stack, before those behind it
 pub marked : (b : Building) (h : Header) (slot : ℕ) (stack new rest : List Part) (bytes written : List ℕ) (level x y mark : ℕ) (cut : PartitionType)
-    → (let a : Building = record { header = h; slot = slot; parts = stack ++ rest; bytes = bytes } in a) ≡ passed (record { header = b.header; slot = b.slot; parts = b.parts; bytes = written })
+    → (let a : Building = record { header = h; slot = slot; parts = stack ++ rest; bytes = bytes } in a) ≡
+    passed (record { header = b.header; slot = b.slot; parts = b.parts; bytes = written })
     → written ≡ b.bytes ++ byte mark → first_part b.parts ≡ Some (Node level x y) → cut ≡ cut_by mark → new ≡ cut_before h level x y cut stack
     → (let a : Building = record { header = h; slot = slot; parts = new ++ rest; bytes = bytes } in a) ≡ with_mark b mark
 marked b h slot stack new rest bytes written level x y mark cut e w first by is =
@@ -152,7 +165,8 @@ marked b h slot stack new rest bytes written level x y mark cut e w first by is 
     ∙ ap (λ (c : PartitionType). cut_before b.header level x y c (stack ++ rest)) by
     ∙ ap (cut_before b.header level x y (cut_by mark)) later
     ∙ sym (cut_first_is b.header b.parts level x y mark first) in
-    building_is h b.header slot b.slot (new ++ rest) (cut_first b.header b.parts mark) bytes (b.bytes ++ byte mark) same (ap (λ (a : Building). a.slot) e) parts (ap (λ (a : Building). a.bytes) e ∙ w)
+    building_is h b.header slot b.slot (new ++ rest) (cut_first b.header b.parts mark) bytes (b.bytes ++ byte mark) same (ap (λ (a : Building). a.slot) e) parts
+    (ap (λ (a : Building). a.bytes) e ∙ w)
 
 -- where what was written is kept, it was written whole
 pub written_well : {X : Type 0} (P : Type 0) (w : Result X OutOfMemory) (n : ℕ) (r : Result X BuildError) (x : X) → r ≡ Ok x → r ≡ settled w n → OnOk w P → P

@@ -40,15 +40,20 @@ both_assoc {A} f g k =
 
 -- ---- what is asked for after some fields
 
-pub after_both : {A : Type 0} (f g k : Format A) (vs ws : List ℕ) → After f vs g → After g ws k → After f (vs ++ ws) k × (text f (vs ++ ws) ≡ text f vs ++ text g ws)
+pub after_both : {A : Type 0} (f g k : Format A) (vs ws : List ℕ) → After f vs g → After g ws k →
+    After f (vs ++ ws) k × (text f (vs ++ ws) ≡ text f vs ++ text g ws)
 after_both f g k [] ws a b = (subst (λ (e : Format _). After e ws k) (sym a) b, ap (λ (e : Format _). text e ws) a)
 after_both (done x) g k (v ∷ vs) ws a b = absurd a
 after_both (asks kind next) g k (v ∷ vs) ws a b =
-    let (c, d) = after_both (next v) g k vs ws a.1 b in
-    ((a.0, c), ap (λ (us : List ℕ). to_le_bytes (width kind.size) v ++ us) d ∙ sym (append_assoc (to_le_bytes (width kind.size) v) (text (next v) vs) (text g ws)))
+    let (c, d) = after_both (next v) g k vs ws a.1 b in (
+      (a.0, c),
+      ap (λ (us : List ℕ). to_le_bytes (width kind.size) v ++ us) d
+          ∙ sym (append_assoc (to_le_bytes (width kind.size) v) (text (next v) vs) (text g ws)),
+    )
 
 -- after a format that is spelled comes what its value decides
-pub after_spelled : {A B : Type 0} (f : Format A) (g : A → Format B) (x : A) (vs : List ℕ) → Spells f vs x → After (f >>= g) vs (g x) × (text (f >>= g) vs ≡ text f vs)
+pub after_spelled : {A B : Type 0} (f : Format A) (g : A → Format B) (x : A) (vs : List ℕ) → Spells f vs x →
+    After (f >>= g) vs (g x) × (text (f >>= g) vs ≡ text f vs)
 after_spelled (done y) g x [] s = (ap g s, refl)
 after_spelled (done y) g x (v ∷ vs) s = absurd s
 after_spelled (asks kind next) g x [] s = absurd s

@@ -1,5 +1,6 @@
 -- Fields of a leaf that are admitted are spelled.
-use Rattle.std.proofs.Common.{◌≡◌, ℕ, ◌≤◌, Bool, true, false, ◌&&◌, ◌||◌, if◌then◌else◌, List, [], ◌∷◌, length, get_or, All, Option, Some, None, ℤ, refl, sym, ap, subst, arith, lit<, w8, w16, w32}
+use Rattle.std.proofs.Common.{◌≡◌, ℕ, ◌≤◌, Bool, true, false, ◌&&◌, ◌||◌, if◌then◌else◌, List, [], ◌∷◌, length, get_or, All, Option, Some, None, ℤ, refl, sym}
+use Rattle.std.proofs.Common.{ap, subst, arith, lit<, w8, w16, w32}
 use Rattle.std.specs.Prelude.{nat_lt, nat_le, ◌==◌, is_some, FitsSigned}
 use Rattle.std.specs.Int.{is_in_range, cast_signed, cast_unsigned}
 use Rattle.std.specs.List.{list_all}
@@ -75,7 +76,8 @@ unfolding grammar.vector
 vector_spelled mv fits =
     let (row, row_back) = signed_pair mv.row fits.row in
     let (col, col_back) = signed_pair mv.col fits.col in
-    let end : IsSpelled (done (vector_of (cast_signed w16 (cast_unsigned w16 mv.row)) (cast_signed w16 (cast_unsigned w16 mv.col)))) mv = record { values = []; spells = same (cast_signed w16 (cast_unsigned w16 mv.row)) (cast_signed w16 (cast_unsigned w16 mv.col)) row_back col_back } in
+    let end : IsSpelled (done (vector_of (cast_signed w16 (cast_unsigned w16 mv.row)) (cast_signed w16 (cast_unsigned w16 mv.col)))) mv =
+    record { values = []; spells = same (cast_signed w16 (cast_unsigned w16 mv.row)) (cast_signed w16 (cast_unsigned w16 mv.col)) row_back col_back } in
     asks_spelled (any two) _ (cast_unsigned w16 mv.row) mv row (asks_spelled (any two) _ (cast_unsigned w16 mv.col) mv col end)
   where
     vector_of : ℤ → ℤ → MotionVector
@@ -89,7 +91,8 @@ unfolding grammar.reference_frame
 reference_spelled r e =
     let number = reference_number r in
     let (least, most) = and_parts (nat_le 1 number) (nat_le number 7) e in
-    asks_spelled (byte_from 1 7) _ number r (byte_admitted 1 7 number (lit< tt) (leb-true 1 number least) (leb-true number 7 most)) (subst (λ (q : RefType). IsSpelled (done q) r) (sym (reference_back r)) (done_spelled r))
+    asks_spelled (byte_from 1 7) _ number r (byte_admitted 1 7 number (lit< tt) (leb-true 1 number least) (leb-true number 7 most))
+    (subst (λ (q : RefType). IsSpelled (done q) r) (sym (reference_back r)) (done_spelled r))
 
 -- the fields behind the number of a chroma mode
 plain_or : (b : Bool) (f g : Format ChromaMode) (m : ChromaMode) → b ≡ false → IsSpelled g m → IsSpelled (if b then f else g) m
@@ -102,7 +105,8 @@ chroma_spelled (Plain mode step) e fits =
     let number = mode_number mode in
     let most = leb-true number 12 e in
     let (admitted, back) = signed_byte step fits in
-    let end : IsSpelled (done (Plain (mode_of number) (cast_signed w8 (cast_unsigned w8 step)))) (Plain mode step) = record { values = []; spells = same (mode_of number) (cast_signed w8 (cast_unsigned w8 step)) (mode_back mode) back } in
+    let end : IsSpelled (done (Plain (mode_of number) (cast_signed w8 (cast_unsigned w8 step)))) (Plain mode step) =
+    record { values = []; spells = same (mode_of number) (cast_signed w8 (cast_unsigned w8 step)) (mode_back mode) back } in
     let plain : (number == 13) ≡ false = not_13 number most in
     asks_spelled (byte_from 0 13) _ number (Plain mode step) (byte_admitted 0 13 number (lit< tt) (zero_le number) (omega (arith, most)))
     (plain_or (number == 13) _ _ (Plain mode step) plain (asks_spelled (any one) _ (cast_unsigned w8 step) (Plain mode step) admitted end))
@@ -118,18 +122,21 @@ chroma_spelled (Cfl alpha_u alpha_v) e fits =
     let end : IsSpelled (done (Cfl (cast_signed w8 (cast_unsigned w8 alpha_u)) (cast_signed w8 (cast_unsigned w8 alpha_v)))) (Cfl alpha_u alpha_v) =
     record { values = []; spells = same (cast_signed w8 (cast_unsigned w8 alpha_u)) (cast_signed w8 (cast_unsigned w8 alpha_v)) u_back v_back } in
     asks_spelled (byte_from 0 13) _ 13 (Cfl alpha_u alpha_v) (byte_admitted 0 13 13 (lit< tt) (zero_le 13) (omega arith))
-    (asks_spelled (any one) _ (cast_unsigned w8 alpha_u) (Cfl alpha_u alpha_v) u (asks_spelled (any one) _ (cast_unsigned w8 alpha_v) (Cfl alpha_u alpha_v) v end))
+    (asks_spelled (any one) _ (cast_unsigned w8 alpha_u)
+    (Cfl alpha_u alpha_v) u (asks_spelled (any one) _ (cast_unsigned w8 alpha_v) (Cfl alpha_u alpha_v) v end))
   where
     same : (y z : ℤ) → y ≡ alpha_u → z ≡ alpha_v → Cfl y z ≡ Cfl alpha_u alpha_v
     same y z e f = rw (e, f) refl
 
-intra_spelled : (carried : Bool) (mode : PredictionMode) (step : ℤ) (chroma : Option ChromaMode) → is_given carried chroma ≡ true → admits_chroma chroma ≡ true → FitsSigned w8 step → FitsChroma chroma
+intra_spelled : (carried : Bool) (mode : PredictionMode) (step : ℤ) (chroma : Option ChromaMode) → is_given carried chroma ≡ true →
+    admits_chroma chroma ≡ true → FitsSigned w8 step → FitsChroma chroma
     → IsSpelled (grammar.intra carried mode) (Intra mode step chroma)
 unfolding grammar.intra
 intra_spelled true mode step (Some m) given admitted fits fits_chroma =
     let (byte, back) = signed_byte step fits in
     let kind : LeafKind = Intra mode step (Some m) in
-    let end : IsSpelled (done (Intra mode (cast_signed w8 (cast_unsigned w8 step)) (Some m))) kind = subst (λ (z : ℤ). IsSpelled (done (Intra mode z (Some m))) kind) (sym back) (done_spelled kind) in
+    let end : IsSpelled (done (Intra mode (cast_signed w8 (cast_unsigned w8 step)) (Some m))) kind =
+    subst (λ (z : ℤ). IsSpelled (done (Intra mode z (Some m))) kind) (sym back) (done_spelled kind) in
     asks_spelled (any one) _ (cast_unsigned w8 step) kind byte (bind_spelled grammar.chroma_mode _ m kind (chroma_spelled m admitted fits_chroma) end)
 intra_spelled true mode step None given admitted fits fits_chroma = absurd cc
 intra_spelled false mode step None given admitted fits fits_chroma =
@@ -138,11 +145,13 @@ intra_spelled false mode step None given admitted fits fits_chroma =
     asks_spelled (any one) _ (cast_unsigned w8 step) kind byte (subst (λ (z : ℤ). IsSpelled (done (Intra mode z None)) kind) (sym back) (done_spelled kind))
 intra_spelled false mode step (Some m) given admitted fits fits_chroma = absurd cc
 
-single_spelled : (mode : PredictionMode) (r : RefType) (mv : MotionVector) → is_named r ≡ true → FitsVector mv → IsSpelled (grammar.single mode) (Single mode r mv)
+single_spelled : (mode : PredictionMode) (r : RefType) (mv : MotionVector) → is_named r ≡ true → FitsVector mv →
+    IsSpelled (grammar.single mode) (Single mode r mv)
 unfolding grammar.single
 single_spelled mode r mv named fits =
     let kind : LeafKind = Single mode r mv in
-    bind_spelled grammar.reference_frame _ r kind (reference_spelled r named) (bind_spelled grammar.vector _ mv kind (vector_spelled mv fits) (done_spelled kind))
+    bind_spelled grammar.reference_frame _ r kind (reference_spelled r named)
+    (bind_spelled grammar.vector _ mv kind (vector_spelled mv fits) (done_spelled kind))
 
 compound_spelled : (mode : PredictionMode) (a b : RefType) (m n : MotionVector) → is_named a ≡ true → is_named b ≡ true → FitsVector m → FitsVector n
     → IsSpelled (grammar.compound mode) (Compound mode (a ∷ b ∷ []) (m ∷ n ∷ []))
@@ -158,14 +167,16 @@ compound_spelled mode a b m n named_a named_b fits_m fits_n =
 abbrev by_mode : Bool → Bool → Bool → PredictionMode → Format LeafKind
 by_mode intra single carried mode = if intra then grammar.intra carried mode else if single then grammar.single mode else grammar.compound mode
 
-mode_given : (carried : Bool) (mode : PredictionMode) (intra single : Bool) (kind : LeafKind) → mode_number mode ≤ 33 → nat_lt (mode_number mode) 14 ≡ intra → nat_lt (mode_number mode) 20 ≡ single
+mode_given : (carried : Bool) (mode : PredictionMode) (intra single : Bool) (kind : LeafKind) → mode_number mode ≤ 33 → nat_lt (mode_number mode) 14 ≡ intra →
+    nat_lt (mode_number mode) 20 ≡ single
     → IsSpelled (by_mode intra single carried mode) kind → IsSpelled (grammar.leaf_kind carried) kind
 unfolding grammar.leaf_kind
 mode_given carried mode intra single kind most e f s =
     let number = mode_number mode in
     let behind : IsSpelled (by_mode (nat_lt number 14) (nat_lt number 20) carried (mode_of number)) kind =
     subst (λ (m : PredictionMode). IsSpelled (by_mode (nat_lt number 14) (nat_lt number 20) carried m) kind) (sym (mode_back mode))
-    (subst (λ (b : Bool). IsSpelled (by_mode b (nat_lt number 20) carried mode) kind) (sym e) (subst (λ (b : Bool). IsSpelled (by_mode intra b carried mode) kind) (sym f) s)) in
+    (subst (λ (b : Bool). IsSpelled (by_mode b (nat_lt number 20) carried mode) kind) (sym e)
+    (subst (λ (b : Bool). IsSpelled (by_mode intra b carried mode) kind) (sym f) s)) in
     asks_spelled (byte_from 0 33) _ number kind (byte_admitted 0 33 number (lit< tt) (zero_le number) most) behind
 
 -- below a bound, and not
@@ -179,7 +190,8 @@ kind_spelled carried (Intra mode step chroma) e fits =
     let (a, chroma_admitted) = and_parts (nat_le number 13 && is_given carried chroma) (admits_chroma chroma) e in
     let (b, given) = and_parts (nat_le number 13) (is_given carried chroma) a in
     let most = leb-true number 13 b in
-    mode_given carried mode true true (Intra mode step chroma) (omega (arith, most)) (lt-ltb number 14 (omega (arith, most))) (lt-ltb number 20 (omega (arith, most)))
+    mode_given carried mode true true (Intra mode step chroma) (omega (arith, most)) (lt-ltb number 14 (omega (arith, most)))
+    (lt-ltb number 20 (omega (arith, most)))
     (intra_spelled carried mode step chroma given chroma_admitted fits.0 fits.1)
 kind_spelled carried (Single mode r mv) e fits =
     let number = mode_number mode in
@@ -187,15 +199,18 @@ kind_spelled carried (Single mode r mv) e fits =
     let (b, c) = and_parts (nat_le 14 number) (nat_le number 19) a in
     let least = leb-true 14 number b in
     let most = leb-true number 19 c in
-    mode_given carried mode false true (Single mode r mv) (omega (arith, most)) (not_below number 14 least) (lt-ltb number 20 (omega (arith, most))) (single_spelled mode r mv named fits)
+    mode_given carried mode false true (Single mode r mv) (omega (arith, most)) (not_below number 14 least) (lt-ltb number 20 (omega (arith, most)))
+    (single_spelled mode r mv named fits)
 kind_spelled carried (Compound mode references mvs) e fits =
     let number = mode_number mode in
     let (a, named) = and_parts (is_in_range 20 33 number) (list_all is_named references) e in
     let (b, c) = and_parts (nat_le 20 number) (nat_le number 33) a in
     let least = leb-true 20 number b in
-    mode_given carried mode false false (Compound mode references mvs) (leb-true number 33 c) (not_below number 14 (omega (arith, least))) (not_below number 20 least) (pair_spelled references mvs fits.0 fits.1 named fits.2)
+    mode_given carried mode false false (Compound mode references mvs) (leb-true number 33 c) (not_below number 14 (omega (arith, least)))
+    (not_below number 20 least) (pair_spelled references mvs fits.0 fits.1 named fits.2)
   where
-    pair_spelled : (rs : List RefType) (vs : List MotionVector) → length rs ≡ 2 → length vs ≡ 2 → list_all is_named rs ≡ true → All FitsVector vs → IsSpelled (grammar.compound mode) (Compound mode rs vs)
+    pair_spelled : (rs : List RefType) (vs : List MotionVector) → length rs ≡ 2 → length vs ≡ 2 → list_all is_named rs ≡ true → All FitsVector vs →
+        IsSpelled (grammar.compound mode) (Compound mode rs vs)
     pair_spelled (r ∷ q ∷ []) (v ∷ w ∷ []) two_r two_v named fits =
         let (first, later) = and_parts (is_named r) (is_named q && true) named in
         let (second, _) = and_parts (is_named q) true later in
@@ -213,13 +228,15 @@ tx_size_spelled : (t : TxSize) → IsSpelled grammar.tx_size t
 unfolding grammar.tx_size
 tx_size_spelled t =
     let number = tx_number t in
-    asks_spelled (byte_from 0 18) _ number t (byte_admitted 0 18 number (lit< tt) (zero_le number) (leb-true number 18 (tx_size_most t))) (subst (λ (s : TxSize). IsSpelled (done s) t) (sym (tx_size_back t)) (done_spelled t))
+    asks_spelled (byte_from 0 18) _ number t (byte_admitted 0 18 number (lit< tt) (zero_le number) (leb-true number 18 (tx_size_most t)))
+    (subst (λ (s : TxSize). IsSpelled (done s) t) (sym (tx_size_back t)) (done_spelled t))
 
 tx_type_spelled : (t : TxType) → IsSpelled grammar.tx_type t
 unfolding grammar.tx_type
 tx_type_spelled t =
     let number = tx_type_number t in
-    asks_spelled (byte_from 0 16) _ number t (byte_admitted 0 16 number (lit< tt) (zero_le number) (leb-true number 16 (tx_type_most t))) (subst (λ (s : TxType). IsSpelled (done s) t) (sym (tx_type_back t)) (done_spelled t))
+    asks_spelled (byte_from 0 16) _ number t (byte_admitted 0 16 number (lit< tt) (zero_le number) (leb-true number 16 (tx_type_most t)))
+    (subst (λ (s : TxType). IsSpelled (done s) t) (sym (tx_type_back t)) (done_spelled t))
 
 uv_type_spelled : (carried : Bool) (t : Option TxType) → is_given carried t ≡ true → IsSpelled (grammar.uv_type carried) t
 unfolding grammar.uv_type
@@ -248,18 +265,21 @@ is_counted triples = nat_le (length triples) 65535
 triples_spelled : (ts : List Triple) → is_counted ts ≡ true → All FitsTriple ts → IsSpelled grammar.triples ts
 unfolding grammar.triples
 triples_spelled ts few fits =
-    asks_spelled (any two) _ (length ts) ts (record { fits = omega (arith, leb-true (length ts) 65535 few); admitted = refl }) (turns_spelled (λ _. grammar.triple) 0 ts (λ k d lt. triple_spelled (get_or ts k d) (fits k d lt)))
+    asks_spelled (any two) _ (length ts) ts (record { fits = omega (arith, leb-true (length ts) 65535 few); admitted = refl })
+    (turns_spelled (λ _. grammar.triple) 0 ts (λ k d lt. triple_spelled (get_or ts k d) (fits k d lt)))
 
 no_triples : (ts : List Triple) → is_empty ts ≡ true → ts ≡ []
 no_triples [] e = refl
 no_triples (t ∷ ts) e = absurd (omega (arith, eqb-true (length (t ∷ ts)) 0 e))
 
-chroma_triples_spelled : (carried : Bool) (u v : List Triple) → (carried || (is_empty u && is_empty v)) ≡ true → is_counted u ≡ true → is_counted v ≡ true → All FitsTriple u → All FitsTriple v
+chroma_triples_spelled : (carried : Bool) (u v : List Triple) → (carried || (is_empty u && is_empty v)) ≡ true → is_counted u ≡ true → is_counted v ≡ true →
+    All FitsTriple u → All FitsTriple v
     → IsSpelled (grammar.chroma_triples carried) (u ∷ v ∷ [])
 unfolding grammar.chroma_triples
 chroma_triples_spelled true u v e few_u few_v fits_u fits_v =
     let both = u ∷ v ∷ [] in
-    bind_spelled grammar.triples _ u both (triples_spelled u few_u fits_u) (bind_spelled grammar.triples _ v both (triples_spelled v few_v fits_v) (done_spelled both))
+    bind_spelled grammar.triples _ u both (triples_spelled u few_u fits_u)
+    (bind_spelled grammar.triples _ v both (triples_spelled v few_v fits_v) (done_spelled both))
 chroma_triples_spelled false u v e few_u few_v fits_u fits_v =
     let (none_u, none_v) = and_parts (is_empty u) (is_empty v) e in
     record { values = []; spells = none (no_triples u none_u) (no_triples v none_v) }
@@ -277,7 +297,8 @@ pub record FitsFields (kind : LeafKind) (y u v : List Triple) : Type 0 where
   pub v_fits : All FitsTriple v
 
 -- where chroma isn't carried there are no coefficients of it
-pub fits_fields : (carried : Bool) (kind : LeafKind) (uv_type : Option TxType) (y u v : List Triple) → admits_fields carried kind uv_type (length y) (length u) (length v) ≡ true → FitsKind kind → All FitsTriple y
+pub fits_fields : (carried : Bool) (kind : LeafKind) (uv_type : Option TxType) (y u v : List Triple) →
+    admits_fields carried kind uv_type (length y) (length u) (length v) ≡ true → FitsKind kind → All FitsTriple y
     → (is_some uv_type ≡ true → All FitsTriple u) → (is_some uv_type ≡ true → All FitsTriple v) → FitsFields kind y u v
 unfolding admits_fields admits_counts
 fits_fields true kind uv_type y u v e kind_fits y_fits u_fits v_fits =
@@ -296,9 +317,11 @@ fits_fields false kind uv_type y u v e kind_fits y_fits u_fits v_fits =
     nothing_fits : (ts : List Triple) → is_empty ts ≡ true → All FitsTriple ts
     nothing_fits ts none k d lt = absurd (omega (arith, lt, eqb-true (length ts) 0 none))
 
-pub given_leaf : (h : Header) (size : BlockSize) (x y : ℕ) (kind : LeafKind) (tx_size : TxSize) (tx_type : TxType) (uv_type : Option TxType) (ys us vs : List Triple)
+pub given_leaf : (h : Header) (size : BlockSize) (x y : ℕ) (kind : LeafKind) (tx_size : TxSize) (tx_type : TxType) (uv_type : Option TxType)
+    (ys us vs : List Triple)
     → admits_fields (carries_chroma h x y size) kind uv_type (length ys) (length us) (length vs) ≡ true → FitsFields kind ys us vs
-    → IsSpelled (grammar.leaf h size x y) (record { x = x; y = y; size = size; kind = kind; tx_size = tx_size; tx_type = tx_type; uv_type = uv_type; triples = ys ∷ us ∷ vs ∷ [] })
+    → IsSpelled (grammar.leaf h size x y)
+    (record { x = x; y = y; size = size; kind = kind; tx_size = tx_size; tx_type = tx_type; uv_type = uv_type; triples = ys ∷ us ∷ vs ∷ [] })
 unfolding grammar.leaf admits_fields admits_counts
 given_leaf h size x y kind tx_size tx_type uv_type ys us vs e fits =
     let carried = carries_chroma h x y size in
@@ -308,10 +331,12 @@ given_leaf h size x y kind tx_size tx_type uv_type ys us vs e fits =
     let (b, few_v) = and_parts (silent && is_counted ys && is_counted us) (is_counted vs) triples in
     let (c, few_u) = and_parts (silent && is_counted ys) (is_counted us) b in
     let (none, few_y) = and_parts silent (is_counted ys) c in
-    let l : LeafValue = record { x = x; y = y; size = size; kind = kind; tx_size = tx_size; tx_type = tx_type; uv_type = uv_type; triples = ys ∷ us ∷ vs ∷ [] } in
+    let l : LeafValue = record { x = x; y = y; size = size; kind = kind; tx_size = tx_size; tx_type = tx_type; uv_type = uv_type; triples = ys ∷ us ∷ vs ∷ [] }
+    in
     bind_spelled (grammar.leaf_kind carried) _ kind l (kind_spelled carried kind kind_admitted fits.kind_fits)
     (bind_spelled grammar.tx_size _ tx_size l (tx_size_spelled tx_size)
     (bind_spelled grammar.tx_type _ tx_type l (tx_type_spelled tx_type)
     (bind_spelled (grammar.uv_type carried) _ uv_type l (uv_type_spelled carried uv_type uv_given)
     (bind_spelled grammar.triples _ ys l (triples_spelled ys few_y fits.y_fits)
-    (bind_spelled (grammar.chroma_triples carried) _ (us ∷ vs ∷ []) l (chroma_triples_spelled carried us vs none few_u few_v fits.u_fits fits.v_fits) (done_spelled l))))))
+    (bind_spelled (grammar.chroma_triples carried) _ (us ∷ vs ∷ []) l (chroma_triples_spelled carried us vs none few_u few_v fits.u_fits fits.v_fits)
+    (done_spelled l))))))

@@ -44,7 +44,8 @@ all_below_bound n some (x ∷ xs) = rw (all_below_bound n some xs) (both x (grea
     both a b = grind arith
 
 -- the samples of a plane, as many as it has
-pub plane_is : (h : Header) (plane : ℕ) (samples : List ℕ) → length samples ≡ plane_len h plane → admits_plane h plane samples ≡ nat_lt (greatest samples) (2 ^ h.depth)
+pub plane_is : (h : Header) (plane : ℕ) (samples : List ℕ) → length samples ≡ plane_len h plane →
+    admits_plane h plane samples ≡ nat_lt (greatest samples) (2 ^ h.depth)
 unfolding admits_plane
 plane_is h plane samples e = rw (eq-eqb (length samples) (plane_len h plane) e) (all_below_bound (2 ^ h.depth) (some_bound h.depth) samples)
 

@@ -1,5 +1,6 @@
 -- The bytes of a leaf that is spelled are its text.
-use Rattle.std.proofs.Common.{◌≡◌, ℕ, ◌<◌, ◌≤◌, ◌^◌, Bool, true, false, if◌then◌else◌, List, [], ◌∷◌, ◌++◌, length, Option, Some, refl, sym, ap, ◌∙◌, append_assoc, arith, w8, w16, w32, slice_index_or}
+use Rattle.std.proofs.Common.{◌≡◌, ℕ, ◌<◌, ◌≤◌, ◌^◌, Bool, true, false, if◌then◌else◌, List, [], ◌∷◌, ◌++◌, length, Option, Some, refl, sym, ap, ◌∙◌}
+use Rattle.std.proofs.Common.{append_assoc, arith, w8, w16, w32, slice_index_or}
 use Rattle.std.specs.Prelude.{nat_lt, ◌==◌, is_some}
 use Rattle.std.specs.Int.{cast_signed, cast_unsigned}
 use Rattle.std.proofs.lemmas.Int.{of_z-to_z}
@@ -26,7 +27,8 @@ use Rattle.av1_plan.specs.Spelling.{Spells, text}
 use Rattle.av1_plan.proofs.Carried.{apart}
 use Rattle.av1_plan.proofs.Numbers.{mode_of, mode_number_is, reference_number_is, tx_number_is, tx_type_number_is}
 use Rattle.av1_plan.proofs.ReadFrames.{range_is}
-use Rattle.av1_planwrite.specs.Text.{byte, pair, quad, motion_text, motions_text, chroma_text, kind_text, uv_type_text, triple_text, triples_text, chroma_triples_text, fields_text, leaf_text}
+use Rattle.av1_planwrite.specs.Text.{byte, pair, quad, motion_text, motions_text, chroma_text, kind_text, uv_type_text, triple_text, triples_text}
+use Rattle.av1_planwrite.specs.Text.{chroma_triples_text, fields_text, leaf_text}
 use Rattle.av1_planwrite.proofs.Told.{ended, asked, Tells, turns_tell, turns_count, two_parts, last_part}
 
 -- ---- numbers
@@ -49,7 +51,9 @@ vector_told = record {
       let row = asked _ _ mv vs s in
       let col = asked _ _ mv row.values row.spells in
       let end = ended _ mv col.values col.spells in
-      let bytes = two_parts row.bytes_are (signed_pair row.number row.admitted.fits) (last_part col.bytes_are (signed_pair col.number col.admitted.fits) end.no_bytes) in
+      let bytes =
+      two_parts row.bytes_are (signed_pair row.number row.admitted.fits) (last_part col.bytes_are (signed_pair col.number col.admitted.fits) end.no_bytes)
+      in
       bytes ∙ ap (λ (mv : MotionVector). pair (cast_unsigned w16 mv.row) ++ pair (cast_unsigned w16 mv.col)) end.value;
 }
 
@@ -60,14 +64,17 @@ reference_told = record {
       let number = asked _ _ r vs s in
       let end = ended _ r number.values number.spells in
       let small : number.number < 9 = omega (arith, (range_is 1 7 number.number number.admitted).1) in
-      last_part number.bytes_are (ap byte (sym (reference_number_is number.number small))) end.no_bytes ∙ ap (λ (r : RefType). byte (reference_number r)) end.value;
+      last_part number.bytes_are (ap byte (sym (reference_number_is number.number small))) end.no_bytes
+      ∙ ap (λ (r : RefType). byte (reference_number r)) end.value;
 }
 
 -- a reference and its vector, and what comes behind them
-motion_parts : {a b c d : List ℕ} (r : RefType) (mv : MotionVector) → a ≡ byte (reference_number r) → b ≡ pair (cast_unsigned w16 mv.row) ++ pair (cast_unsigned w16 mv.col) → c ≡ d → a ++ (b ++ c) ≡ motion_text r mv ++ d
+motion_parts : {a b c d : List ℕ} (r : RefType) (mv : MotionVector) → a ≡ byte (reference_number r) →
+    b ≡ pair (cast_unsigned w16 mv.row) ++ pair (cast_unsigned w16 mv.col) → c ≡ d → a ++ (b ++ c) ≡ motion_text r mv ++ d
 unfolding motion_text
 motion_parts {d = d} r mv e f g =
-    rw (e, f, g) (sym (append_assoc (byte (reference_number r)) (pair (cast_unsigned w16 mv.row) ++ pair (cast_unsigned w16 mv.col)) d) ∙ ap (λ (xs : List ℕ). xs ++ d) (sym (append_assoc (byte (reference_number r)) (pair (cast_unsigned w16 mv.row)) (pair (cast_unsigned w16 mv.col)))))
+    rw (e, f, g) (sym (append_assoc (byte (reference_number r)) (pair (cast_unsigned w16 mv.row) ++ pair (cast_unsigned w16 mv.col)) d)
+    ∙ ap (λ (xs : List ℕ). xs ++ d) (sym (append_assoc (byte (reference_number r)) (pair (cast_unsigned w16 mv.row)) (pair (cast_unsigned w16 mv.col)))))
 
 behind : {a m rest : List ℕ} (b c : List ℕ) → a ≡ m → rest ≡ b ++ c → a ++ rest ≡ m ++ b ++ c
 behind {m = m} b c e f = rw (e, f) (sym (append_assoc m b c))
@@ -77,16 +84,19 @@ ahead e f = rw (e, f) refl
 
 -- a chroma mode, by its number
 abbrev chroma_rest : ℕ → Bool → Format ChromaMode
-chroma_rest v b = if b then (field (any one) >>= λ u. field (any one) >>= λ w. done (Cfl (cast_signed w8 u) (cast_signed w8 w))) else (field (any one) >>= λ step. done (Plain (mode_of v) (cast_signed w8 step)))
+chroma_rest v b = if b then (field (any one) >>= λ u. field (any one) >>= λ w. done (Cfl (cast_signed w8 u) (cast_signed w8 w)))
+    else (field (any one) >>= λ step. done (Plain (mode_of v) (cast_signed w8 step)))
 
-chroma_by : (v : ℕ) (b : Bool) → (v == 13) ≡ b → v ≤ 13 → (vs : List ℕ) (m : ChromaMode) → Spells (chroma_rest v b) vs m → byte v ++ text (chroma_rest v b) vs ≡ chroma_text (Some m)
+chroma_by : (v : ℕ) (b : Bool) → (v == 13) ≡ b → v ≤ 13 → (vs : List ℕ) (m : ChromaMode) → Spells (chroma_rest v b) vs m →
+    byte v ++ text (chroma_rest v b) vs ≡ chroma_text (Some m)
 unfolding chroma_text
 chroma_by v true e most vs m s =
     let u = asked _ _ m vs s in
     let w = asked _ _ m u.values u.spells in
     let end = ended _ m w.values w.spells in
     let bytes = two_parts u.bytes_are (signed_byte u.number u.admitted.fits) (last_part w.bytes_are (signed_byte w.number w.admitted.fits) end.no_bytes) in
-    behind (byte (cast_unsigned w8 (cast_signed w8 u.number))) (byte (cast_unsigned w8 (cast_signed w8 w.number))) (ap byte (eqb-true v 13 e)) bytes ∙ ap (λ (m : ChromaMode). chroma_text (Some m)) end.value
+    behind (byte (cast_unsigned w8 (cast_signed w8 u.number))) (byte (cast_unsigned w8 (cast_signed w8 w.number))) (ap byte (eqb-true v 13 e)) bytes
+    ∙ ap (λ (m : ChromaMode). chroma_text (Some m)) end.value
 chroma_by v false e most vs m s =
     let step = asked _ _ m vs s in
     let end = ended _ m step.values step.spells in
@@ -109,13 +119,16 @@ mode_byte v lt = ap byte (sym (mode_number_is v lt))
 abbrev step_text : ℕ → List ℕ
 step_text v = byte (cast_unsigned w8 (cast_signed w8 v))
 
-intra_told : (carried : Bool) (v : ℕ) → v < 14 → (vs : List ℕ) (kind : LeafKind) → Spells (grammar.intra carried (mode_of v)) vs kind → byte v ++ text (grammar.intra carried (mode_of v)) vs ≡ kind_text kind
+intra_told : (carried : Bool) (v : ℕ) → v < 14 → (vs : List ℕ) (kind : LeafKind) → Spells (grammar.intra carried (mode_of v)) vs kind →
+    byte v ++ text (grammar.intra carried (mode_of v)) vs ≡ kind_text kind
 unfolding grammar.intra kind_text chroma_text
 intra_told true v lt vs kind s =
     let step = asked _ _ kind vs s in
     let chroma = apart grammar.chroma_mode (λ chroma. done (Intra (mode_of v) (cast_signed w8 step.number) (Some chroma))) kind step.values step.spells in
     let end = ended _ kind chroma.behind chroma.behind_spells in
-    let bytes = two_parts step.bytes_are (signed_byte step.number step.admitted.fits) (last_part chroma.bytes (chroma_told.tells chroma.front chroma.between chroma.front_spells) end.no_bytes) in
+    let bytes =
+    two_parts step.bytes_are (signed_byte step.number step.admitted.fits)
+    (last_part chroma.bytes (chroma_told.tells chroma.front chroma.between chroma.front_spells) end.no_bytes) in
     behind (step_text step.number) (chroma_text (Some chroma.between)) (mode_byte v (omega (arith, lt))) bytes ∙ ap kind_text end.value
 intra_told false v lt vs kind s =
     let step = asked _ _ kind vs s in
@@ -123,33 +136,43 @@ intra_told false v lt vs kind s =
     let bytes = two_parts step.bytes_are (signed_byte step.number step.admitted.fits) end.no_bytes in
     behind (step_text step.number) [] (mode_byte v (omega (arith, lt))) bytes ∙ ap kind_text end.value
 
-single_told : (v : ℕ) → v < 34 → (vs : List ℕ) (kind : LeafKind) → Spells (grammar.single (mode_of v)) vs kind → byte v ++ text (grammar.single (mode_of v)) vs ≡ kind_text kind
+single_told : (v : ℕ) → v < 34 → (vs : List ℕ) (kind : LeafKind) → Spells (grammar.single (mode_of v)) vs kind →
+    byte v ++ text (grammar.single (mode_of v)) vs ≡ kind_text kind
 unfolding grammar.single kind_text
 single_told v lt vs kind s =
     let r = apart grammar.reference_frame _ kind vs s in
     let mv = apart grammar.vector (λ mv. done (Single (mode_of v) r.between mv)) kind r.behind r.behind_spells in
     let end = ended _ kind mv.behind mv.behind_spells in
-    let motion = motion_parts r.between mv.between (reference_told.tells r.front r.between r.front_spells) (vector_told.tells mv.front mv.between mv.front_spells) end.no_bytes in
+    let motion =
+    motion_parts r.between mv.between (reference_told.tells r.front r.between r.front_spells)
+    (vector_told.tells mv.front mv.between mv.front_spells) end.no_bytes in
     let bytes : text (grammar.single (mode_of v)) vs ≡ motion_text r.between mv.between ++ [] = two_parts r.bytes refl mv.bytes ∙ motion in
     ahead (mode_byte v lt) (bytes ∙ append-nil (motion_text r.between mv.between)) ∙ ap kind_text end.value
 
-compound_told : (v : ℕ) → v < 34 → (vs : List ℕ) (kind : LeafKind) → Spells (grammar.compound (mode_of v)) vs kind → byte v ++ text (grammar.compound (mode_of v)) vs ≡ kind_text kind
+compound_told : (v : ℕ) → v < 34 → (vs : List ℕ) (kind : LeafKind) → Spells (grammar.compound (mode_of v)) vs kind →
+    byte v ++ text (grammar.compound (mode_of v)) vs ≡ kind_text kind
 unfolding grammar.compound kind_text motions_text
 compound_told v lt vs kind s =
     let r = apart grammar.reference_frame _ kind vs s in
     let mv = apart grammar.vector _ kind r.behind r.behind_spells in
     let r_2 = apart grammar.reference_frame _ kind mv.behind mv.behind_spells in
-    let mv_2 = apart grammar.vector (λ mv_2. done (Compound (mode_of v) (r.between ∷ r_2.between ∷ []) (mv.between ∷ mv_2 ∷ []))) kind r_2.behind r_2.behind_spells in
+    let mv_2 =
+    apart grammar.vector (λ mv_2. done (Compound (mode_of v) (r.between ∷ r_2.between ∷ []) (mv.between ∷ mv_2 ∷ []))) kind r_2.behind r_2.behind_spells in
     let end = ended _ kind mv_2.behind mv_2.behind_spells in
-    let second = motion_parts r_2.between mv_2.between (reference_told.tells r_2.front r_2.between r_2.front_spells) (vector_told.tells mv_2.front mv_2.between mv_2.front_spells) end.no_bytes in
+    let second =
+    motion_parts r_2.between mv_2.between (reference_told.tells r_2.front r_2.between r_2.front_spells)
+    (vector_told.tells mv_2.front mv_2.between mv_2.front_spells) end.no_bytes in
     let second_bytes = two_parts r_2.bytes refl mv_2.bytes ∙ second in
-    let first = motion_parts r.between mv.between (reference_told.tells r.front r.between r.front_spells) (vector_told.tells mv.front mv.between mv.front_spells) second_bytes in
+    let first =
+    motion_parts r.between mv.between (reference_told.tells r.front r.between r.front_spells)
+    (vector_told.tells mv.front mv.between mv.front_spells) second_bytes in
     let bytes = two_parts r.bytes refl mv.bytes ∙ first in
     ahead (mode_byte v lt) bytes ∙ ap kind_text end.value
 
 kind_by : (carried : Bool) (v : ℕ) (a b : Bool) → nat_lt v 14 ≡ a → v ≤ 33 → (vs : List ℕ) (kind : LeafKind)
     → Spells (if a then grammar.intra carried (mode_of v) else if b then grammar.single (mode_of v) else grammar.compound (mode_of v)) vs kind
-    → byte v ++ text (if a then grammar.intra carried (mode_of v) else if b then grammar.single (mode_of v) else grammar.compound (mode_of v)) vs ≡ kind_text kind
+    → byte v ++ text (if a then grammar.intra carried (mode_of v) else if b then grammar.single (mode_of v) else grammar.compound (mode_of v)) vs ≡
+    kind_text kind
 kind_by carried v true b e most vs kind s = intra_told carried v (ltb-true v 14 e) vs kind s
 kind_by carried v false true e most vs kind s = single_told v (omega (arith, most)) vs kind s
 kind_by carried v false false e most vs kind s = compound_told v (omega (arith, most)) vs kind s
@@ -159,7 +182,9 @@ unfolding grammar.leaf_kind
 kind_told carried = record {
   tells = λ vs kind s.
       let mode = asked _ _ kind vs s in
-      mode.bytes_are ∙ kind_by carried mode.number (nat_lt mode.number 14) (nat_lt mode.number 20) refl (range_is 0 33 mode.number mode.admitted).1 mode.values kind mode.spells;
+      mode.bytes_are
+      ∙ kind_by carried mode.number (nat_lt mode.number 14)
+      (nat_lt mode.number 20) refl (range_is 0 33 mode.number mode.admitted).1 mode.values kind mode.spells;
 }
 
 -- ---- transforms and coefficients
@@ -184,12 +209,15 @@ tx_type_told = record {
       last_part number.bytes_are (ap byte (sym (tx_type_number_is number.number small))) end.no_bytes ∙ ap (λ (t : TxType). byte (tx_type_number t)) end.value;
 }
 
-uv_type_told : (carried : Bool) (vs : List ℕ) (t : Option TxType) → Spells (grammar.uv_type carried) vs t → (text (grammar.uv_type carried) vs ≡ uv_type_text t) × (carried ≡ is_some t)
+uv_type_told : (carried : Bool) (vs : List ℕ) (t : Option TxType) → Spells (grammar.uv_type carried) vs t →
+    (text (grammar.uv_type carried) vs ≡ uv_type_text t) × (carried ≡ is_some t)
 unfolding grammar.uv_type uv_type_text
 uv_type_told true vs t s =
     let type = apart grammar.tx_type (λ t. done (Some t)) t vs s in
-    let end = ended _ t type.behind type.behind_spells in
-    (last_part type.bytes (tx_type_told.tells type.front type.between type.front_spells) end.no_bytes ∙ ap uv_type_text end.value, ap (λ (t : Option TxType). is_some t) end.value)
+    let end = ended _ t type.behind type.behind_spells in (
+      last_part type.bytes (tx_type_told.tells type.front type.between type.front_spells) end.no_bytes ∙ ap uv_type_text end.value,
+      ap (λ (t : Option TxType). is_some t) end.value,
+    )
 uv_type_told false vs t s =
     let end = ended _ t vs s in
     (end.no_bytes ∙ ap uv_type_text end.value, ap (λ (t : Option TxType). is_some t) end.value)
@@ -222,25 +250,29 @@ triples_told = record {
       two_parts count.bytes_are (ap pair (sym many)) items;
 }
 
-chroma_triples_told : (carried : Bool) → Tells (grammar.chroma_triples carried) (λ lists. chroma_triples_text carried (slice_index_or lists 0 []) (slice_index_or lists 1 []))
+chroma_triples_told : (carried : Bool) →
+    Tells (grammar.chroma_triples carried) (λ lists. chroma_triples_text carried (slice_index_or lists 0 []) (slice_index_or lists 1 []))
 unfolding grammar.chroma_triples chroma_triples_text
 chroma_triples_told true = record {
   tells = λ vs lists s.
       let u = apart grammar.triples (λ u. grammar.triples >>= λ v. done (u ∷ v ∷ [])) lists vs s in
       let v = apart grammar.triples (λ v. done (u.between ∷ v ∷ [])) lists u.behind u.behind_spells in
       let end = ended _ lists v.behind v.behind_spells in
-      two_parts u.bytes (triples_told.tells u.front u.between u.front_spells) (last_part v.bytes (triples_told.tells v.front v.between v.front_spells) end.no_bytes)
+      two_parts u.bytes (triples_told.tells u.front u.between u.front_spells)
+      (last_part v.bytes (triples_told.tells v.front v.between v.front_spells) end.no_bytes)
       ∙ ap (λ (lists : List (List Triple)). triples_text (slice_index_or lists 0 []) ++ triples_text (slice_index_or lists 1 [])) end.value;
 }
 chroma_triples_told false = record { tells = λ vs lists s. (ended _ lists vs s).no_bytes }
 
 -- ---- the whole leaf
 
-six_parts : {k s t u y c k_2 s_2 t_2 u_2 y_2 c_2 bytes a b d e f end : List ℕ} → bytes ≡ k ++ a → a ≡ s ++ b → b ≡ t ++ d → d ≡ u ++ e → e ≡ y ++ f → f ≡ c ++ end
+six_parts : {k s t u y c k_2 s_2 t_2 u_2 y_2 c_2 bytes a b d e f end : List ℕ} → bytes ≡ k ++ a → a ≡ s ++ b → b ≡ t ++ d → d ≡ u ++ e → e ≡ y ++ f →
+    f ≡ c ++ end
     → k ≡ k_2 → s ≡ s_2 → t ≡ t_2 → u ≡ u_2 → y ≡ y_2 → c ≡ c_2 → end ≡ [] → bytes ≡ k_2 ++ s_2 ++ t_2 ++ u_2 ++ y_2 ++ c_2
 six_parts {k_2 = k} {s_2 = s} {t_2 = t} {u_2 = u} {y_2 = y} {c_2 = c} e1 e2 e3 e4 e5 e6 f1 f2 f3 f4 f5 f6 g =
     rw (e1, e2, e3, e4, e5, e6, f1, f2, f3, f4, f5, f6, g, append-nil) (
-    sym (append_assoc k s (t ++ (u ++ (y ++ c)))) ∙ sym (append_assoc (k ++ s) t (u ++ (y ++ c))) ∙ sym (append_assoc (k ++ s ++ t) u (y ++ c)) ∙ sym (append_assoc (k ++ s ++ t ++ u) y c))
+    sym (append_assoc k s (t ++ (u ++ (y ++ c)))) ∙ sym (append_assoc (k ++ s) t (u ++ (y ++ c))) ∙ sym (append_assoc (k ++ s ++ t) u (y ++ c))
+    ∙ sym (append_assoc (k ++ s ++ t ++ u) y c))
 
 pub leaf_told : (h : Header) (size : BlockSize) (x y : ℕ) → Tells (grammar.leaf h size x y) leaf_text
 unfolding grammar.leaf leaf_text fields_text
@@ -255,8 +287,10 @@ leaf_told h size x y = record {
       let c = apart (grammar.chroma_triples carried) _ l a.behind a.behind_spells in
       let end = ended _ l c.behind c.behind_spells in
       let (w_bytes, some) = uv_type_told carried w.front w.between w.front_spells in
-      let c_bytes = (chroma_triples_told carried).tells c.front c.between c.front_spells ∙ ap (λ (b : Bool). chroma_triples_text b (slice_index_or c.between 0 []) (slice_index_or c.between 1 [])) some in
-      six_parts k.bytes t.bytes u.bytes w.bytes a.bytes c.bytes ((kind_told carried).tells k.front k.between k.front_spells) (tx_size_told.tells t.front t.between t.front_spells)
+      let c_bytes = (chroma_triples_told carried).tells c.front c.between c.front_spells
+      ∙ ap (λ (b : Bool). chroma_triples_text b (slice_index_or c.between 0 []) (slice_index_or c.between 1 [])) some in
+      six_parts k.bytes t.bytes u.bytes w.bytes a.bytes c.bytes ((kind_told carried).tells k.front k.between k.front_spells)
+      (tx_size_told.tells t.front t.between t.front_spells)
       (tx_type_told.tells u.front u.between u.front_spells) w_bytes (triples_told.tells a.front a.between a.front_spells) c_bytes end.no_bytes
       ∙ ap leaf_text end.value;
 }

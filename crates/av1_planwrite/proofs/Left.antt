@@ -1,5 +1,6 @@
 -- The leaves of a plan in memory that are left to be written.
-use Rattle.std.proofs.Common.{◌≡◌, ℕ, zero, suc, ◌+◌, ◌-◌, ◌≤◌, ◌<◌, true, false, inl, inr, List, [], ◌∷◌, ◌++◌, length, take, drop, get_or, map, Some, None, slice_index_or, refl, sym, ap, ◌∙◌, arith}
+use Rattle.std.proofs.Common.{◌≡◌, ℕ, zero, suc, ◌+◌, ◌-◌, ◌≤◌, ◌<◌, true, false, inl, inr, List, [], ◌∷◌, ◌++◌, length, take, drop, get_or, map, Some, None}
+use Rattle.std.proofs.Common.{slice_index_or, refl, sym, ap, ◌∙◌, arith}
 use Rattle.std.specs.Prelude.{slice_get, sum}
 use Rattle.std.proofs.Math.Seq.{drop-cons}
 use Rattle.std.proofs.lemmas.Bool.{cases_lt}
@@ -34,10 +35,12 @@ left_at ls i l e =
 pub next_left : (c : Coefficients) (p : Plan) (i : ℕ) (l : Leaf) → slice_get (stored_leaves p) i ≡ Some l
     → drop i (told c (plan_value p)).leaves ≡ told_leaf c (leaf_value (stored_triples p) l) ∷ drop (i + 1) (told c (plan_value p)).leaves
 unfolding told
-next_left Kept p i l e = left_at (leaf_values (stored_triples p) (stored_leaves p)) i (leaf_value (stored_triples p) l) (stored_leaf (stored_triples p) (stored_leaves p) i l e)
+next_left Kept p i l e =
+    left_at (leaf_values (stored_triples p) (stored_leaves p)) i (leaf_value (stored_triples p) l) (stored_leaf (stored_triples p) (stored_leaves p) i l e)
 next_left LeftOut p i l e =
     let leaves = leaf_values (stored_triples p) (stored_leaves p) in
-    left_at (map bare_leaf leaves) i (bare_leaf (leaf_value (stored_triples p) l)) (slice_get-map bare_leaf leaves i ∙ rw (stored_leaf (stored_triples p) (stored_leaves p) i l e) refl)
+    left_at (map bare_leaf leaves) i (bare_leaf (leaf_value (stored_triples p) l))
+    (slice_get-map bare_leaf leaves i ∙ rw (stored_leaf (stored_triples p) (stored_leaves p) i l e) refl)
 
 drop_all : (ls : List LeafValue) (i : ℕ) → length ls ≤ i → drop i ls ≡ []
 drop_all [] zero le = refl
@@ -48,7 +51,8 @@ drop_all (l ∷ ls) (suc i) le = drop_all ls i (omega (arith, le))
 -- no leaf is left
 pub none_left : (c : Coefficients) (p : Plan) (i : ℕ) → length (stored_leaves p) ≤ i → drop i (told c (plan_value p)).leaves ≡ []
 unfolding told
-none_left Kept p i le = drop_all (leaf_values (stored_triples p) (stored_leaves p)) i (omega (arith, le, length-leaf_values (stored_triples p) (stored_leaves p)))
+none_left Kept p i le =
+    drop_all (leaf_values (stored_triples p) (stored_leaves p)) i (omega (arith, le, length-leaf_values (stored_triples p) (stored_leaves p)))
 none_left LeftOut p i le =
     let leaves = leaf_values (stored_triples p) (stored_leaves p) in
     drop_all (map bare_leaf leaves) i (omega (arith, le, length-map leaves bare_leaf, length-leaf_values (stored_triples p) (stored_leaves p)))
@@ -65,32 +69,41 @@ told_at : (c : Coefficients) (p : Plan) (i plane : ℕ) (l : Leaf) → slice_get
 told_at Kept p i plane l e = triples_of_leaf (stored_triples p) (stored_leaves p) i plane l e
 told_at LeftOut p i plane l e = no_triples (cut (stored_triples p) l.first l.counts) plane
 
-same_fields : (c : Coefficients) (v : LeafValue) → fields_text v.kind v.tx_size v.tx_type v.uv_type (slice_index_or (told_leaf c v).triples 0 []) (slice_index_or (told_leaf c v).triples 1 []) (slice_index_or (told_leaf c v).triples 2 []) ≡ leaf_text (told_leaf c v)
+same_fields : (c : Coefficients) (v : LeafValue) →
+    fields_text v.kind v.tx_size v.tx_type v.uv_type (slice_index_or (told_leaf c v).triples 0 []) (slice_index_or (told_leaf c v).triples 1 [])
+    (slice_index_or (told_leaf c v).triples 2 []) ≡ leaf_text (told_leaf c v)
 unfolding leaf_text
 same_fields Kept v = refl
 same_fields LeftOut v = refl
 
 -- the text of the next leaf
 pub told_fields : (c : Coefficients) (p : Plan) (i : ℕ) (l : Leaf) → slice_get (stored_leaves p) i ≡ Some l
-    → fields_text l.kind l.tx_size l.tx_type l.uv_type (told_triples c (plan_value p) i 0) (told_triples c (plan_value p) i 1) (told_triples c (plan_value p) i 2) ≡ leaf_text (told_leaf c (leaf_value (stored_triples p) l))
+    → fields_text l.kind l.tx_size l.tx_type l.uv_type (told_triples c (plan_value p) i 0) (told_triples c (plan_value p) i 1)
+    (told_triples c (plan_value p) i 2) ≡ leaf_text (told_leaf c (leaf_value (stored_triples p) l))
 told_fields c p i l e = rw (told_at c p i 0 l e, told_at c p i 1 l e, told_at c p i 2 l e) (same_fields c (leaf_value (stored_triples p) l))
 
 -- a leaf has no more coefficients in a plane than its count
-pub few_triples : (p : Plan) (i plane : ℕ) (l : Leaf) → slice_get (stored_leaves p) i ≡ Some l → length (triples_of (plan_value p) i plane) ≤ get_or l.counts plane 0
+pub few_triples : (p : Plan) (i plane : ℕ) (l : Leaf) → slice_get (stored_leaves p) i ≡ Some l →
+    length (triples_of (plan_value p) i plane) ≤ get_or l.counts plane 0
 few_triples p i plane l e =
     let ts = drop (l.first + sum (take plane l.counts)) (stored_triples p) in
     let n = length-take (get_or l.counts plane 0) ts in
-    let same = ap length (stored_triples_at (stored_triples p) (stored_leaves p) i plane l (slice_get_within (stored_leaves p) i l e) (sym (get_or_from_slice_get (stored_leaves p) i l l e))) in
+    let same =
+    ap length (stored_triples_at (stored_triples p) (stored_leaves p) i plane l (slice_get_within (stored_leaves p) i l e)
+    (sym (get_or_from_slice_get (stored_leaves p) i l l e))) in
     omega (arith, same, n)
 
 -- the next leaf is written
 pub leaf_step : (c : Coefficients) (p : Plan) (i : ℕ) (l : Leaf) (bytes new : List ℕ) (y u v : List Triple) → slice_get (stored_leaves p) i ≡ Some l
-    → y ≡ told_triples c (plan_value p) i 0 → u ≡ told_triples c (plan_value p) i 1 → v ≡ told_triples c (plan_value p) i 2 → new ≡ bytes ++ fields_text l.kind l.tx_size l.tx_type l.uv_type y u v
+    → y ≡ told_triples c (plan_value p) i 0 → u ≡ told_triples c (plan_value p) i 1 → v ≡ told_triples c (plan_value p) i 2 →
+    new ≡ bytes ++ fields_text l.kind l.tx_size l.tx_type l.uv_type y u v
     → (let d : Draft = (drop (i + 1) (told c (plan_value p)).leaves, new) in d) ≡ leaf_written (drop i (told c (plan_value p)).leaves) bytes
 unfolding leaf_written
 leaf_step c p i l bytes new y u v e y_is u_is v_is new_is =
-    let text : new ≡ bytes ++ leaf_text (told_leaf c (leaf_value (stored_triples p) l)) = new_is ∙ ap (λ (bs : List ℕ). bytes ++ bs) (rw (y_is, u_is, v_is) (told_fields c p i l e)) in
-    ap (λ (bs : List ℕ). (drop (i + 1) (told c (plan_value p)).leaves, bs)) text ∙ ap (λ (ls : List LeafValue). leaf_written ls bytes) (sym (next_left c p i l e))
+    let text : new ≡ bytes ++ leaf_text (told_leaf c (leaf_value (stored_triples p) l)) = new_is
+    ∙ ap (λ (bs : List ℕ). bytes ++ bs) (rw (y_is, u_is, v_is) (told_fields c p i l e)) in
+    ap (λ (bs : List ℕ). (drop (i + 1) (told c (plan_value p)).leaves, bs)) text
+    ∙ ap (λ (ls : List LeafValue). leaf_written ls bytes) (sym (next_left c p i l e))
 
 -- ---- what is asked of the leaves that are left
 
@@ -118,7 +131,8 @@ pub no_leaf : (c : Coefficients) (p : Plan) (i : ℕ) (bytes : List ℕ) → sli
 unfolding leaf_written
 no_leaf c p i bytes e = let none = none_left c p i (past_end p i e) in rw none refl
 
-pub cut_some : (c : Coefficients) (p : Plan) (i level : ℕ) (l : Leaf) → slice_get (stored_leaves p) i ≡ Some l → next_cut level (drop i (told c (plan_value p)).leaves) ≡ cut_of level l.size
+pub cut_some : (c : Coefficients) (p : Plan) (i level : ℕ) (l : Leaf) → slice_get (stored_leaves p) i ≡ Some l →
+    next_cut level (drop i (told c (plan_value p)).leaves) ≡ cut_of level l.size
 unfolding next_cut
 cut_some c p i level l e = ap (next_cut level) (next_left c p i l e) ∙ same c (leaf_value (stored_triples p) l)
   where
@@ -126,7 +140,8 @@ cut_some c p i level l e = ap (next_cut level) (next_left c p i l e) ∙ same c 
     same Kept v = refl
     same LeftOut v = refl
 
-pub cut_none : (c : Coefficients) (p : Plan) (i level : ℕ) → slice_get (stored_leaves p) i ≡ None → next_cut level (drop i (told c (plan_value p)).leaves) ≡ PARTITION_NONE
+pub cut_none : (c : Coefficients) (p : Plan) (i level : ℕ) → slice_get (stored_leaves p) i ≡ None →
+    next_cut level (drop i (told c (plan_value p)).leaves) ≡ PARTITION_NONE
 unfolding next_cut
 cut_none c p i level e = ap (next_cut level) (none_left c p i (past_end p i e))
 
@@ -145,7 +160,8 @@ block_outside h zero x y d lt e = absurd (omega arith)
 block_outside h (suc level) x y d lt e = rw e refl
 
 pub block_inside : (h : Header) (level x y : ℕ) (d : Draft) → 0 < level → is_inside h x y ≡ true
-    → block_written h level x y d ≡ parts_written h level (block_written h (level - 1)) x y (next_cut level d.0) (d.0, d.1 ++ byte (mark_of (next_cut level d.0)))
+    → block_written h level x y d ≡ parts_written h level (block_written h (level - 1)) x y (next_cut level d.0)
+    (d.0, d.1 ++ byte (mark_of (next_cut level d.0)))
 unfolding block_written
 block_inside h zero x y d lt e = absurd (omega arith)
 block_inside h (suc level) x y d lt e =

@@ -30,10 +30,12 @@ unfolding rows_of
 next_row h row n = refl
 
 -- the first of them, and the others
-first_is : (h : Header) (row col : ℕ) → row < down h → col < across h → superblocks_from h row col ≡ Node 4 (64 * col) (64 * row) ∷ superblocks_from h row (col + 1)
+first_is : (h : Header) (row col : ℕ) → row < down h → col < across h → superblocks_from h row col ≡ Node 4 (64 * col) (64 * row) ∷
+    superblocks_from h row (col + 1)
 first_is h row col r c =
     let e : across h - col ≡ suc (across h - (col + 1)) = omega (arith, c) in
-    ap (λ (n : ℕ). row_before h row col n (rows_of h (row + 1) (down h - (row + 1)))) e ∙ one_more h row col (across h - (col + 1)) (rows_of h (row + 1) (down h - (row + 1))) r c
+    ap (λ (n : ℕ). row_before h row col n (rows_of h (row + 1) (down h - (row + 1)))) e
+    ∙ one_more h row col (across h - (col + 1)) (rows_of h (row + 1) (down h - (row + 1))) r c
 
 -- behind a row
 row_done : (h : Header) (row : ℕ) → superblocks_from h row (across h) ≡ rows_of h (row + 1) (down h - (row + 1))
@@ -44,7 +46,8 @@ row_begun : (h : Header) (row : ℕ) → row + 1 < down h → superblocks_from h
 row_begun h row lt =
     let e : down h - (row + 1) ≡ suc (down h - (row + 1 + 1)) = omega (arith, lt) in
     let f : across h - 0 ≡ across h = omega arith in
-    row_done h row ∙ ap (rows_of h (row + 1)) e ∙ next_row h (row + 1) (down h - (row + 1 + 1)) ∙ ap (λ (n : ℕ). row_before h (row + 1) 0 n (rows_of h (row + 1 + 1) (down h - (row + 1 + 1)))) (sym f)
+    row_done h row ∙ ap (rows_of h (row + 1)) e ∙ next_row h (row + 1) (down h - (row + 1 + 1))
+    ∙ ap (λ (n : ℕ). row_before h (row + 1) 0 n (rows_of h (row + 1 + 1) (down h - (row + 1 + 1)))) (sym f)
 
 none_left : (h : Header) (row col : ℕ) → col ≡ across h → down h ≤ row + 1 → superblocks_from h row col ≡ []
 none_left h row col e le =
@@ -61,7 +64,8 @@ first_of_none h row col e le = ap first_part (none_left h row col e le)
 pub later_left : (h : Header) (row col : ℕ) → row < down h → col < across h → superblocks_from h row (col + 1) ≡ later_parts (superblocks_from h row col)
 later_left h row col r c = sym (ap later_parts (first_is h row col r c))
 
-pub later_row : (h : Header) (row col : ℕ) → row < down h → col < across h → col + 1 ≡ across h → row + 1 < down h → superblocks_from h (row + 1) 0 ≡ later_parts (superblocks_from h row col)
+pub later_row : (h : Header) (row col : ℕ) → row < down h → col < across h → col + 1 ≡ across h → row + 1 < down h →
+    superblocks_from h (row + 1) 0 ≡ later_parts (superblocks_from h row col)
 later_row h row col r c e lt = sym (row_begun h row lt) ∙ ap (superblocks_from h row) (sym e) ∙ later_left h row col r c
 
 pub ruleset firsts = (first_left, first_of_none)

@@ -6,6 +6,7 @@ pub mod Turns
 pub mod TripleBytes
 pub mod Left
 pub mod References
+pub mod Rests
 pub mod BarePlans
 pub mod Spelled
 pub mod Packed

@@ -5,7 +5,8 @@ use Rattle.std.proofs.lemmas.Bool.{ne_eqb, eq-eqb}
 use Rattle.std.proofs.lemmas.Nat.{pow_pos}
 use Rattle.std.proofs.Math.Nat.{pow-succ'}
 use Rattle.av1_blocks.specs.declared.partition.PartitionType.{PartitionType}
-use Rattle.av1_blocks.specs.declared.partition.PartitionType.TheVariants.{PARTITION_NONE, PARTITION_HORZ, PARTITION_VERT, PARTITION_SPLIT, PARTITION_HORZ_4, PARTITION_VERT_4}
+use Rattle.av1_blocks.specs.declared.partition.PartitionType.TheVariants.{PARTITION_NONE, PARTITION_HORZ, PARTITION_VERT, PARTITION_SPLIT, PARTITION_HORZ_4}
+use Rattle.av1_blocks.specs.declared.partition.PartitionType.TheVariants.{PARTITION_VERT_4}
 use Rattle.av1_plan.specs.Plan.{LeafValue}
 use Rattle.av1_plan.specs.Tree.{Tree, Placed, none, horz, vert, horz_4, vert_4, split, node_leaves, part_leaves, kept}
 use Rattle.av1_planwrite.specs.MarkLaws.{cut_at, FirstLeafFixesMark}
@@ -27,15 +28,20 @@ by_vert n side some e = rw (eq-eqb (2 * n) side (sym e), ne_eqb n side (λ f. ab
 
 by_horz_4 : (n side : ℕ) → 0 < n → side ≡ 4 * n → cut_by_sides side (4 * n) n ≡ PARTITION_HORZ_4
 unfolding cut_by_sides
-by_horz_4 n side some e = rw (eq-eqb (4 * n) side (sym e), ne_eqb n side (λ f. absurd (omega (arith, some, e, f))), ne_eqb (2 * n) side (λ f. absurd (omega (arith, some, e, f)))) refl
+by_horz_4 n side some e =
+    rw (eq-eqb (4 * n) side (sym e), ne_eqb n side (λ f. absurd (omega (arith, some, e, f))), ne_eqb (2 * n) side (λ f. absurd (omega (arith, some, e, f))))
+    refl
 
 by_vert_4 : (n side : ℕ) → 0 < n → side ≡ 4 * n → cut_by_sides side n (4 * n) ≡ PARTITION_VERT_4
 unfolding cut_by_sides
-by_vert_4 n side some e = rw (eq-eqb (4 * n) side (sym e), ne_eqb n side (λ f. absurd (omega (arith, some, e, f))), ne_eqb (2 * n) side (λ f. absurd (omega (arith, some, e, f)))) refl
+by_vert_4 n side some e =
+    rw (eq-eqb (4 * n) side (sym e), ne_eqb n side (λ f. absurd (omega (arith, some, e, f))), ne_eqb (2 * n) side (λ f. absurd (omega (arith, some, e, f))))
+    refl
 
 by_split : (n side width height : ℕ) → 0 < n → side ≡ 2 * n → width ≤ n → height ≤ n → cut_by_sides side width height ≡ PARTITION_SPLIT
 unfolding cut_by_sides
-by_split n side width height some e wide high = rw (ne_eqb width side (λ f. absurd (omega (arith, some, e, f, wide))), ne_eqb height side (λ f. absurd (omega (arith, some, e, f, high)))) refl
+by_split n side width height some e wide high =
+    rw (ne_eqb width side (λ f. absurd (omega (arith, some, e, f, wide))), ne_eqb height side (λ f. absurd (omega (arith, some, e, f, high)))) refl
 
 -- ---- trees
 
@@ -54,7 +60,8 @@ module _ (width height : ℕ) where
       → part_leaves width height x y columns rows a ++ more ≡ (record { block = record { x = x; y = y; columns = columns; rows = rows }; content = a }) ∷ more
   part_is x y columns rows a more e = rw e refl
 
-  first_part : (k x y columns rows : ℕ) (a : LeafValue) (more : List (Placed LeafValue)) (cut : PartitionType) → (nat_lt x width && nat_lt y height) ≡ true → columns ≤ 2 ^ k → rows ≤ 2 ^ k
+  first_part : (k x y columns rows : ℕ) (a : LeafValue) (more : List (Placed LeafValue)) (cut : PartitionType) → (nat_lt x width && nat_lt y height) ≡ true →
+      columns ≤ 2 ^ k → rows ≤ 2 ^ k
       → cut_by_sides (2 ^ k) columns rows ≡ cut → IsFirst k cut (part_leaves width height x y columns rows a ++ more)
   first_part k x y columns rows a more cut e wide high fixes = record {
     first = record { block = record { x = x; y = y; columns = columns; rows = rows }; content = a };
@@ -66,7 +73,14 @@ module _ (width height : ℕ) where
   }
 
   behind : (k : ℕ) (cut : PartitionType) (xs ys : List (Placed LeafValue)) → IsFirst k cut xs → IsFirst k cut (xs ++ ys)
-  behind k cut xs ys f = record { first = f.first; rest = f.rest ++ ys; are = ap (λ (zs : List (Placed LeafValue)). zs ++ ys) f.are; wide = f.wide; high = f.high; fixes = f.fixes }
+  behind k cut xs ys f = record {
+    first = f.first;
+    rest = f.rest ++ ys;
+    are = ap (λ (zs : List (Placed LeafValue)). zs ++ ys) f.are;
+    wide = f.wide;
+    high = f.high;
+    fixes = f.fixes;
+  }
 
   first_of : (k x y : ℕ) (t : Tree LeafValue k) → (nat_lt x width && nat_lt y height) ≡ true → IsFirst k (cut_at t) (node_leaves width height t x y)
   first_of k x y (none a) e = record {
@@ -80,21 +94,27 @@ module _ (width height : ℕ) where
   first_of (suc k) x y (horz a b) e =
       let side = pow-succ' 2 k in
       let some = pow_pos k in
-      first_part (suc k) x y (2 * 2 ^ k) (2 ^ k) a _ PARTITION_HORZ e (omega (arith, side)) (omega (arith, side)) (by_horz (2 ^ k) (2 ^ suc k) (omega (arith, some)) (omega (arith, side)))
+      first_part (suc k) x y (2 * 2 ^ k) (2 ^ k) a _ PARTITION_HORZ e (omega (arith, side)) (omega (arith, side))
+      (by_horz (2 ^ k) (2 ^ suc k) (omega (arith, some)) (omega (arith, side)))
   first_of (suc k) x y (vert a b) e =
       let side = pow-succ' 2 k in
       let some = pow_pos k in
-      first_part (suc k) x y (2 ^ k) (2 * 2 ^ k) a _ PARTITION_VERT e (omega (arith, side)) (omega (arith, side)) (by_vert (2 ^ k) (2 ^ suc k) (omega (arith, some)) (omega (arith, side)))
+      first_part (suc k) x y (2 ^ k) (2 * 2 ^ k) a _ PARTITION_VERT e (omega (arith, side)) (omega (arith, side))
+      (by_vert (2 ^ k) (2 ^ suc k) (omega (arith, some)) (omega (arith, side)))
   first_of (suc (suc k)) x y (horz_4 a b c d) e =
       let side : 2 ^ suc (suc k) ≡ 4 * 2 ^ k = omega (arith, pow-succ' 2 k, pow-succ' 2 (suc k)) in
       let some = pow_pos k in
       let cut = PARTITION_HORZ_4 in
-      behind (suc (suc k)) cut _ _ (behind (suc (suc k)) cut _ _ (first_part (suc (suc k)) x y (4 * 2 ^ k) (2 ^ k) a _ cut e (omega (arith, side)) (omega (arith, side)) (by_horz_4 (2 ^ k) (2 ^ suc (suc k)) (omega (arith, some)) side)))
+      behind (suc (suc k)) cut _ _
+      (behind (suc (suc k)) cut _ _ (first_part (suc (suc k)) x y (4 * 2 ^ k) (2 ^ k) a _ cut e (omega (arith, side)) (omega (arith, side))
+      (by_horz_4 (2 ^ k) (2 ^ suc (suc k)) (omega (arith, some)) side)))
   first_of (suc (suc k)) x y (vert_4 a b c d) e =
       let side : 2 ^ suc (suc k) ≡ 4 * 2 ^ k = omega (arith, pow-succ' 2 k, pow-succ' 2 (suc k)) in
       let some = pow_pos k in
       let cut = PARTITION_VERT_4 in
-      behind (suc (suc k)) cut _ _ (behind (suc (suc k)) cut _ _ (first_part (suc (suc k)) x y (2 ^ k) (4 * 2 ^ k) a _ cut e (omega (arith, side)) (omega (arith, side)) (by_vert_4 (2 ^ k) (2 ^ suc (suc k)) (omega (arith, some)) side)))
+      behind (suc (suc k)) cut _ _
+      (behind (suc (suc k)) cut _ _ (first_part (suc (suc k)) x y (2 ^ k) (4 * 2 ^ k) a _ cut e (omega (arith, side)) (omega (arith, side))
+      (by_vert_4 (2 ^ k) (2 ^ suc (suc k)) (omega (arith, some)) side)))
   first_of (suc k) x y (split a b c d) e =
       let side = pow-succ' 2 k in
       let some = pow_pos k in

@@ -21,7 +21,8 @@ pub above_eight : (depth : ℕ) (samples : List ℕ) → depth ≢ 8 → flat_ma
 unfolding plane_text
 above_eight depth [] n = refl
 above_eight depth (s ∷ samples) n =
-    ap (λ (l : List ℕ). sample_text 16 s ++ l) (above_eight depth samples n) ∙ ap (λ (l : List ℕ). l ++ flat_map (sample_text depth) samples) (two_bytes depth s n)
+    ap (λ (l : List ℕ). sample_text 16 s ++ l) (above_eight depth samples n)
+    ∙ ap (λ (l : List ℕ). l ++ flat_map (sample_text depth) samples) (two_bytes depth s n)
 
 -- ---- how many bytes samples have
 
@@ -56,11 +57,13 @@ unfolding plane_text
 none_written depth samples bytes = sym (append-nil bytes)
 
 -- after the samples before a place, those of the next piece
-pub piece_written : (depth : ℕ) (samples start now new : List ℕ) (at n count : ℕ) (bytes : List ℕ) → n ≡ count → now ≡ start ++ plane_text depth (take at samples)
+pub piece_written : (depth : ℕ) (samples start now new : List ℕ) (at n count : ℕ) (bytes : List ℕ) → n ≡ count →
+    now ≡ start ++ plane_text depth (take at samples)
     → bytes ≡ plane_text depth (take n (drop at samples)) → new ≡ now ++ bytes → new ≡ start ++ plane_text depth (take (at + count) samples)
 unfolding plane_text
 piece_written depth samples start now new at n count bytes same before piece next =
     let text = flat_map (sample_text depth) in
     let front : now ++ bytes ≡ start ++ text (take at samples) ++ text (take n (drop at samples)) = rw (before, piece) refl in
     next ∙ front ∙ append_assoc start (text (take at samples)) (text (take n (drop at samples)))
-    ∙ ap (λ (l : List ℕ). start ++ l) (sym (flat_map-append (sample_text depth) (take at samples) (take n (drop at samples))) ∙ ap text (sym (take-add at n samples) ∙ ap (λ (k : ℕ). take (at + k) samples) same))
+    ∙ ap (λ (l : List ℕ). start ++ l) (sym (flat_map-append (sample_text depth) (take at samples) (take n (drop at samples)))
+    ∙ ap text (sym (take-add at n samples) ∙ ap (λ (k : ℕ). take (at + k) samples) same))

@@ -1,5 +1,6 @@
 -- The bytes of a plan are its text.
-use Rattle.std.proofs.Common.{◌≡◌, ℕ, ◌<◌, ◌≤◌, ◌^◌, Bool, true, false, if◌then◌else◌, inl, inr, List, [], ◌∷◌, ◌++◌, Option, Some, None, refl, sym, ap, subst, ◌∙◌, append_assoc, arith, w32}
+use Rattle.std.proofs.Common.{◌≡◌, ℕ, ◌<◌, ◌≤◌, ◌^◌, Bool, true, false, if◌then◌else◌, inl, inr, List, [], ◌∷◌, ◌++◌, Option, Some, None, refl, sym, ap, subst}
+use Rattle.std.proofs.Common.{◌∙◌, append_assoc, arith, w32}
 use Rattle.std.specs.Prelude.{◌==◌, codes, nat_lt}
 use Rattle.std.specs.List.{flat_map}
 use Rattle.std.specs.Int.{from_le_bytes, to_le_bytes}
@@ -16,17 +17,20 @@ use Rattle.av1_plan.specs.Spelling.{text, AreText}
 use Rattle.av1_plan.proofs.Carried.{AreApart, apart}
 use Rattle.av1_plan.proofs.Numbers.{filter_of, filter_number_is}
 use Rattle.av1_plan.proofs.ReadFrames.{range_is}
-use Rattle.av1_planwrite.specs.Text.{byte, pair, quad, letters, header_text, sample_text, plane_text, slot_text, references_text, superblocks_written, front_text, plan_text}
+use Rattle.av1_planwrite.specs.Text.{byte, pair, quad, letters, header_text, sample_text, plane_text, slot_text, references_text, superblocks_written}
+use Rattle.av1_planwrite.specs.Text.{front_text, plan_text}
 use Rattle.av1_planwrite.proofs.Told.{ended, IsAsked, asked, Tells, turns_tell, two_parts, last_part}
 use Rattle.av1_planwrite.proofs.NodeTexts.{turns_superblocks}
 
 -- ---- parts one behind the other
 
-grow_asked : {A : Type 0} {k : Kind} {next : ℕ → Format A} {y : A} {rest bytes : List ℕ} (front b : List ℕ) (q : IsAsked k next y rest) → bytes ≡ front ++ rest → to_le_bytes (width k.size) q.number ≡ b
+grow_asked : {A : Type 0} {k : Kind} {next : ℕ → Format A} {y : A} {rest bytes : List ℕ} (front b : List ℕ) (q : IsAsked k next y rest) →
+    bytes ≡ front ++ rest → to_le_bytes (width k.size) q.number ≡ b
     → bytes ≡ front ++ b ++ text (next q.number) q.values
 grow_asked {next = next} front b q e f = e ∙ rw (q.bytes_are, f) (sym (append_assoc front b (text (next q.number) q.values)))
 
-grow_apart : {A B : Type 0} {f : Format A} {g : A → Format B} {y : B} {vs bytes : List ℕ} (front b : List ℕ) (q : AreApart f g y vs) → bytes ≡ front ++ text (f >>= g) vs → text f q.front ≡ b
+grow_apart : {A B : Type 0} {f : Format A} {g : A → Format B} {y : B} {vs bytes : List ℕ} (front b : List ℕ) (q : AreApart f g y vs) →
+    bytes ≡ front ++ text (f >>= g) vs → text f q.front ≡ b
     → bytes ≡ front ++ b ++ text (g q.between) q.behind
 grow_apart {g = g} front b q e f = e ∙ rw (q.bytes, f) (sym (append_assoc front b (text (g q.between) q.behind)))
 
@@ -66,8 +70,10 @@ slots_told = record {
       let g = asked _ _ xs f.values f.spells in
       let end = ended _ xs g.values g.spells in
       let last = last_part g.bytes_are (byte_is g.number g.admitted.fits) end.no_bytes in
-      two_parts a.bytes_are (byte_is a.number a.admitted.fits) (two_parts b.bytes_are (byte_is b.number b.admitted.fits) (two_parts c.bytes_are (byte_is c.number c.admitted.fits)
-      (two_parts d.bytes_are (byte_is d.number d.admitted.fits) (two_parts e.bytes_are (byte_is e.number e.admitted.fits) (two_parts f.bytes_are (byte_is f.number f.admitted.fits) last)))))
+      two_parts a.bytes_are (byte_is a.number a.admitted.fits)
+      (two_parts b.bytes_are (byte_is b.number b.admitted.fits) (two_parts c.bytes_are (byte_is c.number c.admitted.fits)
+      (two_parts d.bytes_are (byte_is d.number d.admitted.fits)
+      (two_parts e.bytes_are (byte_is e.number e.admitted.fits) (two_parts f.bytes_are (byte_is f.number f.admitted.fits) last)))))
       ∙ end.value;
 }
 
@@ -107,7 +113,8 @@ header_told = record {
       let e3 = grow_asked t2 (byte depth.number) depth e2 refl in
       let e4 = grow_asked t3 (byte sampling.number) sampling e3 refl in
       let e5 = grow_asked t4 (byte (filter_number (filter_of filter.number))) filter e4 (ap byte (sym (filter_number_is filter.number small))) in
-      let e6 = grow_asked t5 (byte (if edge.number == 1 then 1 else 0)) edge e5 (ap byte (choice_back edge.number (range_is 0 1 edge.number edge.admitted).1)) in
+      let e6 = grow_asked t5 (byte (if edge.number == 1 then 1 else 0)) edge e5 (ap byte (choice_back edge.number (range_is 0 1 edge.number edge.admitted).1))
+      in
       let e7 = grow_apart t6 slots.between slots e6 (slots_told.tells slots.front slots.between slots.front_spells) in
       let e8 = grow_asked t7 (byte mask.number) mask e7 refl in
       grown t8 e8 end.no_bytes ∙ ap header_text end.value;
@@ -166,7 +173,8 @@ references_told h = turns_tell (grammar.slot_planes h) (slot_text h.depth) 0 8 (
 abbrev plan_is : Header → List (Option (List (List ℕ))) → List LeafValue → PlanValue
 plan_is h references leaves = record { header = h; references = references; leaves = leaves }
 
-three_parts : {a b a_2 b_2 bytes behind rest end : List ℕ} (c : List ℕ) → bytes ≡ a ++ behind → behind ≡ b ++ rest → rest ≡ c ++ end → a ≡ a_2 → b ≡ b_2 → end ≡ [] → bytes ≡ a_2 ++ b_2 ++ c
+three_parts : {a b a_2 b_2 bytes behind rest end : List ℕ} (c : List ℕ) → bytes ≡ a ++ behind → behind ≡ b ++ rest → rest ≡ c ++ end → a ≡ a_2 → b ≡ b_2 →
+    end ≡ [] → bytes ≡ a_2 ++ b_2 ++ c
 three_parts {a_2 = a} {b_2 = b} c e f g h k m = rw (e, f, g, h, k, m, append-nil) (sym (append_assoc a b c))
 
 pub plan_told : (bytes : List ℕ) (p : PlanValue) → AreText grammar.plan bytes p → bytes ≡ plan_text p
@@ -179,7 +187,8 @@ plan_told bytes p (vs, s, e) =
     let end = ended (plan_is h b.between c.between) p c.behind c.behind_spells in
     let front = header_text h ++ references_text h.depth b.between in
     let whole : bytes ≡ front ++ text (grammar.superblocks h) c.front =
-    e ∙ three_parts (text (grammar.superblocks h) c.front) a.bytes b.bytes c.bytes (header_told.tells a.front a.between a.front_spells) ((references_told h).tells b.front b.between b.front_spells) end.no_bytes in
+    e ∙ three_parts (text (grammar.superblocks h) c.front) a.bytes b.bytes c.bytes (header_told.tells a.front a.between a.front_spells)
+    ((references_told h).tells b.front b.between b.front_spells) end.no_bytes in
     let turned = (turns_superblocks h).turned c.front c.between [] front c.front_spells in
     let written : (superblocks_written h (c.between, front)).1 ≡ front ++ text (grammar.superblocks h) c.front =
     ap (λ (ls : List LeafValue). (superblocks_written h (ls, front)).1) (sym (append-nil c.between)) ∙ ap (λ (d : List LeafValue × List ℕ). d.1) turned in

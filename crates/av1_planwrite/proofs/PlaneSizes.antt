@@ -30,7 +30,8 @@ few_samples h p samples width height e =
     omega (arith, most, eqb-true (length samples) (plane_len h p) count)
 
 -- three planes that are admitted have few samples each
-pub few_in_each : (h : Header) (y u v : List ℕ) → h.width ≤ 2048 → h.height ≤ 2048 → admits_reference h y u v ≡ true → (length y ≤ 2 ^ 22) × (length u ≤ 2 ^ 22) × (length v ≤ 2 ^ 22)
+pub few_in_each : (h : Header) (y u v : List ℕ) → h.width ≤ 2048 → h.height ≤ 2048 → admits_reference h y u v ≡ true →
+    (length y ≤ 2 ^ 22) × (length u ≤ 2 ^ 22) × (length v ≤ 2 ^ 22)
 few_in_each h y u v width height e =
     let (both, third) = and_parts (admits_plane h 0 y && admits_plane h 1 u) (admits_plane h 2 v) e in
     let (first, second) = and_parts (admits_plane h 0 y) (admits_plane h 1 u) both in

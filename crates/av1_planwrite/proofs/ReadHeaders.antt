@@ -15,14 +15,17 @@ use Rattle.av1_planwrite.specs.Building.{admits_header}
 slots_are : (slots : List ℕ) → list_all (λ slot. nat_le slot 7) slots ≡ true → All (λ slot. slot < 8) slots
 slots_are [] e k d lt = absurd (omega (arith, lt))
 slots_are (s ∷ slots) e zero d lt = let (first, _) = and_parts (nat_le s 7) (list_all (λ slot. nat_le slot 7) slots) e in omega (arith, leb-true s 7 first)
-slots_are (s ∷ slots) e (suc k) d lt = let (_, later) = and_parts (nat_le s 7) (list_all (λ slot. nat_le slot 7) slots) e in slots_are slots later k d (omega (arith, lt))
+slots_are (s ∷ slots) e (suc k) d lt = let (_, later) = and_parts (nat_le s 7) (list_all (λ slot. nat_le slot 7) slots) e
+    in slots_are slots later k d (omega (arith, lt))
 
 pub header_read : (h : Header) → admits_header h ≡ true → h.mask < 256 → length h.slots ≡ 7 → IsReadFrame h
 unfolding admits_header
 header_read h e mask count =
     let version = is_in_range 1 2 h.version in
-    let (a, slots) = and_parts (version && is_side h.width && is_side h.height && is_depth h.depth && nat_le h.sampling 2 && nat_le (filter_number h.filter) 3) (list_all (λ slot. nat_le slot 7) h.slots) e in
-    let (b, filter) = and_parts (version && is_side h.width && is_side h.height && is_depth h.depth && nat_le h.sampling 2) (nat_le (filter_number h.filter) 3) a in
+    let (a, slots) = and_parts (version && is_side h.width && is_side h.height && is_depth h.depth && nat_le h.sampling 2 && nat_le (filter_number h.filter) 3)
+    (list_all (λ slot. nat_le slot 7) h.slots) e in
+    let (b, filter) =
+    and_parts (version && is_side h.width && is_side h.height && is_depth h.depth && nat_le h.sampling 2) (nat_le (filter_number h.filter) 3) a in
     let (c, sampling) = and_parts (version && is_side h.width && is_side h.height && is_depth h.depth) (nat_le h.sampling 2) b in
     let (d, depth) = and_parts (version && is_side h.width && is_side h.height) (is_depth h.depth) c in
     let (f, height) = and_parts (version && is_side h.width) (is_side h.height) d in

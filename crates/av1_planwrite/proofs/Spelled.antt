@@ -19,6 +19,7 @@ text_spelled p bytes e = subst (λ (bytes : List ℕ). ∥ AreText plan bytes (p
 
 pub bare_text_spelled : (p : Plan) (bytes : List ℕ) → bytes ≡ bare_text (plan_value p) → ∥ AreText plan bytes (bare (plan_value p)) ∥₁
 bare_text_spelled p bytes e =
-    subst (λ (bytes : List ℕ). ∥ AreText plan bytes (bare (plan_value p)) ∥₁) (sym e) (∥∥₁_map p.spelled (λ (s : IsSpelled plan (plan_value p)). bare_is_plan (plan_text (plan_value p)) (plan_value p) (spells (plan_value p) s)))
+    subst (λ (bytes : List ℕ). ∥ AreText plan bytes (bare (plan_value p)) ∥₁) (sym e)
+    (∥∥₁_map p.spelled (λ (s : IsSpelled plan (plan_value p)). bare_is_plan (plan_text (plan_value p)) (plan_value p) (spells (plan_value p) s)))
 
 pub ruleset written = (text_spelled, bare_text_spelled)

@@ -1,5 +1,6 @@
 -- What stands on a stack of parts.
-use Rattle.std.proofs.Common.{◌≡◌, ℕ, zero, suc, ◌+◌, ◌-◌, ◌*◌, ◌<◌, ◌≤◌, true, false, ◌&&◌, List, [], ◌∷◌, length, take, set, get_or, reverse, refl, sym, ap, subst, ◌∙◌, arith}
+use Rattle.std.proofs.Common.{◌≡◌, ℕ, zero, suc, ◌+◌, ◌-◌, ◌*◌, ◌<◌, ◌≤◌, true, false, ◌&&◌, List, [], ◌∷◌, length, take, set, get_or, reverse, refl, sym, ap}
+use Rattle.std.proofs.Common.{subst, ◌∙◌, arith}
 use Rattle.std.specs.Prelude.{nat_lt, nat_le}
 use Rattle.std.proofs.lemmas.Bool.{and_parts, ltb-true, lt-ltb, le-leb}
 use Rattle.std.proofs.lemmas.List.{take_more, take_more_set, reverse-append, length-reverse, length-take-le}
@@ -51,21 +52,25 @@ behind_top xs n d some le =
 pub room_behind : (xs : List Part) (n : ℕ) (d : Part) → 0 < n → n ≤ length xs → have_room (on_top xs n) ≡ true → have_room (on_top xs (n - 1)) ≡ true
 room_behind xs n d some le room =
     let e : n ≡ n - 1 + 1 = omega arith in
-    let whole : have_room (get_or xs (n - 1) d ∷ on_top xs (n - 1)) ≡ true = subst (λ (ps : List Part). have_room ps ≡ true) (ap (on_top xs) e ∙ top_is xs (n - 1) d (omega arith)) room in
+    let whole : have_room (get_or xs (n - 1) d ∷ on_top xs (n - 1)) ≡ true =
+    subst (λ (ps : List Part). have_room ps ≡ true) (ap (on_top xs) e ∙ top_is xs (n - 1) d (omega arith)) room in
     (room_of (get_or xs (n - 1) d) (on_top xs (n - 1)) whole).1
 
 -- the top, and its room
-pub top_with_room : (xs : List Part) (n : ℕ) (d : Part) → 0 < n → n ≤ length xs → have_room (on_top xs n) ≡ true → has_room (get_or xs (n - 1) d) (length (later_parts (on_top xs n))) ≡ true
+pub top_with_room : (xs : List Part) (n : ℕ) (d : Part) → 0 < n → n ≤ length xs → have_room (on_top xs n) ≡ true →
+    has_room (get_or xs (n - 1) d) (length (later_parts (on_top xs n))) ≡ true
 top_with_room xs n d some le room =
     let e : n ≡ n - 1 + 1 = omega arith in
     let top : on_top xs n ≡ get_or xs (n - 1) d ∷ on_top xs (n - 1) = ap (on_top xs) e ∙ top_is xs (n - 1) d (omega arith) in
     let whole : have_room (get_or xs (n - 1) d ∷ on_top xs (n - 1)) ≡ true = subst (λ (ps : List Part). have_room ps ≡ true) top room in
-    subst (λ (ps : List Part). has_room (get_or xs (n - 1) d) (length (later_parts ps)) ≡ true) (sym top) (room_of (get_or xs (n - 1) d) (on_top xs (n - 1)) whole).0
+    subst (λ (ps : List Part). has_room (get_or xs (n - 1) d) (length (later_parts ps)) ≡ true) (sym top)
+    (room_of (get_or xs (n - 1) d) (on_top xs (n - 1)) whole).0
 
 -- the room of one more
 pub room_more : (xs : List Part) (n : ℕ) (d : Part) → n < length xs → have_room (on_top xs (n + 1)) ≡ (has_room (get_or xs n d) n && have_room (on_top xs n))
 unfolding have_room
-room_more xs n d lt = ap have_room (top_is xs n d lt) ∙ ap (λ (m : ℕ). has_room (get_or xs n d) m && have_room (on_top xs n)) (count_on_top xs n (omega (arith, lt)))
+room_more xs n d lt = ap have_room (top_is xs n d lt)
+    ∙ ap (λ (m : ℕ). has_room (get_or xs n d) m && have_room (on_top xs n)) (count_on_top xs n (omega (arith, lt)))
 
 pub ruleset room_below = (none_on_top, room_more)
 
@@ -75,7 +80,8 @@ unfolding block_before
 block_leaf h zero x y others e = refl
 block_leaf h (suc level) x y others e = absurd (omega arith)
 
-pub block_inside : (h : Header) (level x y : ℕ) (others : List Part) → 0 < level → is_inside h x y ≡ true → block_before h level x y others ≡ Node level x y ∷ others
+pub block_inside : (h : Header) (level x y : ℕ) (others : List Part) → 0 < level → is_inside h x y ≡ true →
+    block_before h level x y others ≡ Node level x y ∷ others
 unfolding block_before
 block_inside h zero x y others lt e = absurd (omega arith)
 block_inside h (suc level) x y others lt e = rw e refl
@@ -92,7 +98,8 @@ in_greatest h x y width height e =
     let (a, b) = and_parts (nat_lt x h.width) (nat_lt y h.height) e in
     (lt-ltb x 2048 (omega (arith, width, ltb-true x h.width a)), lt-ltb y 2048 (omega (arith, height, ltb-true y h.height b)))
 
-pub node_room : (h : Header) (level x y below : ℕ) → 0 < level → level ≤ 4 → 3 * level + below < 13 → h.width ≤ 2048 → h.height ≤ 2048 → is_inside h x y ≡ true → has_room (Node level x y) below ≡ true
+pub node_room : (h : Header) (level x y below : ℕ) → 0 < level → level ≤ 4 → 3 * level + below < 13 → h.width ≤ 2048 → h.height ≤ 2048 →
+    is_inside h x y ≡ true → has_room (Node level x y) below ≡ true
 unfolding has_room
 node_room h level x y below some most room width height e =
     let (a, b) = in_greatest h x y width height e in

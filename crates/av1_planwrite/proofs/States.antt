@@ -21,7 +21,8 @@ next_is h row col e =
     by (nat_lt col (across h)) refl (ltb-true row (down h) lower) place
   where
     by : (a : Bool) → nat_lt col (across h) ≡ a → row < down h → (a || (col == across h && nat_le (down h) (row + 1))) ≡ true → IsNext h row col
-    by true f lower place = let lt = ltb-true col (across h) f in record { rows = lower; cols = omega (arith, lt); last = λ past. absurd (omega (arith, lt, past)) }
+    by true f lower place = let lt = ltb-true col (across h) f
+        in record { rows = lower; cols = omega (arith, lt); last = λ past. absurd (omega (arith, lt, past)) }
     by false f lower place =
         let (past, last) = and_parts (col == across h) (nat_le (down h) (row + 1)) place in
         record { rows = lower; cols = omega (arith, eqb-true col (across h) past); last = λ _. leb-true (down h) (row + 1) last }
@@ -41,6 +42,7 @@ is_next h row col rows cols last = rw (lt-ltb row (down h) rows) (by (cases_lt c
         rw (eq-eqb col (across h) past, le-leb (down h) (row + 1) (last past)) (either (nat_lt col (across h)))
 
 -- a state of these parts
-pub state_is : (h : Header) (s : State) → admits_header h ≡ true → s.slot ≤ 8 → is_next_superblock h s.left.row s.left.col ≡ true → are_stacked s.parts ≡ true → is_state h s ≡ true
+pub state_is : (h : Header) (s : State) → admits_header h ≡ true → s.slot ≤ 8 → is_next_superblock h s.left.row s.left.col ≡ true → are_stacked s.parts ≡ true →
+    is_state h s ≡ true
 unfolding is_state
 state_is h s admitted slot next stacked = rw (admitted, le-leb s.slot 8 slot, next, stacked) refl

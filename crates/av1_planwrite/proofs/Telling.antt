@@ -1,5 +1,6 @@
 -- What a builder tells of a plan, call by call.
-use Rattle.std.proofs.Common.{◌≡◌, ℕ, zero, suc, ◌+◌, ◌-◌, ◌<◌, ◌≤◌, ◌^◌, Bool, true, false, ◌&&◌, ◌||◌, if◌then◌else◌, List, [], ◌∷◌, ◌++◌, length, All, Option, Some, None, refl, sym, ap, subst, ◌∙◌, append_assoc, arith}
+use Rattle.std.proofs.Common.{◌≡◌, ℕ, zero, suc, ◌+◌, ◌-◌, ◌<◌, ◌≤◌, ◌^◌, Bool, true, false, ◌&&◌, ◌||◌, if◌then◌else◌, List, [], ◌∷◌, ◌++◌, length, All}
+use Rattle.std.proofs.Common.{Option, Some, None, refl, sym, ap, subst, ◌∙◌, append_assoc, arith}
 use Rattle.std.specs.Prelude.{nat_lt, ◌==◌, is_some}
 use Rattle.std.specs.List.{list_all}
 use Rattle.std.proofs.lemmas.Bool.{and_parts, ltb-true, eqb-true}
@@ -18,8 +19,10 @@ use Rattle.av1_plan.proofs.Composed.{done_spelled, bind_spelled, header_spelled,
 use Rattle.av1_planwrite.specs.declared.parts.Part.{Part}
 use Rattle.av1_planwrite.specs.declared.parts.Part.TheVariants.{Node, Leaf}
 use Rattle.av1_planwrite.specs.Asked.{After, asked_for, cut_before, down, rows_of}
-use Rattle.av1_planwrite.specs.Building.{Building, LeafFields, Tells, admits_leaf, asks_leaf, asks_reference, first_part, later_parts, asked_part, cut_first, slot_from, next_slot, slots_without, asks_more}
-use Rattle.av1_planwrite.specs.Building.{begun, plan_begun, admits_plane, admits_reference, with_reference, plan_with_reference, with_mark, admits_fields, with_leaf, leaf_of, plan_with_leaf}
+use Rattle.av1_planwrite.specs.Building.{Building, LeafFields, Tells, admits_leaf, asks_leaf, asks_reference, first_part, later_parts, asked_part, cut_first}
+use Rattle.av1_planwrite.specs.Building.{slot_from, next_slot, slots_without, asks_more}
+use Rattle.av1_planwrite.specs.Building.{begun, plan_begun, admits_plane, admits_reference, with_reference, plan_with_reference, with_mark, admits_fields}
+use Rattle.av1_planwrite.specs.Building.{with_leaf, leaf_of, plan_with_leaf}
 use Rattle.av1_planwrite.specs.Given.{FitsKind, FitsTriple}
 use Rattle.av1_planwrite.specs.Text.{byte, header_text, plane_text, fields_text, leaf_text}
 use Rattle.av1_planwrite.proofs.AskedSteps.{header_asked, asked_next, counted, carries_planes, reference_asked, mark_asked, leaf_asked, nothing_asked}
@@ -38,7 +41,8 @@ record Goes (bytes : List ℕ) (next : Format PlanValue) : Type 0 where
   after : After plan values next
 
 -- what is spelled goes behind them
-goes_on : {A : Type 0} (bytes more : List ℕ) (next : Format PlanValue) (f : Format A) (g : A → Format PlanValue) (x : A) → Goes bytes next → next ≡ f >>= g → (s : IsSpelled f x) → text f s.values ≡ more → Goes (bytes ++ more) (g x)
+goes_on : {A : Type 0} (bytes more : List ℕ) (next : Format PlanValue) (f : Format A) (g : A → Format PlanValue) (x : A) → Goes bytes next → next ≡ f >>= g →
+    (s : IsSpelled f x) → text f s.values ≡ more → Goes (bytes ++ more) (g x)
 goes_on bytes more next f g x so_far e s t =
     let (a, b) = after_spelled f g x s.values s.spells in
     let from : After plan so_far.values (f >>= g) = subst (After plan so_far.values) e so_far.after in
@@ -52,7 +56,8 @@ goes_as : (bytes : List ℕ) (f g : Format PlanValue) → Goes bytes f → f ≡
 goes_as bytes f g so_far e = subst (Goes bytes) e so_far
 
 -- what is told is told so
-told : (b : Building) (p : PlanValue) → Goes b.bytes (asked_for b.header b.slot b.parts p.references p.leaves) → p.header ≡ b.header → length p.references ≡ b.slot → (b.slot < 8 → has_slot b.header b.slot ≡ true) → b.slot ≤ 8 → Tells b p
+told : (b : Building) (p : PlanValue) → Goes b.bytes (asked_for b.header b.slot b.parts p.references p.leaves) → p.header ≡ b.header →
+    length p.references ≡ b.slot → (b.slot < 8 → has_slot b.header b.slot ≡ true) → b.slot ≤ 8 → Tells b p
 told b p so_far header slots carries most = record {
   values = so_far.values;
   proper = after_proper plan (asked_for b.header b.slot b.parts p.references p.leaves) so_far.values so_far.after;
@@ -83,8 +88,11 @@ pub tells_begun : (h : Header) → IsReadFrame h → Tells (begun h) (plan_begun
 tells_begun h read =
     let s = header_spelled h read in
     let (a, b) = header_asked h s.values s.spells in
-    let first : Goes (header_text h) (asked_for h 0 (rows_of h 0 (down h)) [] []) = record { values = s.values; bytes_are = sym (b ∙ header_told.tells s.values h s.spells); after = a } in
-    let so_far = goes_as (header_text h) (asked_for h 0 (rows_of h 0 (down h)) [] []) (asked_for h (next_slot h 0) (rows_of h 0 (down h)) (slots_without h 0 8) []) first (asked_next h 0 (rows_of h 0 (down h)) [] [] (omega arith)) in
+    let first : Goes (header_text h) (asked_for h 0 (rows_of h 0 (down h)) [] []) =
+    record { values = s.values; bytes_are = sym (b ∙ header_told.tells s.values h s.spells); after = a } in
+    let so_far =
+    goes_as (header_text h) (asked_for h 0 (rows_of h 0 (down h)) [] [])
+    (asked_for h (next_slot h 0) (rows_of h 0 (down h)) (slots_without h 0 8) []) first (asked_next h 0 (rows_of h 0 (down h)) [] [] (omega arith)) in
     let count = counted h 0 8 in
     told (begun h) (plan_begun h) so_far refl (omega (arith, count)) (λ lt. carries_planes h 0 8 lt) (within h 0 8 (omega arith))
 
@@ -98,8 +106,10 @@ plane_is h plane samples e =
   where
     below : (xs : List ℕ) → list_all (λ x. nat_lt x (2 ^ h.depth)) xs ≡ true → All (λ x. x < 2 ^ h.depth) xs
     below [] e k d lt = absurd (omega (arith, lt))
-    below (x ∷ xs) e zero d lt = let (first, _) = and_parts (nat_lt x (2 ^ h.depth)) (list_all (λ x. nat_lt x (2 ^ h.depth)) xs) e in ltb-true x (2 ^ h.depth) first
-    below (x ∷ xs) e (suc k) d lt = let (_, later) = and_parts (nat_lt x (2 ^ h.depth)) (list_all (λ x. nat_lt x (2 ^ h.depth)) xs) e in below xs later k d (omega (arith, lt))
+    below (x ∷ xs) e zero d lt = let (first, _) = and_parts (nat_lt x (2 ^ h.depth)) (list_all (λ x. nat_lt x (2 ^ h.depth)) xs) e
+        in ltb-true x (2 ^ h.depth) first
+    below (x ∷ xs) e (suc k) d lt = let (_, later) = and_parts (nat_lt x (2 ^ h.depth)) (list_all (λ x. nat_lt x (2 ^ h.depth)) xs) e
+        in below xs later k d (omega (arith, lt))
 
 planes_spelled : (h : Header) (y u v : List ℕ) → IsReadFrame h → admits_reference h y u v ≡ true → IsSpelled (grammar.reference h) (y ∷ u ∷ v ∷ [])
 unfolding grammar.reference
@@ -124,7 +134,8 @@ slots_count h stored planes slot e =
     let second = length-append stored (Some planes ∷ []) in
     omega (arith, e, count, first, second)
 
-pub tells_reference : (b : Building) (p : PlanValue) (y u v : List ℕ) → Tells b p → IsReadFrame b.header → asks_reference b ≡ true → admits_reference b.header y u v ≡ true → Tells (with_reference b y u v) (plan_with_reference p y u v)
+pub tells_reference : (b : Building) (p : PlanValue) (y u v : List ℕ) → Tells b p → IsReadFrame b.header → asks_reference b ≡ true →
+    admits_reference b.header y u v ≡ true → Tells (with_reference b y u v) (plan_with_reference p y u v)
 tells_reference b p y u v t read asked admitted =
     let h = b.header in
     let lt = ltb-true b.slot 8 asked in
@@ -133,13 +144,16 @@ tells_reference b p y u v t read asked admitted =
     let given = (reference_told h).tells s.values three s.spells ∙ three_texts (plane_text h.depth y) (plane_text h.depth u) (plane_text h.depth v) in
     let more = plane_text h.depth y ++ plane_text h.depth u ++ plane_text h.depth v in
     let g : List (List ℕ) → Format PlanValue = λ planes. asked_for h (b.slot + 1) b.parts (p.references ++ Some planes ∷ []) p.leaves in
-    let first = goes_on b.bytes more (asked_for h b.slot b.parts p.references p.leaves) (grammar.reference h) g three (goes_of b p t) (reference_asked h b.slot b.parts p.references p.leaves lt (t.carries lt)) s given in
+    let first = goes_on b.bytes more (asked_for h b.slot b.parts p.references p.leaves) (grammar.reference h) g three (goes_of b p t)
+    (reference_asked h b.slot b.parts p.references p.leaves lt (t.carries lt)) s given in
     let stored = p.references ++ Some three ∷ [] in
     let rest = slots_without h (b.slot + 1) (8 - (b.slot + 1)) in
     let next = asked_next h (b.slot + 1) b.parts stored p.leaves (omega (arith, lt)) in
     let same : stored ++ rest ≡ (plan_with_reference p y u v).references =
     append_assoc p.references (Some three ∷ []) rest ∙ slots_same p.references three h p.header b.slot (length p.references) (sym t.header_is) (sym t.slots) in
-    let so_far = goes_as (b.bytes ++ more) (asked_for h (b.slot + 1) b.parts stored p.leaves) (asked_for h (next_slot h (b.slot + 1)) b.parts (plan_with_reference p y u v).references p.leaves) first
+    let so_far =
+    goes_as (b.bytes ++ more) (asked_for h (b.slot + 1) b.parts stored p.leaves)
+    (asked_for h (next_slot h (b.slot + 1)) b.parts (plan_with_reference p y u v).references p.leaves) first
     (next ∙ ap (λ (zs : List (Option (List (List ℕ)))). asked_for h (next_slot h (b.slot + 1)) b.parts zs p.leaves) same) in
     told (with_reference b y u v) (plan_with_reference p y u v) so_far t.header_is (ap length (sym same) ∙ slots_count h p.references three b.slot t.slots)
     (λ below. carries_planes h (b.slot + 1) (8 - (b.slot + 1)) (omega (arith, below, lt))) (within h (b.slot + 1) (8 - (b.slot + 1)) (omega (arith, lt)))
@@ -150,7 +164,8 @@ tells_reference b p y u v t read asked admitted =
 
 -- ---- marks
 
-mark_given : (h : Header) (level x y v : ℕ) → v < 256 → is_mark h level x y v ≡ true → (s : IsSpelled (mark h level x y) (cut_by v)) × (text (mark h level x y) s.values ≡ byte v)
+mark_given : (h : Header) (level x y v : ℕ) → v < 256 → is_mark h level x y v ≡ true →
+    (s : IsSpelled (mark h level x y) (cut_by v)) × (text (mark h level x y) s.values ≡ byte v)
 unfolding mark
 mark_given h level x y v small e = (record { values = v ∷ []; spells = (record { fits = small; admitted = e }, refl) }, append-nil (byte v))
 
@@ -169,7 +184,8 @@ slot_past b p t e = past b.slot t.most e
     past : (n : ℕ) → n ≤ 8 → nat_lt n 8 ≡ false → n ≡ 8
     past n le e = grind arith
 
-pub tells_mark : (b : Building) (p : PlanValue) (level x y v : ℕ) → Tells b p → asked_part b ≡ Some (Node level x y) → 0 < level → v < 256 → is_mark b.header level x y v ≡ true → Tells (with_mark b v) p
+pub tells_mark : (b : Building) (p : PlanValue) (level x y v : ℕ) → Tells b p → asked_part b ≡ Some (Node level x y) → 0 < level → v < 256 →
+    is_mark b.header level x y v ≡ true → Tells (with_mark b v) p
 tells_mark b p zero x y v t asked some small e = absurd (omega (arith, some))
 tells_mark b p (suc k) x y v t asked some small e =
     let h = b.header in
@@ -178,11 +194,14 @@ tells_mark b p (suc k) x y v t asked some small e =
     let others = later_parts b.parts in
     let g : PartitionType → Format PlanValue = λ cut. asked_for h 8 (cut_before h (suc k) x y cut others) p.references p.leaves in
     let asks : asked_for h b.slot b.parts p.references p.leaves ≡ (mark h (suc k) x y >>= g) =
-    ap (λ (n : ℕ). asked_for h n b.parts p.references p.leaves) slot ∙ ap (λ (ps : List Part). asked_for h 8 ps p.references p.leaves) (parts_are b.parts (Node (suc k) x y) first) ∙ mark_asked h k x y others p.references p.leaves in
+    ap (λ (n : ℕ). asked_for h n b.parts p.references p.leaves) slot
+    ∙ ap (λ (ps : List Part). asked_for h 8 ps p.references p.leaves) (parts_are b.parts (Node (suc k) x y) first)
+    ∙ mark_asked h k x y others p.references p.leaves in
     let (s, given) = mark_given h (suc k) x y v small e in
     let on = goes_on b.bytes (byte v) (asked_for h b.slot b.parts p.references p.leaves) (mark h (suc k) x y) g (cut_by v) (goes_of b p t) asks s given in
     let so_far = goes_as (b.bytes ++ byte v) (g (cut_by v)) (asked_for h b.slot (cut_first h b.parts v) p.references p.leaves) on
-    (ap (λ (ps : List Part). asked_for h 8 ps p.references p.leaves) (sym (cut_first_is h b.parts (suc k) x y v first)) ∙ ap (λ (n : ℕ). asked_for h n (cut_first h b.parts v) p.references p.leaves) (sym slot)) in
+    (ap (λ (ps : List Part). asked_for h 8 ps p.references p.leaves) (sym (cut_first_is h b.parts (suc k) x y v first))
+    ∙ ap (λ (n : ℕ). asked_for h n (cut_first h b.parts v) p.references p.leaves) (sym slot)) in
     told (with_mark b v) p so_far t.header_is t.slots t.carries t.most
 
 -- ---- leaves
@@ -191,7 +210,8 @@ leaf_text_is : (size : BlockSize) (x y : ℕ) (l : LeafFields) → leaf_text (le
 unfolding leaf_text
 leaf_text_is size x y l = refl
 
-pub tells_leaf : (b : Building) (p : PlanValue) (size : BlockSize) (x y : ℕ) (l : LeafFields) → Tells b p → asked_part b ≡ Some (Leaf size x y) → admits_fields (carries_chroma b.header x y size) l.kind l.uv_type (length l.y) (length l.u) (length l.v) ≡ true
+pub tells_leaf : (b : Building) (p : PlanValue) (size : BlockSize) (x y : ℕ) (l : LeafFields) → Tells b p → asked_part b ≡ Some (Leaf size x y) →
+    admits_fields (carries_chroma b.header x y size) l.kind l.uv_type (length l.y) (length l.u) (length l.v) ≡ true
     → FitsFields l.kind l.y l.u l.v → Tells (with_leaf b l) (plan_with_leaf p (asked_part b) l)
 tells_leaf b p size x y l t asked admitted fits =
     let h = b.header in
@@ -202,15 +222,25 @@ tells_leaf b p size x y l t asked admitted fits =
     let more = fields_text l.kind l.tx_size l.tx_type l.uv_type l.y l.u l.v in
     let g : LeafValue → Format PlanValue = λ l. asked_for h 8 others p.references (p.leaves ++ l ∷ []) in
     let asks : asked_for h b.slot b.parts p.references p.leaves ≡ (grammar.leaf h size x y >>= g) =
-    ap (λ (n : ℕ). asked_for h n b.parts p.references p.leaves) slot ∙ ap (λ (ps : List Part). asked_for h 8 ps p.references p.leaves) (parts_are b.parts (Leaf size x y) first) ∙ leaf_asked h size x y others p.references p.leaves in
+    ap (λ (n : ℕ). asked_for h n b.parts p.references p.leaves) slot
+    ∙ ap (λ (ps : List Part). asked_for h 8 ps p.references p.leaves) (parts_are b.parts (Leaf size x y) first)
+    ∙ leaf_asked h size x y others p.references p.leaves in
     let s = given_leaf h size x y l.kind l.tx_size l.tx_type l.uv_type l.y l.u l.v admitted fits in
-    let on = goes_on b.bytes more (asked_for h b.slot b.parts p.references p.leaves) (grammar.leaf h size x y) g value (goes_of b p t) asks s ((leaf_told h size x y).tells s.values value s.spells ∙ leaf_text_is size x y l) in
-    let so_far = goes_as (b.bytes ++ more) (g value) (asked_for h b.slot others p.references (p.leaves ++ value ∷ [])) on (ap (λ (n : ℕ). asked_for h n others p.references (p.leaves ++ value ∷ [])) (sym slot)) in
-    subst (λ (o : Option Part). Tells (with_leaf b l) (plan_with_leaf p o l)) (sym asked) (told (with_leaf b l) (plan_with_leaf p (Some (Leaf size x y)) l) so_far t.header_is t.slots t.carries t.most)
+    let on =
+    goes_on b.bytes more (asked_for h b.slot b.parts p.references p.leaves)
+    (grammar.leaf h size x y) g value (goes_of b p t) asks s ((leaf_told h size x y).tells s.values value s.spells ∙ leaf_text_is size x y l) in
+    let so_far =
+    goes_as (b.bytes ++ more) (g value)
+    (asked_for h b.slot others p.references (p.leaves ++ value ∷ [])) on (ap (λ (n : ℕ). asked_for h n others p.references (p.leaves ++ value ∷ []))
+    (sym slot)) in
+    subst (λ (o : Option Part). Tells (with_leaf b l) (plan_with_leaf p o l)) (sym asked)
+    (told (with_leaf b l) (plan_with_leaf p (Some (Leaf size x y)) l) so_far t.header_is t.slots t.carries t.most)
 
 -- whichever leaf is asked for
-pub leaf_tells : (b : Building) (p : PlanValue) (l : LeafFields) → Tells b p → asks_leaf (asked_part b) ≡ true → admits_leaf b.header (asked_part b) l ≡ true → FitsKind l.kind
-    → All FitsTriple l.y → (is_some l.uv_type ≡ true → All FitsTriple l.u) → (is_some l.uv_type ≡ true → All FitsTriple l.v) → Tells (with_leaf b l) (plan_with_leaf p (asked_part b) l)
+pub leaf_tells : (b : Building) (p : PlanValue) (l : LeafFields) → Tells b p → asks_leaf (asked_part b) ≡ true → admits_leaf b.header (asked_part b) l ≡ true →
+    FitsKind l.kind
+    → All FitsTriple l.y → (is_some l.uv_type ≡ true → All FitsTriple l.u) → (is_some l.uv_type ≡ true → All FitsTriple l.v) →
+    Tells (with_leaf b l) (plan_with_leaf p (asked_part b) l)
 leaf_tells b p l t asked admitted kind_fits y_fit u_fit v_fit = by (asked_part b) refl asked admitted
   where
     by : (o : Option Part) → asked_part b ≡ o → asks_leaf o ≡ true → admits_leaf b.header o l ≡ true → Tells (with_leaf b l) (plan_with_leaf p o l)
@@ -235,6 +265,8 @@ tells_end b p t e =
     let (none, last) = neither (asks_reference b) (is_some (first_part b.parts)) e in
     let slot = slot_past b p t none in
     let whole : asked_for b.header b.slot b.parts p.references p.leaves ≡ done p =
-    ap (λ (n : ℕ). asked_for b.header n b.parts p.references p.leaves) slot ∙ ap (λ (ps : List Part). asked_for b.header 8 ps p.references p.leaves) (no_parts b.parts last)
-    ∙ nothing_asked b.header p.references p.leaves ∙ ap (λ (h : Header). done (record { header = h; references = p.references; leaves = p.leaves })) (sym t.header_is) in
+    ap (λ (n : ℕ). asked_for b.header n b.parts p.references p.leaves) slot
+    ∙ ap (λ (ps : List Part). asked_for b.header 8 ps p.references p.leaves) (no_parts b.parts last)
+    ∙ nothing_asked b.header p.references p.leaves
+    ∙ ap (λ (h : Header). done (record { header = h; references = p.references; leaves = p.leaves })) (sym t.header_is) in
     (t.values, after_complete plan p t.values (subst (After plan t.values) whole t.asks), t.bytes_are)

@@ -36,7 +36,8 @@ pub record Tells {A : Type 0} (f : Format A) (view : A → List ℕ) : Type 0 wh
   pub tells : (vs : List ℕ) (x : A) → Spells f vs x → text f vs ≡ view x
 
 -- items one after the other
-pub turns_tell : {A : Type 0} (f : ℕ → Format A) (view : A → List ℕ) (i n : ℕ) → ((j : ℕ) → Tells (f j) view) → Tells (in_turn (λ j. lone (f j)) i n) (flat_map view)
+pub turns_tell : {A : Type 0} (f : ℕ → Format A) (view : A → List ℕ) (i n : ℕ) → ((j : ℕ) → Tells (f j) view) →
+    Tells (in_turn (λ j. lone (f j)) i n) (flat_map view)
 unfolding in_turn
 turns_tell f view i zero each = record { tells = λ vs xs s. let e = ended [] xs vs s in e.no_bytes ∙ ap (flat_map view) e.value }
 turns_tell {A} f view i (suc n) each = record {
@@ -48,7 +49,8 @@ turns_tell {A} f view i (suc n) each = record {
       let d = apart rest (λ ys. done (a.between ++ ys)) zs a.behind a.behind_spells in
       let e = ended (a.between ++ d.between) zs d.behind d.behind_spells in
       let first : text (lone (f i)) a.front ≡ view b.between ++ [] = b.bytes ∙ both ((each i).tells b.front b.between b.front_spells) c.no_bytes in
-      let later : text (rest >>= λ ys. done (a.between ++ ys)) a.behind ≡ flat_map view d.between ++ [] = d.bytes ∙ both ((turns_tell f view (i + 1) n each).tells d.front d.between d.front_spells) e.no_bytes in
+      let later : text (rest >>= λ ys. done (a.between ++ ys)) a.behind ≡ flat_map view d.between ++ [] = d.bytes
+      ∙ both ((turns_tell f view (i + 1) n each).tells d.front d.between d.front_spells) e.no_bytes in
       let items : (b.between ∷ []) ++ d.between ≡ zs = ap (λ (xs : List A). xs ++ d.between) c.value ∙ e.value in
       a.bytes ∙ both (first ∙ append-nil _) (later ∙ append-nil _) ∙ ap (flat_map view) items;
 }

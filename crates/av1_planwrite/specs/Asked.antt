@@ -3,7 +3,9 @@ use Rattle.std.specs.Prelude.{◌≡◌, ℕ, zero, suc, ◌+◌, ◌-◌, ◌*�
 use Rattle.av1_blocks.specs.declared.partition.BlockSize.{BlockSize}
 use Rattle.av1_blocks.specs.declared.partition.BlockSize.TheVariants.{BLOCK_4X4}
 use Rattle.av1_blocks.specs.declared.partition.PartitionType.{PartitionType}
-use Rattle.av1_blocks.specs.declared.partition.PartitionType.TheVariants.{PARTITION_NONE, PARTITION_HORZ, PARTITION_VERT, PARTITION_HORZ_4, PARTITION_VERT_4}
+use Rattle.av1_blocks.specs.declared.partition.PartitionType.TheVariants.{PARTITION_NONE, PARTITION_HORZ}
+use Rattle.av1_blocks.specs.declared.partition.PartitionType.TheVariants.{PARTITION_VERT, PARTITION_HORZ_4}
+use Rattle.av1_blocks.specs.declared.partition.PartitionType.TheVariants.{PARTITION_VERT_4}
 use Rattle.av1_plan.specs.declared.header.Header.{Header}
 use Rattle.av1_plan.specs.Format.{Format, done, asks, IsAdmitted, ◌>>=◌, lone, nothing, ◌++>◌, in_turn}
 use Rattle.av1_plan.specs.Geometry.{is_inside}
@@ -50,14 +52,21 @@ cut_before h level x y PARTITION_VERT others =
 cut_before h level x y PARTITION_HORZ_4 others =
     let wide = part_size level PARTITION_HORZ_4 in
     let side = quarter_side level in
-    leaf_before h wide x y (leaf_before h wide x (y + side) (leaf_before h wide x (y + 2 * side) (leaf_before h wide x (y + 3 * side) others)))
+    leaf_before h wide x y
+    (leaf_before h wide x (y + side)
+    (leaf_before h wide x (y + 2 * side) (leaf_before h wide x (y + 3 * side) others)))
 cut_before h level x y PARTITION_VERT_4 others =
     let tall = part_size level PARTITION_VERT_4 in
     let side = quarter_side level in
-    leaf_before h tall x y (leaf_before h tall (x + side) y (leaf_before h tall (x + 2 * side) y (leaf_before h tall (x + 3 * side) y others)))
+    leaf_before h tall x y
+    (leaf_before h tall (x + side) y
+    (leaf_before h tall (x + 2 * side) y (leaf_before h tall (x + 3 * side) y others)))
 cut_before h level x y _ others =
     let half = half_side level in
-    block_before h (level - 1) x y (block_before h (level - 1) (x + half) y (block_before h (level - 1) x (y + half) (block_before h (level - 1) (x + half) (y + half) others)))
+    block_before h (level - 1) x y
+    (block_before h (level - 1)
+    (x + half) y (block_before h (level - 1) x (y + half)
+    (block_before h (level - 1) (x + half) (y + half) others)))
 
 -- ---- superblocks
 
@@ -84,15 +93,18 @@ superblocks_from h row col = row_before h row col (across h - col) (rows_of h (r
 
 -- ---- the whole
 
--- What a plan asks for of which a header, these slots and these leaves are told: the slots from this one on, and then the fields of these parts. It
--- then is the plan whose slots and leaves are those that were told, and behind them those that were asked for.
-unfoldable pub asked_for : Header → (slot : ℕ) → List Part → List (Option (List (List ℕ))) → List LeafValue → Format PlanValue
+-- What a plan asks for of which a header, these slots and these leaves are told: the slots from this one on, and then
+-- the fields of these parts. It then is the plan whose slots and leaves are those that were told, and behind them those
+-- that were asked for.
+unfoldable pub asked_for : Header → (slot : ℕ) → List Part → List (Option (List (List ℕ))) → List LeafValue →
+    Format PlanValue
 asked_for h slot parts stored leaves = do
   more ← in_turn (λ i. lone (slot_planes h i)) slot (8 - slot)
   later ← parts_format h parts
   done (record { header = h; references = stored ++ more; leaves = leaves ++ later })
 
--- each value is of the kind that is asked for after the values before it, and admitted, and after all of them g is asked for
+-- each value is of the kind that is asked for after the values before it, and admitted, and after all of them g is
+-- asked for
 abbrev pub After : {A : Type 0} → Format A → List ℕ → Format A → Type 0
 After f [] g = f ≡ g
 After (done x) (v ∷ vs) g = ⊥

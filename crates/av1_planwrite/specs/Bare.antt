@@ -12,7 +12,16 @@ none_of triples = []
 
 -- the same leaf without coefficients
 abbrev pub bare_leaf : LeafValue → LeafValue
-bare_leaf l = record { x = l.x; y = l.y; size = l.size; kind = l.kind; tx_size = l.tx_size; tx_type = l.tx_type; uv_type = l.uv_type; triples = map none_of l.triples }
+bare_leaf l = record {
+  x = l.x;
+  y = l.y;
+  size = l.size;
+  kind = l.kind;
+  tx_size = l.tx_size;
+  tx_type = l.tx_type;
+  uv_type = l.uv_type;
+  triples = map none_of l.triples;
+}
 
 -- the same plan without coefficients: its predictions alone
 abbrev pub bare : PlanValue → PlanValue

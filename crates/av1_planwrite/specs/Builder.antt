@@ -7,7 +7,13 @@ use Rattle.av1_planwrite.specs.Building.{Building}
 
 -- a plan that has come so far, of which these are the bytes
 abbrev pub built : Progress → List ℕ → Building
-built p bytes = record { header = p.header; slot = p.slot; parts = p.parts ++ superblocks_from p.header p.left.row p.left.col; bytes = bytes }
+built p bytes =
+    record {
+      header = p.header;
+      slot = p.slot;
+      parts = p.parts ++ superblocks_from p.header p.left.row p.left.col;
+      bytes = bytes;
+    }
 
 -- the plan that is built
 abbrev pub building : PlanBuilder → Building

@@ -1,5 +1,7 @@
 -- A plan in the making, call by call: what is asked for next, which arguments are admitted, and what each call appends.
-use Rattle.std.specs.Prelude.{◌≡◌, ◌≢◌, ℕ, zero, suc, ◌+◌, ◌-◌, ◌^◌, ◌<◌, ◌≤◌, ◌==◌, Bool, true, false, ◌&&◌, ◌||◌, nat_lt, nat_le, if◌then◌else◌, List, [], ◌∷◌, ◌++◌, length, Option, Some, None, Result, Ok, Err, is_some, is_none}
+use Rattle.std.specs.Prelude.{◌≡◌, ◌≢◌, ℕ, zero, suc, ◌+◌, ◌-◌, ◌^◌, ◌<◌, ◌≤◌, ◌==◌, Bool, true, false, ◌&&◌, ◌||◌}
+use Rattle.std.specs.Prelude.{nat_lt, nat_le, if◌then◌else◌, List, [], ◌∷◌, ◌++◌, length, Option, Some, None, Result}
+use Rattle.std.specs.Prelude.{Ok, Err, is_some, is_none}
 use Rattle.std.specs.Int.{is_in_range}
 use Rattle.std.specs.List.{list_all}
 use Rattle.av1_blocks.specs.declared.partition.BlockSize.{BlockSize}
@@ -29,8 +31,8 @@ use Rattle.av1_planwrite.specs.Text.{byte, header_text, plane_text, fields_text}
 
 -- ---- plans in the making
 
--- A plan in the making: its header, the slot whose planes are asked for next (8 where none are), the parts that are still asked for, in their
--- order, and the bytes of all fields so far.
+-- A plan in the making: its header, the slot whose planes are asked for next (8 where none are), the parts that are
+-- still asked for, in their order, and the bytes of all fields so far.
 pub record Building : Type 0 where
   pub header : Header
   pub slot : ℕ
@@ -66,8 +68,8 @@ asked_part b = if asks_reference b then None else first_part b.parts
 
 -- ---- answers
 
--- The first reason that holds for which a call is refused: no field of its kind is asked for; an argument isn't admitted; or these, the bytes
--- behind it, would be more than 2^26.
+-- The first reason that holds for which a call is refused: no field of its kind is asked for; an argument isn't
+-- admitted; or these, the bytes behind it, would be more than 2^26.
 abbrev pub refusal : (asked admitted : Bool) → List ℕ → Option BuildError
 refusal false admitted bytes = Some NotNow
 refusal true false bytes = Some NotAdmitted
@@ -79,7 +81,8 @@ argument_refusal false admitted = Some NotNow
 argument_refusal true false = Some NotAdmitted
 argument_refusal true true = None
 
--- a call answers so, where this is the reason to refuse it: want of memory may stand in place of any answer but `NotNow`
+-- a call answers so, where this is the reason to refuse it: running out of memory may stand in place of any answer but
+-- `NotNow`
 abbrev pub Answers : {X : Type 0} → Result X BuildError → Option BuildError → Type 0
 Answers (Ok x) reason = reason ≡ None
 Answers (Err NotNow) reason = reason ≡ Some NotNow
@@ -87,7 +90,7 @@ Answers (Err NotAdmitted) reason = reason ≡ Some NotAdmitted
 Answers (Err TooLong) reason = reason ≡ Some TooLong
 Answers (Err Memory) reason = reason ≢ Some NotNow
 
--- what is answered once so many bytes stand, the last of them just written: want of memory, or too many
+-- what is answered once so many bytes stand, the last of them just written: out of memory, or too many
 abbrev pub settled : {X : Type 0} → Result X OutOfMemory → ℕ → Result X BuildError
 settled (Ok x) count = if nat_le count (2 ^ 26) then Ok x else Err TooLong
 settled (Err e) count = Err Memory
@@ -97,7 +100,8 @@ settled (Err e) count = Err Memory
 -- whether each value of a header is admitted
 unfoldable pub admits_header : Header → Bool
 admits_header h =
-    is_in_range 1 2 h.version && is_side h.width && is_side h.height && is_depth h.depth && nat_le h.sampling 2 && nat_le (filter_number h.filter) 3
+    is_in_range 1 2 h.version && is_side h.width && is_side h.height && is_depth h.depth && nat_le h.sampling 2
+    && nat_le (filter_number h.filter) 3
     && list_all (λ slot. nat_le slot 7) h.slots
 
 abbrev pub header_refusal : Header → Option BuildError
@@ -111,7 +115,8 @@ begun h = record { header = h; slot = next_slot h 0; parts = rows_of h 0 (down h
 
 -- whether these may be the samples of a plane: as many as it has, each of the frame's depth
 unfoldable pub admits_plane : Header → ℕ → List ℕ → Bool
-admits_plane h plane samples = length samples == plane_len h plane && list_all (λ sample. nat_lt sample (2 ^ h.depth)) samples
+admits_plane h plane samples =
+    length samples == plane_len h plane && list_all (λ sample. nat_lt sample (2 ^ h.depth)) samples
 
 abbrev pub admits_reference : Header → List ℕ → List ℕ → List ℕ → Bool
 admits_reference h y u v = admits_plane h 0 y && admits_plane h 1 u && admits_plane h 2 v
@@ -147,10 +152,16 @@ cut_first h parts mark = parts
 
 -- the same with the mark of a node
 abbrev pub with_mark : Building → ℕ → Building
-with_mark b mark = record { header = b.header; slot = b.slot; parts = cut_first b.header b.parts mark; bytes = b.bytes ++ byte mark }
+with_mark b mark = record {
+  header = b.header;
+  slot = b.slot;
+  parts = cut_first b.header b.parts mark;
+  bytes = b.bytes ++ byte mark;
+}
 
 abbrev pub mark_refusal : Building → ℕ → Option BuildError
-mark_refusal b mark = refusal (asks_mark (asked_part b)) (admits_mark b.header (asked_part b) mark) (with_mark b mark).bytes
+mark_refusal b mark =
+    refusal (asks_mark (asked_part b)) (admits_mark b.header (asked_part b) mark) (with_mark b mark).bytes
 
 -- the same behind its first part
 abbrev pub passed : Building → Building
@@ -189,9 +200,11 @@ admits_chroma _ = true
 
 -- whether a leaf may be predicted so, by whether it carries chroma
 unfoldable pub admits_kind : Bool → LeafKind → Bool
-admits_kind carried (Intra mode step chroma) = nat_le (mode_number mode) 13 && is_given carried chroma && admits_chroma chroma
+admits_kind carried (Intra mode step chroma) = nat_le (mode_number mode) 13 && is_given carried chroma
+    && admits_chroma chroma
 admits_kind carried (Single mode reference mv) = is_in_range 14 19 (mode_number mode) && is_named reference
-admits_kind carried (Compound mode references mvs) = is_in_range 20 33 (mode_number mode) && list_all is_named references
+admits_kind carried (Compound mode references mvs) =
+    is_in_range 20 33 (mode_number mode) && list_all is_named references
 
 -- whether a leaf may have so many triples in each plane: none in U and V where chroma isn't carried
 unfoldable pub admits_counts : Bool → (y u v : ℕ) → Bool
@@ -199,11 +212,13 @@ admits_counts carried y u v = (carried || (u == 0 && v == 0)) && nat_le y 65535 
 
 -- whether these may be the fields of a leaf with so many triples, by whether it carries chroma
 unfoldable pub admits_fields : Bool → LeafKind → Option TxType → (y u v : ℕ) → Bool
-admits_fields carried kind uv_type y u v = admits_kind carried kind && is_given carried uv_type && admits_counts carried y u v
+admits_fields carried kind uv_type y u v = admits_kind carried kind && is_given carried uv_type
+    && admits_counts carried y u v
 
 -- whether they may be those of the leaf that is asked for
 abbrev pub admits_leaf_fields : Header → Option Part → LeafKind → Option TxType → (y u v : ℕ) → Bool
-admits_leaf_fields h (Some (Leaf size x y)) kind uv_type ys us vs = admits_fields (carries_chroma h x y size) kind uv_type ys us vs
+admits_leaf_fields h (Some (Leaf size x y)) kind uv_type ys us vs =
+    admits_fields (carries_chroma h x y size) kind uv_type ys us vs
 admits_leaf_fields h _ kind uv_type ys us vs = false
 
 abbrev pub admits_leaf : Header → Option Part → LeafFields → Bool
@@ -242,19 +257,34 @@ plan_begun h = record { header = h; references = slots_without h 0 8; leaves = [
 abbrev pub plan_with_reference : PlanValue → List ℕ → List ℕ → List ℕ → PlanValue
 plan_with_reference p y u v =
     let slot = length p.references + 1 in
-    record { header = p.header; references = p.references ++ (Some (y ∷ u ∷ v ∷ []) ∷ slots_without p.header slot (8 - slot)); leaves = p.leaves }
+    record {
+      header = p.header;
+      references = p.references ++ (Some (y ∷ u ∷ v ∷ []) ∷ slots_without p.header slot (8 - slot));
+      leaves = p.leaves;
+    }
 
 -- a leaf of this size at this place
 abbrev pub leaf_of : BlockSize → (x y : ℕ) → LeafFields → LeafValue
-leaf_of size x y l = record { x = x; y = y; size = size; kind = l.kind; tx_size = l.tx_size; tx_type = l.tx_type; uv_type = l.uv_type; triples = l.y ∷ l.u ∷ l.v ∷ [] }
+leaf_of size x y l = record {
+  x = x;
+  y = y;
+  size = size;
+  kind = l.kind;
+  tx_size = l.tx_size;
+  tx_type = l.tx_type;
+  uv_type = l.uv_type;
+  triples = l.y ∷ l.u ∷ l.v ∷ [];
+}
 
 -- the same with this leaf behind the others, in the place that is asked for
 abbrev pub plan_with_leaf : PlanValue → Option Part → LeafFields → PlanValue
-plan_with_leaf p (Some (Leaf size x y)) l = record { header = p.header; references = p.references; leaves = p.leaves ++ leaf_of size x y l ∷ [] }
+plan_with_leaf p (Some (Leaf size x y)) l =
+    record { header = p.header; references = p.references; leaves = p.leaves ++ leaf_of size x y l ∷ [] }
 plan_with_leaf p _ l = p
 
--- The bytes are the fields of a proper list of the plan grammar, which tells of a plan what p has: its header, its slots up to the one that is asked
--- for, which carries planes, and some leaves. Behind that list the grammar asks for the slots that are left, and then for the parts that are left.
+-- The bytes are the fields of a proper list of the plan grammar, which tells of a plan what p has: its header, its
+-- slots up to the one that is asked for, which carries planes, and some leaves. Behind that list the grammar asks for
+-- the slots that are left, and then for the parts that are left.
 pub record Tells (b : Building) (p : PlanValue) : Type 0 where
   pub values : List ℕ
   pub proper : IsProper plan values

@@ -9,7 +9,8 @@ on_top parts count = reverse (take count parts)
 
 -- a part with so many below it: its own parts have room in its place, of which a node leaves three on each level below
 unfoldable pub has_room : Part → ℕ → Bool
-has_room (Node level x y) below = nat_le 1 level && nat_le level 4 && nat_lt x 2048 && nat_lt y 2048 && nat_lt (3 * level + below) 13
+has_room (Node level x y) below = nat_le 1 level && nat_le level 4 && nat_lt x 2048 && nat_lt y 2048
+    && nat_lt (3 * level + below) 13
 has_room (Leaf size x y) below = nat_lt below 13
 
 -- the same of each part on the stack

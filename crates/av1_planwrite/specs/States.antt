@@ -11,9 +11,11 @@ use Rattle.av1_planwrite.specs.Stacks.{on_top, have_room}
 abbrev pub are_stacked : Stacked → Bool
 are_stacked s = nat_le s.count 13 && have_room (on_top s.parts s.count)
 
--- whether a superblock of the frame stands at this row and column, or they are the place behind the last one: past the last column, in the last row
+-- whether a superblock of the frame stands at this row and column, or they are the place behind the last one: past the
+-- last column, in the last row
 unfoldable pub is_next_superblock : Header → (row col : ℕ) → Bool
-is_next_superblock h row col = nat_lt row (down h) && (nat_lt col (across h) || (col == across h && nat_le (down h) (row + 1)))
+is_next_superblock h row col =
+    nat_lt row (down h) && (nat_lt col (across h) || (col == across h && nat_le (down h) (row + 1)))
 
 -- whether a plan of this header may have come so far
 unfoldable pub is_state : Header → State → Bool
@@ -21,4 +23,10 @@ is_state h s = admits_header h && nat_le s.slot 8 && is_next_superblock h s.left
 
 -- a plan of this header that has come so far, without its bytes
 abbrev pub stopped : Header → State → Building
-stopped h s = record { header = h; slot = s.slot; parts = on_top s.parts.parts s.parts.count ++ superblocks_from h s.left.row s.left.col; bytes = [] }
+stopped h s =
+    record {
+      header = h;
+      slot = s.slot;
+      parts = on_top s.parts.parts s.parts.count ++ superblocks_from h s.left.row s.left.col;
+      bytes = [];
+    }

@@ -1,11 +1,14 @@
 -- The text of a plan: the plan grammar turned round. Each part gives the bytes of its fields, in their order.
-use Rattle.std.specs.Prelude.{ℕ, zero, suc, ◌+◌, ◌*◌, ◌/◌, ◌^◌, ◌==◌, Bool, true, false, is_some, if◌then◌else◌, List, [], ◌∷◌, ◌++◌, codes, length, slice_index_or, Option, Some, None}
+use Rattle.std.specs.Prelude.{ℕ, zero, suc, ◌+◌, ◌*◌, ◌/◌, ◌^◌, ◌==◌, Bool, true, false, is_some, if◌then◌else◌, List}
+use Rattle.std.specs.Prelude.{[], ◌∷◌, ◌++◌, codes, length, slice_index_or, Option, Some, None}
 use Rattle.std.specs.List.{flat_map}
 use Rattle.std.specs.Int.{w8, w16, w32, to_le_bytes, cast_unsigned}
 use Rattle.av1_blocks.specs.declared.mc.MotionVector.{MotionVector}
 use Rattle.av1_blocks.specs.declared.partition.BlockSize.{BlockSize}
 use Rattle.av1_blocks.specs.declared.partition.PartitionType.{PartitionType}
-use Rattle.av1_blocks.specs.declared.partition.PartitionType.TheVariants.{PARTITION_NONE, PARTITION_HORZ, PARTITION_VERT, PARTITION_SPLIT, PARTITION_HORZ_4, PARTITION_VERT_4}
+use Rattle.av1_blocks.specs.declared.partition.PartitionType.TheVariants.{PARTITION_NONE, PARTITION_HORZ}
+use Rattle.av1_blocks.specs.declared.partition.PartitionType.TheVariants.{PARTITION_VERT, PARTITION_SPLIT}
+use Rattle.av1_blocks.specs.declared.partition.PartitionType.TheVariants.{PARTITION_HORZ_4, PARTITION_VERT_4}
 use Rattle.av1_blocks.specs.declared.partition.RefType.{RefType}
 use Rattle.av1_blocks.specs.Blocks.{block_width, block_height}
 use Rattle.av1_blocks.specs.Filters.{filter_number}
@@ -45,7 +48,8 @@ letters version = if version == 2 then codes "RPL2" else codes "RPL1"
 -- the frame, and what holds for all leaves
 unfoldable pub header_text : Header → List ℕ
 header_text h =
-    letters h.version ++ pair h.width ++ pair h.height ++ byte h.depth ++ byte h.sampling ++ byte (filter_number h.filter)
+    letters h.version ++ pair h.width ++ pair h.height ++ byte h.depth ++ byte h.sampling
+    ++ byte (filter_number h.filter)
     ++ byte (if h.edge_filter then 1 else 0) ++ h.slots ++ byte h.mask
 
 -- a sample: one byte at depth 8, else two
@@ -69,7 +73,8 @@ references_text depth slots = flat_map (slot_text depth) slots
 
 -- a reference and its vector
 unfoldable pub motion_text : RefType → MotionVector → List ℕ
-motion_text reference mv = byte (reference_number reference) ++ pair (cast_unsigned w16 mv.row) ++ pair (cast_unsigned w16 mv.col)
+motion_text reference mv = byte (reference_number reference) ++ pair (cast_unsigned w16 mv.row)
+    ++ pair (cast_unsigned w16 mv.col)
 
 -- references, each with its vector
 unfoldable pub motions_text : List RefType → List MotionVector → List ℕ
@@ -109,20 +114,24 @@ chroma_triples_text false u v = []
 
 -- what a leaf has before its coefficients
 abbrev pub leading_text : LeafKind → TxSize → TxType → Option TxType → List ℕ
-leading_text kind tx_size tx_type uv_type = kind_text kind ++ byte (tx_number tx_size) ++ byte (tx_type_number tx_type) ++ uv_type_text uv_type
+leading_text kind tx_size tx_type uv_type = kind_text kind ++ byte (tx_number tx_size) ++ byte (tx_type_number tx_type)
+    ++ uv_type_text uv_type
 
 -- a leaf, of which these are the coefficients of Y, U and V
-unfoldable pub fields_text : LeafKind → TxSize → TxType → Option TxType → List Triple → List Triple → List Triple → List ℕ
-fields_text kind tx_size tx_type uv_type y u v = leading_text kind tx_size tx_type uv_type ++ triples_text y ++ chroma_triples_text (is_some uv_type) u v
+unfoldable pub fields_text : LeafKind → TxSize → TxType → Option TxType → List Triple → List Triple → List Triple →
+    List ℕ
+fields_text kind tx_size tx_type uv_type y u v = leading_text kind tx_size tx_type uv_type ++ triples_text y
+    ++ chroma_triples_text (is_some uv_type) u v
 
 -- a leaf
 unfoldable pub leaf_text : LeafValue → List ℕ
-leaf_text l = fields_text l.kind l.tx_size l.tx_type l.uv_type (slice_index_or l.triples 0 []) (slice_index_or l.triples 1 []) (slice_index_or l.triples 2 [])
+leaf_text l = fields_text l.kind l.tx_size l.tx_type l.uv_type (slice_index_or l.triples 0 [])
+    (slice_index_or l.triples 1 []) (slice_index_or l.triples 2 [])
 
 -- ---- nodes
 
--- How a node of this side is cut whose first leaf has these sides: where a side of the leaf is the node's, as the leaf's sides say, else into
--- four nodes.
+-- How a node of this side is cut whose first leaf has these sides: where a side of the leaf is the node's, as the
+-- leaf's sides say, else into four nodes.
 unfoldable pub cut_by_sides : (side width height : ℕ) → PartitionType
 cut_by_sides side width height =
     if width == side then
@@ -166,17 +175,23 @@ parts_written h level node x y PARTITION_NONE d = part_written h x y d
 parts_written h level node x y PARTITION_HORZ d = part_written h x (y + half_side level) (part_written h x y d)
 parts_written h level node x y PARTITION_VERT d = part_written h (x + half_side level) y (part_written h x y d)
 parts_written h level node x y PARTITION_HORZ_4 d =
-    part_written h x (y + 3 * quarter_side level) (part_written h x (y + 2 * quarter_side level) (part_written h x (y + quarter_side level) (part_written h x y d)))
+    part_written h x (y + 3 * quarter_side level)
+    (part_written h x (y + 2 * quarter_side level)
+    (part_written h x (y + quarter_side level) (part_written h x y d)))
 parts_written h level node x y PARTITION_VERT_4 d =
-    part_written h (x + 3 * quarter_side level) y (part_written h (x + 2 * quarter_side level) y (part_written h (x + quarter_side level) y (part_written h x y d)))
+    part_written h (x + 3 * quarter_side level) y
+    (part_written h (x + 2 * quarter_side level) y
+    (part_written h (x + quarter_side level) y (part_written h x y d)))
 parts_written h level node x y _ d =
-    node (x + half_side level) (y + half_side level) (node x (y + half_side level) (node (x + half_side level) y (node x y d)))
+    node (x + half_side level) (y + half_side level)
+    (node x (y + half_side level) (node (x + half_side level) y (node x y d)))
 
 -- a part of side 4 * 2 ^ level: a 4x4 leaf at level 0, else a node, its mark first
 unfoldable pub block_written : Header → ℕ → ℕ → ℕ → Draft → Draft
 block_written h zero x y d = part_written h x y d
 block_written h (suc level) x y d =
-    if is_inside h x y then (let cut = next_cut (suc level) d.0 in parts_written h (suc level) (block_written h level) x y cut (d.0, d.1 ++ byte (mark_of cut)))
+    if is_inside h x y then (let cut = next_cut (suc level) d.0
+    in parts_written h (suc level) (block_written h level) x y cut (d.0, d.1 ++ byte (mark_of cut)))
     else d
 
 -- f i, then f (i + 1) and so on, n of them

@@ -3,7 +3,8 @@
 ghost use Rattle.std.specs.Prelude.{◌≡◌, ◌<◌, ◌≤◌, ◌^◌, true, nat_le, length};
 ghost use Rattle.std.specs.List.{list_all};
 ghost use Rattle.av1_plan.specs.Grammar.{is_side, is_depth};
-ghost use Rattle.av1_planwrite.specs.Building.{admits_header, admits_plane, admits_reference, is_named, admits_chroma, admits_kind, admits_counts, admits_fields};
+ghost use Rattle.av1_planwrite.specs.Building.{admits_header, admits_plane, admits_reference, is_named, admits_chroma, admits_kind, admits_counts};
+ghost use Rattle.av1_planwrite.specs.Building.{admits_fields};
 ghost use Rattle.av1_planwrite.specs.Given.{FitsChroma, FitsKind};
 ghost use Rattle.av1_planwrite.specs.Samples.{greatest};
 

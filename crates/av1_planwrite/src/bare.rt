@@ -11,13 +11,13 @@ use av1_recon::{ReconError, Sink, Source, read_plan};
 use av1_streams::write_bytes;
 use std::alloc::Global;
 
-/// Reads a plan from the source to its end, and appends the text of the same plan without its coefficients to the sink. It shows an encoder
-/// what its predictions alone come to.
+/// Reads a plan from the source to its end, and appends the text of the same plan without its coefficients to the sink.
+/// It shows an encoder what its predictions alone come to.
 ///
 /// # Errors
 ///
-/// As for [`av1_recon::reconstruct_plan`]: `ReadFault` and `TooLong` while it reads, then `Malformed`, then `Invalid`, then
-/// `WriteFault`. `Memory` may stand in place of any of them, before the first written byte.
+/// As for [`av1_recon::reconstruct_plan`]: `ReadFault` and `TooLong` while it reads, then `Malformed`, then `Invalid`,
+/// then `WriteFault`. `Memory` may stand in place of any of them, before the first written byte.
 pub fn bare_plan<R: Source, W: Sink>(
     alloc: Global,
     source: &mut R,

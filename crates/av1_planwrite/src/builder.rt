@@ -9,13 +9,14 @@ use std::alloc::Global;
 
 /// A plan in the making: what an encoder fills while it encodes.
 ///
-/// [`PlanBuilder::new`] gives the header. Then come the planes of each slot that the mask names, rising ([`PlanBuilder::reference`]), and then,
-/// superblock by superblock, the mark of each node before its parts ([`PlanBuilder::mark`]) and each leaf ([`PlanBuilder::leaf`]). Parts that
-/// begin outside the frame are left out. [`PlanBuilder::finish`] gives the bytes.
+/// [`PlanBuilder::new`] gives the header. Then come the planes of each slot that the mask names, rising
+/// ([`PlanBuilder::reference`]), and then, superblock by superblock, the mark of each node before its parts
+/// ([`PlanBuilder::mark`]) and each leaf ([`PlanBuilder::leaf`]). Parts that begin outside the frame are left out.
+/// [`PlanBuilder::finish`] gives the bytes.
 ///
-/// The builder keeps the bytes of the fields given so far, which are always those of a proper list of the plan grammar, and in a fixed space what
-/// that asks for next ([`Progress`]). A call that is refused leaves it as it was. Arguments are checked in constant time, but for samples and
-/// triples, and memory is taken only to grow the bytes.
+/// The builder keeps the bytes of the fields given so far, which are always those of a proper list of the plan grammar,
+/// and in a fixed space what that asks for next ([`Progress`]). A call that is refused leaves it as it was. Arguments
+/// are checked in constant time, but for samples and triples, and memory is taken only to grow the bytes.
 #[derive(Drop)]
 pub struct PlanBuilder {
     progress: Progress,
@@ -28,7 +29,23 @@ impl PlanBuilder {
     ghost use Rattle.av1_plan.specs.Plan.{PlanValue};
     ghost use Rattle.av1_plan.specs.Spelling.{AreText};
     ghost use Rattle.av1_planwrite.specs.Builder.{building};
-    ghost use Rattle.av1_planwrite.specs.Building.{asked_part, Answers, header_refusal, begun, with_reference, reference_refusal, with_mark, mark_refusal, with_leaf, leaf_refusal, asks_more, Tells, plan_begun, plan_with_reference, plan_with_leaf};
+    ghost use Rattle.av1_planwrite.specs.Building.{
+      asked_part,
+      Answers,
+      header_refusal,
+      begun,
+      with_reference,
+      reference_refusal,
+      with_mark,
+      mark_refusal,
+      with_leaf,
+      leaf_refusal,
+      asks_more,
+      Tells,
+      plan_begun,
+      plan_with_reference,
+      plan_with_leaf,
+    };
 
     /// A builder of a plan with this header, whose fields stand first.
     ///
@@ -56,8 +73,9 @@ impl PlanBuilder {
     ///
     /// # Errors
     ///
-    /// `NotNow` where no planes are asked for. `NotAdmitted` where a plane has another number of samples, or one of them isn't below
-    /// `1 << depth`. `TooLong` where the bytes would be more than 2^26. `Memory` where memory runs out. The builder stays as it was.
+    /// `NotNow` where no planes are asked for. `NotAdmitted` where a plane has another number of samples, or one of
+    /// them isn't below `1 << depth`. `TooLong` where the bytes would be more than 2^26. `Memory` where memory runs
+    /// out. The builder stays as it was.
     pub fn reference(&mut self, y: &[u16], u: &[u16], v: &[u16]) -> Result<(), BuildError>
         // It is refused for the first reason that holds, unless memory runs out.
         ensures answers { Answers result (reference_refusal (building self.old) y.now u.now v.now) }
@@ -80,8 +98,8 @@ impl PlanBuilder {
     ///
     /// # Errors
     ///
-    /// `NotNow` where no mark is asked for. `NotAdmitted` where the node can't have this mark. `TooLong` where the bytes would be more than 2^26.
-    /// `Memory` where memory runs out. The builder stays as it was.
+    /// `NotNow` where no mark is asked for. `NotAdmitted` where the node can't have this mark. `TooLong` where the
+    /// bytes would be more than 2^26. `Memory` where memory runs out. The builder stays as it was.
     pub fn mark(&mut self, mark: u8) -> Result<(), BuildError>
         // It is refused for the first reason that holds, unless memory runs out.
         ensures answers { Answers result (mark_refusal (building self.old) mark) }
@@ -104,10 +122,11 @@ impl PlanBuilder {
     ///
     /// # Errors
     ///
-    /// `NotNow` where no leaf is asked for. `NotAdmitted` where the chroma type or, of an intra leaf, the chroma mode is given though the leaf
-    /// carries no chroma, or is missing though it does; where it carries none and `u` or `v` isn't empty; where a mode isn't of its kind, or a reference
-    /// isn't one of LAST to ALTREF; and where a plane has more than 65,535 triples. `TooLong` where the bytes would be more than 2^26. `Memory`
-    /// where memory runs out. The builder stays as it was.
+    /// `NotNow` where no leaf is asked for. `NotAdmitted` where the chroma type or, of an intra leaf, the chroma mode
+    /// is given though the leaf carries no chroma, or is missing though it does; where it carries none and `u` or `v`
+    /// isn't empty; where a mode isn't of its kind, or a reference isn't one of LAST to ALTREF; and where a plane has
+    /// more than 65,535 triples. `TooLong` where the bytes would be more than 2^26. `Memory` where memory runs out. The
+    /// builder stays as it was.
     pub fn leaf(
         &mut self,
         kind: &LeafKind,
@@ -119,11 +138,19 @@ impl PlanBuilder {
         v: &[Triple],
     ) -> Result<(), BuildError>
         // It is refused for the first reason that holds, unless memory runs out.
-        ensures answers { Answers result (leaf_refusal (building self.old) (record { kind = kind.now; tx_size = tx_size; tx_type = tx_type; uv_type = uv_type; y = y.now; u = u.now; v = v.now })) }
+        ensures answers { Answers result
+            (leaf_refusal (building self.old)
+            (record { kind = kind.now; tx_size = tx_size; tx_type = tx_type; uv_type = uv_type; y = y.now; u = u.now; v = v.now })) }
         // Exactly the fields of this leaf are appended.
-        ensures given { OnOk result (building self.new ≡ with_leaf (building self.old) (record { kind = kind.now; tx_size = tx_size; tx_type = tx_type; uv_type = uv_type; y = y.now; u = u.now; v = v.now })) }
+        ensures given { OnOk result
+            (building self.new ≡ with_leaf (building self.old)
+            (record { kind = kind.now; tx_size = tx_size; tx_type = tx_type; uv_type = uv_type; y = y.now; u = u.now; v = v.now })) }
         // What the bytes told of a plan before, they tell of it with what is given.
-        ensures told { (p : PlanValue) → Tells (building self.old) p → OnOk result (Tells (building self.new) (plan_with_leaf p (asked_part (building self.old)) (record { kind = kind.now; tx_size = tx_size; tx_type = tx_type; uv_type = uv_type; y = y.now; u = u.now; v = v.now }))) }
+        ensures told { (p : PlanValue) → Tells (building self.old) p →
+            OnOk result
+            (Tells (building self.new)
+            (plan_with_leaf p (asked_part (building self.old))
+            (record { kind = kind.now; tx_size = tx_size; tx_type = tx_type; uv_type = uv_type; y = y.now; u = u.now; v = v.now }))) }
         // After a refusal the builder is as before.
         ensures kept { OnErr result (building self.new ≡ building self.old) }
     {

@@ -1,6 +1,6 @@
 //! The fields of a leaf.
 
-ghost use Rattle.std.specs.Prelude.{◌≡◌, ◌+◌, ◌++◌, ◌≤◌, length, take};
+ghost use Rattle.std.specs.Prelude.{◌≡◌, ◌+◌, ◌++◌, ◌≤◌, length, take, drop};
 ghost use Rattle.av1_planwrite.specs.Given.{FitsTriple};
 ghost use Rattle.av1_planwrite.specs.Text.{byte, pair, quad, motion_text, motions_text, chroma_text, kind_text, uv_type_text, leading_text, triple_text};
 
@@ -15,11 +15,12 @@ use av1_plan::{ChromaMode, LeafKind, Triple};
 pub const MOST_LEADING: usize = 14;
 
 /// Puts a reference and its vector.
-#[tactic(auto, unfolding(crate::specs::Text::motion_text))]
+#[tactic(auto, using(crate::proofs::Rests::rest_later), unfolding(crate::specs::Text::motion_text))]
 fn put_motion(slice: &mut [u8], at: usize, reference: RefType, mv: MotionVector) -> usize
     requires { at + 5 ≤ length slice.old }
     ensures end { result ≡ at + 5 }
     ensures text { take result slice.new ≡ take at slice.old ++ motion_text reference mv }
+    ensures rest { drop result slice.new ≡ drop result slice.old }
 {
     let at = put_byte(slice, at, reference.number());
     let at = put_pair(slice, at, mv.row.cast_unsigned());
@@ -27,7 +28,7 @@ fn put_motion(slice: &mut [u8], at: usize, reference: RefType, mv: MotionVector)
 }
 
 /// Puts two references, each with its vector.
-#[tactic(auto, unfolding(crate::specs::Text::motions_text))]
+#[tactic(auto, using(crate::proofs::Rests::rest_later), unfolding(crate::specs::Text::motions_text))]
 fn put_motions(
     slice: &mut [u8],
     at: usize,
@@ -37,6 +38,7 @@ fn put_motions(
     requires { at + 10 ≤ length slice.old }
     ensures end { result ≡ at + 10 }
     ensures text { take result slice.new ≡ take at slice.old ++ motions_text references mvs }
+    ensures rest { drop result slice.new ≡ drop result slice.old }
 {
     let [first, second] = references;
     let [first_mv, second_mv] = mvs;
@@ -45,11 +47,13 @@ fn put_motions(
 }
 
 /// Puts how the chroma of an intra leaf is predicted, where it carries chroma.
-#[tactic(auto, unfolding(crate::specs::Text::chroma_text))]
+#[tactic(auto, using(crate::proofs::Rests::rest_later), unfolding(crate::specs::Text::chroma_text))]
 fn put_chroma_mode(slice: &mut [u8], at: usize, chroma: Option<ChromaMode>) -> usize
     requires { at + 3 ≤ length slice.old }
+    ensures from { at ≤ result }
     ensures end { result ≤ at + 3 }
     ensures text { take result slice.new ≡ take at slice.old ++ chroma_text chroma }
+    ensures rest { drop result slice.new ≡ drop result slice.old }
 {
     match chroma {
         None => at,
@@ -66,11 +70,13 @@ fn put_chroma_mode(slice: &mut [u8], at: usize, chroma: Option<ChromaMode>) -> u
 }
 
 /// Puts how a leaf is predicted.
-#[tactic(auto, unfolding(crate::specs::Text::kind_text))]
+#[tactic(auto, using(crate::proofs::Rests::rest_later), unfolding(crate::specs::Text::kind_text))]
 fn put_kind(slice: &mut [u8], at: usize, kind: LeafKind) -> usize
     requires { at + 11 ≤ length slice.old }
+    ensures from { at ≤ result }
     ensures end { result ≤ at + 11 }
     ensures text { take result slice.new ≡ take at slice.old ++ kind_text kind }
+    ensures rest { drop result slice.new ≡ drop result slice.old }
 {
     match kind {
         LeafKind::Intra { mode, step, chroma } => {
@@ -101,8 +107,10 @@ fn put_kind(slice: &mut [u8], at: usize, kind: LeafKind) -> usize
 #[tactic(auto, unfolding(crate::specs::Text::uv_type_text))]
 fn put_uv_type(slice: &mut [u8], at: usize, uv_type: Option<TxType>) -> usize
     requires { at + 1 ≤ length slice.old }
+    ensures from { at ≤ result }
     ensures end { result ≤ at + 1 }
     ensures text { take result slice.new ≡ take at slice.old ++ uv_type_text uv_type }
+    ensures rest { drop result slice.new ≡ drop result slice.old }
 {
     match uv_type {
         None => at,
@@ -110,7 +118,9 @@ fn put_uv_type(slice: &mut [u8], at: usize, uv_type: Option<TxType>) -> usize
     }
 }
 
-/// Puts the fields of a leaf before its coefficients to the front of a slice, and says how many bytes they have.
+/// Puts the fields of a leaf before its coefficients to the front of a slice, and says how many bytes they have. What
+/// stands behind them stays.
+#[tactic(auto, using(crate::proofs::Rests::rest_later))]
 pub fn put_leading(
     slice: &mut [u8],
     kind: LeafKind,
@@ -121,6 +131,7 @@ pub fn put_leading(
     requires { 14 ≤ length slice.old }
     ensures end { result ≤ 14 }
     ensures text { take result slice.new ≡ leading_text kind tx_size tx_type uv_type }
+    ensures rest { drop result slice.new ≡ drop result slice.old }
 {
     let at = put_kind(slice, 0, kind);
     let at = put_byte(slice, at, tx_size.number());

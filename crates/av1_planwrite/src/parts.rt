@@ -165,7 +165,8 @@ impl PartStack {
         }
     }
 
-    /// Puts the part of side `4 << level` at this place before the others, where it lies in the frame: a leaf at level 0, else a node.
+    /// Puts the part of side `4 << level` at this place before the others, where it lies in the frame: a leaf at level
+    /// 0, else a node.
     #[tactic(auto, using(crate::proofs::Stacks::blocks), unfolding(crate::specs::Stacks::has_room))]
     fn block(&mut self, header: &Header, level: u8, x: u16, y: u16)
         requires level { level ≤ 4 }

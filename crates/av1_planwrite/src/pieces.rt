@@ -1,13 +1,14 @@
 //! Pieces of a text, put into a slice one behind the other.
 
-ghost use Rattle.std.specs.Prelude.{◌≡◌, ◌+◌, ◌++◌, ◌≤◌, length, take};
+ghost use Rattle.std.specs.Prelude.{◌≡◌, ◌+◌, ◌++◌, ◌≤◌, length, take, drop};
 ghost use Rattle.av1_planwrite.specs.Text.{byte, pair};
 
-/// Puts bytes into a slice behind its first `at`, and says where they end.
+/// Puts bytes into a slice behind its first `at`, and says where they end. What stands before and behind them stays.
 pub fn put(slice: &mut [u8], at: usize, bytes: &[u8]) -> usize
     requires { at + length bytes.now ≤ length slice.old }
     ensures end { result ≡ at + length bytes.now }
     ensures text { take result slice.new ≡ take at slice.old ++ bytes.now }
+    ensures rest { drop result slice.new ≡ drop result slice.old }
 {
     let (_, free) = slice.split_at_mut(at);
     let (next, _) = free.split_at_mut(bytes.len());
@@ -20,6 +21,7 @@ pub fn put_byte(slice: &mut [u8], at: usize, value: u8) -> usize
     requires { at + 1 ≤ length slice.old }
     ensures end { result ≡ at + 1 }
     ensures text { take result slice.new ≡ take at slice.old ++ byte value }
+    ensures rest { drop result slice.new ≡ drop result slice.old }
 {
     put(slice, at, &[value])
 }
@@ -29,6 +31,7 @@ pub fn put_pair(slice: &mut [u8], at: usize, value: u16) -> usize
     requires { at + 2 ≤ length slice.old }
     ensures end { result ≡ at + 2 }
     ensures text { take result slice.new ≡ take at slice.old ++ pair value }
+    ensures rest { drop result slice.new ≡ drop result slice.old }
 {
     put(slice, at, &value.to_le_bytes())
 }

@@ -12,11 +12,11 @@ use crate::superblocks::Superblocks;
 use av1_blocks::TxType;
 use av1_plan::{Header, LeafKind, carries_chroma, cut_by};
 
-/// What a plan in the making asks for next, by its header and the fields behind it: the planes of a slot, the mark of a node, a leaf, or nothing
-/// more. It keeps none of the bytes.
+/// What a plan in the making asks for next, by its header and the fields behind it: the planes of a slot, the mark of a
+/// node, a leaf, or nothing more. It keeps none of the bytes.
 ///
-/// Each field has two calls. The first says why these arguments are refused, if they are. Once the bytes of a field that isn't refused stand, the
-/// second goes past it.
+/// Each field has two calls. The first says why these arguments are refused, if they are. Once the bytes of a field
+/// that isn't refused stand, the second goes past it.
 #[derive(Drop)]
 pub struct Progress {
     pub(crate) header: Header,
@@ -57,13 +57,36 @@ impl Progress {
     ghost use Rattle.std.specs.Prelude.{◌≡◌, ◌<◌, ◌≤◌, ◌^◌, true, false, List, ℕ, [], length, Some, IfErr, IfSome, IsNone, IsSome, OnOk, is_some};
     ghost use Rattle.av1_plan.specs.Plan.{PlanValue};
     ghost use Rattle.av1_planwrite.specs.Builder.{built};
-    ghost use Rattle.av1_planwrite.specs.Building.{LeafFields, Tells, admits_header, admits_leaf_fields, admits_mark, admits_reference, argument_refusal, asked_part, asks_leaf, asks_mark, asks_more, asks_reference, begun, first_part, later_parts, passed, plan_begun, plan_with_reference, with_leaf, with_mark, with_reference};
+    ghost use Rattle.av1_planwrite.specs.Building.{
+      LeafFields,
+      Tells,
+      admits_header,
+      admits_leaf_fields,
+      admits_mark,
+      admits_reference,
+      argument_refusal,
+      asked_part,
+      asks_leaf,
+      asks_mark,
+      asks_more,
+      asks_reference,
+      begun,
+      first_part,
+      later_parts,
+      passed,
+      plan_begun,
+      plan_with_reference,
+      with_leaf,
+      with_mark,
+      with_reference,
+    };
     ghost use Rattle.av1_planwrite.specs.Given.{FitsKind};
     ghost use Rattle.av1_planwrite.specs.Stacks.{has_room};
     ghost use Rattle.av1_planwrite.specs.States.{is_state, stopped};
     ghost use Rattle.av1_planwrite.specs.Text.{header_text};
 
-    /// How far a plan of this header has come whose fields behind the header are still to be given: None where a value of it isn't admitted.
+    /// How far a plan of this header has come whose fields behind the header are still to be given: None where a value
+    /// of it isn't admitted.
     pub fn new(header: &Header) -> Option<Progress>
         ensures admitted { IfSome result (λ p. admits_header header.now ≡ true) }
         ensures refused { IsNone result → admits_header header.now ≡ false }
@@ -163,14 +186,15 @@ impl Progress {
     ///
     /// # Errors
     ///
-    /// `NotNow` where no planes are asked for. `NotAdmitted` where a plane has another number of samples, or one of them isn't below
-    /// `1 << depth`.
+    /// `NotNow` where no planes are asked for. `NotAdmitted` where a plane has another number of samples, or one of
+    /// them isn't below `1 << depth`.
     #[tactic(auto, using(crate::proofs::PlaneSizes::few_in_each))]
     pub fn check_reference(&self, y: &[u16], u: &[u16], v: &[u16]) -> Result<(), BuildError>
         ensures asked { OnOk result (asks_reference (built self.now []) ≡ true) }
         ensures admitted { OnOk result (admits_reference (built self.now []).header y.now u.now v.now ≡ true) }
         ensures few { OnOk result ((length y.now ≤ 2 ^ 22) × (length u.now ≤ 2 ^ 22) × (length v.now ≤ 2 ^ 22)) }
-        ensures refused { IfErr result (λ e. argument_refusal (asks_reference (built self.now [])) (admits_reference (built self.now []).header y.now u.now v.now) ≡ Some e) }
+        ensures refused { IfErr result (λ e. argument_refusal (asks_reference (built self.now []))
+            (admits_reference (built self.now []).header y.now u.now v.now) ≡ Some e) }
     {
         if self.slot >= 8 {
             return Err(BuildError::NotNow);
@@ -184,7 +208,8 @@ impl Progress {
     /// Goes past the planes that are asked for, whose bytes stand behind the others.
     pub fn pass_reference(&mut self)
         requires { asks_reference (built self.old []) ≡ true }
-        ensures given { (bytes y u v : List ℕ) → built self.new (with_reference (built self.old bytes) y u v).bytes ≡ with_reference (built self.old bytes) y u v }
+        ensures given { (bytes y u v : List ℕ) →
+            built self.new (with_reference (built self.old bytes) y u v).bytes ≡ with_reference (built self.old bytes) y u v }
         // What the bytes told of a plan before, they tell of it with admitted planes.
         ensures told { (bytes y u v : List ℕ) (p : PlanValue) → Tells (built self.old bytes) p → admits_reference (built self.old []).header y u v ≡ true
             → Tells (built self.new (with_reference (built self.old bytes) y u v).bytes) (plan_with_reference p y u v) }
@@ -200,7 +225,8 @@ impl Progress {
     pub fn check_mark(&self, mark: u8) -> Result<(), BuildError>
         ensures asked { OnOk result (asks_mark (asked_part (built self.now [])) ≡ true) }
         ensures admitted { OnOk result (admits_mark (built self.now []).header (asked_part (built self.now [])) mark ≡ true) }
-        ensures refused { IfErr result (λ e. argument_refusal (asks_mark (asked_part (built self.now []))) (admits_mark (built self.now []).header (asked_part (built self.now [])) mark) ≡ Some e) }
+        ensures refused { IfErr result (λ e. argument_refusal (asks_mark (asked_part (built self.now [])))
+            (admits_mark (built self.now []).header (asked_part (built self.now [])) mark) ≡ Some e) }
     {
         let Some(Part::Node { level, x, y }) = self.asked_part() else {
             return Err(BuildError::NotNow);
@@ -216,7 +242,8 @@ impl Progress {
         requires { admits_mark (built self.old []).header (asked_part (built self.old [])) mark ≡ true }
         ensures given { (bytes : List ℕ) → built self.new (with_mark (built self.old bytes) mark).bytes ≡ with_mark (built self.old bytes) mark }
         // What the bytes told of a plan before, they tell of it with the mark.
-        ensures told { (bytes : List ℕ) (p : PlanValue) → Tells (built self.old bytes) p → Tells (built self.new (with_mark (built self.old bytes) mark).bytes) p }
+        ensures told { (bytes : List ℕ) (p : PlanValue) → Tells (built self.old bytes) p →
+            Tells (built self.new (with_mark (built self.old bytes) mark).bytes) p }
     {
         let Some(Part::Node { level, x, y }) = self.asked_part() else {
             return;
@@ -229,9 +256,10 @@ impl Progress {
     ///
     /// # Errors
     ///
-    /// `NotNow` where no leaf is asked for. `NotAdmitted` where the chroma type or, of an intra leaf, the chroma mode is given though the leaf
-    /// carries no chroma, or is missing though it does; where it carries none and `u` or `v` isn't 0; where a mode isn't of its kind, or a reference
-    /// isn't one of LAST to ALTREF; and where a plane has more than 65,535 triples.
+    /// `NotNow` where no leaf is asked for. `NotAdmitted` where the chroma type or, of an intra leaf, the chroma mode
+    /// is given though the leaf carries no chroma, or is missing though it does; where it carries none and `u` or `v`
+    /// isn't 0; where a mode isn't of its kind, or a reference isn't one of LAST to ALTREF; and where a plane has more
+    /// than 65,535 triples.
     pub fn check_leaf(
         &self,
         kind: &LeafKind,
@@ -244,7 +272,8 @@ impl Progress {
         ensures admitted { OnOk result (admits_leaf_fields (built self.now []).header (asked_part (built self.now [])) kind.now uv_type y u v ≡ true) }
         ensures fits { OnOk result (FitsKind kind.now) }
         ensures few { OnOk result ((y < 2 ^ 16) × (u < 2 ^ 16) × (v < 2 ^ 16)) }
-        ensures refused { IfErr result (λ e. argument_refusal (asks_leaf (asked_part (built self.now []))) (admits_leaf_fields (built self.now []).header (asked_part (built self.now [])) kind.now uv_type y u v) ≡ Some e) }
+        ensures refused { IfErr result (λ e. argument_refusal (asks_leaf (asked_part (built self.now [])))
+            (admits_leaf_fields (built self.now []).header (asked_part (built self.now [])) kind.now uv_type y u v) ≡ Some e) }
     {
         let Some(Part::Leaf { size, x, y: row }) = self.asked_part() else {
             return Err(BuildError::NotNow);

@@ -1,6 +1,6 @@
 //! Samples of references, as bytes.
 
-ghost use Rattle.std.specs.Prelude.{◌≡◌, ◌+◌, ◌++◌, ◌*◌, ◌^◌, ◌≤◌, length, take};
+ghost use Rattle.std.specs.Prelude.{◌≡◌, ◌+◌, ◌++◌, ◌*◌, ◌^◌, ◌≤◌, length, take, drop};
 ghost use Rattle.std.specs.List.{flat_map};
 ghost use Rattle.av1_planwrite.specs.Text.{sample_text, plane_text};
 
@@ -16,7 +16,8 @@ const MOST_BYTES: usize = 2 * MOST_SAMPLES;
 /// Puts samples at the front of the bytes, one byte each.
 fn pack_one(samples: &[u16], bytes: &mut [u8])
     requires room { length samples.now ≤ length bytes.old }
-    ensures { take (length samples.now) bytes.new ≡ flat_map (sample_text 8) samples.now }
+    ensures text { take (length samples.now) bytes.new ≡ flat_map (sample_text 8) samples.now }
+    ensures rest { drop (length samples.now) bytes.new ≡ drop (length samples.now) bytes.old }
 {
     for (i, sample) in samples.iter().enumerate() {
         bytes[i] = (*sample % 256) as u8;
@@ -26,7 +27,8 @@ fn pack_one(samples: &[u16], bytes: &mut [u8])
 /// Puts samples at the front of the bytes, two bytes each.
 fn pack_two(samples: &[u16], bytes: &mut [u8])
     requires room { 2 * length samples.now ≤ length bytes.old }
-    ensures { take (2 * length samples.now) bytes.new ≡ flat_map (sample_text 16) samples.now }
+    ensures text { take (2 * length samples.now) bytes.new ≡ flat_map (sample_text 16) samples.now }
+    ensures rest { drop (2 * length samples.now) bytes.new ≡ drop (2 * length samples.now) bytes.old }
 {
     for (i, sample) in samples.iter().enumerate() {
         bytes[2 * i] = (*sample % 256) as u8;
@@ -65,6 +67,7 @@ fn pack(depth: u8, samples: &[u16], bytes: &mut [u8]) -> usize
     requires room { length (plane_text depth samples.now) ≤ length bytes.old }
     ensures end { result ≡ length (plane_text depth samples.now) }
     ensures bytes { take result bytes.new ≡ plane_text depth samples.now }
+    ensures rest { drop result bytes.new ≡ drop result bytes.old }
 {
     if depth == 8 {
         pack_one(samples, bytes);
@@ -80,16 +83,19 @@ fn put_plane(slice: &mut [u8], at: usize, depth: u8, samples: &[u16]) -> usize
     requires { at + length (plane_text depth samples.now) ≤ length slice.old }
     ensures end { result ≡ at + length (plane_text depth samples.now) }
     ensures text { take result slice.new ≡ take at slice.old ++ plane_text depth samples.now }
+    ensures rest { drop result slice.new ≡ drop result slice.old }
 {
     let (_, free) = slice.split_at_mut(at);
     at + pack(depth, samples, free)
 }
 
-/// Puts the planes of a slot at the front of a slice, and says how many bytes they have.
+/// Puts the planes of a slot at the front of a slice, and says how many bytes they have. What stands behind them stays.
+#[tactic(auto, using(crate::proofs::Rests::rest_later))]
 pub fn put_planes(slice: &mut [u8], depth: u8, y: &[u16], u: &[u16], v: &[u16]) -> usize
     requires { length (plane_text depth y.now ++ plane_text depth u.now ++ plane_text depth v.now) ≤ length slice.old }
     ensures end { result ≡ length (plane_text depth y.now ++ plane_text depth u.now ++ plane_text depth v.now) }
     ensures text { take result slice.new ≡ plane_text depth y.now ++ plane_text depth u.now ++ plane_text depth v.now }
+    ensures rest { drop result slice.new ≡ drop result slice.old }
 {
     let at = put_plane(slice, 0, depth, y);
     let at = put_plane(slice, at, depth, u);
@@ -119,7 +125,8 @@ impl Text {
 
     /// Writes the planes of a slot.
     pub fn planes(&mut self, depth: u8, y: &[u16], u: &[u16], v: &[u16]) -> Result<(), OutOfMemory>
-        ensures text { OnOk result (self.new.bytes.items ≡ self.old.bytes.items ++ (plane_text depth y.now ++ plane_text depth u.now ++ plane_text depth v.now)) }
+        ensures text { OnOk result (self.new.bytes.items ≡ self.old.bytes.items
+            ++ (plane_text depth y.now ++ plane_text depth u.now ++ plane_text depth v.now)) }
         ensures front { Begins self.old.bytes.items self.new.bytes.items }
     {
         self.plane(depth, y)?;

@@ -3,8 +3,8 @@
 use crate::parts::Stacked;
 use crate::superblocks::Superblocks;
 
-/// What a plan in the making asks for next, in a form that can be kept anywhere: [`crate::Progress::state`] gives it, and
-/// [`crate::Progress::resume`] takes it back.
+/// What a plan in the making asks for next, in a form that can be kept anywhere: [`crate::Progress::state`] gives it,
+/// and [`crate::Progress::resume`] takes it back.
 #[derive(Copy, Clone)]
 pub struct State {
     /// The slot whose planes are asked for next, or 8.

@@ -6,8 +6,8 @@ ghost use Rattle.av1_planwrite.specs.Asked.{across, down};
 use crate::parts::Part;
 use av1_plan::Header;
 
-/// The superblocks from this one on, in raster order: its row and its column, counted in superblocks. Behind the last one the column is past
-/// the last, in the last row.
+/// The superblocks from this one on, in raster order: its row and its column, counted in superblocks. Behind the last
+/// one the column is past the last, in the last row.
 #[derive(Copy, Clone, Debug, PartialEq, Eq)]
 pub struct Superblocks {
     pub row: u16,

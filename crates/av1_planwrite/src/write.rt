@@ -23,7 +23,8 @@ impl Text {
     fn slot_plane(&mut self, plan: &Plan, slot: usize, p: usize) -> Result<(), OutOfMemory>
         requires slot { slot < 8 }
         requires plane { p < 3 }
-        ensures { OnOk result (self.new.bytes.items ≡ self.old.bytes.items ++ samples_text (plan_value plan.now).header.depth (reference_of (plan_value plan.now) slot p)) }
+        ensures { OnOk result (self.new.bytes.items ≡ self.old.bytes.items
+            ++ samples_text (plan_value plan.now).header.depth (reference_of (plan_value plan.now) slot p)) }
     {
         match plan.reference(slot, p) {
             Some(samples) => self.plane(plan.header().depth, samples),
@@ -34,7 +35,8 @@ impl Text {
     /// Writes the planes of a slot, where it carries planes.
     fn slot(&mut self, plan: &Plan, slot: usize) -> Result<(), OutOfMemory>
         requires { slot < 8 }
-        ensures { OnOk result (self.new.bytes.items ≡ self.old.bytes.items ++ slot_text (plan_value plan.now).header.depth (slice_index_or (plan_value plan.now).references slot None)) }
+        ensures { OnOk result (self.new.bytes.items ≡ self.old.bytes.items
+            ++ slot_text (plan_value plan.now).header.depth (slice_index_or (plan_value plan.now).references slot None)) }
     {
         self.slot_plane(plan, slot, 0)?;
         self.slot_plane(plan, slot, 1)?;
@@ -44,7 +46,8 @@ impl Text {
     /// Writes the planes of the eight slots.
     #[tactic(auto, using(crate::proofs::References::slots_step))]
     fn references(&mut self, plan: &Plan) -> Result<(), OutOfMemory>
-        ensures { OnOk result (self.new.bytes.items ≡ self.old.bytes.items ++ references_text (plan_value plan.now).header.depth (plan_value plan.now).references) }
+        ensures { OnOk result (self.new.bytes.items ≡ self.old.bytes.items
+            ++ references_text (plan_value plan.now).header.depth (plan_value plan.now).references) }
     {
         for slot in 0..8 {
             self.slot(plan, slot)?;

@@ -23,10 +23,12 @@ no_refusal O too_long e d is tells = absurd cc
 no_refusal O refused e d is tells = absurd cc
 no_refusal O no_memory e d is tells = absurd cc
 
-module _ {O A E S K : Type 0} (IsSuccess : ℕ → Type 0) (apart : AreApart IsSuccess) (task : Task O A E) (left : S → Option (List ℕ)) (source_faults : S → ℕ) (taken : K → Option (List ℕ)) (sink_faults : K → ℕ)
+module _ {O A E S K : Type 0} (IsSuccess : ℕ → Type 0) (apart : AreApart IsSuccess) (task : Task O A E) (left : S → Option (List ℕ)) (source_faults : S → ℕ)
+    (taken : K → Option (List ℕ)) (sink_faults : K → ℕ)
     (source source' : S) (sink sink' : K) where
   -- the call succeeded
-  ok_ends : (a : A) (n : ℕ) → IsSuccess n → Performs task left source_faults taken sink_faults source source' sink sink' (Ok a) → EndsWith IsSuccess task left source_faults taken sink_faults source source' sink sink' n
+  ok_ends : (a : A) (n : ℕ) → IsSuccess n → Performs task left source_faults taken sink_faults source source' sink sink' (Ok a) →
+      EndsWith IsSuccess task left source_faults taken sink_faults source source' sink sink' n
   ok_ends a n h p = record {
     done = λ is. p.ok;
     refused = λ is. absurd (apart.not_2 (subst IsSuccess is h));
@@ -48,7 +50,9 @@ module _ {O A E S K : Type 0} (IsSuccess : ℕ → Type 0) (apart : AreApart IsS
     read_fault = λ h. absurd cc;
     write_fault = λ h. absurd cc;
     no_other = inr (inl refl);
-    complete = λ no_read no_write. IfSome_then (left source) (p.complete no_read no_write) (λ bytes f outcome come. elim (f outcome come) [ inl ok ↦ absurd cc | inr memory ↦ absurd cc ]);
+    complete =
+        λ no_read no_write. IfSome_then (left source) (p.complete no_read no_write)
+        (λ bytes f outcome come. elim (f outcome come) [ inl ok ↦ absurd cc | inr memory ↦ absurd cc ]);
     refuses = any (left source) _ (λ bytes d come. inl refl);
   }
   error_ends e refused is p = record {
@@ -58,7 +62,9 @@ module _ {O A E S K : Type 0} (IsSuccess : ℕ → Type 0) (apart : AreApart IsS
     read_fault = λ h. absurd cc;
     write_fault = λ h. absurd cc;
     no_other = inr (inl refl);
-    complete = λ no_read no_write. IfSome_then (left source) (p.complete no_read no_write) (λ bytes f outcome come. elim (f outcome come) [ inl ok ↦ absurd cc | inr memory ↦ absurd cc ]);
+    complete =
+        λ no_read no_write. IfSome_then (left source) (p.complete no_read no_write)
+        (λ bytes f outcome come. elim (f outcome come) [ inl ok ↦ absurd cc | inr memory ↦ absurd cc ]);
     refuses = any (left source) _ (λ bytes d come. inl refl);
   }
   error_ends e no_memory is p = record {
@@ -78,7 +84,9 @@ module _ {O A E S K : Type 0} (IsSuccess : ℕ → Type 0) (apart : AreApart IsS
     read_fault = λ h. (p.read_fault is, p.unwritten (λ w. absurd cc));
     write_fault = λ h. absurd cc;
     no_other = inr (inr (inr (inl refl)));
-    complete = λ no_read no_write. IfSome_then (left source) (p.complete no_read no_write) (λ bytes f outcome come. elim (f outcome come) [ inl ok ↦ absurd cc | inr memory ↦ absurd cc ]);
+    complete =
+        λ no_read no_write. IfSome_then (left source) (p.complete no_read no_write)
+        (λ bytes f outcome come. elim (f outcome come) [ inl ok ↦ absurd cc | inr memory ↦ absurd cc ]);
     refuses = any (left source) _ (λ bytes d come. inr (inr refl));
   }
   error_ends e write_failed is p = record {
@@ -88,14 +96,19 @@ module _ {O A E S K : Type 0} (IsSuccess : ℕ → Type 0) (apart : AreApart IsS
     read_fault = λ h. absurd cc;
     write_fault = λ h. (p.write_fault is, p.prefix is);
     no_other = inr (inr (inr (inr refl)));
-    complete = λ no_read no_write. IfSome_then (left source) (p.complete no_read no_write) (λ bytes f outcome come. elim (f outcome come) [ inl ok ↦ absurd cc | inr memory ↦ absurd cc ]);
+    complete =
+        λ no_read no_write. IfSome_then (left source) (p.complete no_read no_write)
+        (λ bytes f outcome come. elim (f outcome come) [ inl ok ↦ absurd cc | inr memory ↦ absurd cc ]);
     refuses = IfSome_then (left source) p.exactly (λ bytes f d come. absurd (no_refusal O (task.cause e) e d is (f (Err d) come)));
   }
 
   pub ends : (done : A → ℕ) (status : ℕ) (answer : Result A E) → ((a : A) → IsSuccess (done a)) → status ≡ answer_status task.cause done answer
-      → Performs task left source_faults taken sink_faults source source' sink sink' answer → EndsWith IsSuccess task left source_faults taken sink_faults source source' sink sink' status
-  ends done status (Ok a) h is p = subst (EndsWith IsSuccess task left source_faults taken sink_faults source source' sink sink') (sym is) (ok_ends a (done a) (h a) p)
-  ends done status (Err e) h is p = subst (EndsWith IsSuccess task left source_faults taken sink_faults source source' sink sink') (sym is) (error_ends e (task.cause e) refl p)
+      → Performs task left source_faults taken sink_faults source source' sink sink' answer →
+      EndsWith IsSuccess task left source_faults taken sink_faults source source' sink sink' status
+  ends done status (Ok a) h is p =
+      subst (EndsWith IsSuccess task left source_faults taken sink_faults source source' sink sink') (sym is) (ok_ends a (done a) (h a) p)
+  ends done status (Err e) h is p =
+      subst (EndsWith IsSuccess task left source_faults taken sink_faults source source' sink sink') (sym is) (error_ends e (task.cause e) refl p)
 
 -- the status of a call that reads a plan is that of what its error blames
 pub plan_status : (answer : Answer) → status_of answer ≡ answer_status plan_cause written answer

@@ -15,7 +15,7 @@ use Rattle.av1_recon.specs.Made.{AreMadeSums}
 use Rattle.av1_recon.specs.declared.error.ReconError.{ReconError}
 use Rattle.av1_recon.specs.declared.error.ReconError.TheVariants.{Memory}
 
--- where bytes are the text of a plan, want of memory is all that parsing answers but the plan
+-- where bytes are the text of a plan, running out of memory is all that parsing answers but the plan
 pub memory_alone : (bytes made : List ℕ) (e : PlanError) (result : Result Plan ReconError) → bytes ≡ made → ArePlan made
     → ((p : PlanValue) → AreText plan bytes p → e ≡ plan_errors.Memory) → IsErrAnd result (λ d. d ≡ plan_error e) → IfErr result (λ d. d ≡ Memory)
 memory_alone bytes made e (Ok x) same are only is = tt

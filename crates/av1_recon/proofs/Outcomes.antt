@@ -65,7 +65,8 @@ judged output (refused at) = Err (Malformed at)
 judged output (read value) = judged_as output value (first_fault value)
 
 -- an outcome follows from a reading
-of_reading : (output : PlanValue → List ℕ) (bytes : List ℕ) (outcome : Outcome) → HasOutcomeBy output bytes outcome → (r : Reading) × IsReading bytes r × (outcome ≡ judged output r)
+of_reading : (output : PlanValue → List ℕ) (bytes : List ℕ) (outcome : Outcome) → HasOutcomeBy output bytes outcome →
+    (r : Reading) × IsReading bytes r × (outcome ≡ judged output r)
 of_reading output bytes (Ok written) (value, are, valid, e) = (read value, are, ap ok e ∙ sym (ap (judged_as output value) valid))
 of_reading output bytes (Err TooLong) c = (long, c, refl)
 of_reading output bytes (Err (Malformed at)) c = (refused at, c, refl)
@@ -81,11 +82,13 @@ one_outcome output bytes a b p q =
     let (t, u, f) = of_reading output bytes b q in
     f ∙ ap (judged output) (reading_is bytes t r u s) ∙ sym e
 
-of_plan : (bytes : List ℕ) (value : PlanValue) → ArePlan bytes value → (fault : Option Invalid) → first_fault value ≡ fault → (outcome : Outcome) × HasOutcome bytes outcome
+of_plan : (bytes : List ℕ) (value : PlanValue) → ArePlan bytes value → (fault : Option Invalid) → first_fault value ≡ fault →
+    (outcome : Outcome) × HasOutcome bytes outcome
 of_plan bytes value are None e = (Ok (planes_of value), (value, are, e, refl))
 of_plan bytes value are (Some fault) e = (Err (InvalidLeaf fault.leaf fault.kind), (value, are, e))
 
-of_result : (bytes : List ℕ) → AreBytes bytes → length bytes ≤ max_plan_bytes → (result : Result PlanValue ℕ) → read_all plan (start bytes) ≡ result → (outcome : Outcome) × HasOutcome bytes outcome
+of_result : (bytes : List ℕ) → AreBytes bytes → length bytes ≤ max_plan_bytes → (result : Result PlanValue ℕ) → read_all plan (start bytes) ≡ result →
+    (outcome : Outcome) × HasOutcome bytes outcome
 of_result bytes fits short (Ok value) e = of_plan bytes value (short, all_found plan bytes value fits e) (first_fault value) refl
 of_result bytes fits short (Err at) e = (Err (Malformed at), (short, all_refused plan bytes at fits e))
 
@@ -96,7 +99,8 @@ byte_fits bytes fits i = elim (cases_lt i (length bytes)) [
 ]
 
 -- what is read of bytes is what they spell, where one follows from the other and the other from the one
-pub read_exactly : {A : Type 0} (reading : List ℕ → Result A ℕ) (IsText : List ℕ → A → Type 0) → ((bytes : List ℕ) (x : A) → AreBytes bytes → reading bytes ≡ Ok x → IsText bytes x)
+pub read_exactly : {A : Type 0} (reading : List ℕ → Result A ℕ) (IsText : List ℕ → A → Type 0) →
+    ((bytes : List ℕ) (x : A) → AreBytes bytes → reading bytes ≡ Ok x → IsText bytes x)
     → ((bytes : List ℕ) (x : A) → IsText bytes x → reading bytes ≡ Ok x)
     → (bytes : List ℕ) (x : A) → All (λ byte. byte < 2 ^ 8) bytes → (reading bytes ≡ Ok x → IsText bytes x) × (IsText bytes x → reading bytes ≡ Ok x)
 read_exactly reading IsText found back bytes x fits = (found bytes x (byte_fits bytes fits), back bytes x)

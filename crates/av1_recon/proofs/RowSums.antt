@@ -25,11 +25,13 @@ pub rows_total-more : {T : Type 0} (num : T → ℕ) (s : Picture T) (p y : ℕ)
 rows_total-more num s p y = sum_by-map-range_with_len_more (λ r. sum (state_row num s p r)) (λ r. r) 0 y y (omega arith)
 
 -- all rows
-pub rows_total-all : {T : Type 0} (num : T → ℕ) (s : Picture T) (p n : ℕ) → n ≡ (extent_of (state_header s) p).height → rows_total num s p n ≡ sum (by_rows (extent_of (state_header s) p) (shown num s (component p)))
+pub rows_total-all : {T : Type 0} (num : T → ℕ) (s : Picture T) (p n : ℕ) → n ≡ (extent_of (state_header s) p).height →
+    rows_total num s p n ≡ sum (by_rows (extent_of (state_header s) p) (shown num s (component p)))
 rows_total-all num s p n e = ap (rows_total num s p) e ∙ sym (sum-flat_map (λ y. state_row num s p y) (by_index (extent_of (state_header s) p).height (λ y. y)))
 
 -- a row that was lent is no longer than the frame is wide
-pub row_within : {T : Type 0} (num : T → ℕ) (s : Picture T) (p y : ℕ) (h : Header) (row : List T) → h ≡ state_header s → map num row ≡ state_row num s p y → length row ≤ h.width
+pub row_within : {T : Type 0} (num : T → ℕ) (s : Picture T) (p y : ℕ) (h : Header) (row : List T) → h ≡ state_header s → map num row ≡ state_row num s p y →
+    length row ≤ h.width
 unfolding plane_width
 row_within num s p y h row same is =
     let width : length row ≡ plane_width (state_header s) p =

@@ -1,5 +1,6 @@
 -- Planes by rows, and rows by pieces.
-use Rattle.std.proofs.Common.{◌≡◌, ℕ, zero, suc, ◌+◌, ◌-◌, ◌<◌, Option, List, [], ◌∷◌, ◌++◌, map, take, drop, refl, sym, ap, subst, ◌∙◌, append_assoc, append-nil, take-append-drop, arith}
+use Rattle.std.proofs.Common.{◌≡◌, ℕ, zero, suc, ◌+◌, ◌-◌, ◌<◌, Option, List, [], ◌∷◌, ◌++◌, map, take, drop, refl, sym, ap, subst, ◌∙◌, append_assoc}
+use Rattle.std.proofs.Common.{append-nil, take-append-drop, arith}
 use Rattle.std.specs.List.{flat_map, range_with_len}
 use Rattle.std.specs.Io.KnownBytes.{Appends}
 use Rattle.std.proofs.KnownBytes.{Appends-trans}
@@ -35,7 +36,8 @@ bytes_of-append num depth xs ys = ap (flat_map (sample_bytes depth)) (map-append
 
 -- after the samples before a place, those of the next piece
 pub Appends-piece : {T : Type 0} (num : T → ℕ) (depth : ℕ) (row : List T) (a b c : Option (List ℕ)) (at n count : ℕ) (bytes : List ℕ) → n ≡ count
-    → Appends a b (bytes_of num depth (take at row)) → bytes ≡ bytes_of num depth (take n (drop at row)) → Appends b c bytes → Appends a c (bytes_of num depth (take (at + count) row))
+    → Appends a b (bytes_of num depth (take at row)) → bytes ≡ bytes_of num depth (take n (drop at row)) → Appends b c bytes →
+    Appends a c (bytes_of num depth (take (at + count) row))
 Appends-piece num depth row a b c at n count bytes same before piece next =
     let whole : bytes_of num depth (take at row) ++ bytes ≡ bytes_of num depth (take (at + count) row) =
     ap (λ l. bytes_of num depth (take at row) ++ l) piece ∙ sym (bytes_of-append num depth (take at row) (take n (drop at row)))
@@ -44,12 +46,14 @@ Appends-piece num depth row a b c at n count bytes same before piece next =
 
 -- a prefix of the bytes of the next piece
 pub AppendsPrefix-piece : {T : Type 0} (num : T → ℕ) (depth : ℕ) (row : List T) (a b c : Option (List ℕ)) (at n : ℕ) (bytes : List ℕ)
-    → Appends a b (bytes_of num depth (take at row)) → bytes ≡ bytes_of num depth (take n (drop at row)) → AppendsPrefix b c bytes → AppendsPrefix a c (bytes_of num depth row)
+    → Appends a b (bytes_of num depth (take at row)) → bytes ≡ bytes_of num depth (take n (drop at row)) → AppendsPrefix b c bytes →
+    AppendsPrefix a c (bytes_of num depth row)
 AppendsPrefix-piece num depth row a b c at n bytes before piece next =
     let rest = drop n (drop at row) in
     let whole : bytes_of num depth (take at row) ++ (bytes ++ bytes_of num depth rest) ≡ bytes_of num depth row =
     ap (λ l. bytes_of num depth (take at row) ++ (l ++ bytes_of num depth rest)) piece
-    ∙ ap (λ l. bytes_of num depth (take at row) ++ l) (sym (bytes_of-append num depth (take n (drop at row)) rest) ∙ ap (bytes_of num depth) (take-append-drop n (drop at row)))
+    ∙ ap (λ l. bytes_of num depth (take at row) ++ l) (sym (bytes_of-append num depth (take n (drop at row)) rest)
+    ∙ ap (bytes_of num depth) (take-append-drop n (drop at row)))
     ∙ sym (bytes_of-append num depth (take at row) (drop at row)) ∙ ap (bytes_of num depth) (take-append-drop at row) in
     AppendsPrefix-after a b c _ bytes (bytes_of num depth rest) _ whole before next
 
@@ -79,7 +83,8 @@ flat_map-flat_map g f (x ∷ xs) = flat_map-append g (f x) (flat_map f xs) ∙ a
 
 -- the rows above a place, that row, and those below it
 rows_split : {T : Type 0} (num : T → ℕ) (h : Header) (plane : Plane T) (p y n : ℕ)
-    → rows_below num h plane p (y + (1 + n)) ≡ rows_below num h plane p y ++ (row_bytes num h plane p y ++ flat_map (row_bytes num h plane p) (range_with_len (y + 1) n))
+    → rows_below num h plane p (y + (1 + n)) ≡ rows_below num h plane p y
+    ++ (row_bytes num h plane p y ++ flat_map (row_bytes num h plane p) (range_with_len (y + 1) n))
 rows_split num h plane p y n =
     let from : 0 + y ≡ y = omega arith in
     let one : 1 + n ≡ suc n = omega arith in
@@ -87,30 +92,35 @@ rows_split num h plane p y n =
     ∙ flat_map-append (row_bytes num h plane p) (range_with_len 0 y) (y ∷ range_with_len (y + 1) n)
 
 -- a row as it was lent
-pub row_is : {T : Type 0} (num : T → ℕ) (h : Header) (plane : Plane T) (p y : ℕ) (row : List T) → map num row ≡ by_index (plane_width h p) (λ x. sample_at num plane x y) → bytes_of num h.depth row ≡ row_bytes num h plane p y
+pub row_is : {T : Type 0} (num : T → ℕ) (h : Header) (plane : Plane T) (p y : ℕ) (row : List T) →
+    map num row ≡ by_index (plane_width h p) (λ x. sample_at num plane x y) → bytes_of num h.depth row ≡ row_bytes num h plane p y
 row_is num h plane p y row is = ap (flat_map (sample_bytes h.depth)) is
 
 -- one row more
 pub Appends-row : {T : Type 0} (num : T → ℕ) (h : Header) (plane : Plane T) (p y : ℕ) (a b c : Option (List ℕ))
     → Appends a b (rows_below num h plane p y) → Appends b c (row_bytes num h plane p y) → Appends a c (rows_below num h plane p (y + 1))
 Appends-row num h plane p y a b c before next =
-    subst (Appends a c) (sym (rows_split num h plane p y 0 ∙ ap (λ l. rows_below num h plane p y ++ l) (append-nil (row_bytes num h plane p y)))) (Appends-trans a b c _ _ before next)
+    subst (Appends a c) (sym (rows_split num h plane p y 0 ∙ ap (λ l. rows_below num h plane p y ++ l) (append-nil (row_bytes num h plane p y))))
+    (Appends-trans a b c _ _ before next)
 
 -- how many rows the header that was lent has
 pub height_is : {T : Type 0} (s : Picture T) (p n : ℕ) (h : Header) → n ≡ plane_height h p → h ≡ state_header s → n ≡ (extent_of (state_header s) p).height
 height_is s p n h rows same = rows ∙ ap (λ (k : Header). plane_height k p) same
 
 -- all rows are the plane
-pub rows_are_plane : {T : Type 0} (num : T → ℕ) (h : Header) (plane : Plane T) (p n m : ℕ) → n ≡ m → m ≡ plane_height h p → rows_below num h plane p n ≡ plane_bytes (extent_of h p) (sample_at num plane)
+pub rows_are_plane : {T : Type 0} (num : T → ℕ) (h : Header) (plane : Plane T) (p n m : ℕ) → n ≡ m → m ≡ plane_height h p →
+    rows_below num h plane p n ≡ plane_bytes (extent_of h p) (sample_at num plane)
 rows_are_plane num h plane p n m same e =
     let all = range_with_len 0 (plane_height h p) in
     let line : ℕ → List ℕ = λ y. by_index (plane_width h p) (λ x. sample_at num plane x y) in
     let bytes = sample_bytes h.depth in
-    ap (rows_below num h plane p) same ∙ ap (rows_below num h plane p) e ∙ sym (ap (flat_map bytes) (flat_map-map line (λ y. y) all) ∙ flat_map-flat_map bytes line all)
+    ap (rows_below num h plane p) same ∙ ap (rows_below num h plane p) e
+    ∙ sym (ap (flat_map bytes) (flat_map-map line (λ y. y) all) ∙ flat_map-flat_map bytes line all)
 
 -- a prefix of the next row
 pub AppendsPrefix-row : {T : Type 0} (num : T → ℕ) (h : Header) (plane : Plane T) (p y n : ℕ) (a b c : Option (List ℕ)) → n ≡ plane_height h p → y < n
-    → Appends a b (rows_below num h plane p y) → AppendsPrefix b c (row_bytes num h plane p y) → AppendsPrefix a c (plane_bytes (extent_of h p) (sample_at num plane))
+    → Appends a b (rows_below num h plane p y) → AppendsPrefix b c (row_bytes num h plane p y) →
+    AppendsPrefix a c (plane_bytes (extent_of h p) (sample_at num plane))
 AppendsPrefix-row num h plane p y n a b c e within before next =
     let count : y + (1 + (n - y - 1)) ≡ n = omega arith in
     let whole = sym (rows_split num h plane p y (n - y - 1)) ∙ rows_are_plane num h plane p _ n count e in

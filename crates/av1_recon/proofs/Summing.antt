@@ -23,7 +23,8 @@ same_lines : {n y u v n' y' u' v' : ℕ} → n ≡ n' → y ≡ y' → u ≡ u' 
 same_lines a b c d = cc (a, b, c, d)
 
 -- the sum by the samples of the slow definition
-slow_sum : {T : Type 0} (num : T → ℕ) (s : Picture T) (plan : PlanValue) (k : Component) (n : ℕ) → state_header s ≡ plan.header → visible (state_header s) (shown num s) ≡ planes_of plan
+slow_sum : {T : Type 0} (num : T → ℕ) (s : Picture T) (plan : PlanValue) (k : Component) (n : ℕ) → state_header s ≡ plan.header →
+    visible (state_header s) (shown num s) ≡ planes_of plan
     → n ≡ state_sum num s k (state_header s) → n ≡ visible_sum plan k
 unfolding planes_of
 slow_sum num s plan k n e reconstructed is =
@@ -39,4 +40,5 @@ unfolding sum_lines
 sums_of num s p leaves y u v lines e reconstructed many of_y of_u of_v are =
     let plan = plan_value p in
     let n : leaves ≡ length plan.leaves = many ∙ sym (length-leaf_values (stored_triples p) (stored_leaves p)) in
-    are ∙ same_lines n (slow_sum num s plan Y y e reconstructed of_y) (slow_sum num s plan U u e reconstructed of_u) (slow_sum num s plan V v e reconstructed of_v)
+    are ∙ same_lines n (slow_sum num s plan Y y e reconstructed of_y) (slow_sum num s plan U u e reconstructed of_u)
+    (slow_sum num s plan V v e reconstructed of_v)

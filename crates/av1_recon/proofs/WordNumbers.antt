@@ -46,7 +46,8 @@ pub plus_is_none : (word : List ℕ) → get_or word 0 0 ≡ 43 → None ≡ num
 plus_is_none word e = no_number word (λ n. not_in_digits digits word 43 n.digits (λ k. absurd (omega (arith, k.0))) 0 n.some e)
 
 -- what parsing gives
-pub parsed : {E : Type 0} (word : List ℕ) (r : Result ℕ E) (o : Option ℕ) → ParsesUnsigned 32 10 word r → o ≡ result_ok r → get_or word 0 0 ≢ 43 → length word ≤ 10 → o ≡ number_of word
+pub parsed : {E : Type 0} (word : List ℕ) (r : Result ℕ E) (o : Option ℕ) → ParsesUnsigned 32 10 word r → o ≡ result_ok r → get_or word 0 0 ≢ 43 →
+    length word ≤ 10 → o ≡ number_of word
 unfolding number_of
 parsed {E} word (Ok n) o h e plain few =
     let (is, value) = parse_plain digits {E = E} 32 word (Ok n) h plain in

@@ -6,7 +6,8 @@ use Rattle.av1_plan.specs.declared.error.InvalidKind.TheVariants as kinds
 use Rattle.av1_streams.specs.Faults.{FaultCounted}
 use Rattle.av1_streams.specs.Streams.{AppendsPrefix}
 use Rattle.av1_recon.specs.declared.error.ReconError.{ReconError}
-use Rattle.av1_recon.specs.declared.error.ReconError.TheVariants.{ReadFault, TooLong, Malformed, Invalid, WriteFault, Memory}
+use Rattle.av1_recon.specs.declared.error.ReconError.TheVariants.{ReadFault, TooLong, Malformed, Invalid, WriteFault}
+use Rattle.av1_recon.specs.declared.error.ReconError.TheVariants.{Memory}
 use Rattle.av1_recon.specs.Outcomes.{Answer}
 
 -- the exit status of an answer
@@ -54,6 +55,7 @@ abbrev pub usage : List ℕ
 usage = codes "usage: recon [make N | sum N]\n"
 
 -- The line stands on the sink, or a prefix of it where a write failed.
-pub record Says {E : Type 0} (taken : E → Option (List ℕ)) (faults : E → ℕ) (sink sink' : E) (line : List ℕ) : Type 0 where
+pub record Says {E : Type 0} (taken : E → Option (List ℕ)) (faults : E → ℕ) (sink sink' : E)
+    (line : List ℕ) : Type 0 where
   pub prefix : AppendsPrefix (taken sink) (taken sink') line
   pub whole : ¬ FaultCounted (faults sink) (faults sink') → Appends (taken sink) (taken sink') line

@@ -9,7 +9,8 @@ use Rattle.av1_recon.specs.Outcomes.{Planes}
 
 -- the command of this name that has a number
 unfoldable pub named : List ℕ → ℕ → Option Command
-named name number = if bytes_eq name (codes "make") then Some (Make number) else if bytes_eq name (codes "sum") then Some (Sum number) else None
+named name number = if bytes_eq name (codes "make") then Some (Make number)
+    else if bytes_eq name (codes "sum") then Some (Sum number) else None
 
 -- what the words ask for, each word given by its bytes; None where they are no command
 abbrev pub command_of : List (List ℕ) → Option Command
@@ -25,8 +26,8 @@ ReadsNothing (Some (Make number)) = ⊤
 ReadsNothing (Some (Sum number)) = ⊤
 ReadsNothing None = ⊥
 
--- P holds of what the command writes where all goes well: the planes of the plan that the source told, the plan of its number, or
--- the four lines on that plan
+-- P holds of what the command writes where all goes well: the planes of the plan that the source told, the plan of its
+-- number, or the four lines on that plan
 abbrev pub Written : Option Command → Option (List ℕ) → (List ℕ → Type 0) → Type 0
 Written (Some Reconstruct) left P = Planes left P
 Written (Some (Make number)) left P = P (plan_bytes number)

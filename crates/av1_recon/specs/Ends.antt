@@ -32,10 +32,13 @@ answer_line line (Err e) = line e
 -- ---- what the status says
 
 -- What the exit status says of the bytes and of the output, where these are the statuses of success.
-pub record EndsWith {O A E S K : Type 0} (IsSuccess : ℕ → Type 0) (task : Task O A E) (left : S → Option (List ℕ)) (source_faults : S → ℕ) (taken : K → Option (List ℕ)) (sink_faults : K → ℕ)
+pub record EndsWith {O A E S K : Type 0} (IsSuccess : ℕ → Type 0) (task : Task O A E) (left : S → Option (List ℕ))
+    (source_faults : S → ℕ) (taken : K → Option (List ℕ)) (sink_faults : K → ℕ)
     (source source' : S) (sink sink' : K) (status : ℕ) : Type 0 where
   -- Success: what the bytes come to was appended.
-  pub done : IsSuccess status → IfSome (left source) (λ bytes. ComeTo task bytes (λ outcome. Appends (taken sink) (taken sink') (task.written outcome)))
+  pub done : IsSuccess status →
+      IfSome (left source)
+      (λ bytes. ComeTo task bytes (λ outcome. Appends (taken sink) (taken sink') (task.written outcome)))
   -- 2: the bytes are refused, and nothing was written.
   pub refused : status ≡ 2 → IfSome (left source) (λ bytes. (e : E) × task.HasOutcome bytes (Err e)) × (sink' ≡ sink)
   -- 3: memory ran out, and nothing was written.
@@ -44,9 +47,13 @@ pub record EndsWith {O A E S K : Type 0} (IsSuccess : ℕ → Type 0) (task : Ta
   pub read_fault : status ≡ 4 → FaultCounted (source_faults source) (source_faults source') × (sink' ≡ sink)
   -- 5: a write failed, and a prefix of what the bytes come to stands.
   pub write_fault : status ≡ 5 → FaultCounted (sink_faults sink) (sink_faults sink')
-      × IfSome (left source) (λ bytes. ComeTo task bytes (λ outcome. AppendsPrefix (taken sink) (taken sink') (task.written outcome)))
+      × IfSome (left source)
+      (λ bytes. ComeTo task bytes (λ outcome. AppendsPrefix (taken sink) (taken sink') (task.written outcome)))
   pub no_other : IsSuccess status ⊎ ((status ≡ 2) ⊎ ((status ≡ 3) ⊎ ((status ≡ 4) ⊎ (status ≡ 5))))
   -- Without a fault bytes that are not refused give success, or memory ran out; and bytes that are refused never do.
-  pub complete : ¬ FaultCounted (source_faults source) (source_faults source') → ¬ FaultCounted (sink_faults sink) (sink_faults sink')
-      → IfSome (left source) (λ bytes. (outcome : O) → task.HasOutcome bytes (Ok outcome) → IsSuccess status ⊎ (status ≡ 3))
-  pub refuses : IfSome (left source) (λ bytes. (e : E) → task.HasOutcome bytes (Err e) → (status ≡ 2) ⊎ ((status ≡ 3) ⊎ (status ≡ 4)))
+  pub complete : ¬ FaultCounted (source_faults source) (source_faults source') →
+      ¬ FaultCounted (sink_faults sink) (sink_faults sink')
+      → IfSome (left source) (λ bytes. (outcome : O) → task.HasOutcome bytes (Ok outcome) →
+      IsSuccess status ⊎ (status ≡ 3))
+  pub refuses : IfSome (left source) (λ bytes. (e : E) → task.HasOutcome bytes (Err e) →
+      (status ≡ 2) ⊎ ((status ≡ 3) ⊎ (status ≡ 4)))

@@ -10,11 +10,13 @@ use Rattle.av1_tile.specs.Reference.{slow_walk}
 -- a number of leaves, and a sum for each plane
 abbrev pub four_lines : ℕ → ℕ → ℕ → ℕ → List ℕ
 four_lines leaves y u v =
-    codes "leaves " ++ decimal leaves ++ codes "\nY " ++ decimal y ++ codes "\nU " ++ decimal u ++ codes "\nV " ++ decimal v ++ codes "\n"
+    codes "leaves " ++ decimal leaves ++ codes "\nY " ++ decimal y ++ codes "\nU " ++ decimal u ++ codes "\nV "
+    ++ decimal v ++ codes "\n"
 
 -- the sum of the visible samples of a plane, by the slow definition
 abbrev pub visible_sum : PlanValue → Component → ℕ
-visible_sum plan component = sum (by_rows (extent_of plan.header (number component)) (λ x y. sample_of (slow_walk plan component x y)))
+visible_sum plan component =
+    sum (by_rows (extent_of plan.header (number component)) (λ x y. sample_of (slow_walk plan component x y)))
 
 -- the lines of a plan
 unfoldable pub sum_lines : PlanValue → List ℕ

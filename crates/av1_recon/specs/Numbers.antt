@@ -5,7 +5,8 @@ use Rattle.std.specs.Str.Parse.{digits_value}
 
 -- the word, given by its bytes, is 1 to 10 decimal digits, which write a number of at most 32 bits
 abbrev pub is_number : List ℕ → Bool
-is_number word = nat_lt 0 (length word) && nat_le (length word) 10 && all_ascii_digits word && nat_lt (digits_value 10 word) (2 ^ 32)
+is_number word = nat_lt 0 (length word) && nat_le (length word) 10 && all_ascii_digits word
+    && nat_lt (digits_value 10 word) (2 ^ 32)
 
 -- the number that a word is, if it is one
 unfoldable pub number_of : List ℕ → Option ℕ

@@ -8,7 +8,8 @@ use Rattle.av1_streams.specs.Streams.{max_plan_bytes}
 use Rattle.av1_streams.specs.Tasks.{Cause, too_long, refused, read_failed, write_failed, no_memory, Task, Performs}
 use Rattle.av1_tile.specs.Output.{planes_of}
 use Rattle.av1_recon.specs.declared.error.ReconError.{ReconError}
-use Rattle.av1_recon.specs.declared.error.ReconError.TheVariants.{ReadFault, TooLong, Malformed, Invalid as InvalidLeaf, WriteFault, Memory}
+use Rattle.av1_recon.specs.declared.error.ReconError.TheVariants.{ReadFault, TooLong, Malformed, Invalid as InvalidLeaf}
+use Rattle.av1_recon.specs.declared.error.ReconError.TheVariants.{WriteFault, Memory}
 
 -- the bytes that are to be written, or why there are none
 abbrev pub Outcome : Type 0
@@ -24,19 +25,22 @@ Answer = Result (Unit {0}) ReconError
 abbrev pub ArePlan : List ℕ → PlanValue → Type 0
 ArePlan bytes value = (length bytes ≤ max_plan_bytes) × AreText plan bytes value
 
--- Why bytes are refused: they are too long, or no text of a plan, or the text of a plan whose first faulty leaf has this fault.
+-- Why bytes are refused: they are too long, or no text of a plan, or the text of a plan whose first faulty leaf has
+-- this fault.
 abbrev pub AreRefusedFor : List ℕ → ReconError → Type 0
 AreRefusedFor bytes TooLong = max_plan_bytes < length bytes
 AreRefusedFor bytes (Malformed at) = (length bytes ≤ max_plan_bytes) × AreRefused plan bytes at
-AreRefusedFor bytes (InvalidLeaf leaf kind) = (value : PlanValue) × ArePlan bytes value × (first_fault value ≡ Some (record { leaf = leaf; kind = kind }))
+AreRefusedFor bytes (InvalidLeaf leaf kind) = (value : PlanValue) × ArePlan bytes value ×
+    (first_fault value ≡ Some (record { leaf = leaf; kind = kind }))
 AreRefusedFor bytes ReadFault = ⊥
 AreRefusedFor bytes WriteFault = ⊥
 AreRefusedFor bytes Memory = ⊥
 
--- The outcome of bytes for a call that writes `output` of a plan: that, where they are the text of a plan without a faulty leaf,
--- else why they are refused.
+-- The outcome of bytes for a call that writes `output` of a plan: that, where they are the text of a plan without a
+-- faulty leaf, else why they are refused.
 abbrev pub HasOutcomeBy : (PlanValue → List ℕ) → List ℕ → Outcome → Type 0
-HasOutcomeBy output bytes (Ok written) = (value : PlanValue) × ArePlan bytes value × (first_fault value ≡ None) × (written ≡ output value)
+HasOutcomeBy output bytes (Ok written) = (value : PlanValue) × ArePlan bytes value × (first_fault value ≡ None) ×
+    (written ≡ output value)
 HasOutcomeBy output bytes (Err e) = AreRefusedFor bytes e
 
 -- the outcome of bytes: the visible planes of the slow definition, or why they are refused
@@ -73,11 +77,13 @@ plan_task output = record {
 }
 
 -- What a call does that reads a plan from a source to its end and writes `output` of it to a sink.
-abbrev pub Converts : {S K : Type 0} → (PlanValue → List ℕ) → (S → Option (List ℕ)) → (S → ℕ) → (K → Option (List ℕ)) → (K → ℕ) → S → S → K → K → Answer → Type 0
+abbrev pub Converts : {S K : Type 0} → (PlanValue → List ℕ) → (S → Option (List ℕ)) → (S → ℕ) → (K → Option (List ℕ)) →
+    (K → ℕ) → S → S → K → K → Answer → Type 0
 Converts output left source_faults taken sink_faults source source' sink sink' answer =
     Performs (plan_task output) left source_faults taken sink_faults source source' sink sink' answer
 
 -- What a call does that reads a plan from a source to its end and writes the visible planes to a sink.
-abbrev pub Reconstructs : {S K : Type 0} → (S → Option (List ℕ)) → (S → ℕ) → (K → Option (List ℕ)) → (K → ℕ) → S → S → K → K → Answer → Type 0
+abbrev pub Reconstructs : {S K : Type 0} → (S → Option (List ℕ)) → (S → ℕ) → (K → Option (List ℕ)) → (K → ℕ) → S → S →
+    K → K → Answer → Type 0
 Reconstructs left source_faults taken sink_faults source source' sink sink' answer =
     Converts planes_of left source_faults taken sink_faults source source' sink sink' answer

@@ -1,19 +1,21 @@
 //! Plans read from a source, reconstructed, and their planes written to a sink; and the program around them.
 //!
-//! [`reconstruct_plan`] is the whole path: it reads a source to its end, parses the plan, checks it, reconstructs it and
-//! writes its visible planes, Y, U and V row by row. [`run`] is all that the program does with the words of its command line.
-//! For programs beside it the parts stand alone: [`read_plan`] reads and checks, [`write_sums`] reconstructs and writes four
-//! lines on a plan whose planes nobody reads, its leaves and the [`plane_sum`] of each plane, [`number_of`] is a number among
-//! the words, [`report`] the line and the exit status of an answer, and [`run_on_words`] what a `main` does beside.
+//! [`reconstruct_plan`] is the whole path: it reads a source to its end, parses the plan, checks it, reconstructs it
+//! and writes its visible planes, Y, U and V row by row. [`run`] is all that the program does with the words of its
+//! command line. For programs beside it the parts stand alone: [`read_plan`] reads and checks, [`write_sums`]
+//! reconstructs and writes four lines on a plan whose planes nobody reads, its leaves and the [`plane_sum`] of each
+//! plane, [`number_of`] is a number among the words, [`report`] the line and the exit status of an answer, and
+//! [`run_on_words`] what a `main` does beside.
 //!
-//! It stands on `av1_streams` for sources and sinks, on `av1_plan` for the grammar and the check of plans, and on `av1_tile`
-//! for the samples, and passes on what its callers need of them.
+//! It stands on `av1_streams` for sources and sinks, on `av1_plan` for the grammar and the check of plans, and on
+//! `av1_tile` for the samples, and passes on what its callers need of them.
 //!
 //! Promised: these calls return, over every source and sink. The outcome of bytes is one definition, `HasOutcome`
-//! (`specs/Outcomes.antt`), and each answer is read off it: Ok only where the bytes are a valid plan, and then exactly the
-//! planes of the slow definition were appended; a refusal exactly where it is the outcome of the bytes; a fault only where the
-//! count of faults rose, or stands at the last value of a `u64`. Want of memory is the one free answer, and comes before the
-//! first written byte. All calls that read a plan and write of it promise the same, `Converts`, whatever they write.
+//! (`specs/Outcomes.antt`), and each answer is read off it: Ok only where the bytes are a valid plan, and then exactly
+//! the planes of the slow definition were appended; a refusal exactly where it is the outcome of the bytes; a fault
+//! only where the count of faults rose, or stands at the last value of a `u64`. Running out of memory is the one free
+//! answer, and comes before the first written byte. All calls that read a plan and write of it promise the same,
+//! `Converts`, whatever they write.
 #![tactic(auto)]
 
 mod answer;

@@ -15,8 +15,8 @@ use av1_streams::{Line, write_bytes};
 use std::alloc::Global;
 use std::num::NonZeroU32;
 
-/// Reconstructs a valid plan as often as `rounds` says, in one state, and appends four lines to the sink: the number of its
-/// leaves, and the sum of the visible samples of each plane.
+/// Reconstructs a valid plan as often as `rounds` says, in one state, and appends four lines to the sink: the number of
+/// its leaves, and the sum of the visible samples of each plane.
 ///
 /// # Errors
 ///

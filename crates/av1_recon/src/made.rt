@@ -28,8 +28,8 @@ pub fn write_made<W: Sink>(alloc: Global, number: u32, sink: &mut W) -> Result<(
     Ok(())
 }
 
-/// Reconstructs the plan of a number once, and appends four lines to the sink: the number of its leaves, and the sum of the
-/// visible samples of each plane.
+/// Reconstructs the plan of a number once, and appends four lines to the sink: the number of its leaves, and the sum of
+/// the visible samples of each plane.
 ///
 /// # Errors
 ///

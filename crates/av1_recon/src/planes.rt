@@ -23,8 +23,8 @@ const MOST_SAMPLES: usize = 2048;
 // The bytes of these.
 const MOST_BYTES: usize = 2 * MOST_SAMPLES;
 
-/// Appends the visible planes to the sink: Y, U and V, each row by row, one byte a sample at depth 8, else two, the low one
-/// first. The first write that fails ends the call, and a prefix of the planes stands.
+/// Appends the visible planes to the sink: Y, U and V, each row by row, one byte a sample at depth 8, else two, the low
+/// one first. The first write that fails ends the call, and a prefix of the planes stands.
 pub fn write_planes<T: Pixel, W: Sink>(state: &TileState<T>, sink: &mut W) -> Result<(), WriteFault>
     requires sound { IsSound T.num state.now }
     requires narrow { (state_header state.now).depth ≡ 8 → T.BITS ≤ 8 }

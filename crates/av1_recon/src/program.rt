@@ -16,9 +16,10 @@ use crate::answer::{report, say};
 use crate::{Command, Sink, Source, reconstruct_plan, write_made, write_made_sums};
 use std::alloc::Global;
 
-/// Does what the words after the program's name ask for, and gives the exit status. Without words a plan is read from `source`
-/// and its planes are written to `out`. `make N` writes the plan of the number N, and `sum N` reconstructs that plan and writes
-/// four lines on it; both read nothing. N is a number by [`crate::number_of`]. All other words are no command.
+/// Does what the words after the program's name ask for, and gives the exit status. Without words a plan is read from
+/// `source` and its planes are written to `out`. `make N` writes the plan of the number N, and `sum N` reconstructs
+/// that plan and writes four lines on it; both read nothing. N is a number by [`crate::number_of`]. All other words are
+/// no command.
 ///
 /// | status | where | line on `err` |
 /// |---|---|---|
@@ -29,8 +30,8 @@ use std::alloc::Global;
 /// | 4 | a read failed | `read fault` |
 /// | 5 | a write failed | `write fault` |
 ///
-/// K is `block size`, `transform`, `mode`, `vector`, `missing reference` or `coefficient`. Where a write to `err` failed a prefix
-/// of the line stands, and the status stays.
+/// K is `block size`, `transform`, `mode`, `vector`, `missing reference` or `coefficient`. Where a write to `err`
+/// failed a prefix of the line stands, and the status stays.
 pub fn run<R: Source, W: Sink, E: Sink>(
     alloc: Global,
     words: &[String],
@@ -66,8 +67,8 @@ pub fn run<R: Source, W: Sink, E: Sink>(
         (λ written. AppendsPrefix (W.taken out.old) (W.taken out.new) written) }
     ensures no_other { result ≤ 5 }
 
-    // Without a fault a valid plan gives status 0, or memory ran out, and so does every number; and bytes that are refused never
-    // give status 0.
+    // Without a fault a valid plan gives status 0, or memory ran out, and so does every number; and bytes that are
+    // refused never give status 0.
     ensures complete { command_of (map string_bytes words.now) ≡ Some Reconstruct → ¬ FaultCounted (R.faults source.old) (R.faults source.new)
         → ¬ FaultCounted (W.faults out.old) (W.faults out.new)
         → IfSome (R.left source.old) (λ bytes. (planes : List ℕ) → HasOutcome bytes (Ok planes) → (result ≡ 0) ⊎ (result ≡ 3)) }

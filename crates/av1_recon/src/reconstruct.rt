@@ -12,8 +12,8 @@ use av1_frame::Pixel;
 use av1_plan::Plan;
 use std::alloc::Global;
 
-/// Reads a plan from the source to its end, and appends the visible planes that it says to the sink: Y, U and V, each row by
-/// row, one byte a sample at depth 8, else two, the low one first.
+/// Reads a plan from the source to its end, and appends the visible planes that it says to the sink: Y, U and V, each
+/// row by row, one byte a sample at depth 8, else two, the low one first.
 ///
 /// # Errors
 ///

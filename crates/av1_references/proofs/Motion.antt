@@ -17,15 +17,19 @@ use Rattle.av1_inter.proofs.Within.{compound_prediction_within, single_predictio
 
 pub single_motion_within : SingleMotionLiesWithin
 single_motion_within value p reference mv area r c some_columns some_rows below =
-    single_prediction_within value.header.depth value.header.filter (reference_plane value (slot_in value.header reference) p) mv area r c some_columns some_rows
-    (λ x y _ _. read_below (slot_samples value (slot_in value.header reference) p) (2 ^ value.header.depth) (y * plane_width value.header p + x) (pow_pos value.header.depth) below)
+    single_prediction_within value.header.depth value.header.filter (reference_plane value (slot_in value.header reference) p) mv area r c some_columns
+    some_rows
+    (λ x y _ _. read_below (slot_samples value (slot_in value.header reference) p) (2 ^ value.header.depth) (y * plane_width value.header p + x)
+    (pow_pos value.header.depth) below)
 
 pub compound_motion_within : CompoundMotionLiesWithin
 compound_motion_within value p references mvs area r c =
-    compound_prediction_within value.header.depth value.header.filter (reference_plane value (slot_in value.header (reference_in references 0)) p) (reference_plane value (slot_in value.header (reference_in references 1)) p) (vector_of mvs 0) (vector_of mvs 1) area r c
+    compound_prediction_within value.header.depth value.header.filter (reference_plane value (slot_in value.header (reference_in references 0)) p)
+    (reference_plane value (slot_in value.header (reference_in references 1)) p) (vector_of mvs 0) (vector_of mvs 1) area r c
 
 -- So does each sample that is predicted from a reference that frame settings hold.
-pub held_motion_within : {T : Type 0} (num : T → ℕ) (value : PlanValue) (fi : FrameInvariants T) (reference : RefType) (p : ℕ) (mv : MotionVector) (area : VisibleArea) (r c : ℕ)
+pub held_motion_within : {T : Type 0} (num : T → ℕ) (value : PlanValue) (fi : FrameInvariants T) (reference : RefType) (p : ℕ) (mv : MotionVector)
+    (area : VisibleArea) (r c : ℕ)
     → ServesPlan num value fi → has_reference value.header reference ≡ true → p < 3 → single_motion value p reference mv area r c < 2 ^ value.header.depth
 held_motion_within num value fi reference p mv area r c holds has below =
     let (plane, is) = plane_of_slot num value fi holds reference has p below in

@@ -41,9 +41,12 @@ from_first : (tile n : ℕ) (offset : ℤ) → tile ≡ 0 → offset ≡ pos n �
 from_first tile n offset e h = omega (arith, ints, e, h)
 
 -- such a region, asked for by the leaf's rectangle, beside the first sample of the leaf in the tile that is the whole plane
-pub leaf_region : {T : Type 0} (plane : Plane T) (area : PlaneArea) (r : PlaneRegionMut T) {asked : Area} {tile_x tile_y : ℕ} {x y : ℤ} {w h : ℕ} → r.plane.now ≡ plane → r.plane_cfg ≡ plane.plane_cfg
-    → r.area ≡ area_from plane.plane_cfg (from_origin plane.plane_cfg) asked → asked ≡ Rect (pos area.x) (pos area.y) (block_width area.size) (block_height area.size)
-    → tile_x ≡ 0 → tile_y ≡ 0 → x ≡ pos area.x → y ≡ pos area.y → w ≡ block_width area.size → h ≡ block_height area.size → IsLeafRegion plane area r (pos tile_x +ℤ x) (pos tile_y +ℤ y) w h
+pub leaf_region : {T : Type 0} (plane : Plane T) (area : PlaneArea) (r : PlaneRegionMut T) {asked : Area} {tile_x tile_y : ℕ} {x y : ℤ} {w h : ℕ} →
+    r.plane.now ≡ plane → r.plane_cfg ≡ plane.plane_cfg
+    → r.area ≡ area_from plane.plane_cfg (from_origin plane.plane_cfg) asked →
+    asked ≡ Rect (pos area.x) (pos area.y) (block_width area.size) (block_height area.size)
+    → tile_x ≡ 0 → tile_y ≡ 0 → x ≡ pos area.x → y ≡ pos area.y → w ≡ block_width area.size → h ≡ block_height area.size →
+    IsLeafRegion plane area r (pos tile_x +ℤ x) (pos tile_y +ℤ y) w h
 leaf_region plane area r {asked} {tile_x} {tile_y} {x} {y} plane_is cfg_is area_is asked_is first_x first_y x_is y_is columns rows = record {
   plane_is = plane_is;
   cfg_is = cfg_is;
@@ -55,17 +58,21 @@ leaf_region plane area r {asked} {tile_x} {tile_y} {x} {y} plane_is cfg_is area_
 }
 
 -- the plane of such a region that was painted
-pub leaf_painted : {T : Type 0} (plane : Plane T) (area : PlaneArea) (r o : PlaneRegionMut T) (x y : ℤ) (w h : ℕ) (f : ℕ → ℕ → T → T) → IsLeafRegion plane area r x y w h → o ≡ painted r (block_width area.size) (block_height area.size) f → o.plane.now ≡ painted_plane plane (leaf_area area) f
+pub leaf_painted : {T : Type 0} (plane : Plane T) (area : PlaneArea) (r o : PlaneRegionMut T) (x y : ℤ) (w h : ℕ) (f : ℕ → ℕ → T → T) →
+    IsLeafRegion plane area r x y w h → o ≡ painted r (block_width area.size) (block_height area.size) f → o.plane.now ≡ painted_plane plane (leaf_area area) f
 leaf_painted plane area r o x y w h f leaf e = region_painted plane (leaf_area area) f r o leaf.plane_is leaf.cfg_is leaf.area_is e
 
-module _ {T : Type 0} (num : T → ℕ) (pixel : ℕ → T) (value : PlanValue) (fi : FrameInvariants T) (holds : ServesPlan num value fi) (p : ℕ) (below : p < 3) (plane : Plane T) (area : PlaneArea) (r o : PlaneRegionMut T) (x y : ℤ) (w h : ℕ) (leaf : IsLeafRegion plane area r x y w h) where
+module _ {T : Type 0} (num : T → ℕ) (pixel : ℕ → T) (value : PlanValue) (fi : FrameInvariants T) (holds : ServesPlan num value fi) (p : ℕ) (below : p < 3)
+    (plane : Plane T) (area : PlaneArea) (r o : PlaneRegionMut T) (x y : ℤ) (w h : ℕ) (leaf : IsLeafRegion plane area r x y w h) where
   -- the plane of a slot shows what the plan's does
-  shown : (reference : RefType) (q : Plane T) → has_reference value.header reference ≡ true → slot_plane fi (slot_of fi reference) p ≡ Some q → ShowSame (as_reference num q) (reference_plane value (slot_in value.header reference) p)
+  shown : (reference : RefType) (q : Plane T) → has_reference value.header reference ≡ true → slot_plane fi (slot_of fi reference) p ≡ Some q →
+      ShowSame (as_reference num q) (reference_plane value (slot_in value.header reference) p)
   shown reference q has is = held_same num value (slot_in value.header reference) p q (plane_holds num value fi holds reference has p q below is)
 
   -- a prediction from a plane, by the place and the sides of the leaf
   moved_to : (f : ℤ → ℤ → ℕ → ℕ → ℕ → ℕ → T → T) (g : ℕ → ℕ → T → T) → o ≡ painted r w h (f x y w h)
-      → ((i j : ℕ) (v : T) → i < block_height area.size → j < block_width area.size → f (pos area.x) (pos area.y) (block_width area.size) (block_height area.size) i j v ≡ g i j v)
+      → ((i j : ℕ) (v : T) → i < block_height area.size → j < block_width area.size →
+      f (pos area.x) (pos area.y) (block_width area.size) (block_height area.size) i j v ≡ g i j v)
       → o ≡ painted r (block_width area.size) (block_height area.size) g
   moved_to f g e same =
       let a = leaf_area area in
@@ -74,26 +81,32 @@ module _ {T : Type 0} (num : T → ℕ) (pixel : ℕ → T) (value : PlanValue) 
       ∙ ap (λ n. painted r n h (f (pos a.x) (pos a.y) n h)) leaf.columns ∙ ap (λ n. painted r a.width n (f (pos a.x) (pos a.y) a.width n)) leaf.rows in
       painted_same r o a.width a.height (f (pos a.x) (pos a.y) a.width a.height) g at same
 
-  pub single_region : (reference : RefType) (mv : MotionVector) → has_reference value.header reference ≡ true → PredictsSingle num pixel fi p reference x y mv w h r o
+  pub single_region : (reference : RefType) (mv : MotionVector) → has_reference value.header reference ≡ true →
+      PredictsSingle num pixel fi p reference x y mv w h r o
       → o ≡ painted r (block_width area.size) (block_height area.size) (λ i j _. pixel (single_motion value p reference mv (leaf_area area) i j))
   single_region reference mv has predicts =
       let (q, is) = plane_of_slot num value fi holds reference has p below in
       let a = leaf_area area in
-      moved_to (λ (x y : ℤ) (w h : ℕ). single_pixel num pixel fi q x y mv w h) (λ i j _. pixel (single_motion value p reference mv a i j)) (predicts q is) (λ i j v l k. ap pixel (
+      moved_to (λ (x y : ℤ) (w h : ℕ). single_pixel num pixel fi q x y mv w h) (λ i j _. pixel (single_motion value p reference mv a i j)) (predicts q is)
+      (λ i j v l k. ap pixel (
       ap (λ (d : ℕ). single_in d fi.default_filter (as_reference num q) (pos a.x) (pos a.y) mv a.width a.height i j) holds.settings.depth
       ∙ ap (λ (m : FilterMode). single_in value.header.depth m (as_reference num q) (pos a.x) (pos a.y) mv a.width a.height i j) holds.settings.filter
-      ∙ single_in_same (as_reference num q) (reference_plane value (slot_in value.header reference) p) (shown reference q has is) value.header.depth value.header.filter (pos a.x) (pos a.y) mv a.width a.height i j))
+      ∙ single_in_same (as_reference num q) (reference_plane value (slot_in value.header reference) p)
+      (shown reference q has is) value.header.depth value.header.filter (pos a.x) (pos a.y) mv a.width a.height i j))
 
   -- what is prepared of a reference
-  prepared_same : (reference : RefType) (q : Plane T) (mv : MotionVector) → has_reference value.header reference ≡ true → slot_plane fi (slot_of fi reference) p ≡ Some q → (i j : ℕ)
+  prepared_same : (reference : RefType) (q : Plane T) (mv : MotionVector) → has_reference value.header reference ≡ true →
+      slot_plane fi (slot_of fi reference) p ≡ Some q → (i j : ℕ)
       → i < block_height area.size → j < block_width area.size
       → prepared_in fi.bit_depth fi.default_filter (as_reference num q) (pos area.x) (pos area.y) mv (block_width area.size) (block_height area.size) i j
-      ≡ prepared_in value.header.depth value.header.filter (reference_plane value (slot_in value.header reference) p) (pos area.x) (pos area.y) mv (block_width area.size) (block_height area.size) i j
+      ≡ prepared_in value.header.depth value.header.filter (reference_plane value (slot_in value.header reference) p) (pos area.x)
+      (pos area.y) mv (block_width area.size) (block_height area.size) i j
   prepared_same reference q mv has is i j l k =
       let a = leaf_area area in
       ap (λ (d : ℕ). prepared_in d fi.default_filter (as_reference num q) (pos a.x) (pos a.y) mv a.width a.height i j) holds.settings.depth
       ∙ ap (λ (m : FilterMode). prepared_in value.header.depth m (as_reference num q) (pos a.x) (pos a.y) mv a.width a.height i j) holds.settings.filter
-      ∙ prepared_in_same (as_reference num q) (reference_plane value (slot_in value.header reference) p) (shown reference q has is) value.header.depth value.header.filter (pos a.x) (pos a.y) mv a.width a.height i j
+      ∙ prepared_in_same (as_reference num q) (reference_plane value (slot_in value.header reference) p)
+      (shown reference q has is) value.header.depth value.header.filter (pos a.x) (pos a.y) mv a.width a.height i j
 
   pub compound_region : (references : List RefType) (mvs : List MotionVector) → has_reference value.header (reference_in references 0) ≡ true
       → has_reference value.header (reference_in references 1) ≡ true → PredictsCompound num pixel fi p references x y mvs w h r o
@@ -104,9 +117,12 @@ module _ {T : Type 0} (num : T → ℕ) (pixel : ℕ → T) (value : PlanValue) 
       let a = leaf_area area in
       let one = λ (i j : ℕ). prepared_in fi.bit_depth fi.default_filter (as_reference num q) (pos a.x) (pos a.y) (vector_of mvs 0) a.width a.height i j in
       let two = λ (i j : ℕ). prepared_in fi.bit_depth fi.default_filter (as_reference num t) (pos a.x) (pos a.y) (vector_of mvs 1) a.width a.height i j in
-      let second = λ (i j : ℕ). prepared_in value.header.depth value.header.filter (reference_plane value (slot_in value.header (reference_in references 1)) p) (pos a.x) (pos a.y) (vector_of mvs 1) a.width a.height i j in
-      let first = λ (i j : ℕ). prepared_in value.header.depth value.header.filter (reference_plane value (slot_in value.header (reference_in references 0)) p) (pos a.x) (pos a.y) (vector_of mvs 0) a.width a.height i j in
-      moved_to (λ (x y : ℤ) (w h : ℕ). compound_pixel num pixel fi q t x y mvs w h) (λ i j _. pixel (compound_motion value p references mvs a i j)) (predicts q t q_is t_is) (λ i j v l k. ap pixel (
+      let second = λ (i j : ℕ). prepared_in value.header.depth value.header.filter (reference_plane value (slot_in value.header (reference_in references 1)) p)
+      (pos a.x) (pos a.y) (vector_of mvs 1) a.width a.height i j in
+      let first = λ (i j : ℕ). prepared_in value.header.depth value.header.filter (reference_plane value (slot_in value.header (reference_in references 0)) p)
+      (pos a.x) (pos a.y) (vector_of mvs 0) a.width a.height i j in
+      moved_to (λ (x y : ℤ) (w h : ℕ). compound_pixel num pixel fi q t x y mvs w h) (λ i j _. pixel (compound_motion value p references mvs a i j))
+      (predicts q t q_is t_is) (λ i j v l k. ap pixel (
       ap (λ (d : ℕ). averaged d (one i j) (two i j)) holds.settings.depth
       ∙ ap (λ (z : ℤ). averaged value.header.depth z (two i j)) (prepared_same (reference_in references 0) q (vector_of mvs 0) has_first q_is i j l k)
       ∙ ap (λ (z : ℤ). averaged value.header.depth (first i j) z) (prepared_same (reference_in references 1) t (vector_of mvs 1) has_second t_is i j l k)))

@@ -1,5 +1,6 @@
 -- Frame settings that hold the references of a plan: which areas they serve, and what is predicted from them.
-use Rattle.std.proofs.Common.{ℕ, zero, suc, ◌+◌, ◌-◌, ◌/◌, ◌<◌, ◌≤◌, ◌≡◌, ◌∙◌, ◌^◌, ap, sym, subst, refl, arith, true, List, [], ◌∷◌, get_or, Option, Some, None, is_some, ltb}
+use Rattle.std.proofs.Common.{ℕ, zero, suc, ◌+◌, ◌-◌, ◌/◌, ◌<◌, ◌≤◌, ◌≡◌, ◌∙◌, ◌^◌, ap, sym, subst, refl, arith, true, List, [], ◌∷◌, get_or, Option, Some}
+use Rattle.std.proofs.Common.{None, is_some, ltb}
 use Rattle.std.proofs.lemmas.Bool.{and_parts, lt-ltb, ltb-true}
 use Rattle.av1_blocks.specs.declared.partition.RefType.{RefType}
 use Rattle.av1_blocks.specs.References.{reference_number}
@@ -69,12 +70,14 @@ holds_serves {T} num value fi holds = record {
     slot_is reference = ap (λ (slots : List ℕ). get_or slots (reference_number reference - 1) 0) holds.settings.slots
 
 -- the slot of a reference that a plan has is filled
-pub plane_of_slot : {T : Type 0} (num : T → ℕ) (value : PlanValue) (fi : FrameInvariants T) → ServesPlan num value fi → (reference : RefType) → has_reference value.header reference ≡ true → (p : ℕ) → p < 3
+pub plane_of_slot : {T : Type 0} (num : T → ℕ) (value : PlanValue) (fi : FrameInvariants T) → ServesPlan num value fi → (reference : RefType) →
+    has_reference value.header reference ≡ true → (p : ℕ) → p < 3
     → (plane : Plane T) × (slot_plane fi (slot_of fi reference) p ≡ Some plane)
 plane_of_slot num value fi serves reference has p h = some_of _ (serves.filled reference p has h)
 
 -- by the plan's planes
-pub plane_holds : {T : Type 0} (num : T → ℕ) (value : PlanValue) (fi : FrameInvariants T) → ServesPlan num value fi → (reference : RefType) → has_reference value.header reference ≡ true → (p : ℕ) (plane : Plane T) → p < 3
+pub plane_holds : {T : Type 0} (num : T → ℕ) (value : PlanValue) (fi : FrameInvariants T) → ServesPlan num value fi → (reference : RefType) →
+    has_reference value.header reference ≡ true → (p : ℕ) (plane : Plane T) → p < 3
     → slot_plane fi (slot_of fi reference) p ≡ Some plane → HoldsPlane num value.header p (slot_samples value (slot_in value.header reference) p) plane
 plane_holds num value fi serves reference has p plane h e = serves.planes reference p plane has h e
 
@@ -85,36 +88,43 @@ reaches (suc zero) n pad few short wide = omega (arith, short, wide)
 reaches (suc (suc s)) n pad few short wide = absurd (omega (arith, few))
 
 -- such a plane is a reference for blocks with sides up to 64 in luma, and half as many where the plane is halved
-serves : {T : Type 0} (num : T → ℕ) (h : Header) (p : ℕ) (samples : List ℕ) (plane : Plane T) (depth width height : ℕ) → HoldsPlane num h p samples plane → depth ≡ h.depth
+serves : {T : Type 0} (num : T → ℕ) (h : Header) (p : ℕ) (samples : List ℕ) (plane : Plane T) (depth width height : ℕ) → HoldsPlane num h p samples plane →
+    depth ≡ h.depth
     → width ≤ 64 / 2 ^ xdec h p → height ≤ 64 / 2 ^ ydec h p → IsReference num plane depth width height
 serves num h p samples plane depth width height holds e w k = record {
   padded = holds.padded;
-  within = λ x y a b. subst (λ (d : ℕ). sample_at num plane x y < 2 ^ d) (sym e) (holds.within x y (omega (arith, a, holds.width)) (omega (arith, b, holds.height)));
+  within =
+      λ x y a b. subst (λ (d : ℕ). sample_at num plane x y < 2 ^ d) (sym e) (holds.within x y (omega (arith, a, holds.width)) (omega (arith, b, holds.height)));
   xpad = reaches (xdec h p) width _ (subst (λ (s : ℕ). s ≤ 1) holds.xdec holds.padded.whole.xdec) w holds.xpad;
   ypad = reaches (ydec h p) height _ (subst (λ (s : ℕ). s ≤ 1) holds.ydec holds.padded.whole.ydec) k holds.ypad;
 }
 
 -- Settings that serve a plan serve each reference that the plan's header has, for areas with sides up to 64 in luma.
 pub served : {T : Type 0} (num : T → ℕ) (value : PlanValue) (fi : FrameInvariants T) (reference : RefType) (p width height : ℕ) → ServesPlan num value fi
-    → has_reference value.header reference ≡ true → 1 ≤ reference_number reference → reference_number reference ≤ 7 → p < 3 → width ≤ 64 / 2 ^ xdec value.header p → height ≤ 64 / 2 ^ ydec value.header p → IsServed num fi reference p width height
+    → has_reference value.header reference ≡ true → 1 ≤ reference_number reference → reference_number reference ≤ 7 → p < 3 →
+    width ≤ 64 / 2 ^ xdec value.header p → height ≤ 64 / 2 ^ ydec value.header p → IsServed num fi reference p width height
 served num value fi reference p width height holds has least most h w k = record {
   inter = λ e. absurd (let n = ap reference_number e in omega (arith, n));
   some = λ e. absurd (let n = ap reference_number e in omega (arith, n));
   slot = holds.named reference has;
-  plane = λ plane e. serves num value.header p _ plane fi.bit_depth width height (plane_holds num value fi holds reference has p plane h e) holds.settings.depth w k;
+  plane = λ plane e. serves num value.header p _ plane fi.bit_depth width height (plane_holds num value fi holds reference has p plane h e) holds.settings.depth
+      w k;
 }
 
 -- what is served with longer sides is served with shorter ones
-pub served_shorter : {T : Type 0} (num : T → ℕ) (fi : FrameInvariants T) (reference : RefType) (p m n width height : ℕ) → width ≤ m → height ≤ n → IsServed num fi reference p m n → IsServed num fi reference p width height
+pub served_shorter : {T : Type 0} (num : T → ℕ) (fi : FrameInvariants T) (reference : RefType) (p m n width height : ℕ) → width ≤ m → height ≤ n →
+    IsServed num fi reference p m n → IsServed num fi reference p width height
 served_shorter num fi reference p m n width height w h s = record {
   inter = s.inter;
   some = s.some;
   slot = s.slot;
-  plane = λ plane e. (let is = s.plane plane e in record { padded = is.padded; within = is.within; xpad = omega (arith, is.xpad, w); ypad = omega (arith, is.ypad, h) });
+  plane = λ plane e.
+      (let is = s.plane plane e in record { padded = is.padded; within = is.within; xpad = omega (arith, is.xpad, w); ypad = omega (arith, is.ypad, h) });
 }
 
 -- such a plane shows what the plan's plane does
-pub held_same : {T : Type 0} (num : T → ℕ) (value : PlanValue) (slot p : ℕ) (plane : Plane T) → HoldsPlane num value.header p (slot_samples value slot p) plane → ShowSame (as_reference num plane) (reference_plane value slot p)
+pub held_same : {T : Type 0} (num : T → ℕ) (value : PlanValue) (slot p : ℕ) (plane : Plane T) →
+    HoldsPlane num value.header p (slot_samples value slot p) plane → ShowSame (as_reference num plane) (reference_plane value slot p)
 held_same num value slot p plane holds = record {
   width = holds.width;
   height = holds.height;

@@ -1,5 +1,6 @@
 -- The slots of a frame, filled one after another with the planes of a plan.
-use Rattle.std.proofs.Common.{ℕ, zero, suc, ◌+◌, ◌<◌, ◌≤◌, ◌≡◌, ◌≢◌, ◌∙◌, ap, sym, subst, refl, arith, inl, inr, true, false, length, get_or, set, Some, None, is_some, replicate}
+use Rattle.std.proofs.Common.{ℕ, zero, suc, ◌+◌, ◌<◌, ◌≤◌, ◌≡◌, ◌≢◌, ◌∙◌, ap, sym, subst, refl, arith, inl, inr, true, false, length, get_or, set, Some, None}
+use Rattle.std.proofs.Common.{is_some, replicate}
 use Rattle.std.specs.Option.{option_map}
 use Rattle.std.proofs.lemmas.Bool.{cases_lt}
 use Rattle.std.proofs.lemmas.List.{get_or-set_other, get_or-set_same, length-set}
@@ -18,7 +19,8 @@ pub record HoldsFirst {T : Type 0} (num : T → ℕ) (value : PlanValue) (n : �
   pub settings : HasSettings value.header fi
   pub count : length fi.slots ≡ 8
   pub filled : (slot p : ℕ) → slot < n → p < 3 → is_some (slot_plane fi slot p) ≡ has_slot value.header slot
-  pub planes : (slot p : ℕ) (plane : Plane T) → slot < n → p < 3 → slot_plane fi slot p ≡ Some plane → HoldsPlane num value.header p (slot_samples value slot p) plane
+  pub planes : (slot p : ℕ) (plane : Plane T) → slot < n → p < 3 → slot_plane fi slot p ≡ Some plane →
+      HoldsPlane num value.header p (slot_samples value slot p) plane
   pub others : (slot p : ℕ) → n ≤ slot → slot_plane fi slot p ≡ None
 
 all_same : {X : Type 0} (n i : ℕ) (x : X) → get_or (replicate n x) i x ≡ x
@@ -27,7 +29,8 @@ all_same (suc n) zero x = refl
 all_same (suc n) (suc i) x = all_same n i x
 
 -- a new frame holds no slot yet
-pub holds_none : {T : Type 0} (num : T → ℕ) (value : PlanValue) (fi : FrameInvariants T) → let h = value.header in fi ≡ new_frame h.width h.height h.filter h.depth h.edge_filter h.slots → HoldsFirst num value 0 fi
+pub holds_none : {T : Type 0} (num : T → ℕ) (value : PlanValue) (fi : FrameInvariants T) → let h = value.header
+    in fi ≡ new_frame h.width h.height h.filter h.depth h.edge_filter h.slots → HoldsFirst num value 0 fi
 holds_none {T} num value fi e = subst (λ (f : FrameInvariants T). HoldsFirst num value 0 f) (sym e) (record {
   settings = record { columns = refl; rows = refl; depth = refl; filter = refl; edge_filter = refl; slots = refl };
   count = refl;
@@ -63,32 +66,45 @@ module _ {T : Type 0} (num : T → ℕ) (value : PlanValue) (n : ℕ) (fi : Fram
     at_others : (slot p : ℕ) → slot ≢ n → slot_plane filled_fi slot p ≡ slot_plane fi slot p
     at_others slot p ne = ap (option_map (λ (t : Slot T). plane_of t p)) (get_or-set_other fi.slots n slot (Some s) None ne)
 
-    each_plane : HoldsPlane num value.header 0 (slot_samples value n 0) s.y → HoldsPlane num value.header 1 (slot_samples value n 1) s.u → HoldsPlane num value.header 2 (slot_samples value n 2) s.v → (p : ℕ) → p < 3 → HoldsPlane num value.header p (slot_samples value n p) (plane_of s p)
+    each_plane : HoldsPlane num value.header 0 (slot_samples value n 0) s.y → HoldsPlane num value.header 1 (slot_samples value n 1) s.u →
+        HoldsPlane num value.header 2 (slot_samples value n 2) s.v → (p : ℕ) → p < 3 → HoldsPlane num value.header p (slot_samples value n p) (plane_of s p)
     each_plane y u v zero h = y
     each_plane y u v (suc zero) h = u
     each_plane y u v (suc (suc zero)) h = v
     each_plane y u v (suc (suc (suc p))) h = absurd (omega arith)
 
     -- slot n was filled with its planes
-    pub holds_filled : has_slot value.header n ≡ true → HoldsPlane num value.header 0 (slot_samples value n 0) s.y → HoldsPlane num value.header 1 (slot_samples value n 1) s.u → HoldsPlane num value.header 2 (slot_samples value n 2) s.v → HoldsFirst num value (n + 1) filled_fi
+    pub holds_filled : has_slot value.header n ≡ true → HoldsPlane num value.header 0 (slot_samples value n 0) s.y →
+        HoldsPlane num value.header 1 (slot_samples value n 1) s.u → HoldsPlane num value.header 2 (slot_samples value n 2) s.v →
+        HoldsFirst num value (n + 1) filled_fi
     holds_filled e y u v = record {
-      settings = record { columns = holds.settings.columns; rows = holds.settings.rows; depth = holds.settings.depth; filter = holds.settings.filter; edge_filter = holds.settings.edge_filter; slots = holds.settings.slots };
+      settings = record {
+        columns = holds.settings.columns;
+        rows = holds.settings.rows;
+        depth = holds.settings.depth;
+        filter = holds.settings.filter;
+        edge_filter = holds.settings.edge_filter;
+        slots = holds.settings.slots;
+      };
       count = length-set fi.slots n (Some s) ∙ holds.count;
       filled = λ slot p l h. elim (cases_lt slot n) [
         | inl less ↦ ap is_some (at_others slot p (omega arith)) ∙ holds.filled slot p less h
-        | inr above ↦ (let at : n ≡ slot = omega arith in ap is_some (subst (λ m. slot_plane filled_fi m p ≡ Some (plane_of s p)) at (at_slot p)) ∙ sym e ∙ ap (has_slot value.header) at)
+        | inr above ↦ (let at : n ≡ slot = omega arith in ap is_some (subst (λ m. slot_plane filled_fi m p ≡ Some (plane_of s p)) at (at_slot p)) ∙ sym e
+            ∙ ap (has_slot value.header) at)
       ];
       planes = λ slot p plane l h is. elim (cases_lt slot n) [
         | inl less ↦ holds.planes slot p plane less h (sym (at_others slot p (omega arith)) ∙ is)
         | inr above ↦ (let at : n ≡ slot = omega arith in
             let same : plane_of s p ≡ plane = same_Some _ _ (sym (at_slot p) ∙ ap (λ m. slot_plane filled_fi m p) at ∙ is) in
-            subst (λ m. HoldsPlane num value.header p (slot_samples value m p) plane) at (subst (λ (q : Plane T). HoldsPlane num value.header p (slot_samples value n p) q) same (each_plane y u v p h)))
+            subst (λ m. HoldsPlane num value.header p (slot_samples value m p) plane) at
+            (subst (λ (q : Plane T). HoldsPlane num value.header p (slot_samples value n p) q) same (each_plane y u v p h)))
       ];
       others = λ slot p l. at_others slot p (omega arith) ∙ holds.others slot p (omega arith);
     }
 
 -- all slots are filled
-pub holds_all : {T : Type 0} (num : T → ℕ) (value : PlanValue) (n : ℕ) (fi : FrameInvariants T) → 8 ≤ n → IsDepth value.header.depth → HoldsFirst num value n fi → HoldsReferences num value fi
+pub holds_all : {T : Type 0} (num : T → ℕ) (value : PlanValue) (n : ℕ) (fi : FrameInvariants T) → 8 ≤ n → IsDepth value.header.depth →
+    HoldsFirst num value n fi → HoldsReferences num value fi
 holds_all num value n fi h depth holds = record {
   settings = holds.settings;
   depth = subst IsDepth (sym holds.settings.depth) depth;

@@ -1,6 +1,7 @@
--- What inter prediction reads of a plan: the planes of its slots, and the samples of a leaf's whole area that it predicts from them.
--- AV1 specification: inter prediction process, motion vector scaling process.
-use Rattle.std.specs.Prelude.{◌≡◌, true, ℕ, ◌+◌, ◌*◌, ◌/◌, ◌-◌, ◌^◌, ◌<◌, ◌≤◌, List, [], Some, is_some, unwrap_or, slice_index}
+-- What inter prediction reads of a plan: the planes of its slots, and the samples of a leaf's whole area that it
+-- predicts from them. AV1 specification: inter prediction process, motion vector scaling process.
+use Rattle.std.specs.Prelude.{◌≡◌, true, ℕ, ◌+◌, ◌*◌, ◌/◌, ◌-◌, ◌^◌, ◌<◌, ◌≤◌, List, [], Some, is_some, unwrap_or}
+use Rattle.std.specs.Prelude.{slice_index}
 use Rattle.av1_blocks.specs.declared.mc.MotionVector.{MotionVector}
 use Rattle.av1_blocks.specs.declared.partition.RefType.{RefType}
 use Rattle.av1_blocks.specs.Blocks.{block_width, block_height}
@@ -48,7 +49,8 @@ leaf_area a = record { x = a.x; y = a.y; width = block_width a.size; height = bl
 -- the sample at row r and column c of an area of plane p that a vector predicts from a reference
 abbrev pub single_motion : PlanValue → (p : ℕ) → RefType → MotionVector → VisibleArea → (r c : ℕ) → ℕ
 single_motion value p reference mv area r c =
-    single_prediction value.header.depth value.header.filter (reference_plane value (slot_in value.header reference) p) mv area r c
+    single_prediction value.header.depth value.header.filter (reference_plane value (slot_in value.header reference) p)
+    mv area r c
 
 -- and that two vectors predict, each from its reference
 abbrev pub compound_motion : PlanValue → (p : ℕ) → List RefType → List MotionVector → VisibleArea → (r c : ℕ) → ℕ
@@ -60,9 +62,11 @@ compound_motion value p references mvs area r c =
 
 -- ---- the frame settings that hold them
 
--- These samples, row by row, are those of a plane that stores plane p of a frame, padded for blocks of sides up to 64 in luma: their filters
--- reach 7 samples past a side. Where the plane is halved, the sides of blocks are, and so are its pads.
-pub record HoldsPlane {T : Type 0} (num : T → ℕ) (h : Header) (p : ℕ) (samples : List ℕ) (plane : Plane T) : Type 0 where
+-- These samples, row by row, are those of a plane that stores plane p of a frame, padded for blocks of sides up to 64
+-- in luma: their filters reach 7 samples past a side. Where the plane is halved, the sides of blocks are, and so are
+-- its pads.
+pub record HoldsPlane {T : Type 0} (num : T → ℕ) (h : Header) (p : ℕ) (samples : List ℕ)
+    (plane : Plane T) : Type 0 where
   pub padded : IsPadded num plane
   pub xpad : 80 / 2 ^ xdec h p ≤ plane.plane_cfg.xpad
   pub ypad : 80 / 2 ^ ydec h p ≤ plane.plane_cfg.ypad
@@ -70,7 +74,8 @@ pub record HoldsPlane {T : Type 0} (num : T → ℕ) (h : Header) (p : ℕ) (sam
   pub height : plane.plane_cfg.height ≡ plane_height h p
   pub xdec : plane.plane_cfg.xdec ≡ xdec h p
   pub ydec : plane.plane_cfg.ydec ≡ ydec h p
-  pub shows : (x y : ℕ) → x < plane_width h p → y < plane_height h p → sample_at num plane x y ≡ slice_index samples (y * plane_width h p + x)
+  pub shows : (x y : ℕ) → x < plane_width h p → y < plane_height h p →
+      sample_at num plane x y ≡ slice_index samples (y * plane_width h p + x)
   pub within : (x y : ℕ) → x < plane_width h p → y < plane_height h p → sample_at num plane x y < 2 ^ h.depth
 
 -- the settings of a frame are those of a header
@@ -82,25 +87,29 @@ pub record HasSettings {T : Type 0} (h : Header) (fi : FrameInvariants T) : Type
   pub edge_filter : fi.enable_intra_edge_filter ≡ h.edge_filter
   pub slots : fi.ref_frames ≡ h.slots
 
--- The frame has the settings of the plan's header, its slots are filled exactly where the plan's mask has them, and what fills them are
--- the plan's planes.
+-- The frame has the settings of the plan's header, its slots are filled exactly where the plan's mask has them, and
+-- what fills them are the plan's planes.
 pub record HoldsReferences {T : Type 0} (num : T → ℕ) (value : PlanValue) (fi : FrameInvariants T) : Type 0 where
   pub settings : HasSettings value.header fi
   pub depth : IsDepth fi.bit_depth
   pub filled : (slot p : ℕ) → slot < 8 → p < 3 → is_some (slot_plane fi slot p) ≡ has_slot value.header slot
-  pub planes : (slot p : ℕ) (plane : Plane T) → slot < 8 → p < 3 → slot_plane fi slot p ≡ Some plane → HoldsPlane num value.header p (slot_samples value slot p) plane
+  pub planes : (slot p : ℕ) (plane : Plane T) → slot < 8 → p < 3 → slot_plane fi slot p ≡ Some plane →
+      HoldsPlane num value.header p (slot_samples value slot p) plane
 
 -- the settings of a frame that prediction from references reads are those of a header
 pub record PredictsAs {T : Type 0} (h : Header) (fi : FrameInvariants T) : Type 0 where
   pub depth : fi.bit_depth ≡ h.depth
   pub filter : fi.default_filter ≡ h.filter
 
--- The frame predicts as the plan's header says, and each reference that the header has names a filled slot of the frame, with the planes of the
--- plan's slot. In which slots the frame keeps planes, and which others it keeps, is not asked.
+-- The frame predicts as the plan's header says, and each reference that the header has names a filled slot of the
+-- frame, with the planes of the plan's slot. In which slots the frame keeps planes, and which others it keeps, is not
+-- asked.
 pub record ServesPlan {T : Type 0} (num : T → ℕ) (value : PlanValue) (fi : FrameInvariants T) : Type 0 where
   pub settings : PredictsAs value.header fi
   pub depth : IsDepth fi.bit_depth
   pub named : (reference : RefType) → has_reference value.header reference ≡ true → slot_of fi reference < 8
-  pub filled : (reference : RefType) (p : ℕ) → has_reference value.header reference ≡ true → p < 3 → is_some (slot_plane fi (slot_of fi reference) p) ≡ true
-  pub planes : (reference : RefType) (p : ℕ) (plane : Plane T) → has_reference value.header reference ≡ true → p < 3 → slot_plane fi (slot_of fi reference) p ≡ Some plane
+  pub filled : (reference : RefType) (p : ℕ) → has_reference value.header reference ≡ true → p < 3 →
+      is_some (slot_plane fi (slot_of fi reference) p) ≡ true
+  pub planes : (reference : RefType) (p : ℕ) (plane : Plane T) → has_reference value.header reference ≡ true → p < 3 →
+      slot_plane fi (slot_of fi reference) p ≡ Some plane
       → HoldsPlane num value.header p (slot_samples value (slot_in value.header reference) p) plane

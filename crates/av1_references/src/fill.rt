@@ -48,7 +48,8 @@ pub fn fill_plane<T: Pixel>(plane: &mut Plane<T>, samples: &[u16])
     requires whole { IsWhole plane.old }
     requires count { length samples.now ≡ plane.old.plane_cfg.height * plane.old.plane_cfg.width }
     requires range { All (λ sample. sample < 2 ^ T.BITS) samples.now }
-    ensures { let cfg = plane.old.plane_cfg in plane.new ≡ painted_plane plane.old (all_visible cfg) (λ r c _. T.pixel (slice_index samples.now (r * cfg.width + c))) }
+    ensures { let cfg = plane.old.plane_cfg
+        in plane.new ≡ painted_plane plane.old (all_visible cfg) (λ r c _. T.pixel (slice_index samples.now (r * cfg.width + c))) }
 {
     let cfg = plane.config();
     fill_rows(&mut plane.as_region_mut(), samples, cfg.width, cfg.height);

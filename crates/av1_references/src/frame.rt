@@ -12,14 +12,15 @@ use av1_frame::{FrameInvariants, Pixel, Plane};
 use av1_plan::{Header, Plan};
 use std::alloc::Global;
 
-/// How many columns and rows of luma stand round a reference: the filters of a block with sides of 64 reach 7 samples past a side.
+/// How many columns and rows of luma stand round a reference: the filters of a block with sides of 64 reach 7 samples
+/// past a side.
 const PAD: usize = 80;
 
 /// How many slots there are.
 const SLOTS: usize = 8;
 
-/// How many samples stand on either side of a reference in a direction, in which a sample stands for 1 of luma (`decimation` 0) or 2 (1). Sides of
-/// blocks are halved there too: of a block of 32, 39 samples are read.
+/// How many samples stand on either side of a reference in a direction, in which a sample stands for 1 of luma
+/// (`decimation` 0) or 2 (1). Sides of blocks are halved there too: of a block of 32, 39 samples are read.
 fn pad_of(decimation: usize) -> usize
     requires { decimation ≤ 1 }
     ensures value { result ≡ 80 / 2 ^ decimation }

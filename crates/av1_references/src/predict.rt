@@ -54,8 +54,8 @@ fn whole_tile(cfg: PlaneConfig) -> TileRect
     }
 }
 
-/// Predicts a leaf's area of plane `p` (0 for Y, 1 for U and 2 for V) from one reference of a plan, whichever plan the frame settings
-/// hold the references of.
+/// Predicts a leaf's area of plane `p` (0 for Y, 1 for U and 2 for V) from one reference of a plan, whichever plan the
+/// frame settings hold the references of.
 pub fn predict_single<T: Pixel>(
     plane: &mut Plane<T>,
     fi: &FrameInvariants<T>,
@@ -92,7 +92,8 @@ pub fn predict_single<T: Pixel>(
     );
 }
 
-/// Predicts a leaf's area of plane `p` from two references of a plan, each with its vector. `buffer` is room to work in.
+/// Predicts a leaf's area of plane `p` from two references of a plan, each with its vector. `buffer` is room to work
+/// in.
 pub fn predict_compound<T: Pixel>(
     plane: &mut Plane<T>,
     fi: &FrameInvariants<T>,

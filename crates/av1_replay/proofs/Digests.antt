@@ -10,7 +10,8 @@ use Rattle.av1_replay.specs.Digest.{after_bit, after_four_bits, after_byte, afte
 
 -- what four bits make of each remainder below 16
 abbrev table : List ℕ
-table = 0 ∷ 498536548 ∷ 997073096 ∷ 651767980 ∷ 1994146192 ∷ 1802195444 ∷ 1303535960 ∷ 1342533948 ∷ 3988292384 ∷ 4027552580 ∷ 3604390888 ∷ 3412177804 ∷ 2607071920 ∷ 2262029012 ∷ 2685067896 ∷ 3183342108 ∷ []
+table = 0 ∷ 498536548 ∷ 997073096 ∷ 651767980 ∷ 1994146192 ∷ 1802195444 ∷ 1303535960 ∷ 1342533948 ∷ 3988292384 ∷ 4027552580 ∷ 3604390888 ∷ 3412177804 ∷
+    2607071920 ∷ 2262029012 ∷ 2685067896 ∷ 3183342108 ∷ []
 
 tabled : all_below 16 (λ r. nat_eq (slice_index_or table r 0) (after_four_bits r)) ≡ true
 tabled = refl

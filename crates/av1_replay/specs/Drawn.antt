@@ -1,5 +1,6 @@
 -- The numbers that a seed alone decides: by splitmix64, a step for each.
-use Rattle.std.specs.Prelude.{ℕ, zero, suc, ◌+◌, ◌-◌, ◌*◌, ◌/◌, ◌%◌, ◌^◌, ◌==◌, List, [], ◌∷◌, ◌++◌, ℤ, pos, ◌-ℤ◌, bit_xor, if◌then◌else◌}
+use Rattle.std.specs.Prelude.{ℕ, zero, suc, ◌+◌, ◌-◌, ◌*◌, ◌/◌, ◌%◌, ◌^◌, ◌==◌, List, [], ◌∷◌, ◌++◌, ℤ, pos, ◌-ℤ◌}
+use Rattle.std.specs.Prelude.{bit_xor, if◌then◌else◌}
 use Rattle.av1_replay.specs.declared.way.Way.{Way}
 use Rattle.av1_replay.specs.declared.way.Way.TheVariants.{Any, Ends, Same}
 use Rattle.av1_replay.specs.declared.way.Signed.{Signed}

@@ -102,7 +102,8 @@ impl Availability {
         })
     }
 
-    /// Its answer: whether those above right and below left are, by the tables, then both by the bits of the block's place, a byte each.
+    /// Its answer: whether those above right and below left are, by the tables, then both by the bits of the block's
+    /// place, a byte each.
     pub fn replay(&self, alloc: Global) -> Answer
         ensures { Tells result 0 [] (available_bytes self.now) }
     {

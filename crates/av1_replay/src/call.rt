@@ -68,8 +68,8 @@ impl BlockCall {
         }
     }
 
-    /// Its answer. What was written is all that the call was given to write to, two bytes for each sample or 16-bit value, four for each
-    /// value of a one-dimensional transform; of an edge it is the part that the row asks for.
+    /// Its answer. What was written is all that the call was given to write to, two bytes for each sample or 16-bit
+    /// value, four for each value of a one-dimensional transform; of an edge it is the part that the row asks for.
     ///
     /// # Errors
     ///

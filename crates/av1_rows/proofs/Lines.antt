@@ -7,7 +7,8 @@ pub no_lines : (counts : Counts) → lines_below counts 0 ≡ []
 unfolding lines_below
 no_lines counts = refl
 
-pub lines_more : (counts : Counts) (kind : ℕ) → lines_below counts (kind + 1) ≡ lines_below counts kind ++ kind_line kind (get_or counts.rows kind 0) (get_or counts.differ kind 0)
+pub lines_more : (counts : Counts) (kind : ℕ) → lines_below counts (kind + 1) ≡ lines_below counts kind
+    ++ kind_line kind (get_or counts.rows kind 0) (get_or counts.differ kind 0)
 unfolding lines_below
 lines_more counts kind = rw (add-one kind) refl
 

@@ -8,7 +8,8 @@ use Rattle.av1_rows.specs.Rows.{Replayed, AllAgree, AreReplayed}
 use Rattle.av1_rows.specs.Tallies.{Counts, counts_of}
 
 -- the text of the counts is that of the rows
-pub reported : (left : Option (List ℕ)) (bytes text : List ℕ) (counts : Counts) (P : List ℕ → Type 0) (Q : List Replayed → Type 0) → IfSome left (λ told. bytes ≡ told)
+pub reported : (left : Option (List ℕ)) (bytes text : List ℕ) (counts : Counts) (P : List ℕ → Type 0) (Q : List Replayed → Type 0) →
+    IfSome left (λ told. bytes ≡ told)
     → ((rows : List Replayed) × AreReplayed bytes rows × (counts ≡ counts_of rows) × (IsNone counts.first ↔ AllAgree rows))
     → text ≡ report_text counts → P text → ((rows : List Replayed) → (IsNone counts.first ↔ AllAgree rows) → P (report rows) → Q rows) → Rows left Q
 reported left bytes text counts P Q told (rows, replayed, counted, clean) is p f =

@@ -34,7 +34,8 @@ some_earlier None later none = absurd cc
 some_earlier (Some first) later none = absurd cc
 
 -- there is no first difference exactly where all rows agree, with one row more
-clean_more : (agrees : Bool) (first : Option Differs) (later : Differs) (rows : List Replayed) (next : Replayed) → next.agrees ≡ agrees → (IsNone first ↔ AllAgree rows)
+clean_more : (agrees : Bool) (first : Option Differs) (later : Differs) (rows : List Replayed) (next : Replayed) → next.agrees ≡ agrees →
+    (IsNone first ↔ AllAgree rows)
     → (IsNone (if agrees then first else earlier first later) ↔ AllAgree (rows ++ next ∷ []))
 clean_more true first later rows next is clean =
     let P : Replayed → Type 0 = λ replayed. IsTrue replayed.agrees in
@@ -53,11 +54,15 @@ pub record AreSoFar (bytes left : List ℕ) (counts : Counts) : Type 0 where
   pub clean : IsNone counts.first ↔ AllAgree rows
 
 -- one row more
-pub more_so_far : (bytes left left' : List ℕ) (counts counts' : Counts) (next : Replayed) → AreSoFar bytes left counts → IsReplayed next → left ≡ row_before next.row left'
+pub more_so_far : (bytes left left' : List ℕ) (counts counts' : Counts) (next : Replayed) → AreSoFar bytes left counts → IsReplayed next →
+    left ≡ row_before next.row left'
     → counts' ≡ with_replayed counts next → AreSoFar bytes left' counts'
 more_so_far bytes left left' counts counts' next before is read counted = record {
   rows = before.rows ++ next ∷ [];
-  begin = record { text = more_text bytes left left' before.rows next before.begin.text read; each = All-push IsReplayed before.rows next before.begin.each is };
+  begin = record {
+    text = more_text bytes left left' before.rows next before.begin.text read;
+    each = All-push IsReplayed before.rows next before.begin.each is;
+  };
   counted = counted ∙ ap (λ c. with_replayed c next) before.counted ∙ sym (fold_more with_replayed no_rows before.rows next);
   clean = subst (λ (c : Counts). IsNone c.first ↔ AllAgree (before.rows ++ next ∷ [])) (sym counted)
       (clean_more next.agrees counts.first _ before.rows next refl before.clean);

@@ -1,10 +1,12 @@
 -- What the exit status says of the bytes and of the output.
-use Rattle.std.specs.Prelude.{◌≡◌, ◌≢◌, ℕ, ◌<◌, List, [], ◌++◌, length, take, codes, decimal, Option, Result, Ok, Err, Bool, true, false, IfSome, ⊤}
+use Rattle.std.specs.Prelude.{◌≡◌, ◌≢◌, ℕ, ◌<◌, List, [], ◌++◌, length, take, codes, decimal, Option, Result, Ok, Err}
+use Rattle.std.specs.Prelude.{Bool, true, false, IfSome, ⊤}
 use Rattle.av1_streams.specs.Streams.{max_plan_bytes}
 use Rattle.av1_streams.specs.Tasks.{Cause, read_failed, too_long, refused, write_failed, no_memory}
 use Rattle.av1_recon.specs.Ends.{error_status}
 use Rattle.av1_rows.specs.declared.error.RowsError.{RowsError}
-use Rattle.av1_rows.specs.declared.error.RowsError.TheVariants.{ReadFault, TooLong, NoRows, Malformed, Memory, WriteFault}
+use Rattle.av1_rows.specs.declared.error.RowsError.TheVariants.{ReadFault, TooLong, NoRows, Malformed, Memory}
+use Rattle.av1_rows.specs.declared.error.RowsError.TheVariants.{WriteFault}
 use Rattle.av1_rows.specs.Rows.{Replayed, BeginWith, AreReplayed, magic}
 use Rattle.av1_rows.specs.Tallies.{counts_of}
 
@@ -19,12 +21,13 @@ cause (Malformed row) = refused
 cause Memory = no_memory
 cause WriteFault = write_failed
 
--- Why bytes are refused: they are too long, don't begin as a file does, or begin so with rows that were replayed, as many as the
--- number that is told, behind which stands what was not. Other errors say nothing of the bytes.
+-- Why bytes are refused: they are too long, don't begin as a file does, or begin so with rows that were replayed, as
+-- many as the number that is told, behind which stands what was not. Other errors say nothing of the bytes.
 abbrev pub Refuses : RowsError → List ℕ → Type 0
 Refuses TooLong bytes = max_plan_bytes < length bytes
 Refuses NoRows bytes = take 4 bytes ≢ magic
-Refuses (Malformed row) bytes = (rows : List Replayed) × (rest : List ℕ) × BeginWith bytes rows rest × (rest ≢ []) × (row ≡ (counts_of rows).count)
+Refuses (Malformed row) bytes = (rows : List Replayed) × (rest : List ℕ) × BeginWith bytes rows rest × (rest ≢ []) ×
+    (row ≡ (counts_of rows).count)
 Refuses ReadFault bytes = ⊤
 Refuses Memory bytes = ⊤
 Refuses WriteFault bytes = ⊤

@@ -1,5 +1,6 @@
 -- What is written of rows.
-use Rattle.std.specs.Prelude.{ℕ, zero, suc, List, [], ◌++◌, Option, Some, None, get_or, codes, decimal, ◌==◌, if◌then◌else◌}
+use Rattle.std.specs.Prelude.{ℕ, zero, suc, List, [], ◌++◌, Option, Some, None, get_or, codes, decimal, ◌==◌}
+use Rattle.std.specs.Prelude.{if◌then◌else◌}
 use Rattle.av1_rows.specs.Rows.{Told, Replayed, kinds}
 use Rattle.av1_rows.specs.Tallies.{Counts, Differs, counts_of}
 
@@ -21,19 +22,23 @@ kind_text kind =
 
 -- the line for a kind: how many rows there are, and how many differ
 abbrev pub kind_line : ℕ → ℕ → ℕ → List ℕ
-kind_line kind rows differ = kind_text kind ++ codes ": " ++ decimal rows ++ codes " rows, " ++ decimal differ ++ codes " differ\n"
+kind_line kind rows differ = kind_text kind ++ codes ": " ++ decimal rows ++ codes " rows, " ++ decimal differ
+    ++ codes " differ\n"
 
 -- the lines for the kinds below this one
 unfoldable pub lines_below : Counts → ℕ → List ℕ
 lines_below counts zero = []
-lines_below counts (suc kind) = lines_below counts kind ++ kind_line kind (get_or counts.rows kind 0) (get_or counts.differ kind 0)
+lines_below counts (suc kind) =
+    lines_below counts kind ++ kind_line kind (get_or counts.rows kind 0) (get_or counts.differ kind 0)
 
 -- the line of the first row that differs, and those of an answer: what came, or what was wanted
 abbrev pub row_line : Differs → List ℕ
-row_line first = codes "first row that differs: " ++ decimal first.row ++ codes ", " ++ kind_text first.kind ++ codes "\n"
+row_line first = codes "first row that differs: " ++ decimal first.row ++ codes ", " ++ kind_text first.kind
+    ++ codes "\n"
 
 abbrev pub numbers_text : List ℕ → Told → List ℕ
-numbers_text name told = name ++ codes " status " ++ decimal told.status ++ codes ", " ++ decimal told.count ++ codes " bytes of digest "
+numbers_text name told = name ++ codes " status " ++ decimal told.status ++ codes ", " ++ decimal told.count
+    ++ codes " bytes of digest "
     ++ decimal told.digest ++ codes ", text: "
 
 abbrev pub answer_text : List ℕ → Told → List ℕ
@@ -42,7 +47,8 @@ answer_text name told = numbers_text name told ++ told.text ++ codes "\n"
 -- what is written of the first row that differs, nothing where there is none
 abbrev pub first_text : Option Differs → List ℕ
 first_text None = []
-first_text (Some first) = row_line first ++ answer_text (codes "came") first.came ++ answer_text (codes "wanted") first.wanted
+first_text (Some first) = row_line first ++ answer_text (codes "came") first.came
+    ++ answer_text (codes "wanted") first.wanted
 
 -- what is written of counts: a line for each kind, and the first row that differs
 abbrev pub report_text : Counts → List ℕ

@@ -23,4 +23,6 @@ room_before room others = four_before room.count (pieces_before room.pieces othe
 -- the words, the source, the sinks of the output and of lines, the input, and how many zeros stand behind it
 abbrev pub run_before : Run → List ℕ → List ℕ
 run_before r others =
-    short_part_before r.words.now (pieces_before r.source (room_before r.out (room_before r.err (part_before r.input.now (four_before r.zeros others)))))
+    short_part_before r.words.now
+    (pieces_before r.source
+    (room_before r.out (room_before r.err (part_before r.input.now (four_before r.zeros others)))))

@@ -21,7 +21,12 @@ pub record Counts : Type 0 where
 
 -- the counts that a tally holds
 abbrev pub differs_by : Difference → Differs
-differs_by difference = record { row = difference.row; kind = difference.kind; came = told_by difference.came; wanted = told_by difference.wanted }
+differs_by difference = record {
+  row = difference.row;
+  kind = difference.kind;
+  came = told_by difference.came;
+  wanted = told_by difference.wanted;
+}
 
 abbrev pub first_by : Option Difference → Option Differs
 first_by None = None
@@ -45,11 +50,13 @@ with_row counts kind agrees came wanted = record {
   count = counted counts.count;
   rows = one_more counts.rows kind;
   differ = if agrees then counts.differ else one_more counts.differ kind;
-  first = if agrees then counts.first else earlier counts.first (record { row = counts.count; kind = kind; came = came; wanted = wanted });
+  first = if agrees then counts.first
+      else earlier counts.first (record { row = counts.count; kind = kind; came = came; wanted = wanted });
 }
 
 abbrev pub with_replayed : Counts → Replayed → Counts
-with_replayed counts replayed = with_row counts replayed.row.kind replayed.agrees replayed.came (wanted_by replayed.row.wanted)
+with_replayed counts replayed =
+    with_row counts replayed.row.kind replayed.agrees replayed.came (wanted_by replayed.row.wanted)
 
 -- no rows
 abbrev pub no_rows : Counts

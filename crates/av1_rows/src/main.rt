@@ -1,8 +1,8 @@
-//! Replays recorded rows from standard input: calls and what they answered, as `docs/ROWS.md` says. It prints a line for each kind of
-//! row, and of the first row that differs what came and what was wanted.
+//! Replays recorded rows from standard input: calls and what they answered, as `docs/ROWS.md` says. It prints a line
+//! for each kind of row, and of the first row that differs what came and what was wanted.
 //!
-//! All that the program does is [`program::replay_rows`]; here are its real source and sinks. The flush of its output and its exit status
-//! are `av1_recon::run_on_words`, whose words it doesn't read.
+//! All that the program does is [`program::replay_rows`]; here are its real source and sinks. The flush of its output
+//! and its exit status are `av1_recon::run_on_words`, whose words it doesn't read.
 #![tactic(auto)]
 
 mod error;

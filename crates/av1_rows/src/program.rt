@@ -25,8 +25,8 @@ use std::alloc::Global;
 /// What a file of rows begins with.
 const MAGIC: &[u8] = b"ROW1";
 
-/// Reads rows from the source to its end, at most 64 MiB, and replays each. It writes a line for each kind to `out`, and of the first row that
-/// differs what came and what was wanted.
+/// Reads rows from the source to its end, at most 64 MiB, and replays each. It writes a line for each kind to `out`,
+/// and of the first row that differs what came and what was wanted.
 ///
 /// | status | where | line on `err` |
 /// |---|---|---|
@@ -66,7 +66,8 @@ pub fn replay_rows<R: Source, W: Sink, E: Sink>(
 
 // Reads rows from the source to its end, replays each, and writes the report of them. It gives whether all agree.
 fn replay<R: Source, W: Sink>(alloc: Global, source: &mut R, out: &mut W) -> Result<bool, RowsError>
-    ensures done { IfOk result (λ agree. Rows (R.left source.old) (λ rows. (IsTrue agree ↔ AllAgree rows) × Appends (W.taken out.old) (W.taken out.new) (report rows))) }
+    ensures done { IfOk result
+        (λ agree. Rows (R.left source.old) (λ rows. (IsTrue agree ↔ AllAgree rows) × Appends (W.taken out.old) (W.taken out.new) (report rows))) }
     ensures refused { IfErr result (λ e. IfSome (R.left source.old) (Refuses e)) }
     ensures read_fault { IsErrOf result ReadFault → FaultCounted (R.faults source.old) (R.faults source.new) }
     ensures write_fault { IsErrOf result WriteFault → FaultCounted (W.faults out.old) (W.faults out.new) }

@@ -56,8 +56,8 @@ pub struct Row<'a> {
 }
 
 impl<'a> Row<'a> {
-    /// The next row: the number of its kind, how many bytes follow, its call and the answer that it wants. `None` where it is cut, its kind
-    /// is none, its fields say no call, or bytes are left over.
+    /// The next row: the number of its kind, how many bytes follow, its call and the answer that it wants. `None` where
+    /// it is cut, its kind is none, its fields say no call, or bytes are left over.
     pub fn read(fields: &mut Fields<'a>) -> Option<Row<'a>>
         ensures known { IfSome result (λ row. row.kind < KINDS) }
         ensures kind { IfSome result (λ row. row.kind ≡ call_kind row.call) }

@@ -88,7 +88,8 @@ impl<'a> Run<'a> {
     ghost use Rattle.av1_replay.specs.Fields.{unread};
     ghost use Rattle.av1_rows.specs.Runs.{run_before};
 
-    /// The next run, of this program. `None` where its fields are cut, a piece has no bytes or a sink room for more than 64 MiB.
+    /// The next run, of this program. `None` where its fields are cut, a piece has no bytes or a sink room for more
+    /// than 64 MiB.
     pub fn read(program: Program, fields: &mut Fields<'a>) -> Option<Run<'a>>
         ensures program { IfSome result (λ found. found.program ≡ program) }
         ensures found { IfSome result (λ found. unread fields.old ≡ run_before found (unread fields.new)) }

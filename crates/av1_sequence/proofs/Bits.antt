@@ -27,22 +27,142 @@ abbrev eight : (a b c d e f g h : ℕ) → ℕ
 eight a b c d e f g h = a * 1 + b * 2 + c * 4 + d * 8 + e * 16 + f * 32 + g * 64 + h * 128
 
 module _ (test : ℕ → Bool) where
-  bits_eight : bits_of test 8 ≡ eight (digit (test 0)) (digit (test 1)) (digit (test 2)) (digit (test 3)) (digit (test 4)) (digit (test 5)) (digit (test 6)) (digit (test 7))
-  bits_eight = omega (arith, weighed (test 0) 1, weighed (test 1) 2, weighed (test 2) 4, weighed (test 3) 8, weighed (test 4) 16, weighed (test 5) 32, weighed (test 6) 64, weighed (test 7) 128)
+  bits_eight : bits_of test 8 ≡ eight (digit (test 0)) (digit (test 1)) (digit (test 2)) (digit (test 3)) (digit (test 4)) (digit (test 5)) (digit (test 6))
+      (digit (test 7))
+  bits_eight =
+      omega (
+        arith,
+        weighed (test 0) 1,
+        weighed (test 1) 2,
+        weighed (test 2) 4,
+        weighed (test 3) 8,
+        weighed (test 4) 16,
+        weighed (test 5) 32,
+        weighed (test 6) 64,
+        weighed (test 7) 128,
+      )
 
   pub bits_small : bits_of test 8 < 256
-  bits_small = omega (arith, bits_eight, digit_small (test 0), digit_small (test 1), digit_small (test 2), digit_small (test 3), digit_small (test 4), digit_small (test 5), digit_small (test 6), digit_small (test 7))
+  bits_small =
+      omega (
+        arith,
+        bits_eight,
+        digit_small (test 0),
+        digit_small (test 1),
+        digit_small (test 2),
+        digit_small (test 3),
+        digit_small (test 4),
+        digit_small (test 5),
+        digit_small (test 6),
+        digit_small (test 7),
+      )
 
   -- each bit is its test
   pub bit_is : (s : ℕ) → s < 8 → (bits_of test 8 / 2 ^ s % 2 == 1) ≡ test s
-  bit_is zero lt = digit_is (test 0) _ (omega (arith, bits_eight, digit_small (test 0), digit_small (test 1), digit_small (test 2), digit_small (test 3), digit_small (test 4), digit_small (test 5), digit_small (test 6), digit_small (test 7)))
-  bit_is (suc zero) lt = digit_is (test 1) _ (omega (arith, bits_eight, digit_small (test 0), digit_small (test 1), digit_small (test 2), digit_small (test 3), digit_small (test 4), digit_small (test 5), digit_small (test 6), digit_small (test 7)))
-  bit_is (suc (suc zero)) lt = digit_is (test 2) _ (omega (arith, bits_eight, digit_small (test 0), digit_small (test 1), digit_small (test 2), digit_small (test 3), digit_small (test 4), digit_small (test 5), digit_small (test 6), digit_small (test 7)))
-  bit_is (suc (suc (suc zero))) lt = digit_is (test 3) _ (omega (arith, bits_eight, digit_small (test 0), digit_small (test 1), digit_small (test 2), digit_small (test 3), digit_small (test 4), digit_small (test 5), digit_small (test 6), digit_small (test 7)))
-  bit_is (suc (suc (suc (suc zero)))) lt = digit_is (test 4) _ (omega (arith, bits_eight, digit_small (test 0), digit_small (test 1), digit_small (test 2), digit_small (test 3), digit_small (test 4), digit_small (test 5), digit_small (test 6), digit_small (test 7)))
-  bit_is (suc (suc (suc (suc (suc zero))))) lt = digit_is (test 5) _ (omega (arith, bits_eight, digit_small (test 0), digit_small (test 1), digit_small (test 2), digit_small (test 3), digit_small (test 4), digit_small (test 5), digit_small (test 6), digit_small (test 7)))
-  bit_is (suc (suc (suc (suc (suc (suc zero)))))) lt = digit_is (test 6) _ (omega (arith, bits_eight, digit_small (test 0), digit_small (test 1), digit_small (test 2), digit_small (test 3), digit_small (test 4), digit_small (test 5), digit_small (test 6), digit_small (test 7)))
-  bit_is (suc (suc (suc (suc (suc (suc (suc zero))))))) lt = digit_is (test 7) _ (omega (arith, bits_eight, digit_small (test 0), digit_small (test 1), digit_small (test 2), digit_small (test 3), digit_small (test 4), digit_small (test 5), digit_small (test 6), digit_small (test 7)))
+  bit_is zero lt =
+      digit_is (test 0) _ (omega (
+        arith,
+        bits_eight,
+        digit_small (test 0),
+        digit_small (test 1),
+        digit_small (test 2),
+        digit_small (test 3),
+        digit_small (test 4),
+        digit_small (test 5),
+        digit_small (test 6),
+        digit_small (test 7),
+      ))
+  bit_is (suc zero) lt =
+      digit_is (test 1) _ (omega (
+        arith,
+        bits_eight,
+        digit_small (test 0),
+        digit_small (test 1),
+        digit_small (test 2),
+        digit_small (test 3),
+        digit_small (test 4),
+        digit_small (test 5),
+        digit_small (test 6),
+        digit_small (test 7),
+      ))
+  bit_is (suc (suc zero)) lt =
+      digit_is (test 2) _ (omega (
+        arith,
+        bits_eight,
+        digit_small (test 0),
+        digit_small (test 1),
+        digit_small (test 2),
+        digit_small (test 3),
+        digit_small (test 4),
+        digit_small (test 5),
+        digit_small (test 6),
+        digit_small (test 7),
+      ))
+  bit_is (suc (suc (suc zero))) lt =
+      digit_is (test 3) _ (omega (
+        arith,
+        bits_eight,
+        digit_small (test 0),
+        digit_small (test 1),
+        digit_small (test 2),
+        digit_small (test 3),
+        digit_small (test 4),
+        digit_small (test 5),
+        digit_small (test 6),
+        digit_small (test 7),
+      ))
+  bit_is (suc (suc (suc (suc zero)))) lt =
+      digit_is (test 4) _ (omega (
+        arith,
+        bits_eight,
+        digit_small (test 0),
+        digit_small (test 1),
+        digit_small (test 2),
+        digit_small (test 3),
+        digit_small (test 4),
+        digit_small (test 5),
+        digit_small (test 6),
+        digit_small (test 7),
+      ))
+  bit_is (suc (suc (suc (suc (suc zero))))) lt =
+      digit_is (test 5) _ (omega (
+        arith,
+        bits_eight,
+        digit_small (test 0),
+        digit_small (test 1),
+        digit_small (test 2),
+        digit_small (test 3),
+        digit_small (test 4),
+        digit_small (test 5),
+        digit_small (test 6),
+        digit_small (test 7),
+      ))
+  bit_is (suc (suc (suc (suc (suc (suc zero)))))) lt =
+      digit_is (test 6) _ (omega (
+        arith,
+        bits_eight,
+        digit_small (test 0),
+        digit_small (test 1),
+        digit_small (test 2),
+        digit_small (test 3),
+        digit_small (test 4),
+        digit_small (test 5),
+        digit_small (test 6),
+        digit_small (test 7),
+      ))
+  bit_is (suc (suc (suc (suc (suc (suc (suc zero))))))) lt =
+      digit_is (test 7) _ (omega (
+        arith,
+        bits_eight,
+        digit_small (test 0),
+        digit_small (test 1),
+        digit_small (test 2),
+        digit_small (test 3),
+        digit_small (test 4),
+        digit_small (test 5),
+        digit_small (test 6),
+        digit_small (test 7),
+      ))
   bit_is (suc (suc (suc (suc (suc (suc (suc (suc s)))))))) lt = absurd (omega (arith, lt))
 
   -- bits of the first n lie below 2 ^ n, so that one more fits a byte
@@ -83,7 +203,8 @@ no_digit n e = go (n % 2) (omega arith) e
     go (suc (suc m)) lt e = absurd (omega (arith, lt))
 
 -- a byte without bits is 0
-no_bits : (x : ℕ) → x < 256 → x % 2 ≡ 0 → x / 2 % 2 ≡ 0 → x / 4 % 2 ≡ 0 → x / 8 % 2 ≡ 0 → x / 16 % 2 ≡ 0 → x / 32 % 2 ≡ 0 → x / 64 % 2 ≡ 0 → x / 128 % 2 ≡ 0 → x ≡ 0
+no_bits : (x : ℕ) → x < 256 → x % 2 ≡ 0 → x / 2 % 2 ≡ 0 → x / 4 % 2 ≡ 0 → x / 8 % 2 ≡ 0 → x / 16 % 2 ≡ 0 → x / 32 % 2 ≡ 0 → x / 64 % 2 ≡ 0 → x / 128 % 2 ≡ 0 →
+    x ≡ 0
 no_bits x lt a b c d e f g h = omega (arith, lt, a, b, c, d, e, f, g, h)
 
 no_low : (x : ℕ) → has_bit x 0 ≡ false → x % 2 ≡ 0
@@ -126,6 +247,8 @@ some_bit x lt some = elim (has x 0 (omega arith) _ refl) [
   ]
 ]
   where
-    none : (x : ℕ) → x < 256 → has_bit x 0 ≡ false → has_bit x 1 ≡ false → has_bit x 2 ≡ false → has_bit x 3 ≡ false → has_bit x 4 ≡ false → has_bit x 5 ≡ false → has_bit x 6 ≡ false → has_bit x 7 ≡ false → x ≡ 0
+    none : (x : ℕ) → x < 256 → has_bit x 0 ≡ false → has_bit x 1 ≡ false → has_bit x 2 ≡ false → has_bit x 3 ≡ false → has_bit x 4 ≡ false →
+        has_bit x 5 ≡ false → has_bit x 6 ≡ false → has_bit x 7 ≡ false → x ≡ 0
     none x lt a b c d e f g h =
-        no_bits x lt (no_low x a) (no_at x 1 2 refl b) (no_at x 2 4 refl c) (no_at x 3 8 refl d) (no_at x 4 16 refl e) (no_at x 5 32 refl f) (no_at x 6 64 refl g) (no_at x 7 128 refl h)
+        no_bits x lt (no_low x a) (no_at x 1 2 refl b) (no_at x 2 4 refl c) (no_at x 3 8 refl d) (no_at x 4 16 refl e) (no_at x 5 32 refl f)
+        (no_at x 6 64 refl g) (no_at x 7 128 refl h)

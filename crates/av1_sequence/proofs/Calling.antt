@@ -12,7 +12,8 @@ record ComesTo (k k' : Kept) (frames : List TakenFrame) : Type 0 where
   last : k'.last ≡ fold last_after k.last frames
   sides : k'.frames ≡ k.frames
 
-first : (k m k' : Kept) (c : Call) (calls : List Call) (r : Result (Unit {0}) FrameError) → Does k c.head c.part r m → (frames : List TakenFrame) → AreTaken m calls frames → ComesTo m k' frames
+first : (k m k' : Kept) (c : Call) (calls : List Call) (r : Result (Unit {0}) FrameError) → Does k c.head c.part r m → (frames : List TakenFrame) →
+    AreTaken m calls frames → ComesTo m k' frames
     → (all : List TakenFrame) × Adds k c r (λ m later. AreTaken m calls later) all × ComesTo k k' all
 first k m k' c calls (Ok done) does frames taken comes =
     let f : TakenFrame = record { head = c.head; plan = does.plan } in
@@ -36,7 +37,8 @@ first k m k' c calls (Err e) (same, why) frames taken comes = (
 )
 
 count : (k k' : Kept) (calls : List Call) → DoInTurn k calls k' → (frames : List TakenFrame) × AreTaken k calls frames × ComesTo k k' frames
-count k k' [] same = ([], tt, record { slots = ap (λ (x : Kept). x.slots) same; last = ap (λ (x : Kept). x.last) same; sides = ap (λ (x : Kept). x.frames) same })
+count k k' [] same =
+    ([], tt, record { slots = ap (λ (x : Kept). x.slots) same; last = ap (λ (x : Kept). x.last) same; sides = ap (λ (x : Kept). x.frames) same })
 count k k' (c ∷ calls) (m, does, later) =
     let (frames, taken, comes) = count m k' calls later in
     first k m k' c calls c.answer does frames taken comes

@@ -32,7 +32,8 @@ judged (broken at) = Err (errors.Malformed at)
 judged (file f end) = answer_of end
 
 -- the frames of a sequence come to this end
-pub of_run : (bytes written : List ℕ) (f : FileValue) → AreFile bytes f → (end : End) → Runs (beginning f) f.parts written end → HasOutcome bytes written (answer_of end)
+pub of_run : (bytes written : List ℕ) (f : FileValue) → AreFile bytes f → (end : End) → Runs (beginning f) f.parts written end →
+    HasOutcome bytes written (answer_of end)
 of_run bytes written f is accepted_all run = (f, is, run)
 of_run bytes written f is (refused_at i fault) run = (f, is, run)
 
@@ -50,7 +51,8 @@ one_shape bytes written others long long p q = (refl, p.1 ∙ sym q.1)
 one_shape bytes written others long (broken d) p q = not_both_ways (length bytes) max_plan_bytes q.0 p.0
 one_shape bytes written others long (file g e) p q = not_both_ways (length bytes) max_plan_bytes q.0.short p.0
 one_shape bytes written others (broken d) long p q = not_both_ways (length bytes) max_plan_bytes p.0 q.0
-one_shape bytes written others (broken d) (broken e) (short, p, none) (also, q, nothing) = (ap (λ (at : ℕ). judged (broken at)) (err_is d e (read_file bytes) p q), none ∙ sym nothing)
+one_shape bytes written others (broken d) (broken e) (short, p, none) (also, q, nothing) =
+    (ap (λ (at : ℕ). judged (broken at)) (err_is d e (read_file bytes) p q), none ∙ sym nothing)
 one_shape bytes written others (broken d) (file g e) (short, p, none) (is, run) = absurd (clash g d (sym is.read ∙ p))
 one_shape bytes written others (file f e) long p q = not_both_ways (length bytes) max_plan_bytes p.0.short q.0
 one_shape bytes written others (file f e) (broken d) (is, run) (short, q, none) = absurd (clash f d (sym is.read ∙ q))
@@ -68,7 +70,8 @@ one_outcome bytes written others a b p q =
     let (same, writes) = one_shape bytes written others r t s u in
     (e ∙ same ∙ sym d, writes)
 
-of_reading : (bytes : List ℕ) → AreBytes bytes → length bytes ≤ max_plan_bytes → (r : Reading FileValue) → read_file bytes ≡ r → (written : List ℕ) × ((outcome : Answer) × HasOutcome bytes written outcome)
+of_reading : (bytes : List ℕ) → AreBytes bytes → length bytes ≤ max_plan_bytes → (r : Reading FileValue) → read_file bytes ≡ r →
+    (written : List ℕ) × ((outcome : Answer) × HasOutcome bytes written outcome)
 of_reading bytes fits short (Err at) e = ([], (Err (errors.Malformed at), (short, e, refl)))
 of_reading bytes fits short (Ok f) e =
     let is : AreFile bytes f = record { fits = fits; short = short; read = e } in

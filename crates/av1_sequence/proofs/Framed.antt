@@ -1,5 +1,6 @@
 -- What a call does with a frame, seen from what the sequence keeps in memory.
-use Rattle.std.proofs.Common.{ℕ, ◌+◌, ◌*◌, ◌/◌, ◌<◌, ◌≤◌, ◌≡◌, ◌∙◌, ◌^◌, false, Bool, List, [], length, Option, Some, None, Result, Ok, Err, refl, ap, sym, subst, slice_index_or, if◌then◌else◌}
+use Rattle.std.proofs.Common.{ℕ, ◌+◌, ◌*◌, ◌/◌, ◌<◌, ◌≤◌, ◌≡◌, ◌∙◌, ◌^◌, false, Bool, List, [], length, Option, Some, None, Result, Ok, Err, refl, ap, sym}
+use Rattle.std.proofs.Common.{subst, slice_index_or, if◌then◌else◌}
 use Rattle.std.specs.Prelude.{OnOk}
 use Rattle.std.specs.Option.{option_map}
 use Rattle.std.proofs.Math.Nat.{zero-div}
@@ -47,7 +48,8 @@ no_bit s = rw (zero-div (2 ^ s)) refl
 pub none_replaced : (f : ℕ → Option Frame) (refresh : ℕ) (frame : Frame) → refresh ≡ 0 → by_index 8 f ≡ refreshed (by_index 8 f) refresh frame
 none_replaced f refresh frame none =
     by_index-same 8 f (λ s. if has_bit refresh s then Some frame else slot_of (by_index 8 f) s)
-    (λ s lt. sym (get_or-by_index 8 f s None lt) ∙ ap (λ (b : Bool). if b then Some frame else slot_of (by_index 8 f) s) (sym (ap (λ (n : ℕ). has_bit n s) none ∙ no_bit s)))
+    (λ s lt. sym (get_or-by_index 8 f s None lt)
+    ∙ ap (λ (b : Bool). if b then Some frame else slot_of (by_index 8 f) s) (sym (ap (λ (n : ℕ). has_bit n s) none ∙ no_bit s)))
 
 -- ---- what is seen of a sequence
 
@@ -88,20 +90,25 @@ module _ (k : Kept) (s : Inside) (view : opened s ≡ k) where
     references_seen = ap (λ (v : Kept). frame_references v.slots head) view
 
     -- the plan is no longer than it may be
-    pub short_seen : (part : List ℕ) (n len : ℕ) → n ≡ count_of (is_read head.slots (slots_shown h fi places)) 8 * frame_bytes h → len ≡ length part → 20 + n + len ≤ 2 ^ 26 → plan_bytes k.frames k.slots head part ≤ most_bytes
+    pub short_seen : (part : List ℕ) (n len : ℕ) → n ≡ count_of (is_read head.slots (slots_shown h fi places)) 8 * frame_bytes h → len ≡ length part →
+        20 + n + len ≤ 2 ^ 26 → plan_bytes k.frames k.slots head part ≤ most_bytes
     short_seen part n len n_is len_is le =
         subst (λ (v : Kept). plan_bytes v.frames v.slots head part ≤ most_bytes) view
-        (let same : 20 + count_of (is_read head.slots (slots_shown h fi places)) 8 * frame_bytes h + length part ≡ 20 + n + len = rw (n_is, len_is) refl in subst (λ (m : ℕ). m ≤ 2 ^ 26) (sym same) le)
+        (let same : 20 + count_of (is_read head.slots (slots_shown h fi places)) 8 * frame_bytes h + length part ≡ 20 + n + len = rw (n_is, len_is) refl
+        in subst (λ (m : ℕ). m ≤ 2 ^ 26) (sym same) le)
 
     -- what a part is refused for
-    pub refused_over : (own_h : Header) (part : List ℕ) → own_h ≡ frame_header h (slots_shown h fi places) head → (e : FrameError) → plan_bytes k.frames k.slots head part ≤ most_bytes
+    pub refused_over : (own_h : Header) (part : List ℕ) → own_h ≡ frame_header h (slots_shown h fi places) head → (e : FrameError) →
+        plan_bytes k.frames k.slots head part ≤ most_bytes
         → ((stored : List (Option (List (List ℕ)))) → RefusesPart own_h stored part e) → Refuses k head part e
     refused_over own_h part own_is e short why =
-        refused_part k head part e short (subst (λ (g : Header). RefusesPart g (frame_references k.slots head) part e) (own_is ∙ own_seen) (why (frame_references k.slots head)))
+        refused_part k head part e short (subst (λ (g : Header). RefusesPart g (frame_references k.slots head) part e) (own_is ∙ own_seen)
+        (why (frame_references k.slots head)))
 
     module _ (own_h : Header) (part : List ℕ) (lv : PlanValue) (own_is : own_h ≡ frame_header h (slots_shown h fi places) head) where
       -- the leaves of a part are a plan over what is seen
-      over : (P : Header → List (Option Frame) → Type 0) → P own_h (frame_references k.slots head) → P (frame_header k.frames k.slots head) (frame_references k.slots head)
+      over : (P : Header → List (Option Frame) → Type 0) → P own_h (frame_references k.slots head) →
+          P (frame_header k.frames k.slots head) (frame_references k.slots head)
       over P p = subst (λ (g : Header). P g (frame_references k.slots head)) (own_is ∙ own_seen) p
 
       pub text_over : ((stored : List (Option (List (List ℕ)))) → AreText (plan_behind own_h stored) part (in_frame own_h stored lv))
@@ -111,15 +118,19 @@ module _ (k : Kept) (s : Inside) (view : opened s ≡ k) where
       pub valid_over : ((stored : List (Option (List (List ℕ)))) → first_fault (in_frame own_h stored lv) ≡ None) → first_fault (plan_over k head lv) ≡ None
       valid_over valid = over (λ g stored. first_fault (in_frame g stored lv) ≡ None) (valid (frame_references k.slots head))
 
-      pub spelled_over : IsHead head → ((stored : List (Option (List (List ℕ)))) → AreText (plan_behind own_h stored) part (in_frame own_h stored lv)) → ∥ IsSpelled grammar (plan_over k head lv) ∥₁
+      pub spelled_over : IsHead head → ((stored : List (Option (List (List ℕ)))) → AreText (plan_behind own_h stored) part (in_frame own_h stored lv)) →
+          ∥ IsSpelled grammar (plan_over k head lv) ∥₁
       spelled_over is found =
           subst (λ (v : Kept). ∥ IsSpelled grammar (plan_over v head lv) ∥₁) view
           ∣ frame_spelled h fi places head s.pictures.keeps is part (plan_over (seen h fi places last) head lv)
-          (subst (λ (g : Header). AreText (plan_behind g (frame_references (slots_shown h fi places) head)) part (in_frame g (frame_references (slots_shown h fi places) head) lv)) own_is (found (frame_references (slots_shown h fi places) head))) ∣₁
+          (subst (λ (g : Header). AreText (plan_behind g (frame_references (slots_shown h fi places) head)) part
+          (in_frame g (frame_references (slots_shown h fi places) head) lv)) own_is (found (frame_references (slots_shown h fi places) head))) ∣₁
 
       -- what follows for an answer
-      pub accepts_over : (new : Kept) (r : Result (Unit {0}) FrameError) → plan_bytes k.frames k.slots head part ≤ most_bytes → ((stored : List (Option (List (List ℕ)))) → AreText (plan_behind own_h stored) part (in_frame own_h stored lv))
-          → ((stored : List (Option (List (List ℕ)))) → first_fault (in_frame own_h stored lv) ≡ None) → OnOk r (new ≡ accepted k head (plan_over k head lv)) → OnOk r (Accepts k head part new)
+      pub accepts_over : (new : Kept) (r : Result (Unit {0}) FrameError) → plan_bytes k.frames k.slots head part ≤ most_bytes →
+          ((stored : List (Option (List (List ℕ)))) → AreText (plan_behind own_h stored) part (in_frame own_h stored lv))
+          → ((stored : List (Option (List (List ℕ)))) → first_fault (in_frame own_h stored lv) ≡ None) → OnOk r (new ≡ accepted k head (plan_over k head lv)) →
+          OnOk r (Accepts k head part new)
       accepts_over new (Ok u) short found valid is = accepts k new head part (plan_over k head lv) short (text_over found) (valid_over valid) is
       accepts_over new (Err e) short found valid is = tt
 
@@ -131,17 +142,21 @@ module _ (k : Kept) (s : Inside) (view : opened s ≡ k) where
     own_ready own_h planes e ready = subst (λ (g : Header). AreReady g planes) (own_seen ∙ sym e) (ready_in h (slots_shown h fi places) head planes ready)
 
     -- planes once the frame was reconstructed in them
-    pub ready_still : (own_h : Header) (p q : Planes ℕ) → own_h ≡ frame_header k.frames k.slots head → AreReady own_h p → StoresAll own own_h q → SameLayout p q → AreReady h q
+    pub ready_still : (own_h : Header) (p q : Planes ℕ) → own_h ≡ frame_header k.frames k.slots head → AreReady own_h p → StoresAll own own_h q →
+        SameLayout p q → AreReady h q
     ready_still own_h p q e ready stores same =
         let back = e ∙ sym own_seen in
-        ready_after h (slots_shown h fi places) head p q (ready_out h (slots_shown h fi places) head p (subst (λ (g : Header). AreReady g p) back ready)) (subst (λ (g : Header). StoresAll own g q) back stores) same
+        ready_after h (slots_shown h fi places) head p q (ready_out h (slots_shown h fi places) head p (subst (λ (g : Header). AreReady g p) back ready))
+        (subst (λ (g : Header). StoresAll own g q) back stores) same
 
     pub room_over : (own_h : Header) → own_h ≡ frame_header k.frames k.slots head → HasRoomFor own_h s.memory
     room_over own_h e = subst (λ (g : Header). HasRoomFor g s.memory) (own_seen ∙ sym e) s.room
 
     -- the plan that is walked
-    pub plan_is_over : (own_h : Header) (lv : PlanValue) (set : FrameInvariants ℕ) → own_h ≡ frame_header k.frames k.slots head → ∥ IsSpelled grammar (plan_over k head lv) ∥₁ → first_fault (plan_over k head lv) ≡ None
-        → ((plan : PlanValue) → plan.header ≡ frame_header h (slots_shown h fi places) head → plan.references ≡ frame_references (slots_shown h fi places) head → ServesPlan own plan set)
+    pub plan_is_over : (own_h : Header) (lv : PlanValue) (set : FrameInvariants ℕ) → own_h ≡ frame_header k.frames k.slots head →
+        ∥ IsSpelled grammar (plan_over k head lv) ∥₁ → first_fault (plan_over k head lv) ≡ None
+        → ((plan : PlanValue) → plan.header ≡ frame_header h (slots_shown h fi places) head →
+        plan.references ≡ frame_references (slots_shown h fi places) head → ServesPlan own plan set)
         → IsPlanOver own own_h lv.leaves set (plan_over k head lv)
     plan_is_over own_h lv set e spelled valid serves = record {
       spelled = spelled;
@@ -152,32 +167,42 @@ module _ (k : Kept) (s : Inside) (view : opened s ≡ k) where
     }
 
     -- and what its planes show then
-    pub shown_over : (lv : PlanValue) (h' : Header) (q : Planes ℕ) → h' ≡ h → ShowsPlan own (plan_over k head lv) q → planes_shown h' q.y q.u q.v ≡ frame_of (plan_over k head lv)
-    shown_over lv h' q e shows = ap (λ (g : Header). planes_shown g q.y q.u q.v) (e ∙ header_seen) ∙ frame_shown k.frames k.slots head (plan_over k head lv) q refl shows
+    pub shown_over : (lv : PlanValue) (h' : Header) (q : Planes ℕ) → h' ≡ h → ShowsPlan own (plan_over k head lv) q →
+        planes_shown h' q.y q.u q.v ≡ frame_of (plan_over k head lv)
+    shown_over lv h' q e shows = ap (λ (g : Header). planes_shown g q.y q.u q.v) (e ∙ header_seen)
+        ∙ frame_shown k.frames k.slots head (plan_over k head lv) q refl shows
 
-    result_is : (h' : Header) (slots' : Slots) (last' : Option Frame) (plan : PlanValue) → h' ≡ k.frames → slots' ≡ refreshed k.slots head.refresh (frame_of plan) → last' ≡ Some (frame_of plan)
+    result_is : (h' : Header) (slots' : Slots) (last' : Option Frame) (plan : PlanValue) → h' ≡ k.frames →
+        slots' ≡ refreshed k.slots head.refresh (frame_of plan) → last' ≡ Some (frame_of plan)
         → record { frames = h'; slots = slots'; last = last' } ≡ accepted k head plan
     result_is h' slots' last' plan a b c = go h' slots' last' k.frames (refreshed k.slots head.refresh (frame_of plan)) (Some (frame_of plan)) a b c
       where
-        go : (h1 : Header) (s1 : Slots) (l1 : Option Frame) (h2 : Header) (s2 : Slots) (l2 : Option Frame) → h1 ≡ h2 → s1 ≡ s2 → l1 ≡ l2 → kept_of h1 s1 l1 ≡ kept_of h2 s2 l2
-        go h1 s1 l1 h2 s2 l2 a b c = ap (λ (x : Header). kept_of x s1 l1) a ∙ ap (λ (x : Slots). kept_of h2 x l1) b ∙ ap (λ (x : Option Frame). kept_of h2 s2 x) c
+        go : (h1 : Header) (s1 : Slots) (l1 : Option Frame) (h2 : Header) (s2 : Slots) (l2 : Option Frame) → h1 ≡ h2 → s1 ≡ s2 → l1 ≡ l2 →
+            kept_of h1 s1 l1 ≡ kept_of h2 s2 l2
+        go h1 s1 l1 h2 s2 l2 a b c = ap (λ (x : Header). kept_of x s1 l1) a ∙ ap (λ (x : Slots). kept_of h2 x l1) b
+            ∙ ap (λ (x : Option Frame). kept_of h2 s2 x) c
 
     -- a frame that replaces no slot
-    pub apart_accepted : (lv : PlanValue) (h' : Header) (set : FrameInvariants ℕ) (places' : List (Option ℕ)) (q : Planes ℕ) → head.refresh ≡ 0 → h' ≡ h → slots_shown h' set places' ≡ slots_shown h fi places
+    pub apart_accepted : (lv : PlanValue) (h' : Header) (set : FrameInvariants ℕ) (places' : List (Option ℕ)) (q : Planes ℕ) → head.refresh ≡ 0 → h' ≡ h →
+        slots_shown h' set places' ≡ slots_shown h fi places
         → ShowsPlan own (plan_over k head lv) q → seen h' set places' (Some (planes_shown h' q.y q.u q.v)) ≡ accepted k head (plan_over k head lv)
     apart_accepted lv h' set places' q none e same shows =
         result_is h' (slots_shown h' set places') (Some (planes_shown h' q.y q.u q.v)) (plan_over k head lv) (e ∙ header_seen)
-        (same ∙ none_replaced (λ s. shown_in h fi (slice_index_or places s None)) head.refresh (frame_of (plan_over k head lv)) none ∙ ap (λ (ss : Slots). refreshed ss head.refresh (frame_of (plan_over k head lv))) slots_seen)
+        (same ∙ none_replaced (λ s. shown_in h fi (slice_index_or places s None)) head.refresh (frame_of (plan_over k head lv)) none
+        ∙ ap (λ (ss : Slots). refreshed ss head.refresh (frame_of (plan_over k head lv))) slots_seen)
         (ap Some (shown_over lv h' q e shows))
 
     -- a frame that replaces some
-    pub kept_accepted : (lv : PlanValue) (h1 h2 : Header) (set made : FrameInvariants ℕ) (places1 places2 : List (Option ℕ)) (place : ℕ) (q : Planes ℕ) → h1 ≡ h → h2 ≡ h1 → slots_shown h1 set places1 ≡ slots_shown h fi places
-        → slots_shown h2 made places2 ≡ refreshed (slots_shown h1 set places1) head.refresh (planes_shown h1 q.y q.u q.v) → shown_at h2 made place ≡ Some (planes_shown h1 q.y q.u q.v)
+    pub kept_accepted : (lv : PlanValue) (h1 h2 : Header) (set made : FrameInvariants ℕ) (places1 places2 : List (Option ℕ)) (place : ℕ) (q : Planes ℕ) →
+        h1 ≡ h → h2 ≡ h1 → slots_shown h1 set places1 ≡ slots_shown h fi places
+        → slots_shown h2 made places2 ≡ refreshed (slots_shown h1 set places1) head.refresh (planes_shown h1 q.y q.u q.v) →
+        shown_at h2 made place ≡ Some (planes_shown h1 q.y q.u q.v)
         → ShowsPlan own (plan_over k head lv) q → seen h2 made places2 (shown_at h2 made place) ≡ accepted k head (plan_over k head lv)
     kept_accepted lv h1 h2 set made places1 places2 place q e1 e2 same kept shown shows =
         let f = shown_over lv h1 q e1 shows in
         result_is h2 (slots_shown h2 made places2) (shown_at h2 made place) (plan_over k head lv) (e2 ∙ e1 ∙ header_seen)
-        (kept ∙ ap (λ (ss : Slots). refreshed ss head.refresh (planes_shown h1 q.y q.u q.v)) (same ∙ slots_seen) ∙ ap (λ (x : Frame). refreshed k.slots head.refresh x) f)
+        (kept ∙ ap (λ (ss : Slots). refreshed ss head.refresh (planes_shown h1 q.y q.u q.v)) (same ∙ slots_seen)
+        ∙ ap (λ (x : Frame). refreshed k.slots head.refresh x) f)
         (shown ∙ ap Some f)
 
   -- ---- rows
@@ -185,7 +210,8 @@ module _ (k : Kept) (s : Inside) (view : opened s ≡ k) where
   abbrev row_of : Header → (p y : ℕ) → Frame → List ℕ
   row_of g p y frame = row_in (plane_width g p) (slice_index_or frame p []) y
 
-  moved_row : (o : Option (List ℕ)) (p y : ℕ) → (see : Kept → Option Frame) → o ≡ option_map (row_of h p y) (see (seen h fi places last)) → o ≡ option_map (row_of k.frames p y) (see k)
+  moved_row : (o : Option (List ℕ)) (p y : ℕ) → (see : Kept → Option Frame) → o ≡ option_map (row_of h p y) (see (seen h fi places last)) →
+      o ≡ option_map (row_of k.frames p y) (see k)
   moved_row o p y see e = subst (λ (v : Kept). o ≡ option_map (row_of v.frames p y) (see v)) view e
 
   -- a plane that shows its part of the last frame
@@ -196,7 +222,8 @@ module _ (k : Kept) (s : Inside) (view : opened s ≡ k) where
       (ap Some shows ∙ sym (ap (option_map (λ (f : Frame). slice_index_or f p [])) is))
 
   -- the same of a frame at a place
-  pub placed_seen : (place p : ℕ) (plane : Plane ℕ) → s.last ≡ lasts.At place → ((frame : Frame) → shown_at h fi place ≡ Some frame → plane_shown h p plane ≡ slice_index_or frame p [])
+  pub placed_seen : (place p : ℕ) (plane : Plane ℕ) → s.last ≡ lasts.At place →
+      ((frame : Frame) → shown_at h fi place ≡ Some frame → plane_shown h p plane ≡ slice_index_or frame p [])
       → Some (plane_shown k.frames p plane) ≡ option_map (λ (f : Frame). slice_index_or f p []) k.last
   placed_seen place p plane at shows =
       let (t, t_is) = filled_planes (slice_index_or fi.slots place None) (s.placed place at).filled in
@@ -206,17 +233,20 @@ module _ (k : Kept) (s : Inside) (view : opened s ≡ k) where
   pub writable_seen : (p : ℕ) (plane : Plane ℕ) → IsWritable h p plane → IsWritable k.frames p plane
   writable_seen p plane w = subst (λ (g : Header). IsWritable g p plane) header_seen w
 
-  pub slot_seen : (slot place p y : ℕ) (row : List ℕ) → slot < 8 → slice_index_or places slot None ≡ Some place → ((frame : Frame) → shown_at h fi place ≡ Some frame → row ≡ row_of h p y frame)
+  pub slot_seen : (slot place p y : ℕ) (row : List ℕ) → slot < 8 → slice_index_or places slot None ≡ Some place →
+      ((frame : Frame) → shown_at h fi place ≡ Some frame → row ≡ row_of h p y frame)
       → Some row ≡ option_map (row_of k.frames p y) (slice_index_or k.slots slot None)
   slot_seen slot place p y row lt at row_is =
       let stands = s.pictures.keeps.kept slot place lt at in
       let (t, t_is) = filled_planes (slice_index_or fi.slots place None) stands.filled in
       let shows : shown_at h fi place ≡ Some (planes_shown h t.y t.u t.v) = ap (option_map (λ (t : Slot ℕ). planes_shown h t.y t.u t.v)) t_is in
       moved_row (Some row) p y (λ v. slice_index_or v.slots slot None)
-      (ap Some (row_is (planes_shown h t.y t.u t.v) shows) ∙ sym (ap (option_map (row_of h p y)) (slot_shown h fi places slot lt ∙ ap (shown_in h fi) at ∙ shows)))
+      (ap Some (row_is (planes_shown h t.y t.u t.v) shows)
+      ∙ sym (ap (option_map (row_of h p y)) (slot_shown h fi places slot lt ∙ ap (shown_in h fi) at ∙ shows)))
 
 -- the last frame, where it stands apart
-pub last_apart : (h : Header) (fi : FrameInvariants ℕ) (apart : Option (Planes ℕ)) (l : Last) (planes : Planes ℕ) → l ≡ lasts.Apart → apart ≡ Some planes → last_shown h fi apart l ≡ Some (planes_shown h planes.y planes.u planes.v)
+pub last_apart : (h : Header) (fi : FrameInvariants ℕ) (apart : Option (Planes ℕ)) (l : Last) (planes : Planes ℕ) → l ≡ lasts.Apart → apart ≡ Some planes →
+    last_shown h fi apart l ≡ Some (planes_shown h planes.y planes.u planes.v)
 last_apart h fi apart l planes l_is is = ap (last_shown h fi apart) l_is ∙ ap (λ (a : Option (Planes ℕ)). last_shown h fi a lasts.Apart) is
 
 pub not_placed : {P : Type 0} (place : ℕ) → lasts.Apart ≡ lasts.At place → P

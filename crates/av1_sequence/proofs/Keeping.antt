@@ -1,5 +1,6 @@
 -- A frame that is kept at a free place, and the slots that show it.
-use Rattle.std.proofs.Common.{ℕ, zero, suc, ◌<◌, ◌≡◌, ◌≢◌, ◌∙◌, true, false, Bool, List, length, Option, Some, None, refl, ap, sym, subst, arith, slice_index_or, is_some, if◌then◌else◌}
+use Rattle.std.proofs.Common.{ℕ, zero, suc, ◌<◌, ◌≡◌, ◌≢◌, ◌∙◌, true, false, Bool, List, length, Option, Some, None, refl, ap, sym, subst, arith}
+use Rattle.std.proofs.Common.{slice_index_or, is_some, if◌then◌else◌}
 use Rattle.std.specs.Prelude.{slice_set}
 use Rattle.std.specs.Option.{option_map}
 use Rattle.std.proofs.lemmas.List.{get_or-set_other, get_or-set_same, length-set}
@@ -77,14 +78,17 @@ module _ (h : Header) (planes : Planes ℕ) (ready : AreReady h planes) where
           subst (λ (q : Plane ℕ). HoldsPlane own h p (plane_shown h p q) q) same (kept_holds p few);
     }
 
-    shown_slot : (s : ℕ) → s < 8 → (b : Bool) → has_bit refresh s ≡ b → shown_in h after (slice_index_or replaced s None) ≡ (if b then Some frame else slot_of (slots_shown h fi places) s)
+    shown_slot : (s : ℕ) → s < 8 → (b : Bool) → has_bit refresh s ≡ b →
+        shown_in h after (slice_index_or replaced s None) ≡ (if b then Some frame else slot_of (slots_shown h fi places) s)
     shown_slot s lt true e = ap (shown_in h after) (new s lt e) ∙ new_shown
-    shown_slot s lt false e = ap (shown_in h after) (old s lt e) ∙ other_shown h fi place kept_slot (slice_index_or places s None) (free s lt e) ∙ sym (slot_shown h fi places s lt)
+    shown_slot s lt false e = ap (shown_in h after) (old s lt e) ∙ other_shown h fi place kept_slot (slice_index_or places s None) (free s lt e)
+        ∙ sym (slot_shown h fi places s lt)
 
     -- the slots that it replaces show it, and all others what they showed
     pub slots_replaced : slots_shown h after replaced ≡ refreshed (slots_shown h fi places) refresh frame
     slots_replaced =
-        by_index-same 8 (λ s. shown_in h after (slice_index_or replaced s None)) (λ s. if has_bit refresh s then Some frame else slot_of (slots_shown h fi places) s)
+        by_index-same 8 (λ s. shown_in h after (slice_index_or replaced s None))
+        (λ s. if has_bit refresh s then Some frame else slot_of (slots_shown h fi places) s)
         (λ s lt. shown_slot s lt (has_bit refresh s) refl)
 
     stands_at : (s q : ℕ) → s < 8 → (b : Bool) → has_bit refresh s ≡ b → slice_index_or replaced s None ≡ Some q → IsKeptAt h after q
@@ -108,12 +112,15 @@ module _ (h : Header) (planes : Planes ℕ) (ready : AreReady h planes) where
 pub record IsPut (fi made : FrameInvariants ℕ) (planes : Planes ℕ) (place : ℕ) : Type 0 where
   pub is : made ≡ record fi { slots = slice_set fi.slots place (Some (record { y = padded planes.y; u = padded planes.u; v = padded planes.v })) }
 
-pub put_in : (fi made : FrameInvariants ℕ) (planes : Planes ℕ) {n place : ℕ} {y u v : Plane ℕ} → n ≡ place → y ≡ padded planes.y → u ≡ padded planes.u → v ≡ padded planes.v
+pub put_in : (fi made : FrameInvariants ℕ) (planes : Planes ℕ) {n place : ℕ} {y u v : Plane ℕ} → n ≡ place → y ≡ padded planes.y → u ≡ padded planes.u →
+    v ≡ padded planes.v
     → made ≡ record fi { slots = slice_set fi.slots n (Some (record { y = y; u = u; v = v })) } → IsPut fi made planes place
 put_in fi made planes {n} {place} {y} {u} {v} n_is y_is u_is v_is e =
-    let with_planes : FrameInvariants ℕ → ℕ → Plane ℕ → Plane ℕ → Plane ℕ → FrameInvariants ℕ = λ fi n y u v. record fi { slots = slice_set fi.slots n (Some (record { y = y; u = u; v = v })) } in
+    let with_planes : FrameInvariants ℕ → ℕ → Plane ℕ → Plane ℕ → Plane ℕ → FrameInvariants ℕ =
+    λ fi n y u v. record fi { slots = slice_set fi.slots n (Some (record { y = y; u = u; v = v })) } in
     record {
-      is = e ∙ ap (λ (n : ℕ). with_planes fi n y u v) n_is ∙ ap (λ (y : Plane ℕ). with_planes fi place y u v) y_is ∙ ap (λ (u : Plane ℕ). with_planes fi place (padded planes.y) u v) u_is
+      is = e ∙ ap (λ (n : ℕ). with_planes fi n y u v) n_is ∙ ap (λ (y : Plane ℕ). with_planes fi place y u v) y_is
+          ∙ ap (λ (u : Plane ℕ). with_planes fi place (padded planes.y) u v) u_is
           ∙ ap (λ (v : Plane ℕ). with_planes fi place (padded planes.y) (padded planes.u) v) v_is;
     }
 
@@ -125,16 +132,23 @@ pub record AreReplaced (places replaced : List (Option ℕ)) (refresh place : �
   pub new : (s : ℕ) → s < 8 → has_bit refresh s ≡ true → slice_index_or replaced s None ≡ Some place
   pub old : (s : ℕ) → s < 8 → has_bit refresh s ≡ false → slice_index_or replaced s None ≡ slice_index_or places s None
 
-module _ {h : Header} {planes : Planes ℕ} (ready : AreReady h planes) {fi made : FrameInvariants ℕ} {places replaced : List (Option ℕ)} {refresh place : ℕ} (keeps : KeepsFrames h fi places)
+module _ {h : Header} {planes : Planes ℕ} (ready : AreReady h planes) {fi made : FrameInvariants ℕ} {places replaced : List (Option ℕ)} {refresh place : ℕ}
+    (keeps : KeepsFrames h fi places)
     (are : AreReplaced places replaced refresh place) (put : IsPut fi made planes place) where
   pub put_keeps : KeepsFrames h made replaced
-  put_keeps = subst (λ (m : FrameInvariants ℕ). KeepsFrames h m replaced) (sym put.is) (keeps_after h planes ready fi places replaced refresh place keeps are.below are.free are.new are.old are.count)
+  put_keeps =
+      subst (λ (m : FrameInvariants ℕ). KeepsFrames h m replaced) (sym put.is)
+      (keeps_after h planes ready fi places replaced refresh place keeps are.below are.free are.new are.old are.count)
 
   pub put_slots : slots_shown h made replaced ≡ refreshed (slots_shown h fi places) refresh (planes_shown h planes.y planes.u planes.v)
-  put_slots = ap (λ (m : FrameInvariants ℕ). slots_shown h m replaced) put.is ∙ slots_replaced h planes ready fi places replaced refresh place keeps are.below are.free are.new are.old
+  put_slots = ap (λ (m : FrameInvariants ℕ). slots_shown h m replaced) put.is
+      ∙ slots_replaced h planes ready fi places replaced refresh place keeps are.below are.free are.new are.old
 
   pub put_shown : shown_at h made place ≡ Some (planes_shown h planes.y planes.u planes.v)
-  put_shown = ap (λ (m : FrameInvariants ℕ). shown_at h m place) put.is ∙ new_shown h planes ready fi places replaced refresh place keeps are.below are.free are.new are.old
+  put_shown = ap (λ (m : FrameInvariants ℕ). shown_at h m place) put.is
+      ∙ new_shown h planes ready fi places replaced refresh place keeps are.below are.free are.new are.old
 
   pub put_stands : IsKeptAt h made place
-  put_stands = subst (λ (m : FrameInvariants ℕ). IsKeptAt h m place) (sym put.is) (new_stands h planes ready fi places replaced refresh place keeps are.below are.free are.new are.old)
+  put_stands =
+      subst (λ (m : FrameInvariants ℕ). IsKeptAt h m place) (sym put.is)
+      (new_stands h planes ready fi places replaced refresh place keeps are.below are.free are.new are.old)

@@ -1,5 +1,6 @@
 -- The planes and rows of a frame that is kept, and of one that stands apart.
-use Rattle.std.proofs.Common.{ℕ, zero, suc, ◌*◌, ◌+◌, ◌<◌, ◌≤◌, ◌≡◌, ◌∙◌, List, [], map, Option, Some, None, refl, ap, sym, subst, arith, slice_index, slice_index_or}
+use Rattle.std.proofs.Common.{ℕ, zero, suc, ◌*◌, ◌+◌, ◌<◌, ◌≤◌, ◌≡◌, ◌∙◌, List, [], map, Option, Some, None, refl, ap, sym, subst, arith, slice_index}
+use Rattle.std.proofs.Common.{slice_index_or}
 use Rattle.std.specs.Option.{option_map}
 use Rattle.std.proofs.lemmas.List.{map-id}
 use Rattle.std.proofs.lemmas.Option.{same_Some}
@@ -28,7 +29,8 @@ unfolding plane_width
 columns_few h p frames = omega (arith, frames.width.most)
 
 -- a row that was read of a plane is that of the samples that the plane shows
-pub plane_row : (h : Header) (p : ℕ) (plane : Plane ℕ) (y : ℕ) (row : List ℕ) → y < plane_height h p → map own row ≡ by_index (plane_width h p) (λ x. sample_at own plane x y) → row ≡ row_in (plane_width h p) (plane_shown h p plane) y
+pub plane_row : (h : Header) (p : ℕ) (plane : Plane ℕ) (y : ℕ) (row : List ℕ) → y < plane_height h p →
+    map own row ≡ by_index (plane_width h p) (λ x. sample_at own plane x y) → row ≡ row_in (plane_width h p) (plane_shown h p plane) y
 plane_row h p plane y row below is =
     sym (map-id row) ∙ is
     ∙ by_index-same (plane_width h p) (λ x. sample_at own plane x y) (λ x. slice_index (plane_shown h p plane) (y * plane_width h p + x))
@@ -37,7 +39,8 @@ plane_row h p plane y row below is =
 -- ---- a frame at a place
 
 -- its planes can be written
-pub kept_writable : (h : Header) (fi : FrameInvariants ℕ) (place p : ℕ) (plane : Plane ℕ) → AreFrames h → IsKeptAt h fi place → p < 3 → slot_plane fi place p ≡ Some plane → IsWritable h p plane
+pub kept_writable : (h : Header) (fi : FrameInvariants ℕ) (place p : ℕ) (plane : Plane ℕ) → AreFrames h → IsKeptAt h fi place → p < 3 →
+    slot_plane fi place p ≡ Some plane → IsWritable h p plane
 kept_writable h fi place p plane frames stands few e =
     let o = stands.planes p plane few e in
     record {
@@ -70,7 +73,8 @@ apart_writable h planes (suc zero) frames few ready = stored_writable h 1 planes
 apart_writable h planes (suc (suc zero)) frames few ready = stored_writable h 2 planes.v frames ready.stores.v
 apart_writable h planes (suc (suc (suc p))) frames few ready = absurd (omega (arith, few))
 
-pub apart_plane : (h : Header) (planes : Planes ℕ) (p : ℕ) → p < 3 → plane_shown h p (plane_in (component p) planes) ≡ slice_index_or (planes_shown h planes.y planes.u planes.v) p []
+pub apart_plane : (h : Header) (planes : Planes ℕ) (p : ℕ) → p < 3 →
+    plane_shown h p (plane_in (component p) planes) ≡ slice_index_or (planes_shown h planes.y planes.u planes.v) p []
 apart_plane h planes zero few = refl
 apart_plane h planes (suc zero) few = refl
 apart_plane h planes (suc (suc zero)) few = refl
@@ -87,7 +91,8 @@ writable_below h g p y same lt = subst (λ (x : Header). y < plane_height x p) (
 
 -- a row of a plane that the last frame shows is one of that frame
 pub shown_row : (h g : Header) → g ≡ h → (p y : ℕ) (plane : Plane ℕ) (row : List ℕ) (last : Option Frame) → y < plane_height h p
-    → map own row ≡ by_index (plane_width g p) (λ x. sample_at own plane x y) → Some (plane_shown h p plane) ≡ option_map (λ (f : Frame). slice_index_or f p []) last
+    → map own row ≡ by_index (plane_width g p) (λ x. sample_at own plane x y) →
+    Some (plane_shown h p plane) ≡ option_map (λ (f : Frame). slice_index_or f p []) last
     → Some row ≡ option_map (λ (f : Frame). row_in (plane_width h p) (slice_index_or f p []) y) last
 shown_row h g same p y plane row None below is e =
     let clash : Some (plane_shown h p plane) ≡ None = e in

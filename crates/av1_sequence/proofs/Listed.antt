@@ -1,5 +1,6 @@
 -- The references of a frame's plan are those of a plan: the planes of a slot exactly where its mask has the slot.
-use Rattle.std.proofs.Common.{ℕ, ◌<◌, ◌≡◌, ◌∙◌, true, false, Bool, List, Option, Some, None, refl, ap, sym, subst, arith, slice_index_or, is_some, if◌then◌else◌}
+use Rattle.std.proofs.Common.{ℕ, ◌<◌, ◌≡◌, ◌∙◌, true, false, Bool, List, Option, Some, None, refl, ap, sym, subst, arith, slice_index_or, is_some}
+use Rattle.std.proofs.Common.{if◌then◌else◌}
 use Rattle.std.specs.Option.{option_map}
 use Rattle.std.proofs.lemmas.Bool.{and_parts}
 use Rattle.av1_frame.specs.declared.frame_invariants.FrameInvariants.{FrameInvariants}
@@ -27,11 +28,13 @@ module _ (h : Header) (fi : FrameInvariants ℕ) (places : List (Option ℕ)) (h
   abbrev own_header : Header
   own_header = frame_header h slots head
 
-  plane_is : (place p : ℕ) (t : Slot ℕ) → p < 3 → IsKeptAt h fi place → slice_index_or fi.slots place None ≡ Some t → ArePlane own_header p (plane_shown h p (plane_of t p))
+  plane_is : (place p : ℕ) (t : Slot ℕ) → p < 3 → IsKeptAt h fi place → slice_index_or fi.slots place None ≡ Some t →
+      ArePlane own_header p (plane_shown h p (plane_of t p))
   plane_is place p t few stands e =
       let held = held_same h slots head p _ (plane_of t p) (stands.planes p (plane_of t p) few (ap (option_map (λ (t : Slot ℕ). plane_of t p)) e)) in
       let same = shown_same h slots head p (plane_of t p) in
-      subst (ArePlane own_header p) same (plane_held own_header p (plane_of t p) (subst (λ (xs : List ℕ). HoldsPlane own own_header p xs (plane_of t p)) (sym same) held))
+      subst (ArePlane own_header p) same
+      (plane_held own_header p (plane_of t p) (subst (λ (xs : List ℕ). HoldsPlane own own_header p xs (plane_of t p)) (sym same) held))
 
   -- what a slot that is read shows
   record IsShown (s : ℕ) : Type 0 where
@@ -77,9 +80,12 @@ module _ (h : Header) (fi : FrameInvariants ℕ) (places : List (Option ℕ)) (h
   listed_at s lt false e = mask_is h slots head s lt ∙ e
 
   listed : AreListedSlots own_header (frame_references slots head)
-  listed s lt = subst (IsListedSlot own_header s) (sym (get_or-by_index 8 (λ s. if is_read head.slots slots s then slot_of slots s else None) s None lt)) (listed_at s lt (is_read head.slots slots s) refl)
+  listed s lt = subst (IsListedSlot own_header s) (sym (get_or-by_index 8 (λ s. if is_read head.slots slots s then slot_of slots s else None) s None lt))
+      (listed_at s lt (is_read head.slots slots s) refl)
 
   -- what the part of a frame spells behind them is a plan
-  pub frame_spelled : IsHead head → (part : List ℕ) (plan : PlanValue) → AreText (plan_behind own_header (frame_references slots head)) part plan → IsSpelled grammar plan
+  pub frame_spelled : IsHead head → (part : List ℕ) (plan : PlanValue) → AreText (plan_behind own_header (frame_references slots head)) part plan →
+      IsSpelled grammar plan
   frame_spelled is part plan (vs, spells, bytes) =
-      plan_listed own_header (frame_references slots head) plan (read_header h slots head keeps.frame is) (length-by_index 8 (λ s. if is_read head.slots slots s then slot_of slots s else None)) listed (record { values = vs; spells = spells })
+      plan_listed own_header (frame_references slots head) plan (read_header h slots head keeps.frame is)
+      (length-by_index 8 (λ s. if is_read head.slots slots s then slot_of slots s else None)) listed (record { values = vs; spells = spells })

@@ -27,16 +27,21 @@ take_fits n bytes fits i =
 behind_fits : {A : Type 0} (f : Format A) (i : Input) (x : A) (j : Input) → AreBytes i.rest → read f i ≡ Ok (x, j) → AreBytes j.rest
 behind_fits f i x j fits e =
     let (values, spells, parts) = read_spells f i x j fits e in
-    subst AreBytes (drop_at (text f values) j.rest (length (text f values)) refl) (AreBytes-drop (length (text f values)) (text f values ++ j.rest) (subst AreBytes parts fits))
+    subst AreBytes (drop_at (text f values) j.rest (length (text f values)) refl)
+    (AreBytes-drop (length (text f values)) (text f values ++ j.rest) (subst AreBytes parts fits))
 
 part_fits : (i : Input) (part : List ℕ) (j : Input) → AreBytes i.rest → read_part i ≡ Ok (part, j) → AreBytes part × AreBytes j.rest
 unfolding read_part
 part_fits i part j fits e =
-    let (p, is, rest) = bind_ok (read_field (any four) i) (λ p. cond (leb p.0 (length p.1.rest)) (Ok (take p.0 p.1.rest, record { at = p.1.at + p.0; rest = drop p.0 p.1.rest })) (Err p.1.at)) (part, j) e in
+    let (p, is, rest) =
+    bind_ok (read_field (any four) i)
+    (λ p. cond (leb p.0 (length p.1.rest)) (Ok (take p.0 p.1.rest, record { at = p.1.at + p.0; rest = drop p.0 p.1.rest })) (Err p.1.at)) (part, j) e in
     let t = field_takes (any four) i p.0 p.1 fits is in
     let whole : List ℕ × Input = (take p.0 p.1.rest, record { at = p.1.at + p.0; rest = drop p.0 p.1.rest }) in
-    let same : whole ≡ (part, j) = (done_ok (leb p.0 (length p.1.rest)) whole (part, j) p.1.at rest).1 in
-    (subst AreBytes (ap (λ (q : List ℕ × Input). q.0) same) (take_fits p.0 p.1.rest t.fits), subst AreBytes (ap (λ (q : List ℕ × Input). q.1.rest) same) (AreBytes-drop p.0 p.1.rest t.fits))
+    let same : whole ≡ (part, j) = (done_ok (leb p.0 (length p.1.rest)) whole (part, j) p.1.at rest).1 in (
+      subst AreBytes (ap (λ (q : List ℕ × Input). q.0) same) (take_fits p.0 p.1.rest t.fits),
+      subst AreBytes (ap (λ (q : List ℕ × Input). q.1.rest) same) (AreBytes-drop p.0 p.1.rest t.fits),
+    )
 
 frame_fits : (i : Input) (f : FrameValue) (j : Input) → AreBytes i.rest → read_frame i ≡ Ok (f, j) → IsOfBytes f × AreBytes j.rest
 unfolding read_frame
@@ -48,20 +53,25 @@ frame_fits i f j fits e =
     let same : whole ≡ (f, j) = ok_is whole (f, j) end in
     (subst IsOfBytes (ap (λ (q : FrameValue × Input). q.0) same) fit, subst AreBytes (ap (λ (q : FrameValue × Input). q.1.rest) same) after)
 
-frames_fit : (count : ℕ) (before : List FrameValue) (i : Input) (frames : List FrameValue) (j : Input) → AreBytes i.rest → read_frames count (before, i) ≡ Ok (frames, j) → All IsOfBytes before → All IsOfBytes frames
+frames_fit : (count : ℕ) (before : List FrameValue) (i : Input) (frames : List FrameValue) (j : Input) → AreBytes i.rest →
+    read_frames count (before, i) ≡ Ok (frames, j) → All IsOfBytes before → All IsOfBytes frames
 unfolding read_frames
 frames_fit zero before i frames j fits e first = subst (All IsOfBytes) (ap (λ (q : List FrameValue × Input). q.0) (ok_is (before, i) (frames, j) e)) first
 frames_fit (suc count) before i frames j fits e first =
     let (p, is, rest) = bind_ok (read_frame i) (λ p. read_frames count (before ++ p.0 ∷ [], p.1)) (frames, j) e in
     let (one, more) = frame_fits i p.0 p.1 fits is in
-    frames_fit count (before ++ p.0 ∷ []) p.1 frames j more rest (All-append IsOfBytes before (p.0 ∷ []) first (All-cons IsOfBytes p.0 [] one (All-nil IsOfBytes)))
+    frames_fit count (before ++ p.0 ∷ []) p.1 frames j more rest
+    (All-append IsOfBytes before (p.0 ∷ []) first (All-cons IsOfBytes p.0 [] one (All-nil IsOfBytes)))
 
 -- the parts of the frames of a sequence
 pub parts_fit : (bytes : List ℕ) (f : FileValue) → AreFile bytes f → All IsOfBytes f.parts
 unfolding read_file
 parts_fit bytes f file =
-    let (x, is, rest) = bind_ok (read front (start bytes)) (λ p. on_ok (read_frames p.0.count ([], p.1)) (λ q. ended (record { frames = p.0.frames; parts = q.0 }, q.1))) f file.read in
+    let (x, is, rest) =
+    bind_ok (read front (start bytes)) (λ p. on_ok (read_frames p.0.count ([], p.1)) (λ q. ended (record { frames = p.0.frames; parts = q.0 }, q.1))) f
+    file.read in
     let (y, frames, end) = bind_ok (read_frames x.0.count ([], x.1)) (λ q. ended (record { frames = x.0.frames; parts = q.0 }, q.1)) f rest in
     let whole : FileValue = record { frames = x.0.frames; parts = y.0 } in
     let same : whole ≡ f = (done_ok (eqb (length y.1.rest) 0) whole f y.1.at end).1 in
-    subst (λ (v : FileValue). All IsOfBytes v.parts) same (frames_fit x.0.count [] x.1 y.0 y.1 (behind_fits front (start bytes) x.0 x.1 (byte_fits bytes file.fits) is) frames (All-nil IsOfBytes))
+    subst (λ (v : FileValue). All IsOfBytes v.parts) same
+    (frames_fit x.0.count [] x.1 y.0 y.1 (behind_fits front (start bytes) x.0 x.1 (byte_fits bytes file.fits) is) frames (All-nil IsOfBytes))

@@ -1,5 +1,6 @@
 -- Of eight places one is free, where fewer than eight slots show frames.
-use Rattle.std.proofs.Common.{ℕ, zero, suc, ◌+◌, ◌<◌, ◌≤◌, ◌≡◌, ◌≢◌, ◌∙◌, ◌⊎◌, inl, inr, Bool, true, false, Option, Some, None, refl, ap, sym, arith, if◌then◌else◌}
+use Rattle.std.proofs.Common.{ℕ, zero, suc, ◌+◌, ◌<◌, ◌≤◌, ◌≡◌, ◌≢◌, ◌∙◌, ◌⊎◌, inl, inr, Bool, true, false, Option, Some, None, refl, ap, sym, arith}
+use Rattle.std.proofs.Common.{if◌then◌else◌}
 use Rattle.std.specs.Prelude.{◌==◌}
 use Rattle.std.proofs.lemmas.Bool.{cases_lt, eq-eqb}
 use Rattle.std.proofs.lemmas.Bool.Decides.{eqb_tells}
@@ -33,7 +34,8 @@ total_least (suc n) f some = omega (arith, total_least n f (λ i lt. some i (ome
 total_item : (n : ℕ) (f : ℕ → ℕ) (s : ℕ) → s < n → f s ≤ total n f
 unfolding total
 total_item zero f s lt = absurd (omega (arith, lt))
-total_item (suc n) f s lt = elim (cases_lt s n) [ inl below ↦ omega (arith, total_item n f s below) | inr le ↦ (let at : s ≡ n = omega (arith, lt, le) in omega (arith, ap f at)) ]
+total_item (suc n) f s lt =
+    elim (cases_lt s n) [ inl below ↦ omega (arith, total_item n f s below) | inr le ↦ (let at : s ≡ n = omega (arith, lt, le) in omega (arith, ap f at)) ]
 
 total_most : (n : ℕ) (f : ℕ → ℕ) → ((i : ℕ) → i < n → f i ≤ 1) → total n f ≤ n
 unfolding total
@@ -104,6 +106,8 @@ pub fewer : (n m : ℕ) (away : ℕ → Bool) (kept : ℕ → Option ℕ) (r : �
     → ((i : ℕ) → i < n → (s : ℕ) × ((s < m) × (away s ≡ false) × (kept s ≡ Some i))) → n < m
 fewer n m away kept r lt gone shown =
     let table : ℕ → ℕ → ℕ = λ i s. own (away s) (kept s) i in
-    let least = total_least n (λ i. total m (table i)) (λ i l. let (s, at) = shown i l in omega (arith, total_item m (table i) s at.0, own_hit (away s) (kept s) i at.1 at.2)) in
+    let least =
+    total_least n (λ i. total m (table i))
+    (λ i l. let (s, at) = shown i l in omega (arith, total_item m (table i) s at.0, own_hit (away s) (kept s) i at.1 at.2)) in
     let most = total_fewer m (λ s. total n (λ i. table i s)) r lt (own_none (away r) (kept r) n gone) (λ s l. own_few (away s) (kept s) n) in
     omega (arith, least, most, total_turned n m table)

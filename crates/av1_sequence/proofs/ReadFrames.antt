@@ -14,7 +14,8 @@ use Rattle.av1_sequence.specs.Grammar.{FrameValue, read_frame, read_frames}
 pub few_filters : (filter : FilterMode) (number : ℕ) → filter ≡ filter_of number → number ≤ 3 → filter_number filter < 4
 few_filters filter number is le = subst (λ (f : FilterMode). filter_number f < 4) (sym is) (omega (arith, filter_number_is number (omega (arith, le)), le))
 
-pub turn : (count i : ℕ) (s : List FrameValue × Input) → i < count → read_frames (count - i) s ≡ on_ok (read_frame s.1) (λ p. read_frames (count - (i + 1)) (s.0 ++ p.0 ∷ [], p.1))
+pub turn : (count i : ℕ) (s : List FrameValue × Input) → i < count →
+    read_frames (count - i) s ≡ on_ok (read_frame s.1) (λ p. read_frames (count - (i + 1)) (s.0 ++ p.0 ∷ [], p.1))
 unfolding read_frames
 turn count i s lt =
     let k : count - i ≡ suc (count - (i + 1)) = omega arith in
@@ -27,15 +28,18 @@ turn_stop count i s le =
     rw k refl
 
 -- one frame more was read
-pub one_more : (count i : ℕ) (items new : List FrameText) (item : FrameText) (before after : Input) (whole : Reading (List FrameValue × Input)) → i < count → new ≡ items ++ item ∷ [] → read_frame before ≡ Ok (frame_value item, after)
+pub one_more : (count i : ℕ) (items new : List FrameText) (item : FrameText) (before after : Input) (whole : Reading (List FrameValue × Input)) → i < count →
+    new ≡ items ++ item ∷ [] → read_frame before ≡ Ok (frame_value item, after)
     → read_frames (count - i) (map frame_value items, before) ≡ whole → read_frames (count - (i + 1)) (map frame_value new, after) ≡ whole
 one_more count i items new item before after whole lt is read so_far =
     ap (λ (xs : List FrameText). read_frames (count - (i + 1)) (map frame_value xs, after)) is
     ∙ ap (λ (vs : List FrameValue). read_frames (count - (i + 1)) (vs, after)) (map_push frame_value items item)
-    ∙ sym (turn count i (map frame_value items, before) lt ∙ ap (λ (r : Reading (FrameValue × Input)). on_ok r (λ p. read_frames (count - (i + 1)) (map frame_value items ++ p.0 ∷ [], p.1))) read)
+    ∙ sym (turn count i (map frame_value items, before) lt
+    ∙ ap (λ (r : Reading (FrameValue × Input)). on_ok r (λ p. read_frames (count - (i + 1)) (map frame_value items ++ p.0 ∷ [], p.1))) read)
     ∙ so_far
 
 pub texts_more : (items new : List FrameText) (item : FrameText) → new ≡ items ++ item ∷ [] → All IsReadText items → IsReadText item → All IsReadText new
-texts_more items new item is all one = subst (All IsReadText) (sym is) (All-append IsReadText items (item ∷ []) all (All-cons IsReadText item [] one (All-nil IsReadText)))
+texts_more items new item is all one =
+    subst (All IsReadText) (sym is) (All-append IsReadText items (item ∷ []) all (All-cons IsReadText item [] one (All-nil IsReadText)))
 
 pub ruleset turns = (turn, turn_stop, map_push)

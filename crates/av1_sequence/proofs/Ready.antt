@@ -25,17 +25,35 @@ module _ (h : Header) (slots : Slots) (head : FrameHead) where
   pub stores_in : (planes : Planes ℕ) → StoresAll own h planes → StoresAll own own_header planes
   unfolding plane_width plane_height xdec ydec
   stores_in planes s = record {
-    y = record { place = record { whole = s.y.place.whole; width = s.y.place.width; height = s.y.place.height; xdec = s.y.place.xdec; ydec = s.y.place.ydec }; within = s.y.within };
-    u = record { place = record { whole = s.u.place.whole; width = s.u.place.width; height = s.u.place.height; xdec = s.u.place.xdec; ydec = s.u.place.ydec }; within = s.u.within };
-    v = record { place = record { whole = s.v.place.whole; width = s.v.place.width; height = s.v.place.height; xdec = s.v.place.xdec; ydec = s.v.place.ydec }; within = s.v.within };
+    y = record {
+      place = record { whole = s.y.place.whole; width = s.y.place.width; height = s.y.place.height; xdec = s.y.place.xdec; ydec = s.y.place.ydec };
+      within = s.y.within;
+    };
+    u = record {
+      place = record { whole = s.u.place.whole; width = s.u.place.width; height = s.u.place.height; xdec = s.u.place.xdec; ydec = s.u.place.ydec };
+      within = s.u.within;
+    };
+    v = record {
+      place = record { whole = s.v.place.whole; width = s.v.place.width; height = s.v.place.height; xdec = s.v.place.xdec; ydec = s.v.place.ydec };
+      within = s.v.within;
+    };
   }
 
   pub stores_out : (planes : Planes ℕ) → StoresAll own own_header planes → StoresAll own h planes
   unfolding plane_width plane_height xdec ydec
   stores_out planes s = record {
-    y = record { place = record { whole = s.y.place.whole; width = s.y.place.width; height = s.y.place.height; xdec = s.y.place.xdec; ydec = s.y.place.ydec }; within = s.y.within };
-    u = record { place = record { whole = s.u.place.whole; width = s.u.place.width; height = s.u.place.height; xdec = s.u.place.xdec; ydec = s.u.place.ydec }; within = s.u.within };
-    v = record { place = record { whole = s.v.place.whole; width = s.v.place.width; height = s.v.place.height; xdec = s.v.place.xdec; ydec = s.v.place.ydec }; within = s.v.within };
+    y = record {
+      place = record { whole = s.y.place.whole; width = s.y.place.width; height = s.y.place.height; xdec = s.y.place.xdec; ydec = s.y.place.ydec };
+      within = s.y.within;
+    };
+    u = record {
+      place = record { whole = s.u.place.whole; width = s.u.place.width; height = s.u.place.height; xdec = s.u.place.xdec; ydec = s.u.place.ydec };
+      within = s.u.within;
+    };
+    v = record {
+      place = record { whole = s.v.place.whole; width = s.v.place.width; height = s.v.place.height; xdec = s.v.place.xdec; ydec = s.v.place.ydec };
+      within = s.v.within;
+    };
   }
 
   pub room_in : (planes : Planes ℕ) → HasRoom h planes → HasRoom own_header planes
@@ -93,10 +111,12 @@ module _ (h : Header) (slots : Slots) (head : FrameHead) where
 
   -- planes with the samples that a plan comes to show its frame
   pub frame_shown : (plan : PlanValue) (q : Planes ℕ) → own_header ≡ plan.header
-      → ((k : Component) (x y : ℕ) → x < plane_width plan.header (number k) → y < plane_height plan.header (number k) → sample_at own (plane_of k q) x y ≡ sample_of (slow_walk plan k x y))
+      → ((k : Component) (x y : ℕ) → x < plane_width plan.header (number k) → y < plane_height plan.header (number k) →
+      sample_at own (plane_of k q) x y ≡ sample_of (slow_walk plan k x y))
       → planes_shown h q.y q.u q.v ≡ frame_of plan
   frame_shown plan q e shows =
       shown_in_own q ∙ ap (λ (g : Header). planes_shown g q.y q.u q.v) e ∙ rw (same Y, same U, same V) refl
     where
-      same : (k : Component) → plane_shown plan.header (number k) (plane_of k q) ≡ by_rows (extent_of plan.header (number k)) (λ x y. sample_of (slow_walk plan k x y))
+      same : (k : Component) →
+          plane_shown plan.header (number k) (plane_of k q) ≡ by_rows (extent_of plan.header (number k)) (λ x y. sample_of (slow_walk plan k x y))
       same k = samples_same (extent_of plan.header (number k)) (λ x y. sample_at own (plane_of k q) x y) (λ x y. sample_of (slow_walk plan k x y)) (shows k)

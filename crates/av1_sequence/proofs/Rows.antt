@@ -15,7 +15,8 @@ module _ {A : Type 0} (w : ℕ) (row : ℕ → List A) (wide : (y : ℕ) → len
 
   rows_at : (ys : List ℕ) (y x e : ℕ) (d : A) → y < length ys → x < w → get_or (flat_map row ys) (y * w + x) d ≡ get_or (row (get_or ys y e)) x d
   rows_at [] y x e d below inside = absurd (omega (arith, below))
-  rows_at (z ∷ ys) zero x e d below inside = ap (λ (k : ℕ). get_or (row z ++ flat_map row ys) k d) (let k : 0 * w + x ≡ x = omega arith in k) ∙ get_or_append_left (row z) (flat_map row ys) d x (omega (arith, inside, wide z))
+  rows_at (z ∷ ys) zero x e d below inside = ap (λ (k : ℕ). get_or (row z ++ flat_map row ys) k d) (let k : 0 * w + x ≡ x = omega arith in k)
+      ∙ get_or_append_left (row z) (flat_map row ys) d x (omega (arith, inside, wide z))
   rows_at (z ∷ ys) (suc y) x e d below inside =
       ap (λ (k : ℕ). get_or (row z ++ flat_map row ys) k d) (let k : suc y * w + x ≡ length (row z) + (y * w + x) = omega (arith, wide z) in k)
       ∙ get_or-append-add (row z) (flat_map row ys) (y * w + x) d ∙ rows_at ys y x e d (omega (arith, below)) inside
@@ -24,10 +25,12 @@ counted : (n y d : ℕ) → y < n → get_or (by_index n (λ y. y)) y d ≡ y
 counted n y d lt = get_or-by_index n (λ y. y) y d lt
 
 -- the sample at column x of row y
-pub sample_in : (extent : PlaneExtent) (f : ℕ → ℕ → ℕ) (x y : ℕ) → x < extent.width → y < extent.height → slice_index (by_rows extent f) (y * extent.width + x) ≡ f x y
+pub sample_in : (extent : PlaneExtent) (f : ℕ → ℕ → ℕ) (x y : ℕ) → x < extent.width → y < extent.height →
+    slice_index (by_rows extent f) (y * extent.width + x) ≡ f x y
 sample_in extent f x y hx hy =
     let row : ℕ → List ℕ = λ y. by_index extent.width (λ x. f x y) in
-    rows_at extent.width row (λ y. length-by_index extent.width (λ x. f x y)) (by_index extent.height (λ y. y)) y x 0 0 (omega (arith, length-by_index extent.height (λ (y : ℕ). y), hy)) hx
+    rows_at extent.width row (λ y. length-by_index extent.width (λ x. f x y))
+    (by_index extent.height (λ y. y)) y x 0 0 (omega (arith, length-by_index extent.height (λ (y : ℕ). y), hy)) hx
     ∙ ap (λ (k : ℕ). get_or (row k) x 0) (counted extent.height y 0 hy) ∙ get_or-by_index extent.width (λ x. f x y) x 0 hx
 
 -- how many samples there are
@@ -41,22 +44,27 @@ rows_all P row [] all = λ k d lt. absurd (omega (arith, lt))
 rows_all P row (y ∷ ys) all = All-append P (row y) (flat_map row ys) (all 0 y (omega arith)) (rows_all P row ys (λ k d lt. all (suc k) d (omega (arith, lt))))
 
 -- what holds of each visible sample holds of all
-pub samples_all : (P : ℕ → Type 0) (extent : PlaneExtent) (f : ℕ → ℕ → ℕ) → ((x y : ℕ) → x < extent.width → y < extent.height → P (f x y)) → All P (by_rows extent f)
+pub samples_all : (P : ℕ → Type 0) (extent : PlaneExtent) (f : ℕ → ℕ → ℕ) → ((x y : ℕ) → x < extent.width → y < extent.height → P (f x y)) →
+    All P (by_rows extent f)
 samples_all P extent f all =
     rows_all P (λ y. by_index extent.width (λ x. f x y)) (by_index extent.height (λ y. y))
     (λ k d lt.
     let below : k < extent.height = omega (arith, lt, length-by_index extent.height (λ (y : ℕ). y)) in
-    subst (λ (y : ℕ). All P (by_index extent.width (λ x. f x y))) (sym (counted extent.height k d below)) (by_index-all P extent.width (λ x. f x k) (λ x hx. all x k hx below)))
+    subst (λ (y : ℕ). All P (by_index extent.width (λ x. f x y))) (sym (counted extent.height k d below))
+    (by_index-all P extent.width (λ x. f x k) (λ x hx. all x k hx below)))
 
 rows_same : {A : Type 0} (f g : ℕ → List A) (ys : List ℕ) → ((k d : ℕ) → k < length ys → f (get_or ys k d) ≡ g (get_or ys k d)) → flat_map f ys ≡ flat_map g ys
 rows_same f g [] same = refl
-rows_same f g (y ∷ ys) same = ap (λ (xs : List _). xs ++ flat_map f ys) (same 0 y (omega arith)) ∙ ap (λ (xs : List _). g y ++ xs) (rows_same f g ys (λ k d lt. same (suc k) d (omega (arith, lt))))
+rows_same f g (y ∷ ys) same = ap (λ (xs : List _). xs ++ flat_map f ys) (same 0 y (omega arith))
+    ∙ ap (λ (xs : List _). g y ++ xs) (rows_same f g ys (λ k d lt. same (suc k) d (omega (arith, lt))))
 
 -- planes that agree at each visible sample show the same
-pub samples_same : (extent : PlaneExtent) (f g : ℕ → ℕ → ℕ) → ((x y : ℕ) → x < extent.width → y < extent.height → f x y ≡ g x y) → by_rows extent f ≡ by_rows extent g
+pub samples_same : (extent : PlaneExtent) (f g : ℕ → ℕ → ℕ) → ((x y : ℕ) → x < extent.width → y < extent.height → f x y ≡ g x y) →
+    by_rows extent f ≡ by_rows extent g
 samples_same extent f g same =
     rows_same (λ y. by_index extent.width (λ x. f x y)) (λ y. by_index extent.width (λ x. g x y)) (by_index extent.height (λ y. y))
     (λ k d lt.
     let below : k < extent.height = omega (arith, lt, length-by_index extent.height (λ (y : ℕ). y)) in
-    ap (λ (y : ℕ). by_index extent.width (λ x. f x y)) (counted extent.height k d below) ∙ by_index-same extent.width (λ x. f x k) (λ x. g x k) (λ x hx. same x k hx below)
+    ap (λ (y : ℕ). by_index extent.width (λ x. f x y)) (counted extent.height k d below)
+    ∙ by_index-same extent.width (λ x. f x k) (λ x. g x k) (λ x hx. same x k hx below)
     ∙ ap (λ (y : ℕ). by_index extent.width (λ x. g x y)) (sym (counted extent.height k d below)))

@@ -1,5 +1,6 @@
 -- Frames that are kept at places serve the plan of the next frame, once its references name these places.
-use Rattle.std.proofs.Common.{ℕ, zero, suc, ◌-◌, ◌<◌, ◌≡◌, ◌∙◌, true, Bool, List, [], length, get_or, Option, Some, None, refl, ap, sym, subst, arith, inl, inr, slice_index, slice_index_or, is_some, replicate, if◌then◌else◌, ltb}
+use Rattle.std.proofs.Common.{ℕ, zero, suc, ◌-◌, ◌<◌, ◌≡◌, ◌∙◌, true, Bool, List, [], length, get_or, Option, Some, None, refl, ap, sym, subst, arith, inl, inr}
+use Rattle.std.proofs.Common.{slice_index, slice_index_or, is_some, replicate, if◌then◌else◌, ltb}
 use Rattle.std.specs.Prelude.{◌&&◌, unwrap_or}
 use Rattle.std.specs.Option.{option_map}
 use Rattle.std.proofs.lemmas.Bool.{and_parts, cases_lt, ltb-true}
@@ -30,7 +31,8 @@ use Rattle.av1_sequence.proofs.Bits.{bit_is, bits_small}
 use Rattle.av1_sequence.proofs.Shown.{filled_planes, held_same, place_of, some_mapped}
 
 -- a slot of a list that is told by number
-pub slot_shown : (h : Header) (fi : FrameInvariants ℕ) (places : List (Option ℕ)) (s : ℕ) → s < 8 → slot_of (slots_shown h fi places) s ≡ shown_in h fi (slice_index_or places s None)
+pub slot_shown : (h : Header) (fi : FrameInvariants ℕ) (places : List (Option ℕ)) (s : ℕ) → s < 8 →
+    slot_of (slots_shown h fi places) s ≡ shown_in h fi (slice_index_or places s None)
 slot_shown h fi places s lt = get_or-by_index 8 (λ s. shown_in h fi (slice_index_or places s None)) s None lt
 
 -- the slots of a frame's mask are those that it reads
@@ -58,7 +60,8 @@ named_within slots i seven below =
     elim (cases_lt i 7) [ inl lt ↦ lt | inr le ↦ absurd (omega (arith, below, get_or_past slots i 8 (omega (arith, seven, le)))) ]
 
 -- the samples of a slot, where it has planes
-reference_is : (v : PlanValue) (s p : ℕ) (planes : Frame) → slice_index_or v.references s None ≡ Some planes → reference_of v s p ≡ Some (slice_index_or planes p [])
+reference_is : (v : PlanValue) (s p : ℕ) (planes : Frame) → slice_index_or v.references s None ≡ Some planes →
+    reference_of v s p ≡ Some (slice_index_or planes p [])
 reference_is v s p planes e = rw e refl
 
 pub plane_listed : (h : Header) (t : Slot ℕ) (p : ℕ) → p < 3 → slice_index_or (planes_shown h t.y t.u t.v) p [] ≡ plane_shown h p (plane_of t p)
@@ -70,7 +73,8 @@ plane_listed h t (suc (suc (suc p))) few = absurd (omega (arith, few))
 chosen : (b : Bool) (o : Option Frame) → b ≡ true → (if b then o else None) ≡ o
 chosen b o e = rw e refl
 
-module _ (h : Header) (fi new : FrameInvariants ℕ) (places : List (Option ℕ)) (head : FrameHead) (keeps : KeepsFrames h fi places) (is : IsHead head) (leaves : List LeafValue)
+module _ (h : Header) (fi new : FrameInvariants ℕ) (places : List (Option ℕ)) (head : FrameHead) (keeps : KeepsFrames h fi places) (is : IsHead head)
+    (leaves : List LeafValue)
     (kept : new.slots ≡ fi.slots) (depth : new.bit_depth ≡ fi.bit_depth) (filter : new.default_filter ≡ head.filter)
     (named : (i place : ℕ) → i < 7 → slice_index_or places (slice_index head.slots i) None ≡ Some place → slice_index new.ref_frames i ≡ place) where
   abbrev slots : Slots
@@ -102,15 +106,18 @@ module _ (h : Header) (fi new : FrameInvariants ℕ) (places : List (Option ℕ)
       record { place = place; below = o.slot; at = at; names = named i place within at; read = read; stands = keeps.kept s place o.slot at }
 
   -- the samples of its slot are those that its planes show
-  samples_are : (reference : RefType) (p : ℕ) (plane : Plane ℕ) (at : IsPlaced reference) → p < 3 → slot_plane fi at.place p ≡ Some plane → slot_samples value (slot_in value.header reference) p ≡ plane_shown h p plane
+  samples_are : (reference : RefType) (p : ℕ) (plane : Plane ℕ) (at : IsPlaced reference) → p < 3 → slot_plane fi at.place p ≡ Some plane →
+      slot_samples value (slot_in value.header reference) p ≡ plane_shown h p plane
   samples_are reference p plane at few e =
       let s = slot_in value.header reference in
       let (t, t_is) = filled_planes (slice_index_or fi.slots at.place None) at.stands.filled in
       let frame : slice_index_or (frame_references slots head) s None ≡ Some (planes_shown h t.y t.u t.v) =
-      get_or-by_index 8 (λ s. if is_read head.slots slots s then slot_of slots s else None) s None at.below ∙ chosen (is_read head.slots slots s) (slot_of slots s) at.read
+      get_or-by_index 8 (λ s. if is_read head.slots slots s then slot_of slots s else None) s None at.below
+      ∙ chosen (is_read head.slots slots s) (slot_of slots s) at.read
       ∙ slot_shown h fi places s at.below ∙ ap (shown_in h fi) at.at ∙ ap (option_map (λ (t : Slot ℕ). planes_shown h t.y t.u t.v)) t_is in
       let own_plane : plane_of t p ≡ plane = same_Some _ _ (sym (ap (option_map (λ (t : Slot ℕ). plane_of t p)) t_is) ∙ e) in
-      ap (λ (o : Option (List ℕ)). unwrap_or o []) (reference_is value s p (planes_shown h t.y t.u t.v) frame) ∙ plane_listed h t p few ∙ ap (plane_shown h p) own_plane
+      ap (λ (o : Option (List ℕ)). unwrap_or o []) (reference_is value s p (planes_shown h t.y t.u t.v) frame) ∙ plane_listed h t p few
+      ∙ ap (plane_shown h p) own_plane
 
   pub serves : ServesPlan own value new
   serves = record {
@@ -119,16 +126,20 @@ module _ (h : Header) (fi new : FrameInvariants ℕ) (places : List (Option ℕ)
     named = λ reference has. let d = placed reference has in omega (arith, d.names, d.stands.below);
     filled = λ reference p has few.
         let d = placed reference has in
-        ap (λ (n : ℕ). is_some (slot_plane new n p)) d.names ∙ some_mapped (λ (t : Slot ℕ). plane_of t p) (slice_index_or new.slots d.place None) ∙ ap (λ (ts : List (Option (Slot ℕ))). is_some (slice_index_or ts d.place None)) kept ∙ d.stands.filled;
+        ap (λ (n : ℕ). is_some (slot_plane new n p)) d.names ∙ some_mapped (λ (t : Slot ℕ). plane_of t p) (slice_index_or new.slots d.place None)
+        ∙ ap (λ (ts : List (Option (Slot ℕ))). is_some (slice_index_or ts d.place None)) kept ∙ d.stands.filled;
     planes = λ reference p plane has few e.
         let d = placed reference has in
         let there : slot_plane fi d.place p ≡ Some plane =
-        sym (ap (λ (ts : List (Option (Slot ℕ))). option_map (λ (t : Slot ℕ). plane_of t p) (slice_index_or ts d.place None)) kept) ∙ sym (ap (λ (n : ℕ). slot_plane new n p) d.names) ∙ e in
-        subst (λ (samples : List ℕ). HoldsPlane own value.header p samples plane) (sym (samples_are reference p plane d few there)) (held_same h slots head p _ plane (d.stands.planes p plane few there));
+        sym (ap (λ (ts : List (Option (Slot ℕ))). option_map (λ (t : Slot ℕ). plane_of t p) (slice_index_or ts d.place None)) kept)
+        ∙ sym (ap (λ (n : ℕ). slot_plane new n p) d.names) ∙ e in
+        subst (λ (samples : List ℕ). HoldsPlane own value.header p samples plane) (sym (samples_are reference p plane d few there))
+        (held_same h slots head p _ plane (d.stands.planes p plane few there));
   }
 
 -- a slot shows a frame where it has a place
-pub filled_same : (h : Header) (fi : FrameInvariants ℕ) (places : List (Option ℕ)) → KeepsFrames h fi places → (s : ℕ) → s < 8 → is_some (slot_of (slots_shown h fi places) s) ≡ is_some (slice_index_or places s None)
+pub filled_same : (h : Header) (fi : FrameInvariants ℕ) (places : List (Option ℕ)) → KeepsFrames h fi places → (s : ℕ) → s < 8 →
+    is_some (slot_of (slots_shown h fi places) s) ≡ is_some (slice_index_or places s None)
 filled_same h fi places keeps s lt = ap is_some (slot_shown h fi places s lt) ∙ go (slice_index_or places s None) refl
   where
     go : (o : Option ℕ) → slice_index_or places s None ≡ o → is_some (shown_in h fi o) ≡ is_some o
@@ -136,13 +147,15 @@ filled_same h fi places keeps s lt = ap is_some (slot_shown h fi places s lt) �
     go (Some place) e = some_mapped (λ (t : Slot ℕ). planes_shown h t.y t.u t.v) (slice_index_or fi.slots place None) ∙ (keeps.kept s place lt e).filled
 
 -- so a named slot is read there
-pub read_there : (h : Header) (fi : FrameInvariants ℕ) (places : List (Option ℕ)) → KeepsFrames h fi places → (named : List ℕ) (s : ℕ) (b : Bool) → s < 8 → is_named named s ≡ true → b ≡ is_some (slice_index_or places s None)
+pub read_there : (h : Header) (fi : FrameInvariants ℕ) (places : List (Option ℕ)) → KeepsFrames h fi places → (named : List ℕ) (s : ℕ) (b : Bool) → s < 8 →
+    is_named named s ≡ true → b ≡ is_some (slice_index_or places s None)
     → b ≡ is_read named (slots_shown h fi places) s
 read_there h fi places keeps named s b lt names is =
     is ∙ sym (filled_same h fi places keeps s lt) ∙ sym (ap (λ (t : Bool). t && is_some (slot_of (slots_shown h fi places) s)) names)
 
 -- frames whose settings alone have changed are kept as before
-pub keeps_settings : (h : Header) (fi new : FrameInvariants ℕ) (places : List (Option ℕ)) → new.slots ≡ fi.slots → new.bit_depth ≡ fi.bit_depth → KeepsFrames h fi places → KeepsFrames h new places
+pub keeps_settings : (h : Header) (fi new : FrameInvariants ℕ) (places : List (Option ℕ)) → new.slots ≡ fi.slots → new.bit_depth ≡ fi.bit_depth →
+    KeepsFrames h fi places → KeepsFrames h new places
 keeps_settings h fi new places kept depth keeps = record {
   frame = keeps.frame;
   depth = depth ∙ keeps.depth;
@@ -153,18 +166,23 @@ keeps_settings h fi new places kept depth keeps = record {
       record {
         below = k.below;
         filled = ap (λ (ts : List (Option (Slot ℕ))). is_some (slice_index_or ts place None)) kept ∙ k.filled;
-        planes = λ p plane few is. k.planes p plane few (sym (ap (λ (ts : List (Option (Slot ℕ))). option_map (λ (t : Slot ℕ). plane_of t p) (slice_index_or ts place None)) kept) ∙ is);
+        planes =
+            λ p plane few is.
+            k.planes p plane few (sym (ap (λ (ts : List (Option (Slot ℕ))). option_map (λ (t : Slot ℕ). plane_of t p) (slice_index_or ts place None)) kept)
+            ∙ is);
       };
 }
 
 -- no frames
-pub keeps_none : (h : Header) (fi : FrameInvariants ℕ) (places : List (Option ℕ)) → AreFrames h → fi.bit_depth ≡ h.depth → length fi.slots ≡ 8 → places ≡ replicate 8 None → KeepsFrames h fi places
+pub keeps_none : (h : Header) (fi : FrameInvariants ℕ) (places : List (Option ℕ)) → AreFrames h → fi.bit_depth ≡ h.depth → length fi.slots ≡ 8 →
+    places ≡ replicate 8 None → KeepsFrames h fi places
 keeps_none h fi places is depth count none = record {
   frame = is;
   depth = depth;
   count = count;
   eight = ap length none;
-  kept = λ s place lt e. absurd (none-some place (sym (get_or-replicate 8 s None None lt) ∙ sym (ap (λ (ps : List (Option ℕ)). slice_index_or ps s None) none) ∙ e));
+  kept = λ s place lt e.
+      absurd (none-some place (sym (get_or-replicate 8 s None None lt) ∙ sym (ap (λ (ps : List (Option ℕ)). slice_index_or ps s None) none) ∙ e));
 }
 
 pub none_shown : (h : Header) (fi : FrameInvariants ℕ) (places : List (Option ℕ)) → places ≡ replicate 8 None → slots_shown h fi places ≡ replicate 8 None
@@ -173,11 +191,16 @@ none_shown h fi places none =
     (λ s lt. ap (shown_in h fi) (ap (λ (ps : List (Option ℕ)). slice_index_or ps s None) none ∙ get_or-replicate 8 s None None lt))
 
 -- the settings serve a plan with this header and these references
-pub serves_plan : (h : Header) (fi new : FrameInvariants ℕ) (places : List (Option ℕ)) (head : FrameHead) → KeepsFrames h fi places → IsHead head → new.slots ≡ fi.slots → new.bit_depth ≡ fi.bit_depth → new.default_filter ≡ head.filter
+pub serves_plan : (h : Header) (fi new : FrameInvariants ℕ) (places : List (Option ℕ)) (head : FrameHead) → KeepsFrames h fi places → IsHead head →
+    new.slots ≡ fi.slots → new.bit_depth ≡ fi.bit_depth → new.default_filter ≡ head.filter
     → ((i place : ℕ) → i < 7 → slice_index_or places (slice_index head.slots i) None ≡ Some place → slice_index new.ref_frames i ≡ place)
-    → (plan : PlanValue) → plan.header ≡ frame_header h (slots_shown h fi places) head → plan.references ≡ frame_references (slots_shown h fi places) head → ServesPlan own plan new
+    → (plan : PlanValue) → plan.header ≡ frame_header h (slots_shown h fi places) head → plan.references ≡ frame_references (slots_shown h fi places) head →
+    ServesPlan own plan new
 serves_plan h fi new places head keeps is kept depth filter named plan eh er =
-    subst (λ (v : PlanValue). ServesPlan own v new) (plan_is plan (frame_header h (slots_shown h fi places) head) (frame_references (slots_shown h fi places) head) eh er) (serves h fi new places head keeps is plan.leaves kept depth filter named)
+    subst (λ (v : PlanValue). ServesPlan own v new)
+    (plan_is plan (frame_header h (slots_shown h fi places) head) (frame_references (slots_shown h fi places) head) eh er)
+    (serves h fi new places head keeps is plan.leaves kept depth filter named)
   where
-    plan_is : (plan : PlanValue) (g : Header) (rs : List (Option Frame)) → plan.header ≡ g → plan.references ≡ rs → record { header = g; references = rs; leaves = plan.leaves } ≡ plan
+    plan_is : (plan : PlanValue) (g : Header) (rs : List (Option Frame)) → plan.header ≡ g → plan.references ≡ rs →
+        record { header = g; references = rs; leaves = plan.leaves } ≡ plan
     plan_is plan g rs eh er = rw (sym eh, sym er) refl

@@ -1,5 +1,6 @@
 -- What showing the frames of a sequence says, from what showing each of them says.
-use Rattle.std.proofs.Common.{◌≡◌, ◌≢◌, ℕ, ◌+◌, ◌<◌, ◌≤◌, List, [], ◌∷◌, ◌++◌, length, take, map, All, Option, Some, Ok, Err, refl, sym, ap, subst, ◌∙◌, append-nil, arith, get_or}
+use Rattle.std.proofs.Common.{◌≡◌, ◌≢◌, ℕ, ◌+◌, ◌<◌, ◌≤◌, List, [], ◌∷◌, ◌++◌, length, take, map, All, Option, Some, Ok, Err, refl, sym, ap, subst, ◌∙◌}
+use Rattle.std.proofs.Common.{append-nil, arith, get_or}
 use Rattle.std.specs.Prelude.{slice_get, IsErrAnd, IfErr}
 use Rattle.std.specs.List.{flat_map}
 use Rattle.std.specs.Option.{option_map}
@@ -42,7 +43,8 @@ use Rattle.av1_sequence.proofs.Running.{lead_more}
 
 -- ---- the bytes of a frame
 
-spelled_header : (f : Format (List LeafValue)) (h : Header) (refs : List (Option Frame)) (vs : List ℕ) (p : PlanValue) → Spells (f >>= λ leaves. done (record { header = h; references = refs; leaves = leaves })) vs p → p.header ≡ h
+spelled_header : (f : Format (List LeafValue)) (h : Header) (refs : List (Option Frame)) (vs : List ℕ) (p : PlanValue) →
+    Spells (f >>= λ leaves. done (record { header = h; references = refs; leaves = leaves })) vs p → p.header ≡ h
 spelled_header (done x) h refs [] p s = ap (λ (q : PlanValue). q.header) (sym s)
 spelled_header (done x) h refs (v ∷ vs) p s = absurd s
 spelled_header (asks kind next) h refs [] p s = absurd s
@@ -60,7 +62,8 @@ abbrev text_at_depth : ℕ → PlanValue → List ℕ
 text_at_depth depth plan = plane_at_depth depth plan Y ++ plane_at_depth depth plan U ++ plane_at_depth depth plan V
 
 -- the frame of a plan is written as the plan's planes are
-text_of_frame : (k : Kept) (head : FrameHead) (part : List ℕ) (plan : PlanValue) → IsValidFrame k head part plan → frame_text k.frames (frame_of plan) ≡ planes_of plan
+text_of_frame : (k : Kept) (head : FrameHead) (part : List ℕ) (plan : PlanValue) → IsValidFrame k head part plan →
+    frame_text k.frames (frame_of plan) ≡ planes_of plan
 unfolding planes_of visible
 text_of_frame k head part plan valid =
     let same = header_is (frame_header k.frames k.slots head) (frame_references k.slots head) part plan valid.text in
@@ -76,15 +79,18 @@ last_text k k' head part plan valid is P holds =
 
 -- ---- one frame
 
-refuses_frame : (k k' : Kept) (index : ℕ) (f : FrameValue) (error : FrameError) (a : Option (List ℕ)) → Refuses k f.head f.part error → ShowsFrame k index f (Err (frame_error index error)) k' a a
+refuses_frame : (k k' : Kept) (index : ℕ) (f : FrameValue) (error : FrameError) (a : Option (List ℕ)) → Refuses k f.head f.part error →
+    ShowsFrame k index f (Err (frame_error index error)) k' a a
 refuses_frame k k' index f frame_errors.TooLarge a why = (refl, why, Appends-nil a)
 refuses_frame k k' index f (frame_errors.Malformed at) a why = (refl, why, Appends-nil a)
 refuses_frame k k' index f (frame_errors.Invalid leaf kind) a why = (refl, why, Appends-nil a)
 refuses_frame k k' index f frame_errors.Memory a why = Appends-nil a
 
 -- it was refused
-pub refused_frame : (k k' : Kept) (index : ℕ) (f : FrameValue) (error : FrameError) (e : SequenceError) (a : Option (List ℕ)) → e ≡ frame_error index error → Refuses k f.head f.part error → ShowsFrame k index f (Err e) k' a a
-refused_frame k k' index f error e a is why = subst (λ (x : SequenceError). ShowsFrame k index f (Err x) k' a a) (sym is) (refuses_frame k k' index f error a why)
+pub refused_frame : (k k' : Kept) (index : ℕ) (f : FrameValue) (error : FrameError) (e : SequenceError) (a : Option (List ℕ)) → e ≡ frame_error index error →
+    Refuses k f.head f.part error → ShowsFrame k index f (Err e) k' a a
+refused_frame k k' index f error e a is why =
+    subst (λ (x : SequenceError). ShowsFrame k index f (Err x) k' a a) (sym is) (refuses_frame k k' index f error a why)
 
 -- a refusal blames no write
 pub no_write : {X : Type 0} (index : ℕ) (error : FrameError) (e : SequenceError) → e ≡ frame_error index error → cause_of e ≡ write_failed → X
@@ -96,19 +102,30 @@ no_write {X} index error e is h = blames error (sym (ap cause_of is) ∙ h)
     blames (frame_errors.Invalid leaf kind) clash = absurd cc
     blames frame_errors.Memory clash = absurd cc
 
+-- an answer blames what its error does
+pub blamed_by : (answer : Answer) (e : SequenceError) → IsErrAnd answer (λ d. d ≡ e) → cause_of e ≡ write_failed →
+    IsErrAnd answer (λ d. cause_of d ≡ write_failed)
+blamed_by (Ok d) e is h = absurd is
+blamed_by (Err d) e is h = ap cause_of is ∙ h
+
 -- it was accepted, and couldn't be written
-pub unwritten_frame : (k k' : Kept) (index : ℕ) (f : FrameValue) (plan : PlanValue) (answer : Answer) (a b : Option (List ℕ)) → IsErrAnd answer (λ e. e ≡ errors.WriteFault) → IsValidFrame k f.head f.part plan → k' ≡ accepted k f.head plan
+pub unwritten_frame : (k k' : Kept) (index : ℕ) (f : FrameValue) (plan : PlanValue) (answer : Answer) (a b : Option (List ℕ)) →
+    IsErrAnd answer (λ e. e ≡ errors.WriteFault) → IsValidFrame k f.head f.part plan → k' ≡ accepted k f.head plan
     → ((frame : Frame) → k'.last ≡ Some frame → AppendsPrefix a b (frame_text k'.frames frame)) → ShowsFrame k index f answer k' a b
 unwritten_frame k k' index f plan answer a b err valid is prefix =
-    subst (λ (r : Answer). ShowsFrame k index f r k' a b) (sym (is_err answer errors.WriteFault err)) (plan, valid, last_text k k' f.head f.part plan valid is (AppendsPrefix a b) prefix)
+    subst (λ (r : Answer). ShowsFrame k index f r k' a b) (sym (is_err answer errors.WriteFault err))
+    (plan, valid, last_text k k' f.head f.part plan valid is (AppendsPrefix a b) prefix)
 
 -- ---- all of them
 
 -- a frame of a sequence that was read
-pub frame_at : (items : List FrameText) (index : ℕ) (item : FrameText) → index < length items → item ≡ get_or items index item → slice_get (map frame_value items) index ≡ Some (frame_value item)
-frame_at items index item lt is = slice_get-map frame_value items index ∙ ap (option_map frame_value) (slice_get_read items (length items) index item refl lt is)
+pub frame_at : (items : List FrameText) (index : ℕ) (item : FrameText) → index < length items → item ≡ get_or items index item →
+    slice_get (map frame_value items) index ≡ Some (frame_value item)
+frame_at items index item lt is = slice_get-map frame_value items index
+    ∙ ap (option_map frame_value) (slice_get_read items (length items) index item refl lt is)
 
-pub text_at : (items : List FrameText) (index : ℕ) (item : FrameText) → index < length items → item ≡ get_or items index item → All IsReadText items → IsReadText item
+pub text_at : (items : List FrameText) (index : ℕ) (item : FrameText) → index < length items → item ≡ get_or items index item → All IsReadText items →
+    IsReadText item
 text_at items index item lt is texts = subst IsReadText (sym is) (All-get_or IsReadText items index item lt texts)
 
 no_more : (a c : Option (List ℕ)) (written : List ℕ) → Appends a c (written ++ []) → Appends a c written
@@ -121,7 +138,8 @@ module _ (f : FileValue) (index : ℕ) (frame : FrameValue) (at : slice_get f.pa
       take_more f.parts index frame (slice_get_within f.parts index frame at)
       ∙ ap (λ (x : FrameValue). take index f.parts ++ x ∷ []) (get_or_from_slice_get f.parts index frame frame at)
 
-  one_more : (plan : PlanValue) → IsValidFrame k frame.head frame.part plan → Lead (beginning f) (take (index + 1) f.parts) (written ++ planes_of plan) (accepted k frame.head plan)
+  one_more : (plan : PlanValue) → IsValidFrame k frame.head frame.part plan →
+      Lead (beginning f) (take (index + 1) f.parts) (written ++ planes_of plan) (accepted k frame.head plan)
   one_more plan valid =
       subst (λ (frames : List FrameValue). Lead (beginning f) frames (written ++ planes_of plan) (accepted k frame.head plan)) (sym front_more)
       (lead_more (beginning f) (take index f.parts) written k frame plan lead valid)
@@ -136,17 +154,22 @@ module _ (f : FileValue) (index : ℕ) (frame : FrameValue) (at : slice_get f.pa
 
   stops_by : (e : SequenceError) → ShowsFrame k index frame (Err e) k' b c → Shows f (Err e) a c
   stops_by (errors.Frame i fault) (is, why, none) =
-      let here : IsFirstRefused (beginning f) f.parts index fault written = record { kept = k; before = lead; frame = frame; at = at; refused = why } in
-      (written, subst (λ (n : ℕ). IsFirstRefused (beginning f) f.parts n fault written) (sym is) here, no_more a c written (Appends-trans a b c written [] before none))
+      let here : IsFirstRefused (beginning f) f.parts index fault written = record { kept = k; before = lead; frame = frame; at = at; refused = why } in (
+        written,
+        subst (λ (n : ℕ). IsFirstRefused (beginning f) f.parts n fault written) (sym is) here,
+        no_more a c written (Appends-trans a b c written [] before none),
+      )
   stops_by errors.WriteFault (plan, valid, prefix) =
       let here : AreShown (beginning f) f.parts (index + 1) (written ++ planes_of plan) =
       record { within = omega (arith, slice_get_within f.parts index frame at); kept = accepted k frame.head plan; lead = one_more plan valid } in (
         written ++ planes_of plan,
         (index + 1, here),
-        AppendsPrefix-after a b c written (planes_of plan) [] (written ++ planes_of plan) (ap (λ (l : List ℕ). written ++ l) (append-nil (planes_of plan))) before prefix,
+        AppendsPrefix-after a b c written (planes_of plan) [] (written ++ planes_of plan)
+            (ap (λ (l : List ℕ). written ++ l) (append-nil (planes_of plan))) before prefix,
       )
   stops_by errors.Memory none =
-      let here : AreShown (beginning f) f.parts index written = record { within = omega (arith, slice_get_within f.parts index frame at); kept = k; lead = lead } in
+      let here : AreShown (beginning f) f.parts index written =
+      record { within = omega (arith, slice_get_within f.parts index frame at); kept = k; lead = lead } in
       (written, (index, here), no_more a c written (Appends-trans a b c written [] before none))
   stops_by errors.ReadFault none = absurd none
   stops_by errors.TooLong none = absurd none
@@ -163,13 +186,15 @@ never_begun f answer a is =
     subst (λ (r : Answer). Shows f r a a) (sym (is_err answer errors.Memory is)) ([], (0, here), Appends-nil a)
 
 -- all frames were accepted and written
-pub all_shown : (f : FileValue) (index : ℕ) (k : Kept) (written : List ℕ) (a b : Option (List ℕ)) → length f.parts ≤ index → Lead (beginning f) (take index f.parts) written k → Appends a b written → Shows f (Ok tt) a b
+pub all_shown : (f : FileValue) (index : ℕ) (k : Kept) (written : List ℕ) (a b : Option (List ℕ)) → length f.parts ≤ index →
+    Lead (beginning f) (take index f.parts) written k → Appends a b written → Shows f (Ok tt) a b
 all_shown f index k written a b end lead appended =
     (written, (k, subst (λ (frames : List FrameValue). Lead (beginning f) frames written k) (take_all index f.parts end) lead), appended)
 
 -- ---- what errors of showing are
 
-pub no_read : (f : FileValue) (answer : Answer) (a b : Option (List ℕ)) → Shows f answer a b → IfErr answer (λ e. (cause_of e ≢ read_failed) × (cause_of e ≢ too_long))
+pub no_read : (f : FileValue) (answer : Answer) (a b : Option (List ℕ)) → Shows f answer a b →
+    IfErr answer (λ e. (cause_of e ≢ read_failed) × (cause_of e ≢ too_long))
 no_read f (Ok u) a b shows = tt
 no_read f (Err (errors.Frame i fault)) a b shows = (λ h. absurd cc, λ h. absurd cc)
 no_read f (Err errors.WriteFault) a b shows = (λ h. absurd cc, λ h. absurd cc)

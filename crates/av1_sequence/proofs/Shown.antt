@@ -33,7 +33,8 @@ plane_held h p plane holds = record {
 -- a sample of a plane that stores its part of a frame
 pub sample_within : (h : Header) (p : ℕ) (plane : Plane ℕ) → Stores own h p plane → (x y : ℕ) → sample_at own plane x y < 2 ^ h.depth
 sample_within h p plane stores x y =
-    subst (λ (xs : List ℕ). slice_index xs (place_at plane.plane_cfg x y) < 2 ^ h.depth) (sym (map-id plane.samples)) (read_below plane.samples (2 ^ h.depth) (place_at plane.plane_cfg x y) (pow_pos h.depth) stores.within)
+    subst (λ (xs : List ℕ). slice_index xs (place_at plane.plane_cfg x y) < 2 ^ h.depth) (sym (map-id plane.samples))
+    (read_below plane.samples (2 ^ h.depth) (place_at plane.plane_cfg x y) (pow_pos h.depth) stores.within)
 
 module _ (h : Header) (p : ℕ) (plane : Plane ℕ) (stores : Stores own h p plane) where
   padded_same : (x y : ℕ) → x < plane_width h p → y < plane_height h p → sample_at own (padded plane) x y ≡ sample_at own plane x y
@@ -68,9 +69,29 @@ module _ (h : Header) (slots : Slots) (head : FrameHead) where
   pub held_same : (p : ℕ) (samples : List ℕ) (plane : Plane ℕ) → HoldsPlane own h p samples plane → HoldsPlane own (frame_header h slots head) p samples plane
   unfolding plane_width plane_height xdec ydec
   held_same zero samples plane o =
-      record { padded = o.padded; xpad = o.xpad; ypad = o.ypad; width = o.width; height = o.height; xdec = o.xdec; ydec = o.ydec; shows = o.shows; within = o.within }
+      record {
+        padded = o.padded;
+        xpad = o.xpad;
+        ypad = o.ypad;
+        width = o.width;
+        height = o.height;
+        xdec = o.xdec;
+        ydec = o.ydec;
+        shows = o.shows;
+        within = o.within;
+      }
   held_same (suc p) samples plane o =
-      record { padded = o.padded; xpad = o.xpad; ypad = o.ypad; width = o.width; height = o.height; xdec = o.xdec; ydec = o.ydec; shows = o.shows; within = o.within }
+      record {
+        padded = o.padded;
+        xpad = o.xpad;
+        ypad = o.ypad;
+        width = o.width;
+        height = o.height;
+        xdec = o.xdec;
+        ydec = o.ydec;
+        shows = o.shows;
+        within = o.within;
+      }
 
 -- ---- places
 

@@ -31,7 +31,8 @@ module _ (h : Header) (p : ℕ) (plane : Plane ℕ) (y : ℕ) (row : List ℕ) (
   pub row_narrow : IsWritable h p plane → y < plane_height h p → h.depth ≡ 8 → All (λ s. s < 256) row
   row_narrow w below eight =
       subst (All (λ s. s < 256)) (sym row_is)
-      (by_index-all (λ s. s < 256) (plane_width h p) (λ x. sample_at own plane x y) (λ x inside. subst (λ (d : ℕ). sample_at own plane x y < 2 ^ d) eight (w.within x y inside below)))
+      (by_index-all (λ s. s < 256) (plane_width h p) (λ x. sample_at own plane x y)
+      (λ x inside. subst (λ (d : ℕ). sample_at own plane x y < 2 ^ d) eight (w.within x y inside below)))
 
   pub row_text : flat_map (sample_bytes h.depth) row ≡ row_bytes own h plane p y
   row_text = ap (flat_map (sample_bytes h.depth)) row_is
@@ -39,9 +40,11 @@ module _ (h : Header) (p : ℕ) (plane : Plane ℕ) (y : ℕ) (row : List ℕ) (
 -- ---- a plane of the last frame
 
 -- what holds of the bytes of a plane that shows its part of the last frame holds of those of that frame
-pub plane_written : (frames g : Header) → g ≡ frames → (p : ℕ) (plane : Plane ℕ) (last : Option Frame) → Some (plane_shown frames p plane) ≡ option_map (λ (f : Frame). slice_index_or f p []) last
+pub plane_written : (frames g : Header) → g ≡ frames → (p : ℕ) (plane : Plane ℕ) (last : Option Frame) →
+    Some (plane_shown frames p plane) ≡ option_map (λ (f : Frame). slice_index_or f p []) last
     → (P : List ℕ → Type 0) → P (plane_bytes (extent_of g p) (sample_at own plane)) → (frame : Frame) → last ≡ Some frame → P (plane_text frames frame p)
 plane_written frames g same p plane last shows P holds frame is =
-    let here : P (flat_map (sample_bytes frames.depth) (plane_shown frames p plane)) = subst (λ (h : Header). P (plane_bytes (extent_of h p) (sample_at own plane))) same holds in
+    let here : P (flat_map (sample_bytes frames.depth) (plane_shown frames p plane)) =
+    subst (λ (h : Header). P (plane_bytes (extent_of h p) (sample_at own plane))) same holds in
     let shown : plane_shown frames p plane ≡ slice_index_or frame p [] = same_Some _ _ (shows ∙ ap (option_map (λ (f : Frame). slice_index_or f p [])) is) in
     subst (λ (xs : List ℕ). P (flat_map (sample_bytes frames.depth) xs)) shown here

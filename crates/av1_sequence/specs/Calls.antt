@@ -1,4 +1,5 @@
--- What lists of calls come to: a frame that is refused leaves nothing behind, and the slots are those of the accepted frames alone.
+-- What lists of calls come to: a frame that is refused leaves nothing behind, and the slots are those of the accepted
+-- frames alone.
 use Rattle.std.specs.Prelude.{◌≡◌, List, [], ◌∷◌, ℕ, Option, Some, Result, Ok, Err}
 use Rattle.std.specs.List.{fold}
 use Rattle.av1_plan.specs.Plan.{PlanValue}
@@ -38,11 +39,14 @@ slots_after slots f = refreshed slots f.head.refresh (frame_of f.plan)
 abbrev pub last_after : Option Frame → TakenFrame → Option Frame
 last_after last f = Some (frame_of f.plan)
 
--- what a call with this answer adds to the frames that are accepted: its own where it was accepted, with its valid plan over what is kept
-abbrev pub Adds : Kept → Call → Result (Unit {0}) FrameError → (later : Kept → List TakenFrame → Type 0) → List TakenFrame → Type 0
+-- what a call with this answer adds to the frames that are accepted: its own where it was accepted, with its valid plan
+-- over what is kept
+abbrev pub Adds : Kept → Call → Result (Unit {0}) FrameError → (later : Kept → List TakenFrame → Type 0) →
+    List TakenFrame → Type 0
 Adds k c (Err e) later frames = later k frames
 Adds k c (Ok done) later [] = ⊥
-Adds k c (Ok done) later (f ∷ frames) = (f.head ≡ c.head) × IsValidFrame k c.head c.part f.plan × later (accepted k c.head f.plan) frames
+Adds k c (Ok done) later (f ∷ frames) = (f.head ≡ c.head) × IsValidFrame k c.head c.part f.plan ×
+    later (accepted k c.head f.plan) frames
 
 -- these are the frames that calls accept, in their order
 abbrev pub AreTaken : Kept → List Call → List TakenFrame → Type 0
@@ -50,8 +54,10 @@ AreTaken k [] [] = Unit {0}
 AreTaken k [] (f ∷ frames) = ⊥
 AreTaken k (c ∷ calls) frames = Adds k c c.answer (λ m later. AreTaken m calls later) frames
 
--- After any list of calls the slots are those before, replaced by the accepted frames one after the other, and the last frame is the last of these.
+-- After any list of calls the slots are those before, replaced by the accepted frames one after the other, and the last
+-- frame is the last of these.
 abbrev pub AcceptedAloneCount : Type 0
 AcceptedAloneCount =
     (k k' : Kept) (calls : List Call) → DoInTurn k calls k'
-    → (frames : List TakenFrame) × AreTaken k calls frames × (k'.slots ≡ fold slots_after k.slots frames) × (k'.last ≡ fold last_after k.last frames) × (k'.frames ≡ k.frames)
+    → (frames : List TakenFrame) × AreTaken k calls frames × (k'.slots ≡ fold slots_after k.slots frames) ×
+    (k'.last ≡ fold last_after k.last frames) × (k'.frames ≡ k.frames)

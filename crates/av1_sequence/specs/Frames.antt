@@ -16,12 +16,14 @@ use Rattle.av1_tile.specs.Reference.{slow_walk}
 use Rattle.av1_sequence.specs.declared.head.FrameHead.{FrameHead}
 use Rattle.av1_sequence.specs.Slots.{Frame, Slots, slot_of, is_read, bits_of, count_of}
 
--- the head of a frame that a sequence takes: the filter is one of the first four, and each reference names one of the eight slots
+-- the head of a frame that a sequence takes: the filter is one of the first four, and each reference names one of the
+-- eight slots
 pub record IsHead (head : FrameHead) : Type 0 where
   pub filter : filter_number head.filter < 4
   pub slots : AreSlots head.slots
 
--- The header of a frame's plan: the sides, depth and sampling of the sequence's frames, what the head says, and the slots that it reads.
+-- The header of a frame's plan: the sides, depth and sampling of the sequence's frames, what the head says, and the
+-- slots that it reads.
 abbrev pub frame_header : (frames : Header) → Slots → FrameHead → Header
 frame_header frames slots head = record {
   version = 2;
@@ -41,11 +43,13 @@ frame_references slots head = by_index 8 (λ s. if is_read head.slots slots s th
 
 -- the part of a frame spells this plan
 abbrev pub IsFramePlan : (frames : Header) → Slots → FrameHead → (part : List ℕ) → PlanValue → Type 0
-IsFramePlan frames slots head part plan = AreText (plan_behind (frame_header frames slots head) (frame_references slots head)) part plan
+IsFramePlan frames slots head part plan =
+    AreText (plan_behind (frame_header frames slots head) (frame_references slots head)) part plan
 
 -- the part of a frame spells no plan, and the field at fault begins at this byte of it
 abbrev pub AreNoFramePlan : (frames : Header) → Slots → FrameHead → (part : List ℕ) → (at : ℕ) → Type 0
-AreNoFramePlan frames slots head part at = AreRefused (plan_behind (frame_header frames slots head) (frame_references slots head)) part at
+AreNoFramePlan frames slots head part at =
+    AreRefused (plan_behind (frame_header frames slots head) (frame_references slots head)) part at
 
 -- how many bytes the samples of a frame are
 abbrev pub frame_bytes : Header → ℕ

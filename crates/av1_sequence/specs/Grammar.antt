@@ -1,10 +1,11 @@
--- The format of a sequence of frames: the sides, depth and sampling of its frames, how many there are, and for each its head and its part.
--- Numbers are little-endian.
+-- The format of a sequence of frames: the sides, depth and sampling of its frames, how many there are, and for each its
+-- head and its part. Numbers are little-endian.
 use Rattle.std.specs.Prelude.{codes, zero, suc, ◌==◌, ℕ, Bool, List, [], ◌∷◌, ◌++◌, slice_index_or, Ok}
 use Rattle.std.specs.Int.{w32, from_le_bytes}
 use Rattle.av1_blocks.specs.declared.mc.FilterMode.TheVariants.{REGULAR}
 use Rattle.av1_blocks.specs.declared.mc.TheConstants.FilterMode as filter_modes
-use Rattle.av1_plan.specs.Format.{one, two, four, Format, done, ◌>>=◌, field, any, Input, Reading, on_ok, read, read_part, start, ended}
+use Rattle.av1_plan.specs.Format.{one, two, four, Format, done, ◌>>=◌, field, any, Input, Reading, on_ok, read}
+use Rattle.av1_plan.specs.Format.{read_part, start, ended}
 use Rattle.av1_plan.specs.Grammar.{where_, byte_from, is_side, is_depth, slots}
 use Rattle.av1_plan.specs.declared.header.Header.{Header}
 use Rattle.av1_sequence.specs.declared.head.FrameHead.{FrameHead}
@@ -36,7 +37,12 @@ head = do
   edge_filter ← field (byte_from 0 1)
   slots ← slots
   refresh ← field (any one)
-  done (record { filter = slice_index_or filter_modes.ALL filter REGULAR; edge_filter = edge_filter == 1; slots = slots; refresh = refresh })
+  done (record {
+    filter = slice_index_or filter_modes.ALL filter REGULAR;
+    edge_filter = edge_filter == 1;
+    slots = slots;
+    refresh = refresh;
+  })
 
 -- a frame: its head, and the bytes of its part
 pub record FrameValue : Type 0 where
@@ -59,4 +65,6 @@ read_frames (suc count) s = on_ok (read_frame s.1) (λ p. read_frames count (s.0
 
 -- the sequence that all of the bytes are, or the place of the first field that is cut, not admitted or left over
 unfoldable pub read_file : List ℕ → Reading FileValue
-read_file bytes = on_ok (read front (start bytes)) (λ f. on_ok (read_frames f.0.count ([], f.1)) (λ p. ended (record { frames = f.0.frames; parts = p.0 }, p.1)))
+read_file bytes =
+    on_ok (read front (start bytes))
+    (λ f. on_ok (read_frames f.0.count ([], f.1)) (λ p. ended (record { frames = f.0.frames; parts = p.0 }, p.1)))

@@ -1,5 +1,6 @@
 -- What a sequence keeps, and what is seen of it.
-use Rattle.std.specs.Prelude.{◌≡◌, ℕ, ◌<◌, ◌≤◌, true, List, [], ◌∷◌, Option, Some, None, option_map, is_some, length, slice_index_or}
+use Rattle.std.specs.Prelude.{◌≡◌, ℕ, ◌<◌, ◌≤◌, true, List, [], ◌∷◌, Option, Some, None, option_map, is_some, length}
+use Rattle.std.specs.Prelude.{slice_index_or}
 use Rattle.av1_frame.specs.declared.frame_invariants.FrameInvariants.{FrameInvariants}
 use Rattle.av1_frame.specs.declared.plane.Plane.{Plane}
 use Rattle.av1_frame.specs.Frames.{slot_plane}
@@ -15,7 +16,8 @@ use Rattle.av1_tile.specs.PlaneBlocks.{extent_of}
 use Rattle.av1_tile.specs.Walk.{HasPads, HasRoom, StoresAll}
 use Rattle.av1_sequence.specs.Slots.{Frame, Slots}
 
--- What callers see of a sequence: a header with the sides, depth and sampling of its frames, its slots, and the frame that was accepted last.
+-- What callers see of a sequence: a header with the sides, depth and sampling of its frames, its slots, and the frame
+-- that was accepted last.
 pub record Kept : Type 0 where
   pub frames : Header
   pub slots : Slots
@@ -59,7 +61,8 @@ slots_shown h fi places = by_index 8 (λ s. shown_in h fi (slice_index_or places
 pub record IsKeptAt (h : Header) (fi : FrameInvariants ℕ) (place : ℕ) : Type 0 where
   pub below : place < 8
   pub filled : is_some (slice_index_or fi.slots place None) ≡ true
-  pub planes : (p : ℕ) (plane : Plane ℕ) → p < 3 → slot_plane fi place p ≡ Some plane → HoldsPlane own h p (plane_shown h p plane) plane
+  pub planes : (p : ℕ) (plane : Plane ℕ) → p < 3 → slot_plane fi place p ≡ Some plane →
+      HoldsPlane own h p (plane_shown h p plane) plane
 
 -- the sides, depth and sampling of the frames of a sequence
 pub record AreFrames (h : Header) : Type 0 where

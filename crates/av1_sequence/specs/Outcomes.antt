@@ -10,7 +10,8 @@ use Rattle.av1_plan.specs.Validity.{first_fault}
 use Rattle.av1_sequence.specs.declared.error.FrameError.{FrameError}
 use Rattle.av1_sequence.specs.declared.error.FrameError.TheVariants as errors
 use Rattle.av1_sequence.specs.declared.head.FrameHead.{FrameHead}
-use Rattle.av1_sequence.specs.Frames.{AreNoFramePlan, IsFramePlan, frame_header, frame_of, frame_references, most_bytes, plan_bytes}
+use Rattle.av1_sequence.specs.Frames.{AreNoFramePlan, IsFramePlan, frame_header, frame_of, frame_references, most_bytes}
+use Rattle.av1_sequence.specs.Frames.{plan_bytes}
 use Rattle.av1_sequence.specs.Kept.{Kept}
 use Rattle.av1_sequence.specs.Slots.{refreshed}
 
@@ -22,7 +23,11 @@ pub record IsValidFrame (k : Kept) (head : FrameHead) (part : List ℕ) (plan : 
 
 -- a sequence once it has accepted a frame: the slots that the frame replaces hold it, and it is the last one
 abbrev pub accepted : Kept → FrameHead → PlanValue → Kept
-accepted k head plan = record { frames = k.frames; slots = refreshed k.slots head.refresh (frame_of plan); last = Some (frame_of plan) }
+accepted k head plan = record {
+  frames = k.frames;
+  slots = refreshed k.slots head.refresh (frame_of plan);
+  last = Some (frame_of plan);
+}
 
 -- the frame was accepted
 pub record Accepts (k : Kept) (head : FrameHead) (part : List ℕ) (k' : Kept) : Type 0 where
@@ -30,22 +35,38 @@ pub record Accepts (k : Kept) (head : FrameHead) (part : List ℕ) (k' : Kept) :
   pub frame : IsValidFrame k head part plan
   pub kept : k' ≡ accepted k head plan
 
--- Why a frame is refused: its plan would be too large, or its part spells none, or its first faulty leaf has this fault. Whether it is too large
--- is judged first.
+-- Why a frame is refused: its plan would be too large, or its part spells none, or its first faulty leaf has this
+-- fault. Whether it is too large is judged first.
 abbrev pub Refuses : Kept → FrameHead → (part : List ℕ) → FrameError → Type 0
 Refuses k head part errors.TooLarge = most_bytes < plan_bytes k.frames k.slots head part
-Refuses k head part (errors.Malformed at) = (plan_bytes k.frames k.slots head part ≤ most_bytes) × AreNoFramePlan k.frames k.slots head part at
+Refuses k head part (errors.Malformed at) = (plan_bytes k.frames k.slots head part ≤ most_bytes) ×
+    AreNoFramePlan k.frames k.slots head part at
 Refuses k head part (errors.Invalid leaf kind) =
-    (plan_bytes k.frames k.slots head part ≤ most_bytes) × ((plan : PlanValue) × (IsFramePlan k.frames k.slots head part plan × (first_fault plan ≡ Some (record { leaf = leaf; kind = kind }))))
+    (plan_bytes k.frames k.slots head part ≤ most_bytes) ×
+    ((plan : PlanValue) ×
+    (IsFramePlan k.frames k.slots head part plan ×
+    (first_fault plan ≡ Some (record { leaf = leaf; kind = kind }))))
 Refuses k head part errors.Memory = plan_bytes k.frames k.slots head part ≤ most_bytes
 
 -- the header of a sequence's frames, of which the sides, the depth and the sampling count
 abbrev pub frames_of : (width height depth sampling : ℕ) → Header
-frames_of width height depth sampling = record { version = 2; width = width; height = height; depth = depth; sampling = sampling; filter = REGULAR; edge_filter = false; slots = replicate 7 0; mask = 0 }
+frames_of width height depth sampling =
+    record {
+      version = 2;
+      width = width;
+      height = height;
+      depth = depth;
+      sampling = sampling;
+      filter = REGULAR;
+      edge_filter = false;
+      slots = replicate 7 0;
+      mask = 0;
+    }
 
 -- a sequence to which no frame was given yet
 abbrev pub new_sequence : (width height depth sampling : ℕ) → Kept
-new_sequence width height depth sampling = record { frames = frames_of width height depth sampling; slots = replicate 8 None; last = None }
+new_sequence width height depth sampling =
+    record { frames = frames_of width height depth sampling; slots = replicate 8 None; last = None }
 
 -- The leaves of a frame as a plan over the slots that a sequence keeps: a word of private contracts.
 abbrev pub plan_over : Kept → FrameHead → (leaves : PlanValue) → PlanValue
@@ -55,5 +76,7 @@ plan_over k head leaves = in_frame (frame_header k.frames k.slots head) (frame_r
 abbrev pub RefusesPart : Header → (stored : List (Option (List (List ℕ)))) → (part : List ℕ) → FrameError → Type 0
 RefusesPart h stored part errors.TooLarge = ⊥
 RefusesPart h stored part (errors.Malformed at) = AreRefused (plan_behind h stored) part at
-RefusesPart h stored part (errors.Invalid leaf kind) = (plan : PlanValue) × (AreText (plan_behind h stored) part plan × (first_fault plan ≡ Some (record { leaf = leaf; kind = kind })))
+RefusesPart h stored part (errors.Invalid leaf kind) =
+    (plan : PlanValue) ×
+    (AreText (plan_behind h stored) part plan × (first_fault plan ≡ Some (record { leaf = leaf; kind = kind })))
 RefusesPart h stored part errors.Memory = Unit {0}

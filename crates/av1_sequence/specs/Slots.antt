@@ -1,5 +1,6 @@
 -- The slots of a sequence: what they hold, which of them a frame reads, and which it replaces.
-use Rattle.std.specs.Prelude.{◌*◌, slice_index, ℕ, zero, suc, ◌+◌, ◌/◌, ◌%◌, ◌^◌, ◌==◌, ◌&&◌, Bool, List, Option, Some, None, slice_index_or, is_some, if◌then◌else◌}
+use Rattle.std.specs.Prelude.{◌*◌, slice_index, ℕ, zero, suc, ◌+◌, ◌/◌, ◌%◌, ◌^◌, ◌==◌, ◌&&◌, Bool, List, Option, Some}
+use Rattle.std.specs.Prelude.{None, slice_index_or, is_some, if◌then◌else◌}
 use Rattle.std.specs.List.{list_any}
 use Rattle.av1_lists.specs.Lists.{by_index}
 

@@ -8,7 +8,8 @@ use Rattle.av1_streams.specs.Tasks.{Cause, read_failed, too_long, refused, write
 use Rattle.av1_tile.specs.Output.{planes_of}
 use Rattle.av1_sequence.specs.declared.error.SequenceError.{SequenceError}
 use Rattle.av1_sequence.specs.declared.error.SequenceError.TheVariants as errors
-use Rattle.av1_sequence.specs.Files.{Answer, AreShown, AreWholeFrames, HasOutcome, IsFirstRefused, Lead, beginning, error_of}
+use Rattle.av1_sequence.specs.Files.{Answer, AreShown, AreWholeFrames, HasOutcome, IsFirstRefused, Lead, beginning}
+use Rattle.av1_sequence.specs.Files.{error_of}
 use Rattle.av1_sequence.specs.Grammar.{FileValue, FrameValue}
 use Rattle.av1_sequence.specs.Kept.{Kept}
 use Rattle.av1_sequence.specs.Outcomes.{IsValidFrame, Refuses, accepted}
@@ -39,17 +40,23 @@ abbrev pub Tells : Answer → Answer → Type 0
 Tells (Ok done) outcome = IsOk outcome
 Tells (Err e) outcome = ErrorTells (cause_of e) e outcome
 
--- What an answer says of bytes that were read and of the sink: after Ok and after a refusal what the outcome writes was appended, after a failed
--- write a prefix of it, and after want of memory the planes of some first frames, each whole. After a failed read the sink is as it was.
+-- What an answer says of bytes that were read and of the sink: after Ok and after a refusal what the outcome writes was
+-- appended, after a failed write a prefix of it, and after running out of memory the planes of some first frames, each
+-- whole. After a failed read the sink is as it was.
 abbrev pub ErrorAnswers : Cause → SequenceError → List ℕ → Option (List ℕ) → Option (List ℕ) → Type 0
-ErrorAnswers too_long e bytes taken taken' = (written : List ℕ) × HasOutcome bytes written (Err e) × Appends taken taken' written
-ErrorAnswers refused e bytes taken taken' = (written : List ℕ) × HasOutcome bytes written (Err e) × Appends taken taken' written
+ErrorAnswers too_long e bytes taken taken' = (written : List ℕ) × HasOutcome bytes written (Err e) ×
+    Appends taken taken' written
+ErrorAnswers refused e bytes taken taken' = (written : List ℕ) × HasOutcome bytes written (Err e) ×
+    Appends taken taken' written
 ErrorAnswers read_failed e bytes taken taken' = ⊤
-ErrorAnswers write_failed e bytes taken taken' = (written : List ℕ) × ((outcome : Answer) × HasOutcome bytes written outcome × AppendsPrefix taken taken' written)
-ErrorAnswers no_memory e bytes taken taken' = (written : List ℕ) × AreWholeFrames bytes written × Appends taken taken' written
+ErrorAnswers write_failed e bytes taken taken' =
+    (written : List ℕ) × ((outcome : Answer) × HasOutcome bytes written outcome × AppendsPrefix taken taken' written)
+ErrorAnswers no_memory e bytes taken taken' = (written : List ℕ) × AreWholeFrames bytes written ×
+    Appends taken taken' written
 
 abbrev pub Answers : Answer → List ℕ → Option (List ℕ) → Option (List ℕ) → Type 0
-Answers (Ok done) bytes taken taken' = (written : List ℕ) × HasOutcome bytes written (Ok done) × Appends taken taken' written
+Answers (Ok done) bytes taken taken' = (written : List ℕ) × HasOutcome bytes written (Ok done) ×
+    Appends taken taken' written
 Answers (Err e) bytes taken taken' = ErrorAnswers (cause_of e) e bytes taken taken'
 
 -- before the frames, nothing is written
@@ -62,46 +69,65 @@ IsBeforeFrames errors.WriteFault = ⊥
 IsBeforeFrames errors.Memory = ⊥
 
 -- What the call does.
-pub record PerformsInTurn {S K : Type 0} (left : S → Option (List ℕ)) (source_faults : S → ℕ) (taken : K → Option (List ℕ)) (sink_faults : K → ℕ) (source source' : S) (sink sink' : K) (answer : Answer) : Type 0 where
-  -- Ok, a refusal, a failed write and want of memory each say of the source's bytes and of the sink what they do.
+pub record PerformsInTurn {S K : Type 0} (left : S → Option (List ℕ)) (source_faults : S → ℕ)
+    (taken : K → Option (List ℕ)) (sink_faults : K → ℕ) (source source' : S) (sink sink' : K)
+    (answer : Answer) : Type 0 where
+  -- Ok, a refusal, a failed write and running out of memory each say what became of the source's bytes and of the sink.
   pub answers : IfSome (left source) (λ bytes. Answers answer bytes (taken sink) (taken sink'))
-  -- A refusal exactly where it is the outcome, but for faults and want of memory.
-  pub exactly : IfSome (left source) (λ bytes. (written : List ℕ) (outcome : Answer) → HasOutcome bytes written outcome → Tells answer outcome)
-  -- A fault only where the count rose or stands at its last value.
-  pub read_fault : IsErrAnd answer (λ e. cause_of e ≡ read_failed) → FaultCounted (source_faults source) (source_faults source')
-  pub write_fault : IsErrAnd answer (λ e. cause_of e ≡ write_failed) → FaultCounted (sink_faults sink) (sink_faults sink')
+  -- A refusal exactly where it is the outcome, unless a read or a write failed or memory ran out.
+  pub exactly : IfSome (left source) (λ bytes. (written : List ℕ) (outcome : Answer) →
+      HasOutcome bytes written outcome → Tells answer outcome)
+  -- A fault only where the source or the sink counted one, and no other answer where one did.
+  pub read_fault : IsErrAnd answer (λ e. cause_of e ≡ read_failed) →
+      FaultCounted (source_faults source) (source_faults source')
+  pub write_fault : IsErrAnd answer (λ e. cause_of e ≡ write_failed) →
+      FaultCounted (sink_faults sink) (sink_faults sink')
+  pub source_uncounted : ¬ IsErrAnd answer (λ e. cause_of e ≡ read_failed) →
+      source_faults source' ≡ source_faults source
+  pub sink_uncounted : ¬ IsErrAnd answer (λ e. cause_of e ≡ write_failed) → sink_faults sink' ≡ sink_faults sink
   -- A failed read, too many bytes and a malformed sequence come before anything is written.
   pub unwritten : IsErrAnd answer IsBeforeFrames → sink' ≡ sink
   -- At most a byte past the limit is taken, and what is left is a suffix of what there was.
   pub taken_at_most : TakesAtMost (max_plan_bytes + 1) (left source) (left source')
   pub leaves : LeavesSource answer (left source) (left source')
-  -- Whether the source tells its bytes or not, some were read, and the answer says of these what it does. A source that tells its bytes had these
-  -- at its front.
-  pub read : (bytes : List ℕ) × AreBytes bytes × (length bytes ≤ max_plan_bytes + 1) × Consumes (left source) (left source') bytes × Answers answer bytes (taken sink) (taken sink')
+  -- Whether the source tells its bytes or not, some were read, and the answer says of these what it does. A source that
+  -- tells its bytes had these at its front.
+  pub read : (bytes : List ℕ) × AreBytes bytes × (length bytes ≤ max_plan_bytes + 1) ×
+      Consumes (left source) (left source') bytes × Answers answer bytes (taken sink) (taken sink')
   -- Counts never fall.
   pub source_later : source_faults source ≤ source_faults source'
   pub sink_later : sink_faults sink ≤ sink_faults sink'
   -- Without a fault bytes of which no frame is refused give Ok, or memory ran out.
-  pub complete : ¬ FaultCounted (source_faults source) (source_faults source') → ¬ FaultCounted (sink_faults sink) (sink_faults sink')
-      → IfSome (left source) (λ bytes. (written : List ℕ) (done : Unit {0}) → HasOutcome bytes written (Ok done) → IsOk answer ⊎ IsErrAnd answer (λ e. cause_of e ≡ no_memory))
+  pub complete : ¬ FaultCounted (source_faults source) (source_faults source') →
+      ¬ FaultCounted (sink_faults sink) (sink_faults sink')
+      → IfSome (left source) (λ bytes. (written : List ℕ) (done : Unit {0}) → HasOutcome bytes written (Ok done) →
+      IsOk answer ⊎ IsErrAnd answer (λ e. cause_of e ≡ no_memory))
 
 -- ---- words of private contracts
 
--- What showing the frames of a sequence says of it and of the sink. A failed write says of the frames up to the one that it was at.
+-- What showing the frames of a sequence says of it and of the sink. A failed write says of the frames up to the one
+-- that it was at.
 abbrev pub Shows : FileValue → Answer → Option (List ℕ) → Option (List ℕ) → Type 0
-Shows f (Ok done) taken taken' = (written : List ℕ) × ((k : Kept) × Lead (beginning f) f.parts written k) × Appends taken taken' written
-Shows f (Err (errors.Frame i fault)) taken taken' = (written : List ℕ) × IsFirstRefused (beginning f) f.parts i fault written × Appends taken taken' written
-Shows f (Err errors.WriteFault) taken taken' = (written : List ℕ) × ((n : ℕ) × AreShown (beginning f) f.parts n written) × AppendsPrefix taken taken' written
-Shows f (Err errors.Memory) taken taken' = (written : List ℕ) × ((n : ℕ) × AreShown (beginning f) f.parts n written) × Appends taken taken' written
+Shows f (Ok done) taken taken' = (written : List ℕ) × ((k : Kept) × Lead (beginning f) f.parts written k) ×
+    Appends taken taken' written
+Shows f (Err (errors.Frame i fault)) taken taken' =
+    (written : List ℕ) × IsFirstRefused (beginning f) f.parts i fault written × Appends taken taken' written
+Shows f (Err errors.WriteFault) taken taken' =
+    (written : List ℕ) × ((n : ℕ) × AreShown (beginning f) f.parts n written) × AppendsPrefix taken taken' written
+Shows f (Err errors.Memory) taken taken' = (written : List ℕ) × ((n : ℕ) × AreShown (beginning f) f.parts n written) ×
+    Appends taken taken' written
 Shows f (Err errors.ReadFault) taken taken' = ⊥
 Shows f (Err errors.TooLong) taken taken' = ⊥
 Shows f (Err (errors.Malformed at)) taken taken' = ⊥
 
 -- what showing one frame says, with its number
 abbrev pub ShowsFrame : Kept → (index : ℕ) → FrameValue → Answer → Kept → Option (List ℕ) → Option (List ℕ) → Type 0
-ShowsFrame k index f (Ok done) k' taken taken' = (plan : PlanValue) × IsValidFrame k f.head f.part plan × (k' ≡ accepted k f.head plan) × Appends taken taken' (planes_of plan)
-ShowsFrame k index f (Err (errors.Frame i fault)) k' taken taken' = (i ≡ index) × Refuses k f.head f.part (error_of fault) × Appends taken taken' []
-ShowsFrame k index f (Err errors.WriteFault) k' taken taken' = (plan : PlanValue) × IsValidFrame k f.head f.part plan × AppendsPrefix taken taken' (planes_of plan)
+ShowsFrame k index f (Ok done) k' taken taken' = (plan : PlanValue) × IsValidFrame k f.head f.part plan ×
+    (k' ≡ accepted k f.head plan) × Appends taken taken' (planes_of plan)
+ShowsFrame k index f (Err (errors.Frame i fault)) k' taken taken' =
+    (i ≡ index) × Refuses k f.head f.part (error_of fault) × Appends taken taken' []
+ShowsFrame k index f (Err errors.WriteFault) k' taken taken' = (plan : PlanValue) × IsValidFrame k f.head f.part plan ×
+    AppendsPrefix taken taken' (planes_of plan)
 ShowsFrame k index f (Err errors.Memory) k' taken taken' = Appends taken taken' []
 ShowsFrame k index f (Err errors.ReadFault) k' taken taken' = ⊥
 ShowsFrame k index f (Err errors.TooLong) k' taken taken' = ⊥

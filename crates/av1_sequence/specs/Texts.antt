@@ -1,4 +1,5 @@
--- How far bytes go along with a sequence of frames: the texts of lists of fields are compared with them, and nothing here reads.
+-- How far bytes go along with a sequence of frames: the texts of lists of fields are compared with them, and nothing
+-- here reads.
 use Rattle.std.specs.Prelude.{◌≡◌, ◌⊎◌, zero, suc, ℕ, ◌<◌, ◌^◌, List, [], ◌∷◌, ◌++◌, length, Ok, Err}
 use Rattle.av1_plan.specs.Parts.{length_text, part_text, IsProperText, IsLongestText}
 use Rattle.av1_plan.specs.Spelling.{IsProper, Spells, text}
@@ -16,18 +17,25 @@ pub record IsFrameText (f : FrameValue) (bytes : List ℕ) : Type 0 where
 -- the texts of frames, one after the other
 abbrev pub AreFrameTexts : List FrameValue → List ℕ → Type 0
 AreFrameTexts [] bytes = bytes ≡ []
-AreFrameTexts (f ∷ frames) bytes = (one : List ℕ) × IsFrameText f one × ((rest : List ℕ) × AreFrameTexts frames rest × (bytes ≡ one ++ rest))
+AreFrameTexts (f ∷ frames) bytes =
+    (one : List ℕ) × IsFrameText f one × ((rest : List ℕ) × AreFrameTexts frames rest × (bytes ≡ one ++ rest))
 
--- the text of the first fields of a frame that is not whole: fields of its head, or all of these and the length of its part
+-- the text of the first fields of a frame that is not whole: fields of its head, or all of these and the length of its
+-- part
 abbrev pub IsBegun : List ℕ → Type 0
 IsBegun run =
     ((values : List ℕ) × IsProper head values × (run ≡ text head values))
-    ⊎ ((h : FrameHead) × ((values : List ℕ) × Spells head values h × ((len : ℕ) × (len < 2 ^ 32) × (run ≡ text head values ++ length_text len))))
+    ⊎ ((h : FrameHead) ×
+    ((values : List ℕ) × Spells head values h ×
+    ((len : ℕ) × (len < 2 ^ 32) × (run ≡ text head values ++ length_text len))))
 
--- the text of the first fields of n frames: no field, or those of a frame that is not whole, or a whole frame and then the first fields of the others
+-- the text of the first fields of n frames: no field, or those of a frame that is not whole, or a whole frame and then
+-- the first fields of the others
 abbrev pub IsRun : ℕ → List ℕ → Type 0
 IsRun zero run = run ≡ []
-IsRun (suc n) run = IsBegun run ⊎ ((f : FrameValue) × ((one : List ℕ) × IsFrameText f one × ((more : List ℕ) × IsRun n more × (run ≡ one ++ more))))
+IsRun (suc n) run =
+    IsBegun run ⊎ ((f : FrameValue) ×
+    ((one : List ℕ) × IsFrameText f one × ((more : List ℕ) × IsRun n more × (run ≡ one ++ more))))
 
 -- the text of the first fields of a sequence: what may stand behind its front are the first fields of its frames
 abbrev pub IsSequenceRun : List ℕ → Type 0
@@ -46,8 +54,10 @@ pub record IsFileText (bytes : List ℕ) (f : FileValue) : Type 0 where
 
 -- Bytes that are no sequence are refused where the longest proper list of fields at their front ends.
 abbrev pub RefusedAtLongest : Type 0
-RefusedAtLongest = (bytes : List ℕ) (at : ℕ) → AreBytes bytes → read_file bytes ≡ Err at → IsLongestText IsSequenceRun bytes at
+RefusedAtLongest = (bytes : List ℕ) (at : ℕ) → AreBytes bytes → read_file bytes ≡ Err at →
+    IsLongestText IsSequenceRun bytes at
 
 -- Bytes are a sequence exactly where they are its text.
 abbrev pub FoundAtText : Type 0
-FoundAtText = (bytes : List ℕ) (f : FileValue) → AreBytes bytes → (read_file bytes ≡ Ok f → IsFileText bytes f) × (IsFileText bytes f → read_file bytes ≡ Ok f)
+FoundAtText = (bytes : List ℕ) (f : FileValue) → AreBytes bytes → (read_file bytes ≡ Ok f → IsFileText bytes f) ×
+    (IsFileText bytes f → read_file bytes ≡ Ok f)

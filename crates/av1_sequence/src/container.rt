@@ -135,8 +135,8 @@ fn frames<'a>(
 ///
 /// # Errors
 ///
-/// `Malformed` names the start of the first field that is cut, has a value that is not admitted after the fields before it, or is left over. The
-/// part of a frame is one field. `Memory` where memory runs out.
+/// `Malformed` names the start of the first field that is cut, has a value that is not admitted after the fields before
+/// it, or is left over. The part of a frame is one field. `Memory` where memory runs out.
 #[tactic(auto, unfolding(crate::specs::Grammar::read_file))]
 pub fn read_sequence(alloc: Global, bytes: &[u8]) -> Result<SequenceFile<'_>, PlanError>
     requires { length bytes.now ≤ 2 ^ 26 }

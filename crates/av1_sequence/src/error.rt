@@ -14,7 +14,8 @@ use av1_streams::{ReadError, WriteFault};
 pub enum FrameError {
     /// Its plan, with the reference samples of the slots that it reads, would have more than 64 MiB.
     TooLarge,
-    /// The field that begins at byte `at` of the part is cut, has a value that is not admitted, or is left over after the end.
+    /// The field that begins at byte `at` of the part is cut, has a value that is not admitted, or is left over after
+    /// the end.
     Malformed { at: u32 },
     /// Leaf number `leaf`, counted from 0 in coding order, is the first that is refused, and why.
     Invalid { leaf: u32, kind: InvalidKind },
@@ -35,7 +36,8 @@ impl From<OutOfMemory> for FrameError {
 pub enum FrameFault {
     /// Its plan, with the reference samples of the slots that it reads, would have more than 64 MiB.
     TooLarge,
-    /// The field that begins at byte `at` of the part is cut, has a value that is not admitted, or is left over after the end.
+    /// The field that begins at byte `at` of the part is cut, has a value that is not admitted, or is left over after
+    /// the end.
     Malformed { at: u32 },
     /// Leaf number `leaf`, counted from 0 in coding order, is the first that is refused, and why.
     Invalid { leaf: u32, kind: InvalidKind },
@@ -48,8 +50,8 @@ pub enum SequenceError {
     ReadFault,
     /// The source gave a byte past the most that a sequence has, which are as many as a plan has.
     TooLong,
-    /// The field that begins at byte `at` is cut, has a value that is not admitted, or is left over after the end. The part of a frame is one
-    /// field.
+    /// The field that begins at byte `at` is cut, has a value that is not admitted, or is left over after the end. The
+    /// part of a frame is one field.
     Malformed { at: u32 },
     /// Frame number `frame`, counted from 0, is the first that is refused, and why. The frames before it were written.
     Frame { frame: u16, fault: FrameFault },

@@ -4,21 +4,22 @@ ghost use Rattle.av1_sequence.specs.Calls.{AcceptedAloneCount};
 ghost use Rattle.av1_sequence.specs.Files.{BytesHaveAnOutcome, OutcomesAreOne};
 ghost use Rattle.av1_sequence.specs.Texts.{FoundAtText, RefusedAtLongest};
 
-/// A law: after any list of calls of [`Sequence::frame`](crate::Sequence::frame) the slots are those before, replaced by the accepted frames
-/// alone, one after the other, and the last frame is the last of these. A frame that is refused leaves nothing behind.
+/// A law: after any list of calls of [`Sequence::frame`](crate::Sequence::frame) the slots are those before, replaced
+/// by the accepted frames alone, one after the other, and the last frame is the last of these. A frame that is refused
+/// leaves nothing behind.
 pub fn accepted_alone_count()
     ensures { AcceptedAloneCount }
 {}
 
-/// A law: bytes have an outcome as a sequence of frames, and one alone, of which one list of bytes is written. So the first frame that is refused is
-/// one, and refused for one reason.
+/// A law: bytes have an outcome as a sequence of frames, and one alone, of which one list of bytes is written. So the
+/// first frame that is refused is one, and refused for one reason.
 pub fn sequence_outcome_laws()
     ensures some { BytesHaveAnOutcome }
     ensures one { OutcomesAreOne }
 {}
 
-/// A law: bytes are a sequence exactly where they are its text. Others are refused where the longest list of fields at their front ends of which
-/// each is admitted after those before it.
+/// A law: bytes are a sequence exactly where they are its text. Others are refused where the longest list of fields at
+/// their front ends of which each is admitted after those before it.
 pub fn sequences_are_texts()
     ensures found { FoundAtText }
     ensures refused { RefusedAtLongest }

@@ -27,7 +27,8 @@ fn refusal(invalid: Invalid) -> FrameError
 pub fn read_leaves(alloc: Global, header: &Header, part: &[u8]) -> Result<Plan, FrameError>
     requires short { length part.now ≤ 2 ^ 26 }
     requires frame { IsReadFrame header.now }
-    ensures found { (stored : List (Option (List (List ℕ)))) → IfOk result (λ p. AreText (plan_behind header.now stored) part.now (in_frame header.now stored (plan_value p))) }
+    ensures found { (stored : List (Option (List (List ℕ)))) →
+        IfOk result (λ p. AreText (plan_behind header.now stored) part.now (in_frame header.now stored (plan_value p))) }
     ensures valid { (stored : List (Option (List (List ℕ)))) → IfOk result (λ p. first_fault (in_frame header.now stored (plan_value p)) ≡ None) }
     ensures refused { (stored : List (Option (List (List ℕ)))) → IfErr result (λ e. RefusesPart header.now stored part.now e) }
 {

@@ -1,17 +1,19 @@
 //! A sequence of frames, each predicted from those before it.
 //!
-//! A [`Sequence`] keeps eight slots between frames. A frame comes as a head, which says how it is predicted, which slots its references name
-//! and which it replaces, and as a part, which spells its leaves by the plan grammar of `av1_plan`. Its plan is that of a frame of its own, with the
-//! planes of the slots that it reads as references (`specs/Frames.antt`), and `av1_tile` reconstructs it.
+//! A [`Sequence`] keeps eight slots between frames. A frame comes as a head, which says how it is predicted, which
+//! slots its references name and which it replaces, and as a part, which spells its leaves by the plan grammar of
+//! `av1_plan`. Its plan is that of a frame of its own, with the planes of the slots that it reads as references
+//! (`specs/Frames.antt`), and `av1_tile` reconstructs it.
 //!
-//! A frame is reconstructed where it is kept: it is padded once, and moved to a place among eight; slots name places, so that a frame that
-//! replaces several is kept once. A frame that replaces none stays where it is until the next one.
+//! A frame is reconstructed where it is kept: it is padded once, and moved to a place among eight; slots name places,
+//! so that a frame that replaces several is kept once. A frame that replaces none stays where it is until the next one.
 //!
 //! AV1 specification: reference frame update process, reference frame loading process.
 //!
-//! Promised (`specs/Outcomes.antt`): [`Sequence::frame`] accepts exactly the frames whose plan is valid and not too large, unless memory runs
-//! out; the slots that the head says are then the visible planes of the slow definition, and all others are as they were. A frame that is
-//! refused changes nothing. So after any list of calls the slots are those of the accepted frames alone (`specs/Calls.antt`).
+//! Promised (`specs/Outcomes.antt`): [`Sequence::frame`] accepts exactly the frames whose plan is valid and not too
+//! large, unless memory runs out; the slots that the head says are then the visible planes of the slow definition, and
+//! all others are as they were. A frame that is refused changes nothing. So after any list of calls the slots are those
+//! of the accepted frames alone (`specs/Calls.antt`).
 #![tactic(auto)]
 
 mod container;

@@ -1,6 +1,7 @@
 //! The visible planes of a frame, written row by row.
 //!
-//! A frame that is kept has samples of 16 bits at every depth, and stands in a slot as three planes; so its rows are packed here.
+//! A frame that is kept has samples of 16 bits at every depth, and stands in a slot as three planes; so its rows are
+//! packed here.
 
 ghost use Rattle.std.specs.Prelude.{◌≡◌, ◌*◌, ◌<◌, ◌≤◌, Some, length, take, OnOk};
 ghost use Rattle.std.specs.List.{All, flat_map};
@@ -23,11 +24,13 @@ use av1_tile::visible_row;
 // The bytes of a row of the widest frame.
 const MOST_BYTES: usize = 2 * 2048;
 
-/// Appends the visible planes of the frame that was accepted last, Y, U and V, each row by row, one byte a sample at depth 8, else two, the low
-/// one first. The first write that fails ends the call, and a prefix of the planes stands.
+/// Appends the visible planes of the frame that was accepted last, Y, U and V, each row by row, one byte a sample at
+/// depth 8, else two, the low one first. The first write that fails ends the call, and a prefix of the planes stands.
 pub fn write_last<W: Sink>(sequence: &Sequence, sink: &mut W) -> Result<(), WriteFault>
-    ensures whole { OnOk result ((frame : Frame) → sequence.now.last ≡ Some frame → Appends (W.taken sink.old) (W.taken sink.new) (frame_text sequence.now.frames frame)) }
-    ensures prefix { (frame : Frame) → sequence.now.last ≡ Some frame → AppendsPrefix (W.taken sink.old) (W.taken sink.new) (frame_text sequence.now.frames frame) }
+    ensures whole { OnOk result ((frame : Frame) → sequence.now.last ≡ Some frame →
+        Appends (W.taken sink.old) (W.taken sink.new) (frame_text sequence.now.frames frame)) }
+    ensures prefix { (frame : Frame) → sequence.now.last ≡ Some frame →
+        AppendsPrefix (W.taken sink.old) (W.taken sink.new) (frame_text sequence.now.frames frame) }
     ensures cause { HasCause (W.faults sink.old) (W.faults sink.new) result }
 {
     let mut buffer = [0; MOST_BYTES];
@@ -44,8 +47,10 @@ fn write_plane<W: Sink>(
     sink: &mut W,
 ) -> Result<(), WriteFault>
     requires plane { p < 3 }
-    ensures whole { OnOk result ((frame : Frame) → sequence.now.last ≡ Some frame → Appends (W.taken sink.old) (W.taken sink.new) (plane_text sequence.now.frames frame p)) }
-    ensures prefix { (frame : Frame) → sequence.now.last ≡ Some frame → AppendsPrefix (W.taken sink.old) (W.taken sink.new) (plane_text sequence.now.frames frame p) }
+    ensures whole { OnOk result ((frame : Frame) → sequence.now.last ≡ Some frame →
+        Appends (W.taken sink.old) (W.taken sink.new) (plane_text sequence.now.frames frame p)) }
+    ensures prefix { (frame : Frame) → sequence.now.last ≡ Some frame →
+        AppendsPrefix (W.taken sink.old) (W.taken sink.new) (plane_text sequence.now.frames frame p) }
     ensures cause { HasCause (W.faults sink.old) (W.faults sink.new) result }
 {
     match sequence.last_plane(p) {

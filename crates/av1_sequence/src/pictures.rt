@@ -1,9 +1,10 @@
 //! The frames that slots show.
 //!
-//! A frame that replaces several slots is kept once: `places` says for each slot where its frame is kept, among eight places. A place that no
-//! slot shows is taken for the next frame.
+//! A frame that replaces several slots is kept once: `places` says for each slot where its frame is kept, among eight
+//! places. A place that no slot shows is taken for the next frame.
 
-ghost use Rattle.std.specs.Prelude.{[], ◌≡◌, ◌≢◌, ℕ, ◌+◌, ◌*◌, ◌/◌, ◌%◌, ◌^◌, ◌<◌, ◌≤◌, true, false, None, Some, replicate, slice_index_or, is_some, length, IfOk};
+ghost use Rattle.std.specs.Prelude.{[], ◌≡◌, ◌≢◌, ℕ, ◌+◌, ◌*◌, ◌/◌, ◌%◌, ◌^◌, ◌<◌, ◌≤◌, true, false, None, Some, replicate, slice_index_or, is_some, length};
+ghost use Rattle.std.specs.Prelude.{IfOk};
 ghost use Rattle.av1_plan.specs.Geometry.{plane_len, plane_height, plane_width};
 ghost use Rattle.av1_plan.specs.Plan.{PlanValue};
 ghost use Rattle.av1_references.specs.References.{ServesPlan};
@@ -223,7 +224,8 @@ impl Pictures {
         self.count(head) * frame_bytes(&self.header)
     }
 
-    /// Takes over the settings of a frame with this head, and lets its references name the places of the slots that it reads.
+    /// Takes over the settings of a frame with this head, and lets its references name the places of the slots that it
+    /// reads.
     pub fn set_head(&mut self, head: &FrameHead)
         requires { IsHead head.now }
         ensures header { self.new.header ≡ self.old.header }
@@ -231,7 +233,8 @@ impl Pictures {
         ensures places { self.new.places ≡ self.old.places }
         ensures kept { self.new.fi.slots ≡ self.old.fi.slots }
         ensures serves { let slots = slots_shown self.old.header self.old.fi self.old.places in
-            (plan : PlanValue) → plan.header ≡ frame_header self.old.header slots head.now → plan.references ≡ frame_references slots head.now → ServesPlan own plan self.new.fi }
+            (plan : PlanValue) → plan.header ≡ frame_header self.old.header slots head.now → plan.references ≡ frame_references slots head.now →
+            ServesPlan own plan self.new.fi }
     {
         self.fi.default_filter = head.filter;
         self.fi.enable_intra_edge_filter = head.edge_filter;
@@ -243,7 +246,8 @@ impl Pictures {
         requires some { refresh ≢ 0 }
         requires ready { AreReady self.old.header planes }
         ensures header { self.new.header ≡ self.old.header }
-        ensures slots { slots_shown self.new.header self.new.fi self.new.places ≡ refreshed (slots_shown self.old.header self.old.fi self.old.places) refresh (planes_shown self.old.header planes.y planes.u planes.v) }
+        ensures slots { slots_shown self.new.header self.new.fi self.new.places ≡
+            refreshed (slots_shown self.old.header self.old.fi self.old.places) refresh (planes_shown self.old.header planes.y planes.u planes.v) }
         ensures shown { shown_at self.new.header self.new.fi result ≡ Some (planes_shown self.old.header planes.y planes.u planes.v) }
         ensures kept { IsKeptAt self.new.header self.new.fi result }
     {
@@ -265,7 +269,8 @@ impl Pictures {
     pub fn plane_at(&self, place: u8, p: usize) -> &Plane<u16>
         requires kept { IsKeptAt self.now.header self.now.fi place }
         requires plane { p < 3 }
-        ensures shown { (frame : Frame) → shown_at self.now.header self.now.fi place ≡ Some frame → plane_shown self.now.header p result.now ≡ slice_index_or frame p [] }
+        ensures shown { (frame : Frame) → shown_at self.now.header self.now.fi place ≡ Some frame →
+            plane_shown self.now.header p result.now ≡ slice_index_or frame p [] }
         ensures writable { IsWritable self.now.header p result.now }
     {
         self.fi.slot(usize::from(place), p).unwrap()
@@ -276,7 +281,8 @@ impl Pictures {
         requires kept { IsKeptAt self.now.header self.now.fi place }
         requires plane { p < 3 }
         requires in_plane { y < plane_height self.now.header p }
-        ensures { (frame : Frame) → shown_at self.now.header self.now.fi place ≡ Some frame → result.now ≡ row_in (plane_width self.now.header p) (slice_index_or frame p []) y }
+        ensures { (frame : Frame) → shown_at self.now.header self.now.fi place ≡ Some frame →
+            result.now ≡ row_in (plane_width self.now.header p) (slice_index_or frame p []) y }
     {
         visible_row(self.plane_at(place, p), &self.header, p, y)
     }

@@ -15,14 +15,16 @@ use crate::sequence::Sequence;
 use av1_streams::{Sink, Source, read_plan_bytes};
 use std::alloc::Global;
 
-/// Reads a sequence of frames from the source to its end, reconstructs one frame after the other, and appends the visible planes of each to the
-/// sink as soon as it is accepted: Y, U and V, each row by row, one byte a sample at depth 8, else two, the low one first.
+/// Reads a sequence of frames from the source to its end, reconstructs one frame after the other, and appends the
+/// visible planes of each to the sink as soon as it is accepted: Y, U and V, each row by row, one byte a sample at
+/// depth 8, else two, the low one first.
 ///
 /// # Errors
 ///
-/// `ReadFault` and `TooLong` while it reads, then `Malformed`, before anything is written. `Frame` names the first frame that is refused: the
-/// planes of the frames before it were written. `WriteFault` where a write fails, and a prefix of what was to be written stands. `Memory` may
-/// stand in place of any of them: the planes of some first frames were written, each whole.
+/// `ReadFault` and `TooLong` while it reads, then `Malformed`, before anything is written. `Frame` names the first
+/// frame that is refused: the planes of the frames before it were written. `WriteFault` where a write fails, and a
+/// prefix of what was to be written stands. `Memory` may stand in place of any of them: the planes of some first frames
+/// were written, each whole.
 pub fn reconstruct_sequence<R: Source, W: Sink>(
     alloc: Global,
     source: &mut R,
@@ -44,6 +46,7 @@ fn show_frames<W: Sink>(
     requires file { IsReadFile file.now }
     ensures shows { Shows (file_value file.now) result (W.taken sink.old) (W.taken sink.new) }
     ensures write_fault { IsErrAnd result (λ e. cause_of e ≡ write_failed) → FaultCounted (W.faults sink.old) (W.faults sink.new) }
+    ensures uncounted { ¬ IsErrAnd result (λ e. cause_of e ≡ write_failed) → W.faults sink.new ≡ W.faults sink.old }
     ensures later { W.faults sink.old ≤ W.faults sink.new }
 {
     let mut sequence = Sequence::new(alloc, file.width, file.height, file.depth, file.sampling)?;
@@ -64,6 +67,7 @@ fn show_frame<W: Sink>(
     requires index { index < 65536 }
     ensures shows { ShowsFrame sequence.old index (frame_value frame.now) result sequence.new (W.taken sink.old) (W.taken sink.new) }
     ensures write_fault { IsErrAnd result (λ e. cause_of e ≡ write_failed) → FaultCounted (W.faults sink.old) (W.faults sink.new) }
+    ensures uncounted { ¬ IsErrAnd result (λ e. cause_of e ≡ write_failed) → W.faults sink.new ≡ W.faults sink.old }
     ensures later { W.faults sink.old ≤ W.faults sink.new }
 {
     if let Err(error) = sequence.frame(&frame.head, frame.part) {

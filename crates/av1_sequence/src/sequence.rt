@@ -27,7 +27,8 @@ const MOST_BYTES: usize = 1 << 26;
 /// The bytes of a plan that stand before its references.
 const HEADER_BYTES: usize = 20;
 
-/// How many samples of luma stand on every side of a frame that is kept: motion compensation of blocks with sides up to 64 reads so far.
+/// How many samples of luma stand on every side of a frame that is kept: motion compensation of blocks with sides up to
+/// 64 reads so far.
 const PAD: usize = 80;
 
 /// A sequence of frames of one size, depth and sampling, and the eight slots that it keeps between them.
@@ -44,7 +45,8 @@ pub struct Sequence {
     ghost placed: { (place : ℕ) → last ≡ lasts.At place → IsKeptAt pictures.header pictures.fi place },
 }
 
-/// Planes that a frame with this header can be reconstructed in and then kept: those that stand apart, where there are some, else new ones.
+/// Planes that a frame with this header can be reconstructed in and then kept: those that stand apart, where there are
+/// some, else new ones.
 fn planes_for(
     alloc: Global,
     apart: Option<Planes<u16>>,
@@ -79,7 +81,11 @@ impl Model for Sequence {
 
     ghost Value = { Kept };
 
-    ghost view = { λ s. record { frames = s.pictures.header; slots = slots_shown s.pictures.header s.pictures.fi s.pictures.places; last = last_shown s.pictures.header s.pictures.fi s.apart s.last } };
+    ghost view = { λ s. record {
+      frames = s.pictures.header;
+      slots = slots_shown s.pictures.header s.pictures.fi s.pictures.places;
+      last = last_shown s.pictures.header s.pictures.fi s.apart s.last;
+    } };
 }
 
 impl Sequence {
@@ -97,8 +103,8 @@ impl Sequence {
     ghost use Rattle.av1_sequence.specs.Output.{IsWritable};
     ghost use Rattle.av1_sequence.specs.Slots.{row_in};
 
-    /// A sequence of frames with these sides (in samples of luma, multiples of 8 from 8 to 2048), of this depth (8, 10 or 12) and sampling (0
-    /// for 4:2:0, 1 for 4:2:2, 2 for 4:4:4), to which no frame was given yet.
+    /// A sequence of frames with these sides (in samples of luma, multiples of 8 from 8 to 2048), of this depth (8, 10
+    /// or 12) and sampling (0 for 4:2:0, 1 for 4:2:2, 2 for 4:4:4), to which no frame was given yet.
     pub fn new(
         alloc: Global,
         width: u16,
@@ -141,13 +147,13 @@ impl Sequence {
         &self.pictures.header
     }
 
-    /// Takes the next frame: reconstructs the leaves that `part` spells, predicted from the slots that the head names, and lets the frame
-    /// replace the slots that the head says.
+    /// Takes the next frame: reconstructs the leaves that `part` spells, predicted from the slots that the head names,
+    /// and lets the frame replace the slots that the head says.
     ///
     /// # Errors
     ///
-    /// `TooLarge` is judged first, then `Malformed`, then `Invalid`; `Memory` may stand in place of the last two. The sequence is then as it
-    /// was before.
+    /// `TooLarge` is judged first, then `Malformed`, then `Invalid`; `Memory` may stand in place of the last two. The
+    /// sequence is then as it was before.
     pub fn frame(&mut self, head: &FrameHead, part: &[u8]) -> Result<(), FrameError>
         requires part { length part.now ≤ 2 ^ 26 }
         requires head { IsHead head.now }
@@ -191,7 +197,8 @@ impl Sequence {
         Ok(())
     }
 
-    /// Plane `p` (0 for Y, 1 for U and 2 for V) of the frame that was accepted last, wherever it is kept. None where no frame was accepted yet.
+    /// Plane `p` (0 for Y, 1 for U and 2 for V) of the frame that was accepted last, wherever it is kept. None where no
+    /// frame was accepted yet.
     pub(crate) fn last_plane(&self, p: usize) -> Option<&Plane<u16>>
         requires plane { p < 3 }
         ensures shown { option_map (λ plane. plane_shown self.now.frames p plane.now) result ≡ option_map (λ frame. slice_index_or frame p []) self.now.last }
@@ -208,11 +215,13 @@ impl Sequence {
         }
     }
 
-    /// The visible row `y` of plane `p` (0 for Y, 1 for U and 2 for V) of the frame that was accepted last. None where no frame was accepted yet.
+    /// The visible row `y` of plane `p` (0 for Y, 1 for U and 2 for V) of the frame that was accepted last. None where
+    /// no frame was accepted yet.
     pub fn last_row(&self, p: usize, y: usize) -> Option<&[u16]>
         requires plane { p < 3 }
         requires in_plane { y < plane_height self.now.frames p }
-        ensures { option_map (λ row. row.now) result ≡ option_map (λ frame. row_in (plane_width self.now.frames p) (slice_index_or frame p []) y) self.now.last }
+        ensures { option_map (λ row. row.now) result ≡
+            option_map (λ frame. row_in (plane_width self.now.frames p) (slice_index_or frame p []) y) self.now.last }
     {
         match self.last_plane(p) {
             Some(plane) => Some(visible_row(plane, self.header(), p, y)),
@@ -225,7 +234,8 @@ impl Sequence {
         requires slot { slot < 8 }
         requires plane { p < 3 }
         requires in_plane { y < plane_height self.now.frames p }
-        ensures { option_map (λ row. row.now) result ≡ option_map (λ frame. row_in (plane_width self.now.frames p) (slice_index_or frame p []) y) (slice_index_or self.now.slots slot None) }
+        ensures { option_map (λ row. row.now) result ≡ option_map (λ frame. row_in (plane_width self.now.frames p) (slice_index_or frame p []) y)
+            (slice_index_or self.now.slots slot None) }
     {
         match self.pictures.places[slot] {
             Some(place) => Some(self.pictures.row_at(place, p, y)),

@@ -7,7 +7,8 @@ use Rattle.std.proofs.KnownBytes.{Appends-trans}
 use Rattle.av1_streams.specs.Streams.{AppendsPrefix}
 
 -- after the first n bytes, the next m of what follows them
-pub Appends-more : (a b c : Option (List ℕ)) (bytes : List ℕ) (n m : ℕ) → Appends a b (take n bytes) → Appends b c (take m (take (length bytes - n) (drop n bytes))) → Appends a c (take (n + m) bytes)
+pub Appends-more : (a b c : Option (List ℕ)) (bytes : List ℕ) (n m : ℕ) → Appends a b (take n bytes) →
+    Appends b c (take m (take (length bytes - n) (drop n bytes))) → Appends a c (take (n + m) bytes)
 Appends-more a b c bytes n m first next = rw take-add (Appends-trans a b c _ _ first (rw take_rest at next))
 
 -- the first n bytes are a prefix
@@ -24,7 +25,8 @@ AppendsPrefix-first a b part after whole parts (front, rest, split, appended) =
     (front, rest ++ after, sym (append_assoc front rest after) ∙ ap (λ l. l ++ after) split ∙ parts, appended)
 
 -- all that stands before a part of the whole, and a prefix of that part
-pub AppendsPrefix-after : (a b c : Option (List ℕ)) (before part after whole : List ℕ) → before ++ (part ++ after) ≡ whole → Appends a b before → AppendsPrefix b c part → AppendsPrefix a c whole
+pub AppendsPrefix-after : (a b c : Option (List ℕ)) (before part after whole : List ℕ) → before ++ (part ++ after) ≡ whole → Appends a b before →
+    AppendsPrefix b c part → AppendsPrefix a c whole
 AppendsPrefix-after a b c before part after whole parts first (front, rest, split, appended) = (
   before ++ front,
   rest ++ after,

@@ -1,12 +1,13 @@
 -- Counts of faults, and what a call's answer says of them.
-use Rattle.std.specs.Prelude.{ℕ, ◌≤◌, Result, OnErr}
+use Rattle.std.specs.Prelude.{◌≡◌, ℕ, ◌≤◌, Result, OnOk, OnErr}
 use Rattle.av1_lists.specs.Counts.{counted}
 
--- the count rose, or stands at the last value of a `u64`
+-- one fault was counted: the count rose by one, or stands at the last value of a `u64`
 abbrev pub FaultCounted : ℕ → ℕ → Type 0
-FaultCounted before now = counted before ≤ now
+FaultCounted before now = now ≡ counted before
 
--- a call that failed raised the count, and no call lowers it
+-- a call that failed counted one fault, one that succeeded none, and no call lowers the count
 pub record HasCause {T E : Type 0} (before now : ℕ) (result : Result T E) : Type 0 where
   pub failed : OnErr result (FaultCounted before now)
+  pub uncounted : OnOk result (now ≡ before)
   pub later : before ≤ now

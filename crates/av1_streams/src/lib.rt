@@ -2,16 +2,17 @@
 //!
 //! A [`Source`] gives bytes and a [`Sink`] takes them, in pieces of any size, and each counts its
 //! faults. [`read_bytes`] reads a source to its end, [`read_plan_bytes`] one that has a plan, and
-//! [`write_bytes`] writes all of a slice, or a prefix of it up to a fault. They are generic, so what they promise holds of standard input
-//! and output ([`ReadSource`], [`WriteSink`]) as of memory ([`SliceSource`], [`MemSink`]), whose
+//! [`write_bytes`] writes all of a slice, or a prefix of it up to a fault. They are generic, so what they promise holds
+//! of standard input and output ([`ReadSource`], [`WriteSink`]) as of memory ([`SliceSource`], [`MemSink`]), whose
 //! calls fail on request. A [`Line`] is a line of text for such a sink, built without memory.
 //!
-//! It stands on std, and takes the answer for want of memory from `av1_blocks`.
+//! It stands on `av1_lists` for counts, and takes the answer for running out of memory from `av1_blocks`.
 //!
 //! Promised to the layer above: every call returns. Where a source or a sink tells its bytes, the
 //! clauses say which were taken from it and which stand on it after every answer, the failing ones
-//! too. Counts of faults never fall, and an answer that blames a fault comes only where the count
-//! rose, or stands at the last value of a `u64`.
+//! too. A count of faults rises by one, up to the last value of a `u64`, where a read or a write
+//! fails, and nowhere else; a call over many of them that blames a fault has counted one, and every
+//! other answer of it leaves the count as it was.
 #![tactic(auto)]
 
 mod line;

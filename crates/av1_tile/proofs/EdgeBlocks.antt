@@ -1,5 +1,6 @@
 -- A transform block that is predicted from its edge: what the two calls of prediction say, in the walk's words.
-use Rattle.std.proofs.Common.{ℕ, ◌+◌, ◌-◌, ◌*◌, ◌/◌, ◌%◌, ◌<◌, ◌≤◌, ◌≡◌, List, [], ◌∷◌, length, map, reverse, refl, ap, arith, ◌∙◌, sym, subst, Option, Some, ℤ, pos}
+use Rattle.std.proofs.Common.{ℕ, ◌+◌, ◌-◌, ◌*◌, ◌/◌, ◌%◌, ◌<◌, ◌≤◌, ◌≡◌, List, [], ◌∷◌, length, map, reverse, refl, ap, arith, ◌∙◌, sym, subst, Option, Some, ℤ}
+use Rattle.std.proofs.Common.{pos}
 use Rattle.std.specs.Prelude.{unsigned_abs, option_map}
 use Rattle.std.proofs.lemmas.List.{reverse-reverse, length-reverse}
 use mathlib.Core.Path.{fun_ext}
@@ -12,7 +13,8 @@ use Rattle.av1_edges.specs.Edges.{Edge, prepared_edge, region_sample, visible_co
 use Rattle.av1_edges.specs.Edges.{position_of}
 use Rattle.av1_edges.specs.Parts.{effective, step_of}
 use Rattle.av1_lists.proofs.Lists.{length-by_index, length_shown}
-use Rattle.av1_intra.specs.Predicted.{edge_of, predicted, places_above, places_left, variant_at, angle_or_alpha, column_in, row_in, mode_of_block, variant_of_block}
+use Rattle.av1_intra.specs.Predicted.{edge_of, predicted, places_above, places_left, variant_at, angle_or_alpha, column_in, row_in, mode_of_block}
+use Rattle.av1_intra.specs.Predicted.{variant_of_block}
 use Rattle.av1_intra.specs.Directional.{block_at}
 use Rattle.av1_intra.specs.Neighbours.{uses_smooth_filter}
 use Rattle.av1_intra.specs.declared.neighbours.IntraEdgeFilterParameters.{IntraEdgeFilterParameters}
@@ -45,8 +47,10 @@ column_is a r c h = grind arith
 row_is : (a r c : ℕ) → c < a → (r * a + c) / a ≡ r
 row_is a r c h = grind arith
 
-module _ {T : Type 0} (num : T → ℕ) (h : Header) (block : PlaneBlock) (at : BlockPlace) (is : IsPlaceIn h block at) (plane : Plane T) (place : IsPlaneOf h block.plane plane)
-    (r : PlaneRegion T) (r_samples : r.samples.now ≡ plane.samples) (r_cfg : r.plane_cfg ≡ plane.plane_cfg) (r_place : r.area ≡ stored_area plane.plane_cfg (all_visible plane.plane_cfg)) where
+module _ {T : Type 0} (num : T → ℕ) (h : Header) (block : PlaneBlock) (at : BlockPlace) (is : IsPlaceIn h block at) (plane : Plane T)
+    (place : IsPlaneOf h block.plane plane)
+    (r : PlaneRegion T) (r_samples : r.samples.now ≡ plane.samples) (r_cfg : r.plane_cfg ≡ plane.plane_cfg)
+    (r_place : r.area ≡ stored_area plane.plane_cfg (all_visible plane.plane_cfg)) where
   all : IsAllVisible r
   all = r_place ∙ ap (λ (c : PlaneConfig). stored_area c (all_visible c)) (sym r_cfg)
 
@@ -57,8 +61,11 @@ module _ {T : Type 0} (num : T → ℕ) (h : Header) (block : PlaneBlock) (at : 
   rows = sym (whole_rows r all ∙ ap (λ (c : PlaneConfig). c.height) r_cfg ∙ place.height)
 
   -- the edge that is prepared there
-  pub edge_placed : (mode : PredictionMode) (param : IntraParam) (po : PlaneOffset) (depth : ℕ) (q : Plane T) → po ≡ record { x = pos at.x; y = pos at.y } → depth ≡ h.depth → q ≡ plane
-      → prepared_edge num r (position_of (record { 0 = record { x = block.leaf.x / 4; y = block.leaf.y / 4 } }) at.column at.row block.leaf.size po block.area.tx_size) depth (Some mode) h.edge_filter param ≡ edge_for h block at mode param num q
+  pub edge_placed : (mode : PredictionMode) (param : IntraParam) (po : PlaneOffset) (depth : ℕ) (q : Plane T) → po ≡ record { x = pos at.x; y = pos at.y } →
+      depth ≡ h.depth → q ≡ plane
+      → prepared_edge num r
+      (position_of (record { 0 = record { x = block.leaf.x / 4; y = block.leaf.y / 4 } }) at.column at.row block.leaf.size po block.area.tx_size) depth
+      (Some mode) h.edge_filter param ≡ edge_for h block at mode param num q
   edge_placed mode param po depth q e deep same =
       let t = block.area.tx_size in
       let size = block.leaf.size in
@@ -72,7 +79,9 @@ module _ {T : Type 0} (num : T → ℕ) (h : Header) (block : PlaneBlock) (at : 
       let column : n ≡ at.column = ap (λ (k : ℕ). k % blocks_across block.area) is.number ∙ column_is (blocks_across block.area) at.row at.column is.column in
       let row : m ≡ at.row = ap (λ (k : ℕ). k / blocks_across block.area) is.number ∙ row_is (blocks_across block.area) at.row at.column is.column in
       let f : (ℕ → ℕ → ℕ) → ℕ → ℕ → ℕ → ℕ → Edge = λ s dx dy i j.
-      edge_by_place (extent_of h block.plane) s h.edge_filter (area_at block at) (takes_above_right size bo.0.x bo.0.y t i j dx dy at.x (plane_width h block.plane)) (takes_below_left size bo.0.x bo.0.y t i j dx dy at.y (plane_height h block.plane)) (effective mode at.x at.y) (step_of param) in
+      edge_by_place (extent_of h block.plane) s h.edge_filter (area_at block at)
+      (takes_above_right size bo.0.x bo.0.y t i j dx dy at.x (plane_width h block.plane))
+      (takes_below_left size bo.0.x bo.0.y t i j dx dy at.y (plane_height h block.plane)) (effective mode at.x at.y) (step_of param) in
       let s = sample_at num plane in
       ap (λ (p : PlaneOffset). prepared_edge num r (position_of bo at.column at.row size p t) depth (Some mode) h.edge_filter param) e
       ∙ ap (λ (d : ℕ). prepared_edge num r (position_of bo at.column at.row size p0 t) d (Some mode) h.edge_filter param) deep
@@ -87,13 +96,15 @@ module _ {T : Type 0} (num : T → ℕ) (h : Header) (block : PlaneBlock) (at : 
 -- ---- the edge in its buffer
 
 -- the edge that is handed on is the one whose numbers these are
-pub edge_held : {T : Type 0} (num : T → ℕ) (e : IntraEdge T) (E : Edge) → map num e.left.now ≡ reverse E.left → map num e.top_left.now ≡ E.corner ∷ [] → map num e.above.now ≡ E.above → edge_of num e ≡ E
+pub edge_held : {T : Type 0} (num : T → ℕ) (e : IntraEdge T) (E : Edge) → map num e.left.now ≡ reverse E.left → map num e.top_left.now ≡ E.corner ∷ [] →
+    map num e.above.now ≡ E.above → edge_of num e ≡ E
 edge_held num e E left corner above = rw (left, corner, above, reverse-reverse E.left) refl
 
 -- ---- the region that is predicted
 
 -- the block's rectangle of its plane
-module _ {T : Type 0} (num : T → ℕ) (h : Header) (block : PlaneBlock) (at : BlockPlace) (r : PlaneRegionMut T) (tile : TileRect) (tile_x : tile.x ≡ 0) (tile_y : tile.y ≡ 0)
+module _ {T : Type 0} (num : T → ℕ) (h : Header) (block : PlaneBlock) (at : BlockPlace) (r : PlaneRegionMut T) (tile : TileRect) (tile_x : tile.x ≡ 0)
+    (tile_y : tile.y ≡ 0)
     (place : r.area ≡ stored_area r.plane_cfg (area_at block at)) where
   column_at : column_in r tile ≡ at.x
   column_at = let e : r.area.x ≡ r.plane_cfg.xorigin + at.x = ap (λ (a : StoredArea). a.x) place in omega (arith, e, tile_x)
@@ -103,31 +114,40 @@ module _ {T : Type 0} (num : T → ℕ) (h : Header) (block : PlaneBlock) (at : 
 
   -- sides with these numbers are as long as the mode reads
   pub above_enough : (mode : PredictionMode) (param : IntraParam) (xs : List T) → map num xs ≡ (edge_for h block at mode param num r.plane.now).above
-      → places_above (mode_of_block r tile mode) (variant_of_block r tile) (unsigned_abs (angle_or_alpha (mode_of_block r tile mode) param)) (tx_width block.area.tx_size) (tx_height block.area.tx_size) ≤ length xs
+      → places_above (mode_of_block r tile mode) (variant_of_block r tile) (unsigned_abs (angle_or_alpha (mode_of_block r tile mode) param))
+      (tx_width block.area.tx_size) (tx_height block.area.tx_size) ≤ length xs
   above_enough mode param xs e =
       let w = tx_width block.area.tx_size in
       let d = tx_height block.area.tx_size in
-      let P : ℕ → ℕ → Type 0 = λ x y. places_above (effective mode x y) (variant_at x y) (unsigned_abs (angle_or_alpha (effective mode x y) param)) w d ≤ length xs in
+      let P : ℕ → ℕ → Type 0 =
+      λ x y. places_above (effective mode x y) (variant_at x y) (unsigned_abs (angle_or_alpha (effective mode x y) param)) w d ≤ length xs in
       let long = length_shown num xs _ e ∙ length-by_index _ _ in
       let here : P at.x at.y = omega (arith, enough_above h.edge_filter (effective mode at.x at.y) param at.x at.y w d, long) in
       subst (λ x. P x (row_in r tile)) (sym column_at) (subst (λ y. P at.x y) (sym row_at) here)
 
-  pub left_enough : (mode : PredictionMode) (param : IntraParam) (xs : List T) → unsigned_abs (step_of param) ≤ 3 → map num xs ≡ reverse (edge_for h block at mode param num r.plane.now).left
-      → places_left (mode_of_block r tile mode) (variant_of_block r tile) (unsigned_abs (angle_or_alpha (mode_of_block r tile mode) param)) (tx_width block.area.tx_size) (tx_height block.area.tx_size) ≤ length xs
+  pub left_enough : (mode : PredictionMode) (param : IntraParam) (xs : List T) → unsigned_abs (step_of param) ≤ 3 →
+      map num xs ≡ reverse (edge_for h block at mode param num r.plane.now).left
+      → places_left (mode_of_block r tile mode) (variant_of_block r tile) (unsigned_abs (angle_or_alpha (mode_of_block r tile mode) param))
+      (tx_width block.area.tx_size) (tx_height block.area.tx_size) ≤ length xs
   left_enough mode param xs few e =
       let w = tx_width block.area.tx_size in
       let d = tx_height block.area.tx_size in
-      let P : ℕ → ℕ → Type 0 = λ x y. places_left (effective mode x y) (variant_at x y) (unsigned_abs (angle_or_alpha (effective mode x y) param)) w d ≤ length xs in
+      let P : ℕ → ℕ → Type 0 =
+      λ x y. places_left (effective mode x y) (variant_at x y) (unsigned_abs (angle_or_alpha (effective mode x y) param)) w d ≤ length xs in
       let long = length_shown num xs _ e ∙ length-reverse (edge_for h block at mode param num r.plane.now).left ∙ length-by_index _ _ in
       let here : P at.x at.y = omega (arith, enough_left h.edge_filter (effective mode at.x at.y) param at.x at.y w d few, long) in
       subst (λ x. P x (row_in r tile)) (sym column_at) (subst (λ y. P at.x y) (sym row_at) here)
 
   -- the sample at row q and column p that is predicted
-  pub region_predicted : (filter : Option IntraEdgeFilterParameters) (mode : PredictionMode) (param : IntraParam) (luma : ℕ → ℕ → ℤ) (depth : ℕ) (e : IntraEdge T) (q p : ℕ)
-      → r.plane_cfg.width ≡ plane_width h block.plane → r.plane_cfg.height ≡ plane_height h block.plane → depth ≡ h.depth → edge_of num e ≡ edge_for h block at mode param num r.plane.now
-      → predicted (block_at r (unsigned_abs (angle_or_alpha (mode_of_block r tile mode) param)) (tx_width block.area.tx_size) (tx_height block.area.tx_size) depth filter) (variant_of_block r tile) (mode_of_block r tile mode)
+  pub region_predicted : (filter : Option IntraEdgeFilterParameters) (mode : PredictionMode) (param : IntraParam) (luma : ℕ → ℕ → ℤ) (depth : ℕ)
+      (e : IntraEdge T) (q p : ℕ)
+      → r.plane_cfg.width ≡ plane_width h block.plane → r.plane_cfg.height ≡ plane_height h block.plane → depth ≡ h.depth →
+      edge_of num e ≡ edge_for h block at mode param num r.plane.now
+      → predicted (block_at r (unsigned_abs (angle_or_alpha (mode_of_block r tile mode) param)) (tx_width block.area.tx_size)
+      (tx_height block.area.tx_size) depth filter) (variant_of_block r tile) (mode_of_block r tile mode)
       (angle_or_alpha (mode_of_block r tile mode) param) luma (edge_of num e) q p
-      ≡ by_mode (extent_of h block.plane) filter mode param (area_at block at) (placed_edge h block.plane block at.number (area_at block at) num r.plane.now) luma q p
+      ≡ by_mode (extent_of h block.plane) filter mode param (area_at block at)
+      (placed_edge h block.plane block at.number (area_at block at) num r.plane.now) luma q p
   region_predicted filter mode param luma depth e q p width height deep held =
       let first_x : r.area.x ≡ r.plane_cfg.xorigin + at.x = ap (λ (a : StoredArea). a.x) place in
       let first_y : r.area.y ≡ r.plane_cfg.yorigin + at.y = ap (λ (a : StoredArea). a.y) place in

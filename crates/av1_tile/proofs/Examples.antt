@@ -16,7 +16,8 @@ use Rattle.av1_plan.specs.declared.header.Header.{Header}
 use Rattle.av1_plan.specs.declared.leaf.Triple.{Triple}
 use Rattle.av1_plan.specs.declared.leaf.LeafKind.TheVariants.{Intra}
 use Rattle.av1_plan.specs.declared.leaf.ChromaMode.TheVariants.{Plain}
-use Rattle.av1_plan.specs.Geometry.{xdec, ydec, plane_width, plane_height, carries_chroma, plane_place, plane_size, plane_tx_size, plane_area, blocks_across, block_count, block_at, has_block, transform_block, is_inside}
+use Rattle.av1_plan.specs.Geometry.{xdec, ydec, plane_width, plane_height, carries_chroma, plane_place, plane_size, plane_tx_size, plane_area, blocks_across}
+use Rattle.av1_plan.specs.Geometry.{block_count, block_at, has_block, transform_block, is_inside}
 use Rattle.av1_plan.specs.Plan.{LeafValue, PlanValue}
 use Rattle.av1_tile.specs.Edge.{edge}
 use Rattle.av1_tile.specs.Output.{visible, planes_of}
@@ -25,15 +26,38 @@ use Rattle.av1_tile.specs.Steps.{joined, steps_at, steps_of}
 
 -- an 8x8 frame in 4:4:4 at depth 8
 header : Header
-header = record { version = 1; width = 8; height = 8; depth = 8; sampling = 2; filter = REGULAR; edge_filter = false; slots = 0 ∷ 0 ∷ 0 ∷ 0 ∷ 0 ∷ 0 ∷ 0 ∷ []; mask = 0 }
+header = record {
+  version = 1;
+  width = 8;
+  height = 8;
+  depth = 8;
+  sampling = 2;
+  filter = REGULAR;
+  edge_filter = false;
+  slots = 0 ∷ 0 ∷ 0 ∷ 0 ∷ 0 ∷ 0 ∷ 0 ∷ [];
+  mask = 0;
+}
 
 -- a 4x4 leaf that is predicted by DC, with these luma triples
 leaf : ℕ → ℕ → List Triple → LeafValue
-leaf x y luma = record { x = x; y = y; size = BLOCK_4X4; kind = Intra DC_PRED (pos 0) (Some (Plain DC_PRED (pos 0))); tx_size = TX_4X4; tx_type = DCT_DCT; uv_type = Some DCT_DCT; triples = luma ∷ [] ∷ [] ∷ [] }
+leaf x y luma = record {
+  x = x;
+  y = y;
+  size = BLOCK_4X4;
+  kind = Intra DC_PRED (pos 0) (Some (Plain DC_PRED (pos 0)));
+  tx_size = TX_4X4;
+  tx_type = DCT_DCT;
+  uv_type = Some DCT_DCT;
+  triples = luma ∷ [] ∷ [] ∷ [];
+}
 
 -- four of them, of which the first has the coefficient 100 at place 0
 plan : PlanValue
-plan = record { header = header; references = []; leaves = leaf 0 0 (record { block = 0; place = 0; value = pos 100 } ∷ []) ∷ leaf 4 0 [] ∷ leaf 0 4 [] ∷ leaf 4 4 [] ∷ [] }
+plan = record {
+  header = header;
+  references = [];
+  leaves = leaf 0 0 (record { block = 0; place = 0; value = pos 100 } ∷ []) ∷ leaf 4 0 [] ∷ leaf 0 4 [] ∷ leaf 4 4 [] ∷ [];
+}
 
 -- 64 samples of 131, and 128 of 128
 worked_planes : planes_of plan ≡ replicate 64 131 ++ replicate 128 128

@@ -18,27 +18,31 @@ use Rattle.av1_tile.specs.Walk.{luma_block}
 use Rattle.av1_tile.proofs.Lifts.{SameFor, SameLuma}
 
 -- the luma of a leaf is predicted from the samples round it or from references
-same_y : (filter : Option IntraEdgeFilterParameters) (kind : LeafKind) (block : PlaneBlock) (f g : PlaneBlock → ℕ → ℕ → ℤ) → SameFor block (prediction_in filter Y kind) f g
+same_y : (filter : Option IntraEdgeFilterParameters) (kind : LeafKind) (block : PlaneBlock) (f g : PlaneBlock → ℕ → ℕ → ℤ) →
+    SameFor block (prediction_in filter Y kind) f g
 same_y filter (Intra mode step chroma) block f g = tt
 same_y filter (Single mode reference mv) block f g = tt
 same_y filter (Compound mode references mvs) block f g = tt
 
 -- whatever its block is told, nothing hangs on it
-pub plain_in_y : (h : Header) (l : LeafValue) (filter : Option IntraEdgeFilterParameters) (luma : ℕ → ℕ → ℕ) (w : ℕ) (ac : List ℤ) → SameLuma (block_told h filter Y l) (λ _. ac_at w ac) (luma_for h luma Y)
+pub plain_in_y : (h : Header) (l : LeafValue) (filter : Option IntraEdgeFilterParameters) (luma : ℕ → ℕ → ℕ) (w : ℕ) (ac : List ℤ) →
+    SameLuma (block_told h filter Y l) (λ _. ac_at w ac) (luma_for h luma Y)
 plain_in_y h l filter luma w ac = same_y filter l.kind (block_told h filter Y l) (λ _. ac_at w ac) (luma_for h luma Y)
 
 -- two words on luma that are the same where chroma is predicted from it
 abbrev SameWhere : LeafKind → PlaneBlock → (f g : PlaneBlock → ℕ → ℕ → ℤ) → Type 0
 SameWhere kind block f g = is_from_luma kind ≡ true → (r c : ℕ) → r < tx_height block.area.tx_size → c < tx_width block.area.tx_size → f block r c ≡ g block r c
 
-same_u : (filter : Option IntraEdgeFilterParameters) (kind : LeafKind) (block : PlaneBlock) (f g : PlaneBlock → ℕ → ℕ → ℤ) → SameWhere kind block f g → SameFor block (prediction_in filter U kind) f g
+same_u : (filter : Option IntraEdgeFilterParameters) (kind : LeafKind) (block : PlaneBlock) (f g : PlaneBlock → ℕ → ℕ → ℤ) → SameWhere kind block f g →
+    SameFor block (prediction_in filter U kind) f g
 same_u filter (Intra mode step (Some (Cfl alpha_u alpha_v))) block f g same = same refl
 same_u filter (Intra mode step (Some (Plain chroma_mode chroma_step))) block f g same = tt
 same_u filter (Intra mode step None) block f g same = tt
 same_u filter (Single mode reference mv) block f g same = tt
 same_u filter (Compound mode references mvs) block f g same = tt
 
-same_v : (filter : Option IntraEdgeFilterParameters) (kind : LeafKind) (block : PlaneBlock) (f g : PlaneBlock → ℕ → ℕ → ℤ) → SameWhere kind block f g → SameFor block (prediction_in filter V kind) f g
+same_v : (filter : Option IntraEdgeFilterParameters) (kind : LeafKind) (block : PlaneBlock) (f g : PlaneBlock → ℕ → ℕ → ℤ) → SameWhere kind block f g →
+    SameFor block (prediction_in filter V kind) f g
 same_v filter (Intra mode step (Some (Cfl alpha_u alpha_v))) block f g same = same refl
 same_v filter (Intra mode step (Some (Plain chroma_mode chroma_step))) block f g same = tt
 same_v filter (Intra mode step None) block f g same = tt
@@ -58,7 +62,8 @@ pub record HoldsLuma (h : Header) (luma : ℕ → ℕ → ℕ) (l : LeafValue) (
       → ac_at (chroma_block (luma_of h (luma_block l))).width ac r c ≡ leaf_difference luma (luma_of h (luma_block l)) r c
 
 module _ (h : Header) (luma : ℕ → ℕ → ℕ) (l : LeafValue) (ac : List ℤ) (holds : is_from_luma l.kind ≡ true → HoldsLuma h luma l ac) where
-  held : (size : TxSize) → size ≡ (plane_area h l.x l.y l.size l.tx_size 1).tx_size → is_from_luma l.kind ≡ true → (r c : ℕ) → r < tx_height size → c < tx_width size
+  held : (size : TxSize) → size ≡ (plane_area h l.x l.y l.size l.tx_size 1).tx_size → is_from_luma l.kind ≡ true → (r c : ℕ) → r < tx_height size →
+      c < tx_width size
       → ac_at (tx_width size) ac r c ≡ leaf_difference luma (luma_of h (luma_block l)) r c
   held size is from r c hr hc =
       let all = holds from in
@@ -67,12 +72,15 @@ module _ (h : Header) (luma : ℕ → ℕ → ℕ) (l : LeafValue) (ac : List �
       ap (λ (w : ℕ). ac_at w ac r c) width ∙ all.value r c (omega (arith, hr, height)) (omega (arith, hc, width))
 
   -- what the blocks of chroma are told so is what the steps say
-  pub luma_in_u : (filter : Option IntraEdgeFilterParameters) → SameLuma (block_told h filter U l) (λ _. ac_at (tx_width (block_told h filter U l).area.tx_size) ac) (luma_for h luma U)
+  pub luma_in_u : (filter : Option IntraEdgeFilterParameters) →
+      SameLuma (block_told h filter U l) (λ _. ac_at (tx_width (block_told h filter U l).area.tx_size) ac) (luma_for h luma U)
   luma_in_u filter =
       let block = block_told h filter U l in
       same_u filter l.kind block (λ _. ac_at (tx_width block.area.tx_size) ac) (luma_for h luma U) (λ from r c. held block.area.tx_size refl from r c)
 
-  pub luma_in_v : (filter : Option IntraEdgeFilterParameters) → SameLuma (block_told h filter V l) (λ _. ac_at (tx_width (block_told h filter V l).area.tx_size) ac) (luma_for h luma V)
+  pub luma_in_v : (filter : Option IntraEdgeFilterParameters) →
+      SameLuma (block_told h filter V l) (λ _. ac_at (tx_width (block_told h filter V l).area.tx_size) ac) (luma_for h luma V)
   luma_in_v filter =
       let block = block_told h filter V l in
-      same_v filter l.kind block (λ _. ac_at (tx_width block.area.tx_size) ac) (luma_for h luma V) (λ from r c. held block.area.tx_size (chroma_size h l) from r c)
+      same_v filter l.kind block (λ _. ac_at (tx_width block.area.tx_size) ac) (luma_for h luma V)
+      (λ from r c. held block.area.tx_size (chroma_size h l) from r c)

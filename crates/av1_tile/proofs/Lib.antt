@@ -25,6 +25,7 @@ pub mod ValidTriples
 pub mod PlanLeaves
 pub mod PlanFits
 pub mod Pictures
+pub mod Layouts
 pub mod PlansOver
 pub mod FilledPlanes
 pub mod Examples

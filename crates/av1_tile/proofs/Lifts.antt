@@ -22,7 +22,8 @@ use Rattle.av1_tile.specs.declared.planes.Planes.{Planes}
 use Rattle.av1_tile.specs.Canvas.{Component, Y, U, V}
 use Rattle.av1_tile.specs.PlaneBlocks.{number, component, components_of, is_whole, triples_in}
 use Rattle.av1_tile.specs.Reference.{by_prediction, luma_for}
-use Rattle.av1_tile.specs.Steps.{Step, predict, add, joined, block_area, whole_area, block_steps, steps_at, whole_steps, plane_steps, in_component, component_steps, steps_of}
+use Rattle.av1_tile.specs.Steps.{Step, predict, add, joined, block_area, whole_area, block_steps, steps_at, whole_steps, plane_steps, in_component}
+use Rattle.av1_tile.specs.Steps.{component_steps, steps_of}
 use Rattle.av1_tile.specs.Walk.{edges_in, edges_after, fast_in, fast_step, placed_edge, plane_of, with_plane, SameLayout}
 
 -- ---- what luma says
@@ -40,7 +41,8 @@ SameLuma block f g = SameFor block block.prediction f g
 module _ {T : Type 0} (num : T → ℕ) (pixel : ℕ → T) (plan : PlanValue) (p : ℕ) (f g : PlaneBlock → ℕ → ℕ → ℤ) (block : PlaneBlock) where
   -- a leaf that is predicted over its whole area doesn't look at luma
   whole_same : (of : Prediction) → is_whole of ≡ true → (a : VisibleArea) (q : Plane T) (r c : ℕ)
-      → by_prediction plan p of a (placed_edge plan.header p block 0 a num q) (f block) r c ≡ by_prediction plan p of a (placed_edge plan.header p block 0 a num q) (g block) r c
+      → by_prediction plan p of a (placed_edge plan.header p block 0 a num q) (f block) r c ≡
+      by_prediction plan p of a (placed_edge plan.header p block 0 a num q) (g block) r c
   unfolding by_prediction
   whole_same (predictions.Intra mode step filter) e a q r c = refl
   whole_same (predictions.FromLuma alpha) e a q r c = absurd cc
@@ -51,25 +53,32 @@ module _ {T : Type 0} (num : T → ℕ) (pixel : ℕ → T) (plan : PlanValue) (
   unfolding fast_in
   whole_steps_same q = go (is_whole block.prediction) refl
     where
-      go : (t : Bool) → is_whole block.prediction ≡ t → fold (fast_in num pixel plan p f) q (if t then predict block 0 (whole_area block) ∷ [] else []) ≡ fold (fast_in num pixel plan p g) q (if t then predict block 0 (whole_area block) ∷ [] else [])
+      go : (t : Bool) → is_whole block.prediction ≡ t →
+          fold (fast_in num pixel plan p f) q (if t then predict block 0 (whole_area block) ∷ [] else []) ≡
+          fold (fast_in num pixel plan p g) q (if t then predict block 0 (whole_area block) ∷ [] else [])
       go true e = painted_plane_same q (whole_area block) _ _ (λ r c v hr hc. ap pixel (whole_same block.prediction e (whole_area block) q r c))
       go false e = refl
 
-module _ {T : Type 0} (num : T → ℕ) (pixel : ℕ → T) (plan : PlanValue) (p : ℕ) (f g : PlaneBlock → ℕ → ℕ → ℤ) (block : PlaneBlock) (same : SameLuma block f g) where
+module _ {T : Type 0} (num : T → ℕ) (pixel : ℕ → T) (plan : PlanValue) (p : ℕ) (f g : PlaneBlock → ℕ → ℕ → ℤ) (block : PlaneBlock)
+    (same : SameLuma block f g) where
   -- a transform block is predicted alike
-  by_luma : (of : Prediction) → SameFor block of f g → (n : ℕ) (b : TransformBlock) (q : Plane T) (r c : ℕ) → r < (block_area block b).height → c < (block_area block b).width
-      → by_prediction plan p of (block_area block b) (placed_edge plan.header p block n (block_area block b) num q) (f block) r c ≡ by_prediction plan p of (block_area block b) (placed_edge plan.header p block n (block_area block b) num q) (g block) r c
+  by_luma : (of : Prediction) → SameFor block of f g → (n : ℕ) (b : TransformBlock) (q : Plane T) (r c : ℕ) → r < (block_area block b).height →
+      c < (block_area block b).width
+      → by_prediction plan p of (block_area block b) (placed_edge plan.header p block n (block_area block b) num q) (f block) r c ≡
+      by_prediction plan p of (block_area block b) (placed_edge plan.header p block n (block_area block b) num q) (g block) r c
   unfolding by_prediction
   by_luma (predictions.Intra mode step filter) s n b q r c hr hc = refl
   by_luma (predictions.FromLuma alpha) s n b q r c hr hc = predicted_luma _ _ _ _ (f block) (g block) _ r c (s r c hr hc)
   by_luma (predictions.Single mode reference mv) s n b q r c hr hc = refl
   by_luma (predictions.Compound mode references mvs) s n b q r c hr hc = refl
 
-  one_same : (n : ℕ) (b : TransformBlock) (q : Plane T) → fast_in num pixel plan p f q (predict block n (block_area block b)) ≡ fast_in num pixel plan p g q (predict block n (block_area block b))
+  one_same : (n : ℕ) (b : TransformBlock) (q : Plane T) →
+      fast_in num pixel plan p f q (predict block n (block_area block b)) ≡ fast_in num pixel plan p g q (predict block n (block_area block b))
   unfolding fast_in
   one_same n b q = painted_plane_same q (block_area block b) _ _ (λ r c v hr hc. ap pixel (by_luma block.prediction same n b q r c hr hc))
 
-  block_same : (triples : List Triple) (n : ℕ) (o : Option TransformBlock) (q : Plane T) → fold (fast_in num pixel plan p f) q (block_steps block triples n o) ≡ fold (fast_in num pixel plan p g) q (block_steps block triples n o)
+  block_same : (triples : List Triple) (n : ℕ) (o : Option TransformBlock) (q : Plane T) →
+      fold (fast_in num pixel plan p f) q (block_steps block triples n o) ≡ fold (fast_in num pixel plan p g) q (block_steps block triples n o)
   unfolding fast_in
   block_same triples n None q = refl
   block_same triples n (Some b) q = go (is_whole block.prediction)
@@ -82,7 +91,9 @@ module _ {T : Type 0} (num : T → ℕ) (pixel : ℕ → T) (plan : PlanValue) (
       go true = refl
       go false = ap (λ (z : Plane T). fast_in num pixel plan p g z (add block triples n a)) (one_same n b q)
 
-  pieces_same : (h : Header) (triples : List Triple) (ns : List ℕ) (q : Plane T) → fold (fast_in num pixel plan p f) q (flat_map (steps_at h block triples) ns) ≡ fold (fast_in num pixel plan p g) q (flat_map (steps_at h block triples) ns)
+  pieces_same : (h : Header) (triples : List Triple) (ns : List ℕ) (q : Plane T) →
+      fold (fast_in num pixel plan p f) q (flat_map (steps_at h block triples) ns) ≡
+      fold (fast_in num pixel plan p g) q (flat_map (steps_at h block triples) ns)
   unfolding steps_at
   pieces_same h triples [] q = refl
   pieces_same h triples (n ∷ ns) q =
@@ -93,7 +104,8 @@ module _ {T : Type 0} (num : T → ℕ) (pixel : ℕ → T) (plan : PlanValue) (
       ∙ sym (fold-append (fast_in num pixel plan p g) q (s n) (flat_map s ns))
 
   -- so a leaf's block is reconstructed alike
-  pub luma_same : (h : Header) (triples : List Triple) (q : Plane T) → fold (fast_in num pixel plan p f) q (plane_steps h block triples) ≡ fold (fast_in num pixel plan p g) q (plane_steps h block triples)
+  pub luma_same : (h : Header) (triples : List Triple) (q : Plane T) →
+      fold (fast_in num pixel plan p f) q (plane_steps h block triples) ≡ fold (fast_in num pixel plan p g) q (plane_steps h block triples)
   unfolding joined
   luma_same h triples q =
       let w = whole_steps block in
@@ -112,14 +124,19 @@ number_component (suc (suc zero)) h = refl
 number_component (suc (suc (suc p))) h = absurd (omega arith)
 
 module _ {T : Type 0} (num : T → ℕ) (pixel : ℕ → T) (plan : PlanValue) where
-  fold_component : (k : Component) (planes : Planes T) (steps : List Step) → fold (fast_step num pixel plan) planes (in_component k steps) ≡ with_plane k planes (fold (fast_in num pixel plan (number k) (luma_for plan.header (sample_at num planes.y) k)) (plane_of k planes) steps)
+  fold_component : (k : Component) (planes : Planes T) (steps : List Step) →
+      fold (fast_step num pixel plan) planes (in_component k steps) ≡
+      with_plane k planes (fold (fast_in num pixel plan (number k) (luma_for plan.header (sample_at num planes.y) k)) (plane_of k planes) steps)
   unfolding fast_step
   fold_component Y planes [] = refl
   fold_component U planes [] = refl
   fold_component V planes [] = refl
-  fold_component Y planes (step ∷ rest) = fold_component Y (with_plane Y planes (fast_in num pixel plan 0 (luma_for plan.header (sample_at num planes.y) Y) planes.y step)) rest
-  fold_component U planes (step ∷ rest) = fold_component U (with_plane U planes (fast_in num pixel plan 1 (luma_for plan.header (sample_at num planes.y) U) planes.u step)) rest
-  fold_component V planes (step ∷ rest) = fold_component V (with_plane V planes (fast_in num pixel plan 2 (luma_for plan.header (sample_at num planes.y) V) planes.v step)) rest
+  fold_component Y planes (step ∷ rest) =
+      fold_component Y (with_plane Y planes (fast_in num pixel plan 0 (luma_for plan.header (sample_at num planes.y) Y) planes.y step)) rest
+  fold_component U planes (step ∷ rest) =
+      fold_component U (with_plane U planes (fast_in num pixel plan 1 (luma_for plan.header (sample_at num planes.y) U) planes.u step)) rest
+  fold_component V planes (step ∷ rest) =
+      fold_component V (with_plane V planes (fast_in num pixel plan 2 (luma_for plan.header (sample_at num planes.y) V) planes.v step)) rest
 
   -- the steps of a block in plane k, from these samples on
   abbrev pub after_block : Component → (luma : ℕ → ℕ → ℕ) → PlaneBlock → List Triple → Plane T → Plane T
@@ -150,7 +167,8 @@ module _ {T : Type 0} (num : T → ℕ) (pixel : ℕ → T) (plan : PlanValue) w
       ∙ fold_component V (with_plane U (with_plane Y p y) u) (plane_steps h (told V) (triples_in V leaf)) in
       let eu : q.u ≡ u = i ∙ ap (λ (z : Plane T). after_block U (sample_at num z) (told U) (triples_in U leaf) p.u) e in
       let ev : q.v ≡ v = j ∙ ap (λ (z : Plane T). after_block V (sample_at num z) (told V) (triples_in V leaf) p.v) e in
-      ap (λ (z : Plane T). with_plane Y q z) e ∙ ap (λ (z : Plane T). with_plane U (with_plane Y q y) z) eu ∙ ap (λ (z : Plane T). with_plane V (with_plane U (with_plane Y q y) u) z) ev ∙ sym all ∙ ap (fold s p) (sym list)
+      ap (λ (z : Plane T). with_plane Y q z) e ∙ ap (λ (z : Plane T). with_plane U (with_plane Y q y) z) eu
+      ∙ ap (λ (z : Plane T). with_plane V (with_plane U (with_plane Y q y) u) z) ev ∙ sym all ∙ ap (fold s p) (sym list)
 
   -- the same where it carries no chroma
   pub luma_walked : (p q : Planes T) (told : Component → PlaneBlock) (leaf : LeafValue) → carries_chroma plan.header leaf.x leaf.y leaf.size ≡ false
@@ -164,7 +182,9 @@ module _ {T : Type 0} (num : T → ℕ) (pixel : ℕ → T) (plan : PlanValue) w
       let y = after_block Y (sample_at num p.y) (told Y) (triples_in Y leaf) p.y in
       let list : flat_map (component_steps h told leaf) (components_of h leaf) ≡ a =
       ap (λ (t : Bool). flat_map (component_steps h told leaf) (if t then Y ∷ U ∷ V ∷ [] else Y ∷ [])) carried ∙ append-nil a in
-      ap (λ (z : Plane T). with_plane Y q z) e ∙ ap (λ (z : Plane T). with_plane U (with_plane Y q y) z) i ∙ ap (λ (z : Plane T). with_plane V (with_plane U (with_plane Y q y) p.u) z) j ∙ sym (fold_component Y p (plane_steps h (told Y) (triples_in Y leaf))) ∙ ap (fold s p) (sym list)
+      ap (λ (z : Plane T). with_plane Y q z) e ∙ ap (λ (z : Plane T). with_plane U (with_plane Y q y) z) i
+      ∙ ap (λ (z : Plane T). with_plane V (with_plane U (with_plane Y q y) p.u) z) j ∙ sym (fold_component Y p (plane_steps h (told Y) (triples_in Y leaf)))
+      ∙ ap (fold s p) (sym list)
 
 -- ---- the count of edges
 
@@ -173,7 +193,8 @@ fold_edges k count [] = refl
 fold_edges k count (step ∷ rest) = fold_edges k (edges_in count step) rest
 
 pub leaf_counted : (h : Header) (told : Component → PlaneBlock) (leaf : LeafValue) (count y u v : ℕ) → carries_chroma h leaf.x leaf.y leaf.size ≡ true
-    → y ≡ fold edges_in count (plane_steps h (told Y) (triples_in Y leaf)) → u ≡ fold edges_in y (plane_steps h (told U) (triples_in U leaf)) → v ≡ fold edges_in u (plane_steps h (told V) (triples_in V leaf))
+    → y ≡ fold edges_in count (plane_steps h (told Y) (triples_in Y leaf)) → u ≡ fold edges_in y (plane_steps h (told U) (triples_in U leaf)) →
+    v ≡ fold edges_in u (plane_steps h (told V) (triples_in V leaf))
     → v ≡ fold edges_after count (steps_of h told leaf)
 unfolding steps_of
 leaf_counted h told leaf count y u v carried e i j =
@@ -182,11 +203,14 @@ leaf_counted h told leaf count y u v carried e i j =
     let c = component_steps h told leaf V in
     let list : flat_map (component_steps h told leaf) (components_of h leaf) ≡ a ++ (b ++ c) =
     ap (λ (t : Bool). flat_map (component_steps h told leaf) (if t then Y ∷ U ∷ V ∷ [] else Y ∷ [])) carried ∙ ap (λ xs. a ++ (b ++ xs)) (append-nil c) in
-    j ∙ ap (λ (n : ℕ). fold edges_in n (plane_steps h (told V) (triples_in V leaf))) (i ∙ ap (λ (n : ℕ). fold edges_in n (plane_steps h (told U) (triples_in U leaf))) e)
+    j ∙ ap (λ (n : ℕ). fold edges_in n (plane_steps h (told V) (triples_in V leaf)))
+    (i ∙ ap (λ (n : ℕ). fold edges_in n (plane_steps h (told U) (triples_in U leaf))) e)
     ∙ sym (fold-append edges_after count a (b ++ c) ∙ fold-append edges_after (fold edges_after count a) b c
     ∙ ap (λ (n : ℕ). fold edges_after (fold edges_after n b) c) (fold_edges Y count (plane_steps h (told Y) (triples_in Y leaf)))
-    ∙ ap (λ (n : ℕ). fold edges_after n c) (fold_edges U (fold edges_in count (plane_steps h (told Y) (triples_in Y leaf))) (plane_steps h (told U) (triples_in U leaf)))
-    ∙ fold_edges V (fold edges_in (fold edges_in count (plane_steps h (told Y) (triples_in Y leaf))) (plane_steps h (told U) (triples_in U leaf))) (plane_steps h (told V) (triples_in V leaf)))
+    ∙ ap (λ (n : ℕ). fold edges_after n c)
+    (fold_edges U (fold edges_in count (plane_steps h (told Y) (triples_in Y leaf))) (plane_steps h (told U) (triples_in U leaf)))
+    ∙ fold_edges V (fold edges_in (fold edges_in count (plane_steps h (told Y) (triples_in Y leaf))) (plane_steps h (told U) (triples_in U leaf)))
+    (plane_steps h (told V) (triples_in V leaf)))
     ∙ ap (fold edges_after count) (sym list)
 
 pub luma_counted : (h : Header) (told : Component → PlaneBlock) (leaf : LeafValue) (count y : ℕ) → carries_chroma h leaf.x leaf.y leaf.size ≡ false

@@ -108,7 +108,8 @@ module _ (s side z frame visible tx : ℕ) (low : s ≤ 1) (same : visible ≡ f
 
   over_same : (width x : ℕ) → IsOver s width (last_of_leaf z side tx visible s) x
       → order.luma_place s side z frame tx (x / 2 ^ s) (x - min (x / 2 ^ s * 2 ^ s) (last_of_leaf z side tx visible s)) ≡ luma_start z side s + x
-  over_same width x over = place_same (x / 2 ^ s) (x - min (x / 2 ^ s * 2 ^ s) (last_of_leaf z side tx visible s)) ∙ ap (λ (n : ℕ). luma_start z side s + n) over.sum
+  over_same width x over = place_same (x / 2 ^ s) (x - min (x / 2 ^ s * 2 ^ s) (last_of_leaf z side tx visible s))
+      ∙ ap (λ (n : ℕ). luma_start z side s + n) over.sum
 
 -- ---- a leaf
 
@@ -116,7 +117,8 @@ module _ (s side z frame visible tx : ℕ) (low : s ≤ 1) (same : visible ≡ f
 written_at : (h : Header) (steps : List Step) (x z y w : ℕ) → z ≡ x → w ≡ y → is_written h 0 steps z w ≡ true → is_written h 0 steps x y ≡ true
 written_at h steps x z y w column row is = ap (λ (n : ℕ). is_written h 0 steps n y) (sym column) ∙ ap (λ (n : ℕ). is_written h 0 steps z n) (sym row) ∙ is
 
-module _ (h : Header) (earlier : List LeafValue) (leaf : LeafValue) (later : List LeafValue) (is : IsCodedPlan h 0 (earlier ++ leaf ∷ later)) (quarter : IsQuarterInside h leaf)
+module _ (h : Header) (earlier : List LeafValue) (leaf : LeafValue) (later : List LeafValue) (is : IsCodedPlan h 0 (earlier ++ leaf ∷ later))
+    (quarter : IsQuarterInside h leaf)
     (carried : carries_chroma h leaf.x leaf.y leaf.size ≡ true) (from : is_from_luma leaf.kind ≡ true) where
   valid : IsValidLeaf h leaf
   valid = valid_leaf h leaf (cut_faultless h 0 earlier leaf later is)
@@ -125,23 +127,28 @@ module _ (h : Header) (earlier : List LeafValue) (leaf : LeafValue) (later : Lis
   low = omega (arith, halved_x h 1, halved_y h 1)
 
   written : (x y : ℕ) → x < columns_read (chroma_block (luma_of h (luma_block leaf))) → y < rows_read (chroma_block (luma_of h (luma_block leaf)))
-      → is_written h 0 (leaves_steps h 0 (earlier ++ leaf ∷ [])) (first_column (luma_of h (luma_block leaf)) + x) (first_row (luma_of h (luma_block leaf)) + y) ≡ true
+      → is_written h 0 (leaves_steps h 0 (earlier ++ leaf ∷ [])) (first_column (luma_of h (luma_block leaf)) + x)
+      (first_row (luma_of h (luma_block leaf)) + y) ≡ true
   unfolding plane_size
   written x y hx hy =
       let all = leaves_steps h 0 (earlier ++ leaf ∷ []) in
       let (narrow, short) = small_sides leaf.size leaf.kind (valid_modes h leaf valid) from in
       let plane = in_plane_block h leaf.size 1 valid.size in
-      let column = is_over (xdec h 1) (plane_side (block_width leaf.size) (xdec h 1)) (chroma_block (luma_of h (luma_block leaf))).last_column x (halved_x h 1) hx in
+      let column =
+      is_over (xdec h 1) (plane_side (block_width leaf.size) (xdec h 1)) (chroma_block (luma_of h (luma_block leaf))).last_column x (halved_x h 1) hx in
       let row = is_over (ydec h 1) (plane_side (block_height leaf.size) (ydec h 1)) (chroma_block (luma_of h (luma_block leaf))).last_row y low hy in
-      let across = over_same (xdec h 1) (block_width leaf.size) leaf.x h.width (plane_width h 0) (tx_width leaf.tx_size) (halved_x h 1) (luma_width h) (multiple_across leaf.tx_size) _ x column in
-      let down = over_same (ydec h 1) (block_height leaf.size) leaf.y h.height (plane_height h 0) (tx_height leaf.tx_size) low (luma_height h) (multiple_down leaf.tx_size) _ y row in
+      let across = over_same (xdec h 1) (block_width leaf.size) leaf.x h.width (plane_width h 0) (tx_width leaf.tx_size) (halved_x h 1) (luma_width h)
+      (multiple_across leaf.tx_size) _ x column in
+      let down = over_same (ydec h 1) (block_height leaf.size) leaf.y h.height (plane_height h 0) (tx_height leaf.tx_size) low (luma_height h)
+      (multiple_down leaf.tx_size) _ y row in
       let law = luma_is_written h earlier leaf later is carried narrow short quarter (x / 2 ^ xdec h 1) (y / 2 ^ ydec h 1)
       (subst (λ (n : ℕ). x / 2 ^ xdec h 1 < n) (side_across leaf.size (xdec h 1) (halved_x h 1) ∙ sym plane.width) column.place)
       (subst (λ (n : ℕ). y / 2 ^ ydec h 1 < n) (side_down leaf.size (ydec h 1) low ∙ sym plane.height) row.place) _ _ column.sample row.sample in
       written_at h all _ _ _ _ across down law
 
   -- it is written once the leaf's own steps in luma are done
-  pub luma_ready : (before : List PlaneStep) → AllByRecursion (StepFits h) before → units (xdec h 0) (ydec h 0) Y before ≡ leaves_steps h 0 (earlier ++ leaf ∷ []) → LumaReady h before (luma_block leaf)
+  pub luma_ready : (before : List PlaneStep) → AllByRecursion (StepFits h) before →
+      units (xdec h 0) (ydec h 0) Y before ≡ leaves_steps h 0 (earlier ++ leaf ∷ []) → LumaReady h before (luma_block leaf)
   luma_ready before fits are x y hx hy =
       covered h Y before fits (first_column (luma_of h (luma_block leaf)) + x) (first_row (luma_of h (luma_block leaf)) + y)
       ∙ ap (λ (ss : List Step). is_written h 0 ss (first_column (luma_of h (luma_block leaf)) + x) (first_row (luma_of h (luma_block leaf)) + y)) are

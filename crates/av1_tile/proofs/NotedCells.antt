@@ -26,19 +26,24 @@ part_put i n s ws h e =
     update_is _ s _ (grind (arith, places)) (λ k d l. grind (arith, places, nat_tests))
 
 -- one more row of a rectangle, all of it filled with v
-pub row_filled : {X : Type 0} (stride : ℕ) (a : StoredArea) (r n : ℕ) (v : X) (s t ws : List X) → 0 < stride → a.x + a.width ≤ stride → (a.y + a.height) * stride ≤ length s → r < a.height → n ≡ a.width
-    → t ≡ paint stride (corner a a.width r) (λ _ _ _. v) s → ws ≡ paint_row (length (part (row_start stride a r) n t)) (λ _ _. v) (part (row_start stride a r) n t)
+pub row_filled : {X : Type 0} (stride : ℕ) (a : StoredArea) (r n : ℕ) (v : X) (s t ws : List X) → 0 < stride → a.x + a.width ≤ stride →
+    (a.y + a.height) * stride ≤ length s → r < a.height → n ≡ a.width
+    → t ≡ paint stride (corner a a.width r) (λ _ _ _. v) s →
+    ws ≡ paint_row (length (part (row_start stride a r) n t)) (λ _ _. v) (part (row_start stride a r) n t)
     → put_mid (row_start stride a r) n t ws ≡ paint stride (corner a a.width (r + 1)) (λ _ _ _. v) s
 row_filled {X} stride a r n v s t ws some across down below wide painted filled =
     let i = row_start stride a r in
     let w = a.width in
     let f : ℕ → ℕ → X → X = λ _ _ _. v in
-    let ends : i + w ≤ (a.y + a.height) * stride = let e = row_end_le (a.y + r) (a.y + a.height) stride (a.x + w) _ refl (omega arith) across in omega (arith, e) in
+    let ends : i + w ≤ (a.y + a.height) * stride = let e = row_end_le (a.y + r) (a.y + a.height) stride (a.x + w) _ refl (omega arith) across
+    in omega (arith, e) in
     let long : length t ≡ length s = ap length painted ∙ length_paint stride (corner a w r) f s in
     let few : length (part i n t) ≡ n = grind (arith, places) in
     let row : length ws ≡ n = ap length filled ∙ length-paint_row _ (λ _ _. v) (part i n t) ∙ few in
-    let same : ws ≡ paint_row w (λ _ _. v) (part i w t) = filled ∙ ap (λ m. paint_row m (λ _ _. v) (part i n t)) (few ∙ wide) ∙ ap (λ m. paint_row w (λ _ _. v) (part i m t)) wide in
-    part_put i n t ws (omega arith) row ∙ ap (with_part i t) same ∙ ap (λ u. with_part i u (paint_row w (λ _ _. v) (part i w u))) painted ∙ paint_more stride a w r w f s some across (omega arith) (omega arith)
+    let same : ws ≡ paint_row w (λ _ _. v) (part i w t) = filled ∙ ap (λ m. paint_row m (λ _ _. v) (part i n t)) (few ∙ wide)
+    ∙ ap (λ m. paint_row w (λ _ _. v) (part i m t)) wide in
+    part_put i n t ws (omega arith) row ∙ ap (with_part i t) same ∙ ap (λ u. with_part i u (paint_row w (λ _ _. v) (part i w u))) painted
+    ∙ paint_more stride a w r w f s some across (omega arith) (omega arith)
 
 -- ---- cells that are noted
 
@@ -69,7 +74,8 @@ cut_holds a x y w d columns rows cx cy is column row =
     ∙ regrouped (nat_le x cx && nat_lt cx (x + w)) (nat_le y cy) (nat_lt cy (y + d))
 
 -- so what is told of each cell is v in the rectangle, and what it was elsewhere
-pub cell_noted : {X : Type 0} (a : StoredArea) (x y w d columns rows cx cy : ℕ) (v e : X) (s t : List X) → IsCut a x y w d columns rows → rows * columns ≤ length s → cx < columns → cy < rows → t ≡ paint columns a (λ _ _ _. v) s
+pub cell_noted : {X : Type 0} (a : StoredArea) (x y w d columns rows cx cy : ℕ) (v e : X) (s t : List X) → IsCut a x y w d columns rows →
+    rows * columns ≤ length s → cx < columns → cy < rows → t ≡ paint columns a (λ _ _ _. v) s
     → get_or t (cy * columns + cx) e ≡ cond (is_in cx cy x y w d) v (get_or s (cy * columns + cx) e)
 cell_noted a x y w d columns rows cx cy v e s t is filled column row painted =
     let k = cy * columns + cx in
@@ -86,7 +92,8 @@ few_cells : (h : Header) (cells : CodedCells) → IsReadFrame h → HasCells h c
 few_cells h cells read has = few_in cells.rows cells.columns (omega (arith, has.rows, read.height.most)) (omega (arith, has.columns, read.width.most))
 
 -- the sample at column x of row y of plane p, where columns are halved s times and rows t times
-module _ (h : Header) (cells : CodedCells) (read : IsReadFrame h) (has : HasCells h cells) (p x y s t cx cy : ℕ) (column : x < plane_width h p) (row : y < plane_height h p)
+module _ (h : Header) (cells : CodedCells) (read : IsReadFrame h) (has : HasCells h cells) (p x y s t cx cy : ℕ) (column : x < plane_width h p)
+    (row : y < plane_height h p)
     (across : s ≡ xdec h p) (down : t ≡ ydec h p) (cell_x : cx ≡ last_cell s x) (cell_y : cy ≡ last_cell t y) where
   last_x : cx ≡ last_cell (xdec h p) x
   last_x = cell_x ∙ ap (λ (n : ℕ). last_cell n x) across
@@ -98,7 +105,8 @@ module _ (h : Header) (cells : CodedCells) (read : IsReadFrame h) (has : HasCell
   of_frame : cy * cells.columns + cx < cells.rows * cells.columns
   of_frame =
       let inside = last_cells_lie_inside h p (whole_frame h read) x y column row in
-      cell_stored cells.columns cells.rows (cells.rows * cells.columns) cx cy (omega arith) (omega (arith, inside.0, last_x, has.columns)) (omega (arith, inside.1, last_y, has.rows))
+      cell_stored cells.columns cells.rows (cells.rows * cells.columns) cx cy (omega arith) (omega (arith, inside.0, last_x, has.columns))
+      (omega (arith, inside.1, last_y, has.rows))
 
   -- of which there are few
   pub cell_early : cy * cells.columns + cx < 262144
@@ -111,4 +119,5 @@ module _ (h : Header) (cells : CodedCells) (read : IsReadFrame h) (has : HasCell
   -- and tells of it
   pub cell_tells : (v : CodedBlockInfo) → v ≡ get_or cells.cells.items (cy * cells.columns + cx) v → v ≡ told_by h (cell_at cells) p x y
   cell_tells v e =
-      e ∙ get_or_default cells.cells.items (cy * cells.columns + cx) v _ cell_held ∙ ap (λ (k : ℕ). cell_at cells k cy) last_x ∙ ap (cell_at cells (last_cell (xdec h p) x)) last_y
+      e ∙ get_or_default cells.cells.items (cy * cells.columns + cx) v _ cell_held ∙ ap (λ (k : ℕ). cell_at cells k cy) last_x
+      ∙ ap (cell_at cells (last_cell (xdec h p) x)) last_y

@@ -1,5 +1,6 @@
 -- What a state shows once its plan has been walked.
-use Rattle.std.proofs.Common.{ℕ, ◌<◌, ◌*◌, ◌^◌, ◌≡◌, true, false, List, length, get_or, map, ap, arith, ◌∙◌, sym, subst, None, All, Result, Ok, Err, IfOk, replicate}
+use Rattle.std.proofs.Common.{ℕ, ◌<◌, ◌*◌, ◌^◌, ◌≡◌, true, false, List, length, get_or, map, ap, refl, arith, ◌∙◌, sym, subst, None, All, Result, Ok, Err}
+use Rattle.std.proofs.Common.{IfOk, replicate}
 use Rattle.std.proofs.lemmas.List.Elements.{All-replicate}
 use Rattle.std.proofs.lemmas.Nat.{pow_pos}
 use Rattle.std.specs.List.{fold}
@@ -14,6 +15,7 @@ use Rattle.av1_frame.specs.declared.plane.PlaneConfig.{PlaneConfig}
 use Rattle.av1_frame.specs.Planes.{InPlane, IsWhole, place_at, sample_at}
 use Rattle.av1_frame.specs.Samples.{part}
 use Rattle.av1_frame.proofs.Planes.{run_in_storage}
+use Rattle.av1_frame.proofs.Within.{filled_all}
 use Rattle.av1_order.specs.Plans.{coding_in}
 use Rattle.av1_order.specs.Turns.{IsCodedPlan}
 use Rattle.av1_plan.specs.declared.header.Header.{Header}
@@ -48,18 +50,22 @@ use Rattle.av1_tile.proofs.UnitSteps.{covers}
 -- ---- rows
 
 -- a visible row, read as a run of samples
-row_shown : {T : Type 0} (num : T → ℕ) (p : Plane T) (width y : ℕ) (row : List T) → InPlane (record { x = 0; y = y; width = width; height = 1 }) p → row ≡ part (place_at p.plane_cfg 0 y) width p.samples → length row ≡ width → map num row ≡ by_index width (λ x. sample_at num p x y)
+row_shown : {T : Type 0} (num : T → ℕ) (p : Plane T) (width y : ℕ) (row : List T) → InPlane (record { x = 0; y = y; width = width; height = 1 }) p →
+    row ≡ part (place_at p.plane_cfg 0 y) width p.samples → length row ≡ width → map num row ≡ by_index width (λ x. sample_at num p x y)
 row_shown num p width y row inside e l =
     let stored = run_in_storage p 0 y width inside in
-    numbers_are num (λ x. sample_at num p x y) row width l (λ k d m. ap (λ (xs : List _). num (get_or xs k d)) e ∙ part_sample num p.samples (place_at p.plane_cfg 0 y) width k (place_at p.plane_cfg k y) d m stored (omega arith))
+    numbers_are num (λ x. sample_at num p x y) row width l (λ k d m. ap (λ (xs : List _). num (get_or xs k d)) e
+    ∙ part_sample num p.samples (place_at p.plane_cfg 0 y) width k (place_at p.plane_cfg k y) d m stored (omega arith))
 
 -- a visible row lies in storage
-row_stored : {T : Type 0} (h : Header) (p : ℕ) (plane : Plane T) (y : ℕ) → IsPlaneOf h p plane → y < plane_height h p → InPlane (record { x = 0; y = y; width = plane_width h p; height = 1 }) plane
+row_stored : {T : Type 0} (h : Header) (p : ℕ) (plane : Plane T) (y : ℕ) → IsPlaneOf h p plane → y < plane_height h p →
+    InPlane (record { x = 0; y = y; width = plane_width h p; height = 1 }) plane
 row_stored h p plane y is below =
     let w = is.whole in record { storage = w; columns = omega (arith, is.width, w.visible_columns); rows = omega (arith, is.height, w.visible_rows) }
 
 -- the row of a plane that stores its part of a frame, where it was read by that many samples
-pub row_of : {T : Type 0} (num : T → ℕ) (h : Header) (p : ℕ) (plane : Plane T) (y : ℕ) (row : List T) (n : ℕ) → IsPlaneOf h p plane → y < plane_height h p → n ≡ plane_width h p → row ≡ part (place_at plane.plane_cfg 0 y) n plane.samples → length row ≡ n
+pub row_of : {T : Type 0} (num : T → ℕ) (h : Header) (p : ℕ) (plane : Plane T) (y : ℕ) (row : List T) (n : ℕ) → IsPlaneOf h p plane → y < plane_height h p →
+    n ≡ plane_width h p → row ≡ part (place_at plane.plane_cfg 0 y) n plane.samples → length row ≡ n
     → map num row ≡ by_index (plane_width h p) (λ x. sample_at num plane x y)
 row_of num h p plane y row n is below width e l =
     let read = subst (λ (k : ℕ). row ≡ part (place_at plane.plane_cfg 0 y) k plane.samples) width e in
@@ -68,8 +74,10 @@ row_of num h p plane y row n is below width e l =
 -- ---- new planes
 
 -- a plane of zeros that was made with the sides of a frame's plane stores it
-pub new_stores : {T E : Type 0} (num : T → ℕ) (zero : T) (h : Header) (p : ℕ) (cfg : PlaneConfig) (r : Result (Plane T) E) → num zero ≡ 0 → cfg.width ≡ plane_width h p → cfg.height ≡ plane_height h p → cfg.xdec ≡ xdec h p → cfg.ydec ≡ ydec h p
-    → IfOk r (λ plane. plane.plane_cfg ≡ cfg) → IfOk r (λ plane. plane.samples ≡ replicate (plane.plane_cfg.alloc_height * plane.plane_cfg.stride) zero) → IfOk r IsWhole → IfOk r (λ plane. Stores num h p plane)
+pub new_stores : {T E : Type 0} (num : T → ℕ) (zero : T) (h : Header) (p : ℕ) (cfg : PlaneConfig) (r : Result (Plane T) E) → num zero ≡ 0 →
+    cfg.width ≡ plane_width h p → cfg.height ≡ plane_height h p → cfg.xdec ≡ xdec h p → cfg.ydec ≡ ydec h p
+    → IfOk r (λ plane. plane.plane_cfg ≡ cfg) → IfOk r (λ plane. plane.samples ≡ replicate (plane.plane_cfg.alloc_height * plane.plane_cfg.stride) zero) →
+    IfOk r IsWhole → IfOk r (λ plane. Stores num h p plane)
 new_stores num zero h p cfg (Ok plane) none width height across down is samples whole = record {
   place = record {
     whole = whole;
@@ -78,9 +86,18 @@ new_stores num zero h p cfg (Ok plane) none width height across down is samples 
     xdec = ap (λ (c : PlaneConfig). c.xdec) is ∙ across;
     ydec = ap (λ (c : PlaneConfig). c.ydec) is ∙ down;
   };
-  within = subst (All (λ v. num v < 2 ^ h.depth)) (sym samples) (All-replicate (λ v. num v < 2 ^ h.depth) _ zero (subst (λ (n : ℕ). n < 2 ^ h.depth) (sym none) (pow_pos h.depth)));
+  within =
+      subst (All (λ v. num v < 2 ^ h.depth)) (sym samples)
+      (All-replicate (λ v. num v < 2 ^ h.depth) _ zero (subst (λ (n : ℕ). n < 2 ^ h.depth) (sym none) (pow_pos h.depth)));
 }
 new_stores num zero h p cfg (Err e) none width height across down is samples whole = tt
+
+-- and each of its samples is that zero
+pub new_zeros : {T E : Type 0} (zero : T) (r : Result (Plane T) E)
+    → IfOk r (λ plane. plane.samples ≡ replicate (plane.plane_cfg.alloc_height * plane.plane_cfg.stride) zero)
+    → IfOk r (λ plane. All (λ v. v ≡ zero) plane.samples)
+new_zeros zero (Ok plane) samples = filled_all (λ v. v ≡ zero) plane _ zero samples refl
+new_zeros zero (Err e) samples = tt
 
 -- ---- planes of a frame
 
@@ -92,7 +109,8 @@ room_kept h p q same room = record {
   v = subst (HasRoomIn h 2) (sym same.v) room.v;
 }
 
-pub all_placed : {T : Type 0} (num : T → ℕ) (h : Header) (planes : Planes T) → StoresAll num h planes → (k : Component) → IsPlaneOf h (number k) (plane_of k planes)
+pub all_placed : {T : Type 0} (num : T → ℕ) (h : Header) (planes : Planes T) → StoresAll num h planes → (k : Component) →
+    IsPlaneOf h (number k) (plane_of k planes)
 all_placed num h planes s Y = s.y.place
 all_placed num h planes s U = s.u.place
 all_placed num h planes s V = s.v.place
@@ -108,7 +126,8 @@ coded plan valid s p = record {
   ordered = plan_trees (record { is_inter = false; columns = 0; rows = 0 }) (coding_in plan.header p) plan s;
 }
 
-pub plan_coded : (plan : Plan) → first_fault (plan_value plan) ≡ None → IsSpelled grammar (plan_value plan) → (p : ℕ) → IsCodedPlan (plan_value plan).header p (plan_value plan).leaves
+pub plan_coded : (plan : Plan) → first_fault (plan_value plan) ≡ None → IsSpelled grammar (plan_value plan) → (p : ℕ) →
+    IsCodedPlan (plan_value plan).header p (plan_value plan).leaves
 plan_coded plan = coded (plan_value plan)
 
 module _ (plan : PlanValue) (spelled : ∥ IsSpelled grammar plan ∥₁) (valid : first_fault plan ≡ None) where
@@ -119,11 +138,15 @@ module _ (plan : PlanValue) (spelled : ∥ IsSpelled grammar plan ∥₁) (valid
   same_steps s told = steps_told plan.header plan.leaves (λ k. coded plan valid s (number k)) all_begin told
 
   -- planes that have gone through its steps show the samples that it comes to
-  pub plan_shows : {T : Type 0} (num : T → ℕ) (pixel : ℕ → T) (law : (v : ℕ) → num (pixel v) ≡ v) (back : (x : T) → pixel (num x) ≡ x) (p q : Planes T) (told : Told) → StoresAll num plan.header p → HasRoom plan.header p → StoresAll num plan.header q
+  pub plan_shows : {T : Type 0} (num : T → ℕ) (pixel : ℕ → T) (law : (v : ℕ) → num (pixel v) ≡ v) (back : (x : T) → pixel (num x) ≡ x) (p q : Planes T)
+      (told : Told) → StoresAll num plan.header p → HasRoom plan.header p → StoresAll num plan.header q
       → q ≡ fold (fast_step num pixel plan) p (steps_by plan.header told plan.leaves) → ShowsPlan num plan q
   plan_shows num pixel law back p q told stores room after walked k x y hx hy =
       ∥∥₁_elim spelled (hlevel (ℕ_set))
-      (λ s. sym (ap sample_of (samples_shown num pixel law back plan p q (plan_ready plan.header plan.leaves (λ k. coded plan valid s (number k)) (spelled_frame plan s) (λ i d within. (spelled_leaves plan s i d within).quarter))
+      (λ s. sym
+      (ap sample_of
+      (samples_shown num pixel law back plan p q (plan_ready plan.header plan.leaves (λ k. coded plan valid s (number k)) (spelled_frame plan s)
+      (λ i d within. (spelled_leaves plan s i d within).quarter))
       (record { plane = all_placed num plan.header p stores; room = room.y }) (all_placed num plan.header q after)
       (walked ∙ ap (fold (fast_step num pixel plan) p) (same_steps s told)) k x y hx hy)))
 
@@ -132,7 +155,8 @@ module _ (plan : PlanValue) (spelled : ∥ IsSpelled grammar plan ∥₁) (valid
   plan_counts count after told counted = ∥∥₁_elim spelled (hlevel (ℕ_set)) (λ s. counted ∙ ap (fold edges_after count) (same_steps s told))
 
 -- a state whose planes show what a plan comes to
-module _ {T : Type 0} (num : T → ℕ) (plan : PlanValue) (h : Header) (fi : FrameInvariants T) (q : Planes T) (edges : ℕ) (same : h ≡ plan.header) (shows : ShowsPlan num plan q) where
+module _ {T : Type 0} (num : T → ℕ) (plan : PlanValue) (h : Header) (fi : FrameInvariants T) (q : Planes T) (edges : ℕ) (same : h ≡ plan.header)
+    (shows : ShowsPlan num plan q) where
   -- shows its bytes,
   pub state_visible : visible h (shown num (record { header = h; references = fi; planes = q; edges = edges })) ≡ planes_of plan
   unfolding planes_of

@@ -1,5 +1,6 @@
 -- The leaves of a valid plan fit planes that have room for whole superblocks.
-use Rattle.std.proofs.Common.{ℕ, zero, suc, ◌+◌, ◌-◌, ◌*◌, ◌/◌, ◌%◌, ◌^◌, ◌<◌, ◌≤◌, ◌≡◌, max, true, false, not, ◌||◌, nat_lt, Bool, get_or, length, List, Option, Some, None, All, ℤ, refl, ap, arith, ◌∙◌, sym}
+use Rattle.std.proofs.Common.{ℕ, zero, suc, ◌+◌, ◌-◌, ◌*◌, ◌/◌, ◌%◌, ◌^◌, ◌<◌, ◌≤◌, ◌≡◌, max, true, false, not, ◌||◌, nat_lt, Bool, get_or, length, List}
+use Rattle.std.proofs.Common.{Option, Some, None, All, ℤ, refl, ap, arith, ◌∙◌, sym}
 use Rattle.std.specs.Int.{next_multiple_of}
 use Rattle.std.specs.Prelude.{◌==◌, unsigned_abs}
 use Rattle.std.specs.Option.{is_some, unwrap_or}
@@ -71,16 +72,19 @@ down h p is = plane_side h.height (ydec h p) (low_ydec h p) is.height.least is.h
 -- ---- places
 
 -- A leaf that begins at cell b and has c cells ends in a superblock that begins in the frame, in a plane too.
-ends_within : (s w b c : ℕ) → s ≤ 1 → w % 8 ≡ 0 → 0 < c → b + c ≤ 16 * ((w / 4 + 15) / 16) → 4 * ((b - b % 2 ^ s) / 2 ^ s) + 4 * (max c (2 ^ s) / 2 ^ s) ≤ next_multiple_of (w / 2 ^ s) (64 / 2 ^ s)
+ends_within : (s w b c : ℕ) → s ≤ 1 → w % 8 ≡ 0 → 0 < c → b + c ≤ 16 * ((w / 4 + 15) / 16) →
+    4 * ((b - b % 2 ^ s) / 2 ^ s) + 4 * (max c (2 ^ s) / 2 ^ s) ≤ next_multiple_of (w / 2 ^ s) (64 / 2 ^ s)
 ends_within zero w b c h whole some e = omega (arith, whole, some, e)
 ends_within (suc zero) w b c h whole some e = omega (arith, whole, some, e)
 ends_within (suc (suc s)) w b c h whole some e = absurd (omega arith)
 
-ends_across : (h : Header) (p b c : ℕ) → IsReadFrame h → 0 < c → b + c ≤ 16 * ((h.width / 4 + 15) / 16) → 4 * ((b - b % 2 ^ xdec h p) / 2 ^ xdec h p) + 4 * (max c (2 ^ xdec h p) / 2 ^ xdec h p) ≤ next_multiple_of (plane_width h p) (64 / 2 ^ xdec h p)
+ends_across : (h : Header) (p b c : ℕ) → IsReadFrame h → 0 < c → b + c ≤ 16 * ((h.width / 4 + 15) / 16) →
+    4 * ((b - b % 2 ^ xdec h p) / 2 ^ xdec h p) + 4 * (max c (2 ^ xdec h p) / 2 ^ xdec h p) ≤ next_multiple_of (plane_width h p) (64 / 2 ^ xdec h p)
 unfolding plane_width
 ends_across h p b c is some e = ends_within (xdec h p) h.width b c (halved_x h p) is.width.whole some e
 
-ends_down : (h : Header) (p b c : ℕ) → IsReadFrame h → 0 < c → b + c ≤ 16 * ((h.height / 4 + 15) / 16) → 4 * ((b - b % 2 ^ ydec h p) / 2 ^ ydec h p) + 4 * (max c (2 ^ ydec h p) / 2 ^ ydec h p) ≤ next_multiple_of (plane_height h p) (64 / 2 ^ ydec h p)
+ends_down : (h : Header) (p b c : ℕ) → IsReadFrame h → 0 < c → b + c ≤ 16 * ((h.height / 4 + 15) / 16) →
+    4 * ((b - b % 2 ^ ydec h p) / 2 ^ ydec h p) + 4 * (max c (2 ^ ydec h p) / 2 ^ ydec h p) ≤ next_multiple_of (plane_height h p) (64 / 2 ^ ydec h p)
 unfolding plane_height
 ends_down h p b c is some e = ends_within (ydec h p) h.height b c (low_ydec h p) is.height.whole some e
 
@@ -126,16 +130,19 @@ chroma_size : (h : Header) (size : BlockSize) (tx_size : TxSize) → plane_tx_si
 unfolding plane_tx_size xdec ydec
 chroma_size h size tx_size = refl
 
-chroma_type : (h : Header) (leaf : LeafValue) (o : Option TxType) → leaf.uv_type ≡ o → is_some o ≡ true → HasFittingTransforms h leaf → is_transform (plane_tx_size h leaf.size leaf.tx_size 1) (unwrap_or o DCT_DCT) ≡ true
+chroma_type : (h : Header) (leaf : LeafValue) (o : Option TxType) → leaf.uv_type ≡ o → is_some o ≡ true → HasFittingTransforms h leaf →
+    is_transform (plane_tx_size h leaf.size leaf.tx_size 1) (unwrap_or o DCT_DCT) ≡ true
 chroma_type h leaf None e some fit = absurd (true≢false (sym some))
 chroma_type h leaf (Some t) e some fit = fit.chroma t e
 
 -- the type of a leaf's transforms in each plane that it covers is one that their size has
-type_fits : (h : Header) (k : Component) (leaf : LeafValue) → IsReadLeaf h leaf → covers k (carries_chroma h leaf.x leaf.y leaf.size) ≡ true → HasFittingTransforms h leaf → is_transform (plane_tx_size h leaf.size leaf.tx_size (number k)) (type_in k leaf) ≡ true
+type_fits : (h : Header) (k : Component) (leaf : LeafValue) → IsReadLeaf h leaf → covers k (carries_chroma h leaf.x leaf.y leaf.size) ≡ true →
+    HasFittingTransforms h leaf → is_transform (plane_tx_size h leaf.size leaf.tx_size (number k)) (type_in k leaf) ≡ true
 unfolding plane_tx_size
 type_fits h Y leaf read carried fit = fit.luma
 type_fits h U leaf read carried fit = chroma_type h leaf leaf.uv_type refl (read.uv_type ∙ carried) fit
-type_fits h V leaf read carried fit = ap (λ (t : TxSize). is_transform t (type_in V leaf)) (chroma_size h leaf.size leaf.tx_size) ∙ chroma_type h leaf leaf.uv_type refl (read.uv_type ∙ carried) fit
+type_fits h V leaf read carried fit = ap (λ (t : TxSize). is_transform t (type_in V leaf)) (chroma_size h leaf.size leaf.tx_size)
+    ∙ chroma_type h leaf leaf.uv_type refl (read.uv_type ∙ carried) fit
 
 smallest : (t : TxSize) → tx_number t ≡ 0 → t ≡ TX_4X4
 smallest TX_4X4 e = refl
@@ -152,7 +159,9 @@ transform_valid t type e =
 
 -- a mode that takes two references is not intra
 compound_inter : (mode : PredictionMode) → is_compound mode ≡ true → is_intra mode ≡ false
-compound_inter mode e = false_from_ne_true (is_intra mode) (λ intra. let high = leb-true 20 (mode_number mode) e in let low = ltb-true (mode_number mode) 14 intra in absurd (omega (arith, high, low)))
+compound_inter mode e =
+    false_from_ne_true (is_intra mode) (λ intra. let high = leb-true 20 (mode_number mode) e in let low = ltb-true (mode_number mode) 14 intra
+    in absurd (omega (arith, high, low)))
 
 -- an area of plane p whose sides are those of motion
 record HasMotionSides (h : Header) (p : ℕ) (area : PlaneArea) : Type 0 where
@@ -162,13 +171,15 @@ record HasMotionSides (h : Header) (p : ℕ) (area : PlaneArea) : Type 0 where
 reference_fits : (h : Header) (reference : RefType) → IsOtherFrame reference → HasPlanes h reference → ReferenceFits h reference
 reference_fits h reference other has = record { other = other; has = accepted h reference has }
 
-single_fits : (h : Header) (p : ℕ) (area : PlaneArea) (mode : PredictionMode) (reference : RefType) (mv : MotionVector) → HasMotionSides h p area → IsReadSingle mode reference mv → HasPlanes h reference → SingleFits h p area mode reference
+single_fits : (h : Header) (p : ℕ) (area : PlaneArea) (mode : PredictionMode) (reference : RefType) (mv : MotionVector) → HasMotionSides h p area →
+    IsReadSingle mode reference mv → HasPlanes h reference → SingleFits h p area mode reference
 single_fits h p area mode reference mv sides read has = record {
   motion = record { inter = read.inter; wide = sides.wide; high = sides.high };
   served = reference_fits h reference read.reference_read has;
 }
 
-compound_fits : (h : Header) (p : ℕ) (area : PlaneArea) (mode : PredictionMode) (references : List RefType) (mvs : List MotionVector) → HasMotionSides h p area → IsReadCompound mode references mvs → All (HasPlanes h) references → CompoundFits h p area mode references
+compound_fits : (h : Header) (p : ℕ) (area : PlaneArea) (mode : PredictionMode) (references : List RefType) (mvs : List MotionVector) →
+    HasMotionSides h p area → IsReadCompound mode references mvs → All (HasPlanes h) references → CompoundFits h p area mode references
 compound_fits h p area mode references mvs sides read has =
     let first : 0 < length references = omega (arith, read.two_references) in
     let second : 1 < length references = omega (arith, read.two_references) in
@@ -179,11 +190,16 @@ compound_fits h p area mode references mvs sides read has =
     }
 
 -- a leaf whose chroma may be predicted from its luma, and which may be predicted from references
-mode_fits : (h : Header) (filter : Option IntraEdgeFilterParameters) (k : Component) (area : PlaneArea) (carried : Bool) (size : BlockSize) (kind : LeafKind) → IsReadKind carried kind → HasValidModes size kind → HasValidReferences h kind → HasMotionSides h (number k) area
-    → (is_same Y k ≡ false → is_from_luma kind ≡ true → (alpha : ℤ) → unsigned_abs alpha ≤ 16 → FromLumaFits area alpha) → PredictionFits h (number k) area (prediction_in filter k kind)
-mode_fits h filter Y area carried size (Intra mode step chroma) read valid has sides luma = record { intra = read.intra; plain = valid.plain; few_steps = valid.step_valid.small }
-mode_fits h filter U area carried size (Intra mode step (Some (Plain uv_mode uv_step))) read valid has sides luma = record { intra = read.chroma_read.intra; plain = read.chroma_read.plain; few_steps = valid.chroma_valid.small }
-mode_fits h filter V area carried size (Intra mode step (Some (Plain uv_mode uv_step))) read valid has sides luma = record { intra = read.chroma_read.intra; plain = read.chroma_read.plain; few_steps = valid.chroma_valid.small }
+mode_fits : (h : Header) (filter : Option IntraEdgeFilterParameters) (k : Component) (area : PlaneArea) (carried : Bool) (size : BlockSize) (kind : LeafKind) →
+    IsReadKind carried kind → HasValidModes size kind → HasValidReferences h kind → HasMotionSides h (number k) area
+    → (is_same Y k ≡ false → is_from_luma kind ≡ true → (alpha : ℤ) → unsigned_abs alpha ≤ 16 → FromLumaFits area alpha) →
+    PredictionFits h (number k) area (prediction_in filter k kind)
+mode_fits h filter Y area carried size (Intra mode step chroma) read valid has sides luma =
+    record { intra = read.intra; plain = valid.plain; few_steps = valid.step_valid.small }
+mode_fits h filter U area carried size (Intra mode step (Some (Plain uv_mode uv_step))) read valid has sides luma =
+    record { intra = read.chroma_read.intra; plain = read.chroma_read.plain; few_steps = valid.chroma_valid.small }
+mode_fits h filter V area carried size (Intra mode step (Some (Plain uv_mode uv_step))) read valid has sides luma =
+    record { intra = read.chroma_read.intra; plain = read.chroma_read.plain; few_steps = valid.chroma_valid.small }
 mode_fits h filter U area carried size (Intra mode step (Some (Cfl alpha_u alpha_v))) read valid has sides luma = luma refl refl alpha_u valid.chroma_valid.u
 mode_fits h filter V area carried size (Intra mode step (Some (Cfl alpha_u alpha_v))) read valid has sides luma = luma refl refl alpha_v valid.chroma_valid.v
 mode_fits h filter U area carried size (Intra mode step None) read valid has sides luma = record { intra = refl; plain = refl; few_steps = omega arith }
@@ -215,7 +231,8 @@ begins h k leaf is =
       row = omega (arith, y, block_y h None k leaf frame is.read.grid is.valid);
     }
 
-weight_fits : (h : Header) (k : Component) (leaf : LeafValue) → IsSoundLeaf h leaf → is_same Y k ≡ false → is_from_luma leaf.kind ≡ true → (alpha : ℤ) → unsigned_abs alpha ≤ 16
+weight_fits : (h : Header) (k : Component) (leaf : LeafValue) → IsSoundLeaf h leaf → is_same Y k ≡ false → is_from_luma leaf.kind ≡ true → (alpha : ℤ) →
+    unsigned_abs alpha ≤ 16
     → FromLumaFits (plane_area h leaf.x leaf.y leaf.size leaf.tx_size (number k)) alpha
 weight_fits h Y leaf is chroma from alpha low = absurd cc
 weight_fits h U leaf is chroma from alpha low = from_luma_fits h leaf is.frame is.read.grid is.valid from 0 alpha low
@@ -227,16 +244,20 @@ side_within zero w n h short e = omega (arith, short, e)
 side_within (suc zero) w n h short e = omega (arith, short, e)
 side_within (suc (suc s)) w n h short e = absurd (omega arith)
 
-motion_sides : (h : Header) (k : Component) (leaf : LeafValue) → IsSoundLeaf h leaf → HasMotionSides h (number k) (plane_area h leaf.x leaf.y leaf.size leaf.tx_size (number k))
+motion_sides : (h : Header) (k : Component) (leaf : LeafValue) → IsSoundLeaf h leaf →
+    HasMotionSides h (number k) (plane_area h leaf.x leaf.y leaf.size leaf.tx_size (number k))
 motion_sides h k leaf is =
     let frame = whole_frame h is.frame in
     let n = number k in
     record {
-      wide = side_within (xdec h n) (block_width leaf.size) _ (halved_x h n) (omega (arith, is.read.grid.end_x)) (block_columns h None k leaf frame is.read.grid is.valid);
-      high = side_within (ydec h n) (block_height leaf.size) _ (low_ydec h n) (omega (arith, is.read.grid.end_y)) (block_rows h None k leaf frame is.read.grid is.valid);
+      wide = side_within (xdec h n) (block_width leaf.size) _ (halved_x h n) (omega (arith, is.read.grid.end_x))
+          (block_columns h None k leaf frame is.read.grid is.valid);
+      high = side_within (ydec h n) (block_height leaf.size) _ (low_ydec h n) (omega (arith, is.read.grid.end_y))
+          (block_rows h None k leaf frame is.read.grid is.valid);
     }
 
-block_fits : (h : Header) (k : Component) (cfg : PlaneConfig) (leaf : LeafValue) → covers k (carries_chroma h leaf.x leaf.y leaf.size) ≡ true → IsSoundLeaf h leaf → HasRoomIn h (number k) cfg
+block_fits : (h : Header) (k : Component) (cfg : PlaneConfig) (leaf : LeafValue) → covers k (carries_chroma h leaf.x leaf.y leaf.size) ≡ true →
+    IsSoundLeaf h leaf → HasRoomIn h (number k) cfg
     → (filter : Option IntraEdgeFilterParameters) → BlockFits cfg h (block_told h filter k leaf) (triples_in k leaf)
 block_fits h k cfg leaf covered is roomy filter =
     let frame = whole_frame h is.frame in
@@ -246,11 +267,16 @@ block_fits h k cfg leaf covered is roomy filter =
     let right = ends_across h n (leaf.x / 4) (block_width leaf.size / 4) is.frame some_columns stands.end_x in
     let low = ends_down h n (leaf.y / 4) (block_height leaf.size / 4) is.frame some_rows stands.end_y in
     let tx_size = block_tx_size h filter k leaf frame is.read.grid is.valid in
-    let (valid, lossless) = transform_valid (plane_tx_size h leaf.size leaf.tx_size n) (type_in k leaf) (type_fits h k leaf is.read covered (fitting_transforms h leaf is.valid)) in
+    let (valid, lossless) =
+    transform_valid (plane_tx_size h leaf.size leaf.tx_size n) (type_in k leaf) (type_fits h k leaf is.read covered (fitting_transforms h leaf is.valid)) in
     record {
-      columns = omega (arith, roomy.columns, right, block_x h filter k leaf frame is.read.grid is.valid, block_columns h filter k leaf frame is.read.grid is.valid);
+      columns =
+          omega (arith, roomy.columns, right, block_x h filter k leaf frame is.read.grid is.valid, block_columns h filter k leaf frame is.read.grid is.valid);
       rows = omega (arith, roomy.rows, low, block_y h filter k leaf frame is.read.grid is.valid, block_rows h filter k leaf frame is.read.grid is.valid);
-      prediction = mode_fits h filter k (plane_area h leaf.x leaf.y leaf.size leaf.tx_size n) (carries_chroma h leaf.x leaf.y leaf.size) leaf.size leaf.kind is.read.kind (valid_modes h leaf is.valid) (valid_references h leaf is.valid) (motion_sides h k leaf is) (weight_fits h k leaf is);
+      prediction =
+          mode_fits h filter k (plane_area h leaf.x leaf.y leaf.size leaf.tx_size n)
+          (carries_chroma h leaf.x leaf.y leaf.size) leaf.size leaf.kind is.read.kind (valid_modes h leaf is.valid) (valid_references h leaf is.valid)
+          (motion_sides h k leaf is) (weight_fits h k leaf is);
       transform = rw tx_size valid;
       lossless = λ e. tx_size ∙ lossless e;
       coefficients = triples_fit h filter leaf k (fitting_triples h leaf is.valid) covered;
@@ -278,5 +304,6 @@ sound_leaves plan spelled valid k d within = record {
   valid = valid_leaves plan valid k d within;
 }
 
-pub plan_fits : {T : Type 0} (plan : PlanValue) (planes : Planes T) → ∥ IsSpelled grammar plan ∥₁ → first_fault plan ≡ None → HasRoom plan.header planes → All (LeafFits plan.header planes) plan.leaves
+pub plan_fits : {T : Type 0} (plan : PlanValue) (planes : Planes T) → ∥ IsSpelled grammar plan ∥₁ → first_fault plan ≡ None → HasRoom plan.header planes →
+    All (LeafFits plan.header planes) plan.leaves
 plan_fits plan planes spelled valid roomy i d within = leaf_fits plan.header planes (get_or plan.leaves i d) (sound_leaves plan spelled valid i d within) roomy

@@ -1,5 +1,6 @@
 -- The leaves of a plan in memory, what the plan says of them, and what the record of cells tells of those before one.
-use Rattle.std.proofs.Common.{ℕ, ◌+◌, ◌-◌, ◌/◌, ◌<◌, ◌≡◌, take, All, Bool, true, false, List, [], ◌∷◌, ◌++◌, length, get_or, refl, ap, arith, ◌∙◌, sym, subst, if◌then◌else◌, slice_index_or, append_assoc, Option, Some, None}
+use Rattle.std.proofs.Common.{ℕ, ◌+◌, ◌-◌, ◌/◌, ◌<◌, ◌≡◌, take, All, Bool, true, false, List, [], ◌∷◌, ◌++◌, length, get_or, refl, ap, arith, ◌∙◌, sym, subst}
+use Rattle.std.proofs.Common.{if◌then◌else◌, slice_index_or, append_assoc, Option, Some, None}
 use Rattle.std.specs.Prelude.{nat_lt}
 use Rattle.std.specs.Option.{option_map, is_some}
 use Rattle.std.specs.List.{flat_map, fold}
@@ -29,18 +30,22 @@ use Rattle.av1_tile.specs.declared.planes.Planes.{Planes}
 use Rattle.av1_tile.specs.Canvas.{Component, Y, U, V}
 use Rattle.av1_tile.specs.PlaneBlocks.{number, coded_info, block_told, filter_parameters, neighbour_above, neighbour_left, plane_block, told_of, triples_in}
 use Rattle.av1_tile.specs.Steps.{PlaneStep, component_steps, steps_of, leaf_steps, steps_after, steps}
-use Rattle.av1_tile.specs.Walk.{Told, told_by, parameters_by, filter_by, block_by, leaf_steps_by, steps_by, with_leaf, with_leaves, Begins, BlockFits, LeafFits, LumaFits, SameLayout, leaf_with}
+use Rattle.av1_tile.specs.Walk.{Told, told_by, parameters_by, filter_by, block_by, leaf_steps_by, steps_by, with_leaf, with_leaves, Begins, BlockFits, LeafFits}
+use Rattle.av1_tile.specs.Walk.{LumaFits, SameLayout, leaf_with}
 use Rattle.av1_tile.proofs.UnitSteps.{covers, covers_is}
 
 -- ---- leaves in memory
 
 -- the triples of a leaf, looked up by its number
-pub triples_at : (p : PlanValue) (i : ℕ) (l : LeafValue) (k : Component) → i < length p.leaves → l ≡ get_or p.leaves i l → triples_of p i (number k) ≡ triples_in k l
+pub triples_at : (p : PlanValue) (i : ℕ) (l : LeafValue) (k : Component) → i < length p.leaves → l ≡ get_or p.leaves i l →
+    triples_of p i (number k) ≡ triples_in k l
 triples_at p i l k h e =
-    ap (λ (xs : List (List Triple)). slice_index_or xs (number k) []) (get_or-map (λ (m : LeafValue). m.triples) p.leaves i l [] h) ∙ ap (λ (m : LeafValue). triples_in k m) (sym e)
+    ap (λ (xs : List (List Triple)). slice_index_or xs (number k) []) (get_or-map (λ (m : LeafValue). m.triples) p.leaves i l [] h)
+    ∙ ap (λ (m : LeafValue). triples_in k m) (sym e)
 
 -- the leaf at a place, as the plan says it
-leaf_at : (ts : List Triple) (ls : List Leaf) (i : ℕ) (l : Leaf) → i < length ls → l ≡ get_or ls i l → leaf_value ts l ≡ get_or (leaf_values ts ls) i (leaf_value ts l)
+leaf_at : (ts : List Triple) (ls : List Leaf) (i : ℕ) (l : Leaf) → i < length ls → l ≡ get_or ls i l →
+    leaf_value ts l ≡ get_or (leaf_values ts ls) i (leaf_value ts l)
 unfolding leaf_values
 leaf_at ts ls i l h e = ap (leaf_value ts) e ∙ sym (get_or-map (leaf_value ts) ls i l (leaf_value ts l) h)
 
@@ -56,14 +61,16 @@ pub record IsLeafAt (plan : Plan) (i : ℕ) (l : Leaf) (y u v : List Triple) : T
   pub u_is : u ≡ triples_in U (leaf_value (stored_triples plan) l)
   pub v_is : v ≡ triples_in V (leaf_value (stored_triples plan) l)
 
-pub is_leaf_at : (plan : Plan) (i : ℕ) (xs : List Leaf) (d : Leaf) (y u v : List Triple) → xs ≡ stored_leaves plan → i < length xs → y ≡ triples_of (plan_value plan) i 0 → u ≡ triples_of (plan_value plan) i 1 → v ≡ triples_of (plan_value plan) i 2 → IsLeafAt plan i (get_or xs i d) y u v
+pub is_leaf_at : (plan : Plan) (i : ℕ) (xs : List Leaf) (d : Leaf) (y u v : List Triple) → xs ≡ stored_leaves plan → i < length xs →
+    y ≡ triples_of (plan_value plan) i 0 → u ≡ triples_of (plan_value plan) i 1 → v ≡ triples_of (plan_value plan) i 2 → IsLeafAt plan i (get_or xs i d) y u v
 is_leaf_at plan i xs d y u v are inside y_is u_is v_is =
     let ts = stored_triples plan in
     let ls = stored_leaves plan in
     let l = get_or xs i d in
     let short : i < length ls = subst (λ (ys : List Leaf). i < length ys) are inside in
     let within : i < length (plan_value plan).leaves = subst (λ (n : ℕ). i < n) (sym (length_leaves ts ls)) short in
-    let is : leaf_value ts l ≡ get_or (plan_value plan).leaves i (leaf_value ts l) = leaf_at ts ls i l short (ap (λ (ys : List Leaf). get_or ys i d) are ∙ get_or_default ls i d l short) in
+    let is : leaf_value ts l ≡ get_or (plan_value plan).leaves i (leaf_value ts l) =
+    leaf_at ts ls i l short (ap (λ (ys : List Leaf). get_or ys i d) are ∙ get_or_default ls i d l short) in
     record {
       inside = within;
       is = is;
@@ -73,10 +80,12 @@ is_leaf_at plan i xs d y u v are inside y_is u_is v_is =
     }
 
 with_same : (l : Leaf) (y u v a b c : List Triple) → y ≡ a → u ≡ b → v ≡ c → leaf_with l y u v ≡ leaf_with l a b c
-with_same l y u v a b c e f g = ap (λ (t : List Triple). leaf_with l t u v) e ∙ ap (λ (t : List Triple). leaf_with l a t v) f ∙ ap (λ (t : List Triple). leaf_with l a b t) g
+with_same l y u v a b c e f g = ap (λ (t : List Triple). leaf_with l t u v) e ∙ ap (λ (t : List Triple). leaf_with l a t v) f
+    ∙ ap (λ (t : List Triple). leaf_with l a b t) g
 
 -- the leaf as it was read, and as the plan says it
-pub read_is : (plan : Plan) (i : ℕ) (l : Leaf) (y u v : List Triple) → IsLeafAt plan i l y u v → let w = leaf_value (stored_triples plan) l in leaf_with l y u v ≡ leaf_with l (triples_in Y w) (triples_in U w) (triples_in V w)
+pub read_is : (plan : Plan) (i : ℕ) (l : Leaf) (y u v : List Triple) → IsLeafAt plan i l y u v → let w = leaf_value (stored_triples plan) l
+    in leaf_with l y u v ≡ leaf_with l (triples_in Y w) (triples_in U w) (triples_in V w)
 read_is plan i l y u v a = with_same l y u v _ _ _ a.y_is a.u_is a.v_is
 
 -- ---- a leaf's steps read no more of it
@@ -85,16 +94,21 @@ read_is plan i l y u v a = with_same l y u v _ _ _ a.y_is a.u_is a.v_is
 abbrev pub SameBlocks : Header → LeafValue → (f g : Component → PlaneBlock) → Type 0
 SameBlocks h leaf f g = (k : Component) → covers k (carries_chroma h leaf.x leaf.y leaf.size) ≡ true → f k ≡ g k
 
-same_in : (h : Header) (a b : LeafValue) (f g : Component → PlaneBlock) (k : Component) → f k ≡ g k → triples_in k a ≡ triples_in k b → component_steps h f a k ≡ component_steps h g b k
+same_in : (h : Header) (a b : LeafValue) (f g : Component → PlaneBlock) (k : Component) → f k ≡ g k → triples_in k a ≡ triples_in k b →
+    component_steps h f a k ≡ component_steps h g b k
 same_in h a b f g k e t = rw (e, t) refl
 
 -- two leaves at one place, of the same blocks and triples, have the same steps
-pub same_steps : (h : Header) (a b : LeafValue) (f g : Component → PlaneBlock) → carries_chroma h a.x a.y a.size ≡ carries_chroma h b.x b.y b.size → SameBlocks h a f g → ((k : Component) → triples_in k a ≡ triples_in k b) → steps_of h f a ≡ steps_of h g b
+pub same_steps : (h : Header) (a b : LeafValue) (f g : Component → PlaneBlock) → carries_chroma h a.x a.y a.size ≡ carries_chroma h b.x b.y b.size →
+    SameBlocks h a f g → ((k : Component) → triples_in k a ≡ triples_in k b) → steps_of h f a ≡ steps_of h g b
 unfolding steps_of
-same_steps h a b f g carried blocks triples = go (carries_chroma h a.x a.y a.size) refl ∙ ap (λ (t : Bool). flat_map (component_steps h g b) (if t then Y ∷ U ∷ V ∷ [] else Y ∷ [])) carried
+same_steps h a b f g carried blocks triples = go (carries_chroma h a.x a.y a.size) refl
+    ∙ ap (λ (t : Bool). flat_map (component_steps h g b) (if t then Y ∷ U ∷ V ∷ [] else Y ∷ [])) carried
   where
-    go : (t : Bool) → carries_chroma h a.x a.y a.size ≡ t → flat_map (component_steps h f a) (if t then Y ∷ U ∷ V ∷ [] else Y ∷ []) ≡ flat_map (component_steps h g b) (if t then Y ∷ U ∷ V ∷ [] else Y ∷ [])
-    go true e = rw (same_in h a b f g Y (blocks Y refl) (triples Y), same_in h a b f g U (blocks U e) (triples U), same_in h a b f g V (blocks V e) (triples V)) refl
+    go : (t : Bool) → carries_chroma h a.x a.y a.size ≡ t →
+        flat_map (component_steps h f a) (if t then Y ∷ U ∷ V ∷ [] else Y ∷ []) ≡ flat_map (component_steps h g b) (if t then Y ∷ U ∷ V ∷ [] else Y ∷ [])
+    go true e =
+        rw (same_in h a b f g Y (blocks Y refl) (triples Y), same_in h a b f g U (blocks U e) (triples U), same_in h a b f g V (blocks V e) (triples V)) refl
     go false e = rw (same_in h a b f g Y (blocks Y refl) (triples Y)) refl
 
 -- ---- what cells tell
@@ -107,34 +121,40 @@ tells_nothing : (h : Header) (told : Told) → TellsOf h told []
 tells_nothing h told cx cy hx hy l e = cc
 
 -- one more leaf
-tells_more : (h : Header) (told : Told) (earlier : List LeafValue) (leaf : LeafValue) → TellsOf h told earlier → TellsOf h (with_leaf told leaf) (earlier ++ leaf ∷ [])
+tells_more : (h : Header) (told : Told) (earlier : List LeafValue) (leaf : LeafValue) → TellsOf h told earlier →
+    TellsOf h (with_leaf told leaf) (earlier ++ leaf ∷ [])
 tells_more h told earlier leaf before cx cy hx hy l e =
-    go (leaf_holds leaf cx cy) (sym (fold_push (λ (shown : Option LeafValue) (m : LeafValue). if leaf_holds m cx cy then Some m else shown) None earlier leaf) ∙ e)
+    go (leaf_holds leaf cx cy) (sym (fold_push (λ (shown : Option LeafValue) (m : LeafValue). if leaf_holds m cx cy then Some m else shown) None earlier leaf)
+    ∙ e)
   where
     go : (t : Bool) → (if t then Some leaf else noted earlier cx cy) ≡ Some l → (if t then coded_info leaf.kind else told cx cy) ≡ coded_info l.kind
     go true e = ap (λ (m : LeafValue). coded_info m.kind) (same_Some _ _ e)
     go false e = before cx cy hx hy l e
 
-module _ (h : Header) (p : ℕ) (earlier : List LeafValue) (leaf : LeafValue) (later : List LeafValue) (is : IsCodedPlan h p (earlier ++ leaf ∷ later)) (covered : covers_plane h leaf.x leaf.y leaf.size p ≡ true)
+module _ (h : Header) (p : ℕ) (earlier : List LeafValue) (leaf : LeafValue) (later : List LeafValue) (is : IsCodedPlan h p (earlier ++ leaf ∷ later))
+    (covered : covers_plane h leaf.x leaf.y leaf.size p ≡ true)
     (told : Told) (tells : TellsOf h told earlier) where
   near : NeighboursAreNoted h p earlier leaf
   near = leaves_find_neighbours h p earlier leaf later is covered
 
   -- what is told of a place that one of the leaves holds
-  told_there : (x y : ℕ) → x < plane_width h p → y < plane_height h p → (o : Option LeafValue) → area_of h p earlier x y ≡ o → is_some o ≡ true → Some (told_by h told p x y) ≡ option_map (λ (l : LeafValue). coded_info l.kind) o
+  told_there : (x y : ℕ) → x < plane_width h p → y < plane_height h p → (o : Option LeafValue) → area_of h p earlier x y ≡ o → is_some o ≡ true →
+      Some (told_by h told p x y) ≡ option_map (λ (l : LeafValue). coded_info l.kind) o
   told_there x y hx hy None e some = absurd (true≢false (sym some))
   told_there x y hx hy (Some l) e some =
       let (column, row) = last_cells_lie_inside h p is.frame x y hx hy in
       ap Some (tells (last_cell (xdec h p) x) (last_cell (ydec h p) y) column row l (near.shown x y hx hy ∙ e))
 
-  module _ (begins_x : (plane_area h leaf.x leaf.y leaf.size leaf.tx_size p).x < plane_width h p) (begins_y : (plane_area h leaf.x leaf.y leaf.size leaf.tx_size p).y < plane_height h p) where
+  module _ (begins_x : (plane_area h leaf.x leaf.y leaf.size leaf.tx_size p).x < plane_width h p)
+      (begins_y : (plane_area h leaf.x leaf.y leaf.size leaf.tx_size p).y < plane_height h p) where
     abbrev own : PlaneArea
     own = plane_area h leaf.x leaf.y leaf.size leaf.tx_size p
 
     above_told : (if nat_lt 0 own.y then Some (told_by h told p own.x (own.y - 1)) else None) ≡ neighbour_above h p earlier own
     above_told = go (nat_lt 0 own.y) refl
       where
-        go : (t : Bool) → nat_lt 0 own.y ≡ t → (if t then Some (told_by h told p own.x (own.y - 1)) else None) ≡ (if t then told_of h p earlier own.x (own.y - 1) else None)
+        go : (t : Bool) → nat_lt 0 own.y ≡ t →
+            (if t then Some (told_by h told p own.x (own.y - 1)) else None) ≡ (if t then told_of h p earlier own.x (own.y - 1) else None)
         go true e =
             let some = ltb-true 0 own.y e in
             told_there own.x (own.y - 1) begins_x (omega (arith, begins_y)) (area_of h p earlier own.x (own.y - 1)) refl (near.above some)
@@ -143,7 +163,8 @@ module _ (h : Header) (p : ℕ) (earlier : List LeafValue) (leaf : LeafValue) (l
     left_told : (if nat_lt 0 own.x then Some (told_by h told p (own.x - 1) own.y) else None) ≡ neighbour_left h p earlier own
     left_told = go (nat_lt 0 own.x) refl
       where
-        go : (t : Bool) → nat_lt 0 own.x ≡ t → (if t then Some (told_by h told p (own.x - 1) own.y) else None) ≡ (if t then told_of h p earlier (own.x - 1) own.y else None)
+        go : (t : Bool) → nat_lt 0 own.x ≡ t →
+            (if t then Some (told_by h told p (own.x - 1) own.y) else None) ≡ (if t then told_of h p earlier (own.x - 1) own.y else None)
         go true e =
             let some = ltb-true 0 own.x e in
             told_there (own.x - 1) own.y (omega (arith, begins_x)) begins_y (area_of h p earlier (own.x - 1) own.y) refl (near.beside some)
@@ -151,32 +172,43 @@ module _ (h : Header) (p : ℕ) (earlier : List LeafValue) (leaf : LeafValue) (l
 
     -- what the edge filter is told by cells is what the leaves before say
     parameters_told : parameters_by h told p own ≡ filter_parameters h p (neighbour_above h p earlier own) (neighbour_left h p earlier own)
-    parameters_told = ap (λ (o : Option CodedBlockInfo). filter_parameters h p o (if nat_lt 0 own.x then Some (told_by h told p (own.x - 1) own.y) else None)) above_told ∙ ap (λ (o : Option CodedBlockInfo). filter_parameters h p (neighbour_above h p earlier own) o) left_told
+    parameters_told =
+        ap (λ (o : Option CodedBlockInfo). filter_parameters h p o (if nat_lt 0 own.x then Some (told_by h told p (own.x - 1) own.y) else None)) above_told
+        ∙ ap (λ (o : Option CodedBlockInfo). filter_parameters h p (neighbour_above h p earlier own) o) left_told
 
 -- a leaf's steps by cells are its steps behind the leaves before it
-leaf_told : (h : Header) (earlier : List LeafValue) (leaf : LeafValue) (later : List LeafValue) (told : Told) → ((k : Component) → IsCodedPlan h (number k) (earlier ++ leaf ∷ later))
-    → ((k : Component) → covers k (carries_chroma h leaf.x leaf.y leaf.size) ≡ true → Begins h k leaf) → TellsOf h told earlier → leaf_steps_by h told leaf ≡ leaf_steps h earlier leaf
+leaf_told : (h : Header) (earlier : List LeafValue) (leaf : LeafValue) (later : List LeafValue) (told : Told) →
+    ((k : Component) → IsCodedPlan h (number k) (earlier ++ leaf ∷ later))
+    → ((k : Component) → covers k (carries_chroma h leaf.x leaf.y leaf.size) ≡ true → Begins h k leaf) → TellsOf h told earlier →
+    leaf_steps_by h told leaf ≡ leaf_steps h earlier leaf
 leaf_told h earlier leaf later told is begins tells =
     same_steps h leaf leaf (λ k. block_by h told k leaf) (λ k. plane_block h earlier k leaf) refl
-    (λ k e. ap (λ (f : Option IntraEdgeFilterParameters). block_told h f k leaf) (parameters_told h (number k) earlier leaf later (is k) (covers_is h k leaf ∙ e) told tells (begins k e).column (begins k e).row))
+    (λ k e. ap (λ (f : Option IntraEdgeFilterParameters). block_told h f k leaf)
+    (parameters_told h (number k) earlier leaf later (is k) (covers_is h k leaf ∙ e) told tells (begins k e).column (begins k e).row))
     (λ k. refl)
 
 -- so the steps of all leaves are the same, whatever was told at first
-module _ (h : Header) (leaves : List LeafValue) (is : (k : Component) → IsCodedPlan h (number k) leaves) (begins : All (λ (l : LeafValue). (k : Component) → covers k (carries_chroma h l.x l.y l.size) ≡ true → Begins h k l) leaves) where
-  rest_told : (earlier later : List LeafValue) (told : Told) → earlier ++ later ≡ leaves → TellsOf h told earlier → steps_by h told later ≡ steps_after h earlier later
+module _ (h : Header) (leaves : List LeafValue) (is : (k : Component) → IsCodedPlan h (number k) leaves)
+    (begins : All (λ (l : LeafValue). (k : Component) → covers k (carries_chroma h l.x l.y l.size) ≡ true → Begins h k l) leaves) where
+  rest_told : (earlier later : List LeafValue) (told : Told) → earlier ++ later ≡ leaves → TellsOf h told earlier →
+      steps_by h told later ≡ steps_after h earlier later
   rest_told earlier [] told cut tells = refl
   rest_told earlier (leaf ∷ later) told cut tells =
       let own = leaf_told h earlier leaf later told (λ k. subst (IsCodedPlan h (number k)) (sym cut) (is k))
-      (at_cut (λ l. (k : Component) → covers k (carries_chroma h l.x l.y l.size) ≡ true → Begins h k l) earlier leaf later (subst (All (λ (l : LeafValue). (k : Component) → covers k (carries_chroma h l.x l.y l.size) ≡ true → Begins h k l)) (sym cut) begins)) tells in
+      (at_cut (λ l. (k : Component) → covers k (carries_chroma h l.x l.y l.size) ≡ true →
+      Begins h k l) earlier leaf later
+      (subst (All (λ (l : LeafValue). (k : Component) → covers k (carries_chroma h l.x l.y l.size) ≡ true → Begins h k l)) (sym cut) begins)) tells in
       ap (λ (ss : List PlaneStep). ss ++ steps_by h (with_leaf told leaf) later) own
-      ∙ ap (λ (ss : List PlaneStep). leaf_steps h earlier leaf ++ ss) (rest_told (earlier ++ leaf ∷ []) later (with_leaf told leaf) (append_assoc earlier (leaf ∷ []) later ∙ cut) (tells_more h told earlier leaf tells))
+      ∙ ap (λ (ss : List PlaneStep). leaf_steps h earlier leaf ++ ss)
+      (rest_told (earlier ++ leaf ∷ []) later (with_leaf told leaf) (append_assoc earlier (leaf ∷ []) later ∙ cut) (tells_more h told earlier leaf tells))
 
   pub steps_told : (told : Told) → steps_by h told leaves ≡ steps h leaves
   steps_told told = rest_told [] leaves told refl (tells_nothing h told)
 
 -- ---- one more leaf of a loop
 
-steps_by_more : (h : Header) (told : Told) (xs : List LeafValue) (l : LeafValue) → steps_by h told (xs ++ l ∷ []) ≡ steps_by h told xs ++ leaf_steps_by h (with_leaves told xs) l
+steps_by_more : (h : Header) (told : Told) (xs : List LeafValue) (l : LeafValue) →
+    steps_by h told (xs ++ l ∷ []) ≡ steps_by h told xs ++ leaf_steps_by h (with_leaves told xs) l
 steps_by_more h told [] l = append-nil (leaf_steps_by h told l)
 steps_by_more h told (x ∷ xs) l =
     ap (λ (ss : List PlaneStep). leaf_steps_by h told x ++ ss) (steps_by_more h (with_leaf told x) xs l)
@@ -186,10 +218,13 @@ steps_by_more h told (x ∷ xs) l =
 abbrev pub TellSame : Header → (f g : Told) → Type 0
 TellSame h f g = (cx cy : ℕ) → cx < h.width / 4 → cy < h.height / 4 → f cx cy ≡ g cx cy
 
-told_same : (h : Header) (p x y : ℕ) (f g : Told) → IsWholeFrame h → TellSame h f g → x < plane_width h p → y < plane_height h p → told_by h f p x y ≡ told_by h g p x y
-told_same h p x y f g frame same hx hy = let (column, row) = last_cells_lie_inside h p frame x y hx hy in same (last_cell (xdec h p) x) (last_cell (ydec h p) y) column row
+told_same : (h : Header) (p x y : ℕ) (f g : Told) → IsWholeFrame h → TellSame h f g → x < plane_width h p → y < plane_height h p →
+    told_by h f p x y ≡ told_by h g p x y
+told_same h p x y f g frame same hx hy = let (column, row) = last_cells_lie_inside h p frame x y hx hy
+    in same (last_cell (xdec h p) x) (last_cell (ydec h p) y) column row
 
-parameters_same : (h : Header) (p : ℕ) (a : PlaneArea) (f g : Told) → IsWholeFrame h → TellSame h f g → a.x < plane_width h p → a.y < plane_height h p → parameters_by h f p a ≡ parameters_by h g p a
+parameters_same : (h : Header) (p : ℕ) (a : PlaneArea) (f g : Told) → IsWholeFrame h → TellSame h f g → a.x < plane_width h p → a.y < plane_height h p →
+    parameters_by h f p a ≡ parameters_by h g p a
 parameters_same h p a f g frame same hx hy =
     ap (λ (o : Option CodedBlockInfo). filter_parameters h p o (if nat_lt 0 a.x then Some (told_by h f p (a.x - 1) a.y) else None)) (above (nat_lt 0 a.y))
     ∙ ap (λ (o : Option CodedBlockInfo). filter_parameters h p (if nat_lt 0 a.y then Some (told_by h g p a.x (a.y - 1)) else None) o) (left (nat_lt 0 a.x))
@@ -203,7 +238,8 @@ parameters_same h p a f g frame same hx hy =
     left false = refl
 
 -- a leaf's blocks don't look at its triples
-same_block : (h : Header) (filter : Option IntraEdgeFilterParameters) (k : Component) (ts : List Triple) (l : Leaf) (y u v : List Triple) → block_told h filter k (leaf_with l y u v) ≡ block_told h filter k (leaf_value ts l)
+same_block : (h : Header) (filter : Option IntraEdgeFilterParameters) (k : Component) (ts : List Triple) (l : Leaf) (y u v : List Triple) →
+    block_told h filter k (leaf_with l y u v) ≡ block_told h filter k (leaf_value ts l)
 same_block h filter Y ts l y u v = refl
 same_block h filter U ts l y u v = refl
 same_block h filter V ts l y u v = refl
@@ -216,7 +252,8 @@ leaf_read plan h i l y u v f g a frame begins same =
     let w = leaf_value (stored_triples plan) l in
     same_steps h (leaf_with l y u v) w (λ k. block_by h f k (leaf_with l y u v)) (λ k. block_by h g k w) refl
     (λ k e. same_block h (filter_by h f k (leaf_with l y u v)) k (stored_triples plan) l y u v
-    ∙ ap (λ (z : Option IntraEdgeFilterParameters). block_told h z k w) (parameters_same h (number k) (plane_area h l.x l.y l.size l.tx_size (number k)) f g frame same (begins k e).column (begins k e).row))
+    ∙ ap (λ (z : Option IntraEdgeFilterParameters). block_told h z k w)
+    (parameters_same h (number k) (plane_area h l.x l.y l.size l.tx_size (number k)) f g frame same (begins k e).column (begins k e).row))
     own
   where
     own : (k : Component) → triples_in k (leaf_with l y u v) ≡ triples_in k (leaf_value (stored_triples plan) l)
@@ -225,7 +262,8 @@ leaf_read plan h i l y u v f g a frame begins same =
     own V = a.v_is
 
 -- what is reconstructed with one more leaf
-pub leaf_more : {S : Type 0} (step : S → PlaneStep → S) (plan : Plan) (h : Header) (i : ℕ) (w : LeafValue) (told : Told) (p q r : S) → i < length (plan_value plan).leaves → w ≡ get_or (plan_value plan).leaves i w
+pub leaf_more : {S : Type 0} (step : S → PlaneStep → S) (plan : Plan) (h : Header) (i : ℕ) (w : LeafValue) (told : Told) (p q r : S) →
+    i < length (plan_value plan).leaves → w ≡ get_or (plan_value plan).leaves i w
     → q ≡ fold step p (steps_by h told (take i (plan_value plan).leaves))
     → r ≡ fold step q (leaf_steps_by h (with_leaves told (take i (plan_value plan).leaves)) w)
     → r ≡ fold step p (steps_by h told (take (i + 1) (plan_value plan).leaves))
@@ -237,15 +275,18 @@ leaf_more step plan h i w told p q r inside is before own =
     ∙ sym (fold-append step p (steps_by h told (take i xs)) (leaf_steps_by h (with_leaves told (take i xs)) w)) ∙ ap (fold step p) (sym next)
 
 -- what is told once leaf i is noted
-pub told_more : (plan : Plan) (h : Header) (i : ℕ) (l : Leaf) (told : Told) (old new : Told) → i < length (plan_value plan).leaves → leaf_value (stored_triples plan) l ≡ get_or (plan_value plan).leaves i (leaf_value (stored_triples plan) l)
+pub told_more : (plan : Plan) (h : Header) (i : ℕ) (l : Leaf) (told : Told) (old new : Told) → i < length (plan_value plan).leaves →
+    leaf_value (stored_triples plan) l ≡ get_or (plan_value plan).leaves i (leaf_value (stored_triples plan) l)
     → TellSame h old (with_leaves told (take i (plan_value plan).leaves)) → TellSame h new (with_leaf old (leaf_with l [] [] []))
     → TellSame h new (with_leaves told (take (i + 1) (plan_value plan).leaves))
 told_more plan h i l told old new inside is before own cx cy hx hy =
     let xs = (plan_value plan).leaves in
     let w = leaf_value (stored_triples plan) l in
     let next : with_leaves told (take (i + 1) xs) ≡ with_leaf (with_leaves told (take i xs)) w =
-    ap (λ (ms : List LeafValue). fold with_leaf told ms) (take_more xs i w inside ∙ ap (λ (m : LeafValue). take i xs ++ m ∷ []) (sym is)) ∙ fold_push with_leaf told (take i xs) w in
-    own cx cy hx hy ∙ ap (λ (z : CodedBlockInfo). if leaf_holds w cx cy then coded_info l.kind else z) (before cx cy hx hy) ∙ sym (ap (λ (t : Told). t cx cy) next)
+    ap (λ (ms : List LeafValue). fold with_leaf told ms) (take_more xs i w inside ∙ ap (λ (m : LeafValue). take i xs ++ m ∷ []) (sym is))
+    ∙ fold_push with_leaf told (take i xs) w in
+    own cx cy hx hy ∙ ap (λ (z : CodedBlockInfo). if leaf_holds w cx cy then coded_info l.kind else z) (before cx cy hx hy)
+    ∙ sym (ap (λ (t : Told). t cx cy) next)
 
 -- ---- a leaf that fits
 
@@ -262,21 +303,32 @@ fits_kept h p q l same f = record {
 }
 
 -- with its triples in a list of three
-fits_listed : {T : Type 0} (h : Header) (p : Planes T) (ts : List Triple) (l : Leaf) → LeafFits h p (leaf_value ts l) → let w = leaf_value ts l in LeafFits h p (leaf_with l (triples_in Y w) (triples_in U w) (triples_in V w))
+fits_listed : {T : Type 0} (h : Header) (p : Planes T) (ts : List Triple) (l : Leaf) → LeafFits h p (leaf_value ts l) → let w = leaf_value ts l
+    in LeafFits h p (leaf_with l (triples_in Y w) (triples_in U w) (triples_in V w))
 fits_listed h p ts l f = record {
   begins_y = record { column = f.begins_y.column; row = f.begins_y.row };
   begins_u = λ carried. record { column = (f.begins_u carried).column; row = (f.begins_u carried).row };
   begins_v = λ carried. record { column = (f.begins_v carried).column; row = (f.begins_v carried).row };
   luma = λ carried from.
       let own = f.luma carried from in
-      record { narrow = own.narrow; low = own.low; width = own.width; height = own.height; few = own.few; columns = own.columns; rows = own.rows; depth = own.depth };
+      record {
+        narrow = own.narrow;
+        low = own.low;
+        width = own.width;
+        height = own.height;
+        few = own.few;
+        columns = own.columns;
+        rows = own.rows;
+        depth = own.depth;
+      };
   y = f.y;
   u = f.u;
   v = f.v;
 }
 
 -- leaf i fits as it was read
-pub turn_fits : {T : Type 0} (plan : Plan) (h : Header) (i : ℕ) (l : Leaf) (y u v : List Triple) (p q : Planes T) → IsLeafAt plan i l y u v → SameLayout p q → All (LeafFits h p) (plan_value plan).leaves
+pub turn_fits : {T : Type 0} (plan : Plan) (h : Header) (i : ℕ) (l : Leaf) (y u v : List Triple) (p q : Planes T) → IsLeafAt plan i l y u v → SameLayout p q →
+    All (LeafFits h p) (plan_value plan).leaves
     → LeafFits h q (leaf_with l y u v)
 turn_fits plan h i l y u v p q a same fits =
     let ts = stored_triples plan in
@@ -285,14 +337,16 @@ turn_fits plan h i l y u v p q a same fits =
     subst (λ (m : LeafValue). LeafFits h q m) (sym (read_is plan i l y u v a)) (fits_listed h q ts l own)
 
 -- and begins in the planes that it covers
-pub turn_begins : {T : Type 0} (plan : Plan) (h : Header) (i : ℕ) (l : Leaf) (y u v : List Triple) (p : Planes T) → IsLeafAt plan i l y u v → All (LeafFits h p) (plan_value plan).leaves
+pub turn_begins : {T : Type 0} (plan : Plan) (h : Header) (i : ℕ) (l : Leaf) (y u v : List Triple) (p : Planes T) → IsLeafAt plan i l y u v →
+    All (LeafFits h p) (plan_value plan).leaves
     → (k : Component) → covers k (carries_chroma h l.x l.y l.size) ≡ true → Begins h k (leaf_value (stored_triples plan) l)
 turn_begins plan h i l y u v p a fits k =
     let w = leaf_value (stored_triples plan) l in
     let own : LeafFits h p w = subst (λ (m : LeafValue). LeafFits h p m) (sym a.is) (fits i w a.inside) in
     go own k
   where
-    go : LeafFits h p (leaf_value (stored_triples plan) l) → (c : Component) → covers c (carries_chroma h l.x l.y l.size) ≡ true → Begins h c (leaf_value (stored_triples plan) l)
+    go : LeafFits h p (leaf_value (stored_triples plan) l) → (c : Component) → covers c (carries_chroma h l.x l.y l.size) ≡ true →
+        Begins h c (leaf_value (stored_triples plan) l)
     go own Y e = own.begins_y
     go own U e = own.begins_u e
     go own V e = own.begins_v e

@@ -13,12 +13,14 @@ use Rattle.av1_references.specs.References.{HoldsReferences, ServesPlan}
 use Rattle.av1_references.proofs.Served.{holds_serves}
 use Rattle.av1_tile.specs.declared.planes.Planes.{Planes}
 use Rattle.av1_tile.specs.Memory.{HasRoomFor, IsPlanOver, ShowsPlan, WalkRoom}
-use Rattle.av1_tile.specs.State.{MadeFor, Picture, edges_of}
+use Rattle.av1_tile.specs.State.{MadeFor, Picture, edges_of, with_settings}
 use Rattle.av1_tile.specs.Walk.{HasRoom, LeafFits, StoresAll, Told, edges_after, fast_step, steps_by, with_header}
+use Rattle.av1_tile.proofs.Layouts.{alike_same}
 use Rattle.av1_tile.proofs.Pictures.{plan_counts, plan_shows}
 use Rattle.av1_tile.proofs.PlanFits.{plan_fits}
 
-module _ {T : Type 0} (num : T → ℕ) (h : Header) (leaves : List LeafValue) (fi : FrameInvariants T) (plan : PlanValue) (is : IsPlanOver num h leaves fi plan) where
+module _ {T : Type 0} (num : T → ℕ) (h : Header) (leaves : List LeafValue) (fi : FrameInvariants T) (plan : PlanValue)
+    (is : IsPlanOver num h leaves fi plan) where
   -- its frame was read
   pub over_frame : IsReadFrame h
   over_frame = subst IsReadFrame is.header (kept_frame plan is.spelled)
@@ -34,32 +36,62 @@ module _ {T : Type 0} (num : T → ℕ) (h : Header) (leaves : List LeafValue) (
       subst (λ (ls : List LeafValue). All (LeafFits h planes) ls) is.leaves (subst (λ (k : Header). All (LeafFits k planes) plan.leaves) is.header own)
 
   -- planes that have gone through the steps of its leaves show what it comes to
-  pub over_shows : (pixel : ℕ → T) (law : (v : ℕ) → num (pixel v) ≡ v) (back : (x : T) → pixel (num x) ≡ x) (p q : Planes T) (told : Told) → StoresAll num h p → HasRoom h p → StoresAll num h q
+  pub over_shows : (pixel : ℕ → T) (law : (v : ℕ) → num (pixel v) ≡ v) (back : (x : T) → pixel (num x) ≡ x) (p q : Planes T) (told : Told) → StoresAll num h p →
+      HasRoom h p → StoresAll num h q
       → q ≡ fold (fast_step num pixel (with_header h plan)) p (steps_by h told leaves) → ShowsPlan num plan q
   over_shows pixel law back p q told stores room after walked =
       let own : q ≡ fold (fast_step num pixel plan) p (steps_by plan.header told plan.leaves) =
       subst (λ (ls : List LeafValue). q ≡ fold (fast_step num pixel plan) p (steps_by plan.header told ls)) (sym is.leaves)
       (subst (λ (k : Header). q ≡ fold (fast_step num pixel (with_header k plan)) p (steps_by k told leaves)) (sym is.header) walked) in
-      plan_shows plan is.spelled is.valid num pixel law back p q told (subst (λ (k : Header). StoresAll num k p) (sym is.header) stores) (subst (λ (k : Header). HasRoom k p) (sym is.header) room)
+      plan_shows plan is.spelled is.valid num pixel law back p q told (subst (λ (k : Header). StoresAll num k p) (sym is.header) stores)
+      (subst (λ (k : Header). HasRoom k p) (sym is.header) room)
       (subst (λ (k : Header). StoresAll num k q) (sym is.header) after) own
 
   -- and their edges are counted
   pub over_counts : (count after : ℕ) (told : Told) → after ≡ fold edges_after count (steps_by h told leaves) → after ≡ edges_of count plan
   over_counts count after told counted =
       plan_counts plan is.spelled is.valid count after told
-      (counted ∙ ap (λ (k : Header). fold edges_after count (steps_by k told leaves)) (sym is.header) ∙ ap (λ (ls : List LeafValue). fold edges_after count (steps_by plan.header told ls)) (sym is.leaves))
+      (counted ∙ ap (λ (k : Header). fold edges_after count (steps_by k told leaves)) (sym is.header)
+      ∙ ap (λ (ls : List LeafValue). fold edges_after count (steps_by plan.header told ls)) (sym is.leaves))
 
 -- a plan in memory, whose references frame settings hold
-pub read_over : {T : Type 0} (num : T → ℕ) (plan : Plan) (h : Header) (fi : FrameInvariants T) → h ≡ (plan_value plan).header → first_fault (plan_value plan) ≡ None → HoldsReferences num (plan_value plan) fi
+pub read_over : {T : Type 0} (num : T → ℕ) (plan : Plan) (h : Header) (fi : FrameInvariants T) → h ≡ (plan_value plan).header →
+    first_fault (plan_value plan) ≡ None → HoldsReferences num (plan_value plan) fi
     → IsPlanOver num h (plan_value plan).leaves fi (plan_value plan)
-read_over num plan h fi same valid holds = record { spelled = plan.spelled; valid = valid; header = sym same; leaves = refl; references = holds_serves num (plan_value plan) fi holds }
+read_over num plan h fi same valid holds =
+    record { spelled = plan.spelled; valid = valid; header = sym same; leaves = refl; references = holds_serves num (plan_value plan) fi holds }
 
--- or a state that was made for it
-pub made_over : {T : Type 0} (num : T → ℕ) (plan : Plan) (s : Picture T) (h : Header) (fi : FrameInvariants T) (planes : Planes T) (edges : ℕ) → record { header = h; references = fi; planes = planes; edges = edges } ≡ s
-    → first_fault (plan_value plan) ≡ None → MadeFor num (plan_value plan) s → IsPlanOver num h (plan_value plan).leaves fi (plan_value plan)
-made_over num plan s h fi planes edges is valid made =
-    let own : MadeFor num (plan_value plan) (record { header = h; references = fi; planes = planes; edges = edges }) = subst (MadeFor num (plan_value plan)) (sym is) made in
-    read_over num plan h fi own.header valid own.references
+-- or a state with its header
+pub state_over : {T : Type 0} (num : T → ℕ) (plan : Plan) (s : Picture T) (h : Header) (fi : FrameInvariants T) (planes : Planes T) (edges : ℕ)
+    → record { header = h; references = fi; planes = planes; edges = edges } ≡ s → first_fault (plan_value plan) ≡ None
+    → s.header ≡ (plan_value plan).header → HoldsReferences num (plan_value plan) s.references → IsPlanOver num h (plan_value plan).leaves fi (plan_value plan)
+state_over num plan s h fi planes edges is valid same holds =
+    read_over num plan h fi (ap (λ (r : Picture _). r.header) is ∙ same) valid
+    (subst (λ (r : Picture _). HoldsReferences num (plan_value plan) r.references) (sym is) holds)
+
+-- ---- states that were made for a plan
+
+module _ {T : Type 0} (num : T → ℕ) (plan : PlanValue) where
+  -- settings that hold a plan's references predict as its header says
+  own_settings : (fi : FrameInvariants T) → HoldsReferences num plan fi → HoldsReferences num plan (with_settings plan.header fi)
+  own_settings fi holds =
+      let own = holds.settings in
+      record {
+        settings = record { columns = own.columns; rows = own.rows; depth = own.depth; filter = refl; edge_filter = refl; slots = refl };
+        depth = holds.depth;
+        filled = holds.filled;
+        planes = holds.planes;
+      }
+
+  -- a state with a plan's header and its references was made for it
+  pub made_with : (s : Picture T) → s.header ≡ plan.header → HoldsReferences num plan s.references → MadeFor num plan s
+  made_with s same holds = record { layout = alike_same s.header plan.header same; references = own_settings s.references holds }
+
+  -- one that follows the header of a plan that it was made for holds the plan's references
+  pub followed_holds : (h : Header) (s r : Picture T) → h ≡ plan.header → r.references ≡ with_settings h s.references → MadeFor num plan s
+      → HoldsReferences num plan r.references
+  followed_holds h s r same settings made =
+      subst (HoldsReferences num plan) (sym (settings ∙ ap (λ (k : Header). with_settings k s.references) same)) made.references
 
 -- ---- room
 

@@ -28,32 +28,56 @@ use Rattle.av1_tile.specs.Walk.{fast_in, placed_edge}
 no_luma_is : (w : ℕ) → ac_at w [] ≡ no_luma
 no_luma_is w = fun_ext (λ r. fun_ext (λ c. ac_at_nil w r c))
 
-module _ {T : Type 0} (num : T → ℕ) (pixel : ℕ → T) (plan : PlanValue) (h : Header) (is : h ≡ plan.header) (luma : PlaneBlock → ℕ → ℕ → ℤ) (block : PlaneBlock) (n : ℕ) (a : VisibleArea) (plane after : Plane T) where
+module _ {T : Type 0} (num : T → ℕ) (pixel : ℕ → T) (plan : PlanValue) (h : Header) (is : h ≡ plan.header) (luma : PlaneBlock → ℕ → ℕ → ℤ) (block : PlaneBlock)
+    (n : ℕ) (a : VisibleArea) (plane after : Plane T) where
   -- a transform block that is predicted from its edge is its own prediction
-  own_is : is_whole block.prediction ≡ false → fast_in num pixel plan block.plane luma plane (predict block n a) ≡ fold (fast_in num pixel plan block.plane luma) plane (own_prediction block n a)
+  own_is : is_whole block.prediction ≡ false →
+      fast_in num pixel plan block.plane luma plane (predict block n a) ≡ fold (fast_in num pixel plan block.plane luma) plane (own_prediction block n a)
   own_is e = ap (λ (b : Bool). fold (fast_in num pixel plan block.plane luma) plane (if b then [] else predict block n a ∷ [])) (sym e)
 
-  pub walked_intra : (mode : PredictionMode) (step turn : ℤ) (filter : Option IntraEdgeFilterParameters) (w : ℕ) → block.prediction ≡ predictions.Intra mode step filter → turn ≡ step
-      → after ≡ painted_plane plane a (λ r c _. pixel (by_mode (extent_of h block.plane) filter mode (AngleDelta turn) a (placed_edge h block.plane block n a num plane) (ac_at w []) r c))
+  pub walked_intra : (mode : PredictionMode) (step turn : ℤ) (filter : Option IntraEdgeFilterParameters) (w : ℕ) →
+      block.prediction ≡ predictions.Intra mode step filter → turn ≡ step
+      → after ≡
+      painted_plane plane a
+      (λ r c _. pixel (by_mode (extent_of h block.plane) filter mode (AngleDelta turn) a (placed_edge h block.plane block n a num plane) (ac_at w []) r c))
       → after ≡ fold (fast_in num pixel plan block.plane luma) plane (own_prediction block n a)
   unfolding fast_in by_prediction
   walked_intra mode step turn filter w e same painted =
       painted
-      ∙ ap (λ (k : Header). painted_plane plane a (λ r c _. pixel (by_mode (extent_of k block.plane) filter mode (AngleDelta turn) a (placed_edge k block.plane block n a num plane) (ac_at w []) r c))) is
-      ∙ ap (λ (z : ℤ). painted_plane plane a (λ r c _. pixel (by_mode (extent_of plan.header block.plane) filter mode (AngleDelta z) a (placed_edge plan.header block.plane block n a num plane) (ac_at w []) r c))) same
-      ∙ ap (λ (f : ℕ → ℕ → ℤ). painted_plane plane a (λ r c _. pixel (by_mode (extent_of plan.header block.plane) filter mode (AngleDelta step) a (placed_edge plan.header block.plane block n a num plane) f r c))) (no_luma_is w)
-      ∙ ap (λ (of : Prediction). painted_plane plane a (λ r c _. pixel (by_prediction plan block.plane of a (placed_edge plan.header block.plane block n a num plane) (luma block) r c))) (sym e)
+      ∙ ap (λ (k : Header). painted_plane plane a
+      (λ r c _.
+      pixel (by_mode (extent_of k block.plane) filter mode (AngleDelta turn) a (placed_edge k block.plane block n a num plane) (ac_at w []) r c))) is
+      ∙ ap (λ (z : ℤ). painted_plane plane a
+      (λ r c _.
+      pixel (by_mode (extent_of plan.header block.plane) filter mode (AngleDelta z) a (placed_edge plan.header block.plane block n a num plane)
+      (ac_at w []) r c))) same
+      ∙ ap (λ (f : ℕ → ℕ →
+      ℤ). painted_plane plane a
+      (λ r c _.
+      pixel (by_mode (extent_of plan.header block.plane) filter mode (AngleDelta step) a (placed_edge plan.header block.plane block n a num plane) f r
+      c))) (no_luma_is w)
+      ∙ ap (λ (of : Prediction). painted_plane plane a
+      (λ r c _. pixel (by_prediction plan block.plane of a (placed_edge plan.header block.plane block n a num plane) (luma block) r c))) (sym e)
       ∙ own_is (ap is_whole e)
 
   pub walked_from_luma : (alpha weight : ℤ) → block.prediction ≡ predictions.FromLuma alpha → weight ≡ alpha
-      → after ≡ painted_plane plane a (λ r c _. pixel (by_mode (extent_of h block.plane) None UV_CFL_PRED (Alpha weight) a (placed_edge h block.plane block n a num plane) (luma block) r c))
+      → after ≡
+      painted_plane plane a
+      (λ r c _.
+      pixel (by_mode (extent_of h block.plane) None UV_CFL_PRED (Alpha weight) a (placed_edge h block.plane block n a num plane) (luma block) r c))
       → after ≡ fold (fast_in num pixel plan block.plane luma) plane (own_prediction block n a)
   unfolding fast_in by_prediction
   walked_from_luma alpha weight e same painted =
       painted
-      ∙ ap (λ (k : Header). painted_plane plane a (λ r c _. pixel (by_mode (extent_of k block.plane) None UV_CFL_PRED (Alpha weight) a (placed_edge k block.plane block n a num plane) (luma block) r c))) is
-      ∙ ap (λ (z : ℤ). painted_plane plane a (λ r c _. pixel (by_mode (extent_of plan.header block.plane) None UV_CFL_PRED (Alpha z) a (placed_edge plan.header block.plane block n a num plane) (luma block) r c))) same
-      ∙ ap (λ (of : Prediction). painted_plane plane a (λ r c _. pixel (by_prediction plan block.plane of a (placed_edge plan.header block.plane block n a num plane) (luma block) r c))) (sym e)
+      ∙ ap (λ (k : Header). painted_plane plane a
+      (λ r c _.
+      pixel (by_mode (extent_of k block.plane) None UV_CFL_PRED (Alpha weight) a (placed_edge k block.plane block n a num plane) (luma block) r c))) is
+      ∙ ap (λ (z : ℤ). painted_plane plane a
+      (λ r c _.
+      pixel (by_mode (extent_of plan.header block.plane) None UV_CFL_PRED (Alpha z) a (placed_edge plan.header block.plane block n a num plane)
+      (luma block) r c))) same
+      ∙ ap (λ (of : Prediction). painted_plane plane a
+      (λ r c _. pixel (by_prediction plan block.plane of a (placed_edge plan.header block.plane block n a num plane) (luma block) r c))) (sym e)
       ∙ own_is (ap is_whole e)
 
 -- a whole area that is predicted from one reference, or from two
@@ -64,14 +88,23 @@ module _ {T : Type 0} (num : T → ℕ) (pixel : ℕ → T) (value : PlanValue) 
   unfolding fast_in by_prediction
   walked_single mode reference mv e painted =
       painted
-      ∙ ap (λ (of : Prediction). painted_plane plane (whole_area block) (λ r c _. pixel (by_prediction value block.plane of (whole_area block) (placed_edge value.header block.plane block 0 (whole_area block) num plane) (luma block) r c))) (sym e)
-      ∙ ap (λ (b : Bool). fold (fast_in num pixel value block.plane luma) plane (if b then predict block 0 (whole_area block) ∷ [] else [])) (sym (ap is_whole e))
+      ∙ ap (λ (of : Prediction). painted_plane plane (whole_area block)
+      (λ r c _.
+      pixel (by_prediction value block.plane of (whole_area block) (placed_edge value.header block.plane block 0 (whole_area block) num plane)
+      (luma block) r c))) (sym e)
+      ∙ ap (λ (b : Bool). fold (fast_in num pixel value block.plane luma) plane (if b then predict block 0 (whole_area block) ∷ [] else []))
+      (sym (ap is_whole e))
 
-  pub walked_compound : (mode : PredictionMode) (references : List RefType) (mvs : List MotionVector) → block.prediction ≡ predictions.Compound mode references mvs
+  pub walked_compound : (mode : PredictionMode) (references : List RefType) (mvs : List MotionVector) →
+      block.prediction ≡ predictions.Compound mode references mvs
       → after ≡ painted_plane plane (whole_area block) (λ r c _. pixel (compound_motion value block.plane references mvs (whole_area block) r c))
       → after ≡ fold (fast_in num pixel value block.plane luma) plane (whole_steps block)
   unfolding fast_in by_prediction
   walked_compound mode references mvs e painted =
       painted
-      ∙ ap (λ (of : Prediction). painted_plane plane (whole_area block) (λ r c _. pixel (by_prediction value block.plane of (whole_area block) (placed_edge value.header block.plane block 0 (whole_area block) num plane) (luma block) r c))) (sym e)
-      ∙ ap (λ (b : Bool). fold (fast_in num pixel value block.plane luma) plane (if b then predict block 0 (whole_area block) ∷ [] else [])) (sym (ap is_whole e))
+      ∙ ap (λ (of : Prediction). painted_plane plane (whole_area block)
+      (λ r c _.
+      pixel (by_prediction value block.plane of (whole_area block) (placed_edge value.header block.plane block 0 (whole_area block) num plane)
+      (luma block) r c))) (sym e)
+      ∙ ap (λ (b : Bool). fold (fast_in num pixel value block.plane luma) plane (if b then predict block 0 (whole_area block) ∷ [] else []))
+      (sym (ap is_whole e))

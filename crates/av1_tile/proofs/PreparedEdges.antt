@@ -1,5 +1,6 @@
 -- The edge that is prepared by place is the one of the canvas, for every mode, where the canvas knows just the places that may be taken.
-use Rattle.std.proofs.Common.{ℕ, zero, suc, ◌+◌, ◌-◌, ◌<◌, ◌≤◌, ◌≡◌, Bool, true, false, ◌&&◌, ◌||◌, nat_lt, if◌then◌else◌, List, min, refl, ap, arith, ◌∙◌, sym, subst, Option, Some, None, inl, inr, ℤ}
+use Rattle.std.proofs.Common.{ℕ, zero, suc, ◌+◌, ◌-◌, ◌<◌, ◌≤◌, ◌≡◌, Bool, true, false, ◌&&◌, ◌||◌, nat_lt, if◌then◌else◌, List, min, refl, ap, arith, ◌∙◌, sym}
+use Rattle.std.proofs.Common.{subst, Option, Some, None, inl, inr, ℤ}
 use Rattle.std.specs.Option.{unwrap_or, is_some}
 use Rattle.std.specs.Prelude.{slice_index}
 use Rattle.std.proofs.lemmas.Bool.{and_parts, cases_lt, le-ltb, lt-ltb, ltb-true, true≢false}
@@ -64,7 +65,8 @@ taken_some limit at w run true begins some = omega arith
 taken_some limit at w run false begins some = omega arith
 
 module _ (K : ℕ → Option ℕ) (v : ℕ → ℕ) (first limit at w run : ℕ) (asked right : Bool) (begins : at < limit) (some : 0 < w)
-    (knows : (j : ℕ) → j < w + run → is_some (K j) ≡ (nat_lt (at + j) limit && (nat_lt j w || right))) (value : (j : ℕ) → is_some (K j) ≡ true → K j ≡ Some (v j)) where
+    (knows : (j : ℕ) → j < w + run → is_some (K j) ≡ (nat_lt (at + j) limit && (nat_lt j w || right)))
+    (value : (j : ℕ) → is_some (K j) ≡ true → K j ≡ Some (v j)) where
   abbrev n : ℕ
   n = num_avail limit at w (asked && right) run
 
@@ -86,7 +88,8 @@ module _ (K : ℕ → Option ℕ) (v : ℕ → ℕ) (first limit at w run : ℕ)
       ap (λ (b : Bool). if b then K j else None) (lt-ltb j (w + where_needed asked run) near) ∙ value j (knows_taken j near ∙ lt-ltb j n here))
       (λ j past.
       elim (cases_lt j (w + where_needed asked run)) [
-        | inl near ↦ ap (λ (b : Bool). if b then K j else None) (lt-ltb j (w + where_needed asked run) near) ∙ none_there (K j) (knows_taken j near ∙ le-ltb j n past)
+        | inl near ↦ ap (λ (b : Bool). if b then K j else None) (lt-ltb j (w + where_needed asked run) near)
+            ∙ none_there (K j) (knows_taken j near ∙ le-ltb j n past)
         | inr out ↦ ap (λ (b : Bool). if b then K j else None) (le-ltb j (w + where_needed asked run) out)
       ]) k
 
@@ -105,7 +108,8 @@ pub record KnowsSides (extent : PlaneExtent) (written : Written) (a : VisibleAre
       → is_some (known_left extent written a.x (a.y + i)) ≡ (nat_lt 0 a.x && nat_lt (a.y + i) extent.height && (nat_lt i a.height || low))
   pub corner : 0 < a.x → 0 < a.y → is_some (written (a.x - 1) (a.y - 1)) ≡ true
 
-module _ (extent : PlaneExtent) (written : Written) (s : ℕ → ℕ → ℕ) (agree : (x y v : ℕ) → x < extent.width → y < extent.height → written x y ≡ Some v → s x y ≡ v) where
+module _ (extent : PlaneExtent) (written : Written) (s : ℕ → ℕ → ℕ) (agree : (x y v : ℕ) → x < extent.width → y < extent.height → written x y ≡ Some v →
+    s x y ≡ v) where
   is_value : (o : Option ℕ) (n : ℕ) → is_some o ≡ true → ((v : ℕ) → o ≡ Some v → n ≡ v) → o ≡ Some n
   is_value None n e f = absurd (true≢false (sym e))
   is_value (Some v) n e f = ap Some (sym (f v refl))
@@ -114,7 +118,8 @@ module _ (extent : PlaneExtent) (written : Written) (s : ℕ → ℕ → ℕ) (a
   known_value : (x y : ℕ) → is_some (known extent written x y) ≡ true → known extent written x y ≡ Some (s x y)
   known_value x y e = go (nat_lt x extent.width && nat_lt y extent.height) refl e
     where
-      go : (t : Bool) → (nat_lt x extent.width && nat_lt y extent.height) ≡ t → is_some (if t then written x y else None) ≡ true → (if t then written x y else None) ≡ Some (s x y)
+      go : (t : Bool) → (nat_lt x extent.width && nat_lt y extent.height) ≡ t → is_some (if t then written x y else None) ≡ true →
+          (if t then written x y else None) ≡ Some (s x y)
       go true inside e =
           let (column, row) = and_parts (nat_lt x extent.width) (nat_lt y extent.height) inside in
           is_value (written x y) (s x y) e (λ v w. agree x y v (ltb-true x extent.width column) (ltb-true y extent.height row) w)
@@ -140,7 +145,8 @@ module _ (extent : PlaneExtent) (written : Written) (s : ℕ → ℕ → ℕ) (a
         let e : a.x + 0 ≡ x = omega (arith, ex) in
         let k : is_some (known_above extent written x (suc y)) ≡ (nat_lt 0 (suc y) && nat_lt x extent.width && (nat_lt 0 a.width || right)) =
         subst (λ (m : ℕ). is_some (known_above extent written m (suc y)) ≡ (nat_lt 0 (suc y) && nat_lt m extent.width && (nat_lt 0 a.width || right))) e
-        (subst (λ (m : ℕ). is_some (known_above extent written (a.x + 0) m) ≡ (nat_lt 0 m && nat_lt (a.x + 0) extent.width && (nat_lt 0 a.width || right))) ey (knows.above 0 (omega arith))) in
+        (subst (λ (m : ℕ). is_some (known_above extent written (a.x + 0) m) ≡ (nat_lt 0 m && nat_lt (a.x + 0) extent.width && (nat_lt 0 a.width || right))) ey
+        (knows.above 0 (omega arith))) in
         let inside : x < extent.width = omega (arith, ex) in
         let t = lt-ltb x extent.width inside in
         let u = lt-ltb 0 a.width some in
@@ -157,7 +163,8 @@ module _ (extent : PlaneExtent) (written : Written) (s : ℕ → ℕ → ℕ) (a
         let e : a.y + 0 ≡ y = omega (arith, ey) in
         let k : is_some (known_left extent written (suc x) y) ≡ (nat_lt 0 (suc x) && nat_lt y extent.height && (nat_lt 0 a.height || low)) =
         subst (λ (m : ℕ). is_some (known_left extent written (suc x) m) ≡ (nat_lt 0 (suc x) && nat_lt m extent.height && (nat_lt 0 a.height || low))) e
-        (subst (λ (m : ℕ). is_some (known_left extent written m (a.y + 0)) ≡ (nat_lt 0 m && nat_lt (a.y + 0) extent.height && (nat_lt 0 a.height || low))) ex (knows.left 0 (omega arith))) in
+        (subst (λ (m : ℕ). is_some (known_left extent written m (a.y + 0)) ≡ (nat_lt 0 m && nat_lt (a.y + 0) extent.height && (nat_lt 0 a.height || low))) ex
+        (knows.left 0 (omega arith))) in
         let inside : y < extent.height = omega (arith, ey) in
         let t = lt-ltb y extent.height inside in
         let u = lt-ltb 0 a.height some in
@@ -168,19 +175,24 @@ module _ (extent : PlaneExtent) (written : Written) (s : ℕ → ℕ → ℕ) (a
 
     -- a place above
     above_place : (asked : Bool) (x y : ℕ) → a.x ≡ x → a.y ≡ y → (k : ℕ)
-        → place (λ j. if nat_lt j (a.width + where_needed asked (min a.width a.height)) then known_above extent written (x + j) y else None) (first_above extent written x) k
+        → place (λ j. if nat_lt j (a.width + where_needed asked (min a.width a.height)) then known_above extent written (x + j) y else None)
+        (first_above extent written x) k
         ≡ above_at s (base extent.depth) x y (num_avail extent.width x a.width (asked && right) (min a.width a.height)) k
     above_place asked x (suc y) ex ey k =
-        side_places (λ j. known extent written (x + j) y) (λ j. s (x + j) y) (first_above extent written x) extent.width x a.width (min a.width a.height) asked right
+        side_places (λ j. known extent written (x + j) y) (λ j. s (x + j) y)
+        (first_above extent written x) extent.width x a.width (min a.width a.height) asked right
         (omega (arith, ex, knows.begins_x)) knows.some_columns
         (λ j near.
-        subst (λ (m : ℕ). is_some (known_above extent written (m + j) (suc y)) ≡ (nat_lt 0 (suc y) && nat_lt (m + j) extent.width && (nat_lt j a.width || right))) ex
-        (subst (λ (m : ℕ). is_some (known_above extent written (a.x + j) m) ≡ (nat_lt 0 m && nat_lt (a.x + j) extent.width && (nat_lt j a.width || right))) ey (knows.above j near))
+        subst (λ (m : ℕ). is_some (known_above extent written (m + j) (suc y)) ≡
+        (nat_lt 0 (suc y) && nat_lt (m + j) extent.width && (nat_lt j a.width || right))) ex
+        (subst (λ (m : ℕ). is_some (known_above extent written (a.x + j) m) ≡ (nat_lt 0 m && nat_lt (a.x + j) extent.width && (nat_lt j a.width || right))) ey
+        (knows.above j near))
         ∙ ap (λ (b : Bool). b && nat_lt (x + j) extent.width && (nat_lt j a.width || right)) (lt-ltb 0 (suc y) (omega arith)))
         (λ j e. known_value (x + j) y e) k
         ∙ inside_row x y (min k (num_avail extent.width x a.width (asked && right) (min a.width a.height) - 1))
       where
-        inside_row : (x y m : ℕ) → s (x + m) y ≡ (if nat_lt 0 (suc y) then s (x + m) (suc y - 1) else (if nat_lt 0 x then s (x - 1) 0 else base extent.depth - 1))
+        inside_row : (x y m : ℕ) →
+            s (x + m) y ≡ (if nat_lt 0 (suc y) then s (x + m) (suc y - 1) else (if nat_lt 0 x then s (x - 1) 0 else base extent.depth - 1))
         inside_row x y m = grind (arith, nat_tests)
     above_place asked zero zero ex ey k = place_unknown _ _ (λ j. either_none (nat_lt j (a.width + where_needed asked (min a.width a.height))) None refl) k
     above_place asked (suc x) zero ex ey k =
@@ -189,19 +201,24 @@ module _ (extent : PlaneExtent) (written : Written) (s : ℕ → ℕ → ℕ) (a
 
     -- a place to the left
     left_place : (asked : Bool) (x y : ℕ) → a.x ≡ x → a.y ≡ y → (k : ℕ)
-        → place (λ i. if nat_lt i (a.height + where_needed asked (min a.width a.height)) then known_left extent written x (y + i) else None) (first_left extent written y) k
+        → place (λ i. if nat_lt i (a.height + where_needed asked (min a.width a.height)) then known_left extent written x (y + i) else None)
+        (first_left extent written y) k
         ≡ left_at s (base extent.depth) x y (num_avail extent.height y a.height (asked && low) (min a.width a.height)) k
     left_place asked (suc x) y ex ey k =
-        side_places (λ i. known extent written x (y + i)) (λ i. s x (y + i)) (first_left extent written y) extent.height y a.height (min a.width a.height) asked low
+        side_places (λ i. known extent written x (y + i)) (λ i. s x (y + i))
+        (first_left extent written y) extent.height y a.height (min a.width a.height) asked low
         (omega (arith, ey, knows.begins_y)) knows.some_rows
         (λ i near.
-        subst (λ (m : ℕ). is_some (known_left extent written (suc x) (m + i)) ≡ (nat_lt 0 (suc x) && nat_lt (m + i) extent.height && (nat_lt i a.height || low))) ey
-        (subst (λ (m : ℕ). is_some (known_left extent written m (a.y + i)) ≡ (nat_lt 0 m && nat_lt (a.y + i) extent.height && (nat_lt i a.height || low))) ex (knows.left i near))
+        subst (λ (m : ℕ). is_some (known_left extent written (suc x) (m + i)) ≡
+        (nat_lt 0 (suc x) && nat_lt (m + i) extent.height && (nat_lt i a.height || low))) ey
+        (subst (λ (m : ℕ). is_some (known_left extent written m (a.y + i)) ≡ (nat_lt 0 m && nat_lt (a.y + i) extent.height && (nat_lt i a.height || low))) ex
+        (knows.left i near))
         ∙ ap (λ (b : Bool). b && nat_lt (y + i) extent.height && (nat_lt i a.height || low)) (lt-ltb 0 (suc x) (omega arith)))
         (λ i e. known_value x (y + i) e) k
         ∙ inside_column x y (min k (num_avail extent.height y a.height (asked && low) (min a.width a.height) - 1))
       where
-        inside_column : (x y m : ℕ) → s x (y + m) ≡ (if nat_lt 0 (suc x) then s (suc x - 1) (y + m) else (if nat_lt 0 y then s 0 (y - 1) else base extent.depth + 1))
+        inside_column : (x y m : ℕ) →
+            s x (y + m) ≡ (if nat_lt 0 (suc x) then s (suc x - 1) (y + m) else (if nat_lt 0 y then s 0 (y - 1) else base extent.depth + 1))
         inside_column x y m = grind (arith, nat_tests)
     left_place asked zero zero ex ey k = place_unknown _ _ (λ i. either_none (nat_lt i (a.height + where_needed asked (min a.width a.height))) None refl) k
     left_place asked zero (suc y) ex ey k =
@@ -216,8 +233,11 @@ module _ (extent : PlaneExtent) (written : Written) (s : ℕ → ℕ → ℕ) (a
     corner_place (suc x) (suc y) ex ey =
         let hx = knows.begins_x in
         let hy = knows.begins_y in
-        let there : is_some (written x y) ≡ true = subst (λ (m : ℕ). is_some (written m y) ≡ true) (omega (arith, ex)) (subst (λ (m : ℕ). is_some (written (a.x - 1) m) ≡ true) (omega (arith, ey)) (knows.corner (omega (arith, ex)) (omega (arith, ey)))) in
-        ap (λ (o : Option ℕ). unwrap_or o 0) (known_inside x y (omega (arith, ex)) (omega (arith, ey)) ∙ written_value x y (omega (arith, ex)) (omega (arith, ey)) there)
+        let there : is_some (written x y) ≡ true =
+        subst (λ (m : ℕ). is_some (written m y) ≡ true) (omega (arith, ex))
+        (subst (λ (m : ℕ). is_some (written (a.x - 1) m) ≡ true) (omega (arith, ey)) (knows.corner (omega (arith, ex)) (omega (arith, ey)))) in
+        ap (λ (o : Option ℕ). unwrap_or o 0) (known_inside x y (omega (arith, ex)) (omega (arith, ey))
+        ∙ written_value x y (omega (arith, ex)) (omega (arith, ey)) there)
 
 -- ---- the edge
 
@@ -229,7 +249,8 @@ directional_left mode x e = refl
 first_of_side : (n : ℕ) (f : ℕ → ℕ) → 0 < n → slice_index (by_index n f) 0 ≡ f 0
 first_of_side n f some = get_or-map-range_with_len f 0 n 0 0 0 some (omega arith)
 
-smoothed_same : (t : Bool) (p q c p' q' c' : ℕ) → (t ≡ true → p ≡ p') → q ≡ q' → c ≡ c' → (if t then smoothed p c q else c) ≡ (if t then smoothed p' c' q' else c')
+smoothed_same : (t : Bool) (p q c p' q' c' : ℕ) → (t ≡ true → p ≡ p') → q ≡ q' → c ≡ c' →
+    (if t then smoothed p c q else c) ≡ (if t then smoothed p' c' q' else c')
 smoothed_same true p q c p' q' c' f eq ec = let e = f refl in rw (e, eq, ec) refl
 smoothed_same false p q c p' q' c' f eq ec = ec
 
@@ -237,7 +258,8 @@ chosen_same : (t : Bool) (c c' b : ℕ) → c ≡ c' → (if t then c else b) �
 chosen_same true c c' b e = e
 chosen_same false c c' b e = refl
 
-same_edge : (a b l m : List ℕ) (c d : ℕ) → a ≡ b → l ≡ m → c ≡ d → (let e : Edge = record { above = a; left = l; corner = c } in e) ≡ record { above = b; left = m; corner = d }
+same_edge : (a b l m : List ℕ) (c d : ℕ) → a ≡ b → l ≡ m → c ≡ d →
+    (let e : Edge = record { above = a; left = l; corner = c } in e) ≡ record { above = b; left = m; corner = d }
 same_edge a b l m c d e f g = rw (e, f, g) refl
 
 smooths_directional : (filter : Bool) (mode : PredictionMode) (step : ℤ) (w h : ℕ) → smooths_corner filter mode step w h ≡ true → is_directional mode ≡ true
@@ -247,10 +269,12 @@ smooths_directional filter mode step w h e =
     let (c, _) = and_parts _ _ b in
     (and_parts filter (is_directional mode) c).1
 
-module _ (extent : PlaneExtent) (written : Written) (s : ℕ → ℕ → ℕ) (agree : (x y v : ℕ) → x < extent.width → y < extent.height → written x y ≡ Some v → s x y ≡ v)
+module _ (extent : PlaneExtent) (written : Written) (s : ℕ → ℕ → ℕ) (agree : (x y v : ℕ) → x < extent.width → y < extent.height → written x y ≡ Some v →
+    s x y ≡ v)
     (a : VisibleArea) (right low : Bool) (knows : KnowsSides extent written a right low) where
   -- the edge of the canvas is the one by place
-  pub edge_prepared : (filter : Bool) (mode : PredictionMode) (step : ℤ) → edge extent filter written mode step a ≡ edge_by_place extent s filter a right low mode step
+  pub edge_prepared : (filter : Bool) (mode : PredictionMode) (step : ℤ) →
+      edge extent filter written mode step a ≡ edge_by_place extent s filter a right low mode step
   unfolding edge
   edge_prepared filter mode step =
       let above = above_at s (base extent.depth) a.x a.y (num_avail extent.width a.x a.width (needs_above_right mode step && right) (min a.width a.height)) in

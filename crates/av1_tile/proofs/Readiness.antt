@@ -79,4 +79,5 @@ Each P before (x ∷ rest) = P before x × Each P (before ++ x ∷ []) rest
 -- every step of the leaves finds what it reads, and together they write every visible sample
 pub record AreReady (h : Header) (leaves : List LeafValue) : Type 0 where
   pub ready : Each (StepReady h) [] (steps h leaves)
-  pub whole : (component : Component) (x y : ℕ) → x < plane_width h (number component) → y < plane_height h (number component) → IsWritten (steps h leaves) component x y
+  pub whole : (component : Component) (x y : ℕ) → x < plane_width h (number component) → y < plane_height h (number component) →
+      IsWritten (steps h leaves) component x y

@@ -1,5 +1,6 @@
 -- Planes whose edges are read by place show what the slow definition writes on its canvas.
-use Rattle.std.proofs.Common.{ℕ, zero, suc, ◌+◌, ◌-◌, ◌<◌, ◌≤◌, ◌≡◌, Bool, true, false, ◌&&◌, ◌||◌, cond, List, [], ◌∷◌, ◌++◌, refl, ap, arith, ◌∙◌, sym, subst, Option, Some, None, append_assoc, ℤ}
+use Rattle.std.proofs.Common.{ℕ, zero, suc, ◌+◌, ◌-◌, ◌<◌, ◌≤◌, ◌≡◌, Bool, true, false, ◌&&◌, ◌||◌, cond, List, [], ◌∷◌, ◌++◌, refl, ap, arith, ◌∙◌, sym, subst}
+use Rattle.std.proofs.Common.{Option, Some, None, append_assoc, ℤ}
 use Rattle.std.specs.Option.{option_map, is_some}
 use Rattle.std.specs.List.{fold, flat_map, list_any, range_with_len}
 use Rattle.std.proofs.Math.Bool.{and-false, or-false, or_assoc}
@@ -59,7 +60,8 @@ added_written false f None = refl
 added_written false f (Some m) = refl
 
 -- what plane j holds after a step there, and what the others hold
-written_in : (k j : Component) (next : Written) (canvas : Canvas) (x y : ℕ) (d : Bool) → is_some (next x y) ≡ (is_some (canvas j x y) || d) → is_some (with_written j next canvas k x y) ≡ (is_some (canvas k x y) || (is_same k j && d))
+written_in : (k j : Component) (next : Written) (canvas : Canvas) (x y : ℕ) (d : Bool) → is_some (next x y) ≡ (is_some (canvas j x y) || d) →
+    is_some (with_written j next canvas k x y) ≡ (is_some (canvas k x y) || (is_same k j && d))
 written_in Y Y next canvas x y d h = h
 written_in U U next canvas x y d h = h
 written_in V V next canvas x y d h = h
@@ -71,17 +73,22 @@ written_in V Y next canvas x y d h = sym (or-false (is_some (canvas V x y)))
 written_in V U next canvas x y d h = sym (or-false (is_some (canvas V x y)))
 
 -- what a step writes
-step_written : (plan : PlanValue) (canvas : Canvas) (k j : Component) (step : Step) (x y : ℕ) → is_some (slow_step plan canvas (record { component = j; step = step }) k x y) ≡ (is_some (canvas k x y) || draws k x y (record { component = j; step = step }))
+step_written : (plan : PlanValue) (canvas : Canvas) (k j : Component) (step : Step) (x y : ℕ) →
+    is_some (slow_step plan canvas (record { component = j; step = step }) k x y) ≡
+    (is_some (canvas k x y) || draws k x y (record { component = j; step = step }))
 unfolding slow_step slow_in
 step_written plan canvas k j (predict block n a) x y =
     written_in k j (slow_in plan canvas j (predict block n a)) canvas x y (in_visible a x y) (predicted_written (in_visible a x y) _ (canvas j x y))
 step_written plan canvas k j (add block triples n a) x y =
-    written_in k j (slow_in plan canvas j (add block triples n a)) canvas x y false (added_written (in_visible a x y) _ (canvas j x y)) ∙ ap (λ b. is_some (canvas k x y) || b) (and-false (is_same k j))
+    written_in k j (slow_in plan canvas j (add block triples n a)) canvas x y false (added_written (in_visible a x y) _ (canvas j x y))
+    ∙ ap (λ b. is_some (canvas k x y) || b) (and-false (is_same k j))
 
-steps_written : (plan : PlanValue) (canvas : Canvas) (steps : List PlaneStep) (k : Component) (x y : ℕ) → is_some (fold (slow_step plan) canvas steps k x y) ≡ (is_some (canvas k x y) || list_any (draws k x y) steps)
+steps_written : (plan : PlanValue) (canvas : Canvas) (steps : List PlaneStep) (k : Component) (x y : ℕ) →
+    is_some (fold (slow_step plan) canvas steps k x y) ≡ (is_some (canvas k x y) || list_any (draws k x y) steps)
 steps_written plan canvas [] k x y = sym (or-false (is_some (canvas k x y)))
 steps_written plan canvas (s ∷ rest) k x y =
-    steps_written plan (slow_step plan canvas s) rest k x y ∙ ap (λ b. b || list_any (draws k x y) rest) (step_written plan canvas k s.component s.step x y) ∙ or_assoc (is_some (canvas k x y)) (draws k x y s) (list_any (draws k x y) rest)
+    steps_written plan (slow_step plan canvas s) rest k x y ∙ ap (λ b. b || list_any (draws k x y) rest) (step_written plan canvas k s.component s.step x y)
+    ∙ or_assoc (is_some (canvas k x y)) (draws k x y s) (list_any (draws k x y) rest)
 
 -- the canvas after some steps
 abbrev walked : PlanValue → List PlaneStep → Canvas
@@ -92,7 +99,8 @@ walk_written plan before k x y = steps_written plan blank before k x y
 
 -- ---- one step
 
-drawn_is : (b : Bool) (f : Option ℕ → Option ℕ) (o : Option ℕ) (s n v : ℕ) → (b ≡ true → f o ≡ Some v → n ≡ v) → (o ≡ Some v → s ≡ v) → turned b f o ≡ Some v → cond b n s ≡ v
+drawn_is : (b : Bool) (f : Option ℕ → Option ℕ) (o : Option ℕ) (s n v : ℕ) → (b ≡ true → f o ≡ Some v → n ≡ v) → (o ≡ Some v → s ≡ v) → turned b f o ≡ Some v →
+    cond b n s ≡ v
 drawn_is true f o s n v h k e = h refl e
 drawn_is false f o s n v h k e = k e
 
@@ -117,7 +125,8 @@ abbrev AllAgree : {T : Type 0} → (T → ℕ) → Planes T → Canvas → Type 
 AllAgree num planes canvas = (k : Component) → Agrees num (plane_of k planes) (canvas k)
 
 -- a step of plane j changes plane j alone
-agree_with : {T : Type 0} (num : T → ℕ) (planes : Planes T) (canvas : Canvas) (p : Plane T) (written : Written) (j : Component) → Agrees num p written → AllAgree num planes canvas → AllAgree num (with_plane j planes p) (with_written j written canvas)
+agree_with : {T : Type 0} (num : T → ℕ) (planes : Planes T) (canvas : Canvas) (p : Plane T) (written : Written) (j : Component) → Agrees num p written →
+    AllAgree num planes canvas → AllAgree num (with_plane j planes p) (with_written j written canvas)
 agree_with num planes canvas p written Y a h Y = a
 agree_with num planes canvas p written Y a h U = h U
 agree_with num planes canvas p written Y a h V = h V
@@ -140,12 +149,14 @@ pub record AllWhole {T : Type 0} (h : Header) (planes : Planes T) : Type 0 where
   pub room : HasRoomIn h 0 planes.y.plane_cfg
 
 -- a plane that is laid out alike takes the place of one
-room_with : {T : Type 0} (h : Header) (planes : Planes T) (j : Component) (p : Plane T) → HasRoomIn h 0 planes.y.plane_cfg → p.plane_cfg ≡ (plane_of j planes).plane_cfg → HasRoomIn h 0 (with_plane j planes p).y.plane_cfg
+room_with : {T : Type 0} (h : Header) (planes : Planes T) (j : Component) (p : Plane T) → HasRoomIn h 0 planes.y.plane_cfg →
+    p.plane_cfg ≡ (plane_of j planes).plane_cfg → HasRoomIn h 0 (with_plane j planes p).y.plane_cfg
 room_with h planes Y p room same = subst (HasRoomIn h 0) (sym same) room
 room_with h planes U p room same = room
 room_with h planes V p room same = room
 
-places_with : {T : Type 0} (h : Header) (planes : Planes T) (j : Component) (p : Plane T) → ((k : Component) → IsPlaneOf h (number k) (plane_of k planes)) → IsPlaneOf h (number j) p
+places_with : {T : Type 0} (h : Header) (planes : Planes T) (j : Component) (p : Plane T) → ((k : Component) → IsPlaneOf h (number k) (plane_of k planes)) →
+    IsPlaneOf h (number j) p
     → (k : Component) → IsPlaneOf h (number k) (plane_of k (with_plane j planes p))
 places_with h planes Y p s t Y = t
 places_with h planes Y p s t U = s U
@@ -157,31 +168,38 @@ places_with h planes V p s t Y = s Y
 places_with h planes V p s t U = s U
 places_with h planes V p s t V = t
 
-whole_with : {T : Type 0} (h : Header) (planes : Planes T) (j : Component) (p : Plane T) → AllWhole h planes → IsPlaneOf h (number j) p → p.plane_cfg ≡ (plane_of j planes).plane_cfg → AllWhole h (with_plane j planes p)
+whole_with : {T : Type 0} (h : Header) (planes : Planes T) (j : Component) (p : Plane T) → AllWhole h planes → IsPlaneOf h (number j) p →
+    p.plane_cfg ≡ (plane_of j planes).plane_cfg → AllWhole h (with_plane j planes p)
 whole_with h planes j p s t same = record { plane = places_with h planes j p s.plane t; room = room_with h planes j p s.room same }
 
 -- ---- the visible samples
 
 -- equal samples make equal rows
-rows_same : (width first n : ℕ) (f g : ℕ → ℕ → ℕ) → ((x y : ℕ) → x < width → y < first + n → f x y ≡ g x y) → flat_map (λ y. by_index width (λ x. f x y)) (range_with_len first n) ≡ flat_map (λ y. by_index width (λ x. g x y)) (range_with_len first n)
+rows_same : (width first n : ℕ) (f g : ℕ → ℕ → ℕ) → ((x y : ℕ) → x < width → y < first + n → f x y ≡ g x y) →
+    flat_map (λ y. by_index width (λ x. f x y)) (range_with_len first n) ≡ flat_map (λ y. by_index width (λ x. g x y)) (range_with_len first n)
 rows_same width first zero f g e = refl
 rows_same width first (suc n) f g e =
-    ap (λ (l : List ℕ). l ++ flat_map (λ y. by_index width (λ x. f x y)) (range_with_len (first + 1) n)) (listed_same width (λ x. f x first) (λ x. g x first) (λ x h. e x first h (omega arith)))
+    ap (λ (l : List ℕ). l ++ flat_map (λ y. by_index width (λ x. f x y)) (range_with_len (first + 1) n))
+    (listed_same width (λ x. f x first) (λ x. g x first) (λ x h. e x first h (omega arith)))
     ∙ ap (λ (l : List ℕ). by_index width (λ x. g x first) ++ l) (rows_same width (first + 1) n f g (λ x y h k. e x y h (omega arith)))
 
-plane_bytes_same : (extent : PlaneExtent) (f g : ℕ → ℕ → ℕ) → ((x y : ℕ) → x < extent.width → y < extent.height → f x y ≡ g x y) → plane_bytes extent f ≡ plane_bytes extent g
+plane_bytes_same : (extent : PlaneExtent) (f g : ℕ → ℕ → ℕ) → ((x y : ℕ) → x < extent.width → y < extent.height → f x y ≡ g x y) →
+    plane_bytes extent f ≡ plane_bytes extent g
 plane_bytes_same extent f g e =
     let id : by_index extent.height (λ y. y) ≡ range_with_len 0 extent.height = map-id (range_with_len 0 extent.height) in
-    ap (flat_map (sample_bytes extent.depth)) (ap (flat_map (λ y. by_index extent.width (λ x. f x y))) id ∙ rows_same extent.width 0 extent.height f g (λ x y h k. e x y h (omega arith)) ∙ ap (flat_map (λ y. by_index extent.width (λ x. g x y))) (sym id))
+    ap (flat_map (sample_bytes extent.depth)) (ap (flat_map (λ y. by_index extent.width (λ x. f x y))) id
+    ∙ rows_same extent.width 0 extent.height f g (λ x y h k. e x y h (omega arith)) ∙ ap (flat_map (λ y. by_index extent.width (λ x. g x y))) (sym id))
 
-pub visible_same : (h : Header) (f g : Component → ℕ → ℕ → ℕ) → ((k : Component) (x y : ℕ) → x < (extent_of h (number k)).width → y < (extent_of h (number k)).height → f k x y ≡ g k x y) → visible h f ≡ visible h g
+pub visible_same : (h : Header) (f g : Component → ℕ → ℕ → ℕ) →
+    ((k : Component) (x y : ℕ) → x < (extent_of h (number k)).width → y < (extent_of h (number k)).height → f k x y ≡ g k x y) → visible h f ≡ visible h g
 unfolding visible
 visible_same h f g e =
     let a = plane_bytes_same (extent_of h 0) (f Y) (g Y) (e Y) in
     let b = plane_bytes_same (extent_of h 1) (f U) (g U) (e U) in
     let c = plane_bytes_same (extent_of h 2) (f V) (g V) (e V) in
     ap (λ (l : List ℕ). l ++ plane_bytes (extent_of h 1) (f U) ++ plane_bytes (extent_of h 2) (f V)) a
-    ∙ ap (λ (l : List ℕ). plane_bytes (extent_of h 0) (g Y) ++ l ++ plane_bytes (extent_of h 2) (f V)) b ∙ ap (λ (l : List ℕ). plane_bytes (extent_of h 0) (g Y) ++ plane_bytes (extent_of h 1) (g U) ++ l) c
+    ∙ ap (λ (l : List ℕ). plane_bytes (extent_of h 0) (g Y) ++ l ++ plane_bytes (extent_of h 2) (f V)) b
+    ∙ ap (λ (l : List ℕ). plane_bytes (extent_of h 0) (g Y) ++ plane_bytes (extent_of h 1) (g U) ++ l) c
 
 module _ {T : Type 0} (num : T → ℕ) (pixel : ℕ → T) (law : (v : ℕ) → num (pixel v) ≡ v) (back : (x : T) → pixel (num x) ≡ x) where
   -- a rectangle that is turned in the plane as on the canvas
@@ -191,22 +209,28 @@ module _ {T : Type 0} (num : T → ℕ) (pixel : ℕ → T) (law : (v : ℕ) →
   agrees_drawn p written a f g whole e h = λ x y v hx hy w.
       sample_at_painted num pixel back p a f x y whole hx hy
       ∙ drawn_is (in_visible a x y) (g (y - a.y) (x - a.x)) (written x y) _ _ v
-      (λ here u. let (row, column) = within a x y here in e (y - a.y) (x - a.x) v _ (written x y) row column (λ m t. h x y m hx hy t) u) (λ u. h x y v hx hy u) w
+      (λ here u. let (row, column) = within a x y here in e (y - a.y) (x - a.x) v _ (written x y) row column (λ m t. h x y m hx hy t) u)
+      (λ u. h x y v hx hy u) w
 
-  step_place : (plan : PlanValue) (j : Component) (luma : PlaneBlock → ℕ → ℕ → ℤ) (p : Plane T) (step : Step) → IsPlaneOf plan.header (number j) p → IsPlaneOf plan.header (number j) (fast_in num pixel plan (number j) luma p step)
+  step_place : (plan : PlanValue) (j : Component) (luma : PlaneBlock → ℕ → ℕ → ℤ) (p : Plane T) (step : Step) → IsPlaneOf plan.header (number j) p →
+      IsPlaneOf plan.header (number j) (fast_in num pixel plan (number j) luma p step)
   unfolding fast_in
   step_place plan j luma p (predict block n a) s = painted_place plan.header (number j) p a _ s
   step_place plan j luma p (add block triples n a) s = painted_place plan.header (number j) p a _ s
 
-  step_cfg : (plan : PlanValue) (j : Component) (luma : PlaneBlock → ℕ → ℕ → ℤ) (p : Plane T) (step : Step) → (fast_in num pixel plan (number j) luma p step).plane_cfg ≡ p.plane_cfg
+  step_cfg : (plan : PlanValue) (j : Component) (luma : PlaneBlock → ℕ → ℕ → ℤ) (p : Plane T) (step : Step) →
+      (fast_in num pixel plan (number j) luma p step).plane_cfg ≡ p.plane_cfg
   unfolding fast_in
   step_cfg plan j luma p (predict block n a) = refl
   step_cfg plan j luma p (add block triples n a) = refl
 
   -- the edge of the canvas is the one that is read by place
-  module _ (plan : PlanValue) (before : List PlaneStep) (k : Component) (block : PlaneBlock) (n : ℕ) (a : VisibleArea) (p : Plane T) (ready : EdgeReady plan.header k before block n a)
+  module _ (plan : PlanValue) (before : List PlaneStep) (k : Component) (block : PlaneBlock) (n : ℕ) (a : VisibleArea) (p : Plane T)
+      (ready : EdgeReady plan.header k before block n a)
       (s : IsPlaneOf plan.header (number k) p) (t : Agrees num p (walked plan before k)) where
-    edge_same : (mode : PredictionMode) (step : ℤ) → edge (extent_of plan.header (number k)) plan.header.edge_filter (walked plan before k) mode step a ≡ placed_edge plan.header (number k) block n a num p mode step
+    edge_same : (mode : PredictionMode) (step : ℤ) →
+        edge (extent_of plan.header (number k)) plan.header.edge_filter (walked plan before k) mode step a ≡
+        placed_edge plan.header (number k) block n a num p mode step
     edge_same mode step =
         edge_prepared (extent_of plan.header (number k)) (walked plan before k) (sample_at num p)
         (λ x y v hx hy w. let (column, row) = stored_place plan.header (number k) p x y s hx hy in t x y v column row w)
@@ -215,38 +239,48 @@ module _ {T : Type 0} (num : T → ℕ) (pixel : ℕ → T) (law : (v : ℕ) →
 
     by_mode_same : (filter : Option IntraEdgeFilterParameters) (mode : PredictionMode) (param : IntraParam) (luma : ℕ → ℕ → ℤ) (r c : ℕ)
         → by_mode (extent_of plan.header (number k)) filter mode param a (placed_edge plan.header (number k) block n a num p) luma r c
-        ≡ by_mode (extent_of plan.header (number k)) filter mode param a (λ m z. edge (extent_of plan.header (number k)) plan.header.edge_filter (walked plan before k) m z a) luma r c
+        ≡ by_mode (extent_of plan.header (number k)) filter mode param a
+        (λ m z. edge (extent_of plan.header (number k)) plan.header.edge_filter (walked plan before k) m z a) luma r c
     by_mode_same filter mode param luma r c =
-        ap (λ (e : Edge). by_mode (extent_of plan.header (number k)) filter mode param a (λ m z. e) luma r c) (sym (edge_same (effective mode a.x a.y) (step_of param)))
+        ap (λ (e : Edge). by_mode (extent_of plan.header (number k)) filter mode param a (λ m z. e) luma r c)
+        (sym (edge_same (effective mode a.x a.y) (step_of param)))
 
   -- luma that was written and has storage is read alike
-  luma_same : (h : Header) (leaf : LumaBlock) (before : List PlaneStep) (p : Plane T) (written : Written) → ((x y : ℕ) → is_some (written x y) ≡ list_any (draws Y x y) before) → LumaReady h before leaf → LumaStored h leaf p.plane_cfg
+  luma_same : (h : Header) (leaf : LumaBlock) (before : List PlaneStep) (p : Plane T) (written : Written) →
+      ((x y : ℕ) → is_some (written x y) ≡ list_any (draws Y x y) before) → LumaReady h before leaf → LumaStored h leaf p.plane_cfg
       → Agrees num p written → (x y : ℕ) → x < columns_read (chroma_block (luma_of h leaf)) → y < rows_read (chroma_block (luma_of h leaf))
-      → sample_at num p (first_column (luma_of h leaf) + x) (first_row (luma_of h leaf) + y) ≡ sample_of (written (first_column (luma_of h leaf) + x) (first_row (luma_of h leaf) + y))
+      → sample_at num p (first_column (luma_of h leaf) + x) (first_row (luma_of h leaf) + y) ≡
+      sample_of (written (first_column (luma_of h leaf) + x) (first_row (luma_of h leaf) + y))
   luma_same h leaf before p written is ready stored agrees x y hx hy =
       let c = first_column (luma_of h leaf) + x in
       let r = first_row (luma_of h leaf) + y in
-      sym (ap sample_of (stored_is num p written agrees c r (stored_at _ (first_column (luma_of h leaf)) _ x _ stored.columns hx) (stored_at _ (first_row (luma_of h leaf)) _ y _ stored.rows hy) (is c r ∙ ready x y hx hy)))
+      sym (ap sample_of (stored_is num p written agrees c r (stored_at _ (first_column (luma_of h leaf)) _ x _ stored.columns hx)
+      (stored_at _ (first_row (luma_of h leaf)) _ y _ stored.rows hy) (is c r ∙ ready x y hx hy)))
 
   -- and so is how far it is from its mean
-  differences_same : (h : Header) (block : PlaneBlock) (k : Component) (f g : ℕ → ℕ → ℕ) (r c : ℕ) → r < (chroma_block (luma_of h block.leaf)).height → c < (chroma_block (luma_of h block.leaf)).width
+  differences_same : (h : Header) (block : PlaneBlock) (k : Component) (f g : ℕ → ℕ → ℕ) (r c : ℕ) → r < (chroma_block (luma_of h block.leaf)).height →
+      c < (chroma_block (luma_of h block.leaf)).width
       → ((x y : ℕ) → x < columns_read (chroma_block (luma_of h block.leaf)) → y < rows_read (chroma_block (luma_of h block.leaf))
-      → f (first_column (luma_of h block.leaf) + x) (first_row (luma_of h block.leaf) + y) ≡ g (first_column (luma_of h block.leaf) + x) (first_row (luma_of h block.leaf) + y))
+      → f (first_column (luma_of h block.leaf) + x) (first_row (luma_of h block.leaf) + y) ≡ g (first_column (luma_of h block.leaf) + x)
+      (first_row (luma_of h block.leaf) + y))
       → luma_for h f k block r c ≡ luma_for h g k block r c
   differences_same h block Y f g r c hr hc same = refl
   differences_same h block U f g r c hr hc same = leaf_difference_same f g (luma_of h block.leaf) r c (halved_x h 1) (halved_y h 1) hr hc same
   differences_same h block V f g r c hr hc same = leaf_difference_same f g (luma_of h block.leaf) r c (halved_x h 1) (halved_y h 1) hr hc same
 
   -- a sample looks at luma at its own row and column alone
-  by_mode_luma : (extent : PlaneExtent) (filter : Option IntraEdgeFilterParameters) (mode : PredictionMode) (param : IntraParam) (a : VisibleArea) (edges : PredictionMode → ℤ → Edge) (f g : ℕ → ℕ → ℤ) (r c : ℕ)
+  by_mode_luma : (extent : PlaneExtent) (filter : Option IntraEdgeFilterParameters) (mode : PredictionMode) (param : IntraParam) (a : VisibleArea)
+      (edges : PredictionMode → ℤ → Edge) (f g : ℕ → ℕ → ℤ) (r c : ℕ)
       → f r c ≡ g r c → by_mode extent filter mode param a edges f r c ≡ by_mode extent filter mode param a edges g r c
   by_mode_luma extent filter mode param a edges f g r c e = predicted_luma _ _ _ _ f g _ r c e
 
   -- what is predicted by place is what the canvas predicts
-  prediction_same : (plan : PlanValue) (before : List PlaneStep) (k : Component) (block : PlaneBlock) (n : ℕ) (a : VisibleArea) (planes : Planes T) (p : Plane T) (of : Prediction) → PredictionReady plan.header k before block n a of
+  prediction_same : (plan : PlanValue) (before : List PlaneStep) (k : Component) (block : PlaneBlock) (n : ℕ) (a : VisibleArea) (planes : Planes T)
+      (p : Plane T) (of : Prediction) → PredictionReady plan.header k before block n a of
       → AllWhole plan.header planes → AllAgree num planes (walked plan before) → p ≡ plane_of k planes → (r c : ℕ) → r < a.height → c < a.width
       → by_prediction plan (number k) of a (placed_edge plan.header (number k) block n a num p) (luma_for plan.header (sample_at num planes.y) k block) r c
-      ≡ by_prediction plan (number k) of a (λ m z. edge (extent_of plan.header (number k)) plan.header.edge_filter (walked plan before k) m z a) (luma_for plan.header (λ x y. sample_of (walked plan before Y x y)) k block) r c
+      ≡ by_prediction plan (number k) of a (λ m z. edge (extent_of plan.header (number k)) plan.header.edge_filter (walked plan before k) m z a)
+      (luma_for plan.header (λ x y. sample_of (walked plan before Y x y)) k block) r c
   unfolding by_prediction
   prediction_same plan before k block n a planes p (predictions.Intra mode step filter) ready s t is r c hr hc =
       let own = subst (λ (q : Plane T). IsPlaneOf plan.header (number k) q) (sym is) (s.plane k) in
@@ -259,47 +293,63 @@ module _ {T : Type 0} (num : T → ℕ) (pixel : ℕ → T) (law : (v : ℕ) →
       let fast = sample_at num planes.y in
       let slow = λ (x y : ℕ). sample_of (walked plan before Y x y) in
       by_mode_same plan before k block n a p ready.edge own held None UV_CFL_PRED (Alpha alpha) (luma_for h fast k block) r c
-      ∙ by_mode_luma (extent_of h (number k)) None UV_CFL_PRED (Alpha alpha) a (λ m z. edge (extent_of h (number k)) h.edge_filter (walked plan before k) m z a) (luma_for h fast k block) (luma_for h slow k block) r c
+      ∙ by_mode_luma (extent_of h (number k)) None UV_CFL_PRED (Alpha alpha) a (λ m z. edge (extent_of h (number k)) h.edge_filter (walked plan before k) m z a)
+      (luma_for h fast k block) (luma_for h slow k block) r c
       (differences_same h block k fast slow r c (subst (λ (m : ℕ). r < m) ready.rows hr) (subst (λ (m : ℕ). c < m) ready.columns hc)
       (luma_same h block.leaf before planes.y (walked plan before Y) (walk_written plan before Y) ready.luma (ready.stored planes.y.plane_cfg s.room) (t Y)))
   prediction_same plan before k block n a planes p (predictions.Single mode reference mv) ready s t is r c hr hc = refl
   prediction_same plan before k block n a planes p (predictions.Compound mode references mvs) ready s t is r c hr hc = refl
 
   -- a step that is ready, in its plane and on its canvas
-  plane_agrees : (plan : PlanValue) (before : List PlaneStep) (k : Component) (step : Step) (planes : Planes T) → StepReadyIn plan.header k before step → AllWhole plan.header planes → AllAgree num planes (walked plan before)
-      → Agrees num (fast_in num pixel plan (number k) (luma_for plan.header (sample_at num planes.y) k) (plane_of k planes) step) (slow_in plan (walked plan before) k step)
+  plane_agrees : (plan : PlanValue) (before : List PlaneStep) (k : Component) (step : Step) (planes : Planes T) → StepReadyIn plan.header k before step →
+      AllWhole plan.header planes → AllAgree num planes (walked plan before)
+      → Agrees num (fast_in num pixel plan (number k) (luma_for plan.header (sample_at num planes.y) k) (plane_of k planes) step)
+      (slow_in plan (walked plan before) k step)
   unfolding fast_in slow_in predicted
   plane_agrees plan before k (predict block n a) planes ready s t =
       agrees_drawn (plane_of k planes) (walked plan before k) a _ _ (s.plane k).whole
-      (λ r c m v o hr hc q w. law _ ∙ prediction_same plan before k block n a planes (plane_of k planes) block.prediction ready s t refl r c hr hc ∙ same_Some _ _ w) (t k)
+      (λ r c m v o hr hc q w. law _ ∙ prediction_same plan before k block n a planes (plane_of k planes) block.prediction ready s t refl r c hr hc
+      ∙ same_Some _ _ w) (t k)
   plane_agrees plan before k (add block triples n a) planes ready s t =
       let depth = plan.header.depth in
       agrees_drawn (plane_of k planes) (walked plan before k) a _ _ (s.plane k).whole
-      (λ r c m v o hr hc q w. law _ ∙ ap (λ (u : ℕ). added depth u (block_residue depth block triples n r c)) (law v) ∙ added_is (λ u. added depth u (block_residue depth block triples n r c)) o m v q w) (t k)
+      (λ r c m v o hr hc q w. law _ ∙ ap (λ (u : ℕ). added depth u (block_residue depth block triples n r c)) (law v)
+      ∙ added_is (λ u. added depth u (block_residue depth block triples n r c)) o m v q w) (t k)
 
-  step_agrees : (plan : PlanValue) (before : List PlaneStep) (s : PlaneStep) (planes : Planes T) → StepReady plan.header before s → AllWhole plan.header planes → AllAgree num planes (walked plan before) → AllAgree num (fast_step num pixel plan planes s) (slow_step plan (walked plan before) s)
+  step_agrees : (plan : PlanValue) (before : List PlaneStep) (s : PlaneStep) (planes : Planes T) → StepReady plan.header before s →
+      AllWhole plan.header planes → AllAgree num planes (walked plan before) →
+      AllAgree num (fast_step num pixel plan planes s) (slow_step plan (walked plan before) s)
   unfolding fast_step slow_step
   step_agrees plan before s planes ready t a =
       let k = s.component in
-      agree_with num planes (walked plan before) (fast_in num pixel plan (number k) (luma_for plan.header (sample_at num planes.y) k) (plane_of k planes) s.step) (slow_in plan (walked plan before) k s.step) k (plane_agrees plan before k s.step planes ready t a) a
+      agree_with num planes (walked plan before)
+      (fast_in num pixel plan (number k) (luma_for plan.header (sample_at num planes.y) k) (plane_of k planes) s.step)
+      (slow_in plan (walked plan before) k s.step) k (plane_agrees plan before k s.step planes ready t a) a
 
   step_whole : (plan : PlanValue) (planes : Planes T) (s : PlaneStep) → AllWhole plan.header planes → AllWhole plan.header (fast_step num pixel plan planes s)
   unfolding fast_step
   step_whole plan planes s t =
-      whole_with plan.header planes s.component _ t (step_place plan s.component _ (plane_of s.component planes) s.step (t.plane s.component)) (step_cfg plan s.component _ (plane_of s.component planes) s.step)
+      whole_with plan.header planes s.component _ t (step_place plan s.component _ (plane_of s.component planes) s.step (t.plane s.component))
+      (step_cfg plan s.component _ (plane_of s.component planes) s.step)
 
-  walk_agrees : (plan : PlanValue) (before rest : List PlaneStep) (planes : Planes T) → Each (StepReady plan.header) before rest → AllWhole plan.header planes → AllAgree num planes (walked plan before) → AllAgree num (fold (fast_step num pixel plan) planes rest) (walked plan (before ++ rest))
+  walk_agrees : (plan : PlanValue) (before rest : List PlaneStep) (planes : Planes T) → Each (StepReady plan.header) before rest → AllWhole plan.header planes →
+      AllAgree num planes (walked plan before) → AllAgree num (fold (fast_step num pixel plan) planes rest) (walked plan (before ++ rest))
   walk_agrees plan before [] planes e t a = subst (λ (l : List PlaneStep). AllAgree num planes (walked plan l)) (sym (append-nil before)) a
   walk_agrees plan before (s ∷ rest) planes e t a =
       let next = fast_step num pixel plan planes s in
-      let one : AllAgree num next (walked plan (before ++ s ∷ [])) = subst (AllAgree num next) (sym (fold_push (slow_step plan) blank before s)) (step_agrees plan before s planes e.0 t a) in
-      subst (λ (l : List PlaneStep). AllAgree num (fold (fast_step num pixel plan) next rest) (walked plan l)) (append_assoc before (s ∷ []) rest) (walk_agrees plan (before ++ s ∷ []) rest next e.1 (step_whole plan planes s t) one)
+      let one : AllAgree num next (walked plan (before ++ s ∷ [])) =
+      subst (AllAgree num next) (sym (fold_push (slow_step plan) blank before s)) (step_agrees plan before s planes e.0 t a) in
+      subst (λ (l : List PlaneStep). AllAgree num (fold (fast_step num pixel plan) next rest) (walked plan l)) (append_assoc before (s ∷ []) rest)
+      (walk_agrees plan (before ++ s ∷ []) rest next e.1 (step_whole plan planes s t) one)
 
   -- after all steps each visible sample is that of the slow walk, whatever the planes held before
-  pub samples_shown : (plan : PlanValue) (p q : Planes T) → AreReady plan.header plan.leaves → AllWhole plan.header p → ((k : Component) → IsPlaneOf plan.header (number k) (plane_of k q)) → q ≡ fold (fast_step num pixel plan) p (steps plan.header plan.leaves)
-      → (k : Component) (x y : ℕ) → x < plane_width plan.header (number k) → y < plane_height plan.header (number k) → slow_walk plan k x y ≡ Some (sample_at num (plane_of k q) x y)
+  pub samples_shown : (plan : PlanValue) (p q : Planes T) → AreReady plan.header plan.leaves → AllWhole plan.header p →
+      ((k : Component) → IsPlaneOf plan.header (number k) (plane_of k q)) → q ≡ fold (fast_step num pixel plan) p (steps plan.header plan.leaves)
+      → (k : Component) (x y : ℕ) → x < plane_width plan.header (number k) → y < plane_height plan.header (number k) →
+      slow_walk plan k x y ≡ Some (sample_at num (plane_of k q) x y)
   unfolding slow_walk
   samples_shown plan p q r s t e k x y hx hy =
       let all = steps plan.header plan.leaves in
-      let a : AllAgree num q (walked plan all) = subst (λ (z : Planes T). AllAgree num z (walked plan all)) (sym e) (walk_agrees plan [] all p r.ready s (λ c i j v m n w. cc)) in
+      let a : AllAgree num q (walked plan all) =
+      subst (λ (z : Planes T). AllAgree num z (walked plan all)) (sym e) (walk_agrees plan [] all p r.ready s (λ c i j v m n w. cc)) in
       written_is num plan.header (number k) (plane_of k q) (walked plan all k) (t k) (a k) x y hx hy (walk_written plan all k x y ∙ r.whole k x y hx hy)

@@ -83,13 +83,15 @@ none_when true x h = absurd (h refl)
 none_when false x h = refl
 
 -- in a frame, a block of a rectangle in column `column` of row `row`, of `across` side by side
-module _ (h : Header) (p : ℕ) (a : PlaneArea) (row column x y : ℕ) (is_column : column < blocks_across a) (at_x : x ≡ a.x + column * tx_width a.tx_size) (at_y : y ≡ a.y + row * tx_height a.tx_size) where
+module _ (h : Header) (p : ℕ) (a : PlaneArea) (row column x y : ℕ) (is_column : column < blocks_across a) (at_x : x ≡ a.x + column * tx_width a.tx_size)
+    (at_y : y ≡ a.y + row * tx_height a.tx_size) where
   here : block_at a (row * blocks_across a + column) ≡ record { x = x; y = y }
   unfolding block_at
   here = rw (column_in (blocks_across a) row column is_column, row_in (blocks_across a) row column is_column, at_x, at_y) refl
 
   -- it begins in the visible plane
-  pub block_begins : row * blocks_across a + column < block_count a → x < plane_width h p → y < plane_height h p → transform_block h p a (row * blocks_across a + column) ≡ Some (record { x = x; y = y })
+  pub block_begins : row * blocks_across a + column < block_count a → x < plane_width h p → y < plane_height h p →
+      transform_block h p a (row * blocks_across a + column) ≡ Some (record { x = x; y = y })
   unfolding transform_block has_block
   block_begins few begins_x begins_y =
       let n = row * blocks_across a + column in
@@ -125,6 +127,8 @@ pub column_ends : (a : PlaneArea) (column : ℕ) → column < blocks_across a �
 unfolding blocks_across
 column_ends a column is = ends_in (tx_width a.tx_size) (block_width a.size) column is
 
-pub row_ends : (a : PlaneArea) (row column : ℕ) → column < blocks_across a → row * blocks_across a + column < block_count a → row * tx_height a.tx_size + tx_height a.tx_size ≤ block_height a.size
+pub row_ends : (a : PlaneArea) (row column : ℕ) → column < blocks_across a → row * blocks_across a + column < block_count a →
+    row * tx_height a.tx_size + tx_height a.tx_size ≤ block_height a.size
 unfolding block_count
-row_ends a row column is few = ends_in (tx_height a.tx_size) (block_height a.size) row (row_of_few (blocks_across a) (block_height a.size / tx_height a.tx_size) row column is few)
+row_ends a row column is few =
+    ends_in (tx_height a.tx_size) (block_height a.size) row (row_of_few (blocks_across a) (block_height a.size / tx_height a.tx_size) row column is few)

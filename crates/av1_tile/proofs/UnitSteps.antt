@@ -1,5 +1,6 @@
 -- The steps of a plane as the theory of coding order counts them: each prediction, in units of 4 by 4 samples.
-use Rattle.std.proofs.Common.{ℕ, zero, suc, ◌+◌, ◌-◌, ◌*◌, ◌/◌, ◌%◌, ◌^◌, ◌<◌, ◌≤◌, ◌≡◌, max, Bool, true, false, if◌then◌else◌, List, [], ◌∷◌, ◌++◌, Option, Some, None, refl, ap, arith, ◌∙◌, sym}
+use Rattle.std.proofs.Common.{ℕ, zero, suc, ◌+◌, ◌-◌, ◌*◌, ◌/◌, ◌%◌, ◌^◌, ◌<◌, ◌≤◌, ◌≡◌, max, Bool, true, false, if◌then◌else◌, List, [], ◌∷◌, ◌++◌, Option}
+use Rattle.std.proofs.Common.{Some, None, refl, ap, arith, ◌∙◌, sym}
 use Rattle.std.specs.List.{flat_map, filter_map, range_with_len, cons_option, AllByRecursion}
 use Rattle.std.proofs.lemmas.Grind.{flat_map-append}
 use Rattle.std.proofs.lemmas.List.{append-nil, map-append}
@@ -32,7 +33,8 @@ use Rattle.av1_plan.specs.declared.leaf.LeafKind.{LeafKind}
 use Rattle.av1_plan.specs.declared.leaf.LeafKind.TheVariants.{Intra, Single, Compound}
 use Rattle.av1_tile.specs.Canvas.{Component, Y, U, V, is_same}
 use Rattle.av1_tile.specs.PlaneBlocks.{number, block_told, plane_block, prediction_in, told_at, is_whole, triples_in}
-use Rattle.av1_tile.specs.Steps.{Step, predict, add, PlaneStep, joined, block_area, whole_area, block_steps, steps_at, whole_steps, plane_steps, in_component, component_steps, steps_of, leaf_steps, steps_after, steps}
+use Rattle.av1_tile.specs.Steps.{Step, predict, add, PlaneStep, joined, block_area, whole_area, block_steps, steps_at, whole_steps, plane_steps, in_component}
+use Rattle.av1_tile.specs.Steps.{component_steps, steps_of, leaf_steps, steps_after, steps}
 
 -- the prediction of the rectangle a of a leaf's block, in units; sx and sy are 1 where the plane is halved
 abbrev pub unit_step : (sx sy : ℕ) → PlaneBlock → VisibleArea → order.Step
@@ -113,14 +115,19 @@ from_place a u c e = omega (arith, e)
 -- ---- the steps of a part
 
 -- steps of one plane, one piece behind the other
-pub units_joined : (sx sy : ℕ) (k : Component) (f : ℕ → List Step) (ns : List ℕ) → units sx sy k (in_component k (flat_map f ns)) ≡ flat_map (λ n. units sx sy k (in_component k (f n))) ns
+pub units_joined : (sx sy : ℕ) (k : Component) (f : ℕ → List Step) (ns : List ℕ) →
+    units sx sy k (in_component k (flat_map f ns)) ≡ flat_map (λ n. units sx sy k (in_component k (f n))) ns
 units_joined sx sy k f [] = refl
 units_joined sx sy k f (n ∷ ns) =
-    ap (flat_map (unit_of sx sy k)) (map-append _ (f n) (flat_map f ns)) ∙ flat_map-append (unit_of sx sy k) (in_component k (f n)) (in_component k (flat_map f ns)) ∙ ap (λ l. units sx sy k (in_component k (f n)) ++ l) (units_joined sx sy k f ns)
+    ap (flat_map (unit_of sx sy k)) (map-append _ (f n) (flat_map f ns))
+    ∙ flat_map-append (unit_of sx sy k) (in_component k (f n)) (in_component k (flat_map f ns))
+    ∙ ap (λ l. units sx sy k (in_component k (f n)) ++ l) (units_joined sx sy k f ns)
 
 -- the steps of a transform block that is predicted by itself, if there is one
-units_block : (sx sy : ℕ) (k : Component) (block : PlaneBlock) (triples : List Triple) (n : ℕ) → is_whole block.prediction ≡ false → (t : Bool) (b : TransformBlock)
-    → units sx sy k (in_component k (block_steps block triples n (if t then Some b else None))) ≡ (if t then unit_step sx sy block (block_area block b) ∷ [] else [])
+units_block : (sx sy : ℕ) (k : Component) (block : PlaneBlock) (triples : List Triple) (n : ℕ) → is_whole block.prediction ≡ false →
+    (t : Bool) (b : TransformBlock)
+    → units sx sy k (in_component k (block_steps block triples n (if t then Some b else None))) ≡ (if t then unit_step sx sy block (block_area block b) ∷ []
+    else [])
 units_block sx sy k block triples n own true b = rw (own, same_component k) refl
 units_block sx sy k block triples n own false b = refl
 
@@ -146,10 +153,13 @@ joined_option (Some x) xs = refl
 joined_option None xs = refl
 
 -- pieces of one item or none each
-pub pieces_kept : {A : Type 0} (f : ℕ → List A) (g : ℕ → Option A) (a n : ℕ) → ((i : ℕ) → i < a + n → f i ≡ cons_option (g i) []) → flat_map f (range_with_len a n) ≡ filter_map g (range_with_len a n)
+pub pieces_kept : {A : Type 0} (f : ℕ → List A) (g : ℕ → Option A) (a n : ℕ) → ((i : ℕ) → i < a + n → f i ≡ cons_option (g i) []) →
+    flat_map f (range_with_len a n) ≡ filter_map g (range_with_len a n)
 pieces_kept f g a zero same = refl
 pieces_kept f g a (suc n) same =
-    ap (λ l. l ++ flat_map f (range_with_len (a + 1) n)) (same a (omega arith)) ∙ ap (λ l. cons_option (g a) [] ++ l) (pieces_kept f g (a + 1) n (λ i h. same i (omega arith))) ∙ joined_option (g a) (filter_map g (range_with_len (a + 1) n))
+    ap (λ l. l ++ flat_map f (range_with_len (a + 1) n)) (same a (omega arith))
+    ∙ ap (λ l. cons_option (g a) [] ++ l) (pieces_kept f g (a + 1) n (λ i h. same i (omega arith)))
+    ∙ joined_option (g a) (filter_map g (range_with_len (a + 1) n))
 
 -- a leaf is predicted over its whole area where it is predicted from references
 pub whole_is_inter : (filter : Option IntraEdgeFilterParameters) (k : Component) (kind : LeafKind) → is_whole (prediction_in filter k kind) ≡ is_inter kind
@@ -168,7 +178,8 @@ whole_is_inter filter U (Compound mode references mvs) = refl
 whole_is_inter filter V (Compound mode references mvs) = refl
 
 -- a leaf's block in plane k of a frame
-module _ (h : Header) (filter : Option IntraEdgeFilterParameters) (k : Component) (leaf : LeafValue) (frame : IsWholeFrame h) (grid : IsOnGrid h leaf) (valid : IsValidLeaf h leaf) where
+module _ (h : Header) (filter : Option IntraEdgeFilterParameters) (k : Component) (leaf : LeafValue) (frame : IsWholeFrame h) (grid : IsOnGrid h leaf)
+    (valid : IsValidLeaf h leaf) where
   abbrev sx : ℕ
   sx = xdec h (number k)
 
@@ -205,13 +216,20 @@ module _ (h : Header) (filter : Option IntraEdgeFilterParameters) (k : Component
   block_tx_size = refl
 
   -- a block that begins at a place in units
-  unit_is : (i j : ℕ) → unit_step sx sy block (block_area block (record { x = 4 * ((units_in h (number k) leaf frame grid valid).x + i); y = 4 * ((units_in h (number k) leaf frame grid valid).y + j) })) ≡ unit_at (widened sx sy (cells_of leaf)) i j coding.columns coding.rows
+  unit_is : (i j : ℕ) →
+      unit_step sx sy block
+      (block_area block (record {
+        x = 4 * ((units_in h (number k) leaf frame grid valid).x + i);
+        y = 4 * ((units_in h (number k) leaf frame grid valid).y + j);
+      })) ≡ unit_at (widened sx sy (cells_of leaf)) i j coding.columns coding.rows
   unit_is i j =
       let b = widened sx sy (cells_of leaf) in
-      let columns : block_width block.area.size / 4 * 2 ^ sx ≡ b.columns = sym (side_cells _ _ (2 ^ sx) block_columns) ∙ widened_width leaf.size sx (halved_x h (number k)) in
+      let columns : block_width block.area.size / 4 * 2 ^ sx ≡ b.columns = sym (side_cells _ _ (2 ^ sx) block_columns)
+      ∙ widened_width leaf.size sx (halved_x h (number k)) in
       let rows : block_height block.area.size / 4 * 2 ^ sy ≡ b.rows = sym (side_cells _ _ (2 ^ sy) block_rows) ∙ widened_height leaf.size sy halved_down in
       step_same _ b _ i _ j _ coding.columns _ coding.rows
-      (block_same _ b.x _ b.y _ b.columns _ b.rows (place_cells sx (leaf.x / 4) _ (halved_x h (number k)) block_x) (place_cells sy (leaf.y / 4) _ halved_down block_y) columns rows)
+      (block_same _ b.x _ b.y _ b.columns _ b.rows (place_cells sx (leaf.x / 4) _ (halved_x h (number k)) block_x)
+      (place_cells sy (leaf.y / 4) _ halved_down block_y) columns rows)
       (from_place _ _ i block_x) (from_place _ _ j block_y) (ap (λ t. tx_width t / 4) block_tx_size) (ap (λ t. tx_height t / 4) block_tx_size)
 
   -- all of its area at once
@@ -219,17 +237,20 @@ module _ (h : Header) (filter : Option IntraEdgeFilterParameters) (k : Component
   whole_unit =
       let b = widened sx sy (cells_of leaf) in
       let u = units_in h (number k) leaf frame grid valid in
-      let columns : block_width block.area.size / 4 * 2 ^ sx ≡ b.columns = sym (side_cells _ _ (2 ^ sx) block_columns) ∙ widened_width leaf.size sx (halved_x h (number k)) in
+      let columns : block_width block.area.size / 4 * 2 ^ sx ≡ b.columns = sym (side_cells _ _ (2 ^ sx) block_columns)
+      ∙ widened_width leaf.size sx (halved_x h (number k)) in
       let rows : block_height block.area.size / 4 * 2 ^ sy ≡ b.rows = sym (side_cells _ _ (2 ^ sy) block_rows) ∙ widened_height leaf.size sy halved_down in
       step_same _ b _ 0 _ 0 _ u.columns _ u.rows
-      (block_same _ b.x _ b.y _ b.columns _ b.rows (place_cells sx (leaf.x / 4) _ (halved_x h (number k)) block_x) (place_cells sy (leaf.y / 4) _ halved_down block_y) columns rows)
+      (block_same _ b.x _ b.y _ b.columns _ b.rows (place_cells sx (leaf.x / 4) _ (halved_x h (number k)) block_x)
+      (place_cells sy (leaf.y / 4) _ halved_down block_y) columns rows)
       (nothing block.area.x) (nothing block.area.y) (omega (arith, block_columns)) (omega (arith, block_rows))
     where
       nothing : (a : ℕ) → (a - a) / 4 ≡ 0
       nothing a = omega arith
 
   -- transform block n, where the leaf is predicted block by block
-  pub number_units : (triples : List Triple) → is_inter leaf.kind ≡ false → (n : ℕ) → n < block_count block.area → units sx sy k (in_component k (steps_at h block triples n)) ≡ cons_option (numbered_in h (number k) leaf frame grid valid n) []
+  pub number_units : (triples : List Triple) → is_inter leaf.kind ≡ false → (n : ℕ) → n < block_count block.area →
+      units sx sy k (in_component k (steps_at h block triples n)) ≡ cons_option (numbered_in h (number k) leaf frame grid valid n) []
   unfolding steps_at
   number_units triples intra n lt =
       let x = column_of h (number k) leaf frame grid valid n * coding.columns in
@@ -262,26 +283,31 @@ module _ (h : Header) (filter : Option IntraEdgeFilterParameters) (k : Component
   pub whole_first : is_inter leaf.kind ≡ true → whole_steps block ≡ predict block 0 (whole_area block) ∷ []
   whole_first inter = ap (λ (b : Bool). if b then predict block 0 (whole_area block) ∷ [] else []) (whole_is_inter filter k leaf.kind ∙ inter)
 
-  intra_units : (triples : List Triple) → is_inter leaf.kind ≡ false → covers_plane h leaf.x leaf.y leaf.size (number k) ≡ true → units sx sy k (in_component k (plane_steps h block triples)) ≡ steps_in h (number k) leaf
+  intra_units : (triples : List Triple) → is_inter leaf.kind ≡ false → covers_plane h leaf.x leaf.y leaf.size (number k) ≡ true →
+      units sx sy k (in_component k (plane_steps h block triples)) ≡ steps_in h (number k) leaf
   unfolding joined
   intra_units triples intra covered =
       ap (λ (w : List Step). units sx sy k (in_component k (w ++ joined (block_count block.area) (steps_at h block triples)))) (nothing_whole intra)
       ∙ units_joined sx sy k (steps_at h block triples) (range_with_len 0 (block_count block.area))
-      ∙ pieces_kept (λ n. units sx sy k (in_component k (steps_at h block triples n))) (numbered_in h (number k) leaf frame grid valid) 0 (block_count block.area) (λ n lt. number_units triples intra n (omega arith))
+      ∙ pieces_kept (λ n. units sx sy k (in_component k (steps_at h block triples n)))
+      (numbered_in h (number k) leaf frame grid valid) 0 (block_count block.area) (λ n lt. number_units triples intra n (omega arith))
       ∙ sym (leaf_numbered h (number k) leaf frame grid valid intra covered)
 
-  inter_units : (triples : List Triple) → fault_of h leaf ≡ None → is_inter leaf.kind ≡ true → units sx sy k (in_component k (plane_steps h block triples)) ≡ steps_in h (number k) leaf
+  inter_units : (triples : List Triple) → fault_of h leaf ≡ None → is_inter leaf.kind ≡ true →
+      units sx sy k (in_component k (plane_steps h block triples)) ≡ steps_in h (number k) leaf
   inter_units triples faultless inter =
       let own : units sx sy k (in_component k (predict block 0 (whole_area block) ∷ [])) ≡ whole_step h (number k) leaf ∷ [] =
       rw (same_component k) (ap (λ (s : order.Step). s ∷ []) whole_unit) in
       ap (λ (w : List Step). units sx sy k (in_component k (w ++ joined (block_count block.area) (steps_at h block triples)))) (whole_first inter)
-      ∙ flat_map-append (unit_of sx sy k) (in_component k (predict block 0 (whole_area block) ∷ [])) (in_component k (joined (block_count block.area) (steps_at h block triples)))
+      ∙ flat_map-append (unit_of sx sy k) (in_component k (predict block 0 (whole_area block) ∷ []))
+      (in_component k (joined (block_count block.area) (steps_at h block triples)))
       ∙ ap (λ l. l ++ units sx sy k (in_component k (joined (block_count block.area) (steps_at h block triples)))) own
       ∙ ap (λ l. whole_step h (number k) leaf ∷ l) (blocks_added triples inter (block_count block.area))
       ∙ sym (inter_is_whole h (number k) leaf grid faultless inter).one
 
   -- its steps are those of the theory
-  pub plane_units : (triples : List Triple) → fault_of h leaf ≡ None → covers_plane h leaf.x leaf.y leaf.size (number k) ≡ true → units sx sy k (in_component k (plane_steps h block triples)) ≡ steps_in h (number k) leaf
+  pub plane_units : (triples : List Triple) → fault_of h leaf ≡ None → covers_plane h leaf.x leaf.y leaf.size (number k) ≡ true →
+      units sx sy k (in_component k (plane_steps h block triples)) ≡ steps_in h (number k) leaf
   plane_units triples faultless covered = go (is_inter leaf.kind) refl
     where
       go : (t : Bool) → is_inter leaf.kind ≡ t → units sx sy k (in_component k (plane_steps h block triples)) ≡ steps_in h (number k) leaf
@@ -303,7 +329,8 @@ module _ (h : Header) (sx sy : ℕ) (told : Component → PlaneBlock) (leaf : Le
   pub other_none : (k j : Component) → is_same k j ≡ false → component_units k j ≡ []
   other_none k j e = other_units sx sy k j e (plane_steps h (told j) (triples_in j leaf))
 
-  three : (k : Component) → units sx sy k (flat_map (component_steps h told leaf) (Y ∷ U ∷ V ∷ [])) ≡ component_units k Y ++ (component_units k U ++ component_units k V)
+  three : (k : Component) → units sx sy k (flat_map (component_steps h told leaf) (Y ∷ U ∷ V ∷ [])) ≡ component_units k Y
+      ++ (component_units k U ++ component_units k V)
   three k =
       let u = unit_of sx sy k in
       let a = component_steps h told leaf Y in
@@ -314,12 +341,16 @@ module _ (h : Header) (sx sy : ℕ) (told : Component → PlaneBlock) (leaf : Le
   one : (k : Component) → units sx sy k (flat_map (component_steps h told leaf) (Y ∷ [])) ≡ component_units k Y
   one k = ap (units sx sy k) (append-nil (component_steps h told leaf Y))
 
-  carried_units : (k : Component) (t : Bool) → units sx sy k (flat_map (component_steps h told leaf) (if t then Y ∷ U ∷ V ∷ [] else Y ∷ [])) ≡ (if covers k t then component_units k k else [])
-  carried_units Y true = three Y ∙ ap (λ l. component_units Y Y ++ l) (ap (λ l. l ++ component_units Y V) (other_none Y U refl) ∙ other_none Y V refl) ∙ append-nil (component_units Y Y)
+  carried_units : (k : Component) (t : Bool) →
+      units sx sy k (flat_map (component_steps h told leaf) (if t then Y ∷ U ∷ V ∷ [] else Y ∷ [])) ≡ (if covers k t then component_units k k else [])
+  carried_units Y true = three Y ∙ ap (λ l. component_units Y Y ++ l) (ap (λ l. l ++ component_units Y V) (other_none Y U refl) ∙ other_none Y V refl)
+      ∙ append-nil (component_units Y Y)
   carried_units Y false = one Y
-  carried_units U true = three U ∙ ap (λ l. l ++ (component_units U U ++ component_units U V)) (other_none U Y refl) ∙ ap (λ l. component_units U U ++ l) (other_none U V refl) ∙ append-nil (component_units U U)
+  carried_units U true = three U ∙ ap (λ l. l ++ (component_units U U ++ component_units U V)) (other_none U Y refl)
+      ∙ ap (λ l. component_units U U ++ l) (other_none U V refl) ∙ append-nil (component_units U U)
   carried_units U false = one U ∙ other_none U Y refl
-  carried_units V true = three V ∙ ap (λ l. l ++ (component_units V U ++ component_units V V)) (other_none V Y refl) ∙ ap (λ l. l ++ component_units V V) (other_none V U refl)
+  carried_units V true = three V ∙ ap (λ l. l ++ (component_units V U ++ component_units V V)) (other_none V Y refl)
+      ∙ ap (λ l. l ++ component_units V V) (other_none V U refl)
   carried_units V false = one V ∙ other_none V Y refl
 
   -- a leaf's steps in plane k
@@ -327,7 +358,8 @@ module _ (h : Header) (sx sy : ℕ) (told : Component → PlaneBlock) (leaf : Le
   unfolding steps_of
   leaf_only k = carried_units k (carries_chroma h leaf.x leaf.y leaf.size)
 
-pub covers_is : (h : Header) (k : Component) (leaf : LeafValue) → covers_plane h leaf.x leaf.y leaf.size (number k) ≡ covers k (carries_chroma h leaf.x leaf.y leaf.size)
+pub covers_is : (h : Header) (k : Component) (leaf : LeafValue) →
+    covers_plane h leaf.x leaf.y leaf.size (number k) ≡ covers k (carries_chroma h leaf.x leaf.y leaf.size)
 unfolding covers_plane
 covers_is h Y leaf = refl
 covers_is h U leaf = refl
@@ -340,14 +372,17 @@ pub record IsCodedLeaf (h : Header) (leaf : LeafValue) : Type 0 where
   pub faultless : fault_of h leaf ≡ None
 
 -- its steps in plane k are those of the theory
-pub leaf_units : (h : Header) (earlier : List LeafValue) (k : Component) (leaf : LeafValue) → IsCodedLeaf h leaf → units (xdec h (number k)) (ydec h (number k)) k (leaf_steps h earlier leaf) ≡ steps_in h (number k) leaf
+pub leaf_units : (h : Header) (earlier : List LeafValue) (k : Component) (leaf : LeafValue) → IsCodedLeaf h leaf →
+    units (xdec h (number k)) (ydec h (number k)) k (leaf_steps h earlier leaf) ≡ steps_in h (number k) leaf
 leaf_units h earlier k leaf is =
-    leaf_only h (xdec h (number k)) (ydec h (number k)) (λ j. plane_block h earlier j leaf) leaf k ∙ go (covers k (carries_chroma h leaf.x leaf.y leaf.size)) (covers_is h k leaf)
+    leaf_only h (xdec h (number k)) (ydec h (number k)) (λ j. plane_block h earlier j leaf) leaf k
+    ∙ go (covers k (carries_chroma h leaf.x leaf.y leaf.size)) (covers_is h k leaf)
   where
     valid : IsValidLeaf h leaf
     valid = valid_leaf h leaf is.faultless
 
-    go : (t : Bool) → covers_plane h leaf.x leaf.y leaf.size (number k) ≡ t → (if t then component_units h (xdec h (number k)) (ydec h (number k)) (λ j. plane_block h earlier j leaf) leaf k k else []) ≡ steps_in h (number k) leaf
+    go : (t : Bool) → covers_plane h leaf.x leaf.y leaf.size (number k) ≡ t →
+        (if t then component_units h (xdec h (number k)) (ydec h (number k)) (λ j. plane_block h earlier j leaf) leaf k k else []) ≡ steps_in h (number k) leaf
     go true e = plane_units h (told_at h earlier k leaf) k leaf is.frame is.grid valid (triples_in k leaf) is.faultless e
     go false e = sym (uncovered h (number k) leaf is.frame is.grid valid e)
 

@@ -1,5 +1,6 @@
 -- What the steps of a plan write, in samples: each prediction lies on whole units of 4 by 4 samples.
-use Rattle.std.proofs.Common.{ℕ, ◌+◌, ◌-◌, ◌*◌, ◌/◌, ◌%◌, ◌^◌, ◌≡◌, Bool, true, false, ◌&&◌, ◌||◌, if◌then◌else◌, List, [], ◌∷◌, ◌++◌, Option, Some, None, refl, ap, arith, ◌∙◌, sym, subst}
+use Rattle.std.proofs.Common.{ℕ, ◌+◌, ◌-◌, ◌*◌, ◌/◌, ◌%◌, ◌^◌, ◌≡◌, Bool, true, false, ◌&&◌, ◌||◌, if◌then◌else◌, List, [], ◌∷◌, ◌++◌, Option, Some, None, refl}
+use Rattle.std.proofs.Common.{ap, arith, ◌∙◌, sym, subst}
 use Rattle.std.specs.List.{flat_map, range_with_len, list_any, AllByRecursion}
 use Rattle.std.specs.Prelude.{⊤}
 use Rattle.std.proofs.Math.Bool.{or-false}
@@ -24,7 +25,8 @@ use Rattle.av1_plan.specs.declared.leaf.Triple.{Triple}
 use Rattle.av1_tile.specs.declared.plane_block.PlaneBlock.{PlaneBlock}
 use Rattle.av1_tile.specs.Canvas.{Component, Y, U, V, is_same}
 use Rattle.av1_tile.specs.PlaneBlocks.{number, block_told, is_whole, plane_block, told_at, triples_in}
-use Rattle.av1_tile.specs.Steps.{Step, predict, add, PlaneStep, joined, block_area, whole_area, block_steps, steps_at, whole_steps, plane_steps, in_component, component_steps, steps_of, leaf_steps, steps_after, steps}
+use Rattle.av1_tile.specs.Steps.{Step, predict, add, PlaneStep, joined, block_area, whole_area, block_steps, steps_at, whole_steps, plane_steps, in_component}
+use Rattle.av1_tile.specs.Steps.{component_steps, steps_of, leaf_steps, steps_after, steps}
 use Rattle.av1_tile.proofs.Readiness.{predicts, draws}
 use Rattle.av1_tile.proofs.TransformBlocks.{block_found}
 use Rattle.av1_tile.proofs.UnitSteps.{unit_step, unit_in, unit_of, units, block_x, block_y, block_tx_size, nothing_whole, whole_first, whole_unit, IsCodedLeaf}
@@ -66,23 +68,31 @@ same_is V Y e = absurd cc
 same_is V U e = absurd cc
 
 step_covers : (sx sy : ℕ) (block : PlaneBlock) (a : VisibleArea) (x y : ℕ) → IsOnUnits sx sy block a
-    → in_visible a x y ≡ is_in x y (left sx sy (unit_step sx sy block a)) (top sx sy (unit_step sx sy block a)) (width_of sx sy (unit_step sx sy block a)) (height_of sx sy (unit_step sx sy block a))
+    → in_visible a x y ≡ is_in x y (left sx sy (unit_step sx sy block a)) (top sx sy (unit_step sx sy block a)) (width_of sx sy (unit_step sx sy block a))
+    (height_of sx sy (unit_step sx sy block a))
 step_covers sx sy block a x y f = in_area a x y ∙ rw (f.x, f.y, f.columns, f.rows) refl
 
 module _ (h : Header) (k : Component) where
   abbrev units_of : List PlaneStep → List order.Step
   units_of steps = units (xdec h (number k)) (ydec h (number k)) k steps
 
-  covered_one : (j : Component) (step : Step) → fits_in h j step → (x y : ℕ) → predicts k x y step j ≡ is_covered_sample (xdec h (number k)) (ydec h (number k)) (unit_in (xdec h (number k)) (ydec h (number k)) k j step) x y
+  covered_one : (j : Component) (step : Step) → fits_in h j step → (x y : ℕ) →
+      predicts k x y step j ≡ is_covered_sample (xdec h (number k)) (ydec h (number k)) (unit_in (xdec h (number k)) (ydec h (number k)) k j step) x y
   covered_one j (add block triples n a) f x y = refl
   covered_one j (predict block n a) f x y = go (is_same k j) refl
     where
-      go : (t : Bool) → is_same k j ≡ t → (t && in_visible a x y) ≡ is_covered_sample (xdec h (number k)) (ydec h (number k)) (if t then unit_step (xdec h (number k)) (ydec h (number k)) block a ∷ [] else []) x y
-      go true e = step_covers (xdec h (number k)) (ydec h (number k)) block a x y (subst (λ (i : Component). IsOnUnits (xdec h (number i)) (ydec h (number i)) block a) (sym (same_is k j e)) f) ∙ sym (or-false _)
+      go : (t : Bool) → is_same k j ≡ t →
+          (t && in_visible a x y) ≡ is_covered_sample (xdec h (number k)) (ydec h (number k))
+          (if t then unit_step (xdec h (number k)) (ydec h (number k)) block a ∷ [] else []) x y
+      go true e =
+          step_covers (xdec h (number k))
+          (ydec h (number k)) block a x y (subst (λ (i : Component). IsOnUnits (xdec h (number i)) (ydec h (number i)) block a) (sym (same_is k j e)) f)
+          ∙ sym (or-false _)
       go false e = refl
 
   -- a sample is written by the steps whose rectangles hold it
-  pub covered : (ss : List PlaneStep) → AllByRecursion (StepFits h) ss → (x y : ℕ) → list_any (draws k x y) ss ≡ is_covered_sample (xdec h (number k)) (ydec h (number k)) (units_of ss) x y
+  pub covered : (ss : List PlaneStep) → AllByRecursion (StepFits h) ss → (x y : ℕ) →
+      list_any (draws k x y) ss ≡ is_covered_sample (xdec h (number k)) (ydec h (number k)) (units_of ss) x y
   covered [] f x y = refl
   covered (s ∷ ss) f x y =
       ap (λ b. b || list_any (draws k x y) ss) (covered_one s.component s.step f.0 x y)
@@ -109,7 +119,8 @@ module _ (h : Header) (filter : Option IntraEdgeFilterParameters) (k : Component
   valid : IsValidLeaf h leaf
   valid = valid_leaf h leaf is.faultless
 
-  pub block_on_units : (n : ℕ) (b : TransformBlock) → transform_block h block.plane block.area n ≡ Some b → IsOnUnits (xdec h (number k)) (ydec h (number k)) block (block_area block b)
+  pub block_on_units : (n : ℕ) (b : TransformBlock) → transform_block h block.plane block.area n ≡ Some b →
+      IsOnUnits (xdec h (number k)) (ydec h (number k)) block (block_area block b)
   unfolding block_at
   block_on_units n b e =
       let a = block.area in
@@ -121,8 +132,10 @@ module _ (h : Header) (filter : Option IntraEdgeFilterParameters) (k : Component
       let wide : tx_width a.tx_size ≡ 4 * (tx_width a.tx_size / 4) = rw tx_size columns in
       let high : tx_height a.tx_size ≡ 4 * (tx_height a.tx_size / 4) = rw tx_size rows in
       record {
-        x = on_units (xdec h (number k)) a.x (a.x / 4) (n % blocks_across a) (tx_width a.tx_size) (tx_width a.tx_size / 4) b.x (omega (arith, block_x h filter k leaf is.frame is.grid valid)) wide x;
-        y = on_units (ydec h (number k)) a.y (a.y / 4) (n / blocks_across a) (tx_height a.tx_size) (tx_height a.tx_size / 4) b.y (omega (arith, block_y h filter k leaf is.frame is.grid valid)) high y;
+        x = on_units (xdec h (number k)) a.x (a.x / 4) (n % blocks_across a) (tx_width a.tx_size)
+            (tx_width a.tx_size / 4) b.x (omega (arith, block_x h filter k leaf is.frame is.grid valid)) wide x;
+        y = on_units (ydec h (number k)) a.y (a.y / 4) (n / blocks_across a) (tx_height a.tx_size)
+            (tx_height a.tx_size / 4) b.y (omega (arith, block_y h filter k leaf is.frame is.grid valid)) high y;
         columns = sym wide;
         rows = sym high;
       }
@@ -141,35 +154,45 @@ module _ (h : Header) (filter : Option IntraEdgeFilterParameters) (k : Component
       }
 
   own_steps_fit : (triples : List Triple) (n : ℕ) (t : Bool) (b : TransformBlock) → transform_block h block.plane block.area n ≡ Some b
-      → AllByRecursion (fits_in h k) (if t then add block triples n (block_area block b) ∷ [] else predict block n (block_area block b) ∷ add block triples n (block_area block b) ∷ [])
+      → AllByRecursion (fits_in h k) (if t then add block triples n (block_area block b) ∷ []
+      else predict block n (block_area block b) ∷ add block triples n (block_area block b) ∷ [])
   own_steps_fit triples n true b e = (tt, tt)
   own_steps_fit triples n false b e = (block_on_units n b e, (tt, tt))
 
-  block_steps_fit : (triples : List Triple) (n : ℕ) (o : Option TransformBlock) → transform_block h block.plane block.area n ≡ o → AllByRecursion (fits_in h k) (block_steps block triples n o)
+  block_steps_fit : (triples : List Triple) (n : ℕ) (o : Option TransformBlock) → transform_block h block.plane block.area n ≡ o →
+      AllByRecursion (fits_in h k) (block_steps block triples n o)
   block_steps_fit triples n None e = tt
   block_steps_fit triples n (Some b) e = own_steps_fit triples n (is_whole block.prediction) b e
 
   pub joined_fit : (triples : List Triple) (n : ℕ) → AllByRecursion (fits_in h k) (joined n (steps_at h block triples))
   unfolding joined steps_at
-  joined_fit triples n = all_pieces (fits_in h k) (steps_at h block triples) (range_with_len 0 n) (λ m. block_steps_fit triples m (transform_block h block.plane block.area m) refl)
+  joined_fit triples n =
+      all_pieces (fits_in h k) (steps_at h block triples) (range_with_len 0 n)
+      (λ m. block_steps_fit triples m (transform_block h block.plane block.area m) refl)
 
   whole_steps_fit : AllByRecursion (fits_in h k) (whole_steps block)
   whole_steps_fit = go (is_inter leaf.kind) refl
     where
       go : (t : Bool) → is_inter leaf.kind ≡ t → AllByRecursion (fits_in h k) (whole_steps block)
-      go true e = subst (λ (ss : List Step). AllByRecursion (fits_in h k) ss) (sym (whole_first h filter k leaf is.frame is.grid valid e)) (whole_on_units e, tt)
+      go true e = subst (λ (ss : List Step). AllByRecursion (fits_in h k) ss) (sym (whole_first h filter k leaf is.frame is.grid valid e))
+          (whole_on_units e, tt)
       go false e = subst (λ (ss : List Step). AllByRecursion (fits_in h k) ss) (sym (nothing_whole h filter k leaf is.frame is.grid valid e)) tt
 
   pub plane_steps_fit : (triples : List Triple) → AllByRecursion (fits_in h k) (plane_steps h block triples)
-  plane_steps_fit triples = all_append (fits_in h k) (whole_steps block) (joined (block_count block.area) (steps_at h block triples)) whole_steps_fit (joined_fit triples (block_count block.area))
+  plane_steps_fit triples =
+      all_append (fits_in h k) (whole_steps block)
+      (joined (block_count block.area) (steps_at h block triples)) whole_steps_fit (joined_fit triples (block_count block.area))
 
-pub in_component_fit : (h : Header) (k : Component) (steps : List Step) → AllByRecursion (fits_in h k) steps → AllByRecursion (StepFits h) (in_component k steps)
+pub in_component_fit : (h : Header) (k : Component) (steps : List Step) → AllByRecursion (fits_in h k) steps →
+    AllByRecursion (StepFits h) (in_component k steps)
 in_component_fit h k [] fit = tt
 in_component_fit h k (s ∷ steps) fit = (fit.0, in_component_fit h k steps fit.1)
 
 module _ (h : Header) (earlier : List LeafValue) (leaf : LeafValue) (is : IsCodedLeaf h leaf) where
   pub part_fits : (k : Component) → AllByRecursion (StepFits h) (component_steps h (λ j. plane_block h earlier j leaf) leaf k)
-  part_fits k = in_component_fit h k (plane_steps h (plane_block h earlier k leaf) (triples_in k leaf)) (plane_steps_fit h (told_at h earlier k leaf) k leaf is (triples_in k leaf))
+  part_fits k =
+      in_component_fit h k (plane_steps h (plane_block h earlier k leaf) (triples_in k leaf))
+      (plane_steps_fit h (told_at h earlier k leaf) k leaf is (triples_in k leaf))
 
   pub leaf_steps_fit : AllByRecursion (StepFits h) (leaf_steps h earlier leaf)
   unfolding steps_of
@@ -179,9 +202,13 @@ module _ (h : Header) (earlier : List LeafValue) (leaf : LeafValue) (is : IsCode
       c = component_steps h (λ j. plane_block h earlier j leaf) leaf
 
       go : (t : Bool) → AllByRecursion (StepFits h) (flat_map c (if t then Y ∷ U ∷ V ∷ [] else Y ∷ []))
-      go true = all_append (StepFits h) (c Y) _ (part_fits Y) (all_append (StepFits h) (c U) _ (part_fits U) (all_append (StepFits h) (c V) [] (part_fits V) tt))
+      go true =
+          all_append (StepFits h) (c Y) _ (part_fits Y) (all_append (StepFits h) (c U) _ (part_fits U) (all_append (StepFits h) (c V) [] (part_fits V) tt))
       go false = all_append (StepFits h) (c Y) [] (part_fits Y) tt
 
-pub steps_fit : (h : Header) (earlier leaves : List LeafValue) → AllByRecursion (IsCodedLeaf h) leaves → AllByRecursion (StepFits h) (steps_after h earlier leaves)
+pub steps_fit : (h : Header) (earlier leaves : List LeafValue) → AllByRecursion (IsCodedLeaf h) leaves →
+    AllByRecursion (StepFits h) (steps_after h earlier leaves)
 steps_fit h earlier [] are = tt
-steps_fit h earlier (leaf ∷ leaves) are = all_append (StepFits h) (leaf_steps h earlier leaf) (steps_after h (earlier ++ leaf ∷ []) leaves) (leaf_steps_fit h earlier leaf are.0) (steps_fit h (earlier ++ leaf ∷ []) leaves are.1)
+steps_fit h earlier (leaf ∷ leaves) are =
+    all_append (StepFits h) (leaf_steps h earlier leaf) (steps_after h (earlier ++ leaf ∷ []) leaves) (leaf_steps_fit h earlier leaf are.0)
+    (steps_fit h (earlier ++ leaf ∷ []) leaves are.1)

@@ -23,11 +23,13 @@ bits_fit bits v e =
     let above = not-true (int_lt v (neg_ℤ (pos (2 ^ (bits - 1))))) low in
     record { low = grind (arith, ints); high = grind (arith, ints) }
 
-all_fit : (h : Header) (block : PlaneBlock) (triples : List Triple) → All (IsFittingTriple h block.plane block.area) triples → All (TripleFits h.depth block) triples
+all_fit : (h : Header) (block : PlaneBlock) (triples : List Triple) → All (IsFittingTriple h block.plane block.area) triples →
+    All (TripleFits h.depth block) triples
 all_fit h block triples fit k d within = let t = fit k d within in record { place = t.place; value = bits_fit (h.depth + 8) _ t.value }
 
 -- the triples of a valid leaf, in each plane that it covers a part of
-pub triples_fit : (h : Header) (filter : Option IntraEdgeFilterParameters) (leaf : LeafValue) (k : Component) → HasFittingTriples h leaf → covers k (carries_chroma h leaf.x leaf.y leaf.size) ≡ true → All (TripleFits h.depth (block_told h filter k leaf)) (triples_in k leaf)
+pub triples_fit : (h : Header) (filter : Option IntraEdgeFilterParameters) (leaf : LeafValue) (k : Component) → HasFittingTriples h leaf →
+    covers k (carries_chroma h leaf.x leaf.y leaf.size) ≡ true → All (TripleFits h.depth (block_told h filter k leaf)) (triples_in k leaf)
 triples_fit h filter leaf Y fit covered = all_fit h (block_told h filter Y leaf) (triples_in Y leaf) fit.y
 triples_fit h filter leaf U fit covered = all_fit h (block_told h filter U leaf) (triples_in U leaf) (fit.u covered)
 triples_fit h filter leaf V fit covered = all_fit h (block_told h filter V leaf) (triples_in V leaf) (fit.v covered)
@@ -35,7 +37,8 @@ triples_fit h filter leaf V fit covered = all_fit h (block_told h filter V leaf)
 -- ---- their order
 
 -- the triples of a valid leaf rise by their blocks
-pub triples_rise : (h : Header) (leaf : LeafValue) (k : Component) → IsValidLeaf h leaf → covers k (carries_chroma h leaf.x leaf.y leaf.size) ≡ true → AreRising (triples_in k leaf)
+pub triples_rise : (h : Header) (leaf : LeafValue) (k : Component) → IsValidLeaf h leaf → covers k (carries_chroma h leaf.x leaf.y leaf.size) ≡ true →
+    AreRising (triples_in k leaf)
 triples_rise h leaf Y valid covered = blocks_rise (triples_in Y leaf) (rising_triples h leaf valid).y
 triples_rise h leaf U valid covered = blocks_rise (triples_in U leaf) ((rising_triples h leaf valid).u covered)
 triples_rise h leaf V valid covered = blocks_rise (triples_in V leaf) ((rising_triples h leaf valid).v covered)

@@ -6,7 +6,8 @@ use Rattle.av1_blocks.specs.declared.predict.PredictionMode.{PredictionMode}
 use Rattle.av1_edges.specs.Edges.{Edge}
 use Rattle.av1_frame.specs.Areas.{VisibleArea}
 use Rattle.av1_plan.specs.declared.header.Header.{Header}
-use Rattle.av1_plan.specs.Geometry.{xdec, ydec, plane_width, plane_height, carries_chroma, covers_plane, plane_place, plane_size, plane_tx_size, plane_area, has_block, transform_block}
+use Rattle.av1_plan.specs.Geometry.{xdec, ydec, plane_width, plane_height, carries_chroma, covers_plane, plane_place, plane_size, plane_tx_size, plane_area}
+use Rattle.av1_plan.specs.Geometry.{has_block, transform_block}
 use Rattle.av1_plan.specs.Plan.{LeafValue, PlanValue}
 use Rattle.av1_plan.specs.Versions.{header_in, plan_in}
 use Rattle.av1_tile.specs.declared.plane_block.PlaneBlock.{PlaneBlock}
@@ -33,11 +34,13 @@ module _ (n : ℕ) (h : Header) where
   leaf_same : (earlier : List LeafValue) (leaf : LeafValue) → leaf_steps (header_in n h) earlier leaf ≡ leaf_steps h earlier leaf
   unfolding steps_of carries_chroma xdec ydec
   leaf_same earlier leaf =
-      ap (λ (f : Component → List PlaneStep). flat_map f (if carries_chroma h leaf.x leaf.y leaf.size then Y ∷ U ∷ V ∷ [] else Y ∷ [])) (fun_ext (component_same earlier leaf))
+      ap (λ (f : Component → List PlaneStep). flat_map f (if carries_chroma h leaf.x leaf.y leaf.size then Y ∷ U ∷ V ∷ [] else Y ∷ []))
+      (fun_ext (component_same earlier leaf))
 
   steps_same : (earlier leaves : List LeafValue) → steps_after (header_in n h) earlier leaves ≡ steps_after h earlier leaves
   steps_same earlier [] = refl
-  steps_same earlier (leaf ∷ leaves) = rw (leaf_same earlier leaf) (ap (λ (ss : List PlaneStep). leaf_steps h earlier leaf ++ ss) (steps_same (earlier ++ leaf ∷ []) leaves))
+  steps_same earlier (leaf ∷ leaves) =
+      rw (leaf_same earlier leaf) (ap (λ (ss : List PlaneStep). leaf_steps h earlier leaf ++ ss) (steps_same (earlier ++ leaf ∷ []) leaves))
 
 -- ---- what a step writes
 
@@ -58,7 +61,8 @@ module _ (n : ℕ) (plan : PlanValue) where
   prediction_same V (predictions.Single mode reference mv) a edge luma r k = refl
   prediction_same V (predictions.Compound mode references mvs) a edge luma r k = refl
 
-  predicted_same : (canvas : Canvas) (c : Component) (block : PlaneBlock) (a : VisibleArea) (r k : ℕ) → predicted (plan_in n plan) canvas c block a r k ≡ predicted plan canvas c block a r k
+  predicted_same : (canvas : Canvas) (c : Component) (block : PlaneBlock) (a : VisibleArea) (r k : ℕ) →
+      predicted (plan_in n plan) canvas c block a r k ≡ predicted plan canvas c block a r k
   unfolding predicted plane_width plane_height xdec ydec
   predicted_same canvas Y block a r k = prediction_same Y block.prediction a _ _ r k
   predicted_same canvas U block a r k = prediction_same U block.prediction a _ _ r k
@@ -77,7 +81,8 @@ module _ (n : ℕ) (plan : PlanValue) where
   walk_same : slow_walk (plan_in n plan) ≡ slow_walk plan
   unfolding slow_walk
   walk_same =
-      ap (λ (f : Canvas → PlaneStep → Canvas). fold f blank (steps (header_in n plan.header) plan.leaves)) (fun_ext (λ canvas. fun_ext (λ s. step_same canvas s)))
+      ap (λ (f : Canvas → PlaneStep → Canvas). fold f blank (steps (header_in n plan.header) plan.leaves))
+      (fun_ext (λ canvas. fun_ext (λ s. step_same canvas s)))
       ∙ ap (λ (ss : List PlaneStep). fold (slow_step plan) blank ss) (steps_same n plan.header [] plan.leaves)
 
   shown_same : (f : Component → ℕ → ℕ → ℕ) → visible (header_in n plan.header) f ≡ visible plan.header f
@@ -87,4 +92,5 @@ module _ (n : ℕ) (plan : PlanValue) where
 pub versions_show_the_same : VersionsShowTheSame
 unfolding planes_of
 versions_show_the_same n plan =
-    ap (λ (w : Canvas). visible (header_in n plan.header) (λ c x y. sample_of (w c x y))) (walk_same n plan) ∙ shown_same n plan (λ c x y. sample_of (slow_walk plan c x y))
+    ap (λ (w : Canvas). visible (header_in n plan.header) (λ c x y. sample_of (w c x y))) (walk_same n plan)
+    ∙ shown_same n plan (λ c x y. sample_of (slow_walk plan c x y))

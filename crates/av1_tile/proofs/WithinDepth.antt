@@ -1,5 +1,6 @@
 -- Every step leaves samples within the depth.
-use Rattle.std.proofs.Common.{ℕ, ◌+◌, ◌^◌, ◌<◌, ◌≤◌, ◌≡◌, inl, inr, ◌&&◌, Bool, true, false, cond, min, if◌then◌else◌, List, [], ◌∷◌, ℤ, arith, refl, Option, None}
+use Rattle.std.proofs.Common.{ℕ, ◌+◌, ◌^◌, ◌<◌, ◌≤◌, ◌≡◌, inl, inr, ◌&&◌, Bool, true, false, cond, min, if◌then◌else◌, List, [], ◌∷◌, ℤ, arith, refl, Option}
+use Rattle.std.proofs.Common.{None}
 use Rattle.std.specs.List.{fold}
 use Rattle.av1_blocks.specs.Depths.{IsDepth}
 use Rattle.av1_blocks.specs.declared.predict.PredictionMode.{PredictionMode}
@@ -42,7 +43,8 @@ deep depth (inr (inl e)) = omega (arith, e)
 deep depth (inr (inr e)) = omega (arith, e)
 
 -- a painted plane is one of the same plane of the frame
-pub painted_place : {T : Type 0} (h : Header) (p : ℕ) (plane : Plane T) (a : VisibleArea) (f : ℕ → ℕ → T → T) → IsPlaneOf h p plane → IsPlaneOf h p (painted_plane plane a f)
+pub painted_place : {T : Type 0} (h : Header) (p : ℕ) (plane : Plane T) (a : VisibleArea) (f : ℕ → ℕ → T → T) → IsPlaneOf h p plane →
+    IsPlaneOf h p (painted_plane plane a f)
 painted_place h p plane a f s = record { whole = painted_plane_whole plane a f s.whole; width = s.width; height = s.height; xdec = s.xdec; ydec = s.ydec }
 
 -- a rectangle that begins in the visible plane
@@ -52,11 +54,13 @@ pub record BeginsIn (h : Header) (p : ℕ) (a : VisibleArea) : Type 0 where
   pub column : a.x < plane_width h p
   pub row : a.y < plane_height h p
 
-module _ {T : Type 0} (num : T → ℕ) (h : Header) (p : ℕ) (plane : Plane T) (stores : Stores num h p plane) (deep : 8 ≤ h.depth) (a : VisibleArea) (is : BeginsIn h p a) where
+module _ {T : Type 0} (num : T → ℕ) (h : Header) (p : ℕ) (plane : Plane T) (stores : Stores num h p plane) (deep : 8 ≤ h.depth) (a : VisibleArea)
+    (is : BeginsIn h p a) where
   samples_within : (x y : ℕ) → x < plane_width h p → y < plane_height h p → sample_at num plane x y < 2 ^ h.depth
   samples_within x y hx hy = sample_below num (2 ^ h.depth) plane x y (some_numbers h.depth) stores.within
 
-  edge_within : (filter right low : Bool) (mode : PredictionMode) (step : ℤ) → EdgeIsWithin h.depth (edge_by_place (extent_of h p) (sample_at num plane) filter a right low mode step)
+  edge_within : (filter right low : Bool) (mode : PredictionMode) (step : ℤ) →
+      EdgeIsWithin h.depth (edge_by_place (extent_of h p) (sample_at num plane) filter a right low mode step)
   edge_within filter right low mode step =
       let s = sample_at num plane in
       let w = plane_width h p in
@@ -67,69 +71,90 @@ module _ {T : Type 0} (num : T → ℕ) (h : Header) (p : ℕ) (plane : Plane T)
       let n = num_avail w a.x a.width goes_right run in
       let m = num_avail t a.y a.height goes_low run in
       let above : (j : ℕ) → above_at s (base h.depth) a.x a.y n j < 2 ^ h.depth = λ j.
-      above_within s h.depth w t deep samples_within a.x a.y n j is.column is.row (some_available w a.x a.width run goes_right is.column is.some_columns) (available_inside w a.x a.width run goes_right is.column) in
+      above_within s h.depth w t deep samples_within a.x a.y n j is.column is.row (some_available w a.x a.width run goes_right is.column is.some_columns)
+      (available_inside w a.x a.width run goes_right is.column) in
       let left : (i : ℕ) → left_at s (base h.depth) a.x a.y m i < 2 ^ h.depth = λ i.
-      left_within s h.depth w t deep samples_within a.x a.y m i is.column is.row (some_available t a.y a.height run goes_low is.row is.some_rows) (available_inside t a.y a.height run goes_low is.row) in
+      left_within s h.depth w t deep samples_within a.x a.y m i is.column is.row (some_available t a.y a.height run goes_low is.row is.some_rows)
+      (available_inside t a.y a.height run goes_low is.row) in
       let corner : cond (needs_corner mode step) (corner_at s (base h.depth) a.x a.y) (base h.depth) < 2 ^ h.depth =
-      chosen_below (needs_corner mode step) _ _ _ (corner_within s h.depth w t deep samples_within a.x a.y is.column is.row) (omega (arith, base_within h.depth deep)) in
+      chosen_below (needs_corner mode step) _ _ _ (corner_within s h.depth w t deep samples_within a.x a.y is.column is.row)
+      (omega (arith, base_within h.depth deep)) in
       record {
         above = by_index-all (λ k. k < 2 ^ h.depth) (a.width + where_needed (needs_above_right mode step) a.height) _ (λ j l. above j);
-        left = by_index-all (λ k. k < 2 ^ h.depth) (where_needed (needs_left mode a.x) a.height + where_needed (needs_below_left mode step) a.width) _ (λ i l. left i);
+        left = by_index-all (λ k. k < 2 ^ h.depth)
+            (where_needed (needs_left mode a.x) a.height + where_needed (needs_below_left mode step) a.width) _ (λ i l. left i);
         corner = chosen_below (smooths_corner filter mode step a.width a.height) _ _ _ (smoothed_within _ _ _ _ (left 0) corner (above 0)) corner;
       }
 
   -- what an intra mode predicts lies within the depth
-  pub mode_within : (block : PlaneBlock) (n : ℕ) (filter : Option IntraEdgeFilterParameters) (mode : PredictionMode) (param : IntraParam) (luma : ℕ → ℕ → ℤ) (r c : ℕ)
+  pub mode_within : (block : PlaneBlock) (n : ℕ) (filter : Option IntraEdgeFilterParameters) (mode : PredictionMode) (param : IntraParam) (luma : ℕ → ℕ → ℤ)
+      (r c : ℕ)
       → by_mode (extent_of h p) filter mode param a (placed_edge h p block n a num plane) luma r c < 2 ^ h.depth
   mode_within block n filter mode param luma r c =
-      predicted_within _ _ _ _ luma _ r c deep (edge_within h.edge_filter (answer_right h p block n a) (answer_low h p block n a) (effective mode a.x a.y) (step_of param))
+      predicted_within _ _ _ _ luma _ r c deep (edge_within h.edge_filter (answer_right h p block n a) (answer_low h p block n a) (effective mode a.x a.y)
+      (step_of param))
 
-module _ {T : Type 0} (num : T → ℕ) (pixel : ℕ → T) (law : (v : ℕ) → num (pixel v) ≡ v) (back : (x : T) → pixel (num x) ≡ x) (plan : PlanValue) (p : ℕ) (luma : PlaneBlock → ℕ → ℕ → ℤ) (plane : Plane T) (stores : Stores num plan.header p plane) where
+module _ {T : Type 0} (num : T → ℕ) (pixel : ℕ → T) (law : (v : ℕ) → num (pixel v) ≡ v) (back : (x : T) → pixel (num x) ≡ x) (plan : PlanValue) (p : ℕ)
+    (luma : PlaneBlock → ℕ → ℕ → ℤ) (plane : Plane T) (stores : Stores num plan.header p plane) where
   -- what a prediction from the samples round a block gives does
-  prediction_within : 8 ≤ plan.header.depth → (block : PlaneBlock) (n : ℕ) (a : VisibleArea) → BeginsIn plan.header p a → (of : Prediction) → is_whole of ≡ false → (f : ℕ → ℕ → ℤ) (r c : ℕ)
+  prediction_within : 8 ≤ plan.header.depth → (block : PlaneBlock) (n : ℕ) (a : VisibleArea) → BeginsIn plan.header p a → (of : Prediction) →
+      is_whole of ≡ false → (f : ℕ → ℕ → ℤ) (r c : ℕ)
       → by_prediction plan p of a (placed_edge plan.header p block n a num plane) f r c < 2 ^ plan.header.depth
   unfolding by_prediction
-  prediction_within deep block n a is (predictions.Intra mode step filter) e f r c = mode_within num plan.header p plane stores deep a is block n filter mode (AngleDelta step) no_luma r c
-  prediction_within deep block n a is (predictions.FromLuma alpha) e f r c = mode_within num plan.header p plane stores deep a is block n None UV_CFL_PRED (Alpha alpha) f r c
+  prediction_within deep block n a is (predictions.Intra mode step filter) e f r c =
+      mode_within num plan.header p plane stores deep a is block n filter mode (AngleDelta step) no_luma r c
+  prediction_within deep block n a is (predictions.FromLuma alpha) e f r c =
+      mode_within num plan.header p plane stores deep a is block n None UV_CFL_PRED (Alpha alpha) f r c
   prediction_within deep block n a is (predictions.Single mode reference mv) e f r c = absurd cc
   prediction_within deep block n a is (predictions.Compound mode references mvs) e f r c = absurd cc
 
   -- so the plane stores its part of the frame once a transform block is predicted, where it is predicted by itself,
-  pub own_stores : 8 ≤ plan.header.depth → (block : PlaneBlock) (n : ℕ) (a : VisibleArea) → BeginsIn plan.header p a → Stores num plan.header p (fold (fast_in num pixel plan p luma) plane (own_prediction block n a))
+  pub own_stores : 8 ≤ plan.header.depth → (block : PlaneBlock) (n : ℕ) (a : VisibleArea) → BeginsIn plan.header p a →
+      Stores num plan.header p (fold (fast_in num pixel plan p luma) plane (own_prediction block n a))
   unfolding fast_in
   own_stores deep block n a is = go (is_whole block.prediction) refl
     where
-      go : (t : Bool) → is_whole block.prediction ≡ t → Stores num plan.header p (fold (fast_in num pixel plan p luma) plane (if t then [] else predict block n a ∷ []))
+      go : (t : Bool) → is_whole block.prediction ≡ t →
+          Stores num plan.header p (fold (fast_in num pixel plan p luma) plane (if t then [] else predict block n a ∷ []))
       go true e = stores
       go false e = record {
         place = painted_place plan.header p plane a _ stores.place;
-        within = painted_numbers_below num pixel law (2 ^ plan.header.depth) plane a _ stores.within (λ r c v hr hc l. prediction_within deep block n a is block.prediction e (luma block) r c);
+        within =
+            painted_numbers_below num pixel law (2 ^ plan.header.depth) plane a _ stores.within
+            (λ r c v hr hc l. prediction_within deep block n a is block.prediction e (luma block) r c);
       }
 
   module _ (fi : FrameInvariants T) (holds : ServesPlan num plan fi) (below : p < 3) where
     -- what is predicted from references that frame settings hold lies within the depth too
-    whole_within : (area : PlaneArea) (of : Prediction) → PredictionFits plan.header p area of → is_whole of ≡ true → (a : VisibleArea) (edge : PredictionMode → ℤ → Edge) (f : ℕ → ℕ → ℤ) (r c : ℕ)
+    whole_within : (area : PlaneArea) (of : Prediction) → PredictionFits plan.header p area of → is_whole of ≡ true →
+        (a : VisibleArea) (edge : PredictionMode → ℤ → Edge) (f : ℕ → ℕ → ℤ) (r c : ℕ)
         → by_prediction plan p of a edge f r c < 2 ^ plan.header.depth
     unfolding by_prediction
     whole_within area (predictions.Intra mode step filter) fits e a edge f r c = absurd cc
     whole_within area (predictions.FromLuma alpha) fits e a edge f r c = absurd cc
-    whole_within area (predictions.Single mode reference mv) fits e a edge f r c = held_motion_within num plan fi reference p mv a r c holds fits.served.has below
+    whole_within area (predictions.Single mode reference mv) fits e a edge f r c =
+        held_motion_within num plan fi reference p mv a r c holds fits.served.has below
     whole_within area (predictions.Compound mode references mvs) fits e a edge f r c = compound_motion_within plan p references mvs a r c
 
     -- and a whole area is
-    pub whole_stores : (block : PlaneBlock) → PredictionFits plan.header p block.area block.prediction → Stores num plan.header p (fold (fast_in num pixel plan p luma) plane (whole_steps block))
+    pub whole_stores : (block : PlaneBlock) → PredictionFits plan.header p block.area block.prediction →
+        Stores num plan.header p (fold (fast_in num pixel plan p luma) plane (whole_steps block))
     unfolding fast_in
     whole_stores block fits = go (is_whole block.prediction) refl
       where
-        go : (t : Bool) → is_whole block.prediction ≡ t → Stores num plan.header p (fold (fast_in num pixel plan p luma) plane (if t then predict block 0 (whole_area block) ∷ [] else []))
+        go : (t : Bool) → is_whole block.prediction ≡ t →
+            Stores num plan.header p (fold (fast_in num pixel plan p luma) plane (if t then predict block 0 (whole_area block) ∷ [] else []))
         go true e = record {
           place = painted_place plan.header p plane (whole_area block) _ stores.place;
-          within = painted_numbers_below num pixel law (2 ^ plan.header.depth) plane (whole_area block) _ stores.within (λ r c v hr hc l. whole_within block.area block.prediction fits e (whole_area block) _ (luma block) r c);
+          within =
+              painted_numbers_below num pixel law (2 ^ plan.header.depth) plane (whole_area block) _ stores.within
+              (λ r c v hr hc l. whole_within block.area block.prediction fits e (whole_area block) _ (luma block) r c);
         }
         go false e = stores
 
   -- and once a residue is added
-  pub added_stores : (block : PlaneBlock) (triples : List Triple) (n : ℕ) (a : VisibleArea) → Stores num plan.header p (fast_in num pixel plan p luma plane (add block triples n a))
+  pub added_stores : (block : PlaneBlock) (triples : List Triple) (n : ℕ) (a : VisibleArea) →
+      Stores num plan.header p (fast_in num pixel plan p luma plane (add block triples n a))
   unfolding fast_in
   added_stores block triples n a = record {
     place = painted_place plan.header p plane a _ stores.place;

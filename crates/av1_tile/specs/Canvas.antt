@@ -8,6 +8,7 @@ pub data Component : Type 0 where
   U : Component
   V : Component
 
+-- whether two planes are the same
 abbrev pub is_same : Component → Component → Bool
 is_same Y Y = true
 is_same U U = true
@@ -18,6 +19,7 @@ is_same _ _ = false
 abbrev pub Written : Type 0
 Written = ℕ → ℕ → Option ℕ
 
+-- what has been written of each plane
 abbrev pub Canvas : Type 0
 Canvas = Component → Written
 
@@ -25,7 +27,7 @@ Canvas = Component → Written
 abbrev pub blank : Canvas
 blank = λ component x y. None
 
--- o, or where b the value that f gives of it
+-- o where b is false, else what f makes of it
 abbrev pub turned : {X : Type 0} → Bool → (X → X) → X → X
 turned b f o = elim b [ true ↦ f o | false ↦ o ]
 
@@ -35,4 +37,5 @@ drawn a f written = λ x y. turned (in_visible a x y) (f (y - a.y) (x - a.x)) (w
 
 -- the canvas with its part in a plane as written, and all else as it is
 abbrev pub with_written : Component → Written → Canvas → Canvas
-with_written component written canvas = λ other. elim (is_same other component) [ true ↦ written | false ↦ canvas other ]
+with_written component written canvas =
+    λ other. elim (is_same other component) [ true ↦ written | false ↦ canvas other ]

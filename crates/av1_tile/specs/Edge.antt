@@ -1,6 +1,7 @@
 -- The intra edge: the samples round a block that its prediction reads.
 -- AV1 specification: intra prediction process, the preparation of the arrays AboveRow and LeftCol.
-use Rattle.std.specs.Prelude.{ℕ, zero, suc, ◌+◌, ◌-◌, List, Bool, ◌&&◌, nat_lt, min, if◌then◌else◌, ℤ, slice_index, Option, None}
+use Rattle.std.specs.Prelude.{ℕ, zero, suc, ◌+◌, ◌-◌, List, Bool, ◌&&◌, nat_lt, min, if◌then◌else◌, ℤ, slice_index}
+use Rattle.std.specs.Prelude.{Option, None}
 use Rattle.std.specs.Option.{unwrap_or}
 use Rattle.av1_blocks.specs.declared.predict.PredictionMode.{PredictionMode}
 use Rattle.av1_frame.specs.Areas.{VisibleArea}
@@ -33,17 +34,20 @@ known_above extent written x (suc y) = known extent written x y
 
 -- ---- edge filling
 
--- Place i of a side: the sample that is known there; else `first` at the first place, and at the others what the place before it holds.
+-- Place i of a side: the sample that is known there; else `first` at the first place, and at the others what the place
+-- before it holds.
 abbrev pub place : (ℕ → Option ℕ) → ℕ → ℕ → ℕ
 place sample first zero = unwrap_or (sample 0) first
 place sample first (suc i) = unwrap_or (sample (suc i)) (place sample first i)
 
--- what the first place above a block at column x holds where nothing is known there
+-- What the first place above a block at column x holds where nothing is known there, as in row 0: the sample to the
+-- left of the block, or half of the range less 1.
 abbrev pub first_above : PlaneExtent → Written → ℕ → ℕ
 first_above extent written zero = base extent.depth - 1
 first_above extent written (suc x) = sample_of (written x 0)
 
--- what the first place to the left of a block at row y holds where nothing is known there
+-- What the first place to the left of a block at row y holds where nothing is known there, as in column 0: the sample
+-- above the block, or half of the range plus 1.
 abbrev pub first_left : PlaneExtent → Written → ℕ → ℕ
 first_left extent written zero = base extent.depth + 1
 first_left extent written (suc y) = sample_of (written 0 y)
@@ -60,20 +64,25 @@ corner_sample extent written (suc x) (suc y) = sample_of (known extent written x
 -- the samples above the block, as far as its mode reaches
 abbrev pub reach_above : PlaneExtent → Written → PredictionMode → ℤ → VisibleArea → ℕ → Option ℕ
 reach_above extent written mode step a j =
-    if nat_lt j (a.width + where_needed (needs_above_right mode step) (min a.width a.height)) then known_above extent written (a.x + j) a.y else None
+    if nat_lt j (a.width + where_needed (needs_above_right mode step) (min a.width a.height))
+    then known_above extent written (a.x + j) a.y else None
 
 -- the samples to the left of the block, as far as its mode reaches
 abbrev pub reach_left : PlaneExtent → Written → PredictionMode → ℤ → VisibleArea → ℕ → Option ℕ
 reach_left extent written mode step a i =
-    if nat_lt i (a.height + where_needed (needs_below_left mode step) (min a.width a.height)) then known_left extent written a.x (a.y + i) else None
+    if nat_lt i (a.height + where_needed (needs_below_left mode step) (min a.width a.height))
+    then known_left extent written a.x (a.y + i) else None
 
+-- the side above, and the one to the left from the top down
 abbrev pub above_side : PlaneExtent → Written → PredictionMode → ℤ → VisibleArea → List ℕ
 above_side extent written mode step a =
-    by_index (a.width + where_needed (needs_above_right mode step) a.height) (place (reach_above extent written mode step a) (first_above extent written a.x))
+    by_index (a.width + where_needed (needs_above_right mode step) a.height)
+    (place (reach_above extent written mode step a) (first_above extent written a.x))
 
 abbrev pub left_side : PlaneExtent → Written → PredictionMode → ℤ → VisibleArea → List ℕ
 left_side extent written mode step a =
-    by_index (where_needed (needs_left mode a.x) a.height + where_needed (needs_below_left mode step) a.width) (place (reach_left extent written mode step a) (first_left extent written a.y))
+    by_index (where_needed (needs_left mode a.x) a.height + where_needed (needs_below_left mode step) a.width)
+    (place (reach_left extent written mode step a) (first_left extent written a.y))
 
 -- the edge of the block a, for a mode that is in effect there; filter says whether the edge filter is on
 unfoldable pub edge : PlaneExtent → Bool → Written → PredictionMode → ℤ → VisibleArea → Edge
@@ -84,5 +93,7 @@ edge extent filter written mode step a =
     record {
       above = above;
       left = left;
-      corner = if smooths_corner filter mode step a.width a.height then smoothed (slice_index left 0) corner (slice_index above 0) else corner;
+      corner =
+          if smooths_corner filter mode step a.width a.height
+          then smoothed (slice_index left 0) corner (slice_index above 0) else corner;
     }

@@ -15,7 +15,8 @@ use Rattle.av1_tile.specs.PlaneBlocks.{number}
 use Rattle.av1_tile.specs.Reference.{slow_walk}
 use Rattle.av1_tile.specs.Walk.{samples_of}
 
--- what callers see of the memory of a walk: how many cells of 4 by 4 luma samples it has a record for, and how many edges were prepared in it
+-- what callers see of the memory of a walk: how many cells of 4 by 4 luma samples it has a record for, and how many
+-- edges were prepared in it
 pub record WalkRoom : Type 0 where
   pub cells : ℕ
   pub edges : ℕ
@@ -25,7 +26,8 @@ abbrev pub HasRoomFor : Header → WalkRoom → Type 0
 HasRoomFor h room = h.height / 4 * (h.width / 4) ≤ room.cells
 
 -- a valid plan with this header and these leaves, whose references the frame settings serve
-pub record IsPlanOver {T : Type 0} (num : T → ℕ) (h : Header) (own : List LeafValue) (fi : FrameInvariants T) (plan : PlanValue) : Type 0 where
+pub record IsPlanOver {T : Type 0} (num : T → ℕ) (h : Header) (own : List LeafValue) (fi : FrameInvariants T)
+    (plan : PlanValue) : Type 0 where
   pub spelled : ∥ IsSpelled grammar plan ∥₁
   pub valid : first_fault plan ≡ None
   pub header : plan.header ≡ h
@@ -35,4 +37,5 @@ pub record IsPlanOver {T : Type 0} (num : T → ℕ) (h : Header) (own : List Le
 -- planes show what a plan comes to, at each visible sample
 abbrev pub ShowsPlan : {T : Type 0} → (T → ℕ) → PlanValue → Planes T → Type 0
 ShowsPlan num plan planes =
-    (k : Component) (x y : ℕ) → x < plane_width plan.header (number k) → y < plane_height plan.header (number k) → samples_of num planes k x y ≡ sample_of (slow_walk plan k x y)
+    (k : Component) (x y : ℕ) → x < plane_width plan.header (number k) → y < plane_height plan.header (number k) →
+    samples_of num planes k x y ≡ sample_of (slow_walk plan k x y)

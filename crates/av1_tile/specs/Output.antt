@@ -18,13 +18,15 @@ by_rows extent f = flat_map (λ y. by_index extent.width (λ x. f x y)) (by_inde
 abbrev pub sample_bytes : ℕ → ℕ → List ℕ
 sample_bytes depth v = if depth == 8 then v ∷ [] else v % 256 ∷ v / 256 ∷ []
 
+-- the bytes of a plane
 abbrev pub plane_bytes : PlaneExtent → (ℕ → ℕ → ℕ) → List ℕ
 plane_bytes extent f = flat_map (sample_bytes extent.depth) (by_rows extent f)
 
--- the visible planes: Y, then U, then V
+-- the bytes of the visible planes: Y, then U, then V
 unfoldable pub visible : Header → (Component → ℕ → ℕ → ℕ) → List ℕ
 visible header f =
-    plane_bytes (extent_of header 0) (f Y) ++ plane_bytes (extent_of header 1) (f U) ++ plane_bytes (extent_of header 2) (f V)
+    plane_bytes (extent_of header 0) (f Y) ++ plane_bytes (extent_of header 1) (f U)
+    ++ plane_bytes (extent_of header 2) (f V)
 
 -- the bytes that a plan comes to
 unfoldable pub planes_of : PlanValue → List ℕ

@@ -1,6 +1,8 @@
 -- The block of a leaf in each plane: where it lies, and how it is predicted and transformed there.
--- AV1 specification: residual syntax, which goes over the planes of a block; intra filter type process, for the neighbours of one.
-use Rattle.std.specs.Prelude.{ℕ, zero, suc, ◌-◌, nat_lt, if◌then◌else◌, Bool, true, false, List, [], ◌∷◌, pos, Option, Some, None, slice_index_or}
+-- AV1 specification: residual syntax, which goes over the planes of a block; intra filter type process, for the
+-- neighbours of one.
+use Rattle.std.specs.Prelude.{ℕ, zero, suc, ◌-◌, nat_lt, if◌then◌else◌, Bool, true, false, List, [], ◌∷◌, pos, Option}
+use Rattle.std.specs.Prelude.{Some, None, slice_index_or}
 use Rattle.std.specs.Option.{option_map, unwrap_or}
 use Rattle.av1_blocks.specs.declared.partition.RefType.TheVariants.{INTRA_FRAME, NONE_FRAME}
 use Rattle.av1_blocks.specs.declared.predict.PredictionMode.{PredictionMode}
@@ -58,9 +60,12 @@ chroma_mode_of None = DC_PRED
 
 -- what later leaves are told of a leaf
 abbrev pub coded_info : LeafKind → CodedBlockInfo
-coded_info (Intra mode step chroma) = record { luma_mode = mode; chroma_mode = chroma_mode_of chroma; reference_types = INTRA_FRAME ∷ NONE_FRAME ∷ [] }
-coded_info (Single mode reference mv) = record { luma_mode = mode; chroma_mode = mode; reference_types = reference ∷ NONE_FRAME ∷ [] }
-coded_info (Compound mode references mvs) = record { luma_mode = mode; chroma_mode = mode; reference_types = references }
+coded_info (Intra mode step chroma) =
+    record { luma_mode = mode; chroma_mode = chroma_mode_of chroma; reference_types = INTRA_FRAME ∷ NONE_FRAME ∷ [] }
+coded_info (Single mode reference mv) =
+    record { luma_mode = mode; chroma_mode = mode; reference_types = reference ∷ NONE_FRAME ∷ [] }
+coded_info (Compound mode references mvs) =
+    record { luma_mode = mode; chroma_mode = mode; reference_types = references }
 
 -- what is told of the leaf of these whose area in plane p holds the sample at column x of row y
 abbrev pub told_of : Header → (p : ℕ) → List LeafValue → (x y : ℕ) → Option CodedBlockInfo
@@ -74,7 +79,8 @@ abbrev pub neighbour_left : Header → (p : ℕ) → List LeafValue → PlaneAre
 neighbour_left h p earlier a = if nat_lt 0 a.x then told_of h p earlier (a.x - 1) a.y else None
 
 -- what the edge filter is told of both, where it is on
-abbrev pub filter_parameters : Header → (p : ℕ) → (above left : Option CodedBlockInfo) → Option IntraEdgeFilterParameters
+abbrev pub filter_parameters : Header → (p : ℕ) → (above left : Option CodedBlockInfo) →
+    Option IntraEdgeFilterParameters
 filter_parameters h p above left = if h.edge_filter then Some (parameters_of p above left) else None
 
 -- ---- a leaf's block in a plane
@@ -82,7 +88,8 @@ filter_parameters h p above left = if h.edge_filter then Some (parameters_of p a
 -- how a leaf predicts a plane; `filter` is what the edge filter is told
 abbrev pub prediction_in : (filter : Option IntraEdgeFilterParameters) → Component → LeafKind → Prediction
 prediction_in filter Y (Intra mode step chroma) = predictions.Intra mode step filter
-prediction_in filter component (Intra mode step (Some (Plain chroma_mode chroma_step))) = predictions.Intra chroma_mode chroma_step filter
+prediction_in filter component (Intra mode step (Some (Plain chroma_mode chroma_step))) =
+    predictions.Intra chroma_mode chroma_step filter
 prediction_in filter U (Intra mode step (Some (Cfl alpha_u alpha_v))) = predictions.FromLuma alpha_u
 prediction_in filter V (Intra mode step (Some (Cfl alpha_u alpha_v))) = predictions.FromLuma alpha_v
 prediction_in filter component (Intra mode step None) = predictions.Intra DC_PRED (pos 0) filter

@@ -1,6 +1,8 @@
 -- The slow definition of a plan's samples: its steps in coding order, over a canvas that is empty at first.
--- AV1 specification: decode block syntax, compute prediction syntax (which calls the prediction processes), reconstruction process.
-use Rattle.std.specs.Prelude.{ℕ, ◌-◌, ◌==◌, List, replicate, slice_set, if◌then◌else◌, ℤ, pos, ◌+ℤ◌, Option, Some, None, option_map, unsigned_abs}
+-- AV1 specification: decode block syntax, compute prediction syntax (which calls the prediction processes),
+-- reconstruction process.
+use Rattle.std.specs.Prelude.{ℕ, ◌-◌, ◌==◌, List, replicate, slice_set, if◌then◌else◌, ℤ, pos, ◌+ℤ◌, Option, Some, None}
+use Rattle.std.specs.Prelude.{option_map, unsigned_abs}
 use Rattle.std.specs.List.{fold}
 use Rattle.av1_blocks.specs.declared.predict.PredictionMode.{PredictionMode}
 use Rattle.av1_blocks.specs.declared.predict.PredictionMode.TheVariants.{UV_CFL_PRED}
@@ -35,9 +37,10 @@ use Rattle.av1_tile.specs.Steps.{Step, predict, add, PlaneStep, steps}
 
 -- ---- prediction
 
--- The sample at row r and column c of the rectangle a that is predicted by an intra mode: `edge m step` is its edge for the mode m in effect,
--- and `luma` how far luma is from its mean.
-abbrev pub by_mode : PlaneExtent → Option IntraEdgeFilterParameters → PredictionMode → IntraParam → VisibleArea → (edge : PredictionMode → ℤ → Edge) → (luma : ℕ → ℕ → ℤ) → (r c : ℕ) → ℕ
+-- The sample at row r and column c of the rectangle a that is predicted by an intra mode: `edge m step` is its edge for
+-- the mode m in effect, and `luma` how far luma is from its mean.
+abbrev pub by_mode : PlaneExtent → Option IntraEdgeFilterParameters → PredictionMode → IntraParam → VisibleArea →
+    (edge : PredictionMode → ℤ → Edge) → (luma : ℕ → ℕ → ℤ) → (r c : ℕ) → ℕ
 by_mode extent filter mode param a edge luma r c =
     let m = effective mode a.x a.y in
     let p = angle_or_alpha m param in
@@ -56,11 +59,15 @@ abbrev pub no_luma : ℕ → ℕ → ℤ
 no_luma r c = pos 0
 
 -- The sample that is predicted there, in plane p of a plan.
-unfoldable pub by_prediction : PlanValue → (p : ℕ) → Prediction → VisibleArea → (edge : PredictionMode → ℤ → Edge) → (luma : ℕ → ℕ → ℤ) → (r c : ℕ) → ℕ
-by_prediction plan p (predictions.Intra mode step filter) a edge luma r c = by_mode (extent_of plan.header p) filter mode (AngleDelta step) a edge no_luma r c
-by_prediction plan p (predictions.FromLuma alpha) a edge luma r c = by_mode (extent_of plan.header p) None UV_CFL_PRED (Alpha alpha) a edge luma r c
+unfoldable pub by_prediction : PlanValue → (p : ℕ) → Prediction → VisibleArea → (edge : PredictionMode → ℤ → Edge) →
+    (luma : ℕ → ℕ → ℤ) → (r c : ℕ) → ℕ
+by_prediction plan p (predictions.Intra mode step filter) a edge luma r c =
+    by_mode (extent_of plan.header p) filter mode (AngleDelta step) a edge no_luma r c
+by_prediction plan p (predictions.FromLuma alpha) a edge luma r c =
+    by_mode (extent_of plan.header p) None UV_CFL_PRED (Alpha alpha) a edge luma r c
 by_prediction plan p (predictions.Single mode reference mv) a edge luma r c = single_motion plan p reference mv a r c
-by_prediction plan p (predictions.Compound mode references mvs) a edge luma r c = compound_motion plan p references mvs a r c
+by_prediction plan p (predictions.Compound mode references mvs) a edge luma r c =
+    compound_motion plan p references mvs a r c
 
 -- a leaf of a frame, as chroma from luma sees it
 abbrev pub luma_of : Header → LumaBlock → LumaLeaf
@@ -75,7 +82,8 @@ luma_of h leaf = record {
   ydec = ydec h 1;
 }
 
--- how far the luma of a leaf's block is from its mean, for the planes of chroma: `luma x y` is the sample at column x of row y
+-- how far the luma of a leaf's block is from its mean, for the planes of chroma: `luma x y` is the sample at column x
+-- of row y
 abbrev pub luma_for : Header → (luma : ℕ → ℕ → ℕ) → Component → PlaneBlock → (r c : ℕ) → ℤ
 luma_for h luma Y = λ block. no_luma
 luma_for h luma component = λ block. leaf_difference luma (luma_of h block.leaf)
@@ -85,7 +93,9 @@ unfoldable pub predicted : PlanValue → Canvas → Component → PlaneBlock →
 predicted plan canvas component block a r c =
     let h = plan.header in
     let p = number component in
-    by_prediction plan p block.prediction a (λ mode step. edge (extent_of h p) h.edge_filter (canvas component) mode step a) (luma_for h (λ x y. sample_of (canvas Y x y)) component block) r c
+    by_prediction plan p block.prediction a
+    (λ mode step. edge (extent_of h p) h.edge_filter (canvas component) mode step a)
+    (luma_for h (λ x y. sample_of (canvas Y x y)) component block) r c
 
 -- ---- residue
 
@@ -99,7 +109,8 @@ coefficients size n triples = fold (with_triple n) (replicate (coded_area size) 
 
 -- what is added to the sample at row r and column c of transform block n
 unfoldable pub block_residue : (depth : ℕ) → PlaneBlock → List Triple → (n r c : ℕ) → ℤ
-block_residue depth block triples n r c = residue block.area.tx_size block.tx_type depth (coefficients block.area.tx_size n triples) r c
+block_residue depth block triples n r c =
+    residue block.area.tx_size block.tx_type depth (coefficients block.area.tx_size n triples) r c
 
 -- what a sample is with z added: clipped to the depth
 abbrev pub added : (depth : ℕ) → ℕ → ℤ → ℕ
@@ -109,11 +120,13 @@ added depth v z = clip depth (pos v +ℤ z)
 
 -- what a step writes in its plane: each sample of its rectangle is predicted, or has its residue added
 unfoldable pub slow_in : PlanValue → Canvas → Component → Step → Written
-slow_in plan canvas component (predict block n a) = drawn a (λ r c _. Some (predicted plan canvas component block a r c)) (canvas component)
+slow_in plan canvas component (predict block n a) =
+    drawn a (λ r c _. Some (predicted plan canvas component block a r c)) (canvas component)
 slow_in plan canvas component (add block triples n a) =
-    drawn a (λ r c o. option_map (λ v. added plan.header.depth v (block_residue plan.header.depth block triples n r c)) o) (canvas component)
+    drawn a (λ r c o. option_map (λ v. added plan.header.depth v (block_residue plan.header.depth block triples n r c))
+    o) (canvas component)
 
--- what a step of the plan writes
+-- the canvas after a step of the plan
 unfoldable pub slow_step : PlanValue → Canvas → PlaneStep → Canvas
 slow_step plan canvas s = with_written s.component (slow_in plan canvas s.component s.step) canvas
 

@@ -1,5 +1,5 @@
 -- What the state of a reconstruction shows.
-use Rattle.std.specs.Prelude.{◌≡◌, ◌<◌, ℕ, List, All}
+use Rattle.std.specs.Prelude.{◌≡◌, ◌<◌, ℕ, List}
 use Rattle.std.specs.List.{fold}
 use Rattle.av1_lists.specs.Lists.{by_index}
 use Rattle.av1_frame.specs.declared.frame_invariants.FrameInvariants.{FrameInvariants}
@@ -13,10 +13,10 @@ use Rattle.av1_tile.specs.Edge.{sample_of}
 use Rattle.av1_tile.specs.PlaneBlocks.{component, extent_of}
 use Rattle.av1_tile.specs.Reference.{slow_walk}
 use Rattle.av1_tile.specs.Steps.{steps}
-use Rattle.av1_tile.specs.Walk.{plane_of, StoresAll, HasRoom, edges_after}
+use Rattle.av1_tile.specs.Walk.{plane_of, StoresAll, HasRoom, AreFilledWith, edges_after}
 
--- what callers see of a state: the header that it was made for, the references that it holds, its planes, and how many edges were prepared
--- in it
+-- what callers see of a state: the header of the plan that was reconstructed last (before the first that of the one
+-- that it was made for), the references that it holds, its planes, and how many edges were prepared in it
 pub record Picture (T : Type 0) : Type 0 where
   pub header : Header
   pub references : FrameInvariants T
@@ -40,10 +40,23 @@ pub record IsSound {T : Type 0} (num : T → ℕ) (s : Picture T) : Type 0 where
   pub stores : StoresAll num s.header s.planes
   pub room : HasRoom s.header s.planes
 
--- the state was made for the plan, or for one with its header and its references
+-- the frames of two headers are laid out alike
+pub record AreAlike (h k : Header) : Type 0 where
+  pub width : h.width ≡ k.width
+  pub height : h.height ≡ k.height
+  pub depth : h.depth ≡ k.depth
+  pub sampling : h.sampling ≡ k.sampling
+
+-- frame settings with what a header says of prediction in place of their own, and the same slots
+abbrev pub with_settings : {T : Type 0} → Header → FrameInvariants T → FrameInvariants T
+with_settings h fi =
+    record fi { default_filter = h.filter; enable_intra_edge_filter = h.edge_filter; ref_frames = h.slots }
+
+-- The state was made for the plan, or for one that is laid out alike and has its reference samples. The rest of the
+-- header is the plan's own: the edge filter, the interpolation filter, and the slots that references name.
 pub record MadeFor {T : Type 0} (num : T → ℕ) (plan : PlanValue) (s : Picture T) : Type 0 where
-  pub header : s.header ≡ plan.header
-  pub references : HoldsReferences num plan s.references
+  pub layout : AreAlike s.header plan.header
+  pub references : HoldsReferences num plan (with_settings plan.header s.references)
 
 -- the count of prepared edges once a plan has been reconstructed: one more for each prediction from an edge
 abbrev pub edges_of : ℕ → PlanValue → ℕ
@@ -63,10 +76,9 @@ plan_row plan p y = by_index (extent_of plan.header p).width (λ x. sample_of (s
 
 -- the state shows what the plan comes to, row by row
 abbrev pub ShowsRows : {T : Type 0} → (T → ℕ) → PlanValue → Picture T → Type 0
-ShowsRows num plan s = (p y : ℕ) → p < 3 → y < (extent_of plan.header p).height → state_row num s p y ≡ plan_row plan p y
+ShowsRows num plan s = (p y : ℕ) → p < 3 → y < (extent_of plan.header p).height →
+    state_row num s p y ≡ plan_row plan p y
 
--- each stored sample of the three planes is this one
-pub record IsFilledWith {T : Type 0} (value : T) (s : Picture T) : Type 0 where
-  pub y : All (λ v. v ≡ value) s.planes.y.samples
-  pub u : All (λ v. v ≡ value) s.planes.u.samples
-  pub v : All (λ v. v ≡ value) s.planes.v.samples
+-- each stored sample of its planes is this one
+abbrev pub IsFilledWith : {T : Type 0} → T → Picture T → Type 0
+IsFilledWith value s = AreFilledWith value s.planes

@@ -1,5 +1,6 @@
 -- The reconstruction steps of a plan: what is predicted and what is added, one after another.
--- AV1 specification: residual syntax and transform block syntax, which call the prediction and reconstruction processes.
+-- AV1 specification: residual syntax and transform block syntax, which call the prediction and reconstruction
+-- processes.
 use Rattle.std.specs.Prelude.{ℕ, List, [], ◌∷◌, ◌++◌, map, if◌then◌else◌, Option, Some, None}
 use Rattle.std.specs.List.{range_with_len, flat_map}
 use Rattle.av1_blocks.specs.Blocks.{block_width, block_height}
@@ -14,8 +15,8 @@ use Rattle.av1_tile.specs.declared.plane_block.PlaneBlock.{PlaneBlock}
 use Rattle.av1_tile.specs.Canvas.{Component}
 use Rattle.av1_tile.specs.PlaneBlocks.{plane_block, triples_in, components_of, is_whole}
 
--- A step in a plane, at a rectangle of a leaf's block: it is predicted, or the residue of transform block n is added to it. What is predicted
--- is transform block n, or of a leaf from references the whole area.
+-- A step in a plane, at a rectangle of a leaf's block: it is predicted, or the residue of transform block n is added to
+-- it. What is predicted is transform block n, or of a leaf from references the whole area.
 pub data Step : Type 0 where
   predict : PlaneBlock → (n : ℕ) → VisibleArea → Step
   add : PlaneBlock → List Triple → (n : ℕ) → VisibleArea → Step
@@ -26,10 +27,16 @@ joined n f = flat_map f (range_with_len 0 n)
 
 -- the rectangle of a transform block, and of a leaf's whole block
 abbrev pub block_area : PlaneBlock → TransformBlock → VisibleArea
-block_area block b = record { x = b.x; y = b.y; width = tx_width block.area.tx_size; height = tx_height block.area.tx_size }
+block_area block b =
+    record { x = b.x; y = b.y; width = tx_width block.area.tx_size; height = tx_height block.area.tx_size }
 
 abbrev pub whole_area : PlaneBlock → VisibleArea
-whole_area block = record { x = block.area.x; y = block.area.y; width = block_width block.area.size; height = block_height block.area.size }
+whole_area block = record {
+  x = block.area.x;
+  y = block.area.y;
+  width = block_width block.area.size;
+  height = block_height block.area.size;
+}
 
 -- the prediction of transform block n from the samples round it: none where its leaf is predicted from references
 abbrev pub own_prediction : PlaneBlock → (n : ℕ) → VisibleArea → List Step
@@ -42,6 +49,7 @@ block_steps block triples n (Some b) =
     if is_whole block.prediction then add block triples n (block_area block b) ∷ []
     else predict block n (block_area block b) ∷ add block triples n (block_area block b) ∷ []
 
+-- the same by its number
 unfoldable pub steps_at : Header → PlaneBlock → List Triple → ℕ → List Step
 steps_at h block triples n = block_steps block triples n (transform_block h block.plane block.area n)
 
@@ -49,7 +57,7 @@ steps_at h block triples n = block_steps block triples n (transform_block h bloc
 abbrev pub whole_steps : PlaneBlock → List Step
 whole_steps block = if is_whole block.prediction then predict block 0 (whole_area block) ∷ [] else []
 
--- the steps of a leaf's block: its transform blocks in raster order
+-- the steps of a leaf's block: its whole area where it is from references, then its transform blocks in raster order
 abbrev pub plane_steps : Header → PlaneBlock → List Triple → List Step
 plane_steps h block triples = whole_steps block ++ joined (block_count block.area) (steps_at h block triples)
 
@@ -58,12 +66,14 @@ pub record PlaneStep : Type 0 where
   pub component : Component
   pub step : Step
 
+-- steps that are all in one plane
 abbrev pub in_component : Component → List Step → List PlaneStep
 in_component component steps = map (λ (s : Step). record { component = component; step = s }) steps
 
 -- a leaf's steps in a plane, of a block there
 abbrev pub component_steps : Header → (Component → PlaneBlock) → LeafValue → Component → List PlaneStep
-component_steps h block leaf component = in_component component (plane_steps h (block component) (triples_in component leaf))
+component_steps h block leaf component =
+    in_component component (plane_steps h (block component) (triples_in component leaf))
 
 -- a leaf's steps, of its block in each plane: Y, then U and V where it carries chroma
 unfoldable pub steps_of : Header → (Component → PlaneBlock) → LeafValue → List PlaneStep

@@ -1,6 +1,8 @@
--- The walk's own words: what one step does to the planes in memory, where edges are read by place and no record is kept of what was written,
--- and what its functions ask of planes, blocks and leaves.
-use Rattle.std.specs.Prelude.{ℕ, ◌+◌, ◌-◌, ◌*◌, ◌/◌, ◌%◌, ◌^◌, ◌<◌, ◌≤◌, ◌≡◌, [], ◌∷◌, ◌++◌, true, false, Bool, ◌&&◌, List, All, IsTrue, min, nat_lt, if◌then◌else◌, Option, Some, None, ℤ, pos, length, slice_index_or, unsigned_abs}
+-- The walk's own words: what one step does to the planes in memory, where edges are read by place and no record is kept
+-- of what was written, and what its functions ask of planes, blocks and leaves.
+use Rattle.std.specs.Prelude.{ℕ, ◌+◌, ◌-◌, ◌*◌, ◌/◌, ◌%◌, ◌^◌, ◌<◌, ◌≤◌, ◌≡◌, [], ◌∷◌, ◌++◌, true, false, Bool, ◌&&◌}
+use Rattle.std.specs.Prelude.{List, All, IsTrue, min, nat_lt, if◌then◌else◌, Option, Some, None, ℤ, pos, length}
+use Rattle.std.specs.Prelude.{slice_index_or, unsigned_abs}
 use Rattle.std.specs.Int.{next_multiple_of}
 use Rattle.std.specs.List.{fold}
 use Rattle.av1_blocks.specs.declared.partition.RefType.{RefType}
@@ -17,7 +19,8 @@ use Rattle.av1_dct.specs.Arithmetic.{FitsBits}
 use Rattle.av1_avail.specs.Asked.{takes_above_right, takes_below_left}
 use Rattle.av1_lists.specs.Counts.{counted}
 use Rattle.av1_edges.specs.Edges.{Edge}
-use Rattle.av1_edges.specs.Parts.{effective, step_of, needs_left, needs_above_right, needs_below_left, needs_corner, smooths_corner}
+use Rattle.av1_edges.specs.Parts.{effective, step_of, needs_left, needs_above_right, needs_below_left, needs_corner}
+use Rattle.av1_edges.specs.Parts.{smooths_corner}
 use Rattle.av1_edges.specs.Sides.{above_at, base, corner_at, left_at, smoothed, num_avail, where_needed}
 use Rattle.av1_lists.specs.Lists.{by_index}
 use Rattle.av1_frame.specs.declared.plane.Plane.{Plane}
@@ -34,7 +37,8 @@ use Rattle.av1_plan.specs.declared.geometry.PlaneArea.{PlaneArea}
 use Rattle.av1_plan.specs.declared.leaf.Leaf.{Leaf}
 use Rattle.av1_plan.specs.declared.leaf.LeafKind.TheVariants.{Intra}
 use Rattle.av1_plan.specs.declared.leaf.Triple.{Triple}
-use Rattle.av1_plan.specs.Geometry.{xdec, ydec, plane_width, plane_height, plane_area, carries_chroma, block_count, blocks_across}
+use Rattle.av1_plan.specs.Geometry.{xdec, ydec, plane_width, plane_height, plane_area, carries_chroma, block_count}
+use Rattle.av1_plan.specs.Geometry.{blocks_across}
 use Rattle.av1_plan.specs.Plan.{LeafValue, PlanValue}
 use Rattle.av1_plan.specs.ReadPlans.{IsOtherFrame}
 use Rattle.av1_plan.specs.Validity.{has_reference}
@@ -47,23 +51,30 @@ use Rattle.av1_tile.specs.declared.plane_block.Prediction.{Prediction}
 use Rattle.av1_tile.specs.declared.plane_block.Prediction.TheVariants as predictions
 use Rattle.av1_tile.specs.declared.planes.Planes.{Planes}
 use Rattle.av1_tile.specs.Canvas.{Component, Y, U, V}
-use Rattle.av1_tile.specs.PlaneBlocks.{number, extent_of, block_told, coded_info, filter_parameters, is_from_luma, triples_in}
+use Rattle.av1_tile.specs.PlaneBlocks.{number, extent_of, block_told, coded_info, filter_parameters, is_from_luma}
+use Rattle.av1_tile.specs.PlaneBlocks.{triples_in}
 use Rattle.av1_tile.specs.Reference.{by_prediction, luma_for, luma_of, added, block_residue}
 use Rattle.av1_tile.specs.Steps.{Step, predict, add, PlaneStep, steps_of}
 
 -- ---- edges by place
 
--- The edge of the rectangle a, of samples s, for a mode that is in effect; `right` and `low` say whether the samples above right and below left
--- may be taken.
-abbrev pub edge_by_place : PlaneExtent → (s : ℕ → ℕ → ℕ) → (filter : Bool) → VisibleArea → (right low : Bool) → PredictionMode → ℤ → Edge
+-- The edge of the rectangle a, of samples s, for a mode that is in effect; `right` and `low` say whether the samples
+-- above right and below left may be taken.
+abbrev pub edge_by_place : PlaneExtent → (s : ℕ → ℕ → ℕ) → (filter : Bool) → VisibleArea → (right low : Bool) →
+    PredictionMode → ℤ → Edge
 edge_by_place extent s filter a right low mode step =
     let run = min a.width a.height in
-    let above = above_at s (base extent.depth) a.x a.y (num_avail extent.width a.x a.width (needs_above_right mode step && right) run) in
-    let left = left_at s (base extent.depth) a.x a.y (num_avail extent.height a.y a.height (needs_below_left mode step && low) run) in
+    let above =
+    above_at s (base extent.depth) a.x a.y
+    (num_avail extent.width a.x a.width (needs_above_right mode step && right) run) in
+    let left =
+    left_at s (base extent.depth) a.x a.y
+    (num_avail extent.height a.y a.height (needs_below_left mode step && low) run) in
     let corner = if needs_corner mode step then corner_at s (base extent.depth) a.x a.y else base extent.depth in
     record {
       above = by_index (a.width + where_needed (needs_above_right mode step) a.height) above;
-      left = by_index (where_needed (needs_left mode a.x) a.height + where_needed (needs_below_left mode step) a.width) left;
+      left = by_index (where_needed (needs_left mode a.x) a.height + where_needed (needs_below_left mode step) a.width)
+          left;
       corner = if smooths_corner filter mode step a.width a.height then smoothed (left 0) corner (above 0) else corner;
     }
 
@@ -72,11 +83,15 @@ module _ (h : Header) (p : ℕ) (block : PlaneBlock) (n : ℕ) (a : VisibleArea)
   -- the samples above right of it may be taken, and those below left of it
   abbrev pub answer_right : Bool
   answer_right =
-      takes_above_right block.leaf.size (block.leaf.x / 4) (block.leaf.y / 4) block.area.tx_size (n % blocks_across block.area) (n / blocks_across block.area) (xdec h p) (ydec h p) a.x (plane_width h p)
+      takes_above_right block.leaf.size (block.leaf.x / 4)
+      (block.leaf.y / 4) block.area.tx_size (n % blocks_across block.area) (n / blocks_across block.area) (xdec h p)
+      (ydec h p) a.x (plane_width h p)
 
   abbrev pub answer_low : Bool
   answer_low =
-      takes_below_left block.leaf.size (block.leaf.x / 4) (block.leaf.y / 4) block.area.tx_size (n % blocks_across block.area) (n / blocks_across block.area) (xdec h p) (ydec h p) a.y (plane_height h p)
+      takes_below_left block.leaf.size (block.leaf.x / 4)
+      (block.leaf.y / 4) block.area.tx_size (n % blocks_across block.area) (n / blocks_across block.area) (xdec h p)
+      (ydec h p) a.y (plane_height h p)
 
   -- its edge, read from a plane's samples
   abbrev pub placed_edge : {T : Type 0} → (num : T → ℕ) → Plane T → PredictionMode → ℤ → Edge
@@ -89,11 +104,16 @@ abbrev pub with_header : Header → PlanValue → PlanValue
 with_header h plan = record { header = h; references = plan.references; leaves = plan.leaves }
 
 -- What a step does to plane p of a plan; `luma` says how far luma is from its mean.
-unfoldable pub fast_in : {T : Type 0} → (T → ℕ) → (ℕ → T) → PlanValue → (p : ℕ) → (luma : PlaneBlock → ℕ → ℕ → ℤ) → Plane T → Step → Plane T
+unfoldable pub fast_in : {T : Type 0} → (T → ℕ) → (ℕ → T) → PlanValue → (p : ℕ) → (luma : PlaneBlock → ℕ → ℕ → ℤ) →
+    Plane T → Step → Plane T
 fast_in num pixel plan p luma plane (predict block n a) =
-    painted_plane plane a (λ r c _. pixel (by_prediction plan p block.prediction a (placed_edge plan.header p block n a num plane) (luma block) r c))
+    painted_plane plane a
+    (λ r c _.
+    pixel (by_prediction plan p block.prediction a (placed_edge plan.header p block n a num plane)
+    (luma block) r c))
 fast_in num pixel plan p luma plane (add block triples n a) =
-    painted_plane plane a (λ r c v. pixel (added plan.header.depth (num v) (block_residue plan.header.depth block triples n r c)))
+    painted_plane plane a
+    (λ r c v. pixel (added plan.header.depth (num v) (block_residue plan.header.depth block triples n r c)))
 
 abbrev pub plane_of : {T : Type 0} → Component → Planes T → Plane T
 plane_of Y planes = planes.y
@@ -113,7 +133,8 @@ with_plane V planes p = record planes { v = p }
 -- What a step does to the planes.
 unfoldable pub fast_step : {T : Type 0} → (T → ℕ) → (ℕ → T) → PlanValue → Planes T → PlaneStep → Planes T
 fast_step num pixel plan planes s =
-    with_plane s.component planes (fast_in num pixel plan (number s.component) (luma_for plan.header (sample_at num planes.y) s.component) (plane_of s.component planes) s.step)
+    with_plane s.component planes (fast_in num pixel plan (number s.component)
+    (luma_for plan.header (sample_at num planes.y) s.component) (plane_of s.component planes) s.step)
 
 -- ---- edges that are prepared
 
@@ -159,7 +180,8 @@ pub record StoresAll {T : Type 0} (num : T → ℕ) (h : Header) (planes : Plane
   pub u : Stores num h 1 planes.u
   pub v : Stores num h 2 planes.v
 
--- a plane of these settings has storage for plane p of the frame in whole superblocks, which have sides of 64 luma samples
+-- a plane of these settings has storage for plane p of the frame in whole superblocks, which have sides of 64 luma
+-- samples
 pub record HasRoomIn (h : Header) (p : ℕ) (cfg : PlaneConfig) : Type 0 where
   pub columns : cfg.xorigin + next_multiple_of (plane_width h p) (64 / 2 ^ xdec h p) ≤ cfg.stride
   pub rows : cfg.yorigin + next_multiple_of (plane_height h p) (64 / 2 ^ ydec h p) ≤ cfg.alloc_height
@@ -170,7 +192,8 @@ pub record HasRoom {T : Type 0} (h : Header) (planes : Planes T) : Type 0 where
   pub u : HasRoomIn h 1 planes.u.plane_cfg
   pub v : HasRoomIn h 2 planes.v.plane_cfg
 
--- a plane of these settings stores so many samples of luma more on every side, in plane p half as many where it is halved
+-- a plane of these settings stores so many samples of luma more on every side, in plane p half as many where it is
+-- halved
 pub record HasPad (h : Header) (p pad : ℕ) (cfg : PlaneConfig) : Type 0 where
   pub columns : cfg.xpad ≡ pad / 2 ^ xdec h p
   pub rows : cfg.ypad ≡ pad / 2 ^ ydec h p
@@ -187,6 +210,12 @@ pub record SameLayout {T : Type 0} (p q : Planes T) : Type 0 where
   pub u : q.u.plane_cfg ≡ p.u.plane_cfg
   pub v : q.v.plane_cfg ≡ p.v.plane_cfg
 
+-- each stored sample of the three planes is this one
+pub record AreFilledWith {T : Type 0} (value : T) (planes : Planes T) : Type 0 where
+  pub y : All (λ v. v ≡ value) planes.y.samples
+  pub u : All (λ v. v ≡ value) planes.u.samples
+  pub v : All (λ v. v ≡ value) planes.v.samples
+
 -- ---- blocks and leaves
 
 -- a triple that stands in its block and fits the depth
@@ -196,11 +225,13 @@ pub record TripleFits (depth : ℕ) (block : PlaneBlock) (t : Triple) : Type 0 w
 
 -- the triples rise by their blocks
 abbrev pub AreRising : List Triple → Type 0
-AreRising triples = (i j : ℕ) (d : Triple) → i ≤ j → j < length triples → (slice_index_or triples i d).block ≤ (slice_index_or triples j d).block
+AreRising triples = (i j : ℕ) (d : Triple) → i ≤ j → j < length triples →
+    (slice_index_or triples i d).block ≤ (slice_index_or triples j d).block
 
 -- the rectangle of a transform block
 abbrev pub area_at : PlaneBlock → BlockPlace → VisibleArea
-area_at block at = record { x = at.x; y = at.y; width = tx_width block.area.tx_size; height = tx_height block.area.tx_size }
+area_at block at =
+    record { x = at.x; y = at.y; width = tx_width block.area.tx_size; height = tx_height block.area.tx_size }
 
 -- a transform block of a leaf's block that begins in the visible plane, by its number, its column and its row
 pub record IsPlaceIn (h : Header) (block : PlaneBlock) (at : BlockPlace) : Type 0 where
@@ -215,8 +246,10 @@ pub record IsPlaceIn (h : Header) (block : PlaneBlock) (at : BlockPlace) : Type 
   pub few_rows : at.y < 2 ^ 16
 
 -- its edge, for a mode and its parameter
-abbrev pub edge_for : {T : Type 0} → Header → PlaneBlock → BlockPlace → PredictionMode → IntraParam → (num : T → ℕ) → Plane T → Edge
-edge_for h block at mode param num plane = placed_edge h block.plane block at.number (area_at block at) num plane (effective mode at.x at.y) (step_of param)
+abbrev pub edge_for : {T : Type 0} → Header → PlaneBlock → BlockPlace → PredictionMode → IntraParam → (num : T → ℕ) →
+    Plane T → Edge
+edge_for h block at mode param num plane =
+    placed_edge h block.plane block at.number (area_at block at) num plane (effective mode at.x at.y) (step_of param)
 
 -- an intra mode that turns by few steps
 pub record ModeFits (mode : PredictionMode) (step : ℤ) : Type 0 where
@@ -241,11 +274,13 @@ pub record ReferenceFits (h : Header) (reference : RefType) : Type 0 where
   pub has : IsTrue (has_reference h reference)
 
 -- a prediction of an area of plane p from one reference, and from two
-pub record SingleFits (h : Header) (p : ℕ) (area : PlaneArea) (mode : PredictionMode) (reference : RefType) : Type 0 where
+pub record SingleFits (h : Header) (p : ℕ) (area : PlaneArea) (mode : PredictionMode)
+    (reference : RefType) : Type 0 where
   pub motion : MotionFits h p area mode
   pub served : ReferenceFits h reference
 
-pub record CompoundFits (h : Header) (p : ℕ) (area : PlaneArea) (mode : PredictionMode) (references : List RefType) : Type 0 where
+pub record CompoundFits (h : Header) (p : ℕ) (area : PlaneArea) (mode : PredictionMode)
+    (references : List RefType) : Type 0 where
   pub motion : MotionFits h p area mode
   pub first : ReferenceFits h (reference_of references 0)
   pub second : ReferenceFits h (reference_of references 1)
@@ -257,7 +292,8 @@ PredictionFits h p area (predictions.FromLuma alpha) = FromLumaFits area alpha
 PredictionFits h p area (predictions.Single mode reference mv) = SingleFits h p area mode reference
 PredictionFits h p area (predictions.Compound mode references mvs) = CompoundFits h p area mode references
 
--- a block that is reconstructed: it lies in a plane's storage, its prediction and its transforms can be made, and its triples fit and rise
+-- a block that is reconstructed: it lies in a plane's storage, its prediction and its transforms can be made, and its
+-- triples fit and rise
 pub record BlockFits (cfg : PlaneConfig) (h : Header) (block : PlaneBlock) (triples : List Triple) : Type 0 where
   pub columns : cfg.xorigin + (block.area.x + block_width block.area.size) ≤ cfg.stride
   pub rows : cfg.yorigin + (block.area.y + block_height block.area.size) ≤ cfg.alloc_height
@@ -271,20 +307,29 @@ pub record BlockFits (cfg : PlaneConfig) (h : Header) (block : PlaneBlock) (trip
 abbrev pub luma_block : LeafValue → LumaBlock
 luma_block leaf = record { x = leaf.x; y = leaf.y; size = leaf.size; tx_size = leaf.tx_size }
 
--- chroma of a leaf can be predicted from its luma: its block of chroma is one transform, and what is read lies in storage
+-- chroma of a leaf can be predicted from its luma: its block of chroma is one transform, and what is read lies in
+-- storage
 pub record LumaFits (h : Header) (cfg : PlaneConfig) (leaf : LeafValue) : Type 0 where
   pub narrow : IsTrue (is_narrow leaf.size (xdec h 1)) → 4 ≤ leaf.x
   pub low : IsTrue (is_low leaf.size (ydec h 1)) → 4 ≤ leaf.y
-  pub width : (chroma_block (luma_of h (luma_block leaf))).width ≡ tx_width (plane_area h leaf.x leaf.y leaf.size leaf.tx_size 1).tx_size
-  pub height : (chroma_block (luma_of h (luma_block leaf))).height ≡ tx_height (plane_area h leaf.x leaf.y leaf.size leaf.tx_size 1).tx_size
-  pub few : (chroma_block (luma_of h (luma_block leaf))).width * (chroma_block (luma_of h (luma_block leaf))).height ≤ 1024
-  pub columns : cfg.xorigin + (first_column (luma_of h (luma_block leaf)) + columns_read (chroma_block (luma_of h (luma_block leaf)))) ≤ cfg.stride
-  pub rows : cfg.yorigin + (first_row (luma_of h (luma_block leaf)) + rows_read (chroma_block (luma_of h (luma_block leaf)))) ≤ cfg.alloc_height
+  pub width : (chroma_block (luma_of h (luma_block leaf))).width ≡
+      tx_width (plane_area h leaf.x leaf.y leaf.size leaf.tx_size 1).tx_size
+  pub height : (chroma_block (luma_of h (luma_block leaf))).height ≡
+      tx_height (plane_area h leaf.x leaf.y leaf.size leaf.tx_size 1).tx_size
+  pub few : (chroma_block (luma_of h (luma_block leaf))).width * (chroma_block (luma_of h (luma_block leaf))).height ≤
+      1024
+  pub columns : cfg.xorigin +
+      (first_column (luma_of h (luma_block leaf)) + columns_read (chroma_block (luma_of h (luma_block leaf)))) ≤
+      cfg.stride
+  pub rows : cfg.yorigin +
+      (first_row (luma_of h (luma_block leaf)) + rows_read (chroma_block (luma_of h (luma_block leaf)))) ≤
+      cfg.alloc_height
   pub depth : h.depth ≤ 12
 
 -- a leaf's area in a plane begins in its visible part
 pub record Begins (h : Header) (component : Component) (leaf : LeafValue) : Type 0 where
-  pub column : (plane_area h leaf.x leaf.y leaf.size leaf.tx_size (number component)).x < plane_width h (number component)
+  pub column : (plane_area h leaf.x leaf.y leaf.size leaf.tx_size (number component)).x < plane_width h
+      (number component)
   pub row : (plane_area h leaf.x leaf.y leaf.size leaf.tx_size (number component)).y < plane_height h (number component)
 
 -- each of a leaf's blocks can be reconstructed in its plane, whatever the edge filter is told
@@ -292,16 +337,21 @@ pub record LeafFits {T : Type 0} (h : Header) (planes : Planes T) (leaf : LeafVa
   pub begins_y : Begins h Y leaf
   pub begins_u : carries_chroma h leaf.x leaf.y leaf.size ≡ true → Begins h U leaf
   pub begins_v : carries_chroma h leaf.x leaf.y leaf.size ≡ true → Begins h V leaf
-  pub luma : carries_chroma h leaf.x leaf.y leaf.size ≡ true → is_from_luma leaf.kind ≡ true → LumaFits h planes.y.plane_cfg leaf
-  pub y : (filter : Option IntraEdgeFilterParameters) → BlockFits planes.y.plane_cfg h (block_told h filter Y leaf) (triples_in Y leaf)
-  pub u : carries_chroma h leaf.x leaf.y leaf.size ≡ true → (filter : Option IntraEdgeFilterParameters) → BlockFits planes.u.plane_cfg h (block_told h filter U leaf) (triples_in U leaf)
-  pub v : carries_chroma h leaf.x leaf.y leaf.size ≡ true → (filter : Option IntraEdgeFilterParameters) → BlockFits planes.v.plane_cfg h (block_told h filter V leaf) (triples_in V leaf)
+  pub luma : carries_chroma h leaf.x leaf.y leaf.size ≡ true → is_from_luma leaf.kind ≡ true →
+      LumaFits h planes.y.plane_cfg leaf
+  pub y : (filter : Option IntraEdgeFilterParameters) →
+      BlockFits planes.y.plane_cfg h (block_told h filter Y leaf) (triples_in Y leaf)
+  pub u : carries_chroma h leaf.x leaf.y leaf.size ≡ true → (filter : Option IntraEdgeFilterParameters) →
+      BlockFits planes.u.plane_cfg h (block_told h filter U leaf) (triples_in U leaf)
+  pub v : carries_chroma h leaf.x leaf.y leaf.size ≡ true → (filter : Option IntraEdgeFilterParameters) →
+      BlockFits planes.v.plane_cfg h (block_told h filter V leaf) (triples_in V leaf)
 
 -- ---- the record of cells
 
 -- what is told of the luma cell at column cx of row cy
 abbrev pub cell_at : CodedCells → (cx cy : ℕ) → CodedBlockInfo
-cell_at cells cx cy = slice_index_or cells.cells.items (cy * cells.columns + cx) (coded_info (Intra DC_PRED (pos 0) None))
+cell_at cells cx cy =
+    slice_index_or cells.cells.items (cy * cells.columns + cx) (coded_info (Intra DC_PRED (pos 0) None))
 
 -- the record is one of the frame's cells, and has room for each
 pub record HasCells (h : Header) (cells : CodedCells) : Type 0 where
@@ -327,11 +377,13 @@ told_by h told p x y = told (last_cell (xdec h p) x) (last_cell (ydec h p) y)
 -- what the edge filter is told so at an area of plane p
 abbrev pub parameters_by : Header → Told → (p : ℕ) → PlaneArea → Option IntraEdgeFilterParameters
 parameters_by h told p a =
-    filter_parameters h p (if nat_lt 0 a.y then Some (told_by h told p a.x (a.y - 1)) else None) (if nat_lt 0 a.x then Some (told_by h told p (a.x - 1) a.y) else None)
+    filter_parameters h p (if nat_lt 0 a.y then Some (told_by h told p a.x (a.y - 1)) else None)
+    (if nat_lt 0 a.x then Some (told_by h told p (a.x - 1) a.y) else None)
 
 -- and at a leaf
 abbrev pub filter_by : Header → Told → Component → LeafValue → Option IntraEdgeFilterParameters
-filter_by h told component leaf = parameters_by h told (number component) (plane_area h leaf.x leaf.y leaf.size leaf.tx_size (number component))
+filter_by h told component leaf =
+    parameters_by h told (number component) (plane_area h leaf.x leaf.y leaf.size leaf.tx_size (number component))
 
 -- a leaf's block in a plane, and its steps
 abbrev pub block_by : Header → Told → Component → LeafValue → PlaneBlock
@@ -347,4 +399,13 @@ steps_by h told (leaf ∷ leaves) = leaf_steps_by h told leaf ++ steps_by h (wit
 
 -- a leaf and its triples in each plane
 abbrev pub leaf_with : Leaf → List Triple → List Triple → List Triple → LeafValue
-leaf_with l y u v = record { x = l.x; y = l.y; size = l.size; kind = l.kind; tx_size = l.tx_size; tx_type = l.tx_type; uv_type = l.uv_type; triples = y ∷ u ∷ v ∷ [] }
+leaf_with l y u v = record {
+  x = l.x;
+  y = l.y;
+  size = l.size;
+  kind = l.kind;
+  tx_size = l.tx_size;
+  tx_type = l.tx_type;
+  uv_type = l.uv_type;
+  triples = y ∷ u ∷ v ∷ [];
+}

@@ -69,8 +69,9 @@ fn whole_plane(header: &Header, p: usize) -> TileRect
     }
 }
 
-/// Predicts a transform block by an intra mode, from its edge, in the region that is its rectangle. `luma` holds how far luma is from its
-/// mean, row by row, where the mode asks for it, and `filter` is what the edge filter is told, where it is on.
+/// Predicts a transform block by an intra mode, from its edge, in the region that is its rectangle. `luma` holds how
+/// far luma is from its mean, row by row, where the mode asks for it, and `filter` is what the edge filter is told,
+/// where it is on.
 fn predict_region<T: Pixel>(
     region: &mut PlaneRegionMut<'_, T>,
     edge: &IntraEdge<'_, T>,
@@ -95,8 +96,10 @@ fn predict_region<T: Pixel>(
     requires left { map T.num edge.now.left.now ≡ reverse (edge_for header.now block.now at mode param T.num region.old.plane.now).left }
     requires corner { map T.num edge.now.top_left.now ≡ (edge_for header.now block.now at mode param T.num region.old.plane.now).corner ∷ [] }
     requires above { map T.num edge.now.above.now ≡ (edge_for header.now block.now at mode param T.num region.old.plane.now).above }
-    ensures painted { region.new ≡ painted region.old (tx_width block.now.area.tx_size) (tx_height block.now.area.tx_size) (λ r c _. T.pixel (by_mode (extent_of header.now block.now.plane) filter mode param (area_at block.now at)
-        (placed_edge header.now block.now.plane block.now at.number (area_at block.now at) T.num region.old.plane.now) (ac_at (tx_width block.now.area.tx_size) luma.now) r c)) }
+    ensures painted { region.new ≡ painted region.old (tx_width block.now.area.tx_size) (tx_height block.now.area.tx_size)
+        (λ r c _. T.pixel (by_mode (extent_of header.now block.now.plane) filter mode param (area_at block.now at)
+        (placed_edge header.now block.now.plane block.now at.number (area_at block.now at) T.num region.old.plane.now)
+        (ac_at (tx_width block.now.area.tx_size) luma.now) r c)) }
     ensures fits { InStorage region.new }
 {
     let tile = whole_plane(header, block.plane);
@@ -135,8 +138,10 @@ pub fn predict_from_edge<T: Pixel>(
     requires few_steps { unsigned_abs (step_of param) ≤ 3 }
     requires small_weight { unsigned_abs (alpha_of param) ≤ 16 }
     requires luma_long { IsTrue (is_cfl mode) → tx_width block.now.area.tx_size * tx_height block.now.area.tx_size ≤ length luma.now }
-    ensures painted { plane.new ≡ painted_plane plane.old (area_at block.now at) (λ r c _. T.pixel (by_mode (extent_of header.now block.now.plane) filter mode param (area_at block.now at)
-        (placed_edge header.now block.now.plane block.now at.number (area_at block.now at) T.num plane.old) (ac_at (tx_width block.now.area.tx_size) luma.now) r c)) }
+    ensures painted { plane.new ≡ painted_plane plane.old (area_at block.now at)
+        (λ r c _. T.pixel (by_mode (extent_of header.now block.now.plane) filter mode param (area_at block.now at)
+        (placed_edge header.now block.now.plane block.now at.number (area_at block.now at) T.num plane.old)
+        (ac_at (tx_width block.now.area.tx_size) luma.now) r c)) }
     ensures counted { edges.new.prepared ≡ counted edges.old.prepared }
 {
     let tx_size = block.area.tx_size;
@@ -173,7 +178,8 @@ pub fn predict_from_edge<T: Pixel>(
     );
 }
 
-/// Adds a transform block's residue to the first rows and columns of the region; `coefficients` is room for its coefficients.
+/// Adds a transform block's residue to the first rows and columns of the region; `coefficients` is room for its
+/// coefficients.
 fn add_residue<T: Pixel>(
     output: &mut PlaneRegionMut<'_, T>,
     coefficients: &mut [T::Coeff],
@@ -192,7 +198,8 @@ fn add_residue<T: Pixel>(
     requires valid { IsTrue (valid_av1_transform block.now.area.tx_size block.now.tx_type) }
     requires lossless { block.now.tx_type ≡ WHT_WHT → block.now.area.tx_size ≡ TX_4X4 }
     requires triples { All (TripleFits bit_depth block.now) triples.now }
-    ensures painted { output.new ≡ painted output.old (tx_width block.now.area.tx_size) (tx_height block.now.area.tx_size) (λ r c v. T.pixel (added bit_depth (T.num v) (block_residue bit_depth block.now triples.now number r c))) }
+    ensures painted { output.new ≡ painted output.old (tx_width block.now.area.tx_size) (tx_height block.now.area.tx_size)
+        (λ r c v. T.pixel (added bit_depth (T.num v) (block_residue bit_depth block.now triples.now number r c))) }
     ensures fits { InStorage output.new }
 {
     let tx_size = block.area.tx_size;
@@ -208,8 +215,8 @@ fn add_residue<T: Pixel>(
     );
 }
 
-/// Adds the residue of a transform block to its samples; `coefficients` is room for its coefficients. Without triples the samples stay: they
-/// lie within the depth.
+/// Adds the residue of a transform block to its samples; `coefficients` is room for its coefficients. Without triples
+/// the samples stay: they lie within the depth.
 pub fn add_block<T: Pixel>(
     plane: &mut Plane<T>,
     coefficients: &mut [T::Coeff],
@@ -228,7 +235,9 @@ pub fn add_block<T: Pixel>(
     requires valid { IsTrue (valid_av1_transform block.now.area.tx_size block.now.tx_type) }
     requires lossless { block.now.tx_type ≡ WHT_WHT → block.now.area.tx_size ≡ TX_4X4 }
     requires triples { All (TripleFits header.now.depth block.now) triples.now }
-    ensures { let depth = header.now.depth in plane.new ≡ painted_plane plane.old (area_at block.now at) (λ r c v. T.pixel (added depth (T.num v) (block_residue depth block.now triples.now at.number r c))) }
+    ensures { let depth = header.now.depth
+        in plane.new ≡ painted_plane plane.old (area_at block.now at)
+        (λ r c v. T.pixel (added depth (T.num v) (block_residue depth block.now triples.now at.number r c))) }
 {
     if triples.is_empty() {
         return;

@@ -9,7 +9,8 @@ ghost use Rattle.av1_plan.specs.ReadPlans.{IsReadFrame};
 ghost use Rattle.av1_references.specs.References.{ServesPlan};
 ghost use Rattle.av1_tile.specs.PlaneBlocks.{is_from_luma};
 ghost use Rattle.av1_tile.specs.Reference.{luma_of};
-ghost use Rattle.av1_tile.specs.Walk.{cell_at, edges_after, leaf_steps_by, fast_step, leaf_with, luma_block, HasCells, LeafFits, LumaFits, SameLayout, Stores, StoresAll, with_header};
+ghost use Rattle.av1_tile.specs.Walk.{cell_at, edges_after, leaf_steps_by, fast_step, leaf_with, luma_block, HasCells, LeafFits, LumaFits, SameLayout, Stores};
+ghost use Rattle.av1_tile.specs.Walk.{StoresAll, with_header};
 
 use crate::buffers::WalkBuffers;
 use crate::cells::CodedCells;
@@ -39,7 +40,8 @@ fn prepare_luma<T: Pixel>(luma: &mut [i16], plane: &Plane<T>, header: &Header, l
     requires long { length luma.old ≡ 1024 }
     ensures long { length luma.new ≡ 1024 }
     ensures value { let l = luma_of header.now (luma_block (leaf_with leaf.now [] [] [])) in
-        (r c : ℕ) → r < (chroma_block l).height → c < (chroma_block l).width → ac_at (chroma_block l).width luma.new r c ≡ leaf_difference (sample_at T.num plane.now) l r c }
+        (r c : ℕ) → r < (chroma_block l).height → c < (chroma_block l).width →
+        ac_at (chroma_block l).width luma.new r c ≡ leaf_difference (sample_at T.num plane.now) l r c }
 {
     let config = plane.config();
     let stored = plane.region(Area::Rect {

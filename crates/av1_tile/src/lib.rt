@@ -1,19 +1,20 @@
 //! The walk over the leaves of a plan: from decisions on blocks to samples.
 //!
-//! A [`TileState`] holds the three planes of a frame and the references that it is predicted from, and [`reconstruct_tile`] writes into
-//! the planes what a valid plan says. It goes through the leaves in coding order, and through the parts that each covers in Y, U and V. A
-//! part is predicted from references over its whole area at once, or else block by block, each transform block from the samples above and
-//! left of it; the residues of its transform blocks are added in raster order. Places and sides are in samples of the plane at hand. A block
-//! that begins in the frame is written whole, though it may reach beyond; where a side of a block reaches beyond, it goes on with its last
-//! sample in the frame, and at the frame's left and upper ends it is a number close to mid-grey. Of a reference, the nearest sample in the
-//! frame stands for each that lies beyond it.
+//! A [`TileState`] holds the three planes of a frame and the references that it is predicted from, and
+//! [`reconstruct_tile`] writes into the planes what a valid plan says. It goes through the leaves in coding order, and
+//! through the parts that each covers in Y, U and V. A part is predicted from references over its whole area at once,
+//! or else block by block, each transform block from the samples above and left of it; the residues of its transform
+//! blocks are added in raster order. Places and sides are in samples of the plane at hand. A block that begins in the
+//! frame is written whole, though it may reach beyond; where a side of a block reaches beyond, it goes on with its last
+//! sample in the frame, and at the frame's left and upper ends it is a number close to mid-grey. Of a reference, the
+//! nearest sample in the frame stands for each that lies beyond it.
 //!
-//! AV1 specification: decode block syntax, compute prediction syntax, intra prediction process, inter prediction process, reconstruction
-//! process.
+//! AV1 specification: decode block syntax, compute prediction syntax, intra prediction process, inter prediction
+//! process, reconstruction process.
 //!
-//! Promised: the visible planes are those of the slow definition, `planes_of` (`specs/Output.antt`), and so is each of their rows, `plan_row`
-//! (`specs/State.antt`), whatever they held before. Callers that keep
-//! planes and references from one frame to the next themselves have the same by a [`WalkMemory`], over [`Planes`] of their own (`ShowsPlan` of
+//! Promised: the visible planes are those of the slow definition, `planes_of` (`specs/Output.antt`), and so is each of
+//! their rows, `plan_row` (`specs/State.antt`), whatever they held before. Callers that keep planes and references from
+//! one frame to the next themselves have the same by a [`WalkMemory`], over [`Planes`] of their own (`ShowsPlan` of
 //! `specs/Memory.antt`). Only `TileState::new`, `Planes::new` and `WalkMemory::new` allocate.
 #![tactic(auto)]
 

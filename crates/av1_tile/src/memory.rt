@@ -12,8 +12,8 @@ use av1_plan::{Header, Plan};
 use std::alloc::Global;
 use std::marker::Model;
 
-/// The memory that the reconstruction of frames works in, taken once for frames with as many cells as the greatest. Nothing in it is told from
-/// one frame to the next.
+/// The memory that the reconstruction of frames works in, taken once for frames with as many cells as the greatest.
+/// Nothing in it is told from one frame to the next.
 #[derive(Drop)]
 pub struct WalkMemory<T: Pixel> {
     cells: CodedCells,
@@ -37,8 +37,8 @@ impl<T: Pixel> WalkMemory<T> {
     ghost use Rattle.av1_tile.specs.State.{edges_of};
     ghost use Rattle.av1_tile.specs.Walk.{HasRoom, SameLayout, StoresAll};
 
-    /// Takes the memory for frames with this header's sides, and for all that have no more cells of 4 by 4 luma samples. No edge has been
-    /// prepared in it yet. An error is want of memory.
+    /// Takes the memory for frames with this header's sides, and for all that have no more cells of 4 by 4 luma
+    /// samples. No edge has been prepared in it yet. An error is running out of memory.
     pub fn new(alloc: Global, header: &Header) -> Result<WalkMemory<T>, OutOfMemory>
         ensures room { IfOk result (λ m. HasRoomFor header.now m) }
         ensures edges { IfOk result (λ m. m.edges ≡ 0) }
@@ -62,11 +62,12 @@ impl<T: Pixel> WalkMemory<T> {
         self.buffers.edges.prepared()
     }
 
-    /// Reconstructs the leaves of a valid plan that is kept apart from its header and its references: the leaves are those of `leaves`, the
-    /// header is `header`, and the frame settings `fi` serve the references. The visible samples of the planes are then those of the slow
-    /// definition, whatever they were before.
+    /// Reconstructs the leaves of a valid plan that is kept apart from its header and its references: the leaves are
+    /// those of `leaves`, the header is `header`, and the frame settings `fi` serve the references. The visible samples
+    /// of the planes are then those of the slow definition, whatever they were before.
     ///
-    /// The planes store a frame with this header, with room for whole superblocks. They go on doing so, laid out as before.
+    /// The planes store a frame with this header, with room for whole superblocks. They go on doing so, laid out as
+    /// before.
     pub fn reconstruct(
         &mut self,
         planes: &mut Planes<T>,
@@ -80,7 +81,8 @@ impl<T: Pixel> WalkMemory<T> {
         requires stores { StoresAll T.num header.now planes.old }
         requires superblocks { HasRoom header.now planes.old }
         ensures shown { (plan : PlanValue) → IsPlanOver T.num header.now (plan_value leaves.now).leaves fi.now plan → ShowsPlan T.num plan planes.new }
-        ensures edges { (plan : PlanValue) → IsPlanOver T.num header.now (plan_value leaves.now).leaves fi.now plan → self.new.edges ≡ edges_of self.old.edges plan }
+        ensures edges { (plan : PlanValue) → IsPlanOver T.num header.now (plan_value leaves.now).leaves fi.now plan →
+            self.new.edges ≡ edges_of self.old.edges plan }
         ensures stores { StoresAll T.num header.now planes.new }
         ensures layout { SameLayout planes.old planes.new }
         ensures cells { self.new.cells ≡ self.old.cells }

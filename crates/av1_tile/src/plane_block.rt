@@ -18,8 +18,8 @@ use av1_plan::{ChromaMode, Header, Leaf, LeafKind, PlaneArea};
 /// How a leaf's samples in a plane are predicted.
 #[derive(Clone, Copy, Debug, PartialEq, Eq)]
 pub enum Prediction {
-    /// From the samples round each transform block, by an intra mode that turns `step` steps of 3 degrees; `filter` is what the edge
-    /// filter is told of the neighbours, where it is on.
+    /// From the samples round each transform block, by an intra mode that turns `step` steps of 3 degrees; `filter` is
+    /// what the edge filter is told of the neighbours, where it is on.
     Intra {
         mode: PredictionMode,
         step: i8,

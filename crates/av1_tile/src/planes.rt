@@ -1,6 +1,6 @@
 //! The three planes of a picture.
 
-ghost use Rattle.std.specs.Prelude.{◌≡◌, ◌/◌, ◌^◌, ◌<◌, ◌≤◌, IfOk, map};
+ghost use Rattle.std.specs.Prelude.{◌≡◌, ◌/◌, ◌^◌, ◌<◌, ◌≤◌, All, IfOk, map};
 ghost use Rattle.av1_frame.specs.Planes.{sample_at};
 ghost use Rattle.av1_lists.specs.Lists.{by_index};
 ghost use Rattle.av1_plan.specs.Geometry.{plane_width, plane_height};
@@ -23,7 +23,8 @@ pub struct Planes<T> {
     pub v: Plane<T>,
 }
 
-/// How many samples `pad` samples of luma are in a direction in which a sample stands for 1 of luma (`decimation` 0) or 2 (1).
+/// How many samples `pad` samples of luma are in a direction in which a sample stands for 1 of luma (`decimation` 0) or
+/// 2 (1).
 fn pad_of(pad: usize, decimation: usize) -> usize
     requires { decimation ≤ 1 }
     ensures value { result ≡ pad / 2 ^ decimation }
@@ -32,10 +33,10 @@ fn pad_of(pad: usize, decimation: usize) -> usize
     pad >> decimation
 }
 
-/// A plane of zeros with the sides of plane `p` (0 for Y, 1 for U and 2 for V) of a frame, and on every side `pad` samples of luma besides: half
-/// as many samples in directions in which the plane is halved.
+/// A plane of zeros with the sides of plane `p` (0 for Y, 1 for U and 2 for V) of a frame, and on every side `pad`
+/// samples of luma besides: half as many samples in directions in which the plane is halved.
 ///
-/// Storage is that of whole superblocks. An error is want of memory.
+/// Storage is that of whole superblocks. An error is running out of memory.
 fn plane_of_frame<T: Pixel>(
     alloc: Global,
     header: &Header,
@@ -47,6 +48,7 @@ fn plane_of_frame<T: Pixel>(
     ensures stores { IfOk result (λ plane. Stores T.num header.now p plane) }
     ensures room { IfOk result (λ plane. HasRoomIn header.now p plane.plane_cfg) }
     ensures pad { IfOk result (λ plane. HasPad header.now p pad plane.plane_cfg) }
+    ensures zeros { IfOk result (λ plane. All (λ v. v ≡ T.pixel 0) plane.samples) }
 {
     let xdec = header.xdec(p);
     let ydec = header.ydec(p);
@@ -82,16 +84,17 @@ impl<T: Pixel> Planes<T> {
     ghost use Rattle.av1_plan.specs.Geometry.{plane_width, plane_height};
     ghost use Rattle.av1_plan.specs.ReadPlans.{IsReadFrame};
     ghost use Rattle.av1_tile.specs.PlaneBlocks.{component};
-    ghost use Rattle.av1_tile.specs.Walk.{AreFrame, HasPads, HasRoom, plane_of, StoresAll};
+    ghost use Rattle.av1_tile.specs.Walk.{AreFilledWith, AreFrame, HasPads, HasRoom, plane_of, StoresAll};
 
-    /// Planes of zeros for a frame, with room for whole superblocks, and on every side `pad` samples of luma besides, in directions in which a
-    /// plane is halved half as many. An error is want of memory.
+    /// Planes of zeros for a frame, with room for whole superblocks, and on every side `pad` samples of luma besides,
+    /// in directions in which a plane is halved half as many. An error is running out of memory.
     pub fn new(alloc: Global, header: &Header, pad: usize) -> Result<Planes<T>, OutOfMemory>
         requires frame { IsReadFrame header.now }
         requires pad { pad ≤ 256 }
         ensures stores { IfOk result (λ planes. StoresAll T.num header.now planes) }
         ensures room { IfOk result (λ planes. HasRoom header.now planes) }
         ensures pads { IfOk result (λ planes. HasPads header.now pad planes) }
+        ensures zeros { IfOk result (λ planes. AreFilledWith (T.pixel 0) planes) }
     {
         let y = plane_of_frame(alloc, header, 0, pad)?;
         let u = plane_of_frame(alloc, header, 1, pad)?;

@@ -12,7 +12,11 @@ use av1_references::frame_invariants;
 use std::alloc::Global;
 use std::marker::Model;
 
-/// The planes of a frame that is reconstructed, the references that it is predicted from, and the memory that the walk works in.
+/// The planes of a frame that is reconstructed, the references that it is predicted from, and the memory that the walk
+/// works in.
+///
+/// It serves frame after frame with the sides, sampling, depth and reference samples of the plan that it was made for.
+/// The edge filter, the interpolation filter and the slots that references name are those of each plan.
 #[derive(Drop)]
 pub struct TileState<T: Pixel> {
     header: Header,
@@ -34,11 +38,27 @@ impl<T: Pixel> TileState<T> {
     ghost use Rattle.std.specs.Prelude.{◌≡◌, ◌<◌, ◌≤◌, ◌^◌, IfOk, map, None};
     ghost use Rattle.av1_plan.specs.Answer.{plan_value};
     ghost use Rattle.av1_plan.specs.Validity.{first_fault};
+    ghost use Rattle.av1_references.specs.References.{HoldsReferences};
     ghost use Rattle.av1_tile.specs.PlaneBlocks.{extent_of};
-    ghost use Rattle.av1_tile.specs.State.{edges_of, IsFilledWith, IsSound, MadeFor, shown, ShowsRows, state_edges, state_header, state_planes, state_references, state_row};
+    ghost use Rattle.av1_tile.specs.State.{
+      AreAlike,
+      edges_of,
+      IsFilledWith,
+      IsSound,
+      MadeFor,
+      shown,
+      ShowsRows,
+      state_edges,
+      state_header,
+      state_planes,
+      state_references,
+      state_row,
+      with_settings,
+    };
     ghost use Rattle.av1_tile.specs.Output.{planes_of, visible};
 
-    /// Takes all the memory that the reconstruction of a plan needs. The plan is valid, and its depth one that the samples have.
+    /// Takes all the memory that the reconstruction of a plan needs. The plan is valid, and its depth one that the
+    /// samples have.
     pub fn new(alloc: Global, plan: &Plan) -> Result<TileState<T>, OutOfMemory>
         requires valid { first_fault (plan_value plan.now) ≡ None }
         requires depth { (plan_value plan.now).header.depth ≤ T.BITS }
@@ -59,7 +79,8 @@ impl<T: Pixel> TileState<T> {
         })
     }
 
-    /// The header of the plan that the state was made for.
+    /// The header of the plan that was reconstructed last, and before the first that of the one that the state was made
+    /// for.
     pub fn header(&self) -> &Header
         ensures { result.now ≡ state_header self.now }
     {
@@ -73,8 +94,8 @@ impl<T: Pixel> TileState<T> {
         &self.planes
     }
 
-    /// How many edges were prepared in the state, up to the last value of a `u64`: none in a new one, and one for each prediction of a
-    /// transform block from the samples round it.
+    /// How many edges were prepared in the state, up to the last value of a `u64`: none in a new one, and one for each
+    /// prediction of a transform block from the samples round it.
     pub fn edges(&self) -> u64
         ensures { result ≡ state_edges self.now }
     {
@@ -91,7 +112,8 @@ impl<T: Pixel> TileState<T> {
         self.planes.row(&self.header, p, y)
     }
 
-    /// Each sample that is stored of the three planes becomes `value`, which lies within the depth; nothing else changes.
+    /// Each sample that is stored of the three planes becomes `value`, which lies within the depth; nothing else
+    /// changes.
     pub fn fill_with(&mut self, value: T)
         requires sound { IsSound T.num self.old }
         requires within { T.num value < 2 ^ (state_header self.old).depth }
@@ -106,11 +128,28 @@ impl<T: Pixel> TileState<T> {
         fill_plane(&mut self.planes.v, value);
     }
 
-    /// The leaves of the plan, over the state's planes.
-    pub(crate) fn run(&mut self, plan: &Plan)
+    /// The header becomes the state's own, and what it says of prediction that of the frame settings: the filters, and
+    /// the slot of each reference.
+    pub(crate) fn follow(&mut self, header: &Header)
+        requires sound { IsSound T.num self.old }
+        requires alike { AreAlike (state_header self.old) header.now }
+        ensures sound { IsSound T.num self.new }
+        ensures header { state_header self.new ≡ header.now }
+        ensures references { state_references self.new ≡ with_settings header.now (state_references self.old) }
+        ensures edges { state_edges self.new ≡ state_edges self.old }
+    {
+        self.header = *header;
+        self.fi.default_filter = header.filter;
+        self.fi.enable_intra_edge_filter = header.edge_filter;
+        self.fi.ref_frames = header.slots;
+    }
+
+    /// The leaves of a plan with the state's header and references, over the state's planes.
+    pub(crate) fn walk(&mut self, plan: &Plan)
         requires valid { first_fault (plan_value plan.now) ≡ None }
         requires sound { IsSound T.num self.old }
-        requires made { MadeFor T.num (plan_value plan.now) self.old }
+        requires header { state_header self.old ≡ (plan_value plan.now).header }
+        requires references { HoldsReferences T.num (plan_value plan.now) (state_references self.old) }
         requires depth { (plan_value plan.now).header.depth ≤ T.BITS }
         ensures visible { visible (state_header self.new) (shown T.num self.new) ≡ planes_of (plan_value plan.now) }
         ensures rows { ShowsRows T.num (plan_value plan.now) self.new }

@@ -15,7 +15,8 @@ use crate::planes::Planes;
 use av1_frame::{FrameInvariants, Pixel};
 use av1_plan::{Header, Plan};
 
-/// The leaves of a plan, in coding order, in a frame with this header. Each is noted in `cells` once it is reconstructed.
+/// The leaves of a plan, in coding order, in a frame with this header. Each is noted in `cells` once it is
+/// reconstructed.
 pub fn reconstruct_leaves<T: Pixel>(
     planes: &mut Planes<T>,
     cells: &mut CodedCells,
@@ -31,8 +32,10 @@ pub fn reconstruct_leaves<T: Pixel>(
     requires fits { All (LeafFits header.now planes.old) (plan_value leaves.now).leaves }
     requires references { (value : PlanValue) × ServesPlan T.num (with_header header.now value) fi.now }
     ensures walked { (value : PlanValue) → ServesPlan T.num (with_header header.now value) fi.now
-        → planes.new ≡ fold (fast_step T.num T.pixel (with_header header.now value)) planes.old (steps_by header.now (cell_at cells.old) (plan_value leaves.now).leaves) }
-    ensures counted { buffers.new.edges.prepared ≡ fold edges_after buffers.old.edges.prepared (steps_by header.now (cell_at cells.old) (plan_value leaves.now).leaves) }
+        → planes.new ≡
+        fold (fast_step T.num T.pixel (with_header header.now value)) planes.old (steps_by header.now (cell_at cells.old) (plan_value leaves.now).leaves) }
+    ensures counted { buffers.new.edges.prepared ≡
+        fold edges_after buffers.old.edges.prepared (steps_by header.now (cell_at cells.old) (plan_value leaves.now).leaves) }
     ensures stores { StoresAll T.num header.now planes.new }
     ensures layout { SameLayout planes.old planes.new }
     ensures cells { HasCells header.now cells.new }

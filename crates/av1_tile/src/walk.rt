@@ -14,7 +14,8 @@ ghost use Rattle.av1_plan.specs.declared.leaf.Triple.{Triple};
 ghost use Rattle.av1_tile.specs.PlaneBlocks.{component};
 ghost use Rattle.av1_tile.specs.Reference.{no_luma};
 ghost use Rattle.av1_tile.specs.Steps.{own_prediction, whole_area, whole_steps, plane_steps, steps_at, steps_of, joined};
-ghost use Rattle.av1_tile.specs.Walk.{area_at, block_by, cell_at, Begins, edges_in, edges_after, fast_in, fast_step, leaf_with, BlockFits, HasCells, IsPlaceIn, LeafFits, PredictionFits, SameLayout, Stores, StoresAll, with_header};
+ghost use Rattle.av1_tile.specs.Walk.{area_at, block_by, cell_at, Begins, edges_in, edges_after, fast_in, fast_step, leaf_with, BlockFits, HasCells, IsPlaceIn};
+ghost use Rattle.av1_tile.specs.Walk.{LeafFits, PredictionFits, SameLayout, Stores, StoresAll, with_header};
 
 use crate::block::{BlockPlace, add_block, predict_from_edge};
 use crate::buffers::WalkBuffers;
@@ -35,7 +36,8 @@ fn block_start(start: u16, index: usize, side: usize) -> usize
     usize::from(start) + index * side
 }
 
-/// The transform block of this number, in column `column` of row `row` of a leaf's block, where it begins in the visible plane.
+/// The transform block of this number, in column `column` of row `row` of a leaf's block, where it begins in the
+/// visible plane.
 fn place_in(
     header: &Header,
     block: &PlaneBlock,
@@ -81,7 +83,10 @@ fn predict_block<T: Pixel>(
     requires place { IsPlaceIn header.now block.now at }
     requires fits { InPlane (area_at block.now at) plane.old }
     requires prediction { PredictionFits header.now block.now.plane block.now.area block.now.prediction }
-    ensures walked { (value : PlanValue) → plane.new ≡ fold (fast_in T.num T.pixel (with_header header.now value) block.now.plane (λ _. ac_at (tx_width block.now.area.tx_size) buffers.old.luma.items)) plane.old (own_prediction block.now at.number (area_at block.now at)) }
+    ensures walked { (value : PlanValue) →
+        plane.new ≡
+        fold (fast_in T.num T.pixel (with_header header.now value) block.now.plane (λ _. ac_at (tx_width block.now.area.tx_size) buffers.old.luma.items))
+        plane.old (own_prediction block.now at.number (area_at block.now at)) }
     ensures counted { buffers.new.edges.prepared ≡ fold edges_in buffers.old.edges.prepared (own_prediction block.now at.number (area_at block.now at)) }
     ensures luma { buffers.new.luma.items ≡ buffers.old.luma.items }
 {
@@ -102,7 +107,8 @@ fn predict_block<T: Pixel>(
     }
 }
 
-/// A transform block that begins in the frame: it is predicted, unless its leaf is from references, and its residue is added.
+/// A transform block that begins in the frame: it is predicted, unless its leaf is from references, and its residue is
+/// added.
 fn reconstruct_block<T: Pixel>(
     plane: &mut Plane<T>,
     buffers: &mut WalkBuffers<T>,
@@ -117,7 +123,10 @@ fn reconstruct_block<T: Pixel>(
     requires place { IsPlaceIn header.now block.now at }
     requires fits { BlockFits plane.old.plane_cfg header.now block.now triples.now }
     requires found { transform_block header.now block.now.plane block.now.area at.number ≡ Some (record { x = at.x; y = at.y }) }
-    ensures walked { (value : PlanValue) → plane.new ≡ fold (fast_in T.num T.pixel (with_header header.now value) block.now.plane (λ _. ac_at (tx_width block.now.area.tx_size) buffers.old.luma.items)) plane.old (steps_at header.now block.now triples.now at.number) }
+    ensures walked { (value : PlanValue) →
+        plane.new ≡
+        fold (fast_in T.num T.pixel (with_header header.now value) block.now.plane (λ _. ac_at (tx_width block.now.area.tx_size) buffers.old.luma.items))
+        plane.old (steps_at header.now block.now triples.now at.number) }
     ensures counted { buffers.new.edges.prepared ≡ fold edges_in buffers.old.edges.prepared (steps_at header.now block.now triples.now at.number) }
     ensures luma { buffers.new.luma.items ≡ buffers.old.luma.items }
     ensures stores { Stores T.num header.now block.now.plane plane.new }
@@ -163,7 +172,8 @@ fn next_place(column: usize, row: usize, across: usize) -> (usize, usize)
     }
 }
 
-/// The transform blocks of a leaf's block, in raster order. Triples rise by their blocks, so that those of a block follow one another.
+/// The transform blocks of a leaf's block, in raster order. Triples rise by their blocks, so that those of a block
+/// follow one another.
 #[tactic(auto, using(crate::proofs::Loops::fold_joined_none, crate::proofs::Loops::fold_joined_more))]
 fn reconstruct_blocks<T: Pixel>(
     plane: &mut Plane<T>,
@@ -177,8 +187,11 @@ fn reconstruct_blocks<T: Pixel>(
     requires depth { header.now.depth ≤ T.BITS }
     requires fits { BlockFits plane.old.plane_cfg header.now block.now triples.now }
     ensures walked { (value : PlanValue) →
-        plane.new ≡ fold (fast_in T.num T.pixel (with_header header.now value) block.now.plane (λ _. ac_at (tx_width block.now.area.tx_size) buffers.old.luma.items)) plane.old (joined (block_count block.now.area) (steps_at header.now block.now triples.now)) }
-    ensures counted { buffers.new.edges.prepared ≡ fold edges_in buffers.old.edges.prepared (joined (block_count block.now.area) (steps_at header.now block.now triples.now)) }
+        plane.new ≡
+        fold (fast_in T.num T.pixel (with_header header.now value) block.now.plane (λ _. ac_at (tx_width block.now.area.tx_size) buffers.old.luma.items))
+        plane.old (joined (block_count block.now.area) (steps_at header.now block.now triples.now)) }
+    ensures counted { buffers.new.edges.prepared ≡
+        fold edges_in buffers.old.edges.prepared (joined (block_count block.now.area) (steps_at header.now block.now triples.now)) }
     ensures luma { buffers.new.luma.items ≡ buffers.old.luma.items }
     ensures stores { Stores T.num header.now block.now.plane plane.new }
     ensures config { plane.new.plane_cfg ≡ plane.old.plane_cfg }
@@ -198,8 +211,8 @@ fn reconstruct_blocks<T: Pixel>(
     }
 }
 
-/// Predicts a leaf's whole area in a plane, where it is predicted from references. The frame settings hold the references of a plan in which
-/// that can be done.
+/// Predicts a leaf's whole area in a plane, where it is predicted from references. The frame settings hold the
+/// references of a plan in which that can be done.
 fn predict_whole<T: Pixel>(
     plane: &mut Plane<T>,
     compound: &mut InterCompoundBuffers,
@@ -209,7 +222,8 @@ fn predict_whole<T: Pixel>(
     requires plane { block.now.plane < 3 }
     requires depth { fi.now.bit_depth ≤ T.BITS }
     requires fits { InPlane (whole_area block.now) plane.old }
-    requires references { (value : PlanValue) × (ServesPlan T.num value fi.now × PredictionFits value.header block.now.plane block.now.area block.now.prediction) }
+    requires references { (value : PlanValue) ×
+        (ServesPlan T.num value fi.now × PredictionFits value.header block.now.plane block.now.area block.now.prediction) }
     ensures { (value : PlanValue) → ServesPlan T.num value fi.now → PredictionFits value.header block.now.plane block.now.area block.now.prediction
         → plane.new ≡ fold (fast_in T.num T.pixel value block.now.plane (λ _. no_luma)) plane.old (whole_steps block.now) }
 {
@@ -234,7 +248,8 @@ fn predict_whole<T: Pixel>(
     }
 }
 
-/// A leaf's block in a plane: its whole area is predicted where it is predicted from references, then its transform blocks follow.
+/// A leaf's block in a plane: its whole area is predicted where it is predicted from references, then its transform
+/// blocks follow.
 fn reconstruct_plane_block<T: Pixel>(
     plane: &mut Plane<T>,
     buffers: &mut WalkBuffers<T>,
@@ -250,7 +265,9 @@ fn reconstruct_plane_block<T: Pixel>(
     requires references { (value : PlanValue) × ServesPlan T.num (with_header header.now value) fi.now }
     requires fits { BlockFits plane.old.plane_cfg header.now block.now triples.now }
     ensures walked { (value : PlanValue) → ServesPlan T.num (with_header header.now value) fi.now
-        → plane.new ≡ fold (fast_in T.num T.pixel (with_header header.now value) block.now.plane (λ _. ac_at (tx_width block.now.area.tx_size) buffers.old.luma.items)) plane.old (plane_steps header.now block.now triples.now) }
+        → plane.new ≡
+        fold (fast_in T.num T.pixel (with_header header.now value) block.now.plane (λ _. ac_at (tx_width block.now.area.tx_size) buffers.old.luma.items))
+        plane.old (plane_steps header.now block.now triples.now) }
     ensures counted { buffers.new.edges.prepared ≡ fold edges_in buffers.old.edges.prepared (plane_steps header.now block.now triples.now) }
     ensures luma { buffers.new.luma.items ≡ buffers.old.luma.items }
     ensures stores { Stores T.num header.now block.now.plane plane.new }
@@ -281,7 +298,8 @@ pub fn reconstruct_leaf_in<T: Pixel>(
     requires references { (value : PlanValue) × ServesPlan T.num (with_header header.now value) fi.now }
     ensures walked { let block = block_by header.now (cell_at cells.now) (component p) (leaf_with leaf.now [] [] []) in
         (value : PlanValue) → ServesPlan T.num (with_header header.now value) fi.now
-        → plane.new ≡ fold (fast_in T.num T.pixel (with_header header.now value) p (λ _. ac_at (tx_width block.area.tx_size) buffers.old.luma.items)) plane.old (plane_steps header.now block triples.now) }
+        → plane.new ≡ fold (fast_in T.num T.pixel (with_header header.now value) p (λ _. ac_at (tx_width block.area.tx_size) buffers.old.luma.items)) plane.old
+        (plane_steps header.now block triples.now) }
     ensures counted { let block = block_by header.now (cell_at cells.now) (component p) (leaf_with leaf.now [] [] []) in
         buffers.new.edges.prepared ≡ fold edges_in buffers.old.edges.prepared (plane_steps header.now block triples.now) }
     ensures luma { buffers.new.luma.items ≡ buffers.old.luma.items }

@@ -53,13 +53,17 @@ module _ {S K : Type 0} (left : S → Option (List ℕ)) (source_faults : S → 
   is_frame source source' frame reads = let (bytes, fits, short, consumed, (found, end)) = reads.read in found.1
 
   -- a frame was read and written
-  pub goes_on : (source source' : S) (sink sink' : K) (frame : Frame) (answer : Result (Unit {0}) TilesError) → Reads max_plan_bytes cause_of HoldFrame left source_faults source source' (Ok frame)
-      → WritesBytes cause_of taken sink_faults sink sink' (frame_bytes frame) answer → Performs tiles_task left source_faults taken sink_faults source source' sink sink' answer
+  pub goes_on : (source source' : S) (sink sink' : K) (frame : Frame) (answer : Result (Unit {0}) TilesError) →
+      Reads max_plan_bytes cause_of HoldFrame left source_faults source source' (Ok frame)
+      → WritesBytes cause_of taken sink_faults sink sink' (frame_bytes frame) answer →
+      Performs tiles_task left source_faults taken sink_faults source source' sink sink' answer
   goes_on source source' sink sink' frame answer reads writes =
-      carries_on tiles_task sound HoldFrame left source_faults taken sink_faults source source' sink sink' frame (frame_bytes frame) answer (λ bytes found. found.0) (says_nothing answer) reads writes
+      carries_on tiles_task sound HoldFrame left source_faults taken sink_faults source source' sink sink' frame (frame_bytes frame) answer
+      (λ bytes found. found.0) (says_nothing answer) reads writes
 
   -- no frame was read, and the answer is why
-  pub ends : (source source' : S) (sink : K) (answer : Result (Unit {0}) TilesError) (e : TilesError) → IsErrAnd answer (λ d. d ≡ e) → Reads max_plan_bytes cause_of HoldFrame left source_faults source source' (Err e)
+  pub ends : (source source' : S) (sink : K) (answer : Result (Unit {0}) TilesError) (e : TilesError) → IsErrAnd answer (λ d. d ≡ e) →
+      Reads max_plan_bytes cause_of HoldFrame left source_faults source source' (Err e)
       → Performs tiles_task left source_faults taken sink_faults source source' sink sink answer
   ends source source' sink answer e is reads =
       subst (Performs tiles_task left source_faults taken sink_faults source source' sink sink) (sym (is_err answer e is))

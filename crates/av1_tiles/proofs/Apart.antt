@@ -20,11 +20,15 @@ pub run_apart : (side : ℕ) (xs : List ℕ) → AreBounds side xs → (k m d at
     → IsApart (slice_index xs k / 2 ^ d) ((slice_index xs (k + 1) - slice_index xs k) / 2 ^ d) (slice_index xs m / 2 ^ d + at)
 run_apart side xs are k m d at small differ lt_k lt_m inside = elim (cases_lt k m) [
   | inl before ↦
-      let ends = halved_before (slice_index xs k) (slice_index xs (k + 1) - slice_index xs k) (slice_index xs m) d small (ends_before side xs are k m before (omega (arith, lt_m))) in
+      let ends =
+      halved_before (slice_index xs k) (slice_index xs (k + 1) - slice_index xs k)
+      (slice_index xs m) d small (ends_before side xs are k m before (omega (arith, lt_m))) in
       inr (omega (arith, ends))
   | inr le ↦
       let later : m < k = omega (arith, le, differ) in
-      let ends = halved_before (slice_index xs m) (slice_index xs (m + 1) - slice_index xs m) (slice_index xs k) d small (ends_before side xs are m k later (omega (arith, lt_k))) in
+      let ends =
+      halved_before (slice_index xs m) (slice_index xs (m + 1) - slice_index xs m)
+      (slice_index xs k) d small (ends_before side xs are m k later (omega (arith, lt_k))) in
       inl (omega (arith, ends, inside))
 ]
 
@@ -59,7 +63,8 @@ area_is f read i lt =
     }
 
 -- a sample of one tile isn't in another
-pub tiles_apart : (f : Front) → IsReadFront f → (i j : ℕ) → i < count_tiles (front_value f) → j < count_tiles (front_value f) → i ≢ j → (dx dy x y : ℕ) → dx ≤ 1 → dy ≤ 1
+pub tiles_apart : (f : Front) → IsReadFront f → (i j : ℕ) → i < count_tiles (front_value f) → j < count_tiles (front_value f) → i ≢ j → (dx dy x y : ℕ) →
+    dx ≤ 1 → dy ≤ 1
     → x < (tile_area (front_value f) j).width / 2 ^ dx → y < (tile_area (front_value f) j).height / 2 ^ dy
     → IsApart ((tile_area (front_value f) i).x / 2 ^ dx) ((tile_area (front_value f) i).width / 2 ^ dx) ((tile_area (front_value f) j).x / 2 ^ dx + x)
     ⊎ IsApart ((tile_area (front_value f) i).y / 2 ^ dy) ((tile_area (front_value f) i).height / 2 ^ dy) ((tile_area (front_value f) j).y / 2 ^ dy + y)
@@ -67,7 +72,8 @@ unfolding tile_area
 tiles_apart f read i j lt_i lt_j differ dx dy x y small_x small_y in_x in_y =
     let n = length f.columns.items - 1 in
     elim (cases_eq (i % n) (j % n)) [
-      | inr columns ↦ inl (run_apart f.header.width f.columns.items read.columns (i % n) (j % n) dx x small_x columns (column_in f read i lt_i) (column_in f read j lt_j) in_x)
+      | inr columns ↦ inl (run_apart f.header.width f.columns.items read.columns (i % n) (j % n) dx x small_x columns (column_in f read i lt_i)
+          (column_in f read j lt_j) in_x)
       | inl column ↦ (elim (cases_eq (i / n) (j / n)) [
         | inr rows ↦ inr (run_apart f.header.height f.rows.items read.rows (i / n) (j / n) dy y small_y rows (row_in f read i lt_i) (row_in f read j lt_j) in_y)
         | inl row ↦ absurd (differ (same_place i j n column row))

@@ -9,9 +9,12 @@ use Rattle.av1_tile.specs.PlaneBlocks.{component}
 use Rattle.av1_tile.specs.Walk.{samples_of}
 use Rattle.av1_tiles.specs.Joined.{row_in}
 
-pub sample_is : {T : Type 0} (num : T → ℕ) (pixel : ℕ → T) (back : (v : T) → pixel (num v) ≡ v) (source : List T) (c : ℕ) (v : T) → c < length source → v ≡ get_or source c v → v ≡ pixel (slice_index (map num source) c)
+pub sample_is : {T : Type 0} (num : T → ℕ) (pixel : ℕ → T) (back : (v : T) → pixel (num v) ≡ v) (source : List T) (c : ℕ) (v : T) → c < length source →
+    v ≡ get_or source c v → v ≡ pixel (slice_index (map num source) c)
 sample_is num pixel back source c v lt is = sym (back v) ∙ ap pixel (ap num is ∙ sym (get_or-map num source c v 0 lt))
 
 -- a row of a plane has as many samples as the plane has columns
-pub row_length : {T : Type 0} (num : T → ℕ) (h : Header) (planes : Planes T) (p y : ℕ) (row : List T) → map num row ≡ row_in num h planes p y → length row ≡ plane_width h p
-row_length num h planes p y row is = length_shown num row (row_in num h planes p y) is ∙ length-by_index (plane_width h p) (λ x. samples_of num planes (component p) x y)
+pub row_length : {T : Type 0} (num : T → ℕ) (h : Header) (planes : Planes T) (p y : ℕ) (row : List T) → map num row ≡ row_in num h planes p y →
+    length row ≡ plane_width h p
+row_length num h planes p y row is = length_shown num row (row_in num h planes p y) is
+    ∙ length-by_index (plane_width h p) (λ x. samples_of num planes (component p) x y)

@@ -31,7 +31,12 @@ lies_before side xs are d x (suc n) small lt below = elim (cases_lt x (slice_ind
       let next : suc n ≡ n + 1 = omega arith in
       let under : x < slice_index xs (n + 1) / 2 ^ d = subst (λ (m : ℕ). x < slice_index xs m / 2 ^ d) next below in
       let place : n + 1 < length xs = omega (arith, lt) in
-      record { k = n; within = place; from = from; below = between (slice_index xs n) (slice_index xs (n + 1)) d x small (are.whole n place) (are.rising n place) from under })
+      record {
+        k = n;
+        within = place;
+        from = from;
+        below = between (slice_index xs n) (slice_index xs (n + 1)) d x small (are.whole n place) (are.rising n place) from under;
+      })
 ]
 
 pub lies : (side : ℕ) (xs : List ℕ) → AreBounds side xs → (d x : ℕ) → d ≤ 1 → x < side / 2 ^ d → Lies xs d x
@@ -58,5 +63,6 @@ tile_at f k r lt_k lt_r =
     let column : k < n = omega (arith, lt_k) in
     record {
       within = number_below n (length f.rows - 1) k r column (omega (arith, lt_r));
-      area = ap (λ (c : ℕ). area_between f.columns f.rows c ((r * n + k) / n)) (remainder_of n k r column) ∙ ap (λ (d : ℕ). area_between f.columns f.rows k d) (div-mul-add r n k column);
+      area = ap (λ (c : ℕ). area_between f.columns f.rows c ((r * n + k) / n)) (remainder_of n k r column)
+          ∙ ap (λ (d : ℕ). area_between f.columns f.rows k d) (div-mul-add r n k column);
     }

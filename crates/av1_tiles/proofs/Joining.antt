@@ -29,7 +29,8 @@ pub none_shown : (f : FileValue) (frame : Component → ℕ → ℕ → ℕ) →
 none_shown f frame k below = absurd (omega (arith, below))
 
 -- one more
-pub one_more : (f : FileValue) (i : ℕ) (old new : Component → ℕ → ℕ → ℕ) → i < count_tiles f.front → AreShown f i old → IsPut f i old new → AreShown f (i + 1) new
+pub one_more : (f : FileValue) (i : ℕ) (old new : Component → ℕ → ℕ → ℕ) → i < count_tiles f.front → AreShown f i old → IsPut f i old new →
+    AreShown f (i + 1) new
 one_more f i old new lt before put k below =
     let (plan, is, shows, others) = put in
     elim (cases_eq k i) [
@@ -46,8 +47,11 @@ some_tile f read = mul-pos (omega (arith, read.columns.some)) (omega (arith, rea
 
 -- all of them are the joined planes
 pub all_shown : (f : FileValue) (frame : Component → ℕ → ℕ → ℕ) → 0 < count_tiles f.front → AreShown f (count_tiles f.front) frame → ComesTo f frame
-all_shown f frame some all =
-    (λ i. plan_at i (cases_lt i (count_tiles f.front)), (λ i lt. valid_at i (cases_lt i (count_tiles f.front)) lt), λ i lt. shown_at i (cases_lt i (count_tiles f.front)) lt)
+all_shown f frame some all = (
+  λ i. plan_at i (cases_lt i (count_tiles f.front)),
+  (λ i lt. valid_at i (cases_lt i (count_tiles f.front)) lt),
+  λ i lt. shown_at i (cases_lt i (count_tiles f.front)) lt,
+)
   where
     plan_at : (i : ℕ) → (i < count_tiles f.front) ⊎ (count_tiles f.front ≤ i) → PlanValue
     plan_at i (inl lt) = (all i lt).0
@@ -62,7 +66,8 @@ all_shown f frame some all =
     shown_at i (inr past) below = absurd (omega (arith, past, below))
 
 -- the first that is refused
-first_refused : (f : FileValue) (i : ℕ) (frame : Component → ℕ → ℕ → ℕ) (e : TileError) → i < count_tiles f.front → AreShown f i frame → RefusesTile f i e → RefusesTiles f (tile_error i e)
+first_refused : (f : FileValue) (i : ℕ) (frame : Component → ℕ → ℕ → ℕ) (e : TileError) → i < count_tiles f.front → AreShown f i frame → RefusesTile f i e →
+    RefusesTiles f (tile_error i e)
 first_refused f i frame (errors.Refused fault) lt before refused = record {
   within = lt;
   before = λ k below. (let (plan, is, shows) = before k below in (plan, is));
@@ -70,5 +75,6 @@ first_refused f i frame (errors.Refused fault) lt before refused = record {
 }
 first_refused f i frame errors.Memory lt before refused = tt
 
-pub named_refused : (f : FileValue) (i : ℕ) (frame : Component → ℕ → ℕ → ℕ) (e : TileError) (d : TilesError) → d ≡ tile_error i e → i < count_tiles f.front → AreShown f i frame → RefusesTile f i e → RefusesTiles f d
+pub named_refused : (f : FileValue) (i : ℕ) (frame : Component → ℕ → ℕ → ℕ) (e : TileError) (d : TilesError) → d ≡ tile_error i e → i < count_tiles f.front →
+    AreShown f i frame → RefusesTile f i e → RefusesTiles f d
 named_refused f i frame e d is lt before refused = subst (RefusesTiles f) (sym is) (first_refused f i frame e lt before refused)

@@ -27,7 +27,8 @@ use Rattle.av1_tiles.proofs.Refusals.{front_spelled, not_both, one_grid, one_rea
 -- ---- joined planes
 
 -- two frames that tiles come to agree at each sample
-agree : (f : FileValue) → HasBounds f.front → (plans others : ℕ → PlanValue) → AreTiles f plans → AreTiles f others → (a b : Component → ℕ → ℕ → ℕ) → IsJoined f plans a → IsJoined f others b
+agree : (f : FileValue) → HasBounds f.front → (plans others : ℕ → PlanValue) → AreTiles f plans → AreTiles f others → (a b : Component → ℕ → ℕ → ℕ) →
+    IsJoined f plans a → IsJoined f others b
     → (c : Component) (x y : ℕ) → x < plane_width f.front.header (number c) → y < plane_height f.front.header (number c) → a c x y ≡ b c x y
 unfolding plane_width plane_height
 agree f bounds plans others tiles_a tiles_b a b joined_a joined_b c x y lx ly =
@@ -51,7 +52,8 @@ agree f bounds plans others tiles_a tiles_b a b joined_a joined_b c x y lx ly =
     let moved : (g : Component → ℕ → ℕ → ℕ) → g c (corner_column h t p + dx) (corner_row h t p + dy) ≡ g c x y =
     λ g. ap (λ (n : ℕ). g c n (corner_row h t p + dy)) place_x ∙ ap (λ (n : ℕ). g c x n) place_y in
     let plan : plans i ≡ others i = one_text (tile_plan f.front i) (part_of f i) (plans i) (others i) (tiles_a i at.within).text (tiles_b i at.within).text in
-    sym (moved a) ∙ joined_a i at.within c dx dy in_x in_y ∙ ap (λ (q : PlanValue). sample_of (slow_walk q c dx dy)) plan ∙ sym (joined_b i at.within c dx dy in_x in_y) ∙ moved b
+    sym (moved a) ∙ joined_a i at.within c dx dy in_x in_y ∙ ap (λ (q : PlanValue). sample_of (slow_walk q c dx dy)) plan
+    ∙ sym (joined_b i at.within c dx dy in_x in_y) ∙ moved b
 
 -- bytes come to one list of bytes
 one_joined : (bytes v w : List ℕ) → AreJoined bytes v → AreJoined bytes w → v ≡ w
@@ -62,7 +64,8 @@ one_joined bytes v w (f, grid, (frame, comes, is)) (g, other, (frame_g, comes_g,
     let (plans, tiles, joined) = comes in
     let (others, tiles_g, joined_g) = comes_f in
     let bounds = front_bounds f.front (front_spelled bytes f grid) in
-    is ∙ visible_same f.front.header frame frame_g (λ c x y lx ly. agree f bounds plans others tiles tiles_g frame frame_g joined joined_g c x y lx ly) ∙ sym is_f
+    is ∙ visible_same f.front.header frame frame_g (λ c x y lx ly. agree f bounds plans others tiles tiles_g frame frame_g joined joined_g c x y lx ly)
+    ∙ sym is_f
 
 -- ---- outcomes
 

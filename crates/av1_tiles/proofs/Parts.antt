@@ -4,7 +4,8 @@ use Rattle.std.proofs.lemmas.List.{map_push}
 use Rattle.av1_plan.specs.Format.{Input, on_ok, read_part}
 use Rattle.av1_tiles.specs.Grammar.{read_parts}
 
-pub turn : (count i : ℕ) (s : List (List ℕ) × Input) → i < count → read_parts (count - i) s ≡ on_ok (read_part s.1) (λ p. read_parts (count - (i + 1)) (s.0 ++ p.0 ∷ [], p.1))
+pub turn : (count i : ℕ) (s : List (List ℕ) × Input) → i < count →
+    read_parts (count - i) s ≡ on_ok (read_part s.1) (λ p. read_parts (count - (i + 1)) (s.0 ++ p.0 ∷ [], p.1))
 unfolding read_parts
 turn count i s lt =
     let k : count - i ≡ suc (count - (i + 1)) = omega arith in

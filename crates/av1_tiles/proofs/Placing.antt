@@ -27,11 +27,13 @@ bounds_rise side xs are k (suc n) lt =
     rw e (omega (arith, before, rise))
 
 -- the end of an earlier one doesn't come behind the start of a later one
-pub ends_before : (side : ℕ) (xs : List ℕ) → AreBounds side xs → (k m : ℕ) → k < m → m < length xs → slice_index xs k + (slice_index xs (k + 1) - slice_index xs k) ≤ slice_index xs m
+pub ends_before : (side : ℕ) (xs : List ℕ) → AreBounds side xs → (k m : ℕ) → k < m → m < length xs →
+    slice_index xs k + (slice_index xs (k + 1) - slice_index xs k) ≤ slice_index xs m
 ends_before side xs are k m lt within =
     let e : k + 1 + (m - (k + 1)) ≡ m = omega (arith, lt) in
     let rise = are.rising k (omega (arith, lt, within)) in
-    let later : slice_index xs (k + 1) ≤ slice_index xs m = subst (λ (n : ℕ). slice_index xs (k + 1) ≤ slice_index xs n) e (bounds_rise side xs are (k + 1) (m - (k + 1)) (omega (arith, e, within))) in
+    let later : slice_index xs (k + 1) ≤ slice_index xs m =
+    subst (λ (n : ℕ). slice_index xs (k + 1) ≤ slice_index xs n) e (bounds_rise side xs are (k + 1) (m - (k + 1)) (omega (arith, e, within))) in
     omega (arith, rise, later)
 
 -- in a halved plane too
@@ -50,7 +52,8 @@ outside a x y (inr (inr le)) = grind (arith, nat_tests)
 -- ---- samples
 
 -- the samples of the rectangle are those that were placed there
-pub placed_sample : {T : Type 0} (num : T → ℕ) (pixel : ℕ → T) (back : (v : T) → pixel (num v) ≡ v) (there : (v : ℕ) → num (pixel v) ≡ v) (p : Plane T) (a : VisibleArea) (row : ℕ → List ℕ) (f : ℕ → ℕ → ℕ)
+pub placed_sample : {T : Type 0} (num : T → ℕ) (pixel : ℕ → T) (back : (v : T) → pixel (num v) ≡ v) (there : (v : ℕ) → num (pixel v) ≡ v) (p : Plane T)
+    (a : VisibleArea) (row : ℕ → List ℕ) (f : ℕ → ℕ → ℕ)
     → InPlane a p → (x y : ℕ) → x < a.width → y < a.height → row y ≡ by_index a.width (λ x. f x y)
     → sample_at num (painted_plane p a (λ r c _. pixel (slice_index (row r) c))) (a.x + x) (a.y + y) ≡ f x y
 placed_sample num pixel back there p a row f fits x y lx ly is =
@@ -62,7 +65,8 @@ placed_sample num pixel back there p a row f fits x y lx ly is =
 -- ---- planes
 
 -- a tile's rectangle lies in a plane of its frame
-pub placed_fits : {T : Type 0} (h tile : Header) (a : TileArea) (p x y : ℕ) (plane : Plane T) → IsPlaneOf h p plane → IsTileArea h a → tile ≡ tile_header h a → x ≡ corner_column h a p → y ≡ corner_row h a p → InPlane (placed tile p x y) plane
+pub placed_fits : {T : Type 0} (h tile : Header) (a : TileArea) (p x y : ℕ) (plane : Plane T) → IsPlaneOf h p plane → IsTileArea h a → tile ≡ tile_header h a →
+    x ≡ corner_column h a p → y ≡ corner_row h a p → InPlane (placed tile p x y) plane
 placed_fits h tile a p x y plane is area tile_is x_is y_is =
     let columns = columns_within h a p area in
     let rows = rows_within h a p area in
@@ -73,5 +77,8 @@ placed_fits h tile a p x y plane is area tile_is x_is y_is =
     })
 
 -- a plane of a frame that was painted is one
-pub painted_plane_of : {T : Type 0} (h : Header) (p : ℕ) (plane new : Plane T) (a : VisibleArea) (f : ℕ → ℕ → T → T) → IsPlaneOf h p plane → new ≡ painted_plane plane a f → IsPlaneOf h p new
-painted_plane_of h p plane new a f is e = subst (IsPlaneOf h p) (sym e) (record { whole = painted_plane_whole plane a f is.whole; width = is.width; height = is.height; xdec = is.xdec; ydec = is.ydec })
+pub painted_plane_of : {T : Type 0} (h : Header) (p : ℕ) (plane new : Plane T) (a : VisibleArea) (f : ℕ → ℕ → T → T) → IsPlaneOf h p plane →
+    new ≡ painted_plane plane a f → IsPlaneOf h p new
+painted_plane_of h p plane new a f is e =
+    subst (IsPlaneOf h p) (sym e)
+    (record { whole = painted_plane_whole plane a f is.whole; width = is.width; height = is.height; xdec = is.xdec; ydec = is.ydec })

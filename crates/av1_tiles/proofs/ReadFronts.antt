@@ -29,7 +29,8 @@ pieces v s =
     let (slots, slots_spelled, s3) = spelled_bind (references h) _ v s2 in
     let (columns, columns_spelled, s4) = spelled_bind (bounds h.width) _ v s3 in
     let (rows, rows_spelled, s5) = spelled_bind (bounds h.height) _ v s4 in
-    let whole : HasPieces (record { header = h; references = slots; columns = columns; rows = rows }) = record { header = h_spelled; references = slots_spelled; columns = columns_spelled; rows = rows_spelled } in
+    let whole : HasPieces (record { header = h; references = slots; columns = columns; rows = rows }) =
+    record { header = h_spelled; references = slots_spelled; columns = columns_spelled; rows = rows_spelled } in
     subst HasPieces (spelled_done _ v s5) whole
 
 -- the bounds of the columns and rows of tiles

@@ -15,7 +15,8 @@ use Rattle.av1_tiles.specs.Tiles.{IsTileArea, tile_header, corner_column, corner
 -- one row more
 pub rows_more : (f : ℕ → List ℕ) (n : ℕ) → flat_map f (range_with_len 0 (n + 1)) ≡ flat_map f (range_with_len 0 n) ++ f n
 rows_more f n =
-    ap (flat_map f) (range-append 0 n 1) ∙ flat_map-append f (range_with_len 0 n) (range_with_len (0 + n) 1) ∙ ap (λ (xs : List ℕ). flat_map f (range_with_len 0 n) ++ xs) (append-nil (f (0 + n)) ∙ ap f (zero-add n))
+    ap (flat_map f) (range-append 0 n 1) ∙ flat_map-append f (range_with_len 0 n) (range_with_len (0 + n) 1)
+    ∙ ap (λ (xs : List ℕ). flat_map f (range_with_len 0 n) ++ xs) (append-nil (f (0 + n)) ∙ ap f (zero-add n))
   where
     zero-add : (n : ℕ) → 0 + n ≡ n
     zero-add n = omega arith
@@ -28,7 +29,8 @@ rows_count f width (suc n) each =
     let one = each n (omega arith) in
     let next : n + 1 ≡ suc n = omega arith in
     let product : suc n * width ≡ n * width + width = grind arith in
-    ap (λ (m : ℕ). length (flat_map f (range_with_len 0 m))) (sym next) ∙ ap length more ∙ omega (arith, length-append (flat_map f (range_with_len 0 n)) (f n), before, one, product)
+    ap (λ (m : ℕ). length (flat_map f (range_with_len 0 m))) (sym next) ∙ ap length more
+    ∙ omega (arith, length-append (flat_map f (range_with_len 0 n)) (f n), before, one, product)
 
 rows_all : (P : ℕ → Type 0) (f : ℕ → List ℕ) (n : ℕ) → ((k : ℕ) → All P (f k)) → All P (flat_map f (range_with_len 0 n))
 rows_all P f zero each = All-nil P
@@ -47,13 +49,17 @@ row_within stride x y width height row n columns rows lt = omega (arith, lines (
 pub row_ends : (stride x y width height row n : ℕ) → x + width ≤ stride → (y + height) * stride ≤ n → row < height → (y + row) * stride + x + width ≤ n
 row_ends stride x y width height row n columns rows lt = row_within stride x y width height row n columns rows lt
 
-pub rectangle_count : (stride x y width height : ℕ) (samples : List ℕ) → x + width ≤ stride → (y + height) * stride ≤ length samples → length (rectangle stride x y width height samples) ≡ height * width
+pub rectangle_count : (stride x y width height : ℕ) (samples : List ℕ) → x + width ≤ stride → (y + height) * stride ≤ length samples →
+    length (rectangle stride x y width height samples) ≡ height * width
 unfolding rectangle
-rectangle_count stride x y width height samples columns rows = rows_count _ width height (λ row lt. length-take-le width (drop ((y + row) * stride + x) samples) (omega (arith, length-drop ((y + row) * stride + x) samples, row_within stride x y width height row (length samples) columns rows lt)))
+rectangle_count stride x y width height samples columns rows =
+    rows_count _ width height (λ row lt. length-take-le width (drop ((y + row) * stride + x) samples)
+    (omega (arith, length-drop ((y + row) * stride + x) samples, row_within stride x y width height row (length samples) columns rows lt)))
 
 pub rectangle_all : (P : ℕ → Type 0) (stride x y width height : ℕ) (samples : List ℕ) → All P samples → All P (rectangle stride x y width height samples)
 unfolding rectangle
-rectangle_all P stride x y width height samples all = rows_all P _ height (λ row. All-take P width (drop ((y + row) * stride + x) samples) (All-drop P ((y + row) * stride + x) samples all))
+rectangle_all P stride x y width height samples all =
+    rows_all P _ height (λ row. All-take P width (drop ((y + row) * stride + x) samples) (All-drop P ((y + row) * stride + x) samples all))
 
 -- ---- tiles
 
@@ -100,32 +106,42 @@ pub rows_within : (h : Header) (a : TileArea) (p : ℕ) → IsTileArea h a → c
 unfolding plane_height
 rows_within h a p is = rw (same_ydec h a p) (halves a.y a.height h.height (ydec h p) (ydec_small h p) is.rows)
 
-pub samples_within : (h : Header) (a : TileArea) (p : ℕ) (samples : List ℕ) → IsTileArea h a → ArePlane h p samples → (corner_row h a p + plane_height (tile_header h a) p) * plane_width h p ≤ length samples
+pub samples_within : (h : Header) (a : TileArea) (p : ℕ) (samples : List ℕ) → IsTileArea h a → ArePlane h p samples →
+    (corner_row h a p + plane_height (tile_header h a) p) * plane_width h p ≤ length samples
 samples_within h a p samples is are = lines _ (plane_height h p) (plane_width h p) (length samples) (rows_within h a p is) are.count
   where
     lines : (n height width count : ℕ) → n ≤ height → count ≡ width * height → n * width ≤ count
     lines n height width count le e = grind arith
 
-pub plane_of_tile : (h : Header) (a : TileArea) (p : ℕ) (samples : List ℕ) → IsTileArea h a → ArePlane h p samples → ArePlane (tile_header h a) p (tile_plane h a p samples)
+pub plane_of_tile : (h : Header) (a : TileArea) (p : ℕ) (samples : List ℕ) → IsTileArea h a → ArePlane h p samples →
+    ArePlane (tile_header h a) p (tile_plane h a p samples)
 unfolding tile_plane
 plane_of_tile h a p samples is are =
     let stride = plane_width h p in
     let width = plane_width (tile_header h a) p in
     let height = plane_height (tile_header h a) p in
-    let count = rectangle_count stride (corner_column h a p) (corner_row h a p) width height samples (columns_within h a p is) (samples_within h a p samples is are) in
+    let count = rectangle_count stride (corner_column h a p) (corner_row h a p) width height samples (columns_within h a p is)
+    (samples_within h a p samples is are) in
     let turned : height * width ≡ width * height = omega arith in
-    record { count = count ∙ turned; range = rectangle_all (λ v. v < 2 ^ h.depth) stride (corner_column h a p) (corner_row h a p) width height samples are.range }
+    record {
+      count = count ∙ turned;
+      range = rectangle_all (λ v. v < 2 ^ h.depth) stride (corner_column h a p) (corner_row h a p) width height samples are.range;
+    }
 
 -- the same of what calls gave
-pub columns_by : (h tile : Header) (a : TileArea) (p x dec width stride : ℕ) → IsTileArea h a → tile ≡ tile_header h a → x ≡ a.x → dec ≡ xdec h p → width ≡ plane_width tile p → stride ≡ plane_width h p → x / 2 ^ dec + width ≤ stride
+pub columns_by : (h tile : Header) (a : TileArea) (p x dec width stride : ℕ) → IsTileArea h a → tile ≡ tile_header h a → x ≡ a.x → dec ≡ xdec h p →
+    width ≡ plane_width tile p → stride ≡ plane_width h p → x / 2 ^ dec + width ≤ stride
 columns_by h tile a p x dec width stride is tile_is x_is dec_is width_is stride_is = rw (x_is, dec_is, width_is, stride_is, tile_is) (columns_within h a p is)
 
-pub samples_by : (h tile : Header) (a : TileArea) (p y dec height stride : ℕ) (samples : List ℕ) → IsTileArea h a → ArePlane h p samples → tile ≡ tile_header h a → y ≡ a.y → dec ≡ ydec h p → height ≡ plane_height tile p → stride ≡ plane_width h p
+pub samples_by : (h tile : Header) (a : TileArea) (p y dec height stride : ℕ) (samples : List ℕ) → IsTileArea h a → ArePlane h p samples →
+    tile ≡ tile_header h a → y ≡ a.y → dec ≡ ydec h p → height ≡ plane_height tile p → stride ≡ plane_width h p
     → (y / 2 ^ dec + height) * stride ≤ length samples
-samples_by h tile a p y dec height stride samples is are tile_is y_is dec_is height_is stride_is = rw (y_is, dec_is, height_is, stride_is, tile_is) (samples_within h a p samples is are)
+samples_by h tile a p y dec height stride samples is are tile_is y_is dec_is height_is stride_is =
+    rw (y_is, dec_is, height_is, stride_is, tile_is) (samples_within h a p samples is are)
 
 -- there are few rows
-pub few_by : (h tile : Header) (a : TileArea) (p y dec height : ℕ) → IsReadFrame h → IsTileArea h a → tile ≡ tile_header h a → y ≡ a.y → dec ≡ ydec h p → height ≡ plane_height tile p → y / 2 ^ dec + height ≤ 65536
+pub few_by : (h tile : Header) (a : TileArea) (p y dec height : ℕ) → IsReadFrame h → IsTileArea h a → tile ≡ tile_header h a → y ≡ a.y → dec ≡ ydec h p →
+    height ≡ plane_height tile p → y / 2 ^ dec + height ≤ 65536
 unfolding plane_height
 few_by h tile a p y dec height frame is tile_is y_is dec_is height_is =
     let within = rows_within h a p is in

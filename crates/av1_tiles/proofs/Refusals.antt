@@ -24,7 +24,9 @@ use Rattle.av1_tiles.specs.Validity.{IsTile, IsRefusedTile}
 pub front_spelled : (bytes : List ℕ) (f : FileValue) → AreGrid bytes f → IsSpelled front f.front
 unfolding read_file
 front_spelled bytes f grid =
-    let (x, is, rest) = bind_ok (read front (start bytes)) (λ p. on_ok (read_parts (count_tiles p.0) ([], p.1)) (λ q. ended (record { front = p.0; parts = q.0 }, q.1))) f grid.read in
+    let (x, is, rest) =
+    bind_ok (read front (start bytes)) (λ p. on_ok (read_parts (count_tiles p.0) ([], p.1)) (λ q. ended (record { front = p.0; parts = q.0 }, q.1))) f
+    grid.read in
     let (y, parts, end) = bind_ok (read_parts (count_tiles x.0) ([], x.1)) (λ q. ended (record { front = x.0; parts = q.0 }, q.1)) f rest in
     let whole : FileValue = record { front = x.0; parts = y.0 } in
     let same = (done_ok (eqb (length y.1.rest) 0) whole f y.1.at end).1 in

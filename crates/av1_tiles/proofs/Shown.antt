@@ -41,14 +41,20 @@ frame_plane h planes are U = are.u
 frame_plane h planes are V = are.v
 
 -- the samples of the tile that was placed are those of its plan
-pub shows_own : {T : Type 0} (num : T → ℕ) (pixel : ℕ → T) → ((v : T) → pixel (num v) ≡ v) → ((v : ℕ) → num (pixel v) ≡ v) → (f : FrontValue) (i : ℕ) (plan : PlanValue) (own : Header) (q old new : Planes T)
-    → AreFrame f.header old → IsTileArea f.header (tile_area f i) → ShowsPlan num plan q → own ≡ plan.header → tile_header f.header (tile_area f i) ≡ plan.header
-    → ((c : Component) → plane_of c new ≡ painted_plane (plane_of c old) (tile_rectangle f.header (tile_area f i) (number c)) (λ r k _. pixel (slice_index (row_in num own q (number c) r) k)))
+pub shows_own : {T : Type 0} (num : T → ℕ) (pixel : ℕ → T) → ((v : T) → pixel (num v) ≡ v) → ((v : ℕ) → num (pixel v) ≡ v) →
+    (f : FrontValue) (i : ℕ) (plan : PlanValue) (own : Header) (q old new : Planes T)
+    → AreFrame f.header old → IsTileArea f.header (tile_area f i) → ShowsPlan num plan q → own ≡ plan.header →
+    tile_header f.header (tile_area f i) ≡ plan.header
+    → ((c : Component) →
+    plane_of c new ≡ painted_plane (plane_of c old) (tile_rectangle f.header (tile_area f i) (number c))
+    (λ r k _. pixel (slice_index (row_in num own q (number c) r) k)))
     → ShowsTile f i plan (samples_of num new)
 shows_own num pixel back there f i plan own q old new are area shows same header placed c x y lx ly =
     let p = number c in
     let a = tile_rectangle f.header (tile_area f i) p in
-    let fits = placed_fits f.header (tile_header f.header (tile_area f i)) (tile_area f i) p _ _ (plane_of c old) (frame_plane f.header old are c) area refl refl refl in
+    let fits =
+    placed_fits f.header (tile_header f.header (tile_area f i)) (tile_area f i) p _ _ (plane_of c old) (frame_plane f.header old are c) area refl refl refl
+    in
     let inside : y < plane_height plan.header p = subst (λ (h : Header). y < plane_height h p) header ly in
     let row : row_in num own q p y ≡ by_index a.width (λ x. sample_of (slow_walk plan c x y)) =
     ap (λ (h : Header). by_index (plane_width h p) (λ x. samples_of num q (component p) x y)) same
@@ -62,8 +68,10 @@ apart_by : (start count place width : ℕ) → width ≡ count → IsApart start
 apart_by start count place width same apart = subst (λ (n : ℕ). IsApart start n place) (sym same) apart
 
 -- the samples of every other tile stay
-pub shows_other : {T : Type 0} (num : T → ℕ) (pixel : ℕ → T) → ((v : T) → pixel (num v) ≡ v) → (f : Front) → IsReadFront f → (i j : ℕ) → i < count_tiles (front_value f) → j < count_tiles (front_value f) → i ≢ j → (plan : PlanValue) (old new : Planes T)
-    → (g : Component → ℕ → ℕ → T → T) → AreFrame f.header old → ((c : Component) → plane_of c new ≡ painted_plane (plane_of c old) (tile_rectangle f.header (tile_area (front_value f) i) (number c)) (g c))
+pub shows_other : {T : Type 0} (num : T → ℕ) (pixel : ℕ → T) → ((v : T) → pixel (num v) ≡ v) → (f : Front) → IsReadFront f → (i j : ℕ) →
+    i < count_tiles (front_value f) → j < count_tiles (front_value f) → i ≢ j → (plan : PlanValue) (old new : Planes T)
+    → (g : Component → ℕ → ℕ → T → T) → AreFrame f.header old →
+    ((c : Component) → plane_of c new ≡ painted_plane (plane_of c old) (tile_rectangle f.header (tile_area (front_value f) i) (number c)) (g c))
     → ShowsTile (front_value f) j plan (samples_of num old) → ShowsTile (front_value f) j plan (samples_of num new)
 shows_other num pixel back f read i j lt_i lt_j differ plan old new g are placed before c x y lx ly =
     let h = f.header in
@@ -84,7 +92,8 @@ shows_other num pixel back f read i j lt_i lt_j differ plan old new g are placed
       | inr rows ↦ inr (apart_by (corner_row h one p) (one.height / 2 ^ ydec h p) row a.height (tile_height h one p) rows)
     ]) in
     ap (λ (q : Plane _). sample_at num q column row) (placed c)
-    ∙ sample_at_outside num pixel back plane a (g c) column row is.whole (omega (arith, columns_within h other p area, lx, is.width, is.whole.visible_columns)) (omega (arith, rows_within h other p area, ly, is.height, is.whole.visible_rows)) out
+    ∙ sample_at_outside num pixel back plane a (g c) column row is.whole (omega (arith, columns_within h other p area, lx, is.width, is.whole.visible_columns))
+    (omega (arith, rows_within h other p area, ly, is.height, is.whole.visible_rows)) out
     ∙ before c x y lx ly
 
 -- what a frame shows once tile i was reconstructed into it: the tile's own plan, and what it showed of all others
@@ -93,16 +102,26 @@ IsPut f i old new =
     (plan : PlanValue) × IsTile f i plan × ShowsTile f.front i plan new
     × ((other : ℕ) (plan : PlanValue) → other < count_tiles f.front → other ≢ i → ShowsTile f.front other plan old → ShowsTile f.front other plan new)
 
-pub tile_put : {T : Type 0} (num : T → ℕ) (pixel : ℕ → T) → ((v : T) → pixel (num v) ≡ v) → ((v : ℕ) → num (pixel v) ≡ v) → (file : TileFile) → IsReadFile file → (i : ℕ) → i < count_tiles (front_value file.front) → (plan : PlanValue) → IsTile (file_value file) i plan
-    → (own : Header) (q : Planes T) (area : TileArea) (old new : Planes T) → area ≡ tile_area (front_value file.front) i → AreFrame file.front.header old → ShowsPlan num plan q → own ≡ plan.header
-    → ((c : Component) → plane_of c new ≡ painted_plane (plane_of c old) (tile_rectangle file.front.header area (number c)) (λ r k _. pixel (slice_index (row_in num own q (number c) r) k)))
+pub tile_put : {T : Type 0} (num : T → ℕ) (pixel : ℕ → T) → ((v : T) → pixel (num v) ≡ v) → ((v : ℕ) → num (pixel v) ≡ v) → (file : TileFile) →
+    IsReadFile file → (i : ℕ) → i < count_tiles (front_value file.front) → (plan : PlanValue) → IsTile (file_value file) i plan
+    → (own : Header) (q : Planes T) (area : TileArea) (old new : Planes T) → area ≡ tile_area (front_value file.front) i → AreFrame file.front.header old →
+    ShowsPlan num plan q → own ≡ plan.header
+    → ((c : Component) →
+    plane_of c new ≡ painted_plane (plane_of c old) (tile_rectangle file.front.header area (number c))
+    (λ r k _. pixel (slice_index (row_in num own q (number c) r) k)))
     → IsPut (file_value file) i (samples_of num old) (samples_of num new)
 tile_put num pixel back there file read i lt plan is own q area old new area_is_it are shows same placed =
     let f = front_value file.front in
-    let put : (c : Component) → plane_of c new ≡ painted_plane (plane_of c old) (tile_rectangle file.front.header (tile_area f i) (number c)) (λ r k _. pixel (slice_index (row_in num own q (number c) r) k)) =
-    λ c. placed c ∙ ap (λ (a : TileArea). painted_plane (plane_of c old) (tile_rectangle file.front.header a (number c)) (λ r k _. pixel (slice_index (row_in num own q (number c) r) k))) area_is_it in (
+    let put : (c : Component) → plane_of c new ≡ painted_plane (plane_of c old) (tile_rectangle file.front.header (tile_area f i) (number c))
+    (λ r k _. pixel (slice_index (row_in num own q (number c) r) k)) =
+    λ c. placed c
+    ∙ ap (λ (a : TileArea). painted_plane (plane_of c old) (tile_rectangle file.front.header a (number c))
+    (λ r k _. pixel (slice_index (row_in num own q (number c) r) k))) area_is_it in (
       plan,
       is,
-      shows_own num pixel back there f i plan own q old new are (area_is file.front read.front i lt) shows same (tile_header_is (file_value file) i plan is) put,
-      λ other its below differ. shows_other num pixel back file.front read.front i other lt below (λ e. differ (sym e)) its old new (λ c r k _. pixel (slice_index (row_in num own q (number c) r) k)) are put,
+      shows_own num pixel back there f i plan own q old new are (area_is file.front read.front i lt) shows same (tile_header_is (file_value file) i plan is)
+          put,
+      λ other its below differ.
+          shows_other num pixel back file.front read.front i other lt below (λ e. differ (sym e)) its old new
+          (λ c r k _. pixel (slice_index (row_in num own q (number c) r) k)) are put,
     )

@@ -1,5 +1,6 @@
 -- The slots of a tile, cut one after the other.
-use Rattle.std.proofs.Common.{◌≡◌, ℕ, zero, suc, ◌+◌, ◌<◌, List, [], ◌∷◌, ◌++◌, length, map, get_or, Option, Some, None, false, inl, inr, refl, sym, ap, subst, ◌∙◌, arith, slice_index_or}
+use Rattle.std.proofs.Common.{◌≡◌, ℕ, zero, suc, ◌+◌, ◌<◌, List, [], ◌∷◌, ◌++◌, length, map, get_or, Option, Some, None, false, inl, inr, refl, sym, ap, subst}
+use Rattle.std.proofs.Common.{◌∙◌, arith, slice_index_or}
 use Rattle.std.specs.Prelude.{option_map}
 use Rattle.std.proofs.lemmas.Bool.{cases_lt}
 use Rattle.std.proofs.lemmas.List.{length-append, length-map, get_or-map, get_or_append_left, get_or-append-add}
@@ -26,7 +27,8 @@ pub none_stored : (h : Header) (a : TileArea) (slot : ℕ) (o : Option Planes) �
 none_stored h a slot o e is = let stored : IsStoredSlot h slot None = subst (IsStoredSlot h slot) e is in same_slot h a slot ∙ stored
 
 pub some_stored : (h : Header) (a : TileArea) (slot : ℕ) (o : Option Planes) (planes cut : Planes) → IsTileArea h a → o ≡ Some planes → IsStoredSlot h slot o
-    → cut.y.items ≡ tile_plane h a 0 planes.y.items → cut.u.items ≡ tile_plane h a 1 planes.u.items → cut.v.items ≡ tile_plane h a 2 planes.v.items → IsStoredSlot (tile_header h a) slot (Some cut)
+    → cut.y.items ≡ tile_plane h a 0 planes.y.items → cut.u.items ≡ tile_plane h a 1 planes.u.items → cut.v.items ≡ tile_plane h a 2 planes.v.items →
+    IsStoredSlot (tile_header h a) slot (Some cut)
 some_stored h a slot o planes cut area e is y u v =
     let stored : IsStoredSlot h slot (Some planes) = subst (IsStoredSlot h slot) e is in (
       same_slot h a slot ∙ stored.0,
@@ -48,12 +50,14 @@ pub record AreCut (h : Header) (a : TileArea) (from : List (Option Planes)) (n :
 pub none_cut : (h : Header) (a : TileArea) (from : List (Option Planes)) → AreCut h a from 0 []
 none_cut h a from = record { count = refl; each = λ s lt. absurd (omega (arith, lt)) }
 
-pub one_more : (h : Header) (a : TileArea) (from : List (Option Planes)) (n : ℕ) (to : List (Option Planes)) (o : Option Planes) → AreCut h a from n to → IsCut h a n (slice_index_or from n None) o → AreCut h a from (n + 1) (to ++ o ∷ [])
+pub one_more : (h : Header) (a : TileArea) (from : List (Option Planes)) (n : ℕ) (to : List (Option Planes)) (o : Option Planes) → AreCut h a from n to →
+    IsCut h a n (slice_index_or from n None) o → AreCut h a from (n + 1) (to ++ o ∷ [])
 one_more h a from n to o are is = record { count = omega (arith, length-append to (o ∷ []), are.count); each = each }
   where
     each : (s : ℕ) → s < n + 1 → IsCut h a s (slice_index_or from s None) (slice_index_or (to ++ o ∷ []) s None)
     each s lt = elim (cases_lt s n) [
-      | inl before ↦ subst (IsCut h a s (slice_index_or from s None)) (sym (get_or_append_left to (o ∷ []) None s (omega (arith, before, are.count)))) (are.each s before)
+      | inl before ↦ subst (IsCut h a s (slice_index_or from s None)) (sym (get_or_append_left to (o ∷ []) None s (omega (arith, before, are.count))))
+          (are.each s before)
       | inr le ↦ (
           let last : n ≡ s = omega (arith, lt, le) in
           let place : length to + 0 ≡ s = omega (arith, last, are.count) in
@@ -61,18 +65,22 @@ one_more h a from n to o are is = record { count = omega (arith, length-append t
           subst (IsCut h a s (slice_index_or from s None)) (sym at) (subst (λ (k : ℕ). IsCut h a k (slice_index_or from k None) o) last is))
     ]
 
-pub all_stored : (h : Header) (a : TileArea) (from : List (Option Planes)) (n : ℕ) (to : List (Option Planes)) → AreCut h a from n to → AreStoredSlots (tile_header h a) to n
+pub all_stored : (h : Header) (a : TileArea) (from : List (Option Planes)) (n : ℕ) (to : List (Option Planes)) → AreCut h a from n to →
+    AreStoredSlots (tile_header h a) to n
 all_stored h a from n to are s lt = (are.each s lt).stored
 
-pub all_values : (h : Header) (a : TileArea) (from : List (Option Planes)) (n : ℕ) (to : List (Option Planes)) → length from ≡ n → AreCut h a from n to → slot_values to ≡ tile_references h a (slot_values from)
+pub all_values : (h : Header) (a : TileArea) (from : List (Option Planes)) (n : ℕ) (to : List (Option Planes)) → length from ≡ n → AreCut h a from n to →
+    slot_values to ≡ tile_references h a (slot_values from)
 all_values h a from n to count are =
     let f : ℕ → Option (List (List ℕ)) = λ s. option_map (tile_planes h a) (slot_value (slice_index_or from s None)) in
     let first : slot_values to ≡ by_index n f =
     by_index_is n f (slot_values to) None (length-map to slot_value ∙ are.count)
     (λ s lt. get_or-map slot_value to s None None (omega (arith, lt, are.count)) ∙ (are.each s lt).value) in
     let second : tile_references h a (slot_values from) ≡ by_index n f =
-    by_index_is n f (tile_references h a (slot_values from)) None (length-map (slot_values from) (option_map (tile_planes h a)) ∙ length-map from slot_value ∙ count)
-    (λ s lt. get_or-map (option_map (tile_planes h a)) (slot_values from) s None None (omega (arith, lt, count, length-map from slot_value)) ∙ ap (option_map (tile_planes h a)) (get_or-map slot_value from s None None (omega (arith, lt, count)))) in
+    by_index_is n f (tile_references h a (slot_values from)) None (length-map (slot_values from) (option_map (tile_planes h a)) ∙ length-map from slot_value
+    ∙ count)
+    (λ s lt. get_or-map (option_map (tile_planes h a)) (slot_values from) s None None (omega (arith, lt, count, length-map from slot_value))
+    ∙ ap (option_map (tile_planes h a)) (get_or-map slot_value from s None None (omega (arith, lt, count)))) in
     first ∙ sym second
 
 -- an item that is there, whatever stands for one that isn't
@@ -81,7 +89,8 @@ same_item [] k d e lt = absurd (omega (arith, lt))
 same_item (x ∷ xs) zero d e lt = refl
 same_item (x ∷ xs) (suc k) d e lt = same_item xs k d e (omega (arith, lt))
 
-pub cut_by : (h : Header) (a : TileArea) (from : List (Option Planes)) (slot : ℕ) (o to : Option Planes) → slot < length from → o ≡ get_or from slot o → IsStoredSlot (tile_header h a) slot to → slot_value to ≡ option_map (tile_planes h a) (slot_value o)
+pub cut_by : (h : Header) (a : TileArea) (from : List (Option Planes)) (slot : ℕ) (o to : Option Planes) → slot < length from → o ≡ get_or from slot o →
+    IsStoredSlot (tile_header h a) slot to → slot_value to ≡ option_map (tile_planes h a) (slot_value o)
     → IsCut h a slot (slice_index_or from slot None) to
 cut_by h a from slot o to lt at stored value =
     let same : o ≡ get_or from slot None = at ∙ same_item from slot o None lt in
@@ -89,7 +98,9 @@ cut_by h a from slot o to lt at stored value =
 
 -- ---- the plan of a tile
 
-pub format_is : (f : Front) (i : ℕ) (a : TileArea) (h : Header) (stored : List (Option Planes)) (from : List (Option Planes)) → a ≡ tile_area (front_value f) i → h ≡ tile_header f.header a → slot_values stored ≡ tile_references f.header a (slot_values from) → from ≡ f.references.items
+pub format_is : (f : Front) (i : ℕ) (a : TileArea) (h : Header) (stored : List (Option Planes)) (from : List (Option Planes)) →
+    a ≡ tile_area (front_value f) i → h ≡ tile_header f.header a → slot_values stored ≡ tile_references f.header a (slot_values from) →
+    from ≡ f.references.items
     → plan_behind h (slot_values stored) ≡ tile_plan (front_value f) i
 unfolding tile_plan
 format_is f i a h stored from area_is h_is stored_is from_is =
@@ -97,5 +108,6 @@ format_is f i a h stored from area_is h_is stored_is from_is =
     ∙ ap (plan_behind (tile_header f.header a)) (stored_is ∙ ap (λ (xs : List (Option Planes)). tile_references f.header a (slot_values xs)) from_is)
     ∙ ap (λ (b : TileArea). plan_behind (tile_header f.header b) (tile_references f.header b (slot_values f.references.items))) area_is
 
-pub part_is : {A : Type 0} (bytes : A → List ℕ) (parts : List A) (i : ℕ) (o : A) → i < length parts → o ≡ get_or parts i o → bytes o ≡ slice_index_or (map bytes parts) i []
+pub part_is : {A : Type 0} (bytes : A → List ℕ) (parts : List A) (i : ℕ) (o : A) → i < length parts → o ≡ get_or parts i o →
+    bytes o ≡ slice_index_or (map bytes parts) i []
 part_is bytes parts i o lt at = ap bytes at ∙ sym (get_or-map bytes parts i o [] lt)

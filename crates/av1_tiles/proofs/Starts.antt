@@ -73,9 +73,11 @@ one_before side n previous v xs multiple lt are = record {
     rising zero h = lt
     rising (suc k) h = let e : suc k + 1 ≡ suc (k + 1) = omega arith in rw e (are.rising k (omega (arith, h)))
 
-starts_are : (side n previous : ℕ) (xs : List ℕ) → previous % 64 ≡ 0 → previous < side → IsSpelled (starts side previous n) xs → AreBehind side n (previous ∷ xs)
+starts_are : (side n previous : ℕ) (xs : List ℕ) → previous % 64 ≡ 0 → previous < side → IsSpelled (starts side previous n) xs →
+    AreBehind side n (previous ∷ xs)
 unfolding starts
-starts_are side zero previous xs multiple lt s = subst (λ (ys : List ℕ). AreBehind side 0 (previous ∷ ys)) (spelled_done (side ∷ []) xs s) (last_two side previous multiple lt)
+starts_are side zero previous xs multiple lt s =
+    subst (λ (ys : List ℕ). AreBehind side 0 (previous ∷ ys)) (spelled_done (side ∷ []) xs s) (last_two side previous multiple lt)
 starts_are side (suc n) previous xs multiple lt s =
     let (v, v_in, s1) = spelled_asks (start_after side previous) _ xs s in
     let (more, more_spelled, s2) = spelled_bind (starts side v n) _ xs s1 in
@@ -102,7 +104,8 @@ bounds_are side xs some s =
     let (count, count_in, s1) = spelled_asks (byte_from 1 32) _ xs s in
     let (more, more_spelled, s2) = spelled_bind (starts side 0 (count - 1)) _ xs s1 in
     let (least, most) = range_is 1 32 count count_in in
-    subst (AreBounds side) (spelled_done (0 ∷ more) xs s2) (behind_are side (count - 1) more (omega (arith, most)) (starts_are side (count - 1) 0 more refl some more_spelled))
+    subst (AreBounds side) (spelled_done (0 ∷ more) xs s2)
+    (behind_are side (count - 1) more (omega (arith, most)) (starts_are side (count - 1) 0 more refl some more_spelled))
 
 -- ---- between two bounds
 
@@ -134,7 +137,8 @@ starts_more side previous count xs i lt =
     let k : count ≡ suc (count - 1) = omega (arith, lt) in
     ap (λ (n : ℕ). add (starts side previous n) (xs, i)) k
     ∙ add_asks (start_after side previous) (λ v. starts side v (count - 1) >>= λ more. done (v ∷ [] ++ more)) xs i
-    ∙ on_ok_same (read_field (start_after side previous) i) (λ p. add (starts side p.0 (count - 1) >>= λ more. done (p.0 ∷ [] ++ more)) (xs, p.1)) (λ p. add (starts side p.0 (count - 1)) (xs ++ p.0 ∷ [], p.1))
+    ∙ on_ok_same (read_field (start_after side previous) i) (λ p. add (starts side p.0 (count - 1) >>= λ more. done (p.0 ∷ [] ++ more)) (xs, p.1))
+    (λ p. add (starts side p.0 (count - 1)) (xs ++ p.0 ∷ [], p.1))
     (λ p. add_behind (starts side p.0 (count - 1)) xs (p.0 ∷ []) p.1)
 
 -- no start, and the end
@@ -146,7 +150,8 @@ starts_end side previous xs i = add_done (side ∷ []) xs i
 pub bounds_read : (side : ℕ) (i : Input) → read (bounds side) i ≡ on_ok (read_field (byte_from 1 32) i) (λ p. add (starts side 0 (p.0 - 1)) (0 ∷ [], p.1))
 unfolding bounds
 bounds_read side i =
-    on_ok_same (read_field (byte_from 1 32) i) (λ p. read (starts side 0 (p.0 - 1) >>= λ more. done (0 ∷ [] ++ more)) p.1) (λ p. add (starts side 0 (p.0 - 1)) (0 ∷ [], p.1))
+    on_ok_same (read_field (byte_from 1 32) i) (λ p. read (starts side 0 (p.0 - 1) >>= λ more. done (0 ∷ [] ++ more)) p.1)
+    (λ p. add (starts side 0 (p.0 - 1)) (0 ∷ [], p.1))
     (λ p. read_empty (starts side 0 (p.0 - 1) >>= λ more. done (0 ∷ [] ++ more)) p.1 ∙ add_behind (starts side 0 (p.0 - 1)) [] (0 ∷ []) p.1)
 
 pub ruleset reading = (starts_more, starts_end, bounds_read)

@@ -1,5 +1,6 @@
 -- Bytes that are no grid of tiles are refused where the longest proper list of fields at their front ends.
-use Rattle.std.proofs.Common.{◌≡◌, ◌⊎◌, inl, inr, zero, suc, ℕ, ◌+◌, ◌<◌, ◌≤◌, ◌^◌, eqb, List, [], ◌∷◌, ◌++◌, length, Ok, Err, refl, sym, ap, subst, ◌∙◌, append_assoc, length-append, arith, All}
+use Rattle.std.proofs.Common.{◌≡◌, ◌⊎◌, inl, inr, zero, suc, ℕ, ◌+◌, ◌<◌, ◌≤◌, ◌^◌, eqb, List, [], ◌∷◌, ◌++◌, length, Ok, Err, refl, sym, ap, subst, ◌∙◌}
+use Rattle.std.proofs.Common.{append_assoc, length-append, arith, All}
 use Rattle.std.specs.List.{flat_map}
 use Rattle.std.proofs.lemmas.Bool.{eqb-true}
 use Rattle.std.proofs.lemmas.List.{append-nil, nil_from_length}
@@ -21,16 +22,19 @@ abbrev stop : Reading (List (List ℕ) × Input) → ℕ
 stop (Ok p) = p.1.at
 stop (Err at) = at
 
-run_reaches : (n : ℕ) (before : List (List ℕ)) (i : Input) → AreBytes i.rest → (run : List ℕ) × IsRun n run × IsPrefix run i.rest × (i.at + length run ≡ stop (read_parts n (before, i)))
+run_reaches : (n : ℕ) (before : List (List ℕ)) (i : Input) → AreBytes i.rest →
+    (run : List ℕ) × IsRun n run × IsPrefix run i.rest × (i.at + length run ≡ stop (read_parts n (before, i)))
 unfolding read_parts
 run_reaches zero before i fits = ([], refl, (i.rest, refl), omega arith)
-run_reaches (suc n) before i fits = elim (read_part i) as (λ r. Parted i r → (run : List ℕ) × IsRun (suc n) run × IsPrefix run i.rest × (i.at + length run ≡ stop (on_ok r (λ p. read_parts n (before ++ p.0 ∷ [], p.1))))) [
-  | Err at ↦ λ s. (s.run, first s.run s.is, s.front, s.len)
-  | Ok p ↦ λ t. (
-      let (run, is, (more, parts), len) = run_reaches n (before ++ p.0 ∷ []) p.1 t.fits in
-      let whole : i.rest ≡ (part_text p.0 ++ run) ++ more = t.parts ∙ ap (λ l. part_text p.0 ++ l) parts ∙ sym (append_assoc (part_text p.0) run more) in
-      (part_text p.0 ++ run, inr (inr (p.0, t.short, (run, is, refl))), (more, whole), omega (arith, t.at, len, length-append (part_text p.0) run)))
-] (parted i fits)
+run_reaches (suc n) before i fits =
+    elim (read_part i) as (λ r. Parted i r → (run : List ℕ) × IsRun (suc n) run × IsPrefix run i.rest ×
+    (i.at + length run ≡ stop (on_ok r (λ p. read_parts n (before ++ p.0 ∷ [], p.1))))) [
+      | Err at ↦ λ s. (s.run, first s.run s.is, s.front, s.len)
+      | Ok p ↦ λ t. (
+          let (run, is, (more, parts), len) = run_reaches n (before ++ p.0 ∷ []) p.1 t.fits in
+          let whole : i.rest ≡ (part_text p.0 ++ run) ++ more = t.parts ∙ ap (λ l. part_text p.0 ++ l) parts ∙ sym (append_assoc (part_text p.0) run more) in
+          (part_text p.0 ++ run, inr (inr (p.0, t.short, (run, is, refl))), (more, whole), omega (arith, t.at, len, length-append (part_text p.0) run)))
+    ] (parted i fits)
   where
     first : (run : List ℕ) → (run ≡ []) ⊎ ((len : ℕ) × (len < 2 ^ 32) × (run ≡ length_text len)) → IsRun (suc n) run
     first run (inl none) = inl none
@@ -40,14 +44,23 @@ from_here : (n : ℕ) (before : List (List ℕ)) (i : Input) → AreBytes i.rest
 from_here n before i fits = omega (arith, (run_reaches n before i fits).3)
 
 -- behind a length the reading comes at least as far
-past_length : (n : ℕ) (before : List (List ℕ)) (i : Input) (len : ℕ) (more : List ℕ) → AreBytes i.rest → len < 2 ^ 32 → i.rest ≡ length_text len ++ more → i.at + 4 ≤ stop (read_parts (suc n) (before, i))
+past_length : (n : ℕ) (before : List (List ℕ)) (i : Input) (len : ℕ) (more : List ℕ) → AreBytes i.rest → len < 2 ^ 32 → i.rest ≡ length_text len ++ more →
+    i.at + 4 ≤ stop (read_parts (suc n) (before, i))
 unfolding read_parts
-past_length n before i len more fits short parts = elim (read_part i) as (λ r. read_part i ≡ r → Parted i r → i.at + 4 ≤ stop (on_ok r (λ p. read_parts n (before ++ p.0 ∷ [], p.1)))) [
-  | Err at ↦ λ e s. stops_behind i len more short parts at e
-  | Ok p ↦ λ e t. omega (arith, t.at, from_here n (before ++ p.0 ∷ []) p.1 t.fits, length-append (length_text (length p.0)) p.0, length-le four (length p.0))
-] refl (parted i fits)
+past_length n before i len more fits short parts =
+    elim (read_part i) as (λ r. read_part i ≡ r → Parted i r → i.at + 4 ≤ stop (on_ok r (λ p. read_parts n (before ++ p.0 ∷ [], p.1)))) [
+      | Err at ↦ λ e s. stops_behind i len more short parts at e
+      | Ok p ↦ λ e t. omega (
+        arith,
+        t.at,
+        from_here n (before ++ p.0 ∷ []) p.1 t.fits,
+        length-append (length_text (length p.0)) p.0,
+        length-le four (length p.0),
+      )
+    ] refl (parted i fits)
 
-run_no_longer : (n : ℕ) (before : List (List ℕ)) (i : Input) (run : List ℕ) → AreBytes i.rest → IsRun n run → IsPrefix run i.rest → i.at + length run ≤ stop (read_parts n (before, i))
+run_no_longer : (n : ℕ) (before : List (List ℕ)) (i : Input) (run : List ℕ) → AreBytes i.rest → IsRun n run → IsPrefix run i.rest →
+    i.at + length run ≤ stop (read_parts n (before, i))
 unfolding read_parts
 run_no_longer zero before i run fits none is = omega (arith, ap length none)
 run_no_longer (suc n) before i run fits (inl none) is = omega (arith, ap length none, from_here (suc n) before i fits)
@@ -57,7 +70,8 @@ run_no_longer (suc n) before i run fits (inr (inl (len, short, alone))) (more, i
 run_no_longer (suc n) before i run fits (inr (inr (part, short, (others, proper, whole)))) (more, is) =
     let parts : i.rest ≡ part_text part ++ (others ++ more) = is ∙ ap (λ (l : List ℕ). l ++ more) whole ∙ append_assoc (part_text part) others more in
     let j : Input = record { at = i.at + length (part_text part); rest = others ++ more } in
-    let read : read_part i ≡ Ok (part, j) = ap (λ (l : List ℕ). read_part (record { at = i.at; rest = l })) parts ∙ part_again i.at part (others ++ more) short in
+    let read : read_part i ≡ Ok (part, j) = ap (λ (l : List ℕ). read_part (record { at = i.at; rest = l })) parts ∙ part_again i.at part (others ++ more) short
+    in
     let t : TakesPart i part j = subst (Parted i) read (parted i fits) in
     let further = run_no_longer n (before ++ part ∷ []) j others t.fits proper (more, refl) in
     rw read (omega (arith, further, ap length whole, length-append (part_text part) others))
@@ -68,16 +82,20 @@ run_no_longer (suc n) before i run fits (inr (inr (part, short, (others, proper,
 abbrev rest_of : FrontValue × Input → Reading FileValue
 rest_of f = on_ok (read_parts (count_tiles f.0) ([], f.1)) (λ p. ended (record { front = f.0; parts = p.0 }, p.1))
 
-rest_err : (f : FrontValue) (r : Reading (List (List ℕ) × Input)) (at : ℕ) → on_ok {B = FileValue} r (λ p. ended (record { front = f; parts = p.0 }, p.1)) ≡ Err at → stop r ≡ at
+rest_err : (f : FrontValue) (r : Reading (List (List ℕ) × Input)) (at : ℕ) →
+    on_ok {B = FileValue} r (λ p. ended (record { front = f; parts = p.0 }, p.1)) ≡ Err at → stop r ≡ at
 rest_err f (Ok p) at e = err_at (eqb (length p.1.rest) 0) (record { front = f; parts = p.0 }) p.1.at at e
 rest_err f (Err d) at e = cc
 
 -- it was read, and then a part couldn't be, or bytes were left over
-parts_refused : (bytes : List ℕ) (at : ℕ) (f : FrontValue) (j : Input) → AreBytes bytes → read front (start bytes) ≡ Ok (f, j) → rest_of (f, j) ≡ Err at → IsLongestText IsGridRun bytes at
+parts_refused : (bytes : List ℕ) (at : ℕ) (f : FrontValue) (j : Input) → AreBytes bytes → read front (start bytes) ≡ Ok (f, j) → rest_of (f, j) ≡ Err at →
+    IsLongestText IsGridRun bytes at
 parts_refused bytes at f j fits e rest =
     let (values, spells, parts) = read_spells front (start bytes) f j fits e in
-    let read_is : read front (start bytes) ≡ Ok (f, record { at = 0 + length (text front values); rest = j.rest }) = ap (λ (l : List ℕ). read front (start l)) parts ∙ read_again front values f 0 j.rest spells in
-    let same : j.at ≡ 0 + length (text front values) = ap (λ (q : FrontValue × Input). q.1.at) (ok_is (f, j) (f, record { at = 0 + length (text front values); rest = j.rest }) (sym e ∙ read_is)) in
+    let read_is : read front (start bytes) ≡ Ok (f, record { at = 0 + length (text front values); rest = j.rest }) =
+    ap (λ (l : List ℕ). read front (start l)) parts ∙ read_again front values f 0 j.rest spells in
+    let same : j.at ≡ 0 + length (text front values) =
+    ap (λ (q : FrontValue × Input). q.1.at) (ok_is (f, j) (f, record { at = 0 + length (text front values); rest = j.rest }) (sym e ∙ read_is)) in
     let behind = fits_behind bytes (text front values) j.rest fits parts in
     let (run, is, (more, prefix), len) = run_reaches (count_tiles f) [] j behind in
     record {
@@ -96,22 +114,32 @@ parts_refused bytes at f j fits e rest =
     longest : AreBytes j.rest → (run : List ℕ) → IsGridRun run → IsPrefix run bytes → length run ≤ at
     longest behind run (inl (values, proper, is)) (more, parts) =
         let front_end : end (read front (start bytes)) ≡ j.at = ap end e in
-        omega (arith, front_end, came, ap length is, from_here (count_tiles f) [] j behind, no_longer front (start bytes) values fits proper (more, parts ∙ ap (λ (l : List ℕ). l ++ more) is))
+        omega (
+          arith,
+          front_end,
+          came,
+          ap length is,
+          from_here (count_tiles f) [] j behind,
+          no_longer front (start bytes) values fits proper (more, parts ∙ ap (λ (l : List ℕ). l ++ more) is),
+        )
     longest behind run (inr (g, (values, spells, (others, proper, is)))) (more, parts) =
         let whole : bytes ≡ text front values ++ (others ++ more) = parts ∙ ap (λ (l : List ℕ). l ++ more) is ∙ append_assoc (text front values) others more in
         let k : Input = record { at = 0 + length (text front values); rest = others ++ more } in
-        let again : read front (start bytes) ≡ Ok (g, k) = ap (λ (l : List ℕ). read front (start l)) whole ∙ read_again front values g 0 (others ++ more) spells in
+        let again : read front (start bytes) ≡ Ok (g, k) = ap (λ (l : List ℕ). read front (start l)) whole ∙ read_again front values g 0 (others ++ more) spells
+        in
         let same : ◌≡◌ {A = FrontValue × Input} (f, j) (g, k) = ok_is (f, j) (g, k) (sym e ∙ again) in
-        let there : stop (read_parts (count_tiles g) ([], k)) ≡ at = subst (λ (q : FrontValue × Input). stop (read_parts (count_tiles q.0) ([], q.1)) ≡ at) same came in
+        let there : stop (read_parts (count_tiles g) ([], k)) ≡ at =
+        subst (λ (q : FrontValue × Input). stop (read_parts (count_tiles q.0) ([], q.1)) ≡ at) same came in
         let far = run_no_longer (count_tiles g) [] k others (fits_behind bytes (text front values) (others ++ more) fits whole) proper (more, refl) in
         omega (arith, far, there, ap length is, length-append (text front values) others)
 
 pub refused_at_longest : RefusedAtLongest
 unfolding read_file
-refused_at_longest bytes at fits e = elim (read front (start bytes)) as (λ r. read front (start bytes) ≡ r → on_ok r rest_of ≡ Err at → IsLongestText IsGridRun bytes at) [
-  | Err d ↦ λ is stopped. front_refused front (λ f. IsRun (count_tiles f)) bytes at d (byte_fits bytes fits) is (stopped_at d stopped)
-  | Ok p ↦ λ is rest. parts_refused bytes at p.0 p.1 (byte_fits bytes fits) is rest
-] refl e
+refused_at_longest bytes at fits e =
+    elim (read front (start bytes)) as (λ r. read front (start bytes) ≡ r → on_ok r rest_of ≡ Err at → IsLongestText IsGridRun bytes at) [
+      | Err d ↦ λ is stopped. front_refused front (λ f. IsRun (count_tiles f)) bytes at d (byte_fits bytes fits) is (stopped_at d stopped)
+      | Ok p ↦ λ is rest. parts_refused bytes at p.0 p.1 (byte_fits bytes fits) is rest
+    ] refl e
   where
     stopped_at : (d : ℕ) → on_ok {A = FrontValue × Input} (Err d) rest_of ≡ Err at → d ≡ at
     stopped_at d h = cc
@@ -126,7 +154,8 @@ record AreTaken (n : ℕ) (before : List (List ℕ)) (i : Input) (all : List (Li
   short : All (λ part. length part < 2 ^ 32) parts
   text : i.rest ≡ flat_map part_text parts ++ j.rest
 
-parts_taken : (n : ℕ) (before : List (List ℕ)) (i : Input) (all : List (List ℕ)) (j : Input) → AreBytes i.rest → read_parts n (before, i) ≡ Ok (all, j) → AreTaken n before i all j
+parts_taken : (n : ℕ) (before : List (List ℕ)) (i : Input) (all : List (List ℕ)) (j : Input) → AreBytes i.rest → read_parts n (before, i) ≡ Ok (all, j) →
+    AreTaken n before i all j
 unfolding read_parts
 parts_taken zero before i all j fits e =
     let same = ok_is (before, i) (all, j) e in
@@ -150,7 +179,8 @@ parts_taken (suc n) before i all j fits e =
     }
 
 parts_again : (parts before : List (List ℕ)) (at : ℕ) (more : List ℕ) → All (λ part. length part < 2 ^ 32) parts
-    → read_parts (length parts) (before, record { at = at; rest = flat_map part_text parts ++ more }) ≡ Ok (before ++ parts, record { at = at + length (flat_map part_text parts); rest = more })
+    → read_parts (length parts) (before, record { at = at; rest = flat_map part_text parts ++ more }) ≡
+    Ok (before ++ parts, record { at = at + length (flat_map part_text parts); rest = more })
 unfolding read_parts
 parts_again [] before at more short =
     let none : at + 0 ≡ at = omega arith in
@@ -173,7 +203,8 @@ found bytes f fits e =
     let (values, spells, is_text) = read_spells front (start bytes) p.0 p.1 fits is in
     let taken = parts_taken (count_tiles p.0) [] p.1 q.0 q.1 (fits_behind bytes (text front values) p.1.rest fits is_text) parts in
     let same : q.0 ≡ taken.parts = taken.behind in
-    let others : p.1.rest ≡ flat_map part_text q.0 = taken.text ∙ ap (λ (l : List ℕ). flat_map part_text taken.parts ++ l) nothing ∙ append-nil (flat_map part_text taken.parts) ∙ ap (flat_map part_text) (sym same) in
+    let others : p.1.rest ≡ flat_map part_text q.0 = taken.text ∙ ap (λ (l : List ℕ). flat_map part_text taken.parts ++ l) nothing
+    ∙ append-nil (flat_map part_text taken.parts) ∙ ap (flat_map part_text) (sym same) in
     let here : IsGridText bytes whole = record {
       values = values;
       spells = spells;
@@ -187,8 +218,10 @@ read_back : (bytes : List ℕ) (f : FileValue) → IsGridText bytes f → read_f
 unfolding read_file
 read_back bytes f t =
     let rest = flat_map part_text f.parts in
-    let first : read front (start bytes) ≡ Ok (f.front, record { at = 0 + length (text front t.values); rest = rest }) = ap (λ (l : List ℕ). read front (start l)) t.whole ∙ read_again front t.values f.front 0 rest t.spells in
-    let parts : read_parts (count_tiles f.front) ([], record { at = 0 + length (text front t.values); rest = rest }) ≡ Ok (f.parts, record { at = 0 + length (text front t.values) + length rest; rest = [] }) =
+    let first : read front (start bytes) ≡ Ok (f.front, record { at = 0 + length (text front t.values); rest = rest }) =
+    ap (λ (l : List ℕ). read front (start l)) t.whole ∙ read_again front t.values f.front 0 rest t.spells in
+    let parts : read_parts (count_tiles f.front) ([], record { at = 0 + length (text front t.values); rest = rest }) ≡
+    Ok (f.parts, record { at = 0 + length (text front t.values) + length rest; rest = [] }) =
     ap (λ (n : ℕ). read_parts n ([], record { at = 0 + length (text front t.values); rest = rest })) (sym t.count)
     ∙ ap (λ (l : List ℕ). read_parts (length f.parts) ([], record { at = 0 + length (text front t.values); rest = l })) (sym (append-nil rest))
     ∙ parts_again f.parts [] (0 + length (text front t.values)) [] t.short in

@@ -7,7 +7,8 @@ use Rattle.av1_tiles.specs.declared.file.TileFile.{TileFile}
 use Rattle.av1_tiles.specs.File.{front_value}
 use Rattle.av1_tiles.specs.Grammar.{count_tiles}
 
--- The bounds of at most 32 columns or rows of a frame with this side: they rise from 0 to the side, and each but the last is a multiple of 64.
+-- The bounds of at most 32 columns or rows of a frame with this side: they rise from 0 to the side, and each but the
+-- last is a multiple of 64.
 pub record AreBounds (side : ℕ) (bounds : List ℕ) : Type 0 where
   pub some : 2 ≤ length bounds
   pub few : length bounds ≤ 33

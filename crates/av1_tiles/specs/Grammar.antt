@@ -1,8 +1,10 @@
--- The format of a grid of tiles: the frame as a plan has it, where the columns and rows of tiles begin, and a part for each tile in raster
--- order. Numbers are little-endian.
-use Rattle.std.specs.Prelude.{codes, zero, suc, ◌*◌, ◌-◌, ◌%◌, ◌&&◌, nat_lt, ℕ, Bool, ◌==◌, List, [], ◌∷◌, ◌++◌, length, Option, Ok}
+-- The format of a grid of tiles: the frame as a plan has it, where the columns and rows of tiles begin, and a part for
+-- each tile in raster order. Numbers are little-endian.
+use Rattle.std.specs.Prelude.{codes, zero, suc, ◌*◌, ◌-◌, ◌%◌, ◌&&◌, nat_lt, ℕ, Bool, ◌==◌, List, [], ◌∷◌, ◌++◌, length}
+use Rattle.std.specs.Prelude.{Option, Ok}
 use Rattle.std.specs.Int.{w32, from_le_bytes}
-use Rattle.av1_plan.specs.Format.{two, four, Kind, Format, done, ◌>>=◌, field, Input, Reading, on_ok, read, read_part, start, ended}
+use Rattle.av1_plan.specs.Format.{two, four, Kind, Format, done, ◌>>=◌, field, Input, Reading, on_ok, read, read_part}
+use Rattle.av1_plan.specs.Format.{start, ended}
 use Rattle.av1_plan.specs.Grammar.{where_, byte_from, frame, references}
 use Rattle.av1_plan.specs.declared.header.Header.{Header}
 
@@ -31,7 +33,8 @@ bounds side = do
   more ← starts side 0 (count - 1)
   done (0 ∷ [] ++ more)
 
--- what stands before the parts of the tiles: the frame, its references for each slot, and the bounds of the columns and rows of tiles
+-- what stands before the parts of the tiles: the frame, its references for each slot, and the bounds of the columns and
+-- rows of tiles
 pub record FrontValue : Type 0 where
   pub header : Header
   pub references : List (Option (List (List ℕ)))
@@ -65,4 +68,6 @@ read_parts (suc count) s = on_ok (read_part s.1) (λ p. read_parts count (s.0 ++
 
 -- the grid of tiles that all of the bytes are, or the place of the first field that is cut, not admitted or left over
 unfoldable pub read_file : List ℕ → Reading FileValue
-read_file bytes = on_ok (read front (start bytes)) (λ f. on_ok (read_parts (count_tiles f.0) ([], f.1)) (λ p. ended (record { front = f.0; parts = p.0 }, p.1)))
+read_file bytes =
+    on_ok (read front (start bytes))
+    (λ f. on_ok (read_parts (count_tiles f.0) ([], f.1)) (λ p. ended (record { front = f.0; parts = p.0 }, p.1)))

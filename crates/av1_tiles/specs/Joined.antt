@@ -39,7 +39,8 @@ tile_rows f i p = plane_height (tile_header f.header (tile_area f i)) p
 abbrev pub ShowsTile : FrontValue → (i : ℕ) → PlanValue → (Component → ℕ → ℕ → ℕ) → Type 0
 ShowsTile f i plan frame =
     (component : Component) (x y : ℕ) → x < tile_columns f i (number component) → y < tile_rows f i (number component)
-    → frame component (corner_column f.header (tile_area f i) (number component) + x) (corner_row f.header (tile_area f i) (number component) + y) ≡ sample_of (slow_walk plan component x y)
+    → frame component (corner_column f.header (tile_area f i) (number component) + x)
+    (corner_row f.header (tile_area f i) (number component) + y) ≡ sample_of (slow_walk plan component x y)
 
 -- the joined planes: each sample is that of its tile's plan, less the tile's corner
 abbrev pub IsJoined : FileValue → (ℕ → PlanValue) → (Component → ℕ → ℕ → ℕ) → Type 0
@@ -49,14 +50,21 @@ IsJoined f plans frame = (i : ℕ) → i < count_tiles f.front → ShowsTile f.f
 abbrev pub ComesTo : FileValue → (Component → ℕ → ℕ → ℕ) → Type 0
 ComesTo f frame = (plans : ℕ → PlanValue) × AreTiles f plans × IsJoined f plans frame
 
--- Isolation: where tile i of two grids has the same plan and the same corners, their joined planes agree at each sample of it.
+-- Isolation: where tile i of two grids has the same plan and the same corners, their joined planes agree at each sample
+-- of it.
 abbrev pub TilesAreIsolated : Type 0
 TilesAreIsolated =
     (f g : FileValue) (plans_f plans_g : ℕ → PlanValue) (frame_f frame_g : Component → ℕ → ℕ → ℕ) (i : ℕ)
-    → AreTiles f plans_f → AreTiles g plans_g → IsJoined f plans_f frame_f → IsJoined g plans_g frame_g → i < count_tiles f.front → i < count_tiles g.front → plans_f i ≡ plans_g i
-    → ((component : Component) → corner_column f.front.header (tile_area f.front i) (number component) ≡ corner_column g.front.header (tile_area g.front i) (number component))
-    → ((component : Component) → corner_row f.front.header (tile_area f.front i) (number component) ≡ corner_row g.front.header (tile_area g.front i) (number component))
-    → (component : Component) (x y : ℕ) → x < tile_columns f.front i (number component) → y < tile_rows f.front i (number component)
+    → AreTiles f plans_f → AreTiles g plans_g → IsJoined f plans_f frame_f → IsJoined g plans_g frame_g →
+    i < count_tiles f.front → i < count_tiles g.front → plans_f i ≡ plans_g i
+    → ((component : Component) →
+    corner_column f.front.header (tile_area f.front i) (number component) ≡
+    corner_column g.front.header (tile_area g.front i) (number component))
+    → ((component : Component) →
+    corner_row f.front.header (tile_area f.front i) (number component) ≡
+    corner_row g.front.header (tile_area g.front i) (number component))
+    → (component : Component) (x y : ℕ) → x < tile_columns f.front i (number component) →
+    y < tile_rows f.front i (number component)
     → let column = corner_column f.front.header (tile_area f.front i) (number component) + x in
     let row = corner_row f.front.header (tile_area f.front i) (number component) + y in
     frame_f component column row ≡ frame_g component column row

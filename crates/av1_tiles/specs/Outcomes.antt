@@ -9,7 +9,9 @@ use Rattle.av1_tiles.specs.Refusals.{AreGrid, AreRefusedFor}
 
 -- the bytes are a grid of valid tiles, and these are the bytes of its joined planes
 abbrev pub AreJoined : List ℕ → List ℕ → Type 0
-AreJoined bytes written = (f : FileValue) × AreGrid bytes f × ((frame : Component → ℕ → ℕ → ℕ) × ComesTo f frame × (written ≡ visible f.front.header frame))
+AreJoined bytes written =
+    (f : FileValue) × AreGrid bytes f ×
+    ((frame : Component → ℕ → ℕ → ℕ) × ComesTo f frame × (written ≡ visible f.front.header frame))
 
 -- that, or why they are refused
 abbrev pub HasOutcome : List ℕ → Result (List ℕ) TilesError → Type 0

@@ -4,7 +4,8 @@ use Rattle.av1_plan.specs.Plan.{PlanValue}
 use Rattle.av1_streams.specs.Streams.{AreBytes, max_plan_bytes}
 use Rattle.av1_tiles.specs.declared.error.TileFault.{TileFault}
 use Rattle.av1_tiles.specs.declared.error.TilesError.{TilesError}
-use Rattle.av1_tiles.specs.declared.error.TilesError.TheVariants.{ReadFault, TooLong, Malformed, Tile, WriteFault, Memory}
+use Rattle.av1_tiles.specs.declared.error.TilesError.TheVariants.{ReadFault, TooLong, Malformed, Tile, WriteFault}
+use Rattle.av1_tiles.specs.declared.error.TilesError.TheVariants.{Memory}
 use Rattle.av1_tiles.specs.Grammar.{FileValue, count_tiles, read_file}
 use Rattle.av1_tiles.specs.Validity.{IsTile, IsRefusedTile}
 
@@ -20,7 +21,7 @@ pub record IsFirstRefused (f : FileValue) (i : ℕ) (fault : TileFault) : Type 0
   pub before : (k : ℕ) → k < i → (plan : PlanValue) × IsTile f k plan
   pub refused : IsRefusedTile f i fault
 
--- why the tiles of a grid are refused; want of memory says nothing
+-- why the tiles of a grid are refused; running out of memory says nothing
 abbrev pub RefusesTiles : FileValue → TilesError → Type 0
 RefusesTiles f (Tile i fault) = IsFirstRefused f i fault
 RefusesTiles f Memory = ⊤
@@ -29,7 +30,8 @@ RefusesTiles f TooLong = ⊥
 RefusesTiles f (Malformed at) = ⊥
 RefusesTiles f WriteFault = ⊥
 
--- Why bytes are refused: they are too long, or no grid of tiles, or a grid of which this tile is the first that is refused.
+-- Why bytes are refused: they are too long, or no grid of tiles, or a grid of which this tile is the first that is
+-- refused.
 abbrev pub AreRefusedFor : List ℕ → TilesError → Type 0
 AreRefusedFor bytes TooLong = max_plan_bytes < length bytes
 AreRefusedFor bytes (Malformed at) = (length bytes ≤ max_plan_bytes) × (read_file bytes ≡ Err at)

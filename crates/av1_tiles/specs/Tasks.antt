@@ -3,7 +3,8 @@ use Rattle.std.specs.Prelude.{ℕ, List, Result, Ok, Err, ⊤}
 use Rattle.av1_streams.specs.Streams.{max_plan_bytes}
 use Rattle.av1_streams.specs.Tasks.{Cause, read_failed, too_long, refused, write_failed, no_memory, Task}
 use Rattle.av1_tiles.specs.declared.error.TilesError.{TilesError}
-use Rattle.av1_tiles.specs.declared.error.TilesError.TheVariants.{ReadFault, TooLong, Malformed, Tile, WriteFault, Memory}
+use Rattle.av1_tiles.specs.declared.error.TilesError.TheVariants.{ReadFault, TooLong, Malformed, Tile, WriteFault}
+use Rattle.av1_tiles.specs.declared.error.TilesError.TheVariants.{Memory}
 use Rattle.av1_tiles.specs.declared.joined.Frame.{Frame}
 use Rattle.av1_tiles.specs.Frames.{IsFrame, frame_bytes}
 use Rattle.av1_tiles.specs.Outcomes.{HasOutcome}
@@ -19,7 +20,13 @@ cause_of Memory = no_memory
 
 -- grids of tiles are read, no longer than plans are, and the bytes of their joined planes are written
 abbrev pub tiles_task : Task (List ℕ) (Unit {0}) TilesError
-tiles_task = record { limit = max_plan_bytes; HasOutcome = HasOutcome; written = λ bytes. bytes; Says = λ done outcome. ⊤; cause = cause_of }
+tiles_task = record {
+  limit = max_plan_bytes;
+  HasOutcome = HasOutcome;
+  written = λ bytes. bytes;
+  Says = λ done outcome. ⊤;
+  cause = cause_of;
+}
 
 -- a frame in memory is the outcome of the bytes
 abbrev pub HoldFrame : List ℕ → Result Frame TilesError → Type 0

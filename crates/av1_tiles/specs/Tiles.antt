@@ -1,5 +1,6 @@
 -- The plan of each tile: the tile's sides, its rectangle of each reference plane, and the leaves that its part spells.
-use Rattle.std.specs.Prelude.{ℕ, ◌+◌, ◌*◌, ◌-◌, ◌/◌, ◌%◌, ◌^◌, ◌≤◌, List, [], ◌∷◌, length, take, drop, map, Option, option_map, slice_index, slice_index_or}
+use Rattle.std.specs.Prelude.{ℕ, ◌+◌, ◌*◌, ◌-◌, ◌/◌, ◌%◌, ◌^◌, ◌≤◌, List, [], ◌∷◌, length, take, drop, map, Option}
+use Rattle.std.specs.Prelude.{option_map, slice_index, slice_index_or}
 use Rattle.std.specs.List.{flat_map, range_with_len}
 use Rattle.av1_plan.specs.declared.header.Header.{Header}
 use Rattle.av1_plan.specs.Format.{Format}
@@ -36,7 +37,17 @@ pub record IsTileArea (h : Header) (a : TileArea) : Type 0 where
 
 -- a tile as a frame of its own
 abbrev pub tile_header : Header → TileArea → Header
-tile_header h a = record { version = h.version; width = a.width; height = a.height; depth = h.depth; sampling = h.sampling; filter = h.filter; edge_filter = h.edge_filter; slots = h.slots; mask = h.mask }
+tile_header h a = record {
+  version = h.version;
+  width = a.width;
+  height = a.height;
+  depth = h.depth;
+  sampling = h.sampling;
+  filter = h.filter;
+  edge_filter = h.edge_filter;
+  slots = h.slots;
+  mask = h.mask;
+}
 
 -- the column and the row of plane p at which a rectangle of luma begins
 abbrev pub corner_column : Header → TileArea → ℕ → ℕ
@@ -47,15 +58,19 @@ corner_row h a p = a.y / 2 ^ ydec h p
 
 -- the samples of a rectangle, row by row, out of those of a plane that has rows of `stride` samples
 unfoldable pub rectangle : (stride x y width height : ℕ) → List ℕ → List ℕ
-rectangle stride x y width height samples = flat_map (λ row. take width (drop ((y + row) * stride + x) samples)) (range_with_len 0 height)
+rectangle stride x y width height samples =
+    flat_map (λ row. take width (drop ((y + row) * stride + x) samples)) (range_with_len 0 height)
 
 -- a tile's rectangle of plane p of a reference
 unfoldable pub tile_plane : Header → TileArea → ℕ → List ℕ → List ℕ
-tile_plane h a p samples = rectangle (plane_width h p) (corner_column h a p) (corner_row h a p) (plane_width (tile_header h a) p) (plane_height (tile_header h a) p) samples
+tile_plane h a p samples =
+    rectangle (plane_width h p) (corner_column h a p) (corner_row h a p) (plane_width (tile_header h a) p)
+    (plane_height (tile_header h a) p) samples
 
 -- and of its three planes
 abbrev pub tile_planes : Header → TileArea → List (List ℕ) → List (List ℕ)
-tile_planes h a planes = tile_plane h a 0 (slice_index_or planes 0 []) ∷ tile_plane h a 1 (slice_index_or planes 1 []) ∷ tile_plane h a 2 (slice_index_or planes 2 []) ∷ []
+tile_planes h a planes = tile_plane h a 0 (slice_index_or planes 0 []) ∷ tile_plane h a 1 (slice_index_or planes 1 []) ∷
+    tile_plane h a 2 (slice_index_or planes 2 []) ∷ []
 
 -- the references of a tile, for each slot
 abbrev pub tile_references : Header → TileArea → List (Option (List (List ℕ))) → List (Option (List (List ℕ)))
@@ -63,7 +78,8 @@ tile_references h a references = map (option_map (tile_planes h a)) references
 
 -- what the part of tile i spells: a plan with the tile's header and references
 unfoldable pub tile_plan : FrontValue → ℕ → Format PlanValue
-tile_plan f i = plan_behind (tile_header f.header (tile_area f i)) (tile_references f.header (tile_area f i) f.references)
+tile_plan f i =
+    plan_behind (tile_header f.header (tile_area f i)) (tile_references f.header (tile_area f i) f.references)
 
 -- the part of tile i
 abbrev pub part_of : FileValue → ℕ → List ℕ

@@ -15,12 +15,14 @@ pub record IsTile (f : FileValue) (i : ℕ) (plan : PlanValue) : Type 0 where
   pub text : AreText (tile_plan f.front i) (part_of f i) plan
   pub valid : first_fault plan ≡ None
 
--- why the part of tile i is refused: it is no text of its plan, or that of a plan whose first faulty leaf has this fault
+-- why the part of tile i is refused: it is no text of its plan, or that of a plan whose first faulty leaf has this
+-- fault
 abbrev pub IsRefusedTile : FileValue → ℕ → TileFault → Type 0
 IsRefusedTile f i (faults.Malformed at) = AreRefused (tile_plan f.front i) (part_of f i) at
-IsRefusedTile f i (faults.Invalid leaf kind) = (plan : PlanValue) × AreText (tile_plan f.front i) (part_of f i) plan × (first_fault plan ≡ Some (record { leaf = leaf; kind = kind }))
+IsRefusedTile f i (faults.Invalid leaf kind) = (plan : PlanValue) × AreText (tile_plan f.front i) (part_of f i) plan ×
+    (first_fault plan ≡ Some (record { leaf = leaf; kind = kind }))
 
--- the same of an answer; want of memory says nothing
+-- the same of an answer; running out of memory says nothing
 abbrev pub RefusesTile : FileValue → ℕ → TileError → Type 0
 RefusesTile f i (errors.Refused fault) = IsRefusedTile f i fault
 RefusesTile f i errors.Memory = ⊤

@@ -75,8 +75,8 @@ fn parts<'a>(
 ///
 /// # Errors
 ///
-/// `Malformed` names the start of the first field that is cut, has a value that is not admitted after the fields before it, or is left over. A
-/// tile's part is one field. `Memory` where memory runs out.
+/// `Malformed` names the start of the first field that is cut, has a value that is not admitted after the fields before
+/// it, or is left over. A tile's part is one field. `Memory` where memory runs out.
 #[tactic(auto, unfolding(crate::specs::Grammar::read_file))]
 pub fn read_tiles(alloc: Global, bytes: &[u8]) -> Result<TileFile<'_>, PlanError>
     requires { length bytes.now ≤ 2 ^ 26 }

@@ -12,7 +12,8 @@ use av1_streams::{ReadError, WriteFault};
 /// Why the part of a tile is refused.
 #[derive(Copy, Clone, Debug, PartialEq, Eq)]
 pub enum TileFault {
-    /// The field that begins at byte `at` of the part is cut, has a value that is not admitted, or is left over after the end.
+    /// The field that begins at byte `at` of the part is cut, has a value that is not admitted, or is left over after
+    /// the end.
     Malformed { at: u32 },
     /// Leaf number `leaf` of the tile, counted from 0 in coding order, is the first that is refused, and why.
     Invalid { leaf: u32, kind: InvalidKind },
@@ -42,7 +43,8 @@ pub enum TilesError {
     ReadFault,
     /// The source gave a byte past the most that a grid of tiles has, which are as many as a plan has.
     TooLong,
-    /// The field that begins at byte `at` is cut, has a value that is not admitted, or is left over after the end. A tile's part is one field.
+    /// The field that begins at byte `at` is cut, has a value that is not admitted, or is left over after the end. A
+    /// tile's part is one field.
     Malformed { at: u32 },
     /// Tile number `tile`, counted from 0 in raster order, is the first that is refused, and why.
     Tile { tile: u16, fault: TileFault },

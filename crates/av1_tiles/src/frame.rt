@@ -1,6 +1,6 @@
 //! The planes of a frame, put together of those of its tiles.
 
-ghost use Rattle.std.specs.Prelude.{◌≡◌, ◌<◌, ◌≤◌, ◌^◌, length, map, slice_index, ◌≢◌, ℕ, None, OnOk, IfOk, IfErr};
+ghost use Rattle.std.specs.Prelude.{◌≡◌, ◌<◌, ◌≤◌, ◌^◌, length, map, slice_index, ◌≢◌, ℕ, None, OnOk, OnErr, IfOk, IfErr};
 ghost use Rattle.av1_frame.specs.Planes.{InPlane, painted_plane};
 ghost use Rattle.av1_frame.specs.Regions.{InStorage, painted};
 ghost use Rattle.av1_frame.specs.Samples.{paint_row};
@@ -93,7 +93,8 @@ fn place_plane<T: Pixel>(plane: &mut Plane<T>, tile: &TilePicture<T>, p: usize, 
     requires tile { AreFrame tile.now.header tile.now.planes }
     requires plane { p < 3 }
     requires fits { InPlane (placed tile.now.header p x y) plane.old }
-    ensures { plane.new ≡ painted_plane plane.old (placed tile.now.header p x y) (λ r c _. T.pixel (slice_index (row_in T.num tile.now.header tile.now.planes p r) c)) }
+    ensures { plane.new ≡ painted_plane plane.old (placed tile.now.header p x y)
+        (λ r c _. T.pixel (slice_index (row_in T.num tile.now.header tile.now.planes p r) c)) }
 {
     let width = tile.header.plane_width(p);
     let height = tile.header.plane_height(p);
@@ -131,7 +132,8 @@ fn place_in<T: Pixel>(
     requires area { IsTileArea header.now area }
     requires below { p < 3 }
     requires plane { IsPlaneOf header.now p plane.old }
-    ensures painted { plane.new ≡ painted_plane plane.old (tile_rectangle header.now area p) (λ r c _. T.pixel (slice_index (row_in T.num tile.now.header tile.now.planes p r) c)) }
+    ensures painted { plane.new ≡ painted_plane plane.old (tile_rectangle header.now area p)
+        (λ r c _. T.pixel (slice_index (row_in T.num tile.now.header tile.now.planes p r) c)) }
     ensures plane { IsPlaneOf header.now p plane.new }
 {
     let (x, y) = corner(header, area, p);
@@ -151,7 +153,8 @@ pub fn place_tile<T: Pixel>(
     requires area { IsTileArea header.now area }
     requires planes { AreFrame header.now planes.old }
     ensures planes { AreFrame header.now planes.new }
-    ensures placed { (component : Component) → plane_of component planes.new ≡ painted_plane (plane_of component planes.old) (tile_rectangle header.now area (number component))
+    ensures placed { (component : Component) →
+        plane_of component planes.new ≡ painted_plane (plane_of component planes.old) (tile_rectangle header.now area (number component))
         (λ r c _. T.pixel (slice_index (row_in T.num tile.now.header tile.now.planes (number component) r) c)) }
 {
     place_in(&mut planes.y, header, area, 0, tile);
@@ -159,7 +162,7 @@ pub fn place_tile<T: Pixel>(
     place_in(&mut planes.v, header, area, 2, tile);
 }
 
-/// The picture that a valid plan comes to, reconstructed in this memory. An error is want of memory.
+/// The picture that a valid plan comes to, reconstructed in this memory. An error is running out of memory.
 pub fn reconstruct_alone<T: Pixel>(
     alloc: Global,
     plan: &Plan,
@@ -180,7 +183,8 @@ pub fn reconstruct_alone<T: Pixel>(
     Ok(TilePicture { header, planes })
 }
 
-/// Reconstructs one tile in this memory, and puts it into the planes of its frame.
+/// Reconstructs one tile in this memory, and puts it into the planes of its frame. At an error the planes are as they
+/// were before.
 pub fn reconstruct_in<T: Pixel>(
     alloc: Global,
     planes: &mut Planes<T>,
@@ -194,9 +198,12 @@ pub fn reconstruct_in<T: Pixel>(
     requires planes { AreFrame file.now.front.header planes.old }
     requires room { HasRoomFor file.now.front.header memory.old }
     // Its own samples are those of its plan, and those of all other tiles stay.
-    ensures done { OnOk result ((plan : PlanValue) × IsTile (file_value file.now) index plan × ShowsTile (front_value file.now.front) index plan (samples_of T.num planes.new)
+    ensures done { OnOk result ((plan : PlanValue) × IsTile (file_value file.now) index plan ×
+        ShowsTile (front_value file.now.front) index plan (samples_of T.num planes.new)
         × ((other : ℕ) (plan : PlanValue) → other < count_tiles (front_value file.now.front) → other ≢ index
-        → ShowsTile (front_value file.now.front) other plan (samples_of T.num planes.old) → ShowsTile (front_value file.now.front) other plan (samples_of T.num planes.new))) }
+        → ShowsTile (front_value file.now.front) other plan (samples_of T.num planes.old) →
+        ShowsTile (front_value file.now.front) other plan (samples_of T.num planes.new))) }
+    ensures untouched { OnErr result (planes.new ≡ planes.old) }
     ensures planes { AreFrame file.now.front.header planes.new }
     ensures cells { memory.new.cells ≡ memory.old.cells }
     ensures refused { IfErr result (λ e. RefusesTile (file_value file.now) index e) }

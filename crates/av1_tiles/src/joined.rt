@@ -53,8 +53,9 @@ fn tile_error(tile: usize, error: TileError) -> TilesError
     }
 }
 
-/// The planes that the tiles of a grid come to: each tile is reconstructed from its own part, one after the other in raster order, and put
-/// into its rectangle of each plane. The planes of the frame, and the memory that tiles are reconstructed in, are taken once for all of them.
+/// The planes that the tiles of a grid come to: each tile is reconstructed from its own part, one after the other in
+/// raster order, and put into its rectangle of each plane. The planes of the frame, and the memory that tiles are
+/// reconstructed in, are taken once for all of them.
 ///
 /// # Errors
 ///

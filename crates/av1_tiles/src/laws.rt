@@ -4,19 +4,20 @@ ghost use Rattle.av1_tiles.specs.Joined.{TilesAreIsolated};
 ghost use Rattle.av1_tiles.specs.Outcomes.{OutcomesAreOne};
 ghost use Rattle.av1_tiles.specs.Texts.{FoundAtText, RefusedAtLongest};
 
-/// A law: no tile reads another. Where a tile of two grids has the same plan and the same corner, their frames agree at each of its samples.
+/// A law: no tile reads another. Where a tile of two grids has the same plan and the same corner, their frames agree at
+/// each of its samples.
 pub fn tiles_are_isolated()
     ensures { TilesAreIsolated }
 {}
 
-/// A law: bytes come to one outcome. So every sample of a frame lies in a tile, every tile has one plan, and a grid that is refused is refused
-/// for one reason.
+/// A law: bytes come to one outcome. So every sample of a frame lies in a tile, every tile has one plan, and a grid
+/// that is refused is refused for one reason.
 pub fn outcomes_are_one()
     ensures { OutcomesAreOne }
 {}
 
-/// A law: bytes are a grid exactly where they are its text. Others are refused where the longest list of fields at their front ends of which each
-/// is admitted after those before it.
+/// A law: bytes are a grid exactly where they are its text. Others are refused where the longest list of fields at
+/// their front ends of which each is admitted after those before it.
 pub fn grids_are_texts()
     ensures found { FoundAtText }
     ensures refused { RefusedAtLongest }

@@ -1,19 +1,21 @@
 //! A grid of tiles, none of which reads another: its format, the plan of each tile, and the frame that they come to.
 //!
-//! The format has the settings and the reference samples of a frame, where its tiles begin, and a part for each tile. A tile's plan has the
-//! tile's sides, its rectangle of each reference, and the leaves that its part spells by the plan grammar, so that a tile is reconstructed as
-//! a frame of its own, and its planes are put into those of the frame. [`reconstruct_tiles`] is the whole path: it reads a source to its end,
-//! reads the grid, reconstructs its tiles one after the other in raster order, and writes the planes of the frame, Y, U and V row by row.
+//! The format has the settings and the reference samples of a frame, where its tiles begin, and a part for each tile. A
+//! tile's plan has the tile's sides, its rectangle of each reference, and the leaves that its part spells by the plan
+//! grammar, so that a tile is reconstructed as a frame of its own, and its planes are put into those of the frame.
+//! [`reconstruct_tiles`] is the whole path: it reads a source to its end, reads the grid, reconstructs its tiles one
+//! after the other in raster order, and writes the planes of the frame, Y, U and V row by row.
 //!
-//! It stands on `av1_plan` for the fields of plans, on `av1_tile` for the samples of a tile, on `av1_streams` for sources and sinks, and on
-//! `av1_recon` for the writing of planes.
+//! It stands on `av1_plan` for the fields of plans, on `av1_tile` for the samples of a tile, on `av1_streams` for
+//! sources and sinks, and on `av1_recon` for the writing of planes.
 //!
-//! Promised: the outcome of bytes is one definition, `HasOutcome` (`specs/Outcomes.antt`), and each answer of [`reconstruct_tiles`] is read off
-//! it: Ok only where the bytes are a grid of valid tiles, and then exactly the bytes of the joined planes were appended; a refusal exactly where
-//! it is the outcome of the bytes, of the container before its tiles and of the first faulty tile before the others. [`read_tiles`] gives the
-//! grid that bytes are, or names the first field at fault; [`read_tile`] gives a tile's valid plan, or why there is none; [`place_tile`] writes
-//! a tile's planes into the tile's rectangle of each plane, and nothing else. The planes of the frame and the memory that tiles are reconstructed in
-//! are taken once.
+//! Promised: the outcome of bytes is one definition, `HasOutcome` (`specs/Outcomes.antt`), and each answer of
+//! [`reconstruct_tiles`] is read off it: Ok only where the bytes are a grid of valid tiles, and then exactly the bytes
+//! of the joined planes were appended; a refusal exactly where it is the outcome of the bytes, of the container before
+//! its tiles and of the first faulty tile before the others. [`read_tiles`] gives the grid that bytes are, or names the
+//! first field at fault; [`read_tile`] gives a tile's valid plan, or why there is none; [`place_tile`] writes a tile's
+//! planes into the tile's rectangle of each plane, and nothing else. The planes of the frame and the memory that tiles
+//! are reconstructed in are taken once.
 #![tactic(auto)]
 
 mod area;

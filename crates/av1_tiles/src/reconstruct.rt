@@ -18,13 +18,15 @@ use av1_recon::write_frame;
 use av1_streams::{Sink, Source, WriteFault, read_plan_bytes};
 use std::alloc::Global;
 
-/// Reads a grid of tiles from the source to its end, reconstructs each tile from its own part alone, and appends the visible planes of the
-/// frame that they come to to the sink: Y, U and V, each row by row, one byte a sample at depth 8, else two, the low one first.
+/// Reads a grid of tiles from the source to its end, reconstructs each tile from its own part alone, and appends the
+/// visible planes of the frame that they come to to the sink: Y, U and V, each row by row, one byte a sample at depth
+/// 8, else two, the low one first.
 ///
 /// # Errors
 ///
-/// `ReadFault` and `TooLong` while it reads, then `Malformed`, then `Tile`, then `WriteFault`. `Memory` may stand in place of any of them,
-/// before the first written byte: every tile is read, checked and reconstructed before anything is written.
+/// `ReadFault` and `TooLong` while it reads, then `Malformed`, then `Tile`, then `WriteFault`. `Memory` may stand in
+/// place of any of them, before the first written byte: every tile is read, checked and reconstructed before anything
+/// is written.
 pub fn reconstruct_tiles<R: Source, W: Sink>(
     alloc: Global,
     source: &mut R,

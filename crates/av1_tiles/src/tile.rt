@@ -10,7 +10,8 @@ ghost use Rattle.av1_tiles.specs.Bounds.{AreBounds, IsReadFront, IsReadFile};
 ghost use Rattle.av1_tiles.specs.File.{front_value, file_value};
 ghost use Rattle.av1_tiles.specs.Grammar.{count_tiles};
 ghost use Rattle.av1_tiles.specs.Validity.{IsTile, RefusesTile};
-ghost use Rattle.av1_tiles.specs.Tiles.{area_between, tile_area, IsTileArea, tile_header, rectangle, tile_plane, tile_planes, tile_references, tile_plan, part_of};
+ghost use Rattle.av1_tiles.specs.Tiles.{area_between, tile_area, IsTileArea, tile_header, rectangle, tile_plane, tile_planes, tile_references, tile_plan};
+ghost use Rattle.av1_tiles.specs.Tiles.{part_of};
 
 use crate::area::TileArea;
 use crate::error::{TileError, TileFault};
@@ -176,13 +177,13 @@ fn tile_references(
     Ok(cut)
 }
 
-/// The plan of tile number `index`, in raster order: the tile's sides, its rectangle of each reference plane, and the leaves that its part
-/// spells.
+/// The plan of tile number `index`, in raster order: the tile's sides, its rectangle of each reference plane, and the
+/// leaves that its part spells.
 ///
 /// # Errors
 ///
-/// `Malformed` names the start of the first field of the tile's part that is cut, not admitted or left over, counted from the part's first
-/// byte. `Memory` where memory runs out.
+/// `Malformed` names the start of the first field of the tile's part that is cut, not admitted or left over, counted
+/// from the part's first byte. `Memory` where memory runs out.
 pub fn parse_tile(alloc: Global, file: &TileFile<'_>, index: usize) -> Result<Plan, PlanError>
     requires read { IsReadFile file.now }
     requires tile { index < count_tiles (front_value file.now.front) }
@@ -202,8 +203,8 @@ pub fn parse_tile(alloc: Global, file: &TileFile<'_>, index: usize) -> Result<Pl
 ///
 /// # Errors
 ///
-/// `Refused` with `Malformed` where the tile's part spells no plan, as for [`parse_tile`], then with `Invalid` where a leaf of the plan is
-/// faulty. `Memory` where memory runs out.
+/// `Refused` with `Malformed` where the tile's part spells no plan, as for [`parse_tile`], then with `Invalid` where a
+/// leaf of the plan is faulty. `Memory` where memory runs out.
 pub fn read_tile(alloc: Global, file: &TileFile<'_>, index: usize) -> Result<Plan, TileError>
     requires read { IsReadFile file.now }
     requires tile { index < count_tiles (front_value file.now.front) }

@@ -24,7 +24,8 @@ not_ok : {X : Type 0} (e : SequenceError) (r : Answer) → r ≡ Err e → IsOk 
 not_ok e (Ok done) is ok = absurd cc
 not_ok e (Err d) is ok = absurd cc
 
-module _ {S K : Type 0} (left : S → Option (List ℕ)) (source_faults : S → ℕ) (taken : K → Option (List ℕ)) (sink_faults : K → ℕ) (source source' : S) (sink sink' : K) where
+module _ {S K : Type 0} (left : S → Option (List ℕ)) (source_faults : S → ℕ) (taken : K → Option (List ℕ)) (sink_faults : K → ℕ) (source source' : S)
+    (sink sink' : K) where
   abbrev EndsBy : ℕ → Type 0
   EndsBy status = EndsInTurn left source_faults taken sink_faults source source' sink sink' status
 
@@ -51,7 +52,9 @@ module _ {S K : Type 0} (left : S → Option (List ℕ)) (source_faults : S → 
     read_fault = λ h. absurd cc;
     write_fault = λ h. absurd cc;
     no_other = inr (inl refl);
-    complete = λ no_read no_write. IfSome_then (left source) (p.complete no_read no_write) (λ bytes f w d has. elim (f w d has) [ inl ok ↦ absurd cc | inr memory ↦ absurd cc ]);
+    complete =
+        λ no_read no_write. IfSome_then (left source) (p.complete no_read no_write)
+        (λ bytes f w d has. elim (f w d has) [ inl ok ↦ absurd cc | inr memory ↦ absurd cc ]);
     refuses = any (left source) _ (λ bytes w d has. inl refl);
   }
   error_ends e refused is given p = record {
@@ -61,7 +64,9 @@ module _ {S K : Type 0} (left : S → Option (List ℕ)) (source_faults : S → 
     read_fault = λ h. absurd cc;
     write_fault = λ h. absurd cc;
     no_other = inr (inl refl);
-    complete = λ no_read no_write. IfSome_then (left source) (p.complete no_read no_write) (λ bytes f w d has. elim (f w d has) [ inl ok ↦ absurd cc | inr memory ↦ absurd cc ]);
+    complete =
+        λ no_read no_write. IfSome_then (left source) (p.complete no_read no_write)
+        (λ bytes f w d has. elim (f w d has) [ inl ok ↦ absurd cc | inr memory ↦ absurd cc ]);
     refuses = any (left source) _ (λ bytes w d has. inl refl);
   }
   error_ends e no_memory is given p = record {
@@ -81,7 +86,9 @@ module _ {S K : Type 0} (left : S → Option (List ℕ)) (source_faults : S → 
     read_fault = λ h. (p.read_fault is, p.unwritten (before_frames e is));
     write_fault = λ h. absurd cc;
     no_other = inr (inr (inr (inl refl)));
-    complete = λ no_read no_write. IfSome_then (left source) (p.complete no_read no_write) (λ bytes f w d has. elim (f w d has) [ inl ok ↦ absurd cc | inr memory ↦ absurd cc ]);
+    complete =
+        λ no_read no_write. IfSome_then (left source) (p.complete no_read no_write)
+        (λ bytes f w d has. elim (f w d has) [ inl ok ↦ absurd cc | inr memory ↦ absurd cc ]);
     refuses = any (left source) _ (λ bytes w d has. inr (inr (inl refl)));
   }
   error_ends e write_failed is given p = record {
@@ -91,10 +98,13 @@ module _ {S K : Type 0} (left : S → Option (List ℕ)) (source_faults : S → 
     read_fault = λ h. absurd cc;
     write_fault = λ h. (p.write_fault is, given);
     no_other = inr (inr (inr (inr refl)));
-    complete = λ no_read no_write. IfSome_then (left source) (p.complete no_read no_write) (λ bytes f w d has. elim (f w d has) [ inl ok ↦ absurd cc | inr memory ↦ absurd cc ]);
+    complete =
+        λ no_read no_write. IfSome_then (left source) (p.complete no_read no_write)
+        (λ bytes f w d has. elim (f w d has) [ inl ok ↦ absurd cc | inr memory ↦ absurd cc ]);
     refuses = any (left source) _ (λ bytes w d has. inr (inr (inr refl)));
   }
 
-  pub ends_in_turn : (status : ℕ) (answer : Answer) → status ≡ answer_status cause_of written answer → PerformsInTurn left source_faults taken sink_faults source source' sink sink' answer → EndsBy status
+  pub ends_in_turn : (status : ℕ) (answer : Answer) → status ≡ answer_status cause_of written answer →
+      PerformsInTurn left source_faults taken sink_faults source source' sink sink' answer → EndsBy status
   ends_in_turn status (Ok done) is p = subst EndsBy (sym is) (ok_ends done p)
   ends_in_turn status (Err e) is p = subst EndsBy (sym is) (error_ends e (cause_of e) refl p.answers p)

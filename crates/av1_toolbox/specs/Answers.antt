@@ -39,7 +39,8 @@ abbrev pub sequence_line : SequenceError → List ℕ
 sequence_line sequence_errors.ReadFault = codes "read fault\n"
 sequence_line sequence_errors.TooLong = codes "too long\n"
 sequence_line (sequence_errors.Malformed at) = malformed_text at
-sequence_line (sequence_errors.Frame frame fault) = codes "frame " ++ decimal frame ++ codes " " ++ frame_fault_text fault
+sequence_line (sequence_errors.Frame frame fault) = codes "frame " ++ decimal frame ++ codes " "
+    ++ frame_fault_text fault
 sequence_line sequence_errors.WriteFault = codes "write fault\n"
 sequence_line sequence_errors.Memory = codes "out of memory\n"
 

@@ -1,15 +1,15 @@
-//! Tools round plans, each by its name, over any source and sinks: `tiles` reconstructs a grid of tiles, `trace` compares the planes of
-//! another encoder with a plan, `sequence` reconstructs frames that are predicted from those before them, and `bare` writes a plan without its
-//! coefficients.
+//! Tools round plans, each by its name, over any source and sinks: `tiles` reconstructs a grid of tiles, `trace`
+//! compares the planes of another encoder with a plan, `sequence` reconstructs frames that are predicted from those
+//! before them, and `bare` writes a plan without its coefficients.
 //!
-//! [`run_tools`] is all that the program `av1_tools` does with the words of its command line, so that other programs can run the tools over
-//! memory.
+//! [`run_tools`] is all that the program `av1_tools` does with the words of its command line, so that other programs
+//! can run the tools over memory.
 //!
-//! It stands on `av1_tiles`, `av1_trace`, `av1_sequence` and `av1_planwrite` for what the tools do, and on `av1_recon` for the lines and
-//! statuses of programs.
+//! It stands on `av1_tiles`, `av1_trace`, `av1_sequence` and `av1_planwrite` for what the tools do, and on `av1_recon`
+//! for the lines and statuses of programs.
 //!
-//! Promised: what the call of each tool promises, of the source, the output and the status, with the line of each answer; and what each
-//! status says of the bytes and of the output (`specs/Ends.antt`, `specs/EndsInTurn.antt`).
+//! Promised: what the call of each tool promises, of the source, the output and the status, with the line of each
+//! answer; and what each status says of the bytes and of the output (`specs/Ends.antt`, `specs/EndsInTurn.antt`).
 #![tactic(auto)]
 
 mod answer;

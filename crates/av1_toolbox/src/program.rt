@@ -30,22 +30,27 @@ use std::alloc::Global;
 // The status where the words are no tool's name.
 const NO_TOOL: u8 = 1;
 
-/// Does what the one word after the program's name asks for, and gives the exit status. `tiles` reads a grid of tiles from `source` and
-/// writes the planes of its frame to `out`; `trace` reads a plan and another encoder's planes, and writes a line on each leaf and plane that
-/// differs, or `same`; `sequence` reads a sequence of frames and writes the planes of each as soon as it is accepted; `bare` reads a plan and
-/// writes it without its coefficients. All other words are no tool's name.
+/// Does what the one word after the program's name asks for, and gives the exit status. `tiles` reads a grid of tiles
+/// from `source` and writes the planes of its frame to `out`; `trace` reads a plan and another encoder's planes, and
+/// writes a line on each leaf and plane that differs, or `same`; `sequence` reads a sequence of frames and writes the
+/// planes of each as soon as it is accepted; `bare` reads a plan and writes it without its coefficients. All other
+/// words are no tool's name.
 ///
 /// | status | where | line on `err` |
 /// |---|---|---|
 /// | 0 | the planes or the plan were written; the planes of a trace are the plan's | none |
 /// | 1 | the words are no tool's name | `usage: tools tiles \| trace \| sequence \| bare` |
-/// | 2 | the bytes are refused | `too long`, `malformed at N`; of `bare` `invalid leaf N: K`; of tiles `tile T malformed at N`, `tile T invalid leaf N: K`; of a trace `plan malformed at N`, `plan invalid leaf N: K`; of a sequence `frame F too large`, `frame F malformed at N`, `frame F invalid leaf N: K` |
+/// | 2 | the bytes are refused | `too long`, `malformed at N`; or what the tool says of a part, below |
 /// | 3 | memory ran out | `out of memory` |
 /// | 4 | a read failed | `read fault` |
 /// | 5 | a write failed | `write fault` |
 /// | 7 | planes of a trace differ | none |
 ///
-/// K is as in [`av1_recon::run`]. Of a sequence the planes of the frames before the one that is refused stand on `out`. Where a write to `err` failed a prefix of the line stands, and the status stays.
+/// Of a part that is refused, `bare` says `invalid leaf N: K`; `tiles` `tile T malformed at N` and `tile T invalid leaf
+/// N: K`; `trace` `plan malformed at N` and `plan invalid leaf N: K`; `sequence` `frame F too large`, `frame F
+/// malformed at N` and `frame F invalid leaf N: K`. K is as in [`av1_recon::run`]. Of a sequence the planes of the
+/// frames before the one that is refused stand on `out`. Where a write to `err` failed a prefix of the line stands, and
+/// the status stays.
 pub fn run_tools<R: Source, W: Sink, E: Sink>(
     alloc: Global,
     words: &[String],
@@ -70,10 +75,14 @@ pub fn run_tools<R: Source, W: Sink, E: Sink>(
 
     // What each status says.
     ensures status_1 { (result ≡ 1) ↔ (tool_of (map string_bytes words.now) ≡ None) }
-    ensures tiles_status { tool_of (map string_bytes words.now) ≡ Some Tiles → EndsWith IsSuccess tiles_task R.left R.faults W.taken W.faults source.old source.new out.old out.new result }
-    ensures trace_status { tool_of (map string_bytes words.now) ≡ Some Trace → EndsWith IsSuccess trace_task R.left R.faults W.taken W.faults source.old source.new out.old out.new result }
-    ensures sequence_status { tool_of (map string_bytes words.now) ≡ Some Sequence → EndsInTurn R.left R.faults W.taken W.faults source.old source.new out.old out.new result }
-    ensures bare_status { tool_of (map string_bytes words.now) ≡ Some Bare → EndsWith IsSuccess (plan_task bare_text) R.left R.faults W.taken W.faults source.old source.new out.old out.new result }
+    ensures tiles_status { tool_of (map string_bytes words.now) ≡ Some Tiles →
+        EndsWith IsSuccess tiles_task R.left R.faults W.taken W.faults source.old source.new out.old out.new result }
+    ensures trace_status { tool_of (map string_bytes words.now) ≡ Some Trace →
+        EndsWith IsSuccess trace_task R.left R.faults W.taken W.faults source.old source.new out.old out.new result }
+    ensures sequence_status { tool_of (map string_bytes words.now) ≡ Some Sequence →
+        EndsInTurn R.left R.faults W.taken W.faults source.old source.new out.old out.new result }
+    ensures bare_status { tool_of (map string_bytes words.now) ≡ Some Bare →
+        EndsWith IsSuccess (plan_task bare_text) R.left R.faults W.taken W.faults source.old source.new out.old out.new result }
 {
     match Tool::from_words(words) {
         Some(Tool::Tiles) => report_tiles(reconstruct_tiles(alloc, source, out), err),

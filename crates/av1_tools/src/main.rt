@@ -1,9 +1,9 @@
 //! Tools round plans, each by its name: `tiles` reconstructs a grid of tiles, `trace` compares the planes of
-//! another encoder with a plan, `sequence` reconstructs frames that are predicted from those before them, and `bare` writes a plan without its
-//! coefficients.
+//! another encoder with a plan, `sequence` reconstructs frames that are predicted from those before them, and `bare`
+//! writes a plan without its coefficients.
 //!
-//! All that the program does is `av1_toolbox::run_tools`; here are its real source and sinks. The words of its command line, the flush of
-//! its output and its exit status are `av1_recon::run_on_words`.
+//! All that the program does is `av1_toolbox::run_tools`; here are its real source and sinks. The words of its command
+//! line, the flush of its output and its exit status are `av1_recon::run_on_words`.
 #![tactic(auto)]
 
 use av1_recon::{ReadSource, WriteSink, run_on_words};

@@ -1,5 +1,6 @@
 -- What the code compares, in the words of the definition.
-use Rattle.std.proofs.Common.{◌≡◌, ◌≢◌, ℕ, zero, suc, ◌+◌, ◌-◌, ◌<◌, ◌≤◌, min, Bool, true, false, ◌==◌, not, List, [], ◌∷◌, ◌++◌, length, map, take, get_or, Option, Some, None, Result, Ok, Err, inl, inr, sym, ap, subst, ◌∙◌, arith, append-nil, append_assoc}
+use Rattle.std.proofs.Common.{◌≡◌, ◌≢◌, ℕ, zero, suc, ◌+◌, ◌-◌, ◌<◌, ◌≤◌, min, Bool, true, false, ◌==◌, not, List, [], ◌∷◌, ◌++◌, length, map, take, get_or}
+use Rattle.std.proofs.Common.{Option, Some, None, Result, Ok, Err, inl, inr, sym, ap, subst, ◌∙◌, arith, append-nil, append_assoc}
 use Rattle.std.specs.Prelude.{◌↔◌, IfNone, IfOk, IfSome, Vec, if◌then◌else◌}
 use Rattle.std.specs.Option.{option_map}
 use Rattle.std.proofs.lemmas.Bool.{cases_Bool, cases_lt, eqb-true}
@@ -18,7 +19,8 @@ use Rattle.av1_plan.specs.Plan.{LeafValue, PlanValue, leaf_value, leaf_values}
 use Rattle.av1_trace.specs.declared.comparison.Other.{Other}
 use Rattle.av1_trace.specs.declared.entry.Difference.{Difference}
 use Rattle.av1_trace.specs.Samples.{defined, given, sample_from}
-use Rattle.av1_trace.specs.Differences.{difference_at, differences, entries, first_difference, is_other, leaf_differences, leaves_differences, plane_differences, visible_places}
+use Rattle.av1_trace.specs.Differences.{difference_at, differences, entries, first_difference, is_other, leaf_differences, leaves_differences}
+use Rattle.av1_trace.specs.Differences.{plane_differences, visible_places}
 use Rattle.av1_trace.specs.Rows.{AgreeFrom, IsOther}
 use Rattle.av1_trace.proofs.Places.{first_passes}
 use Rattle.av1_trace.proofs.SameSamples.{agrees, none_listed}
@@ -38,9 +40,11 @@ is_row plan bytes p y h row numbers same f e = record {
 }
 
 -- a row is as long as its plane is wide
-pub row_is_long : {T : Type 0} (num : T → ℕ) (plan : PlanValue) (p y right : ℕ) (row : List T) → map num row ≡ plan_row plan p y → right ≤ plane_width plan.header p → right ≤ length row
+pub row_is_long : {T : Type 0} (num : T → ℕ) (plan : PlanValue) (p y right : ℕ) (row : List T) → map num row ≡ plan_row plan p y →
+    right ≤ plane_width plan.header p → right ≤ length row
 row_is_long num plan p y right row e h =
-    let long : length row ≡ plane_width plan.header p = sym (length-map row num) ∙ ap length e ∙ length-by_index (plane_width plan.header p) (λ x. defined plan p x y) in
+    let long : length row ≡ plane_width plan.header p = sym (length-map row num) ∙ ap length e
+    ∙ length-by_index (plane_width plan.header p) (λ x. defined plan p x y) in
     omega (arith, h, long)
 
 pub few_columns : (h k : Header) (p right : ℕ) → k ≡ h → IsReadFrame k → right ≤ plane_width h p → right ≤ 65536
@@ -49,23 +53,27 @@ few_columns h k p right same read within =
     let frame : IsReadFrame h = subst IsReadFrame same read in
     omega (arith, within, frame.width.most)
 
-number_is : (plan : PlanValue) (bytes : List ℕ) (p y x depth : ℕ) (row numbers : List ℕ) → IsRow plan bytes p y depth row numbers → x < plane_width plan.header p → get_or numbers x 0 ≡ defined plan p x y
+number_is : (plan : PlanValue) (bytes : List ℕ) (p y x depth : ℕ) (row numbers : List ℕ) → IsRow plan bytes p y depth row numbers →
+    x < plane_width plan.header p → get_or numbers x 0 ≡ defined plan p x y
 number_is plan bytes p y x depth row numbers is h =
     ap (λ l. get_or l x 0) is.numbers_are ∙ get_or-by_index (plane_width plan.header p) (λ c. defined plan p c y) x 0 h
 
-row_agrees : (plan : PlanValue) (bytes : List ℕ) (p y left right depth : ℕ) (row numbers : List ℕ) → IsRow plan bytes p y depth row numbers → right ≤ plane_width plan.header p
+row_agrees : (plan : PlanValue) (bytes : List ℕ) (p y left right depth : ℕ) (row numbers : List ℕ) → IsRow plan bytes p y depth row numbers →
+    right ≤ plane_width plan.header p
     → ((x : ℕ) → left ≤ x → x < right → sample_from depth row x ≡ get_or numbers x 0) → AgreeFrom plan bytes p y left right
 row_agrees plan bytes p y left right depth row numbers is within same x l h =
     let inside : x < plane_width plan.header p = omega arith in
     sym (is.given_are x inside) ∙ same x l h ∙ number_is plan bytes p y x depth row numbers is inside
 
 -- what is said of a row's bytes and numbers, said of the plane
-pub none_in_row : (plan : PlanValue) (bytes : List ℕ) (p y left right depth : ℕ) (row numbers : List ℕ) (found : Option Other) → IsRow plan bytes p y depth row numbers → right ≤ plane_width plan.header p
+pub none_in_row : (plan : PlanValue) (bytes : List ℕ) (p y left right depth : ℕ) (row numbers : List ℕ) (found : Option Other) →
+    IsRow plan bytes p y depth row numbers → right ≤ plane_width plan.header p
     → IfNone found ((x : ℕ) → left ≤ x → x < right → sample_from depth row x ≡ get_or numbers x 0) → IfNone found (AgreeFrom plan bytes p y left right)
 none_in_row plan bytes p y left right depth row numbers None is within same = row_agrees plan bytes p y left right depth row numbers is within same
 none_in_row plan bytes p y left right depth row numbers (Some other) is within same = tt
 
-pub some_in_row : (plan : PlanValue) (bytes : List ℕ) (p y left right depth : ℕ) (row numbers : List ℕ) (found : Option Other) → IsRow plan bytes p y depth row numbers → right ≤ plane_width plan.header p
+pub some_in_row : (plan : PlanValue) (bytes : List ℕ) (p y left right depth : ℕ) (row numbers : List ℕ) (found : Option Other) →
+    IsRow plan bytes p y depth row numbers → right ≤ plane_width plan.header p
     → IfSome found (λ other. (left ≤ other.column) × (other.column < right) × (other.given ≢ other.defined))
     → IfSome found (λ other. (other.given ≡ sample_from depth row other.column) × (other.defined ≡ get_or numbers other.column 0))
     → IfSome found (λ other. (x : ℕ) → left ≤ x → x < other.column → sample_from depth row x ≡ get_or numbers x 0)
@@ -96,7 +104,8 @@ abbrev pub AgreeAbove : PlanValue → List ℕ → (p left right top y : ℕ) �
 AgreeAbove plan bytes p left right top y = (x r : ℕ) → left ≤ x → x < right → top ≤ r → r < y → given plan.header bytes p x r ≡ defined plan p x r
 
 -- one row more
-pub one_row_more : (plan : PlanValue) (bytes : List ℕ) (p left right top y : ℕ) → AgreeAbove plan bytes p left right top y → AgreeFrom plan bytes p y left right → AgreeAbove plan bytes p left right top (y + 1)
+pub one_row_more : (plan : PlanValue) (bytes : List ℕ) (p left right top y : ℕ) → AgreeAbove plan bytes p left right top y →
+    AgreeFrom plan bytes p y left right → AgreeAbove plan bytes p left right top (y + 1)
 one_row_more plan bytes p left right top y above here x r a b t u = elim (cases_lt r y) [
   | inl l ↦ above x r a b t l
   | inr l ↦ let same : y ≡ r = omega arith in subst (λ (z : ℕ). given plan.header bytes p x z ≡ defined plan p x z) same (here x a b)
@@ -110,7 +119,8 @@ pub record IsRectangle (h : Header) (p : ℕ) (a : PlaneArea) (left right top bo
   pub bottom_is : bottom ≡ min (a.y + block_height a.size) (plane_height h p)
 
 -- all of its rows agree
-pub all_agree : (plan : PlanValue) (bytes : List ℕ) (n p : ℕ) (a : PlaneArea) (left right top bottom y : ℕ) → IsRectangle plan.header p a left right top bottom → bottom ≤ y
+pub all_agree : (plan : PlanValue) (bytes : List ℕ) (n p : ℕ) (a : PlaneArea) (left right top bottom y : ℕ) →
+    IsRectangle plan.header p a left right top bottom → bottom ≤ y
     → AgreeAbove plan bytes p left right top y → None ≡ first_difference plan bytes n p a
 all_agree plan bytes n p a left right top bottom y is end same =
     sym (none_listed plan bytes n p a (λ x r v.
@@ -130,7 +140,8 @@ again : (a z : ℕ) → a ≤ z → z ≡ a + (z - a)
 again a z l = omega arith
 
 -- the difference of a rectangle is that of the first row in which there is one
-pub first_is : (plan : PlanValue) (bytes : List ℕ) (n p : ℕ) (a : PlaneArea) (left right top bottom y : ℕ) (other : Other) → IsRectangle plan.header p a left right top bottom
+pub first_is : (plan : PlanValue) (bytes : List ℕ) (n p : ℕ) (a : PlaneArea) (left right top bottom y : ℕ) (other : Other) →
+    IsRectangle plan.header p a left right top bottom
     → top ≤ y → y < bottom → IsOther plan bytes p y left right other → AgreeAbove plan bytes p left right top y
     → Some (record { leaf = n; plane = p; row = y; column = other.column; given = other.given; defined = other.defined }) ≡ first_difference plan bytes n p a
 unfolding first_difference visible_places
@@ -141,29 +152,38 @@ first_is plan bytes n p a left right top bottom y other box over below is above 
     let from : a.x ≤ x = omega (arith, is.from, box.left_is) in
     let begins : a.y ≤ y = omega (arith, over, box.top_is) in
     let ne : given h bytes p x y ≢ defined plan p x y = λ same. is.differs (is.given_is ∙ same ∙ sym is.defined_is) in
-    let found = first_passes q a.x (min (a.x + block_width a.size) (plane_width h p) - a.x) a.y (min (a.y + block_height a.size) (plane_height h p) - a.y) (x - a.x) (y - a.y) x y
-    (in_count a.x (block_width a.size) (plane_width h p) right box.right_is x from is.before) (in_count a.y (block_height a.size) (plane_height h p) bottom box.bottom_is y begins below)
+    let found = first_passes q a.x (min (a.x + block_width a.size) (plane_width h p) - a.x) a.y (min (a.y + block_height a.size) (plane_height h p) - a.y)
+    (x - a.x) (y - a.y) x y
+    (in_count a.x (block_width a.size) (plane_width h p) right box.right_is x from is.before)
+    (in_count a.y (block_height a.size) (plane_height h p) bottom box.bottom_is y begins below)
     (again a.x x from) (again a.y y begins)
     (other_at (given h bytes p x y) (defined plan p x y) ne)
     (λ z l m. agrees (given h bytes p z y) (defined plan p z y) (is.first z (omega (arith, l, box.left_is)) m))
     (λ z r l m t b. agrees (given h bytes p z r) (defined plan p z r)
-    (above z r (omega (arith, l, box.left_is)) (side_is a.x (block_width a.size) (plane_width h p) right box.right_is z m l) (omega (arith, t, box.top_is)) b)) in
+    (above z r (omega (arith, l, box.left_is)) (side_is a.x (block_width a.size) (plane_width h p) right box.right_is z m l) (omega (arith, t, box.top_is)) b))
+    in
     sym (ap (option_map (difference_at plan bytes n p)) found
-    ∙ ap (λ (v : ℕ). let o : Option Difference = Some (record { leaf = n; plane = p; row = y; column = x; given = v; defined = defined plan p x y }) in o) (sym is.given_is)
-    ∙ ap (λ (v : ℕ). let o : Option Difference = Some (record { leaf = n; plane = p; row = y; column = x; given = other.given; defined = v }) in o) (sym is.defined_is))
+    ∙ ap (λ (v : ℕ). let o : Option Difference = Some (record { leaf = n; plane = p; row = y; column = x; given = v; defined = defined plan p x y }) in o)
+    (sym is.given_is)
+    ∙ ap (λ (v : ℕ). let o : Option Difference = Some (record { leaf = n; plane = p; row = y; column = x; given = other.given; defined = v }) in o)
+    (sym is.defined_is))
 
 -- ---- leaves
 
 -- a leaf that covers nothing of the plane has no entry there
-pub none_uncovered : (plan : PlanValue) (bytes : List ℕ) (n p : ℕ) (l : LeafValue) (h : Header) (list : List Difference) → h ≡ plan.header → covers_plane h l.x l.y l.size p ≡ false → list ≡ list ++ plane_differences plan bytes n l p
+pub none_uncovered : (plan : PlanValue) (bytes : List ℕ) (n p : ℕ) (l : LeafValue) (h : Header) (list : List Difference) → h ≡ plan.header →
+    covers_plane h l.x l.y l.size p ≡ false → list ≡ list ++ plane_differences plan bytes n l p
 unfolding plane_differences
 none_uncovered plan bytes n p l h list same uncovered =
     let own : covers_plane plan.header l.x l.y l.size p ≡ false = subst (λ (k : Header). covers_plane k l.x l.y l.size p ≡ false) same uncovered in
-    sym (append-nil list) ∙ ap (λ (b : Bool). list ++ (if b then entries (first_difference plan bytes n p (plane_area plan.header l.x l.y l.size l.tx_size p)) else [])) (sym own)
+    sym (append-nil list)
+    ∙ ap (λ (b : Bool). list ++ (if b then entries (first_difference plan bytes n p (plane_area plan.header l.x l.y l.size l.tx_size p)) else [])) (sym own)
 
 -- one that covers a part of it has the first of its rectangle
-pub some_covered : (plan : PlanValue) (bytes : List ℕ) (n p : ℕ) (l : LeafValue) (h : Header) (a : PlaneArea) (found : Option Difference) (list : List Difference) → h ≡ plan.header → covers_plane h l.x l.y l.size p ≡ true
-    → a ≡ plane_area h l.x l.y l.size l.tx_size p → found ≡ first_difference plan bytes n p a → list ++ entries found ≡ list ++ plane_differences plan bytes n l p
+pub some_covered : (plan : PlanValue) (bytes : List ℕ) (n p : ℕ) (l : LeafValue) (h : Header) (a : PlaneArea) (found : Option Difference)
+    (list : List Difference) → h ≡ plan.header → covers_plane h l.x l.y l.size p ≡ true
+    → a ≡ plane_area h l.x l.y l.size l.tx_size p → found ≡ first_difference plan bytes n p a →
+    list ++ entries found ≡ list ++ plane_differences plan bytes n l p
 unfolding plane_differences
 some_covered plan bytes n p l h a found list same covered area is =
     let own : covers_plane plan.header l.x l.y l.size p ≡ true = subst (λ (k : Header). covers_plane k l.x l.y l.size p ≡ true) same covered in
@@ -173,7 +193,8 @@ some_covered plan bytes n p l h a found list same covered area is =
 
 -- one leaf more
 pub leaves_more : (plan : PlanValue) (bytes : List ℕ) (a : ℕ) (leaves : List LeafValue) (n : ℕ) (d : LeafValue) → n < length leaves
-    → leaves_differences plan bytes a (take (suc n) leaves) ≡ leaves_differences plan bytes a (take n leaves) ++ leaf_differences plan bytes (a + n) (get_or leaves n d)
+    → leaves_differences plan bytes a (take (suc n) leaves) ≡ leaves_differences plan bytes a (take n leaves)
+    ++ leaf_differences plan bytes (a + n) (get_or leaves n d)
 leaves_more plan bytes a [] n d h = absurd (omega arith)
 leaves_more plan bytes a (l ∷ leaves) zero d h =
     let none : a + 0 ≡ a = omega arith in
@@ -181,8 +202,10 @@ leaves_more plan bytes a (l ∷ leaves) zero d h =
 leaves_more plan bytes a (l ∷ leaves) (suc n) d h =
     let place : a + 1 + n ≡ a + suc n = omega arith in
     ap (λ ds. leaf_differences plan bytes a l ++ ds) (leaves_more plan bytes (a + 1) leaves n d (omega arith))
-    ∙ sym (append_assoc (leaf_differences plan bytes a l) (leaves_differences plan bytes (a + 1) (take n leaves)) (leaf_differences plan bytes (a + 1 + n) (get_or leaves n d)))
-    ∙ ap (λ (z : ℕ). leaf_differences plan bytes a l ++ leaves_differences plan bytes (a + 1) (take n leaves) ++ leaf_differences plan bytes z (get_or leaves n d)) place
+    ∙ sym (append_assoc (leaf_differences plan bytes a l) (leaves_differences plan bytes (a + 1) (take n leaves))
+    (leaf_differences plan bytes (a + 1 + n) (get_or leaves n d)))
+    ∙ ap (λ (z : ℕ). leaf_differences plan bytes a l ++ leaves_differences plan bytes (a + 1) (take n leaves)
+    ++ leaf_differences plan bytes z (get_or leaves n d)) place
 
 -- the differences of the leaves before one, and those of that leaf
 pub next_leaf : (plan : Plan) (bytes : List ℕ) (n : ℕ) (d : Leaf) (before list : List Difference) → n < length (stored_leaves plan)
@@ -204,7 +227,8 @@ next_leaf plan bytes n d before list h e f =
     ∙ ap (λ (m : ℕ). leaves_differences value bytes 0 (take m value.leaves)) (sym one)
 
 -- once all leaves are compared
-pub last_leaf : (plan : Plan) (bytes : List ℕ) (n : ℕ) (list : List Difference) → length (stored_leaves plan) ≤ n → list ≡ leaves_differences (plan_value plan) bytes 0 (take n (plan_value plan).leaves) → list ≡ differences (plan_value plan) bytes
+pub last_leaf : (plan : Plan) (bytes : List ℕ) (n : ℕ) (list : List Difference) → length (stored_leaves plan) ≤ n →
+    list ≡ leaves_differences (plan_value plan) bytes 0 (take n (plan_value plan).leaves) → list ≡ differences (plan_value plan) bytes
 unfolding differences leaf_values
 last_leaf plan bytes n list h e =
     let value = plan_value plan in
@@ -212,6 +236,7 @@ last_leaf plan bytes n list h e =
     e ∙ ap (leaves_differences value bytes 0) (take_all n value.leaves many)
 
 -- what holds of the differences holds of a list that is these
-pub same_list : {E A : Type 0} (result : Result (Vec Difference A) E) (ds : List Difference) (P : Type 0) → IfOk result (λ list. list.items ≡ ds) → (ds ≡ []) ↔ P → IfOk result (λ list. (list.items ≡ []) ↔ P)
+pub same_list : {E A : Type 0} (result : Result (Vec Difference A) E) (ds : List Difference) (P : Type 0) → IfOk result (λ list. list.items ≡ ds) →
+    (ds ≡ []) ↔ P → IfOk result (λ list. (list.items ≡ []) ↔ P)
 same_list (Err e) ds P is same = tt
 same_list (Ok list) ds P is (there, back) = (λ e. there (sym is ∙ e), λ p. is ∙ back p)

@@ -33,7 +33,12 @@ few_of_leaf plan bytes n l =
 few_of_leaves : (plan : PlanValue) (bytes : List ℕ) (n : ℕ) (leaves : List LeafValue) → length (leaves_differences plan bytes n leaves) ≤ 3 * length leaves
 few_of_leaves plan bytes n [] = omega arith
 few_of_leaves plan bytes n (l ∷ leaves) =
-    omega (arith, length-append (leaf_differences plan bytes n l) (leaves_differences plan bytes (n + 1) leaves), few_of_leaf plan bytes n l, few_of_leaves plan bytes (n + 1) leaves)
+    omega (
+      arith,
+      length-append (leaf_differences plan bytes n l) (leaves_differences plan bytes (n + 1) leaves),
+      few_of_leaf plan bytes n l,
+      few_of_leaves plan bytes (n + 1) leaves,
+    )
 
 -- a plan has few leaves, so it has few differences
 pub few_differences : (plan : Plan) (bytes : List ℕ) (list : List Difference) → list ≡ differences (plan_value plan) bytes → length list < 2 ^ 32

@@ -1,5 +1,6 @@
 -- How many samples the planes of a frame have.
-use Rattle.std.proofs.Common.{◌≡◌, ◌≢◌, ℕ, zero, suc, ◌+◌, ◌-◌, ◌*◌, ◌==◌, ◌<◌, ◌≤◌, Bool, false, inl, inr, List, get_or, take, drop, ap, sym, subst, ◌∙◌, arith}
+use Rattle.std.proofs.Common.{◌≡◌, ◌≢◌, ℕ, zero, suc, ◌+◌, ◌-◌, ◌*◌, ◌==◌, ◌<◌, ◌≤◌, Bool, false, inl, inr, List, get_or, take, drop, ap, sym, subst, ◌∙◌}
+use Rattle.std.proofs.Common.{arith}
 use Rattle.std.specs.Prelude.{if◌then◌else◌}
 use Rattle.std.proofs.lemmas.Bool.{cases_Bool, eqb-true}
 use Rattle.std.proofs.lemmas.List.{get_or-take, get_or-drop}
@@ -41,7 +42,8 @@ row_is_small h p y w read below e =
     subst (λ (v : ℕ). y * v + v ≤ 4194304) (sym e) here
 
 -- the bytes of a row lie among those of the planes
-pub bytes_fit : (h : Header) (p y before w n : ℕ) → n ≡ planes_len h → before ≡ samples_before h p → w ≡ plane_width h p → p < 3 → y < plane_height h p → sample_len h.depth * (before + y * w + w) ≤ n
+pub bytes_fit : (h : Header) (p y before w n : ℕ) → n ≡ planes_len h → before ≡ samples_before h p → w ≡ plane_width h p → p < 3 → y < plane_height h p →
+    sample_len h.depth * (before + y * w + w) ≤ n
 unfolding planes_len
 bytes_fit h p y before w n whole b e few below =
     let fits : before + y * plane_width h p + plane_width h p ≤ samples_before h 3 = omega (arith, row_fits h p y few below, b) in
@@ -51,11 +53,13 @@ bytes_fit h p y before w n whole b e few below =
 -- ---- bytes of samples
 
 -- a sample of a part of the bytes, at depth 8
-pub narrow_part : (depth start count : ℕ) (bytes : List ℕ) → depth ≡ 8 → (i : ℕ) → i < count → sample_from depth (take (start + count - start) (drop start bytes)) i ≡ sample_from depth bytes (start + i)
+pub narrow_part : (depth start count : ℕ) (bytes : List ℕ) → depth ≡ 8 → (i : ℕ) → i < count →
+    sample_from depth (take (start + count - start) (drop start bytes)) i ≡ sample_from depth bytes (start + i)
 unfolding sample_from
 narrow_part depth start count bytes e i h =
     let within : i < start + count - start = omega arith in
-    let part : get_or (take (start + count - start) (drop start bytes)) i 0 ≡ get_or bytes (start + i) 0 = get_or-take (start + count - start) (drop start bytes) i 0 within ∙ get_or-drop start bytes i 0 in
+    let part : get_or (take (start + count - start) (drop start bytes)) i 0 ≡ get_or bytes (start + i) 0 =
+    get_or-take (start + count - start) (drop start bytes) i 0 within ∙ get_or-drop start bytes i 0 in
     subst (λ (d : ℕ). sample_from d (take (start + count - start) (drop start bytes)) i ≡ sample_from d bytes (start + i)) (sym e) part
 
 wide_sample : (depth : ℕ) (bytes : List ℕ) (i : ℕ) → depth ≢ 8 → sample_from depth bytes i ≡ get_or bytes (2 * i) 0 + 256 * get_or bytes (2 * i + 1) 0
@@ -71,10 +75,13 @@ part_of : (bytes : List ℕ) (start n i j : ℕ) → i < n → j ≡ start + i �
 part_of bytes start n i j h e = get_or-take n (drop start bytes) i 0 h ∙ get_or-drop start bytes i 0 ∙ ap (λ (z : ℕ). get_or bytes z 0) (sym e)
 
 -- the same at the other depths
-pub wide_part : (depth start count : ℕ) (bytes : List ℕ) → depth ≢ 8 → (i : ℕ) → i < count → sample_from depth (take (2 * (start + count) - 2 * start) (drop (2 * start) bytes)) i ≡ sample_from depth bytes (start + i)
+pub wide_part : (depth start count : ℕ) (bytes : List ℕ) → depth ≢ 8 → (i : ℕ) → i < count →
+    sample_from depth (take (2 * (start + count) - 2 * start) (drop (2 * start) bytes)) i ≡ sample_from depth bytes (start + i)
 wide_part depth start count bytes n i h =
     let part = take (2 * (start + count) - 2 * start) (drop (2 * start) bytes) in
-    let low : get_or part (2 * i) 0 ≡ get_or bytes (2 * (start + i)) 0 = part_of bytes (2 * start) (2 * (start + count) - 2 * start) (2 * i) (2 * (start + i)) (omega arith) (omega arith) in
-    let high : get_or part (2 * i + 1) 0 ≡ get_or bytes (2 * (start + i) + 1) 0 = part_of bytes (2 * start) (2 * (start + count) - 2 * start) (2 * i + 1) (2 * (start + i) + 1) (omega arith) (omega arith) in
+    let low : get_or part (2 * i) 0 ≡ get_or bytes (2 * (start + i)) 0 =
+    part_of bytes (2 * start) (2 * (start + count) - 2 * start) (2 * i) (2 * (start + i)) (omega arith) (omega arith) in
+    let high : get_or part (2 * i + 1) 0 ≡ get_or bytes (2 * (start + i) + 1) 0 =
+    part_of bytes (2 * start) (2 * (start + count) - 2 * start) (2 * i + 1) (2 * (start + i) + 1) (omega arith) (omega arith) in
     wide_sample depth part i n ∙ ap (λ (v : ℕ). v + 256 * get_or part (2 * i + 1) 0) low ∙ ap (λ (v : ℕ). get_or bytes (2 * (start + i)) 0 + 256 * v) high
     ∙ sym (wide_sample depth bytes (start + i) n)

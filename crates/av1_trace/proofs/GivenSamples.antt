@@ -1,5 +1,6 @@
 -- Bytes are those of the samples that they give.
-use Rattle.std.proofs.Common.{◌≡◌, ℕ, zero, suc, ◌+◌, ◌*◌, ◌/◌, ◌%◌, ◌^◌, ◌<◌, Bool, true, false, ◌==◌, All, List, [], ◌∷◌, ◌++◌, length, map, get_or, refl, sym, ap, ◌∙◌, arith}
+use Rattle.std.proofs.Common.{◌≡◌, ℕ, zero, suc, ◌+◌, ◌*◌, ◌/◌, ◌%◌, ◌^◌, ◌<◌, Bool, true, false, ◌==◌, All, List, [], ◌∷◌, ◌++◌, length, map, get_or, refl}
+use Rattle.std.proofs.Common.{sym, ap, ◌∙◌, arith}
 use Rattle.std.specs.Prelude.{if◌then◌else◌}
 use mathlib.Core.Path.{fun_ext}
 use Rattle.std.specs.List.{flat_map, range_with_len}
@@ -61,7 +62,8 @@ low_of low high l = omega arith
 high_of : (low high : ℕ) → low < 256 → (low + 256 * high) / 256 ≡ high
 high_of low high l = omega arith
 
-spelled_by : (narrow : Bool) (n : ℕ) (bytes : List ℕ) → length bytes ≡ len_by narrow * n → All (λ byte. byte < 2 ^ 8) bytes → flat_map (bytes_by narrow) (by_index n (from_by narrow bytes)) ≡ bytes
+spelled_by : (narrow : Bool) (n : ℕ) (bytes : List ℕ) → length bytes ≡ len_by narrow * n → All (λ byte. byte < 2 ^ 8) bytes →
+    flat_map (bytes_by narrow) (by_index n (from_by narrow bytes)) ≡ bytes
 spelled_by true zero [] e all = refl
 spelled_by true zero (b ∷ bytes) e all = absurd (omega (arith, e))
 spelled_by true (suc n) [] e all = absurd (omega (arith, e))
@@ -81,7 +83,8 @@ spelled_by false (suc n) (low ∷ high ∷ bytes) e all =
     ∙ ap (λ l. low ∷ high ∷ l) (spelled_by false n bytes (omega (arith, e)) (rest_bytes high bytes (rest_bytes low (high ∷ bytes) all)))
 
 -- bytes are those of their samples
-spelled : (depth n : ℕ) (bytes : List ℕ) → length bytes ≡ sample_len depth * n → AreBytes bytes → flat_map (sample_bytes depth) (by_index n (sample_from depth bytes)) ≡ bytes
+spelled : (depth n : ℕ) (bytes : List ℕ) → length bytes ≡ sample_len depth * n → AreBytes bytes →
+    flat_map (sample_bytes depth) (by_index n (sample_from depth bytes)) ≡ bytes
 unfolding sample_len sample_from
 spelled depth n bytes e all = spelled_by (depth == 8) n bytes e all
 
@@ -99,7 +102,8 @@ rows_from f b w a (suc h) =
     let whole : w + h * w ≡ suc h * w = omega arith in
     let start : b + a * w + 0 ≡ b + a * w = omega arith in
     let first : by_index w (λ x. f (b + (a * w + x))) ≡ map f (range_with_len (b + a * w) w) =
-    ap (λ (g : ℕ → ℕ). by_index w g) (fun_ext (λ x. ap f (added_on b (a * w) x))) ∙ moved f (b + a * w) 0 w ∙ ap (λ (z : ℕ). map f (range_with_len z w)) start in
+    ap (λ (g : ℕ → ℕ). by_index w g) (fun_ext (λ x. ap f (added_on b (a * w) x))) ∙ moved f (b + a * w) 0 w ∙ ap (λ (z : ℕ). map f (range_with_len z w)) start
+    in
     ap (λ l. l ++ flat_map (λ y. by_index w (λ x. f (b + (y * w + x)))) (range_with_len (a + 1) h)) first
     ∙ ap (λ l. map f (range_with_len (b + a * w) w) ++ l) (rows_from f b w (a + 1) h ∙ ap (λ (z : ℕ). map f (range_with_len z (h * w))) (sym next))
     ∙ sym (map-append f (range_with_len (b + a * w) w) (range_with_len (b + a * w + w) (h * w)))
@@ -108,7 +112,8 @@ rows_from f b w a (suc h) =
 -- ---- planes
 
 -- the samples that bytes give in a plane stand there one after the other
-plane_given : (h : Header) (bytes : List ℕ) (p : ℕ) → by_rows (extent_of h p) (given h bytes p) ≡ map (sample_from h.depth bytes) (range_with_len (samples_before h p) (plane_len h p))
+plane_given : (h : Header) (bytes : List ℕ) (p : ℕ) →
+    by_rows (extent_of h p) (given h bytes p) ≡ map (sample_from h.depth bytes) (range_with_len (samples_before h p) (plane_len h p))
 plane_given h bytes p =
     let f = sample_from h.depth bytes in
     let b = samples_before h p in
@@ -120,12 +125,14 @@ plane_given h bytes p =
     ∙ ap (λ (z : ℕ). map f (range_with_len b z)) (mul_comm (plane_height h p) w)
 
 -- one plane more
-plane_more : (h : Header) (f : ℕ → ℕ) (p : ℕ) → map f (range_with_len 0 (samples_before h p)) ++ map f (range_with_len (samples_before h p) (plane_len h p)) ≡ map f (range_with_len 0 (samples_before h (suc p)))
+plane_more : (h : Header) (f : ℕ → ℕ) (p : ℕ) → map f (range_with_len 0 (samples_before h p)) ++ map f (range_with_len (samples_before h p) (plane_len h p)) ≡
+    map f (range_with_len 0 (samples_before h (suc p)))
 unfolding samples_before
 plane_more h f p =
     let none : 0 + samples_before h p ≡ samples_before h p = omega arith in
     sym (map-append f (range_with_len 0 (samples_before h p)) (range_with_len (samples_before h p) (plane_len h p)))
-    ∙ ap (map f) (ap (λ (z : ℕ). range_with_len 0 (samples_before h p) ++ range_with_len z (plane_len h p)) (sym none) ∙ sym (range-append 0 (samples_before h p) (plane_len h p)))
+    ∙ ap (map f) (ap (λ (z : ℕ). range_with_len 0 (samples_before h p) ++ range_with_len z (plane_len h p)) (sym none)
+    ∙ sym (range-append 0 (samples_before h p) (plane_len h p)))
 
 no_samples : (h : Header) (f : ℕ → ℕ) → map f (range_with_len 0 (samples_before h 0)) ≡ []
 unfolding samples_before

@@ -1,5 +1,6 @@
 -- What is found among the places of a rectangle.
-use Rattle.std.proofs.Common.{◌≡◌, ℕ, zero, suc, ◌+◌, ◌<◌, ◌≤◌, ◌⊎◌, inl, inr, Bool, true, false, cond, map, Option, Some, None, refl, sym, ap, subst, ◌∙◌, arith}
+use Rattle.std.proofs.Common.{◌≡◌, ℕ, zero, suc, ◌+◌, ◌<◌, ◌≤◌, ◌⊎◌, inl, inr, Bool, true, false, cond, map, Option, Some, None, refl, sym, ap, subst, ◌∙◌}
+use Rattle.std.proofs.Common.{arith}
 use Rattle.std.specs.Prelude.{find}
 use Rattle.std.specs.List.{range_with_len}
 use Rattle.std.specs.Option.{option_or}
@@ -26,7 +27,8 @@ module _ (q : Place → Bool) where
       let here : q (at y x0) ≡ false = h x0 (omega arith) (omega arith) in
       rw here (row_none y (x0 + 1) n (λ x a b. h x (omega arith) (omega arith)))
 
-  row_some : (y x0 n k x : ℕ) → k < n → x ≡ x0 + k → q (at y x) ≡ true → ((z : ℕ) → x0 ≤ z → z < x → q (at y z) ≡ false) → find q (map (at y) (range_with_len x0 n)) ≡ Some (at y x)
+  row_some : (y x0 n k x : ℕ) → k < n → x ≡ x0 + k → q (at y x) ≡ true → ((z : ℕ) → x0 ≤ z → z < x → q (at y z) ≡ false) →
+      find q (map (at y) (range_with_len x0 n)) ≡ Some (at y x)
   row_some y x0 zero k x l e passes h = absurd (omega arith)
   row_some y x0 (suc n) zero x l e passes h =
       let same : x ≡ x0 = omega arith in

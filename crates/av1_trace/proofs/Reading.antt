@@ -18,10 +18,13 @@ blames read_errors.TooLong = refl
 blames read_errors.Memory = refl
 
 -- where the bytes of a trace couldn't be read, nothing is found
-pub trace_unread : {V S : Type 0} (Found : List ℕ → Result V TraceError → Type 0) (left : S → Option (List ℕ)) (faults : S → ℕ) (source source' : S) (result : Result V TraceError) (e : ReadError)
+pub trace_unread : {V S : Type 0} (Found : List ℕ → Result V TraceError → Type 0) (left : S → Option (List ℕ)) (faults : S → ℕ) (source source' : S)
+    (result : Result V TraceError) (e : ReadError)
     → TakesAtMost (max_trace_bytes + 1) (left source) (left source') → faults source ≤ faults source'
     → (read_err e ≡ read_err read_errors.ReadFault → FaultCounted (faults source) (faults source'))
+    → (¬ (read_err e ≡ read_err read_errors.ReadFault) → faults source' ≡ faults source)
     → (read_err e ≡ read_err read_errors.TooLong → Takes (max_trace_bytes + 1) (left source) (left source'))
     → IsErrAnd result (λ x. x ≡ read_error e) → Reads max_trace_bytes cause Found left faults source source' result
-trace_unread Found left faults source source' result e taken later counted long is =
-    unread max_trace_bytes cause Found left faults source source' result e (read_error e) (blames e) taken later (λ h. counted (ap read_err h)) (λ h. long (ap read_err h)) is
+trace_unread Found left faults source source' result e taken later counted uncounted long is =
+    unread max_trace_bytes cause Found left faults source source' result e (read_error e)
+    (blames e) taken later (λ h. counted (ap read_err h)) uncounted (λ h. long (ap read_err h)) is

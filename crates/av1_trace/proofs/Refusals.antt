@@ -13,13 +13,15 @@ pub no_parts : {X : Type 0} (bytes : List ℕ) (result : Result X TraceError) (e
 no_parts bytes (Ok x) e short is (at, same, malformed) = absurd is
 no_parts bytes (Err d) e short is (at, same, malformed) = λ n. subst (AreRefusedFor bytes) (sym (is ∙ same)) (short, malformed)
 
-pub planes_cut : (bytes plan planes : List ℕ) (value : PlanValue) (h : Header) (len : ℕ) (e : TraceError) → length bytes ≤ max_trace_bytes → HasParts bytes plan planes → IsValidPlan plan value
+pub planes_cut : (bytes plan planes : List ℕ) (value : PlanValue) (h : Header) (len : ℕ) (e : TraceError) → length bytes ≤ max_trace_bytes →
+    HasParts bytes plan planes → IsValidPlan plan value
     → len ≡ planes_len h → h ≡ value.header → length planes < len → e ≡ Malformed (8 + length plan) → e ≢ Memory → AreRefusedFor bytes e
 planes_cut bytes plan planes value h len e short parts valid l same few is n =
     let fewer : length planes < planes_len value.header = omega (arith, few, l ∙ ap planes_len same) in
     subst (AreRefusedFor bytes) (sym is) (short, cut_planes plan planes value parts valid fewer refl)
 
-pub planes_left_over : (bytes plan planes : List ℕ) (value : PlanValue) (h : Header) (len : ℕ) (e : TraceError) → length bytes ≤ max_trace_bytes → HasParts bytes plan planes → IsValidPlan plan value
+pub planes_left_over : (bytes plan planes : List ℕ) (value : PlanValue) (h : Header) (len : ℕ) (e : TraceError) → length bytes ≤ max_trace_bytes →
+    HasParts bytes plan planes → IsValidPlan plan value
     → len ≡ planes_len h → h ≡ value.header → len < length planes → e ≡ Malformed (8 + length plan + len) → e ≢ Memory → AreRefusedFor bytes e
 planes_left_over bytes plan planes value h len e short parts valid l same many is n =
     let whole : len ≡ planes_len value.header = l ∙ ap planes_len same in

@@ -1,5 +1,6 @@
 -- No difference is listed exactly where the bytes are those of the plan's planes.
-use Rattle.std.proofs.Common.{◌≡◌, ℕ, zero, suc, ◌+◌, ◌-◌, ◌<◌, ◌≤◌, min, inl, inr, Bool, true, false, ◌&&◌, ◌==◌, not, cond, List, [], ◌∷◌, ◌++◌, length, get_or, Option, Some, None, refl, sym, ap, subst, ◌∙◌, arith}
+use Rattle.std.proofs.Common.{◌≡◌, ℕ, zero, suc, ◌+◌, ◌-◌, ◌<◌, ◌≤◌, min, inl, inr, Bool, true, false, ◌&&◌, ◌==◌, not, cond, List, [], ◌∷◌, ◌++◌, length}
+use Rattle.std.proofs.Common.{get_or, Option, Some, None, refl, sym, ap, subst, ◌∙◌, arith}
 use Rattle.std.specs.Prelude.{◌↔◌, find, count_by, if◌then◌else◌, nat_le, nat_lt}
 use Rattle.std.specs.List.{flat_map, range_with_len}
 use Rattle.std.specs.Option.{option_map}
@@ -34,14 +35,16 @@ use Rattle.av1_tile.proofs.Pictures.{plan_coded}
 use Rattle.av1_tile.proofs.Simulation.{visible_same}
 use Rattle.av1_trace.specs.declared.entry.Difference.{Difference}
 use Rattle.av1_trace.specs.Samples.{given, defined, planes_len}
-use Rattle.av1_trace.specs.Differences.{difference_at, differences, entries, first_difference, is_other, leaf_differences, leaves_differences, plane_differences, visible_places}
+use Rattle.av1_trace.specs.Differences.{difference_at, differences, entries, first_difference, is_other, leaf_differences, leaves_differences}
+use Rattle.av1_trace.specs.Differences.{plane_differences, visible_places}
 use Rattle.av1_trace.proofs.GivenSamples.{given_bytes}
 use Rattle.av1_trace.proofs.Places.{first_or_later, none_passes, nothing_passes}
 
 -- ---- areas
 
 -- each visible place lies in one leaf's area
-pub has_its_leaf : (plan : Plan) → first_fault (plan_value plan) ≡ None → (p x y : ℕ) → x < plane_width (plan_value plan).header p → y < plane_height (plan_value plan).header p
+pub has_its_leaf : (plan : Plan) → first_fault (plan_value plan) ≡ None → (p x y : ℕ) → x < plane_width (plan_value plan).header p →
+    y < plane_height (plan_value plan).header p
     → count_by (λ (l : LeafValue). in_area (plan_value plan).header p l x y) (plan_value plan).leaves ≡ 1
 has_its_leaf plan valid p x y a b =
     ∥∥₁_elim plan.spelled (hlevel (ℕ_set)) (λ s. areas_tile (plan_value plan).header p (plan_value plan).leaves (plan_coded plan valid s p) x y a b)
@@ -83,7 +86,8 @@ unfolding first_difference visible_places
 none_listed plan bytes n p a same =
     let h = plan.header in
     ap (option_map (difference_at plan bytes n p))
-    (none_passes (is_other plan bytes p) a.x (min (a.x + block_width a.size) (plane_width h p) - a.x) a.y (min (a.y + block_height a.size) (plane_height h p) - a.y)
+    (none_passes (is_other plan bytes p) a.x (min (a.x + block_width a.size) (plane_width h p) - a.x) a.y
+    (min (a.y + block_height a.size) (plane_height h p) - a.y)
     (λ x y l r t b.
     let (right, column) = in_side a.x (block_width a.size) (plane_width h p) x r l in
     let (bottom, row) = in_side a.y (block_height a.size) (plane_height h p) y b t in
@@ -102,7 +106,8 @@ none_differs plan bytes n p a e x y v =
     differs (given h bytes p x y) (defined plan p x y)
     (nothing_passes q a.x (min (a.x + block_width a.size) (plane_width h p) - a.x) a.y (min (a.y + block_height a.size) (plane_height h p) - a.y)
     (unmapped (difference_at plan bytes n p) (find q (visible_places h p a)) e) x y
-    v.left (of_side a.x (block_width a.size) (plane_width h p) x v.right v.column v.left) v.top (of_side a.y (block_height a.size) (plane_height h p) y v.bottom v.row v.top))
+    v.left (of_side a.x (block_width a.size) (plane_width h p) x v.right v.column v.left) v.top
+    (of_side a.y (block_height a.size) (plane_height h p) y v.bottom v.row v.top))
 
 -- samples agree at all visible places of a plane
 abbrev AgreeIn : PlanValue → List ℕ → (p : ℕ) → Type 0
@@ -128,30 +133,43 @@ nothing_in_plane plan bytes n l p same =
     either_way (covers_plane plan.header l.x l.y l.size p) (entries (first_difference plan bytes n p a)) (ap entries none)
 
 -- a leaf without an entry in a plane agrees at the visible places of its area
-agrees_in_area : (plan : PlanValue) (bytes : List ℕ) (n : ℕ) (l : LeafValue) (p : ℕ) → plane_differences plan bytes n l p ≡ [] → (x y : ℕ) → in_area plan.header p l x y ≡ true → x < plane_width plan.header p → y < plane_height plan.header p
+agrees_in_area : (plan : PlanValue) (bytes : List ℕ) (n : ℕ) (l : LeafValue) (p : ℕ) → plane_differences plan bytes n l p ≡ [] → (x y : ℕ) →
+    in_area plan.header p l x y ≡ true → x < plane_width plan.header p → y < plane_height plan.header p
     → given plan.header bytes p x y ≡ defined plan p x y
 unfolding plane_differences is_in
 agrees_in_area plan bytes n l p e x y inside c r =
     let h = plan.header in
     let a = plane_area h l.x l.y l.size l.tx_size p in
-    let (covered, within) = and_parts (covers_plane h l.x l.y l.size p) (nat_le a.x x && nat_lt x (a.x + block_width a.size) && nat_le a.y y && nat_lt y (a.y + block_height a.size)) inside in
+    let (covered, within) =
+    and_parts (covers_plane h l.x l.y l.size p)
+    (nat_le a.x x && nat_lt x (a.x + block_width a.size) && nat_le a.y y && nat_lt y (a.y + block_height a.size)) inside in
     let (three, bottom) = and_parts (nat_le a.x x && nat_lt x (a.x + block_width a.size) && nat_le a.y y) (nat_lt y (a.y + block_height a.size)) within in
     let (two, top) = and_parts (nat_le a.x x && nat_lt x (a.x + block_width a.size)) (nat_le a.y y) three in
     let (left, right) = and_parts (nat_le a.x x) (nat_lt x (a.x + block_width a.size)) two in
-    let listed : entries (first_difference plan bytes n p a) ≡ [] = where_covered (covers_plane h l.x l.y l.size p) (entries (first_difference plan bytes n p a)) covered e in
+    let listed : entries (first_difference plan bytes n p a) ≡ [] =
+    where_covered (covers_plane h l.x l.y l.size p) (entries (first_difference plan bytes n p a)) covered e in
     none_differs plan bytes n p a (no_entry (first_difference plan bytes n p a) listed) x y
-    (record { left = grind (arith, nat_tests); right = grind (arith, nat_tests); top = grind (arith, nat_tests); bottom = grind (arith, nat_tests); column = c; row = r })
+    (record {
+      left = grind (arith, nat_tests);
+      right = grind (arith, nat_tests);
+      top = grind (arith, nat_tests);
+      bottom = grind (arith, nat_tests);
+      column = c;
+      row = r;
+    })
 
 -- ---- all leaves
 
-nothing_of_leaves : (plan : PlanValue) (bytes : List ℕ) (n : ℕ) (leaves : List LeafValue) → AgreeIn plan bytes 0 → AgreeIn plan bytes 1 → AgreeIn plan bytes 2 → leaves_differences plan bytes n leaves ≡ []
+nothing_of_leaves : (plan : PlanValue) (bytes : List ℕ) (n : ℕ) (leaves : List LeafValue) → AgreeIn plan bytes 0 → AgreeIn plan bytes 1 → AgreeIn plan bytes 2 →
+    leaves_differences plan bytes n leaves ≡ []
 nothing_of_leaves plan bytes n [] y u v = refl
 nothing_of_leaves plan bytes n (l ∷ leaves) y u v =
     let a = nothing_in_plane plan bytes n l 0 y in
     let b = nothing_in_plane plan bytes n l 1 u in
     let c = nothing_in_plane plan bytes n l 2 v in
     let rest = leaves_differences plan bytes (n + 1) leaves in
-    ap (λ d. d ++ plane_differences plan bytes n l 1 ++ plane_differences plan bytes n l 2 ++ rest) a ∙ ap (λ d. d ++ plane_differences plan bytes n l 2 ++ rest) b
+    ap (λ d. d ++ plane_differences plan bytes n l 1 ++ plane_differences plan bytes n l 2 ++ rest) a
+    ∙ ap (λ d. d ++ plane_differences plan bytes n l 2 ++ rest) b
     ∙ ap (λ d. d ++ rest) c ∙ nothing_of_leaves plan bytes (n + 1) leaves y u v
 
 nothing_left : {A : Type 0} (xs ys : List A) → xs ++ ys ≡ [] → (xs ≡ []) × (ys ≡ [])
@@ -159,10 +177,16 @@ nothing_left [] ys e = (refl, e)
 nothing_left (x ∷ xs) ys e = absurd cc
 
 -- the entries of a leaf in plane p are among its own
-in_its_planes : (plan : PlanValue) (bytes : List ℕ) (n : ℕ) (l : LeafValue) → leaf_differences plan bytes n l ≡ [] → (p : ℕ) → p < 3 → plane_differences plan bytes n l p ≡ []
-in_its_planes plan bytes n l e zero h = (nothing_left (plane_differences plan bytes n l 0) (plane_differences plan bytes n l 1) (nothing_left (plane_differences plan bytes n l 0 ++ plane_differences plan bytes n l 1) (plane_differences plan bytes n l 2) e).0).0
-in_its_planes plan bytes n l e (suc zero) h = (nothing_left (plane_differences plan bytes n l 0) (plane_differences plan bytes n l 1) (nothing_left (plane_differences plan bytes n l 0 ++ plane_differences plan bytes n l 1) (plane_differences plan bytes n l 2) e).0).1
-in_its_planes plan bytes n l e (suc (suc zero)) h = (nothing_left (plane_differences plan bytes n l 0 ++ plane_differences plan bytes n l 1) (plane_differences plan bytes n l 2) e).1
+in_its_planes : (plan : PlanValue) (bytes : List ℕ) (n : ℕ) (l : LeafValue) → leaf_differences plan bytes n l ≡ [] → (p : ℕ) → p < 3 →
+    plane_differences plan bytes n l p ≡ []
+in_its_planes plan bytes n l e zero h =
+    (nothing_left (plane_differences plan bytes n l 0) (plane_differences plan bytes n l 1)
+    (nothing_left (plane_differences plan bytes n l 0 ++ plane_differences plan bytes n l 1) (plane_differences plan bytes n l 2) e).0).0
+in_its_planes plan bytes n l e (suc zero) h =
+    (nothing_left (plane_differences plan bytes n l 0) (plane_differences plan bytes n l 1)
+    (nothing_left (plane_differences plan bytes n l 0 ++ plane_differences plan bytes n l 1) (plane_differences plan bytes n l 2) e).0).1
+in_its_planes plan bytes n l e (suc (suc zero)) h =
+    (nothing_left (plane_differences plan bytes n l 0 ++ plane_differences plan bytes n l 1) (plane_differences plan bytes n l 2) e).1
 in_its_planes plan bytes n l e (suc (suc (suc p))) h = absurd (omega arith)
 
 abbrev one_if : Bool → ℕ
@@ -175,14 +199,16 @@ others_hold q l leaves outside some =
     omega (arith, some, counted, own)
 
 -- a visible place in one of the leaves' areas agrees where no leaf has an entry
-agrees_at : (plan : PlanValue) (bytes : List ℕ) (n : ℕ) (leaves : List LeafValue) (p x y : ℕ) → leaves_differences plan bytes n leaves ≡ [] → p < 3 → x < plane_width plan.header p → y < plane_height plan.header p
+agrees_at : (plan : PlanValue) (bytes : List ℕ) (n : ℕ) (leaves : List LeafValue) (p x y : ℕ) → leaves_differences plan bytes n leaves ≡ [] → p < 3 →
+    x < plane_width plan.header p → y < plane_height plan.header p
     → 0 < count_by (λ (l : LeafValue). in_area plan.header p l x y) leaves → given plan.header bytes p x y ≡ defined plan p x y
 agrees_at plan bytes n [] p x y e few c r some = absurd (omega (arith, some))
 agrees_at plan bytes n (l ∷ leaves) p x y e few c r some =
     let (own, others) = nothing_left (leaf_differences plan bytes n l) (leaves_differences plan bytes (n + 1) leaves) e in
     elim (cases_Bool (in_area plan.header p l x y)) [
       | inl inside ↦ agrees_in_area plan bytes n l p (in_its_planes plan bytes n l own p few) x y inside c r
-      | inr outside ↦ agrees_at plan bytes (n + 1) leaves p x y others few c r (others_hold (λ (m : LeafValue). in_area plan.header p m x y) l leaves outside some)
+      | inr outside ↦ agrees_at plan bytes (n + 1) leaves p x y others few c r
+          (others_hold (λ (m : LeafValue). in_area plan.header p m x y) l leaves outside some)
     ]
 
 -- ---- bytes and samples
@@ -197,12 +223,16 @@ append_once (x ∷ xs) (y ∷ ys) p q n e =
     let (same, rest) = append_once xs ys p q (omega (arith, n)) tail in
     (cc (head, same), rest)
 
-rows_once : (w : ℕ) (f g : ℕ → ℕ → ℕ) (a h : ℕ) → flat_map (λ y. by_index w (λ x. f x y)) (range_with_len a h) ≡ flat_map (λ y. by_index w (λ x. g x y)) (range_with_len a h)
+rows_once : (w : ℕ) (f g : ℕ → ℕ → ℕ) (a h : ℕ) →
+    flat_map (λ y. by_index w (λ x. f x y)) (range_with_len a h) ≡ flat_map (λ y. by_index w (λ x. g x y)) (range_with_len a h)
     → (y : ℕ) → a ≤ y → y < a + h → by_index w (λ x. f x y) ≡ by_index w (λ x. g x y)
 rows_once w f g a zero e y l m = absurd (omega arith)
 rows_once w f g a (suc h) e y l m =
-    let same_length : length (by_index w (λ x. f x a)) ≡ length (by_index w (λ x. g x a)) = length-by_index w (λ x. f x a) ∙ sym (length-by_index w (λ x. g x a)) in
-    let (here, rest) = append_once _ _ (flat_map (λ r. by_index w (λ x. f x r)) (range_with_len (a + 1) h)) (flat_map (λ r. by_index w (λ x. g x r)) (range_with_len (a + 1) h)) same_length e in
+    let same_length : length (by_index w (λ x. f x a)) ≡ length (by_index w (λ x. g x a)) = length-by_index w (λ x. f x a)
+    ∙ sym (length-by_index w (λ x. g x a)) in
+    let (here, rest) =
+    append_once _ _ (flat_map (λ r. by_index w (λ x. f x r)) (range_with_len (a + 1) h))
+    (flat_map (λ r. by_index w (λ x. g x r)) (range_with_len (a + 1) h)) same_length e in
     elim (first_or_later a y l) [
       | inl same ↦ subst (λ (z : ℕ). by_index w (λ x. f x z) ≡ by_index w (λ x. g x z)) same here
       | inr later ↦ rows_once w f g (a + 1) h rest y later (omega arith)
@@ -238,7 +268,8 @@ same_exactly plan bytes valid len all =
           agrees_at value bytes 0 value.leaves (number k) x y none (few_planes k) c r (omega (arith, has_its_leaf plan valid (number k) x y c r))
           ∙ ap (λ (j : Component). sample_of (slow_walk value j x y)) (own_number k)),
       λ same.
-          let rows : (k : Component) → by_rows (extent_of h (number k)) (own k) ≡ by_rows (extent_of h (number k)) (right k) = same_rows h own right (spelled ∙ same) in
+          let rows : (k : Component) → by_rows (extent_of h (number k)) (own k) ≡ by_rows (extent_of h (number k)) (right k) =
+          same_rows h own right (spelled ∙ same) in
           nothing_of_leaves value bytes 0 value.leaves
           (λ x y c r. samples_once (extent_of h 0) (own Y) (right Y) (rows Y) x y c r)
           (λ x y c r. samples_once (extent_of h 1) (own U) (right U) (rows U) x y c r)

@@ -1,5 +1,6 @@
 -- The fields in front of the planes of a trace: bytes have them in one way, or have one first fault.
-use Rattle.std.proofs.Common.{◌≡◌, ℕ, ◌+◌, ◌<◌, ◌≤◌, ◌⊎◌, inl, inr, true, false, List, ◌++◌, length, take, drop, get_or, refl, sym, ap, ◌∙◌, arith, length-append, length-take, length-drop, take-append-drop, get_or-take, get_or-drop}
+use Rattle.std.proofs.Common.{◌≡◌, ℕ, ◌+◌, ◌<◌, ◌≤◌, ◌⊎◌, inl, inr, true, false, List, ◌++◌, length, take, drop, get_or, refl, sym, ap, ◌∙◌, arith}
+use Rattle.std.proofs.Common.{length-append, length-take, length-drop, take-append-drop, get_or-take, get_or-drop}
 use Rattle.std.specs.Prelude.{bytes_eq}
 use Rattle.std.specs.Int.{to_le_bytes, from_le_bytes, w32}
 use Rattle.std.proofs.Math.Seq.{take-append_seam, drop-append_seam}
@@ -20,7 +21,8 @@ length_is : (bytes rest : List ℕ) (n : ℕ) → n ≤ max_plan_bytes → bytes
 length_is bytes rest n fits e = ap length_at e ∙ from_le_bytes-to_le_bytes_4 n (omega (arith, fits))
 
 -- bytes have one length behind the letters
-one_length : (bytes r s : List ℕ) (n m : ℕ) → n ≤ max_plan_bytes → m ≤ max_plan_bytes → bytes ≡ letters ++ to_le_bytes w32 n ++ r → bytes ≡ letters ++ to_le_bytes w32 m ++ s → n ≡ m
+one_length : (bytes r s : List ℕ) (n m : ℕ) → n ≤ max_plan_bytes → m ≤ max_plan_bytes → bytes ≡ letters ++ to_le_bytes w32 n ++ r →
+    bytes ≡ letters ++ to_le_bytes w32 m ++ s → n ≡ m
 one_length bytes r s n m few less e f = sym (length_is bytes r n few e) ∙ length_is bytes s m less f
 
 -- bytes have one plan, and one list of planes
@@ -127,7 +129,10 @@ behind_length bytes rest n few e = elim (cases_lt (length rest) n) [
 
 behind_letters : (bytes rest : List ℕ) → bytes ≡ letters ++ rest → 8 ≤ length bytes → ((i : ℕ) → get_or bytes i 0 < 256) → Front bytes
 behind_letters bytes rest e long fits = elim (cases_lt max_plan_bytes (length_at bytes)) [
-  | inl over ↦ inr (4, no_length refl (rest, e) (λ n few begin. let same : length_at bytes ≡ n = length_is bytes begin.0 n few begin.1 in omega (arith, over, few, same)))
+  | inl over ↦ inr (
+    4,
+    no_length refl (rest, e) (λ n few begin. let same : length_at bytes ≡ n = length_is bytes begin.0 n few begin.1 in omega (arith, over, few, same)),
+  )
   | inr few ↦ behind_length bytes (drop 4 rest) (length_at bytes) few
       (e ∙ ap (λ (l : List ℕ). letters ++ l) (sym (take-append-drop 4 rest) ∙ ap (λ (l : List ℕ). l ++ drop 4 rest) (sym (four bytes rest e long fits))))
 ]

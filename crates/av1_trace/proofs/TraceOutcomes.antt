@@ -1,5 +1,6 @@
 -- Bytes have an outcome as a trace, and one alone.
-use Rattle.std.proofs.Common.{◌≡◌, inl, inr, ℕ, ◌+◌, ◌<◌, ◌≤◌, ◌^◌, Bool, true, false, List, length, drop, get_or, get_or-drop, Option, Some, None, Result, Ok, Err, refl, sym, ap, subst, ◌∙◌, arith}
+use Rattle.std.proofs.Common.{◌≡◌, inl, inr, ℕ, ◌+◌, ◌<◌, ◌≤◌, ◌^◌, Bool, true, false, List, length, drop, get_or, get_or-drop, Option, Some, None, Result, Ok}
+use Rattle.std.proofs.Common.{Err, refl, sym, ap, subst, ◌∙◌, arith}
 use Rattle.std.specs.Prelude.{All, nat_lt}
 use Rattle.std.proofs.Math.ListN.{get_or-append}
 use Rattle.std.proofs.lemmas.Bool.{cases_lt, lt-ltb, le-ltb}
@@ -22,7 +23,8 @@ use Rattle.av1_trace.specs.Traces.{AreRefusedFor, HasParts, IsMalformedAt, IsVal
 use Rattle.av1_trace.specs.declared.error.PlanFault.TheVariants as faults
 use Rattle.av1_trace.specs.declared.error.TraceError.{TraceError}
 use Rattle.av1_trace.specs.declared.error.TraceError.TheVariants.{ReadFault, TooLong, Malformed, Plan, WriteFault, Memory}
-use Rattle.av1_trace.proofs.Shapes.{IsFrontFault, no_letters as front_letters, no_length as front_length, cut_plan as front_plan, one_front_fault, no_front_fault, one_plan, same_planes, some_front}
+use Rattle.av1_trace.proofs.Shapes.{IsFrontFault, no_letters as front_letters, no_length as front_length, cut_plan as front_plan, one_front_fault}
+use Rattle.av1_trace.proofs.Shapes.{no_front_fault, one_plan, same_planes, some_front}
 
 -- ---- what bytes are
 
@@ -64,7 +66,8 @@ shape_is bytes (parted plan planes r) (broken d) p q = absurd (no_front_fault by
 shape_is bytes (parted plan planes r) (parted plan' planes' s) p q =
     let same : plan ≡ plan' = one_plan bytes plan planes plan' planes' p.1 q.1 in
     let reading : r ≡ s = plan_reading_is plan' r s (subst (λ (l : List ℕ). IsPlanReading l r) same p.2) q.2 in
-    ap (λ (l : List ℕ). parted l planes r) same ∙ ap (λ (l : List ℕ). parted plan' l r) (same_planes bytes plan planes plan' planes' p.1 q.1) ∙ ap (parted plan' planes') reading
+    ap (λ (l : List ℕ). parted l planes r) same ∙ ap (λ (l : List ℕ). parted plan' l r) (same_planes bytes plan planes plan' planes' p.1 q.1)
+    ∙ ap (parted plan' planes') reading
 
 -- ---- what follows of them
 
@@ -74,7 +77,8 @@ judged_planes plan planes value false true = Err (Malformed (8 + length plan + p
 judged_planes plan planes value false false = Ok (differences value planes)
 
 abbrev judged_valid : List ℕ → List ℕ → PlanValue → Outcome
-judged_valid plan planes value = judged_planes plan planes value (nat_lt (length planes) (planes_len value.header)) (nat_lt (planes_len value.header) (length planes))
+judged_valid plan planes value =
+    judged_planes plan planes value (nat_lt (length planes) (planes_len value.header)) (nat_lt (planes_len value.header) (length planes))
 
 abbrev judged_plan : List ℕ → List ℕ → PlanValue → Option Invalid → Outcome
 judged_plan plan planes value None = judged_valid plan planes value
@@ -87,18 +91,24 @@ judged (parted plan planes (not_plan at)) = Err (Plan (faults.Malformed at))
 judged (parted plan planes (is_plan value)) = judged_plan plan planes value (first_fault value)
 
 -- planes that are whole, cut, or too many
-are_whole : (plan planes : List ℕ) (value : PlanValue) → length planes ≡ planes_len value.header → judged_valid plan planes value ≡ Ok (differences value planes)
+are_whole : (plan planes : List ℕ) (value : PlanValue) → length planes ≡ planes_len value.header →
+    judged_valid plan planes value ≡ Ok (differences value planes)
 are_whole plan planes value whole =
-    ap (λ (b : Bool). judged_planes plan planes value b (nat_lt (planes_len value.header) (length planes))) (le-ltb (length planes) (planes_len value.header) (omega (arith, whole)))
+    ap (λ (b : Bool). judged_planes plan planes value b (nat_lt (planes_len value.header) (length planes)))
+    (le-ltb (length planes) (planes_len value.header) (omega (arith, whole)))
     ∙ ap (judged_planes plan planes value false) (le-ltb (planes_len value.header) (length planes) (omega (arith, whole)))
 
-are_cut : (plan planes : List ℕ) (value : PlanValue) → length planes < planes_len value.header → judged_valid plan planes value ≡ Err (Malformed (8 + length plan))
+are_cut : (plan planes : List ℕ) (value : PlanValue) → length planes < planes_len value.header →
+    judged_valid plan planes value ≡ Err (Malformed (8 + length plan))
 are_cut plan planes value less =
-    ap (λ (b : Bool). judged_planes plan planes value b (nat_lt (planes_len value.header) (length planes))) (lt-ltb (length planes) (planes_len value.header) less)
+    ap (λ (b : Bool). judged_planes plan planes value b (nat_lt (planes_len value.header) (length planes)))
+    (lt-ltb (length planes) (planes_len value.header) less)
 
-are_more : (plan planes : List ℕ) (value : PlanValue) → planes_len value.header < length planes → judged_valid plan planes value ≡ Err (Malformed (8 + length plan + planes_len value.header))
+are_more : (plan planes : List ℕ) (value : PlanValue) → planes_len value.header < length planes →
+    judged_valid plan planes value ≡ Err (Malformed (8 + length plan + planes_len value.header))
 are_more plan planes value more =
-    ap (λ (b : Bool). judged_planes plan planes value b (nat_lt (planes_len value.header) (length planes))) (le-ltb (length planes) (planes_len value.header) (omega (arith, more)))
+    ap (λ (b : Bool). judged_planes plan planes value b (nat_lt (planes_len value.header) (length planes)))
+    (le-ltb (length planes) (planes_len value.header) (omega (arith, more)))
     ∙ ap (judged_planes plan planes value false) (lt-ltb (planes_len value.header) (length planes) more)
 
 -- a shape from which an outcome follows
@@ -106,7 +116,8 @@ abbrev Follows : List ℕ → Outcome → Type 0
 Follows bytes outcome = (s : Shape) × IsShape bytes s × (outcome ≡ judged s)
 
 -- behind a valid plan
-of_valid : (bytes plan planes : List ℕ) (value : PlanValue) (outcome : Outcome) → length bytes ≤ max_trace_bytes → HasParts bytes plan planes → IsValidPlan plan value
+of_valid : (bytes plan planes : List ℕ) (value : PlanValue) (outcome : Outcome) → length bytes ≤ max_trace_bytes → HasParts bytes plan planes →
+    IsValidPlan plan value
     → judged_valid plan planes value ≡ outcome → Follows bytes outcome
 of_valid bytes plan planes value outcome short parts valid e =
     (parted plan planes (is_plan value), (short, parts, valid.text), sym (ap (judged_plan plan planes value) valid.valid ∙ e))
@@ -116,14 +127,17 @@ of_malformed bytes at short (no_letters e none) = (broken at, (short, front_lett
 of_malformed bytes at short (no_length e begin none) = (broken at, (short, front_length e begin none), refl)
 of_malformed bytes at short (cut_plan e n few begin less) = (broken at, (short, front_plan e n few begin less), refl)
 of_malformed bytes at short (cut_planes plan planes value parts valid less e) =
-    of_valid bytes plan planes value (Err (Malformed at)) short parts valid (are_cut plan planes value less ∙ ap (λ (n : ℕ). let o : Outcome = Err (Malformed n) in o) (sym e))
+    of_valid bytes plan planes value (Err (Malformed at)) short parts valid (are_cut plan planes value less
+    ∙ ap (λ (n : ℕ). let o : Outcome = Err (Malformed n) in o) (sym e))
 of_malformed bytes at short (left_over plan planes value parts valid more e) =
-    of_valid bytes plan planes value (Err (Malformed at)) short parts valid (are_more plan planes value more ∙ ap (λ (n : ℕ). let o : Outcome = Err (Malformed n) in o) (sym e))
+    of_valid bytes plan planes value (Err (Malformed at)) short parts valid (are_more plan planes value more
+    ∙ ap (λ (n : ℕ). let o : Outcome = Err (Malformed n) in o) (sym e))
 
 -- an outcome follows from a shape
 of_shape : (bytes : List ℕ) (outcome : Outcome) → HasOutcome bytes outcome → Follows bytes outcome
 of_shape bytes (Ok list) (short, (value, planes, trace, e)) =
-    of_valid bytes trace.plan planes value (Ok list) short trace.parts trace.spelled (are_whole trace.plan planes value trace.whole ∙ ap (λ l. let o : Outcome = Ok l in o) (sym e))
+    of_valid bytes trace.plan planes value (Ok list) short trace.parts trace.spelled (are_whole trace.plan planes value trace.whole
+    ∙ ap (λ l. let o : Outcome = Ok l in o) (sym e))
 of_shape bytes (Err TooLong) c = (long, c, refl)
 of_shape bytes (Err (Malformed at)) (short, malformed) = of_malformed bytes at short malformed
 of_shape bytes (Err (Plan (faults.Malformed at))) (short, (plan, planes, parts, refused)) = (parted plan planes (not_plan at), (short, parts, refused), refl)
@@ -146,24 +160,31 @@ abbrev Some-outcome : List ℕ → Type 0
 Some-outcome bytes = (outcome : Outcome) × HasOutcome bytes outcome
 
 -- behind a valid plan
-behind_valid : (bytes plan planes : List ℕ) (value : PlanValue) → length bytes ≤ max_trace_bytes → HasParts bytes plan planes → IsValidPlan plan value → Some-outcome bytes
+behind_valid : (bytes plan planes : List ℕ) (value : PlanValue) → length bytes ≤ max_trace_bytes → HasParts bytes plan planes → IsValidPlan plan value →
+    Some-outcome bytes
 behind_valid bytes plan planes value short parts valid = elim (cases_lt (length planes) (planes_len value.header)) [
   | inl less ↦ (Err (Malformed (8 + length plan)), (short, cut_planes plan planes value parts valid less refl))
   | inr enough ↦ elim (cases_lt (planes_len value.header) (length planes)) [
     | inl more ↦ (Err (Malformed (8 + length plan + planes_len value.header)), (short, left_over plan planes value parts valid more refl))
-    | inr few ↦
-        (Ok (differences value planes), (short, (value, planes, (record { plan = plan; parts = parts; spelled = valid; whole = omega (arith, enough, few) }), refl)))
+    | inr few ↦ (
+      Ok (differences value planes),
+      (short, (value, planes, (record { plan = plan; parts = parts; spelled = valid; whole = omega (arith, enough, few) }), refl)),
+    )
   ]
 ]
 
 behind_plan : (bytes plan planes : List ℕ) (value : PlanValue) → length bytes ≤ max_trace_bytes → HasParts bytes plan planes → AreText grammar plan value
     → (fault : Option Invalid) → first_fault value ≡ fault → Some-outcome bytes
 behind_plan bytes plan planes value short parts text None e = behind_valid bytes plan planes value short parts (record { text = text; valid = e })
-behind_plan bytes plan planes value short parts text (Some fault) e = (Err (Plan (faults.Invalid fault.leaf fault.kind)), (short, (plan, planes, parts, (value, text, e))))
+behind_plan bytes plan planes value short parts text (Some fault) e =
+    (Err (Plan (faults.Invalid fault.leaf fault.kind)), (short, (plan, planes, parts, (value, text, e))))
 
-behind_front : (bytes plan planes : List ℕ) → length bytes ≤ max_trace_bytes → HasParts bytes plan planes → AreBytes plan → (result : Result PlanValue ℕ) → read_all grammar (start plan) ≡ result → Some-outcome bytes
-behind_front bytes plan planes short parts fits (Ok value) e = behind_plan bytes plan planes value short parts (all_found grammar plan value fits e) (first_fault value) refl
-behind_front bytes plan planes short parts fits (Err at) e = (Err (Plan (faults.Malformed at)), (short, (plan, planes, parts, all_refused grammar plan at fits e)))
+behind_front : (bytes plan planes : List ℕ) → length bytes ≤ max_trace_bytes → HasParts bytes plan planes → AreBytes plan → (result : Result PlanValue ℕ) →
+    read_all grammar (start plan) ≡ result → Some-outcome bytes
+behind_front bytes plan planes short parts fits (Ok value) e =
+    behind_plan bytes plan planes value short parts (all_found grammar plan value fits e) (first_fault value) refl
+behind_front bytes plan planes short parts fits (Err at) e =
+    (Err (Plan (faults.Malformed at)), (short, (plan, planes, parts, all_refused grammar plan at fits e)))
 
 of_front_fault : (bytes : List ℕ) (at : ℕ) → IsFrontFault bytes at → IsMalformedAt bytes at
 of_front_fault bytes at (front_letters e none) = no_letters e none
@@ -175,7 +196,8 @@ pub some_outcome : (bytes : List ℕ) → All (λ byte. byte < 2 ^ 8) bytes → 
 some_outcome bytes fits = elim (cases_lt max_trace_bytes (length bytes)) [
   | inl over ↦ (Err TooLong, over)
   | inr short ↦ elim (some_front bytes (byte_fits bytes fits)) [
-    | inl (plan, planes, parts) ↦ behind_front bytes plan planes short parts (plan_fits bytes plan planes parts (byte_fits bytes fits)) (read_all grammar (start plan)) refl
+    | inl (plan, planes, parts) ↦ behind_front bytes plan planes short parts (plan_fits bytes plan planes parts (byte_fits bytes fits))
+        (read_all grammar (start plan)) refl
     | inr (at, fault) ↦ (Err (Malformed at), (short, of_front_fault bytes at fault))
   ]
 ]
@@ -184,7 +206,8 @@ some_outcome bytes fits = elim (cases_lt max_trace_bytes (length bytes)) [
     plan_fits bytes plan planes parts fits i = elim (cases_lt i (length plan)) [
       | inl within ↦
           let here : get_or (drop 8 bytes) i 0 < 256 = rw get_or-drop (fits (8 + i)) in
-          let same : get_or (drop 8 bytes) i 0 ≡ get_or plan i 0 = ap (λ (l : List ℕ). get_or (drop 8 l) i 0) parts.are ∙ get_or-append plan planes 0 i within in
+          let same : get_or (drop 8 bytes) i 0 ≡ get_or plan i 0 = ap (λ (l : List ℕ). get_or (drop 8 l) i 0) parts.are ∙ get_or-append plan planes 0 i within
+          in
           subst (λ (v : ℕ). v < 256) same here
       | inr past ↦ rw (get_or_past plan i 0 past) (omega arith)
     ]

@@ -4,7 +4,8 @@ use Rattle.av1_recon.specs.Answers.{malformed_text, invalid_text}
 use Rattle.av1_trace.specs.declared.error.PlanFault.{PlanFault}
 use Rattle.av1_trace.specs.declared.error.PlanFault.TheVariants as faults
 use Rattle.av1_trace.specs.declared.error.TraceError.{TraceError}
-use Rattle.av1_trace.specs.declared.error.TraceError.TheVariants.{ReadFault, TooLong, Malformed, Plan, WriteFault, Memory}
+use Rattle.av1_trace.specs.declared.error.TraceError.TheVariants.{ReadFault, TooLong, Malformed, Plan, WriteFault}
+use Rattle.av1_trace.specs.declared.error.TraceError.TheVariants.{Memory}
 
 -- what is said of the plan of a trace
 abbrev pub plan_fault_text : PlanFault → List ℕ

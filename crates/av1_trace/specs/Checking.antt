@@ -2,10 +2,12 @@
 use Rattle.std.specs.Prelude.{◌≡◌, ℕ, ◌≤◌, List, length, Option, Result, Ok, Err, Vec}
 use Rattle.std.specs.declared.alloc.Global.{Global}
 use Rattle.av1_plan.specs.Plan.{PlanValue}
-use Rattle.av1_streams.specs.Tasks.{Cause, too_long, refused, read_failed, write_failed, no_memory, Task, Performs, Reads}
+use Rattle.av1_streams.specs.Tasks.{Cause, too_long, refused, read_failed, write_failed, no_memory, Task, Performs}
+use Rattle.av1_streams.specs.Tasks.{Reads}
 use Rattle.av1_trace.specs.declared.entry.Difference.{Difference}
 use Rattle.av1_trace.specs.declared.error.TraceError.{TraceError}
-use Rattle.av1_trace.specs.declared.error.TraceError.TheVariants.{ReadFault, TooLong, Malformed, Plan, WriteFault, Memory}
+use Rattle.av1_trace.specs.declared.error.TraceError.TheVariants.{ReadFault, TooLong, Malformed, Plan, WriteFault}
+use Rattle.av1_trace.specs.declared.error.TraceError.TheVariants.{Memory}
 use Rattle.av1_trace.specs.DifferenceLines.{difference_lines}
 use Rattle.av1_trace.specs.Differences.{differences}
 use Rattle.av1_trace.specs.Traces.{AreRefusedFor, IsTrace, max_trace_bytes}
@@ -16,7 +18,9 @@ Outcome = Result (List Difference) TraceError
 
 -- these are the differences of the trace that the bytes are
 abbrev pub AreDifferences : List ℕ → List Difference → Type 0
-AreDifferences bytes list = (length bytes ≤ max_trace_bytes) × ((value : PlanValue) × (planes : List ℕ) × IsTrace bytes value planes × (list ≡ differences value planes))
+AreDifferences bytes list =
+    (length bytes ≤ max_trace_bytes) ×
+    ((value : PlanValue) × (planes : List ℕ) × IsTrace bytes value planes × (list ≡ differences value planes))
 
 -- the outcome of bytes
 abbrev pub HasOutcome : List ℕ → Outcome → Type 0
@@ -42,8 +46,10 @@ trace_task = record {
   cause = cause;
 }
 
-abbrev pub Checks : {S K : Type 0} → (S → Option (List ℕ)) → (S → ℕ) → (K → Option (List ℕ)) → (K → ℕ) → S → S → K → K → Result ℕ TraceError → Type 0
-Checks left source_faults taken sink_faults source source' sink sink' answer = Performs trace_task left source_faults taken sink_faults source source' sink sink' answer
+abbrev pub Checks : {S K : Type 0} → (S → Option (List ℕ)) → (S → ℕ) → (K → Option (List ℕ)) → (K → ℕ) → S → S → K → K →
+    Result ℕ TraceError → Type 0
+Checks left source_faults taken sink_faults source source' sink sink' answer =
+    Performs trace_task left source_faults taken sink_faults source source' sink sink' answer
 
 -- ---- the half that reads
 
@@ -52,5 +58,6 @@ abbrev pub IsFound : List ℕ → Result (Vec Difference Global) TraceError → 
 IsFound bytes (Ok list) = AreDifferences bytes list.items
 IsFound bytes (Err e) = AreRefusedFor bytes e
 
-abbrev pub ReadsTrace : {S : Type 0} → (S → Option (List ℕ)) → (S → ℕ) → S → S → Result (Vec Difference Global) TraceError → Type 0
+abbrev pub ReadsTrace : {S : Type 0} → (S → Option (List ℕ)) → (S → ℕ) → S → S →
+    Result (Vec Difference Global) TraceError → Type 0
 ReadsTrace left faults source source' result = Reads max_trace_bytes cause IsFound left faults source source' result

@@ -5,7 +5,8 @@ use Rattle.av1_trace.specs.declared.entry.Difference.{Difference}
 
 -- where a difference is, and both samples
 abbrev pub place_text : Difference → List ℕ
-place_text d = codes "leaf " ++ decimal d.leaf ++ codes " plane " ++ decimal d.plane ++ codes " row " ++ decimal d.row ++ codes " column " ++ decimal d.column
+place_text d = codes "leaf " ++ decimal d.leaf ++ codes " plane " ++ decimal d.plane ++ codes " row " ++ decimal d.row
+    ++ codes " column " ++ decimal d.column
 
 abbrev pub sample_text : Difference → List ℕ
 sample_text d = codes " given " ++ decimal d.given ++ codes " defined " ++ decimal d.defined ++ codes "\n"

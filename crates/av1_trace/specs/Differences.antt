@@ -1,5 +1,6 @@
 -- Where the samples that bytes give are not those that a plan comes to.
-use Rattle.std.specs.Prelude.{ℕ, ◌+◌, ◌-◌, ◌==◌, not, min, Bool, List, [], ◌∷◌, ◌++◌, map, find, Option, Some, None, if◌then◌else◌}
+use Rattle.std.specs.Prelude.{ℕ, ◌+◌, ◌-◌, ◌==◌, not, min, Bool, List, [], ◌∷◌, ◌++◌, map, find, Option, Some, None}
+use Rattle.std.specs.Prelude.{if◌then◌else◌}
 use Rattle.std.specs.List.{flat_map, range_with_len}
 use Rattle.std.specs.Option.{option_map}
 use Rattle.av1_blocks.specs.Blocks.{block_width, block_height}
@@ -19,12 +20,14 @@ pub record Place : Type 0 where
 
 -- the places of rows of so many columns, in raster order: from column x and row y on
 abbrev pub raster : (x columns y rows : ℕ) → List Place
-raster x columns y rows = flat_map (λ r. map (λ c. record { x = c; y = r }) (range_with_len x columns)) (range_with_len y rows)
+raster x columns y rows =
+    flat_map (λ r. map (λ c. record { x = c; y = r }) (range_with_len x columns)) (range_with_len y rows)
 
 -- the visible places of a rectangle of plane p, in raster order
 unfoldable pub visible_places : Header → (p : ℕ) → PlaneArea → List Place
 visible_places h p a =
-    raster a.x (min (a.x + block_width a.size) (plane_width h p) - a.x) a.y (min (a.y + block_height a.size) (plane_height h p) - a.y)
+    raster a.x (min (a.x + block_width a.size) (plane_width h p) - a.x) a.y
+    (min (a.y + block_height a.size) (plane_height h p) - a.y)
 
 -- ---- differences
 
@@ -45,14 +48,16 @@ difference_at plan bytes n p place = record {
 
 -- the first difference of leaf n in a rectangle of plane p, in raster order
 unfoldable pub first_difference : PlanValue → List ℕ → (n p : ℕ) → PlaneArea → Option Difference
-first_difference plan bytes n p a = option_map (difference_at plan bytes n p) (find (is_other plan bytes p) (visible_places plan.header p a))
+first_difference plan bytes n p a =
+    option_map (difference_at plan bytes n p) (find (is_other plan bytes p) (visible_places plan.header p a))
 
 -- one entry, or none
 abbrev pub entries : Option Difference → List Difference
 entries None = []
 entries (Some difference) = difference ∷ []
 
--- the entry of leaf n in plane p, where it covers a part of that and a visible sample of its rectangle differs: the first in raster order
+-- the entry of leaf n in plane p, where it covers a part of that and a visible sample of its rectangle differs: the
+-- first in raster order
 unfoldable pub plane_differences : PlanValue → List ℕ → (n : ℕ) → LeafValue → (p : ℕ) → List Difference
 plane_differences plan bytes n l p =
     if covers_plane plan.header l.x l.y l.size p
@@ -60,12 +65,14 @@ plane_differences plan bytes n l p =
 
 -- those of leaf n: in Y, then in U, then in V
 abbrev pub leaf_differences : PlanValue → List ℕ → (n : ℕ) → LeafValue → List Difference
-leaf_differences plan bytes n l = plane_differences plan bytes n l 0 ++ plane_differences plan bytes n l 1 ++ plane_differences plan bytes n l 2
+leaf_differences plan bytes n l = plane_differences plan bytes n l 0 ++ plane_differences plan bytes n l 1
+    ++ plane_differences plan bytes n l 2
 
 -- those of leaves, of which the first has number n
 abbrev pub leaves_differences : PlanValue → List ℕ → (n : ℕ) → List LeafValue → List Difference
 leaves_differences plan bytes n [] = []
-leaves_differences plan bytes n (l ∷ leaves) = leaf_differences plan bytes n l ++ leaves_differences plan bytes (n + 1) leaves
+leaves_differences plan bytes n (l ∷ leaves) =
+    leaf_differences plan bytes n l ++ leaves_differences plan bytes (n + 1) leaves
 
 -- the differences between a plan and bytes of planes, leaf by leaf in coding order
 unfoldable pub differences : PlanValue → List ℕ → List Difference

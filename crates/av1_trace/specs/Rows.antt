@@ -6,7 +6,8 @@ use Rattle.av1_trace.specs.Samples.{defined, given}
 
 -- samples of row y of plane p agree from column `left` on and before column `right`
 abbrev pub AgreeFrom : PlanValue → List ℕ → (p y left right : ℕ) → Type 0
-AgreeFrom plan bytes p y left right = (x : ℕ) → left ≤ x → x < right → given plan.header bytes p x y ≡ defined plan p x y
+AgreeFrom plan bytes p y left right = (x : ℕ) → left ≤ x → x < right →
+    given plan.header bytes p x y ≡ defined plan p x y
 
 -- the first sample there that does not, with both values
 pub record IsOther (plan : PlanValue) (bytes : List ℕ) (p y left right : ℕ) (other : Other) : Type 0 where

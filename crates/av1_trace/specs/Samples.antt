@@ -1,4 +1,5 @@
--- The samples that bytes of planes give, and those that a plan comes to. Planes are counted 0 for Y, 1 for U and 2 for V.
+-- The samples that bytes of planes give, and those that a plan comes to. Planes are counted 0 for Y, 1 for U and 2 for
+-- V.
 use Rattle.std.specs.Prelude.{ℕ, zero, suc, ◌+◌, ◌*◌, ◌==◌, List, slice_index, if◌then◌else◌}
 use Rattle.av1_plan.specs.declared.header.Header.{Header}
 use Rattle.av1_plan.specs.Geometry.{plane_len, plane_width}
@@ -22,7 +23,8 @@ planes_len h = sample_len h.depth * samples_before h 3
 
 -- sample i of bytes: one byte at depth 8, else two, the low one first
 unfoldable pub sample_from : (depth : ℕ) → List ℕ → ℕ → ℕ
-sample_from depth bytes i = if depth == 8 then slice_index bytes i else slice_index bytes (2 * i) + 256 * slice_index bytes (2 * i + 1)
+sample_from depth bytes i = if depth == 8 then slice_index bytes i
+    else slice_index bytes (2 * i) + 256 * slice_index bytes (2 * i + 1)
 
 -- the sample that bytes give at column x of row y of plane p
 abbrev pub given : Header → List ℕ → (p x y : ℕ) → ℕ

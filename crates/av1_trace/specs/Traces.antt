@@ -9,7 +9,8 @@ use Rattle.av1_streams.specs.Streams.{max_plan_bytes}
 use Rattle.av1_trace.specs.declared.error.PlanFault.{PlanFault}
 use Rattle.av1_trace.specs.declared.error.PlanFault.TheVariants as faults
 use Rattle.av1_trace.specs.declared.error.TraceError.{TraceError}
-use Rattle.av1_trace.specs.declared.error.TraceError.TheVariants.{ReadFault, TooLong, Malformed, Plan, WriteFault, Memory}
+use Rattle.av1_trace.specs.declared.error.TraceError.TheVariants.{ReadFault, TooLong, Malformed, Plan, WriteFault}
+use Rattle.av1_trace.specs.declared.error.TraceError.TheVariants.{Memory}
 use Rattle.av1_trace.specs.Samples.{planes_len}
 
 -- the most bytes that a trace has: 128 MiB
@@ -26,7 +27,8 @@ letters = codes "RTR1"
 abbrev pub front_of : List ℕ → List ℕ
 front_of plan = letters ++ to_le_bytes w32 (length plan) ++ plan
 
--- the bytes begin with the fields up to a plan of this many bytes, which is no longer than a plan may be, and these parts follow
+-- the bytes begin with the fields up to a plan of this many bytes, which is no longer than a plan may be, and these
+-- parts follow
 pub record HasParts (bytes plan planes : List ℕ) : Type 0 where
   pub short : length plan ≤ max_plan_bytes
   pub are : bytes ≡ front_of plan ++ planes
@@ -49,19 +51,24 @@ pub record IsTrace (bytes : List ℕ) (value : PlanValue) (planes : List ℕ) : 
 abbrev pub Begin : List ℕ → List ℕ → Type 0
 Begin bytes front = (rest : List ℕ) × (bytes ≡ front ++ rest)
 
--- The first field that is cut, not admitted or left over begins at `at`: the letters; the length, which is one that a plan may have; the
--- plan; or the planes, behind a valid plan, where they are cut, and what is left over behind them.
+-- The first field that is cut, not admitted or left over begins at `at`: the letters; the length, which is one that a
+-- plan may have; the plan; or the planes, behind a valid plan, where they are cut, and what is left over behind them.
 pub data IsMalformedAt (bytes : List ℕ) (at : ℕ) : Type 0 where
   no_letters : at ≡ 0 → ¬ Begin bytes letters → IsMalformedAt bytes at
-  no_length : at ≡ 4 → Begin bytes letters → ((n : ℕ) → n ≤ max_plan_bytes → ¬ Begin bytes (letters ++ to_le_bytes w32 n)) → IsMalformedAt bytes at
-  cut_plan : at ≡ 8 → (n : ℕ) → n ≤ max_plan_bytes → Begin bytes (letters ++ to_le_bytes w32 n) → length bytes < 8 + n → IsMalformedAt bytes at
-  cut_planes : (plan planes : List ℕ) (value : PlanValue) → HasParts bytes plan planes → IsValidPlan plan value → length planes < planes_len value.header → at ≡ 8 + length plan → IsMalformedAt bytes at
-  left_over : (plan planes : List ℕ) (value : PlanValue) → HasParts bytes plan planes → IsValidPlan plan value → planes_len value.header < length planes → at ≡ 8 + length plan + planes_len value.header → IsMalformedAt bytes at
+  no_length : at ≡ 4 → Begin bytes letters →
+      ((n : ℕ) → n ≤ max_plan_bytes → ¬ Begin bytes (letters ++ to_le_bytes w32 n)) → IsMalformedAt bytes at
+  cut_plan : at ≡ 8 → (n : ℕ) → n ≤ max_plan_bytes → Begin bytes (letters ++ to_le_bytes w32 n) → length bytes < 8 + n →
+      IsMalformedAt bytes at
+  cut_planes : (plan planes : List ℕ) (value : PlanValue) → HasParts bytes plan planes → IsValidPlan plan value →
+      length planes < planes_len value.header → at ≡ 8 + length plan → IsMalformedAt bytes at
+  left_over : (plan planes : List ℕ) (value : PlanValue) → HasParts bytes plan planes → IsValidPlan plan value →
+      planes_len value.header < length planes → at ≡ 8 + length plan + planes_len value.header → IsMalformedAt bytes at
 
 -- the plan is refused for this
 abbrev pub IsFaultOf : List ℕ → PlanFault → Type 0
 IsFaultOf plan (faults.Malformed at) = AreRefused grammar plan at
-IsFaultOf plan (faults.Invalid leaf kind) = (value : PlanValue) × AreText grammar plan value × (first_fault value ≡ Some (record { leaf = leaf; kind = kind }))
+IsFaultOf plan (faults.Invalid leaf kind) = (value : PlanValue) × AreText grammar plan value ×
+    (first_fault value ≡ Some (record { leaf = leaf; kind = kind }))
 
 -- the answers that refuse a plan
 abbrev pub IsPlanFault : List ℕ → TraceError → Type 0
@@ -72,7 +79,9 @@ IsPlanFault plan e = ⊥
 abbrev pub AreRefusedFor : List ℕ → TraceError → Type 0
 AreRefusedFor bytes TooLong = max_trace_bytes < length bytes
 AreRefusedFor bytes (Malformed at) = (length bytes ≤ max_trace_bytes) × IsMalformedAt bytes at
-AreRefusedFor bytes (Plan fault) = (length bytes ≤ max_trace_bytes) × ((plan : List ℕ) × (planes : List ℕ) × HasParts bytes plan planes × IsFaultOf plan fault)
+AreRefusedFor bytes (Plan fault) =
+    (length bytes ≤ max_trace_bytes) ×
+    ((plan : List ℕ) × (planes : List ℕ) × HasParts bytes plan planes × IsFaultOf plan fault)
 AreRefusedFor bytes ReadFault = ⊥
 AreRefusedFor bytes WriteFault = ⊥
 AreRefusedFor bytes Memory = ⊥

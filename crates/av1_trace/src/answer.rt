@@ -37,8 +37,9 @@ fn error_line(error: TraceError) -> Line
     }
 }
 
-/// Writes the line of an error, and gives its exit status: 2 where the bytes are refused, 3 where memory ran out, 4 where a read failed, 5
-/// where a write did. Where a write to `err` failed a prefix of the line stands, and the status stays.
+/// Writes the line of an error, and gives its exit status: 2 where the bytes are refused, 3 where memory ran out, 4
+/// where a read failed, 5 where a write did. Where a write to `err` failed a prefix of the line stands, and the status
+/// stays.
 pub fn report_error<E: Sink>(error: TraceError, err: &mut E) -> u8
     ensures status { result ≡ error_status (cause error) }
     ensures line { Says E.taken E.faults err.old err.new (error_line error) }

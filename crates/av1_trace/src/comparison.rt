@@ -1,6 +1,7 @@
 //! The samples of each leaf, given and defined.
 
-ghost use Rattle.std.specs.Prelude.{◌≡◌, ◌≢◌, ◌↔◌, ℕ, ◌+◌, ◌-◌, ◌*◌, ◌<◌, ◌≤◌, ◌++◌, ◌==◌, [], None, IfOk, IfNone, IfSome, OnOk, Some, length, map, slice_index};
+ghost use Rattle.std.specs.Prelude.{◌≡◌, ◌≢◌, ◌↔◌, ℕ, ◌+◌, ◌-◌, ◌*◌, ◌<◌, ◌≤◌, ◌++◌, ◌==◌, [], None, IfOk, IfNone, IfSome, OnOk, Some, length, map};
+ghost use Rattle.std.specs.Prelude.{slice_index};
 ghost use Rattle.av1_plan.specs.Answer.{plan_value, stored_leaves, stored_triples};
 ghost use Rattle.av1_plan.specs.Plan.{leaf_value};
 ghost use Rattle.av1_plan.specs.Validity.{first_fault};
@@ -28,10 +29,10 @@ struct Other {
     defined: u16,
 }
 
-/// The differences between a valid plan and the bytes of its visible planes, as another encoder left them: Y, U and V, each row by row, one
-/// byte a sample at depth 8, else two, the low one first. For each leaf in coding order, and for each of Y, U and V of which it covers a
-/// part, there is one entry where a visible sample of its rectangle is not the one of the slow definition: for the first of these in raster
-/// order. Nothing else is listed.
+/// The differences between a valid plan and the bytes of its visible planes, as another encoder left them: Y, U and V,
+/// each row by row, one byte a sample at depth 8, else two, the low one first. For each leaf in coding order, and for
+/// each of Y, U and V of which it covers a part, there is one entry where a visible sample of its rectangle is not the
+/// one of the slow definition: for the first of these in raster order. Nothing else is listed.
 ///
 /// A given sample may exceed the depth. It then differs.
 pub fn compare(alloc: Global, plan: &Plan, planes: &[u8]) -> Result<Vec<Difference>, OutOfMemory>
@@ -96,7 +97,8 @@ fn add_leaf<T: Pixel>(
     requires header { state_header state.now ≡ (plan_value plan.now).header }
     requires shows { ShowsRows T.num (plan_value plan.now) state.now }
     requires whole { length planes.now ≡ planes_len (plan_value plan.now).header }
-    ensures { OnOk result (list.new.items ≡ list.old.items ++ leaf_differences (plan_value plan.now) planes.now n (leaf_value (stored_triples plan.now) leaf.now)) }
+    ensures { OnOk result (list.new.items ≡ list.old.items
+        ++ leaf_differences (plan_value plan.now) planes.now n (leaf_value (stored_triples plan.now) leaf.now)) }
 {
     add_in_plane(state, plan, planes, n, leaf, 0, list)?;
     add_in_plane(state, plan, planes, n, leaf, 1, list)?;
@@ -118,7 +120,8 @@ fn add_in_plane<T: Pixel>(
     requires shows { ShowsRows T.num (plan_value plan.now) state.now }
     requires whole { length planes.now ≡ planes_len (plan_value plan.now).header }
     requires plane { p < 3 }
-    ensures { OnOk result (list.new.items ≡ list.old.items ++ plane_differences (plan_value plan.now) planes.now n (leaf_value (stored_triples plan.now) leaf.now) p) }
+    ensures { OnOk result (list.new.items ≡ list.old.items
+        ++ plane_differences (plan_value plan.now) planes.now n (leaf_value (stored_triples plan.now) leaf.now) p) }
 {
     let header = plan.header();
     if !leaf.covers_plane(header, p) {
@@ -206,7 +209,8 @@ fn first_other_of<T: Pixel>(
     requires narrow { right ≤ 65536 }
     ensures none { IfNone result ((x : ℕ) → left ≤ x → x < right → sample_from depth given.now x ≡ slice_index (map T.num row.now) x) }
     ensures some { IfSome result (λ other. (left ≤ other.column) × (other.column < right) × (other.given ≢ other.defined)) }
-    ensures samples { IfSome result (λ other. (other.given ≡ sample_from depth given.now other.column) × (other.defined ≡ slice_index (map T.num row.now) other.column)) }
+    ensures samples { IfSome result (λ other. (other.given ≡ sample_from depth given.now other.column) ×
+        (other.defined ≡ slice_index (map T.num row.now) other.column)) }
     ensures first { IfSome result (λ other. (x : ℕ) → left ≤ x → x < other.column → sample_from depth given.now x ≡ slice_index (map T.num row.now) x) }
 {
     for x in left..right {

@@ -10,7 +10,8 @@ use av1_streams::{ReadError, WriteFault};
 /// Why the plan of a trace is refused.
 #[derive(Clone, Copy, Debug, PartialEq, Eq)]
 pub enum PlanFault {
-    /// The field that begins at byte `at` of the plan is cut, has a value that is not admitted, or is left over after the end.
+    /// The field that begins at byte `at` of the plan is cut, has a value that is not admitted, or is left over after
+    /// the end.
     Malformed { at: u32 },
     /// Leaf number `leaf`, counted from 0 in coding order, is the first that is refused, and why.
     Invalid { leaf: u32, kind: InvalidKind },
@@ -23,7 +24,8 @@ pub enum TraceError {
     ReadFault,
     /// The source gave a byte past the longest trace.
     TooLong,
-    /// The field of the trace that begins at byte `at` is cut, has a value that is not admitted, or is left over after the end.
+    /// The field of the trace that begins at byte `at` is cut, has a value that is not admitted, or is left over after
+    /// the end.
     Malformed { at: u32 },
     /// The plan is refused.
     Plan { fault: PlanFault },

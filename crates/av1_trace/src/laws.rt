@@ -10,7 +10,8 @@ ghost use Rattle.av1_trace.specs.Checking.{HasOutcome, Outcome};
 
 use av1_plan::Plan;
 
-/// A law: each visible place of each plane of a valid plan lies in the rectangle of exactly one leaf that covers a part of the plane.
+/// A law: each visible place of each plane of a valid plan lies in the rectangle of exactly one leaf that covers a part
+/// of the plane.
 pub fn every_place_has_its_leaf(plan: &Plan)
     requires valid { first_fault (plan_value plan.now) ≡ None }
     ensures { (p x y : ℕ) → p < 3 → x < plane_width (plan_value plan.now).header p → y < plane_height (plan_value plan.now).header p

@@ -9,8 +9,8 @@ ghost use Rattle.av1_trace.specs.DifferenceLines.{difference_line, difference_li
 use crate::Difference;
 use av1_streams::{Line, Sink, WriteFault, write_bytes};
 
-/// Appends the lines of differences: `same`, where there are none, else one for each, `leaf L plane P row R column C given G defined D`. The
-/// first write that fails ends the call, and a prefix of the lines stands.
+/// Appends the lines of differences: `same`, where there are none, else one for each, `leaf L plane P row R column C
+/// given G defined D`. The first write that fails ends the call, and a prefix of the lines stands.
 pub fn write_differences<W: Sink>(list: &[Difference], sink: &mut W) -> Result<(), WriteFault>
     ensures whole { OnOk result (Appends (W.taken sink.old) (W.taken sink.new) (difference_lines list.now)) }
     ensures prefix { AppendsPrefix (W.taken sink.old) (W.taken sink.new) (difference_lines list.now) }

@@ -40,14 +40,14 @@ struct Parts<'a> {
     planes: &'a [u8],
 }
 
-/// Reads a trace from the source to its end, as [`parse_trace`] takes it, and appends lines on its differences to the sink, as
-/// [`write_differences`] does. Answers how many there are.
+/// Reads a trace from the source to its end, as [`parse_trace`] takes it, and appends lines on its differences to the
+/// sink, as [`write_differences`] does. Answers how many there are.
 ///
 /// # Errors
 ///
-/// `ReadFault` and `TooLong` while it reads; then `Malformed`, for the letters, the length or a plan that is cut; then `Plan`; then
-/// `Malformed`, for planes of another length than the plan's; then `WriteFault`. `Memory` may stand in place of any of them, before the first
-/// written byte.
+/// `ReadFault` and `TooLong` while it reads; then `Malformed`, for the letters, the length or a plan that is cut; then
+/// `Plan`; then `Malformed`, for planes of another length than the plan's; then `WriteFault`. `Memory` may stand in
+/// place of any of them, before the first written byte.
 pub fn check_trace<R: Source, W: Sink>(
     alloc: Global,
     source: &mut R,
@@ -93,13 +93,13 @@ pub fn trace_differences(alloc: Global, bytes: &[u8]) -> Result<Vec<Difference>,
     Ok(compare(alloc, &trace.plan, trace.planes)?)
 }
 
-/// The trace that these bytes are: the letters `RTR1`, the length of the plan in four bytes, the low one first, the plan, and the bytes of
-/// its planes, as [`compare`] takes them.
+/// The trace that these bytes are: the letters `RTR1`, the length of the plan in four bytes, the low one first, the
+/// plan, and the bytes of its planes, as [`compare`] takes them.
 ///
 /// # Errors
 ///
-/// `Malformed`, for the letters, the length or a plan that is cut; then `Plan`; then `Malformed`, for planes of another length than the
-/// plan's. `Memory` may stand in place of any of them.
+/// `Malformed`, for the letters, the length or a plan that is cut; then `Plan`; then `Malformed`, for planes of another
+/// length than the plan's. `Memory` may stand in place of any of them.
 pub fn parse_trace(alloc: Global, bytes: &[u8]) -> Result<Trace<'_>, TraceError>
     requires short { length bytes.now ≤ max_trace_bytes }
     ensures found { IfOk result (λ trace. IsTrace bytes.now (plan_value trace.plan) trace.planes.now) }

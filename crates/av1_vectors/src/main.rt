@@ -1,7 +1,7 @@
 //! Reads a plan from standard input and writes the planes that it says to standard output.
 //!
-//! All that the program does is `av1_recon::run`; here are its real source and sinks. The words of its command line, the flush
-//! of its output and its exit status are `av1_recon::run_on_words`.
+//! All that the program does is `av1_recon::run`; here are its real source and sinks. The words of its command line,
+//! the flush of its output and its exit status are `av1_recon::run_on_words`.
 #![tactic(auto)]
 
 #[cfg(test)]

@@ -28,19 +28,23 @@ are_bare plan text (bytes, are) same = subst (λ (l : List ℕ). AreText grammar
 abbrev Reads : List ℕ → Result Plan PlanError → Type 0
 Reads text result = (p : PlanValue) → AreText grammar text p → MatchResult result (λ found. plan_value found ≡ p) (λ e. e ≡ Memory)
 
-ok_is : (plan : PlanValue) (result : Result Plan PlanError) (found : Plan) → result ≡ Ok found → MatchResult result (λ found. plan_value found ≡ plan) (λ e. e ≡ Memory) → plan_value found ≡ plan
+ok_is : (plan : PlanValue) (result : Result Plan PlanError) (found : Plan) → result ≡ Ok found →
+    MatchResult result (λ found. plan_value found ≡ plan) (λ e. e ≡ Memory) → plan_value found ≡ plan
 ok_is plan result found is read = subst (λ (r : Result Plan PlanError). MatchResult r (λ found. plan_value found ≡ plan) (λ e. e ≡ Memory)) is read
 
-err_is : (plan : PlanValue) (result : Result Plan PlanError) (e : PlanError) → result ≡ Err e → MatchResult result (λ found. plan_value found ≡ plan) (λ e. e ≡ Memory) → e ≡ Memory
+err_is : (plan : PlanValue) (result : Result Plan PlanError) (e : PlanError) → result ≡ Err e →
+    MatchResult result (λ found. plan_value found ≡ plan) (λ e. e ≡ Memory) → e ≡ Memory
 err_is plan result e is read = subst (λ (r : Result Plan PlanError). MatchResult r (λ found. plan_value found ≡ plan) (λ e. e ≡ Memory)) is read
 
-pub found_is : (plan : PlanValue) (text : List ℕ) (result : Result Plan PlanError) (found : Plan) → IsSpelledWithin plan → text ≡ bare_text plan → Reads text result → result ≡ Ok found → plan_value found ≡ bare plan
+pub found_is : (plan : PlanValue) (text : List ℕ) (result : Result Plan PlanError) (found : Plan) → IsSpelledWithin plan → text ≡ bare_text plan →
+    Reads text result → result ≡ Ok found → plan_value found ≡ bare plan
 found_is plan text result found within same reads is = ok_is (bare plan) result found is (reads (bare plan) (are_bare plan text within same))
 
 pub found_is_valid : (plan : PlanValue) (found : Plan) → plan_value found ≡ bare plan → first_fault plan ≡ None → first_fault (plan_value found) ≡ None
 found_is_valid plan found is valid = ap first_fault is ∙ bare_is_valid plan valid
 
-pub not_malformed : (plan : PlanValue) (text : List ℕ) (result : Result Plan PlanError) (at : ℕ) → IsSpelledWithin plan → text ≡ bare_text plan → Reads text result → result ≡ Err (Malformed at) → ⊥
+pub not_malformed : (plan : PlanValue) (text : List ℕ) (result : Result Plan PlanError) (at : ℕ) → IsSpelledWithin plan → text ≡ bare_text plan →
+    Reads text result → result ≡ Err (Malformed at) → ⊥
 not_malformed plan text result at within same reads is =
     let memory : Malformed at ≡ Memory = err_is (bare plan) result (Malformed at) is (reads (bare plan) (are_bare plan text within same)) in
     absurd cc

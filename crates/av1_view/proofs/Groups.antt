@@ -1,5 +1,6 @@
 -- Base64 by whole groups, and by pieces of them.
-use Rattle.std.proofs.Common.{◌≡◌, ℕ, ◌+◌, ◌*◌, ◌-◌, ◌%◌, drop-drop, ◌⊎◌, inl, inr, List, [], ◌∷◌, ◌++◌, length, Option, refl, sym, ap, subst, ◌∙◌, append_assoc, append-nil, take-append-drop, arith, rules}
+use Rattle.std.proofs.Common.{◌≡◌, ℕ, ◌+◌, ◌*◌, ◌-◌, ◌%◌, drop-drop, ◌⊎◌, inl, inr, List, [], ◌∷◌, ◌++◌, length, Option, refl, sym, ap, subst, ◌∙◌}
+use Rattle.std.proofs.Common.{append_assoc, append-nil, take-append-drop, arith, rules}
 use Rattle.std.specs.Prelude.{min, take, drop, ◌≤◌}
 use Rattle.std.proofs.lemmas.Bool.{cases_lt}
 use Rattle.std.proofs.lemmas.List.{length-drop, length-take-le, drop_all}
@@ -29,21 +30,24 @@ piece_first a b (inr none) = rw none (ap base64_text (append-nil a) ∙ sym (app
 -- ---- pieces of bytes
 
 -- the letters of the bytes before a place, and of a piece from there on
-pieces : (bytes : List ℕ) (at count : ℕ) → at % 3 ≡ 0 → at ≤ length bytes → base64_text (take (at + count) bytes) ≡ base64_text (take at bytes) ++ base64_text (take count (drop at bytes))
+pieces : (bytes : List ℕ) (at count : ℕ) → at % 3 ≡ 0 → at ≤ length bytes → base64_text (take (at + count) bytes) ≡ base64_text (take at bytes)
+    ++ base64_text (take count (drop at bytes))
 pieces bytes at count whole within =
     let same : length (take at bytes) % 3 ≡ 0 = rw (length-take-le at bytes within) whole in
     ap base64_text (take-add at count bytes) ∙ groups_first (take at bytes) (take count (drop at bytes)) same
 
 -- after the letters of the bytes before a place, those of the next piece
 pub Appends-piece : (bytes letters : List ℕ) (a b c : Option (List ℕ)) (at n count : ℕ) → n ≡ count → at % 3 ≡ 0 → at ≤ length bytes
-    → Appends a b (base64_text (take at bytes)) → letters ≡ base64_text (take n (drop at bytes)) → Appends b c letters → Appends a c (base64_text (take (at + count) bytes))
+    → Appends a b (base64_text (take at bytes)) → letters ≡ base64_text (take n (drop at bytes)) → Appends b c letters →
+    Appends a c (base64_text (take (at + count) bytes))
 Appends-piece bytes letters a b c at n count same whole within before piece next =
     let all : base64_text (take at bytes) ++ letters ≡ base64_text (take (at + count) bytes) =
     ap (λ l. base64_text (take at bytes) ++ l) piece ∙ sym (pieces bytes at n whole within) ∙ ap (λ (k : ℕ). base64_text (take (at + k) bytes)) same in
     subst (Appends a c) all (Appends-trans a b c _ _ before next)
 
 -- a piece of whole groups, or the last one
-piece_cut : (bytes : List ℕ) (at n : ℕ) → (n % 3 ≡ 0) ⊎ (length bytes ≤ at + n) → at + n ≤ length bytes → (length (take n (drop at bytes)) % 3 ≡ 0) ⊎ (drop n (drop at bytes) ≡ [])
+piece_cut : (bytes : List ℕ) (at n : ℕ) → (n % 3 ≡ 0) ⊎ (length bytes ≤ at + n) → at + n ≤ length bytes →
+    (length (take n (drop at bytes)) % 3 ≡ 0) ⊎ (drop n (drop at bytes) ≡ [])
 piece_cut bytes at n (inl whole) fits =
     let left : length (drop at bytes) ≡ length bytes - at = length-drop at bytes in
     let room : n ≤ length (drop at bytes) = omega (arith, fits, left) in
@@ -61,8 +65,10 @@ last_or_whole size at count within is = elim (cases_lt (size - at) 3072) [
 ]
 
 -- a prefix of the letters of the next piece
-pub AppendsPrefix-piece : (bytes letters : List ℕ) (a b c : Option (List ℕ)) (at n count : ℕ) → n ≡ count → at % 3 ≡ 0 → at ≤ length bytes → count ≡ min (length bytes - at) 3072
-    → Appends a b (base64_text (take at bytes)) → letters ≡ base64_text (take n (drop at bytes)) → AppendsPrefix b c letters → AppendsPrefix a c (base64_text bytes)
+pub AppendsPrefix-piece : (bytes letters : List ℕ) (a b c : Option (List ℕ)) (at n count : ℕ) → n ≡ count → at % 3 ≡ 0 → at ≤ length bytes →
+    count ≡ min (length bytes - at) 3072
+    → Appends a b (base64_text (take at bytes)) → letters ≡ base64_text (take n (drop at bytes)) → AppendsPrefix b c letters →
+    AppendsPrefix a c (base64_text bytes)
 AppendsPrefix-piece bytes letters a b c at n count same whole within is before piece next =
     let rest = drop n (drop at bytes) in
     let last : (n % 3 ≡ 0) ⊎ (length bytes ≤ at + n) = last_or_whole (length bytes) at n within (same ∙ is) in
@@ -93,6 +99,7 @@ next_letters bytes rest before four k is so_far here =
     joined ∙ ap (λ (l : List ℕ). before ++ l) told ∙ so_far
 
 -- nothing is left behind the last group
-pub all_letters : (bytes before : List ℕ) (k : ℕ) → length bytes ≤ 3 * k → before ++ base64_text (drop (3 * k) bytes) ≡ base64_text bytes → before ≡ base64_text bytes
+pub all_letters : (bytes before : List ℕ) (k : ℕ) → length bytes ≤ 3 * k → before ++ base64_text (drop (3 * k) bytes) ≡ base64_text bytes →
+    before ≡ base64_text bytes
 unfolding base64_text
 all_letters bytes before k past so_far = sym (append-nil before) ∙ ap (λ (l : List ℕ). before ++ base64_text l) (sym (drop_all (3 * k) bytes past)) ∙ so_far

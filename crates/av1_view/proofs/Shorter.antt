@@ -1,5 +1,6 @@
 -- A plan without its coefficients has no more bytes than the plan.
-use Rattle.std.proofs.Common.{◌≡◌, ℕ, zero, suc, ◌+◌, ◌*◌, ◌/◌, ◌≤◌, Bool, true, false, is_some, if◌then◌else◌, List, [], ◌∷◌, ◌++◌, length, map, slice_index_or, refl, sym, ap, subst, ◌∙◌, arith}
+use Rattle.std.proofs.Common.{◌≡◌, ℕ, zero, suc, ◌+◌, ◌*◌, ◌/◌, ◌≤◌, Bool, true, false, is_some, if◌then◌else◌, List, [], ◌∷◌, ◌++◌, length, map}
+use Rattle.std.proofs.Common.{slice_index_or, refl, sym, ap, subst, ◌∙◌, arith}
 use Rattle.std.proofs.lemmas.List.{length-append}
 use Rattle.av1_blocks.specs.declared.partition.PartitionType.{PartitionType}
 use Rattle.av1_blocks.specs.declared.partition.PartitionType.TheVariants.{PARTITION_NONE, PARTITION_HORZ, PARTITION_VERT, PARTITION_HORZ_4, PARTITION_VERT_4}
@@ -10,7 +11,8 @@ use Rattle.av1_plan.specs.Grammar.{plan as grammar}
 use Rattle.av1_plan.specs.Plan.{LeafValue, PlanValue}
 use Rattle.av1_plan.specs.Spelling.{AreText}
 use Rattle.av1_planwrite.specs.Bare.{none_of, bare_leaf, bare_text}
-use Rattle.av1_planwrite.specs.Text.{Draft, byte, triples_text, chroma_triples_text, fields_text, leaf_text, leaf_written, part_written, mark_of, next_cut, parts_written, block_written, in_turn, row_written, superblocks_written, front_text, plan_text}
+use Rattle.av1_planwrite.specs.Text.{Draft, byte, triples_text, chroma_triples_text, fields_text, leaf_text, leaf_written, part_written, mark_of, next_cut}
+use Rattle.av1_planwrite.specs.Text.{parts_written, block_written, in_turn, row_written, superblocks_written, front_text, plan_text}
 use Rattle.av1_planwrite.proofs.PlanTexts.{plan_told}
 
 -- ---- leaves
@@ -56,7 +58,8 @@ Keeps f = (a b : Draft) → IsShorter a b → IsShorter (f a) (f b)
 
 keeps_leaf : Keeps (λ d. leaf_written d.0 d.1)
 unfolding leaf_written
-keeps_leaf (some, before) (leaves, bytes) (same, few) = subst (λ (ls : List LeafValue). IsShorter (leaf_written ls before) (leaf_written leaves bytes)) (sym same) (next leaves)
+keeps_leaf (some, before) (leaves, bytes) (same, few) =
+    subst (λ (ls : List LeafValue). IsShorter (leaf_written ls before) (leaf_written leaves bytes)) (sym same) (next leaves)
   where
     next : (leaves : List LeafValue) → IsShorter (leaf_written (map bare_leaf leaves) before) (leaf_written leaves bytes)
     next [] = (refl, few)
@@ -81,7 +84,8 @@ module _ (h : Header) where
   unfolding part_written
   keeps_part x y = keeps_where (is_inside h x y) (λ d. leaf_written d.0 d.1) keeps_leaf
 
-  keeps_parts : (level : ℕ) (node : ℕ → ℕ → Draft → Draft) (x y : ℕ) (cut : PartitionType) → ((x y : ℕ) → Keeps (node x y)) → Keeps (parts_written h level node x y cut)
+  keeps_parts : (level : ℕ) (node : ℕ → ℕ → Draft → Draft) (x y : ℕ) (cut : PartitionType) → ((x y : ℕ) → Keeps (node x y)) →
+      Keeps (parts_written h level node x y cut)
   unfolding parts_written
   keeps_parts level node x y PARTITION_NONE each a b s = keeps_part x y a b s
   keeps_parts level node x y PARTITION_HORZ each a b s = keeps_part _ _ _ _ (keeps_part x y a b s)
@@ -97,7 +101,8 @@ module _ (h : Header) where
       let cut = next_cut (suc level) b.0 in
       let one : next_cut (suc level) a.0 ≡ cut = ap (next_cut (suc level)) same ∙ same_cut (suc level) b.0 in
       let marked = append_shorter a.1 b.1 (byte (mark_of cut)) (byte (mark_of cut)) few (omega arith) in
-      subst (λ (c : PartitionType). IsShorter (parts_written h (suc level) node x y c (a.0, a.1 ++ byte (mark_of c))) (parts_written h (suc level) node x y cut (b.0, b.1 ++ byte (mark_of cut)))) (sym one)
+      subst (λ (c : PartitionType). IsShorter (parts_written h (suc level) node x y c (a.0, a.1 ++ byte (mark_of c)))
+      (parts_written h (suc level) node x y cut (b.0, b.1 ++ byte (mark_of cut)))) (sym one)
       (keeps_parts (suc level) node x y cut each (a.0, a.1 ++ byte (mark_of cut)) (b.0, b.1 ++ byte (mark_of cut)) (same, marked))
 
   keeps_block : (level x y : ℕ) → Keeps (block_written h level x y)

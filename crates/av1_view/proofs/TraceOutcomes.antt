@@ -33,7 +33,8 @@ cleared (Ok list) = Ok []
 cleared (Err e) = Err e
 
 -- bytes that are a trace are not refused
-not_refused : {X : Type 0} (bytes : List ℕ) (plan : PlanValue) (given : List ℕ) (e : TraceError) → length bytes ≤ max_trace_bytes → IsTrace bytes plan given → AreRefusedFor bytes e → X
+not_refused : {X : Type 0} (bytes : List ℕ) (plan : PlanValue) (given : List ℕ) (e : TraceError) → length bytes ≤ max_trace_bytes →
+    IsTrace bytes plan given → AreRefusedFor bytes e → X
 not_refused bytes plan given e short trace refused =
     let found : Outcome = Ok (differences plan given) in
     let same : found ≡ Err e = one_outcome bytes (Ok (differences plan given)) (Err e) (short, (plan, given, trace, refl)) refused in

@@ -9,7 +9,8 @@ letter number = slice_index (codes "ABCDEFGHIJKLMNOPQRSTUVWXYZabcdefghijklmnopqr
 abbrev pub group : (a b c : ℕ) → List ℕ
 group a b c = letter (a / 4) ∷ letter (a % 4 * 16 + b / 16) ∷ letter (b % 16 * 4 + c / 64) ∷ letter (c % 64) ∷ []
 
--- bytes in base64 (RFC 4648, section 4): four letters for each three bytes, and a `=` for each byte that the last group lacks
+-- bytes in base64 (RFC 4648, section 4): four letters for each three bytes, and a `=` for each byte that the last group
+-- lacks
 unfoldable pub base64_text : List ℕ → List ℕ
 base64_text [] = []
 base64_text (a ∷ []) = take 2 (group a 0 0) ++ codes "=="

@@ -7,7 +7,8 @@ use Rattle.av1_recon.specs.Outcomes.{ArePlan}
 use Rattle.av1_tile.specs.Output.{planes_of}
 use Rattle.av1_view.specs.Page.{page}
 
--- the page of a plan and of planes that another encoder left of it: its bytes, its planes, the planes of its predictions alone, and those
+-- the page of a plan and of planes that another encoder left of it: its bytes, its planes, those of the frame without
+-- coefficients, and those that were left
 unfoldable pub trace_page : PlanValue → List ℕ → List ℕ
 trace_page plan given = page (plan_text plan) (planes_of plan) (planes_of (bare plan)) given
 

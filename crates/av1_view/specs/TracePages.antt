@@ -11,7 +11,9 @@ use Rattle.av1_view.specs.Shown.{trace_page}
 
 -- The outcome of bytes: the page of the trace that they are, or why they are refused, as `check_trace` refuses them.
 abbrev pub HasTraceOutcome : List ℕ → Result (List ℕ) TraceError → Type 0
-HasTraceOutcome bytes (Ok written) = (length bytes ≤ max_trace_bytes) × ((plan : PlanValue) × (given : List ℕ) × IsTrace bytes plan given × (written ≡ trace_page plan given))
+HasTraceOutcome bytes (Ok written) =
+    (length bytes ≤ max_trace_bytes) ×
+    ((plan : PlanValue) × (given : List ℕ) × IsTrace bytes plan given × (written ≡ trace_page plan given))
 HasTraceOutcome bytes (Err e) = AreRefusedFor bytes e
 
 -- what a call is to do that shows a trace

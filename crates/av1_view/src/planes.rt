@@ -1,4 +1,4 @@
-//! The planes of a plan in memory, and those of its predictions alone.
+//! The planes of a plan in memory, and those of the frame without coefficients.
 ghost use Rattle.std.specs.Prelude.{◌≡◌, ℕ, List, None, IfOk};
 ghost use Rattle.av1_plan.specs.Answer.{plan_value};
 ghost use Rattle.av1_plan.specs.Validity.{first_fault};
@@ -23,19 +23,20 @@ pub fn planes(alloc: Global, plan: &Plan) -> Result<Vec<u8>, OutOfMemory>
     ensures { IfOk result (λ bytes. bytes.items ≡ planes_of (plan_value plan.now)) }
 {
     let mut sink = Gathered::new(alloc);
-    // What is gathered in memory fails only for want of it.
+    // What is gathered in memory fails only where memory runs out.
     match reconstruct_valid(alloc, plan, &mut sink) {
         Ok(()) => Ok(sink.into_bytes()),
         Err(_) => Err(OutOfMemory),
     }
 }
 
-/// The bytes of the visible planes of a valid plan without its coefficients: of its predictions alone.
+/// The bytes of the visible planes of the frame without coefficients: of a valid plan of which all coefficients are
+/// left out.
 ///
 /// # Errors
 ///
 /// `OutOfMemory` where memory runs out.
-pub fn predictions(alloc: Global, plan: &Plan) -> Result<Vec<u8>, OutOfMemory>
+pub fn bare_planes(alloc: Global, plan: &Plan) -> Result<Vec<u8>, OutOfMemory>
     requires valid { first_fault (plan_value plan.now) ≡ None }
     requires spelled { IsSpelledWithin (plan_value plan.now) }
     ensures { IfOk result (λ bytes. bytes.items ≡ planes_of (bare (plan_value plan.now))) }

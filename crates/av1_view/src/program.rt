@@ -21,9 +21,9 @@ use std::alloc::Global;
 // The status where the words are no command.
 const NO_COMMAND: u8 = 1;
 
-/// Does what the words after the program's name ask for, and gives the exit status. Without words a plan is read from `source`, and the page
-/// that shows it is written to `out`; with the word `trace` a trace, and the page that shows its plan and where its samples differ. All other
-/// words are no command.
+/// Does what the words after the program's name ask for, and gives the exit status. Without words a plan is read from
+/// `source`, and the page that shows it is written to `out`; with the word `trace` a trace, and the page that shows its
+/// plan and where its samples differ. All other words are no command.
 ///
 /// | status | where | line on `err` |
 /// |---|---|---|
@@ -53,8 +53,10 @@ pub fn run_view<R: Source, W: Sink, E: Sink>(
 
     // What each status says.
     ensures status_1 { (result ≡ 1) ↔ (command_of (map string_bytes words.now) ≡ None) }
-    ensures plan_ends { command_of (map string_bytes words.now) ≡ Some Plan → EndsWith IsSuccess (plan_task plan_page) R.left R.faults W.taken W.faults source.old source.new out.old out.new result }
-    ensures trace_ends { command_of (map string_bytes words.now) ≡ Some Trace → EndsWith IsSuccess trace_page_task R.left R.faults W.taken W.faults source.old source.new out.old out.new result }
+    ensures plan_ends { command_of (map string_bytes words.now) ≡ Some Plan →
+        EndsWith IsSuccess (plan_task plan_page) R.left R.faults W.taken W.faults source.old source.new out.old out.new result }
+    ensures trace_ends { command_of (map string_bytes words.now) ≡ Some Trace →
+        EndsWith IsSuccess trace_page_task R.left R.faults W.taken W.faults source.old source.new out.old out.new result }
 {
     match Command::from_words(words) {
         Some(Command::Plan) => report(view_plan(alloc, source, out), err),

@@ -8,67 +8,115 @@ pub const BEFORE_PLAN: &str = "<!DOCTYPE html>
 <meta name=\"viewport\" content=\"width=device-width\">
 <title>A plan seen</title>
 <style>
-:root { color-scheme: dark; --ink: #f2f2f2; --ground: #16181b; --panel: #22262b; --line: #59616b; --mark: #56b4e9; }
+:root {
+  color-scheme: dark; --ink: #f2f2f2; --quiet: #b8c0c9; --ground: #16181b; --panel: #22262b; --line: #59616b; --mark: #56b4e9; --chosen: #005a8c;
+  --bar: #000c;
+}
+@media (prefers-color-scheme: light) {
+  :root {
+    color-scheme: light; --ink: #17191c; --quiet: #4d555e; --ground: #e4e7ea; --panel: #f8f9fa; --line: #8a929b; --mark: #0067a3; --chosen: #b5dbf5;
+    --bar: #fffd;
+  }
+}
 * { box-sizing: border-box; }
+[hidden] { display: none !important; }
 html, body { height: 100%; margin: 0; }
 body { display: flex; background: var(--ground); color: var(--ink); font: 14px/1.4 system-ui, sans-serif; }
-main { position: relative; flex: 1; min-width: 0; }
-canvas { position: absolute; width: 100%; height: 100%; cursor: crosshair; }
-#scale { position: absolute; left: 8px; bottom: 8px; margin: 0; padding: 2px 8px; background: #000c; pointer-events: none; }
+main { position: relative; flex: 1; min-width: 50%; }
+#picture { position: absolute; width: 100%; height: 100%; cursor: crosshair; touch-action: none; }
+#status { position: absolute; left: 8px; right: 8px; bottom: 8px; display: flex; flex-wrap: wrap; gap: 4px; margin: 0; pointer-events: none; }
+#status span { padding: 1px 8px; background: var(--bar); font-size: 12px; }
+#status span:empty { display: none; }
+#source {
+  position: absolute; top: 8px; right: 8px; display: flex; flex-wrap: wrap; justify-content: end; gap: 8px; max-width: 100%; padding: 8px;
+  background: var(--bar); pointer-events: none;
+}
+figure { width: 200px; margin: 0; }
+figure canvas { display: block; }
+figcaption { font: 12px/1.35 ui-monospace, monospace; }
 aside { display: flex; flex-direction: column; gap: 6px; width: 390px; height: 100%; padding: 10px 12px; overflow: auto; background: var(--panel); }
 aside > * { flex: none; }
+@media (max-width: 780px) {
+  body { flex-direction: column; }
+  main { flex: none; height: 55%; }
+  aside { width: auto; height: 45%; }
+}
 h1, h2 { margin: 0; font-size: 16px; }
 h2 { font-size: 14px; }
 p { margin: 0; }
-fieldset { display: flex; flex-wrap: wrap; gap: 2px 12px; margin: 0; padding: 2px 8px 4px; border: 1px solid var(--line); }
+fieldset { display: flex; flex-wrap: wrap; gap: 2px 12px; min-width: 0; margin: 0; padding: 2px 8px 4px; border: 1px solid var(--line); }
 legend { padding: 0 4px; }
 label { cursor: pointer; }
 kbd { padding: 0 4px; border: 1px solid var(--line); border-radius: 3px; font: 12px ui-monospace, monospace; }
-i.key { display: inline-block; width: 18px; height: 0; margin: 0 4px; border-top: 3px solid; vertical-align: middle; }
-select, input[type=search] { background: var(--ground); color: var(--ink); border: 1px solid var(--line); padding: 2px 6px; font: inherit; }
+i.key {
+  display: inline-block; width: 18px; height: 0; margin: 0 4px; border-top: 3px solid; vertical-align: middle; filter: drop-shadow(0 0 1px #000);
+}
+i.class { display: inline-block; width: 12px; height: 12px; vertical-align: -1px; border: 1px solid var(--line); }
+i.bar { display: inline-block; height: 8px; margin-left: 6px; background: var(--mark); }
+#ramp { display: inline-block; width: 120px; height: 12px; border: 1px solid var(--line); background: linear-gradient(90deg, #000, #fff); }
+select, input[type=search] { padding: 2px 6px; border: 1px solid var(--line); background: var(--ground); color: var(--ink); font: inherit; }
 #search { width: 190px; }
 table { border-collapse: collapse; font: 12px/1.45 ui-monospace, monospace; }
 td, th { padding: 0 10px 0 0; text-align: left; vertical-align: top; font-weight: normal; }
-th { color: #b8c0c9; }
+th { color: var(--quiet); }
 #samples td { text-align: right; }
+#histogram button { padding: 0 4px; border: 1px solid transparent; background: none; color: var(--ink); font: inherit; cursor: pointer; }
+#histogram button[aria-pressed=true] { border-color: var(--mark); background: var(--chosen); }
+#locked { color: var(--quiet); font-size: 12px; }
 #triples { max-height: 96px; margin-top: 4px; overflow: auto; white-space: pre; font: 12px/1.35 ui-monospace, monospace; }
 #list { position: relative; height: 190px; overflow: auto; border: 1px solid var(--line); }
 #rows { position: relative; }
-#rows div { position: absolute; left: 0; right: 0; height: 18px; padding: 0 6px; overflow: hidden; white-space: nowrap; font: 12px/18px ui-monospace, monospace; cursor: pointer; }
-#rows div[aria-selected=true] { background: #005a8c; }
-#differences { padding: 2px 8px; border: 2px solid #e69f00; }
+#rows div {
+  position: absolute; left: 0; right: 0; height: 18px; padding: 0 6px; overflow: hidden; white-space: nowrap; font: 12px/18px ui-monospace, monospace;
+  cursor: pointer;
+}
+#rows div[aria-selected=true] { background: var(--chosen); }
+#differences, #departing { padding: 2px 8px; border: 2px solid #e69f00; }
+#departing { border-color: #ff3b5c; }
 :focus-visible { outline: 3px solid var(--mark); outline-offset: -3px; }
 </style>
 </head>
 <body>
 <main>
 <canvas id=\"picture\" tabindex=\"0\" role=\"img\" aria-label=\"The picture. Arrows move the cursor, plus and minus zoom.\" aria-describedby=\"frame\"></canvas>
-<p id=\"scale\"></p>
+<div id=\"source\" hidden></div>
+<p id=\"status\"><span id=\"scale\"></span><span id=\"dense\"></span></p>
 </main>
 <aside aria-label=\"What is shown\">
 <h1>A plan seen</h1>
 <p id=\"frame\"></p>
+<p id=\"departing\" hidden></p>
 <fieldset id=\"sources\"><legend>Samples <kbd>s</kbd></legend></fieldset>
 <fieldset id=\"components\"><legend>Component <kbd>c</kbd></legend></fieldset>
 <p><label for=\"matrix\">RGB by the matrix</label> <select id=\"matrix\"></select></p>
+<p><label for=\"gain\">Gain of differences <kbd>g</kbd></label> <select id=\"gain\"></select></p>
+<p id=\"gains\" hidden><span id=\"darkest\"></span> <i id=\"ramp\"></i> <span id=\"lightest\"></span> <span id=\"strength\"></span></p>
 <fieldset id=\"layers\"><legend>Layers</legend></fieldset>
 <p id=\"differences\" hidden></p>
 <section aria-label=\"At the cursor\">
 <h2 id=\"place\"></h2>
+<p id=\"locked\"></p>
 <table id=\"samples\"></table>
 <table id=\"fields\"></table>
 <div id=\"triples\" tabindex=\"0\" role=\"region\" aria-label=\"Coefficients of the leaf\"></div>
 </section>
 <section aria-label=\"Leaves\">
-<p><label for=\"search\">Leaves <kbd>/</kbd></label> <input id=\"search\" type=\"search\" placeholder=\"17, or paeth 16x8, or differs\" aria-controls=\"list\"> <output id=\"found\"></output></p>
+<p><label for=\"search\">Leaves <kbd>/</kbd></label> <input id=\"search\" type=\"search\" placeholder=\"17, or paeth 16x8, or differs\" aria-controls=\"list\">
+<output id=\"found\"></output></p>
 <div id=\"list\" role=\"listbox\" tabindex=\"0\" aria-label=\"Leaves that are found\"><div id=\"rows\"></div></div>
 </section>
+<details id=\"classes\" open>
+<summary>Classes of leaves <kbd>h</kbd></summary>
+<p><label for=\"property\">By</label> <select id=\"property\"></select>, in the colours of the map. A class that is pressed is listed alone.</p>
+<table id=\"histogram\"></table>
+</details>
 <details>
 <summary>Keys</summary>
-<p>Arrows move the cursor by a sample, with shift by 16. <kbd>+</kbd> <kbd>-</kbd> zoom at the cursor, <kbd>0</kbd> fits the frame, <kbd>f</kbd>
-the leaf. <kbd>n</kbd> <kbd>p</kbd> go to the next and the previous leaf that is found, <kbd>d</kbd> <kbd>e</kbd> to the next and the previous
-difference. <kbd>s</kbd> <kbd>c</kbd> change what is shown, <kbd>1</kbd> to <kbd>9</kbd> switch layers, <kbd>/</kbd> searches, <kbd>Esc</kbd>
-goes back to the picture. The mouse drags the picture and the wheel zooms.</p>
+<p>Arrows move the cursor by a sample, with shift by 16. A click locks it, <kbd>Esc</kbd> lets it go. <kbd>+</kbd> <kbd>-</kbd> zoom at the
+cursor, <kbd>0</kbd> fits the frame, <kbd>f</kbd> the leaf. <kbd>n</kbd> <kbd>p</kbd> go to the next and the previous leaf that is found,
+<kbd>d</kbd> <kbd>e</kbd> to the next and the previous difference. <kbd>s</kbd> <kbd>c</kbd> <kbd>g</kbd> change what is shown, <kbd>h</kbd> the
+classes. <kbd>1</kbd> to <kbd>9</kbd>, <kbd>m</kbd>, <kbd>x</kbd> and <kbd>b</kbd> switch layers, <kbd>/</kbd> searches. The mouse drags the
+picture, the wheel zooms, and sideways it moves.</p>
 </details>
 </aside>
 <script type=\"text/plain\" id=\"plan-bytes\">";
@@ -77,11 +125,11 @@ goes back to the picture. The mouse drags the picture and the wheel zooms.</p>
 pub const BEFORE_PLANES: &str = "</script>
 <script type=\"text/plain\" id=\"planes-bytes\">";
 
-/// Between the planes and the predictions alone.
-pub const BEFORE_PREDICTIONS: &str = "</script>
-<script type=\"text/plain\" id=\"predictions-bytes\">";
+/// Between the planes and those of the frame without coefficients.
+pub const BEFORE_BARE: &str = "</script>
+<script type=\"text/plain\" id=\"bare-bytes\">";
 
-/// Between the predictions and the planes that a trace gives.
+/// Between the planes of the frame without coefficients and those that a trace gives.
 pub const BEFORE_GIVEN: &str = "</script>
 <script type=\"text/plain\" id=\"given-bytes\">";
 
@@ -110,15 +158,22 @@ const TRANSFORM_TYPES = ['DCT_DCT', 'ADST_DCT', 'DCT_ADST', 'ADST_ADST', 'FLIPAD
   'ADST_FLIPADST', 'FLIPADST_ADST', 'IDTX', 'V_DCT', 'H_DCT', 'V_ADST', 'H_ADST', 'V_FLIPADST', 'H_FLIPADST', 'WHT_WHT'];
 const SAMPLINGS = ['4:2:0', '4:2:2', '4:4:4'];
 const FILTERS = ['regular', 'smooth', 'sharp', 'bilinear'];
+const SHARP = 2;
 const PLANES = ['Y', 'U', 'V'];
 
 // ---- Bytes.
 
-// The bytes that an element of the page holds in base64, decoded in pieces of whole groups.
+// The bytes that an element of the page holds in base64; none where the page has no such element.
 function bytesOf(id) {
-  const element = document.getElementById(id);
-  const text = element.textContent;
-  element.textContent = '';
+  const holder = document.getElementById(id);
+  if (!holder) return new Uint8Array(0);
+  const text = holder.textContent;
+  holder.textContent = '';
+  return Uint8Array.fromBase64 ? Uint8Array.fromBase64(text) : decoded(text);
+}
+
+// The same where the browser has no such call: pieces of whole groups, one behind the other.
+function decoded(text) {
   const padding = text.endsWith('==') ? 2 : text.endsWith('=') ? 1 : 0;
   const bytes = new Uint8Array(text.length / 4 * 3 - padding);
   const piece = 1 << 16;
@@ -148,6 +203,13 @@ function readFrame(bytes, view) {
   };
 }
 
+// The place of each slot's planes among the bytes of a plan, by the slot's number, and last the place behind them all.
+function slotStartsOf(frame) {
+  const starts = [20];
+  for (let slot = 0; slot < 8; slot++) starts.push(starts[slot] + (frame.mask >> slot & 1) * frame.samples * frame.sampleBytes);
+  return starts;
+}
+
 // A leaf carries chroma unless, where chroma is halved, its side is 4 and a later leaf carries it.
 function carriesChroma(frame, x, y, width, height) {
   return !(frame.xdecs[1] && width === 4 && x % 8 === 0) && !(frame.ydecs[1] && height === 4 && y % 8 === 0);
@@ -157,9 +219,9 @@ function carriesChroma(frame, x, y, width, height) {
 function readPlan(bytes) {
   const view = new DataView(bytes.buffer, bytes.byteOffset, bytes.byteLength);
   const frame = readFrame(bytes, view);
+  const slotStarts = slotStartsOf(frame);
   const leaves = [];
-  let at = 20;
-  for (let slot = 0; slot < 8; slot++) if (frame.mask >> slot & 1) at += frame.samples * frame.sampleBytes;
+  let at = slotStarts[8];
 
   const byte = () => bytes[at++];
   const signed = () => view.getInt8(at++);
@@ -194,17 +256,20 @@ function readPlan(bytes) {
     const half = side / 2;
     const quarter = side / 4;
     const mark = byte();
+    const quarters = side === 8 ? (a, b) => leaf(a, b, 4, 4) : (a, b) => node(a, b, half);
     if (mark === 0) leaf(x, y, side, side);
     if (mark === 1) for (let i = 0; i < 2; i++) leaf(x, y + i * half, side, half);
     if (mark === 2) for (let i = 0; i < 2; i++) leaf(x + i * half, y, half, side);
     if (mark === 8) for (let i = 0; i < 4; i++) leaf(x, y + i * quarter, side, quarter);
     if (mark === 9) for (let i = 0; i < 4; i++) leaf(x + i * quarter, y, quarter, side);
-    if (mark === 3) for (let i = 0; i < 4; i++) (side === 8 ? (a, b) => leaf(a, b, 4, 4) : (a, b) => node(a, b, half))(x + i % 2 * half, y + (i >> 1) * half);
+    if (mark === 3) for (let i = 0; i < 4; i++) quarters(x + i % 2 * half, y + (i >> 1) * half);
   }
 
   for (let y = 0; y < frame.height; y += 64) for (let x = 0; x < frame.width; x += 64) node(x, y, 64);
-  return { bytes, view, frame, leaves, end: at };
+  return { bytes, view, frame, slotStarts, leaves, end: at };
 }
+
+// ---- What a leaf covers.
 
 // The rectangle of a leaf in a plane, with the sides of its transforms there; null where it covers no part of the plane.
 function areaOf(frame, leaf, p) {
@@ -216,6 +281,12 @@ function areaOf(frame, leaf, p) {
   const x = (leaf.x / 4 >> frame.xdecs[p]) * 4;
   const y = (leaf.y / 4 >> frame.ydecs[p]) * 4;
   return { x, y, width, height, wide: Math.min(width, 32), high: Math.min(height, 32) };
+}
+
+// The part of a leaf that lies in the frame.
+function visibleBox(frame, leaf) {
+  const { x, y } = leaf;
+  return { x, y, width: Math.min(leaf.width, frame.width - x), height: Math.min(leaf.height, frame.height - y) };
 }
 
 // The coefficients of a leaf in a plane: block, place and value, and what the place is.
@@ -233,6 +304,8 @@ function coefficientsOf(plan, leaf, p) {
   return list;
 }
 
+const coefficientCount = (leaf) => leaf.triples.reduce((sum, t) => sum + t.count, 0);
+
 // The number of each luma cell's leaf.
 function cellsOf(plan) {
   const columns = plan.frame.width / 4;
@@ -248,20 +321,54 @@ function cellsOf(plan) {
 
 // ---- Samples.
 
+const IS_LITTLE = new Uint8Array(new Uint16Array([1]).buffer)[0] === 1;
+
 // The samples of bytes of planes.
 function samplesOf(frame, bytes) {
   if (frame.sampleBytes === 1) return bytes;
+  if (IS_LITTLE && bytes.byteOffset % 2 === 0) return new Uint16Array(bytes.buffer, bytes.byteOffset, frame.samples);
   const samples = new Uint16Array(frame.samples);
   for (let i = 0; i < samples.length; i++) samples[i] = bytes[2 * i] | bytes[2 * i + 1] << 8;
   return samples;
 }
 
-// What can be shown: samples, or differences of two of them, which are drawn as twice their size round grey.
-function sourcesOf(frame, planes, predictions, given) {
-  const sources = [
-    { name: 'reconstruction', of: planes, less: null }, { name: 'prediction', of: predictions, less: null }, { name: 'residue', of: planes, less: predictions },
-  ];
-  if (given) sources.push({ name: 'given', of: given, less: null }, { name: 'given - defined', of: given, less: planes });
+// The residue of bytes of planes, two bytes a sample, with its sign.
+function residueOf(frame, bytes) {
+  const view = new DataView(bytes.buffer, bytes.byteOffset, bytes.byteLength);
+  return Int16Array.from({ length: frame.samples }, (none, i) => view.getInt16(2 * i, true));
+}
+
+// The planes that the page holds. It may lack those of the predictions, of the residue, and those that a trace gives.
+function heldPlanes(frame) {
+  const read = (id, reader) => { const bytes = bytesOf(id); return bytes.length ? reader(frame, bytes) : null; };
+  return {
+    planes: read('planes-bytes', samplesOf), bare: read('bare-bytes', samplesOf), given: read('given-bytes', samplesOf),
+    predictions: read('predictions-bytes', samplesOf), residue: read('residue-bytes', residueOf),
+  };
+}
+
+// The samples of a slot, whose planes stand in the plan.
+function slotSamples(plan, slot) {
+  return samplesOf(plan.frame, plan.bytes.subarray(plan.slotStarts[slot], plan.slotStarts[slot + 1]));
+}
+
+// What can be shown: samples, or numbers with a sign, which are drawn round grey. `less` is taken from `of`, where there is one.
+function sourcesOf(plan, held) {
+  const source = (name, title, of, less = null, signed = less !== null) => ({ name, title, of, less, signed, slot: -1, greatest: new Map() });
+  const sources = [source('reconstruction', 'what the plan comes to', held.planes)];
+  if (held.predictions) sources.push(source('prediction', 'what each block is predicted as', held.predictions));
+  if (held.residue) sources.push(source('residue', 'what is added to the prediction', held.residue, null, true));
+  sources.push(source('frame without coefficients', 'what the plan comes to without any coefficient', held.bare));
+  sources.push(source('changed by coefficients', 'the reconstruction less the frame without coefficients', held.planes, held.bare));
+  if (held.given) {
+    sources.push(source('given', 'what another encoder left', held.given));
+    sources.push(source('given - defined', 'the given samples less the reconstruction', held.given, held.planes));
+  }
+  for (let slot = 0; slot < 8; slot++) {
+    if (!(plan.frame.mask >> slot & 1)) continue;
+    const names = REFERENCES.filter((name, i) => i > 0 && plan.frame.slots[i - 1] === slot);
+    sources.push({ ...source('slot ' + slot, 'reference planes, of ' + (names.join(', ') || 'no reference'), slotSamples(plan, slot)), slot });
+  }
   return sources;
 }
 
@@ -270,100 +377,329 @@ function valueAt(frame, source, p, x, y) {
   return source.of[i] - (source.less ? source.less[i] : 0);
 }
 
+// ---- Gains.
+
+const GAINS = ['automatic', 1, 2, 4, 8, 16, 32, 64];
+
+// The greatest magnitude of a source in a component, in all planes for RGB.
+function greatestOf(frame, source, component) {
+  if (source.greatest.has(component)) return source.greatest.get(component);
+  const p = PLANES.indexOf(component);
+  const from = p < 0 ? 0 : frame.starts[p];
+  const end = p < 0 ? frame.samples : from + frame.widths[p] * frame.heights[p];
+  const { of, less } = source;
+  let greatest = 0;
+  for (let i = from; i < end; i++) greatest = Math.max(greatest, Math.abs(less ? of[i] - less[i] : of[i]));
+  source.greatest.set(component, greatest);
+  return greatest;
+}
+
+// By how much numbers with a sign are drawn stronger than samples: at 1 as many levels of grey as samples of that size have. The automatic
+// gain draws the greatest magnitude as black or as white.
+function gainOf(frame, source, component, gain) {
+  if (gain !== 'automatic') return gain;
+  return 127 * (1 << (frame.depth - 8)) / Math.max(greatestOf(frame, source, component), 1);
+}
+
+// The number that is drawn as white, whose opposite is drawn as black.
+const whiteOf = (frame, gain) => 127 * (1 << (frame.depth - 8)) / gain;
+
+// ---- Colours of samples.
+
 // The matrices by which Y, U and V become R, G and B: the weights of red and blue in luma.
 const MATRICES = [['BT.709', 0.2126, 0.0722], ['BT.601', 0.299, 0.114], ['BT.2020', 0.2627, 0.0593]].flatMap(([name, red, blue]) =>
   ['full range', 'limited range'].map((range) => ({ name: name + ', ' + range, red, blue, full: range === 'full range' })));
 
-// The picture of a source and a component, one pixel a luma sample.
-function paint(frame, source, component, matrix) {
-  const { width, height, depth, starts, widths, xdecs, ydecs } = frame;
-  const image = new ImageData(width, height);
-  const pixels = image.data;
-  const scale = 1 / (1 << (depth - 8));
-  const { of, less } = source;
-  const get = less ? (i) => 128 + 2 * (of[i] - less[i]) * scale : (i) => of[i] * scale;
-  const luma = matrix.full || less ? 1 : 255 / 219;
-  const chroma = matrix.full || less ? 1 : 255 / 224;
-  const dark = luma === 1 ? 0 : 16;
+// What writes the pixels of a row of luma samples, of a source and a component, at a place among pixels: those of some columns.
+function painterOf(frame, source, component, matrix, gain) {
+  const { of, less, signed } = source;
+  const scale = (signed ? gain : 1) / (1 << (frame.depth - 8));
+  const middle = signed ? 128 : 0;
+  const level = less ? (i) => middle + (of[i] - less[i]) * scale : (i) => middle + of[i] * scale;
+  const p = PLANES.indexOf(component);
+  return p < 0 ? colourPainter(frame, level, matrix, matrix.full || signed) : greyPainter(frame, level, p);
+}
+
+// The place of the first sample of a row of luma, in a plane.
+const rowStart = (frame, p, y) => frame.starts[p] + (y >> frame.ydecs[p]) * frame.widths[p];
+
+function greyPainter(frame, level, p) {
+  const xdec = frame.xdecs[p];
+  return (pixels, from, y, columns) => {
+    const row = rowStart(frame, p, y);
+    for (let i = 0, at = from; i < columns.length; i++, at += 4) {
+      pixels[at] = pixels[at + 1] = pixels[at + 2] = level(row + (columns[i] >> xdec));
+      pixels[at + 3] = 255;
+    }
+  };
+}
+
+function colourPainter(frame, level, matrix, full) {
+  const luma = full ? 1 : 255 / 219;
+  const chroma = full ? 1 : 255 / 224;
+  const dark = full ? 0 : 16;
   const green = 1 - matrix.red - matrix.blue;
   const vRed = 2 * (1 - matrix.red) * chroma;
   const uBlue = 2 * (1 - matrix.blue) * chroma;
   const uGreen = uBlue * matrix.blue / green;
   const vGreen = vRed * matrix.red / green;
-  const p = PLANES.indexOf(component);
-  for (let y = 0, at = 0; y < height; y++) {
-    const row = starts[1] + (y >> ydecs[1]) * widths[1];
-    const grey = p < 0 ? 0 : starts[p] + (y >> ydecs[p]) * widths[p];
-    for (let x = 0; x < width; x++, at += 4) {
-      if (p < 0) {
-        const i = row + (x >> xdecs[1]);
-        const l = (get(y * width + x) - dark) * luma;
-        const u = get(i) - 128;
-        const v = get(i + starts[2] - starts[1]) - 128;
-        pixels[at] = l + vRed * v;
-        pixels[at + 1] = l - uGreen * u - vGreen * v;
-        pixels[at + 2] = l + uBlue * u;
-      } else {
-        pixels[at] = pixels[at + 1] = pixels[at + 2] = get(grey + (x >> xdecs[p]));
-      }
+  const xdec = frame.xdecs[1];
+  return (pixels, from, y, columns) => {
+    const [lumaRow, uRow, vRow] = [0, 1, 2].map((p) => rowStart(frame, p, y));
+    for (let i = 0, at = from; i < columns.length; i++, at += 4) {
+      const l = (level(lumaRow + columns[i]) - dark) * luma;
+      const u = level(uRow + (columns[i] >> xdec)) - 128;
+      const v = level(vRow + (columns[i] >> xdec)) - 128;
+      pixels[at] = l + vRed * v;
+      pixels[at + 1] = l - uGreen * u - vGreen * v;
+      pixels[at + 2] = l + uBlue * u;
       pixels[at + 3] = 255;
     }
-  }
+  };
+}
+
+// A picture of some columns and rows, one pixel a luma sample; past the frame the nearest sample stands, as a vector reads it.
+function paint(frame, painter, left, top, width, height) {
+  const image = new ImageData(width, height);
+  const within = (place, end) => Math.min(Math.max(place, 0), end - 1);
+  const columns = Int32Array.from({ length: width }, (none, column) => within(left + column, frame.width));
+  for (let row = 0; row < height; row++) painter(image.data, 4 * width * row, within(top + row, frame.height), columns);
   return image;
 }
 
-// ---- Differences.
-
-// Where given samples differ: how many, and of each leaf and plane the first, in coding order.
-function differencesOf(plan, planes, given) {
-  const { frame } = plan;
-  let count = 0;
-  for (let i = 0; i < planes.length; i++) if (given[i] !== planes[i]) count++;
-  const list = [];
-  if (count === 0) return { count, list };
-  for (const leaf of plan.leaves) {
-    for (let p = 0; p < 3; p++) {
-      const first = firstDifference(frame, areaOf(frame, leaf, p), p, planes, given);
-      if (first) list.push({ leaf: leaf.number, plane: p, ...first });
-    }
-  }
-  return { count, list };
+// A colour by its hue in degrees, and its saturation and lightness from 0 to 1: red, green and blue.
+function byHue(hue, saturation, lightness) {
+  const part = (n) => {
+    const k = (n + hue / 30) % 12;
+    return Math.round(255 * (lightness - saturation * Math.min(lightness, 1 - lightness) * Math.max(-1, Math.min(k - 3, 9 - k, 1))));
+  };
+  return [part(0), part(8), part(4)];
 }
 
-function firstDifference(frame, area, p, planes, given) {
-  if (!area) return null;
+// A colour as a pixel of an image, and as a style.
+const pixelOf = ([red, green, blue], alpha) => (alpha << 24 | blue << 16 | green << 8 | red) >>> 0;
+const styleOf = (colour) => 'rgb(' + colour.join(' ') + ')';
+
+// ---- Where given samples differ.
+
+// How many samples differ; of each leaf and plane the first one, in coding order, and of each leaf the greatest difference.
+function differencesOf(plan, planes, given) {
+  const { frame, leaves } = plan;
+  const found = { count: 0, list: [], ofLeaf: new Map(), greatest: new Uint16Array(leaves.length), most: 0 };
+  for (let i = 0; i < planes.length; i++) if (given[i] !== planes[i]) found.count++;
+  if (found.count === 0) return found;
+  for (const leaf of leaves) {
+    for (let p = 0; p < 3; p++) {
+      const { first, greatest } = differencesIn(frame, areaOf(frame, leaf, p), p, planes, given);
+      if (!first) continue;
+      const entry = { leaf: leaf.number, plane: p, ...first };
+      found.list.push(entry);
+      if (!found.ofLeaf.has(leaf.number)) found.ofLeaf.set(leaf.number, []);
+      found.ofLeaf.get(leaf.number).push(entry);
+      found.greatest[leaf.number] = Math.max(found.greatest[leaf.number], greatest);
+      found.most = Math.max(found.most, greatest);
+    }
+  }
+  return found;
+}
+
+const NO_DIFFERENCES = { count: 0, list: [], ofLeaf: new Map(), greatest: [], most: 0 };
+
+// The first sample that differs in a leaf's area of a plane, and the greatest difference there.
+function differencesIn(frame, area, p, planes, given) {
+  let first = null;
+  let greatest = 0;
+  if (!area) return { first, greatest };
   const right = Math.min(area.x + area.width, frame.widths[p]);
   const bottom = Math.min(area.y + area.height, frame.heights[p]);
   for (let row = area.y; row < bottom; row++) {
     for (let column = area.x; column < right; column++) {
       const i = frame.starts[p] + row * frame.widths[p] + column;
-      if (given[i] !== planes[i]) return { row, column, given: given[i], defined: planes[i] };
+      if (given[i] === planes[i]) continue;
+      first = first || { row, column, given: given[i], defined: planes[i] };
+      greatest = Math.max(greatest, Math.abs(given[i] - planes[i]));
     }
   }
+  return { first, greatest };
+}
+
+// ---- Leaves that depart from AV1: by rav1e's rule, which plans follow, their samples can be others than AV1's.
+
+const SHORT_FILTER = 'the sharp filter along a short side: rav1e takes the smooth filter of four weights there, AV1 the regular one';
+const WRAPPED_IDENTITY = 'an identity wraps: along rows it passes 32 bits, where rav1e wraps and AV1 does not';
+const IDENTITY_ALONG_ROWS = ['IDTX', 'V_DCT', 'V_ADST', 'V_FLIPADST'];
+
+// Chroma has a side of 4 where a side of 8 is halved, and is filtered along it where the vector has a fraction there, in 1/16 of a sample.
+function meetsShortFilter(frame, leaf) {
+  if (frame.filter !== SHARP || !leaf.motions) return false;
+  const narrow = frame.xdecs[1] === 1 && leaf.width === 8;
+  const low = frame.ydecs[1] === 1 && leaf.height === 8;
+  return leaf.motions.some((m) => (narrow && (m.column & 15) !== 0) || (low && (m.row & 15) !== 0));
+}
+
+// What an identity along rows multiplies by, in 1/4096: of 4 values a root of 2, of 16 two.
+const IDENTITY_FACTORS = new Map([[4, 5793], [16, 11586]]);
+
+// In a plane a product of an identity passes 32 bits. Where one side is twice the other, coefficients are divided by a root of 2 before.
+function wrapsIn(plan, leaf, p) {
+  const area = areaOf(plan.frame, leaf, p);
+  const factor = area && IDENTITY_FACTORS.get(area.wide);
+  if (!factor || !IDENTITY_ALONG_ROWS.includes(TRANSFORM_TYPES[p === 0 ? leaf.transformType : leaf.chromaType])) return false;
+  const isTwice = area.wide === 2 * area.high || area.high === 2 * area.wide;
+  return coefficientsOf(plan, leaf, p).some(({ value }) => {
+    const product = (isTwice ? value * 2896 + 2048 >> 12 : value) * factor + 2048;
+    return product < -(2 ** 31) || product >= 2 ** 31;
+  });
+}
+
+// Why a leaf departs, or nothing.
+function departureOf(plan, leaf) {
+  if (meetsShortFilter(plan.frame, leaf)) return SHORT_FILTER;
+  if (plan.frame.depth === 12 && leaf.triples.some((t, p) => t.count > 0 && wrapsIn(plan, leaf, p))) return WRAPPED_IDENTITY;
   return null;
 }
 
-// ---- Texts.
+// The leaves that depart, by their numbers, each with the reason.
+function departuresOf(plan) {
+  const found = new Map();
+  for (const leaf of plan.leaves) {
+    const reason = departureOf(plan, leaf);
+    if (reason) found.set(leaf.number, reason);
+  }
+  return found;
+}
+
+// ---- Leaves by what they have in common.
+
+// A leaf has one class of each property: a number, with a name and a colour. Classes stand in the order of their numbers.
+
+// Modes: plain ones in browns, directions by their angle, one reference in greens, two in violets.
+const PLAIN_MODES = new Map([[0, [168, 168, 168]], [9, [244, 201, 160]], [10, [224, 160, 112]], [11, [200, 136, 80]], [12, [139, 90, 43]]]);
+
+function modeColour(mode) {
+  if (mode >= FIRST_COMPOUND) return byHue(262, 0.6, 0.3 + 0.035 * (mode - FIRST_COMPOUND));
+  if (mode >= FIRST_SINGLE) return byHue(160, 0.75, 0.25 + 0.08 * (mode - FIRST_SINGLE));
+  return PLAIN_MODES.get(mode) || byHue(2 * ANGLES[mode] % 360, 0.7, 0.55);
+}
+
+// Sides: squares green, wide ones blue, tall ones orange; the greater the darker.
+function sidesColour(width, height) {
+  const hue = width === height ? 130 : width > height ? 210 : 30;
+  return byHue(hue, 0.65, 0.92 - 0.055 * Math.log2(width * height));
+}
+
+// Counts: none, 1, 2, 3 to 4, 5 to 8 and so on, from dark to light.
+const binOf = (count) => count === 0 ? 0 : 1 + Math.ceil(Math.log2(count));
+const binName = (bin) => bin < 3 ? String(bin) : (2 ** (bin - 2) + 1) + ' to ' + 2 ** (bin - 1);
+const binColour = (bin) => byHue(270 - 18 * bin, 0.6, 0.25 + 0.045 * bin);
+
+const PROPERTIES = [
+  { id: 'mode', classOf: (l) => l.mode, nameOf: (mode) => MODES[mode], colourOf: modeColour },
+  {
+    id: 'size', classOf: (l) => l.width * l.height << 8 | l.width, nameOf: (size) => (size & 255) + 'x' + (size >> 8) / (size & 255),
+    colourOf: (size) => sidesColour(size & 255, (size >> 8) / (size & 255)),
+  },
+  {
+    id: 'transform size', classOf: (l) => l.transformSize, nameOf: (size) => TRANSFORM_SIZES[size].join('x'),
+    colourOf: (size) => sidesColour(...TRANSFORM_SIZES[size]),
+  },
+  {
+    id: 'transform type', classOf: (l) => l.triples[0].count === 0 ? -1 : l.transformType,
+    nameOf: (type) => type < 0 ? 'no coefficients of Y' : TRANSFORM_TYPES[type],
+    colourOf: (type) => type < 0 ? [70, 70, 70] : byHue(137.5 * type % 360, 0.65, type % 2 ? 0.42 : 0.62),
+  },
+  { id: 'coefficients', classOf: (l) => binOf(coefficientCount(l)), nameOf: binName, colourOf: binColour },
+];
+
+// The classes of a property that leaves have: how many leaves, and how many luma samples of the frame.
+function classesOf(frame, leaves, property) {
+  const found = new Map();
+  for (const leaf of leaves) {
+    const number = property.classOf(leaf);
+    if (!found.has(number)) found.set(number, { number, name: property.nameOf(number), colour: property.colourOf(number), count: 0, area: 0 });
+    const one = found.get(number);
+    one.count++;
+    const box = visibleBox(frame, leaf);
+    one.area += box.width * box.height;
+  }
+  return [...found.values()].sort((a, b) => a.number - b.number);
+}
+
+// ---- Texts of a leaf.
 
 const withStep = (mode, step) => INTRA_MODES[mode] + (step ? (step > 0 ? ' +' : ' ') + step : '');
 const angleOf = (mode, step) => ANGLES[mode] + 3 * step;
 const chromaText = (l) => l.weights ? 'CFL ' + l.weights.join(' ') : withStep(l.chromaMode, l.chromaStep);
 const motionText = (m) => REFERENCES[m.reference] + ' ' + m.row + ' ' + m.column;
-const coefficientCount = (l) => l.triples.reduce((sum, t) => sum + t.count, 0);
 
+// A number of eighths as a whole number and a fraction.
+function eighths(value) {
+  const whole = Math.floor(value / 8);
+  const part = value - 8 * whole;
+  return whole + (part ? ' + ' + part + '/8' : '');
+}
+
+// A leaf in a line.
 function summaryOf(l) {
-  const mode = l.motions ? MODES[l.mode] + ' ' + l.motions.map(motionText).join(', ') : withStep(l.mode, l.step) + (l.carried ? ' chroma ' + chromaText(l) : '');
-  return l.number + '  ' + l.width + 'x' + l.height + ' at ' + l.x + ' ' + l.y + '  ' + mode + '  ' + TRANSFORM_TYPES[l.transformType] + '  ' + coefficientCount(l);
+  const intra = () => withStep(l.mode, l.step) + (l.carried ? ' chroma ' + chromaText(l) : '');
+  const mode = l.motions ? MODES[l.mode] + ' ' + l.motions.map(motionText).join(', ') : intra();
+  const place = l.width + 'x' + l.height + ' at ' + l.x + ' ' + l.y;
+  return [l.number, place, mode, TRANSFORM_TYPES[l.transformType], coefficientCount(l)].join('  ');
+}
+
+function modeFields(frame, l) {
+  if (l.motions) {
+    return [['mode', l.mode + ' ' + MODES[l.mode]], ...l.motions.flatMap((m) => [
+      ['reference', m.reference + ' ' + REFERENCES[m.reference] + ', slot ' + frame.slots[m.reference - 1]],
+      ['vector', 'row ' + m.row + ', column ' + m.column + ' eighths'],
+      ['its source', 'column ' + eighths(8 * l.x + m.column) + ', row ' + eighths(8 * l.y + m.row)],
+    ])];
+  }
+  const angle = (mode, step) => mode >= 1 && mode <= 8 ? ', ' + angleOf(mode, step) + ' degrees' : '';
+  const fields = [['luma mode', l.mode + ' ' + withStep(l.mode, l.step) + angle(l.mode, l.step)]];
+  if (l.carried) fields.push(['chroma mode', l.chromaMode + ' ' + chromaText(l) + (l.weights ? '' : angle(l.chromaMode, l.chromaStep))]);
+  return fields;
+}
+
+// The fields of a leaf, each with its name.
+function fieldsOf(frame, l) {
+  const fields = [['size and place', l.width + 'x' + l.height + ' at column ' + l.x + ', row ' + l.y], ...modeFields(frame, l)];
+  fields.push(['luma transforms', TRANSFORM_SIZES[l.transformSize].join('x') + ' ' + TRANSFORM_TYPES[l.transformType]]);
+  if (l.carried) {
+    const area = areaOf(frame, l, 1);
+    fields.push(['chroma transforms', area.wide + 'x' + area.high + ' ' + TRANSFORM_TYPES[l.chromaType]]);
+  } else {
+    fields.push(['chroma', 'carried by a later leaf']);
+  }
+  fields.push(['coefficients', l.triples.map((t, p) => PLANES[p] + ' ' + t.count).join(', ')]);
+  return fields;
+}
+
+const MOST_TRIPLES = 400;
+
+function triplesText(plan, l) {
+  const texts = l.triples.flatMap((t, p) => coefficientsOf(plan, l, p).map((c) =>
+    PLANES[p] + ' block ' + c.block + ' place ' + c.place + ' (column ' + c.column + ', row ' + c.row + ') value ' + c.value));
+  const more = texts.length - MOST_TRIPLES;
+  return texts.slice(0, MOST_TRIPLES).join('\\n') + (more > 0 ? '\\nand ' + more + ' more' : '');
 }
 
 // ---- What is shown.
 
+// Layers in the order of their switches. `single` are drawn leaf by leaf, from so near that each has room.
 const LAYERS = [
-  { id: 'superblocks', name: 'superblocks', colour: '#f0e442', on: true }, { id: 'leaves', name: 'leaves', colour: '#ffffff', on: true },
-  { id: 'transforms', name: 'transforms', colour: '#56b4e9', on: false }, { id: 'modes', name: 'modes', colour: '#e69f00', on: true },
-  { id: 'chroma', name: 'chroma modes', colour: '#cc79a7', on: false }, { id: 'vectors', name: 'vectors', colour: '#00d69b', on: true },
-  { id: 'coefficients', name: 'coefficients', colour: '#d0e8ff', on: false }, { id: 'values', name: 'sample values', colour: '#ffffff', on: true },
-  { id: 'differences', name: 'differences', colour: '#ff5a00', on: true },
+  { id: 'superblocks', key: '1', name: 'superblocks', colour: '#f0e442', on: true },
+  { id: 'leaves', key: '2', name: 'leaves', colour: '#ffffff', on: true },
+  { id: 'transforms', key: '3', name: 'transforms', colour: '#56b4e9', on: false },
+  { id: 'modes', key: '4', name: 'modes', colour: '#e69f00', on: true, single: true },
+  { id: 'chroma', key: '5', name: 'chroma modes', colour: '#cc79a7', on: false, single: true },
+  { id: 'vectors', key: '6', name: 'vectors', colour: '#00d69b', on: true, single: true },
+  { id: 'coefficients', key: '7', name: 'coefficients', colour: '#d0e8ff', on: false, single: true },
+  { id: 'values', key: '8', name: 'sample values', colour: '#ffffff', on: true, single: true },
+  { id: 'differences', key: '9', name: 'differences', colour: '#ff5a00', on: true },
+  { id: 'departures', key: 'x', name: 'departs from AV1', colour: '#ff3b5c', on: true },
+  { id: 'map', key: 'm', name: 'map of leaves', colour: '#b59cff', on: false },
+  { id: 'source', key: 'b', name: 'source of the block', colour: '#00d69b', on: false },
 ];
 
 const element = (id) => document.getElementById(id);
@@ -371,130 +707,37 @@ const canvas = element('picture');
 const plan = readPlan(bytesOf('plan-bytes'));
 const { frame, leaves } = plan;
 const cells = cellsOf(plan);
-const planes = samplesOf(frame, bytesOf('planes-bytes'));
-const predictions = samplesOf(frame, bytesOf('predictions-bytes'));
-const givenBytes = bytesOf('given-bytes');
-const given = givenBytes.length ? samplesOf(frame, givenBytes) : null;
-const differences = given ? differencesOf(plan, planes, given) : { count: 0, list: [] };
-const sources = sourcesOf(frame, planes, predictions, given);
-const differing = new Set(differences.list.map((d) => d.leaf));
-const layers = Object.fromEntries(LAYERS.map((layer) => [layer.id, layer.on]));
-const state = { source: sources[0], component: 'RGB', matrix: MATRICES[0], zoom: 1, left: 0, top: 0, x: 0, y: 0, found: null, difference: -1 };
-const picture = document.createElement('canvas');
-const lines = document.createElement('canvas');
-const stamps = new Uint32Array(leaves.length);
-let stamp = 0;
-let waiting = false;
-let linesKey = '';
+const held = heldPlanes(frame);
+const { planes, given } = held;
+const sources = sourcesOf(plan, held);
+const differences = given ? differencesOf(plan, planes, given) : NO_DIFFERENCES;
+const departures = departuresOf(plan);
+
+// Layers that have something to show in this page.
+const hasVectors = leaves.some((leaf) => leaf.motions);
+const HAS_LAYER = { vectors: hasVectors, source: hasVectors, differences: given !== null, departures: departures.size > 0 };
+const LAYERS_HERE = LAYERS.filter((layer) => HAS_LAYER[layer.id] !== false);
+const layers = Object.fromEntries(LAYERS.map((layer) => [layer.id, layer.on && HAS_LAYER[layer.id] !== false]));
+
+// Lengths are of CSS pixels, of which each has `scale` of the device's on a side. `left` and `top` are the luma place at the corner.
+const state = {
+  source: sources[0], component: 'RGB', matrix: MATRICES[0], gain: 'automatic', zoom: 1, left: 0, top: 0, width: 1, height: 1, scale: 1, ground: '',
+  x: 0, y: 0, locked: false, property: PROPERTIES[0], chosen: null, words: '', found: null, difference: -1,
+};
 
 const leafAt = (x, y) => leaves[cells.leaves[(y >> 2) * cells.columns + (x >> 2)]];
+const leafHere = () => leafAt(state.x, state.y);
 const shownPlane = () => Math.max(PLANES.indexOf(state.component), 0);
+const gainHere = () => gainOf(frame, state.source, state.component, state.gain);
+const colourOf = (id) => LAYERS.find((layer) => layer.id === id).colour;
 
-function repaint() {
-  picture.width = frame.width;
-  picture.height = frame.height;
-  picture.getContext('2d').putImageData(paint(frame, state.source, state.component, state.matrix), 0, 0);
-  redraw();
-}
-
-function redraw() {
-  if (waiting) return;
-  waiting = true;
-  requestAnimationFrame(() => { waiting = false; draw(); });
-}
-
-// ---- Drawing.
-
-// The most leaves that are drawn one by one, with what they say.
-const MOST_LEAVES = 2500;
-
-// The visible part of the frame, in luma samples.
-function visiblePart() {
-  const width = canvas.width / state.zoom;
-  const height = canvas.height / state.zoom;
-  const left = Math.max(Math.floor(state.left), 0);
-  const top = Math.max(Math.floor(state.top), 0);
-  return { left, top, right: Math.min(Math.ceil(state.left + width), frame.width), bottom: Math.min(Math.ceil(state.top + height), frame.height) };
-}
-
-// The leaves that are seen, each once.
-function visibleLeaves(part) {
-  const list = [];
-  stamp++;
-  for (let row = part.top >> 2; row << 2 < part.bottom; row++) {
-    for (let column = part.left >> 2; column << 2 < part.right; column++) {
-      const n = cells.leaves[row * cells.columns + column];
-      if (stamps[n] === stamp) continue;
-      stamps[n] = stamp;
-      list.push(leaves[n]);
-    }
-  }
-  return list;
-}
-
-function draw() {
-  const context = canvas.getContext('2d');
-  const part = visiblePart();
-  const { zoom, left, top } = state;
-  context.setTransform(1, 0, 0, 1, 0, 0);
-  context.fillStyle = '#16181b';
-  context.fillRect(0, 0, canvas.width, canvas.height);
-  context.imageSmoothingEnabled = zoom < 1;
-  const place = [0, 0, frame.width, frame.height, -left * zoom, -top * zoom, frame.width * zoom, frame.height * zoom];
-  context.drawImage(picture, ...place);
-  const seen = visibleLeaves(part);
-  if (seen.length > MOST_LEAVES) {
-    context.imageSmoothingEnabled = true;
-    context.drawImage(drawnLines(), ...place);
-  } else {
-    drawClose(context, seen, part);
-  }
-  if (layers.differences && given) markDifferences(context, part);
-  drawCursor(context);
-  element('scale').textContent = zoom.toFixed(2) + ' pixels a sample, ' + state.source.name + ', ' + state.component;
-}
-
-// Lines of one sample, drawn once, for a picture of which more leaves are seen than can be drawn one by one.
-function drawnLines() {
-  const key = [layers.superblocks, layers.leaves, layers.transforms, shownPlane()].join();
-  if (key === linesKey) return lines;
-  linesKey = key;
-  lines.width = frame.width;
-  lines.height = frame.height;
-  const image = new ImageData(frame.width, frame.height);
-  const pixels = new Uint32Array(image.data.buffer);
-  if (layers.transforms) for (const leaf of leaves) eachTransform(leaf, (box) => edge(pixels, box, 0xb0e9b456));
-  if (layers.leaves) for (const leaf of leaves) edge(pixels, leaf, 0xa0ffffff);
-  if (layers.superblocks) for (let y = 0; y < frame.height; y += 64) for (let x = 0; x < frame.width; x += 64) edge(pixels, { x, y, width: 64, height: 64 }, 0xff42e4f0);
-  lines.getContext('2d').putImageData(image, 0, 0);
-  return lines;
-}
-
-// The upper and the left edge of a box.
-function edge(pixels, box, colour) {
-  const right = Math.min(box.x + box.width, frame.width);
-  const bottom = Math.min(box.y + box.height, frame.height);
-  if (box.y < frame.height) pixels.fill(colour, box.y * frame.width + box.x, box.y * frame.width + right);
-  for (let y = box.y; y < bottom; y++) pixels[y * frame.width + box.x] = colour;
-}
-
-// The transform blocks of a leaf in the plane that is shown, in luma samples, where they begin in the visible plane.
-function eachTransform(leaf, act) {
-  const p = shownPlane();
-  const area = areaOf(frame, leaf, p);
-  if (!area) return;
-  const xdec = frame.xdecs[p];
-  const ydec = frame.ydecs[p];
-  let block = 0;
-  for (let y = area.y; y < area.y + area.height; y += area.high) {
-    for (let x = area.x; x < area.x + area.width; x += area.wide, block++) {
-      if (x < frame.widths[p] && y < frame.heights[p]) act({ x: x << xdec, y: y << ydec, width: area.wide << xdec, height: area.high << ydec }, block);
-    }
-  }
-}
+// ---- Strokes, marks and small texts.
 
 const across = (x) => (x - state.left) * state.zoom;
 const down = (y) => (y - state.top) * state.zoom;
+
+// A length that ends at one of the device's pixels.
+const snap = (length) => Math.round(length * state.scale) / state.scale;
 
 const SHADE = '#00000080';
 
@@ -530,10 +773,10 @@ function drawEdges(context, fill, width, boxes) {
   for (const [colour, thick] of [[SHADE, width + 2], [fill, width]]) {
     context.fillStyle = colour;
     for (const box of boxes) {
-      const x = Math.round(across(box.x) - thick / 2);
-      const y = Math.round(down(box.y) - thick / 2);
-      context.fillRect(x, y, Math.round(box.width * state.zoom), thick);
-      context.fillRect(x, y, thick, Math.round(box.height * state.zoom));
+      const x = snap(across(box.x) - thick / 2);
+      const y = snap(down(box.y) - thick / 2);
+      context.fillRect(x, y, snap(box.width * state.zoom), thick);
+      context.fillRect(x, y, thick, snap(box.height * state.zoom));
     }
   }
 }
@@ -542,7 +785,7 @@ function boxPath(box) {
   return (context) => context.rect(across(box.x), down(box.y), box.width * state.zoom, box.height * state.zoom);
 }
 
-// Small marks and texts are drawn once each, and then copied.
+// Small marks and texts are drawn once each at the device's scale, and then copied.
 const marks = new Map();
 const MOST_MARKS = 4000;
 
@@ -550,15 +793,19 @@ function markOf(key, width, height, paintMark) {
   if (marks.has(key)) return marks.get(key);
   if (marks.size >= MOST_MARKS) marks.clear();
   const mark = document.createElement('canvas');
-  mark.width = width;
-  mark.height = height;
-  paintMark(mark.getContext('2d'));
+  mark.width = Math.ceil(width * state.scale);
+  mark.height = Math.ceil(height * state.scale);
+  const context = mark.getContext('2d');
+  context.scale(state.scale, state.scale);
+  paintMark(context);
   marks.set(key, mark);
   return mark;
 }
 
 function copyMark(context, mark, x, y) {
-  context.drawImage(mark, Math.round(x - mark.width / 2), Math.round(y - mark.height / 2));
+  const width = mark.width / state.scale;
+  const height = mark.height / state.scale;
+  context.drawImage(mark, snap(x - width / 2), snap(y - height / 2), width, height);
 }
 
 // A text round a point; its letters are of one width.
@@ -578,46 +825,129 @@ function textAt(context, text, x, y, size, colour) {
   }), x, y);
 }
 
-const colourOf = (id) => LAYERS.find((layer) => layer.id === id).colour;
-
-function drawClose(context, seen, part) {
-  if (layers.values && state.zoom >= 24) drawValues(context, part);
-  if (layers.transforms) {
-    const boxes = [];
-    for (const leaf of seen) eachTransform(leaf, (box) => boxes.push(box));
-    drawEdges(context, dashesOf(context, colourOf('transforms')), 1, boxes);
-  }
-  if (layers.leaves) drawEdges(context, colourOf('leaves'), 1, seen);
-  if (layers.superblocks) {
-    const boxes = [];
-    for (let y = part.top & ~63; y < part.bottom; y += 64) for (let x = part.left & ~63; x < part.right; x += 64) boxes.push({ x, y, width: 64, height: 64 });
-    drawEdges(context, colourOf('superblocks'), 2, boxes);
-  }
-  if (layers.coefficients) seen.forEach((leaf) => drawCoefficients(context, leaf));
-  if (layers.modes) drawModes(context, seen, 'modes', (l) => l.motions ? null : { mode: l.mode, step: l.step, text: withStep(l.mode, l.step) }, 0.5);
-  if (layers.chroma) drawModes(context, seen, 'chroma', (l) => l.chromaMode < 0 ? null : { mode: l.chromaMode, step: l.chromaStep, text: chromaText(l) }, 0.75);
-  if (layers.vectors) drawVectors(context, seen);
+// A text on a dark bar round a point.
+function barAt(context, text, x, y, colour) {
+  context.fillStyle = '#000000d0';
+  context.fillRect(x - 4.2 * text.length, y - 10, 8.4 * text.length, 20);
+  textAt(context, text, x, y, 13, colour);
 }
+
+// An image stretched over the frame.
+function drawOverFrame(context, image, smooth) {
+  context.imageSmoothingEnabled = smooth;
+  context.drawImage(image, 0, 0, image.width, image.height, across(0), down(0), frame.width * state.zoom, frame.height * state.zoom);
+}
+
+// An image with a pixel for each luma cell, in the colour of its leaf. One is kept for each name, while its key stays.
+const cellImages = new Map();
+
+function cellImage(name, key, colourOfLeaf) {
+  const kept = cellImages.get(name);
+  if (kept && kept.key === key) return kept.image;
+  const image = document.createElement('canvas');
+  image.width = cells.columns;
+  image.height = cells.rows;
+  const colours = Uint32Array.from(leaves, colourOfLeaf);
+  const data = new ImageData(cells.columns, cells.rows);
+  const pixels = new Uint32Array(data.data.buffer);
+  for (let i = 0; i < pixels.length; i++) pixels[i] = colours[cells.leaves[i]];
+  image.getContext('2d').putImageData(data, 0, 0);
+  cellImages.set(name, { key, image });
+  return image;
+}
+
+// ---- Layers.
+
+// Each draws on the context, and tells whether all that it has to show had room. `seen` are the leaves in the visible part of the frame, and
+// `crowded` says that these are too many to be drawn one by one.
+
+// The transform blocks of a leaf in the plane that is shown, in luma samples, where they begin in the visible plane.
+function eachTransform(leaf, act) {
+  const p = shownPlane();
+  const area = areaOf(frame, leaf, p);
+  if (!area) return;
+  const xdec = frame.xdecs[p];
+  const ydec = frame.ydecs[p];
+  let block = 0;
+  for (let y = area.y; y < area.y + area.height; y += area.high) {
+    for (let x = area.x; x < area.x + area.width; x += area.wide, block++) {
+      if (x < frame.widths[p] && y < frame.heights[p]) act({ x: x << xdec, y: y << ydec, width: area.wide << xdec, height: area.high << ydec }, block);
+    }
+  }
+}
+
+function superblocksIn(part) {
+  const boxes = [];
+  for (let y = part.top & ~63; y < part.bottom; y += 64) for (let x = part.left & ~63; x < part.right; x += 64) boxes.push({ x, y, width: 64, height: 64 });
+  return boxes;
+}
+
+function transformsOf(seen) {
+  const boxes = [];
+  for (const leaf of seen) eachTransform(leaf, (box) => boxes.push(box));
+  return boxes;
+}
+
+// ---- Lines from far.
+
+const lines = document.createElement('canvas');
+let linesKey = '';
+
+// Lines of one sample, drawn once, for a picture of which more leaves are seen than can be drawn one by one.
+function drawnLines() {
+  const key = [layers.superblocks, layers.leaves, layers.transforms, shownPlane()].join();
+  if (key === linesKey) return lines;
+  linesKey = key;
+  lines.width = frame.width;
+  lines.height = frame.height;
+  const image = new ImageData(frame.width, frame.height);
+  const pixels = new Uint32Array(image.data.buffer);
+  if (layers.transforms) for (const leaf of leaves) eachTransform(leaf, (box) => edge(pixels, box, 0xb0e9b456));
+  if (layers.leaves) for (const leaf of leaves) edge(pixels, leaf, 0xa0ffffff);
+  if (layers.superblocks) for (const box of superblocksIn({ left: 0, top: 0, right: frame.width, bottom: frame.height })) edge(pixels, box, 0xff42e4f0);
+  lines.getContext('2d').putImageData(image, 0, 0);
+  return lines;
+}
+
+// The upper and the left edge of a box.
+function edge(pixels, box, colour) {
+  const right = Math.min(box.x + box.width, frame.width);
+  const bottom = Math.min(box.y + box.height, frame.height);
+  if (box.y < frame.height) pixels.fill(colour, box.y * frame.width + box.x, box.y * frame.width + right);
+  for (let y = box.y; y < bottom; y++) pixels[y * frame.width + box.x] = colour;
+}
+
+// ---- Modes.
 
 // Directions as lines from the side that is continued, other modes by their names.
 function drawModes(context, seen, id, modeOf, place) {
   const colour = colourOf(id);
   const dashes = id === 'chroma' ? [5, 3] : [];
+  let room = true;
   for (const leaf of seen) {
     const m = modeOf(leaf);
-    const width = leaf.width * state.zoom;
-    const height = leaf.height * state.zoom;
-    if (!m || Math.min(width, height) < 8) continue;
+    if (!m) continue;
+    const box = visibleBox(frame, leaf);
+    const width = box.width * state.zoom;
+    const height = box.height * state.zoom;
     const x = across(leaf.x) + width / 2;
     const y = down(leaf.y) + height * place;
-    if (m.mode >= 1 && m.mode <= 8) {
+    const size = Math.min(13, 1.5 * width / m.text.length, height / 2);
+    if (Math.min(width, height) < 8) {
+      room = false;
+    } else if (m.mode >= 1 && m.mode <= 8) {
       slant(context, x, y, angleOf(m.mode, m.step), Math.round(Math.min(width, height) * (id === 'chroma' ? 0.2 : 0.42)), colour, dashes);
-    } else if (width >= 22) {
-      const size = Math.min(13, 1.5 * width / m.text.length, height / 2);
-      if (size >= 6) textAt(context, m.text, x, y, size, colour);
+    } else if (width >= 22 && size >= 6) {
+      textAt(context, m.text, x, y, size, colour);
+    } else {
+      room = false;
     }
   }
+  return room;
 }
+
+const lumaMode = (l) => l.motions ? null : { mode: l.mode, step: l.step, text: withStep(l.mode, l.step) };
+const chromaMode = (l) => l.chromaMode < 0 ? null : { mode: l.chromaMode, step: l.chromaStep, text: chromaText(l) };
 
 // A line through a point at an angle, with a square at the end that is continued.
 function slant(context, x, y, degrees, reach, colour, dashes) {
@@ -632,24 +962,43 @@ function slant(context, x, y, degrees, reach, colour, dashes) {
     strokeTwice(context, colour, 1.5, dashes, [line(x, y)]);
   } else {
     const middle = reach + 4;
-    copyMark(context, markOf(['slant', degrees, reach, colour].join(), 2 * middle, 2 * middle, (c) => strokeTwice(c, colour, 1.5, dashes, [line(middle, middle)])), x, y);
+    const key = ['slant', degrees, reach, colour].join();
+    copyMark(context, markOf(key, 2 * middle, 2 * middle, (c) => strokeTwice(c, colour, 1.5, dashes, [line(middle, middle)])), x, y);
   }
 }
+
+// ---- Vectors.
+
+// The vectors that are shown: all, or of a slot that is seen those that lead there. Each says whether it is its leaf's second.
+function motionsShown(leaf) {
+  if (!leaf.motions) return [];
+  const motions = leaf.motions.map((m, i) => ({ ...m, second: i === 1, slot: frame.slots[m.reference - 1] }));
+  return motions.filter((m) => state.source.slot < 0 || m.slot === state.source.slot);
+}
+
+// Where the source of a block begins in its reference, in luma samples.
+const sourceBox = (leaf, m) => ({ x: leaf.x + m.column / 8, y: leaf.y + m.row / 8, width: leaf.width, height: leaf.height });
 
 // Vectors as arrows from a leaf's middle to the middle of what it is predicted from; those to the second reference are dashed.
 function drawVectors(context, seen) {
   const colour = colourOf('vectors');
-  const inter = seen.filter((leaf) => leaf.motions && Math.min(leaf.width, leaf.height) * state.zoom >= 8);
-  for (let second = 0; second < 2; second++) {
-    strokeTwice(context, colour, 1.5, second ? [5, 3] : [], inter.filter((leaf) => leaf.motions[second]).map((leaf) => (c) => arrow(c, leaf, leaf.motions[second])));
+  const inter = seen.filter((leaf) => motionsShown(leaf).length > 0);
+  const roomy = inter.filter((leaf) => Math.min(leaf.width, leaf.height) * state.zoom >= 8);
+  for (const second of [false, true]) {
+    const arrows = roomy.flatMap((leaf) => motionsShown(leaf).filter((m) => m.second === second).map((m) => (c) => arrow(c, leaf, m)));
+    strokeTwice(context, colour, 1.5, second ? [5, 3] : [], arrows);
   }
-  for (const leaf of inter) {
-    const size = Math.min(13, leaf.width * state.zoom / 9);
-    if (size < 6) continue;
-    const x = across(leaf.x + leaf.width / 2);
-    textAt(context, MODES[leaf.mode], x, down(leaf.y) + size, Math.min(size, 1.5 * leaf.width * state.zoom / MODES[leaf.mode].length), colour);
-    textAt(context, leaf.motions.map((m) => REFERENCES[m.reference]).join(' '), x, down(leaf.y + leaf.height) - size, size, colour);
+  let room = roomy.length === inter.length;
+  for (const leaf of roomy) {
+    const box = visibleBox(frame, leaf);
+    const size = Math.min(13, box.width * state.zoom / 9);
+    if (size < 6) { room = false; continue; }
+    const x = across(box.x + box.width / 2);
+    const name = MODES[leaf.mode];
+    textAt(context, name, x, down(box.y) + size, Math.min(size, 1.5 * box.width * state.zoom / name.length), colour);
+    textAt(context, motionsShown(leaf).map((m) => REFERENCES[m.reference]).join(' '), x, down(box.y + box.height) - size, size, colour);
   }
+  return room;
 }
 
 function arrow(context, leaf, motion) {
@@ -668,82 +1017,324 @@ function arrow(context, leaf, motion) {
   context.lineTo(x + right - back * (right - below / 2), y + below - back * (below + right / 2));
 }
 
-// How many coefficients each block has, in the plane that is shown.
-function drawCoefficients(context, leaf) {
-  const p = shownPlane();
-  if (!leaf.triples[p] || leaf.triples[p].count === 0) return;
-  const counts = new Map();
-  for (const c of coefficientsOf(plan, leaf, p)) counts.set(c.block, (counts.get(c.block) || 0) + 1);
-  eachTransform(leaf, (box, block) => {
-    const width = box.width * state.zoom;
-    if (!counts.has(block) || width < 14) return;
-    const size = Math.min(13, width / 3);
-    textAt(context, '#' + counts.get(block), across(box.x) + 1.2 * size, down(box.y) + 0.8 * size, size, colourOf('coefficients'));
-  });
+// The place of the source of the leaf at the cursor, with the reference's name.
+function drawSourceBoxes(context) {
+  const leaf = leafHere();
+  for (const m of motionsShown(leaf)) {
+    const box = sourceBox(leaf, m);
+    strokeTwice(context, colourOf('vectors'), 2, [6, 4], [boxPath(box)]);
+    barAt(context, REFERENCES[m.reference] + ', slot ' + m.slot, across(box.x + box.width / 2), down(box.y) - 10, colourOf('vectors'));
+  }
 }
 
-function drawValues(context, part) {
+// ---- Coefficients and values.
+
+// How many coefficients each block has, in the plane that is shown.
+function drawCoefficients(context, seen) {
+  const p = shownPlane();
+  let room = true;
+  for (const leaf of seen) {
+    if (!leaf.triples[p] || leaf.triples[p].count === 0) continue;
+    const counts = new Map();
+    for (const c of coefficientsOf(plan, leaf, p)) counts.set(c.block, (counts.get(c.block) || 0) + 1);
+    eachTransform(leaf, (box, block) => {
+      const width = box.width * state.zoom;
+      if (!counts.has(block)) return;
+      if (width < 14) { room = false; return; }
+      const size = Math.min(13, width / 3);
+      textAt(context, '#' + counts.get(block), across(box.x) + 1.2 * size, down(box.y) + 0.8 * size, size, colourOf('coefficients'));
+    });
+  }
+  return room;
+}
+
+const VALUES_ZOOM = 24;
+
+function drawValues(context, seen, part) {
+  if (state.zoom < VALUES_ZOOM) return false;
   const rgb = state.component === 'RGB';
   const p = shownPlane();
   const xdec = frame.xdecs[p];
   const ydec = frame.ydecs[p];
-  const width = state.zoom * (1 << xdec);
-  const height = state.zoom * (1 << ydec);
-  const size = Math.min(13, width / 4, height / (rgb ? 4 : 2));
+  const size = Math.min(13, state.zoom * (1 << xdec) / 4, state.zoom * (1 << ydec) / (rgb ? 4 : 2));
   for (let y = part.top >> ydec; y << ydec < part.bottom; y++) {
     for (let x = part.left >> xdec; x << xdec < part.right; x++) {
       const middle = across((x << xdec) + (1 << xdec) / 2);
       const centre = down((y << ydec) + (1 << ydec) / 2);
-      if (rgb) PLANES.forEach((name, q) => textAt(context, valueAt(frame, state.source, q, x >> frame.xdecs[q], y >> frame.ydecs[q]), middle, centre + (q - 1) * size * 1.2, size, '#ffffff'));
-      else textAt(context, valueAt(frame, state.source, p, x, y), middle, centre, size, '#ffffff');
+      const value = (q) => valueAt(frame, state.source, q, rgb ? x >> frame.xdecs[q] : x, rgb ? y >> frame.ydecs[q] : y);
+      if (rgb) PLANES.forEach((name, q) => textAt(context, value(q), middle, centre + (q - 1) * size * 1.2, size, '#ffffff'));
+      else textAt(context, value(p), middle, centre, size, '#ffffff');
     }
   }
+  return true;
 }
 
-// A ring round the first differing sample of each leaf and plane, and from near a cross through every one.
-function markDifferences(context, part) {
-  const colour = colourOf('differences');
-  const close = state.zoom >= 4;
+// ---- Colours over leaves.
+
+// Leaves in the colours of their classes; while some are searched for, these alone.
+function drawMap(context) {
+  const { property, found } = state;
+  const wanted = found && new Set(found);
+  const colour = (l) => wanted && !wanted.has(l.number) ? 0 : pixelOf(property.colourOf(property.classOf(l)), 170);
+  drawOverFrame(context, cellImage('map', property.id + ' ' + foundKey(), colour), false);
+  return true;
+}
+
+// A tint over leaves that depart from AV1, and a sign where there is room.
+function drawDepartures(context, seen, part, crowded) {
+  drawOverFrame(context, cellImage('departures', '', (l) => departures.has(l.number) ? pixelOf([255, 59, 92], 80) : 0), false);
+  if (crowded) return true;
+  for (const leaf of seen) {
+    if (!departures.has(leaf.number) || Math.min(leaf.width, leaf.height) * state.zoom < 20) continue;
+    textAt(context, '!AV1', across(leaf.x + leaf.width) - 16, down(leaf.y) + 9, 11, colourOf('departures'));
+  }
+  return true;
+}
+
+// ---- Marks of differences.
+
+// More marks than these can't be told apart, and leaves are tinted in place of them.
+const MOST_RINGS = 200;
+const MOST_CROSSES = 1500;
+const CROSSES_ZOOM = 8;
+
+// Those that may be seen, one for each leaf and plane, or nothing where they are too many.
+function entriesSeen(seen, crowded) {
+  if (differences.list.length <= MOST_RINGS) return differences.list;
+  if (crowded) return null;
+  const entries = [];
+  for (const leaf of seen) {
+    entries.push(...(differences.ofLeaf.get(leaf.number) || []));
+    if (entries.length > MOST_RINGS) return null;
+  }
+  return entries;
+}
+
+const columnOf = (d) => across((d.column + 0.5) * (1 << frame.xdecs[d.plane]));
+const rowOf = (d) => down((d.row + 0.5) * (1 << frame.ydecs[d.plane]));
+
+// A ring round the first differing sample of each leaf and plane, from near a cross through every one, and both values. Where these would run
+// into one another, a tint over each leaf by its greatest difference.
+function drawDifferences(context, seen, part, crowded) {
+  const entries = entriesSeen(seen, crowded);
+  if (!entries) {
+    drawOverFrame(context, heatOfLeaves(), false);
+    return false;
+  }
   const rings = [];
-  for (const d of differences.list) {
-    const x = across((d.column + 0.5) * (1 << frame.xdecs[d.plane]));
-    const y = down((d.row + 0.5) * (1 << frame.ydecs[d.plane]));
-    if (x < -9 || y < -9 || x > canvas.width + 9 || y > canvas.height + 9) continue;
-    const size = Math.max(7, close ? state.zoom * 0.7 : 0);
+  const size = Math.max(7, state.zoom * 0.7);
+  for (const d of entries) {
+    const x = columnOf(d);
+    const y = rowOf(d);
+    if (x < -size || y < -size || x > state.width + size || y > state.height + size) continue;
     rings.push((c) => { c.moveTo(x + size, y); c.arc(x, y, size, 0, 7); });
   }
-  strokeTwice(context, colour, 2, [], rings);
-  if (!close) return;
-  const crosses = [];
-  PLANES.forEach((name, p) => { if (state.component === 'RGB' || state.component === name) crossDifferences(crosses, part, p); });
-  strokeTwice(context, colour, 1.5, [], crosses);
-  if (state.zoom < 24) return;
-  for (const d of differences.list) {
-    const x = across((d.column + 0.5) * (1 << frame.xdecs[d.plane]));
-    const y = down((d.row + 0.5) * (1 << frame.ydecs[d.plane])) - state.zoom;
+  strokeTwice(context, colourOf('differences'), 2, [], rings);
+  const room = state.zoom < CROSSES_ZOOM || drawCrosses(context, part);
+  if (state.zoom < VALUES_ZOOM) return room;
+  for (const d of entries) {
     const text = PLANES[d.plane] + ' given ' + d.given + ' defined ' + d.defined;
-    context.fillStyle = '#000000d0';
-    context.fillRect(x - 4.2 * text.length, y - 10, 8.4 * text.length, 20);
-    textAt(context, text, x, y, 13, colour);
+    barAt(context, text, columnOf(d), rowOf(d) - state.zoom, colourOf('differences'));
   }
+  return room;
 }
 
-function crossDifferences(crosses, part, p) {
+// The greater the difference of a leaf, the denser the tint, by its logarithm.
+function heatOfLeaves() {
+  const share = (greatest) => Math.log2(1 + greatest) / Math.log2(1 + differences.most);
+  return cellImage('heat', '', (l) => {
+    const greatest = differences.greatest[l.number];
+    return greatest ? pixelOf([255, 90, 0], 40 + Math.round(120 * share(greatest))) : 0;
+  });
+}
+
+// A cross through each visible sample that differs, of the planes that are shown, unless these are too many.
+function drawCrosses(context, part) {
+  const places = [];
+  PLANES.forEach((name, p) => { if (state.component === 'RGB' || state.component === name) crossesIn(places, part, p); });
+  if (places.length > MOST_CROSSES) return false;
+  for (const [x, y, p] of places) copyMark(context, crossMark(state.zoom * (1 << frame.xdecs[p]), state.zoom * (1 << frame.ydecs[p])), x, y);
+  return true;
+}
+
+function crossMark(width, height) {
+  return markOf(['cross', width, height].join(), width, height, (c) => {
+    strokeTwice(c, colourOf('differences'), 1.5, [], [(d) => { d.moveTo(0, 0); d.lineTo(width, height); d.moveTo(width, 0); d.lineTo(0, height); }]);
+  });
+}
+
+function crossesIn(places, part, p) {
   const xdec = frame.xdecs[p];
   const ydec = frame.ydecs[p];
   for (let row = part.top >> ydec; row << ydec < part.bottom; row++) {
     for (let column = part.left >> xdec; column << xdec < part.right; column++) {
       const i = frame.starts[p] + row * frame.widths[p] + column;
-      if (given[i] === planes[i]) continue;
-      const [x, y, right, bottom] = [across(column << xdec), down(row << ydec), across((column + 1) << xdec), down((row + 1) << ydec)];
-      crosses.push((c) => { c.moveTo(x, y); c.lineTo(right, bottom); c.moveTo(right, y); c.lineTo(x, bottom); });
+      if (given[i] !== planes[i]) places.push([columnOf({ column, plane: p }), rowOf({ row, plane: p }), p]);
     }
   }
 }
 
+// ---- The source of a block.
+
+// What a filter reads before and behind a block, in samples.
+const BEFORE = 3;
+const BEHIND = 5;
+const SOURCE_SIDE = 200;
+
+// Beside the picture, the samples that the leaf at the cursor is predicted from, with the block at its fraction of a sample.
+function showSource() {
+  const leaf = leafHere();
+  const shown = layers.source && leaf.motions !== null;
+  element('source').hidden = !shown;
+  if (!shown) return;
+  element('source').replaceChildren(...leaf.motions.map((m) => sourceFigure(leaf, m)));
+}
+
+function sourceFigure(leaf, m) {
+  const slot = frame.slots[m.reference - 1];
+  const box = sourceBox(leaf, m);
+  const left = Math.floor(box.x) - BEFORE;
+  const top = Math.floor(box.y) - BEFORE;
+  const width = leaf.width + BEFORE + BEHIND;
+  const height = leaf.height + BEFORE + BEHIND;
+  const painter = painterOf(frame, sources.find((s) => s.slot === slot), state.component, state.matrix, 1);
+  const samples = document.createElement('canvas');
+  samples.width = width;
+  samples.height = height;
+  samples.getContext('2d').putImageData(paint(frame, painter, left, top, width, height), 0, 0);
+  const figure = document.createElement('figure');
+  const caption = document.createElement('figcaption');
+  caption.textContent = REFERENCES[m.reference] + ', slot ' + slot + ': from column ' + eighths(8 * leaf.x + m.column) + ', row ' + eighths(8 * leaf.y + m.row);
+  figure.append(enlarged(samples, { x: box.x - left, y: box.y - top, width: leaf.width, height: leaf.height }), caption);
+  return figure;
+}
+
+// Samples, enlarged, with a box over them.
+function enlarged(samples, box) {
+  const zoom = SOURCE_SIDE / Math.max(samples.width, samples.height);
+  const image = document.createElement('canvas');
+  const scale = zoom * state.scale;
+  image.width = Math.round(samples.width * scale);
+  image.height = Math.round(samples.height * scale);
+  image.style.width = samples.width * zoom + 'px';
+  image.style.height = samples.height * zoom + 'px';
+  const context = image.getContext('2d');
+  context.imageSmoothingEnabled = false;
+  context.drawImage(samples, 0, 0, image.width, image.height);
+  context.scale(state.scale, state.scale);
+  strokeTwice(context, colourOf('vectors'), 2, [], [(c) => c.rect(box.x * zoom, box.y * zoom, box.width * zoom, box.height * zoom)]);
+  return image;
+}
+
+// ---- The picture.
+
+// The most leaves that are drawn one by one.
+const MOST_LEAVES = 2500;
+
+const picture = document.createElement('canvas');
+const stamps = new Uint32Array(leaves.length);
+let stamp = 0;
+let waiting = false;
+
+// The samples that are shown, painted anew.
+function repaint() {
+  picture.width = frame.width;
+  picture.height = frame.height;
+  const painter = painterOf(frame, state.source, state.component, state.matrix, gainHere());
+  picture.getContext('2d').putImageData(paint(frame, painter, 0, 0, frame.width, frame.height), 0, 0);
+  showGain();
+  showSource();
+  redraw();
+}
+
+function redraw() {
+  if (waiting) return;
+  waiting = true;
+  requestAnimationFrame(() => { waiting = false; draw(); });
+}
+
+// The visible part of the frame, in luma samples.
+function visiblePart() {
+  const left = Math.max(Math.floor(state.left), 0);
+  const top = Math.max(Math.floor(state.top), 0);
+  const right = Math.min(Math.ceil(state.left + state.width / state.zoom), frame.width);
+  return { left, top, right, bottom: Math.min(Math.ceil(state.top + state.height / state.zoom), frame.height) };
+}
+
+// The leaves that are seen, each once.
+function visibleLeaves(part) {
+  const list = [];
+  stamp++;
+  for (let row = part.top >> 2; row << 2 < part.bottom; row++) {
+    for (let column = part.left >> 2; column << 2 < part.right; column++) {
+      const n = cells.leaves[row * cells.columns + column];
+      if (stamps[n] === stamp) continue;
+      stamps[n] = stamp;
+      list.push(leaves[n]);
+    }
+  }
+  return list;
+}
+
+// How each layer is drawn, the lowest first.
+const DRAWN = {
+  map: drawMap,
+  values: drawValues,
+  transforms: (context, seen, part, crowded) => drawBoxes(context, crowded, 1, () => dashesOf(context, colourOf('transforms')), () => transformsOf(seen)),
+  leaves: (context, seen, part, crowded) => drawBoxes(context, crowded, 1, () => colourOf('leaves'), () => seen),
+  superblocks: (context, seen, part, crowded) => drawBoxes(context, crowded, 2, () => colourOf('superblocks'), () => superblocksIn(part)),
+  coefficients: drawCoefficients,
+  modes: (context, seen) => drawModes(context, seen, 'modes', lumaMode, 0.5),
+  chroma: (context, seen) => drawModes(context, seen, 'chroma', chromaMode, 0.75),
+  vectors: drawVectors,
+  departures: drawDepartures,
+  differences: drawDifferences,
+};
+
+// Edges of boxes; from far they are drawn as lines of the whole frame before.
+function drawBoxes(context, crowded, width, fill, boxes) {
+  if (!crowded) drawEdges(context, fill(), width, boxes());
+  return true;
+}
+
+// The picture takes the window's size and the device's scale.
+function takeSize() {
+  const scale = window.devicePixelRatio || 1;
+  if (scale !== state.scale) marks.clear();
+  state.scale = scale;
+  state.width = Math.max(canvas.clientWidth, 1);
+  state.height = Math.max(canvas.clientHeight, 1);
+  const sides = [Math.round(state.width * scale), Math.round(state.height * scale)];
+  if (canvas.width === sides[0] && canvas.height === sides[1]) return;
+  [canvas.width, canvas.height] = sides;
+}
+
+function draw() {
+  takeSize();
+  const context = canvas.getContext('2d');
+  const part = visiblePart();
+  context.setTransform(state.scale, 0, 0, state.scale, 0, 0);
+  context.fillStyle = state.ground;
+  context.fillRect(0, 0, state.width, state.height);
+  drawOverFrame(context, picture, state.zoom * state.scale < 1);
+  const seen = visibleLeaves(part);
+  const crowded = seen.length > MOST_LEAVES;
+  const dense = [];
+  for (const [id, drawLayer] of Object.entries(DRAWN)) {
+    const layer = LAYERS.find((l) => l.id === id);
+    if (id === 'transforms' && crowded) drawOverFrame(context, drawnLines(), true);
+    if (!layers[id]) continue;
+    const room = crowded && layer.single ? false : drawLayer(context, seen, part, crowded);
+    if (!room) dense.push(layer.name);
+  }
+  if (layers.vectors) drawSourceBoxes(context);
+  drawCursor(context);
+  element('scale').textContent = state.zoom.toFixed(2) + ' pixels a sample, ' + state.source.name + ', ' + state.component;
+  element('dense').textContent = dense.length === 0 ? '' : 'zoom in for ' + dense.join(', ');
+}
+
 function drawCursor(context) {
-  const leaf = leafAt(state.x, state.y);
-  strokeTwice(context, '#56b4e9', 3, [], [boxPath(leaf)]);
+  strokeTwice(context, state.locked ? '#ffffff' : '#56b4e9', 3, [], [boxPath(leafHere())]);
   if (state.zoom >= 4) strokeTwice(context, '#f0e442', 2, [], [boxPath({ x: state.x, y: state.y, width: 1, height: 1 })]);
 }
 
@@ -759,69 +1350,167 @@ function row(...texts) {
   return line;
 }
 
-function fieldsOf(l) {
-  const fields = [['size and place', l.width + 'x' + l.height + ' at column ' + l.x + ', row ' + l.y]];
-  if (l.motions) {
-    fields.push(['mode', l.mode + ' ' + MODES[l.mode]]);
-    for (const m of l.motions) fields.push(['reference', m.reference + ' ' + REFERENCES[m.reference] + ', slot ' + frame.slots[m.reference - 1]], ['vector', 'row ' + m.row + ', column ' + m.column + ' eighths']);
-  } else {
-    const angle = (mode, step) => mode >= 1 && mode <= 8 ? ', ' + angleOf(mode, step) + ' degrees' : '';
-    fields.push(['luma mode', l.mode + ' ' + withStep(l.mode, l.step) + angle(l.mode, l.step)]);
-    if (l.carried) fields.push(['chroma mode', l.chromaMode + ' ' + chromaText(l) + (l.weights ? '' : angle(l.chromaMode, l.chromaStep))]);
+// What is known of the whole frame.
+function showFrame() {
+  const parts = [frame.width + 'x' + frame.height, frame.depth + ' bits', SAMPLINGS[frame.sampling], leaves.length + ' leaves', 'version ' + frame.version,
+    FILTERS[frame.filter] + ' filter', 'edge filter ' + (frame.edgeFilter ? 'on' : 'off'), 'slots ' + frame.slots.join(' ')];
+  element('frame').textContent = parts.join(', ');
+  if (departures.size > 0) {
+    element('departing').hidden = false;
+    element('departing').textContent = departures.size + (departures.size === 1 ? ' leaf departs' : ' leaves depart')
+      + ' from AV1: a search for departs finds them.';
   }
-  fields.push(['luma transforms', TRANSFORM_SIZES[l.transformSize].join('x') + ' ' + TRANSFORM_TYPES[l.transformType]]);
-  if (l.carried) {
-    const area = areaOf(frame, l, 1);
-    fields.push(['chroma transforms', area.wide + 'x' + area.high + ' ' + TRANSFORM_TYPES[l.chromaType]]);
-  } else {
-    fields.push(['chroma', 'carried by a later leaf']);
-  }
-  fields.push(['coefficients', l.triples.map((t, p) => PLANES[p] + ' ' + t.count).join(', ')]);
-  return fields;
+  if (!given) return;
+  element('differences').hidden = false;
+  element('differences').textContent = differences.count === 0 ? 'The given samples are those of the plan.'
+    : differences.count + ' given samples differ, in ' + differences.ofLeaf.size + ' leaves, by ' + differences.most + ' at most.';
 }
 
-const MOST_TRIPLES = 400;
-
-function triplesText(l) {
-  const texts = l.triples.flatMap((t, p) => coefficientsOf(plan, l, p).map((c) => PLANES[p] + ' block ' + c.block + ' place ' + c.place + ' (column ' + c.column + ', row ' + c.row + ') value ' + c.value));
-  const more = texts.length - MOST_TRIPLES;
-  return texts.slice(0, MOST_TRIPLES).join('\\n') + (more > 0 ? '\\nand ' + more + ' more' : '');
+// Numbers with a sign are drawn round grey: what is drawn as black and as white.
+function showGain() {
+  const { source, component } = state;
+  element('gains').hidden = !source.signed;
+  if (!source.signed) return;
+  const white = whiteOf(frame, gainHere());
+  const number = (value) => String(Math.round(10 * value) / 10);
+  element('darkest').textContent = '-' + number(white);
+  element('lightest').textContent = '+' + number(white);
+  element('strength').textContent = 'gain ' + number(gainHere()) + ', greatest ' + greatestOf(frame, source, component);
 }
 
+// The values of the sample at the cursor: of a slot only while it is shown.
+function sampleRows() {
+  const at = (s, p) => valueAt(frame, s, p, state.x >> frame.xdecs[p], state.y >> frame.ydecs[p]);
+  return sources.filter((s) => s.slot < 0 || s === state.source).map((s) => row(s.name, ...PLANES.map((name, p) => at(s, p))));
+}
+
+// All that is said of the leaf and the sample at the cursor.
 function showPlace() {
-  const l = leafAt(state.x, state.y);
+  const l = leafHere();
   element('place').textContent = 'leaf ' + l.number + ', sample at column ' + state.x + ', row ' + state.y;
-  element('samples').replaceChildren(row('', ...PLANES), ...sources.map((s) => row(s.name, ...PLANES.map((name, p) => valueAt(frame, s, p, state.x >> frame.xdecs[p], state.y >> frame.ydecs[p])))));
-  const found = differences.list.filter((d) => d.leaf === l.number).map((d) => [PLANES[d.plane] + ' differs', 'row ' + d.row + ', column ' + d.column + ', given ' + d.given + ', defined ' + d.defined]);
-  element('fields').replaceChildren(...fieldsOf(l).concat(found).map((f) => row(...f)));
-  element('triples').textContent = triplesText(l);
+  element('locked').textContent = state.locked ? 'Locked: Esc lets go.' : 'A click locks it.';
+  element('samples').replaceChildren(row('', ...PLANES), ...sampleRows());
+  const found = (differences.ofLeaf.get(l.number) || []).map((d) =>
+    [PLANES[d.plane] + ' differs', 'row ' + d.row + ', column ' + d.column + ', given ' + d.given + ', defined ' + d.defined]);
+  if (departures.has(l.number)) found.push(['departs from AV1', departures.get(l.number)]);
+  element('fields').replaceChildren(...fieldsOf(frame, l).concat(found).map((f) => row(...f)));
+  element('triples').textContent = triplesText(plan, l);
+  showSource();
+}
+
+// ---- Classes of leaves.
+
+const classLists = new Map();
+
+function classesHere() {
+  const { property } = state;
+  if (!classLists.has(property.id)) classLists.set(property.id, classesOf(frame, leaves, property));
+  return classLists.get(property.id);
+}
+
+// The classes of the property that is chosen, with their colours in the map, how many leaves are in each, and how much of the frame.
+function showClasses() {
+  const all = frame.width * frame.height;
+  const greatest = Math.max(...classesHere().map((c) => c.area));
+  element('histogram').replaceChildren(row('', 'leaves', 'area'), ...classesHere().map((c) => {
+    const line = row('', c.count, (100 * c.area / all).toFixed(1) + '%');
+    const button = document.createElement('button');
+    const colour = document.createElement('i');
+    colour.className = 'class';
+    colour.style.background = styleOf(c.colour);
+    button.append(colour, ' ', c.name);
+    button.setAttribute('aria-pressed', state.chosen === c.number);
+    button.dataset.number = c.number;
+    button.addEventListener('click', () => chooseClass(c.number));
+    line.firstChild.append(button);
+    const bar = document.createElement('i');
+    bar.className = 'bar';
+    bar.style.width = 60 * c.area / greatest + 'px';
+    line.lastChild.append(bar);
+    return line;
+  }));
+}
+
+// Leaves of one class alone are listed, until it is chosen again.
+function chooseClass(number) {
+  state.chosen = state.chosen === number ? null : number;
+  for (const button of element('histogram').querySelectorAll('button')) button.setAttribute('aria-pressed', Number(button.dataset.number) === state.chosen);
+  findLeaves();
+}
+
+function setProperty(id) {
+  state.property = PROPERTIES.find((p) => p.id === id);
+  state.chosen = null;
+  element('property').value = id;
+  showClasses();
+  findLeaves();
 }
 
 // ---- The list of leaves.
 
 const ROW = 18;
+let searches = 0;
 
-// The leaves that a search finds: the one of a number, else those whose line has each word; `differs` finds those that do.
-function search(text) {
+// The leaves that are found: the one of a number, else those whose line has each word, and of these those of the class that is chosen.
+// `differs` finds those with a difference, `departs` those that depart from AV1.
+function search(text, property, chosen) {
   const words = text.toLowerCase().split(/\\s+/).filter((word) => word);
-  if (words.length === 0) return null;
+  if (words.length === 0 && chosen === null) return null;
   if (words.length === 1 && /^\\d+$/.test(words[0])) return Number(words[0]) < leaves.length ? [Number(words[0])] : [];
   const found = [];
   for (const l of leaves) {
-    const line = ' ' + summaryOf(l).toLowerCase() + (differing.has(l.number) ? ' differs' : '');
+    if (chosen !== null && property.classOf(l) !== chosen) continue;
+    const line = ' ' + summaryOf(l).toLowerCase() + (differences.ofLeaf.has(l.number) ? ' differs' : '') + (departures.has(l.number) ? ' departs' : '');
     if (words.every((word) => line.includes(word))) found.push(l.number);
   }
   return found;
 }
 
+// Finds anew what the words and the class that is chosen ask for.
+function findLeaves() {
+  state.found = search(state.words, state.property, state.chosen);
+  searches++;
+  element('list').scrollTop = 0;
+  followCursor();
+  showList();
+  redraw();
+}
+
+function setSearch(text) {
+  state.words = text;
+  findLeaves();
+}
+
+const foundKey = () => state.found ? searches : 0;
 const foundCount = () => state.found ? state.found.length : leaves.length;
 const foundAt = (i) => state.found ? state.found[i] : i;
 
+// The place among those found of the first that is not before a leaf.
+function rankOf(number) {
+  let from = 0;
+  let end = foundCount();
+  while (from < end) {
+    const middle = (from + end) >> 1;
+    if (foundAt(middle) < number) from = middle + 1;
+    else end = middle;
+  }
+  return from;
+}
+
+// Scrolls the list to the leaf at the cursor, if it is there.
+function followCursor() {
+  const list = element('list');
+  const number = leafHere().number;
+  const rank = rankOf(number);
+  element('rows').style.height = foundCount() * ROW + 'px';
+  if (rank === foundCount() || foundAt(rank) !== number) return;
+  const seen = rank * ROW >= list.scrollTop && (rank + 1) * ROW <= list.scrollTop + list.clientHeight;
+  if (!seen) list.scrollTop = rank * ROW - list.clientHeight / 2;
+}
+
 function showList() {
   const list = element('list');
-  const rows = element('rows');
-  const current = leafAt(state.x, state.y).number;
-  rows.style.height = foundCount() * ROW + 'px';
+  const current = leafHere().number;
   const first = Math.floor(list.scrollTop / ROW);
   const shown = [];
   for (let i = first; i < Math.min(foundCount(), first + Math.ceil(list.clientHeight / ROW) + 1); i++) {
@@ -833,49 +1522,50 @@ function showList() {
     line.dataset.leaf = foundAt(i);
     shown.push(line);
   }
-  rows.replaceChildren(...shown);
+  element('rows').replaceChildren(...shown);
   element('found').textContent = foundCount() + ' of ' + leaves.length;
 }
 
 // ---- Moving.
 
-function clampPlace() {
-  state.x = Math.min(Math.max(state.x, 0), frame.width - 1);
-  state.y = Math.min(Math.max(state.y, 0), frame.height - 1);
-}
-
-// Puts the cursor on a luma sample, and the sample into view.
-function moveTo(x, y) {
-  state.x = x;
-  state.y = y;
-  clampPlace();
-  const width = canvas.width / state.zoom;
-  const height = canvas.height / state.zoom;
-  if (state.x < state.left || state.x >= state.left + width) state.left = state.x - width / 2;
-  if (state.y < state.top || state.y >= state.top + height) state.top = state.y - height / 2;
+// Puts the cursor on a luma sample, and shows all that is said of it.
+function point(x, y) {
+  state.x = Math.min(Math.max(x, 0), frame.width - 1);
+  state.y = Math.min(Math.max(y, 0), frame.height - 1);
   showPlace();
+  followCursor();
   showList();
   redraw();
 }
 
+// The same, and puts the sample into view.
+function moveTo(x, y) {
+  point(x, y);
+  const width = state.width / state.zoom;
+  const height = state.height / state.zoom;
+  if (state.x < state.left || state.x >= state.left + width) state.left = state.x - width / 2;
+  if (state.y < state.top || state.y >= state.top + height) state.top = state.y - height / 2;
+}
+
+// Locks the cursor, so that the mouse passes over the picture without moving it, or lets it go.
+function setLocked(locked) {
+  state.locked = locked;
+  showPlace();
+  redraw();
+}
+
 function moveToLeaf(number) {
-  const leaf = leaves[number];
-  const index = state.found ? state.found.indexOf(number) : number;
-  const list = element('list');
-  if (index >= 0 && (index * ROW < list.scrollTop || (index + 1) * ROW > list.scrollTop + list.clientHeight)) list.scrollTop = index * ROW - list.clientHeight / 2;
-  moveTo(leaf.x, leaf.y);
+  state.locked = true;
+  moveTo(leaves[number].x, leaves[number].y);
 }
 
 // The next or the previous leaf that is found.
 function step(by) {
   if (foundCount() === 0) return;
-  const current = leafAt(state.x, state.y).number;
-  let index = current + by;
-  if (state.found) {
-    index = by > 0 ? state.found.findIndex((n) => n > current) : state.found.findLastIndex((n) => n < current);
-    if (index < 0) index = by > 0 ? 0 : state.found.length - 1;
-  }
-  moveToLeaf(foundAt((index + foundCount()) % foundCount()));
+  const here = leafHere().number;
+  const rank = rankOf(here);
+  const next = by < 0 ? rank - 1 : foundAt(rank) === here ? rank + 1 : rank;
+  moveToLeaf(foundAt((next + foundCount()) % foundCount()));
 }
 
 function stepDifference(by) {
@@ -883,32 +1573,47 @@ function stepDifference(by) {
   if (count === 0) return;
   state.difference = (state.difference + by + (state.difference < 0 && by < 0 ? 1 : 0) + count) % count;
   const d = differences.list[state.difference];
+  state.locked = true;
   moveTo(d.column << frame.xdecs[d.plane], d.row << frame.ydecs[d.plane]);
 }
 
+const LEAST_ZOOM = 0.05;
+const GREATEST_ZOOM = 96;
+
 function zoomAt(factor, x, y) {
-  const zoom = Math.min(Math.max(state.zoom * factor, 0.05), 96);
+  const zoom = Math.min(Math.max(state.zoom * factor, LEAST_ZOOM), GREATEST_ZOOM);
   state.left = x - (x - state.left) * state.zoom / zoom;
   state.top = y - (y - state.top) * state.zoom / zoom;
   state.zoom = zoom;
   redraw();
 }
 
+const zoomHere = (factor) => zoomAt(factor, state.x + 0.5, state.y + 0.5);
+
+// Moves the picture by lengths in the window.
+function drag(right, below) {
+  state.left -= right / state.zoom;
+  state.top -= below / state.zoom;
+  redraw();
+}
+
 function fit(box, margin) {
-  state.zoom = Math.min(canvas.width / (box.width * margin), canvas.height / (box.height * margin), 96);
-  state.left = box.x + box.width / 2 - canvas.width / state.zoom / 2;
-  state.top = box.y + box.height / 2 - canvas.height / state.zoom / 2;
+  state.zoom = Math.min(state.width / (box.width * margin), state.height / (box.height * margin), GREATEST_ZOOM);
+  state.left = box.x + box.width / 2 - state.width / state.zoom / 2;
+  state.top = box.y + box.height / 2 - state.height / state.zoom / 2;
   redraw();
 }
 
 const fitFrame = () => fit({ x: 0, y: 0, width: frame.width, height: frame.height }, 1.04);
-const fitLeaf = () => fit(leafAt(state.x, state.y), 2);
+const fitLeaf = () => fit(leafHere(), 2);
 
 // ---- Switches.
 
 function setLayer(id, on) {
   layers[id] = on;
   element('layer-' + id).checked = on;
+  if (id === 'map' && on) element('classes').open = true;
+  showSource();
   redraw();
 }
 
@@ -916,6 +1621,7 @@ function setSource(name) {
   state.source = sources.find((s) => s.name === name);
   element('source-' + name).checked = true;
   repaint();
+  showPlace();
 }
 
 function setComponent(name) {
@@ -924,10 +1630,16 @@ function setComponent(name) {
   repaint();
 }
 
-function setSearch(text) {
-  state.found = search(text);
-  element('list').scrollTop = 0;
-  showList();
+function setMatrix(name) {
+  state.matrix = MATRICES.find((m) => m.name === name);
+  element('matrix').value = name;
+  repaint();
+}
+
+function setGain(gain) {
+  state.gain = gain;
+  element('gain').value = gain;
+  repaint();
 }
 
 // A switch with its label.
@@ -941,48 +1653,73 @@ function addSwitch(parent, type, group, name, text, on, act) {
   input.addEventListener('change', () => act(input.checked));
   label.append(input, ' ', ...text);
   parent.append(label);
+  return label;
+}
+
+function addLayer(layer) {
+  const key = document.createElement('kbd');
+  key.textContent = layer.key;
+  const line = document.createElement('i');
+  line.className = 'key';
+  line.style.borderTopColor = layer.colour;
+  line.style.borderTopStyle = layer.id === 'transforms' || layer.id === 'chroma' ? 'dashed' : 'solid';
+  addSwitch(element('layers'), 'checkbox', 'layer', layer.id, [key, line, layer.name], layers[layer.id], (on) => setLayer(layer.id, on));
+}
+
+// Fills a list of choices.
+function addChoices(id, names, act) {
+  names.forEach((name) => element(id).add(new Option(name, name)));
+  element(id).addEventListener('change', (event) => act(names[event.target.selectedIndex]));
 }
 
 function addSwitches() {
-  sources.forEach((s, i) => addSwitch(element('sources'), 'radio', 'source', s.name, [s.name], i === 0, () => setSource(s.name)));
+  sources.forEach((s, i) => { addSwitch(element('sources'), 'radio', 'source', s.name, [s.name], i === 0, () => setSource(s.name)).title = s.title; });
   ['RGB', ...PLANES].forEach((name, i) => addSwitch(element('components'), 'radio', 'component', name, [name], i === 0, () => setComponent(name)));
-  LAYERS.forEach((layer, i) => {
-    if (layer.id === 'differences' && !given) return;
-    const number = document.createElement('kbd');
-    number.textContent = i + 1;
-    const key = document.createElement('i');
-    key.className = 'key';
-    key.style.borderTopColor = layer.colour;
-    key.style.borderTopStyle = layer.id === 'transforms' || layer.id === 'chroma' ? 'dashed' : 'solid';
-    addSwitch(element('layers'), 'checkbox', 'layer', layer.id, [number, key, layer.name], layer.on, (on) => setLayer(layer.id, on));
-  });
-  MATRICES.forEach((m) => element('matrix').add(new Option(m.name)));
-  element('matrix').addEventListener('change', (event) => { state.matrix = MATRICES[event.target.selectedIndex]; repaint(); });
+  LAYERS_HERE.forEach(addLayer);
+  addChoices('matrix', MATRICES.map((m) => m.name), setMatrix);
+  addChoices('gain', GAINS, setGain);
+  addChoices('property', PROPERTIES.map((p) => p.id), setProperty);
 }
+
+// ---- Keys.
 
 const next = (names, name) => names[(names.indexOf(name) + 1) % names.length];
 
-// What a key does on the picture and in the list.
+function freeCursor() {
+  if (document.activeElement !== element('search')) setLocked(false);
+  canvas.focus();
+}
+
+// What a key does, wherever the focus is but in the search.
 const KEYS = {
-  '+': () => zoomAt(1.25, state.x + 0.5, state.y + 0.5), '=': () => zoomAt(1.25, state.x + 0.5, state.y + 0.5), '-': () => zoomAt(0.8, state.x + 0.5, state.y + 0.5),
-  0: fitFrame, f: fitLeaf, n: () => step(1), p: () => step(-1), d: () => stepDifference(1), e: () => stepDifference(-1),
+  '+': () => zoomHere(1.25), '=': () => zoomHere(1.25), '-': () => zoomHere(0.8), 0: fitFrame, f: fitLeaf,
+  n: () => step(1), p: () => step(-1), d: () => stepDifference(1), e: () => stepDifference(-1),
   s: () => setSource(next(sources.map((s) => s.name), state.source.name)), c: () => setComponent(next(['RGB', ...PLANES], state.component)),
-  '/': () => element('search').focus(), Escape: () => canvas.focus(),
+  g: () => setGain(next(GAINS, state.gain)), h: () => setProperty(next(PROPERTIES, state.property).id),
+  '/': () => element('search').focus(), Escape: freeCursor,
 };
 const ARROWS = { ArrowLeft: [-1, 0], ArrowRight: [1, 0], ArrowUp: [0, -1], ArrowDown: [0, 1] };
 
+// Arrows move the cursor, and in the list go from leaf to leaf; on a switch or a list of choices they are that one's own.
+function onArrow(event, [right, below]) {
+  if (event.target === element('list')) {
+    step(right + below);
+  } else if (event.target === canvas || event.target === document.body) {
+    const by = event.shiftKey ? 16 : 1;
+    moveTo(state.x + by * right, state.y + by * below);
+  } else {
+    return false;
+  }
+  return true;
+}
+
 function onKey(event) {
   if (event.ctrlKey || event.metaKey || event.altKey) return;
-  const typing = event.target === element('search') || event.target === element('matrix') || event.target.type === 'radio';
-  if (typing && event.key !== 'Escape') return;
-  const arrow = ARROWS[event.key];
-  const layer = /^[1-9]$/.test(event.key) ? LAYERS[Number(event.key) - 1] : null;
-  if (arrow && event.target === element('list')) {
-    step(arrow[0] + arrow[1]);
-  } else if (arrow && (event.target === canvas || event.target === document.body)) {
-    const by = event.shiftKey ? 16 : 1;
-    moveTo(state.x + by * arrow[0], state.y + by * arrow[1]);
-  } else if (layer && (layer.id !== 'differences' || given)) {
+  if (event.target === element('search') && event.key !== 'Escape') return;
+  const layer = LAYERS_HERE.find((l) => l.key === event.key);
+  if (Object.hasOwn(ARROWS, event.key)) {
+    if (!onArrow(event, ARROWS[event.key])) return;
+  } else if (layer) {
     setLayer(layer.id, !layers[layer.id]);
   } else if (Object.hasOwn(KEYS, event.key)) {
     KEYS[event.key]();
@@ -992,73 +1729,114 @@ function onKey(event) {
   event.preventDefault();
 }
 
-// ---- The mouse.
+// ---- The mouse, a pad, fingers.
 
-// The luma sample under a point of the window.
+// The luma place under a point of the window.
 function placeOf(event) {
   const box = canvas.getBoundingClientRect();
-  const scale = canvas.width / box.width;
-  return [state.left + (event.clientX - box.left) * scale / state.zoom, state.top + (event.clientY - box.top) * scale / state.zoom];
+  return [state.left + (event.clientX - box.left) / state.zoom, state.top + (event.clientY - box.top) / state.zoom];
 }
 
+const isInFrame = ([x, y]) => x >= 0 && y >= 0 && x < frame.width && y < frame.height;
+
+function pointAt(event) {
+  const place = placeOf(event);
+  if (!isInFrame(place)) return;
+  const [x, y] = place.map(Math.floor);
+  if (x !== state.x || y !== state.y) point(x, y);
+}
+
+// Where each pointer that is down was seen last, and how far the first of them has moved since it came down.
+const pointers = new Map();
+const CLICK = 4;
+let moved = 0;
+
+function onDown(event) {
+  if (event.button !== 0) return;
+  canvas.setPointerCapture(event.pointerId);
+  pointers.set(event.pointerId, event);
+  moved = pointers.size === 1 ? 0 : CLICK;
+}
+
+// Without a button down the cursor follows, unless it is locked. One pointer drags the picture, two zoom by their distance.
 function onMove(event) {
-  if (event.buttons & 1) {
-    const scale = canvas.width / canvas.getBoundingClientRect().width;
-    state.left -= event.movementX * scale / state.zoom;
-    state.top -= event.movementY * scale / state.zoom;
-    redraw();
+  const before = pointers.get(event.pointerId);
+  if (!before) {
+    if (!state.locked) pointAt(event);
     return;
   }
-  const [x, y] = placeOf(event);
-  if (x < 0 || y < 0 || x >= frame.width || y >= frame.height) return;
-  if (Math.floor(x) === state.x && Math.floor(y) === state.y) return;
-  state.x = Math.floor(x);
-  state.y = Math.floor(y);
-  showPlace();
-  showList();
-  redraw();
+  pointers.set(event.pointerId, event);
+  moved += Math.hypot(event.clientX - before.clientX, event.clientY - before.clientY);
+  if (pointers.size === 1) {
+    if (moved >= CLICK) drag(event.clientX - before.clientX, event.clientY - before.clientY);
+    return;
+  }
+  const other = [...pointers.values()].find((e) => e.pointerId !== event.pointerId);
+  const distance = (e) => Math.max(Math.hypot(e.clientX - other.clientX, e.clientY - other.clientY), 1);
+  zoomAt(distance(event) / distance(before), ...placeOf(other));
 }
 
+// A click locks the leaf and the sample under it.
+function onUp(event) {
+  if (!pointers.delete(event.pointerId) || event.type !== 'pointerup' || moved >= CLICK) return;
+  if (!isInFrame(placeOf(event))) return;
+  state.locked = true;
+  point(...placeOf(event).map(Math.floor));
+}
+
+// Zooms by what the wheel turned; what it turned sideways moves the picture.
 function onWheel(event) {
   event.preventDefault();
-  zoomAt(event.deltaY < 0 ? 1.25 : 0.8, ...placeOf(event));
+  const unit = [1, 16, state.height][event.deltaMode];
+  const turned = [event.deltaX * unit, event.deltaY * unit];
+  const [right, below] = event.shiftKey && turned[0] === 0 ? [turned[1], 0] : turned;
+  if (Math.abs(right) > Math.abs(below)) {
+    drag(-right, 0);
+  } else {
+    zoomAt(Math.min(Math.max(Math.exp(-below * (event.ctrlKey ? 0.01 : 0.002)), 0.25), 4), ...placeOf(event));
+  }
 }
+
+// ---- The start.
 
 function listen() {
   document.addEventListener('keydown', onKey);
-  canvas.addEventListener('mousemove', onMove);
+  canvas.addEventListener('pointerdown', onDown);
+  canvas.addEventListener('pointermove', onMove);
+  canvas.addEventListener('pointerup', onUp);
+  canvas.addEventListener('pointercancel', onUp);
   canvas.addEventListener('wheel', onWheel, { passive: false });
   element('search').addEventListener('input', (event) => setSearch(event.target.value));
   element('search').addEventListener('keydown', (event) => { if (event.key === 'Enter' && foundCount() > 0) moveToLeaf(foundAt(0)); });
   element('list').addEventListener('scroll', showList);
   element('list').addEventListener('click', (event) => { if (event.target.dataset.leaf) moveToLeaf(Number(event.target.dataset.leaf)); });
-  new ResizeObserver(resize).observe(canvas);
+  new ResizeObserver(draw).observe(canvas);
+  watchScale();
+  window.matchMedia('(prefers-color-scheme: light)').addEventListener('change', takeScheme);
 }
 
-function resize() {
-  const fresh = canvas.width === 300 && canvas.height === 150;
-  const scale = window.devicePixelRatio || 1;
-  canvas.width = Math.max(Math.round(canvas.clientWidth * scale), 1);
-  canvas.height = Math.max(Math.round(canvas.clientHeight * scale), 1);
-  if (fresh) fitFrame();
-  draw();
+// The device's scale changes where the window moves to another screen, or is zoomed.
+function watchScale() {
+  const scale = window.matchMedia('(resolution: ' + window.devicePixelRatio + 'dppx)');
+  scale.addEventListener('change', () => { draw(); watchScale(); }, { once: true });
 }
 
-// ---- The start.
+// The ground of the picture is that of the page, light or dark.
+function takeScheme() {
+  state.ground = getComputedStyle(document.documentElement).getPropertyValue('--ground');
+  redraw();
+}
 
 function start() {
   addSwitches();
-  const parts = [frame.width + 'x' + frame.height, frame.depth + ' bits', SAMPLINGS[frame.sampling], leaves.length + ' leaves', 'version ' + frame.version,
-    FILTERS[frame.filter] + ' filter', 'edge filter ' + (frame.edgeFilter ? 'on' : 'off'), 'slots ' + frame.slots.join(' ')];
-  element('frame').textContent = parts.join(', ');
-  if (given) {
-    element('differences').hidden = false;
-    element('differences').textContent = differences.count === 0 ? 'The given samples are those of the plan.'
-      : differences.count + ' given samples differ, in ' + differing.size + ' leaves.';
-  }
+  showFrame();
+  takeScheme();
+  takeSize();
+  fitFrame();
   repaint();
-  resize();
   showPlace();
+  showClasses();
+  followCursor();
   showList();
   listen();
   canvas.focus();
@@ -1066,10 +1844,13 @@ function start() {
 
 // What tests read: the model of the page, and its switches.
 window.view = {
-  plan, frame, leaves, differences, layers, state, sources, leafAt, draw, moveTo, moveToLeaf, fit, fitFrame, fitLeaf, zoomAt, setLayer, setSource, setComponent, setSearch, summaryOf,
+  plan, frame, leaves, marks, differences, departures, layers, layersHere: LAYERS_HERE, state, sources, leafAt, draw, moveTo, moveToLeaf, fit, fitFrame,
+  fitLeaf, zoomAt, setLayer, setSource, setComponent, setGain, setProperty, chooseClass, setSearch, setLocked, summaryOf,
   sample: (name, p, x, y) => valueAt(frame, sources.find((s) => s.name === name), p, x, y),
   coefficients: (number, p) => coefficientsOf(plan, leaves[number], p),
   transformSides: (leaf) => TRANSFORM_SIZES[leaf.transformSize],
+  classes: (id) => classesOf(frame, leaves, PROPERTIES.find((p) => p.id === id)),
+  gain: gainHere,
   pixel: (x, y) => Array.from(picture.getContext('2d').getImageData(x, y, 1, 1).data),
 };
 

@@ -25,14 +25,14 @@ pub struct KeptTrace {
     planes: Vec<u8>,
 }
 
-/// Reads a trace from the source to its end, and appends a page to the sink that shows its plan, as [`crate::view::view_plan`] does, and the
-/// planes that it gives.
+/// Reads a trace from the source to its end, and appends a page to the sink that shows its plan, as
+/// [`crate::view::view_plan`] does, and the planes that it gives.
 ///
 /// # Errors
 ///
-/// As for [`av1_trace::check_trace`]: `ReadFault` and `TooLong` while it reads; then `Malformed`, for the letters, the length or a plan that is
-/// cut; then `Plan`; then `Malformed`, for planes of another length than the plan's; then `WriteFault`. `Memory` may stand in place of any of
-/// them, before the first written byte.
+/// As for [`av1_trace::check_trace`]: `ReadFault` and `TooLong` while it reads; then `Malformed`, for the letters, the
+/// length or a plan that is cut; then `Plan`; then `Malformed`, for planes of another length than the plan's; then
+/// `WriteFault`. `Memory` may stand in place of any of them, before the first written byte.
 pub fn view_trace<R: Source, W: Sink>(
     alloc: Global,
     source: &mut R,
@@ -88,7 +88,7 @@ fn append_trace<W: Sink>(
     let shown = Shown {
         plan: &parts.plan,
         planes: &parts.planes,
-        predictions: &parts.predictions,
+        bare_planes: &parts.bare_planes,
         given,
     };
     write_page(shown, sink)?;

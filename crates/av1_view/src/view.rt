@@ -10,20 +10,20 @@ ghost use Rattle.av1_tile.specs.Output.{planes_of};
 ghost use Rattle.av1_view.specs.Shown.{IsSpelledWithin, plan_page};
 
 use crate::page::{Shown, write_page};
-use crate::planes::{planes, predictions};
+use crate::planes::{bare_planes, planes};
 use av1_blocks::OutOfMemory;
 use av1_plan::Plan;
 use av1_planwrite::write_plan;
 use av1_recon::{ReconError, Sink, Source, read_plan};
 use std::alloc::Global;
 
-/// Reads a plan from the source to its end, and appends a page to the sink that shows it: the constant parts of the page, and between them in
-/// base64 the plan's bytes, its visible planes, and those of its predictions alone.
+/// Reads a plan from the source to its end, and appends a page to the sink that shows it: the constant parts of the
+/// page, and between them in base64 the plan's bytes, its visible planes, and those of the frame without coefficients.
 ///
 /// # Errors
 ///
-/// As for [`av1_recon::reconstruct_plan`]: `ReadFault` and `TooLong` while it reads, then `Malformed`, then `Invalid`, then
-/// `WriteFault`. `Memory` may stand in place of any of them, before the first written byte.
+/// As for [`av1_recon::reconstruct_plan`]: `ReadFault` and `TooLong` while it reads, then `Malformed`, then `Invalid`,
+/// then `WriteFault`. `Memory` may stand in place of any of them, before the first written byte.
 pub fn view_plan<R: Source, W: Sink>(
     alloc: Global,
     source: &mut R,
@@ -42,8 +42,8 @@ pub struct Parts {
     pub plan: Vec<u8>,
     /// Its planes.
     pub planes: Vec<u8>,
-    /// The planes of its predictions alone.
-    pub predictions: Vec<u8>,
+    /// The planes of the frame without coefficients.
+    pub bare_planes: Vec<u8>,
 }
 
 /// What the page of a valid plan shows.
@@ -56,12 +56,12 @@ pub fn gather(alloc: Global, plan: &Plan) -> Result<Parts, OutOfMemory>
     requires spelled { IsSpelledWithin (plan_value plan.now) }
     ensures plan { IfOk result (λ parts. parts.plan.items ≡ plan_text (plan_value plan.now)) }
     ensures planes { IfOk result (λ parts. parts.planes.items ≡ planes_of (plan_value plan.now)) }
-    ensures predictions { IfOk result (λ parts. parts.predictions.items ≡ planes_of (bare (plan_value plan.now))) }
+    ensures bare_planes { IfOk result (λ parts. parts.bare_planes.items ≡ planes_of (bare (plan_value plan.now))) }
 {
     Ok(Parts {
         plan: write_plan(alloc, plan)?,
         planes: planes(alloc, plan)?,
-        predictions: predictions(alloc, plan)?,
+        bare_planes: bare_planes(alloc, plan)?,
     })
 }
 
@@ -76,7 +76,7 @@ fn append_page<W: Sink>(alloc: Global, plan: &Plan, sink: &mut W) -> Result<(), 
     let shown = Shown {
         plan: &parts.plan,
         planes: &parts.planes,
-        predictions: &parts.predictions,
+        bare_planes: &parts.bare_planes,
         given: &[],
     };
     write_page(shown, sink)?;

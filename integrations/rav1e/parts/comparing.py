@@ -144,6 +144,15 @@ class Comparison:
             file.write("\n".join(self.lines) + "\n")
 
 
+def outcome(folder):
+    """What `compare` counted in a folder, by name, and what it says of the sequence."""
+    with open(os.path.join(folder, "compared.txt"), encoding="utf-8") as file:
+        last = file.read().splitlines()[-1].split(": ", 1)[1]
+    counts, _, sequence = last.partition(" sequence ")
+    words = counts.split()
+    return dict(zip(words[::2], map(int, words[1::2]))), sequence
+
+
 def overlaid(large, planes, small, given):
     """The planes of the frame `large`, with `given` of the smaller frame `small` laid over their upper left."""
     out, at, taken = bytearray(planes), 0, 0

@@ -10,7 +10,22 @@ use av1_blocks::{BlockSize, MotionVector, PredictionMode, RefType, TxSize, TxTyp
 impl<'a> Reader<'a> {
     ghost use Rattle.std.specs.Prelude.{◌≡◌, ◌+◌, ◌<◌, ◌≤◌, ◌^◌, length, IfOk, OnOk, sum, ◌∷◌, []};
     ghost use Rattle.av1_plan.specs.Format.{read, lone, in_turn, add};
-    ghost use Rattle.av1_plan.specs.Grammar.{vector, reference_frame, chroma_mode, intra, single, compound, leaf_kind, tx_size, tx_type, uv_type, triple, triples, chroma_triples, leaf};
+    ghost use Rattle.av1_plan.specs.Grammar.{
+      vector,
+      reference_frame,
+      chroma_mode,
+      intra,
+      single,
+      compound,
+      leaf_kind,
+      tx_size,
+      tx_type,
+      uv_type,
+      triple,
+      triples,
+      chroma_triples,
+      leaf,
+    };
     ghost use Rattle.av1_plan.specs.Plan.{cut, leaf_value};
     ghost use Rattle.av1_plan.specs.Reading.{Gives, input, Fits, Moves, Extends, added};
 
@@ -212,7 +227,8 @@ impl<'a> Reader<'a> {
         into: &mut Vec<Triple>,
     ) -> Result<(u16, u16), PlanError>
         requires { Fits self.old }
-        ensures read { Gives (λ ns. (cut into.new.items (length into.old.items) (ns.0 ∷ ns.1 ∷ []), input self.new)) result (read (chroma_triples has_chroma) (input self.old)) }
+        ensures read { Gives (λ ns. (cut into.new.items (length into.old.items) (ns.0 ∷ ns.1 ∷ []), input self.new)) result
+            (read (chroma_triples has_chroma) (input self.old)) }
         ensures extends { IfOk result (λ ns. Extends into.old.items into.new.items (ns.0 + ns.1)) }
         ensures moves { Moves self.old self.new }
         ensures room { length into.new.items + self.old.at ≤ length into.old.items + self.new.at }

@@ -10,8 +10,8 @@ impl Header {
     ghost use Rattle.std.specs.Prelude.{◌≡◌, ◌≤◌, true};
     ghost use Rattle.av1_plan.specs.Grammar.{admits_stripes, is_mark};
 
-    /// Whether a node of side `4 << level` may be cut into four leaves that are a quarter as wide or as high: in the second version,
-    /// with a side from 16 to 64, and where it lies in the frame whole.
+    /// Whether a node of side `4 << level` may be cut into four leaves that are a quarter as wide or as high: in the
+    /// second version, with a side from 16 to 64, and where it lies in the frame whole.
     #[tactic(auto, unfolding(crate::specs::Grammar::admits_stripes))]
     fn admits_stripes(&self, level: u8, x: u16, y: u16) -> bool
         requires level { level ≤ 4 }
@@ -23,8 +23,8 @@ impl Header {
         self.version == 2 && 2 <= level && x + side <= self.width && y + side <= self.height
     }
 
-    /// Whether a node of side `4 << level` samples, whose upper left luma sample stands in column `x` and row `y`, may have this mark: 0 to 3,
-    /// or 8 or 9 for four leaves.
+    /// Whether a node of side `4 << level` samples, whose upper left luma sample stands in column `x` and row `y`, may
+    /// have this mark: 0 to 3, or 8 or 9 for four leaves.
     #[tactic(auto, unfolding(crate::specs::Grammar::is_mark))]
     pub fn is_mark(&self, level: u8, x: u16, y: u16, mark: u8) -> bool
         requires level { level ≤ 4 }

@@ -2,7 +2,8 @@
 use super::support::{PLAN, PLANES, are_planes};
 use av1_recon::{MemSink, ReconError, SliceSource, reconstruct_plan};
 
-// With ample memory the planes are written. Where an allocation fails, as in a run that lets each fail in turn, nothing is.
+// With ample memory the planes are written. Where an allocation fails, as in a run that lets each fail in turn, nothing
+// is.
 #[test]
 fn running_out_of_memory_writes_nothing(rt: HostRuntime) {
     let Ok(mut sink) = MemSink::new(rt.alloc(), PLANES, PLANES, &[]) else {

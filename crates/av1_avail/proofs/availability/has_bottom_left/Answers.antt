@@ -8,7 +8,8 @@ returns-clause-by_order c =
     λ i tile near.
     let a = c.args in
     rw (c.if-not-bottom_available.false, c.if-not-left_available.false)
-    (c.bottom_left_by_table.ensures ∙ bottom_left_by_order a.bsize a.tx_size a.partition_bo.0.x a.partition_bo.0.y a.row_off a.col_off a.ss_x a.ss_y i tile near)
+    (c.bottom_left_by_table.ensures
+    ∙ bottom_left_by_order a.bsize a.tx_size a.partition_bo.0.x a.partition_bo.0.y a.row_off a.col_off a.ss_x a.ss_y i tile near)
 
 pub returns-clause-by_bits : goal.returns-clause-by_bits
 returns-clause-by_bits c =

@@ -26,4 +26,5 @@ returns-clause-centre c =
     let a = c.args in
     let some : 0 < transform_columns a.tx_size = omega (arith, (tx_width_range a.tx_size).0) in
     c.top_right_by_table.ensures
-    ∙ centre_is_not a.bsize a.partition_bo.0.x a.partition_bo.0.y (transform_columns a.tx_size) a.row_off a.col_off a.ss_x a.ss_y c.requires.halved_x c.requires.halved_y wide some at_row at_column
+    ∙ centre_is_not a.bsize a.partition_bo.0.x a.partition_bo.0.y (transform_columns a.tx_size) a.row_off a.col_off a.ss_x a.ss_y c.requires.halved_x
+    c.requires.halved_y wide some at_row at_column

@@ -4,8 +4,10 @@ use Rattle.av1_bench.proofs.bench.bench.Goals as goal
 
 pub returns : goal.returns
 returns g c =
-    carries_on sum_lines g.R.Source.left g.R.Source.faults g.W.Sink.taken g.W.Sink.faults _ _ _ _ c.in_ok-plan.plan c.write_sums.result c.in_ok-plan.ensures c.write_sums.ensures
+    carries_on sum_lines g.R.Source.left g.R.Source.faults g.W.Sink.taken g.W.Sink.faults _ _ _ _ c.in_ok-plan.plan c.write_sums.result c.in_ok-plan.ensures
+    c.write_sums.ensures
 
 pub returns-in_err-plan : goal.returns-in_err-plan
 returns-in_err-plan g c =
-    stops sum_lines g.R.Source.left g.R.Source.faults g.W.Sink.taken g.W.Sink.faults _ _ _ c.from_residual.result c.in_err-plan.field-0.0 c.from_residual.ensures.1 c.in_err-plan.ensures
+    stops sum_lines g.R.Source.left g.R.Source.faults g.W.Sink.taken g.W.Sink.faults _ _ _ c.from_residual.result c.in_err-plan.field-0.0
+    c.from_residual.ensures.1 c.in_err-plan.ensures

@@ -5,7 +5,8 @@ use Rattle.av1_c.proofs.LeafBytes.{no_chroma, with_chroma}
 use Rattle.av1_c.proofs.append_leaf.put_chroma_coefficients.Goals as goal
 
 pub returns-then-not-carried-clause-text : goal.returns-then-not-carried-clause-text
-returns-then-not-carried-clause-text c = no_chroma c.args.carried (take c.args.at c.args.slice.now) (map triple_of c.args.u.now) (map triple_of c.args.v.now) c.if-not-carried.true
+returns-then-not-carried-clause-text c =
+    no_chroma c.args.carried (take c.args.at c.args.slice.now) (map triple_of c.args.u.now) (map triple_of c.args.v.now) c.if-not-carried.true
 
 pub returns-clause-text : goal.returns-clause-text
 returns-clause-text c =

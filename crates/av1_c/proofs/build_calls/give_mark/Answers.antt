@@ -17,9 +17,11 @@ returns-clause-holds c =
     let start : built k.progress [] ≡ stopped (header_of b.header) (state_of b) = k.ensures.resumed in
     let whole : built k.progress plan.bytes ≡ plan = other_bytes _ _ plan.bytes start in
     let after : built c.pass_mark.new.self (with_mark plan c.args.mark).bytes ≡ with_mark plan c.args.mark =
-    subst (λ (d : Building). built c.pass_mark.new.self (with_mark d c.args.mark).bytes ≡ with_mark d c.args.mark) whole (c.pass_mark.ensures.given plan.bytes) in
+    subst (λ (d : Building). built c.pass_mark.new.self (with_mark d c.args.mark).bytes ≡ with_mark d c.args.mark) whole (c.pass_mark.ensures.given plan.bytes)
+    in
     held b.header c.stopped.result b.written c.in_ok-end.end room _ (c.args.mark ∷ []) c.pass_mark.new.self c.state.result (with_mark plan c.args.mark)
-    c.stopped.ensures.header c.stopped.ensures.state c.stopped.ensures.written c.stopped.ensures.valid c.in_ok-end.ensures.appended c.state.ensures.stopped c.state.ensures.valid
+    c.stopped.ensures.header c.stopped.ensures.state c.stopped.ensures.written c.stopped.ensures.valid c.in_ok-end.ensures.appended c.state.ensures.stopped
+    c.state.ensures.valid
     after refl (ap (λ (more : List ℕ). take b.written room ++ more) (byte_is c.args.mark (omega arith)))
 
 pub returns-clause-status : goal.returns-clause-status
@@ -32,8 +34,10 @@ returns-clause-status c =
     let admitted = subst (λ (d : Building). admits_mark d.header (asked_part d) c.args.mark ≡ true) start c.in_ok-check_mark.ensures.admitted in
     let len = one_more room b.written c.args.mark c.in_ok-progress.ensures.written in
     let end = c.in_ok-end.ensures in
-    done_status (is_builder b (length room)) (asks_mark (asked_part plan)) (admits_mark plan.header (asked_part plan) c.args.mark) (with_mark plan c.args.mark).bytes (length room)
-    c.in_ok-progress.ensures.valid asked admitted (omega (arith, len, end.appended.end_is, end.appended.short)) (omega (arith, len, end.appended.end_is, end.appended.fits))
+    done_status (is_builder b (length room)) (asks_mark (asked_part plan)) (admits_mark plan.header (asked_part plan) c.args.mark)
+    (with_mark plan c.args.mark).bytes (length room)
+    c.in_ok-progress.ensures.valid asked admitted (omega (arith, len, end.appended.end_is, end.appended.short))
+    (omega (arith, len, end.appended.end_is, end.appended.fits))
 
 pub returns-clause-told : goal.returns-clause-told
 returns-clause-told c = λ p t.

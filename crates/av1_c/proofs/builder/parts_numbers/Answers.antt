@@ -10,4 +10,5 @@ pub returns-clause-parts : goal.returns-clause-parts
 returns-clause-parts c = let l = c.loop-i in sym (all_read part_of l.i l.numbers c.args.parts.now l.invariant.so_far (omega arith) (omega arith))
 
 pub returns-clause-valid : goal.returns-clause-valid
-returns-clause-valid c = let l = c.loop-i in sym (ap (λ (ns : List BuilderPart). list_all is_part ns) (take_all l.i l.numbers (omega arith))) ∙ l.invariant.valid
+returns-clause-valid c = let l = c.loop-i in sym (ap (λ (ns : List BuilderPart). list_all is_part ns) (take_all l.i l.numbers (omega arith)))
+    ∙ l.invariant.valid

@@ -9,7 +9,8 @@ returns-in-Ok-clause-exactly c =
     inl (done_for c.args.bytes.now planes (length c.args.room.now) comes written.fits outcome other)
 
 pub returns-in-Err-clause-exactly : goal.returns-in-Err-clause-exactly
-returns-in-Err-clause-exactly c = λ outcome other. fault_for c.args.bytes.now (length c.args.room.now) c.in-Err.fault c.tell.result c.in-Err.ensures.fault c.tell.ensures.status outcome other
+returns-in-Err-clause-exactly c =
+    λ outcome other. fault_for c.args.bytes.now (length c.args.room.now) c.in-Err.fault c.tell.result c.in-Err.ensures.fault c.tell.ensures.status outcome other
 
 pub returns-in-Ok-clause-too_long : goal.returns-in-Ok-clause-too_long
 returns-in-Ok-clause-too_long c =

@@ -11,4 +11,5 @@ returns-then-room-len-clause-fault c =
 pub copy_from_slice-requires : goal.copy_from_slice-requires
 copy_from_slice-requires c =
     let len = wanted_is (plan_value c.args.plan.now) c.header.result.now c.planes_len-len.result c.planes_len-len.ensures c.header.ensures.value in
-    same_length (plan_value c.args.plan.now) c.planes_len-len.result c.args.room.now _ c.bytes.result.now c.if-room-len.false len c.in_ok-sink.ensures.bytes (c.bytes.ensures ∙ c.in-Ok.ensures.ok)
+    same_length (plan_value c.args.plan.now) c.planes_len-len.result c.args.room.now _ c.bytes.result.now c.if-room-len.false len c.in_ok-sink.ensures.bytes
+    (c.bytes.ensures ∙ c.in-Ok.ensures.ok)

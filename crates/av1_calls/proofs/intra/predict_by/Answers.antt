@@ -23,7 +23,8 @@ dispatch_predict_intra_to-requires g c =
     let f = c.in-Ok.ensures in
     let m = mode_in b a.mode in
     let P = λ (Q : DirectionalBlock → Type 0) (q : Q (block_of b m p.size)). subst Q (sym f.block) q in
-    let long = long_for p.block (block_of b m p.size) p.variant (variant_in b) p.mode m (length a.left.now) (length a.above.now) (length a.ac.now) f.block f.variant f.mode f.found.sides in
+    let long = long_for p.block (block_of b m p.size) p.variant (variant_in b) p.mode m (length a.left.now) (length a.above.now)
+    (length a.ac.now) f.block f.variant f.mode f.found.sides in
     let bits = c.BITS.ensures in
     record {
       intra = subst (λ k. is_intra k ≡ true) (sym f.mode) (effective_intra a.mode b.has_left b.has_above c.requires.intra);
@@ -32,7 +33,8 @@ dispatch_predict_intra_to-requires g c =
       lines = ap (λ (s : StoredArea). s.height) f.area ∙ sym (ap (λ (k : DirectionalBlock). k.height) f.block);
       width = P (λ k. IsTransformSide k.width) (tx_width_side p.size);
       height = P (λ k. IsTransformSide k.height) (tx_height_side p.size);
-      angle = λ h. P (λ k. k.p_angle ≢ 90 → k.p_angle ≢ 180 → is_interpolated k.p_angle ≡ true) (turned_angle m b.angle_step f.found.turn.few (subst (λ k. is_directional k ≡ true) f.mode h));
+      angle = λ h. P (λ k. k.p_angle ≢ 90 → k.p_angle ≢ 180 → is_interpolated k.p_angle ≡ true)
+          (turned_angle m b.angle_step f.found.turn.few (subst (λ k. is_directional k ≡ true) f.mode h));
       above_long = long.above_long;
       left_long = long.left_long;
       ac_long = long.ac_long;
@@ -45,8 +47,12 @@ returns-in-Ok g c =
     let a = c.args in
     let p = c.in-Ok.found in
     let f = c.in-Ok.ensures in
-    let found = subst (λ (n : ℕ). IsIntraBlock n a.block a.mode a.stride a.x a.y (length a.left.now) (length a.above.now) (length a.ac.now) (length a.samples.now) p.size) c.BITS.ensures f.found in
-    let painted = predicted_so g.T.Pixel.num g.T.Pixel.pixel a.block a.mode p.mode p.size a.stride a.x a.y a.left.now a.corner a.above.now a.ac.now a.alpha _ a.samples.now c.dispatch_predict_intra_to.new.samples p.area p.block p.variant f.area f.mode f.variant
+    let found =
+    subst (λ (n : ℕ). IsIntraBlock n a.block a.mode a.stride a.x a.y (length a.left.now) (length a.above.now) (length a.ac.now)
+    (length a.samples.now) p.size) c.BITS.ensures f.found in
+    let painted =
+    predicted_so g.T.Pixel.num g.T.Pixel.pixel a.block a.mode p.mode p.size a.stride a.x a.y a.left.now a.corner a.above.now a.ac.now a.alpha _
+    a.samples.now c.dispatch_predict_intra_to.new.samples p.area p.block p.variant f.area f.mode f.variant
     f.block (to_z-of_z w16 a.alpha c.ranges.alpha) c.dispatch_predict_intra_to.ensures in
     record {
       done = λ _. (p.size, (found, painted));
@@ -74,7 +80,9 @@ returns-in-Err g c =
       angle = λ e. subst Told (is bad.Angle e) fault;
       depth = λ e. subst (λ (n : ℕ). HasNoDepth n a.block a.mode) bits (subst Told (is bad.Depth e) fault);
       area = λ e. subst (λ (n : ℕ). LiesOutside n a.block a.mode a.stride a.x a.y (length a.samples.now)) bits (subst Told (is bad.Area e) fault);
-      short = λ e. subst (λ (n : ℕ). HasShortSides n a.block a.mode a.stride a.x a.y (length a.left.now) (length a.above.now) (length a.ac.now) (length a.samples.now)) bits (subst Told (is bad.Short e) fault);
+      short = λ e.
+          subst (λ (n : ℕ). HasShortSides n a.block a.mode a.stride a.x a.y (length a.left.now) (length a.above.now) (length a.ac.now) (length a.samples.now))
+          bits (subst Told (is bad.Short e) fault);
       kept = λ _. refl;
       known = search rules;
     }

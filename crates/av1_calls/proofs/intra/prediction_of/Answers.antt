@@ -26,7 +26,11 @@ returns-then-not-is_turn-clause-fault c =
     let fits : SFits w8 c.args.block.angle_step = search rules in
     let untrue : c.is_turn.result ≡ false = grind (arith, tests, c.if-not-is_turn.true) in (
       c.in-Some.size,
-      (sym c.from_number.ensures ∙ c.in-Some.is, λ turn. denied c.is_turn.result c.is_turn.ensures.is_true untrue (subst (IsTurn c.args.mode) (sym (to_z-of_z w8 c.args.block.angle_step fits)) turn)),
+      (
+        sym c.from_number.ensures ∙ c.in-Some.is,
+        λ turn. denied c.is_turn.result c.is_turn.ensures.is_true untrue
+            (subst (IsTurn c.args.mode) (sym (to_z-of_z w8 c.args.block.angle_step fits)) turn),
+      ),
     )
 
 pub returns-then-not-is_depth_within-clause-fault : goal.returns-then-not-is_depth_within-clause-fault
@@ -37,7 +41,10 @@ returns-then-not-is_depth_within-clause-fault c =
       c.in-Some.size,
       (
         sym c.from_number.ensures ∙ c.in-Some.is,
-        (subst (IsTurn c.args.mode) (to_z-of_z w8 c.args.block.angle_step fits) (c.is_turn.ensures.true_is turn), denied c.is_depth_within.result c.is_depth_within.ensures.is_true untrue),
+        (
+          subst (IsTurn c.args.mode) (to_z-of_z w8 c.args.block.angle_step fits) (c.is_turn.ensures.true_is turn),
+          denied c.is_depth_within.result c.is_depth_within.ensures.is_true untrue,
+        ),
       ),
     )
 
@@ -56,7 +63,8 @@ returns-then-not-are_rows-clause-fault c =
           subst (IsTurn a.mode) (to_z-of_z w8 a.block.angle_step fits) (c.is_turn.ensures.true_is turn),
           (
             c.is_depth_within.ensures.true_is depth,
-            outside_of a.stride a.x a.y a.samples size c.prediction_in-prediction.result.area c.prediction_in-prediction.ensures.area (denied c.are_rows.result c.are_rows.ensures.is_true untrue),
+            outside_of a.stride a.x a.y a.samples size c.prediction_in-prediction.result.area c.prediction_in-prediction.ensures.area
+                (denied c.are_rows.result c.are_rows.ensures.is_true untrue),
           ),
         ),
       ),
@@ -83,7 +91,9 @@ returns-then-not-are_long-clause-fault c =
             c.is_depth_within.ensures.true_is depth,
             (
               subst (λ (r : StoredArea). AreRows a.stride r a.samples) e.area (c.are_rows.ensures.true_is rows),
-              λ sides. denied c.are_long.result c.are_long.ensures.is_true untrue (long_for p.block (block_of a.block m size) p.variant (variant_in a.block) p.mode m a.left a.above a.ac e.block e.variant e.mode sides),
+              λ sides.
+                  denied c.are_long.result c.are_long.ensures.is_true untrue
+                  (long_for p.block (block_of a.block m size) p.variant (variant_in a.block) p.mode m a.left a.above a.ac e.block e.variant e.mode sides),
             ),
           ),
         ),
@@ -107,7 +117,8 @@ returns-clause-found c =
       turn = subst (IsTurn a.mode) (to_z-of_z w8 a.block.angle_step fits) (c.is_turn.ensures.true_is turn);
       depth = c.is_depth_within.ensures.true_is depth;
       rows = subst (λ (r : StoredArea). AreRows a.stride r a.samples) e.area (c.are_rows.ensures.true_is rows);
-      sides = long_for (block_of a.block m size) p.block (variant_in a.block) p.variant m p.mode a.left a.above a.ac (sym e.block) (sym e.variant) (sym e.mode) (c.are_long.ensures.true_is long);
+      sides = long_for (block_of a.block m size) p.block (variant_in a.block) p.variant m p.mode a.left a.above a.ac (sym e.block) (sym e.variant) (sym e.mode)
+          (c.are_long.ensures.true_is long);
     })
 
 pub returns-clause-block : goal.returns-clause-block

@@ -51,8 +51,10 @@ returns-then-not-is_tile g c =
     let roomy = c.if-edge-lt-EDGE_SAMPLES.false in
     let depth = subst (λ (n : ℕ). IsDepthWithin n a.block.now.bit_depth) c.BITS.ensures f.depth in
     let never : ¬ (LiesIn a.plane.now (length a.samples.now) × BeginsIn a.plane.now a.block.now names.size) = λ both. elim c.then-not-is_tile.branch [
-      | then-not-is_tile-via-then-not-is_tile w ↦ let untrue : c.is_tile.result ≡ false = grind (arith, tests, w.if-not-is_tile.true) in denied c.is_tile.result c.is_tile.ensures.is_true untrue both.0
-      | then-not-is_tile-via-else-not-is_tile+then-not-begins_in w ↦ let untrue : w.begins_in.result ≡ false = grind (arith, tests, w.if-not-begins_in.true) in denied w.begins_in.result w.begins_in.ensures.is_true untrue both.1
+      | then-not-is_tile-via-then-not-is_tile w ↦ let untrue : c.is_tile.result ≡ false = grind (arith, tests, w.if-not-is_tile.true)
+          in denied c.is_tile.result c.is_tile.ensures.is_true untrue both.0
+      | then-not-is_tile-via-else-not-is_tile+then-not-begins_in w ↦ let untrue : w.begins_in.result ≡ false = grind (arith, tests, w.if-not-begins_in.true)
+          in denied w.begins_in.result w.begins_in.ensures.is_true untrue both.1
     ] in
     let away : (257 ≤ length a.edge.now) × HasNoPlace g.T.Pixel.BITS a.plane.now a.block.now (length a.samples.now) =
     (roomy, (names.mode, (names.size, (names.block, (record { moded = f.mode; sized = f.size; blocked = f.block }, (f.turn, (depth, never))))))) in

@@ -20,7 +20,8 @@ returns g c =
     let m = c.get_intra_edges_to.result.above in
     let room = c.get_intra_edges_to.new.samples in
     let E = edge_in num r b n.mode n.size n.block in
-    let P = λ (x y : ℤ) (d : ℕ) (s : ℤ). prepared_edge num r (position_of (cell_of b) b.unit_x b.unit_y n.block (record { x = x; y = y }) n.size) d n.mode (not (eqb b.edge_filter 0)) (AngleDelta s) in
+    let P = λ (x y : ℤ) (d : ℕ) (s : ℤ). prepared_edge num r (position_of (cell_of b) b.unit_x b.unit_y n.block (record { x = x; y = y }) n.size) d n.mode
+    (not (eqb b.edge_filter 0)) (AngleDelta s) in
     let turned = to_z w8 (of_z w8 b.angle_step) in
     let fits : SFits w8 b.angle_step = search rules in
     let fits_x : SFits w64 c.signed.result = search rules in

@@ -10,5 +10,10 @@ returns-then-not-are_within-clause-fault c =
     let found = c.in_ok-luma.ensures in
     let deep : c.is_depth.result ≡ true = grind (arith, tests, c.if-not-is_depth.false) in
     let untrue : c.are_within.result ≡ false = grind (arith, tests, c.if-not-are_within.true) in
-    let P : StoredArea → Type 0 = λ area. AreBelow (2 ^ a.bit_depth) a.stride area a.samples.now in
-    (c.in_ok-luma.luma.size, (found.found, (c.is_depth.ensures.true_is deep, λ below. denied c.are_within.result c.are_within.ensures.is_true untrue (subst P (sym found.area) below))))
+    let P : StoredArea → Type 0 = λ area. AreBelow (2 ^ a.bit_depth) a.stride area a.samples.now in (
+      c.in_ok-luma.luma.size,
+      (
+        found.found,
+        (c.is_depth.ensures.true_is deep, λ below. denied c.are_within.result c.are_within.ensures.is_true untrue (subst P (sym found.area) below)),
+      ),
+    )

@@ -5,14 +5,17 @@ use Rattle.av1_calls.proofs.prep_8tap.prep.Goals as goal
 pub prep_8tap-requires-clause-within : goal.prep_8tap-requires-clause-within
 prep_8tap-requires-clause-within g c = λ x y h k.
     let place = c.from_slice-place in
-    let same = read_same c.args.from c.args.block c.args.src.now c.requires.asked.motion place.result (place.ensures.samples ∙ c.rows_of-rows.ensures) (place.ensures.cfg ∙ c.config_of-cfg.ensures) place.ensures.x place.ensures.y g.T.Pixel.num x y h k in
+    let same = read_same c.args.from c.args.block c.args.src.now c.requires.asked.motion place.result (place.ensures.samples ∙ c.rows_of-rows.ensures)
+    (place.ensures.cfg ∙ c.config_of-cfg.ensures) place.ensures.x place.ensures.y g.T.Pixel.num x y h k in
     subst (λ (n : ℕ). n < 2 ^ c.args.bit_depth) (sym same) (c.requires.deep.within x y h k)
 
 pub returns : goal.returns
 returns g c =
     let place = c.from_slice-place in
     prep_is c.args.bit_depth c.args.block c.args.values.now c.prep_8tap.new.tmp _ _ _ _ _ _
-    (fraction_is c.from.result c.args.block.col_frac c.requires.asked.motion.fractions.columns c.from.ensures) (fraction_is c.from-2.result c.args.block.row_frac c.requires.asked.motion.fractions.rows c.from-2.ensures)
+    (fraction_is c.from.result c.args.block.col_frac c.requires.asked.motion.fractions.columns c.from.ensures)
+    (fraction_is c.from-2.result c.args.block.row_frac c.requires.asked.motion.fractions.rows c.from-2.ensures)
     c.filter_mode.ensures c.filter_mode-2.ensures
-    (read_same c.args.from c.args.block c.args.src.now c.requires.asked.motion place.result (place.ensures.samples ∙ c.rows_of-rows.ensures) (place.ensures.cfg ∙ c.config_of-cfg.ensures) place.ensures.x place.ensures.y g.T.Pixel.num)
+    (read_same c.args.from c.args.block c.args.src.now c.requires.asked.motion place.result (place.ensures.samples ∙ c.rows_of-rows.ensures)
+    (place.ensures.cfg ∙ c.config_of-cfg.ensures) place.ensures.x place.ensures.y g.T.Pixel.num)
     c.prep_8tap.ensures.value c.prep_8tap.ensures.others

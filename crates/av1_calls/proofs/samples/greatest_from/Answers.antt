@@ -14,7 +14,8 @@ loop-i-preserved c =
       above = omega (arith, old.above, first);
       each = λ k h. elim (cases_lt k i) [
         | inl lt ↦ (let o = old.each k lt in omega (arith, o, first))
-        | inr from ↦ (let e : k ≡ i = omega arith in subst (λ (m : ℕ). slice_index c.args.samples.now (c.args.start + m) ≤ c.greater-greatest.result) (sym e) (omega (arith, is, second)))
+        | inr from ↦ (let e : k ≡ i = omega arith in subst (λ (m : ℕ). slice_index c.args.samples.now (c.args.start + m) ≤ c.greater-greatest.result) (sym e)
+            (omega (arith, is, second)))
       ];
       reached = λ bound low all. next.reached bound (old.reached bound low (λ k h. all k (omega arith))) (let a = all i (omega arith) in omega (arith, a, is));
     }

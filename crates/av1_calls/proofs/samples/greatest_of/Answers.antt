@@ -12,7 +12,8 @@ loop-r-preserved c =
     record {
       each = λ r q h k. elim (cases_lt r row) [
         | inl lt ↦ (let o = old.each r q lt k in omega (arith, o, more))
-        | inr from ↦ (let e : r ≡ row = omega arith in subst (λ (m : ℕ). area_sample c.args.stride c.args.area c.args.samples.now m q ≤ c.greatest_from-greatest.result) (sym e) (next.each q k))
+        | inr from ↦ (let e : r ≡ row = omega arith
+            in subst (λ (m : ℕ). area_sample c.args.stride c.args.area c.args.samples.now m q ≤ c.greatest_from-greatest.result) (sym e) (next.each q k))
       ];
       reached = λ bound all. next.reached bound (old.reached bound (λ r q h k. all r q (omega arith) k)) (λ q k. all row q (omega arith) k);
     }

@@ -6,7 +6,8 @@ pub loop-k-preserved : goal.loop-k-preserved
 loop-k-preserved c =
     let k = c.loop-k.k in
     let start = c.args.start in
-    taken_on c.args.samples.now start (8 * k) (start + 8 * k) 8 (8 * (k + 1)) c.loop-k.invariant c.with_eight-lanes.ensures (omega arith) (omega arith) (omega arith) (omega arith)
+    taken_on c.args.samples.now start (8 * k) (start + 8 * k) 8 (8 * (k + 1)) c.loop-k.invariant c.with_eight-lanes.ensures (omega arith) (omega arith)
+    (omega arith) (omega arith)
 
 pub returns : goal.returns
 returns c =

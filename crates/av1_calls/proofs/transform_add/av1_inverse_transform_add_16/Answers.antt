@@ -14,4 +14,5 @@ returns-in-Ok c =
     let added = c.inverse_transform_add_in.ensures.painted
     ∙ ap (λ xs. paint a.stride block.area (put_on xs) a.samples.now) (map-id a.coefficients.now)
     ∙ ap (λ place. paint a.stride place (put_on a.coefficients.now) a.samples.now) c.in-Ok.ensures.area in
-    adds_residue _ a.bit_depth a.tx_size a.tx_type a.stride a.x a.y a.coefficients.now a.samples.now _ block.size block.kind c.in-Ok.ensures.found (c.in-Ok.ensures.depth, c.in-Ok.ensures.fit) added
+    adds_residue _ a.bit_depth a.tx_size a.tx_type a.stride a.x a.y a.coefficients.now a.samples.now _ block.size block.kind c.in-Ok.ensures.found
+    (c.in-Ok.ensures.depth, c.in-Ok.ensures.fit) added

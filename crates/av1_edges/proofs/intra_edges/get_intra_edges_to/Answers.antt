@@ -20,8 +20,12 @@ returns g c =
     let h = tx_height a.tx_size in
     let step = step_of a.intra_param in
     let samples = c.fill_edge.new.samples in
-    let same : edge_of_parts num a.dst.now here a.bit_depth c.prepared-parts.result ≡ prepared_edge num a.dst.now (position_of a.partition_bo a.bx a.by a.partition_size a.po a.tx_size) a.bit_depth a.opt_mode a.enable_intra_edge_filter a.intra_param =
-    ap (λ (q : Parts). edge_of_parts num a.dst.now here a.bit_depth q) c.prepared-parts.ensures.value ∙ ap (λ (p : TransformPosition). edge_of_parts num a.dst.now p a.bit_depth (prepared_parts a.enable_intra_edge_filter a.opt_mode step p.x p.y w h)) c.position_of-at.ensures in
+    let same : edge_of_parts num a.dst.now here a.bit_depth c.prepared-parts.result ≡
+    prepared_edge num a.dst.now (position_of a.partition_bo a.bx a.by a.partition_size a.po a.tx_size) a.bit_depth a.opt_mode a.enable_intra_edge_filter
+    a.intra_param =
+    ap (λ (q : Parts). edge_of_parts num a.dst.now here a.bit_depth q) c.prepared-parts.ensures.value
+    ∙ ap (λ (p : TransformPosition). edge_of_parts num a.dst.now p a.bit_depth (prepared_parts a.enable_intra_edge_filter a.opt_mode step p.x p.y w h))
+    c.position_of-at.ensures in
     record {
       few_left = c.left_places.ensures.most;
       few_above = c.above_places.ensures.most;

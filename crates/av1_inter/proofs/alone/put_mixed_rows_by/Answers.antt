@@ -9,5 +9,6 @@ pub returns : goal.returns
 returns g c =
     c.sum_mixed_rows.ensures ∙ paint_same c.args.stride c.args.area _ _ c.args.samples.now
     (λ q p v h l. ap (λ z. g.T.Pixel.pixel (clip 10 (round_shift (round_shift z 3) 4)))
-    (doubled_same c.mixed_halves-halves.result c.args.across.now _ _ c.mixed_halves-halves.ensures.value (λ t k. ap pos (ap (λ s. slice_index (map g.T.Pixel.num c.samples.result.now) ((q + 3) * s + (p + t))) c.stride.ensures
+    (doubled_same c.mixed_halves-halves.result c.args.across.now _ _ c.mixed_halves-halves.ensures.value
+    (λ t k. ap pos (ap (λ s. slice_index (map g.T.Pixel.num c.samples.result.now) ((q + 3) * s + (p + t))) c.stride.ensures
     ∙ source_sample g.T.Pixel.num c.args.corner _ _ c.requires.stored c.samples.result.now (p + t) (q + 3) c.samples.ensures (omega arith) (omega arith)))))

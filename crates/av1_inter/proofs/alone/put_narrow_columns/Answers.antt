@@ -8,5 +8,7 @@ use Rattle.av1_inter.proofs.alone.put_narrow_columns.Goals as goal
 pub returns : goal.returns
 returns g c =
     c.sum_columns.ensures ∙ paint_same c.args.stride c.args.area _ _ c.args.samples.now
-    (λ q p v h l. ap (λ z. g.T.Pixel.pixel (clip 8 (round_shift z 7))) (weighted_same c.args.down.now _ _ (λ t k. ap pos (ap (λ s. slice_index (map g.T.Pixel.num c.samples.result.now) ((q + t) * s + (p + 3))) c.stride.ensures
+    (λ q p v h l. ap (λ z. g.T.Pixel.pixel (clip 8 (round_shift z 7)))
+    (weighted_same c.args.down.now _ _
+    (λ t k. ap pos (ap (λ s. slice_index (map g.T.Pixel.num c.samples.result.now) ((q + t) * s + (p + 3))) c.stride.ensures
     ∙ source_sample g.T.Pixel.num c.args.corner _ _ c.requires.stored c.samples.result.now (p + 3) (q + t) c.samples.ensures (omega arith) (omega arith)))))

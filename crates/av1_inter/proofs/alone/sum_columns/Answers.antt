@@ -17,10 +17,16 @@ loop-r-preserved g c =
     let s = c.args.source_stride in
     let value = λ (q t : ℕ). pos (slice_index (map g.T.Pixel.num c.args.source.now) ((r + t) * s + (q + 3))) in
     row_painted_rest c.args.stride c.args.area r _ _ c.loop-r.samples _ _ _ c.requires.rows c.loop-r-test.true c.loop-r.invariant rows.front rows.back
-    (c.put_column_sums.ensures ∙ paint_row_same g.row.N _ (λ q _. g.T.Pixel.pixel (clip 8 (round_shift (weighted c.args.down.now (value q)) 7))) _ (λ q v h. ap (λ z. g.T.Pixel.pixel (clip 8 z))
-    (ap (λ z. round_shift z 6) (c.half_sums-sums.ensures.value q h ∙ weighted_same c.halves_for-halves.result _ (value q) (λ t l. ap (λ n. pos (slice_index (map g.T.Pixel.num c.args.source.now) n)) (down_place r t s q)))
+    (c.put_column_sums.ensures
+    ∙ paint_row_same g.row.N _ (λ q _. g.T.Pixel.pixel (clip 8 (round_shift (weighted c.args.down.now (value q)) 7))) _
+    (λ q v h. ap (λ z. g.T.Pixel.pixel (clip 8 z))
+    (ap (λ z. round_shift z 6)
+    (c.half_sums-sums.ensures.value q h
+    ∙ weighted_same c.halves_for-halves.result _ (value q)
+    (λ t l. ap (λ n. pos (slice_index (map g.T.Pixel.num c.args.source.now) n)) (down_place r t s q)))
     ∙ rounded_column c.halves_for-halves.result c.args.down.now (value q) c.halves_for-halves.ensures))
-    ∙ ap (λ n. paint_row n (λ q _. g.T.Pixel.pixel (clip 8 (round_shift (weighted c.args.down.now (value q)) 7))) c.split_at_mut-row.result.1.now) (sym c.requires.width))
+    ∙ ap (λ n. paint_row n (λ q _. g.T.Pixel.pixel (clip 8 (round_shift (weighted c.args.down.now (value q)) 7))) c.split_at_mut-row.result.1.now)
+    (sym c.requires.width))
 
 pub half_sums-sums-requires : goal.half_sums-sums-requires
 half_sums-sums-requires g c =
@@ -37,7 +43,8 @@ half_sums-sums-requires g c =
           c.requires.short,
           (
             long,
-            λ q t h l. let b = c.requires.bytes (r + t) (q + 3) (omega arith) (omega arith) in subst (λ (n : ℕ). slice_index (map g.T.Pixel.num c.args.source.now) n ≤ 255) (sym (down_place r t s q)) (omega (arith, b)),
+            λ q t h l. let b = c.requires.bytes (r + t) (q + 3) (omega arith) (omega arith)
+                in subst (λ (n : ℕ). slice_index (map g.T.Pixel.num c.args.source.now) n ≤ 255) (sym (down_place r t s q)) (omega (arith, b)),
           ),
         ),
       ),

@@ -6,4 +6,8 @@ use Rattle.av1_inter.proofs.alone.sum_columns.Given as goal
 
 abbrev pub invariant-loop-r : goal.invariant-loop-r
 invariant-loop-r g l =
-    l.samples ≡ paint l.stride (corner l.area l.area.width l.r) (λ r c _. g.T.Pixel.pixel (clip 8 (round_shift (weighted l.down (λ t. pos (slice_index (map g.T.Pixel.num l.source) ((r + t) * l.source_stride + (c + 3))))) 7))) l.initial.samples
+    l.samples ≡ paint l.stride (corner l.area l.area.width l.r)
+    (λ r c _.
+    g.T.Pixel.pixel
+    (clip 8 (round_shift (weighted l.down (λ t. pos (slice_index (map g.T.Pixel.num l.source) ((r + t) * l.source_stride + (c + 3))))) 7)))
+    l.initial.samples

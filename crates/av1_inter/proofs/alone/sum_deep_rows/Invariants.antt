@@ -6,4 +6,9 @@ use Rattle.av1_inter.proofs.alone.sum_deep_rows.Given as goal
 
 abbrev pub invariant-loop-r : goal.invariant-loop-r
 invariant-loop-r g l =
-    l.samples ≡ paint l.stride (corner l.area l.area.width l.r) (λ r c _. g.T.Pixel.pixel (clip 12 (round_shift (round_shift (weighted l.across (λ t. pos (slice_index (map g.T.Pixel.num l.source) ((r + 3) * l.source_stride + (c + t))))) 5) 2))) l.initial.samples
+    l.samples ≡ paint l.stride (corner l.area l.area.width l.r)
+    (λ r c _.
+    g.T.Pixel.pixel
+    (clip 12
+    (round_shift (round_shift (weighted l.across (λ t. pos (slice_index (map g.T.Pixel.num l.source) ((r + 3) * l.source_stride + (c + t))))) 5) 2)))
+    l.initial.samples

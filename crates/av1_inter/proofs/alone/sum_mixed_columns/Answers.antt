@@ -20,10 +20,16 @@ loop-r-preserved g c =
     let h = c.args.halves.now in
     let value = λ (q t : ℕ). pos (slice_index (map g.T.Pixel.num c.args.source.now) ((r + t) * s + (q + 3))) in
     row_painted_rest c.args.stride c.args.area r _ _ c.loop-r.samples _ _ _ c.requires.rows c.loop-r-test.true c.loop-r.invariant rows.front rows.back
-    (c.put_mixed_sums.ensures ∙ paint_row_same g.row.N _ (λ q _. g.T.Pixel.pixel (clip 10 (round_shift (weighted (doubled h) (value q)) 7))) _ (λ q v l. ap (λ z. g.T.Pixel.pixel (clip 10 z))
-    (ap (λ z. int_shr z 6) (c.mixed_sums-sums.ensures q l ∙ ap (λ z. z +ℤ pos 32) (weighted_same h _ (value q) (λ t b. ap (λ n. pos (slice_index (map g.T.Pixel.num c.args.source.now) n)) (down_place r t s q))))
+    (c.put_mixed_sums.ensures
+    ∙ paint_row_same g.row.N _ (λ q _. g.T.Pixel.pixel (clip 10 (round_shift (weighted (doubled h) (value q)) 7))) _
+    (λ q v l. ap (λ z. g.T.Pixel.pixel (clip 10 z))
+    (ap (λ z. int_shr z 6)
+    (c.mixed_sums-sums.ensures q l
+    ∙ ap (λ z. z +ℤ pos 32)
+    (weighted_same h _ (value q) (λ t b. ap (λ n. pos (slice_index (map g.T.Pixel.num c.args.source.now) n)) (down_place r t s q))))
     ∙ rounded_column h (doubled h) (value q) refl))
-    ∙ ap (λ n. paint_row n (λ q _. g.T.Pixel.pixel (clip 10 (round_shift (weighted (doubled h) (value q)) 7))) c.split_at_mut-row.result.1.now) (sym c.requires.width))
+    ∙ ap (λ n. paint_row n (λ q _. g.T.Pixel.pixel (clip 10 (round_shift (weighted (doubled h) (value q)) 7))) c.split_at_mut-row.result.1.now)
+    (sym c.requires.width))
 
 pub mixed_sums-sums-requires : goal.mixed_sums-sums-requires
 mixed_sums-sums-requires g c =
@@ -43,7 +49,8 @@ mixed_sums-sums-requires g c =
             (
               long,
               (
-                λ q t h l. subst (λ (n : ℕ). slice_index (map g.T.Pixel.num c.args.source.now) n < 1024) (sym (down_place r t s q)) (c.requires.within (r + t) (q + 3) (omega arith) (omega arith)),
+                λ q t h l. subst (λ (n : ℕ). slice_index (map g.T.Pixel.num c.args.source.now) n < 1024) (sym (down_place r t s q))
+                    (c.requires.within (r + t) (q + 3) (omega arith) (omega arith)),
                 record { low = omega (arith, ints); high = omega (arith, ints) },
               ),
             ),

@@ -7,4 +7,10 @@ use Rattle.av1_inter.proofs.alone.sum_mixed_rows.Given as goal
 
 abbrev pub invariant-loop-r : goal.invariant-loop-r
 invariant-loop-r g l =
-    l.samples ≡ paint l.stride (corner l.area l.area.width l.r) (λ r c _. g.T.Pixel.pixel (clip 10 (round_shift (round_shift (weighted (doubled l.halves) (λ t. pos (slice_index (map g.T.Pixel.num l.source) ((r + 3) * l.source_stride + (c + t))))) 3) 4))) l.initial.samples
+    l.samples ≡ paint l.stride (corner l.area l.area.width l.r)
+    (λ r c _.
+    g.T.Pixel.pixel
+    (clip 10
+    (round_shift
+    (round_shift (weighted (doubled l.halves) (λ t. pos (slice_index (map g.T.Pixel.num l.source) ((r + 3) * l.source_stride + (c + t))))) 3) 4)))
+    l.initial.samples

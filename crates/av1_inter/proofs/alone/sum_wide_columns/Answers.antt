@@ -15,9 +15,13 @@ loop-r-preserved g c =
     let s = c.args.source_stride in
     let value = λ (q t : ℕ). pos (slice_index (map g.T.Pixel.num c.args.source.now) ((r + t) * s + (q + 3))) in
     row_painted_rest c.args.stride c.args.area r _ _ c.loop-r.samples _ _ _ c.requires.rows c.loop-r-test.true c.loop-r.invariant rows.front rows.back
-    (c.put_row.ensures ∙ paint_row_same g.row.N _ (λ q _. g.T.Pixel.pixel (clip c.args.bit_depth (round_shift (weighted c.args.down.now (value q)) 7))) _ (λ q v h. ap (λ z. g.T.Pixel.pixel (clip c.args.bit_depth (round_shift z 7)))
-    (c.sums_apart-sums.ensures.value q h ∙ weighted_same c.args.down.now _ (value q) (λ t l. ap (λ n. pos (slice_index (map g.T.Pixel.num c.args.source.now) n)) (down_place r t s q))))
-    ∙ ap (λ n. paint_row n (λ q _. g.T.Pixel.pixel (clip c.args.bit_depth (round_shift (weighted c.args.down.now (value q)) 7))) c.split_at_mut-row.result.1.now) (sym c.requires.width))
+    (c.put_row.ensures
+    ∙ paint_row_same g.row.N _ (λ q _. g.T.Pixel.pixel (clip c.args.bit_depth (round_shift (weighted c.args.down.now (value q)) 7))) _
+    (λ q v h. ap (λ z. g.T.Pixel.pixel (clip c.args.bit_depth (round_shift z 7)))
+    (c.sums_apart-sums.ensures.value q h
+    ∙ weighted_same c.args.down.now _ (value q) (λ t l. ap (λ n. pos (slice_index (map g.T.Pixel.num c.args.source.now) n)) (down_place r t s q))))
+    ∙ ap (λ n. paint_row n (λ q _. g.T.Pixel.pixel (clip c.args.bit_depth (round_shift (weighted c.args.down.now (value q)) 7)))
+    c.split_at_mut-row.result.1.now) (sym c.requires.width))
 
 pub sums_apart-sums-requires : goal.sums_apart-sums-requires
 sums_apart-sums-requires g c =

@@ -14,5 +14,6 @@ loop-c-preserved g c =
     let put = g.T.Pixel.pixel in
     let f : FitsSigned w16 (entry a i) = search rules in
     let h : FitsSigned w16 (entry b i) = search rules in
-    let e = c.average_of.ensures ∙ ap (λ z. put (averaged d z (to_z w16 (of_z w16 (entry b i))))) (to_z-of_z w16 _ f) ∙ ap (λ z. put (averaged d (entry a i) z)) (to_z-of_z w16 _ h) in
+    let e = c.average_of.ensures ∙ ap (λ z. put (averaged d z (to_z w16 (of_z w16 (entry b i))))) (to_z-of_z w16 _ f)
+    ∙ ap (λ z. put (averaged d (entry a i) z)) (to_z-of_z w16 _ h) in
     ap (λ u. set u k c.average_of.result) c.loop-c.invariant ∙ paint_row_more k _ _ _ (omega arith) e

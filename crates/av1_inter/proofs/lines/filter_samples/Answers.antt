@@ -12,5 +12,6 @@ pub loop-c-preserved : goal.loop-c-preserved
 loop-c-preserved g c =
     let f : FitsSigned w32 c.round_shift.result = search rules in
     let s : FitsSigned w32 c.sum_along.result = search rules in
-    line_more g.row.N c.loop-c.c (λ k. round_shift (weighted c.args.taps.now (λ t. pos (slice_index (map g.T.Pixel.num c.args.row.now) (k + t)))) c.args.bit) _ _ c.loop-c.invariant (omega arith)
+    line_more g.row.N c.loop-c.c (λ k. round_shift (weighted c.args.taps.now (λ t. pos (slice_index (map g.T.Pixel.num c.args.row.now) (k + t)))) c.args.bit) _
+    _ c.loop-c.invariant (omega arith)
     (to_z-of_z w32 _ f ∙ c.round_shift.ensures ∙ ap (λ z. round_shift z c.args.bit) (to_z-of_z w32 _ s ∙ c.sum_along.ensures.value))

@@ -14,4 +14,6 @@ loop-c-preserved g c =
     let k = c.loop-c.c in
     let x = c.index-row-c.result in
     let n : slice_index (map num row) (k + 3) ≡ num x = get_or-map num row (k + 3) x 0 (omega arith) ∙ ap num (sym c.index-row-c.is) in
-    line_more g.row.N k (λ k. pos (slice_index (map num row) (k + 3) * 2 ^ c.args.bit)) _ _ c.loop-c.invariant (omega arith) (shifted_is _ (num x) c.args.bit c.to_i32.ensures.value c.to_i32.ensures.fits_16_bits c.requires.small ∙ ap (λ (m : ℕ). pos (m * 2 ^ c.args.bit)) (sym n))
+    line_more g.row.N k (λ k. pos (slice_index (map num row) (k + 3) * 2 ^ c.args.bit)) _ _ c.loop-c.invariant (omega arith)
+    (shifted_is _ (num x) c.args.bit c.to_i32.ensures.value c.to_i32.ensures.fits_16_bits c.requires.small
+    ∙ ap (λ (m : ℕ). pos (m * 2 ^ c.args.bit)) (sym n))

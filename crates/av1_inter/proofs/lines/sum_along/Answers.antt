@@ -11,11 +11,14 @@ returns-clause-value g c =
     let row = c.args.row.now in
     let k = c.args.c in
     let values : List ℤ =
-    to_z w32 (of_z w32 c.to_i32.result) ∷ to_z w32 (of_z w32 c.to_i32-2.result) ∷ to_z w32 (of_z w32 c.to_i32-3.result) ∷ to_z w32 (of_z w32 c.to_i32-4.result) ∷ to_z w32
+    to_z w32 (of_z w32 c.to_i32.result) ∷ to_z w32 (of_z w32 c.to_i32-2.result) ∷ to_z w32 (of_z w32 c.to_i32-3.result) ∷
+    to_z w32 (of_z w32 c.to_i32-4.result) ∷ to_z w32
     (of_z w32 c.to_i32-5.result) ∷ to_z w32 (of_z w32 c.to_i32-6.result) ∷ to_z w32 (of_z w32 c.to_i32-7.result) ∷ to_z w32 (of_z w32 c.to_i32-8.result) ∷ [] in
     let s : FitsSigned w32 c.weigh_by.result = search rules in
-    to_z-of_z w32 _ s ∙ c.weigh_by.ensures.value ∙ weighted_same c.args.taps.now _ _ (each_of_eight (λ t. entry values t ≡ pos (slice_index (map num row) (k + t)))
-    (sample_is num row k c.index-row-c.result _ (omega arith) c.index-row-c.is c.to_i32.ensures.value c.to_i32.ensures.fits_16_bits ∙ ap (λ n. pos (slice_index (map num row) n)) (let e : k ≡ k + 0 = omega arith in e))
+    to_z-of_z w32 _ s ∙ c.weigh_by.ensures.value
+    ∙ weighted_same c.args.taps.now _ _ (each_of_eight (λ t. entry values t ≡ pos (slice_index (map num row) (k + t)))
+    (sample_is num row k c.index-row-c.result _ (omega arith) c.index-row-c.is c.to_i32.ensures.value c.to_i32.ensures.fits_16_bits
+    ∙ ap (λ n. pos (slice_index (map num row) n)) (let e : k ≡ k + 0 = omega arith in e))
     (sample_is num row (k + 1) c.index-row-c-2.result _ (omega arith) c.index-row-c-2.is c.to_i32-2.ensures.value c.to_i32-2.ensures.fits_16_bits)
     (sample_is num row (k + 2) c.index-row-c-3.result _ (omega arith) c.index-row-c-3.is c.to_i32-3.ensures.value c.to_i32-3.ensures.fits_16_bits)
     (sample_is num row (k + 3) c.index-row-c-4.result _ (omega arith) c.index-row-c-4.is c.to_i32-4.ensures.value c.to_i32-4.ensures.fits_16_bits)

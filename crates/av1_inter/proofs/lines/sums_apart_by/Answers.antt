@@ -13,9 +13,12 @@ loop-c-preserved g c =
     let s : FitsSigned w32 c.sum_apart.result = search rules in
     let P : ℤ → Type 0 = λ z. IsWithin 1073741824 z in
     record {
-      line = line_more g.row.N c.loop-c.c (λ k. weighted c.args.taps.now (λ t. pos (slice_index (map g.T.Pixel.num c.args.samples.now) (c.args.start + k + t * c.args.step)))) _ _ c.loop-c.invariant.line (omega arith)
+      line = line_more g.row.N c.loop-c.c
+          (λ k. weighted c.args.taps.now (λ t. pos (slice_index (map g.T.Pixel.num c.args.samples.now) (c.args.start + k + t * c.args.step)))) _ _
+          c.loop-c.invariant.line (omega arith)
           (to_z-of_z w32 _ s ∙ c.sum_apart.ensures.value);
-      within = each_more P c.loop-c.c c.loop-c.sums _ c.loop-c.invariant.within (omega (arith, c.loop-c.invariant.line.long)) (subst P (sym (to_z-of_z w32 _ s)) c.sum_apart.ensures.within);
+      within = each_more P c.loop-c.c c.loop-c.sums _ c.loop-c.invariant.within (omega (arith, c.loop-c.invariant.line.long))
+          (subst P (sym (to_z-of_z w32 _ s)) c.sum_apart.ensures.within);
     }
 
 pub returns-clause-value : goal.returns-clause-value

@@ -15,7 +15,13 @@ half_sums_by-outer_sums-requires g c =
       size,
       (
         subst P is (outer_fits c.args.halves.now c.requires.filter),
-        (small, (λ e. subst IsInner is (outer_inner c.args.halves.now (c.requires.inner e)), (c.requires.short, (c.requires.long, λ q t h l. let b = c.requires.samples q t h l in omega (arith, b))))),
+        (
+          small,
+          (
+            λ e. subst IsInner is (outer_inner c.args.halves.now (c.requires.inner e)),
+            (c.requires.short, (c.requires.long, λ q t h l. let b = c.requires.samples q t h l in omega (arith, b))),
+          ),
+        ),
       ),
     )
 
@@ -27,15 +33,18 @@ mixed_sum-requires-clause-outer_sum g c =
     let k = c.loop-c.c in
     let f : FitsSigned w16 (entry c.half_sums_by-outer_sums.result k) = search rules in
     to_z-of_z w16 _ f ∙ c.half_sums_by-outer_sums.ensures k (omega arith)
-    ∙ ap (λ (w : List ℤ). weighted w (λ t. pos (slice_index (map g.T.Pixel.num c.args.samples.now) (c.args.start + k + t * c.args.step)))) c.outer_of-outer.ensures
+    ∙ ap (λ (w : List ℤ). weighted w (λ t. pos (slice_index (map g.T.Pixel.num c.args.samples.now) (c.args.start + k + t * c.args.step))))
+    c.outer_of-outer.ensures
 
 pub loop-c-preserved : goal.loop-c-preserved
 loop-c-preserved g c =
     let s : FitsSigned w32 c.mixed_sum.result = search rules in
     let sum = λ (k : ℕ). weighted c.args.halves.now (λ t. pos (slice_index (map g.T.Pixel.num c.args.samples.now) (c.args.start + k + t * c.args.step))) in
-    line_more g.row.N c.loop-c.c (λ k. sum k +ℤ to_z w16 (of_z w16 c.args.rounding)) _ _ c.loop-c.invariant (omega arith) (to_z-of_z w32 _ s ∙ c.mixed_sum.ensures)
+    line_more g.row.N c.loop-c.c (λ k. sum k +ℤ to_z w16 (of_z w16 c.args.rounding)) _ _ c.loop-c.invariant (omega arith)
+    (to_z-of_z w32 _ s ∙ c.mixed_sum.ensures)
 
 pub returns : goal.returns
 returns g c = λ q h.
     c.loop-c.invariant.value q (omega arith)
-    ∙ ap (λ z. weighted c.args.halves.now (λ t. pos (slice_index (map g.T.Pixel.num c.args.samples.now) (c.args.start + q + t * c.args.step))) +ℤ z) (to_z-of_z w16 _ c.ranges.rounding)
+    ∙ ap (λ z. weighted c.args.halves.now (λ t. pos (slice_index (map g.T.Pixel.num c.args.samples.now) (c.args.start + q + t * c.args.step))) +ℤ z)
+    (to_z-of_z w16 _ c.ranges.rounding)

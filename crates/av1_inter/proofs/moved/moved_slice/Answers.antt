@@ -35,9 +35,12 @@ returns-clause-stored g c =
     let fr : FitsSigned w16 c.args.mv.row = search rules in
     let rx : FitsSigned w64 c.moved_place.result = search rules in
     let ry : FitsSigned w64 c.moved_place-2.result = search rules in
-    (moved_is g.T.Pixel.num c.args.plane.now c.slice.result c.clamp.result c.subslice.result (c.args.at.x +ℤ (whole_part c.args.mv.col cfg.xdec -ℤ pos 3)) (c.args.at.y +ℤ (whole_part c.args.mv.row cfg.ydec -ℤ pos 3))
+    (moved_is g.T.Pixel.num c.args.plane.now c.slice.result c.clamp.result c.subslice.result (c.args.at.x +ℤ (whole_part c.args.mv.col cfg.xdec -ℤ pos 3))
+    (c.args.at.y +ℤ (whole_part c.args.mv.row cfg.ydec -ℤ pos 3))
     (slice_plane_is c.slice.result c.args.plane.now c.slice.ensures.samples c.slice.ensures.cfg)
-    (c.slice.ensures.x ∙ placed_is _ c.args.at.x c.args.mv.col _ cfg.xdec rx fx fc ex c.moved_place.ensures) (c.slice.ensures.y ∙ placed_is _ c.args.at.y c.args.mv.row _ cfg.ydec ry fy fr ey c.moved_place-2.ensures) c.clamp.ensures c.subslice.ensures c.requires.padded).stored
+    (c.slice.ensures.x ∙ placed_is _ c.args.at.x c.args.mv.col _ cfg.xdec rx fx fc ex c.moved_place.ensures)
+    (c.slice.ensures.y ∙ placed_is _ c.args.at.y c.args.mv.row _ cfg.ydec ry fy fr ey c.moved_place-2.ensures) c.clamp.ensures c.subslice.ensures
+    c.requires.padded).stored
 
 pub returns-clause-samples : goal.returns-clause-samples
 returns-clause-samples g c =
@@ -50,6 +53,9 @@ returns-clause-samples g c =
     let fr : FitsSigned w16 c.args.mv.row = search rules in
     let rx : FitsSigned w64 c.moved_place.result = search rules in
     let ry : FitsSigned w64 c.moved_place-2.result = search rules in
-    (moved_is g.T.Pixel.num c.args.plane.now c.slice.result c.clamp.result c.subslice.result (c.args.at.x +ℤ (whole_part c.args.mv.col cfg.xdec -ℤ pos 3)) (c.args.at.y +ℤ (whole_part c.args.mv.row cfg.ydec -ℤ pos 3))
+    (moved_is g.T.Pixel.num c.args.plane.now c.slice.result c.clamp.result c.subslice.result (c.args.at.x +ℤ (whole_part c.args.mv.col cfg.xdec -ℤ pos 3))
+    (c.args.at.y +ℤ (whole_part c.args.mv.row cfg.ydec -ℤ pos 3))
     (slice_plane_is c.slice.result c.args.plane.now c.slice.ensures.samples c.slice.ensures.cfg)
-    (c.slice.ensures.x ∙ placed_is _ c.args.at.x c.args.mv.col _ cfg.xdec rx fx fc ex c.moved_place.ensures) (c.slice.ensures.y ∙ placed_is _ c.args.at.y c.args.mv.row _ cfg.ydec ry fy fr ey c.moved_place-2.ensures) c.clamp.ensures c.subslice.ensures c.requires.padded).samples
+    (c.slice.ensures.x ∙ placed_is _ c.args.at.x c.args.mv.col _ cfg.xdec rx fx fc ex c.moved_place.ensures)
+    (c.slice.ensures.y ∙ placed_is _ c.args.at.y c.args.mv.row _ cfg.ydec ry fy fr ey c.moved_place-2.ensures) c.clamp.ensures c.subslice.ensures
+    c.requires.padded).samples

@@ -9,10 +9,12 @@ overflow_cast-result c =
     let t = c.args.t in
     let f : FitsSigned w32 (entry c.args.taps.now t) = search rules in
     let P : ℤ → Type 0 = λ z. FitsSigned w16 z in
-    subst P (sym (half_weight_is c.args.taps.now t c.requires.filter c.requires.weight f)) (half_weight_fits c.args.taps.now t c.requires.filter c.requires.weight)
+    subst P (sym (half_weight_is c.args.taps.now t c.requires.filter c.requires.weight f))
+    (half_weight_fits c.args.taps.now t c.requires.filter c.requires.weight)
 
 pub returns : goal.returns
 returns c =
     let t = c.args.t in
     let f : FitsSigned w32 (entry c.args.taps.now t) = search rules in
-    ap (λ z. to_z w16 (of_z w16 z)) (half_weight_is c.args.taps.now t c.requires.filter c.requires.weight f) ∙ to_z-of_z w16 _ (half_weight_fits c.args.taps.now t c.requires.filter c.requires.weight)
+    ap (λ z. to_z w16 (of_z w16 z)) (half_weight_is c.args.taps.now t c.requires.filter c.requires.weight f)
+    ∙ to_z-of_z w16 _ (half_weight_fits c.args.taps.now t c.requires.filter c.requires.weight)

@@ -10,14 +10,20 @@ use Rattle.av1_inter.proofs.narrow.half_sum.Goals as goal
 -- the values as they were read
 abbrev values_of : (a b d e f g h i : ℤ) → List ℤ
 values_of a b d e f g h i =
-    to_z w16 (of_z w16 a) ∷ to_z w16 (of_z w16 b) ∷ to_z w16 (of_z w16 d) ∷ to_z w16 (of_z w16 e) ∷ to_z w16 (of_z w16 f) ∷ to_z w16 (of_z w16 g) ∷ to_z w16 (of_z w16 h) ∷ to_z w16 (of_z w16 i) ∷ []
+    to_z w16 (of_z w16 a) ∷ to_z w16 (of_z w16 b) ∷ to_z w16 (of_z w16 d) ∷ to_z w16 (of_z w16 e) ∷ to_z w16 (of_z w16 f) ∷ to_z w16 (of_z w16 g) ∷
+    to_z w16 (of_z w16 h) ∷ to_z w16 (of_z w16 i) ∷ []
 
 pub weigh_halves_by-requires-clause-within : goal.weigh_halves_by-requires-clause-within
 weigh_halves_by-requires-clause-within g c =
-    each_of_eight (λ t. Between 0 g.row.GREATEST (entry (values_of c.short_at.result c.short_at-2.result c.short_at-3.result c.short_at-4.result c.short_at-5.result c.short_at-6.result c.short_at-7.result c.short_at-8.result) t))
-    (short_kept g.row.GREATEST _ c.requires.small c.short_at.ensures.within) (short_kept g.row.GREATEST _ c.requires.small c.short_at-2.ensures.within) (short_kept g.row.GREATEST _ c.requires.small c.short_at-3.ensures.within)
+    each_of_eight
+    (λ t. Between 0 g.row.GREATEST
+    (entry (values_of c.short_at.result c.short_at-2.result c.short_at-3.result c.short_at-4.result c.short_at-5.result c.short_at-6.result
+    c.short_at-7.result c.short_at-8.result) t))
+    (short_kept g.row.GREATEST _ c.requires.small c.short_at.ensures.within) (short_kept g.row.GREATEST _ c.requires.small c.short_at-2.ensures.within)
+    (short_kept g.row.GREATEST _ c.requires.small c.short_at-3.ensures.within)
     (short_kept g.row.GREATEST _ c.requires.small c.short_at-4.ensures.within)
-    (short_kept g.row.GREATEST _ c.requires.small c.short_at-5.ensures.within) (short_kept g.row.GREATEST _ c.requires.small c.short_at-6.ensures.within) (short_kept g.row.GREATEST _ c.requires.small c.short_at-7.ensures.within)
+    (short_kept g.row.GREATEST _ c.requires.small c.short_at-5.ensures.within) (short_kept g.row.GREATEST _ c.requires.small c.short_at-6.ensures.within)
+    (short_kept g.row.GREATEST _ c.requires.small c.short_at-7.ensures.within)
     (short_kept g.row.GREATEST _ c.requires.small c.short_at-8.ensures.within)
 
 pub returns : goal.returns
@@ -30,7 +36,9 @@ returns g c =
     let first : k ≡ k + 0 * d = omega arith in
     let second : k + d ≡ k + 1 * d = omega arith in
     to_z-of_z w16 _ fits ∙ c.weigh_halves_by.ensures ∙ weighted_same c.args.halves.now _ _ (each_of_eight
-    (λ t. entry (values_of c.short_at.result c.short_at-2.result c.short_at-3.result c.short_at-4.result c.short_at-5.result c.short_at-6.result c.short_at-7.result c.short_at-8.result) t ≡ pos (slice_index (map num s) (k + t * d)))
+    (λ t. entry
+    (values_of c.short_at.result c.short_at-2.result c.short_at-3.result c.short_at-4.result c.short_at-5.result c.short_at-6.result c.short_at-7.result
+    c.short_at-8.result) t ≡ pos (slice_index (map num s) (k + t * d)))
     (short_read g.row.GREATEST _ c.requires.small c.short_at.ensures.within ∙ c.short_at.ensures.value ∙ ap (λ n. pos (slice_index (map num s) n)) first)
     (short_read g.row.GREATEST _ c.requires.small c.short_at-2.ensures.within ∙ c.short_at-2.ensures.value ∙ ap (λ n. pos (slice_index (map num s) n)) second)
     (short_read g.row.GREATEST _ c.requires.small c.short_at-3.ensures.within ∙ c.short_at-3.ensures.value)

@@ -10,5 +10,7 @@ loop-c-init g c = line_none _ _
 pub loop-c-preserved : goal.loop-c-preserved
 loop-c-preserved g c =
     let s : FitsSigned w16 c.half_sum.result = search rules in
-    line_more g.row.N c.loop-c.c (λ k. weighted c.args.halves.now (λ t. pos (slice_index (map g.T.Pixel.num c.args.samples.now) (c.args.start + k + t * c.args.step)))) _ _ c.loop-c.invariant (omega arith)
+    line_more g.row.N c.loop-c.c
+    (λ k. weighted c.args.halves.now (λ t. pos (slice_index (map g.T.Pixel.num c.args.samples.now) (c.args.start + k + t * c.args.step)))) _ _
+    c.loop-c.invariant (omega arith)
     (to_z-of_z w16 _ s ∙ c.half_sum.ensures)

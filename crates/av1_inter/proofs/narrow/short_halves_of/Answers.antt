@@ -14,7 +14,8 @@ returns c =
     let b : FitsSigned w16 c.half_of-2.result = search rules in
     let d : FitsSigned w16 c.half_of-3.result = search rules in
     let e : FitsSigned w16 c.half_of-4.result = search rules in
-    let halves : List ℤ = pos 0 ∷ pos 0 ∷ to_z w16 (of_z w16 c.half_of.result) ∷ to_z w16 (of_z w16 c.half_of-2.result) ∷ to_z w16 (of_z w16 c.half_of-3.result) ∷ to_z w16 (of_z w16 c.half_of-4.result) ∷ pos 0 ∷ pos 0 ∷ [] in
+    let halves : List ℤ = pos 0 ∷ pos 0 ∷ to_z w16 (of_z w16 c.half_of.result) ∷ to_z w16 (of_z w16 c.half_of-2.result) ∷
+    to_z w16 (of_z w16 c.half_of-3.result) ∷ to_z w16 (of_z w16 c.half_of-4.result) ∷ pos 0 ∷ pos 0 ∷ [] in
     halves_are halves taps refl c.requires.filter (each_of_eight (λ t. entry halves t ≡ int_shr (entry taps t) 1)
     (ap (λ z. int_shr z 1) (sym short.inner.first))
     (ap (λ z. int_shr z 1) (sym short.second))

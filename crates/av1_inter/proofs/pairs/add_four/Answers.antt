@@ -15,4 +15,5 @@ overflow_add-sums-in-loop-c-2 c =
 pub loop-c-preserved : goal.loop-c-preserved
 loop-c-preserved c =
     let l = c.loop-c-test.true in
-    line_more 8 c.loop-c.c _ _ _ c.loop-c.invariant l (four_added _ _ _ _ (c.requires.first _ l) (c.requires.second _ l) (c.requires.third _ l) (c.requires.fourth _ l))
+    line_more 8 c.loop-c.c _ _ _ c.loop-c.invariant l (four_added _ _ _ _ (c.requires.first _ l) (c.requires.second _ l) (c.requires.third _ l)
+    (c.requires.fourth _ l))

@@ -5,20 +5,26 @@ use Rattle.av1_inter.proofs.EightSums.{pair_within, sample_below, sample_between
 use Rattle.av1_inter.proofs.pairs.pair_from.Goals as goal
 
 pub eight_from-requires-clause-within : goal.eight_from-requires-clause-within
-eight_from-requires-clause-within g c = λ q h. sample_below (map g.T.Pixel.num c.args.samples.now) c.args.start c.args.step q g.row.AT _ c.requires.within h (omega (arith, c.requires.two)) (omega arith)
+eight_from-requires-clause-within g c =
+    λ q h. sample_below (map g.T.Pixel.num c.args.samples.now) c.args.start c.args.step q g.row.AT _ c.requires.within h (omega (arith, c.requires.two))
+    (omega arith)
 
 pub eight_from-requires-2-clause-within : goal.eight_from-requires-2-clause-within
-eight_from-requires-2-clause-within g c = λ q h. sample_below (map g.T.Pixel.num c.args.samples.now) c.args.start c.args.step q (g.row.AT + 1) _ c.requires.within h (omega (arith, c.requires.two)) (omega arith)
+eight_from-requires-2-clause-within g c =
+    λ q h. sample_below (map g.T.Pixel.num c.args.samples.now) c.args.start c.args.step q (g.row.AT + 1) _ c.requires.within h (omega (arith, c.requires.two))
+    (omega arith)
 
 pub pair_sums-requires-clause-first : goal.pair_sums-requires-clause-first
 pair_sums-requires-clause-first g c = λ q h.
     let samples = map g.T.Pixel.num c.args.samples.now in
-    sample_between _ _ (c.eight_from.ensures q h) (sample_below samples c.args.start c.args.step q g.row.AT _ c.requires.within h (omega (arith, c.requires.two)) (omega arith))
+    sample_between _ _ (c.eight_from.ensures q h)
+    (sample_below samples c.args.start c.args.step q g.row.AT _ c.requires.within h (omega (arith, c.requires.two)) (omega arith))
 
 pub pair_sums-requires-clause-second : goal.pair_sums-requires-clause-second
 pair_sums-requires-clause-second g c = λ q h.
     let samples = map g.T.Pixel.num c.args.samples.now in
-    sample_between _ _ (c.eight_from-2.ensures q h) (sample_below samples c.args.start c.args.step q (g.row.AT + 1) _ c.requires.within h (omega (arith, c.requires.two)) (omega arith))
+    sample_between _ _ (c.eight_from-2.ensures q h)
+    (sample_below samples c.args.start c.args.step q (g.row.AT + 1) _ c.requires.within h (omega (arith, c.requires.two)) (omega arith))
 
 pub pair_sums-requires-clause-weight : goal.pair_sums-requires-clause-weight
 pair_sums-requires-clause-weight g c = weight_read_between c.args.weights.now g.row.AT c.requires.filter (omega (arith, c.requires.two))
@@ -33,5 +39,8 @@ returns-clause-within g c = λ q h.
     let k = c.args.start in
     let d = c.args.step in
     let t = g.row.AT in
-    let e : entry c.pair_sums.result q ≡ entry w t *ℤ pos (slice_index samples (k + q + t * d)) +ℤ entry w (t + 1) *ℤ pos (slice_index samples (k + q + (t + 1) * d)) = search rules in
-    pair_within (entry w t) (entry w (t + 1)) _ _ _ (weight_between w t c.requires.filter (omega (arith, c.requires.two))) (weight_between w (t + 1) c.requires.filter (omega (arith, c.requires.two))) (c.requires.within q t h (omega (arith, c.requires.two))) (c.requires.within q (t + 1) h (omega (arith, c.requires.two))) e
+    let e : entry c.pair_sums.result q ≡
+    entry w t *ℤ pos (slice_index samples (k + q + t * d)) +ℤ entry w (t + 1) *ℤ pos (slice_index samples (k + q + (t + 1) * d)) = search rules in
+    pair_within (entry w t) (entry w (t + 1)) _ _ _ (weight_between w t c.requires.filter (omega (arith, c.requires.two)))
+    (weight_between w (t + 1) c.requires.filter (omega (arith, c.requires.two))) (c.requires.within q t h (omega (arith, c.requires.two)))
+    (c.requires.within q (t + 1) h (omega (arith, c.requires.two))) e

@@ -15,7 +15,8 @@ loop-t-init c = line_none _ _
 pub loop-t-preserved : goal.loop-t-preserved
 loop-t-preserved c =
     let t = c.loop-t.t in
-    line_more 8 t (λ k. entry c.args.taps.now k) _ _ c.loop-t.invariant c.loop-t-test.true (short_weight_is _ (weight_between c.args.taps.now t c.requires c.loop-t-test.true))
+    line_more 8 t (λ k. entry c.args.taps.now k) _ _ c.loop-t.invariant c.loop-t-test.true
+    (short_weight_is _ (weight_between c.args.taps.now t c.requires c.loop-t-test.true))
 
 same : goal.returns-clause-same
 same c = filter_is c.loop-t.weights c.args.taps.now c.loop-t.invariant.long c.requires (λ t l. c.loop-t.invariant.value t (omega arith))

@@ -12,5 +12,11 @@ returns-clause-painted g c = λ first second hf hs.
     let one = λ (x y : ℤ). moved_prepared g.T.Pixel.num d c.args.fi.now.default_filter first x y (vector_of c.args.mvs 0) w h in
     let two = λ (x y : ℤ). moved_prepared g.T.Pixel.num d c.args.fi.now.default_filter second x y (vector_of c.args.mvs 1) w h in
     c.predict_over.ensures.painted first second hf hs
-    ∙ ap (λ x. painted c.args.dst.now w h (λ r q _. g.T.Pixel.pixel (averaged d (one x c.to_frame_plane_offset-at.result.y r q) (two x c.to_frame_plane_offset-at.result.y r q)))) c.to_frame_plane_offset-at.ensures.x
-    ∙ ap (λ y. painted c.args.dst.now w h (λ r q _. g.T.Pixel.pixel (averaged d (one (pos c.args.tile_rect.x +ℤ c.args.po.x) y r q) (two (pos c.args.tile_rect.x +ℤ c.args.po.x) y r q)))) c.to_frame_plane_offset-at.ensures.y
+    ∙ ap (λ x.
+    painted c.args.dst.now w h
+    (λ r q _. g.T.Pixel.pixel (averaged d (one x c.to_frame_plane_offset-at.result.y r q) (two x c.to_frame_plane_offset-at.result.y r q))))
+    c.to_frame_plane_offset-at.ensures.x
+    ∙ ap (λ y.
+    painted c.args.dst.now w h
+    (λ r q _. g.T.Pixel.pixel (averaged d (one (pos c.args.tile_rect.x +ℤ c.args.po.x) y r q) (two (pos c.args.tile_rect.x +ℤ c.args.po.x) y r q))))
+    c.to_frame_plane_offset-at.ensures.y

@@ -23,8 +23,10 @@ prepare_row-requires g c =
               c.next_sums-sums.ensures.within,
               (λ q h.
                   let P : ℤ → Type 0 = λ z. FitsSigned w16 (round_shift z 7 -ℤ bias c.args.bit_depth) in
-                  subst P (sym (c.next_sums-sums.ensures.value q h)) (down_fits c.args.bit_depth c.requires.depths c.args.across.now.fraction c.args.across.now.taps c.args.down.now.taps
-                  (samples_from g.T.Pixel.num c.args.corner) c.loop-r.r q c.requires.across_filter c.requires.down_filter (λ x y a b. c.requires.within x y (omega arith) (omega arith)))),
+                  subst P (sym (c.next_sums-sums.ensures.value q h))
+                  (down_fits c.args.bit_depth c.requires.depths c.args.across.now.fraction c.args.across.now.taps c.args.down.now.taps
+                  (samples_from g.T.Pixel.num c.args.corner) c.loop-r.r q c.requires.across_filter c.requires.down_filter
+                  (λ x y a b. c.requires.within x y (omega arith) (omega arith)))),
             ),
           ),
         ),
@@ -33,7 +35,9 @@ prepare_row-requires g c =
 
 pub loop-r-preserved : goal.loop-r-preserved
 loop-r-preserved g c = record {
-  written = strip_more c.args.width c.args.start g.row.N c.loop-r.r _ _ _ _ c.requires.columns c.loop-r.invariant.written (λ q h. c.prepare_row.ensures.value q h ∙ ap (λ z. round_shift z 7 -ℤ bias c.args.bit_depth) (c.next_sums-sums.ensures.value q h)) c.prepare_row.ensures.others;
+  written =
+      strip_more c.args.width c.args.start g.row.N c.loop-r.r _ _ _ _ c.requires.columns c.loop-r.invariant.written (λ q h. c.prepare_row.ensures.value q h
+      ∙ ap (λ z. round_shift z 7 -ℤ bias c.args.bit_depth) (c.next_sums-sums.ensures.value q h)) c.prepare_row.ensures.others;
   kept = λ j q a b l. c.next_sums-sums.ensures.kept j q a (omega arith) l;
 }
 

@@ -17,7 +17,8 @@ sums_apart-sums-requires g c =
     let s = c.stride-stride.result in
     let size : g.row.N * 4 < 9223372036854775808 = omega (arith, c.requires.short) in
     let last : (r + 7) * s ≡ r * s + 7 * s = grind arith in
-    let reach = source_reaches g.T.Pixel.num c.args.corner _ _ c.requires.stored c.samples-source.result.now s (g.row.N + 6) (r + 7) c.samples-source.ensures c.stride-stride.ensures (omega arith) (omega arith) in
+    let reach = source_reaches g.T.Pixel.num c.args.corner _ _ c.requires.stored c.samples-source.result.now s (g.row.N + 6)
+    (r + 7) c.samples-source.ensures c.stride-stride.ensures (omega arith) (omega arith) in
     let long : r * s + 3 + g.row.N + 7 * s ≤ length c.samples-source.result.now = omega (arith, last, reach) in
     (size, (c.requires.filter, (c.requires.short, long)))
 
@@ -36,13 +37,18 @@ prepare_row-requires g c =
             (
               c.sums_apart-sums.ensures.within,
               (λ q h.
-                  let e = c.sums_apart-sums.ensures.value q h ∙ weighted_same c.args.down.now _ _ (λ t l. ap pos (ap (λ n. slice_index (map g.T.Pixel.num c.samples-source.result.now) n) (down_place r t c.stride-stride.result q)
+                  let e = c.sums_apart-sums.ensures.value q h
+                  ∙ weighted_same c.args.down.now _ _
+                  (λ t l. ap pos (ap (λ n. slice_index (map g.T.Pixel.num c.samples-source.result.now) n) (down_place r t c.stride-stride.result q)
                   ∙ ap (λ s. slice_index (map g.T.Pixel.num c.samples-source.result.now) ((r + t) * s + (q + 3))) c.stride-stride.ensures
-                  ∙ source_sample g.T.Pixel.num c.args.corner _ _ c.requires.stored c.samples-source.result.now (q + 3) (r + t) c.samples-source.ensures (omega arith) (omega arith))) in
+                  ∙ source_sample g.T.Pixel.num c.args.corner _ _ c.requires.stored c.samples-source.result.now (q + 3)
+                  (r + t) c.samples-source.ensures (omega arith) (omega arith))) in
                   let b = ap (λ n. 7 - n) c.intermediate_bits-bits.ensures.value in
                   let P : ℤ → Type 0 = λ z. FitsSigned w16 (z -ℤ bias c.args.bit_depth) in
-                  subst P (sym (ap (λ z. round_shift z (7 - c.intermediate_bits-bits.result)) e ∙ ap (λ (n : ℕ). round_shift (down_samples c.args.down.now samples r q) n) b))
-                  (prepared_fits c.args.bit_depth c.requires.depths 0 1 c.args.down.now c.args.down.now samples r q c.requires.filter c.requires.filter (λ x y k l. c.requires.within x y (omega arith) (omega arith)))),
+                  subst P (sym (ap (λ z. round_shift z (7 - c.intermediate_bits-bits.result)) e
+                  ∙ ap (λ (n : ℕ). round_shift (down_samples c.args.down.now samples r q) n) b))
+                  (prepared_fits c.args.bit_depth c.requires.depths 0 1 c.args.down.now c.args.down.now samples r q c.requires.filter c.requires.filter
+                  (λ x y k l. c.requires.within x y (omega arith) (omega arith)))),
             ),
           ),
         ),
@@ -54,10 +60,13 @@ loop-r-preserved g c =
     let r = c.loop-r.r in
     let samples = samples_from g.T.Pixel.num c.args.corner in
     strip_more c.args.width c.args.start g.row.N r _ _ _ _ c.requires.columns c.loop-r.invariant
-    (λ q h. c.prepare_row.ensures.value q h ∙ ap (λ z. z -ℤ bias c.args.bit_depth) (ap (λ z. round_shift z (7 - c.intermediate_bits-bits.result)) (c.sums_apart-sums.ensures.value q h
-    ∙ weighted_same c.args.down.now _ _ (λ t l. ap pos (ap (λ n. slice_index (map g.T.Pixel.num c.samples-source.result.now) n) (down_place r t c.stride-stride.result q)
+    (λ q h. c.prepare_row.ensures.value q h
+    ∙ ap (λ z. z -ℤ bias c.args.bit_depth) (ap (λ z. round_shift z (7 - c.intermediate_bits-bits.result)) (c.sums_apart-sums.ensures.value q h
+    ∙ weighted_same c.args.down.now _ _
+    (λ t l. ap pos (ap (λ n. slice_index (map g.T.Pixel.num c.samples-source.result.now) n) (down_place r t c.stride-stride.result q)
     ∙ ap (λ s. slice_index (map g.T.Pixel.num c.samples-source.result.now) ((r + t) * s + (q + 3))) c.stride-stride.ensures
-    ∙ source_sample g.T.Pixel.num c.args.corner _ _ c.requires.stored c.samples-source.result.now (q + 3) (r + t) c.samples-source.ensures (omega arith) (omega arith))))
+    ∙ source_sample g.T.Pixel.num c.args.corner _ _ c.requires.stored c.samples-source.result.now (q + 3) (r + t) c.samples-source.ensures (omega arith)
+    (omega arith))))
     ∙ ap (λ (n : ℕ). round_shift (down_samples c.args.down.now samples r q) (7 - n)) c.intermediate_bits-bits.ensures.value)) c.prepare_row.ensures.others
 
 pub returns-clause-value : goal.returns-clause-value

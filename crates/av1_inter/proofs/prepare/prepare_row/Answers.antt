@@ -13,4 +13,5 @@ loop-c-preserved g c =
     let v : FitsSigned w32 (entry c.args.values.now k) = search rules in
     let f : FitsSigned w32 c.round_shift.result = search rules in
     let r = c.round_shift.ensures ∙ ap (λ z. round_shift z c.args.bit) (to_z-of_z w32 _ v) in
-    done_from_more c.args.start k _ _ _ _ c.loop-c.invariant (omega arith) (stored_is _ _ _ _ r c.prep_bias-bias.ensures f (bias_small c.args.bit_depth) (c.requires.fit k c.loop-c-test.true))
+    done_from_more c.args.start k _ _ _ _ c.loop-c.invariant (omega arith)
+    (stored_is _ _ _ _ r c.prep_bias-bias.ensures f (bias_small c.args.bit_depth) (c.requires.fit k c.loop-c-test.true))

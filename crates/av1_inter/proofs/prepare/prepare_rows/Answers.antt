@@ -23,13 +23,21 @@ prepare_row-requires g c =
             (
               (λ q h.
                   let across = c.args.across.now in
-                  let e = c.filter_horizontal-values.ensures q h ∙ intermediate_of_row g.T.Pixel.num c.args.corner _ _ c.requires.stored c.args.bit_depth across.fraction across.taps c.row.result.now (c.loop-r.r + 3) q c.row.ensures.value (omega arith) (omega arith) in
-                  let w = intermediate_within c.args.bit_depth c.requires.depths across.fraction across.taps (λ x. samples_from g.T.Pixel.num c.args.corner x (c.loop-r.r + 3)) q c.requires.across_filter (λ t l. c.requires.within (q + t) (c.loop-r.r + 3) (omega arith) (omega arith)) in
+                  let e = c.filter_horizontal-values.ensures q h
+                  ∙ intermediate_of_row g.T.Pixel.num c.args.corner _ _ c.requires.stored c.args.bit_depth across.fraction across.taps c.row.result.now
+                  (c.loop-r.r + 3) q c.row.ensures.value (omega arith) (omega arith) in
+                  let w = intermediate_within c.args.bit_depth c.requires.depths across.fraction across.taps
+                  (λ x. samples_from g.T.Pixel.num c.args.corner x (c.loop-r.r + 3)) q c.requires.across_filter
+                  (λ t l. c.requires.within (q + t) (c.loop-r.r + 3) (omega arith) (omega arith)) in
                   record { low = omega (arith, ints, e, w.low); high = omega (arith, ints, e, w.high) }),
               (λ q h.
                   let across = c.args.across.now in
-                  let e = c.filter_horizontal-values.ensures q h ∙ intermediate_of_row g.T.Pixel.num c.args.corner _ _ c.requires.stored c.args.bit_depth across.fraction across.taps c.row.result.now (c.loop-r.r + 3) q c.row.ensures.value (omega arith) (omega arith) in
-                  let w = intermediate_fits c.args.bit_depth c.requires.depths across.fraction across.taps (λ x. samples_from g.T.Pixel.num c.args.corner x (c.loop-r.r + 3)) q c.requires.across_filter (λ t l. c.requires.within (q + t) (c.loop-r.r + 3) (omega arith) (omega arith)) in
+                  let e = c.filter_horizontal-values.ensures q h
+                  ∙ intermediate_of_row g.T.Pixel.num c.args.corner _ _ c.requires.stored c.args.bit_depth across.fraction across.taps c.row.result.now
+                  (c.loop-r.r + 3) q c.row.ensures.value (omega arith) (omega arith) in
+                  let w = intermediate_fits c.args.bit_depth c.requires.depths across.fraction across.taps
+                  (λ x. samples_from g.T.Pixel.num c.args.corner x (c.loop-r.r + 3)) q c.requires.across_filter
+                  (λ t l. c.requires.within (q + t) (c.loop-r.r + 3) (omega arith) (omega arith)) in
                   let P : ℤ → Type 0 = λ z. FitsSigned w16 (z -ℤ bias c.args.bit_depth) in
                   subst P (sym (round_0 _ ∙ e)) w),
             ),
@@ -43,7 +51,8 @@ loop-r-preserved g c =
     let across = c.args.across.now in
     strip_more c.args.width c.args.start g.row.N c.loop-r.r _ _ _ _ c.requires.columns c.loop-r.invariant
     (λ q h. c.prepare_row.ensures.value q h ∙ ap (λ z. z -ℤ bias c.args.bit_depth) (round_0 _ ∙ c.filter_horizontal-values.ensures q h
-    ∙ intermediate_of_row g.T.Pixel.num c.args.corner _ _ c.requires.stored c.args.bit_depth across.fraction across.taps c.row.result.now (c.loop-r.r + 3) q c.row.ensures.value (omega arith) (omega arith))) c.prepare_row.ensures.others
+    ∙ intermediate_of_row g.T.Pixel.num c.args.corner _ _ c.requires.stored c.args.bit_depth across.fraction across.taps c.row.result.now (c.loop-r.r + 3) q
+    c.row.ensures.value (omega arith) (omega arith))) c.prepare_row.ensures.others
 
 pub returns-clause-value : goal.returns-clause-value
 returns-clause-value g c = all_done (omega arith) c.loop-r.invariant

@@ -76,8 +76,12 @@ loop-r-preserved g c =
     let d = c.args.bit_depth in
     let f = down_intermediate d c.args.across.now.fraction c.args.across.now.taps c.args.down.now.taps (samples_from g.T.Pixel.num c.args.corner) c.loop-r.r in
     record {
-      painted = row_painted_rest c.args.stride c.args.area c.loop-r.r _ _ c.loop-r.samples _ _ _ c.requires.rows c.loop-r-test.true c.loop-r.invariant.painted rows.front rows.back
-          (put_sums g.T.Pixel.pixel d _ (7 + intermediate_bits d) g.row.N _ f _ _ (ap (λ n. 7 + n) c.intermediate_bits-bits.ensures.value) c.next_sums-sums.ensures.value c.put_row.ensures
-          ∙ ap (λ n. paint_row n (λ q _. g.T.Pixel.pixel (clip d (round_shift (f q) (7 + intermediate_bits d)))) c.split_at_mut-row.result.1.now) (sym c.requires.width));
+      painted =
+          row_painted_rest c.args.stride c.args.area c.loop-r.r _ _ c.loop-r.samples _ _ _ c.requires.rows c.loop-r-test.true c.loop-r.invariant.painted
+          rows.front rows.back
+          (put_sums g.T.Pixel.pixel d _ (7 + intermediate_bits d) g.row.N _ f _ _ (ap (λ n. 7 + n) c.intermediate_bits-bits.ensures.value)
+          c.next_sums-sums.ensures.value c.put_row.ensures
+          ∙ ap (λ n. paint_row n (λ q _. g.T.Pixel.pixel (clip d (round_shift (f q) (7 + intermediate_bits d)))) c.split_at_mut-row.result.1.now)
+          (sym c.requires.width));
       kept = λ j q a b l. c.next_sums-sums.ensures.kept j q a (omega arith) l;
     }

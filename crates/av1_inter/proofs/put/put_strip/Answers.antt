@@ -13,7 +13,9 @@ pub put_columns_of-requires-clause-rows : goal.put_columns_of-requires-clause-ro
 put_columns_of-requires-clause-rows g c = strip_rows c.args.stride c.args.area c.args.start c.args.columns _ c.requires.rows c.requires.columns
 
 pub put_columns_of-requires-clause-stored : goal.put_columns_of-requires-clause-stored
-put_columns_of-requires-clause-stored g c = strip_stored c.args.corner _ c.args.start (c.args.columns + 7) (c.args.area.height + 7) _ c.taps_of_strip-place.ensures.place (omega arith) c.requires.stored
+put_columns_of-requires-clause-stored g c =
+    strip_stored c.args.corner _ c.args.start (c.args.columns + 7)
+    (c.args.area.height + 7) _ c.taps_of_strip-place.ensures.place (omega arith) c.requires.stored
 
 pub returns : goal.returns
 returns g c =
@@ -21,6 +23,10 @@ returns g c =
     let down = c.args.down.now in
     let num = g.T.Pixel.num in
     c.put_columns_of.ensures ∙ paint_same c.args.stride (strip_of c.args.area c.args.start c.args.columns c.args.area.height) _
-    (λ r q _. g.T.Pixel.pixel (single c.args.bit_depth across.fraction down.fraction across.taps down.taps (samples_from num c.args.corner) r (c.args.start + q))) c.args.samples.now
-    (λ r q v a b. ap g.T.Pixel.pixel (single_moved c.args.bit_depth across.taps down.taps (samples_from num c.taps_of_strip-place.result) (samples_from num c.args.corner) r q (c.args.start + q)
+    (λ r q _.
+    g.T.Pixel.pixel (single c.args.bit_depth across.fraction down.fraction across.taps down.taps (samples_from num c.args.corner) r (c.args.start + q)))
+    c.args.samples.now
+    (λ r q v a b.
+    ap g.T.Pixel.pixel (single_moved c.args.bit_depth across.taps down.taps (samples_from num c.taps_of_strip-place.result)
+    (samples_from num c.args.corner) r q (c.args.start + q)
     (strip_same num c.args.corner _ c.args.start c.taps_of_strip-place.ensures.place r q) across.fraction down.fraction))

@@ -15,7 +15,8 @@ returns-clause-place g c = corner_is c.args.src c.go_left.result _ c.go_left.ens
 
 pub returns-clause-stored : goal.returns-clause-stored
 returns-clause-stored g c = λ columns rows stored.
-    subst (λ (p : PlaneSlice g.row.T.Denot). IsStoredFrom p columns rows) (sym (corner_is c.args.src c.go_left.result _ c.go_left.ensures c.go_up.ensures)) stored
+    subst (λ (p : PlaneSlice g.row.T.Denot). IsStoredFrom p columns rows)
+    (sym (corner_is c.args.src c.go_left.result _ c.go_left.ensures c.go_up.ensures)) stored
 
 pub returns-clause-within : goal.returns-clause-within
 returns-clause-within g c = λ depth columns rows within.

@@ -26,7 +26,9 @@ filter_vertical-requires g c =
                   let f = intermediate c.args.bit_depth across.fraction across.taps (samples_from g.T.Pixel.num c.args.corner) in
                   let k = keeps_more _ _ r (r + 7) g.row.N f c.requires.kept (omega arith) c.keep_row.ensures.value c.keep_row.ensures.others in
                   let P : ℤ → Type 0 = λ z. IsWithin 4194304 z in
-                  subst P (sym (k (r + t) q (omega arith) (omega arith) h)) (intermediate_within c.args.bit_depth c.requires.depths across.fraction across.taps _ q c.requires.across_filter (λ i m. c.requires.within (q + i) (r + t) (omega arith) (omega arith))),
+                  subst P (sym (k (r + t) q (omega arith) (omega arith) h))
+                  (intermediate_within c.args.bit_depth c.requires.depths across.fraction across.taps _ q c.requires.across_filter
+                  (λ i m. c.requires.within (q + i) (r + t) (omega arith) (omega arith))),
             ),
           ),
         ),

@@ -33,4 +33,6 @@ returns-in-BOTH g c =
     let num = g.T.Pixel.num in
     let e = ap (λ v. dc v a.block.bit_depth a.block.width a.block.height (edge_round num a.left.now 0 a.above.now)) c.in-BOTH.is in
     let l : a.block.height ≤ length a.left.now = rw c.in-BOTH.is at c.requires.left_long in
-    c.mean_of.ensures ∙ ap g.T.Pixel.pixel (mean_both num a.left.now c.beside-in-BOTH.result.now a.block.height c.beside-in-BOTH.ensures.last l a.block.width a.above.now ∙ sym e)
+    c.mean_of.ensures
+    ∙ ap g.T.Pixel.pixel (mean_both num a.left.now c.beside-in-BOTH.result.now a.block.height c.beside-in-BOTH.ensures.last l a.block.width a.above.now
+    ∙ sym e)

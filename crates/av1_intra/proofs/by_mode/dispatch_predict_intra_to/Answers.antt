@@ -50,7 +50,8 @@ predict_along-requires g c =
     let a = c.args in
     let b = a.block in
     let n = c.in_default in
-    let m = rest_directional a.mode c.requires.intra n.not-DC_PRED n.not-UV_CFL_PRED n.not-SMOOTH_PRED n.not-SMOOTH_V_PRED n.not-SMOOTH_H_PRED n.not-PAETH_PRED in
+    let m = rest_directional a.mode c.requires.intra n.not-DC_PRED n.not-UV_CFL_PRED n.not-SMOOTH_PRED n.not-SMOOTH_V_PRED n.not-SMOOTH_H_PRED n.not-PAETH_PRED
+    in
     record {
       rows = c.requires.rows;
       width = c.requires.columns;
@@ -69,6 +70,7 @@ returns-in_default g c =
     let b = a.block in
     let n = c.in_default in
     let num = g.T.Pixel.num in
-    let m = rest_directional a.mode c.requires.intra n.not-DC_PRED n.not-UV_CFL_PRED n.not-SMOOTH_PRED n.not-SMOOTH_V_PRED n.not-SMOOTH_H_PRED n.not-PAETH_PRED in
+    let m = rest_directional a.mode c.requires.intra n.not-DC_PRED n.not-UV_CFL_PRED n.not-SMOOTH_PRED n.not-SMOOTH_V_PRED n.not-SMOOTH_H_PRED n.not-PAETH_PRED
+    in
     c.predict_along.ensures ∙ paint_same a.stride a.area _ _ a.samples.now (λ q p _ _ _.
     ap g.T.Pixel.pixel (predicted_along a.mode m b a.variant a.alpha (ac_at b.width a.ac.now) (edge_round num a.left.now (num a.corner) a.above.now) q p))

@@ -18,7 +18,9 @@ returns-clause-painted g c =
     let a = to_z-of_z w16 c.args.alpha c.ranges.alpha in
     let t = some_weight c.args.alpha c.if-alpha-eq0.false in
     let x = c.index-row-0.result in
-    let first : num x ≡ first_sample num c.args.output.now = ap num c.index-row-0.is ∙ sym (get_or-map num c.row.result.now 0 x 0 (omega (arith, c.row.ensures.len))) ∙ ap (λ s. get_or (map num s) 0 0) c.row.ensures.value in
+    let first : num x ≡ first_sample num c.args.output.now = ap num c.index-row-0.is
+    ∙ sym (get_or-map num c.row.result.now 0 x 0 (omega (arith, c.row.ensures.len))) ∙ ap (λ s. get_or (map num s) 0 0) c.row.ensures.value in
     painted_same _ _ _ _ _ _ c.flat_from_luma.ensures.painted (λ q p v h k.
     let d = ac_at c.args.width c.args.ac.now q p in
-    ap g.T.Pixel.pixel (ap (λ z. from_luma c.args.bit_depth z (num x) d) a ∙ ap (λ n. from_luma c.args.bit_depth c.args.alpha n d) first ∙ sym (weighed_choice c.args.alpha (num v) _ t)))
+    ap g.T.Pixel.pixel (ap (λ z. from_luma c.args.bit_depth z (num x) d) a ∙ ap (λ n. from_luma c.args.bit_depth c.args.alpha n d) first
+    ∙ sym (weighed_choice c.args.alpha (num v) _ t)))

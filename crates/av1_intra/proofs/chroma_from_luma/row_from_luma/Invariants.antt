@@ -6,4 +6,6 @@ use Rattle.av1_intra.proofs.chroma_from_luma.row_from_luma.Given as goal
 
 abbrev pub invariant-loop-c : goal.invariant-loop-c
 invariant-loop-c g l =
-    l.row ≡ paint_row l.c (λ c _. g.T.Pixel.pixel (clip l.bit_depth (pos (g.T.Pixel.num l.fn.dc) +ℤ scaled_luma l.alpha (slice_index_or l.ac (l.start + c) (pos 0))))) l.initial.row
+    l.row ≡ paint_row l.c
+    (λ c _. g.T.Pixel.pixel (clip l.bit_depth (pos (g.T.Pixel.num l.fn.dc) +ℤ scaled_luma l.alpha (slice_index_or l.ac (l.start + c) (pos 0)))))
+    l.initial.row

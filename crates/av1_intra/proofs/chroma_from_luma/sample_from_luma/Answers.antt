@@ -12,5 +12,6 @@ returns g c =
     let fits : to_z w32 (of_z w32 (to_z w32 (of_z w32 dc) +ℤ to_z w32 (of_z w32 s))) ≡ dc +ℤ s = omega (arith, ints) in
     let a = to_z-of_z w16 c.args.alpha c.ranges.alpha in
     let d = to_z-of_z w16 c.args.difference c.ranges.difference in
-    let value : s ≡ scaled_luma c.args.alpha c.args.difference = c.scaled_luma.ensures.value ∙ ap (λ z. scaled_luma z (to_z w16 (of_z w16 c.args.difference))) a ∙ ap (scaled_luma c.args.alpha) d in
+    let value : s ≡ scaled_luma c.args.alpha c.args.difference = c.scaled_luma.ensures.value ∙ ap (λ z. scaled_luma z (to_z w16 (of_z w16 c.args.difference))) a
+    ∙ ap (scaled_luma c.args.alpha) d in
     c.clip.ensures ∙ ap (λ z. g.T.Pixel.pixel (clip c.args.bit_depth z)) (fits ∙ ap (λ z. dc +ℤ z) value)

@@ -14,7 +14,8 @@ returns-then-product-lt0-clause-value c =
     let n : c.unsigned_abs.result ≡ unsigned_abs q = c.unsigned_abs.ensures.value ∙ ap unsigned_abs (word q s) in
     let a = to_z-of_z w16 c.args.alpha c.ranges.alpha in
     let d = to_z-of_z w16 c.args.difference c.ranges.difference in
-    scaled_below q _ c.unsigned_abs.result (word q s) c.if-product-lt0.true n s ∙ ap scaled (c.weighted-product.ensures.value ∙ ap (λ z. z *ℤ to_z w16 (of_z w16 c.args.difference)) a ∙ ap (λ z. c.args.alpha *ℤ z) d)
+    scaled_below q _ c.unsigned_abs.result (word q s) c.if-product-lt0.true n s
+    ∙ ap scaled (c.weighted-product.ensures.value ∙ ap (λ z. z *ℤ to_z w16 (of_z w16 c.args.difference)) a ∙ ap (λ z. c.args.alpha *ℤ z) d)
 
 pub returns-then-product-lt0-clause-small : goal.returns-then-product-lt0-clause-small
 returns-then-product-lt0-clause-small c =
@@ -31,7 +32,8 @@ returns-else-product-lt0-clause-value c =
     let n : c.unsigned_abs.result ≡ unsigned_abs q = c.unsigned_abs.ensures.value ∙ ap unsigned_abs (word q s) in
     let a = to_z-of_z w16 c.args.alpha c.ranges.alpha in
     let d = to_z-of_z w16 c.args.difference c.ranges.difference in
-    scaled_above q _ c.unsigned_abs.result (word q s) c.if-product-lt0.false n s ∙ ap scaled (c.weighted-product.ensures.value ∙ ap (λ z. z *ℤ to_z w16 (of_z w16 c.args.difference)) a ∙ ap (λ z. c.args.alpha *ℤ z) d)
+    scaled_above q _ c.unsigned_abs.result (word q s) c.if-product-lt0.false n s
+    ∙ ap scaled (c.weighted-product.ensures.value ∙ ap (λ z. z *ℤ to_z w16 (of_z w16 c.args.difference)) a ∙ ap (λ z. c.args.alpha *ℤ z) d)
 
 pub returns-else-product-lt0-clause-small : goal.returns-else-product-lt0-clause-small
 returns-else-product-lt0-clause-small c =

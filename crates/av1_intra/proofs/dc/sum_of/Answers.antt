@@ -10,4 +10,8 @@ loop-sample-preserved g c =
     let i = c.loop-sample.invariant in
     let m = sum_more n c.args.samples.now c.loop-sample.sample-index x c.loop-sample-test.true in
     let e = ap n c.sample-item.is in
-    record { value = cc (m, e, v.value, i.value); bound = sum_bound _ _ _ _ i.bound v.fits; small = omega (arith, i.small, sample_small _ _ v.fits g.met.T.Pixel.bits_at_most) }
+    record {
+      value = cc (m, e, v.value, i.value);
+      bound = sum_bound _ _ _ _ i.bound v.fits;
+      small = omega (arith, i.small, sample_small _ _ v.fits g.met.T.Pixel.bits_at_most);
+    }

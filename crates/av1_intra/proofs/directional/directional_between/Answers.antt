@@ -12,7 +12,8 @@ pub rows_between-requires-clause-pair : goal.rows_between-requires-clause-pair
 rows_between-requires-clause-pair g c =
     let p = c.args.block.p_angle in
     let h = between_pair p c.requires.angle c.requires.low c.requires.high in
-    subst (ArePair c.dr_intra_derivative-dx.result) (sym c.dr_intra_derivative-dy.ensures) (subst (λ n. ArePair n (derivative (p - 90))) (sym c.dr_intra_derivative-dx.ensures) h)
+    subst (ArePair c.dr_intra_derivative-dx.result) (sym c.dr_intra_derivative-dy.ensures)
+    (subst (λ n. ArePair n (derivative (p - 90))) (sym c.dr_intra_derivative-dx.ensures) h)
 
 pub returns : goal.returns
 returns g c =

@@ -16,4 +16,6 @@ loop-k-preserved g c =
     let E = entries c.args.side.now.numbers in
     let G = λ (k : ℕ) (_v : _). g.T.Pixel.pixel (at c.args.bit_depth E g.row.UPSAMPLING c.args.n k) in
     ap (λ row. set row c.loop-k.k c.blended.result) c.loop-k.invariant
-    ∙ paint_row_more c.loop-k.k G c.args.row.now c.blended.result (omega arith) (c.blended.ensures ∙ ap g.T.Pixel.pixel (blended_at c.args.bit_depth E g.row.UPSAMPLING c.args.n c.loop-k.k _ c.requires.upsampling (omega arith) (omega arith) refl))
+    ∙ paint_row_more c.loop-k.k G c.args.row.now c.blended.result (omega arith)
+    (c.blended.ensures
+    ∙ ap g.T.Pixel.pixel (blended_at c.args.bit_depth E g.row.UPSAMPLING c.args.n c.loop-k.k _ c.requires.upsampling (omega arith) (omega arith) refl))

@@ -40,8 +40,11 @@ returns-then-split-width g c =
     let F = λ (j : ℕ) (_v : _). g.T.Pixel.pixel (at depth L v (64 * (i + 1) - (j + 1) * dy) 0) in
     let G = λ (j : ℕ) (_v : _). g.T.Pixel.pixel (between depth A u L v dx dy i j) in
     let H = λ (k : ℕ) (_v : _). g.T.Pixel.pixel (at depth A u (64 * (m + 1) - (i + 1) * dx) k) in
-    let front = painted_front m _ F G c.args.row.now c.row_from_left.new.row (omega arith) (grind (arith, places)) c.row_from_left.ensures (λ j _ l. ap g.T.Pixel.pixel (left_column depth A u L v dx dy i j (omega (arith, few)))) in
-    painted_rest m _ w H G c.args.row.now _ c.interpolate_row.new.row (omega arith) c.requires.row_long (grind (arith, places)) front c.interpolate_row.ensures (λ k _ l. ap g.T.Pixel.pixel (above_column depth A u L v dx dy i m k c.requires.above_upsampling most))
+    let front =
+    painted_front m _ F G c.args.row.now c.row_from_left.new.row (omega arith)
+    (grind (arith, places)) c.row_from_left.ensures (λ j _ l. ap g.T.Pixel.pixel (left_column depth A u L v dx dy i j (omega (arith, few)))) in
+    painted_rest m _ w H G c.args.row.now _ c.interpolate_row.new.row (omega arith) c.requires.row_long (grind (arith, places)) front c.interpolate_row.ensures
+    (λ k _ l. ap g.T.Pixel.pixel (above_column depth A u L v dx dy i m k c.requires.above_upsampling most))
 
 pub returns-else-split-width : goal.returns-else-split-width
 returns-else-split-width g c =
@@ -60,4 +63,6 @@ returns-else-split-width g c =
     let whole : m ≡ w = omega (arith, c.min-split.ensures, c.if-split-width.false) in
     let F = λ (j : ℕ) (_v : _). g.T.Pixel.pixel (at depth L v (64 * (i + 1) - (j + 1) * dy) 0) in
     let G = λ (j : ℕ) (_v : _). g.T.Pixel.pixel (between depth A u L v dx dy i j) in
-    painted_front m _ F G c.args.row.now c.row_from_left.new.row (omega arith) (grind (arith, places)) c.row_from_left.ensures (λ j _ l. ap g.T.Pixel.pixel (left_column depth A u L v dx dy i j (omega (arith, few)))) ∙ ap (λ n. paint_row n G c.args.row.now) whole
+    painted_front m _ F G c.args.row.now c.row_from_left.new.row (omega arith)
+    (grind (arith, places)) c.row_from_left.ensures (λ j _ l. ap g.T.Pixel.pixel (left_column depth A u L v dx dy i j (omega (arith, few))))
+    ∙ ap (λ n. paint_row n G c.args.row.now) whole

@@ -6,4 +6,5 @@ use Rattle.av1_intra.proofs.interpolation.rows_past_180.Given as goal
 
 abbrev pub invariant-loop-i : goal.invariant-loop-i
 invariant-loop-i g l =
-    l.samples ≡ paint l.stride (corner l.area l.area.width l.i) (λ i j _. g.T.Pixel.pixel (at l.bit_depth (entries l.left.numbers) l.left.upsampling ((j + 1) * l.dy + 64) i)) l.initial.samples
+    l.samples ≡ paint l.stride (corner l.area l.area.width l.i)
+    (λ i j _. g.T.Pixel.pixel (at l.bit_depth (entries l.left.numbers) l.left.upsampling ((j + 1) * l.dy + 64) i)) l.initial.samples

@@ -8,7 +8,8 @@ use Rattle.av1_intra.proofs.laws.modes_have_angles.Goals as goal
 pub returns : goal.returns
 unfolding derivative is_interpolated
 returns c = λ mode step p.
-    elim mode as (λ m. is_directional m ≡ true → unsigned_abs step ≤ 3 → pos p ≡ intra_mode_to_angle m +ℤ pos 3 *ℤ step → (p ≡ 90 → ⊥) → (p ≡ 180 → ⊥) → is_interpolated p ≡ true) [
+    elim mode as (λ m. is_directional m ≡ true → unsigned_abs step ≤ 3 → pos p ≡ intra_mode_to_angle m +ℤ pos 3 *ℤ step → (p ≡ 90 → ⊥) → (p ≡ 180 → ⊥) →
+    is_interpolated p ≡ true) [
       | V_PRED ↦ λ h. step_fine 90 p step refl (omega arith) (omega arith)
       | H_PRED ↦ λ h. step_fine 180 p step refl (omega arith) (omega arith)
       | D45_PRED ↦ λ h. step_fine 45 p step refl (omega arith) (omega arith)

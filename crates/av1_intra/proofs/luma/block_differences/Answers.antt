@@ -17,4 +17,5 @@ subtract_mean-requires-clause-within g c = λ k h.
 
 pub returns : goal.returns
 returns g c =
-    differences_are (region_sample g.T.Pixel.num c.args.luma.now) c.args.block c.args.ac.now c.luma_rows.new.ac c.subtract_mean.new.ac c.luma_rows.ensures c.requires.ac_long c.subtract_mean.ensures
+    differences_are (region_sample g.T.Pixel.num c.args.luma.now) c.args.block c.args.ac.now c.luma_rows.new.ac c.subtract_mean.new.ac c.luma_rows.ensures
+    c.requires.ac_long c.subtract_mean.ensures

@@ -12,7 +12,9 @@ subregion-rest-requires-clause-area g c =
     let F = c.requires.readable.fits in
     let w = ap (λ r. r.width) c.rect-rect.ensures ∙ ap (λ r. r.width) c.requires.readable.rect in
     let h = ap (λ r. r.height) c.rect-rect.ensures ∙ ap (λ r. r.height) c.requires.readable.rect in
-    rest_lies l.plane_cfg l.area c.first_column-x.result c.first_row-y.result _ _ (omega (arith, c.first_column-x.ensures, c.requires.columns)) (omega (arith, c.first_row-y.ensures, c.requires.rows)) w h (omega (arith, F.columns, F.storage.few_columns)) (omega (arith, F.rows, F.storage.few_rows))
+    rest_lies l.plane_cfg l.area c.first_column-x.result c.first_row-y.result _ _ (omega (arith, c.first_column-x.ensures, c.requires.columns))
+    (omega (arith, c.first_row-y.ensures, c.requires.rows)) w h (omega (arith, F.columns, F.storage.few_columns))
+    (omega (arith, F.rows, F.storage.few_rows))
 
 -- a sample of the rest, as the leaf counts it
 pub differences-requires-clause-low : goal.differences-requires-clause-low
@@ -22,11 +24,14 @@ differences-requires-clause-low g c = λ x y h k.
     let num = g.T.Pixel.num in
     let b = c.chroma_block.ensures.value in
     let e =
-    rest_sample num l c.subregion-rest.result c.first_column-x.result c.first_row-y.result _ _ x y (omega (arith, c.first_column-x.ensures, c.requires.columns, F.columns, F.storage.few_columns))
-    (omega (arith, c.first_row-y.ensures, c.requires.rows, F.rows, F.storage.few_rows)) c.subregion-rest.ensures.samples c.subregion-rest.ensures.area c.subregion-rest.ensures.cfg in
+    rest_sample num l c.subregion-rest.result c.first_column-x.result c.first_row-y.result _ _ x y
+    (omega (arith, c.first_column-x.ensures, c.requires.columns, F.columns, F.storage.few_columns))
+    (omega (arith, c.first_row-y.ensures, c.requires.rows, F.rows, F.storage.few_rows)) c.subregion-rest.ensures.samples c.subregion-rest.ensures.area
+    c.subregion-rest.ensures.cfg in
     let i = ap (λ n. region_sample num l (n + x) (c.first_row-y.result + y)) c.first_column-x.ensures in
     let j = ap (λ n. region_sample num l (first_column c.args.leaf + x) (n + y)) c.first_row-y.ensures in
-    subst (λ n. n < 4096) (sym (e ∙ i ∙ j)) (c.requires.low x y (subst (λ (b : ChromaBlock). x < columns_read b) b h) (subst (λ (b : ChromaBlock). y < rows_read b) b k))
+    subst (λ n. n < 4096) (sym (e ∙ i ∙ j))
+    (c.requires.low x y (subst (λ (b : ChromaBlock). x < columns_read b) b h) (subst (λ (b : ChromaBlock). y < rows_read b) b k))
 
 pub returns : goal.returns
 returns g c =
@@ -36,8 +41,10 @@ returns g c =
     let leaf = c.args.leaf in
     let S = region_sample num c.subregion-rest.result in
     let same : S ≡ (λ x y. region_sample num l (first_column leaf + x) (first_row leaf + y)) = fun_ext (λ x. fun_ext (λ y.
-    rest_sample num l c.subregion-rest.result c.first_column-x.result c.first_row-y.result _ _ x y (omega (arith, c.first_column-x.ensures, c.requires.columns, F.columns, F.storage.few_columns))
-    (omega (arith, c.first_row-y.ensures, c.requires.rows, F.rows, F.storage.few_rows)) c.subregion-rest.ensures.samples c.subregion-rest.ensures.area c.subregion-rest.ensures.cfg
+    rest_sample num l c.subregion-rest.result c.first_column-x.result c.first_row-y.result _ _ x y
+    (omega (arith, c.first_column-x.ensures, c.requires.columns, F.columns, F.storage.few_columns))
+    (omega (arith, c.first_row-y.ensures, c.requires.rows, F.rows, F.storage.few_rows)) c.subregion-rest.ensures.samples c.subregion-rest.ensures.area
+    c.subregion-rest.ensures.cfg
     ∙ ap (λ n. region_sample num l (n + x) (c.first_row-y.result + y)) c.first_column-x.ensures
     ∙ ap (λ n. region_sample num l (first_column leaf + x) (n + y)) c.first_row-y.ensures)) in
     c.differences.ensures

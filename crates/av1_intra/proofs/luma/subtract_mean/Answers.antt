@@ -8,7 +8,8 @@ use Rattle.av1_intra.proofs.LumaBlocks.{sum_within, entry_ahead}
 use Rattle.av1_intra.proofs.luma.subtract_mean.Goals as goal
 
 -- the mean of entries from 0 to 32760
-mean_small : (xs : List ℤ) (t : ℕ) → 0 < length xs → t ≡ sum (map unsigned_abs xs) → ((k : ℕ) → k < length xs → (pos 0 ≤ℤ get_or xs k (pos 0)) × (get_or xs k (pos 0) ≤ℤ pos 32760)) → (t + length xs / 2) / length xs < 32761
+mean_small : (xs : List ℤ) (t : ℕ) → 0 < length xs → t ≡ sum (map unsigned_abs xs) →
+    ((k : ℕ) → k < length xs → (pos 0 ≤ℤ get_or xs k (pos 0)) × (get_or xs k (pos 0) ≤ℤ pos 32760)) → (t + length xs / 2) / length xs < 32761
 mean_small xs t h e w =
     let s = sum_within xs (λ k l. let r = w k l in omega (arith, ints, r.0, r.1)) in
     mean_fits t (length xs) 32761 h (omega (arith, e, s))
@@ -39,5 +40,7 @@ loop-k-preserved c =
     let r = c.requires.within k (omega arith) in
     let low : pos 0 ≤ℤ x = omega (arith, ints, e, r.0) in
     let high : x ≤ℤ pos 32760 = omega (arith, ints, e, r.1) in
-    let n : (c.total.result + length xs / 2) / length xs ≡ mean (map unsigned_abs xs) = mean_of_one (map unsigned_abs xs) (length xs) c.total.result (sym (length-map xs unsigned_abs)) c.total.ensures.value in
-    paint_row_step k _ xs c.loop-k.ac x _ c.loop-k.invariant (omega arith) (get_or_default c.loop-k.ac k (pos 0) x (omega arith)) (taken x _ low high m ∙ ap (λ n. x -ℤ pos n) n)
+    let n : (c.total.result + length xs / 2) / length xs ≡ mean (map unsigned_abs xs) =
+    mean_of_one (map unsigned_abs xs) (length xs) c.total.result (sym (length-map xs unsigned_abs)) c.total.ensures.value in
+    paint_row_step k _ xs c.loop-k.ac x _ c.loop-k.invariant (omega arith) (get_or_default c.loop-k.ac k (pos 0) x (omega arith))
+    (taken x _ low high m ∙ ap (λ n. x -ℤ pos n) n)

@@ -6,4 +6,6 @@ use Rattle.av1_intra.proofs.paeth.pred_paeth_to.Given as goal
 
 abbrev pub invariant-loop-r : goal.invariant-loop-r
 invariant-loop-r g l =
-    l.samples ≡ paint l.stride (corner l.area l.area.width l.r) (λ r c _. g.T.Pixel.pixel (paeth (numbers g.T.Pixel.num l.above c) (from_top g.T.Pixel.num l.area.height l.left r) (g.T.Pixel.num l.fn.above_left))) l.initial.samples
+    l.samples ≡ paint l.stride (corner l.area l.area.width l.r)
+    (λ r c _. g.T.Pixel.pixel (paeth (numbers g.T.Pixel.num l.above c) (from_top g.T.Pixel.num l.area.height l.left r) (g.T.Pixel.num l.fn.above_left)))
+    l.initial.samples

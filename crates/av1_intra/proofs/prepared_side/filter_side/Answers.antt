@@ -31,7 +31,8 @@ returns-in-Some-clause-numbers c =
     let q = delta_is b.p_angle c.args.straight (omega arith) (omega arith) in
     let A = entries c.args.numbers.now in
     let smooth = c.in-Some.smooth in
-    let m : c.select_ief_strength-strength.result ≡ filter_strength s smooth d = c.select_ief_strength-strength.ensures.value ∙ ap (filter_strength s smooth) q in
+    let m : c.select_ief_strength-strength.result ≡ filter_strength s smooth d = c.select_ief_strength-strength.ensures.value ∙ ap (filter_strength s smooth) q
+    in
     let n : c.select_ief_upsample-upsample.result ≡ is_upsampled s smooth d = c.select_ief_upsample-upsample.ensures ∙ ap (is_upsampled s smooth) q in
     c.prepare.ensures
     ∙ ap (λ k. made b c.args.smoothed c.args.places A k c.select_ief_upsample-upsample.result) m

@@ -9,7 +9,8 @@ pub loop-k-init : goal.loop-k-init
 loop-k-init g c =
     let E = λ (e _v : ℕ). side (g.T.Pixel.num c.args.corner) (take c.args.count (reverse (map g.T.Pixel.num c.args.left.now))) e in
     let s = replicate 257 0 in
-    ap (λ u. set u 0 c.to_u32.result) c.requires.empty ∙ ap (λ u. set u 0 c.to_u32.result) (paint_row_none E s) ∙ paint_row_more 0 E s c.to_u32.result (omega (arith, length-replicate {A = ℕ})) c.to_u32.ensures.value
+    ap (λ u. set u 0 c.to_u32.result) c.requires.empty ∙ ap (λ u. set u 0 c.to_u32.result) (paint_row_none E s)
+    ∙ paint_row_more 0 E s c.to_u32.result (omega (arith, length-replicate {A = ℕ})) c.to_u32.ensures.value
 
 pub loop-k-preserved : goal.loop-k-preserved
 loop-k-preserved g c =
@@ -17,9 +18,11 @@ loop-k-preserved g c =
     let s = replicate 257 0 in
     ap (λ u. set u (c.loop-k.k + 1) c.to_u32-in-loop-k.result) c.loop-k.invariant
     ∙ paint_row_more (c.loop-k.k + 1) E s c.to_u32-in-loop-k.result (omega (arith, length-replicate {A = ℕ}))
-    (left_place g.T.Pixel.num c.args.corner c.index-left-last.result c.args.count c.loop-k.k c.to_u32-in-loop-k.result c.args.left.now (omega arith) (omega arith) c.index-left-last.is c.to_u32-in-loop-k.ensures.value)
+    (left_place g.T.Pixel.num c.args.corner c.index-left-last.result c.args.count c.loop-k.k c.to_u32-in-loop-k.result c.args.left.now (omega arith)
+    (omega arith) c.index-left-last.is c.to_u32-in-loop-k.ensures.value)
 
 pub returns : goal.returns
 returns g c =
-    entries_filled (c.loop-k.k + 1) 257 (side (g.T.Pixel.num c.args.corner) (take c.args.count (reverse (map g.T.Pixel.num c.args.left.now)))) c.loop-k.numbers c.loop-k.invariant (omega arith)
+    entries_filled (c.loop-k.k + 1) 257 (side (g.T.Pixel.num c.args.corner) (take c.args.count (reverse (map g.T.Pixel.num c.args.left.now)))) c.loop-k.numbers
+    c.loop-k.invariant (omega arith)
     (λ e h. side_past (g.T.Pixel.num c.args.corner) c.args.count e (reverse (map g.T.Pixel.num c.args.left.now)) (omega arith))

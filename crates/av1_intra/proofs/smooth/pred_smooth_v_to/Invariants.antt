@@ -6,4 +6,6 @@ use Rattle.av1_intra.proofs.smooth.pred_smooth_v_to.Given as goal
 
 abbrev pub invariant-loop-r : goal.invariant-loop-r
 invariant-loop-r g l =
-    l.samples ≡ paint l.stride (corner l.area l.area.width l.r) (λ r c _. g.T.Pixel.pixel ((mix (slice_index l.weights r) (numbers g.T.Pixel.num l.above c) (numbers g.T.Pixel.num l.left 0) + 128) / 256)) l.initial.samples
+    l.samples ≡ paint l.stride (corner l.area l.area.width l.r)
+    (λ r c _. g.T.Pixel.pixel ((mix (slice_index l.weights r) (numbers g.T.Pixel.num l.above c) (numbers g.T.Pixel.num l.left 0) + 128) / 256))
+    l.initial.samples

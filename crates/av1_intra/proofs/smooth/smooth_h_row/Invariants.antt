@@ -6,4 +6,6 @@ use Rattle.av1_intra.proofs.smooth.smooth_h_row.Given as goal
 
 abbrev pub invariant-loop-c : goal.invariant-loop-c
 invariant-loop-c g l =
-    l.row ≡ paint_row l.c (λ c _. g.T.Pixel.pixel ((mix (slice_index l.weights c) (numbers g.T.Pixel.num l.fn.left l.fn.k) (numbers g.T.Pixel.num l.fn.above (l.width - 1)) + 128) / 256)) l.initial.row
+    l.row ≡ paint_row l.c
+    (λ c _. g.T.Pixel.pixel
+    ((mix (slice_index l.weights c) (numbers g.T.Pixel.num l.fn.left l.fn.k) (numbers g.T.Pixel.num l.fn.above (l.width - 1)) + 128) / 256)) l.initial.row

@@ -6,4 +6,5 @@ use Rattle.av1_intra.proofs.smooth.smooth_v_row.Given as goal
 
 abbrev pub invariant-loop-c : goal.invariant-loop-c
 invariant-loop-c g l =
-    l.row ≡ paint_row l.c (λ c _. g.T.Pixel.pixel ((mix l.weight (numbers g.T.Pixel.num l.above c) (numbers g.T.Pixel.num l.fn.left 0) + 128) / 256)) l.initial.row
+    l.row ≡ paint_row l.c (λ c _. g.T.Pixel.pixel ((mix l.weight (numbers g.T.Pixel.num l.above c) (numbers g.T.Pixel.num l.fn.left 0) + 128) / 256))
+    l.initial.row

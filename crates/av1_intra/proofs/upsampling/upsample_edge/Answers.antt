@@ -16,10 +16,14 @@ loop-e-preserved g c =
     let G = λ (k : ℕ) (_v : _). g.T.Pixel.pixel (upsampled c.args.bit_depth c.args.size A k) in
     let i : c.loop-e.edge ≡ painted_past (2 * c.loop-e.e) (2 * c.args.size + 1) G c.args.edge.now = c.loop-e.invariant in
     let m : c.min.result ≡ min c.args.size (e + 2) = (let q = c.min.ensures in grind (arith, nat_tests)) in
-    let a = read_before g.T.Pixel.num (2 * c.loop-e.e) (2 * c.args.size + 1) c.saturating_sub.result G _ _ _ _ i (omega arith) (omega arith) c.index-edge-saturating_sub.is c.to_u32-a.ensures.value in
-    let b = read_before g.T.Pixel.num (2 * c.loop-e.e) (2 * c.args.size + 1) e G _ _ _ _ i (omega arith) (omega arith) c.index-edge-e.is c.to_u32-b.ensures.value in
-    let d = read_before g.T.Pixel.num (2 * c.loop-e.e) (2 * c.args.size + 1) (e + 1) G _ _ _ _ i (omega arith) (omega arith) c.index-edge-e-in-loop-e.is c.to_u32-c.ensures.value in
-    let f = read_before g.T.Pixel.num (2 * c.loop-e.e) (2 * c.args.size + 1) c.min.result G _ _ _ _ i (omega arith) (omega arith) c.index-edge-min.is c.to_u32-d.ensures.value in
+    let a = read_before g.T.Pixel.num (2 * c.loop-e.e) (2 * c.args.size + 1) c.saturating_sub.result G _ _ _ _ i (omega arith)
+    (omega arith) c.index-edge-saturating_sub.is c.to_u32-a.ensures.value in
+    let b = read_before g.T.Pixel.num (2 * c.loop-e.e) (2 * c.args.size + 1) e G _ _ _ _ i (omega arith)
+    (omega arith) c.index-edge-e.is c.to_u32-b.ensures.value in
+    let d = read_before g.T.Pixel.num (2 * c.loop-e.e) (2 * c.args.size + 1) (e + 1) G _ _ _ _ i (omega arith)
+    (omega arith) c.index-edge-e-in-loop-e.is c.to_u32-c.ensures.value in
+    let f = read_before g.T.Pixel.num (2 * c.loop-e.e) (2 * c.args.size + 1) c.min.result G _ _ _ _ i (omega arith)
+    (omega arith) c.index-edge-min.is c.to_u32-d.ensures.value in
     let u = upsampled_odd c.args.bit_depth c.args.size e _ _ _ _ _ A (omega arith) (a ∙ ap A c.saturating_sub.ensures) b d (f ∙ ap A m) refl in
     let v = upsampled_even c.args.bit_depth c.args.size (e + 1) _ A (omega arith) d in
     let w : 2 * (e + 1) ≡ 2 * e + 2 = omega arith in
@@ -34,4 +38,5 @@ returns g c =
     let A = numbers g.T.Pixel.num c.args.edge.now in
     let G = λ (k : ℕ) (_v : _). g.T.Pixel.pixel (upsampled c.args.bit_depth c.args.size A k) in
     let i : c.loop-e.edge ≡ painted_past (2 * c.loop-e.e) (2 * c.args.size + 1) G c.args.edge.now = c.loop-e.invariant in
-    i ∙ ap (λ n. painted_past n (2 * c.args.size + 1) G c.args.edge.now) (omega arith) ∙ all_past _ _ _ (λ d l. upsampled_first g.T.Pixel.num g.T.Pixel.pixel c.args.bit_depth c.args.size c.args.edge.now d g.met.T.Pixel.pixel_of_num l)
+    i ∙ ap (λ n. painted_past n (2 * c.args.size + 1) G c.args.edge.now) (omega arith)
+    ∙ all_past _ _ _ (λ d l. upsampled_first g.T.Pixel.num g.T.Pixel.pixel c.args.bit_depth c.args.size c.args.edge.now d g.met.T.Pixel.pixel_of_num l)

@@ -6,4 +6,5 @@ use Rattle.av1_intra.proofs.upsampling.upsample_edge.Given as goal
 
 abbrev pub invariant-loop-e : goal.invariant-loop-e
 invariant-loop-e g l =
-    l.edge ≡ painted_past (2 * l.e) (2 * l.size + 1) (λ e _. g.T.Pixel.pixel (upsampled l.bit_depth l.size (numbers g.T.Pixel.num l.initial.edge) e)) l.initial.edge
+    l.edge ≡ painted_past (2 * l.e) (2 * l.size + 1)
+    (λ e _. g.T.Pixel.pixel (upsampled l.bit_depth l.size (numbers g.T.Pixel.num l.initial.edge) e)) l.initial.edge

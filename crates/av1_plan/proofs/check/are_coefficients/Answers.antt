@@ -8,14 +8,17 @@ loop-triple-init c = go_on_all c.args.header.now c.args.p c.args.area.now c.args
 pub loop-triple-preserved : goal.loop-triple-preserved
 loop-triple-preserved c =
     let l = c.loop-triple in
-    sym (triple_fits c.args.header.now c.args.p c.args.area.now l.last c.args.triples.now l.triple-index _ (omega arith) (sym c.is_coefficient.ensures ∙ c.if-not-is_coefficient.false) (sym c.follows.ensures ∙ c.if-not-follows.false)) ∙ l.invariant
+    sym (triple_fits c.args.header.now c.args.p c.args.area.now l.last c.args.triples.now l.triple-index _ (omega arith)
+    (sym c.is_coefficient.ensures ∙ c.if-not-is_coefficient.false) (sym c.follows.ensures ∙ c.if-not-follows.false)) ∙ l.invariant
 
 pub returns-then-not-is_coefficient : goal.returns-then-not-is_coefficient
 returns-then-not-is_coefficient c =
     let l = c.loop-triple in
-    sym (triple_unfit c.args.header.now c.args.p c.args.area.now l.last c.args.triples.now l.triple-index _ (omega arith) (sym c.is_coefficient.ensures ∙ c.if-not-is_coefficient.true)) ∙ l.invariant
+    sym (triple_unfit c.args.header.now c.args.p c.args.area.now l.last c.args.triples.now l.triple-index _ (omega arith)
+    (sym c.is_coefficient.ensures ∙ c.if-not-is_coefficient.true)) ∙ l.invariant
 
 pub returns-then-not-follows : goal.returns-then-not-follows
 returns-then-not-follows c =
     let l = c.loop-triple in
-    sym (triple_not_behind c.args.header.now c.args.p c.args.area.now l.last c.args.triples.now l.triple-index _ (omega arith) (sym c.follows.ensures ∙ c.if-not-follows.true)) ∙ l.invariant
+    sym (triple_not_behind c.args.header.now c.args.p c.args.area.now l.last c.args.triples.now l.triple-index _ (omega arith)
+    (sym c.follows.ensures ∙ c.if-not-follows.true)) ∙ l.invariant

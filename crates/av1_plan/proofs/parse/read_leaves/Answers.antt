@@ -10,8 +10,10 @@ use Rattle.av1_plan.proofs.parse.read_leaves.Goals as goal
 pub invariant_of-result-clause-spelled : goal.invariant_of-result-clause-spelled
 unfolding plan_behind
 invariant_of-result-clause-spelled c =
-    let e : read_all (plan_behind c.args.header (slot_values c.args.references.items)) (start c.args.bytes.now) ≡ Ok (value_of c.args.header c.args.references.items c.in_ok-parser.parser.leaves.items c.in_ok-parser.parser.triples.items) = grind (arith, collects) in
-    ∣ plan_spelled _ c.args.references.items _ c.requires.frame (omega (arith, c.requires.eight)) c.requires.slots (is_spelled (plan_behind c.args.header (slot_values c.args.references.items)) c.args.bytes.now _ (λ i. omega (arith, c.type_inv.bytes i)) e) ∣₁
+    let e : read_all (plan_behind c.args.header (slot_values c.args.references.items)) (start c.args.bytes.now) ≡
+    Ok (value_of c.args.header c.args.references.items c.in_ok-parser.parser.leaves.items c.in_ok-parser.parser.triples.items) = grind (arith, collects) in
+    ∣ plan_spelled _ c.args.references.items _ c.requires.frame (omega (arith, c.requires.eight)) c.requires.slots
+    (is_spelled (plan_behind c.args.header (slot_values c.args.references.items)) c.args.bytes.now _ (λ i. omega (arith, c.type_inv.bytes i)) e) ∣₁
 
 pub invariant_of-result-clause-follow : goal.invariant_of-result-clause-follow
 invariant_of-result-clause-follow c = ∣ c.in_ok-parser.ensures.sound.follow ∣₁

@@ -11,4 +11,5 @@ returns-then-samples-plane_len c =
     let small = pow_mono c.requires.depth in
     let whole : 1 * 2 ^ depth % 4294967296 ≡ 2 ^ depth = omega (arith, small) in
     let count : length c.args.samples.now ≡ plane_len c.args.header.now c.args.p = c.if-samples-plane_len.true ∙ c.plane_len.ensures in
-    ap (λ (n : ℕ). nat_lt c.from.result n) whole ∙ ap (λ (n : ℕ). nat_lt n (2 ^ depth)) (c.from.ensures ∙ c.greatest.ensures) ∙ sym (plane_is c.args.header.now c.args.p c.args.samples.now count)
+    ap (λ (n : ℕ). nat_lt c.from.result n) whole ∙ ap (λ (n : ℕ). nat_lt n (2 ^ depth)) (c.from.ensures ∙ c.greatest.ensures)
+    ∙ sym (plane_is c.args.header.now c.args.p c.args.samples.now count)

@@ -13,8 +13,11 @@ returns-in_err-write_plane-2-clause-prefix g c = AppendsPrefix-two _ _ _ _ _ _ c
 
 pub returns-clause-whole : goal.returns-clause-whole
 unfolding visible
-returns-clause-whole g c = on_ok_weaker c.write_plane-3.result (λ third. Appends-three _ _ _ _ _ _ _ c.in_ok-write_plane.ensures.whole c.in_ok-write_plane-2.ensures.whole third) c.write_plane-3.ensures.whole
+returns-clause-whole g c =
+    on_ok_weaker c.write_plane-3.result (λ third. Appends-three _ _ _ _ _ _ _ c.in_ok-write_plane.ensures.whole c.in_ok-write_plane-2.ensures.whole third)
+    c.write_plane-3.ensures.whole
 
 pub returns-clause-prefix : goal.returns-clause-prefix
 unfolding visible
-returns-clause-prefix g c = AppendsPrefix-three _ _ _ _ _ _ _ c.in_ok-write_plane.ensures.whole c.in_ok-write_plane-2.ensures.whole c.write_plane-3.ensures.prefix
+returns-clause-prefix g c =
+    AppendsPrefix-three _ _ _ _ _ _ _ c.in_ok-write_plane.ensures.whole c.in_ok-write_plane-2.ensures.whole c.write_plane-3.ensures.prefix

@@ -1,4 +1,4 @@
-use Rattle.std.proofs.Common.{◌≤◌}
+use Rattle.std.proofs.Common.{◌≡◌}
 use Rattle.std.specs.Io.KnownBytes.{Appends}
 use Rattle.av1_recon.proofs.Rows.{rows_below}
 use Rattle.av1_recon.proofs.planes.write_plane.Given as goal
@@ -6,5 +6,5 @@ use Rattle.av1_recon.proofs.planes.write_plane.Given as goal
 abbrev pub invariant-loop-y : goal.invariant-loop-y
 invariant-loop-y g l = record {
   so_far : Appends (g.W.Sink.taken l.initial.sink) (g.W.Sink.taken l.sink) (rows_below g.T.Pixel.num l.header l.plane l.p l.y);
-  later : g.W.Sink.faults l.initial.sink ≤ g.W.Sink.faults l.sink;
+  uncounted : g.W.Sink.faults l.sink ≡ g.W.Sink.faults l.initial.sink;
 }

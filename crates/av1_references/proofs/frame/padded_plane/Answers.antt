@@ -24,5 +24,7 @@ pub returns : goal.returns
 returns g c =
     let made = c.in_ok-plane in
     filled_holds g.T.Pixel.num g.T.Pixel.pixel g.met.T.Pixel.pixel_of_num g.met.T.Pixel.num_of_pixel
-    c.args.samples.now made.plane c.fill_plane.new.plane c.pad.new.self c.args.header.now c.args.p made.ensures.whole made.ensures.cfg c.pad_of.ensures.value c.pad_of-2.ensures.value
-    c.plane_width-width.ensures.value c.plane_height-height.ensures.value c.xdec-xdec.ensures.value c.ydec-ydec.ensures.value c.requires.samples.range c.fill_plane.ensures c.pad.ensures.all
+    c.args.samples.now made.plane c.fill_plane.new.plane c.pad.new.self c.args.header.now c.args.p made.ensures.whole made.ensures.cfg c.pad_of.ensures.value
+    c.pad_of-2.ensures.value
+    c.plane_width-width.ensures.value c.plane_height-height.ensures.value c.xdec-xdec.ensures.value c.ydec-ydec.ensures.value c.requires.samples.range
+    c.fill_plane.ensures c.pad.ensures.all

@@ -8,12 +8,14 @@ use Rattle.av1_references.proofs.predict.predict_compound.Goals as goal
 pub predict_inter_compound-requires-clause-first :
     goal.predict_inter_compound-requires-clause-first
 predict_inter_compound-requires-clause-first g c =
-    served_shorter g.T.Pixel.num c.args.fi.now (reference_in c.args.references 0) c.args.p (block_width c.args.area.size) (block_height c.args.area.size) _ _ (omega (arith, c.width.ensures.value)) (omega (arith, c.height.ensures.value)) c.requires.first
+    served_shorter g.T.Pixel.num c.args.fi.now (reference_in c.args.references 0) c.args.p (block_width c.args.area.size)
+    (block_height c.args.area.size) _ _ (omega (arith, c.width.ensures.value)) (omega (arith, c.height.ensures.value)) c.requires.first
 
 pub predict_inter_compound-requires-clause-second :
     goal.predict_inter_compound-requires-clause-second
 predict_inter_compound-requires-clause-second g c =
-    served_shorter g.T.Pixel.num c.args.fi.now (reference_in c.args.references 1) c.args.p (block_width c.args.area.size) (block_height c.args.area.size) _ _ (omega (arith, c.width.ensures.value)) (omega (arith, c.height.ensures.value)) c.requires.second
+    served_shorter g.T.Pixel.num c.args.fi.now (reference_in c.args.references 1) c.args.p (block_width c.args.area.size)
+    (block_height c.args.area.size) _ _ (omega (arith, c.width.ensures.value)) (omega (arith, c.height.ensures.value)) c.requires.second
 
 pub returns : goal.returns
 returns g c = λ value holds has_first has_second.
@@ -24,5 +26,6 @@ returns g c = λ value holds has_first has_second.
     let leaf = leaf_region plane area region.result region.ensures.plane region.ensures.cfg region.ensures.area c.visible_area.ensures
     tile.ensures.x tile.ensures.y c.first_sample.ensures.x c.first_sample.ensures.y c.width.ensures.value c.height.ensures.value in
     let predicted = c.predict_inter_compound in
-    let e = compound_region g.T.Pixel.num g.T.Pixel.pixel value c.args.fi.now holds c.args.p c.requires.plane plane area region.result predicted.new.dst _ _ _ _ leaf c.args.references c.args.mvs has_first has_second predicted.ensures.painted in
+    let e = compound_region g.T.Pixel.num g.T.Pixel.pixel value c.args.fi.now holds c.args.p c.requires.plane plane area region.result predicted.new.dst _ _ _ _
+    leaf c.args.references c.args.mvs has_first has_second predicted.ensures.painted in
     search rules

@@ -8,8 +8,10 @@ use Rattle.av1_sequence.proofs.output.pack.Goals as goal
 
 pub returns-then-depth-eq8-clause-bytes : goal.returns-then-depth-eq8-clause-bytes
 returns-then-depth-eq8-clause-bytes c =
-    c.pack_one.ensures ∙ bytes_at_eight own c.args.depth c.args.samples.now c.if-depth-eq8.true ∙ ap (flat_map (sample_bytes c.args.depth)) (map-id c.args.samples.now)
+    c.pack_one.ensures ∙ bytes_at_eight own c.args.depth c.args.samples.now c.if-depth-eq8.true
+    ∙ ap (flat_map (sample_bytes c.args.depth)) (map-id c.args.samples.now)
 
 pub returns-else-depth-eq8-clause-bytes : goal.returns-else-depth-eq8-clause-bytes
 returns-else-depth-eq8-clause-bytes c =
-    c.pack_two.ensures ∙ bytes_above_eight own c.args.depth c.args.samples.now c.if-depth-eq8.false ∙ ap (flat_map (sample_bytes c.args.depth)) (map-id c.args.samples.now)
+    c.pack_two.ensures ∙ bytes_above_eight own c.args.depth c.args.samples.now c.if-depth-eq8.false
+    ∙ ap (flat_map (sample_bytes c.args.depth)) (map-id c.args.samples.now)

@@ -13,9 +13,11 @@ write_rows-requires g c = record { plane = subst (λ (h : Header). IsWritable h 
 pub returns-in-Some-clause-whole : goal.returns-in-Some-clause-whole
 returns-in-Some-clause-whole g c =
     on_ok_weaker c.write_rows.result
-    (λ done. plane_written c.args.sequence.now.frames c.header.result.now c.header.ensures c.args.p c.in-Some.plane.now c.args.sequence.now.last c.in-Some.ensures.shown (Appends _ _) done)
+    (λ done. plane_written c.args.sequence.now.frames c.header.result.now c.header.ensures c.args.p c.in-Some.plane.now c.args.sequence.now.last
+    c.in-Some.ensures.shown (Appends _ _) done)
     c.write_rows.ensures.whole
 
 pub returns-in-Some-clause-prefix : goal.returns-in-Some-clause-prefix
 returns-in-Some-clause-prefix g c =
-    plane_written c.args.sequence.now.frames c.header.result.now c.header.ensures c.args.p c.in-Some.plane.now c.args.sequence.now.last c.in-Some.ensures.shown (AppendsPrefix _ _) c.write_rows.ensures.prefix
+    plane_written c.args.sequence.now.frames c.header.result.now c.header.ensures c.args.p c.in-Some.plane.now c.args.sequence.now.last c.in-Some.ensures.shown
+    (AppendsPrefix _ _) c.write_rows.ensures.prefix

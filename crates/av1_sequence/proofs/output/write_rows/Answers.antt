@@ -1,4 +1,4 @@
-use Rattle.std.proofs.Common.{arith, subst, ◌<◌, ◌≡◌}
+use Rattle.std.proofs.Common.{arith, subst, ◌<◌, ◌≡◌, ◌∙◌}
 use Rattle.std.specs.Io.KnownBytes.{Appends}
 use Rattle.av1_plan.specs.Geometry.{plane_height}
 use Rattle.av1_streams.specs.Streams.{AppendsPrefix}
@@ -16,26 +16,31 @@ write_row-requires-clause-narrow g c =
     row_narrow c.args.header.now c.args.p c.args.plane.now c.loop-y.y c.visible_row.result.now c.visible_row.ensures c.requires.plane below
 
 pub write_row-requires-clause-short : goal.write_row-requires-clause-short
-write_row-requires-clause-short g c = row_short c.args.header.now c.args.p c.args.plane.now c.loop-y.y c.visible_row.result.now c.visible_row.ensures c.requires.plane
+write_row-requires-clause-short g c =
+    row_short c.args.header.now c.args.p c.args.plane.now c.loop-y.y c.visible_row.result.now c.visible_row.ensures c.requires.plane
 
 pub returns-in_err-write_row-clause-prefix : goal.returns-in_err-write_row-clause-prefix
 returns-in_err-write_row-clause-prefix g c =
     let row = row_text c.args.header.now c.args.p c.args.plane.now c.loop-y.y c.visible_row.result.now c.visible_row.ensures in
-    AppendsPrefix-row own c.args.header.now c.args.plane.now c.args.p c.loop-y.y c.plane_height-y-end.result _ _ _ c.plane_height-y-end.ensures.value c.loop-y-test.true c.loop-y.invariant.so_far
+    AppendsPrefix-row own c.args.header.now c.args.plane.now c.args.p c.loop-y.y c.plane_height-y-end.result _ _ _ c.plane_height-y-end.ensures.value
+    c.loop-y-test.true c.loop-y.invariant.so_far
     (subst (AppendsPrefix _ _) row c.write_row.ensures.prefix)
 
 pub loop-y-preserved : goal.loop-y-preserved
 loop-y-preserved g c =
     let row = row_text c.args.header.now c.args.p c.args.plane.now c.loop-y.y c.visible_row.result.now c.visible_row.ensures in
     record {
-      so_far = Appends-row own c.args.header.now c.args.plane.now c.args.p c.loop-y.y _ _ _ c.loop-y.invariant.so_far (subst (Appends _ _) row c.in_ok-write_row.ensures.whole);
-      later = omega (arith, c.in_ok-write_row.ensures.cause.later);
+      so_far =
+          Appends-row own c.args.header.now c.args.plane.now c.args.p c.loop-y.y _ _ _ c.loop-y.invariant.so_far
+          (subst (Appends _ _) row c.in_ok-write_row.ensures.whole);
+      uncounted = c.in_ok-write_row.ensures.cause.uncounted ∙ c.loop-y.invariant.uncounted;
     }
 
 pub returns-clause-whole : goal.returns-clause-whole
 returns-clause-whole g c =
     let end : c.loop-y.y ≡ c.plane_height-y-end.result = omega (arith, c.loop-y.auto.y-end, c.loop-y-test.false) in
-    subst (Appends _ _) (rows_are_plane own c.args.header.now c.args.plane.now c.args.p c.loop-y.y _ end c.plane_height-y-end.ensures.value) c.loop-y.invariant.so_far
+    subst (Appends _ _) (rows_are_plane own c.args.header.now c.args.plane.now c.args.p c.loop-y.y _ end c.plane_height-y-end.ensures.value)
+    c.loop-y.invariant.so_far
 
 pub returns-clause-prefix : goal.returns-clause-prefix
 returns-clause-prefix g c = as_prefix _ _ (returns-clause-whole g c)

@@ -10,7 +10,8 @@ loop-place-preserved c = λ i lt.
       | inl below ↦ c.loop-place.invariant i below
       | inr le ↦
           let at : c.loop-place.place ≡ i = omega (arith, lt, le) in
-          subst (λ (n : ℕ). (s : ℕ) × ((s < 8) × (has_bit c.args.refresh s ≡ false) × (slice_index_or c.args.places.now s None ≡ Some n))) at (c.is_shown.ensures.yes c.if-not-is_shown.false)
+          subst (λ (n : ℕ). (s : ℕ) × ((s < 8) × (has_bit c.args.refresh s ≡ false) × (slice_index_or c.args.places.now s None ≡ Some n))) at
+          (c.is_shown.ensures.yes c.if-not-is_shown.false)
     ]
 
 pub returns-clause-free : goal.returns-clause-free
@@ -19,6 +20,10 @@ returns-clause-free c = λ s lt stays is.
     let more = fewer 8 8 (has_bit c.args.refresh) (λ s. slice_index_or c.args.places.now s None) r has.0 has.1
     (λ i below. elim (cases_lt i 7) [
       | inl first ↦ c.loop-place.invariant i (omega (arith, first, c.loop-place-test.false))
-      | inr le ↦ (let at : 7 ≡ i = omega (arith, below, le) in subst (λ (n : ℕ). (s : ℕ) × ((s < 8) × (has_bit c.args.refresh s ≡ false) × (slice_index_or c.args.places.now s None ≡ Some n))) at (s, (lt, stays, is)))
+      | inr le ↦ (let at : 7 ≡ i = omega (arith, below, le)
+          in subst (λ (n : ℕ). (s : ℕ) × ((s < 8) × (has_bit c.args.refresh s ≡ false) × (slice_index_or c.args.places.now s None ≡ Some n))) at (
+            s,
+            (lt, stays, is),
+          ))
     ]) in
     absurd (omega (arith, more))

@@ -15,12 +15,15 @@ loop-reference-preserved c =
       count = length-set named reference c.unwrap_or.result ∙ c.loop-reference.invariant.count;
       names = λ i place lt e.
           elim (cases_lt i reference) [
-            | inl below ↦ get_or-set_other named reference i c.unwrap_or.result 0 (λ same. absurd (omega (arith, below, same))) ∙ c.loop-reference.invariant.names i place below e
+            | inl below ↦ get_or-set_other named reference i c.unwrap_or.result 0 (λ same. absurd (omega (arith, below, same)))
+                ∙ c.loop-reference.invariant.names i place below e
             | inr le ↦
                 let at : reference ≡ i = omega (arith, lt, le) in
-                let here : slice_index_or c.args.places.now c.from.result None ≡ Some place = ap (λ (n : ℕ). slice_index_or c.args.places.now n None) (c.from.ensures ∙ ap (λ (n : ℕ). slice_index_or c.args.slots.now n 0) at) ∙ e in
+                let here : slice_index_or c.args.places.now c.from.result None ≡ Some place =
+                ap (λ (n : ℕ). slice_index_or c.args.places.now n None) (c.from.ensures ∙ ap (λ (n : ℕ). slice_index_or c.args.slots.now n 0) at) ∙ e in
                 let own : slice_index_or (set named reference c.unwrap_or.result) reference 0 ≡ place =
-                get_or-set_same named reference c.unwrap_or.result 0 (omega (arith, c.loop-reference.invariant.count, c.loop-reference-test.true)) ∙ c.unwrap_or.ensures ∙ ap (λ (o : Option ℕ). unwrap_or o 0) here in
+                get_or-set_same named reference c.unwrap_or.result 0 (omega (arith, c.loop-reference.invariant.count, c.loop-reference-test.true))
+                ∙ c.unwrap_or.ensures ∙ ap (λ (o : Option ℕ). unwrap_or o 0) here in
                 subst (λ (n : ℕ). slice_index_or (set named reference c.unwrap_or.result) n 0 ≡ place) at own
           ];
     }

@@ -1,38 +1,54 @@
-use Rattle.std.proofs.Common.{[], arith, refl, ◌≤◌, length, map}
+use Rattle.std.proofs.Common.{[], arith, refl, ◌∙◌, ◌≤◌, length, map}
 use Rattle.std.proofs.KnownBytes.{Appends-nil}
 use Rattle.std.proofs.lemmas.List.{length-map}
 use Rattle.av1_sequence.specs.File.{file_value, frame_value}
-use Rattle.av1_sequence.proofs.Showing.{all_shown, frame_at, goes_on, never_begun, stops, text_at}
+use Rattle.av1_sequence.proofs.Showing.{all_shown, blamed_by, frame_at, goes_on, never_begun, stops, text_at}
 use Rattle.av1_sequence.proofs.reconstruct.show_frames.Goals as goal
 
 pub returns-in_err-sequence-clause-shows : goal.returns-in_err-sequence-clause-shows
-returns-in_err-sequence-clause-shows g c = never_begun (file_value c.args.file.now) c.from_residual.result (g.W.Sink.taken c.args.sink.now) c.from_residual.ensures.1
+returns-in_err-sequence-clause-shows g c =
+    never_begun (file_value c.args.file.now) c.from_residual.result (g.W.Sink.taken c.args.sink.now) c.from_residual.ensures.1
 
 pub loop-index-init : goal.loop-index-init
-loop-index-init g c = record { shown = ([], (refl, c.in_ok-sequence.ensures), Appends-nil (g.W.Sink.taken c.args.sink.now)); later = omega arith }
+loop-index-init g c = record { shown = ([], (refl, c.in_ok-sequence.ensures), Appends-nil (g.W.Sink.taken c.args.sink.now)); uncounted = refl }
 
 pub show_frame-requires-clause-text : goal.show_frame-requires-clause-text
-show_frame-requires-clause-text g c = text_at c.args.file.now.frames.items c.loop-index.index c.index.result.now (omega (arith, c.loop-index-test.true, c.len-index-end.ensures)) c.index.ensures c.requires.file.texts
+show_frame-requires-clause-text g c =
+    text_at c.args.file.now.frames.items c.loop-index.index c.index.result.now (omega (arith, c.loop-index-test.true, c.len-index-end.ensures)) c.index.ensures
+    c.requires.file.texts
 
 pub returns-in_err-show_frame-clause-shows : goal.returns-in_err-show_frame-clause-shows
 returns-in_err-show_frame-clause-shows g c =
     let (written, lead, appended) = c.loop-index.invariant.shown in
-    let here = frame_at c.args.file.now.frames.items c.loop-index.index c.index.result.now (omega (arith, c.loop-index-test.true, c.len-index-end.ensures)) c.index.ensures in
+    let here =
+    frame_at c.args.file.now.frames.items c.loop-index.index c.index.result.now (omega (arith, c.loop-index-test.true, c.len-index-end.ensures))
+    c.index.ensures in
     stops (file_value c.args.file.now) c.loop-index.index (frame_value c.index.result.now) here c.loop-index.sequence c.show_frame.new.sequence written
-    _ _ _ lead appended c.from_residual-in_err-show_frame.result c.in_err-show_frame.field-0.0 c.from_residual-in_err-show_frame.ensures.1 c.in_err-show_frame.ensures.shows
+    _ _ _ lead appended c.from_residual-in_err-show_frame.result c.in_err-show_frame.field-0.0 c.from_residual-in_err-show_frame.ensures.1
+    c.in_err-show_frame.ensures.shows
+
+pub returns-in_err-show_frame-clause-uncounted : goal.returns-in_err-show_frame-clause-uncounted
+returns-in_err-show_frame-clause-uncounted g c = λ other.
+    c.in_err-show_frame.ensures.uncounted
+    (λ h. other (blamed_by c.from_residual-in_err-show_frame.result c.in_err-show_frame.field-0.0 c.from_residual-in_err-show_frame.ensures.1 h))
+    ∙ c.loop-index.invariant.uncounted
 
 pub loop-index-preserved : goal.loop-index-preserved
 loop-index-preserved g c =
     let (written, lead, appended) = c.loop-index.invariant.shown in
-    let here = frame_at c.args.file.now.frames.items c.loop-index.index c.index.result.now (omega (arith, c.loop-index-test.true, c.len-index-end.ensures)) c.index.ensures in
+    let here =
+    frame_at c.args.file.now.frames.items c.loop-index.index c.index.result.now (omega (arith, c.loop-index-test.true, c.len-index-end.ensures))
+    c.index.ensures in
     record {
-      shown = goes_on (file_value c.args.file.now) c.loop-index.index (frame_value c.index.result.now) here c.loop-index.sequence c.show_frame.new.sequence written
+      shown = goes_on (file_value c.args.file.now) c.loop-index.index (frame_value c.index.result.now) here c.loop-index.sequence c.show_frame.new.sequence
+          written
           _ _ _ lead appended c.in_ok-show_frame.ensures.shows;
-      later = omega (arith, c.loop-index.invariant.later, c.show_frame.ensures.later);
+      uncounted = c.in_ok-show_frame.ensures.uncounted (λ h. absurd h) ∙ c.loop-index.invariant.uncounted;
     }
 
 pub returns-clause-shows : goal.returns-clause-shows
 returns-clause-shows g c =
     let (written, lead, appended) = c.loop-index.invariant.shown in
-    let end : length (map frame_value c.args.file.now.frames.items) ≤ c.loop-index.index = omega (arith, length-map c.args.file.now.frames.items frame_value, c.loop-index-test.false, c.len-index-end.ensures) in
+    let end : length (map frame_value c.args.file.now.frames.items) ≤ c.loop-index.index =
+    omega (arith, length-map c.args.file.now.frames.items frame_value, c.loop-index-test.false, c.len-index-end.ensures) in
     all_shown (file_value c.args.file.now) c.loop-index.index c.loop-index.sequence written _ _ end lead appended

@@ -1,4 +1,4 @@
-use Rattle.std.proofs.Common.{◌≤◌, ℕ, List, take}
+use Rattle.std.proofs.Common.{◌≡◌, ℕ, List, take}
 use Rattle.std.specs.Io.KnownBytes.{Appends}
 use Rattle.av1_sequence.specs.File.{file_value}
 use Rattle.av1_sequence.specs.Files.{Lead, beginning}
@@ -6,6 +6,7 @@ use Rattle.av1_sequence.proofs.reconstruct.show_frames.Given as goal
 
 abbrev pub invariant-loop-index : goal.invariant-loop-index
 invariant-loop-index g l = record {
-  shown : (written : List ℕ) × Lead (beginning (file_value l.file)) (take l.index (file_value l.file).parts) written l.sequence × Appends (g.W.Sink.taken l.initial.sink) (g.W.Sink.taken l.sink) written;
-  later : g.W.Sink.faults l.initial.sink ≤ g.W.Sink.faults l.sink;
+  shown : (written : List ℕ) × Lead (beginning (file_value l.file)) (take l.index (file_value l.file).parts) written l.sequence ×
+      Appends (g.W.Sink.taken l.initial.sink) (g.W.Sink.taken l.sink) written;
+  uncounted : g.W.Sink.faults l.sink ≡ g.W.Sink.faults l.initial.sink;
 }

@@ -1,4 +1,4 @@
-use Rattle.std.proofs.Common.{◌≡◌, ◌+◌, ◌<◌, ◌^◌, take, rules}
+use Rattle.std.proofs.Common.{◌≡◌, ◌∙◌, ◌+◌, ◌<◌, ◌^◌, take, rules}
 use Rattle.std.proofs.lemmas.List.{with_items_is, places}
 use Rattle.std.proofs.lemmas.List.Elements.{All-take}
 use Rattle.av1_streams.proofs.Filling.{Consumes-filled}
@@ -14,5 +14,5 @@ reading-preserved g c =
       limit = search rules;
       so_far = rw whole (Consumes-filled _ _ _ _ _ c.reading.filled c.in-Ok.count front c.reading.invariant.so_far c.in-Ok.ensures.ok);
       fits = rw whole (All-take (λ byte. byte < 2 ^ 8) (c.reading.filled + c.in-Ok.count) c.read_at.new.bytes c.read_at.ensures.bytes);
-      later = search rules;
+      uncounted = c.in-Ok.ensures.cause.uncounted ∙ c.reading.invariant.uncounted;
     }

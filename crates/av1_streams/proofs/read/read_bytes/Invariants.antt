@@ -1,4 +1,4 @@
-use Rattle.std.proofs.Common.{◌+◌, ◌-◌, ◌≤◌, take, vec_len}
+use Rattle.std.proofs.Common.{◌≡◌, ◌+◌, ◌-◌, ◌≤◌, take, vec_len}
 use Rattle.std.specs.Io.KnownBytes.{Consumes}
 use Rattle.av1_streams.specs.Streams.{AreBytes}
 use Rattle.av1_streams.proofs.read.read_bytes.Given as goal
@@ -9,7 +9,7 @@ invariant-reading g l = record {
   limit : vec_len l.bytes ≤ l.limit + 1;
   so_far : Consumes (g.R.Source.left l.initial.source) (g.R.Source.left l.source) (take l.filled l.bytes.items);
   fits : AreBytes (take l.filled l.bytes.items);
-  later : g.R.Source.faults l.initial.source ≤ g.R.Source.faults l.source;
+  uncounted : g.R.Source.faults l.source ≡ g.R.Source.faults l.initial.source;
 }
 
 abbrev pub decreases-reading : goal.decreases-reading

@@ -7,4 +7,5 @@ pub returns-then-is_empty : goal.returns-then-is_empty
 returns-then-is_empty g c =
     let a = c.args in
     let none : length a.triples.now ≡ 0 = search rules in
-    none_painted g.T.Pixel.num g.T.Pixel.pixel g.met.T.Pixel.pixel_of_num a.header.now.depth a.block.now a.triples.now a.at.number a.plane.now (area_at a.block.now a.at) none c.requires.stores.within
+    none_painted g.T.Pixel.num g.T.Pixel.pixel g.met.T.Pixel.pixel_of_num a.header.now.depth a.block.now a.triples.now a.at.number a.plane.now
+    (area_at a.block.now a.at) none c.requires.stores.within

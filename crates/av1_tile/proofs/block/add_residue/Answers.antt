@@ -16,8 +16,11 @@ pub inverse_transform_add_with-requires-clause-input_fits : goal.inverse_transfo
 inverse_transform_add_with-requires-clause-input_fits g c = λ i h.
     let n = c.coded_area-count.result in
     let a = c.args in
-    let same = front_is g.T.Coeff.Coefficient.val n (coded_area a.block.now.area.tx_size) a.number a.triples.now c.load_coefficients.new.coefficients a.coefficients.now c.coded_area-count.ensures.value (omega arith) (omega arith) c.load_coefficients.ensures in
-    subst (λ (xs : List ℤ). AllFit (a.bit_depth + 8) xs) (sym same) (loaded_fit _ a.number _ a.triples.now (zeros_fit _ _) (λ k d l. (c.requires.triples k d l).value)) i
+    let same =
+    front_is g.T.Coeff.Coefficient.val n (coded_area a.block.now.area.tx_size) a.number a.triples.now c.load_coefficients.new.coefficients
+    a.coefficients.now c.coded_area-count.ensures.value (omega arith) (omega arith) c.load_coefficients.ensures in
+    subst (λ (xs : List ℤ). AllFit (a.bit_depth + 8) xs) (sym same)
+    (loaded_fit _ a.number _ a.triples.now (zeros_fit _ _) (λ k d l. (c.requires.triples k d l).value)) i
 
 pub returns-clause-painted : goal.returns-clause-painted
 unfolding block_residue coefficients
@@ -25,5 +28,8 @@ returns-clause-painted g c =
     let n = c.coded_area-count.result in
     let a = c.args in
     let p = a.block.now in
-    let same = front_is g.T.Coeff.Coefficient.val n (coded_area p.area.tx_size) a.number a.triples.now c.load_coefficients.new.coefficients a.coefficients.now c.coded_area-count.ensures.value (omega arith) (omega arith) c.load_coefficients.ensures in
-    painted_same _ _ _ _ _ _ c.inverse_transform_add_with.ensures.painted (λ r k v h l. ap (λ (xs : List ℤ). g.T.Pixel.pixel (added a.bit_depth (g.T.Pixel.num v) (residue p.area.tx_size p.tx_type a.bit_depth xs r k))) same)
+    let same =
+    front_is g.T.Coeff.Coefficient.val n (coded_area p.area.tx_size) a.number a.triples.now c.load_coefficients.new.coefficients a.coefficients.now
+    c.coded_area-count.ensures.value (omega arith) (omega arith) c.load_coefficients.ensures in
+    painted_same _ _ _ _ _ _ c.inverse_transform_add_with.ensures.painted
+    (λ r k v h l. ap (λ (xs : List ℤ). g.T.Pixel.pixel (added a.bit_depth (g.T.Pixel.num v) (residue p.area.tx_size p.tx_type a.bit_depth xs r k))) same)

@@ -15,7 +15,8 @@ loop-r-init c = paint_none c.args.columns (stored c.args.area) c.args.area.width
 pub loop-r-preserved : goal.loop-r-preserved
 loop-r-preserved c =
     let a = c.args in
-    row_filled a.columns (stored a.area) c.loop-r.r _ a.info a.cells.now c.loop-r.cells c.fill_slice.new.items c.requires.some c.requires.across c.requires.down c.loop-r-test.true (omega arith) c.loop-r.invariant c.fill_slice.ensures
+    row_filled a.columns (stored a.area) c.loop-r.r _ a.info a.cells.now c.loop-r.cells c.fill_slice.new.items c.requires.some c.requires.across c.requires.down
+    c.loop-r-test.true (omega arith) c.loop-r.invariant c.fill_slice.ensures
 
 pub returns : goal.returns
 returns c =

@@ -11,4 +11,5 @@ loop-triple-preserved g c =
     let t : Triple = get_or c.args.triples.now l.triple-index d in
     let same : length l.coefficients ≡ length c.put_value.new.coefficients = omega arith in
     let kept : cast_signed w32 (cast_unsigned w32 t.value) ≡ t.value = search rules in
-    triples_more c.args.block _ _ _ _ c.args.triples.now l.triple-index d c.loop-triple-test.true l.invariant (c.put_value.ensures ∙ with_triple_is c.args.block _ _ _ _ t c.from.ensures c.from-in-loop-triple.ensures kept) (ap (λ n. replicate n (pos 0)) same)
+    triples_more c.args.block _ _ _ _ c.args.triples.now l.triple-index d c.loop-triple-test.true l.invariant (c.put_value.ensures
+    ∙ with_triple_is c.args.block _ _ _ _ t c.from.ensures c.from-in-loop-triple.ensures kept) (ap (λ n. replicate n (pos 0)) same)

@@ -8,4 +8,6 @@ pub returns-then-is_here : goal.returns-then-is_here
 returns-then-is_here g c =
     let a = c.args in
     let val = g.C.Coefficient.val in
-    rw c.if-is_here.true (map-set val a.coefficients.now a.place _ ∙ ap (λ (z : ℤ). set (map val a.coefficients.now) a.place z) (ap val c.from_i32.ensures ∙ g.met.C.Coefficient.val_of_coefficient _ ∙ to_z-of_z w32 a.value c.ranges.value))
+    rw c.if-is_here.true (map-set val a.coefficients.now a.place _
+    ∙ ap (λ (z : ℤ). set (map val a.coefficients.now) a.place z) (ap val c.from_i32.ensures ∙ g.met.C.Coefficient.val_of_coefficient _
+    ∙ to_z-of_z w32 a.value c.ranges.value))

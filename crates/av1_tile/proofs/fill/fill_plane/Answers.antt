@@ -10,5 +10,7 @@ returns g c =
     let r = c.region_mut-stored in
     let cfg = c.config-cfg in
     let place : r.result.area ≡ storage_of p.plane_cfg = r.ensures.area ∙ storage_is p.plane_cfg cfg.result _ c.requires cfg.ensures in
-    let done = c.fill_rows.ensures.painted ∙ ap (λ (k : PlaneConfig). painted r.result r.result.area.width k.alloc_height (λ _ _ _. c.args.value)) cfg.ensures in
-    ◌∙◌ {b = c.fill_rows.new.output.plane.now} (search rules) (filled_region p r.result c.fill_rows.new.output c.args.value r.ensures.plane r.ensures.cfg place done c.requires)
+    let done = c.fill_rows.ensures.painted ∙ ap (λ (k : PlaneConfig). painted r.result r.result.area.width k.alloc_height (λ _ _ _. c.args.value)) cfg.ensures
+    in
+    ◌∙◌ {b = c.fill_rows.new.output.plane.now} (search rules)
+    (filled_region p r.result c.fill_rows.new.output c.args.value r.ensures.plane r.ensures.cfg place done c.requires)

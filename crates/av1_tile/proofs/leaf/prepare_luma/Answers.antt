@@ -13,7 +13,8 @@ leaf_luma_ac-requires-clause-ydec g c = omega (arith, halved_y c.args.header.now
 
 pub leaf_luma_ac-requires-clause-low : goal.leaf_luma_ac-requires-clause-low
 leaf_luma_ac-requires-clause-low g c x y column row =
-    let within : All (λ v. g.T.Pixel.num v < 2 ^ c.args.header.now.depth) c.region-stored.result.samples.now = rw c.region-stored.ensures.samples c.requires.stores.within in
+    let within : All (λ v. g.T.Pixel.num v < 2 ^ c.args.header.now.depth) c.region-stored.result.samples.now =
+    rw c.region-stored.ensures.samples c.requires.stores.within in
     region_below g.T.Pixel.num c.args.header.now.depth c.region-stored.result _ _ c.requires.fits.depth within
 
 pub returns-clause-value : goal.returns-clause-value
@@ -33,6 +34,8 @@ returns-clause-value g c r k row column =
     } in
     let same : told ≡ leaf = cc in
     let cfg = c.config-config.result in
-    let samples = origin_sample g.T.Pixel.num plane read.result (cfg.stride - cfg.xorigin) (cfg.alloc_height - cfg.yorigin) read.ensures.samples read.ensures.cfg read.ensures.area in
+    let samples =
+    origin_sample g.T.Pixel.num plane read.result (cfg.stride - cfg.xorigin)
+    (cfg.alloc_height - cfg.yorigin) read.ensures.samples read.ensures.cfg read.ensures.area in
     leaf_rows_at (sample_at g.T.Pixel.num plane) (region_sample g.T.Pixel.num read.result) told leaf c.args.luma.now c.leaf_luma_ac.new.ac r k same samples
     (omega (arith, c.requires.fits.few, c.requires.long)) c.leaf_luma_ac.ensures row column

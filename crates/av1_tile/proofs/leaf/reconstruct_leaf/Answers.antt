@@ -24,7 +24,9 @@ prepare_luma-requires-clause-fits g c =
     let l = leaf_with a.leaf.now a.y.now a.u.now a.v.now in
     let carried : carries_chroma h l.x l.y l.size ≡ true = sym c.carries_chroma.ensures ∙ c.if-carries_chroma.true in
     let from : is_from_luma l.kind ≡ true = sym c.is_from_luma.ensures ∙ c.if-is_from_luma.true in
-    let own : LumaFits h a.planes.now.y.plane_cfg (leaf_with a.leaf.now [] [] []) = (let f = c.requires.fits.luma carried from in record { narrow = f.narrow; low = f.low; width = f.width; height = f.height; few = f.few; columns = f.columns; rows = f.rows; depth = f.depth }) in
+    let own : LumaFits h a.planes.now.y.plane_cfg (leaf_with a.leaf.now [] [] []) =
+    (let f = c.requires.fits.luma carried from
+    in record { narrow = f.narrow; low = f.low; width = f.width; height = f.height; few = f.few; columns = f.columns; rows = f.rows; depth = f.depth }) in
     subst (λ (k : PlaneConfig). LumaFits h k (leaf_with a.leaf.now [] [] [])) (sym c.reconstruct_leaf_in.ensures.config) own
 
 pub returns-after-is_from_luma-clause-walked : goal.returns-after-is_from_luma-clause-walked
@@ -43,27 +45,37 @@ returns-after-is_from_luma-clause-walked g c = λ value serves.
     elim c.if-is_from_luma.branch [
       | then-is_from_luma w ↦
           let fits = c.requires.fits.luma carried from in
-          let long : c.reconstruct_leaf_in.new.buffers.luma.len ≡ length w.prepare_luma.new.luma = c.reconstruct_leaf_in.new.buffers.luma_long ∙ sym w.prepare_luma.ensures.long in
+          let long : c.reconstruct_leaf_in.new.buffers.luma.len ≡ length w.prepare_luma.new.luma = c.reconstruct_leaf_in.new.buffers.luma_long
+          ∙ sym w.prepare_luma.ensures.long in
           let at : luma ≡ w.prepare_luma.new.luma =
           ap (λ (b : _). b.luma.items) w.buffers-is
-          ∙ ap (λ (n : ℕ). take n (w.prepare_luma.new.luma ++ drop (length w.prepare_luma.new.luma) c.reconstruct_leaf_in.new.buffers.luma.items)) long ∙ take-append_seam w.prepare_luma.new.luma _ in
+          ∙ ap (λ (n : ℕ). take n (w.prepare_luma.new.luma ++ drop (length w.prepare_luma.new.luma) c.reconstruct_leaf_in.new.buffers.luma.items)) long
+          ∙ take-append_seam w.prepare_luma.new.luma _ in
           record {
             width = fits.width;
             height = fits.height;
-            value = subst (λ (ac : List ℤ). (r c : ℕ) → r < (chroma_block (luma_of h (luma_block l))).height → c < (chroma_block (luma_of h (luma_block l))).width
-                → ac_at (chroma_block (luma_of h (luma_block l))).width ac r c ≡ leaf_difference samples (luma_of h (luma_block l)) r c) (sym at) w.prepare_luma.ensures.value;
+            value = subst (λ (ac : List ℤ). (r c : ℕ) → r < (chroma_block (luma_of h (luma_block l))).height →
+                c < (chroma_block (luma_of h (luma_block l))).width
+                → ac_at (chroma_block (luma_of h (luma_block l))).width ac r c ≡ leaf_difference samples (luma_of h (luma_block l)) r c)
+                (sym at) w.prepare_luma.ensures.value;
           }
       | else-is_from_luma w ↦ absurd (true≢false (sym from ∙ sym c.is_from_luma.ensures ∙ w.if-is_from_luma.false))
     ] in
     let block = block_by h told Y l in
     let before = sample_at num a.planes.now.y in
-    let same_y = luma_same num g.T.Pixel.pixel plan 0 (λ _. ac_at (tx_width block.area.tx_size) a.buffers.now.luma.items) (luma_for h before Y) block (plain_in_y h l (filter_by h told Y l) before (tx_width block.area.tx_size) a.buffers.now.luma.items) h a.y.now a.planes.now.y in
-    let same_u = luma_same num g.T.Pixel.pixel plan 1 (λ _. ac_at (tx_width (block_by h told U l).area.tx_size) luma) (luma_for h samples U) (block_by h told U l) (luma_in_u h samples l luma holds (filter_by h told U l)) h a.u.now a.planes.now.u in
-    let same_v = luma_same num g.T.Pixel.pixel plan 2 (λ _. ac_at (tx_width (block_by h told V l).area.tx_size) luma) (luma_for h samples V) (block_by h told V l) (luma_in_v h samples l luma holds (filter_by h told V l)) h a.v.now a.planes.now.v in
+    let same_y =
+    luma_same num g.T.Pixel.pixel plan 0 (λ _. ac_at (tx_width block.area.tx_size) a.buffers.now.luma.items)
+    (luma_for h before Y) block (plain_in_y h l (filter_by h told Y l) before (tx_width block.area.tx_size) a.buffers.now.luma.items) h a.y.now
+    a.planes.now.y in
+    let same_u = luma_same num g.T.Pixel.pixel plan 1 (λ _. ac_at (tx_width (block_by h told U l).area.tx_size) luma) (luma_for h samples U)
+    (block_by h told U l) (luma_in_u h samples l luma holds (filter_by h told U l)) h a.u.now a.planes.now.u in
+    let same_v = luma_same num g.T.Pixel.pixel plan 2 (λ _. ac_at (tx_width (block_by h told V l).area.tx_size) luma) (luma_for h samples V)
+    (block_by h told V l) (luma_in_v h samples l luma holds (filter_by h told V l)) h a.v.now a.planes.now.v in
     leaf_walked num g.T.Pixel.pixel plan a.planes.now _ (λ k. block_by h told k l) l carried
     (c.reconstruct_leaf_in.ensures.walked value serves ∙ same_y) (c.reconstruct_leaf_in-then-carries_chroma.ensures.walked value serves ∙ same_u)
     (c.reconstruct_leaf_in-then-carries_chroma-2.ensures.walked value serves
-    ∙ ap (λ (ac : List ℤ). fold (fast_in num g.T.Pixel.pixel plan 2 (λ _. ac_at (tx_width (block_by h told V l).area.tx_size) ac)) a.planes.now.v (plane_steps h (block_by h told V l) a.v.now)) c.reconstruct_leaf_in-then-carries_chroma.ensures.luma ∙ same_v)
+    ∙ ap (λ (ac : List ℤ). fold (fast_in num g.T.Pixel.pixel plan 2 (λ _. ac_at (tx_width (block_by h told V l).area.tx_size) ac)) a.planes.now.v
+    (plane_steps h (block_by h told V l) a.v.now)) c.reconstruct_leaf_in-then-carries_chroma.ensures.luma ∙ same_v)
 
 pub returns-after-is_from_luma-clause-counted : goal.returns-after-is_from_luma-clause-counted
 returns-after-is_from_luma-clause-counted g c =
@@ -76,8 +88,11 @@ returns-after-is_from_luma-clause-counted g c =
       | then-is_from_luma w ↦ ap (λ (b : _). b.edges.prepared) w.buffers-is
       | else-is_from_luma w ↦ ap (λ (b : _). b.edges.prepared) w.buffers-is
     ] in
-    leaf_counted h (λ k. block_by h (cell_at a.cells.now) k l) l a.buffers.now.edges.prepared c.reconstruct_leaf_in.new.buffers.edges.prepared c.reconstruct_leaf_in-then-carries_chroma.new.buffers.edges.prepared c.reconstruct_leaf_in-then-carries_chroma-2.new.buffers.edges.prepared carried
-    c.reconstruct_leaf_in.ensures.counted (c.reconstruct_leaf_in-then-carries_chroma.ensures.counted ∙ ap (λ (n : ℕ). fold edges_in n (plane_steps h (block_by h (cell_at a.cells.now) U l) a.u.now)) kept) c.reconstruct_leaf_in-then-carries_chroma-2.ensures.counted
+    leaf_counted h (λ k. block_by h (cell_at a.cells.now) k l) l a.buffers.now.edges.prepared c.reconstruct_leaf_in.new.buffers.edges.prepared
+    c.reconstruct_leaf_in-then-carries_chroma.new.buffers.edges.prepared c.reconstruct_leaf_in-then-carries_chroma-2.new.buffers.edges.prepared carried
+    c.reconstruct_leaf_in.ensures.counted (c.reconstruct_leaf_in-then-carries_chroma.ensures.counted
+    ∙ ap (λ (n : ℕ). fold edges_in n (plane_steps h (block_by h (cell_at a.cells.now) U l) a.u.now)) kept)
+    c.reconstruct_leaf_in-then-carries_chroma-2.ensures.counted
 
 pub returns-else-carries_chroma-clause-walked : goal.returns-else-carries_chroma-clause-walked
 returns-else-carries_chroma-clause-walked g c = λ value serves.
@@ -90,8 +105,12 @@ returns-else-carries_chroma-clause-walked g c = λ value serves.
     let carried : carries_chroma h l.x l.y l.size ≡ false = sym c.carries_chroma.ensures ∙ c.if-carries_chroma.false in
     let block = block_by h told Y l in
     let before = sample_at num a.planes.now.y in
-    let same_y = luma_same num g.T.Pixel.pixel plan 0 (λ _. ac_at (tx_width block.area.tx_size) a.buffers.now.luma.items) (luma_for h before Y) block (plain_in_y h l (filter_by h told Y l) before (tx_width block.area.tx_size) a.buffers.now.luma.items) h a.y.now a.planes.now.y in
-    luma_walked num g.T.Pixel.pixel plan a.planes.now _ (λ k. block_by h told k l) l carried (c.reconstruct_leaf_in.ensures.walked value serves ∙ same_y) refl refl
+    let same_y =
+    luma_same num g.T.Pixel.pixel plan 0 (λ _. ac_at (tx_width block.area.tx_size) a.buffers.now.luma.items)
+    (luma_for h before Y) block (plain_in_y h l (filter_by h told Y l) before (tx_width block.area.tx_size) a.buffers.now.luma.items) h a.y.now
+    a.planes.now.y in
+    luma_walked num g.T.Pixel.pixel plan a.planes.now _ (λ k. block_by h told k l) l carried (c.reconstruct_leaf_in.ensures.walked value serves
+    ∙ same_y) refl refl
 
 pub returns-else-carries_chroma-clause-counted : goal.returns-else-carries_chroma-clause-counted
 returns-else-carries_chroma-clause-counted g c =
@@ -99,4 +118,5 @@ returns-else-carries_chroma-clause-counted g c =
     let h = a.header.now in
     let l = leaf_with a.leaf.now a.y.now a.u.now a.v.now in
     let carried : carries_chroma h l.x l.y l.size ≡ false = sym c.carries_chroma.ensures ∙ c.if-carries_chroma.false in
-    luma_counted h (λ k. block_by h (cell_at a.cells.now) k l) l a.buffers.now.edges.prepared c.reconstruct_leaf_in.new.buffers.edges.prepared carried c.reconstruct_leaf_in.ensures.counted
+    luma_counted h (λ k. block_by h (cell_at a.cells.now) k l) l a.buffers.now.edges.prepared c.reconstruct_leaf_in.new.buffers.edges.prepared carried
+    c.reconstruct_leaf_in.ensures.counted

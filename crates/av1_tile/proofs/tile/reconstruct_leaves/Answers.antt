@@ -17,7 +17,17 @@ use Rattle.av1_tile.proofs.tile.reconstruct_leaves.Goals as goal
 
 -- what a read past the end would give
 no_leaf : Leaf
-no_leaf = record { x = 0; y = 0; size = BLOCK_4X4; kind = Intra DC_PRED (pos 0) None; tx_size = TX_4X4; tx_type = DCT_DCT; uv_type = None; first = 0; counts = [] }
+no_leaf = record {
+  x = 0;
+  y = 0;
+  size = BLOCK_4X4;
+  kind = Intra DC_PRED (pos 0) None;
+  tx_size = TX_4X4;
+  tx_type = DCT_DCT;
+  uv_type = None;
+  first = 0;
+  counts = [];
+}
 
 pub loop-index-init : goal.loop-index-init
 loop-index-init g c = record {
@@ -34,7 +44,9 @@ pub reconstruct_leaf-requires-clause-fits : goal.reconstruct_leaf-requires-claus
 unfolding no_leaf
 reconstruct_leaf-requires-clause-fits g c =
     let leaves = c.args.leaves.now in
-    let a = is_leaf_at leaves c.loop-index.index c.leaves.result.now no_leaf _ _ _ c.leaves.ensures.items (omega (arith, ap length c.leaves.ensures.items, ap length c.leaves-index-end.ensures.items)) c.triples.ensures c.triples-in-loop-index.ensures c.triples-in-loop-index-2.ensures in
+    let a = is_leaf_at leaves c.loop-index.index c.leaves.result.now no_leaf _ _ _ c.leaves.ensures.items
+    (omega (arith, ap length c.leaves.ensures.items, ap length c.leaves-index-end.ensures.items)) c.triples.ensures c.triples-in-loop-index.ensures
+    c.triples-in-loop-index-2.ensures in
     turn_fits leaves c.args.header.now c.loop-index.index _ _ _ _ c.args.planes.now c.loop-index.planes a c.loop-index.invariant.layout c.requires.fits
 
 pub loop-index-preserved : goal.loop-index-preserved
@@ -45,15 +57,22 @@ loop-index-preserved g c =
     let i = c.loop-index.index in
     let held = c.loop-index.invariant in
     let turn = c.reconstruct_leaf.ensures in
-    let a = is_leaf_at leaves i c.leaves.result.now no_leaf _ _ _ c.leaves.ensures.items (omega (arith, ap length c.leaves.ensures.items, ap length c.leaves-index-end.ensures.items)) c.triples.ensures c.triples-in-loop-index.ensures c.triples-in-loop-index-2.ensures in
+    let a = is_leaf_at leaves i c.leaves.result.now no_leaf _ _ _ c.leaves.ensures.items
+    (omega (arith, ap length c.leaves.ensures.items, ap length c.leaves-index-end.ensures.items)) c.triples.ensures c.triples-in-loop-index.ensures
+    c.triples-in-loop-index-2.ensures in
     let start = cell_at c.args.cells.now in
     let told = cell_at c.loop-index.cells in
-    let own = leaf_read leaves h i _ _ _ _ told (with_leaves start (take i (plan_value leaves).leaves)) a (whole_frame h c.requires.frame) (turn_begins leaves h i _ _ _ _ c.args.planes.now a c.requires.fits) held.told in
+    let own = leaf_read leaves h i _ _ _ _ told (with_leaves start (take i (plan_value leaves).leaves)) a (whole_frame h c.requires.frame)
+    (turn_begins leaves h i _ _ _ _ c.args.planes.now a c.requires.fits) held.told in
     record {
       walked = λ value serves.
           let step = fast_step g.T.Pixel.num g.T.Pixel.pixel (with_header h value) in
-          leaf_more step leaves h i _ start c.args.planes.now c.loop-index.planes c.reconstruct_leaf.new.planes a.inside a.is (held.walked value serves) (turn.walked value serves ∙ ap (fold step c.loop-index.planes) own);
-      counted = leaf_more edges_after leaves h i _ start c.args.buffers.now.edges.prepared c.loop-index.buffers.edges.prepared c.reconstruct_leaf.new.buffers.edges.prepared a.inside a.is held.counted (turn.counted ∙ ap (fold edges_after c.loop-index.buffers.edges.prepared) own);
+          leaf_more step leaves h i _ start c.args.planes.now c.loop-index.planes c.reconstruct_leaf.new.planes a.inside a.is (held.walked value serves)
+          (turn.walked value serves ∙ ap (fold step c.loop-index.planes) own);
+      counted =
+          leaf_more edges_after leaves h i _ start c.args.buffers.now.edges.prepared c.loop-index.buffers.edges.prepared
+          c.reconstruct_leaf.new.buffers.edges.prepared a.inside a.is held.counted (turn.counted
+          ∙ ap (fold edges_after c.loop-index.buffers.edges.prepared) own);
       stores = turn.stores;
       layout = layout_kept c.args.planes.now c.loop-index.planes c.reconstruct_leaf.new.planes held.layout turn.layout;
       cells = c.note.ensures.cells;
@@ -66,12 +85,18 @@ pub returns-clause-walked : goal.returns-clause-walked
 returns-clause-walked g c = λ value serves.
     let leaves = c.args.leaves.now in
     let all = (plan_value leaves).leaves in
-    let past : length all ≤ c.loop-index.index = omega (arith, length_leaves (stored_triples leaves) (stored_leaves leaves), ap length c.leaves-index-end.ensures.items) in
-    c.loop-index.invariant.walked value serves ∙ ap (λ (ls : List LeafValue). fold (fast_step g.T.Pixel.num g.T.Pixel.pixel (with_header c.args.header.now value)) c.args.planes.now (steps_by c.args.header.now (cell_at c.args.cells.now) ls)) (take_all c.loop-index.index all past)
+    let past : length all ≤ c.loop-index.index =
+    omega (arith, length_leaves (stored_triples leaves) (stored_leaves leaves), ap length c.leaves-index-end.ensures.items) in
+    c.loop-index.invariant.walked value serves
+    ∙ ap (λ (ls : List LeafValue). fold (fast_step g.T.Pixel.num g.T.Pixel.pixel (with_header c.args.header.now value)) c.args.planes.now
+    (steps_by c.args.header.now (cell_at c.args.cells.now) ls)) (take_all c.loop-index.index all past)
 
 pub returns-clause-counted : goal.returns-clause-counted
 returns-clause-counted g c =
     let leaves = c.args.leaves.now in
     let all = (plan_value leaves).leaves in
-    let past : length all ≤ c.loop-index.index = omega (arith, length_leaves (stored_triples leaves) (stored_leaves leaves), ap length c.leaves-index-end.ensures.items) in
-    c.loop-index.invariant.counted ∙ ap (λ (ls : List LeafValue). fold edges_after c.args.buffers.now.edges.prepared (steps_by c.args.header.now (cell_at c.args.cells.now) ls)) (take_all c.loop-index.index all past)
+    let past : length all ≤ c.loop-index.index =
+    omega (arith, length_leaves (stored_triples leaves) (stored_leaves leaves), ap length c.leaves-index-end.ensures.items) in
+    c.loop-index.invariant.counted
+    ∙ ap (λ (ls : List LeafValue). fold edges_after c.args.buffers.now.edges.prepared (steps_by c.args.header.now (cell_at c.args.cells.now) ls))
+    (take_all c.loop-index.index all past)

@@ -11,14 +11,20 @@ use Rattle.av1_tile.proofs.walk.place_in.Goals as goal
 reach_x : (a : PlaneArea) (column width : ℕ) → column < blocks_across a → width ≡ tx_width a.tx_size → column * width ≤ 128
 reach_x a column width is of = omega (arith, column_ends a column is, (block_width_range a.size).1, ap (λ (n : ℕ). column * n) of)
 
-reach_y : (a : PlaneArea) (number row column height : ℕ) → number ≡ row * blocks_across a + column → column < blocks_across a → number < block_count a → height ≡ tx_height a.tx_size → row * height ≤ 128
-reach_y a number row column height e is few of = omega (arith, row_ends a row column is (omega (arith, e, few)), (block_height_range a.size).1, ap (λ (n : ℕ). row * n) of)
+reach_y : (a : PlaneArea) (number row column height : ℕ) → number ≡ row * blocks_across a + column → column < blocks_across a → number < block_count a →
+    height ≡ tx_height a.tx_size → row * height ≤ 128
+reach_y a number row column height e is few of =
+    omega (arith, row_ends a row column is (omega (arith, e, few)), (block_height_range a.size).1, ap (λ (n : ℕ). row * n) of)
 
 pub block_start-x-requires : goal.block_start-x-requires
 block_start-x-requires c = record { near = reach_x c.args.block.now.area c.args.column c.width.result c.requires.column c.width.ensures.value }
 
 pub block_start-y-requires : goal.block_start-y-requires
-block_start-y-requires c = record { near = reach_y c.args.block.now.area c.args.number c.args.row c.args.column c.height.result c.requires.number c.requires.column c.requires.few c.height.ensures.value }
+block_start-y-requires c =
+    record {
+      near = reach_y c.args.block.now.area c.args.number c.args.row c.args.column c.height.result c.requires.number c.requires.column c.requires.few
+          c.height.ensures.value;
+    }
 
 -- where it begins
 at_start : (x start index side of : ℕ) → x ≡ start + index * side → side ≡ of → x ≡ start + index * of

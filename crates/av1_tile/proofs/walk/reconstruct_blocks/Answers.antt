@@ -37,7 +37,8 @@ loop-n-init g c =
 pub reconstruct_block-requires-clause-fits : goal.reconstruct_block-requires-clause-fits
 reconstruct_block-requires-clause-fits g c =
     let a = c.args in
-    own_fits a.plane.now.plane_cfg c.loop-n.plane.plane_cfg a.header.now a.block.now a.triples.now c.loop-n.at (c.loop-n.at + c.leading_count.result - c.loop-n.at) c.loop-n.invariant.config c.requires.fits
+    own_fits a.plane.now.plane_cfg c.loop-n.plane.plane_cfg a.header.now a.block.now a.triples.now c.loop-n.at
+    (c.loop-n.at + c.leading_count.result - c.loop-n.at) c.loop-n.invariant.config c.requires.fits
 
 pub loop-n-preserved : goal.loop-n-preserved
 loop-n-preserved g c =
@@ -73,9 +74,14 @@ loop-n-preserved g c =
           let one = w.reconstruct_block.ensures in
           let own = take (end - at) (drop at all) in (
             λ value. w.plane-is ∙ one.walked value
-                ∙ ap (λ (ac : List ℤ). fold (fast_in g.T.Pixel.num g.T.Pixel.pixel (with_header h value) block.plane (λ _. ac_at (tx_width block.area.tx_size) ac)) before (steps_at h block own w.in-Some.place.number)) held.luma
-                ∙ ap (λ (m : ℕ). fold (step value) before (steps_at h block own m)) number ∙ own_steps g.T.Pixel.num g.T.Pixel.pixel (with_header h value) block.plane luma h block all n at end before (run_is_own n all at count run),
-            ap (λ (b : _). b.edges.prepared) w.buffers-is ∙ one.counted ∙ ap (λ (m : ℕ). fold edges_in edges (steps_at h block own m)) number ∙ own_edges h block own all n edges,
+                ∙ ap (λ (ac : List ℤ). fold
+                (fast_in g.T.Pixel.num g.T.Pixel.pixel (with_header h value) block.plane (λ _. ac_at (tx_width block.area.tx_size) ac)) before
+                (steps_at h block own w.in-Some.place.number)) held.luma
+                ∙ ap (λ (m : ℕ). fold (step value) before (steps_at h block own m)) number
+                ∙ own_steps g.T.Pixel.num g.T.Pixel.pixel (with_header h value) block.plane luma h block all n at end before
+                (run_is_own n all at count run),
+            ap (λ (b : _). b.edges.prepared) w.buffers-is ∙ one.counted ∙ ap (λ (m : ℕ). fold edges_in edges (steps_at h block own m)) number
+                ∙ own_edges h block own all n edges,
             subst (Stores g.T.Pixel.num h block.plane) (sym w.plane-is) one.stores,
             ap (λ (p : Plane _). p.plane_cfg) w.plane-is ∙ one.config,
             ap (λ (b : _). b.luma.items) w.buffers-is ∙ one.luma,
@@ -109,4 +115,5 @@ returns-clause-walked g c = λ value.
     let all : c.loop-n.n ≡ block_count block.area = omega (arith, c.loop-n-test.false, c.loop-n.auto.n-end, c.block_count-n-end.ensures.value) in
     let luma : PlaneBlock → ℕ → ℕ → ℤ = λ _. ac_at (tx_width block.area.tx_size) a.buffers.now.luma.items in
     c.loop-n.invariant.walked value
-    ∙ ap (λ (m : ℕ). fold (fast_in g.T.Pixel.num g.T.Pixel.pixel (with_header a.header.now value) block.plane luma) a.plane.now (joined m (steps_at a.header.now block a.triples.now))) all
+    ∙ ap (λ (m : ℕ). fold (fast_in g.T.Pixel.num g.T.Pixel.pixel (with_header a.header.now value) block.plane luma) a.plane.now
+    (joined m (steps_at a.header.now block a.triples.now))) all

@@ -11,7 +11,10 @@ use Rattle.av1_tile.proofs.walk.reconstruct_blocks.Given as goal
 abbrev pub invariant-loop-n : goal.invariant-loop-n
 invariant-loop-n g l =
     record {
-      walked : (value : PlanValue) → l.plane ≡ fold (fast_in g.T.Pixel.num g.T.Pixel.pixel (with_header l.header value) l.block.plane (λ _. ac_at (tx_width l.block.area.tx_size) l.initial.buffers.luma.items)) l.initial.plane (joined l.n (steps_at l.header l.block l.triples));
+      walked : (value : PlanValue) →
+          l.plane ≡
+          fold (fast_in g.T.Pixel.num g.T.Pixel.pixel (with_header l.header value) l.block.plane
+          (λ _. ac_at (tx_width l.block.area.tx_size) l.initial.buffers.luma.items)) l.initial.plane (joined l.n (steps_at l.header l.block l.triples));
       counted : l.buffers.edges.prepared ≡ fold edges_in l.initial.buffers.edges.prepared (joined l.n (steps_at l.header l.block l.triples));
       stores : Stores g.T.Pixel.num l.header l.block.plane l.plane;
       config : l.plane.plane_cfg ≡ l.initial.plane.plane_cfg;

@@ -23,14 +23,17 @@ pub reconstruct_blocks-requires-clause-stores : goal.reconstruct_blocks-requires
 reconstruct_blocks-requires-clause-stores g c =
     let a = c.args in
     let plan = with_header a.header.now c.requires.references.0 in
-    whole_between g.T.Pixel.num g.T.Pixel.pixel g.met.T.Pixel.num_of_pixel g.met.T.Pixel.pixel_of_num plan a.fi.now c.requires.references.1 a.block.now c.requires.plane c.requires.fits.prediction
+    whole_between g.T.Pixel.num g.T.Pixel.pixel g.met.T.Pixel.num_of_pixel g.met.T.Pixel.pixel_of_num plan a.fi.now c.requires.references.1 a.block.now
+    c.requires.plane c.requires.fits.prediction
     a.plane.now c.predict_whole.new.plane (c.predict_whole.ensures plan c.requires.references.1 c.requires.fits.prediction) c.requires.stores
 
 pub reconstruct_blocks-requires-clause-fits : goal.reconstruct_blocks-requires-clause-fits
 reconstruct_blocks-requires-clause-fits g c =
     let a = c.args in
     let plan = with_header a.header.now c.requires.references.0 in
-    let laid = whole_layout g.T.Pixel.num g.T.Pixel.pixel g.met.T.Pixel.num_of_pixel g.met.T.Pixel.pixel_of_num plan a.fi.now c.requires.references.1 a.block.now c.requires.plane c.requires.fits.prediction
+    let laid =
+    whole_layout g.T.Pixel.num g.T.Pixel.pixel g.met.T.Pixel.num_of_pixel g.met.T.Pixel.pixel_of_num plan a.fi.now c.requires.references.1 a.block.now
+    c.requires.plane c.requires.fits.prediction
     a.plane.now c.predict_whole.new.plane (c.predict_whole.ensures plan c.requires.references.1 c.requires.fits.prediction) in
     fits_laid plan.header a.block.now a.triples.now a.plane.now.plane_cfg c.predict_whole.new.plane.plane_cfg laid c.requires.fits
 
@@ -42,19 +45,22 @@ returns-clause-walked g c = λ value serves.
     let luma : PlaneBlock → ℕ → ℕ → ℤ = λ _. ac_at (tx_width block.area.tx_size) a.buffers.now.luma.items in
     let step = fast_in g.T.Pixel.num g.T.Pixel.pixel plan block.plane luma in
     all_steps step plan.header block a.triples.now a.plane.now c.predict_whole.new.plane c.reconstruct_blocks.new.plane
-    (c.predict_whole.ensures plan serves c.requires.fits.prediction ∙ whole_steps_same g.T.Pixel.num g.T.Pixel.pixel plan block.plane (λ _. no_luma) luma block a.plane.now)
+    (c.predict_whole.ensures plan serves c.requires.fits.prediction
+    ∙ whole_steps_same g.T.Pixel.num g.T.Pixel.pixel plan block.plane (λ _. no_luma) luma block a.plane.now)
     (c.reconstruct_blocks.ensures.walked value)
 
 pub returns-clause-counted : goal.returns-clause-counted
 returns-clause-counted g c =
     let a = c.args in
     let count = a.buffers.now.edges.prepared in
-    all_steps edges_in a.header.now a.block.now a.triples.now count count c.reconstruct_blocks.new.buffers.edges.prepared (whole_counted a.block.now count) c.reconstruct_blocks.ensures.counted
+    all_steps edges_in a.header.now a.block.now a.triples.now count count c.reconstruct_blocks.new.buffers.edges.prepared (whole_counted a.block.now count)
+    c.reconstruct_blocks.ensures.counted
 
 pub returns-clause-config : goal.returns-clause-config
 returns-clause-config g c =
     let a = c.args in
     let plan = with_header a.header.now c.requires.references.0 in
     c.reconstruct_blocks.ensures.config
-    ∙ whole_layout g.T.Pixel.num g.T.Pixel.pixel g.met.T.Pixel.num_of_pixel g.met.T.Pixel.pixel_of_num plan a.fi.now c.requires.references.1 a.block.now c.requires.plane c.requires.fits.prediction
+    ∙ whole_layout g.T.Pixel.num g.T.Pixel.pixel g.met.T.Pixel.num_of_pixel g.met.T.Pixel.pixel_of_num plan a.fi.now c.requires.references.1 a.block.now
+    c.requires.plane c.requires.fits.prediction
     a.plane.now c.predict_whole.new.plane (c.predict_whole.ensures plan c.requires.references.1 c.requires.fits.prediction)

@@ -4,4 +4,5 @@ use Rattle.av1_tiles.specs.Joined.{row_in}
 use Rattle.av1_tiles.proofs.frame.copy_rows.Given as goal
 
 abbrev pub invariant-loop-r : goal.invariant-loop-r
-invariant-loop-r g l = l.output ≡ painted l.initial.output l.width l.r (λ r c _. g.T.Pixel.pixel (slice_index (row_in g.T.Pixel.num l.tile.header l.tile.planes l.p r) c))
+invariant-loop-r g l =
+    l.output ≡ painted l.initial.output l.width l.r (λ r c _. g.T.Pixel.pixel (slice_index (row_in g.T.Pixel.num l.tile.header l.tile.planes l.p r) c))

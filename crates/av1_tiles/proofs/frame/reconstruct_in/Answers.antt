@@ -12,14 +12,16 @@ use Rattle.av1_tiles.proofs.frame.reconstruct_in.Goals as goal
 
 pub reconstruct_alone-requires-clause-depth : goal.reconstruct_alone-requires-clause-depth
 reconstruct_alone-requires-clause-depth g c =
-    subst (λ (h : Header). h.depth ≤ g.T.Pixel.BITS) (tile_header_is (file_value c.args.file.now) c.args.index (plan_value c.in_ok-plan.plan) c.in_ok-plan.ensures.found) c.requires.depth
+    subst (λ (h : Header). h.depth ≤ g.T.Pixel.BITS)
+    (tile_header_is (file_value c.args.file.now) c.args.index (plan_value c.in_ok-plan.plan) c.in_ok-plan.ensures.found) c.requires.depth
 
 pub reconstruct_alone-requires-clause-room : goal.reconstruct_alone-requires-clause-room
 reconstruct_alone-requires-clause-room g c =
     let front = c.args.file.now.front in
     let area = tile_area (front_value front) c.args.index in
     let is = area_is front c.requires.read.front c.args.index c.requires.tile in
-    subst (λ (h : Header). HasRoomFor h c.args.memory.now) (tile_header_is (file_value c.args.file.now) c.args.index (plan_value c.in_ok-plan.plan) c.in_ok-plan.ensures.found)
+    subst (λ (h : Header). HasRoomFor h c.args.memory.now)
+    (tile_header_is (file_value c.args.file.now) c.args.index (plan_value c.in_ok-plan.plan) c.in_ok-plan.ensures.found)
     (room_within front.header (tile_header front.header area) c.args.memory.now (omega (arith, is.columns)) (omega (arith, is.rows)) c.requires.room)
 
 pub place_tile-requires-clause-made : goal.place_tile-requires-clause-made
@@ -30,5 +32,7 @@ place_tile-requires-clause-made g c =
 
 pub returns-clause-done : goal.returns-clause-done
 returns-clause-done g c =
-    tile_put g.T.Pixel.num g.T.Pixel.pixel g.met.T.Pixel.pixel_of_num g.met.T.Pixel.num_of_pixel c.args.file.now c.requires.read c.args.index c.requires.tile (plan_value c.in_ok-plan.plan) c.in_ok-plan.ensures.found
-    c.in_ok-tile.tile.header c.in_ok-tile.tile.planes c.tile_area.result c.args.planes.now c.place_tile.new.planes c.tile_area.ensures.value c.requires.planes c.in_ok-tile.ensures.shown c.in_ok-tile.ensures.header c.place_tile.ensures.placed
+    tile_put g.T.Pixel.num g.T.Pixel.pixel g.met.T.Pixel.pixel_of_num g.met.T.Pixel.num_of_pixel c.args.file.now c.requires.read c.args.index c.requires.tile
+    (plan_value c.in_ok-plan.plan) c.in_ok-plan.ensures.found
+    c.in_ok-tile.tile.header c.in_ok-tile.tile.planes c.tile_area.result c.args.planes.now c.place_tile.new.planes c.tile_area.ensures.value c.requires.planes
+    c.in_ok-tile.ensures.shown c.in_ok-tile.ensures.header c.place_tile.ensures.placed

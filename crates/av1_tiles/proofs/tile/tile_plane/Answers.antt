@@ -2,12 +2,17 @@ use Rattle.av1_tiles.proofs.Rectangles.{columns_by, samples_by, few_by}
 use Rattle.av1_tiles.proofs.tile.tile_plane.Goals as goal
 
 pub rectangle-requires-clause-columns : goal.rectangle-requires-clause-columns
-rectangle-requires-clause-columns c = columns_by c.args.header.now c.tile_header-tile.result c.args.area c.args.p _ _ _ _ c.requires.area c.tile_header-tile.ensures c.from.ensures c.xdec.ensures.value c.plane_width-2.ensures.value c.plane_width.ensures.value
+rectangle-requires-clause-columns c =
+    columns_by c.args.header.now c.tile_header-tile.result c.args.area c.args.p _ _ _ _ c.requires.area c.tile_header-tile.ensures c.from.ensures
+    c.xdec.ensures.value c.plane_width-2.ensures.value c.plane_width.ensures.value
 
 pub rectangle-requires-clause-rows : goal.rectangle-requires-clause-rows
 rectangle-requires-clause-rows c =
-    samples_by c.args.header.now c.tile_header-tile.result c.args.area c.args.p _ _ _ _ c.args.samples.now c.requires.area c.requires.samples c.tile_header-tile.ensures c.from-2.ensures c.ydec.ensures.value c.plane_height.ensures.value
+    samples_by c.args.header.now c.tile_header-tile.result c.args.area c.args.p _ _ _ _ c.args.samples.now c.requires.area c.requires.samples
+    c.tile_header-tile.ensures c.from-2.ensures c.ydec.ensures.value c.plane_height.ensures.value
     c.plane_width.ensures.value
 
 pub rectangle-requires-clause-few : goal.rectangle-requires-clause-few
-rectangle-requires-clause-few c = few_by c.args.header.now c.tile_header-tile.result c.args.area c.args.p _ _ _ c.requires.frame c.requires.area c.tile_header-tile.ensures c.from-2.ensures c.ydec.ensures.value c.plane_height.ensures.value
+rectangle-requires-clause-few c =
+    few_by c.args.header.now c.tile_header-tile.result c.args.area c.args.p _ _ _ c.requires.frame c.requires.area c.tile_header-tile.ensures c.from-2.ensures
+    c.ydec.ensures.value c.plane_height.ensures.value

@@ -8,8 +8,12 @@ loop-slot-init c = record { cut = rw c.new-cut.ensures.items (none_cut c.args.he
 pub loop-slot-preserved : goal.loop-slot-preserved
 loop-slot-preserved c = record {
   cut =
-      let is = cut_by c.args.header.now c.args.area c.args.references.now c.loop-slot.slot _ c.in_ok-planes.planes (omega (arith, c.loop-slot-test.true, c.requires.eight)) c.index-references-slot.is c.in_ok-planes.ensures.slot c.in_ok-planes.ensures.value in
-      rw c.in_ok-push.ensures.items (one_more c.args.header.now c.args.area c.args.references.now c.loop-slot.slot c.loop-slot.cut.items c.in_ok-planes.planes c.loop-slot.invariant.cut is);
+      let is =
+      cut_by c.args.header.now c.args.area c.args.references.now c.loop-slot.slot _ c.in_ok-planes.planes
+      (omega (arith, c.loop-slot-test.true, c.requires.eight)) c.index-references-slot.is c.in_ok-planes.ensures.slot c.in_ok-planes.ensures.value in
+      rw c.in_ok-push.ensures.items
+      (one_more c.args.header.now c.args.area c.args.references.now c.loop-slot.slot c.loop-slot.cut.items c.in_ok-planes.planes c.loop-slot.invariant.cut
+      is);
 }
 
 eight_cut : (c : goal.After-loop-slot) → AreCut c.args.header.now c.args.area c.args.references.now 8 c.loop-slot.cut.items

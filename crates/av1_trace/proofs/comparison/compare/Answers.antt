@@ -12,4 +12,5 @@ returns-in-8-clause-same c =
 pub returns-in_default-clause-same : goal.returns-in_default-clause-same
 returns-in_default-clause-same c =
     let bytes = are_bytes c.args.planes.now (λ i. omega (arith, c.type_inv.planes i)) in
-    same_list c.compare_as-in_default.result _ _ c.compare_as-in_default.ensures (same_exactly c.args.plan.now c.args.planes.now c.requires.valid c.requires.whole bytes)
+    same_list c.compare_as-in_default.result _ _ c.compare_as-in_default.ensures
+    (same_exactly c.args.plan.now c.args.planes.now c.requires.valid c.requires.whole bytes)

@@ -13,7 +13,8 @@ pub returns-in-Some : goal.returns-in-Some
 returns-in-Some g c =
     let box : IsRectangle (plan_value c.args.plan.now).header c.args.p c.args.area c.from-left.result c.min-right.result c.from-top.result c.min-bottom.result =
     record { left_is = cc; right_is = cc; top_is = cc; bottom_is = cc } in
-    first_is (plan_value c.args.plan.now) c.args.planes.now c.args.n c.args.p c.args.area _ _ _ _ c.loop-y.y c.in-Some.other box (omega arith) c.loop-y-test.true c.in-Some.ensures.some c.loop-y.invariant
+    first_is (plan_value c.args.plan.now) c.args.planes.now c.args.n c.args.p c.args.area _ _ _ _ c.loop-y.y c.in-Some.other box (omega arith)
+    c.loop-y-test.true c.in-Some.ensures.some c.loop-y.invariant
 
 pub returns : goal.returns
 returns g c =

@@ -19,7 +19,8 @@ returns-clause-whole g c =
     let text : c.as_bytes.result.now ≡ place_text c.args.difference = c.as_bytes.ensures ∙ c.place_text.ensures in
     let samples : c.as_bytes-2.result.now ≡ sample_text c.args.difference = c.as_bytes-2.ensures ∙ c.sample_text.ensures in
     on_ok_weaker c.write_bytes-2.result
-    (λ second. Appends-trans _ _ _ (place_text c.args.difference) (sample_text c.args.difference) (subst (Appends _ _) text c.in_ok-write_bytes.ensures.whole) (subst (Appends _ _) samples second))
+    (λ second. Appends-trans _ _ _ (place_text c.args.difference) (sample_text c.args.difference) (subst (Appends _ _) text c.in_ok-write_bytes.ensures.whole)
+    (subst (Appends _ _) samples second))
     c.write_bytes-2.ensures.whole
 
 pub returns-clause-prefix : goal.returns-clause-prefix
@@ -27,5 +28,6 @@ unfolding difference_line
 returns-clause-prefix g c =
     let text : c.as_bytes.result.now ≡ place_text c.args.difference = c.as_bytes.ensures ∙ c.place_text.ensures in
     let samples : c.as_bytes-2.result.now ≡ sample_text c.args.difference = c.as_bytes-2.ensures ∙ c.sample_text.ensures in
-    AppendsPrefix-after _ _ _ (place_text c.args.difference) (sample_text c.args.difference) [] _ (ap (λ l. place_text c.args.difference ++ l) (append-nil (sample_text c.args.difference)))
+    AppendsPrefix-after _ _ _ (place_text c.args.difference)
+    (sample_text c.args.difference) [] _ (ap (λ l. place_text c.args.difference ++ l) (append-nil (sample_text c.args.difference)))
     (subst (Appends _ _) text c.in_ok-write_bytes.ensures.whole) (subst (AppendsPrefix _ _) samples c.write_bytes-2.ensures.prefix)

@@ -11,8 +11,11 @@ use Rattle.av1_trace.proofs.trace.read_differences.Goals as goal
 pub returns-clause-reads : goal.returns-clause-reads
 returns-clause-reads g c =
     let read = c.in_ok-bytes.ensures in
-    let whole = read_whole max_trace_bytes g.R.Source.left g.R.Source.faults _ _ _ c.deref.result.now c.deref.ensures.value read.fits read.short read.consumed read.end read.later in
-    finds max_trace_bytes cause IsFound g.R.Source.left g.R.Source.faults _ _ c.deref.result.now Memory c.trace_differences.result refl (short_refused c.deref.result.now) whole
+    let whole =
+    read_whole max_trace_bytes g.R.Source.left g.R.Source.faults _ _ _ c.deref.result.now c.deref.ensures.value read.fits read.short read.consumed
+    read.end (read.uncounted (λ h. absurd cc)) in
+    finds max_trace_bytes cause IsFound g.R.Source.left g.R.Source.faults _ _ c.deref.result.now Memory c.trace_differences.result refl
+    (short_refused c.deref.result.now) whole
     (IfOk-weaker c.trace_differences.result _ _ (λ list found. (whole.short, found)) c.trace_differences.ensures.found) c.trace_differences.ensures.refused
 
 pub returns-in_err-bytes-clause-reads : goal.returns-in_err-bytes-clause-reads

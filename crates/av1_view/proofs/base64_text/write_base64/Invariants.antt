@@ -8,7 +8,7 @@ invariant-pieces g l = record {
   within : l.at ≤ length l.bytes;
   groups : l.at < length l.bytes → l.at % 3 ≡ 0;
   so_far : Appends (g.W.Sink.taken l.initial.sink) (g.W.Sink.taken l.sink) (base64_text (take l.at l.bytes));
-  later : g.W.Sink.faults l.initial.sink ≤ g.W.Sink.faults l.sink;
+  uncounted : g.W.Sink.faults l.sink ≡ g.W.Sink.faults l.initial.sink;
 }
 
 abbrev pub decreases-pieces : goal.decreases-pieces

@@ -1,4 +1,4 @@
-use Rattle.std.proofs.Common.{arith}
+use Rattle.std.proofs.Common.{◌∙◌}
 use Rattle.av1_recon.proofs.Rows.{as_prefix}
 use Rattle.av1_trace.proofs.Items.{Appends-item, Appends-items, AppendsPrefix-item}
 use Rattle.av1_view.specs.Page.{piece_text}
@@ -6,12 +6,15 @@ use Rattle.av1_view.proofs.page.write_pieces.Goals as goal
 
 pub returns-in_err-write_piece-clause-prefix : goal.returns-in_err-write_piece-clause-prefix
 returns-in_err-write_piece-clause-prefix g c =
-    AppendsPrefix-item piece_text c.args.pieces.now c.loop-piece.piece-index _ _ _ _ c.loop-piece-test.true c.loop-piece.invariant.so_far c.write_piece.ensures.prefix
+    AppendsPrefix-item piece_text c.args.pieces.now c.loop-piece.piece-index _ _ _ _ c.loop-piece-test.true c.loop-piece.invariant.so_far
+    c.write_piece.ensures.prefix
 
 pub loop-piece-preserved : goal.loop-piece-preserved
 loop-piece-preserved g c = record {
-  so_far = Appends-item piece_text c.args.pieces.now c.loop-piece.piece-index _ _ _ _ c.loop-piece-test.true c.loop-piece.invariant.so_far c.in_ok-write_piece.ensures.whole;
-  later = omega (arith, c.in_ok-write_piece.ensures.cause.later);
+  so_far =
+      Appends-item piece_text c.args.pieces.now c.loop-piece.piece-index _ _ _ _ c.loop-piece-test.true c.loop-piece.invariant.so_far
+      c.in_ok-write_piece.ensures.whole;
+  uncounted = c.in_ok-write_piece.ensures.cause.uncounted ∙ c.loop-piece.invariant.uncounted;
 }
 
 pub returns-clause-whole : goal.returns-clause-whole

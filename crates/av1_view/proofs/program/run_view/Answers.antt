@@ -10,10 +10,12 @@ use Rattle.av1_view.proofs.program.run_view.Goals as goal
 
 pub returns-in-Some-Plan-clause-plan_ends : goal.returns-in-Some-Plan-clause-plan_ends
 returns-in-Some-Plan-clause-plan_ends g c = λ command.
-    ends IsSuccess apart (plan_task plan_page) g.R.Source.left g.R.Source.faults g.W.Sink.taken g.W.Sink.faults _ _ _ _ written c.report.result c.view_plan.result (λ done. refl)
+    ends IsSuccess apart (plan_task plan_page) g.R.Source.left g.R.Source.faults g.W.Sink.taken g.W.Sink.faults _ _ _ _ written c.report.result
+    c.view_plan.result (λ done. refl)
     (c.report.ensures.status ∙ plan_status c.view_plan.result) c.view_plan.ensures
 
 pub returns-in-Some-Trace-clause-trace_ends : goal.returns-in-Some-Trace-clause-trace_ends
 returns-in-Some-Trace-clause-trace_ends g c = λ command.
-    ends IsSuccess apart trace_page_task g.R.Source.left g.R.Source.faults g.W.Sink.taken g.W.Sink.faults _ _ _ _ written c.report_trace.result c.view_trace.result (λ done. refl)
+    ends IsSuccess apart trace_page_task g.R.Source.left g.R.Source.faults g.W.Sink.taken g.W.Sink.faults _ _ _ _ written c.report_trace.result
+    c.view_trace.result (λ done. refl)
     c.report_trace.ensures.status c.view_trace.ensures

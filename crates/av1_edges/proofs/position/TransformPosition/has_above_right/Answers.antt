@@ -8,4 +8,5 @@ returns-then-is_told_by_bits g c =
     let a = c.args.self in
     let dst = c.args.dst.now in
     c.has_tr.ensures.by_bits
-    ∙ above_by_bits a.partition_size a.partition_bo.0.x a.partition_bo.0.y a.tx_size a.bx a.by dst.plane_cfg.xdec dst.plane_cfg.ydec (c.if-is_told_by_bits.ensures.near refl) (c.if-is_told_by_bits.ensures.whole refl) a.x (visible_columns dst) (search rules) (search rules)
+    ∙ above_by_bits a.partition_size a.partition_bo.0.x a.partition_bo.0.y a.tx_size a.bx a.by dst.plane_cfg.xdec dst.plane_cfg.ydec
+    (c.if-is_told_by_bits.ensures.near refl) (c.if-is_told_by_bits.ensures.whole refl) a.x (visible_columns dst) (search rules) (search rules)

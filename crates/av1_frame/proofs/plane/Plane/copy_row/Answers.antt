@@ -10,11 +10,13 @@ loop-y-init g c =
 
 pub copy_part-requires-clause-from : goal.copy_part-requires-clause-from
 copy_part-requires-clause-from g c =
-    row_in c.args.self.now c.loop-y.self _ c.args.from c.config-stride.result.stride c.requires.whole c.loop-y.invariant (ap (λ i. i.stride) c.config-stride.ensures) c.requires.from
+    row_in c.args.self.now c.loop-y.self _ c.args.from c.config-stride.result.stride c.requires.whole c.loop-y.invariant
+    (ap (λ i. i.stride) c.config-stride.ensures) c.requires.from
 
 pub copy_part-requires-clause-to : goal.copy_part-requires-clause-to
 copy_part-requires-clause-to g c =
-    row_in c.args.self.now c.loop-y.self _ c.loop-y.y c.config-stride.result.stride c.requires.whole c.loop-y.invariant (ap (λ i. i.stride) c.config-stride.ensures) (omega arith)
+    row_in c.args.self.now c.loop-y.self _ c.loop-y.y c.config-stride.result.stride c.requires.whole c.loop-y.invariant
+    (ap (λ i. i.stride) c.config-stride.ensures) (omega arith)
 
 pub loop-y-preserved : goal.loop-y-preserved
 loop-y-preserved g c =

@@ -13,14 +13,16 @@ part_mut-requires g c =
     let e = c.config-cfg.ensures in
     let rows = ap (λ i. i.alloc_height) e in
     let p = c.args.self.now in
-    row_in p c.loop-y.self (side_place p.plane_cfg.stride p.plane_cfg.xorigin p.plane_cfg.width c.loop-y.y) c.loop-y.y c.config-cfg.result.stride c.requires c.loop-y.invariant (ap (λ i. i.stride) e) (omega (arith, rows))
+    row_in p c.loop-y.self (side_place p.plane_cfg.stride p.plane_cfg.xorigin p.plane_cfg.width c.loop-y.y) c.loop-y.y c.config-cfg.result.stride c.requires
+    c.loop-y.invariant (ap (λ i. i.stride) e) (omega (arith, rows))
 
 pub loop-y-preserved : goal.loop-y-preserved
 loop-y-preserved g c =
     let e = c.config-cfg.ensures in
     let rows = ap (λ i. i.alloc_height) e in
     sides_filled_more c.args.self.now c.loop-y.self _ c.config-cfg.result.stride c.loop-y.y c.requires (ap (λ i. i.stride) e)
-    (omega (arith, rows)) c.config-cfg.result.xorigin c.config-cfg.result.width c.part_mut.result.now c.pad_row.new.row (ap (λ i. i.xorigin) e) (ap (λ i. i.width) e) c.loop-y.invariant c.part_mut.ensures.value c.pad_row.ensures refl
+    (omega (arith, rows)) c.config-cfg.result.xorigin c.config-cfg.result.width c.part_mut.result.now c.pad_row.new.row (ap (λ i. i.xorigin) e)
+    (ap (λ i. i.width) e) c.loop-y.invariant c.part_mut.ensures.value c.pad_row.ensures refl
 
 pub returns : goal.returns
 returns g c =

@@ -7,13 +7,16 @@ use Rattle.av1_plan.proofs.nodes.Parser.part.Goals as goal
 pub returns-clause-read : goal.returns-clause-read
 unfolding part
 returns-clause-read c =
-    let e = leaf_values_push c.args.self.now.triples.items c.leaf.new.into.items c.args.self.now.leaves.items _ c.in_ok-leaf.leaf c.requires.follow c.in_ok-leaf.ensures.extends in
+    let e = leaf_values_push c.args.self.now.triples.items c.leaf.new.into.items c.args.self.now.leaves.items _ c.in_ok-leaf.leaf c.requires.follow
+    c.in_ok-leaf.ensures.extends in
     rw (c.in_ok-push.ensures.items, e) (grind (arith, adding))
 
 pub returns-clause-sound : goal.returns-clause-sound
 returns-clause-sound c = record {
   fits = omega arith;
-  follow = rw (c.in_ok-push.ensures.items, c.in_ok-leaf.ensures.extends.count) (Follow-push 0 c.args.self.now.leaves.items (length c.args.self.now.triples.items) c.in_ok-leaf.leaf c.requires.follow c.in_ok-leaf.ensures.first);
+  follow =
+      rw (c.in_ok-push.ensures.items, c.in_ok-leaf.ensures.extends.count)
+      (Follow-push 0 c.args.self.now.leaves.items (length c.args.self.now.triples.items) c.in_ok-leaf.leaf c.requires.follow c.in_ok-leaf.ensures.first);
   room = omega arith;
   few = rw c.in_ok-push.ensures.items (few_push c.args.self.now.leaves.items c.in_ok-leaf.leaf _ _ c.requires.few c.in_ok-leaf.ensures.takes);
 }

@@ -6,6 +6,7 @@ use Rattle.av1_plan.proofs.reader.Reader.plane.Given as goal
 
 abbrev pub invariant-loop : goal.invariant-loop
 invariant-loop l = record {
-  read : add (in_turn (λ _. lone (field (sample l.depth))) l.counter (l.len - l.counter)) (l.samples.items, input l.self) ≡ add (in_turn (λ _. lone (field (sample l.depth))) 0 l.len) ([], input l.initial.self);
+  read : add (in_turn (λ _. lone (field (sample l.depth))) l.counter (l.len - l.counter)) (l.samples.items, input l.self) ≡
+      add (in_turn (λ _. lone (field (sample l.depth))) 0 l.len) ([], input l.initial.self);
   moves : Moves l.initial.self l.self;
 }

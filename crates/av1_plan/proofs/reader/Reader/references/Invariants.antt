@@ -7,7 +7,8 @@ use Rattle.av1_plan.proofs.reader.Reader.references.Given as goal
 
 abbrev pub invariant-loop-slot : goal.invariant-loop-slot
 invariant-loop-slot l = record {
-  read : add (in_turn (λ slot. lone (slot_planes l.header slot)) l.slot (8 - l.slot)) (slot_values l.slots.items, input l.self) ≡ add (in_turn (λ slot. lone (slot_planes l.header slot)) 0 8) ([], input l.initial.self);
+  read : add (in_turn (λ slot. lone (slot_planes l.header slot)) l.slot (8 - l.slot)) (slot_values l.slots.items, input l.self) ≡
+      add (in_turn (λ slot. lone (slot_planes l.header slot)) 0 8) ([], input l.initial.self);
   moves : Moves l.initial.self l.self;
   count : length l.slots.items ≡ l.slot;
   present : ArePresent l.header l.slots.items l.slot;

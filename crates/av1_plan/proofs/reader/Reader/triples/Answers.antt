@@ -16,7 +16,8 @@ unfolding triples
 returns-in_err-more_triples-clause-read c =
     let r = c.from_residual-in_err-more_triples in
     let p = err_from_is_err_and r.result r.ensures.1 in
-    rw (p.1, p.2, c.in_ok-count.ensures.read) (fails_back _ (in_turn (λ _. lone triple) 0 c.in_ok-count.count) c.args.into.now.items _ c.in_err-more_triples.ensures.read)
+    rw (p.1, p.2, c.in_ok-count.ensures.read)
+    (fails_back _ (in_turn (λ _. lone triple) 0 c.in_ok-count.count) c.args.into.now.items _ c.in_err-more_triples.ensures.read)
 
 pub returns-clause-read : goal.returns-clause-read
 unfolding triples
@@ -25,4 +26,5 @@ returns-clause-read c =
     rw (c.in_ok-count.ensures.read) b.given
 
 pub returns-clause-extends : goal.returns-clause-extends
-returns-clause-extends c = (add_back (in_turn (λ _. lone triple) 0 c.in_ok-count.count) _ _ _ _ _ c.in_ok-more_triples.ensures.read c.in_ok-more_triples.ensures.count).extends
+returns-clause-extends c =
+    (add_back (in_turn (λ _. lone triple) 0 c.in_ok-count.count) _ _ _ _ _ c.in_ok-more_triples.ensures.read c.in_ok-more_triples.ensures.count).extends

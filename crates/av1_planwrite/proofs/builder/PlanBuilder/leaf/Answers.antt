@@ -11,18 +11,39 @@ use Rattle.av1_planwrite.proofs.builder.PlanBuilder.leaf.Goals as goal
 pub returns-clause-given : goal.returns-clause-given
 returns-clause-given c =
     let items = c.args.self.now.text.bytes.items in
-    let l : LeafFields = record { kind = c.args.kind.now; tx_size = c.args.tx_size; tx_type = c.args.tx_type; uv_type = c.args.uv_type; y = c.args.y.now; u = c.args.u.now; v = c.args.v.now } in
+    let l : LeafFields = record {
+      kind = c.args.kind.now;
+      tx_size = c.args.tx_size;
+      tx_type = c.args.tx_type;
+      uv_type = c.args.uv_type;
+      y = c.args.y.now;
+      u = c.args.u.now;
+      v = c.args.v.now;
+    } in
     let w = c.leaf-written in
-    let written = written_well (w.new.self.bytes.items ≡ items ++ fields_text l.kind l.tx_size l.tx_type l.uv_type l.y l.u l.v) w.result _ c.settle.result _ c.in_ok-settle.was c.settle.ensures.answer w.ensures.text in
+    let written =
+    written_well (w.new.self.bytes.items ≡ items ++ fields_text l.kind l.tx_size l.tx_type l.uv_type l.y l.u l.v) w.result _ c.settle.result _
+    c.in_ok-settle.was c.settle.ensures.answer w.ensures.text in
     ap (λ (bytes : List ℕ). built c.pass_leaf.new.self bytes) (c.in_ok-settle.ensures.kept ∙ written) ∙ c.pass_leaf.ensures items l
 
 pub returns-clause-told : goal.returns-clause-told
 returns-clause-told c = λ p t.
     let s = c.args.self.now in
-    let l : LeafFields = record { kind = c.args.kind.now; tx_size = c.args.tx_size; tx_type = c.args.tx_type; uv_type = c.args.uv_type; y = c.args.y.now; u = c.args.u.now; v = c.args.v.now } in
+    let l : LeafFields = record {
+      kind = c.args.kind.now;
+      tx_size = c.args.tx_size;
+      tx_type = c.args.tx_type;
+      uv_type = c.args.uv_type;
+      y = c.args.y.now;
+      u = c.args.u.now;
+      v = c.args.v.now;
+    } in
     let w = c.leaf-written in
     let y_fit = written_well (All FitsTriple l.y) w.result _ c.settle.result _ c.in_ok-settle.was c.settle.ensures.answer w.ensures.y_fit in
-    let u_fit = written_well (is_some l.uv_type ≡ true → All FitsTriple l.u) w.result _ c.settle.result _ c.in_ok-settle.was c.settle.ensures.answer w.ensures.u_fit in
-    let v_fit = written_well (is_some l.uv_type ≡ true → All FitsTriple l.v) w.result _ c.settle.result _ c.in_ok-settle.was c.settle.ensures.answer w.ensures.v_fit in
+    let u_fit =
+    written_well (is_some l.uv_type ≡ true → All FitsTriple l.u) w.result _ c.settle.result _ c.in_ok-settle.was c.settle.ensures.answer w.ensures.u_fit in
+    let v_fit =
+    written_well (is_some l.uv_type ≡ true → All FitsTriple l.v) w.result _ c.settle.result _ c.in_ok-settle.was c.settle.ensures.answer w.ensures.v_fit in
     let k = c.in_ok-check_leaf.ensures in
-    subst (λ (b : Building). Tells b (plan_with_leaf p (asked_part (building s)) l)) (sym (returns-clause-given c)) (leaf_tells (building s) p l t k.asked k.admitted k.fits y_fit u_fit v_fit)
+    subst (λ (b : Building). Tells b (plan_with_leaf p (asked_part (building s)) l)) (sym (returns-clause-given c))
+    (leaf_tells (building s) p l t k.asked k.admitted k.fits y_fit u_fit v_fit)

@@ -11,8 +11,10 @@ returns-clause-given c =
     let depth = c.args.self.now.progress.header.depth in
     let texts = plane_text depth c.args.y.now ++ plane_text depth c.args.u.now ++ plane_text depth c.args.v.now in
     let w = c.planes-written in
-    let written = written_well (w.new.self.bytes.items ≡ items ++ texts) w.result _ c.settle.result _ c.in_ok-settle.was c.settle.ensures.answer w.ensures.text in
-    ap (λ (bytes : List ℕ). built c.pass_reference.new.self bytes) (c.in_ok-settle.ensures.kept ∙ written) ∙ c.pass_reference.ensures.given items c.args.y.now c.args.u.now c.args.v.now
+    let written = written_well (w.new.self.bytes.items ≡ items ++ texts) w.result _ c.settle.result _ c.in_ok-settle.was c.settle.ensures.answer w.ensures.text
+    in
+    ap (λ (bytes : List ℕ). built c.pass_reference.new.self bytes) (c.in_ok-settle.ensures.kept ∙ written)
+    ∙ c.pass_reference.ensures.given items c.args.y.now c.args.u.now c.args.v.now
 
 pub returns-clause-told : goal.returns-clause-told
 returns-clause-told c = λ p t.
@@ -20,6 +22,8 @@ returns-clause-told c = λ p t.
     let depth = c.args.self.now.progress.header.depth in
     let texts = plane_text depth c.args.y.now ++ plane_text depth c.args.u.now ++ plane_text depth c.args.v.now in
     let w = c.planes-written in
-    let written = written_well (w.new.self.bytes.items ≡ items ++ texts) w.result _ c.settle.result _ c.in_ok-settle.was c.settle.ensures.answer w.ensures.text in
-    subst (λ (bytes : List ℕ). Tells (built c.pass_reference.new.self bytes) (plan_with_reference p c.args.y.now c.args.u.now c.args.v.now)) (sym (c.in_ok-settle.ensures.kept ∙ written))
+    let written = written_well (w.new.self.bytes.items ≡ items ++ texts) w.result _ c.settle.result _ c.in_ok-settle.was c.settle.ensures.answer w.ensures.text
+    in
+    subst (λ (bytes : List ℕ). Tells (built c.pass_reference.new.self bytes) (plan_with_reference p c.args.y.now c.args.u.now c.args.v.now))
+    (sym (c.in_ok-settle.ensures.kept ∙ written))
     (c.pass_reference.ensures.told items c.args.y.now c.args.u.now c.args.v.now p t c.in_ok-check_reference.ensures.admitted)

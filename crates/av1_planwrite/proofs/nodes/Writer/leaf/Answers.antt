@@ -12,5 +12,6 @@ told_triples-v-requires-clause-count c = few_triples c.args.self.now.plan.now c.
 
 pub returns : goal.returns
 returns c =
-    leaf_step c.args.self.now.coefficients c.args.self.now.plan.now c.args.self.now.next c.args.leaf c.args.self.now.text.bytes.items c.leaf.new.self.bytes.items _ _ _ c.requires
+    leaf_step c.args.self.now.coefficients c.args.self.now.plan.now c.args.self.now.next c.args.leaf c.args.self.now.text.bytes.items
+    c.leaf.new.self.bytes.items _ _ _ c.requires
     c.told_triples-y.ensures.value c.told_triples-u.ensures.value c.told_triples-v.ensures.value c.in_ok-leaf.ensures.text

@@ -19,8 +19,11 @@ invariant_of-self c =
     let same = ap (λ (ps : List Part). length ps) c.self.view_is in
     let few : s.count < 13 = omega (arith, few_below c.args.part (length c.args.self.now) c.requires, count, same) in
     let more = put_on_top s.parts s.count c.args.part (omega (arith, few, c.self.invariant.0)) in
-    let room = subst (λ (ps : List Part). has_room c.args.part (length ps) ≡ true) (sym c.self.view_is) c.requires in
-    (length-set s.parts s.count c.args.part ∙ c.self.invariant.0, omega (arith, few), subst (λ (ps : List Part). have_room ps ≡ true) (sym more) (room_for c.args.part _ room c.self.invariant.2))
+    let room = subst (λ (ps : List Part). has_room c.args.part (length ps) ≡ true) (sym c.self.view_is) c.requires in (
+      length-set s.parts s.count c.args.part ∙ c.self.invariant.0,
+      omega (arith, few),
+      subst (λ (ps : List Part). have_room ps ≡ true) (sym more) (room_for c.args.part _ room c.self.invariant.2),
+    )
 
 pub returns : goal.returns
 returns c =

@@ -7,8 +7,11 @@ use Rattle.av1_planwrite.proofs.parts.PartStack.take_first.Goals as goal
 
 pub invariant_of-self : goal.invariant_of-self
 invariant_of-self c =
-    let s = c.self.inside in
-    (c.self.invariant.0, omega (arith, c.self.invariant.1), room_behind s.parts s.count (Leaf BLOCK_4X4 0 0) (omega arith) (omega (arith, c.self.invariant.0, c.self.invariant.1)) c.self.invariant.2)
+    let s = c.self.inside in (
+      c.self.invariant.0,
+      omega (arith, c.self.invariant.1),
+      room_behind s.parts s.count (Leaf BLOCK_4X4 0 0) (omega arith) (omega (arith, c.self.invariant.0, c.self.invariant.1)) c.self.invariant.2,
+    )
 
 pub returns-then-self-gt0 : goal.returns-then-self-gt0
 returns-then-self-gt0 c =

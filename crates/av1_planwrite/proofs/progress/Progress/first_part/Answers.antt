@@ -7,4 +7,5 @@ use Rattle.av1_planwrite.proofs.progress.Progress.first_part.Goals as goal
 
 pub returns-in-None-clause-room : goal.returns-in-None-clause-room
 returns-in-None-clause-room c =
-    subst (λ (ps : List Part). IfSome c.first-in-None.result (λ p. has_room p (length (later_parts ps)) ≡ true)) (sym (none_first _ (sym c.first.ensures.value ∙ c.in-None.is))) c.first-in-None.ensures.room
+    subst (λ (ps : List Part). IfSome c.first-in-None.result (λ p. has_room p (length (later_parts ps)) ≡ true))
+    (sym (none_first _ (sym c.first.ensures.value ∙ c.in-None.is))) c.first-in-None.ensures.room

@@ -36,4 +36,5 @@ pub returns-clause-told : goal.returns-clause-told
 returns-clause-told c =
     let h = c.args.header.now in
     let admitted : admits_header h ≡ true = sym c.admits_header.ensures.value ∙ c.if-not-admits_header.false in
-    subst (λ (b : Building). Tells b (plan_begun h)) (sym (returns-clause-begun c)) (tells_begun h (header_read h admitted c.admits_header.ensures.mask c.admits_header.ensures.slots))
+    subst (λ (b : Building). Tells b (plan_begun h)) (sym (returns-clause-begun c))
+    (tells_begun h (header_read h admitted c.admits_header.ensures.mask c.admits_header.ensures.slots))

@@ -48,5 +48,7 @@ returns-clause-told c = λ bytes p t.
     let s = c.args.self.now in
     let r = room_is n.field-0-is n.ensures.room in
     let asked = sym n.ensures.value ∙ ap Some n.field-0-is in
-    let admitted : is_mark s.header n.level n.x n.y c.args.mark ≡ true = subst (λ (o : Option Part). admits_mark s.header o c.args.mark ≡ true) asked c.requires in
-    subst (λ (b : Building). Tells b p) (sym (returns-clause-given c bytes)) (tells_mark (built s bytes) p n.level n.x n.y c.args.mark t asked r.some (omega arith) admitted)
+    let admitted : is_mark s.header n.level n.x n.y c.args.mark ≡ true = subst (λ (o : Option Part). admits_mark s.header o c.args.mark ≡ true) asked c.requires
+    in
+    subst (λ (b : Building). Tells b p) (sym (returns-clause-given c bytes))
+    (tells_mark (built s bytes) p n.level n.x n.y c.args.mark t asked r.some (omega arith) admitted)

@@ -13,11 +13,20 @@ pieces-init c = record {
 pub pieces-preserved : goal.pieces-preserved
 pieces-preserved c = record {
   within = omega (arith, c.min-count.ensures);
-  so_far = piece_written c.args.depth c.args.samples.now _ _ _ c.pieces.at _ c.min-count.result _ (omega arith) c.pieces.invariant.so_far c.pack-len.ensures.bytes c.in_ok-copy.ensures.text;
+  so_far =
+      piece_written c.args.depth c.args.samples.now _ _ _ c.pieces.at _ c.min-count.result _ (omega arith) c.pieces.invariant.so_far c.pack-len.ensures.bytes
+      c.in_ok-copy.ensures.text;
   front = begins_then _ _ _ c.pieces.invariant.front c.copy.ensures.front;
 }
 
 pub pack-len-requires : goal.pack-len-requires
 pack-len-requires c =
     let piece = take (c.pieces.at + c.min-count.result - c.pieces.at) (drop c.pieces.at c.args.samples.now) in
-    record { room = omega (arith, at_most_two c.args.depth piece, length-take (c.pieces.at + c.min-count.result - c.pieces.at) (drop c.pieces.at c.args.samples.now), c.min-count.ensures) }
+    record {
+      room = omega (
+        arith,
+        at_most_two c.args.depth piece,
+        length-take (c.pieces.at + c.min-count.result - c.pieces.at) (drop c.pieces.at c.args.samples.now),
+        c.min-count.ensures,
+      );
+    }

@@ -5,4 +5,5 @@ use Rattle.av1_planwrite.specs.Text.{slot_text}
 use Rattle.av1_planwrite.proofs.text.Text.references.Given as goal
 
 abbrev pub invariant-loop-slot : goal.invariant-loop-slot
-invariant-loop-slot l = l.self.bytes.items ≡ l.initial.self.bytes.items ++ flat_map (slot_text (plan_value l.plan).header.depth) (take l.slot (plan_value l.plan).references)
+invariant-loop-slot l =
+    l.self.bytes.items ≡ l.initial.self.bytes.items ++ flat_map (slot_text (plan_value l.plan).header.depth) (take l.slot (plan_value l.plan).references)

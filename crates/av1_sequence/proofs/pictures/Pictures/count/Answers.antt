@@ -7,9 +7,19 @@ use Rattle.av1_sequence.proofs.pictures.Pictures.count.Goals as goal
 pub overflow_add-count : goal.overflow_add-count
 overflow_add-count c =
     let s = c.args.self.now in
-    omega (arith, c.loop-slot.invariant, count_below (is_read c.args.head.now.slots (slots_shown s.header s.fi s.places)) c.loop-slot.slot, c.loop-slot-test.true)
+    omega (
+      arith,
+      c.loop-slot.invariant,
+      count_below (is_read c.args.head.now.slots (slots_shown s.header s.fi s.places)) c.loop-slot.slot,
+      c.loop-slot-test.true,
+    )
 
 pub returns-clause-few : goal.returns-clause-few
 returns-clause-few c =
     let s = c.args.self.now in
-    omega (arith, c.loop-slot.invariant, count_below (is_read c.args.head.now.slots (slots_shown s.header s.fi s.places)) c.loop-slot.slot, c.loop-slot.auto.slot-end)
+    omega (
+      arith,
+      c.loop-slot.invariant,
+      count_below (is_read c.args.head.now.slots (slots_shown s.header s.fi s.places)) c.loop-slot.slot,
+      c.loop-slot.auto.slot-end,
+    )

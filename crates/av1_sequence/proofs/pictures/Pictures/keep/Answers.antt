@@ -12,7 +12,9 @@ invariant_of-self c =
     let next = c.replaced-self in
     let are : AreReplaced c.args.self.now.places next.result c.args.refresh place.result =
     record { below = place.ensures.below; free = place.ensures.free; count = next.ensures.count; new = next.ensures.new; old = next.ensures.old } in
-    let put = put_in c.args.self.now.fi c.set_slot.new.self c.args.planes c.from.ensures c.pad.ensures.all c.pad-2.ensures.all c.pad-3.ensures.all c.set_slot.ensures in
+    let put =
+    put_in c.args.self.now.fi c.set_slot.new.self c.args.planes c.from.ensures c.pad.ensures.all c.pad-2.ensures.all c.pad-3.ensures.all c.set_slot.ensures
+    in
     record { keeps = put_keeps c.requires.ready c.args.self.now.keeps are put }
 
 pub returns-clause-slots : goal.returns-clause-slots
@@ -21,7 +23,9 @@ returns-clause-slots c =
     let next = c.replaced-self in
     let are : AreReplaced c.args.self.now.places next.result c.args.refresh place.result =
     record { below = place.ensures.below; free = place.ensures.free; count = next.ensures.count; new = next.ensures.new; old = next.ensures.old } in
-    let put = put_in c.args.self.now.fi c.set_slot.new.self c.args.planes c.from.ensures c.pad.ensures.all c.pad-2.ensures.all c.pad-3.ensures.all c.set_slot.ensures in
+    let put =
+    put_in c.args.self.now.fi c.set_slot.new.self c.args.planes c.from.ensures c.pad.ensures.all c.pad-2.ensures.all c.pad-3.ensures.all c.set_slot.ensures
+    in
     put_slots c.requires.ready c.args.self.now.keeps are put
 
 pub returns-clause-shown : goal.returns-clause-shown
@@ -30,7 +34,9 @@ returns-clause-shown c =
     let next = c.replaced-self in
     let are : AreReplaced c.args.self.now.places next.result c.args.refresh place.result =
     record { below = place.ensures.below; free = place.ensures.free; count = next.ensures.count; new = next.ensures.new; old = next.ensures.old } in
-    let put = put_in c.args.self.now.fi c.set_slot.new.self c.args.planes c.from.ensures c.pad.ensures.all c.pad-2.ensures.all c.pad-3.ensures.all c.set_slot.ensures in
+    let put =
+    put_in c.args.self.now.fi c.set_slot.new.self c.args.planes c.from.ensures c.pad.ensures.all c.pad-2.ensures.all c.pad-3.ensures.all c.set_slot.ensures
+    in
     put_shown c.requires.ready c.args.self.now.keeps are put
 
 pub returns-clause-kept : goal.returns-clause-kept
@@ -39,5 +45,7 @@ returns-clause-kept c =
     let next = c.replaced-self in
     let are : AreReplaced c.args.self.now.places next.result c.args.refresh place.result =
     record { below = place.ensures.below; free = place.ensures.free; count = next.ensures.count; new = next.ensures.new; old = next.ensures.old } in
-    let put = put_in c.args.self.now.fi c.set_slot.new.self c.args.planes c.from.ensures c.pad.ensures.all c.pad-2.ensures.all c.pad-3.ensures.all c.set_slot.ensures in
+    let put =
+    put_in c.args.self.now.fi c.set_slot.new.self c.args.planes c.from.ensures c.pad.ensures.all c.pad-2.ensures.all c.pad-3.ensures.all c.set_slot.ensures
+    in
     put_stands c.requires.ready c.args.self.now.keeps are put

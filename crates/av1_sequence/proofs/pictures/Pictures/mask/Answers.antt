@@ -7,4 +7,9 @@ use Rattle.av1_sequence.proofs.pictures.Pictures.mask.Goals as goal
 pub overflow_add-mask : goal.overflow_add-mask
 overflow_add-mask c =
     let s = c.args.self.now in
-    omega (arith, c.loop-slot.invariant, bits_below (is_read c.args.head.now.slots (slots_shown s.header s.fi s.places)) c.loop-slot.slot, power_small c.loop-slot.slot c.loop-slot-test.true)
+    omega (
+      arith,
+      c.loop-slot.invariant,
+      bits_below (is_read c.args.head.now.slots (slots_shown s.header s.fi s.places)) c.loop-slot.slot,
+      power_small c.loop-slot.slot c.loop-slot-test.true,
+    )

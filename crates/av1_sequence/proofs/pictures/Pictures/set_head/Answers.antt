@@ -7,4 +7,5 @@ invariant_of-self c = record { keeps = keeps_settings c.args.self.now.header c.a
 
 pub returns-clause-serves : goal.returns-clause-serves
 returns-clause-serves c = λ plan eh er.
-    serves_plan c.args.self.now.header c.args.self.now.fi _ c.args.self.now.places c.args.head.now c.args.self.now.keeps c.requires refl refl refl c.places_of-self.ensures plan eh er
+    serves_plan c.args.self.now.header c.args.self.now.fi _ c.args.self.now.places c.args.head.now c.args.self.now.keeps c.requires refl refl refl
+    c.places_of-self.ensures plan eh er

@@ -5,18 +5,26 @@ use Rattle.av1_sequence.proofs.sequence.Sequence.frame.Goals as goal
 
 pub returns-in-Err-clause-refused : goal.returns-in-Err-clause-refused
 returns-in-Err-clause-refused c =
-    let short = short_seen c.args.self.now c.self.inside c.self.view_is c.args.head.now c.args.part.now c.reference_bytes.result (length c.args.part.now) c.reference_bytes.ensures.value refl c.if-reference_bytes-part-gt-MOST_BYTES.false in
-    refused_over c.args.self.now c.self.inside c.self.view_is c.args.head.now c.frame_header-header.result c.args.part.now c.frame_header-header.ensures c.in-Err.error short c.in-Err.ensures.refused
+    let short =
+    short_seen c.args.self.now c.self.inside c.self.view_is c.args.head.now c.args.part.now c.reference_bytes.result (length c.args.part.now)
+    c.reference_bytes.ensures.value refl c.if-reference_bytes-part-gt-MOST_BYTES.false in
+    refused_over c.args.self.now c.self.inside c.self.view_is c.args.head.now c.frame_header-header.result c.args.part.now c.frame_header-header.ensures
+    c.in-Err.error short c.in-Err.ensures.refused
 
 pub show-requires-clause-spelled : goal.show-requires-clause-spelled
 show-requires-clause-spelled c =
-    spelled_over c.args.self.now c.self.inside c.self.view_is c.args.head.now c.frame_header-header.result c.args.part.now (plan_value c.in-Ok.leaves) c.frame_header-header.ensures c.requires.head c.in-Ok.ensures.found
+    spelled_over c.args.self.now c.self.inside c.self.view_is c.args.head.now c.frame_header-header.result c.args.part.now (plan_value c.in-Ok.leaves)
+    c.frame_header-header.ensures c.requires.head c.in-Ok.ensures.found
 
 pub show-requires-clause-valid : goal.show-requires-clause-valid
 show-requires-clause-valid c =
-    valid_over c.args.self.now c.self.inside c.self.view_is c.args.head.now c.frame_header-header.result c.args.part.now (plan_value c.in-Ok.leaves) c.frame_header-header.ensures c.in-Ok.ensures.valid
+    valid_over c.args.self.now c.self.inside c.self.view_is c.args.head.now c.frame_header-header.result c.args.part.now (plan_value c.in-Ok.leaves)
+    c.frame_header-header.ensures c.in-Ok.ensures.valid
 
 pub returns-clause-accepted : goal.returns-clause-accepted
 returns-clause-accepted c =
-    let short = short_seen c.args.self.now c.self.inside c.self.view_is c.args.head.now c.args.part.now c.reference_bytes.result (length c.args.part.now) c.reference_bytes.ensures.value refl c.if-reference_bytes-part-gt-MOST_BYTES.false in
-    accepts_over c.args.self.now c.self.inside c.self.view_is c.args.head.now c.frame_header-header.result c.args.part.now (plan_value c.in-Ok.leaves) c.frame_header-header.ensures c.show.new.self c.show.result short c.in-Ok.ensures.found c.in-Ok.ensures.valid c.show.ensures.accepted
+    let short =
+    short_seen c.args.self.now c.self.inside c.self.view_is c.args.head.now c.args.part.now c.reference_bytes.result (length c.args.part.now)
+    c.reference_bytes.ensures.value refl c.if-reference_bytes-part-gt-MOST_BYTES.false in
+    accepts_over c.args.self.now c.self.inside c.self.view_is c.args.head.now c.frame_header-header.result c.args.part.now (plan_value c.in-Ok.leaves)
+    c.frame_header-header.ensures c.show.new.self c.show.result short c.in-Ok.ensures.found c.in-Ok.ensures.valid c.show.ensures.accepted

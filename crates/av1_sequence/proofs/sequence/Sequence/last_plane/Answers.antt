@@ -18,7 +18,8 @@ returns-in-Some-clause-writable c =
     let h = c.self.inside.pictures.header in
     let planes = c.in-Some.planes in
     writable_seen c.args.self.now c.self.inside c.self.view_is c.args.p c.plane_in.result.now
-    (subst (IsWritable h c.args.p) (sym c.plane_in.ensures) (apart_writable h planes c.args.p c.self.inside.pictures.keeps.frame c.requires.plane (c.self.inside.ready planes c.in-Some.is)))
+    (subst (IsWritable h c.args.p) (sym c.plane_in.ensures)
+    (apart_writable h planes c.args.p c.self.inside.pictures.keeps.frame c.requires.plane (c.self.inside.ready planes c.in-Some.is)))
 
 pub returns-in-At-clause-shown : goal.returns-in-At-clause-shown
 returns-in-At-clause-shown c =

@@ -3,19 +3,23 @@ use Rattle.av1_plan.specs.declared.header.Header.{Header}
 use Rattle.av1_plan.specs.Answer.{plan_value}
 use Rattle.av1_sequence.specs.Kept.{AreReady}
 use Rattle.av1_sequence.specs.Outcomes.{plan_over}
-use Rattle.av1_sequence.proofs.Framed.{apart_accepted, kept_accepted, not_placed, own_read, own_ready, plan_is_over, ready_held, ready_still, room_over, room_still}
+use Rattle.av1_sequence.proofs.Framed.{apart_accepted, kept_accepted, not_placed, own_read, own_ready, plan_is_over, ready_held, ready_still, room_over}
+use Rattle.av1_sequence.proofs.Framed.{room_still}
 use Rattle.av1_sequence.proofs.sequence.Sequence.show.Goals as goal
 
 pub planes_for-requires-clause-frame : goal.planes_for-requires-clause-frame
 planes_for-requires-clause-frame c = own_read c.args.self.now c.self.inside c.self.view_is c.args.head.now c.requires.head c.args.header.now c.requires.header
 
 pub planes_for-requires-clause-ready : goal.planes_for-requires-clause-ready
-planes_for-requires-clause-ready c = λ planes e. own_ready c.args.self.now c.self.inside c.self.view_is c.args.head.now c.args.header.now planes c.requires.header (c.self.inside.ready planes (sym c.take-apart.ensures.value ∙ e))
+planes_for-requires-clause-ready c =
+    λ planes e. own_ready c.args.self.now c.self.inside c.self.view_is c.args.head.now c.args.header.now planes c.requires.header
+    (c.self.inside.ready planes (sym c.take-apart.ensures.value ∙ e))
 
 pub reconstruct-requires-clause-plan : goal.reconstruct-requires-clause-plan
 reconstruct-requires-clause-plan c = (
   plan_over c.args.self.now c.args.head.now (plan_value c.args.leaves.now),
-  plan_is_over c.args.self.now c.self.inside c.self.view_is c.args.head.now c.args.header.now (plan_value c.args.leaves.now) c.set_head.new.self.fi c.requires.header c.requires.spelled c.requires.valid c.set_head.ensures.serves,
+  plan_is_over c.args.self.now c.self.inside c.self.view_is c.args.head.now c.args.header.now (plan_value c.args.leaves.now) c.set_head.new.self.fi
+      c.requires.header c.requires.spelled c.requires.valid c.set_head.ensures.serves,
 )
 
 pub reconstruct-requires-clause-room : goal.reconstruct-requires-clause-room
@@ -23,10 +27,12 @@ reconstruct-requires-clause-room c = room_over c.args.self.now c.self.inside c.s
 
 pub invariant_of-self-inside-then-head-eq0 : goal.invariant_of-self-inside-then-head-eq0
 invariant_of-self-inside-then-head-eq0 c = (
-  room_still c.self.inside.pictures.header c.set_head.new.self.header c.self.inside.memory c.reconstruct.new.self c.set_head.ensures.header c.reconstruct.ensures.cells c.self.inside.room,
+  room_still c.self.inside.pictures.header c.set_head.new.self.header c.self.inside.memory c.reconstruct.new.self c.set_head.ensures.header
+      c.reconstruct.ensures.cells c.self.inside.room,
   (
     ready_held c.self.inside.pictures.header c.set_head.new.self.header c.reconstruct.new.planes c.set_head.ensures.header
-        (ready_still c.args.self.now c.self.inside c.self.view_is c.args.head.now c.args.header.now c.in_ok-planes.planes c.reconstruct.new.planes c.requires.header c.in_ok-planes.ensures.ready c.reconstruct.ensures.stores c.reconstruct.ensures.layout),
+        (ready_still c.args.self.now c.self.inside c.self.view_is c.args.head.now c.args.header.now c.in_ok-planes.planes c.reconstruct.new.planes
+        c.requires.header c.in_ok-planes.ensures.ready c.reconstruct.ensures.stores c.reconstruct.ensures.layout),
     ((λ e. refl), ((λ place e. not_placed place e), tt)),
   ),
 )
@@ -34,21 +40,28 @@ invariant_of-self-inside-then-head-eq0 c = (
 pub keep-requires-clause-ready : goal.keep-requires-clause-ready
 keep-requires-clause-ready c =
     subst (λ (g : Header). AreReady g c.reconstruct.new.planes) (sym c.set_head.ensures.header)
-    (ready_still c.args.self.now c.self.inside c.self.view_is c.args.head.now c.args.header.now c.in_ok-planes.planes c.reconstruct.new.planes c.requires.header c.in_ok-planes.ensures.ready c.reconstruct.ensures.stores c.reconstruct.ensures.layout)
+    (ready_still c.args.self.now c.self.inside c.self.view_is c.args.head.now c.args.header.now c.in_ok-planes.planes c.reconstruct.new.planes c.requires.header
+    c.in_ok-planes.ensures.ready c.reconstruct.ensures.stores c.reconstruct.ensures.layout)
 
 pub returns-then-head-eq0-clause-accepted : goal.returns-then-head-eq0-clause-accepted
 returns-then-head-eq0-clause-accepted c =
     let leaves = plan_value c.args.leaves.now in
     let set = c.set_head.new.self in
-    let walked = plan_is_over c.args.self.now c.self.inside c.self.view_is c.args.head.now c.args.header.now leaves set.fi c.requires.header c.requires.spelled c.requires.valid c.set_head.ensures.serves in
-    apart_accepted c.args.self.now c.self.inside c.self.view_is c.args.head.now leaves set.header set.fi set.places c.reconstruct.new.planes c.if-head-eq0.true c.set_head.ensures.header c.set_head.ensures.slots
+    let walked =
+    plan_is_over c.args.self.now c.self.inside c.self.view_is c.args.head.now c.args.header.now leaves set.fi c.requires.header c.requires.spelled
+    c.requires.valid c.set_head.ensures.serves in
+    apart_accepted c.args.self.now c.self.inside c.self.view_is c.args.head.now leaves set.header set.fi set.places c.reconstruct.new.planes c.if-head-eq0.true
+    c.set_head.ensures.header c.set_head.ensures.slots
     (c.reconstruct.ensures.shown (plan_over c.args.self.now c.args.head.now leaves) walked)
 
 pub returns-else-head-eq0-clause-accepted : goal.returns-else-head-eq0-clause-accepted
 returns-else-head-eq0-clause-accepted c =
     let leaves = plan_value c.args.leaves.now in
     let set = c.set_head.new.self in
-    let walked = plan_is_over c.args.self.now c.self.inside c.self.view_is c.args.head.now c.args.header.now leaves set.fi c.requires.header c.requires.spelled c.requires.valid c.set_head.ensures.serves in
-    kept_accepted c.args.self.now c.self.inside c.self.view_is c.args.head.now leaves set.header c.keep.new.self.header set.fi c.keep.new.self.fi set.places c.keep.new.self.places c.keep.result c.reconstruct.new.planes
+    let walked =
+    plan_is_over c.args.self.now c.self.inside c.self.view_is c.args.head.now c.args.header.now leaves set.fi c.requires.header c.requires.spelled
+    c.requires.valid c.set_head.ensures.serves in
+    kept_accepted c.args.self.now c.self.inside c.self.view_is c.args.head.now leaves set.header c.keep.new.self.header set.fi c.keep.new.self.fi set.places
+    c.keep.new.self.places c.keep.result c.reconstruct.new.planes
     c.set_head.ensures.header c.keep.ensures.header c.set_head.ensures.slots c.keep.ensures.slots c.keep.ensures.shown
     (c.reconstruct.ensures.shown (plan_over c.args.self.now c.args.head.now leaves) walked)

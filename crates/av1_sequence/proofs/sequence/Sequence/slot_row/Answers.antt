@@ -5,4 +5,6 @@ pub row_at-requires-clause-kept : goal.row_at-requires-clause-kept
 row_at-requires-clause-kept c = c.self.inside.pictures.keeps.kept c.args.slot c.in-Some.place c.requires.slot c.in-Some.is
 
 pub returns-in-Some : goal.returns-in-Some
-returns-in-Some c = slot_seen c.args.self.now c.self.inside c.self.view_is c.args.slot c.in-Some.place c.args.p c.args.y c.row_at.result.now c.requires.slot c.in-Some.is c.row_at.ensures
+returns-in-Some c =
+    slot_seen c.args.self.now c.self.inside c.self.view_is c.args.slot c.in-Some.place c.args.p c.args.y c.row_at.result.now c.requires.slot c.in-Some.is
+    c.row_at.ensures

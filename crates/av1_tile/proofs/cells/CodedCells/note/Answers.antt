@@ -21,5 +21,8 @@ returns-clause-noted c = λ cx cy column row.
     let d = block_height leaf.size / 4 in
     let area : StoredArea = record { x = c.min-x.result; y = c.min-y.result; width = c.min.result; height = c.min-2.result } in
     let cut : IsCut area x y w d cells.columns cells.rows = record { left = omega arith; top = omega arith; width = omega arith; height = omega arith } in
-    cell_noted area x y w d cells.columns cells.rows cx cy (coded_info leaf.kind) _ cells.cells.items (with_items cells.cells c.fill_rows.new.cells).items cut c.requires.cells.filled column row
-    (with_items_is cells.cells c.fill_rows.new.cells (omega arith) ∙ c.fill_rows.ensures ∙ ap (λ k. paint cells.columns area (λ _ _ _. k) c.as_mut_slice.result.now) c.coded_info.ensures ∙ ap (paint cells.columns area (λ _ _ _. coded_info leaf.kind)) c.as_mut_slice.ensures.value)
+    cell_noted area x y w d cells.columns cells.rows cx cy (coded_info leaf.kind) _ cells.cells.items (with_items cells.cells c.fill_rows.new.cells).items cut
+    c.requires.cells.filled column row
+    (with_items_is cells.cells c.fill_rows.new.cells (omega arith) ∙ c.fill_rows.ensures
+    ∙ ap (λ k. paint cells.columns area (λ _ _ _. k) c.as_mut_slice.result.now) c.coded_info.ensures
+    ∙ ap (paint cells.columns area (λ _ _ _. coded_info leaf.kind)) c.as_mut_slice.ensures.value)

@@ -14,14 +14,16 @@ held : (c : goal.After-last_cell-cy) → c.last_cell-cy.result * c.args.self.now
 held c =
     let a = c.args in
     let r = c.requires in
-    cell_held a.header.now a.self.now r.frame r.cells a.p a.x a.y c.xdec.result c.ydec.result c.last_cell-cx.result c.last_cell-cy.result r.column r.row c.xdec.ensures.value c.ydec.ensures.value c.last_cell-cx.ensures c.last_cell-cy.ensures
+    cell_held a.header.now a.self.now r.frame r.cells a.p a.x a.y c.xdec.result c.ydec.result c.last_cell-cx.result c.last_cell-cy.result r.column r.row
+    c.xdec.ensures.value c.ydec.ensures.value c.last_cell-cx.ensures c.last_cell-cy.ensures
 
 -- and one of the first
 early : (c : goal.After-last_cell-cy) → c.last_cell-cy.result * c.args.self.now.columns + c.last_cell-cx.result < 262144
 early c =
     let a = c.args in
     let r = c.requires in
-    cell_early a.header.now a.self.now r.frame r.cells a.p a.x a.y c.xdec.result c.ydec.result c.last_cell-cx.result c.last_cell-cy.result r.column r.row c.xdec.ensures.value c.ydec.ensures.value c.last_cell-cx.ensures c.last_cell-cy.ensures
+    cell_early a.header.now a.self.now r.frame r.cells a.p a.x a.y c.xdec.result c.ydec.result c.last_cell-cx.result c.last_cell-cy.result r.column r.row
+    c.xdec.ensures.value c.ydec.ensures.value c.last_cell-cx.ensures c.last_cell-cy.ensures
 
 pub overflow_mul-cy : goal.overflow_mul-cy
 overflow_mul-cy c = omega (arith, early c)
@@ -36,4 +38,5 @@ pub returns : goal.returns
 returns c =
     let a = c.args in
     let r = c.requires in
-    cell_tells a.header.now a.self.now r.frame r.cells a.p a.x a.y c.xdec.result c.ydec.result c.last_cell-cx.result c.last_cell-cy.result r.column r.row c.xdec.ensures.value c.ydec.ensures.value c.last_cell-cx.ensures c.last_cell-cy.ensures c.index.result.now c.index.ensures
+    cell_tells a.header.now a.self.now r.frame r.cells a.p a.x a.y c.xdec.result c.ydec.result c.last_cell-cx.result c.last_cell-cy.result r.column r.row
+    c.xdec.ensures.value c.ydec.ensures.value c.last_cell-cx.ensures c.last_cell-cy.ensures c.index.result.now c.index.ensures

@@ -27,12 +27,14 @@ returns-clause-shown g c = λ plan is.
     let h = a.header.now in
     let leaves = (plan_value a.leaves.now).leaves in
     let walk = c.reconstruct_leaves in
-    over_shows g.T.Pixel.num h leaves a.fi.now plan is g.T.Pixel.pixel g.met.T.Pixel.num_of_pixel g.met.T.Pixel.pixel_of_num a.planes.now walk.new.planes (cell_at c.lay_out.new.self) c.requires.stores c.requires.superblocks walk.ensures.stores
+    over_shows g.T.Pixel.num h leaves a.fi.now plan is g.T.Pixel.pixel g.met.T.Pixel.num_of_pixel g.met.T.Pixel.pixel_of_num a.planes.now walk.new.planes
+    (cell_at c.lay_out.new.self) c.requires.stores c.requires.superblocks walk.ensures.stores
     (walk.ensures.walked plan (over_serves g.T.Pixel.num h leaves a.fi.now plan is))
 
 pub returns-clause-edges : goal.returns-clause-edges
 returns-clause-edges g c = λ plan is.
     let a = c.args in
     let walk = c.reconstruct_leaves in
-    over_counts g.T.Pixel.num a.header.now (plan_value a.leaves.now).leaves a.fi.now plan is c.self.inside.buffers.edges.prepared walk.new.buffers.edges.prepared (cell_at c.lay_out.new.self) walk.ensures.counted
+    over_counts g.T.Pixel.num a.header.now (plan_value a.leaves.now).leaves a.fi.now plan is c.self.inside.buffers.edges.prepared
+    walk.new.buffers.edges.prepared (cell_at c.lay_out.new.self) walk.ensures.counted
     ∙ ap (λ (r : WalkRoom). edges_of r.edges plan) c.self.view_is

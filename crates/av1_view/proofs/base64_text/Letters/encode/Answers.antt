@@ -18,7 +18,8 @@ groups-preserved c =
     let left = length-drop (3 * c.groups.k) c.args.bytes.now in
     record {
       so_far = ap (λ (l : List ℕ). l ++ base64_text (drop (3 * (c.groups.k + 1)) c.args.bytes.now)) c.push.ensures
-          ∙ next_letters c.args.bytes.now _ c.groups.self c.first_letters.result c.groups.k (take_all _ (drop (3 * c.groups.k) c.args.bytes.now) (omega (arith, left))) c.groups.invariant.so_far c.first_letters.ensures;
+          ∙ next_letters c.args.bytes.now _ c.groups.self c.first_letters.result c.groups.k (take_all _ (drop (3 * c.groups.k) c.args.bytes.now)
+          (omega (arith, left))) c.groups.invariant.so_far c.first_letters.ensures;
       long = omega (arith, four, ap length c.push.ensures, length-append c.groups.self c.first_letters.result, c.groups.invariant.long);
     }
 

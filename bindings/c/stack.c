@@ -1,0 +1,211 @@
+/* Makes every call with many arguments, and tells how deep each went on the stack, in bytes: a line for each call. stack.py runs it, since what it
+ * works out from the code must be at least that. A plan comes from the file that is named. */
+#include "av1_c.h"
+
+#include <stdio.h>
+#include <stdlib.h>
+#include <string.h>
+
+#define CHECK(e) do { if (!(e)) { fprintf(stderr, "%s:%d: %s\n", __FILE__, __LINE__, #e); exit(1); } } while (0)
+
+enum { PAINTED = 1 << 14, NEAREST = 16, ABOVE = 2, SIDE = 256, MIDDLE = 64, MOST = 4096 };
+
+static const uint64_t paint = 0xA5A5A5A5A5A5A5A5;
+
+/* Paints the words that lie below the stack's end, but for the nearest ones. */
+__attribute__((noinline)) static void paint_below(void) {
+    volatile uint64_t *end = __builtin_frame_address(0);
+    for (ptrdiff_t i = NEAREST + 1; i < PAINTED; i++) end[-i] = paint;
+}
+
+/* How many bytes a function took that was called where this one is; 0 stands for few. */
+__attribute__((noinline)) static size_t taken(void) {
+    volatile uint64_t *end = __builtin_frame_address(0);
+    ptrdiff_t i = PAINTED - 1;
+    while (i > NEAREST && end[-i] == paint) i--;
+    CHECK(i < PAINTED - 1);
+    return i > NEAREST ? (size_t)(i + ABOVE) * sizeof paint : 0;
+}
+
+/* The deepest of all calls of this kind so far is kept in `deepest`. */
+#define DEEP(call)                                       \
+    do {                                                 \
+        paint_below();                                   \
+        uint32_t status = (call);                        \
+        size_t bytes = taken();                          \
+        CHECK(status == AV1_DONE);                       \
+        deepest = bytes > deepest ? bytes : deepest;     \
+    } while (0)
+
+static uint8_t plane_8[SIDE * SIDE], other_8[SIDE * SIDE];
+static uint16_t plane_16[SIDE * SIDE], other_16[SIDE * SIDE];
+static int16_t first[128 * 128], second[128 * 128], few[1024];
+static int32_t many[1024];
+static av1_transform_scratch scratch;
+
+static void tell(const char *name, size_t deepest) { printf("%s %zu\n", name, deepest); }
+
+static void fill(void) {
+    for (int i = 0; i < SIDE * SIDE; i++) plane_16[i] = other_16[i] = plane_8[i] = other_8[i] = (uint8_t)(i * 7 + i / SIDE);
+    for (int i = 0; i < 1024; i++) many[i] = few[i] = (int16_t)(i % 61 - 30);
+}
+
+/* Whether transforms of this size have this type: the call says so of a block that lies nowhere. */
+static int is_transform(uint8_t size, uint8_t type) {
+    return av1_inverse_transform_add_8(&scratch, few, 1024, plane_8, 0, SIDE, 0, 0, size, type) == AV1_BAD_AREA;
+}
+
+static void transforms(int is_deep) {
+    size_t deepest = 0;
+    for (uint8_t size = 0; size < 19; size++)
+        for (uint8_t type = 0; type < 17; type++) {
+            if (!is_transform(size, type)) continue;
+            if (is_deep)
+                DEEP(av1_inverse_transform_add_16(&scratch, many, 1024, plane_16, SIDE * SIDE, SIDE, 4, 4, size, type, 10));
+            else
+                DEEP(av1_inverse_transform_add_8(&scratch, few, 1024, plane_8, SIDE * SIDE, SIDE, 4, 4, size, type));
+        }
+    tell(is_deep ? "av1_inverse_transform_add_16" : "av1_inverse_transform_add_8", deepest);
+}
+
+enum motion { PUT_8, PUT_16, PREP_8, PREP_16 };
+
+static void motion(enum motion kind, const char *name) {
+    size_t deepest = 0, all = SIDE * SIDE, from = MIDDLE, side = 128 * 128;
+    for (uint8_t way = 0; way < 4 * 4; way++)
+        for (unsigned size = 0; size < 64; size++) {
+            av1_motion_block block = {(size_t)1 << size % 8, (size_t)1 << size / 8, way % 2 * 5, way / 2 % 2 * 5, way / 4, 3 - way / 4};
+            switch (kind) {
+            case PUT_8: DEEP(av1_put_8tap_8(plane_8, all, SIDE, 0, 0, other_8, all, SIDE, from, from, &block)); break;
+            case PUT_16: DEEP(av1_put_8tap_16(plane_16, all, SIDE, 0, 0, other_16, all, SIDE, from, from, &block, 10)); break;
+            case PREP_8: DEEP(av1_prep_8tap_8(first, side, other_8, all, SIDE, from, from, &block)); break;
+            case PREP_16: DEEP(av1_prep_8tap_16(first, side, other_16, all, SIDE, from, from, &block, 10)); break;
+            }
+        }
+    tell(name, deepest);
+}
+
+static void averages(int is_deep) {
+    size_t deepest = 0, all = SIDE * SIDE, len = 128 * 128;
+    for (unsigned size = 0; size < 64; size++) {
+        size_t w = (size_t)1 << size % 8, h = (size_t)1 << size / 8;
+        if (is_deep)
+            DEEP(av1_mc_avg_16(plane_16, all, SIDE, 0, 0, w, h, first, len, second, len, 10));
+        else
+            DEEP(av1_mc_avg_8(plane_8, all, SIDE, 0, 0, w, h, first, len, second, len));
+    }
+    tell(is_deep ? "av1_mc_avg_16" : "av1_mc_avg_8", deepest);
+}
+
+enum intra { INTRA, CFL, EDGE };
+
+static uint32_t predict(enum intra kind, int is_deep, const av1_intra_block *block) {
+    static const av1_edge_plane plane = {.stride = SIDE, .width = SIDE, .height = SIDE, .tile_width = SIDE, .tile_height = SIDE};
+    size_t all = SIDE * SIDE, at = MIDDLE;
+    av1_edge_block edge = {at, at, at / 4, at / 4, 0, 0, 12, block->tx_size, block->mode, block->angle_step, block->bit_depth, 1};
+    size_t deepest = 0;
+    if (kind == INTRA && is_deep)
+        DEEP(av1_predict_intra_16(plane_16, all, SIDE, at, at, block, other_16, 128, 9, other_16 + 128, 128));
+    else if (kind == INTRA)
+        DEEP(av1_predict_intra_8(plane_8, all, SIDE, at, at, block, other_8, 128, 9, other_8 + 128, 128));
+    else if (kind == CFL && is_deep)
+        DEEP(av1_predict_cfl_16(plane_16, all, SIDE, at, at, block, other_16, 128, other_16 + 128, 128, first, 64 * 64, 3));
+    else if (kind == CFL)
+        DEEP(av1_predict_cfl_8(plane_8, all, SIDE, at, at, block, other_8, 128, other_8 + 128, 128, first, 64 * 64, 3));
+    else if (is_deep)
+        DEEP(av1_intra_edge_16(other_16, AV1_EDGE_SAMPLES, plane_16, all, &plane, &edge));
+    else
+        DEEP(av1_intra_edge_8(other_8, AV1_EDGE_SAMPLES, plane_8, all, &plane, &edge));
+    return (uint32_t)deepest;
+}
+
+static void intra(enum intra kind, int is_deep, const char *name) {
+    size_t deepest = 0;
+    for (uint8_t size = 0; size < 19; size++)
+        for (uint8_t mode = 0; mode < 13; mode++)
+            for (int8_t step = -3; step <= 3; step += 3) {
+                if (step != 0 && (mode < 1 || mode > 8 || kind == CFL)) continue;
+                for (uint8_t sides = 0; sides < 8; sides++) {
+                    av1_intra_block block = {mode, size, step, is_deep ? 10 : 8, sides & 1, sides >> 1 & 1, sides >> 2, 1, 100, 100};
+                    size_t bytes = predict(kind, is_deep, &block);
+                    deepest = bytes > deepest ? bytes : deepest;
+                }
+            }
+    tell(name, deepest);
+}
+
+static void luma(int is_deep) {
+    static const uint8_t sizes[] = {0, 1, 2, 3, 4, 5, 6, 7, 8, 9, 16, 17, 18, 19};
+    size_t deepest = 0, all = SIDE * SIDE;
+    for (unsigned i = 0; i < sizeof sizes; i++)
+        for (uint8_t sampling = 0; sampling < 3; sampling++) {
+            av1_cfl_block block = {sizes[i], sampling > 0, sampling > 1, 0, 0};
+            if (is_deep)
+                DEEP(av1_cfl_ac_16(first, 32 * 32, plane_16, all, SIDE, 0, 0, &block, 10));
+            else
+                DEEP(av1_cfl_ac_8(first, 32 * 32, plane_8, all, SIDE, 0, 0, &block));
+        }
+    tell(is_deep ? "av1_cfl_ac_16" : "av1_cfl_ac_8", deepest);
+}
+
+static void whole(const uint8_t *plan, size_t len) {
+    static uint8_t room[MOST];
+    size_t wanted, written, deepest = 0;
+    av1_refusal refusal;
+    DEEP(av1_planes_len(plan, len, &wanted, &refusal));
+    tell("av1_planes_len", deepest);
+    deepest = 0;
+    DEEP(av1_reconstruct_plan(plan, len, room, sizeof room, &written, &refusal));
+    tell("av1_reconstruct_plan", deepest);
+    paint_below();
+    CHECK(av1_c_version() == AV1_C_VERSION);
+    tell("av1_c_version", taken());
+}
+
+static void builder(void) {
+    static uint8_t room[MOST];
+    static const av1_plan_header header = {.width = 8, .height = 8, .version = 1, .depth = 8, .sampling = 2, .mask = 1};
+    static const av1_leaf leaf = {.chroma = 1};
+    static const av1_coefficient lifted = {.value = 100};
+    av1_builder builder;
+    size_t deepest = 0, len;
+    DEEP(av1_builder_begin(&header, &builder, room, MOST));
+    tell("av1_builder_begin", deepest);
+    deepest = 0;
+    DEEP(av1_builder_reference(&builder, room, MOST, plane_16, 64, plane_16, 64, plane_16, 64));
+    tell("av1_builder_reference", deepest);
+    deepest = 0;
+    DEEP(av1_builder_mark(&builder, room, MOST, 0));
+    tell("av1_builder_mark", deepest);
+    deepest = 0;
+    DEEP(av1_builder_leaf(&builder, room, MOST, &leaf, &lifted, 1, NULL, 0, NULL, 0));
+    tell("av1_builder_leaf", deepest);
+    deepest = 0;
+    DEEP(av1_builder_finish(&builder, room, MOST, &len));
+    tell("av1_builder_finish", deepest);
+}
+
+int main(int count, char **words) {
+    static uint8_t plan[MOST];
+    CHECK(count == 2);
+    FILE *file = fopen(words[1], "rb");
+    CHECK(file);
+    size_t len = fread(plan, 1, sizeof plan, file);
+    fclose(file);
+    fill();
+    whole(plan, len);
+    builder();
+    for (int is_deep = 0; is_deep < 2; is_deep++) {
+        transforms(is_deep);
+        averages(is_deep);
+        luma(is_deep);
+        intra(INTRA, is_deep, is_deep ? "av1_predict_intra_16" : "av1_predict_intra_8");
+        intra(CFL, is_deep, is_deep ? "av1_predict_cfl_16" : "av1_predict_cfl_8");
+        intra(EDGE, is_deep, is_deep ? "av1_intra_edge_16" : "av1_intra_edge_8");
+    }
+    motion(PUT_8, "av1_put_8tap_8");
+    motion(PUT_16, "av1_put_8tap_16");
+    motion(PREP_8, "av1_prep_8tap_8");
+    motion(PREP_16, "av1_prep_8tap_16");
+    return 0;
+}

@@ -1,0 +1,15 @@
+#!/bin/sh
+# Makes the shared library of an archive in a folder, with the links that programs and linkers look for. It shows the calls and no other name.
+#   bindings/shared.sh ARCHIVE FOLDER
+set -eu
+c=$(cd "$(dirname "$0")/c" && pwd)
+# number PART: of the version
+number() {
+    sed -n "s/^#define AV1_C_VERSION_$1 //p" "$c/av1_c.h"
+}
+name=libav1_c.so.$(number MAJOR).$(number MINOR)
+file=$name.$(number PATCH)
+gcc -shared -s -o "$2/$file" -Wl,--whole-archive "$1" -Wl,--no-whole-archive -Wl,-soname,"$name" -Wl,--version-script="$c/av1_c.map" \
+    -Wl,-z,defs -Wl,-z,relro -Wl,-z,now -Wl,-z,noexecstack
+ln -sf "$file" "$2/$name"
+ln -sf "$name" "$2/libav1_c.so"

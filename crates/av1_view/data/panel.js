@@ -1,0 +1,107 @@
+// ---- The panel.
+
+function row(...texts) {
+  const line = document.createElement('tr');
+  texts.forEach((text, i) => {
+    const cell = document.createElement(i === 0 ? 'th' : 'td');
+    cell.textContent = text;
+    line.append(cell);
+  });
+  return line;
+}
+
+// What is known of the whole frame.
+function showFrame() {
+  const parts = [frame.width + 'x' + frame.height, frame.depth + ' bits', SAMPLINGS[frame.sampling], leaves.length + ' leaves', 'version ' + frame.version,
+    FILTERS[frame.filter] + ' filter', 'edge filter ' + (frame.edgeFilter ? 'on' : 'off'), 'slots ' + frame.slots.join(' ')];
+  element('frame').textContent = parts.join(', ');
+  if (departures.size > 0) {
+    element('departing').hidden = false;
+    element('departing').textContent = departures.size + (departures.size === 1 ? ' leaf departs' : ' leaves depart')
+      + ' from AV1: a search for departs finds them.';
+  }
+  if (!given) return;
+  element('differences').hidden = false;
+  element('differences').textContent = differences.count === 0 ? 'The given samples are those of the plan.'
+    : differences.count + ' given samples differ, in ' + differences.ofLeaf.size + ' leaves, by ' + differences.most + ' at most.';
+}
+
+// Numbers with a sign are drawn round grey: what is drawn as black and as white.
+function showGain() {
+  const { source, component } = state;
+  element('gains').hidden = !source.signed;
+  if (!source.signed) return;
+  const white = whiteOf(frame, gainHere());
+  const number = (value) => String(Math.round(10 * value) / 10);
+  element('darkest').textContent = '-' + number(white);
+  element('lightest').textContent = '+' + number(white);
+  element('strength').textContent = 'gain ' + number(gainHere()) + ', greatest ' + greatestOf(frame, source, component);
+}
+
+// The values of the sample at the cursor: of a slot only while it is shown.
+function sampleRows() {
+  const at = (s, p) => valueAt(frame, s, p, state.x >> frame.xdecs[p], state.y >> frame.ydecs[p]);
+  return sources.filter((s) => s.slot < 0 || s === state.source).map((s) => row(s.name, ...PLANES.map((name, p) => at(s, p))));
+}
+
+// All that is said of the leaf and the sample at the cursor.
+function showPlace() {
+  const l = leafHere();
+  element('place').textContent = 'leaf ' + l.number + ', sample at column ' + state.x + ', row ' + state.y;
+  element('locked').textContent = state.locked ? 'Locked: Esc lets go.' : 'A click locks it.';
+  element('samples').replaceChildren(row('', ...PLANES), ...sampleRows());
+  const found = (differences.ofLeaf.get(l.number) || []).map((d) =>
+    [PLANES[d.plane] + ' differs', 'row ' + d.row + ', column ' + d.column + ', given ' + d.given + ', defined ' + d.defined]);
+  if (departures.has(l.number)) found.push(['departs from AV1', departures.get(l.number)]);
+  element('fields').replaceChildren(...fieldsOf(frame, l).concat(found).map((f) => row(...f)));
+  element('triples').textContent = triplesText(plan, l);
+  showSource();
+}
+
+// ---- Classes of leaves.
+
+const classLists = new Map();
+
+function classesHere() {
+  const { property } = state;
+  if (!classLists.has(property.id)) classLists.set(property.id, classesOf(frame, leaves, property));
+  return classLists.get(property.id);
+}
+
+// The classes of the property that is chosen, with their colours in the map, how many leaves are in each, and how much of the frame.
+function showClasses() {
+  const all = frame.width * frame.height;
+  const greatest = Math.max(...classesHere().map((c) => c.area));
+  element('histogram').replaceChildren(row('', 'leaves', 'area'), ...classesHere().map((c) => {
+    const line = row('', c.count, (100 * c.area / all).toFixed(1) + '%');
+    const button = document.createElement('button');
+    const colour = document.createElement('i');
+    colour.className = 'class';
+    colour.style.background = styleOf(c.colour);
+    button.append(colour, ' ', c.name);
+    button.setAttribute('aria-pressed', state.chosen === c.number);
+    button.dataset.number = c.number;
+    button.addEventListener('click', () => chooseClass(c.number));
+    line.firstChild.append(button);
+    const bar = document.createElement('i');
+    bar.className = 'bar';
+    bar.style.width = 60 * c.area / greatest + 'px';
+    line.lastChild.append(bar);
+    return line;
+  }));
+}
+
+// Leaves of one class alone are listed, until it is chosen again.
+function chooseClass(number) {
+  state.chosen = state.chosen === number ? null : number;
+  for (const button of element('histogram').querySelectorAll('button')) button.setAttribute('aria-pressed', Number(button.dataset.number) === state.chosen);
+  findLeaves();
+}
+
+function setProperty(id) {
+  state.property = PROPERTIES.find((p) => p.id === id);
+  state.chosen = null;
+  element('property').value = id;
+  showClasses();
+  findLeaves();
+}

@@ -1,0 +1,84 @@
+// ---- Samples.
+
+const IS_LITTLE = new Uint8Array(new Uint16Array([1]).buffer)[0] === 1;
+
+// The samples of bytes of planes.
+function samplesOf(frame, bytes) {
+  if (frame.sampleBytes === 1) return bytes;
+  if (IS_LITTLE && bytes.byteOffset % 2 === 0) return new Uint16Array(bytes.buffer, bytes.byteOffset, frame.samples);
+  const samples = new Uint16Array(frame.samples);
+  for (let i = 0; i < samples.length; i++) samples[i] = bytes[2 * i] | bytes[2 * i + 1] << 8;
+  return samples;
+}
+
+// The residue of bytes of planes, two bytes a sample, with its sign.
+function residueOf(frame, bytes) {
+  const view = new DataView(bytes.buffer, bytes.byteOffset, bytes.byteLength);
+  return Int16Array.from({ length: frame.samples }, (none, i) => view.getInt16(2 * i, true));
+}
+
+// The planes that the page holds. It may lack those of the predictions, of the residue, and those that a trace gives.
+function heldPlanes(frame) {
+  const read = (id, reader) => { const bytes = bytesOf(id); return bytes.length ? reader(frame, bytes) : null; };
+  return {
+    planes: read('planes-bytes', samplesOf), bare: read('bare-bytes', samplesOf), given: read('given-bytes', samplesOf),
+    predictions: read('predictions-bytes', samplesOf), residue: read('residue-bytes', residueOf),
+  };
+}
+
+// The samples of a slot, whose planes stand in the plan.
+function slotSamples(plan, slot) {
+  return samplesOf(plan.frame, plan.bytes.subarray(plan.slotStarts[slot], plan.slotStarts[slot + 1]));
+}
+
+// What can be shown: samples, or numbers with a sign, which are drawn round grey. `less` is taken from `of`, where there is one.
+function sourcesOf(plan, held) {
+  const source = (name, title, of, less = null, signed = less !== null) => ({ name, title, of, less, signed, slot: -1, greatest: new Map() });
+  const sources = [source('reconstruction', 'what the plan comes to', held.planes)];
+  if (held.predictions) sources.push(source('prediction', 'what each block is predicted as', held.predictions));
+  if (held.residue) sources.push(source('residue', 'what is added to the prediction', held.residue, null, true));
+  sources.push(source('frame without coefficients', 'what the plan comes to without any coefficient', held.bare));
+  sources.push(source('changed by coefficients', 'the reconstruction less the frame without coefficients', held.planes, held.bare));
+  if (held.given) {
+    sources.push(source('given', 'what another encoder left', held.given));
+    sources.push(source('given - defined', 'the given samples less the reconstruction', held.given, held.planes));
+  }
+  for (let slot = 0; slot < 8; slot++) {
+    if (!(plan.frame.mask >> slot & 1)) continue;
+    const names = REFERENCES.filter((name, i) => i > 0 && plan.frame.slots[i - 1] === slot);
+    sources.push({ ...source('slot ' + slot, 'reference planes, of ' + (names.join(', ') || 'no reference'), slotSamples(plan, slot)), slot });
+  }
+  return sources;
+}
+
+function valueAt(frame, source, p, x, y) {
+  const i = frame.starts[p] + y * frame.widths[p] + x;
+  return source.of[i] - (source.less ? source.less[i] : 0);
+}
+
+// ---- Gains.
+
+const GAINS = ['automatic', 1, 2, 4, 8, 16, 32, 64];
+
+// The greatest magnitude of a source in a component, in all planes for RGB.
+function greatestOf(frame, source, component) {
+  if (source.greatest.has(component)) return source.greatest.get(component);
+  const p = PLANES.indexOf(component);
+  const from = p < 0 ? 0 : frame.starts[p];
+  const end = p < 0 ? frame.samples : from + frame.widths[p] * frame.heights[p];
+  const { of, less } = source;
+  let greatest = 0;
+  for (let i = from; i < end; i++) greatest = Math.max(greatest, Math.abs(less ? of[i] - less[i] : of[i]));
+  source.greatest.set(component, greatest);
+  return greatest;
+}
+
+// By how much numbers with a sign are drawn stronger than samples: at 1 as many levels of grey as samples of that size have. The automatic
+// gain draws the greatest magnitude as black or as white.
+function gainOf(frame, source, component, gain) {
+  if (gain !== 'automatic') return gain;
+  return 127 * (1 << (frame.depth - 8)) / Math.max(greatestOf(frame, source, component), 1);
+}
+
+// The number that is drawn as white, whose opposite is drawn as black.
+const whiteOf = (frame, gain) => 127 * (1 << (frame.depth - 8)) / gain;

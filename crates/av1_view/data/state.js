@@ -1,0 +1,46 @@
+// ---- What is shown.
+
+// Layers in the order of their switches. `single` are drawn leaf by leaf, from so near that each has room.
+const LAYERS = [
+  { id: 'superblocks', key: '1', name: 'superblocks', colour: '#f0e442', on: true },
+  { id: 'leaves', key: '2', name: 'leaves', colour: '#ffffff', on: true },
+  { id: 'transforms', key: '3', name: 'transforms', colour: '#56b4e9', on: false },
+  { id: 'modes', key: '4', name: 'modes', colour: '#e69f00', on: true, single: true },
+  { id: 'chroma', key: '5', name: 'chroma modes', colour: '#cc79a7', on: false, single: true },
+  { id: 'vectors', key: '6', name: 'vectors', colour: '#00d69b', on: true, single: true },
+  { id: 'coefficients', key: '7', name: 'coefficients', colour: '#d0e8ff', on: false, single: true },
+  { id: 'values', key: '8', name: 'sample values', colour: '#ffffff', on: true, single: true },
+  { id: 'differences', key: '9', name: 'differences', colour: '#ff5a00', on: true },
+  { id: 'departures', key: 'x', name: 'departs from AV1', colour: '#ff3b5c', on: true },
+  { id: 'map', key: 'm', name: 'map of leaves', colour: '#b59cff', on: false },
+  { id: 'source', key: 'b', name: 'source of the block', colour: '#00d69b', on: false },
+];
+
+const element = (id) => document.getElementById(id);
+const canvas = element('picture');
+const plan = readPlan(bytesOf('plan-bytes'));
+const { frame, leaves } = plan;
+const cells = cellsOf(plan);
+const held = heldPlanes(frame);
+const { planes, given } = held;
+const sources = sourcesOf(plan, held);
+const differences = given ? differencesOf(plan, planes, given) : NO_DIFFERENCES;
+const departures = departuresOf(plan);
+
+// Layers that have something to show in this page.
+const hasVectors = leaves.some((leaf) => leaf.motions);
+const HAS_LAYER = { vectors: hasVectors, source: hasVectors, differences: given !== null, departures: departures.size > 0 };
+const LAYERS_HERE = LAYERS.filter((layer) => HAS_LAYER[layer.id] !== false);
+const layers = Object.fromEntries(LAYERS.map((layer) => [layer.id, layer.on && HAS_LAYER[layer.id] !== false]));
+
+// Lengths are of CSS pixels, of which each has `scale` of the device's on a side. `left` and `top` are the luma place at the corner.
+const state = {
+  source: sources[0], component: 'RGB', matrix: MATRICES[0], gain: 'automatic', zoom: 1, left: 0, top: 0, width: 1, height: 1, scale: 1, ground: '',
+  x: 0, y: 0, locked: false, property: PROPERTIES[0], chosen: null, words: '', found: null, difference: -1,
+};
+
+const leafAt = (x, y) => leaves[cells.leaves[(y >> 2) * cells.columns + (x >> 2)]];
+const leafHere = () => leafAt(state.x, state.y);
+const shownPlane = () => Math.max(PLANES.indexOf(state.component), 0);
+const gainHere = () => gainOf(frame, state.source, state.component, state.gain);
+const colourOf = (id) => LAYERS.find((layer) => layer.id === id).colour;

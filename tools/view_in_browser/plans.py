@@ -1,0 +1,155 @@
+"""A second reader of plans, and plans to look at."""
+import random
+import struct
+
+SIZES = [(4, 4), (8, 8), (16, 16), (32, 32), (64, 64), (4, 8), (8, 4), (8, 16), (16, 8), (16, 32), (32, 16), (32, 64), (64, 32), (4, 16), (16, 4),
+         (8, 32), (32, 8), (16, 64), (64, 16)]
+
+
+class Plan:
+    """What a plan says: its frame, the planes of its slots, and its leaves as lists of number, column, row, sides, mode, step, chroma mode,
+    weights, vectors, sides of luma transforms and triples."""
+
+    def __init__(self, data):
+        self.data, self.leaves, self.types = data, [], []
+        self.width, self.height, self.depth, self.sampling = struct.unpack_from("<HHBB", data, 4)
+        self.mask = data[19]
+        halved = self.sampling < 2, self.sampling == 0
+        self.sides = [(self.width, self.height)] + 2 * [(self.width >> halved[0], self.height >> halved[1])]
+        self.bytes = 1 if self.depth == 8 else 2
+        self.halved = halved
+        length, self.at, self.slots = self.bytes * sum(w * h for w, h in self.sides), 20, {}
+        for slot in range(8):
+            if self.mask >> slot & 1:
+                self.slots[slot] = self.samples(data[self.at:self.at + length])
+                self.at += length
+        for y in range(0, self.height, 64):
+            for x in range(0, self.width, 64):
+                self.node(x, y, 64)
+
+    def take(self, form):
+        values = struct.unpack_from("<" + form, self.data, self.at)
+        self.at += struct.calcsize("<" + form)
+        return values if len(values) > 1 else values[0]
+
+    def node(self, x, y, side):
+        if x >= self.width or y >= self.height:
+            return
+        mark, half, quarter = self.take("B"), side // 2, side // 4
+        cuts = {0: [(0, 0, side, side)], 1: [(0, 0, side, half), (0, half, side, half)], 2: [(0, 0, half, side), (half, 0, half, side)],
+                8: [(0, i * quarter, side, quarter) for i in range(4)], 9: [(i * quarter, 0, quarter, side) for i in range(4)]}
+        if mark == 3:
+            for dx, dy in ((0, 0), (half, 0), (0, half), (half, half)):
+                if side == 8:
+                    self.leaf(x + dx, y + dy, 4, 4)
+                else:
+                    self.node(x + dx, y + dy, half)
+            return
+        for dx, dy, w, h in cuts[mark]:
+            self.leaf(x + dx, y + dy, w, h)
+
+    def triples(self):
+        return [list(self.take("BHi")) for _ in range(self.take("H"))]
+
+    def leaf(self, x, y, w, h):
+        if x >= self.width or y >= self.height:
+            return
+        carried = not (self.halved[0] and w == 4 and x // 4 % 2 == 0) and not (self.halved[1] and h == 4 and y // 4 % 2 == 0)
+        mode, step, chroma, weights, vectors = self.take("B"), 0, -1, None, []
+        if mode < 14:
+            step = self.take("b")
+            if carried:
+                chroma = self.take("B")
+                weights = list(self.take("bb")) if chroma == 13 else None
+                if weights is None:
+                    self.take("b")
+        else:
+            vectors = [list(self.take("Bhh")) for _ in range(1 if mode < 20 else 2)]
+        size = self.take("B")
+        types = self.take("BB") if carried else (self.take("B"),)
+        triples = [self.triples() for _ in range(3 if carried else 1)]
+        self.leaves.append([len(self.leaves), x, y, w, h, mode, step, chroma, weights, vectors, list(SIZES[size]), triples])
+        self.types.append(types[0])
+
+    def samples(self, planes):
+        """The samples of bytes of planes, plane by plane."""
+        values = planes if self.bytes == 1 else struct.unpack(f"<{len(planes) // 2}H", planes)
+        result, at = [], 0
+        for w, h in self.sides:
+            result.append(values[at:at + w * h])
+            at += w * h
+        return result
+
+    def luma(self, leaf):
+        """How many luma samples of the frame lie in a leaf."""
+        x, y, w, h = leaf[1:5]
+        return (min(x + w, self.width) - x) * (min(y + h, self.height) - y)
+
+    def leaf_at(self, x, y):
+        return next(leaf for leaf in self.leaves if leaf[1] <= x < leaf[1] + leaf[3] and leaf[2] <= y < leaf[2] + leaf[4])
+
+
+# ---- plans to look at
+
+
+def stripes():
+    """A plan of version 2 at depth 8 in 4:2:0: stripes both ways, and a leaf whose chroma is predicted from luma."""
+    header = b"RPL2" + struct.pack("<HHBBBB", 64, 64, 8, 0, 0, 1) + bytes(8)
+    plain = bytes([0, 0, 0, 0]) + bytes([0, 0, 0]) + struct.pack("<HBHi", 1, 0, 0, 800) + bytes(4)
+    smooth = bytes([9, 0, 13, 5, 256 - 7]) + bytes([1, 0, 0]) + struct.pack("<HBHiBHi", 2, 0, 1, -300, 3, 0, 500) + bytes(4)
+    slanted = bytes([3, 2, 12, 0]) + bytes([0, 0, 0]) + bytes(6)
+    return header + bytes([3, 8]) + 4 * plain + bytes([9]) + 4 * slanted + bytes([0]) + smooth + bytes([1]) + 2 * slanted
+
+
+def great(side):
+    """A plan of leaves of 8x8 at depth 8 in 4:2:0 with modes of every kind."""
+    draw = random.Random(7)
+    out = [b"RPL1" + struct.pack("<HHBBBB", side, side, 8, 0, 0, 0) + bytes(8)]
+
+    def leaf():
+        mode = draw.randrange(13)
+        step = draw.randrange(-3, 4) if 1 <= mode <= 8 else 0
+        count = draw.randrange(3)
+        return (bytes([0, mode, step % 256, draw.choice((0, 9, 12)), 0, 1, 0, 0]) + struct.pack("<H", count)
+                + b"".join(struct.pack("<BHi", 0, i, draw.randrange(-250, 250)) for i in range(count)) + bytes(4))
+
+    def node(size):
+        out.append(b"\3")
+        for _ in range(4):
+            if size == 16:
+                out.append(leaf())
+            else:
+                node(size // 2)
+
+    for _ in range((side // 64) ** 2):
+        node(64)
+    return b"".join(out)
+
+
+def trace_of(plan, planes, changes):
+    """A trace of a plan and its planes, of which some bytes are changed."""
+    given = bytearray(planes)
+    for at, value in changes:
+        given[at] = value
+    return b"RTR1" + struct.pack("<I", len(plan)) + plan + bytes(given)
+
+
+def differing_everywhere(plan, planes):
+    """A trace of a plan of depth 8 of which each sample differs by 1 to 5."""
+    given = bytes((value + 1 + place % 5) % 256 for place, value in enumerate(planes))
+    return b"RTR1" + struct.pack("<I", len(plan)) + plan + given
+
+
+
+def sharp(filter_number=2, column=8):
+    """One leaf of 8x8 in 4:2:0 from a reference whose U has a stripe, by this filter and a vector of so many eighths to the right."""
+    stripe = bytes([0, 128, 0, 0])
+    header = b"RPL1" + struct.pack("<HHBBBB", 8, 8, 8, 0, filter_number, 0) + bytes(7) + b"\1"
+    return header + bytes([128]) * 64 + 4 * stripe + bytes([128]) * 16 + bytes([3, 3, 3, 0, 19, 1]) + struct.pack("<hh", 0, column) + bytes([1]) + bytes(8)
+
+
+def identity(value, kind=9, side=4):
+    """At depth 12 in 4:4:4 leaves of this side, the first of them with one coefficient and a transform of this type."""
+    header = b"RPL1" + struct.pack("<HHBBBB", *2 * [max(side, 8)], 12, 2, 0, 0) + bytes(8)
+    leaf = bytes([0, 0, 0, 0]) + bytes([0 if side == 4 else 2, kind, 0]) + struct.pack("<HBHi", 1, 0, 0, value) + bytes(4)
+    return header + (bytes([3, 3, 3, 3]) + leaf + 3 * bytes(13) if side == 4 else bytes([3, 3, 0]) + leaf)
