@@ -72,8 +72,8 @@ all-fit b w xs h all = λ i.
     ]
 
 -- one more number of a list whose first i fit
-pub fits_more : (b : ℕ) (xs : List ℤ) (i k : ℕ) (x d : ℤ) → i < length xs → ((j : ℕ) (e : ℤ) → j < i → FitsBits b (get_or xs j e)) → FitsBits b x →
-    k < i + 1 → FitsBits b (get_or (set xs i x) k d)
+pub fits_more : (b : ℕ) (xs : List ℤ) (i k : ℕ) (x d : ℤ) → i < length xs → ((j : ℕ) (e : ℤ) → j < i → FitsBits b (get_or xs j e)) → FitsBits b x → k < i + 1 →
+    FitsBits b (get_or (set xs i x) k d)
 fits_more b xs i k x d h below here lt =
     let P : ℤ → Type 0 = λ z. FitsBits b z in
     elim (cases_lt k i) [

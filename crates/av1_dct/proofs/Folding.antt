@@ -19,8 +19,8 @@ high_half range k x ys i e is =
     ∙ ap (at ys) (let z : e - m ≡ i = omega arith in z))
 
 pub sums : (range k i : ℕ) (x : List ℤ) → i < 2 ^ suc k →
-    at (cosine range (suc k) x) i ≡
-    clamp_value (at (cosine range k (evens (2 ^ suc k) x)) i +ℤ at (odd_half range k (odds (2 ^ suc k) x)) (2 ^ suc k - 1 - i)) range
+    at (cosine range (suc k) x) i ≡ clamp_value (at (cosine range k (evens (2 ^ suc k) x)) i +ℤ at (odd_half range k (odds (2 ^ suc k) x)) (2 ^ suc k - 1 - i))
+    range
 unfolding cosine_with
 sums range k i x h =
     let m = 2 ^ suc k in

@@ -1,13 +1,13 @@
 -- What one turn of the fused steps does, and that the turns together do the whole step. All of it is computed, for each length.
-use Rattle.std.proofs.Common.{refl, arith, zero, suc, ℕ, ◌≡◌, ◌<◌, ◌≤◌, ◌+◌, ◌-◌, ◌*◌, ◌/◌, ◌%◌, ◌==◌, ◌^◌, false, min, ◌++◌, nat_lt, if◌then◌else◌, neg_ℤ}
-use Rattle.std.proofs.Common.{ℤ, pos, List, [], ◌∷◌, length}
+use Rattle.std.proofs.Common.{refl, arith, zero, suc, ℕ, ◌≡◌, ◌<◌, ◌≤◌, ◌+◌, ◌-◌, ◌*◌, ◌/◌, ◌%◌, ◌==◌, ◌^◌, false, min, ◌++◌, nat_lt, if◌then◌else◌, neg_ℤ, ℤ}
+use Rattle.std.proofs.Common.{pos, List, [], ◌∷◌, length}
 use Rattle.std.proofs.lemmas.Bool.Decides.{nat_tests}
 use Rattle.std.proofs.lemmas.List.FromFn.{fill_by_all}
 use Rattle.av1_lists.specs.Lists.{by_index}
 use Rattle.av1_dct.specs.Arithmetic.{at}
 use Rattle.av1_dct.specs.Operations.{half_btf}
-use Rattle.av1_dct.specs.Cosine.{brev, cos128, group_sum, group_sum_with, mirror_sum, mirror_sum_with, outer_turn, outer_turn_with, inner_turn}
-use Rattle.av1_dct.specs.Cosine.{inner_turn_with, rounds, rounds_with}
+use Rattle.av1_dct.specs.Cosine.{brev, cos128, group_sum, group_sum_with, mirror_sum, mirror_sum_with, outer_turn, outer_turn_with, inner_turn, inner_turn_with}
+use Rattle.av1_dct.specs.Cosine.{rounds, rounds_with}
 use Rattle.av1_dct.specs.InPlace.{network, paired, sums, begun, begun_at, begin_all, rounded, rounded_at, round_all, ended, ended_at, end_all}
 
 -- step 1 and the sums at pair n and its mirror image

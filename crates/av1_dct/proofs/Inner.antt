@@ -1,6 +1,6 @@
 -- Step 3 of the cosine transform, at one place: which of the four rotations it is.
-use Rattle.std.proofs.Common.{ℕ, true, ◌≡◌, ◌+◌, ◌-◌, ◌*◌, ◌/◌, ◌%◌, ◌^◌, ◌<◌, ◌≤◌, ◌||◌, nat_lt, nat_le, min, ℤ, List, arith, ap, sym, ◌∙◌, inl, inr}
-use Rattle.std.proofs.Common.{get_or, pow-add}
+use Rattle.std.proofs.Common.{ℕ, true, ◌≡◌, ◌+◌, ◌-◌, ◌*◌, ◌/◌, ◌%◌, ◌^◌, ◌<◌, ◌≤◌, ◌||◌, nat_lt, nat_le, min, ℤ, List, arith, ap, sym, ◌∙◌, inl, inr, get_or}
+use Rattle.std.proofs.Common.{pow-add}
 use Rattle.std.proofs.lemmas.Bool.Decides.{nat_tests}
 use Rattle.std.proofs.lemmas.Bool.{cases_lt}
 use Rattle.std.proofs.lemmas.Nat.{shl-shr, pow_pos}
@@ -22,8 +22,8 @@ inner-same k j v p r i hp hr t = grind (arith, nat_tests)
 -- the unit of an angle of step 3: u = 2^(7 - (k - j)), and 4u * 2^(k - j - 3) = 64
 unit_is : (k j : ℕ) → j + 2 ≤ k → k ≤ 5 → (128 / 2 ^ (k - j) ≡ 2 ^ (7 + j - k)) × (128 * 2 ^ j / 2 ^ k ≡ 2 ^ (7 + j - k))
 unit_is k j hj hk =
-    let whole : 2 ^ (7 + j - k) * 2 ^ (k - j) ≡ 128 = sym (pow-add 2 (7 + j - k) (k - j))
-    ∙ ap (λ n. 2 ^ n) (let e : 7 + j - k + (k - j) ≡ 7 = omega arith in e) in
+    let whole : 2 ^ (7 + j - k) * 2 ^ (k - j) ≡ 128 = sym (pow-add 2 (7 + j - k) (k - j)) ∙ ap (λ n. 2 ^ n) (let e : 7 + j - k + (k - j) ≡ 7 = omega arith in e)
+    in
     let more : 128 * 2 ^ j ≡ 2 ^ (7 + j - k) * 2 ^ k = sym (pow-add 2 7 j) ∙ ap (λ n. 2 ^ n) (let e : 7 + j ≡ 7 + j - k + k = omega arith in e)
     ∙ pow-add 2 (7 + j - k) k in
     (ap (λ n. n / 2 ^ (k - j)) (sym whole) ∙ shl-shr (2 ^ (7 + j - k)) (k - j), ap (λ n. n / 2 ^ k) more ∙ shl-shr (2 ^ (7 + j - k)) k)

@@ -1,6 +1,6 @@
 -- Operations on vectors of n words, lane by lane.
-use Rattle.std.proofs.Common.{ℕ, Bool, true, false, cond, leb, ltb, ◌&&◌, inl, inr, subst, neg_ℤ, ◌≡◌, ◌+◌, ◌-◌, ◌*◌, ◌%◌, ◌^◌, ◌<◌, ℤ, pos, ◌+ℤ◌, ◌-ℤ◌}
-use Rattle.std.proofs.Common.{◌*ℤ◌, List, map, replicate, length, get_or, arith, ◌∙◌, ap, refl, set, sym, w32, to_z, of_z, FitsSigned}
+use Rattle.std.proofs.Common.{ℕ, Bool, true, false, cond, leb, ltb, ◌&&◌, inl, inr, subst, neg_ℤ, ◌≡◌, ◌+◌, ◌-◌, ◌*◌, ◌%◌, ◌^◌, ◌<◌, ℤ, pos, ◌+ℤ◌, ◌-ℤ◌, ◌*ℤ◌}
+use Rattle.std.proofs.Common.{List, map, replicate, length, get_or, arith, ◌∙◌, ap, refl, set, sym, w32, to_z, of_z, FitsSigned}
 use Rattle.std.specs.Int.{int_shr, int_min, int_max}
 use Rattle.std.proofs.lemmas.Bool.{cases_lt}
 use Rattle.std.proofs.lemmas.Bool.Decides.{nat_tests}
@@ -85,8 +85,7 @@ lane_turn n w0 w1 xs ys i h f0 f1 bx by =
     lane_made _ i (omega (arith, lr)) (omega (arith, ar, of_z-lt _ (shifted _ (to_z-fits _ small))))
     ∙ ap (to_z w32) ar
     ∙ ap (λ n. to_z w32 (of_z w32 (shr_z (to_z w32 n) 4096))) at
-    ∙ ap (λ n.
-    to_z w32 (of_z w32 (shr_z (to_z w32 (((of_z w32 w0 * n % 4294967296 + of_z w32 w1 * y % 4294967296) % 4294967296 + 2048) % 4294967296)) 4096)))
+    ∙ ap (λ n. to_z w32 (of_z w32 (shr_z (to_z w32 (((of_z w32 w0 * n % 4294967296 + of_z w32 w1 * y % 4294967296) % 4294967296 + 2048) % 4294967296)) 4096)))
     (sym ex)
     ∙ ap (λ n.
     to_z w32
@@ -137,8 +136,8 @@ lane_clamp n range high low xs i h eh el fh fl bx =
     let z_hi : to_z w32 (get_or hs i 0) ≡ high = ap (to_z w32) hi ∙ to_z-of_z w32 high fh in
     let z_lo : to_z w32 (get_or ls i 0) ≡ low = ap (to_z w32) lo ∙ to_z-of_z w32 low fl in
     let z_m : to_z w32 (get_or m i 0) ≡ int_min (to_z w32 x) high =
-    ap (to_z w32) a.0 ∙ cond-to_z (t x (get_or hs i 0)) x (get_or hs i 0) ∙ ap (λ v. cond (lt_z (to_z w32 x) v) (to_z w32 x) v) z_hi
-    ∙ least (to_z w32 x) high in
+    ap (to_z w32) a.0 ∙ cond-to_z (t x (get_or hs i 0)) x (get_or hs i 0) ∙ ap (λ v. cond (lt_z (to_z w32 x) v) (to_z w32 x) v) z_hi ∙ least (to_z w32 x) high
+    in
     let z_r : to_z w32 (get_or r i 0) ≡ int_max low (int_min (to_z w32 x) high) =
     ap (to_z w32) b.0 ∙ cond-to_z (t (get_or m i 0) (get_or ls i 0)) (get_or ls i 0) (get_or m i 0)
     ∙ ap (λ v. cond (lt_z (to_z w32 (get_or m i 0)) v) v (to_z w32 (get_or m i 0))) z_lo
@@ -302,7 +301,7 @@ pub stored_sum-fits : (n : ℕ) (x y : List ℤ) (i : ℕ) → i < n → Bits n 
     → FitsSigned w32 (lane_of_vector (map (to_z w32) (map (of_z w32) x)) i +ℤ lane_of_vector (map (to_z w32) (map (of_z w32) y)) i)
 stored_sum-fits n x y i h bx by fx fy = sum_fits _ _ (stored-fits n x i h bx fx) (stored-fits n y i h by fy)
 
-pub stored_difference-fits : (n : ℕ) (x y : List ℤ) (i : ℕ) → i < n → Bits n (map (of_z w32) x) → Bits n (map (of_z w32) y) →
-    FitsBits 20 (lane_of_vector x i) → FitsBits 20 (lane_of_vector y i)
+pub stored_difference-fits : (n : ℕ) (x y : List ℤ) (i : ℕ) → i < n → Bits n (map (of_z w32) x) → Bits n (map (of_z w32) y) → FitsBits 20 (lane_of_vector x i) →
+    FitsBits 20 (lane_of_vector y i)
     → FitsSigned w32 (lane_of_vector (map (to_z w32) (map (of_z w32) x)) i -ℤ lane_of_vector (map (to_z w32) (map (of_z w32) y)) i)
 stored_difference-fits n x y i h bx by fx fy = difference_fits _ _ (stored-fits n x i h bx fx) (stored-fits n y i h by fy)

@@ -1,6 +1,6 @@
 -- Inputs of 18 bits and a range up to 18: none of a network's sums and products leaves 32 bits.
-use Rattle.std.proofs.Common.{unsigned_abs, ℕ, zero, suc, Bool, true, false, ◌≡◌, ◌+◌, ◌-◌, ◌*◌, ◌/◌, ◌^◌, ◌≤◌, ◌%◌, ◌==◌, ◌||◌, min, nat_lt, nat_le, ℤ}
-use Rattle.std.proofs.Common.{pos, neg_ℤ, ◌+ℤ◌, ◌-ℤ◌, ◌*ℤ◌, List, [], ◌∷◌, ◌++◌, arith, ap, refl, sym, ◌∙◌, inl, inr, cond, w32, FitsSigned}
+use Rattle.std.proofs.Common.{unsigned_abs, ℕ, zero, suc, Bool, true, false, ◌≡◌, ◌+◌, ◌-◌, ◌*◌, ◌/◌, ◌^◌, ◌≤◌, ◌%◌, ◌==◌, ◌||◌, min, nat_lt, nat_le, ℤ, pos}
+use Rattle.std.proofs.Common.{neg_ℤ, ◌+ℤ◌, ◌-ℤ◌, ◌*ℤ◌, List, [], ◌∷◌, ◌++◌, arith, ap, refl, sym, ◌∙◌, inl, inr, cond, w32, FitsSigned}
 use Rattle.std.specs.Int.{int_shr}
 use Rattle.std.specs.List.{All}
 use Rattle.std.proofs.lemmas.Bool.{cases_lt}

@@ -1,6 +1,6 @@
 -- Two places of a list of words that become a clamped sum and difference, lane by lane.
-use Rattle.std.proofs.Common.{refl, zero, suc, [], ◌∷◌, ◌⊎◌, inl, inr, ℕ, ◌≡◌, ◌≤◌, ◌<◌, Bool, true, false, ℤ, ◌+ℤ◌, ◌-ℤ◌, List, length, set, get_or, arith}
-use Rattle.std.proofs.Common.{ap, sym, subst, ◌∙◌}
+use Rattle.std.proofs.Common.{refl, zero, suc, [], ◌∷◌, ◌⊎◌, inl, inr, ℕ, ◌≡◌, ◌≤◌, ◌<◌, Bool, true, false, ℤ, ◌+ℤ◌, ◌-ℤ◌, List, length, set, get_or, arith, ap}
+use Rattle.std.proofs.Common.{sym, subst, ◌∙◌}
 use Rattle.std.proofs.lemmas.Int.{ints}
 use Rattle.std.proofs.lemmas.List.{map-set}
 use Rattle.av1_dct.specs.Arithmetic.{AllFit, FitsBits, at, clamp_value}

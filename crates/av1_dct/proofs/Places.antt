@@ -1,6 +1,6 @@
 -- The order of reversed places: even inputs first, then odd ones, and so on in each half.
-use Rattle.std.proofs.Common.{ℕ, zero, suc, false, ◌≡◌, ◌+◌, ◌-◌, ◌*◌, ◌/◌, ◌%◌, ◌^◌, ◌<◌, ◌≤◌, ℤ, pos, List, ◌++◌, map, take, drop, set, length, get_or}
-use Rattle.std.proofs.Common.{arith, ap, sym, subst, refl, ◌∙◌}
+use Rattle.std.proofs.Common.{ℕ, zero, suc, false, ◌≡◌, ◌+◌, ◌-◌, ◌*◌, ◌/◌, ◌%◌, ◌^◌, ◌<◌, ◌≤◌, ℤ, pos, List, ◌++◌, map, take, drop, set, length, get_or, arith}
+use Rattle.std.proofs.Common.{ap, sym, subst, refl, ◌∙◌}
 use Rattle.std.proofs.lemmas.List.{map-set, length-map, length-take, length-drop, get_or-take, get_or-drop, get_or-map, take_at, take-map}
 use Rattle.std.proofs.lemmas.List.FromFn.{fill_by_all, get_or-map-range_with_len, length-map-range_with_len}
 use Rattle.std.proofs.lemmas.List.Edits.{fill_by_more}
@@ -81,7 +81,8 @@ pub places_taken : (k : ℕ) (x : List ℤ) →
     by_index (2 * 2 ^ k) (λ p. at x (brev (suc k) p)) ≡ by_index (2 * 2 ^ k) (λ p. at (take (2 * 2 ^ k) x) (brev (suc k) p))
 places_taken k x =
     by_index-same (2 * 2 ^ k) _ _
-    (λ p h. sym (get_or-take (2 * 2 ^ k) x (brev (suc k) p) (pos 0)
+    (λ p h. sym
+    (get_or-take (2 * 2 ^ k) x (brev (suc k) p) (pos 0)
     (omega (arith, brev-lt (suc k) p (let w : p < 2 ^ suc k = omega (arith, pow-suc 2 k) in w), pow-suc 2 k))))
 
 pub places-fit : (k : ℕ) (x : List ℤ) → AllFit 20 (take (2 * 2 ^ k) x) → AllFit 20 (by_index (2 * 2 ^ k) (λ p. at x (brev (suc k) p)))

@@ -1,7 +1,7 @@
 -- Lanes of 16 bits, and the vectors of 32 bits that they are computed in.
 use Rattle.std.proofs.Common.{inl, inr, refl, ℕ, zero, suc, ◌≡◌, ◌+◌, ◌-◌, ◌*◌, ◌%◌, ◌^◌, ◌<◌, ◌≤◌, ◌++◌, ◌&&◌, leb, ltb, Bool, true, false, cond, ℤ, pos}
-use Rattle.std.proofs.Common.{neg_ℤ, ◌+ℤ◌, ◌-ℤ◌, List, [], ◌∷◌, map, replicate, take, length, get_or, arith, ap, sym, subst, ◌∙◌, w16, w32, to_z, of_z}
-use Rattle.std.proofs.Common.{Fits, FitsSigned}
+use Rattle.std.proofs.Common.{neg_ℤ, ◌+ℤ◌, ◌-ℤ◌, List, [], ◌∷◌, map, replicate, take, length, get_or, arith, ap, sym, subst, ◌∙◌, w16, w32, to_z, of_z, Fits}
+use Rattle.std.proofs.Common.{FitsSigned}
 use Rattle.std.proofs.lemmas.Bool.{cases_lt}
 use Rattle.std.proofs.lemmas.Bool.Decides.{nat_tests}
 use Rattle.std.proofs.lemmas.Int.{ints, to_z-of_z, of_z-to_z, int_wrap_fits, wrapping_add-bits, wrapping_sub-bits}
@@ -85,8 +85,7 @@ kept w v i z f e = ap (to_z w) (again w (map (of_z w) v) i) ∙ ap (λ (u : ℤ)
 
 short_turn : (w0 w1 : ℤ) (x y : ℕ) → FitsSigned w32 w0 → FitsSigned w32 w1 → Fits w16 x → Fits w16 y
     → let t =
-    to_z w32 (((of_z w32 w0 * of_z w32 (to_z w16 x) % 4294967296 + of_z w32 w1 * of_z w32 (to_z w16 y) % 4294967296) % 4294967296 + 2048) % 4294967296)
-    in
+    to_z w32 (((of_z w32 w0 * of_z w32 (to_z w16 x) % 4294967296 + of_z w32 w1 * of_z w32 (to_z w16 y) % 4294967296) % 4294967296 + 2048) % 4294967296) in
     to_z w32 (of_z w32 (to_z w32 (of_z w32 (shr_z t 4096)))) ≡ half_btf w0 (to_z w16 x) w1 (to_z w16 y)
 short_turn w0 w1 x y f0 f1 fx fy =
     let n = ((of_z w32 w0 * of_z w32 (to_z w16 x) % 4294967296 + of_z w32 w1 * of_z w32 (to_z w16 y) % 4294967296) % 4294967296 + 2048) % 4294967296 in
@@ -119,8 +118,8 @@ lane_weighed w0 w1 zs f0 f1 b =
     let turned =
     below 4 (λ i.
     let t = to_z w32
-    (((of_z w32 w0 * of_z w32 (to_z w16 (z (2 * i))) % 4294967296 + of_z w32 w1 * of_z w32 (to_z w16 (z (2 * i + 1))) % 4294967296) % 4294967296 +
-    2048) % 4294967296) in
+    (((of_z w32 w0 * of_z w32 (to_z w16 (z (2 * i))) % 4294967296 + of_z w32 w1 * of_z w32 (to_z w16 (z (2 * i + 1))) % 4294967296) % 4294967296 + 2048) %
+    4294967296) in
     to_z w32 (of_z w32 (to_z w32 (of_z w32 (shr_z t 4096)))) ≡ half_btf w0 (to_z w16 (z (2 * i))) w1 (to_z w16 (z (2 * i + 1))))
     (λ i h. short_turn w0 w1 (z (2 * i)) (z (2 * i + 1)) f0 f1 (word_at b (2 * i) (omega arith)) (word_at b (2 * i + 1) (omega arith))) in
     let S : List ℕ → ℕ → Type 0 =
@@ -377,13 +376,13 @@ fits_apart low high f i h = (
 -- an operation on two times four lanes, joined to eight
 pub lane_joined : (op : ℕ → ℕ → ℕ) (o : ℤ → ℤ → ℤ) → Does op o → (xl xh yl yh : List ℕ) → Words w32 4 xl → Words w32 4 xh → Words w32 4 yl → Words w32 4 yh
     → ((i : ℕ) → i < 8 → FitsBits 20 (pair_at xl xh i)) → ((i : ℕ) → i < 8 → FitsBits 20 (pair_at yl yh i))
-    → (i : ℕ) → i < 8 → lane_of_vector (map (to_z w32) (pick_l 0 (zip2 op xl yl ++ zip2 op xh yh) (0 ∷ 1 ∷ 2 ∷ 3 ∷ 4 ∷ 5 ∷ 6 ∷ 7 ∷ []))) i ≡
-    o (pair_at xl xh i) (pair_at yl yh i)
+    → (i : ℕ) → i < 8 → lane_of_vector (map (to_z w32) (pick_l 0 (zip2 op xl yl ++ zip2 op xh yh) (0 ∷ 1 ∷ 2 ∷ 3 ∷ 4 ∷ 5 ∷ 6 ∷ 7 ∷ []))) i ≡ o (pair_at xl xh i)
+    (pair_at yl yh i)
 unfolding lane_of_vector
 lane_joined op o does xl xh yl yh bxl bxh byl byh fx fy =
     let S : List ℕ → List ℕ → List ℕ → List ℕ → ℕ → Type 0 = λ us us' vs vs' i.
-    lane_of_vector (map (to_z w32) (pick_l 0 (zip2 op us vs ++ zip2 op us' vs') (0 ∷ 1 ∷ 2 ∷ 3 ∷ 4 ∷ 5 ∷ 6 ∷ 7 ∷ []))) i ≡ o (pair_at xl xh i)
-    (pair_at yl yh i) in
+    lane_of_vector (map (to_z w32) (pick_l 0 (zip2 op us vs ++ zip2 op us' vs') (0 ∷ 1 ∷ 2 ∷ 3 ∷ 4 ∷ 5 ∷ 6 ∷ 7 ∷ []))) i ≡ o (pair_at xl xh i) (pair_at yl yh i)
+    in
     let a : ℕ → ℕ = λ i. get_or xl i 0 in
     let a' : ℕ → ℕ = λ i. get_or xh i 0 in
     let b : ℕ → ℕ = λ i. get_or yl i 0 in

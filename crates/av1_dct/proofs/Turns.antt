@@ -1,8 +1,8 @@
 -- A rotation in wrapping words is a rotation that wraps once.
 use Rattle.std.proofs.Common.{arith, ◌≡◌, ◌%◌, ◌*◌, ◌+◌, ◌^◌, ◌<◌, ℤ, pos, ◌+ℤ◌, ◌*ℤ◌, w32, to_z, of_z, ap, ◌∙◌, FitsSigned}
 use Rattle.std.specs.Int.{int_wrap, int_wrapping_mul}
-use Rattle.std.proofs.lemmas.Int.{ints, to_z-of_z, SFits-int_wrap, wrapping_add-bits, wrapping_add_onto, wrapping_mul_is, int_wrap-add_left}
-use Rattle.std.proofs.lemmas.Int.{int_wrap-add_right, int_wrap-add_same}
+use Rattle.std.proofs.lemmas.Int.{ints, to_z-of_z, SFits-int_wrap, wrapping_add-bits, wrapping_add_onto, wrapping_mul_is, int_wrap-add_left, int_wrap-add_right}
+use Rattle.std.proofs.lemmas.Int.{int_wrap-add_same}
 use Rattle.std.specs.Int.Signed.{shr_z, mag_shr}
 use Rattle.av1_dct.specs.Arithmetic.{round12, wrap32}
 use Rattle.av1_dct.specs.Operations.{half_btf, half_btf_with}
@@ -28,8 +28,8 @@ shifted z h = record { sfits = omega (arith, mag_shr z 4096, h.sfits) }
 
 pub btf_is : (w0 a w1 b : ℤ) → FitsSigned w32 w0 → FitsSigned w32 a → FitsSigned w32 w1 → FitsSigned w32 b →
     to_z w32
-    (of_z w32 (shr_z (to_z w32 (((of_z w32 w0 * of_z w32 a % 4294967296 + of_z w32 w1 * of_z w32 b % 4294967296) % 4294967296 + 2048) % 4294967296)) 4096))
-    ≡ half_btf w0 a w1 b
+    (of_z w32 (shr_z (to_z w32 (((of_z w32 w0 * of_z w32 a % 4294967296 + of_z w32 w1 * of_z w32 b % 4294967296) % 4294967296 + 2048) % 4294967296)) 4096)) ≡
+    half_btf w0 a w1 b
 unfolding half_btf_with
 btf_is w0 a w1 b f0 fa f1 fb =
     let fits = SFits-int_wrap w32 (w0 *ℤ a +ℤ w1 *ℤ b +ℤ pos 2048) in

@@ -1,6 +1,6 @@
 -- The inverse cosine transform.
-use Rattle.std.specs.Prelude.{ℕ, zero, suc, ◌+◌, ◌-◌, ◌*◌, ◌^◌, ◌/◌, ◌%◌, ◌==◌, Bool, false, nat_lt, nat_le, ◌||◌}
-use Rattle.std.specs.Prelude.{min, if◌then◌else◌, ℤ, pos, neg_ℤ, List, [], ◌∷◌, ◌++◌, map, take, drop}
+use Rattle.std.specs.Prelude.{ℕ, zero, suc, ◌+◌, ◌-◌, ◌*◌, ◌^◌, ◌/◌, ◌%◌, ◌==◌, Bool, false, nat_lt, nat_le, ◌||◌, min}
+use Rattle.std.specs.Prelude.{if◌then◌else◌, ℤ, pos, neg_ℤ, List, [], ◌∷◌, ◌++◌, map, take, drop}
 use Rattle.av1_lists.specs.Lists.{by_index}
 use Rattle.av1_dct.specs.Arithmetic.{at, clamp_value}
 use Rattle.av1_dct.specs.Operations.{Operations, wrapping, half_btf_with}
@@ -12,11 +12,10 @@ use Rattle.av1_dct.specs.Operations.{Operations, wrapping, half_btf_with}
 -- 4096 times the cosine of a * pi / 128, rounded, for a from 0 to 63
 abbrev pub cos128_lookup : List ℤ
 cos128_lookup =
-    map pos (4096 ∷ 4095 ∷ 4091 ∷ 4085 ∷ 4076 ∷ 4065 ∷ 4052 ∷ 4036 ∷ 4017 ∷ 3996 ∷ 3973 ∷ 3948 ∷ 3920 ∷ 3889 ∷
-    3857 ∷ 3822 ∷ 3784 ∷ 3745 ∷ 3703 ∷ 3659 ∷ 3612 ∷ 3564 ∷ 3513 ∷ 3461 ∷ 3406 ∷ 3349 ∷ 3290 ∷ 3229 ∷ 3166 ∷
-    3102 ∷ 3035 ∷ 2967 ∷ 2896 ∷ 2824 ∷ 2751 ∷ 2675 ∷ 2598 ∷ 2520 ∷ 2440 ∷ 2359 ∷ 2276 ∷ 2191 ∷ 2106 ∷ 2019 ∷
-    1931 ∷ 1842 ∷ 1751 ∷ 1660 ∷ 1567 ∷ 1474 ∷ 1380 ∷ 1285 ∷ 1189 ∷ 1092 ∷ 995 ∷ 897 ∷ 799 ∷ 700 ∷ 601 ∷ 501 ∷
-    401 ∷ 301 ∷ 201 ∷ 101 ∷ [])
+    map pos (4096 ∷ 4095 ∷ 4091 ∷ 4085 ∷ 4076 ∷ 4065 ∷ 4052 ∷ 4036 ∷ 4017 ∷ 3996 ∷ 3973 ∷ 3948 ∷ 3920 ∷ 3889 ∷ 3857 ∷
+    3822 ∷ 3784 ∷ 3745 ∷ 3703 ∷ 3659 ∷ 3612 ∷ 3564 ∷ 3513 ∷ 3461 ∷ 3406 ∷ 3349 ∷ 3290 ∷ 3229 ∷ 3166 ∷ 3102 ∷ 3035 ∷
+    2967 ∷ 2896 ∷ 2824 ∷ 2751 ∷ 2675 ∷ 2598 ∷ 2520 ∷ 2440 ∷ 2359 ∷ 2276 ∷ 2191 ∷ 2106 ∷ 2019 ∷ 1931 ∷ 1842 ∷ 1751 ∷
+    1660 ∷ 1567 ∷ 1474 ∷ 1380 ∷ 1285 ∷ 1189 ∷ 1092 ∷ 995 ∷ 897 ∷ 799 ∷ 700 ∷ 601 ∷ 501 ∷ 401 ∷ 301 ∷ 201 ∷ 101 ∷ [])
 
 -- the weight of an angle, its cosine; its sine is the weight of 64 - a
 unfoldable pub cos128 : ℕ → ℤ
@@ -116,8 +115,8 @@ odds m x = by_index m (λ i. at x (2 * i + 1))
 -- subtracted (step 4).
 unfoldable pub cosine_with : Operations → ℕ → ℕ → List ℤ → List ℤ
 cosine_with ops range zero x =
-    half_btf_with ops (cos128 32) (at x 0) (cos128 32) (at x 1) ∷ half_btf_with ops (cos128 32) (at x 0)
-    (neg_ℤ (cos128 32)) (at x 1) ∷ []
+    half_btf_with ops (cos128 32) (at x 0) (cos128 32) (at x 1) ∷
+    half_btf_with ops (cos128 32) (at x 0) (neg_ℤ (cos128 32)) (at x 1) ∷ []
 cosine_with ops range (suc k) x =
     let m = 2 ^ suc k in
     let even = cosine_with ops range k (evens m x) in

@@ -44,13 +44,14 @@ first_sum : (x0 x1 x2 x3 : ℤ) →
     pos 1321 *ℤ x0 +ℤ pos 3344 *ℤ x1 +ℤ pos 3803 *ℤ x2 +ℤ pos 2482 *ℤ x3
 first_sum x0 x1 x2 x3 = omega (arith, ints)
 
-second_sum : (x0 x1 x2 x3 : ℤ) → pos 0 +ℤ pos 2482 *ℤ x0 +ℤ negsuc 1320 *ℤ x2 +ℤ negsuc 3802 *ℤ x3 +ℤ pos 1 *ℤ (pos 0 +ℤ pos 3344 *ℤ x1) ≡
+second_sum : (x0 x1 x2 x3 : ℤ) →
+    pos 0 +ℤ pos 2482 *ℤ x0 +ℤ negsuc 1320 *ℤ x2 +ℤ negsuc 3802 *ℤ x3 +ℤ pos 1 *ℤ (pos 0 +ℤ pos 3344 *ℤ x1) ≡
     pos 2482 *ℤ x0 +ℤ pos 3344 *ℤ x1 +ℤ negsuc 1320 *ℤ x2 +ℤ negsuc 3802 *ℤ x3
 second_sum x0 x1 x2 x3 = omega (arith, ints)
 
 fourth_sum : (x0 x1 x2 x3 : ℤ) →
-    pos 0 +ℤ pos 1321 *ℤ x0 +ℤ pos 3803 *ℤ x2 +ℤ pos 2482 *ℤ x3 +ℤ pos 1 *ℤ (pos 0 +ℤ pos 2482 *ℤ x0 +ℤ negsuc 1320 *ℤ x2 +ℤ negsuc 3802 *ℤ x3) +ℤ negsuc 0
-    *ℤ (pos 0 +ℤ pos 3344 *ℤ x1) ≡ pos 3803 *ℤ x0 +ℤ negsuc 3343 *ℤ x1 +ℤ pos 2482 *ℤ x2 +ℤ negsuc 1320 *ℤ x3
+    pos 0 +ℤ pos 1321 *ℤ x0 +ℤ pos 3803 *ℤ x2 +ℤ pos 2482 *ℤ x3 +ℤ pos 1 *ℤ (pos 0 +ℤ pos 2482 *ℤ x0 +ℤ negsuc 1320 *ℤ x2 +ℤ negsuc 3802 *ℤ x3) +ℤ negsuc 0 *ℤ
+    (pos 0 +ℤ pos 3344 *ℤ x1) ≡ pos 3803 *ℤ x0 +ℤ negsuc 3343 *ℤ x1 +ℤ pos 2482 *ℤ x2 +ℤ negsuc 1320 *ℤ x3
 fourth_sum x0 x1 x2 x3 = omega (arith, ints)
 
 no_more : (z : ℤ) → pos 0 +ℤ z ≡ z
@@ -73,8 +74,8 @@ adst4_is x s0 s1 s2 pa pb pc pd pe a b c d h0 h1 h2 ea ha eb hb ec hc ed ee hd =
     let t1 = pos 0 +ℤ pos 2482 *ℤ x0 +ℤ negsuc 1320 *ℤ x2 +ℤ negsuc 3802 *ℤ x3 in
     let t2 = pos 0 +ℤ pos 3344 *ℤ x1 in
     four_same a b c d _ _ _ _
-    (rounded_is a pa (t0 +ℤ pos 1 *ℤ t2) (pos 1321 *ℤ x0 +ℤ pos 3344 *ℤ x1 +ℤ pos 3803 *ℤ x2 +ℤ pos 2482 *ℤ x3)
-    (one_wrapped s0 t0 pa (pos 1) s2 t2 h0 h2 ea) (first_sum x0 x1 x2 x3) ha)
+    (rounded_is a pa (t0 +ℤ pos 1 *ℤ t2) (pos 1321 *ℤ x0 +ℤ pos 3344 *ℤ x1 +ℤ pos 3803 *ℤ x2 +ℤ pos 2482 *ℤ x3) (one_wrapped s0 t0 pa (pos 1) s2 t2 h0 h2 ea)
+    (first_sum x0 x1 x2 x3) ha)
     (rounded_is b pb (t1 +ℤ pos 1 *ℤ t2) (pos 2482 *ℤ x0 +ℤ pos 3344 *ℤ x1 +ℤ negsuc 1320 *ℤ x2 +ℤ negsuc 3802 *ℤ x3)
     (one_wrapped s1 t1 pb (pos 1) s2 t2 h1 h2 eb) (second_sum x0 x1 x2 x3) hb)
     (rounded_is c pc (pos 0 +ℤ pos 3344 *ℤ (x0 -ℤ x2 +ℤ x3)) (pos 3344 *ℤ (x0 -ℤ x2 +ℤ x3)) ec (no_more _) hc)

@@ -61,12 +61,12 @@ sum-block range s b t i v u h e same =
     let n : i % (2 * s) ≡ t = ap (λ k. k % (2 * s)) e ∙ mod-mul-add b (2 * s) t h in
     let here : at u t ≡ at v i = sym (same t h) ∙ ap (at v) (sym e) in
     elim (cases_lt t s) [
-      | inl l ↦ (let far : at u (t + s) ≡ at v (i + s) = sym (same (t + s) (omega arith))
-          ∙ ap (at v) (let q : b * (2 * s) + (t + s) ≡ i + s = omega arith in q) in
+      | inl l ↦ (let far : at u (t + s) ≡ at v (i + s) = sym (same (t + s) (omega arith)) ∙ ap (at v) (let q : b * (2 * s) + (t + s) ≡ i + s = omega arith in q)
+          in
           sym (sum-low range s u t (omega arith)) ∙ ap (λ z. clamp_value (z +ℤ at u (t + s)) range) here ∙ ap (λ z. clamp_value (at v i +ℤ z) range) far
           ∙ sum-low range s v i (omega arith))
-      | inr l ↦ (let far : at u (t - s) ≡ at v (i - s) = sym (same (t - s) (omega arith))
-          ∙ ap (at v) (let q : b * (2 * s) + (t - s) ≡ i - s = omega arith in q) in
+      | inr l ↦ (let far : at u (t - s) ≡ at v (i - s) = sym (same (t - s) (omega arith)) ∙ ap (at v) (let q : b * (2 * s) + (t - s) ≡ i - s = omega arith in q)
+          in
           sym (sum-high range s u t (omega arith)) ∙ ap (λ z. clamp_value (z -ℤ at u t) range) far ∙ ap (λ z. clamp_value (at v (i - s) -ℤ z) range) here
           ∙ sum-high range s v i (omega arith))
     ]
@@ -105,8 +105,8 @@ block_done range ws v q u len table is_q is_u =
     let upper_len : length upper ≡ s = part_len s k q (omega arith) ∙ (let e : k ≡ s = omega arith in e) in
     let u_len : length u ≡ s = ap length is_u ∙ length-by_index _ _ ∙ upper_len in
     let read = λ (j : ℕ) (h : j < s). at-part s k q j (omega arith) in
-    let at_low = λ (j : ℕ) (h : j < s). put-low s k q u j h (omega arith)
-    ∙ turn-low s q j (let m : j % (2 * s) ≡ j = mod-eq_of_lt (omega arith) in omega arith) in
+    let at_low = λ (j : ℕ) (h : j < s). put-low s k q u j h (omega arith) ∙ turn-low s q j (let m : j % (2 * s) ≡ j = mod-eq_of_lt (omega arith) in omega arith)
+    in
     let at_high = λ (j : ℕ) (h : s ≤ j) (l : j < n).
     (let t = j - s in
     let w = round_weights s (t / 2) in

@@ -8,8 +8,8 @@ use Rattle.av1_dct.specs.Operations.{half_btf_with}
 use Rattle.av1_dct.specs.Cosine.{brev, cos128, cosine_with, odd_half_with, group_sum_with, inner_turn_with, mirror_sum_with, outer_turn_with, rounds_with}
 use Rattle.av1_frame.specs.Arithmetic.{clip}
 use Rattle.av1_itx.specs.declared.kinds.TxType1D.TheVariants.{ADST, FLIPADST, IDENTITY, WHT}
-use Rattle.av1_itx.specs.Adst.{adst_with, adst4_with, weighted_with, adst_more_with, adst_in, adst_start_with, turned_with, adst_rounds_with}
-use Rattle.av1_itx.specs.Adst.{adst_turn_with, adst_sum_with, adst_out_with, out_place}
+use Rattle.av1_itx.specs.Adst.{adst_with, adst4_with, weighted_with, adst_more_with, adst_in, adst_start_with, turned_with, adst_rounds_with, adst_turn_with}
+use Rattle.av1_itx.specs.Adst.{adst_sum_with, adst_out_with, out_place}
 use Rattle.av1_itx.specs.Identity.{identity_with, scaled_with}
 use Rattle.av1_itx.specs.Walsh.{walsh_with}
 use Rattle.av1_itx.specs.Networks.{network, network_with}
@@ -31,8 +31,8 @@ unfolding network_with adst_with adst4_with weighted_with adst_more_with adst_in
     adst_out_with out_place identity_with scaled_with walsh_with brev cos128 half_btf_with clamp_value int_wrap
 sine8_range16 = refl
 
-sine8_range20 : network ADST 20 2 (negsuc 179 ∷ pos 266 ∷ negsuc 385 ∷ pos 442 ∷ pos 436 ∷ pos 248 ∷ pos 50 ∷ pos 81 ∷ []) ≡ pos 842 ∷ pos 231 ∷
-    negsuc 724 ∷ negsuc 51 ∷ pos 681 ∷ pos 263 ∷ negsuc 322 ∷ negsuc 948 ∷ []
+sine8_range20 : network ADST 20 2 (negsuc 179 ∷ pos 266 ∷ negsuc 385 ∷ pos 442 ∷ pos 436 ∷ pos 248 ∷ pos 50 ∷ pos 81 ∷ []) ≡ pos 842 ∷ pos 231 ∷ negsuc 724 ∷
+    negsuc 51 ∷ pos 681 ∷ pos 263 ∷ negsuc 322 ∷ negsuc 948 ∷ []
 unfolding network_with adst_with adst4_with weighted_with adst_more_with adst_in adst_start_with turned_with adst_rounds_with adst_turn_with adst_sum_with
     adst_out_with out_place identity_with scaled_with walsh_with brev cos128 half_btf_with clamp_value int_wrap
 sine8_range20 = refl
@@ -64,8 +64,8 @@ unfolding network_with adst_with adst4_with weighted_with adst_more_with adst_in
     adst_out_with out_place identity_with scaled_with walsh_with brev cos128 half_btf_with clamp_value int_wrap
 identity4 = refl
 
-identity8 : network IDENTITY 20 2 (negsuc 179 ∷ pos 266 ∷ negsuc 385 ∷ pos 442 ∷ pos 436 ∷ pos 248 ∷ pos 50 ∷ pos 81 ∷ []) ≡ negsuc 359 ∷ pos 532 ∷
-    negsuc 771 ∷ pos 884 ∷ pos 872 ∷ pos 496 ∷ pos 100 ∷ pos 162 ∷ []
+identity8 : network IDENTITY 20 2 (negsuc 179 ∷ pos 266 ∷ negsuc 385 ∷ pos 442 ∷ pos 436 ∷ pos 248 ∷ pos 50 ∷ pos 81 ∷ []) ≡ negsuc 359 ∷ pos 532 ∷ negsuc 771 ∷
+    pos 884 ∷ pos 872 ∷ pos 496 ∷ pos 100 ∷ pos 162 ∷ []
 unfolding network_with adst_with adst4_with weighted_with adst_more_with adst_in adst_start_with turned_with adst_rounds_with adst_turn_with adst_sum_with
     adst_out_with out_place identity_with scaled_with walsh_with brev cos128 half_btf_with clamp_value int_wrap
 identity8 = refl
@@ -100,43 +100,43 @@ abbrev residue_row : List ℤ → ℕ → List ℤ
 residue_row cs r = map (residue TX_4X4 DCT_DCT 8 cs r) (0 ∷ 1 ∷ 2 ∷ 3 ∷ [])
 
 first_coefficient_row0 : residue_row (pos 100 ∷ []) 0 ≡ pos 3 ∷ pos 3 ∷ pos 3 ∷ pos 3 ∷ []
-unfolding residue transformed_column column_network transformed_row row_input row_value cosine_with odd_half_with mirror_sum_with rounds_with
-    inner_turn_with group_sum_with
+unfolding residue transformed_column column_network transformed_row row_input row_value cosine_with odd_half_with mirror_sum_with rounds_with inner_turn_with
+    group_sum_with
     outer_turn_with network_with adst_with adst4_with weighted_with adst_more_with adst_in adst_start_with turned_with adst_rounds_with adst_turn_with
     adst_sum_with adst_out_with out_place identity_with scaled_with walsh_with brev cos128 half_btf_with clamp_value int_wrap
 first_coefficient_row0 = refl
 
 first_coefficient_row3 : residue_row (pos 100 ∷ []) 3 ≡ pos 3 ∷ pos 3 ∷ pos 3 ∷ pos 3 ∷ []
-unfolding residue transformed_column column_network transformed_row row_input row_value cosine_with odd_half_with mirror_sum_with rounds_with
-    inner_turn_with group_sum_with
+unfolding residue transformed_column column_network transformed_row row_input row_value cosine_with odd_half_with mirror_sum_with rounds_with inner_turn_with
+    group_sum_with
     outer_turn_with network_with adst_with adst4_with weighted_with adst_more_with adst_in adst_start_with turned_with adst_rounds_with adst_turn_with
     adst_sum_with adst_out_with out_place identity_with scaled_with walsh_with brev cos128 half_btf_with clamp_value int_wrap
 first_coefficient_row3 = refl
 
 second_coefficient_row0 : residue_row (pos 0 ∷ pos 100 ∷ []) 0 ≡ pos 4 ∷ pos 4 ∷ pos 4 ∷ pos 4 ∷ []
-unfolding residue transformed_column column_network transformed_row row_input row_value cosine_with odd_half_with mirror_sum_with rounds_with
-    inner_turn_with group_sum_with
+unfolding residue transformed_column column_network transformed_row row_input row_value cosine_with odd_half_with mirror_sum_with rounds_with inner_turn_with
+    group_sum_with
     outer_turn_with network_with adst_with adst4_with weighted_with adst_more_with adst_in adst_start_with turned_with adst_rounds_with adst_turn_with
     adst_sum_with adst_out_with out_place identity_with scaled_with walsh_with brev cos128 half_btf_with clamp_value int_wrap
 second_coefficient_row0 = refl
 
 second_coefficient_row1 : residue_row (pos 0 ∷ pos 100 ∷ []) 1 ≡ pos 2 ∷ pos 2 ∷ pos 2 ∷ pos 2 ∷ []
-unfolding residue transformed_column column_network transformed_row row_input row_value cosine_with odd_half_with mirror_sum_with rounds_with
-    inner_turn_with group_sum_with
+unfolding residue transformed_column column_network transformed_row row_input row_value cosine_with odd_half_with mirror_sum_with rounds_with inner_turn_with
+    group_sum_with
     outer_turn_with network_with adst_with adst4_with weighted_with adst_more_with adst_in adst_start_with turned_with adst_rounds_with adst_turn_with
     adst_sum_with adst_out_with out_place identity_with scaled_with walsh_with brev cos128 half_btf_with clamp_value int_wrap
 second_coefficient_row1 = refl
 
 second_coefficient_row2 : residue_row (pos 0 ∷ pos 100 ∷ []) 2 ≡ negsuc 1 ∷ negsuc 1 ∷ negsuc 1 ∷ negsuc 1 ∷ []
-unfolding residue transformed_column column_network transformed_row row_input row_value cosine_with odd_half_with mirror_sum_with rounds_with
-    inner_turn_with group_sum_with
+unfolding residue transformed_column column_network transformed_row row_input row_value cosine_with odd_half_with mirror_sum_with rounds_with inner_turn_with
+    group_sum_with
     outer_turn_with network_with adst_with adst4_with weighted_with adst_more_with adst_in adst_start_with turned_with adst_rounds_with adst_turn_with
     adst_sum_with adst_out_with out_place identity_with scaled_with walsh_with brev cos128 half_btf_with clamp_value int_wrap
 second_coefficient_row2 = refl
 
 second_coefficient_row3 : residue_row (pos 0 ∷ pos 100 ∷ []) 3 ≡ negsuc 3 ∷ negsuc 3 ∷ negsuc 3 ∷ negsuc 3 ∷ []
-unfolding residue transformed_column column_network transformed_row row_input row_value cosine_with odd_half_with mirror_sum_with rounds_with
-    inner_turn_with group_sum_with
+unfolding residue transformed_column column_network transformed_row row_input row_value cosine_with odd_half_with mirror_sum_with rounds_with inner_turn_with
+    group_sum_with
     outer_turn_with network_with adst_with adst4_with weighted_with adst_more_with adst_in adst_start_with turned_with adst_rounds_with adst_turn_with
     adst_sum_with adst_out_with out_place identity_with scaled_with walsh_with brev cos128 half_btf_with clamp_value int_wrap
 second_coefficient_row3 = refl
@@ -145,8 +145,8 @@ second_coefficient_row3 = refl
 two_great : map
     (λ c. clip 12 (pos 2048 +ℤ residue TX_4X4 DCT_DCT 12 (pos 524287 ∷ pos 0 ∷ pos 0 ∷ pos 0 ∷ pos 0 ∷ pos 0 ∷ pos 0 ∷ pos 0 ∷ pos 524287 ∷ []) 2 c))
     (0 ∷ 1 ∷ 2 ∷ 3 ∷ []) ≡ 0 ∷ 2048 ∷ 2048 ∷ 0 ∷ []
-unfolding residue transformed_column column_network transformed_row row_input row_value cosine_with odd_half_with mirror_sum_with rounds_with
-    inner_turn_with group_sum_with
+unfolding residue transformed_column column_network transformed_row row_input row_value cosine_with odd_half_with mirror_sum_with rounds_with inner_turn_with
+    group_sum_with
     outer_turn_with network_with adst_with adst4_with weighted_with adst_more_with adst_in adst_start_with turned_with adst_rounds_with adst_turn_with
     adst_sum_with adst_out_with out_place identity_with scaled_with walsh_with brev cos128 half_btf_with clamp_value int_wrap
 two_great = refl

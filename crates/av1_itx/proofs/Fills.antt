@@ -1,6 +1,6 @@
 -- Lists that a loop fills from the front, in place.
-use Rattle.std.proofs.Common.{ℕ, ◌≡◌, ◌+◌, ◌*◌, ◌<◌, ◌≤◌, ℤ, pos, List, [], ◌∷◌, map, take, drop, length, set, get_or, arith, ap, sym, subst, refl, ◌∙◌}
-use Rattle.std.proofs.Common.{inl, inr, get_or-set_other}
+use Rattle.std.proofs.Common.{ℕ, ◌≡◌, ◌+◌, ◌*◌, ◌<◌, ◌≤◌, ℤ, pos, List, [], ◌∷◌, map, take, drop, length, set, get_or, arith, ap, sym, subst, refl, ◌∙◌, inl}
+use Rattle.std.proofs.Common.{inr, get_or-set_other}
 use Rattle.std.specs.List.{range_with_len}
 use Rattle.std.proofs.lemmas.Bool.{cases_lt}
 use Rattle.std.proofs.lemmas.List.FromFn.{fill_by_all, get_or-map-range_with_len}

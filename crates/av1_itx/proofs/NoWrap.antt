@@ -1,6 +1,6 @@
 -- Inputs of 18 bits and a range up to 18: none of a transform's sums and products leaves 32 bits.
-use Rattle.std.proofs.Common.{unsigned_abs, ℕ, zero, suc, ◌≡◌, ◌+◌, ◌-◌, ◌*◌, ◌/◌, ◌^◌, ◌≤◌, ◌%◌, ◌==◌, nat_lt, max, true, false, cond, ℤ, pos, negsuc}
-use Rattle.std.proofs.Common.{◌+ℤ◌, ◌-ℤ◌, ◌*ℤ◌, List, reverse, All, arith, ap, refl, sym, ◌∙◌, w32, FitsSigned}
+use Rattle.std.proofs.Common.{unsigned_abs, ℕ, zero, suc, ◌≡◌, ◌+◌, ◌-◌, ◌*◌, ◌/◌, ◌^◌, ◌≤◌, ◌%◌, ◌==◌, nat_lt, max, true, false, cond, ℤ, pos, negsuc, ◌+ℤ◌}
+use Rattle.std.proofs.Common.{◌-ℤ◌, ◌*ℤ◌, List, reverse, All, arith, ap, refl, sym, ◌∙◌, w32, FitsSigned}
 use Rattle.std.specs.Int.{int_shr}
 use Rattle.std.proofs.lemmas.Int.{ints, int_wrap_fits, unsigned_abs-mul}
 use Rattle.std.proofs.Math.Nat.{mul-le-mul}

@@ -34,8 +34,8 @@ unfolding row_input
 input_in size type depth cs r c h = grind (arith, nat_tests)
 
 -- an input of a row, in the coded part and past it
-pub input_is : (size : TxSize) (type : TxType) (depth : ℕ) (cs : List ℤ) (r c rows : ℕ) (v z : ℤ) → rows ≡ coded (tx_height size) →
-    c < coded (tx_width size) → v ≡ at cs (c * rows + r) → z ≡ row_value size type depth v → z ≡ row_input size type depth cs r c
+pub input_is : (size : TxSize) (type : TxType) (depth : ℕ) (cs : List ℤ) (r c rows : ℕ) (v z : ℤ) → rows ≡ coded (tx_height size) → c < coded (tx_width size) →
+    v ≡ at cs (c * rows + r) → z ≡ row_value size type depth v → z ≡ row_input size type depth cs r c
 input_is size type depth cs r c rows v z e h is made =
     made ∙ ap (row_value size type depth) (is ∙ ap (λ n. at cs (c * n + r)) e) ∙ input_in size type depth cs r c h
 

@@ -76,5 +76,5 @@ pub scaled_row : (size : TxSize) (type : TxType) (depth : ℕ) (cs s : List ℤ)
     → at (network (row_kind type) (row_range depth) (row_power size) (by_index (tx_width size) (scaled_input size s r))) c ≡
     at (transformed_row size type depth cs r) c
 scaled_row size type depth cs s r c hr is =
-    ap (λ xs. at (network (row_kind type) (row_range depth) (row_power size) xs) c)
-    (by_index-same _ _ _ (λ x hx. scaled_same size type depth cs s r x hr is)) ∙ row_is size type depth cs r c hr
+    ap (λ xs. at (network (row_kind type) (row_range depth) (row_power size) xs) c) (by_index-same _ _ _ (λ x hx. scaled_same size type depth cs s r x hr is))
+    ∙ row_is size type depth cs r c hr

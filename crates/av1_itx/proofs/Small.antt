@@ -24,8 +24,8 @@ halved-fits (pos a) f = record { low = omega (arith, ints); high = omega (arith,
 halved-fits (negsuc a) f = record { low = omega (arith, ints, f.low); high = omega (arith, ints) }
 
 -- half of the sum of two values of 29 bits less the difference of two
-pub half-fits : {a b c d s t u v : ℤ} → FitsBits 29 a → FitsBits 29 b → FitsBits 29 c → FitsBits 29 d → s ≡ a +ℤ b → t ≡ c -ℤ d → u ≡ s -ℤ t →
-    v ≡ int_shr u 1 → FitsBits 30 v
+pub half-fits : {a b c d s t u v : ℤ} → FitsBits 29 a → FitsBits 29 b → FitsBits 29 c → FitsBits 29 d → s ≡ a +ℤ b → t ≡ c -ℤ d → u ≡ s -ℤ t → v ≡ int_shr u 1 →
+    FitsBits 30 v
 half-fits {u = u} fa fb fc fd es et eu ev =
     let r : FitsBits 31 u = record {
       low = omega (arith, ints, fa.low, fa.high, fb.low, fb.high, fc.low, fc.high, fd.low, fd.high, es, et, eu);

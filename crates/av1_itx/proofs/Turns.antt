@@ -1,6 +1,6 @@
 -- Turns of pairs of neighbours.
-use Rattle.std.proofs.Common.{ℕ, ◌≡◌, ◌+◌, ◌-◌, ◌*◌, ◌/◌, ◌%◌, ℤ, pos, neg_ℤ, List, get_or, arith, ap, sym, subst, ◌∙◌, inl, inr, ◌≤ℤ◌, nat_lt, max, cond}
-use Rattle.std.proofs.Common.{true, false}
+use Rattle.std.proofs.Common.{ℕ, ◌≡◌, ◌+◌, ◌-◌, ◌*◌, ◌/◌, ◌%◌, ℤ, pos, neg_ℤ, List, get_or, arith, ap, sym, subst, ◌∙◌, inl, inr, ◌≤ℤ◌, nat_lt, max, cond, true}
+use Rattle.std.proofs.Common.{false}
 use Rattle.std.proofs.lemmas.Bool.{cases_eq, cases_lt}
 use Rattle.std.proofs.lemmas.Int.{ints}
 use Rattle.std.proofs.lemmas.List.{get_or_past}

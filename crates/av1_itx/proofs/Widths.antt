@@ -1,6 +1,6 @@
 -- Numbers of few bits, and lists of them.
-use Rattle.std.proofs.Common.{ℕ, zero, suc, ◌≡◌, ◌-◌, ◌*◌, ◌^◌, ◌<◌, ◌≤◌, ℤ, pos, List, All, [], ◌∷◌, map, take, reverse, length, arith, ap, sym, subst}
-use Rattle.std.proofs.Common.{◌∙◌, inl, inr}
+use Rattle.std.proofs.Common.{ℕ, zero, suc, ◌≡◌, ◌-◌, ◌*◌, ◌^◌, ◌<◌, ◌≤◌, ℤ, pos, List, All, [], ◌∷◌, map, take, reverse, length, arith, ap, sym, subst, ◌∙◌}
+use Rattle.std.proofs.Common.{inl, inr}
 use Rattle.std.proofs.lemmas.Bool.{cases_lt}
 use Rattle.std.proofs.lemmas.List.{take_all, map-id, get_or_past, get_or-reverse, length-reverse}
 use Rattle.av1_dct.specs.Arithmetic.{AllFit, FitsBits}

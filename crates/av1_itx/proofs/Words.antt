@@ -1,6 +1,6 @@
 -- One lane of words that the sine transforms write.
-use Rattle.std.proofs.Common.{ℕ, ◌≡◌, ◌+◌, ◌-◌, ◌*◌, ◌/◌, ◌<◌, ◌≤◌, ℤ, List, [], ◌∷◌, ◌++◌, map, take, drop, set, reverse, refl, length, get_or, arith, ap}
-use Rattle.std.proofs.Common.{sym, subst, ◌∙◌}
+use Rattle.std.proofs.Common.{ℕ, ◌≡◌, ◌+◌, ◌-◌, ◌*◌, ◌/◌, ◌<◌, ◌≤◌, ℤ, List, [], ◌∷◌, ◌++◌, map, take, drop, set, reverse, refl, length, get_or, arith, ap, sym}
+use Rattle.std.proofs.Common.{subst, ◌∙◌}
 use Rattle.std.proofs.lemmas.List.{length-map, map-append, map-set, reverse-append}
 use Rattle.av1_dct.specs.Arithmetic.{at, AllFit, FitsBits}
 use Rattle.av1_dct.specs.Word.{column}
@@ -14,8 +14,8 @@ use Rattle.av1_itx.proofs.Fills.{IsBegun-pair, IsBegun-start, IsHalved, IsHalved
 use Rattle.av1_itx.proofs.Turns.{weights_at, turned_by}
 
 -- a lane of a word that was read has the bits that all lanes have
-pub word_fits : {W : Type 0} {b : ℕ} (lane : W → ℕ → ℤ) (i : ℕ) (v : List W) (q : ℕ) (x : W) → q < length v → x ≡ get_or v q x →
-    AllFit b (column lane i v) → FitsBits b (lane x i)
+pub word_fits : {W : Type 0} {b : ℕ} (lane : W → ℕ → ℤ) (i : ℕ) (v : List W) (q : ℕ) (x : W) → q < length v → x ≡ get_or v q x → AllFit b (column lane i v) →
+    FitsBits b (lane x i)
 word_fits {b = b} lane i v q x h e fit = subst (λ (z : ℤ). FitsBits b z) (sym (column_get lane i v q x h e)) (fit q)
 
 -- two words written
@@ -48,17 +48,15 @@ pub words_begun : {X : Type 0} {f : ℕ → ℤ} {p : ℕ} (g : X → ℤ) (v : 
 words_begun g v none = IsBegun-start _ _ _ _ (length-map v g) none
 
 -- one more pair of neighbours
-pub pair_more : {W : Type 0} (lane : W → ℕ → ℤ) (i n : ℕ) (f : ℕ → ℤ) (old : List ℤ) (v : List W) (p q r : ℕ) (x y : W) →
-    IsBegun n f old p (column lane i v) → q ≡ p + 1 → r ≡ p + 2 → q < n → lane x i ≡ f p → lane y i ≡ f q →
-    IsBegun n f old r (column lane i (set (set v p x) q y))
+pub pair_more : {W : Type 0} (lane : W → ℕ → ℤ) (i n : ℕ) (f : ℕ → ℤ) (old : List ℤ) (v : List W) (p q r : ℕ) (x y : W) → IsBegun n f old p (column lane i v) →
+    q ≡ p + 1 → r ≡ p + 2 → q < n → lane x i ≡ f p → lane y i ≡ f q → IsBegun n f old r (column lane i (set (set v p x) q y))
 pair_more lane i n f old v p q r x y h is_q is_r lt is_x is_y =
     let P : List ℤ → Type 0 = λ z. IsBegun n f old r z in
     subst P (sym (column-set2 lane i v p q x y)) (IsBegun-pair n f old (column lane i v) p q r (lane x i) (lane y i) h is_q is_r lt is_x is_y)
 
 -- one more place of each half
-pub halves_more : {W : Type 0} (lane : W → ℕ → ℤ) (i s : ℕ) (f : ℕ → ℤ) (old : List ℤ) (v : List W) (j q : ℕ) (x y : W) →
-    IsHalved s f old j (column lane i v) → q ≡ j + s → j < s → lane x i ≡ f j → lane y i ≡ f q →
-    IsHalved s f old (j + 1) (column lane i (set (set v j x) q y))
+pub halves_more : {W : Type 0} (lane : W → ℕ → ℤ) (i s : ℕ) (f : ℕ → ℤ) (old : List ℤ) (v : List W) (j q : ℕ) (x y : W) → IsHalved s f old j (column lane i v) →
+    q ≡ j + s → j < s → lane x i ≡ f j → lane y i ≡ f q → IsHalved s f old (j + 1) (column lane i (set (set v j x) q y))
 halves_more lane i s f old v j q x y h is_q lt is_x is_y =
     let P : List ℤ → Type 0 = λ z. IsHalved s f old (j + 1) z in
     subst P (sym (column-set2 lane i v j q x y)) (IsHalved-more s f old (column lane i v) j q (lane x i) (lane y i) h is_q lt is_x is_y)

@@ -1,6 +1,6 @@
 -- The transforms of zeros are zeros.
-use Rattle.std.proofs.Common.{ℕ, zero, suc, ◌≡◌, ◌+◌, ◌-◌, ◌*◌, ◌^◌, ◌<◌, ℤ, pos, ◌+ℤ◌, ◌-ℤ◌, ◌*ℤ◌, List, [], ◌∷◌, length, reverse, arith, ap, sym, refl}
-use Rattle.std.proofs.Common.{◌∙◌, inl, inr, replicate}
+use Rattle.std.proofs.Common.{ℕ, zero, suc, ◌≡◌, ◌+◌, ◌-◌, ◌*◌, ◌^◌, ◌<◌, ℤ, pos, ◌+ℤ◌, ◌-ℤ◌, ◌*ℤ◌, List, [], ◌∷◌, length, reverse, arith, ap, sym, refl, ◌∙◌}
+use Rattle.std.proofs.Common.{inl, inr, replicate}
 use Rattle.std.specs.Int.{int_shr, int_wrap}
 use Rattle.std.proofs.lemmas.Bool.{cases_lt}
 use Rattle.std.proofs.lemmas.Int.{ints}
@@ -71,8 +71,7 @@ rounds-zero range k (suc c) v h =
     let s = 2 ^ (k - c) in
     let w = rounds-zero range k c v h in
     let u = by_index-zero (2 * 2 ^ k) (adst_sum range s (adst_rounds range k c v))
-    (λ p. cond-zero _ _ _ (clamp-zero _ range (sum-zero _ _ (w.at p) (w.at (p + s))).0) (clamp-zero _ range (sum-zero _ _ (w.at (p - s)) (w.at p)).1))
-    in
+    (λ p. cond-zero _ _ _ (clamp-zero _ range (sum-zero _ _ (w.at p) (w.at (p + s))).0) (clamp-zero _ range (sum-zero _ _ (w.at (p - s)) (w.at p)).1)) in
     by_index-zero _ _ (λ i. cond-zero _ _ _ (u.at i) (turned-zero _ _ _ i u))
 
 more-zero : (range k : ℕ) (x : List ℤ) → IsZero x → IsZero (adst_more range k x)
@@ -102,8 +101,8 @@ walsh-zero x z =
     let a3 = z.at 3 in
     let h = half-zero (at x 0 +ℤ at x 1 -ℤ (at x 2 -ℤ at x 3)) (omega (arith, ints, a0, a1, a2, a3)) in
     record {
-      at = four-zero _ _ _ _ (omega (arith, ints, a0, a1, a2, a3, h)) (omega (arith, ints, a0, a1, a2, a3, h))
-          (omega (arith, ints, a0, a1, a2, a3, h)) (omega (arith, ints, a0, a1, a2, a3, h));
+      at = four-zero _ _ _ _ (omega (arith, ints, a0, a1, a2, a3, h)) (omega (arith, ints, a0, a1, a2, a3, h)) (omega (arith, ints, a0, a1, a2, a3, h))
+          (omega (arith, ints, a0, a1, a2, a3, h));
     }
 
 reverse-zero : (xs : List ℤ) → IsZero xs → IsZero (reverse xs)

@@ -1,9 +1,9 @@
 -- The one-dimensional transforms of a block: which of them runs along the rows and which down the columns.
 use Rattle.av1_blocks.specs.declared.transform.TxType.{TxType}
-use Rattle.av1_blocks.specs.declared.transform.TxType.TheVariants.{DCT_DCT, ADST_DCT, DCT_ADST, ADST_ADST}
-use Rattle.av1_blocks.specs.declared.transform.TxType.TheVariants.{FLIPADST_DCT, DCT_FLIPADST, FLIPADST_FLIPADST}
-use Rattle.av1_blocks.specs.declared.transform.TxType.TheVariants.{ADST_FLIPADST, FLIPADST_ADST, IDTX, V_DCT, H_DCT}
-use Rattle.av1_blocks.specs.declared.transform.TxType.TheVariants.{V_ADST, H_ADST, V_FLIPADST, H_FLIPADST, WHT_WHT}
+use Rattle.av1_blocks.specs.declared.transform.TxType.TheVariants.{DCT_DCT, ADST_DCT, DCT_ADST, ADST_ADST, FLIPADST_DCT}
+use Rattle.av1_blocks.specs.declared.transform.TxType.TheVariants.{DCT_FLIPADST, FLIPADST_FLIPADST, ADST_FLIPADST}
+use Rattle.av1_blocks.specs.declared.transform.TxType.TheVariants.{FLIPADST_ADST, IDTX, V_DCT, H_DCT, V_ADST, H_ADST}
+use Rattle.av1_blocks.specs.declared.transform.TxType.TheVariants.{V_FLIPADST, H_FLIPADST, WHT_WHT}
 use Rattle.av1_itx.specs.declared.kinds.TxType1D.{TxType1D}
 use Rattle.av1_itx.specs.declared.kinds.TxType1D.TheVariants.{DCT, ADST, FLIPADST, IDENTITY, WHT}
 

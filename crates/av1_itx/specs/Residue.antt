@@ -1,13 +1,13 @@
 -- The 2D inverse transform process of the AV1 specification: an inverse transform along each row of coefficients, then
 -- one down each column.
-use Rattle.std.specs.Prelude.{ℕ, ◌+◌, ◌-◌, ◌*◌, ◌==◌, ◌||◌, nat_lt, max, if◌then◌else◌, Bool, true, false, ℤ, pos}
-use Rattle.std.specs.Prelude.{◌*ℤ◌, List, []}
+use Rattle.std.specs.Prelude.{ℕ, ◌+◌, ◌-◌, ◌*◌, ◌==◌, ◌||◌, nat_lt, max, if◌then◌else◌, Bool, true, false, ℤ, pos, ◌*ℤ◌}
+use Rattle.std.specs.Prelude.{List, []}
 use Rattle.std.specs.Int.{int_shr}
 use Rattle.av1_blocks.specs.declared.transform.TxSize.{TxSize}
-use Rattle.av1_blocks.specs.declared.transform.TxSize.TheVariants.{TX_4X4, TX_8X8, TX_16X16, TX_32X32, TX_64X64}
-use Rattle.av1_blocks.specs.declared.transform.TxSize.TheVariants.{TX_4X8, TX_8X4, TX_8X16, TX_16X8, TX_16X32}
-use Rattle.av1_blocks.specs.declared.transform.TxSize.TheVariants.{TX_32X16, TX_32X64, TX_64X32, TX_4X16, TX_16X4}
-use Rattle.av1_blocks.specs.declared.transform.TxSize.TheVariants.{TX_8X32, TX_32X8, TX_16X64, TX_64X16}
+use Rattle.av1_blocks.specs.declared.transform.TxSize.TheVariants.{TX_4X4, TX_8X8, TX_16X16, TX_32X32, TX_64X64, TX_4X8}
+use Rattle.av1_blocks.specs.declared.transform.TxSize.TheVariants.{TX_8X4, TX_8X16, TX_16X8, TX_16X32, TX_32X16}
+use Rattle.av1_blocks.specs.declared.transform.TxSize.TheVariants.{TX_32X64, TX_64X32, TX_4X16, TX_16X4, TX_8X32}
+use Rattle.av1_blocks.specs.declared.transform.TxSize.TheVariants.{TX_32X8, TX_16X64, TX_64X16}
 use Rattle.av1_blocks.specs.declared.transform.TxType.{TxType}
 use Rattle.av1_blocks.specs.declared.transform.TxType.TheVariants.{WHT_WHT}
 use Rattle.av1_blocks.specs.Blocks.{side_log2}

@@ -148,8 +148,8 @@ fn add_block<T: Pixel, R: LaneRoom>(
     requires rows { AreRows stride area (length samples.old) }
     requires width { area.width ≡ tx_width tx_size }
     requires height { area.height ≡ tx_height tx_size }
-    ensures painted { samples.new ≡
-        paint stride area (λ r c v. T.pixel (clip bd (pos (T.num v) +ℤ residue tx_size tx_type bd (map T.Coeff.val input.now) r c))) samples.old }
+    ensures painted { samples.new ≡ paint stride area (λ r c v. T.pixel (clip bd (pos (T.num v) +ℤ residue tx_size tx_type bd (map T.Coeff.val input.now) r c)))
+        samples.old }
     ensures counts { R.tally lanes.new ≡ R.raised_by (R.tally lanes.old) (lane_groups tx_size tx_type) }
 {
     row_pass(input, scaled, lanes, buffer, tx_size, tx_type, bd);
@@ -182,8 +182,8 @@ fn add_over<T: Pixel, R: LaneRoom>(
     requires rows { AreRows stride area (length samples.old) }
     requires width { area.width ≡ tx_width tx_size }
     requires height { area.height ≡ tx_height tx_size }
-    ensures painted { samples.new ≡
-        paint stride area (λ r c v. T.pixel (clip bd (pos (T.num v) +ℤ residue tx_size tx_type bd (map T.Coeff.val input.now) r c))) samples.old }
+    ensures painted { samples.new ≡ paint stride area (λ r c v. T.pixel (clip bd (pos (T.num v) +ℤ residue tx_size tx_type bd (map T.Coeff.val input.now) r c)))
+        samples.old }
     ensures counts { R.tally lanes.new ≡ R.raised_by (R.tally lanes.old) (lane_groups tx_size tx_type) }
 {
     let places = tx_size.height() * tx_size.width();
@@ -227,8 +227,8 @@ pub fn inverse_transform_add_to<T: Pixel>(
     requires rows { AreRows stride area (length samples.old) }
     requires width { area.width ≡ tx_width tx_size }
     requires height { area.height ≡ tx_height tx_size }
-    ensures painted { samples.new ≡
-        paint stride area (λ r c v. T.pixel (clip bd (pos (T.num v) +ℤ residue tx_size tx_type bd (map T.Coeff.val input.now) r c))) samples.old }
+    ensures painted { samples.new ≡ paint stride area (λ r c v. T.pixel (clip bd (pos (T.num v) +ℤ residue tx_size tx_type bd (map T.Coeff.val input.now) r c)))
+        samples.old }
     ensures lanes { scratch.new.lanes.count.groups ≡ raised scratch.old.lanes.count.groups (lane_groups tx_size tx_type) }
 {
     add_over(
@@ -265,8 +265,8 @@ pub fn inverse_transform_add_in<T: Pixel>(
     requires rows { AreRows stride area (length samples.old) }
     requires width { area.width ≡ tx_width tx_size }
     requires height { area.height ≡ tx_height tx_size }
-    ensures painted { samples.new ≡
-        paint stride area (λ r c v. T.pixel (clip bd (pos (T.num v) +ℤ residue tx_size tx_type bd (map T.Coeff.val input.now) r c))) samples.old }
+    ensures painted { samples.new ≡ paint stride area (λ r c v. T.pixel (clip bd (pos (T.num v) +ℤ residue tx_size tx_type bd (map T.Coeff.val input.now) r c)))
+        samples.old }
 {
     add_over(
         &mut room.buffer,

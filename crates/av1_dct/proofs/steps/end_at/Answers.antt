@@ -70,8 +70,8 @@ returns-clause-value g c = λ i u h is.
     column_at lane i w (c.power-m.result + (c.power-m.result / 4 + n)) (m + p) c.index-w-m.result (omega (arith, em, quarters))
     (omega (arith, em, some)) c.index-w-m.is in
     let xq : lane c.index-w-m-2.result i ≡ at zs (m + q) =
-    column_at lane i w (c.power-m.result + (c.power-m.result - 1 - (c.power-m.result / 4 + n)))
-    (m + q) c.index-w-m-2.result (omega (arith, em, quarters)) (omega (arith, em, some)) c.index-w-m-2.is in
+    column_at lane i w (c.power-m.result + (c.power-m.result - 1 - (c.power-m.result / 4 + n))) (m + q) c.index-w-m-2.result (omega (arith, em, quarters))
+    (omega (arith, em, some)) c.index-w-m-2.is in
     let fp = c.rotate-tp.ensures i h in
     let fq = c.rotate-tq.ensures i h in
     let eb = c.inner_angle-b.ensures.value in

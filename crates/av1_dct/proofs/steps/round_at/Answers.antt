@@ -67,8 +67,7 @@ returns-clause-value g c = λ i u hl is.
     let f = m - 1 - e in
     let xp : lane c.index-v-p.result i ≡ at zs p =
     column_at lane i w (c.group_of-d.result * (4 * c.power-h.result) + c.power-h.result + c.place_of-r.result) p c.index-v-p.result
-    (let same : (c.group_of-d.result * (4 * c.power-h.result) + c.power-h.result + c.place_of-r.result) ≡ p = cc in same) (omega arith) c.index-v-p.is
-    in
+    (let same : (c.group_of-d.result * (4 * c.power-h.result) + c.power-h.result + c.place_of-r.result) ≡ p = cc in same) (omega arith) c.index-v-p.is in
     let xe : lane c.index-v-e.result i ≡ at zs e =
     column_at lane i w (c.group_of-d.result * (4 * c.power-h.result) + 3 * c.power-h.result - 1 - c.place_of-r.result) e c.index-v-e.result
     (let same : (c.group_of-d.result * (4 * c.power-h.result) + 3 * c.power-h.result - 1 - c.place_of-r.result) ≡ e = cc in same)
@@ -76,12 +75,12 @@ returns-clause-value g c = λ i u hl is.
     let xf : lane c.index-v-f.result i ≡ at zs f =
     column_at lane i w (c.power-m.result - 1 - (c.group_of-d.result * (4 * c.power-h.result) + 3 * c.power-h.result - 1 - c.place_of-r.result)) f
     c.index-v-f.result
-    (let same : (c.power-m.result - 1 - (c.group_of-d.result * (4 * c.power-h.result) + 3 * c.power-h.result - 1 - c.place_of-r.result)) ≡ f = cc
-    in same) (omega arith) c.index-v-f.is in
+    (let same : (c.power-m.result - 1 - (c.group_of-d.result * (4 * c.power-h.result) + 3 * c.power-h.result - 1 - c.place_of-r.result)) ≡ f = cc in same)
+    (omega arith) c.index-v-f.is in
     let xq : lane c.index-v-q.result i ≡ at zs q =
-    column_at lane i w (c.power-m.result - 1 - (c.group_of-d.result * (4 * c.power-h.result) + c.power-h.result + c.place_of-r.result)) q
-    c.index-v-q.result (let same : (c.power-m.result - 1 - (c.group_of-d.result * (4 * c.power-h.result) + c.power-h.result + c.place_of-r.result)) ≡
-    q = cc in same) (omega arith) c.index-v-q.is in
+    column_at lane i w (c.power-m.result - 1 - (c.group_of-d.result * (4 * c.power-h.result) + c.power-h.result + c.place_of-r.result)) q c.index-v-q.result
+    (let same : (c.power-m.result - 1 - (c.group_of-d.result * (4 * c.power-h.result) + c.power-h.result + c.place_of-r.result)) ≡ q = cc in same)
+    (omega arith) c.index-v-q.is in
     let fp = c.rotate-tp.ensures i hl in
     let fq = c.rotate-tq.ensures i hl in
     let fe = c.rotate-te.ensures i hl in

@@ -50,9 +50,8 @@ returns g c = λ i h.
     ∙ ap (λ z. at x 0 -ℤ at x 2 +ℤ z) e3 in
     let s2 = product_at _ (pos 3344) _ _ _ _ (c.add_product-7.ensures i h) ez inner in
     column-set4 lane i c.args.output.now _ _ _ _ c.requires.output_len
-    ∙ adst4_is x (lane c.add_product-first.result i) (lane c.add_product-second.result i) (lane c.add_product-third.result i)
-    (lane c.add_product-5.result i) (lane c.add_product-6.result i) (lane c.add_product-7.result i) (lane c.add_product-8.result i)
-    (lane c.add_product-9.result i) _ _ _ _
+    ∙ adst4_is x (lane c.add_product-first.result i) (lane c.add_product-second.result i) (lane c.add_product-third.result i) (lane c.add_product-5.result i)
+    (lane c.add_product-6.result i) (lane c.add_product-7.result i) (lane c.add_product-8.result i) (lane c.add_product-9.result i) _ _ _ _
     (three (pos 1321) (at x 0) (pos 3803) (at x 2) (pos 2482) (at x 3) _ _ _ p0 p1 p2)
     (three (pos 2482) (at x 0) (negsuc 1320) (at x 2) (negsuc 3802) (at x 3) _ _ _ q0 q1 q2)
     r0 (c.add_product-5.ensures i h) (c.round12.ensures i h) (c.add_product-6.ensures i h) (c.round12-2.ensures i h) s2 (c.round12-3.ensures i h)

@@ -37,8 +37,7 @@ returns-clause-value g c = λ r q hr hq.
     let qw : q < w = omega arith in
     let rounded : by_index h (λ y. at B (y * w + q)) ≡ by_index h (λ y. clamp_value (round_shift (at old (y * w + q)) shift) range) =
     by_index-same h _ _
-    (λ y hy. c.round_values.ensures (y * w + q) (place_in_block y q w h c.width-w.ensures.value c.height-h.ensures.value c.requires.buffer_len hy qw))
-    in
+    (λ y hy. c.round_values.ensures (y * w + q) (place_in_block y q w h c.width-w.ensures.value c.height-h.ensures.value c.requires.buffer_len hy qw)) in
     let P : ℕ → Type 0 = λ n. at c.run_columns.new.buffer (r * n + q) ≡ at (column_network size c.args.tx_type c.args.bd (λ y. at old (y * n + q))) r in
     subst P c.width-w.ensures.value
     (column_value size c.args.tx_type c.args.bd h k shift range r kind (λ y. at old (y * w + q)) _ c.get_1d_tx_types-kind.ensures.column

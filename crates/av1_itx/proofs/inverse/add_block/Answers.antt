@@ -18,8 +18,7 @@ add_rows-requires-clause-fit g c = λ r q hr hq.
     let P : ℤ → Type 0 = λ z. FitsBits 24 z in
     let Q : ℕ → Type 0 = λ n. FitsBits 24 (at c.column_pass.new.buffer (r * n + q)) in
     subst Q (sym c.requires.width)
-    (subst P (sym (c.column_pass.ensures.value r q (omega arith) (omega arith)))
-    (column-fits c.args.tx_size c.args.tx_type c.args.bd _ r (omega arith)))
+    (subst P (sym (c.column_pass.ensures.value r q (omega arith) (omega arith))) (column-fits c.args.tx_size c.args.tx_type c.args.bd _ r (omega arith)))
 
 pub returns-clause-painted : goal.returns-clause-painted
 returns-clause-painted g c =

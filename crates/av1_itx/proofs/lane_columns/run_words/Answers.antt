@@ -40,12 +40,11 @@ loop-g-preserved g c =
     let lo : length out ≡ h = c.inverse_1d.auto.output ∙ length-take-le h c.loop-g.transformed (omega arith) in
     let all : length (take h (out ++ drop h c.loop-g.transformed)) ≡ h = ap length (take_at out (drop h c.loop-g.transformed) h lo) ∙ lo in
     let D = λ (i r : ℕ). at (column lane i (take h (out ++ drop h c.loop-g.transformed))) r in
-    groups_more w at_column (c.LANES-m.result * (c.loop-g.g + 1)) m h F (λ r q. at old (r * w + q)) D c.loop-g.buffer c.scatter_words.new.buffer
-    (omega arith) c.loop-g.invariant
+    groups_more w at_column (c.LANES-m.result * (c.loop-g.g + 1)) m h F (λ r q. at old (r * w + q)) D c.loop-g.buffer c.scatter_words.new.buffer (omega arith)
+    c.loop-g.invariant
     (λ r q hr hq. c.scatter_words.ensures r q (omega arith) hq)
     (λ i r hi hr. ap (λ zs. at zs r)
-    (lane_run lane h i _ (network c.args.kind c.args.range c.args.k) _ (λ y. at old (y * w + (at_column + i))) c.gather_words.new.line _ out _
-    line_len
+    (lane_run lane h i _ (network c.args.kind c.args.range c.args.k) _ (λ y. at old (y * w + (at_column + i))) c.gather_words.new.line _ out _ line_len
     (c.gather_words.auto.line ∙ line_len) lo (c.gather_words.ensures i hi) (c.inverse_1d.ensures i hi)
     (λ y hy. lanes_kept w at_column (at_column + i) h F c.loop-g.buffer old c.loop-g.invariant (omega arith) (omega arith) y hy)))
 

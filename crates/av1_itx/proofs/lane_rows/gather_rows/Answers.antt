@@ -27,8 +27,7 @@ rest-init g c = λ i h k l.
     let s = c.args.scaled.now in
     let rows : c.min-rows.result ≡ coded (tx_height size) = omega arith in
     let columns : c.min-columns.result ≡ coded (tx_width size) = omega arith in
-    c.coded.invariant i h k (omega arith)
-    ∙ ap (at s) (let e : k * c.min-rows.result + c.args.r + i ≡ k * c.min-rows.result + (c.args.r + i) = omega arith in e)
+    c.coded.invariant i h k (omega arith) ∙ ap (at s) (let e : k * c.min-rows.result + c.args.r + i ≡ k * c.min-rows.result + (c.args.r + i) = omega arith in e)
     ∙ scaled_is size s (c.args.r + i) k c.min-rows.result rows (omega arith)
 
 pub rest-preserved : goal.rest-preserved

@@ -72,6 +72,5 @@ returns g c = λ r x hr hx.
     let all = all_groups m c.loop-g.g h whole none in
     let P : ℕ → Type 0 =
     λ k. at c.loop-g.buffer (r * k + x) ≡
-    at (network (row_kind c.args.tx_type) (row_range c.args.bd) (row_power size) (by_index (tx_width size) (scaled_input size c.args.scaled.now r))) x
-    in
+    at (network (row_kind c.args.tx_type) (row_range c.args.bd) (row_power size) (by_index (tx_width size) (scaled_input size c.args.scaled.now r))) x in
     subst P c.width-w.ensures.value (c.loop-g.invariant r x (omega arith) (omega arith))
