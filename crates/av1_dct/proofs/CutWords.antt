@@ -1,5 +1,5 @@
 -- Transforms in lanes of 16 bits: words that are cut, run and written out again.
-use Rattle.std.proofs.Common.{refl, ℕ, suc, ◌≡◌, ◌+◌, ◌*◌, ◌^◌, ◌<◌, ℤ, pos, List, ◌++◌, map, take, drop, length, arith, ap, sym, ◌∙◌}
+use Rattle.std.proofs.Common.{refl, ℕ, suc, ◌≡◌, ◌*◌, ◌^◌, ◌<◌, ℤ, pos, List, ◌++◌, map, take, drop, length, arith, ap, sym, ◌∙◌}
 use Rattle.std.specs.List.{All}
 use Rattle.std.proofs.Math.Nat.{pow-suc}
 use Rattle.std.proofs.lemmas.List.{get_or-take, length-map, take-map, take_at}

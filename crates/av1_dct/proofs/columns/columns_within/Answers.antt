@@ -1,4 +1,4 @@
-use Rattle.std.proofs.Common.{ℕ, ◌≡◌, ◌≤◌, ◌+◌, ◌-◌, ◌*◌, ◌^◌, length, arith, sym, subst, ap, ◌∙◌, List, ℤ}
+use Rattle.std.proofs.Common.{ℕ, ◌≡◌, ◌-◌, ◌*◌, ◌^◌, length, arith, sym, subst, ap, ◌∙◌, List, ℤ}
 use Rattle.std.proofs.Math.Pow.{pow_mono}
 use Rattle.av1_dct.specs.Arithmetic.{AllFit, at}
 use Rattle.av1_dct.specs.Columns.{column_of}

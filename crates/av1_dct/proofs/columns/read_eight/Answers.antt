@@ -1,4 +1,4 @@
-use Rattle.std.proofs.Common.{ℕ, suc, ◌≡◌, ◌+◌, ◌*◌, ◌^◌, arith, sym, ap, ◌∙◌}
+use Rattle.std.proofs.Common.{ℕ, ◌≡◌, ◌+◌, ◌*◌, ◌^◌, arith, sym, ap, ◌∙◌}
 use Rattle.av1_dct.specs.Arithmetic.{at, clamp_value}
 use Rattle.av1_dct.specs.Columns.{column_of}
 use Rattle.av1_dct.specs.InPlace.{cut_place}
@@ -6,8 +6,8 @@ use Rattle.av1_dct.proofs.InColumns.{row_room}
 use Rattle.av1_dct.proofs.Places.{at-by_index, column_fill}
 use Rattle.av1_dct.proofs.columns.read_eight.Goals as goal
 
-pub returns-then-n : goal.returns-then-n
-returns-then-n g c = λ i q h lt room. c.requires.before i q h (omega (arith, c.if-n.true, c.power.ensures.value)) room
+pub returns-then-n-first : goal.returns-then-n-first
+returns-then-n-first g c = λ i q h lt room. c.requires.before i q h (omega (arith, c.if-n-first.true, c.power-n.ensures.value)) room
 
 pub loop-q-init : goal.loop-q-init
 loop-q-init g c = λ i p h lt room. c.requires.before i p h (omega arith) room
@@ -31,4 +31,4 @@ loop-q-preserved g c = λ i p h lt room.
     ∙ ap (λ (r : ℕ). clamp_value (at zs r) 16) c.reversed_place-row.ensures.value) p (omega arith)
 
 pub returns : goal.returns
-returns g c = λ i q h lt room. c.loop-q.invariant i q h (omega (arith, c.power.ensures.value)) room
+returns g c = λ i q h lt room. c.loop-q.invariant i q h (omega (arith, c.power-n.ensures.value)) room

@@ -1,4 +1,4 @@
-use Rattle.std.proofs.Common.{suc, rules, arith, ◌∙◌, ap, map, of_z, w32}
+use Rattle.std.proofs.Common.{rules, arith, ◌∙◌, ap, map, of_z, w32}
 use Rattle.std.proofs.lemmas.List.{length-map}
 use Rattle.av1_dct.specs.Arithmetic.{at, clamp_value}
 use Rattle.av1_dct.specs.Word.{column, lane_of_vector}
@@ -8,8 +8,8 @@ use Rattle.av1_dct.proofs.LaneOperations.{stored}
 use Rattle.av1_dct.proofs.Places.{column_fill, column_get}
 use Rattle.av1_dct.proofs.narrow_lanes.cut_eight.Goals as goal
 
-pub returns-then-n : goal.returns-then-n
-returns-then-n g c = λ i q h lt room. c.requires.before i q h (omega (arith, c.if-n.true, c.power.ensures.value)) room
+pub returns-then-n-start : goal.returns-then-n-start
+returns-then-n-start g c = λ i q h lt room. c.requires.before i q h (omega (arith, c.if-n-start.true, c.power-n.ensures.value)) room
 
 pub loop-q-init : goal.loop-q-init
 loop-q-init g c = λ i p h lt room. c.requires.before i p h (omega arith) room
@@ -26,4 +26,4 @@ loop-q-preserved g c = λ i p h lt room.
     ∙ ap (at zs) c.reversed_place.ensures.value)) p (omega arith)
 
 pub returns : goal.returns
-returns g c = λ i q h lt room. c.loop-q.invariant i q h (omega (arith, c.power.ensures.value)) room
+returns g c = λ i q h lt room. c.loop-q.invariant i q h (omega (arith, c.power-n.ensures.value)) room

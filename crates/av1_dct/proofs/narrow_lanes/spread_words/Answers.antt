@@ -1,4 +1,4 @@
-use Rattle.std.proofs.Common.{pos, rules, arith, ◌∙◌, map, of_z, w32}
+use Rattle.std.proofs.Common.{rules, arith, ◌∙◌, map, of_z, w32}
 use Rattle.std.proofs.lemmas.List.{length-map}
 use Rattle.av1_dct.specs.Arithmetic.{at}
 use Rattle.av1_dct.specs.Word.{column, lane_of_vector}
