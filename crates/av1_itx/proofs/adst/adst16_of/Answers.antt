@@ -10,7 +10,7 @@ use Rattle.av1_itx.proofs.Order.{places_16}
 use Rattle.av1_itx.proofs.Steps.{round-fits, no_rounds, rounds_more, more_is, turned_by-fits}
 use Rattle.av1_itx.proofs.Turns.{turned_by}
 use Rattle.av1_itx.proofs.Weights.{start_16, block_16, block_8, block_4}
-use Rattle.av1_itx.proofs.Words.{by_length}
+use Rattle.av1_itx.proofs.WrittenWords.{by_length}
 use Rattle.av1_itx.proofs.adst.adst16_of.Goals as goal
 
 pub run_blocks-requires-clause-table : goal.run_blocks-requires-clause-table

@@ -4,7 +4,7 @@ use Rattle.av1_dct.specs.Arithmetic.{at}
 use Rattle.av1_dct.specs.Word.{column}
 use Rattle.av1_dct.proofs.Places.{column_get}
 use Rattle.av1_itx.proofs.Adst4.{three, product_at, adst4_is}
-use Rattle.av1_itx.proofs.Words.{column-set4}
+use Rattle.av1_itx.proofs.WrittenWords.{column-set4}
 use Rattle.av1_itx.proofs.adst.adst4_of.Goals as goal
 
 pub minus-requires : goal.minus-requires

@@ -3,7 +3,7 @@ use Rattle.av1_dct.specs.Word.{column}
 use Rattle.av1_dct.proofs.Places.{column_get}
 use Rattle.av1_itx.proofs.Fills.{IsBegun-end}
 use Rattle.av1_itx.proofs.Order.{in-even, in-odd}
-use Rattle.av1_itx.proofs.Words.{pair_more, words_begun}
+use Rattle.av1_itx.proofs.WrittenWords.{pair_more, words_begun}
 use Rattle.av1_itx.proofs.adst.permute_in.Goals as goal
 
 pub loop-p-init : goal.loop-p-init

@@ -7,7 +7,7 @@ use Rattle.av1_dct.proofs.Places.{column_get}
 use Rattle.av1_itx.specs.Adst.{adst_out}
 use Rattle.av1_itx.proofs.Fills.{IsBegun-end}
 use Rattle.av1_itx.proofs.Order.{out-even, out-odd}
-use Rattle.av1_itx.proofs.Words.{pair_more, words_begun}
+use Rattle.av1_itx.proofs.WrittenWords.{pair_more, words_begun}
 use Rattle.av1_itx.proofs.adst.permute_out.Goals as goal
 
 pub loop-p-init : goal.loop-p-init

@@ -1,7 +1,7 @@
 use Rattle.std.proofs.Common.{sym, subst, ◌*◌, length, ℤ}
 use Rattle.av1_dct.specs.Arithmetic.{FitsBits}
 use Rattle.av1_itx.proofs.Turns.{round_weights-fit}
-use Rattle.av1_itx.proofs.Words.{block_words}
+use Rattle.av1_itx.proofs.WrittenWords.{block_words}
 use Rattle.av1_itx.proofs.adst.run_block.Goals as goal
 
 pub turn_pairs-requires-clause-small : goal.turn_pairs-requires-clause-small

@@ -5,7 +5,7 @@ use Rattle.av1_dct.specs.Word.{column}
 use Rattle.av1_dct.proofs.Groups.{words_fit}
 use Rattle.av1_itx.proofs.Fills.{IsBegun-end}
 use Rattle.av1_itx.proofs.Blocks.{block_round}
-use Rattle.av1_itx.proofs.Words.{blocks_words, words_begun}
+use Rattle.av1_itx.proofs.WrittenWords.{blocks_words, words_begun}
 use Rattle.av1_itx.proofs.adst.run_blocks.Goals as goal
 
 pub loop-b-init : goal.loop-b-init

@@ -8,7 +8,7 @@ use Rattle.av1_dct.proofs.Sums.{sum_fits, difference_fits}
 use Rattle.av1_itx.specs.Adst.{adst_sum}
 use Rattle.av1_itx.proofs.Fills.{IsHalved-start, IsHalved-end}
 use Rattle.av1_itx.proofs.Blocks.{sum_first, sum_second}
-use Rattle.av1_itx.proofs.Words.{halves_more}
+use Rattle.av1_itx.proofs.WrittenWords.{halves_more}
 use Rattle.av1_itx.proofs.adst.sum_halves.Goals as goal
 
 pub loop-p-init : goal.loop-p-init

@@ -4,7 +4,7 @@ use Rattle.av1_dct.specs.Word.{column}
 use Rattle.av1_dct.specs.Operations.{half_btf}
 use Rattle.av1_itx.proofs.Fills.{IsBegun-end}
 use Rattle.av1_itx.proofs.Turns.{weights_at, turned_by, pair_first, pair_second}
-use Rattle.av1_itx.proofs.Words.{begun_read, pair_more, words_begun}
+use Rattle.av1_itx.proofs.WrittenWords.{begun_read, pair_more, words_begun}
 use Rattle.av1_itx.proofs.adst.turn_pairs.Goals as goal
 
 pub loop-p-init : goal.loop-p-init

@@ -3,7 +3,7 @@ use Rattle.av1_dct.specs.Word.{column}
 use Rattle.av1_itx.specs.Networks.{network, network_with}
 use Rattle.av1_dct.proofs.Fits.{all-fit}
 use Rattle.av1_itx.proofs.Widths.{fits}
-use Rattle.av1_itx.proofs.Words.{column-reverse}
+use Rattle.av1_itx.proofs.WrittenWords.{column-reverse}
 use Rattle.av1_itx.proofs.networks.inverse_1d.Goals as goal
 
 pub adst_of-requires-clause-fit : goal.adst_of-requires-clause-fit

@@ -5,7 +5,7 @@ use Rattle.av1_dct.specs.Arithmetic.{at}
 use Rattle.av1_dct.specs.Word.{column}
 use Rattle.av1_dct.proofs.Places.{column_get}
 use Rattle.av1_itx.proofs.Small.{half-fits, walsh_is}
-use Rattle.av1_itx.proofs.Words.{column-set4, word_fits}
+use Rattle.av1_itx.proofs.WrittenWords.{column-set4, word_fits}
 use Rattle.av1_itx.proofs.walsh.walsh_of.Goals as goal
 
 pub plus-s0-requires : goal.plus-s0-requires
