@@ -1,5 +1,5 @@
 -- Operations on vectors of n words, lane by lane.
-use Rattle.std.proofs.Common.{ℕ, Bool, true, false, cond, leb, ltb, ◌&&◌, inl, inr, subst, neg_ℤ, ◌≡◌, ◌+◌, ◌-◌, ◌*◌, ◌%◌, ◌^◌, ◌<◌, ℤ, pos, ◌+ℤ◌, ◌-ℤ◌, ◌*ℤ◌}
+use Rattle.std.proofs.Common.{ℕ, Bool, true, false, cond, leb, ltb, ◌&&◌, inl, inr, subst, neg_ℤ, ◌≡◌, ◌+◌, ◌-◌, ◌*◌, ◌%◌, ◌^◌, ◌<◌, ℤ, pos, ◌+ℤ◌, ◌*ℤ◌}
 use Rattle.std.proofs.Common.{List, map, replicate, length, get_or, arith, ◌∙◌, ap, refl, set, sym, w32, to_z, of_z, FitsSigned}
 use Rattle.std.specs.Int.{int_shr, int_min, int_max}
 use Rattle.std.proofs.lemmas.Bool.{cases_lt}
@@ -13,9 +13,7 @@ use Rattle.std.proofs.lemmas.Int.{ints, to_z-of_z, of_z-to_z}
 use Rattle.av1_dct.specs.Arithmetic.{FitsBits, at, clamp_value, round12, wrap32}
 use Rattle.av1_dct.specs.Operations.{half_btf}
 use Rattle.av1_dct.specs.Word.{lane_of_vector}
-use Rattle.av1_dct.proofs.Fits.{whole_same}
 use Rattle.av1_dct.proofs.Lanes.{Bits, bits_at, lane_made}
-use Rattle.av1_dct.proofs.Sums.{sum_fits, difference_fits}
 use Rattle.av1_dct.proofs.Turns.{btf_is, product_is, rounding_is, shifted}
 
 zip_at : {C : Type 0} (n : ℕ) (f : ℕ → ℕ → C) (d : C) (xs ys : List ℕ) (i : ℕ) → i < n → length xs ≡ n → length ys ≡ n →
@@ -154,14 +152,6 @@ pub stored : (n : ℕ) (v : List ℤ) (i : ℕ) → i < n → Bits n (map (of_z 
 unfolding lane_of_vector
 stored n v i h b = let bs = map (of_z w32) v in lane_made bs i (omega (arith, b.count)) (bits_at n bs i h b)
 
--- a lane of words has 32 bits, and is clamped to itself there
-pub word_within : (n : ℕ) (v : List ℤ) (i : ℕ) (z : ℤ) → i < n → Bits n (map (of_z w32) v) → lane_of_vector v i ≡ z →
-    lane_of_vector (map (to_z w32) (map (of_z w32) v)) i ≡ clamp_value z 32
-unfolding lane_of_vector
-word_within n v i z h b is =
-    let bs = map (of_z w32) v in
-    stored n v i h b ∙ sym (whole_same _ (to_z-fits (get_or bs i 0) (bits_at n bs i h b))) ∙ ap (λ u. clamp_value u 32) is
-
 -- a lane of eight numbers
 pub lane_from : (n : ℕ) (v : List ℤ) (i : ℕ) (z : ℤ) → i < n → length v ≡ n → get_or v i (pos 0) ≡ z → FitsSigned w32 z →
     lane_of_vector (map (to_z w32) (map (of_z w32) v)) i ≡ z
@@ -280,28 +270,6 @@ restored n F x y r i h bx by br is =
     stored n r i h br ∙ is ∙ ap (λ z. F z (lane_of_vector (map (to_z w32) (map (of_z w32) y)) i)) (stored n x i h bx)
     ∙ ap (F (lane_of_vector x i)) (stored n y i h by)
 
--- the same of a rotation, whose weights were cast
-pub restored_turn : (n : ℕ) (w0 w1 : ℤ) (x y r : List ℤ) (i : ℕ) → i < n → FitsSigned w32 w0 → FitsSigned w32 w1 → Bits n (map (of_z w32) x) →
-    Bits n (map (of_z w32) y) → Bits n (map (of_z w32) r)
-    → lane_of_vector r i ≡ half_btf (to_z w32 (of_z w32 w0)) (lane_of_vector (map (to_z w32) (map (of_z w32) x)) i) (to_z w32 (of_z w32 w1))
-    (lane_of_vector (map (to_z w32) (map (of_z w32) y)) i)
-    → lane_of_vector (map (to_z w32) (map (of_z w32) r)) i ≡ half_btf w0 (lane_of_vector x i) w1 (lane_of_vector y i)
-restored_turn n w0 w1 x y r i h f0 f1 bx by br is =
-    restored n (λ a b. half_btf (to_z w32 (of_z w32 w0)) a (to_z w32 (of_z w32 w1)) b) x y r i h bx by br is
-    ∙ ap (λ w. half_btf w (lane_of_vector x i) (to_z w32 (of_z w32 w1)) (lane_of_vector y i)) (to_z-of_z w32 w0 f0)
-    ∙ ap (λ w. half_btf w0 (lane_of_vector x i) w (lane_of_vector y i)) (to_z-of_z w32 w1 f1)
-
 pub stored-fits : (n : ℕ) (x : List ℤ) (i : ℕ) → i < n → Bits n (map (of_z w32) x) → FitsBits 20 (lane_of_vector x i) →
     FitsBits 20 (lane_of_vector (map (to_z w32) (map (of_z w32) x)) i)
 stored-fits n x i h bx fit = subst (FitsBits 20) (sym (stored n x i h bx)) fit
-
--- a sum and a difference of two vectors of 20 bits fit 32 bits
-pub stored_sum-fits : (n : ℕ) (x y : List ℤ) (i : ℕ) → i < n → Bits n (map (of_z w32) x) → Bits n (map (of_z w32) y) → FitsBits 20 (lane_of_vector x i) →
-    FitsBits 20 (lane_of_vector y i)
-    → FitsSigned w32 (lane_of_vector (map (to_z w32) (map (of_z w32) x)) i +ℤ lane_of_vector (map (to_z w32) (map (of_z w32) y)) i)
-stored_sum-fits n x y i h bx by fx fy = sum_fits _ _ (stored-fits n x i h bx fx) (stored-fits n y i h by fy)
-
-pub stored_difference-fits : (n : ℕ) (x y : List ℤ) (i : ℕ) → i < n → Bits n (map (of_z w32) x) → Bits n (map (of_z w32) y) → FitsBits 20 (lane_of_vector x i) →
-    FitsBits 20 (lane_of_vector y i)
-    → FitsSigned w32 (lane_of_vector (map (to_z w32) (map (of_z w32) x)) i -ℤ lane_of_vector (map (to_z w32) (map (of_z w32) y)) i)
-stored_difference-fits n x y i h bx by fx fy = difference_fits _ _ (stored-fits n x i h bx fx) (stored-fits n y i h by fy)

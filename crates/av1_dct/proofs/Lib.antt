@@ -19,4 +19,6 @@ pub mod Fused
 pub mod Shorts
 pub mod Pairs
 pub mod Joined
+pub mod CutWords
+pub mod InColumns
 pub mod Examples

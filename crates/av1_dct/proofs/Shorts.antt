@@ -208,6 +208,15 @@ lane_widened xs b =
     let wide = below 8 (λ i. to_z w32 (of_z w32 (to_z w32 (of_z w32 (to_z w16 (x i))))) ≡ to_z w16 (x i)) (λ i h. word_widened (x i) (word_at b i h)) in
     written_out 8 (λ us. (i : ℕ) → i < 8 → S us i) xs b.count (each_below 8 (S (by_index 8 x)) wide)
 
+-- eight lanes in eight
+pub lane_spread : (xs : List ℕ) → Words w16 8 xs → (i : ℕ) → i < 8 → lane_of_vector (map (to_z w32) (widened xs)) i ≡ to_z w16 (get_or xs i 0)
+unfolding lane_of_vector
+lane_spread xs b =
+    let x : ℕ → ℕ = λ i. get_or xs i 0 in
+    let S : List ℕ → ℕ → Type 0 = λ us i. lane_of_vector (map (to_z w32) (widened us)) i ≡ to_z w16 (x i) in
+    let wide = below 8 (λ i. to_z w32 (of_z w32 (to_z w32 (of_z w32 (to_z w16 (x i))))) ≡ to_z w16 (x i)) (λ i h. word_widened (x i) (word_at b i h)) in
+    written_out 8 (λ us. (i : ℕ) → i < 8 → S us i) xs b.count (each_below 8 (S (by_index 8 x)) wide)
+
 -- ---- clamped values
 
 picked32 : (t : Bool) (x y : ℕ) → to_z w32 (cond (top 31 (cond t 4294967295 0)) x y) ≡ cond t (to_z w32 x) (to_z w32 y)

@@ -3,7 +3,7 @@ use Rattle.std.specs.Prelude.{ℕ, zero, suc, ◌+◌, ◌-◌, ◌*◌, ◌/◌
 use Rattle.std.specs.Prelude.{neg_ℤ, ◌+ℤ◌, ◌-ℤ◌, List, [], ◌∷◌, ◌++◌, set, take, drop}
 use Rattle.av1_dct.specs.Arithmetic.{at, clamp_value}
 use Rattle.av1_dct.specs.Operations.{half_btf}
-use Rattle.av1_dct.specs.Cosine.{cos128, group_sum, outer_turn, mirror_sum, rounds, inner_turn}
+use Rattle.av1_dct.specs.Cosine.{brev, cos128, group_sum, outer_turn, mirror_sum, rounds, inner_turn}
 use Rattle.av1_lists.specs.Lists.{by_index}
 
 -- From the transform of the even inputs, in the first half of 2^(k+1) values, and the odd inputs, in the second half in
@@ -85,3 +85,9 @@ ended_at range k n w i =
 
 unfoldable pub ended : (range k n : ℕ) → List ℤ → List ℤ
 ended range k n w = by_index (2 * 2 ^ k) (ended_at range k n w)
+
+-- ---- narrow lanes
+
+-- what comes to place p, in the order of reversed places, where 2^(k+1) values are cut to 16 bits
+abbrev pub cut_place : ℕ → List ℤ → ℕ → ℤ
+cut_place k x p = clamp_value (at x (brev (suc k) p)) 16

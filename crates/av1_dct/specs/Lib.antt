@@ -3,3 +3,4 @@ pub mod Operations
 pub mod Cosine
 pub mod InPlace
 pub mod Word
+pub mod Columns

@@ -106,7 +106,7 @@ fn network_64<W: Butterfly>(w: &mut [W], range: usize)
 // The transform of 2^(K+1) words that stand in the order of their reversed places: the even inputs make the first half
 // of them. Each length has a function of its own, so that the compiler knows its angles and places as numbers.
 #[inline(always)]
-fn run_network<W: Butterfly, const K: usize>(w: &mut [W], range: usize)
+pub(crate) fn run_network<W: Butterfly, const K: usize>(w: &mut [W], range: usize)
     requires range_in { (8 ≤ range) × (range ≤ 20) }
     requires within { range ≤ W.bits }
     requires k_in { (1 ≤ K) × (K ≤ 5) }
@@ -184,13 +184,13 @@ pub(crate) fn cosine_any<W: Butterfly>(n: usize, input: &[W], output: &mut [W], 
 /// lane): the first n words of `output` become that of the first n words of `input`, and the rest of `output` stays.
 /// Here n is 2^(k+1). Sums are clamped to `range` signed bits.
 ///
-/// `_work` is room for a transform that does not run in place. This one does, within `output`, and leaves it as it is.
+/// `_work` is room for a transform that does not run in place. This one does, within `output`, so that any length will
+/// do.
 #[inline(always)]
 pub fn cosine_words<W: Word>(n: usize, input: &[W], _work: &mut [W], output: &mut [W], range: usize)
     requires range_in { (8 ≤ range) × (range ≤ 20) }
     requires n_in { IsTransformSide n }
     requires input_len { n ≤ length input.now }
-    requires work_len { 4 * n ≤ length _work.old }
     requires output_len { n ≤ length output.old }
     requires fit { (i : ℕ) → i < W.LANES → All (FitsBits range) (take n (column W.lane_of i input.now)) }
     ensures value { (k i : ℕ) → i < W.LANES → n ≡ 2 * 2 ^ k → take n (column W.lane_of i output.new) ≡ cosine range k (take n (column W.lane_of i input.now)) }

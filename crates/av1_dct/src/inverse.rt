@@ -16,8 +16,7 @@ pub fn av1_idct4(input: &[i32], output: &mut [i32], range: usize)
     ensures value { take 4 output.new ≡ cosine range 1 (take 4 input.now) }
     ensures rest { drop 4 output.new ≡ drop 4 output.old }
 {
-    let mut work = [0; 16];
-    cosine_words(4, input, &mut work, output, range);
+    cosine_words(4, input, &mut [], output, range);
 }
 
 /// The inverse cosine transform of 8 values (the inverse DCT process of the AV1 specification): the first 8 entries of
@@ -31,8 +30,7 @@ pub fn av1_idct8(input: &[i32], output: &mut [i32], range: usize)
     ensures value { take 8 output.new ≡ cosine range 2 (take 8 input.now) }
     ensures rest { drop 8 output.new ≡ drop 8 output.old }
 {
-    let mut work = [0; 32];
-    cosine_words(8, input, &mut work, output, range);
+    cosine_words(8, input, &mut [], output, range);
 }
 
 /// The inverse cosine transform of 16 values (the inverse DCT process of the AV1 specification): the first 16 entries
@@ -46,8 +44,7 @@ pub fn av1_idct16(input: &[i32], output: &mut [i32], range: usize)
     ensures value { take 16 output.new ≡ cosine range 3 (take 16 input.now) }
     ensures rest { drop 16 output.new ≡ drop 16 output.old }
 {
-    let mut work = [0; 64];
-    cosine_words(16, input, &mut work, output, range);
+    cosine_words(16, input, &mut [], output, range);
 }
 
 /// The inverse cosine transform of 32 values (the inverse DCT process of the AV1 specification): the first 32 entries
@@ -61,8 +58,7 @@ pub fn av1_idct32(input: &[i32], output: &mut [i32], range: usize)
     ensures value { take 32 output.new ≡ cosine range 4 (take 32 input.now) }
     ensures rest { drop 32 output.new ≡ drop 32 output.old }
 {
-    let mut work = [0; 128];
-    cosine_words(32, input, &mut work, output, range);
+    cosine_words(32, input, &mut [], output, range);
 }
 
 /// The inverse cosine transform of 64 values (the inverse DCT process of the AV1 specification): the first 64 entries
@@ -76,6 +72,5 @@ pub fn av1_idct64(input: &[i32], output: &mut [i32], range: usize)
     ensures value { take 64 output.new ≡ cosine range 5 (take 64 input.now) }
     ensures rest { drop 64 output.new ≡ drop 64 output.old }
 {
-    let mut work = [0; 256];
-    cosine_words(64, input, &mut work, output, range);
+    cosine_words(64, input, &mut [], output, range);
 }

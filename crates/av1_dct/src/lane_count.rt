@@ -4,12 +4,14 @@ ghost use Rattle.std.specs.Prelude.{◌≡◌, ℕ, ◌*◌, ◌^◌, ◌<◌, �
 ghost use Rattle.std.specs.List.{All};
 ghost use Rattle.av1_dct.specs.Arithmetic.{FitsBits};
 ghost use Rattle.av1_lists.specs.Counts.{counted};
-ghost use Rattle.av1_dct.specs.Word.{column};
+ghost use Rattle.av1_dct.specs.Word.{column, lane_of_vector};
 ghost use Rattle.av1_lists.specs.Sides.{IsTransformSide};
 ghost use Rattle.av1_dct.specs.Cosine.{cosine};
 
-use crate::butterfly::Butterfly;
 use crate::cosine::cosine_any;
+use crate::narrow::SHORT_BITS;
+use crate::narrow_lanes::cosine_short;
+use std::simd::prelude::*;
 
 /// How many groups of eight transforms were run with it. Only `cosine_lanes` raises it, and nothing sets it back.
 #[derive(Drop)]
@@ -33,29 +35,50 @@ impl LaneCount {
     }
 }
 
-/// Eight inverse cosine transforms of `n` values at a time, one in each lane, as `cosine_words`: over `i32x8`, or over
-/// `i16x8` where the range is at most 16. It counts one group.
+// Eight transforms of n values. Lanes of 16 bits serve where the range has as many; for 4 values they would not pay for
+// the cut.
 #[inline(always)]
-pub fn cosine_lanes<W: Butterfly>(
-    count: &mut LaneCount,
-    n: usize,
-    input: &[W],
-    _work: &mut [W],
-    output: &mut [W],
-    range: usize,
-)
-    requires eight { W.LANES ≡ 8 }
+fn cosine_eight(n: usize, input: &[i32x8], output: &mut [i32x8], range: usize)
     requires range_in { (8 ≤ range) × (range ≤ 20) }
-    requires within { range ≤ W.bits }
     requires n_in { IsTransformSide n }
     requires input_len { n ≤ length input.now }
-    requires work_len { 4 * n ≤ length _work.old }
     requires output_len { n ≤ length output.old }
-    requires fit { (i : ℕ) → i < 8 → All (FitsBits range) (take n (column W.lane_of i input.now)) }
-    ensures value { (k i : ℕ) → i < 8 → n ≡ 2 * 2 ^ k → take n (column W.lane_of i output.new) ≡ cosine range k (take n (column W.lane_of i input.now)) }
+    requires fit { (i : ℕ) → i < 8 → All (FitsBits range) (take n (column lane_of_vector i input.now)) }
+    ensures value { (k i : ℕ) → i < 8 → n ≡ 2 * 2 ^ k →
+        take n (column lane_of_vector i output.new) ≡ cosine range k (take n (column lane_of_vector i input.now)) }
+    ensures rest { drop n output.new ≡ drop n output.old }
+{
+    if range == SHORT_BITS && 8 <= n {
+        cosine_short(n, input, output);
+    } else {
+        cosine_any(n, input, output, range);
+    }
+}
+
+/// Eight inverse cosine transforms of `n` values at a time, one in each lane, as `cosine_words` over `i32x8`. It counts
+/// one group.
+///
+/// `_work` is room for a transform that does not run in place. This one does, within `output`, so that any length will
+/// do.
+#[inline(always)]
+pub fn cosine_lanes(
+    count: &mut LaneCount,
+    n: usize,
+    input: &[i32x8],
+    _work: &mut [i32x8],
+    output: &mut [i32x8],
+    range: usize,
+)
+    requires range_in { (8 ≤ range) × (range ≤ 20) }
+    requires n_in { IsTransformSide n }
+    requires input_len { n ≤ length input.now }
+    requires output_len { n ≤ length output.old }
+    requires fit { (i : ℕ) → i < 8 → All (FitsBits range) (take n (column lane_of_vector i input.now)) }
+    ensures value { (k i : ℕ) → i < 8 → n ≡ 2 * 2 ^ k →
+        take n (column lane_of_vector i output.new) ≡ cosine range k (take n (column lane_of_vector i input.now)) }
     ensures rest { drop n output.new ≡ drop n output.old }
     ensures counts { count.new.groups ≡ counted count.old.groups }
 {
     count.groups = count.groups.saturating_add(1);
-    cosine_any(n, input, output, range);
+    cosine_eight(n, input, output, range);
 }

@@ -6,35 +6,39 @@
 //! - `av1_idct4` to `av1_idct64` give `cosine` of `specs/Cosine.antt` for their length, and leave the rest of `output`
 //!   as it was. `cosine_words` is the one function behind them, for every length and every `Word`: an `i32`, or eight
 //!   of them side by side.
-//! - `cosine_lanes` runs eight transforms at a time, over `i32x8`, or over `i16x8` where the range is at most 16, with
-//!   `cosine` in each lane, and counts them in a `LaneCount`, which no other call raises.
-//! - `Butterfly` is what the networks ask of lanes: butterfly rotations, whose results may be wider than a lane, and
-//!   Hadamard rotations, which clamp. Each `Word` has it, and so has `i16x8`.
+//! - `cosine_lanes` runs eight transforms at a time over `i32x8`, with `cosine` in each lane, and counts them in a
+//!   `LaneCount`, which no other call raises. Where the range is 16 it cuts the words to lanes of 16 bits, and widens
+//!   what comes out.
+//! - `cosine_columns` transforms eight neighbouring columns of a block in place, where values have 16 bits. It counts
+//!   nothing.
 //! - `half_btf` and `clamp_value`, the arithmetic of every network, are those of `specs/Operations.antt` and
 //!   `specs/Arithmetic.antt`.
 //! - Three laws, each on a function with an empty body: a transform adds and subtracts its two halves, zeros give
 //!   zeros, and at 18 bits nothing wraps.
 //!
-//! A transform works in place on `output`, in the order of reversed places, and needs no memory of its own. Its length
-//! is a constant of each instance, so that the compiler writes out its loops and knows its weights as numbers.
+//! Within the crate, `Butterfly` is what the networks ask of lanes: butterfly rotations, whose results may be wider
+//! than a lane, and Hadamard rotations, which clamp. Each `Word` has it, and so have eight lanes of 16 bits. A
+//! transform works in place, in the order of reversed places. Its length is a constant of each instance, so that the
+//! compiler writes out its loops and knows its weights as numbers.
 #![tactic(auto)]
 
 mod arithmetic;
 mod butterfly;
+mod columns;
 mod cosine;
 mod inverse;
 mod lane_count;
 mod laws;
 mod narrow;
+mod narrow_lanes;
 mod steps;
 mod weights;
 mod word;
 
 pub use arithmetic::{clamp_value, half_btf};
-pub use butterfly::Butterfly;
+pub use columns::cosine_columns;
 pub use cosine::cosine_words;
 pub use inverse::{av1_idct4, av1_idct8, av1_idct16, av1_idct32, av1_idct64};
 pub use lane_count::{LaneCount, cosine_lanes};
 pub use laws::{cosine_adds_halves, cosine_never_wraps, cosine_of_zeros};
-pub use narrow::WideLanes;
 pub use word::Word;

@@ -1,18 +1,22 @@
-ghost use Rattle.std.specs.Prelude.{◌≡◌, ℕ, ◌+◌, ◌-◌, ◌*◌, ◌^◌, ◌<◌, ◌≤◌, nat_le, nat_lt, ◌&&◌, if◌then◌else◌, pos, neg_ℤ, ◌+ℤ◌, ◌-ℤ◌, length};
+//! Eight lanes of 16 bits, in which transforms run whose sums are clamped to 16 bits.
+
+ghost use Rattle.std.specs.Prelude.{◌≡◌, refl, ℕ, ◌+◌, ◌-◌, ◌*◌, ◌^◌, ◌<◌, ◌≤◌, nat_le, nat_lt, ◌&&◌, if◌then◌else◌, pos, neg_ℤ, ◌+ℤ◌, ◌-ℤ◌, length};
 ghost use Rattle.av1_dct.specs.Arithmetic.{at, clamp_value, FitsBits};
 ghost use Rattle.av1_dct.specs.Operations.{half_btf};
 ghost use Rattle.av1_dct.specs.Word.{lane_of_pair, lane_of_short, lane_of_vector};
 
 use crate::arithmetic::limits;
 use crate::butterfly::Butterfly;
-use crate::word::Word;
 use std::simd::prelude::*;
+
+/// How many bits a narrow lane has.
+pub(crate) const SHORT_BITS: usize = 16;
 
 /// Eight values of 32 bits: what a rotation of eight lanes of 16 bits gives before it is clamped.
 #[derive(Clone, Copy)]
-pub struct WideLanes {
-    pub(crate) low: i32x4,
-    pub(crate) high: i32x4,
+pub(crate) struct WideLanes {
+    low: i32x4,
+    high: i32x4,
 }
 
 // Four rotations: the words of two vectors side by side, each pair by two weights.
@@ -53,25 +57,67 @@ fn clamp_wide(v: i32x8, range: usize) -> i16x8
     cut.simd_min(i16x8::splat(top)).simd_max(i16x8::splat(low))
 }
 
-/// Eight lanes of 16 bits: a rotation gives 32, and what it gives is clamped to 16 again.
-impl Butterfly for i16x8 {
-    type Wide = WideLanes;
+// The eight numbers from place `start` on.
+#[inline(always)]
+fn eight_numbers(values: &[i32], start: usize) -> i32x8
+    requires { start + 8 ≤ length values.now }
+    ensures { (i : ℕ) → i < 8 → lane_of_vector result i ≡ at values.now (start + i) }
+{
+    let mut lanes = [0; 8];
+    for k in 0..8 {
+        lanes[k] = values[start + k];
+    }
+    i32x8::from_array(lanes)
+}
 
-    const LANES: usize = 8;
+/// Eight narrow lanes, which are filled from words or from a block, and written to them.
+pub(crate) trait Short: Butterfly {
+    /// Each number of a word, clamped to 16 bits.
+    fn cut(word: i32x8) -> Self
+        ensures { (i : ℕ) → i < 8 → Self.lane_of result i ≡ clamp_value (lane_of_vector word i) 16 };
+
+    /// The same numbers in lanes of 32 bits.
+    fn spread(self) -> i32x8
+        ensures { (i : ℕ) → i < 8 → lane_of_vector result i ≡ Self.lane_of self i };
+
+    /// The numbers from place `start` on, each clamped to 16 bits.
+    fn read(values: &[i32], start: usize) -> Self
+        requires { start + 8 ≤ length values.now }
+        ensures { (i : ℕ) → i < 8 → Self.lane_of result i ≡ clamp_value (at values.now (start + i)) 16 };
+
+    /// Writes the numbers to the places from `start` on. All others stay.
+    fn write(self, values: &mut [i32], start: usize)
+        requires { start + 8 ≤ length values.old }
+        ensures { (p : ℕ) → at values.new p ≡ (if nat_le start p && nat_lt p (start + 8) then Self.lane_of self (p - start) else at values.old p) };
+
+    ghost eight: { Self.LANES ≡ 8 };
+
+    ghost sixteen: { Self.bits ≡ 16 };
+}
+
+/// Eight numbers of 16 bits. An array of these is what a proof covers, where it does not cover one of vectors.
+#[derive(Clone, Copy)]
+pub(crate) struct ShortLanes {
+    pub(crate) lanes: i16x8,
+}
+
+/// A rotation gives 32 bits, and what it gives is clamped to 16 again.
+impl Butterfly for ShortLanes {
+    type Wide = WideLanes;
 
     ghost LANES = { 8 };
 
     ghost bits = { 16 };
 
-    ghost lane_of = { lane_of_short };
+    ghost lane_of = { λ word i. lane_of_short word.lanes i };
 
     ghost wide_lane_of = { λ wide i. lane_of_pair wide.low wide.high i };
 
     // The two arrays tell the proof that each lane is an i16.
     #[inline(always)]
-    fn rotate(w0: i32, a: i16x8, w1: i32, b: i16x8) -> WideLanes {
-        let (_a, _b) = (a.to_array(), b.to_array());
-        let (low, high) = a.interleave(b);
+    fn rotate(w0: i32, a: ShortLanes, w1: i32, b: ShortLanes) -> WideLanes {
+        let (_a, _b) = (a.lanes.to_array(), b.lanes.to_array());
+        let (low, high) = a.lanes.interleave(b.lanes);
         WideLanes {
             low: weigh(low, w0, w1),
             high: weigh(high, w0, w1),
@@ -80,7 +126,7 @@ impl Butterfly for i16x8 {
 
     #[inline(always)]
     fn widen(self) -> WideLanes {
-        let wide = self.cast::<i32>();
+        let wide = self.lanes.cast::<i32>();
         WideLanes {
             low: wide.swizzle([0, 1, 2, 3]),
             high: wide.swizzle([4, 5, 6, 7]),
@@ -88,52 +134,81 @@ impl Butterfly for i16x8 {
     }
 
     #[inline(always)]
-    fn sum(x: WideLanes, y: WideLanes, range: usize) -> i16x8 {
+    fn sum(x: WideLanes, y: WideLanes, range: usize) -> ShortLanes {
         let (_xl, _xh, _yl, _yh) = (
             x.low.to_array(),
             x.high.to_array(),
             y.low.to_array(),
             y.high.to_array(),
         );
-        clamp_wide(
-            (x.low + y.low).shuffle(x.high + y.high, [0, 1, 2, 3, 4, 5, 6, 7]),
-            range,
-        )
+        ShortLanes {
+            lanes: clamp_wide(
+                (x.low + y.low).shuffle(x.high + y.high, [0, 1, 2, 3, 4, 5, 6, 7]),
+                range,
+            ),
+        }
     }
 
     #[inline(always)]
-    fn difference(x: WideLanes, y: WideLanes, range: usize) -> i16x8 {
+    fn difference(x: WideLanes, y: WideLanes, range: usize) -> ShortLanes {
         let (_xl, _xh, _yl, _yh) = (
             x.low.to_array(),
             x.high.to_array(),
             y.low.to_array(),
             y.high.to_array(),
         );
-        clamp_wide(
-            (x.low - y.low).shuffle(x.high - y.high, [0, 1, 2, 3, 4, 5, 6, 7]),
-            range,
-        )
+        ShortLanes {
+            lanes: clamp_wide(
+                (x.low - y.low).shuffle(x.high - y.high, [0, 1, 2, 3, 4, 5, 6, 7]),
+                range,
+            ),
+        }
     }
 
     #[inline(always)]
-    fn own_sum(self, o: i16x8, range: usize) -> i16x8 {
-        clamp_wide(self.cast::<i32>() + o.cast::<i32>(), range)
+    fn own_sum(self, o: ShortLanes, range: usize) -> ShortLanes {
+        ShortLanes {
+            lanes: clamp_wide(self.lanes.cast::<i32>() + o.lanes.cast::<i32>(), range),
+        }
     }
 
     #[inline(always)]
-    fn own_difference(self, o: i16x8, range: usize) -> i16x8 {
-        clamp_wide(self.cast::<i32>() - o.cast::<i32>(), range)
+    fn own_difference(self, o: ShortLanes, range: usize) -> ShortLanes {
+        ShortLanes {
+            lanes: clamp_wide(self.lanes.cast::<i32>() - o.lanes.cast::<i32>(), range),
+        }
+    }
+}
+
+impl Short for ShortLanes {
+    #[inline(always)]
+    fn cut(word: i32x8) -> ShortLanes {
+        let _lanes = word.to_array();
+        ShortLanes {
+            lanes: clamp_wide(word, SHORT_BITS),
+        }
     }
 
     #[inline(always)]
-    fn read_clamped(values: &[i32], start: usize) -> i16x8 {
-        let numbers = <i32x8 as Word>::read(values, start);
+    fn spread(self) -> i32x8 {
+        self.lanes.cast::<i32>()
+    }
+
+    #[inline(always)]
+    fn read(values: &[i32], start: usize) -> ShortLanes {
+        let numbers = eight_numbers(values, start);
         let _lanes = numbers.to_array();
-        clamp_wide(numbers, 16)
+        ShortLanes {
+            lanes: clamp_wide(numbers, SHORT_BITS),
+        }
     }
 
     #[inline(always)]
     fn write(self, values: &mut [i32], start: usize) {
-        self.cast::<i32>().copy_to_slice(&mut values[start..]);
+        self.lanes.cast::<i32>().copy_to_slice(&mut values[start..]);
     }
+
+    ghost eight = { refl };
+
+    ghost sixteen = { refl };
 }

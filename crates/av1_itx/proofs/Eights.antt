@@ -3,7 +3,7 @@ use Rattle.std.proofs.Common.{ℕ, true, refl, cond, ltb, leb, ◌&&◌, ◌≡�
 use Rattle.std.proofs.Common.{inr, subst}
 use Rattle.std.specs.List.{All}
 use Rattle.std.proofs.Math.Nat.{mul-le-mul_left}
-use Rattle.std.proofs.lemmas.Bool.{cases_lt, cases_order}
+use Rattle.std.proofs.lemmas.Bool.{cases_lt}
 use Rattle.std.proofs.lemmas.Bool.Decides.{nat_tests}
 use Rattle.std.proofs.lemmas.List.{take_at, take_all, length-map}
 use Rattle.av1_dct.specs.Arithmetic.{at, FitsBits}
@@ -14,34 +14,7 @@ use Rattle.av1_itx.specs.declared.kinds.TxType1D.{TxType1D}
 use Rattle.av1_itx.specs.declared.kinds.TxType1D.TheVariants.{DCT}
 use Rattle.av1_itx.specs.LaneGroups.{is_cosine}
 use Rattle.av1_itx.specs.Networks.{HasNetwork, network, network_with}
-use Rattle.av1_itx.proofs.Lines.{place_in}
 use Rattle.av1_lists.proofs.Lists.{by_index-all, by_index-same}
-
--- one more row of l columns from c on
-pub lanes_row : (w c l n k : ℕ) (G H : ℕ → ℕ → ℤ) (v : ℕ → ℤ) (buf new : List ℤ) → c + l ≤ w → k < n
-    → ((p : ℕ) → at new p ≡ cond (leb (k * w + c) p && ltb p (k * w + c + l)) (v (p - (k * w + c))) (at buf p))
-    → ((r q : ℕ) → r < n → q < w → at buf (r * w + q) ≡ cond (ltb r k && (leb c q && ltb q (c + l))) (G r q) (H r q))
-    → ((q : ℕ) → c ≤ q → q < c + l → v (q - c) ≡ G k q)
-    → (r q : ℕ) → r < n → q < w → at new (r * w + q) ≡ cond (ltb r (k + 1) && (leb c q && ltb q (c + l))) (G r q) (H r q)
-lanes_row w c l n k G H v buf new room hk now before here = λ r q hr hq.
-    let a = before r q hr hq in
-    let b = now (r * w + q) in
-    elim (cases_order r k) [
-      | inl e ↦ (
-          let m : r * w ≡ k * w = ap (λ x. x * w) e in
-          let g : G r q ≡ G k q = ap (λ x. G x q) e in
-          elim (cases_lt q c) [
-            | inl lo ↦ grind (arith, nat_tests)
-            | inr lo ↦ elim (cases_lt q (c + l)) [
-              | inl hi ↦ (let d : r * w + q - (k * w + c) ≡ q - c = omega arith in let u : v (r * w + q - (k * w + c)) ≡ G k q = ap v d ∙ here q lo hi
-                  in grind (arith, nat_tests))
-              | inr hi ↦ grind (arith, nat_tests)
-            ]
-          ]
-          )
-      | inr (inl e) ↦ (let p = place_in r q w k e hq in grind (arith, nat_tests))
-      | inr (inr e) ↦ (let p = place_in k (c + l - 1) w r e (omega arith) in grind (arith, nat_tests))
-    ]
 
 -- one more group of m columns
 pub groups_more : (w c d m h : ℕ) (F G D : ℕ → ℕ → ℤ) (old new : List ℤ) → d ≡ c + m

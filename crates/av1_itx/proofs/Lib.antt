@@ -3,7 +3,7 @@ pub mod Turns
 pub mod Blocks
 pub mod Order
 pub mod Weights
-pub mod Words
+pub mod WrittenWords
 pub mod Steps
 pub mod Adst4
 pub mod Widths

@@ -7,7 +7,7 @@ ghost use Rattle.av1_dct.specs.Word.{column};
 ghost use Rattle.av1_lists.specs.Lists.{by_index};
 ghost use Rattle.av1_itx.specs.Adst.{adst, adst4, adst_more, adst_in, adst_out, adst_sum, adst_turn, turned, round_weights, out_place};
 
-use av1_dct::Word;
+use crate::words::BlockWord;
 
 // The weights of the turns of neighbours: of all pairs at the start, and of the pairs of the upper half of a block of
 // 16, 8 and 4.
@@ -37,7 +37,7 @@ const PLACES_16: [usize; 16] = [0, 8, 12, 4, 6, 14, 10, 2, 3, 11, 15, 7, 5, 13, 
 
 // Turns each pair of neighbours by its weights.
 #[inline(always)]
-fn turn_pairs<W: Word>(v: &mut [W], weights: &[(i32, i32)])
+fn turn_pairs<W: BlockWord>(v: &mut [W], weights: &[(i32, i32)])
     requires len { length v.old ≡ 2 * length weights.now }
     requires small { (p : ℕ) → p < length weights.now → FitsBits 20 (slice_index_or weights.now p (pos 0, pos 0)).0 }
     ensures { (i : ℕ) → i < W.LANES →
@@ -55,7 +55,7 @@ fn turn_pairs<W: Word>(v: &mut [W], weights: &[(i32, i32)])
 
 // The halves become their sums and differences, place by place.
 #[inline(always)]
-fn sum_halves<W: Word>(v: &mut [W], range: usize)
+fn sum_halves<W: BlockWord>(v: &mut [W], range: usize)
     requires range_in { (8 ≤ range) × (range ≤ 20) }
     requires even { 2 * (length v.old / 2) ≡ length v.old }
     requires fit { (i : ℕ) → i < W.LANES → AllFit 20 (column W.lane_of i v.old) }
@@ -72,7 +72,7 @@ fn sum_halves<W: Word>(v: &mut [W], range: usize)
 
 // Sums and differences of the halves of a block, whose upper half is then turned.
 #[inline(always)]
-fn run_block<W: Word>(v: &mut [W], weights: &[(i32, i32)], range: usize)
+fn run_block<W: BlockWord>(v: &mut [W], weights: &[(i32, i32)], range: usize)
     requires range_in { (8 ≤ range) × (range ≤ 20) }
     requires some { 1 ≤ length weights.now }
     requires len { length v.old ≡ 2 * (2 * length weights.now) }
@@ -88,7 +88,7 @@ fn run_block<W: Word>(v: &mut [W], weights: &[(i32, i32)], range: usize)
 
 // The same in each block.
 #[inline(always)]
-fn run_blocks<W: Word>(v: &mut [W], blocks: usize, weights: &[(i32, i32)], range: usize)
+fn run_blocks<W: BlockWord>(v: &mut [W], blocks: usize, weights: &[(i32, i32)], range: usize)
     requires range_in { (8 ≤ range) × (range ≤ 20) }
     requires some { 1 ≤ length weights.now }
     requires len { length v.old ≡ blocks * (2 * (2 * length weights.now)) }
@@ -105,7 +105,7 @@ fn run_blocks<W: Word>(v: &mut [W], blocks: usize, weights: &[(i32, i32)], range
 
 // Writes the inputs in the order in which their pairs are turned.
 #[inline(always)]
-fn permute_in<W: Word>(input: &[W], v: &mut [W])
+fn permute_in<W: BlockWord>(input: &[W], v: &mut [W])
     requires even { 2 * (length v.old / 2) ≡ length v.old }
     requires len { length input.now ≡ length v.old }
     ensures { (i : ℕ) → i < W.LANES → column W.lane_of i v.new ≡ by_index (length v.old) (adst_in (length v.old) (column W.lane_of i input.now)) }
@@ -120,7 +120,7 @@ fn permute_in<W: Word>(input: &[W], v: &mut [W])
 
 // Reads the outputs from their places, every second one negated.
 #[inline(always)]
-fn permute_out<W: Word>(k: usize, v: &[W], places: &[usize], output: &mut [W])
+fn permute_out<W: BlockWord>(k: usize, v: &[W], places: &[usize], output: &mut [W])
     requires k_in { k ≤ 3 }
     requires len { length v.now ≡ 2 * 2 ^ k }
     requires output_len { length output.old ≡ 2 * 2 ^ k }
@@ -139,7 +139,7 @@ fn permute_out<W: Word>(k: usize, v: &[W], places: &[usize], output: &mut [W])
 }
 
 #[inline(always)]
-fn adst8_of<W: Word>(input: &[W], v: &mut [W], output: &mut [W], range: usize)
+fn adst8_of<W: BlockWord>(input: &[W], v: &mut [W], output: &mut [W], range: usize)
     requires range_in { (8 ≤ range) × (range ≤ 20) }
     requires input_len { length input.now ≡ 8 }
     requires work_len { length v.old ≡ 8 }
@@ -154,7 +154,7 @@ fn adst8_of<W: Word>(input: &[W], v: &mut [W], output: &mut [W], range: usize)
 }
 
 #[inline(always)]
-fn adst16_of<W: Word>(input: &[W], v: &mut [W], output: &mut [W], range: usize)
+fn adst16_of<W: BlockWord>(input: &[W], v: &mut [W], output: &mut [W], range: usize)
     requires range_in { (8 ≤ range) × (range ≤ 20) }
     requires input_len { length input.now ≡ 16 }
     requires work_len { length v.old ≡ 16 }
@@ -170,7 +170,7 @@ fn adst16_of<W: Word>(input: &[W], v: &mut [W], output: &mut [W], range: usize)
 }
 
 #[inline(always)]
-fn adst4_of<W: Word>(input: &[W], output: &mut [W])
+fn adst4_of<W: BlockWord>(input: &[W], output: &mut [W])
     requires input_len { length input.now ≡ 4 }
     requires output_len { length output.old ≡ 4 }
     requires fit { (i : ℕ) → i < W.LANES → AllFit 20 (column W.lane_of i input.now) }
@@ -198,7 +198,7 @@ fn adst4_of<W: Word>(input: &[W], output: &mut [W])
 
 /// The inverse asymmetric sine transform of 2^(k+1) values, in each lane. `work` is room for 16.
 #[inline(always)]
-pub(crate) fn adst_of<W: Word>(
+pub(crate) fn adst_of<W: BlockWord>(
     k: usize,
     input: &[W],
     work: &mut [W],

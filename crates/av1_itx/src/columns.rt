@@ -63,7 +63,7 @@ fn is_cosine(kind: TxType1D) -> bool
 }
 
 // Each column of a buffer of w columns and h rows, transformed in place. Where it is the cosine transform and there are
-// eight columns or more, the groups of eight are counted.
+// eight columns or more, room that counts counts the groups of eight.
 fn run_columns<R: LaneRoom>(
     buffer: &mut [i32],
     lanes: &mut R,
@@ -94,7 +94,7 @@ fn run_columns<R: LaneRoom>(
 }
 
 /// Each column of a block, transformed in place: `buffer` has the block row by row. Where the columns take the cosine
-/// transform and there are eight or more, the groups of eight are counted.
+/// transform and there are eight or more, room that counts counts the groups of eight.
 pub(crate) fn column_pass<R: LaneRoom>(
     buffer: &mut [i32],
     lanes: &mut R,

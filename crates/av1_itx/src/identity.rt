@@ -6,12 +6,12 @@ ghost use Rattle.av1_dct.specs.Arithmetic.{AllFit, FitsBits};
 ghost use Rattle.av1_dct.specs.Word.{column};
 ghost use Rattle.av1_itx.specs.Identity.{identity, scaled};
 
+use crate::words::BlockWord;
 use av1_blocks::SQRT2;
-use av1_dct::Word;
 
 // What a value of 2^(k+1) becomes, in each lane.
 #[inline(always)]
-fn scaled_of<W: Word>(k: usize, z: W) -> W
+fn scaled_of<W: BlockWord>(k: usize, z: W) -> W
     requires k_in { (1 ≤ k) × (k ≤ 4) }
     requires fits { (i : ℕ) → i < W.LANES → FitsBits 20 (W.lane_of z i) }
     ensures { (i : ℕ) → i < W.LANES → W.lane_of result i ≡ scaled k (W.lane_of z i) }
@@ -30,7 +30,7 @@ fn scaled_of<W: Word>(k: usize, z: W) -> W
 }
 
 #[inline(always)]
-pub(crate) fn identity_of<W: Word>(k: usize, input: &[W], output: &mut [W])
+pub(crate) fn identity_of<W: BlockWord>(k: usize, input: &[W], output: &mut [W])
     requires k_in { (1 ≤ k) × (k ≤ 4) }
     requires input_len { length input.now ≡ 2 * 2 ^ k }
     requires output_len { length output.old ≡ 2 * 2 ^ k }

@@ -11,26 +11,27 @@ ghost use Rattle.av1_itx.specs.Networks.{HasNetwork, network};
 
 use crate::kinds::TxType1D;
 use crate::networks::inverse_1d;
-use av1_dct::{Butterfly, LaneCount, Word, cosine_lanes};
+use crate::words::BlockWord;
+use av1_dct::{LaneCount, cosine_lanes};
+use std::simd::prelude::*;
 
 // The inputs of the columns from c on, one in each lane, of a buffer of w columns.
 #[inline(always)]
-fn gather_words<W: Butterfly>(buffer: &[i32], line: &mut [W], c: usize, w: usize)
+fn gather_words<W: BlockWord>(buffer: &[i32], line: &mut [W], c: usize, w: usize)
     requires columns_in { c + W.LANES ≤ w }
     requires few { w ≤ 64 }
     requires lines { length line.old ≤ 64 }
     requires buffer_len { length buffer.now ≡ length line.old * w }
-    requires fit { (r i : ℕ) → r < length line.old → i < W.LANES → FitsBits W.bits (at buffer.now (r * w + (c + i))) }
     ensures { (i : ℕ) → i < W.LANES → column W.lane_of i line.new ≡ by_index (length line.old) (λ r. at buffer.now (r * w + (c + i))) }
 {
     for r in 0..line.len() {
-        line[r] = W::read_clamped(buffer, r * w + c);
+        line[r] = W::read(buffer, r * w + c);
     }
 }
 
 // Writes the lanes of a line into the columns from c on, of a buffer of w columns.
 #[inline(always)]
-fn scatter_words<W: Butterfly>(buffer: &mut [i32], line: &[W], c: usize, w: usize)
+fn scatter_words<W: BlockWord>(buffer: &mut [i32], line: &[W], c: usize, w: usize)
     requires columns_in { c + W.LANES ≤ w }
     requires few { w ≤ 64 }
     requires lines { length line.now ≤ 64 }
@@ -46,28 +47,26 @@ fn scatter_words<W: Butterfly>(buffer: &mut [i32], line: &[W], c: usize, w: usiz
 
 /// Each group of eight columns, transformed in place by the cosine transform: `buffer` has w columns and h rows, row by
 /// row. Here h is 2^(k+1).
-pub(crate) fn run_groups<W: Butterfly>(
+pub(crate) fn run_groups(
     buffer: &mut [i32],
-    line: &mut [W],
-    work: &mut [W],
-    transformed: &mut [W],
+    line: &mut [i32x8],
+    work: &mut [i32x8],
+    transformed: &mut [i32x8],
     count: &mut LaneCount,
     w: usize,
     h: usize,
     k: usize,
     range: usize,
 )
-    requires eight { W.LANES ≡ 8 }
     requires width { 8 * (w / 8) ≡ w }
     requires few { w ≤ 64 }
     requires height { IsTransformSide h }
     requires power { h ≡ 2 * 2 ^ k }
     requires buffer_len { length buffer.old ≡ h * w }
     requires line_len { 64 ≤ length line.old }
-    requires work_len { 256 ≤ length work.old }
+    requires work_len { 16 ≤ length work.old }
     requires transformed_len { 64 ≤ length transformed.old }
     requires range_in { (8 ≤ range) × (range ≤ 20) }
-    requires within { range ≤ W.bits }
     requires fit { (r c : ℕ) → r < h → c < w → FitsBits range (at buffer.old (r * w + c)) }
     ensures value { (r c : ℕ) → r < h → c < w → at buffer.new (r * w + c) ≡ at (cosine range k (by_index h (λ y. at buffer.old (y * w + c)))) r }
     ensures counts { count.new.groups ≡ raised count.old.groups (w / 8) }
@@ -83,7 +82,7 @@ pub(crate) fn run_groups<W: Butterfly>(
 
 /// Each group of columns, one in each lane, transformed in place by any kind.
 #[tactic(auto, using(crate::proofs::Eights::group_in))]
-pub(crate) fn run_words<W: Word>(
+pub(crate) fn run_words<W: BlockWord>(
     buffer: &mut [i32],
     line: &mut [W],
     work: &mut [W],
@@ -102,7 +101,7 @@ pub(crate) fn run_words<W: Word>(
     requires has { HasNetwork kind k }
     requires buffer_len { length buffer.old ≡ h * w }
     requires line_len { 64 ≤ length line.old }
-    requires work_len { 256 ≤ length work.old }
+    requires work_len { 16 ≤ length work.old }
     requires transformed_len { 64 ≤ length transformed.old }
     requires range_in { (8 ≤ range) × (range ≤ 20) }
     requires fit { (r c : ℕ) → r < h → c < w → FitsBits range (at buffer.old (r * w + c)) }

@@ -13,12 +13,12 @@ ghost use Rattle.av1_lists.specs.Lists.{by_index};
 use crate::kinds::get_1d_tx_types;
 use crate::networks::inverse_1d;
 use crate::rows::clear;
+use crate::words::BlockWord;
 use av1_blocks::{TxSize, TxType};
-use av1_dct::Word;
 
 // The inputs of the rows from r on, one in each lane. Coefficients stand column by column in `scaled`.
 #[inline(always)]
-fn gather_rows<W: Word>(scaled: &[i32], line: &mut [W], r: usize, tx_size: TxSize)
+fn gather_rows<W: BlockWord>(scaled: &[i32], line: &mut [W], r: usize, tx_size: TxSize)
     requires scaled_len { length scaled.now ≡ coded_area tx_size }
     requires rows_in { r + W.LANES ≤ coded (tx_height tx_size) }
     requires line_len { length line.old ≡ tx_width tx_size }
@@ -37,7 +37,7 @@ fn gather_rows<W: Word>(scaled: &[i32], line: &mut [W], r: usize, tx_size: TxSiz
 
 // Whether each lane of each word is 0.
 #[inline(always)]
-fn are_zero<W: Word>(line: &[W]) -> bool
+fn are_zero<W: BlockWord>(line: &[W]) -> bool
     ensures { result ≡ true → (i p : ℕ) → i < W.LANES → p < length line.now → at (column W.lane_of i line.now) p ≡ pos 0 }
 {
     for p in 0..line.len() {
@@ -51,7 +51,7 @@ fn are_zero<W: Word>(line: &[W]) -> bool
 
 // Writes the lanes of a word down column c of rows of w places.
 #[inline(always)]
-fn spread_word<W: Word>(part: &mut [i32], word: W, c: usize, w: usize)
+fn spread_word<W: BlockWord>(part: &mut [i32], word: W, c: usize, w: usize)
     requires column_in { c < w }
     requires few { w ≤ 64 }
     requires lanes { W.LANES ≤ 8 }
@@ -65,7 +65,7 @@ fn spread_word<W: Word>(part: &mut [i32], word: W, c: usize, w: usize)
 
 // Writes line i, made of lane i of the words, to row i.
 #[inline(always)]
-fn spread_words<W: Word>(part: &mut [i32], line: &[W], w: usize)
+fn spread_words<W: BlockWord>(part: &mut [i32], line: &[W], w: usize)
     requires width { w ≡ length line.now }
     requires few { w ≤ 64 }
     requires lanes { W.LANES ≤ 8 }
@@ -80,7 +80,7 @@ fn spread_words<W: Word>(part: &mut [i32], line: &[W], w: usize)
 
 // The rows from r on, one in each lane, transformed. Where all are zeros they stay so, and are not run.
 #[inline(always)]
-fn run_row_group<W: Word>(
+fn run_row_group<W: BlockWord>(
     scaled: &[i32],
     line: &mut [W],
     work: &mut [W],
@@ -99,7 +99,7 @@ fn run_row_group<W: Word>(
     requires has { HasNetwork (row_kind tx_type) (row_power tx_size) }
     requires rows_in { r + W.LANES ≤ coded (tx_height tx_size) }
     requires line_len { length line.old ≡ tx_width tx_size }
-    requires work_len { 256 ≤ length work.old }
+    requires work_len { 16 ≤ length work.old }
     requires transformed_len { length transformed.old ≡ tx_width tx_size }
     requires part_len { length part.old ≡ W.LANES * tx_width tx_size }
     ensures { (i c : ℕ) → i < W.LANES → c < tx_width tx_size →
@@ -125,7 +125,7 @@ fn run_row_group<W: Word>(
 
 /// Each row that has coefficients, transformed, as many at a time as there are lanes: `buffer` has these rows one after
 /// the other.
-pub(crate) fn run_row_groups<W: Word>(
+pub(crate) fn run_row_groups<W: BlockWord>(
     scaled: &[i32],
     line: &mut [W],
     work: &mut [W],
@@ -143,7 +143,7 @@ pub(crate) fn run_row_groups<W: Word>(
     requires scaled_fit { AllFit (row_range bd) scaled.now }
     requires has { HasNetwork (row_kind tx_type) (row_power tx_size) }
     requires line_len { 64 ≤ length line.old }
-    requires work_len { 256 ≤ length work.old }
+    requires work_len { 16 ≤ length work.old }
     requires transformed_len { 64 ≤ length transformed.old }
     requires buffer_len { length buffer.old ≡ coded (tx_height tx_size) * tx_width tx_size }
     ensures { (r c : ℕ) → r < coded (tx_height tx_size) → c < tx_width tx_size →

@@ -3,12 +3,13 @@
 //! A vector of `std::simd` can't cross to C, neither by itself nor in a struct. These words can, and each operation of
 //! theirs is that of the vector of their lanes.
 
-ghost use Rattle.std.specs.Prelude.{◌≡◌, refl, ℕ, ◌<◌, length};
+ghost use Rattle.std.specs.Prelude.{◌≡◌, ℕ, ◌<◌, length};
 ghost use Rattle.std.specs.Int.RustNames.{FitsSigned};
 ghost use Rattle.std.specs.Int.{w32};
 ghost use Rattle.av1_dct.specs.Arithmetic.{at};
 
-use av1_dct::{Butterfly, Word};
+use crate::words::BlockWord;
+use av1_dct::Word;
 use std::simd::prelude::*;
 
 /// Four `i32` side by side.
@@ -63,63 +64,13 @@ impl EightLanes {
     }
 }
 
-impl Butterfly for FourLanes {
-    type Wide = FourLanes;
-
+impl Word for FourLanes {
     const LANES: usize = 4;
 
     ghost LANES = { 4 };
 
-    ghost bits = { 32 };
-
     ghost lane_of = { λ word i. at word.lanes i };
 
-    ghost wide_lane_of = { λ word i. at word.lanes i };
-
-    #[inline(always)]
-    fn rotate(w0: i32, a: FourLanes, w1: i32, b: FourLanes) -> FourLanes {
-        <FourLanes as Word>::turn(w0, a, w1, b)
-    }
-
-    #[inline(always)]
-    fn widen(self) -> FourLanes {
-        self
-    }
-
-    #[inline(always)]
-    fn sum(x: FourLanes, y: FourLanes, range: usize) -> FourLanes {
-        x.plus(y).clamp_to(range)
-    }
-
-    #[inline(always)]
-    fn difference(x: FourLanes, y: FourLanes, range: usize) -> FourLanes {
-        x.minus(y).clamp_to(range)
-    }
-
-    #[inline(always)]
-    fn own_sum(self, o: FourLanes, range: usize) -> FourLanes {
-        <FourLanes as Butterfly>::sum(self, o, range)
-    }
-
-    #[inline(always)]
-    fn own_difference(self, o: FourLanes, range: usize) -> FourLanes {
-        <FourLanes as Butterfly>::difference(self, o, range)
-    }
-
-    #[inline(always)]
-    fn read_clamped(values: &[i32], start: usize) -> FourLanes {
-        FourLanes {
-            lanes: <i32x4 as Butterfly>::read_clamped(values, start).to_array(),
-        }
-    }
-
-    #[inline(always)]
-    fn write(self, values: &mut [i32], start: usize) {
-        self.to_vector().write(values, start);
-    }
-}
-
-impl Word for FourLanes {
     #[inline(always)]
     fn splat(v: i32) -> FourLanes {
         FourLanes { lanes: [v; 4] }
@@ -160,7 +111,9 @@ impl Word for FourLanes {
             lanes: self.to_vector().clamp_to(range).to_array(),
         }
     }
+}
 
+impl BlockWord for FourLanes {
     #[inline(always)]
     fn add_product(self, weight: i32, o: FourLanes) -> FourLanes {
         let (a, b) = (self.to_vector(), o.to_vector());
@@ -191,60 +144,7 @@ impl Word for FourLanes {
     #[inline(always)]
     fn read(values: &[i32], start: usize) -> FourLanes {
         FourLanes {
-            lanes: <i32x4 as Word>::read(values, start).to_array(),
-        }
-    }
-
-    ghost whole = { refl };
-}
-
-impl Butterfly for EightLanes {
-    type Wide = EightLanes;
-
-    const LANES: usize = 8;
-
-    ghost LANES = { 8 };
-
-    ghost bits = { 32 };
-
-    ghost lane_of = { λ word i. at word.lanes i };
-
-    ghost wide_lane_of = { λ word i. at word.lanes i };
-
-    #[inline(always)]
-    fn rotate(w0: i32, a: EightLanes, w1: i32, b: EightLanes) -> EightLanes {
-        <EightLanes as Word>::turn(w0, a, w1, b)
-    }
-
-    #[inline(always)]
-    fn widen(self) -> EightLanes {
-        self
-    }
-
-    #[inline(always)]
-    fn sum(x: EightLanes, y: EightLanes, range: usize) -> EightLanes {
-        x.plus(y).clamp_to(range)
-    }
-
-    #[inline(always)]
-    fn difference(x: EightLanes, y: EightLanes, range: usize) -> EightLanes {
-        x.minus(y).clamp_to(range)
-    }
-
-    #[inline(always)]
-    fn own_sum(self, o: EightLanes, range: usize) -> EightLanes {
-        <EightLanes as Butterfly>::sum(self, o, range)
-    }
-
-    #[inline(always)]
-    fn own_difference(self, o: EightLanes, range: usize) -> EightLanes {
-        <EightLanes as Butterfly>::difference(self, o, range)
-    }
-
-    #[inline(always)]
-    fn read_clamped(values: &[i32], start: usize) -> EightLanes {
-        EightLanes {
-            lanes: <i32x8 as Butterfly>::read_clamped(values, start).to_array(),
+            lanes: <i32x4 as BlockWord>::read(values, start).to_array(),
         }
     }
 
@@ -255,6 +155,12 @@ impl Butterfly for EightLanes {
 }
 
 impl Word for EightLanes {
+    const LANES: usize = 8;
+
+    ghost LANES = { 8 };
+
+    ghost lane_of = { λ word i. at word.lanes i };
+
     #[inline(always)]
     fn splat(v: i32) -> EightLanes {
         EightLanes { lanes: [v; 8] }
@@ -295,7 +201,9 @@ impl Word for EightLanes {
             lanes: self.to_vector().clamp_to(range).to_array(),
         }
     }
+}
 
+impl BlockWord for EightLanes {
     #[inline(always)]
     fn add_product(self, weight: i32, o: EightLanes) -> EightLanes {
         let (a, b) = (self.to_vector(), o.to_vector());
@@ -326,9 +234,12 @@ impl Word for EightLanes {
     #[inline(always)]
     fn read(values: &[i32], start: usize) -> EightLanes {
         EightLanes {
-            lanes: <i32x8 as Word>::read(values, start).to_array(),
+            lanes: <i32x8 as BlockWord>::read(values, start).to_array(),
         }
     }
 
-    ghost whole = { refl };
+    #[inline(always)]
+    fn write(self, values: &mut [i32], start: usize) {
+        self.to_vector().write(values, start);
+    }
 }

@@ -26,9 +26,6 @@ use std::simd::prelude::*;
 /// How many columns are transformed at a time.
 pub(crate) const LANES: usize = 8;
 
-/// How many bits a lane of an `i16x8` has.
-const SHORT_BITS: usize = 16;
-
 /// Room in which rows and columns are transformed side by side: eight at a time, or four where there are no more.
 pub(crate) trait LaneRoom {
     // how many groups of eight columns it has counted, and what that becomes by so many more
@@ -100,16 +97,12 @@ pub struct Lanes {
     line: Vec<i32x8>,
     work: Vec<i32x8>,
     transformed: Vec<i32x8>,
-    short_line: Vec<i16x8>,
-    short_work: Vec<i16x8>,
-    short_transformed: Vec<i16x8>,
     line_of_4: Vec<i32x4>,
     work_of_4: Vec<i32x4>,
     transformed_of_4: Vec<i32x4>,
     count: LaneCount,
-    ghost long: { (vec_len line ≡ 64) × (vec_len work ≡ 256) × (vec_len transformed ≡ 64) },
-    ghost long_of_shorts: { (vec_len short_line ≡ 64) × (vec_len short_work ≡ 256) × (vec_len short_transformed ≡ 64) },
-    ghost long_of_4: { (vec_len line_of_4 ≡ 64) × (vec_len work_of_4 ≡ 256) × (vec_len transformed_of_4 ≡ 64) },
+    ghost long: { (vec_len line ≡ 64) × (vec_len work ≡ 16) × (vec_len transformed ≡ 64) },
+    ghost long_of_4: { (vec_len line_of_4 ≡ 64) × (vec_len work_of_4 ≡ 16) × (vec_len transformed_of_4 ≡ 64) },
 }
 
 // So many copies of a word.
@@ -127,21 +120,15 @@ impl Lanes {
         ensures { IfOk result (λ lanes. lanes.count.groups ≡ 0) }
     {
         let line = copies(alloc, i32x8::splat(0), 64)?;
-        let work = copies(alloc, i32x8::splat(0), 256)?;
+        let work = copies(alloc, i32x8::splat(0), 16)?;
         let transformed = copies(alloc, i32x8::splat(0), 64)?;
-        let short_line = copies(alloc, i16x8::splat(0), 64)?;
-        let short_work = copies(alloc, i16x8::splat(0), 256)?;
-        let short_transformed = copies(alloc, i16x8::splat(0), 64)?;
         let line_of_4 = copies(alloc, i32x4::splat(0), 64)?;
-        let work_of_4 = copies(alloc, i32x4::splat(0), 256)?;
+        let work_of_4 = copies(alloc, i32x4::splat(0), 16)?;
         let transformed_of_4 = copies(alloc, i32x4::splat(0), 64)?;
         Ok(Lanes {
             line,
             work,
             transformed,
-            short_line,
-            short_work,
-            short_transformed,
             line_of_4,
             work_of_4,
             transformed_of_4,
@@ -201,22 +188,7 @@ impl LaneRoom for Lanes {
         );
     }
 
-    // Columns of 16 bits, which those of samples of 8 and of 10 bits are, fit lanes of 16.
     fn run_cosine(&mut self, buffer: &mut [i32], w: usize, h: usize, k: usize, range: usize) {
-        if range == SHORT_BITS {
-            run_groups(
-                buffer,
-                self.short_line.as_mut_slice(),
-                self.short_work.as_mut_slice(),
-                self.short_transformed.as_mut_slice(),
-                &mut self.count,
-                w,
-                h,
-                k,
-                SHORT_BITS,
-            );
-            return;
-        }
         run_groups(
             buffer,
             self.line.as_mut_slice(),

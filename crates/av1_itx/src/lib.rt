@@ -10,9 +10,10 @@
 //!   `inverse_transform_add_with` does so in a region. Both run over a `TxScratch` that is made once, allocate nothing
 //!   and always succeed. `inverse_transform_add_in` does the former over a `TxRoom`, a plain struct of arrays that C
 //!   may own, too. `inverse_transform_add` makes its own scratch; where memory is refused it changes nothing.
-//! - Columns that take the cosine transform go through `cosine_lanes` eight at a time, where there are eight or more. A
-//!   scratch counts these groups: `TxScratch::lane_groups`, which each call raises by `lane_groups` of
-//!   `specs/LaneGroups.antt`.
+//! - Columns that take the cosine transform, where there are eight or more, go eight at a time. Over a scratch they go
+//!   through `cosine_lanes`, and the scratch counts these groups: `TxScratch::lane_groups`, which each call raises by
+//!   `lane_groups` of `specs/LaneGroups.antt`. Over a `TxRoom` nothing is counted. All other columns, and all rows, go
+//!   eight or four at a time.
 //! - `av1_iadst4`, `av1_iflipadst16`, `av1_iidentity32`, `av1_iwht4` and their like give the definitions of
 //!   `specs/Adst.antt`, `specs/Identity.antt` and `specs/Walsh.antt` on the first values of a slice, and leave the rest
 //!   of `output`.
@@ -41,6 +42,7 @@ mod room;
 mod rows;
 mod shift;
 mod walsh;
+mod words;
 
 pub use adst::{
     av1_iadst4, av1_iadst8, av1_iadst16, av1_iflipadst4, av1_iflipadst8, av1_iflipadst16,

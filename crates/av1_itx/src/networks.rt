@@ -11,15 +11,16 @@ use crate::adst::adst_of;
 use crate::identity::identity_of;
 use crate::kinds::TxType1D;
 use crate::walsh::walsh_of;
-use av1_dct::{Word, cosine_words};
+use crate::words::BlockWord;
+use av1_dct::cosine_words;
 
 // The inverse cosine transform of all words.
 #[inline(always)]
-fn cosine_of<W: Word>(k: usize, input: &[W], work: &mut [W], output: &mut [W], range: usize)
+fn cosine_of<W: BlockWord>(k: usize, input: &[W], work: &mut [W], output: &mut [W], range: usize)
     requires range_in { (8 ≤ range) × (range ≤ 20) }
     requires k_in { (1 ≤ k) × (k ≤ 5) }
     requires input_len { length input.now ≡ 2 * 2 ^ k }
-    requires work_len { 256 ≤ length work.old }
+    requires work_len { 16 ≤ length work.old }
     requires output_len { length output.old ≡ 2 * 2 ^ k }
     requires fit { (i : ℕ) → i < W.LANES → All (FitsBits range) (column W.lane_of i input.now) }
     ensures { (i : ℕ) → i < W.LANES → column W.lane_of i output.new ≡ cosine range k (column W.lane_of i input.now) }
@@ -30,7 +31,7 @@ fn cosine_of<W: Word>(k: usize, input: &[W], work: &mut [W], output: &mut [W], r
 
 /// The inverse transform of a kind, of 2^(k+1) words, in each lane. `work` is room for the sine transforms.
 #[inline(always)]
-pub(crate) fn inverse_1d<W: Word>(
+pub(crate) fn inverse_1d<W: BlockWord>(
     kind: TxType1D,
     k: usize,
     input: &[W],
@@ -41,7 +42,7 @@ pub(crate) fn inverse_1d<W: Word>(
     requires range_in { (8 ≤ range) × (range ≤ 20) }
     requires has { HasNetwork kind k }
     requires input_len { length input.now ≡ 2 * 2 ^ k }
-    requires work_len { 256 ≤ length work.old }
+    requires work_len { 16 ≤ length work.old }
     requires output_len { length output.old ≡ 2 * 2 ^ k }
     requires fit { (i : ℕ) → i < W.LANES → All (FitsBits range) (column W.lane_of i input.now) }
     ensures { (i : ℕ) → i < W.LANES → column W.lane_of i output.new ≡ network kind range k (column W.lane_of i input.now) }

@@ -6,10 +6,10 @@ ghost use Rattle.av1_dct.specs.Arithmetic.{AllFit, FitsBits};
 ghost use Rattle.av1_dct.specs.Word.{column};
 ghost use Rattle.av1_itx.specs.Walsh.{walsh};
 
-use av1_dct::Word;
+use crate::words::BlockWord;
 
 #[inline(always)]
-pub(crate) fn walsh_of<W: Word>(input: &[W], output: &mut [W])
+pub(crate) fn walsh_of<W: BlockWord>(input: &[W], output: &mut [W])
     requires input_len { length input.now ≡ 4 }
     requires output_len { length output.old ≡ 4 }
     requires fit { (i : ℕ) → i < W.LANES → AllFit 29 (column W.lane_of i input.now) }

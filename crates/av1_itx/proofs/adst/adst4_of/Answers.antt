@@ -4,12 +4,12 @@ use Rattle.av1_dct.specs.Arithmetic.{at}
 use Rattle.av1_dct.specs.Word.{column}
 use Rattle.av1_dct.proofs.Places.{column_get}
 use Rattle.av1_itx.proofs.Adst4.{three, product_at, adst4_is}
-use Rattle.av1_itx.proofs.Words.{column-set4}
+use Rattle.av1_itx.proofs.WrittenWords.{column-set4}
 use Rattle.av1_itx.proofs.adst.adst4_of.Goals as goal
 
 pub minus-requires : goal.minus-requires
 minus-requires g c = λ i h.
-    let lane = g.W.Butterfly.lane_of in
+    let lane = g.W.Word.lane_of in
     let e0 = column_get lane i c.args.input.now 0 c.index-input-0.result (omega arith) c.index-input-0.is in
     let e2 = column_get lane i c.args.input.now 2 c.index-input-2.result (omega arith) c.index-input-2.is in
     let a0 = c.requires.fit i h 0 in
@@ -18,7 +18,7 @@ minus-requires g c = λ i h.
 
 pub plus-requires : goal.plus-requires
 plus-requires g c = λ i h.
-    let lane = g.W.Butterfly.lane_of in
+    let lane = g.W.Word.lane_of in
     let e0 = column_get lane i c.args.input.now 0 c.index-input-0.result (omega arith) c.index-input-0.is in
     let e2 = column_get lane i c.args.input.now 2 c.index-input-2.result (omega arith) c.index-input-2.is in
     let e3 = column_get lane i c.args.input.now 3 c.index-input-3.result (omega arith) c.index-input-3.is in
@@ -30,7 +30,7 @@ plus-requires g c = λ i h.
 
 pub returns : goal.returns
 returns g c = λ i h.
-    let lane = g.W.Butterfly.lane_of in
+    let lane = g.W.Word.lane_of in
     let x = column lane i c.args.input.now in
     let e0 = column_get lane i c.args.input.now 0 c.index-input-0.result (omega arith) c.index-input-0.is in
     let e1 = column_get lane i c.args.input.now 1 c.index-input-1.result (omega arith) c.index-input-1.is in

@@ -10,7 +10,7 @@ use Rattle.av1_itx.proofs.Order.{places_8}
 use Rattle.av1_itx.proofs.Steps.{round-fits, no_rounds, rounds_more, more_is, turned_by-fits}
 use Rattle.av1_itx.proofs.Turns.{turned_by}
 use Rattle.av1_itx.proofs.Weights.{start_8, block_8, block_4}
-use Rattle.av1_itx.proofs.Words.{by_length}
+use Rattle.av1_itx.proofs.WrittenWords.{by_length}
 use Rattle.av1_itx.proofs.adst.adst8_of.Goals as goal
 
 pub run_blocks-requires-clause-table : goal.run_blocks-requires-clause-table
@@ -25,18 +25,18 @@ run_blocks-requires-2-clause-table g c = block_4
 
 pub run_blocks-requires-2-clause-fit : goal.run_blocks-requires-2-clause-fit
 run_blocks-requires-2-clause-fit g c = λ i h. let P : List ℤ → Type 0 = λ zs. AllFit 20 zs
-    in subst P (sym (c.run_blocks.ensures i h)) (round-fits c.args.range 4 _ _ (column g.W.Butterfly.lane_of i c.turn_pairs.new.v) c.requires.range_in.1)
+    in subst P (sym (c.run_blocks.ensures i h)) (round-fits c.args.range 4 _ _ (column g.W.Word.lane_of i c.turn_pairs.new.v) c.requires.range_in.1)
 
 pub permute_out-requires-clause-table : goal.permute_out-requires-clause-table
 permute_out-requires-clause-table g c = places_8
 
 pub permute_out-requires-clause-fit : goal.permute_out-requires-clause-fit
 permute_out-requires-clause-fit g c = λ i h. let P : List ℤ → Type 0 = λ zs. AllFit 20 zs
-    in subst P (sym (c.run_blocks-2.ensures i h)) (round-fits c.args.range 2 _ _ (column g.W.Butterfly.lane_of i c.run_blocks.new.v) c.requires.range_in.1)
+    in subst P (sym (c.run_blocks-2.ensures i h)) (round-fits c.args.range 2 _ _ (column g.W.Word.lane_of i c.run_blocks.new.v) c.requires.range_in.1)
 
 pub returns : goal.returns
 returns g c = λ i h.
-    let lane = g.W.Butterfly.lane_of in
+    let lane = g.W.Word.lane_of in
     let range = c.args.range in
     let u = c.permute_in.new.v in
     let v0 = c.turn_pairs.new.v in

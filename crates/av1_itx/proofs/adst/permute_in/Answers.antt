@@ -3,7 +3,7 @@ use Rattle.av1_dct.specs.Word.{column}
 use Rattle.av1_dct.proofs.Places.{column_get}
 use Rattle.av1_itx.proofs.Fills.{IsBegun-end}
 use Rattle.av1_itx.proofs.Order.{in-even, in-odd}
-use Rattle.av1_itx.proofs.Words.{pair_more, words_begun}
+use Rattle.av1_itx.proofs.WrittenWords.{pair_more, words_begun}
 use Rattle.av1_itx.proofs.adst.permute_in.Goals as goal
 
 pub loop-p-init : goal.loop-p-init
@@ -11,7 +11,7 @@ loop-p-init g c = λ i h. words_begun _ _ (omega arith)
 
 pub loop-p-preserved : goal.loop-p-preserved
 loop-p-preserved g c = λ i h.
-    let lane = g.W.Butterfly.lane_of in
+    let lane = g.W.Word.lane_of in
     let x = c.args.input.now in
     let n = length c.args.v.now in
     let p = c.loop-p.p in

@@ -7,7 +7,7 @@ use Rattle.av1_dct.proofs.Places.{column_get}
 use Rattle.av1_itx.specs.Adst.{adst_out}
 use Rattle.av1_itx.proofs.Fills.{IsBegun-end}
 use Rattle.av1_itx.proofs.Order.{out-even, out-odd}
-use Rattle.av1_itx.proofs.Words.{pair_more, words_begun}
+use Rattle.av1_itx.proofs.WrittenWords.{pair_more, words_begun}
 use Rattle.av1_itx.proofs.adst.permute_out.Goals as goal
 
 pub loop-p-init : goal.loop-p-init
@@ -15,7 +15,7 @@ loop-p-init g c = λ i h. words_begun _ _ (omega arith)
 
 pub minus-requires : goal.minus-requires
 minus-requires g c = λ i h.
-    let lane = g.W.Butterfly.lane_of in
+    let lane = g.W.Word.lane_of in
     let b = get_or c.args.places.now (2 * c.loop-p.p + 1) 0 in
     let place = c.requires.table (2 * c.loop-p.p + 1) (omega arith) in
     let ez = c.splat-zero.ensures i h in
@@ -25,7 +25,7 @@ minus-requires g c = λ i h.
 
 pub loop-p-preserved : goal.loop-p-preserved
 loop-p-preserved g c = λ i h.
-    let lane = g.W.Butterfly.lane_of in
+    let lane = g.W.Word.lane_of in
     let v = column lane i c.args.v.now in
     let k = c.args.k in
     let p = c.loop-p.p in
@@ -45,4 +45,4 @@ loop-p-preserved g c = λ i h.
 
 pub returns : goal.returns
 returns g c = λ i h. IsBegun-end _ _ _ _ _ (omega arith) (c.loop-p.invariant i h)
-    ∙ ap (λ n. by_index n (adst_out c.args.k (column g.W.Butterfly.lane_of i c.args.v.now))) c.requires.output_len
+    ∙ ap (λ n. by_index n (adst_out c.args.k (column g.W.Word.lane_of i c.args.v.now))) c.requires.output_len

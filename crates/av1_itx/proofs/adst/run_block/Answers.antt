@@ -1,7 +1,7 @@
 use Rattle.std.proofs.Common.{sym, subst, ◌*◌, length, ℤ}
 use Rattle.av1_dct.specs.Arithmetic.{FitsBits}
 use Rattle.av1_itx.proofs.Turns.{round_weights-fit}
-use Rattle.av1_itx.proofs.Words.{block_words}
+use Rattle.av1_itx.proofs.WrittenWords.{block_words}
 use Rattle.av1_itx.proofs.adst.run_block.Goals as goal
 
 pub turn_pairs-requires-clause-small : goal.turn_pairs-requires-clause-small
@@ -11,5 +11,5 @@ turn_pairs-requires-clause-small g c = λ p h.
 
 pub returns : goal.returns
 returns g c =
-    λ i h. block_words g.W.Butterfly.lane_of i c.args.range c.args.weights.now c.args.v.now c.sum_halves.new.v c.turn_pairs.new.v c.requires.len
-    c.requires.table (c.sum_halves.ensures i h) (c.turn_pairs.ensures i h)
+    λ i h. block_words g.W.Word.lane_of i c.args.range c.args.weights.now c.args.v.now c.sum_halves.new.v c.turn_pairs.new.v c.requires.len c.requires.table
+    (c.sum_halves.ensures i h) (c.turn_pairs.ensures i h)

@@ -8,7 +8,7 @@ use Rattle.av1_dct.proofs.Sums.{sum_fits, difference_fits}
 use Rattle.av1_itx.specs.Adst.{adst_sum}
 use Rattle.av1_itx.proofs.Fills.{IsHalved-start, IsHalved-end}
 use Rattle.av1_itx.proofs.Blocks.{sum_first, sum_second}
-use Rattle.av1_itx.proofs.Words.{halves_more}
+use Rattle.av1_itx.proofs.WrittenWords.{halves_more}
 use Rattle.av1_itx.proofs.adst.sum_halves.Goals as goal
 
 pub loop-p-init : goal.loop-p-init
@@ -16,7 +16,7 @@ loop-p-init g c = λ i h. IsHalved-start _ _ _ (length-map c.args.v.now _ ∙ sy
 
 pub plus-requires : goal.plus-requires
 plus-requires g c = λ i h.
-    let lane = g.W.Butterfly.lane_of in
+    let lane = g.W.Word.lane_of in
     let inv = c.loop-p.invariant i h in
     let p = c.loop-p.p in
     let q = p + length c.args.v.now / 2 in
@@ -27,7 +27,7 @@ plus-requires g c = λ i h.
 
 pub minus-requires : goal.minus-requires
 minus-requires g c = λ i h.
-    let lane = g.W.Butterfly.lane_of in
+    let lane = g.W.Word.lane_of in
     let inv = c.loop-p.invariant i h in
     let p = c.loop-p.p in
     let q = p + length c.args.v.now / 2 in
@@ -38,7 +38,7 @@ minus-requires g c = λ i h.
 
 pub loop-p-preserved : goal.loop-p-preserved
 loop-p-preserved g c = λ i h.
-    let lane = g.W.Butterfly.lane_of in
+    let lane = g.W.Word.lane_of in
     let inv = c.loop-p.invariant i h in
     let old = column lane i c.args.v.now in
     let s = length c.args.v.now / 2 in
@@ -52,4 +52,4 @@ loop-p-preserved g c = λ i h.
 
 pub returns : goal.returns
 returns g c = λ i h. IsHalved-end _ _ _ _ _ (omega arith) (c.loop-p.invariant i h)
-    ∙ ap (λ n. by_index n (adst_sum c.args.range (length c.args.v.now / 2) (column g.W.Butterfly.lane_of i c.args.v.now))) c.requires.even
+    ∙ ap (λ n. by_index n (adst_sum c.args.range (length c.args.v.now / 2) (column g.W.Word.lane_of i c.args.v.now))) c.requires.even

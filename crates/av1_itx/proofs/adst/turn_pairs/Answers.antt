@@ -4,7 +4,7 @@ use Rattle.av1_dct.specs.Word.{column}
 use Rattle.av1_dct.specs.Operations.{half_btf}
 use Rattle.av1_itx.proofs.Fills.{IsBegun-end}
 use Rattle.av1_itx.proofs.Turns.{weights_at, turned_by, pair_first, pair_second}
-use Rattle.av1_itx.proofs.Words.{begun_read, pair_more, words_begun}
+use Rattle.av1_itx.proofs.WrittenWords.{begun_read, pair_more, words_begun}
 use Rattle.av1_itx.proofs.adst.turn_pairs.Goals as goal
 
 pub loop-p-init : goal.loop-p-init
@@ -12,7 +12,7 @@ loop-p-init g c = λ i h. words_begun _ _ (omega arith)
 
 pub loop-p-preserved : goal.loop-p-preserved
 loop-p-preserved g c = λ i h.
-    let lane = g.W.Butterfly.lane_of in
+    let lane = g.W.Word.lane_of in
     let old = column lane i c.args.v.now in
     let p = c.loop-p.p in
     let inv = c.loop-p.invariant i h in
@@ -34,4 +34,4 @@ loop-p-preserved g c = λ i h.
     pair_more lane i (length c.args.v.now) _ old c.loop-p.v (2 * p) (2 * p + 1) _ _ _ inv refl next (omega arith) z1 z2
 
 pub returns : goal.returns
-returns g c = λ i h. IsBegun-end _ (turned_by c.args.weights.now (column g.W.Butterfly.lane_of i c.args.v.now)) _ _ _ (omega arith) (c.loop-p.invariant i h)
+returns g c = λ i h. IsBegun-end _ (turned_by c.args.weights.now (column g.W.Word.lane_of i c.args.v.now)) _ _ _ (omega arith) (c.loop-p.invariant i h)

@@ -10,12 +10,12 @@ use Rattle.av1_itx.proofs.identity.identity_of.Goals as goal
 pub scaled_of-requires-clause-fits : goal.scaled_of-requires-clause-fits
 scaled_of-requires-clause-fits g c = λ i h.
     let P : ℤ → Type 0 = λ z. FitsBits 20 z in
-    subst P (sym (column_get g.W.Butterfly.lane_of i c.args.input.now c.loop-p.p c.index-input-p.result (omega arith) c.index-input-p.is))
+    subst P (sym (column_get g.W.Word.lane_of i c.args.input.now c.loop-p.p c.index-input-p.result (omega arith) c.index-input-p.is))
     (c.requires.fit i h c.loop-p.p)
 
 pub loop-p-preserved : goal.loop-p-preserved
 loop-p-preserved g c = λ i h.
-    let lane = g.W.Butterfly.lane_of in
+    let lane = g.W.Word.lane_of in
     let x = column lane i c.args.input.now in
     column_fill lane i (λ q. scaled c.args.k (at x q)) c.loop-p.output c.loop-p.p _ (omega arith) (c.loop-p.invariant i h)
     (c.scaled_of.ensures i h ∙ ap (scaled c.args.k) (column_get lane i c.args.input.now c.loop-p.p c.index-input-p.result (omega arith) c.index-input-p.is))

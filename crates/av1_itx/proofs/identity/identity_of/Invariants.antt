@@ -5,5 +5,5 @@ use Rattle.av1_itx.specs.Identity.{scaled}
 use Rattle.av1_itx.proofs.identity.identity_of.Given as goal
 
 abbrev pub invariant-loop-p : goal.invariant-loop-p
-invariant-loop-p g l = (i : ℕ) → i < g.W.Butterfly.LANES → (q : ℕ) → q < l.p →
-    at (column g.W.Butterfly.lane_of i l.output) q ≡ scaled l.k (at (column g.W.Butterfly.lane_of i l.input) q)
+invariant-loop-p g l = (i : ℕ) → i < g.W.Word.LANES → (q : ℕ) → q < l.p →
+    at (column g.W.Word.lane_of i l.output) q ≡ scaled l.k (at (column g.W.Word.lane_of i l.input) q)

@@ -4,38 +4,27 @@ use Rattle.std.proofs.lemmas.List.{length-map, length-take-le, take_all, take_at
 use Rattle.av1_dct.specs.Arithmetic.{at, FitsBits}
 use Rattle.av1_dct.specs.Cosine.{cosine}
 use Rattle.av1_lists.specs.Lists.{by_index}
-use Rattle.av1_dct.specs.Word.{column}
-use Rattle.av1_dct.proofs.Fits.{fits_wider}
+use Rattle.av1_dct.specs.Word.{column, lane_of_vector}
 use Rattle.av1_itx.proofs.Lines.{column_written}
 use Rattle.av1_itx.proofs.Eights.{groups_more, lanes-fit, lanes_kept, lane_run, whole_lane}
 use Rattle.av1_itx.proofs.lane_columns.run_groups.Goals as goal
 
-pub gather_words-requires-clause-fit : goal.gather_words-requires-clause-fit
-gather_words-requires-clause-fit g c = λ r i hr hi.
-    let line_len = length-take-le c.args.h c.loop-g.line (omega arith) in
-    let q = 8 * c.loop-g.g + i in
-    subst (FitsBits g.W.Butterfly.bits)
-    (sym (lanes_kept c.args.w (8 * c.loop-g.g) q c.args.h _ c.loop-g.buffer c.args.buffer.now c.loop-g.invariant.1 (omega arith)
-    (omega arith) r (omega arith)))
-    (fits_wider c.args.range g.W.Butterfly.bits _ c.requires.within (c.requires.fit r q (omega arith) (omega arith)))
-
 pub cosine_lanes-requires-clause-fit : goal.cosine_lanes-requires-clause-fit
-cosine_lanes-requires-clause-fit g c = λ i h.
+cosine_lanes-requires-clause-fit c = λ i h.
     let P : ℤ → Type 0 = λ z. FitsBits c.args.range z in
     let Q : List ℤ → Type 0 = λ zs. All (FitsBits c.args.range) zs in
     let line_len = length-take-le c.args.h c.loop-g.line (omega arith) in
     let len = c.gather_words.auto.line ∙ line_len in
     let at_column = 8 * c.loop-g.g in
-    subst Q (sym (whole_lane g.W.Butterfly.lane_of i c.args.h c.gather_words.new.line _ len))
-    (lanes-fit g.W.Butterfly.lane_of c.args.h c.args.range i _ _ c.gather_words.new.line _ line_len len
-    (c.gather_words.ensures i (omega (arith, h, c.requires.eight)))
+    subst Q (sym (whole_lane lane_of_vector i c.args.h c.gather_words.new.line _ len))
+    (lanes-fit lane_of_vector c.args.h c.args.range i _ _ c.gather_words.new.line _ line_len len (c.gather_words.ensures i h)
     (λ r hr.
     subst P (sym (lanes_kept c.args.w at_column (at_column + i) c.args.h _ c.loop-g.buffer c.args.buffer.now c.loop-g.invariant.1 (omega arith)
     (omega arith) r hr)) (c.requires.fit r (at_column + i) hr (omega arith))))
 
 pub loop-g-preserved : goal.loop-g-preserved
-loop-g-preserved g c =
-    let lane = g.W.Butterfly.lane_of in
+loop-g-preserved c =
+    let lane = lane_of_vector in
     let w = c.args.w in
     let h = c.args.h in
     let at_column = 8 * c.loop-g.g in
@@ -48,18 +37,18 @@ loop-g-preserved g c =
     let all : length (take h (out ++ drop h c.loop-g.transformed)) ≡ h = ap length (take_at out (drop h c.loop-g.transformed) h lo) ∙ lo in
     let D = λ (i r : ℕ). at (column lane i (take h (out ++ drop h c.loop-g.transformed))) r in (
       omega (arith, c.cosine_lanes.ensures.counts, c.loop-g.invariant.0),
-      groups_more w at_column (8 * (c.loop-g.g + 1)) g.W.Butterfly.LANES h F (λ r q. at old (r * w + q)) D c.loop-g.buffer c.scatter_words.new.buffer
-          (omega (arith, c.requires.eight)) c.loop-g.invariant.1
+      groups_more w at_column (8 * (c.loop-g.g + 1)) 8 h F (λ r q. at old (r * w + q)) D c.loop-g.buffer c.scatter_words.new.buffer (omega arith)
+          c.loop-g.invariant.1
           (λ r q hr hq. c.scatter_words.ensures r q (omega arith) hq)
           (λ i r hi hr. ap (λ zs. at zs r)
           (lane_run lane h i _ (cosine c.args.range c.args.k) _ (λ y. at old (y * w + (at_column + i))) c.gather_words.new.line _ out _ line_len
           len lo (c.gather_words.ensures i hi)
           (sym (take_all h (column lane i out) (omega (arith, length-map out (λ x. lane x i))))
-          ∙ c.cosine_lanes.ensures.value c.args.k i (omega (arith, hi, c.requires.eight)) c.requires.power
+          ∙ c.cosine_lanes.ensures.value c.args.k i hi c.requires.power
           ∙ ap (cosine c.args.range c.args.k) (whole_lane lane i h c.gather_words.new.line _ len))
           (λ y hy. lanes_kept w at_column (at_column + i) h F c.loop-g.buffer old c.loop-g.invariant.1 (omega arith) (omega arith) y hy))),
     )
 
 pub returns-clause-value : goal.returns-clause-value
-returns-clause-value g c =
+returns-clause-value c =
     λ r q hr hq. column_written c.args.w (8 * c.loop-g.g) c.args.h c.loop-g.buffer c.args.buffer.now _ c.loop-g.invariant.1 (omega arith) r q hr hq

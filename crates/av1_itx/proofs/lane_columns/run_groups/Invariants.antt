@@ -6,7 +6,7 @@ use Rattle.av1_lists.specs.Lists.{by_index}
 use Rattle.av1_itx.proofs.lane_columns.run_groups.Given as goal
 
 abbrev pub invariant-loop-g : goal.invariant-loop-g
-invariant-loop-g g l =
+invariant-loop-g l =
     (l.count.groups ≡ raised l.initial.count.groups l.g)
     × ((r q : ℕ) → r < l.h → q < l.w →
     at l.buffer (r * l.w + q) ≡ cond (ltb q (8 * l.g)) (at (cosine l.range l.k (by_index l.h (λ y. at l.initial.buffer (y * l.w + q)))) r)

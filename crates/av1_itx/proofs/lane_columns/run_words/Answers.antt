@@ -4,23 +4,9 @@ use Rattle.av1_dct.specs.Arithmetic.{at, FitsBits}
 use Rattle.av1_lists.specs.Lists.{by_index}
 use Rattle.av1_dct.specs.Word.{column}
 use Rattle.av1_itx.specs.Networks.{network}
-use Rattle.av1_dct.proofs.Fits.{fits_wider}
 use Rattle.av1_itx.proofs.Lines.{column_written}
 use Rattle.av1_itx.proofs.Eights.{groups_more, lanes-fit, lanes_kept, lane_run, group_room, all_groups}
 use Rattle.av1_itx.proofs.lane_columns.run_words.Goals as goal
-
-pub gather_words-requires-clause-fit : goal.gather_words-requires-clause-fit
-gather_words-requires-clause-fit g c = λ r i hr hi.
-    let w = c.args.w in
-    let m = c.LANES-m.result in
-    let whole : m * (w / m) ≡ w = subst (λ (n : ℕ). n * (w / n) ≡ w) (sym c.LANES-m.ensures) c.requires.width in
-    let room = group_room m c.loop-g.g w whole (omega arith) in
-    let line_len = length-take-le c.args.h c.loop-g.line (omega arith) in
-    let q = m * c.loop-g.g + i in
-    let wide = g.met.W.Word.whole in
-    subst (FitsBits g.W.Butterfly.bits)
-    (sym (lanes_kept w (m * c.loop-g.g) q c.args.h _ c.loop-g.buffer c.args.buffer.now c.loop-g.invariant (omega arith) (omega arith) r (omega arith)))
-    (fits_wider c.args.range g.W.Butterfly.bits _ (omega (arith, wide)) (c.requires.fit r q (omega arith) (omega arith)))
 
 pub inverse_1d-requires-clause-fit : goal.inverse_1d-requires-clause-fit
 inverse_1d-requires-clause-fit g c = λ i h.
@@ -31,16 +17,15 @@ inverse_1d-requires-clause-fit g c = λ i h.
     (let w = c.args.w in let m = c.LANES-m.result
     in let whole : m * (w / m) ≡ w = subst (λ (n : ℕ). n * (w / n) ≡ w) (sym c.LANES-m.ensures) c.requires.width
     in group_room m c.loop-g.g w whole (omega arith)) in
-    lanes-fit g.W.Butterfly.lane_of c.args.h c.args.range i _ _ c.gather_words.new.line _ line_len (c.gather_words.auto.line ∙ line_len)
-    (c.gather_words.ensures i h)
+    lanes-fit g.W.Word.lane_of c.args.h c.args.range i _ _ c.gather_words.new.line _ line_len (c.gather_words.auto.line ∙ line_len) (c.gather_words.ensures i h)
     (λ r hr.
     subst P (sym (lanes_kept c.args.w at_column (at_column + i) c.args.h _ c.loop-g.buffer c.args.buffer.now c.loop-g.invariant (omega arith)
     (omega arith) r hr)) (c.requires.fit r (at_column + i) hr (omega arith)))
 
 pub loop-g-preserved : goal.loop-g-preserved
 loop-g-preserved g c =
-    let lane = g.W.Butterfly.lane_of in
-    let m = g.W.Butterfly.LANES in
+    let lane = g.W.Word.lane_of in
+    let m = g.W.Word.LANES in
     let w = c.args.w in
     let h = c.args.h in
     let at_column = c.LANES-m.result * c.loop-g.g in

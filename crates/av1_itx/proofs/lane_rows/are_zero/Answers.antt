@@ -10,8 +10,8 @@ loop-p-preserved g c = λ i q h l.
     let told : c.is_zero.result ≡ true = grind (arith, tests, c.if-not-is_zero.false) in
     elim (cases_lt q c.loop-p.p) [
       | inl b ↦ c.loop-p.invariant i q h b
-      | inr b ↦ ap (at (column g.W.Butterfly.lane_of i c.args.line.now)) (let e : q ≡ c.loop-p.p = omega arith in e)
-          ∙ sym (column_get g.W.Butterfly.lane_of i c.args.line.now c.loop-p.p c.index-line-p.result (omega arith) c.index-line-p.is)
+      | inr b ↦ ap (at (column g.W.Word.lane_of i c.args.line.now)) (let e : q ≡ c.loop-p.p = omega arith in e)
+          ∙ sym (column_get g.W.Word.lane_of i c.args.line.now c.loop-p.p c.index-line-p.result (omega arith) c.index-line-p.is)
           ∙ c.is_zero.ensures.zeros told i h
     ]
 

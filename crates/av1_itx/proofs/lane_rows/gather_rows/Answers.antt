@@ -13,12 +13,12 @@ read-requires g c =
     let size = c.args.tx_size in
     let rows : c.min-rows.result ≡ coded (tx_height size) = omega arith in
     let columns : c.min-columns.result ≡ coded (tx_width size) = omega arith in
-    let last = coded_place size (c.args.r + g.W.Butterfly.LANES - 1) c.coded.c c.min-rows.result rows (omega arith) (omega arith) in
+    let last = coded_place size (c.args.r + g.W.Word.LANES - 1) c.coded.c c.min-rows.result rows (omega arith) (omega arith) in
     omega arith
 
 pub coded-preserved : goal.coded-preserved
 coded-preserved g c =
-    λ i h. column_fill g.W.Butterfly.lane_of i (λ k. at c.args.scaled.now (k * c.min-rows.result + c.args.r + i)) c.coded.line c.coded.c _ (omega arith)
+    λ i h. column_fill g.W.Word.lane_of i (λ k. at c.args.scaled.now (k * c.min-rows.result + c.args.r + i)) c.coded.line c.coded.c _ (omega arith)
     (c.coded.invariant i h) (c.read.ensures i h)
 
 pub rest-init : goal.rest-init
@@ -33,7 +33,7 @@ rest-init g c = λ i h k l.
 pub rest-preserved : goal.rest-preserved
 rest-preserved g c = λ i h.
     let columns : c.min-columns.result ≡ coded (tx_width c.args.tx_size) = omega arith in
-    column_fill g.W.Butterfly.lane_of i _ c.rest.line c.rest.c _ (omega arith) (c.rest.invariant i h)
+    column_fill g.W.Word.lane_of i _ c.rest.line c.rest.c _ (omega arith) (c.rest.invariant i h)
     (c.splat.ensures i h ∙ scaled_past c.args.tx_size c.args.scaled.now (c.args.r + i) c.rest.c (omega arith))
 
 pub returns : goal.returns

@@ -3,7 +3,7 @@ use Rattle.av1_dct.specs.Word.{column}
 use Rattle.av1_itx.specs.Networks.{network, network_with}
 use Rattle.av1_dct.proofs.Fits.{all-fit}
 use Rattle.av1_itx.proofs.Widths.{fits}
-use Rattle.av1_itx.proofs.Words.{column-reverse}
+use Rattle.av1_itx.proofs.WrittenWords.{column-reverse}
 use Rattle.av1_itx.proofs.networks.inverse_1d.Goals as goal
 
 pub adst_of-requires-clause-fit : goal.adst_of-requires-clause-fit
@@ -16,31 +16,28 @@ pub identity_of-requires-clause-fit : goal.identity_of-requires-clause-fit
 identity_of-requires-clause-fit g c = fits _ c.requires.range_in c.requires.fit
 
 pub walsh_of-requires-clause-fit : goal.walsh_of-requires-clause-fit
-walsh_of-requires-clause-fit g c = λ i h. all-fit c.args.range 29 (column g.W.Butterfly.lane_of i c.args.input.now) (omega arith) (c.requires.fit i h)
+walsh_of-requires-clause-fit g c = λ i h. all-fit c.args.range 29 (column g.W.Word.lane_of i c.args.input.now) (omega arith) (c.requires.fit i h)
 
 pub returns-in-DCT : goal.returns-in-DCT
 unfolding network_with
-returns-in-DCT g c = λ i h. c.cosine_of.ensures i h
-    ∙ ap (λ k. network k c.args.range c.args.k (column g.W.Butterfly.lane_of i c.args.input.now)) (sym c.in-DCT.is)
+returns-in-DCT g c = λ i h. c.cosine_of.ensures i h ∙ ap (λ k. network k c.args.range c.args.k (column g.W.Word.lane_of i c.args.input.now)) (sym c.in-DCT.is)
 
 pub returns-in-ADST : goal.returns-in-ADST
 unfolding network_with
-returns-in-ADST g c = λ i h. c.adst_of.ensures i h
-    ∙ ap (λ k. network k c.args.range c.args.k (column g.W.Butterfly.lane_of i c.args.input.now)) (sym c.in-ADST.is)
+returns-in-ADST g c = λ i h. c.adst_of.ensures i h ∙ ap (λ k. network k c.args.range c.args.k (column g.W.Word.lane_of i c.args.input.now)) (sym c.in-ADST.is)
 
 pub returns-in-FLIPADST : goal.returns-in-FLIPADST
 unfolding network_with
 returns-in-FLIPADST g c = λ i h.
-    ap (column g.W.Butterfly.lane_of i) c.reverse.ensures.after ∙ column-reverse g.W.Butterfly.lane_of i c.adst_of-in-FLIPADST.new.output
+    ap (column g.W.Word.lane_of i) c.reverse.ensures.after ∙ column-reverse g.W.Word.lane_of i c.adst_of-in-FLIPADST.new.output
     ∙ ap reverse (c.adst_of-in-FLIPADST.ensures i h)
-    ∙ ap (λ k. network k c.args.range c.args.k (column g.W.Butterfly.lane_of i c.args.input.now)) (sym c.in-FLIPADST.is)
+    ∙ ap (λ k. network k c.args.range c.args.k (column g.W.Word.lane_of i c.args.input.now)) (sym c.in-FLIPADST.is)
 
 pub returns-in-IDENTITY : goal.returns-in-IDENTITY
 unfolding network_with
 returns-in-IDENTITY g c = λ i h. c.identity_of.ensures i h
-    ∙ ap (λ k. network k c.args.range c.args.k (column g.W.Butterfly.lane_of i c.args.input.now)) (sym c.in-IDENTITY.is)
+    ∙ ap (λ k. network k c.args.range c.args.k (column g.W.Word.lane_of i c.args.input.now)) (sym c.in-IDENTITY.is)
 
 pub returns-in-WHT : goal.returns-in-WHT
 unfolding network_with
-returns-in-WHT g c = λ i h. c.walsh_of.ensures i h
-    ∙ ap (λ k. network k c.args.range c.args.k (column g.W.Butterfly.lane_of i c.args.input.now)) (sym c.in-WHT.is)
+returns-in-WHT g c = λ i h. c.walsh_of.ensures i h ∙ ap (λ k. network k c.args.range c.args.k (column g.W.Word.lane_of i c.args.input.now)) (sym c.in-WHT.is)

@@ -5,26 +5,26 @@ use Rattle.av1_dct.specs.Arithmetic.{at}
 use Rattle.av1_dct.specs.Word.{column}
 use Rattle.av1_dct.proofs.Places.{column_get}
 use Rattle.av1_itx.proofs.Small.{half-fits, walsh_is}
-use Rattle.av1_itx.proofs.Words.{column-set4, word_fits}
+use Rattle.av1_itx.proofs.WrittenWords.{column-set4, word_fits}
 use Rattle.av1_itx.proofs.walsh.walsh_of.Goals as goal
 
 pub plus-s0-requires : goal.plus-s0-requires
 plus-s0-requires g c = λ i h.
-    let lane = g.W.Butterfly.lane_of in
+    let lane = g.W.Word.lane_of in
     let a0 = word_fits lane i c.args.input.now 0 c.index-input-0.result (omega arith) c.index-input-0.is (c.requires.fit i h) in
     let a1 = word_fits lane i c.args.input.now 1 c.index-input-1.result (omega arith) c.index-input-1.is (c.requires.fit i h) in
     omega (arith, ints, a0.low, a0.high, a1.low, a1.high)
 
 pub minus-s2-requires : goal.minus-s2-requires
 minus-s2-requires g c = λ i h.
-    let lane = g.W.Butterfly.lane_of in
+    let lane = g.W.Word.lane_of in
     let a2 = word_fits lane i c.args.input.now 2 c.index-input-2.result (omega arith) c.index-input-2.is (c.requires.fit i h) in
     let a3 = word_fits lane i c.args.input.now 3 c.index-input-3.result (omega arith) c.index-input-3.is (c.requires.fit i h) in
     omega (arith, ints, a2.low, a2.high, a3.low, a3.high)
 
 pub minus-requires : goal.minus-requires
 minus-requires g c = λ i h.
-    let lane = g.W.Butterfly.lane_of in
+    let lane = g.W.Word.lane_of in
     let a0 = word_fits lane i c.args.input.now 0 c.index-input-0.result (omega arith) c.index-input-0.is (c.requires.fit i h) in
     let a1 = word_fits lane i c.args.input.now 1 c.index-input-1.result (omega arith) c.index-input-1.is (c.requires.fit i h) in
     let a2 = word_fits lane i c.args.input.now 2 c.index-input-2.result (omega arith) c.index-input-2.is (c.requires.fit i h) in
@@ -33,7 +33,7 @@ minus-requires g c = λ i h.
 
 pub minus-s3-requires : goal.minus-s3-requires
 minus-s3-requires g c = λ i h.
-    let lane = g.W.Butterfly.lane_of in
+    let lane = g.W.Word.lane_of in
     let a0 = word_fits lane i c.args.input.now 0 c.index-input-0.result (omega arith) c.index-input-0.is (c.requires.fit i h) in
     let a1 = word_fits lane i c.args.input.now 1 c.index-input-1.result (omega arith) c.index-input-1.is (c.requires.fit i h) in
     let a2 = word_fits lane i c.args.input.now 2 c.index-input-2.result (omega arith) c.index-input-2.is (c.requires.fit i h) in
@@ -43,7 +43,7 @@ minus-s3-requires g c = λ i h.
 
 pub minus-s1-requires : goal.minus-s1-requires
 minus-s1-requires g c = λ i h.
-    let lane = g.W.Butterfly.lane_of in
+    let lane = g.W.Word.lane_of in
     let a0 = word_fits lane i c.args.input.now 0 c.index-input-0.result (omega arith) c.index-input-0.is (c.requires.fit i h) in
     let a1 = word_fits lane i c.args.input.now 1 c.index-input-1.result (omega arith) c.index-input-1.is (c.requires.fit i h) in
     let a2 = word_fits lane i c.args.input.now 2 c.index-input-2.result (omega arith) c.index-input-2.is (c.requires.fit i h) in
@@ -53,7 +53,7 @@ minus-s1-requires g c = λ i h.
 
 pub minus-requires-2 : goal.minus-requires-2
 minus-requires-2 g c = λ i h.
-    let lane = g.W.Butterfly.lane_of in
+    let lane = g.W.Word.lane_of in
     let a0 = word_fits lane i c.args.input.now 0 c.index-input-0.result (omega arith) c.index-input-0.is (c.requires.fit i h) in
     let a1 = word_fits lane i c.args.input.now 1 c.index-input-1.result (omega arith) c.index-input-1.is (c.requires.fit i h) in
     let a2 = word_fits lane i c.args.input.now 2 c.index-input-2.result (omega arith) c.index-input-2.is (c.requires.fit i h) in
@@ -63,7 +63,7 @@ minus-requires-2 g c = λ i h.
 
 pub plus-requires : goal.plus-requires
 plus-requires g c = λ i h.
-    let lane = g.W.Butterfly.lane_of in
+    let lane = g.W.Word.lane_of in
     let a0 = word_fits lane i c.args.input.now 0 c.index-input-0.result (omega arith) c.index-input-0.is (c.requires.fit i h) in
     let a1 = word_fits lane i c.args.input.now 1 c.index-input-1.result (omega arith) c.index-input-1.is (c.requires.fit i h) in
     let a2 = word_fits lane i c.args.input.now 2 c.index-input-2.result (omega arith) c.index-input-2.is (c.requires.fit i h) in
@@ -73,7 +73,7 @@ plus-requires g c = λ i h.
 
 pub returns : goal.returns
 returns g c = λ i h.
-    let lane = g.W.Butterfly.lane_of in
+    let lane = g.W.Word.lane_of in
     let x = column lane i c.args.input.now in
     let e0 = column_get lane i c.args.input.now 0 c.index-input-0.result (omega arith) c.index-input-0.is in
     let e1 = column_get lane i c.args.input.now 1 c.index-input-1.result (omega arith) c.index-input-1.is in

@@ -1,0 +1,10 @@
+use Rattle.std.proofs.Common.{ap, ◌∙◌}
+use Rattle.av1_dct.specs.Arithmetic.{clamp_value}
+use Rattle.av1_dct.proofs.Sums.{sum_fits}
+use Rattle.av1_dct.proofs.butterfly.AnyButterfly.own_sum.Goals as goal
+
+pub plus-requires : goal.plus-requires
+plus-requires g c = λ i h. sum_fits _ _ (c.requires.first i h) (c.requires.second i h)
+
+pub returns : goal.returns
+returns g c = λ i h. c.clamp_to.ensures i h ∙ ap (λ z. clamp_value z c.args.range) (c.plus.ensures i h)

@@ -1,5 +1,0 @@
-use Rattle.av1_dct.proofs.Turns.{rounding_is}
-use Rattle.av1_dct.proofs.word.I32Word.round12.Goals as goal
-
-pub returns : goal.returns
-returns c = λ i h. rounding_is c.args.self c.ranges.self
