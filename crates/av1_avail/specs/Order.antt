@@ -22,7 +22,7 @@ is_earlier x y nx ny =
     nat_lt (y / 16) (ny / 16) || y / 16 == ny / 16
     && (nat_lt (x / 16) (nx / 16) || x / 16 == nx / 16 && nat_lt (interleaved x y) (interleaved nx ny))
 
--- The cell lies in the rectangle of w by h cells with its corner at rx and ry.
+-- The place (x, y), of cells or of samples, lies in the rectangle of w by h with its corner at rx and ry.
 unfoldable pub is_in : (x y rx ry w h : ℕ) → Bool
 is_in x y rx ry w h = nat_le rx x && nat_lt x (rx + w) && nat_le ry y && nat_lt y (ry + h)
 

@@ -38,7 +38,7 @@ block_number BLOCK_32X8 = 19
 block_number BLOCK_16X64 = 20
 block_number BLOCK_64X16 = 21
 
--- The width.
+-- The width in samples.
 abbrev pub block_width : BlockSize → ℕ
 block_width BLOCK_4X4 = 4
 block_width BLOCK_4X8 = 4
@@ -63,7 +63,7 @@ block_width BLOCK_32X8 = 32
 block_width BLOCK_16X64 = 16
 block_width BLOCK_64X16 = 64
 
--- The height.
+-- The height in samples.
 abbrev pub block_height : BlockSize → ℕ
 block_height BLOCK_4X4 = 4
 block_height BLOCK_4X8 = 8
@@ -131,7 +131,7 @@ pub record IsWiderAndLower (a b : BlockSize) : Type 0 where
   pub width : block_width b < block_width a
   pub height : block_height a < block_height b
 
--- No side is past 32, so that chroma may be predicted from luma.
+-- Whether chroma may be predicted from luma: no side is longer than 32 samples.
 unfoldable pub cfl_allowed : BlockSize → Bool
 cfl_allowed size = nat_le (block_width size) 32 && nat_le (block_height size) 32
 

@@ -73,7 +73,7 @@ pub record IsSubsampled (block : BlockSize) (xdec ydec : ℕ) (plane_block : Blo
   pub width : block_width plane_block ≡ plane_side (block_width block) xdec
   pub height : block_height plane_block ≡ plane_side (block_height block) ydec
 
--- The transform of chroma of a block that the plane has: the plane block's own, as it is coded.
+-- The size of the chroma transforms of a block: the greatest of the plane's block, as it is coded.
 abbrev pub largest_chroma_tx_size : BlockSize → (xdec ydec : ℕ) → TxSize
 largest_chroma_tx_size b xdec ydec = coded_tx_size (block_tx_size (result_unwrap_or (subsampled_size b xdec ydec) b))
 

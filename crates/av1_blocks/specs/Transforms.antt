@@ -41,7 +41,7 @@ tx_number TX_32X8 = 16
 tx_number TX_16X64 = 17
 tx_number TX_64X16 = 18
 
--- The width.
+-- The width in samples.
 abbrev pub tx_width : TxSize → ℕ
 tx_width TX_4X4 = 4
 tx_width TX_8X8 = 8
@@ -63,7 +63,7 @@ tx_width TX_32X8 = 32
 tx_width TX_16X64 = 16
 tx_width TX_64X16 = 64
 
--- The height.
+-- The height in samples.
 abbrev pub tx_height : TxSize → ℕ
 tx_height TX_4X4 = 4
 tx_height TX_8X8 = 8
@@ -185,7 +185,7 @@ tx_block_size TX_32X8 = BLOCK_32X8
 tx_block_size TX_16X64 = BLOCK_16X64
 tx_block_size TX_64X16 = BLOCK_64X16
 
--- The sizes with a side of 64 are coded with 32 in its place.
+-- The size as it is coded: with 32 in place of 64.
 abbrev pub coded_tx_size : TxSize → TxSize
 coded_tx_size TX_64X64 = TX_32X32
 coded_tx_size TX_64X32 = TX_32X32
@@ -232,8 +232,8 @@ abbrev pub is_identity : TxType → Bool
 is_identity IDTX = true
 is_identity _ = false
 
--- The type may be used at the size: the cosine transform alone where a side is 64, with the identity where the greater
--- is 32, and every type below.
+-- Whether the type may be used at the size: DCT_DCT alone where the longer side is 64, that and IDTX where it is 32,
+-- and every type where it is shorter.
 abbrev pub valid_av1_transform : TxSize → TxType → Bool
 valid_av1_transform size type =
     let side = max (tx_width size) (tx_height size) in

@@ -23,8 +23,8 @@ pub const TX_TYPES: usize = 16;
 pub const TX_TYPES_PLUS_LL: usize = 17;
 
 /// Which one-dimensional transforms make a block of residue: of a name `A_B`, A down the columns
-/// and B along the rows. `IDTX` leaves both as they are, `V_` and `H_` transform the columns or the
-/// rows alone, and `WHT_WHT` is the lossless one.
+/// and B along the rows. `IDTX` only scales both, `V_` only the rows and `H_` only the columns, and
+/// `WHT_WHT` is the lossless one.
 #[derive(Copy, Clone, Debug, PartialEq, Eq, PartialOrd, Ord)]
 pub enum TxType {
     DCT_DCT,

@@ -11,7 +11,7 @@ wrap32 z = int_wrap w32 z
 abbrev pub round12 : ℤ → ℤ
 round12 s = int_shr (wrap32 (s +ℤ pos 2048)) 12
 
--- the nearest number of b signed bits
+-- the number of b signed bits that is nearest to z
 unfoldable pub clamp_value : ℤ → ℕ → ℤ
 clamp_value z b = int_max (neg_ℤ (pos (2 ^ (b - 1)))) (int_min z (pos (2 ^ (b - 1) - 1)))
 

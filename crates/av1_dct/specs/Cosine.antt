@@ -1,13 +1,11 @@
--- The inverse cosine transform.
+-- The inverse cosine transform: the inverse DCT process of the AV1 specification, for 2^(k+1) values. It is made of
+-- butterfly rotations (a value and its mirror image are turned by an angle) and Hadamard rotations (they become their
+-- clamped sum and difference).
 use Rattle.std.specs.Prelude.{ℕ, zero, suc, ◌+◌, ◌-◌, ◌*◌, ◌^◌, ◌/◌, ◌%◌, ◌==◌, Bool, false, nat_lt, nat_le, ◌||◌, min}
 use Rattle.std.specs.Prelude.{if◌then◌else◌, ℤ, pos, neg_ℤ, List, [], ◌∷◌, ◌++◌, map, take, drop}
 use Rattle.av1_lists.specs.Lists.{by_index}
 use Rattle.av1_dct.specs.Arithmetic.{at, clamp_value}
 use Rattle.av1_dct.specs.Operations.{Operations, wrapping, half_btf_with}
-
--- The inverse DCT process of the AV1 specification, for 2^(k+1) values. A transform is made of butterfly rotations (a
--- value and its mirror image are turned by an angle) and Hadamard rotations (they become their clamped sum and
--- difference).
 
 -- 4096 times the cosine of a * pi / 128, rounded, for a from 0 to 63
 abbrev pub cos128_lookup : List ℤ
@@ -17,7 +15,7 @@ cos128_lookup =
     2967 ∷ 2896 ∷ 2824 ∷ 2751 ∷ 2675 ∷ 2598 ∷ 2520 ∷ 2440 ∷ 2359 ∷ 2276 ∷ 2191 ∷ 2106 ∷ 2019 ∷ 1931 ∷ 1842 ∷ 1751 ∷
     1660 ∷ 1567 ∷ 1474 ∷ 1380 ∷ 1285 ∷ 1189 ∷ 1092 ∷ 995 ∷ 897 ∷ 799 ∷ 700 ∷ 601 ∷ 501 ∷ 401 ∷ 301 ∷ 201 ∷ 101 ∷ [])
 
--- the weight of an angle, its cosine; its sine is the weight of 64 - a
+-- the weight of the angle a, in 128ths of a half turn: its cosine; its sine is the weight of 64 - a
 unfoldable pub cos128 : ℕ → ℤ
 cos128 a = at cos128_lookup a
 

@@ -1,10 +1,10 @@
--- The arithmetic that the networks are defined over.
+-- The arithmetic that the one-dimensional transforms are defined over.
 use Rattle.std.specs.Prelude.{◌≡◌, ℤ, pos, ◌+ℤ◌, ◌-ℤ◌, ◌*ℤ◌}
 use Rattle.std.specs.Int.RustNames.{FitsSigned}
 use Rattle.std.specs.Int.{int_shr, w32}
 use Rattle.av1_dct.specs.Arithmetic.{round12}
 
--- what the networks compute with
+-- what the transforms compute with
 pub record Operations : Type 0 where
   pub plus : ℤ → ℤ → ℤ
   pub minus : ℤ → ℤ → ℤ

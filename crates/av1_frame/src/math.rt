@@ -6,7 +6,7 @@ ghost use Rattle.av1_frame.specs.Arithmetic.{clip, round_shift};
 
 use crate::pixel::Pixel;
 
-/// `v` divided by 2 to the power of `bit` and rounded to the nearest number, up where two are as near
+/// `v` divided by 2 to the power of `bit` and rounded to the nearest number, up where two are equally near
 /// (the specification's Round2). The sum of `v` and half of that power fits.
 pub fn round_shift(v: i32, bit: usize) -> i32
     requires small { bit ≤ 30 }

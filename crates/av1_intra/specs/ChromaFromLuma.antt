@@ -21,7 +21,7 @@ use Rattle.av1_intra.specs.declared.luma.ChromaBlock.{ChromaBlock}
 
 -- ---- what luma is round its mean
 
--- the sum of the luma samples over one sample of chroma, of which the first is at column x of row y, in eighths of one
+-- eight times the mean of the luma samples over one sample of chroma, of which the first is at column x of row y
 abbrev pub covered : (ℕ → ℕ → ℕ) → (xdec ydec x y : ℕ) → ℕ
 covered luma xdec ydec x y =
     sum (by_index (2 ^ ydec) (λ v. sum (by_index (2 ^ xdec) (λ u. luma (x + u) (y + v))))) * 2 ^ (3 - xdec - ydec)
@@ -38,7 +38,7 @@ luma_at luma b r c = covered luma b.xdec b.ydec (min (c * 2 ^ b.xdec) b.last_col
 abbrev pub lumas : (ℕ → ℕ → ℕ) → ChromaBlock → List ℕ
 lumas luma b = by_index (b.width * b.height) (λ k. luma_at luma b (k / b.width) (k % b.width))
 
--- how far the luma at row r and column c is from the mean
+-- how far the luma at row r and column c is from the mean, in eighths
 unfoldable pub luma_difference : (ℕ → ℕ → ℕ) → ChromaBlock → ℕ → ℕ → ℤ
 luma_difference luma b r c = pos (luma_at luma b r c) -ℤ pos (mean (lumas luma b))
 
@@ -116,7 +116,7 @@ leaf_difference luma leaf r c =
 -- ---- prediction
 
 -- What the difference d of luma, in eighths, adds at the weight alpha, in eighths too: rounded to the nearest number,
--- and away from 0 where two are as near.
+-- and away from 0 where two are equally near.
 abbrev pub scaled_luma : (alpha d : ℤ) → ℤ
 scaled_luma alpha d =
     let q = alpha *ℤ d in

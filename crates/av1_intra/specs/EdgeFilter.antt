@@ -26,14 +26,14 @@ kernel strength =
     else if strength == 2 then 0 ∷ 5 ∷ 6 ∷ 5 ∷ 0 ∷ []
     else 2 ∷ 4 ∷ 4 ∷ 4 ∷ 2 ∷ []
 
--- the sum of the weights times the numbers f j, f (j + 1), ..
+-- the sum of the weights times the numbers f j, f (j + 1) and so on
 abbrev pub weighted : List ℕ → ℕ → (ℕ → ℕ) → ℕ
 weighted [] j f = 0
 weighted (w ∷ ws) j f = w * f j + weighted ws (j + 1) f
 
--- The first n places of a side smoothed: each becomes the mean of itself and two entries on either side, where those
--- past the corner and past place n - 1 repeat these two. The corner and all other places stay. AV1 specification: intra
--- edge filter process.
+-- The first n places of a side smoothed: each becomes the weighted mean of itself and two entries on either side, where
+-- those past the corner and past place n - 1 repeat these two. The corner and all other places stay. AV1 specification:
+-- intra edge filter process.
 unfoldable pub filtered : ℕ → ℕ → Side → Side
 filtered n strength A = λ e.
     if (nat_lt 0 strength && nat_le 1 e) && nat_le e n

@@ -46,7 +46,7 @@ dc LEFT depth w h e = mean (take h e.left)
 dc TOP depth w h e = mean (take w e.above)
 dc BOTH depth w h e = mean (take h e.left ++ take w e.above)
 
--- the modes that mix both sides, and that of the nearest neighbour
+-- the three smooth modes, and Paeth prediction for every other
 abbrev pub smoothly : PredictionMode → (w h : ℕ) → Edge → ℕ → ℕ → ℕ
 smoothly SMOOTH_PRED w h e r c = smooth w h (entries e.above) (entries e.left) r c
 smoothly SMOOTH_V_PRED w h e r c = smooth_v h (entries e.above) (entries e.left) r c
@@ -72,7 +72,7 @@ predicted b v PAETH_PRED alpha ac e r c = smoothly PAETH_PRED b.width b.height e
 predicted b v UV_CFL_PRED alpha ac e r c = from_luma b.bit_depth alpha (dc v b.bit_depth b.width b.height e) (ac r c)
 predicted b v mode alpha ac e r c = if is_directional mode then along b e r c else 0
 
--- the weight of luma
+-- the weight of luma in eighths, 0 for any other parameter
 abbrev pub alpha_of : IntraParam → ℤ
 alpha_of (Alpha alpha) = alpha
 alpha_of param = pos 0

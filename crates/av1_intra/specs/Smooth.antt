@@ -17,7 +17,7 @@ weights n =
     5 ∷ 5 ∷ 4 ∷ 4 ∷ 4 ∷ []
     else []
 
--- the sum of 256 times a weighted mean: a by a weight in 256ths, and b by what is left of it
+-- 256 times a weighted mean: a by a weight in 256ths, and b by the rest
 abbrev pub mix : ℕ → ℕ → ℕ → ℕ
 mix weight a b = weight * a + (256 - weight) * b
 

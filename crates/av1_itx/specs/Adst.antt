@@ -113,11 +113,11 @@ adst_rounds_with ops range k (suc c) v =
 abbrev pub adst_rounds : ℕ → ℕ → ℕ → List ℤ → List ℤ
 adst_rounds = adst_rounds_with wrapping
 
--- The inverse ADST output array permutation process: the place of 2^(k+1) that output i is read from,
+-- The inverse ADST output array permutation process: the place, of 2^(k+1), that output i is read from
 unfoldable pub out_place : ℕ → ℕ → ℕ
 out_place k i = brev (suc k) (bit_xor i (i / 2))
 
--- and output i, which is negated where i is odd.
+-- Output i, which is negated where i is odd.
 unfoldable pub adst_out_with : Operations → ℕ → List ℤ → ℕ → ℤ
 adst_out_with ops k v i =
     let z = at v (out_place k i) in

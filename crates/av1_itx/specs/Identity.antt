@@ -4,7 +4,8 @@ use Rattle.av1_dct.specs.Arithmetic.{at}
 use Rattle.av1_dct.specs.Operations.{Operations, wrapping}
 use Rattle.av1_lists.specs.Lists.{by_index}
 
--- what a value of 2^(k+1) becomes: it is scaled by the square root of 2, by 2, by twice the square root of 2 and by 4
+-- what one of 2^(k+1) values becomes: for k from 1 to 4 it is scaled by the square root of 2, by 2, by twice the square
+-- root of 2, and by 4
 unfoldable pub scaled_with : Operations → ℕ → ℤ → ℤ
 scaled_with ops (suc zero) z = ops.round (ops.times (pos 5793) z)
 scaled_with ops (suc (suc zero)) z = ops.times (pos 2) z

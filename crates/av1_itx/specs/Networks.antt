@@ -17,6 +17,7 @@ network_with ops FLIPADST range k x = reverse (adst_with ops range k x)
 network_with ops IDENTITY range k x = identity_with ops k x
 network_with ops WHT range k x = walsh_with ops x
 
+-- the same over whole numbers that wrap
 abbrev pub network : TxType1D → ℕ → ℕ → List ℤ → List ℤ
 network = network_with wrapping
 

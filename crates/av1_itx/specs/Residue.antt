@@ -71,8 +71,8 @@ row_range depth = depth + 8
 abbrev pub column_range : ℕ → ℕ
 column_range depth = max (depth + 6) 16
 
--- a coefficient as the rows take it: scaled by the square root of one half in a block of two to one, by a quarter in a
--- lossless one
+-- a coefficient as the rows take it: scaled by the square root of one half where one side is twice the other, by a
+-- quarter in a lossless block
 unfoldable pub row_value : TxSize → TxType → ℕ → ℤ → ℤ
 row_value size type depth z =
     clamp_value (if is_two_to_one size then round_shift (pos 2896 *ℤ z) 12 else if is_lossless type then int_shr z 2
@@ -92,7 +92,7 @@ transformed_row size type depth coefficients r =
     (by_index (tx_width size) (row_input size type depth coefficients r))
     else []
 
--- what a column takes whose values after the rows are f 0, f 1, ..
+-- what a column takes whose values after the rows are f 0, f 1 and so on
 abbrev pub column_input : TxSize → ℕ → (ℕ → ℤ) → List ℤ
 column_input size depth f =
     by_index (tx_height size) (λ r. clamp_value (round_shift (f r) (row_shift size)) (column_range depth))

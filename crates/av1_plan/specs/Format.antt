@@ -14,7 +14,7 @@ width one = w8
 width two = w16
 width four = w32
 
--- the numbers of a field of this length lie below
+-- the numbers of a field of this length lie below this
 abbrev pub limit : Length → ℕ
 limit one = 2 ^ 8
 limit two = 2 ^ 16

@@ -140,7 +140,7 @@ references h = in_turn (λ slot. lone (slot_planes h slot)) 0 8
 
 -- ---- leaves
 
--- down and right, in eighths of a sample
+-- a motion vector: down, then right, in eighths of a luma sample
 unfoldable pub vector : Format MotionVector
 vector = do
   row ← field (any two)
@@ -306,12 +306,12 @@ mark h level x y = do
   number ← field (where_ one (is_mark h level x y))
   done (cut_by number)
 
--- four leaves of this size, each so far below the one before
+-- four leaves of this size, each `side` samples below the one before
 unfoldable pub wide_stripes : Header → BlockSize → (side x y : ℕ) → Format (List LeafValue)
 wide_stripes h size side x y =
     part h size x y ++> part h size x (y + side) ++> part h size x (y + 2 * side) ++> part h size x (y + 3 * side)
 
--- four leaves of this size, each so far to the right of the one before
+-- four leaves of this size, each `side` samples to the right of the one before
 unfoldable pub tall_stripes : Header → BlockSize → (side x y : ℕ) → Format (List LeafValue)
 tall_stripes h size side x y =
     part h size x y ++> part h size (x + side) y ++> part h size (x + 2 * side) y ++> part h size (x + 3 * side) y
@@ -352,6 +352,7 @@ plan_behind header references = do
   leaves ← superblocks header
   done (record { header = header; references = references; leaves = leaves })
 
+-- a plan: its header, its reference samples and its leaves
 unfoldable pub plan : Format PlanValue
 plan = do
   header ← header

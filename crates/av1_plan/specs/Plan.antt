@@ -34,7 +34,7 @@ pub record PlanValue : Type 0 where
 abbrev pub triples_of : PlanValue → ℕ → ℕ → List Triple
 triples_of p leaf plane = slice_index_or (slice_index_or (map (λ (l : LeafValue). l.triples) p.leaves) leaf []) plane []
 
--- the samples of a plane of a slot
+-- the samples of a plane of a slot, where the slot carries planes
 abbrev pub reference_of : PlanValue → ℕ → ℕ → Option (List ℕ)
 reference_of p slot plane = plane_of plane (slice_index_or p.references slot None)
   where

@@ -22,7 +22,7 @@ pub record IsSpelled {A : Type 0} (f : Format A) (y : A) : Type 0 where
   pub values : List ℕ
   pub spells : Spells f values y
 
--- the fields of these values, one after the other
+-- the bytes of the fields of these values, one after the other
 abbrev pub text : {A : Type 0} → Format A → List ℕ → List ℕ
 text f [] = []
 text (done x) (v ∷ vs) = []
@@ -36,7 +36,7 @@ AreText f bytes x = (vs : List ℕ) × Spells f vs x × (bytes ≡ text f vs)
 abbrev pub IsPrefix : List ℕ → List ℕ → Type 0
 IsPrefix front bytes = (more : List ℕ) × (bytes ≡ front ++ more)
 
--- at is the length of the longest proper list whose fields are a prefix of the bytes
+-- `at` is how many bytes the longest proper list has, of those whose fields are a prefix of the bytes
 pub record IsLongest {A : Type 0} (f : Format A) (bytes : List ℕ) (at : ℕ) : Type 0 where
   pub reached : (vs : List ℕ) × IsProper f vs × IsPrefix (text f vs) bytes × (length (text f vs) ≡ at)
   pub longest : (vs : List ℕ) → IsProper f vs → IsPrefix (text f vs) bytes → length (text f vs) ≤ at

@@ -50,7 +50,7 @@ has_transforms h size tx_size tx_type None = nat_le (tx_width tx_size) (block_wi
 
 -- ---- modes
 
--- an angle step from -3 to 3, and 0 on a mode without an angle
+-- an angle step (of 3 degrees) from -3 to 3, and 0 on a mode without an angle
 unfoldable pub is_step : PredictionMode → ℤ → Bool
 is_step mode step = nat_le (nat_abs step) 3 && (nat_abs step == 0 || is_directional mode)
 
@@ -76,7 +76,7 @@ has_modes size (Compound mode references mvs) = is_inter_size size
 
 -- ---- vectors and references
 
--- all vectors of a leaf do
+-- all vectors of a leaf are ones that a bitstream may hold
 unfoldable pub has_vectors : LeafKind → Bool
 has_vectors (Intra mode step chroma) = true
 has_vectors (Single mode reference mv) = is_valid_vector mv
@@ -87,7 +87,7 @@ unfoldable pub has_reference : Header → RefType → Bool
 has_reference h reference = let slot = slice_index_or h.slots (reference_number reference - 1) 8
     in nat_lt slot 8 && has_slot h slot
 
--- all references of a leaf do
+-- the same of all references of a leaf
 unfoldable pub has_references : Header → LeafKind → Bool
 has_references h (Intra mode step chroma) = true
 has_references h (Single mode reference mv) = has_reference h reference
@@ -108,7 +108,7 @@ is_coefficient h p a t = has_block h p a t.block && nat_lt t.place (coded_area a
 unfoldable pub is_before : Triple → Triple → Bool
 is_before s t = nat_lt s.block t.block || (s.block == t.block && nat_lt s.place t.place)
 
--- of triples each stands before the next
+-- each of the triples stands before the next
 unfoldable pub rise : List Triple → Bool
 rise [] = true
 rise (t ∷ []) = true
@@ -123,12 +123,12 @@ follows (Some s) t = is_before s t
 unfoldable pub are_coefficients : Header → ℕ → PlaneArea → List Triple → Bool
 are_coefficients h p a triples = list_all (is_coefficient h p a) triples && rise triples
 
--- the leaf's triples in plane p
+-- the same of the leaf's triples in plane p
 unfoldable pub has_plane_coefficients : Header → LeafValue → ℕ → Bool
 has_plane_coefficients h l p =
     are_coefficients h p (plane_area h l.x l.y l.size l.tx_size p) (slice_index_or l.triples p [])
 
--- the leaf's triples in all planes that it covers
+-- and of its triples in all planes that it covers
 unfoldable pub has_coefficients : Header → LeafValue → Bool
 has_coefficients h l =
     has_plane_coefficients h l 0
