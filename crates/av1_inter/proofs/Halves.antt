@@ -1,14 +1,15 @@
 -- Sums by halved weights, as the machine forms them in 16 bits, and how great they are.
-use Rattle.std.proofs.Common.{ℕ, zero, suc, ◌+◌, ◌*◌, ◌^◌, ◌<◌, ◌≤◌, ◌≡◌, ◌∙◌, ap, refl, arith, subst, sym, ℤ, pos, negsuc, ◌+ℤ◌, ◌*ℤ◌, neg_ℤ, ◌≤ℤ◌, List, [], ◌∷◌, length, unsigned_abs, w16, w32, to_z, of_z, FitsSigned}
+use Rattle.std.proofs.Common.{ℕ, zero, suc, ◌+◌, ◌-◌, ◌*◌, ◌/◌, ◌^◌, ◌<◌, ◌≤◌, ◌≡◌, ◌∙◌, ap, refl, arith, subst, sym, ℤ, pos, negsuc, ◌+ℤ◌, ◌*ℤ◌, neg_ℤ, ◌≤ℤ◌, List, [], ◌∷◌, length, inl, inr, unsigned_abs, w16, w32, to_z, of_z, FitsSigned}
 use Rattle.std.specs.Int.{int_max, int_min, int_shr}
 use Rattle.std.specs.Int.Signed.{shr_z}
+use Rattle.std.proofs.lemmas.Bool.{cases_lt}
 use Rattle.std.proofs.lemmas.Int.{int_max_is, int_min_is, ints, to_z-of_z}
 use Rattle.std.proofs.lemmas.Nat.{mul-le}
-use Rattle.std.proofs.lemmas.List.{same_lists, get_or_default, length-map}
+use Rattle.std.proofs.lemmas.List.{same_lists, get_or_default, get_or-map, length-map}
 use Rattle.av1_frame.specs.Arithmetic.{clip, round_shift}
 use Rattle.av1_inter.specs.Motion.{entry, sum_to, weighted}
-use Rattle.av1_inter.specs.Scaffolding.{Between, doubled, gains, IsFilter, losses, SumsFit}
-use Rattle.av1_inter.proofs.Sums.{filter_between, gain, gains_more, gains_part, loss, losses_more, losses_part, product_between, small_sum}
+use Rattle.av1_inter.specs.Scaffolding.{Between, doubled, gains, halved, IsFilter, losses}
+use Rattle.av1_inter.proofs.Sums.{filter_between, gain, gains_more, gains_part, loss, losses_more, losses_part, product_between, small_sum, SumsFit}
 
 -- entry t of the doubled weights
 pub entry_doubled : (halves : List ℤ) (t : ℕ) → entry (doubled halves) t ≡ pos 2 *ℤ entry halves t
@@ -196,8 +197,64 @@ cut_is z m r fz fm e f =
 pub number_between : (n : ℕ) → n ≤ 255 → Between 0 255 (pos n)
 number_between n h = record { low = omega (arith, ints); high = omega (arith, ints, h) }
 
+-- a filter's sum over samples of 8 bits that is known as a value
+pub half_sum_known : (halves : List ℤ) (value : ℕ → ℤ) (z : ℤ) → IsFilter (doubled halves) → ((t : ℕ) → t < 8 → Between 0 255 (value t)) → z ≡ weighted halves value → Between 7140 23460 z
+half_sum_known halves value z h bytes e = let P : ℤ → Type 0 = λ v. Between 7140 23460 v in subst P (sym e) (halves_between halves value 8 h (omega arith) bytes)
+
+-- the halves of a filter's weights
+pub halved_are : (halves taps : List ℤ) → length halves ≡ 8 → IsFilter taps → ((t : ℕ) → t < 8 → entry halves t ≡ int_shr (entry taps t) 1) → halves ≡ halved taps
+halved_are halves taps l f h =
+    let n : length halves ≡ length (halved taps) = l ∙ sym f.size ∙ sym (length-map taps _) in
+    same_lists halves (halved taps) n (λ k d b. let m : k < 8 = omega (arith, l, b) in let inside : k < length taps = omega (arith, f.size, m) in
+    get_or_default halves k d (pos 0) b ∙ h k m ∙ sym (get_or-map (λ z. int_shr z 1) taps k (pos 0) d inside))
+
 -- a filter's sum that is known as a value
 pub half_sum_between : (halves : List ℤ) (f : ℕ → ℕ) (z : ℤ) → IsFilter (doubled halves) → ((t : ℕ) → t < 8 → f t ≤ 255) → z ≡ weighted halves (λ t. pos (f t)) → Between 7140 23460 z
 half_sum_between halves f z h bytes e =
     let P : ℤ → Type 0 = λ v. Between 7140 23460 v in
     subst P (sym e) (halves_between halves (λ t. pos (f t)) 8 h (omega arith) (λ t l. number_between (f t) (bytes t l)))
+
+halved_between : (s t : ℤ) → t ≡ pos 2 *ℤ s → gain t ≤ 184 → loss t ≤ 56 → Between 28 92 s
+halved_between s (pos n) e g l = record { low = omega (arith, ints, e); high = omega (arith, ints, e, g) }
+halved_between s (negsuc n) e g l = record { low = omega (arith, ints, e, l); high = omega (arith, ints, e) }
+
+-- half of a weight
+pub half_weight_between : (halves : List ℤ) (t : ℕ) → IsFilter (doubled halves) → t < 8 → Between 28 92 (entry halves t)
+half_weight_between halves t f h =
+    let taps = doubled halves in
+    let more = gains_more taps t (omega (arith, f.size)) in
+    let less = losses_more taps t (omega (arith, f.size)) in
+    halved_between _ _ (entry_doubled halves t) (omega (arith, more, gains_part taps (suc t), f.gains)) (omega (arith, less, losses_part taps (suc t), f.losses))
+
+half_fits : (z : ℤ) → Between 28 92 z → FitsSigned w16 z
+half_fits (pos n) b = record { sfits = omega (arith, ints, b.high) }
+half_fits (negsuc n) b = record { sfits = omega (arith, ints, b.low) }
+
+pub half_weight_read : (halves : List ℤ) (t : ℕ) → IsFilter (doubled halves) → t < 8 → to_z w16 (of_z w16 (entry halves t)) ≡ entry halves t
+half_weight_read halves t f h = to_z-of_z w16 _ (half_fits _ (half_weight_between halves t f h))
+
+pub half_read_between : (halves : List ℤ) (t : ℕ) → IsFilter (doubled halves) → t < 8 → Between 28 92 (to_z w16 (of_z w16 (entry halves t)))
+half_read_between halves t f h = let P : ℤ → Type 0 = λ z. Between 28 92 z in subst P (sym (half_weight_read halves t f h)) (half_weight_between halves t f h)
+
+half_parts : (h : ℤ) → Between 28 92 h → (gain h ≤ 92) × (loss h ≤ 28)
+half_parts (pos n) b = (omega (arith, ints, b.high), omega arith)
+half_parts (negsuc n) b = (omega arith, omega (arith, ints, b.low))
+
+shr_twice : (w v : ℤ) → v ≡ w +ℤ pos 32 → shr_z v 64 ≡ shr_z (shr_z w 4 +ℤ pos 8) 16
+shr_twice (pos m) v e = ap (λ u. shr_z u 64) e ∙ ap pos (omega arith)
+shr_twice (negsuc m) v e = elim (cases_lt m 32) [
+  | inl h ↦ (
+      let a : v ≡ pos (31 - m) = omega (arith, ints, e, h) in
+      let b : negsuc (m / 4) +ℤ pos 8 ≡ pos (7 - m / 4) = omega (arith, ints, h) in
+      ap (λ u. shr_z u 64) a ∙ ap pos (let k : (31 - m) / 64 ≡ (7 - m / 4) / 16 = omega (arith, h) in k) ∙ sym (ap (λ u. shr_z u 16) b)
+      )
+  | inr h ↦ (
+      let a : v ≡ negsuc (m - 32) = omega (arith, ints, e, h) in
+      let b : negsuc (m / 4) +ℤ pos 8 ≡ negsuc (m / 4 - 8) = omega (arith, ints, h) in
+      ap (λ u. shr_z u 64) a ∙ ap negsuc (let k : (m - 32) / 64 ≡ (m / 4 - 8) / 16 = omega (arith, h) in k) ∙ sym (ap (λ u. shr_z u 16) b)
+      )
+]
+
+-- half a sum that is rounded twice
+pub rounded_twice : (z : ℤ) → int_shr (z +ℤ pos 34) 6 ≡ round_shift (round_shift z 2) 4
+rounded_twice z = shr_twice (z +ℤ pos 2) (z +ℤ pos 34) (omega (arith, ints))

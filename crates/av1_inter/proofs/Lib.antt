@@ -1,5 +1,4 @@
 pub mod Fill
-pub mod Widths
 pub mod Sums
 pub mod Eights
 pub mod Rows
@@ -8,17 +7,13 @@ pub mod Table
 pub mod Strips
 pub mod Cases
 pub mod Vectors
-pub mod Blocks
-pub mod Bytes
 pub mod Constants
 pub mod Fitting
 pub mod Within
 pub mod SameReferences
 pub mod Sources
 pub mod Halves
-pub mod OuterSums
 pub mod HeldSums
 pub mod PairSums
 pub mod References
-pub mod DeepRows
 pub mod EightSums

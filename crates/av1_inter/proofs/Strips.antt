@@ -12,7 +12,7 @@ use Rattle.av1_frame.specs.Slices.{stored_sample, slice_plane}
 use Rattle.av1_frame.proofs.Update.{get_or-update, length-update, update_is}
 use Rattle.av1_inter.specs.Motion.{bias, intermediate_bits, prepared, single, unbiased}
 use Rattle.av1_inter.specs.Places.{IsStoredFrom, samples_from}
-use Rattle.av1_inter.specs.Scaffolding.{square_at, strip_of}
+use Rattle.av1_inter.specs.Scaffolding.{strip_of}
 use Rattle.av1_inter.proofs.Sums.{intermediate_same, weighted_same}
 
 -- samples that agree where the taps of two places stand
@@ -86,7 +86,3 @@ paint_strip stride a w n h f g s e =
 -- a strip lies in the rows that its rectangle lies in
 pub strip_rows : (stride : ℕ) (a : StoredArea) (start columns n : ℕ) → AreRows stride a n → start + columns ≤ a.width → AreRows stride (strip_of a start columns a.height) n
 strip_rows stride a start columns n h l = record { some = h.some; columns = omega (arith, h.columns); rows = h.rows; few = h.few }
-
--- a rectangle that is a square
-pub square_area : {side : ℕ} (a : StoredArea) → a.width ≡ side → a.height ≡ side → a ≡ square_at side a.x a.y
-square_area {side} a w h = ap (λ n. record a { width = n }) w ∙ ap (λ n. record a { width = side; height = n }) h
