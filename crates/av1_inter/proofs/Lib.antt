@@ -15,5 +15,6 @@ pub mod Sources
 pub mod Halves
 pub mod HeldSums
 pub mod PairSums
+pub mod Settled
 pub mod References
 pub mod EightSums

@@ -185,10 +185,6 @@ sum_ends (suc zero) halves value z l h e = e ∙ nothing_more _ _ (no_product _ 
 sum_ends (suc (suc zero)) halves value z l h e = e ∙ nothing_more _ _ (no_product _ _ (h 1 (omega arith)).1) ∙ nothing_more _ _ (no_product _ _ (h 0 (omega arith)).1)
 sum_ends (suc (suc (suc n))) halves value z l h e = absurd (omega (arith, l))
 
--- a sum of so many terms, counted otherwise
-pub sum_known : (term : ℕ → ℤ) (m n : ℕ) (z : ℤ) → z ≡ sum_to m term → m ≡ n → z ≡ sum_to n term
-sum_known term m n z e h = e ∙ ap (λ k. sum_to k term) h
-
 -- terms that agree
 pub sum_same : (n : ℕ) (f g : ℕ → ℤ) → ((t : ℕ) → t < n → f t ≡ g t) → sum_to n f ≡ sum_to n g
 unfolding sum_to

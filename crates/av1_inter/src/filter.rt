@@ -36,8 +36,7 @@ fn family(mode: FilterMode, length: usize) -> usize
 fn taps_at(mode: FilterMode, frac: i32, length: usize) -> [i32; SUBPEL_FILTER_SIZE]
     requires low { pos 0 ≤ℤ frac }
     requires high { frac <ℤ pos 16 }
-    ensures value { result ≡ filter_of mode (unsigned_abs frac) length }
-    ensures filter { IsFilter result }
+    ensures { result ≡ filter_of mode (unsigned_abs frac) length }
 {
     let filters = &SUBPEL_FILTERS;
     filters[family(mode, length)][frac as usize]

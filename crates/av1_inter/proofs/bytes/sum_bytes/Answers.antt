@@ -20,16 +20,16 @@ weigh_bytes-requires-clause-within g c =
     (short_kept 255 _ (omega arith) c.byte_at-5.ensures.within) (short_kept 255 _ (omega arith) c.byte_at-6.ensures.within) (short_kept 255 _ (omega arith) c.byte_at-7.ensures.within)
     (short_kept 255 _ (omega arith) c.byte_at-8.ensures.within)
 
-pub returns : goal.returns
-returns g c =
+pub returns-clause-value : goal.returns-clause-value
+returns-clause-value g c =
     let num = g.T.Pixel.num in
-    let s = c.args.samples.now in
+    let s = c.args.source.now in
     let k = c.args.start in
     let d = c.args.step in
     let fits : FitsSigned w16 c.weigh_bytes.result = search rules in
     let first : k ≡ k + 0 * d = omega arith in
     let second : k + d ≡ k + 1 * d = omega arith in
-    to_z-of_z w16 _ fits ∙ c.weigh_bytes.ensures ∙ weighted_same c.args.halves.now _ _ (each_of_eight
+    to_z-of_z w16 _ fits ∙ c.weigh_bytes.ensures.value ∙ weighted_same c.args.halves.now _ _ (each_of_eight
     (λ t. entry (values_of c.byte_at.result c.byte_at-2.result c.byte_at-3.result c.byte_at-4.result c.byte_at-5.result c.byte_at-6.result c.byte_at-7.result c.byte_at-8.result) t ≡ pos (slice_index (map num s) (k + t * d)))
     (short_read 255 _ (omega arith) c.byte_at.ensures.within ∙ c.byte_at.ensures.value ∙ ap (λ n. pos (slice_index (map num s) n)) first)
     (short_read 255 _ (omega arith) c.byte_at-2.ensures.within ∙ c.byte_at-2.ensures.value ∙ ap (λ n. pos (slice_index (map num s) n)) second)

@@ -1,8 +1,8 @@
-use Rattle.std.proofs.Common.{arith, rules, ◌<◌, ◌*ℤ◌, w16, FitsSigned}
+use Rattle.std.proofs.Common.{arith, rules, ◌≡◌, ◌∙◌, ◌-◌, ◌<◌, ◌*ℤ◌, ap, w16, FitsSigned}
 use Rattle.std.proofs.lemmas.Int.{to_z-of_z}
-use Rattle.av1_inter.specs.Motion.{entry}
+use Rattle.av1_inter.specs.Motion.{entry, sum_to}
 use Rattle.av1_inter.proofs.Halves.{bytes_fit, half_sum_known, short_product, short_product_stored, next_short_fits}
-use Rattle.av1_inter.proofs.Sums.{next_is, sum_begins, sum_ends, sum_known}
+use Rattle.av1_inter.proofs.Sums.{next_is, sum_begins, sum_ends}
 use Rattle.av1_inter.proofs.bytes.weigh_bytes.Goals as goal
 
 pub loop-t-init : goal.loop-t-init
@@ -35,8 +35,13 @@ loop-t-preserved g c =
 
 pub returns-clause-value : goal.returns-clause-value
 returns-clause-value g c =
-    sum_ends g.row.ZEROS c.args.halves.now (entry c.args.values) c.loop-t.sum c.requires.few c.requires.zeros
-    (sum_known _ _ _ _ c.loop-t.invariant (omega arith))
+    let e : c.loop-t.t ≡ 8 - g.row.ZEROS = omega (arith, c.requires.few) in
+    sum_ends g.row.ZEROS c.args.halves.now (entry c.args.values) _ c.requires.few c.requires.zeros
+    (c.loop-t.invariant ∙ ap (λ n. sum_to n (λ t. entry c.args.halves.now t *ℤ entry c.args.values t)) e)
 
 pub returns-clause-within : goal.returns-clause-within
-returns-clause-within g c = half_sum_known c.args.halves.now (entry c.args.values) c.loop-t.sum c.requires.filter c.requires.within (returns-clause-value g c)
+returns-clause-within g c =
+    let e : c.loop-t.t ≡ 8 - g.row.ZEROS = omega (arith, c.requires.few) in
+    half_sum_known c.args.halves.now (entry c.args.values) _ c.requires.filter c.requires.within
+    (sum_ends g.row.ZEROS c.args.halves.now (entry c.args.values) _ c.requires.few c.requires.zeros
+    (c.loop-t.invariant ∙ ap (λ n. sum_to n (λ t. entry c.args.halves.now t *ℤ entry c.args.values t)) e))
