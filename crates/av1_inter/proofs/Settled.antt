@@ -70,3 +70,13 @@ module _ (r : Rounding) (h : IsRounding r) (z : ℤ) (b : Between 7140 23460 z) 
 
   pub short_is : to_z w16 (of_z w16 (to_z w16 (of_z w16 (shr_z (to_z w16 (of_z w16 (to_z w16 (of_z w16 z) +ℤ to_z w16 (of_z w16 r.add)))) (2 ^ r.shift))) -ℤ to_z w16 (of_z w16 r.bias))) ≡ settled r z
   short_is = to_z-of_z w16 _ short_fits ∙ steps ∙ sym (held_fits _ value_fits)
+
+-- what is taken off behind a shift is taken off before it
+less : (m : ℕ) (w v b q : ℤ) → v ≡ w -ℤ q → q ≡ b *ℤ pos m → ((w v : ℤ) → v ≡ w -ℤ b *ℤ pos m → shr_z v m ≡ shr_z w m -ℤ b) → shr_z v m ≡ shr_z w m -ℤ b
+less m w v b q e f at = at w v (e ∙ ap (λ u. w -ℤ u) f)
+
+less_4 : (b w v : ℤ) → v ≡ w -ℤ b *ℤ pos 4 → shr_z v 4 ≡ shr_z w 4 -ℤ b
+less_4 b (pos n) (pos k) e = omega (arith, ints, e)
+less_4 b (pos n) (negsuc k) e = omega (arith, ints, e)
+less_4 b (negsuc n) (pos k) e = omega (arith, ints, e)
+less_4 b (negsuc n) (negsuc k) e = omega (arith, ints, e)

@@ -1,6 +1,6 @@
 //! What becomes of filtered values: samples of one reference, or what is prepared for an average.
 
-ghost use Rattle.std.specs.Prelude.{◌≡◌, ℕ, ℤ, ◌≤◌, Unit};
+ghost use Rattle.std.specs.Prelude.{◌≡◌, ℕ, ℤ, ◌≤◌};
 ghost use Rattle.av1_blocks.specs.Depths.{IsDepth};
 ghost use Rattle.av1_frame.specs.Arithmetic.{clip};
 ghost use Rattle.av1_inter.specs.Scaffolding.{IsRounding, between_filters, both_prepared, both_put, column_put, one_prepared, row_put};
