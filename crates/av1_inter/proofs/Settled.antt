@@ -2,7 +2,7 @@
 use Rattle.std.proofs.Common.{ℕ, ◌*◌, ◌%◌, ◌^◌, ◌≡◌, ◌∙◌, ap, sym, subst, arith, inl, inr, ℤ, pos, negsuc, ◌+ℤ◌, ◌-ℤ◌, ◌*ℤ◌, w16, w32, to_z, of_z, FitsSigned}
 use Rattle.std.specs.Int.{int_shr, saturate_signed}
 use Rattle.std.specs.Int.Signed.{shr_z}
-use Rattle.std.proofs.lemmas.Int.{ints, to_z-of_z}
+use Rattle.std.proofs.lemmas.Int.{int_wrap_fits, ints, to_z-of_z, wrapping_mul_is}
 use Rattle.av1_inter.specs.declared.rounding.Rounding.{Rounding}
 use Rattle.av1_inter.specs.Scaffolding.{Between, IsRounding, IsWithin, settled}
 use Rattle.av1_inter.proofs.Halves.{short_sum_fits}
@@ -79,8 +79,9 @@ AreSteps z a b s =
     × (IsWithin (2 ^ 24) (b *ℤ pos (2 ^ s)) × ((int_shr (z +ℤ (a -ℤ b *ℤ pos (2 ^ s))) s ≡ int_shr (z +ℤ a) s -ℤ b) × IsWithin (2 ^ 26) (int_shr (z +ℤ a) s)))
 
 product_4 : (b : ℤ) → Between 8192 16384 b → to_z w32 (of_z w32 b * 4 % 4294967296) ≡ b *ℤ pos 4
-product_4 (pos n) h = omega (arith, ints, h.high)
-product_4 (negsuc n) h = omega (arith, ints, h.low)
+product_4 b h =
+    wrapping_mul_is w32 b (pos 4) (fits_of b (omega (arith, ints, h.low)) (omega (arith, ints, h.high))) (fits_of (pos 4) (omega (arith, ints)) (omega (arith, ints)))
+    ∙ int_wrap_fits w32 (b *ℤ pos 4) (fits_of _ (omega (arith, ints, h.low, h.high)) (omega (arith, ints, h.low, h.high)))
 
 less_4 : (b w v : ℤ) → v ≡ w -ℤ b *ℤ pos 4 → shr_z v 4 ≡ shr_z w 4 -ℤ b
 less_4 b (pos n) (pos k) e = omega (arith, ints, e)
@@ -93,8 +94,9 @@ wide_4 (pos n) h = record { low = omega (arith, ints); high = omega (arith, ints
 wide_4 (negsuc n) h = record { low = omega (arith, ints, h.low); high = omega (arith, ints) }
 
 product_16 : (b : ℤ) → Between 8192 16384 b → to_z w32 (of_z w32 b * 16 % 4294967296) ≡ b *ℤ pos 16
-product_16 (pos n) h = omega (arith, ints, h.high)
-product_16 (negsuc n) h = omega (arith, ints, h.low)
+product_16 b h =
+    wrapping_mul_is w32 b (pos 16) (fits_of b (omega (arith, ints, h.low)) (omega (arith, ints, h.high))) (fits_of (pos 16) (omega (arith, ints)) (omega (arith, ints)))
+    ∙ int_wrap_fits w32 (b *ℤ pos 16) (fits_of _ (omega (arith, ints, h.low, h.high)) (omega (arith, ints, h.low, h.high)))
 
 less_16 : (b w v : ℤ) → v ≡ w -ℤ b *ℤ pos 16 → shr_z v 16 ≡ shr_z w 16 -ℤ b
 less_16 b (pos n) (pos k) e = omega (arith, ints, e)
@@ -107,8 +109,9 @@ wide_16 (pos n) h = record { low = omega (arith, ints); high = omega (arith, int
 wide_16 (negsuc n) h = record { low = omega (arith, ints, h.low); high = omega (arith, ints) }
 
 product_64 : (b : ℤ) → Between 8192 16384 b → to_z w32 (of_z w32 b * 64 % 4294967296) ≡ b *ℤ pos 64
-product_64 (pos n) h = omega (arith, ints, h.high)
-product_64 (negsuc n) h = omega (arith, ints, h.low)
+product_64 b h =
+    wrapping_mul_is w32 b (pos 64) (fits_of b (omega (arith, ints, h.low)) (omega (arith, ints, h.high))) (fits_of (pos 64) (omega (arith, ints)) (omega (arith, ints)))
+    ∙ int_wrap_fits w32 (b *ℤ pos 64) (fits_of _ (omega (arith, ints, h.low, h.high)) (omega (arith, ints, h.low, h.high)))
 
 less_64 : (b w v : ℤ) → v ≡ w -ℤ b *ℤ pos 64 → shr_z v 64 ≡ shr_z w 64 -ℤ b
 less_64 b (pos n) (pos k) e = omega (arith, ints, e)
@@ -121,8 +124,9 @@ wide_64 (pos n) h = record { low = omega (arith, ints); high = omega (arith, int
 wide_64 (negsuc n) h = record { low = omega (arith, ints, h.low); high = omega (arith, ints) }
 
 product_256 : (b : ℤ) → Between 8192 16384 b → to_z w32 (of_z w32 b * 256 % 4294967296) ≡ b *ℤ pos 256
-product_256 (pos n) h = omega (arith, ints, h.high)
-product_256 (negsuc n) h = omega (arith, ints, h.low)
+product_256 b h =
+    wrapping_mul_is w32 b (pos 256) (fits_of b (omega (arith, ints, h.low)) (omega (arith, ints, h.high))) (fits_of (pos 256) (omega (arith, ints)) (omega (arith, ints)))
+    ∙ int_wrap_fits w32 (b *ℤ pos 256) (fits_of _ (omega (arith, ints, h.low, h.high)) (omega (arith, ints, h.low, h.high)))
 
 less_256 : (b w v : ℤ) → v ≡ w -ℤ b *ℤ pos 256 → shr_z v 256 ≡ shr_z w 256 -ℤ b
 less_256 b (pos n) (pos k) e = omega (arith, ints, e)
@@ -135,8 +139,9 @@ wide_256 (pos n) h = record { low = omega (arith, ints); high = omega (arith, in
 wide_256 (negsuc n) h = record { low = omega (arith, ints, h.low); high = omega (arith, ints) }
 
 product_1024 : (b : ℤ) → Between 8192 16384 b → to_z w32 (of_z w32 b * 1024 % 4294967296) ≡ b *ℤ pos 1024
-product_1024 (pos n) h = omega (arith, ints, h.high)
-product_1024 (negsuc n) h = omega (arith, ints, h.low)
+product_1024 b h =
+    wrapping_mul_is w32 b (pos 1024) (fits_of b (omega (arith, ints, h.low)) (omega (arith, ints, h.high))) (fits_of (pos 1024) (omega (arith, ints)) (omega (arith, ints)))
+    ∙ int_wrap_fits w32 (b *ℤ pos 1024) (fits_of _ (omega (arith, ints, h.low, h.high)) (omega (arith, ints, h.low, h.high)))
 
 less_1024 : (b w v : ℤ) → v ≡ w -ℤ b *ℤ pos 1024 → shr_z v 1024 ≡ shr_z w 1024 -ℤ b
 less_1024 b (pos n) (pos k) e = omega (arith, ints, e)

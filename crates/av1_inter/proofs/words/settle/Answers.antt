@@ -11,7 +11,7 @@ overflow_add-sum c =
     let h = c.requires.rounding in
     let x : to_z w32 (of_z w32 c.from.result) ≡ r.add = omega (arith, ints, c.from.ensures, h.add.low, h.add.high) in
     let y : c.from-2.result ≡ r.bias = omega (arith, ints, c.from-2.ensures, h.bias.low, h.bias.high) in
-    wide_fits r h c.args.sum c.requires.within _ _ x y
+    wide_fits r h c.args.sum c.requires.within c.from.result c.from-2.result x y
 
 pub overflow_cast-result : goal.overflow_cast-result
 overflow_cast-result c =
@@ -25,4 +25,4 @@ returns c =
     let x : to_z w32 (of_z w32 c.from.result) ≡ r.add = omega (arith, ints, c.from.ensures, h.add.low, h.add.high) in
     let y : c.from-2.result ≡ r.bias = omega (arith, ints, c.from-2.ensures, h.bias.low, h.bias.high) in
     let m : FitsSigned w32 c.max.result = search rules in
-    held_is (int_shr (c.args.sum +ℤ r.add) r.shift -ℤ r.bias) _ _ _ c.max.ensures.value (c.min.ensures.value ∙ ap (λ u. int_min u (pos 32767)) (to_z-of_z w32 _ m)) (wide_is r h c.args.sum c.requires.within _ _ x y)
+    held_is (int_shr (c.args.sum +ℤ r.add) r.shift -ℤ r.bias) _ _ _ c.max.ensures.value (c.min.ensures.value ∙ ap (λ u. int_min u (pos 32767)) (to_z-of_z w32 _ m)) (wide_is r h c.args.sum c.requires.within c.from.result c.from-2.result x y)
