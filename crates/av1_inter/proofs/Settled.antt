@@ -162,40 +162,40 @@ module _ (r : Rounding) (h : IsRounding r) (z : ℤ) (within : IsWithin (2 ^ 25)
       let P : ℕ → Type 0 = λ n. AreSteps z r.add r.bias n in
       elim h.shift [
         | inl e ↦ subst P (sym e) (
-            product_4 r.bias h.bias,
-            (
-              record { low = omega (arith, ints, h.bias.low, h.bias.high); high = omega (arith, ints, h.bias.low, h.bias.high) },
-              (less_4 r.bias (z +ℤ r.add) _ (omega (arith, ints)), wide_4 (z +ℤ r.add) sum_within),
-            ),
-          )
+          product_4 r.bias h.bias,
+          (
+            record { low = omega (arith, ints, h.bias.low, h.bias.high); high = omega (arith, ints, h.bias.low, h.bias.high) },
+            (less_4 r.bias (z +ℤ r.add) _ (omega (arith, ints)), wide_4 (z +ℤ r.add) sum_within),
+          ),
+        )
         | inr (inl e) ↦ subst P (sym e) (
-            product_16 r.bias h.bias,
-            (
-              record { low = omega (arith, ints, h.bias.low, h.bias.high); high = omega (arith, ints, h.bias.low, h.bias.high) },
-              (less_16 r.bias (z +ℤ r.add) _ (omega (arith, ints)), wide_16 (z +ℤ r.add) sum_within),
-            ),
-          )
+          product_16 r.bias h.bias,
+          (
+            record { low = omega (arith, ints, h.bias.low, h.bias.high); high = omega (arith, ints, h.bias.low, h.bias.high) },
+            (less_16 r.bias (z +ℤ r.add) _ (omega (arith, ints)), wide_16 (z +ℤ r.add) sum_within),
+          ),
+        )
         | inr (inr (inl e)) ↦ subst P (sym e) (
-            product_64 r.bias h.bias,
-            (
-              record { low = omega (arith, ints, h.bias.low, h.bias.high); high = omega (arith, ints, h.bias.low, h.bias.high) },
-              (less_64 r.bias (z +ℤ r.add) _ (omega (arith, ints)), wide_64 (z +ℤ r.add) sum_within),
-            ),
-          )
+          product_64 r.bias h.bias,
+          (
+            record { low = omega (arith, ints, h.bias.low, h.bias.high); high = omega (arith, ints, h.bias.low, h.bias.high) },
+            (less_64 r.bias (z +ℤ r.add) _ (omega (arith, ints)), wide_64 (z +ℤ r.add) sum_within),
+          ),
+        )
         | inr (inr (inr (inl e))) ↦ subst P (sym e) (
-            product_256 r.bias h.bias,
-            (
-              record { low = omega (arith, ints, h.bias.low, h.bias.high); high = omega (arith, ints, h.bias.low, h.bias.high) },
-              (less_256 r.bias (z +ℤ r.add) _ (omega (arith, ints)), wide_256 (z +ℤ r.add) sum_within),
-            ),
-          )
+          product_256 r.bias h.bias,
+          (
+            record { low = omega (arith, ints, h.bias.low, h.bias.high); high = omega (arith, ints, h.bias.low, h.bias.high) },
+            (less_256 r.bias (z +ℤ r.add) _ (omega (arith, ints)), wide_256 (z +ℤ r.add) sum_within),
+          ),
+        )
         | inr (inr (inr (inr e))) ↦ subst P (sym e) (
-            product_1024 r.bias h.bias,
-            (
-              record { low = omega (arith, ints, h.bias.low, h.bias.high); high = omega (arith, ints, h.bias.low, h.bias.high) },
-              (less_1024 r.bias (z +ℤ r.add) _ (omega (arith, ints)), wide_1024 (z +ℤ r.add) sum_within),
-            ),
-          )
+          product_1024 r.bias h.bias,
+          (
+            record { low = omega (arith, ints, h.bias.low, h.bias.high); high = omega (arith, ints, h.bias.low, h.bias.high) },
+            (less_1024 r.bias (z +ℤ r.add) _ (omega (arith, ints)), wide_1024 (z +ℤ r.add) sum_within),
+          ),
+        )
       ]
 
   module _ (x y : ℤ) (ex : to_z w32 (of_z w32 x) ≡ r.add) (ey : y ≡ r.bias) where

@@ -1,6 +1,7 @@
 -- A block is its strips: what a strip reads, and what strips paint side by side.
-use Rattle.std.proofs.Common.{ℕ, zero, suc, ◌+◌, ◌-◌, ◌/◌, ◌%◌, ◌<◌, ◌≤◌, ◌≡◌, ◌∙◌, ap, sym, subst, arith, inl, inr, List, get_or, ℤ, pos, ◌+ℤ◌, ◌-ℤ◌}
+use Rattle.std.proofs.Common.{ℕ, zero, suc, ◌+◌, ◌-◌, ◌*◌, ◌/◌, ◌%◌, ◌<◌, ◌≤◌, ◌≡◌, ◌∙◌, ap, sym, subst, arith, inl, inr, List, [], ◌∷◌, refl, drop, length, map, slice_index, get_or, ℤ, pos, ◌+ℤ◌, ◌-ℤ◌}
 use Rattle.std.proofs.lemmas.Int.{ints}
+use Rattle.std.proofs.lemmas.List.{get_or-drop, places}
 use Rattle.std.proofs.lemmas.Bool.{cases_lt}
 use Rattle.std.proofs.lemmas.Bool.Decides.{nat_tests}
 use Rattle.av1_frame.specs.declared.plane_region.StoredArea.{StoredArea}
@@ -86,3 +87,20 @@ paint_strip stride a w n h f g s e =
 -- a strip lies in the rows that its rectangle lies in
 pub strip_rows : (stride : ℕ) (a : StoredArea) (start columns n : ℕ) → AreRows stride a n → start + columns ≤ a.width → AreRows stride (strip_of a start columns a.height) n
 strip_rows stride a start columns n h l = record { some = h.some; columns = omega (arith, h.columns); rows = h.rows; few = h.few }
+
+-- the rows of a part of a block, in what is stored from its place on
+pub part_reaches : {T : Type 0} (source part : List T) (stride x y q w all : ℕ) → part ≡ drop (y * stride + x) source → x + w ≤ all → (y + q) * stride + (all + 7) ≤ length source → q * stride + (w + 7) ≤ length part
+part_reaches source part stride x y q w all e l h =
+    let m : (y + q) * stride ≡ y * stride + q * stride = grind arith in
+    let n : length (drop (y * stride + x) source) ≡ length source - (y * stride + x) = grind (arith, places) in
+    omega (arith, ap length e, n, m, l, h)
+
+map_drop : {T : Type 0} (num : T → ℕ) (n : ℕ) (s : List T) → map num (drop n s) ≡ drop n (map num s)
+map_drop num zero s = refl
+map_drop num (suc n) [] = refl
+map_drop num (suc n) (x ∷ s) = map_drop num n s
+
+-- and its samples
+pub part_sample : {T : Type 0} (num : T → ℕ) (source part : List T) (n k m : ℕ) → part ≡ drop n source → n + k ≡ m → slice_index (map num part) k ≡ slice_index (map num source) m
+part_sample num source part n k m e h =
+    ap (λ u. slice_index (map num u) k) e ∙ ap (λ u. get_or u k 0) (map_drop num n source) ∙ get_or-drop n (map num source) k 0 ∙ ap (λ i. slice_index (map num source) i) h

@@ -69,11 +69,7 @@ fn halves_of(taps: &[i32; SUBPEL_FILTER_SIZE]) -> [i16; SUBPEL_FILTER_SIZE]
 /// Half of each weight of the filter of a mode at `frac` sixteenths, along a side of `length` samples: those of the samples at the offsets
 /// -3 to 4, in parts of 64.
 #[inline(always)]
-pub(crate) fn get_filter(
-    mode: FilterMode,
-    frac: i32,
-    length: usize,
-) -> [i16; SUBPEL_FILTER_SIZE]
+pub(crate) fn get_filter(mode: FilterMode, frac: i32, length: usize) -> [i16; SUBPEL_FILTER_SIZE]
     requires low { pos 0 ≤ℤ frac }
     requires high { frac <ℤ pos 16 }
     ensures value { result ≡ halved (filter_of mode (unsigned_abs frac) length) }

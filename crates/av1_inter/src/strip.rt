@@ -1,6 +1,6 @@
 //! Rectangles that are filtered, and filters that are laid on them.
 
-ghost use Rattle.std.specs.Prelude.{◌≡◌, false, ℕ, ◌+◌, ◌*◌, ◌≤◌, ◌<◌, length, map, slice_index};
+ghost use Rattle.std.specs.Prelude.{◌≡◌, false, ℕ, ◌+◌, ◌*◌, ◌^◌, ◌≤◌, ◌<◌, length, map, slice_index};
 ghost use Rattle.av1_inter.specs.Places.{AreWithinDepth, IsStoredFrom, samples_from};
 ghost use Rattle.av1_blocks.specs.Depths.{IsDepth};
 ghost use Rattle.av1_inter.specs.Scaffolding.{IsBlock, IsPartWidth, IsStripWidth, part_of, sample_of};
@@ -68,6 +68,7 @@ pub(crate) fn part_at<'a, T: Pixel>(
     height: usize,
 ) -> Strip<'a, T>
     requires block { IsBlock T.num block.now }
+    requires fits { (block.now.area.x + block.now.area.width < 2 ^ 64) × (block.now.area.y + block.now.area.height < 2 ^ 64) }
     requires columns { x + width ≤ block.now.area.width }
     requires rows { y + height ≤ block.now.area.height }
     ensures block { IsBlock T.num result }

@@ -6,7 +6,9 @@ ghost use Rattle.av1_frame.specs.Arithmetic.{clip};
 ghost use Rattle.av1_inter.specs.Scaffolding.{IsRounding, between_filters, both_prepared, both_put, column_put, one_prepared, row_put};
 ghost use Rattle.av1_inter.specs.declared.rounding.Rounding.{Rounding as RoundingRecord};
 
-use crate::rounding::{Rounding, between_filters, both_prepared, both_put, column_put, greatest, one_prepared, row_put};
+use crate::rounding::{
+    Rounding, between_filters, both_prepared, both_put, column_put, greatest, one_prepared, row_put,
+};
 use av1_frame::Pixel;
 
 /// Writes values of 16 bits as entries of type `E`, and says how the sums that they come from are rounded.
