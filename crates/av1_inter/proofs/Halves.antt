@@ -6,6 +6,7 @@ use Rattle.std.proofs.lemmas.Bool.{cases_lt}
 use Rattle.std.proofs.lemmas.Int.{int_max_is, int_min_is, ints, to_z-of_z}
 use Rattle.std.proofs.lemmas.Nat.{mul-le}
 use Rattle.std.proofs.lemmas.List.{same_lists, get_or_default, get_or-map, length-map}
+use Rattle.av1_blocks.specs.Depths.{IsDepth}
 use Rattle.av1_frame.specs.Arithmetic.{clip, round_shift}
 use Rattle.av1_inter.specs.Motion.{entry, sum_to, weighted}
 use Rattle.av1_inter.specs.Scaffolding.{Between, doubled, gains, halved, IsFilter, losses}
@@ -169,29 +170,41 @@ half_weight_is taps t f h e =
     half_wide (pos n) k = record { sfits = omega (arith, ints, k) }
     half_wide (negsuc n) k = record { sfits = omega (arith, ints, k) }
 
--- a value that is cut to 8 bits
-cut_steps : (z m r : ℤ) → m ≡ int_max z (pos 0) → r ≡ int_min m (pos 255) → Between 0 255 r × (unsigned_abs r ≡ clip 8 z)
-cut_steps (pos n) m (pos k) e f =
-    let a = int_max_is (pos n) (pos 0) in
-    let b = int_min_is m (pos 255) in
-    (record { low = omega (arith, ints, a, b, e, f); high = omega (arith, ints, a, b, e, f) }, omega (arith, ints, a, b, e, f))
-cut_steps (pos n) m (negsuc k) e f =
-    let a = int_max_is (pos n) (pos 0) in
-    let b = int_min_is m (pos 255) in
-    absurd (omega (arith, ints, a, b, e, f))
-cut_steps (negsuc n) m (pos k) e f =
-    let a = int_max_is (negsuc n) (pos 0) in
-    let b = int_min_is m (pos 255) in
-    (record { low = omega (arith, ints, a, b, e, f); high = omega (arith, ints, a, b, e, f) }, omega (arith, ints, a, b, e, f))
-cut_steps (negsuc n) m (negsuc k) e f =
-    let a = int_max_is (negsuc n) (pos 0) in
-    let b = int_min_is m (pos 255) in
-    absurd (omega (arith, ints, a, b, e, f))
+-- a value that is cut to a depth
+cut_steps : (top : ℕ) (z m r : ℤ) → m ≡ int_max z (pos 0) → r ≡ int_min m (pos top) → Between 0 top r × (r ≡ int_min (int_max z (pos 0)) (pos top))
+cut_steps top z m r e f =
+    let a = int_max_is z (pos 0) in
+    let b = int_min_is m (pos top) in
+    (record { low = omega (arith, ints, a, b, e, f); high = omega (arith, ints, a, b, e, f) }, f ∙ ap (λ u. int_min u (pos top)) e)
 
-pub cut_is : (z m r : ℤ) → FitsSigned w16 z → FitsSigned w16 m → m ≡ int_max (to_z w16 (of_z w16 z)) (pos 0) → r ≡ int_min (to_z w16 (of_z w16 m)) (pos 255) → unsigned_abs (to_z w16 (of_z w16 r)) ≡ clip 8 z
-cut_is z m r fz fm e f =
-    let s = cut_steps z m r (e ∙ ap (λ u. int_max u (pos 0)) (to_z-of_z w16 z fz)) (f ∙ ap (λ u. int_min u (pos 255)) (to_z-of_z w16 m fm)) in
-    ap unsigned_abs (short_read 255 r (omega arith) s.0) ∙ s.1
+cut_clips : (depth : ℕ) (z : ℤ) → unsigned_abs (int_min (int_max z (pos 0)) (pos (2 ^ depth - 1))) ≡ clip depth z
+cut_clips depth (pos n) =
+    let a = int_max_is (pos n) (pos 0) in
+    let e : int_max (pos n) (pos 0) ≡ pos n = omega (arith, ints, a) in
+    let b = int_min_is (pos n) (pos (2 ^ depth - 1)) in
+    let f : int_min (pos n) (pos (2 ^ depth - 1)) ≡ pos (clip depth (pos n)) = omega (arith, ints, b) in
+    ap unsigned_abs (ap (λ u. int_min u (pos (2 ^ depth - 1))) e ∙ f)
+cut_clips depth (negsuc n) =
+    let a = int_max_is (negsuc n) (pos 0) in
+    let e : int_max (negsuc n) (pos 0) ≡ pos 0 = omega (arith, ints, a) in
+    let b = int_min_is (pos 0) (pos (2 ^ depth - 1)) in
+    let f : int_min (pos 0) (pos (2 ^ depth - 1)) ≡ pos 0 = omega (arith, ints, b) in
+    ap unsigned_abs (ap (λ u. int_min u (pos (2 ^ depth - 1))) e ∙ f)
+
+-- numbers of a depth have 12 bits at most
+pub depth_numbers : (depth : ℕ) → IsDepth depth → 2 ^ depth ≤ 4096
+depth_numbers depth (inl e) = subst (λ (n : ℕ). 2 ^ n ≤ 4096) (sym e) (omega arith)
+depth_numbers depth (inr (inl e)) = subst (λ (n : ℕ). 2 ^ n ≤ 4096) (sym e) (omega arith)
+depth_numbers depth (inr (inr e)) = subst (λ (n : ℕ). 2 ^ n ≤ 4096) (sym e) (omega arith)
+
+pub cut_is : (depth : ℕ) (z m g r : ℤ) → IsDepth depth → FitsSigned w16 z → FitsSigned w16 m → m ≡ int_max (to_z w16 (of_z w16 z)) (pos 0) → g ≡ pos (2 ^ depth - 1)
+    → r ≡ int_min (to_z w16 (of_z w16 m)) (to_z w16 (of_z w16 g)) → unsigned_abs (to_z w16 (of_z w16 r)) ≡ clip depth z
+cut_is depth z m g r d fz fm e eg f =
+    let top : 2 ^ depth - 1 < 2 ^ 15 = omega (arith, depth_numbers depth d) in
+    let P : ℤ → Type 0 = λ v. Between 0 (2 ^ depth - 1) v in
+    let g_is : to_z w16 (of_z w16 g) ≡ pos (2 ^ depth - 1) = short_read (2 ^ depth - 1) g top (subst P (sym eg) (record { low = omega (arith, ints); high = omega (arith, ints) })) ∙ eg in
+    let s = cut_steps (2 ^ depth - 1) z m r (e ∙ ap (λ u. int_max u (pos 0)) (to_z-of_z w16 z fz)) (f ∙ ap (λ u. int_min u (to_z w16 (of_z w16 g))) (to_z-of_z w16 m fm) ∙ ap (int_min m) g_is) in
+    ap unsigned_abs (short_read (2 ^ depth - 1) r top s.0) ∙ ap unsigned_abs s.1 ∙ cut_clips depth z
 
 -- a sample's number of 8 bits
 pub number_between : (n : ℕ) → n ≤ 255 → Between 0 255 (pos n)

@@ -1,6 +1,6 @@
 //! Rectangles that are filtered, and filters that are laid on them.
 
-ghost use Rattle.std.specs.Prelude.{◌≡◌, false, ℕ, ◌+◌, ◌*◌, ◌^◌, ◌≤◌, ◌<◌, length, map, slice_index};
+ghost use Rattle.std.specs.Prelude.{◌≡◌, false, ℕ, ◌+◌, ◌*◌, ◌^◌, ◌≤◌, ◌<◌, drop, length, map, slice_index};
 ghost use Rattle.av1_inter.specs.Places.{AreWithinDepth, IsStoredFrom, samples_from};
 ghost use Rattle.av1_blocks.specs.Depths.{IsDepth};
 ghost use Rattle.av1_inter.specs.Scaffolding.{IsBlock, IsPartWidth, IsStripWidth, part_of, sample_of};
@@ -73,6 +73,8 @@ pub(crate) fn part_at<'a, T: Pixel>(
     requires rows { y + height ≤ block.now.area.height }
     ensures block { IsBlock T.num result }
     ensures area { result.area ≡ part_of block.now.area x y width height }
+    ensures source { result.source.now ≡ drop (y * block.now.source_stride + x) block.now.source.now }
+    ensures stride { result.source_stride ≡ block.now.source_stride }
     ensures depth { result.bit_depth ≡ block.now.bit_depth }
     ensures samples { (c r : ℕ) → sample_of T.num result c r ≡ sample_of T.num block.now (x + c) (y + r) }
 {
