@@ -5,6 +5,8 @@ pub mod Rows
 pub mod Reach
 pub mod Table
 pub mod Strips
+pub mod Parts
+pub mod Values
 pub mod Cases
 pub mod Vectors
 pub mod Constants

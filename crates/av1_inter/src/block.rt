@@ -40,7 +40,7 @@ pub(crate) fn filter_block<T: Pixel, E: Copy, W: Writer<E>>(
     requires row_frac { (pos 0 ≤ℤ moved.row_frac) × (moved.row_frac <ℤ pos 16) }
     requires some { (moved.col_frac ≢ pos 0) ⊎ (moved.row_frac ≢ pos 0) }
     ensures { let depth = block.now.bit_depth in let a = block.now.area in let fx = unsigned_abs moved.col_frac in let fy = unsigned_abs moved.row_frac in
-        target.new ≡ paint stride a (λ r c _. W.written depth (value_of (W.row depth) (W.column depth) (W.both depth) depth fx fy
+        target.new ≡ paint stride a (λ r c _. W.written depth (value_of (W.rows depth) (W.columns depth) (W.both depth) depth fx fy
         (halved (filter_of moved.mode_x fx a.width)) (halved (filter_of moved.mode_y fy a.height)) (sample_of T.num block.now) r c)) target.old }
 {
     let depth = block.bit_depth;

@@ -17,9 +17,9 @@ pub(crate) trait Writer<E: Copy> {
     ghost serves: { ℕ → Type 0 };
 
     // the roundings of rows, of columns, and of columns of filtered rows, at a depth
-    ghost row: { ℕ → RoundingRecord };
+    ghost rows: { ℕ → RoundingRecord };
 
-    ghost column: { ℕ → RoundingRecord };
+    ghost columns: { ℕ → RoundingRecord };
 
     ghost both: { ℕ → RoundingRecord };
 
@@ -29,13 +29,13 @@ pub(crate) trait Writer<E: Copy> {
     /// The rounding of sums along rows.
     fn of_rows(bit_depth: usize) -> Rounding
         requires { IsDepth bit_depth }
-        ensures value { result ≡ row bit_depth }
+        ensures value { result ≡ rows bit_depth }
         ensures small { IsRounding result };
 
     /// The rounding of sums down columns.
     fn of_columns(bit_depth: usize) -> Rounding
         requires { IsDepth bit_depth }
-        ensures value { result ≡ column bit_depth }
+        ensures value { result ≡ columns bit_depth }
         ensures small { IsRounding result };
 
     /// The rounding of sums down columns of filtered rows.
@@ -57,9 +57,9 @@ pub(crate) struct Samples {}
 impl<T: Pixel> Writer<T> for Samples {
     ghost serves = { λ depth. depth ≤ T.BITS };
 
-    ghost row = { row_put };
+    ghost rows = { row_put };
 
-    ghost column = { λ _. column_put };
+    ghost columns = { λ _. column_put };
 
     ghost both = { both_put };
 
@@ -92,9 +92,9 @@ pub(crate) struct Between {}
 impl Writer<u16> for Between {
     ghost serves = { λ _. Unit };
 
-    ghost row = { between_filters };
+    ghost rows = { between_filters };
 
-    ghost column = { between_filters };
+    ghost columns = { between_filters };
 
     ghost both = { between_filters };
 
@@ -127,9 +127,9 @@ pub(crate) struct Prepared {}
 impl Writer<i16> for Prepared {
     ghost serves = { λ _. Unit };
 
-    ghost row = { one_prepared };
+    ghost rows = { one_prepared };
 
-    ghost column = { one_prepared };
+    ghost columns = { one_prepared };
 
     ghost both = { both_prepared };
 
