@@ -6,6 +6,7 @@ pub mod Reach
 pub mod Table
 pub mod Strips
 pub mod Parts
+pub mod Blocks
 pub mod Values
 pub mod Cases
 pub mod Vectors
