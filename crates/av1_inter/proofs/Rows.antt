@@ -52,3 +52,10 @@ module _ {T : Type 0} (num : T → ℕ) (place : PlaneSlice T) (columns rows : �
   -- such a row is long enough
   pub row_long : columns ≤ place.plane_cfg.now.stride - stored_column place.plane_cfg.now place.x
   row_long = let r = abs_pos num place columns rows stored (pos place.plane_cfg.now.xorigin +ℤ place.x) columns place.plane_cfg.now.stride stored.left stored.right in omega (arith, r)
+
+-- a row that is copied by way of another
+pub copied_twice : {X : Type 0} (n : ℕ) (row source blank line new : List X) → n ≤ length source → length blank ≡ n → line ≡ paint_row n (λ c v. get_or source c v) blank → new ≡ paint_row n (λ c v. get_or line c v) row
+    → new ≡ paint_row n (λ c v. get_or source c v) row
+copied_twice n row source blank line new h b e f =
+    f ∙ paint_row_same n _ _ row (λ q v l. let inside : q < length source = omega (arith, h, l) in
+    ap (λ s. get_or s q v) e ∙ painted_sample n q (λ k u. get_or source k u) blank v l (omega (arith, b)) (λ u. get_or_default source q u v inside))

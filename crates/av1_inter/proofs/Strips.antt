@@ -1,7 +1,7 @@
 -- A block is its strips: what a strip reads, and what strips paint side by side.
 use Rattle.std.proofs.Common.{ℕ, zero, suc, ◌+◌, ◌-◌, ◌*◌, ◌/◌, ◌%◌, ◌<◌, ◌≤◌, ◌≡◌, ◌∙◌, ap, sym, subst, arith, inl, inr, List, [], ◌∷◌, refl, drop, length, map, slice_index, get_or, ℤ, pos, ◌+ℤ◌, ◌-ℤ◌}
 use Rattle.std.proofs.lemmas.Int.{ints}
-use Rattle.std.proofs.lemmas.List.{get_or-drop, places}
+use Rattle.std.proofs.lemmas.List.{get_or-drop, get_or-map, places}
 use Rattle.std.proofs.lemmas.Bool.{cases_lt}
 use Rattle.std.proofs.lemmas.Bool.Decides.{nat_tests}
 use Rattle.av1_frame.specs.declared.plane_region.StoredArea.{StoredArea}
@@ -174,3 +174,7 @@ module _ {T : Type 0} (num : T → ℕ) (block part : Strip T) (taps : Taps) (x 
             omega (arith, ap length source, n, m, long, wide, columns);
         small = λ r c t k q i. subst (λ (n : ℕ). n < 32768) (sym (number_there r c (t * taps.step))) (l.small (y + r) (x + c) t (omega (arith, k, high, rows)) (omega (arith, q, wide, columns)) i);
       }
+
+-- a sample behind the first n of a source, by its number
+pub copied_there : {T : Type 0} (num : T → ℕ) (pixel : ℕ → T) (back : (v : T) → pixel (num v) ≡ v) (source from : List T) (n q m : ℕ) (v : T) → from ≡ drop n source → n + q ≡ m → q < length from → get_or from q v ≡ pixel (slice_index (map num source) m)
+copied_there num pixel back source from n q m v e h l = sym (back (get_or from q v)) ∙ ap pixel (sym (get_or-map num from q v 0 l) ∙ part_sample num source from n q m e h)

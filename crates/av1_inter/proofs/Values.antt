@@ -1,5 +1,5 @@
 -- What the filters of a block give is what the specification says, at each depth.
-use Rattle.std.proofs.Common.{ℕ, zero, suc, ◌+◌, ◌-◌, ◌*◌, ◌/◌, ◌^◌, ◌<◌, ◌≤◌, ◌≡◌, ◌≢◌, ◌⊎◌, ◌∙◌, ap, arith, refl, sym, List, ℤ, pos, negsuc, ◌+ℤ◌, ◌-ℤ◌, ◌*ℤ◌, ◌≤ℤ◌, inl, inr, length, w16, FitsSigned}
+use Rattle.std.proofs.Common.{ℕ, zero, suc, ◌+◌, ◌-◌, ◌*◌, ◌/◌, ◌^◌, ◌<◌, ◌≤◌, ◌≡◌, ◌≢◌, ◌⊎◌, ◌∙◌, ap, arith, refl, sym, List, ℤ, pos, negsuc, ◌+ℤ◌, ◌-ℤ◌, ◌*ℤ◌, ◌≤ℤ◌, inl, inr, length, subst, w16, FitsSigned}
 use Rattle.std.specs.Int.{int_shr, saturate_signed}
 use Rattle.std.specs.Int.Signed.{shr_z}
 use Rattle.std.proofs.lemmas.Bool.{cases_lt}
@@ -8,7 +8,13 @@ use Rattle.std.proofs.lemmas.List.{get_or-map, length-map}
 use Rattle.av1_blocks.specs.Depths.{IsDepth}
 use Rattle.av1_frame.specs.Arithmetic.{clip, round_shift}
 use Rattle.av1_inter.specs.Motion.{bias, down_intermediate, entry, intermediate, intermediate_at, intermediate_bits, prepared, single, sum_to, weighted}
-use Rattle.av1_inter.specs.Scaffolding.{along, Between, between_filters, both_prepared, both_put, column_put, doubled, halved, IsFilter, one_prepared, row_put, settled, value_of}
+use Rattle.av1_inter.specs.Scaffolding.{along, Between, between_filters, both_prepared, both_put, column_put, doubled, halved, IsFilter, one_prepared, row_put, sample_of, value_of}
+use Rattle.av1_inter.specs.Filters.{filter_of}
+use Rattle.av1_inter.specs.declared.strip.Strip.{Strip}
+use Rattle.av1_frame.specs.declared.plane_region.StoredArea.{StoredArea}
+use Rattle.av1_blocks.specs.declared.mc.FilterMode.{FilterMode}
+use Rattle.av1_inter.proofs.Strips.{prepared_moved, single_moved}
+use Rattle.av1_inter.proofs.Table.{filter_of_is_filter}
 use Rattle.av1_inter.proofs.Constants.{weighted_constant}
 use Rattle.av1_inter.proofs.Halves.{depth_numbers, doubled_sum, halves_are, rounded_twice}
 use Rattle.av1_inter.proofs.Reach.{down_fits, intermediate_between, intermediate_fits}
@@ -133,8 +139,36 @@ kept_number (pos n) z e b = omega (arith, ints, e, b.low, b.high)
 kept_number (negsuc n) z e b = absurd (omega (arith, ints, e, b.low))
 
 -- sums of numbers that are each 8192 greater
+shared : (a x y z : ℕ) → x + y ≡ z → a * x + a * y ≡ a * z
+shared a x y z e = let d : a * x + a * y ≡ a * (x + y) = grind arith in d ∙ ap (λ n. a * n) e
+
 product_more : (h v : ℤ) → h *ℤ (v +ℤ pos 8192) ≡ h *ℤ v +ℤ h *ℤ pos 8192
-product_more h v = grind (arith, ints)
+product_more (pos a) (pos n) = let k = shared a n 8192 (n + 8192) refl in omega (arith, ints, k)
+product_more (negsuc a) (pos n) = let k = shared (suc a) n 8192 (n + 8192) refl in omega (arith, ints, k)
+product_more (pos a) (negsuc n) = elim (cases_lt n 8192) [
+  | inl b ↦ (
+      let e : negsuc n +ℤ pos 8192 ≡ pos (8191 - n) = omega (arith, ints, b) in
+      let k = shared a (8191 - n) (suc n) 8192 (omega (arith, b)) in
+      ap (λ z. pos a *ℤ z) e ∙ omega (arith, ints, k)
+      )
+  | inr b ↦ (
+      let e : negsuc n +ℤ pos 8192 ≡ negsuc (n - 8192) = omega (arith, ints, b) in
+      let k = shared a (suc (n - 8192)) 8192 (suc n) (omega (arith, b)) in
+      ap (λ z. pos a *ℤ z) e ∙ omega (arith, ints, k)
+      )
+]
+product_more (negsuc a) (negsuc n) = elim (cases_lt n 8192) [
+  | inl b ↦ (
+      let e : negsuc n +ℤ pos 8192 ≡ pos (8191 - n) = omega (arith, ints, b) in
+      let k = shared (suc a) (8191 - n) (suc n) 8192 (omega (arith, b)) in
+      ap (λ z. negsuc a *ℤ z) e ∙ omega (arith, ints, k)
+      )
+  | inr b ↦ (
+      let e : negsuc n +ℤ pos 8192 ≡ negsuc (n - 8192) = omega (arith, ints, b) in
+      let k = shared (suc a) (suc (n - 8192)) 8192 (suc n) (omega (arith, b)) in
+      ap (λ z. negsuc a *ℤ z) e ∙ omega (arith, ints, k)
+      )
+]
 
 sum_more : (halves : List ℤ) (value : ℕ → ℤ) (k : ℕ) → sum_to k (λ t. entry halves t *ℤ (value t +ℤ pos 8192)) ≡ sum_to k (λ t. entry halves t *ℤ value t) +ℤ sum_to k (λ t. entry halves t *ℤ pos 8192)
 unfolding sum_to
@@ -180,3 +214,29 @@ module _ (depth : ℕ) (d : IsDepth depth) (across down : List ℤ) (fa : IsFilt
   prepared_value (suc j) (suc k) h =
       ap (saturate_signed w16) (moved_prepared (weighted (halved down) (λ t. intermediate depth (suc j) across samples (r + t) c)) _ (whole_sum down _ fd) (bias depth) _ (rows_kept j))
       ∙ saturated _ (down_fits depth d (suc j) across down samples r c fa fd within)
+
+-- The values of a block as it was made: its rectangle, its depth and its samples are those that a contract names.
+module _ {T : Type 0} (num : T → ℕ) (block : Strip T) (area : StoredArea) (depth : ℕ) (ea : block.area ≡ area) (ed : block.bit_depth ≡ depth) (d : IsDepth depth) (mode_x mode_y : FilterMode) (fx fy : ℕ) (lx : fx < 16) (ly : fy < 16)
+    (some : (fx ≢ 0) ⊎ (fy ≢ 0)) (samples : ℕ → ℕ → ℕ) (same : (x y : ℕ) → x < area.width + 7 → y < area.height + 7 → sample_of num block x y ≡ samples x y)
+    (within : (x y : ℕ) → x < area.width + 7 → y < area.height + 7 → samples x y < 2 ^ depth) (r c : ℕ) (h : r < area.height) (l : c < area.width) where
+  within_here : (x y : ℕ) → x < c + 8 → y < r + 8 → sample_of num block x y < 2 ^ depth
+  within_here x y k i = subst (λ (n : ℕ). n < 2 ^ depth) (sym (same x y (omega (arith, k, l)) (omega (arith, i, h)))) (within x y (omega (arith, k, l)) (omega (arith, i, h)))
+
+  same_here : (x y : ℕ) → x < 8 → y < 8 → sample_of num block (c + x) (r + y) ≡ samples (c + x) (r + y)
+  same_here x y k i = same (c + x) (r + y) (omega (arith, k, l)) (omega (arith, i, h))
+
+  pub put_here : clip block.bit_depth (value_of (row_put block.bit_depth) column_put (both_put block.bit_depth) block.bit_depth fx fy (halved (filter_of mode_x fx block.area.width)) (halved (filter_of mode_y fy block.area.height)) (sample_of num block) r c)
+      ≡ single depth fx fy (filter_of mode_x fx area.width) (filter_of mode_y fy area.height) samples r c
+  put_here =
+      let value = λ (b : ℕ) (a : StoredArea). clip b (value_of (row_put b) column_put (both_put b) b fx fy (halved (filter_of mode_x fx a.width)) (halved (filter_of mode_y fy a.height)) (sample_of num block) r c) in
+      ap (λ b. value b block.area) ed ∙ ap (value depth) ea
+      ∙ put_value depth d (filter_of mode_x fx area.width) (filter_of mode_y fy area.height) (filter_of_is_filter mode_x fx area.width lx) (filter_of_is_filter mode_y fy area.height ly) (sample_of num block) r c within_here fx fy some
+      ∙ single_moved depth (filter_of mode_x fx area.width) (filter_of mode_y fy area.height) (sample_of num block) samples r c c same_here fx fy
+
+  pub prepared_here : value_of (one_prepared block.bit_depth) (one_prepared block.bit_depth) (both_prepared block.bit_depth) block.bit_depth fx fy (halved (filter_of mode_x fx block.area.width)) (halved (filter_of mode_y fy block.area.height)) (sample_of num block) r c
+      ≡ prepared depth fx fy (filter_of mode_x fx area.width) (filter_of mode_y fy area.height) samples r c
+  prepared_here =
+      let value = λ (b : ℕ) (a : StoredArea). value_of (one_prepared b) (one_prepared b) (both_prepared b) b fx fy (halved (filter_of mode_x fx a.width)) (halved (filter_of mode_y fy a.height)) (sample_of num block) r c in
+      ap (λ b. value b block.area) ed ∙ ap (value depth) ea
+      ∙ prepared_value depth d (filter_of mode_x fx area.width) (filter_of mode_y fy area.height) (filter_of_is_filter mode_x fx area.width lx) (filter_of_is_filter mode_y fy area.height ly) (sample_of num block) r c within_here fx fy some
+      ∙ prepared_moved depth (filter_of mode_x fx area.width) (filter_of mode_y fy area.height) (sample_of num block) samples r c c same_here fx fy
