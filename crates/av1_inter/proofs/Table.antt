@@ -88,7 +88,7 @@ taps_made mode z side taps h e = e ∙ ap (λ y. filter_of mode (unsigned_abs y)
 pub some_fraction : (z : ℤ) → of_z w32 z ≢ 0 → unsigned_abs z ≢ 0
 some_fraction z h e = let k : z ≡ pos 0 = omega (arith, ints, e) in h (ap (of_z w32) k)
 
-fraction_small : (z : ℤ) → pos 0 ≤ℤ z → z <ℤ pos 16 → unsigned_abs z < 16
+pub fraction_small : (z : ℤ) → pos 0 ≤ℤ z → z <ℤ pos 16 → unsigned_abs z < 16
 fraction_small (pos n) l h = omega (arith, ints)
 fraction_small (negsuc n) l h = absurd (omega (arith, ints))
 

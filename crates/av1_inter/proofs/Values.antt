@@ -1,5 +1,5 @@
 -- What the filters of a block give is what the specification says, at each depth.
-use Rattle.std.proofs.Common.{ℕ, zero, suc, ◌+◌, ◌-◌, ◌*◌, ◌/◌, ◌^◌, ◌<◌, ◌≤◌, ◌≡◌, ◌≢◌, ◌⊎◌, ◌∙◌, ap, arith, refl, sym, List, ℤ, pos, negsuc, ◌+ℤ◌, ◌-ℤ◌, ◌*ℤ◌, ◌≤ℤ◌, inl, inr, length, subst, w16, FitsSigned}
+use Rattle.std.proofs.Common.{ℕ, zero, suc, ◌+◌, ◌-◌, ◌*◌, ◌/◌, ◌^◌, ◌<◌, ◌≤◌, ◌≡◌, ◌≢◌, ◌⊎◌, ◌∙◌, ap, arith, refl, sym, List, ℤ, pos, negsuc, ◌+ℤ◌, ◌-ℤ◌, ◌*ℤ◌, ◌≤ℤ◌, inl, inr, length, subst, unsigned_abs, w16, FitsSigned}
 use Rattle.std.specs.Int.{int_shr, saturate_signed}
 use Rattle.std.specs.Int.Signed.{shr_z}
 use Rattle.std.proofs.lemmas.Bool.{cases_lt}
@@ -214,6 +214,11 @@ module _ (depth : ℕ) (d : IsDepth depth) (across down : List ℤ) (fa : IsFilt
   prepared_value (suc j) (suc k) h =
       ap (saturate_signed w16) (moved_prepared (weighted (halved down) (λ t. intermediate depth (suc j) across samples (r + t) c)) _ (whole_sum down _ fd) (bias depth) _ (rows_kept j))
       ∙ saturated _ (down_fits depth d (suc j) across down samples r c fa fd within)
+
+-- the sample that a block's filters give
+abbrev pub put_of : (depth : ℕ) → StoredArea → (x y : ℤ) → (mode_x mode_y : FilterMode) → (ℕ → ℕ → ℕ) → (r c : ℕ) → ℕ
+put_of depth a x y mode_x mode_y samples r c =
+    clip depth (value_of (row_put depth) column_put (both_put depth) depth (unsigned_abs x) (unsigned_abs y) (halved (filter_of mode_x (unsigned_abs x) a.width)) (halved (filter_of mode_y (unsigned_abs y) a.height)) samples r c)
 
 -- The values of a block as it was made: its rectangle, its depth and its samples are those that a contract names.
 module _ {T : Type 0} (num : T → ℕ) (block : Strip T) (area : StoredArea) (depth : ℕ) (ea : block.area ≡ area) (ed : block.bit_depth ≡ depth) (d : IsDepth depth) (mode_x mode_y : FilterMode) (fx fy : ℕ) (lx : fx < 16) (ly : fy < 16)
