@@ -1,6 +1,6 @@
 -- The four cases of the fractions: where only one filter runs, the other's rounding loses nothing.
-use Rattle.std.proofs.Common.{ℕ, zero, suc, ◌+◌, ◌-◌, ◌*◌, ◌^◌, ◌<◌, ◌≡◌, ◌≢◌, ◌∙◌, ap, refl, sym, subst, arith, ℤ, pos, negsuc, ◌+ℤ◌, ◌-ℤ◌, ◌*ℤ◌, ◌≤ℤ◌, List}
-use Rattle.std.proofs.Common.{inl, inr, w64, FitsSigned}
+use Rattle.std.proofs.Common.{ℕ, zero, suc, ◌+◌, ◌-◌, ◌*◌, ◌^◌, ◌<◌, ◌≡◌, ◌≢◌, ◌∙◌, ap, refl, sym, subst, arith, ℤ, pos, negsuc, ◌+ℤ◌, ◌-ℤ◌, ◌*ℤ◌, ◌≤ℤ◌}
+use Rattle.std.proofs.Common.{List, inl, inr, w64, FitsSigned}
 use Rattle.std.specs.Int.Signed.{shr_z}
 use Rattle.std.proofs.lemmas.Int.{ints}
 use Rattle.av1_frame.specs.Arithmetic.{clip, round_shift}
@@ -59,13 +59,15 @@ shr_128_of_4 z = shr_at (z +ℤ pos 16) (pos 4 *ℤ z +ℤ pos 64) (omega (arith
 
 -- samples that are moved to the intermediate bits, summed and rounded back
 put_down : (depth : ℕ) → IsDepth depth → (taps : List ℤ) (s : ℕ → ℕ) →
-    round_shift (weighted taps (λ t. pos (s t * 2 ^ intermediate_bits depth))) (7 + intermediate_bits depth) ≡ round_shift (weighted taps (λ t. pos (s t))) 7
+    round_shift (weighted taps (λ t. pos (s t * 2 ^ intermediate_bits depth))) (7 + intermediate_bits depth) ≡
+    round_shift (weighted taps (λ t. pos (s t))) 7
 put_down depth (inl e) taps s = rw e (ap (λ z. shr_z (z +ℤ pos 1024) 2048) (sum_16 taps s 8) ∙ shr_2048 (weighted taps (λ t. pos (s t))))
 put_down depth (inr (inl e)) taps s = rw e (ap (λ z. shr_z (z +ℤ pos 1024) 2048) (sum_16 taps s 8) ∙ shr_2048 (weighted taps (λ t. pos (s t))))
 put_down depth (inr (inr e)) taps s = rw e (ap (λ z. shr_z (z +ℤ pos 256) 512) (sum_4 taps s 8) ∙ shr_512 (weighted taps (λ t. pos (s t))))
 
 prepare_down : (depth : ℕ) → IsDepth depth → (taps : List ℤ) (s : ℕ → ℕ) →
-    round_shift (weighted taps (λ t. pos (s t * 2 ^ intermediate_bits depth))) 7 ≡ round_shift (weighted taps (λ t. pos (s t))) (7 - intermediate_bits depth)
+    round_shift (weighted taps (λ t. pos (s t * 2 ^ intermediate_bits depth))) 7 ≡ round_shift (weighted taps (λ t. pos (s t)))
+    (7 - intermediate_bits depth)
 prepare_down depth (inl e) taps s = rw e (ap (λ z. shr_z (z +ℤ pos 64) 128) (sum_16 taps s 8) ∙ shr_128_of_16 (weighted taps (λ t. pos (s t))))
 prepare_down depth (inr (inl e)) taps s = rw e (ap (λ z. shr_z (z +ℤ pos 64) 128) (sum_16 taps s 8) ∙ shr_128_of_16 (weighted taps (λ t. pos (s t))))
 prepare_down depth (inr (inr e)) taps s = rw e (ap (λ z. shr_z (z +ℤ pos 64) 128) (sum_4 taps s 8) ∙ shr_128_of_4 (weighted taps (λ t. pos (s t))))
@@ -73,7 +75,8 @@ prepare_down depth (inr (inr e)) taps s = rw e (ap (λ z. shr_z (z +ℤ pos 64) 
 module _ (depth : ℕ) (is_depth : IsDepth depth) where
   -- a block that is filtered down its columns
   pub single_down : (fx fy : ℕ) (across down : List ℤ) (samples : ℕ → ℕ → ℕ) (r c : ℕ) → fy ≢ 0 →
-      clip depth (round_shift (down_intermediate depth fx across down samples r c) (7 + intermediate_bits depth)) ≡ single depth fx fy across down samples r c
+      clip depth (round_shift (down_intermediate depth fx across down samples r c) (7 + intermediate_bits depth)) ≡
+      single depth fx fy across down samples r c
   single_down fx zero across down samples r c h = absurd (h refl)
   single_down zero (suc k) across down samples r c h = ap (clip depth) (put_down depth is_depth down (λ t. samples (c + 3) (r + t)))
   single_down (suc j) (suc k) across down samples r c h = refl

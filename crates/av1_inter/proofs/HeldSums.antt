@@ -1,6 +1,6 @@
 -- Averages whose sums are held in 16 bits.
-use Rattle.std.proofs.Common.{ℕ, ◌+◌, ◌-◌, ◌^◌, ◌≤◌, ◌≡◌, ◌∙◌, ap, refl, arith, sym, min, ℤ, pos, negsuc, ◌+ℤ◌, ◌*ℤ◌, ◌≤ℤ◌, ◌⊎◌, subst, List, length, get_or}
-use Rattle.std.proofs.Common.{inl, inr, w16, w32, to_z, of_z, FitsSigned, unsigned_abs}
+use Rattle.std.proofs.Common.{ℕ, ◌+◌, ◌-◌, ◌^◌, ◌≤◌, ◌≡◌, ◌∙◌, ap, refl, arith, sym, min, ℤ, pos, negsuc, ◌+ℤ◌, ◌*ℤ◌, ◌≤ℤ◌, ◌⊎◌, subst, List, length}
+use Rattle.std.proofs.Common.{get_or, inl, inr, w16, w32, to_z, of_z, FitsSigned, unsigned_abs}
 use Rattle.std.specs.Int.{int_max, int_min, int_shr, saturate_signed}
 use Rattle.std.specs.Int.Signed.{shr_z}
 use Rattle.std.proofs.lemmas.Bool.{cases_lt}

@@ -1,13 +1,13 @@
 -- Sums of weighted values, as the machine forms them, and how great they are.
-use Rattle.std.proofs.Common.{ℕ, zero, suc, ◌+◌, ◌-◌, ◌*◌, ◌%◌, ◌^◌, ◌<◌, ◌≤◌, ◌≡◌, ◌∙◌, ap, refl, arith, subst, sym, ℤ, pos, negsuc, ◌+ℤ◌, ◌-ℤ◌, ◌*ℤ◌, neg_ℤ}
-use Rattle.std.proofs.Common.{◌≤ℤ◌, List, [], ◌∷◌, length, take, w16, w32, to_z, of_z, FitsSigned}
+use Rattle.std.proofs.Common.{ℕ, zero, suc, ◌+◌, ◌-◌, ◌*◌, ◌%◌, ◌^◌, ◌<◌, ◌≤◌, ◌≡◌, ◌∙◌, ap, refl, arith, subst, sym, ℤ, pos, negsuc, ◌+ℤ◌, ◌-ℤ◌, ◌*ℤ◌}
+use Rattle.std.proofs.Common.{neg_ℤ, ◌≤ℤ◌, List, [], ◌∷◌, length, take, w16, w32, to_z, of_z, FitsSigned}
 use Rattle.std.proofs.lemmas.Int.{ints, to_z-of_z, to_z_pos}
 use Rattle.std.proofs.lemmas.Nat.{mul-le}
 use Rattle.std.proofs.Math.Nat.{mod-eq_of_lt}
 use Rattle.std.proofs.Math.Pow.{pow_mono}
 use Rattle.av1_frame.specs.Arithmetic.{round_shift}
 use Rattle.av1_inter.specs.Motion.{entry, intermediate_bits, intermediate_at, sum_to, weighted}
-use Rattle.av1_inter.specs.Scaffolding.{Between, gains, losses, IsFilter, IsInner, IsWithin, SumsFit}
+use Rattle.av1_inter.specs.Scaffolding.{AreZero, Between, gains, losses, IsFilter, IsWithin}
 
 -- a sample, shifted to the left
 pub shifted_is : (z : ℤ) (n b : ℕ) → z ≡ pos n → n < 2 ^ 16 → b ≤ 4 → to_z w32 (of_z w32 z * 2 ^ b % 4294967296) ≡ pos (n * 2 ^ b)
@@ -81,12 +81,13 @@ both_between G g L l a b s p h k =
 
 -- the first terms of a sum
 pub partial_between : (taps : List ℤ) (value : ℕ → ℤ) (a b k : ℕ) → k ≤ length taps → ((t : ℕ) → t < length taps → Between a b (value t)) →
-    Between (gains (take k taps) * a + losses (take k taps) * b) (gains (take k taps) * b + losses (take k taps) * a) (sum_to k (λ t. entry taps t *ℤ value t))
+    Between (gains (take k taps) * a + losses (take k taps) * b) (gains (take k taps) * b + losses (take k taps) * a)
+    (sum_to k (λ t. entry taps t *ℤ value t))
 unfolding sum_to
 partial_between taps value a b zero h v = record { low = omega (arith, ints); high = omega (arith, ints) }
 partial_between taps value a b (suc k) h v =
-    let s = both_between _ _ _ _ a b _ _ (partial_between taps value a b k (omega arith) v) (product_between (entry taps k) (value k) a b (v k (omega arith)))
-    in
+    let s = both_between _ _ _ _ a b _ _ (partial_between taps value a b k (omega arith) v)
+    (product_between (entry taps k) (value k) a b (v k (omega arith))) in
     rw (gains_more taps k (omega arith), losses_more taps k (omega arith)) s
 
 pub fits_of : (z : ℤ) → neg_ℤ (pos (2 ^ 30)) ≤ℤ z → z ≤ℤ pos (2 ^ 30) → FitsSigned w32 z
@@ -105,6 +106,12 @@ filter_between taps value a b k f h v =
     let la = mul-le _ a 56 a l (omega arith) in
     let lb = mul-le _ b 56 b l (omega arith) in
     record { low = omega (arith, ints, s.low, ga, lb); high = omega (arith, ints, s.high, gb, la) }
+
+-- sums of numbers from 0 to `greatest` by these eight weights, or by the first of them, fit 16 bits
+pub record SumsFit (weights : List ℤ) (greatest : ℕ) : Type 0 where
+  pub size : length weights ≡ 8
+  pub gains : gains weights * greatest ≤ 32767
+  pub losses : losses weights * greatest ≤ 32767
 
 -- sums by small weights, also of the first terms alone, over numbers up to n
 pub small_sum : (weights : List ℤ) (value : ℕ → ℤ) (n k : ℕ) → SumsFit weights n → k ≤ 8 → ((t : ℕ) → t < 8 → Between 0 n (value t)) →
@@ -171,19 +178,28 @@ pub times_none : (v : ℤ) → pos 0 *ℤ v ≡ pos 0
 times_none (pos n) = omega (arith, ints)
 times_none (negsuc n) = omega (arith, ints)
 
-last_none : (s p : ℤ) → p ≡ pos 0 → s ≡ s +ℤ p
-last_none s p e = omega (arith, ints, e)
+nothing_more : (s p : ℤ) → p ≡ pos 0 → s ≡ s +ℤ p
+nothing_more s p e = omega (arith, ints, e)
 
--- the first and the last term of a sum by weights of which they are 0
-pub sum_first : (taps : List ℤ) (value : ℕ → ℤ) → IsInner taps → sum_to 1 (λ t. entry taps t *ℤ value t) ≡ pos 0
-unfolding sum_to
-sum_first taps value h = ap (λ z. pos 0 +ℤ z *ℤ value 0) h.first ∙ ap (λ z. pos 0 +ℤ z) (times_none (value 0))
+no_product : (w v : ℤ) → w ≡ pos 0 → w *ℤ v ≡ pos 0
+no_product w v e = ap (λ z. z *ℤ v) e ∙ times_none v
 
-pub sum_last : (taps : List ℤ) (value : ℕ → ℤ) → IsInner taps → (z : ℤ) → z ≡ sum_to 7 (λ t. entry taps t *ℤ value t) → z ≡ weighted taps value
+-- a sum before its first weight that may not be 0, and behind its last
+pub sum_begins : (zeros : ℕ) (halves : List ℤ) (value : ℕ → ℤ) → zeros ≤ 2 → AreZero zeros halves → pos 0 ≡ sum_to zeros (λ t. entry halves t *ℤ value t)
 unfolding sum_to
-sum_last taps value h z e =
-    let n : entry taps 7 *ℤ value 7 ≡ pos 0 = ap (λ u. u *ℤ value 7) h.last ∙ times_none (value 7) in
-    e ∙ last_none _ _ n
+sum_begins zero halves value l h = refl
+sum_begins (suc zero) halves value l h = nothing_more _ _ (no_product _ _ (h 0 (omega arith)).0)
+sum_begins (suc (suc zero)) halves value l h = nothing_more _ _ (no_product _ _ (h 0 (omega arith)).0) ∙ nothing_more _ _ (no_product _ _ (h 1 (omega arith)).0)
+sum_begins (suc (suc (suc n))) halves value l h = absurd (omega (arith, l))
+
+pub sum_ends : (zeros : ℕ) (halves : List ℤ) (value : ℕ → ℤ) (z : ℤ) → zeros ≤ 2 → AreZero zeros halves →
+    z ≡ sum_to (8 - zeros) (λ t. entry halves t *ℤ value t) → z ≡ weighted halves value
+unfolding sum_to
+sum_ends zero halves value z l h e = e
+sum_ends (suc zero) halves value z l h e = e ∙ nothing_more _ _ (no_product _ _ (h 0 (omega arith)).1)
+sum_ends (suc (suc zero)) halves value z l h e = e ∙ nothing_more _ _ (no_product _ _ (h 1 (omega arith)).1)
+    ∙ nothing_more _ _ (no_product _ _ (h 0 (omega arith)).1)
+sum_ends (suc (suc (suc n))) halves value z l h e = absurd (omega (arith, l))
 
 -- terms that agree
 pub sum_same : (n : ℕ) (f g : ℕ → ℤ) → ((t : ℕ) → t < n → f t ≡ g t) → sum_to n f ≡ sum_to n g

@@ -1,6 +1,6 @@
 -- Where a vector leads, and what stands there.
-use Rattle.std.proofs.Common.{ℕ, ◌+◌, ◌^◌, ◌<◌, ◌≤◌, ◌≡◌, ◌∙◌, ap, sym, subst, arith, ℤ, pos, negsuc, ◌+ℤ◌, ◌-ℤ◌, ◌≤ℤ◌, ◌<ℤ◌, neg_ℤ, FitsSigned, w16, w32, w64}
-use Rattle.std.proofs.Common.{to_z, of_z, unsigned_abs}
+use Rattle.std.proofs.Common.{ℕ, ◌+◌, ◌^◌, ◌<◌, ◌≤◌, ◌≡◌, ◌∙◌, ap, sym, subst, arith, ℤ, pos, negsuc, ◌+ℤ◌, ◌-ℤ◌, ◌≤ℤ◌, ◌<ℤ◌, neg_ℤ, FitsSigned, w16, w32}
+use Rattle.std.proofs.Common.{w64, to_z, of_z, unsigned_abs}
 use Rattle.std.specs.Int.{int_min, int_max, saturate_signed}
 use Rattle.std.proofs.lemmas.Int.{ints, clamps, to_z-of_z}
 use Rattle.av1_blocks.specs.declared.mc.MotionVector.{MotionVector}

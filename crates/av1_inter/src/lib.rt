@@ -26,27 +26,38 @@
 //! allocates, and no other can fail. Sides and places are counted in samples, vectors in eighths of a luma sample,
 //! fractions in sixteenths of a sample. A filter has eight taps, so a block needs 3 stored columns and rows before it
 //! and 4 after it, at every fraction.
+//!
+//! Which function filters a block hangs on its fractions and on the bytes of a sample; `put_8tap` and `prep_8tap` share
+//! all of them, and a `Writer` makes samples or prepared values of what they give:
+//!
+//! | fraction across | down | one byte | two bytes |
+//! |---|---|---|---|
+//! | 0 | 0 | `put_copy`, `prepare_copy` | the same |
+//! | some | 0 | `filter_once`, sums by `filter_bytes` for 16, 8, 4 or 1 columns | `filter_once`, sums by `filter_words` for 8, 4 or 1 |
+//! | 0 | some | the same, with steps of a row | the same, with steps of a row |
+//! | some | some | `filter_twice`: the first filter by `filter_bytes`, the second by `filter_words` | `filter_twice`, both by `filter_words` |
+//!
+//! Within a sum the outer weights that are 0 are left out: `outer_zeros` counts them.
 #![tactic(auto)]
 
-mod alone;
 mod average;
+mod block;
 mod buffers;
+mod bytes;
 mod copies;
 mod filter;
 mod laws;
-mod lines;
-mod mixed;
 mod moved;
-mod narrow;
-mod pairs;
+mod one_filter;
 mod predict;
 mod prepare;
 mod put;
 mod rounding;
-mod square;
 mod strip;
 mod taps;
-mod window;
+mod two_filters;
+mod words;
+mod writer;
 
 pub use average::{mc_avg, mc_avg_to};
 pub use buffers::InterCompoundBuffers;
