@@ -8,7 +8,7 @@ pub mod Strips
 pub mod Parts
 pub mod Blocks
 pub mod Values
-pub mod Cases
+pub mod Corners
 pub mod Vectors
 pub mod Constants
 pub mod Fitting
@@ -21,3 +21,4 @@ pub mod PairSums
 pub mod Settled
 pub mod References
 pub mod EightSums
+pub mod Widened

@@ -1,13 +1,17 @@
 -- Rows of a reference, and rows that are painted.
-use Rattle.std.proofs.Common.{drop, ℕ, ◌+◌, ◌-◌, ◌%◌, ◌≢◌, ◌<◌, ◌≤◌, ◌≡◌, ◌∙◌, ap, sym, arith, List, length, map, get_or, slice_index, ℤ, pos, negsuc, ◌+ℤ◌}
-use Rattle.std.proofs.Common.{◌≤ℤ◌, unsigned_abs, inl, inr}
+use Rattle.std.proofs.Common.{drop, ℕ, ◌+◌, ◌-◌, ◌*◌, ◌/◌, ◌%◌, ◌≢◌, ◌<◌, ◌≤◌, ◌≡◌, ◌∙◌, ap, sym, arith, List, length, map, get_or, slice_index, ℤ, pos, negsuc, ◌+ℤ◌}
+use Rattle.std.proofs.Common.{◌≤ℤ◌, unsigned_abs, inl, inr, refl}
 use Rattle.std.proofs.lemmas.Int.{ints}
-use Rattle.std.proofs.lemmas.List.{get_or-drop, get_or-map, get_or_default, places}
+use Rattle.std.proofs.lemmas.List.{get_or-drop, get_or-map, get_or_default, get_or_past, places}
+use Rattle.std.proofs.lemmas.Nat.{le-div}
 use Rattle.std.proofs.lemmas.Bool.{cases_lt, cases_eq}
 use Rattle.std.proofs.lemmas.Bool.Decides.{nat_tests}
 use Rattle.av1_frame.specs.declared.plane_slice.PlaneSlice.{PlaneSlice}
-use Rattle.av1_frame.specs.Samples.{paint_row}
+use Rattle.av1_frame.specs.declared.plane_region.StoredArea.{StoredArea}
+use Rattle.av1_frame.specs.Samples.{paint, paint_row, painted_at}
 use Rattle.av1_frame.specs.Slices.{row_from, stored_column, IsStoredPlace, slice_plane}
+use Rattle.av1_frame.proofs.Fits.{row_end_le}
+use Rattle.av1_frame.proofs.Paint.{paint_at}
 use Rattle.av1_frame.proofs.Slices.{row_from_sample}
 use Rattle.av1_frame.proofs.Update.{update_is, length-update, get_or-update}
 use Rattle.av1_inter.specs.Places.{IsStoredFrom, samples_from}
@@ -72,3 +76,25 @@ pub copied_twice : {X : Type 0} (n : ℕ) (row source blank line new : List X) �
 copied_twice n row source blank line new h b e f =
     f ∙ paint_row_same n _ _ row (λ q v l. let inside : q < length source = omega (arith, h, l) in
     ap (λ s. get_or s q v) e ∙ painted_sample n q (λ k u. get_or source k u) blank v l (omega (arith, b)) (λ u. get_or_default source q u v inside))
+
+-- a rectangle that is painted from a list's first entry on, in rows of its own width: its entries, and those behind it
+module _ {X : Type 0} (a : StoredArea) (w h : ℕ) (f : ℕ → ℕ → X → X) (s new : List X) (ea : a ≡ record { x = 0; y = 0; width = w; height = h })
+    (e : new ≡ paint w a f s) (some : 0 < w) where
+  packed_is : new ≡ paint w (record { x = 0; y = 0; width = w; height = h }) f s
+  packed_is = e ∙ ap (λ (b : StoredArea). paint w b f s) ea
+
+  pub packed_at : h * w ≤ length s → (r c : ℕ) (d : X) → r < h → c < w → get_or new (r * w + c) d ≡ f r c (get_or s (r * w + c) d)
+  packed_at long r c d k l =
+      let end = row_end_le r h w (c + 1) (h * w) refl k (omega arith) in
+      let t = paint_at w (record { x = 0; y = 0; width = w; height = h }) f s c r d l (omega (arith, end, long)) in
+      ap (λ u. get_or u (r * w + c) d) packed_is ∙ grind (arith, nat_tests)
+
+  pub packed_rest : (i : ℕ) (d : X) → h * w ≤ i → get_or new i d ≡ get_or s i d
+  unfolding paint
+  packed_rest i d l =
+      let below = le-div h i w some l in
+      ap (λ u. get_or u i d) packed_is ∙ elim (cases_lt i (length s)) [
+        | inl inside ↦ get_or-update _ s i d inside ∙ grind (arith, nat_tests)
+        | inr past ↦ get_or_past _ i d (omega (arith, length-update (λ k v. painted_at (record { x = 0; y = 0; width = w; height = h }) f (k % w) (k / w) v) s, past))
+        ∙ sym (get_or_past s i d past)
+      ]

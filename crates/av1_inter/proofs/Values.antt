@@ -19,7 +19,8 @@ use Rattle.av1_inter.proofs.Strips.{prepared_moved, single_moved}
 use Rattle.av1_inter.proofs.Table.{filter_of_is_filter}
 use Rattle.av1_inter.proofs.Constants.{weighted_constant}
 use Rattle.av1_inter.proofs.Halves.{depth_numbers, doubled_sum, halves_are, rounded_twice}
-use Rattle.av1_inter.proofs.Reach.{down_fits, intermediate_between, intermediate_fits}
+use Rattle.av1_inter.proofs.Fitting.{prepared_fits}
+use Rattle.av1_inter.proofs.Reach.{intermediate_between}
 use Rattle.av1_inter.proofs.Sums.{weighted_same}
 
 -- a filter's sum is twice that by halved weights
@@ -234,21 +235,40 @@ module _ (depth : ℕ) (d : IsDepth depth) (across down : List ℤ) (fa : IsFilt
   prepared_value zero zero (inr h) = absurd (h refl)
   prepared_value zero (suc k) h =
       ap (λ z. saturate_signed w16 (z -ℤ bias depth)) (once (weighted (halved down) (λ t. pos (samples (c + 3) (r + t)))) _ (whole_sum down _ fd) depth d)
-      ∙ saturated _ (intermediate_fits depth d 1 down (λ t. samples (c + 3) t) r fd (λ t l. within (c + 3) (r + t) (omega arith) (omega (arith, l))))
+      ∙ saturated _ (prepared_fits depth d 0 (suc k) across down samples r c fa fd within)
   prepared_value (suc j) zero h =
       ap (λ z. saturate_signed w16 (z -ℤ bias depth)) (once (weighted (halved across) (λ t. pos (samples (c + t) (r + 3)))) _ (whole_sum across _ fa) depth d)
-      ∙ saturated _ (intermediate_fits depth d (suc j) across (λ x. samples x (r + 3)) c fa (λ t l. within (c + t) (r + 3) (omega (arith, l)) (omega arith)))
+      ∙ saturated _ (prepared_fits depth d (suc j) 0 across down samples r c fa fd within)
   prepared_value (suc j) (suc k) h =
       ap (saturate_signed w16)
       (moved_prepared (weighted (halved down) (λ t. intermediate depth (suc j) across samples (r + t) c)) _ (whole_sum down _ fd)
       (bias depth) _ (rows_kept j))
-      ∙ saturated _ (down_fits depth d (suc j) across down samples r c fa fd within)
+      ∙ saturated _ (prepared_fits depth d (suc j) (suc k) across down samples r c fa fd within)
+
+-- the samples of a block that is not filtered, and what is prepared of them
+module _ (depth : ℕ) (across down : List ℤ) (samples : ℕ → ℕ → ℕ) (r c : ℕ) where
+  pub put_copied : (fx fy : ℕ) → fx ≡ 0 → fy ≡ 0 → samples (c + 3) (r + 3) ≡ single depth fx fy across down samples r c
+  put_copied zero zero h e = refl
+  put_copied (suc j) fy h e = absurd (omega (arith, h))
+  put_copied zero (suc k) h e = absurd (omega (arith, e))
+
+  pub prepared_copied : (fx fy : ℕ) → fx ≡ 0 → fy ≡ 0 →
+      pos (samples (c + 3) (r + 3) * 2 ^ intermediate_bits depth) -ℤ bias depth ≡ prepared depth fx fy across down samples r c
+  prepared_copied zero zero h e = refl
+  prepared_copied (suc j) fy h e = absurd (omega (arith, h))
+  prepared_copied zero (suc k) h e = absurd (omega (arith, e))
 
 -- the sample that a block's filters give
 abbrev pub put_of : (depth : ℕ) → StoredArea → (x y : ℤ) → (mode_x mode_y : FilterMode) → (ℕ → ℕ → ℕ) → (r c : ℕ) → ℕ
 put_of depth a x y mode_x mode_y samples r c =
     clip depth (value_of (row_put depth) column_put (both_put depth) depth (unsigned_abs x) (unsigned_abs y)
     (halved (filter_of mode_x (unsigned_abs x) a.width)) (halved (filter_of mode_y (unsigned_abs y) a.height)) samples r c)
+
+-- and the value that is prepared of it
+abbrev pub prepared_of : (depth : ℕ) → StoredArea → (x y : ℤ) → (mode_x mode_y : FilterMode) → (ℕ → ℕ → ℕ) → (r c : ℕ) → ℤ
+prepared_of depth a x y mode_x mode_y samples r c =
+    value_of (one_prepared depth) (one_prepared depth) (both_prepared depth) depth (unsigned_abs x) (unsigned_abs y)
+    (halved (filter_of mode_x (unsigned_abs x) a.width)) (halved (filter_of mode_y (unsigned_abs y) a.height)) samples r c
 
 -- The values of a block as it was made: its rectangle, its depth and its samples are those that a contract names.
 module _ {T : Type 0} (num : T → ℕ) (block : Strip T) (area : StoredArea) (depth : ℕ) (ea : block.area ≡ area) (ed : block.bit_depth ≡ depth)

@@ -3,6 +3,7 @@
 //! AV1 specification: block inter prediction process.
 
 ghost use Rattle.std.specs.Prelude.{◌≡◌, ◌+◌, ◌*◌, ◌^◌, ◌≤◌, ◌<◌, pos, ◌-ℤ◌, ℕ, length, map, slice_index, slice_index_or};
+ghost use Rattle.av1_blocks.specs.Depths.{IsDepth};
 ghost use Rattle.av1_frame.specs.Areas.{AreRows};
 ghost use Rattle.av1_frame.specs.Samples.{paint, paint_row};
 ghost use Rattle.av1_inter.specs.Motion.{bias, entry, intermediate_bits};
@@ -89,16 +90,30 @@ pub(crate) fn put_copy<T: Pixel>(samples: &mut [T], stride: usize, block: &Strip
     }
 }
 
-/// The first `N` of a row's samples in the intermediate bits, less the bias.
+/// A sample in the intermediate bits, less the bias.
 #[inline(always)]
-fn widen_row<T: Pixel, const N: usize>(source: &[T], bits: usize, bias: i16) -> [i16; N]
+fn widen<T: Pixel>(sample: T, bit_depth: usize) -> i16
+    requires depths { IsDepth bit_depth }
+    requires within { T.num sample < 2 ^ bit_depth }
+    ensures { result ≡ pos (T.num sample * 2 ^ intermediate_bits bit_depth) -ℤ bias bit_depth }
+{
+    let bits = intermediate_bits(bit_depth);
+    let value = (sample.to_i32() << bits) - i32::from(prep_bias(bit_depth));
+    value as i16
+}
+
+/// The same of the first `N` samples of a row.
+#[inline(always)]
+fn widen_row<T: Pixel, const N: usize>(source: &[T], bit_depth: usize) -> [i16; N]
     requires short { N ≤ 128 }
+    requires depths { IsDepth bit_depth }
     requires source_long { N ≤ length source.now }
-    ensures { (c : ℕ) → c < N → entry result c ≡ pos (slice_index (map T.num source.now) c * 2 ^ bits) -ℤ bias }
+    requires within { (c : ℕ) → c < N → slice_index (map T.num source.now) c < 2 ^ bit_depth }
+    ensures { (c : ℕ) → c < N → entry result c ≡ pos (slice_index (map T.num source.now) c * 2 ^ intermediate_bits bit_depth) -ℤ bias bit_depth }
 {
     let mut values = [0; N];
     for c in 0..N {
-        values[c] = ((source[c].to_i32() << bits) - i32::from(bias)) as i16;
+        values[c] = widen(source[c], bit_depth);
     }
     values
 }
@@ -114,11 +129,9 @@ fn widen_rows<T: Pixel, const N: usize>(tmp: &mut [i16], stride: usize, strip: &
         (λ r c _. pos (sample_of T.num strip.now (c + 3) (r + 3) * 2 ^ intermediate_bits strip.now.bit_depth) -ℤ bias strip.now.bit_depth) tmp.old }
 {
     let strip = *strip;
-    let bits = intermediate_bits(strip.bit_depth);
-    let bias = prep_bias(strip.bit_depth);
     for r in 0..strip.area.height {
         let (_, from) = strip.source.split_at((r + 3) * strip.source_stride + 3);
-        let values = widen_row::<T, N>(from, bits, bias);
+        let values = widen_row::<T, N>(from, strip.bit_depth);
         let (_, row) = tmp.split_at_mut((strip.area.y + r) * stride + strip.area.x);
         copy_each::<i16, N>(row, &values);
     }

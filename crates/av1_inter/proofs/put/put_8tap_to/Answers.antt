@@ -8,9 +8,8 @@ use Rattle.av1_inter.specs.Filters.{filter_of}
 use Rattle.av1_inter.specs.Motion.{single}
 use Rattle.av1_inter.specs.Places.{corner_of, samples_from}
 use Rattle.av1_inter.specs.Scaffolding.{sample_of}
-use Rattle.av1_inter.proofs.Cases.{single_copy}
 use Rattle.av1_inter.proofs.Table.{fraction_small, some_fraction}
-use Rattle.av1_inter.proofs.Values.{put_here, put_of}
+use Rattle.av1_inter.proofs.Values.{put_copied, put_here, put_of}
 use Rattle.av1_inter.proofs.put.put_8tap_to.Goals.{else-col_frac-eq0-via-then-col_frac-eq0+else-row_frac-eq0, else-col_frac-eq0-via-else-col_frac-eq0}
 use Rattle.av1_inter.proofs.put.put_8tap_to.Goals as goal
 
@@ -31,7 +30,7 @@ returns-then-row_frac-eq0 g c =
     (λ r q _. g.T.Pixel.pixel (single c.args.bit_depth fx fy across down (samples_from num (corner_of c.args.src)) r q)) c.args.samples.now
     (λ r q v l h. ap g.T.Pixel.pixel (c.block_at-block.ensures.samples (q + 3) (r + 3) (omega (arith, h)) (omega (arith, l))
     ∙ ap (λ (p : PlaneSlice g.row.T.Denot). samples_from num p (q + 3) (r + 3)) c.taps_of_block-corner.ensures.place
-    ∙ single_copy c.args.bit_depth c.requires.depths fx fy across down (samples_from num (corner_of c.args.src)) r q zx zy))
+    ∙ put_copied c.args.bit_depth across down (samples_from num (corner_of c.args.src)) r q fx fy zx zy))
 
 pub returns-else-col_frac-eq0 : goal.returns-else-col_frac-eq0
 returns-else-col_frac-eq0 g c =
