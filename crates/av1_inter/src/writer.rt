@@ -51,6 +51,16 @@ pub(crate) trait Writer<E: Copy> {
         ensures { result ≡ written bit_depth value };
 }
 
+/// The depth of samples of a type: it needn't be asked for where they have one byte.
+#[inline(always)]
+fn depth_of<T: Pixel>(bit_depth: usize) -> usize
+    requires depths { IsDepth bit_depth }
+    requires fits { bit_depth ≤ T.BITS }
+    ensures { result ≡ bit_depth }
+{
+    if T::BITS == 8 { 8 } else { bit_depth }
+}
+
 /// Values become samples: they are clipped to the depth.
 pub(crate) struct Samples {}
 
@@ -82,7 +92,7 @@ impl<T: Pixel> Writer<T> for Samples {
 
     #[inline(always)]
     fn entry(value: i16, bit_depth: usize) -> T {
-        T::from_u32(value.max(0).min(greatest(bit_depth)) as u32)
+        T::from_u32(value.max(0).min(greatest(depth_of::<T>(bit_depth))) as u32)
     }
 }
 
