@@ -1,5 +1,5 @@
 -- Filters that are laid on a whole block, along its rows or down its columns alone.
-use Rattle.std.proofs.Common.{ℕ, zero, suc, ◌+◌, ◌*◌, ◌<◌, ◌≡◌, ◌≢◌, ◌∙◌, ap, arith, refl, List, map, slice_index, ℤ, pos, negsuc, ◌≤ℤ◌, ◌<ℤ◌, unsigned_abs}
+use Rattle.std.proofs.Common.{ℕ, zero, suc, ◌+◌, ◌*◌, ◌≡◌, ◌≢◌, ◌∙◌, ap, arith, refl, List, map, slice_index, ℤ, pos, negsuc, ◌≤ℤ◌, ◌<ℤ◌, unsigned_abs}
 use Rattle.std.proofs.Common.{to_z, of_z, w32, FitsSigned}
 use Rattle.std.proofs.lemmas.Int.{ints, to_z-of_z}
 use Rattle.av1_blocks.specs.declared.mc.FilterMode.{FilterMode}
@@ -7,7 +7,6 @@ use Rattle.av1_inter.specs.declared.rounding.Rounding.{Rounding}
 use Rattle.av1_inter.specs.declared.strip.Strip.{Strip}
 use Rattle.av1_inter.specs.declared.strip.Taps.{Taps}
 use Rattle.av1_inter.specs.Filters.{filter_of}
-use Rattle.av1_inter.specs.Motion.{weighted}
 use Rattle.av1_inter.specs.Scaffolding.{along, both_ways, doubled, down_alone, filtered, halved, IsBlock, IsFilter, IsLaid, IsRounding, sample_of, settled}
 use Rattle.av1_inter.specs.Scaffolding.{value_of}
 use Rattle.av1_inter.proofs.Halves.{depth_numbers}

@@ -1,5 +1,5 @@
 -- Sums of eight products that are formed two at a time, from eight places on.
-use Rattle.std.proofs.Common.{ℕ, zero, suc, ◌+◌, ◌*◌, ◌^◌, ◌<◌, ◌≤◌, ◌≡◌, ◌∙◌, ap, arith, subst, sym, take, ℤ, pos, ◌+ℤ◌, ◌*ℤ◌, List, slice_index, w32}
+use Rattle.std.proofs.Common.{ℕ, suc, ◌+◌, ◌*◌, ◌^◌, ◌<◌, ◌≤◌, ◌≡◌, ◌∙◌, ap, arith, subst, sym, take, ℤ, pos, ◌+ℤ◌, ◌*ℤ◌, List, slice_index, w32}
 use Rattle.std.proofs.Common.{to_z, of_z, FitsSigned}
 use Rattle.std.proofs.lemmas.Int.{ints, to_z-of_z}
 use Rattle.std.proofs.lemmas.Nat.{mul-le}
@@ -84,16 +84,6 @@ two_fit a b f g =
 
 pub two_added : (a b : ℤ) → IsWithin (2 ^ 24) a → IsWithin (2 ^ 24) b → to_z w32 (of_z w32 (to_z w32 (of_z w32 a) +ℤ to_z w32 (of_z w32 b))) ≡ a +ℤ b
 two_added a b f g = to_z-of_z w32 _ (two_fit a b f g) ∙ added a b f g
-
--- how great such sums are
-pub pair_wide : (z : ℤ) → IsWithin (2 ^ 23) z → IsWithin (2 ^ 24) z
-pair_wide z h = record { low = omega (arith, ints, h.low); high = omega (arith, ints, h.high) }
-
-pub two_within : (a b z : ℤ) → IsWithin (2 ^ 23) a → IsWithin (2 ^ 23) b → z ≡ a +ℤ b → IsWithin (2 ^ 24) z
-two_within a b z f g e = record { low = omega (arith, ints, f.low, g.low, e); high = omega (arith, ints, f.high, g.high, e) }
-
-pub all_within : (a b z : ℤ) → IsWithin (2 ^ 24) a → IsWithin (2 ^ 24) b → z ≡ a +ℤ b → IsWithin (2 ^ 25) z
-all_within a b z f g e = record { low = omega (arith, ints, f.low, g.low, e); high = omega (arith, ints, f.high, g.high, e) }
 
 -- sums by halved weights over samples of 15 bits, also of the first products alone
 pub words_within : (halves : List ℤ) (value : ℕ → ℤ) (k : ℕ) → IsFilter (doubled halves) → k ≤ 8 → ((t : ℕ) → t < 8 → Between 0 32767 (value t)) →

@@ -1,8 +1,7 @@
 -- Loops that write the entries of a list one after another.
-use Rattle.std.proofs.Common.{ℕ, ap, subst, sym, ◌*◌, ◌+◌, ◌-◌, ◌<◌, ◌≤◌, ◌≡◌, ◌⊎◌, ℤ, pos, List, length, replicate, set, refl, arith, ◌∙◌, inl, inr}
+use Rattle.std.proofs.Common.{ℕ, ◌+◌, ◌<◌, ◌≤◌, ◌≡◌, ℤ, pos, List, length, replicate, set, refl, arith, ◌∙◌, inl, inr}
 use Rattle.std.proofs.Common.{get_or-set_other}
-use Rattle.std.proofs.Math.Nat.{mul-le-mul_right}
-use Rattle.std.proofs.lemmas.Bool.{cases_eq, cases_lt, cases_order}
+use Rattle.std.proofs.lemmas.Bool.{cases_eq}
 use Rattle.std.proofs.lemmas.Grind.{get_or-set_at}
 use Rattle.std.proofs.lemmas.List.{length-replicate, length-set}
 use Rattle.av1_inter.specs.Motion.{entry}
@@ -35,31 +34,3 @@ line_more n c f now v h l e = record {
   value = (done_more c f now now v (record { done = h.value; rest = λ k b. refl }) (omega (arith, h.long)) e).done;
   long = length-set now c v ∙ h.long;
 }
-
--- what holds of the first c entries and of the next
-pub each_more : (P : ℤ → Type 0) (c : ℕ) (now : List ℤ) (v : ℤ) → ((k : ℕ) → k < c → P (entry now k)) → c < length now → P v → (k : ℕ) → k < c + 1 →
-    P (entry (set now c v) k)
-each_more P c now v h l p k b =
-    elim (cases_eq k c) [
-      | inl same ↦ (let n : entry (set now c v) k ≡ v = grind (arith, get_or-set_at) in subst P (sym n) p)
-      | inr other ↦ (let n : entry (set now c v) k ≡ entry now k = grind (arith, get_or-set_other) in subst P (sym n) (h k (omega arith)))
-    ]
-
--- the same for the entries from `start` on
-pub record IsDoneFrom (start c : ℕ) (f : ℕ → ℤ) (old now : List ℤ) : Type 0 where
-  pub done : (k : ℕ) → k < c → entry now (start + k) ≡ f k
-  pub rest : (i : ℕ) → (i < start) ⊎ (start + c ≤ i) → entry now i ≡ entry old i
-
-pub done_from_more : (start c : ℕ) (f : ℕ → ℤ) (old now : List ℤ) (v : ℤ) → IsDoneFrom start c f old now → start + c < length now → v ≡ f c →
-    IsDoneFrom start (c + 1) f old (set now (start + c) v)
-done_from_more start c f old now v h l e =
-    record {
-      done = λ k b. elim (cases_eq k c) [
-        | inl same ↦ grind (arith, get_or-set_at)
-        | inr other ↦ (let n = h.done k (omega arith) in grind (arith, get_or-set_other))
-      ];
-      rest = λ i b. elim b [
-        | inl low ↦ (let n = h.rest i (inl low) in grind (arith, get_or-set_other))
-        | inr high ↦ (let n = h.rest i (inr (omega arith)) in grind (arith, get_or-set_other))
-      ];
-    }

@@ -132,32 +132,6 @@ pub halves_are : (halves taps : List ℤ) → length halves ≡ 8 → IsFilter t
 halves_are halves taps l f h =
     filter_is (doubled halves) taps (length-map halves _ ∙ l) f (λ k m. entry_doubled halves k ∙ ap (λ z. pos 2 *ℤ z) (h k m) ∙ f.even k m)
 
-shr_128 : (z : ℤ) → shr_z (pos 2 *ℤ z +ℤ pos 64) 128 ≡ shr_z (z +ℤ pos 32) 64
-shr_128 z = shr_at (z +ℤ pos 32) (pos 2 *ℤ z +ℤ pos 64) (omega (arith, ints))
-  where
-    shr_at : (w v : ℤ) → v ≡ pos 2 *ℤ w → shr_z v 128 ≡ shr_z w 64
-    shr_at (pos m) v e = ap (λ u. shr_z u 128) e ∙ ap pos (omega arith)
-    shr_at (negsuc m) v e = ap (λ u. shr_z u 128) (e ∙ (let k : pos 2 *ℤ negsuc m ≡ negsuc (2 * m + 1) = omega (arith, ints) in k)) ∙ ap negsuc (omega arith)
-
-shr_8 : (z : ℤ) → shr_z (pos 2 *ℤ z +ℤ pos 4) 8 ≡ shr_z (z +ℤ pos 2) 4
-shr_8 z = shr_at (z +ℤ pos 2) (pos 2 *ℤ z +ℤ pos 4) (omega (arith, ints))
-  where
-    shr_at : (w v : ℤ) → v ≡ pos 2 *ℤ w → shr_z v 8 ≡ shr_z w 4
-    shr_at (pos m) v e = ap (λ u. shr_z u 8) e ∙ ap pos (omega arith)
-    shr_at (negsuc m) v e = ap (λ u. shr_z u 8) (e ∙ (let k : pos 2 *ℤ negsuc m ≡ negsuc (2 * m + 1) = omega (arith, ints) in k)) ∙ ap negsuc (omega arith)
-
--- a sum by a filter's weights, rounded, from half of it
-pub rounded_column : (halves taps : List ℤ) (value : ℕ → ℤ) → doubled halves ≡ taps →
-    round_shift (weighted halves value) 6 ≡ round_shift (weighted taps value) 7
-rounded_column halves taps value e =
-    sym (ap (λ (w : List ℤ). round_shift (weighted w value) 7) (sym e) ∙ ap (λ z. shr_z (z +ℤ pos 64) 128) (doubled_sum halves value 8)
-    ∙ shr_128 (weighted halves value))
-
-pub rounded_row : (halves taps : List ℤ) (value : ℕ → ℤ) → doubled halves ≡ taps → round_shift (weighted halves value) 2 ≡ round_shift (weighted taps value) 3
-rounded_row halves taps value e =
-    sym (ap (λ (w : List ℤ). round_shift (weighted w value) 3) (sym e) ∙ ap (λ z. shr_z (z +ℤ pos 4) 8) (doubled_sum halves value 8)
-    ∙ shr_8 (weighted halves value))
-
 -- half of a weight
 shr_small : (z : ℤ) → neg_ℤ (pos 184) ≤ℤ z → z ≤ℤ pos 184 → FitsSigned w16 (int_shr z 1)
 shr_small (pos n) l h = record { sfits = omega (arith, ints, h) }
@@ -226,10 +200,6 @@ cut_is depth z m g r d fz fm e eg f =
     (f ∙ ap (λ u. int_min u (to_z w16 (of_z w16 g))) (to_z-of_z w16 m fm) ∙ ap (int_min m) g_is) in
     ap unsigned_abs (short_read (2 ^ depth - 1) r top s.0) ∙ ap unsigned_abs s.1 ∙ cut_clips depth z
 
--- a sample's number of 8 bits
-pub number_between : (n : ℕ) → n ≤ 255 → Between 0 255 (pos n)
-number_between n h = record { low = omega (arith, ints); high = omega (arith, ints, h) }
-
 -- a filter's sum over samples of 8 bits that is known as a value
 pub half_sum_known : (halves : List ℤ) (value : ℕ → ℤ) (z : ℤ) → IsFilter (doubled halves) → ((t : ℕ) → t < 8 → Between 0 255 (value t)) →
     z ≡ weighted halves value → Between 7140 23460 z
@@ -243,13 +213,6 @@ halved_are halves taps l f h =
     let n : length halves ≡ length (halved taps) = l ∙ sym f.size ∙ sym (length-map taps _) in
     same_lists halves (halved taps) n (λ k d b. let m : k < 8 = omega (arith, l, b) in let inside : k < length taps = omega (arith, f.size, m) in
     get_or_default halves k d (pos 0) b ∙ h k m ∙ sym (get_or-map (λ z. int_shr z 1) taps k (pos 0) d inside))
-
--- a filter's sum that is known as a value
-pub half_sum_between : (halves : List ℤ) (f : ℕ → ℕ) (z : ℤ) → IsFilter (doubled halves) → ((t : ℕ) → t < 8 → f t ≤ 255) →
-    z ≡ weighted halves (λ t. pos (f t)) → Between 7140 23460 z
-half_sum_between halves f z h bytes e =
-    let P : ℤ → Type 0 = λ v. Between 7140 23460 v in
-    subst P (sym e) (halves_between halves (λ t. pos (f t)) 8 h (omega arith) (λ t l. number_between (f t) (bytes t l)))
 
 halved_between : (s t : ℤ) → t ≡ pos 2 *ℤ s → gain t ≤ 184 → loss t ≤ 56 → Between 28 92 s
 halved_between s (pos n) e g l = record { low = omega (arith, ints, e); high = omega (arith, ints, e, g) }
@@ -273,10 +236,6 @@ half_weight_read halves t f h = to_z-of_z w16 _ (half_fits _ (half_weight_betwee
 
 pub half_read_between : (halves : List ℤ) (t : ℕ) → IsFilter (doubled halves) → t < 8 → Between 28 92 (to_z w16 (of_z w16 (entry halves t)))
 half_read_between halves t f h = let P : ℤ → Type 0 = λ z. Between 28 92 z in subst P (sym (half_weight_read halves t f h)) (half_weight_between halves t f h)
-
-half_parts : (h : ℤ) → Between 28 92 h → (gain h ≤ 92) × (loss h ≤ 28)
-half_parts (pos n) b = (omega (arith, ints, b.high), omega arith)
-half_parts (negsuc n) b = (omega arith, omega (arith, ints, b.low))
 
 shr_twice : (w v : ℤ) → v ≡ w +ℤ pos 32 → shr_z v 64 ≡ shr_z (shr_z w 4 +ℤ pos 8) 16
 shr_twice (pos m) v e = ap (λ u. shr_z u 64) e ∙ ap pos (omega arith)

@@ -1,5 +1,5 @@
 -- Parts that are filtered twice: what is kept of their rows, and what the second filter reads of that.
-use Rattle.std.proofs.Common.{ℕ, ◌+◌, ◌*◌, ◌<◌, ◌≤◌, ◌≡◌, ◌∙◌, ap, arith, refl, subst, sym, List, get_or, length, map, slice_index, ℤ, pos}
+use Rattle.std.proofs.Common.{ℕ, ◌+◌, ◌*◌, ◌<◌, ◌≤◌, ◌≡◌, ◌∙◌, ap, arith, subst, sym, List, get_or, length, map, slice_index, ℤ, pos}
 use Rattle.std.proofs.lemmas.List.{get_or-map}
 use Rattle.av1_frame.specs.Arithmetic.{clip}
 use Rattle.av1_frame.specs.Samples.{paint}

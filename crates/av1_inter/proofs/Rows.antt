@@ -1,20 +1,19 @@
--- Rows of a reference, and rows that are painted.
-use Rattle.std.proofs.Common.{drop, ℕ, ◌+◌, ◌-◌, ◌*◌, ◌/◌, ◌%◌, ◌≢◌, ◌<◌, ◌≤◌, ◌≡◌, ◌∙◌, ap, sym, arith, List, length, map, get_or, slice_index, ℤ, pos, negsuc, ◌+ℤ◌}
+-- Rows of a reference, and rows and rectangles that are painted.
+use Rattle.std.proofs.Common.{ℕ, ◌+◌, ◌-◌, ◌*◌, ◌/◌, ◌%◌, ◌<◌, ◌≤◌, ◌≡◌, ◌∙◌, ap, sym, arith, List, length, get_or, ℤ, pos, negsuc, ◌+ℤ◌}
 use Rattle.std.proofs.Common.{◌≤ℤ◌, unsigned_abs, inl, inr, refl}
 use Rattle.std.proofs.lemmas.Int.{ints}
-use Rattle.std.proofs.lemmas.List.{get_or-drop, get_or-map, get_or_default, get_or_past, places}
+use Rattle.std.proofs.lemmas.List.{get_or_default, get_or_past}
 use Rattle.std.proofs.lemmas.Nat.{le-div}
-use Rattle.std.proofs.lemmas.Bool.{cases_lt, cases_eq}
+use Rattle.std.proofs.lemmas.Bool.{cases_lt}
 use Rattle.std.proofs.lemmas.Bool.Decides.{nat_tests}
 use Rattle.av1_frame.specs.declared.plane_slice.PlaneSlice.{PlaneSlice}
 use Rattle.av1_frame.specs.declared.plane_region.StoredArea.{StoredArea}
 use Rattle.av1_frame.specs.Samples.{paint, paint_row, painted_at}
-use Rattle.av1_frame.specs.Slices.{row_from, stored_column, IsStoredPlace, slice_plane}
+use Rattle.av1_frame.specs.Slices.{stored_column, IsStoredPlace}
 use Rattle.av1_frame.proofs.Fits.{row_end_le}
 use Rattle.av1_frame.proofs.Paint.{paint_at}
-use Rattle.av1_frame.proofs.Slices.{row_from_sample}
 use Rattle.av1_frame.proofs.Update.{update_is, length-update, get_or-update}
-use Rattle.av1_inter.specs.Places.{IsStoredFrom, samples_from}
+use Rattle.av1_inter.specs.Places.{IsStoredFrom}
 
 -- two changes that agree on the first w samples of a row
 pub paint_row_same : {X : Type 0} (w : ℕ) (f g : ℕ → X → X) (s : List X) → ((c : ℕ) (v : X) → c < w → f c v ≡ g c v) → paint_row w f s ≡ paint_row w g s
@@ -46,27 +45,10 @@ module _ {T : Type 0} (num : T → ℕ) (place : PlaneSlice T) (columns rows : �
     bottom = omega (arith, ints, stored.bottom);
   }
 
-  -- column x of row y, read as a row
-  pub row_sample : (row : List T) (x y : ℕ) → row ≡ row_from (slice_plane place) place.x (place.y +ℤ pos y) → y < rows → x < columns →
-      slice_index (map num row) x ≡ samples_from num place x y
-  row_sample row x y e h k =
-      let r = abs_pos (pos place.plane_cfg.now.xorigin +ℤ place.x) columns place.plane_cfg.now.stride stored.left stored.right in
-      ap (λ u. slice_index (map num u) x) e
-      ∙ row_from_sample num (slice_plane place) place.x (place.y +ℤ pos y) x stored.whole (place_is_stored y h (omega arith)) (omega (arith, r))
-
--- a sample of such a row, by its number
-pub copied_is : {T : Type 0} (num : T → ℕ) (pixel : ℕ → T) (back : (v : T) → pixel (num v) ≡ v) (place : PlaneSlice T) (columns rows : ℕ)
-    (stored : IsStoredFrom place columns rows) (row : List T) (x y : ℕ) (v : T)
-    → row ≡ row_from (slice_plane place) place.x (place.y +ℤ pos y) → y < rows → x < columns → x < length row
-    → get_or row x v ≡ pixel (samples_from num place x y)
-copied_is num pixel back place columns rows stored row x y v e h k l =
-    sym (back (get_or row x v)) ∙ ap pixel (sym (get_or-map num row x v 0 l) ∙ row_sample num place columns rows stored row x y e h k)
-
-module _ {T : Type 0} (num : T → ℕ) (place : PlaneSlice T) (columns rows : ℕ) (stored : IsStoredFrom place columns rows) where
   -- such a row is long enough
   pub row_long : columns ≤ place.plane_cfg.now.stride - stored_column place.plane_cfg.now place.x
   row_long = let r =
-      abs_pos num place columns rows stored (pos place.plane_cfg.now.xorigin +ℤ place.x) columns place.plane_cfg.now.stride stored.left stored.right
+      abs_pos (pos place.plane_cfg.now.xorigin +ℤ place.x) columns place.plane_cfg.now.stride stored.left stored.right
       in omega (arith, r)
 
 -- a row that is copied by way of another
@@ -96,5 +78,5 @@ module _ {X : Type 0} (a : StoredArea) (w h : ℕ) (f : ℕ → ℕ → X → X)
       ap (λ u. get_or u i d) packed_is ∙ elim (cases_lt i (length s)) [
         | inl inside ↦ get_or-update _ s i d inside ∙ grind (arith, nat_tests)
         | inr past ↦ get_or_past _ i d (omega (arith, length-update (λ k v. painted_at (record { x = 0; y = 0; width = w; height = h }) f (k % w) (k / w) v) s, past))
-        ∙ sym (get_or_past s i d past)
+            ∙ sym (get_or_past s i d past)
       ]

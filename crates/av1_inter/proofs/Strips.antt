@@ -1,19 +1,14 @@
 -- A block is its strips: what a strip reads, and what strips paint side by side.
 use Rattle.std.proofs.Common.{ℕ, zero, suc, ◌+◌, ◌-◌, ◌*◌, ◌/◌, ◌%◌, ◌<◌, ◌≤◌, ◌≡◌, ◌∙◌, ap, sym, subst, arith, inl, inr, List, [], ◌∷◌, refl, drop, length}
-use Rattle.std.proofs.Common.{map, slice_index, get_or, ℤ, pos, ◌+ℤ◌, ◌-ℤ◌}
-use Rattle.std.proofs.lemmas.Int.{ints}
+use Rattle.std.proofs.Common.{map, slice_index, get_or, ℤ, pos, ◌-ℤ◌}
 use Rattle.std.proofs.lemmas.List.{get_or-drop, get_or-map, places}
 use Rattle.std.proofs.lemmas.Bool.{cases_lt}
 use Rattle.std.proofs.lemmas.Bool.Decides.{nat_tests}
 use Rattle.av1_frame.specs.declared.plane_region.StoredArea.{StoredArea}
-use Rattle.av1_frame.specs.declared.plane_slice.PlaneSlice.{PlaneSlice}
 use Rattle.av1_frame.specs.Arithmetic.{clip, round_shift}
-use Rattle.av1_frame.specs.Areas.{AreRows}
 use Rattle.av1_frame.specs.Samples.{corner, paint, painted_at}
-use Rattle.av1_frame.specs.Slices.{stored_sample, slice_plane}
 use Rattle.av1_frame.proofs.Update.{get_or-update, length-update, update_is}
 use Rattle.av1_inter.specs.Motion.{bias, intermediate_bits, prepared, single, unbiased}
-use Rattle.av1_inter.specs.Places.{IsStoredFrom, samples_from}
 use Rattle.av1_inter.specs.declared.strip.Strip.{Strip}
 use Rattle.av1_inter.specs.declared.strip.Taps.{Taps}
 use Rattle.av1_inter.specs.Scaffolding.{IsLaid, filtered, part_of, settled, strip_of}
@@ -40,40 +35,6 @@ module _ (depth : ℕ) (across down : List ℤ) (s t : ℕ → ℕ → ℕ) (r c
 
   pub prepared_moved : (fx fy : ℕ) → prepared depth fx fy across down s r c ≡ prepared depth fx fy across down t r d
   prepared_moved fx fy = ap (λ z. z -ℤ bias depth) (unbiased_moved fx fy)
-
--- the place n columns to the right
-abbrev pub to_right : {T : Type 0} → PlaneSlice T → ℕ → PlaneSlice T
-to_right place n = record place { x = place.x +ℤ pos n; y = place.y +ℤ pos 0 }
-
-module _ {T : Type 0} (num : T → ℕ) (place strip : PlaneSlice T) (n : ℕ) (is : strip ≡ to_right place n) where
-  pub strip_samples : (x y : ℕ) → samples_from num strip x y ≡ samples_from num place (n + x) y
-  strip_samples x y =
-      let right : place.x +ℤ pos n +ℤ pos x ≡ place.x +ℤ pos (n + x) = omega (arith, ints) in
-      let same : place.y +ℤ pos 0 +ℤ pos y ≡ place.y +ℤ pos y = omega (arith, ints) in
-      ap (λ (p : PlaneSlice T). samples_from num p x y) is ∙ ap (λ z. stored_sample num (slice_plane place) z (place.y +ℤ pos 0 +ℤ pos y)) right
-      ∙ ap (λ z. stored_sample num (slice_plane place) (place.x +ℤ pos (n + x)) z) same
-
-  -- what stands round column c of a strip stands round column n + c of the block
-  pub strip_same : (r c x y : ℕ) → x < 8 → y < 8 → samples_from num strip (c + x) (r + y) ≡ samples_from num place (n + c + x) (r + y)
-  strip_same r c x y h k =
-      let e : n + (c + x) ≡ n + c + x = omega arith in
-      strip_samples (c + x) (r + y) ∙ ap (λ i. samples_from num place i (r + y)) e
-
-right_stored : {T : Type 0} (place : PlaneSlice T) (n columns rows : ℕ) → IsStoredFrom place (n + columns) rows → IsStoredFrom (to_right place n) columns rows
-right_stored place n columns rows s =
-    record {
-      whole = s.whole;
-      left = omega (arith, ints, s.left);
-      right = omega (arith, ints, s.right);
-      top = omega (arith, ints, s.top);
-      bottom = omega (arith, ints, s.bottom);
-    }
-
-pub strip_stored : {T : Type 0} (place strip : PlaneSlice T) (n columns rows all : ℕ) → strip ≡ to_right place n → n + columns ≡ all →
-    IsStoredFrom place all rows → IsStoredFrom strip columns rows
-strip_stored {T} place strip n columns rows all is e s =
-    subst (λ (p : PlaneSlice T). IsStoredFrom p columns rows) (sym is)
-    (right_stored place n columns rows (subst (λ (m : ℕ). IsStoredFrom place m rows) (sym e) s))
 
 -- a sample that is painted in the first w columns, or in the n columns after them
 strip_at : {X : Type 0} (a : StoredArea) (w n h p q : ℕ) (f g : ℕ → ℕ → X → X) (v : X) → ((r c : ℕ) (v : X) → r < h → c < n → g r c v ≡ f r (w + c) v) →
@@ -151,11 +112,6 @@ paint_below stride a p h n f g s t new ep et en e =
     get_or-update _ _ k d (omega (arith, length-update (λ k v. painted_at (corner a a.width h) f (k % stride) (k / stride) v) s))
     ∙ ap (painted_at (part_of a 0 h a.width n) g (k % stride) (k / stride)) (get_or-update _ s k d l)
     ∙ band_at a h n (k % stride) (k / stride) f g (get_or s k d) e)
-
--- a strip lies in the rows that its rectangle lies in
-pub strip_rows : (stride : ℕ) (a : StoredArea) (start columns n : ℕ) → AreRows stride a n → start + columns ≤ a.width →
-    AreRows stride (strip_of a start columns a.height) n
-strip_rows stride a start columns n h l = record { some = h.some; columns = omega (arith, h.columns); rows = h.rows; few = h.few }
 
 -- the rows of a part of a block, in what is stored from its place on
 pub part_reaches : {T : Type 0} (source part : List T) (stride x y q w all : ℕ) → part ≡ drop (y * stride + x) source → x + w ≤ all →

@@ -1,5 +1,5 @@
 -- The weights of every filter are in bounds, by computing over the table.
-use Rattle.std.proofs.Common.{ℕ, suc, ◌+◌, ◌*◌, ◌/◌, ◌%◌, ◌*ℤ◌, ◌<◌, ◌≤◌, ◌≡◌, ◌≢◌, ◌∙◌, ap, refl, sym, arith, Bool, true, ◌&&◌, nat_eq, nat_le, List, []}
+use Rattle.std.proofs.Common.{ℕ, ◌+◌, ◌*◌, ◌/◌, ◌%◌, ◌*ℤ◌, ◌<◌, ◌≤◌, ◌≡◌, ◌≢◌, ◌∙◌, ap, refl, sym, arith, Bool, true, ◌&&◌, nat_eq, nat_le, List, []}
 use Rattle.std.proofs.Common.{length, slice_index_or, inl, inr, subst, ℤ, pos, negsuc, ◌≤ℤ◌, ◌<ℤ◌, unsigned_abs, w32, to_z, of_z, FitsSigned}
 use Rattle.std.specs.Int.{int_shr}
 use Rattle.std.proofs.lemmas.Bool.{cases_lt}
@@ -10,7 +10,6 @@ use Rattle.av1_blocks.specs.declared.mc.FilterMode.{FilterMode}
 use Rattle.av1_blocks.specs.declared.mc.FilterMode.TheVariants.{REGULAR, SMOOTH, SHARP, BILINEAR, SWITCHABLE}
 use Rattle.av1_blocks.specs.Filters.{filter_number, subpel_filters}
 use Rattle.av1_inter.specs.Filters.{family, filter_of, short_family}
-use Rattle.av1_inter.specs.Motion.{entry}
 use Rattle.av1_inter.specs.Scaffolding.{gains, IsFilter, losses}
 
 both_true : (a b : Bool) → (a && b) ≡ true → (a ≡ true) × (b ≡ true)
@@ -81,10 +80,7 @@ family_small mode side =
 pub filter_of_is_filter : (mode : FilterMode) (fraction side : ℕ) → fraction < 16 → IsFilter (filter_of mode fraction side)
 filter_of_is_filter mode fraction side h = row_is_filter (family mode side) fraction (family_small mode side) h
 
--- the fraction and the weights that were made for a machine's number
-pub fraction_made : (z : ℤ) (n : ℕ) → FitsSigned w32 z → n ≡ unsigned_abs (to_z w32 (of_z w32 z)) → n ≡ unsigned_abs z
-fraction_made z n h e = e ∙ ap unsigned_abs (to_z-of_z w32 z h)
-
+-- the weights that were made for a machine's number
 pub taps_made : (mode : FilterMode) (z : ℤ) (side : ℕ) (taps : List ℤ) → FitsSigned w32 z →
     taps ≡ filter_of mode (unsigned_abs (to_z w32 (of_z w32 z))) side → taps ≡ filter_of mode (unsigned_abs z) side
 taps_made mode z side taps h e = e ∙ ap (λ y. filter_of mode (unsigned_abs y) side) (to_z-of_z w32 z h)

@@ -1,5 +1,5 @@
 -- Samples in the intermediate bits, as the machine forms them.
-use Rattle.std.proofs.Common.{ℕ, ◌+◌, ◌-◌, ◌*◌, ◌%◌, ◌^◌, ◌<◌, ◌≤◌, ◌≡◌, ◌∙◌, ap, arith, subst, sym, inl, inr, ℤ, pos, ◌-ℤ◌, w16, w32, to_z, of_z, FitsSigned}
+use Rattle.std.proofs.Common.{ℕ, ◌*◌, ◌%◌, ◌^◌, ◌<◌, ◌≤◌, ◌≡◌, ◌∙◌, ap, arith, subst, sym, inl, inr, ℤ, pos, ◌-ℤ◌, w16, w32, to_z, of_z, FitsSigned}
 use Rattle.std.proofs.lemmas.Int.{ints, to_z-of_z}
 use Rattle.av1_blocks.specs.Depths.{IsDepth}
 use Rattle.av1_inter.specs.Motion.{bias, intermediate_bits}

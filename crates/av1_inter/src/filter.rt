@@ -78,8 +78,8 @@ pub(crate) fn get_filter(mode: FilterMode, frac: i32, length: usize) -> [i16; SU
     halves_of(&taps_at(mode, frac, length))
 }
 
-/// How many of the outer weights are 0 on either side, counted up to 2: two are in the filters for sides up to 4, and
-/// one in all others but the sharp one.
+/// How many of the outer weights are 0 on either side, counted up to 2: these are two in the filters for sides up to 4,
+/// and at least one in all others but the sharp one.
 #[inline(always)]
 pub(crate) fn outer_zeros(halves: &[i16; SUBPEL_FILTER_SIZE]) -> usize
     ensures few { result ≤ 2 }

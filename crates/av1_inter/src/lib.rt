@@ -27,17 +27,19 @@
 //! fractions in sixteenths of a sample. A filter has eight taps, so a block needs 3 stored columns and rows before it
 //! and 4 after it, at every fraction.
 //!
-//! Which function filters a block hangs on its fractions and on the bytes of a sample; `put_8tap` and `prep_8tap` share
-//! all of them, and a `Writer` makes samples or prepared values of what they give:
+//! Which way a block takes hangs on its fractions, its sides and the bytes of a sample. `put_8tap` and `prep_8tap` share
+//! the filters, and a `Writer` makes samples or prepared values of what they give:
 //!
-//! | fraction across | down | one byte | two bytes |
+//! | fractions | sides | one byte a sample: 8 bits | two bytes: 8, 10 or 12 bits |
 //! |---|---|---|---|
-//! | 0 | 0 | `put_copy`, `prepare_copy` | the same |
-//! | some | 0 | `filter_once`, sums by `filter_bytes` for 16, 8, 4 or 1 columns | `filter_once`, sums by `filter_words` for 8, 4 or 1 |
-//! | 0 | some | the same, with steps of a row | the same, with steps of a row |
-//! | some | some | `filter_twice`: the first filter by `filter_bytes`, the second by `filter_words` | `filter_twice`, both by `filter_words` |
+//! | none, put | a width of 4, 8, 16, 32, 64 or 128 | `put_copy`: `copy_rows` | the same |
+//! | none, put | any other width | `put_copy`: `copy_any_rows` | the same |
+//! | none, prepared | any: strips of 16, 8, 4 or 1 columns | `prepare_copy`: `widen_rows` | the same |
+//! | across alone | any: strips of 16, 8, 4 or 1 columns, of two bytes 8, 4 or 1 | `filter_once`: `filter_bytes` | `filter_once`: `filter_words` |
+//! | down alone | the same strips | the same, in steps of a row | the same, in steps of a row |
+//! | both | any: parts of 8, 4 or 1 columns and up to 32 rows | `filter_twice`: `filter_bytes`, then `filter_words` | `filter_twice`: `filter_words`, twice |
 //!
-//! Within a sum the outer weights that are 0 are left out: `outer_zeros` counts them.
+//! Within a sum the outer weights that are 0 are left out, up to two on either side: `outer_zeros` counts them.
 #![tactic(auto)]
 
 mod average;

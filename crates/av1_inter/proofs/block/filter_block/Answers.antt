@@ -1,11 +1,10 @@
-use Rattle.std.proofs.Common.{arith, ap, ◌+◌, ◌≡◌, ◌≢◌, ◌∙◌, unsigned_abs}
+use Rattle.std.proofs.Common.{arith, ap, ◌+◌, ◌≡◌, ◌∙◌, unsigned_abs}
 use Rattle.std.proofs.lemmas.Int.{ints}
 use Rattle.av1_frame.proofs.Paint.{paint_same}
 use Rattle.av1_inter.specs.Filters.{filter_of}
 use Rattle.av1_inter.specs.Scaffolding.{along, both_ways, down_alone, halved, sample_of, value_of}
 use Rattle.av1_inter.proofs.Blocks.{block_columns_laid, block_rows_laid, columns_are, halves_made, rows_are, value_along, value_both, value_down}
 use Rattle.av1_inter.proofs.Table.{some_fraction}
-use Rattle.av1_inter.proofs.Values.{put_value}
 use Rattle.av1_inter.proofs.block.filter_block.Goals as goal
 
 pub filter_once-requires-clause-laid : goal.filter_once-requires-clause-laid

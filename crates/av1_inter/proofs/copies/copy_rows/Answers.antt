@@ -1,4 +1,4 @@
-use Rattle.std.proofs.Common.{ℕ, arith, ap, sym, length, ◌<◌, ◌+◌, ◌*◌, ◌∙◌}
+use Rattle.std.proofs.Common.{ℕ, arith, ap, sym, ◌+◌, ◌*◌, ◌∙◌}
 use Rattle.av1_frame.specs.Samples.{paint_row}
 use Rattle.av1_frame.proofs.Paint.{row_painted_rest}
 use Rattle.av1_inter.specs.Scaffolding.{sample_of}

@@ -1,4 +1,4 @@
-use Rattle.std.proofs.Common.{ℕ, arith, ap, pos, subst, sym, length, map, slice_index, ◌<◌, ◌≤◌, ◌≡◌, ◌+◌, ◌*◌, ◌^◌, ◌∙◌, ◌-ℤ◌}
+use Rattle.std.proofs.Common.{ℕ, arith, ap, pos, subst, sym, length, ◌<◌, ◌≤◌, ◌+◌, ◌*◌, ◌^◌, ◌∙◌, ◌-ℤ◌}
 use Rattle.std.proofs.lemmas.List.{get_or_default}
 use Rattle.av1_frame.specs.Samples.{paint_row}
 use Rattle.av1_frame.proofs.Paint.{row_painted_rest}

@@ -1,6 +1,5 @@
-use Rattle.std.proofs.Common.{ℕ, ℤ, arith, ap, inl, inr, pos, sym, subst, length, ◌≡◌, ◌≢◌, ◌⊎◌, ◌+◌, ◌*◌, ◌^◌, ◌∙◌, ◌-ℤ◌, unsigned_abs, to_z, of_z, w32}
+use Rattle.std.proofs.Common.{ℕ, ℤ, arith, ap, inl, inr, pos, ◌≡◌, ◌≢◌, ◌⊎◌, ◌+◌, ◌*◌, ◌^◌, ◌∙◌, ◌-ℤ◌, unsigned_abs, to_z, of_z, w32}
 use Rattle.std.proofs.lemmas.Int.{ints, to_z-of_z}
-use Rattle.av1_frame.specs.Areas.{AreRows}
 use Rattle.av1_frame.specs.declared.plane_region.StoredArea.{StoredArea}
 use Rattle.av1_frame.specs.declared.plane_slice.PlaneSlice.{PlaneSlice}
 use Rattle.av1_inter.specs.Filters.{filter_of}

@@ -1,4 +1,4 @@
-use Rattle.std.proofs.Common.{arith, rules, ap, ◌≡◌, ◌∙◌, ◌+ℤ◌, ◌-ℤ◌, pos, w16, w32, to_z, of_z, FitsSigned}
+use Rattle.std.proofs.Common.{arith, rules, ap, ◌≡◌, ◌∙◌, ◌+ℤ◌, ◌-ℤ◌, pos, w32, to_z, of_z, FitsSigned}
 use Rattle.std.specs.Int.{int_min, int_shr}
 use Rattle.std.proofs.lemmas.Int.{ints, to_z-of_z}
 use Rattle.av1_inter.proofs.HeldSums.{held_is}
