@@ -61,16 +61,16 @@ fn sum_bytes<T: Pixel, const ZEROS: usize>(
     ensures value { result ≡ sum_from halves.now (λ i. pos (slice_index (map T.num source.now) i)) start step }
     ensures within { Between 7140 23460 result }
 {
-    let values = [
-        byte_at(source, start),
-        byte_at(source, start + step),
-        byte_at(source, start + 2 * step),
-        byte_at(source, start + 3 * step),
-        byte_at(source, start + 4 * step),
-        byte_at(source, start + 5 * step),
-        byte_at(source, start + 6 * step),
-        byte_at(source, start + 7 * step),
-    ];
+    // Read from both ends: with samples of neighbouring weights one after the other a compiler mixes their products.
+    let first = byte_at(source, start);
+    let eighth = byte_at(source, start + 7 * step);
+    let second = byte_at(source, start + step);
+    let seventh = byte_at(source, start + 6 * step);
+    let third = byte_at(source, start + 2 * step);
+    let sixth = byte_at(source, start + 5 * step);
+    let fourth = byte_at(source, start + 3 * step);
+    let fifth = byte_at(source, start + 4 * step);
+    let values = [first, second, third, fourth, fifth, sixth, seventh, eighth];
     weigh_bytes::<ZEROS>(halves, values)
 }
 

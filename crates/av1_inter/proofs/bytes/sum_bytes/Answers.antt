@@ -17,14 +17,14 @@ pub weigh_bytes-requires-clause-within : goal.weigh_bytes-requires-clause-within
 weigh_bytes-requires-clause-within g c =
     each_of_eight
     (λ t. Between 0 255
-    (entry (values_of c.byte_at.result c.byte_at-2.result c.byte_at-3.result c.byte_at-4.result c.byte_at-5.result c.byte_at-6.result
-    c.byte_at-7.result c.byte_at-8.result) t))
-    (short_kept 255 _ (omega arith) c.byte_at.ensures.within) (short_kept 255 _ (omega arith) c.byte_at-2.ensures.within)
-    (short_kept 255 _ (omega arith) c.byte_at-3.ensures.within)
-    (short_kept 255 _ (omega arith) c.byte_at-4.ensures.within)
-    (short_kept 255 _ (omega arith) c.byte_at-5.ensures.within) (short_kept 255 _ (omega arith) c.byte_at-6.ensures.within)
-    (short_kept 255 _ (omega arith) c.byte_at-7.ensures.within)
-    (short_kept 255 _ (omega arith) c.byte_at-8.ensures.within)
+    (entry (values_of c.byte_at-first.result c.byte_at-second.result c.byte_at-third.result c.byte_at-fourth.result c.byte_at-fifth.result c.byte_at-sixth.result
+    c.byte_at-seventh.result c.byte_at-eighth.result) t))
+    (short_kept 255 _ (omega arith) c.byte_at-first.ensures.within) (short_kept 255 _ (omega arith) c.byte_at-second.ensures.within)
+    (short_kept 255 _ (omega arith) c.byte_at-third.ensures.within)
+    (short_kept 255 _ (omega arith) c.byte_at-fourth.ensures.within)
+    (short_kept 255 _ (omega arith) c.byte_at-fifth.ensures.within) (short_kept 255 _ (omega arith) c.byte_at-sixth.ensures.within)
+    (short_kept 255 _ (omega arith) c.byte_at-seventh.ensures.within)
+    (short_kept 255 _ (omega arith) c.byte_at-eighth.ensures.within)
 
 pub returns-clause-value : goal.returns-clause-value
 returns-clause-value g c =
@@ -37,13 +37,13 @@ returns-clause-value g c =
     let second : k + d ≡ k + 1 * d = omega arith in
     to_z-of_z w16 _ fits ∙ c.weigh_bytes.ensures.value ∙ weighted_same c.args.halves.now _ _ (each_of_eight
     (λ t. entry
-    (values_of c.byte_at.result c.byte_at-2.result c.byte_at-3.result c.byte_at-4.result c.byte_at-5.result c.byte_at-6.result c.byte_at-7.result
-    c.byte_at-8.result) t ≡ pos (slice_index (map num s) (k + t * d)))
-    (short_read 255 _ (omega arith) c.byte_at.ensures.within ∙ c.byte_at.ensures.value ∙ ap (λ n. pos (slice_index (map num s) n)) first)
-    (short_read 255 _ (omega arith) c.byte_at-2.ensures.within ∙ c.byte_at-2.ensures.value ∙ ap (λ n. pos (slice_index (map num s) n)) second)
-    (short_read 255 _ (omega arith) c.byte_at-3.ensures.within ∙ c.byte_at-3.ensures.value)
-    (short_read 255 _ (omega arith) c.byte_at-4.ensures.within ∙ c.byte_at-4.ensures.value)
-    (short_read 255 _ (omega arith) c.byte_at-5.ensures.within ∙ c.byte_at-5.ensures.value)
-    (short_read 255 _ (omega arith) c.byte_at-6.ensures.within ∙ c.byte_at-6.ensures.value)
-    (short_read 255 _ (omega arith) c.byte_at-7.ensures.within ∙ c.byte_at-7.ensures.value)
-    (short_read 255 _ (omega arith) c.byte_at-8.ensures.within ∙ c.byte_at-8.ensures.value))
+    (values_of c.byte_at-first.result c.byte_at-second.result c.byte_at-third.result c.byte_at-fourth.result c.byte_at-fifth.result c.byte_at-sixth.result c.byte_at-seventh.result
+    c.byte_at-eighth.result) t ≡ pos (slice_index (map num s) (k + t * d)))
+    (short_read 255 _ (omega arith) c.byte_at-first.ensures.within ∙ c.byte_at-first.ensures.value ∙ ap (λ n. pos (slice_index (map num s) n)) first)
+    (short_read 255 _ (omega arith) c.byte_at-second.ensures.within ∙ c.byte_at-second.ensures.value ∙ ap (λ n. pos (slice_index (map num s) n)) second)
+    (short_read 255 _ (omega arith) c.byte_at-third.ensures.within ∙ c.byte_at-third.ensures.value)
+    (short_read 255 _ (omega arith) c.byte_at-fourth.ensures.within ∙ c.byte_at-fourth.ensures.value)
+    (short_read 255 _ (omega arith) c.byte_at-fifth.ensures.within ∙ c.byte_at-fifth.ensures.value)
+    (short_read 255 _ (omega arith) c.byte_at-sixth.ensures.within ∙ c.byte_at-sixth.ensures.value)
+    (short_read 255 _ (omega arith) c.byte_at-seventh.ensures.within ∙ c.byte_at-seventh.ensures.value)
+    (short_read 255 _ (omega arith) c.byte_at-eighth.ensures.within ∙ c.byte_at-eighth.ensures.value))
