@@ -144,7 +144,7 @@ fn filter_columns<T: Pixel, E: Copy, W: Writer<E>>(
     }
 }
 
-/// The same of a block, strip by strip. Sums of 32 bits are formed for 8 columns at once.
+/// The same of a block, strip by strip.
 #[inline(always)]
 pub(crate) fn filter_once<T: Pixel, E: Copy, W: Writer<E>>(
     target: &mut [E],
@@ -160,7 +160,7 @@ pub(crate) fn filter_once<T: Pixel, E: Copy, W: Writer<E>>(
 {
     let mut start = 0;
     while start < block.area.width {
-        let columns = strip_width(block.area.width - start, T::BITS == 8);
+        let columns = strip_width(block.area.width - start, true);
         let strip = part_at(block, start, 0, columns, block.area.height);
         filter_columns::<T, E, W>(target, stride, &strip, taps);
         start += columns;

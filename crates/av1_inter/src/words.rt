@@ -5,7 +5,7 @@
 //!
 //! AV1 specification: block inter prediction process.
 
-ghost use Rattle.std.specs.Prelude.{◌≡◌, ℕ, ◌+◌, ◌*◌, ◌^◌, ◌≤◌, ◌<◌, pos, ◌+ℤ◌, ◌*ℤ◌, length, map, slice_index};
+ghost use Rattle.std.specs.Prelude.{◌≡◌, ℕ, ◌+◌, ◌-◌, ◌*◌, ◌^◌, ◌≤◌, ◌<◌, nat_lt, if◌then◌else◌, pos, ◌+ℤ◌, ◌*ℤ◌, length, map, slice_index};
 ghost use Rattle.av1_inter.specs.Motion.{entry, weighted};
 ghost use Rattle.av1_inter.specs.Scaffolding.{AreZero, Between, doubled, IsFilter, IsRounding, IsWithin, settled, sum_from};
 
@@ -264,9 +264,9 @@ fn settle(sum: i32, rounding: Rounding) -> i16
     ((sum + add) >> rounding.shift).max(-32768).min(32767) as i16
 }
 
-/// What the sums from each of `N` places on become.
+/// What the sums from each of up to 8 places on become.
 #[inline(always)]
-pub(crate) fn filter_words<T: Pixel, const N: usize, const ZEROS: usize>(
+fn filter_group<T: Pixel, const N: usize, const ZEROS: usize>(
     source: &[T],
     start: usize,
     step: usize,
@@ -288,4 +288,53 @@ pub(crate) fn filter_words<T: Pixel, const N: usize, const ZEROS: usize>(
         values[c] = settle(sums[c], rounding);
     }
     values
+}
+
+/// Number `c` of eight numbers and of eight others behind them.
+#[inline(always)]
+fn either_of(first: &[i16; 8], second: &[i16; 8], c: usize) -> i16
+    requires { c < 16 }
+    ensures { result ≡ (if nat_lt c 8 then entry first.now c else entry second.now (c - 8)) }
+{
+    if c < 8 { first[c] } else { second[c - 8] }
+}
+
+/// The first `N` of eight numbers and of eight others behind them.
+#[inline(always)]
+fn joined<const N: usize>(first: &[i16; 8], second: &[i16; 8]) -> [i16; N]
+    requires { N ≤ 16 }
+    ensures { (c : ℕ) → c < N → entry result c ≡ (if nat_lt c 8 then entry first.now c else entry second.now (c - 8)) }
+{
+    let mut values = [0; N];
+    for c in 0..N {
+        values[c] = either_of(first, second, c);
+    }
+    values
+}
+
+/// What the sums from each of `N` places on become, eight after eight where there are 16.
+#[inline(always)]
+pub(crate) fn filter_words<T: Pixel, const N: usize, const ZEROS: usize>(
+    source: &[T],
+    start: usize,
+    step: usize,
+    halves: &[i16; SUBPEL_FILTER_SIZE],
+    rounding: Rounding,
+) -> [i16; N]
+    requires filter { IsFilter (doubled halves.now) }
+    requires few { ZEROS ≤ 2 }
+    requires zeros { AreZero ZEROS halves.now }
+    requires rounding { IsRounding rounding }
+    requires short { N ≤ 128 }
+    requires reach { start + N + 7 * step ≤ length source.now }
+    requires small { (c t : ℕ) → c < N → t < 8 → slice_index (map T.num source.now) (start + c + t * step) < 32768 }
+    ensures { (c : ℕ) → c < N → entry result c ≡ settled rounding (sum_from halves.now (λ i. pos (slice_index (map T.num source.now) i)) (start + c) step) }
+{
+    if N == 16 {
+        let first = filter_group::<T, 8, ZEROS>(source, start, step, halves, rounding);
+        let second = filter_group::<T, 8, ZEROS>(source, start + 8, step, halves, rounding);
+        joined::<N>(&first, &second)
+    } else {
+        filter_group::<T, N, ZEROS>(source, start, step, halves, rounding)
+    }
 }

@@ -1,7 +1,7 @@
 use Rattle.std.proofs.Common.{◌+◌, pos, map, slice_index}
 use Rattle.av1_inter.specs.Scaffolding.{settled, sum_from}
 use Rattle.av1_inter.proofs.Fill.{IsLine}
-use Rattle.av1_inter.proofs.words.filter_words.Given as goal
+use Rattle.av1_inter.proofs.words.filter_group.Given as goal
 
 abbrev pub invariant-loop-c : goal.invariant-loop-c
 invariant-loop-c g l =
