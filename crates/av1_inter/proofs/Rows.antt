@@ -77,6 +77,7 @@ module _ {X : Type 0} (a : StoredArea) (w h : ℕ) (f : ℕ → ℕ → X → X)
       let below = le-div h i w some l in
       ap (λ u. get_or u i d) packed_is ∙ elim (cases_lt i (length s)) [
         | inl inside ↦ get_or-update _ s i d inside ∙ grind (arith, nat_tests)
-        | inr past ↦ get_or_past _ i d (omega (arith, length-update (λ k v. painted_at (record { x = 0; y = 0; width = w; height = h }) f (k % w) (k / w) v) s, past))
+        | inr past ↦ get_or_past _ i d
+            (omega (arith, length-update (λ k v. painted_at (record { x = 0; y = 0; width = w; height = h }) f (k % w) (k / w) v) s, past))
             ∙ sym (get_or_past s i d past)
       ]

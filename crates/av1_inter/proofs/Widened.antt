@@ -33,7 +33,8 @@ bias_read : (b p y : ℤ) → y ≡ to_z w16 (of_z w16 p) → p ≡ b → IsWith
 bias_read b p y ey ep w = omega (arith, ints, ey, ep, w.low, w.high)
 
 -- a sample of this depth, shifted up, and less the bias
-module _ (depth n : ℕ) (d : IsDepth depth) (h : n < 2 ^ depth) (z p y : ℤ) (bits : ℕ) (ez : z ≡ pos n) (small : n < 2 ^ 16) (eb : bits ≡ intermediate_bits depth)
+module _ (depth n : ℕ) (d : IsDepth depth) (h : n < 2 ^ depth) (z p y : ℤ) (bits : ℕ) (ez : z ≡ pos n) (small : n < 2 ^ 16)
+    (eb : bits ≡ intermediate_bits depth)
     (ep : p ≡ bias depth) (ey : y ≡ to_z w16 (of_z w16 p)) where
   difference : to_z w32 (of_z w32 z * 2 ^ bits % 4294967296) -ℤ to_z w32 (of_z w32 y) ≡ pos (n * 2 ^ intermediate_bits depth) -ℤ bias depth
   difference =

@@ -27,8 +27,8 @@
 //! fractions in sixteenths of a sample. A filter has eight taps, so a block needs 3 stored columns and rows before it
 //! and 4 after it, at every fraction.
 //!
-//! Which way a block takes hangs on its fractions, its sides and the bytes of a sample. `put_8tap` and `prep_8tap` share
-//! the filters, and a `Writer` makes samples or prepared values of what they give:
+//! Which way a block takes hangs on its fractions, its sides and the bytes of a sample. `put_8tap` and `prep_8tap`
+//! share the filters, and a `Writer` makes samples or prepared values of what they give:
 //!
 //! | fractions | sides | one byte a sample: 8 bits | two bytes: 8, 10 or 12 bits |
 //! |---|---|---|---|

@@ -17,7 +17,8 @@ pub weigh_bytes-requires-clause-within : goal.weigh_bytes-requires-clause-within
 weigh_bytes-requires-clause-within g c =
     each_of_eight
     (λ t. Between 0 255
-    (entry (values_of c.byte_at-first.result c.byte_at-second.result c.byte_at-third.result c.byte_at-fourth.result c.byte_at-fifth.result c.byte_at-sixth.result
+    (entry (values_of c.byte_at-first.result c.byte_at-second.result c.byte_at-third.result c.byte_at-fourth.result c.byte_at-fifth.result
+    c.byte_at-sixth.result
     c.byte_at-seventh.result c.byte_at-eighth.result) t))
     (short_kept 255 _ (omega arith) c.byte_at-first.ensures.within) (short_kept 255 _ (omega arith) c.byte_at-second.ensures.within)
     (short_kept 255 _ (omega arith) c.byte_at-third.ensures.within)
@@ -37,7 +38,8 @@ returns-clause-value g c =
     let second : k + d ≡ k + 1 * d = omega arith in
     to_z-of_z w16 _ fits ∙ c.weigh_bytes.ensures.value ∙ weighted_same c.args.halves.now _ _ (each_of_eight
     (λ t. entry
-    (values_of c.byte_at-first.result c.byte_at-second.result c.byte_at-third.result c.byte_at-fourth.result c.byte_at-fifth.result c.byte_at-sixth.result c.byte_at-seventh.result
+    (values_of c.byte_at-first.result c.byte_at-second.result c.byte_at-third.result c.byte_at-fourth.result c.byte_at-fifth.result c.byte_at-sixth.result
+    c.byte_at-seventh.result
     c.byte_at-eighth.result) t ≡ pos (slice_index (map num s) (k + t * d)))
     (short_read 255 _ (omega arith) c.byte_at-first.ensures.within ∙ c.byte_at-first.ensures.value ∙ ap (λ n. pos (slice_index (map num s) n)) first)
     (short_read 255 _ (omega arith) c.byte_at-second.ensures.within ∙ c.byte_at-second.ensures.value ∙ ap (λ n. pos (slice_index (map num s) n)) second)

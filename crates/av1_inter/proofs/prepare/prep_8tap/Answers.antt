@@ -24,7 +24,8 @@ returns-then-row_frac-eq0-clause-value g c = λ r q k l.
     let down = filter_of c.args.mode_y fy c.args.height in
     let zx : fx ≡ 0 = omega (arith, ints, c.if-col_frac-eq0.true) in
     let zy : fy ≡ 0 = omega (arith, ints, c.if-row_frac-eq0.true) in
-    packed_at block.area c.args.width c.args.height _ c.args.tmp.now c.prepare_copy.new.tmp made.area c.prepare_copy.ensures (omega arith) c.requires.tmp_long r q
+    packed_at block.area c.args.width c.args.height _ c.args.tmp.now c.prepare_copy.new.tmp made.area c.prepare_copy.ensures (omega arith)
+    c.requires.tmp_long r q
     (pos 0) k l
     ∙ ap (λ n. pos (sample_of num block (q + 3) (r + 3) * 2 ^ intermediate_bits n) -ℤ bias n) made.depth
     ∙ ap (λ (n : ℕ). pos (n * 2 ^ intermediate_bits d) -ℤ bias d)
@@ -55,7 +56,8 @@ returns-else-col_frac-eq0-clause-value g c = λ r q k l.
       | else-col_frac-eq0-via-then-col_frac-eq0+else-row_frac-eq0 w ↦ inr (some_fraction c.args.row_frac w.if-row_frac-eq0.false)
       | else-col_frac-eq0-via-else-col_frac-eq0 w ↦ inl (some_fraction c.args.col_frac w.if-col_frac-eq0.false)
     ] in
-    packed_at block.area c.args.width c.args.height _ c.args.tmp.now c.filter_block.new.target made.area c.filter_block.ensures (omega arith) c.requires.tmp_long
+    packed_at block.area c.args.width c.args.height _ c.args.tmp.now c.filter_block.new.target made.area c.filter_block.ensures (omega arith)
+    c.requires.tmp_long
     r q (pos 0) k l
     ∙ ap (λ (v : ℤ). prepared_of block.bit_depth block.area v y c.args.mode_x c.args.mode_y (sample_of num block) r q) ex
     ∙ ap (λ (z : ℤ). prepared_of block.bit_depth block.area c.args.col_frac z c.args.mode_x c.args.mode_y (sample_of num block) r q) ey

@@ -26,5 +26,6 @@ returns-then-this-eq16 g c = λ k h.
           (let e : c.args.start + 8 + (k - 8) ≡ c.args.start + k = omega arith in
           let below : k - 8 < 8 = omega (arith, c.if-this-eq16.true) in
           c.joined.ensures k h ∙ second_is k _ _ high ∙ c.filter_group-second.ensures (k - 8) below
-          ∙ ap (λ (n : ℕ). settled c.args.rounding (sum_from c.args.halves.now (λ i. pos (slice_index (map g.T.Pixel.num c.args.source.now) i)) n c.args.step)) e)
+          ∙ ap (λ (n : ℕ). settled c.args.rounding
+          (sum_from c.args.halves.now (λ i. pos (slice_index (map g.T.Pixel.num c.args.source.now) i)) n c.args.step)) e)
     ]
