@@ -173,11 +173,11 @@ fn filter_columns<T: Pixel, E: Copy, W: Writer<E>>(
     }
 }
 
-/// The same of a block of 4x4 entries by a filter whose outer two weights on either side are 0: its rows are written
-/// out, so that what columns share is read once.
+/// The same of a block of 4x4 entries by a filter whose outer two weights on either side are 0. Its rows are written
+/// out: down columns most samples serve several rows, and are read once.
 #[inline(always)]
 #[tactic(auto, using(av1_frame::proofs::Paint::rectangle_painting))]
-fn filter_square<T: Pixel, E: Copy, W: Writer<E>>(
+fn filter_four_rows<T: Pixel, E: Copy, W: Writer<E>>(
     target: &mut [E],
     stride: usize,
     block: &Strip<'_, T>,
@@ -196,6 +196,30 @@ fn filter_square<T: Pixel, E: Copy, W: Writer<E>>(
     filter_row::<T, E, W, 4, 2>(target, stride, block, taps, 1);
     filter_row::<T, E, W, 4, 2>(target, stride, block, taps, 2);
     filter_row::<T, E, W, 4, 2>(target, stride, block, taps, 3);
+}
+
+/// The same, along either direction.
+#[inline(always)]
+fn filter_square<T: Pixel, E: Copy, W: Writer<E>>(
+    target: &mut [E],
+    stride: usize,
+    block: &Strip<'_, T>,
+    taps: &Taps,
+)
+    requires rows { AreRows stride block.now.area (length target.old) }
+    requires width { block.now.area.width ≡ 4 }
+    requires height { block.now.area.height ≡ 4 }
+    requires zeros { AreZero 2 taps.now.halves }
+    requires laid { IsLaid T.num block.now taps.now }
+    requires depths { IsDepth block.now.bit_depth }
+    requires serves { W.serves block.now.bit_depth }
+    ensures { target.new ≡ paint stride block.now.area (λ r c _. W.written block.now.bit_depth (filtered T.num block.now taps.now r c)) target.old }
+{
+    if taps.step == 1 {
+        filter_by::<T, E, W, 4, 2>(target, stride, block, taps);
+    } else {
+        filter_four_rows::<T, E, W>(target, stride, block, taps);
+    }
 }
 
 /// The same of a block, strip by strip.

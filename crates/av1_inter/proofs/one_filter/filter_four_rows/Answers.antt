@@ -2,7 +2,7 @@ use Rattle.std.proofs.Common.{ap, sym, ◌∙◌}
 use Rattle.av1_frame.specs.Samples.{corner, paint}
 use Rattle.av1_frame.proofs.Paint.{paint_none}
 use Rattle.av1_inter.specs.Scaffolding.{filtered}
-use Rattle.av1_inter.proofs.one_filter.filter_square.Goals as goal
+use Rattle.av1_inter.proofs.one_filter.filter_four_rows.Goals as goal
 
 pub returns : goal.returns
 returns g c =
