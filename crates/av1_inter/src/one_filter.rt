@@ -236,7 +236,11 @@ pub(crate) fn filter_once<T: Pixel, E: Copy, W: Writer<E>>(
     requires serves { W.serves block.now.bit_depth }
     ensures { target.new ≡ paint stride block.now.area (λ r c _. W.written block.now.bit_depth (filtered T.num block.now taps.now r c)) target.old }
 {
-    if T::BITS == 8 && block.area.width == 4 && block.area.height == 4 && outer_zeros(&taps.halves) == 2 {
+    if T::BITS == 8
+        && block.area.width == 4
+        && block.area.height == 4
+        && outer_zeros(&taps.halves) == 2
+    {
         filter_square::<T, E, W>(target, stride, block, taps);
         return;
     }
