@@ -4,10 +4,10 @@
 //!
 //! AV1 specification: block inter prediction process.
 
-ghost use Rattle.std.specs.Prelude.{◌≡◌, ℕ, ◌+◌, ◌*◌, ◌≤◌, ◌<◌, pos, length, map, slice_index};
+ghost use Rattle.std.specs.Prelude.{◌≡◌, ℕ, ◌+◌, ◌*◌, ◌≤◌, ◌<◌, pos, length, map, slice_index, List};
 ghost use Rattle.av1_blocks.specs.Depths.{IsDepth};
 ghost use Rattle.av1_frame.specs.Areas.{AreRows};
-ghost use Rattle.av1_frame.specs.Samples.{paint, paint_row};
+ghost use Rattle.av1_frame.specs.Samples.{corner, paint, paint_row};
 ghost use Rattle.av1_inter.specs.Motion.{entry};
 ghost use Rattle.av1_inter.specs.Scaffolding.{AreZero, doubled, filtered, IsBlock, IsFilter, IsLaid, IsRounding, IsStripWidth, settled, sum_from};
 
@@ -61,6 +61,38 @@ fn write_row<E: Copy, W: Writer<E>, const N: usize>(
     }
 }
 
+/// The entries of row `r` of a strip of `N` columns become what a filter gives, whose outer `ZEROS` weights on either
+/// side are 0.
+#[inline(always)]
+#[tactic(auto, using(av1_frame::proofs::Paint::rectangle_painting))]
+fn filter_row<T: Pixel, E: Copy, W: Writer<E>, const N: usize, const ZEROS: usize>(
+    target: &mut [E],
+    stride: usize,
+    strip: &Strip<'_, T>,
+    taps: &Taps,
+    r: usize,
+)
+    requires rows { AreRows stride strip.now.area (length target.old) }
+    requires width { strip.now.area.width ≡ N }
+    requires short { N ≤ 128 }
+    requires few { ZEROS ≤ 2 }
+    requires zeros { AreZero ZEROS taps.now.halves }
+    requires laid { IsLaid T.num strip.now taps.now }
+    requires depths { IsDepth strip.now.bit_depth }
+    requires serves { W.serves strip.now.bit_depth }
+    requires inside { r < strip.now.area.height }
+    ensures { (s : List E) → AreRows stride strip.now.area (length s) →
+        target.old ≡ paint stride (corner strip.now.area strip.now.area.width r)
+        (λ r c _. W.written strip.now.bit_depth (filtered T.num strip.now taps.now r c)) s →
+        target.new ≡ paint stride (corner strip.now.area strip.now.area.width (r + 1))
+        (λ r c _. W.written strip.now.bit_depth (filtered T.num strip.now taps.now r c)) s }
+{
+    let start = taps.start + r * strip.source_stride;
+    let values = filter_line::<T, N, ZEROS>(strip.source, start, taps);
+    let (_, row) = target.split_at_mut((strip.area.y + r) * stride + strip.area.x);
+    write_row::<E, W, N>(row, &values, strip.bit_depth);
+}
+
 /// The entries of a strip of `N` columns become what a filter gives, whose outer `ZEROS` weights on either side are 0.
 #[inline(always)]
 #[tactic(auto, using(av1_frame::proofs::Paint::rectangle_painting))]
@@ -84,10 +116,7 @@ fn filter_by<T: Pixel, E: Copy, W: Writer<E>, const N: usize, const ZEROS: usize
     let taps = *taps;
     let strip = *strip;
     for r in 0..strip.area.height {
-        let start = taps.start + r * strip.source_stride;
-        let values = filter_line::<T, N, ZEROS>(strip.source, start, &taps);
-        let (_, row) = target.split_at_mut((strip.area.y + r) * stride + strip.area.x);
-        write_row::<E, W, N>(row, &values, strip.bit_depth);
+        filter_row::<T, E, W, N, ZEROS>(target, stride, &strip, &taps, r);
     }
 }
 
@@ -144,6 +173,55 @@ fn filter_columns<T: Pixel, E: Copy, W: Writer<E>>(
     }
 }
 
+/// The same of a block of 4x4 entries by a filter whose outer two weights on either side are 0. Its rows are written
+/// out: down columns most samples serve several rows, and are read once.
+#[inline(always)]
+#[tactic(auto, using(av1_frame::proofs::Paint::rectangle_painting))]
+fn filter_four_rows<T: Pixel, E: Copy, W: Writer<E>>(
+    target: &mut [E],
+    stride: usize,
+    block: &Strip<'_, T>,
+    taps: &Taps,
+)
+    requires rows { AreRows stride block.now.area (length target.old) }
+    requires width { block.now.area.width ≡ 4 }
+    requires height { block.now.area.height ≡ 4 }
+    requires zeros { AreZero 2 taps.now.halves }
+    requires laid { IsLaid T.num block.now taps.now }
+    requires depths { IsDepth block.now.bit_depth }
+    requires serves { W.serves block.now.bit_depth }
+    ensures { target.new ≡ paint stride block.now.area (λ r c _. W.written block.now.bit_depth (filtered T.num block.now taps.now r c)) target.old }
+{
+    filter_row::<T, E, W, 4, 2>(target, stride, block, taps, 0);
+    filter_row::<T, E, W, 4, 2>(target, stride, block, taps, 1);
+    filter_row::<T, E, W, 4, 2>(target, stride, block, taps, 2);
+    filter_row::<T, E, W, 4, 2>(target, stride, block, taps, 3);
+}
+
+/// The same, along either direction.
+#[inline(always)]
+fn filter_square<T: Pixel, E: Copy, W: Writer<E>>(
+    target: &mut [E],
+    stride: usize,
+    block: &Strip<'_, T>,
+    taps: &Taps,
+)
+    requires rows { AreRows stride block.now.area (length target.old) }
+    requires width { block.now.area.width ≡ 4 }
+    requires height { block.now.area.height ≡ 4 }
+    requires zeros { AreZero 2 taps.now.halves }
+    requires laid { IsLaid T.num block.now taps.now }
+    requires depths { IsDepth block.now.bit_depth }
+    requires serves { W.serves block.now.bit_depth }
+    ensures { target.new ≡ paint stride block.now.area (λ r c _. W.written block.now.bit_depth (filtered T.num block.now taps.now r c)) target.old }
+{
+    if taps.step == 1 {
+        filter_by::<T, E, W, 4, 2>(target, stride, block, taps);
+    } else {
+        filter_four_rows::<T, E, W>(target, stride, block, taps);
+    }
+}
+
 /// The same of a block, strip by strip.
 #[inline(always)]
 pub(crate) fn filter_once<T: Pixel, E: Copy, W: Writer<E>>(
@@ -158,6 +236,14 @@ pub(crate) fn filter_once<T: Pixel, E: Copy, W: Writer<E>>(
     requires serves { W.serves block.now.bit_depth }
     ensures { target.new ≡ paint stride block.now.area (λ r c _. W.written block.now.bit_depth (filtered T.num block.now taps.now r c)) target.old }
 {
+    if T::BITS == 8
+        && block.area.width == 4
+        && block.area.height == 4
+        && outer_zeros(&taps.halves) == 2
+    {
+        filter_square::<T, E, W>(target, stride, block, taps);
+        return;
+    }
     let mut start = 0;
     while start < block.area.width {
         let columns = strip_width(block.area.width - start, true);
