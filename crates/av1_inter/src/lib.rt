@@ -35,7 +35,8 @@
 //! | none, put | a width of 4, 8, 16, 32, 64 or 128 | `put_copy`: `copy_rows` | the same |
 //! | none, put | any other width | `put_copy`: `copy_any_rows` | the same |
 //! | none, prepared | any: strips of 16, 8, 4 or 1 columns | `prepare_copy`: `widen_rows` | the same |
-//! | across alone | any: strips of 16, 8, 4 or 1 columns | `filter_once`: `filter_bytes` | `filter_once`: `filter_words` |
+//! | one alone | 4x4, by four weights | `filter_square`: `filter_bytes` | as other sides |
+//! | across alone | any other: strips of 16, 8, 4 or 1 columns | `filter_once`: `filter_bytes` | `filter_once`: `filter_words` |
 //! | down alone | the same strips | the same, in steps of a row | the same, in steps of a row |
 //! | both | any: parts of 8, 4 or 1 columns and up to 32 rows | `filter_twice`: `filter_bytes`, then `filter_words` | `filter_twice`: `filter_words`, twice |
 //!
