@@ -8,8 +8,7 @@ ghost use Rattle.std.specs.Int.{w64};
 ghost use Rattle.std.specs.Option.{option_map};
 ghost use Rattle.av1_frame.specs.Areas.{AreRows};
 ghost use Rattle.av1_frame.specs.Samples.{paint};
-ghost use Rattle.av1_frame.specs.Regions.{InStorage, painted};
-ghost use Rattle.av1_intra.specs.Sides.{numbers};
+ghost use Rattle.av1_frame.specs.Regions.{InStorage};
 ghost use Rattle.av1_intra.specs.Neighbours.{uses_smooth_filter};
 ghost use Rattle.av1_intra.specs.Angles.{derivative, is_interpolated};
 ghost use Rattle.av1_intra.specs.Directional.{block_at, directional};
@@ -226,62 +225,4 @@ pub(crate) fn block_in<T: Pixel>(
         visible_columns: visible_from(region.plane_cfg.width, rect.x),
         visible_rows: visible_from(region.plane_cfg.height, rect.y),
     }
-}
-
-/// Predicts the first `height` rows and `width` columns of `output` along the angle `p_angle`, in degrees: one that a
-/// directional mode and an angle step from -3 to 3 give, but for 90 and 180, which copy a side, or another one that
-/// `dr_intra_derivative` knows.
-///
-/// Below 90 degrees a sample is what its line meets on the side `above`, past 180 on the side `left`, and between them
-/// on the one that it meets first. The line meets a side between two samples, and the prediction is between these two,
-/// in 32nds.
-///
-/// `above` runs from the left: `width` samples, and below 90 degrees `height` more. `left` runs from the bottom up, and
-/// its last sample is that of the first row: `height` samples, and past 180 degrees `width` more before them.
-/// `top_left` is the corner. A side that the angle doesn't meet is not read. What is predicted is clipped to the depth.
-///
-/// With `ief_params` the sides are first smoothed and upsampled, as the angle, the block's sides and the neighbours
-/// ask. Of the places beside the block only those are smoothed that lie in the plane's visible columns and rows.
-///
-/// AV1 specification: directional intra prediction process.
-#[tactic(auto, using(av1_frame::proofs::Regions::region_lending))]
-pub fn pred_directional<T: Pixel>(
-    output: &mut PlaneRegionMut<'_, T>,
-    above: &[T],
-    left: &[T],
-    top_left: &[T],
-    p_angle: usize,
-    width: usize,
-    height: usize,
-    bit_depth: usize,
-    ief_params: Option<IntraEdgeFilterParameters>,
-)
-    requires fits { InStorage output.old }
-    requires columns { width ≤ output.old.area.width }
-    requires rows { height ≤ output.old.area.height }
-    requires width { width ≤ 64 }
-    requires height { height ≤ 64 }
-    requires angle { IsTrue (is_interpolated p_angle) }
-    requires above_long { p_angle < 180 → width + (if nat_lt p_angle 90 then height else 0) ≤ length above.now }
-    requires left_long { 90 < p_angle → height + (if nat_lt 180 p_angle then width else 0) ≤ length left.now }
-    requires corner { 0 < length top_left.now }
-    requires depth { bit_depth ≤ T.BITS }
-    ensures painted { output.new ≡ painted output.old width height
-        (λ i j _.
-        T.pixel (directional (block_at output.old p_angle width height bit_depth ief_params) (numbers T.num top_left.now 0) (map T.num above.now)
-        (reverse (map T.num left.now)) i j)) }
-    ensures fits { InStorage output.new }
-{
-    let block = block_in(output, p_angle, width, height, bit_depth, ief_params);
-    let stride = output.plane_cfg.stride;
-    let area = output.corner(width, height);
-    pred_directional_to(
-        output.samples_mut(),
-        stride,
-        area,
-        above,
-        left,
-        top_left[0],
-        block,
-    );
 }

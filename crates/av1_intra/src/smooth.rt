@@ -6,12 +6,11 @@ ghost use Rattle.std.specs.Prelude.{◌≡◌, ℕ, ◌+◌, ◌-◌, ◌*◌, �
 ghost use Rattle.av1_lists.specs.Sides.{IsTransformSide};
 ghost use Rattle.av1_frame.specs.Areas.{AreRows};
 ghost use Rattle.av1_frame.specs.Samples.{paint, paint_row};
-ghost use Rattle.av1_frame.specs.Regions.{InStorage, painted};
 ghost use Rattle.av1_intra.specs.Sides.{numbers, from_top};
 ghost use Rattle.av1_intra.specs.Smooth.{weights, mix, smooth, smooth_v, smooth_h};
 
 use crate::samples::number_at;
-use av1_frame::{Pixel, PlaneRegionMut, StoredArea};
+use av1_frame::{Pixel, StoredArea};
 
 const WEIGHTS_4: [u8; 4] = [255, 149, 85, 64];
 
@@ -177,35 +176,6 @@ pub fn pred_smooth_to<T: Pixel>(
     }
 }
 
-/// Predicts the first `height` rows and `width` columns of `output`: each sample becomes the mean of that of
-/// `pred_smooth_v` and that of `pred_smooth_h`, rounded once.
-///
-/// `above` runs from the left, and `left` from the bottom up: its first sample is that of the lowest row. Samples past
-/// the first `width` and `height` are not read.
-#[tactic(auto, using(av1_frame::proofs::Regions::region_lending))]
-pub fn pred_smooth<T: Pixel>(
-    output: &mut PlaneRegionMut<'_, T>,
-    above: &[T],
-    left: &[T],
-    width: usize,
-    height: usize,
-)
-    requires fits { InStorage output.old }
-    requires columns { width ≤ output.old.area.width }
-    requires rows { height ≤ output.old.area.height }
-    requires width { IsTransformSide width }
-    requires height { IsTransformSide height }
-    requires above_long { width ≤ length above.now }
-    requires left_long { height ≤ length left.now }
-    ensures painted { output.new ≡ painted output.old width height
-        (λ r c _. T.pixel (smooth width height (numbers T.num above.now) (from_top T.num height left.now) r c)) }
-    ensures fits { InStorage output.new }
-{
-    let stride = output.plane_cfg.stride;
-    let area = output.corner(width, height);
-    pred_smooth_to(output.samples_mut(), stride, area, above, left);
-}
-
 /// Predicts the samples of a rectangle: each becomes a mean of the sample in its row of `left` and the last one
 /// `above`, which weighs the more the further to the right the column is. The rows of `samples` stand `stride` apart.
 ///
@@ -234,33 +204,6 @@ pub fn pred_smooth_h_to<T: Pixel>(
     }
 }
 
-/// Predicts the first `height` rows and `width` columns of `output`: each sample becomes a mean of the sample in its
-/// row of `left` and the last one `above`, which weighs the more the further to the right the column is.
-///
-/// `above` runs from the left, and `left` from the bottom up. Samples past the first `width` and `height` are not read.
-#[tactic(auto, using(av1_frame::proofs::Regions::region_lending))]
-pub fn pred_smooth_h<T: Pixel>(
-    output: &mut PlaneRegionMut<'_, T>,
-    above: &[T],
-    left: &[T],
-    width: usize,
-    height: usize,
-)
-    requires fits { InStorage output.old }
-    requires columns { width ≤ output.old.area.width }
-    requires rows { height ≤ output.old.area.height }
-    requires width { IsTransformSide width }
-    requires above_long { width ≤ length above.now }
-    requires left_long { height ≤ length left.now }
-    ensures painted { output.new ≡ painted output.old width height
-        (λ r c _. T.pixel (smooth_h width (numbers T.num above.now) (from_top T.num height left.now) r c)) }
-    ensures fits { InStorage output.new }
-{
-    let stride = output.plane_cfg.stride;
-    let area = output.corner(width, height);
-    pred_smooth_h_to(output.samples_mut(), stride, area, above, left);
-}
-
 /// Predicts the samples of a rectangle: each becomes a mean of the sample in its column of `above` and the lowest one
 /// on the left, which weighs the more the further down the row is. The rows of `samples` stand `stride` apart.
 ///
@@ -286,32 +229,4 @@ pub fn pred_smooth_v_to<T: Pixel>(
         let (_, row) = samples.split_at_mut((area.y + r) * stride + area.x);
         smooth_v_row(row, above, left, weights[r], area.width);
     }
-}
-
-/// Predicts the first `height` rows and `width` columns of `output`: each sample becomes a mean of the sample in its
-/// column of `above` and the lowest one on the left, which weighs the more the further down the row is.
-///
-/// `above` runs from the left, and `left` from the bottom up: its first sample is the lowest. Samples past the first
-/// `width` and `height` are not read.
-#[tactic(auto, using(av1_frame::proofs::Regions::region_lending))]
-pub fn pred_smooth_v<T: Pixel>(
-    output: &mut PlaneRegionMut<'_, T>,
-    above: &[T],
-    left: &[T],
-    width: usize,
-    height: usize,
-)
-    requires fits { InStorage output.old }
-    requires columns { width ≤ output.old.area.width }
-    requires rows { height ≤ output.old.area.height }
-    requires height { IsTransformSide height }
-    requires above_long { width ≤ length above.now }
-    requires left_long { height ≤ length left.now }
-    ensures painted { output.new ≡ painted output.old width height
-        (λ r c _. T.pixel (smooth_v height (numbers T.num above.now) (from_top T.num height left.now) r c)) }
-    ensures fits { InStorage output.new }
-{
-    let stride = output.plane_cfg.stride;
-    let area = output.corner(width, height);
-    pred_smooth_v_to(output.samples_mut(), stride, area, above, left);
 }
