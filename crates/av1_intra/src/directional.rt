@@ -10,11 +10,11 @@ ghost use Rattle.av1_frame.specs.Areas.{AreRows};
 ghost use Rattle.av1_frame.specs.Samples.{paint};
 ghost use Rattle.av1_frame.specs.Regions.{InStorage};
 ghost use Rattle.av1_intra.specs.Neighbours.{uses_smooth_filter};
-ghost use Rattle.av1_intra.specs.Angles.{derivative, is_interpolated};
+ghost use Rattle.av1_intra.specs.Angles.{ArePair, derivative, is_interpolated};
 ghost use Rattle.av1_intra.specs.Directional.{block_at, directional};
 
 use crate::angle::dr_intra_derivative;
-use crate::interpolation::{rows_below_90, rows_between, rows_past_180};
+use crate::interpolation::{Slopes, rows_below_90, rows_between, rows_past_180};
 use crate::neighbours::IntraEdgeFilterParameters;
 use crate::prepared_side::{PreparedSide, prepare_above, prepare_left};
 use av1_frame::{Pixel, PlaneRegionMut, StoredArea};
@@ -67,6 +67,21 @@ fn directional_below_90<T: Pixel>(
     rows_below_90(samples, stride, area, &side, places, dx, block.bit_depth);
 }
 
+/// How far lines of an angle between 90 and 180 lead along each side.
+fn slopes_of(p_angle: usize) -> Slopes
+    requires angle { IsTrue (is_interpolated p_angle) }
+    requires low { 90 < p_angle }
+    requires high { p_angle < 180 }
+    ensures dx { result.dx ≡ derivative (180 - p_angle) }
+    ensures dy { result.dy ≡ derivative (p_angle - 90) }
+    ensures pair { ArePair result.dx result.dy }
+{
+    Slopes {
+        dx: dr_intra_derivative(180 - p_angle),
+        dy: dr_intra_derivative(p_angle - 90),
+    }
+}
+
 /// The samples of an angle between 90 and 180.
 fn directional_between<T: Pixel>(
     samples: &mut [T],
@@ -91,11 +106,10 @@ fn directional_between<T: Pixel>(
     ensures { samples.new ≡ paint stride area (λ i j _. T.pixel (directional block (T.num corner) (map T.num above.now) (reverse (map T.num left.now)) i j))
         samples.old }
 {
-    let dx = dr_intra_derivative(180 - block.p_angle);
-    let dy = dr_intra_derivative(block.p_angle - 90);
+    let slopes = slopes_of(block.p_angle);
     let columns = block.width.min(block.visible_columns);
-    let mut side = PreparedSide::empty();
-    prepare_above(&mut side, above, corner, block, columns, block.width);
+    let mut above_side = PreparedSide::empty();
+    prepare_above(&mut above_side, above, corner, block, columns, block.width);
     let rows = block.height.min(block.visible_rows);
     let mut left_side = PreparedSide::empty();
     prepare_left(&mut left_side, left, corner, block, rows, block.height);
@@ -103,10 +117,9 @@ fn directional_between<T: Pixel>(
         samples,
         stride,
         area,
-        &side,
+        &above_side,
         &left_side,
-        dx,
-        dy,
+        slopes,
         block.bit_depth,
     );
 }

@@ -60,35 +60,32 @@ fn mixed(weight: u8, a: u32, b: u32) -> u32
     weight * a + (256 - weight) * b
 }
 
-/// The first `width` samples of row `r` of a block.
+/// The first `width` samples of a row, from the samples above it, the one at place `k` of `left`, the lowest one on the
+/// left and the last one above.
 #[tactic(auto, using(av1_frame::proofs::Paint::row_painting))]
 fn smooth_row<T: Pixel>(
     row: &mut [T],
     above: &[T],
     left: &[T],
-    row_weights: &[u8],
+    row_weight: u8,
     column_weights: &[u8],
-    r: usize,
+    k: usize,
     width: usize,
-    height: usize,
 )
     requires row_long { width ≤ length row.old }
     requires some_columns { 0 < width }
     requires above_long { width ≤ length above.now }
-    requires left_long { height ≤ length left.now }
-    requires r { r < height }
-    requires row_weights { height ≤ length row_weights.now }
-    requires column_weights { width ≤ length column_weights.now }
+    requires left_long { k < length left.now }
+    requires weights { width ≤ length column_weights.now }
     ensures { row.new ≡
         paint_row width
         (λ c _. T.pixel
-        ((mix (slice_index row_weights.now r) (numbers T.num above.now c) (numbers T.num left.now 0) + mix (slice_index column_weights.now c)
-        (numbers T.num left.now (height - 1 - r)) (numbers T.num above.now (width - 1)) + 256) / 512)) row.old }
+        ((mix row_weight (numbers T.num above.now c) (numbers T.num left.now 0) + mix (slice_index column_weights.now c)
+        (numbers T.num left.now k) (numbers T.num above.now (width - 1)) + 256) / 512)) row.old }
 {
     let bottom = number_at(left, 0);
-    let side = number_at(left, height - 1 - r);
+    let side = number_at(left, k);
     let right = number_at(above, width - 1);
-    let row_weight = row_weights[r];
     for c in 0..width {
         let down = mixed(row_weight, number_at(above, c), bottom);
         let across = mixed(column_weights[c], side, right);
@@ -162,17 +159,9 @@ pub fn pred_smooth_to<T: Pixel>(
     let row_weights = smooth_weights(area.height);
     let column_weights = smooth_weights(area.width);
     for r in 0..area.height {
+        let k = area.height - 1 - r;
         let (_, row) = samples.split_at_mut((area.y + r) * stride + area.x);
-        smooth_row(
-            row,
-            above,
-            left,
-            row_weights,
-            column_weights,
-            r,
-            area.width,
-            area.height,
-        );
+        smooth_row(row, above, left, row_weights[r], column_weights, k, area.width);
     }
 }
 
