@@ -9,5 +9,5 @@ pub mod EdgeFilter
 pub mod Upsampling
 pub mod Directional
 pub mod Predicted
-pub mod Regions
+pub mod Blocks
 pub mod TileLuma

@@ -6,12 +6,12 @@ ghost use Rattle.std.specs.Prelude.{◌≡◌, ℕ, ◌+◌, ◌-◌, ◌*◌, �
 ghost use Rattle.std.specs.Prelude.{FitsSigned};
 ghost use Rattle.std.specs.Int.{w64};
 ghost use Rattle.std.specs.Option.{option_map};
-ghost use Rattle.av1_frame.specs.Areas.{AreRows};
 ghost use Rattle.av1_frame.specs.Samples.{paint};
 ghost use Rattle.av1_frame.specs.Regions.{InStorage};
 ghost use Rattle.av1_intra.specs.Neighbours.{uses_smooth_filter};
 ghost use Rattle.av1_intra.specs.Angles.{ArePair, derivative, is_interpolated};
 ghost use Rattle.av1_intra.specs.Directional.{block_at, directional};
+ghost use Rattle.av1_intra.specs.Blocks.{IsRectangle};
 
 use crate::angle::dr_intra_derivative;
 use crate::interpolation::{Slopes, rows_below_90, rows_between, rows_past_180};
@@ -47,11 +47,7 @@ fn directional_below_90<T: Pixel>(
     corner: T,
     block: DirectionalBlock,
 )
-    requires rows { AreRows stride area (length samples.old) }
-    requires width { area.width ≡ block.width }
-    requires height { area.height ≡ block.height }
-    requires few_columns { block.width ≤ 64 }
-    requires few_rows { block.height ≤ 64 }
+    requires block { IsRectangle block stride area (length samples.old) }
     requires angle { IsTrue (is_interpolated block.p_angle) }
     requires range { block.p_angle < 90 }
     requires long { block.width + block.height ≤ length above.now }
@@ -92,11 +88,7 @@ fn directional_between<T: Pixel>(
     corner: T,
     block: DirectionalBlock,
 )
-    requires rows { AreRows stride area (length samples.old) }
-    requires width { area.width ≡ block.width }
-    requires height { area.height ≡ block.height }
-    requires few_columns { block.width ≤ 64 }
-    requires few_rows { block.height ≤ 64 }
+    requires block { IsRectangle block stride area (length samples.old) }
     requires angle { IsTrue (is_interpolated block.p_angle) }
     requires low { 90 < block.p_angle }
     requires high { block.p_angle < 180 }
@@ -144,11 +136,7 @@ fn directional_past_180<T: Pixel>(
     corner: T,
     block: DirectionalBlock,
 )
-    requires rows { AreRows stride area (length samples.old) }
-    requires width { area.width ≡ block.width }
-    requires height { area.height ≡ block.height }
-    requires few_columns { block.width ≤ 64 }
-    requires few_rows { block.height ≤ 64 }
+    requires block { IsRectangle block stride area (length samples.old) }
     requires angle { IsTrue (is_interpolated block.p_angle) }
     requires range { 180 < block.p_angle }
     requires long { block.height + block.width ≤ length left.now }
@@ -176,11 +164,7 @@ pub fn pred_directional_to<T: Pixel>(
     corner: T,
     block: DirectionalBlock,
 )
-    requires rows { AreRows stride area (length samples.old) }
-    requires width { area.width ≡ block.width }
-    requires height { area.height ≡ block.height }
-    requires few_columns { block.width ≤ 64 }
-    requires few_rows { block.height ≤ 64 }
+    requires block { IsRectangle block stride area (length samples.old) }
     requires angle { IsTrue (is_interpolated block.p_angle) }
     requires above_long { block.p_angle < 180 → block.width + (if nat_lt block.p_angle 90 then block.height else 0) ≤ length above.now }
     requires left_long { 90 < block.p_angle → block.height + (if nat_lt 180 block.p_angle then block.width else 0) ≤ length left.now }

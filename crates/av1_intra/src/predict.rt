@@ -134,10 +134,7 @@ fn place_in_tile<T: Pixel>(region: &PlaneRegionMut<'_, T>, tile_rect: TileRect) 
     ensures row { result.1 ≡ row_in region.now tile_rect }
 {
     let rect = *region.rect();
-    (
-        rect.x as usize - tile_rect.x,
-        rect.y as usize - tile_rect.y,
-    )
+    (rect.x as usize - tile_rect.x, rect.y as usize - tile_rect.y)
 }
 
 /// Predicts the samples of a transform of `tx_size`, in the first rows and columns of `dst`, by an intra mode and the

@@ -4,39 +4,38 @@
 //! Each turns the samples of the first `height` rows and `width` columns of its region `output`; all others stay. `above`
 //! runs from the left: its first sample stands above the first column. `left` runs from the bottom up: its sample at
 //! `height - 1` stands beside the first row, and the one before it beside the second. Samples past those are not read.
-//! `ac` holds the differences of luma from its mean row by row, `width` a row (see `pred_cfl_ac`), and `alpha` their
-//! weight; both are in eighths. Depths are in bits. An argument whose name begins with `_` is not read.
+//! Depths are in bits. An argument whose name begins with `_` is not read.
 #![tactic(auto, using(av1_frame::proofs::Regions::region_lending))]
 
-ghost use Rattle.std.specs.Prelude.{◌≡◌, ℕ, ◌+◌, ◌-◌, ◌*◌, ◌<◌, ◌≤◌, ◌++◌, length, map, take, reverse, if◌then◌else◌, nat_lt, IsTrue, pos};
-ghost use Rattle.std.specs.Ordering.{int_eq};
+ghost use Rattle.std.specs.Prelude.{◌≡◌, ℕ, ◌+◌, ◌-◌, ◌*◌, ◌<◌, ◌≤◌, ◌++◌, length, map, take, reverse, if◌then◌else◌, nat_lt, IsTrue};
 ghost use Rattle.av1_lists.specs.Sides.{IsTransformSide};
 ghost use Rattle.av1_frame.specs.Regions.{InStorage, painted};
 ghost use Rattle.av1_edges.specs.Sides.{base};
 ghost use Rattle.av1_intra.specs.Angles.{is_interpolated};
-ghost use Rattle.av1_intra.specs.ChromaFromLuma.{ac_at, first_sample, from_luma};
 ghost use Rattle.av1_intra.specs.Dc.{mean};
 ghost use Rattle.av1_intra.specs.Directional.{block_at, directional};
 ghost use Rattle.av1_intra.specs.Paeth.{paeth};
-ghost use Rattle.av1_intra.specs.Regions.{HoldsBlock, AreBeside};
+ghost use Rattle.av1_intra.specs.Blocks.{AreBeside, HoldsBlock};
 ghost use Rattle.av1_intra.specs.Sides.{numbers, from_top};
 ghost use Rattle.av1_intra.specs.Smooth.{smooth, smooth_v, smooth_h};
 
-use crate::chroma_from_luma::pred_cfl_to;
+pub use crate::angle::dr_intra_derivative;
+
+mod from_luma;
+
 use crate::dc::{half_sample, mean_of, side_mean};
 use crate::directional::{block_in, pred_directional_to};
+pub use crate::edge_filter::{filter_edge, select_ief_strength};
+pub use crate::luma::pred_cfl_ac;
 use crate::neighbours::IntraEdgeFilterParameters;
 use crate::paeth::pred_paeth_to;
+pub use crate::predict::dispatch_predict_intra;
 use crate::rows::fill_block;
 use crate::smooth::{pred_smooth_h_to, pred_smooth_to, pred_smooth_v_to};
 use crate::straight::{pred_h_to, pred_v_to};
-use av1_frame::{Pixel, PlaneRegionMut};
-
-pub use crate::angle::dr_intra_derivative;
-pub use crate::edge_filter::{filter_edge, select_ief_strength};
-pub use crate::luma::pred_cfl_ac;
-pub use crate::predict::dispatch_predict_intra;
 pub use crate::upsampling::{select_ief_upsample, upsample_edge};
+use av1_frame::{Pixel, PlaneRegionMut};
+pub use from_luma::{pred_cfl, pred_cfl_128, pred_cfl_inner, pred_cfl_left, pred_cfl_top};
 
 /// Each row becomes the samples of `above`.
 pub fn pred_v<T: Pixel>(
@@ -56,12 +55,7 @@ pub fn pred_v<T: Pixel>(
 }
 
 /// Each row becomes its sample of `left`, again and again.
-pub fn pred_h<T: Pixel>(
-    output: &mut PlaneRegionMut<'_, T>,
-    left: &[T],
-    width: usize,
-    height: usize,
-)
+pub fn pred_h<T: Pixel>(output: &mut PlaneRegionMut<'_, T>, left: &[T], width: usize, height: usize)
     requires block { HoldsBlock output.old width height }
     requires left_long { height ≤ length left.now }
     ensures painted { output.new ≡ painted output.old width height (λ r _ _. T.pixel (from_top T.num height left.now r)) }
@@ -200,16 +194,19 @@ pub fn pred_directional<T: Pixel>(
     let stride = output.plane_cfg.stride;
     let area = output.corner(width, height);
     let corner = top_left[0];
-    pred_directional_to(output.samples_mut(), stride, area, above, left, corner, block);
+    pred_directional_to(
+        output.samples_mut(),
+        stride,
+        area,
+        above,
+        left,
+        corner,
+        block,
+    );
 }
 
 /// Each sample becomes `value`.
-fn fill_rows<T: Pixel>(
-    output: &mut PlaneRegionMut<'_, T>,
-    value: T,
-    width: usize,
-    height: usize,
-)
+fn fill_rows<T: Pixel>(output: &mut PlaneRegionMut<'_, T>, value: T, width: usize, height: usize)
     requires block { HoldsBlock output.old width height }
     ensures painted { output.new ≡ painted output.old width height (λ _ _ _. value) }
     ensures fits { InStorage output.new }
@@ -237,7 +234,12 @@ pub fn pred_dc<T: Pixel>(
         (λ _ _ _. T.pixel (mean (map T.num (take height left.now) ++ map T.num (take width above.now)))) }
     ensures fits { InStorage output.new }
 {
-    fill_rows(output, mean_of(&left[..height], &above[..width]), width, height);
+    fill_rows(
+        output,
+        mean_of(&left[..height], &above[..width]),
+        width,
+        height,
+    );
 }
 
 /// Each sample becomes half of the range of samples of `bit_depth`.
@@ -294,160 +296,4 @@ pub fn pred_dc_top<T: Pixel>(
     ensures fits { InStorage output.new }
 {
     fill_rows(output, side_mean(&above[..width]), width, height);
-}
-
-/// Each sample becomes `dc`, and what its difference in `ac` adds to it at the weight `alpha`, clipped to the depth; `dc`
-/// alone where the weight is 0.
-fn flat_from_luma<T: Pixel>(
-    output: &mut PlaneRegionMut<'_, T>,
-    ac: &[i16],
-    alpha: i16,
-    dc: T,
-    width: usize,
-    height: usize,
-    bit_depth: usize,
-)
-    requires block { HoldsBlock output.old width height }
-    requires width { width ≤ 128 }
-    requires height { height ≤ 128 }
-    requires ac_long { width * height ≤ length ac.now }
-    requires depth { bit_depth ≤ T.BITS }
-    ensures painted { output.new ≡ painted output.old width height
-        (λ r c _. T.pixel (from_luma bit_depth alpha (T.num dc) (ac_at width ac.now r c))) }
-    ensures fits { InStorage output.new }
-{
-    let stride = output.plane_cfg.stride;
-    let area = output.corner(width, height);
-    pred_cfl_to(output.samples_mut(), stride, area, ac, alpha, dc, bit_depth);
-}
-
-/// Each sample becomes the first one of `output`, and what its difference in `ac` adds to it, clipped to the depth.
-/// Without a weight nothing changes.
-pub fn pred_cfl_inner<T: Pixel>(
-    output: &mut PlaneRegionMut<'_, T>,
-    ac: &[i16],
-    alpha: i16,
-    width: usize,
-    height: usize,
-    bit_depth: usize,
-)
-    requires block { HoldsBlock output.old width height }
-    requires some_columns { 0 < width }
-    requires some_rows { 0 < height }
-    requires width { width ≤ 128 }
-    requires height { height ≤ 128 }
-    requires ac_long { width * height ≤ length ac.now }
-    requires depth { bit_depth ≤ T.BITS }
-    ensures painted { output.new ≡ painted output.old width height
-        (λ r c v. T.pixel (if int_eq alpha (pos 0) then T.num v else from_luma bit_depth alpha (first_sample T.num output.old) (ac_at width ac.now r c))) }
-    ensures fits { InStorage output.new }
-{
-    if alpha == 0 {
-        return;
-    }
-    let dc = output.row(0)[0];
-    flat_from_luma(output, ac, alpha, dc, width, height, bit_depth);
-}
-
-/// Each sample becomes that of `pred_dc`, and what its difference in `ac` adds to it, clipped to the depth.
-pub fn pred_cfl<T: Pixel>(
-    output: &mut PlaneRegionMut<'_, T>,
-    ac: &[i16],
-    alpha: i16,
-    above: &[T],
-    left: &[T],
-    width: usize,
-    height: usize,
-    bit_depth: usize,
-)
-    requires block { HoldsBlock output.old width height }
-    requires some { 0 < width + height }
-    requires width { width ≤ 64 }
-    requires height { height ≤ 64 }
-    requires sides { AreBeside width height above.now left.now }
-    requires ac_long { width * height ≤ length ac.now }
-    requires depth { bit_depth ≤ T.BITS }
-    ensures painted { output.new ≡ painted output.old width height
-        (λ r c _. T.pixel (from_luma bit_depth alpha (mean (map T.num (take height left.now) ++ map T.num (take width above.now))) (ac_at width ac.now r c))) }
-    ensures fits { InStorage output.new }
-{
-    let dc = mean_of(&left[..height], &above[..width]);
-    flat_from_luma(output, ac, alpha, dc, width, height, bit_depth);
-}
-
-/// Each sample becomes that of `pred_dc_128`, and what its difference in `ac` adds to it, clipped to the depth.
-pub fn pred_cfl_128<T: Pixel>(
-    output: &mut PlaneRegionMut<'_, T>,
-    ac: &[i16],
-    alpha: i16,
-    _above: &[T],
-    _left: &[T],
-    width: usize,
-    height: usize,
-    bit_depth: usize,
-)
-    requires block { HoldsBlock output.old width height }
-    requires width { width ≤ 64 }
-    requires height { height ≤ 64 }
-    requires ac_long { width * height ≤ length ac.now }
-    requires low { 8 ≤ bit_depth }
-    requires high { bit_depth ≤ T.BITS }
-    ensures painted { output.new ≡ painted output.old width height
-        (λ r c _. T.pixel (from_luma bit_depth alpha (base bit_depth) (ac_at width ac.now r c))) }
-    ensures fits { InStorage output.new }
-{
-    let dc = half_sample(bit_depth);
-    flat_from_luma(output, ac, alpha, dc, width, height, bit_depth);
-}
-
-/// Each sample becomes that of `pred_dc_left`, and what its difference in `ac` adds to it, clipped to the depth.
-pub fn pred_cfl_left<T: Pixel>(
-    output: &mut PlaneRegionMut<'_, T>,
-    ac: &[i16],
-    alpha: i16,
-    _above: &[T],
-    left: &[T],
-    width: usize,
-    height: usize,
-    bit_depth: usize,
-)
-    requires block { HoldsBlock output.old width height }
-    requires some { 0 < height }
-    requires width { width ≤ 64 }
-    requires height { height ≤ 64 }
-    requires left_whole { length left.now ≡ height }
-    requires ac_long { width * height ≤ length ac.now }
-    requires depth { bit_depth ≤ T.BITS }
-    ensures painted { output.new ≡ painted output.old width height
-        (λ r c _. T.pixel (from_luma bit_depth alpha (mean (map T.num left.now)) (ac_at width ac.now r c))) }
-    ensures fits { InStorage output.new }
-{
-    let dc = side_mean(left);
-    flat_from_luma(output, ac, alpha, dc, width, height, bit_depth);
-}
-
-/// Each sample becomes that of `pred_dc_top`, and what its difference in `ac` adds to it, clipped to the depth.
-pub fn pred_cfl_top<T: Pixel>(
-    output: &mut PlaneRegionMut<'_, T>,
-    ac: &[i16],
-    alpha: i16,
-    above: &[T],
-    _left: &[T],
-    width: usize,
-    height: usize,
-    bit_depth: usize,
-)
-    requires block { HoldsBlock output.old width height }
-    requires some { 0 < width }
-    requires width { width ≤ 64 }
-    requires height { height ≤ 64 }
-    requires above_long { width ≤ length above.now }
-    requires ac_long { width * height ≤ length ac.now }
-    requires depth { bit_depth ≤ T.BITS }
-    ensures painted { output.new ≡ painted output.old width height
-        (λ r c _. T.pixel (from_luma bit_depth alpha (mean (map T.num (take width above.now))) (ac_at width ac.now r c))) }
-    ensures fits { InStorage output.new }
-{
-    let dc = side_mean(&above[..width]);
-    flat_from_luma(output, ac, alpha, dc, width, height, bit_depth);
 }

@@ -161,7 +161,15 @@ pub fn pred_smooth_to<T: Pixel>(
     for r in 0..area.height {
         let k = area.height - 1 - r;
         let (_, row) = samples.split_at_mut((area.y + r) * stride + area.x);
-        smooth_row(row, above, left, row_weights[r], column_weights, k, area.width);
+        smooth_row(
+            row,
+            above,
+            left,
+            row_weights[r],
+            column_weights,
+            k,
+            area.width,
+        );
     }
 }
 

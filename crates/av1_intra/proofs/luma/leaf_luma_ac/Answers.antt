@@ -17,8 +17,8 @@ subregion-rest-requires-clause-area g c =
     (omega (arith, F.rows, F.storage.few_rows))
 
 -- a sample of the rest, as the leaf counts it
-pub differences-requires-clause-low : goal.differences-requires-clause-low
-differences-requires-clause-low g c = λ x y h k.
+pub differences-requires-clause-luma-low : goal.differences-requires-clause-low
+differences-requires-clause-luma-low g c = λ x y h k.
     let l = c.args.luma.now in
     let F = c.requires.readable.fits in
     let num = g.T.Pixel.num in
