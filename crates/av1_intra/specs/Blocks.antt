@@ -1,5 +1,5 @@
 -- What holds of a block that is predicted where it lies, and of the sides beside it.
-use Rattle.std.specs.Prelude.{ℕ, ◌+◌, ◌*◌, ◌^◌, ◌<◌, ◌≤◌, ◌≡◌, List, length}
+use Rattle.std.specs.Prelude.{ℕ, ◌^◌, ◌<◌, ◌≤◌, ◌≡◌, List, length}
 use Rattle.av1_frame.specs.Areas.{AreRows}
 use Rattle.av1_frame.specs.Regions.{InStorage, IsReadable}
 use Rattle.av1_frame.specs.declared.plane_region.PlaneRegion.{PlaneRegion}

@@ -2,7 +2,7 @@
 //!
 //! AV1 specification: intra prediction process.
 
-ghost use Rattle.std.specs.Prelude.{◌≡◌, ◌≢◌, ◌+◌, ◌-◌, ◌*◌, ◌<◌, ◌≤◌, length, min, drop, IsTrue};
+ghost use Rattle.std.specs.Prelude.{◌≡◌, ◌≢◌, ◌-◌, ◌*◌, ◌<◌, ◌≤◌, length, min, drop, IsTrue};
 ghost use Rattle.av1_lists.specs.Sides.{IsTransformSide};
 ghost use Rattle.av1_blocks.specs.Modes.{is_intra, is_directional, is_cfl};
 ghost use Rattle.av1_frame.specs.Areas.{AreRows};

@@ -2,7 +2,7 @@
 //!
 //! AV1 specification: DC intra prediction process.
 
-ghost use Rattle.std.specs.Prelude.{◌≡◌, ℕ, ◌+◌, ◌*◌, ◌^◌, ◌<◌, ◌≤◌, length, map, sum, take, ◌++◌};
+ghost use Rattle.std.specs.Prelude.{◌≡◌, ◌+◌, ◌*◌, ◌^◌, ◌<◌, ◌≤◌, length, map, sum, ◌++◌};
 ghost use Rattle.av1_edges.specs.Sides.{base};
 ghost use Rattle.av1_intra.specs.Dc.{mean};
 

@@ -2,7 +2,7 @@
 //!
 //! AV1 specification: directional intra prediction process.
 
-ghost use Rattle.std.specs.Prelude.{◌≡◌, ℕ, ◌+◌, ◌-◌, ◌*◌, ◌^◌, ◌<◌, ◌≤◌, length, List, map, reverse, if◌then◌else◌, nat_lt, IsTrue, pos, ◌-ℤ◌, ◌<ℤ◌, ◌≤ℤ◌};
+ghost use Rattle.std.specs.Prelude.{◌≡◌, ℕ, ◌+◌, ◌-◌, ◌^◌, ◌<◌, ◌≤◌, length, List, map, reverse, if◌then◌else◌, nat_lt, IsTrue, pos, ◌-ℤ◌};
 ghost use Rattle.std.specs.Prelude.{FitsSigned};
 ghost use Rattle.std.specs.Int.{w64};
 ghost use Rattle.std.specs.Option.{option_map};

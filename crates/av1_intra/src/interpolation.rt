@@ -1,6 +1,6 @@
 //! Rows of a block along a direction.
 
-ghost use Rattle.std.specs.Prelude.{◌≡◌, ℕ, ◌+◌, ◌-◌, ◌*◌, ◌/◌, ◌^◌, ◌<◌, ◌≤◌, length};
+ghost use Rattle.std.specs.Prelude.{◌≡◌, ◌+◌, ◌-◌, ◌*◌, ◌/◌, ◌^◌, ◌<◌, ◌≤◌, length};
 ghost use Rattle.av1_frame.specs.Areas.{AreRows};
 ghost use Rattle.av1_frame.specs.Samples.{paint, paint_row};
 ghost use Rattle.av1_intra.specs.Sides.{entries};
@@ -130,7 +130,9 @@ fn row_between<T: Pixel>(
     requires depth { bit_depth ≤ T.BITS }
     ensures { row.new ≡
         paint_row width
-        (λ j _. T.pixel (between bit_depth (entries above.now.numbers) above.now.upsampling (entries left.now.numbers) left.now.upsampling slopes.dx slopes.dy i j)) row.old }
+        (λ j _.
+        T.pixel (between bit_depth (entries above.now.numbers) above.now.upsampling (entries left.now.numbers) left.now.upsampling slopes.dx slopes.dy i j))
+        row.old }
 {
     let line = (i + 1) * slopes.dx;
     let split = width.min((line - 1) / 64);
@@ -214,7 +216,8 @@ pub(crate) fn rows_between<T: Pixel>(
     requires depth { bit_depth ≤ T.BITS }
     ensures { samples.new ≡
         paint stride area
-        (λ i j _. T.pixel (between bit_depth (entries above.now.numbers) above.now.upsampling (entries left.now.numbers) left.now.upsampling slopes.dx slopes.dy i j))
+        (λ i j _.
+        T.pixel (between bit_depth (entries above.now.numbers) above.now.upsampling (entries left.now.numbers) left.now.upsampling slopes.dx slopes.dy i j))
         samples.old }
 {
     for i in 0..area.height {

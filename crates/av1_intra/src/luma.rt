@@ -2,10 +2,9 @@
 //!
 //! AV1 specification: predict chroma from luma process.
 
-ghost use Rattle.std.specs.Prelude.{◌≡◌, ℕ, ◌+◌, ◌-◌, ◌*◌, ◌/◌, ◌%◌, ◌^◌, ◌<◌, ◌≤◌, ◌==◌, ◌&&◌, not, if◌then◌else◌, min, length, map, sum, pos, ℤ, ◌-ℤ◌, ◌≤ℤ◌};
+ghost use Rattle.std.specs.Prelude.{◌≡◌, ℕ, ◌+◌, ◌-◌, ◌*◌, ◌^◌, ◌<◌, ◌≤◌, ◌==◌, ◌&&◌, not, min, length, map, sum, pos, ℤ, ◌-ℤ◌, ◌≤ℤ◌};
 ghost use Rattle.std.specs.Prelude.{unsigned_abs, slice_index_or, IsTrue};
 ghost use Rattle.av1_blocks.specs.Blocks.{block_width, block_height};
-ghost use Rattle.av1_blocks.specs.Transforms.{tx_width, tx_height};
 ghost use Rattle.av1_blocks.specs.Chroma.{plane_side, is_narrow, is_low};
 ghost use Rattle.av1_frame.specs.Samples.{paint_row};
 ghost use Rattle.av1_frame.specs.Regions.{IsReadable};
@@ -21,7 +20,7 @@ use av1_blocks::{BlockSize, TxSize};
 use av1_frame::{Area, Pixel, PlaneRegion, fill_row};
 
 /// A leaf whose chroma is predicted from its luma.
-#[derive(Clone, Copy, Debug)]
+#[derive(Clone, Copy)]
 pub struct LumaLeaf {
     /// The first column of its luma.
     pub x: usize,

@@ -2,16 +2,14 @@
 //!
 //! AV1 specification: intra prediction process.
 
-ghost use Rattle.std.specs.Prelude.{◌≡◌, ℕ, ◌+◌, ◌-◌, ◌*◌, ◌<◌, ◌≤◌, length, IsTrue, ℤ, pos, ◌-ℤ◌, ◌≤ℤ◌, unsigned_abs};
+ghost use Rattle.std.specs.Prelude.{◌≡◌, ◌+◌, ◌*◌, ◌<◌, ◌≤◌, length, IsTrue, unsigned_abs};
 ghost use Rattle.av1_blocks.specs.Transforms.{tx_width, tx_height};
-ghost use Rattle.av1_lists.specs.Sides.{IsTransformSide};
 ghost use Rattle.av1_blocks.specs.Modes.{is_intra, is_cfl};
 ghost use Rattle.av1_frame.specs.Regions.{InStorage, painted};
-ghost use Rattle.av1_edges.specs.Parts.{effective, step_of};
-ghost use Rattle.av1_intra.specs.Sides.{numbers};
+ghost use Rattle.av1_edges.specs.Parts.{step_of};
 ghost use Rattle.av1_intra.specs.Directional.{block_at};
 ghost use Rattle.av1_intra.specs.ChromaFromLuma.{ac_at};
-ghost use Rattle.av1_intra.specs.Predicted.{edge_round, edge_of, predicted, alpha_of, angle_or_alpha, is_angle_of, places_above, places_left, mode_of_block};
+ghost use Rattle.av1_intra.specs.Predicted.{edge_of, predicted, alpha_of, angle_or_alpha, is_angle_of, places_above, places_left, mode_of_block};
 ghost use Rattle.av1_intra.specs.Predicted.{variant_of_block, column_in, row_in};
 
 use crate::by_mode::dispatch_predict_intra_to;

@@ -7,7 +7,7 @@
 //! Depths are in bits. An argument whose name begins with `_` is not read.
 #![tactic(auto, using(av1_frame::proofs::Regions::region_lending))]
 
-ghost use Rattle.std.specs.Prelude.{◌≡◌, ℕ, ◌+◌, ◌-◌, ◌*◌, ◌<◌, ◌≤◌, ◌++◌, length, map, take, reverse, if◌then◌else◌, nat_lt, IsTrue};
+ghost use Rattle.std.specs.Prelude.{◌≡◌, ◌+◌, ◌<◌, ◌≤◌, ◌++◌, length, map, take, reverse, if◌then◌else◌, nat_lt, IsTrue};
 ghost use Rattle.av1_lists.specs.Sides.{IsTransformSide};
 ghost use Rattle.av1_frame.specs.Regions.{InStorage, painted};
 ghost use Rattle.av1_edges.specs.Sides.{base};

@@ -4,7 +4,7 @@
 //! weight; both are in eighths.
 #![tactic(auto, using(av1_frame::proofs::Regions::region_lending))]
 
-ghost use Rattle.std.specs.Prelude.{◌≡◌, ℕ, ◌+◌, ◌*◌, ◌<◌, ◌≤◌, ◌++◌, length, map, take, if◌then◌else◌, pos};
+ghost use Rattle.std.specs.Prelude.{◌≡◌, ◌+◌, ◌*◌, ◌<◌, ◌≤◌, ◌++◌, length, map, take, if◌then◌else◌, pos};
 ghost use Rattle.std.specs.Ordering.{int_eq};
 ghost use Rattle.av1_frame.specs.Regions.{InStorage, painted};
 ghost use Rattle.av1_edges.specs.Sides.{base};

@@ -1,5 +1,5 @@
 use mir.Val.{SFits}
-use Rattle.std.proofs.Common.{rules, ℕ, ◌*◌, ◌<◌, ◌≡◌, ◌≢◌, ◌≤◌, true, ap, ◌∙◌, sym, subst, length, unsigned_abs, to_z, of_z, w16, w64}
+use Rattle.std.proofs.Common.{rules, ℕ, ◌<◌, ◌≡◌, ◌≢◌, true, ap, ◌∙◌, sym, subst, length, unsigned_abs, to_z, of_z, w16, w64}
 use Rattle.std.proofs.lemmas.Int.{to_z-of_z}
 use Rattle.std.proofs.lemmas.List.{get_or-map}
 use Rattle.av1_lists.specs.Sides.{IsTransformSide}
@@ -10,7 +10,7 @@ use Rattle.av1_intra.specs.Sides.{numbers}
 use Rattle.av1_intra.specs.Angles.{is_interpolated}
 use Rattle.av1_intra.specs.Directional.{block_at}
 use Rattle.av1_intra.specs.ChromaFromLuma.{ac_at}
-use Rattle.av1_intra.specs.Predicted.{edge_of, edge_round, predicted, places_above, places_left}
+use Rattle.av1_intra.specs.Predicted.{edge_of, edge_round, predicted}
 use Rattle.av1_intra.specs.declared.directional.DirectionalBlock.{DirectionalBlock}
 use Rattle.av1_intra.proofs.ByMode.{angle_fine, tx_height_side, tx_width_side, weighed_alike}
 use Rattle.av1_intra.proofs.predict.dispatch_predict_intra.Goals as goal

@@ -14,7 +14,8 @@ use Rattle.av1_intra.proofs.ByMode.{effective_intra, effective_cfl, angle_given}
 use Rattle.av1_intra.proofs.predict.predict_intra.Goals as goal
 
 -- what is made of a mode, the sides in the tile and an angle, at a place of the tile
-at_place : {A : Type 0} (f : PredictionMode → PredictionVariant → ℤ → A) (mode m : PredictionMode) (param : IntraParam) (x y X Y : ℕ) (v : PredictionVariant) (z : ℤ) →
+at_place : {A : Type 0} (f : PredictionMode → PredictionVariant → ℤ → A) (mode m : PredictionMode) (param : IntraParam) (x y X Y : ℕ) (v : PredictionVariant)
+    (z : ℤ) →
     x ≡ X → y ≡ Y → m ≡ effective mode x y → v ≡ variant_at x y → z ≡ angle_or_alpha m param →
     f m v z ≡ f (effective mode X Y) (variant_at X Y) (angle_or_alpha (effective mode X Y) param)
 at_place f mode m param x y X Y v z h k a b e =
