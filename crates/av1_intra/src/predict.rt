@@ -7,6 +7,7 @@ ghost use Rattle.av1_blocks.specs.Transforms.{tx_width, tx_height};
 ghost use Rattle.av1_blocks.specs.Modes.{is_intra, is_cfl};
 ghost use Rattle.av1_frame.specs.Regions.{InStorage, painted};
 ghost use Rattle.av1_edges.specs.Parts.{step_of};
+ghost use Rattle.av1_intra.specs.Blocks.{HoldsBlock};
 ghost use Rattle.av1_intra.specs.Directional.{block_at};
 ghost use Rattle.av1_intra.specs.ChromaFromLuma.{ac_at};
 ghost use Rattle.av1_intra.specs.Predicted.{edge_of, predicted, alpha_of, angle_or_alpha, is_angle_of, places_above, places_left, mode_of_block};
@@ -72,9 +73,7 @@ pub fn dispatch_predict_intra<T: Pixel>(
     edge_buf: &IntraEdge<T>,
 )
     requires intra { IsTrue (is_intra mode) }
-    requires fits { InStorage dst.old }
-    requires columns { tx_width tx_size ≤ dst.old.area.width }
-    requires rows { tx_height tx_size ≤ dst.old.area.height }
+    requires block { HoldsBlock dst.old (tx_width tx_size) (tx_height tx_size) }
     requires angle { IsTrue (is_angle_of mode angle) }
     requires above_long { places_above mode variant (unsigned_abs angle) (tx_width tx_size) (tx_height tx_size) ≤ length edge_buf.now.above.now }
     requires left_long { places_left mode variant (unsigned_abs angle) (tx_width tx_size) (tx_height tx_size) ≤ length edge_buf.now.left.now }
