@@ -5,7 +5,7 @@ use Rattle.av1_frame.proofs.Regions.{painted_same}
 use Rattle.av1_intra.specs.ChromaFromLuma.{ac_at, first_sample, from_luma}
 use Rattle.av1_intra.proofs.Unchanged.{painted_unchanged}
 use Rattle.av1_intra.proofs.Weighted.{unweighed_choice, weighed_choice, no_weight, some_weight}
-use Rattle.av1_intra.proofs.chroma_from_luma.pred_cfl_inner.Goals as goal
+use Rattle.av1_intra.proofs.rust.from_luma.pred_cfl_inner.Goals as goal
 
 pub returns-then-alpha-eq0-clause-painted : goal.returns-then-alpha-eq0-clause-painted
 returns-then-alpha-eq0-clause-painted g c =

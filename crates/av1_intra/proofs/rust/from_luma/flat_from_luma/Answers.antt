@@ -3,7 +3,7 @@ use Rattle.std.proofs.lemmas.Int.{to_z-of_z}
 use Rattle.av1_frame.specs.declared.plane_region.StoredArea.{StoredArea}
 use Rattle.av1_frame.proofs.Regions.{lent_painted}
 use Rattle.av1_intra.specs.ChromaFromLuma.{ac_at, from_luma}
-use Rattle.av1_intra.proofs.chroma_from_luma.flat_from_luma.Goals as goal
+use Rattle.av1_intra.proofs.rust.from_luma.flat_from_luma.Goals as goal
 
 pub pred_cfl_to-requires-clause-ac_long : goal.pred_cfl_to-requires-clause-ac_long
 pred_cfl_to-requires-clause-ac_long g c =

@@ -4,7 +4,7 @@ use Rattle.av1_frame.proofs.Regions.{lent_painted}
 use Rattle.av1_intra.specs.Sides.{numbers}
 use Rattle.av1_intra.specs.Directional.{block_at, directional}
 use Rattle.av1_intra.specs.declared.directional.DirectionalBlock.{DirectionalBlock}
-use Rattle.av1_intra.proofs.directional.pred_directional.Goals as goal
+use Rattle.av1_intra.proofs.rust.pred_directional.Goals as goal
 
 pub returns-clause-painted : goal.returns-clause-painted
 returns-clause-painted g c =
