@@ -10,10 +10,10 @@ use Rattle.av1_inter.proofs.PairSums.{small_product}
 use Rattle.av1_inter.proofs.Sums.{fits_of, gains_part, losses_part, partial_between, times_none}
 
 -- two samples of 15 bits, each times half a weight
-pub pair_within : (v w : ℤ) (m n : ℕ) (z : ℤ) → Between 28 92 v → Between 28 92 w → m < 32768 → n < 32768 → z ≡ v *ℤ pos m +ℤ w *ℤ pos n → IsWithin (2 ^ 23) z
-pair_within v w m n z bv bw hm hn e =
-    let p = small_product v (pos m) bv (record { low = omega (arith, ints); high = omega (arith, ints, hm) }) in
-    let q = small_product w (pos n) bw (record { low = omega (arith, ints); high = omega (arith, ints, hn) }) in
+pub pair_within : (v w x y z : ℤ) → Between 28 92 v → Between 28 92 w → Between 0 32767 x → Between 0 32767 y → z ≡ v *ℤ x +ℤ w *ℤ y → IsWithin (2 ^ 23) z
+pair_within v w x y z bv bw bx by e =
+    let p = small_product v x bv bx in
+    let q = small_product w y bw by in
     record { low = omega (arith, ints, e, p.low, q.low); high = omega (arith, ints, e, p.high, q.high) }
 
 no_product : (a v : ℤ) → a ≡ pos 0 → a *ℤ v ≡ pos 0
@@ -63,9 +63,9 @@ two_pairs halves value w x zeros ew ex =
     (no_product _ (value 7) outer.1) (no_product _ (value 1) next.0) (no_product _ (value 6) next.1) ew ex
 
 -- a sample's place, counted otherwise
-pub sample_below : (samples : List ℕ) (start step c t i : ℕ) → ((c t : ℕ) → c < 8 → t < 8 → slice_index samples (start + c + t * step) < 32768) → c < 8 →
+pub sample_below : (samples : List ℕ) (n start step c t i : ℕ) → ((c t : ℕ) → c < n → t < 8 → slice_index samples (start + c + t * step) < 32768) → c < n →
     t < 8 → i ≡ start + c + t * step → slice_index samples i < 32768
-sample_below samples start step c t i h a b e = let P : ℕ → Type 0 = λ k. slice_index samples k < 32768 in subst P (sym e) (h c t a b)
+sample_below samples n start step c t i h a b e = let P : ℕ → Type 0 = λ k. slice_index samples k < 32768 in subst P (sym e) (h c t a b)
 
 pub sample_between : (z : ℤ) (n : ℕ) → z ≡ pos n → n < 32768 → Between 0 32767 z
 sample_between z n e h = record { low = omega (arith, ints, e); high = omega (arith, ints, e, h) }

@@ -14,16 +14,26 @@ use av1_blocks::SUBPEL_FILTER_SIZE;
 use av1_frame::Pixel;
 use std::simd::prelude::*;
 
-/// Eight samples from a place on.
+/// Sample `c` of the `N` from a place on, and 0 behind them.
 #[inline(always)]
-fn eight_from<T: Pixel>(source: &[T], start: usize) -> [i16; 8]
-    requires reach { start + 8 ≤ length source.now }
-    requires small { (c : ℕ) → c < 8 → slice_index (map T.num source.now) (start + c) < 32768 }
-    ensures { (c : ℕ) → c < 8 → entry result c ≡ pos (slice_index (map T.num source.now) (start + c)) }
+fn sample_or_none<T: Pixel, const N: usize>(source: &[T], start: usize, c: usize) -> i32
+    requires reach { start + N ≤ length source.now }
+    ensures { result ≡ pos (if nat_lt c N then slice_index (map T.num source.now) (start + c) else 0) }
+{
+    if c < N { source[start + c].to_i32() } else { 0 }
+}
+
+/// `N` samples from a place on, and 0 behind them.
+#[inline(always)]
+fn eight_from<T: Pixel, const N: usize>(source: &[T], start: usize) -> [i16; 8]
+    requires reach { start + N ≤ length source.now }
+    requires small { (c : ℕ) → c < N → slice_index (map T.num source.now) (start + c) < 32768 }
+    ensures value { (c : ℕ) → c < 8 → c < N → entry result c ≡ pos (slice_index (map T.num source.now) (start + c)) }
+    ensures within { (c : ℕ) → c < 8 → Between 0 32767 (entry result c) }
 {
     let mut values = [0; 8];
     for c in 0..8 {
-        values[c] = source[start + c].to_i32();
+        values[c] = sample_or_none::<T, N>(source, start, c);
     }
     i32x8::from_array(values).cast::<i16>().to_array()
 }
@@ -48,10 +58,9 @@ fn pair_sums(first: [i16; 8], second: [i16; 8], weight: i16, other: i16) -> [i32
     low.shuffle(high, [0, 1, 2, 3, 4, 5, 6, 7]).to_array()
 }
 
-/// Two of the eight products of a sum, added: those of the halved weights `AT` and `AT + 1`, from each of eight places
-/// on.
+/// Two of the eight products of a sum, added: those of the halved weights `AT` and `AT + 1`, from each of `N` places on.
 #[inline(always)]
-fn pair_from<T: Pixel, const AT: usize>(
+fn pair_from<T: Pixel, const N: usize, const AT: usize>(
     source: &[T],
     start: usize,
     step: usize,
@@ -59,16 +68,16 @@ fn pair_from<T: Pixel, const AT: usize>(
 ) -> [i32; 8]
     requires two { AT < 7 }
     requires filter { IsFilter (doubled halves.now) }
-    requires reach { start + 8 + 7 * step ≤ length source.now }
-    requires small { (c t : ℕ) → c < 8 → t < 8 → slice_index (map T.num source.now) (start + c + t * step) < 32768 }
-    ensures value { (c : ℕ) → c < 8 →
+    requires reach { start + N + 7 * step ≤ length source.now }
+    requires small { (c t : ℕ) → c < N → t < 8 → slice_index (map T.num source.now) (start + c + t * step) < 32768 }
+    ensures value { (c : ℕ) → c < 8 → c < N →
         entry result c ≡ entry halves.now AT *ℤ pos (slice_index (map T.num source.now) (start + c + AT * step)) +ℤ entry halves.now (AT + 1) *ℤ pos
         (slice_index (map T.num source.now) (start + c + (AT + 1) * step)) }
     ensures within { (c : ℕ) → c < 8 → IsWithin (2 ^ 23) (entry result c) }
 {
     pair_sums(
-        eight_from(source, start + AT * step),
-        eight_from(source, start + (AT + 1) * step),
+        eight_from::<T, N>(source, start + AT * step),
+        eight_from::<T, N>(source, start + (AT + 1) * step),
         halves[AT],
         halves[AT + 1],
     )
@@ -88,10 +97,10 @@ fn add_eights(first: [i32; 8], second: [i32; 8]) -> [i32; 8]
     sums
 }
 
-/// The sums of eight samples that stand `step` apart, each times its halved weight, from each of eight places on. The
+/// The sums of eight samples that stand `step` apart, each times its halved weight, from each of `N` places on. The
 /// outer `ZEROS` weights on either side are 0.
 #[inline(always)]
-fn eight_sums<T: Pixel, const ZEROS: usize>(
+fn eight_sums<T: Pixel, const N: usize, const ZEROS: usize>(
     source: &[T],
     start: usize,
     step: usize,
@@ -99,33 +108,33 @@ fn eight_sums<T: Pixel, const ZEROS: usize>(
 ) -> [i32; 8]
     requires filter { IsFilter (doubled halves.now) }
     requires zeros { AreZero ZEROS halves.now }
-    requires reach { start + 8 + 7 * step ≤ length source.now }
-    requires small { (c t : ℕ) → c < 8 → t < 8 → slice_index (map T.num source.now) (start + c + t * step) < 32768 }
-    ensures value { (c : ℕ) → c < 8 → entry result c ≡ sum_from halves.now (λ i. pos (slice_index (map T.num source.now) i)) (start + c) step }
+    requires reach { start + N + 7 * step ≤ length source.now }
+    requires small { (c t : ℕ) → c < N → t < 8 → slice_index (map T.num source.now) (start + c + t * step) < 32768 }
+    ensures value { (c : ℕ) → c < 8 → c < N → entry result c ≡ sum_from halves.now (λ i. pos (slice_index (map T.num source.now) i)) (start + c) step }
     ensures within { (c : ℕ) → c < 8 → IsWithin (2 ^ 25) (entry result c) }
 {
     if ZEROS == 2 {
         add_eights(
-            pair_from::<T, 2>(source, start, step, halves),
-            pair_from::<T, 4>(source, start, step, halves),
+            pair_from::<T, N, 2>(source, start, step, halves),
+            pair_from::<T, N, 4>(source, start, step, halves),
         )
     } else if ZEROS == 1 {
         add_eights(
             add_eights(
-                pair_from::<T, 1>(source, start, step, halves),
-                pair_from::<T, 3>(source, start, step, halves),
+                pair_from::<T, N, 1>(source, start, step, halves),
+                pair_from::<T, N, 3>(source, start, step, halves),
             ),
-            pair_from::<T, 5>(source, start, step, halves),
+            pair_from::<T, N, 5>(source, start, step, halves),
         )
     } else {
         add_eights(
             add_eights(
-                pair_from::<T, 0>(source, start, step, halves),
-                pair_from::<T, 2>(source, start, step, halves),
+                pair_from::<T, N, 0>(source, start, step, halves),
+                pair_from::<T, N, 2>(source, start, step, halves),
             ),
             add_eights(
-                pair_from::<T, 4>(source, start, step, halves),
-                pair_from::<T, 6>(source, start, step, halves),
+                pair_from::<T, N, 4>(source, start, step, halves),
+                pair_from::<T, N, 6>(source, start, step, halves),
             ),
         )
     }
@@ -229,7 +238,7 @@ fn each_sum<T: Pixel, const N: usize, const ZEROS: usize>(
     sums
 }
 
-/// The same, two products at a time where there are eight places.
+/// The same, two products at a time where there are at most eight places.
 #[inline(always)]
 fn word_sums<T: Pixel, const N: usize, const ZEROS: usize>(
     source: &[T],
@@ -246,8 +255,8 @@ fn word_sums<T: Pixel, const N: usize, const ZEROS: usize>(
     ensures value { (c : ℕ) → c < N → entry result c ≡ sum_from halves.now (λ i. pos (slice_index (map T.num source.now) i)) (start + c) step }
     ensures within { (c : ℕ) → c < N → IsWithin (2 ^ 25) (entry result c) }
 {
-    if N == 8 {
-        first_of::<N>(eight_sums::<T, ZEROS>(source, start, step, halves))
+    if N <= 8 {
+        first_of::<N>(eight_sums::<T, N, ZEROS>(source, start, step, halves))
     } else {
         each_sum::<T, N, ZEROS>(source, start, step, halves)
     }
