@@ -1,13 +1,11 @@
 -- Sums of eight products that are formed two at a time, from eight places on.
-use Rattle.std.proofs.Common.{ℕ, zero, suc, ◌+◌, ◌*◌, ◌^◌, ◌<◌, ◌≤◌, ◌≡◌, ◌∙◌, ap, arith, subst, sym, take, ℤ, pos, ◌+ℤ◌, ◌*ℤ◌, List, slice_index, w32}
+use Rattle.std.proofs.Common.{ℕ, ◌+◌, ◌*◌, ◌^◌, ◌<◌, ◌≡◌, ◌∙◌, ap, arith, subst, sym, ℤ, pos, ◌+ℤ◌, ◌*ℤ◌, List, slice_index, w32}
 use Rattle.std.proofs.Common.{to_z, of_z, FitsSigned}
 use Rattle.std.proofs.lemmas.Int.{ints, to_z-of_z}
-use Rattle.std.proofs.lemmas.Nat.{mul-le}
 use Rattle.av1_inter.specs.Motion.{entry, sum_to, weighted}
-use Rattle.av1_inter.specs.Scaffolding.{AreZero, Between, doubled, gains, IsFilter, IsWithin, losses}
-use Rattle.av1_inter.proofs.Halves.{bytes_fit, doubled_gains, doubled_losses}
+use Rattle.av1_inter.specs.Scaffolding.{AreZero, Between, IsWithin}
 use Rattle.av1_inter.proofs.PairSums.{small_product}
-use Rattle.av1_inter.proofs.Sums.{fits_of, gains_part, losses_part, partial_between, times_none}
+use Rattle.av1_inter.proofs.Sums.{fits_of, times_none}
 
 -- two samples of 15 bits, each times half a weight
 pub pair_within : (v w x y z : ℤ) → Between 28 92 v → Between 28 92 w → Between 0 32767 x → Between 0 32767 y → z ≡ v *ℤ x +ℤ w *ℤ y → IsWithin (2 ^ 23) z
@@ -94,52 +92,3 @@ two_within a b z f g e = record { low = omega (arith, ints, f.low, g.low, e); hi
 
 pub all_within : (a b z : ℤ) → IsWithin (2 ^ 24) a → IsWithin (2 ^ 24) b → z ≡ a +ℤ b → IsWithin (2 ^ 25) z
 all_within a b z f g e = record { low = omega (arith, ints, f.low, g.low, e); high = omega (arith, ints, f.high, g.high, e) }
-
--- sums by halved weights over samples of 15 bits, also of the first products alone
-pub words_within : (halves : List ℤ) (value : ℕ → ℤ) (k : ℕ) → IsFilter (doubled halves) → k ≤ 8 → ((t : ℕ) → t < 8 → Between 0 32767 (value t)) →
-    IsWithin (2 ^ 25) (sum_to k (λ t. entry halves t *ℤ value t))
-words_within halves value k f h v =
-    let size = (bytes_fit halves f).size in
-    let s = partial_between halves value 0 32767 k (omega (arith, size, h)) (λ t l. v t (omega (arith, size, l))) in
-    let more = doubled_gains halves in
-    let less = doubled_losses halves in
-    let part = gains_part halves k in
-    let other = losses_part halves k in
-    let g : gains (take k halves) ≤ 92 = omega (arith, part, more, f.gains) in
-    let l : losses (take k halves) ≤ 28 = omega (arith, other, less, f.losses) in
-    let gb = mul-le _ 32767 92 32767 g (omega arith) in
-    let lb = mul-le _ 32767 28 32767 l (omega arith) in
-    record { low = omega (arith, ints, s.low, lb); high = omega (arith, ints, s.high, gb) }
-
-pub words_known : (halves : List ℤ) (value : ℕ → ℤ) (z : ℤ) → IsFilter (doubled halves) → ((t : ℕ) → t < 8 → Between 0 32767 (value t)) →
-    z ≡ weighted halves value → IsWithin (2 ^ 25) z
-words_known halves value z f v e = let P : ℤ → Type 0 = λ u. IsWithin (2 ^ 25) u in subst P (sym e) (words_within halves value 8 f (omega arith) v)
-
--- a product, as it was read
-pub word_read : (v : ℤ) → Between 0 32767 v → to_z w32 (of_z w32 v) ≡ v
-word_read v h = to_z-of_z w32 v (fits_of v (omega (arith, ints, h.low)) (omega (arith, ints, h.high)))
-
-word_product_of : (h v x y : ℤ) → x ≡ h → y ≡ v → x *ℤ y ≡ h *ℤ v
-word_product_of h v x y ex ey = ap (λ u. u *ℤ y) ex ∙ ap (λ u. h *ℤ u) ey
-
-pub word_product_fits : (h v x y : ℤ) → x ≡ h → y ≡ v → Between 28 92 h → Between 0 32767 v → FitsSigned w32 (x *ℤ y)
-word_product_fits h v x y ex ey bh bv =
-    let p = small_product h v bh bv in
-    let P : ℤ → Type 0 = λ u. FitsSigned w32 u in
-    subst P (sym (word_product_of h v x y ex ey)) (fits_of _ (omega (arith, ints, p.low)) (omega (arith, ints, p.high)))
-
-pub word_product_is : (h v x y : ℤ) → x ≡ h → y ≡ v → Between 28 92 h → Between 0 32767 v → to_z w32 (of_z w32 (x *ℤ y)) ≡ h *ℤ v
-word_product_is h v x y ex ey bh bv = to_z-of_z w32 _ (word_product_fits h v x y ex ey bh bv) ∙ word_product_of h v x y ex ey
-
-pub next_word_fits : (halves : List ℤ) (value : ℕ → ℤ) (t : ℕ) (s p : ℤ) → IsFilter (doubled halves) → t < 8 →
-    ((i : ℕ) → i < 8 → Between 0 32767 (value i)) → s ≡ sum_to t (λ i. entry halves i *ℤ value i) → p ≡ entry halves t *ℤ value t → FitsSigned w32 (s +ℤ p)
-unfolding sum_to
-next_word_fits halves value t s p f h v es ep =
-    let w = words_within halves value (suc t) f (omega arith) v in
-    fits_of _ (omega (arith, ints, w.low, es, ep)) (omega (arith, ints, w.high, es, ep))
-
-pub word_kept : (v : ℤ) → Between 0 32767 v → Between 0 32767 (to_z w32 (of_z w32 v))
-word_kept v h = let P : ℤ → Type 0 = λ u. Between 0 32767 u in subst P (sym (word_read v h)) h
-
-pub number_kept : (n : ℕ) → n < 32768 → Between 0 32767 (pos n)
-number_kept n h = record { low = omega (arith, ints); high = omega (arith, ints, h) }
