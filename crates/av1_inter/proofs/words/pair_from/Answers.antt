@@ -1,7 +1,7 @@
-use Rattle.std.proofs.Common.{arith, rules, ◌≡◌, ◌+◌, ◌*◌, ◌+ℤ◌, ◌*ℤ◌, pos, map, slice_index}
+use Rattle.std.proofs.Common.{arith, rules, ◌+◌, map}
 use Rattle.av1_inter.specs.Motion.{entry}
 use Rattle.av1_inter.proofs.Halves.{half_read_between, half_weight_between}
-use Rattle.av1_inter.proofs.EightSums.{pair_within, sample_below, sample_between}
+use Rattle.av1_inter.proofs.EightSums.{pair_within, sample_below}
 use Rattle.av1_inter.proofs.words.pair_from.Goals as goal
 
 pub eight_from-requires-clause-small : goal.eight_from-requires-clause-small
