@@ -1,19 +1,17 @@
 -- Sums of eight products that are formed two at a time, from eight places on.
-use Rattle.std.proofs.Common.{ℕ, suc, ◌+◌, ◌*◌, ◌^◌, ◌<◌, ◌≤◌, ◌≡◌, ◌∙◌, ap, arith, subst, sym, take, ℤ, pos, ◌+ℤ◌, ◌*ℤ◌, List, slice_index, w32}
+use Rattle.std.proofs.Common.{ℕ, ◌+◌, ◌*◌, ◌^◌, ◌<◌, ◌≡◌, ◌∙◌, ap, arith, subst, sym, ℤ, pos, ◌+ℤ◌, ◌*ℤ◌, List, slice_index, w32}
 use Rattle.std.proofs.Common.{to_z, of_z, FitsSigned}
 use Rattle.std.proofs.lemmas.Int.{ints, to_z-of_z}
-use Rattle.std.proofs.lemmas.Nat.{mul-le}
 use Rattle.av1_inter.specs.Motion.{entry, sum_to, weighted}
-use Rattle.av1_inter.specs.Scaffolding.{AreZero, Between, doubled, gains, IsFilter, IsWithin, losses}
-use Rattle.av1_inter.proofs.Halves.{bytes_fit, doubled_gains, doubled_losses}
+use Rattle.av1_inter.specs.Scaffolding.{AreZero, Between, IsWithin}
 use Rattle.av1_inter.proofs.PairSums.{small_product}
-use Rattle.av1_inter.proofs.Sums.{fits_of, gains_part, losses_part, partial_between, times_none}
+use Rattle.av1_inter.proofs.Sums.{fits_of, times_none}
 
 -- two samples of 15 bits, each times half a weight
-pub pair_within : (v w : ℤ) (m n : ℕ) (z : ℤ) → Between 28 92 v → Between 28 92 w → m < 32768 → n < 32768 → z ≡ v *ℤ pos m +ℤ w *ℤ pos n → IsWithin (2 ^ 23) z
-pair_within v w m n z bv bw hm hn e =
-    let p = small_product v (pos m) bv (record { low = omega (arith, ints); high = omega (arith, ints, hm) }) in
-    let q = small_product w (pos n) bw (record { low = omega (arith, ints); high = omega (arith, ints, hn) }) in
+pub pair_within : (v w x y z : ℤ) → Between 28 92 v → Between 28 92 w → Between 0 32767 x → Between 0 32767 y → z ≡ v *ℤ x +ℤ w *ℤ y → IsWithin (2 ^ 23) z
+pair_within v w x y z bv bw bx by e =
+    let p = small_product v x bv bx in
+    let q = small_product w y bw by in
     record { low = omega (arith, ints, e, p.low, q.low); high = omega (arith, ints, e, p.high, q.high) }
 
 no_product : (a v : ℤ) → a ≡ pos 0 → a *ℤ v ≡ pos 0
@@ -63,9 +61,9 @@ two_pairs halves value w x zeros ew ex =
     (no_product _ (value 7) outer.1) (no_product _ (value 1) next.0) (no_product _ (value 6) next.1) ew ex
 
 -- a sample's place, counted otherwise
-pub sample_below : (samples : List ℕ) (start step c t i : ℕ) → ((c t : ℕ) → c < 8 → t < 8 → slice_index samples (start + c + t * step) < 32768) → c < 8 →
+pub sample_below : (samples : List ℕ) (n start step c t i : ℕ) → ((c t : ℕ) → c < n → t < 8 → slice_index samples (start + c + t * step) < 32768) → c < n →
     t < 8 → i ≡ start + c + t * step → slice_index samples i < 32768
-sample_below samples start step c t i h a b e = let P : ℕ → Type 0 = λ k. slice_index samples k < 32768 in subst P (sym e) (h c t a b)
+sample_below samples n start step c t i h a b e = let P : ℕ → Type 0 = λ k. slice_index samples k < 32768 in subst P (sym e) (h c t a b)
 
 pub sample_between : (z : ℤ) (n : ℕ) → z ≡ pos n → n < 32768 → Between 0 32767 z
 sample_between z n e h = record { low = omega (arith, ints, e); high = omega (arith, ints, e, h) }
@@ -85,51 +83,12 @@ two_fit a b f g =
 pub two_added : (a b : ℤ) → IsWithin (2 ^ 24) a → IsWithin (2 ^ 24) b → to_z w32 (of_z w32 (to_z w32 (of_z w32 a) +ℤ to_z w32 (of_z w32 b))) ≡ a +ℤ b
 two_added a b f g = to_z-of_z w32 _ (two_fit a b f g) ∙ added a b f g
 
--- sums by halved weights over samples of 15 bits, also of the first products alone
-pub words_within : (halves : List ℤ) (value : ℕ → ℤ) (k : ℕ) → IsFilter (doubled halves) → k ≤ 8 → ((t : ℕ) → t < 8 → Between 0 32767 (value t)) →
-    IsWithin (2 ^ 25) (sum_to k (λ t. entry halves t *ℤ value t))
-words_within halves value k f h v =
-    let size = (bytes_fit halves f).size in
-    let s = partial_between halves value 0 32767 k (omega (arith, size, h)) (λ t l. v t (omega (arith, size, l))) in
-    let more = doubled_gains halves in
-    let less = doubled_losses halves in
-    let part = gains_part halves k in
-    let other = losses_part halves k in
-    let g : gains (take k halves) ≤ 92 = omega (arith, part, more, f.gains) in
-    let l : losses (take k halves) ≤ 28 = omega (arith, other, less, f.losses) in
-    let gb = mul-le _ 32767 92 32767 g (omega arith) in
-    let lb = mul-le _ 32767 28 32767 l (omega arith) in
-    record { low = omega (arith, ints, s.low, lb); high = omega (arith, ints, s.high, gb) }
+-- how great such sums are
+pub pair_wide : (z : ℤ) → IsWithin (2 ^ 23) z → IsWithin (2 ^ 24) z
+pair_wide z h = record { low = omega (arith, ints, h.low); high = omega (arith, ints, h.high) }
 
-pub words_known : (halves : List ℤ) (value : ℕ → ℤ) (z : ℤ) → IsFilter (doubled halves) → ((t : ℕ) → t < 8 → Between 0 32767 (value t)) →
-    z ≡ weighted halves value → IsWithin (2 ^ 25) z
-words_known halves value z f v e = let P : ℤ → Type 0 = λ u. IsWithin (2 ^ 25) u in subst P (sym e) (words_within halves value 8 f (omega arith) v)
+pub two_within : (a b z : ℤ) → IsWithin (2 ^ 23) a → IsWithin (2 ^ 23) b → z ≡ a +ℤ b → IsWithin (2 ^ 24) z
+two_within a b z f g e = record { low = omega (arith, ints, f.low, g.low, e); high = omega (arith, ints, f.high, g.high, e) }
 
--- a product, as it was read
-pub word_read : (v : ℤ) → Between 0 32767 v → to_z w32 (of_z w32 v) ≡ v
-word_read v h = to_z-of_z w32 v (fits_of v (omega (arith, ints, h.low)) (omega (arith, ints, h.high)))
-
-word_product_of : (h v x y : ℤ) → x ≡ h → y ≡ v → x *ℤ y ≡ h *ℤ v
-word_product_of h v x y ex ey = ap (λ u. u *ℤ y) ex ∙ ap (λ u. h *ℤ u) ey
-
-pub word_product_fits : (h v x y : ℤ) → x ≡ h → y ≡ v → Between 28 92 h → Between 0 32767 v → FitsSigned w32 (x *ℤ y)
-word_product_fits h v x y ex ey bh bv =
-    let p = small_product h v bh bv in
-    let P : ℤ → Type 0 = λ u. FitsSigned w32 u in
-    subst P (sym (word_product_of h v x y ex ey)) (fits_of _ (omega (arith, ints, p.low)) (omega (arith, ints, p.high)))
-
-pub word_product_is : (h v x y : ℤ) → x ≡ h → y ≡ v → Between 28 92 h → Between 0 32767 v → to_z w32 (of_z w32 (x *ℤ y)) ≡ h *ℤ v
-word_product_is h v x y ex ey bh bv = to_z-of_z w32 _ (word_product_fits h v x y ex ey bh bv) ∙ word_product_of h v x y ex ey
-
-pub next_word_fits : (halves : List ℤ) (value : ℕ → ℤ) (t : ℕ) (s p : ℤ) → IsFilter (doubled halves) → t < 8 →
-    ((i : ℕ) → i < 8 → Between 0 32767 (value i)) → s ≡ sum_to t (λ i. entry halves i *ℤ value i) → p ≡ entry halves t *ℤ value t → FitsSigned w32 (s +ℤ p)
-unfolding sum_to
-next_word_fits halves value t s p f h v es ep =
-    let w = words_within halves value (suc t) f (omega arith) v in
-    fits_of _ (omega (arith, ints, w.low, es, ep)) (omega (arith, ints, w.high, es, ep))
-
-pub word_kept : (v : ℤ) → Between 0 32767 v → Between 0 32767 (to_z w32 (of_z w32 v))
-word_kept v h = let P : ℤ → Type 0 = λ u. Between 0 32767 u in subst P (sym (word_read v h)) h
-
-pub number_kept : (n : ℕ) → n < 32768 → Between 0 32767 (pos n)
-number_kept n h = record { low = omega (arith, ints); high = omega (arith, ints, h) }
+pub all_within : (a b z : ℤ) → IsWithin (2 ^ 24) a → IsWithin (2 ^ 24) b → z ≡ a +ℤ b → IsWithin (2 ^ 25) z
+all_within a b z f g e = record { low = omega (arith, ints, f.low, g.low, e); high = omega (arith, ints, f.high, g.high, e) }

@@ -6,7 +6,7 @@
 //! AV1 specification: block inter prediction process.
 
 ghost use Rattle.std.specs.Prelude.{◌≡◌, ℕ, ◌+◌, ◌-◌, ◌*◌, ◌^◌, ◌≤◌, ◌<◌, nat_lt, if◌then◌else◌, pos, ◌+ℤ◌, ◌*ℤ◌, length, map, slice_index};
-ghost use Rattle.av1_inter.specs.Motion.{entry, weighted};
+ghost use Rattle.av1_inter.specs.Motion.{entry};
 ghost use Rattle.av1_inter.specs.Scaffolding.{AreZero, Between, doubled, IsFilter, IsRounding, IsWithin, settled, sum_from};
 
 use crate::rounding::Rounding;
@@ -14,16 +14,26 @@ use av1_blocks::SUBPEL_FILTER_SIZE;
 use av1_frame::Pixel;
 use std::simd::prelude::*;
 
-/// Eight samples from a place on.
+/// Sample `c` of the `N` from a place on, and 0 behind them.
 #[inline(always)]
-fn eight_from<T: Pixel>(source: &[T], start: usize) -> [i16; 8]
-    requires reach { start + 8 ≤ length source.now }
-    requires small { (c : ℕ) → c < 8 → slice_index (map T.num source.now) (start + c) < 32768 }
-    ensures { (c : ℕ) → c < 8 → entry result c ≡ pos (slice_index (map T.num source.now) (start + c)) }
+fn sample_or_none<T: Pixel, const N: usize>(source: &[T], start: usize, c: usize) -> i32
+    requires reach { start + N ≤ length source.now }
+    ensures { result ≡ pos (if nat_lt c N then slice_index (map T.num source.now) (start + c) else 0) }
+{
+    if c < N { source[start + c].to_i32() } else { 0 }
+}
+
+/// `N` samples from a place on, and 0 behind them.
+#[inline(always)]
+fn eight_from<T: Pixel, const N: usize>(source: &[T], start: usize) -> [i16; 8]
+    requires reach { start + N ≤ length source.now }
+    requires small { (c : ℕ) → c < N → slice_index (map T.num source.now) (start + c) < 32768 }
+    ensures value { (c : ℕ) → c < 8 → c < N → entry result c ≡ pos (slice_index (map T.num source.now) (start + c)) }
+    ensures within { (c : ℕ) → c < 8 → Between 0 32767 (entry result c) }
 {
     let mut values = [0; 8];
     for c in 0..8 {
-        values[c] = source[start + c].to_i32();
+        values[c] = sample_or_none::<T, N>(source, start, c);
     }
     i32x8::from_array(values).cast::<i16>().to_array()
 }
@@ -48,10 +58,10 @@ fn pair_sums(first: [i16; 8], second: [i16; 8], weight: i16, other: i16) -> [i32
     low.shuffle(high, [0, 1, 2, 3, 4, 5, 6, 7]).to_array()
 }
 
-/// Two of the eight products of a sum, added: those of the halved weights `AT` and `AT + 1`, from each of eight places
+/// Two of the eight products of a sum, added: those of the halved weights `AT` and `AT + 1`, from each of `N` places
 /// on.
 #[inline(always)]
-fn pair_from<T: Pixel, const AT: usize>(
+fn pair_from<T: Pixel, const N: usize, const AT: usize>(
     source: &[T],
     start: usize,
     step: usize,
@@ -59,16 +69,16 @@ fn pair_from<T: Pixel, const AT: usize>(
 ) -> [i32; 8]
     requires two { AT < 7 }
     requires filter { IsFilter (doubled halves.now) }
-    requires reach { start + 8 + 7 * step ≤ length source.now }
-    requires small { (c t : ℕ) → c < 8 → t < 8 → slice_index (map T.num source.now) (start + c + t * step) < 32768 }
-    ensures value { (c : ℕ) → c < 8 →
+    requires reach { start + N + 7 * step ≤ length source.now }
+    requires small { (c t : ℕ) → c < N → t < 8 → slice_index (map T.num source.now) (start + c + t * step) < 32768 }
+    ensures value { (c : ℕ) → c < 8 → c < N →
         entry result c ≡ entry halves.now AT *ℤ pos (slice_index (map T.num source.now) (start + c + AT * step)) +ℤ entry halves.now (AT + 1) *ℤ pos
         (slice_index (map T.num source.now) (start + c + (AT + 1) * step)) }
     ensures within { (c : ℕ) → c < 8 → IsWithin (2 ^ 23) (entry result c) }
 {
     pair_sums(
-        eight_from(source, start + AT * step),
-        eight_from(source, start + (AT + 1) * step),
+        eight_from::<T, N>(source, start + AT * step),
+        eight_from::<T, N>(source, start + (AT + 1) * step),
         halves[AT],
         halves[AT + 1],
     )
@@ -88,10 +98,10 @@ fn add_eights(first: [i32; 8], second: [i32; 8]) -> [i32; 8]
     sums
 }
 
-/// The sums of eight samples that stand `step` apart, each times its halved weight, from each of eight places on. The
+/// The sums of eight samples that stand `step` apart, each times its halved weight, from each of `N` places on. The
 /// outer `ZEROS` weights on either side are 0.
 #[inline(always)]
-fn eight_sums<T: Pixel, const ZEROS: usize>(
+fn eight_sums<T: Pixel, const N: usize, const ZEROS: usize>(
     source: &[T],
     start: usize,
     step: usize,
@@ -99,157 +109,35 @@ fn eight_sums<T: Pixel, const ZEROS: usize>(
 ) -> [i32; 8]
     requires filter { IsFilter (doubled halves.now) }
     requires zeros { AreZero ZEROS halves.now }
-    requires reach { start + 8 + 7 * step ≤ length source.now }
-    requires small { (c t : ℕ) → c < 8 → t < 8 → slice_index (map T.num source.now) (start + c + t * step) < 32768 }
-    ensures value { (c : ℕ) → c < 8 → entry result c ≡ sum_from halves.now (λ i. pos (slice_index (map T.num source.now) i)) (start + c) step }
+    requires reach { start + N + 7 * step ≤ length source.now }
+    requires small { (c t : ℕ) → c < N → t < 8 → slice_index (map T.num source.now) (start + c + t * step) < 32768 }
+    ensures value { (c : ℕ) → c < 8 → c < N → entry result c ≡ sum_from halves.now (λ i. pos (slice_index (map T.num source.now) i)) (start + c) step }
     ensures within { (c : ℕ) → c < 8 → IsWithin (2 ^ 25) (entry result c) }
 {
     if ZEROS == 2 {
         add_eights(
-            pair_from::<T, 2>(source, start, step, halves),
-            pair_from::<T, 4>(source, start, step, halves),
+            pair_from::<T, N, 2>(source, start, step, halves),
+            pair_from::<T, N, 4>(source, start, step, halves),
         )
     } else if ZEROS == 1 {
         add_eights(
             add_eights(
-                pair_from::<T, 1>(source, start, step, halves),
-                pair_from::<T, 3>(source, start, step, halves),
+                pair_from::<T, N, 1>(source, start, step, halves),
+                pair_from::<T, N, 3>(source, start, step, halves),
             ),
-            pair_from::<T, 5>(source, start, step, halves),
+            pair_from::<T, N, 5>(source, start, step, halves),
         )
     } else {
         add_eights(
             add_eights(
-                pair_from::<T, 0>(source, start, step, halves),
-                pair_from::<T, 2>(source, start, step, halves),
+                pair_from::<T, N, 0>(source, start, step, halves),
+                pair_from::<T, N, 2>(source, start, step, halves),
             ),
             add_eights(
-                pair_from::<T, 4>(source, start, step, halves),
-                pair_from::<T, 6>(source, start, step, halves),
+                pair_from::<T, N, 4>(source, start, step, halves),
+                pair_from::<T, N, 6>(source, start, step, halves),
             ),
         )
-    }
-}
-
-/// The first `N` of eight numbers.
-#[inline(always)]
-fn first_of<const N: usize>(eight: [i32; 8]) -> [i32; N]
-    requires { N ≤ 8 }
-    ensures { (c : ℕ) → c < N → entry result c ≡ entry eight c }
-{
-    let mut values = [0; N];
-    for c in 0..N {
-        values[c] = eight[c];
-    }
-    values
-}
-
-/// The sample at a place.
-#[inline(always)]
-fn word_at<T: Pixel>(source: &[T], place: usize) -> i32
-    requires inside { place < length source.now }
-    requires small { slice_index (map T.num source.now) place < 32768 }
-    ensures value { result ≡ pos (slice_index (map T.num source.now) place) }
-    ensures within { Between 0 32767 result }
-{
-    source[place].to_i32()
-}
-
-/// The sum of eight samples, each times its halved weight. The outer `ZEROS` weights on either side are 0, so that
-/// these products are left out.
-#[inline(always)]
-fn weigh_words<const ZEROS: usize>(
-    halves: &[i16; SUBPEL_FILTER_SIZE],
-    values: [i32; SUBPEL_FILTER_SIZE],
-) -> i32
-    requires filter { IsFilter (doubled halves.now) }
-    requires few { ZEROS ≤ 2 }
-    requires zeros { AreZero ZEROS halves.now }
-    requires within { (t : ℕ) → t < 8 → Between 0 32767 (entry values t) }
-    ensures value { result ≡ weighted halves.now (entry values) }
-    ensures within { IsWithin (2 ^ 25) result }
-{
-    let mut sum = 0;
-    for t in ZEROS..SUBPEL_FILTER_SIZE - ZEROS {
-        sum += i32::from(halves[t]) * values[t];
-    }
-    sum
-}
-
-/// The sum of eight samples that stand `step` apart, each times its halved weight.
-#[inline(always)]
-fn sum_words<T: Pixel, const ZEROS: usize>(
-    source: &[T],
-    start: usize,
-    step: usize,
-    halves: &[i16; SUBPEL_FILTER_SIZE],
-) -> i32
-    requires filter { IsFilter (doubled halves.now) }
-    requires few { ZEROS ≤ 2 }
-    requires zeros { AreZero ZEROS halves.now }
-    requires reach { start + 7 * step < length source.now }
-    requires small { (t : ℕ) → t < 8 → slice_index (map T.num source.now) (start + t * step) < 32768 }
-    ensures value { result ≡ sum_from halves.now (λ i. pos (slice_index (map T.num source.now) i)) start step }
-    ensures within { IsWithin (2 ^ 25) result }
-{
-    let values = [
-        word_at(source, start),
-        word_at(source, start + step),
-        word_at(source, start + 2 * step),
-        word_at(source, start + 3 * step),
-        word_at(source, start + 4 * step),
-        word_at(source, start + 5 * step),
-        word_at(source, start + 6 * step),
-        word_at(source, start + 7 * step),
-    ];
-    weigh_words::<ZEROS>(halves, values)
-}
-
-/// Such sums from each of `N` places on, one by one.
-#[inline(always)]
-fn each_sum<T: Pixel, const N: usize, const ZEROS: usize>(
-    source: &[T],
-    start: usize,
-    step: usize,
-    halves: &[i16; SUBPEL_FILTER_SIZE],
-) -> [i32; N]
-    requires filter { IsFilter (doubled halves.now) }
-    requires few { ZEROS ≤ 2 }
-    requires zeros { AreZero ZEROS halves.now }
-    requires short { N ≤ 128 }
-    requires reach { start + N + 7 * step ≤ length source.now }
-    requires small { (c t : ℕ) → c < N → t < 8 → slice_index (map T.num source.now) (start + c + t * step) < 32768 }
-    ensures value { (c : ℕ) → c < N → entry result c ≡ sum_from halves.now (λ i. pos (slice_index (map T.num source.now) i)) (start + c) step }
-    ensures within { (c : ℕ) → c < N → IsWithin (2 ^ 25) (entry result c) }
-{
-    let mut sums = [0; N];
-    for c in 0..N {
-        sums[c] = sum_words::<T, ZEROS>(source, start + c, step, halves);
-    }
-    sums
-}
-
-/// The same, two products at a time where there are eight places.
-#[inline(always)]
-fn word_sums<T: Pixel, const N: usize, const ZEROS: usize>(
-    source: &[T],
-    start: usize,
-    step: usize,
-    halves: &[i16; SUBPEL_FILTER_SIZE],
-) -> [i32; N]
-    requires filter { IsFilter (doubled halves.now) }
-    requires few { ZEROS ≤ 2 }
-    requires zeros { AreZero ZEROS halves.now }
-    requires short { N ≤ 128 }
-    requires reach { start + N + 7 * step ≤ length source.now }
-    requires small { (c t : ℕ) → c < N → t < 8 → slice_index (map T.num source.now) (start + c + t * step) < 32768 }
-    ensures value { (c : ℕ) → c < N → entry result c ≡ sum_from halves.now (λ i. pos (slice_index (map T.num source.now) i)) (start + c) step }
-    ensures within { (c : ℕ) → c < N → IsWithin (2 ^ 25) (entry result c) }
-{
-    if N == 8 {
-        first_of::<N>(eight_sums::<T, ZEROS>(source, start, step, halves))
-    } else {
-        each_sum::<T, N, ZEROS>(source, start, step, halves)
     }
 }
 
@@ -264,9 +152,35 @@ fn settle(sum: i32, rounding: Rounding) -> i16
     ((sum + add) >> rounding.shift).max(-32768).min(32767) as i16
 }
 
-/// What the sums from each of up to 8 places on become.
+/// What the sums from each of at most eight places on become.
 #[inline(always)]
 fn filter_group<T: Pixel, const N: usize, const ZEROS: usize>(
+    source: &[T],
+    start: usize,
+    step: usize,
+    halves: &[i16; SUBPEL_FILTER_SIZE],
+    rounding: Rounding,
+) -> [i16; N]
+    requires filter { IsFilter (doubled halves.now) }
+    requires few { ZEROS ≤ 2 }
+    requires zeros { AreZero ZEROS halves.now }
+    requires rounding { IsRounding rounding }
+    requires narrow { N ≤ 8 }
+    requires reach { start + N + 7 * step ≤ length source.now }
+    requires small { (c t : ℕ) → c < N → t < 8 → slice_index (map T.num source.now) (start + c + t * step) < 32768 }
+    ensures { (c : ℕ) → c < N → entry result c ≡ settled rounding (sum_from halves.now (λ i. pos (slice_index (map T.num source.now) i)) (start + c) step) }
+{
+    let sums = eight_sums::<T, N, ZEROS>(source, start, step, halves);
+    let mut values = [0; N];
+    for c in 0..N {
+        values[c] = settle(sums[c], rounding);
+    }
+    values
+}
+
+/// The same from each of any number of places on, one by one.
+#[inline(always)]
+fn filter_each<T: Pixel, const N: usize, const ZEROS: usize>(
     source: &[T],
     start: usize,
     step: usize,
@@ -282,10 +196,10 @@ fn filter_group<T: Pixel, const N: usize, const ZEROS: usize>(
     requires small { (c t : ℕ) → c < N → t < 8 → slice_index (map T.num source.now) (start + c + t * step) < 32768 }
     ensures { (c : ℕ) → c < N → entry result c ≡ settled rounding (sum_from halves.now (λ i. pos (slice_index (map T.num source.now) i)) (start + c) step) }
 {
-    let sums = word_sums::<T, N, ZEROS>(source, start, step, halves);
     let mut values = [0; N];
     for c in 0..N {
-        values[c] = settle(sums[c], rounding);
+        let one = filter_group::<T, 1, ZEROS>(source, start + c, step, halves, rounding);
+        values[c] = one[0];
     }
     values
 }
@@ -312,7 +226,7 @@ fn joined<const N: usize>(first: &[i16; 8], second: &[i16; 8]) -> [i16; N]
     values
 }
 
-/// What the sums from each of `N` places on become, eight after eight where there are 16.
+/// The same, eight after eight where there are 16.
 #[inline(always)]
 pub(crate) fn filter_words<T: Pixel, const N: usize, const ZEROS: usize>(
     source: &[T],
@@ -334,7 +248,9 @@ pub(crate) fn filter_words<T: Pixel, const N: usize, const ZEROS: usize>(
         let first = filter_group::<T, 8, ZEROS>(source, start, step, halves, rounding);
         let second = filter_group::<T, 8, ZEROS>(source, start + 8, step, halves, rounding);
         joined::<N>(&first, &second)
-    } else {
+    } else if N <= 8 {
         filter_group::<T, N, ZEROS>(source, start, step, halves, rounding)
+    } else {
+        filter_each::<T, N, ZEROS>(source, start, step, halves, rounding)
     }
 }

@@ -1,7 +1,6 @@
 use Rattle.std.proofs.Common.{arith, rules, ◌∙◌, ◌≡◌, ◌+◌, ◌-◌, ◌*◌, ◌<◌, ◌≤◌, ℕ, ℤ, ap, subst, inl, inr, pos, map, slice_index, cond, ltb}
 use Rattle.std.proofs.lemmas.Bool.{cases_lt}
 use Rattle.std.proofs.lemmas.Bool.Decides.{nat_tests}
-use Rattle.av1_inter.specs.Motion.{entry}
 use Rattle.av1_inter.specs.Scaffolding.{settled, sum_from}
 use Rattle.av1_inter.proofs.words.filter_words.Goals as goal
 
