@@ -1,4 +1,4 @@
-//! The second pass by groups of columns, one in each lane.
+//! Groups of columns, one in each lane.
 
 ghost use Rattle.std.specs.Prelude.{◌≡◌, ℕ, ◌+◌, ◌-◌, ◌*◌, ◌/◌, ◌^◌, ◌<◌, ◌≤◌, nat_le, nat_lt, ◌&&◌, if◌then◌else◌, length};
 ghost use Rattle.av1_dct.specs.Arithmetic.{at, FitsBits};
@@ -50,7 +50,6 @@ fn scatter_words<W: BlockWord>(buffer: &mut [i32], line: &[W], c: usize, w: usiz
 pub(crate) fn run_groups(
     buffer: &mut [i32],
     line: &mut [i32x8],
-    work: &mut [i32x8],
     transformed: &mut [i32x8],
     count: &mut LaneCount,
     w: usize,
@@ -63,9 +62,8 @@ pub(crate) fn run_groups(
     requires height { IsTransformSide h }
     requires power { h ≡ 2 * 2 ^ k }
     requires buffer_len { length buffer.old ≡ h * w }
-    requires line_len { 64 ≤ length line.old }
-    requires work_len { 16 ≤ length work.old }
-    requires transformed_len { 64 ≤ length transformed.old }
+    requires line_len { h ≤ length line.old }
+    requires transformed_len { h ≤ length transformed.old }
     requires range_in { (8 ≤ range) × (range ≤ 20) }
     requires fit { (r c : ℕ) → r < h → c < w → FitsBits range (at buffer.old (r * w + c)) }
     ensures value { (r c : ℕ) → r < h → c < w → at buffer.new (r * w + c) ≡ at (cosine range k (by_index h (λ y. at buffer.old (y * w + c)))) r }
@@ -75,43 +73,44 @@ pub(crate) fn run_groups(
     let _count = count.groups();
     for g in 0..w / 8 {
         gather_words(buffer, &mut line[..h], 8 * g, w);
-        cosine_lanes(count, h, &line[..h], work, &mut transformed[..h], range);
+        cosine_lanes(count, h, &line[..h], &mut [], &mut transformed[..h], range);
         scatter_words(buffer, &transformed[..h], 8 * g, w);
     }
 }
 
-/// Each group of columns, one in each lane, transformed in place by any kind.
-#[tactic(auto, using(crate::proofs::Eights::group_in))]
+/// The first columns of a buffer of w columns and h rows, one in each lane, transformed in place by any kind. Here h is
+/// 2^(k+1).
+#[inline(always)]
 pub(crate) fn run_words<W: BlockWord>(
     buffer: &mut [i32],
     line: &mut [W],
-    work: &mut [W],
     transformed: &mut [W],
     kind: TxType1D,
+    columns: usize,
     w: usize,
     h: usize,
     k: usize,
     range: usize,
 )
     requires some { 0 < W.LANES }
-    requires width { W.LANES * (w / W.LANES) ≡ w }
+    requires whole { W.LANES * (columns / W.LANES) ≡ columns }
+    requires width { columns ≤ w }
     requires few { w ≤ 64 }
     requires height { h ≤ 64 }
     requires power { h ≡ 2 * 2 ^ k }
     requires has { HasNetwork kind k }
     requires buffer_len { length buffer.old ≡ h * w }
-    requires line_len { 64 ≤ length line.old }
-    requires work_len { 16 ≤ length work.old }
-    requires transformed_len { 64 ≤ length transformed.old }
+    requires line_len { h ≤ length line.old }
+    requires transformed_len { h ≤ length transformed.old }
     requires range_in { (8 ≤ range) × (range ≤ 20) }
-    requires fit { (r c : ℕ) → r < h → c < w → FitsBits range (at buffer.old (r * w + c)) }
-    ensures { (r c : ℕ) → r < h → c < w → at buffer.new (r * w + c) ≡ at (network kind range k (by_index h (λ y. at buffer.old (y * w + c)))) r }
+    requires fit { (r c : ℕ) → r < h → c < columns → FitsBits range (at buffer.old (r * w + c)) }
+    ensures { (r c : ℕ) → r < h → c < columns → at buffer.new (r * w + c) ≡ at (network kind range k (by_index h (λ y. at buffer.old (y * w + c)))) r }
 {
     let m = W::LANES;
-    for g in 0..w / m {
+    for g in 0..columns / m {
         let c = m * g;
         gather_words(buffer, &mut line[..h], c, w);
-        inverse_1d(kind, k, &line[..h], work, &mut transformed[..h], range);
+        inverse_1d(kind, k, &line[..h], &mut transformed[..h], range);
         scatter_words(buffer, &transformed[..h], c, w);
     }
 }
