@@ -1,15 +1,18 @@
 -- Columns n at a time.
 use Rattle.std.proofs.Common.{ℕ, true, false, ◌⊎◌, refl, cond, ltb, leb, ◌&&◌, ◌≡◌, ◌+◌, ◌-◌, ◌*◌, ◌/◌, ◌<◌, ◌≤◌, ℤ, List, ◌++◌, take, length, arith, ap}
 use Rattle.std.proofs.Common.{sym, ◌∙◌, inl}
-use Rattle.std.proofs.Common.{inr, subst, ◌^◌}
+use Rattle.std.proofs.Common.{inr, subst, pos, ◌^◌}
 use Rattle.std.specs.List.{All}
-use Rattle.std.proofs.Math.Nat.{mul-le-mul_left}
+use Rattle.std.proofs.Math.Nat.{mul-le-mul_left, mul-le-mul_right}
 use Rattle.std.proofs.lemmas.Bool.{cases_lt}
 use Rattle.std.proofs.lemmas.Bool.Decides.{nat_tests}
-use Rattle.std.proofs.lemmas.List.{take_at, take_all, length-map}
-use Rattle.av1_dct.specs.Arithmetic.{at, FitsBits}
+use Rattle.std.proofs.lemmas.List.{take_at, take_all, length-map, get_or_past}
+use Rattle.av1_dct.specs.Arithmetic.{at, clamp_value, FitsBits}
 use Rattle.av1_dct.specs.Columns.{column_of}
 use Rattle.av1_dct.specs.Cosine.{cosine}
+use Rattle.av1_dct.specs.Operations.{half_btf}
+use Rattle.av1_dct.proofs.Places.{at-by_index}
+use Rattle.av1_dct.proofs.Single.{IsSingle, single}
 use Rattle.av1_lists.specs.Lists.{by_index}
 use Rattle.av1_dct.specs.Word.{column}
 use Rattle.av1_dct.proofs.Powers.{power_only}
@@ -21,7 +24,7 @@ use Rattle.av1_blocks.specs.Transforms.{tx_width}
 use Rattle.av1_itx.specs.Kinds.{column_kind}
 use Rattle.av1_itx.specs.LaneGroups.{is_cosine, lane_groups}
 use Rattle.av1_itx.specs.Networks.{HasNetwork, network, network_with}
-use Rattle.av1_lists.proofs.Lists.{by_index-all, by_index-same}
+use Rattle.av1_lists.proofs.Lists.{by_index-all, by_index-same, length-by_index}
 
 -- one more group of m columns
 pub groups_more : (w c d m h : ℕ) (F G D : ℕ → ℕ → ℤ) (old new : List ℤ) → d ≡ c + m
@@ -119,19 +122,39 @@ columns_known kind range n m w q r j k old e ej ek is =
     is ∙ ap (λ p. at (network kind range p (column_of m w q old)) r) (power_only j k (sym ej ∙ sym e ∙ ek))
     ∙ ap (λ x. at (network kind range k (column_of x w q old)) r) (sym e)
 
--- one more group of eight columns, where what was done to it is told of the buffer as it was before
-pub groups_next : (w c d h : ℕ) (F G X : ℕ → ℕ → ℤ) (old new : List ℤ) → d ≡ c + 8
+-- one more group of m columns, where what was done to it is told of the buffer as it was before
+pub groups_next : (w c d m h : ℕ) (F G X : ℕ → ℕ → ℤ) (old new : List ℤ) → d ≡ c + m
     → ((r q : ℕ) → r < h → q < w → at old (r * w + q) ≡ cond (ltb q c) (F r q) (G r q))
-    → ((r q : ℕ) → r < h → q < w → at new (r * w + q) ≡ cond (leb c q && ltb q (c + 8)) (X r q) (at old (r * w + q)))
-    → ((r q : ℕ) → r < h → c ≤ q → q < c + 8 → X r q ≡ F r q)
+    → ((r q : ℕ) → r < h → q < w → at new (r * w + q) ≡ cond (leb c q && ltb q (c + m)) (X r q) (at old (r * w + q)))
+    → ((r q : ℕ) → r < h → c ≤ q → q < c + m → X r q ≡ F r q)
     → (r q : ℕ) → r < h → q < w → at new (r * w + q) ≡ cond (ltb q d) (F r q) (G r q)
-groups_next w c d h F G X old new ed before now here = λ r q hr hq.
+groups_next w c d m h F G X old new ed before now here = λ r q hr hq.
     let a = before r q hr hq in
     let b = now r q hr hq in
     elim (cases_lt q c) [
       | inl lo ↦ grind (arith, nat_tests)
-      | inr lo ↦ elim (cases_lt q (c + 8)) [
+      | inr lo ↦ elim (cases_lt q (c + m)) [
         | inl hi ↦ (let u = here r q hr lo hi in grind (arith, nat_tests))
         | inr hi ↦ grind (arith, nat_tests)
       ]
     ]
+
+-- a column of a buffer whose first row alone has values
+level_column : (h w c : ℕ) (old : List ℤ) → ((p : ℕ) → w ≤ p → at old p ≡ pos 0) → IsSingle (column_of h w c old)
+level_column h w c old none = record {
+  rest = λ i some. elim (cases_lt i h) [
+    | inl lt ↦ (let below = mul-le-mul_right w some in at-by_index h (λ r. at old (r * w + c)) i lt ∙ none (i * w + c) (omega (arith, below)))
+    | inr past ↦ get_or_past (column_of h w c old) i (pos 0) (omega (arith, length-by_index h (λ r. at old (r * w + c))))
+  ];
+}
+
+pub level_is : (kind : TxType1D) (range k h w c r : ℕ) (old : List ℤ) (z : ℤ) → is_cosine kind ≡ true → ((p : ℕ) → w ≤ p → at old p ≡ pos 0)
+    → h ≡ 2 * 2 ^ k → 1 ≤ k → r < h → z ≡ clamp_value (half_btf (pos 2896) (at old c) (pos 0) (at old c)) range
+    → z ≡ at (network kind range k (column_of h w c old)) r
+level_is kind range k h w c r old z told none power some lt is =
+    let xs = column_of h w c old in
+    let top : c ≡ 0 * w + c = omega arith in
+    let first : at old c ≡ at xs 0 = ap (at old) top ∙ sym (at-by_index h (λ y. at old (y * w + c)) 0 (omega arith)) in
+    cosine_value kind range k r xs z told
+    (is ∙ ap (λ v. clamp_value (half_btf (pos 2896) v (pos 0) v) range) first
+    ∙ sym (single range k xs (level_column h w c old none) some r (omega (arith, lt, power))))

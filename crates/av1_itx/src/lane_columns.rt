@@ -1,10 +1,11 @@
 //! Groups of columns, one in each lane.
 
-ghost use Rattle.std.specs.Prelude.{◌≡◌, ℕ, ◌+◌, ◌-◌, ◌*◌, ◌/◌, ◌^◌, ◌<◌, ◌≤◌, nat_le, nat_lt, ◌&&◌, if◌then◌else◌, length};
-ghost use Rattle.av1_dct.specs.Arithmetic.{at, FitsBits};
+ghost use Rattle.std.specs.Prelude.{◌≡◌, ℕ, ◌+◌, ◌-◌, ◌*◌, ◌/◌, ◌^◌, ◌<◌, ◌≤◌, nat_le, nat_lt, ◌&&◌, if◌then◌else◌, pos, length};
+ghost use Rattle.av1_dct.specs.Arithmetic.{at, clamp_value, FitsBits};
 ghost use Rattle.av1_lists.specs.Counts.{raised};
 ghost use Rattle.av1_lists.specs.Sides.{IsTransformSide};
 ghost use Rattle.av1_dct.specs.Cosine.{cosine};
+ghost use Rattle.av1_dct.specs.Operations.{half_btf};
 ghost use Rattle.av1_lists.specs.Lists.{by_index};
 ghost use Rattle.av1_dct.specs.Word.{column};
 ghost use Rattle.av1_itx.specs.Networks.{HasNetwork, network};
@@ -12,6 +13,7 @@ ghost use Rattle.av1_itx.specs.Networks.{HasNetwork, network};
 use crate::kinds::TxType1D;
 use crate::networks::inverse_1d;
 use crate::words::BlockWord;
+use av1_blocks::INV_SQRT2;
 use av1_dct::{LaneCount, cosine_lanes};
 use std::simd::prelude::*;
 
@@ -112,5 +114,50 @@ pub(crate) fn run_words<W: BlockWord>(
         gather_words(buffer, &mut line[..h], c, w);
         inverse_1d(kind, k, &line[..h], &mut transformed[..h], range);
         scatter_words(buffer, &transformed[..h], c, w);
+    }
+}
+
+// The columns from c on, one in each lane, transformed in place by the cosine transform where only the first row has
+// values: each column becomes one value.
+#[inline(always)]
+fn level_words<W: BlockWord>(buffer: &mut [i32], c: usize, w: usize, h: usize, range: usize)
+    requires columns_in { c + W.LANES ≤ w }
+    requires few { w ≤ 64 }
+    requires height { (1 ≤ h) × (h ≤ 64) }
+    requires range_in { (8 ≤ range) × (range ≤ 20) }
+    requires buffer_len { length buffer.old ≡ h * w }
+    ensures { (r q : ℕ) → r < h → q < w →
+        at buffer.new (r * w + q) ≡ (if nat_le c q && nat_lt q (c + W.LANES)
+        then clamp_value (half_btf (pos 2896) (at buffer.old q) (pos 0) (at buffer.old q)) range else at buffer.old (r * w + q)) }
+{
+    let first = W::read(buffer, c);
+    let word = W::turn(INV_SQRT2, first, 0, first).clamp_to(range);
+    for r in 0..h {
+        word.write(buffer, r * w + c);
+    }
+}
+
+/// The first columns of a buffer of w columns and h rows, transformed in place by the cosine transform where only the
+/// first row has values, as many at a time as a word has lanes.
+pub(crate) fn level_columns<W: BlockWord>(
+    buffer: &mut [i32],
+    columns: usize,
+    w: usize,
+    h: usize,
+    range: usize,
+)
+    requires some { 0 < W.LANES }
+    requires whole { W.LANES * (columns / W.LANES) ≡ columns }
+    requires width { columns ≤ w }
+    requires few { w ≤ 64 }
+    requires height { (1 ≤ h) × (h ≤ 64) }
+    requires range_in { (8 ≤ range) × (range ≤ 20) }
+    requires buffer_len { length buffer.old ≡ h * w }
+    ensures { (r c : ℕ) → r < h → c < columns →
+        at buffer.new (r * w + c) ≡ clamp_value (half_btf (pos 2896) (at buffer.old c) (pos 0) (at buffer.old c)) range }
+{
+    let m = W::LANES;
+    for g in 0..columns / m {
+        level_words::<W>(buffer, m * g, w, h, range);
     }
 }

@@ -2,17 +2,18 @@
 //!
 //! Rows of coefficients go the same way, since they are the columns of the list that coefficients stand in.
 
-ghost use Rattle.std.specs.Prelude.{◌≡◌, ℕ, ◌+◌, ◌-◌, ◌*◌, ◌/◌, ◌^◌, ◌<◌, ◌≤◌, IfOk, length, vec_len};
+ghost use Rattle.std.specs.Prelude.{◌≡◌, true, ℕ, pos, ◌+◌, ◌-◌, ◌*◌, ◌/◌, ◌^◌, ◌<◌, ◌≤◌, IfOk, length, vec_len};
 ghost use Rattle.av1_lists.specs.Sides.{IsTransformSide};
-ghost use Rattle.av1_dct.specs.Arithmetic.{at, FitsBits};
+ghost use Rattle.av1_dct.specs.Arithmetic.{at, clamp_value, FitsBits};
 ghost use Rattle.av1_dct.specs.Columns.{column_of};
 ghost use Rattle.av1_dct.specs.Cosine.{cosine};
+ghost use Rattle.av1_dct.specs.Operations.{half_btf};
 ghost use Rattle.av1_lists.specs.Counts.{raised};
 ghost use Rattle.av1_itx.specs.LaneGroups.{is_cosine};
 ghost use Rattle.av1_itx.specs.Networks.{HasNetwork, network};
 
 use crate::kinds::TxType1D;
-use crate::lane_columns::{run_groups, run_words};
+use crate::lane_columns::{level_columns, run_groups, run_words};
 use crate::words::Held;
 use av1_blocks::OutOfMemory;
 use av1_dct::{LaneCount, cosine_columns};
@@ -181,9 +182,43 @@ fn short_columns(buffer: &mut [i32], columns: usize, w: usize, h: usize, k: usiz
     }
 }
 
-/// The first columns of a buffer of w columns and h rows, transformed in place by the transform of a kind: eight at a
-/// time, or four where w is 4. Here h is 2^(k+1). Nothing is counted.
-pub(crate) fn run_columns(
+// Whether only the first row of a buffer has values. Most tell by the first place below it.
+fn is_level(buffer: &[i32], w: usize) -> bool
+    ensures { result ≡ true → (p : ℕ) → w ≤ p → at buffer.now p ≡ pos 0 }
+{
+    if w < buffer.len() && buffer[w] != 0 {
+        return false;
+    }
+    let mut level = true;
+    for p in w..buffer.len() {
+        if buffer[p] != 0 {
+            level = false;
+        }
+    }
+    level
+}
+
+// The first columns, transformed in place by the cosine transform where only the first row has values.
+fn run_level_columns(buffer: &mut [i32], columns: usize, w: usize, h: usize, range: usize)
+    requires whole { 4 * (columns / 4) ≡ columns }
+    requires eights { 8 ≤ w → 8 * (columns / 8) ≡ columns }
+    requires width { columns ≤ w }
+    requires few { w ≤ 64 }
+    requires height { (1 ≤ h) × (h ≤ 64) }
+    requires range_in { (8 ≤ range) × (range ≤ 20) }
+    requires buffer_len { length buffer.old ≡ h * w }
+    ensures { (r c : ℕ) → r < h → c < columns →
+        at buffer.new (r * w + c) ≡ clamp_value (half_btf (pos 2896) (at buffer.old c) (pos 0) (at buffer.old c)) range }
+{
+    if w < LANES {
+        level_columns::<i32x4>(buffer, columns, w, h, range);
+    } else {
+        level_columns::<i32x8>(buffer, columns, w, h, range);
+    }
+}
+
+// The first columns, transformed in place by the transform of a kind, whichever rows have values.
+fn run_full_columns(
     buffer: &mut [i32],
     kind: TxType1D,
     columns: usize,
@@ -210,6 +245,36 @@ pub(crate) fn run_columns(
         short_columns(buffer, columns, w, h, k);
     } else {
         eight_columns(buffer, kind, columns, w, h, k, range);
+    }
+}
+
+/// The first columns of a buffer of w columns and h rows, transformed in place by the transform of a kind: eight at a
+/// time, or four where w is 4. Here h is 2^(k+1). Nothing is counted.
+pub(crate) fn run_columns(
+    buffer: &mut [i32],
+    kind: TxType1D,
+    columns: usize,
+    w: usize,
+    h: usize,
+    k: usize,
+    range: usize,
+)
+    requires whole { 4 * (columns / 4) ≡ columns }
+    requires eights { 8 ≤ w → 8 * (columns / 8) ≡ columns }
+    requires width { columns ≤ w }
+    requires few { w ≤ 64 }
+    requires height { IsTransformSide h }
+    requires power { h ≡ 2 * 2 ^ k }
+    requires has { HasNetwork kind k }
+    requires buffer_len { length buffer.old ≡ h * w }
+    requires range_in { (8 ≤ range) × (range ≤ 20) }
+    requires fit { (r c : ℕ) → r < h → c < columns → FitsBits range (at buffer.old (r * w + c)) }
+    ensures { (r c : ℕ) → r < h → c < columns → at buffer.new (r * w + c) ≡ at (network kind range k (column_of h w c buffer.old)) r }
+{
+    if is_cosine(kind) && is_level(buffer, w) {
+        run_level_columns(buffer, columns, w, h, range);
+    } else {
+        run_full_columns(buffer, kind, columns, w, h, k, range);
     }
 }
 

@@ -21,7 +21,7 @@ loop-g-preserved c =
     let at_column = 8 * c.loop-g.g in
     let old = c.args.buffer.now in
     let F = λ (r q : ℕ). at (cosine 16 c.args.k (column_of h w q old)) r in
-    groups_next w at_column (8 * (c.loop-g.g + 1)) h F (λ r q. at old (r * w + q))
+    groups_next w at_column (8 * (c.loop-g.g + 1)) 8 h F (λ r q. at old (r * w + q))
     (λ r q. at (cosine 16 c.args.k (column_of h w q c.loop-g.buffer)) r) c.loop-g.buffer c.cosine_columns.new.block (omega arith) c.loop-g.invariant
     (λ r q hr hq. c.cosine_columns.ensures c.args.k r q c.requires.power hr hq)
     (λ r q hr lo hi. ap (λ (zs : List ℤ). at (cosine 16 c.args.k zs) r)
