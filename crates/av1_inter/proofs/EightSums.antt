@@ -1,11 +1,12 @@
 -- Sums of eight products that are formed two at a time, from eight places on.
-use Rattle.std.proofs.Common.{ℕ, ◌+◌, ◌*◌, ◌^◌, ◌<◌, ◌≡◌, ◌∙◌, ap, arith, subst, sym, ℤ, pos, ◌+ℤ◌, ◌*ℤ◌, List, slice_index, w32}
+use Rattle.std.proofs.Common.{ℕ, suc, ◌+◌, ◌*◌, ◌^◌, ◌<◌, ◌≤◌, ◌≡◌, ◌∙◌, ap, arith, subst, sym, ℤ, pos, ◌+ℤ◌, ◌*ℤ◌, List, replicate, slice_index, w32}
 use Rattle.std.proofs.Common.{to_z, of_z, FitsSigned}
 use Rattle.std.proofs.lemmas.Int.{ints, to_z-of_z}
-use Rattle.av1_inter.specs.Motion.{entry, sum_to, weighted}
+use Rattle.std.proofs.lemmas.List.{get_or-replicate}
+use Rattle.av1_inter.specs.Motion.{entry, sum_to}
 use Rattle.av1_inter.specs.Scaffolding.{AreZero, Between, IsWithin}
 use Rattle.av1_inter.proofs.PairSums.{small_product}
-use Rattle.av1_inter.proofs.Sums.{fits_of, times_none}
+use Rattle.av1_inter.proofs.Sums.{fits_of, sum_begins}
 
 -- two samples of 15 bits, each times half a weight
 pub pair_within : (v w x y z : ℤ) → Between 28 92 v → Between 28 92 w → Between 0 32767 x → Between 0 32767 y → z ≡ v *ℤ x +ℤ w *ℤ y → IsWithin (2 ^ 23) z
@@ -14,51 +15,40 @@ pair_within v w x y z bv bw bx by e =
     let q = small_product w y bw by in
     record { low = omega (arith, ints, e, p.low, q.low); high = omega (arith, ints, e, p.high, q.high) }
 
-no_product : (a v : ℤ) → a ≡ pos 0 → a *ℤ v ≡ pos 0
-no_product a v e = ap (λ z. z *ℤ v) e ∙ times_none v
+none_at : (c : ℕ) → c < 8 → entry (replicate 8 (pos 0)) c ≡ pos 0
+none_at c h = get_or-replicate 8 c (pos 0) (pos 0) h
 
-joined : (a b c d e f g h w x y z : ℤ) → w ≡ a +ℤ b → x ≡ c +ℤ d → y ≡ e +ℤ f → z ≡ g +ℤ h →
-    (w +ℤ x) +ℤ (y +ℤ z) ≡ pos 0 +ℤ a +ℤ b +ℤ c +ℤ d +ℤ e +ℤ f +ℤ g +ℤ h
-joined a b c d e f g h w x y z ew ex ey ez = omega (arith, ints, ew, ex, ey, ez)
+-- the sums of the first pairs of products, from the first weight that isn't 0 on: those of the first n are known, and all are small
+pub record ArePairs (n zeros pairs : ℕ) (halves : List ℤ) (value : ℕ → ℕ → ℤ) (sums : List ℤ) : Type 0 where
+  pub known : (c : ℕ) → c < 8 → c < n → entry sums c ≡ sum_to (zeros + 2 * pairs) (λ t. entry halves t *ℤ value c t)
+  pub within : (c : ℕ) → c < 8 → IsWithin (pairs * 2 ^ 23) (entry sums c)
 
--- four pairs are the whole sum; three and two are, where one and two of the outer weights on either side are 0
-pub four_pairs : (halves : List ℤ) (value : ℕ → ℤ) (w x y z : ℤ) → w ≡ entry halves 0 *ℤ value 0 +ℤ entry halves 1 *ℤ value 1 →
-    x ≡ entry halves 2 *ℤ value 2 +ℤ entry halves 3 *ℤ value 3
-    → y ≡ entry halves 4 *ℤ value 4 +ℤ entry halves 5 *ℤ value 5 → z ≡ entry halves 6 *ℤ value 6 +ℤ entry halves 7 *ℤ value 7 →
-    (w +ℤ x) +ℤ (y +ℤ z) ≡ weighted halves value
+pub no_pairs : (n zeros : ℕ) (halves : List ℤ) (value : ℕ → ℕ → ℤ) → zeros ≤ 2 → AreZero zeros halves →
+    ArePairs n zeros 0 halves value (replicate 8 (pos 0))
+no_pairs n zeros halves value few none = record {
+  known = λ c h b.
+      let e : zeros ≡ zeros + 2 * 0 = omega arith in
+      none_at c h ∙ sum_begins zeros halves (value c) few none ∙ ap (λ (i : ℕ). sum_to i (λ t. entry halves t *ℤ value c t)) e;
+  within = λ c h. let e = none_at c h in record { low = omega (arith, ints, e); high = omega (arith, ints, e) };
+}
+
+pub pair_next : (term : ℕ → ℤ) (k m : ℕ) (s p z : ℤ) → s ≡ sum_to k term → p ≡ term k +ℤ term (k + 1) → m ≡ k + 2 → z ≡ s +ℤ p → z ≡ sum_to m term
 unfolding sum_to
-four_pairs halves value w x y z ew ex ey ez =
-    let term = λ (t : ℕ). entry halves t *ℤ value t in
-    joined (term 0) (term 1) (term 2) (term 3) (term 4) (term 5) (term 6) (term 7) w x y z ew ex ey ez
+pair_next term k m s p z es ep em ez =
+    let one : suc k ≡ k + 1 = omega arith in
+    let two : suc (suc k) ≡ m = omega (arith, em) in
+    let last = ap term one in
+    let whole : z ≡ sum_to (suc (suc k)) term = omega (arith, ints, es, ep, ez, last) in
+    whole ∙ ap (λ (i : ℕ). sum_to i term) two
 
-joined_inner : (a b c d e f g h w x y : ℤ) → a ≡ pos 0 → h ≡ pos 0 → w ≡ b +ℤ c → x ≡ d +ℤ e → y ≡ f +ℤ g →
-    (w +ℤ x) +ℤ y ≡ pos 0 +ℤ a +ℤ b +ℤ c +ℤ d +ℤ e +ℤ f +ℤ g +ℤ h
-joined_inner a b c d e f g h w x y ea eh ew ex ey = omega (arith, ints, ea, eh, ew, ex, ey)
+pub next_within : (k m : ℕ) (s p z : ℤ) → IsWithin (k * 2 ^ 23) s → IsWithin (2 ^ 23) p → m ≡ k + 1 → z ≡ s +ℤ p → IsWithin (m * 2 ^ 23) z
+next_within k m s p z f g e ez = record {
+  low = omega (arith, ints, f.low, g.low, e, ez);
+  high = omega (arith, ints, f.high, g.high, e, ez);
+}
 
-pub three_pairs : (halves : List ℤ) (value : ℕ → ℤ) (w x y : ℤ) → AreZero 1 halves → w ≡ entry halves 1 *ℤ value 1 +ℤ entry halves 2 *ℤ value 2 →
-    x ≡ entry halves 3 *ℤ value 3 +ℤ entry halves 4 *ℤ value 4
-    → y ≡ entry halves 5 *ℤ value 5 +ℤ entry halves 6 *ℤ value 6 → (w +ℤ x) +ℤ y ≡ weighted halves value
-unfolding sum_to
-three_pairs halves value w x y zeros ew ex ey =
-    let term = λ (t : ℕ). entry halves t *ℤ value t in
-    let outer = zeros 0 (omega arith) in
-    joined_inner (term 0) (term 1) (term 2) (term 3) (term 4) (term 5) (term 6) (term 7) w x y (no_product _ (value 0) outer.0)
-    (no_product _ (value 7) outer.1) ew ex ey
-
-joined_short : (a b c d e f g h w x : ℤ) → a ≡ pos 0 → h ≡ pos 0 → b ≡ pos 0 → g ≡ pos 0 → w ≡ c +ℤ d → x ≡ e +ℤ f →
-    w +ℤ x ≡ pos 0 +ℤ a +ℤ b +ℤ c +ℤ d +ℤ e +ℤ f +ℤ g +ℤ h
-joined_short a b c d e f g h w x ea eh eb eg ew ex = omega (arith, ints, ea, eh, eb, eg, ew, ex)
-
-pub two_pairs : (halves : List ℤ) (value : ℕ → ℤ) (w x : ℤ) → AreZero 2 halves → w ≡ entry halves 2 *ℤ value 2 +ℤ entry halves 3 *ℤ value 3 →
-    x ≡ entry halves 4 *ℤ value 4 +ℤ entry halves 5 *ℤ value 5
-    → w +ℤ x ≡ weighted halves value
-unfolding sum_to
-two_pairs halves value w x zeros ew ex =
-    let term = λ (t : ℕ). entry halves t *ℤ value t in
-    let outer = zeros 0 (omega arith) in
-    let next = zeros 1 (omega arith) in
-    joined_short (term 0) (term 1) (term 2) (term 3) (term 4) (term 5) (term 6) (term 7) w x (no_product _ (value 0) outer.0)
-    (no_product _ (value 7) outer.1) (no_product _ (value 1) next.0) (no_product _ (value 6) next.1) ew ex
+pub few_within : (k : ℕ) (z : ℤ) → k ≤ 4 → IsWithin (k * 2 ^ 23) z → IsWithin (2 ^ 25) z
+few_within k z h f = record { low = omega (arith, ints, f.low, h); high = omega (arith, ints, f.high, h) }
 
 -- a sample's place, counted otherwise
 pub sample_below : (samples : List ℕ) (n start step c t i : ℕ) → ((c t : ℕ) → c < n → t < 8 → slice_index samples (start + c + t * step) < 32768) → c < n →
@@ -69,26 +59,24 @@ pub sample_between : (z : ℤ) (n : ℕ) → z ≡ pos n → n < 32768 → Betwe
 sample_between z n e h = record { low = omega (arith, ints, e); high = omega (arith, ints, e, h) }
 
 -- two numbers that are added in 32 bits
-read_wide : (z : ℤ) → IsWithin (2 ^ 24) z → to_z w32 (of_z w32 z) ≡ z
+read_wide : (z : ℤ) → IsWithin (2 ^ 25) z → to_z w32 (of_z w32 z) ≡ z
 read_wide z h = to_z-of_z w32 z (fits_of z (omega (arith, ints, h.low)) (omega (arith, ints, h.high)))
 
-added : (a b : ℤ) → IsWithin (2 ^ 24) a → IsWithin (2 ^ 24) b → to_z w32 (of_z w32 a) +ℤ to_z w32 (of_z w32 b) ≡ a +ℤ b
+added : (a b : ℤ) → IsWithin (2 ^ 25) a → IsWithin (2 ^ 25) b → to_z w32 (of_z w32 a) +ℤ to_z w32 (of_z w32 b) ≡ a +ℤ b
 added a b f g = ap (λ z. z +ℤ to_z w32 (of_z w32 b)) (read_wide a f) ∙ ap (λ z. a +ℤ z) (read_wide b g)
 
-pub two_fit : (a b : ℤ) → IsWithin (2 ^ 24) a → IsWithin (2 ^ 24) b → FitsSigned w32 (to_z w32 (of_z w32 a) +ℤ to_z w32 (of_z w32 b))
+pub two_fit : (a b : ℤ) → IsWithin (2 ^ 25) a → IsWithin (2 ^ 25) b → FitsSigned w32 (to_z w32 (of_z w32 a) +ℤ to_z w32 (of_z w32 b))
 two_fit a b f g =
     let P : ℤ → Type 0 = λ z. FitsSigned w32 z in
     subst P (sym (added a b f g)) (fits_of _ (omega (arith, ints, f.low, g.low)) (omega (arith, ints, f.high, g.high)))
 
-pub two_added : (a b : ℤ) → IsWithin (2 ^ 24) a → IsWithin (2 ^ 24) b → to_z w32 (of_z w32 (to_z w32 (of_z w32 a) +ℤ to_z w32 (of_z w32 b))) ≡ a +ℤ b
+pub two_added : (a b : ℤ) → IsWithin (2 ^ 25) a → IsWithin (2 ^ 25) b → to_z w32 (of_z w32 (to_z w32 (of_z w32 a) +ℤ to_z w32 (of_z w32 b))) ≡ a +ℤ b
 two_added a b f g = to_z-of_z w32 _ (two_fit a b f g) ∙ added a b f g
 
--- how great such sums are
-pub pair_wide : (z : ℤ) → IsWithin (2 ^ 23) z → IsWithin (2 ^ 24) z
+-- a number that stays as great as it was
+pub kept_within : (a b : ℤ) → a ≡ b → IsWithin (2 ^ 25) b → IsWithin (2 ^ 25) a
+kept_within a b e h = let P : ℤ → Type 0 = λ z. IsWithin (2 ^ 25) z in subst P (sym e) h
+
+-- a pair of products, among sums
+pub pair_wide : (z : ℤ) → IsWithin (2 ^ 23) z → IsWithin (2 ^ 25) z
 pair_wide z h = record { low = omega (arith, ints, h.low); high = omega (arith, ints, h.high) }
-
-pub two_within : (a b z : ℤ) → IsWithin (2 ^ 23) a → IsWithin (2 ^ 23) b → z ≡ a +ℤ b → IsWithin (2 ^ 24) z
-two_within a b z f g e = record { low = omega (arith, ints, f.low, g.low, e); high = omega (arith, ints, f.high, g.high, e) }
-
-pub all_within : (a b z : ℤ) → IsWithin (2 ^ 24) a → IsWithin (2 ^ 24) b → z ≡ a +ℤ b → IsWithin (2 ^ 25) z
-all_within a b z f g e = record { low = omega (arith, ints, f.low, g.low, e); high = omega (arith, ints, f.high, g.high, e) }

@@ -58,48 +58,47 @@ fn pair_sums(first: [i16; 8], second: [i16; 8], weight: i16, other: i16) -> [i32
     low.shuffle(high, [0, 1, 2, 3, 4, 5, 6, 7]).to_array()
 }
 
-/// Two of the eight products of a sum, added: those of the halved weights `AT` and `AT + 1`, from each of `N` places
+/// Two of the eight products of a sum, added: those of the halved weights `at` and `at + 1`, from each of `N` places
 /// on.
 #[inline(always)]
-fn pair_from<T: Pixel, const N: usize, const AT: usize>(
+fn pair_from<T: Pixel, const N: usize>(
     source: &[T],
     start: usize,
     step: usize,
     halves: &[i16; SUBPEL_FILTER_SIZE],
+    at: usize,
 ) -> [i32; 8]
-    requires two { AT < 7 }
+    requires two { at < 7 }
     requires filter { IsFilter (doubled halves.now) }
     requires reach { start + N + 7 * step ≤ length source.now }
     requires small { (c t : ℕ) → c < N → t < 8 → slice_index (map T.num source.now) (start + c + t * step) < 32768 }
     ensures value { (c : ℕ) → c < 8 → c < N →
-        entry result c ≡ entry halves.now AT *ℤ pos (slice_index (map T.num source.now) (start + c + AT * step)) +ℤ entry halves.now (AT + 1) *ℤ pos
-        (slice_index (map T.num source.now) (start + c + (AT + 1) * step)) }
+        entry result c ≡ entry halves.now at *ℤ pos (slice_index (map T.num source.now) (start + c + at * step)) +ℤ entry halves.now (at + 1) *ℤ pos
+        (slice_index (map T.num source.now) (start + c + (at + 1) * step)) }
     ensures within { (c : ℕ) → c < 8 → IsWithin (2 ^ 23) (entry result c) }
 {
     pair_sums(
-        eight_from::<T, N>(source, start + AT * step),
-        eight_from::<T, N>(source, start + (AT + 1) * step),
-        halves[AT],
-        halves[AT + 1],
+        eight_from::<T, N>(source, start + at * step),
+        eight_from::<T, N>(source, start + (at + 1) * step),
+        halves[at],
+        halves[at + 1],
     )
 }
 
-/// Twice eight numbers, added place by place.
+/// Eight numbers are added to eight others, place by place.
 #[inline(always)]
-fn add_eights(first: [i32; 8], second: [i32; 8]) -> [i32; 8]
-    requires first { (c : ℕ) → c < 8 → IsWithin (2 ^ 24) (entry first c) }
-    requires second { (c : ℕ) → c < 8 → IsWithin (2 ^ 24) (entry second c) }
-    ensures { (c : ℕ) → c < 8 → entry result c ≡ entry first c +ℤ entry second c }
+fn add_products(sums: &mut [i32; 8], products: &[i32; 8])
+    requires sums { (c : ℕ) → c < 8 → IsWithin (2 ^ 25) (entry sums.old c) }
+    requires products { (c : ℕ) → c < 8 → IsWithin (2 ^ 25) (entry products.now c) }
+    ensures { (c : ℕ) → c < 8 → entry sums.new c ≡ entry sums.old c +ℤ entry products.now c }
 {
-    let mut sums = [0; 8];
     for c in 0..8 {
-        sums[c] = first[c] + second[c];
+        sums[c] += products[c];
     }
-    sums
 }
 
 /// The sums of eight samples that stand `step` apart, each times its halved weight, from each of `N` places on. The
-/// outer `ZEROS` weights on either side are 0.
+/// outer `ZEROS` weights on either side are 0, so that these products are left out.
 #[inline(always)]
 fn eight_sums<T: Pixel, const N: usize, const ZEROS: usize>(
     source: &[T],
@@ -108,37 +107,19 @@ fn eight_sums<T: Pixel, const N: usize, const ZEROS: usize>(
     halves: &[i16; SUBPEL_FILTER_SIZE],
 ) -> [i32; 8]
     requires filter { IsFilter (doubled halves.now) }
+    requires few { ZEROS ≤ 2 }
     requires zeros { AreZero ZEROS halves.now }
     requires reach { start + N + 7 * step ≤ length source.now }
     requires small { (c t : ℕ) → c < N → t < 8 → slice_index (map T.num source.now) (start + c + t * step) < 32768 }
     ensures value { (c : ℕ) → c < 8 → c < N → entry result c ≡ sum_from halves.now (λ i. pos (slice_index (map T.num source.now) i)) (start + c) step }
     ensures within { (c : ℕ) → c < 8 → IsWithin (2 ^ 25) (entry result c) }
 {
-    if ZEROS == 2 {
-        add_eights(
-            pair_from::<T, N, 2>(source, start, step, halves),
-            pair_from::<T, N, 4>(source, start, step, halves),
-        )
-    } else if ZEROS == 1 {
-        add_eights(
-            add_eights(
-                pair_from::<T, N, 1>(source, start, step, halves),
-                pair_from::<T, N, 3>(source, start, step, halves),
-            ),
-            pair_from::<T, N, 5>(source, start, step, halves),
-        )
-    } else {
-        add_eights(
-            add_eights(
-                pair_from::<T, N, 0>(source, start, step, halves),
-                pair_from::<T, N, 2>(source, start, step, halves),
-            ),
-            add_eights(
-                pair_from::<T, N, 4>(source, start, step, halves),
-                pair_from::<T, N, 6>(source, start, step, halves),
-            ),
-        )
+    let mut sums = [0; 8];
+    for pair in 0..SUBPEL_FILTER_SIZE / 2 - ZEROS {
+        let products = pair_from::<T, N>(source, start, step, halves, ZEROS + 2 * pair);
+        add_products(&mut sums, &products);
     }
+    sums
 }
 
 /// What such a sum becomes. All that is added to it and taken off behind it is added at once.
