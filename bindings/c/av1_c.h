@@ -35,9 +35,10 @@ uint32_t av1_c_version(void);
  * the archive. Beside them come what `malloc` and its like take, where a call takes memory, and `memcpy`, `memmove` and `memset`.
  *    1,024  av1_builder_begin, av1_builder_finish, av1_c_version, av1_cfl_ac_8, av1_cfl_ac_16, av1_intra_edge_8, av1_intra_edge_16, av1_mc_avg_8,
  *           av1_mc_avg_16, av1_planes_len
- *    2,048  av1_builder_leaf, av1_builder_mark, av1_builder_reference, av1_inverse_transform_add_8, av1_inverse_transform_add_16
+ *    2,048  av1_builder_leaf, av1_builder_mark, av1_builder_reference
  *    4,096  av1_predict_cfl_8, av1_predict_cfl_16, av1_predict_intra_8, av1_predict_intra_16, av1_prep_8tap_8, av1_prep_8tap_16, av1_put_8tap_8,
  *           av1_put_8tap_16
+ *    8,192  av1_inverse_transform_add_8, av1_inverse_transform_add_16
  *   16,384  av1_reconstruct_plan */
 
 /* Statuses. */
@@ -108,7 +109,7 @@ uint32_t av1_reconstruct_plan(const uint8_t *bytes, size_t bytes_len, uint8_t *r
  * cleared, and nothing in it is of use after one. Calls that run at the same time need one each. It is best placed at an address that is a
  * multiple of 64. */
 typedef struct {
-    int32_t words[9728];
+    int32_t words[6144];
 } av1_transform_scratch;
 
 /* Adds the residue of a block's coefficients to samples of 8 bits, and clips, at a depth of 8: the AV1 specification's "2D inverse transform

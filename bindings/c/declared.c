@@ -42,7 +42,7 @@ HOLDS(AV1_MISSING_REFERENCE == 5);
 HOLDS(AV1_INVALID_COEFFICIENT == 6);
 HOLDS(AV1_C_VERSION == 256);
 
-HOLDS(sizeof(av1_transform_scratch) == 38912);
+HOLDS(sizeof(av1_transform_scratch) == 24576);
 
 HOLDS(sizeof(av1_intra_block) == 24);
 FIELD(av1_intra_block, mode, uint8_t *, 0);

@@ -81,7 +81,7 @@ struct CflBlock {
 
 /// `av1_transform_scratch`.
 #[repr(C, align(64))]
-struct Scratch([i32; 9728]);
+struct Scratch([i32; 6144]);
 
 // What holds for all calls: column and row of the block, and how far rows stand apart.
 const AT: usize = 16;
@@ -245,7 +245,7 @@ macro_rules! calls {
                 let (size, side) = (call.size().0, call.side.min(32));
                 let coefficients: Vec<$Coefficient> = values(7, side * side, 100 << (call.depth - 8));
                 let mut written: Vec<$T> = samples(STRIDE * ROWS, call.depth);
-                let mut room = Box::new(Scratch([0; 9728]));
+                let mut room = Box::new(Scratch([0; 6144]));
                 let (i, n, s, m) = (coefficients.as_ptr(), coefficients.len(), written.as_mut_ptr(), written.len());
                 if call.archive {
                     call.repeat(|| unsafe { $transform(&mut room, i, n, s, m, STRIDE, AT, AT, size, call.option $(, call.$depth)?) });

@@ -47,7 +47,7 @@ holds!(sys::MISSING_REFERENCE == 5);
 holds!(sys::INVALID_COEFFICIENT == 6);
 holds!(crate::VERSION == 256);
 
-holds!(size_of::<sys::TransformScratch>() == 38912);
+holds!(size_of::<sys::TransformScratch>() == 24576);
 
 holds!(size_of::<crate::IntraBlock>() == 24);
 field!(crate::IntraBlock, mode, u8, 0);

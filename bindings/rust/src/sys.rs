@@ -45,7 +45,7 @@ pub struct Refusal {
 /// `av1_transform_scratch`.
 #[repr(C, align(64))]
 pub struct TransformScratch {
-    pub words: [i32; 9728],
+    pub words: [i32; 6144],
 }
 
 /// `av1_builder_part`.

@@ -8,7 +8,7 @@ pub struct TransformScratch(Box<sys::TransformScratch>);
 impl TransformScratch {
     /// Room for every size, 64x64 included.
     pub fn new() -> TransformScratch {
-        TransformScratch(Box::new(sys::TransformScratch { words: [0; 9728] }))
+        TransformScratch(Box::new(sys::TransformScratch { words: [0; 6144] }))
     }
 }
 

@@ -5,8 +5,8 @@ ghost use Rattle.av1_calls.specs.Transforms.{AddsResidue};
 use av1_calls::TxRoom;
 use std::mem::size_of;
 
-// C and Rust own it as an array of 9,728 numbers.
-const _: () = prove!(size_of::<TxRoom>() == 38_912);
+// C and Rust own it as an array of 6,144 numbers.
+const _: () = prove!(size_of::<TxRoom>() == 24_576);
 
 /// Adds the residue of coefficients to the samples of a rectangle, at a depth of 8.
 #[unsafe(no_mangle)]

@@ -14,6 +14,7 @@ pub mod LaneOperations
 pub mod NoWrap
 pub mod Zero
 pub mod Folding
+pub mod Single
 pub mod Turned
 pub mod Fused
 pub mod Shorts

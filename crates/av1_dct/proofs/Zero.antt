@@ -10,7 +10,8 @@ use Rattle.std.proofs.lemmas.List.{get_or-replicate, ext_get_or}
 use Rattle.std.proofs.lemmas.List.FromFn.{length-map-range_with_len}
 use Rattle.av1_dct.specs.Arithmetic.{at, clamp_value, wrap32}
 use Rattle.av1_dct.specs.Operations.{half_btf, half_btf_with}
-use Rattle.av1_dct.specs.Cosine.{evens, outer_turn, mirror_sum, group_sum, inner_turn, rounds, cosine, cosine_with, odd_half_with, group_sum_with}
+use Rattle.av1_dct.specs.Cosine.{evens, odds, outer_turn, mirror_sum, group_sum, inner_turn, rounds, odd_half, cosine, cosine_with, odd_half_with}
+use Rattle.av1_dct.specs.Cosine.{group_sum_with}
 use Rattle.av1_dct.specs.Cosine.{inner_turn_with, mirror_sum_with, outer_turn_with, rounds_with}
 use Rattle.av1_lists.specs.Lists.{by_index}
 use Rattle.av1_dct.proofs.Halves.{cosine-length}
@@ -105,15 +106,19 @@ two-zero x y hx hy zero = hx
 two-zero x y hx hy (suc zero) = hy
 two-zero x y hx hy (suc (suc i)) = refl
 
+-- what becomes of odd inputs that are zeros
+pub odd_half-zero : (range k : ℕ) (y : List ℤ) → IsZero y → IsZero (odd_half range k y)
+unfolding odd_half_with
+odd_half-zero range k y h =
+    rounds-zero range (suc k) k _ (by_index-zero _ _ (λ i. outer-zero (suc k) _ i (by_index-zero (2 ^ suc k) _ (λ p. h.at _))))
+
 pub cosine-zero : (range k : ℕ) (x : List ℤ) → IsZero x → IsZero (cosine range k x)
-unfolding cosine_with odd_half_with
+unfolding cosine_with
 cosine-zero range zero x h = record { at = two-zero _ _ (half_btf-zero _ _ _ _ (h.at 0) (h.at 1)) (half_btf-zero _ _ _ _ (h.at 0) (h.at 1)) }
 cosine-zero range (suc k) x h =
     let m = 2 ^ suc k in
     let even = cosine-zero range k (evens m x) (by_index-zero _ _ (λ i. h.at (2 * i))) in
-    let odd =
-    rounds-zero range (suc k) k _
-    (by_index-zero _ _ (λ i. outer-zero (suc k) _ i (by_index-zero m _ (λ p. (by_index-zero m _ (λ q. h.at (2 * q + 1))).at _)))) in
+    let odd = odd_half-zero range k (odds m x) (by_index-zero m _ (λ q. h.at (2 * q + 1))) in
     by_index-zero _ _ (λ i. mirror-zero range false m _ i (append-zero _ _ even odd))
 
 pub zeros : (range k : ℕ) → cosine range k (replicate (2 * 2 ^ k) (pos 0)) ≡ replicate (2 * 2 ^ k) (pos 0)

@@ -1,20 +1,30 @@
 -- Columns n at a time.
-use Rattle.std.proofs.Common.{ℕ, true, refl, cond, ltb, leb, ◌&&◌, ◌≡◌, ◌+◌, ◌-◌, ◌*◌, ◌/◌, ◌<◌, ◌≤◌, ℤ, List, ◌++◌, take, length, arith, ap, sym, ◌∙◌, inl}
-use Rattle.std.proofs.Common.{inr, subst}
+use Rattle.std.proofs.Common.{ℕ, true, false, ◌⊎◌, refl, cond, ltb, leb, ◌&&◌, ◌≡◌, ◌+◌, ◌-◌, ◌*◌, ◌/◌, ◌<◌, ◌≤◌, ℤ, List, ◌++◌, take, length, arith, ap}
+use Rattle.std.proofs.Common.{sym, ◌∙◌, inl}
+use Rattle.std.proofs.Common.{inr, subst, pos, ◌^◌}
 use Rattle.std.specs.List.{All}
-use Rattle.std.proofs.Math.Nat.{mul-le-mul_left}
+use Rattle.std.proofs.Math.Nat.{mul-le-mul_left, mul-le-mul_right}
 use Rattle.std.proofs.lemmas.Bool.{cases_lt}
 use Rattle.std.proofs.lemmas.Bool.Decides.{nat_tests}
-use Rattle.std.proofs.lemmas.List.{take_at, take_all, length-map}
-use Rattle.av1_dct.specs.Arithmetic.{at, FitsBits}
+use Rattle.std.proofs.lemmas.List.{take_at, take_all, length-map, get_or_past}
+use Rattle.av1_dct.specs.Arithmetic.{at, clamp_value, FitsBits}
+use Rattle.av1_dct.specs.Columns.{column_of}
 use Rattle.av1_dct.specs.Cosine.{cosine}
+use Rattle.av1_dct.specs.Operations.{half_btf}
+use Rattle.av1_dct.proofs.Places.{at-by_index}
+use Rattle.av1_dct.proofs.Single.{IsSingle, single}
 use Rattle.av1_lists.specs.Lists.{by_index}
 use Rattle.av1_dct.specs.Word.{column}
+use Rattle.av1_dct.proofs.Powers.{power_only}
 use Rattle.av1_itx.specs.declared.kinds.TxType1D.{TxType1D}
 use Rattle.av1_itx.specs.declared.kinds.TxType1D.TheVariants.{DCT}
-use Rattle.av1_itx.specs.LaneGroups.{is_cosine}
+use Rattle.av1_blocks.specs.declared.transform.TxSize.{TxSize}
+use Rattle.av1_blocks.specs.declared.transform.TxType.{TxType}
+use Rattle.av1_blocks.specs.Transforms.{tx_width}
+use Rattle.av1_itx.specs.Kinds.{column_kind}
+use Rattle.av1_itx.specs.LaneGroups.{is_cosine, lane_groups}
 use Rattle.av1_itx.specs.Networks.{HasNetwork, network, network_with}
-use Rattle.av1_lists.proofs.Lists.{by_index-all, by_index-same}
+use Rattle.av1_lists.proofs.Lists.{by_index-all, by_index-same, length-by_index}
 
 -- one more group of m columns
 pub groups_more : (w c d m h : ℕ) (F G D : ℕ → ℕ → ℤ) (old new : List ℤ) → d ≡ c + m
@@ -82,6 +92,15 @@ cosine_value kind range k r xs z hk is = is ∙ ap (λ zs. at zs r) (dct_is rang
 pub cosine_rounds : (kind : TxType1D) (k : ℕ) → is_cosine kind ≡ true → HasNetwork kind k → (1 ≤ k) × (k ≤ 5)
 cosine_rounds kind k told has = subst (λ t. HasNetwork t k) (cosine_kind kind told) has
 
+-- there are no groups of eight where there are fewer columns, nor by another transform
+pub no_groups : (size : TxSize) (type : TxType) → (tx_width size < 8) ⊎ (is_cosine (column_kind type) ≡ false) → lane_groups size type ≡ 0
+no_groups size type few =
+    let none = λ (lt : tx_width size < 8). (let e : tx_width size / 8 ≡ 0 = omega (arith, lt) in e) in
+    elim few [
+      | inl lt ↦ elim (is_cosine (column_kind type)) as (λ b. cond b (tx_width size / 8) 0 ≡ 0) [ true ↦ none lt | false ↦ refl ]
+      | inr e ↦ ap (λ b. cond b (tx_width size / 8) 0) e
+    ]
+
 -- a group that is one of the w / m has its columns, and all of them have all
 pub group_room : (m g w : ℕ) → m * (w / m) ≡ w → g < w / m → m * g + m ≤ w
 group_room m g w whole lt = let n : m * (g + 1) ≤ m * (w / m) = mul-le-mul_left m (let l : g + 1 ≤ w / m = omega arith in l) in omega arith
@@ -92,3 +111,50 @@ group_in {l} {m} {g} {w} is whole lt = let whole_m : m * (w / m) ≡ w = subst (
 
 pub all_groups : (m g w : ℕ) → m * (w / m) ≡ w → w / m ≤ g → w ≤ m * g
 all_groups m g w whole le = let n = mul-le-mul_left m le in omega arith
+
+-- columns of n values, once n is known as a number
+pub known_has : (kind : TxType1D) (n m j k : ℕ) → n ≡ m → m ≡ 2 * 2 ^ j → n ≡ 2 * 2 ^ k → HasNetwork kind k → HasNetwork kind j
+known_has kind n m j k e ej ek has = subst (λ p. HasNetwork kind p) (power_only k j (sym ek ∙ e ∙ ej)) has
+
+pub columns_known : (kind : TxType1D) (range n m w q r j k : ℕ) (old : List ℤ) {z : ℤ} → n ≡ m → m ≡ 2 * 2 ^ j → n ≡ 2 * 2 ^ k →
+    z ≡ at (network kind range j (column_of m w q old)) r → z ≡ at (network kind range k (column_of n w q old)) r
+columns_known kind range n m w q r j k old e ej ek is =
+    is ∙ ap (λ p. at (network kind range p (column_of m w q old)) r) (power_only j k (sym ej ∙ sym e ∙ ek))
+    ∙ ap (λ x. at (network kind range k (column_of x w q old)) r) (sym e)
+
+-- one more group of m columns, where what was done to it is told of the buffer as it was before
+pub groups_next : (w c d m h : ℕ) (F G X : ℕ → ℕ → ℤ) (old new : List ℤ) → d ≡ c + m
+    → ((r q : ℕ) → r < h → q < w → at old (r * w + q) ≡ cond (ltb q c) (F r q) (G r q))
+    → ((r q : ℕ) → r < h → q < w → at new (r * w + q) ≡ cond (leb c q && ltb q (c + m)) (X r q) (at old (r * w + q)))
+    → ((r q : ℕ) → r < h → c ≤ q → q < c + m → X r q ≡ F r q)
+    → (r q : ℕ) → r < h → q < w → at new (r * w + q) ≡ cond (ltb q d) (F r q) (G r q)
+groups_next w c d m h F G X old new ed before now here = λ r q hr hq.
+    let a = before r q hr hq in
+    let b = now r q hr hq in
+    elim (cases_lt q c) [
+      | inl lo ↦ grind (arith, nat_tests)
+      | inr lo ↦ elim (cases_lt q (c + m)) [
+        | inl hi ↦ (let u = here r q hr lo hi in grind (arith, nat_tests))
+        | inr hi ↦ grind (arith, nat_tests)
+      ]
+    ]
+
+-- a column of a buffer whose first row alone has values
+level_column : (h w c : ℕ) (old : List ℤ) → ((p : ℕ) → w ≤ p → at old p ≡ pos 0) → IsSingle (column_of h w c old)
+level_column h w c old none = record {
+  rest = λ i some. elim (cases_lt i h) [
+    | inl lt ↦ (let below = mul-le-mul_right w some in at-by_index h (λ r. at old (r * w + c)) i lt ∙ none (i * w + c) (omega (arith, below)))
+    | inr past ↦ get_or_past (column_of h w c old) i (pos 0) (omega (arith, length-by_index h (λ r. at old (r * w + c))))
+  ];
+}
+
+pub level_is : (kind : TxType1D) (range k h w c r : ℕ) (old : List ℤ) (z : ℤ) → is_cosine kind ≡ true → ((p : ℕ) → w ≤ p → at old p ≡ pos 0)
+    → h ≡ 2 * 2 ^ k → 1 ≤ k → r < h → z ≡ clamp_value (half_btf (pos 2896) (at old c) (pos 0) (at old c)) range
+    → z ≡ at (network kind range k (column_of h w c old)) r
+level_is kind range k h w c r old z told none power some lt is =
+    let xs = column_of h w c old in
+    let top : c ≡ 0 * w + c = omega arith in
+    let first : at old c ≡ at xs 0 = ap (at old) top ∙ sym (at-by_index h (λ y. at old (y * w + c)) 0 (omega arith)) in
+    cosine_value kind range k r xs z told
+    (is ∙ ap (λ v. clamp_value (half_btf (pos 2896) v (pos 0) v) range) first
+    ∙ sym (single range k xs (level_column h w c old none) some r (omega (arith, lt, power))))

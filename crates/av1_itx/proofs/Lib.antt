@@ -12,8 +12,7 @@ pub mod Lines
 pub mod Outputs
 pub mod Zeros
 pub mod Passes
-pub mod ScaledRows
-pub mod Single
+pub mod Tiles
 pub mod Eights
 pub mod Copies
 pub mod Sizes

@@ -1,5 +1,5 @@
 -- Rows and columns of a list that stands row by row.
-use Rattle.std.proofs.Common.{ℕ, cond, ltb, ◌≡◌, ◌==◌, ◌+◌, ◌-◌, ◌*◌, ◌<◌, ◌≤◌, ℤ, pos, List, map, length, set, get_or, arith, ap, sym, subst, refl, ◌∙◌, inl}
+use Rattle.std.proofs.Common.{ℕ, cond, ltb, ◌≡◌, ◌==◌, ◌+◌, ◌-◌, ◌*◌, ◌<◌, ◌≤◌, ℤ, pos, List, map, length, set, get_or, arith, ap, sym, refl, ◌∙◌, inl}
 use Rattle.std.proofs.Common.{inr, get_or-set_other, get_or-set_same}
 use Rattle.std.proofs.lemmas.Bool.{cases_lt, cases_eq, cases_order}
 use Rattle.std.proofs.lemmas.Bool.Decides.{nat_tests}
@@ -11,11 +11,6 @@ use Rattle.av1_dct.proofs.Groups.{put, put-low, put-mid}
 
 pub place_in : (r c w h : ℕ) → r < h → c < w → r * w + c < h * w
 place_in r c w h hr hc = let e = row_end_le r h w (c + 1) (h * w) refl hr (omega arith) in omega arith
-
--- a place of a block lies in a buffer of all its places
-pub place_in_block : {width height n : ℕ} (r c w h : ℕ) → w ≡ width → h ≡ height → n ≡ height * width → r < h → c < w → r * w + c < n
-place_in_block {width} {height} r c w h ew eh en hr hc =
-    subst (λ m. r * w + c < m) (ap (λ k. k * w) eh ∙ ap (λ k. height * k) ew ∙ sym en) (place_in r c w h hr hc)
 
 -- places of different rows differ
 pub place_before : (r c w q : ℕ) → r < q → c < w → r * w + c < q * w
@@ -88,11 +83,11 @@ columns_more w c h new old t F G before now here = λ r q hr hq.
 pub read_at : {X : Type 0} (f : X → ℤ) (xs : List X) (q : ℕ) (x : X) → q < length xs → x ≡ get_or xs q x → f x ≡ at (map f xs) q
 read_at f xs q x h e = ap f e ∙ sym (get_or-map f xs q x (pos 0) h)
 
--- a buffer whose columns were all written
-pub column_written : (w c h : ℕ) (buf old : List ℤ) (F : ℕ → ℕ → ℤ) →
-    ((r q : ℕ) → r < h → q < w → at buf (r * w + q) ≡ cond (ltb q c) (F r q) (at old (r * w + q))) → w ≤ c → (r q : ℕ) → r < h → q < w →
+-- a buffer whose first columns were written
+pub column_written : (n w c h : ℕ) (buf old : List ℤ) (F : ℕ → ℕ → ℤ) →
+    ((r q : ℕ) → r < h → q < w → at buf (r * w + q) ≡ cond (ltb q c) (F r q) (at old (r * w + q))) → n ≤ c → n ≤ w → (r q : ℕ) → r < h → q < n →
     at buf (r * w + q) ≡ F r q
-column_written w c h buf old F inv le r q hr hq = let i = inv r q hr hq in grind (arith, nat_tests)
+column_written n w c h buf old F inv le few r q hr hq = let i = inv r q hr (omega arith) in grind (arith, nat_tests)
 
 -- where group g of m rows of w places begins, and that it is one of h rows
 pub group_place : (m g w h : ℕ) → m * g + m ≤ h → (g * (m * w) ≡ m * g * w) × (g * (m * w) + m * w ≤ h * w)

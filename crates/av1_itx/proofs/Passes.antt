@@ -8,25 +8,21 @@ use Rattle.std.proofs.lemmas.Nat.{pow_pos}
 use Rattle.std.proofs.Math.Nat.{div-eq_of_lt}
 use Rattle.av1_blocks.specs.declared.transform.TxSize.{TxSize}
 use Rattle.av1_blocks.specs.declared.transform.TxType.{TxType}
-use Rattle.av1_blocks.specs.Transforms.{tx_width, tx_height, coded, coded_area}
+use Rattle.av1_blocks.specs.Transforms.{tx_width, tx_height, coded}
 use Rattle.av1_dct.specs.Arithmetic.{at, FitsBits, clamp_value}
+use Rattle.av1_dct.specs.Columns.{column_of}
 use Rattle.av1_lists.specs.Lists.{by_index}
 use Rattle.av1_dct.proofs.Zero.{IsZero, clamp-zero, cond-zero, by_index-zero}
 use Rattle.av1_frame.specs.Arithmetic.{round_shift}
+use Rattle.av1_itx.specs.declared.kinds.TxType1D.{TxType1D}
 use Rattle.av1_itx.specs.Kinds.{row_kind, column_kind}
 use Rattle.av1_itx.specs.Networks.{network}
-use Rattle.av1_itx.specs.Residue.{row_value, row_input, row_power, row_range, row_shift, is_two_to_one, is_lossless, transformed_row, column_input}
+use Rattle.av1_itx.specs.Residue.{row_value, row_input, row_power, row_range, row_shift, is_two_to_one, is_lossless, transformed_row}
 use Rattle.av1_itx.specs.Residue.{column_network, column_power, column_range, column_shift, transformed_column, residue}
 use Rattle.av1_lists.proofs.Lists.{by_index-all, by_index-same}
 use Rattle.av1_dct.proofs.Fits.{zero_fits, clamp_value-fits, all-fit}
-use Rattle.av1_itx.proofs.Lines.{place_in}
 use Rattle.av1_itx.proofs.Outputs.{network-fits}
 use Rattle.av1_itx.proofs.Zeros.{network-zero, zero_line}
-
--- the place of a coefficient is one of the block's
-pub coded_place : (size : TxSize) (r c rows : ℕ) → rows ≡ coded (tx_height size) → c < coded (tx_width size) → r < coded (tx_height size) →
-    c * rows + r < coded_area size
-coded_place size r c rows e hc hr = subst (λ n. c * n + r < coded_area size) (sym e) (place_in c r (coded (tx_height size)) (coded (tx_width size)) hc hr)
 
 input_in : (size : TxSize) (type : TxType) (depth : ℕ) (cs : List ℤ) (r c : ℕ) → c < coded (tx_width size) →
     row_value size type depth (at cs (c * coded (tx_height size) + r)) ≡ row_input size type depth cs r c
@@ -43,7 +39,7 @@ pub input_past : (size : TxSize) (type : TxType) (depth : ℕ) (cs : List ℤ) (
 unfolding row_input
 input_past size type depth cs r c h = grind (arith, nat_tests)
 
-input-fits : (size : TxSize) (type : TxType) (depth : ℕ) (cs : List ℤ) (r c : ℕ) → FitsBits (row_range depth) (row_input size type depth cs r c)
+pub input-fits : (size : TxSize) (type : TxType) (depth : ℕ) (cs : List ℤ) (r c : ℕ) → FitsBits (row_range depth) (row_input size type depth cs r c)
 unfolding row_input row_value
 input-fits size type depth cs r c =
     elim (ltb c (coded (tx_width size))) as
@@ -75,35 +71,38 @@ row-fits size type depth cs r c h =
       | inr b ↦ subst P (sym (row_past size type depth cs r c b)) (zero_fits 24)
     ]
 
--- what a column takes
-pub column_inputs-fit : (n s range : ℕ) (f : ℕ → ℤ) → All (FitsBits range) (by_index n (λ r. clamp_value (round_shift (f r) s) range))
-column_inputs-fit n s range f = by_index-all (FitsBits range) _ _ (λ r h. clamp_value-fits _ range (omega arith))
+-- a column by its block
+pub block_column : (size : TxSize) (type : TxType) (depth w h k range r q : ℕ) (kind : TxType1D) (buf : List ℤ) (z : ℤ) → kind ≡ column_kind type →
+    w ≡ tx_width size → h ≡ tx_height size → k ≡ column_power size → range ≡ column_range depth
+    → z ≡ at (network kind range k (column_of h w q buf)) r
+    → z ≡ at (network (column_kind type) (column_range depth) (column_power size) (column_of (tx_height size) (tx_width size) q buf)) r
+block_column size type depth w h k range r q kind buf z ek ew eh ep er is =
+    let column = λ (t : TxType1D) (g p n m : ℕ). at (network t g p (column_of n m q buf)) r in
+    is
+    ∙ ap (λ n. column kind range k n w) eh
+    ∙ ap (λ m. column kind range k (tx_height size) m) ew
+    ∙ ap (λ p. column kind range p (tx_height size) (tx_width size)) ep
+    ∙ ap (λ g. column kind g (column_power size) (tx_height size) (tx_width size)) er
+    ∙ ap (λ t. column t (column_range depth) (column_power size) (tx_height size) (tx_width size)) ek
 
-pub column-fits : (size : TxSize) (type : TxType) (depth : ℕ) (f : ℕ → ℤ) (r : ℕ) → depth ≤ 12 → FitsBits 24 (at (column_network size type depth f) r)
-unfolding column_network
-column-fits size type depth f r h =
+-- the columns of a block whose rows were clamped fit
+pub column-fits : (size : TxSize) (type : TxType) (depth : ℕ) (buf : List ℤ) (r c : ℕ) → depth ≤ 12
+    → ((y : ℕ) → y < tx_height size → FitsBits (column_range depth) (at buf (y * tx_width size + c)))
+    → FitsBits 24 (at (network (column_kind type) (column_range depth) (column_power size) (column_of (tx_height size) (tx_width size) c buf)) r)
+column-fits size type depth buf r c h fit =
     network-fits (column_kind type) (column_range depth) (column_power size) _ (omega arith)
-    (all-fit (column_range depth) 20 _ (omega arith) (column_inputs-fit (tx_height size) (row_shift size) (column_range depth) f)) r
-
-pub column_network-is : (size : TxSize) (type : TxType) (depth : ℕ) (f : ℕ → ℤ) →
-    network (column_kind type) (column_range depth) (column_power size) (column_input size depth f) ≡ column_network size type depth f
-unfolding column_network
-column_network-is size type depth f = refl
-
-pub column_ext : (size : TxSize) (type : TxType) (depth : ℕ) (f g : ℕ → ℤ) → ((r : ℕ) → r < tx_height size → f r ≡ g r) →
-    column_network size type depth f ≡ column_network size type depth g
-unfolding column_network
-column_ext size type depth f g h =
-    ap (network (column_kind type) (column_range depth) (column_power size))
-    (by_index-same _ _ _ (λ r l. ap (λ z. clamp_value (round_shift z (row_shift size)) (column_range depth)) (h r l)))
+    (all-fit (column_range depth) 20 _ (omega arith) (by_index-all (FitsBits (column_range depth)) _ _ fit)) r
 
 -- both passes
-pub residue_is : (size : TxSize) (type : TxType) (depth : ℕ) (cs : List ℤ) (f : ℕ → ℤ) (r c : ℕ) (z : ℤ) → z ≡ at (column_network size type depth f) r
-    → ((y : ℕ) → y < tx_height size → f y ≡ at (transformed_row size type depth cs y) c)
+pub residue_is : (size : TxSize) (type : TxType) (depth : ℕ) (cs buf : List ℤ) (r c : ℕ) (z : ℤ)
+    → z ≡ at (network (column_kind type) (column_range depth) (column_power size) (column_of (tx_height size) (tx_width size) c buf)) r
+    → ((y : ℕ) → y < tx_height size → at buf (y * tx_width size + c) ≡
+    clamp_value (round_shift (at (transformed_row size type depth cs y) c) (row_shift size)) (column_range depth))
     → round_shift z (column_shift type) ≡ residue size type depth cs r c
-unfolding residue transformed_column
-residue_is size type depth cs f r c z is h =
-    ap (λ v. round_shift v (column_shift type)) (is ∙ ap (λ l. at l r) (column_ext size type depth f _ h))
+unfolding residue transformed_column column_network
+residue_is size type depth cs buf r c z is h =
+    ap (λ v. round_shift v (column_shift type))
+    (is ∙ ap (λ zs. at (network (column_kind type) (column_range depth) (column_power size) zs) r) (by_index-same _ _ _ h))
 
 -- a coefficient by how its block is scaled
 pub row_value-is : (size : TxSize) (type : TxType) (depth : ℕ) (t l : Bool) (v z : ℤ) → t ≡ is_two_to_one size → l ≡ is_lossless type →
@@ -120,7 +119,7 @@ row_value-zero size type depth = clamp-zero _ (row_range depth) (cond-zero (is_t
 half_below : (n : ℕ) → 0 < n → 0 + n / 2 < n
 half_below n h = omega arith
 
-shifted-zero : (z : ℤ) (b : ℕ) → z ≡ pos 0 → round_shift z b ≡ pos 0
+pub shifted-zero : (z : ℤ) (b : ℕ) → z ≡ pos 0 → round_shift z b ≡ pos 0
 shifted-zero z b h =
     let some = pow_pos b in
     let small : (0 + 2 ^ b / 2) / 2 ^ b ≡ 0 = div-eq_of_lt (half_below (2 ^ b) some) in

@@ -6,4 +6,3 @@ pub mod Networks
 pub mod Residue
 pub mod Shift
 pub mod LaneGroups
-pub mod Scaled

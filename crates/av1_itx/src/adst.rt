@@ -196,27 +196,27 @@ fn adst4_of<W: BlockWord>(input: &[W], output: &mut [W])
         .round12();
 }
 
-/// The inverse asymmetric sine transform of 2^(k+1) values, in each lane. `work` is room for 16.
+/// The inverse asymmetric sine transform of 2^(k+1) values, in each lane.
 #[inline(always)]
-pub(crate) fn adst_of<W: BlockWord>(
-    k: usize,
-    input: &[W],
-    work: &mut [W],
-    output: &mut [W],
-    range: usize,
-)
+pub(crate) fn adst_of<W: BlockWord>(k: usize, input: &[W], output: &mut [W], range: usize)
     requires range_in { (8 ≤ range) × (range ≤ 20) }
     requires k_in { (1 ≤ k) × (k ≤ 3) }
     requires input_len { length input.now ≡ 2 * 2 ^ k }
-    requires work_len { 16 ≤ length work.old }
     requires output_len { length output.old ≡ 2 * 2 ^ k }
     requires fit { (i : ℕ) → i < W.LANES → AllFit 20 (column W.lane_of i input.now) }
     ensures { (i : ℕ) → i < W.LANES → column W.lane_of i output.new ≡ adst range k (column W.lane_of i input.now) }
 {
+    let zero = W::splat(0);
     match k {
         1 => adst4_of(input, output),
-        2 => adst8_of(input, &mut work[..8], output, range),
-        _ => adst16_of(input, &mut work[..16], output, range),
+        2 => {
+            let mut v = [zero; 8];
+            adst8_of(input, &mut v, output, range);
+        }
+        _ => {
+            let mut v = [zero; 16];
+            adst16_of(input, &mut v, output, range);
+        }
     }
 }
 

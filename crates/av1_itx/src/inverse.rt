@@ -4,7 +4,7 @@ ghost use Rattle.std.specs.Prelude.{◌≡◌, ℕ, ◌+◌, ◌-◌, ◌*◌, �
 ghost use Rattle.av1_blocks.specs.declared.transform.TxSize.TheVariants.{TX_4X4};
 ghost use Rattle.av1_blocks.specs.declared.transform.TxType.TheVariants.{WHT_WHT};
 ghost use Rattle.av1_blocks.specs.Depths.{IsDepth};
-ghost use Rattle.av1_blocks.specs.Transforms.{tx_width, tx_height, coded_area, valid_av1_transform};
+ghost use Rattle.av1_blocks.specs.Transforms.{tx_width, tx_height, coded, coded_area, valid_av1_transform};
 ghost use Rattle.av1_dct.specs.Arithmetic.{at, FitsBits};
 ghost use Rattle.av1_lists.specs.Counts.{raised};
 ghost use Rattle.av1_frame.specs.Arithmetic.{clip, round_shift};
@@ -17,20 +17,19 @@ ghost use Rattle.av1_itx.specs.Networks.{HasNetwork};
 ghost use Rattle.av1_itx.specs.Residue.{column_power, column_shift, residue, row_power};
 
 use crate::columns::column_pass;
-use crate::lanes::{LaneRoom, Lanes};
-use crate::room::TxRoom;
+use crate::lanes::{CosineColumns, Lanes, Uncounted};
 use crate::rows::row_pass;
 use av1_blocks::{OutOfMemory, TxSize, TxType};
 use av1_frame::{Pixel, PlaneRegionMut, StoredArea, clip, round_shift};
 use std::alloc::Global;
 
-/// The values of one block between its passes, of one row or column, and of eight columns.
+/// The values of one block between its passes, its scaled coefficients, and lines of eight columns.
 #[derive(Drop)]
 pub struct TxScratch {
     buffer: Vec<i32>,
     scaled: Vec<i32>,
     lanes: Lanes,
-    ghost long: { (vec_len buffer ≡ 4096) × (vec_len scaled ≡ 1024) },
+    ghost long: { (vec_len buffer ≡ 4096) × (vec_len scaled ≡ 2048) },
 }
 
 impl TxScratch {
@@ -39,7 +38,7 @@ impl TxScratch {
         ensures { IfOk result (λ scratch. scratch.lanes.count.groups ≡ 0) }
     {
         let buffer = vec![in alloc; 0; 4096]?;
-        let scaled = vec![in alloc; 0; 1024]?;
+        let scaled = vec![in alloc; 0; 2048]?;
         let lanes = Lanes::new(alloc)?;
         Ok(TxScratch {
             buffer,
@@ -53,6 +52,25 @@ impl TxScratch {
         ensures { result ≡ self.now.lanes.count.groups }
     {
         self.lanes.groups()
+    }
+}
+
+/// Room for the values of one block between its passes, and for its scaled coefficients: 24,576 bytes, whose values
+/// before a call don't matter. It is a struct of arrays of `i32` alone, so that C or Rust may own it.
+#[repr(C)]
+#[derive(Drop)]
+pub struct TxRoom {
+    buffer: [i32; 4096],
+    scaled: [i32; 2048],
+}
+
+impl TxRoom {
+    /// Room for every size, 64x64 included.
+    pub fn new() -> TxRoom {
+        TxRoom {
+            buffer: [0; 4096],
+            scaled: [0; 2048],
+        }
     }
 }
 
@@ -125,7 +143,7 @@ fn column_shift_of(tx_type: TxType) -> usize
 }
 
 // The inverse transform over a buffer of just the block's size.
-fn add_block<T: Pixel, R: LaneRoom>(
+fn add_block<T: Pixel, R: CosineColumns>(
     buffer: &mut [i32],
     scaled: &mut [i32],
     lanes: &mut R,
@@ -142,7 +160,7 @@ fn add_block<T: Pixel, R: LaneRoom>(
     requires rows_run { HasNetwork (row_kind tx_type) (row_power tx_size) }
     requires columns_run { HasNetwork (column_kind tx_type) (column_power tx_size) }
     requires buffer_len { length buffer.old ≡ tx_height tx_size * tx_width tx_size }
-    requires scaled_len { length scaled.old ≡ coded_area tx_size }
+    requires scaled_len { length scaled.old ≡ tx_width tx_size * coded (tx_height tx_size) }
     requires input_len { coded_area tx_size ≤ length input.now }
     requires input_fits { (i : ℕ) → i < coded_area tx_size → FitsBits (bd + 8) (at (map T.Coeff.val input.now) i) }
     requires rows { AreRows stride area (length samples.old) }
@@ -152,14 +170,14 @@ fn add_block<T: Pixel, R: LaneRoom>(
         samples.old }
     ensures counts { R.tally lanes.new ≡ R.raised_by (R.tally lanes.old) (lane_groups tx_size tx_type) }
 {
-    row_pass(input, scaled, lanes, buffer, tx_size, tx_type, bd);
+    row_pass(input, scaled, buffer, tx_size, tx_type, bd);
     column_pass(buffer, lanes, tx_size, tx_type, bd);
     let shift = column_shift_of(tx_type);
     add_rows(samples, stride, area, buffer, shift, bd);
 }
 
 // The same over a whole buffer.
-fn add_over<T: Pixel, R: LaneRoom>(
+fn add_over<T: Pixel, R: CosineColumns>(
     buffer: &mut [i32],
     scaled: &mut [i32],
     lanes: &mut R,
@@ -176,7 +194,7 @@ fn add_over<T: Pixel, R: LaneRoom>(
     requires valid { IsTrue (valid_av1_transform tx_size tx_type) }
     requires lossless { tx_type ≡ WHT_WHT → tx_size ≡ TX_4X4 }
     requires buffer_len { 4096 ≤ length buffer.old }
-    requires scaled_len { 1024 ≤ length scaled.old }
+    requires scaled_len { 2048 ≤ length scaled.old }
     requires input_len { coded_area tx_size ≤ length input.now }
     requires input_fits { (i : ℕ) → i < coded_area tx_size → FitsBits (bd + 8) (at (map T.Coeff.val input.now) i) }
     requires rows { AreRows stride area (length samples.old) }
@@ -187,10 +205,10 @@ fn add_over<T: Pixel, R: LaneRoom>(
     ensures counts { R.tally lanes.new ≡ R.raised_by (R.tally lanes.old) (lane_groups tx_size tx_type) }
 {
     let places = tx_size.height() * tx_size.width();
-    let coefficients = tx_size.width().min(32) * tx_size.height().min(32);
+    let inputs = tx_size.width() * tx_size.height().min(32);
     add_block(
         &mut buffer[..places],
-        &mut scaled[..coefficients],
+        &mut scaled[..inputs],
         lanes,
         input,
         samples,
@@ -271,7 +289,7 @@ pub fn inverse_transform_add_in<T: Pixel>(
     add_over(
         &mut room.buffer,
         &mut room.scaled,
-        &mut room.lanes,
+        &mut Uncounted,
         input,
         samples,
         stride,

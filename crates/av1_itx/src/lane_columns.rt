@@ -1,10 +1,11 @@
-//! The second pass by groups of columns, one in each lane.
+//! Groups of columns, one in each lane.
 
-ghost use Rattle.std.specs.Prelude.{◌≡◌, ℕ, ◌+◌, ◌-◌, ◌*◌, ◌/◌, ◌^◌, ◌<◌, ◌≤◌, nat_le, nat_lt, ◌&&◌, if◌then◌else◌, length};
-ghost use Rattle.av1_dct.specs.Arithmetic.{at, FitsBits};
+ghost use Rattle.std.specs.Prelude.{◌≡◌, ℕ, ◌+◌, ◌-◌, ◌*◌, ◌/◌, ◌^◌, ◌<◌, ◌≤◌, nat_le, nat_lt, ◌&&◌, if◌then◌else◌, pos, length};
+ghost use Rattle.av1_dct.specs.Arithmetic.{at, clamp_value, FitsBits};
 ghost use Rattle.av1_lists.specs.Counts.{raised};
 ghost use Rattle.av1_lists.specs.Sides.{IsTransformSide};
 ghost use Rattle.av1_dct.specs.Cosine.{cosine};
+ghost use Rattle.av1_dct.specs.Operations.{half_btf};
 ghost use Rattle.av1_lists.specs.Lists.{by_index};
 ghost use Rattle.av1_dct.specs.Word.{column};
 ghost use Rattle.av1_itx.specs.Networks.{HasNetwork, network};
@@ -12,6 +13,7 @@ ghost use Rattle.av1_itx.specs.Networks.{HasNetwork, network};
 use crate::kinds::TxType1D;
 use crate::networks::inverse_1d;
 use crate::words::BlockWord;
+use av1_blocks::INV_SQRT2;
 use av1_dct::{LaneCount, cosine_lanes};
 use std::simd::prelude::*;
 
@@ -50,7 +52,6 @@ fn scatter_words<W: BlockWord>(buffer: &mut [i32], line: &[W], c: usize, w: usiz
 pub(crate) fn run_groups(
     buffer: &mut [i32],
     line: &mut [i32x8],
-    work: &mut [i32x8],
     transformed: &mut [i32x8],
     count: &mut LaneCount,
     w: usize,
@@ -63,9 +64,8 @@ pub(crate) fn run_groups(
     requires height { IsTransformSide h }
     requires power { h ≡ 2 * 2 ^ k }
     requires buffer_len { length buffer.old ≡ h * w }
-    requires line_len { 64 ≤ length line.old }
-    requires work_len { 16 ≤ length work.old }
-    requires transformed_len { 64 ≤ length transformed.old }
+    requires line_len { h ≤ length line.old }
+    requires transformed_len { h ≤ length transformed.old }
     requires range_in { (8 ≤ range) × (range ≤ 20) }
     requires fit { (r c : ℕ) → r < h → c < w → FitsBits range (at buffer.old (r * w + c)) }
     ensures value { (r c : ℕ) → r < h → c < w → at buffer.new (r * w + c) ≡ at (cosine range k (by_index h (λ y. at buffer.old (y * w + c)))) r }
@@ -75,43 +75,89 @@ pub(crate) fn run_groups(
     let _count = count.groups();
     for g in 0..w / 8 {
         gather_words(buffer, &mut line[..h], 8 * g, w);
-        cosine_lanes(count, h, &line[..h], work, &mut transformed[..h], range);
+        cosine_lanes(count, h, &line[..h], &mut [], &mut transformed[..h], range);
         scatter_words(buffer, &transformed[..h], 8 * g, w);
     }
 }
 
-/// Each group of columns, one in each lane, transformed in place by any kind.
-#[tactic(auto, using(crate::proofs::Eights::group_in))]
+/// The first columns of a buffer of w columns and h rows, one in each lane, transformed in place by any kind. Here h is
+/// 2^(k+1).
+#[inline(always)]
 pub(crate) fn run_words<W: BlockWord>(
     buffer: &mut [i32],
     line: &mut [W],
-    work: &mut [W],
     transformed: &mut [W],
     kind: TxType1D,
+    columns: usize,
     w: usize,
     h: usize,
     k: usize,
     range: usize,
 )
     requires some { 0 < W.LANES }
-    requires width { W.LANES * (w / W.LANES) ≡ w }
+    requires whole { W.LANES * (columns / W.LANES) ≡ columns }
+    requires width { columns ≤ w }
     requires few { w ≤ 64 }
     requires height { h ≤ 64 }
     requires power { h ≡ 2 * 2 ^ k }
     requires has { HasNetwork kind k }
     requires buffer_len { length buffer.old ≡ h * w }
-    requires line_len { 64 ≤ length line.old }
-    requires work_len { 16 ≤ length work.old }
-    requires transformed_len { 64 ≤ length transformed.old }
+    requires line_len { h ≤ length line.old }
+    requires transformed_len { h ≤ length transformed.old }
     requires range_in { (8 ≤ range) × (range ≤ 20) }
-    requires fit { (r c : ℕ) → r < h → c < w → FitsBits range (at buffer.old (r * w + c)) }
-    ensures { (r c : ℕ) → r < h → c < w → at buffer.new (r * w + c) ≡ at (network kind range k (by_index h (λ y. at buffer.old (y * w + c)))) r }
+    requires fit { (r c : ℕ) → r < h → c < columns → FitsBits range (at buffer.old (r * w + c)) }
+    ensures { (r c : ℕ) → r < h → c < columns → at buffer.new (r * w + c) ≡ at (network kind range k (by_index h (λ y. at buffer.old (y * w + c)))) r }
 {
     let m = W::LANES;
-    for g in 0..w / m {
+    for g in 0..columns / m {
         let c = m * g;
         gather_words(buffer, &mut line[..h], c, w);
-        inverse_1d(kind, k, &line[..h], work, &mut transformed[..h], range);
+        inverse_1d(kind, k, &line[..h], &mut transformed[..h], range);
         scatter_words(buffer, &transformed[..h], c, w);
+    }
+}
+
+// The columns from c on, one in each lane, transformed in place by the cosine transform where only the first row has
+// values: each column becomes one value.
+#[inline(always)]
+fn level_words<W: BlockWord>(buffer: &mut [i32], c: usize, w: usize, h: usize, range: usize)
+    requires columns_in { c + W.LANES ≤ w }
+    requires few { w ≤ 64 }
+    requires height { (1 ≤ h) × (h ≤ 64) }
+    requires range_in { (8 ≤ range) × (range ≤ 20) }
+    requires buffer_len { length buffer.old ≡ h * w }
+    ensures { (r q : ℕ) → r < h → q < w →
+        at buffer.new (r * w + q) ≡ (if nat_le c q && nat_lt q (c + W.LANES)
+        then clamp_value (half_btf (pos 2896) (at buffer.old q) (pos 0) (at buffer.old q)) range else at buffer.old (r * w + q)) }
+{
+    let first = W::read(buffer, c);
+    let word = W::turn(INV_SQRT2, first, 0, first).clamp_to(range);
+    for r in 0..h {
+        word.write(buffer, r * w + c);
+    }
+}
+
+/// The first columns of a buffer of w columns and h rows, transformed in place by the cosine transform where only the
+/// first row has values, as many at a time as a word has lanes.
+pub(crate) fn level_columns<W: BlockWord>(
+    buffer: &mut [i32],
+    columns: usize,
+    w: usize,
+    h: usize,
+    range: usize,
+)
+    requires some { 0 < W.LANES }
+    requires whole { W.LANES * (columns / W.LANES) ≡ columns }
+    requires width { columns ≤ w }
+    requires few { w ≤ 64 }
+    requires height { (1 ≤ h) × (h ≤ 64) }
+    requires range_in { (8 ≤ range) × (range ≤ 20) }
+    requires buffer_len { length buffer.old ≡ h * w }
+    ensures { (r c : ℕ) → r < h → c < columns →
+        at buffer.new (r * w + c) ≡ clamp_value (half_btf (pos 2896) (at buffer.old c) (pos 0) (at buffer.old c)) range }
+{
+    let m = W::LANES;
+    for g in 0..columns / m {
+        level_words::<W>(buffer, m * g, w, h, range);
     }
 }

@@ -1,137 +1,338 @@
-//! Room for rows and columns that are transformed side by side.
+//! Columns of a block, transformed in place side by side: eight at a time, or four where there are no more.
 //!
-//! What the passes ask of such room is `LaneRoom`. `Lanes` is on the heap and counts; `LaneLines` is a plain struct
-//! that anyone can own.
+//! Rows of coefficients go the same way, since they are the columns of the list that coefficients stand in.
 
-ghost use Rattle.std.specs.Prelude.{◌≡◌, ℕ, ◌+◌, ◌*◌, ◌/◌, ◌^◌, ◌<◌, ◌≤◌, IfOk, length, vec_len};
-ghost use Rattle.av1_blocks.specs.Transforms.{tx_width, tx_height, coded, coded_area};
+ghost use Rattle.std.specs.Prelude.{◌≡◌, true, ℕ, pos, ◌+◌, ◌-◌, ◌*◌, ◌/◌, ◌^◌, ◌<◌, ◌≤◌, IfOk, length, vec_len};
 ghost use Rattle.av1_lists.specs.Sides.{IsTransformSide};
-ghost use Rattle.av1_dct.specs.Arithmetic.{at, AllFit, FitsBits};
-ghost use Rattle.av1_lists.specs.Counts.{raised};
+ghost use Rattle.av1_dct.specs.Arithmetic.{at, clamp_value, FitsBits};
+ghost use Rattle.av1_dct.specs.Columns.{column_of};
 ghost use Rattle.av1_dct.specs.Cosine.{cosine};
-ghost use Rattle.av1_lists.specs.Lists.{by_index};
-ghost use Rattle.av1_itx.specs.Kinds.{row_kind};
+ghost use Rattle.av1_dct.specs.Operations.{half_btf};
+ghost use Rattle.av1_lists.specs.Counts.{raised};
+ghost use Rattle.av1_itx.specs.LaneGroups.{is_cosine};
 ghost use Rattle.av1_itx.specs.Networks.{HasNetwork, network};
-ghost use Rattle.av1_itx.specs.Residue.{row_power, row_range};
-ghost use Rattle.av1_itx.specs.Scaled.{scaled_input};
 
 use crate::kinds::TxType1D;
-use crate::lane_columns::{run_groups, run_words};
-use crate::lane_rows::run_row_groups;
-use av1_blocks::{OutOfMemory, TxSize, TxType};
-use av1_dct::LaneCount;
+use crate::lane_columns::{level_columns, run_groups, run_words};
+use crate::words::Held;
+use av1_blocks::OutOfMemory;
+use av1_dct::{LaneCount, cosine_columns};
 use std::alloc::{AllocError, Global};
 use std::simd::prelude::*;
 
 /// How many columns are transformed at a time.
 pub(crate) const LANES: usize = 8;
 
-/// Room in which rows and columns are transformed side by side: eight at a time, or four where there are no more.
-pub(crate) trait LaneRoom {
+/// The range at which sums have 16 bits.
+const SHORT_BITS: usize = 16;
+
+/// Whether a kind is the cosine transform.
+pub(crate) fn is_cosine(kind: TxType1D) -> bool
+    ensures { result ≡ is_cosine kind }
+{
+    matches!(kind, TxType1D::DCT)
+}
+
+// The first columns of a buffer of w columns and N = 2^(K+1) rows, four at a time, over lines of its own. Both are
+// constants of each instance, so that the compiler knows all places of a transform as numbers.
+fn four_of<const K: usize, const N: usize>(
+    buffer: &mut [i32],
+    kind: TxType1D,
+    columns: usize,
+    w: usize,
+    range: usize,
+)
+    requires whole { 4 * (columns / 4) ≡ columns }
+    requires width { columns ≤ w }
+    requires few { w ≤ 64 }
+    requires height { N ≤ 64 }
+    requires power { N ≡ 2 * 2 ^ K }
+    requires has { HasNetwork kind K }
+    requires buffer_len { length buffer.old ≡ N * w }
+    requires range_in { (8 ≤ range) × (range ≤ 20) }
+    requires fit { (r c : ℕ) → r < N → c < columns → FitsBits range (at buffer.old (r * w + c)) }
+    ensures { (r c : ℕ) → r < N → c < columns → at buffer.new (r * w + c) ≡ at (network kind range K (column_of N w c buffer.old)) r }
+{
+    let zero = Held {
+        word: i32x4::splat(0),
+    };
+    let (mut line, mut transformed) = ([zero; N], [zero; N]);
+    run_words(
+        buffer,
+        &mut line,
+        &mut transformed,
+        kind,
+        columns,
+        w,
+        N,
+        K,
+        range,
+    );
+}
+
+// The same, eight at a time.
+fn eight_of<const K: usize, const N: usize>(
+    buffer: &mut [i32],
+    kind: TxType1D,
+    columns: usize,
+    w: usize,
+    range: usize,
+)
+    requires whole { 8 * (columns / 8) ≡ columns }
+    requires width { columns ≤ w }
+    requires few { w ≤ 64 }
+    requires height { N ≤ 64 }
+    requires power { N ≡ 2 * 2 ^ K }
+    requires has { HasNetwork kind K }
+    requires buffer_len { length buffer.old ≡ N * w }
+    requires range_in { (8 ≤ range) × (range ≤ 20) }
+    requires fit { (r c : ℕ) → r < N → c < columns → FitsBits range (at buffer.old (r * w + c)) }
+    ensures { (r c : ℕ) → r < N → c < columns → at buffer.new (r * w + c) ≡ at (network kind range K (column_of N w c buffer.old)) r }
+{
+    let zero = Held {
+        word: i32x8::splat(0),
+    };
+    let (mut line, mut transformed) = ([zero; N], [zero; N]);
+    run_words(
+        buffer,
+        &mut line,
+        &mut transformed,
+        kind,
+        columns,
+        w,
+        N,
+        K,
+        range,
+    );
+}
+
+// The first columns of h rows, four at a time, each height by a function of its own.
+fn four_columns(
+    buffer: &mut [i32],
+    kind: TxType1D,
+    columns: usize,
+    w: usize,
+    h: usize,
+    k: usize,
+    range: usize,
+)
+    requires whole { 4 * (columns / 4) ≡ columns }
+    requires width { columns ≤ w }
+    requires few { w ≤ 64 }
+    requires height { IsTransformSide h }
+    requires power { h ≡ 2 * 2 ^ k }
+    requires has { HasNetwork kind k }
+    requires buffer_len { length buffer.old ≡ h * w }
+    requires range_in { (8 ≤ range) × (range ≤ 20) }
+    requires fit { (r c : ℕ) → r < h → c < columns → FitsBits range (at buffer.old (r * w + c)) }
+    ensures { (r c : ℕ) → r < h → c < columns → at buffer.new (r * w + c) ≡ at (network kind range k (column_of h w c buffer.old)) r }
+{
+    match h {
+        4 => four_of::<1, 4>(buffer, kind, columns, w, range),
+        8 => four_of::<2, 8>(buffer, kind, columns, w, range),
+        16 => four_of::<3, 16>(buffer, kind, columns, w, range),
+        32 => four_of::<4, 32>(buffer, kind, columns, w, range),
+        _ => four_of::<5, 64>(buffer, kind, columns, w, range),
+    }
+}
+
+// The same, eight at a time.
+fn eight_columns(
+    buffer: &mut [i32],
+    kind: TxType1D,
+    columns: usize,
+    w: usize,
+    h: usize,
+    k: usize,
+    range: usize,
+)
+    requires whole { 8 * (columns / 8) ≡ columns }
+    requires width { columns ≤ w }
+    requires few { w ≤ 64 }
+    requires height { IsTransformSide h }
+    requires power { h ≡ 2 * 2 ^ k }
+    requires has { HasNetwork kind k }
+    requires buffer_len { length buffer.old ≡ h * w }
+    requires range_in { (8 ≤ range) × (range ≤ 20) }
+    requires fit { (r c : ℕ) → r < h → c < columns → FitsBits range (at buffer.old (r * w + c)) }
+    ensures { (r c : ℕ) → r < h → c < columns → at buffer.new (r * w + c) ≡ at (network kind range k (column_of h w c buffer.old)) r }
+{
+    match h {
+        4 => eight_of::<1, 4>(buffer, kind, columns, w, range),
+        8 => eight_of::<2, 8>(buffer, kind, columns, w, range),
+        16 => eight_of::<3, 16>(buffer, kind, columns, w, range),
+        32 => eight_of::<4, 32>(buffer, kind, columns, w, range),
+        _ => eight_of::<5, 64>(buffer, kind, columns, w, range),
+    }
+}
+
+// The first columns, of 16 bits, transformed in place by the cosine transform, eight at a time.
+fn short_columns(buffer: &mut [i32], columns: usize, w: usize, h: usize, k: usize)
+    requires whole { 8 * (columns / 8) ≡ columns }
+    requires width { columns ≤ w }
+    requires few { w ≤ 64 }
+    requires height { IsTransformSide h }
+    requires power { h ≡ 2 * 2 ^ k }
+    requires buffer_len { length buffer.old ≡ h * w }
+    requires fit { (r c : ℕ) → r < h → c < columns → FitsBits 16 (at buffer.old (r * w + c)) }
+    ensures { (r c : ℕ) → r < h → c < columns → at buffer.new (r * w + c) ≡ at (cosine 16 k (column_of h w c buffer.old)) r }
+{
+    for g in 0..columns / 8 {
+        cosine_columns(h, buffer, 8 * g, w);
+    }
+}
+
+// Whether only the first row of a buffer has values. Most tell by the first place below it.
+fn is_level(buffer: &[i32], w: usize) -> bool
+    ensures { result ≡ true → (p : ℕ) → w ≤ p → at buffer.now p ≡ pos 0 }
+{
+    if w < buffer.len() && buffer[w] != 0 {
+        return false;
+    }
+    let mut level = true;
+    for p in w..buffer.len() {
+        if buffer[p] != 0 {
+            level = false;
+        }
+    }
+    level
+}
+
+// The first columns, transformed in place by the cosine transform where only the first row has values.
+fn run_level_columns(buffer: &mut [i32], columns: usize, w: usize, h: usize, range: usize)
+    requires whole { 4 * (columns / 4) ≡ columns }
+    requires eights { 8 ≤ w → 8 * (columns / 8) ≡ columns }
+    requires width { columns ≤ w }
+    requires few { w ≤ 64 }
+    requires height { (1 ≤ h) × (h ≤ 64) }
+    requires range_in { (8 ≤ range) × (range ≤ 20) }
+    requires buffer_len { length buffer.old ≡ h * w }
+    ensures { (r c : ℕ) → r < h → c < columns →
+        at buffer.new (r * w + c) ≡ clamp_value (half_btf (pos 2896) (at buffer.old c) (pos 0) (at buffer.old c)) range }
+{
+    if w < LANES {
+        level_columns::<i32x4>(buffer, columns, w, h, range);
+    } else {
+        level_columns::<i32x8>(buffer, columns, w, h, range);
+    }
+}
+
+// The first columns, transformed in place by the transform of a kind, whichever rows have values.
+fn run_full_columns(
+    buffer: &mut [i32],
+    kind: TxType1D,
+    columns: usize,
+    w: usize,
+    h: usize,
+    k: usize,
+    range: usize,
+)
+    requires whole { 4 * (columns / 4) ≡ columns }
+    requires eights { 8 ≤ w → 8 * (columns / 8) ≡ columns }
+    requires width { columns ≤ w }
+    requires few { w ≤ 64 }
+    requires height { IsTransformSide h }
+    requires power { h ≡ 2 * 2 ^ k }
+    requires has { HasNetwork kind k }
+    requires buffer_len { length buffer.old ≡ h * w }
+    requires range_in { (8 ≤ range) × (range ≤ 20) }
+    requires fit { (r c : ℕ) → r < h → c < columns → FitsBits range (at buffer.old (r * w + c)) }
+    ensures { (r c : ℕ) → r < h → c < columns → at buffer.new (r * w + c) ≡ at (network kind range k (column_of h w c buffer.old)) r }
+{
+    if w < LANES {
+        four_columns(buffer, kind, columns, w, h, k, range);
+    } else if range == SHORT_BITS && is_cosine(kind) {
+        short_columns(buffer, columns, w, h, k);
+    } else {
+        eight_columns(buffer, kind, columns, w, h, k, range);
+    }
+}
+
+/// The first columns of a buffer of w columns and h rows, transformed in place by the transform of a kind: eight at a
+/// time, or four where w is 4. Here h is 2^(k+1). Nothing is counted.
+pub(crate) fn run_columns(
+    buffer: &mut [i32],
+    kind: TxType1D,
+    columns: usize,
+    w: usize,
+    h: usize,
+    k: usize,
+    range: usize,
+)
+    requires whole { 4 * (columns / 4) ≡ columns }
+    requires eights { 8 ≤ w → 8 * (columns / 8) ≡ columns }
+    requires width { columns ≤ w }
+    requires few { w ≤ 64 }
+    requires height { IsTransformSide h }
+    requires power { h ≡ 2 * 2 ^ k }
+    requires has { HasNetwork kind k }
+    requires buffer_len { length buffer.old ≡ h * w }
+    requires range_in { (8 ≤ range) × (range ≤ 20) }
+    requires fit { (r c : ℕ) → r < h → c < columns → FitsBits range (at buffer.old (r * w + c)) }
+    ensures { (r c : ℕ) → r < h → c < columns → at buffer.new (r * w + c) ≡ at (network kind range k (column_of h w c buffer.old)) r }
+{
+    if is_cosine(kind) && is_level(buffer, w) {
+        run_level_columns(buffer, columns, w, h, range);
+    } else {
+        run_full_columns(buffer, kind, columns, w, h, k, range);
+    }
+}
+
+/// Who transforms the columns of a block that take the cosine transform, where there are eight or more.
+pub(crate) trait CosineColumns {
     // how many groups of eight columns it has counted, and what that becomes by so many more
     ghost tally: { Self → ℕ };
 
     ghost raised_by: { ℕ → ℕ → ℕ };
 
-    /// Each row that has coefficients, transformed: `buffer` has these rows one after the other. Nothing is counted.
-    fn run_rows(
-        &mut self,
-        scaled: &[i32],
-        buffer: &mut [i32],
-        tx_size: TxSize,
-        tx_type: TxType,
-        bd: usize,
-    )
-        requires depth_in { (8 ≤ bd) × (bd ≤ 12) }
-        requires scaled_len { length scaled.now ≡ coded_area tx_size }
-        requires scaled_fit { AllFit (row_range bd) scaled.now }
-        requires has { HasNetwork (row_kind tx_type) (row_power tx_size) }
-        requires buffer_len { length buffer.old ≡ coded (tx_height tx_size) * tx_width tx_size }
-        ensures value { (r c : ℕ) → r < coded (tx_height tx_size) → c < tx_width tx_size →
-            at buffer.new (r * tx_width tx_size + c) ≡
-            at (network (row_kind tx_type) (row_range bd) (row_power tx_size) (by_index (tx_width tx_size) (scaled_input tx_size scaled.now r))) c }
-        ensures counts { tally self.new ≡ tally self.old };
-
-    /// Each column of a buffer of w columns and h rows, transformed in place by the cosine transform, eight columns at
-    /// a time. Here h is 2^(k+1).
+    /// Each column of a buffer of w columns and h rows, transformed in place by the cosine transform. Here h is
+    /// 2^(k+1).
     fn run_cosine(&mut self, buffer: &mut [i32], w: usize, h: usize, k: usize, range: usize)
         requires width { 8 * (w / 8) ≡ w }
+        requires some { 8 ≤ w }
         requires few { w ≤ 64 }
         requires height { IsTransformSide h }
         requires power { h ≡ 2 * 2 ^ k }
-        requires few_rows { h ≤ 64 }
         requires rounds { (1 ≤ k) × (k ≤ 5) }
         requires buffer_len { length buffer.old ≡ h * w }
         requires range_in { (8 ≤ range) × (range ≤ 20) }
         requires fit { (r c : ℕ) → r < h → c < w → FitsBits range (at buffer.old (r * w + c)) }
-        ensures value { (r c : ℕ) → r < h → c < w → at buffer.new (r * w + c) ≡ at (cosine range k (by_index h (λ y. at buffer.old (y * w + c)))) r }
+        ensures value { (r c : ℕ) → r < h → c < w → at buffer.new (r * w + c) ≡ at (cosine range k (column_of h w c buffer.old)) r }
         ensures counts { tally self.new ≡ raised_by (tally self.old) (w / 8) };
 
-    /// The same by the transform of any kind, four columns at a time where there are but four. Nothing is counted.
-    fn run(
-        &mut self,
-        buffer: &mut [i32],
-        kind: TxType1D,
-        w: usize,
-        h: usize,
-        k: usize,
-        range: usize,
-    )
-        requires width { 4 * (w / 4) ≡ w }
-        requires eights { 8 ≤ w → 8 * (w / 8) ≡ w }
-        requires few { w ≤ 64 }
-        requires height { h ≤ 64 }
-        requires power { h ≡ 2 * 2 ^ k }
-        requires has { HasNetwork kind k }
-        requires buffer_len { length buffer.old ≡ h * w }
-        requires range_in { (8 ≤ range) × (range ≤ 20) }
-        requires fit { (r c : ℕ) → r < h → c < w → FitsBits range (at buffer.old (r * w + c)) }
-        ensures value { (r c : ℕ) → r < h → c < w → at buffer.new (r * w + c) ≡ at (network kind range k (by_index h (λ y. at buffer.old (y * w + c)))) r }
-        ensures counts { tally self.new ≡ raised_by (tally self.old) 0 };
+    /// That no group more leaves the count as it is.
+    fn none_more(&self)
+        ensures { raised_by (tally self.now) 0 ≡ tally self.now };
 }
 
-/// Room for eight columns at a time, for four where a block has no more, and the count of the groups of eight cosine
-/// transforms.
+/// Lines of eight columns, for `cosine_lanes`, and its count.
 #[derive(Drop)]
 pub struct Lanes {
     line: Vec<i32x8>,
-    work: Vec<i32x8>,
     transformed: Vec<i32x8>,
-    line_of_4: Vec<i32x4>,
-    work_of_4: Vec<i32x4>,
-    transformed_of_4: Vec<i32x4>,
     count: LaneCount,
-    ghost long: { (vec_len line ≡ 64) × (vec_len work ≡ 16) × (vec_len transformed ≡ 64) },
-    ghost long_of_4: { (vec_len line_of_4 ≡ 64) × (vec_len work_of_4 ≡ 16) × (vec_len transformed_of_4 ≡ 64) },
+    ghost long: { (vec_len line ≡ 64) × (vec_len transformed ≡ 64) },
 }
 
-// So many copies of a word.
-fn copies<W: Copy>(alloc: Global, word: W, count: usize) -> Result<Vec<W>, AllocError>
+// So many words of zeros.
+fn zeros(alloc: Global, count: usize) -> Result<Vec<i32x8>, AllocError>
     ensures { IfOk result (λ words. vec_len words ≡ count) }
 {
     let mut words = Vec::new(alloc);
-    words.resize(count, word)?;
+    words.resize(count, i32x8::splat(0))?;
     Ok(words)
 }
 
 impl Lanes {
-    /// Room for columns of 64 values.
+    /// Lines for columns of 64 values.
     pub(crate) fn new(alloc: Global) -> Result<Lanes, OutOfMemory>
         ensures { IfOk result (λ lanes. lanes.count.groups ≡ 0) }
     {
-        let line = copies(alloc, i32x8::splat(0), 64)?;
-        let work = copies(alloc, i32x8::splat(0), 16)?;
-        let transformed = copies(alloc, i32x8::splat(0), 64)?;
-        let line_of_4 = copies(alloc, i32x4::splat(0), 64)?;
-        let work_of_4 = copies(alloc, i32x4::splat(0), 16)?;
-        let transformed_of_4 = copies(alloc, i32x4::splat(0), 64)?;
+        let line = zeros(alloc, 64)?;
+        let transformed = zeros(alloc, 64)?;
         Ok(Lanes {
             line,
-            work,
             transformed,
-            line_of_4,
-            work_of_4,
-            transformed_of_4,
             count: LaneCount::new(),
         })
     }
@@ -144,55 +345,15 @@ impl Lanes {
     }
 }
 
-impl LaneRoom for Lanes {
+impl CosineColumns for Lanes {
     ghost tally = { λ lanes. lanes.count.groups };
 
     ghost raised_by = { raised };
-
-    fn run_rows(
-        &mut self,
-        scaled: &[i32],
-        buffer: &mut [i32],
-        tx_size: TxSize,
-        tx_type: TxType,
-        bd: usize,
-    ) {
-        // This tells the proof that the count, which stays, is a u64.
-        let _count = self.groups();
-        if tx_size.height() < LANES {
-            let (line, work) = (self.line_of_4.as_mut_slice(), self.work_of_4.as_mut_slice());
-            let transformed = self.transformed_of_4.as_mut_slice();
-            run_row_groups(
-                scaled,
-                line,
-                work,
-                transformed,
-                buffer,
-                tx_size,
-                tx_type,
-                bd,
-            );
-            return;
-        }
-        let (line, work) = (self.line.as_mut_slice(), self.work.as_mut_slice());
-        let transformed = self.transformed.as_mut_slice();
-        run_row_groups(
-            scaled,
-            line,
-            work,
-            transformed,
-            buffer,
-            tx_size,
-            tx_type,
-            bd,
-        );
-    }
 
     fn run_cosine(&mut self, buffer: &mut [i32], w: usize, h: usize, k: usize, range: usize) {
         run_groups(
             buffer,
             self.line.as_mut_slice(),
-            self.work.as_mut_slice(),
             self.transformed.as_mut_slice(),
             &mut self.count,
             w,
@@ -202,43 +363,24 @@ impl LaneRoom for Lanes {
         );
     }
 
-    fn run(
-        &mut self,
-        buffer: &mut [i32],
-        kind: TxType1D,
-        w: usize,
-        h: usize,
-        k: usize,
-        range: usize,
-    ) {
-        // So does this.
+    // This tells the proof that the count is a u64.
+    fn none_more(&self) {
         let _groups = self.groups();
-        if w < LANES {
-            let (line, work) = (self.line_of_4.as_mut_slice(), self.work_of_4.as_mut_slice());
-            run_words(
-                buffer,
-                line,
-                work,
-                self.transformed_of_4.as_mut_slice(),
-                kind,
-                w,
-                h,
-                k,
-                range,
-            );
-            return;
-        }
-        let (line, work) = (self.line.as_mut_slice(), self.work.as_mut_slice());
-        run_words(
-            buffer,
-            line,
-            work,
-            self.transformed.as_mut_slice(),
-            kind,
-            w,
-            h,
-            k,
-            range,
-        );
     }
+}
+
+/// Columns that nothing counts, as those of the library.
+#[derive(Drop)]
+pub(crate) struct Uncounted;
+
+impl CosineColumns for Uncounted {
+    ghost tally = { λ _. 0 };
+
+    ghost raised_by = { λ _ _. 0 };
+
+    fn run_cosine(&mut self, buffer: &mut [i32], w: usize, h: usize, k: usize, range: usize) {
+        run_columns(buffer, TxType1D::DCT, w, w, h, k, range);
+    }
+
+    fn none_more(&self) {}
 }

@@ -10,10 +10,12 @@
 //!   `inverse_transform_add_with` does so in a region. Both run over a `TxScratch` that is made once, allocate nothing
 //!   and always succeed. `inverse_transform_add_in` does the former over a `TxRoom`, a plain struct of arrays that C
 //!   may own, too. `inverse_transform_add` makes its own scratch; where memory is refused it changes nothing.
-//! - Columns that take the cosine transform, where there are eight or more, go eight at a time. Over a scratch they go
-//!   through `cosine_lanes`, and the scratch counts these groups: `TxScratch::lane_groups`, which each call raises by
-//!   `lane_groups` of `specs/LaneGroups.antt`. Over a `TxRoom` nothing is counted. All other columns, and all rows, go
-//!   eight or four at a time.
+//! - Columns that take the cosine transform, where there are eight or more, go eight at a time: over a scratch through
+//!   `cosine_lanes`, and the scratch counts these groups (`TxScratch::lane_groups`, which each call raises by
+//!   `lane_groups` of `specs/LaneGroups.antt`); over a `TxRoom` by `cosine_columns`, in place, or in lanes of 32 bits
+//!   where samples have 12. All others, and all rows, go eight or four at a time. Where a cosine transform has but one
+//!   value each, its first, it is one product; so are the rows of a block whose only coefficient is the first, and over
+//!   a `TxRoom` its columns.
 //! - `av1_iadst4`, `av1_iflipadst16`, `av1_iidentity32`, `av1_iwht4` and their like give the definitions of
 //!   `specs/Adst.antt`, `specs/Identity.antt` and `specs/Walsh.antt` on the first values of a slice, and leave the rest
 //!   of `output`.
@@ -33,12 +35,9 @@ mod identity;
 mod inverse;
 mod kinds;
 mod lane_columns;
-mod lane_rows;
-mod lane_words;
 mod lanes;
 mod laws;
 mod networks;
-mod room;
 mod rows;
 mod shift;
 mod walsh;
@@ -49,7 +48,7 @@ pub use adst::{
 };
 pub use identity::{av1_iidentity4, av1_iidentity8, av1_iidentity16, av1_iidentity32};
 pub use inverse::{
-    TxScratch, inverse_transform_add, inverse_transform_add_in, inverse_transform_add_to,
+    TxRoom, TxScratch, inverse_transform_add, inverse_transform_add_in, inverse_transform_add_to,
     inverse_transform_add_with,
 };
 pub use kinds::{TxType1D, get_1d_tx_types};
@@ -57,6 +56,5 @@ pub use laws::{
     columns_never_wrap, flipped_is_reversed, networks_never_wrap, networks_of_zeros,
     residue_of_zeros, valid_types_are_those_that_run, walsh_loses_nothing,
 };
-pub use room::TxRoom;
 pub use shift::av1_round_shift_array;
 pub use walsh::av1_iwht4;

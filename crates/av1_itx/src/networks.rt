@@ -16,42 +16,39 @@ use av1_dct::cosine_words;
 
 // The inverse cosine transform of all words.
 #[inline(always)]
-fn cosine_of<W: BlockWord>(k: usize, input: &[W], work: &mut [W], output: &mut [W], range: usize)
+fn cosine_of<W: BlockWord>(k: usize, input: &[W], output: &mut [W], range: usize)
     requires range_in { (8 ≤ range) × (range ≤ 20) }
     requires k_in { (1 ≤ k) × (k ≤ 5) }
     requires input_len { length input.now ≡ 2 * 2 ^ k }
-    requires work_len { 16 ≤ length work.old }
     requires output_len { length output.old ≡ 2 * 2 ^ k }
     requires fit { (i : ℕ) → i < W.LANES → All (FitsBits range) (column W.lane_of i input.now) }
     ensures { (i : ℕ) → i < W.LANES → column W.lane_of i output.new ≡ cosine range k (column W.lane_of i input.now) }
 {
     let n = output.len();
-    cosine_words(n, input, work, output, range);
+    cosine_words(n, input, &mut [], output, range);
 }
 
-/// The inverse transform of a kind, of 2^(k+1) words, in each lane. `work` is room for the sine transforms.
+/// The inverse transform of a kind, of 2^(k+1) words, in each lane.
 #[inline(always)]
 pub(crate) fn inverse_1d<W: BlockWord>(
     kind: TxType1D,
     k: usize,
     input: &[W],
-    work: &mut [W],
     output: &mut [W],
     range: usize,
 )
     requires range_in { (8 ≤ range) × (range ≤ 20) }
     requires has { HasNetwork kind k }
     requires input_len { length input.now ≡ 2 * 2 ^ k }
-    requires work_len { 16 ≤ length work.old }
     requires output_len { length output.old ≡ 2 * 2 ^ k }
     requires fit { (i : ℕ) → i < W.LANES → All (FitsBits range) (column W.lane_of i input.now) }
     ensures { (i : ℕ) → i < W.LANES → column W.lane_of i output.new ≡ network kind range k (column W.lane_of i input.now) }
 {
     match kind {
-        TxType1D::DCT => cosine_of(k, input, work, output, range),
-        TxType1D::ADST => adst_of(k, input, work, output, range),
+        TxType1D::DCT => cosine_of(k, input, output, range),
+        TxType1D::ADST => adst_of(k, input, output, range),
         TxType1D::FLIPADST => {
-            adst_of(k, input, work, output, range);
+            adst_of(k, input, output, range);
             output.reverse();
         }
         TxType1D::IDENTITY => identity_of(k, input, output),

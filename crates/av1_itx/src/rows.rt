@@ -1,18 +1,25 @@
 //! The first pass: an inverse transform along each row of coefficients.
+//!
+//! Coefficients stand column by column, so that their rows are the columns of the list that they make. They are scaled
+//! into such a list, transformed there in place, and written to the block row by row.
 
-ghost use Rattle.std.specs.Prelude.{◌≡◌, ℕ, ◌+◌, ◌*◌, ◌<◌, ◌≤◌, if◌then◌else◌, pos, ◌*ℤ◌, length, map};
+ghost use Rattle.std.specs.Prelude.{◌≡◌, true, ℕ, ◌+◌, ◌*◌, ◌/◌, ◌^◌, ◌<◌, ◌≤◌, ◌==◌, if◌then◌else◌, min, pos, ◌*ℤ◌, length, map, ◌⊎◌};
 ghost use Rattle.std.specs.Int.{int_shr};
-ghost use Rattle.av1_blocks.specs.Transforms.{tx_width, tx_height, coded_area};
+ghost use Rattle.av1_blocks.specs.Transforms.{tx_width, tx_height, coded, coded_area};
 ghost use Rattle.av1_dct.specs.Arithmetic.{at, clamp_value, FitsBits};
 ghost use Rattle.av1_frame.specs.Arithmetic.{round_shift};
 ghost use Rattle.av1_itx.specs.Kinds.{row_kind};
 ghost use Rattle.av1_itx.specs.Networks.{HasNetwork};
-ghost use Rattle.av1_itx.specs.Residue.{is_lossless, is_two_to_one, row_power, row_range, row_value, transformed_row};
+ghost use Rattle.av1_itx.specs.Residue.{column_range, is_lossless, is_two_to_one, row_input, row_power, row_range, row_shift, row_value, transformed_row};
 
-use crate::lanes::LaneRoom;
+use crate::columns::{column_range_of, row_shift_of};
+use crate::kinds::get_1d_tx_types;
+use crate::lanes::{LANES, run_columns};
+use crate::words::BlockWord;
 use av1_blocks::{INV_SQRT2, SQRT2_BITS, TxSize, TxType};
 use av1_dct::clamp_value;
 use av1_frame::{Coefficient, round_shift};
+use std::simd::prelude::*;
 
 /// How the coefficients of a block are scaled before its rows are transformed.
 #[derive(Copy, Clone)]
@@ -76,7 +83,8 @@ fn scale_all<C: Coefficient>(
     }
 }
 
-pub(crate) fn clear(line: &mut [i32])
+// Makes each value 0.
+fn clear(line: &mut [i32])
     ensures { (i : ℕ) → at line.new i ≡ pos 0 }
 {
     for v in line.iter_mut() {
@@ -84,13 +92,11 @@ pub(crate) fn clear(line: &mut [i32])
     }
 }
 
-/// Each row of a block, transformed: `buffer` has the block row by row. The rows from 32 on are zeros. `scaled` is room
-/// for the coefficients.
-pub(crate) fn row_pass<C: Coefficient, R: LaneRoom>(
+// The inputs of all rows that have coefficients, row r in column r: scaled coefficients, and zeros from column 32 of
+// the block on.
+fn fill_rows<C: Coefficient>(
     input: &[C],
     scaled: &mut [i32],
-    lanes: &mut R,
-    buffer: &mut [i32],
     tx_size: TxSize,
     tx_type: TxType,
     bd: usize,
@@ -98,17 +104,215 @@ pub(crate) fn row_pass<C: Coefficient, R: LaneRoom>(
     requires depth_in { (8 ≤ bd) × (bd ≤ 12) }
     requires input_len { coded_area tx_size ≤ length input.now }
     requires input_fits { (i : ℕ) → i < coded_area tx_size → FitsBits (bd + 8) (at (map C.val input.now) i) }
-    requires has { HasNetwork (row_kind tx_type) (row_power tx_size) }
-    requires scaled_len { length scaled.old ≡ coded_area tx_size }
-    requires buffer_len { length buffer.old ≡ tx_height tx_size * tx_width tx_size }
-    ensures value { (r c : ℕ) → r < tx_height tx_size → c < tx_width tx_size →
-        at buffer.new (r * tx_width tx_size + c) ≡ at (transformed_row tx_size tx_type bd (map C.val input.now) r) c }
-    ensures counts { R.tally lanes.new ≡ R.tally lanes.old }
+    requires scaled_len { length scaled.old ≡ tx_width tx_size * coded (tx_height tx_size) }
+    ensures { (c r : ℕ) → c < tx_width tx_size → r < coded (tx_height tx_size) →
+        at scaled.new (c * coded (tx_height tx_size) + r) ≡ row_input tx_size tx_type bd (map C.val input.now) r c }
 {
     let rows = tx_size.height().min(32);
-    let w = tx_size.width();
-    let coded = rows * w;
-    scale_all(input, scaled, tx_size, tx_type, bd);
-    lanes.run_rows(scaled, &mut buffer[..coded], tx_size, tx_type, bd);
-    clear(&mut buffer[coded..]);
+    let columns = tx_size.width().min(32);
+    scale_all(input, &mut scaled[..columns * rows], tx_size, tx_type, bd);
+    clear(&mut scaled[columns * rows..]);
+}
+
+// Whether the rows from r on are zeros, as many as a word has lanes.
+#[inline(always)]
+fn are_zero<W: BlockWord>(scaled: &[i32], r: usize, rows: usize, w: usize) -> bool
+    requires rows_in { r + W.LANES ≤ rows }
+    requires few_rows { rows ≤ 32 }
+    requires few { w ≤ 64 }
+    requires scaled_len { length scaled.now ≡ w * rows }
+    ensures { result ≡ true → (c i : ℕ) → c < w → i < W.LANES → at scaled.now (c * rows + (r + i)) ≡ pos 0 }
+{
+    for c in 0..w {
+        let word = W::read(scaled, c * rows + r);
+        if !word.is_zero() {
+            return false;
+        }
+    }
+    true
+}
+
+// How many groups of rows there are up to the last one with a coefficient. A group has as many as a word has lanes.
+#[inline(always)]
+#[tactic(auto, using(crate::proofs::Eights::group_in))]
+fn live_groups<W: BlockWord>(scaled: &[i32], rows: usize, w: usize) -> usize
+    requires some { 0 < W.LANES }
+    requires whole { W.LANES * (rows / W.LANES) ≡ rows }
+    requires few_rows { rows ≤ 32 }
+    requires few { w ≤ 64 }
+    requires scaled_len { length scaled.now ≡ w * rows }
+    ensures within { W.LANES * result ≤ rows }
+    ensures zeros { (c r : ℕ) → c < w → W.LANES * result ≤ r → r < rows → at scaled.now (c * rows + r) ≡ pos 0 }
+{
+    let m = W::LANES;
+    let mut groups = 0;
+    for g in 0..rows / m {
+        if !are_zero::<W>(scaled, m * g, rows, w) {
+            groups = g + 1;
+        }
+    }
+    groups
+}
+
+// What a row gives, as the columns take it: rounded by so many bits, and clamped.
+#[inline(always)]
+fn rounded<W: BlockWord>(z: W, shift: usize, range: usize) -> W
+    requires shift_in { shift ≤ 2 }
+    requires range_in { (8 ≤ range) × (range ≤ 20) }
+    requires fits { (i : ℕ) → i < W.LANES → FitsBits 24 (W.lane_of z i) }
+    ensures { (i : ℕ) → i < W.LANES → W.lane_of result i ≡ clamp_value (round_shift (W.lane_of z i) shift) range }
+{
+    match shift {
+        0 => z.clamp_to(range),
+        1 => z.plus(W::splat(1)).halve().clamp_to(range),
+        _ => z.plus(W::splat(2)).halve().halve().clamp_to(range),
+    }
+}
+
+// Writes the lanes of a word down column c of rows of w places.
+#[inline(always)]
+fn spread_word<W: BlockWord>(part: &mut [i32], word: W, c: usize, w: usize)
+    requires column_in { c < w }
+    requires few { w ≤ 64 }
+    requires lanes { W.LANES ≤ 8 }
+    requires part_len { length part.old ≡ W.LANES * w }
+    ensures { (i q : ℕ) → i < W.LANES → q < w → at part.new (i * w + q) ≡ (if q == c then W.lane_of word i else at part.old (i * w + q)) }
+{
+    for i in 0..W::LANES {
+        part[i * w + c] = word.lane(i);
+    }
+}
+
+// Writes the rows from r on, rounded and clamped: each stands in a column of `scaled`.
+#[inline(always)]
+fn write_group<W: BlockWord>(
+    scaled: &[i32],
+    part: &mut [i32],
+    r: usize,
+    rows: usize,
+    w: usize,
+    shift: usize,
+    range: usize,
+)
+    requires few { w ≤ 64 }
+    requires few_rows { rows ≤ 32 }
+    requires lanes { W.LANES ≤ 8 }
+    requires rows_in { r + W.LANES ≤ rows }
+    requires shift_in { shift ≤ 2 }
+    requires range_in { (8 ≤ range) × (range ≤ 20) }
+    requires scaled_len { length scaled.now ≡ w * rows }
+    requires part_len { length part.old ≡ W.LANES * w }
+    requires fit { (c i : ℕ) → c < w → i < W.LANES → FitsBits 24 (at scaled.now (c * rows + r + i)) }
+    ensures { (i c : ℕ) → i < W.LANES → c < w → at part.new (i * w + c) ≡ clamp_value (round_shift (at scaled.now (c * rows + r + i)) shift) range }
+{
+    for c in 0..w {
+        let word = rounded(W::read(scaled, c * rows + r), shift, range);
+        spread_word(part, word, c, w);
+    }
+}
+
+// Writes so many groups of rows.
+fn write_groups<W: BlockWord>(
+    scaled: &[i32],
+    buffer: &mut [i32],
+    groups: usize,
+    rows: usize,
+    w: usize,
+    shift: usize,
+    range: usize,
+)
+    requires few { w ≤ 64 }
+    requires few_rows { rows ≤ 32 }
+    requires lanes { W.LANES ≤ 8 }
+    requires groups_in { W.LANES * groups ≤ rows }
+    requires shift_in { shift ≤ 2 }
+    requires range_in { (8 ≤ range) × (range ≤ 20) }
+    requires scaled_len { length scaled.now ≡ w * rows }
+    requires buffer_len { length buffer.old ≡ W.LANES * groups * w }
+    requires fit { (c r : ℕ) → c < w → r < W.LANES * groups → FitsBits 24 (at scaled.now (c * rows + r)) }
+    ensures { (r c : ℕ) → r < W.LANES * groups → c < w → at buffer.new (r * w + c) ≡ clamp_value (round_shift (at scaled.now (c * rows + r)) shift) range }
+{
+    let m = W::LANES;
+    let n = m * w;
+    for g in 0..groups {
+        let part = &mut buffer[g * n..g * n + n];
+        write_group::<W>(scaled, part, m * g, rows, w, shift, range);
+    }
+}
+
+// All rows, as many at a time as a word has lanes. Those past the last coefficient are zeros, and are not run.
+fn rows_of<C: Coefficient, W: BlockWord>(
+    input: &[C],
+    scaled: &mut [i32],
+    buffer: &mut [i32],
+    tx_size: TxSize,
+    tx_type: TxType,
+    bd: usize,
+)
+    requires depth_in { (8 ≤ bd) × (bd ≤ 12) }
+    requires lanes { (W.LANES ≡ 4) ⊎ (W.LANES ≡ 8) }
+    requires eights { 8 ≤ tx_height tx_size → W.LANES ≡ 8 }
+    requires whole { W.LANES * (coded (tx_height tx_size) / W.LANES) ≡ coded (tx_height tx_size) }
+    requires has { HasNetwork (row_kind tx_type) (row_power tx_size) }
+    requires scaled_len { length scaled.old ≡ tx_width tx_size * coded (tx_height tx_size) }
+    requires buffer_len { length buffer.old ≡ tx_height tx_size * tx_width tx_size }
+    requires input_len { coded_area tx_size ≤ length input.now }
+    requires input_fits { (i : ℕ) → i < coded_area tx_size → FitsBits (bd + 8) (at (map C.val input.now) i) }
+    ensures { (r c : ℕ) → r < tx_height tx_size → c < tx_width tx_size →
+        at buffer.new (r * tx_width tx_size + c) ≡
+        clamp_value (round_shift (at (transformed_row tx_size tx_type bd (map C.val input.now) r) c) (row_shift tx_size)) (column_range bd) }
+{
+    let (m, w) = (W::LANES, tx_size.width());
+    let rows = tx_size.height().min(32);
+    let (_, kind) = get_1d_tx_types(tx_type);
+    let (shift, range) = (row_shift_of(tx_size), column_range_of(bd));
+    fill_rows(input, scaled, tx_size, tx_type, bd);
+    let groups = live_groups::<W>(scaled, rows, w);
+    let live = m * groups;
+    run_columns(
+        scaled,
+        kind,
+        live,
+        rows,
+        w,
+        tx_size.width_log2() - 1,
+        bd + 8,
+    );
+    write_groups::<W>(
+        scaled,
+        &mut buffer[..live * w],
+        groups,
+        rows,
+        w,
+        shift,
+        range,
+    );
+    clear(&mut buffer[live * w..]);
+}
+
+/// Each row of a block, transformed, and rounded and clamped as the columns take it: `buffer` has the block row by row.
+/// The rows from 32 on are zeros. `scaled` is room for the inputs of all rows that have coefficients.
+pub(crate) fn row_pass<C: Coefficient>(
+    input: &[C],
+    scaled: &mut [i32],
+    buffer: &mut [i32],
+    tx_size: TxSize,
+    tx_type: TxType,
+    bd: usize,
+)
+    requires depth_in { (8 ≤ bd) × (bd ≤ 12) }
+    requires has { HasNetwork (row_kind tx_type) (row_power tx_size) }
+    requires scaled_len { length scaled.old ≡ tx_width tx_size * coded (tx_height tx_size) }
+    requires buffer_len { length buffer.old ≡ tx_height tx_size * tx_width tx_size }
+    requires input_len { coded_area tx_size ≤ length input.now }
+    requires input_fits { (i : ℕ) → i < coded_area tx_size → FitsBits (bd + 8) (at (map C.val input.now) i) }
+    ensures { (r c : ℕ) → r < tx_height tx_size → c < tx_width tx_size →
+        at buffer.new (r * tx_width tx_size + c) ≡
+        clamp_value (round_shift (at (transformed_row tx_size tx_type bd (map C.val input.now) r) c) (row_shift tx_size)) (column_range bd) }
+{
+    if tx_size.height() < LANES {
+        rows_of::<C, i32x4>(input, scaled, buffer, tx_size, tx_type, bd);
+    } else {
+        rows_of::<C, i32x8>(input, scaled, buffer, tx_size, tx_type, bd);
+    }
 }

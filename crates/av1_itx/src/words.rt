@@ -1,4 +1,4 @@
-//! What the passes ask of words, beside what every word does.
+//! What the passes ask of words, beside what every word does, and words that stand in arrays.
 
 ghost use Rattle.std.specs.Prelude.{◌≡◌, true, ℕ, ◌+◌, ◌-◌, ◌<◌, ◌≤◌, nat_le, nat_lt, ◌&&◌, if◌then◌else◌, pos, length, ◌+ℤ◌, ◌*ℤ◌};
 ghost use Rattle.std.specs.Int.{int_shr};
@@ -150,5 +150,97 @@ impl BlockWord for i32x8 {
         for k in 0..8 {
             values[start + k] = lanes[k];
         }
+    }
+}
+
+/// A word that stands in an array. A proof covers an array of structs that have one vector each, and none of vectors.
+#[derive(Clone, Copy)]
+pub(crate) struct Held<V> {
+    pub(crate) word: V,
+}
+
+impl<V: BlockWord> Word for Held<V> {
+    const LANES: usize = V::LANES;
+
+    ghost LANES = { V.LANES };
+
+    ghost lane_of = { λ held i. V.lane_of held.word i };
+
+    #[inline(always)]
+    fn splat(v: i32) -> Held<V> {
+        Held { word: V::splat(v) }
+    }
+
+    #[inline(always)]
+    fn lane(self, i: usize) -> i32 {
+        self.word.lane(i)
+    }
+
+    #[inline(always)]
+    fn plus(self, o: Held<V>) -> Held<V> {
+        Held {
+            word: self.word.plus(o.word),
+        }
+    }
+
+    #[inline(always)]
+    fn minus(self, o: Held<V>) -> Held<V> {
+        Held {
+            word: self.word.minus(o.word),
+        }
+    }
+
+    #[inline(always)]
+    fn turn(w0: i32, a: Held<V>, w1: i32, b: Held<V>) -> Held<V> {
+        Held {
+            word: V::turn(w0, a.word, w1, b.word),
+        }
+    }
+
+    #[inline(always)]
+    fn clamp_to(self, range: usize) -> Held<V> {
+        Held {
+            word: self.word.clamp_to(range),
+        }
+    }
+}
+
+impl<V: BlockWord> BlockWord for Held<V> {
+    #[inline(always)]
+    fn add_product(self, weight: i32, o: Held<V>) -> Held<V> {
+        Held {
+            word: self.word.add_product(weight, o.word),
+        }
+    }
+
+    #[inline(always)]
+    fn round12(self) -> Held<V> {
+        Held {
+            word: self.word.round12(),
+        }
+    }
+
+    #[inline(always)]
+    fn halve(self) -> Held<V> {
+        Held {
+            word: self.word.halve(),
+        }
+    }
+
+    #[inline(always)]
+    fn is_zero(self) -> bool {
+        self.word.is_zero()
+    }
+
+    #[inline(always)]
+    fn read(values: &[i32], start: usize) -> Held<V> {
+        Held {
+            word: V::read(values, start),
+        }
+    }
+
+    #[inline(always)]
+    fn write(self, values: &mut [i32], start: usize) {
+        self.word.write(values, start);
     }
 }

@@ -1,45 +1,41 @@
-use Rattle.std.proofs.Common.{arith, ℕ, ℤ, ◌≡◌, ◌-◌, ◌+◌, ◌*◌, ◌<◌, ◌∙◌, ap, sym, subst}
+use Rattle.std.proofs.Common.{arith, tests, true, false, ℕ, ◌≡◌, ◌-◌, ◌+◌, ◌*◌, ◌∙◌, ap, sym, subst, inl, inr}
 use Rattle.av1_blocks.specs.Transforms.{tx_width, tx_height}
-use Rattle.av1_dct.specs.Arithmetic.{at, FitsBits, clamp_value}
-use Rattle.av1_dct.proofs.Fits.{clamp_value-fits}
-use Rattle.av1_frame.specs.Arithmetic.{round_shift}
-use Rattle.av1_lists.specs.Lists.{by_index}
-use Rattle.av1_lists.proofs.Lists.{by_index-same}
+use Rattle.av1_dct.specs.Arithmetic.{at}
+use Rattle.av1_dct.specs.Columns.{column_of}
+use Rattle.av1_itx.specs.Kinds.{column_kind}
+use Rattle.av1_itx.specs.LaneGroups.{is_cosine, lane_groups}
 use Rattle.av1_itx.specs.Networks.{network}
-use Rattle.av1_itx.specs.Residue.{column_network}
-use Rattle.av1_itx.proofs.Lines.{place_in_block}
-use Rattle.av1_itx.proofs.Single.{by_rows, column_value}
+use Rattle.av1_itx.specs.Residue.{column_power, column_range}
+use Rattle.av1_itx.proofs.Eights.{cosine_value, no_groups}
+use Rattle.av1_itx.proofs.Passes.{block_column}
+use Rattle.av1_itx.proofs.columns.column_pass.Goals.{then-w-lt-LANES-via-then-w-lt-LANES, then-w-lt-LANES-via-else-w-lt-LANES+then-not-is_cosine}
 use Rattle.av1_itx.proofs.columns.column_pass.Goals as goal
 
-pub round_values-requires-clause-fit : goal.round_values-requires-clause-fit
-round_values-requires-clause-fit g c = λ p h.
+pub returns-then-w-lt-LANES-clause-counts : goal.returns-then-w-lt-LANES-clause-counts
+returns-then-w-lt-LANES-clause-counts g c =
     let size = c.args.tx_size in
-    by_rows (λ p. FitsBits 24 (at c.args.buffer.now p)) (tx_width size) (tx_height size) c.requires.fit p (subst (λ n. p < n) c.requires.buffer_len h)
-
-pub run_columns-requires-clause-fit : goal.run_columns-requires-clause-fit
-run_columns-requires-clause-fit g c = λ r q hr hq.
-    let w = c.width-w.result in
-    let P : ℤ → Type 0 = λ z. FitsBits c.max-range.result z in
-    let inside = place_in_block r q w c.height-h.result c.width-w.ensures.value c.height-h.ensures.value c.requires.buffer_len hr hq in
-    subst P (sym (c.round_values.ensures (r * w + q) inside)) (clamp_value-fits _ c.max-range.result (omega arith))
+    let type = c.args.tx_type in
+    let none : lane_groups size type ≡ 0 = elim c.then-w-lt-LANES.branch [
+      | then-w-lt-LANES-via-then-w-lt-LANES w ↦ no_groups size type (inl (omega (arith, w.if-w-lt-LANES.true, c.width-w.ensures.value)))
+      | then-w-lt-LANES-via-else-w-lt-LANES+then-not-is_cosine w ↦ no_groups size type (inr (sym (w.is_cosine.ensures
+          ∙ ap is_cosine c.get_1d_tx_types-kind.ensures.column)
+          ∙ (let t : w.is_cosine.result ≡ false = grind (arith, tests, w.if-not-is_cosine.true) in t)))
+    ] in
+    sym c.none_more.ensures ∙ ap (g.R.CosineColumns.raised_by (g.R.CosineColumns.tally c.args.lanes.now)) (sym none)
 
 pub returns-clause-value : goal.returns-clause-value
 returns-clause-value g c = λ r q hr hq.
     let size = c.args.tx_size in
-    let w = c.width-w.result in
-    let h = c.height-h.result in
-    let range = c.max-range.result in
-    let shift = c.row_shift_of.result in
+    let type = c.args.tx_type in
     let old = c.args.buffer.now in
-    let B = c.round_values.new.buffer in
     let kind = c.get_1d_tx_types-kind.result.0 in
     let k = c.height_log2-k.result - 1 in
-    let qw : q < w = omega arith in
-    let rounded : by_index h (λ y. at B (y * w + q)) ≡ by_index h (λ y. clamp_value (round_shift (at old (y * w + q)) shift) range) =
-    by_index-same h _ _
-    (λ y hy. c.round_values.ensures (y * w + q) (place_in_block y q w h c.width-w.ensures.value c.height-h.ensures.value c.requires.buffer_len hy qw)) in
-    let P : ℕ → Type 0 = λ n. at c.run_columns.new.buffer (r * n + q) ≡ at (column_network size c.args.tx_type c.args.bd (λ y. at old (y * n + q))) r in
+    let range = c.column_range_of-range.result in
+    let told = sym c.is_cosine.ensures ∙ (let t : c.is_cosine.result ≡ true = grind (arith, tests, c.if-not-is_cosine.false) in t) in
+    let P : ℕ → Type 0 =
+    λ n. at c.run_cosine.new.buffer (r * n + q) ≡
+    at (network (column_kind type) (column_range c.args.bd) (column_power size) (column_of (tx_height size) (tx_width size) q old)) r in
     subst P c.width-w.ensures.value
-    (column_value size c.args.tx_type c.args.bd h k shift range r kind (λ y. at old (y * w + q)) _ c.get_1d_tx_types-kind.ensures.column
-    c.height-h.ensures.value (ap (λ n. n - 1) c.height_log2-k.ensures.value) c.row_shift_of.ensures.value c.max-range.ensures
-    (c.run_columns.ensures.value r q (omega arith) qw ∙ ap (λ xs. at (network kind range k xs) r) rounded))
+    (block_column size type c.args.bd c.width-w.result c.height-h.result k range r q kind old _ c.get_1d_tx_types-kind.ensures.column c.width-w.ensures.value
+    c.height-h.ensures.value (ap (λ n. n - 1) c.height_log2-k.ensures.value) c.column_range_of-range.ensures.value
+    (cosine_value kind range k r _ _ told (c.run_cosine.ensures.value r q (omega arith) (omega arith))))

@@ -4,21 +4,26 @@ use Rattle.av1_dct.specs.Arithmetic.{at, FitsBits}
 use Rattle.av1_frame.specs.Arithmetic.{clip, round_shift}
 use Rattle.av1_frame.specs.Samples.{paint}
 use Rattle.av1_frame.proofs.Paint.{paint_same}
-use Rattle.av1_itx.proofs.Passes.{row-fits, column-fits, residue_is}
+use Rattle.av1_dct.proofs.Fits.{clamp_value-fits}
+use Rattle.av1_itx.specs.Residue.{column_range}
+use Rattle.av1_itx.proofs.Passes.{column-fits, residue_is}
 use Rattle.av1_itx.proofs.inverse.add_block.Goals as goal
 
 pub column_pass-requires-clause-fit : goal.column_pass-requires-clause-fit
 column_pass-requires-clause-fit g c = λ r q hr hq.
-    let P : ℤ → Type 0 = λ z. FitsBits 24 z in
-    subst P (sym (c.row_pass.ensures.value r q hr hq))
-    (row-fits c.args.tx_size c.args.tx_type c.args.bd (map g.T.Coeff.Coefficient.val c.args.input.now) r q (omega arith))
+    let P : ℤ → Type 0 = λ z. FitsBits (column_range c.args.bd) z in
+    subst P (sym (c.row_pass.ensures r q hr hq)) (clamp_value-fits _ (column_range c.args.bd) (omega arith))
 
 pub add_rows-requires-clause-fit : goal.add_rows-requires-clause-fit
 add_rows-requires-clause-fit g c = λ r q hr hq.
+    let size = c.args.tx_size in
     let P : ℤ → Type 0 = λ z. FitsBits 24 z in
     let Q : ℕ → Type 0 = λ n. FitsBits 24 (at c.column_pass.new.buffer (r * n + q)) in
+    let R : ℤ → Type 0 = λ z. FitsBits (column_range c.args.bd) z in
+    let k : q < tx_width size = omega (arith, c.requires.width) in
     subst Q (sym c.requires.width)
-    (subst P (sym (c.column_pass.ensures.value r q (omega arith) (omega arith))) (column-fits c.args.tx_size c.args.tx_type c.args.bd _ r (omega arith)))
+    (subst P (sym (c.column_pass.ensures.value r q (omega arith) k)) (column-fits size c.args.tx_type c.args.bd c.row_pass.new.buffer r q (omega arith)
+    (λ y hy. subst R (sym (c.row_pass.ensures y q hy k)) (clamp_value-fits _ (column_range c.args.bd) (omega arith)))))
 
 pub returns-clause-painted : goal.returns-clause-painted
 returns-clause-painted g c =
@@ -36,5 +41,4 @@ returns-clause-painted g c =
     let h : r < tx_height size = omega (arith, c.requires.height) in
     let k : q < tx_width size = omega (arith, c.requires.width) in
     ap (λ z. put_on z v)
-    (residue_is size type c.args.bd cs (λ y. at c.row_pass.new.buffer (y * tx_width size + q)) r q _ (c.column_pass.ensures.value r q h k)
-    (λ y hy. c.row_pass.ensures.value y q hy k)))
+    (residue_is size type c.args.bd cs c.row_pass.new.buffer r q _ (c.column_pass.ensures.value r q h k) (λ y hy. c.row_pass.ensures y q hy k)))

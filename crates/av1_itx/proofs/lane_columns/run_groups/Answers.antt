@@ -51,4 +51,5 @@ loop-g-preserved c =
 
 pub returns-clause-value : goal.returns-clause-value
 returns-clause-value c =
-    λ r q hr hq. column_written c.args.w (8 * c.loop-g.g) c.args.h c.loop-g.buffer c.args.buffer.now _ c.loop-g.invariant.1 (omega arith) r q hr hq
+    λ r q hr hq. column_written c.args.w c.args.w (8 * c.loop-g.g) c.args.h c.loop-g.buffer c.args.buffer.now _ c.loop-g.invariant.1 (omega arith)
+    (omega arith) r q hr hq

@@ -8,15 +8,31 @@ use Rattle.av1_itx.proofs.Lines.{column_written}
 use Rattle.av1_itx.proofs.Eights.{groups_more, lanes-fit, lanes_kept, lane_run, group_room, all_groups}
 use Rattle.av1_itx.proofs.lane_columns.run_words.Goals as goal
 
+pub gather_words-requires-clause-columns_in : goal.gather_words-requires-clause-columns_in
+gather_words-requires-clause-columns_in g c =
+    let n = c.args.columns in
+    let m = c.LANES-m.result in
+    let whole : m * (n / m) ≡ n = subst (λ (k : ℕ). k * (n / k) ≡ n) (sym c.LANES-m.ensures) c.requires.whole in
+    let room = group_room m c.loop-g.g n whole (omega arith) in
+    omega (arith, room, c.LANES-m.ensures, c.requires.width)
+
+pub scatter_words-requires-clause-columns_in : goal.scatter_words-requires-clause-columns_in
+scatter_words-requires-clause-columns_in g c =
+    let n = c.args.columns in
+    let m = c.LANES-m.result in
+    let whole : m * (n / m) ≡ n = subst (λ (k : ℕ). k * (n / k) ≡ n) (sym c.LANES-m.ensures) c.requires.whole in
+    let room = group_room m c.loop-g.g n whole (omega arith) in
+    omega (arith, room, c.LANES-m.ensures, c.requires.width)
+
 pub inverse_1d-requires-clause-fit : goal.inverse_1d-requires-clause-fit
 inverse_1d-requires-clause-fit g c = λ i h.
     let P : ℤ → Type 0 = λ z. FitsBits c.args.range z in
     let line_len = length-take-le c.args.h c.loop-g.line (omega arith) in
     let at_column = c.LANES-m.result * c.loop-g.g in
     let room =
-    (let w = c.args.w in let m = c.LANES-m.result
-    in let whole : m * (w / m) ≡ w = subst (λ (n : ℕ). n * (w / n) ≡ w) (sym c.LANES-m.ensures) c.requires.width
-    in group_room m c.loop-g.g w whole (omega arith)) in
+    (let n = c.args.columns in let m = c.LANES-m.result
+    in let whole : m * (n / m) ≡ n = subst (λ (k : ℕ). k * (n / k) ≡ n) (sym c.LANES-m.ensures) c.requires.whole
+    in group_room m c.loop-g.g n whole (omega arith)) in
     lanes-fit g.W.Word.lane_of c.args.h c.args.range i _ _ c.gather_words.new.line _ line_len (c.gather_words.auto.line ∙ line_len) (c.gather_words.ensures i h)
     (λ r hr.
     subst P (sym (lanes_kept c.args.w at_column (at_column + i) c.args.h _ c.loop-g.buffer c.args.buffer.now c.loop-g.invariant (omega arith)
@@ -30,9 +46,9 @@ loop-g-preserved g c =
     let h = c.args.h in
     let at_column = c.LANES-m.result * c.loop-g.g in
     let room =
-    (let w = c.args.w in let m = c.LANES-m.result
-    in let whole : m * (w / m) ≡ w = subst (λ (n : ℕ). n * (w / n) ≡ w) (sym c.LANES-m.ensures) c.requires.width
-    in group_room m c.loop-g.g w whole (omega arith)) in
+    (let n = c.args.columns in let m = c.LANES-m.result
+    in let whole : m * (n / m) ≡ n = subst (λ (k : ℕ). k * (n / k) ≡ n) (sym c.LANES-m.ensures) c.requires.whole
+    in group_room m c.loop-g.g n whole (omega arith)) in
     let old = c.args.buffer.now in
     let F = λ (r q : ℕ). at (network c.args.kind c.args.range c.args.k (by_index h (λ y. at old (y * w + q)))) r in
     let line_len = length-take-le h c.loop-g.line (omega arith) in
@@ -50,7 +66,8 @@ loop-g-preserved g c =
 
 pub returns : goal.returns
 returns g c = λ r q hr hq.
-    let w = c.args.w in
+    let n = c.args.columns in
     let m = c.LANES-m.result in
-    let whole : m * (w / m) ≡ w = subst (λ (n : ℕ). n * (w / n) ≡ w) (sym c.LANES-m.ensures) c.requires.width in
-    column_written w (m * c.loop-g.g) c.args.h c.loop-g.buffer c.args.buffer.now _ c.loop-g.invariant (all_groups m c.loop-g.g w whole (omega arith)) r q hr hq
+    let whole : m * (n / m) ≡ n = subst (λ (k : ℕ). k * (n / k) ≡ n) (sym c.LANES-m.ensures) c.requires.whole in
+    column_written n c.args.w (m * c.loop-g.g) c.args.h c.loop-g.buffer c.args.buffer.now _ c.loop-g.invariant
+    (all_groups m c.loop-g.g n whole (omega arith)) c.requires.width r q hr hq

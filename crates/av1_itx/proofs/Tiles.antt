@@ -1,0 +1,68 @@
+-- Rows that go as the columns of a list.
+use Rattle.std.proofs.Common.{ℕ, ◌≡◌, ◌≤◌, ◌<◌, ◌+◌, ◌*◌, ◌/◌, ◌⊎◌, ℤ, pos, List, arith, ap, sym, subst, ◌∙◌, inl, inr}
+use Rattle.av1_blocks.specs.declared.transform.TxSize.{TxSize}
+use Rattle.av1_blocks.specs.declared.transform.TxType.{TxType}
+use Rattle.av1_blocks.specs.Transforms.{tx_width, tx_height, coded}
+use Rattle.av1_dct.specs.Arithmetic.{at, clamp_value}
+use Rattle.av1_dct.specs.Columns.{column_of}
+use Rattle.av1_dct.proofs.Places.{at-by_index}
+use Rattle.av1_dct.proofs.Zero.{clamp-zero}
+use Rattle.av1_frame.specs.Arithmetic.{round_shift}
+use Rattle.av1_lists.specs.Lists.{by_index}
+use Rattle.av1_lists.proofs.Lists.{by_index-same, length-by_index}
+use Rattle.av1_itx.specs.declared.kinds.TxType1D.{TxType1D}
+use Rattle.av1_itx.specs.Kinds.{row_kind}
+use Rattle.av1_itx.specs.Networks.{network}
+use Rattle.av1_itx.specs.Residue.{column_range, row_input, row_power, row_range, row_shift, transformed_row}
+use Rattle.av1_itx.proofs.Passes.{row_is, row_past, shifted-zero}
+use Rattle.av1_itx.proofs.Zeros.{network-zero, zero_line}
+
+-- what the columns take of a row's value z
+abbrev pub taken_by_columns : TxSize → ℕ → ℤ → ℤ
+taken_by_columns size depth z = clamp_value (round_shift z (row_shift size)) (column_range depth)
+
+taken-zero : (size : TxSize) (depth : ℕ) (z : ℤ) → z ≡ pos 0 → pos 0 ≡ taken_by_columns size depth z
+taken-zero size depth z none = sym (clamp-zero _ (column_range depth) (shifted-zero z (row_shift size) none))
+
+-- past the last row of coefficients
+pub taken-past : (size : TxSize) (type : TxType) (depth : ℕ) (cs : List ℤ) (r c : ℕ) → coded (tx_height size) ≤ r →
+    pos 0 ≡ taken_by_columns size depth (at (transformed_row size type depth cs r) c)
+taken-past size type depth cs r c past = taken-zero size depth _ (row_past size type depth cs r c past)
+
+-- a row of zeros
+pub taken-none : (size : TxSize) (type : TxType) (depth : ℕ) (cs : List ℤ) (r c : ℕ) → r < coded (tx_height size) →
+    ((x : ℕ) → x < tx_width size → row_input size type depth cs r x ≡ pos 0)
+    → pos 0 ≡ taken_by_columns size depth (at (transformed_row size type depth cs r) c)
+taken-none size type depth cs r c lt none =
+    let w = tx_width size in
+    let f = row_input size type depth cs r in
+    let zeros = zero_line (by_index w f) (λ x hx. let h : x < w = omega (arith, hx, length-by_index w f) in at-by_index w f x h ∙ none x h) in
+    let n = network-zero (row_kind type) (row_range depth) (row_power size) (by_index w f) zeros in
+    taken-zero size depth _ (sym (row_is size type depth cs r c lt) ∙ n.at c)
+
+-- column i of a list that has row r in it, transformed
+pub tile_row : (size : TxSize) (type : TxType) (depth : ℕ) (cs tile : List ℤ) (kind : TxType1D) (range k m w r i x : ℕ) → kind ≡ row_kind type →
+    range ≡ row_range depth → k ≡ row_power size → w ≡ tx_width size
+    → r < coded (tx_height size)
+    → ((c : ℕ) → c < tx_width size → at tile (c * m + i) ≡ row_input size type depth cs r c)
+    → at (network kind range k (column_of w m i tile)) x ≡ at (transformed_row size type depth cs r) x
+tile_row size type depth cs tile kind range k m w r i x ek er ep ew lt filled =
+    let run = λ (t : TxType1D) (g p n : ℕ). at (network t g p (column_of n m i tile)) x in
+    ap (λ n. run kind range k n) ew
+    ∙ ap (λ p. run kind range p (tx_width size)) ep
+    ∙ ap (λ g. run kind g (row_power size) (tx_width size)) er
+    ∙ ap (λ t. run t (row_range depth) (row_power size) (tx_width size)) ek
+    ∙ ap (λ zs. at (network (row_kind type) (row_range depth) (row_power size) zs) x) (by_index-same (tx_width size) _ _ filled)
+    ∙ row_is size type depth cs r x lt
+
+-- groups of four or eight lanes
+pub fours : (m l g : ℕ) → m ≡ l → (l ≡ 4) ⊎ (l ≡ 8) → 4 * (m * g / 4) ≡ m * g
+fours m l g e two =
+    let P : ℕ → Type 0 = λ n. 4 * (n * g / 4) ≡ n * g in
+    elim two [
+      | inl h ↦ subst P (sym (e ∙ h)) (let q : 4 * (4 * g / 4) ≡ 4 * g = omega arith in q)
+      | inr h ↦ subst P (sym (e ∙ h)) (let q : 4 * (8 * g / 4) ≡ 8 * g = omega arith in q)
+    ]
+
+pub eights : (m l g : ℕ) → m ≡ l → l ≡ 8 → 8 * (m * g / 8) ≡ m * g
+eights m l g e h = subst (λ (n : ℕ). 8 * (n * g / 8) ≡ n * g) (sym (e ∙ h)) (let q : 8 * (8 * g / 8) ≡ 8 * g = omega arith in q)
