@@ -242,14 +242,16 @@ impl Pictures {
     }
 
     /// Keeps a frame, padded, at a place that no other slot shows, and says where: slots that it replaces then show it.
-    pub fn keep(&mut self, refresh: u8, planes: Planes<u16>) -> u8
+    /// Gives the planes that stood at that place before, where there were some, for a later frame.
+    pub fn keep(&mut self, refresh: u8, planes: Planes<u16>) -> (u8, Option<Planes<u16>>)
         requires some { refresh ≢ 0 }
         requires ready { AreReady self.old.header planes }
         ensures header { self.new.header ≡ self.old.header }
         ensures slots { slots_shown self.new.header self.new.fi self.new.places ≡
             refreshed (slots_shown self.old.header self.old.fi self.old.places) refresh (planes_shown self.old.header planes.y planes.u planes.v) }
-        ensures shown { shown_at self.new.header self.new.fi result ≡ Some (planes_shown self.old.header planes.y planes.u planes.v) }
-        ensures kept { IsKeptAt self.new.header self.new.fi result }
+        ensures shown { shown_at self.new.header self.new.fi result.0 ≡ Some (planes_shown self.old.header planes.y planes.u planes.v) }
+        ensures kept { IsKeptAt self.new.header self.new.fi result.0 }
+        ensures free { IfSome result.1 (λ before. AreReady self.old.header before) }
     {
         let Planes {
             mut y,
@@ -260,9 +262,12 @@ impl Pictures {
         u.pad();
         v.pad();
         let place = free_place(&self.places, refresh);
-        self.fi.set_slot(usize::from(place), y, u, v);
+        let before = self.fi.replace_slot(usize::from(place), y, u, v);
         self.places = replaced(self.places, refresh, place);
-        place
+        match before {
+            Some((y, u, v)) => (place, Some(Planes { y, u, v })),
+            None => (place, None),
+        }
     }
 
     /// Plane `p` of the frame at a place.
