@@ -188,15 +188,39 @@ fn fits_depth(depth: u8, value: i32) -> bool
     is_within(value, 1 << (depth + 7))
 }
 
+/// Whether a triple is of the same block as the last one.
+fn is_of_same_block(last: Option<Triple>, triple: &Triple) -> bool
+    ensures { result ≡ true → IfSome last (λ s. s.block ≡ triple.now.block) }
+{
+    match last {
+        Some(last) => last.block == triple.block,
+        None => false,
+    }
+}
+
+/// Whether the area has a block of this number that begins in the visible plane `p`.
+#[tactic(auto, unfolding(crate::specs::Geometry::transform_block))]
+fn has_block(header: &Header, p: usize, area: &PlaneArea, number: u8) -> bool
+    ensures { result ≡ has_block header.now p area.now number }
+{
+    area.transform_block(header, p, usize::from(number)).is_some()
+}
+
 /// Whether a triple names a block of the area that begins in the visible plane `p`, a place of it and a number in
-/// range.
-#[tactic(auto, unfolding(crate::specs::Validity::is_coefficient, crate::specs::Geometry::transform_block))]
-fn is_coefficient(header: &Header, p: usize, area: &PlaneArea, triple: &Triple) -> bool
-    requires { header.now.depth ≤ 12 }
+/// range. The block of the last triple, where there is one, is known to be such a block.
+#[tactic(auto, unfolding(crate::specs::Validity::is_coefficient))]
+fn is_coefficient(
+    header: &Header,
+    p: usize,
+    area: &PlaneArea,
+    last: Option<Triple>,
+    triple: &Triple,
+) -> bool
+    requires depth { header.now.depth ≤ 12 }
+    requires last { IfSome last (λ s. has_block header.now p area.now s.block ≡ true) }
     ensures { result ≡ is_coefficient header.now p area.now triple.now }
 {
-    let block = area.transform_block(header, p, usize::from(triple.block));
-    block.is_some()
+    (is_of_same_block(last, triple) || has_block(header, p, area, triple.block))
         && usize::from(triple.place) < area.tx_size.coded_area()
         && fits_depth(header.depth, triple.value)
 }
@@ -228,7 +252,7 @@ fn are_coefficients(header: &Header, p: usize, area: &PlaneArea, triples: &[Trip
 {
     let mut last = None;
     for triple in triples {
-        if !is_coefficient(header, p, area, triple) {
+        if !is_coefficient(header, p, area, last, triple) {
             return false;
         }
         if !follows(last, triple) {
@@ -247,8 +271,12 @@ fn has_plane_coefficients(header: &Header, plan: &Plan, i: usize, leaf: &Leaf, p
     requires plane { p < 3 }
     ensures { result ≡ has_plane_coefficients header.now (leaf_value (stored_triples plan.now) leaf.now) p }
 {
+    let triples = plan.triples(i, p);
+    if triples.is_empty() {
+        return true;
+    }
     let area = leaf.plane_area(header, p);
-    are_coefficients(header, p, &area, plan.triples(i, p))
+    are_coefficients(header, p, &area, triples)
 }
 
 /// Whether the triples of leaf number `i` are coefficients in all planes that it covers.
