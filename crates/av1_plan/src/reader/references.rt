@@ -1,10 +1,38 @@
 //! Reading the reference samples.
 
+ghost use Rattle.std.specs.Prelude.{◌≡◌, ◌≤◌, length, take, IfOk};
+
 use crate::error::PlanError;
 use crate::header::Header;
 use crate::planes::Planes;
 use crate::reader::Reader;
-use std::alloc::Global;
+use std::alloc::{AllocError, Global};
+
+/// How many samples are widened at a time.
+const RUN: usize = 64;
+
+/// The bytes, each as a sample.
+fn widened(alloc: Global, bytes: &[u8]) -> Result<Vec<u16>, AllocError>
+    ensures { IfOk result (λ samples. samples.items ≡ bytes.now) }
+{
+    let mut samples = Vec::with_capacity(alloc, bytes.len())?;
+    let mut wide = [0; RUN];
+    for run in bytes.chunks(RUN) {
+        widen(run, &mut wide);
+        samples.extend_from_slice(&wide[..run.len()])?;
+    }
+    Ok(samples)
+}
+
+/// The bytes, each as a sample, at the front of `wide`.
+fn widen(bytes: &[u8], wide: &mut [u16; RUN])
+    requires { length bytes.now ≤ 64 }
+    ensures { take (length bytes.now) wide.new ≡ bytes.now }
+{
+    for (i, byte) in bytes.iter().enumerate() {
+        wide[i] = u16::from(*byte);
+    }
+}
 
 impl<'a> Reader<'a> {
     ghost use Rattle.std.specs.Prelude.{◌≡◌, ◌+◌, ◌*◌, ◌≤◌, ◌<◌, ◌^◌, length, IfOk, vec_len, is_some};
@@ -35,9 +63,14 @@ impl<'a> Reader<'a> {
         }
     }
 
-    /// The samples of a plane.
+    /// The samples of a plane, one by one.
     #[tactic(auto, using(crate::proofs::Lists::collects), unfolding(crate::specs::Grammar::plane))]
-    fn plane(&mut self, alloc: Global, depth: u8, len: usize) -> Result<Vec<u16>, PlanError>
+    fn plane_by_samples(
+        &mut self,
+        alloc: Global,
+        depth: u8,
+        len: usize,
+    ) -> Result<Vec<u16>, PlanError>
         requires fits { Fits self.old }
         requires depth { depth ≤ 12 }
         ensures read { Gives (λ x. (x.items, input self.new)) result (read (plane depth len) (input self.old)) }
@@ -48,6 +81,23 @@ impl<'a> Reader<'a> {
             let sample = self.sample(depth)?;
             samples.push(sample)?;
         }
+        Ok(samples)
+    }
+
+    /// The samples of a plane. Those of one byte are taken all at once, where there are so many bytes.
+    fn plane(&mut self, alloc: Global, depth: u8, len: usize) -> Result<Vec<u16>, PlanError>
+        requires fits { Fits self.old }
+        requires depth { depth ≤ 12 }
+        ensures read { Gives (λ x. (x.items, input self.new)) result (read (plane depth len) (input self.old)) }
+        ensures moves { Moves self.old self.new }
+    {
+        let rest = self.rest;
+        if depth != 8 || rest.len() < len {
+            return self.plane_by_samples(alloc, depth, len);
+        }
+        let samples = widened(alloc, &rest[..len])?;
+        self.rest = &rest[len..];
+        self.at += len as u32;
         Ok(samples)
     }
 
