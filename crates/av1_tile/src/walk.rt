@@ -25,7 +25,7 @@ use crate::planes::Planes;
 use av1_blocks::{IntraParam, PredictionMode};
 use av1_frame::{FrameInvariants, Pixel, Plane};
 use av1_inter::InterCompoundBuffers;
-use av1_plan::{Header, Leaf, Triple};
+use av1_plan::{Header, Leaf, LeafKind, Triple};
 use av1_references::{predict_compound, predict_single};
 
 /// Where the block of number `index` begins, of blocks with sides of `side` samples from `start` on.
@@ -211,6 +211,16 @@ fn reconstruct_blocks<T: Pixel>(
     }
 }
 
+/// Whether a leaf's block is predicted as a whole, from references.
+fn is_whole(prediction: Prediction) -> bool
+    ensures { result ≡ is_whole prediction }
+{
+    match prediction {
+        Prediction::Single { .. } | Prediction::Compound { .. } => true,
+        Prediction::Intra { .. } | Prediction::FromLuma { .. } => false,
+    }
+}
+
 /// Predicts a leaf's whole area in a plane, where it is predicted from references. The frame settings hold the
 /// references of a plan in which that can be done.
 fn predict_whole<T: Pixel>(
@@ -249,7 +259,7 @@ fn predict_whole<T: Pixel>(
 }
 
 /// A leaf's block in a plane: its whole area is predicted where it is predicted from references, then its transform
-/// blocks follow.
+/// blocks follow. Of a block that is predicted as a whole they add nothing where there are no triples.
 fn reconstruct_plane_block<T: Pixel>(
     plane: &mut Plane<T>,
     buffers: &mut WalkBuffers<T>,
@@ -274,6 +284,9 @@ fn reconstruct_plane_block<T: Pixel>(
     ensures config { plane.new.plane_cfg ≡ plane.old.plane_cfg }
 {
     predict_whole(plane, &mut buffers.compound, fi, block);
+    if triples.is_empty() && is_whole(block.prediction) {
+        return;
+    }
     reconstruct_blocks(plane, buffers, header, block, triples);
 }
 
@@ -306,7 +319,12 @@ pub fn reconstruct_leaf_in<T: Pixel>(
     ensures stores { Stores T.num header.now p plane.new }
     ensures config { plane.new.plane_cfg ≡ plane.old.plane_cfg }
 {
-    let filter = cells.filter_parameters(header, p, leaf.plane_area(header, p));
+    let filter = match leaf.kind {
+        LeafKind::Intra { .. } => {
+            cells.filter_parameters(header, p, leaf.plane_area(header, p))
+        }
+        LeafKind::Single { .. } | LeafKind::Compound { .. } => None,
+    };
     let block = PlaneBlock::of_leaf(header, leaf, p, filter);
     reconstruct_plane_block(plane, buffers, fi, header, &block, triples);
 }
