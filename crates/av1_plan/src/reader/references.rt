@@ -17,9 +17,11 @@ fn widened(alloc: Global, bytes: &[u8]) -> Result<Vec<u16>, AllocError>
 {
     let mut samples = Vec::with_capacity(alloc, bytes.len())?;
     let mut wide = [0; RUN];
-    for run in bytes.chunks(RUN) {
-        widen(run, &mut wide);
-        samples.extend_from_slice(&wide[..run.len()])?;
+    for run in 0..bytes.len().div_ceil(RUN) {
+        let start = run * RUN;
+        let end = bytes.len().min(start + RUN);
+        widen(&bytes[start..end], &mut wide);
+        samples.extend_from_slice(&wide[..end - start])?;
     }
     Ok(samples)
 }
