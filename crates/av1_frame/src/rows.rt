@@ -51,10 +51,12 @@ pub fn zero_samples<T: Pixel>(alloc: Global, count: usize) -> Result<Vec<T>, All
     ensures zeros { IfOk result (λ samples. samples.items ≡ replicate count (T.pixel 0)) }
     ensures len { IfOk result (λ samples. vec_len samples ≡ count) }
 {
+    let zero = T::from_u32(0);
     let mut samples = Vec::with_capacity(alloc, count)?;
-    for run in 0..count.div_ceil(RUN) {
-        samples.resize(count.min((run + 1) * RUN), T::from_u32(0))?;
+    for run in 0..count / RUN {
+        samples.resize((run + 1) * RUN, zero)?;
     }
+    samples.resize(count, zero)?;
     Ok(samples)
 }
 

@@ -1,7 +1,8 @@
 //! Which plans are valid.
 
-ghost use Rattle.std.specs.Prelude.{◌≡◌, ◌+◌, ◌<◌, ◌≤◌, length, map, OnOk, IfErr, Some, None, slice_get, ◌&&◌, not, pos, neg_ℤ, int_lt, ◌≤ℤ◌};
+ghost use Rattle.std.specs.Prelude.{◌≡◌, ◌+◌, ◌<◌, ◌≤◌, length, map, OnOk, IfErr, IfSome, true, Some, None, slice_get, ◌&&◌, not, pos, neg_ℤ, int_lt, ◌≤ℤ◌};
 ghost use Rattle.av1_plan.specs.Answer.{plan_value, stored_leaves, stored_triples};
+ghost use Rattle.av1_plan.specs.Geometry.{has_block};
 ghost use Rattle.av1_plan.specs.Plan.{leaf_value};
 ghost use Rattle.av1_plan.specs.Validity.{
   has_block_size,
@@ -17,6 +18,7 @@ ghost use Rattle.av1_plan.specs.Validity.{
   has_references,
   fits_signed,
   is_coefficient,
+  is_of_block,
   is_before,
   follows,
   are_coefficients,
@@ -188,9 +190,10 @@ fn fits_depth(depth: u8, value: i32) -> bool
     is_within(value, 1 << (depth + 7))
 }
 
-/// Whether a triple is of the same block as the last one.
-fn is_of_same_block(last: Option<Triple>, triple: &Triple) -> bool
-    ensures { result ≡ true → IfSome last (λ s. s.block ≡ triple.now.block) }
+/// Whether a triple is of the block of the last one.
+#[tactic(auto, unfolding(crate::specs::Validity::is_of_block))]
+fn is_of_block(last: Option<Triple>, triple: &Triple) -> bool
+    ensures { result ≡ is_of_block last triple.now }
 {
     match last {
         Some(last) => last.block == triple.block,
@@ -198,16 +201,27 @@ fn is_of_same_block(last: Option<Triple>, triple: &Triple) -> bool
     }
 }
 
-/// Whether the area has a block of this number that begins in the visible plane `p`.
-#[tactic(auto, unfolding(crate::specs::Geometry::transform_block))]
-fn has_block(header: &Header, p: usize, area: &PlaneArea, number: u8) -> bool
-    ensures { result ≡ has_block header.now p area.now number }
+/// Whether the area has the block of a triple, and that begins in the visible plane `p`. The block of the last triple,
+/// where there is one, does.
+fn has_block(
+    header: &Header,
+    p: usize,
+    area: &PlaneArea,
+    last: Option<Triple>,
+    triple: &Triple,
+) -> bool
+    requires { IfSome last (λ s. has_block header.now p area.now s.block ≡ true) }
+    ensures { result ≡ has_block header.now p area.now triple.now.block }
 {
-    area.transform_block(header, p, usize::from(number)).is_some()
+    if is_of_block(last, triple) {
+        return true;
+    }
+    area.transform_block(header, p, usize::from(triple.block))
+        .is_some()
 }
 
 /// Whether a triple names a block of the area that begins in the visible plane `p`, a place of it and a number in
-/// range. The block of the last triple, where there is one, is known to be such a block.
+/// range. The block of the last triple, where there is one, is such a block.
 #[tactic(auto, unfolding(crate::specs::Validity::is_coefficient))]
 fn is_coefficient(
     header: &Header,
@@ -220,7 +234,7 @@ fn is_coefficient(
     requires last { IfSome last (λ s. has_block header.now p area.now s.block ≡ true) }
     ensures { result ≡ is_coefficient header.now p area.now triple.now }
 {
-    (is_of_same_block(last, triple) || has_block(header, p, area, triple.block))
+    has_block(header, p, area, last, triple)
         && usize::from(triple.place) < area.tx_size.coded_area()
         && fits_depth(header.depth, triple.value)
 }

@@ -4,7 +4,8 @@
 //! places. A place that no slot shows is taken for the next frame.
 
 ghost use Rattle.std.specs.Prelude.{[], ◌≡◌, ◌≢◌, ℕ, ◌+◌, ◌*◌, ◌/◌, ◌%◌, ◌^◌, ◌<◌, ◌≤◌, true, false, None, Some, replicate, slice_index_or, is_some, length};
-ghost use Rattle.std.specs.Prelude.{IfOk};
+ghost use Rattle.std.specs.Prelude.{IfOk, IfSome};
+ghost use Rattle.std.specs.Option.{option_map};
 ghost use Rattle.av1_plan.specs.Geometry.{plane_len, plane_height, plane_width};
 ghost use Rattle.av1_plan.specs.Plan.{PlanValue};
 ghost use Rattle.av1_references.specs.References.{ServesPlan};
@@ -140,6 +141,16 @@ fn places_of(places: &[Option<u8>; SLOTS], slots: &[u8; 7]) -> [u8; 7]
     named
 }
 
+/// The planes of a frame, where there are some.
+fn as_planes(planes: Option<(Plane<u16>, Plane<u16>, Plane<u16>)>) -> Option<Planes<u16>>
+    ensures { result ≡ option_map (λ p. record { y = p.0; u = p.1; v = p.2 }) planes }
+{
+    match planes {
+        Some((y, u, v)) => Some(Planes { y, u, v }),
+        None => None,
+    }
+}
+
 impl Pictures {
     /// No frames.
     pub fn new(alloc: Global, header: Header) -> Result<Pictures, OutOfMemory>
@@ -264,10 +275,7 @@ impl Pictures {
         let place = free_place(&self.places, refresh);
         let before = self.fi.replace_slot(usize::from(place), y, u, v);
         self.places = replaced(self.places, refresh, place);
-        match before {
-            Some((y, u, v)) => (place, Some(Planes { y, u, v })),
-            None => (place, None),
-        }
+        (place, as_planes(before))
     }
 
     /// Plane `p` of the frame at a place.

@@ -17,19 +17,23 @@ fn widened(alloc: Global, bytes: &[u8]) -> Result<Vec<u16>, AllocError>
 {
     let mut samples = Vec::with_capacity(alloc, bytes.len())?;
     let mut wide = [0; RUN];
-    for run in 0..bytes.len().div_ceil(RUN) {
+    let runs = bytes.len() / RUN;
+    for run in 0..runs {
         let start = run * RUN;
-        let end = bytes.len().min(start + RUN);
-        widen(&bytes[start..end], &mut wide);
-        samples.extend_from_slice(&wide[..end - start])?;
+        widen(&bytes[start..start + RUN], &mut wide);
+        samples.extend_from_slice(&wide[..RUN])?;
     }
+    let rest = &bytes[runs * RUN..];
+    widen(rest, &mut wide);
+    samples.extend_from_slice(&wide[..rest.len()])?;
     Ok(samples)
 }
 
 /// The bytes, each as a sample, at the front of `wide`.
-fn widen(bytes: &[u8], wide: &mut [u16; RUN])
-    requires { length bytes.now ≤ 64 }
-    ensures { take (length bytes.now) wide.new ≡ bytes.now }
+fn widen(bytes: &[u8], wide: &mut [u16])
+    requires { length bytes.now ≤ length wide.old }
+    ensures front { take (length bytes.now) wide.new ≡ bytes.now }
+    ensures len { length wide.new ≡ length wide.old }
 {
     for (i, byte) in bytes.iter().enumerate() {
         wide[i] = u16::from(*byte);
@@ -86,21 +90,31 @@ impl<'a> Reader<'a> {
         Ok(samples)
     }
 
-    /// The samples of a plane. Those of one byte are taken all at once, where there are so many bytes.
+    /// The samples of a plane at depth 8, which are so many bytes.
+    fn plane_of_bytes(&mut self, alloc: Global, len: usize) -> Result<Vec<u16>, PlanError>
+        requires fits { Fits self.old }
+        requires long { len ≤ length self.old.rest.now }
+        ensures read { Gives (λ x. (x.items, input self.new)) result (read (plane 8 len) (input self.old)) }
+        ensures moves { Moves self.old self.new }
+    {
+        let rest = self.rest;
+        let samples = widened(alloc, &rest[..len])?;
+        self.rest = &rest[len..];
+        self.at += len as u32;
+        Ok(samples)
+    }
+
+    /// The samples of a plane. Those of one byte are read all at once, where there are so many bytes.
     fn plane(&mut self, alloc: Global, depth: u8, len: usize) -> Result<Vec<u16>, PlanError>
         requires fits { Fits self.old }
         requires depth { depth ≤ 12 }
         ensures read { Gives (λ x. (x.items, input self.new)) result (read (plane depth len) (input self.old)) }
         ensures moves { Moves self.old self.new }
     {
-        let rest = self.rest;
-        if depth != 8 || rest.len() < len {
-            return self.plane_by_samples(alloc, depth, len);
+        if depth == 8 && len <= self.rest.len() {
+            return self.plane_of_bytes(alloc, len);
         }
-        let samples = widened(alloc, &rest[..len])?;
-        self.rest = &rest[len..];
-        self.at += len as u32;
-        Ok(samples)
+        self.plane_by_samples(alloc, depth, len)
     }
 
     /// The three planes of a slot.
