@@ -1,6 +1,6 @@
 -- What a call does with a frame, seen from what the sequence keeps in memory.
 use Rattle.std.proofs.Common.{ℕ, ◌+◌, ◌*◌, ◌/◌, ◌<◌, ◌≤◌, ◌≡◌, ◌∙◌, ◌^◌, false, Bool, List, [], length, Option, Some, None, Result, Ok, Err, refl, ap, sym}
-use Rattle.std.proofs.Common.{subst, slice_index_or, if◌then◌else◌}
+use Rattle.std.proofs.Common.{subst, slice_index_or, if◌then◌else◌, IfSome}
 use Rattle.std.specs.Prelude.{OnOk}
 use Rattle.std.specs.Option.{option_map}
 use Rattle.std.proofs.Math.Nat.{zero-div}
