@@ -24,4 +24,4 @@ pub mod Versions
 pub mod ValidLeaves
 pub mod ValidModes
 pub mod Composed
-pub mod Apart
+pub mod Behind

@@ -13,4 +13,3 @@ pub mod Parsing
 pub mod Answer
 pub mod Versions
 pub mod Pieces
-pub mod Apart

@@ -25,8 +25,8 @@ pub fn the_first_version_has_the_rest()
 {}
 
 /// A law: what stands before the leaves of a plan, its references and the leaves behind them are the plan. The bytes of
-/// a header, those of its references and those that [`crate::parse_leaves`] reads are, one after the other, the bytes
-/// of what it gives.
+/// a header, those of its references and those that [`crate::parse_plan_behind`] reads are, one after the other, the
+/// bytes of what it gives.
 pub fn pieces_are_a_plan()
     ensures { PiecesArePlan }
 {}

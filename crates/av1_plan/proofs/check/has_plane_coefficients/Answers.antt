@@ -6,6 +6,6 @@ use Rattle.av1_plan.proofs.check.has_plane_coefficients.Goals as goal
 pub returns : goal.returns
 unfolding has_plane_coefficients
 returns c =
-    let p = c.args.plan.now in
-    let e = triples_of_leaf p.triples.items p.leaves.items c.args.i c.args.p c.args.leaf.now c.requires.stored in
+    let all = c.args.leaves.now in
+    let e = triples_of_leaf all.triples.items all.leaves.items c.args.i c.args.p c.args.leaf.now c.requires.stored in
     rw (c.are_coefficients.ensures, c.triples.ensures, e, c.plane_area-area.ensures) refl
