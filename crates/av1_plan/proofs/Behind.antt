@@ -1,11 +1,17 @@
 -- What stands behind a header and references is what its leaves are: the bytes that spell the leaves spell the plan of them.
 use Rattle.std.proofs.Common.{◌≡◌, ℕ, ◌≤◌, List, [], ◌∷◌, ◌++◌, Option, Result, Ok, Err, length, refl, sym, ap, subst, ◌∙◌}
+use Rattle.std.specs.Prelude.{IsErrAnd, MatchResult}
 use Rattle.std.specs.Int.{to_le_bytes}
+use Rattle.av1_plan.specs.declared.error.PlanError.{PlanError}
+use Rattle.av1_plan.specs.declared.error.PlanError.TheVariants as errors
 use Rattle.av1_plan.specs.declared.header.Header.{Header}
+use Rattle.av1_plan.specs.declared.leaves.Leaves.{Leaves}
+use Rattle.av1_plan.specs.declared.plan.Plan.{Plan}
+use Rattle.av1_plan.specs.Answer.{IfMalformed, plan_value}
 use Rattle.av1_plan.specs.Format.{Format, done, asks, ◌>>=◌, width}
 use Rattle.av1_plan.specs.Grammar.{superblocks, plan_behind}
 use Rattle.av1_plan.specs.Plan.{LeafValue, PlanValue}
-use Rattle.av1_plan.specs.Spelling.{IsProper, Spells, text, AreText, IsPrefix, IsLongest, AreRefused}
+use Rattle.av1_plan.specs.Spelling.{IsProper, Spells, text, AreText, IsPrefix, IsLongest, IsSpelled, AreRefused}
 
 -- ---- a format, and the same of a value that is made of its own
 
@@ -48,6 +54,9 @@ module _ (h : Header) (stored : List (Option (List (List ℕ)))) (bytes : List �
   behind_text leaves (vs, s, e) =
       (vs, made_spells (plan_of h stored) (superblocks h) vs leaves s, e ∙ sym (made_text (plan_of h stored) (superblocks h) vs))
 
+  pub behind_spelled : (leaves : List LeafValue) → AreText (superblocks h) bytes leaves → IsSpelled (plan_behind h stored) (plan_of h stored leaves)
+  behind_spelled leaves t = let (vs, s, e) = behind_text leaves t in record { values = vs; spells = s }
+
   pub leaves_text : (p : PlanValue) → AreText (plan_behind h stored) bytes p →
       (leaves : List LeafValue) × AreText (superblocks h) bytes leaves × (plan_of h stored leaves ≡ p)
   unfolding plan_behind
@@ -77,3 +86,24 @@ module _ (h : Header) (stored : List (Option (List (List ℕ)))) (bytes : List �
     no_text = λ p t. let (leaves, s, is) = leaves_text p t in r.no_text leaves s;
     first = longest_behind at r.first;
   }
+
+  -- ---- answers
+
+  -- the plan of leaves that are the only ones
+  pub only_plan : (own : List LeafValue) → ((leaves : List LeafValue) → AreText (superblocks h) bytes leaves → own ≡ leaves) → (p : PlanValue) →
+      AreText (plan_behind h stored) bytes p → plan_of h stored own ≡ p
+  only_plan own only p t = let (leaves, s, is) = leaves_text p t in ap (plan_of h stored) (only leaves s) ∙ is
+
+  -- an error that the leaves had
+  pub passed_refusal : (r : Result Plan PlanError) (e : PlanError) → IsErrAnd r (λ d. d ≡ e) →
+      IfMalformed {X = Leaves} (Err e) (λ at. AreRefused (superblocks h) bytes at) → IfMalformed r (λ at. AreRefused (plan_behind h stored) bytes at)
+  passed_refusal (Ok p) e is why = absurd is
+  passed_refusal (Err errors.Memory) e is why = tt
+  passed_refusal (Err (errors.Malformed at)) e is why =
+      behind_refused at (subst (λ (d : PlanError). IfMalformed {X = Leaves} (Err d) (λ at. AreRefused (superblocks h) bytes at)) (sym is) why)
+
+  pub passed_only : (r : Result Plan PlanError) (e : PlanError) → IsErrAnd r (λ d. d ≡ e) →
+      ((leaves : List LeafValue) → AreText (superblocks h) bytes leaves → e ≡ errors.Memory) → (p : PlanValue) → AreText (plan_behind h stored) bytes p →
+      MatchResult r (λ x. plan_value x ≡ p) (λ d. d ≡ errors.Memory)
+  passed_only (Ok x) e is only p t = absurd is
+  passed_only (Err d) e is only p t = let (leaves, s, same) = leaves_text p t in is ∙ only leaves s
