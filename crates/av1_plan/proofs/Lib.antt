@@ -25,3 +25,4 @@ pub mod ValidLeaves
 pub mod ValidModes
 pub mod Composed
 pub mod Behind
+pub mod Continued
