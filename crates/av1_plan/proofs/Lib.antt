@@ -26,3 +26,4 @@ pub mod ValidModes
 pub mod Composed
 pub mod Behind
 pub mod Continued
+pub mod Lengths

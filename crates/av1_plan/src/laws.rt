@@ -2,6 +2,7 @@
 
 ghost use Rattle.std.specs.Prelude.{◌≡◌, ℕ, List};
 ghost use Rattle.av1_plan.specs.Grammar.{plan};
+ghost use Rattle.av1_plan.specs.Lengths.{HeadersAreTwenty, ReferencesAreSlots};
 ghost use Rattle.av1_plan.specs.Pieces.{PiecesArePlan, PiecesAreRefused, PlanIsPieces};
 ghost use Rattle.av1_plan.specs.Plan.{PlanValue};
 ghost use Rattle.av1_plan.specs.Spelling.{AreText};
@@ -32,4 +33,10 @@ pub fn pieces_are_a_plan()
     ensures whole { PiecesArePlan }
     ensures apart { PlanIsPieces }
     ensures refused { PiecesAreRefused }
+{}
+
+/// A law: a header is 20 bytes, and references are the samples of the slots that carry planes.
+pub fn fronts_have_these_lengths()
+    ensures header { HeadersAreTwenty }
+    ensures references { ReferencesAreSlots }
 {}
