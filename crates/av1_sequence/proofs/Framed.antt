@@ -13,6 +13,7 @@ use Rattle.av1_lists.proofs.Lists.{by_index-same, get_or-by_index}
 use Rattle.av1_plan.specs.declared.header.Header.{Header}
 use Rattle.av1_plan.specs.Geometry.{plane_width}
 use Rattle.av1_plan.specs.Grammar.{plan as grammar, superblocks}
+use Rattle.av1_plan.specs.Lengths.{slot_bytes}
 use Rattle.av1_plan.specs.Plan.{LeafValue, PlanValue}
 use Rattle.av1_plan.specs.ReadPlans.{IsReadFrame}
 use Rattle.av1_plan.specs.Spelling.{AreText, IsSpelled}
@@ -26,7 +27,7 @@ use Rattle.av1_sequence.specs.declared.head.FrameHead.{FrameHead}
 use Rattle.av1_sequence.specs.declared.last.Last.{Last}
 use Rattle.av1_sequence.specs.declared.last.Last.TheVariants as lasts
 use Rattle.av1_sequence.specs.declared.sequence.Sequence.TheInside.{Inside}
-use Rattle.av1_sequence.specs.Frames.{IsFramePlan, IsHead, frame_bytes, frame_header, frame_of, frame_references, most_bytes, plan_bytes}
+use Rattle.av1_sequence.specs.Frames.{IsFramePlan, IsHead, frame_header, frame_of, frame_references, most_bytes, plan_bytes}
 use Rattle.av1_sequence.specs.Kept.{AreReady, Kept, own, plane_shown, planes_shown, shown_at, shown_in, slots_shown}
 use Rattle.av1_sequence.specs.Last.{last_shown}
 use Rattle.av1_sequence.specs.Outcomes.{Accepts, Refuses, RefusesPart, accepted, plan_over}
@@ -89,11 +90,11 @@ module _ (k : Kept) (s : Inside) (view : opened s ≡ k) where
     references_seen = ap (λ (v : Kept). frame_references v.slots head) view
 
     -- the plan is no longer than it may be
-    pub short_seen : (part : List ℕ) (n len : ℕ) → n ≡ count_of (is_read head.slots (slots_shown h fi places)) 8 * frame_bytes h → len ≡ length part →
+    pub short_seen : (part : List ℕ) (n len : ℕ) → n ≡ count_of (is_read head.slots (slots_shown h fi places)) 8 * slot_bytes h → len ≡ length part →
         20 + n + len ≤ 2 ^ 26 → plan_bytes k.frames k.slots head part ≤ most_bytes
     short_seen part n len n_is len_is le =
         subst (λ (v : Kept). plan_bytes v.frames v.slots head part ≤ most_bytes) view
-        (let same : 20 + count_of (is_read head.slots (slots_shown h fi places)) 8 * frame_bytes h + length part ≡ 20 + n + len = rw (n_is, len_is) refl
+        (let same : 20 + count_of (is_read head.slots (slots_shown h fi places)) 8 * slot_bytes h + length part ≡ 20 + n + len = rw (n_is, len_is) refl
         in subst (λ (m : ℕ). m ≤ 2 ^ 26) (sym same) le)
 
     -- what a part is refused for
