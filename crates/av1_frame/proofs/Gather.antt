@@ -63,9 +63,10 @@ spread_place from first end k = cond (leb first k && ltb k end) from k
 abbrev pub row_place : ℕ → ℕ → ℕ → ℕ → ℕ → ℕ
 row_place stride from first end k = cond (leb first (k / stride) && ltb (k / stride) end) from (k / stride) * stride + k % stride
 
--- the nearest column of the w from column x on, in the rows before row `end`; else k
-abbrev pub side_place : ℕ → ℕ → ℕ → ℕ → ℕ → ℕ
-side_place stride x w end k = k / stride * stride + cond (ltb (k / stride) end) (nearest x w (k % stride)) (k % stride)
+-- the nearest column of the w from column x on, in the rows from row `first` to before row `end`; else k
+abbrev pub side_place : ℕ → ℕ → ℕ → ℕ → ℕ → ℕ → ℕ
+side_place stride x w first end k =
+    k / stride * stride + cond (leb first (k / stride) && ltb (k / stride) end) (nearest x w (k % stride)) (k % stride)
 
 pub spread_none : {X : Type 0} (from first : ℕ) (s : List X) → gathered (spread_place from first first) s ≡ s
 spread_none from first s = sym (gathered_none _ s (λ k l. grind (arith, nat_tests)))
@@ -98,22 +99,6 @@ row_sides x w n s t u h l e a b =
     b ∙ ap (gathered (spread_place (x + w - 1) (x + w) n)) a
     ∙ gathered_twice _ _ s (λ k m. spread_bound x 0 x (length s) k (omega arith) m) (λ k m. spread_bound (x + w - 1) (x + w) n (length s) k (omega arith) m)
     ∙ gathered_same _ (nearest x w) s near (λ k m. both_sides x w n k h (omega arith) (omega arith))
-
--- what a Vec of n elements s, seen as t, ends as after a copy within it
-pub vec_copied_is : {X : Type 0} (n from to w v : ℕ) (s o t u : List X) → o ≡ s → s ≡ t → n ≡ length s → length u ≡ length o → v ≡ w
-    → ((k : ℕ) (d : X) → to ≤ k → k < to + v → get_or u k d ≡ get_or o (from + (k - to)) d) × ((k : ℕ) (d : X) → k < to → get_or u k d ≡ get_or o k d) ×
-    ((k : ℕ) (d : X) → to + v ≤ k → get_or u k d ≡ get_or o k d)
-    → from + w ≤ length t → to + w ≤ length t → take n (u ++ drop (length u) s) ≡ with_part to t (part from w t)
-vec_copied_is n from to w v s o t u a b e m f i hf ht =
-    let l : length s ≡ length t = ap length b in
-    let lo : length o ≡ length s = ap length a in
-    update_is _ s _ (grind (arith, places)) (λ k d b. elim (cases_lt k to) [
-      | inl q ↦ (let g = i.1 k d q ∙ ap (λ x. get_or x k d) a in grind (arith, places, nat_tests))
-      | inr q ↦ elim (cases_lt k (to + w)) [
-        | inl h ↦ (let g = i.0 k d q (omega arith) ∙ ap (λ x. get_or x (from + (k - to)) d) a in grind (arith, places, nat_tests, get_or_default))
-        | inr h ↦ (let g = i.2 k d (omega arith) ∙ ap (λ x. get_or x k d) a in grind (arith, places, nat_tests))
-      ]
-    ]) ∙ ap (λ x. with_part to x (part from w x)) b
 
 taken : {X : Type 0} (i k : ℕ) (a b : X) → i ≤ k → cond (leb i k) a b ≡ a
 taken i k a b h = grind (arith, nat_tests)
@@ -194,40 +179,42 @@ rows_more stride from first y h s z e f l m apart =
 pub row_stored : (stride h n k : ℕ) → n ≡ h * stride → k < n → k / stride < h
 row_stored stride h n k e l = grind arith
 
-pub side_bound : (stride x w end h n k : ℕ) → 0 < w → x + w ≤ stride → n ≡ h * stride → k < n → side_place stride x w end k < n
-side_bound stride x w end h n k z f e l =
+pub side_bound : (stride x w first end h n k : ℕ) → 0 < w → x + w ≤ stride → n ≡ h * stride → k < n → side_place stride x w first end k < n
+side_bound stride x w first end h n k z f e l =
     let b : k ≡ k / stride * stride + k % stride = omega arith in
     let r = row_stored stride h n k e l in
     let m = row_end_le (k / stride) h stride stride n e r (omega arith) in
-    let c : cond (ltb (k / stride) end) (nearest x w (k % stride)) (k % stride) < stride = grind (arith, nat_tests) in
+    let c : cond (leb first (k / stride) && ltb (k / stride) end) (nearest x w (k % stride)) (k % stride) < stride = grind (arith, nat_tests) in
     omega (arith, m, c)
 
-pub sides_none : {X : Type 0} (stride x w : ℕ) (s : List X) → gathered (side_place stride x w 0) s ≡ s
-sides_none stride x w s =
+pub sides_none : {X : Type 0} (stride x w first : ℕ) (s : List X) → gathered (side_place stride x w first first) s ≡ s
+sides_none stride x w first s =
     sym (gathered_none _ s (λ k l. let b : k ≡ k / stride * stride + k % stride = omega arith in grind (arith, nat_tests)))
 
-side_place_at : (stride x w end r c : ℕ) → c < stride → side_place stride x w end (r * stride + c) ≡ r * stride + cond (ltb r end) (nearest x w c) c
-side_place_at stride x w end r c h = rw (at_row stride r c h, at_column stride r c h) refl
+pub side_place_at : (stride x w first end r c : ℕ) → c < stride →
+    side_place stride x w first end (r * stride + c) ≡ r * stride + cond (leb first r && ltb r end) (nearest x w c) c
+side_place_at stride x w first end r c h = rw (at_row stride r c h, at_column stride r c h) refl
 
 -- one more row whose sides were filled
-pub sides_more : {X : Type 0} (stride x w y h : ℕ) (s ws : List X) → 0 < w → x + w ≤ stride → length s ≡ h * stride → y < h
-    → ws ≡ gathered (nearest x w) (part (y * stride) stride (gathered (side_place stride x w y) s))
-    → with_part (y * stride) (gathered (side_place stride x w y) s) ws ≡ gathered (side_place stride x w (y + 1)) s
-sides_more stride x w y h s ws z f e l a =
-    let g = side_place stride x w y in
+pub sides_more : {X : Type 0} (stride x w first y h : ℕ) (s ws : List X) → 0 < w → x + w ≤ stride → length s ≡ h * stride → first ≤ y → y < h
+    → ws ≡ gathered (nearest x w) (part (y * stride) stride (gathered (side_place stride x w first y) s))
+    → with_part (y * stride) (gathered (side_place stride x w first y) s) ws ≡ gathered (side_place stride x w first (y + 1)) s
+sides_more stride x w first y h s ws z f e behind l a =
+    let g = side_place stride x w first y in
     let t = gathered g s in
     let row = part (y * stride) stride t in
     let fy = row_end_le y h stride stride (length s) e l (omega arith) in
     let lt = length-gathered g s in
     let lr : length row ≡ stride = grind (arith, places, lt, fy) in
-    row_gathered stride y g (side_place stride x w (y + 1)) s ws (omega arith) fy (ap length a ∙ length-gathered (nearest x w) row ∙ lr)
-    (λ k i. side_bound stride x w y h (length s) k z f e i) (λ k i. side_bound stride x w (y + 1) h (length s) k z f e i)
+    row_gathered stride y g (side_place stride x w first (y + 1)) s ws (omega arith) fy (ap length a ∙ length-gathered (nearest x w) row ∙ lr)
+    (λ k i. side_bound stride x w first y h (length s) k z f e i) (λ k i. side_bound stride x w first (y + 1) h (length s) k z f e i)
     (λ k i n. grind (arith, nat_tests)) (λ c d i.
     let m : nearest x w c < stride = omega arith in
     let j = y * stride + nearest x w c in
     let b : j < length s = omega (arith, fy, m) in
     let p : get_or row (nearest x w c) d ≡ get_or t j d = grind (arith, places, lt, fy) in
-    let u : g j ≡ j = side_place_at stride x w y y (nearest x w c) m ∙ ap (λ n. y * stride + n) (grind (arith, nat_tests)) in
-    let v : side_place stride x w (y + 1) (y * stride + c) ≡ j = side_place_at stride x w (y + 1) y c i ∙ ap (λ n. y * stride + n) (grind (arith, nat_tests)) in
+    let u : g j ≡ j = side_place_at stride x w first y y (nearest x w c) m ∙ ap (λ n. y * stride + n) (grind (arith, nat_tests)) in
+    let v : side_place stride x w first (y + 1) (y * stride + c) ≡ j = side_place_at stride x w first (y + 1) y c i
+    ∙ ap (λ n. y * stride + n) (grind (arith, nat_tests)) in
     ap (λ r. get_or r c d) a ∙ get_or-gathered (nearest x w) row c d (omega (arith, lr)) (omega (arith, lr, m)) ∙ p
     ∙ get_or-gathered g s j d b (omega (arith, u, b)) ∙ ap (λ k. get_or s k d) (u ∙ sym v))

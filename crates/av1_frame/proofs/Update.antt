@@ -1,7 +1,8 @@
 -- What `update` does, element by element.
-use Rattle.std.proofs.Common.{ℕ, ◌+◌, ◌<◌, ◌≤◌, ◌≡◌, List, [], ◌∷◌, ◌++◌, length, get_or, take, drop, refl, ap, arith, ◌∙◌, suc, zero, sym}
+use Rattle.std.proofs.Common.{ℕ, ◌+◌, ◌<◌, ◌≤◌, ◌≡◌, List, [], ◌∷◌, ◌++◌, length, get_or, take, drop, refl, ap, arith, ◌∙◌, suc, zero, sym, inl, inr}
 use Rattle.std.proofs.lemmas.List.{same_lists, places}
 use Rattle.std.proofs.lemmas.Bool.Decides.{nat_tests}
+use Rattle.std.proofs.lemmas.Bool.{cases_lt}
 use Rattle.av1_frame.specs.Samples.{update, map_from, with_part}
 
 length-map_from : {X : Type 0} (i : ℕ) (f : ℕ → X → X) (s : List X) → length (map_from i f s) ≡ length s
@@ -43,3 +44,25 @@ vec_whole_is n s t ws v e =
 -- all of a list written over
 pub with_whole : {X : Type 0} (s ws : List X) → length ws ≡ length s → with_part 0 s ws ≡ ws
 with_whole s ws e = sym (update_is _ s ws e (λ k d l. grind (arith, places, nat_tests)))
+
+-- w elements from place `from` on, written from place `to` on: behind them, to what stands from there on,
+pub part_behind : {X : Type 0} (from to w : ℕ) (s : List X) → from + w ≤ to → from + w ≤ length s → to + w ≤ length s →
+    take to s ++ (take w (drop from (take to s)) ++ drop w (drop to s)) ≡ with_part to s (take w (drop from s))
+part_behind from to w s apart f t = update_is _ s _ (grind (arith, places)) (λ k d l. elim (cases_lt k to) [
+  | inl q ↦ grind (arith, places, nat_tests)
+  | inr q ↦ elim (cases_lt k (to + w)) [
+    | inl h ↦ grind (arith, places, nat_tests)
+    | inr h ↦ grind (arith, places, nat_tests)
+  ]
+])
+
+-- or before them, to what stands before place `from`
+pub part_before : {X : Type 0} (from to w : ℕ) (s : List X) → to + w ≤ from → from + w ≤ length s → to + w ≤ length s →
+    (take to (take from s) ++ (take w (drop from s) ++ drop w (drop to (take from s)))) ++ drop from s ≡ with_part to s (take w (drop from s))
+part_before from to w s apart f t = update_is _ s _ (grind (arith, places)) (λ k d l. elim (cases_lt k to) [
+  | inl q ↦ grind (arith, places, nat_tests)
+  | inr q ↦ elim (cases_lt k (to + w)) [
+    | inl h ↦ grind (arith, places, nat_tests)
+    | inr h ↦ grind (arith, places, nat_tests)
+  ]
+])

@@ -66,6 +66,25 @@ impl<T: Pixel> FrameInvariants<T> {
         self.slots.set(slot, Slot { y, u, v });
     }
 
+    /// Puts the planes of a frame into slot `slot`, and gives those that stood there, where there were some.
+    pub fn replace_slot(
+        &mut self,
+        slot: usize,
+        y: Plane<T>,
+        u: Plane<T>,
+        v: Plane<T>,
+    ) -> Option<(Plane<T>, Plane<T>, Plane<T>)>
+        requires { slot < 8 }
+        ensures value { result ≡ option_map (λ frame. (frame.y, frame.u, frame.v)) (slice_index_or self.old.slots slot None) }
+        ensures after { self.new ≡ record self.old { slots = slice_set self.old.slots slot (Some (record { y = y; u = u; v = v })) } }
+    {
+        let before = self.slots.replace(slot, Slot { y, u, v });
+        match before {
+            Some(Slot { y, u, v }) => Some((y, u, v)),
+            None => None,
+        }
+    }
+
     /// Plane `p` (0 for luma, 1 and 2 for chroma) of the frame in slot `slot`, where there is one.
     pub fn slot(&self, slot: usize, p: usize) -> Option<&Plane<T>>
         requires slot { slot < 8 }

@@ -20,9 +20,9 @@ impl<T: Pixel> Plane<T> {
     {
         let cfg = self.config();
         let last = cfg.yorigin + cfg.height - 1;
+        self.pad_rows();
         self.copy_row(cfg.yorigin, 0, cfg.yorigin);
         self.copy_row(last, last + 1, cfg.alloc_height);
-        self.pad_rows();
     }
 
     /// Copies the stored row `from` to the stored rows from `first` to before `end`.
@@ -41,19 +41,23 @@ impl<T: Pixel> Plane<T> {
     {
         let stride = self.config().stride;
         for y in first..end {
-            self.copy_part(from * stride, y * stride, stride);
+            self.copy_apart(from * stride, y * stride, stride);
         }
     }
 
-    /// Makes the samples left and right of the visible columns those of the nearest one, in each stored row.
+    /// Makes the samples left and right of the visible columns those of the nearest one, in each visible row.
     fn pad_rows(&mut self)
         requires { IsWhole self.old }
         ensures { let cfg = self.old.plane_cfg
             in self.new ≡
-            record self.old { samples = gathered (λ k. k / cfg.stride * cfg.stride + nearest cfg.xorigin cfg.width (k % cfg.stride)) self.old.samples } }
+            record self.old {
+              samples = gathered (λ k. k / cfg.stride * cfg.stride
+                  + (if nat_le cfg.yorigin (k / cfg.stride) && nat_lt (k / cfg.stride) (cfg.yorigin + cfg.height) then nearest cfg.xorigin cfg.width (k % cfg.stride)
+                      else k % cfg.stride)) self.old.samples;
+            } }
     {
         let cfg = self.config();
-        for y in 0..cfg.alloc_height {
+        for y in cfg.yorigin..cfg.yorigin + cfg.height {
             pad_row(
                 self.part_mut(y * cfg.stride, cfg.stride),
                 cfg.xorigin,

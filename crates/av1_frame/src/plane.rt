@@ -1,6 +1,6 @@
 //! Planes of samples.
 
-ghost use Rattle.std.specs.Prelude.{◌≡◌, ℕ, ◌+◌, ◌-◌, ◌*◌, ◌/◌, ◌%◌, ◌^◌, ◌<◌, ◌≤◌, length, map, replicate, IfOk};
+ghost use Rattle.std.specs.Prelude.{◌≡◌, ℕ, ◌+◌, ◌-◌, ◌*◌, ◌/◌, ◌%◌, ◌^◌, ◌<◌, ◌≤◌, ◌⊎◌, length, map, replicate, IfOk};
 ghost use Rattle.std.specs.Borrow.{sem};
 ghost use Rattle.av1_frame.specs.Samples.{part, with_part};
 ghost use Rattle.av1_frame.specs.Areas.{area_from, from_origin, stored_area, all_visible, IsStored};
@@ -141,13 +141,14 @@ impl<T: Pixel> Plane<T> {
         Ok(Plane { samples, plane_cfg })
     }
 
-    /// Copies the `width` samples from the stored place `from` on to the stored place `to` on.
-    pub(crate) fn copy_part(&mut self, from: usize, to: usize, width: usize)
+    /// Copies the `width` samples from the stored place `from` on to the stored place `to` on, which are others.
+    pub(crate) fn copy_apart(&mut self, from: usize, to: usize, width: usize)
         requires from { from + width ≤ length self.old.samples }
         requires to { to + width ≤ length self.old.samples }
+        requires apart { (from + width ≤ to) ⊎ (to + width ≤ from) }
         ensures { self.new ≡ record self.old { samples = with_part to self.old.samples (part from width self.old.samples) } }
     {
-        self.samples.copy_part(from, to, width);
+        self.samples.copy_apart(from, to, width);
     }
 
     /// The `width` samples of row `y` from column `x` on, counted from the first visible sample.

@@ -8,6 +8,9 @@ use crate::pixel::{Coefficient, Pixel};
 use crate::plane_region::StoredArea;
 use std::alloc::{AllocError, Global};
 
+/// How many samples are cleared at a time.
+const RUN: usize = 512;
+
 /// The first `width` samples of the row become `value`.
 #[inline]
 #[tactic(auto, using(crate::proofs::Paint::row_painting))]
@@ -48,8 +51,12 @@ pub fn zero_samples<T: Pixel>(alloc: Global, count: usize) -> Result<Vec<T>, All
     ensures zeros { IfOk result (λ samples. samples.items ≡ replicate count (T.pixel 0)) }
     ensures len { IfOk result (λ samples. vec_len samples ≡ count) }
 {
-    let mut samples = Vec::new(alloc);
-    samples.resize(count, T::from_u32(0))?;
+    let zero = T::from_u32(0);
+    let mut samples = Vec::with_capacity(alloc, count)?;
+    for run in 0..count / RUN {
+        samples.resize((run + 1) * RUN, zero)?;
+    }
+    samples.resize(count, zero)?;
     Ok(samples)
 }
 

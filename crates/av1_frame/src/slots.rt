@@ -71,6 +71,15 @@ impl<T: Pixel> Slots<T> {
         self.slots[slot] = Some(frame);
     }
 
+    /// Puts a frame into slot `slot`, and gives the one that stood there, where there was one.
+    pub(crate) fn replace(&mut self, slot: usize, frame: Slot<T>) -> Option<Slot<T>>
+        requires { slot < 8 }
+        ensures value { result ≡ slice_index_or self.old slot None }
+        ensures after { self.new ≡ slice_set self.old slot (Some frame) }
+    {
+        self.slots[slot].replace(frame)
+    }
+
     /// The frame in slot `slot`, where there is one.
     pub(crate) fn get(&self, slot: usize) -> Option<&Slot<T>>
         requires { slot < 8 }

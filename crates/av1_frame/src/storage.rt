@@ -1,6 +1,6 @@
 //! The samples of a plane, one row after another.
 
-ghost use Rattle.std.specs.Prelude.{◌≡◌, ℕ, ◌+◌, ◌<◌, ◌≤◌, ◌^◌, length, replicate, IfOk};
+ghost use Rattle.std.specs.Prelude.{◌≡◌, ℕ, ◌+◌, ◌<◌, ◌≤◌, ◌^◌, ◌⊎◌, length, replicate, IfOk};
 ghost use Rattle.std.specs.Borrow.{sem};
 ghost use Rattle.av1_frame.specs.Samples.{part, with_part};
 ghost use Rattle.av1_frame.specs.Planes.{LendsPart};
@@ -52,15 +52,14 @@ impl<T> Storage<T> {
 }
 
 impl<T: Pixel> Storage<T> {
-    /// Copies the `width` samples from the place `from` on to the place `to` on.
-    pub(crate) fn copy_part(&mut self, from: usize, to: usize, width: usize)
+    /// Copies the `width` samples from the place `from` on to the place `to` on, which are others.
+    pub(crate) fn copy_apart(&mut self, from: usize, to: usize, width: usize)
         requires from { from + width ≤ length self.old }
         requires to { to + width ≤ length self.old }
+        requires apart { (from + width ≤ to) ⊎ (to + width ≤ from) }
         ensures { self.new ≡ with_part to self.old (part from width self.old) }
     {
-        self.samples
-            .as_mut_slice()
-            .copy_within(from..from + width, to);
+        copy_apart_in(self.samples.as_mut_slice(), from, to, width);
     }
 
     /// `n` zero samples.
@@ -79,6 +78,22 @@ impl<T: Pixel> Storage<T> {
         let mut samples = Vec::new(alloc);
         samples.extend_from_slice(s)?;
         Ok(Storage { samples })
+    }
+}
+
+/// Copies the `width` samples from the place `from` on to the place `to` on, which are others.
+fn copy_apart_in<T: Pixel>(samples: &mut [T], from: usize, to: usize, width: usize)
+    requires from { from + width ≤ length samples.old }
+    requires to { to + width ≤ length samples.old }
+    requires apart { (from + width ≤ to) ⊎ (to + width ≤ from) }
+    ensures { samples.new ≡ with_part to samples.old (part from width samples.old) }
+{
+    if from < to {
+        let (front, back) = samples.split_at_mut(to);
+        back[..width].copy_from_slice(&front[from..from + width]);
+    } else {
+        let (front, back) = samples.split_at_mut(from);
+        front[to..to + width].copy_from_slice(&back[..width]);
     }
 }
 

@@ -1,5 +1,5 @@
 -- Triples and leaves that are looked at one after the other.
-use Rattle.std.proofs.Common.{◌≡◌, ℕ, ◌+◌, ◌≤◌, ◌<◌, Bool, true, false, ◌&&◌, List, [], ◌∷◌, length, drop, get_or, Option, Some, None, refl, ◌∙◌, arith}
+use Rattle.std.proofs.Common.{◌≡◌, ℕ, ◌+◌, ◌≤◌, ◌<◌, Bool, true, false, ◌&&◌, List, [], ◌∷◌, length, drop, get_or, Option, Some, None, refl, ◌∙◌, arith, ap, sym, IfSome}
 use Rattle.std.proofs.Common.{add-one, drop-cons}
 use Rattle.std.specs.Prelude.{slice_get}
 use Rattle.std.specs.List.{list_all}
@@ -12,7 +12,9 @@ use Rattle.av1_plan.specs.declared.error.InvalidKind.{InvalidKind}
 use Rattle.av1_plan.specs.declared.leaf.Leaf.{Leaf}
 use Rattle.av1_plan.specs.Plan.{leaf_value, leaf_values}
 use Rattle.av1_plan.proofs.Spans.{stored_leaf, length-leaf_values}
-use Rattle.av1_plan.specs.Validity.{is_coefficient, is_before, rise, follows, are_coefficients, fault_of, fault_from}
+use Rattle.std.proofs.lemmas.Bool.Decides.{nat_tests}
+use Rattle.av1_plan.specs.Geometry.{has_block}
+use Rattle.av1_plan.specs.Validity.{is_coefficient, is_of_block, is_before, rise, follows, are_coefficients, fault_of, fault_from}
 
 -- the item at a place, in front of those behind it
 front : {A : Type 0} (xs : List A) (i : ℕ) (d : A) → i < length xs → drop i xs ≡ get_or xs i d ∷ drop (i + 1) xs
@@ -61,6 +63,28 @@ neither false b = refl
 pub triple_not_behind : (h : Header) (p : ℕ) (a : PlaneArea) (last : Option Triple) (triples : List Triple) (i : ℕ) (d : Triple) → i < length triples
     → follows last (get_or triples i d) ≡ false → go_on h p a last (drop i triples) ≡ false
 triple_not_behind h p a last triples i d lt not_behind = rw (front triples i d lt, not_behind) (neither (is_coefficient h p a (get_or triples i d)) _)
+
+-- the block of a triple that is of the last one's block
+pub block_of_last : (h : Header) (p : ℕ) (a : PlaneArea) (last : Option Triple) (t : Triple) → IfSome last (λ s. has_block h p a s.block ≡ true) →
+    is_of_block last t ≡ true → has_block h p a t.block ≡ true
+unfolding is_of_block
+block_of_last h p a None t known of = absurd cc
+block_of_last h p a (Some s) t known of = let same : s.block ≡ t.block = grind (arith, nat_tests) in ap (has_block h p a) (sym same) ∙ known
+
+-- a triple that is a coefficient has a block
+pub coefficient_block : (h : Header) (p : ℕ) (a : PlaneArea) (t : Triple) → is_coefficient h p a t ≡ true → has_block h p a t.block ≡ true
+unfolding is_coefficient
+coefficient_block h p a t is = go (has_block h p a t.block) _ is
+  where
+    go : (b rest : Bool) → (b && rest) ≡ true → b ≡ true
+    go true rest e = refl
+    go false rest e = e
+
+-- there are none
+pub no_triples : (h : Header) (p : ℕ) (a : PlaneArea) (triples : List Triple) → length triples ≡ 0 → are_coefficients h p a triples ≡ true
+unfolding are_coefficients rise
+no_triples h p a [] none = refl
+no_triples h p a (t ∷ triples) none = absurd (omega (arith, none))
 
 pub triples_end : (h : Header) (p : ℕ) (a : PlaneArea) (last : Option Triple) (triples : List Triple) (i : ℕ) → length triples ≤ i →
     go_on h p a last (drop i triples) ≡ true

@@ -27,3 +27,4 @@ pub mod Composed
 pub mod Behind
 pub mod Continued
 pub mod Lengths
+pub mod Widened

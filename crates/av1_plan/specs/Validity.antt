@@ -1,5 +1,5 @@
 -- Which leaves are valid: the six reasons for which one is refused.
-use Rattle.std.specs.Prelude.{ℕ, ℤ, pos, neg_ℤ, int_lt, ◌+◌, ◌-◌, ◌^◌, Bool, true, ◌==◌, ◌&&◌, ◌||◌, not, nat_lt}
+use Rattle.std.specs.Prelude.{ℕ, ℤ, pos, neg_ℤ, int_lt, ◌+◌, ◌-◌, ◌^◌, Bool, true, false, ◌==◌, ◌&&◌, ◌||◌, not, nat_lt}
 use Rattle.std.specs.Prelude.{nat_le, nat_abs, if◌then◌else◌, Option, Some, None, List, [], ◌∷◌, slice_index_or, is_ok}
 use Rattle.std.specs.List.{list_all}
 use Rattle.av1_blocks.specs.declared.partition.BlockSize.{BlockSize}
@@ -118,6 +118,11 @@ rise (s ∷ t ∷ triples) = is_before s t && rise (t ∷ triples)
 unfoldable pub follows : Option Triple → Triple → Bool
 follows None t = true
 follows (Some s) t = is_before s t
+
+-- a triple is of the block of the last one: a word of a private contract
+unfoldable pub is_of_block : Option Triple → Triple → Bool
+is_of_block None t = false
+is_of_block (Some s) t = s.block == t.block
 
 -- all triples are coefficients of blocks that begin in the visible plane, and they rise strictly by block and place
 unfoldable pub are_coefficients : Header → ℕ → PlaneArea → List Triple → Bool

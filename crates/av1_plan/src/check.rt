@@ -1,7 +1,8 @@
 //! Which plans are valid.
 
-ghost use Rattle.std.specs.Prelude.{◌≡◌, ◌+◌, ◌<◌, ◌≤◌, length, map, OnOk, IfErr, Some, None, slice_get, ◌&&◌, not, pos, neg_ℤ, int_lt, ◌≤ℤ◌};
+ghost use Rattle.std.specs.Prelude.{◌≡◌, ◌+◌, ◌<◌, ◌≤◌, length, map, OnOk, IfErr, IfSome, true, Some, None, slice_get, ◌&&◌, not, pos, neg_ℤ, int_lt, ◌≤ℤ◌};
 ghost use Rattle.av1_plan.specs.Answer.{leaf_list, leaves_value, plan_value, triple_list};
+ghost use Rattle.av1_plan.specs.Geometry.{has_block};
 ghost use Rattle.av1_plan.specs.Plan.{leaf_value};
 ghost use Rattle.av1_plan.specs.Validity.{
   has_block_size,
@@ -17,6 +18,7 @@ ghost use Rattle.av1_plan.specs.Validity.{
   has_references,
   fits_signed,
   is_coefficient,
+  is_of_block,
   is_before,
   follows,
   are_coefficients,
@@ -189,15 +191,51 @@ fn fits_depth(depth: u8, value: i32) -> bool
     is_within(value, 1 << (depth + 7))
 }
 
+/// Whether a triple is of the block of the last one.
+#[tactic(auto, unfolding(crate::specs::Validity::is_of_block))]
+fn is_of_block(last: Option<Triple>, triple: &Triple) -> bool
+    ensures { result ≡ is_of_block last triple.now }
+{
+    match last {
+        Some(last) => last.block == triple.block,
+        None => false,
+    }
+}
+
+/// Whether the area has the block of a triple, and that begins in the visible plane `p`. The block of the last triple,
+/// where there is one, does.
+fn has_block(
+    header: &Header,
+    p: usize,
+    area: &PlaneArea,
+    last: Option<Triple>,
+    triple: &Triple,
+) -> bool
+    requires { IfSome last (λ s. has_block header.now p area.now s.block ≡ true) }
+    ensures { result ≡ has_block header.now p area.now triple.now.block }
+{
+    if is_of_block(last, triple) {
+        return true;
+    }
+    area.transform_block(header, p, usize::from(triple.block))
+        .is_some()
+}
+
 /// Whether a triple names a block of the area that begins in the visible plane `p`, a place of it and a number in
-/// range.
-#[tactic(auto, unfolding(crate::specs::Validity::is_coefficient, crate::specs::Geometry::transform_block))]
-fn is_coefficient(header: &Header, p: usize, area: &PlaneArea, triple: &Triple) -> bool
-    requires { header.now.depth ≤ 12 }
+/// range. The block of the last triple, where there is one, is such a block.
+#[tactic(auto, unfolding(crate::specs::Validity::is_coefficient))]
+fn is_coefficient(
+    header: &Header,
+    p: usize,
+    area: &PlaneArea,
+    last: Option<Triple>,
+    triple: &Triple,
+) -> bool
+    requires depth { header.now.depth ≤ 12 }
+    requires last { IfSome last (λ s. has_block header.now p area.now s.block ≡ true) }
     ensures { result ≡ is_coefficient header.now p area.now triple.now }
 {
-    let block = area.transform_block(header, p, usize::from(triple.block));
-    block.is_some()
+    has_block(header, p, area, last, triple)
         && usize::from(triple.place) < area.tx_size.coded_area()
         && fits_depth(header.depth, triple.value)
 }
@@ -229,7 +267,7 @@ fn are_coefficients(header: &Header, p: usize, area: &PlaneArea, triples: &[Trip
 {
     let mut last = None;
     for triple in triples {
-        if !is_coefficient(header, p, area, triple) {
+        if !is_coefficient(header, p, area, last, triple) {
             return false;
         }
         if !follows(last, triple) {
@@ -248,8 +286,12 @@ fn has_plane_coefficients(header: &Header, leaves: &Leaves, i: usize, leaf: &Lea
     requires plane { p < 3 }
     ensures { result ≡ has_plane_coefficients header.now (leaf_value (triple_list leaves.now) leaf.now) p }
 {
+    let triples = leaves.triples(i, p);
+    if triples.is_empty() {
+        return true;
+    }
     let area = leaf.plane_area(header, p);
-    are_coefficients(header, p, &area, leaves.triples(i, p))
+    are_coefficients(header, p, &area, triples)
 }
 
 /// Whether the triples of leaf number `i` are coefficients in all planes that it covers.

@@ -122,6 +122,7 @@ fn plane_size(header: &Header, size: BlockSize, p: usize) -> BlockSize
 
 /// The size of the transforms of a leaf in plane `p`, where `tx_size` is that of its luma transforms. A leaf whose size
 /// has no size in chroma is refused by `check_plan`; here its luma size stands for it.
+#[inline(always)]
 #[tactic(auto, unfolding(crate::specs::Geometry::plane_tx_size, crate::specs::Geometry::plane_size))]
 pub fn plane_tx_size(header: &Header, size: BlockSize, tx_size: TxSize, p: usize) -> TxSize
     ensures { result ≡ plane_tx_size header.now size tx_size p }
@@ -166,6 +167,7 @@ impl Leaf {
     }
 
     /// The leaf's rectangle in plane `p`, where it covers a part of it.
+    #[inline(always)]
     #[tactic(auto, unfolding(crate::specs::Geometry::plane_area))]
     pub fn plane_area(&self, header: &Header, p: usize) -> PlaneArea
         ensures { result ≡ plane_area header.now self.now.x self.now.y self.now.size self.now.tx_size p }
@@ -193,6 +195,7 @@ impl PlaneArea {
     }
 
     /// How many transform blocks the rectangle has, those outside the visible plane counted too.
+    #[inline(always)]
     #[tactic(auto, unfolding(crate::specs::Geometry::block_count))]
     pub fn block_count(&self) -> usize
         ensures value { result ≡ block_count self.now }

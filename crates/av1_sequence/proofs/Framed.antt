@@ -1,6 +1,6 @@
 -- What a call does with a frame, seen from what the sequence keeps in memory.
 use Rattle.std.proofs.Common.{ℕ, ◌+◌, ◌*◌, ◌/◌, ◌<◌, ◌≤◌, ◌≡◌, ◌∙◌, ◌^◌, false, Bool, List, [], length, Option, Some, None, Result, Ok, Err, refl, ap, sym}
-use Rattle.std.proofs.Common.{subst, slice_index_or, if◌then◌else◌}
+use Rattle.std.proofs.Common.{subst, slice_index_or, if◌then◌else◌, IfSome}
 use Rattle.std.specs.Prelude.{OnOk}
 use Rattle.std.specs.Option.{option_map}
 use Rattle.std.proofs.Math.Nat.{zero-div}
@@ -28,7 +28,7 @@ use Rattle.av1_sequence.specs.declared.last.Last.{Last}
 use Rattle.av1_sequence.specs.declared.last.Last.TheVariants as lasts
 use Rattle.av1_sequence.specs.declared.sequence.Sequence.TheInside.{Inside}
 use Rattle.av1_sequence.specs.Frames.{IsFramePlan, IsHead, frame_header, frame_of, frame_references, most_bytes, plan_bytes}
-use Rattle.av1_sequence.specs.Kept.{AreReady, Kept, own, plane_shown, planes_shown, shown_at, shown_in, slots_shown}
+use Rattle.av1_sequence.specs.Kept.{AreReady, IsKeptAt, Kept, own, plane_shown, planes_shown, shown_at, shown_in, slots_shown}
 use Rattle.av1_sequence.specs.Last.{last_shown}
 use Rattle.av1_sequence.specs.Outcomes.{Accepts, Refuses, RefusesPart, accepted, plan_over}
 use Rattle.av1_sequence.specs.Output.{IsWritable}
@@ -250,3 +250,17 @@ room_still h h' m m' e cells has = subst (λ (g : Header). HasRoomFor g m') (sym
 -- planes that are held as one of them
 pub ready_held : (h h' : Header) (q : Planes ℕ) → h' ≡ h → AreReady h q → (planes : Planes ℕ) → Some q ≡ Some planes → AreReady h' planes
 ready_held h h' q e ready planes is = subst (λ (p : Planes ℕ). AreReady h' p) (same_Some _ _ is) (subst (λ (g : Header). AreReady g q) (sym e) ready)
+
+-- planes that stand ready for a later frame
+pub ready_again : (h h' : Header) (o : Option (Planes ℕ)) → h' ≡ h → IfSome o (AreReady h) → (planes : Planes ℕ) → o ≡ Some planes → AreReady h' planes
+ready_again h h' None e ready planes is = absurd cc
+ready_again h h' (Some q) e ready planes is = ready_held h h' q e ready planes is
+
+pub not_apart : {P : Type 0} (place : ℕ) → lasts.At place ≡ lasts.Apart → P
+not_apart place e = absurd cc
+
+same_place : (a b : ℕ) → lasts.At a ≡ lasts.At b → a ≡ b
+same_place a b e = cc
+
+pub placed_there : (h : Header) (fi : FrameInvariants ℕ) (a b : ℕ) → IsKeptAt h fi a → lasts.At a ≡ lasts.At b → IsKeptAt h fi b
+placed_there h fi a b kept e = subst (IsKeptAt h fi) (same_place a b e) kept

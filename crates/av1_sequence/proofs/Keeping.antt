@@ -1,9 +1,10 @@
 -- A frame that is kept at a free place, and the slots that show it.
-use Rattle.std.proofs.Common.{ℕ, zero, suc, ◌<◌, ◌≡◌, ◌≢◌, ◌∙◌, true, false, Bool, List, length, Option, Some, None, refl, ap, sym, subst, arith}
+use Rattle.std.proofs.Common.{ℕ, zero, suc, ◌<◌, ◌≡◌, ◌≢◌, ◌∙◌, true, false, Bool, List, length, Option, Some, None, refl, ap, sym, subst, arith, inl, inr, ◌×◌, IfSome}
 use Rattle.std.proofs.Common.{slice_index_or, is_some, if◌then◌else◌}
 use Rattle.std.specs.Prelude.{slice_set}
 use Rattle.std.specs.Option.{option_map}
 use Rattle.std.proofs.lemmas.List.{get_or-set_other, get_or-set_same, length-set}
+use Rattle.std.proofs.lemmas.Bool.{cases_eq}
 use Rattle.std.proofs.lemmas.Option.{same_Some}
 use Rattle.av1_frame.specs.declared.frame_invariants.FrameInvariants.{FrameInvariants}
 use Rattle.av1_frame.specs.declared.plane.Plane.{Plane}
@@ -17,7 +18,7 @@ use Rattle.av1_tile.specs.declared.planes.Planes.{Planes}
 use Rattle.av1_sequence.specs.Kept.{AreReady, IsKeptAt, KeepsFrames, own, plane_shown, planes_shown, shown_at, shown_in, slots_shown}
 use Rattle.av1_sequence.specs.Slots.{Frame, has_bit, refreshed, slot_of}
 use Rattle.av1_sequence.proofs.Serving.{slot_shown}
-use Rattle.av1_sequence.proofs.Shown.{padded_holds, padded_shown}
+use Rattle.av1_sequence.proofs.Shown.{padded_holds, padded_shown, padded_stores}
 
 -- what a place shows that was not written to
 module _ (h : Header) (fi : FrameInvariants ℕ) (place : ℕ) (slot : Slot ℕ) where
@@ -41,6 +42,18 @@ module _ (h : Header) (fi : FrameInvariants ℕ) (place : ℕ) (slot : Slot ℕ)
 module _ (h : Header) (planes : Planes ℕ) (ready : AreReady h planes) where
   abbrev kept_slot : Slot ℕ
   kept_slot = record { y = padded planes.y; u = padded planes.u; v = padded planes.v }
+
+  -- it can take a later frame
+  kept_ready : AreReady h (record { y = padded planes.y; u = padded planes.u; v = padded planes.v })
+  kept_ready = record {
+    stores = record {
+      y = padded_stores h 0 planes.y ready.stores.y;
+      u = padded_stores h 1 planes.u ready.stores.u;
+      v = padded_stores h 2 planes.v ready.stores.v;
+    };
+    room = record { y = ready.room.y; u = ready.room.u; v = ready.room.v };
+    pads = record { y = ready.pads.y; u = ready.pads.u; v = ready.pads.v };
+  }
 
   kept_holds : (p : ℕ) → p < 3 → HoldsPlane own h p (plane_shown h p (plane_of kept_slot p)) (plane_of kept_slot p)
   kept_holds zero few = padded_holds h 0 planes.y ready.stores.y ready.pads.y
@@ -97,6 +110,14 @@ module _ (h : Header) (planes : Planes ℕ) (ready : AreReady h planes) where
         let before : slice_index_or places s None ≡ Some q = sym (old s lt e) ∙ is in
         other_stands h fi place kept_slot q (λ same. free s lt e (before ∙ ap Some same)) (keeps.kept s q lt before)
 
+    ready_at : (q : ℕ) (t : Slot ℕ) → slice_index_or after.slots q None ≡ Some t → AreReady h (record { y = t.y; u = t.u; v = t.v })
+    ready_at q t is = elim (cases_eq q place) [
+      | inl same ↦
+          let this : kept_slot ≡ t = same_Some _ _ (sym at_place ∙ ap (λ (i : ℕ). slice_index_or after.slots i None) (sym same) ∙ is) in
+          subst (λ (t : Slot ℕ). AreReady h (record { y = t.y; u = t.u; v = t.v })) this kept_ready
+      | inr away ↦ keeps.again q t (sym (other_kept h fi place kept_slot q away) ∙ is)
+    ]
+
     pub keeps_after : length replaced ≡ 8 → KeepsFrames h after replaced
     keeps_after eight = record {
       frame = keeps.frame;
@@ -104,7 +125,25 @@ module _ (h : Header) (planes : Planes ℕ) (ready : AreReady h planes) where
       eight = eight;
       count = length-set fi.slots place (Some kept_slot) ∙ keeps.count;
       kept = λ s q lt is. stands_at s q lt (has_bit refresh s) refl is;
+      again = ready_at;
     }
+
+-- the planes that stood at a place, as three
+abbrev pub three_at : FrameInvariants ℕ → ℕ → Option (Plane ℕ × Plane ℕ × Plane ℕ)
+three_at fi place = option_map (λ (t : Slot ℕ). (t.y, t.u, t.v)) (slice_index_or fi.slots place None)
+
+abbrev pub as_planes : Option (Plane ℕ × Plane ℕ × Plane ℕ) → Option (Planes ℕ)
+as_planes o = option_map (λ (p : Plane ℕ × Plane ℕ × Plane ℕ). record { y = p.0; u = p.1; v = p.2 }) o
+
+-- they can take a later frame
+pub stood_ready : (h : Header) (fi : FrameInvariants ℕ) (places : List (Option ℕ)) → KeepsFrames h fi places → (place : ℕ)
+    → (was : Option (Plane ℕ × Plane ℕ × Plane ℕ)) (before : Option (Planes ℕ)) → was ≡ three_at fi place → before ≡ as_planes was → IfSome before (AreReady h)
+stood_ready h fi places keeps place was before was_is is =
+    subst (λ (o : Option (Planes ℕ)). IfSome o (AreReady h)) (sym (is ∙ ap as_planes was_is)) (go (slice_index_or fi.slots place None) refl)
+  where
+    go : (o : Option (Slot ℕ)) → slice_index_or fi.slots place None ≡ o → IfSome (as_planes (option_map (λ (t : Slot ℕ). (t.y, t.u, t.v)) o)) (AreReady h)
+    go None at = tt
+    go (Some t) at = keeps.again place t at
 
 -- ---- the same of frame settings with a frame put in
 

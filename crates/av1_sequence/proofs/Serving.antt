@@ -4,7 +4,7 @@ use Rattle.std.proofs.Common.{slice_index, slice_index_or, is_some, replicate, i
 use Rattle.std.specs.Prelude.{◌&&◌, unwrap_or}
 use Rattle.std.specs.Option.{option_map}
 use Rattle.std.proofs.lemmas.Bool.{and_parts, cases_lt, ltb-true}
-use Rattle.std.proofs.lemmas.List.{get_or_past, get_or-replicate}
+use Rattle.std.proofs.lemmas.List.{get_or_past, get_or-replicate, length-replicate}
 use Rattle.std.proofs.lemmas.Option.{none-some, same_Some}
 use Rattle.av1_blocks.specs.declared.partition.RefType.{RefType}
 use Rattle.av1_blocks.specs.Depths.{IsDepth}
@@ -171,18 +171,28 @@ keeps_settings h fi new places kept depth keeps = record {
             k.planes p plane few (sym (ap (λ (ts : List (Option (Slot ℕ))). option_map (λ (t : Slot ℕ). plane_of t p) (slice_index_or ts place None)) kept)
             ∙ is);
       };
+  again = λ place t is. keeps.again place t (sym (ap (λ (ts : List (Option (Slot ℕ))). slice_index_or ts place None) kept) ∙ is);
 }
+
+-- nothing stands at a place of a list of none
+nothing_there : {X : Type 0} (n i : ℕ) → slice_index_or (replicate n (None {A = X})) i None ≡ None
+nothing_there n i = elim (cases_lt i n) [
+  | inl b ↦ get_or-replicate n i None None b
+  | inr b ↦ get_or_past (replicate n None) i None (omega (arith, length-replicate n (None {A = X}), b))
+]
 
 -- no frames
 pub keeps_none : (h : Header) (fi : FrameInvariants ℕ) (places : List (Option ℕ)) → AreFrames h → fi.bit_depth ≡ h.depth → length fi.slots ≡ 8 →
-    places ≡ replicate 8 None → KeepsFrames h fi places
-keeps_none h fi places is depth count none = record {
+    fi.slots ≡ replicate 8 None → places ≡ replicate 8 None → KeepsFrames h fi places
+keeps_none h fi places is depth count empty none = record {
   frame = is;
   depth = depth;
   count = count;
   eight = ap length none;
   kept = λ s place lt e.
       absurd (none-some place (sym (get_or-replicate 8 s None None lt) ∙ sym (ap (λ (ps : List (Option ℕ)). slice_index_or ps s None) none) ∙ e));
+  again = λ place t e.
+      absurd (none-some t (sym (nothing_there 8 place) ∙ sym (ap (λ (ts : List (Option (Slot ℕ))). slice_index_or ts place None) empty) ∙ e));
 }
 
 pub none_shown : (h : Header) (fi : FrameInvariants ℕ) (places : List (Option ℕ)) → places ≡ replicate 8 None → slots_shown h fi places ≡ replicate 8 None

@@ -1,12 +1,18 @@
 -- What planes in memory show, in a frame's own header as in that of its sequence.
-use Rattle.std.proofs.Common.{ℕ, zero, suc, ◌<◌, ◌≡◌, ◌∙◌, ◌^◌, true, List, Option, Some, None, refl, sym, subst, arith, slice_index, is_some}
+use Rattle.std.proofs.Common.{ℕ, zero, suc, ◌<◌, ◌≡◌, ◌∙◌, ◌^◌, true, List, Option, Some, None, refl, sym, subst, arith, slice_index, is_some, All}
+use Rattle.std.proofs.Common.{◌+◌, ◌*◌, ◌/◌, ◌%◌, length, get_or, inl, inr}
 use Rattle.std.specs.Option.{option_map}
 use Rattle.std.proofs.Math.Nat.{le_of_eq, mul_comm}
-use Rattle.std.proofs.lemmas.List.{map-id}
+use Rattle.std.proofs.lemmas.Bool.{cases_lt}
+use Rattle.std.proofs.lemmas.List.{get_or_past, map-id}
 use Rattle.std.proofs.lemmas.Nat.{pow_pos}
 use Rattle.av1_frame.specs.declared.frame_invariants.FrameInvariants.{FrameInvariants}
 use Rattle.av1_frame.specs.declared.plane.Plane.{Plane}
-use Rattle.av1_frame.specs.Planes.{padded, place_at, sample_at}
+use Rattle.av1_frame.specs.Planes.{nearest, padded, place_at, sample_at}
+use Rattle.av1_frame.specs.Samples.{gathered}
+use Rattle.av1_frame.proofs.Gather.{length-gathered}
+use Rattle.av1_frame.proofs.Slices.{padded_is_whole}
+use Rattle.av1_frame.proofs.Update.{get_or-update}
 use Rattle.av1_inter.proofs.Vectors.{padded_is_padded, visible_stays}
 use Rattle.av1_plan.specs.declared.header.Header.{Header}
 use Rattle.av1_plan.specs.Geometry.{plane_height, plane_width, xdec, ydec}
@@ -37,6 +43,35 @@ sample_within h p plane stores x y =
     (read_below plane.samples (2 ^ h.depth) (place_at plane.plane_cfg x y) (pow_pos h.depth) stores.within)
 
 module _ (h : Header) (p : ℕ) (plane : Plane ℕ) (stores : Stores own h p plane) where
+  -- padding takes each sample from another
+  padded_within : All (λ (v : ℕ). v < 2 ^ h.depth) (padded plane).samples
+  unfolding gathered
+  padded_within = λ k d l.
+      let cfg = plane.plane_cfg in
+      let s = plane.samples in
+      let from = nearest cfg.yorigin cfg.height (k / cfg.stride) * cfg.stride + nearest cfg.xorigin cfg.width (k % cfg.stride) in
+      let at : k < length s = omega (arith, l, length-gathered (λ k. nearest cfg.yorigin cfg.height (k / cfg.stride) * cfg.stride
+      + nearest cfg.xorigin cfg.width (k % cfg.stride)) s) in
+      subst (λ (v : ℕ). v < 2 ^ h.depth)
+      (sym (get_or-update (λ k v. get_or s (nearest cfg.yorigin cfg.height (k / cfg.stride) * cfg.stride + nearest cfg.xorigin cfg.width (k % cfg.stride)) v)
+      s k d at))
+      (elim (cases_lt from (length s)) [
+        | inl b ↦ stores.within from (get_or s k d) b
+        | inr b ↦ subst (λ (v : ℕ). v < 2 ^ h.depth) (sym (get_or_past s from (get_or s k d) b)) (stores.within k d at)
+      ])
+
+  pub padded_stores : Stores own h p (padded plane)
+  padded_stores = record {
+    place = record {
+      whole = padded_is_whole plane (padded plane) refl stores.place.whole;
+      width = stores.place.width;
+      height = stores.place.height;
+      xdec = stores.place.xdec;
+      ydec = stores.place.ydec;
+    };
+    within = padded_within;
+  }
+
   padded_same : (x y : ℕ) → x < plane_width h p → y < plane_height h p → sample_at own (padded plane) x y ≡ sample_at own plane x y
   padded_same x y hx hy = visible_stays own plane x y stores.place.whole (omega (arith, hx, stores.place.width)) (omega (arith, hy, stores.place.height))
 

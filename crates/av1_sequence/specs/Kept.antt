@@ -3,6 +3,7 @@ use Rattle.std.specs.Prelude.{◌≡◌, ℕ, ◌<◌, ◌≤◌, true, List, []
 use Rattle.std.specs.Prelude.{slice_index_or}
 use Rattle.av1_frame.specs.declared.frame_invariants.FrameInvariants.{FrameInvariants}
 use Rattle.av1_frame.specs.declared.plane.Plane.{Plane}
+use Rattle.av1_frame.specs.declared.slots.Slot.{Slot}
 use Rattle.av1_frame.specs.Frames.{slot_plane}
 use Rattle.av1_frame.specs.Planes.{sample_at}
 use Rattle.av1_lists.specs.Lists.{by_index}
@@ -71,10 +72,11 @@ pub record AreFrames (h : Header) : Type 0 where
   pub depth : is_depth h.depth ≡ true
   pub sampling : h.sampling ≤ 2
 
--- the frames that slots show are kept at their places
+-- the frames that slots show are kept at their places, and what stands at any place can take a later frame
 pub record KeepsFrames (h : Header) (fi : FrameInvariants ℕ) (places : List (Option ℕ)) : Type 0 where
   pub frame : AreFrames h
   pub depth : fi.bit_depth ≡ h.depth
   pub count : length fi.slots ≡ 8
   pub eight : length places ≡ 8
   pub kept : (s place : ℕ) → s < 8 → slice_index_or places s None ≡ Some place → IsKeptAt h fi place
+  pub again : (place : ℕ) (t : Slot ℕ) → slice_index_or fi.slots place None ≡ Some t → AreReady h (record { y = t.y; u = t.u; v = t.v })

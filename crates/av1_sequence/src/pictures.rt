@@ -4,7 +4,8 @@
 //! places. A place that no slot shows is taken for the next frame.
 
 ghost use Rattle.std.specs.Prelude.{[], ◌≡◌, ◌≢◌, ℕ, ◌+◌, ◌*◌, ◌/◌, ◌%◌, ◌^◌, ◌<◌, ◌≤◌, true, false, None, Some, replicate, slice_index_or, is_some, length};
-ghost use Rattle.std.specs.Prelude.{IfOk};
+ghost use Rattle.std.specs.Prelude.{IfOk, IfSome};
+ghost use Rattle.std.specs.Option.{option_map};
 ghost use Rattle.av1_plan.specs.Geometry.{plane_len, plane_height, plane_width};
 ghost use Rattle.av1_plan.specs.Plan.{PlanValue};
 ghost use Rattle.av1_references.specs.References.{ServesPlan};
@@ -141,6 +142,16 @@ fn places_of(places: &[Option<u8>; SLOTS], slots: &[u8; 7]) -> [u8; 7]
     named
 }
 
+/// The planes of a frame, where there are some.
+fn as_planes(planes: Option<(Plane<u16>, Plane<u16>, Plane<u16>)>) -> Option<Planes<u16>>
+    ensures { result ≡ option_map (λ p. record { y = p.0; u = p.1; v = p.2 }) planes }
+{
+    match planes {
+        Some((y, u, v)) => Some(Planes { y, u, v }),
+        None => None,
+    }
+}
+
 impl Pictures {
     /// No frames.
     pub fn new(alloc: Global, header: Header) -> Result<Pictures, OutOfMemory>
@@ -243,14 +254,16 @@ impl Pictures {
     }
 
     /// Keeps a frame, padded, at a place that no other slot shows, and says where: slots that it replaces then show it.
-    pub fn keep(&mut self, refresh: u8, planes: Planes<u16>) -> u8
+    /// Gives the planes that stood at that place before, where there were some, for a later frame.
+    pub fn keep(&mut self, refresh: u8, planes: Planes<u16>) -> (u8, Option<Planes<u16>>)
         requires some { refresh ≢ 0 }
         requires ready { AreReady self.old.header planes }
         ensures header { self.new.header ≡ self.old.header }
         ensures slots { slots_shown self.new.header self.new.fi self.new.places ≡
             refreshed (slots_shown self.old.header self.old.fi self.old.places) refresh (planes_shown self.old.header planes.y planes.u planes.v) }
-        ensures shown { shown_at self.new.header self.new.fi result ≡ Some (planes_shown self.old.header planes.y planes.u planes.v) }
-        ensures kept { IsKeptAt self.new.header self.new.fi result }
+        ensures shown { shown_at self.new.header self.new.fi result.0 ≡ Some (planes_shown self.old.header planes.y planes.u planes.v) }
+        ensures kept { IsKeptAt self.new.header self.new.fi result.0 }
+        ensures free { IfSome result.1 (λ before. AreReady self.old.header before) }
     {
         let Planes {
             mut y,
@@ -261,9 +274,9 @@ impl Pictures {
         u.pad();
         v.pad();
         let place = free_place(&self.places, refresh);
-        self.fi.set_slot(usize::from(place), y, u, v);
+        let before = self.fi.replace_slot(usize::from(place), y, u, v);
         self.places = replaced(self.places, refresh, place);
-        place
+        (place, as_planes(before))
     }
 
     /// Plane `p` of the frame at a place.

@@ -192,7 +192,9 @@ impl Sequence {
             self.apart = Some(planes);
             self.last = Last::Apart;
         } else {
-            self.last = Last::At(self.pictures.keep(head.refresh, planes));
+            let (place, before) = self.pictures.keep(head.refresh, planes);
+            self.apart = before;
+            self.last = Last::At(place);
         }
         Ok(())
     }

@@ -14,6 +14,9 @@ pub const MAX_PLAN_BYTES: usize = 1 << 26;
 // What the first read asks for, as much as a pipe holds.
 const FIRST_READ: usize = 1 << 16;
 
+// How many zeros are appended at a time.
+const RUN: usize = 1024;
+
 /// Why the bytes of a plan could not be read.
 #[derive(Clone, Copy, Debug, PartialEq, Eq)]
 pub enum ReadError {
@@ -112,7 +115,22 @@ fn make_room(bytes: &mut Vec<u8>, filled: usize, limit: usize) -> Result<(), All
     if filled < bytes.len() {
         return Ok(());
     }
-    bytes.resize((2 * filled).clamp(FIRST_READ, limit + 1), 0)
+    lengthen(bytes, (2 * filled).clamp(FIRST_READ, limit + 1))
+}
+
+// Makes `bytes` so long, by zeros.
+fn lengthen(bytes: &mut Vec<u8>, end: usize) -> Result<(), AllocError>
+    requires { vec_len bytes.old ≤ end }
+    ensures len { OnOk result (vec_len bytes.new ≡ end) }
+    ensures within { vec_len bytes.new ≤ end }
+    ensures front { take (vec_len bytes.old) bytes.new.items ≡ bytes.old.items }
+{
+    let start = bytes.len();
+    bytes.reserve_exact(end - start)?;
+    for run in 0..(end - start) / RUN {
+        bytes.resize(start + (run + 1) * RUN, 0)?;
+    }
+    bytes.resize(end, 0)
 }
 
 // One read into what stands behind the filled part.

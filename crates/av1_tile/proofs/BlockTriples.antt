@@ -22,13 +22,14 @@ use Rattle.std.proofs.lemmas.Int.{ints}
 use Rattle.av1_plan.specs.declared.geometry.TransformBlock.{TransformBlock}
 use Rattle.av1_plan.specs.declared.header.Header.{Header}
 use Rattle.av1_plan.specs.declared.leaf.Triple.{Triple}
-use Rattle.av1_plan.specs.Geometry.{transform_block}
+use Rattle.av1_plan.specs.Geometry.{block_count, transform_block}
 use Rattle.av1_plan.specs.Plan.{PlanValue}
 use Rattle.av1_tile.specs.declared.plane_block.PlaneBlock.{PlaneBlock}
 use Rattle.av1_tile.specs.PlaneBlocks.{is_whole}
 use Rattle.av1_tile.specs.Reference.{added, block_residue, coefficients, with_triple}
-use Rattle.av1_tile.specs.Steps.{predict, add, block_area, block_steps, steps_at}
+use Rattle.av1_tile.specs.Steps.{predict, add, block_area, block_steps, joined, steps_at}
 use Rattle.av1_tile.specs.Walk.{AreRising, BlockFits, TripleFits, edges_in, fast_in}
+use Rattle.av1_tile.proofs.Loops.{fold_joined_same}
 
 -- triples of other blocks change no coefficient of this one
 others : (n : ℕ) (cs : List ℤ) (ts : List Triple) → AllByRecursion (λ t. t.block ≢ n) ts → fold (with_triple n) cs ts ≡ cs
@@ -71,6 +72,35 @@ none_painted num pixel back depth block ts n p a none within =
     sym (if_stays (in_area area (k % stride) (k / stride)) _ (get_or p.samples k d)
     (ap pixel (none_added depth block ts n (num (get_or p.samples k d)) (k / stride - area.y) (k % stride - area.x) none ∙ same)
     ∙ back (get_or p.samples k d)))))
+
+-- the transform blocks of an area that is predicted as a whole, without triples
+module _ (block : PlaneBlock) (ts : List Triple) (whole : is_whole block.prediction ≡ true) where
+  -- the one step of transform block n, where it begins in the frame
+  alone : (n : ℕ) (b : TransformBlock) → block_steps block ts n (Some b) ≡ add block ts n (block_area block b) ∷ []
+  alone n b = ap (λ (t : Bool). if t then add block ts n (block_area block b) ∷ []
+  else predict block n (block_area block b) ∷ add block ts n (block_area block b) ∷ []) whole
+
+  -- prepare no edge
+  pub none_counted : (h : Header) (count : ℕ) → count ≡ fold edges_in count (joined (block_count block.area) (steps_at h block ts))
+  unfolding steps_at
+  none_counted h count = fold_joined_same edges_in count (block_count block.area) (steps_at h block ts) (λ n. go n (transform_block h block.plane block.area n))
+    where
+      go : (n : ℕ) (o : Option TransformBlock) → count ≡ fold edges_in count (block_steps block ts n o)
+      go n None = refl
+      go n (Some b) = ap (fold edges_in count) (sym (alone n b))
+
+  -- and add nothing
+  module _ {T : Type 0} (num : T → ℕ) (pixel : ℕ → T) (back : (x : T) → pixel (num x) ≡ x) (plan : PlanValue) (luma : PlaneBlock → ℕ → ℕ → ℤ)
+      (plane : Plane T) (none : length ts ≡ 0) (within : All (λ v. num v < 2 ^ plan.header.depth) plane.samples) where
+    pub none_walked : plane ≡ fold (fast_in num pixel plan block.plane luma) plane (joined (block_count block.area) (steps_at plan.header block ts))
+    unfolding steps_at fast_in
+    none_walked = fold_joined_same (fast_in num pixel plan block.plane luma) plane (block_count block.area) (steps_at plan.header block ts)
+        (λ n. go n (transform_block plan.header block.plane block.area n))
+      where
+        go : (n : ℕ) (o : Option TransformBlock) → plane ≡ fold (fast_in num pixel plan block.plane luma) plane (block_steps block ts n o)
+        go n None = refl
+        go n (Some b) = none_painted num pixel back plan.header.depth block ts n plane (block_area block b) none within
+            ∙ ap (fold (fast_in num pixel plan block.plane luma) plane) (sym (alone n b))
 
 -- from place at on, up to place end, stand all triples of block n
 pub record AreOwn (n : ℕ) (all : List Triple) (at end : ℕ) : Type 0 where

@@ -1,5 +1,5 @@
 -- Loops whose turns take steps one after another.
-use Rattle.std.proofs.Common.{ℕ, ◌+◌, ◌<◌, ◌≡◌, List, [], ◌∷◌, ◌++◌, length, get_or, take, refl, ap, arith, ◌∙◌, sym}
+use Rattle.std.proofs.Common.{ℕ, zero, suc, ◌+◌, ◌<◌, ◌≡◌, List, [], ◌∷◌, ◌++◌, length, get_or, take, refl, ap, arith, ◌∙◌, sym}
 use Rattle.std.specs.List.{fold, flat_map, range_with_len}
 use Rattle.std.proofs.lemmas.Grind.{fold-append, flat_map-append}
 use Rattle.std.proofs.lemmas.List.{map-id, append-nil, take_more}
@@ -23,6 +23,12 @@ pub fold_joined_more : {A B : Type 0} (s : B → A → B) (p q t : B) (n : ℕ) 
     t ≡ fold s p (joined (n + 1) f)
 fold_joined_more s p q t n f e h =
     h ∙ ap (λ u. fold s u (f n)) e ∙ sym (fold-append s p (joined n f) (f n)) ∙ ap (fold s p) (sym (joined_more n f))
+
+-- a loop whose turns all leave things as they are
+pub fold_joined_same : {A B : Type 0} (s : B → A → B) (p : B) (n : ℕ) (f : ℕ → List A) → ((i : ℕ) → p ≡ fold s p (f i)) → p ≡ fold s p (joined n f)
+fold_joined_same s p zero f h = fold_joined_none s p f
+fold_joined_same s p (suc n) f h =
+    fold_joined_more s p p p n f (fold_joined_same s p n f h) (h n) ∙ ap (λ (m : ℕ). fold s p (joined m f)) (omega arith)
 
 -- the same of a loop over a list
 pub fold_leaves_more : {A B X : Type 0} (s : B → A → B) (p q t : B) (f : X → List A) (xs : List X) (i : ℕ) (x : X) → i < length xs → x ≡ get_or xs i x →

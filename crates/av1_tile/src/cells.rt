@@ -131,6 +131,7 @@ impl CodedCells {
     }
 
     /// Notes in each cell of a leaf, as far as it lies in the frame, what later leaves are told of it.
+    #[inline(always)]
     pub(crate) fn note(&mut self, header: &Header, leaf: &Leaf)
         requires frame { IsReadFrame header.now }
         requires cells { HasCells header.now self.old }

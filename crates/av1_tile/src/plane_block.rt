@@ -143,6 +143,7 @@ impl PlaneBlock {
     ghost use Rattle.av1_tile.specs.Walk.{leaf_with};
 
     /// The block of a leaf in plane `p`, where the edge filter is told `filter` of its neighbours.
+    #[inline(always)]
     pub fn of_leaf(
         header: &Header,
         leaf: &Leaf,

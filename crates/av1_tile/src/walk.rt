@@ -1,6 +1,6 @@
 //! The walk: over the transform blocks of a leaf's block in a plane, and over the planes that a leaf covers.
 
-ghost use Rattle.std.specs.Prelude.{◌≡◌, ◌≢◌, ℕ, ◌+◌, ◌*◌, ◌/◌, ◌<◌, ◌≤◌, length, slice_index_or, [], All, IfSome, IfNone, Some, None};
+ghost use Rattle.std.specs.Prelude.{◌≡◌, ◌≢◌, ℕ, ◌+◌, ◌*◌, ◌/◌, ◌<◌, ◌≤◌, length, slice_index_or, [], All, IfSome, IfNone, Some, None, true};
 ghost use Rattle.std.specs.List.{fold};
 ghost use Rattle.av1_blocks.specs.Blocks.{block_height};
 ghost use Rattle.av1_blocks.specs.Transforms.{tx_width, tx_height};
@@ -11,7 +11,8 @@ ghost use Rattle.av1_references.specs.References.{ServesPlan};
 ghost use Rattle.av1_plan.specs.Geometry.{blocks_across, block_count, transform_block};
 ghost use Rattle.av1_plan.specs.ReadPlans.{IsReadFrame};
 ghost use Rattle.av1_plan.specs.declared.leaf.Triple.{Triple};
-ghost use Rattle.av1_tile.specs.PlaneBlocks.{component};
+ghost use Rattle.av1_tile.specs.Canvas.Component.{Y};
+ghost use Rattle.av1_tile.specs.PlaneBlocks.{block_told, component, is_whole, prediction_in};
 ghost use Rattle.av1_tile.specs.Reference.{no_luma};
 ghost use Rattle.av1_tile.specs.Steps.{own_prediction, whole_area, whole_steps, plane_steps, steps_at, steps_of, joined};
 ghost use Rattle.av1_tile.specs.Walk.{area_at, block_by, cell_at, Begins, edges_in, edges_after, fast_in, fast_step, leaf_with, BlockFits, HasCells, IsPlaceIn};
@@ -25,7 +26,8 @@ use crate::planes::Planes;
 use av1_blocks::{IntraParam, PredictionMode};
 use av1_frame::{FrameInvariants, Pixel, Plane};
 use av1_inter::InterCompoundBuffers;
-use av1_plan::{Header, Leaf, Triple};
+use av1_intra::IntraEdgeFilterParameters;
+use av1_plan::{Header, Leaf, LeafKind, Triple};
 use av1_references::{predict_compound, predict_single};
 
 /// Where the block of number `index` begins, of blocks with sides of `side` samples from `start` on.
@@ -38,6 +40,7 @@ fn block_start(start: u16, index: usize, side: usize) -> usize
 
 /// The transform block of this number, in column `column` of row `row` of a leaf's block, where it begins in the
 /// visible plane.
+#[inline(always)]
 fn place_in(
     header: &Header,
     block: &PlaneBlock,
@@ -211,6 +214,18 @@ fn reconstruct_blocks<T: Pixel>(
     }
 }
 
+/// Whether a leaf's block is predicted as a whole, from references, and has no triples: all that there is to it is the
+/// prediction.
+fn is_only_predicted(prediction: Prediction, triples: &[Triple]) -> bool
+    ensures whole { result ≡ true → is_whole prediction ≡ true }
+    ensures none { result ≡ true → length triples.now ≡ 0 }
+{
+    match prediction {
+        Prediction::Single { .. } | Prediction::Compound { .. } => triples.is_empty(),
+        Prediction::Intra { .. } | Prediction::FromLuma { .. } => false,
+    }
+}
+
 /// Predicts a leaf's whole area in a plane, where it is predicted from references. The frame settings hold the
 /// references of a plan in which that can be done.
 fn predict_whole<T: Pixel>(
@@ -274,7 +289,41 @@ fn reconstruct_plane_block<T: Pixel>(
     ensures config { plane.new.plane_cfg ≡ plane.old.plane_cfg }
 {
     predict_whole(plane, &mut buffers.compound, fi, block);
+    if is_only_predicted(block.prediction, triples) {
+        return;
+    }
     reconstruct_blocks(plane, buffers, header, block, triples);
+}
+
+/// Whether a leaf is predicted from references.
+fn is_from_references(kind: LeafKind) -> bool
+    ensures { result ≡ is_whole (prediction_in None Y kind) }
+{
+    match kind {
+        LeafKind::Single { .. } | LeafKind::Compound { .. } => true,
+        LeafKind::Intra { .. } => false,
+    }
+}
+
+/// What the edge filter is told at a leaf in plane `p`, where it is on. A leaf that is predicted from references has no
+/// edge.
+fn filter_at(
+    header: &Header,
+    cells: &CodedCells,
+    leaf: &Leaf,
+    p: usize,
+) -> Option<IntraEdgeFilterParameters>
+    requires frame { IsReadFrame header.now }
+    requires plane { p < 3 }
+    requires cells { HasCells header.now cells.now }
+    requires begins { Begins header.now (component p) (leaf_with leaf.now [] [] []) }
+    ensures { let l = leaf_with leaf.now [] [] []
+        in block_told header.now result (component p) l ≡ block_by header.now (cell_at cells.now) (component p) l }
+{
+    if is_from_references(leaf.kind) {
+        return None;
+    }
+    cells.filter_parameters(header, p, leaf.plane_area(header, p))
 }
 
 /// The block of a leaf in plane `p`.
@@ -306,7 +355,7 @@ pub fn reconstruct_leaf_in<T: Pixel>(
     ensures stores { Stores T.num header.now p plane.new }
     ensures config { plane.new.plane_cfg ≡ plane.old.plane_cfg }
 {
-    let filter = cells.filter_parameters(header, p, leaf.plane_area(header, p));
+    let filter = filter_at(header, cells, leaf, p);
     let block = PlaneBlock::of_leaf(header, leaf, p, filter);
     reconstruct_plane_block(plane, buffers, fi, header, &block, triples);
 }

@@ -173,8 +173,9 @@ impl<'a> Reader<'a> {
         }
     }
 
+    /// A triple, field by field.
     #[tactic(auto, unfolding(crate::specs::Grammar::triple))]
-    fn triple(&mut self) -> Result<Triple, PlanError>
+    fn triple_by_fields(&mut self) -> Result<Triple, PlanError>
         requires { Fits self.old }
         ensures read { Gives (λ x. (x, input self.new)) result (read triple (input self.old)) }
         ensures takes { OnOk result (self.old.at < self.new.at) }
@@ -188,6 +189,29 @@ impl<'a> Reader<'a> {
             place,
             value,
         })
+    }
+
+    /// A triple: its seven bytes at once where there are so many.
+    #[tactic(auto, unfolding(crate::specs::Grammar::triple, crate::specs::Format::read_field))]
+    fn triple(&mut self) -> Result<Triple, PlanError>
+        requires { Fits self.old }
+        ensures read { Gives (λ x. (x, input self.new)) result (read triple (input self.old)) }
+        ensures takes { OnOk result (self.old.at < self.new.at) }
+        ensures moves { Moves self.old self.new }
+    {
+        match self.rest {
+            [block, p, q, a, b, c, d, rest @ ..] => {
+                let triple = Triple {
+                    block: *block,
+                    place: u16::from_le_bytes([*p, *q]),
+                    value: u32::from_le_bytes([*a, *b, *c, *d]).cast_signed(),
+                };
+                self.rest = rest;
+                self.at += 7;
+                Ok(triple)
+            }
+            _ => self.triple_by_fields(),
+        }
     }
 
     /// Reads so many triples, and puts them behind the others.

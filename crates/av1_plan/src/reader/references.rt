@@ -1,10 +1,44 @@
 //! Reading the reference samples.
 
+ghost use Rattle.std.specs.Prelude.{◌≡◌, ◌≤◌, length, take, IfOk};
+
 use crate::error::PlanError;
 use crate::header::Header;
 use crate::planes::Planes;
 use crate::reader::Reader;
-use std::alloc::Global;
+use std::alloc::{AllocError, Global};
+
+/// How many samples are widened at a time.
+const RUN: usize = 64;
+
+/// The bytes, each as a sample.
+fn widened(alloc: Global, bytes: &[u8]) -> Result<Vec<u16>, AllocError>
+    ensures { IfOk result (λ samples. samples.items ≡ bytes.now) }
+{
+    let mut samples = Vec::with_capacity(alloc, bytes.len())?;
+    let mut wide = [0; RUN];
+    let runs = bytes.len() / RUN;
+    for run in 0..runs {
+        let start = run * RUN;
+        widen(&bytes[start..start + RUN], &mut wide);
+        samples.extend_from_slice(&wide[..RUN])?;
+    }
+    let rest = &bytes[runs * RUN..];
+    widen(rest, &mut wide);
+    samples.extend_from_slice(&wide[..rest.len()])?;
+    Ok(samples)
+}
+
+/// The bytes, each as a sample, at the front of `wide`.
+fn widen(bytes: &[u8], wide: &mut [u16])
+    requires { length bytes.now ≤ length wide.old }
+    ensures front { take (length bytes.now) wide.new ≡ bytes.now }
+    ensures len { length wide.new ≡ length wide.old }
+{
+    for (i, byte) in bytes.iter().enumerate() {
+        wide[i] = u16::from(*byte);
+    }
+}
 
 impl<'a> Reader<'a> {
     ghost use Rattle.std.specs.Prelude.{◌≡◌, ◌+◌, ◌*◌, ◌≤◌, ◌<◌, ◌^◌, length, IfOk, vec_len, is_some};
@@ -35,9 +69,14 @@ impl<'a> Reader<'a> {
         }
     }
 
-    /// The samples of a plane.
+    /// The samples of a plane, one by one.
     #[tactic(auto, using(crate::proofs::Lists::collects), unfolding(crate::specs::Grammar::plane))]
-    fn plane(&mut self, alloc: Global, depth: u8, len: usize) -> Result<Vec<u16>, PlanError>
+    fn plane_by_samples(
+        &mut self,
+        alloc: Global,
+        depth: u8,
+        len: usize,
+    ) -> Result<Vec<u16>, PlanError>
         requires fits { Fits self.old }
         requires depth { depth ≤ 12 }
         ensures read { Gives (λ x. (x.items, input self.new)) result (read (plane depth len) (input self.old)) }
@@ -49,6 +88,33 @@ impl<'a> Reader<'a> {
             samples.push(sample)?;
         }
         Ok(samples)
+    }
+
+    /// The samples of a plane at depth 8, which are so many bytes.
+    fn plane_of_bytes(&mut self, alloc: Global, len: usize) -> Result<Vec<u16>, PlanError>
+        requires fits { Fits self.old }
+        requires long { len ≤ length self.old.rest.now }
+        ensures read { Gives (λ x. (x.items, input self.new)) result (read (plane 8 len) (input self.old)) }
+        ensures moves { Moves self.old self.new }
+    {
+        let rest = self.rest;
+        let samples = widened(alloc, &rest[..len])?;
+        self.rest = &rest[len..];
+        self.at += len as u32;
+        Ok(samples)
+    }
+
+    /// The samples of a plane. Those of one byte are read all at once, where there are so many bytes.
+    fn plane(&mut self, alloc: Global, depth: u8, len: usize) -> Result<Vec<u16>, PlanError>
+        requires fits { Fits self.old }
+        requires depth { depth ≤ 12 }
+        ensures read { Gives (λ x. (x.items, input self.new)) result (read (plane depth len) (input self.old)) }
+        ensures moves { Moves self.old self.new }
+    {
+        if depth == 8 && len <= self.rest.len() {
+            return self.plane_of_bytes(alloc, len);
+        }
+        self.plane_by_samples(alloc, depth, len)
     }
 
     /// The three planes of a slot.

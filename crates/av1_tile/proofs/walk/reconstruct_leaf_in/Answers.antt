@@ -1,27 +1,13 @@
-use Rattle.std.proofs.Common.{ℕ, ◌<◌, ◌≡◌, [], Option, arith, sym, subst, ap, ◌∙◌}
+use Rattle.std.proofs.Common.{ℕ, [], arith, sym, subst, ap, ◌∙◌}
 use Rattle.std.specs.List.{fold}
 use Rattle.av1_blocks.specs.Transforms.{tx_width}
 use Rattle.av1_intra.specs.ChromaFromLuma.{ac_at}
-use Rattle.av1_intra.specs.declared.neighbours.IntraEdgeFilterParameters.{IntraEdgeFilterParameters}
-use Rattle.av1_plan.specs.declared.geometry.PlaneArea.{PlaneArea}
-use Rattle.av1_plan.specs.declared.header.Header.{Header}
-use Rattle.av1_plan.specs.Geometry.{plane_area}
-use Rattle.av1_plan.specs.Plan.{LeafValue}
 use Rattle.av1_tile.specs.declared.plane_block.PlaneBlock.{PlaneBlock}
-use Rattle.av1_tile.specs.PlaneBlocks.{component, block_told}
+use Rattle.av1_tile.specs.PlaneBlocks.{component}
 use Rattle.av1_tile.specs.Steps.{plane_steps}
-use Rattle.av1_tile.specs.Walk.{BlockFits, Stores, Told, block_by, cell_at, edges_in, fast_in, leaf_with, parameters_by, with_header}
+use Rattle.av1_tile.specs.Walk.{BlockFits, Stores, block_by, cell_at, edges_in, fast_in, leaf_with, with_header}
 use Rattle.av1_tile.proofs.Lifts.{number_component}
 use Rattle.av1_tile.proofs.walk.reconstruct_leaf_in.Goals as goal
-
--- a block that is made of what the edge filter is told at its place
-block_is : (h : Header) (told : Told) (p : ℕ) (l : LeafValue) (area : PlaneArea) (filter : Option IntraEdgeFilterParameters) (block : PlaneBlock) → p < 3
-    → area ≡ plane_area h l.x l.y l.size l.tx_size p → filter ≡ parameters_by h told p area → block ≡ block_told h filter (component p) l →
-    block ≡ block_by h told (component p) l
-block_is h told p l area filter block few at e is =
-    let there : filter ≡ parameters_by h told p (plane_area h l.x l.y l.size l.tx_size p) = e ∙ ap (parameters_by h told p) at in
-    is ∙ ap (λ (o : Option IntraEdgeFilterParameters). block_told h o (component p) l)
-    (there ∙ ap (λ (n : ℕ). parameters_by h told n (plane_area h l.x l.y l.size l.tx_size n)) (sym (number_component p few)))
 
 pub reconstruct_plane_block-requires-clause-plane : goal.reconstruct_plane_block-requires-clause-plane
 reconstruct_plane_block-requires-clause-plane g c =
@@ -37,18 +23,14 @@ pub reconstruct_plane_block-requires-clause-fits : goal.reconstruct_plane_block-
 reconstruct_plane_block-requires-clause-fits g c =
     let a = c.args in
     let h = a.header.now in
-    let is =
-    block_is h (cell_at a.cells.now) a.p (leaf_with a.leaf.now [] [] []) c.plane_area.result c.filter_parameters-filter.result c.of_leaf-block.result
-    c.requires.plane c.plane_area.ensures c.filter_parameters-filter.ensures c.of_leaf-block.ensures in
+    let is = c.of_leaf-block.ensures ∙ c.filter_at-filter.ensures in
     subst (λ (b : PlaneBlock). BlockFits a.plane.now.plane_cfg h b a.triples.now) (sym is) c.requires.fits
 
 pub returns-clause-counted : goal.returns-clause-counted
 returns-clause-counted g c =
     let a = c.args in
     let h = a.header.now in
-    let is =
-    block_is h (cell_at a.cells.now) a.p (leaf_with a.leaf.now [] [] []) c.plane_area.result c.filter_parameters-filter.result c.of_leaf-block.result
-    c.requires.plane c.plane_area.ensures c.filter_parameters-filter.ensures c.of_leaf-block.ensures in
+    let is = c.of_leaf-block.ensures ∙ c.filter_at-filter.ensures in
     c.reconstruct_plane_block.ensures.counted ∙ ap (λ (b : PlaneBlock). fold edges_in a.buffers.now.edges.prepared (plane_steps h b a.triples.now)) is
 
 pub returns-clause-walked : goal.returns-clause-walked
@@ -59,9 +41,7 @@ returns-clause-walked g c = λ value serves.
     let num = g.T.Pixel.num in
     let pixel = g.T.Pixel.pixel in
     let block = block_by h (cell_at a.cells.now) (component a.p) (leaf_with a.leaf.now [] [] []) in
-    let is =
-    block_is h (cell_at a.cells.now) a.p (leaf_with a.leaf.now [] [] []) c.plane_area.result c.filter_parameters-filter.result c.of_leaf-block.result
-    c.requires.plane c.plane_area.ensures c.filter_parameters-filter.ensures c.of_leaf-block.ensures in
+    let is = c.of_leaf-block.ensures ∙ c.filter_at-filter.ensures in
     c.reconstruct_plane_block.ensures.walked value serves
     ∙ ap (λ (b : PlaneBlock). fold (fast_in num pixel plan b.plane (λ _. ac_at (tx_width b.area.tx_size) a.buffers.now.luma.items)) a.plane.now
     (plane_steps h b a.triples.now)) is

@@ -5,6 +5,7 @@ use Rattle.av1_tile.specs.declared.plane_block.PlaneBlock.{PlaneBlock}
 use Rattle.av1_tile.specs.Reference.{no_luma}
 use Rattle.av1_tile.specs.Walk.{edges_in, fast_in, with_header}
 use Rattle.av1_tile.proofs.BlockSteps.{all_steps, fits_laid, whole_between, whole_counted, whole_inside, whole_layout}
+use Rattle.av1_tile.proofs.BlockTriples.{none_counted, none_walked}
 use Rattle.av1_tile.proofs.Lifts.{whole_steps_same}
 use Rattle.av1_tile.proofs.walk.reconstruct_plane_block.Goals as goal
 
@@ -36,6 +37,46 @@ reconstruct_blocks-requires-clause-fits g c =
     c.requires.plane c.requires.fits.prediction
     a.plane.now c.predict_whole.new.plane (c.predict_whole.ensures plan c.requires.references.1 c.requires.fits.prediction) in
     fits_laid plan.header a.block.now a.triples.now a.plane.now.plane_cfg c.predict_whole.new.plane.plane_cfg laid c.requires.fits
+
+pub returns-then-is_only_predicted-clause-walked : goal.returns-then-is_only_predicted-clause-walked
+returns-then-is_only_predicted-clause-walked g c = λ value serves.
+    let a = c.args in
+    let plan = with_header a.header.now value in
+    let block = a.block.now in
+    let luma : PlaneBlock → ℕ → ℕ → ℤ = λ _. ac_at (tx_width block.area.tx_size) a.buffers.now.luma.items in
+    let step = fast_in g.T.Pixel.num g.T.Pixel.pixel plan block.plane luma in
+    let between = c.predict_whole.new.plane in
+    let stores =
+    whole_between g.T.Pixel.num g.T.Pixel.pixel g.met.T.Pixel.num_of_pixel g.met.T.Pixel.pixel_of_num plan a.fi.now serves block
+    c.requires.plane c.requires.fits.prediction a.plane.now between (c.predict_whole.ensures plan serves c.requires.fits.prediction) c.requires.stores in
+    all_steps step plan.header block a.triples.now a.plane.now between between
+    (c.predict_whole.ensures plan serves c.requires.fits.prediction
+    ∙ whole_steps_same g.T.Pixel.num g.T.Pixel.pixel plan block.plane (λ _. no_luma) luma block a.plane.now)
+    (none_walked block a.triples.now (c.is_only_predicted.ensures.whole c.if-is_only_predicted.true) g.T.Pixel.num g.T.Pixel.pixel
+    g.met.T.Pixel.pixel_of_num plan luma between (c.is_only_predicted.ensures.none c.if-is_only_predicted.true) stores.within)
+
+pub returns-then-is_only_predicted-clause-counted : goal.returns-then-is_only_predicted-clause-counted
+returns-then-is_only_predicted-clause-counted g c =
+    let a = c.args in
+    let count = a.buffers.now.edges.prepared in
+    all_steps edges_in a.header.now a.block.now a.triples.now count count count (whole_counted a.block.now count)
+    (none_counted a.block.now a.triples.now (c.is_only_predicted.ensures.whole c.if-is_only_predicted.true) a.header.now count)
+
+pub returns-then-is_only_predicted-clause-stores : goal.returns-then-is_only_predicted-clause-stores
+returns-then-is_only_predicted-clause-stores g c =
+    let a = c.args in
+    let plan = with_header a.header.now c.requires.references.0 in
+    whole_between g.T.Pixel.num g.T.Pixel.pixel g.met.T.Pixel.num_of_pixel g.met.T.Pixel.pixel_of_num plan a.fi.now c.requires.references.1 a.block.now
+    c.requires.plane c.requires.fits.prediction
+    a.plane.now c.predict_whole.new.plane (c.predict_whole.ensures plan c.requires.references.1 c.requires.fits.prediction) c.requires.stores
+
+pub returns-then-is_only_predicted-clause-config : goal.returns-then-is_only_predicted-clause-config
+returns-then-is_only_predicted-clause-config g c =
+    let a = c.args in
+    let plan = with_header a.header.now c.requires.references.0 in
+    whole_layout g.T.Pixel.num g.T.Pixel.pixel g.met.T.Pixel.num_of_pixel g.met.T.Pixel.pixel_of_num plan a.fi.now c.requires.references.1 a.block.now
+    c.requires.plane c.requires.fits.prediction
+    a.plane.now c.predict_whole.new.plane (c.predict_whole.ensures plan c.requires.references.1 c.requires.fits.prediction)
 
 pub returns-clause-walked : goal.returns-clause-walked
 returns-clause-walked g c = λ value serves.

@@ -6,25 +6,31 @@ use Rattle.av1_frame.proofs.plane.Plane.pad_rows.Goals as goal
 pub loop-y-init : goal.loop-y-init
 loop-y-init g c =
     let p = c.args.self.now in
-    sym (ap (λ s. record p { samples = s }) (sides_none p.plane_cfg.stride p.plane_cfg.xorigin p.plane_cfg.width p.samples))
+    sym (ap (λ s. record p { samples = s }) (sides_none p.plane_cfg.stride p.plane_cfg.xorigin p.plane_cfg.width c.config-cfg.result.yorigin p.samples))
 
 pub part_mut-requires : goal.part_mut-requires
 part_mut-requires g c =
     let e = c.config-cfg.ensures in
-    let rows = ap (λ i. i.alloc_height) e in
+    let first = ap (λ i. i.yorigin) e in
+    let rows = ap (λ i. i.height) e in
     let p = c.args.self.now in
-    row_in p c.loop-y.self (side_place p.plane_cfg.stride p.plane_cfg.xorigin p.plane_cfg.width c.loop-y.y) c.loop-y.y c.config-cfg.result.stride c.requires
-    c.loop-y.invariant (ap (λ i. i.stride) e) (omega (arith, rows))
+    row_in p c.loop-y.self (side_place p.plane_cfg.stride p.plane_cfg.xorigin p.plane_cfg.width c.config-cfg.result.yorigin c.loop-y.y) c.loop-y.y
+    c.config-cfg.result.stride c.requires
+    c.loop-y.invariant (ap (λ i. i.stride) e) (omega (arith, first, rows, c.requires.visible_rows))
 
 pub loop-y-preserved : goal.loop-y-preserved
 loop-y-preserved g c =
     let e = c.config-cfg.ensures in
-    let rows = ap (λ i. i.alloc_height) e in
+    let first = ap (λ i. i.yorigin) e in
+    let rows = ap (λ i. i.height) e in
     sides_filled_more c.args.self.now c.loop-y.self _ c.config-cfg.result.stride c.loop-y.y c.requires (ap (λ i. i.stride) e)
-    (omega (arith, rows)) c.config-cfg.result.xorigin c.config-cfg.result.width c.part_mut.result.now c.pad_row.new.row (ap (λ i. i.xorigin) e)
-    (ap (λ i. i.width) e) c.loop-y.invariant c.part_mut.ensures.value c.pad_row.ensures refl
+    (omega (arith, first, rows, c.requires.visible_rows)) c.config-cfg.result.xorigin c.config-cfg.result.width c.config-cfg.result.yorigin
+    c.part_mut.result.now c.pad_row.new.row (ap (λ i. i.xorigin) e)
+    (ap (λ i. i.width) e) (omega arith) c.loop-y.invariant c.part_mut.ensures.value c.pad_row.ensures refl
 
 pub returns : goal.returns
 returns g c =
-    let rows = ap (λ i. i.alloc_height) c.config-cfg.ensures in
-    sides_filled c.args.self.now c.loop-y.self c.loop-y.y c.requires (omega (arith, rows)) c.loop-y.invariant
+    let e = c.config-cfg.ensures in
+    let first = ap (λ i. i.yorigin) e in
+    let rows = ap (λ i. i.height) e in
+    sides_filled c.args.self.now c.loop-y.self _ c.loop-y.y _ _ first (omega (arith, first, rows)) c.loop-y.invariant

@@ -1,6 +1,6 @@
 use Rattle.std.proofs.Common.{arith}
 use Rattle.av1_sequence.proofs.Bits.{some_bit}
-use Rattle.av1_sequence.proofs.Keeping.{AreReplaced, put_in, put_keeps, put_shown, put_slots, put_stands}
+use Rattle.av1_sequence.proofs.Keeping.{AreReplaced, put_in, put_keeps, put_shown, put_slots, put_stands, stood_ready}
 use Rattle.av1_sequence.proofs.pictures.Pictures.keep.Goals as goal
 
 pub free_place-place-requires : goal.free_place-place-requires
@@ -13,7 +13,7 @@ invariant_of-self c =
     let are : AreReplaced c.args.self.now.places next.result c.args.refresh place.result =
     record { below = place.ensures.below; free = place.ensures.free; count = next.ensures.count; new = next.ensures.new; old = next.ensures.old } in
     let put =
-    put_in c.args.self.now.fi c.set_slot.new.self c.args.planes c.from.ensures c.pad.ensures.all c.pad-2.ensures.all c.pad-3.ensures.all c.set_slot.ensures
+    put_in c.args.self.now.fi c.replace_slot-before.new.self c.args.planes c.from.ensures c.pad.ensures.all c.pad-2.ensures.all c.pad-3.ensures.all c.replace_slot-before.ensures.after
     in
     record { keeps = put_keeps c.requires.ready c.args.self.now.keeps are put }
 
@@ -24,7 +24,7 @@ returns-clause-slots c =
     let are : AreReplaced c.args.self.now.places next.result c.args.refresh place.result =
     record { below = place.ensures.below; free = place.ensures.free; count = next.ensures.count; new = next.ensures.new; old = next.ensures.old } in
     let put =
-    put_in c.args.self.now.fi c.set_slot.new.self c.args.planes c.from.ensures c.pad.ensures.all c.pad-2.ensures.all c.pad-3.ensures.all c.set_slot.ensures
+    put_in c.args.self.now.fi c.replace_slot-before.new.self c.args.planes c.from.ensures c.pad.ensures.all c.pad-2.ensures.all c.pad-3.ensures.all c.replace_slot-before.ensures.after
     in
     put_slots c.requires.ready c.args.self.now.keeps are put
 
@@ -35,7 +35,7 @@ returns-clause-shown c =
     let are : AreReplaced c.args.self.now.places next.result c.args.refresh place.result =
     record { below = place.ensures.below; free = place.ensures.free; count = next.ensures.count; new = next.ensures.new; old = next.ensures.old } in
     let put =
-    put_in c.args.self.now.fi c.set_slot.new.self c.args.planes c.from.ensures c.pad.ensures.all c.pad-2.ensures.all c.pad-3.ensures.all c.set_slot.ensures
+    put_in c.args.self.now.fi c.replace_slot-before.new.self c.args.planes c.from.ensures c.pad.ensures.all c.pad-2.ensures.all c.pad-3.ensures.all c.replace_slot-before.ensures.after
     in
     put_shown c.requires.ready c.args.self.now.keeps are put
 
@@ -46,6 +46,11 @@ returns-clause-kept c =
     let are : AreReplaced c.args.self.now.places next.result c.args.refresh place.result =
     record { below = place.ensures.below; free = place.ensures.free; count = next.ensures.count; new = next.ensures.new; old = next.ensures.old } in
     let put =
-    put_in c.args.self.now.fi c.set_slot.new.self c.args.planes c.from.ensures c.pad.ensures.all c.pad-2.ensures.all c.pad-3.ensures.all c.set_slot.ensures
+    put_in c.args.self.now.fi c.replace_slot-before.new.self c.args.planes c.from.ensures c.pad.ensures.all c.pad-2.ensures.all c.pad-3.ensures.all c.replace_slot-before.ensures.after
     in
     put_stands c.requires.ready c.args.self.now.keeps are put
+
+pub returns-clause-free : goal.returns-clause-free
+returns-clause-free c =
+    let keeps = c.args.self.now.keeps in
+    stood_ready c.args.self.now.header c.args.self.now.fi c.args.self.now.places keeps _ _ _ c.replace_slot-before.ensures.value c.as_planes.ensures

@@ -3,8 +3,8 @@ use Rattle.av1_plan.specs.declared.header.Header.{Header}
 use Rattle.av1_plan.specs.Answer.{leaves_value}
 use Rattle.av1_sequence.specs.Kept.{AreReady}
 use Rattle.av1_sequence.specs.Outcomes.{plan_over}
-use Rattle.av1_sequence.proofs.Framed.{apart_accepted, kept_accepted, not_placed, own_read, own_ready, plan_is_over, ready_held, ready_still, room_over}
-use Rattle.av1_sequence.proofs.Framed.{room_still}
+use Rattle.av1_sequence.proofs.Framed.{apart_accepted, kept_accepted, not_placed, own_read, own_ready, placed_there, plan_is_over, ready_again, ready_held, ready_still, room_over}
+use Rattle.av1_sequence.proofs.Framed.{not_apart, room_still}
 use Rattle.av1_sequence.proofs.sequence.Sequence.show.Goals as goal
 
 pub planes_for-requires-clause-frame : goal.planes_for-requires-clause-frame
@@ -37,6 +37,19 @@ invariant_of-self-inside-then-head-eq0 c = (
   ),
 )
 
+pub invariant_of-self-inside-else-head-eq0 : goal.invariant_of-self-inside-else-head-eq0
+invariant_of-self-inside-else-head-eq0 c = (
+  room_still c.self.inside.pictures.header c.keep.new.self.header c.self.inside.memory c.reconstruct.new.self
+      (c.keep.ensures.header ∙ c.set_head.ensures.header) c.reconstruct.ensures.cells c.self.inside.room,
+  (
+    ready_again c.set_head.new.self.header c.keep.new.self.header c.keep.result.1 c.keep.ensures.header c.keep.ensures.free,
+    (
+      (λ e. not_apart c.keep.result.0 e),
+      ((λ place e. placed_there c.keep.new.self.header c.keep.new.self.fi c.keep.result.0 place c.keep.ensures.kept e), tt),
+    ),
+  ),
+)
+
 pub keep-requires-clause-ready : goal.keep-requires-clause-ready
 keep-requires-clause-ready c =
     subst (λ (g : Header). AreReady g c.reconstruct.new.planes) (sym c.set_head.ensures.header)
@@ -62,6 +75,6 @@ returns-else-head-eq0-clause-accepted c =
     plan_is_over c.args.self.now c.self.inside c.self.view_is c.args.head.now c.args.header.now leaves set.fi c.requires.header c.requires.spelled
     c.requires.valid c.set_head.ensures.serves in
     kept_accepted c.args.self.now c.self.inside c.self.view_is c.args.head.now leaves set.header c.keep.new.self.header set.fi c.keep.new.self.fi set.places
-    c.keep.new.self.places c.keep.result c.reconstruct.new.planes
+    c.keep.new.self.places c.keep.result.0 c.reconstruct.new.planes
     c.set_head.ensures.header c.keep.ensures.header c.set_head.ensures.slots c.keep.ensures.slots c.keep.ensures.shown
     (c.reconstruct.ensures.shown (plan_over c.args.self.now c.args.head.now leaves) walked)

@@ -2,7 +2,7 @@ use Rattle.std.proofs.Common.{◌≡◌, ◌-◌, []}
 use Rattle.av1_plan.specs.Format.{add, in_turn, lone, field}
 use Rattle.av1_plan.specs.Grammar.{sample}
 use Rattle.av1_plan.specs.Reading.{input, Moves}
-use Rattle.av1_plan.proofs.reader.Reader.plane.Given as goal
+use Rattle.av1_plan.proofs.reader.Reader.plane_by_samples.Given as goal
 
 abbrev pub invariant-loop : goal.invariant-loop
 invariant-loop l = record {

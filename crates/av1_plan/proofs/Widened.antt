@@ -1,0 +1,36 @@
+-- Samples of one byte each, read all at once.
+use Rattle.std.proofs.Common.{◌≡◌, ℕ, zero, suc, ◌+◌, ◌≤◌, List, [], ◌∷◌, ◌++◌, length, take, drop, Ok, refl, sym, ap, ◌∙◌, arith}
+use Rattle.std.proofs.lemmas.List.{take-append-drop, take_at}
+use Rattle.av1_plan.specs.Format.{one, any, field, Format, done, Input, Reading, read_field, read, lone, in_turn}
+use Rattle.av1_plan.specs.Grammar.{sample, plane}
+use Rattle.av1_plan.proofs.Formats.{read_bind}
+
+-- the first n items, and the m behind them
+pub take_on : {X : Type 0} (n m : ℕ) (xs : List X) → take n xs ++ take m (drop n xs) ≡ take (n + m) xs
+take_on zero m xs = refl
+take_on (suc n) m [] = refl
+take_on (suc n) m (x ∷ xs) = ap (λ (ys : List _). x ∷ ys) (take_on n m xs)
+
+-- a byte at the front
+byte_read : (at b : ℕ) (bs : List ℕ) → read_field (any one) (record { at = at; rest = b ∷ bs }) ≡ Ok (b, record { at = at + 1; rest = bs })
+unfolding read_field
+byte_read at b bs = search rules
+
+abbrev byte : ℕ → Format (List ℕ)
+byte i = lone (field (any one))
+
+bytes_read : (n i at : ℕ) (bs : List ℕ) → n ≤ length bs → read (in_turn byte i n) (record { at = at; rest = bs }) ≡ Ok (take n bs, record { at = at + n; rest = drop n bs })
+unfolding in_turn
+bytes_read zero i at bs le = ap (λ (k : ℕ). Ok ([], record { at = k; rest = bs })) (omega arith)
+bytes_read (suc n) i at [] le = absurd (omega (arith, le))
+bytes_read (suc n) i at (b ∷ bs) le =
+    rw (byte_read at b bs, read_bind (in_turn byte (i + 1) n) (λ ys. done (b ∷ ys)) (record { at = at + 1; rest = bs }),
+      bytes_read n (i + 1) (at + 1) bs (omega (arith, le)))
+    (ap (λ (k : ℕ). Ok (b ∷ take n bs, record { at = k; rest = drop n bs })) (omega arith))
+
+-- a plane of bytes
+pub plane_read : (depth len : ℕ) (i j : Input) (samples : List ℕ) → depth ≡ 8 → len ≤ length i.rest → samples ≡ take len i.rest → j.at ≡ i.at + len
+    → j.rest ≡ drop len i.rest → read (plane depth len) i ≡ Ok (samples, j)
+unfolding plane
+plane_read depth len i j samples e le is at rest =
+    rw (e, is) (bytes_read len 0 i.at i.rest le ∙ ap (λ (k : Input). Ok (take len i.rest, k)) (rw (← at, ← rest) refl))
