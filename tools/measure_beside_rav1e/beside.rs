@@ -70,13 +70,13 @@ fn rav1e_average<T: Pixel>(a: &[i16], b: &[i16], sums: &mut [u32], w: usize, h: 
     for (sum, v) in sums.iter_mut().zip(&plane.data) { let v: i32 = (*v).into(); *sum = v as u32; }
 }
 /// Columns side by side, transformed and transformed again.
-fn rav1e_cosine(values: &mut [i32], columns: usize, n: usize, rounds: usize) {
+fn rav1e_cosine(values: &mut [i32], columns: usize, n: usize, range: usize, rounds: usize) {
     use transform::inverse::*;
     let run = match n { 4 => av1_idct4, 8 => av1_idct8, 16 => av1_idct16, 32 => av1_idct32, _ => av1_idct64 };
     for c in 0..columns {
         let (mut a, mut b) = ([0; 64], [0; 64]);
         for r in 0..n { a[r] = values[r * columns + c]; }
-        for _ in 0..rounds { run(&a[..n], &mut b[..n], 16); run(&b[..n], &mut a[..n], 16); }
+        for _ in 0..rounds { run(&a[..n], &mut b[..n], range); run(&b[..n], &mut a[..n], range); }
         for r in 0..n { values[r * columns + c] = a[r]; }
     }
 }
@@ -120,7 +120,7 @@ fn main() {
             let mut s = 5u64;
             let mut v: Vec<i32> = (0..columns * length).map(|_| (next(&mut s) % (1 << 16)) as i32 - (1 << 15)).collect();
             if ours { unsafe { assert_eq!(measure_cosine(v.as_mut_ptr(), v.len(), length, bits as u8, rounds), 0) } }
-            else { rav1e_cosine(&mut v, columns, length, rounds) }
+            else { rav1e_cosine(&mut v, columns, length, if bits == 32 { 18 } else { 16 }, rounds) }
             for (sum, v) in sums.iter_mut().zip(&v) { *sum = *v as u32; }
         }
         "average" => {

@@ -14,8 +14,8 @@ are measured. Filters: 0 regular, 1 smooth, 2 sharp. Each line has the call, the
 ratio of both. A call is counted as the difference of five runs and one. Both programs are built for the level x86-64-v2, and what they
 write is compared: a line that differs stops the run.
 
-`networks` are the cosine transforms by themselves, at a range of 16 bits: a call is two of one column, or two of eight columns, in lanes of 32
-or of 16 bits, beside rav1e's two of each column.
+`networks` are the cosine transforms by themselves: a call is two of one column at a range of 16 bits, or two of eight columns at a range of 18,
+which go in lanes of 32 bits, or of 16, which go in lanes of 16 from 8 rows on, beside rav1e's two of each column.
 
 With `--time` each line has the nanoseconds of one call in place of the instructions: of five pairs of runs, one after the other, the pair whose
 ratio is in the middle, by the processor time of each process. That wants a machine on which nothing else runs.

@@ -46,23 +46,29 @@ pub with_whole : {X : Type 0} (s ws : List X) → length ws ≡ length s → wit
 with_whole s ws e = sym (update_is _ s ws e (λ k d l. grind (arith, places, nat_tests)))
 
 -- w elements from place `from` on, written from place `to` on: behind them, to what stands from there on,
-pub part_behind : {X : Type 0} (from to w : ℕ) (s : List X) → from + w ≤ to → from + w ≤ length s → to + w ≤ length s →
-    take to s ++ (take w (drop from (take to s)) ++ drop w (drop to s)) ≡ with_part to s (take w (drop from s))
-part_behind from to w s apart f t = update_is _ s _ (grind (arith, places)) (λ k d l. elim (cases_lt k to) [
-  | inl q ↦ grind (arith, places, nat_tests)
-  | inr q ↦ elim (cases_lt k (to + w)) [
-    | inl h ↦ grind (arith, places, nat_tests)
-    | inr h ↦ grind (arith, places, nat_tests)
-  ]
-])
+pub part_behind : {X : Type 0} (from to w : ℕ) (s front back ws : List X) → from + w ≤ to → from + w ≤ length s → to + w ≤ length s → front ≡ take to s
+    → back ≡ drop to s → ws ≡ take w (drop from front) → front ++ (ws ++ drop w back) ≡ with_part to s (take w (drop from s))
+part_behind from to w s front back ws apart f t front_is back_is ws_is =
+    rw (ws_is, front_is, back_is) (update_is _ s _ (grind (arith, places)) (λ k d l. elim (cases_lt k to) [
+      | inl q ↦ grind (arith, places, nat_tests)
+      | inr q ↦ elim (cases_lt k (to + w)) [
+        | inl h ↦ grind (arith, places, nat_tests)
+        | inr h ↦ grind (arith, places, nat_tests)
+      ]
+    ]))
 
 -- or before them, to what stands before place `from`
-pub part_before : {X : Type 0} (from to w : ℕ) (s : List X) → to + w ≤ from → from + w ≤ length s → to + w ≤ length s →
-    (take to (take from s) ++ (take w (drop from s) ++ drop w (drop to (take from s)))) ++ drop from s ≡ with_part to s (take w (drop from s))
-part_before from to w s apart f t = update_is _ s _ (grind (arith, places)) (λ k d l. elim (cases_lt k to) [
-  | inl q ↦ grind (arith, places, nat_tests)
-  | inr q ↦ elim (cases_lt k (to + w)) [
-    | inl h ↦ grind (arith, places, nat_tests)
-    | inr h ↦ grind (arith, places, nat_tests)
-  ]
-])
+pub part_before : {X : Type 0} (from to w : ℕ) (s front before target back ws : List X) → to + w ≤ from → from + w ≤ length s → to + w ≤ length s
+    → front ≡ take from s → before ≡ take to front → target ≡ drop to front → back ≡ drop from s → ws ≡ take w back
+    → (before ++ (ws ++ drop w target)) ++ back ≡ with_part to s (take w (drop from s))
+part_before from to w s front before target back ws apart f t front_is before_is target_is back_is ws_is =
+    rw (ws_is, before_is, target_is, front_is, back_is) (update_is _ s _ (grind (arith, places)) (λ k d l. elim (cases_lt k to) [
+      | inl q ↦ grind (arith, places, nat_tests)
+      | inr q ↦ elim (cases_lt k (to + w)) [
+        | inl h ↦ grind (arith, places, nat_tests)
+        | inr h ↦ elim (cases_lt k from) [
+          | inl b ↦ grind (arith, places, nat_tests)
+          | inr b ↦ grind (arith, places, nat_tests)
+        ]
+      ]
+    ]))

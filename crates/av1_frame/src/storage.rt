@@ -89,11 +89,12 @@ fn copy_apart_in<T: Pixel>(samples: &mut [T], from: usize, to: usize, width: usi
     ensures { samples.new ≡ with_part to samples.old (part from width samples.old) }
 {
     if from < to {
-        let (front, back) = samples.split_at_mut(to);
-        back[..width].copy_from_slice(&front[from..from + width]);
+        let (source, target) = samples.split_at_mut(to);
+        target[..width].copy_from_slice(&source[from..from + width]);
     } else {
-        let (front, back) = samples.split_at_mut(from);
-        front[to..to + width].copy_from_slice(&back[..width]);
+        let (front, source) = samples.split_at_mut(from);
+        let (_, target) = front.split_at_mut(to);
+        target[..width].copy_from_slice(&source[..width]);
     }
 }
 

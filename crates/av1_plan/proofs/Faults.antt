@@ -14,7 +14,9 @@ use Rattle.av1_plan.specs.Plan.{leaf_value, leaf_values}
 use Rattle.av1_plan.proofs.Spans.{stored_leaf, length-leaf_values}
 use Rattle.std.proofs.lemmas.Bool.Decides.{nat_tests}
 use Rattle.av1_plan.specs.Geometry.{has_block}
-use Rattle.av1_plan.specs.Validity.{is_coefficient, is_of_block, is_before, rise, follows, are_coefficients, fault_of, fault_from}
+use Rattle.std.specs.Prelude.{nat_lt}
+use Rattle.av1_blocks.specs.Transforms.{coded_area}
+use Rattle.av1_plan.specs.Validity.{fits_signed, is_coefficient, is_of_block, is_before, rise, follows, are_coefficients, fault_of, fault_from}
 
 -- the item at a place, in front of those behind it
 front : {A : Type 0} (xs : List A) (i : ℕ) (d : A) → i < length xs → drop i xs ≡ get_or xs i d ∷ drop (i + 1) xs
@@ -74,11 +76,11 @@ block_of_last h p a (Some s) t known of = let same : s.block ≡ t.block = grind
 -- a triple that is a coefficient has a block
 pub coefficient_block : (h : Header) (p : ℕ) (a : PlaneArea) (t : Triple) → is_coefficient h p a t ≡ true → has_block h p a t.block ≡ true
 unfolding is_coefficient
-coefficient_block h p a t is = go (has_block h p a t.block) _ is
+coefficient_block h p a t is = go (has_block h p a t.block) (nat_lt t.place (coded_area a.tx_size)) (fits_signed (h.depth + 8) t.value) is
   where
-    go : (b rest : Bool) → (b && rest) ≡ true → b ≡ true
-    go true rest e = refl
-    go false rest e = e
+    go : (b c d : Bool) → (b && c && d) ≡ true → b ≡ true
+    go true c d e = refl
+    go false c d e = e
 
 -- there are none
 pub no_triples : (h : Header) (p : ℕ) (a : PlaneArea) (triples : List Triple) → length triples ≡ 0 → are_coefficients h p a triples ≡ true

@@ -204,6 +204,7 @@ fn is_of_block(last: Option<Triple>, triple: &Triple) -> bool
 
 /// Whether the area has the block of a triple, and that begins in the visible plane `p`. The block of the last triple,
 /// where there is one, does.
+#[tactic(auto, unfolding(crate::specs::Geometry::transform_block))]
 fn has_block(
     header: &Header,
     p: usize,

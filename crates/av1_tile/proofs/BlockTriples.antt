@@ -77,8 +77,9 @@ none_painted num pixel back depth block ts n p a none within =
 module _ (block : PlaneBlock) (ts : List Triple) (whole : is_whole block.prediction ≡ true) where
   -- the one step of transform block n, where it begins in the frame
   alone : (n : ℕ) (b : TransformBlock) → block_steps block ts n (Some b) ≡ add block ts n (block_area block b) ∷ []
-  alone n b = ap (λ (t : Bool). if t then add block ts n (block_area block b) ∷ []
-  else predict block n (block_area block b) ∷ add block ts n (block_area block b) ∷ []) whole
+  alone n b =
+      let area = block_area block b in
+      ap (λ (t : Bool). if t then add block ts n area ∷ [] else predict block n area ∷ add block ts n area ∷ []) whole
 
   -- prepare no edge
   pub none_counted : (h : Header) (count : ℕ) → count ≡ fold edges_in count (joined (block_count block.area) (steps_at h block ts))
