@@ -24,5 +24,7 @@ pub mod Versions
 pub mod ValidLeaves
 pub mod ValidModes
 pub mod Composed
-pub mod Apart
+pub mod Behind
+pub mod Continued
+pub mod Lengths
 pub mod Widened

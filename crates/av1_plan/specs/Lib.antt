@@ -13,4 +13,4 @@ pub mod Parsing
 pub mod Answer
 pub mod Versions
 pub mod Pieces
-pub mod Apart
+pub mod Lengths

@@ -30,9 +30,14 @@ pub record PlanValue : Type 0 where
   pub references : List (Option (List (List ℕ)))
   pub leaves : List LeafValue
 
--- the triples of a leaf in a plane, the leaf counted from 0 in coding order
+-- the triples of one of these leaves in a plane, the leaf counted from 0 in coding order
+abbrev pub leaf_triples : List LeafValue → ℕ → ℕ → List Triple
+leaf_triples leaves leaf plane =
+    slice_index_or (slice_index_or (map (λ (l : LeafValue). l.triples) leaves) leaf []) plane []
+
+-- the same of a plan's leaves
 abbrev pub triples_of : PlanValue → ℕ → ℕ → List Triple
-triples_of p leaf plane = slice_index_or (slice_index_or (map (λ (l : LeafValue). l.triples) p.leaves) leaf []) plane []
+triples_of p leaf plane = leaf_triples p.leaves leaf plane
 
 -- the samples of a plane of a slot, where the slot carries planes
 abbrev pub reference_of : PlanValue → ℕ → ℕ → Option (List ℕ)

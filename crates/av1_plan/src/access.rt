@@ -2,11 +2,12 @@
 
 use crate::header::Header;
 use crate::leaf::{Leaf, Triple};
+use crate::leaves::Leaves;
 use crate::plan::Plan;
 
 impl Plan {
     ghost use Rattle.std.specs.Prelude.{◌≡◌, ◌<◌, ◌↔◌, length, IfSome, IfNone, IsSome, IsTrue, Some, None};
-    ghost use Rattle.av1_plan.specs.Answer.{plan_value, stored_leaves};
+    ghost use Rattle.av1_plan.specs.Answer.{leaves_value, plan_value, stored_leaves};
     ghost use Rattle.std.specs.List.{All};
     ghost use Rattle.av1_plan.specs.CodingOrder.{AreInCodingOrder};
     ghost use Rattle.av1_plan.specs.Geometry.{has_slot};
@@ -28,6 +29,13 @@ impl Plan {
         // Each stands on its grid, and has a chroma mode and a chroma type exactly where it carries chroma.
         ensures read { All (IsReadLeaf (plan_value self.now).header) (plan_value self.now).leaves }
         ensures order { ∥ AreInCodingOrder (plan_value self.now).header (λ l. l) (plan_value self.now).leaves ∥₁ }
+    {
+        self.leaves.leaves()
+    }
+
+    /// The leaves with their triples, apart from the header and the references.
+    pub fn leaves_with_triples(&self) -> &Leaves
+        ensures { leaves_value result.now ≡ (plan_value self.now).leaves }
     {
         &self.leaves
     }
@@ -56,7 +64,6 @@ impl Plan {
         requires plane { p < 3 }
         ensures { result.now ≡ triples_of (plan_value self.now) leaf p }
     {
-        let (start, count) = self.leaves[leaf].triples_span(p);
-        &self.triples[start..start + count]
+        self.leaves.triples(leaf, p)
     }
 }

@@ -1,7 +1,7 @@
 //! Which plans are valid.
 
 ghost use Rattle.std.specs.Prelude.{◌≡◌, ◌+◌, ◌<◌, ◌≤◌, length, map, OnOk, IfErr, IfSome, true, Some, None, slice_get, ◌&&◌, not, pos, neg_ℤ, int_lt, ◌≤ℤ◌};
-ghost use Rattle.av1_plan.specs.Answer.{plan_value, stored_leaves, stored_triples};
+ghost use Rattle.av1_plan.specs.Answer.{leaf_list, leaves_value, plan_value, triple_list};
 ghost use Rattle.av1_plan.specs.Geometry.{has_block};
 ghost use Rattle.av1_plan.specs.Plan.{leaf_value};
 ghost use Rattle.av1_plan.specs.Validity.{
@@ -33,6 +33,7 @@ use crate::error::{Invalid, InvalidKind};
 use crate::geometry::{PlaneArea, plane_tx_size};
 use crate::header::Header;
 use crate::leaf::{ChromaMode, Leaf, LeafKind, Triple};
+use crate::leaves::Leaves;
 use crate::plan::Plan;
 use av1_blocks::transform::valid_av1_transform;
 use av1_blocks::{BlockSize, PredictionMode, RefType, TxSize, TxType};
@@ -280,13 +281,13 @@ fn are_coefficients(header: &Header, p: usize, area: &PlaneArea, triples: &[Trip
 
 /// Whether the triples in plane `p` of leaf number `i` are coefficients.
 #[tactic(auto, using(crate::proofs::Spans::triples_of_leaf), unfolding(crate::specs::Validity::has_plane_coefficients))]
-fn has_plane_coefficients(header: &Header, plan: &Plan, i: usize, leaf: &Leaf, p: usize) -> bool
+fn has_plane_coefficients(header: &Header, leaves: &Leaves, i: usize, leaf: &Leaf, p: usize) -> bool
     requires depth { header.now.depth ≤ 12 }
-    requires stored { slice_get (stored_leaves plan.now) i ≡ Some leaf.now }
+    requires stored { slice_get (leaf_list leaves.now) i ≡ Some leaf.now }
     requires plane { p < 3 }
-    ensures { result ≡ has_plane_coefficients header.now (leaf_value (stored_triples plan.now) leaf.now) p }
+    ensures { result ≡ has_plane_coefficients header.now (leaf_value (triple_list leaves.now) leaf.now) p }
 {
-    let triples = plan.triples(i, p);
+    let triples = leaves.triples(i, p);
     if triples.is_empty() {
         return true;
     }
@@ -296,24 +297,24 @@ fn has_plane_coefficients(header: &Header, plan: &Plan, i: usize, leaf: &Leaf, p
 
 /// Whether the triples of leaf number `i` are coefficients in all planes that it covers.
 #[tactic(auto, unfolding(crate::specs::Validity::has_coefficients))]
-fn has_coefficients(header: &Header, plan: &Plan, i: usize, leaf: &Leaf) -> bool
+fn has_coefficients(header: &Header, leaves: &Leaves, i: usize, leaf: &Leaf) -> bool
     requires depth { header.now.depth ≤ 12 }
-    requires stored { slice_get (stored_leaves plan.now) i ≡ Some leaf.now }
-    ensures { result ≡ has_coefficients header.now (leaf_value (stored_triples plan.now) leaf.now) }
+    requires stored { slice_get (leaf_list leaves.now) i ≡ Some leaf.now }
+    ensures { result ≡ has_coefficients header.now (leaf_value (triple_list leaves.now) leaf.now) }
 {
     let carries_chroma = leaf.carries_chroma(header);
-    has_plane_coefficients(header, plan, i, leaf, 0)
+    has_plane_coefficients(header, leaves, i, leaf, 0)
         && (!carries_chroma
-            || (has_plane_coefficients(header, plan, i, leaf, 1)
-                && has_plane_coefficients(header, plan, i, leaf, 2)))
+            || (has_plane_coefficients(header, leaves, i, leaf, 1)
+                && has_plane_coefficients(header, leaves, i, leaf, 2)))
 }
 
 /// The first reason for which leaf number `i` is refused.
 #[tactic(auto, unfolding(crate::specs::Validity::fault_of))]
-fn fault_of(header: &Header, plan: &Plan, i: usize, leaf: &Leaf) -> Option<InvalidKind>
+fn fault_of(header: &Header, leaves: &Leaves, i: usize, leaf: &Leaf) -> Option<InvalidKind>
     requires depth { header.now.depth ≤ 12 }
-    requires stored { slice_get (stored_leaves plan.now) i ≡ Some leaf.now }
-    ensures { result ≡ fault_of header.now (leaf_value (stored_triples plan.now) leaf.now) }
+    requires stored { slice_get (leaf_list leaves.now) i ≡ Some leaf.now }
+    ensures { result ≡ fault_of header.now (leaf_value (triple_list leaves.now) leaf.now) }
 {
     if !has_block_size(header, leaf.size) {
         Some(InvalidKind::InvalidBlockSize)
@@ -325,27 +326,27 @@ fn fault_of(header: &Header, plan: &Plan, i: usize, leaf: &Leaf) -> Option<Inval
         Some(InvalidKind::Vector)
     } else if !has_references(header, &leaf.kind) {
         Some(InvalidKind::MissingReference)
-    } else if !has_coefficients(header, plan, i, leaf) {
+    } else if !has_coefficients(header, leaves, i, leaf) {
         Some(InvalidKind::Coefficient)
     } else {
         None
     }
 }
 
-/// Whether every leaf of a plan is valid in a frame with this header, which may be another than the plan's own: for
-/// callers that keep the references of the leaves themselves.
+/// Whether all of these leaves are valid in a frame with this header: for callers that keep the leaves of a plan apart
+/// from its header and its references.
 ///
 /// # Errors
 ///
 /// The first faulty leaf in coding order, and the first reason for which it is refused.
 #[tactic(auto, using(crate::proofs::Faults::leaves_end))]
-pub fn check_leaves(header: &Header, plan: &Plan) -> Result<(), Invalid>
+pub fn check_leaves(header: &Header, leaves: &Leaves) -> Result<(), Invalid>
     requires { header.now.depth ≤ 12 }
-    ensures ok { OnOk result (fault_from header.now 0 (plan_value plan.now).leaves ≡ None) }
-    ensures err { IfErr result (λ fault. fault_from header.now 0 (plan_value plan.now).leaves ≡ Some fault) }
+    ensures ok { OnOk result (fault_from header.now 0 (leaves_value leaves.now) ≡ None) }
+    ensures err { IfErr result (λ fault. fault_from header.now 0 (leaves_value leaves.now) ≡ Some fault) }
 {
-    for (i, leaf) in plan.leaves().iter().enumerate() {
-        if let Some(kind) = fault_of(header, plan, i, leaf) {
+    for (i, leaf) in leaves.leaves().iter().enumerate() {
+        if let Some(kind) = fault_of(header, leaves, i, leaf) {
             return Err(Invalid {
                 leaf: i as u32,
                 kind,
@@ -364,5 +365,5 @@ pub fn check_plan(plan: &Plan) -> Result<(), Invalid>
     ensures ok { OnOk result (first_fault (plan_value plan.now) ≡ None) }
     ensures err { IfErr result (λ fault. first_fault (plan_value plan.now) ≡ Some fault) }
 {
-    check_leaves(plan.header(), plan)
+    check_leaves(plan.header(), plan.leaves_with_triples())
 }

@@ -2,7 +2,8 @@
 
 ghost use Rattle.std.specs.Prelude.{◌≡◌, ℕ, List};
 ghost use Rattle.av1_plan.specs.Grammar.{plan};
-ghost use Rattle.av1_plan.specs.Pieces.{PiecesArePlan};
+ghost use Rattle.av1_plan.specs.Lengths.{HeadersAreTwenty, ReferencesAreSlots};
+ghost use Rattle.av1_plan.specs.Pieces.{PiecesArePlan, PiecesAreRefused, PlanIsPieces};
 ghost use Rattle.av1_plan.specs.Plan.{PlanValue};
 ghost use Rattle.av1_plan.specs.Spelling.{AreText};
 ghost use Rattle.av1_plan.specs.Versions.{SecondKeepsFirst, FirstHasRest};
@@ -25,8 +26,17 @@ pub fn the_first_version_has_the_rest()
 {}
 
 /// A law: what stands before the leaves of a plan, its references and the leaves behind them are the plan. The bytes of
-/// a header, those of its references and those that [`crate::parse_leaves`] reads are, one after the other, the bytes
-/// of what it gives.
+/// a header, those of its references and those that [`crate::parse_plan_behind`] reads are, one after the other, the
+/// bytes of what it gives. It gives no other plan than these bytes spell, and where it refuses the leaves' bytes, all
+/// of them are no plan, for the same field.
 pub fn pieces_are_a_plan()
-    ensures { PiecesArePlan }
+    ensures whole { PiecesArePlan }
+    ensures apart { PlanIsPieces }
+    ensures refused { PiecesAreRefused }
+{}
+
+/// A law: a header is 20 bytes, and references are the samples of the slots that carry planes.
+pub fn fronts_have_these_lengths()
+    ensures header { HeadersAreTwenty }
+    ensures references { ReferencesAreSlots }
 {}

@@ -7,11 +7,10 @@
 //! - `parse_plan` reads exactly the bytes that the plan grammar (`specs/Grammar.antt`) spells, and of any others names
 //!   the first field that is cut, not admitted or left over (`Malformed`). It is linear in the bytes and takes no
 //!   memory for a leaf of its own: leaves lie in one list, and their coefficients in another.
-//! - `parse_leaves` reads the leaves alone, for formats that keep the header and the references of a plan elsewhere:
-//!   what its bytes spell is `plan_behind` them. `parse_leaves_apart` does so for callers that keep the references in a
-//!   form of their own: the leaves are those of the frame with any references, and `check_leaves` judges them by the
-//!   header that it is given (`specs/Apart.antt`). A `Reader` takes the fields of a plan one by one, for formats that
-//!   share them.
+//! - `parse_leaves` reads the leaves alone, which are a type of their own, `Leaves`: for callers that keep the header
+//!   and the references of a plan in another form. `check_leaves` judges them by the header that it is given.
+//!   `parse_plan_behind` puts them into a plan with a header and references that stand elsewhere: what its bytes spell
+//!   is `plan_behind` these. A `Reader` takes the fields of a plan one by one, for formats that share them.
 //! - A `Plan` keeps as a fact that a complete proper list of fields spells it. Its leaves stand in coding order: they
 //!   are those of one tree of marks for each superblock of the frame (`specs/Tree.antt`, `specs/CodingOrder.antt`).
 //! - What holds of every plan that is read, its accessors say (`specs/ReadPlans.antt`): the ranges of the frame's
@@ -34,6 +33,7 @@ mod geometry;
 mod header;
 mod laws;
 mod leaf;
+mod leaves;
 mod nodes;
 mod parse;
 mod plan;
@@ -45,12 +45,13 @@ pub use error::{Invalid, InvalidKind, PlanError};
 pub use geometry::{PlaneArea, TransformBlock, carries_chroma, plane_tx_size};
 pub use header::Header;
 pub use laws::{
-    pieces_are_a_plan, texts_are_of_one_plan, the_first_version_has_the_rest,
-    the_second_version_keeps_the_first,
+    fronts_have_these_lengths, pieces_are_a_plan, texts_are_of_one_plan,
+    the_first_version_has_the_rest, the_second_version_keeps_the_first,
 };
 pub use leaf::{ChromaMode, Leaf, LeafKind, Triple};
+pub use leaves::Leaves;
 pub use nodes::{cut_by, half_side, part_size, whole_size};
-pub use parse::{parse_leaves, parse_leaves_apart, parse_plan};
+pub use parse::{parse_leaves, parse_plan, parse_plan_behind};
 pub use plan::Plan;
 pub use planes::Planes;
 pub use reader::Reader;

@@ -6,6 +6,7 @@ ghost use Rattle.av1_plan.specs.Grammar.{half_side, quarter_side, whole_size, pa
 use crate::error::PlanError;
 use crate::header::Header;
 use crate::leaf::{Leaf, Triple};
+use crate::leaves::Leaves;
 use crate::reader::Reader;
 use av1_blocks::BlockSize;
 use av1_blocks::PartitionType::{self, *};
@@ -22,7 +23,8 @@ pub struct Parser<'a> {
 impl<'a> Parser<'a> {
     ghost use Rattle.std.specs.Prelude.{◌≡◌, ◌+◌, ◌*◌, ◌<◌, ◌≤◌, ◌^◌, ◌-◌, length, IfOk, OnOk, []};
     ghost use Rattle.av1_blocks.specs.declared.partition.PartitionType.TheVariants.{PARTITION_SPLIT};
-    ghost use Rattle.av1_plan.specs.Format.{add, lone, read};
+    ghost use Rattle.av1_plan.specs.Answer.{leaves_value};
+    ghost use Rattle.av1_plan.specs.Format.{add, ended, lone, read};
     ghost use Rattle.av1_plan.specs.Grammar.{part, wide_stripes, tall_stripes, block, parts, superblock_row, superblocks};
     ghost use Rattle.av1_plan.specs.Reading.{Gives, Fits, input};
     ghost use Rattle.av1_plan.specs.Parsing.{state, IsSound};
@@ -227,6 +229,20 @@ impl<'a> Parser<'a> {
         let mut parser = Parser::new(alloc, reader);
         parser.superblocks(header)?;
         Ok(parser)
+    }
+
+    /// The leaves that were read, where no byte is left.
+    pub fn finish(self) -> Result<Leaves, PlanError>
+        requires { IsSound self }
+        ensures { Gives (λ l. leaves_value l) result (ended (state self.entry)) }
+    {
+        self.reader.end()?;
+        let Parser {
+            reader: _,
+            leaves,
+            triples,
+        } = self;
+        Ok(Leaves { leaves, triples })
     }
 }
 

@@ -1,18 +1,18 @@
 //! Reading a plan from bytes.
 
-ghost use Rattle.std.specs.Prelude.{◌≡◌, ℕ, ◌≤◌, ◌^◌, List, Option, length, IfOk, MatchResult, vec_len};
+ghost use Rattle.std.specs.Prelude.{◌≡◌, ◌≤◌, ◌^◌, List, length, IfOk, MatchResult, vec_len};
 ghost use Rattle.av1_plan.specs.declared.error.PlanError.TheVariants.{Memory};
-ghost use Rattle.av1_plan.specs.Answer.{plan_value, IfMalformed};
-ghost use Rattle.av1_plan.specs.Apart.{in_frame, without_references};
+ghost use Rattle.av1_plan.specs.Answer.{leaves_value, plan_value, IfMalformed};
 ghost use Rattle.av1_plan.specs.Format.{start, read_all};
-ghost use Rattle.av1_plan.specs.Grammar.{plan, plan_behind};
-ghost use Rattle.av1_plan.specs.Plan.{PlanValue, slot_values};
+ghost use Rattle.av1_plan.specs.Grammar.{plan, plan_behind, superblocks};
+ghost use Rattle.av1_plan.specs.Plan.{LeafValue, PlanValue, slot_values};
 ghost use Rattle.av1_plan.specs.ReadPlans.{IsReadFrame, AreStoredSlots};
 ghost use Rattle.av1_plan.specs.Reading.{Gives};
 ghost use Rattle.av1_plan.specs.Spelling.{AreText, AreRefused};
 
 use crate::error::PlanError;
 use crate::header::Header;
+use crate::leaves::Leaves;
 use crate::nodes::Parser;
 use crate::plan::Plan;
 use crate::planes::Planes;
@@ -29,17 +29,11 @@ fn read_plan(alloc: Global, bytes: &[u8]) -> Result<Plan, PlanError>
     let header = reader.header()?;
     let references = reader.references(alloc, &header)?;
     let parser = Parser::parse(alloc, reader, &header)?;
-    parser.reader.end()?;
-    let Parser {
-        reader: _,
-        leaves,
-        triples,
-    } = parser;
+    let leaves = parser.finish()?;
     Ok(Plan {
         header,
         references,
         leaves,
-        triples,
     })
 }
 
@@ -61,34 +55,35 @@ pub fn parse_plan(alloc: Global, bytes: &[u8]) -> Result<Plan, PlanError>
     read_plan(alloc, bytes)
 }
 
-/// The plan with this header and these references whose leaves the bytes are, read from left to right.
-#[tactic(auto, using(crate::proofs::Lists::collects), unfolding(crate::specs::Grammar::plan_behind))]
-fn read_leaves(
-    alloc: Global,
-    header: Header,
-    references: Vec<Option<Planes>>,
-    bytes: &[u8],
-) -> Result<Plan, PlanError>
+/// The leaves that the bytes are, read from left to right.
+fn read_leaves(alloc: Global, header: &Header, bytes: &[u8]) -> Result<Leaves, PlanError>
     requires short { length bytes.now ≤ 2 ^ 26 }
-    requires frame { IsReadFrame header }
-    requires eight { vec_len references ≡ 8 }
-    requires slots { AreStoredSlots header references.items 8 }
-    ensures { Gives (λ p. plan_value p) result (read_all (plan_behind header (slot_values references.items)) (start bytes.now)) }
+    requires frame { IsReadFrame header.now }
+    ensures { Gives (λ l. leaves_value l) result (read_all (superblocks header.now) (start bytes.now)) }
 {
     let reader = Reader { rest: bytes, at: 0 };
-    let parser = Parser::parse(alloc, reader, &header)?;
-    parser.reader.end()?;
-    let Parser {
-        reader: _,
-        leaves,
-        triples,
-    } = parser;
-    Ok(Plan {
-        header,
-        references,
-        leaves,
-        triples,
-    })
+    let parser = Parser::parse(alloc, reader, header)?;
+    parser.finish()
+}
+
+/// The leaves that these bytes spell in a frame with this header, by the plan grammar: for callers that keep what
+/// stands before the leaves of a plan in another form. [`check_leaves`](crate::check_leaves) judges them.
+///
+/// # Errors
+///
+/// As for [`parse_plan`]; `Malformed` counts from the first of these bytes.
+pub fn parse_leaves(alloc: Global, header: &Header, bytes: &[u8]) -> Result<Leaves, PlanError>
+    requires short { length bytes.now ≤ 2 ^ 26 }
+    requires frame { IsReadFrame header.now }
+    // The bytes are exactly the fields of a complete proper list, which spells the leaves.
+    ensures found { IfOk result (λ l. AreText (superblocks header.now) bytes.now (leaves_value l)) }
+    // No complete proper list has these bytes, and the longest proper list at their front ends at `at`.
+    ensures refused { IfMalformed result (λ at. AreRefused (superblocks header.now) bytes.now at) }
+    // What is spelled so is read, unless memory runs out.
+    ensures only { (leaves : List LeafValue) → AreText (superblocks header.now) bytes.now leaves →
+        MatchResult result (λ l. leaves_value l ≡ leaves) (λ e. e ≡ Memory) }
+{
+    read_leaves(alloc, header, bytes)
 }
 
 /// The plan with this header and these references whose leaves these bytes spell, by the plan grammar: for formats that
@@ -96,8 +91,8 @@ fn read_leaves(
 ///
 /// # Errors
 ///
-/// As for [`parse_plan`]; `Malformed` counts from the first of these bytes.
-pub fn parse_leaves(
+/// As for [`parse_leaves`].
+pub fn parse_plan_behind(
     alloc: Global,
     header: Header,
     references: Vec<Option<Planes>>,
@@ -112,42 +107,10 @@ pub fn parse_leaves(
     ensures only { (p : PlanValue) → AreText (plan_behind header (slot_values references.items)) bytes.now p →
         MatchResult result (λ x. plan_value x ≡ p) (λ e. e ≡ Memory) }
 {
-    read_leaves(alloc, header, references, bytes)
-}
-
-/// The header of the same frame without references.
-fn without_references(header: &Header) -> Header
-    ensures { result ≡ without_references header.now }
-{
-    Header {
-        version: header.version,
-        width: header.width,
-        height: header.height,
-        depth: header.depth,
-        sampling: header.sampling,
-        filter: header.filter,
-        edge_filter: header.edge_filter,
-        slots: header.slots,
-        mask: 0,
-    }
-}
-
-/// The leaves that these bytes spell in a frame with this header, for callers that keep the references themselves. The
-/// leaves lie in a plan whose own frame has no references: with the caller's header and references it is the plan of
-/// the leaves (`in_frame`), whatever the references are, and [`check_leaves`](crate::check_leaves) judges it.
-///
-/// # Errors
-///
-/// As for [`parse_leaves`].
-pub fn parse_leaves_apart(alloc: Global, header: &Header, bytes: &[u8]) -> Result<Plan, PlanError>
-    requires short { length bytes.now ≤ 2 ^ 26 }
-    requires frame { IsReadFrame header.now }
-    ensures found { (references : List (Option (List (List ℕ)))) →
-        IfOk result (λ p. AreText (plan_behind header.now references) bytes.now (in_frame header.now references (plan_value p))) }
-    ensures refused { (references : List (Option (List (List ℕ)))) → IfMalformed result (λ at. AreRefused (plan_behind header.now references) bytes.now at) }
-    ensures only { (references : List (Option (List (List ℕ)))) (p : PlanValue) → AreText (plan_behind header.now references) bytes.now p
-        → MatchResult result (λ x. in_frame header.now references (plan_value x) ≡ p) (λ e. e ≡ Memory) }
-{
-    let references = Vec::from_array(alloc, [None, None, None, None, None, None, None, None])?;
-    parse_leaves(alloc, without_references(header), references, bytes)
+    let leaves = parse_leaves(alloc, &header, bytes)?;
+    Ok(Plan {
+        header,
+        references,
+        leaves,
+    })
 }

@@ -1,12 +1,12 @@
 //! Plans in memory.
 
-ghost use Rattle.std.specs.Prelude.{◌≡◌, ◌≤◌, ◌^◌, length, vec_len};
+ghost use Rattle.std.specs.Prelude.{◌≡◌, vec_len};
 ghost use Rattle.av1_plan.specs.Grammar.{plan};
-ghost use Rattle.av1_plan.specs.Plan.{ArePresent, Follow, value_of};
+ghost use Rattle.av1_plan.specs.Plan.{ArePresent, value_of};
 ghost use Rattle.av1_plan.specs.Spelling.{IsSpelled};
 
 use crate::header::Header;
-use crate::leaf::{Leaf, Triple};
+use crate::leaves::Leaves;
 use crate::planes::Planes;
 
 /// A plan that was read from bytes: its header, its reference samples and its leaves with their triples.
@@ -14,14 +14,10 @@ use crate::planes::Planes;
 pub struct Plan {
     pub(crate) header: Header,
     pub(crate) references: Vec<Option<Planes>>,
-    pub(crate) leaves: Vec<Leaf>,
-    pub(crate) triples: Vec<Triple>,
+    pub(crate) leaves: Leaves,
     // A complete proper list of fields spells the plan.
-    ghost spelled: { ∥ IsSpelled plan (value_of header references.items leaves.items triples.items) ∥₁ },
-    // The leaves' triples follow one another without a gap, in one list.
-    ghost follow: { ∥ Follow 0 leaves.items (length triples.items) ∥₁ },
+    ghost spelled: { ∥ IsSpelled plan (value_of header references.items leaves.leaves.items leaves.triples.items) ∥₁ },
     // A slot has planes exactly where the mask has it.
     ghost slots: { vec_len references ≡ 8 },
     ghost present: { ArePresent header references.items 8 },
-    ghost few: { vec_len leaves ≤ 2 ^ 26 },
 }

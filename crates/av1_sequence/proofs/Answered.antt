@@ -1,24 +1,31 @@
 -- The answers of a sequence, from those of the part of a frame.
-use Rattle.std.proofs.Common.{ℕ, ◌≤◌, ◌≡◌, List, Option, Some, None, subst, sym}
+use Rattle.std.proofs.Common.{ℕ, ◌≤◌, ◌≡◌, List, Some, None, subst, sym}
 use Rattle.av1_plan.specs.declared.error.Invalid.{Invalid}
 use Rattle.av1_plan.specs.declared.header.Header.{Header}
-use Rattle.av1_plan.specs.Grammar.{plan_behind}
-use Rattle.av1_plan.specs.Plan.{PlanValue}
+use Rattle.av1_plan.specs.Grammar.{superblocks}
+use Rattle.av1_plan.specs.Plan.{LeafValue, PlanValue}
 use Rattle.av1_plan.specs.Spelling.{AreText}
-use Rattle.av1_plan.specs.Validity.{first_fault}
+use Rattle.av1_plan.specs.Validity.{fault_from, first_fault}
+use Rattle.av1_plan.proofs.Behind.{behind_refused, behind_text}
 use Rattle.av1_sequence.specs.declared.error.FrameError.{FrameError}
 use Rattle.av1_sequence.specs.declared.error.FrameError.TheVariants as errors
 use Rattle.av1_sequence.specs.declared.head.FrameHead.{FrameHead}
 use Rattle.av1_sequence.specs.Frames.{IsFramePlan, frame_header, frame_references, most_bytes, plan_bytes}
 use Rattle.av1_sequence.specs.Kept.{Kept}
-use Rattle.av1_sequence.specs.Outcomes.{Accepts, Refuses, RefusesPart, accepted}
+use Rattle.av1_sequence.specs.Outcomes.{Accepts, Refuses, RefusesPart, accepted, plan_over}
 
--- a part that is refused behind the header and the references of a frame
+-- leaves that the part of a frame spells are a plan over the slots
+pub part_text : (k : Kept) (head : FrameHead) (part : List ℕ) (leaves : List LeafValue) →
+    AreText (superblocks (frame_header k.frames k.slots head)) part leaves → IsFramePlan k.frames k.slots head part (plan_over k head leaves)
+part_text k head part leaves text = behind_text (frame_header k.frames k.slots head) (frame_references k.slots head) part leaves text
+
+-- a part that is refused in a frame with its header
 pub refused_part : (k : Kept) (head : FrameHead) (part : List ℕ) (e : FrameError) → plan_bytes k.frames k.slots head part ≤ most_bytes →
-    RefusesPart (frame_header k.frames k.slots head) (frame_references k.slots head) part e → Refuses k head part e
+    RefusesPart (frame_header k.frames k.slots head) part e → Refuses k head part e
 refused_part k head part errors.TooLarge short why = absurd why
-refused_part k head part (errors.Malformed at) short why = (short, why)
-refused_part k head part (errors.Invalid leaf kind) short why = (short, why)
+refused_part k head part (errors.Malformed at) short why =
+    (short, behind_refused (frame_header k.frames k.slots head) (frame_references k.slots head) part at why)
+refused_part k head part (errors.Invalid leaf kind) short (leaves, text, fault) = (short, (plan_over k head leaves, (part_text k head part leaves text, fault)))
 refused_part k head part errors.Memory short why = short
 
 -- running out of memory
@@ -31,8 +38,7 @@ pub accepts : (k k' : Kept) (head : FrameHead) (part : List ℕ) (plan : PlanVal
     IsFramePlan k.frames k.slots head part plan → first_fault plan ≡ None → k' ≡ accepted k head plan → Accepts k head part k'
 accepts k k' head part plan short text valid is = record { plan = plan; frame = record { short = short; text = text; valid = valid }; kept = is }
 
--- a part that spells a plan with a faulty leaf
-pub refused_leaf : (h : Header) (stored : List (Option (List (List ℕ)))) (part : List ℕ) (plan : PlanValue) (fault : Invalid) (e : FrameError) →
-    AreText (plan_behind h stored) part plan → first_fault plan ≡ Some fault
-    → e ≡ errors.Invalid fault.leaf fault.kind → RefusesPart h stored part e
-refused_leaf h stored part plan fault e text at is = subst (RefusesPart h stored part) (sym is) (plan, (text, at))
+-- a part that spells leaves of which one is faulty
+pub refused_leaf : (h : Header) (part : List ℕ) (leaves : List LeafValue) (fault : Invalid) (e : FrameError) → AreText (superblocks h) part leaves →
+    fault_from h 0 leaves ≡ Some fault → e ≡ errors.Invalid fault.leaf fault.kind → RefusesPart h part e
+refused_leaf h part leaves fault e text at is = subst (RefusesPart h part) (sym is) (leaves, (text, at))

@@ -11,13 +11,13 @@ use Rattle.av1_frame.specs.declared.slots.Slot.{Slot}
 use Rattle.av1_lists.specs.Lists.{by_index}
 use Rattle.av1_lists.proofs.Lists.{by_index-same, get_or-by_index}
 use Rattle.av1_plan.specs.declared.header.Header.{Header}
-use Rattle.av1_plan.specs.Apart.{in_frame}
 use Rattle.av1_plan.specs.Geometry.{plane_width}
-use Rattle.av1_plan.specs.Grammar.{plan as grammar, plan_behind}
-use Rattle.av1_plan.specs.Plan.{PlanValue}
+use Rattle.av1_plan.specs.Grammar.{plan as grammar, superblocks}
+use Rattle.av1_plan.specs.Lengths.{slot_bytes}
+use Rattle.av1_plan.specs.Plan.{LeafValue, PlanValue}
 use Rattle.av1_plan.specs.ReadPlans.{IsReadFrame}
 use Rattle.av1_plan.specs.Spelling.{AreText, IsSpelled}
-use Rattle.av1_plan.specs.Validity.{first_fault}
+use Rattle.av1_plan.specs.Validity.{fault_from, first_fault}
 use Rattle.av1_references.specs.References.{ServesPlan}
 use Rattle.av1_tile.specs.declared.planes.Planes.{Planes}
 use Rattle.av1_tile.specs.Memory.{HasRoomFor, IsPlanOver, ShowsPlan, WalkRoom}
@@ -27,13 +27,13 @@ use Rattle.av1_sequence.specs.declared.head.FrameHead.{FrameHead}
 use Rattle.av1_sequence.specs.declared.last.Last.{Last}
 use Rattle.av1_sequence.specs.declared.last.Last.TheVariants as lasts
 use Rattle.av1_sequence.specs.declared.sequence.Sequence.TheInside.{Inside}
-use Rattle.av1_sequence.specs.Frames.{IsHead, frame_bytes, frame_header, frame_of, frame_references, most_bytes, plan_bytes}
+use Rattle.av1_sequence.specs.Frames.{IsFramePlan, IsHead, frame_header, frame_of, frame_references, most_bytes, plan_bytes}
 use Rattle.av1_sequence.specs.Kept.{AreReady, IsKeptAt, Kept, own, plane_shown, planes_shown, shown_at, shown_in, slots_shown}
 use Rattle.av1_sequence.specs.Last.{last_shown}
 use Rattle.av1_sequence.specs.Outcomes.{Accepts, Refuses, RefusesPart, accepted, plan_over}
 use Rattle.av1_sequence.specs.Output.{IsWritable}
 use Rattle.av1_sequence.specs.Slots.{Frame, Slots, count_of, has_bit, is_read, refreshed, row_in, slot_of}
-use Rattle.av1_sequence.proofs.Answered.{accepts, refused_part}
+use Rattle.av1_sequence.proofs.Answered.{accepts, part_text, refused_part}
 use Rattle.av1_sequence.proofs.Listed.{frame_spelled}
 use Rattle.av1_sequence.proofs.Ready.{frame_shown, ready_after, ready_in, ready_out}
 use Rattle.av1_sequence.proofs.Serving.{read_header, slot_shown}
@@ -90,48 +90,39 @@ module _ (k : Kept) (s : Inside) (view : opened s ≡ k) where
     references_seen = ap (λ (v : Kept). frame_references v.slots head) view
 
     -- the plan is no longer than it may be
-    pub short_seen : (part : List ℕ) (n len : ℕ) → n ≡ count_of (is_read head.slots (slots_shown h fi places)) 8 * frame_bytes h → len ≡ length part →
+    pub short_seen : (part : List ℕ) (n len : ℕ) → n ≡ count_of (is_read head.slots (slots_shown h fi places)) 8 * slot_bytes h → len ≡ length part →
         20 + n + len ≤ 2 ^ 26 → plan_bytes k.frames k.slots head part ≤ most_bytes
     short_seen part n len n_is len_is le =
         subst (λ (v : Kept). plan_bytes v.frames v.slots head part ≤ most_bytes) view
-        (let same : 20 + count_of (is_read head.slots (slots_shown h fi places)) 8 * frame_bytes h + length part ≡ 20 + n + len = rw (n_is, len_is) refl
+        (let same : 20 + count_of (is_read head.slots (slots_shown h fi places)) 8 * slot_bytes h + length part ≡ 20 + n + len = rw (n_is, len_is) refl
         in subst (λ (m : ℕ). m ≤ 2 ^ 26) (sym same) le)
 
     -- what a part is refused for
     pub refused_over : (own_h : Header) (part : List ℕ) → own_h ≡ frame_header h (slots_shown h fi places) head → (e : FrameError) →
         plan_bytes k.frames k.slots head part ≤ most_bytes
-        → ((stored : List (Option (List (List ℕ)))) → RefusesPart own_h stored part e) → Refuses k head part e
+        → RefusesPart own_h part e → Refuses k head part e
     refused_over own_h part own_is e short why =
-        refused_part k head part e short (subst (λ (g : Header). RefusesPart g (frame_references k.slots head) part e) (own_is ∙ own_seen)
-        (why (frame_references k.slots head)))
+        refused_part k head part e short (subst (λ (g : Header). RefusesPart g part e) (own_is ∙ own_seen) why)
 
-    module _ (own_h : Header) (part : List ℕ) (lv : PlanValue) (own_is : own_h ≡ frame_header h (slots_shown h fi places) head) where
+    module _ (own_h : Header) (part : List ℕ) (ls : List LeafValue) (own_is : own_h ≡ frame_header h (slots_shown h fi places) head) where
       -- the leaves of a part are a plan over what is seen
-      over : (P : Header → List (Option Frame) → Type 0) → P own_h (frame_references k.slots head) →
-          P (frame_header k.frames k.slots head) (frame_references k.slots head)
-      over P p = subst (λ (g : Header). P g (frame_references k.slots head)) (own_is ∙ own_seen) p
+      pub text_over : AreText (superblocks own_h) part ls → IsFramePlan k.frames k.slots head part (plan_over k head ls)
+      text_over found = part_text k head part ls (subst (λ (g : Header). AreText (superblocks g) part ls) (own_is ∙ own_seen) found)
 
-      pub text_over : ((stored : List (Option (List (List ℕ)))) → AreText (plan_behind own_h stored) part (in_frame own_h stored lv))
-          → AreText (plan_behind (frame_header k.frames k.slots head) (frame_references k.slots head)) part (plan_over k head lv)
-      text_over found = over (λ g stored. AreText (plan_behind g stored) part (in_frame g stored lv)) (found (frame_references k.slots head))
+      pub valid_over : fault_from own_h 0 ls ≡ None → first_fault (plan_over k head ls) ≡ None
+      valid_over valid = subst (λ (g : Header). fault_from g 0 ls ≡ None) (own_is ∙ own_seen) valid
 
-      pub valid_over : ((stored : List (Option (List (List ℕ)))) → first_fault (in_frame own_h stored lv) ≡ None) → first_fault (plan_over k head lv) ≡ None
-      valid_over valid = over (λ g stored. first_fault (in_frame g stored lv) ≡ None) (valid (frame_references k.slots head))
-
-      pub spelled_over : IsHead head → ((stored : List (Option (List (List ℕ)))) → AreText (plan_behind own_h stored) part (in_frame own_h stored lv)) →
-          ∥ IsSpelled grammar (plan_over k head lv) ∥₁
+      pub spelled_over : IsHead head → AreText (superblocks own_h) part ls → ∥ IsSpelled grammar (plan_over k head ls) ∥₁
       spelled_over is found =
-          subst (λ (v : Kept). ∥ IsSpelled grammar (plan_over v head lv) ∥₁) view
-          ∣ frame_spelled h fi places head s.pictures.keeps is part (plan_over (seen h fi places last) head lv)
-          (subst (λ (g : Header). AreText (plan_behind g (frame_references (slots_shown h fi places) head)) part
-          (in_frame g (frame_references (slots_shown h fi places) head) lv)) own_is (found (frame_references (slots_shown h fi places) head))) ∣₁
+          subst (λ (v : Kept). ∥ IsSpelled grammar (plan_over v head ls) ∥₁) view
+          ∣ frame_spelled h fi places head s.pictures.keeps is part (plan_over (seen h fi places last) head ls)
+          (part_text (seen h fi places last) head part ls (subst (λ (g : Header). AreText (superblocks g) part ls) own_is found)) ∣₁
 
       -- what follows for an answer
       pub accepts_over : (new : Kept) (r : Result (Unit {0}) FrameError) → plan_bytes k.frames k.slots head part ≤ most_bytes →
-          ((stored : List (Option (List (List ℕ)))) → AreText (plan_behind own_h stored) part (in_frame own_h stored lv))
-          → ((stored : List (Option (List (List ℕ)))) → first_fault (in_frame own_h stored lv) ≡ None) → OnOk r (new ≡ accepted k head (plan_over k head lv)) →
+          AreText (superblocks own_h) part ls → fault_from own_h 0 ls ≡ None → OnOk r (new ≡ accepted k head (plan_over k head ls)) →
           OnOk r (Accepts k head part new)
-      accepts_over new (Ok u) short found valid is = accepts k new head part (plan_over k head lv) short (text_over found) (valid_over valid) is
+      accepts_over new (Ok u) short found valid is = accepts k new head part (plan_over k head ls) short (text_over found) (valid_over valid) is
       accepts_over new (Err e) short found valid is = tt
 
     -- the frame's own header
@@ -153,24 +144,24 @@ module _ (k : Kept) (s : Inside) (view : opened s ≡ k) where
     room_over own_h e = subst (λ (g : Header). HasRoomFor g s.memory) (own_seen ∙ sym e) s.room
 
     -- the plan that is walked
-    pub plan_is_over : (own_h : Header) (lv : PlanValue) (set : FrameInvariants ℕ) → own_h ≡ frame_header k.frames k.slots head →
-        ∥ IsSpelled grammar (plan_over k head lv) ∥₁ → first_fault (plan_over k head lv) ≡ None
+    pub plan_is_over : (own_h : Header) (ls : List LeafValue) (set : FrameInvariants ℕ) → own_h ≡ frame_header k.frames k.slots head →
+        ∥ IsSpelled grammar (plan_over k head ls) ∥₁ → first_fault (plan_over k head ls) ≡ None
         → ((plan : PlanValue) → plan.header ≡ frame_header h (slots_shown h fi places) head →
         plan.references ≡ frame_references (slots_shown h fi places) head → ServesPlan own plan set)
-        → IsPlanOver own own_h lv.leaves set (plan_over k head lv)
-    plan_is_over own_h lv set e spelled valid serves = record {
+        → IsPlanOver own own_h ls set (plan_over k head ls)
+    plan_is_over own_h ls set e spelled valid serves = record {
       spelled = spelled;
       valid = valid;
       header = sym e;
       leaves = refl;
-      references = serves (plan_over k head lv) (sym own_seen) (sym references_seen);
+      references = serves (plan_over k head ls) (sym own_seen) (sym references_seen);
     }
 
     -- and what its planes show then
-    pub shown_over : (lv : PlanValue) (h' : Header) (q : Planes ℕ) → h' ≡ h → ShowsPlan own (plan_over k head lv) q →
-        planes_shown h' q.y q.u q.v ≡ frame_of (plan_over k head lv)
-    shown_over lv h' q e shows = ap (λ (g : Header). planes_shown g q.y q.u q.v) (e ∙ header_seen)
-        ∙ frame_shown k.frames k.slots head (plan_over k head lv) q refl shows
+    pub shown_over : (ls : List LeafValue) (h' : Header) (q : Planes ℕ) → h' ≡ h → ShowsPlan own (plan_over k head ls) q →
+        planes_shown h' q.y q.u q.v ≡ frame_of (plan_over k head ls)
+    shown_over ls h' q e shows = ap (λ (g : Header). planes_shown g q.y q.u q.v) (e ∙ header_seen)
+        ∙ frame_shown k.frames k.slots head (plan_over k head ls) q refl shows
 
     result_is : (h' : Header) (slots' : Slots) (last' : Option Frame) (plan : PlanValue) → h' ≡ k.frames →
         slots' ≡ refreshed k.slots head.refresh (frame_of plan) → last' ≡ Some (frame_of plan)
@@ -183,24 +174,24 @@ module _ (k : Kept) (s : Inside) (view : opened s ≡ k) where
             ∙ ap (λ (x : Option Frame). kept_of h2 s2 x) c
 
     -- a frame that replaces no slot
-    pub apart_accepted : (lv : PlanValue) (h' : Header) (set : FrameInvariants ℕ) (places' : List (Option ℕ)) (q : Planes ℕ) → head.refresh ≡ 0 → h' ≡ h →
+    pub apart_accepted : (ls : List LeafValue) (h' : Header) (set : FrameInvariants ℕ) (places' : List (Option ℕ)) (q : Planes ℕ) → head.refresh ≡ 0 → h' ≡ h →
         slots_shown h' set places' ≡ slots_shown h fi places
-        → ShowsPlan own (plan_over k head lv) q → seen h' set places' (Some (planes_shown h' q.y q.u q.v)) ≡ accepted k head (plan_over k head lv)
-    apart_accepted lv h' set places' q none e same shows =
-        result_is h' (slots_shown h' set places') (Some (planes_shown h' q.y q.u q.v)) (plan_over k head lv) (e ∙ header_seen)
-        (same ∙ none_replaced (λ s. shown_in h fi (slice_index_or places s None)) head.refresh (frame_of (plan_over k head lv)) none
-        ∙ ap (λ (ss : Slots). refreshed ss head.refresh (frame_of (plan_over k head lv))) slots_seen)
-        (ap Some (shown_over lv h' q e shows))
+        → ShowsPlan own (plan_over k head ls) q → seen h' set places' (Some (planes_shown h' q.y q.u q.v)) ≡ accepted k head (plan_over k head ls)
+    apart_accepted ls h' set places' q none e same shows =
+        result_is h' (slots_shown h' set places') (Some (planes_shown h' q.y q.u q.v)) (plan_over k head ls) (e ∙ header_seen)
+        (same ∙ none_replaced (λ s. shown_in h fi (slice_index_or places s None)) head.refresh (frame_of (plan_over k head ls)) none
+        ∙ ap (λ (ss : Slots). refreshed ss head.refresh (frame_of (plan_over k head ls))) slots_seen)
+        (ap Some (shown_over ls h' q e shows))
 
     -- a frame that replaces some
-    pub kept_accepted : (lv : PlanValue) (h1 h2 : Header) (set made : FrameInvariants ℕ) (places1 places2 : List (Option ℕ)) (place : ℕ) (q : Planes ℕ) →
+    pub kept_accepted : (ls : List LeafValue) (h1 h2 : Header) (set made : FrameInvariants ℕ) (places1 places2 : List (Option ℕ)) (place : ℕ) (q : Planes ℕ) →
         h1 ≡ h → h2 ≡ h1 → slots_shown h1 set places1 ≡ slots_shown h fi places
         → slots_shown h2 made places2 ≡ refreshed (slots_shown h1 set places1) head.refresh (planes_shown h1 q.y q.u q.v) →
         shown_at h2 made place ≡ Some (planes_shown h1 q.y q.u q.v)
-        → ShowsPlan own (plan_over k head lv) q → seen h2 made places2 (shown_at h2 made place) ≡ accepted k head (plan_over k head lv)
-    kept_accepted lv h1 h2 set made places1 places2 place q e1 e2 same kept shown shows =
-        let f = shown_over lv h1 q e1 shows in
-        result_is h2 (slots_shown h2 made places2) (shown_at h2 made place) (plan_over k head lv) (e2 ∙ e1 ∙ header_seen)
+        → ShowsPlan own (plan_over k head ls) q → seen h2 made places2 (shown_at h2 made place) ≡ accepted k head (plan_over k head ls)
+    kept_accepted ls h1 h2 set made places1 places2 place q e1 e2 same kept shown shows =
+        let f = shown_over ls h1 q e1 shows in
+        result_is h2 (slots_shown h2 made places2) (shown_at h2 made place) (plan_over k head ls) (e2 ∙ e1 ∙ header_seen)
         (kept ∙ ap (λ (ss : Slots). refreshed ss head.refresh (planes_shown h1 q.y q.u q.v)) (same ∙ slots_seen)
         ∙ ap (λ (x : Frame). refreshed k.slots head.refresh x) f)
         (shown ∙ ap Some f)

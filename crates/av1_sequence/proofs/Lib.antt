@@ -20,3 +20,4 @@ pub mod FileOutcomes
 pub mod Showing
 pub mod InTurn
 pub mod Texts
+pub mod PlanLengths

@@ -1,10 +1,11 @@
 -- The plan of a frame, over the slots that the frames before it left.
-use Rattle.std.specs.Prelude.{ℕ, ◌+◌, ◌*◌, ◌<◌, ◌^◌, ◌==◌, List, [], ◌∷◌, Option, None, length, if◌then◌else◌}
+use Rattle.std.specs.Prelude.{◌≡◌, ℕ, ◌+◌, ◌*◌, ◌<◌, ◌^◌, List, [], ◌∷◌, ◌++◌, Option, None, length}
+use Rattle.std.specs.Prelude.{if◌then◌else◌}
 use Rattle.av1_blocks.specs.Filters.{filter_number}
 use Rattle.av1_lists.specs.Lists.{by_index}
 use Rattle.av1_plan.specs.declared.header.Header.{Header}
-use Rattle.av1_plan.specs.Geometry.{plane_len}
-use Rattle.av1_plan.specs.Grammar.{plan_behind}
+use Rattle.av1_plan.specs.Grammar.{header, references, plan_behind}
+use Rattle.av1_plan.specs.Lengths.{slot_bytes}
 use Rattle.av1_plan.specs.Plan.{PlanValue}
 use Rattle.av1_plan.specs.ReadPlans.{AreSlots}
 use Rattle.av1_plan.specs.Spelling.{AreText, AreRefused}
@@ -51,13 +52,18 @@ abbrev pub AreNoFramePlan : (frames : Header) → Slots → FrameHead → (part 
 AreNoFramePlan frames slots head part at =
     AreRefused (plan_behind (frame_header frames slots head) (frame_references slots head)) part at
 
--- how many bytes the samples of a frame are
-abbrev pub frame_bytes : Header → ℕ
-frame_bytes h = (plane_len h 0 + plane_len h 1 + plane_len h 2) * (if h.depth == 8 then 1 else 2)
-
 -- how many bytes the plan is: 20 before its references, the samples of each slot that is read, and the part
 abbrev pub plan_bytes : (frames : Header) → Slots → FrameHead → (part : List ℕ) → ℕ
-plan_bytes frames slots head part = 20 + count_of (is_read head.slots slots) 8 * frame_bytes frames + length part
+plan_bytes frames slots head part = 20 + count_of (is_read head.slots slots) 8 * slot_bytes frames + length part
+
+-- So many it is: the bytes of its header, those of its references and the part, which are its text one behind the
+-- other.
+abbrev pub PlansHaveTheirLength : Type 0
+PlansHaveTheirLength =
+    (frames : Header) (slots : Slots) (head : FrameHead) (front samples part : List ℕ)
+    → AreText header front (frame_header frames slots head)
+    → AreText (references (frame_header frames slots head)) samples (frame_references slots head) →
+    length (front ++ samples ++ part) ≡ plan_bytes frames slots head part
 
 -- the most that a plan may be
 abbrev pub most_bytes : ℕ

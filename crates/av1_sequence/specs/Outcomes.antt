@@ -1,12 +1,11 @@
 -- What a sequence does with a frame.
-use Rattle.std.specs.Prelude.{◌≡◌, ℕ, ◌<◌, ◌≤◌, false, List, Some, None, Option, replicate}
+use Rattle.std.specs.Prelude.{◌≡◌, ℕ, ◌<◌, ◌≤◌, false, List, Some, None, replicate}
 use Rattle.av1_blocks.specs.declared.mc.FilterMode.TheVariants.{REGULAR}
 use Rattle.av1_plan.specs.declared.header.Header.{Header}
-use Rattle.av1_plan.specs.Apart.{in_frame}
-use Rattle.av1_plan.specs.Grammar.{plan_behind}
-use Rattle.av1_plan.specs.Plan.{PlanValue}
+use Rattle.av1_plan.specs.Grammar.{superblocks}
+use Rattle.av1_plan.specs.Plan.{LeafValue, PlanValue}
 use Rattle.av1_plan.specs.Spelling.{AreText, AreRefused}
-use Rattle.av1_plan.specs.Validity.{first_fault}
+use Rattle.av1_plan.specs.Validity.{fault_from, first_fault}
 use Rattle.av1_sequence.specs.declared.error.FrameError.{FrameError}
 use Rattle.av1_sequence.specs.declared.error.FrameError.TheVariants as errors
 use Rattle.av1_sequence.specs.declared.head.FrameHead.{FrameHead}
@@ -69,14 +68,18 @@ new_sequence width height depth sampling =
     record { frames = frames_of width height depth sampling; slots = replicate 8 None; last = None }
 
 -- The leaves of a frame as a plan over the slots that a sequence keeps: a word of private contracts.
-abbrev pub plan_over : Kept → FrameHead → (leaves : PlanValue) → PlanValue
-plan_over k head leaves = in_frame (frame_header k.frames k.slots head) (frame_references k.slots head) leaves
+abbrev pub plan_over : Kept → FrameHead → List LeafValue → PlanValue
+plan_over k head leaves = record {
+  header = frame_header k.frames k.slots head;
+  references = frame_references k.slots head;
+  leaves = leaves;
+}
 
--- why a part is refused behind a header and references: a word of a private contract
-abbrev pub RefusesPart : Header → (stored : List (Option (List (List ℕ)))) → (part : List ℕ) → FrameError → Type 0
-RefusesPart h stored part errors.TooLarge = ⊥
-RefusesPart h stored part (errors.Malformed at) = AreRefused (plan_behind h stored) part at
-RefusesPart h stored part (errors.Invalid leaf kind) =
-    (plan : PlanValue) ×
-    (AreText (plan_behind h stored) part plan × (first_fault plan ≡ Some (record { leaf = leaf; kind = kind })))
-RefusesPart h stored part errors.Memory = Unit {0}
+-- why a part is refused in a frame with this header: a word of a private contract
+abbrev pub RefusesPart : Header → (part : List ℕ) → FrameError → Type 0
+RefusesPart h part errors.TooLarge = ⊥
+RefusesPart h part (errors.Malformed at) = AreRefused (superblocks h) part at
+RefusesPart h part (errors.Invalid leaf kind) =
+    (leaves : List LeafValue) ×
+    (AreText (superblocks h) part leaves × (fault_from h 0 leaves ≡ Some (record { leaf = leaf; kind = kind })))
+RefusesPart h part errors.Memory = Unit {0}

@@ -2,6 +2,7 @@
 
 ghost use Rattle.av1_sequence.specs.Calls.{AcceptedAloneCount};
 ghost use Rattle.av1_sequence.specs.Files.{BytesHaveAnOutcome, OutcomesAreOne};
+ghost use Rattle.av1_sequence.specs.Frames.{PlansHaveTheirLength};
 ghost use Rattle.av1_sequence.specs.Texts.{FoundAtText, RefusedAtLongest};
 
 /// A law: after any list of calls of [`Sequence::frame`](crate::Sequence::frame) the slots are those before, replaced
@@ -23,4 +24,11 @@ pub fn sequence_outcome_laws()
 pub fn sequences_are_texts()
     ensures found { FoundAtText }
     ensures refused { RefusedAtLongest }
+{}
+
+/// A law: the plan of a frame is as long as [`Sequence::frame`](crate::Sequence::frame) says before it refuses one as
+/// `TooLarge`. The bytes of its header, those of its references and the part are the text of the plan, one behind the
+/// other ([`av1_plan::pieces_are_a_plan`]).
+pub fn plans_have_their_length()
+    ensures { PlansHaveTheirLength }
 {}

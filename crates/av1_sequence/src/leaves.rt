@@ -1,16 +1,15 @@
 //! The leaves that the part of a frame spells.
 
-ghost use Rattle.std.specs.Prelude.{◌≡◌, ℕ, ◌≤◌, ◌^◌, List, Option, None, length, IfOk, IfErr};
-ghost use Rattle.av1_plan.specs.Answer.{plan_value};
-ghost use Rattle.av1_plan.specs.Apart.{in_frame};
-ghost use Rattle.av1_plan.specs.Grammar.{plan_behind};
+ghost use Rattle.std.specs.Prelude.{◌≡◌, ◌≤◌, ◌^◌, None, length, IfOk, IfErr};
+ghost use Rattle.av1_plan.specs.Answer.{leaves_value};
+ghost use Rattle.av1_plan.specs.Grammar.{superblocks};
 ghost use Rattle.av1_plan.specs.ReadPlans.{IsReadFrame};
 ghost use Rattle.av1_plan.specs.Spelling.{AreText};
-ghost use Rattle.av1_plan.specs.Validity.{first_fault};
+ghost use Rattle.av1_plan.specs.Validity.{fault_from};
 ghost use Rattle.av1_sequence.specs.Outcomes.{RefusesPart};
 
 use crate::error::FrameError;
-use av1_plan::{Header, Invalid, Plan, PlanError, check_leaves, parse_leaves_apart};
+use av1_plan::{Header, Invalid, Leaves, PlanError, check_leaves, parse_leaves};
 use std::alloc::Global;
 
 /// What a faulty leaf is for its frame.
@@ -23,16 +22,15 @@ fn refusal(invalid: Invalid) -> FrameError
     }
 }
 
-/// The leaves that a part spells behind a header, where they are valid.
-pub fn read_leaves(alloc: Global, header: &Header, part: &[u8]) -> Result<Plan, FrameError>
+/// The leaves that a part spells in a frame with this header, where they are valid.
+pub fn read_leaves(alloc: Global, header: &Header, part: &[u8]) -> Result<Leaves, FrameError>
     requires short { length part.now ≤ 2 ^ 26 }
     requires frame { IsReadFrame header.now }
-    ensures found { (stored : List (Option (List (List ℕ)))) →
-        IfOk result (λ p. AreText (plan_behind header.now stored) part.now (in_frame header.now stored (plan_value p))) }
-    ensures valid { (stored : List (Option (List (List ℕ)))) → IfOk result (λ p. first_fault (in_frame header.now stored (plan_value p)) ≡ None) }
-    ensures refused { (stored : List (Option (List (List ℕ)))) → IfErr result (λ e. RefusesPart header.now stored part.now e) }
+    ensures found { IfOk result (λ l. AreText (superblocks header.now) part.now (leaves_value l)) }
+    ensures valid { IfOk result (λ l. fault_from header.now 0 (leaves_value l) ≡ None) }
+    ensures refused { IfErr result (λ e. RefusesPart header.now part.now e) }
 {
-    let leaves = match parse_leaves_apart(alloc, header, part) {
+    let leaves = match parse_leaves(alloc, header, part) {
         Ok(leaves) => leaves,
         Err(PlanError::Malformed { at }) => return Err(FrameError::Malformed { at }),
         Err(PlanError::Memory) => return Err(FrameError::Memory),

@@ -32,6 +32,8 @@ pub use container::read_sequence;
 pub use error::{FrameError, FrameFault, SequenceError};
 pub use file::{FrameText, SequenceFile};
 pub use head::FrameHead;
-pub use laws::{accepted_alone_count, sequence_outcome_laws, sequences_are_texts};
+pub use laws::{
+    accepted_alone_count, plans_have_their_length, sequence_outcome_laws, sequences_are_texts,
+};
 pub use reconstruct::reconstruct_sequence;
 pub use sequence::Sequence;

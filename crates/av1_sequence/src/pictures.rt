@@ -9,7 +9,8 @@ ghost use Rattle.std.specs.Option.{option_map};
 ghost use Rattle.av1_plan.specs.Geometry.{plane_len, plane_height, plane_width};
 ghost use Rattle.av1_plan.specs.Plan.{PlanValue};
 ghost use Rattle.av1_references.specs.References.{ServesPlan};
-ghost use Rattle.av1_sequence.specs.Frames.{IsHead, frame_bytes, frame_header, frame_references};
+ghost use Rattle.av1_plan.specs.Lengths.{slot_bytes};
+ghost use Rattle.av1_sequence.specs.Frames.{IsHead, frame_header, frame_references};
 ghost use Rattle.av1_sequence.specs.Kept.{AreFrames, AreReady, IsKeptAt, KeepsFrames, own, plane_shown, planes_shown, shown_at, slots_shown};
 ghost use Rattle.av1_sequence.specs.Output.{IsWritable};
 ghost use Rattle.av1_sequence.specs.Slots.{Frame, bits_of, count_of, has_bit, is_named, is_read, refreshed, row_in};
@@ -48,7 +49,7 @@ fn plane_samples(header: &Header, p: usize) -> usize
 /// How many bytes the samples of a frame are: one a sample at depth 8, else two.
 fn frame_bytes(header: &Header) -> usize
     requires { AreFrames header.now }
-    ensures value { result ≡ frame_bytes header.now }
+    ensures value { result ≡ slot_bytes header.now }
     ensures few { result ≤ 2 ^ 25 }
 {
     let samples = plane_samples(header, 0) + plane_samples(header, 1) + plane_samples(header, 2);
@@ -229,7 +230,7 @@ impl Pictures {
     /// How many bytes the reference samples of a frame with this head are.
     #[tactic(auto, using(crate::proofs::Sizes::eight_times))]
     pub fn reference_bytes(&self, head: &FrameHead) -> usize
-        ensures value { result ≡ count_of (is_read head.now.slots (slots_shown self.now.header self.now.fi self.now.places)) 8 * frame_bytes self.now.header }
+        ensures value { result ≡ count_of (is_read head.now.slots (slots_shown self.now.header self.now.fi self.now.places)) 8 * slot_bytes self.now.header }
         ensures few { result ≤ 2 ^ 28 }
     {
         self.count(head) * frame_bytes(&self.header)

@@ -16,7 +16,7 @@ use crate::leaves::read_leaves;
 use crate::pictures::Pictures;
 use av1_blocks::{FilterMode, OutOfMemory};
 use av1_frame::Plane;
-use av1_plan::{Header, Plan};
+use av1_plan::{Header, Leaves};
 use av1_tile::{Planes, WalkMemory, visible_row};
 use std::alloc::Global;
 use std::marker::Model;
@@ -91,7 +91,7 @@ impl Model for Sequence {
 impl Sequence {
     ghost use Rattle.std.specs.Prelude.{◌≡◌, ℕ, ◌<◌, ◌≤◌, ◌^◌, [], None, Some, length, option_map, slice_index_or, IfOk, IfErr, IfNone, IfSome, OnOk};
     ghost use Rattle.av1_blocks.specs.Depths.{IsDepth};
-    ghost use Rattle.av1_plan.specs.Answer.{plan_value};
+    ghost use Rattle.av1_plan.specs.Answer.{leaves_value};
     ghost use Rattle.av1_plan.specs.Geometry.{plane_height, plane_width};
     ghost use Rattle.av1_plan.specs.Grammar.{plan as grammar};
     ghost use Rattle.av1_plan.specs.ReadPlans.{IsSide};
@@ -174,12 +174,12 @@ impl Sequence {
     }
 
     // Reconstructs the leaves of a frame, and keeps it.
-    fn show(&mut self, header: &Header, head: &FrameHead, leaves: &Plan) -> Result<(), FrameError>
+    fn show(&mut self, header: &Header, head: &FrameHead, leaves: &Leaves) -> Result<(), FrameError>
         requires head { IsHead head.now }
         requires header { header.now ≡ frame_header self.old.frames self.old.slots head.now }
-        requires spelled { ∥ IsSpelled grammar (plan_over self.old head.now (plan_value leaves.now)) ∥₁ }
-        requires valid { first_fault (plan_over self.old head.now (plan_value leaves.now)) ≡ None }
-        ensures accepted { OnOk result (self.new ≡ accepted self.old head.now (plan_over self.old head.now (plan_value leaves.now))) }
+        requires spelled { ∥ IsSpelled grammar (plan_over self.old head.now (leaves_value leaves.now)) ∥₁ }
+        requires valid { first_fault (plan_over self.old head.now (leaves_value leaves.now)) ≡ None }
+        ensures accepted { OnOk result (self.new ≡ accepted self.old head.now (plan_over self.old head.now (leaves_value leaves.now))) }
         ensures unchanged { IfErr result (λ e. self.new ≡ self.old) }
         ensures memory { IfErr result (λ e. e ≡ FrameError.Memory) }
     {

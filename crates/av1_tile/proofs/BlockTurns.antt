@@ -40,7 +40,7 @@ use Rattle.av1_tile.specs.Edge.{known, known_above, known_left}
 use Rattle.av1_tile.specs.PlaneBlocks.{extent_of, number, block_told}
 use Rattle.av1_tile.specs.Walk.{edge_by_place}
 use Rattle.av1_tile.specs.Steps.{PlaneStep, in_component, joined, steps_at}
-use Rattle.av1_tile.proofs.PreparedEdges.{KnowsSides}
+use Rattle.av1_tile.specs.Lookups.{KnowsSides}
 use Rattle.av1_tile.proofs.UnitSteps.{number_units, pieces_kept, unit_of, units, units_joined}
 
 -- ---- the steps before it

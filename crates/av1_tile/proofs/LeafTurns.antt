@@ -46,7 +46,7 @@ use Rattle.av1_tile.proofs.UnitSteps.{plan_units, plane_units}
 use Rattle.av1_tile.proofs.Units.{StepFits, all_append, covered, joined_fit, in_component_fit, part_fits, steps_fit}
 
 -- P of each item of two lists, one behind the other
-each_append : {A : Type 0} (P : List A → A → Type 0) (before xs ys : List A) → Each P before xs → Each P (before ++ xs) ys → Each P before (xs ++ ys)
+pub each_append : {A : Type 0} (P : List A → A → Type 0) (before xs ys : List A) → Each P before xs → Each P (before ++ xs) ys → Each P before (xs ++ ys)
 each_append P before [] ys first second = subst (λ (l : List _). Each P l ys) (append-nil before) second
 each_append P before (x ∷ xs) ys first second =
     (first.0, each_append P (before ++ x ∷ []) xs ys first.1 (subst (λ (l : List _). Each P l ys) (sym (append_assoc before (x ∷ []) xs)) second))

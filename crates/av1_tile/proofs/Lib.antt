@@ -30,3 +30,4 @@ pub mod PlansOver
 pub mod FilledPlanes
 pub mod Examples
 pub mod Versions
+pub mod Lookups

@@ -118,7 +118,7 @@ all_placed num h planes s V = s.v.place
 -- ---- its plan
 
 -- a valid plan in a plane: its leaves are valid and stand in coding order
-coded : (plan : PlanValue) → first_fault plan ≡ None → IsSpelled grammar plan → (p : ℕ) → IsCodedPlan plan.header p plan.leaves
+pub coded : (plan : PlanValue) → first_fault plan ≡ None → IsSpelled grammar plan → (p : ℕ) → IsCodedPlan plan.header p plan.leaves
 coded plan valid s p = record {
   frame = whole_frame plan.header (spelled_frame plan s);
   grid = λ k d within. (spelled_leaves plan s k d within).grid;

@@ -1,4 +1,4 @@
--- The leaves of a plan in memory, what the plan says of them, and what the record of cells tells of those before one.
+-- Leaves in memory, what is said of them, and what the record of cells tells of those before one.
 use Rattle.std.proofs.Common.{ℕ, ◌+◌, ◌-◌, ◌/◌, ◌<◌, ◌≡◌, take, All, Bool, true, false, List, [], ◌∷◌, ◌++◌, length, get_or, refl, ap, arith, ◌∙◌, sym, subst}
 use Rattle.std.proofs.Common.{if◌then◌else◌, slice_index_or, append_assoc, Option, Some, None}
 use Rattle.std.specs.Prelude.{nat_lt}
@@ -21,10 +21,10 @@ use Rattle.av1_plan.specs.declared.geometry.PlaneArea.{PlaneArea}
 use Rattle.av1_plan.specs.declared.header.Header.{Header}
 use Rattle.av1_plan.specs.declared.leaf.Leaf.{Leaf}
 use Rattle.av1_plan.specs.declared.leaf.Triple.{Triple}
-use Rattle.av1_plan.specs.declared.plan.Plan.{Plan}
-use Rattle.av1_plan.specs.Answer.{plan_value, stored_leaves, stored_triples}
+use Rattle.av1_plan.specs.declared.leaves.Leaves.{Leaves}
+use Rattle.av1_plan.specs.Answer.{leaf_list, leaves_value, triple_list}
 use Rattle.av1_plan.specs.Geometry.{carries_chroma, covers_plane, plane_area, plane_width, plane_height, xdec, ydec}
-use Rattle.av1_plan.specs.Plan.{LeafValue, PlanValue, leaf_value, leaf_values, triples_of}
+use Rattle.av1_plan.specs.Plan.{LeafValue, leaf_triples, leaf_value, leaf_values}
 use Rattle.av1_tile.specs.declared.plane_block.PlaneBlock.{PlaneBlock}
 use Rattle.av1_tile.specs.declared.planes.Planes.{Planes}
 use Rattle.av1_tile.specs.Canvas.{Component, Y, U, V}
@@ -37,13 +37,13 @@ use Rattle.av1_tile.proofs.UnitSteps.{covers, covers_is}
 -- ---- leaves in memory
 
 -- the triples of a leaf, looked up by its number
-pub triples_at : (p : PlanValue) (i : ℕ) (l : LeafValue) (k : Component) → i < length p.leaves → l ≡ get_or p.leaves i l →
-    triples_of p i (number k) ≡ triples_in k l
-triples_at p i l k h e =
-    ap (λ (xs : List (List Triple)). slice_index_or xs (number k) []) (get_or-map (λ (m : LeafValue). m.triples) p.leaves i l [] h)
+pub triples_at : (ls : List LeafValue) (i : ℕ) (l : LeafValue) (k : Component) → i < length ls → l ≡ get_or ls i l →
+    leaf_triples ls i (number k) ≡ triples_in k l
+triples_at ls i l k h e =
+    ap (λ (xs : List (List Triple)). slice_index_or xs (number k) []) (get_or-map (λ (m : LeafValue). m.triples) ls i l [] h)
     ∙ ap (λ (m : LeafValue). triples_in k m) (sym e)
 
--- the leaf at a place, as the plan says it
+-- the leaf at a place, as it is said
 leaf_at : (ts : List Triple) (ls : List Leaf) (i : ℕ) (l : Leaf) → i < length ls → l ≡ get_or ls i l →
     leaf_value ts l ≡ get_or (leaf_values ts ls) i (leaf_value ts l)
 unfolding leaf_values
@@ -53,40 +53,41 @@ pub length_leaves : (ts : List Triple) (ls : List Leaf) → length (leaf_values 
 unfolding leaf_values
 length_leaves ts ls = length-map ls (leaf_value ts)
 
--- leaf i of a plan and its triples, as the plan says them
-pub record IsLeafAt (plan : Plan) (i : ℕ) (l : Leaf) (y u v : List Triple) : Type 0 where
-  pub inside : i < length (plan_value plan).leaves
-  pub is : leaf_value (stored_triples plan) l ≡ get_or (plan_value plan).leaves i (leaf_value (stored_triples plan) l)
-  pub y_is : y ≡ triples_in Y (leaf_value (stored_triples plan) l)
-  pub u_is : u ≡ triples_in U (leaf_value (stored_triples plan) l)
-  pub v_is : v ≡ triples_in V (leaf_value (stored_triples plan) l)
+-- leaf i and its triples, as they are said
+pub record IsLeafAt (leaves : Leaves) (i : ℕ) (l : Leaf) (y u v : List Triple) : Type 0 where
+  pub inside : i < length (leaves_value leaves)
+  pub is : leaf_value (triple_list leaves) l ≡ get_or (leaves_value leaves) i (leaf_value (triple_list leaves) l)
+  pub y_is : y ≡ triples_in Y (leaf_value (triple_list leaves) l)
+  pub u_is : u ≡ triples_in U (leaf_value (triple_list leaves) l)
+  pub v_is : v ≡ triples_in V (leaf_value (triple_list leaves) l)
 
-pub is_leaf_at : (plan : Plan) (i : ℕ) (xs : List Leaf) (d : Leaf) (y u v : List Triple) → xs ≡ stored_leaves plan → i < length xs →
-    y ≡ triples_of (plan_value plan) i 0 → u ≡ triples_of (plan_value plan) i 1 → v ≡ triples_of (plan_value plan) i 2 → IsLeafAt plan i (get_or xs i d) y u v
-is_leaf_at plan i xs d y u v are inside y_is u_is v_is =
-    let ts = stored_triples plan in
-    let ls = stored_leaves plan in
+pub is_leaf_at : (leaves : Leaves) (i : ℕ) (xs : List Leaf) (d : Leaf) (y u v : List Triple) → xs ≡ leaf_list leaves → i < length xs →
+    y ≡ leaf_triples (leaves_value leaves) i 0 → u ≡ leaf_triples (leaves_value leaves) i 1 → v ≡ leaf_triples (leaves_value leaves) i 2 →
+    IsLeafAt leaves i (get_or xs i d) y u v
+is_leaf_at leaves i xs d y u v are inside y_is u_is v_is =
+    let ts = triple_list leaves in
+    let ls = leaf_list leaves in
     let l = get_or xs i d in
     let short : i < length ls = subst (λ (ys : List Leaf). i < length ys) are inside in
-    let within : i < length (plan_value plan).leaves = subst (λ (n : ℕ). i < n) (sym (length_leaves ts ls)) short in
-    let is : leaf_value ts l ≡ get_or (plan_value plan).leaves i (leaf_value ts l) =
+    let within : i < length (leaves_value leaves) = subst (λ (n : ℕ). i < n) (sym (length_leaves ts ls)) short in
+    let is : leaf_value ts l ≡ get_or (leaves_value leaves) i (leaf_value ts l) =
     leaf_at ts ls i l short (ap (λ (ys : List Leaf). get_or ys i d) are ∙ get_or_default ls i d l short) in
     record {
       inside = within;
       is = is;
-      y_is = y_is ∙ triples_at (plan_value plan) i (leaf_value ts l) Y within is;
-      u_is = u_is ∙ triples_at (plan_value plan) i (leaf_value ts l) U within is;
-      v_is = v_is ∙ triples_at (plan_value plan) i (leaf_value ts l) V within is;
+      y_is = y_is ∙ triples_at (leaves_value leaves) i (leaf_value ts l) Y within is;
+      u_is = u_is ∙ triples_at (leaves_value leaves) i (leaf_value ts l) U within is;
+      v_is = v_is ∙ triples_at (leaves_value leaves) i (leaf_value ts l) V within is;
     }
 
 with_same : (l : Leaf) (y u v a b c : List Triple) → y ≡ a → u ≡ b → v ≡ c → leaf_with l y u v ≡ leaf_with l a b c
 with_same l y u v a b c e f g = ap (λ (t : List Triple). leaf_with l t u v) e ∙ ap (λ (t : List Triple). leaf_with l a t v) f
     ∙ ap (λ (t : List Triple). leaf_with l a b t) g
 
--- the leaf as it was read, and as the plan says it
-pub read_is : (plan : Plan) (i : ℕ) (l : Leaf) (y u v : List Triple) → IsLeafAt plan i l y u v → let w = leaf_value (stored_triples plan) l
+-- the leaf as it was read, and as it is said
+pub read_is : (leaves : Leaves) (i : ℕ) (l : Leaf) (y u v : List Triple) → IsLeafAt leaves i l y u v → let w = leaf_value (triple_list leaves) l
     in leaf_with l y u v ≡ leaf_with l (triples_in Y w) (triples_in U w) (triples_in V w)
-read_is plan i l y u v a = with_same l y u v _ _ _ a.y_is a.u_is a.v_is
+read_is leaves i l y u v a = with_same l y u v _ _ _ a.y_is a.u_is a.v_is
 
 -- ---- a leaf's steps read no more of it
 
@@ -244,44 +245,44 @@ same_block h filter Y ts l y u v = refl
 same_block h filter U ts l y u v = refl
 same_block h filter V ts l y u v = refl
 
--- the steps of leaf i as it was read are those of the plan's leaf
-pub leaf_read : (plan : Plan) (h : Header) (i : ℕ) (l : Leaf) (y u v : List Triple) (f g : Told) → IsLeafAt plan i l y u v → IsWholeFrame h
-    → ((k : Component) → covers k (carries_chroma h l.x l.y l.size) ≡ true → Begins h k (leaf_value (stored_triples plan) l)) → TellSame h f g
-    → leaf_steps_by h f (leaf_with l y u v) ≡ leaf_steps_by h g (leaf_value (stored_triples plan) l)
-leaf_read plan h i l y u v f g a frame begins same =
-    let w = leaf_value (stored_triples plan) l in
+-- the steps of leaf i as it was read are those of the leaf as it is said
+pub leaf_read : (leaves : Leaves) (h : Header) (i : ℕ) (l : Leaf) (y u v : List Triple) (f g : Told) → IsLeafAt leaves i l y u v → IsWholeFrame h
+    → ((k : Component) → covers k (carries_chroma h l.x l.y l.size) ≡ true → Begins h k (leaf_value (triple_list leaves) l)) → TellSame h f g
+    → leaf_steps_by h f (leaf_with l y u v) ≡ leaf_steps_by h g (leaf_value (triple_list leaves) l)
+leaf_read leaves h i l y u v f g a frame begins same =
+    let w = leaf_value (triple_list leaves) l in
     same_steps h (leaf_with l y u v) w (λ k. block_by h f k (leaf_with l y u v)) (λ k. block_by h g k w) refl
-    (λ k e. same_block h (filter_by h f k (leaf_with l y u v)) k (stored_triples plan) l y u v
+    (λ k e. same_block h (filter_by h f k (leaf_with l y u v)) k (triple_list leaves) l y u v
     ∙ ap (λ (z : Option IntraEdgeFilterParameters). block_told h z k w)
     (parameters_same h (number k) (plane_area h l.x l.y l.size l.tx_size (number k)) f g frame same (begins k e).column (begins k e).row))
     own
   where
-    own : (k : Component) → triples_in k (leaf_with l y u v) ≡ triples_in k (leaf_value (stored_triples plan) l)
+    own : (k : Component) → triples_in k (leaf_with l y u v) ≡ triples_in k (leaf_value (triple_list leaves) l)
     own Y = a.y_is
     own U = a.u_is
     own V = a.v_is
 
 -- what is reconstructed with one more leaf
-pub leaf_more : {S : Type 0} (step : S → PlaneStep → S) (plan : Plan) (h : Header) (i : ℕ) (w : LeafValue) (told : Told) (p q r : S) →
-    i < length (plan_value plan).leaves → w ≡ get_or (plan_value plan).leaves i w
-    → q ≡ fold step p (steps_by h told (take i (plan_value plan).leaves))
-    → r ≡ fold step q (leaf_steps_by h (with_leaves told (take i (plan_value plan).leaves)) w)
-    → r ≡ fold step p (steps_by h told (take (i + 1) (plan_value plan).leaves))
-leaf_more step plan h i w told p q r inside is before own =
-    let xs = (plan_value plan).leaves in
+pub leaf_more : {S : Type 0} (step : S → PlaneStep → S) (leaves : Leaves) (h : Header) (i : ℕ) (w : LeafValue) (told : Told) (p q r : S) →
+    i < length (leaves_value leaves) → w ≡ get_or (leaves_value leaves) i w
+    → q ≡ fold step p (steps_by h told (take i (leaves_value leaves)))
+    → r ≡ fold step q (leaf_steps_by h (with_leaves told (take i (leaves_value leaves))) w)
+    → r ≡ fold step p (steps_by h told (take (i + 1) (leaves_value leaves)))
+leaf_more step leaves h i w told p q r inside is before own =
+    let xs = leaves_value leaves in
     let next : steps_by h told (take (i + 1) xs) ≡ steps_by h told (take i xs) ++ leaf_steps_by h (with_leaves told (take i xs)) w =
     ap (steps_by h told) (take_more xs i w inside ∙ ap (λ (m : LeafValue). take i xs ++ m ∷ []) (sym is)) ∙ steps_by_more h told (take i xs) w in
     own ∙ ap (λ (z : _). fold step z (leaf_steps_by h (with_leaves told (take i xs)) w)) before
     ∙ sym (fold-append step p (steps_by h told (take i xs)) (leaf_steps_by h (with_leaves told (take i xs)) w)) ∙ ap (fold step p) (sym next)
 
 -- what is told once leaf i is noted
-pub told_more : (plan : Plan) (h : Header) (i : ℕ) (l : Leaf) (told : Told) (old new : Told) → i < length (plan_value plan).leaves →
-    leaf_value (stored_triples plan) l ≡ get_or (plan_value plan).leaves i (leaf_value (stored_triples plan) l)
-    → TellSame h old (with_leaves told (take i (plan_value plan).leaves)) → TellSame h new (with_leaf old (leaf_with l [] [] []))
-    → TellSame h new (with_leaves told (take (i + 1) (plan_value plan).leaves))
-told_more plan h i l told old new inside is before own cx cy hx hy =
-    let xs = (plan_value plan).leaves in
-    let w = leaf_value (stored_triples plan) l in
+pub told_more : (leaves : Leaves) (h : Header) (i : ℕ) (l : Leaf) (told : Told) (old new : Told) → i < length (leaves_value leaves) →
+    leaf_value (triple_list leaves) l ≡ get_or (leaves_value leaves) i (leaf_value (triple_list leaves) l)
+    → TellSame h old (with_leaves told (take i (leaves_value leaves))) → TellSame h new (with_leaf old (leaf_with l [] [] []))
+    → TellSame h new (with_leaves told (take (i + 1) (leaves_value leaves)))
+told_more leaves h i l told old new inside is before own cx cy hx hy =
+    let xs = leaves_value leaves in
+    let w = leaf_value (triple_list leaves) l in
     let next : with_leaves told (take (i + 1) xs) ≡ with_leaf (with_leaves told (take i xs)) w =
     ap (λ (ms : List LeafValue). fold with_leaf told ms) (take_more xs i w inside ∙ ap (λ (m : LeafValue). take i xs ++ m ∷ []) (sym is))
     ∙ fold_push with_leaf told (take i xs) w in
@@ -327,26 +328,26 @@ fits_listed h p ts l f = record {
 }
 
 -- leaf i fits as it was read
-pub turn_fits : {T : Type 0} (plan : Plan) (h : Header) (i : ℕ) (l : Leaf) (y u v : List Triple) (p q : Planes T) → IsLeafAt plan i l y u v → SameLayout p q →
-    All (LeafFits h p) (plan_value plan).leaves
+pub turn_fits : {T : Type 0} (leaves : Leaves) (h : Header) (i : ℕ) (l : Leaf) (y u v : List Triple) (p q : Planes T) → IsLeafAt leaves i l y u v →
+    SameLayout p q → All (LeafFits h p) (leaves_value leaves)
     → LeafFits h q (leaf_with l y u v)
-turn_fits plan h i l y u v p q a same fits =
-    let ts = stored_triples plan in
+turn_fits leaves h i l y u v p q a same fits =
+    let ts = triple_list leaves in
     let w = leaf_value ts l in
     let own : LeafFits h q w = fits_kept h p q w same (subst (λ (m : LeafValue). LeafFits h p m) (sym a.is) (fits i w a.inside)) in
-    subst (λ (m : LeafValue). LeafFits h q m) (sym (read_is plan i l y u v a)) (fits_listed h q ts l own)
+    subst (λ (m : LeafValue). LeafFits h q m) (sym (read_is leaves i l y u v a)) (fits_listed h q ts l own)
 
 -- and begins in the planes that it covers
-pub turn_begins : {T : Type 0} (plan : Plan) (h : Header) (i : ℕ) (l : Leaf) (y u v : List Triple) (p : Planes T) → IsLeafAt plan i l y u v →
-    All (LeafFits h p) (plan_value plan).leaves
-    → (k : Component) → covers k (carries_chroma h l.x l.y l.size) ≡ true → Begins h k (leaf_value (stored_triples plan) l)
-turn_begins plan h i l y u v p a fits k =
-    let w = leaf_value (stored_triples plan) l in
+pub turn_begins : {T : Type 0} (leaves : Leaves) (h : Header) (i : ℕ) (l : Leaf) (y u v : List Triple) (p : Planes T) → IsLeafAt leaves i l y u v →
+    All (LeafFits h p) (leaves_value leaves)
+    → (k : Component) → covers k (carries_chroma h l.x l.y l.size) ≡ true → Begins h k (leaf_value (triple_list leaves) l)
+turn_begins leaves h i l y u v p a fits k =
+    let w = leaf_value (triple_list leaves) l in
     let own : LeafFits h p w = subst (λ (m : LeafValue). LeafFits h p m) (sym a.is) (fits i w a.inside) in
     go own k
   where
-    go : LeafFits h p (leaf_value (stored_triples plan) l) → (c : Component) → covers c (carries_chroma h l.x l.y l.size) ≡ true →
-        Begins h c (leaf_value (stored_triples plan) l)
+    go : LeafFits h p (leaf_value (triple_list leaves) l) → (c : Component) → covers c (carries_chroma h l.x l.y l.size) ≡ true →
+        Begins h c (leaf_value (triple_list leaves) l)
     go own Y e = own.begins_y
     go own U e = own.begins_u e
     go own V e = own.begins_v e

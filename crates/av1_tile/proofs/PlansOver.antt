@@ -54,19 +54,20 @@ module _ {T : Type 0} (num : T → ℕ) (h : Header) (leaves : List LeafValue) (
       (counted ∙ ap (λ (k : Header). fold edges_after count (steps_by k told leaves)) (sym is.header)
       ∙ ap (λ (ls : List LeafValue). fold edges_after count (steps_by plan.header told ls)) (sym is.leaves))
 
--- a plan in memory, whose references frame settings hold
-pub read_over : {T : Type 0} (num : T → ℕ) (plan : Plan) (h : Header) (fi : FrameInvariants T) → h ≡ (plan_value plan).header →
-    first_fault (plan_value plan) ≡ None → HoldsReferences num (plan_value plan) fi
-    → IsPlanOver num h (plan_value plan).leaves fi (plan_value plan)
-read_over num plan h fi same valid holds =
-    record { spelled = plan.spelled; valid = valid; header = sym same; leaves = refl; references = holds_serves num (plan_value plan) fi holds }
+-- a plan in memory with these leaves, whose references frame settings hold
+pub read_over : {T : Type 0} (num : T → ℕ) (plan : Plan) (own : List LeafValue) (h : Header) (fi : FrameInvariants T) → own ≡ (plan_value plan).leaves →
+    h ≡ (plan_value plan).header → first_fault (plan_value plan) ≡ None → HoldsReferences num (plan_value plan) fi
+    → IsPlanOver num h own fi (plan_value plan)
+read_over num plan own h fi are same valid holds =
+    record { spelled = plan.spelled; valid = valid; header = sym same; leaves = sym are; references = holds_serves num (plan_value plan) fi holds }
 
 -- or a state with its header
-pub state_over : {T : Type 0} (num : T → ℕ) (plan : Plan) (s : Picture T) (h : Header) (fi : FrameInvariants T) (planes : Planes T) (edges : ℕ)
-    → record { header = h; references = fi; planes = planes; edges = edges } ≡ s → first_fault (plan_value plan) ≡ None
-    → s.header ≡ (plan_value plan).header → HoldsReferences num (plan_value plan) s.references → IsPlanOver num h (plan_value plan).leaves fi (plan_value plan)
-state_over num plan s h fi planes edges is valid same holds =
-    read_over num plan h fi (ap (λ (r : Picture _). r.header) is ∙ same) valid
+pub state_over : {T : Type 0} (num : T → ℕ) (plan : Plan) (own : List LeafValue) (s : Picture T) (h : Header) (fi : FrameInvariants T) (planes : Planes T)
+    (edges : ℕ)
+    → own ≡ (plan_value plan).leaves → record { header = h; references = fi; planes = planes; edges = edges } ≡ s → first_fault (plan_value plan) ≡ None
+    → s.header ≡ (plan_value plan).header → HoldsReferences num (plan_value plan) s.references → IsPlanOver num h own fi (plan_value plan)
+state_over num plan own s h fi planes edges are is valid same holds =
+    read_over num plan own h fi are (ap (λ (r : Picture _). r.header) is ∙ same) valid
     (subst (λ (r : Picture _). HoldsReferences num (plan_value plan) r.references) (sym is) holds)
 
 -- ---- states that were made for a plan

@@ -18,6 +18,7 @@ use Rattle.av1_edges.proofs.Available.{available_place}
 use Rattle.av1_tile.specs.declared.extent.PlaneExtent.{PlaneExtent}
 use Rattle.av1_tile.specs.Canvas.{Written}
 use Rattle.av1_tile.specs.Edge.{above_side, corner_sample, edge, first_above, first_left, known, known_above, known_left, left_side, place}
+use Rattle.av1_tile.specs.Lookups.{KnowsSides}
 use Rattle.av1_tile.specs.Walk.{edge_by_place}
 use Rattle.av1_tile.proofs.Agreement.{listed_same}
 
@@ -95,19 +96,6 @@ module _ (K : ℕ → Option ℕ) (v : ℕ → ℕ) (first limit at w run : ℕ)
 
 -- ---- a rectangle
 
--- The canvas knows of the sides of a rectangle the places that lie in the extent and before the rectangle's end, and of what continues them
--- those in the extent where the answer is yes; and the corner.
-pub record KnowsSides (extent : PlaneExtent) (written : Written) (a : VisibleArea) (right low : Bool) : Type 0 where
-  pub some_columns : 0 < a.width
-  pub some_rows : 0 < a.height
-  pub begins_x : a.x < extent.width
-  pub begins_y : a.y < extent.height
-  pub above : (j : ℕ) → j < a.width + min a.width a.height
-      → is_some (known_above extent written (a.x + j) a.y) ≡ (nat_lt 0 a.y && nat_lt (a.x + j) extent.width && (nat_lt j a.width || right))
-  pub left : (i : ℕ) → i < a.height + min a.width a.height
-      → is_some (known_left extent written a.x (a.y + i)) ≡ (nat_lt 0 a.x && nat_lt (a.y + i) extent.height && (nat_lt i a.height || low))
-  pub corner : 0 < a.x → 0 < a.y → is_some (written (a.x - 1) (a.y - 1)) ≡ true
-
 module _ (extent : PlaneExtent) (written : Written) (s : ℕ → ℕ → ℕ) (agree : (x y v : ℕ) → x < extent.width → y < extent.height → written x y ≡ Some v →
     s x y ≡ v) where
   is_value : (o : Option ℕ) (n : ℕ) → is_some o ≡ true → ((v : ℕ) → o ≡ Some v → n ≡ v) → o ≡ Some n
@@ -137,7 +125,7 @@ module _ (extent : PlaneExtent) (written : Written) (s : ℕ → ℕ → ℕ) (a
     run = min a.width a.height
 
     -- the first sample above, and the first to the left
-    first_known_above : (x y : ℕ) → a.x ≡ x → a.y ≡ suc y → written x y ≡ Some (s x y)
+    pub first_known_above : (x y : ℕ) → a.x ≡ x → a.y ≡ suc y → written x y ≡ Some (s x y)
     first_known_above x y ex ey =
         let some = knows.some_columns in
         let hx = knows.begins_x in
@@ -155,7 +143,7 @@ module _ (extent : PlaneExtent) (written : Written) (s : ℕ → ℕ → ℕ) (a
         ∙ ap (λ (b : Bool). true && b && (nat_lt 0 a.width || right)) t ∙ ap (λ (b : Bool). true && true && (b || right)) u in
         sym (known_inside x y inside (omega (arith, ey))) ∙ known_value x y (k ∙ all)
 
-    first_known_left : (x y : ℕ) → a.x ≡ suc x → a.y ≡ y → written x y ≡ Some (s x y)
+    pub first_known_left : (x y : ℕ) → a.x ≡ suc x → a.y ≡ y → written x y ≡ Some (s x y)
     first_known_left x y ex ey =
         let some = knows.some_rows in
         let hx = knows.begins_x in

@@ -18,7 +18,7 @@ use Rattle.av1_tile.specs.PlaneBlocks.{number, extent_of}
 use Rattle.av1_tile.specs.Reference.{luma_of}
 use Rattle.av1_tile.specs.Steps.{Step, predict, add, PlaneStep, steps}
 use Rattle.av1_tile.specs.Walk.{HasRoomIn, answer_right, answer_low}
-use Rattle.av1_tile.proofs.PreparedEdges.{KnowsSides}
+use Rattle.av1_tile.specs.Lookups.{KnowsSides}
 
 -- whether the step predicts the sample at column x of row y of a plane
 abbrev pub predicts : Component → ℕ → ℕ → Step → Component → Bool

@@ -91,10 +91,10 @@ steps_written plan canvas (s ∷ rest) k x y =
     ∙ or_assoc (is_some (canvas k x y)) (draws k x y s) (list_any (draws k x y) rest)
 
 -- the canvas after some steps
-abbrev walked : PlanValue → List PlaneStep → Canvas
+abbrev pub walked : PlanValue → List PlaneStep → Canvas
 walked plan before = fold (slow_step plan) blank before
 
-walk_written : (plan : PlanValue) (before : List PlaneStep) (k : Component) (x y : ℕ) → is_some (walked plan before k x y) ≡ list_any (draws k x y) before
+pub walk_written : (plan : PlanValue) (before : List PlaneStep) (k : Component) (x y : ℕ) → is_some (walked plan before k x y) ≡ list_any (draws k x y) before
 walk_written plan before k x y = steps_written plan blank before k x y
 
 -- ---- one step

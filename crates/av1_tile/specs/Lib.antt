@@ -8,3 +8,4 @@ pub mod Walk
 pub mod State
 pub mod Versions
 pub mod Memory
+pub mod Lookups

@@ -35,7 +35,7 @@ mod tile;
 mod walk;
 
 pub use extent::PlaneExtent;
-pub use laws::versions_show_the_same;
+pub use laws::{look_ups_find_samples, versions_show_the_same};
 pub use memory::WalkMemory;
 pub use plane_block::{LumaBlock, PlaneBlock, Prediction};
 pub use planes::{Planes, visible_row};

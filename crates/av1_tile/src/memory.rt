@@ -8,7 +8,7 @@ use crate::planes::Planes;
 use crate::tile::reconstruct_leaves;
 use av1_blocks::OutOfMemory;
 use av1_frame::{FrameInvariants, Pixel};
-use av1_plan::{Header, Plan};
+use av1_plan::{Header, Leaves};
 use std::alloc::Global;
 use std::marker::Model;
 
@@ -31,7 +31,7 @@ impl<T: Pixel> Model for WalkMemory<T> {
 
 impl<T: Pixel> WalkMemory<T> {
     ghost use Rattle.std.specs.Prelude.{◌≡◌, ◌≤◌, ◌*◌, ◌/◌, IfOk, nat_le};
-    ghost use Rattle.av1_plan.specs.Answer.{plan_value};
+    ghost use Rattle.av1_plan.specs.Answer.{leaves_value};
     ghost use Rattle.av1_plan.specs.Plan.{PlanValue};
     ghost use Rattle.av1_tile.specs.Memory.{HasRoomFor, IsPlanOver, ShowsPlan};
     ghost use Rattle.av1_tile.specs.State.{edges_of};
@@ -62,9 +62,9 @@ impl<T: Pixel> WalkMemory<T> {
         self.buffers.edges.prepared()
     }
 
-    /// Reconstructs the leaves of a valid plan that is kept apart from its header and its references: the leaves are
-    /// those of `leaves`, the header is `header`, and the frame settings `fi` serve the references. The visible samples
-    /// of the planes are then those of the slow definition, whatever they were before.
+    /// Reconstructs the leaves of a valid plan that are kept apart from its header and its references: the header is
+    /// `header`, and the frame settings `fi` serve the references. The visible samples of the planes are then those of
+    /// the slow definition, whatever they were before.
     ///
     /// The planes store a frame with this header, with room for whole superblocks. They go on doing so, laid out as
     /// before.
@@ -73,15 +73,15 @@ impl<T: Pixel> WalkMemory<T> {
         planes: &mut Planes<T>,
         fi: &FrameInvariants<T>,
         header: &Header,
-        leaves: &Plan,
+        leaves: &Leaves,
     )
-        requires plan { (plan : PlanValue) × IsPlanOver T.num header.now (plan_value leaves.now).leaves fi.now plan }
+        requires plan { (plan : PlanValue) × IsPlanOver T.num header.now (leaves_value leaves.now) fi.now plan }
         requires depth { header.now.depth ≤ T.BITS }
         requires room { HasRoomFor header.now self.old }
         requires stores { StoresAll T.num header.now planes.old }
         requires superblocks { HasRoom header.now planes.old }
-        ensures shown { (plan : PlanValue) → IsPlanOver T.num header.now (plan_value leaves.now).leaves fi.now plan → ShowsPlan T.num plan planes.new }
-        ensures edges { (plan : PlanValue) → IsPlanOver T.num header.now (plan_value leaves.now).leaves fi.now plan →
+        ensures shown { (plan : PlanValue) → IsPlanOver T.num header.now (leaves_value leaves.now) fi.now plan → ShowsPlan T.num plan planes.new }
+        ensures edges { (plan : PlanValue) → IsPlanOver T.num header.now (leaves_value leaves.now) fi.now plan →
             self.new.edges ≡ edges_of self.old.edges plan }
         ensures stores { StoresAll T.num header.now planes.new }
         ensures layout { SameLayout planes.old planes.new }

@@ -158,7 +158,11 @@ impl<T: Pixel> TileState<T> {
         ensures references { state_references self.new ≡ state_references self.old }
         ensures edges { state_edges self.new ≡ edges_of (state_edges self.old) (plan_value plan.now) }
     {
-        self.memory
-            .reconstruct(&mut self.planes, &self.fi, &self.header, plan);
+        self.memory.reconstruct(
+            &mut self.planes,
+            &self.fi,
+            &self.header,
+            plan.leaves_with_triples(),
+        );
     }
 }

@@ -2,7 +2,7 @@
 
 ghost use Rattle.std.specs.Prelude.{◌≡◌, ℕ, ◌<◌, ◌≤◌, All, length};
 ghost use Rattle.std.specs.List.{fold};
-ghost use Rattle.av1_plan.specs.Answer.{plan_value};
+ghost use Rattle.av1_plan.specs.Answer.{leaves_value};
 ghost use Rattle.av1_plan.specs.Plan.{PlanValue};
 ghost use Rattle.av1_plan.specs.ReadPlans.{IsReadFrame};
 ghost use Rattle.av1_references.specs.References.{ServesPlan};
@@ -13,9 +13,9 @@ use crate::cells::CodedCells;
 use crate::leaf::reconstruct_leaf;
 use crate::planes::Planes;
 use av1_frame::{FrameInvariants, Pixel};
-use av1_plan::{Header, Plan};
+use av1_plan::{Header, Leaves};
 
-/// The leaves of a plan, in coding order, in a frame with this header. Each is noted in `cells` once it is
+/// These leaves, in coding order, in a frame with this header. Each is noted in `cells` once it is
 /// reconstructed.
 pub fn reconstruct_leaves<T: Pixel>(
     planes: &mut Planes<T>,
@@ -23,19 +23,19 @@ pub fn reconstruct_leaves<T: Pixel>(
     buffers: &mut WalkBuffers<T>,
     fi: &FrameInvariants<T>,
     header: &Header,
-    leaves: &Plan,
+    leaves: &Leaves,
 )
     requires frame { IsReadFrame header.now }
     requires stores { StoresAll T.num header.now planes.old }
     requires depth { header.now.depth ≤ T.BITS }
     requires cells { HasCells header.now cells.old }
-    requires fits { All (LeafFits header.now planes.old) (plan_value leaves.now).leaves }
+    requires fits { All (LeafFits header.now planes.old) (leaves_value leaves.now) }
     requires references { (value : PlanValue) × ServesPlan T.num (with_header header.now value) fi.now }
     ensures walked { (value : PlanValue) → ServesPlan T.num (with_header header.now value) fi.now
         → planes.new ≡
-        fold (fast_step T.num T.pixel (with_header header.now value)) planes.old (steps_by header.now (cell_at cells.old) (plan_value leaves.now).leaves) }
+        fold (fast_step T.num T.pixel (with_header header.now value)) planes.old (steps_by header.now (cell_at cells.old) (leaves_value leaves.now)) }
     ensures counted { buffers.new.edges.prepared ≡
-        fold edges_after buffers.old.edges.prepared (steps_by header.now (cell_at cells.old) (plan_value leaves.now).leaves) }
+        fold edges_after buffers.old.edges.prepared (steps_by header.now (cell_at cells.old) (leaves_value leaves.now)) }
     ensures stores { StoresAll T.num header.now planes.new }
     ensures layout { SameLayout planes.old planes.new }
     ensures cells { HasCells header.now cells.new }

@@ -179,7 +179,7 @@ pub fn reconstruct_alone<T: Pixel>(
     let header = *plan.header();
     let fi = frame_invariants(alloc, plan)?;
     let mut planes = Planes::new(alloc, &header, 0)?;
-    memory.reconstruct(&mut planes, &fi, &header, plan);
+    memory.reconstruct(&mut planes, &fi, &header, plan.leaves_with_triples());
     Ok(TilePicture { header, planes })
 }
 

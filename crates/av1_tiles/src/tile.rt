@@ -16,7 +16,7 @@ ghost use Rattle.av1_tiles.specs.Tiles.{part_of};
 use crate::area::TileArea;
 use crate::error::{TileError, TileFault};
 use crate::file::{Front, TileFile};
-use av1_plan::{Header, Plan, PlanError, Planes, check_plan, parse_leaves};
+use av1_plan::{Header, Plan, PlanError, Planes, check_plan, parse_plan_behind};
 use std::alloc::{AllocError, Global};
 
 /// The rectangle between the bounds from a column and a row of tiles on.
@@ -196,7 +196,7 @@ pub fn parse_tile(alloc: Global, file: &TileFile<'_>, index: usize) -> Result<Pl
     let area = tile_area(front, index);
     let header = tile_header(&front.header, area);
     let references = tile_references(alloc, &front.header, area, &front.references)?;
-    parse_leaves(alloc, header, references, file.parts[index])
+    parse_plan_behind(alloc, header, references, file.parts[index])
 }
 
 /// The plan of tile number `index`, where it is valid.

@@ -46,4 +46,4 @@ unfolding differences leaf_values
 few_differences plan bytes list are =
     let many : length (plan_value plan).leaves ≡ length (stored_leaves plan) = length-map (stored_leaves plan) (leaf_value (stored_triples plan)) in
     let all = few_of_leaves (plan_value plan) bytes 0 (plan_value plan).leaves in
-    omega (arith, ap length are, all, many, plan.few, plan.leaves.ok.0)
+    omega (arith, ap length are, all, many, plan.leaves.few, plan.leaves.leaves.ok.0)

@@ -10,9 +10,6 @@ pub invariant_of-result-clause-spelled : goal.invariant_of-result-clause-spelled
 unfolding plan
 invariant_of-result-clause-spelled c =
     let e : read_all plan (start c.args.bytes.now) ≡
-    Ok (value_of c.in_ok-header.header c.in_ok-references.references.items c.in_ok-parser.parser.leaves.items c.in_ok-parser.parser.triples.items) =
+    Ok (value_of c.in_ok-header.header c.in_ok-references.references.items c.in_ok-leaves.leaves.leaves.items c.in_ok-leaves.leaves.triples.items) =
     grind (arith, collects) in
     ∣ is_spelled plan c.args.bytes.now _ (λ i. omega (arith, c.type_inv.bytes i)) e ∣₁
-
-pub invariant_of-result-clause-follow : goal.invariant_of-result-clause-follow
-invariant_of-result-clause-follow c = ∣ c.in_ok-parser.ensures.sound.follow ∣₁

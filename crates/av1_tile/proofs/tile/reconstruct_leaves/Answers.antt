@@ -7,7 +7,7 @@ use Rattle.av1_blocks.specs.declared.transform.TxSize.TheVariants.{TX_4X4}
 use Rattle.av1_blocks.specs.declared.transform.TxType.TheVariants.{DCT_DCT}
 use Rattle.av1_plan.specs.declared.leaf.Leaf.{Leaf}
 use Rattle.av1_plan.specs.declared.leaf.LeafKind.TheVariants.{Intra}
-use Rattle.av1_plan.specs.Answer.{plan_value, stored_leaves, stored_triples}
+use Rattle.av1_plan.specs.Answer.{leaf_list, leaves_value, triple_list}
 use Rattle.av1_plan.specs.Plan.{LeafValue}
 use Rattle.av1_tile.specs.Walk.{cell_at, edges_after, fast_step, steps_by, with_header, with_leaves}
 use Rattle.av1_tile.proofs.Lifts.{layout_kept}
@@ -62,7 +62,7 @@ loop-index-preserved g c =
     c.triples-in-loop-index-2.ensures in
     let start = cell_at c.args.cells.now in
     let told = cell_at c.loop-index.cells in
-    let own = leaf_read leaves h i _ _ _ _ told (with_leaves start (take i (plan_value leaves).leaves)) a (whole_frame h c.requires.frame)
+    let own = leaf_read leaves h i _ _ _ _ told (with_leaves start (take i (leaves_value leaves))) a (whole_frame h c.requires.frame)
     (turn_begins leaves h i _ _ _ _ c.args.planes.now a c.requires.fits) held.told in
     record {
       walked = λ value serves.
@@ -84,9 +84,9 @@ loop-index-preserved g c =
 pub returns-clause-walked : goal.returns-clause-walked
 returns-clause-walked g c = λ value serves.
     let leaves = c.args.leaves.now in
-    let all = (plan_value leaves).leaves in
+    let all = leaves_value leaves in
     let past : length all ≤ c.loop-index.index =
-    omega (arith, length_leaves (stored_triples leaves) (stored_leaves leaves), ap length c.leaves-index-end.ensures.items) in
+    omega (arith, length_leaves (triple_list leaves) (leaf_list leaves), ap length c.leaves-index-end.ensures.items) in
     c.loop-index.invariant.walked value serves
     ∙ ap (λ (ls : List LeafValue). fold (fast_step g.T.Pixel.num g.T.Pixel.pixel (with_header c.args.header.now value)) c.args.planes.now
     (steps_by c.args.header.now (cell_at c.args.cells.now) ls)) (take_all c.loop-index.index all past)
@@ -94,9 +94,9 @@ returns-clause-walked g c = λ value serves.
 pub returns-clause-counted : goal.returns-clause-counted
 returns-clause-counted g c =
     let leaves = c.args.leaves.now in
-    let all = (plan_value leaves).leaves in
+    let all = leaves_value leaves in
     let past : length all ≤ c.loop-index.index =
-    omega (arith, length_leaves (stored_triples leaves) (stored_leaves leaves), ap length c.leaves-index-end.ensures.items) in
+    omega (arith, length_leaves (triple_list leaves) (leaf_list leaves), ap length c.leaves-index-end.ensures.items) in
     c.loop-index.invariant.counted
     ∙ ap (λ (ls : List LeafValue). fold edges_after c.args.buffers.now.edges.prepared (steps_by c.args.header.now (cell_at c.args.cells.now) ls))
     (take_all c.loop-index.index all past)

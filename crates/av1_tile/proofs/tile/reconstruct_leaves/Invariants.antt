@@ -1,6 +1,6 @@
 use Rattle.std.proofs.Common.{◌≡◌, length, take}
 use Rattle.std.specs.List.{fold}
-use Rattle.av1_plan.specs.Answer.{plan_value}
+use Rattle.av1_plan.specs.Answer.{leaves_value}
 use Rattle.av1_plan.specs.Plan.{PlanValue}
 use Rattle.av1_references.specs.References.{ServesPlan}
 use Rattle.av1_tile.specs.Walk.{HasCells, SameLayout, StoresAll, cell_at, edges_after, fast_step, steps_by, with_header, with_leaves}
@@ -10,7 +10,7 @@ use Rattle.av1_tile.proofs.tile.reconstruct_leaves.Given as goal
 abbrev pub invariant-loop-index : goal.invariant-loop-index
 invariant-loop-index g l =
     let h = l.header in
-    let done = take l.index (plan_value l.leaves).leaves in
+    let done = take l.index (leaves_value l.leaves) in
     record {
       walked : (value : PlanValue) → ServesPlan g.T.Pixel.num (with_header h value) l.fi →
           l.planes ≡ fold (fast_step g.T.Pixel.num g.T.Pixel.pixel (with_header h value)) l.initial.planes (steps_by h (cell_at l.initial.cells) done);

@@ -1,5 +1,5 @@
 use Rattle.std.proofs.Common.{length, refl}
-use Rattle.av1_plan.specs.Answer.{plan_value}
+use Rattle.av1_plan.specs.Answer.{leaves_value}
 use Rattle.av1_sequence.proofs.Framed.{accepts_over, refused_over, short_seen, spelled_over, valid_over}
 use Rattle.av1_sequence.proofs.sequence.Sequence.frame.Goals as goal
 
@@ -13,12 +13,12 @@ returns-in-Err-clause-refused c =
 
 pub show-requires-clause-spelled : goal.show-requires-clause-spelled
 show-requires-clause-spelled c =
-    spelled_over c.args.self.now c.self.inside c.self.view_is c.args.head.now c.frame_header-header.result c.args.part.now (plan_value c.in-Ok.leaves)
+    spelled_over c.args.self.now c.self.inside c.self.view_is c.args.head.now c.frame_header-header.result c.args.part.now (leaves_value c.in-Ok.leaves)
     c.frame_header-header.ensures c.requires.head c.in-Ok.ensures.found
 
 pub show-requires-clause-valid : goal.show-requires-clause-valid
 show-requires-clause-valid c =
-    valid_over c.args.self.now c.self.inside c.self.view_is c.args.head.now c.frame_header-header.result c.args.part.now (plan_value c.in-Ok.leaves)
+    valid_over c.args.self.now c.self.inside c.self.view_is c.args.head.now c.frame_header-header.result c.args.part.now (leaves_value c.in-Ok.leaves)
     c.frame_header-header.ensures c.in-Ok.ensures.valid
 
 pub returns-clause-accepted : goal.returns-clause-accepted
@@ -26,5 +26,5 @@ returns-clause-accepted c =
     let short =
     short_seen c.args.self.now c.self.inside c.self.view_is c.args.head.now c.args.part.now c.reference_bytes.result (length c.args.part.now)
     c.reference_bytes.ensures.value refl c.if-reference_bytes-part-gt-MOST_BYTES.false in
-    accepts_over c.args.self.now c.self.inside c.self.view_is c.args.head.now c.frame_header-header.result c.args.part.now (plan_value c.in-Ok.leaves)
+    accepts_over c.args.self.now c.self.inside c.self.view_is c.args.head.now c.frame_header-header.result c.args.part.now (leaves_value c.in-Ok.leaves)
     c.frame_header-header.ensures c.show.new.self c.show.result short c.in-Ok.ensures.found c.in-Ok.ensures.valid c.show.ensures.accepted

@@ -1,6 +1,6 @@
 use Rattle.std.proofs.Common.{refl, sym, subst, ◌∙◌}
 use Rattle.av1_plan.specs.declared.header.Header.{Header}
-use Rattle.av1_plan.specs.Answer.{plan_value}
+use Rattle.av1_plan.specs.Answer.{leaves_value}
 use Rattle.av1_sequence.specs.Kept.{AreReady}
 use Rattle.av1_sequence.specs.Outcomes.{plan_over}
 use Rattle.av1_sequence.proofs.Framed.{apart_accepted, kept_accepted, not_placed, own_read, own_ready, placed_there, plan_is_over, ready_again, ready_held, ready_still, room_over}
@@ -17,8 +17,8 @@ planes_for-requires-clause-ready c =
 
 pub reconstruct-requires-clause-plan : goal.reconstruct-requires-clause-plan
 reconstruct-requires-clause-plan c = (
-  plan_over c.args.self.now c.args.head.now (plan_value c.args.leaves.now),
-  plan_is_over c.args.self.now c.self.inside c.self.view_is c.args.head.now c.args.header.now (plan_value c.args.leaves.now) c.set_head.new.self.fi
+  plan_over c.args.self.now c.args.head.now (leaves_value c.args.leaves.now),
+  plan_is_over c.args.self.now c.self.inside c.self.view_is c.args.head.now c.args.header.now (leaves_value c.args.leaves.now) c.set_head.new.self.fi
       c.requires.header c.requires.spelled c.requires.valid c.set_head.ensures.serves,
 )
 
@@ -58,7 +58,7 @@ keep-requires-clause-ready c =
 
 pub returns-then-head-eq0-clause-accepted : goal.returns-then-head-eq0-clause-accepted
 returns-then-head-eq0-clause-accepted c =
-    let leaves = plan_value c.args.leaves.now in
+    let leaves = leaves_value c.args.leaves.now in
     let set = c.set_head.new.self in
     let walked =
     plan_is_over c.args.self.now c.self.inside c.self.view_is c.args.head.now c.args.header.now leaves set.fi c.requires.header c.requires.spelled
@@ -69,7 +69,7 @@ returns-then-head-eq0-clause-accepted c =
 
 pub returns-else-head-eq0-clause-accepted : goal.returns-else-head-eq0-clause-accepted
 returns-else-head-eq0-clause-accepted c =
-    let leaves = plan_value c.args.leaves.now in
+    let leaves = leaves_value c.args.leaves.now in
     let set = c.set_head.new.self in
     let walked =
     plan_is_over c.args.self.now c.self.inside c.self.view_is c.args.head.now c.args.header.now leaves set.fi c.requires.header c.requires.spelled

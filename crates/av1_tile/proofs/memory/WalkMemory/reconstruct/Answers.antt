@@ -1,5 +1,5 @@
 use Rattle.std.proofs.Common.{ap, ◌∙◌}
-use Rattle.av1_plan.specs.Answer.{plan_value}
+use Rattle.av1_plan.specs.Answer.{leaves_value}
 use Rattle.av1_tile.specs.Memory.{WalkRoom}
 use Rattle.av1_tile.specs.State.{edges_of}
 use Rattle.av1_tile.specs.Walk.{cell_at}
@@ -9,23 +9,23 @@ use Rattle.av1_tile.proofs.memory.WalkMemory.reconstruct.Goals as goal
 pub reconstruct_leaves-requires-clause-frame : goal.reconstruct_leaves-requires-clause-frame
 reconstruct_leaves-requires-clause-frame g c =
     let a = c.args in
-    over_frame g.T.Pixel.num a.header.now (plan_value a.leaves.now).leaves a.fi.now c.requires.plan.0 c.requires.plan.1
+    over_frame g.T.Pixel.num a.header.now (leaves_value a.leaves.now) a.fi.now c.requires.plan.0 c.requires.plan.1
 
 pub reconstruct_leaves-requires-clause-fits : goal.reconstruct_leaves-requires-clause-fits
 reconstruct_leaves-requires-clause-fits g c =
     let a = c.args in
-    over_fits g.T.Pixel.num a.header.now (plan_value a.leaves.now).leaves a.fi.now c.requires.plan.0 c.requires.plan.1 a.planes.now c.requires.superblocks
+    over_fits g.T.Pixel.num a.header.now (leaves_value a.leaves.now) a.fi.now c.requires.plan.0 c.requires.plan.1 a.planes.now c.requires.superblocks
 
 pub reconstruct_leaves-requires-clause-references : goal.reconstruct_leaves-requires-clause-references
 reconstruct_leaves-requires-clause-references g c =
     let a = c.args in
-    (c.requires.plan.0, over_serves g.T.Pixel.num a.header.now (plan_value a.leaves.now).leaves a.fi.now c.requires.plan.0 c.requires.plan.1)
+    (c.requires.plan.0, over_serves g.T.Pixel.num a.header.now (leaves_value a.leaves.now) a.fi.now c.requires.plan.0 c.requires.plan.1)
 
 pub returns-clause-shown : goal.returns-clause-shown
 returns-clause-shown g c = λ plan is.
     let a = c.args in
     let h = a.header.now in
-    let leaves = (plan_value a.leaves.now).leaves in
+    let leaves = leaves_value a.leaves.now in
     let walk = c.reconstruct_leaves in
     over_shows g.T.Pixel.num h leaves a.fi.now plan is g.T.Pixel.pixel g.met.T.Pixel.num_of_pixel g.met.T.Pixel.pixel_of_num a.planes.now walk.new.planes
     (cell_at c.lay_out.new.self) c.requires.stores c.requires.superblocks walk.ensures.stores
@@ -35,6 +35,6 @@ pub returns-clause-edges : goal.returns-clause-edges
 returns-clause-edges g c = λ plan is.
     let a = c.args in
     let walk = c.reconstruct_leaves in
-    over_counts g.T.Pixel.num a.header.now (plan_value a.leaves.now).leaves a.fi.now plan is c.self.inside.buffers.edges.prepared
+    over_counts g.T.Pixel.num a.header.now (leaves_value a.leaves.now) a.fi.now plan is c.self.inside.buffers.edges.prepared
     walk.new.buffers.edges.prepared (cell_at c.lay_out.new.self) walk.ensures.counted
     ∙ ap (λ (r : WalkRoom). edges_of r.edges plan) c.self.view_is

@@ -1,5 +1,5 @@
 use Rattle.std.proofs.Common.{ap, ◌∙◌, sym}
-use Rattle.av1_plan.specs.Answer.{plan_value}
+use Rattle.av1_plan.specs.Answer.{leaves_value, plan_value}
 use Rattle.av1_tile.specs.State.{Picture, edges_of, state_edges}
 use Rattle.av1_tile.proofs.Pictures.{state_rows, state_visible}
 use Rattle.av1_tile.proofs.PlansOver.{state_over}
@@ -10,8 +10,8 @@ reconstruct-requires-clause-plan g c =
     let s = c.self.inside in
     let a = c.args in (
       plan_value a.plan.now,
-      state_over g.T.Pixel.num a.plan.now a.self.now s.header s.fi s.planes s.memory.edges c.self.view_is c.requires.valid c.requires.header
-          c.requires.references,
+      state_over g.T.Pixel.num a.plan.now (leaves_value c.leaves_with_triples.result.now) a.self.now s.header s.fi s.planes s.memory.edges
+          c.leaves_with_triples.ensures c.self.view_is c.requires.valid c.requires.header c.requires.references,
     )
 
 pub returns-clause-visible : goal.returns-clause-visible
@@ -19,8 +19,8 @@ returns-clause-visible g c =
     let s = c.self.inside in
     let walk = c.reconstruct in
     let is =
-    state_over g.T.Pixel.num c.args.plan.now c.args.self.now s.header s.fi s.planes s.memory.edges c.self.view_is c.requires.valid c.requires.header
-    c.requires.references in
+    state_over g.T.Pixel.num c.args.plan.now (leaves_value c.leaves_with_triples.result.now) c.args.self.now s.header s.fi s.planes s.memory.edges
+    c.leaves_with_triples.ensures c.self.view_is c.requires.valid c.requires.header c.requires.references in
     state_visible g.T.Pixel.num (plan_value c.args.plan.now) s.header s.fi walk.new.planes walk.new.self.edges (sym is.header)
     (walk.ensures.shown (plan_value c.args.plan.now) is)
 
@@ -29,8 +29,8 @@ returns-clause-rows g c =
     let s = c.self.inside in
     let walk = c.reconstruct in
     let is =
-    state_over g.T.Pixel.num c.args.plan.now c.args.self.now s.header s.fi s.planes s.memory.edges c.self.view_is c.requires.valid c.requires.header
-    c.requires.references in
+    state_over g.T.Pixel.num c.args.plan.now (leaves_value c.leaves_with_triples.result.now) c.args.self.now s.header s.fi s.planes s.memory.edges
+    c.leaves_with_triples.ensures c.self.view_is c.requires.valid c.requires.header c.requires.references in
     state_rows g.T.Pixel.num (plan_value c.args.plan.now) s.header s.fi walk.new.planes walk.new.self.edges (sym is.header)
     (walk.ensures.shown (plan_value c.args.plan.now) is)
 
@@ -39,6 +39,6 @@ returns-clause-edges g c =
     let s = c.self.inside in
     let walk = c.reconstruct in
     let is =
-    state_over g.T.Pixel.num c.args.plan.now c.args.self.now s.header s.fi s.planes s.memory.edges c.self.view_is c.requires.valid c.requires.header
-    c.requires.references in
+    state_over g.T.Pixel.num c.args.plan.now (leaves_value c.leaves_with_triples.result.now) c.args.self.now s.header s.fi s.planes s.memory.edges
+    c.leaves_with_triples.ensures c.self.view_is c.requires.valid c.requires.header c.requires.references in
     walk.ensures.edges (plan_value c.args.plan.now) is ∙ ap (λ (p : Picture _). edges_of (state_edges p) (plan_value c.args.plan.now)) c.self.view_is

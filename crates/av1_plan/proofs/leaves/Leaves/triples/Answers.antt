@@ -1,6 +1,6 @@
 use Rattle.std.proofs.Common.{◌≡◌, ◌+◌, ◌-◌, ◌*◌, ◌<◌, ◌≤◌, ◌^◌, length, get_or, refl, arith}
 use Rattle.av1_plan.proofs.Spans.{span_within, stored_triples_at}
-use Rattle.av1_plan.proofs.plan.Plan.triples.Goals as goal
+use Rattle.av1_plan.proofs.leaves.Leaves.triples.Goals as goal
 
 within : (c : goal.After-deref) → c.triples_span-start.result.0 + c.triples_span-start.result.1 ≤ length c.args.self.now.triples.items
 within c =

@@ -1,0 +1,103 @@
+-- What the slow walk looks up has been written before, at each of its steps and at its end: no sample that is absent
+-- counts as 0.
+use Rattle.std.specs.Prelude.{◌≡◌, ℕ, suc, ◌+◌, ◌-◌, ◌<◌, ◌&&◌, ◌||◌, Bool, true, nat_lt, min, None, List, ◌∷◌}
+use Rattle.std.specs.Prelude.{◌++◌, is_some}
+use Rattle.std.specs.List.{fold}
+use Rattle.av1_frame.specs.Areas.{VisibleArea, in_visible}
+use Rattle.av1_intra.specs.ChromaFromLuma.{chroma_block, columns_read, rows_read, first_column, first_row}
+use Rattle.av1_plan.specs.declared.header.Header.{Header}
+use Rattle.av1_plan.specs.Geometry.{plane_height, plane_width}
+use Rattle.av1_plan.specs.Grammar.{plan as grammar}
+use Rattle.av1_plan.specs.Plan.{PlanValue}
+use Rattle.av1_plan.specs.Spelling.{IsSpelled}
+use Rattle.av1_plan.specs.Validity.{first_fault}
+use Rattle.av1_tile.specs.declared.extent.PlaneExtent.{PlaneExtent}
+use Rattle.av1_tile.specs.declared.plane_block.LumaBlock.{LumaBlock}
+use Rattle.av1_tile.specs.declared.plane_block.PlaneBlock.{PlaneBlock}
+use Rattle.av1_tile.specs.declared.plane_block.Prediction.{Prediction}
+use Rattle.av1_tile.specs.declared.plane_block.Prediction.TheVariants as predictions
+use Rattle.av1_tile.specs.Canvas.{Component, Y, Canvas, Written, blank}
+use Rattle.av1_tile.specs.Edge.{known_above, known_left}
+use Rattle.av1_tile.specs.PlaneBlocks.{number, extent_of}
+use Rattle.av1_tile.specs.Reference.{luma_of, slow_step, slow_walk}
+use Rattle.av1_tile.specs.Steps.{Step, predict, add, PlaneStep, steps}
+use Rattle.av1_tile.specs.Walk.{answer_right, answer_low, has_edge}
+
+-- the sample at column x of row y has been written
+abbrev pub IsThere : Written → (x y : ℕ) → Type 0
+IsThere written x y = is_some (written x y) ≡ true
+
+-- Round a block: the first sample above it where it isn't in the first row, the first to the left of it where it isn't
+-- in the first column, and their corner. These are all that its edge looks up where it doesn't ask whether they are
+-- there: in the first row the sample to the left stands for those above, and in the first column the one above for
+-- those to the left.
+pub record EdgeIsThere (written : Written) (a : VisibleArea) : Type 0 where
+  pub above : (y : ℕ) → a.y ≡ suc y → IsThere written a.x y
+  pub left : (x : ℕ) → a.x ≡ suc x → IsThere written x a.y
+  pub corner : (x y : ℕ) → a.x ≡ suc x → a.y ≡ suc y → IsThere written x y
+
+-- the samples of luma that a leaf's chroma is predicted from
+abbrev pub LumaIsThere : Header → Written → LumaBlock → Type 0
+LumaIsThere h written leaf =
+    (x y : ℕ) → x < columns_read (chroma_block (luma_of h leaf)) → y < rows_read (chroma_block (luma_of h leaf)) →
+    IsThere written (first_column (luma_of h leaf) + x) (first_row (luma_of h leaf) + y)
+
+-- what a prediction looks up
+abbrev pub PredictionFinds : Header → Canvas → Component → PlaneBlock → VisibleArea → Prediction → Type 0
+PredictionFinds h canvas k block a (predictions.Intra mode step filter) = EdgeIsThere (canvas k) a
+PredictionFinds h canvas k block a (predictions.FromLuma alpha) =
+    EdgeIsThere (canvas k) a × LumaIsThere h (canvas Y) block.leaf
+PredictionFinds h canvas k block a (predictions.Single mode reference mv) = Unit {0}
+PredictionFinds h canvas k block a (predictions.Compound mode references mvs) = Unit {0}
+
+-- what a step looks up: what its prediction does, or each sample that it adds to
+abbrev pub StepFinds : Header → Canvas → Component → Step → Type 0
+StepFinds h canvas k (predict block n a) = PredictionFinds h canvas k block a block.prediction
+StepFinds h canvas k (add block triples n a) = (x y : ℕ) → in_visible a x y ≡ true → IsThere (canvas k) x y
+
+-- P of each step of a plan and of the canvas that the steps before it left
+abbrev pub AtEachStep : (Header → Canvas → Component → Step → Type 0) → PlanValue → Type 0
+AtEachStep P plan =
+    (before later : List PlaneStep) (s : PlaneStep) → steps plan.header plan.leaves ≡ before ++ s ∷ later →
+    P plan.header (fold (slow_step plan) blank before) s.component s.step
+
+-- each step of a valid plan finds what it looks up
+abbrev pub StepsFindSamples : Type 0
+StepsFindSamples = (plan : PlanValue) → IsSpelled grammar plan → first_fault plan ≡ None → AtEachStep StepFinds plan
+
+-- and at the end each visible sample is there
+abbrev pub OutputIsThere : Type 0
+OutputIsThere =
+    (plan : PlanValue) → IsSpelled grammar plan → first_fault plan ≡ None → (k : Component) (x y : ℕ)
+    → x < plane_width plan.header (number k) → y < plane_height plan.header (number k) →
+    IsThere (slow_walk plan k) x y
+
+-- ---- what else of the sides is there
+
+-- Of the sides of a block just those samples are there that lie in the frame and beside the block, or past it where
+-- they may be taken.
+pub record KnowsSides (extent : PlaneExtent) (written : Written) (a : VisibleArea) (right low : Bool) : Type 0 where
+  pub some_columns : 0 < a.width
+  pub some_rows : 0 < a.height
+  pub begins_x : a.x < extent.width
+  pub begins_y : a.y < extent.height
+  pub above : (j : ℕ) → j < a.width + min a.width a.height
+      → is_some (known_above extent written (a.x + j) a.y) ≡
+      (nat_lt 0 a.y && nat_lt (a.x + j) extent.width && (nat_lt j a.width || right))
+  pub left : (i : ℕ) → i < a.height + min a.width a.height
+      → is_some (known_left extent written a.x (a.y + i)) ≡
+      (nat_lt 0 a.x && nat_lt (a.y + i) extent.height && (nat_lt i a.height || low))
+  pub corner : 0 < a.x → 0 < a.y → is_some (written (a.x - 1) (a.y - 1)) ≡ true
+
+-- where a step predicts from the samples round a block, those are there that the tables of availability tell
+abbrev pub StepIsAnswered : Header → Canvas → Component → Step → Type 0
+StepIsAnswered h canvas k (predict block n a) =
+    has_edge block.prediction ≡ true →
+    KnowsSides (extent_of h (number k)) (canvas k) a (answer_right h (number k) block n a)
+    (answer_low h (number k) block n a)
+StepIsAnswered h canvas k (add block triples n a) = Unit {0}
+
+-- the tables answer what coding order has, at each step of a valid plan
+abbrev pub StepsAreAnswered : Type 0
+StepsAreAnswered =
+    (plan : PlanValue) → IsSpelled grammar plan → first_fault plan ≡ None → AtEachStep StepIsAnswered plan
