@@ -147,7 +147,7 @@ fn flat_from_luma<T: Pixel>(
 {
     let stride = output.plane_cfg.stride;
     let area = output.corner(width, height);
-    pred_cfl_to(output.samples_mut(), stride, area, ac, alpha, dc, bit_depth);
+    pred_cfl_to(output.rows_mut(), stride, area, ac, alpha, dc, bit_depth);
 }
 
 /// Predicts the first `height` rows and `width` columns of `output` from luma: each sample becomes the first one of

@@ -276,7 +276,7 @@ pub fn pred_directional<T: Pixel>(
     let stride = output.plane_cfg.stride;
     let area = output.corner(width, height);
     pred_directional_to(
-        output.samples_mut(),
+        output.rows_mut(),
         stride,
         area,
         above,

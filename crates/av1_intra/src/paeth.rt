@@ -108,5 +108,5 @@ pub fn pred_paeth<T: Pixel>(
 {
     let stride = output.plane_cfg.stride;
     let area = output.corner(width, height);
-    pred_paeth_to(output.samples_mut(), stride, area, above, left, above_left);
+    pred_paeth_to(output.rows_mut(), stride, area, above, left, above_left);
 }

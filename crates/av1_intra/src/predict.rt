@@ -76,7 +76,7 @@ fn predict_from_sides<T: Pixel>(
     dispatch_predict_intra_to(
         mode,
         variant,
-        dst.samples_mut(),
+        dst.rows_mut(),
         stride,
         area,
         block,

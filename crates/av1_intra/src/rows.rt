@@ -61,5 +61,5 @@ pub(crate) fn fill_rows<T: Pixel>(
 {
     let stride = output.plane_cfg.stride;
     let area = output.corner(width, height);
-    fill_block(output.samples_mut(), stride, area, value);
+    fill_block(output.rows_mut(), stride, area, value);
 }

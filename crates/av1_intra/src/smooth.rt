@@ -203,7 +203,7 @@ pub fn pred_smooth<T: Pixel>(
 {
     let stride = output.plane_cfg.stride;
     let area = output.corner(width, height);
-    pred_smooth_to(output.samples_mut(), stride, area, above, left);
+    pred_smooth_to(output.rows_mut(), stride, area, above, left);
 }
 
 /// Predicts the samples of a rectangle: each becomes a mean of the sample in its row of `left` and the last one
@@ -258,7 +258,7 @@ pub fn pred_smooth_h<T: Pixel>(
 {
     let stride = output.plane_cfg.stride;
     let area = output.corner(width, height);
-    pred_smooth_h_to(output.samples_mut(), stride, area, above, left);
+    pred_smooth_h_to(output.rows_mut(), stride, area, above, left);
 }
 
 /// Predicts the samples of a rectangle: each becomes a mean of the sample in its column of `above` and the lowest one
@@ -313,5 +313,5 @@ pub fn pred_smooth_v<T: Pixel>(
 {
     let stride = output.plane_cfg.stride;
     let area = output.corner(width, height);
-    pred_smooth_v_to(output.samples_mut(), stride, area, above, left);
+    pred_smooth_v_to(output.rows_mut(), stride, area, above, left);
 }

@@ -67,7 +67,7 @@ pub fn pred_v<T: Pixel>(
 {
     let stride = output.plane_cfg.stride;
     let area = output.corner(width, height);
-    pred_v_to(output.samples_mut(), stride, area, above);
+    pred_v_to(output.rows_mut(), stride, area, above);
 }
 
 /// Predicts the samples of a rectangle: each row becomes its sample of `left`, again and again. The rows of `samples`
@@ -138,5 +138,5 @@ pub fn pred_h<T: Pixel>(output: &mut PlaneRegionMut<'_, T>, left: &[T], width: u
 {
     let stride = output.plane_cfg.stride;
     let area = output.corner(width, height);
-    pred_h_to(output.samples_mut(), stride, area, left);
+    pred_h_to(output.rows_mut(), stride, area, left);
 }

@@ -72,8 +72,8 @@ returns-clause-painted g c =
     let z = to_z w16 (of_z w16 c.weight_of-alpha.result) in
     let weight : SFits w16 c.weight_of-alpha.result = search rules in
     let i = to_z-of_z w16 c.weight_of-alpha.result weight in
-    lent_painted a.dst.now a.width a.height c.corner-area.result _ _ c.samples_mut.result.now c.dispatch_predict_intra_to.new.samples c.corner-area.ensures
-    c.samples_mut.ensures.value c.dispatch_predict_intra_to.ensures
+    lent_painted a.dst.now a.width a.height c.corner-area.result _ _ c.rows_mut.result.now c.dispatch_predict_intra_to.new.samples
+    c.requires.fits c.requires.rows c.corner-area.ensures c.rows_mut.ensures.value c.dispatch_predict_intra_to.ensures
     (λ q r _ _ _. ap g.T.Pixel.pixel (ap (λ (b : DirectionalBlock). predicted b a.variant a.mode z (ac_at b.width a.ac.now) (E (num x)) q r) b
     ∙ ap (λ (k : ℕ). predicted (B (unsigned_abs a.angle)) a.variant a.mode z (ac_at a.width a.ac.now) (E k) q r) K
     ∙ weighed_alike (B (unsigned_abs a.angle)) a.variant a.mode z a.angle (ac_at a.width a.ac.now)
