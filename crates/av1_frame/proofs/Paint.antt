@@ -132,7 +132,8 @@ pub paint_rows : {X : Type 0} (stride : ℕ) (a : StoredArea) (w h : ℕ) (f : �
     → with_part (a.y * stride) s (paint stride (in_rows a w h) f (part (a.y * stride) (a.height * stride) s)) ≡ paint stride (corner a w h) f s
 paint_rows stride a w h f s some few rows =
     same_lists _ _ (length_with_part _ s _ ∙ sym (length_paint stride (corner a w h) f s)) (λ k d l.
-    let within : k < length s = omega (arith, l, length_with_part (a.y * stride) s (paint stride (in_rows a w h) f (part (a.y * stride) (a.height * stride) s))) in
+    let own = paint stride (in_rows a w h) f (part (a.y * stride) (a.height * stride) s) in
+    let within : k < length s = omega (arith, l, length_with_part (a.y * stride) s own) in
     let e : k ≡ k / stride * stride + k % stride = omega arith in
     rows_at stride a w h k (k % stride) (k / stride) f s d (omega arith) e within few rows
     ∙ sym (ap (λ n. get_or (paint stride (corner a w h) f s) n d) e ∙ paint_at stride (corner a w h) f s (k % stride) (k / stride) d (omega arith) (omega arith)
