@@ -1,14 +1,14 @@
 -- The steps of a loop that paints a rectangle row by row, and of one that paints a row sample by sample.
 use Rattle.std.proofs.Common.{ℕ, ◌+◌, ◌-◌, ◌*◌, ◌/◌, ◌%◌, ◌<◌, ◌≤◌, ◌≡◌, List, length, take, drop, ◌++◌, get_or, set, refl, ap, arith, ◌∙◌, sym, cond, ◌⊎◌, leb}
 use Rattle.std.proofs.Common.{ltb, inl, inr}
-use Rattle.std.proofs.lemmas.List.{places, get_or-set_same, get_or-set_other, length-set, get_or_default}
+use Rattle.std.proofs.lemmas.List.{same_lists, places, get_or-set_same, get_or-set_other, length-set, get_or_default}
 use Rattle.std.proofs.lemmas.Bool.Decides.{nat_tests}
 use Rattle.std.proofs.lemmas.Bool.{cases_eq, cases_lt, cases_order}
 use Rattle.std.proofs.lemmas.Nat.{div-mul-add, mod-mul-add}
 use Rattle.av1_frame.specs.declared.plane_region.StoredArea.{StoredArea}
-use Rattle.av1_frame.specs.Samples.{with_part, part, paint, paint_row, painted_at, corner}
+use Rattle.av1_frame.specs.Samples.{with_part, part, paint, paint_row, painted_at, corner, in_rows}
 use Rattle.av1_frame.specs.Areas.{AreRows}
-use Rattle.av1_frame.proofs.Fits.{row_end_le}
+use Rattle.av1_frame.proofs.Fits.{row_end_le, rows_le}
 use Rattle.av1_frame.proofs.Update.{update_is, length-update, get_or-update}
 
 -- no sample of a row is painted yet
@@ -97,6 +97,47 @@ pub paint_at : {X : Type 0} (stride : ℕ) (a : StoredArea) (f : ℕ → ℕ →
 unfolding paint
 paint_at stride a f s p q d h l =
     get_or-update _ s (q * stride + p) d l ∙ rw (div-mul-add q stride p h, mod-mul-add q stride p h) refl
+
+-- the sample at column p of row q, where the rows of a were painted by themselves and written back
+rows_at : {X : Type 0} (stride : ℕ) (a : StoredArea) (w h k p q : ℕ) (f : ℕ → ℕ → X → X) (s : List X) (d : X) → p < stride → k ≡ q * stride + p → k < length s
+    → h ≤ a.height → (a.y + a.height) * stride ≤ length s
+    → get_or (with_part (a.y * stride) s (paint stride (in_rows a w h) f (part (a.y * stride) (a.height * stride) s))) k d ≡
+    painted_at (corner a w h) f p q (get_or s k d)
+rows_at stride a w h k p q f s d lt is within few rows =
+    let first = a.y * stride in
+    let own = part first (a.height * stride) s in
+    let split : (a.y + a.height) * stride ≡ first + a.height * stride = grind arith in
+    get_or-update _ s k d within ∙ elim (cases_lt q a.y) [
+      | inl b ↦ (let m = row_end_le q a.y stride stride _ refl b (omega arith) in grind (arith, nat_tests))
+      | inr b ↦ elim (cases_lt q (a.y + a.height)) [
+        | inl c ↦
+            let r = q - a.y in
+            let q_is : q ≡ a.y + r = omega arith in
+            let there : q * stride ≡ first + r * stride = ap (λ n. n * stride) q_is ∙ grind arith in
+            let m = row_end_le r a.height stride stride _ refl (omega arith) (omega arith) in
+            let place : k - first ≡ r * stride + p = omega arith in
+            let inside : r * stride + p < length own = grind (arith, places) in
+            let own_is : get_or own (r * stride + p) (get_or s k d) ≡ get_or s k d = grind (arith, places) in
+            let painted = paint_at stride (in_rows a w h) f own p r (get_or s k d) lt inside in
+            rw (place, painted, own_is) (grind (arith, nat_tests))
+        | inr c ↦
+            let m = rows_le (a.y + a.height) q stride _ refl c in
+            grind (arith, nat_tests, places, length_paint)
+      ]
+    ]
+
+-- rows that are painted by themselves and written back
+pub paint_rows : {X : Type 0} (stride : ℕ) (a : StoredArea) (w h : ℕ) (f : ℕ → ℕ → X → X) (s : List X) → 0 < stride → h ≤ a.height →
+    (a.y + a.height) * stride ≤ length s
+    → with_part (a.y * stride) s (paint stride (in_rows a w h) f (part (a.y * stride) (a.height * stride) s)) ≡ paint stride (corner a w h) f s
+paint_rows stride a w h f s some few rows =
+    same_lists _ _ (length_with_part _ s _ ∙ sym (length_paint stride (corner a w h) f s)) (λ k d l.
+    let own = paint stride (in_rows a w h) f (part (a.y * stride) (a.height * stride) s) in
+    let within : k < length s = omega (arith, l, length_with_part (a.y * stride) s own) in
+    let e : k ≡ k / stride * stride + k % stride = omega arith in
+    rows_at stride a w h k (k % stride) (k / stride) f s d (omega arith) e within few rows
+    ∙ sym (ap (λ n. get_or (paint stride (corner a w h) f s) n d) e ∙ paint_at stride (corner a w h) f s (k % stride) (k / stride) d (omega arith) (omega arith)
+    ∙ ap (λ n. painted_at (corner a w h) f (k % stride) (k / stride) (get_or s n d)) (sym e)))
 
 pub paint_inside : {X : Type 0} (stride : ℕ) (a : StoredArea) (f : ℕ → ℕ → X → X) (s : List X) (r c : ℕ) (d : X) → r < a.height → c < a.width
     → a.x + a.width ≤ stride → (a.y + r) * stride + (a.x + c) < length s

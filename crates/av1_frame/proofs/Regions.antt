@@ -1,14 +1,14 @@
 -- A loop that paints a region row by row, and one that paints its samples while they are lent.
 use Rattle.std.proofs.Common.{ℕ, ◌+◌, ◌*◌, ◌<◌, ◌≤◌, ◌≡◌, List, length, ap, arith, ◌∙◌, subst, sym}
+use Rattle.std.proofs.lemmas.List.{places}
 use Rattle.av1_frame.specs.declared.plane_region.PlaneRegionMut.{PlaneRegionMut}
 use Rattle.av1_frame.specs.declared.plane_region.StoredArea.{StoredArea}
-use Rattle.av1_frame.specs.Samples.{corner, with_part, row_start, row_of, paint, paint_row}
+use Rattle.av1_frame.specs.Samples.{in_rows, with_part, row_start, row_of, paint, paint_row}
 use Rattle.av1_frame.specs.Areas.{IsStorage, AreaFits, AreRows}
 use Rattle.av1_frame.specs.declared.plane.PlaneConfig.{PlaneConfig}
-use Rattle.av1_frame.specs.Regions.{painted, painted_within, with_samples, stored, InStorage}
+use Rattle.av1_frame.specs.Regions.{own_rows, painted, painted_within, with_samples, stored, InStorage}
 use Rattle.av1_frame.proofs.Fits.{row_end_le, rows_le}
-use Rattle.av1_frame.proofs.Paint.{paint_none, paint_more, paint_same, length_paint, length_with_part}
-use Rattle.av1_frame.proofs.Update.{with_whole}
+use Rattle.av1_frame.proofs.Paint.{paint_none, paint_more, paint_rows, paint_same, length_paint, length_with_part}
 
 -- storage of as many samples
 pub same_storage : (cfg : PlaneConfig) (m n : ℕ) → m ≡ n → IsStorage cfg n → IsStorage cfg m
@@ -60,26 +60,40 @@ pub written_in_storage : {T : Type 0} (r : PlaneRegionMut T) (i : ℕ) (ws : Lis
 written_in_storage r i ws h =
     record { fits = same_fits r.area r.plane_cfg _ _ (length_with_part i (stored r) ws) h.fits; cfg = h.cfg; rect = h.rect }
 
--- the first rows and columns of a region are rows of its samples
+-- a region's rows stand in its plane
+pub rows_stand : {T : Type 0} (r : PlaneRegionMut T) → InStorage r → (r.area.y + r.area.height) * r.plane_cfg.stride ≤ length (stored r)
+rows_stand r s = rows_le (r.area.y + r.area.height) r.plane_cfg.alloc_height r.plane_cfg.stride _ s.fits.storage.fills s.fits.rows
+
+stride_some : {T : Type 0} (r : PlaneRegionMut T) → InStorage r → 0 < r.plane_cfg.stride
+stride_some r s = omega (arith, s.fits.storage.some_columns, s.fits.storage.visible_columns)
+
+-- the first rows and columns of a region are rows of its own
 pub corner_rows : {T : Type 0} (r : PlaneRegionMut T) (w h : ℕ) → InStorage r → w ≤ r.area.width → h ≤ r.area.height →
-    AreRows r.plane_cfg.stride (corner r.area w h) (length (stored r))
+    AreRows r.plane_cfg.stride (in_rows r.area w h) (length (own_rows r))
 corner_rows r w h s p q =
     let f = s.fits in
+    let long : length (own_rows r) ≡ r.area.height * r.plane_cfg.stride = (let m = rows_stand r s in grind (arith, places)) in
     record {
-      some = omega (arith, f.storage.some_columns, f.storage.visible_columns);
+      some = stride_some r s;
       columns = omega (arith, f.columns);
-      rows = rows_le (r.area.y + h) r.plane_cfg.alloc_height r.plane_cfg.stride _ f.storage.fills (omega (arith, f.rows));
-      few = f.storage.few;
+      rows = rows_le (0 + h) r.area.height r.plane_cfg.stride _ long (omega (arith, q));
+      few = (let short : length (own_rows r) ≤ length (stored r) = grind (arith, places) in omega (arith, short, f.storage.few));
     }
 
--- a region all of whose samples were lent and painted
-pub lent_painted : {T : Type 0} (r : PlaneRegionMut T) (w h : ℕ) (a : StoredArea) (f g : ℕ → ℕ → T → T) (s ws : List T) → a ≡ corner r.area w h → s ≡ stored r →
-    ws ≡ paint r.plane_cfg.stride a f s
-    → ((q p : ℕ) (v : T) → q < h → p < w → f q p v ≡ g q p v) → with_samples r (with_part 0 (stored r) ws) ≡ painted r w h g
-lent_painted r w h a f g s ws b l e same =
-    let m : ws ≡ paint r.plane_cfg.stride (corner r.area w h) f (stored r) = e ∙ ap (λ b. paint r.plane_cfg.stride b f s) b
-    ∙ ap (paint r.plane_cfg.stride (corner r.area w h) f) l in
-    ap (with_samples r) (with_whole (stored r) ws (ap length m ∙ length_paint _ _ f (stored r)) ∙ m ∙ paint_same r.plane_cfg.stride _ f g (stored r) same)
+-- a region whose rows were lent and painted
+pub rows_painted : {T : Type 0} (r : PlaneRegionMut T) (w h : ℕ) (f : ℕ → ℕ → T → T) → InStorage r → h ≤ r.area.height
+    → with_samples r (with_part (r.area.y * r.plane_cfg.stride) (stored r) (paint r.plane_cfg.stride (in_rows r.area w h) f (own_rows r))) ≡ painted r w h f
+rows_painted r w h f s le = ap (with_samples r) (paint_rows r.plane_cfg.stride r.area w h f (stored r) (stride_some r s) le (rows_stand r s))
 
--- a region that lends all its samples to a loop over a slice
-pub ruleset region_lending = (corner_rows, painted_in_storage, with_whole, length_paint)
+pub lent_painted : {T : Type 0} (r : PlaneRegionMut T) (w h : ℕ) (a : StoredArea) (f g : ℕ → ℕ → T → T) (rows ws : List T) → InStorage r → h ≤ r.area.height →
+    a ≡ in_rows r.area w h → rows ≡ own_rows r → ws ≡ paint r.plane_cfg.stride a f rows
+    → ((q p : ℕ) (v : T) → q < h → p < w → f q p v ≡ g q p v)
+    → with_samples r (with_part (r.area.y * r.plane_cfg.stride) (stored r) ws) ≡ painted r w h g
+lent_painted r w h a f g rows ws s le b l e same =
+    let m : ws ≡ paint r.plane_cfg.stride (in_rows r.area w h) f (own_rows r) = e ∙ ap (λ b. paint r.plane_cfg.stride b f rows) b
+    ∙ ap (paint r.plane_cfg.stride (in_rows r.area w h) f) l in
+    ap (λ us. with_samples r (with_part (r.area.y * r.plane_cfg.stride) (stored r) us)) m ∙ rows_painted r w h f s le
+    ∙ ap (with_samples r) (paint_same r.plane_cfg.stride _ f g (stored r) same)
+
+-- a region that lends its rows to a loop over a slice
+pub ruleset region_lending = (corner_rows, painted_in_storage, rows_painted, length_paint)

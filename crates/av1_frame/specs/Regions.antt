@@ -1,8 +1,8 @@
 -- What regions hold, and what a write through one leaves.
-use Rattle.std.specs.Prelude.{◌≡◌, ℕ, List, [], length}
+use Rattle.std.specs.Prelude.{◌≡◌, ℕ, ◌*◌, List, [], length}
 use Rattle.std.specs.Borrow.{Lends, MutBor, Fml, Array, RattleType}
 use mir.Syntax.{named}
-use Rattle.av1_frame.specs.Samples.{with_part, paint, corner, row_start}
+use Rattle.av1_frame.specs.Samples.{part, with_part, paint, corner, row_start}
 use Rattle.av1_frame.specs.Areas.{rect_of, AreaFits}
 use Rattle.av1_frame.specs.Planes.{plane_row}
 use Rattle.av1_frame.specs.declared.plane.Plane.{Plane}
@@ -57,7 +57,13 @@ LendsRow T r y result =
 abbrev pub LendsSub : (T : RattleType) → MutBor (PlaneRegionMut T.Denot) → PlaneRegionMut T.Denot → Fml
 LendsSub T r result = Lends (region_row T) (plane_row T) r result.plane (with_plane r.now)
 
--- what is written through all the samples of r stands in r
-abbrev pub LendsSamples : (T : RattleType) → MutBor (PlaneRegionMut T.Denot) → MutBor (List T.Denot) → Fml
-LendsSamples T r result =
-    Lends (region_row T) (Array T 0) r result (λ ws. with_samples r.now (with_part 0 (stored r.now) ws))
+-- the rows of r: all that is stored from the start of its first row to the end of its last
+abbrev pub own_rows : {T : Type 0} → PlaneRegionMut T → List T
+own_rows r = part (r.area.y * r.plane_cfg.stride) (r.area.height * r.plane_cfg.stride) (stored r)
+
+-- what is written through the rows of r stands in r
+abbrev pub LendsRows : (T : RattleType) → MutBor (PlaneRegionMut T.Denot) → MutBor (List T.Denot) → Fml
+LendsRows T r result =
+    Lends (region_row T)
+    (Array T 0) r result
+    (λ ws. with_samples r.now (with_part (r.now.area.y * r.now.plane_cfg.stride) (stored r.now) ws))

@@ -51,3 +51,7 @@ paint_row w g s = update (λ c v. if nat_lt c w then g c v else v) s
 -- the first h rows and w columns of a
 abbrev pub corner : StoredArea → ℕ → ℕ → StoredArea
 corner a w h = record { x = a.x; y = a.y; width = w; height = h }
+
+-- the same, counted from the start of the first row of a
+abbrev pub in_rows : StoredArea → ℕ → ℕ → StoredArea
+in_rows a w h = record { x = a.x; y = 0; width = w; height = h }

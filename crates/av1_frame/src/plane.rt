@@ -187,14 +187,6 @@ impl<T: Pixel> Plane<T> {
         self.samples.part_mut(start, width)
     }
 
-    /// All that is stored, to write.
-    pub(crate) fn samples_mut(&mut self) -> &mut [T]
-        ensures* writes_back { sem 𝓛 (LendsPlanePart T.row self.entry 0 result) }
-        ensures value { result.now ≡ self.old.samples }
-    {
-        self.samples.as_mut_slice()
-    }
-
     /// The place `po`, which may lie outside storage.
     pub fn slice(&self, po: PlaneOffset) -> PlaneSlice<'_, T>
         ensures samples { result.samples.now ≡ self.now.samples }

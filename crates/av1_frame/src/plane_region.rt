@@ -2,9 +2,9 @@
 
 ghost use Rattle.std.specs.Prelude.{◌≡◌, ℕ, ◌+◌, ◌-◌, ◌*◌, ◌^◌, ◌<◌, ◌≤◌, length, pos, ◌≤ℤ◌};
 ghost use Rattle.std.specs.Borrow.{sem};
-ghost use Rattle.av1_frame.specs.Samples.{corner, row_of};
+ghost use Rattle.av1_frame.specs.Samples.{in_rows, row_of};
 ghost use Rattle.av1_frame.specs.Areas.{area_from, from_origin, rect_of, LiesIn, IsPartOf, IsStorage, IsStored};
-ghost use Rattle.av1_frame.specs.Regions.{LendsRow, LendsSamples, LendsSub, InStorage, IsReadable, stored};
+ghost use Rattle.av1_frame.specs.Regions.{LendsRow, LendsRows, LendsSub, InStorage, IsReadable, own_rows, stored};
 
 use crate::block_unit::BlockOffset;
 use crate::pixel::Pixel;
@@ -264,21 +264,25 @@ impl<'a, T: Pixel> PlaneRegionMut<'a, T> {
         self.plane.part_mut(start, width)
     }
 
-    /// All the samples that the region's plane stores, to write.
-    pub fn samples_mut(&mut self) -> &mut [T]
-        ensures* writes_back { sem 𝓛 (LendsSamples T.row self.entry result) }
-        ensures value { result.now ≡ stored self.old }
+    /// The rows of the rectangle, to write: all that is stored from the start of its first row to the end of its last.
+    #[tactic(auto, using(crate::proofs::Fits::rows_le))]
+    pub fn rows_mut(&mut self) -> &mut [T]
+        requires fits { InStorage self.old }
+        ensures* writes_back { sem 𝓛 (LendsRows T.row self.entry result) }
+        ensures value { result.now ≡ own_rows self.old }
     {
-        self.plane.samples_mut()
+        let start = self.area.y * self.plane_cfg.stride;
+        let len = self.area.height * self.plane_cfg.stride;
+        self.plane.part_mut(start, len)
     }
 
-    /// The first columns and rows of the rectangle, as a rectangle of storage.
+    /// The first columns and rows of the rectangle, as a rectangle of its rows.
     pub fn corner(&self, width: usize, height: usize) -> StoredArea
-        ensures { result ≡ corner self.now.area width height }
+        ensures { result ≡ in_rows self.now.area width height }
     {
         StoredArea {
             x: self.area.x,
-            y: self.area.y,
+            y: 0,
             width,
             height,
         }

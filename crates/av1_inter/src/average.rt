@@ -223,5 +223,5 @@ pub fn mc_avg<T: Pixel>(
 {
     let stride = dst.plane_cfg.stride;
     let area = dst.corner(width, height);
-    mc_avg_to(dst.samples_mut(), stride, area, tmp1, tmp2, bit_depth);
+    mc_avg_to(dst.rows_mut(), stride, area, tmp1, tmp2, bit_depth);
 }

@@ -101,7 +101,7 @@ pub fn put_8tap<T: Pixel>(
     let stride = dst.plane_cfg.stride;
     let area = dst.corner(width, height);
     put_8tap_to(
-        dst.samples_mut(),
+        dst.rows_mut(),
         stride,
         area,
         src,

@@ -95,7 +95,7 @@ pub fn dispatch_predict_intra<T: Pixel>(
     dispatch_predict_intra_to(
         mode,
         variant,
-        dst.samples_mut(),
+        dst.rows_mut(),
         stride,
         area,
         block,

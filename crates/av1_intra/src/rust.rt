@@ -51,7 +51,7 @@ pub fn pred_v<T: Pixel>(
 {
     let stride = output.plane_cfg.stride;
     let area = output.corner(width, height);
-    pred_v_to(output.samples_mut(), stride, area, above);
+    pred_v_to(output.rows_mut(), stride, area, above);
 }
 
 /// Each row becomes its sample of `left`, again and again.
@@ -63,7 +63,7 @@ pub fn pred_h<T: Pixel>(output: &mut PlaneRegionMut<'_, T>, left: &[T], width: u
 {
     let stride = output.plane_cfg.stride;
     let area = output.corner(width, height);
-    pred_h_to(output.samples_mut(), stride, area, left);
+    pred_h_to(output.rows_mut(), stride, area, left);
 }
 
 /// Each sample becomes the one of the sample above its column, the left one of its row and the corner `above_left` that
@@ -84,7 +84,7 @@ pub fn pred_paeth<T: Pixel>(
 {
     let stride = output.plane_cfg.stride;
     let area = output.corner(width, height);
-    pred_paeth_to(output.samples_mut(), stride, area, above, left, above_left);
+    pred_paeth_to(output.rows_mut(), stride, area, above, left, above_left);
 }
 
 /// Each sample becomes the mean of that of `pred_smooth_v` and that of `pred_smooth_h`, rounded once.
@@ -105,7 +105,7 @@ pub fn pred_smooth<T: Pixel>(
 {
     let stride = output.plane_cfg.stride;
     let area = output.corner(width, height);
-    pred_smooth_to(output.samples_mut(), stride, area, above, left);
+    pred_smooth_to(output.rows_mut(), stride, area, above, left);
 }
 
 /// Each sample becomes a mean of the left sample of its row and the last one above, which weighs the more the further
@@ -126,7 +126,7 @@ pub fn pred_smooth_h<T: Pixel>(
 {
     let stride = output.plane_cfg.stride;
     let area = output.corner(width, height);
-    pred_smooth_h_to(output.samples_mut(), stride, area, above, left);
+    pred_smooth_h_to(output.rows_mut(), stride, area, above, left);
 }
 
 /// Each sample becomes a mean of the sample above its column and the lowest one on the left, which weighs the more the
@@ -147,7 +147,7 @@ pub fn pred_smooth_v<T: Pixel>(
 {
     let stride = output.plane_cfg.stride;
     let area = output.corner(width, height);
-    pred_smooth_v_to(output.samples_mut(), stride, area, above, left);
+    pred_smooth_v_to(output.rows_mut(), stride, area, above, left);
 }
 
 /// Each sample is predicted along the angle `p_angle`, in degrees: one that a directional mode and an angle step from
@@ -195,7 +195,7 @@ pub fn pred_directional<T: Pixel>(
     let area = output.corner(width, height);
     let corner = top_left[0];
     pred_directional_to(
-        output.samples_mut(),
+        output.rows_mut(),
         stride,
         area,
         above,
@@ -213,7 +213,7 @@ fn fill_rows<T: Pixel>(output: &mut PlaneRegionMut<'_, T>, value: T, width: usiz
 {
     let stride = output.plane_cfg.stride;
     let area = output.corner(width, height);
-    fill_block(output.samples_mut(), stride, area, value);
+    fill_block(output.rows_mut(), stride, area, value);
 }
 
 /// Each sample becomes the mean of the samples beside the block on both sides, rounded.

@@ -329,7 +329,7 @@ pub fn inverse_transform_add_with<T: Pixel>(
     inverse_transform_add_to(
         scratch,
         input,
-        output.samples_mut(),
+        output.rows_mut(),
         stride,
         area,
         tx_size,

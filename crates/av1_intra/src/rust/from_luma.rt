@@ -38,7 +38,7 @@ fn flat_from_luma<T: Pixel>(
 {
     let stride = output.plane_cfg.stride;
     let area = output.corner(width, height);
-    pred_cfl_to(output.samples_mut(), stride, area, ac, alpha, dc, bit_depth);
+    pred_cfl_to(output.rows_mut(), stride, area, ac, alpha, dc, bit_depth);
 }
 
 /// Each sample becomes the first one of `output`, and what its difference in `ac` adds to it, clipped to the depth.

@@ -14,11 +14,11 @@ mc_avg_to-requires-clause-second_long g c =
 
 pub returns-clause-painted : goal.returns-clause-painted
 returns-clause-painted g c =
-    lent_painted c.args.dst.now c.args.width c.args.height c.corner-area.result _ _ c.samples_mut.result.now c.mc_avg_to.new.samples c.corner-area.ensures
-    c.samples_mut.ensures.value c.mc_avg_to.ensures
+    lent_painted c.args.dst.now c.args.width c.args.height c.corner-area.result _ _ c.rows_mut.result.now c.mc_avg_to.new.samples
+    c.requires.fits c.requires.rows c.corner-area.ensures c.rows_mut.ensures.value c.mc_avg_to.ensures
     (λ q p v h l.
     ap (λ (a : StoredArea). g.T.Pixel.pixel (averaged c.args.bit_depth (entry c.args.tmp1.now (q * a.width + p))
     (entry c.args.tmp2.now (q * a.width + p)))) c.corner-area.ensures)
 
 pub returns-clause-fits : goal.returns-clause-fits
-returns-clause-fits g c = written_in_storage c.args.dst.now 0 c.mc_avg_to.new.samples c.requires.fits
+returns-clause-fits g c = written_in_storage c.args.dst.now _ c.mc_avg_to.new.samples c.requires.fits

@@ -30,12 +30,12 @@ passed pixel depth mode_x mode_y samples r c fx fx' fy fy' w w' h h' ex ey ew eh
 
 pub returns-clause-painted : goal.returns-clause-painted
 returns-clause-painted g c =
-    lent_painted c.args.dst.now c.args.width c.args.height c.corner-area.result _ _ c.samples_mut.result.now c.put_8tap_to.new.samples c.corner-area.ensures
-    c.samples_mut.ensures.value c.put_8tap_to.ensures
+    lent_painted c.args.dst.now c.args.width c.args.height c.corner-area.result _ _ c.rows_mut.result.now c.put_8tap_to.new.samples
+    c.requires.fits c.requires.rows c.corner-area.ensures c.rows_mut.ensures.value c.put_8tap_to.ensures
     (λ r q v h l. passed g.T.Pixel.pixel c.args.bit_depth c.args.mode_x c.args.mode_y (samples_from g.T.Pixel.num (corner_of c.args.src)) r q _
     (unsigned_abs c.args.col_frac) _ (unsigned_abs c.args.row_frac) _ c.args.width _ c.args.height
     (ap unsigned_abs (to_z-of_z w32 c.args.col_frac c.ranges.col_frac)) (ap unsigned_abs (to_z-of_z w32 c.args.row_frac c.ranges.row_frac))
     (ap (λ (a : StoredArea). a.width) c.corner-area.ensures) (ap (λ (a : StoredArea). a.height) c.corner-area.ensures))
 
 pub returns-clause-fits : goal.returns-clause-fits
-returns-clause-fits g c = written_in_storage c.args.dst.now 0 c.put_8tap_to.new.samples c.requires.fits
+returns-clause-fits g c = written_in_storage c.args.dst.now _ c.put_8tap_to.new.samples c.requires.fits

@@ -4,7 +4,7 @@ use Rattle.std.proofs.lemmas.Int.{to_z-of_z}
 use Rattle.std.proofs.lemmas.List.{get_or-map}
 use Rattle.av1_lists.specs.Sides.{IsTransformSide}
 use Rattle.av1_blocks.specs.Transforms.{tx_width, tx_height}
-use Rattle.av1_frame.specs.Samples.{corner}
+use Rattle.av1_frame.specs.Samples.{in_rows}
 use Rattle.av1_frame.proofs.Regions.{lent_painted}
 use Rattle.av1_intra.specs.Sides.{numbers}
 use Rattle.av1_intra.specs.Angles.{is_interpolated}
@@ -50,8 +50,8 @@ returns-clause-painted g c =
     let z = to_z w16 (of_z w16 c.weight_of-alpha.result) in
     let weight : SFits w16 c.weight_of-alpha.result = search rules in
     let i = to_z-of_z w16 c.weight_of-alpha.result weight in
-    lent_painted a.dst.now w h c.corner-area.result _ _ c.samples_mut.result.now c.dispatch_predict_intra_to.new.samples
-    (c.corner-area.ensures ∙ ap (λ (b : DirectionalBlock). corner a.dst.now.area b.width b.height) b) c.samples_mut.ensures.value
+    lent_painted a.dst.now w h c.corner-area.result _ _ c.rows_mut.result.now c.dispatch_predict_intra_to.new.samples c.requires.block.fits
+    c.requires.block.rows (c.corner-area.ensures ∙ ap (λ (b : DirectionalBlock). in_rows a.dst.now.area b.width b.height) b) c.rows_mut.ensures.value
     c.dispatch_predict_intra_to.ensures
     (λ q r _ _ _. ap g.T.Pixel.pixel
     (ap (λ (b : DirectionalBlock). predicted b a.variant a.mode z (ac_at b.width a.ac.now) (edge_round num s.result.0.now (num x) s.result.2.now) q r) b

@@ -13,7 +13,7 @@ returns-clause-painted g c =
     let x = c.index-top_left-0.result in
     let K : num x ≡ numbers num a.top_left.now 0 = ap num c.index-top_left-0.is ∙ sym (get_or-map num a.top_left.now 0 x 0 c.requires.corner) in
     let G = λ (b : DirectionalBlock) (k i j : ℕ). directional b k (map num a.above.now) (reverse (map num a.left.now)) i j in
-    lent_painted a.output.now a.width a.height c.corner-area.result _ _ c.samples_mut.result.now c.pred_directional_to.new.samples c.corner-area.ensures
-    c.samples_mut.ensures.value c.pred_directional_to.ensures
+    lent_painted a.output.now a.width a.height c.corner-area.result _ _ c.rows_mut.result.now c.pred_directional_to.new.samples
+    c.requires.block.fits c.requires.block.rows c.corner-area.ensures c.rows_mut.ensures.value c.pred_directional_to.ensures
     (λ i j _ _ _. ap g.T.Pixel.pixel (ap (λ b. G b (num x) i j) c.block_in-block.ensures
     ∙ ap (λ k. G (block_at a.output.now a.p_angle a.width a.height a.bit_depth a.ief_params) k i j) K))

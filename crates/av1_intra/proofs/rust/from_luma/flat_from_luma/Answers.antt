@@ -13,7 +13,7 @@ pub returns-clause-painted : goal.returns-clause-painted
 returns-clause-painted g c =
     let a = c.args in
     let F = λ (z : ℤ) (b : StoredArea) (q p : ℕ). from_luma a.bit_depth z (g.T.Pixel.num a.dc) (ac_at b.width a.ac.now q p) in
-    lent_painted a.output.now a.width a.height c.corner-area.result _ _ c.samples_mut.result.now c.pred_cfl_to.new.samples c.corner-area.ensures
-    c.samples_mut.ensures.value c.pred_cfl_to.ensures
+    lent_painted a.output.now a.width a.height c.corner-area.result _ _ c.rows_mut.result.now c.pred_cfl_to.new.samples
+    c.requires.block.fits c.requires.block.rows c.corner-area.ensures c.rows_mut.ensures.value c.pred_cfl_to.ensures
     (λ q p _ _ _. ap g.T.Pixel.pixel (ap (λ z. F z c.corner-area.result q p) (to_z-of_z w16 a.alpha c.ranges.alpha)
     ∙ ap (λ b. F a.alpha b q p) c.corner-area.ensures))
