@@ -25,7 +25,7 @@ any None P f = tt
 any (Some bytes) P f = f bytes
 
 -- a front that is too long makes the whole too long
-longer : (limit : ℕ) (left left' : Option (List ℕ)) (bytes : List ℕ) (P : List ℕ → Type 0) → Consumes left left' bytes → limit < length bytes
+pub longer : (limit : ℕ) (left left' : Option (List ℕ)) (bytes : List ℕ) (P : List ℕ → Type 0) → Consumes left left' bytes → limit < length bytes
     → ((told : List ℕ) → limit < length told → P told) → IfSome left P
 longer limit None left' bytes P consumed over f = tt
 longer limit (Some told) None bytes P consumed over f = absurd consumed
@@ -37,7 +37,7 @@ longer limit (Some told) (Some rest) bytes P consumed over f =
 
 module _ {O A E : Type 0} (task : Task O A E) (sound : IsSound task) where
   -- the outcome of bytes is what an error answers
-  error_tells : (e : E) (cause : Cause) (bytes : List ℕ) (taken taken' : Option (List ℕ)) → ErrorAnswers task cause e bytes taken taken'
+  pub error_tells : (e : E) (cause : Cause) (bytes : List ℕ) (taken taken' : Option (List ℕ)) → ErrorAnswers task cause e bytes taken taken'
       → (outcome : Result O E) → task.HasOutcome bytes outcome → ErrorTells cause e outcome
   error_tells e too_long bytes taken taken' p outcome q = sound.one bytes outcome (Err e) q p
   error_tells e refused bytes taken taken' p outcome q = sound.one bytes outcome (Err e) q p
@@ -46,13 +46,13 @@ module _ {O A E : Type 0} (task : Task O A E) (sound : IsSound task) where
   error_tells e no_memory bytes taken taken' p outcome q = tt
 
   -- the outcome of bytes is what they were answered with
-  tells : (answer : Result A E) (bytes : List ℕ) (taken taken' : Option (List ℕ)) → Answers task answer bytes taken taken'
+  pub tells : (answer : Result A E) (bytes : List ℕ) (taken taken' : Option (List ℕ)) → Answers task answer bytes taken taken'
       → (outcome : Result O E) → task.HasOutcome bytes outcome → Tells task answer outcome
   tells (Ok a) bytes taken taken' (come, p, done) outcome q = subst (λ r. IsOkAnd r (task.Says a)) (sound.one bytes (Ok come) outcome p q) done.0
   tells (Err e) bytes taken taken' p outcome q = error_tells e (task.cause e) bytes taken taken' p outcome q
 
 -- what an error tells where no fault was counted
-error_without_fault : {O E : Type 0} (e : E) (o : O) (cause : Cause) → ErrorTells {O = O} cause e (Ok o) → cause ≢ read_failed → cause ≢ write_failed →
+pub error_without_fault : {O E : Type 0} (e : E) (o : O) (cause : Cause) → ErrorTells {O = O} cause e (Ok o) → cause ≢ read_failed → cause ≢ write_failed →
     cause ≡ no_memory
 error_without_fault e o too_long t a b = absurd cc
 error_without_fault e o refused t a b = absurd cc
@@ -75,7 +75,7 @@ if_err (Err e) f p = f e p
 
 module _ {O A E : Type 0} (task : Task O A E) where
   -- what the answer tells where no fault was counted
-  without_fault : (answer : Result A E) (o : O) (R W : Type 0) → Tells task answer (Ok o) → (IsErrAnd answer (λ e. task.cause e ≡ read_failed) → R) →
+  pub without_fault : (answer : Result A E) (o : O) (R W : Type 0) → Tells task answer (Ok o) → (IsErrAnd answer (λ e. task.cause e ≡ read_failed) → R) →
       (IsErrAnd answer (λ e. task.cause e ≡ write_failed) → W)
       → (R → ⊥) → (W → ⊥) → IsOk answer ⊎ IsErrAnd answer (λ e. task.cause e ≡ no_memory)
   without_fault (Ok a) o R W t r w no_read no_write = inl refl
