@@ -1,29 +1,66 @@
--- The least that a call has to say: all else that `Performs` says follows from it.
-use Rattle.std.proofs.Common.{◌≡◌, ◌≢◌, ◌⊎◌, ℕ, ◌+◌, ◌<◌, ◌≤◌, List, length, Option, Some, None, Result, Ok, Err, refl, subst, sym, arith, length-append, ap}
+-- What an answer says of all the bytes that a source tells, from what the call does with those that it read.
+use Rattle.std.proofs.Common.{◌≡◌, ◌≢◌, ◌⊎◌, inl, inr, ℕ, ◌+◌, ◌<◌, ◌≤◌, List, length, Option, Some, None, Result, Ok, Err, refl, subst, ap, ◌∙◌, arith}
+use Rattle.std.proofs.Common.{length-append}
 use Rattle.std.specs.Prelude.{OnOk, IfErr, IsOk, IsOkAnd, IsErrAnd, IfSome}
 use Rattle.std.specs.Io.KnownBytes.{Appends, Consumes, IsAtEnd}
 use Rattle.std.proofs.KnownBytes.{Consumes-whole}
-use Rattle.av1_streams.specs.Faults.{FaultCounted}
-use Rattle.av1_streams.specs.Streams.{AreBytes, AppendsPrefix, Takes}
+use Rattle.std.proofs.lemmas.Option.{IfSome_then}
+use Rattle.av1_streams.specs.Streams.{AppendsPrefix}
 use Rattle.av1_streams.specs.Tasks.{Cause, too_long, refused, read_failed, write_failed, no_memory, Task, IsRefusal, ErrorTells, Tells, ErrorLeaves}
-use Rattle.av1_streams.specs.Tasks.{LeavesSource, ComeTo, ErrorAnswers, Answers, Performs}
-use Rattle.av1_streams.proofs.Performing.{IsSound, any, error_without_fault, longer, tells, error_tells, without_fault}
+use Rattle.av1_streams.specs.Tasks.{LeavesSource, ComeTo, ErrorAnswers, Answers, Performs, AnswersBytes}
+use Rattle.av1_streams.proofs.Performing.{IsSound}
 
--- Some bytes were read, and the answer says of these what it does, and what is left; faults are counted exactly where they are answered, and counts
--- never fall.
-pub record PerformsLeast {O A E S K : Type 0} (task : Task O A E) (left : S → Option (List ℕ)) (source_faults : S → ℕ) (taken : K → Option (List ℕ))
-    (sink_faults : K → ℕ)
-    (source source' : S) (sink sink' : K) (answer : Result A E) : Type 0 where
-  pub read : (bytes : List ℕ) × AreBytes bytes × (length bytes ≤ task.limit + 1) × Consumes (left source) (left source') bytes
-      × Answers task answer bytes (taken sink) (taken sink')
-  pub leaves : LeavesSource task answer (left source) (left source')
-  pub unwritten : IfErr answer (λ e. task.cause e ≢ write_failed → sink' ≡ sink)
-  pub read_fault : IsErrAnd answer (λ e. task.cause e ≡ read_failed) → FaultCounted (source_faults source) (source_faults source')
-  pub source_uncounted : ¬ IsErrAnd answer (λ e. task.cause e ≡ read_failed) → source_faults source' ≡ source_faults source
-  pub write_fault : IsErrAnd answer (λ e. task.cause e ≡ write_failed) → FaultCounted (sink_faults sink) (sink_faults sink')
-  pub sink_uncounted : ¬ IsErrAnd answer (λ e. task.cause e ≡ write_failed) → sink_faults sink' ≡ sink_faults sink
-  pub source_later : source_faults source ≤ source_faults source'
-  pub sink_later : sink_faults sink ≤ sink_faults sink'
+-- ---- what holds of the bytes that were read, of those that the source told
+
+pub any : (left : Option (List ℕ)) (P : List ℕ → Type 0) → ((bytes : List ℕ) → P bytes) → IfSome left P
+any None P f = tt
+any (Some bytes) P f = f bytes
+
+-- a front that is too long makes the whole too long
+longer : (limit : ℕ) (left left' : Option (List ℕ)) (bytes : List ℕ) (P : List ℕ → Type 0) → Consumes left left' bytes → limit < length bytes
+    → ((told : List ℕ) → limit < length told → P told) → IfSome left P
+longer limit None left' bytes P consumed over f = tt
+longer limit (Some told) None bytes P consumed over f = absurd consumed
+longer limit (Some told) (Some rest) bytes P consumed over f =
+    let more : length told ≡ length bytes + length rest = ap length consumed ∙ length-append bytes rest in
+    f told (omega (arith, over, more))
+
+-- ---- an answer, and the outcome of bytes
+
+module _ {O A E : Type 0} (task : Task O A E) (sound : IsSound task) where
+  -- the outcome of bytes is what an error answers
+  error_tells : (e : E) (cause : Cause) (bytes : List ℕ) (taken taken' : Option (List ℕ)) → ErrorAnswers task cause e bytes taken taken'
+      → (outcome : Result O E) → task.HasOutcome bytes outcome → ErrorTells cause e outcome
+  error_tells e too_long bytes taken taken' p outcome q = sound.one bytes outcome (Err e) q p
+  error_tells e refused bytes taken taken' p outcome q = sound.one bytes outcome (Err e) q p
+  error_tells e read_failed bytes taken taken' p outcome q = tt
+  error_tells e write_failed bytes taken taken' (come, p, prefix) outcome q = subst IsOk (sound.one bytes (Ok come) outcome p q) refl
+  error_tells e no_memory bytes taken taken' p outcome q = tt
+
+  -- the outcome of bytes is what they were answered with
+  tells : (answer : Result A E) (bytes : List ℕ) (taken taken' : Option (List ℕ)) → Answers task answer bytes taken taken'
+      → (outcome : Result O E) → task.HasOutcome bytes outcome → Tells task answer outcome
+  tells (Ok a) bytes taken taken' (come, p, done) outcome q = subst (λ r. IsOkAnd r (task.Says a)) (sound.one bytes (Ok come) outcome p q) done.0
+  tells (Err e) bytes taken taken' p outcome q = error_tells e (task.cause e) bytes taken taken' p outcome q
+
+-- what an error tells where no fault was counted
+error_without_fault : {O E : Type 0} (e : E) (o : O) (cause : Cause) → ErrorTells {O = O} cause e (Ok o) → cause ≢ read_failed → cause ≢ write_failed →
+    cause ≡ no_memory
+error_without_fault e o too_long t a b = absurd cc
+error_without_fault e o refused t a b = absurd cc
+error_without_fault e o read_failed t a b = absurd (a refl)
+error_without_fault e o write_failed t a b = absurd (b refl)
+error_without_fault e o no_memory t a b = refl
+
+module _ {O A E : Type 0} (task : Task O A E) where
+  -- what the answer tells where no fault was counted
+  without_fault : (answer : Result A E) (o : O) (R W : Type 0) → Tells task answer (Ok o) → (IsErrAnd answer (λ e. task.cause e ≡ read_failed) → R) →
+      (IsErrAnd answer (λ e. task.cause e ≡ write_failed) → W)
+      → (R → ⊥) → (W → ⊥) → IsOk answer ⊎ IsErrAnd answer (λ e. task.cause e ≡ no_memory)
+  without_fault (Ok a) o R W t r w no_read no_write = inl refl
+  without_fault (Err e) o R W t r w no_read no_write = inr (error_without_fault e o (task.cause e) t (λ h. no_read (r h)) (λ h. no_write (w h)))
+
+-- ---- the whole call
 
 module _ {O A E S K : Type 0} (task : Task O A E) (sound : IsSound task) (left : S → Option (List ℕ)) (source_faults : S → ℕ) (taken : K → Option (List ℕ))
     (sink_faults : K → ℕ) (source source' : S) (sink sink' : K) where
@@ -89,31 +126,17 @@ module _ {O A E S K : Type 0} (task : Task O A E) (sound : IsSound task) (left :
       (subst (λ (c : Cause). ErrorLeaves c task.limit from rest) h end)
       (subst (λ (c : Cause). ErrorAnswers task c e bytes (taken sink) (taken sink')) h answers)
 
-  pub least_performs : (answer : Result A E) → PerformsLeast task left source_faults taken sink_faults source source' sink sink' answer →
-      Performs task left source_faults taken sink_faults source source' sink sink' answer
-  least_performs answer least =
-      let (bytes, fits, short, consumed, answers) = least.read in
-      let told = exactly answer bytes consumed least.leaves answers in
+  pub answers_bytes : (answer : Result A E) → Performs task left source_faults taken sink_faults source source' sink sink' answer →
+      AnswersBytes task left source_faults taken sink_faults source source' sink sink' answer
+  answers_bytes answer p =
+      let (bytes, fits, short, consumed, answers) = p.read in
+      let told = exactly answer bytes consumed p.leaves answers in
       record {
-        ok = come_to answer bytes consumed least.leaves answers;
-        refused = refuses answer bytes consumed least.leaves answers;
+        ok = come_to answer bytes consumed p.leaves answers;
+        refused = refuses answer bytes consumed p.leaves answers;
         exactly = told;
-        read_fault = least.read_fault;
-        write_fault = least.write_fault;
-        source_uncounted = least.source_uncounted;
-        sink_uncounted = least.sink_uncounted;
-        prefix = begins answer bytes consumed least.leaves answers;
-        unwritten = least.unwritten;
-        taken_at_most = (bytes, fits, short, consumed);
-        leaves = least.leaves;
-        read = least.read;
-        source_later = least.source_later;
-        sink_later = least.sink_later;
+        prefix = begins answer bytes consumed p.leaves answers;
         complete = λ no_read no_write.
-            whole from told
-            (λ b f outcome q. without_fault task answer outcome _ _ (f (Ok outcome) q) least.read_fault least.write_fault no_read no_write);
+            IfSome_then from told
+            (λ b f outcome q. without_fault task answer outcome _ _ (f (Ok outcome) q) p.read_fault p.write_fault no_read no_write);
       }
-    where
-      whole : (from : Option (List ℕ)) {P Q : List ℕ → Type 0} → IfSome from P → ((b : List ℕ) → P b → Q b) → IfSome from Q
-      whole None p f = tt
-      whole (Some b) p f = f b p
