@@ -4,10 +4,7 @@ use Rattle.std.proofs.lemmas.Option.{IfSome_then}
 use Rattle.av1_streams.specs.Tasks.{Cause, read_failed, too_long, refused, write_failed, no_memory, Task, IsRefusal, ErrorTells, Performs, AnswersBytes}
 use Rattle.av1_streams.proofs.Performing.{IsSound}
 use Rattle.av1_streams.proofs.Told.{answers_bytes, any}
-use Rattle.av1_recon.specs.declared.error.ReconError.TheVariants.{ReadFault, TooLong, Malformed, Invalid, WriteFault, Memory}
-use Rattle.av1_recon.specs.Answers.{status_of}
-use Rattle.av1_recon.specs.Ends.{answer_status, error_status, written, EndsWith}
-use Rattle.av1_recon.specs.Outcomes.{Answer, cause as plan_cause}
+use Rattle.av1_recon.specs.Ends.{answer_status, error_status, EndsWith}
 
 -- statuses of success are none of a failure
 pub record AreApart (IsSuccess : ℕ → Type 0) : Type 0 where
@@ -114,13 +111,3 @@ module _ {O A E S K : Type 0} (IsSuccess : ℕ → Type 0) (apart : AreApart IsS
       subst (EndsWith IsSuccess task left source_faults taken sink_faults source source' sink sink') (sym is) (ok_ends a (done a) (h a) p)
   ends done status (Err e) h is p =
       subst (EndsWith IsSuccess task left source_faults taken sink_faults source source' sink sink') (sym is) (error_ends e (task.cause e) refl p)
-
--- the status of a call that reads a plan is that of what its error blames
-pub plan_status : (answer : Answer) → status_of answer ≡ answer_status plan_cause written answer
-plan_status (Ok done) = refl
-plan_status (Err ReadFault) = refl
-plan_status (Err TooLong) = refl
-plan_status (Err (Malformed at)) = refl
-plan_status (Err (Invalid leaf kind)) = refl
-plan_status (Err WriteFault) = refl
-plan_status (Err Memory) = refl

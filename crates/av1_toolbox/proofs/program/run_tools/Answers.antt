@@ -1,8 +1,8 @@
-use Rattle.std.proofs.Common.{◌∙◌, inl, refl}
+use Rattle.std.proofs.Common.{inl, refl}
 use Rattle.av1_planwrite.specs.Bare.{bare_text}
 use Rattle.av1_recon.specs.Ends.{written}
 use Rattle.av1_recon.specs.Outcomes.{plan_task}
-use Rattle.av1_recon.proofs.Ends.{ends, plan_status}
+use Rattle.av1_recon.proofs.Ends.{ends}
 use Rattle.av1_recon.proofs.Outcomes.{plan_task_sound}
 use Rattle.av1_tiles.specs.Tasks.{tiles_task}
 use Rattle.av1_tiles.proofs.Answering.{tiles_task_sound}
@@ -35,4 +35,4 @@ pub returns-in-Some-Bare-clause-bare_status : goal.returns-in-Some-Bare-clause-b
 returns-in-Some-Bare-clause-bare_status g c = λ command.
     ends IsSuccess apart (plan_task bare_text) (plan_task_sound bare_text) g.R.Source.left g.R.Source.faults g.W.Sink.taken g.W.Sink.faults _ _ _ _ written c.report.result
     c.bare_plan.result (λ done. inl refl)
-    (c.report.ensures.status ∙ plan_status c.bare_plan.result) c.bare_plan.ensures
+    c.report.ensures.status c.bare_plan.ensures
