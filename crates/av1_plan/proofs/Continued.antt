@@ -85,7 +85,8 @@ module _ {A B : Type 0} (g : A → Format B) where
             ap length (text_on f vs x us s) ∙ omega (arith, length-append (text f vs) (text (g x) us), reached, ap length e),
           );
           longest = λ ws p prefix.
-              let le = longest_on f vs x rest at s r.first.longest ws p (subst (IsPrefix (text (f >>= g) ws)) (ap (λ (bytes : List ℕ). bytes ++ rest) e) prefix) in
+              let told = subst (IsPrefix (text (f >>= g) ws)) (ap (λ (bytes : List ℕ). bytes ++ rest) e) prefix in
+              let le = longest_on f vs x rest at s r.first.longest ws p told in
               omega (arith, le, ap length e);
         };
       }
