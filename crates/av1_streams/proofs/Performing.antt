@@ -154,7 +154,8 @@ module _ {O A E : Type 0} (task : Task O A E) where
       error_written e outcome (task.cause e) bytes (taken sink) (taken sink') come w.prefix w.unwritten
 
   -- a value was found, and what is written of its outcome was written
-  pub carries_on : {V S K : Type 0} → (Found : List ℕ → Result V E → Type 0) (left : S → Option (List ℕ)) (source_faults : S → ℕ) (taken : K → Option (List ℕ)) (sink_faults : K → ℕ)
+  pub carries_on : {V S K : Type 0} → (Found : List ℕ → Result V E → Type 0) (left : S → Option (List ℕ)) (source_faults : S → ℕ)
+      (taken : K → Option (List ℕ)) (sink_faults : K → ℕ)
       (source source' : S) (sink sink' : K) (v : V) (outcome : O) (answer : Result A E)
       → ((bytes : List ℕ) → Found bytes (Ok v) → task.HasOutcome bytes (Ok outcome)) → IfOk answer (λ a. task.Says a outcome)
       → Reads task.limit task.cause Found left source_faults source source' (Ok v) →

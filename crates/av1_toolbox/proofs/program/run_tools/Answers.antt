@@ -33,6 +33,7 @@ returns-in-Some-Sequence-clause-sequence_status g c = λ command.
 
 pub returns-in-Some-Bare-clause-bare_status : goal.returns-in-Some-Bare-clause-bare_status
 returns-in-Some-Bare-clause-bare_status g c = λ command.
-    ends IsSuccess apart (plan_task bare_text) (plan_task_sound bare_text) g.R.Source.left g.R.Source.faults g.W.Sink.taken g.W.Sink.faults _ _ _ _ written c.report.result
+    ends IsSuccess apart (plan_task bare_text) (plan_task_sound bare_text) g.R.Source.left g.R.Source.faults g.W.Sink.taken g.W.Sink.faults _ _ _ _ written
+    c.report.result
     c.bare_plan.result (λ done. inl refl)
     c.report.ensures.status c.bare_plan.ensures

@@ -12,12 +12,14 @@ use Rattle.av1_view.proofs.program.run_view.Goals as goal
 
 pub returns-in-Some-Plan-clause-plan_ends : goal.returns-in-Some-Plan-clause-plan_ends
 returns-in-Some-Plan-clause-plan_ends g c = λ command.
-    ends IsSuccess apart (plan_task plan_page) (plan_task_sound plan_page) g.R.Source.left g.R.Source.faults g.W.Sink.taken g.W.Sink.faults _ _ _ _ written c.report.result
+    ends IsSuccess apart (plan_task plan_page) (plan_task_sound plan_page) g.R.Source.left g.R.Source.faults g.W.Sink.taken g.W.Sink.faults _ _ _ _ written
+    c.report.result
     c.view_plan.result (λ done. refl)
     c.report.ensures.status c.view_plan.ensures
 
 pub returns-in-Some-Trace-clause-trace_ends : goal.returns-in-Some-Trace-clause-trace_ends
 returns-in-Some-Trace-clause-trace_ends g c = λ command.
-    ends IsSuccess apart trace_page_task trace_page_task_sound g.R.Source.left g.R.Source.faults g.W.Sink.taken g.W.Sink.faults _ _ _ _ written c.report_trace.result
+    ends IsSuccess apart trace_page_task trace_page_task_sound g.R.Source.left g.R.Source.faults g.W.Sink.taken g.W.Sink.faults _ _ _ _ written
+    c.report_trace.result
     c.view_trace.result (λ done. refl)
     c.report_trace.ensures.status c.view_trace.ensures
