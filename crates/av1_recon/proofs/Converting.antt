@@ -4,7 +4,9 @@ use Rattle.std.specs.Prelude.{IfOk, IsErrAnd}
 use Rattle.av1_plan.specs.Answer.{plan_value}
 use Rattle.av1_plan.specs.Plan.{PlanValue}
 use Rattle.av1_plan.specs.declared.plan.Plan.{Plan}
+use Rattle.av1_streams.specs.Tasks.{AnswersBytes}
 use Rattle.av1_streams.proofs.Performing.{carries_on as performs_on, stops as performs_not, is_err}
+use Rattle.av1_streams.proofs.Told.{answers_bytes}
 use Rattle.av1_recon.specs.declared.error.ReconError.{ReconError}
 use Rattle.av1_recon.specs.Outcomes.{Answer, Converts, plan_task}
 use Rattle.av1_recon.specs.Reading.{IsFound, ReadsPlan}
@@ -32,6 +34,13 @@ pub carries_on : {S K : Type 0} (output : PlanValue → List ℕ) (left : S → 
     → ReadsPlan left source_faults source source' (Ok plan) → Writes taken sink_faults sink sink' (output (plan_value plan)) answer
     → Converts output left source_faults taken sink_faults source source' sink sink' answer
 carries_on output left source_faults taken sink_faults source source' sink sink' plan answer reads w =
-    performs_on (plan_task output)
-    (plan_task_sound output) IsFound left source_faults taken sink_faults source source' sink sink' plan (output (plan_value plan)) answer
+    performs_on (plan_task output) IsFound left source_faults taken sink_faults source source' sink sink' plan (output (plan_value plan)) answer
     (λ bytes found. (plan_value plan, found.0, found.1, refl)) (says_nothing answer) reads w
+
+-- what the answer says of all the bytes that a source tells
+pub tells_all : {S K : Type 0} (output : PlanValue → List ℕ) (left : S → Option (List ℕ)) (source_faults : S → ℕ) (taken : K → Option (List ℕ))
+    (sink_faults : K → ℕ) (source source' : S) (sink sink' : K) (answer : Answer)
+    → Converts output left source_faults taken sink_faults source source' sink sink' answer
+    → AnswersBytes (plan_task output) left source_faults taken sink_faults source source' sink sink' answer
+tells_all output left source_faults taken sink_faults source source' sink sink' answer does =
+    answers_bytes (plan_task output) (plan_task_sound output) left source_faults taken sink_faults source source' sink sink' answer does

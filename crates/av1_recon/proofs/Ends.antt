@@ -1,12 +1,10 @@
 -- What the exit status says, by what the call did.
 use Rattle.std.proofs.Common.{◌≡◌, inl, inr, ℕ, List, Option, Result, Ok, Err, refl, sym, subst}
 use Rattle.std.proofs.lemmas.Option.{IfSome_then}
-use Rattle.av1_streams.specs.Tasks.{Cause, read_failed, too_long, refused, write_failed, no_memory, Task, IsRefusal, ErrorTells, Performs}
-use Rattle.av1_streams.proofs.Performing.{any}
-use Rattle.av1_recon.specs.declared.error.ReconError.TheVariants.{ReadFault, TooLong, Malformed, Invalid, WriteFault, Memory}
-use Rattle.av1_recon.specs.Answers.{status_of}
-use Rattle.av1_recon.specs.Ends.{answer_status, error_status, written, EndsWith}
-use Rattle.av1_recon.specs.Outcomes.{Answer, cause as plan_cause}
+use Rattle.av1_streams.specs.Tasks.{Cause, read_failed, too_long, refused, write_failed, no_memory, Task, IsRefusal, ErrorTells, Performs, AnswersBytes}
+use Rattle.av1_streams.proofs.Performing.{IsSound}
+use Rattle.av1_streams.proofs.Told.{answers_bytes, any}
+use Rattle.av1_recon.specs.Ends.{answer_status, error_status, EndsWith}
 
 -- statuses of success are none of a failure
 pub record AreApart (IsSuccess : ℕ → Type 0) : Type 0 where
@@ -23,21 +21,25 @@ no_refusal O too_long e d is tells = absurd cc
 no_refusal O refused e d is tells = absurd cc
 no_refusal O no_memory e d is tells = absurd cc
 
-module _ {O A E S K : Type 0} (IsSuccess : ℕ → Type 0) (apart : AreApart IsSuccess) (task : Task O A E) (left : S → Option (List ℕ)) (source_faults : S → ℕ)
-    (taken : K → Option (List ℕ)) (sink_faults : K → ℕ)
+module _ {O A E S K : Type 0} (IsSuccess : ℕ → Type 0) (apart : AreApart IsSuccess) (task : Task O A E) (sound : IsSound task)
+    (left : S → Option (List ℕ)) (source_faults : S → ℕ) (taken : K → Option (List ℕ)) (sink_faults : K → ℕ)
     (source source' : S) (sink sink' : K) where
+  told : (answer : Result A E) → Performs task left source_faults taken sink_faults source source' sink sink' answer →
+      AnswersBytes task left source_faults taken sink_faults source source' sink sink' answer
+  told answer p = answers_bytes task sound left source_faults taken sink_faults source source' sink sink' answer p
+
   -- the call succeeded
   ok_ends : (a : A) (n : ℕ) → IsSuccess n → Performs task left source_faults taken sink_faults source source' sink sink' (Ok a) →
       EndsWith IsSuccess task left source_faults taken sink_faults source source' sink sink' n
   ok_ends a n h p = record {
-    done = λ is. p.ok;
+    done = λ is. (told (Ok a) p).ok;
     refused = λ is. absurd (apart.not_2 (subst IsSuccess is h));
     memory = λ is. absurd (apart.not_3 (subst IsSuccess is h));
     read_fault = λ is. absurd (apart.not_4 (subst IsSuccess is h));
     write_fault = λ is. absurd (apart.not_5 (subst IsSuccess is h));
     no_other = inl h;
     complete = λ no_read no_write. any (left source) _ (λ bytes outcome come. inl h);
-    refuses = IfSome_then (left source) p.exactly (λ bytes f e come. absurd (f (Err e) come));
+    refuses = IfSome_then (left source) (told (Ok a) p).exactly (λ bytes f e come. absurd (f (Err e) come));
   }
 
   -- it failed, for this cause
@@ -45,25 +47,25 @@ module _ {O A E S K : Type 0} (IsSuccess : ℕ → Type 0) (apart : AreApart IsS
       → EndsWith IsSuccess task left source_faults taken sink_faults source source' sink sink' (error_status cause)
   error_ends e too_long is p = record {
     done = λ h. absurd (apart.not_2 h);
-    refused = λ h. (IfSome_then (left source) (p.refused (subst IsRefusal (sym is) tt)) (λ bytes come. (e, come)), p.unwritten (λ w. absurd cc));
+    refused = λ h. (IfSome_then (left source) ((told (Err e) p).refused (subst IsRefusal (sym is) tt)) (λ bytes come. (e, come)), p.unwritten (λ w. absurd cc));
     memory = λ h. absurd cc;
     read_fault = λ h. absurd cc;
     write_fault = λ h. absurd cc;
     no_other = inr (inl refl);
     complete =
-        λ no_read no_write. IfSome_then (left source) (p.complete no_read no_write)
+        λ no_read no_write. IfSome_then (left source) ((told (Err e) p).complete no_read no_write)
         (λ bytes f outcome come. elim (f outcome come) [ inl ok ↦ absurd cc | inr memory ↦ absurd cc ]);
     refuses = any (left source) _ (λ bytes d come. inl refl);
   }
   error_ends e refused is p = record {
     done = λ h. absurd (apart.not_2 h);
-    refused = λ h. (IfSome_then (left source) (p.refused (subst IsRefusal (sym is) tt)) (λ bytes come. (e, come)), p.unwritten (λ w. absurd cc));
+    refused = λ h. (IfSome_then (left source) ((told (Err e) p).refused (subst IsRefusal (sym is) tt)) (λ bytes come. (e, come)), p.unwritten (λ w. absurd cc));
     memory = λ h. absurd cc;
     read_fault = λ h. absurd cc;
     write_fault = λ h. absurd cc;
     no_other = inr (inl refl);
     complete =
-        λ no_read no_write. IfSome_then (left source) (p.complete no_read no_write)
+        λ no_read no_write. IfSome_then (left source) ((told (Err e) p).complete no_read no_write)
         (λ bytes f outcome come. elim (f outcome come) [ inl ok ↦ absurd cc | inr memory ↦ absurd cc ]);
     refuses = any (left source) _ (λ bytes d come. inl refl);
   }
@@ -85,7 +87,7 @@ module _ {O A E S K : Type 0} (IsSuccess : ℕ → Type 0) (apart : AreApart IsS
     write_fault = λ h. absurd cc;
     no_other = inr (inr (inr (inl refl)));
     complete =
-        λ no_read no_write. IfSome_then (left source) (p.complete no_read no_write)
+        λ no_read no_write. IfSome_then (left source) ((told (Err e) p).complete no_read no_write)
         (λ bytes f outcome come. elim (f outcome come) [ inl ok ↦ absurd cc | inr memory ↦ absurd cc ]);
     refuses = any (left source) _ (λ bytes d come. inr (inr refl));
   }
@@ -94,12 +96,12 @@ module _ {O A E S K : Type 0} (IsSuccess : ℕ → Type 0) (apart : AreApart IsS
     refused = λ h. absurd cc;
     memory = λ h. absurd cc;
     read_fault = λ h. absurd cc;
-    write_fault = λ h. (p.write_fault is, p.prefix is);
+    write_fault = λ h. (p.write_fault is, (told (Err e) p).prefix is);
     no_other = inr (inr (inr (inr refl)));
     complete =
-        λ no_read no_write. IfSome_then (left source) (p.complete no_read no_write)
+        λ no_read no_write. IfSome_then (left source) ((told (Err e) p).complete no_read no_write)
         (λ bytes f outcome come. elim (f outcome come) [ inl ok ↦ absurd cc | inr memory ↦ absurd cc ]);
-    refuses = IfSome_then (left source) p.exactly (λ bytes f d come. absurd (no_refusal O (task.cause e) e d is (f (Err d) come)));
+    refuses = IfSome_then (left source) (told (Err e) p).exactly (λ bytes f d come. absurd (no_refusal O (task.cause e) e d is (f (Err d) come)));
   }
 
   pub ends : (done : A → ℕ) (status : ℕ) (answer : Result A E) → ((a : A) → IsSuccess (done a)) → status ≡ answer_status task.cause done answer
@@ -109,13 +111,3 @@ module _ {O A E S K : Type 0} (IsSuccess : ℕ → Type 0) (apart : AreApart IsS
       subst (EndsWith IsSuccess task left source_faults taken sink_faults source source' sink sink') (sym is) (ok_ends a (done a) (h a) p)
   ends done status (Err e) h is p =
       subst (EndsWith IsSuccess task left source_faults taken sink_faults source source' sink sink') (sym is) (error_ends e (task.cause e) refl p)
-
--- the status of a call that reads a plan is that of what its error blames
-pub plan_status : (answer : Answer) → status_of answer ≡ answer_status plan_cause written answer
-plan_status (Ok done) = refl
-plan_status (Err ReadFault) = refl
-plan_status (Err TooLong) = refl
-plan_status (Err (Malformed at)) = refl
-plan_status (Err (Invalid leaf kind)) = refl
-plan_status (Err WriteFault) = refl
-plan_status (Err Memory) = refl

@@ -1,5 +1,5 @@
 -- The exit status and the line of each answer.
-use Rattle.std.specs.Prelude.{ℕ, List, [], ◌++◌, Option, Ok, Err, codes, decimal}
+use Rattle.std.specs.Prelude.{ℕ, List, ◌++◌, Option, codes, decimal}
 use Rattle.std.specs.Io.KnownBytes.{Appends}
 use Rattle.av1_plan.specs.declared.error.InvalidKind.{InvalidKind}
 use Rattle.av1_plan.specs.declared.error.InvalidKind.TheVariants as kinds
@@ -8,17 +8,12 @@ use Rattle.av1_streams.specs.Streams.{AppendsPrefix}
 use Rattle.av1_recon.specs.declared.error.ReconError.{ReconError}
 use Rattle.av1_recon.specs.declared.error.ReconError.TheVariants.{ReadFault, TooLong, Malformed, Invalid, WriteFault}
 use Rattle.av1_recon.specs.declared.error.ReconError.TheVariants.{Memory}
-use Rattle.av1_recon.specs.Outcomes.{Answer}
+use Rattle.av1_recon.specs.Ends.{answer_line, answer_status, written}
+use Rattle.av1_recon.specs.Outcomes.{Answer, cause}
 
 -- the exit status of an answer
 abbrev pub status_of : Answer → ℕ
-status_of (Ok done) = 0
-status_of (Err TooLong) = 2
-status_of (Err (Malformed at)) = 2
-status_of (Err (Invalid leaf kind)) = 2
-status_of (Err Memory) = 3
-status_of (Err ReadFault) = 4
-status_of (Err WriteFault) = 5
+status_of answer = answer_status cause written answer
 
 -- what a fault of a leaf is called
 abbrev pub kind_text : InvalidKind → List ℕ
@@ -45,10 +40,9 @@ error_line (Invalid leaf kind) = invalid_text leaf kind
 error_line WriteFault = codes "write fault\n"
 error_line Memory = codes "out of memory\n"
 
--- the line for an answer, none for Ok
+-- the line for an answer
 abbrev pub line_of : Answer → List ℕ
-line_of (Ok done) = []
-line_of (Err e) = error_line e
+line_of answer = answer_line error_line answer
 
 -- the line for words that are no command
 abbrev pub usage : List ℕ

@@ -51,10 +51,6 @@ HasOutcome bytes outcome = HasOutcomeBy planes_of bytes outcome
 abbrev pub Outputs : (PlanValue → List ℕ) → Option (List ℕ) → (List ℕ → Type 0) → Type 0
 Outputs output left P = IfSome left (λ bytes. (written : List ℕ) × HasOutcomeBy output bytes (Ok written) × P written)
 
--- where the source told its bytes their outcome is planes, and P holds of these
-abbrev pub Planes : Option (List ℕ) → (List ℕ → Type 0) → Type 0
-Planes left P = Outputs planes_of left P
-
 -- ---- what a call does
 
 -- what an error blames

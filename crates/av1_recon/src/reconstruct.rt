@@ -2,9 +2,10 @@
 ghost use Rattle.std.specs.Prelude.{◌≡◌, ◌≤◌, None};
 ghost use Rattle.av1_plan.specs.Answer.{plan_value};
 ghost use Rattle.av1_plan.specs.Validity.{first_fault};
+ghost use Rattle.av1_streams.specs.Tasks.{AnswersBytes};
 ghost use Rattle.av1_tile.specs.Output.{planes_of};
 ghost use Rattle.av1_tile.specs.State.{IsSound, MadeFor};
-ghost use Rattle.av1_recon.specs.Outcomes.{Reconstructs};
+ghost use Rattle.av1_recon.specs.Outcomes.{Reconstructs, plan_task};
 ghost use Rattle.av1_recon.specs.Writing.{Writes};
 
 use crate::{ReconError, Sink, Source, TileState, read_plan, reconstruct_tile, write_planes};
@@ -24,7 +25,9 @@ pub fn reconstruct_plan<R: Source, W: Sink>(
     source: &mut R,
     sink: &mut W,
 ) -> Result<(), ReconError>
-    ensures { Reconstructs R.left R.faults W.taken W.faults source.old source.new sink.old sink.new result }
+    ensures does { Reconstructs R.left R.faults W.taken W.faults source.old source.new sink.old sink.new result }
+    // What follows for a source that tells its bytes.
+    ensures tells { AnswersBytes (plan_task planes_of) R.left R.faults W.taken W.faults source.old source.new sink.old sink.new result }
 {
     let plan = read_plan(alloc, source)?;
     reconstruct_valid(alloc, &plan, sink)

@@ -1,15 +1,11 @@
 -- What a call does that reads bytes and writes of them, from what reading and writing do.
-use Rattle.std.proofs.Common.{◌≡◌, ◌≢◌, ◌⊎◌, inl, inr, ℕ, ◌+◌, ◌<◌, ◌≤◌, List, length, Option, Some, None, Result, Ok, Err, refl, ap, subst, ◌∙◌, length-append}
-use Rattle.std.proofs.Common.{arith}
-use Rattle.std.specs.Prelude.{OnOk, IfOk, IfErr, IsOk, IsOkAnd, IsErrAnd, IfSome}
-use Rattle.std.specs.Io.KnownBytes.{Appends, Consumes, IsAtEnd}
-use Rattle.std.proofs.KnownBytes.{Consumes-whole}
-use Rattle.std.proofs.lemmas.Option.{IfSome_then}
-use Rattle.std.proofs.lemmas.Result.{on_ok_weaker}
+use Rattle.std.proofs.Common.{◌≡◌, ◌≢◌, ℕ, ◌+◌, ◌<◌, ◌≤◌, List, length, Option, Result, Ok, Err, refl, ap, subst, arith}
+use Rattle.std.specs.Prelude.{OnOk, IfOk, IfErr, IsErrAnd}
+use Rattle.std.specs.Io.KnownBytes.{Consumes, IsAtEnd}
 use Rattle.av1_streams.specs.Faults.{FaultCounted}
 use Rattle.av1_streams.specs.Streams.{AreBytes, AppendsPrefix}
-use Rattle.av1_streams.specs.Tasks.{Cause, too_long, refused, read_failed, write_failed, no_memory, Task, IsRefusal, ErrorTells, Tells, ErrorLeaves}
-use Rattle.av1_streams.specs.Tasks.{LeavesSource, ComeTo, ErrorAnswers, Answers, Performs, ErrorFinds, Reads, WritesBytes}
+use Rattle.av1_streams.specs.Tasks.{Cause, too_long, refused, read_failed, write_failed, no_memory, Task, ErrorLeaves}
+use Rattle.av1_streams.specs.Tasks.{LeavesSource, ErrorAnswers, Answers, Performs, ErrorFinds, Reads, WritesBytes}
 
 -- ---- what a task has to be
 
@@ -18,47 +14,7 @@ pub record IsSound {O A E : Type 0} (task : Task O A E) : Type 0 where
   pub one : (bytes : List ℕ) (a b : Result O E) → task.HasOutcome bytes a → task.HasOutcome bytes b → a ≡ b
   pub long : (bytes : List ℕ) (e : E) → task.cause e ≡ too_long → task.limit < length bytes → task.HasOutcome bytes (Err e)
 
--- ---- what holds of the bytes that were read, of those that the source told
-
-pub any : (left : Option (List ℕ)) (P : List ℕ → Type 0) → ((bytes : List ℕ) → P bytes) → IfSome left P
-any None P f = tt
-any (Some bytes) P f = f bytes
-
--- a front that is too long makes the whole too long
-longer : (limit : ℕ) (left left' : Option (List ℕ)) (bytes : List ℕ) (P : List ℕ → Type 0) → Consumes left left' bytes → limit < length bytes
-    → ((told : List ℕ) → limit < length told → P told) → IfSome left P
-longer limit None left' bytes P consumed over f = tt
-longer limit (Some told) None bytes P consumed over f = absurd consumed
-longer limit (Some told) (Some rest) bytes P consumed over f =
-    let more : length told ≡ length bytes + length rest = ap length consumed ∙ length-append bytes rest in
-    f told (omega (arith, over, more))
-
--- ---- an answer, and the outcome of bytes
-
-module _ {O A E : Type 0} (task : Task O A E) (sound : IsSound task) where
-  -- the outcome of bytes is what an error answers
-  error_tells : (e : E) (cause : Cause) (bytes : List ℕ) (taken taken' : Option (List ℕ)) → ErrorAnswers task cause e bytes taken taken'
-      → (outcome : Result O E) → task.HasOutcome bytes outcome → ErrorTells cause e outcome
-  error_tells e too_long bytes taken taken' p outcome q = sound.one bytes outcome (Err e) q p
-  error_tells e refused bytes taken taken' p outcome q = sound.one bytes outcome (Err e) q p
-  error_tells e read_failed bytes taken taken' p outcome q = tt
-  error_tells e write_failed bytes taken taken' (come, p, prefix) outcome q = subst IsOk (sound.one bytes (Ok come) outcome p q) refl
-  error_tells e no_memory bytes taken taken' p outcome q = tt
-
-  -- the outcome of bytes is what they were answered with
-  tells : (answer : Result A E) (bytes : List ℕ) (taken taken' : Option (List ℕ)) → Answers task answer bytes taken taken'
-      → (outcome : Result O E) → task.HasOutcome bytes outcome → Tells task answer outcome
-  tells (Ok a) bytes taken taken' (come, p, done) outcome q = subst (λ r. IsOkAnd r (task.Says a)) (sound.one bytes (Ok come) outcome p q) done.0
-  tells (Err e) bytes taken taken' p outcome q = error_tells e (task.cause e) bytes taken taken' p outcome q
-
--- what an error tells where no fault was counted
-error_without_fault : {O E : Type 0} (e : E) (o : O) (cause : Cause) → ErrorTells {O = O} cause e (Ok o) → cause ≢ read_failed → cause ≢ write_failed →
-    cause ≡ no_memory
-error_without_fault e o too_long t a b = absurd cc
-error_without_fault e o refused t a b = absurd cc
-error_without_fault e o read_failed t a b = absurd (a refl)
-error_without_fault e o write_failed t a b = absurd (b refl)
-error_without_fault e o no_memory t a b = refl
+-- ---- what is left
 
 -- what is left where the bytes were read to their end
 error_leaves : (cause : Cause) (limit : ℕ) (left left' : Option (List ℕ)) → cause ≢ too_long → IsAtEnd left' → ErrorLeaves cause limit left left'
@@ -74,13 +30,6 @@ if_err (Ok done) f p = tt
 if_err (Err e) f p = f e p
 
 module _ {O A E : Type 0} (task : Task O A E) where
-  -- what the answer tells where no fault was counted
-  without_fault : (answer : Result A E) (o : O) (R W : Type 0) → Tells task answer (Ok o) → (IsErrAnd answer (λ e. task.cause e ≡ read_failed) → R) →
-      (IsErrAnd answer (λ e. task.cause e ≡ write_failed) → W)
-      → (R → ⊥) → (W → ⊥) → IsOk answer ⊎ IsErrAnd answer (λ e. task.cause e ≡ no_memory)
-  without_fault (Ok a) o R W t r w no_read no_write = inl refl
-  without_fault (Err e) o R W t r w no_read no_write = inr (error_without_fault e o (task.cause e) t (λ h. no_read (r h)) (λ h. no_write (w h)))
-
   -- reading that ended did not fail
   no_read_fault : {X : Type 0} (answer : Result A E) → IfErr answer (λ e. (task.cause e ≢ read_failed) × (task.cause e ≢ too_long)) →
       IsErrAnd answer (λ e. task.cause e ≡ read_failed) → X
@@ -92,30 +41,6 @@ module _ {O A E : Type 0} (task : Task O A E) where
   leaves_end (Ok a) left left' n end = end
   leaves_end (Err e) left left' n end = error_leaves (task.cause e) task.limit left left' n end
 
-  -- what the bytes were answered with, case by case
-  answered_ok : (answer : Result A E) (bytes : List ℕ) (taken taken' : Option (List ℕ)) → Answers task answer bytes taken taken'
-      → OnOk answer (ComeTo task bytes (λ outcome. Appends taken taken' (task.written outcome)))
-  answered_ok (Ok a) bytes taken taken' (outcome, come, done) = (outcome, come, done.1)
-  answered_ok (Err e) bytes taken taken' a = tt
-
-  error_refuses : (e : E) (cause : Cause) (bytes : List ℕ) (taken taken' : Option (List ℕ)) → ErrorAnswers task cause e bytes taken taken' → IsRefusal cause →
-      task.HasOutcome bytes (Err e)
-  error_refuses e too_long bytes taken taken' a r = a
-  error_refuses e refused bytes taken taken' a r = a
-  error_refuses e read_failed bytes taken taken' a r = absurd r
-  error_refuses e write_failed bytes taken taken' a r = absurd r
-  error_refuses e no_memory bytes taken taken' a r = absurd r
-
-  answered_refused : (answer : Result A E) (bytes : List ℕ) (taken taken' : Option (List ℕ)) → Answers task answer bytes taken taken'
-      → IfErr answer (λ e. IsRefusal (task.cause e) → task.HasOutcome bytes (Err e))
-  answered_refused (Ok a) bytes taken taken' p = tt
-  answered_refused (Err e) bytes taken taken' p = error_refuses e (task.cause e) bytes taken taken' p
-
-  answered_prefix : (answer : Result A E) (bytes : List ℕ) (taken taken' : Option (List ℕ)) → Answers task answer bytes taken taken'
-      → IsErrAnd answer (λ e. task.cause e ≡ write_failed) → ComeTo task bytes (λ outcome. AppendsPrefix taken taken' (task.written outcome))
-  answered_prefix (Ok a) bytes taken taken' p h = absurd h
-  answered_prefix (Err e) bytes taken taken' p h = subst (λ (c : Cause). ErrorAnswers task c e bytes taken taken') h p
-
 -- the count of a sink's faults stays where no write is blamed
 kept_count : {A E K : Type 0} (faults : K → ℕ) (cause : E → Cause) (sink sink' : K) (answer : Result A E) → OnOk answer (faults sink' ≡ faults sink) →
     IfErr answer (λ e. cause e ≢ write_failed → sink' ≡ sink)
@@ -125,8 +50,7 @@ kept_count faults cause sink sink' (Err e) same unwritten other = ap faults (unw
 
 -- ---- the whole call
 
-module _ {O A E S K : Type 0} (task : Task O A E) (sound : IsSound task) (left : S → Option (List ℕ)) (source_faults : S → ℕ) (taken : K → Option (List ℕ))
-    (sink_faults : K → ℕ) where
+module _ {O A E S K : Type 0} (task : Task O A E) (left : S → Option (List ℕ)) (source_faults : S → ℕ) (taken : K → Option (List ℕ)) (sink_faults : K → ℕ) where
   -- the bytes were read to their end, and answered
   pub performs : (source source' : S) (sink sink' : K) (bytes : List ℕ) (answer : Result A E)
       → AreBytes bytes → length bytes ≤ task.limit + 1 → Consumes (left source) (left source') bytes → IsAtEnd (left source') →
@@ -138,29 +62,17 @@ module _ {O A E S K : Type 0} (task : Task O A E) (sound : IsSound task) (left :
       → IfErr answer (λ e. task.cause e ≢ write_failed → sink' ≡ sink)
       → sink_faults sink ≤ sink_faults sink'
       → Performs task left source_faults taken sink_faults source source' sink sink' answer
-  performs source source' sink sink' bytes answer fits short consumed end source_same answered read counted sink_same unwritten sink_later =
-      let all : (P : List ℕ → Type 0) → P bytes → IfSome (left source) P = λ P p. Consumes-whole (left source) (left source') bytes P consumed end p in
-      let told = tells task sound answer bytes (taken sink) (taken sink') answered in
-      record {
-        ok = on_ok_weaker answer (all (λ b. ComeTo task b (λ outcome. Appends (taken sink) (taken sink') (task.written outcome))))
-            (answered_ok task answer bytes (taken sink) (taken sink') answered);
-        refused = if_err answer (λ e p r. all (λ b. task.HasOutcome b (Err e)) (p r)) (answered_refused task answer bytes (taken sink) (taken sink') answered);
-        exactly = all (λ b. (outcome : Result O E) → task.HasOutcome b outcome → Tells task answer outcome) told;
-        read_fault = no_read_fault task answer read;
-        write_fault = counted;
-        source_uncounted = λ other. source_same;
-        sink_uncounted = kept_count sink_faults task.cause sink sink' answer sink_same unwritten;
-        prefix = λ h. all (λ b. ComeTo task b (λ outcome. AppendsPrefix (taken sink) (taken sink') (task.written outcome)))
-            (answered_prefix task answer bytes (taken sink) (taken sink') answered h);
-        unwritten = unwritten;
-        taken_at_most = (bytes, fits, short, consumed);
-        leaves = leaves_end task answer (left source) (left source') (if_err answer (λ e n. n.1) read) end;
-        read = (bytes, fits, short, consumed, answered);
-        source_later = omega (arith, source_same);
-        sink_later = sink_later;
-        complete = λ no_read no_write. all (λ b. (outcome : O) → task.HasOutcome b (Ok outcome) → IsOk answer ⊎ IsErrAnd answer (λ e. task.cause e ≡ no_memory))
-            (λ outcome c. without_fault task answer outcome _ _ (told (Ok outcome) c) (no_read_fault task answer read) counted no_read no_write);
-      }
+  performs source source' sink sink' bytes answer fits short consumed end source_same answered read counted sink_same unwritten sink_later = record {
+    read = (bytes, fits, short, consumed, answered);
+    leaves = leaves_end task answer (left source) (left source') (if_err answer (λ e n. n.1) read) end;
+    unwritten = unwritten;
+    read_fault = no_read_fault task answer read;
+    source_uncounted = λ other. source_same;
+    write_fault = counted;
+    sink_uncounted = kept_count sink_faults task.cause sink sink' answer sink_same unwritten;
+    source_later = omega (arith, source_same);
+    sink_later = sink_later;
+  }
 
 -- ---- bytes that were not answered
 
@@ -174,31 +86,6 @@ module _ {O A V E : Type 0} (task : Task O A E) (sound : IsSound task) (Found : 
   error_answers e read_failed is bytes left' taken taken' found = tt
   error_answers e write_failed is bytes left' taken taken' found = absurd found
   error_answers e no_memory is bytes left' taken taken' found = tt
-
-  -- it is the outcome of what the source told
-  error_refused : (e : E) (cause : Cause) → task.cause e ≡ cause → (bytes : List ℕ) (left left' : Option (List ℕ)) → Consumes left left' bytes →
-      ErrorFinds task.limit Found cause e bytes left'
-      → IsRefusal cause → IfSome left (λ b. task.HasOutcome b (Err e))
-  error_refused e too_long is bytes left left' consumed found r =
-      longer task.limit left left' bytes (λ b. task.HasOutcome b (Err e)) consumed found (λ b over. sound.long b e is over)
-  error_refused e refused is bytes left left' consumed found r =
-      Consumes-whole left left' bytes (λ b. task.HasOutcome b (Err e)) consumed found.1 (same bytes e found.0)
-  error_refused e read_failed is bytes left left' consumed found r = absurd r
-  error_refused e write_failed is bytes left left' consumed found r = absurd r
-  error_refused e no_memory is bytes left left' consumed found r = absurd r
-
-  error_exactly : (e : E) (cause : Cause) → task.cause e ≡ cause → (bytes : List ℕ) (left left' : Option (List ℕ)) → Consumes left left' bytes →
-      ErrorFinds task.limit Found cause e bytes left'
-      → IfSome left (λ b. (outcome : Result O E) → task.HasOutcome b outcome → ErrorTells cause e outcome)
-  error_exactly e too_long is bytes left left' consumed found =
-      longer task.limit left left' bytes (λ b. (outcome : Result O E) → task.HasOutcome b outcome →
-      outcome ≡ Err e) consumed found (λ b over outcome q. sound.one b outcome (Err e) q (sound.long b e is over))
-  error_exactly e refused is bytes left left' consumed found =
-      Consumes-whole left left' bytes (λ b. (outcome : Result O E) → task.HasOutcome b outcome →
-      outcome ≡ Err e) consumed found.1 (λ outcome q. sound.one bytes outcome (Err e) q (same bytes e found.0))
-  error_exactly e read_failed is bytes left left' consumed found = any left (λ b. (outcome : Result O E) → task.HasOutcome b outcome → Unit) (λ b outcome q. tt)
-  error_exactly e write_failed is bytes left left' consumed found = absurd found
-  error_exactly e no_memory is bytes left left' consumed found = any left (λ b. (outcome : Result O E) → task.HasOutcome b outcome → Unit) (λ b outcome q. tt)
 
   error_takes : (e : E) (cause : Cause) (bytes : List ℕ) (left left' : Option (List ℕ)) → AreBytes bytes → length bytes ≤ task.limit + 1 →
       Consumes left left' bytes → ErrorFinds task.limit Found cause e bytes left'
@@ -220,27 +107,16 @@ module _ {O A V E : Type 0} (task : Task O A E) (sound : IsSound task) (Found : 
       Performs task left source_faults taken sink_faults source source' sink sink (Err e)
   stops left source_faults taken sink_faults source source' sink e reads =
       let (bytes, fits, short, consumed, found) = reads.read in
-      let told = error_exactly e (task.cause e) refl bytes (left source) (left source') consumed found in
       record {
-        ok = tt;
-        refused = error_refused e (task.cause e) refl bytes (left source) (left source') consumed found;
-        exactly = told;
-        read_fault = reads.read_fault;
-        write_fault = no_write_fault e bytes (left source') found;
-        source_uncounted = reads.uncounted;
-        sink_uncounted = λ other. refl;
-        prefix = no_write_fault e bytes (left source') found;
-        unwritten = λ h. refl;
-        taken_at_most = (bytes, fits, short, consumed);
-        leaves = error_takes e (task.cause e) bytes (left source) (left source') fits short consumed found;
         read = (bytes, fits, short, consumed, error_answers e (task.cause e) refl bytes (left source') (taken sink) (taken sink) found);
+        leaves = error_takes e (task.cause e) bytes (left source) (left source') fits short consumed found;
+        unwritten = λ h. refl;
+        read_fault = reads.read_fault;
+        source_uncounted = reads.uncounted;
+        write_fault = no_write_fault e bytes (left source') found;
+        sink_uncounted = λ other. refl;
         source_later = reads.later;
         sink_later = omega arith;
-        complete =
-            λ no_read no_write.
-            IfSome_then (left source) told
-            (λ b f outcome q. without_fault task (Err e) outcome _ _ (f (Ok outcome) q) reads.read_fault (no_write_fault e bytes (left source') found) no_read
-            no_write);
       }
 
 -- a result that is an error of this kind
@@ -278,16 +154,16 @@ module _ {O A E : Type 0} (task : Task O A E) where
       error_written e outcome (task.cause e) bytes (taken sink) (taken sink') come w.prefix w.unwritten
 
   -- a value was found, and what is written of its outcome was written
-  pub carries_on : {V S K : Type 0} → IsSound task →
-      (Found : List ℕ → Result V E → Type 0) (left : S → Option (List ℕ)) (source_faults : S → ℕ) (taken : K → Option (List ℕ)) (sink_faults : K → ℕ)
+  pub carries_on : {V S K : Type 0} → (Found : List ℕ → Result V E → Type 0) (left : S → Option (List ℕ)) (source_faults : S → ℕ)
+      (taken : K → Option (List ℕ)) (sink_faults : K → ℕ)
       (source source' : S) (sink sink' : K) (v : V) (outcome : O) (answer : Result A E)
       → ((bytes : List ℕ) → Found bytes (Ok v) → task.HasOutcome bytes (Ok outcome)) → IfOk answer (λ a. task.Says a outcome)
       → Reads task.limit task.cause Found left source_faults source source' (Ok v) →
       WritesBytes task.cause taken sink_faults sink sink' (task.written outcome) answer
       → Performs task left source_faults taken sink_faults source source' sink sink' answer
-  carries_on sound Found left source_faults taken sink_faults source source' sink sink' v outcome answer come says reads w =
+  carries_on Found left source_faults taken sink_faults source source' sink sink' v outcome answer come says reads w =
       let (bytes, fits, short, consumed, (found, end)) = reads.read in
-      performs task sound left source_faults taken sink_faults source source' sink sink' bytes answer fits short consumed end (reads.uncounted (λ h. absurd h))
+      performs task left source_faults taken sink_faults source source' sink sink' bytes answer fits short consumed end (reads.uncounted (λ h. absurd h))
       (answered_by taken sink_faults sink sink' bytes outcome answer (come bytes found) says w)
       (if_err answer (λ e u. error_of_writing (task.cause e) u) w.unwritten)
       w.write_fault w.uncounted (if_err answer (λ e u n. (u n).1) w.unwritten) w.later

@@ -4,7 +4,7 @@ use Rattle.std.specs.Prelude.{◌≡◌, ◌≢◌, ◌⊎◌, ℕ, ◌+◌, ◌
 use Rattle.std.specs.Prelude.{IsOkAnd, IsErrAnd, IfSome, ⊤}
 use Rattle.std.specs.Io.KnownBytes.{Appends, Consumes, IsAtEnd}
 use Rattle.av1_streams.specs.Faults.{FaultCounted}
-use Rattle.av1_streams.specs.Streams.{AreBytes, Takes, TakesAtMost, AppendsPrefix}
+use Rattle.av1_streams.specs.Streams.{AreBytes, Takes, AppendsPrefix}
 
 -- ---- what a call is to do
 
@@ -31,28 +31,6 @@ pub record Task (O A E : Type 0) : Type 1 where
   pub cause : E → Cause
 
 -- ---- what errors and answers say
-
--- the errors that refuse the bytes
-abbrev pub IsRefusal : Cause → Type 0
-IsRefusal too_long = ⊤
-IsRefusal refused = ⊤
-IsRefusal read_failed = ⊥
-IsRefusal write_failed = ⊥
-IsRefusal no_memory = ⊥
-
--- What an error says of the outcome: a refusal is the outcome, and a write fails only where there is something to
--- write.
-abbrev pub ErrorTells : {O E : Type 0} → Cause → E → Result O E → Type 0
-ErrorTells too_long e outcome = outcome ≡ Err e
-ErrorTells refused e outcome = outcome ≡ Err e
-ErrorTells read_failed e outcome = ⊤
-ErrorTells write_failed e outcome = IsOk outcome
-ErrorTells no_memory e outcome = ⊤
-
--- the answer is that of the outcome, unless a read or a write failed, or memory ran out
-abbrev pub Tells : {O A E : Type 0} → Task O A E → Result A E → Result O E → Type 0
-Tells task (Ok a) outcome = IsOkAnd outcome (task.Says a)
-Tells task (Err e) outcome = ErrorTells (task.cause e) e outcome
 
 -- What an error says of the source: after a refusal of bytes that were read to their end and a failed write nothing is
 -- left; a byte past the limit was taken where they are too long.
@@ -95,6 +73,55 @@ Answers task (Err e) bytes taken taken' = ErrorAnswers task (task.cause e) e byt
 pub record Performs {O A E S K : Type 0} (task : Task O A E) (left : S → Option (List ℕ)) (source_faults : S → ℕ)
     (taken : K → Option (List ℕ)) (sink_faults : K → ℕ)
     (source source' : S) (sink sink' : K) (answer : Result A E) : Type 0 where
+  -- Some bytes were read, at most one past the limit, and the answer says of these what it does. A source that tells
+  -- its bytes had these at its front.
+  pub read : (bytes : List ℕ) × AreBytes bytes × (length bytes ≤ task.limit + 1) ×
+      Consumes (left source) (left source') bytes
+      × Answers task answer bytes (taken sink) (taken sink')
+  -- Whether anything is left behind them.
+  pub leaves : LeavesSource task answer (left source) (left source')
+  -- After every error but a failed write the sink is as it was.
+  pub unwritten : IfErr answer (λ e. task.cause e ≢ write_failed → sink' ≡ sink)
+  -- A fault is answered exactly where the source or the sink counted one, and counts never fall.
+  pub read_fault : IsErrAnd answer (λ e. task.cause e ≡ read_failed) →
+      FaultCounted (source_faults source) (source_faults source')
+  pub source_uncounted : ¬ IsErrAnd answer (λ e. task.cause e ≡ read_failed) →
+      source_faults source' ≡ source_faults source
+  pub write_fault : IsErrAnd answer (λ e. task.cause e ≡ write_failed) →
+      FaultCounted (sink_faults sink) (sink_faults sink')
+  pub sink_uncounted : ¬ IsErrAnd answer (λ e. task.cause e ≡ write_failed) → sink_faults sink' ≡ sink_faults sink
+  pub source_later : source_faults source ≤ source_faults source'
+  pub sink_later : sink_faults sink ≤ sink_faults sink'
+
+-- ---- what follows of bytes that a source tells
+
+-- the errors that refuse the bytes
+abbrev pub IsRefusal : Cause → Type 0
+IsRefusal too_long = ⊤
+IsRefusal refused = ⊤
+IsRefusal read_failed = ⊥
+IsRefusal write_failed = ⊥
+IsRefusal no_memory = ⊥
+
+-- What an error says of the outcome: a refusal is the outcome, and a write fails only where there is something to
+-- write.
+abbrev pub ErrorTells : {O E : Type 0} → Cause → E → Result O E → Type 0
+ErrorTells too_long e outcome = outcome ≡ Err e
+ErrorTells refused e outcome = outcome ≡ Err e
+ErrorTells read_failed e outcome = ⊤
+ErrorTells write_failed e outcome = IsOk outcome
+ErrorTells no_memory e outcome = ⊤
+
+-- the answer is that of the outcome, unless a read or a write failed, or memory ran out
+abbrev pub Tells : {O A E : Type 0} → Task O A E → Result A E → Result O E → Type 0
+Tells task (Ok a) outcome = IsOkAnd outcome (task.Says a)
+Tells task (Err e) outcome = ErrorTells (task.cause e) e outcome
+
+-- What an answer says of all the bytes that a source tells. It follows from what the call does, where bytes come to one
+-- outcome and those past the limit are refused for that.
+pub record AnswersBytes {O A E S K : Type 0} (task : Task O A E) (left : S → Option (List ℕ)) (source_faults : S → ℕ)
+    (taken : K → Option (List ℕ)) (sink_faults : K → ℕ)
+    (source source' : S) (sink sink' : K) (answer : Result A E) : Type 0 where
   -- Ok only where the bytes come to something, and this was appended.
   pub ok : OnOk answer
       (IfSome (left source)
@@ -105,30 +132,10 @@ pub record Performs {O A E S K : Type 0} (task : Task O A E) (left : S → Optio
       IfSome (left source) (λ bytes. task.HasOutcome bytes (Err e)))
   pub exactly : IfSome (left source) (λ bytes. (outcome : Result O E) → task.HasOutcome bytes outcome →
       Tells task answer outcome)
-  -- A fault only where the source or the sink counted one, and no other answer where one did.
-  pub read_fault : IsErrAnd answer (λ e. task.cause e ≡ read_failed) →
-      FaultCounted (source_faults source) (source_faults source')
-  pub write_fault : IsErrAnd answer (λ e. task.cause e ≡ write_failed) →
-      FaultCounted (sink_faults sink) (sink_faults sink')
-  pub source_uncounted : ¬ IsErrAnd answer (λ e. task.cause e ≡ read_failed) →
-      source_faults source' ≡ source_faults source
-  pub sink_uncounted : ¬ IsErrAnd answer (λ e. task.cause e ≡ write_failed) → sink_faults sink' ≡ sink_faults sink
-  -- After a failed write a prefix of what the bytes come to stands; after every other error the sink is as it was.
+  -- After a failed write a prefix of what the bytes come to stands.
   pub prefix : IsErrAnd answer (λ e. task.cause e ≡ write_failed)
       → IfSome (left source)
       (λ bytes. ComeTo task bytes (λ outcome. AppendsPrefix (taken sink) (taken sink') (task.written outcome)))
-  pub unwritten : IfErr answer (λ e. task.cause e ≢ write_failed → sink' ≡ sink)
-  -- At most a byte past the limit is taken, and what is left is a suffix of what there was.
-  pub taken_at_most : TakesAtMost (task.limit + 1) (left source) (left source')
-  pub leaves : LeavesSource task answer (left source) (left source')
-  -- Whether the source tells its bytes or not, some were read, and the answer says of these what it does. A source that
-  -- tells its bytes had these at its front.
-  pub read : (bytes : List ℕ) × AreBytes bytes × (length bytes ≤ task.limit + 1) ×
-      Consumes (left source) (left source') bytes
-      × Answers task answer bytes (taken sink) (taken sink')
-  -- Counts never fall.
-  pub source_later : source_faults source ≤ source_faults source'
-  pub sink_later : sink_faults sink ≤ sink_faults sink'
   -- Without a fault bytes that are not refused give Ok, or memory ran out.
   pub complete : ¬ FaultCounted (source_faults source) (source_faults source') →
       ¬ FaultCounted (sink_faults sink) (sink_faults sink')

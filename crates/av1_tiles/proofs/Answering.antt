@@ -25,8 +25,8 @@ refused_long bytes (Tile i fault) is over = absurd cc
 refused_long bytes WriteFault is over = absurd cc
 refused_long bytes Memory is over = absurd cc
 
-sound : IsSound tiles_task
-sound = record { one = one_outcome; long = refused_long }
+pub tiles_task_sound : IsSound tiles_task
+tiles_task_sound = record { one = one_outcome; long = refused_long }
 
 -- others are refused for what they are
 pub short_refused : (bytes : List ℕ) (e : TilesError) → length bytes ≤ max_plan_bytes → AreRefusedFor bytes e → cause_of e ≡ refused
@@ -58,7 +58,7 @@ module _ {S K : Type 0} (left : S → Option (List ℕ)) (source_faults : S → 
       → WritesBytes cause_of taken sink_faults sink sink' (frame_bytes frame) answer →
       Performs tiles_task left source_faults taken sink_faults source source' sink sink' answer
   goes_on source source' sink sink' frame answer reads writes =
-      carries_on tiles_task sound HoldFrame left source_faults taken sink_faults source source' sink sink' frame (frame_bytes frame) answer
+      carries_on tiles_task HoldFrame left source_faults taken sink_faults source source' sink sink' frame (frame_bytes frame) answer
       (λ bytes found. found.0) (says_nothing answer) reads writes
 
   -- no frame was read, and the answer is why
@@ -67,4 +67,4 @@ module _ {S K : Type 0} (left : S → Option (List ℕ)) (source_faults : S → 
       → Performs tiles_task left source_faults taken sink_faults source source' sink sink answer
   ends source source' sink answer e is reads =
       subst (Performs tiles_task left source_faults taken sink_faults source source' sink sink) (sym (is_err answer e is))
-      (stops tiles_task sound HoldFrame (λ bytes d r. r) left source_faults taken sink_faults source source' sink e reads)
+      (stops tiles_task tiles_task_sound HoldFrame (λ bytes d r. r) left source_faults taken sink_faults source source' sink e reads)

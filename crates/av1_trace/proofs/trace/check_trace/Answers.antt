@@ -6,7 +6,7 @@ use Rattle.av1_trace.proofs.trace.check_trace.Goals as goal
 
 pub returns : goal.returns
 returns g c =
-    carries_on trace_task trace_task_sound IsFound g.R.Source.left g.R.Source.faults g.W.Sink.taken g.W.Sink.faults _ _ _ _ c.in_ok-list.list c.deref.result.now
+    carries_on trace_task IsFound g.R.Source.left g.R.Source.faults g.W.Sink.taken g.W.Sink.faults _ _ _ _ c.in_ok-list.list c.deref.result.now
     c.count_differences.result
     (λ bytes found. subst (AreDifferences bytes) (sym c.deref.ensures.value) found) c.count_differences.ensures.count c.in_ok-list.ensures.reads
     c.count_differences.ensures.writes

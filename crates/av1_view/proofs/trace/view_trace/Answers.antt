@@ -10,7 +10,7 @@ use Rattle.av1_view.proofs.trace.view_trace.Goals as goal
 pub returns : goal.returns
 returns g c =
     let plan = plan_value c.in_ok-trace.trace.plan in
-    carries_on trace_page_task trace_page_task_sound IsFound g.R.Source.left g.R.Source.faults g.W.Sink.taken g.W.Sink.faults _ _ _ _ c.in_ok-trace.trace
+    carries_on trace_page_task IsFound g.R.Source.left g.R.Source.faults g.W.Sink.taken g.W.Sink.faults _ _ _ _ c.in_ok-trace.trace
     (trace_page plan c.deref.result.now) c.append_trace.result
     (λ bytes found. (found.0, (plan, c.in_ok-trace.trace.planes.items, found.1, ap (trace_page plan) c.deref.ensures.value)))
     (says_nothing c.append_trace.result) c.in_ok-trace.ensures c.append_trace.ensures
