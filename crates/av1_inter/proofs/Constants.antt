@@ -1,6 +1,6 @@
 -- A filter keeps a sample that all its weights see.
-use Rattle.std.proofs.Common.{ℕ, zero, suc, ◌+◌, ◌-◌, ◌*◌, ◌^◌, ◌<◌, ◌≤◌, ◌≡◌, ◌≢◌, ◌∙◌, ap, arith, ℤ, pos, negsuc, ◌+ℤ◌, ◌-ℤ◌, ◌*ℤ◌, List, length, take, inl}
-use Rattle.std.proofs.Common.{inr}
+use Rattle.std.proofs.Common.{ℕ, zero, suc, ◌+◌, ◌-◌, ◌*◌, ◌^◌, ◌<◌, ◌≤◌, ◌≡◌, ◌∙◌, ap, arith, ℤ, pos, negsuc, ◌+ℤ◌, ◌-ℤ◌, ◌*ℤ◌, List, length, take}
+use Rattle.std.proofs.Common.{inl, inr}
 use Rattle.std.proofs.lemmas.Int.{ints}
 use Rattle.std.proofs.lemmas.List.{take_all}
 use Rattle.av1_frame.specs.Arithmetic.{clip, round_shift}
@@ -86,14 +86,3 @@ single_constant depth d (suc j) (suc k) across down samples r c v f g l h =
     (λ t m. intermediate_constant depth d (suc j) across (λ x. samples x (r + t)) c v f (λ i n. h (c + i) (r + t) (omega arith) (omega arith)))
     ∙ weighted_constant down (v * 2 ^ intermediate_bits depth) g)
     ∙ ap (clip depth) (both_roundings depth d v) ∙ clip_stays depth v l
-
--- a sample in the intermediate bits, rounded back
-pub rounded_back : (depth : ℕ) → IsDepth depth → (v : ℕ) → v < 2 ^ depth →
-    clip depth (round_shift (pos (v * 2 ^ intermediate_bits depth)) (intermediate_bits depth)) ≡ v
-rounded_back depth d v h = ap (clip depth) (last_rounding depth d v) ∙ clip_stays depth v h
-
--- a depth that is neither 8 nor 10
-pub is_12 : (depth : ℕ) → IsDepth depth → depth ≢ 8 → depth ≢ 10 → depth ≡ 12
-is_12 depth (inl e) h k = absurd (h e)
-is_12 depth (inr (inl e)) h k = absurd (k e)
-is_12 depth (inr (inr e)) h k = e

@@ -1,15 +1,17 @@
 -- Sums by halved weights, as the machine forms them in 16 bits, and how great they are.
-use Rattle.std.proofs.Common.{ℕ, zero, suc, ◌+◌, ◌*◌, ◌^◌, ◌<◌, ◌≤◌, ◌≡◌, ◌∙◌, ap, refl, arith, subst, sym, ℤ, pos, negsuc, ◌+ℤ◌, ◌*ℤ◌, neg_ℤ, ◌≤ℤ◌, List, []}
-use Rattle.std.proofs.Common.{◌∷◌, length, unsigned_abs, w16, w32, to_z, of_z, FitsSigned}
+use Rattle.std.proofs.Common.{ℕ, zero, suc, ◌+◌, ◌-◌, ◌*◌, ◌/◌, ◌^◌, ◌<◌, ◌≤◌, ◌≡◌, ◌∙◌, ap, refl, arith, subst, sym, ℤ, pos, negsuc, ◌+ℤ◌, ◌*ℤ◌, neg_ℤ}
+use Rattle.std.proofs.Common.{◌≤ℤ◌, List, [], ◌∷◌, length, inl, inr, unsigned_abs, w16, w32, to_z, of_z, FitsSigned}
 use Rattle.std.specs.Int.{int_max, int_min, int_shr}
 use Rattle.std.specs.Int.Signed.{shr_z}
+use Rattle.std.proofs.lemmas.Bool.{cases_lt}
 use Rattle.std.proofs.lemmas.Int.{int_max_is, int_min_is, ints, to_z-of_z}
 use Rattle.std.proofs.lemmas.Nat.{mul-le}
-use Rattle.std.proofs.lemmas.List.{same_lists, get_or_default, length-map}
+use Rattle.std.proofs.lemmas.List.{same_lists, get_or_default, get_or-map, length-map}
+use Rattle.av1_blocks.specs.Depths.{IsDepth}
 use Rattle.av1_frame.specs.Arithmetic.{clip, round_shift}
 use Rattle.av1_inter.specs.Motion.{entry, sum_to, weighted}
-use Rattle.av1_inter.specs.Scaffolding.{Between, doubled, gains, IsFilter, losses, SumsFit}
-use Rattle.av1_inter.proofs.Sums.{filter_between, gain, gains_more, gains_part, loss, losses_more, losses_part, product_between, small_sum}
+use Rattle.av1_inter.specs.Scaffolding.{Between, doubled, gains, halved, IsFilter, losses}
+use Rattle.av1_inter.proofs.Sums.{filter_between, gain, gains_more, gains_part, loss, losses_more, losses_part, product_between, small_sum, SumsFit}
 
 -- entry t of the doubled weights
 pub entry_doubled : (halves : List ℤ) (t : ℕ) → entry (doubled halves) t ≡ pos 2 *ℤ entry halves t
@@ -85,8 +87,8 @@ short_product weights n t v f s h e w =
     let P : ℤ → Type 0 = λ z. FitsSigned w16 z in
     subst P (sym (short_product_of weights n t v s e w)) (short_product_small weights n t v f h w)
 
-pub short_product_stored : (weights : List ℤ) (n t : ℕ) (v : ℤ) → SumsFit weights n → n < 2 ^ 15 → t < 8 → FitsSigned w16 (entry weights t) → Between 0 n v →
-    to_z w16 (of_z w16 (to_z w16 (of_z w16 (entry weights t)) *ℤ to_z w16 (of_z w16 v))) ≡ entry weights t *ℤ v
+pub short_product_stored : (weights : List ℤ) (n t : ℕ) (v : ℤ) → SumsFit weights n → n < 2 ^ 15 → t < 8 → FitsSigned w16 (entry weights t) →
+    Between 0 n v → to_z w16 (of_z w16 (to_z w16 (of_z w16 (entry weights t)) *ℤ to_z w16 (of_z w16 v))) ≡ entry weights t *ℤ v
 short_product_stored weights n t v f s h e w = to_z-of_z w16 _ (short_product weights n t v f s h e w) ∙ short_product_of weights n t v s e w
 
 pub next_short_fits : (weights : List ℤ) (value : ℕ → ℤ) (n t : ℕ) (s p : ℤ) → SumsFit weights n → t < 8 → ((i : ℕ) → i < 8 → Between 0 n (value i)) →
@@ -130,32 +132,6 @@ pub halves_are : (halves taps : List ℤ) → length halves ≡ 8 → IsFilter t
 halves_are halves taps l f h =
     filter_is (doubled halves) taps (length-map halves _ ∙ l) f (λ k m. entry_doubled halves k ∙ ap (λ z. pos 2 *ℤ z) (h k m) ∙ f.even k m)
 
-shr_128 : (z : ℤ) → shr_z (pos 2 *ℤ z +ℤ pos 64) 128 ≡ shr_z (z +ℤ pos 32) 64
-shr_128 z = shr_at (z +ℤ pos 32) (pos 2 *ℤ z +ℤ pos 64) (omega (arith, ints))
-  where
-    shr_at : (w v : ℤ) → v ≡ pos 2 *ℤ w → shr_z v 128 ≡ shr_z w 64
-    shr_at (pos m) v e = ap (λ u. shr_z u 128) e ∙ ap pos (omega arith)
-    shr_at (negsuc m) v e = ap (λ u. shr_z u 128) (e ∙ (let k : pos 2 *ℤ negsuc m ≡ negsuc (2 * m + 1) = omega (arith, ints) in k)) ∙ ap negsuc (omega arith)
-
-shr_8 : (z : ℤ) → shr_z (pos 2 *ℤ z +ℤ pos 4) 8 ≡ shr_z (z +ℤ pos 2) 4
-shr_8 z = shr_at (z +ℤ pos 2) (pos 2 *ℤ z +ℤ pos 4) (omega (arith, ints))
-  where
-    shr_at : (w v : ℤ) → v ≡ pos 2 *ℤ w → shr_z v 8 ≡ shr_z w 4
-    shr_at (pos m) v e = ap (λ u. shr_z u 8) e ∙ ap pos (omega arith)
-    shr_at (negsuc m) v e = ap (λ u. shr_z u 8) (e ∙ (let k : pos 2 *ℤ negsuc m ≡ negsuc (2 * m + 1) = omega (arith, ints) in k)) ∙ ap negsuc (omega arith)
-
--- a sum by a filter's weights, rounded, from half of it
-pub rounded_column : (halves taps : List ℤ) (value : ℕ → ℤ) → doubled halves ≡ taps →
-    round_shift (weighted halves value) 6 ≡ round_shift (weighted taps value) 7
-rounded_column halves taps value e =
-    sym (ap (λ (w : List ℤ). round_shift (weighted w value) 7) (sym e) ∙ ap (λ z. shr_z (z +ℤ pos 64) 128) (doubled_sum halves value 8)
-    ∙ shr_128 (weighted halves value))
-
-pub rounded_row : (halves taps : List ℤ) (value : ℕ → ℤ) → doubled halves ≡ taps → round_shift (weighted halves value) 2 ≡ round_shift (weighted taps value) 3
-rounded_row halves taps value e =
-    sym (ap (λ (w : List ℤ). round_shift (weighted w value) 3) (sym e) ∙ ap (λ z. shr_z (z +ℤ pos 4) 8) (doubled_sum halves value 8)
-    ∙ shr_8 (weighted halves value))
-
 -- half of a weight
 shr_small : (z : ℤ) → neg_ℤ (pos 184) ≤ℤ z → z ≤ℤ pos 184 → FitsSigned w16 (int_shr z 1)
 shr_small (pos n) l h = record { sfits = omega (arith, ints, h) }
@@ -185,38 +161,97 @@ half_weight_is taps t f h e =
     half_wide (pos n) k = record { sfits = omega (arith, ints, k) }
     half_wide (negsuc n) k = record { sfits = omega (arith, ints, k) }
 
--- a value that is cut to 8 bits
-cut_steps : (z m r : ℤ) → m ≡ int_max z (pos 0) → r ≡ int_min m (pos 255) → Between 0 255 r × (unsigned_abs r ≡ clip 8 z)
-cut_steps (pos n) m (pos k) e f =
+-- a value that is cut to a depth
+cut_steps : (top : ℕ) (z m r : ℤ) → m ≡ int_max z (pos 0) → r ≡ int_min m (pos top) → Between 0 top r × (r ≡ int_min (int_max z (pos 0)) (pos top))
+cut_steps top z m r e f =
+    let a = int_max_is z (pos 0) in
+    let b = int_min_is m (pos top) in
+    (record { low = omega (arith, ints, a, b, e, f); high = omega (arith, ints, a, b, e, f) }, f ∙ ap (λ u. int_min u (pos top)) e)
+
+cut_clips : (depth : ℕ) (z : ℤ) → unsigned_abs (int_min (int_max z (pos 0)) (pos (2 ^ depth - 1))) ≡ clip depth z
+cut_clips depth (pos n) =
     let a = int_max_is (pos n) (pos 0) in
-    let b = int_min_is m (pos 255) in
-    (record { low = omega (arith, ints, a, b, e, f); high = omega (arith, ints, a, b, e, f) }, omega (arith, ints, a, b, e, f))
-cut_steps (pos n) m (negsuc k) e f =
-    let a = int_max_is (pos n) (pos 0) in
-    let b = int_min_is m (pos 255) in
-    absurd (omega (arith, ints, a, b, e, f))
-cut_steps (negsuc n) m (pos k) e f =
+    let e : int_max (pos n) (pos 0) ≡ pos n = omega (arith, ints, a) in
+    let b = int_min_is (pos n) (pos (2 ^ depth - 1)) in
+    let f : int_min (pos n) (pos (2 ^ depth - 1)) ≡ pos (clip depth (pos n)) = omega (arith, ints, b) in
+    ap unsigned_abs (ap (λ u. int_min u (pos (2 ^ depth - 1))) e ∙ f)
+cut_clips depth (negsuc n) =
     let a = int_max_is (negsuc n) (pos 0) in
-    let b = int_min_is m (pos 255) in
-    (record { low = omega (arith, ints, a, b, e, f); high = omega (arith, ints, a, b, e, f) }, omega (arith, ints, a, b, e, f))
-cut_steps (negsuc n) m (negsuc k) e f =
-    let a = int_max_is (negsuc n) (pos 0) in
-    let b = int_min_is m (pos 255) in
-    absurd (omega (arith, ints, a, b, e, f))
+    let e : int_max (negsuc n) (pos 0) ≡ pos 0 = omega (arith, ints, a) in
+    let b = int_min_is (pos 0) (pos (2 ^ depth - 1)) in
+    let f : int_min (pos 0) (pos (2 ^ depth - 1)) ≡ pos 0 = omega (arith, ints, b) in
+    ap unsigned_abs (ap (λ u. int_min u (pos (2 ^ depth - 1))) e ∙ f)
 
-pub cut_is : (z m r : ℤ) → FitsSigned w16 z → FitsSigned w16 m → m ≡ int_max (to_z w16 (of_z w16 z)) (pos 0) → r ≡ int_min (to_z w16 (of_z w16 m)) (pos 255) →
-    unsigned_abs (to_z w16 (of_z w16 r)) ≡ clip 8 z
-cut_is z m r fz fm e f =
-    let s = cut_steps z m r (e ∙ ap (λ u. int_max u (pos 0)) (to_z-of_z w16 z fz)) (f ∙ ap (λ u. int_min u (pos 255)) (to_z-of_z w16 m fm)) in
-    ap unsigned_abs (short_read 255 r (omega arith) s.0) ∙ s.1
+-- numbers of a depth have 12 bits at most
+pub depth_numbers : (depth : ℕ) → IsDepth depth → 2 ^ depth ≤ 4096
+depth_numbers depth (inl e) = subst (λ (n : ℕ). 2 ^ n ≤ 4096) (sym e) (omega arith)
+depth_numbers depth (inr (inl e)) = subst (λ (n : ℕ). 2 ^ n ≤ 4096) (sym e) (omega arith)
+depth_numbers depth (inr (inr e)) = subst (λ (n : ℕ). 2 ^ n ≤ 4096) (sym e) (omega arith)
 
--- a sample's number of 8 bits
-pub number_between : (n : ℕ) → n ≤ 255 → Between 0 255 (pos n)
-number_between n h = record { low = omega (arith, ints); high = omega (arith, ints, h) }
+pub cut_is : (depth : ℕ) (z m g r : ℤ) → IsDepth depth → FitsSigned w16 z → FitsSigned w16 m → m ≡ int_max (to_z w16 (of_z w16 z)) (pos 0) →
+    g ≡ pos (2 ^ depth - 1)
+    → r ≡ int_min (to_z w16 (of_z w16 m)) (to_z w16 (of_z w16 g)) → unsigned_abs (to_z w16 (of_z w16 r)) ≡ clip depth z
+cut_is depth z m g r d fz fm e eg f =
+    let top : 2 ^ depth - 1 < 2 ^ 15 = omega (arith, depth_numbers depth d) in
+    let P : ℤ → Type 0 = λ v. Between 0 (2 ^ depth - 1) v in
+    let g_is : to_z w16 (of_z w16 g) ≡ pos (2 ^ depth - 1) =
+    short_read (2 ^ depth - 1) g top (subst P (sym eg) (record { low = omega (arith, ints); high = omega (arith, ints) })) ∙ eg in
+    let s = cut_steps (2 ^ depth - 1) z m r (e ∙ ap (λ u. int_max u (pos 0)) (to_z-of_z w16 z fz))
+    (f ∙ ap (λ u. int_min u (to_z w16 (of_z w16 g))) (to_z-of_z w16 m fm) ∙ ap (int_min m) g_is) in
+    ap unsigned_abs (short_read (2 ^ depth - 1) r top s.0) ∙ ap unsigned_abs s.1 ∙ cut_clips depth z
 
--- a filter's sum that is known as a value
-pub half_sum_between : (halves : List ℤ) (f : ℕ → ℕ) (z : ℤ) → IsFilter (doubled halves) → ((t : ℕ) → t < 8 → f t ≤ 255) →
-    z ≡ weighted halves (λ t. pos (f t)) → Between 7140 23460 z
-half_sum_between halves f z h bytes e =
-    let P : ℤ → Type 0 = λ v. Between 7140 23460 v in
-    subst P (sym e) (halves_between halves (λ t. pos (f t)) 8 h (omega arith) (λ t l. number_between (f t) (bytes t l)))
+-- a filter's sum over samples of 8 bits that is known as a value
+pub half_sum_known : (halves : List ℤ) (value : ℕ → ℤ) (z : ℤ) → IsFilter (doubled halves) → ((t : ℕ) → t < 8 → Between 0 255 (value t)) →
+    z ≡ weighted halves value → Between 7140 23460 z
+half_sum_known halves value z h bytes e = let P : ℤ → Type 0 = λ v. Between 7140 23460 v
+    in subst P (sym e) (halves_between halves value 8 h (omega arith) bytes)
+
+-- the halves of a filter's weights
+pub halved_are : (halves taps : List ℤ) → length halves ≡ 8 → IsFilter taps → ((t : ℕ) → t < 8 → entry halves t ≡ int_shr (entry taps t) 1) →
+    halves ≡ halved taps
+halved_are halves taps l f h =
+    let n : length halves ≡ length (halved taps) = l ∙ sym f.size ∙ sym (length-map taps _) in
+    same_lists halves (halved taps) n (λ k d b. let m : k < 8 = omega (arith, l, b) in let inside : k < length taps = omega (arith, f.size, m) in
+    get_or_default halves k d (pos 0) b ∙ h k m ∙ sym (get_or-map (λ z. int_shr z 1) taps k (pos 0) d inside))
+
+halved_between : (s t : ℤ) → t ≡ pos 2 *ℤ s → gain t ≤ 184 → loss t ≤ 56 → Between 28 92 s
+halved_between s (pos n) e g l = record { low = omega (arith, ints, e); high = omega (arith, ints, e, g) }
+halved_between s (negsuc n) e g l = record { low = omega (arith, ints, e, l); high = omega (arith, ints, e) }
+
+-- half of a weight
+pub half_weight_between : (halves : List ℤ) (t : ℕ) → IsFilter (doubled halves) → t < 8 → Between 28 92 (entry halves t)
+half_weight_between halves t f h =
+    let taps = doubled halves in
+    let more = gains_more taps t (omega (arith, f.size)) in
+    let less = losses_more taps t (omega (arith, f.size)) in
+    halved_between _ _ (entry_doubled halves t) (omega (arith, more, gains_part taps (suc t), f.gains))
+    (omega (arith, less, losses_part taps (suc t), f.losses))
+
+half_fits : (z : ℤ) → Between 28 92 z → FitsSigned w16 z
+half_fits (pos n) b = record { sfits = omega (arith, ints, b.high) }
+half_fits (negsuc n) b = record { sfits = omega (arith, ints, b.low) }
+
+pub half_weight_read : (halves : List ℤ) (t : ℕ) → IsFilter (doubled halves) → t < 8 → to_z w16 (of_z w16 (entry halves t)) ≡ entry halves t
+half_weight_read halves t f h = to_z-of_z w16 _ (half_fits _ (half_weight_between halves t f h))
+
+pub half_read_between : (halves : List ℤ) (t : ℕ) → IsFilter (doubled halves) → t < 8 → Between 28 92 (to_z w16 (of_z w16 (entry halves t)))
+half_read_between halves t f h = let P : ℤ → Type 0 = λ z. Between 28 92 z in subst P (sym (half_weight_read halves t f h)) (half_weight_between halves t f h)
+
+shr_twice : (w v : ℤ) → v ≡ w +ℤ pos 32 → shr_z v 64 ≡ shr_z (shr_z w 4 +ℤ pos 8) 16
+shr_twice (pos m) v e = ap (λ u. shr_z u 64) e ∙ ap pos (omega arith)
+shr_twice (negsuc m) v e = elim (cases_lt m 32) [
+  | inl h ↦ (
+      let a : v ≡ pos (31 - m) = omega (arith, ints, e, h) in
+      let b : negsuc (m / 4) +ℤ pos 8 ≡ pos (7 - m / 4) = omega (arith, ints, h) in
+      ap (λ u. shr_z u 64) a ∙ ap pos (let k : (31 - m) / 64 ≡ (7 - m / 4) / 16 = omega (arith, h) in k) ∙ sym (ap (λ u. shr_z u 16) b)
+      )
+  | inr h ↦ (
+      let a : v ≡ negsuc (m - 32) = omega (arith, ints, e, h) in
+      let b : negsuc (m / 4) +ℤ pos 8 ≡ negsuc (m / 4 - 8) = omega (arith, ints, h) in
+      ap (λ u. shr_z u 64) a ∙ ap negsuc (let k : (m - 32) / 64 ≡ (m / 4 - 8) / 16 = omega (arith, h) in k) ∙ sym (ap (λ u. shr_z u 16) b)
+      )
+]
+
+-- half a sum that is rounded twice
+pub rounded_twice : (z : ℤ) → int_shr (z +ℤ pos 34) 6 ≡ round_shift (round_shift z 2) 4
+rounded_twice z = shr_twice (z +ℤ pos 2) (z +ℤ pos 34) (omega (arith, ints))

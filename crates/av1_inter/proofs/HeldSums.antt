@@ -1,6 +1,6 @@
 -- Averages whose sums are held in 16 bits.
-use Rattle.std.proofs.Common.{ℕ, ◌+◌, ◌-◌, ◌^◌, ◌≤◌, ◌≡◌, ◌∙◌, ap, refl, arith, sym, min, ℤ, pos, negsuc, ◌+ℤ◌, ◌*ℤ◌, ◌≤ℤ◌, ◌⊎◌, subst, List, length, get_or}
-use Rattle.std.proofs.Common.{inl, inr, w16, w32, to_z, of_z, FitsSigned, unsigned_abs}
+use Rattle.std.proofs.Common.{ℕ, ◌+◌, ◌-◌, ◌^◌, ◌≤◌, ◌≡◌, ◌∙◌, ap, refl, arith, sym, min, ℤ, pos, negsuc, ◌+ℤ◌, ◌*ℤ◌, ◌≤ℤ◌, ◌⊎◌, subst, List, length}
+use Rattle.std.proofs.Common.{get_or, inl, inr, w16, w32, to_z, of_z, FitsSigned}
 use Rattle.std.specs.Int.{int_max, int_min, int_shr, saturate_signed}
 use Rattle.std.specs.Int.Signed.{shr_z}
 use Rattle.std.proofs.lemmas.Bool.{cases_lt}
@@ -164,37 +164,6 @@ average_is depth shift a b rise greatest s v x r a2 b2 s2 rise2 x2 greatest2 d n
     (ex ∙ ap (λ u. int_max (to_z w16 (of_z w16 (int_shr u (shift + 1)))) (pos 0)) (to_z-of_z w16 v f)
     ∙ ap (λ u. int_max u (pos 0)) (to_z-of_z w16 _ (shift_fits depth shift v d n f)))
     (er ∙ ap (λ u. int_min u greatest2) ex2 ∙ ap (λ u. int_min x u) eg)
-
--- a value that is cut to 16 bits, and then to a depth
-short_steps : (top : ℕ) (z m r : ℤ) (t : ℕ) → top ≤ 65535 → m ≡ int_max z (pos 0) → r ≡ int_min m (pos 65535) → t ≡ min (unsigned_abs r) top →
-    pos t ≡ int_min (int_max z (pos 0)) (pos top)
-short_steps top (pos n) m r t l e f h =
-    let a = int_max_is (pos n) (pos 0) in
-    let b = int_min_is m (pos 65535) in
-    let k : r ≡ pos (min n 65535) = omega (arith, ints, a, b, e, f) in
-    let u : t ≡ min (min n 65535) top = h ∙ ap (λ z. min (unsigned_abs z) top) k in
-    let q = int_min_is (int_max (pos n) (pos 0)) (pos top) in
-    omega (arith, ints, a, q, u, l)
-short_steps top (negsuc n) m r t l e f h =
-    let a = int_max_is (negsuc n) (pos 0) in
-    let b = int_min_is m (pos 65535) in
-    let k : r ≡ pos 0 = omega (arith, ints, a, b, e, f) in
-    let u : t ≡ min 0 top = h ∙ ap (λ z. min (unsigned_abs z) top) k in
-    let q = int_min_is (int_max (negsuc n) (pos 0)) (pos top) in
-    omega (arith, ints, a, q, u, l)
-
-top_small : (depth : ℕ) → IsDepth depth → 2 ^ depth - 1 ≤ 65535
-top_small depth (inl d) = subst (λ (n : ℕ). 2 ^ n - 1 ≤ 65535) (sym d) (omega arith)
-top_small depth (inr (inl d)) = subst (λ (n : ℕ). 2 ^ n - 1 ≤ 65535) (sym d) (omega arith)
-top_small depth (inr (inr d)) = subst (λ (n : ℕ). 2 ^ n - 1 ≤ 65535) (sym d) (omega arith)
-
-pub short_cut : (depth : ℕ) (z m r z2 m2 r2 greatest greatest2 : ℤ) (t : ℕ) → IsDepth depth → greatest ≡ pos (2 ^ depth - 1) → m ≡ int_max z2 (pos 0) →
-    r ≡ int_min m2 (pos 65535) → t ≡ min (unsigned_abs r2) (unsigned_abs greatest2)
-    → z2 ≡ z → m2 ≡ m → r2 ≡ r → greatest2 ≡ greatest → t ≡ clip depth z
-short_cut depth z m r z2 m2 r2 greatest greatest2 t d g em er et ez em2 er2 eg =
-    let steps = short_steps (2 ^ depth - 1) z m r t (top_small depth d) (em ∙ ap (λ u. int_max u (pos 0)) ez) (er ∙ ap (λ u. int_min u (pos 65535)) em2)
-    (et ∙ ap (λ u. min (unsigned_abs u) (unsigned_abs greatest2)) er2 ∙ ap (λ u. min (unsigned_abs r) (unsigned_abs u)) (eg ∙ g)) in
-    ap unsigned_abs (steps ∙ cut depth z _ _ refl refl)
 
 -- the sum of two numbers of 16 bits
 pub sum_of_two : (a b x y : ℤ) → x ≡ to_z w16 (of_z w16 a) → y ≡ to_z w16 (of_z w16 b) → FitsSigned w16 a → FitsSigned w16 b →

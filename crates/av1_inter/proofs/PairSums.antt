@@ -15,27 +15,20 @@ use Rattle.av1_inter.specs.Scaffolding.{Between}
 use Rattle.av1_inter.proofs.Halves.{short_read, short_sum_fits}
 use Rattle.av1_inter.proofs.Sums.{fits_of, product_between}
 
-pub weight_fits : (z : ℤ) → Between 56 184 z → FitsSigned w16 z
+pub weight_fits : (z : ℤ) → Between 28 92 z → FitsSigned w16 z
 weight_fits z b = short_sum_fits z (record { low = omega (arith, ints, b.low); high = omega (arith, ints, b.high) })
 
-wide_weight : (z : ℤ) → Between 56 184 z → FitsSigned w32 z
+wide_weight : (z : ℤ) → Between 28 92 z → FitsSigned w32 z
 wide_weight z b = fits_of z (omega (arith, ints, b.low)) (omega (arith, ints, b.high))
 
--- a weight that is read in 32 bits and stored in 16
-pub short_weight_fits : (z : ℤ) → Between 56 184 z → FitsSigned w16 (to_z w32 (of_z w32 z))
-short_weight_fits z b = let P : ℤ → Type 0 = λ v. FitsSigned w16 v in subst P (sym (to_z-of_z w32 z (wide_weight z b))) (weight_fits z b)
-
-pub short_weight_is : (z : ℤ) → Between 56 184 z → to_z w16 (of_z w16 (to_z w32 (of_z w32 z))) ≡ z
-short_weight_is z b = ap (λ v. to_z w16 (of_z w16 v)) (to_z-of_z w32 z (wide_weight z b)) ∙ to_z-of_z w16 z (weight_fits z b)
-
 -- a product of a weight and a sample
-pub small_product : (w x : ℤ) → Between 56 184 w → Between 0 4095 x → Between 229320 753480 (w *ℤ x)
-small_product (pos n) x bw bx = let p = product_between (pos n) x 0 4095 bx
+pub small_product : (w x : ℤ) → Between 28 92 w → Between 0 32767 x → Between 917476 3014564 (w *ℤ x)
+small_product (pos n) x bw bx = let p = product_between (pos n) x 0 32767 bx
     in record { low = omega (arith, ints, p.low, bw.high); high = omega (arith, ints, p.high, bw.high) }
-small_product (negsuc n) x bw bx = let p = product_between (negsuc n) x 0 4095 bx
+small_product (negsuc n) x bw bx = let p = product_between (negsuc n) x 0 32767 bx
     in record { low = omega (arith, ints, p.low, bw.low); high = omega (arith, ints, p.high, bw.low) }
 
-product_word : (w x : ℤ) → Between 56 184 w → Between 0 4095 x → to_z w32 (of_z w32 x * of_z w32 w % 4294967296) ≡ w *ℤ x
+product_word : (w x : ℤ) → Between 28 92 w → Between 0 32767 x → to_z w32 (of_z w32 x * of_z w32 w % 4294967296) ≡ w *ℤ x
 product_word w x bw bx =
     let p = small_product w x bw bx in
     wrapping_mul_is w32 x w (fits_of x (omega (arith, ints, bx.low)) (omega (arith, ints, bx.high))) (wide_weight w bw)
@@ -46,7 +39,7 @@ product_word w x bw bx =
 abbrev sum_word : (x w y v : ℤ) → ℤ
 sum_word x w y v = to_z w32 ((of_z w32 x * of_z w32 w % 4294967296 + of_z w32 y * of_z w32 v % 4294967296) % 4294967296)
 
-sum_word_is : (w v x y : ℤ) → Between 56 184 w → Between 56 184 v → Between 0 4095 x → Between 0 4095 y → sum_word x w y v ≡ w *ℤ x +ℤ v *ℤ y
+sum_word_is : (w v x y : ℤ) → Between 28 92 w → Between 28 92 v → Between 0 32767 x → Between 0 32767 y → sum_word x w y v ≡ w *ℤ x +ℤ v *ℤ y
 sum_word_is w v x y bw bv bx by =
     let a = of_z w32 x * of_z w32 w % 4294967296 in
     let b = of_z w32 y * of_z w32 v % 4294967296 in
@@ -61,8 +54,8 @@ sum_word_is w v x y bw bv bx by =
 abbrev reread : ℕ → ℤ
 reread n = to_z w16 (of_z w16 (to_z w16 n))
 
-reread_is : (n : ℕ) (x : ℤ) → n ≡ of_z w16 x → Between 0 4095 x → reread n ≡ x
-reread_is n x e b = let r = short_read 4095 x (omega arith) b in ap reread e ∙ ap (λ z. to_z w16 (of_z w16 z)) r ∙ r
+reread_is : (n : ℕ) (x : ℤ) → n ≡ of_z w16 x → Between 0 32767 x → reread n ≡ x
+reread_is n x e b = let r = short_read 32767 x (omega arith) b in ap reread e ∙ ap (λ z. to_z w16 (of_z w16 z)) r ∙ r
 
 -- word i of two lists of numbers side by side
 abbrev word_of : List ℤ → List ℤ → ℕ → ℕ
@@ -85,8 +78,8 @@ second_word xs ys i n =
 abbrev pair_lane : (w v : ℤ) → List ℤ → List ℤ → ℕ → ℤ
 pair_lane w v xs ys i = sum_word (reread (word_of xs ys i)) (to_z w16 (of_z w16 w)) (reread (word_of xs ys (8 + i))) (to_z w16 (of_z w16 v))
 
-pair_lane_is : (w v : ℤ) (xs ys : List ℤ) (i : ℕ) → length xs ≡ 8 → i < 8 → Between 56 184 w → Between 56 184 v → Between 0 4095 (entry xs i) →
-    Between 0 4095 (entry ys i)
+pair_lane_is : (w v : ℤ) (xs ys : List ℤ) (i : ℕ) → length xs ≡ 8 → i < 8 → Between 28 92 w → Between 28 92 v → Between 0 32767 (entry xs i) →
+    Between 0 32767 (entry ys i)
     → pair_lane w v xs ys i ≡ w *ℤ entry xs i +ℤ v *ℤ entry ys i
 pair_lane_is w v xs ys i n h bw bv bx by =
     let x = entry xs i in
@@ -100,18 +93,18 @@ pair_lane_is w v xs ys i n h bw bv bx by =
     ∙ sum_word_is w v x y bw bv bx by
 
 -- eight sums
-pub pairs_are : (w v : ℤ) (xs ys : List ℤ) → length xs ≡ 8 → Between 56 184 w → Between 56 184 v → ((i : ℕ) → i < 8 → Between 0 4095 (entry xs i)) →
-    ((i : ℕ) → i < 8 → Between 0 4095 (entry ys i))
+pub pairs_are : (w v : ℤ) (xs ys : List ℤ) → length xs ≡ 8 → Between 28 92 w → Between 28 92 v → ((i : ℕ) → i < 8 → Between 0 32767 (entry xs i)) →
+    ((i : ℕ) → i < 8 → Between 0 32767 (entry ys i))
     → (i : ℕ) → i < 8 → entry (by_index 8 (pair_lane w v xs ys)) i ≡ w *ℤ entry xs i +ℤ v *ℤ entry ys i
 pairs_are w v xs ys n bw bv bx by i h = get_or-by_index 8 (pair_lane w v xs ys) i (pos 0) h ∙ pair_lane_is w v xs ys i n h bw bv (bx i h) (by i h)
 
 -- a sample of 12 bits as a number
-sample_fits : (n : ℕ) → n < 4096 → FitsSigned w16 (pos n)
+sample_fits : (n : ℕ) → n < 32768 → FitsSigned w16 (pos n)
 sample_fits n h = record { sfits = omega (arith, ints, h) }
 
 -- eight samples in lanes of 32 bits
 module _ (xs : List ℤ) (value : ℕ → ℕ) (count : length xs ≡ 8) (are : (i : ℕ) → i < 8 → entry xs i ≡ pos (value i))
-    (small : (i : ℕ) → i < 8 → value i < 4096) where
+    (small : (i : ℕ) → i < 8 → value i < 32768) where
   wide_lane : (i : ℕ) → i < 8 → to_z w32 (get_or (map (of_z w32) xs) i 0) ≡ pos (value i)
   wide_lane i h =
       ap (to_z w32) (get_or-map (of_z w32) xs i (pos 0)) ∙ ap (λ z. to_z w32 (of_z w32 z)) (are i h)

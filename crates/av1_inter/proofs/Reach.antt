@@ -1,12 +1,12 @@
 -- How great the values between the filters are, and that what is prepared fits 16 bits.
-use Rattle.std.proofs.Common.{ℕ, zero, suc, ◌+◌, ◌*◌, ◌^◌, ◌<◌, ◌≤◌, ◌≡◌, ◌∙◌, ap, sym, subst, arith, ℤ, pos, negsuc, ◌+ℤ◌, ◌-ℤ◌, ◌≤ℤ◌, neg_ℤ, List, inl, inr}
-use Rattle.std.proofs.Common.{w16, FitsSigned}
+use Rattle.std.proofs.Common.{ℕ, zero, suc, ◌+◌, ◌*◌, ◌^◌, ◌<◌, ◌≤◌, sym, subst, arith, ℤ, pos, negsuc, ◌+ℤ◌, ◌-ℤ◌, ◌≤ℤ◌, neg_ℤ, List, inl}
+use Rattle.std.proofs.Common.{inr, w16, FitsSigned}
 use Rattle.std.specs.Int.Signed.{shr_z}
 use Rattle.std.proofs.lemmas.Int.{ints}
 use Rattle.av1_frame.specs.Arithmetic.{round_shift}
 use Rattle.av1_inter.specs.Motion.{bias, down_intermediate, intermediate_at, weighted}
 use Rattle.av1_blocks.specs.Depths.{IsDepth}
-use Rattle.av1_inter.specs.Scaffolding.{Between, IsFilter, IsWithin}
+use Rattle.av1_inter.specs.Scaffolding.{Between, IsFilter}
 use Rattle.av1_inter.proofs.Sums.{filter_between}
 
 wider : (a b c d : ℕ) (z : ℤ) → a ≤ c → b ≤ d → Between a b z → Between c d z
@@ -67,19 +67,6 @@ intermediate_between depth (inr (inl e)) fraction taps row c f h =
 intermediate_between depth (inr (inr e)) fraction taps row c f h =
     subst (λ (d : ℕ). Between 7167 23547 (intermediate_at d fraction taps row c)) (sym e)
     (intermediate_12 fraction taps row c f (λ t l. subst (λ (d : ℕ). row (c + t) < 2 ^ d) e (h t l)))
-
-pub intermediate_within : (depth : ℕ) → IsDepth depth → (fraction : ℕ) (taps : List ℤ) (row : ℕ → ℕ) (c : ℕ) → IsFilter taps →
-    ((t : ℕ) → t < 8 → row (c + t) < 2 ^ depth) → IsWithin (2 ^ 22) (intermediate_at depth fraction taps row c)
-intermediate_within depth d fraction taps row c f h = let s = intermediate_between depth d fraction taps row c f h
-    in record { low = omega (arith, ints, s.low); high = omega (arith, ints, s.high) }
-
-shr1 : (w z : ℤ) → w ≡ z → shr_z w 1 ≡ z
-shr1 w (pos n) e = ap (λ u. shr_z u 1) e ∙ ap pos (omega arith)
-shr1 w (negsuc n) e = ap (λ u. shr_z u 1) e ∙ ap negsuc (omega arith)
-
--- nothing is rounded
-pub round_0 : (z : ℤ) → round_shift z 0 ≡ z
-round_0 z = shr1 (z +ℤ pos 0) z (omega (arith, ints))
 
 fits_16 : (z : ℤ) → neg_ℤ (pos 32768) ≤ℤ z → z ≤ℤ pos 32767 → FitsSigned w16 z
 fits_16 (pos n) l h = record { sfits = omega (arith, ints, h) }

@@ -1,20 +1,19 @@
--- Rows of a reference, and rows that are painted.
-use Rattle.std.proofs.Common.{drop, ℕ, ◌+◌, ◌-◌, ◌%◌, ◌≢◌, ◌<◌, ◌≤◌, ◌≡◌, ◌∙◌, ap, sym, arith, List, length, map, get_or, slice_index, ℤ, pos, negsuc, ◌+ℤ◌}
-use Rattle.std.proofs.Common.{◌≤ℤ◌, unsigned_abs, inl, inr}
+-- Rows of a reference, and rows and rectangles that are painted.
+use Rattle.std.proofs.Common.{ℕ, ◌+◌, ◌-◌, ◌*◌, ◌/◌, ◌%◌, ◌<◌, ◌≤◌, ◌≡◌, ◌∙◌, ap, sym, arith, List, length, get_or, ℤ, pos, negsuc, ◌+ℤ◌}
+use Rattle.std.proofs.Common.{◌≤ℤ◌, unsigned_abs, inl, inr, refl}
 use Rattle.std.proofs.lemmas.Int.{ints}
-use Rattle.std.proofs.lemmas.List.{get_or-drop, get_or-map, get_or_default, places}
-use Rattle.std.proofs.lemmas.Bool.{cases_lt, cases_eq}
+use Rattle.std.proofs.lemmas.List.{get_or_default, get_or_past}
+use Rattle.std.proofs.lemmas.Nat.{le-div}
+use Rattle.std.proofs.lemmas.Bool.{cases_lt}
 use Rattle.std.proofs.lemmas.Bool.Decides.{nat_tests}
 use Rattle.av1_frame.specs.declared.plane_slice.PlaneSlice.{PlaneSlice}
-use Rattle.av1_frame.specs.Samples.{paint_row}
-use Rattle.av1_frame.specs.Slices.{row_from, stored_column, IsStoredPlace, slice_plane}
-use Rattle.av1_frame.proofs.Slices.{row_from_sample}
+use Rattle.av1_frame.specs.declared.plane_region.StoredArea.{StoredArea}
+use Rattle.av1_frame.specs.Samples.{paint, paint_row, painted_at}
+use Rattle.av1_frame.specs.Slices.{stored_column, IsStoredPlace}
+use Rattle.av1_frame.proofs.Fits.{row_end_le}
+use Rattle.av1_frame.proofs.Paint.{paint_at}
 use Rattle.av1_frame.proofs.Update.{update_is, length-update, get_or-update}
-use Rattle.av1_frame.specs.Arithmetic.{clip, round_shift}
-use Rattle.av1_inter.specs.Motion.{entry, intermediate_bits, intermediate, intermediate_at}
-use Rattle.av1_inter.specs.Places.{IsStoredFrom, samples_from}
-use Rattle.av1_inter.specs.Scaffolding.{kept, Keeps}
-use Rattle.av1_inter.proofs.Sums.{intermediate_same}
+use Rattle.av1_inter.specs.Places.{IsStoredFrom}
 
 -- two changes that agree on the first w samples of a row
 pub paint_row_same : {X : Type 0} (w : ℕ) (f g : ℕ → X → X) (s : List X) → ((c : ℕ) (v : X) → c < w → f c v ≡ g c v) → paint_row w f s ≡ paint_row w g s
@@ -32,24 +31,6 @@ unfolding paint_row
 painted_sample w k f s d h l e =
     get_or-update _ s k d (omega arith) ∙ (let t = e (get_or s k d) in grind (arith, nat_tests))
 
--- a row that was copied by way of another, from the fourth sample on
-pub copied_twice : {X : Type 0} (n : ℕ) (row source from blank line new : List X) → n + 3 ≤ length source → length blank ≡ n
-    → from ≡ drop 3 source → line ≡ paint_row n (λ c v. get_or from c v) blank → new ≡ paint_row n (λ c v. get_or line c v) row
-    → new ≡ paint_row n (λ c v. get_or source (c + 3) v) row
-copied_twice n row source from blank line new h b d e f =
-    f ∙ paint_row_same n _ _ row (λ q v l. let inside : q < length (drop 3 source) = grind (arith, places) in
-    let m : 3 + q ≡ q + 3 = omega arith in
-    ap (λ s. get_or s q v) (e ∙ ap (λ t. paint_row n (λ k u. get_or t k u) blank) d)
-    ∙ painted_sample n q (λ k u. get_or (drop 3 source) k u) blank v l (omega arith) (λ u. get_or_default (drop 3 source) q u v inside)
-    ∙ get_or-drop 3 source q v ∙ ap (λ k. get_or source k v) m)
-
--- a row that is copied from what stands behind the first three samples of another
-pub copied_behind : {X : Type 0} (n : ℕ) (row source from : List X) → from ≡ drop 3 source →
-    paint_row n (λ c v. get_or from c v) row ≡ paint_row n (λ c v. get_or source (c + 3) v) row
-copied_behind n row source from e =
-    paint_row_same n _ _ row (λ q v l. let m : 3 + q ≡ q + 3 = omega arith in
-    ap (λ s. get_or s q v) e ∙ get_or-drop 3 source q v ∙ ap (λ k. get_or source k v) m)
-
 module _ {T : Type 0} (num : T → ℕ) (place : PlaneSlice T) (columns rows : ℕ) (stored : IsStoredFrom place columns rows) where
   abs_pos : (z : ℤ) (n m : ℕ) → pos 0 ≤ℤ z → (z +ℤ pos n) ≤ℤ pos m → unsigned_abs z + n ≤ m
   abs_pos (pos a) n m h l = omega (arith, ints)
@@ -64,59 +45,39 @@ module _ {T : Type 0} (num : T → ℕ) (place : PlaneSlice T) (columns rows : �
     bottom = omega (arith, ints, stored.bottom);
   }
 
-  -- column x of row y, read as a row
-  pub row_sample : (row : List T) (x y : ℕ) → row ≡ row_from (slice_plane place) place.x (place.y +ℤ pos y) → y < rows → x < columns →
-      slice_index (map num row) x ≡ samples_from num place x y
-  row_sample row x y e h k =
-      let r = abs_pos (pos place.plane_cfg.now.xorigin +ℤ place.x) columns place.plane_cfg.now.stride stored.left stored.right in
-      ap (λ u. slice_index (map num u) x) e
-      ∙ row_from_sample num (slice_plane place) place.x (place.y +ℤ pos y) x stored.whole (place_is_stored y h (omega arith)) (omega (arith, r))
-
--- a sample of such a row, by its number
-pub copied_is : {T : Type 0} (num : T → ℕ) (pixel : ℕ → T) (back : (v : T) → pixel (num v) ≡ v) (place : PlaneSlice T) (columns rows : ℕ)
-    (stored : IsStoredFrom place columns rows) (row : List T) (x y : ℕ) (v : T)
-    → row ≡ row_from (slice_plane place) place.x (place.y +ℤ pos y) → y < rows → x < columns → x < length row
-    → get_or row x v ≡ pixel (samples_from num place x y)
-copied_is num pixel back place columns rows stored row x y v e h k l =
-    sym (back (get_or row x v)) ∙ ap pixel (sym (get_or-map num row x v 0 l) ∙ row_sample num place columns rows stored row x y e h k)
-
-module _ {T : Type 0} (num : T → ℕ) (place : PlaneSlice T) (columns rows : ℕ) (stored : IsStoredFrom place columns rows) where
   -- such a row is long enough
   pub row_long : columns ≤ place.plane_cfg.now.stride - stored_column place.plane_cfg.now place.x
   row_long = let r =
-      abs_pos num place columns rows stored (pos place.plane_cfg.now.xorigin +ℤ place.x) columns place.plane_cfg.now.stride stored.left stored.right
+      abs_pos (pos place.plane_cfg.now.xorigin +ℤ place.x) columns place.plane_cfg.now.stride stored.left stored.right
       in omega (arith, r)
 
-  -- a row in the intermediate bits, read as a row
-  pub intermediate_of_row : (depth fx : ℕ) (across : List ℤ) (row : List T) (y q : ℕ) → row ≡ row_from (slice_plane place) place.x (place.y +ℤ pos y) →
-      y < rows → q + 7 < columns
-      → intermediate_at depth fx across (slice_index (map num row)) q ≡ intermediate depth fx across (samples_from num place) y q
-  intermediate_of_row depth fx across row y q e h k =
-      intermediate_same depth fx across _ _ q q (λ t l. row_sample num place columns rows stored row (q + t) y e h (omega arith))
+-- a row that is copied by way of another
+pub copied_twice : {X : Type 0} (n : ℕ) (row source blank line new : List X) → n ≤ length source → length blank ≡ n →
+    line ≡ paint_row n (λ c v. get_or source c v) blank → new ≡ paint_row n (λ c v. get_or line c v) row
+    → new ≡ paint_row n (λ c v. get_or source c v) row
+copied_twice n row source blank line new h b e f =
+    f ∙ paint_row_same n _ _ row (λ q v l. let inside : q < length source = omega (arith, h, l) in
+    ap (λ s. get_or s q v) e ∙ painted_sample n q (λ k u. get_or source k u) blank v l (omega (arith, b)) (λ u. get_or_default source q u v inside))
 
-  -- a row of a block that is written as such values, rounded and clipped
-  pub put_intermediate : {X : Type 0} (pixel : ℕ → X) (depth n w y fx : ℕ) (across : List ℤ) (row : List T) (values : List ℤ) (old new : List X)
-      → n ≡ intermediate_bits depth → row ≡ row_from (slice_plane place) place.x (place.y +ℤ pos y) → y < rows → w + 7 ≤ columns
-      → ((q : ℕ) → q < w → entry values q ≡ intermediate_at depth fx across (slice_index (map num row)) q)
-      → new ≡ paint_row w (λ c _. pixel (clip depth (round_shift (entry values c) n))) old
-      → new ≡ paint_row w (λ c _. pixel (clip depth (round_shift (intermediate depth fx across (samples_from num place) y c) (intermediate_bits depth)))) old
-  put_intermediate pixel depth n w y fx across row values old new b e h k v p =
-      p ∙ paint_row_same w _ _ old (λ q x l. ap (λ m. pixel (clip depth (round_shift (entry values q) m))) b
-      ∙ ap (λ z. pixel (clip depth (round_shift z (intermediate_bits depth)))) (v q l ∙ intermediate_of_row depth fx across row y q e h (omega arith)))
+-- a rectangle that is painted from a list's first entry on, in rows of its own width: its entries, and those behind it
+module _ {X : Type 0} (a : StoredArea) (w h : ℕ) (f : ℕ → ℕ → X → X) (s new : List X) (ea : a ≡ record { x = 0; y = 0; width = w; height = h })
+    (e : new ≡ paint w a f s) (some : 0 < w) where
+  packed_is : new ≡ paint w (record { x = 0; y = 0; width = w; height = h }) f s
+  packed_is = e ∙ ap (λ (b : StoredArea). paint w b f s) ea
 
--- the same of sums that were formed by place
-pub put_sums : {X : Type 0} (pixel : ℕ → X) (depth n m w : ℕ) (values : List ℤ) (f : ℕ → ℤ) (old new : List X) → n ≡ m
-    → ((q : ℕ) → q < w → entry values q ≡ f q) → new ≡ paint_row w (λ c _. pixel (clip depth (round_shift (entry values c) n))) old
-    → new ≡ paint_row w (λ c _. pixel (clip depth (round_shift (f c) m))) old
-put_sums pixel depth n m w values f old new b v p =
-    p ∙ paint_row_same w _ _ old (λ q x l. ap (λ k. pixel (clip depth (round_shift (entry values q) k))) b
-    ∙ ap (λ z. pixel (clip depth (round_shift z m))) (v q l))
+  pub packed_at : h * w ≤ length s → (r c : ℕ) (d : X) → r < h → c < w → get_or new (r * w + c) d ≡ f r c (get_or s (r * w + c) d)
+  packed_at long r c d k l =
+      let end = row_end_le r h w (c + 1) (h * w) refl k (omega arith) in
+      let t = paint_at w (record { x = 0; y = 0; width = w; height = h }) f s c r d l (omega (arith, end, long)) in
+      ap (λ u. get_or u (r * w + c) d) packed_is ∙ grind (arith, nat_tests)
 
--- one more row is kept
-pub keeps_more : (old new : List (List ℤ)) (first y w : ℕ) (f : ℕ → ℕ → ℤ) → Keeps old first y w f → y < first + 8 →
-    ((q : ℕ) → q < w → entry (kept new y) q ≡ f y q) → ((j : ℕ) → j % 8 ≢ y % 8 → kept new j ≡ kept old j) → Keeps new first (y + 1) w f
-keeps_more old new first y w f h room v others = λ j q a b l.
-    elim (cases_eq j y) [
-      | inl e ↦ rw e (v q l)
-      | inr e ↦ (let d : j % 8 ≢ y % 8 = omega arith in ap (λ u. entry u q) (others j d) ∙ h j q a (omega arith) l)
-    ]
+  pub packed_rest : (i : ℕ) (d : X) → h * w ≤ i → get_or new i d ≡ get_or s i d
+  unfolding paint
+  packed_rest i d l =
+      let below = le-div h i w some l in
+      ap (λ u. get_or u i d) packed_is ∙ elim (cases_lt i (length s)) [
+        | inl inside ↦ get_or-update _ s i d inside ∙ grind (arith, nat_tests)
+        | inr past ↦ get_or_past _ i d
+            (omega (arith, length-update (λ k v. painted_at (record { x = 0; y = 0; width = w; height = h }) f (k % w) (k / w) v) s, past))
+            ∙ sym (get_or_past s i d past)
+      ]

@@ -1,10 +1,8 @@
 -- All that is stored of a reference from a place on, read by rows.
-use Rattle.std.proofs.Common.{inl, inr, ℕ, ◌+◌, ◌*◌, ◌^◌, ◌<◌, ◌≤◌, ◌≡◌, ◌∙◌, ap, subst, sym, arith, List, length, map, get_or, slice_index}
+use Rattle.std.proofs.Common.{ℕ, ◌+◌, ◌*◌, ◌<◌, ◌≤◌, ◌≡◌, ◌∙◌, ap, arith, List, length, map, slice_index}
 use Rattle.std.proofs.lemmas.Int.{ints}
-use Rattle.std.proofs.lemmas.List.{get_or-map}
-use Rattle.av1_blocks.specs.Depths.{IsDepth}
 use Rattle.av1_frame.specs.declared.plane_slice.PlaneSlice.{PlaneSlice}
-use Rattle.av1_frame.specs.Slices.{all_from, IsStoredPlace, RowIsStored, slice_plane}
+use Rattle.av1_frame.specs.Slices.{all_from, IsStoredPlace, slice_plane}
 use Rattle.av1_frame.proofs.Slices.{all_from_fits, all_from_sample}
 use Rattle.av1_inter.specs.Places.{IsStoredFrom, samples_from}
 use Rattle.av1_inter.proofs.Rows.{place_is_stored, row_long}
@@ -13,9 +11,6 @@ module _ {T : Type 0} (num : T → ℕ) (place : PlaneSlice T) (columns rows : �
   first_is_stored : 0 < columns → 0 < rows → IsStoredPlace place.plane_cfg.now place.x place.y
   first_is_stored h k =
       record { left = is_stored.left; right = omega (arith, ints, is_stored.right); top = is_stored.top; bottom = omega (arith, ints, is_stored.bottom) }
-
-  pub source_starts : 0 < columns → 0 < rows → RowIsStored place 0
-  source_starts h k = record { whole = is_stored.whole; place = place_is_stored num place columns rows is_stored 0 k h }
 
   -- column x of row y stands in it
   pub source_long : (source : List T) (x y : ℕ) → source ≡ all_from (slice_plane place) place.x place.y → y < rows → x < columns →
@@ -35,32 +30,12 @@ module _ {T : Type 0} (num : T → ℕ) (place : PlaneSlice T) (columns rows : �
       ∙ all_from_sample num (slice_plane place) place.x place.y y x is_stored.whole (first_is_stored (omega arith) (omega arith))
       (place_is_stored num place columns rows is_stored y h (omega arith)) (omega (arith, r))
 
-  pub source_pixel : (pixel : ℕ → T) (back : (v : T) → pixel (num v) ≡ v) (source : List T) (x y : ℕ) (v : T) →
-      source ≡ all_from (slice_plane place) place.x place.y → y < rows → x < columns
-      → get_or source (y * place.plane_cfg.now.stride + x) v ≡ pixel (samples_from num place x y)
-  source_pixel pixel back source x y v e h k =
-      let i = y * place.plane_cfg.now.stride + x in
-      sym (back (get_or source i v)) ∙ ap pixel (sym (get_or-map num source i v 0 (source_long source x y e h k)) ∙ source_sample source x y e h k)
-
   -- the same by a stride that was asked for
   pub source_reaches : (source : List T) (stride x y : ℕ) → source ≡ all_from (slice_plane place) place.x place.y → stride ≡ place.plane_cfg.now.stride →
       y < rows → x < columns → y * stride + x < length source
   source_reaches source stride x y e f h k =
       let m : y * stride + x ≡ y * place.plane_cfg.now.stride + x = ap (λ n. y * n + x) f in
       omega (arith, m, source_long source x y e h k)
-
--- a sample of any depth has 12 bits at most
-pub within_12 : (depth n : ℕ) → IsDepth depth → n < 2 ^ depth → n < 4096
-within_12 depth n (inl e) h = omega (arith, (let small : n < 2 ^ 8 = subst (λ d. n < 2 ^ d) e h in small))
-within_12 depth n (inr (inl e)) h = omega (arith, (let small : n < 2 ^ 10 = subst (λ d. n < 2 ^ d) e h in small))
-within_12 depth n (inr (inr e)) h = subst (λ d. n < 2 ^ d) e h
-
--- where sample t of a sum down column c stands, and of one along row r
-pub down_place : (r t stride c : ℕ) → r * stride + 3 + c + t * stride ≡ (r + t) * stride + (c + 3)
-down_place r t stride c = grind arith
-
-pub along_place : (start t c : ℕ) → start + c + t * 1 ≡ start + (c + t)
-along_place start t c = omega arith
 
 -- the rows that the taps for a strip read, in what is stored from its place on: where they end, and their samples
 pub strip_reaches : {T : Type 0} (place : PlaneSlice T) (w h : ℕ) (source : List T) (stride r : ℕ) → IsStoredFrom place (w + 7) (h + 7) →

@@ -1,18 +1,17 @@
 -- A block is its strips: what a strip reads, and what strips paint side by side.
-use Rattle.std.proofs.Common.{ℕ, zero, suc, ◌+◌, ◌-◌, ◌/◌, ◌%◌, ◌<◌, ◌≤◌, ◌≡◌, ◌∙◌, ap, sym, subst, arith, inl, inr, List, get_or, ℤ, pos, ◌+ℤ◌, ◌-ℤ◌}
-use Rattle.std.proofs.lemmas.Int.{ints}
+use Rattle.std.proofs.Common.{ℕ, zero, suc, ◌+◌, ◌-◌, ◌*◌, ◌/◌, ◌%◌, ◌<◌, ◌≤◌, ◌≡◌, ◌∙◌, ap, sym, subst, arith, inl, inr, List, [], ◌∷◌, refl, drop, length}
+use Rattle.std.proofs.Common.{map, slice_index, get_or, ℤ, pos, ◌-ℤ◌}
+use Rattle.std.proofs.lemmas.List.{get_or-drop, get_or-map, places}
 use Rattle.std.proofs.lemmas.Bool.{cases_lt}
 use Rattle.std.proofs.lemmas.Bool.Decides.{nat_tests}
 use Rattle.av1_frame.specs.declared.plane_region.StoredArea.{StoredArea}
-use Rattle.av1_frame.specs.declared.plane_slice.PlaneSlice.{PlaneSlice}
 use Rattle.av1_frame.specs.Arithmetic.{clip, round_shift}
-use Rattle.av1_frame.specs.Areas.{AreRows}
 use Rattle.av1_frame.specs.Samples.{corner, paint, painted_at}
-use Rattle.av1_frame.specs.Slices.{stored_sample, slice_plane}
 use Rattle.av1_frame.proofs.Update.{get_or-update, length-update, update_is}
 use Rattle.av1_inter.specs.Motion.{bias, intermediate_bits, prepared, single, unbiased}
-use Rattle.av1_inter.specs.Places.{IsStoredFrom, samples_from}
-use Rattle.av1_inter.specs.Scaffolding.{square_at, strip_of}
+use Rattle.av1_inter.specs.declared.strip.Strip.{Strip}
+use Rattle.av1_inter.specs.declared.strip.Taps.{Taps}
+use Rattle.av1_inter.specs.Scaffolding.{IsLaid, filtered, part_of, settled, strip_of}
 use Rattle.av1_inter.proofs.Sums.{intermediate_same, weighted_same}
 
 -- samples that agree where the taps of two places stand
@@ -36,40 +35,6 @@ module _ (depth : ℕ) (across down : List ℤ) (s t : ℕ → ℕ → ℕ) (r c
 
   pub prepared_moved : (fx fy : ℕ) → prepared depth fx fy across down s r c ≡ prepared depth fx fy across down t r d
   prepared_moved fx fy = ap (λ z. z -ℤ bias depth) (unbiased_moved fx fy)
-
--- the place n columns to the right
-abbrev pub to_right : {T : Type 0} → PlaneSlice T → ℕ → PlaneSlice T
-to_right place n = record place { x = place.x +ℤ pos n; y = place.y +ℤ pos 0 }
-
-module _ {T : Type 0} (num : T → ℕ) (place strip : PlaneSlice T) (n : ℕ) (is : strip ≡ to_right place n) where
-  pub strip_samples : (x y : ℕ) → samples_from num strip x y ≡ samples_from num place (n + x) y
-  strip_samples x y =
-      let right : place.x +ℤ pos n +ℤ pos x ≡ place.x +ℤ pos (n + x) = omega (arith, ints) in
-      let same : place.y +ℤ pos 0 +ℤ pos y ≡ place.y +ℤ pos y = omega (arith, ints) in
-      ap (λ (p : PlaneSlice T). samples_from num p x y) is ∙ ap (λ z. stored_sample num (slice_plane place) z (place.y +ℤ pos 0 +ℤ pos y)) right
-      ∙ ap (λ z. stored_sample num (slice_plane place) (place.x +ℤ pos (n + x)) z) same
-
-  -- what stands round column c of a strip stands round column n + c of the block
-  pub strip_same : (r c x y : ℕ) → x < 8 → y < 8 → samples_from num strip (c + x) (r + y) ≡ samples_from num place (n + c + x) (r + y)
-  strip_same r c x y h k =
-      let e : n + (c + x) ≡ n + c + x = omega arith in
-      strip_samples (c + x) (r + y) ∙ ap (λ i. samples_from num place i (r + y)) e
-
-right_stored : {T : Type 0} (place : PlaneSlice T) (n columns rows : ℕ) → IsStoredFrom place (n + columns) rows → IsStoredFrom (to_right place n) columns rows
-right_stored place n columns rows s =
-    record {
-      whole = s.whole;
-      left = omega (arith, ints, s.left);
-      right = omega (arith, ints, s.right);
-      top = omega (arith, ints, s.top);
-      bottom = omega (arith, ints, s.bottom);
-    }
-
-pub strip_stored : {T : Type 0} (place strip : PlaneSlice T) (n columns rows all : ℕ) → strip ≡ to_right place n → n + columns ≡ all →
-    IsStoredFrom place all rows → IsStoredFrom strip columns rows
-strip_stored {T} place strip n columns rows all is e s =
-    subst (λ (p : PlaneSlice T). IsStoredFrom p columns rows) (sym is)
-    (right_stored place n columns rows (subst (λ (m : ℕ). IsStoredFrom place m rows) (sym e) s))
 
 -- a sample that is painted in the first w columns, or in the n columns after them
 strip_at : {X : Type 0} (a : StoredArea) (w n h p q : ℕ) (f g : ℕ → ℕ → X → X) (v : X) → ((r c : ℕ) (v : X) → r < h → c < n → g r c v ≡ f r (w + c) v) →
@@ -104,11 +69,106 @@ paint_strip stride a w n h f g s e =
     ∙ ap (painted_at (strip_of a w n h) g (k % stride) (k / stride)) (get_or-update _ s k d l)
     ∙ strip_at a w n h (k % stride) (k / stride) f g (get_or s k d) e)
 
--- a strip lies in the rows that its rectangle lies in
-pub strip_rows : (stride : ℕ) (a : StoredArea) (start columns n : ℕ) → AreRows stride a n → start + columns ≤ a.width →
-    AreRows stride (strip_of a start columns a.height) n
-strip_rows stride a start columns n h l = record { some = h.some; columns = omega (arith, h.columns); rows = h.rows; few = h.few }
+-- a rectangle that is painted in its first columns, and then in the n after them
+pub paint_next : {X : Type 0} (stride : ℕ) (a p : StoredArea) (w n : ℕ) (f g : ℕ → ℕ → X → X) (s t new : List X) → p ≡ part_of a w 0 n a.height →
+    t ≡ paint stride (corner a w a.height) f s → new ≡ paint stride p g t
+    → ((r c : ℕ) (v : X) → r < a.height → c < n → g r c v ≡ f r (w + c) v) → new ≡ paint stride (corner a (w + n) a.height) f s
+paint_next stride a p w n f g s t new ep et en e =
+    let same : part_of a w 0 n a.height ≡ strip_of a w n a.height =
+    ap (λ (y : ℕ). let b : StoredArea = record { x = a.x + w; y = y; width = n; height = a.height } in b) (omega arith) in
+    en ∙ ap (paint stride p g) et ∙ ap (λ (b : StoredArea). paint stride b g (paint stride (corner a w a.height) f s)) (ep ∙ same)
+    ∙ paint_strip stride a w n a.height f g s e
 
--- a rectangle that is a square
-pub square_area : {side : ℕ} (a : StoredArea) → a.width ≡ side → a.height ≡ side → a ≡ square_at side a.x a.y
-square_area {side} a w h = ap (λ n. record a { width = n }) w ∙ ap (λ n. record a { width = side; height = n }) h
+-- a sample that is painted in the first h rows, or in the n rows after them
+band_at : {X : Type 0} (a : StoredArea) (h n p q : ℕ) (f g : ℕ → ℕ → X → X) (v : X) → ((r c : ℕ) (v : X) → r < n → c < a.width → g r c v ≡ f (h + r) c v)
+    → painted_at (part_of a 0 h a.width n) g p q (painted_at (corner a a.width h) f p q v) ≡ painted_at (corner a a.width (h + n)) f p q v
+band_at a h n p q f g v e =
+    elim (cases_lt p a.x) [
+      | inl b ↦ grind (arith, nat_tests)
+      | inr b ↦ elim (cases_lt q a.y) [
+        | inl c ↦ grind (arith, nat_tests)
+        | inr c ↦ elim (cases_lt p (a.x + a.width)) [
+          | inr d ↦ grind (arith, nat_tests)
+          | inl d ↦ elim (cases_lt q (a.y + h)) [
+            | inl i ↦ grind (arith, nat_tests)
+            | inr i ↦ elim (cases_lt q (a.y + h + n)) [
+              | inr j ↦ grind (arith, nat_tests)
+              | inl j ↦ (let t = e (q - (a.y + h)) (p - a.x) v (omega arith) (omega arith) in let z : h + (q - (a.y + h)) ≡ q - a.y = omega arith
+                  in let x : p - (a.x + 0) ≡ p - a.x = omega arith in grind (arith, nat_tests))
+            ]
+          ]
+        ]
+      ]
+    ]
+
+-- the same by rows: painted in its first rows, and then in the n after them
+pub paint_below : {X : Type 0} (stride : ℕ) (a p : StoredArea) (h n : ℕ) (f g : ℕ → ℕ → X → X) (s t new : List X) → p ≡ part_of a 0 h a.width n →
+    t ≡ paint stride (corner a a.width h) f s → new ≡ paint stride p g t
+    → ((r c : ℕ) (v : X) → r < n → c < a.width → g r c v ≡ f (h + r) c v) → new ≡ paint stride (corner a a.width (h + n)) f s
+unfolding paint
+paint_below stride a p h n f g s t new ep et en e =
+    en ∙ ap (paint stride p g) et ∙ ap (λ (b : StoredArea). paint stride b g (paint stride (corner a a.width h) f s)) ep
+    ∙ update_is _ s _ (length-update _ _ ∙ length-update _ s) (λ k d l.
+    get_or-update _ _ k d (omega (arith, length-update (λ k v. painted_at (corner a a.width h) f (k % stride) (k / stride) v) s))
+    ∙ ap (painted_at (part_of a 0 h a.width n) g (k % stride) (k / stride)) (get_or-update _ s k d l)
+    ∙ band_at a h n (k % stride) (k / stride) f g (get_or s k d) e)
+
+-- the rows of a part of a block, in what is stored from its place on
+pub part_reaches : {T : Type 0} (source part : List T) (stride x y q w all : ℕ) → part ≡ drop (y * stride + x) source → x + w ≤ all →
+    (y + q) * stride + (all + 7) ≤ length source → q * stride + (w + 7) ≤ length part
+part_reaches source part stride x y q w all e l h =
+    let m : (y + q) * stride ≡ y * stride + q * stride = grind arith in
+    let n : length (drop (y * stride + x) source) ≡ length source - (y * stride + x) = grind (arith, places) in
+    omega (arith, ap length e, n, m, l, h)
+
+map_drop : {T : Type 0} (num : T → ℕ) (n : ℕ) (s : List T) → map num (drop n s) ≡ drop n (map num s)
+map_drop num zero s = refl
+map_drop num (suc n) [] = refl
+map_drop num (suc n) (x ∷ s) = map_drop num n s
+
+-- and its samples
+pub part_sample : {T : Type 0} (num : T → ℕ) (source part : List T) (n k m : ℕ) → part ≡ drop n source → n + k ≡ m →
+    slice_index (map num part) k ≡ slice_index (map num source) m
+part_sample num source part n k m e h =
+    ap (λ u. slice_index (map num u) k) e ∙ ap (λ u. get_or u k 0) (map_drop num n source) ∙ get_or-drop n (map num source) k 0
+    ∙ ap (λ i. slice_index (map num source) i) h
+
+-- a part of a block from which a filter is laid: what it reads, and what the filter gives there
+module _ {T : Type 0} (num : T → ℕ) (block part : Strip T) (taps : Taps) (x y w h : ℕ) (area : part.area ≡ part_of block.area x y w h)
+    (source : part.source.now ≡ drop (y * block.source_stride + x) block.source.now)
+    (stride : part.source_stride ≡ block.source_stride) where
+  place : (r c k : ℕ) → y * block.source_stride + x + (taps.start + r * part.source_stride + c + k) ≡ taps.start + (y + r) * block.source_stride + (x + c) + k
+  place r c k =
+      let m : (y + r) * block.source_stride ≡ y * block.source_stride + r * block.source_stride = grind arith in
+      let n : r * part.source_stride ≡ r * block.source_stride = ap (λ s. r * s) stride in
+      omega (arith, m, n)
+
+  number_there : (r c k : ℕ) → slice_index (map num part.source.now) (taps.start + r * part.source_stride + c + k) ≡ slice_index (map num block.source.now)
+      (taps.start + (y + r) * block.source_stride + (x + c) + k)
+  number_there r c k = part_sample num block.source.now part.source.now (y * block.source_stride + x) _ _ source (place r c k)
+
+  pub part_filtered : (r c : ℕ) → filtered num part taps r c ≡ filtered num block taps (y + r) (x + c)
+  part_filtered r c = ap (settled taps.rounding) (weighted_same taps.halves _ _ (λ t l. ap pos (number_there r c (t * taps.step))))
+
+  pub part_laid : x + w ≤ block.area.width → y + h ≤ block.area.height → IsLaid num block taps → IsLaid num part taps
+  part_laid columns rows l =
+      let wide : part.area.width ≡ w = ap (λ (a : StoredArea). a.width) area in
+      let high : part.area.height ≡ h = ap (λ (a : StoredArea). a.height) area in
+      record {
+        filter = l.filter;
+        rounding = l.rounding;
+        reach = λ r k.
+            let long = l.reach (y + r) (omega (arith, k, high, rows)) in
+            let m = place r part.area.width (7 * taps.step) in
+            let n : length (drop (y * block.source_stride + x) block.source.now) ≡ length block.source.now - (y * block.source_stride + x) =
+            grind (arith, places) in
+            omega (arith, ap length source, n, m, long, wide, columns);
+        small = λ r c t k q i. subst (λ (n : ℕ). n < 32768) (sym (number_there r c (t * taps.step)))
+            (l.small (y + r) (x + c) t (omega (arith, k, high, rows)) (omega (arith, q, wide, columns)) i);
+      }
+
+-- a sample behind the first n of a source, by its number
+pub copied_there : {T : Type 0} (num : T → ℕ) (pixel : ℕ → T) (back : (v : T) → pixel (num v) ≡ v) (source from : List T) (n q m : ℕ) (v : T) →
+    from ≡ drop n source → n + q ≡ m → q < length from → get_or from q v ≡ pixel (slice_index (map num source) m)
+copied_there num pixel back source from n q m v e h l = sym (back (get_or from q v))
+    ∙ ap pixel (sym (get_or-map num from q v 0 l) ∙ part_sample num source from n q m e h)

@@ -1,13 +1,13 @@
 -- Sums of weighted values, as the machine forms them, and how great they are.
-use Rattle.std.proofs.Common.{ℕ, zero, suc, ◌+◌, ◌-◌, ◌*◌, ◌%◌, ◌^◌, ◌<◌, ◌≤◌, ◌≡◌, ◌∙◌, ap, refl, arith, subst, sym, ℤ, pos, negsuc, ◌+ℤ◌, ◌-ℤ◌, ◌*ℤ◌, neg_ℤ}
-use Rattle.std.proofs.Common.{◌≤ℤ◌, List, [], ◌∷◌, length, take, w16, w32, to_z, of_z, FitsSigned}
-use Rattle.std.proofs.lemmas.Int.{ints, to_z-of_z, to_z_pos}
+use Rattle.std.proofs.Common.{ℕ, zero, suc, ◌+◌, ◌-◌, ◌*◌, ◌%◌, ◌^◌, ◌<◌, ◌≤◌, ◌≡◌, ◌∙◌, ap, refl, arith, ℤ, pos, negsuc, ◌+ℤ◌, ◌*ℤ◌}
+use Rattle.std.proofs.Common.{neg_ℤ, ◌≤ℤ◌, List, [], ◌∷◌, length, take, w32, to_z, of_z, FitsSigned}
+use Rattle.std.proofs.lemmas.Int.{ints, to_z_pos}
 use Rattle.std.proofs.lemmas.Nat.{mul-le}
 use Rattle.std.proofs.Math.Nat.{mod-eq_of_lt}
 use Rattle.std.proofs.Math.Pow.{pow_mono}
 use Rattle.av1_frame.specs.Arithmetic.{round_shift}
 use Rattle.av1_inter.specs.Motion.{entry, intermediate_bits, intermediate_at, sum_to, weighted}
-use Rattle.av1_inter.specs.Scaffolding.{Between, gains, losses, IsFilter, IsInner, IsWithin, SumsFit}
+use Rattle.av1_inter.specs.Scaffolding.{AreZero, Between, gains, losses, IsFilter}
 
 -- a sample, shifted to the left
 pub shifted_is : (z : ℤ) (n b : ℕ) → z ≡ pos n → n < 2 ^ 16 → b ≤ 4 → to_z w32 (of_z w32 z * 2 ^ b % 4294967296) ≡ pos (n * 2 ^ b)
@@ -16,11 +16,6 @@ shifted_is z n b e h l =
     let m : n * 2 ^ b ≤ 2 ^ 16 * 2 ^ 4 = mul-le n (2 ^ b) (2 ^ 16) (2 ^ 4) (omega arith) p in
     let small : n * 2 ^ b < 4294967296 = omega arith in
     ap (λ y. to_z w32 (of_z w32 y * 2 ^ b % 4294967296)) e ∙ ap (to_z w32) (mod-eq_of_lt small) ∙ to_z_pos w32 (n * 2 ^ b) (omega arith)
-
--- a value less its bias, in 16 bits
-pub stored_is : (r b x y : ℤ) → x ≡ r → y ≡ b → FitsSigned w32 x → IsWithin 8192 b → FitsSigned w16 (r -ℤ b) →
-    to_z w16 (of_z w16 (to_z w32 (of_z w32 (to_z w32 (of_z w32 x) -ℤ to_z w32 (of_z w32 y))))) ≡ r -ℤ b
-stored_is r b x y er eb fr w f = omega (arith, ints, er, eb, fr, w.low, w.high, f)
 
 -- a weight's part of the positive ones, and of the negative ones
 abbrev pub gain : ℤ → ℕ
@@ -81,12 +76,13 @@ both_between G g L l a b s p h k =
 
 -- the first terms of a sum
 pub partial_between : (taps : List ℤ) (value : ℕ → ℤ) (a b k : ℕ) → k ≤ length taps → ((t : ℕ) → t < length taps → Between a b (value t)) →
-    Between (gains (take k taps) * a + losses (take k taps) * b) (gains (take k taps) * b + losses (take k taps) * a) (sum_to k (λ t. entry taps t *ℤ value t))
+    Between (gains (take k taps) * a + losses (take k taps) * b) (gains (take k taps) * b + losses (take k taps) * a)
+    (sum_to k (λ t. entry taps t *ℤ value t))
 unfolding sum_to
 partial_between taps value a b zero h v = record { low = omega (arith, ints); high = omega (arith, ints) }
 partial_between taps value a b (suc k) h v =
-    let s = both_between _ _ _ _ a b _ _ (partial_between taps value a b k (omega arith) v) (product_between (entry taps k) (value k) a b (v k (omega arith)))
-    in
+    let s = both_between _ _ _ _ a b _ _ (partial_between taps value a b k (omega arith) v)
+    (product_between (entry taps k) (value k) a b (v k (omega arith))) in
     rw (gains_more taps k (omega arith), losses_more taps k (omega arith)) s
 
 pub fits_of : (z : ℤ) → neg_ℤ (pos (2 ^ 30)) ≤ℤ z → z ≤ℤ pos (2 ^ 30) → FitsSigned w32 z
@@ -106,6 +102,12 @@ filter_between taps value a b k f h v =
     let lb = mul-le _ b 56 b l (omega arith) in
     record { low = omega (arith, ints, s.low, ga, lb); high = omega (arith, ints, s.high, gb, la) }
 
+-- sums of numbers from 0 to `greatest` by these eight weights, or by the first of them, fit 16 bits
+pub record SumsFit (weights : List ℤ) (greatest : ℕ) : Type 0 where
+  pub size : length weights ≡ 8
+  pub gains : gains weights * greatest ≤ 32767
+  pub losses : losses weights * greatest ≤ 32767
+
 -- sums by small weights, also of the first terms alone, over numbers up to n
 pub small_sum : (weights : List ℤ) (value : ℕ → ℤ) (n k : ℕ) → SumsFit weights n → k ≤ 8 → ((t : ℕ) → t < 8 → Between 0 n (value t)) →
     Between 32767 32767 (sum_to k (λ t. entry weights t *ℤ value t))
@@ -115,75 +117,38 @@ small_sum weights value n k f h v =
     let l : losses (take k weights) * n ≤ losses weights * n = mul-le _ n _ n (losses_part weights k) (omega arith) in
     record { low = omega (arith, ints, s.low, l, f.losses); high = omega (arith, ints, s.high, g, f.gains) }
 
--- the same over small values
-pub filter_small : (taps : List ℤ) (value : ℕ → ℤ) (k : ℕ) → IsFilter taps → k ≤ 8 → ((t : ℕ) → t < 8 → IsWithin (2 ^ 22) (value t)) →
-    IsWithin (2 ^ 30) (sum_to k (λ t. entry taps t *ℤ value t))
-filter_small taps value k f h v =
-    let s = filter_between taps value (2 ^ 22) (2 ^ 22) k f h (λ t l. let w = v t l in record { low = w.low; high = w.high }) in
-    record { low = omega (arith, ints, s.low); high = omega (arith, ints, s.high) }
-
--- each product of a filter
-pub product_small : (taps : List ℤ) (t : ℕ) (v : ℤ) → IsFilter taps → t < 8 → IsWithin (2 ^ 22) v → FitsSigned w32 (entry taps t *ℤ v)
-product_small taps t v f h w =
-    let p = product_between (entry taps t) v (2 ^ 22) (2 ^ 22) (record { low = w.low; high = w.high }) in
-    let more = gains_more taps t (omega (arith, f.size)) in
-    let less = losses_more taps t (omega (arith, f.size)) in
-    let g : gain (entry taps t) ≤ 184 = omega (arith, more, gains_part taps (suc t), f.gains) in
-    let l : loss (entry taps t) ≤ 56 = omega (arith, less, losses_part taps (suc t), f.losses) in
-    fits_of _ (omega (arith, ints, p.low, p.high, g, l)) (omega (arith, ints, p.low, p.high, g, l))
-
--- a product as the machine forms it
-pub product_of : (taps : List ℤ) (t : ℕ) (v : ℤ) → FitsSigned w32 (entry taps t) → IsWithin (2 ^ 22) v →
-    to_z w32 (of_z w32 (entry taps t)) *ℤ to_z w32 (of_z w32 v) ≡ entry taps t *ℤ v
-product_of taps t v f w =
-    ap (λ z. z *ℤ to_z w32 (of_z w32 v)) (to_z-of_z w32 _ f)
-    ∙ ap (λ z. entry taps t *ℤ z) (to_z-of_z w32 v (fits_of v (omega (arith, ints, w.low)) (omega (arith, ints, w.high))))
-
-pub product_fits : (taps : List ℤ) (t : ℕ) (v : ℤ) → IsFilter taps → t < 8 → FitsSigned w32 (entry taps t) → IsWithin (2 ^ 22) v →
-    FitsSigned w32 (to_z w32 (of_z w32 (entry taps t)) *ℤ to_z w32 (of_z w32 v))
-product_fits taps t v f h e w =
-    let P : ℤ → Type 0 = λ z. FitsSigned w32 z in
-    subst P (sym (product_of taps t v e w)) (product_small taps t v f h w)
-
-pub product_stored : (taps : List ℤ) (t : ℕ) (v : ℤ) → IsFilter taps → t < 8 → FitsSigned w32 (entry taps t) → IsWithin (2 ^ 22) v →
-    to_z w32 (of_z w32 (to_z w32 (of_z w32 (entry taps t)) *ℤ to_z w32 (of_z w32 v))) ≡ entry taps t *ℤ v
-product_stored taps t v f h e w = to_z-of_z w32 _ (product_fits taps t v f h e w) ∙ product_of taps t v e w
-
--- the term after those of a sum
-pub next_fits : (taps : List ℤ) (value : ℕ → ℤ) (t : ℕ) (s p : ℤ) → IsFilter taps → t < 8 → ((i : ℕ) → i < 8 → IsWithin (2 ^ 22) (value i)) →
-    s ≡ sum_to t (λ i. entry taps i *ℤ value i) → p ≡ entry taps t *ℤ value t → FitsSigned w32 (s +ℤ p)
-unfolding sum_to
-next_fits taps value t s p f h v es ep =
-    let w = filter_small taps value (suc t) f (omega arith) v in
-    fits_of _ (omega (arith, ints, w.low, es, ep)) (omega (arith, ints, w.high, es, ep))
-
 pub next_is : (term : ℕ → ℤ) (t : ℕ) (z s p : ℤ) → z ≡ s +ℤ p → s ≡ sum_to t term → p ≡ term t → z ≡ sum_to (t + 1) term
 unfolding sum_to
 next_is term t z s p e es ep =
     let n : suc t ≡ t + 1 = omega arith in
     e ∙ ap (λ u. u +ℤ p) es ∙ ap (λ u. sum_to t term +ℤ u) ep ∙ ap (λ i. sum_to i term) n
 
-pub sum_none : (term : ℕ → ℤ) → sum_to 0 term ≡ pos 0
-unfolding sum_to
-sum_none term = refl
-
 pub times_none : (v : ℤ) → pos 0 *ℤ v ≡ pos 0
 times_none (pos n) = omega (arith, ints)
 times_none (negsuc n) = omega (arith, ints)
 
-last_none : (s p : ℤ) → p ≡ pos 0 → s ≡ s +ℤ p
-last_none s p e = omega (arith, ints, e)
+nothing_more : (s p : ℤ) → p ≡ pos 0 → s ≡ s +ℤ p
+nothing_more s p e = omega (arith, ints, e)
 
--- the first and the last term of a sum by weights of which they are 0
-pub sum_first : (taps : List ℤ) (value : ℕ → ℤ) → IsInner taps → sum_to 1 (λ t. entry taps t *ℤ value t) ≡ pos 0
-unfolding sum_to
-sum_first taps value h = ap (λ z. pos 0 +ℤ z *ℤ value 0) h.first ∙ ap (λ z. pos 0 +ℤ z) (times_none (value 0))
+no_product : (w v : ℤ) → w ≡ pos 0 → w *ℤ v ≡ pos 0
+no_product w v e = ap (λ z. z *ℤ v) e ∙ times_none v
 
-pub sum_last : (taps : List ℤ) (value : ℕ → ℤ) → IsInner taps → (z : ℤ) → z ≡ sum_to 7 (λ t. entry taps t *ℤ value t) → z ≡ weighted taps value
+-- a sum before its first weight that may not be 0, and behind its last
+pub sum_begins : (zeros : ℕ) (halves : List ℤ) (value : ℕ → ℤ) → zeros ≤ 2 → AreZero zeros halves → pos 0 ≡ sum_to zeros (λ t. entry halves t *ℤ value t)
 unfolding sum_to
-sum_last taps value h z e =
-    let n : entry taps 7 *ℤ value 7 ≡ pos 0 = ap (λ u. u *ℤ value 7) h.last ∙ times_none (value 7) in
-    e ∙ last_none _ _ n
+sum_begins zero halves value l h = refl
+sum_begins (suc zero) halves value l h = nothing_more _ _ (no_product _ _ (h 0 (omega arith)).0)
+sum_begins (suc (suc zero)) halves value l h = nothing_more _ _ (no_product _ _ (h 0 (omega arith)).0) ∙ nothing_more _ _ (no_product _ _ (h 1 (omega arith)).0)
+sum_begins (suc (suc (suc n))) halves value l h = absurd (omega (arith, l))
+
+pub sum_ends : (zeros : ℕ) (halves : List ℤ) (value : ℕ → ℤ) (z : ℤ) → zeros ≤ 2 → AreZero zeros halves →
+    z ≡ sum_to (8 - zeros) (λ t. entry halves t *ℤ value t) → z ≡ weighted halves value
+unfolding sum_to
+sum_ends zero halves value z l h e = e
+sum_ends (suc zero) halves value z l h e = e ∙ nothing_more _ _ (no_product _ _ (h 0 (omega arith)).1)
+sum_ends (suc (suc zero)) halves value z l h e = e ∙ nothing_more _ _ (no_product _ _ (h 1 (omega arith)).1)
+    ∙ nothing_more _ _ (no_product _ _ (h 0 (omega arith)).1)
+sum_ends (suc (suc (suc n))) halves value z l h e = absurd (omega (arith, l))
 
 -- terms that agree
 pub sum_same : (n : ℕ) (f g : ℕ → ℤ) → ((t : ℕ) → t < n → f t ≡ g t) → sum_to n f ≡ sum_to n g
@@ -199,11 +164,6 @@ pub intermediate_same : (depth fraction : ℕ) (taps : List ℤ) (f g : ℕ → 
     intermediate_at depth fraction taps f c ≡ intermediate_at depth fraction taps g d
 intermediate_same depth zero taps f g c d h = ap (λ n. pos (n * 2 ^ intermediate_bits depth)) (h 3 (omega arith))
 intermediate_same depth (suc k) taps f g c d h = ap (λ z. round_shift z (7 - intermediate_bits depth)) (weighted_same taps _ _ (λ t l. ap pos (h t l)))
-
--- a sum of eight small values by a filter's weights
-pub weighted_within : (taps : List ℤ) (value : ℕ → ℤ) (z : ℤ) → IsFilter taps → ((t : ℕ) → t < 8 → IsWithin (2 ^ 22) (value t)) → z ≡ weighted taps value →
-    IsWithin (2 ^ 30) z
-weighted_within taps value z f h e = let P : ℤ → Type 0 = λ v. IsWithin 1073741824 v in subst P (sym e) (filter_small taps value 8 f (omega arith) h)
 
 -- the first t products of weights and values are summed
 abbrev pub IsSum : ℤ → ℕ → (weights values : List ℤ) → Type 0

@@ -1,5 +1,5 @@
 -- The weights of every filter are in bounds, by computing over the table.
-use Rattle.std.proofs.Common.{ℕ, suc, ◌+◌, ◌*◌, ◌/◌, ◌%◌, ◌*ℤ◌, ◌<◌, ◌≤◌, ◌≡◌, ◌≢◌, ◌∙◌, ap, refl, sym, arith, Bool, true, ◌&&◌, nat_eq, nat_le, List, []}
+use Rattle.std.proofs.Common.{ℕ, ◌+◌, ◌*◌, ◌/◌, ◌%◌, ◌*ℤ◌, ◌<◌, ◌≤◌, ◌≡◌, ◌≢◌, ◌∙◌, ap, refl, sym, arith, Bool, true, ◌&&◌, nat_eq, nat_le, List, []}
 use Rattle.std.proofs.Common.{length, slice_index_or, inl, inr, subst, ℤ, pos, negsuc, ◌≤ℤ◌, ◌<ℤ◌, unsigned_abs, w32, to_z, of_z, FitsSigned}
 use Rattle.std.specs.Int.{int_shr}
 use Rattle.std.proofs.lemmas.Bool.{cases_lt}
@@ -10,8 +10,7 @@ use Rattle.av1_blocks.specs.declared.mc.FilterMode.{FilterMode}
 use Rattle.av1_blocks.specs.declared.mc.FilterMode.TheVariants.{REGULAR, SMOOTH, SHARP, BILINEAR, SWITCHABLE}
 use Rattle.av1_blocks.specs.Filters.{filter_number, subpel_filters}
 use Rattle.av1_inter.specs.Filters.{family, filter_of, short_family}
-use Rattle.av1_inter.specs.Motion.{entry}
-use Rattle.av1_inter.specs.Scaffolding.{gains, IsFilter, IsShort, losses, outer}
+use Rattle.av1_inter.specs.Scaffolding.{gains, IsFilter, losses}
 
 both_true : (a b : Bool) → (a && b) ≡ true → (a ≡ true) × (b ≡ true)
 both_true a b e = grind (arith, nat_tests)
@@ -21,12 +20,6 @@ row_at k f = slice_index_or (slice_index_or subpel_filters k []) f []
 
 abbrev is_filter : List ℤ → Bool
 is_filter taps = nat_eq (length taps) 8 && (nat_eq (gains taps) (128 + losses taps) && (nat_le (gains taps) 184 && nat_le (losses taps) 56))
-
-abbrev has_small_outer : List ℤ → Bool
-has_small_outer taps = nat_le (gains (outer taps)) 32 && nat_le (losses (outer taps)) 56
-
-all_outer : all_below 6 (λ k. all_below 16 (λ f. has_small_outer (row_at k f))) ≡ true
-all_outer = refl
 
 all_filters : all_below 6 (λ k. all_below 16 (λ f. is_filter (row_at k f))) ≡ true
 all_filters = refl
@@ -61,48 +54,7 @@ row_is_filter k f h l =
     (nat_eq (gains (row_at k f)) (128 + losses (row_at k f)) && (nat_le (gains (row_at k f)) 184 && nat_le (losses (row_at k f)) 56)) e in
     let d = both_true (nat_eq (gains (row_at k f)) (128 + losses (row_at k f))) (nat_le (gains (row_at k f)) 184 && nat_le (losses (row_at k f)) 56) b.1 in
     let m = both_true (nat_le (gains (row_at k f)) 184) (nat_le (losses (row_at k f)) 56) d.1 in
-    let s = below 16 (λ i. has_small_outer (row_at k i)) (below 6 (λ j. all_below 16 (λ i. has_small_outer (row_at j i))) all_outer k h) f l in
-    let o = both_true (nat_le (gains (outer (row_at k f))) 32) (nat_le (losses (outer (row_at k f))) 56) s in
-    record {
-      size = equal_is _ _ b.0;
-      whole = equal_is _ _ d.0;
-      outer_gains = at_most_is _ _ o.0;
-      outer_losses = at_most_is _ _ o.1;
-      gains = at_most_is _ _ m.0;
-      losses = at_most_is _ _ m.1;
-      even = λ t b. row_is_even k f t h l b;
-    }
-
-abbrev is_zero : ℤ → Bool
-is_zero (pos n) = nat_eq n 0
-is_zero (negsuc n) = nat_eq (suc n) 0
-
-zero_is : (z : ℤ) → is_zero z ≡ true → z ≡ pos 0
-zero_is (pos n) e = ap pos (equal_is n 0 e)
-zero_is (negsuc n) e = let m : suc n ≡ 0 = equal_is (suc n) 0 e in absurd (omega (arith, m))
-
-abbrev is_short : List ℤ → Bool
-is_short taps = is_zero (entry taps 0) && (is_zero (entry taps 1) && (is_zero (entry taps 6) && is_zero (entry taps 7)))
-
-all_short : all_below 3 (λ k. all_below 16 (λ f. is_short (row_at (3 + k) f))) ≡ true
-all_short = refl
-
-row_is_short : (k f : ℕ) → k < 3 → f < 16 → IsShort (row_at (3 + k) f)
-row_is_short k f h l =
-    let taps = row_at (3 + k) f in
-    let e = below 16 (λ i. is_short (row_at (3 + k) i)) (below 3 (λ j. all_below 16 (λ i. is_short (row_at (3 + j) i))) all_short k h) f l in
-    let a = both_true (is_zero (entry taps 0)) (is_zero (entry taps 1) && (is_zero (entry taps 6) && is_zero (entry taps 7))) e in
-    let b = both_true (is_zero (entry taps 1)) (is_zero (entry taps 6) && is_zero (entry taps 7)) a.1 in
-    let d = both_true (is_zero (entry taps 6)) (is_zero (entry taps 7)) b.1 in
-    record { inner = record { first = zero_is _ a.0; last = zero_is _ d.1 }; second = zero_is _ b.0; seventh = zero_is _ d.0 }
-
--- the filter of each mode for a side of 4
-short_of : (mode : FilterMode) (fraction : ℕ) → fraction < 16 → IsShort (filter_of mode fraction 4)
-short_of REGULAR f h = row_is_short 1 f (omega arith) h
-short_of SMOOTH f h = row_is_short 2 f (omega arith) h
-short_of SHARP f h = row_is_short 2 f (omega arith) h
-short_of BILINEAR f h = row_is_short 0 f (omega arith) h
-short_of SWITCHABLE f h = row_is_short 2 f (omega arith) h
+    record { size = equal_is _ _ b.0; whole = equal_is _ _ d.0; gains = at_most_is _ _ m.0; losses = at_most_is _ _ m.1; even = λ t b. row_is_even k f t h l b }
 
 number_small : (mode : FilterMode) → filter_number mode < 6
 number_small REGULAR = omega arith
@@ -128,30 +80,21 @@ family_small mode side =
 pub filter_of_is_filter : (mode : FilterMode) (fraction side : ℕ) → fraction < 16 → IsFilter (filter_of mode fraction side)
 filter_of_is_filter mode fraction side h = row_is_filter (family mode side) fraction (family_small mode side) h
 
--- the fraction and the weights that were made for a machine's number
-pub fraction_made : (z : ℤ) (n : ℕ) → FitsSigned w32 z → n ≡ unsigned_abs (to_z w32 (of_z w32 z)) → n ≡ unsigned_abs z
-fraction_made z n h e = e ∙ ap unsigned_abs (to_z-of_z w32 z h)
-
-pub taps_made : (mode : FilterMode) (z : ℤ) (side : ℕ) (taps : List ℤ) → FitsSigned w32 z → taps ≡ filter_of mode (unsigned_abs (to_z w32 (of_z w32 z))) side →
-    taps ≡ filter_of mode (unsigned_abs z) side
+-- the weights that were made for a machine's number
+pub taps_made : (mode : FilterMode) (z : ℤ) (side : ℕ) (taps : List ℤ) → FitsSigned w32 z →
+    taps ≡ filter_of mode (unsigned_abs (to_z w32 (of_z w32 z))) side → taps ≡ filter_of mode (unsigned_abs z) side
 taps_made mode z side taps h e = e ∙ ap (λ y. filter_of mode (unsigned_abs y) side) (to_z-of_z w32 z h)
 
 -- a machine's number that is not 0
 pub some_fraction : (z : ℤ) → of_z w32 z ≢ 0 → unsigned_abs z ≢ 0
 some_fraction z h e = let k : z ≡ pos 0 = omega (arith, ints, e) in h (ap (of_z w32) k)
 
-fraction_small : (z : ℤ) → pos 0 ≤ℤ z → z <ℤ pos 16 → unsigned_abs z < 16
+pub fraction_small : (z : ℤ) → pos 0 ≤ℤ z → z <ℤ pos 16 → unsigned_abs z < 16
 fraction_small (pos n) l h = omega (arith, ints)
 fraction_small (negsuc n) l h = absurd (omega (arith, ints))
 
--- the weights that were read are those of a filter, and for a side of 4 the outer four are 0
+-- the weights that were read are those of a filter
 pub read_is_filter : (mode : FilterMode) (z : ℤ) (side : ℕ) (taps : List ℤ) → FitsSigned w32 z → pos 0 ≤ℤ z → z <ℤ pos 16 →
     taps ≡ filter_of mode (unsigned_abs (to_z w32 (of_z w32 z))) side → IsFilter taps
 read_is_filter mode z side taps f l h e =
     subst IsFilter (sym (taps_made mode z side taps f e)) (filter_of_is_filter mode (unsigned_abs z) side (fraction_small z l h))
-
-pub read_is_short : (mode : FilterMode) (z : ℤ) (side : ℕ) (taps : List ℤ) → FitsSigned w32 z → pos 0 ≤ℤ z → z <ℤ pos 16 →
-    taps ≡ filter_of mode (unsigned_abs (to_z w32 (of_z w32 z))) side → side ≡ 4 → IsShort taps
-read_is_short mode z side taps f l h e s =
-    subst IsShort (sym (taps_made mode z side taps f e))
-    (subst (λ (n : ℕ). IsShort (filter_of mode (unsigned_abs z) n)) (sym s) (short_of mode (unsigned_abs z) (fraction_small z l h)))

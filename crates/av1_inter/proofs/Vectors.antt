@@ -1,9 +1,8 @@
 -- Where a vector leads, and what stands there.
-use Rattle.std.proofs.Common.{ℕ, ◌+◌, ◌^◌, ◌<◌, ◌≤◌, ◌≡◌, ◌∙◌, ap, sym, subst, arith, ℤ, pos, negsuc, ◌+ℤ◌, ◌-ℤ◌, ◌≤ℤ◌, ◌<ℤ◌, neg_ℤ, FitsSigned, w16, w32, w64}
-use Rattle.std.proofs.Common.{to_z, of_z, unsigned_abs}
+use Rattle.std.proofs.Common.{ℕ, ◌+◌, ◌^◌, ◌<◌, ◌≡◌, ◌∙◌, ap, sym, subst, arith, ℤ, pos, negsuc, ◌+ℤ◌, ◌-ℤ◌, ◌≤ℤ◌, ◌<ℤ◌, neg_ℤ, FitsSigned, w16, w32}
+use Rattle.std.proofs.Common.{w64, to_z, of_z, unsigned_abs}
 use Rattle.std.specs.Int.{int_min, int_max, saturate_signed}
 use Rattle.std.proofs.lemmas.Int.{ints, clamps, to_z-of_z}
-use Rattle.av1_blocks.specs.declared.mc.MotionVector.{MotionVector}
 use Rattle.av1_frame.specs.declared.plane.Plane.{Plane}
 use Rattle.av1_frame.specs.Planes.{IsWhole, padded, sample_at}
 use Rattle.av1_frame.proofs.Slices.{padded_sample, padded_whole, visible_below}
@@ -13,7 +12,7 @@ use Rattle.av1_inter.specs.Motion.{prepared, single}
 use Rattle.av1_inter.specs.Places.{corner_of, IsStoredFrom, samples_from}
 use Rattle.av1_blocks.specs.declared.mc.FilterMode.{FilterMode}
 use Rattle.av1_inter.specs.Filters.{filter_of}
-use Rattle.av1_inter.specs.Reference.{IsPadded, IsReference, moved, nearest_sample, sixteenths, whole_part}
+use Rattle.av1_inter.specs.Reference.{IsPadded, nearest_sample, sixteenths, whole_part}
 use Rattle.av1_inter.proofs.Strips.{prepared_moved, single_moved}
 
 -- a place that is no number of the machine lies past the pads, as the nearest such number does
@@ -42,10 +41,6 @@ pads_low z pad side = omega (arith, ints, clamps)
 
 pads_high : (z : ℤ) (pad side : ℕ) → within_pads z pad side ≤ℤ pos side
 pads_high z pad side = omega (arith, ints, clamps)
-
--- fewer columns and rows
-pub fewer : {T : Type 0} (place : PlaneSlice T) (m n w h : ℕ) → w ≤ m → h ≤ n → IsStoredFrom place m n → IsStoredFrom place w h
-fewer place m n w h a b s = record { whole = s.whole; left = s.left; right = omega (arith, ints, s.right); top = s.top; bottom = omega (arith, ints, s.bottom) }
 
 -- a place that was clamped to the pads
 abbrev pub clamped_of : {T : Type 0} → PlaneSlice T → PlaneSlice T
@@ -159,12 +154,6 @@ prepared_is depth mode w h fx gx fy gy s t ex ey same r c in_rows in_columns =
     ap (λ n. prepared depth n fy (filter_of mode n w) (filter_of mode fy h) s r c) ex
     ∙ ap (λ n. prepared depth gx n (filter_of mode gx w) (filter_of mode n h) s r c) ey
     ∙ prepared_moved depth (filter_of mode gx w) (filter_of mode gy h) s t r c c (λ x y a b. same (c + x) (r + y) (omega arith) (omega arith)) gx gy
-
--- samples of a reference lie within its depth, wherever a vector leads
-pub moved_within : {T : Type 0} (num : T → ℕ) (plane : Plane T) (depth width height : ℕ) → IsReference num plane depth width height →
-    (x y : ℤ) (mv : MotionVector) (c r : ℕ) → moved num plane x y mv c r < 2 ^ depth
-moved_within num plane depth width height s x y mv c r =
-    s.within _ _ (visible_below plane.plane_cfg.width _ s.padded.whole.some_columns) (visible_below plane.plane_cfg.height _ s.padded.whole.some_rows)
 
 -- the visible samples of a padded plane are those that it had
 pub visible_stays : {T : Type 0} (num : T → ℕ) (p : Plane T) (x y : ℕ) → IsWhole p → x < p.plane_cfg.width → y < p.plane_cfg.height →

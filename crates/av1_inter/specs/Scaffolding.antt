@@ -1,9 +1,15 @@
 -- What the crate's own functions promise one another on the way. No public contract cites this file.
-use Rattle.std.specs.Prelude.{◌≡◌, ℕ, suc, ◌+◌, ◌*◌, ◌%◌, ◌≤◌, ◌<◌, ◌⊎◌, List, [], ◌∷◌, length, map, slice_index_or, ℤ}
-use Rattle.std.specs.Prelude.{pos, negsuc, neg_ℤ, ◌*ℤ◌, ◌≤ℤ◌}
-use Rattle.std.specs.Int.{int_shr}
+use Rattle.std.specs.Prelude.{◌≡◌, ℕ, zero, suc, ◌+◌, ◌-◌, ◌*◌, ◌^◌, ◌≤◌, ◌<◌, ◌⊎◌, List, []}
+use Rattle.std.specs.Prelude.{◌∷◌, length, map, slice_index, ℤ, pos, negsuc, neg_ℤ, ◌+ℤ◌, ◌-ℤ◌, ◌*ℤ◌, ◌≤ℤ◌}
+use Rattle.std.specs.Int.{int_shr, saturate_signed, w16}
+use Rattle.av1_blocks.specs.Depths.{IsDepth}
 use Rattle.av1_frame.specs.declared.plane_region.StoredArea.{StoredArea}
-use Rattle.av1_inter.specs.Motion.{entry}
+use Rattle.av1_inter.specs.declared.rounding.Rounding.{Rounding}
+use Rattle.av1_inter.specs.declared.strip.Strip.{Strip}
+use Rattle.av1_inter.specs.declared.strip.Taps.{Taps}
+use Rattle.av1_frame.specs.Arithmetic.{clip}
+use Rattle.av1_inter.specs.Motion.{bias, entry, intermediate_bits, weighted}
+use Rattle.av1_inter.specs.Places.{AreWithinDepth}
 
 -- the sums of a filter's positive weights, and of its negative ones without their sign
 abbrev pub gains : List ℤ → ℕ
@@ -16,42 +22,22 @@ losses [] = 0
 losses (pos n ∷ taps) = losses taps
 losses (negsuc n ∷ taps) = suc n + losses taps
 
--- the outer six of eight weights, with 0 in the place of the middle two
-abbrev pub outer : List ℤ → List ℤ
-outer taps = entry taps 0 ∷ entry taps 1 ∷ entry taps 2 ∷ pos 0 ∷ pos 0 ∷ entry taps 5 ∷ entry taps 6 ∷ entry taps 7 ∷
-    []
-
 -- eight even weights that sum to 128, of which the positive ones sum to at most 184 and the negative ones to at least
--- -56, and the positive ones of the outer six to at most 32, as those of every filter do
+-- -56, as those of every filter do
 pub record IsFilter (taps : List ℤ) : Type 0 where
   pub size : length taps ≡ 8
   pub whole : gains taps ≡ 128 + losses taps
-  pub outer_gains : gains (outer taps) ≤ 32
-  pub outer_losses : losses (outer taps) ≤ 56
   pub gains : gains taps ≤ 184
   pub losses : losses taps ≤ 56
   pub even : (t : ℕ) → t < 8 → pos 2 *ℤ int_shr (entry taps t) 1 ≡ entry taps t
-
--- the outer two of eight weights are 0
-pub record IsInner (taps : List ℤ) : Type 0 where
-  pub first : entry taps 0 ≡ pos 0
-  pub last : entry taps 7 ≡ pos 0
-
--- the outer four of eight weights are 0, as those of every filter for sides up to 4 are
-pub record IsShort (taps : List ℤ) : Type 0 where
-  pub inner : IsInner taps
-  pub second : entry taps 1 ≡ pos 0
-  pub seventh : entry taps 6 ≡ pos 0
 
 -- twice each weight
 abbrev pub doubled : List ℤ → List ℤ
 doubled halves = map (λ h. pos 2 *ℤ h) halves
 
--- sums of numbers from 0 to `greatest` by these eight weights, or by the first of them, fit 16 bits
-pub record SumsFit (weights : List ℤ) (greatest : ℕ) : Type 0 where
-  pub size : length weights ≡ 8
-  pub gains : gains weights * greatest ≤ 32767
-  pub losses : losses weights * greatest ≤ 32767
+-- the outer n weights on either side are 0
+abbrev pub AreZero : ℕ → List ℤ → Type 0
+AreZero n halves = (t : ℕ) → t < n → (entry halves t ≡ pos 0) × (entry halves (7 - t) ≡ pos 0)
 
 -- z is from -a to b
 pub record Between (a b : ℕ) (z : ℤ) : Type 0 where
@@ -63,26 +49,118 @@ pub record IsWithin (n : ℕ) (z : ℤ) : Type 0 where
   pub low : neg_ℤ (pos n) ≤ℤ z
   pub high : z ≤ℤ pos n
 
--- the kept row y, which stands at y modulo 8
-abbrev pub kept : List (List ℤ) → ℕ → List ℤ
-kept rows y = slice_index_or rows (y % 8) []
+-- a sum of eight numbers, each times half its weight: they stand `step` apart, from `start` on
+abbrev pub sum_from : (halves : List ℤ) → (ℕ → ℤ) → (start step : ℕ) → ℤ
+sum_from halves number start step = weighted halves (λ t. number (start + t * step))
 
--- the first entries of the kept rows from `first` to before `end` are those of f
-abbrev pub Keeps : List (List ℤ) → (first end width : ℕ) → (ℕ → ℕ → ℤ) → Type 0
-Keeps rows first end width f = (y c : ℕ) → first ≤ y → y < end → c < width → entry (kept rows y) c ≡ f y c
+-- what such a sum becomes in 16 bits
+abbrev pub settled : Rounding → ℤ → ℤ
+settled rounding sum = saturate_signed w16 (int_shr (sum +ℤ rounding.add) rounding.shift -ℤ rounding.bias)
+
+-- how a rounding may be
+pub record IsRounding (rounding : Rounding) : Type 0 where
+  pub add : Between 0 512 rounding.add
+  pub bias : Between 8192 16384 rounding.bias
+  pub shift : (rounding.shift ≡ 2) ⊎
+      ((rounding.shift ≡ 4) ⊎ ((rounding.shift ≡ 6) ⊎ ((rounding.shift ≡ 8) ⊎ (rounding.shift ≡ 10))))
+
+-- The roundings at a depth. Values between the filters are moved up by 8192, so that they have no sign: since halved
+-- weights sum to 64, that moves a sum of them up by 64 * 8192, which is taken off behind it.
+abbrev pub between_filters : ℕ → Rounding
+between_filters depth = record {
+  add = pos (2 ^ (5 - intermediate_bits depth));
+  shift = 6 - intermediate_bits depth;
+  bias = negsuc 8191;
+}
+
+abbrev pub row_put : ℕ → Rounding
+row_put depth = record { add = pos (32 + 2 ^ (5 - intermediate_bits depth)); shift = 6; bias = pos 0 }
+
+abbrev pub column_put : Rounding
+column_put = record { add = pos 32; shift = 6; bias = pos 0 }
+
+abbrev pub both_put : ℕ → Rounding
+both_put depth = record {
+  add = pos (2 ^ (5 + intermediate_bits depth));
+  shift = 6 + intermediate_bits depth;
+  bias = pos (2 ^ (13 - intermediate_bits depth));
+}
+
+abbrev pub one_prepared : ℕ → Rounding
+one_prepared depth = record {
+  add = pos (2 ^ (5 - intermediate_bits depth));
+  shift = 6 - intermediate_bits depth;
+  bias = bias depth;
+}
+
+abbrev pub both_prepared : ℕ → Rounding
+both_prepared depth = record { add = pos 32; shift = 6; bias = pos 8192 +ℤ bias depth }
+
+-- number i of a strip's source
+abbrev pub number_at : {T : Type 0} → (T → ℕ) → Strip T → ℕ → ℤ
+number_at num strip i = pos (slice_index (map num strip.source.now) i)
+
+-- what a filter gives for row r and column c of a strip
+abbrev pub filtered : {T : Type 0} → (T → ℕ) → Strip T → Taps → (r c : ℕ) → ℤ
+filtered num strip taps r c =
+    settled taps.rounding (sum_from taps.halves (number_at num strip)
+    (taps.start + r * strip.source_stride + c) taps.step)
+
+-- A filter that is laid on a strip: what it reads is stored, and has 15 bits at most.
+pub record IsLaid {T : Type 0} (num : T → ℕ) (strip : Strip T) (taps : Taps) : Type 0 where
+  pub filter : IsFilter (doubled taps.halves)
+  pub rounding : IsRounding taps.rounding
+  pub reach : (r : ℕ) → r < strip.area.height →
+      taps.start + r * strip.source_stride + strip.area.width + 7 * taps.step ≤ length strip.source.now
+  pub small : (r c t : ℕ) → r < strip.area.height → c < strip.area.width → t < 8 →
+      slice_index (map num strip.source.now) (taps.start + r * strip.source_stride + c + t * taps.step) < 32768
+
+-- the number at column x and row y of a strip's source
+abbrev pub sample_of : {T : Type 0} → (T → ℕ) → Strip T → (x y : ℕ) → ℕ
+sample_of num strip x y = slice_index (map num strip.source.now) (y * strip.source_stride + x)
+
+-- A block whose taps are stored: 7 columns and 7 rows more than it has, with samples of the depth.
+pub record IsBlock {T : Type 0} (num : T → ℕ) (block : Strip T) : Type 0 where
+  pub wide : block.area.width ≤ 128
+  pub high : block.area.height ≤ 128
+  pub depths : IsDepth block.bit_depth
+  pub reach : (y : ℕ) → y < block.area.height + 7 →
+      y * block.source_stride + (block.area.width + 7) ≤ length block.source.now
+  pub within : AreWithinDepth block.bit_depth (sample_of num block) (block.area.width + 7) (block.area.height + 7)
+
+-- half of each weight
+abbrev pub halved : List ℤ → List ℤ
+halved taps = map (λ z. int_shr z 1) taps
+
+-- What filters give for row r and column c of a block, over its samples and by halved weights: along its rows alone,
+-- down its columns alone, and both, where the values of rows are kept as numbers of 15 bits.
+abbrev pub along : Rounding → List ℤ → (ℕ → ℕ → ℕ) → (y c : ℕ) → ℤ
+along rounding halves samples y c = settled rounding (weighted halves (λ t. pos (samples (c + t) y)))
+
+abbrev pub down_alone : Rounding → List ℤ → (ℕ → ℕ → ℕ) → (r c : ℕ) → ℤ
+down_alone rounding halves samples r c = settled rounding (weighted halves (λ t. pos (samples (c + 3) (r + t))))
+
+abbrev pub both_ways : Rounding → (depth : ℕ) → (across down : List ℤ) → (ℕ → ℕ → ℕ) → (r c : ℕ) → ℤ
+both_ways rounding depth across down samples r c =
+    settled rounding (weighted down (λ t. pos (clip 15 (along (between_filters depth) across samples (r + t) c))))
+
+abbrev pub value_of : (row column both : Rounding) → (depth fx fy : ℕ) → (across down : List ℤ) → (ℕ → ℕ → ℕ) →
+    (r c : ℕ) → ℤ
+value_of row column both depth fx zero across down samples r c = along row across samples (r + 3) c
+value_of row column both depth zero (suc _) across down samples r c = down_alone column down samples r c
+value_of row column both depth (suc _) (suc _) across down samples r c = both_ways both depth across down samples r c
+
+-- how many columns a strip may have, and a part that is filtered twice
+abbrev pub IsStripWidth : ℕ → Type 0
+IsStripWidth n = (n ≡ 16) ⊎ ((n ≡ 8) ⊎ ((n ≡ 4) ⊎ (n ≡ 1)))
+
+abbrev pub IsPartWidth : ℕ → Type 0
+IsPartWidth n = (n ≡ 8) ⊎ ((n ≡ 4) ⊎ (n ≡ 1))
+
+-- a part of a rectangle
+abbrev pub part_of : StoredArea → (x y width height : ℕ) → StoredArea
+part_of a x y width height = record { x = a.x + x; y = a.y + y; width = width; height = height }
 
 -- so many columns of the first rows of a rectangle, from a column on
 abbrev pub strip_of : StoredArea → (start columns rows : ℕ) → StoredArea
 strip_of a start columns rows = record { x = a.x + start; y = a.y; width = columns; height = rows }
-
--- place i is before the n places from `start` on, or behind them
-abbrev pub IsBeside : (start n i : ℕ) → Type 0
-IsBeside start n i = (i < start) ⊎ (start + n ≤ i)
-
--- how many columns a strip may have
-abbrev pub IsStripWidth : ℕ → Type 0
-IsStripWidth n = (n ≡ 32) ⊎ ((n ≡ 16) ⊎ ((n ≡ 8) ⊎ ((n ≡ 4) ⊎ (n ≡ 1))))
-
--- the samples of a square of so many columns and rows, from a column and a row on
-abbrev pub square_at : (side x y : ℕ) → StoredArea
-square_at side x y = record { x = x; y = y; width = side; height = side }

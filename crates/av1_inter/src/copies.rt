@@ -2,47 +2,21 @@
 //!
 //! AV1 specification: block inter prediction process.
 
-ghost use Rattle.std.specs.Prelude.{◌≡◌, ℕ, ◌+◌, ◌*◌, ◌≤◌, ◌<◌, length, slice_index_or};
+ghost use Rattle.std.specs.Prelude.{◌≡◌, ◌+◌, ◌*◌, ◌^◌, ◌≤◌, ◌<◌, pos, ◌-ℤ◌, ℕ, length, map, slice_index, slice_index_or};
+ghost use Rattle.av1_blocks.specs.Depths.{IsDepth};
 ghost use Rattle.av1_frame.specs.Areas.{AreRows};
 ghost use Rattle.av1_frame.specs.Samples.{paint, paint_row};
-ghost use Rattle.av1_inter.specs.Places.{IsStoredFrom, samples_from};
-ghost use Rattle.av1_inter.specs.Scaffolding.{square_at};
+ghost use Rattle.av1_inter.specs.Motion.{bias, entry, intermediate_bits};
+ghost use Rattle.av1_inter.specs.Scaffolding.{IsBlock, IsStripWidth, sample_of};
 
-use av1_frame::{Pixel, PlaneSlice, StoredArea, copy_row};
-
-/// The first `width` samples of the row become those of `source` from the fourth on.
-#[inline(always)]
-fn copy_inner<T: Pixel>(row: &mut [T], source: &[T], width: usize)
-    requires row_long { width ≤ length row.old }
-    requires source_long { width + 3 ≤ length source.now }
-    ensures { row.new ≡ paint_row width (λ c v. slice_index_or source.now (c + 3) v) row.old }
-{
-    let (_, inner) = source.split_at(3);
-    copy_row(row, inner, width);
-}
-
-/// The rectangle's samples as they stand in the reference. The rows of `samples` stand `stride` apart.
-#[tactic(auto, using(av1_frame::proofs::Paint::rectangle_painting))]
-fn put_samples<T: Pixel>(
-    samples: &mut [T],
-    stride: usize,
-    area: StoredArea,
-    corner: PlaneSlice<'_, T>,
-)
-    requires rows { AreRows stride area (length samples.old) }
-    requires stored { IsStoredFrom corner (area.width + 7) (area.height + 7) }
-    ensures { samples.new ≡ paint stride area (λ r c _. T.pixel (samples_from T.num corner.entry (c + 3) (r + 3))) samples.old }
-{
-    for r in 0..area.height {
-        let (_, row) = samples.split_at_mut((area.y + r) * stride + area.x);
-        copy_inner(row, corner.row(r + 3), area.width);
-    }
-}
+use crate::rounding::{intermediate_bits, prep_bias};
+use crate::strip::{Strip, part_at, strip_width};
+use av1_frame::{Pixel, copy_row};
 
 /// The first `N` samples of the row become those of `source`, one after another.
 #[inline(always)]
 #[tactic(auto, using(av1_frame::proofs::Paint::row_painting))]
-pub(crate) fn copy_each<T: Pixel, const N: usize>(row: &mut [T], source: &[T])
+pub(crate) fn copy_each<E: Copy, const N: usize>(row: &mut [E], source: &[E])
     requires row_long { N ≤ length row.old }
     requires short { N ≤ 128 }
     requires source_long { N ≤ length source.now }
@@ -53,113 +27,149 @@ pub(crate) fn copy_each<T: Pixel, const N: usize>(row: &mut [T], source: &[T])
     }
 }
 
-/// The same from the fourth on, by an array of its own: then nothing that is read can be what is written.
+/// The same by an array of its own: then nothing that is read can be what is written.
 #[inline(always)]
 fn copy_by_array<T: Pixel, const N: usize>(row: &mut [T], source: &[T])
     requires row_long { N ≤ length row.old }
     requires some { 0 < N }
     requires short { N ≤ 128 }
-    requires source_long { N + 3 ≤ length source.now }
-    ensures { row.new ≡ paint_row N (λ c v. slice_index_or source.now (c + 3) v) row.old }
+    requires source_long { N ≤ length source.now }
+    ensures { row.new ≡ paint_row N (λ c v. slice_index_or source.now c v) row.old }
 {
-    let mut line = [source[3]; N];
-    let (_, inner) = source.split_at(3);
-    copy_each::<T, N>(&mut line, inner);
+    let mut line = [source[0]; N];
+    copy_each::<T, N>(&mut line, source);
     copy_each::<T, N>(row, &line);
 }
 
-/// The rectangle's samples become those of `source` from the fourth row and column on, whose rows stand `source_stride`
-/// apart.
+/// The samples of a block of `N` columns, whose rows are copied by a few moves.
 #[tactic(auto, using(av1_frame::proofs::Paint::rectangle_painting))]
-fn copy_rows<T: Pixel, const N: usize>(
-    samples: &mut [T],
-    stride: usize,
-    area: StoredArea,
-    source: &[T],
-    source_stride: usize,
-)
-    requires rows { AreRows stride area (length samples.old) }
-    requires width { area.width ≡ N }
+fn copy_rows<T: Pixel, const N: usize>(samples: &mut [T], stride: usize, block: &Strip<'_, T>)
+    requires rows { AreRows stride block.now.area (length samples.old) }
+    requires width { block.now.area.width ≡ N }
     requires some { 0 < N }
-    requires short { N ≤ 128 }
-    requires source_rows { (r : ℕ) → r < area.height → (r + 3) * source_stride + (N + 3) ≤ length source.now }
-    ensures { samples.new ≡ paint stride area (λ r c v. slice_index_or source.now ((r + 3) * source_stride + (c + 3)) v) samples.old }
+    requires block { IsBlock T.num block.now }
+    ensures { samples.new ≡ paint stride block.now.area (λ r c _. T.pixel (sample_of T.num block.now (c + 3) (r + 3))) samples.old }
 {
-    for r in 0..area.height {
-        let (_, row) = samples.split_at_mut((area.y + r) * stride + area.x);
-        let (_, from) = source.split_at((r + 3) * source_stride);
+    let block = *block;
+    for r in 0..block.area.height {
+        let (_, row) = samples.split_at_mut((block.area.y + r) * stride + block.area.x);
+        let (_, from) = block.source.split_at((r + 3) * block.source_stride + 3);
         copy_by_array::<T, N>(row, from);
     }
 }
 
-/// The same of a rectangle of `N` columns, whose rows are copied by a few moves.
-#[inline(always)]
-fn put_samples_of<T: Pixel, const N: usize>(
-    samples: &mut [T],
-    stride: usize,
-    area: StoredArea,
-    corner: PlaneSlice<'_, T>,
-)
-    requires rows { AreRows stride area (length samples.old) }
-    requires width { area.width ≡ N }
-    requires some { 0 < N }
-    requires short { N ≤ 128 }
-    requires stored { IsStoredFrom corner (area.width + 7) (area.height + 7) }
-    ensures { samples.new ≡ paint stride area (λ r c _. T.pixel (samples_from T.num corner.entry (c + 3) (r + 3))) samples.old }
+/// The same of a block of any width.
+#[tactic(auto, using(av1_frame::proofs::Paint::rectangle_painting))]
+fn copy_any_rows<T: Pixel>(samples: &mut [T], stride: usize, block: &Strip<'_, T>)
+    requires rows { AreRows stride block.now.area (length samples.old) }
+    requires block { IsBlock T.num block.now }
+    ensures { samples.new ≡ paint stride block.now.area (λ r c _. T.pixel (sample_of T.num block.now (c + 3) (r + 3))) samples.old }
 {
-    copy_rows::<T, N>(samples, stride, area, corner.samples(), corner.stride());
+    for r in 0..block.area.height {
+        let (_, row) = samples.split_at_mut((block.area.y + r) * stride + block.area.x);
+        let (_, from) = block.source.split_at((r + 3) * block.source_stride + 3);
+        copy_row(row, from, block.area.width);
+    }
 }
 
-/// The same of a square of `N` columns and rows from column `x` and row `y` on, which is written out.
+/// The samples of a block that is not moved by part of a sample.
 #[inline(always)]
-pub(crate) fn put_square_of<T: Pixel, const N: usize>(
-    samples: &mut [T],
-    stride: usize,
-    x: usize,
-    y: usize,
-    corner: PlaneSlice<'_, T>,
-)
-    requires rows { AreRows stride (square_at N x y) (length samples.old) }
-    requires some { 0 < N }
-    requires short { N ≤ 128 }
-    requires stored { IsStoredFrom corner (N + 7) (N + 7) }
-    ensures { samples.new ≡ paint stride (square_at N x y) (λ r c _. T.pixel (samples_from T.num corner.entry (c + 3) (r + 3))) samples.old }
+pub(crate) fn put_copy<T: Pixel>(samples: &mut [T], stride: usize, block: &Strip<'_, T>)
+    requires rows { AreRows stride block.now.area (length samples.old) }
+    requires block { IsBlock T.num block.now }
+    ensures { samples.new ≡ paint stride block.now.area (λ r c _. T.pixel (sample_of T.num block.now (c + 3) (r + 3))) samples.old }
 {
-    let square = StoredArea {
-        x,
-        y,
-        width: N,
-        height: N,
-    };
-    put_samples_of::<T, N>(samples, stride, square, corner);
+    match block.area.width {
+        4 => copy_rows::<T, 4>(samples, stride, block),
+        8 => copy_rows::<T, 8>(samples, stride, block),
+        16 => copy_rows::<T, 16>(samples, stride, block),
+        32 => copy_rows::<T, 32>(samples, stride, block),
+        64 => copy_rows::<T, 64>(samples, stride, block),
+        128 => copy_rows::<T, 128>(samples, stride, block),
+        _ => copy_any_rows(samples, stride, block),
+    }
 }
 
-/// A rectangle that is not filtered, and is no square of 4 or 8 columns: these are copied without asking for their
-/// width.
+/// A sample in the intermediate bits, less the bias.
 #[inline(always)]
-pub(crate) fn put_copy<T: Pixel>(
-    samples: &mut [T],
-    stride: usize,
-    area: StoredArea,
-    corner: PlaneSlice<'_, T>,
-)
-    requires rows { AreRows stride area (length samples.old) }
-    requires stored { IsStoredFrom corner (area.width + 7) (area.height + 7) }
-    ensures { samples.new ≡ paint stride area (λ r c _. T.pixel (samples_from T.num corner.entry (c + 3) (r + 3))) samples.old }
+fn widen<T: Pixel>(sample: T, bit_depth: usize) -> i16
+    requires depths { IsDepth bit_depth }
+    requires within { T.num sample < 2 ^ bit_depth }
+    ensures { result ≡ pos (T.num sample * 2 ^ intermediate_bits bit_depth) -ℤ bias bit_depth }
 {
-    if area.width == 4 {
-        put_samples_of::<T, 4>(samples, stride, area, corner);
-    } else if area.width == 8 {
-        put_samples_of::<T, 8>(samples, stride, area, corner);
-    } else if area.width == 16 {
-        put_samples_of::<T, 16>(samples, stride, area, corner);
-    } else if area.width == 32 {
-        put_samples_of::<T, 32>(samples, stride, area, corner);
-    } else if area.width == 64 {
-        put_samples_of::<T, 64>(samples, stride, area, corner);
-    } else if area.width == 128 {
-        put_samples_of::<T, 128>(samples, stride, area, corner);
+    let bits = intermediate_bits(bit_depth);
+    let value = (sample.to_i32() << bits) - i32::from(prep_bias(bit_depth));
+    value as i16
+}
+
+/// The same of the first `N` samples of a row.
+#[inline(always)]
+fn widen_row<T: Pixel, const N: usize>(source: &[T], bit_depth: usize) -> [i16; N]
+    requires short { N ≤ 128 }
+    requires depths { IsDepth bit_depth }
+    requires source_long { N ≤ length source.now }
+    requires within { (c : ℕ) → c < N → slice_index (map T.num source.now) c < 2 ^ bit_depth }
+    ensures { (c : ℕ) → c < N → entry result c ≡ pos (slice_index (map T.num source.now) c * 2 ^ intermediate_bits bit_depth) -ℤ bias bit_depth }
+{
+    let mut values = [0; N];
+    for c in 0..N {
+        values[c] = widen(source[c], bit_depth);
+    }
+    values
+}
+
+/// The prepared values of a strip of `N` columns.
+#[tactic(auto, using(av1_frame::proofs::Paint::rectangle_painting))]
+fn widen_rows<T: Pixel, const N: usize>(tmp: &mut [i16], stride: usize, strip: &Strip<'_, T>)
+    requires rows { AreRows stride strip.now.area (length tmp.old) }
+    requires width { strip.now.area.width ≡ N }
+    requires strip { IsBlock T.num strip.now }
+    ensures { tmp.new ≡
+        paint stride strip.now.area
+        (λ r c _. pos (sample_of T.num strip.now (c + 3) (r + 3) * 2 ^ intermediate_bits strip.now.bit_depth) -ℤ bias strip.now.bit_depth) tmp.old }
+{
+    let strip = *strip;
+    for r in 0..strip.area.height {
+        let (_, from) = strip.source.split_at((r + 3) * strip.source_stride + 3);
+        let values = widen_row::<T, N>(from, strip.bit_depth);
+        let (_, row) = tmp.split_at_mut((strip.area.y + r) * stride + strip.area.x);
+        copy_each::<i16, N>(row, &values);
+    }
+}
+
+/// The same of a strip of 16, 8, 4 or 1 columns.
+fn widen_columns<T: Pixel>(tmp: &mut [i16], stride: usize, strip: &Strip<'_, T>)
+    requires rows { AreRows stride strip.now.area (length tmp.old) }
+    requires kind { IsStripWidth strip.now.area.width }
+    requires strip { IsBlock T.num strip.now }
+    ensures { tmp.new ≡
+        paint stride strip.now.area
+        (λ r c _. pos (sample_of T.num strip.now (c + 3) (r + 3) * 2 ^ intermediate_bits strip.now.bit_depth) -ℤ bias strip.now.bit_depth) tmp.old }
+{
+    if strip.area.width == 16 {
+        widen_rows::<T, 16>(tmp, stride, strip);
+    } else if strip.area.width == 8 {
+        widen_rows::<T, 8>(tmp, stride, strip);
+    } else if strip.area.width == 4 {
+        widen_rows::<T, 4>(tmp, stride, strip);
     } else {
-        put_samples(samples, stride, area, corner);
+        widen_rows::<T, 1>(tmp, stride, strip);
+    }
+}
+
+/// The prepared values of a block that is not moved by part of a sample.
+pub(crate) fn prepare_copy<T: Pixel>(tmp: &mut [i16], stride: usize, block: &Strip<'_, T>)
+    requires rows { AreRows stride block.now.area (length tmp.old) }
+    requires block { IsBlock T.num block.now }
+    ensures { tmp.new ≡
+        paint stride block.now.area
+        (λ r c _. pos (sample_of T.num block.now (c + 3) (r + 3) * 2 ^ intermediate_bits block.now.bit_depth) -ℤ bias block.now.bit_depth) tmp.old }
+{
+    let mut start = 0;
+    while start < block.area.width {
+        let columns = strip_width(block.area.width - start, true);
+        let strip = part_at(block, start, 0, columns, block.area.height);
+        widen_columns(tmp, stride, &strip);
+        start += columns;
     }
 }

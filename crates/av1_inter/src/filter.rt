@@ -2,19 +2,13 @@
 //!
 //! AV1 specification: block inter prediction process.
 
-ghost use Rattle.std.specs.Prelude.{◌≡◌, pos, ◌≤ℤ◌, ◌<ℤ◌, unsigned_abs};
+ghost use Rattle.std.specs.Prelude.{◌≡◌, ◌≤◌, ◌<◌, pos, ◌≤ℤ◌, ◌<ℤ◌, unsigned_abs};
+ghost use Rattle.std.specs.Int.{int_shr};
 ghost use Rattle.av1_inter.specs.Filters.{family, filter_of, short_family};
-ghost use Rattle.av1_inter.specs.Scaffolding.{IsFilter, IsShort};
+ghost use Rattle.av1_inter.specs.Motion.{entry};
+ghost use Rattle.av1_inter.specs.Scaffolding.{AreZero, doubled, halved, IsFilter};
 
 use av1_blocks::{FilterMode, SUBPEL_FILTER_SIZE, SUBPEL_FILTERS};
-
-/// A filter along one direction: how many sixteenths past a sample the place is, and the weights of the samples at the
-/// offsets -3 to 4 from it, in parts of 128.
-#[derive(Clone, Copy)]
-pub(crate) struct Filter {
-    pub(crate) fraction: usize,
-    pub(crate) taps: [i32; SUBPEL_FILTER_SIZE],
-}
 
 /// The family of a mode for sides up to 4.
 fn short_family(mode: FilterMode) -> usize
@@ -48,17 +42,54 @@ fn taps_at(mode: FilterMode, frac: i32, length: usize) -> [i32; SUBPEL_FILTER_SI
     filters[family(mode, length)][frac as usize]
 }
 
-/// The filter of a mode at `frac` sixteenths, along a side of `length` samples.
-pub(crate) fn get_filter(mode: FilterMode, frac: i32, length: usize) -> Filter
+/// Half of a weight.
+#[inline(always)]
+fn half_of(taps: &[i32; SUBPEL_FILTER_SIZE], t: usize) -> i16
+    requires filter { IsFilter taps.now }
+    requires weight { t < 8 }
+    ensures { result ≡ int_shr (entry taps.now t) 1 }
+{
+    (taps[t] >> 1) as i16
+}
+
+/// Half of each weight.
+#[inline(always)]
+fn halves_of(taps: &[i32; SUBPEL_FILTER_SIZE]) -> [i16; SUBPEL_FILTER_SIZE]
+    requires { IsFilter taps.now }
+    ensures value { result ≡ halved taps.now }
+    ensures twice { doubled result ≡ taps.now }
+{
+    let mut halves = [0; SUBPEL_FILTER_SIZE];
+    for t in 0..SUBPEL_FILTER_SIZE {
+        halves[t] = half_of(taps, t);
+    }
+    halves
+}
+
+/// Half of each weight of the filter of a mode at `frac` sixteenths, along a side of `length` samples: those of the
+/// samples at the offsets -3 to 4, in parts of 64.
+#[inline(always)]
+pub(crate) fn get_filter(mode: FilterMode, frac: i32, length: usize) -> [i16; SUBPEL_FILTER_SIZE]
     requires low { pos 0 ≤ℤ frac }
     requires high { frac <ℤ pos 16 }
-    ensures fraction { result.fraction ≡ unsigned_abs frac }
-    ensures taps { result.taps ≡ filter_of mode (unsigned_abs frac) length }
-    ensures filter { IsFilter result.taps }
-    ensures short { length ≡ 4 → IsShort result.taps }
+    ensures value { result ≡ halved (filter_of mode (unsigned_abs frac) length) }
+    ensures filter { IsFilter (doubled result) }
 {
-    Filter {
-        fraction: frac as usize,
-        taps: taps_at(mode, frac, length),
+    halves_of(&taps_at(mode, frac, length))
+}
+
+/// How many of the outer weights are 0 on either side, counted up to 2: these are two in the filters for sides up to 4,
+/// and at least one in all others but the sharp one.
+#[inline(always)]
+pub(crate) fn outer_zeros(halves: &[i16; SUBPEL_FILTER_SIZE]) -> usize
+    ensures few { result ≤ 2 }
+    ensures zeros { AreZero result halves.now }
+{
+    if halves[0] != 0 || halves[7] != 0 {
+        0
+    } else if halves[1] != 0 || halves[6] != 0 {
+        1
+    } else {
+        2
     }
 }

@@ -26,27 +26,41 @@
 //! allocates, and no other can fail. Sides and places are counted in samples, vectors in eighths of a luma sample,
 //! fractions in sixteenths of a sample. A filter has eight taps, so a block needs 3 stored columns and rows before it
 //! and 4 after it, at every fraction.
+//!
+//! Which way a block takes hangs on its fractions, its sides and the bytes of a sample. `put_8tap` and `prep_8tap`
+//! share the filters, and a `Writer` makes samples or prepared values of what they give:
+//!
+//! | fractions | sides | one byte a sample: 8 bits | two bytes: 8, 10 or 12 bits |
+//! |---|---|---|---|
+//! | none, put | a width of 4, 8, 16, 32, 64 or 128 | `put_copy`: `copy_rows` | the same |
+//! | none, put | any other width | `put_copy`: `copy_any_rows` | the same |
+//! | none, prepared | any: strips of 16, 8, 4 or 1 columns | `prepare_copy`: `widen_rows` | the same |
+//! | one alone | 4x4, by four weights | `filter_square`: `filter_bytes` | as other sides |
+//! | across alone | any other: strips of 16, 8, 4 or 1 columns | `filter_once`: `filter_bytes` | `filter_once`: `filter_words` |
+//! | down alone | the same strips | the same, in steps of a row | the same, in steps of a row |
+//! | both | any: parts of 8, 4 or 1 columns and up to 32 rows | `filter_twice`: `filter_bytes`, then `filter_words` | `filter_twice`: `filter_words`, twice |
+//!
+//! Within a sum the outer weights that are 0 are left out, up to two on either side: `outer_zeros` counts them.
 #![tactic(auto)]
 
-mod alone;
 mod average;
+mod block;
 mod buffers;
+mod bytes;
 mod copies;
 mod filter;
 mod laws;
-mod lines;
-mod mixed;
 mod moved;
-mod narrow;
-mod pairs;
+mod one_filter;
 mod predict;
 mod prepare;
 mod put;
 mod rounding;
-mod square;
 mod strip;
 mod taps;
-mod window;
+mod two_filters;
+mod words;
+mod writer;
 
 pub use average::{mc_avg, mc_avg_to};
 pub use buffers::InterCompoundBuffers;

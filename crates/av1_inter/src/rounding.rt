@@ -1,12 +1,30 @@
-//! How far sums are rounded.
+//! How sums are rounded.
+//!
+//! All weights are even, and sums are formed by half of each. So a sum that the specification shifts by 7 is shifted by
+//! 6 here, and where it rounds twice, along a row of one reference, both are one: `(s + 32 + h) >> 6`, where h is half
+//! of the first step.
+//!
+//! Between the two filters values are moved up by 8192, so that they have no sign, as samples have none. Halved weights
+//! sum to 64: so a sum of such values is 64 * 8192 too great, which is taken off behind it.
 //!
 //! AV1 specification: rounding variables derivation process.
 
 ghost use Rattle.std.specs.Prelude.{◌≡◌, ◌-◌, ◌^◌, ◌≤◌, pos};
 ghost use Rattle.av1_blocks.specs.Depths.{IsDepth};
 ghost use Rattle.av1_inter.specs.Motion.{bias, intermediate_bits};
+ghost use Rattle.av1_inter.specs.Scaffolding.{IsRounding, between_filters, both_prepared, both_put, column_put, one_prepared, row_put};
+
+/// What a sum by halved weights becomes: `add` is added, the sum is shifted down by `shift` bits, and `bias` is taken
+/// off.
+#[derive(Clone, Copy)]
+pub(crate) struct Rounding {
+    pub(crate) add: i16,
+    pub(crate) shift: usize,
+    pub(crate) bias: i16,
+}
 
 /// How many bits more than samples the values between the two filters have.
+#[inline(always)]
 pub(crate) fn intermediate_bits(bit_depth: usize) -> usize
     ensures value { result ≡ intermediate_bits bit_depth }
     ensures small { result ≤ 4 }
@@ -15,7 +33,8 @@ pub(crate) fn intermediate_bits(bit_depth: usize) -> usize
 }
 
 /// What is taken from a prepared value, so that it fits 16 bits.
-pub(crate) fn prep_bias(bit_depth: usize) -> i32
+#[inline(always)]
+pub(crate) fn prep_bias(bit_depth: usize) -> i16
     ensures { result ≡ bias bit_depth }
 {
     if bit_depth == 8 { 0 } else { 8192 }
@@ -33,5 +52,105 @@ pub(crate) fn greatest(bit_depth: usize) -> i16
         4095
     } else {
         1023
+    }
+}
+
+/// Of a row, on its way to the filter down the columns.
+#[inline(always)]
+pub(crate) fn between_filters(bit_depth: usize) -> Rounding
+    requires { IsDepth bit_depth }
+    ensures value { result ≡ between_filters bit_depth }
+    ensures small { IsRounding result }
+{
+    if bit_depth == 12 {
+        Rounding {
+            add: 8,
+            shift: 4,
+            bias: -8192,
+        }
+    } else {
+        Rounding {
+            add: 2,
+            shift: 2,
+            bias: -8192,
+        }
+    }
+}
+
+/// Of a row that gives samples.
+#[inline(always)]
+pub(crate) fn row_put(bit_depth: usize) -> Rounding
+    requires { IsDepth bit_depth }
+    ensures value { result ≡ row_put bit_depth }
+    ensures small { IsRounding result }
+{
+    Rounding {
+        add: if bit_depth == 12 { 40 } else { 34 },
+        shift: 6,
+        bias: 0,
+    }
+}
+
+/// Of a column that gives samples.
+#[inline(always)]
+pub(crate) fn column_put() -> Rounding
+    ensures value { result ≡ column_put }
+    ensures small { IsRounding result }
+{
+    Rounding {
+        add: 32,
+        shift: 6,
+        bias: 0,
+    }
+}
+
+/// Of a column of filtered rows that gives samples.
+#[inline(always)]
+pub(crate) fn both_put(bit_depth: usize) -> Rounding
+    requires { IsDepth bit_depth }
+    ensures value { result ≡ both_put bit_depth }
+    ensures small { IsRounding result }
+{
+    if bit_depth == 12 {
+        Rounding {
+            add: 128,
+            shift: 8,
+            bias: 2048,
+        }
+    } else {
+        Rounding {
+            add: 512,
+            shift: 10,
+            bias: 512,
+        }
+    }
+}
+
+/// Of a row or a column that is prepared.
+#[inline(always)]
+pub(crate) fn one_prepared(bit_depth: usize) -> Rounding
+    requires { IsDepth bit_depth }
+    ensures value { result ≡ one_prepared bit_depth }
+    ensures small { IsRounding result }
+{
+    let between = between_filters(bit_depth);
+    Rounding {
+        add: between.add,
+        shift: between.shift,
+        bias: prep_bias(bit_depth),
+    }
+}
+
+/// Of a column of filtered rows that is prepared.
+#[inline(always)]
+pub(crate) fn both_prepared(bit_depth: usize) -> Rounding
+    requires { IsDepth bit_depth }
+    ensures value { result ≡ both_prepared bit_depth }
+    ensures small { IsRounding result }
+{
+    Rounding {
+        add: 32,
+        shift: 6,
+        bias: prep_bias(bit_depth) + 8192,
     }
 }

@@ -1,20 +1,108 @@
-//! The strips of columns in which a block is interpolated.
+//! Rectangles that are filtered, and filters that are laid on them.
 
-ghost use Rattle.std.specs.Prelude.{◌≡◌, true, ◌≤◌, ◌<◌};
-ghost use Rattle.av1_inter.specs.Scaffolding.{IsStripWidth};
+ghost use Rattle.std.specs.Prelude.{◌≡◌, false, ℕ, ◌+◌, ◌*◌, ◌^◌, ◌≤◌, ◌<◌, drop, length, map, slice_index};
+ghost use Rattle.av1_inter.specs.Places.{AreWithinDepth, IsStoredFrom, samples_from};
+ghost use Rattle.av1_blocks.specs.Depths.{IsDepth};
+ghost use Rattle.av1_inter.specs.Scaffolding.{IsBlock, IsPartWidth, IsStripWidth, part_of, sample_of};
 
-use av1_frame::StoredArea;
+use crate::rounding::Rounding;
+use av1_blocks::SUBPEL_FILTER_SIZE;
+use av1_frame::{Pixel, PlaneSlice, StoredArea};
 
-/// How many columns the next strip has, where so many are left. A strip of 32 is one only where `wide` is true.
+/// A rectangle that is filtered, and what it is filtered from.
+#[derive(Clone, Copy)]
+pub(crate) struct Strip<'a, T> {
+    /// Where its values are written.
+    pub(crate) area: StoredArea,
+    /// All that is stored from 3 columns left of and 3 rows above its place in the reference on.
+    pub(crate) source: &'a [T],
+    /// How far apart the rows of `source` stand.
+    pub(crate) source_stride: usize,
+    /// How many bits a sample has.
+    pub(crate) bit_depth: usize,
+}
+
+/// A filter that is laid on a strip. The eight samples for row `r` and column `c` stand `step` apart, from `start` and
+/// r rows and c columns on; half of each weight is in `halves`.
+#[derive(Clone, Copy)]
+pub(crate) struct Taps {
+    pub(crate) start: usize,
+    pub(crate) step: usize,
+    pub(crate) halves: [i16; SUBPEL_FILTER_SIZE],
+    pub(crate) rounding: Rounding,
+}
+
+/// A block whose taps begin at `corner`.
+#[inline(always)]
+#[tactic(auto, using(crate::proofs::Sources::strip_sources))]
+pub(crate) fn block_at<'a, T: Pixel>(
+    corner: &'a PlaneSlice<'_, T>,
+    area: StoredArea,
+    bit_depth: usize,
+) -> Strip<'a, T>
+    requires wide { area.width ≤ 128 }
+    requires high { area.height ≤ 128 }
+    requires stored { IsStoredFrom corner.now (area.width + 7) (area.height + 7) }
+    requires depths { IsDepth bit_depth }
+    requires within { AreWithinDepth bit_depth (samples_from T.num corner.now) (area.width + 7) (area.height + 7) }
+    ensures block { IsBlock T.num result }
+    ensures area { result.area ≡ area }
+    ensures depth { result.bit_depth ≡ bit_depth }
+    ensures samples { (x y : ℕ) → x < area.width + 7 → y < area.height + 7 → sample_of T.num result x y ≡ samples_from T.num corner.now x y }
+{
+    Strip {
+        area,
+        source: corner.samples(),
+        source_stride: corner.stride(),
+        bit_depth,
+    }
+}
+
+/// The part of a block that begins at column `x` and row `y` of it.
+#[inline(always)]
+pub(crate) fn part_at<'a, T: Pixel>(
+    block: &Strip<'a, T>,
+    x: usize,
+    y: usize,
+    width: usize,
+    height: usize,
+) -> Strip<'a, T>
+    requires block { IsBlock T.num block.now }
+    requires fits { (block.now.area.x + block.now.area.width < 2 ^ 64) × (block.now.area.y + block.now.area.height < 2 ^ 64) }
+    requires columns { x + width ≤ block.now.area.width }
+    requires rows { y + height ≤ block.now.area.height }
+    ensures block { IsBlock T.num result }
+    ensures area { result.area ≡ part_of block.now.area x y width height }
+    ensures source { result.source.now ≡ drop (y * block.now.source_stride + x) block.now.source.now }
+    ensures stride { result.source_stride ≡ block.now.source_stride }
+    ensures depth { result.bit_depth ≡ block.now.bit_depth }
+    ensures samples { (c r : ℕ) → sample_of T.num result c r ≡ sample_of T.num block.now (x + c) (y + r) }
+{
+    let (_, source) = block.source.split_at(y * block.source_stride + x);
+    let area = StoredArea {
+        x: block.area.x + x,
+        y: block.area.y + y,
+        width,
+        height,
+    };
+    Strip {
+        area,
+        source,
+        source_stride: block.source_stride,
+        bit_depth: block.bit_depth,
+    }
+}
+
+/// How many columns the next strip has, where so many are left: 16 at most, and 8 where `wide` is false.
+#[inline(always)]
 pub(crate) fn strip_width(left: usize, wide: bool) -> usize
     requires { 0 < left }
     ensures some { 0 < result }
     ensures room { result ≤ left }
     ensures kind { IsStripWidth result }
+    ensures part { wide ≡ false → IsPartWidth result }
 {
-    if wide && left >= 32 {
-        32
-    } else if left >= 16 {
+    if wide && left >= 16 {
         16
     } else if left >= 8 {
         8
@@ -23,11 +111,4 @@ pub(crate) fn strip_width(left: usize, wide: bool) -> usize
     } else {
         1
     }
-}
-
-/// Whether a block of so many columns is one strip.
-pub(crate) fn is_one_strip(width: usize) -> bool
-    ensures { result ≡ true → IsStripWidth width }
-{
-    width == 4 || width == 8 || width == 16 || width == 32
 }

@@ -1,8 +1,8 @@
-//! Where the taps for a block and for its strips begin.
+//! Where the taps for a block begin.
 //!
 //! AV1 specification: block inter prediction process.
 
-ghost use Rattle.std.specs.Prelude.{◌≡◌, ℕ, ◌+◌, pos, ◌+ℤ◌};
+ghost use Rattle.std.specs.Prelude.{◌≡◌, ℕ};
 ghost use Rattle.av1_inter.specs.Places.{AreWithinDepth, corner_of, IsStoredFrom, samples_from};
 
 use av1_frame::{Pixel, PlaneSlice};
@@ -17,14 +17,4 @@ pub(crate) fn taps_of_block<T: Pixel>(src: PlaneSlice<'_, T>) -> PlaneSlice<'_, 
         AreWithinDepth depth (samples_from T.num result) columns rows }
 {
     src.go_left(3).go_up(3)
-}
-
-/// The place for the strip that begins at column `start` of a block whose taps begin at `corner`.
-#[inline(always)]
-pub(crate) fn taps_of_strip<T: Pixel>(corner: PlaneSlice<'_, T>, start: usize) -> PlaneSlice<'_, T>
-    requires { (columns : ℕ) × (rows : ℕ) × IsStoredFrom corner (start + columns + 7) rows }
-    ensures place { result ≡ record corner.entry { x = corner.entry.x +ℤ pos start; y = corner.entry.y +ℤ pos 0 } }
-    ensures samples { (x y : ℕ) → samples_from T.num result x y ≡ samples_from T.num corner.entry (start + x) y }
-{
-    corner.subslice(start, 0)
 }

@@ -9,4 +9,5 @@ pub mod EdgeFilter
 pub mod Upsampling
 pub mod Directional
 pub mod Predicted
+pub mod Blocks
 pub mod TileLuma

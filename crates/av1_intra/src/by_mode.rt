@@ -2,13 +2,14 @@
 //!
 //! AV1 specification: intra prediction process.
 
-ghost use Rattle.std.specs.Prelude.{◌≡◌, ◌≢◌, ◌+◌, ◌-◌, ◌*◌, ◌<◌, ◌≤◌, length, min, drop, IsTrue};
+ghost use Rattle.std.specs.Prelude.{◌≡◌, ◌≢◌, ◌-◌, ◌*◌, ◌<◌, ◌≤◌, length, min, drop, IsTrue};
 ghost use Rattle.av1_lists.specs.Sides.{IsTransformSide};
 ghost use Rattle.av1_blocks.specs.Modes.{is_intra, is_directional, is_cfl};
 ghost use Rattle.av1_frame.specs.Areas.{AreRows};
 ghost use Rattle.av1_frame.specs.Samples.{paint};
 ghost use Rattle.av1_intra.specs.Angles.{is_interpolated};
 ghost use Rattle.av1_intra.specs.ChromaFromLuma.{ac_at};
+ghost use Rattle.av1_intra.specs.Blocks.{IsRectangle};
 ghost use Rattle.av1_intra.specs.Predicted.{edge_round, dc, smoothly, along, predicted, dc_above, dc_left, along_above, along_left, places_above, places_left};
 
 use crate::chroma_from_luma::pred_cfl_to;
@@ -65,11 +66,7 @@ fn predict_along<T: Pixel>(
     corner: T,
     block: DirectionalBlock,
 )
-    requires rows { AreRows stride area (length samples.old) }
-    requires width { area.width ≡ block.width }
-    requires height { area.height ≡ block.height }
-    requires few_columns { block.width ≤ 64 }
-    requires few_rows { block.height ≤ 64 }
+    requires block { IsRectangle block stride area (length samples.old) }
     requires angle { block.p_angle ≢ 90 → block.p_angle ≢ 180 → IsTrue (is_interpolated block.p_angle) }
     requires above_long { along_above block.p_angle block.width block.height ≤ length above.now }
     requires left_long { along_left block.p_angle block.width block.height ≤ length left.now }

@@ -2,21 +2,15 @@
 //!
 //! AV1 specification: predict chroma from luma process.
 
-ghost use Rattle.std.specs.Prelude.{◌≡◌, ℕ, ◌+◌, ◌*◌, ◌^◌, ◌<◌, ◌≤◌, length, map, take, ◌++◌, pos, ℤ, slice_index_or, ◌≤ℤ◌, ◌<ℤ◌, ◌+ℤ◌, ◌*ℤ◌, if◌then◌else◌};
+ghost use Rattle.std.specs.Prelude.{◌≡◌, ◌+◌, ◌*◌, ◌≤◌, length, pos, ℤ, slice_index_or, ◌≤ℤ◌, ◌<ℤ◌, ◌+ℤ◌, ◌*ℤ◌};
 ghost use Rattle.std.specs.Prelude.{unsigned_abs};
-ghost use Rattle.std.specs.Ordering.{int_eq};
 ghost use Rattle.av1_frame.specs.Arithmetic.{clip};
 ghost use Rattle.av1_frame.specs.Areas.{AreRows};
-ghost use Rattle.av1_frame.specs.Samples.{paint, paint_row, row_of};
-ghost use Rattle.av1_frame.specs.Regions.{InStorage, painted, stored};
-ghost use Rattle.av1_edges.specs.Sides.{base};
-ghost use Rattle.av1_intra.specs.Sides.{numbers};
-ghost use Rattle.av1_intra.specs.Dc.{mean};
-ghost use Rattle.av1_intra.specs.ChromaFromLuma.{scaled_luma, from_luma, ac_at, first_sample};
+ghost use Rattle.av1_frame.specs.Samples.{paint, paint_row};
+ghost use Rattle.av1_intra.specs.ChromaFromLuma.{scaled_luma, from_luma, ac_at};
 
-use crate::dc::{half_sample, mean_of, side_mean};
 use crate::rows::fill_block;
-use av1_frame::{Pixel, PlaneRegionMut, StoredArea, clip};
+use av1_frame::{Pixel, StoredArea, clip};
 
 /// A difference of luma at its weight, in 64ths.
 fn weighted(alpha: i16, difference: i16) -> i32
@@ -121,181 +115,4 @@ pub fn pred_cfl_to<T: Pixel>(
     } else {
         block_from_luma(samples, stride, area, ac, alpha, dc, bit_depth);
     }
-}
-
-/// A block whose DC prediction is `dc` throughout, which it keeps without a weight.
-#[tactic(auto, using(av1_frame::proofs::Regions::region_lending))]
-fn flat_from_luma<T: Pixel>(
-    output: &mut PlaneRegionMut<'_, T>,
-    ac: &[i16],
-    alpha: i16,
-    dc: T,
-    width: usize,
-    height: usize,
-    bit_depth: usize,
-)
-    requires fits { InStorage output.old }
-    requires columns { width ≤ output.old.area.width }
-    requires rows { height ≤ output.old.area.height }
-    requires width { width ≤ 128 }
-    requires height { height ≤ 128 }
-    requires ac_long { width * height ≤ length ac.now }
-    requires depth { bit_depth ≤ T.BITS }
-    ensures painted { output.new ≡ painted output.old width height
-        (λ r c _. T.pixel (from_luma bit_depth alpha (T.num dc) (ac_at width ac.now r c))) }
-    ensures fits { InStorage output.new }
-{
-    let stride = output.plane_cfg.stride;
-    let area = output.corner(width, height);
-    pred_cfl_to(output.samples_mut(), stride, area, ac, alpha, dc, bit_depth);
-}
-
-/// Predicts the first `height` rows and `width` columns of `output` from luma: each sample becomes the first one of
-/// `output`, and what its difference in `ac` adds to it at the weight `alpha`, clipped to the depth. Without a weight
-/// nothing changes.
-///
-/// `ac` holds the differences of luma from its mean in eighths, row by row (see `pred_cfl_ac`), and `alpha` is in
-/// eighths, too.
-pub fn pred_cfl_inner<T: Pixel>(
-    output: &mut PlaneRegionMut<'_, T>,
-    ac: &[i16],
-    alpha: i16,
-    width: usize,
-    height: usize,
-    bit_depth: usize,
-)
-    requires fits { InStorage output.old }
-    requires columns { width ≤ output.old.area.width }
-    requires rows { height ≤ output.old.area.height }
-    requires some_columns { 0 < width }
-    requires some_rows { 0 < height }
-    requires width { width ≤ 128 }
-    requires height { height ≤ 128 }
-    requires ac_long { width * height ≤ length ac.now }
-    requires depth { bit_depth ≤ T.BITS }
-    ensures painted { output.new ≡ painted output.old width height
-        (λ r c v. T.pixel (if int_eq alpha (pos 0) then T.num v else from_luma bit_depth alpha (first_sample T.num output.old) (ac_at width ac.now r c))) }
-    ensures fits { InStorage output.new }
-{
-    if alpha == 0 {
-        return;
-    }
-    let dc = output.row(0)[0];
-    flat_from_luma(output, ac, alpha, dc, width, height, bit_depth);
-}
-
-/// Predicts the first `height` rows and `width` columns of `output` from luma: each sample becomes that of `pred_dc`,
-/// and what its difference in `ac` adds to it at the weight `alpha`, clipped to the depth.
-pub fn pred_cfl<T: Pixel>(
-    output: &mut PlaneRegionMut<'_, T>,
-    ac: &[i16],
-    alpha: i16,
-    above: &[T],
-    left: &[T],
-    width: usize,
-    height: usize,
-    bit_depth: usize,
-)
-    requires fits { InStorage output.old }
-    requires columns { width ≤ output.old.area.width }
-    requires rows { height ≤ output.old.area.height }
-    requires some { 0 < width + height }
-    requires width { width ≤ 64 }
-    requires height { height ≤ 64 }
-    requires above_long { width ≤ length above.now }
-    requires left_long { height ≤ length left.now }
-    requires ac_long { width * height ≤ length ac.now }
-    requires depth { bit_depth ≤ T.BITS }
-    ensures painted { output.new ≡ painted output.old width height
-        (λ r c _. T.pixel (from_luma bit_depth alpha (mean (map T.num (take height left.now) ++ map T.num (take width above.now))) (ac_at width ac.now r c))) }
-    ensures fits { InStorage output.new }
-{
-    let dc = mean_of(&left[..height], &above[..width]);
-    flat_from_luma(output, ac, alpha, dc, width, height, bit_depth);
-}
-
-/// Predicts the first `height` rows and `width` columns of `output` from luma: each sample becomes that of
-/// `pred_dc_128`, and what its difference in `ac` adds to it at the weight `alpha`, clipped to the depth.
-pub fn pred_cfl_128<T: Pixel>(
-    output: &mut PlaneRegionMut<'_, T>,
-    ac: &[i16],
-    alpha: i16,
-    _above: &[T],
-    _left: &[T],
-    width: usize,
-    height: usize,
-    bit_depth: usize,
-)
-    requires fits { InStorage output.old }
-    requires columns { width ≤ output.old.area.width }
-    requires rows { height ≤ output.old.area.height }
-    requires width { width ≤ 64 }
-    requires height { height ≤ 64 }
-    requires ac_long { width * height ≤ length ac.now }
-    requires low { 8 ≤ bit_depth }
-    requires high { bit_depth ≤ T.BITS }
-    ensures painted { output.new ≡ painted output.old width height
-        (λ r c _. T.pixel (from_luma bit_depth alpha (base bit_depth) (ac_at width ac.now r c))) }
-    ensures fits { InStorage output.new }
-{
-    let dc = half_sample(bit_depth);
-    flat_from_luma(output, ac, alpha, dc, width, height, bit_depth);
-}
-
-/// Predicts the first `height` rows and `width` columns of `output` from luma: each sample becomes that of
-/// `pred_dc_left`, and what its difference in `ac` adds to it at the weight `alpha`, clipped to the depth.
-pub fn pred_cfl_left<T: Pixel>(
-    output: &mut PlaneRegionMut<'_, T>,
-    ac: &[i16],
-    alpha: i16,
-    _above: &[T],
-    left: &[T],
-    width: usize,
-    height: usize,
-    bit_depth: usize,
-)
-    requires fits { InStorage output.old }
-    requires columns { width ≤ output.old.area.width }
-    requires rows { height ≤ output.old.area.height }
-    requires some { 0 < height }
-    requires width { width ≤ 64 }
-    requires height { height ≤ 64 }
-    requires left_whole { length left.now ≡ height }
-    requires ac_long { width * height ≤ length ac.now }
-    requires depth { bit_depth ≤ T.BITS }
-    ensures painted { output.new ≡ painted output.old width height
-        (λ r c _. T.pixel (from_luma bit_depth alpha (mean (map T.num left.now)) (ac_at width ac.now r c))) }
-    ensures fits { InStorage output.new }
-{
-    let dc = side_mean(left);
-    flat_from_luma(output, ac, alpha, dc, width, height, bit_depth);
-}
-
-/// Predicts the first `height` rows and `width` columns of `output` from luma: each sample becomes that of
-/// `pred_dc_top`, and what its difference in `ac` adds to it at the weight `alpha`, clipped to the depth.
-pub fn pred_cfl_top<T: Pixel>(
-    output: &mut PlaneRegionMut<'_, T>,
-    ac: &[i16],
-    alpha: i16,
-    above: &[T],
-    _left: &[T],
-    width: usize,
-    height: usize,
-    bit_depth: usize,
-)
-    requires fits { InStorage output.old }
-    requires columns { width ≤ output.old.area.width }
-    requires rows { height ≤ output.old.area.height }
-    requires some { 0 < width }
-    requires width { width ≤ 64 }
-    requires height { height ≤ 64 }
-    requires above_long { width ≤ length above.now }
-    requires ac_long { width * height ≤ length ac.now }
-    requires depth { bit_depth ≤ T.BITS }
-    ensures painted { output.new ≡ painted output.old width height
-        (λ r c _. T.pixel (from_luma bit_depth alpha (mean (map T.num (take width above.now))) (ac_at width ac.now r c))) }
-    ensures fits { InStorage output.new }
-{
-    let dc = side_mean(&above[..width]);
-    flat_from_luma(output, ac, alpha, dc, width, height, bit_depth);
 }

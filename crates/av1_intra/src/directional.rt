@@ -2,20 +2,19 @@
 //!
 //! AV1 specification: directional intra prediction process.
 
-ghost use Rattle.std.specs.Prelude.{◌≡◌, ℕ, ◌+◌, ◌-◌, ◌*◌, ◌^◌, ◌<◌, ◌≤◌, length, List, map, reverse, if◌then◌else◌, nat_lt, IsTrue, pos, ◌-ℤ◌, ◌<ℤ◌, ◌≤ℤ◌};
+ghost use Rattle.std.specs.Prelude.{◌≡◌, ℕ, ◌+◌, ◌-◌, ◌^◌, ◌<◌, ◌≤◌, length, List, map, reverse, if◌then◌else◌, nat_lt, IsTrue, pos, ◌-ℤ◌};
 ghost use Rattle.std.specs.Prelude.{FitsSigned};
 ghost use Rattle.std.specs.Int.{w64};
 ghost use Rattle.std.specs.Option.{option_map};
-ghost use Rattle.av1_frame.specs.Areas.{AreRows};
 ghost use Rattle.av1_frame.specs.Samples.{paint};
-ghost use Rattle.av1_frame.specs.Regions.{InStorage, painted};
-ghost use Rattle.av1_intra.specs.Sides.{numbers};
+ghost use Rattle.av1_frame.specs.Regions.{InStorage};
 ghost use Rattle.av1_intra.specs.Neighbours.{uses_smooth_filter};
-ghost use Rattle.av1_intra.specs.Angles.{derivative, is_interpolated};
+ghost use Rattle.av1_intra.specs.Angles.{ArePair, derivative, is_interpolated};
 ghost use Rattle.av1_intra.specs.Directional.{block_at, directional};
+ghost use Rattle.av1_intra.specs.Blocks.{IsRectangle};
 
 use crate::angle::dr_intra_derivative;
-use crate::interpolation::{rows_below_90, rows_between, rows_past_180};
+use crate::interpolation::{Slopes, rows_below_90, rows_between, rows_past_180};
 use crate::neighbours::IntraEdgeFilterParameters;
 use crate::prepared_side::{PreparedSide, prepare_above, prepare_left};
 use av1_frame::{Pixel, PlaneRegionMut, StoredArea};
@@ -48,11 +47,7 @@ fn directional_below_90<T: Pixel>(
     corner: T,
     block: DirectionalBlock,
 )
-    requires rows { AreRows stride area (length samples.old) }
-    requires width { area.width ≡ block.width }
-    requires height { area.height ≡ block.height }
-    requires few_columns { block.width ≤ 64 }
-    requires few_rows { block.height ≤ 64 }
+    requires block { IsRectangle block stride area (length samples.old) }
     requires angle { IsTrue (is_interpolated block.p_angle) }
     requires range { block.p_angle < 90 }
     requires long { block.width + block.height ≤ length above.now }
@@ -68,6 +63,21 @@ fn directional_below_90<T: Pixel>(
     rows_below_90(samples, stride, area, &side, places, dx, block.bit_depth);
 }
 
+/// How far lines of an angle between 90 and 180 lead along each side.
+fn slopes_of(p_angle: usize) -> Slopes
+    requires angle { IsTrue (is_interpolated p_angle) }
+    requires low { 90 < p_angle }
+    requires high { p_angle < 180 }
+    ensures dx { result.dx ≡ derivative (180 - p_angle) }
+    ensures dy { result.dy ≡ derivative (p_angle - 90) }
+    ensures pair { ArePair result.dx result.dy }
+{
+    Slopes {
+        dx: dr_intra_derivative(180 - p_angle),
+        dy: dr_intra_derivative(p_angle - 90),
+    }
+}
+
 /// The samples of an angle between 90 and 180.
 fn directional_between<T: Pixel>(
     samples: &mut [T],
@@ -78,11 +88,7 @@ fn directional_between<T: Pixel>(
     corner: T,
     block: DirectionalBlock,
 )
-    requires rows { AreRows stride area (length samples.old) }
-    requires width { area.width ≡ block.width }
-    requires height { area.height ≡ block.height }
-    requires few_columns { block.width ≤ 64 }
-    requires few_rows { block.height ≤ 64 }
+    requires block { IsRectangle block stride area (length samples.old) }
     requires angle { IsTrue (is_interpolated block.p_angle) }
     requires low { 90 < block.p_angle }
     requires high { block.p_angle < 180 }
@@ -92,11 +98,10 @@ fn directional_between<T: Pixel>(
     ensures { samples.new ≡ paint stride area (λ i j _. T.pixel (directional block (T.num corner) (map T.num above.now) (reverse (map T.num left.now)) i j))
         samples.old }
 {
-    let dx = dr_intra_derivative(180 - block.p_angle);
-    let dy = dr_intra_derivative(block.p_angle - 90);
+    let slopes = slopes_of(block.p_angle);
     let columns = block.width.min(block.visible_columns);
-    let mut side = PreparedSide::empty();
-    prepare_above(&mut side, above, corner, block, columns, block.width);
+    let mut above_side = PreparedSide::empty();
+    prepare_above(&mut above_side, above, corner, block, columns, block.width);
     let rows = block.height.min(block.visible_rows);
     let mut left_side = PreparedSide::empty();
     prepare_left(&mut left_side, left, corner, block, rows, block.height);
@@ -104,10 +109,9 @@ fn directional_between<T: Pixel>(
         samples,
         stride,
         area,
-        &side,
+        &above_side,
         &left_side,
-        dx,
-        dy,
+        slopes,
         block.bit_depth,
     );
 }
@@ -132,11 +136,7 @@ fn directional_past_180<T: Pixel>(
     corner: T,
     block: DirectionalBlock,
 )
-    requires rows { AreRows stride area (length samples.old) }
-    requires width { area.width ≡ block.width }
-    requires height { area.height ≡ block.height }
-    requires few_columns { block.width ≤ 64 }
-    requires few_rows { block.height ≤ 64 }
+    requires block { IsRectangle block stride area (length samples.old) }
     requires angle { IsTrue (is_interpolated block.p_angle) }
     requires range { 180 < block.p_angle }
     requires long { block.height + block.width ≤ length left.now }
@@ -164,11 +164,7 @@ pub fn pred_directional_to<T: Pixel>(
     corner: T,
     block: DirectionalBlock,
 )
-    requires rows { AreRows stride area (length samples.old) }
-    requires width { area.width ≡ block.width }
-    requires height { area.height ≡ block.height }
-    requires few_columns { block.width ≤ 64 }
-    requires few_rows { block.height ≤ 64 }
+    requires block { IsRectangle block stride area (length samples.old) }
     requires angle { IsTrue (is_interpolated block.p_angle) }
     requires above_long { block.p_angle < 180 → block.width + (if nat_lt block.p_angle 90 then block.height else 0) ≤ length above.now }
     requires left_long { 90 < block.p_angle → block.height + (if nat_lt 180 block.p_angle then block.width else 0) ≤ length left.now }
@@ -226,62 +222,4 @@ pub(crate) fn block_in<T: Pixel>(
         visible_columns: visible_from(region.plane_cfg.width, rect.x),
         visible_rows: visible_from(region.plane_cfg.height, rect.y),
     }
-}
-
-/// Predicts the first `height` rows and `width` columns of `output` along the angle `p_angle`, in degrees: one that a
-/// directional mode and an angle step from -3 to 3 give, but for 90 and 180, which copy a side, or another one that
-/// `dr_intra_derivative` knows.
-///
-/// Below 90 degrees a sample is what its line meets on the side `above`, past 180 on the side `left`, and between them
-/// on the one that it meets first. The line meets a side between two samples, and the prediction is between these two,
-/// in 32nds.
-///
-/// `above` runs from the left: `width` samples, and below 90 degrees `height` more. `left` runs from the bottom up, and
-/// its last sample is that of the first row: `height` samples, and past 180 degrees `width` more before them.
-/// `top_left` is the corner. A side that the angle doesn't meet is not read. What is predicted is clipped to the depth.
-///
-/// With `ief_params` the sides are first smoothed and upsampled, as the angle, the block's sides and the neighbours
-/// ask. Of the places beside the block only those are smoothed that lie in the plane's visible columns and rows.
-///
-/// AV1 specification: directional intra prediction process.
-#[tactic(auto, using(av1_frame::proofs::Regions::region_lending))]
-pub fn pred_directional<T: Pixel>(
-    output: &mut PlaneRegionMut<'_, T>,
-    above: &[T],
-    left: &[T],
-    top_left: &[T],
-    p_angle: usize,
-    width: usize,
-    height: usize,
-    bit_depth: usize,
-    ief_params: Option<IntraEdgeFilterParameters>,
-)
-    requires fits { InStorage output.old }
-    requires columns { width ≤ output.old.area.width }
-    requires rows { height ≤ output.old.area.height }
-    requires width { width ≤ 64 }
-    requires height { height ≤ 64 }
-    requires angle { IsTrue (is_interpolated p_angle) }
-    requires above_long { p_angle < 180 → width + (if nat_lt p_angle 90 then height else 0) ≤ length above.now }
-    requires left_long { 90 < p_angle → height + (if nat_lt 180 p_angle then width else 0) ≤ length left.now }
-    requires corner { 0 < length top_left.now }
-    requires depth { bit_depth ≤ T.BITS }
-    ensures painted { output.new ≡ painted output.old width height
-        (λ i j _.
-        T.pixel (directional (block_at output.old p_angle width height bit_depth ief_params) (numbers T.num top_left.now 0) (map T.num above.now)
-        (reverse (map T.num left.now)) i j)) }
-    ensures fits { InStorage output.new }
-{
-    let block = block_in(output, p_angle, width, height, bit_depth, ief_params);
-    let stride = output.plane_cfg.stride;
-    let area = output.corner(width, height);
-    pred_directional_to(
-        output.samples_mut(),
-        stride,
-        area,
-        above,
-        left,
-        top_left[0],
-        block,
-    );
 }

@@ -1,6 +1,6 @@
 //! Rows of a block along a direction.
 
-ghost use Rattle.std.specs.Prelude.{◌≡◌, ℕ, ◌+◌, ◌-◌, ◌*◌, ◌/◌, ◌^◌, ◌<◌, ◌≤◌, length};
+ghost use Rattle.std.specs.Prelude.{◌≡◌, ◌+◌, ◌-◌, ◌*◌, ◌/◌, ◌^◌, ◌<◌, ◌≤◌, length};
 ghost use Rattle.av1_frame.specs.Areas.{AreRows};
 ghost use Rattle.av1_frame.specs.Samples.{paint, paint_row};
 ghost use Rattle.av1_intra.specs.Sides.{entries};
@@ -9,6 +9,16 @@ ghost use Rattle.av1_intra.specs.Directional.{at, below_90, between};
 
 use crate::prepared_side::PreparedSide;
 use av1_frame::{Pixel, StoredArea, clip, fill_row};
+
+/// How far the lines of an angle between 90 and 180 move along each side for each sample away from it, in 64ths of a
+/// sample.
+#[derive(Clone, Copy)]
+pub(crate) struct Slopes {
+    /// Along the side above.
+    pub(crate) dx: usize,
+    /// Along the left side.
+    pub(crate) dy: usize,
+}
 
 /// The samples of a row from the place on that its line meets at `n / 64` past the corner. `UPSAMPLING` is that of the
 /// side, known to the compiler.
@@ -106,8 +116,7 @@ fn row_between<T: Pixel>(
     row: &mut [T],
     above: &PreparedSide,
     left: &PreparedSide,
-    dx: usize,
-    dy: usize,
+    slopes: Slopes,
     i: usize,
     width: usize,
     bit_depth: usize,
@@ -117,15 +126,17 @@ fn row_between<T: Pixel>(
     requires i { i < 64 }
     requires above_upsampling { above.now.upsampling ≤ 1 }
     requires left_upsampling { left.now.upsampling ≤ 1 }
-    requires pair { ArePair dx dy }
+    requires pair { ArePair slopes.dx slopes.dy }
     requires depth { bit_depth ≤ T.BITS }
     ensures { row.new ≡
         paint_row width
-        (λ j _. T.pixel (between bit_depth (entries above.now.numbers) above.now.upsampling (entries left.now.numbers) left.now.upsampling dx dy i j)) row.old }
+        (λ j _.
+        T.pixel (between bit_depth (entries above.now.numbers) above.now.upsampling (entries left.now.numbers) left.now.upsampling slopes.dx slopes.dy i j))
+        row.old }
 {
-    let line = (i + 1) * dx;
+    let line = (i + 1) * slopes.dx;
     let split = width.min((line - 1) / 64);
-    row_from_left(&mut row[..split], left, dy, i, bit_depth);
+    row_from_left(&mut row[..split], left, slopes.dy, i, bit_depth);
     if split < width {
         let n = 64 * (split + 1) - line;
         interpolate_row(&mut row[split..width], above, n, bit_depth);
@@ -185,7 +196,7 @@ pub(crate) fn rows_below_90<T: Pixel>(
     }
 }
 
-/// The samples of a rectangle, by an angle between 90 and 180 of derivatives `dx` and `dy`.
+/// The samples of a rectangle, by an angle between 90 and 180 of these slopes.
 #[tactic(auto, using(av1_frame::proofs::Paint::rectangle_painting))]
 pub(crate) fn rows_between<T: Pixel>(
     samples: &mut [T],
@@ -193,8 +204,7 @@ pub(crate) fn rows_between<T: Pixel>(
     area: StoredArea,
     above: &PreparedSide,
     left: &PreparedSide,
-    dx: usize,
-    dy: usize,
+    slopes: Slopes,
     bit_depth: usize,
 )
     requires rows { AreRows stride area (length samples.old) }
@@ -202,16 +212,17 @@ pub(crate) fn rows_between<T: Pixel>(
     requires height { area.height ≤ 64 }
     requires above_upsampling { above.now.upsampling ≤ 1 }
     requires left_upsampling { left.now.upsampling ≤ 1 }
-    requires pair { ArePair dx dy }
+    requires pair { ArePair slopes.dx slopes.dy }
     requires depth { bit_depth ≤ T.BITS }
     ensures { samples.new ≡
         paint stride area
-        (λ i j _. T.pixel (between bit_depth (entries above.now.numbers) above.now.upsampling (entries left.now.numbers) left.now.upsampling dx dy i j))
+        (λ i j _.
+        T.pixel (between bit_depth (entries above.now.numbers) above.now.upsampling (entries left.now.numbers) left.now.upsampling slopes.dx slopes.dy i j))
         samples.old }
 {
     for i in 0..area.height {
         let (_, row) = samples.split_at_mut((area.y + i) * stride + area.x);
-        row_between(row, above, left, dx, dy, i, area.width, bit_depth);
+        row_between(row, above, left, slopes, i, area.width, bit_depth);
     }
 }
 

@@ -2,16 +2,16 @@
 //!
 //! AV1 specification: predict chroma from luma process.
 
-ghost use Rattle.std.specs.Prelude.{◌≡◌, ℕ, ◌+◌, ◌-◌, ◌*◌, ◌/◌, ◌%◌, ◌^◌, ◌<◌, ◌≤◌, ◌==◌, ◌&&◌, not, if◌then◌else◌, min, length, map, sum, pos, ℤ, ◌-ℤ◌, ◌≤ℤ◌};
+ghost use Rattle.std.specs.Prelude.{◌≡◌, ℕ, ◌+◌, ◌-◌, ◌*◌, ◌^◌, ◌<◌, ◌≤◌, ◌==◌, ◌&&◌, not, min, length, map, sum, pos, ℤ, ◌-ℤ◌, ◌≤ℤ◌};
 ghost use Rattle.std.specs.Prelude.{unsigned_abs, slice_index_or, IsTrue};
 ghost use Rattle.av1_blocks.specs.Blocks.{block_width, block_height};
-ghost use Rattle.av1_blocks.specs.Transforms.{tx_width, tx_height};
 ghost use Rattle.av1_blocks.specs.Chroma.{plane_side, is_narrow, is_low};
 ghost use Rattle.av1_frame.specs.Samples.{paint_row};
 ghost use Rattle.av1_frame.specs.Regions.{IsReadable};
 ghost use Rattle.av1_edges.specs.Edges.{region_sample};
 ghost use Rattle.av1_intra.specs.Dc.{mean};
 ghost use Rattle.av1_intra.specs.Sides.{numbers};
+ghost use Rattle.av1_intra.specs.Blocks.{HasLuma, IsChroma};
 ghost use Rattle.av1_intra.specs.ChromaFromLuma.{covered, two_rows, luma_at, luma_difference, leaf_difference, with_rows, columns_read, rows_read, last_begun};
 ghost use Rattle.av1_intra.specs.ChromaFromLuma.{padded_block, chroma_block, first_column, first_row, luma_start, coded_side, averaged_side};
 
@@ -20,7 +20,7 @@ use av1_blocks::{BlockSize, TxSize};
 use av1_frame::{Area, Pixel, PlaneRegion, fill_row};
 
 /// A leaf whose chroma is predicted from its luma.
-#[derive(Clone, Copy, Debug)]
+#[derive(Clone, Copy)]
 pub struct LumaLeaf {
     /// The first column of its luma.
     pub x: usize,
@@ -120,20 +120,13 @@ fn luma_rows<T: Pixel, const XDEC: usize, const YDEC: usize>(
     luma: &PlaneRegion<'_, T>,
     block: ChromaBlock,
 )
-    requires readable { IsReadable luma.now }
     requires xdec { XDEC ≤ 1 }
     requires ydec { YDEC ≤ XDEC }
     requires is_xdec { block.xdec ≡ XDEC }
     requires is_ydec { block.ydec ≡ YDEC }
-    requires some { 0 < block.width }
-    requires width { block.width ≤ 128 }
-    requires height { block.height ≤ 128 }
-    requires last_column { block.last_column < 2 ^ 16 }
-    requires last_row { block.last_row < 2 ^ 16 }
+    requires chroma { IsChroma block }
+    requires luma { HasLuma T.num luma.now block }
     requires ac_long { block.width * block.height ≤ length ac.old }
-    requires columns { columns_read block ≤ luma.now.area.width }
-    requires rows { rows_read block ≤ luma.now.area.height }
-    requires low { (x y : ℕ) → x < columns_read block → y < rows_read block → region_sample T.num luma.now x y < 4096 }
     ensures { ac.new ≡ with_rows block.width block.height (λ r c. pos (luma_at (region_sample T.num luma.now) block r c)) ac.old }
 {
     for r in 0..block.height {
@@ -199,12 +192,7 @@ fn padded_block<const XDEC: usize, const YDEC: usize>(
     requires w_pad { 4 * w_pad < block_width plane_bsize }
     requires h_pad { 4 * h_pad < block_height plane_bsize }
     ensures value { result ≡ padded_block plane_bsize w_pad h_pad XDEC YDEC }
-    ensures some_columns { 0 < result.width }
-    ensures some_rows { 0 < result.height }
-    ensures few_columns { result.width ≤ 128 }
-    ensures few_rows { result.height ≤ 128 }
-    ensures last_column { result.last_column < 2 ^ 16 }
-    ensures last_row { result.last_row < 2 ^ 16 }
+    ensures chroma { IsChroma result }
 {
     let width = plane_bsize.width();
     let height = plane_bsize.height();
@@ -224,21 +212,13 @@ fn block_differences<T: Pixel, const XDEC: usize, const YDEC: usize>(
     luma: &PlaneRegion<'_, T>,
     block: ChromaBlock,
 )
-    requires readable { IsReadable luma.now }
     requires xdec { XDEC ≤ 1 }
     requires ydec { YDEC ≤ XDEC }
     requires is_xdec { block.xdec ≡ XDEC }
     requires is_ydec { block.ydec ≡ YDEC }
-    requires some_columns { 0 < block.width }
-    requires some_rows { 0 < block.height }
-    requires width { block.width ≤ 128 }
-    requires height { block.height ≤ 128 }
-    requires last_column { block.last_column < 2 ^ 16 }
-    requires last_row { block.last_row < 2 ^ 16 }
+    requires chroma { IsChroma block }
+    requires luma { HasLuma T.num luma.now block }
     requires ac_long { block.width * block.height ≤ length ac.old }
-    requires columns { columns_read block ≤ luma.now.area.width }
-    requires rows { rows_read block ≤ luma.now.area.height }
-    requires low { (x y : ℕ) → x < columns_read block → y < rows_read block → region_sample T.num luma.now x y < 4096 }
     ensures { ac.new ≡ with_rows block.width block.height (luma_difference (region_sample T.num luma.now) block) ac.old }
 {
     luma_rows::<T, XDEC, YDEC>(ac, luma, block);
@@ -356,12 +336,7 @@ impl LumaLeaf {
         requires column { x ≡ first_column self }
         requires row { y ≡ first_row self }
         ensures value { result ≡ chroma_block self }
-        ensures some_columns { 0 < result.width }
-        ensures some_rows { 0 < result.height }
-        ensures few_columns { result.width ≤ 128 }
-        ensures few_rows { result.height ≤ 128 }
-        ensures last_column { result.last_column < 2 ^ 16 }
-        ensures last_row { result.last_row < 2 ^ 16 }
+        ensures chroma { IsChroma result }
     {
         let (width, height) = (self.bsize.width(), self.bsize.height());
         let (tx_width, tx_height) = (self.tx_size.width(), self.tx_size.height());
@@ -378,19 +353,10 @@ impl LumaLeaf {
 
 /// The differences of a block of chroma by its decimations.
 fn differences<T: Pixel>(ac: &mut [i16], luma: &PlaneRegion<'_, T>, block: ChromaBlock)
-    requires readable { IsReadable luma.now }
-    requires xdec { block.xdec ≤ 1 }
     requires ydec { block.ydec ≤ block.xdec }
-    requires some_columns { 0 < block.width }
-    requires some_rows { 0 < block.height }
-    requires width { block.width ≤ 128 }
-    requires height { block.height ≤ 128 }
-    requires last_column { block.last_column < 2 ^ 16 }
-    requires last_row { block.last_row < 2 ^ 16 }
+    requires chroma { IsChroma block }
+    requires luma { HasLuma T.num luma.now block }
     requires ac_long { block.width * block.height ≤ length ac.old }
-    requires columns { columns_read block ≤ luma.now.area.width }
-    requires rows { rows_read block ≤ luma.now.area.height }
-    requires low { (x y : ℕ) → x < columns_read block → y < rows_read block → region_sample T.num luma.now x y < 4096 }
     ensures { ac.new ≡ with_rows block.width block.height (luma_difference (region_sample T.num luma.now) block) ac.old }
 {
     if block.xdec == 0 {

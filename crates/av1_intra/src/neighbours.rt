@@ -2,7 +2,7 @@
 //!
 //! AV1 specification: intra filter type process.
 
-ghost use Rattle.std.specs.Prelude.{◌≡◌, ◌==◌, ◌||◌};
+ghost use Rattle.std.specs.Prelude.{◌≡◌};
 ghost use Rattle.std.specs.Option.{option_map};
 ghost use Rattle.av1_intra.specs.Neighbours.{mode_in, parameters_of, is_smooth, is_intra, is_smooth_in, uses_smooth_filter};
 
@@ -11,7 +11,7 @@ use av1_frame::CodedBlockInfo;
 
 /// The neighbours above and to the left of a block, in a plane counted 0 for luma. A neighbour outside the tile is
 /// `None`.
-#[derive(Clone, Copy, Debug, Default, PartialEq, Eq)]
+#[derive(Clone, Copy, Debug, PartialEq, Eq)]
 pub struct IntraEdgeFilterParameters {
     /// The plane: 0 is luma.
     pub plane: usize,

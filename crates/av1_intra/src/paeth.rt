@@ -2,15 +2,14 @@
 //!
 //! AV1 specification: basic intra prediction process.
 
-ghost use Rattle.std.specs.Prelude.{◌≡◌, ℕ, ◌+◌, ◌-◌, ◌*◌, ◌^◌, ◌<◌, ◌≤◌, length, ◌⊎◌};
+ghost use Rattle.std.specs.Prelude.{◌≡◌, ◌^◌, ◌<◌, ◌≤◌, length, ◌⊎◌};
 ghost use Rattle.av1_frame.specs.Areas.{AreRows};
 ghost use Rattle.av1_frame.specs.Samples.{paint, paint_row};
-ghost use Rattle.av1_frame.specs.Regions.{InStorage, painted};
 ghost use Rattle.av1_intra.specs.Sides.{numbers, from_top};
 ghost use Rattle.av1_intra.specs.Paeth.{paeth};
 
 use crate::samples::number_at;
-use av1_frame::{Pixel, PlaneRegionMut, StoredArea};
+use av1_frame::{Pixel, StoredArea};
 
 /// The one of `left`, `above` and `corner` that is nearest to `above + left - corner`.
 #[tactic(auto, using(std::proofs::lemmas::Bool::Decides::nat_tests), unfolding(crate::specs::Paeth::paeth))]
@@ -81,32 +80,4 @@ pub fn pred_paeth_to<T: Pixel>(
         let (_, row) = samples.split_at_mut((area.y + r) * stride + area.x);
         paeth_row(row, above, left, k, above_left, area.width);
     }
-}
-
-/// Predicts the first `height` rows and `width` columns of `output`: each sample becomes the one of the sample `above`
-/// its column, the `left` one of its row and the corner `above_left` that is nearest to the first two less the third.
-///
-/// `above` runs from the left, and `left` from the bottom up: its sample at `height - 1` is that of the first row.
-/// Samples past the first `width` and `height` are not read.
-#[tactic(auto, using(av1_frame::proofs::Regions::region_lending))]
-pub fn pred_paeth<T: Pixel>(
-    output: &mut PlaneRegionMut<'_, T>,
-    above: &[T],
-    left: &[T],
-    above_left: T,
-    width: usize,
-    height: usize,
-)
-    requires fits { InStorage output.old }
-    requires columns { width ≤ output.old.area.width }
-    requires rows { height ≤ output.old.area.height }
-    requires above_long { width ≤ length above.now }
-    requires left_long { height ≤ length left.now }
-    ensures painted { output.new ≡ painted output.old width height
-        (λ r c _. T.pixel (paeth (numbers T.num above.now c) (from_top T.num height left.now r) (T.num above_left))) }
-    ensures fits { InStorage output.new }
-{
-    let stride = output.plane_cfg.stride;
-    let area = output.corner(width, height);
-    pred_paeth_to(output.samples_mut(), stride, area, above, left, above_left);
 }

@@ -2,20 +2,19 @@
 //!
 //! AV1 specification: intra prediction process.
 
-ghost use Rattle.std.specs.Prelude.{◌≡◌, ℕ, ◌+◌, ◌-◌, ◌*◌, ◌<◌, ◌≤◌, length, IsTrue, ℤ, pos, ◌-ℤ◌, ◌≤ℤ◌, unsigned_abs};
+ghost use Rattle.std.specs.Prelude.{◌≡◌, ◌+◌, ◌*◌, ◌<◌, ◌≤◌, length, IsTrue, unsigned_abs};
 ghost use Rattle.av1_blocks.specs.Transforms.{tx_width, tx_height};
-ghost use Rattle.av1_lists.specs.Sides.{IsTransformSide};
 ghost use Rattle.av1_blocks.specs.Modes.{is_intra, is_cfl};
 ghost use Rattle.av1_frame.specs.Regions.{InStorage, painted};
-ghost use Rattle.av1_edges.specs.Parts.{effective, step_of};
-ghost use Rattle.av1_intra.specs.Sides.{numbers};
+ghost use Rattle.av1_edges.specs.Parts.{step_of};
+ghost use Rattle.av1_intra.specs.Blocks.{HoldsBlock};
 ghost use Rattle.av1_intra.specs.Directional.{block_at};
 ghost use Rattle.av1_intra.specs.ChromaFromLuma.{ac_at};
-ghost use Rattle.av1_intra.specs.Predicted.{edge_round, edge_of, predicted, alpha_of, angle_or_alpha, is_angle_of, places_above, places_left, mode_of_block};
-ghost use Rattle.av1_intra.specs.Predicted.{variant_of_block};
+ghost use Rattle.av1_intra.specs.Predicted.{edge_of, predicted, alpha_of, angle_or_alpha, is_angle_of, places_above, places_left, mode_of_block};
+ghost use Rattle.av1_intra.specs.Predicted.{variant_of_block, column_in, row_in};
 
 use crate::by_mode::dispatch_predict_intra_to;
-use crate::directional::block_in;
+use crate::directional::{DirectionalBlock, block_in};
 use crate::neighbours::IntraEdgeFilterParameters;
 use crate::variant::PredictionVariant;
 use av1_blocks::{ANGLE_STEP, IntraParam, PredictionMode, TxSize, intra_mode_to_angle};
@@ -33,59 +32,26 @@ fn weight_of(mode: PredictionMode, angle: isize) -> i16
     }
 }
 
-/// Prediction by a mode from the sides of an edge.
-#[tactic(auto, using(av1_frame::proofs::Regions::region_lending))]
-fn predict_from_sides<T: Pixel>(
-    mode: PredictionMode,
-    variant: PredictionVariant,
-    dst: &mut PlaneRegionMut<'_, T>,
-    left: &[T],
-    top_left: &[T],
-    above: &[T],
-    width: usize,
-    height: usize,
-    bit_depth: usize,
-    ac: &[i16],
+/// The block of a transform at the first sample of a region, along an angle.
+fn transform_in<T: Pixel>(
+    region: &PlaneRegionMut<'_, T>,
+    tx_size: TxSize,
     angle: isize,
+    bit_depth: usize,
     ief_params: Option<IntraEdgeFilterParameters>,
-)
-    requires intra { IsTrue (is_intra mode) }
-    requires fits { InStorage dst.old }
-    requires columns { width ≤ dst.old.area.width }
-    requires rows { height ≤ dst.old.area.height }
-    requires width { IsTransformSide width }
-    requires height { IsTransformSide height }
-    requires angle { IsTrue (is_angle_of mode angle) }
-    requires above_long { places_above mode variant (unsigned_abs angle) width height ≤ length above.now }
-    requires left_long { places_left mode variant (unsigned_abs angle) width height ≤ length left.now }
-    requires corner { 0 < length top_left.now }
-    requires ac_long { IsTrue (is_cfl mode) → width * height ≤ length ac.now }
-    requires low { 8 ≤ bit_depth }
-    requires high { bit_depth ≤ T.BITS }
-    ensures painted { dst.new ≡ painted dst.old width height
-        (λ r c _.
-        T.pixel (predicted (block_at dst.old (unsigned_abs angle) width height bit_depth ief_params) variant mode angle (ac_at width ac.now)
-        (edge_round T.num left.now (numbers T.num top_left.now 0) above.now) r c)) }
-    ensures fits { InStorage dst.new }
+) -> DirectionalBlock
+    requires fits { InStorage region.now }
+    ensures { result ≡ block_at region.now (unsigned_abs angle) (tx_width tx_size) (tx_height tx_size) bit_depth ief_params }
 {
-    let p_angle = angle.unsigned_abs();
-    let block = block_in(dst, p_angle, width, height, bit_depth, ief_params);
-    let alpha = weight_of(mode, angle);
-    let stride = dst.plane_cfg.stride;
-    let area = dst.corner(width, height);
-    dispatch_predict_intra_to(
-        mode,
-        variant,
-        dst.samples_mut(),
-        stride,
-        area,
-        block,
-        left,
-        top_left[0],
-        above,
-        ac,
-        alpha,
-    );
+    let (width, height) = (tx_size.width(), tx_size.height());
+    block_in(
+        region,
+        angle.unsigned_abs(),
+        width,
+        height,
+        bit_depth,
+        ief_params,
+    )
 }
 
 /// Predicts the samples of a transform of `tx_size`, in the first rows and columns of `dst`, by an intra mode and the
@@ -94,6 +60,7 @@ fn predict_from_sides<T: Pixel>(
 /// by row. All other samples stay.
 ///
 /// `PAETH_PRED` takes the nearest neighbour whatever the variant is: see `predict_intra`.
+#[tactic(auto, using(av1_frame::proofs::Regions::region_lending))]
 pub fn dispatch_predict_intra<T: Pixel>(
     mode: PredictionMode,
     variant: PredictionVariant,
@@ -106,9 +73,7 @@ pub fn dispatch_predict_intra<T: Pixel>(
     edge_buf: &IntraEdge<T>,
 )
     requires intra { IsTrue (is_intra mode) }
-    requires fits { InStorage dst.old }
-    requires columns { tx_width tx_size ≤ dst.old.area.width }
-    requires rows { tx_height tx_size ≤ dst.old.area.height }
+    requires block { HoldsBlock dst.old (tx_width tx_size) (tx_height tx_size) }
     requires angle { IsTrue (is_angle_of mode angle) }
     requires above_long { places_above mode variant (unsigned_abs angle) (tx_width tx_size) (tx_height tx_size) ≤ length edge_buf.now.above.now }
     requires left_long { places_left mode variant (unsigned_abs angle) (tx_width tx_size) (tx_height tx_size) ≤ length edge_buf.now.left.now }
@@ -123,19 +88,22 @@ pub fn dispatch_predict_intra<T: Pixel>(
     ensures fits { InStorage dst.new }
 {
     let (left, top_left, above) = edge_buf.as_slices();
-    predict_from_sides(
+    let block = transform_in(dst, tx_size, angle, bit_depth, ief_params);
+    let alpha = weight_of(mode, angle);
+    let stride = dst.plane_cfg.stride;
+    let area = dst.corner(block.width, block.height);
+    dispatch_predict_intra_to(
         mode,
         variant,
-        dst,
+        dst.samples_mut(),
+        stride,
+        area,
+        block,
         left,
-        top_left,
+        top_left[0],
         above,
-        tx_size.width(),
-        tx_size.height(),
-        bit_depth,
         ac,
-        angle,
-        ief_params,
+        alpha,
     );
 }
 
@@ -154,12 +122,16 @@ pub fn angle_or_alpha(mode: PredictionMode, intra_param: IntraParam) -> isize
     }
 }
 
-/// How far the column (or row) `first` of the plane is from the first one of the tile.
-fn place_in_tile(first: isize, tile_first: usize) -> usize
-    requires { pos tile_first ≤ℤ first }
-    ensures { (place origin : ℕ) → first ≡ pos place -ℤ pos origin → result ≡ place - origin - tile_first }
+/// The column and the row of the tile at which a region begins.
+fn place_in_tile<T: Pixel>(region: &PlaneRegionMut<'_, T>, tile_rect: TileRect) -> (usize, usize)
+    requires fits { InStorage region.now }
+    requires left { region.now.plane_cfg.xorigin + tile_rect.x ≤ region.now.area.x }
+    requires top { region.now.plane_cfg.yorigin + tile_rect.y ≤ region.now.area.y }
+    ensures column { result.0 ≡ column_in region.now tile_rect }
+    ensures row { result.1 ≡ row_in region.now tile_rect }
 {
-    first as usize - tile_first
+    let rect = *region.rect();
+    (rect.x as usize - tile_rect.x, rect.y as usize - tile_rect.y)
 }
 
 /// Predicts the samples of a transform of `tx_size`, in the first rows and columns of `dst`, by an intra mode and the
@@ -205,9 +177,7 @@ pub fn predict_intra<T: Pixel>(
         (edge_of T.num edge_buf.now) r c)) }
     ensures fits { InStorage dst.new }
 {
-    let rect = *dst.rect();
-    let x = place_in_tile(rect.x, tile_rect.x);
-    let y = place_in_tile(rect.y, tile_rect.y);
+    let (x, y) = place_in_tile(dst, tile_rect);
     let mode = effective(mode, x, y);
     dispatch_predict_intra(
         mode,

@@ -1,6 +1,6 @@
 //! A side of a block as directional prediction reads it: filtered and upsampled as the angle asks.
 
-ghost use Rattle.std.specs.Prelude.{◌≡◌, ℕ, ◌+◌, ◌-◌, ◌*◌, ◌/◌, ◌%◌, ◌^◌, ◌<◌, ◌≤◌, length, map, take, reverse, replicate, if◌then◌else◌, min, Bool, IsTrue};
+ghost use Rattle.std.specs.Prelude.{◌≡◌, ◌+◌, ◌-◌, ◌*◌, ◌/◌, ◌^◌, ◌<◌, ◌≤◌, length, map, take, reverse, replicate, if◌then◌else◌, IsTrue};
 ghost use Rattle.av1_intra.specs.Sides.{entries, distance};
 ghost use Rattle.av1_intra.specs.EdgeFilter.{filtered};
 ghost use Rattle.av1_intra.specs.Upsampling.{upsampled};

@@ -1,11 +1,10 @@
 //! Rectangles that take one sample.
 
-ghost use Rattle.std.specs.Prelude.{◌≡◌, ◌≤◌, length};
+ghost use Rattle.std.specs.Prelude.{◌≡◌, length};
 ghost use Rattle.av1_frame.specs.Areas.{AreRows};
 ghost use Rattle.av1_frame.specs.Samples.{paint};
-ghost use Rattle.av1_frame.specs.Regions.{InStorage, painted};
 
-use av1_frame::{Pixel, PlaneRegionMut, StoredArea, fill_area};
+use av1_frame::{Pixel, StoredArea, fill_area};
 
 /// Each sample of the rectangle becomes `value`, as by `fill_area`; the widths of transforms are known to the compiler.
 /// The rows of `samples` stand `stride` apart.
@@ -43,23 +42,4 @@ fn fill_columns<T: Pixel>(
         height: area.height,
     };
     fill_area(samples, stride, columns, value);
-}
-
-/// Each sample of the first `height` rows and `width` columns becomes `value`.
-#[tactic(auto, using(av1_frame::proofs::Regions::region_lending))]
-pub(crate) fn fill_rows<T: Pixel>(
-    output: &mut PlaneRegionMut<'_, T>,
-    value: T,
-    width: usize,
-    height: usize,
-)
-    requires fits { InStorage output.old }
-    requires columns { width ≤ output.old.area.width }
-    requires rows { height ≤ output.old.area.height }
-    ensures painted { output.new ≡ painted output.old width height (λ _ _ _. value) }
-    ensures fits { InStorage output.new }
-{
-    let stride = output.plane_cfg.stride;
-    let area = output.corner(width, height);
-    fill_block(output.samples_mut(), stride, area, value);
 }

@@ -6,12 +6,11 @@ ghost use Rattle.std.specs.Prelude.{◌≡◌, ℕ, ◌+◌, ◌-◌, ◌*◌, �
 ghost use Rattle.av1_lists.specs.Sides.{IsTransformSide};
 ghost use Rattle.av1_frame.specs.Areas.{AreRows};
 ghost use Rattle.av1_frame.specs.Samples.{paint, paint_row};
-ghost use Rattle.av1_frame.specs.Regions.{InStorage, painted};
 ghost use Rattle.av1_intra.specs.Sides.{numbers, from_top};
 ghost use Rattle.av1_intra.specs.Smooth.{weights, mix, smooth, smooth_v, smooth_h};
 
 use crate::samples::number_at;
-use av1_frame::{Pixel, PlaneRegionMut, StoredArea};
+use av1_frame::{Pixel, StoredArea};
 
 const WEIGHTS_4: [u8; 4] = [255, 149, 85, 64];
 
@@ -61,35 +60,32 @@ fn mixed(weight: u8, a: u32, b: u32) -> u32
     weight * a + (256 - weight) * b
 }
 
-/// The first `width` samples of row `r` of a block.
+/// The first `width` samples of a row, from the samples above it, the one at place `k` of `left`, the lowest one on the
+/// left and the last one above.
 #[tactic(auto, using(av1_frame::proofs::Paint::row_painting))]
 fn smooth_row<T: Pixel>(
     row: &mut [T],
     above: &[T],
     left: &[T],
-    row_weights: &[u8],
+    row_weight: u8,
     column_weights: &[u8],
-    r: usize,
+    k: usize,
     width: usize,
-    height: usize,
 )
     requires row_long { width ≤ length row.old }
     requires some_columns { 0 < width }
     requires above_long { width ≤ length above.now }
-    requires left_long { height ≤ length left.now }
-    requires r { r < height }
-    requires row_weights { height ≤ length row_weights.now }
-    requires column_weights { width ≤ length column_weights.now }
+    requires left_long { k < length left.now }
+    requires weights { width ≤ length column_weights.now }
     ensures { row.new ≡
         paint_row width
         (λ c _. T.pixel
-        ((mix (slice_index row_weights.now r) (numbers T.num above.now c) (numbers T.num left.now 0) + mix (slice_index column_weights.now c)
-        (numbers T.num left.now (height - 1 - r)) (numbers T.num above.now (width - 1)) + 256) / 512)) row.old }
+        ((mix row_weight (numbers T.num above.now c) (numbers T.num left.now 0) + mix (slice_index column_weights.now c)
+        (numbers T.num left.now k) (numbers T.num above.now (width - 1)) + 256) / 512)) row.old }
 {
     let bottom = number_at(left, 0);
-    let side = number_at(left, height - 1 - r);
+    let side = number_at(left, k);
     let right = number_at(above, width - 1);
-    let row_weight = row_weights[r];
     for c in 0..width {
         let down = mixed(row_weight, number_at(above, c), bottom);
         let across = mixed(column_weights[c], side, right);
@@ -163,47 +159,18 @@ pub fn pred_smooth_to<T: Pixel>(
     let row_weights = smooth_weights(area.height);
     let column_weights = smooth_weights(area.width);
     for r in 0..area.height {
+        let k = area.height - 1 - r;
         let (_, row) = samples.split_at_mut((area.y + r) * stride + area.x);
         smooth_row(
             row,
             above,
             left,
-            row_weights,
+            row_weights[r],
             column_weights,
-            r,
+            k,
             area.width,
-            area.height,
         );
     }
-}
-
-/// Predicts the first `height` rows and `width` columns of `output`: each sample becomes the mean of that of
-/// `pred_smooth_v` and that of `pred_smooth_h`, rounded once.
-///
-/// `above` runs from the left, and `left` from the bottom up: its first sample is that of the lowest row. Samples past
-/// the first `width` and `height` are not read.
-#[tactic(auto, using(av1_frame::proofs::Regions::region_lending))]
-pub fn pred_smooth<T: Pixel>(
-    output: &mut PlaneRegionMut<'_, T>,
-    above: &[T],
-    left: &[T],
-    width: usize,
-    height: usize,
-)
-    requires fits { InStorage output.old }
-    requires columns { width ≤ output.old.area.width }
-    requires rows { height ≤ output.old.area.height }
-    requires width { IsTransformSide width }
-    requires height { IsTransformSide height }
-    requires above_long { width ≤ length above.now }
-    requires left_long { height ≤ length left.now }
-    ensures painted { output.new ≡ painted output.old width height
-        (λ r c _. T.pixel (smooth width height (numbers T.num above.now) (from_top T.num height left.now) r c)) }
-    ensures fits { InStorage output.new }
-{
-    let stride = output.plane_cfg.stride;
-    let area = output.corner(width, height);
-    pred_smooth_to(output.samples_mut(), stride, area, above, left);
 }
 
 /// Predicts the samples of a rectangle: each becomes a mean of the sample in its row of `left` and the last one
@@ -234,33 +201,6 @@ pub fn pred_smooth_h_to<T: Pixel>(
     }
 }
 
-/// Predicts the first `height` rows and `width` columns of `output`: each sample becomes a mean of the sample in its
-/// row of `left` and the last one `above`, which weighs the more the further to the right the column is.
-///
-/// `above` runs from the left, and `left` from the bottom up. Samples past the first `width` and `height` are not read.
-#[tactic(auto, using(av1_frame::proofs::Regions::region_lending))]
-pub fn pred_smooth_h<T: Pixel>(
-    output: &mut PlaneRegionMut<'_, T>,
-    above: &[T],
-    left: &[T],
-    width: usize,
-    height: usize,
-)
-    requires fits { InStorage output.old }
-    requires columns { width ≤ output.old.area.width }
-    requires rows { height ≤ output.old.area.height }
-    requires width { IsTransformSide width }
-    requires above_long { width ≤ length above.now }
-    requires left_long { height ≤ length left.now }
-    ensures painted { output.new ≡ painted output.old width height
-        (λ r c _. T.pixel (smooth_h width (numbers T.num above.now) (from_top T.num height left.now) r c)) }
-    ensures fits { InStorage output.new }
-{
-    let stride = output.plane_cfg.stride;
-    let area = output.corner(width, height);
-    pred_smooth_h_to(output.samples_mut(), stride, area, above, left);
-}
-
 /// Predicts the samples of a rectangle: each becomes a mean of the sample in its column of `above` and the lowest one
 /// on the left, which weighs the more the further down the row is. The rows of `samples` stand `stride` apart.
 ///
@@ -286,32 +226,4 @@ pub fn pred_smooth_v_to<T: Pixel>(
         let (_, row) = samples.split_at_mut((area.y + r) * stride + area.x);
         smooth_v_row(row, above, left, weights[r], area.width);
     }
-}
-
-/// Predicts the first `height` rows and `width` columns of `output`: each sample becomes a mean of the sample in its
-/// column of `above` and the lowest one on the left, which weighs the more the further down the row is.
-///
-/// `above` runs from the left, and `left` from the bottom up: its first sample is the lowest. Samples past the first
-/// `width` and `height` are not read.
-#[tactic(auto, using(av1_frame::proofs::Regions::region_lending))]
-pub fn pred_smooth_v<T: Pixel>(
-    output: &mut PlaneRegionMut<'_, T>,
-    above: &[T],
-    left: &[T],
-    width: usize,
-    height: usize,
-)
-    requires fits { InStorage output.old }
-    requires columns { width ≤ output.old.area.width }
-    requires rows { height ≤ output.old.area.height }
-    requires height { IsTransformSide height }
-    requires above_long { width ≤ length above.now }
-    requires left_long { height ≤ length left.now }
-    ensures painted { output.new ≡ painted output.old width height
-        (λ r c _. T.pixel (smooth_v height (numbers T.num above.now) (from_top T.num height left.now) r c)) }
-    ensures fits { InStorage output.new }
-{
-    let stride = output.plane_cfg.stride;
-    let area = output.corner(width, height);
-    pred_smooth_v_to(output.samples_mut(), stride, area, above, left);
 }

@@ -2,14 +2,13 @@
 //!
 //! AV1 specification: directional intra prediction process, for the angles 90 and 180.
 
-ghost use Rattle.std.specs.Prelude.{◌≡◌, ℕ, ◌+◌, ◌-◌, ◌*◌, ◌^◌, ◌<◌, ◌≤◌, length};
+ghost use Rattle.std.specs.Prelude.{◌≡◌, ◌<◌, ◌≤◌, length};
 ghost use Rattle.av1_frame.specs.Areas.{AreRows};
 ghost use Rattle.av1_frame.specs.Samples.{paint, paint_row};
-ghost use Rattle.av1_frame.specs.Regions.{InStorage, painted};
 ghost use Rattle.av1_intra.specs.Sides.{numbers, from_top};
 
 use crate::samples::number_at;
-use av1_frame::{Pixel, PlaneRegionMut, StoredArea, copy_row, fill_row};
+use av1_frame::{Pixel, StoredArea, copy_row, fill_row};
 
 /// Predicts the samples of a rectangle: each row becomes the samples of `above`, which runs from the left. The rows of
 /// `samples` stand `stride` apart. Samples of `above` past the rectangle's width are not read.
@@ -47,27 +46,6 @@ fn copy_down<T: Pixel>(
         let (_, row) = samples.split_at_mut((area.y + r) * stride + area.x);
         copy_row(row, above, width);
     }
-}
-
-/// Predicts the first `height` rows and `width` columns of `output`: each row becomes the samples of `above`, which
-/// runs from the left. Samples past the first `width` are not read.
-#[tactic(auto, using(av1_frame::proofs::Regions::region_lending))]
-pub fn pred_v<T: Pixel>(
-    output: &mut PlaneRegionMut<'_, T>,
-    above: &[T],
-    width: usize,
-    height: usize,
-)
-    requires fits { InStorage output.old }
-    requires columns { width ≤ output.old.area.width }
-    requires rows { height ≤ output.old.area.height }
-    requires above_long { width ≤ length above.now }
-    ensures painted { output.new ≡ painted output.old width height (λ _ c _. T.pixel (numbers T.num above.now c)) }
-    ensures fits { InStorage output.new }
-{
-    let stride = output.plane_cfg.stride;
-    let area = output.corner(width, height);
-    pred_v_to(output.samples_mut(), stride, area, above);
 }
 
 /// Predicts the samples of a rectangle: each row becomes its sample of `left`, again and again. The rows of `samples`
@@ -120,23 +98,4 @@ fn copy_across<T: Pixel>(
         let (_, row) = samples.split_at_mut((area.y + r) * stride + area.x);
         copy_along(row, left, area.height - 1 - r, width);
     }
-}
-
-/// Predicts the first `height` rows and `width` columns of `output`: each row becomes its sample of `left`, again and
-/// again.
-///
-/// `left` runs from the bottom up: its sample at `height - 1` is that of the first row. Samples past the first `height`
-/// are not read.
-#[tactic(auto, using(av1_frame::proofs::Regions::region_lending))]
-pub fn pred_h<T: Pixel>(output: &mut PlaneRegionMut<'_, T>, left: &[T], width: usize, height: usize)
-    requires fits { InStorage output.old }
-    requires columns { width ≤ output.old.area.width }
-    requires rows { height ≤ output.old.area.height }
-    requires left_long { height ≤ length left.now }
-    ensures painted { output.new ≡ painted output.old width height (λ r _ _. T.pixel (from_top T.num height left.now r)) }
-    ensures fits { InStorage output.new }
-{
-    let stride = output.plane_cfg.stride;
-    let area = output.corner(width, height);
-    pred_h_to(output.samples_mut(), stride, area, left);
 }

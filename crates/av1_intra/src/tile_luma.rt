@@ -1,6 +1,6 @@
 //! The luma that chroma of a leaf takes in a tile.
 
-ghost use Rattle.std.specs.Prelude.{◌≡◌, ℕ, ◌+◌, ◌-◌, ◌*◌, ◌^◌, ◌<◌, ◌≤◌, length, take, IsTrue};
+ghost use Rattle.std.specs.Prelude.{◌≡◌, ℕ, ◌+◌, ◌*◌, ◌^◌, ◌<◌, ◌≤◌, length, take, IsTrue};
 ghost use Rattle.av1_blocks.specs.Chroma.{is_narrow, is_low};
 ghost use Rattle.av1_frame.specs.Regions.{InStorage};
 ghost use Rattle.av1_intra.specs.ChromaFromLuma.{chroma_block, first_column, first_row, columns_read, rows_read, with_rows, leaf_difference};

@@ -1,6 +1,6 @@
 //! Upsampling: twice the places of a side, before it is interpolated.
 
-ghost use Rattle.std.specs.Prelude.{◌≡◌, ℕ, ◌+◌, ◌-◌, ◌*◌, ◌/◌, ◌^◌, ◌<◌, ◌≤◌, length, unsigned_abs, pos};
+ghost use Rattle.std.specs.Prelude.{◌≡◌, ◌+◌, ◌-◌, ◌*◌, ◌/◌, ◌^◌, ◌<◌, ◌≤◌, length, unsigned_abs, pos};
 ghost use Rattle.av1_frame.specs.Arithmetic.{clip};
 ghost use Rattle.av1_frame.specs.Samples.{paint_row};
 ghost use Rattle.av1_intra.specs.Sides.{numbers};

@@ -45,8 +45,8 @@ pub use error::{Invalid, InvalidKind, PlanError};
 pub use geometry::{PlaneArea, TransformBlock, carries_chroma, plane_tx_size};
 pub use header::Header;
 pub use laws::{
-    fronts_have_these_lengths, pieces_are_a_plan, texts_are_of_one_plan, the_first_version_has_the_rest,
-    the_second_version_keeps_the_first,
+    fronts_have_these_lengths, pieces_are_a_plan, texts_are_of_one_plan,
+    the_first_version_has_the_rest, the_second_version_keeps_the_first,
 };
 pub use leaf::{ChromaMode, Leaf, LeafKind, Triple};
 pub use leaves::Leaves;

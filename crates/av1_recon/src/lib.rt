@@ -13,8 +13,8 @@
 //! Promised: these calls return, over every source and sink. The outcome of bytes is one definition, `HasOutcome`
 //! (`specs/Outcomes.antt`), and each answer is read off it: Ok only where the bytes are a valid plan, and then exactly
 //! the planes of the slow definition were appended; a refusal exactly where it is the outcome of the bytes; a fault
-//! only where the count of faults rose, or stands at the last value of a `u64`. Running out of memory is the one free
-//! answer, and comes before the first written byte. All calls that read a plan and write of it promise the same,
+//! exactly where the source or the sink counted one, up to the last value of a `u64`. Running out of memory is the one
+//! free answer, and comes before the first written byte. All calls that read a plan and write of it promise the same,
 //! `Converts`, whatever they write.
 #![tactic(auto)]
 

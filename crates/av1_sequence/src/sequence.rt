@@ -174,12 +174,7 @@ impl Sequence {
     }
 
     // Reconstructs the leaves of a frame, and keeps it.
-    fn show(
-        &mut self,
-        header: &Header,
-        head: &FrameHead,
-        leaves: &Leaves,
-    ) -> Result<(), FrameError>
+    fn show(&mut self, header: &Header, head: &FrameHead, leaves: &Leaves) -> Result<(), FrameError>
         requires head { IsHead head.now }
         requires header { header.now ≡ frame_header self.old.frames self.old.slots head.now }
         requires spelled { ∥ IsSpelled grammar (plan_over self.old head.now (leaves_value leaves.now)) ∥₁ }

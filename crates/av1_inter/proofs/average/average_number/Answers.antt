@@ -12,7 +12,7 @@ returns c =
     let t : FitsSigned w16 c.greatest.result = search rules in
     let r : FitsSigned w16 c.min.result = search rules in
     to_z-of_z w16 _ r
-    ∙ average_is c.args.bit_depth c.intermediate_bits.result c.args.first c.args.second c.rise.result c.greatest.result c.held_sum.result c.held_sum-sum.result
-    c.max.result c.min.result _ _ _ _ _ _ c.requires c.intermediate_bits.ensures.value c.rise.ensures
+    ∙ average_is c.args.bit_depth c.intermediate_bits.result c.args.first c.args.second c.rise.result c.greatest.result c.held_sum.result
+    c.held_sum-sum.result c.max.result c.min.result _ _ _ _ _ _ c.requires c.intermediate_bits.ensures.value c.rise.ensures
     c.greatest.ensures c.held_sum.ensures c.held_sum-sum.ensures c.max.ensures.value c.min.ensures.value (to_z-of_z w16 _ c.ranges.first)
     (to_z-of_z w16 _ c.ranges.second) (to_z-of_z w16 _ s) (to_z-of_z w16 _ k) (to_z-of_z w16 _ x) (to_z-of_z w16 _ t) v

@@ -4,5 +4,5 @@ use Rattle.av1_inter.proofs.average.average_rows.Goals as goal
 pub loop-r-preserved : goal.loop-r-preserved
 loop-r-preserved g c =
     let rows = c.split_at_mut-row.ensures in
-    row_painted_rest c.args.stride c.args.area c.loop-r.r _ _ c.loop-r.samples _ _ _ c.requires.rows c.loop-r-test.true c.loop-r.invariant rows.front rows.back
-    c.average_row_of.ensures
+    row_painted_rest c.args.stride c.args.area c.loop-r.r _ _ c.loop-r.samples _ _ _ c.requires.rows c.loop-r-test.true c.loop-r.invariant rows.front
+    rows.back c.average_row_of.ensures

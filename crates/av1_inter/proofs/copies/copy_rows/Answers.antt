@@ -1,15 +1,23 @@
-use Rattle.std.proofs.Common.{◌∙◌, ◌+◌, ◌*◌, sym, ap, get_or}
-use Rattle.std.proofs.lemmas.List.{get_or-drop}
+use Rattle.std.proofs.Common.{ℕ, arith, ap, sym, ◌+◌, ◌*◌, ◌∙◌}
 use Rattle.av1_frame.specs.Samples.{paint_row}
 use Rattle.av1_frame.proofs.Paint.{row_painted_rest}
+use Rattle.av1_inter.specs.Scaffolding.{sample_of}
 use Rattle.av1_inter.proofs.Rows.{paint_row_same}
+use Rattle.av1_inter.proofs.Strips.{copied_there}
 use Rattle.av1_inter.proofs.copies.copy_rows.Goals as goal
 
 pub loop-r-preserved : goal.loop-r-preserved
 loop-r-preserved g c =
+    let block = c.args.block.now in
     let rows = c.split_at_mut-row.ensures in
     let from = c.split_at.ensures in
-    let start = (c.loop-r.r + 3) * c.args.source_stride in
-    row_painted_rest c.args.stride c.args.area c.loop-r.r _ _ c.loop-r.samples _ _ _ c.requires.rows c.loop-r-test.true c.loop-r.invariant rows.front rows.back
-    (c.copy_by_array.ensures ∙ paint_row_same g.row.N _ _ _ (λ q v h. ap (λ s. get_or s (q + 3) v) from.back ∙ get_or-drop start c.args.source.now (q + 3) v)
-    ∙ ap (λ n. paint_row n (λ q v. get_or c.args.source.now (start + (q + 3)) v) c.split_at_mut-row.result.1.now) (sym c.requires.width))
+    let r = c.loop-r.r in
+    let reach = c.requires.block.reach (r + 3) (omega (arith, c.loop-r-test.true)) in
+    let f = λ (q : ℕ). g.T.Pixel.pixel (sample_of g.T.Pixel.num block (q + 3) (r + 3)) in
+    row_painted_rest c.args.stride block.area r _ _ c.loop-r.samples _ _ _ c.requires.rows c.loop-r-test.true c.loop-r.invariant rows.front rows.back
+    (c.copy_by_array.ensures
+    ∙ paint_row_same g.row.N _ (λ q _. f q) _
+    (λ q v l. copied_there g.T.Pixel.num g.T.Pixel.pixel g.met.T.Pixel.pixel_of_num block.source.now c.split_at.result.1.now
+    ((r + 3) * block.source_stride + 3) q _ v from.back (omega arith)
+    (omega (arith, from.back_len, reach, l, c.requires.width)))
+    ∙ ap (λ n. paint_row n (λ q _. f q) c.split_at_mut-row.result.1.now) (sym c.requires.width))

@@ -1,8 +1,15 @@
-use Rattle.av1_inter.proofs.Table.{read_is_filter, read_is_short}
+use Rattle.std.proofs.Common.{ap, subst, sym, ◌∙◌}
+use Rattle.av1_inter.specs.Scaffolding.{halved, IsFilter}
+use Rattle.av1_inter.proofs.Table.{read_is_filter, taps_made}
 use Rattle.av1_inter.proofs.filter.get_filter.Goals as goal
 
-pub returns-clause-filter : goal.returns-clause-filter
-returns-clause-filter c = read_is_filter c.args.mode c.args.frac c.args.length _ c.ranges.frac c.requires.low c.requires.high c.taps_at.ensures
+pub halves_of-requires : goal.halves_of-requires
+halves_of-requires c = read_is_filter c.args.mode c.args.frac c.args.length _ c.ranges.frac c.requires.low c.requires.high c.taps_at.ensures
 
-pub returns-clause-short : goal.returns-clause-short
-returns-clause-short c = read_is_short c.args.mode c.args.frac c.args.length _ c.ranges.frac c.requires.low c.requires.high c.taps_at.ensures
+pub returns-clause-value : goal.returns-clause-value
+returns-clause-value c = c.halves_of.ensures.value ∙ ap halved (taps_made c.args.mode c.args.frac c.args.length _ c.ranges.frac c.taps_at.ensures)
+
+pub returns-clause-filter : goal.returns-clause-filter
+returns-clause-filter c =
+    subst IsFilter (sym c.halves_of.ensures.twice)
+    (read_is_filter c.args.mode c.args.frac c.args.length _ c.ranges.frac c.requires.low c.requires.high c.taps_at.ensures)

@@ -21,7 +21,8 @@ returns-clause-painted g c =
     g.T.Pixel.pixel (moved_single num c.args.bit_depth c.args.mode c.args.plane.now c.args.at.x c.args.at.y c.args.mv c.args.width c.args.height r q))
     c.put_8tap.ensures.painted
     (λ r q v l h.
-    ap g.T.Pixel.pixel (single_is c.args.bit_depth c.args.mode c.args.width c.args.height _ _ _ _ (samples_from num (corner_of c.moved_slice-src.result))
+    ap g.T.Pixel.pixel
+    (single_is c.args.bit_depth c.args.mode c.args.width c.args.height _ _ _ _ (samples_from num (corner_of c.moved_slice-src.result))
     (moved num c.args.plane.now c.args.at.x c.args.at.y c.args.mv)
     (fraction_is _ c.args.mv.col _ cfg.xdec rx fc ex c.sixteenths-col_frac.ensures.value)
     (fraction_is _ c.args.mv.row _ cfg.ydec ry fr ey c.sixteenths-row_frac.ensures.value)

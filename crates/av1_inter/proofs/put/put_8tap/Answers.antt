@@ -18,8 +18,8 @@ put_8tap_to-requires-clause-within g c =
     (sym c.corner-area.ensures) c.requires.within
 
 -- a sample of a block whose fractions and sides were passed on
-passed : {X : Type 0} (pixel : ℕ → X) (depth : ℕ) (mode_x mode_y : FilterMode) (samples : ℕ → ℕ → ℕ) (r c fx fx' fy fy' w w' h h' : ℕ) → fx ≡ fx' → fy ≡ fy' →
-    w ≡ w' → h ≡ h'
+passed : {X : Type 0} (pixel : ℕ → X) (depth : ℕ) (mode_x mode_y : FilterMode) (samples : ℕ → ℕ → ℕ) (r c fx fx' fy fy' w w' h h' : ℕ) → fx ≡ fx' →
+    fy ≡ fy' → w ≡ w' → h ≡ h'
     → pixel (single depth fx fy (filter_of mode_x fx w) (filter_of mode_y fy h) samples r c) ≡
     pixel (single depth fx' fy' (filter_of mode_x fx' w') (filter_of mode_y fy' h') samples r c)
 passed pixel depth mode_x mode_y samples r c fx fx' fy fy' w w' h h' ex ey ew eh =

@@ -1,7 +1,7 @@
 use Rattle.std.proofs.Common.{subst, sym}
 use Rattle.av1_frame.specs.declared.plane_slice.PlaneSlice.{PlaneSlice}
 use Rattle.av1_inter.specs.Places.{IsStoredFrom}
-use Rattle.av1_inter.proofs.Cases.{corner_column_fits, corner_fits, corner_is, corner_within}
+use Rattle.av1_inter.proofs.Corners.{corner_column_fits, corner_fits, corner_is, corner_within}
 use Rattle.av1_inter.proofs.taps.taps_of_block.Goals as goal
 
 pub go_left-requires : goal.go_left-requires

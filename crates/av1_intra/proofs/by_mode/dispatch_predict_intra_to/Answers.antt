@@ -53,11 +53,13 @@ predict_along-requires g c =
     let m = rest_directional a.mode c.requires.intra n.not-DC_PRED n.not-UV_CFL_PRED n.not-SMOOTH_PRED n.not-SMOOTH_V_PRED n.not-SMOOTH_H_PRED n.not-PAETH_PRED
     in
     record {
-      rows = c.requires.rows;
-      width = c.requires.columns;
-      height = c.requires.lines;
-      few_columns = side_small b.width c.requires.width;
-      few_rows = side_small b.height c.requires.height;
+      block = record {
+        rows = c.requires.rows;
+        width = c.requires.columns;
+        height = c.requires.lines;
+        few_columns = side_small b.width c.requires.width;
+        few_rows = side_small b.height c.requires.height;
+      };
       angle = c.requires.angle m;
       above_long = subst (λ n. n ≤ length a.above.now) (sym (above_along a.mode m a.variant b.p_angle b.width b.height)) c.requires.above_long;
       left_long = subst (λ n. n ≤ length a.left.now) (sym (left_along a.mode m a.variant b.p_angle b.width b.height)) c.requires.left_long;

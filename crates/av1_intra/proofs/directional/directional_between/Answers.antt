@@ -1,19 +1,11 @@
-use Rattle.std.proofs.Common.{◌≡◌, ℕ, ◌+◌, ◌-◌, min, map, take, reverse, ap, ◌∙◌, subst, sym}
+use Rattle.std.proofs.Common.{◌≡◌, ℕ, ◌+◌, ◌-◌, min, map, take, reverse, ap, ◌∙◌}
 use mathlib.Core.Path.{fun_ext}
 use Rattle.av1_frame.specs.Samples.{paint}
 use Rattle.av1_intra.specs.Sides.{Side, entries, distance}
-use Rattle.av1_intra.specs.Angles.{derivative, ArePair}
+use Rattle.av1_intra.specs.Angles.{derivative}
 use Rattle.av1_intra.specs.Directional.{side, between, prepared, upsampling}
-use Rattle.av1_intra.proofs.Derivatives.{between_pair}
 use Rattle.av1_intra.proofs.Ranges.{is_between}
 use Rattle.av1_intra.proofs.directional.directional_between.Goals as goal
-
-pub rows_between-requires-clause-pair : goal.rows_between-requires-clause-pair
-rows_between-requires-clause-pair g c =
-    let p = c.args.block.p_angle in
-    let h = between_pair p c.requires.angle c.requires.low c.requires.high in
-    subst (ArePair c.dr_intra_derivative-dx.result) (sym c.dr_intra_derivative-dy.ensures)
-    (subst (λ n. ArePair n (derivative (p - 90))) (sym c.dr_intra_derivative-dx.ensures) h)
 
 pub returns : goal.returns
 returns g c =
@@ -36,13 +28,12 @@ returns g c =
     let D : entries y.new.ready.numbers ≡ Q n = y.ensures.numbers ∙ ap Q c.min-rows.ensures in
     let F = λ (B : Side) (u : ℕ) (C : Side) (v dx dy i j : ℕ). between b.bit_depth B u C v dx dy i j in
     let G = λ (f : ℕ → ℕ → ℕ). paint c.args.stride c.args.area (λ i j _. g.T.Pixel.pixel (f i j)) c.args.samples.now in
-    let dx = c.dr_intra_derivative-dx in
-    let dy = c.dr_intra_derivative-dy in
+    let k = c.slopes_of-slopes in
     c.rows_between.ensures
-    ∙ ap (λ (B : Side). G (F B x.new.ready.upsampling (entries y.new.ready.numbers) y.new.ready.upsampling dx.result dy.result)) E
-    ∙ ap (λ (u : ℕ). G (F (P m) u (entries y.new.ready.numbers) y.new.ready.upsampling dx.result dy.result)) x.ensures.upsampling
-    ∙ ap (λ (B : Side). G (F (P m) U B y.new.ready.upsampling dx.result dy.result)) D
-    ∙ ap (λ (u : ℕ). G (F (P m) U (Q n) u dx.result dy.result)) y.ensures.upsampling
-    ∙ ap (λ (d : ℕ). G (F (P m) U (Q n) V d dy.result)) dx.ensures
-    ∙ ap (λ (d : ℕ). G (F (P m) U (Q n) V (derivative (180 - p)) d)) dy.ensures
+    ∙ ap (λ (B : Side). G (F B x.new.ready.upsampling (entries y.new.ready.numbers) y.new.ready.upsampling k.result.dx k.result.dy)) E
+    ∙ ap (λ (u : ℕ). G (F (P m) u (entries y.new.ready.numbers) y.new.ready.upsampling k.result.dx k.result.dy)) x.ensures.upsampling
+    ∙ ap (λ (B : Side). G (F (P m) U B y.new.ready.upsampling k.result.dx k.result.dy)) D
+    ∙ ap (λ (u : ℕ). G (F (P m) U (Q n) u k.result.dx k.result.dy)) y.ensures.upsampling
+    ∙ ap (λ (d : ℕ). G (F (P m) U (Q n) V d k.result.dy)) k.ensures.dx
+    ∙ ap (λ (d : ℕ). G (F (P m) U (Q n) V (derivative (180 - p)) d)) k.ensures.dy
     ∙ ap G (fun_ext (λ i. fun_ext (λ j. is_between b (g.T.Pixel.num c.args.corner) above left i j c.requires.low c.requires.high)))

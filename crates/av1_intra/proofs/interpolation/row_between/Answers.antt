@@ -12,10 +12,10 @@ pub row_from_left-requires-clause-inside : goal.row_from_left-requires-clause-in
 row_from_left-requires-clause-inside g c =
     let m = c.min-split.result in
     let some = le-mul_of_pos_right (c.args.i + 1) c.requires.pair.above in
-    let few : 64 * m < (c.args.i + 1) * c.args.dx = omega (arith, c.min-split.ensures) in
-    let a = left_columns c.args.i m c.args.dx c.args.dy c.requires.pair few in
+    let few : 64 * m < (c.args.i + 1) * c.args.slopes.dx = omega (arith, c.min-split.ensures) in
+    let a = left_columns c.args.i m c.args.slopes.dx c.args.slopes.dy c.requires.pair few in
     let e : length (take m c.args.row.now) ≡ m = grind (arith, places) in
-    let b : length (take m c.args.row.now) * c.args.dy ≡ m * c.args.dy = ap (λ n. n * c.args.dy) e in
+    let b : length (take m c.args.row.now) * c.args.slopes.dy ≡ m * c.args.slopes.dy = ap (λ n. n * c.args.slopes.dy) e in
     omega arith
 
 pub interpolate_row-requires-clause-inside : goal.interpolate_row-requires-clause-inside
@@ -27,8 +27,8 @@ returns-then-split-width g c =
     let m = c.min-split.result in
     let w = c.args.width in
     let depth = c.args.bit_depth in
-    let dx = c.args.dx in
-    let dy = c.args.dy in
+    let dx = c.args.slopes.dx in
+    let dy = c.args.slopes.dy in
     let i = c.args.i in
     let A = entries c.args.above.now.numbers in
     let L = entries c.args.left.now.numbers in
@@ -51,8 +51,8 @@ returns-else-split-width g c =
     let m = c.min-split.result in
     let w = c.args.width in
     let depth = c.args.bit_depth in
-    let dx = c.args.dx in
-    let dy = c.args.dy in
+    let dx = c.args.slopes.dx in
+    let dy = c.args.slopes.dy in
     let i = c.args.i in
     let A = entries c.args.above.now.numbers in
     let L = entries c.args.left.now.numbers in

@@ -1,4 +1,4 @@
-use Rattle.std.proofs.Common.{ℕ, ◌≡◌, ◌+◌, ◌<◌, arith, ap, ◌∙◌, sym, subst}
+use Rattle.std.proofs.Common.{ℕ, ◌≡◌, ◌+◌, ◌<◌, ◌≤◌, arith, ap, ◌∙◌, sym, subst}
 use mathlib.Core.Path.{fun_ext}
 use Rattle.av1_edges.specs.Edges.{region_sample}
 use Rattle.av1_intra.specs.ChromaFromLuma.{luma_difference, with_rows, chroma_block, first_column, first_row, columns_read, rows_read}
@@ -16,22 +16,32 @@ subregion-rest-requires-clause-area g c =
     (omega (arith, c.first_row-y.ensures, c.requires.rows)) w h (omega (arith, F.columns, F.storage.few_columns))
     (omega (arith, F.rows, F.storage.few_rows))
 
--- a sample of the rest, as the leaf counts it
-pub differences-requires-clause-low : goal.differences-requires-clause-low
-differences-requires-clause-low g c = λ x y h k.
+pub differences-requires-clause-luma : goal.differences-requires-clause-luma
+differences-requires-clause-luma g c =
     let l = c.args.luma.now in
     let F = c.requires.readable.fits in
     let num = g.T.Pixel.num in
+    let r = c.subregion-rest in
     let b = c.chroma_block.ensures.value in
-    let e =
-    rest_sample num l c.subregion-rest.result c.first_column-x.result c.first_row-y.result _ _ x y
-    (omega (arith, c.first_column-x.ensures, c.requires.columns, F.columns, F.storage.few_columns))
-    (omega (arith, c.first_row-y.ensures, c.requires.rows, F.rows, F.storage.few_rows)) c.subregion-rest.ensures.samples c.subregion-rest.ensures.area
-    c.subregion-rest.ensures.cfg in
-    let i = ap (λ n. region_sample num l (n + x) (c.first_row-y.result + y)) c.first_column-x.ensures in
-    let j = ap (λ n. region_sample num l (first_column c.args.leaf + x) (n + y)) c.first_row-y.ensures in
-    subst (λ n. n < 4096) (sym (e ∙ i ∙ j))
-    (c.requires.low x y (subst (λ (b : ChromaBlock). x < columns_read b) b h) (subst (λ (b : ChromaBlock). y < rows_read b) b k))
+    let w = ap (λ r. r.width) c.rect-rect.ensures ∙ ap (λ r. r.width) c.requires.readable.rect in
+    let h = ap (λ r. r.height) c.rect-rect.ensures ∙ ap (λ r. r.height) c.requires.readable.rect in
+    let i = ap (λ a. a.width) r.ensures.area in
+    let j = ap (λ a. a.height) r.ensures.area in
+    record {
+      readable = r.ensures.fits;
+      columns = subst (λ (b : ChromaBlock). columns_read b ≤ r.result.area.width) (sym b) (omega (arith, i, w, c.first_column-x.ensures, c.requires.columns));
+      rows = subst (λ (b : ChromaBlock). rows_read b ≤ r.result.area.height) (sym b) (omega (arith, j, h, c.first_row-y.ensures, c.requires.rows));
+      -- a sample of the rest, as the leaf counts it
+      low = λ x y m n.
+          let e =
+          rest_sample num l r.result c.first_column-x.result c.first_row-y.result _ _ x y
+          (omega (arith, c.first_column-x.ensures, c.requires.columns, F.columns, F.storage.few_columns))
+          (omega (arith, c.first_row-y.ensures, c.requires.rows, F.rows, F.storage.few_rows)) r.ensures.samples r.ensures.area r.ensures.cfg
+          ∙ ap (λ n. region_sample num l (n + x) (c.first_row-y.result + y)) c.first_column-x.ensures
+          ∙ ap (λ n. region_sample num l (first_column c.args.leaf + x) (n + y)) c.first_row-y.ensures in
+          subst (λ n. n < 4096) (sym e)
+          (c.requires.low x y (subst (λ (b : ChromaBlock). x < columns_read b) b m) (subst (λ (b : ChromaBlock). y < rows_read b) b n));
+    }
 
 pub returns : goal.returns
 returns g c =

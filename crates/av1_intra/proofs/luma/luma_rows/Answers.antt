@@ -18,30 +18,30 @@ pub row-requires-in-loop-r-clause-in_area : goal.row-requires-in-loop-r-clause-i
 row-requires-in-loop-r-clause-in_area g c =
     let b = c.args.block in
     let y = g.row.YDEC in
-    let rows = subst (λ n. min (b.height * 2 ^ n) (b.last_row + 2 ^ n) ≤ c.args.luma.now.area.height) c.requires.is_ydec c.requires.rows in
+    let rows = subst (λ n. min (b.height * 2 ^ n) (b.last_row + 2 ^ n) ≤ c.args.luma.now.area.height) c.requires.is_ydec c.requires.luma.rows in
     subst (λ n. n + y < c.args.luma.now.area.height) (sym c.min-y.ensures)
-    (row_read y c.loop-r.r b.height b.last_row _ (omega (arith, c.requires.xdec, c.requires.ydec)) c.requires.height c.loop-r-test.true rows)
+    (row_read y c.loop-r.r b.height b.last_row _ (omega (arith, c.requires.xdec, c.requires.ydec)) c.requires.chroma.height c.loop-r-test.true rows)
 
 pub luma_row-requires-clause-top_low : goal.luma_row-requires-clause-top_low
 luma_row-requires-clause-top_low g c = λ k h.
     let b = c.args.block in
     let x : k < columns_read b = subst (λ n. k < min (b.width * 2 ^ n) (b.last_column + 2 ^ n)) (sym c.requires.is_xdec) h in
-    let e = row_numbers g.T.Pixel.num c.args.luma.now c.row.result.now c.min-y.result k c.row.ensures.value (omega (arith, x, c.requires.columns)) in
+    let e = row_numbers g.T.Pixel.num c.args.luma.now c.row.result.now c.min-y.result k c.row.ensures.value (omega (arith, x, c.requires.luma.columns)) in
     let rows = subst (λ n. min (b.height * 2 ^ n) (b.last_row + 2 ^ n) ≤ rows_read b) c.requires.is_ydec (omega arith) in
     let y = row_read g.row.YDEC c.loop-r.r b.height b.last_row (rows_read b)
-    (omega (arith, c.requires.xdec, c.requires.ydec)) c.requires.height c.loop-r-test.true rows in
-    subst (λ n. n < 4096) (sym e) (c.requires.low k c.min-y.result x (omega (arith, y, c.min-y.ensures)))
+    (omega (arith, c.requires.xdec, c.requires.ydec)) c.requires.chroma.height c.loop-r-test.true rows in
+    subst (λ n. n < 4096) (sym e) (c.requires.luma.low k c.min-y.result x (omega (arith, y, c.min-y.ensures)))
 
 pub luma_row-requires-clause-below_low : goal.luma_row-requires-clause-below_low
 luma_row-requires-clause-below_low g c = λ k h.
     let b = c.args.block in
     let x : k < columns_read b = subst (λ n. k < min (b.width * 2 ^ n) (b.last_column + 2 ^ n)) (sym c.requires.is_xdec) h in
     let e = row_numbers g.T.Pixel.num c.args.luma.now c.row-in-loop-r.result.now (c.min-y.result + g.row.YDEC) k c.row-in-loop-r.ensures.value
-    (omega (arith, x, c.requires.columns)) in
+    (omega (arith, x, c.requires.luma.columns)) in
     let rows = subst (λ n. min (b.height * 2 ^ n) (b.last_row + 2 ^ n) ≤ rows_read b) c.requires.is_ydec (omega arith) in
     let y = row_read g.row.YDEC c.loop-r.r b.height b.last_row (rows_read b)
-    (omega (arith, c.requires.xdec, c.requires.ydec)) c.requires.height c.loop-r-test.true rows in
-    subst (λ n. n < 4096) (sym e) (c.requires.low k (c.min-y.result + g.row.YDEC) x (omega (arith, y, c.min-y.ensures)))
+    (omega (arith, c.requires.xdec, c.requires.ydec)) c.requires.chroma.height c.loop-r-test.true rows in
+    subst (λ n. n < 4096) (sym e) (c.requires.luma.low k (c.min-y.result + g.row.YDEC) x (omega (arith, y, c.min-y.ensures)))
 
 pub loop-r-preserved : goal.loop-r-preserved
 loop-r-preserved g c =
@@ -58,5 +58,5 @@ loop-r-preserved g c =
     (omega arith) p c.luma_row.ensures (λ k v h.
     ap pos (row_luma_of num c.args.luma.now b c.row.result.now c.row-in-loop-r.result.now r k
     (r * w + k) c.min-y.result g.row.XDEC g.row.YDEC c.requires.is_xdec c.requires.is_ydec c.requires.xdec c.requires.ydec (omega arith) refl c.min-y.ensures
-    (omega (arith, c.requires.height, c.loop-r-test.true)) c.requires.columns c.row.ensures.value c.row-in-loop-r.ensures.value))
+    (omega (arith, c.requires.chroma.height, c.loop-r-test.true)) c.requires.luma.columns c.row.ensures.value c.row-in-loop-r.ensures.value))
     ∙ ap (λ n. paint_row n G s) (mul_comm (r + 1) w)

@@ -7,6 +7,6 @@ use Rattle.av1_intra.proofs.smooth.smooth_row.Given as goal
 abbrev pub invariant-loop-c : goal.invariant-loop-c
 invariant-loop-c g l =
     l.row ≡ paint_row l.c
-    (λ c _. g.T.Pixel.pixel ((mix (slice_index l.fn.row_weights l.fn.r) (numbers g.T.Pixel.num l.above c) (numbers g.T.Pixel.num l.fn.left 0) + mix
-    (slice_index l.column_weights c) (numbers g.T.Pixel.num l.fn.left (l.fn.height - 1 - l.fn.r)) (numbers g.T.Pixel.num l.above (l.width - 1)) + 256) / 512))
+    (λ c _. g.T.Pixel.pixel ((mix l.row_weight (numbers g.T.Pixel.num l.above c) (numbers g.T.Pixel.num l.fn.left 0) + mix
+    (slice_index l.column_weights c) (numbers g.T.Pixel.num l.fn.left l.fn.k) (numbers g.T.Pixel.num l.above (l.width - 1)) + 256) / 512))
     l.initial.row

@@ -1,5 +1,0 @@
-use Rattle.av1_inter.proofs.Sums.{IsSum}
-use Rattle.av1_inter.proofs.lines.weigh_inner.Given as goal
-
-abbrev pub invariant-loop-t : goal.invariant-loop-t
-invariant-loop-t l = IsSum l.sum l.t l.taps l.values

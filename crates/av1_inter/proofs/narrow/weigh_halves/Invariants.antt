@@ -1,5 +1,0 @@
-use Rattle.av1_inter.proofs.Sums.{IsSum}
-use Rattle.av1_inter.proofs.narrow.weigh_halves.Given as goal
-
-abbrev pub invariant-loop-t : goal.invariant-loop-t
-invariant-loop-t g l = IsSum l.sum l.t l.halves l.values

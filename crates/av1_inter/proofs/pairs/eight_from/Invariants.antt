@@ -1,6 +1,0 @@
-use Rattle.std.proofs.Common.{◌+◌, pos, map, slice_index}
-use Rattle.av1_inter.proofs.Fill.{IsLine}
-use Rattle.av1_inter.proofs.pairs.eight_from.Given as goal
-
-abbrev pub invariant-loop-c : goal.invariant-loop-c
-invariant-loop-c g l = IsLine 8 l.c (λ k. pos (slice_index (map g.T.Pixel.num l.samples) (l.start + k))) l.values

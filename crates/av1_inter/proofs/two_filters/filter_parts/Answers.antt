@@ -1,0 +1,33 @@
+use Rattle.std.proofs.Common.{arith, ap, inr, refl, sym, ◌≡◌, ◌+◌, ◌∙◌}
+use Rattle.av1_frame.specs.Samples.{corner}
+use Rattle.av1_frame.proofs.Paint.{paint_empty}
+use Rattle.av1_inter.specs.Scaffolding.{both_ways, sample_of}
+use Rattle.av1_inter.proofs.Parts.{both_moved}
+use Rattle.av1_inter.proofs.Strips.{paint_below}
+use Rattle.av1_inter.proofs.two_filters.filter_parts.Goals as goal
+
+pub loop-first-init : goal.loop-first-init
+loop-first-init g c =
+    record {
+      room = omega arith;
+      painted = sym (paint_empty c.args.stride (corner c.args.strip.now.area c.args.strip.now.area.width 0) _ c.args.target.now (inr refl));
+    }
+
+pub loop-first-preserved : goal.loop-first-preserved
+loop-first-preserved g c =
+    let strip = c.args.strip.now in
+    let halves = c.args.halves.now in
+    let first = c.loop-first.first in
+    let d = strip.bit_depth in
+    let part = c.part_at-part.ensures in
+    let from = sample_of g.T.Pixel.num c.part_at-part.result in
+    let whole = sample_of g.T.Pixel.num strip in
+    record {
+      room = omega (arith, c.min-rows.ensures, c.loop-first-test.true);
+      painted =
+          paint_below c.args.stride strip.area c.part_at-part.result.area first c.min-rows.result _ _ c.args.target.now c.loop-first.target _ part.area
+          c.loop-first.invariant.painted c.filter_part_of.ensures
+          (λ r q v k l. ap (λ n. g.W.Writer.written n (both_ways (g.W.Writer.both n) n halves.across halves.down from r q)) part.depth
+          ∙ ap (g.W.Writer.written d) (both_moved (g.W.Writer.both d) d halves.across halves.down from whole 0 first part.samples r q
+          ∙ ap (λ n. both_ways (g.W.Writer.both d) d halves.across halves.down whole (first + r) n) (let z : 0 + q ≡ q = omega arith in z)));
+    }

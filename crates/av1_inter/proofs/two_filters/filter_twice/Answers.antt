@@ -1,0 +1,33 @@
+use Rattle.std.proofs.Common.{arith, ap, inl, refl, sym, ◌≡◌, ◌+◌, ◌∙◌}
+use Rattle.av1_frame.specs.Samples.{corner}
+use Rattle.av1_frame.proofs.Paint.{paint_empty}
+use Rattle.av1_inter.specs.Scaffolding.{both_ways, sample_of}
+use Rattle.av1_inter.proofs.Parts.{both_moved}
+use Rattle.av1_inter.proofs.Strips.{paint_next}
+use Rattle.av1_inter.proofs.two_filters.filter_twice.Goals as goal
+
+pub loop-start-init : goal.loop-start-init
+loop-start-init g c =
+    record {
+      room = omega arith;
+      painted = sym (paint_empty c.args.stride (corner c.args.block.now.area 0 c.args.block.now.area.height) _ c.args.target.now (inl refl));
+    }
+
+pub loop-start-preserved : goal.loop-start-preserved
+loop-start-preserved g c =
+    let block = c.args.block.now in
+    let halves = c.args.halves.now in
+    let start = c.loop-start.start in
+    let d = block.bit_depth in
+    let part = c.part_at-strip.ensures in
+    let from = sample_of g.T.Pixel.num c.part_at-strip.result in
+    let whole = sample_of g.T.Pixel.num block in
+    record {
+      room = omega (arith, c.strip_width-columns.ensures.room, c.loop-start.invariant.room);
+      painted =
+          paint_next c.args.stride block.area c.part_at-strip.result.area start c.strip_width-columns.result _ _ c.args.target.now c.loop-start.target _
+          part.area c.loop-start.invariant.painted c.filter_parts.ensures
+          (λ r q v k l. ap (λ n. g.W.Writer.written n (both_ways (g.W.Writer.both n) n halves.across halves.down from r q)) part.depth
+          ∙ ap (g.W.Writer.written d) (both_moved (g.W.Writer.both d) d halves.across halves.down from whole start 0 part.samples r q
+          ∙ ap (λ n. both_ways (g.W.Writer.both d) d halves.across halves.down whole n (start + q)) (let z : 0 + r ≡ r = omega arith in z)));
+    }

@@ -1,0 +1,254 @@
+//! Blocks that are filtered along one direction: along their rows, or down their columns.
+//!
+//! Both are one loop. The eight samples of a sum stand 1 apart along a row, and as far apart as rows do down a column.
+//!
+//! AV1 specification: block inter prediction process.
+
+ghost use Rattle.std.specs.Prelude.{◌≡◌, ℕ, ◌+◌, ◌*◌, ◌≤◌, ◌<◌, pos, length, map, slice_index, List};
+ghost use Rattle.av1_blocks.specs.Depths.{IsDepth};
+ghost use Rattle.av1_frame.specs.Areas.{AreRows};
+ghost use Rattle.av1_frame.specs.Samples.{corner, paint, paint_row};
+ghost use Rattle.av1_inter.specs.Motion.{entry};
+ghost use Rattle.av1_inter.specs.Scaffolding.{AreZero, doubled, filtered, IsBlock, IsFilter, IsLaid, IsRounding, IsStripWidth, settled, sum_from};
+
+use crate::bytes::filter_bytes;
+use crate::filter::outer_zeros;
+use crate::strip::{Strip, Taps, part_at, strip_width};
+use crate::words::filter_words;
+use crate::writer::Writer;
+use av1_frame::Pixel;
+
+/// What the filter gives for `N` columns from a place on.
+#[inline(always)]
+fn filter_line<T: Pixel, const N: usize, const ZEROS: usize>(
+    source: &[T],
+    start: usize,
+    taps: &Taps,
+) -> [i16; N]
+    requires filter { IsFilter (doubled taps.now.halves) }
+    requires few { ZEROS ≤ 2 }
+    requires zeros { AreZero ZEROS taps.now.halves }
+    requires rounding { IsRounding taps.now.rounding }
+    requires short { N ≤ 128 }
+    requires reach { start + N + 7 * taps.now.step ≤ length source.now }
+    requires small { (c t : ℕ) → c < N → t < 8 → slice_index (map T.num source.now) (start + c + t * taps.now.step) < 32768 }
+    ensures { (c : ℕ) → c < N →
+        entry result c ≡ settled taps.now.rounding (sum_from taps.now.halves (λ i. pos (slice_index (map T.num source.now) i)) (start + c) taps.now.step) }
+{
+    if T::BITS == 8 {
+        filter_bytes::<T, N, ZEROS>(source, start, taps.step, &taps.halves, taps.rounding)
+    } else {
+        filter_words::<T, N, ZEROS>(source, start, taps.step, &taps.halves, taps.rounding)
+    }
+}
+
+/// The first `N` entries of the row become those of the values.
+#[inline(always)]
+#[tactic(auto, using(av1_frame::proofs::Paint::row_painting))]
+fn write_row<E: Copy, W: Writer<E>, const N: usize>(
+    row: &mut [E],
+    values: &[i16; N],
+    bit_depth: usize,
+)
+    requires row_long { N ≤ length row.old }
+    requires short { N ≤ 128 }
+    requires depths { IsDepth bit_depth }
+    requires serves { W.serves bit_depth }
+    ensures { row.new ≡ paint_row N (λ c _. W.written bit_depth (entry values.now c)) row.old }
+{
+    for c in 0..N {
+        row[c] = W::entry(values[c], bit_depth);
+    }
+}
+
+/// The entries of row `r` of a strip of `N` columns become what a filter gives, whose outer `ZEROS` weights on either
+/// side are 0.
+#[inline(always)]
+#[tactic(auto, using(av1_frame::proofs::Paint::rectangle_painting))]
+fn filter_row<T: Pixel, E: Copy, W: Writer<E>, const N: usize, const ZEROS: usize>(
+    target: &mut [E],
+    stride: usize,
+    strip: &Strip<'_, T>,
+    taps: &Taps,
+    r: usize,
+)
+    requires rows { AreRows stride strip.now.area (length target.old) }
+    requires width { strip.now.area.width ≡ N }
+    requires short { N ≤ 128 }
+    requires few { ZEROS ≤ 2 }
+    requires zeros { AreZero ZEROS taps.now.halves }
+    requires laid { IsLaid T.num strip.now taps.now }
+    requires depths { IsDepth strip.now.bit_depth }
+    requires serves { W.serves strip.now.bit_depth }
+    requires inside { r < strip.now.area.height }
+    ensures { (s : List E) → AreRows stride strip.now.area (length s) →
+        target.old ≡ paint stride (corner strip.now.area strip.now.area.width r)
+        (λ r c _. W.written strip.now.bit_depth (filtered T.num strip.now taps.now r c)) s →
+        target.new ≡ paint stride (corner strip.now.area strip.now.area.width (r + 1))
+        (λ r c _. W.written strip.now.bit_depth (filtered T.num strip.now taps.now r c)) s }
+{
+    let start = taps.start + r * strip.source_stride;
+    let values = filter_line::<T, N, ZEROS>(strip.source, start, taps);
+    let (_, row) = target.split_at_mut((strip.area.y + r) * stride + strip.area.x);
+    write_row::<E, W, N>(row, &values, strip.bit_depth);
+}
+
+/// The entries of a strip of `N` columns become what a filter gives, whose outer `ZEROS` weights on either side are 0.
+#[inline(always)]
+#[tactic(auto, using(av1_frame::proofs::Paint::rectangle_painting))]
+fn filter_by<T: Pixel, E: Copy, W: Writer<E>, const N: usize, const ZEROS: usize>(
+    target: &mut [E],
+    stride: usize,
+    strip: &Strip<'_, T>,
+    taps: &Taps,
+)
+    requires rows { AreRows stride strip.now.area (length target.old) }
+    requires width { strip.now.area.width ≡ N }
+    requires short { N ≤ 128 }
+    requires few { ZEROS ≤ 2 }
+    requires zeros { AreZero ZEROS taps.now.halves }
+    requires laid { IsLaid T.num strip.now taps.now }
+    requires depths { IsDepth strip.now.bit_depth }
+    requires serves { W.serves strip.now.bit_depth }
+    ensures { target.new ≡ paint stride strip.now.area (λ r c _. W.written strip.now.bit_depth (filtered T.num strip.now taps.now r c)) target.old }
+{
+    // Copies of their own can't be what is written, so they stay in registers.
+    let taps = *taps;
+    let strip = *strip;
+    for r in 0..strip.area.height {
+        filter_row::<T, E, W, N, ZEROS>(target, stride, &strip, &taps, r);
+    }
+}
+
+/// The same by any filter. It is a function of its own, to which the step between samples is a number like any other:
+/// eight samples side by side are then read at once, also where the next eight overlap them.
+#[inline(never)]
+pub(crate) fn filter_strip<T: Pixel, E: Copy, W: Writer<E>, const N: usize>(
+    target: &mut [E],
+    stride: usize,
+    strip: &Strip<'_, T>,
+    taps: &Taps,
+)
+    requires rows { AreRows stride strip.now.area (length target.old) }
+    requires width { strip.now.area.width ≡ N }
+    requires short { N ≤ 128 }
+    requires laid { IsLaid T.num strip.now taps.now }
+    requires depths { IsDepth strip.now.bit_depth }
+    requires serves { W.serves strip.now.bit_depth }
+    ensures { target.new ≡ paint stride strip.now.area (λ r c _. W.written strip.now.bit_depth (filtered T.num strip.now taps.now r c)) target.old }
+{
+    let zeros = outer_zeros(&taps.halves);
+    if zeros == 2 {
+        filter_by::<T, E, W, N, 2>(target, stride, strip, taps);
+    } else if zeros == 1 {
+        filter_by::<T, E, W, N, 1>(target, stride, strip, taps);
+    } else {
+        filter_by::<T, E, W, N, 0>(target, stride, strip, taps);
+    }
+}
+
+/// The same of a strip of 16, 8, 4 or 1 columns.
+#[inline(always)]
+fn filter_columns<T: Pixel, E: Copy, W: Writer<E>>(
+    target: &mut [E],
+    stride: usize,
+    strip: &Strip<'_, T>,
+    taps: &Taps,
+)
+    requires rows { AreRows stride strip.now.area (length target.old) }
+    requires kind { IsStripWidth strip.now.area.width }
+    requires laid { IsLaid T.num strip.now taps.now }
+    requires depths { IsDepth strip.now.bit_depth }
+    requires serves { W.serves strip.now.bit_depth }
+    ensures { target.new ≡ paint stride strip.now.area (λ r c _. W.written strip.now.bit_depth (filtered T.num strip.now taps.now r c)) target.old }
+{
+    if strip.area.width == 16 {
+        filter_strip::<T, E, W, 16>(target, stride, strip, taps);
+    } else if strip.area.width == 8 {
+        filter_strip::<T, E, W, 8>(target, stride, strip, taps);
+    } else if strip.area.width == 4 {
+        filter_strip::<T, E, W, 4>(target, stride, strip, taps);
+    } else {
+        filter_strip::<T, E, W, 1>(target, stride, strip, taps);
+    }
+}
+
+/// The same of a block of 4x4 entries by a filter whose outer two weights on either side are 0. Its rows are written
+/// out: down columns most samples serve several rows, and are read once.
+#[inline(always)]
+#[tactic(auto, using(av1_frame::proofs::Paint::rectangle_painting))]
+fn filter_four_rows<T: Pixel, E: Copy, W: Writer<E>>(
+    target: &mut [E],
+    stride: usize,
+    block: &Strip<'_, T>,
+    taps: &Taps,
+)
+    requires rows { AreRows stride block.now.area (length target.old) }
+    requires width { block.now.area.width ≡ 4 }
+    requires height { block.now.area.height ≡ 4 }
+    requires zeros { AreZero 2 taps.now.halves }
+    requires laid { IsLaid T.num block.now taps.now }
+    requires depths { IsDepth block.now.bit_depth }
+    requires serves { W.serves block.now.bit_depth }
+    ensures { target.new ≡ paint stride block.now.area (λ r c _. W.written block.now.bit_depth (filtered T.num block.now taps.now r c)) target.old }
+{
+    filter_row::<T, E, W, 4, 2>(target, stride, block, taps, 0);
+    filter_row::<T, E, W, 4, 2>(target, stride, block, taps, 1);
+    filter_row::<T, E, W, 4, 2>(target, stride, block, taps, 2);
+    filter_row::<T, E, W, 4, 2>(target, stride, block, taps, 3);
+}
+
+/// The same, along either direction.
+#[inline(always)]
+fn filter_square<T: Pixel, E: Copy, W: Writer<E>>(
+    target: &mut [E],
+    stride: usize,
+    block: &Strip<'_, T>,
+    taps: &Taps,
+)
+    requires rows { AreRows stride block.now.area (length target.old) }
+    requires width { block.now.area.width ≡ 4 }
+    requires height { block.now.area.height ≡ 4 }
+    requires zeros { AreZero 2 taps.now.halves }
+    requires laid { IsLaid T.num block.now taps.now }
+    requires depths { IsDepth block.now.bit_depth }
+    requires serves { W.serves block.now.bit_depth }
+    ensures { target.new ≡ paint stride block.now.area (λ r c _. W.written block.now.bit_depth (filtered T.num block.now taps.now r c)) target.old }
+{
+    if taps.step == 1 {
+        filter_by::<T, E, W, 4, 2>(target, stride, block, taps);
+    } else {
+        filter_four_rows::<T, E, W>(target, stride, block, taps);
+    }
+}
+
+/// The same of a block, strip by strip.
+#[inline(always)]
+pub(crate) fn filter_once<T: Pixel, E: Copy, W: Writer<E>>(
+    target: &mut [E],
+    stride: usize,
+    block: &Strip<'_, T>,
+    taps: &Taps,
+)
+    requires rows { AreRows stride block.now.area (length target.old) }
+    requires block { IsBlock T.num block.now }
+    requires laid { IsLaid T.num block.now taps.now }
+    requires serves { W.serves block.now.bit_depth }
+    ensures { target.new ≡ paint stride block.now.area (λ r c _. W.written block.now.bit_depth (filtered T.num block.now taps.now r c)) target.old }
+{
+    if T::BITS == 8
+        && block.area.width == 4
+        && block.area.height == 4
+        && outer_zeros(&taps.halves) == 2
+    {
+        filter_square::<T, E, W>(target, stride, block, taps);
+        return;
+    }
+    let mut start = 0;
+    while start < block.area.width {
+        let columns = strip_width(block.area.width - start, true);
+        let strip = part_at(block, start, 0, columns, block.area.height);
+        filter_columns::<T, E, W>(target, stride, &strip, taps);
+        start += columns;
+    }
+}

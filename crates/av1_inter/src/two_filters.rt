@@ -1,0 +1,175 @@
+//! Blocks that are filtered along their rows, and then down their columns.
+//!
+//! Both steps are those of one filter. What the first one gives is kept as samples of 15 bits, from which the second
+//! one reads. A block is cut into parts of up to 8 columns and 32 rows, so that what is kept of a part is small; a part
+//! keeps 7 rows more than it has.
+//!
+//! AV1 specification: block inter prediction process.
+
+ghost use Rattle.std.specs.Prelude.{◌≡◌, ◌+◌, ◌≤◌, ◌<◌, length};
+ghost use Rattle.av1_blocks.specs.Depths.{IsDepth};
+ghost use Rattle.av1_frame.specs.Areas.{AreRows};
+ghost use Rattle.av1_frame.specs.Samples.{paint};
+ghost use Rattle.av1_inter.specs.Scaffolding.{IsBlock, IsFilter, IsPartWidth, both_ways, doubled, sample_of, strip_of};
+
+use crate::one_filter::filter_strip;
+use crate::rounding::between_filters;
+use crate::strip::{Strip, Taps, part_at, strip_width};
+use crate::writer::{Between, Writer};
+use av1_blocks::SUBPEL_FILTER_SIZE;
+use av1_frame::{Pixel, StoredArea};
+
+/// How many columns a part has at most.
+const COLUMNS: usize = 8;
+
+/// How many rows a part has at most.
+const ROWS: usize = 32;
+
+/// How many values are kept of a part.
+const KEPT: usize = COLUMNS * (ROWS + 7);
+
+/// Halved weights along rows and down columns.
+#[derive(Clone, Copy)]
+pub(crate) struct Halves {
+    pub(crate) across: [i16; SUBPEL_FILTER_SIZE],
+    pub(crate) down: [i16; SUBPEL_FILTER_SIZE],
+}
+
+/// The entries of a part of `N` columns.
+fn filter_part<T: Pixel, E: Copy, W: Writer<E>, const N: usize>(
+    target: &mut [E],
+    stride: usize,
+    part: &Strip<'_, T>,
+    halves: &Halves,
+)
+    requires rows { AreRows stride part.now.area (length target.old) }
+    requires width { part.now.area.width ≡ N }
+    requires narrow { N ≤ 8 }
+    requires low { part.now.area.height ≤ 32 }
+    requires part { IsBlock T.num part.now }
+    requires across { IsFilter (doubled halves.now.across) }
+    requires down { IsFilter (doubled halves.now.down) }
+    requires serves { W.serves part.now.bit_depth }
+    ensures { target.new ≡
+        paint stride part.now.area
+        (λ r c _.
+        W.written part.now.bit_depth
+        (both_ways (W.both part.now.bit_depth) part.now.bit_depth halves.now.across halves.now.down (sample_of T.num part.now) r c)) target.old }
+{
+    let mut kept = [0; KEPT];
+    let rows = Strip {
+        area: StoredArea {
+            x: 0,
+            y: 0,
+            width: N,
+            height: part.area.height + 7,
+        },
+        source: part.source,
+        source_stride: part.source_stride,
+        bit_depth: part.bit_depth,
+    };
+    let across = Taps {
+        start: 0,
+        step: 1,
+        halves: halves.across,
+        rounding: between_filters(part.bit_depth),
+    };
+    filter_strip::<T, u16, Between, N>(&mut kept, COLUMNS, &rows, &across);
+    let columns = Strip {
+        area: part.area,
+        source: &kept,
+        source_stride: COLUMNS,
+        bit_depth: part.bit_depth,
+    };
+    let down = Taps {
+        start: 0,
+        step: COLUMNS,
+        halves: halves.down,
+        rounding: W::of_both(part.bit_depth),
+    };
+    filter_strip::<u16, E, W, N>(target, stride, &columns, &down);
+}
+
+/// The same of a part of 8, 4 or 1 columns.
+fn filter_part_of<T: Pixel, E: Copy, W: Writer<E>>(
+    target: &mut [E],
+    stride: usize,
+    part: &Strip<'_, T>,
+    halves: &Halves,
+)
+    requires rows { AreRows stride part.now.area (length target.old) }
+    requires kind { IsPartWidth part.now.area.width }
+    requires low { part.now.area.height ≤ 32 }
+    requires part { IsBlock T.num part.now }
+    requires across { IsFilter (doubled halves.now.across) }
+    requires down { IsFilter (doubled halves.now.down) }
+    requires serves { W.serves part.now.bit_depth }
+    ensures { target.new ≡
+        paint stride part.now.area
+        (λ r c _.
+        W.written part.now.bit_depth
+        (both_ways (W.both part.now.bit_depth) part.now.bit_depth halves.now.across halves.now.down (sample_of T.num part.now) r c)) target.old }
+{
+    if part.area.width == 8 {
+        filter_part::<T, E, W, 8>(target, stride, part, halves);
+    } else if part.area.width == 4 {
+        filter_part::<T, E, W, 4>(target, stride, part, halves);
+    } else {
+        filter_part::<T, E, W, 1>(target, stride, part, halves);
+    }
+}
+
+/// The same of a strip of 8, 4 or 1 columns, part by part.
+fn filter_parts<T: Pixel, E: Copy, W: Writer<E>>(
+    target: &mut [E],
+    stride: usize,
+    strip: &Strip<'_, T>,
+    halves: &Halves,
+)
+    requires rows { AreRows stride strip.now.area (length target.old) }
+    requires kind { IsPartWidth strip.now.area.width }
+    requires strip { IsBlock T.num strip.now }
+    requires across { IsFilter (doubled halves.now.across) }
+    requires down { IsFilter (doubled halves.now.down) }
+    requires serves { W.serves strip.now.bit_depth }
+    ensures { target.new ≡
+        paint stride strip.now.area
+        (λ r c _.
+        W.written strip.now.bit_depth
+        (both_ways (W.both strip.now.bit_depth) strip.now.bit_depth halves.now.across halves.now.down (sample_of T.num strip.now) r c)) target.old }
+{
+    let mut first = 0;
+    while first < strip.area.height {
+        let rows = (strip.area.height - first).min(ROWS);
+        let part = part_at(strip, 0, first, strip.area.width, rows);
+        filter_part_of::<T, E, W>(target, stride, &part, halves);
+        first += rows;
+    }
+}
+
+/// The same of a block, strip by strip.
+pub(crate) fn filter_twice<T: Pixel, E: Copy, W: Writer<E>>(
+    target: &mut [E],
+    stride: usize,
+    block: &Strip<'_, T>,
+    halves: &Halves,
+)
+    requires rows { AreRows stride block.now.area (length target.old) }
+    requires block { IsBlock T.num block.now }
+    requires across { IsFilter (doubled halves.now.across) }
+    requires down { IsFilter (doubled halves.now.down) }
+    requires serves { W.serves block.now.bit_depth }
+    ensures { target.new ≡
+        paint stride block.now.area
+        (λ r c _.
+        W.written block.now.bit_depth
+        (both_ways (W.both block.now.bit_depth) block.now.bit_depth halves.now.across halves.now.down (sample_of T.num block.now) r c)) target.old }
+{
+    let mut start = 0;
+    while start < block.area.width {
+        let columns = strip_width(block.area.width - start, false);
+        let strip = part_at(block, start, 0, columns, block.area.height);
+        filter_parts::<T, E, W>(target, stride, &strip, halves);
+        start += columns;
+    }
+}

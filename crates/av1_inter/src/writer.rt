@@ -1,0 +1,168 @@
+//! What becomes of filtered values: samples of one reference, or what is prepared for an average.
+
+ghost use Rattle.std.specs.Prelude.{◌≡◌, ℕ, ℤ, ◌≤◌};
+ghost use Rattle.av1_blocks.specs.Depths.{IsDepth};
+ghost use Rattle.av1_frame.specs.Arithmetic.{clip};
+ghost use Rattle.av1_inter.specs.Scaffolding.{IsRounding, between_filters, both_prepared, both_put, column_put, one_prepared, row_put};
+ghost use Rattle.av1_inter.specs.declared.rounding.Rounding.{Rounding as RoundingRecord};
+
+use crate::rounding::{
+    Rounding, between_filters, both_prepared, both_put, column_put, greatest, one_prepared, row_put,
+};
+use av1_frame::Pixel;
+
+/// Writes values of 16 bits as entries of type `E`, and says how the sums that they come from are rounded.
+pub(crate) trait Writer<E: Copy> {
+    // the depths that it serves
+    ghost serves: { ℕ → Type 0 };
+
+    // the roundings of rows, of columns, and of columns of filtered rows, at a depth
+    ghost rows: { ℕ → RoundingRecord };
+
+    ghost columns: { ℕ → RoundingRecord };
+
+    ghost both: { ℕ → RoundingRecord };
+
+    // the entry of a value, at a depth
+    ghost written: { ℕ → ℤ → E };
+
+    /// The rounding of sums along rows.
+    fn of_rows(bit_depth: usize) -> Rounding
+        requires { IsDepth bit_depth }
+        ensures value { result ≡ rows bit_depth }
+        ensures small { IsRounding result };
+
+    /// The rounding of sums down columns.
+    fn of_columns(bit_depth: usize) -> Rounding
+        requires { IsDepth bit_depth }
+        ensures value { result ≡ columns bit_depth }
+        ensures small { IsRounding result };
+
+    /// The rounding of sums down columns of filtered rows.
+    fn of_both(bit_depth: usize) -> Rounding
+        requires { IsDepth bit_depth }
+        ensures value { result ≡ both bit_depth }
+        ensures small { IsRounding result };
+
+    /// The entry of a value.
+    fn entry(value: i16, bit_depth: usize) -> E
+        requires depths { IsDepth bit_depth }
+        requires serves { serves bit_depth }
+        ensures { result ≡ written bit_depth value };
+}
+
+/// The depth of samples of a type: it needn't be asked for where they have one byte.
+#[inline(always)]
+fn depth_of<T: Pixel>(bit_depth: usize) -> usize
+    requires depths { IsDepth bit_depth }
+    requires fits { bit_depth ≤ T.BITS }
+    ensures { result ≡ bit_depth }
+{
+    if T::BITS == 8 { 8 } else { bit_depth }
+}
+
+/// Values become samples: they are clipped to the depth.
+pub(crate) struct Samples {}
+
+impl<T: Pixel> Writer<T> for Samples {
+    ghost serves = { λ depth. depth ≤ T.BITS };
+
+    ghost rows = { row_put };
+
+    ghost columns = { λ _. column_put };
+
+    ghost both = { both_put };
+
+    ghost written = { λ depth value. T.pixel (clip depth value) };
+
+    #[inline(always)]
+    fn of_rows(bit_depth: usize) -> Rounding {
+        row_put(bit_depth)
+    }
+
+    #[inline(always)]
+    fn of_columns(bit_depth: usize) -> Rounding {
+        column_put()
+    }
+
+    #[inline(always)]
+    fn of_both(bit_depth: usize) -> Rounding {
+        both_put(bit_depth)
+    }
+
+    #[inline(always)]
+    fn entry(value: i16, bit_depth: usize) -> T {
+        T::from_u32(value.max(0).min(greatest(depth_of::<T>(bit_depth))) as u32)
+    }
+}
+
+/// Values of rows are kept for the filter down the columns, as samples of 15 bits: they are moved up so far that they
+/// have no sign.
+pub(crate) struct Between {}
+
+impl Writer<u16> for Between {
+    ghost serves = { λ _. Unit };
+
+    ghost rows = { between_filters };
+
+    ghost columns = { between_filters };
+
+    ghost both = { between_filters };
+
+    ghost written = { λ _ value. clip 15 value };
+
+    #[inline(always)]
+    fn of_rows(bit_depth: usize) -> Rounding {
+        between_filters(bit_depth)
+    }
+
+    #[inline(always)]
+    fn of_columns(bit_depth: usize) -> Rounding {
+        between_filters(bit_depth)
+    }
+
+    #[inline(always)]
+    fn of_both(bit_depth: usize) -> Rounding {
+        between_filters(bit_depth)
+    }
+
+    #[inline(always)]
+    fn entry(value: i16, bit_depth: usize) -> u16 {
+        value.max(0) as u16
+    }
+}
+
+/// Values are kept as they are, for an average.
+pub(crate) struct Prepared {}
+
+impl Writer<i16> for Prepared {
+    ghost serves = { λ _. Unit };
+
+    ghost rows = { one_prepared };
+
+    ghost columns = { one_prepared };
+
+    ghost both = { both_prepared };
+
+    ghost written = { λ _ value. value };
+
+    #[inline(always)]
+    fn of_rows(bit_depth: usize) -> Rounding {
+        one_prepared(bit_depth)
+    }
+
+    #[inline(always)]
+    fn of_columns(bit_depth: usize) -> Rounding {
+        one_prepared(bit_depth)
+    }
+
+    #[inline(always)]
+    fn of_both(bit_depth: usize) -> Rounding {
+        both_prepared(bit_depth)
+    }
+
+    #[inline(always)]
+    fn entry(value: i16, bit_depth: usize) -> i16 {
+        value
+    }
+}

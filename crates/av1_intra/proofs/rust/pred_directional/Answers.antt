@@ -1,0 +1,19 @@
+use Rattle.std.proofs.Common.{◌≡◌, ℕ, map, reverse, ap, ◌∙◌, sym}
+use Rattle.std.proofs.lemmas.List.{get_or-map}
+use Rattle.av1_frame.proofs.Regions.{lent_painted}
+use Rattle.av1_intra.specs.Sides.{numbers}
+use Rattle.av1_intra.specs.Directional.{block_at, directional}
+use Rattle.av1_intra.specs.declared.directional.DirectionalBlock.{DirectionalBlock}
+use Rattle.av1_intra.proofs.rust.pred_directional.Goals as goal
+
+pub returns-clause-painted : goal.returns-clause-painted
+returns-clause-painted g c =
+    let a = c.args in
+    let num = g.T.Pixel.num in
+    let x = c.index-top_left-0.result in
+    let K : num x ≡ numbers num a.top_left.now 0 = ap num c.index-top_left-0.is ∙ sym (get_or-map num a.top_left.now 0 x 0 c.requires.corner) in
+    let G = λ (b : DirectionalBlock) (k i j : ℕ). directional b k (map num a.above.now) (reverse (map num a.left.now)) i j in
+    lent_painted a.output.now a.width a.height c.corner-area.result _ _ c.samples_mut.result.now c.pred_directional_to.new.samples c.corner-area.ensures
+    c.samples_mut.ensures.value c.pred_directional_to.ensures
+    (λ i j _ _ _. ap g.T.Pixel.pixel (ap (λ b. G b (num x) i j) c.block_in-block.ensures
+    ∙ ap (λ k. G (block_at a.output.now a.p_angle a.width a.height a.bit_depth a.ief_params) k i j) K))
