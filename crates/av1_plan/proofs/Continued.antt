@@ -1,5 +1,5 @@
 -- Behind a front that is spelled, the bytes of two formats in turn are those of the second: what they spell, and where they are refused.
-use Rattle.std.proofs.Common.{◌≡◌, ℕ, ◌+◌, ◌≤◌, List, [], ◌∷◌, ◌++◌, Option, length, refl, sym, ap, subst, ◌∙◌, append_assoc, arith}
+use Rattle.std.proofs.Common.{◌≡◌, ℕ, ◌+◌, ◌≤◌, List, [], ◌∷◌, ◌++◌, length, refl, sym, ap, subst, ◌∙◌, append_assoc, arith}
 use Rattle.std.specs.Int.{to_le_bytes}
 use Rattle.std.proofs.lemmas.List.{length-append}
 use Rattle.av1_plan.specs.declared.header.Header.{Header}
@@ -7,7 +7,7 @@ use Rattle.av1_plan.specs.Format.{Kind, Format, done, asks, ◌>>=◌, width, Is
 use Rattle.av1_plan.specs.Grammar.{header, references, plan, plan_behind}
 use Rattle.av1_plan.specs.Pieces.{PlanIsPieces, PiecesAreRefused}
 use Rattle.av1_plan.specs.Plan.{PlanValue}
-use Rattle.av1_plan.specs.Spelling.{IsProper, Spells, text, AreText, IsPrefix, IsLongest, AreRefused}
+use Rattle.av1_plan.specs.Spelling.{IsProper, Spells, text, AreText, IsPrefix, AreRefused}
 use Rattle.av1_plan.proofs.Fields.{field_again}
 use Rattle.av1_plan.proofs.Spelled.{ok_is}
 
@@ -85,7 +85,8 @@ module _ {A B : Type 0} (g : A → Format B) where
             ap length (text_on f vs x us s) ∙ omega (arith, length-append (text f vs) (text (g x) us), reached, ap length e),
           );
           longest = λ ws p prefix.
-              let le = longest_on f vs x rest at s r.first.longest ws p (subst (IsPrefix (text (f >>= g) ws)) (ap (λ (bytes : List ℕ). bytes ++ rest) e) prefix) in
+              let told = subst (IsPrefix (text (f >>= g) ws)) (ap (λ (bytes : List ℕ). bytes ++ rest) e) prefix in
+              let le = longest_on f vs x rest at s r.first.longest ws p told in
               omega (arith, le, ap length e);
         };
       }

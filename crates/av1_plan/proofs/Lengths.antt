@@ -1,13 +1,14 @@
 -- Formats whose texts all have one length.
-use Rattle.std.proofs.Common.{◌≡◌, ℕ, zero, suc, ◌+◌, ◌*◌, Bool, true, false, if◌then◌else◌, List, [], ◌∷◌, ◌++◌, Option, Some, None, length, refl, sym, ap, subst, ◌∙◌}
-use Rattle.std.proofs.Common.{add-one, arith}
+use Rattle.std.proofs.Common.{◌≡◌, ℕ, zero, suc, ◌+◌, ◌*◌, Bool, true, false, if◌then◌else◌, List, [], ◌∷◌, ◌++◌, Some, None, length, refl, ap, ◌∙◌}
+use Rattle.std.proofs.Common.{arith}
 use Rattle.std.specs.Prelude.{◌==◌, ◌^◌, nat_lt}
 use Rattle.std.specs.Int.{byte_len, to_le_bytes}
 use Rattle.std.proofs.lemmas.List.{length-append}
 use Rattle.av1_plan.specs.declared.header.Header.{Header}
 use Rattle.av1_plan.specs.Format.{one, two, four, any, Kind, Format, done, asks, ◌>>=◌, width, field, lone, ◌++>◌, in_turn}
 use Rattle.av1_plan.specs.Geometry.{plane_len, has_slot}
-use Rattle.av1_plan.specs.Grammar.{where_, byte_from, is_magic, is_side, is_depth, version, slots, frame, header, sample, plane, reference, slot_planes, references}
+use Rattle.av1_plan.specs.Grammar.{where_, byte_from, is_magic, is_side, is_depth, version, slots, frame, header, sample, plane, reference, slot_planes}
+use Rattle.av1_plan.specs.Grammar.{references}
 use Rattle.av1_plan.specs.Lengths.{HeadersAreTwenty, ReferencesAreSlots, slot_bytes, slots_held}
 use Rattle.av1_plan.specs.Spelling.{Spells, text}
 use Rattle.av1_plan.proofs.Carried.{apart}
@@ -48,7 +49,8 @@ abbrev total : (ℕ → ℕ) → ℕ → ℕ → ℕ
 total len i zero = 0
 total len i (suc n) = len i + total len (i + 1) n
 
-turns_length : {A : Type 0} (f : ℕ → Format (List A)) (len : ℕ → ℕ) → ((i : ℕ) → HasLength (f i) (len i)) → (i n : ℕ) → HasLength (in_turn f i n) (total len i n)
+turns_length : {A : Type 0} (f : ℕ → Format (List A)) (len : ℕ → ℕ) → ((i : ℕ) → HasLength (f i) (len i)) → (i n : ℕ) →
+    HasLength (in_turn f i n) (total len i n)
 unfolding in_turn
 turns_length f len each i zero = done_length []
 turns_length f len each i (suc n) = both_length (f i) (in_turn f (i + 1) n) (len i) (total len (i + 1) n) (each i) (turns_length f len each (i + 1) n)

@@ -15,8 +15,8 @@ use Rattle.av1_sequence.specs.Kept.{Kept}
 use Rattle.av1_sequence.specs.Outcomes.{Accepts, Refuses, RefusesPart, accepted, plan_over}
 
 -- leaves that the part of a frame spells are a plan over the slots
-pub part_text : (k : Kept) (head : FrameHead) (part : List ℕ) (leaves : List LeafValue) → AreText (superblocks (frame_header k.frames k.slots head)) part leaves →
-    IsFramePlan k.frames k.slots head part (plan_over k head leaves)
+pub part_text : (k : Kept) (head : FrameHead) (part : List ℕ) (leaves : List LeafValue) →
+    AreText (superblocks (frame_header k.frames k.slots head)) part leaves → IsFramePlan k.frames k.slots head part (plan_over k head leaves)
 part_text k head part leaves text = behind_text (frame_header k.frames k.slots head) (frame_references k.slots head) part leaves text
 
 -- a part that is refused in a frame with its header

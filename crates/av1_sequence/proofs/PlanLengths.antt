@@ -2,7 +2,7 @@
 use Rattle.std.proofs.Common.{ℕ, zero, suc, ◌+◌, ◌*◌, ◌≡◌, ◌≤◌, Bool, if◌then◌else◌, ◌++◌, length, refl, ap, ◌∙◌, arith}
 use Rattle.std.proofs.lemmas.List.{length-append}
 use Rattle.av1_plan.specs.declared.header.Header.{Header}
-use Rattle.av1_plan.specs.Geometry.{plane_height, plane_width, has_slot, xdec, ydec}
+use Rattle.av1_plan.specs.Geometry.{plane_height, plane_width, xdec, ydec}
 use Rattle.av1_plan.specs.Lengths.{slot_bytes, slots_held}
 use Rattle.av1_plan.proofs.Lengths.{headers_are_twenty, references_are_slots}
 use Rattle.av1_sequence.specs.declared.head.FrameHead.{FrameHead}

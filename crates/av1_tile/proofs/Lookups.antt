@@ -1,10 +1,9 @@
 -- Each step of a valid plan finds on the canvas what it looks up.
-use Rattle.std.proofs.Common.{ℕ, zero, suc, ◌+◌, ◌-◌, ◌<◌, ◌≤◌, ◌≡◌, Bool, true, false, ◌&&◌, ◌||◌, if◌then◌else◌, List, [], ◌∷◌, ◌++◌, Option, Some, None, refl}
-use Rattle.std.proofs.Common.{ap, arith, ◌∙◌, sym, subst, append_assoc}
+use Rattle.std.proofs.Common.{ℕ, zero, suc, ◌+◌, ◌-◌, ◌≤◌, ◌≡◌, Bool, true, false, ◌&&◌, ◌||◌, if◌then◌else◌, List, [], ◌∷◌, ◌++◌, Option, Some, None}
+use Rattle.std.proofs.Common.{refl, ap, arith, ◌∙◌, sym, subst, append_assoc}
 use Rattle.std.specs.Option.{is_some}
 use Rattle.std.specs.List.{flat_map, list_any}
 use Rattle.std.specs.Prelude.{⊤, nat_le, nat_lt}
-use Rattle.std.proofs.lemmas.Bool.Decides.{nat_tests}
 use Rattle.std.proofs.lemmas.Bool.{and_parts, leb-true, ltb-true, le-leb, lt-ltb}
 use Rattle.std.proofs.lemmas.List.{append-nil, map-append}
 use Rattle.std.proofs.lemmas.List.Folds.{list_any-append}
@@ -24,11 +23,12 @@ use Rattle.av1_tile.specs.declared.plane_block.Prediction.{Prediction}
 use Rattle.av1_tile.specs.declared.plane_block.Prediction.TheVariants as predictions
 use Rattle.av1_tile.specs.Canvas.{Component, Y, U, V, Written, is_same}
 use Rattle.av1_tile.specs.Edge.{sample_of}
-use Rattle.av1_tile.specs.Lookups.{EdgeIsThere, IsThere, KnowsSides, OutputIsThere, PredictionFinds, StepFinds, StepIsAnswered, StepsAreAnswered, StepsFindSamples}
+use Rattle.av1_tile.specs.Lookups.{EdgeIsThere, IsThere, KnowsSides, OutputIsThere, PredictionFinds, StepFinds, StepIsAnswered, StepsAreAnswered}
+use Rattle.av1_tile.specs.Lookups.{StepsFindSamples}
 use Rattle.av1_tile.specs.PlaneBlocks.{number, components_of, extent_of, is_whole, plane_block, triples_in}
 use Rattle.av1_tile.specs.Reference.{slow_walk}
-use Rattle.av1_tile.specs.Steps.{Step, predict, add, PlaneStep, block_area, block_steps, component_steps, in_component, joined, leaf_steps, plane_steps, steps, steps_after}
-use Rattle.av1_tile.specs.Steps.{steps_at, steps_of, whole_area}
+use Rattle.av1_tile.specs.Steps.{Step, predict, add, PlaneStep, block_area, block_steps, component_steps, in_component, joined, leaf_steps, plane_steps, steps}
+use Rattle.av1_tile.specs.Steps.{steps_after, steps_at, steps_of, whole_area}
 use Rattle.av1_tile.specs.Walk.{answer_low, answer_right, has_edge}
 use Rattle.av1_tile.proofs.LeafTurns.{each_append, plan_ready}
 use Rattle.av1_tile.proofs.Loops.{joined_more}
@@ -124,7 +124,8 @@ module _ (h : Header) (k : Component) (block : PlaneBlock) (triples : List Tripl
     unfolding steps_at
     one_adds before n written = by (transform_block h block.plane block.area n) refl
       where
-        by : (o : Option TransformBlock) → transform_block h block.plane block.area n ≡ o → Each StepAddsTo before (in_component k (block_steps block triples n o))
+        by : (o : Option TransformBlock) → transform_block h block.plane block.area n ≡ o →
+            Each StepAddsTo before (in_component k (block_steps block triples n o))
         by None at = tt
         by (Some b) at =
             subst (λ (t : Bool). Each StepAddsTo before (in_component k (if t then add block triples n (block_area block b) ∷ []

@@ -62,7 +62,8 @@ pub record IsLeafAt (leaves : Leaves) (i : ℕ) (l : Leaf) (y u v : List Triple)
   pub v_is : v ≡ triples_in V (leaf_value (triple_list leaves) l)
 
 pub is_leaf_at : (leaves : Leaves) (i : ℕ) (xs : List Leaf) (d : Leaf) (y u v : List Triple) → xs ≡ leaf_list leaves → i < length xs →
-    y ≡ leaf_triples (leaves_value leaves) i 0 → u ≡ leaf_triples (leaves_value leaves) i 1 → v ≡ leaf_triples (leaves_value leaves) i 2 → IsLeafAt leaves i (get_or xs i d) y u v
+    y ≡ leaf_triples (leaves_value leaves) i 0 → u ≡ leaf_triples (leaves_value leaves) i 1 → v ≡ leaf_triples (leaves_value leaves) i 2 →
+    IsLeafAt leaves i (get_or xs i d) y u v
 is_leaf_at leaves i xs d y u v are inside y_is u_is v_is =
     let ts = triple_list leaves in
     let ls = leaf_list leaves in
@@ -327,8 +328,8 @@ fits_listed h p ts l f = record {
 }
 
 -- leaf i fits as it was read
-pub turn_fits : {T : Type 0} (leaves : Leaves) (h : Header) (i : ℕ) (l : Leaf) (y u v : List Triple) (p q : Planes T) → IsLeafAt leaves i l y u v → SameLayout p q →
-    All (LeafFits h p) (leaves_value leaves)
+pub turn_fits : {T : Type 0} (leaves : Leaves) (h : Header) (i : ℕ) (l : Leaf) (y u v : List Triple) (p q : Planes T) → IsLeafAt leaves i l y u v →
+    SameLayout p q → All (LeafFits h p) (leaves_value leaves)
     → LeafFits h q (leaf_with l y u v)
 turn_fits leaves h i l y u v p q a same fits =
     let ts = triple_list leaves in

@@ -14,7 +14,7 @@ use Rattle.av1_tile.specs.Canvas.{Written}
 
 -- ---- what is known
 
--- a sample that was written, else 0
+-- a sample that was written, else 0: at a valid plan none is looked up that was not (Lookups.antt)
 abbrev pub sample_of : Option ℕ → ℕ
 sample_of o = unwrap_or o 0
 

@@ -1,6 +1,7 @@
 -- What the slow walk looks up has been written before, at each of its steps and at its end: no sample that is absent
 -- counts as 0.
-use Rattle.std.specs.Prelude.{◌≡◌, ℕ, suc, ◌+◌, ◌-◌, ◌<◌, ◌&&◌, ◌||◌, Bool, true, nat_lt, min, None, List, ◌∷◌, ◌++◌, is_some}
+use Rattle.std.specs.Prelude.{◌≡◌, ℕ, suc, ◌+◌, ◌-◌, ◌<◌, ◌&&◌, ◌||◌, Bool, true, nat_lt, min, None, List, ◌∷◌}
+use Rattle.std.specs.Prelude.{◌++◌, is_some}
 use Rattle.std.specs.List.{fold}
 use Rattle.av1_frame.specs.Areas.{VisibleArea, in_visible}
 use Rattle.av1_intra.specs.ChromaFromLuma.{chroma_block, columns_read, rows_read, first_column, first_row}
@@ -98,4 +99,5 @@ StepIsAnswered h canvas k (add block triples n a) = Unit {0}
 
 -- the tables answer what coding order has, at each step of a valid plan
 abbrev pub StepsAreAnswered : Type 0
-StepsAreAnswered = (plan : PlanValue) → IsSpelled grammar plan → first_fault plan ≡ None → AtEachStep StepIsAnswered plan
+StepsAreAnswered =
+    (plan : PlanValue) → IsSpelled grammar plan → first_fault plan ≡ None → AtEachStep StepIsAnswered plan

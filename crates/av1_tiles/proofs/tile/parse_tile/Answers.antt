@@ -23,14 +23,16 @@ bytes c =
 
 pub returns-clause-found : goal.returns-clause-found
 returns-clause-found c =
-    subst (λ (f : Format PlanValue). IfOk c.parse_plan_behind.result (λ p. AreText f (part_of (file_value c.args.file.now) c.args.index) (plan_value p))) (format c)
+    subst (λ (f : Format PlanValue). IfOk c.parse_plan_behind.result (λ p. AreText f (part_of (file_value c.args.file.now) c.args.index) (plan_value p)))
+    (format c)
     (subst (λ (part : List ℕ). IfOk c.parse_plan_behind.result
     (λ p. AreText (plan_behind c.tile_header-header.result (slot_values c.in_ok-references.references.items)) part (plan_value p)))
     (bytes c) c.parse_plan_behind.ensures.found)
 
 pub returns-clause-refused : goal.returns-clause-refused
 returns-clause-refused c =
-    subst (λ (f : Format PlanValue). IfMalformed c.parse_plan_behind.result (λ at. AreRefused f (part_of (file_value c.args.file.now) c.args.index) at)) (format c)
+    subst (λ (f : Format PlanValue). IfMalformed c.parse_plan_behind.result (λ at. AreRefused f (part_of (file_value c.args.file.now) c.args.index) at))
+    (format c)
     (subst (λ (part : List ℕ). IfMalformed c.parse_plan_behind.result
     (λ at. AreRefused (plan_behind c.tile_header-header.result (slot_values c.in_ok-references.references.items)) part at))
     (bytes c) c.parse_plan_behind.ensures.refused)
