@@ -1,9 +1,9 @@
--- What a builder holds.
+-- How far a plan in the making has come, with its bytes.
 use Rattle.std.specs.Prelude.{List, ℕ, ◌++◌}
-use Rattle.av1_planwrite.specs.declared.builder.PlanBuilder.{PlanBuilder}
+use Rattle.av1_plan.specs.Plan.{PlanValue}
 use Rattle.av1_planwrite.specs.declared.progress.Progress.{Progress}
 use Rattle.av1_planwrite.specs.Asked.{superblocks_from}
-use Rattle.av1_planwrite.specs.Building.{Building}
+use Rattle.av1_planwrite.specs.Building.{Building, Tells}
 
 -- a plan that has come so far, of which these are the bytes
 abbrev pub built : Progress → List ℕ → Building
@@ -15,6 +15,6 @@ built p bytes =
       bytes = bytes;
     }
 
--- the plan that is built
-abbrev pub building : PlanBuilder → Building
-building b = built b.progress b.text.bytes.items
+-- the bytes of a plan in the making tell of some plan
+abbrev pub TellsSome : Building → Type 0
+TellsSome b = (p : PlanValue) × Tells b p

@@ -5,6 +5,7 @@ pub mod MarkLaws
 pub mod Asked
 pub mod Building
 pub mod Builder
+pub mod Held
 pub mod Stacks
 pub mod States
 pub mod Samples

@@ -1,5 +1,7 @@
 //! Plans built field by field, as an encoder comes to them.
 
+ghost use Rattle.av1_planwrite.specs.Builder.{built, TellsSome};
+
 use crate::error::BuildError;
 use crate::progress::Progress;
 use crate::text::Text;
@@ -21,6 +23,8 @@ use std::alloc::Global;
 pub struct PlanBuilder {
     progress: Progress,
     text: Text,
+    // The bytes are the fields of a proper list of the plan grammar, which tells of some plan.
+    ghost tells: { ∥ TellsSome (built progress text.bytes.items) ∥₁ },
 }
 
 impl PlanBuilder {
@@ -28,7 +32,7 @@ impl PlanBuilder {
     ghost use Rattle.av1_plan.specs.Grammar.{plan};
     ghost use Rattle.av1_plan.specs.Plan.{PlanValue};
     ghost use Rattle.av1_plan.specs.Spelling.{AreText};
-    ghost use Rattle.av1_planwrite.specs.Builder.{building};
+    ghost use Rattle.av1_planwrite.specs.Held.{building};
     ghost use Rattle.av1_planwrite.specs.Building.{
       asked_part,
       Answers,
@@ -171,7 +175,9 @@ impl PlanBuilder {
     pub fn finish(self) -> Result<Vec<u8>, PlanBuilder>
         ensures complete { IfOk result (λ bytes. asks_more (building self) ≡ false) }
         ensures bytes { IfOk result (λ bytes. bytes.items ≡ (building self).bytes) }
-        // They are the text of the plan of which all is told.
+        // They are the text of a plan, whatever was given.
+        ensures of_some { IfOk result (λ bytes. ∥ (p : PlanValue) × AreText plan bytes.items p ∥₁) }
+        // They are that of the plan of which all is told.
         ensures text { (p : PlanValue) → Tells (building self) p → IfOk result (λ bytes. AreText plan bytes.items p) }
         ensures asked { IfErr result (λ b. asks_more (building self) ≡ true) }
         ensures kept { IfErr result (λ b. b ≡ self) }

@@ -1,6 +1,8 @@
 use Rattle.std.proofs.Common.{◌≡◌, ◌++◌, List, ℕ, true, sym, ap, subst, ◌∙◌, All}
 use Rattle.std.specs.Prelude.{is_some}
-use Rattle.av1_planwrite.specs.Builder.{building, built}
+use Rattle.std.proofs.Math.Logic.{∥∥₁_map}
+use Rattle.av1_planwrite.specs.Builder.{built}
+use Rattle.av1_planwrite.specs.Held.{building}
 use Rattle.av1_planwrite.specs.Building.{Building, LeafFields, Tells, asked_part, plan_with_leaf}
 use Rattle.av1_planwrite.specs.Given.{FitsTriple}
 use Rattle.av1_planwrite.specs.Text.{fields_text}
@@ -47,3 +49,16 @@ returns-clause-told c = λ p t.
     let k = c.in_ok-check_leaf.ensures in
     subst (λ (b : Building). Tells b (plan_with_leaf p (asked_part (building s)) l)) (sym (returns-clause-given c))
     (leaf_tells (building s) p l t k.asked k.admitted k.fits y_fit u_fit v_fit)
+
+pub invariant_of-self : goal.invariant_of-self
+invariant_of-self c =
+    let l : LeafFields = record {
+      kind = c.args.kind.now;
+      tx_size = c.args.tx_size;
+      tx_type = c.args.tx_type;
+      uv_type = c.args.uv_type;
+      y = c.args.y.now;
+      u = c.args.u.now;
+      v = c.args.v.now;
+    } in
+    (∥∥₁_map c.args.self.now.tells (λ t. (plan_with_leaf t.0 (asked_part (building c.args.self.now)) l, returns-clause-told c t.0 t.1)), tt)

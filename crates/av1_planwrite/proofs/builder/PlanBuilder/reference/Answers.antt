@@ -1,4 +1,5 @@
 use Rattle.std.proofs.Common.{◌≡◌, ◌++◌, List, ℕ, ap, sym, subst, ◌∙◌}
+use Rattle.std.proofs.Math.Logic.{∥∥₁_map}
 use Rattle.av1_planwrite.specs.Builder.{built}
 use Rattle.av1_planwrite.specs.Building.{Tells, plan_with_reference}
 use Rattle.av1_planwrite.specs.Text.{plane_text}
@@ -27,3 +28,7 @@ returns-clause-told c = λ p t.
     subst (λ (bytes : List ℕ). Tells (built c.pass_reference.new.self bytes) (plan_with_reference p c.args.y.now c.args.u.now c.args.v.now))
     (sym (c.in_ok-settle.ensures.kept ∙ written))
     (c.pass_reference.ensures.told items c.args.y.now c.args.u.now c.args.v.now p t c.in_ok-check_reference.ensures.admitted)
+
+pub invariant_of-self : goal.invariant_of-self
+invariant_of-self c =
+    (∥∥₁_map c.args.self.now.tells (λ t. (plan_with_reference t.0 c.args.y.now c.args.u.now c.args.v.now, returns-clause-told c t.0 t.1)), tt)
