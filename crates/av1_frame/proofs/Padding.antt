@@ -62,7 +62,8 @@ module _ {T : Type 0} (p q t : Plane T) (stride y : ℕ) (whole : IsWhole p) (sa
       h ∙ ap (λ (u : ℕ). record q { samples = with_part (y * u) q.samples new }) same
       ∙ ap (λ (u : Plane T). record u { samples = with_part (y * n) u.samples new }) e
       ∙ ap (λ (v : List T). record p { samples = v })
-      (sides_more n cfg.xorigin cfg.width first y cfg.alloc_height p.samples new whole.some_columns (omega (arith, whole.visible_columns)) whole.fills behind row a)
+      (sides_more n cfg.xorigin cfg.width first y cfg.alloc_height p.samples new whole.some_columns (omega (arith, whole.visible_columns)) whole.fills
+      behind row a)
 
 -- all those rows are copies
 pub rows_copied : {T : Type 0} (p t : Plane T) (from first y end : ℕ) → y ≡ end → t ≡ gathered_plane p (row_place p.plane_cfg.stride from first y) →

@@ -52,7 +52,8 @@ impl<T: Pixel> Plane<T> {
             in self.new ≡
             record self.old {
               samples = gathered (λ k. k / cfg.stride * cfg.stride
-                  + (if nat_le cfg.yorigin (k / cfg.stride) && nat_lt (k / cfg.stride) (cfg.yorigin + cfg.height) then nearest cfg.xorigin cfg.width (k % cfg.stride)
+                  + (if nat_le cfg.yorigin (k / cfg.stride) && nat_lt (k / cfg.stride) (cfg.yorigin + cfg.height)
+                  then nearest cfg.xorigin cfg.width (k % cfg.stride)
                   else k % cfg.stride)) self.old.samples;
             } }
     {

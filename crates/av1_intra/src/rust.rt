@@ -194,15 +194,7 @@ pub fn pred_directional<T: Pixel>(
     let stride = output.plane_cfg.stride;
     let area = output.corner(width, height);
     let corner = top_left[0];
-    pred_directional_to(
-        output.rows_mut(),
-        stride,
-        area,
-        above,
-        left,
-        corner,
-        block,
-    );
+    pred_directional_to(output.rows_mut(), stride, area, above, left, corner, block);
 }
 
 /// Each sample becomes `value`.

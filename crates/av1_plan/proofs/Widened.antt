@@ -24,7 +24,8 @@ byte_read at b bs = search rules
 abbrev byte : ℕ → Format (List ℕ)
 byte i = lone (field (any one))
 
-bytes_read : (n i at : ℕ) (bs : List ℕ) → n ≤ length bs → read (in_turn byte i n) (record { at = at; rest = bs }) ≡ Ok (take n bs, record { at = at + n; rest = drop n bs })
+bytes_read : (n i at : ℕ) (bs : List ℕ) → n ≤ length bs →
+    read (in_turn byte i n) (record { at = at; rest = bs }) ≡ Ok (take n bs, record { at = at + n; rest = drop n bs })
 unfolding in_turn
 bytes_read zero i at bs le = ap (λ (k : ℕ). Ok ([], record { at = k; rest = bs })) (omega arith)
 bytes_read (suc n) i at [] le = absurd (omega (arith, le))

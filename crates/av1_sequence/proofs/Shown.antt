@@ -50,8 +50,12 @@ module _ (h : Header) (p : ℕ) (plane : Plane ℕ) (stores : Stores own h p pla
       let cfg = plane.plane_cfg in
       let s = plane.samples in
       let from = nearest cfg.yorigin cfg.height (k / cfg.stride) * cfg.stride + nearest cfg.xorigin cfg.width (k % cfg.stride) in
-      let at : k < length s = omega (arith, l, length-gathered (λ k. nearest cfg.yorigin cfg.height (k / cfg.stride) * cfg.stride
-      + nearest cfg.xorigin cfg.width (k % cfg.stride)) s) in
+      let at : k < length s = omega (
+        arith,
+        l,
+        length-gathered (λ k. nearest cfg.yorigin cfg.height (k / cfg.stride) * cfg.stride
+            + nearest cfg.xorigin cfg.width (k % cfg.stride)) s,
+      ) in
       subst (λ (v : ℕ). v < 2 ^ h.depth)
       (sym (get_or-update (λ k v. get_or s (nearest cfg.yorigin cfg.height (k / cfg.stride) * cfg.stride + nearest cfg.xorigin cfg.width (k % cfg.stride)) v)
       s k d at))

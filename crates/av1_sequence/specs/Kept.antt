@@ -79,4 +79,5 @@ pub record KeepsFrames (h : Header) (fi : FrameInvariants ℕ) (places : List (O
   pub count : length fi.slots ≡ 8
   pub eight : length places ≡ 8
   pub kept : (s place : ℕ) → s < 8 → slice_index_or places s None ≡ Some place → IsKeptAt h fi place
-  pub again : (place : ℕ) (t : Slot ℕ) → slice_index_or fi.slots place None ≡ Some t → AreReady h (record { y = t.y; u = t.u; v = t.v })
+  pub again : (place : ℕ) (t : Slot ℕ) → slice_index_or fi.slots place None ≡ Some t →
+      AreReady h (record { y = t.y; u = t.u; v = t.v })

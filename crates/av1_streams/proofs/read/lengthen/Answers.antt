@@ -8,6 +8,7 @@ loop-run-preserved c =
     let held = c.loop-run.invariant in
     record {
       len = omega (arith, c.in_ok-resize.ensures.len);
-      front = front_stays (vec_len c.reserve_exact.new.self) (c.len-start.result + (c.loop-run.run + 1) * 1024) _ _ c.reserve_exact.new.self.items b.items _ held.front
+      front = front_stays (vec_len c.reserve_exact.new.self)
+          (c.len-start.result + (c.loop-run.run + 1) * 1024) _ _ c.reserve_exact.new.self.items b.items _ held.front
           (omega (arith, c.len-start.ensures, c.reserve_exact.ensures.len)) (omega (arith, held.len, b.ok.0)) c.in_ok-resize.ensures.items;
     }

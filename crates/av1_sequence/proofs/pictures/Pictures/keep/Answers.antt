@@ -13,7 +13,8 @@ invariant_of-self c =
     let are : AreReplaced c.args.self.now.places next.result c.args.refresh place.result =
     record { below = place.ensures.below; free = place.ensures.free; count = next.ensures.count; new = next.ensures.new; old = next.ensures.old } in
     let put =
-    put_in c.args.self.now.fi c.replace_slot-before.new.self c.args.planes c.from.ensures c.pad.ensures.all c.pad-2.ensures.all c.pad-3.ensures.all c.replace_slot-before.ensures.after
+    put_in c.args.self.now.fi c.replace_slot-before.new.self c.args.planes c.from.ensures c.pad.ensures.all c.pad-2.ensures.all c.pad-3.ensures.all
+    c.replace_slot-before.ensures.after
     in
     record { keeps = put_keeps c.requires.ready c.args.self.now.keeps are put }
 
@@ -24,7 +25,8 @@ returns-clause-slots c =
     let are : AreReplaced c.args.self.now.places next.result c.args.refresh place.result =
     record { below = place.ensures.below; free = place.ensures.free; count = next.ensures.count; new = next.ensures.new; old = next.ensures.old } in
     let put =
-    put_in c.args.self.now.fi c.replace_slot-before.new.self c.args.planes c.from.ensures c.pad.ensures.all c.pad-2.ensures.all c.pad-3.ensures.all c.replace_slot-before.ensures.after
+    put_in c.args.self.now.fi c.replace_slot-before.new.self c.args.planes c.from.ensures c.pad.ensures.all c.pad-2.ensures.all c.pad-3.ensures.all
+    c.replace_slot-before.ensures.after
     in
     put_slots c.requires.ready c.args.self.now.keeps are put
 
@@ -35,7 +37,8 @@ returns-clause-shown c =
     let are : AreReplaced c.args.self.now.places next.result c.args.refresh place.result =
     record { below = place.ensures.below; free = place.ensures.free; count = next.ensures.count; new = next.ensures.new; old = next.ensures.old } in
     let put =
-    put_in c.args.self.now.fi c.replace_slot-before.new.self c.args.planes c.from.ensures c.pad.ensures.all c.pad-2.ensures.all c.pad-3.ensures.all c.replace_slot-before.ensures.after
+    put_in c.args.self.now.fi c.replace_slot-before.new.self c.args.planes c.from.ensures c.pad.ensures.all c.pad-2.ensures.all c.pad-3.ensures.all
+    c.replace_slot-before.ensures.after
     in
     put_shown c.requires.ready c.args.self.now.keeps are put
 
@@ -46,7 +49,8 @@ returns-clause-kept c =
     let are : AreReplaced c.args.self.now.places next.result c.args.refresh place.result =
     record { below = place.ensures.below; free = place.ensures.free; count = next.ensures.count; new = next.ensures.new; old = next.ensures.old } in
     let put =
-    put_in c.args.self.now.fi c.replace_slot-before.new.self c.args.planes c.from.ensures c.pad.ensures.all c.pad-2.ensures.all c.pad-3.ensures.all c.replace_slot-before.ensures.after
+    put_in c.args.self.now.fi c.replace_slot-before.new.self c.args.planes c.from.ensures c.pad.ensures.all c.pad-2.ensures.all c.pad-3.ensures.all
+    c.replace_slot-before.ensures.after
     in
     put_stands c.requires.ready c.args.self.now.keeps are put
 

@@ -3,7 +3,8 @@ use Rattle.av1_plan.specs.declared.header.Header.{Header}
 use Rattle.av1_plan.specs.Answer.{leaves_value}
 use Rattle.av1_sequence.specs.Kept.{AreReady}
 use Rattle.av1_sequence.specs.Outcomes.{plan_over}
-use Rattle.av1_sequence.proofs.Framed.{apart_accepted, kept_accepted, not_placed, own_read, own_ready, placed_there, plan_is_over, ready_again, ready_held, ready_still, room_over}
+use Rattle.av1_sequence.proofs.Framed.{apart_accepted, kept_accepted, not_placed, own_read, own_ready, placed_there, plan_is_over, ready_again, ready_held}
+use Rattle.av1_sequence.proofs.Framed.{ready_still, room_over}
 use Rattle.av1_sequence.proofs.Framed.{not_apart, room_still}
 use Rattle.av1_sequence.proofs.sequence.Sequence.show.Goals as goal
 
