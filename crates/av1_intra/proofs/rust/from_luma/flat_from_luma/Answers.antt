@@ -3,7 +3,11 @@ use Rattle.std.proofs.lemmas.Int.{to_z-of_z}
 use Rattle.av1_frame.specs.declared.plane_region.StoredArea.{StoredArea}
 use Rattle.av1_frame.proofs.Regions.{lent_painted}
 use Rattle.av1_intra.specs.ChromaFromLuma.{ac_at, from_luma}
+use Rattle.av1_intra.proofs.Lending.{block_rows}
 use Rattle.av1_intra.proofs.rust.from_luma.flat_from_luma.Goals as goal
+
+pub pred_cfl_to-requires-clause-rows : goal.pred_cfl_to-requires-clause-rows
+pred_cfl_to-requires-clause-rows g c = block_rows c.requires.block c.corner-area.ensures c.rows_mut.ensures.value
 
 pub pred_cfl_to-requires-clause-ac_long : goal.pred_cfl_to-requires-clause-ac_long
 pred_cfl_to-requires-clause-ac_long g c =
