@@ -126,7 +126,7 @@ module _ {A E K : Type 0} (IsMade : List ℕ → Type 0) (task_cause : E → Cau
       EndsMade IsMade taken faults sink sink' (error_status cause)
   error_made e no_memory is w = record {
     done = λ h. absurd cc;
-    memory = λ h. (w.unwritten (λ write. absurd cc)).2;
+    memory = λ h. (w.unwritten (λ write. absurd cc)).1;
     write_fault = λ h. absurd cc;
     no_other = inr (inl refl);
     complete = λ no_write. inr refl;
@@ -138,9 +138,9 @@ module _ {A E K : Type 0} (IsMade : List ℕ → Type 0) (task_cause : E → Cau
     no_other = inr (inr refl);
     complete = λ no_write. absurd (no_write (w.write_fault is));
   }
-  error_made e read_failed is w = absurd (let it = (w.unwritten (λ write. absurd cc)).1 in absurd cc)
-  error_made e too_long is w = absurd (let it = (w.unwritten (λ write. absurd cc)).1 in absurd cc)
-  error_made e refused is w = absurd (let it = (w.unwritten (λ write. absurd cc)).1 in absurd cc)
+  error_made e read_failed is w = let memory = (w.unwritten (λ write. absurd cc)).0 in absurd cc
+  error_made e too_long is w = let memory = (w.unwritten (λ write. absurd cc)).0 in absurd cc
+  error_made e refused is w = let memory = (w.unwritten (λ write. absurd cc)).0 in absurd cc
 
   pub ends_made : (done : A → ℕ) (status : ℕ) (answer : Result A E) → ((a : A) → done a ≡ 0) → status ≡ answer_status task_cause done answer
       → WritesBytes task_cause taken faults sink sink' bytes answer → EndsMade IsMade taken faults sink sink' status
