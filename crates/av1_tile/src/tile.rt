@@ -10,6 +10,7 @@ ghost use Rattle.av1_tile.specs.Walk.{cell_at, edges_after, fast_step, steps_by,
 
 use crate::buffers::WalkBuffers;
 use crate::cells::CodedCells;
+use crate::frame::WalkedFrame;
 use crate::leaf::reconstruct_leaf;
 use crate::planes::Planes;
 use av1_frame::{FrameInvariants, Pixel};
@@ -43,12 +44,15 @@ pub fn reconstruct_leaves<T: Pixel>(
 {
     for index in 0..leaves.leaves().len() {
         let leaf = &leaves.leaves()[index];
+        let frame = WalkedFrame {
+            header,
+            fi,
+            cells: &*cells,
+        };
         reconstruct_leaf(
             planes,
             buffers,
-            fi,
-            header,
-            cells,
+            &frame,
             leaf,
             leaves.triples(index, 0),
             leaves.triples(index, 1),
