@@ -1,5 +1,5 @@
 //! Writes the rows of calls on blocks to standard output, as docs/ROWS.md says, each with the answer of rav1e's own function. Which calls they
-//! are its own numbers decide, so that they are the same each time. `record_rows.py` builds and runs it.
+//! are the seed decides that it is given, 1 where it is given none. `record_rows.py` and `draw_calls.py` build and run it.
 #![allow(dead_code, unused_imports, unused_unsafe, non_upper_case_globals, unexpected_cfgs, clippy::all)]
 
 include!("numbers.rs");
@@ -20,7 +20,8 @@ mod transform;
 mod transform_rows;
 
 fn main() {
-    let pick = &mut calls::Numbers::new(1);
+    let seed = std::env::args().nth(1).map_or(1, |word| word.parse().expect("a seed is a number"));
+    let pick = &mut calls::Numbers::new(seed);
     transform_rows::networks(pick);
     transform_rows::transforms(pick);
     motion_rows::puts(pick);

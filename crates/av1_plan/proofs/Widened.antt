@@ -2,8 +2,8 @@
 use lib.Seq.{take-add}
 use Rattle.std.proofs.Common.{rules, ◌≡◌, ℕ, zero, suc, ◌+◌, ◌*◌, ◌≤◌, List, [], ◌∷◌, ◌++◌, length, take, drop, Ok, refl, sym, ap, ◌∙◌, arith}
 use Rattle.std.proofs.lemmas.List.{length-drop, length-take-le, take_all}
-use Rattle.av1_plan.specs.Format.{one, any, field, Format, done, Input, Reading, read_field, read, lone, in_turn}
-use Rattle.av1_plan.specs.Grammar.{sample, plane}
+use Rattle.av1_plan.specs.Format.{one, any, field, Format, done, Input, read_field, read, lone, in_turn}
+use Rattle.av1_plan.specs.Grammar.{plane}
 use Rattle.av1_plan.proofs.Formats.{read_bind}
 
 -- one more run of 64
