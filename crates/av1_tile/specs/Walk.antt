@@ -439,6 +439,27 @@ pub record IsWalked {T : Type 0} (num : T → ℕ) (bits : ℕ) (frame : WalkedF
   pub cells : HasCells frame.header.now frame.cells.now
   pub references : (value : PlanValue) × ServesPlan num (with_header frame.header.now value) frame.fi.now
 
+-- plane p of a frame that can be read, of a depth that samples of so many bits have
+pub record HoldsPlane {T : Type 0} (num : T → ℕ) (bits : ℕ) (h : Header) (p : ℕ) (plane : Plane T) : Type 0 where
+  pub frame : IsReadFrame h
+  pub depth : h.depth ≤ bits
+  pub stores : Stores num h p plane
+
+-- the plane after steps: it goes on storing its part of the frame, laid out as before
+pub record KeepsPlane {T : Type 0} (num : T → ℕ) (h : Header) (p : ℕ) (before after : Plane T) : Type 0 where
+  pub stores : Stores num h p after
+  pub config : after.plane_cfg ≡ before.plane_cfg
+
+-- what steps of a block make of its plane, in any plan with this header; `luma` is how far luma is from its mean, row
+-- by row
+abbrev pub Walks : {T : Type 0} → (T → ℕ) → (ℕ → T) → Header → PlaneBlock → (luma : List ℤ) → List Step →
+    (before after : Plane T) → Type 0
+Walks num pixel h block luma steps before after =
+    (value : PlanValue) →
+    after ≡
+    fold (fast_in num pixel (with_header h value) block.plane (λ _. ac_at (tx_width block.area.tx_size) luma))
+    before steps
+
 -- a leaf's block in plane p of it
 abbrev pub block_in : {T : Type 0} → WalkedFrame T → (p : ℕ) → Leaf → PlaneBlock
 block_in frame p leaf = block_by frame.header.now (cell_at frame.cells.now) (component p) (leaf_with leaf [] [] [])

@@ -16,7 +16,7 @@ ghost use Rattle.av1_tile.specs.PlaneBlocks.{block_told, component, is_whole, pr
 ghost use Rattle.av1_tile.specs.Reference.{no_luma};
 ghost use Rattle.av1_tile.specs.Steps.{own_prediction, whole_area, whole_steps, plane_steps, steps_at, steps_of, joined};
 ghost use Rattle.av1_tile.specs.Walk.{area_at, block_by, cell_at, Begins, edges_in, edges_after, fast_in, fast_step, leaf_with, BlockFits, HasCells, IsPlaceIn};
-ghost use Rattle.av1_tile.specs.Walk.{block_in, IsWalked, LeafFits, PredictionFits, SameLayout, Stores, StoresAll, with_header};
+ghost use Rattle.av1_tile.specs.Walk.{block_in, HoldsPlane, IsWalked, KeepsPlane, PredictionFits, Stores, Walks, with_header};
 
 use crate::block::{BlockPlace, EdgePrediction, add_block, predict_from_edge};
 use crate::buffers::WalkBuffers;
@@ -81,16 +81,12 @@ fn predict_block<T: Pixel>(
     block: &PlaneBlock,
     at: BlockPlace,
 )
-    requires frame { IsReadFrame header.now }
-    requires stores { Stores T.num header.now block.now.plane plane.old }
-    requires depth { header.now.depth ≤ T.BITS }
+    requires held { HoldsPlane T.num T.BITS header.now block.now.plane plane.old }
     requires place { IsPlaceIn header.now block.now at }
     requires fits { InPlane (area_at block.now at) plane.old }
     requires prediction { PredictionFits header.now block.now.plane block.now.area block.now.prediction }
-    ensures walked { (value : PlanValue) →
-        plane.new ≡
-        fold (fast_in T.num T.pixel (with_header header.now value) block.now.plane (λ _. ac_at (tx_width block.now.area.tx_size) buffers.old.luma.items))
-        plane.old (own_prediction block.now at.number (area_at block.now at)) }
+    ensures walked { Walks T.num T.pixel header.now block.now buffers.old.luma.items (own_prediction block.now at.number (area_at block.now at)) plane.old
+        plane.new }
     ensures counted { buffers.new.edges.prepared ≡ fold edges_in buffers.old.edges.prepared (own_prediction block.now at.number (area_at block.now at)) }
     ensures luma { buffers.new.luma.items ≡ buffers.old.luma.items }
 {
@@ -128,20 +124,14 @@ fn reconstruct_block<T: Pixel>(
     at: BlockPlace,
     triples: &[Triple],
 )
-    requires frame { IsReadFrame header.now }
-    requires stores { Stores T.num header.now block.now.plane plane.old }
-    requires depth { header.now.depth ≤ T.BITS }
+    requires held { HoldsPlane T.num T.BITS header.now block.now.plane plane.old }
     requires place { IsPlaceIn header.now block.now at }
     requires fits { BlockFits plane.old.plane_cfg header.now block.now triples.now }
     requires found { transform_block header.now block.now.plane block.now.area at.number ≡ Some (record { x = at.x; y = at.y }) }
-    ensures walked { (value : PlanValue) →
-        plane.new ≡
-        fold (fast_in T.num T.pixel (with_header header.now value) block.now.plane (λ _. ac_at (tx_width block.now.area.tx_size) buffers.old.luma.items))
-        plane.old (steps_at header.now block.now triples.now at.number) }
+    ensures walked { Walks T.num T.pixel header.now block.now buffers.old.luma.items (steps_at header.now block.now triples.now at.number) plane.old plane.new }
     ensures counted { buffers.new.edges.prepared ≡ fold edges_in buffers.old.edges.prepared (steps_at header.now block.now triples.now at.number) }
     ensures luma { buffers.new.luma.items ≡ buffers.old.luma.items }
-    ensures stores { Stores T.num header.now block.now.plane plane.new }
-    ensures config { plane.new.plane_cfg ≡ plane.old.plane_cfg }
+    ensures kept { KeepsPlane T.num header.now block.now.plane plane.old plane.new }
 {
     predict_block(plane, buffers, header, block, at);
     add_block(
@@ -193,19 +183,14 @@ fn reconstruct_blocks<T: Pixel>(
     block: &PlaneBlock,
     triples: &[Triple],
 )
-    requires frame { IsReadFrame header.now }
-    requires stores { Stores T.num header.now block.now.plane plane.old }
-    requires depth { header.now.depth ≤ T.BITS }
+    requires held { HoldsPlane T.num T.BITS header.now block.now.plane plane.old }
     requires fits { BlockFits plane.old.plane_cfg header.now block.now triples.now }
-    ensures walked { (value : PlanValue) →
-        plane.new ≡
-        fold (fast_in T.num T.pixel (with_header header.now value) block.now.plane (λ _. ac_at (tx_width block.now.area.tx_size) buffers.old.luma.items))
-        plane.old (joined (block_count block.now.area) (steps_at header.now block.now triples.now)) }
+    ensures walked { Walks T.num T.pixel header.now block.now buffers.old.luma.items
+        (joined (block_count block.now.area) (steps_at header.now block.now triples.now)) plane.old plane.new }
     ensures counted { buffers.new.edges.prepared ≡
         fold edges_in buffers.old.edges.prepared (joined (block_count block.now.area) (steps_at header.now block.now triples.now)) }
     ensures luma { buffers.new.luma.items ≡ buffers.old.luma.items }
-    ensures stores { Stores T.num header.now block.now.plane plane.new }
-    ensures config { plane.new.plane_cfg ≡ plane.old.plane_cfg }
+    ensures kept { KeepsPlane T.num header.now block.now.plane plane.old plane.new }
 {
     let across = block.area.blocks_across();
     let mut place = (0, 0);
@@ -291,8 +276,7 @@ fn reconstruct_plane_block<T: Pixel>(
         plane.old (plane_steps h block.now triples.now) }
     ensures counted { buffers.new.edges.prepared ≡ fold edges_in buffers.old.edges.prepared (plane_steps frame.now.header.now block.now triples.now) }
     ensures luma { buffers.new.luma.items ≡ buffers.old.luma.items }
-    ensures stores { Stores T.num frame.now.header.now block.now.plane plane.new }
-    ensures config { plane.new.plane_cfg ≡ plane.old.plane_cfg }
+    ensures kept { KeepsPlane T.num frame.now.header.now block.now.plane plane.old plane.new }
 {
     predict_whole(plane, &mut buffers.compound, frame.fi, block);
     if is_only_predicted(block.prediction, triples) {
@@ -353,8 +337,7 @@ pub fn reconstruct_leaf_in<T: Pixel>(
     ensures counted { buffers.new.edges.prepared ≡
         fold edges_in buffers.old.edges.prepared (plane_steps frame.now.header.now (block_in frame.now p leaf.now) triples.now) }
     ensures luma { buffers.new.luma.items ≡ buffers.old.luma.items }
-    ensures stores { Stores T.num frame.now.header.now p plane.new }
-    ensures config { plane.new.plane_cfg ≡ plane.old.plane_cfg }
+    ensures kept { KeepsPlane T.num frame.now.header.now p plane.old plane.new }
 {
     let header = frame.header;
     let filter = filter_at(header, frame.cells, leaf, p);

@@ -31,5 +31,5 @@ returns-clause-painted g c =
     painted_same _ _ _ _ _ _ c.predict_intra.ensures.painted (λ q p v k l.
     ap g.T.Pixel.pixel
     (region_predicted g.T.Pixel.num a.header.now a.block.now a.at a.region.now tile.result tile.ensures.x tile.ensures.y r.area how.filter how.mode
-          how.param luma
+    how.param luma
     depth.result a.edge.now q p r.width r.height depth.ensures held))

@@ -27,7 +27,7 @@ prepare_luma-requires-clause-fits g c =
     let own : LumaFits h a.planes.now.y.plane_cfg (leaf_with a.leaf.now [] [] []) =
     (let f = c.requires.fits.luma carried from
     in record { narrow = f.narrow; low = f.low; width = f.width; height = f.height; few = f.few; columns = f.columns; rows = f.rows; depth = f.depth }) in
-    subst (λ (k : PlaneConfig). LumaFits h k (leaf_with a.leaf.now [] [] [])) (sym c.reconstruct_leaf_in.ensures.config) own
+    subst (λ (k : PlaneConfig). LumaFits h k (leaf_with a.leaf.now [] [] [])) (sym c.reconstruct_leaf_in.ensures.kept.config) own
 
 pub returns-after-is_from_luma-clause-walked : goal.returns-after-is_from_luma-clause-walked
 returns-after-is_from_luma-clause-walked g c = λ value serves.

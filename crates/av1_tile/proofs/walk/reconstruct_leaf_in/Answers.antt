@@ -5,7 +5,7 @@ use Rattle.av1_intra.specs.ChromaFromLuma.{ac_at}
 use Rattle.av1_tile.specs.declared.plane_block.PlaneBlock.{PlaneBlock}
 use Rattle.av1_tile.specs.PlaneBlocks.{component}
 use Rattle.av1_tile.specs.Steps.{plane_steps}
-use Rattle.av1_tile.specs.Walk.{BlockFits, Stores, block_by, cell_at, edges_in, fast_in, leaf_with, with_header}
+use Rattle.av1_tile.specs.Walk.{BlockFits, KeepsPlane, Stores, block_by, cell_at, edges_in, fast_in, leaf_with, with_header}
 use Rattle.av1_tile.proofs.Lifts.{number_component}
 use Rattle.av1_tile.proofs.walk.reconstruct_leaf_in.Goals as goal
 
@@ -47,3 +47,10 @@ returns-clause-walked g c = λ value serves.
     (plane_steps h b a.triples.now)) is
     ∙ ap (λ (n : ℕ). fold (fast_in num pixel plan n (λ _. ac_at (tx_width block.area.tx_size) a.buffers.now.luma.items)) a.plane.now
     (plane_steps h block a.triples.now)) (number_component a.p c.requires.plane)
+
+pub returns-clause-kept : goal.returns-clause-kept
+returns-clause-kept g c =
+    let a = c.args in
+    let walk = c.reconstruct_plane_block in
+    let e = ap (λ (b : PlaneBlock). b.plane) c.of_leaf-block.ensures ∙ number_component a.p c.requires.plane in
+    subst (λ (n : ℕ). KeepsPlane g.T.Pixel.num a.frame.now.header.now n a.plane.now walk.new.plane) e walk.ensures.kept

@@ -21,14 +21,18 @@ pub predict_whole-requires-clause-references : goal.predict_whole-requires-claus
 predict_whole-requires-clause-references g c =
     let own = c.requires.frame.references in (with_header c.args.frame.now.header.now own.0, (own.1, c.requires.fits.prediction))
 
-pub reconstruct_blocks-requires-clause-stores : goal.reconstruct_blocks-requires-clause-stores
-reconstruct_blocks-requires-clause-stores g c =
+pub reconstruct_blocks-requires-clause-held : goal.reconstruct_blocks-requires-clause-held
+reconstruct_blocks-requires-clause-held g c =
     let a = c.args in
     let own = c.requires.frame.references in
     let plan = with_header a.frame.now.header.now own.0 in
-    whole_between g.T.Pixel.num g.T.Pixel.pixel g.met.T.Pixel.num_of_pixel g.met.T.Pixel.pixel_of_num plan a.frame.now.fi.now own.1 a.block.now
-    c.requires.plane c.requires.fits.prediction
-    a.plane.now c.predict_whole.new.plane (c.predict_whole.ensures plan own.1 c.requires.fits.prediction) c.requires.stores
+    record {
+      frame = c.requires.frame.header;
+      depth = c.requires.frame.depth;
+      stores = whole_between g.T.Pixel.num g.T.Pixel.pixel g.met.T.Pixel.num_of_pixel g.met.T.Pixel.pixel_of_num plan a.frame.now.fi.now own.1 a.block.now
+          c.requires.plane c.requires.fits.prediction a.plane.now c.predict_whole.new.plane
+          (c.predict_whole.ensures plan own.1 c.requires.fits.prediction) c.requires.stores;
+    }
 
 pub reconstruct_blocks-requires-clause-fits : goal.reconstruct_blocks-requires-clause-fits
 reconstruct_blocks-requires-clause-fits g c =
@@ -65,23 +69,18 @@ returns-then-is_only_predicted-clause-counted g c =
     all_steps edges_in a.frame.now.header.now a.block.now a.triples.now count count count (whole_counted a.block.now count)
     (none_counted a.block.now a.triples.now (c.is_only_predicted.ensures.whole c.if-is_only_predicted.true) a.frame.now.header.now count)
 
-pub returns-then-is_only_predicted-clause-stores : goal.returns-then-is_only_predicted-clause-stores
-returns-then-is_only_predicted-clause-stores g c =
+pub returns-then-is_only_predicted-clause-kept : goal.returns-then-is_only_predicted-clause-kept
+returns-then-is_only_predicted-clause-kept g c =
     let a = c.args in
     let own = c.requires.frame.references in
     let plan = with_header a.frame.now.header.now own.0 in
-    whole_between g.T.Pixel.num g.T.Pixel.pixel g.met.T.Pixel.num_of_pixel g.met.T.Pixel.pixel_of_num plan a.frame.now.fi.now own.1 a.block.now
-    c.requires.plane c.requires.fits.prediction
-    a.plane.now c.predict_whole.new.plane (c.predict_whole.ensures plan own.1 c.requires.fits.prediction) c.requires.stores
-
-pub returns-then-is_only_predicted-clause-config : goal.returns-then-is_only_predicted-clause-config
-returns-then-is_only_predicted-clause-config g c =
-    let a = c.args in
-    let own = c.requires.frame.references in
-    let plan = with_header a.frame.now.header.now own.0 in
-    whole_layout g.T.Pixel.num g.T.Pixel.pixel g.met.T.Pixel.num_of_pixel g.met.T.Pixel.pixel_of_num plan a.frame.now.fi.now own.1 a.block.now
-    c.requires.plane c.requires.fits.prediction
-    a.plane.now c.predict_whole.new.plane (c.predict_whole.ensures plan own.1 c.requires.fits.prediction)
+    let whole = c.predict_whole.ensures plan own.1 c.requires.fits.prediction in
+    record {
+      stores = whole_between g.T.Pixel.num g.T.Pixel.pixel g.met.T.Pixel.num_of_pixel g.met.T.Pixel.pixel_of_num plan a.frame.now.fi.now own.1 a.block.now
+          c.requires.plane c.requires.fits.prediction a.plane.now c.predict_whole.new.plane whole c.requires.stores;
+      config = whole_layout g.T.Pixel.num g.T.Pixel.pixel g.met.T.Pixel.num_of_pixel g.met.T.Pixel.pixel_of_num plan a.frame.now.fi.now own.1 a.block.now
+          c.requires.plane c.requires.fits.prediction a.plane.now c.predict_whole.new.plane whole;
+    }
 
 pub returns-clause-walked : goal.returns-clause-walked
 returns-clause-walked g c = λ value serves.
@@ -100,15 +99,18 @@ returns-clause-counted g c =
     let a = c.args in
     let count = a.buffers.now.edges.prepared in
     all_steps edges_in a.frame.now.header.now a.block.now a.triples.now count count c.reconstruct_blocks.new.buffers.edges.prepared
-        (whole_counted a.block.now count)
+    (whole_counted a.block.now count)
     c.reconstruct_blocks.ensures.counted
 
-pub returns-clause-config : goal.returns-clause-config
-returns-clause-config g c =
+pub returns-clause-kept : goal.returns-clause-kept
+returns-clause-kept g c =
     let a = c.args in
     let own = c.requires.frame.references in
     let plan = with_header a.frame.now.header.now own.0 in
-    c.reconstruct_blocks.ensures.config
-    ∙ whole_layout g.T.Pixel.num g.T.Pixel.pixel g.met.T.Pixel.num_of_pixel g.met.T.Pixel.pixel_of_num plan a.frame.now.fi.now own.1 a.block.now
-    c.requires.plane c.requires.fits.prediction
-    a.plane.now c.predict_whole.new.plane (c.predict_whole.ensures plan own.1 c.requires.fits.prediction)
+    record {
+      stores = c.reconstruct_blocks.ensures.kept.stores;
+      config = c.reconstruct_blocks.ensures.kept.config
+          ∙ whole_layout g.T.Pixel.num g.T.Pixel.pixel g.met.T.Pixel.num_of_pixel g.met.T.Pixel.pixel_of_num plan a.frame.now.fi.now own.1 a.block.now
+          c.requires.plane c.requires.fits.prediction a.plane.now c.predict_whole.new.plane
+          (c.predict_whole.ensures plan own.1 c.requires.fits.prediction);
+    }
