@@ -264,11 +264,12 @@ predicted_at h block at how luma num plane r c =
     (placed_edge h block.plane block at.number (area_at block at) num plane)
     (ac_at (tx_width block.area.tx_size) luma) r c
 
--- an intra mode that turns by few steps, or a weight of luma
-pub record EdgePredictionFits (how : EdgePrediction) : Type 0 where
+-- an intra mode that turns by few steps, or a small weight of luma, of which there is as much as the block has samples
+pub record EdgePredictionFits (block : PlaneBlock) (luma : List ℤ) (how : EdgePrediction) : Type 0 where
   pub intra : IsTrue (is_intra how.mode)
   pub few_steps : unsigned_abs (step_of how.param) ≤ 3
   pub small_weight : unsigned_abs (alpha_of how.param) ≤ 16
+  pub luma_long : IsTrue (is_cfl how.mode) → tx_width block.area.tx_size * tx_height block.area.tx_size ≤ length luma
 
 -- an intra mode that turns by few steps
 pub record ModeFits (mode : PredictionMode) (step : ℤ) : Type 0 where
@@ -445,10 +446,21 @@ pub record HoldsPlane {T : Type 0} (num : T → ℕ) (bits : ℕ) (h : Header) (
   pub depth : h.depth ≤ bits
   pub stores : Stores num h p plane
 
+-- and so each plane of it
+pub record HoldsPlanes {T : Type 0} (num : T → ℕ) (bits : ℕ) (h : Header) (planes : Planes T) : Type 0 where
+  pub frame : IsReadFrame h
+  pub depth : h.depth ≤ bits
+  pub stores : StoresAll num h planes
+
 -- the plane after steps: it goes on storing its part of the frame, laid out as before
 pub record KeepsPlane {T : Type 0} (num : T → ℕ) (h : Header) (p : ℕ) (before after : Plane T) : Type 0 where
   pub stores : Stores num h p after
   pub config : after.plane_cfg ≡ before.plane_cfg
+
+-- and so each of the three
+pub record KeepsPlanes {T : Type 0} (num : T → ℕ) (h : Header) (before after : Planes T) : Type 0 where
+  pub stores : StoresAll num h after
+  pub layout : SameLayout before after
 
 -- what steps of a block make of its plane, in any plan with this header; `luma` is how far luma is from its mean, row
 -- by row

@@ -2,7 +2,6 @@
 
 ghost use Rattle.std.specs.Prelude.{◌≡◌, ℕ, ◌+◌, ◌-◌, ◌*◌, ◌^◌, ◌<◌, ◌≤◌, length, All, IsTrue, pos, map, reverse, [], ◌∷◌};
 ghost use Rattle.av1_blocks.specs.Depths.{IsDepth};
-ghost use Rattle.av1_blocks.specs.Modes.{is_cfl};
 ghost use Rattle.av1_blocks.specs.Transforms.{tx_width, tx_height, valid_av1_transform};
 ghost use Rattle.av1_blocks.specs.declared.transform.TxSize.TheVariants.{TX_4X4};
 ghost use Rattle.av1_blocks.specs.declared.transform.TxType.TheVariants.{WHT_WHT};
@@ -93,8 +92,7 @@ fn predict_region<T: Pixel>(
     requires height { region.old.plane_cfg.height ≡ plane_height header.now block.now.plane }
     requires low { 8 ≤ header.now.depth }
     requires depth { header.now.depth ≤ T.BITS }
-    requires how { EdgePredictionFits how }
-    requires luma_long { IsTrue (is_cfl how.mode) → tx_width block.now.area.tx_size * tx_height block.now.area.tx_size ≤ length luma.now }
+    requires how { EdgePredictionFits block.now luma.now how }
     requires left { map T.num edge.now.left.now ≡ reverse (edge_for header.now block.now at how.mode how.param T.num region.old.plane.now).left }
     requires corner { map T.num edge.now.top_left.now ≡ (edge_for header.now block.now at how.mode how.param T.num region.old.plane.now).corner ∷ [] }
     requires above { map T.num edge.now.above.now ≡ (edge_for header.now block.now at how.mode how.param T.num region.old.plane.now).above }
@@ -132,17 +130,14 @@ pub fn predict_from_edge<T: Pixel>(
     requires depth { header.now.depth ≤ T.BITS }
     requires place { IsPlaceIn header.now block.now at }
     requires fits { InPlane (area_at block.now at) plane.old }
-    requires how { EdgePredictionFits how }
-    requires luma_long { IsTrue (is_cfl how.mode) → tx_width block.now.area.tx_size * tx_height block.now.area.tx_size ≤ length luma.now }
+    requires how { EdgePredictionFits block.now luma.now how }
     ensures painted { plane.new ≡ painted_plane plane.old (area_at block.now at)
         (λ r c _. T.pixel (predicted_at header.now block.now at how luma.now T.num plane.old r c)) }
     ensures counted { edges.new.prepared ≡ counted edges.old.prepared }
 {
     let tx_size = block.area.tx_size;
-    let cell = TileBlockOffset(BlockOffset {
-        x: block.leaf.x / 4,
-        y: block.leaf.y / 4,
-    });
+    let (x, y) = (block.leaf.x / 4, block.leaf.y / 4);
+    let cell = TileBlockOffset(BlockOffset { x, y });
     let edge = get_intra_edges(
         edges,
         &plane.as_region(),

@@ -9,7 +9,7 @@ ghost use Rattle.av1_references.specs.References.{ServesPlan};
 ghost use Rattle.av1_tile.specs.PlaneBlocks.{is_from_luma};
 ghost use Rattle.av1_tile.specs.Reference.{luma_of};
 ghost use Rattle.av1_tile.specs.Walk.{cell_at, edges_after, leaf_steps_by, fast_step, leaf_with, luma_block, LeafFits, LumaFits, SameLayout, Stores};
-ghost use Rattle.av1_tile.specs.Walk.{IsWalked, StoresAll, with_header};
+ghost use Rattle.av1_tile.specs.Walk.{IsWalked, KeepsPlanes, StoresAll, with_header};
 
 use crate::buffers::WalkBuffers;
 use crate::frame::WalkedFrame;
@@ -83,8 +83,7 @@ pub fn reconstruct_leaf<T: Pixel>(
         → planes.new ≡ fold (fast_step T.num T.pixel (with_header h value)) planes.old (leaf_steps_by h (cell_at frame.now.cells.now) l) }
     ensures counted { let l = leaf_with leaf.now y.now u.now v.now in buffers.new.edges.prepared ≡
         fold edges_after buffers.old.edges.prepared (leaf_steps_by frame.now.header.now (cell_at frame.now.cells.now) l) }
-    ensures stores { StoresAll T.num frame.now.header.now planes.new }
-    ensures layout { SameLayout planes.old planes.new }
+    ensures kept { KeepsPlanes T.num frame.now.header.now planes.old planes.new }
 {
     let header = frame.header;
     reconstruct_leaf_in(&mut planes.y, buffers, frame, leaf, 0, y);
