@@ -8,7 +8,7 @@ ghost use Rattle.av1_plan.specs.Plan.{PlanValue};
 ghost use Rattle.av1_references.specs.References.{ServesPlan};
 ghost use Rattle.av1_tile.specs.PlaneBlocks.{is_from_luma};
 ghost use Rattle.av1_tile.specs.Reference.{luma_of};
-ghost use Rattle.av1_tile.specs.Walk.{cell_at, edges_after, leaf_steps_by, fast_step, leaf_with, luma_block, LeafFits, LumaFits, SameLayout, Stores};
+ghost use Rattle.av1_tile.specs.Walk.{cell_at, edges_after, leaf_steps_by, fast_step, leaf_with, luma_block, LeafFits, LumaFits, Stores};
 ghost use Rattle.av1_tile.specs.Walk.{IsWalked, KeepsPlanes, StoresAll, with_header};
 
 use crate::buffers::WalkBuffers;
