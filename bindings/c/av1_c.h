@@ -130,13 +130,18 @@ uint32_t av1_inverse_transform_add_16(av1_transform_scratch *scratch, const int3
                                       size_t samples_len, size_t stride, size_t x, size_t y, uint8_t tx_size, uint8_t tx_type,
                                       size_t bit_depth);
 
+/* The sharp filter. Along sides up to 4 it is the regular one for such sides, as in AV1. */
+#define AV1_SHARP 2
+/* The sharp filter of rav1e, and of plans: along sides up to 4 it is the smooth one for such sides. */
+#define AV1_RAV1E_SHARP 5
+
 /* A block that is moved between the samples of its reference. */
 typedef struct {
     size_t width;     /* how many columns it has: from 1 to 128 */
     size_t height;    /* how many rows it has: from 1 to 128 */
     uint8_t col_frac; /* how far it is moved right, in sixteenths of a sample: below 16 */
     uint8_t row_frac; /* how far it is moved down, in sixteenths of a sample: below 16 */
-    uint8_t filter_x; /* the number of the filter along its rows, as in plans: 0 regular, 1 smooth, 2 sharp, 3 bilinear */
+    uint8_t filter_x; /* the number of the filter along its rows: 0 regular, 1 smooth, AV1_SHARP, 3 bilinear or AV1_RAV1E_SHARP */
     uint8_t filter_y; /* the number of the filter down its columns */
 } av1_motion_block;
 

@@ -8,7 +8,7 @@
 #define CHECK(e) do { if (!(e)) { fprintf(stderr, "%s:%d: %s\n", __FILE__, __LINE__, #e); exit(1); } } while (0)
 
 enum { STRIDE = 12, ROWS = 12, ALL = STRIDE * ROWS, ROOM = 64 };
-enum { REGULAR = 0, SMOOTH = 1, SHARP = 2, BILINEAR = 3 };
+enum { REGULAR = 0, SMOOTH = 1, SHARP = AV1_SHARP, BILINEAR = 3, RAV1E_SHARP = AV1_RAV1E_SHARP };
 
 /* Whether all are one number. */
 static int are_all_8(const uint8_t *samples, size_t count, uint8_t number) {
@@ -33,6 +33,24 @@ static void moved_blocks(void) {
     for (size_t c = 0; c < 4; c++) CHECK(samples[6 * 8 + 4 + c] == 20 * (3 + c) + 4 && samples[7 * 8 + 4 + c] == 20 * (3 + c) + 5);
     CHECK(av1_put_8tap_8(samples, ROOM, 8, 4, 6, reference, ALL, STRIDE, 3, 4, &half) == AV1_DONE);
     for (size_t c = 0; c < 4; c++) CHECK(samples[6 * 8 + 4 + c] == 20 * (3 + c) + 14 && samples[7 * 8 + 4 + c] == 20 * (3 + c) + 15);
+}
+
+/* A block of 4x1 half a sample to the right, by a filter along rows, of a reference that is 100 from the block's third column on and 0 before. */
+static int along_a_short_side(uint8_t filter, size_t column) {
+    av1_motion_block block = {4, 1, 8, 0, filter, REGULAR};
+    uint8_t reference[ALL], samples[4];
+    for (size_t i = 0; i < ALL; i++) reference[i] = i % STRIDE < 5 ? 0 : 100;
+    CHECK(av1_put_8tap_8(samples, 4, 4, 0, 0, reference, ALL, STRIDE, 3, 3, &block) == AV1_DONE);
+    return samples[column];
+}
+
+/* Along short sides the sharp filter is the regular one, and rav1e's the smooth one. */
+static void sharp_blocks(void) {
+    for (size_t column = 0; column < 4; column++) {
+        CHECK(along_a_short_side(SHARP, column) == along_a_short_side(REGULAR, column));
+        CHECK(along_a_short_side(RAV1E_SHARP, column) == along_a_short_side(SMOOTH, column));
+    }
+    CHECK(along_a_short_side(SHARP, 0) == 0 && along_a_short_side(RAV1E_SHARP, 0) == 9);
 }
 
 static void averaged_blocks(void) {
@@ -60,6 +78,7 @@ static const struct { size_t room, dst_stride, dst_x, dst_y, src_len, src_stride
     {ROOM, 8, 0, 0, ALL, SIZE_MAX, 4, 4, {4, 2, 0, 0, 0, 0}, AV1_BAD_AREA},  {ROOM, 8, 0, 0, 119, STRIDE, 4, 4, {4, 2, 0, 0, 0, 0}, AV1_BAD_AREA},
     {ROOM, 8, 0, 0, ALL, STRIDE, 4, 4, {0, 2, 0, 0, 0, 0}, AV1_BAD_SIZE},    {ROOM, 8, 0, 0, ALL, STRIDE, 4, 4, {4, 129, 0, 0, 0, 0}, AV1_BAD_SIZE},
     {ROOM, 8, 0, 0, ALL, STRIDE, 4, 4, {4, 2, 16, 0, 0, 0}, AV1_BAD_FRACTION}, {ROOM, 8, 0, 0, ALL, STRIDE, 4, 4, {4, 2, 0, 0, 0, 4}, AV1_BAD_MODE},
+    {ROOM, 8, 0, 0, ALL, STRIDE, 4, 4, {4, 2, 0, 0, 6, 0}, AV1_BAD_MODE},
 };
 
 static void refused_blocks(void) {
@@ -91,6 +110,7 @@ static void blocks_of_16_bits(void) {
 
 int main(void) {
     moved_blocks();
+    sharp_blocks();
     averaged_blocks();
     refused_blocks();
     blocks_of_16_bits();

@@ -18,6 +18,8 @@ macro_rules! field {
 
 holds!(crate::EDGE_SAMPLES == 257);
 holds!(crate::ANY_MODE == 255);
+holds!(crate::SHARP == 2);
+holds!(crate::RAV1E_SHARP == 5);
 holds!(sys::DONE == 0);
 holds!(sys::ROOM_TOO_SMALL == 2);
 holds!(sys::BAD_SIZE == 6);

@@ -50,7 +50,8 @@ pub use intra::{IntraBlock, predict_cfl_8, predict_cfl_16, predict_intra_8, pred
 pub use intra_edge::{ANY_MODE, EDGE_SAMPLES, EdgeBlock, EdgePlane, intra_edge_8, intra_edge_16};
 pub use luma::{CflBlock, cfl_ac_8, cfl_ac_16};
 pub use motion::{
-    MotionBlock, mc_avg_8, mc_avg_16, prep_8tap_8, prep_8tap_16, put_8tap_8, put_8tap_16,
+    MotionBlock, RAV1E_SHARP, SHARP, mc_avg_8, mc_avg_16, prep_8tap_8, prep_8tap_16, put_8tap_8,
+    put_8tap_16,
 };
 pub use place::Place;
 pub use transform::{

@@ -39,7 +39,7 @@ pub use intra_edge::{
 };
 pub use luma::{CflBlock, av1_cfl_ac_8, av1_cfl_ac_16};
 pub use mc_avg::{av1_mc_avg_8, av1_mc_avg_16};
-pub use motion::MotionBlock;
+pub use motion::{MotionBlock, RAV1E_SHARP, SHARP};
 pub use prep_8tap::{av1_prep_8tap_8, av1_prep_8tap_16};
 pub use put_8tap::{av1_put_8tap_8, av1_put_8tap_16};
 pub use status::{

@@ -4,8 +4,10 @@
 ghost use Rattle.std.specs.Prelude.{true, false, IfOk, IfErr, map, length};
 ghost use Rattle.av1_calls.specs.Motions.{Prepares, AreOfDepth, HoldBlock, IsDeepPrepFault, IsPrep, place, source_at};
 
-use crate::argument::{BadArgument, filter_mode};
-use crate::motion::{MotionBlock, Place, config_of, rows_of, test_prep, test_samples};
+use crate::argument::BadArgument;
+use crate::motion::{
+    MotionBlock, Place, config_of, filter_along, rows_of, test_prep, test_samples,
+};
 use crate::samples::have_8_bits;
 use crate::status::DONE;
 use av1_frame::{Pixel, PlaneOffset, PlaneSlice};
@@ -28,8 +30,8 @@ fn prep<T: Pixel>(values: &mut [i16], src: &[T], from: Place, block: MotionBlock
         block.height,
         i32::from(block.col_frac),
         i32::from(block.row_frac),
-        filter_mode(block.filter_x),
-        filter_mode(block.filter_y),
+        filter_along(block.filter_x, block.width),
+        filter_along(block.filter_y, block.height),
         bit_depth,
     );
 }

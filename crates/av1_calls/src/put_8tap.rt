@@ -5,8 +5,10 @@ ghost use Rattle.std.specs.Prelude.{true, false, ◌≡◌, ◌≤◌, IfOk, IfE
 ghost use Rattle.av1_frame.specs.Samples.{paint};
 ghost use Rattle.av1_calls.specs.Motions.{Puts, AreOfDepth, IsDeepPutFault, IsPut, moved_sample, place, rectangle_at, source_at};
 
-use crate::argument::{BadArgument, filter_mode};
-use crate::motion::{MotionBlock, Place, config_of, rectangle_at, rows_of, test_put, test_samples};
+use crate::argument::BadArgument;
+use crate::motion::{
+    MotionBlock, Place, config_of, filter_along, rectangle_at, rows_of, test_put, test_samples,
+};
 use crate::samples::have_8_bits;
 use crate::status::DONE;
 use av1_frame::{Pixel, PlaneOffset, PlaneSlice};
@@ -38,8 +40,8 @@ fn put<T: Pixel>(
         place,
         i32::from(block.col_frac),
         i32::from(block.row_frac),
-        filter_mode(block.filter_x),
-        filter_mode(block.filter_y),
+        filter_along(block.filter_x, block.width),
+        filter_along(block.filter_y, block.height),
         bit_depth,
     );
 }
