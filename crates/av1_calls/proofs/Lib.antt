@@ -5,3 +5,4 @@ pub mod Limits
 pub mod Lanes
 pub mod Motions
 pub mod LumaCalls
+pub mod PlaneCalls

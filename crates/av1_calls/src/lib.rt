@@ -4,22 +4,24 @@
 //! [`av1_put_8tap_8`] and [`av1_put_8tap_16`] predict one from a reference; [`av1_prep_8tap_8`] and
 //! [`av1_prep_8tap_16`] prepare one of two references, and [`av1_mc_avg_8`] and [`av1_mc_avg_16`] average what they
 //! prepare. [`av1_predict_intra_8`], [`av1_predict_cfl_8`] and their like for samples of 16 bits predict a block from
-//! the sides that they are handed, [`av1_intra_edge_8`] and [`av1_intra_edge_16`] prepare these sides from a plane, and
-//! [`av1_cfl_ac_8`] and [`av1_cfl_ac_16`] give the differences of luma from its mean, by which chroma is predicted.
+//! the sides that they are handed, [`av1_intra_edge_8`] and [`av1_intra_edge_16`] prepare these sides from a plane,
+//! [`av1_predict_in_plane_8`] and [`av1_predict_in_plane_16`] do both, and [`av1_cfl_ac_8`] and [`av1_cfl_ac_16`] give
+//! the differences of luma from its mean, by which chroma is predicted.
 //!
 //! It stands on `av1_itx` for the transforms of blocks, on `av1_inter` for their motion, and on `av1_edges` and
 //! `av1_intra` for their prediction. `av1_c` exports the calls for C.
 //!
 //! Promised: no call asks anything of its arguments, or takes memory, and each returns. Its answer is one of the
 //! statuses of `src/status.rt`. [`DONE`] says that the arguments are good, and what each sample has become
-//! (`specs/Transforms.antt`, `specs/Motions.antt`, `specs/IntraBlocks.antt`, `specs/IntraEdges.antt`), or each
-//! difference of luma (`specs/LumaBlocks.antt`). Good arguments give [`DONE`]. Each other status names the first
-//! argument that is at fault, and leaves everything as it was.
+//! (`specs/Transforms.antt`, `specs/Motions.antt`, `specs/IntraBlocks.antt`, `specs/IntraEdges.antt`,
+//! `specs/IntraPlanes.antt`), or each difference of luma (`specs/LumaBlocks.antt`). Good arguments give [`DONE`]. Each
+//! other status names the first argument that is at fault, and leaves everything as it was.
 #![tactic(auto)]
 
 mod argument;
 mod intra;
 mod intra_edge;
+mod intra_plane;
 mod luma;
 mod mc_avg;
 mod motion;
@@ -37,6 +39,7 @@ pub use intra::{
 pub use intra_edge::{
     ANY_MODE, EDGE_SAMPLES, EdgeBlock, EdgePlane, av1_intra_edge_8, av1_intra_edge_16,
 };
+pub use intra_plane::{FROM_LUMA, av1_predict_in_plane_8, av1_predict_in_plane_16};
 pub use luma::{CflBlock, av1_cfl_ac_8, av1_cfl_ac_16};
 pub use mc_avg::{av1_mc_avg_8, av1_mc_avg_16};
 pub use motion::{MotionBlock, RAV1E_SHARP, SHARP};
