@@ -53,6 +53,52 @@ static void sharp_blocks(void) {
     CHECK(along_a_short_side(SHARP, 0) == 0 && along_a_short_side(RAV1E_SHARP, 0) == 9);
 }
 
+/* A vector leads to a whole sample and sixteenths beyond it, and no further out than the pads. */
+static void places(void) {
+    av1_motion_plane plane = {.width = 64, .height = 32, .halved_columns = 1, .halved_rows = 1};
+    av1_moved_block block = {8, 8, 8, 8, -9, 35, REGULAR, REGULAR};
+    av1_moved_place place = {77, 77, 77, 77};
+    CHECK(av1_motion_place(&place, &plane, &block) == AV1_DONE);
+    CHECK(place.x == 10 && place.y == 7 && place.col_frac == 3 && place.row_frac == 7);
+    block.row = -9000, block.col = 3500;
+    CHECK(av1_motion_place(&place, &plane, &block) == AV1_DONE);
+    CHECK(place.x == 64 + 3 && place.y == -8 - 4 && place.col_frac == 12 && place.row_frac == 8);
+    block.width = 129;
+    CHECK(av1_motion_place(&place, &plane, &block) == AV1_BAD_SIZE);
+    block.width = 8, plane.width = 0;
+    CHECK(av1_motion_place(&place, &plane, &block) == AV1_BAD_AREA);
+    CHECK(place.x == 64 + 3 && place.y == -8 - 4);
+}
+
+/* A block that a vector moves past the sides of a plane without margins, beside one that is read from pads. */
+static void blocks_without_margins(void) {
+    enum { WIDE = 6, HIGH = 5, PAD = 11, ROW = WIDE + 2 * PAD };
+    uint8_t bare[WIDE * HIGH], padded[ROW * (HIGH + 2 * PAD)], one[8], other[8], window[11 * 9];
+    int16_t values[8], others[8];
+    for (size_t i = 0; i < WIDE * HIGH; i++) bare[i] = (uint8_t)(i * 53);
+    for (size_t y = 0; y < HIGH + 2 * PAD; y++)
+        for (size_t x = 0; x < ROW; x++) {
+            size_t c = x < PAD ? 0 : x - PAD < WIDE ? x - PAD : WIDE - 1, r = y < PAD ? 0 : y - PAD < HIGH ? y - PAD : HIGH - 1;
+            padded[y * ROW + x] = bare[r * WIDE + c];
+        }
+    for (int16_t vector = -90; vector <= 90; vector++) {
+        av1_motion_plane plane = {.stride = WIDE, .width = WIDE, .height = HIGH};
+        av1_moved_block block = {1, 2, 4, 2, vector, (int16_t)(-7 * vector), SHARP, SMOOTH};
+        av1_moved_place at;
+        CHECK(av1_motion_place(&at, &plane, &block) == AV1_DONE);
+        av1_motion_block moved = {4, 2, at.col_frac, at.row_frac, SHARP, SMOOTH};
+        CHECK(av1_put_8tap_8(one, 8, 4, 0, 0, padded, sizeof padded, ROW, (size_t)(PAD + at.x), (size_t)(PAD + at.y), &moved) == AV1_DONE);
+        CHECK(av1_put_moved_8(other, 8, 4, 0, 0, bare, sizeof bare, &plane, &block, window, sizeof window) == AV1_DONE);
+        CHECK(memcmp(one, other, 8) == 0);
+        CHECK(av1_prep_8tap_8(values, 8, padded, sizeof padded, ROW, (size_t)(PAD + at.x), (size_t)(PAD + at.y), &moved) == AV1_DONE);
+        CHECK(av1_prep_moved_8(others, 8, bare, sizeof bare, &plane, &block, window, sizeof window) == AV1_DONE);
+        CHECK(memcmp(values, others, sizeof values) == 0);
+        CHECK(av1_prep_moved_8(others, 7, bare, sizeof bare, &plane, &block, window, sizeof window) == AV1_TOO_SHORT);
+        CHECK(av1_put_moved_8(other, 8, 4, 0, 0, bare, sizeof bare - 1, &plane, &block, window, sizeof window) == AV1_BAD_AREA);
+        CHECK(av1_put_moved_8(other, 8, 4, 0, 0, bare, sizeof bare, &plane, &block, window, sizeof window - 1) == AV1_TOO_SHORT);
+    }
+}
+
 static void averaged_blocks(void) {
     av1_motion_block block = {4, 2, 5, 9, SMOOTH, SHARP};
     uint8_t reference[ALL], samples[8];
@@ -102,6 +148,21 @@ static void blocks_of_16_bits(void) {
     CHECK(av1_prep_8tap_16(values, 8, reference, ALL, STRIDE, 4, 6, &block, 10) == AV1_BAD_SAMPLE);
     CHECK(av1_prep_8tap_16(values, 8, reference, ALL, STRIDE, 4, 5, &block, 10) == AV1_DONE);
     CHECK(are_all_16(values, 8, -192));
+    CHECK(av1_test_samples_16(reference, ALL, STRIDE, 0, 0, STRIDE, ROWS, 10) == AV1_BAD_SAMPLE);
+    CHECK(av1_test_samples_16(reference, ALL, STRIDE, 0, 0, STRIDE, ROWS - 1, 10) == AV1_DONE);
+    CHECK(av1_test_samples_16(reference, ALL, STRIDE, 0, 0, STRIDE, ROWS, 9) == AV1_BAD_DEPTH);
+    CHECK(av1_test_samples_16(reference, ALL, STRIDE, 1, 0, STRIDE, ROWS, 10) == AV1_BAD_AREA);
+    memset(values, 0, sizeof values);
+    CHECK(av1_prep_tested_16(values, 8, reference, ALL, STRIDE, 4, 5, &block, 9) == AV1_BAD_DEPTH);
+    CHECK(av1_prep_tested_16(values, 7, reference, ALL, STRIDE, 4, 5, &block, 10) == AV1_TOO_SHORT);
+    CHECK(are_all_16(values, 8, 0));
+    CHECK(av1_prep_tested_16(values, 8, reference, ALL, STRIDE, 4, 5, &block, 10) == AV1_DONE);
+    CHECK(are_all_16(values, 8, -192));
+    CHECK(av1_put_tested_16(samples, 8, 4, 0, 1, reference, ALL, STRIDE, 4, 5, &block, 10) == AV1_BAD_AREA);
+    for (int i = 0; i < 8; i++) CHECK(samples[i] == 0);
+    CHECK(av1_put_tested_16(samples, 8, 4, 0, 0, reference, ALL, STRIDE, 4, 5, &block, 10) == AV1_DONE);
+    for (int i = 0; i < 8; i++) CHECK(samples[i] == 500);
+    memset(samples, 0, sizeof samples);
     CHECK(av1_mc_avg_16(samples, 8, 4, 0, 0, 4, 2, values, 8, values, 8, 9) == AV1_BAD_DEPTH);
     for (int i = 0; i < 8; i++) CHECK(samples[i] == 0);
     CHECK(av1_mc_avg_16(samples, 8, 4, 0, 0, 4, 2, values, 8, values, 8, 10) == AV1_DONE);
@@ -111,6 +172,8 @@ static void blocks_of_16_bits(void) {
 int main(void) {
     moved_blocks();
     sharp_blocks();
+    places();
+    blocks_without_margins();
     averaged_blocks();
     refused_blocks();
     blocks_of_16_bits();

@@ -1,8 +1,8 @@
 //! Blocks of references, predicted, prepared, averaged and refused.
 
 use av1_c::{
-    Error, MotionBlock, Place, RAV1E_SHARP, SHARP, mc_avg_8, mc_avg_16, prep_8tap_8, prep_8tap_16,
-    put_8tap_8, put_8tap_16,
+    Error, MotionBlock, Place, RAV1E_SHARP, SHARP, Tested, mc_avg_8, mc_avg_16, prep_8tap_8,
+    prep_8tap_16, prep_tested_16, put_8tap_8, put_8tap_16, put_tested_16,
 };
 
 // A block of 4 columns and 2 rows between samples.
@@ -104,6 +104,37 @@ fn constant_references_stay_as_they_are() {
         Ok(())
     );
     assert_eq!(samples, [500; 8]);
+}
+
+#[test]
+fn tested_references_give_the_same_blocks() -> Result<(), Error> {
+    let reference: Vec<u16> = (0..144).map(|i| i * i % 1024).collect();
+    let tested = Tested::new(&reference, 10)?;
+    let (to, from) = (place(4, 0, 0), place(12, 3, 3));
+    let (mut one, mut other) = ([0; 8], [0; 8]);
+    put_8tap_16(&mut one, to, &reference, from, &BLOCK, 10)?;
+    put_tested_16(&mut other, to, &tested, from, &BLOCK)?;
+    assert_eq!(one, other);
+    let (mut one, mut other) = ([0; 9], [0; 9]);
+    prep_8tap_16(&mut one, &reference, from, &BLOCK, 10)?;
+    prep_tested_16(&mut other, &tested, from, &BLOCK)?;
+    assert_eq!(one, other);
+    assert_eq!(
+        prep_tested_16(&mut other[..7], &tested, from, &BLOCK),
+        Err(Error::TooShort)
+    );
+    Ok(())
+}
+
+#[test]
+fn samples_past_the_depth_are_found() {
+    let mut reference = vec![1023; 144];
+    assert!(Tested::new(&reference, 10).is_ok());
+    assert!(matches!(Tested::new(&reference, 8), Err(Error::BadSample)));
+    assert!(matches!(Tested::new(&reference, 9), Err(Error::BadDepth)));
+    assert!(matches!(Tested::new(&[], 10), Err(Error::BadArea)));
+    reference[143] = 1024;
+    assert!(matches!(Tested::new(&reference, 10), Err(Error::BadSample)));
 }
 
 #[test]

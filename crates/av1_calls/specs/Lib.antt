@@ -4,5 +4,8 @@ pub mod Transforms
 pub mod IntraBlocks
 pub mod IntraEdges
 pub mod IntraPlanes
+pub mod MotionPlaces
+pub mod MovedBlocks
 pub mod Samples
 pub mod LumaBlocks
+pub mod TestedSamples

@@ -60,16 +60,16 @@ pub(crate) fn rectangle_at(at: Place, width: usize, height: usize) -> StoredArea
 
 // Whether both sides are from 1 to 128.
 #[inline(always)]
-fn are_sides(width: usize, height: usize) -> bool
+pub(crate) fn are_sides(width: usize, height: usize) -> bool
     ensures true_is { result ≡ true → AreSides width height }
     ensures is_true { AreSides width height → result ≡ true }
 {
     0 < width && width <= 128 && 0 < height && height <= 128
 }
 
-// Whether a filter has this number.
+/// Whether a filter has this number.
 #[inline(always)]
-fn is_filter_number(number: u8) -> bool
+pub(crate) fn is_filter_number(number: u8) -> bool
     ensures true_is { result ≡ true → IsFilterNumber number }
     ensures is_true { IsFilterNumber number → result ≡ true }
 {
