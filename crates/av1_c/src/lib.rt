@@ -46,11 +46,14 @@ pub use builder::{Builder, BuilderPart};
 pub use fault::Refusal;
 pub use intra_calls::{
     av1_cfl_ac_8, av1_cfl_ac_16, av1_intra_edge_8, av1_intra_edge_16, av1_predict_cfl_8,
-    av1_predict_cfl_16, av1_predict_intra_8, av1_predict_intra_16,
+    av1_predict_cfl_16, av1_predict_in_plane_8, av1_predict_in_plane_16, av1_predict_intra_8,
+    av1_predict_intra_16,
 };
 pub use leaf_numbers::{Coefficient, LeafNumbers, Motion};
 pub use motion_calls::{
-    av1_mc_avg_8, av1_mc_avg_16, av1_prep_8tap_8, av1_prep_8tap_16, av1_put_8tap_8, av1_put_8tap_16,
+    av1_mc_avg_8, av1_mc_avg_16, av1_motion_place, av1_prep_8tap_8, av1_prep_8tap_16,
+    av1_prep_moved_8, av1_prep_moved_16, av1_prep_tested_16, av1_put_8tap_8, av1_put_8tap_16,
+    av1_put_moved_8, av1_put_moved_16, av1_put_tested_16, av1_test_samples_16,
 };
 pub use plan_header::PlanHeader;
 pub use planes_length::av1_planes_len;

@@ -3,5 +3,9 @@ pub mod Motions
 pub mod Transforms
 pub mod IntraBlocks
 pub mod IntraEdges
+pub mod IntraPlanes
+pub mod MotionPlaces
+pub mod MovedBlocks
 pub mod Samples
 pub mod LumaBlocks
+pub mod TestedSamples

@@ -20,7 +20,7 @@ returns g c =
     c.rectangle_at.ensures
     (fraction_is c.from.result c.args.block.col_frac c.requires.asked.motion.fractions.columns c.from.ensures)
     (fraction_is c.from-2.result c.args.block.row_frac c.requires.asked.motion.fractions.rows c.from-2.ensures)
-    c.filter_mode.ensures c.filter_mode-2.ensures
+    c.filter_along.ensures c.filter_along-2.ensures
     (read_same c.args.from c.args.block c.args.src.now c.requires.asked.motion place.result (place.ensures.samples ∙ c.rows_of-rows.ensures)
     (place.ensures.cfg ∙ c.config_of-cfg.ensures) place.ensures.x place.ensures.y g.T.Pixel.num)
     c.put_8tap_to.ensures
