@@ -48,7 +48,7 @@ holds!(sys::INVALID_MODE == 3);
 holds!(sys::INVALID_VECTOR == 4);
 holds!(sys::MISSING_REFERENCE == 5);
 holds!(sys::INVALID_COEFFICIENT == 6);
-holds!(crate::VERSION == 256);
+holds!(crate::VERSION == 512);
 
 holds!(size_of::<sys::TransformScratch>() == 24576);
 
