@@ -240,8 +240,8 @@ typedef struct {
 } av1_moved_place;
 
 /* Finds where a block that a vector moves is read in its reference: the AV1 specification's "motion vector scaling process" at a scale of one.
- * Past a side of the plane each sample is that at the side. So a place is never further out than width + 7 columns and height + 7 rows of pads on
- * each side hold all that is read, however far the vector leads: what is read there is the same.
+ * Past a side of the plane each sample is that at the side. So a vector that leads far out gets a place nearer to the plane, where the same is read:
+ * pads of width + 7 columns and height + 7 rows on each side hold all that is read, however far a vector leads.
  *   place          AV1_DONE: the place, whose column and row av1_put_8tap_8 takes once those of the first visible sample are added
  *   plane, block   where the plane stands in its samples, and the filters, are not read
  * Answers AV1_DONE, AV1_BAD_SIZE (a side of the block) or AV1_BAD_AREA (the plane has no samples, or it or the block's place is past 65,536). */

@@ -58,9 +58,9 @@ pub struct MovedPlace {
     pub row_frac: u8,
 }
 
-/// Finds where a block that a vector moves is read in its reference. Past a side of the plane each sample is that at the side, so that a place is
-/// never further out than `width + 7` columns and `height + 7` rows of pads on each side hold all that is read: what is read there is the same.
-/// Where the plane stands in its samples, and the filters, are not read.
+/// Finds where a block that a vector moves is read in its reference. Past a side of the plane each sample is that at the side. So a vector that
+/// leads far out gets a place nearer to the plane, where the same is read: pads of `width + 7` columns and `height + 7` rows on each side hold all
+/// that is read, however far a vector leads. Where the plane stands in its samples, and the filters, are not read.
 ///
 /// # Errors
 ///

@@ -1,5 +1,5 @@
-//! Blocks that intra modes predict, alone and in their plane, their edges and luma for their chroma, for C. Each call is that of `av1_calls` of
-//! the same name, which says what it does.
+//! Blocks that intra modes predict, alone and in their plane, their edges and luma for their chroma, for C. Each call
+//! is that of `av1_calls` of the same name, which says what it does.
 ghost use Rattle.std.specs.Prelude.{false, true};
 ghost use Rattle.av1_blocks.specs.declared.predict.PredictionMode.TheVariants as modes;
 ghost use Rattle.av1_calls.specs.IntraBlocks.{Predicts, PredictsBy};

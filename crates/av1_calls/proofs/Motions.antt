@@ -159,7 +159,8 @@ prep_is depth block before after fx fy mx my s t ex ey mx_is my_is same values o
     record {
       values = λ r c l h. values r c l h
           ∙ ap (λ i. P i fy mx my r c) ex ∙ ap (λ j. P block.col_frac j mx my r c) ey
-          ∙ ap (λ m. P block.col_frac block.row_frac m my r c) mx_is ∙ ap (λ n. P block.col_frac block.row_frac (filter_along block.filter_x block.width) n r c) my_is
+          ∙ ap (λ m. P block.col_frac block.row_frac m my r c) mx_is
+          ∙ ap (λ n. P block.col_frac block.row_frac (filter_along block.filter_x block.width) n r c) my_is
           ∙ prepared_moved depth _ _ s t r c c (λ x y i j. same (c + x) (r + y) (omega arith) (omega arith)) block.col_frac block.row_frac;
       others = others;
     }

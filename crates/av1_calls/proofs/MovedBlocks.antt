@@ -1,7 +1,9 @@
 -- What is read for a block that a vector moves: where all of it is visible, and in a window to which it was gathered.
-use Rattle.std.proofs.Common.{refl, ℕ, ◌+◌, ◌-◌, ◌*◌, ◌^◌, ◌<◌, ◌≤◌, ◌≡◌, ◌∙◌, min, List, length, map, get_or, slice_index, ap, sym, subst, arith, inl, inr}
-use Rattle.std.proofs.Common.{ℤ, pos, negsuc, ◌+ℤ◌, ◌-ℤ◌, ◌≤ℤ◌, ◌<ℤ◌, unsigned_abs}
+use Rattle.std.proofs.Common.{refl, true, false, ℕ, ◌+◌, ◌-◌, ◌*◌, ◌^◌, ◌<◌, ◌≤◌, ◌≡◌, ◌∙◌, min, List, length, map, get_or, slice_index, ap, sym, subst}
+use Rattle.std.proofs.Common.{arith, inl, inr}
+use Rattle.std.proofs.Common.{to_z, of_z, w64, ℤ, pos, negsuc, ◌+ℤ◌, ◌-ℤ◌, ◌≤ℤ◌, ◌<ℤ◌, unsigned_abs}
 use Rattle.std.proofs.lemmas.Bool.{cases_lt}
+use Rattle.std.specs.Int.Signed.{lt_z}
 use Rattle.std.proofs.lemmas.Int.{ints}
 use Rattle.std.proofs.lemmas.List.{get_or-map, get_or_default, get_or_past}
 use Rattle.av1_blocks.specs.Depths.{IsDepth}
@@ -13,7 +15,8 @@ use Rattle.av1_frame.proofs.Fits.{row_end_le, rows_le}
 use Rattle.av1_frame.proofs.Paint.{length_paint, paint_inside}
 use Rattle.av1_frame.proofs.Planes.{some_item}
 use Rattle.av1_frame.proofs.Slices.{visible_below}
-use Rattle.av1_calls.specs.MotionPlaces.{IsPlaceFor, IsPlaceOf}
+use Rattle.av1_calls.specs.IntraEdges.{halvings}
+use Rattle.av1_calls.specs.MotionPlaces.{IsPlaceFor, IsPlaceOf, first_read}
 use Rattle.av1_calls.specs.Motions.{AreOfDepth, AreSides, HoldBlock, IsPrep, IsPut, IsSource, moved_sample, place, rectangle_at, source_at}
 use Rattle.av1_calls.specs.MovedBlocks.{AreMovedFilters, AreMovedWithin, IsPlaced, LiesWithin, motion_at, motion_of, moved_source, nearest_place, stored_at}
 use Rattle.av1_calls.specs.MovedBlocks.{visible_of, window_of}
@@ -33,13 +36,25 @@ not_below (negsuc n) h = absurd (omega (arith, ints))
 nearest_inside : (n k : ℕ) → k < n → nearest_visible n (pos k) ≡ k
 nearest_inside n k h = omega arith
 
-pub nearest_before : (n : ℕ) (z : ℤ) → z <ℤ pos 0 → nearest_visible n z ≡ 0
-nearest_before n (pos i) h = absurd (omega (arith, ints))
-nearest_before n (negsuc i) h = refl
+is_below : (z : ℤ) → lt_z z (pos 0) ≡ true → z <ℤ pos 0
+is_below z h = grind (arith, ints)
 
-pub nearest_from : (n : ℕ) (z : ℤ) → pos 0 ≤ℤ z → nearest_visible n z ≡ min (unsigned_abs z) (n - 1)
-nearest_from n (pos i) h = refl
-nearest_from n (negsuc i) h = absurd (omega (arith, ints))
+is_from : (z : ℤ) → lt_z z (pos 0) ≡ false → pos 0 ≤ℤ z
+is_from z h = grind (arith, ints)
+
+before_first : (n : ℕ) (z : ℤ) → z <ℤ pos 0 → nearest_visible n z ≡ 0
+before_first n (pos i) h = absurd (omega (arith, ints))
+before_first n (negsuc i) h = refl
+
+from_first : (n : ℕ) (z : ℤ) → pos 0 ≤ℤ z → nearest_visible n z ≡ min (unsigned_abs z) (n - 1)
+from_first n (pos i) h = refl
+from_first n (negsuc i) h = absurd (omega (arith, ints))
+
+pub nearest_before : (n : ℕ) (z : ℤ) → lt_z z (pos 0) ≡ true → nearest_visible n z ≡ 0
+nearest_before n z h = before_first n z (is_below z h)
+
+pub nearest_from : (n : ℕ) (z : ℤ) → lt_z z (pos 0) ≡ false → nearest_visible n z ≡ min (unsigned_abs z) (n - 1)
+nearest_from n z h = from_first n z (is_from z h)
 
 -- along columns or rows
 inside_at : (first : ℤ) (side visible : ℕ) (at : ℤ) → IsPlaceFor first side visible at → pos 3 ≤ℤ at → (at +ℤ pos (side + 4)) ≤ℤ pos visible → (c : ℕ)
@@ -64,7 +79,7 @@ module _ (p : MotionPlane) (b : MovedBlock) (at : MovedPlace) (found : IsPlaceOf
       ap (λ n. slice_index src (n * p.stride + (p.x + unsigned_abs at.x - 3) + c)) row
       ∙ ap (slice_index src) (column ((p.y + (unsigned_abs at.y - 3 + r)) * p.stride))
       ∙ ap (λ n. slice_index src ((p.y + (unsigned_abs at.y - 3 + r)) * p.stride + p.x + n)) (sym ex)
-      ∙ ap (λ n. slice_index src ((p.y + n) * p.stride + p.x + nearest_visible p.width _)) (sym ey)
+      ∙ ap (λ n. slice_index src ((p.y + n) * p.stride + p.x + nearest_visible p.width (first_read b.x b.col (halvings p.halved_columns) +ℤ pos c))) (sym ey)
 
   -- and all lies in the samples
   pub within_rows : (i j n : ℕ) → AreRows p.stride (visible_of p) n → IsSource (stored_at p at) (motion_at b i j) n
@@ -88,7 +103,8 @@ module _ (p : MotionPlane) (b : MovedBlock) (at : MovedPlace) (found : IsPlaceOf
 
 -- it can be put
 pub put_asked : (to : Place) (room : ℕ) (from : Place) (n : ℕ) (b : MovedBlock) (i j : ℕ) (m : MotionBlock) → m ≡ motion_at b i j → AreSides b.width b.height
-    → AreMovedFilters b → i < 16 → j < 16 → IsSource from (motion_at b i j) n → AreRows to.stride (rectangle_at to b.width b.height) room → IsPut to room from n m
+    → AreMovedFilters b → i < 16 → j < 16 → IsSource from (motion_at b i j) n → AreRows to.stride (rectangle_at to b.width b.height) room →
+    IsPut to room from n m
 put_asked to room from n b i j m is sides filters few_columns few_rows source rows =
     subst (λ (k : MotionBlock). IsPut to room from n k) (sym is) (record {
       motion = record {
@@ -143,6 +159,14 @@ moved_prep depth b i j u v m old new s t is columns rows same held =
 
 -- ---- in a window
 
+-- where what is read along columns or rows begins, as it is handed on
+pub three_before : (z : ℤ) (side visible : ℕ) → (pos 0 -ℤ pos (side + 4)) ≤ℤ z → z ≤ℤ pos (visible + 3) → side ≤ 128 → visible ≤ 65536 →
+    to_z w64 (of_z w64 (to_z w64 (of_z w64 z) -ℤ pos 3)) ≡ z -ℤ pos 3
+three_before z side visible least greatest short few =
+    let is : to_z w64 (of_z w64 z) ≡ z = omega (arith, ints) in
+    let e : to_z w64 (of_z w64 (z -ℤ pos 3)) ≡ z -ℤ pos 3 = omega (arith, ints) in
+    ap (λ (y : ℤ). to_z w64 (of_z w64 (y -ℤ pos 3))) is ∙ e
+
 -- the place of a visible sample lies in the samples
 nearest_stored : (p : MotionPlane) (n : ℕ) (x y : ℤ) → AreRows p.stride (visible_of p) n → 0 < p.width → 0 < p.height → nearest_place p x y < n
 nearest_stored p n x y rows some_columns some_rows =
@@ -182,7 +206,8 @@ module _ {T : Type 0} (num : T → ℕ) (src old window : List T) (p : MotionPla
       ap (slice_index (map num window)) first
       ∙ painted_item num src window index there d read (omega (arith, inside, painted_long)) stored
       ∙ ap (λ n. slice_index (map num src) ((p.y + nearest_visible p.height (y +ℤ pos r)) * p.stride + p.x + n)) column
-      ∙ ap (λ n. slice_index (map num src) ((p.y + n) * p.stride + p.x + nearest_visible p.width _)) row
+      ∙ ap (λ n. slice_index (map num src) ((p.y + n) * p.stride + p.x + nearest_visible p.width (first_read b.x b.col (halvings p.halved_columns) +ℤ pos c)))
+      row
 
 module _ {T : Type 0} (num : T → ℕ) (src old window : List T) (p : MotionPlane) (b : MovedBlock) (at : MovedPlace) (area : StoredArea) (x y : ℤ)
     (found : IsPlaceOf p b at) (x_is : x ≡ at.x -ℤ pos 3) (y_is : y ≡ at.y -ℤ pos 3) (rows : AreRows (b.width + 7) (window_of b) (length old))

@@ -1,5 +1,5 @@
--- What the calls say that predict a transform in its plane, from the edge that is prepared there: they are the call that
--- prepares the edge and one that predicts from it, in turn. AV1 specification: intra prediction process.
+-- What the calls say that predict a transform in its plane, from the edge that is prepared there: they are the call
+-- that prepares the edge and one that predicts from it, in turn. AV1 specification: intra prediction process.
 use Rattle.std.specs.Prelude.{◌≡◌, ◌≢◌, ◌⊎◌, ℕ, ◌+◌, ◌-◌, ◌==◌, if◌then◌else◌, List, length, take, drop, slice_index, ℤ}
 use Rattle.av1_blocks.specs.declared.predict.PredictionMode.TheVariants as modes
 use Rattle.av1_calls.specs.IntraBlocks.{Predicts, PredictsBy}
@@ -61,7 +61,8 @@ PredictsFrom bits num pixel p b smooth left corner above ac alpha before after a
 abbrev pub PredictsFromRoom : (bits : ℕ) → EdgePlane → EdgeBlock → (smooth : ℕ) → (edge : List ℕ) → (ac : List ℤ) →
     (alpha : ℤ) → (before after : List ℕ) → (answer : ℕ) → Type 0
 PredictsFromRoom bits p b smooth edge ac alpha before after answer =
-    PredictsFrom bits (λ n. n) (λ n. n) p b smooth (take 128 edge) (slice_index edge 128) (drop 129 edge) ac alpha before
+    PredictsFrom bits (λ n. n) (λ n. n) p b smooth (take 128 edge) (slice_index edge 128)
+    (drop 129 edge) ac alpha before
     after answer
 
 -- ---- what the calls say

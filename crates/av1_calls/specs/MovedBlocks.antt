@@ -74,10 +74,9 @@ pub record IsSourced (p : MotionPlane) (samples : ℕ) (b : MovedBlock) : Type 0
   pub near : LiesNear p b
   pub source : AreRows p.stride (visible_of p) samples
 
--- The plane lies in so many samples, and the block's rectangle in `room` samples.
+-- The same, and the block's rectangle lies in `room` samples.
 pub record IsPlaced (to : Place) (room : ℕ) (p : MotionPlane) (samples : ℕ) (b : MovedBlock) : Type 0 where
-  pub near : LiesNear p b
-  pub source : AreRows p.stride (visible_of p) samples
+  pub source : IsSourced p samples b
   pub rows : AreRows to.stride (rectangle_at to b.width b.height) room
 
 -- all that is read for the block, row by row

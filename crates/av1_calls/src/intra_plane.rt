@@ -78,6 +78,7 @@ fn row_in(plane: EdgePlane, block: EdgeBlock, samples: usize) -> usize
     requires begins { block.y < plane.tile_height }
     ensures { result ≡ row_in plane block }
 {
+    // So many rows lie in the samples, so that the sum is a number.
     let _rows = rows_of(plane, samples);
     plane.y + plane.tile_y + block.y
 }

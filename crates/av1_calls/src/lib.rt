@@ -4,14 +4,14 @@
 //! [`av1_put_8tap_8`] and [`av1_put_8tap_16`] predict one from a reference; [`av1_prep_8tap_8`] and
 //! [`av1_prep_8tap_16`] prepare one of two references, and [`av1_mc_avg_8`] and [`av1_mc_avg_16`] average what they
 //! prepare; [`av1_motion_place`] tells where a vector leads, and [`av1_put_moved_8`], [`av1_prep_moved_8`] and
-//! their like for samples of 16 bits follow it in a plane without margins. [`av1_predict_intra_8`], [`av1_predict_cfl_8`] and their
-//! like for samples of 16 bits predict a block from the sides that they are handed, [`av1_intra_edge_8`] and
-//! [`av1_intra_edge_16`] prepare these sides from a plane, [`av1_predict_in_plane_8`] and [`av1_predict_in_plane_16`] do
-//! both, and [`av1_cfl_ac_8`] and [`av1_cfl_ac_16`] give the differences of luma from its mean, by which chroma is
-//! predicted.
+//! their like for samples of 16 bits follow it in a plane without margins. [`av1_predict_intra_8`],
+//! [`av1_predict_cfl_8`] and their like for samples of 16 bits predict a block from the sides that they are handed,
+//! [`av1_intra_edge_8`] and [`av1_intra_edge_16`] prepare these sides from a plane, [`av1_predict_in_plane_8`] and
+//! [`av1_predict_in_plane_16`] do both, and [`av1_cfl_ac_8`] and [`av1_cfl_ac_16`] give the differences of luma from
+//! its mean, by which chroma is predicted.
 //!
-//! Above a depth of 8 [`av1_put_tested_16`] and [`av1_prep_tested_16`] do the same as the calls on one reference, without
-//! a look at its samples before they read them, and so do [`av1_put_moved_16`] and [`av1_prep_moved_16`];
+//! Above a depth of 8 [`av1_put_tested_16`] and [`av1_prep_tested_16`] do the same as the calls on one reference,
+//! without a look at its samples before they read them, and so do [`av1_put_moved_16`] and [`av1_prep_moved_16`];
 //! [`av1_test_samples_16`] looks at them once.
 //!
 //! It stands on `av1_itx` for the transforms of blocks, on `av1_inter` for their motion, and on `av1_edges` and
@@ -22,8 +22,8 @@
 //! [`DONE`] says that the arguments are good, and what each sample has become (`specs/Transforms.antt`,
 //! `specs/Motions.antt`, `specs/MovedBlocks.antt`, `specs/IntraBlocks.antt`, `specs/IntraEdges.antt`,
 //! `specs/IntraPlanes.antt`), or the place
-//! (`specs/MotionPlaces.antt`), or each difference of luma (`specs/LumaBlocks.antt`). Good arguments give [`DONE`]. Each
-//! other status names the first argument that is at fault, and leaves everything as it was.
+//! (`specs/MotionPlaces.antt`), or each difference of luma (`specs/LumaBlocks.antt`). Good arguments give [`DONE`].
+//! Each other status names the first argument that is at fault, and leaves everything as it was.
 #![tactic(auto)]
 
 mod argument;

@@ -186,9 +186,9 @@ pub(crate) fn place_of(plane: MotionPlane, block: MovedBlock) -> MovedPlace
 /// one of the plane, and the sixteenths of a sample beyond it. Where the plane stands in its samples, and the filters,
 /// are not read.
 ///
-/// Past a side of the plane each sample is that at the side. So a place is never further out than the block's pads,
-/// `width + 7` columns and `height + 7` rows on each side, however far the vector leads: what is read there is the
-/// same.
+/// Past a side of the plane each sample is that at the side. So a vector that leads far out gets a place nearer to the
+/// plane, where the same is read: pads of `width + 7` columns and `height + 7` rows on each side hold all that is read,
+/// however far a vector leads.
 ///
 /// `DONE`: that was done. `BAD_SIZE`: a side is 0, or above 128. `BAD_AREA`: the plane has no samples, or it or the
 /// block's place is past 65,536.

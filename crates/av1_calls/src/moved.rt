@@ -1,13 +1,16 @@
 //! Blocks that vectors move in planes without margins: where one is read, and in what words it is handed on.
-ghost use Rattle.std.specs.Prelude.{◌≡◌, true, ◌+◌, ◌≤◌, ◌+ℤ◌, ◌-ℤ◌, ◌≤ℤ◌, pos};
+ghost use Rattle.std.specs.Prelude.{◌≡◌, true, ℕ, ◌+◌, ◌<◌, ◌≤◌, ◌+ℤ◌, ◌-ℤ◌, ◌≤ℤ◌, length, map, pos};
 ghost use Rattle.av1_calls.specs.MotionPlaces.{IsPlaceOf};
-ghost use Rattle.av1_calls.specs.MovedBlocks.{AreMovedFilters, LiesWithin, motion_at, stored_at, visible_of, window_of};
+ghost use Rattle.av1_calls.specs.Motions.{AreSides, IsSource, source_at};
+ghost use Rattle.av1_calls.specs.MovedBlocks.{AreMovedFilters, IsSourced, LiesWithin, motion_at, moved_source, stored_at, visible_of, window_of};
 ghost use Rattle.av1_frame.specs.Areas.{AreRows};
 
+use crate::argument::are_rows;
 use crate::intra_edge::signed;
 use crate::motion::{MotionBlock, Place, is_filter_number};
-use crate::motion_place::{MotionPlane, MovedBlock, MovedPlace};
-use av1_frame::StoredArea;
+use crate::motion_place::{MotionPlane, MovedBlock, MovedPlace, lies_near};
+use crate::window::gather;
+use av1_frame::{Pixel, StoredArea};
 
 /// A block that a vector moves, and where it is read.
 #[derive(Clone, Copy)]
@@ -69,6 +72,15 @@ pub(crate) fn are_moved_filters(block: MovedBlock) -> bool
     is_filter_number(block.filter_x) && is_filter_number(block.filter_y)
 }
 
+/// Whether the plane lies in so many samples, and the block near it.
+#[inline(always)]
+pub(crate) fn is_sourced(plane: MotionPlane, samples: usize, block: MovedBlock) -> bool
+    ensures true_is { result ≡ true → IsSourced plane samples block }
+    ensures is_true { IsSourced plane samples block → result ≡ true }
+{
+    lies_near(plane, block) && are_rows(plane.stride, visible_of(plane), samples)
+}
+
 // Whether all that is read along columns or rows for a block of so many is visible.
 #[inline(always)]
 fn is_within(place: isize, side: usize, visible: usize) -> bool
@@ -108,5 +120,26 @@ pub(crate) fn stored_at(moved: Moved, samples: usize) -> Place
         stride: plane.stride,
         x: plane.x + place.x.unsigned_abs(),
         y: plane.y + place.y.unsigned_abs(),
+    }
+}
+
+/// All that is read for the block becomes the front of the window: the place at which the block stands there.
+#[inline(always)]
+pub(crate) fn gathered<T: Pixel>(window: &mut [T], src: &[T], moved: Moved) -> Place
+    requires sides { AreSides moved.block.width moved.block.height }
+    requires found { IsPlaceOf moved.plane moved.block moved.place }
+    requires source { IsSourced moved.plane (length src.now) moved.block }
+    requires long { AreRows (moved.block.width + 7) (window_of moved.block) (length window.old) }
+    ensures lies { (i j : ℕ) → IsSource result (motion_at moved.block i j) (length window.new) }
+    ensures same { (c r : ℕ) → c < moved.block.width + 7 → r < moved.block.height + 7
+        → source_at result (map T.num window.new) c r ≡ moved_source moved.plane moved.block (map T.num src.now) c r }
+{
+    let area = window_of(moved.block);
+    let (x, y) = (moved.place.x - 3, moved.place.y - 3);
+    gather(window, area.width, area, src, moved.plane, x, y);
+    Place {
+        stride: area.width,
+        x: 3,
+        y: 3,
     }
 }

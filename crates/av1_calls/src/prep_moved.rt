@@ -9,25 +9,15 @@ ghost use Rattle.av1_calls.specs.MovedBlocks.{AreMovedFilters, AreMovedWithin, H
 ghost use Rattle.av1_calls.specs.MovedBlocks.{IsSourced, LiesWithin, PreparesMoved, motion_of, moved_source};
 
 use crate::argument::{BadArgument, are_rows, is_depth};
-use crate::motion::{Place, are_sides};
-use crate::motion_place::{MotionPlane, MovedBlock, lies_near, place_of};
+use crate::motion::are_sides;
+use crate::motion_place::{MotionPlane, MovedBlock, place_of};
 use crate::moved::{
-    Moved, are_moved_filters, lies_within, motion_at, stored_at, visible_of, window_of,
+    Moved, are_moved_filters, gathered, is_sourced, lies_within, motion_at, stored_at, window_of,
 };
 use crate::prep_8tap::prep;
 use crate::samples::have_8_bits;
 use crate::status::DONE;
-use crate::window::gather;
 use av1_frame::Pixel;
-
-// Whether the plane lies in so many samples, and the block near it.
-#[inline(always)]
-fn is_sourced(plane: MotionPlane, samples: usize, block: MovedBlock) -> bool
-    ensures true_is { result ≡ true → IsSourced plane samples block }
-    ensures is_true { IsSourced plane samples block → result ≡ true }
-{
-    lies_near(plane, block) && are_rows(plane.stride, visible_of(plane), samples)
-}
 
 // Whether so many values have room for the block, and a window of so many samples for all that is read.
 #[inline(always)]
@@ -127,21 +117,7 @@ fn prep_gathered<T: Pixel>(
     requires deep { AreMovedWithin bit_depth moved.plane moved.block (map T.num src.now) }
     ensures { HoldBlock bit_depth (motion_of moved.plane moved.block) (moved_source moved.plane moved.block (map T.num src.now)) values.old values.new }
 {
-    let area = window_of(moved.block);
-    gather(
-        window,
-        area.width,
-        area,
-        src,
-        moved.plane,
-        moved.place.x - 3,
-        moved.place.y - 3,
-    );
-    let from = Place {
-        stride: area.width,
-        x: 3,
-        y: 3,
-    };
+    let from = gathered(window, src, moved);
     let block = motion_at(moved.block, moved.place.col_frac, moved.place.row_frac);
     prep(values, window, from, block, bit_depth);
 }
@@ -173,15 +149,15 @@ fn prep_moved<T: Pixel>(
     }
 }
 
-/// Prepares a block that a vector moves for the average with another, from a reference without margins, at a depth of 8:
-/// the specification's "Block inter prediction process" with the rounding of compound prediction. The first
-/// `height * width` of `values` become those of the block, row by row, and the others stay. Only visible samples of the
-/// plane are read; past a side each is the nearest of these. `window` is room to gather them, and what it holds
-/// afterwards is not told: `width + 7` by `height + 7` samples.
+/// Prepares a block that a vector moves for the average with another, from a reference without margins, at a depth of
+/// 8: the specification's "Block inter prediction process" with the rounding of compound prediction. The first `height
+/// * width` of `values` become those of the block, row by row, and the others stay. Only visible samples of the plane
+/// are read; past a side each is the nearest of these. `window` is room to gather them, and what it holds afterwards is
+/// not told: `width + 7` by `height + 7` samples.
 ///
-/// `DONE`: that was done. `BAD_SIZE`: a side is 0, or above 128. `BAD_MODE`: a filter has no such number. `BAD_AREA`: the
-/// plane has no samples or does not lie in them, or it or the block's place is past 65,536. `TOO_SHORT`: there are fewer
-/// values than the block has samples, or the window is too short.
+/// `DONE`: that was done. `BAD_SIZE`: a side is 0, or above 128. `BAD_MODE`: a filter has no such number. `BAD_AREA`:
+/// the plane has no samples or does not lie in them, or it or the block's place is past 65,536. `TOO_SHORT`: there are
+/// fewer values than the block has samples, or the window is too short.
 pub fn av1_prep_moved_8(
     values: &mut [i16],
     src: &[u8],
@@ -202,9 +178,9 @@ pub fn av1_prep_moved_8(
     }
 }
 
-/// The same for samples of 16 bits at a depth of 8, 10 or 12. It looks at no sample before it reads it: the caller has to
-/// see that none that is read is past the depth, as `av1_test_samples_16` tells of a whole reference. At depths above 8
-/// values are less by 8192.
+/// The same for samples of 16 bits at a depth of 8, 10 or 12. It looks at no sample before it reads it: the caller has
+/// to see that none that is read is past the depth, as `av1_test_samples_16` tells of a whole reference. At depths
+/// above 8 values are less by 8192.
 ///
 /// `BAD_DEPTH`: samples have no such depth.
 pub fn av1_prep_moved_16(

@@ -11,14 +11,13 @@ ghost use Rattle.av1_frame.specs.Samples.{paint};
 
 use crate::argument::{BadArgument, are_rows, is_depth};
 use crate::motion::{Place, are_sides, rectangle_at};
-use crate::motion_place::{MotionPlane, MovedBlock, lies_near, place_of};
+use crate::motion_place::{MotionPlane, MovedBlock, place_of};
 use crate::moved::{
-    Moved, are_moved_filters, lies_within, motion_at, stored_at, visible_of, window_of,
+    Moved, are_moved_filters, gathered, is_sourced, lies_within, motion_at, stored_at, window_of,
 };
 use crate::put_8tap::put;
 use crate::samples::have_8_bits;
 use crate::status::DONE;
-use crate::window::gather;
 use av1_frame::Pixel;
 
 // Whether the plane lies in so many samples, and the block's rectangle in `room` samples.
@@ -27,8 +26,7 @@ fn is_placed(to: Place, room: usize, plane: MotionPlane, samples: usize, block: 
     ensures true_is { result ≡ true → IsPlaced to room plane samples block }
     ensures is_true { IsPlaced to room plane samples block → result ≡ true }
 {
-    lies_near(plane, block)
-        && are_rows(plane.stride, visible_of(plane), samples)
+    is_sourced(plane, samples, block)
         && are_rows(to.stride, rectangle_at(to, block.width, block.height), room)
 }
 
@@ -126,21 +124,7 @@ fn put_gathered<T: Pixel>(
     ensures { dst.new ≡ paint to.stride (rectangle_at to moved.block.width moved.block.height)
         (λ r c _. T.pixel (moved_sample bit_depth (motion_of moved.plane moved.block) (moved_source moved.plane moved.block (map T.num src.now)) r c)) dst.old }
 {
-    let area = window_of(moved.block);
-    gather(
-        window,
-        area.width,
-        area,
-        src,
-        moved.plane,
-        moved.place.x - 3,
-        moved.place.y - 3,
-    );
-    let from = Place {
-        stride: area.width,
-        x: 3,
-        y: 3,
-    };
+    let from = gathered(window, src, moved);
     let block = motion_at(moved.block, moved.place.col_frac, moved.place.row_frac);
     put(dst, to, window, from, block, bit_depth);
 }
@@ -176,15 +160,15 @@ fn put_moved<T: Pixel>(
 }
 
 /// Predicts the samples of a rectangle of the block's sides from those of a reference without margins, at a depth of 8:
-/// the specification's "Block inter prediction process" for one reference. The rectangle begins at column `dst_x` of row
-/// `dst_y` of `dst`, whose rows stand `dst_stride` apart. Each of its samples becomes that of the block, moved by the
-/// vector; all others stay. Only visible samples of the reference's plane are read; past a side each is the nearest of
-/// these. `window` is room to gather them, and what it holds afterwards is not told: `width + 7` by `height + 7`
+/// the specification's "Block inter prediction process" for one reference. The rectangle begins at column `dst_x` of
+/// row `dst_y` of `dst`, whose rows stand `dst_stride` apart. Each of its samples becomes that of the block, moved by
+/// the vector; all others stay. Only visible samples of the reference's plane are read; past a side each is the nearest
+/// of these. `window` is room to gather them, and what it holds afterwards is not told: `width + 7` by `height + 7`
 /// samples.
 ///
-/// `DONE`: that was done. `BAD_SIZE`: a side is 0, or above 128. `BAD_MODE`: a filter has no such number. `BAD_AREA`: the
-/// plane has no samples or does not lie in them, or the rectangle doesn't, or the plane or the block's place is past
-/// 65,536. `TOO_SHORT`: the window is.
+/// `DONE`: that was done. `BAD_SIZE`: a side is 0, or above 128. `BAD_MODE`: a filter has no such number. `BAD_AREA`:
+/// the plane has no samples or does not lie in them, or the rectangle doesn't, or the plane or the block's place is
+/// past 65,536. `TOO_SHORT`: the window is.
 pub fn av1_put_moved_8(
     dst: &mut [u8],
     dst_stride: usize,
@@ -213,8 +197,8 @@ pub fn av1_put_moved_8(
     }
 }
 
-/// The same for samples of 16 bits at a depth of 8, 10 or 12. It looks at no sample before it reads it: the caller has to
-/// see that none that is read is past the depth, as `av1_test_samples_16` tells of a whole reference.
+/// The same for samples of 16 bits at a depth of 8, 10 or 12. It looks at no sample before it reads it: the caller has
+/// to see that none that is read is past the depth, as `av1_test_samples_16` tells of a whole reference.
 ///
 /// `BAD_DEPTH`: samples have no such depth.
 pub fn av1_put_moved_16(

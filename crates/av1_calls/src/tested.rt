@@ -35,7 +35,8 @@ fn test_area(
 }
 
 /// Tells whether no sample of a rectangle is past a depth of 8, 10 or 12, as `av1_put_tested_16` and
-/// `av1_prep_tested_16` ask of what they read. The rectangle begins at column `x` of row `y`; rows stand `stride` apart.
+/// `av1_prep_tested_16` ask of what they read. The rectangle begins at column `x` of row `y`; rows stand `stride`
+/// apart.
 ///
 /// `DONE`: none is. `BAD_AREA`: the rectangle does not lie in the samples. `BAD_DEPTH`: samples have no such depth.
 /// `BAD_SAMPLE`: one of them is past it.

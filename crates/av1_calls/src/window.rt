@@ -57,8 +57,8 @@ fn gather_row<T: Pixel>(row: &mut [T], source: &[T], first: isize, visible: usiz
     }
 }
 
-/// The rectangle of `window`, whose rows stand `stride` apart, becomes what is read of a plane from column `x` of row `y`
-/// on, counted from the first visible sample.
+/// The rectangle of `window`, whose rows stand `stride` apart, becomes what is read of a plane from column `x` of row
+/// `y` on, counted from the first visible sample.
 #[tactic(auto, using(av1_frame::proofs::Paint::rectangle_painting))]
 pub(crate) fn gather<T: Pixel>(
     window: &mut [T],

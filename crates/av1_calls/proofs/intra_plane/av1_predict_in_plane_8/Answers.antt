@@ -29,7 +29,11 @@ returns c =
     let answer = c.predict_prepared.result in
     let ready = (
       _,
-      (whole, subst (λ (n : ℕ). PreparesEdge 8 (λ m. m) a.plane.now a.block.now a.samples.now _ edge n) c.if-prepared-ne-DONE.false c.av1_intra_edge_8-prepared.ensures),
+      (
+        whole,
+        subst (λ (n : ℕ). PreparesEdge 8 (λ m. m) a.plane.now a.block.now a.samples.now _ edge n) c.if-prepared-ne-DONE.false
+            c.av1_intra_edge_8-prepared.ensures,
+      ),
     ) in
     let from =
     subst (λ (z : ℤ). PredictsFromRoom 8 a.plane.now a.block.now a.smooth_neighbour edge a.ac.now z a.samples.now after answer)

@@ -11,8 +11,10 @@ returns-then-mode-eq-FROM_LUMA g c =
     let t = a.at in
     inl (
       c.if-mode-eq-FROM_LUMA.true,
-      predicted_there g.T.Pixel.BITS g.T.Pixel.num g.T.Pixel.pixel t.plane.stride _ (block_in t.plane t.block t.smooth_neighbour) _ (column_in t.plane t.block) _
-          (row_in t.plane t.block) _ _ a.corner _ _ a.samples.now _ _ c.block_in-block.ensures c.column_in-x.ensures c.row_in-y.ensures c.split_at.ensures.front
+      predicted_there g.T.Pixel.BITS g.T.Pixel.num g.T.Pixel.pixel t.plane.stride _ (block_in t.plane t.block t.smooth_neighbour) _
+          (column_in t.plane t.block) _
+          (row_in t.plane t.block) _ _ a.corner _ _ a.samples.now _ _ c.block_in-block.ensures c.column_in-x.ensures c.row_in-y.ensures
+          c.split_at.ensures.front
           c.split_at-2.ensures.back modes.UV_CFL_PRED a.ac.now _ a.alpha (to_z-of_z w16 a.alpha c.ranges.alpha) c.predict_by.ensures,
     )
 
@@ -23,6 +25,7 @@ returns-else-mode-eq-FROM_LUMA g c =
     inr (
       c.if-mode-eq-FROM_LUMA.false,
       numbered_there g.T.Pixel.BITS g.T.Pixel.num g.T.Pixel.pixel t.plane.stride _ (block_in t.plane t.block t.smooth_neighbour) _ (column_in t.plane t.block) _
-          (row_in t.plane t.block) _ _ a.corner _ _ a.samples.now _ _ c.block_in-block.ensures c.column_in-x.ensures c.row_in-y.ensures c.split_at.ensures.front
+          (row_in t.plane t.block) _ _ a.corner _ _ a.samples.now _ _ c.block_in-block.ensures c.column_in-x.ensures c.row_in-y.ensures
+          c.split_at.ensures.front
           c.split_at-2.ensures.back c.predict_by_number.ensures,
     )

@@ -1,6 +1,12 @@
 use Rattle.std.proofs.Common.{ℕ, ◌∙◌, ◌^◌, ◌<◌, subst, sym}
-use Rattle.av1_calls.proofs.Motions.{fraction_is, prep_is, read_same}
+use Rattle.av1_calls.proofs.Motions.{fraction_is, prep_is, read_same, read_stored}
 use Rattle.av1_calls.proofs.prep_8tap.prep.Goals as goal
+
+pub prep_8tap-requires-clause-stored : goal.prep_8tap-requires-clause-stored
+prep_8tap-requires-clause-stored g c =
+    let place = c.from_slice-place in
+    read_stored c.args.from c.args.block c.args.src.now c.requires.asked.motion place.result (place.ensures.samples ∙ c.rows_of-rows.ensures)
+    (place.ensures.cfg ∙ c.config_of-cfg.ensures) place.ensures.x place.ensures.y
 
 pub prep_8tap-requires-clause-within : goal.prep_8tap-requires-clause-within
 prep_8tap-requires-clause-within g c = λ x y h k.

@@ -13,7 +13,7 @@ put-requires-clause-asked g c =
     subst (λ (p : Place). IsPut a.to (length a.dst.now) p (length a.src.now) c.motion_at-block.result) (sym c.stored_at-from.ensures)
     (put_asked a.to (length a.dst.now) (stored_at m.plane m.place) (length a.src.now) m.block m.place.col_frac m.place.row_frac _ c.motion_at-block.ensures
     r.sides r.filters r.found.few_columns r.found.few_rows
-    (within_rows m.plane m.block m.place r.found r.within m.place.col_frac m.place.row_frac (length a.src.now) r.placed.source) r.placed.rows)
+    (within_rows m.plane m.block m.place r.found r.within m.place.col_frac m.place.row_frac (length a.src.now) r.placed.source.source) r.placed.rows)
 
 pub put-requires-clause-deep : goal.put-requires-clause-deep
 put-requires-clause-deep g c =

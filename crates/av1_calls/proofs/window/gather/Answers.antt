@@ -1,4 +1,4 @@
-use Rattle.std.proofs.Common.{◌∙◌, ◌+◌, ◌*◌, ◌+ℤ◌, pos, ap, get_or}
+use Rattle.std.proofs.Common.{ℤ, ◌∙◌, ◌+◌, ◌*◌, ◌+ℤ◌, pos, ap, get_or, to_z, of_z, w64}
 use Rattle.std.proofs.lemmas.List.{get_or-drop}
 use Rattle.av1_frame.specs.Slices.{nearest_visible}
 use Rattle.av1_frame.proofs.Paint.{row_painted_rest}
@@ -10,9 +10,9 @@ loop-r-preserved g c =
     let a = c.args in
     let rows = c.split_at_mut-row.ensures in
     let p = a.plane in
-    let row = c.nearest_behind.ensures.value in
+    let x : ℤ = to_z w64 (of_z w64 a.x) in
     row_painted_rest a.stride a.area c.loop-r.r _ _ c.loop-r.window _ _ _ c.requires.rows c.loop-r-test.true c.loop-r.invariant rows.front rows.back
     (c.gather_row.ensures ∙ paint_row_same a.area.width _ _ _
-    (λ q v h. ap (λ s. get_or s (nearest_visible p.width (a.x +ℤ pos q)) v) c.split_at-from.ensures.back
-    ∙ get_or-drop _ a.source.now (nearest_visible p.width (a.x +ℤ pos q)) v
-    ∙ ap (λ n. get_or a.source.now ((p.y + n) * p.stride + p.x + nearest_visible p.width (a.x +ℤ pos q)) v) row))
+    (λ q v h. ap (λ s. get_or s (nearest_visible p.width (x +ℤ pos q)) v) c.split_at.ensures.back
+    ∙ get_or-drop _ a.source.now (nearest_visible p.width (x +ℤ pos q)) v
+    ∙ ap (λ n. get_or a.source.now ((p.y + n) * p.stride + p.x + nearest_visible p.width (x +ℤ pos q)) v) c.nearest_behind-line.ensures.value))
