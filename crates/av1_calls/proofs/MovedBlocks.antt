@@ -18,7 +18,7 @@ use Rattle.av1_frame.proofs.Slices.{visible_below}
 use Rattle.av1_calls.specs.IntraEdges.{halvings}
 use Rattle.av1_calls.specs.MotionPlaces.{IsPlaceFor, IsPlaceOf, first_read}
 use Rattle.av1_calls.specs.Motions.{AreOfDepth, AreSides, HoldBlock, IsPrep, IsPut, IsSource, moved_sample, place, rectangle_at, source_at}
-use Rattle.av1_calls.specs.MovedBlocks.{AreMovedFilters, AreMovedWithin, IsPlaced, LiesWithin, motion_at, motion_of, moved_source, nearest_place, stored_at}
+use Rattle.av1_calls.specs.MovedBlocks.{AreMovedFilters, AreMovedWithin, LiesWithin, motion_at, moved_source, nearest_place, stored_at}
 use Rattle.av1_calls.specs.MovedBlocks.{visible_of, window_of}
 use Rattle.av1_calls.specs.declared.motion.MotionBlock.{MotionBlock}
 use Rattle.av1_calls.specs.declared.motion.Place.{Place}

@@ -1,4 +1,4 @@
-use Rattle.std.proofs.Common.{◌≡◌, ◌∙◌, ap, length, map, subst, sym}
+use Rattle.std.proofs.Common.{◌∙◌, ap, length, map, subst, sym}
 use Rattle.av1_calls.specs.Motions.{AreOfDepth, IsPut, source_at}
 use Rattle.av1_calls.specs.MovedBlocks.{moved_source, stored_at}
 use Rattle.av1_calls.specs.declared.motion.Place.{Place}
