@@ -6,5 +6,4 @@ pub mod Lanes
 pub mod Motions
 pub mod LumaCalls
 pub mod MotionPlaces
-pub mod PlaneCalls
 pub mod MovedBlocks

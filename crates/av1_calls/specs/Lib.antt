@@ -3,7 +3,6 @@ pub mod Motions
 pub mod Transforms
 pub mod IntraBlocks
 pub mod IntraEdges
-pub mod IntraPlanes
 pub mod MotionPlaces
 pub mod MovedBlocks
 pub mod Samples
