@@ -22,6 +22,9 @@ NAMES = {
     "Refusal": ("av1_refusal", "sys::Refusal"),
     "TxRoom": ("av1_transform_scratch", "sys::TransformScratch"),
     "MotionBlock": ("av1_motion_block", "crate::MotionBlock"),
+    "MotionPlane": ("av1_motion_plane", "crate::MotionPlane"),
+    "MovedBlock": ("av1_moved_block", "crate::MovedBlock"),
+    "MovedPlace": ("av1_moved_place", "crate::MovedPlace"),
     "IntraBlock": ("av1_intra_block", "crate::IntraBlock"),
     "EdgePlane": ("av1_edge_plane", "crate::EdgePlane"),
     "EdgeBlock": ("av1_edge_block", "crate::EdgeBlock"),
@@ -35,10 +38,10 @@ NAMES = {
 }
 # The numbers: in C, in C's types, and their bytes.
 NUMBERS = {"u8": ("uint8_t", 1), "i8": ("int8_t", 1), "u16": ("uint16_t", 2), "i16": ("int16_t", 2), "u32": ("uint32_t", 4),
-           "i32": ("int32_t", 4), "usize": ("size_t", 8)}
+           "i32": ("int32_t", 4), "usize": ("size_t", 8), "isize": ("ptrdiff_t", 8)}
 # Constants whose name in C isn't AV1_ and their own, and those that aren't in `sys`.
 CONSTANTS_OF_C = {"VERSION": "AV1_C_VERSION"}
-CONSTANTS_OF_CRATE = {"VERSION", "EDGE_SAMPLES", "ANY_MODE"}
+CONSTANTS_OF_CRATE = {"VERSION", "EDGE_SAMPLES", "ANY_MODE", "SHARP", "RAV1E_SHARP"}
 
 STRUCT = re.compile(r"#\[repr\(C\)\]\n(?:#\[derive[^\n]*\n)?pub struct (\w+) \{\n(.*?)\n\}", re.S)
 FIELD = re.compile(r"^    pub (\w+): ([^\n]+),$", re.M)

@@ -1,7 +1,8 @@
 /* AV1 block reconstruction: the calls of libav1_c.a. docs/LIBRARY.md says how to build and link it, and what of it is proved.
  *
  * Every call answers a status. After any but AV1_DONE what it was to write is as it was, so that a refused call leaves no trace but what
- * `refusal` says, and what it may leave in scratch. Every argument is tested, but for what no call can test, and what the caller therefore owes:
+ * `refusal` says, and what it may leave in scratch. Every argument is tested, but for the samples of the calls that say so, and for what no
+ * call can test, and what the caller therefore owes:
  *   - each pointer leads to as many elements as the length beside it says (it may be NULL where that length is 0), or to one value;
  *   - what a call writes to (each pointer without `const`) overlaps nothing else that the call is given. What it reads may overlap.
  * A rectangle whose rows stand `stride` samples apart lies in its samples where x + width <= stride and (y + height) * stride <= their number: its
@@ -24,7 +25,7 @@ extern "C" {
 
 /* The version of this header. As long as major is 0, archives of one minor version go with its headers, and no others. */
 #define AV1_C_VERSION_MAJOR 0
-#define AV1_C_VERSION_MINOR 1
+#define AV1_C_VERSION_MINOR 2
 #define AV1_C_VERSION_PATCH 0
 #define AV1_C_VERSION (AV1_C_VERSION_MAJOR * 65536u + AV1_C_VERSION_MINOR * 256u + AV1_C_VERSION_PATCH)
 
@@ -34,11 +35,11 @@ uint32_t av1_c_version(void);
 /* Stack: a call takes at most so many bytes of it, its arguments and its return address among them; bindings/stack.py works it out from the code of
  * the archive. Beside them come what `malloc` and its like take, where a call takes memory, and `memcpy`, `memmove` and `memset`.
  *    1,024  av1_builder_begin, av1_builder_finish, av1_c_version, av1_cfl_ac_8, av1_cfl_ac_16, av1_intra_edge_8, av1_intra_edge_16, av1_mc_avg_8,
- *           av1_mc_avg_16, av1_planes_len
+ *           av1_mc_avg_16, av1_motion_place, av1_planes_len, av1_test_samples_16
  *    2,048  av1_builder_leaf, av1_builder_mark, av1_builder_reference
- *    4,096  av1_predict_cfl_8, av1_predict_cfl_16, av1_predict_intra_8, av1_predict_intra_16, av1_prep_8tap_8, av1_prep_8tap_16, av1_put_8tap_8,
- *           av1_put_8tap_16
- *    8,192  av1_inverse_transform_add_8, av1_inverse_transform_add_16
+ *    4,096  av1_predict_cfl_8, av1_predict_cfl_16, av1_predict_intra_8, av1_predict_intra_16, av1_prep_8tap_8, av1_prep_8tap_16,
+ *           av1_prep_tested_16, av1_put_8tap_8, av1_put_8tap_16, av1_put_tested_16
+ *    8,192  av1_inverse_transform_add_8, av1_inverse_transform_add_16, av1_prep_moved_8, av1_prep_moved_16, av1_put_moved_8, av1_put_moved_16
  *   16,384  av1_reconstruct_plan */
 
 /* Statuses. */
@@ -131,13 +132,18 @@ uint32_t av1_inverse_transform_add_16(av1_transform_scratch *scratch, const int3
                                       size_t samples_len, size_t stride, size_t x, size_t y, uint8_t tx_size, uint8_t tx_type,
                                       size_t bit_depth);
 
+/* The sharp filter. Along sides up to 4 it is the regular one for such sides, as in AV1. */
+#define AV1_SHARP 2
+/* The sharp filter of rav1e, and of plans: along sides up to 4 it is the smooth one for such sides. */
+#define AV1_RAV1E_SHARP 5
+
 /* A block that is moved between the samples of its reference. */
 typedef struct {
     size_t width;     /* how many columns it has: from 1 to 128 */
     size_t height;    /* how many rows it has: from 1 to 128 */
     uint8_t col_frac; /* how far it is moved right, in sixteenths of a sample: below 16 */
     uint8_t row_frac; /* how far it is moved down, in sixteenths of a sample: below 16 */
-    uint8_t filter_x; /* the number of the filter along its rows, as in plans: 0 regular, 1 smooth, 2 sharp, 3 bilinear */
+    uint8_t filter_x; /* the number of the filter along its rows: 0 regular, 1 smooth, AV1_SHARP, 3 bilinear or AV1_RAV1E_SHARP */
     uint8_t filter_y; /* the number of the filter down its columns */
 } av1_motion_block;
 
@@ -173,6 +179,20 @@ uint32_t av1_prep_8tap_8(int16_t *values, size_t values_len, const uint8_t *src,
 uint32_t av1_prep_8tap_16(int16_t *values, size_t values_len, const uint16_t *src, size_t src_len, size_t src_stride, size_t src_x,
                           size_t src_y, const av1_motion_block *block, size_t bit_depth);
 
+/* Tells whether no sample of a rectangle is past a depth of 8, 10 or 12, as the calls below ask of what they read.
+ *   samples, samples_len, stride    the samples, in rows that stand `stride` samples apart
+ *   x, y, width, height             the rectangle: its first sample, and its sides
+ * Answers AV1_DONE, AV1_BAD_AREA, AV1_BAD_DEPTH or AV1_BAD_SAMPLE. */
+uint32_t av1_test_samples_16(const uint16_t *samples, size_t samples_len, size_t stride, size_t x, size_t y, size_t width, size_t height,
+                             size_t bit_depth);
+
+/* The same as av1_put_8tap_16 and av1_prep_8tap_16, but that they look at no sample of the reference before they read it: the caller owes, too,
+ * that none that is read is past the depth, as av1_test_samples_16 tells of a whole reference at once. So they answer no AV1_BAD_SAMPLE. */
+uint32_t av1_put_tested_16(uint16_t *dst, size_t dst_len, size_t dst_stride, size_t dst_x, size_t dst_y, const uint16_t *src, size_t src_len,
+                           size_t src_stride, size_t src_x, size_t src_y, const av1_motion_block *block, size_t bit_depth);
+uint32_t av1_prep_tested_16(int16_t *values, size_t values_len, const uint16_t *src, size_t src_len, size_t src_stride, size_t src_x,
+                            size_t src_y, const av1_motion_block *block, size_t bit_depth);
+
 /* Averages two prepared blocks at a depth of 8. It takes no memory.
  *   samples, samples_len, stride    the samples, in rows that stand `stride` samples apart
  *   x, y, width, height             the rectangle that is written: its first sample, and its sides from 1 to 128
@@ -186,6 +206,72 @@ uint32_t av1_mc_avg_8(uint8_t *samples, size_t samples_len, size_t stride, size_
  * Answers AV1_BAD_DEPTH, too. */
 uint32_t av1_mc_avg_16(uint16_t *samples, size_t samples_len, size_t stride, size_t x, size_t y, size_t width, size_t height,
                        const int16_t *first, size_t first_len, const int16_t *second, size_t second_len, size_t bit_depth);
+
+/* A plane of a reference. */
+typedef struct {
+    size_t stride;          /* how far the rows of its samples stand apart */
+    size_t x;               /* the column of its first visible sample */
+    size_t y;               /* the row of its first visible sample */
+    size_t width;           /* how many visible columns it has: from 1 to 65,536 */
+    size_t height;          /* how many visible rows it has: from 1 to 65,536 */
+    uint8_t halved_columns; /* 0: it has as many columns as luma, else half of them */
+    uint8_t halved_rows;    /* 0: it has as many rows as luma, else half of them */
+} av1_motion_plane;
+
+/* A block of a plane, and the vector that moves it. */
+typedef struct {
+    size_t x;         /* the column of its first sample, up to 65,536 */
+    size_t y;         /* the row of its first sample, up to 65,536 */
+    size_t width;     /* how many columns it has: from 1 to 128 */
+    size_t height;    /* how many rows it has: from 1 to 128 */
+    int16_t row;      /* how far the vector leads down, in eighths of a luma sample */
+    int16_t col;      /* how far it leads to the right */
+    uint8_t filter_x; /* the number of the filter along its rows, as in an av1_motion_block */
+    uint8_t filter_y; /* the number of the filter down its columns */
+} av1_moved_block;
+
+/* Where it is read. */
+typedef struct {
+    ptrdiff_t x;      /* the column of its first sample in the reference, counted from the first visible one */
+    ptrdiff_t y;      /* the row of its first sample, counted from the first visible one */
+    uint8_t col_frac; /* how far it is moved right beyond that, in sixteenths of a sample */
+    uint8_t row_frac; /* how far it is moved down beyond that */
+} av1_moved_place;
+
+/* Finds where a block that a vector moves is read in its reference: the AV1 specification's "motion vector scaling process" at a scale of one.
+ * Past a side of the plane each sample is that at the side. So a vector that leads far out gets a place nearer to the plane, where the same is read:
+ * pads of width + 7 columns and height + 7 rows on each side hold all that is read, however far a vector leads.
+ *   place          AV1_DONE: the place, whose column and row av1_put_8tap_8 takes once those of the first visible sample are added
+ *   plane, block   where the plane stands in its samples, and the filters, are not read
+ * Answers AV1_DONE, AV1_BAD_SIZE (a side of the block) or AV1_BAD_AREA (the plane has no samples, or it or the block's place is past 65,536). */
+uint32_t av1_motion_place(av1_moved_place *place, const av1_motion_plane *plane, const av1_moved_block *block);
+
+/* Predicts a block from one reference of samples of 8 bits that has no margins: the AV1 specification's "Block inter prediction process". Each
+ * sample of the block's rectangle becomes that of the block, moved by the vector. Only visible samples of the plane are read; past a side each
+ * is the nearest of these. It takes no memory.
+ *   dst .. dst_y         as in av1_put_8tap_8
+ *   src, src_len         the samples of the reference
+ *   plane                which of them are visible, and how the plane is halved
+ *   block                its place in the plane, its sides, the vector and the filters
+ *   window, window_len   room for what is read: (width + 7) * (height + 7) samples, for any block 18,225; what it holds doesn't matter
+ * Answers AV1_DONE, AV1_BAD_SIZE (a side of the block), AV1_BAD_MODE (a filter), AV1_BAD_AREA (the plane has no samples or does not lie in them,
+ * or the rectangle doesn't, or the plane or the block's place is past 65,536) or AV1_TOO_SHORT (the window). */
+uint32_t av1_put_moved_8(uint8_t *dst, size_t dst_len, size_t dst_stride, size_t dst_x, size_t dst_y, const uint8_t *src, size_t src_len,
+                         const av1_motion_plane *plane, const av1_moved_block *block, uint8_t *window, size_t window_len);
+
+/* The same for samples of 16 bits at a depth of 8, 10 or 12. It looks at no sample before it reads it: the caller owes, too, that none that is
+ * read is past the depth, as av1_test_samples_16 tells of a whole reference at once.
+ * Answers AV1_BAD_DEPTH, too. */
+uint32_t av1_put_moved_16(uint16_t *dst, size_t dst_len, size_t dst_stride, size_t dst_x, size_t dst_y, const uint16_t *src, size_t src_len,
+                          const av1_motion_plane *plane, const av1_moved_block *block, uint16_t *window, size_t window_len, size_t bit_depth);
+
+/* Prepares such a block for the average with another: the same process with the rounding of compound prediction, whose values are those of
+ * av1_prep_8tap_8 and av1_prep_8tap_16. The first `height * width` of `values` become those of the block, row by row; the others stay.
+ * Answers as the calls above, AV1_TOO_SHORT of the values, too. */
+uint32_t av1_prep_moved_8(int16_t *values, size_t values_len, const uint8_t *src, size_t src_len, const av1_motion_plane *plane,
+                          const av1_moved_block *block, uint8_t *window, size_t window_len);
+uint32_t av1_prep_moved_16(int16_t *values, size_t values_len, const uint16_t *src, size_t src_len, const av1_motion_plane *plane,
+                           const av1_moved_block *block, uint16_t *window, size_t window_len, size_t bit_depth);
 
 /* A block that an intra mode predicts. */
 typedef struct {

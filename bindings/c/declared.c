@@ -13,6 +13,8 @@ extern "C" {
 
 HOLDS(AV1_EDGE_SAMPLES == 257);
 HOLDS(AV1_ANY_MODE == 255);
+HOLDS(AV1_SHARP == 2);
+HOLDS(AV1_RAV1E_SHARP == 5);
 HOLDS(AV1_DONE == 0);
 HOLDS(AV1_ROOM_TOO_SMALL == 2);
 HOLDS(AV1_BAD_SIZE == 6);
@@ -40,7 +42,7 @@ HOLDS(AV1_INVALID_MODE == 3);
 HOLDS(AV1_INVALID_VECTOR == 4);
 HOLDS(AV1_MISSING_REFERENCE == 5);
 HOLDS(AV1_INVALID_COEFFICIENT == 6);
-HOLDS(AV1_C_VERSION == 256);
+HOLDS(AV1_C_VERSION == 512);
 
 HOLDS(sizeof(av1_transform_scratch) == 24576);
 
@@ -97,6 +99,31 @@ FIELD(av1_motion_block, col_frac, uint8_t *, 16);
 FIELD(av1_motion_block, row_frac, uint8_t *, 17);
 FIELD(av1_motion_block, filter_x, uint8_t *, 18);
 FIELD(av1_motion_block, filter_y, uint8_t *, 19);
+
+HOLDS(sizeof(av1_motion_plane) == 48);
+FIELD(av1_motion_plane, stride, size_t *, 0);
+FIELD(av1_motion_plane, x, size_t *, 8);
+FIELD(av1_motion_plane, y, size_t *, 16);
+FIELD(av1_motion_plane, width, size_t *, 24);
+FIELD(av1_motion_plane, height, size_t *, 32);
+FIELD(av1_motion_plane, halved_columns, uint8_t *, 40);
+FIELD(av1_motion_plane, halved_rows, uint8_t *, 41);
+
+HOLDS(sizeof(av1_moved_block) == 40);
+FIELD(av1_moved_block, x, size_t *, 0);
+FIELD(av1_moved_block, y, size_t *, 8);
+FIELD(av1_moved_block, width, size_t *, 16);
+FIELD(av1_moved_block, height, size_t *, 24);
+FIELD(av1_moved_block, row, int16_t *, 32);
+FIELD(av1_moved_block, col, int16_t *, 34);
+FIELD(av1_moved_block, filter_x, uint8_t *, 36);
+FIELD(av1_moved_block, filter_y, uint8_t *, 37);
+
+HOLDS(sizeof(av1_moved_place) == 24);
+FIELD(av1_moved_place, x, ptrdiff_t *, 0);
+FIELD(av1_moved_place, y, ptrdiff_t *, 8);
+FIELD(av1_moved_place, col_frac, uint8_t *, 16);
+FIELD(av1_moved_place, row_frac, uint8_t *, 17);
 
 HOLDS(sizeof(av1_builder_part) == 6);
 FIELD(av1_builder_part, kind, uint8_t *, 0);
@@ -174,6 +201,7 @@ uint32_t av1_intra_edge_16(uint16_t *, size_t, const uint16_t *, size_t, const a
 uint32_t av1_cfl_ac_8(int16_t *, size_t, const uint8_t *, size_t, size_t, size_t, size_t, const av1_cfl_block *);
 uint32_t av1_cfl_ac_16(int16_t *, size_t, const uint16_t *, size_t, size_t, size_t, size_t, const av1_cfl_block *,
     size_t);
+uint32_t av1_motion_place(av1_moved_place *, const av1_motion_plane *, const av1_moved_block *);
 uint32_t av1_put_8tap_8(uint8_t *, size_t, size_t, size_t, size_t, const uint8_t *, size_t, size_t, size_t, size_t,
     const av1_motion_block *);
 uint32_t av1_put_8tap_16(uint16_t *, size_t, size_t, size_t, size_t, const uint16_t *, size_t, size_t, size_t, size_t,
@@ -185,6 +213,19 @@ uint32_t av1_mc_avg_8(uint8_t *, size_t, size_t, size_t, size_t, size_t, size_t,
     *, size_t);
 uint32_t av1_mc_avg_16(uint16_t *, size_t, size_t, size_t, size_t, size_t, size_t, const int16_t *, size_t, const
     int16_t *, size_t, size_t);
+uint32_t av1_put_moved_8(uint8_t *, size_t, size_t, size_t, size_t, const uint8_t *, size_t, const av1_motion_plane *,
+    const av1_moved_block *, uint8_t *, size_t);
+uint32_t av1_put_moved_16(uint16_t *, size_t, size_t, size_t, size_t, const uint16_t *, size_t, const av1_motion_plane
+    *, const av1_moved_block *, uint16_t *, size_t, size_t);
+uint32_t av1_prep_moved_8(int16_t *, size_t, const uint8_t *, size_t, const av1_motion_plane *, const av1_moved_block *,
+    uint8_t *, size_t);
+uint32_t av1_prep_moved_16(int16_t *, size_t, const uint16_t *, size_t, const av1_motion_plane *, const av1_moved_block
+    *, uint16_t *, size_t, size_t);
+uint32_t av1_test_samples_16(const uint16_t *, size_t, size_t, size_t, size_t, size_t, size_t, size_t);
+uint32_t av1_put_tested_16(uint16_t *, size_t, size_t, size_t, size_t, const uint16_t *, size_t, size_t, size_t, size_t,
+    const av1_motion_block *, size_t);
+uint32_t av1_prep_tested_16(int16_t *, size_t, const uint16_t *, size_t, size_t, size_t, size_t, const av1_motion_block
+    *, size_t);
 uint32_t av1_planes_len(const uint8_t *, size_t, size_t *, av1_refusal *);
 uint32_t av1_reconstruct_plan(const uint8_t *, size_t, uint8_t *, size_t, size_t *, av1_refusal *);
 uint32_t av1_inverse_transform_add_8(av1_transform_scratch *, const int16_t *, size_t, uint8_t *, size_t, size_t,

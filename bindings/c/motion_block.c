@@ -8,7 +8,7 @@
 #define CHECK(e) do { if (!(e)) { fprintf(stderr, "%s:%d: %s\n", __FILE__, __LINE__, #e); exit(1); } } while (0)
 
 enum { STRIDE = 12, ROWS = 12, ALL = STRIDE * ROWS, ROOM = 64 };
-enum { REGULAR = 0, SMOOTH = 1, SHARP = 2, BILINEAR = 3 };
+enum { REGULAR = 0, SMOOTH = 1, SHARP = AV1_SHARP, BILINEAR = 3, RAV1E_SHARP = AV1_RAV1E_SHARP };
 
 /* Whether all are one number. */
 static int are_all_8(const uint8_t *samples, size_t count, uint8_t number) {
@@ -33,6 +33,70 @@ static void moved_blocks(void) {
     for (size_t c = 0; c < 4; c++) CHECK(samples[6 * 8 + 4 + c] == 20 * (3 + c) + 4 && samples[7 * 8 + 4 + c] == 20 * (3 + c) + 5);
     CHECK(av1_put_8tap_8(samples, ROOM, 8, 4, 6, reference, ALL, STRIDE, 3, 4, &half) == AV1_DONE);
     for (size_t c = 0; c < 4; c++) CHECK(samples[6 * 8 + 4 + c] == 20 * (3 + c) + 14 && samples[7 * 8 + 4 + c] == 20 * (3 + c) + 15);
+}
+
+/* A block of 4x1 half a sample to the right, by a filter along rows, of a reference that is 100 from the block's third column on and 0 before. */
+static int along_a_short_side(uint8_t filter, size_t column) {
+    av1_motion_block block = {4, 1, 8, 0, filter, REGULAR};
+    uint8_t reference[ALL], samples[4];
+    for (size_t i = 0; i < ALL; i++) reference[i] = i % STRIDE < 5 ? 0 : 100;
+    CHECK(av1_put_8tap_8(samples, 4, 4, 0, 0, reference, ALL, STRIDE, 3, 3, &block) == AV1_DONE);
+    return samples[column];
+}
+
+/* Along short sides the sharp filter is the regular one, and rav1e's the smooth one. */
+static void sharp_blocks(void) {
+    for (size_t column = 0; column < 4; column++) {
+        CHECK(along_a_short_side(SHARP, column) == along_a_short_side(REGULAR, column));
+        CHECK(along_a_short_side(RAV1E_SHARP, column) == along_a_short_side(SMOOTH, column));
+    }
+    CHECK(along_a_short_side(SHARP, 0) == 0 && along_a_short_side(RAV1E_SHARP, 0) == 9);
+}
+
+/* A vector leads to a whole sample and sixteenths beyond it, and no further out than the pads. */
+static void places(void) {
+    av1_motion_plane plane = {.width = 64, .height = 32, .halved_columns = 1, .halved_rows = 1};
+    av1_moved_block block = {8, 8, 8, 8, -9, 35, REGULAR, REGULAR};
+    av1_moved_place place = {77, 77, 77, 77};
+    CHECK(av1_motion_place(&place, &plane, &block) == AV1_DONE);
+    CHECK(place.x == 10 && place.y == 7 && place.col_frac == 3 && place.row_frac == 7);
+    block.row = -9000, block.col = 3500;
+    CHECK(av1_motion_place(&place, &plane, &block) == AV1_DONE);
+    CHECK(place.x == 64 + 3 && place.y == -8 - 4 && place.col_frac == 12 && place.row_frac == 8);
+    block.width = 129;
+    CHECK(av1_motion_place(&place, &plane, &block) == AV1_BAD_SIZE);
+    block.width = 8, plane.width = 0;
+    CHECK(av1_motion_place(&place, &plane, &block) == AV1_BAD_AREA);
+    CHECK(place.x == 64 + 3 && place.y == -8 - 4);
+}
+
+/* A block that a vector moves past the sides of a plane without margins, beside one that is read from pads. */
+static void blocks_without_margins(void) {
+    enum { WIDE = 6, HIGH = 5, PAD = 11, ROW = WIDE + 2 * PAD };
+    uint8_t bare[WIDE * HIGH], padded[ROW * (HIGH + 2 * PAD)], one[8], other[8], window[11 * 9];
+    int16_t values[8], others[8];
+    for (size_t i = 0; i < WIDE * HIGH; i++) bare[i] = (uint8_t)(i * 53);
+    for (size_t y = 0; y < HIGH + 2 * PAD; y++)
+        for (size_t x = 0; x < ROW; x++) {
+            size_t c = x < PAD ? 0 : x - PAD < WIDE ? x - PAD : WIDE - 1, r = y < PAD ? 0 : y - PAD < HIGH ? y - PAD : HIGH - 1;
+            padded[y * ROW + x] = bare[r * WIDE + c];
+        }
+    for (int16_t vector = -90; vector <= 90; vector++) {
+        av1_motion_plane plane = {.stride = WIDE, .width = WIDE, .height = HIGH};
+        av1_moved_block block = {1, 2, 4, 2, vector, (int16_t)(-7 * vector), SHARP, SMOOTH};
+        av1_moved_place at;
+        CHECK(av1_motion_place(&at, &plane, &block) == AV1_DONE);
+        av1_motion_block moved = {4, 2, at.col_frac, at.row_frac, SHARP, SMOOTH};
+        CHECK(av1_put_8tap_8(one, 8, 4, 0, 0, padded, sizeof padded, ROW, (size_t)(PAD + at.x), (size_t)(PAD + at.y), &moved) == AV1_DONE);
+        CHECK(av1_put_moved_8(other, 8, 4, 0, 0, bare, sizeof bare, &plane, &block, window, sizeof window) == AV1_DONE);
+        CHECK(memcmp(one, other, 8) == 0);
+        CHECK(av1_prep_8tap_8(values, 8, padded, sizeof padded, ROW, (size_t)(PAD + at.x), (size_t)(PAD + at.y), &moved) == AV1_DONE);
+        CHECK(av1_prep_moved_8(others, 8, bare, sizeof bare, &plane, &block, window, sizeof window) == AV1_DONE);
+        CHECK(memcmp(values, others, sizeof values) == 0);
+        CHECK(av1_prep_moved_8(others, 7, bare, sizeof bare, &plane, &block, window, sizeof window) == AV1_TOO_SHORT);
+        CHECK(av1_put_moved_8(other, 8, 4, 0, 0, bare, sizeof bare - 1, &plane, &block, window, sizeof window) == AV1_BAD_AREA);
+        CHECK(av1_put_moved_8(other, 8, 4, 0, 0, bare, sizeof bare, &plane, &block, window, sizeof window - 1) == AV1_TOO_SHORT);
+    }
 }
 
 static void averaged_blocks(void) {
@@ -60,6 +124,7 @@ static const struct { size_t room, dst_stride, dst_x, dst_y, src_len, src_stride
     {ROOM, 8, 0, 0, ALL, SIZE_MAX, 4, 4, {4, 2, 0, 0, 0, 0}, AV1_BAD_AREA},  {ROOM, 8, 0, 0, 119, STRIDE, 4, 4, {4, 2, 0, 0, 0, 0}, AV1_BAD_AREA},
     {ROOM, 8, 0, 0, ALL, STRIDE, 4, 4, {0, 2, 0, 0, 0, 0}, AV1_BAD_SIZE},    {ROOM, 8, 0, 0, ALL, STRIDE, 4, 4, {4, 129, 0, 0, 0, 0}, AV1_BAD_SIZE},
     {ROOM, 8, 0, 0, ALL, STRIDE, 4, 4, {4, 2, 16, 0, 0, 0}, AV1_BAD_FRACTION}, {ROOM, 8, 0, 0, ALL, STRIDE, 4, 4, {4, 2, 0, 0, 0, 4}, AV1_BAD_MODE},
+    {ROOM, 8, 0, 0, ALL, STRIDE, 4, 4, {4, 2, 0, 0, 6, 0}, AV1_BAD_MODE},
 };
 
 static void refused_blocks(void) {
@@ -83,6 +148,21 @@ static void blocks_of_16_bits(void) {
     CHECK(av1_prep_8tap_16(values, 8, reference, ALL, STRIDE, 4, 6, &block, 10) == AV1_BAD_SAMPLE);
     CHECK(av1_prep_8tap_16(values, 8, reference, ALL, STRIDE, 4, 5, &block, 10) == AV1_DONE);
     CHECK(are_all_16(values, 8, -192));
+    CHECK(av1_test_samples_16(reference, ALL, STRIDE, 0, 0, STRIDE, ROWS, 10) == AV1_BAD_SAMPLE);
+    CHECK(av1_test_samples_16(reference, ALL, STRIDE, 0, 0, STRIDE, ROWS - 1, 10) == AV1_DONE);
+    CHECK(av1_test_samples_16(reference, ALL, STRIDE, 0, 0, STRIDE, ROWS, 9) == AV1_BAD_DEPTH);
+    CHECK(av1_test_samples_16(reference, ALL, STRIDE, 1, 0, STRIDE, ROWS, 10) == AV1_BAD_AREA);
+    memset(values, 0, sizeof values);
+    CHECK(av1_prep_tested_16(values, 8, reference, ALL, STRIDE, 4, 5, &block, 9) == AV1_BAD_DEPTH);
+    CHECK(av1_prep_tested_16(values, 7, reference, ALL, STRIDE, 4, 5, &block, 10) == AV1_TOO_SHORT);
+    CHECK(are_all_16(values, 8, 0));
+    CHECK(av1_prep_tested_16(values, 8, reference, ALL, STRIDE, 4, 5, &block, 10) == AV1_DONE);
+    CHECK(are_all_16(values, 8, -192));
+    CHECK(av1_put_tested_16(samples, 8, 4, 0, 1, reference, ALL, STRIDE, 4, 5, &block, 10) == AV1_BAD_AREA);
+    for (int i = 0; i < 8; i++) CHECK(samples[i] == 0);
+    CHECK(av1_put_tested_16(samples, 8, 4, 0, 0, reference, ALL, STRIDE, 4, 5, &block, 10) == AV1_DONE);
+    for (int i = 0; i < 8; i++) CHECK(samples[i] == 500);
+    memset(samples, 0, sizeof samples);
     CHECK(av1_mc_avg_16(samples, 8, 4, 0, 0, 4, 2, values, 8, values, 8, 9) == AV1_BAD_DEPTH);
     for (int i = 0; i < 8; i++) CHECK(samples[i] == 0);
     CHECK(av1_mc_avg_16(samples, 8, 4, 0, 0, 4, 2, values, 8, values, 8, 10) == AV1_DONE);
@@ -91,6 +171,9 @@ static void blocks_of_16_bits(void) {
 
 int main(void) {
     moved_blocks();
+    sharp_blocks();
+    places();
+    blocks_without_margins();
     averaged_blocks();
     refused_blocks();
     blocks_of_16_bits();

@@ -38,7 +38,8 @@ __attribute__((noinline)) static size_t taken(void) {
     } while (0)
 
 static uint8_t plane_8[SIDE * SIDE], other_8[SIDE * SIDE];
-static uint16_t plane_16[SIDE * SIDE], other_16[SIDE * SIDE];
+static uint16_t plane_16[SIDE * SIDE], other_16[SIDE * SIDE], window_16[135 * 135];
+static uint8_t window_8[135 * 135];
 static int16_t first[128 * 128], second[128 * 128], few[1024];
 static int32_t many[1024];
 static av1_transform_scratch scratch;
@@ -68,7 +69,7 @@ static void transforms(int is_deep) {
     tell(is_deep ? "av1_inverse_transform_add_16" : "av1_inverse_transform_add_8", deepest);
 }
 
-enum motion { PUT_8, PUT_16, PREP_8, PREP_16 };
+enum motion { PUT_8, PUT_16, PREP_8, PREP_16, PUT_TESTED, PREP_TESTED };
 
 static void motion(enum motion kind, const char *name) {
     size_t deepest = 0, all = SIDE * SIDE, from = MIDDLE, side = 128 * 128;
@@ -80,7 +81,46 @@ static void motion(enum motion kind, const char *name) {
             case PUT_16: DEEP(av1_put_8tap_16(plane_16, all, SIDE, 0, 0, other_16, all, SIDE, from, from, &block, 10)); break;
             case PREP_8: DEEP(av1_prep_8tap_8(first, side, other_8, all, SIDE, from, from, &block)); break;
             case PREP_16: DEEP(av1_prep_8tap_16(first, side, other_16, all, SIDE, from, from, &block, 10)); break;
+            case PUT_TESTED: DEEP(av1_put_tested_16(plane_16, all, SIDE, 0, 0, other_16, all, SIDE, from, from, &block, 10)); break;
+            case PREP_TESTED: DEEP(av1_prep_tested_16(first, side, other_16, all, SIDE, from, from, &block, 10)); break;
             }
+        }
+    tell(name, deepest);
+}
+
+static void tests(void) {
+    size_t deepest = 0, all = SIDE * SIDE;
+    for (size_t width = 1; width <= SIDE; width++) DEEP(av1_test_samples_16(plane_16, all, SIDE, 0, 0, width, SIDE, 10));
+    tell("av1_test_samples_16", deepest);
+}
+
+static void place(void) {
+    size_t deepest = 0;
+    for (int far = 0; far < 2; far++) {
+        av1_motion_plane plane = {.width = 64, .height = 64, .halved_columns = far, .halved_rows = far};
+        av1_moved_block block = {8, 8, 8, 8, far ? 9000 : 7, far ? -9000 : 9, 0, 0};
+        av1_moved_place found;
+        DEEP(av1_motion_place(&found, &plane, &block));
+    }
+    tell("av1_motion_place", deepest);
+}
+
+static void moved(int is_deep, int is_prepared, const char *name) {
+    static const av1_motion_plane plane = {SIDE, 0, 0, SIDE, SIDE, 0, 0};
+    size_t deepest = 0, all = SIDE * SIDE;
+    for (uint8_t way = 0; way < 4 * 4 * 2; way++)
+        for (unsigned size = 0; size < 64; size++) {
+            int16_t off = way / 16 ? -1000 : 40;
+            av1_moved_block block = {MIDDLE, MIDDLE, (size_t)1 << size % 8, (size_t)1 << size / 8, (int16_t)(off + way % 2 * 5),
+                                     (int16_t)(off + way / 2 % 2 * 5), way / 4 % 4, 3 - way / 4 % 4};
+            if (is_deep && is_prepared)
+                DEEP(av1_prep_moved_16(first, 128 * 128, other_16, all, &plane, &block, window_16, 135 * 135, 10));
+            else if (is_prepared)
+                DEEP(av1_prep_moved_8(first, 128 * 128, other_8, all, &plane, &block, window_8, 135 * 135));
+            else if (is_deep)
+                DEEP(av1_put_moved_16(plane_16, all, SIDE, 0, 0, other_16, all, &plane, &block, window_16, 135 * 135, 10));
+            else
+                DEEP(av1_put_moved_8(plane_8, all, SIDE, 0, 0, other_8, all, &plane, &block, window_8, 135 * 135));
         }
     tell(name, deepest);
 }
@@ -198,14 +238,20 @@ int main(int count, char **words) {
     for (int is_deep = 0; is_deep < 2; is_deep++) {
         transforms(is_deep);
         averages(is_deep);
+        moved(is_deep, 0, is_deep ? "av1_put_moved_16" : "av1_put_moved_8");
+        moved(is_deep, 1, is_deep ? "av1_prep_moved_16" : "av1_prep_moved_8");
         luma(is_deep);
         intra(INTRA, is_deep, is_deep ? "av1_predict_intra_16" : "av1_predict_intra_8");
         intra(CFL, is_deep, is_deep ? "av1_predict_cfl_16" : "av1_predict_cfl_8");
         intra(EDGE, is_deep, is_deep ? "av1_intra_edge_16" : "av1_intra_edge_8");
     }
+    place();
+    tests();
     motion(PUT_8, "av1_put_8tap_8");
     motion(PUT_16, "av1_put_8tap_16");
     motion(PREP_8, "av1_prep_8tap_8");
     motion(PREP_16, "av1_prep_8tap_16");
+    motion(PUT_TESTED, "av1_put_tested_16");
+    motion(PREP_TESTED, "av1_prep_tested_16");
     return 0;
 }

@@ -18,6 +18,8 @@ macro_rules! field {
 
 holds!(crate::EDGE_SAMPLES == 257);
 holds!(crate::ANY_MODE == 255);
+holds!(crate::SHARP == 2);
+holds!(crate::RAV1E_SHARP == 5);
 holds!(sys::DONE == 0);
 holds!(sys::ROOM_TOO_SMALL == 2);
 holds!(sys::BAD_SIZE == 6);
@@ -45,7 +47,7 @@ holds!(sys::INVALID_MODE == 3);
 holds!(sys::INVALID_VECTOR == 4);
 holds!(sys::MISSING_REFERENCE == 5);
 holds!(sys::INVALID_COEFFICIENT == 6);
-holds!(crate::VERSION == 256);
+holds!(crate::VERSION == 512);
 
 holds!(size_of::<sys::TransformScratch>() == 24576);
 
@@ -102,6 +104,31 @@ field!(crate::MotionBlock, col_frac, u8, 16);
 field!(crate::MotionBlock, row_frac, u8, 17);
 field!(crate::MotionBlock, filter_x, u8, 18);
 field!(crate::MotionBlock, filter_y, u8, 19);
+
+holds!(size_of::<crate::MotionPlane>() == 48);
+field!(crate::MotionPlane, stride, usize, 0);
+field!(crate::MotionPlane, x, usize, 8);
+field!(crate::MotionPlane, y, usize, 16);
+field!(crate::MotionPlane, width, usize, 24);
+field!(crate::MotionPlane, height, usize, 32);
+field!(crate::MotionPlane, halved_columns, u8, 40);
+field!(crate::MotionPlane, halved_rows, u8, 41);
+
+holds!(size_of::<crate::MovedBlock>() == 40);
+field!(crate::MovedBlock, x, usize, 0);
+field!(crate::MovedBlock, y, usize, 8);
+field!(crate::MovedBlock, width, usize, 16);
+field!(crate::MovedBlock, height, usize, 24);
+field!(crate::MovedBlock, row, i16, 32);
+field!(crate::MovedBlock, col, i16, 34);
+field!(crate::MovedBlock, filter_x, u8, 36);
+field!(crate::MovedBlock, filter_y, u8, 37);
+
+holds!(size_of::<crate::MovedPlace>() == 24);
+field!(crate::MovedPlace, x, isize, 0);
+field!(crate::MovedPlace, y, isize, 8);
+field!(crate::MovedPlace, col_frac, u8, 16);
+field!(crate::MovedPlace, row_frac, u8, 17);
 
 holds!(size_of::<sys::BuilderPart>() == 6);
 field!(sys::BuilderPart, kind, u8, 0);
@@ -181,6 +208,8 @@ const _: unsafe extern "C" fn(*mut i16, usize, *const u8, usize, usize, usize, u
     sys::av1_cfl_ac_8;
 const _: unsafe extern "C" fn(*mut i16, usize, *const u16, usize, usize, usize, usize, &crate::CflBlock, usize) -> u32 =
     sys::av1_cfl_ac_16;
+const _: unsafe extern "C" fn(&mut crate::MovedPlace, &crate::MotionPlane, &crate::MovedBlock) -> u32 =
+    sys::av1_motion_place;
 const _: unsafe extern "C" fn(*mut u8, usize, usize, usize, usize, *const u8, usize, usize, usize, usize,
     &crate::MotionBlock) -> u32 = sys::av1_put_8tap_8;
 const _: unsafe extern "C" fn(*mut u16, usize, usize, usize, usize, *const u16, usize, usize, usize, usize,
@@ -193,6 +222,20 @@ const _: unsafe extern "C" fn(*mut u8, usize, usize, usize, usize, usize, usize,
     -> u32 = sys::av1_mc_avg_8;
 const _: unsafe extern "C" fn(*mut u16, usize, usize, usize, usize, usize, usize, *const i16, usize, *const i16, usize,
     usize) -> u32 = sys::av1_mc_avg_16;
+const _: unsafe extern "C" fn(*mut u8, usize, usize, usize, usize, *const u8, usize, &crate::MotionPlane,
+    &crate::MovedBlock, *mut u8, usize) -> u32 = sys::av1_put_moved_8;
+const _: unsafe extern "C" fn(*mut u16, usize, usize, usize, usize, *const u16, usize, &crate::MotionPlane,
+    &crate::MovedBlock, *mut u16, usize, usize) -> u32 = sys::av1_put_moved_16;
+const _: unsafe extern "C" fn(*mut i16, usize, *const u8, usize, &crate::MotionPlane, &crate::MovedBlock, *mut u8,
+    usize) -> u32 = sys::av1_prep_moved_8;
+const _: unsafe extern "C" fn(*mut i16, usize, *const u16, usize, &crate::MotionPlane, &crate::MovedBlock, *mut u16,
+    usize, usize) -> u32 = sys::av1_prep_moved_16;
+const _: unsafe extern "C" fn(*const u16, usize, usize, usize, usize, usize, usize, usize) -> u32 =
+    sys::av1_test_samples_16;
+const _: unsafe extern "C" fn(*mut u16, usize, usize, usize, usize, *const u16, usize, usize, usize, usize,
+    &crate::MotionBlock, usize) -> u32 = sys::av1_put_tested_16;
+const _: unsafe extern "C" fn(*mut i16, usize, *const u16, usize, usize, usize, usize, &crate::MotionBlock, usize) ->
+    u32 = sys::av1_prep_tested_16;
 const _: unsafe extern "C" fn(*const u8, usize, &mut usize, &mut sys::Refusal) -> u32 = sys::av1_planes_len;
 const _: unsafe extern "C" fn(*const u8, usize, *mut u8, usize, &mut usize, &mut sys::Refusal) -> u32 =
     sys::av1_reconstruct_plan;

@@ -3,7 +3,9 @@
 //!
 //! [`inverse_transform_add_8`] and [`inverse_transform_add_16`] add the residue of a block to samples of the caller. [`put_8tap_8`] and
 //! [`put_8tap_16`] predict a block from one reference; [`prep_8tap_8`], [`prep_8tap_16`], [`mc_avg_8`] and [`mc_avg_16`] prepare blocks of two, and
-//! average them.
+//! average them. [`motion_place`] tells where a vector leads, and [`put_moved_8`], [`prep_moved_8`] and
+//! their like for 16 bits follow it in a plane without margins. A reference of 16 bits that is [`Tested`] once is not looked at again by
+//! [`put_tested_16`] and [`prep_tested_16`].
 //! [`predict_intra_8`], [`predict_cfl_8`] and their like for samples of 16 bits predict a block in samples of the caller, and
 //! [`intra_edge_8`] and [`intra_edge_16`] prepare the sides from which they do.
 //! [`cfl_ac_8`] and [`cfl_ac_16`] give the differences of luma from its mean, by which chroma is predicted.
@@ -40,8 +42,10 @@ mod intra;
 mod intra_edge;
 mod luma;
 mod motion;
+mod motion_place;
 mod place;
 mod sys;
+mod tested;
 mod transform;
 mod version;
 
@@ -50,9 +54,15 @@ pub use intra::{IntraBlock, predict_cfl_8, predict_cfl_16, predict_intra_8, pred
 pub use intra_edge::{ANY_MODE, EDGE_SAMPLES, EdgeBlock, EdgePlane, intra_edge_8, intra_edge_16};
 pub use luma::{CflBlock, cfl_ac_8, cfl_ac_16};
 pub use motion::{
-    MotionBlock, mc_avg_8, mc_avg_16, prep_8tap_8, prep_8tap_16, put_8tap_8, put_8tap_16,
+    MotionBlock, RAV1E_SHARP, SHARP, mc_avg_8, mc_avg_16, prep_8tap_8, prep_8tap_16, put_8tap_8,
+    put_8tap_16,
+};
+pub use motion_place::{
+    MotionPlane, MotionWindow, MovedBlock, MovedPlace, motion_place, prep_moved_8, prep_moved_16,
+    put_moved_8, put_moved_16,
 };
 pub use place::Place;
+pub use tested::{Tested, prep_tested_16, put_tested_16};
 pub use transform::{
     TransformBlock, TransformScratch, inverse_transform_add_8, inverse_transform_add_16,
 };

@@ -2,6 +2,12 @@
 
 use crate::{Error, Place, sys, told};
 
+/// The number of the sharp filter. Along sides up to 4 it is the regular one for such sides, as in AV1.
+pub const SHARP: u8 = 2;
+
+/// The number of the sharp filter of rav1e, and of plans: along sides up to 4 it is the smooth one for such sides.
+pub const RAV1E_SHARP: u8 = 5;
+
 /// A block that is moved between the samples of its reference.
 #[repr(C)]
 #[derive(Clone, Copy, Debug, PartialEq, Eq)]
@@ -14,7 +20,7 @@ pub struct MotionBlock {
     pub col_frac: u8,
     /// How far it is moved down, in sixteenths of a sample: below 16.
     pub row_frac: u8,
-    /// The number of the filter along its rows, as in plans: 0 regular, 1 smooth, 2 sharp, 3 bilinear.
+    /// The number of the filter along its rows: 0 regular, 1 smooth, [`SHARP`], 3 bilinear or [`RAV1E_SHARP`].
     pub filter_x: u8,
     /// The number of the filter down its columns.
     pub filter_y: u8,

@@ -2,7 +2,7 @@
 
 use crate::builder::{Coefficient, Header, Leaf};
 use crate::motion::MotionBlock;
-use crate::{CflBlock, EdgeBlock, EdgePlane, IntraBlock};
+use crate::{CflBlock, EdgeBlock, EdgePlane, IntraBlock, MotionPlane, MovedBlock, MovedPlace};
 
 pub const DONE: u32 = 0;
 pub const OUT_OF_MEMORY: u32 = 1;
@@ -169,6 +169,96 @@ extern "C" {
         bit_depth: usize,
     ) -> u32;
 
+    pub fn av1_put_moved_8(
+        dst: *mut u8,
+        dst_len: usize,
+        dst_stride: usize,
+        dst_x: usize,
+        dst_y: usize,
+        src: *const u8,
+        src_len: usize,
+        plane: &MotionPlane,
+        block: &MovedBlock,
+        window: *mut u8,
+        window_len: usize,
+    ) -> u32;
+
+    pub fn av1_put_moved_16(
+        dst: *mut u16,
+        dst_len: usize,
+        dst_stride: usize,
+        dst_x: usize,
+        dst_y: usize,
+        src: *const u16,
+        src_len: usize,
+        plane: &MotionPlane,
+        block: &MovedBlock,
+        window: *mut u16,
+        window_len: usize,
+        bit_depth: usize,
+    ) -> u32;
+
+    pub fn av1_prep_moved_8(
+        values: *mut i16,
+        values_len: usize,
+        src: *const u8,
+        src_len: usize,
+        plane: &MotionPlane,
+        block: &MovedBlock,
+        window: *mut u8,
+        window_len: usize,
+    ) -> u32;
+
+    pub fn av1_prep_moved_16(
+        values: *mut i16,
+        values_len: usize,
+        src: *const u16,
+        src_len: usize,
+        plane: &MotionPlane,
+        block: &MovedBlock,
+        window: *mut u16,
+        window_len: usize,
+        bit_depth: usize,
+    ) -> u32;
+
+    pub fn av1_test_samples_16(
+        samples: *const u16,
+        samples_len: usize,
+        stride: usize,
+        x: usize,
+        y: usize,
+        width: usize,
+        height: usize,
+        bit_depth: usize,
+    ) -> u32;
+
+    pub fn av1_put_tested_16(
+        dst: *mut u16,
+        dst_len: usize,
+        dst_stride: usize,
+        dst_x: usize,
+        dst_y: usize,
+        src: *const u16,
+        src_len: usize,
+        src_stride: usize,
+        src_x: usize,
+        src_y: usize,
+        block: &MotionBlock,
+        bit_depth: usize,
+    ) -> u32;
+
+    pub fn av1_prep_tested_16(
+        values: *mut i16,
+        values_len: usize,
+        src: *const u16,
+        src_len: usize,
+        src_stride: usize,
+        src_x: usize,
+        src_y: usize,
+        block: &MotionBlock,
+        bit_depth: usize,
+    ) -> u32;
+
     pub fn av1_mc_avg_8(
         samples: *mut u8,
         samples_len: usize,
@@ -197,6 +287,9 @@ extern "C" {
         second_len: usize,
         bit_depth: usize,
     ) -> u32;
+
+    pub fn av1_motion_place(place: &mut MovedPlace, plane: &MotionPlane, block: &MovedBlock)
+    -> u32;
 
     pub fn av1_predict_intra_8(
         samples: *mut u8,

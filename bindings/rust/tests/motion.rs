@@ -1,8 +1,8 @@
 //! Blocks of references, predicted, prepared, averaged and refused.
 
 use av1_c::{
-    Error, MotionBlock, Place, mc_avg_8, mc_avg_16, prep_8tap_8, prep_8tap_16, put_8tap_8,
-    put_8tap_16,
+    Error, MotionBlock, Place, RAV1E_SHARP, SHARP, Tested, mc_avg_8, mc_avg_16, prep_8tap_8,
+    prep_8tap_16, prep_tested_16, put_8tap_8, put_8tap_16, put_tested_16,
 };
 
 // A block of 4 columns and 2 rows between samples.
@@ -44,6 +44,45 @@ fn whole_samples_are_copied_to_their_rectangle() {
     }
 }
 
+/// A block of one row, half a sample to the right, by a filter along it, of a reference that is 0 and, from the block's third column on, 255.
+fn beside_an_edge(width: usize, filter_x: u8) -> Result<Vec<u8>, Error> {
+    let reference: Vec<u8> = (0..256).map(|i| if i % 16 < 5 { 0 } else { 255 }).collect();
+    let block = MotionBlock {
+        width,
+        height: 1,
+        col_frac: 8,
+        row_frac: 0,
+        filter_x,
+        filter_y: 0,
+    };
+    let mut samples = vec![7; width];
+    put_8tap_8(
+        &mut samples,
+        place(width, 0, 0),
+        &reference,
+        place(16, 3, 3),
+        &block,
+    )?;
+    Ok(samples)
+}
+
+// The weights of half a sample are, of the specification's table Subpel_Filters: for sides up to 4 of the regular filter 0, 0, -12, 76, 76,
+// -12, 0, 0, and of the smooth one 0, 0, 12, 52, 52, 12, 0, 0; else of the sharp one -4, 12, -24, 80, 80, -24, 12, -4.
+#[test]
+fn the_sharp_filter_is_the_regular_one_along_short_sides() -> Result<(), Error> {
+    assert_eq!(beside_an_edge(4, SHARP)?, [0, 128, 255, 255]);
+    assert_eq!(beside_an_edge(4, SHARP), beside_an_edge(4, 0));
+    assert_eq!(beside_an_edge(4, RAV1E_SHARP)?, [24, 128, 231, 255]);
+    assert_eq!(beside_an_edge(4, RAV1E_SHARP), beside_an_edge(4, 1));
+    assert_eq!(
+        beside_an_edge(8, SHARP)?,
+        [0, 128, 255, 239, 255, 255, 255, 255]
+    );
+    assert_eq!(beside_an_edge(8, SHARP), beside_an_edge(8, RAV1E_SHARP));
+    assert_eq!(beside_an_edge(4, 4), Err(Error::BadMode));
+    Ok(())
+}
+
 #[test]
 fn constant_references_stay_as_they_are() {
     let reference = [500; 144];
@@ -65,6 +104,37 @@ fn constant_references_stay_as_they_are() {
         Ok(())
     );
     assert_eq!(samples, [500; 8]);
+}
+
+#[test]
+fn tested_references_give_the_same_blocks() -> Result<(), Error> {
+    let reference: Vec<u16> = (0..144).map(|i| i * i % 1024).collect();
+    let tested = Tested::new(&reference, 10)?;
+    let (to, from) = (place(4, 0, 0), place(12, 3, 3));
+    let (mut one, mut other) = ([0; 8], [0; 8]);
+    put_8tap_16(&mut one, to, &reference, from, &BLOCK, 10)?;
+    put_tested_16(&mut other, to, &tested, from, &BLOCK)?;
+    assert_eq!(one, other);
+    let (mut one, mut other) = ([0; 9], [0; 9]);
+    prep_8tap_16(&mut one, &reference, from, &BLOCK, 10)?;
+    prep_tested_16(&mut other, &tested, from, &BLOCK)?;
+    assert_eq!(one, other);
+    assert_eq!(
+        prep_tested_16(&mut other[..7], &tested, from, &BLOCK),
+        Err(Error::TooShort)
+    );
+    Ok(())
+}
+
+#[test]
+fn samples_past_the_depth_are_found() {
+    let mut reference = vec![1023; 144];
+    assert!(Tested::new(&reference, 10).is_ok());
+    assert!(matches!(Tested::new(&reference, 8), Err(Error::BadSample)));
+    assert!(matches!(Tested::new(&reference, 9), Err(Error::BadDepth)));
+    assert!(matches!(Tested::new(&[], 10), Err(Error::BadArea)));
+    reference[143] = 1024;
+    assert!(matches!(Tested::new(&reference, 10), Err(Error::BadSample)));
 }
 
 #[test]

@@ -50,7 +50,9 @@ pub use intra_calls::{
 };
 pub use leaf_numbers::{Coefficient, LeafNumbers, Motion};
 pub use motion_calls::{
-    av1_mc_avg_8, av1_mc_avg_16, av1_prep_8tap_8, av1_prep_8tap_16, av1_put_8tap_8, av1_put_8tap_16,
+    av1_mc_avg_8, av1_mc_avg_16, av1_motion_place, av1_prep_8tap_8, av1_prep_8tap_16,
+    av1_prep_moved_8, av1_prep_moved_16, av1_prep_tested_16, av1_put_8tap_8, av1_put_8tap_16,
+    av1_put_moved_8, av1_put_moved_16, av1_put_tested_16, av1_test_samples_16,
 };
 pub use plan_header::PlanHeader;
 pub use planes_length::av1_planes_len;

@@ -1,9 +1,26 @@
 //! Blocks that are predicted from references, for C. Each call is that of `av1_calls` of the same name, which says what
 //! it does.
-ghost use Rattle.std.specs.Prelude.{false, true};
-ghost use Rattle.av1_calls.specs.Motions.{Averages, Prepares, Puts, place};
+ghost use Rattle.std.specs.Prelude.{◌+◌, false, true, length};
+ghost use Rattle.av1_calls.specs.MotionPlaces.{FindsPlace};
+ghost use Rattle.av1_calls.specs.Motions.{Averages, Prepares, Puts, place, source_at};
+ghost use Rattle.av1_calls.specs.MovedBlocks.{AreMovedWithin, PreparesMoved, PutsMoved};
+ghost use Rattle.av1_calls.specs.Samples.{rectangle_of};
+ghost use Rattle.av1_calls.specs.TestedSamples.{TestsSamples};
+ghost use Rattle.av1_inter.specs.Places.{AreWithinDepth};
 
-use av1_calls::MotionBlock;
+use av1_calls::{MotionBlock, MotionPlane, MovedBlock, MovedPlace};
+
+/// Finds where a block that a vector moves is read in its reference.
+#[unsafe(no_mangle)]
+pub extern "C" fn av1_motion_place(
+    place: &mut MovedPlace,
+    plane: &MotionPlane,
+    block: &MovedBlock,
+) -> u32
+    ensures { FindsPlace plane.now block.now place.old place.new result }
+{
+    av1_calls::av1_motion_place(place, plane, block)
+}
 
 /// Predicts a block from a reference, at a depth of 8.
 #[unsafe(no_mangle)]
@@ -112,4 +129,127 @@ pub extern "C" fn av1_mc_avg_16(
     av1_calls::av1_mc_avg_16(
         samples, stride, x, y, width, height, first, second, bit_depth,
     )
+}
+
+/// Predicts a block that a vector moves from a plane without margins, at a depth of 8.
+#[unsafe(no_mangle)]
+pub extern "C" fn av1_put_moved_8(
+    dst: &mut [u8],
+    dst_stride: usize,
+    dst_x: usize,
+    dst_y: usize,
+    src: &[u8],
+    plane: &MotionPlane,
+    block: &MovedBlock,
+    window: &mut [u8],
+) -> u32
+    ensures { PutsMoved false 8 (place dst_stride dst_x dst_y) plane.now block.now (length window.old) src.now dst.old dst.new result }
+{
+    av1_calls::av1_put_moved_8(dst, dst_stride, dst_x, dst_y, src, plane, block, window)
+}
+
+/// The same for samples of 16 bits, of which none that is read is past the depth.
+#[unsafe(no_mangle)]
+pub extern "C" fn av1_put_moved_16(
+    dst: &mut [u16],
+    dst_stride: usize,
+    dst_x: usize,
+    dst_y: usize,
+    src: &[u16],
+    plane: &MotionPlane,
+    block: &MovedBlock,
+    window: &mut [u16],
+    bit_depth: usize,
+) -> u32
+    requires { AreMovedWithin bit_depth plane.now block.now src.now }
+    ensures { PutsMoved true bit_depth (place dst_stride dst_x dst_y) plane.now block.now (length window.old) src.now dst.old dst.new result }
+{
+    av1_calls::av1_put_moved_16(
+        dst, dst_stride, dst_x, dst_y, src, plane, block, window, bit_depth,
+    )
+}
+
+/// Prepares a block that a vector moves from a plane without margins for the average with another, at a depth of 8.
+#[unsafe(no_mangle)]
+pub extern "C" fn av1_prep_moved_8(
+    values: &mut [i16],
+    src: &[u8],
+    plane: &MotionPlane,
+    block: &MovedBlock,
+    window: &mut [u8],
+) -> u32
+    ensures { PreparesMoved false 8 plane.now block.now (length window.old) src.now values.old values.new result }
+{
+    av1_calls::av1_prep_moved_8(values, src, plane, block, window)
+}
+
+/// The same for samples of 16 bits, of which none that is read is past the depth.
+#[unsafe(no_mangle)]
+pub extern "C" fn av1_prep_moved_16(
+    values: &mut [i16],
+    src: &[u16],
+    plane: &MotionPlane,
+    block: &MovedBlock,
+    window: &mut [u16],
+    bit_depth: usize,
+) -> u32
+    requires { AreMovedWithin bit_depth plane.now block.now src.now }
+    ensures { PreparesMoved true bit_depth plane.now block.now (length window.old) src.now values.old values.new result }
+{
+    av1_calls::av1_prep_moved_16(values, src, plane, block, window, bit_depth)
+}
+
+/// Tells whether no sample of a rectangle is past a depth.
+#[unsafe(no_mangle)]
+pub extern "C" fn av1_test_samples_16(
+    samples: &[u16],
+    stride: usize,
+    x: usize,
+    y: usize,
+    width: usize,
+    height: usize,
+    bit_depth: usize,
+) -> u32
+    ensures { TestsSamples bit_depth stride (rectangle_of x y width height) samples.now result }
+{
+    av1_calls::av1_test_samples_16(samples, stride, x, y, width, height, bit_depth)
+}
+
+/// Predicts a block from a reference of which no sample that is read is past the depth.
+#[unsafe(no_mangle)]
+pub extern "C" fn av1_put_tested_16(
+    dst: &mut [u16],
+    dst_stride: usize,
+    dst_x: usize,
+    dst_y: usize,
+    src: &[u16],
+    src_stride: usize,
+    src_x: usize,
+    src_y: usize,
+    block: &MotionBlock,
+    bit_depth: usize,
+) -> u32
+    requires { AreWithinDepth bit_depth (source_at (place src_stride src_x src_y) src.now) (block.now.width + 7) (block.now.height + 7) }
+    ensures { Puts true bit_depth (place dst_stride dst_x dst_y) (place src_stride src_x src_y) block.now src.now dst.old dst.new result }
+{
+    av1_calls::av1_put_tested_16(
+        dst, dst_stride, dst_x, dst_y, src, src_stride, src_x, src_y, block, bit_depth,
+    )
+}
+
+/// Prepares a block of such a reference for the average with another.
+#[unsafe(no_mangle)]
+pub extern "C" fn av1_prep_tested_16(
+    values: &mut [i16],
+    src: &[u16],
+    src_stride: usize,
+    src_x: usize,
+    src_y: usize,
+    block: &MotionBlock,
+    bit_depth: usize,
+) -> u32
+    requires { AreWithinDepth bit_depth (source_at (place src_stride src_x src_y) src.now) (block.now.width + 7) (block.now.height + 7) }
+    ensures { Prepares true bit_depth (place src_stride src_x src_y) block.now src.now values.old values.new result }
+{
+    av1_calls::av1_prep_tested_16(values, src, src_stride, src_x, src_y, block, bit_depth)
 }

@@ -5,3 +5,5 @@ pub mod Limits
 pub mod Lanes
 pub mod Motions
 pub mod LumaCalls
+pub mod MotionPlaces
+pub mod MovedBlocks

@@ -20,8 +20,7 @@ use Rattle.av1_inter.specs.Filters.{filter_of}
 use Rattle.av1_inter.specs.Motion.{entry, prepared, single}
 use Rattle.av1_inter.specs.Places.{corner_of, IsStoredFrom, samples_from}
 use Rattle.av1_inter.proofs.Strips.{prepared_moved, single_moved}
-use Rattle.av1_calls.specs.Arguments.{filter_mode}
-use Rattle.av1_calls.specs.Motions.{HoldBlock, IsMotion, config_of, moved_sample, rectangle_at, rows_for, source_at}
+use Rattle.av1_calls.specs.Motions.{HoldBlock, IsMotion, config_of, filter_along, moved_sample, rectangle_at, rows_for, source_at}
 use Rattle.av1_calls.specs.declared.motion.MotionBlock.{MotionBlock}
 use Rattle.av1_calls.specs.declared.motion.Place.{Place}
 
@@ -131,8 +130,8 @@ fraction_is z n h e =
 -- what is painted of the place that is read is the block
 pub put_is : {T : Type 0} (pixel : ℕ → T) (depth : ℕ) (to : Place) (block : MotionBlock) (old new : List T) (area : StoredArea) (fx fy : ℕ) (mx my : FilterMode)
     (s t : ℕ → ℕ → ℕ)
-    → area ≡ rectangle_at to block.width block.height → fx ≡ block.col_frac → fy ≡ block.row_frac → mx ≡ filter_mode block.filter_x →
-    my ≡ filter_mode block.filter_y
+    → area ≡ rectangle_at to block.width block.height → fx ≡ block.col_frac → fy ≡ block.row_frac → mx ≡ filter_along block.filter_x block.width →
+    my ≡ filter_along block.filter_y block.height
     → ((c r : ℕ) → c < block.width + 7 → r < block.height + 7 → s c r ≡ t c r)
     → new ≡ paint to.stride area (λ r c _. pixel (single depth fx fy (filter_of mx fx area.width) (filter_of my fy area.height) s r c)) old
     → new ≡ paint to.stride (rectangle_at to block.width block.height) (λ r c _. pixel (moved_sample depth block t r c)) old
@@ -143,13 +142,13 @@ put_is pixel depth to block old new area fx fy mx my s t placed ex ey mx_is my_i
     e
     ∙ ap (λ (b : StoredArea). paint to.stride b (λ r c _. pixel (single depth fx fy (filter_of mx fx b.width) (filter_of my fy b.height) s r c)) old) placed
     ∙ ap (λ i. P i fy mx my) ex ∙ ap (λ j. P block.col_frac j mx my) ey ∙ ap (λ m. P block.col_frac block.row_frac m my) mx_is
-    ∙ ap (λ n. P block.col_frac block.row_frac (filter_mode block.filter_x) n) my_is
+    ∙ ap (λ n. P block.col_frac block.row_frac (filter_along block.filter_x block.width) n) my_is
     ∙ paint_same to.stride a _ (λ r c _. pixel (moved_sample depth block t r c)) old
     (λ r c v l h. ap pixel (single_moved depth _ _ s t r c c (λ x y i j. same (c + x) (r + y) (omega arith) (omega arith)) block.col_frac block.row_frac))
 
 -- what is prepared of it is the block
 pub prep_is : (depth : ℕ) (block : MotionBlock) (before after : List ℤ) (fx fy : ℕ) (mx my : FilterMode) (s t : ℕ → ℕ → ℕ)
-    → fx ≡ block.col_frac → fy ≡ block.row_frac → mx ≡ filter_mode block.filter_x → my ≡ filter_mode block.filter_y
+    → fx ≡ block.col_frac → fy ≡ block.row_frac → mx ≡ filter_along block.filter_x block.width → my ≡ filter_along block.filter_y block.height
     → ((c r : ℕ) → c < block.width + 7 → r < block.height + 7 → s c r ≡ t c r)
     → ((r c : ℕ) → r < block.height → c < block.width →
     entry after (r * block.width + c) ≡ prepared depth fx fy (filter_of mx fx block.width) (filter_of my fy block.height) s r c)
@@ -160,7 +159,8 @@ prep_is depth block before after fx fy mx my s t ex ey mx_is my_is same values o
     record {
       values = λ r c l h. values r c l h
           ∙ ap (λ i. P i fy mx my r c) ex ∙ ap (λ j. P block.col_frac j mx my r c) ey
-          ∙ ap (λ m. P block.col_frac block.row_frac m my r c) mx_is ∙ ap (λ n. P block.col_frac block.row_frac (filter_mode block.filter_x) n r c) my_is
+          ∙ ap (λ m. P block.col_frac block.row_frac m my r c) mx_is
+          ∙ ap (λ n. P block.col_frac block.row_frac (filter_along block.filter_x block.width) n r c) my_is
           ∙ prepared_moved depth _ _ s t r c c (λ x y i j. same (c + x) (r + y) (omega arith) (omega arith)) block.col_frac block.row_frac;
       others = others;
     }

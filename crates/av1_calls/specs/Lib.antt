@@ -3,5 +3,8 @@ pub mod Motions
 pub mod Transforms
 pub mod IntraBlocks
 pub mod IntraEdges
+pub mod MotionPlaces
+pub mod MovedBlocks
 pub mod Samples
 pub mod LumaBlocks
+pub mod TestedSamples

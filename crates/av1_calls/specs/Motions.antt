@@ -1,6 +1,9 @@
 -- What the calls on blocks of references ask of their arguments, and what they leave.
-use Rattle.std.specs.Prelude.{◌≡◌, ◌≢◌, ◌⊎◌, Bool, ℕ, ◌+◌, ◌-◌, ◌*◌, ◌<◌, ◌≤◌, List, length, slice_index, ℤ}
+use Rattle.std.specs.Prelude.{◌≡◌, ◌≢◌, ◌⊎◌, ◌==◌, if◌then◌else◌, Bool, ℕ, ◌+◌, ◌-◌, ◌*◌, ◌<◌, ◌≤◌, nat_lt, List}
+use Rattle.std.specs.Prelude.{length, slice_index, ℤ}
 use Rattle.av1_blocks.specs.Depths.{IsDepth}
+use Rattle.av1_blocks.specs.declared.mc.FilterMode.{FilterMode}
+use Rattle.av1_blocks.specs.declared.mc.FilterMode.TheVariants as filters
 use Rattle.av1_frame.specs.Areas.{AreRows}
 use Rattle.av1_frame.specs.Samples.{paint}
 use Rattle.av1_frame.specs.declared.plane_region.StoredArea.{StoredArea}
@@ -14,6 +17,7 @@ use Rattle.av1_calls.specs.declared.argument.BadArgument.{BadArgument}
 use Rattle.av1_calls.specs.declared.argument.BadArgument.TheVariants as bad
 use Rattle.av1_calls.specs.declared.motion.MotionBlock.{MotionBlock}
 use Rattle.av1_calls.specs.declared.motion.Place.{Place}
+use Rattle.av1_calls.specs.declared.motion.TheConstants.{RAV1E_SHARP, SHARP}
 use Rattle.av1_calls.specs.declared.status.TheConstants.{BAD_AREA, BAD_DEPTH, BAD_FRACTION, BAD_MODE, BAD_SAMPLE}
 use Rattle.av1_calls.specs.declared.status.TheConstants.{BAD_SIZE, DONE, TOO_SHORT}
 
@@ -43,10 +47,14 @@ pub record AreSides (width height : ℕ) : Type 0 where
   pub some_rows : 0 < height
   pub high : height ≤ 128
 
--- both are numbers of filters in plans
+-- a number of a filter in plans, or that of rav1e's sharp one
+abbrev pub IsFilterNumber : ℕ → Type 0
+IsFilterNumber number = (number < 4) ⊎ (number ≡ RAV1E_SHARP)
+
+-- both have such a number
 pub record AreFilters (block : MotionBlock) : Type 0 where
-  pub across : block.filter_x < 4
-  pub down : block.filter_y < 4
+  pub across : IsFilterNumber block.filter_x
+  pub down : IsFilterNumber block.filter_y
 
 -- both are less than a sample
 pub record AreFractions (block : MotionBlock) : Type 0 where
@@ -96,12 +104,21 @@ pub record AreOfDepth (depth : ℕ) (from : Place) (samples : List ℕ) (block :
 
 -- ---- what is written
 
+-- the sharp filter along a side: up to 4 samples AV1 takes the regular one
+abbrev pub sharp_along : (side : ℕ) → FilterMode
+sharp_along side = if nat_lt 4 side then filters.SHARP else filters.REGULAR
+
+-- the filter of a number along a side; rav1e's sharp one is `SHARP` of `av1_inter` along all sides
+abbrev pub filter_along : (number side : ℕ) → FilterMode
+filter_along number side =
+    if number == RAV1E_SHARP then filters.SHARP else if number == SHARP then sharp_along side else filter_mode number
+
 -- the weights of the filters for a block: along its rows, and down its columns
 abbrev pub across_of : MotionBlock → List ℤ
-across_of block = filter_of (filter_mode block.filter_x) block.col_frac block.width
+across_of block = filter_of (filter_along block.filter_x block.width) block.col_frac block.width
 
 abbrev pub down_of : MotionBlock → List ℤ
-down_of block = filter_of (filter_mode block.filter_y) block.row_frac block.height
+down_of block = filter_of (filter_along block.filter_y block.height) block.row_frac block.height
 
 -- the sample at row r and column c of the block
 abbrev pub moved_sample : (depth : ℕ) → MotionBlock → (ℕ → ℕ → ℕ) → (r c : ℕ) → ℕ

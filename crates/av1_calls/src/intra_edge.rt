@@ -216,9 +216,9 @@ fn begins_in(plane: EdgePlane, block: EdgeBlock, size: TxSize) -> bool
         && are_few(block.unit_y, size.height_mi())
 }
 
-// How often the columns, or the rows, of a plane are halved.
+/// How often the columns, or the rows, of a plane are halved.
 #[inline(always)]
-fn halvings(halved: u8) -> usize
+pub(crate) fn halvings(halved: u8) -> usize
     ensures value { result ≡ halvings halved }
     ensures most { result ≤ 1 }
 {
@@ -250,9 +250,9 @@ fn config_of(plane: EdgePlane, rows: usize) -> PlaneConfig
     }
 }
 
-// A column or a row as a signed number.
+/// A column or a row as a signed number.
 #[inline(always)]
-fn signed(place: usize) -> isize
+pub(crate) fn signed(place: usize) -> isize
     requires { place < 2 ^ 63 }
     ensures { result ≡ pos place }
 {

@@ -1,11 +1,20 @@
 //! Blocks of references: what is asked of one, and the samples that it is made of.
 ghost use Rattle.std.specs.Prelude.{◌≡◌, true, ◌*◌, IfOk, IfErr, length, take};
-ghost use Rattle.av1_calls.specs.Motions.{AreFilters, AreFractions, AreOfDepth, AreSides, IsAverage, IsAverageFault, IsMotion, IsMotionFault, IsPrep};
-ghost use Rattle.av1_calls.specs.Motions.{IsPrepFault, IsPut, IsPutFault, IsSampleFault, IsSource, config_of, read_for, rectangle_at, rows_for};
+ghost use Rattle.av1_calls.specs.Motions.{AreFilters, AreFractions, AreOfDepth, AreSides, IsAverage, IsAverageFault, IsFilterNumber, IsMotion};
+ghost use Rattle.av1_calls.specs.Motions.{IsMotionFault, IsPrep, IsPrepFault, IsPut, IsPutFault, IsSampleFault, IsSource, config_of, filter_along};
+ghost use Rattle.av1_calls.specs.Motions.{read_for, rectangle_at, rows_for, sharp_along};
 
-use crate::argument::{BadArgument, are_rows, is_depth};
+use crate::argument::{BadArgument, are_rows, filter_mode, is_depth};
 use crate::samples::are_within;
+use av1_blocks::FilterMode;
 use av1_frame::{Pixel, PlaneConfig, StoredArea};
+
+/// The number of the sharp filter.
+pub const SHARP: u8 = 2;
+
+/// The number of the sharp filter as rav1e has it: along sides up to 4 the smooth one takes its place, where AV1 takes
+/// the regular one.
+pub const RAV1E_SHARP: u8 = 5;
 
 /// A block that is moved between the samples of its reference.
 #[repr(C)]
@@ -19,7 +28,7 @@ pub struct MotionBlock {
     pub col_frac: u8,
     /// How far it is moved down, in sixteenths of a sample: below 16.
     pub row_frac: u8,
-    /// The number of the filter along its rows, as in plans: 0 regular, 1 smooth, 2 sharp, 3 bilinear.
+    /// The number of the filter along its rows: 0 regular, 1 smooth, 2 sharp, 3 bilinear, or [`RAV1E_SHARP`].
     pub filter_x: u8,
     /// The number of the filter down its columns.
     pub filter_y: u8,
@@ -51,11 +60,20 @@ pub(crate) fn rectangle_at(at: Place, width: usize, height: usize) -> StoredArea
 
 // Whether both sides are from 1 to 128.
 #[inline(always)]
-fn are_sides(width: usize, height: usize) -> bool
+pub(crate) fn are_sides(width: usize, height: usize) -> bool
     ensures true_is { result ≡ true → AreSides width height }
     ensures is_true { AreSides width height → result ≡ true }
 {
     0 < width && width <= 128 && 0 < height && height <= 128
+}
+
+/// Whether a filter has this number.
+#[inline(always)]
+pub(crate) fn is_filter_number(number: u8) -> bool
+    ensures true_is { result ≡ true → IsFilterNumber number }
+    ensures is_true { IsFilterNumber number → result ≡ true }
+{
+    number < 4 || number == RAV1E_SHARP
 }
 
 #[inline(always)]
@@ -63,7 +81,7 @@ fn are_filters(block: MotionBlock) -> bool
     ensures true_is { result ≡ true → AreFilters block }
     ensures is_true { AreFilters block → result ≡ true }
 {
-    block.filter_x < 4 && block.filter_y < 4
+    is_filter_number(block.filter_x) && is_filter_number(block.filter_y)
 }
 
 #[inline(always)]
@@ -72,6 +90,32 @@ fn are_fractions(block: MotionBlock) -> bool
     ensures is_true { AreFractions block → result ≡ true }
 {
     block.col_frac < 16 && block.row_frac < 16
+}
+
+// What AV1 takes for the sharp filter along a side.
+#[inline(always)]
+fn sharp_along(side: usize) -> FilterMode
+    ensures { result ≡ sharp_along side }
+{
+    if side > 4 {
+        FilterMode::SHARP
+    } else {
+        FilterMode::REGULAR
+    }
+}
+
+/// The filter of a number along a side of a block. Up to 4 samples AV1 takes the regular filter for the sharp one.
+#[inline(always)]
+pub(crate) fn filter_along(number: u8, side: usize) -> FilterMode
+    ensures { result ≡ filter_along number side }
+{
+    if number == RAV1E_SHARP {
+        FilterMode::SHARP
+    } else if number == SHARP {
+        sharp_along(side)
+    } else {
+        filter_mode(number)
+    }
 }
 
 // What the filters read for a block: 3 columns and rows before it, and 4 after it.

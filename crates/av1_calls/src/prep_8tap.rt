@@ -1,11 +1,15 @@
 //! A block that is prepared for the average with another.
 //!
 //! AV1 specification: block inter prediction process, with the rounding of compound prediction.
-ghost use Rattle.std.specs.Prelude.{true, false, IfOk, IfErr, map, length};
+ghost use Rattle.std.specs.Prelude.{true, false, ◌+◌, IfOk, IfErr, map, length};
+ghost use Rattle.av1_blocks.specs.Depths.{IsDepth};
+ghost use Rattle.av1_inter.specs.Places.{AreWithinDepth};
 ghost use Rattle.av1_calls.specs.Motions.{Prepares, AreOfDepth, HoldBlock, IsDeepPrepFault, IsPrep, place, source_at};
 
-use crate::argument::{BadArgument, filter_mode};
-use crate::motion::{MotionBlock, Place, config_of, rows_of, test_prep, test_samples};
+use crate::argument::{BadArgument, is_depth};
+use crate::motion::{
+    MotionBlock, Place, config_of, filter_along, rows_of, test_prep, test_samples,
+};
 use crate::samples::have_8_bits;
 use crate::status::DONE;
 use av1_frame::{Pixel, PlaneOffset, PlaneSlice};
@@ -13,7 +17,13 @@ use av1_inter::prep_8tap;
 
 /// The first values become those of the block.
 #[inline(always)]
-fn prep<T: Pixel>(values: &mut [i16], src: &[T], from: Place, block: MotionBlock, bit_depth: usize)
+pub(crate) fn prep<T: Pixel>(
+    values: &mut [i16],
+    src: &[T],
+    from: Place,
+    block: MotionBlock,
+    bit_depth: usize,
+)
     requires asked { IsPrep (length values.old) from (length src.now) block }
     requires deep { AreOfDepth bit_depth from (map T.num src.now) block }
     ensures { HoldBlock bit_depth block (source_at from (map T.num src.now)) values.old values.new }
@@ -28,8 +38,8 @@ fn prep<T: Pixel>(values: &mut [i16], src: &[T], from: Place, block: MotionBlock
         block.height,
         i32::from(block.col_frac),
         i32::from(block.row_frac),
-        filter_mode(block.filter_x),
-        filter_mode(block.filter_y),
+        filter_along(block.filter_x, block.width),
+        filter_along(block.filter_y, block.height),
         bit_depth,
     );
 }
@@ -53,6 +63,31 @@ fn test_deep_prep(
 {
     test_prep(room, from, samples.len(), block)?;
     test_samples(from, samples, block, bit_depth)
+}
+
+/// The tests of a block of samples of which none that is read is past the depth.
+///
+/// # Errors
+///
+/// `Size`, then `Mode`, then `Fraction`, then `Area`, then `Short`, then `Depth`.
+#[inline(always)]
+fn test_tested_prep(
+    room: usize,
+    from: Place,
+    samples: &[u16],
+    block: MotionBlock,
+    bit_depth: usize,
+) -> Result<(), BadArgument>
+    ensures good { IfOk result (λ _. IsPrep room from (length samples.now) block) }
+    ensures depth { IfOk result (λ _. IsDepth bit_depth) }
+    ensures fault { IfErr result (IsDeepPrepFault bit_depth room from samples.now block) }
+{
+    test_prep(room, from, samples.len(), block)?;
+    if is_depth(bit_depth) {
+        Ok(())
+    } else {
+        Err(BadArgument::Depth)
+    }
 }
 
 /// Prepares a block of a reference for the average with another, at a depth of 8: the specification's "Block inter
@@ -113,6 +148,35 @@ pub fn av1_prep_8tap_16(
         y: src_y,
     };
     match test_deep_prep(values.len(), from, src, block, bit_depth) {
+        Ok(()) => {
+            prep(values, src, from, block, bit_depth);
+            DONE
+        }
+        Err(refused) => refused.status(),
+    }
+}
+
+/// The same as [`av1_prep_8tap_16`], but that it looks at no sample before it reads it: the caller has to see that none
+/// that is read is past the depth, as `av1_test_samples_16` tells of a whole reference.
+pub fn av1_prep_tested_16(
+    values: &mut [i16],
+    src: &[u16],
+    src_stride: usize,
+    src_x: usize,
+    src_y: usize,
+    block: &MotionBlock,
+    bit_depth: usize,
+) -> u32
+    requires { AreWithinDepth bit_depth (source_at (place src_stride src_x src_y) src.now) (block.now.width + 7) (block.now.height + 7) }
+    ensures { Prepares true bit_depth (place src_stride src_x src_y) block.now src.now values.old values.new result }
+{
+    let block = *block;
+    let from = Place {
+        stride: src_stride,
+        x: src_x,
+        y: src_y,
+    };
+    match test_tested_prep(values.len(), from, src, block, bit_depth) {
         Ok(()) => {
             prep(values, src, from, block, bit_depth);
             DONE

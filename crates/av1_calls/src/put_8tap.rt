@@ -1,12 +1,16 @@
 //! A block that is predicted from one reference.
 //!
 //! AV1 specification: block inter prediction process.
-ghost use Rattle.std.specs.Prelude.{true, false, ◌≡◌, ◌≤◌, IfOk, IfErr, map, length};
+ghost use Rattle.std.specs.Prelude.{true, false, ◌≡◌, ◌+◌, ◌≤◌, IfOk, IfErr, map, length};
+ghost use Rattle.av1_blocks.specs.Depths.{IsDepth};
 ghost use Rattle.av1_frame.specs.Samples.{paint};
+ghost use Rattle.av1_inter.specs.Places.{AreWithinDepth};
 ghost use Rattle.av1_calls.specs.Motions.{Puts, AreOfDepth, IsDeepPutFault, IsPut, moved_sample, place, rectangle_at, source_at};
 
-use crate::argument::{BadArgument, filter_mode};
-use crate::motion::{MotionBlock, Place, config_of, rectangle_at, rows_of, test_put, test_samples};
+use crate::argument::{BadArgument, is_depth};
+use crate::motion::{
+    MotionBlock, Place, config_of, filter_along, rectangle_at, rows_of, test_put, test_samples,
+};
 use crate::samples::have_8_bits;
 use crate::status::DONE;
 use av1_frame::{Pixel, PlaneOffset, PlaneSlice};
@@ -14,7 +18,7 @@ use av1_inter::put_8tap_to;
 
 /// The rectangle becomes the block.
 #[inline(always)]
-fn put<T: Pixel>(
+pub(crate) fn put<T: Pixel>(
     dst: &mut [T],
     to: Place,
     src: &[T],
@@ -38,8 +42,8 @@ fn put<T: Pixel>(
         place,
         i32::from(block.col_frac),
         i32::from(block.row_frac),
-        filter_mode(block.filter_x),
-        filter_mode(block.filter_y),
+        filter_along(block.filter_x, block.width),
+        filter_along(block.filter_y, block.height),
         bit_depth,
     );
 }
@@ -64,6 +68,32 @@ fn test_deep_put(
 {
     test_put(to, room, from, samples.len(), block)?;
     test_samples(from, samples, block, bit_depth)
+}
+
+/// The tests of a block of samples of which none that is read is past the depth.
+///
+/// # Errors
+///
+/// `Size`, then `Mode`, then `Fraction`, then `Area`, then `Depth`.
+#[inline(always)]
+fn test_tested_put(
+    to: Place,
+    room: usize,
+    from: Place,
+    samples: &[u16],
+    block: MotionBlock,
+    bit_depth: usize,
+) -> Result<(), BadArgument>
+    ensures good { IfOk result (λ _. IsPut to room from (length samples.now) block) }
+    ensures depth { IfOk result (λ _. IsDepth bit_depth) }
+    ensures fault { IfErr result (IsDeepPutFault bit_depth to room from samples.now block) }
+{
+    test_put(to, room, from, samples.len(), block)?;
+    if is_depth(bit_depth) {
+        Ok(())
+    } else {
+        Err(BadArgument::Depth)
+    }
 }
 
 /// Predicts the samples of a rectangle of the block's sides from those of a reference, at a depth of 8: the
@@ -139,6 +169,43 @@ pub fn av1_put_8tap_16(
         y: src_y,
     };
     match test_deep_put(to, dst.len(), from, src, block, bit_depth) {
+        Ok(()) => {
+            put(dst, to, src, from, block, bit_depth);
+            DONE
+        }
+        Err(refused) => refused.status(),
+    }
+}
+
+/// The same as [`av1_put_8tap_16`], but that it looks at no sample before it reads it: the caller has to see that none
+/// that is read is past the depth, as `av1_test_samples_16` tells of a whole reference.
+pub fn av1_put_tested_16(
+    dst: &mut [u16],
+    dst_stride: usize,
+    dst_x: usize,
+    dst_y: usize,
+    src: &[u16],
+    src_stride: usize,
+    src_x: usize,
+    src_y: usize,
+    block: &MotionBlock,
+    bit_depth: usize,
+) -> u32
+    requires { AreWithinDepth bit_depth (source_at (place src_stride src_x src_y) src.now) (block.now.width + 7) (block.now.height + 7) }
+    ensures { Puts true bit_depth (place dst_stride dst_x dst_y) (place src_stride src_x src_y) block.now src.now dst.old dst.new result }
+{
+    let block = *block;
+    let to = Place {
+        stride: dst_stride,
+        x: dst_x,
+        y: dst_y,
+    };
+    let from = Place {
+        stride: src_stride,
+        x: src_x,
+        y: src_y,
+    };
+    match test_tested_put(to, dst.len(), from, src, block, bit_depth) {
         Ok(()) => {
             put(dst, to, src, from, block, bit_depth);
             DONE

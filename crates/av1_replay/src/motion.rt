@@ -12,7 +12,7 @@ use crate::fields::Fields;
 use crate::samples::{Format, Margins};
 use crate::way::{Signed, Way};
 use av1_blocks::OutOfMemory;
-use av1_calls::MotionBlock;
+use av1_calls::{MotionBlock, RAV1E_SHARP, SHARP};
 use std::alloc::Global;
 
 /// How many more columns and rows than the block has are read: 3 before it, and 4 behind.
@@ -20,6 +20,15 @@ const ROUND: usize = 7;
 
 /// How many values stand behind those of a prepared block.
 const BEHIND: usize = 4;
+
+/// The number by which a call knows a filter of rav1e. What isn't one of its four stays none.
+fn filter_of(number: u8) -> u8 {
+    match number {
+        SHARP => RAV1E_SHARP,
+        RAV1E_SHARP => u8::MAX,
+        _ => number,
+    }
+}
 
 /// A block of drawn samples of a reference.
 #[derive(Clone, Copy)]
@@ -71,8 +80,8 @@ impl Reference {
             height: usize::from(self.height),
             col_frac: self.col_frac,
             row_frac: self.row_frac,
-            filter_x: self.filter_x,
-            filter_y: self.filter_y,
+            filter_x: filter_of(self.filter_x),
+            filter_y: filter_of(self.filter_y),
         }
     }
 

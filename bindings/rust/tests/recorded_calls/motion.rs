@@ -4,8 +4,8 @@ use crate::calls::{self, Average, Kind, Motion, Numbers, Prepare, Put, Rectangle
 use crate::made::{compare, narrow, refuse, wide};
 use crate::spoiled::{cut, depth, past, place};
 use av1_c::{
-    Error, MotionBlock, Place, mc_avg_8, mc_avg_16, prep_8tap_8, prep_8tap_16, put_8tap_8,
-    put_8tap_16,
+    Error, MotionBlock, Place, RAV1E_SHARP, SHARP, mc_avg_8, mc_avg_16, prep_8tap_8, prep_8tap_16,
+    put_8tap_8, put_8tap_16,
 };
 
 fn place_of(it: &Rectangle) -> Place {
@@ -16,6 +16,15 @@ fn place_of(it: &Rectangle) -> Place {
     }
 }
 
+/// The number of a filter of rav1e in the library. What isn't one of its four stays none.
+fn filter(number: u8) -> u8 {
+    match number {
+        SHARP => RAV1E_SHARP,
+        RAV1E_SHARP => u8::MAX,
+        _ => number,
+    }
+}
+
 /// The block of so many columns and rows that a motion moves.
 fn block_of(motion: &Motion, it: &Rectangle) -> MotionBlock {
     MotionBlock {
@@ -23,8 +32,8 @@ fn block_of(motion: &Motion, it: &Rectangle) -> MotionBlock {
         height: it.height,
         col_frac: motion.across,
         row_frac: motion.down,
-        filter_x: motion.filter_across,
-        filter_y: motion.filter_down,
+        filter_x: filter(motion.filter_across),
+        filter_y: filter(motion.filter_down),
     }
 }
 

@@ -1,0 +1,19 @@
+use Rattle.std.proofs.Common.{rules, subst, sym}
+use Rattle.std.proofs.lemmas.List.{map-id}
+use Rattle.av1_calls.specs.Motions.{AreOfDepth, HoldBlock, place, source_at}
+use Rattle.av1_calls.proofs.prep_8tap.av1_prep_tested_16.Goals as goal
+
+pub prep-requires-clause-deep : goal.prep-requires-clause-deep
+prep-requires-clause-deep c =
+    let a = c.args in
+    subst (λ xs. AreOfDepth a.bit_depth (place a.src_stride a.src_x a.src_y) xs a.block.now) (sym (map-id a.src.now))
+    (record { is_depth = c.in-Ok.ensures.depth; within = c.requires })
+
+pub returns-in-Ok : goal.returns-in-Ok
+returns-in-Ok c =
+    let a = c.args in
+    let from = place a.src_stride a.src_x a.src_y in
+    let deep : AreOfDepth a.bit_depth from a.src.now a.block.now = record { is_depth = c.in-Ok.ensures.depth; within = c.requires } in
+    let held : HoldBlock a.bit_depth a.block.now (source_at from a.src.now) a.values.now c.prep.new.values =
+    subst (λ xs. HoldBlock a.bit_depth a.block.now (source_at from xs) a.values.now c.prep.new.values) (map-id a.src.now) c.prep.ensures in
+    search rules

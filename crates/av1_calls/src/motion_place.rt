@@ -1,0 +1,206 @@
+//! Where a block that a vector moves is read in its reference.
+//!
+//! AV1 specification: motion vector scaling process at a scale of one, block inter prediction process.
+ghost use Rattle.std.specs.Prelude.{◌≡◌, true, ◌+◌, ◌<◌, ◌≤◌, ◌-ℤ◌, ◌≤ℤ◌, IfOk, IfErr, pos};
+ghost use Rattle.av1_calls.specs.MotionPlaces.{FindsPlace, IsMoved, IsMovedFault, IsPlaceFor, IsPlaceOf, LiesNear, first_read};
+ghost use Rattle.av1_inter.specs.Reference.{sixteenths, whole_part};
+ghost use Rattle.std.specs.Int.{int_max, int_min};
+
+use crate::argument::BadArgument;
+use crate::intra_edge::{halvings, signed};
+use crate::motion::are_sides;
+use crate::status::DONE;
+
+/// The greatest number of columns, or rows, that a frame has.
+const MOST: usize = 65_536;
+
+/// A plane of a reference.
+#[repr(C)]
+#[derive(Clone, Copy, Debug, PartialEq, Eq)]
+pub struct MotionPlane {
+    /// How far the rows of its samples stand apart.
+    pub stride: usize,
+    /// The column of its first visible sample.
+    pub x: usize,
+    /// The row of its first visible sample.
+    pub y: usize,
+    /// How many visible columns it has: from 1 to 65,536.
+    pub width: usize,
+    /// How many visible rows it has: from 1 to 65,536.
+    pub height: usize,
+    /// Whether it has half of luma's columns: 0 where it has as many.
+    pub halved_columns: u8,
+    /// Whether it has half of luma's rows: 0 where it has as many.
+    pub halved_rows: u8,
+}
+
+/// A block of a plane, and the vector that moves it.
+#[repr(C)]
+#[derive(Clone, Copy, Debug, PartialEq, Eq)]
+pub struct MovedBlock {
+    /// The column of its first sample, up to 65,536.
+    pub x: usize,
+    /// The row of its first sample, up to 65,536.
+    pub y: usize,
+    /// How many columns it has: from 1 to 128.
+    pub width: usize,
+    /// How many rows it has: from 1 to 128.
+    pub height: usize,
+    /// How far the vector leads down, in eighths of a luma sample.
+    pub row: i16,
+    /// How far it leads to the right.
+    pub col: i16,
+    /// The number of the filter along its rows, as in a `MotionBlock`.
+    pub filter_x: u8,
+    /// The number of the filter down its columns.
+    pub filter_y: u8,
+}
+
+/// Where it is read.
+#[repr(C)]
+#[derive(Clone, Copy, Debug, PartialEq, Eq)]
+pub struct MovedPlace {
+    /// The column of its first sample in the reference, counted from the first visible one.
+    pub x: isize,
+    /// The row of its first sample, counted from the first visible one.
+    pub y: isize,
+    /// How far it is moved right beyond that, in sixteenths of a sample.
+    pub col_frac: u8,
+    /// How far it is moved down beyond that.
+    pub row_frac: u8,
+}
+
+/// Whether the plane has samples, and it and the block's place are within what frames have.
+pub(crate) fn lies_near(plane: MotionPlane, block: MovedBlock) -> bool
+    ensures true_is { result ≡ true → LiesNear plane block }
+    ensures is_true { LiesNear plane block → result ≡ true }
+{
+    0 < plane.width
+        && plane.width <= MOST
+        && 0 < plane.height
+        && plane.height <= MOST
+        && block.x <= MOST
+        && block.y <= MOST
+}
+
+/// Whether the block can be moved.
+///
+/// # Errors
+///
+/// `Size`, then `Area`.
+fn test_moved(plane: MotionPlane, block: MovedBlock) -> Result<(), BadArgument>
+    ensures good { IfOk result (λ _. IsMoved plane block) }
+    ensures fault { IfErr result (IsMovedFault plane block) }
+{
+    if !are_sides(block.width, block.height) {
+        return Err(BadArgument::Size);
+    }
+    if !lies_near(plane, block) {
+        return Err(BadArgument::Area);
+    }
+    Ok(())
+}
+
+// The sixteenths of a sample of a vector's component, in eighths of a luma sample.
+fn sixteenths(component: i16, decimation: usize) -> i32
+    requires { decimation ≤ 1 }
+    ensures value { result ≡ pos (sixteenths component decimation) }
+    ensures small { sixteenths component decimation < 16 }
+{
+    let scale = if decimation == 0 { 2 } else { 1 };
+    (i32::from(component) * scale).rem_euclid(16)
+}
+
+// The same as a fraction of a block.
+fn fraction(component: i16, decimation: usize) -> u8
+    requires { decimation ≤ 1 }
+    ensures value { result ≡ sixteenths component decimation }
+    ensures small { result < 16 }
+{
+    sixteenths(component, decimation) as u8
+}
+
+// The whole samples that a component moves a block, less the 3 that are read before it.
+fn steps(component: i16, decimation: usize) -> isize
+    requires { decimation ≤ 1 }
+    ensures value { result ≡ whole_part component decimation -ℤ pos 3 }
+    ensures least { (pos 0 -ℤ pos 65536) ≤ℤ result }
+    ensures greatest { result ≤ℤ pos 65536 }
+{
+    isize::from(component >> (3 + decimation)) - 3
+}
+
+// The first column or row that is read, however far out it is.
+fn first_read(at: usize, component: i16, decimation: usize) -> isize
+    requires near { at ≤ 65536 }
+    requires decimation { decimation ≤ 1 }
+    ensures { result ≡ first_read at component decimation }
+{
+    signed(at) + steps(component, decimation)
+}
+
+// The column or row at which the pads of a block begin.
+fn pads_begin(side: usize) -> isize
+    requires { side ≤ 128 }
+    ensures { result ≡ pos 0 -ℤ pos (side + 7) }
+{
+    -((side + 7) as isize)
+}
+
+// The number from the least to the greatest that is nearest to one.
+fn kept_between(number: isize, least: isize, greatest: isize) -> isize
+    ensures { result ≡ int_min (int_max number least) greatest }
+{
+    number.max(least).min(greatest)
+}
+
+// Where a block of so many columns or rows is read, of which so many are visible.
+fn place_along(at: usize, side: usize, component: i16, decimation: usize, visible: usize) -> isize
+    requires near { at ≤ 65536 }
+    requires short { side ≤ 128 }
+    requires decimation { decimation ≤ 1 }
+    requires some { 0 < visible }
+    requires few { visible ≤ 65536 }
+    ensures { IsPlaceFor (first_read at component decimation) side visible result }
+{
+    let first = first_read(at, component, decimation);
+    kept_between(first, pads_begin(side), signed(visible)) + 3
+}
+
+/// Where the block is read.
+pub(crate) fn place_of(plane: MotionPlane, block: MovedBlock) -> MovedPlace
+    requires { IsMoved plane block }
+    ensures { IsPlaceOf plane block result }
+{
+    let (columns, rows) = (halvings(plane.halved_columns), halvings(plane.halved_rows));
+    MovedPlace {
+        x: place_along(block.x, block.width, block.col, columns, plane.width),
+        y: place_along(block.y, block.height, block.row, rows, plane.height),
+        col_frac: fraction(block.col, columns),
+        row_frac: fraction(block.row, rows),
+    }
+}
+
+/// Finds where a block that a vector moves is read in its reference: the specification's "motion vector scaling
+/// process" at a scale of one. `place` becomes the place of the block's first sample, counted from the first visible
+/// one of the plane, and the sixteenths of a sample beyond it. Where the plane stands in its samples, and the filters,
+/// are not read.
+///
+/// Past a side of the plane each sample is that at the side. So a vector that leads far out gets a place nearer to the
+/// plane, where the same is read: pads of `width + 7` columns and `height + 7` rows on each side hold all that is read,
+/// however far a vector leads.
+///
+/// `DONE`: that was done. `BAD_SIZE`: a side is 0, or above 128. `BAD_AREA`: the plane has no samples, or it or the
+/// block's place is past 65,536.
+pub fn av1_motion_place(place: &mut MovedPlace, plane: &MotionPlane, block: &MovedBlock) -> u32
+    ensures { FindsPlace plane.now block.now place.old place.new result }
+{
+    let (plane, block) = (*plane, *block);
+    match test_moved(plane, block) {
+        Ok(()) => {
+            *place = place_of(plane, block);
+            DONE
+        }
+        Err(fault) => fault.status(),
+    }
+}

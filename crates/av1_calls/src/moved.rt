@@ -1,0 +1,145 @@
+//! Blocks that vectors move in planes without margins: where one is read, and in what words it is handed on.
+ghost use Rattle.std.specs.Prelude.{◌≡◌, true, ℕ, ◌+◌, ◌<◌, ◌≤◌, ◌+ℤ◌, ◌-ℤ◌, ◌≤ℤ◌, length, map, pos};
+ghost use Rattle.av1_calls.specs.MotionPlaces.{IsPlaceOf};
+ghost use Rattle.av1_calls.specs.Motions.{AreSides, IsSource, source_at};
+ghost use Rattle.av1_calls.specs.MovedBlocks.{AreMovedFilters, IsSourced, LiesWithin, motion_at, moved_source, stored_at, visible_of, window_of};
+ghost use Rattle.av1_frame.specs.Areas.{AreRows};
+
+use crate::argument::are_rows;
+use crate::intra_edge::signed;
+use crate::motion::{MotionBlock, Place, is_filter_number};
+use crate::motion_place::{MotionPlane, MovedBlock, MovedPlace, lies_near};
+use crate::window::gather;
+use av1_frame::{Pixel, StoredArea};
+
+/// A block that a vector moves, and where it is read.
+#[derive(Clone, Copy)]
+pub(crate) struct Moved {
+    pub(crate) plane: MotionPlane,
+    pub(crate) block: MovedBlock,
+    pub(crate) place: MovedPlace,
+}
+
+/// The visible samples of a plane.
+#[inline(always)]
+pub(crate) fn visible_of(plane: MotionPlane) -> StoredArea
+    ensures { result ≡ visible_of plane }
+{
+    StoredArea {
+        x: plane.x,
+        y: plane.y,
+        width: plane.width,
+        height: plane.height,
+    }
+}
+
+/// All that is read for a block, row by row.
+#[inline(always)]
+pub(crate) fn window_of(block: MovedBlock) -> StoredArea
+    requires short { block.width ≤ 128 }
+    requires low { block.height ≤ 128 }
+    ensures { result ≡ window_of block }
+{
+    StoredArea {
+        x: 0,
+        y: 0,
+        width: block.width + 7,
+        height: block.height + 7,
+    }
+}
+
+/// The block, moved by these fractions.
+#[inline(always)]
+pub(crate) fn motion_at(block: MovedBlock, col_frac: u8, row_frac: u8) -> MotionBlock
+    ensures { result ≡ motion_at block col_frac row_frac }
+{
+    MotionBlock {
+        width: block.width,
+        height: block.height,
+        col_frac,
+        row_frac,
+        filter_x: block.filter_x,
+        filter_y: block.filter_y,
+    }
+}
+
+/// Whether both are numbers of filters.
+#[inline(always)]
+pub(crate) fn are_moved_filters(block: MovedBlock) -> bool
+    ensures true_is { result ≡ true → AreMovedFilters block }
+    ensures is_true { AreMovedFilters block → result ≡ true }
+{
+    is_filter_number(block.filter_x) && is_filter_number(block.filter_y)
+}
+
+/// Whether the plane lies in so many samples, and the block near it.
+#[inline(always)]
+pub(crate) fn is_sourced(plane: MotionPlane, samples: usize, block: MovedBlock) -> bool
+    ensures true_is { result ≡ true → IsSourced plane samples block }
+    ensures is_true { IsSourced plane samples block → result ≡ true }
+{
+    lies_near(plane, block) && are_rows(plane.stride, visible_of(plane), samples)
+}
+
+// Whether all that is read along columns or rows for a block of so many is visible.
+#[inline(always)]
+fn is_within(place: isize, side: usize, visible: usize) -> bool
+    requires least { (pos 0 -ℤ pos 65536) ≤ℤ place }
+    requires greatest { place ≤ℤ pos 131072 }
+    requires short { side ≤ 128 }
+    requires few { visible ≤ 65536 }
+    ensures first { result ≡ true → pos 3 ≤ℤ place }
+    ensures last { result ≡ true → (place +ℤ pos (side + 4)) ≤ℤ pos visible }
+{
+    3 <= place && place + signed(side + 4) <= signed(visible)
+}
+
+/// Whether all that is read from the place is visible.
+#[inline(always)]
+pub(crate) fn lies_within(moved: Moved) -> bool
+    requires found { IsPlaceOf moved.plane moved.block moved.place }
+    requires short { moved.block.width ≤ 128 }
+    requires low { moved.block.height ≤ 128 }
+    requires few_columns { moved.plane.width ≤ 65536 }
+    requires few_rows { moved.plane.height ≤ 65536 }
+    ensures { result ≡ true → LiesWithin moved.plane moved.block moved.place }
+{
+    let (plane, block, place) = (moved.plane, moved.block, moved.place);
+    is_within(place.x, block.width, plane.width) && is_within(place.y, block.height, plane.height)
+}
+
+/// The place in the samples of its plane.
+#[inline(always)]
+pub(crate) fn stored_at(moved: Moved, samples: usize) -> Place
+    requires within { LiesWithin moved.plane moved.block moved.place }
+    requires visible { AreRows moved.plane.stride (visible_of moved.plane) samples }
+    ensures { result ≡ stored_at moved.plane moved.place }
+{
+    let (plane, place) = (moved.plane, moved.place);
+    Place {
+        stride: plane.stride,
+        x: plane.x + place.x.unsigned_abs(),
+        y: plane.y + place.y.unsigned_abs(),
+    }
+}
+
+/// All that is read for the block becomes the front of the window: the place at which the block stands there.
+#[inline(always)]
+pub(crate) fn gathered<T: Pixel>(window: &mut [T], src: &[T], moved: Moved) -> Place
+    requires sides { AreSides moved.block.width moved.block.height }
+    requires found { IsPlaceOf moved.plane moved.block moved.place }
+    requires source { IsSourced moved.plane (length src.now) moved.block }
+    requires long { AreRows (moved.block.width + 7) (window_of moved.block) (length window.old) }
+    ensures lies { (i j : ℕ) → IsSource result (motion_at moved.block i j) (length window.new) }
+    ensures same { (c r : ℕ) → c < moved.block.width + 7 → r < moved.block.height + 7
+        → source_at result (map T.num window.new) c r ≡ moved_source moved.plane moved.block (map T.num src.now) c r }
+{
+    let area = window_of(moved.block);
+    let (x, y) = (moved.place.x - 3, moved.place.y - 3);
+    gather(window, area.width, area, src, moved.plane, x, y);
+    Place {
+        stride: area.width,
+        x: 3,
+        y: 3,
+    }
+}

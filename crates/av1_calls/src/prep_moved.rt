@@ -1,0 +1,212 @@
+//! A block that a vector moves, prepared from a plane without margins for the average with another.
+//!
+//! AV1 specification: block inter prediction process, with the rounding of compound prediction.
+ghost use Rattle.std.specs.Prelude.{true, false, ◌≡◌, ◌*◌, ◌≤◌, IfOk, IfErr, map, length};
+ghost use Rattle.av1_blocks.specs.Depths.{IsDepth};
+ghost use Rattle.av1_calls.specs.MotionPlaces.{IsPlaceOf};
+ghost use Rattle.av1_calls.specs.Motions.{AreSides, HoldBlock};
+ghost use Rattle.av1_calls.specs.MovedBlocks.{AreMovedFilters, AreMovedWithin, HasRoom, IsDeepPrepMovedFault, IsPrepMoved, IsPrepMovedFault};
+ghost use Rattle.av1_calls.specs.MovedBlocks.{IsSourced, LiesWithin, PreparesMoved, motion_of, moved_source};
+
+use crate::argument::{BadArgument, are_rows, is_depth};
+use crate::motion::are_sides;
+use crate::motion_place::{MotionPlane, MovedBlock, place_of};
+use crate::moved::{
+    Moved, are_moved_filters, gathered, is_sourced, lies_within, motion_at, stored_at, window_of,
+};
+use crate::prep_8tap::prep;
+use crate::samples::have_8_bits;
+use crate::status::DONE;
+use av1_frame::Pixel;
+
+// Whether so many values have room for the block, and a window of so many samples for all that is read.
+#[inline(always)]
+fn has_room(room: usize, block: MovedBlock, window: usize) -> bool
+    requires { AreSides block.width block.height }
+    ensures true_is { result ≡ true → HasRoom room block window }
+    ensures is_true { HasRoom room block window → result ≡ true }
+{
+    block.height * block.width <= room && are_rows(block.width + 7, window_of(block), window)
+}
+
+/// Whether the block can be moved, and prepared in `room` values.
+///
+/// # Errors
+///
+/// `Size`, then `Mode`, then `Area`, then `Short`.
+fn test_prep_moved(
+    room: usize,
+    plane: MotionPlane,
+    samples: usize,
+    block: MovedBlock,
+    window: usize,
+) -> Result<(), BadArgument>
+    ensures good { IfOk result (λ _. IsPrepMoved room plane samples block window) }
+    ensures fault { IfErr result (IsPrepMovedFault room plane samples block window) }
+{
+    if !are_sides(block.width, block.height) {
+        return Err(BadArgument::Size);
+    }
+    if !are_moved_filters(block) {
+        return Err(BadArgument::Mode);
+    }
+    if !is_sourced(plane, samples, block) {
+        return Err(BadArgument::Area);
+    }
+    if !has_room(room, block, window) {
+        return Err(BadArgument::Short);
+    }
+    Ok(())
+}
+
+/// The same at a depth.
+///
+/// # Errors
+///
+/// `Size`, then `Mode`, then `Area`, then `Short`, then `Depth`.
+fn test_deep_prep_moved(
+    room: usize,
+    plane: MotionPlane,
+    samples: usize,
+    block: MovedBlock,
+    window: usize,
+    bit_depth: usize,
+) -> Result<(), BadArgument>
+    ensures good { IfOk result (λ _. IsPrepMoved room plane samples block window) }
+    ensures depth { IfOk result (λ _. IsDepth bit_depth) }
+    ensures fault { IfErr result (IsDeepPrepMovedFault bit_depth room plane samples block window) }
+{
+    test_prep_moved(room, plane, samples, block, window)?;
+    if is_depth(bit_depth) {
+        Ok(())
+    } else {
+        Err(BadArgument::Depth)
+    }
+}
+
+/// The first values become those of the block, which is read where it is.
+#[inline(always)]
+fn prep_within<T: Pixel>(values: &mut [i16], src: &[T], moved: Moved, bit_depth: usize)
+    requires sides { AreSides moved.block.width moved.block.height }
+    requires filters { AreMovedFilters moved.block }
+    requires source { IsSourced moved.plane (length src.now) moved.block }
+    requires long { moved.block.height * moved.block.width ≤ length values.old }
+    requires found { IsPlaceOf moved.plane moved.block moved.place }
+    requires within { LiesWithin moved.plane moved.block moved.place }
+    requires is_depth { IsDepth bit_depth }
+    requires deep { AreMovedWithin bit_depth moved.plane moved.block (map T.num src.now) }
+    ensures { HoldBlock bit_depth (motion_of moved.plane moved.block) (moved_source moved.plane moved.block (map T.num src.now)) values.old values.new }
+{
+    let from = stored_at(moved, src.len());
+    let block = motion_at(moved.block, moved.place.col_frac, moved.place.row_frac);
+    prep(values, src, from, block, bit_depth);
+}
+
+/// The same, which is gathered first.
+#[inline(never)]
+fn prep_gathered<T: Pixel>(
+    values: &mut [i16],
+    src: &[T],
+    moved: Moved,
+    window: &mut [T],
+    bit_depth: usize,
+)
+    requires asked { IsPrepMoved (length values.old) moved.plane (length src.now) moved.block (length window.old) }
+    requires found { IsPlaceOf moved.plane moved.block moved.place }
+    requires is_depth { IsDepth bit_depth }
+    requires deep { AreMovedWithin bit_depth moved.plane moved.block (map T.num src.now) }
+    ensures { HoldBlock bit_depth (motion_of moved.plane moved.block) (moved_source moved.plane moved.block (map T.num src.now)) values.old values.new }
+{
+    let from = gathered(window, src, moved);
+    let block = motion_at(moved.block, moved.place.col_frac, moved.place.row_frac);
+    prep(values, window, from, block, bit_depth);
+}
+
+/// The first values become those of the block that its vector moves.
+#[inline(always)]
+fn prep_moved<T: Pixel>(
+    values: &mut [i16],
+    src: &[T],
+    plane: MotionPlane,
+    block: MovedBlock,
+    window: &mut [T],
+    bit_depth: usize,
+)
+    requires asked { IsPrepMoved (length values.old) plane (length src.now) block (length window.old) }
+    requires is_depth { IsDepth bit_depth }
+    requires deep { AreMovedWithin bit_depth plane block (map T.num src.now) }
+    ensures { HoldBlock bit_depth (motion_of plane block) (moved_source plane block (map T.num src.now)) values.old values.new }
+{
+    let moved = Moved {
+        plane,
+        block,
+        place: place_of(plane, block),
+    };
+    if lies_within(moved) {
+        prep_within(values, src, moved, bit_depth);
+    } else {
+        prep_gathered(values, src, moved, window, bit_depth);
+    }
+}
+
+/// Prepares a block that a vector moves for the average with another, from a reference without margins, at a depth of
+/// 8: the specification's "Block inter prediction process" with the rounding of compound prediction. The first `height
+/// * width` of `values` become those of the block, row by row, and the others stay. Only visible samples of the plane
+/// are read; past a side each is the nearest of these. `window` is room to gather them, and what it holds afterwards is
+/// not told: `width + 7` by `height + 7` samples.
+///
+/// `DONE`: that was done. `BAD_SIZE`: a side is 0, or above 128. `BAD_MODE`: a filter has no such number. `BAD_AREA`:
+/// the plane has no samples or does not lie in them, or it or the block's place is past 65,536. `TOO_SHORT`: there are
+/// fewer values than the block has samples, or the window is too short.
+pub fn av1_prep_moved_8(
+    values: &mut [i16],
+    src: &[u8],
+    plane: &MotionPlane,
+    block: &MovedBlock,
+    window: &mut [u8],
+) -> u32
+    ensures { PreparesMoved false 8 plane.now block.now (length window.old) src.now values.old values.new result }
+{
+    let (plane, block) = (*plane, *block);
+    match test_prep_moved(values.len(), plane, src.len(), block, window.len()) {
+        Ok(()) => {
+            have_8_bits(src);
+            prep_moved(values, src, plane, block, window, 8);
+            DONE
+        }
+        Err(fault) => fault.status(),
+    }
+}
+
+/// The same for samples of 16 bits at a depth of 8, 10 or 12. It looks at no sample before it reads it: the caller has
+/// to see that none that is read is past the depth, as `av1_test_samples_16` tells of a whole reference. At depths
+/// above 8 values are less by 8192.
+///
+/// `BAD_DEPTH`: samples have no such depth.
+pub fn av1_prep_moved_16(
+    values: &mut [i16],
+    src: &[u16],
+    plane: &MotionPlane,
+    block: &MovedBlock,
+    window: &mut [u16],
+    bit_depth: usize,
+) -> u32
+    requires { AreMovedWithin bit_depth plane.now block.now src.now }
+    ensures { PreparesMoved true bit_depth plane.now block.now (length window.old) src.now values.old values.new result }
+{
+    let (plane, block) = (*plane, *block);
+    match test_deep_prep_moved(
+        values.len(),
+        plane,
+        src.len(),
+        block,
+        window.len(),
+        bit_depth,
+    ) {
+        Ok(()) => {
+            prep_moved(values, src, plane, block, window, bit_depth);
+            DONE
+        }
+        Err(refused) => refused.status(),
+    }
+}

@@ -1,0 +1,239 @@
+//! A block that a vector moves, predicted from a plane without margins.
+//!
+//! AV1 specification: block inter prediction process.
+ghost use Rattle.std.specs.Prelude.{true, false, ◌≡◌, ◌+◌, ◌≤◌, IfOk, IfErr, map, length};
+ghost use Rattle.av1_blocks.specs.Depths.{IsDepth};
+ghost use Rattle.av1_calls.specs.MotionPlaces.{IsPlaceOf};
+ghost use Rattle.av1_calls.specs.Motions.{AreSides, moved_sample, place, rectangle_at};
+ghost use Rattle.av1_calls.specs.MovedBlocks.{AreMovedFilters, AreMovedWithin, IsDeepMovedFault, IsPlaced, IsPutMoved, IsPutMovedFault};
+ghost use Rattle.av1_calls.specs.MovedBlocks.{LiesWithin, PutsMoved, motion_of, moved_source};
+ghost use Rattle.av1_frame.specs.Samples.{paint};
+
+use crate::argument::{BadArgument, are_rows, is_depth};
+use crate::motion::{Place, are_sides, rectangle_at};
+use crate::motion_place::{MotionPlane, MovedBlock, place_of};
+use crate::moved::{
+    Moved, are_moved_filters, gathered, is_sourced, lies_within, motion_at, stored_at, window_of,
+};
+use crate::put_8tap::put;
+use crate::samples::have_8_bits;
+use crate::status::DONE;
+use av1_frame::Pixel;
+
+// Whether the plane lies in so many samples, and the block's rectangle in `room` samples.
+#[inline(always)]
+fn is_placed(to: Place, room: usize, plane: MotionPlane, samples: usize, block: MovedBlock) -> bool
+    ensures true_is { result ≡ true → IsPlaced to room plane samples block }
+    ensures is_true { IsPlaced to room plane samples block → result ≡ true }
+{
+    is_sourced(plane, samples, block)
+        && are_rows(to.stride, rectangle_at(to, block.width, block.height), room)
+}
+
+/// Whether the block can be moved, and a window of so many samples has room for all that is read.
+///
+/// # Errors
+///
+/// `Size`, then `Mode`, then `Area`, then `Short`.
+fn test_put_moved(
+    to: Place,
+    room: usize,
+    plane: MotionPlane,
+    samples: usize,
+    block: MovedBlock,
+    window: usize,
+) -> Result<(), BadArgument>
+    ensures good { IfOk result (λ _. IsPutMoved to room plane samples block window) }
+    ensures fault { IfErr result (IsPutMovedFault to room plane samples block window) }
+{
+    if !are_sides(block.width, block.height) {
+        return Err(BadArgument::Size);
+    }
+    if !are_moved_filters(block) {
+        return Err(BadArgument::Mode);
+    }
+    if !is_placed(to, room, plane, samples, block) {
+        return Err(BadArgument::Area);
+    }
+    if !are_rows(block.width + 7, window_of(block), window) {
+        return Err(BadArgument::Short);
+    }
+    Ok(())
+}
+
+/// The same at a depth.
+///
+/// # Errors
+///
+/// `Size`, then `Mode`, then `Area`, then `Short`, then `Depth`.
+fn test_deep_moved(
+    to: Place,
+    room: usize,
+    plane: MotionPlane,
+    samples: usize,
+    block: MovedBlock,
+    window: usize,
+    bit_depth: usize,
+) -> Result<(), BadArgument>
+    ensures good { IfOk result (λ _. IsPutMoved to room plane samples block window) }
+    ensures depth { IfOk result (λ _. IsDepth bit_depth) }
+    ensures fault { IfErr result (IsDeepMovedFault bit_depth to room plane samples block window) }
+{
+    test_put_moved(to, room, plane, samples, block, window)?;
+    if is_depth(bit_depth) {
+        Ok(())
+    } else {
+        Err(BadArgument::Depth)
+    }
+}
+
+/// The rectangle becomes the block, which is read where it is.
+#[inline(always)]
+fn put_within<T: Pixel>(dst: &mut [T], to: Place, src: &[T], moved: Moved, bit_depth: usize)
+    requires sides { AreSides moved.block.width moved.block.height }
+    requires filters { AreMovedFilters moved.block }
+    requires placed { IsPlaced to (length dst.old) moved.plane (length src.now) moved.block }
+    requires found { IsPlaceOf moved.plane moved.block moved.place }
+    requires within { LiesWithin moved.plane moved.block moved.place }
+    requires is_depth { IsDepth bit_depth }
+    requires depth { bit_depth ≤ T.BITS }
+    requires deep { AreMovedWithin bit_depth moved.plane moved.block (map T.num src.now) }
+    ensures { dst.new ≡ paint to.stride (rectangle_at to moved.block.width moved.block.height)
+        (λ r c _. T.pixel (moved_sample bit_depth (motion_of moved.plane moved.block) (moved_source moved.plane moved.block (map T.num src.now)) r c)) dst.old }
+{
+    let from = stored_at(moved, src.len());
+    let block = motion_at(moved.block, moved.place.col_frac, moved.place.row_frac);
+    put(dst, to, src, from, block, bit_depth);
+}
+
+/// The same, which is gathered first.
+#[inline(never)]
+fn put_gathered<T: Pixel>(
+    dst: &mut [T],
+    to: Place,
+    src: &[T],
+    moved: Moved,
+    window: &mut [T],
+    bit_depth: usize,
+)
+    requires asked { IsPutMoved to (length dst.old) moved.plane (length src.now) moved.block (length window.old) }
+    requires found { IsPlaceOf moved.plane moved.block moved.place }
+    requires is_depth { IsDepth bit_depth }
+    requires depth { bit_depth ≤ T.BITS }
+    requires deep { AreMovedWithin bit_depth moved.plane moved.block (map T.num src.now) }
+    ensures { dst.new ≡ paint to.stride (rectangle_at to moved.block.width moved.block.height)
+        (λ r c _. T.pixel (moved_sample bit_depth (motion_of moved.plane moved.block) (moved_source moved.plane moved.block (map T.num src.now)) r c)) dst.old }
+{
+    let from = gathered(window, src, moved);
+    let block = motion_at(moved.block, moved.place.col_frac, moved.place.row_frac);
+    put(dst, to, window, from, block, bit_depth);
+}
+
+/// The rectangle becomes the block that its vector moves.
+#[inline(always)]
+fn put_moved<T: Pixel>(
+    dst: &mut [T],
+    to: Place,
+    src: &[T],
+    plane: MotionPlane,
+    block: MovedBlock,
+    window: &mut [T],
+    bit_depth: usize,
+)
+    requires asked { IsPutMoved to (length dst.old) plane (length src.now) block (length window.old) }
+    requires is_depth { IsDepth bit_depth }
+    requires depth { bit_depth ≤ T.BITS }
+    requires deep { AreMovedWithin bit_depth plane block (map T.num src.now) }
+    ensures { dst.new ≡ paint to.stride (rectangle_at to block.width block.height)
+        (λ r c _. T.pixel (moved_sample bit_depth (motion_of plane block) (moved_source plane block (map T.num src.now)) r c)) dst.old }
+{
+    let moved = Moved {
+        plane,
+        block,
+        place: place_of(plane, block),
+    };
+    if lies_within(moved) {
+        put_within(dst, to, src, moved, bit_depth);
+    } else {
+        put_gathered(dst, to, src, moved, window, bit_depth);
+    }
+}
+
+/// Predicts the samples of a rectangle of the block's sides from those of a reference without margins, at a depth of 8:
+/// the specification's "Block inter prediction process" for one reference. The rectangle begins at column `dst_x` of
+/// row `dst_y` of `dst`, whose rows stand `dst_stride` apart. Each of its samples becomes that of the block, moved by
+/// the vector; all others stay. Only visible samples of the reference's plane are read; past a side each is the nearest
+/// of these. `window` is room to gather them, and what it holds afterwards is not told: `width + 7` by `height + 7`
+/// samples.
+///
+/// `DONE`: that was done. `BAD_SIZE`: a side is 0, or above 128. `BAD_MODE`: a filter has no such number. `BAD_AREA`:
+/// the plane has no samples or does not lie in them, or the rectangle doesn't, or the plane or the block's place is
+/// past 65,536. `TOO_SHORT`: the window is.
+pub fn av1_put_moved_8(
+    dst: &mut [u8],
+    dst_stride: usize,
+    dst_x: usize,
+    dst_y: usize,
+    src: &[u8],
+    plane: &MotionPlane,
+    block: &MovedBlock,
+    window: &mut [u8],
+) -> u32
+    ensures { PutsMoved false 8 (place dst_stride dst_x dst_y) plane.now block.now (length window.old) src.now dst.old dst.new result }
+{
+    let (plane, block) = (*plane, *block);
+    let to = Place {
+        stride: dst_stride,
+        x: dst_x,
+        y: dst_y,
+    };
+    match test_put_moved(to, dst.len(), plane, src.len(), block, window.len()) {
+        Ok(()) => {
+            have_8_bits(src);
+            put_moved(dst, to, src, plane, block, window, 8);
+            DONE
+        }
+        Err(fault) => fault.status(),
+    }
+}
+
+/// The same for samples of 16 bits at a depth of 8, 10 or 12. It looks at no sample before it reads it: the caller has
+/// to see that none that is read is past the depth, as `av1_test_samples_16` tells of a whole reference.
+///
+/// `BAD_DEPTH`: samples have no such depth.
+pub fn av1_put_moved_16(
+    dst: &mut [u16],
+    dst_stride: usize,
+    dst_x: usize,
+    dst_y: usize,
+    src: &[u16],
+    plane: &MotionPlane,
+    block: &MovedBlock,
+    window: &mut [u16],
+    bit_depth: usize,
+) -> u32
+    requires { AreMovedWithin bit_depth plane.now block.now src.now }
+    ensures { PutsMoved true bit_depth (place dst_stride dst_x dst_y) plane.now block.now (length window.old) src.now dst.old dst.new result }
+{
+    let (plane, block) = (*plane, *block);
+    let to = Place {
+        stride: dst_stride,
+        x: dst_x,
+        y: dst_y,
+    };
+    match test_deep_moved(
+        to,
+        dst.len(),
+        plane,
+        src.len(),
+        block,
+        window.len(),
+        bit_depth,
+    ) {
+        Ok(()) => {
+            put_moved(dst, to, src, plane, block, window, bit_depth);
+            DONE
+        }
+        Err(refused) => refused.status(),
+    }
+}

@@ -1,0 +1,64 @@
+//! Samples that are tested for a depth once, so that calls on them need not look at them again.
+ghost use Rattle.std.specs.Prelude.{IfOk, IfErr};
+ghost use Rattle.av1_calls.specs.Samples.{rectangle_of};
+ghost use Rattle.av1_calls.specs.TestedSamples.{AreTested, IsTestFault, TestsSamples};
+
+use crate::argument::{BadArgument, are_rows, is_depth};
+use crate::samples::are_within;
+use crate::status::DONE;
+use av1_frame::StoredArea;
+
+/// Whether the rectangle lies in the samples, and none in it is past the depth.
+///
+/// # Errors
+///
+/// `Area`, then `Depth`, then `Sample`.
+fn test_area(
+    samples: &[u16],
+    stride: usize,
+    area: StoredArea,
+    bit_depth: usize,
+) -> Result<(), BadArgument>
+    ensures good { IfOk result (λ _. AreTested bit_depth stride area samples.now) }
+    ensures fault { IfErr result (IsTestFault bit_depth stride area samples.now) }
+{
+    if !are_rows(stride, area, samples.len()) {
+        return Err(BadArgument::Area);
+    }
+    if !is_depth(bit_depth) {
+        return Err(BadArgument::Depth);
+    }
+    if !are_within(samples, stride, area, bit_depth) {
+        return Err(BadArgument::Sample);
+    }
+    Ok(())
+}
+
+/// Tells whether no sample of a rectangle is past a depth of 8, 10 or 12, as `av1_put_tested_16` and
+/// `av1_prep_tested_16` ask of what they read. The rectangle begins at column `x` of row `y`; rows stand `stride`
+/// apart.
+///
+/// `DONE`: none is. `BAD_AREA`: the rectangle does not lie in the samples. `BAD_DEPTH`: samples have no such depth.
+/// `BAD_SAMPLE`: one of them is past it.
+pub fn av1_test_samples_16(
+    samples: &[u16],
+    stride: usize,
+    x: usize,
+    y: usize,
+    width: usize,
+    height: usize,
+    bit_depth: usize,
+) -> u32
+    ensures { TestsSamples bit_depth stride (rectangle_of x y width height) samples.now result }
+{
+    let area = StoredArea {
+        x,
+        y,
+        width,
+        height,
+    };
+    match test_area(samples, stride, area, bit_depth) {
+        Ok(()) => DONE,
+        Err(fault) => fault.status(),
+    }
+}

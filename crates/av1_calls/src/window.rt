@@ -1,0 +1,90 @@
+//! The samples of a plane round a block that reads past its sides, gathered to a window: each is the nearest visible
+//! one.
+//!
+//! AV1 specification: block inter prediction process.
+ghost use Rattle.std.specs.Prelude.{◌≡◌, ◌+◌, ◌-ℤ◌, ◌+ℤ◌, ◌<◌, ◌≤◌, ◌≤ℤ◌, length, pos, slice_index_or};
+ghost use Rattle.av1_calls.specs.MovedBlocks.{nearest_place, visible_of};
+ghost use Rattle.av1_frame.specs.Areas.{AreRows};
+ghost use Rattle.av1_frame.specs.Samples.{paint, paint_row};
+ghost use Rattle.av1_frame.specs.Slices.{nearest_visible};
+
+use crate::intra_edge::signed;
+use crate::motion_place::MotionPlane;
+use av1_frame::{Pixel, StoredArea};
+
+/// The visible column or row, of so many, that is nearest to a place.
+#[inline(always)]
+fn nearest(place: isize, visible: usize) -> usize
+    requires { 0 < visible }
+    ensures value { result ≡ nearest_visible visible place }
+    ensures below { result < visible }
+{
+    if place < 0 {
+        return 0;
+    }
+    place.unsigned_abs().min(visible - 1)
+}
+
+/// The one that is nearest to a place so many steps behind the first.
+#[inline(always)]
+fn nearest_behind(first: isize, steps: usize, visible: usize) -> usize
+    requires some { 0 < visible }
+    requires least { (pos 0 -ℤ pos 256) ≤ℤ first }
+    requires greatest { first ≤ℤ pos 131072 }
+    requires few { steps ≤ 256 }
+    ensures value { result ≡ nearest_visible visible (first +ℤ pos steps) }
+    ensures below { result < visible }
+{
+    let place = first + signed(steps);
+    nearest(place, visible)
+}
+
+/// The first `width` samples of the row become those of `source` from column `first` on, of which so many are visible.
+#[inline(always)]
+#[tactic(auto, using(av1_frame::proofs::Paint::row_painting))]
+fn gather_row<T: Pixel>(row: &mut [T], source: &[T], first: isize, visible: usize, width: usize)
+    requires row_long { width ≤ length row.old }
+    requires source_long { visible ≤ length source.now }
+    requires some { 0 < visible }
+    requires least { (pos 0 -ℤ pos 256) ≤ℤ first }
+    requires greatest { first ≤ℤ pos 131072 }
+    requires few { width ≤ 256 }
+    ensures { row.new ≡ paint_row width (λ c v. slice_index_or source.now (nearest_visible visible (first +ℤ pos c)) v) row.old }
+{
+    for c in 0..width {
+        let column = nearest_behind(first, c, visible);
+        row[c] = source[column];
+    }
+}
+
+/// The rectangle of `window`, whose rows stand `stride` apart, becomes what is read of a plane from column `x` of row
+/// `y` on, counted from the first visible sample.
+#[tactic(auto, using(av1_frame::proofs::Paint::rectangle_painting))]
+pub(crate) fn gather<T: Pixel>(
+    window: &mut [T],
+    stride: usize,
+    area: StoredArea,
+    source: &[T],
+    plane: MotionPlane,
+    x: isize,
+    y: isize,
+)
+    requires rows { AreRows stride area (length window.old) }
+    requires visible { AreRows plane.stride (visible_of plane) (length source.now) }
+    requires some_columns { 0 < plane.width }
+    requires some_rows { 0 < plane.height }
+    requires left { (pos 0 -ℤ pos 256) ≤ℤ x }
+    requires right { x ≤ℤ pos 131072 }
+    requires top { (pos 0 -ℤ pos 256) ≤ℤ y }
+    requires bottom { y ≤ℤ pos 131072 }
+    requires few_columns { area.width ≤ 256 }
+    requires few_rows { area.height ≤ 256 }
+    ensures { window.new ≡ paint stride area (λ r c v. slice_index_or source.now (nearest_place plane (x +ℤ pos c) (y +ℤ pos r)) v) window.old }
+{
+    for r in 0..area.height {
+        let line = nearest_behind(y, r, plane.height);
+        let (_, from) = source.split_at((plane.y + line) * plane.stride + plane.x);
+        let (_, row) = window.split_at_mut((area.y + r) * stride + area.x);
+        gather_row(row, from, x, plane.width, area.width);
+    }
+}
