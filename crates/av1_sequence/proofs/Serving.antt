@@ -176,7 +176,7 @@ keeps_settings h fi new places kept depth keeps = record {
 
 -- nothing stands at a place of a list of none
 nothing_there : {X : Type 0} (n i : ℕ) → slice_index_or (replicate n (None {A = X})) i None ≡ None
-nothing_there n i = elim (cases_lt i n) [
+nothing_there {X} n i = elim (cases_lt i n) [
   | inl b ↦ get_or-replicate n i None None b
   | inr b ↦ get_or_past (replicate n None) i None (omega (arith, length-replicate n (None {A = X}), b))
 ]
