@@ -105,9 +105,9 @@ uint32_t av1_reconstruct_plan(const uint8_t *bytes, size_t bytes_len, uint8_t *r
 
 /* ---- calls on blocks: where several arguments are bad, the status is the one that the call's comment names first ---- */
 
-/* Room for one block between and within the passes of its transform. What it holds before a call doesn't matter, so that it need not be
- * cleared, and nothing in it is of use after one. Calls that run at the same time need one each. It is best placed at an address that is a
- * multiple of 64. */
+/* Room for one block between the passes of its transform, and for its scaled coefficients. What it holds before a call doesn't matter, so that
+ * it need not be cleared, and nothing in it is of use after one. Calls that run at the same time need one each. It is best placed at an address
+ * that is a multiple of 64. */
 typedef struct {
     int32_t words[6144];
 } av1_transform_scratch;

@@ -2,7 +2,7 @@
 
 use crate::{Error, sys, told};
 
-/// Room for one block between and within the passes of its transform. What it holds before a call doesn't matter.
+/// Room for one block between the passes of its transform, and for its scaled coefficients. What it holds before a call doesn't matter.
 pub struct TransformScratch(Box<sys::TransformScratch>);
 
 impl TransformScratch {

@@ -5,7 +5,7 @@
 //!
 //! - `av1_idct4` to `av1_idct64` give `cosine` of `specs/Cosine.antt` for their length, and leave the rest of `output`
 //!   as it was. `cosine_words` is the one function behind them, for every length and every `Word`: an `i32`, or eight
-//!   of them side by side.
+//!   of them side by side. Only `av1_idct8` has a way of its own, whose sums go four at a time.
 //! - `cosine_lanes` runs eight transforms at a time over `i32x8`, with `cosine` in each lane, and counts them in a
 //!   `LaneCount`, which no other call raises. Where the range is 16 it cuts the words to lanes of 16 bits, and widens
 //!   what comes out.
@@ -26,6 +26,7 @@ mod arithmetic;
 mod butterfly;
 mod columns;
 mod cosine;
+mod eight;
 mod inverse;
 mod lane_count;
 mod laws;

@@ -22,3 +22,4 @@ pub mod Settled
 pub mod References
 pub mod EightSums
 pub mod Widened
+pub mod Lending

@@ -21,6 +21,10 @@ weight_fits z b = short_sum_fits z (record { low = omega (arith, ints, b.low); h
 wide_weight : (z : ℤ) → Between 28 92 z → FitsSigned w32 z
 wide_weight z b = fits_of z (omega (arith, ints, b.low)) (omega (arith, ints, b.high))
 
+-- a weight that is read as a word fits 32 bits
+pub weight_word_fits : (z : ℤ) → Between 28 92 z → FitsSigned w32 (to_z w16 (of_z w16 z))
+weight_word_fits z b = subst (λ (y : ℤ). FitsSigned w32 y) (sym (to_z-of_z w16 z (weight_fits z b))) (wide_weight z b)
+
 -- a product of a weight and a sample
 pub small_product : (w x : ℤ) → Between 28 92 w → Between 0 32767 x → Between 917476 3014564 (w *ℤ x)
 small_product (pos n) x bw bx = let p = product_between (pos n) x 0 32767 bx

@@ -1,8 +1,8 @@
 -- Rows of a reference, and rows and rectangles that are painted.
-use Rattle.std.proofs.Common.{ℕ, ◌+◌, ◌-◌, ◌*◌, ◌/◌, ◌%◌, ◌<◌, ◌≤◌, ◌≡◌, ◌∙◌, ap, sym, arith, List, length, get_or, ℤ, pos, negsuc, ◌+ℤ◌}
+use Rattle.std.proofs.Common.{ℕ, ◌+◌, ◌-◌, ◌*◌, ◌/◌, ◌%◌, ◌<◌, ◌≤◌, ◌≡◌, ◌∙◌, ap, sym, arith, List, length, get_or, ℤ, pos, negsuc, ◌+ℤ◌, take, drop, ◌++◌}
 use Rattle.std.proofs.Common.{◌≤ℤ◌, unsigned_abs, inl, inr, refl}
 use Rattle.std.proofs.lemmas.Int.{ints}
-use Rattle.std.proofs.lemmas.List.{get_or_default, get_or_past}
+use Rattle.std.proofs.lemmas.List.{get_or_default, get_or_past, places}
 use Rattle.std.proofs.lemmas.Nat.{le-div}
 use Rattle.std.proofs.lemmas.Bool.{cases_lt}
 use Rattle.std.proofs.lemmas.Bool.Decides.{nat_tests}
@@ -58,6 +58,21 @@ pub copied_twice : {X : Type 0} (n : ℕ) (row source blank line new : List X) �
 copied_twice n row source blank line new h b e f =
     f ∙ paint_row_same n _ _ row (λ q v l. let inside : q < length source = omega (arith, h, l) in
     ap (λ s. get_or s q v) e ∙ painted_sample n q (λ k u. get_or source k u) blank v l (omega (arith, b)) (λ u. get_or_default source q u v inside))
+
+-- a row that is copied by halves
+pub copied_halves : {X : Type 0} (n : ℕ) (row source front back first second a b : List X) → n + n ≤ length row → n + n ≤ length source →
+    front ≡ take n row → back ≡ drop n row → first ≡ take n source → second ≡ drop n source → a ≡ paint_row n (λ c v. get_or first c v) front →
+    b ≡ paint_row n (λ c v. get_or second c v) back
+    → a ++ b ≡ paint_row (n + n) (λ c v. get_or source c v) row
+unfolding paint_row
+copied_halves n row source front back first second a b h l front_is back_is first_is second_is a_is b_is =
+    rw (a_is, b_is, front_is, back_is, first_is, second_is) (update_is _ row _ (grind (arith, places, length-update)) (λ k d q. elim (cases_lt k n) [
+      | inl x ↦ grind (arith, nat_tests, places, get_or-update, length-update)
+      | inr x ↦ elim (cases_lt k (n + n)) [
+        | inl y ↦ grind (arith, nat_tests, places, get_or-update, length-update)
+        | inr y ↦ grind (arith, nat_tests, places, get_or-update, length-update)
+      ]
+    ]))
 
 -- a rectangle that is painted from a list's first entry on, in rows of its own width: its entries, and those behind it
 module _ {X : Type 0} (a : StoredArea) (w h : ℕ) (f : ℕ → ℕ → X → X) (s new : List X) (ea : a ≡ record { x = 0; y = 0; width = w; height = h })

@@ -41,6 +41,37 @@ fn copy_by_array<T: Pixel, const N: usize>(row: &mut [T], source: &[T])
     copy_each::<T, N>(row, &line);
 }
 
+/// The same of twice as many, by an array for either half.
+#[inline(always)]
+fn copy_by_halves<T: Pixel, const N: usize>(row: &mut [T], source: &[T])
+    requires row_long { N + N ≤ length row.old }
+    requires some { 0 < N }
+    requires short { N ≤ 128 }
+    requires source_long { N + N ≤ length source.now }
+    ensures { row.new ≡ paint_row (N + N) (λ c v. slice_index_or source.now c v) row.old }
+{
+    let (front, back) = row.split_at_mut(N);
+    let (first, second) = source.split_at(N);
+    copy_by_array::<T, N>(front, first);
+    copy_by_array::<T, N>(back, second);
+}
+
+/// The same of a row of a block. A loop over 64 samples would become two calls of a function that copies.
+#[inline(always)]
+fn copy_line<T: Pixel, const N: usize>(row: &mut [T], source: &[T])
+    requires row_long { N ≤ length row.old }
+    requires some { 0 < N }
+    requires short { N ≤ 128 }
+    requires source_long { N ≤ length source.now }
+    ensures { row.new ≡ paint_row N (λ c v. slice_index_or source.now c v) row.old }
+{
+    if N == 64 {
+        copy_by_halves::<T, 32>(row, source);
+    } else {
+        copy_by_array::<T, N>(row, source);
+    }
+}
+
 /// The samples of a block of `N` columns, whose rows are copied by a few moves.
 #[tactic(auto, using(av1_frame::proofs::Paint::rectangle_painting))]
 fn copy_rows<T: Pixel, const N: usize>(samples: &mut [T], stride: usize, block: &Strip<'_, T>)
@@ -54,7 +85,7 @@ fn copy_rows<T: Pixel, const N: usize>(samples: &mut [T], stride: usize, block: 
     for r in 0..block.area.height {
         let (_, row) = samples.split_at_mut((block.area.y + r) * stride + block.area.x);
         let (_, from) = block.source.split_at((r + 3) * block.source_stride + 3);
-        copy_by_array::<T, N>(row, from);
+        copy_line::<T, N>(row, from);
     }
 }
 

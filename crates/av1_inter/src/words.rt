@@ -14,6 +14,9 @@ use av1_blocks::SUBPEL_FILTER_SIZE;
 use av1_frame::Pixel;
 use std::simd::prelude::*;
 
+/// The places of all lanes of two vectors of eight.
+const EACH: [usize; 16] = [0, 1, 2, 3, 4, 5, 6, 7, 8, 9, 10, 11, 12, 13, 14, 15];
+
 /// Sample `c` of the `N` from a place on, and 0 behind them.
 #[inline(always)]
 fn sample_or_none<T: Pixel, const N: usize>(source: &[T], start: usize, c: usize) -> i32
@@ -48,11 +51,14 @@ fn pair_sums(first: [i16; 8], second: [i16; 8], weight: i16, other: i16) -> [i32
     ensures { (c : ℕ) → c < 8 → entry result c ≡ weight *ℤ entry first c +ℤ other *ℤ entry second c }
 {
     let (low, high) = i16x8::from_array(first).interleave(i16x8::from_array(second));
-    let weights = i16x8::from_array([
-        weight, other, weight, other, weight, other, weight, other,
-    ]).cast::<i32>();
-    let low = low.cast::<i32>() * weights;
-    let high = high.cast::<i32>() * weights;
+    let weights = i16x8::from_array([weight, other, weight, other, weight, other, weight, other]);
+    // Both factors are widened at once: weights by themselves would be widened before a loop, and narrowed in it again.
+    let low: i16x16 = low.shuffle(weights, EACH);
+    let high: i16x16 = high.shuffle(weights, EACH);
+    let low = low.cast::<i32>();
+    let high = high.cast::<i32>();
+    let low = low.extract::<0, 8>() * low.extract::<8, 8>();
+    let high = high.extract::<0, 8>() * high.extract::<8, 8>();
     let low: i32x4 = low.swizzle([0, 2, 4, 6]) + low.swizzle([1, 3, 5, 7]);
     let high: i32x4 = high.swizzle([0, 2, 4, 6]) + high.swizzle([1, 3, 5, 7]);
     low.shuffle(high, [0, 1, 2, 3, 4, 5, 6, 7]).to_array()

@@ -12,6 +12,7 @@ pub mod ModeAngles
 pub mod Means
 pub mod Weighted
 pub mod Unchanged
+pub mod Lending
 pub mod LumaBlocks
 pub mod SubLuma
 pub mod BesideBlock

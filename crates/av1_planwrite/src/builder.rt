@@ -176,7 +176,7 @@ impl PlanBuilder {
         ensures complete { IfOk result (λ bytes. asks_more (building self) ≡ false) }
         ensures bytes { IfOk result (λ bytes. bytes.items ≡ (building self).bytes) }
         // They are the text of a plan, whatever was given.
-        ensures of_some { IfOk result (λ bytes. ∥ (p : PlanValue) × AreText plan bytes.items p ∥₁) }
+        ensures of_some { IfOk result (λ bytes. ∥ ((p : PlanValue) × AreText plan bytes.items p) ∥₁) }
         // They are that of the plan of which all is told.
         ensures text { (p : PlanValue) → Tells (building self) p → IfOk result (λ bytes. AreText plan bytes.items p) }
         ensures asked { IfErr result (λ b. asks_more (building self) ≡ true) }

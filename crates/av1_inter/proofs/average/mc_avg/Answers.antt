@@ -2,7 +2,13 @@ use Rattle.std.proofs.Common.{ap, subst, sym, length, ◌+◌, ◌*◌, ◌≤�
 use Rattle.av1_frame.specs.declared.plane_region.StoredArea.{StoredArea}
 use Rattle.av1_frame.proofs.Regions.{lent_painted, written_in_storage}
 use Rattle.av1_inter.specs.Motion.{averaged, entry}
+use Rattle.av1_inter.proofs.Lending.{lent_rows}
 use Rattle.av1_inter.proofs.average.mc_avg.Goals as goal
+
+pub mc_avg_to-requires-clause-rows : goal.mc_avg_to-requires-clause-rows
+mc_avg_to-requires-clause-rows g c =
+    lent_rows c.args.dst.now c.args.width c.args.height _ _ c.requires.fits c.requires.columns c.requires.rows c.corner-area.ensures
+    c.rows_mut.ensures.value
 
 pub mc_avg_to-requires-clause-first_long : goal.mc_avg_to-requires-clause-first_long
 mc_avg_to-requires-clause-first_long g c =

@@ -15,7 +15,7 @@ loop-r-preserved g c =
     let reach = c.requires.block.reach (r + 3) (omega (arith, c.loop-r-test.true)) in
     let f = λ (q : ℕ). g.T.Pixel.pixel (sample_of g.T.Pixel.num block (q + 3) (r + 3)) in
     row_painted_rest c.args.stride block.area r _ _ c.loop-r.samples _ _ _ c.requires.rows c.loop-r-test.true c.loop-r.invariant rows.front rows.back
-    (c.copy_by_array.ensures
+    (c.copy_line.ensures
     ∙ paint_row_same g.row.N _ (λ q _. f q) _
     (λ q v l. copied_there g.T.Pixel.num g.T.Pixel.pixel g.met.T.Pixel.pixel_of_num block.source.now c.split_at.result.1.now
     ((r + 3) * block.source_stride + 3) q _ v from.back (omega arith)

@@ -6,7 +6,13 @@ use Rattle.av1_frame.proofs.Regions.{lent_painted, written_in_storage}
 use Rattle.av1_inter.specs.Filters.{filter_of}
 use Rattle.av1_inter.specs.Motion.{single}
 use Rattle.av1_inter.specs.Places.{AreWithinDepth, corner_of, IsStoredFrom, samples_from}
+use Rattle.av1_inter.proofs.Lending.{lent_rows}
 use Rattle.av1_inter.proofs.put.put_8tap.Goals as goal
+
+pub put_8tap_to-requires-clause-rows : goal.put_8tap_to-requires-clause-rows
+put_8tap_to-requires-clause-rows g c =
+    lent_rows c.args.dst.now c.args.width c.args.height _ _ c.requires.fits c.requires.columns c.requires.rows c.corner-area.ensures
+    c.rows_mut.ensures.value
 
 pub put_8tap_to-requires-clause-stored : goal.put_8tap_to-requires-clause-stored
 put_8tap_to-requires-clause-stored g c =

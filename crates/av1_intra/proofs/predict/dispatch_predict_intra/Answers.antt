@@ -12,8 +12,14 @@ use Rattle.av1_intra.specs.Directional.{block_at}
 use Rattle.av1_intra.specs.ChromaFromLuma.{ac_at}
 use Rattle.av1_intra.specs.Predicted.{edge_of, edge_round, predicted}
 use Rattle.av1_intra.specs.declared.directional.DirectionalBlock.{DirectionalBlock}
+use Rattle.av1_intra.proofs.Lending.{block_rows}
 use Rattle.av1_intra.proofs.ByMode.{angle_fine, tx_height_side, tx_width_side, weighed_alike}
 use Rattle.av1_intra.proofs.predict.dispatch_predict_intra.Goals as goal
+
+pub dispatch_predict_intra_to-requires-clause-rows : goal.dispatch_predict_intra_to-requires-clause-rows
+dispatch_predict_intra_to-requires-clause-rows g c =
+    block_rows c.requires.block
+    (c.corner-area.ensures ∙ ap (λ (b : DirectionalBlock). in_rows c.args.dst.now.area b.width b.height) c.transform_in-block.ensures) c.rows_mut.ensures.value
 
 pub dispatch_predict_intra_to-requires-clause-width : goal.dispatch_predict_intra_to-requires-clause-width
 dispatch_predict_intra_to-requires-clause-width g c =

@@ -1,10 +1,26 @@
-use Rattle.std.proofs.Common.{◌≡◌, ℕ, map, reverse, ap, ◌∙◌, sym}
+use Rattle.std.proofs.Common.{◌≡◌, ℕ, length, map, reverse, ap, ◌∙◌, subst, sym}
 use Rattle.std.proofs.lemmas.List.{get_or-map}
+use Rattle.av1_frame.specs.declared.plane_region.StoredArea.{StoredArea}
 use Rattle.av1_frame.proofs.Regions.{lent_painted}
+use Rattle.av1_intra.specs.Blocks.{IsRectangle}
 use Rattle.av1_intra.specs.Sides.{numbers}
 use Rattle.av1_intra.specs.Directional.{block_at, directional}
 use Rattle.av1_intra.specs.declared.directional.DirectionalBlock.{DirectionalBlock}
+use Rattle.av1_intra.proofs.Lending.{block_rows}
 use Rattle.av1_intra.proofs.rust.pred_directional.Goals as goal
+
+pub pred_directional_to-requires-clause-block : goal.pred_directional_to-requires-clause-block
+pred_directional_to-requires-clause-block g c =
+    let a = c.args in
+    subst (λ (b : DirectionalBlock). IsRectangle b a.output.now.plane_cfg.stride c.corner-area.result (length c.rows_mut.result.now))
+    (sym c.block_in-block.ensures)
+    (record {
+      rows = block_rows c.requires.block c.corner-area.ensures c.rows_mut.ensures.value;
+      width = ap (λ (b : StoredArea). b.width) c.corner-area.ensures;
+      height = ap (λ (b : StoredArea). b.height) c.corner-area.ensures;
+      few_columns = c.requires.width;
+      few_rows = c.requires.height;
+    })
 
 pub returns-clause-painted : goal.returns-clause-painted
 returns-clause-painted g c =

@@ -18,4 +18,4 @@ pub invariant_of-result : goal.invariant_of-result
 invariant_of-result c =
     let bytes = c.in_ok-header.ensures ∙ ap (λ (bs : List ℕ). bs ++ header_text c.args.header.now) c.new-2.ensures.items in
     let told = subst (λ (bs : List ℕ). Tells (built c.in-Some.progress bs) (plan_begun c.args.header.now)) (sym bytes) c.in-Some.ensures.told in
-    (∣ (plan_begun c.args.header.now, told) ∣₁, tt)
+    record { tells = ∣ (plan_begun c.args.header.now, told) ∣₁ }
