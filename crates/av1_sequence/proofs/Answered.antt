@@ -25,7 +25,8 @@ pub refused_part : (k : Kept) (head : FrameHead) (part : List ℕ) (e : FrameErr
 refused_part k head part errors.TooLarge short why = absurd why
 refused_part k head part (errors.Malformed at) short why =
     (short, behind_refused (frame_header k.frames k.slots head) (frame_references k.slots head) part at why)
-refused_part k head part (errors.Invalid leaf kind) short (leaves, (text, fault)) = (short, (plan_over k head leaves, (part_text k head part leaves text, fault)))
+refused_part k head part (errors.Invalid leaf kind) short (leaves, (text, fault)) =
+    (short, (plan_over k head leaves, (part_text k head part leaves text, fault)))
 refused_part k head part errors.Memory short why = short
 
 -- running out of memory

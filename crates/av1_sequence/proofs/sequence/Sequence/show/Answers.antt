@@ -75,7 +75,8 @@ returns-else-head-eq0-clause-accepted c =
     let walked =
     plan_is_over c.args.self.now c.self.inside c.self.view_is c.args.head.now c.args.header.now leaves set.fi c.requires.header c.requires.spelled
     c.requires.valid c.set_head.ensures.serves in
-    kept_accepted c.args.self.now c.self.inside c.self.view_is c.args.head.now leaves set.header c.keep-place.new.self.header set.fi c.keep-place.new.self.fi set.places
+    kept_accepted c.args.self.now c.self.inside c.self.view_is c.args.head.now leaves set.header c.keep-place.new.self.header set.fi
+    c.keep-place.new.self.fi set.places
     c.keep-place.new.self.places c.keep-place.result.0 c.reconstruct.new.planes
     c.set_head.ensures.header c.keep-place.ensures.header c.set_head.ensures.slots c.keep-place.ensures.slots c.keep-place.ensures.shown
     (c.reconstruct.ensures.shown (plan_over c.args.self.now c.args.head.now leaves) walked)
