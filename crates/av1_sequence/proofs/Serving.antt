@@ -14,7 +14,7 @@ use Rattle.av1_frame.specs.declared.plane.Plane.{Plane}
 use Rattle.av1_frame.specs.declared.slots.Slot.{Slot}
 use Rattle.av1_frame.specs.Frames.{plane_of, slot_plane}
 use Rattle.av1_inter.specs.Reference.{slot_of as place_named}
-use Rattle.av1_lists.proofs.Lists.{by_index-same, get_or-by_index}
+use Rattle.av1_lists.proofs.Lists.{get_or-by_index}
 use Rattle.av1_plan.specs.declared.header.Header.{Header}
 use Rattle.av1_plan.specs.Geometry.{has_slot}
 use Rattle.av1_plan.specs.Plan.{LeafValue, PlanValue, reference_of}
