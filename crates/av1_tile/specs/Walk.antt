@@ -28,7 +28,8 @@ use Rattle.av1_frame.specs.declared.tile_state.CodedBlockInfo.{CodedBlockInfo}
 use Rattle.av1_frame.specs.declared.plane.PlaneConfig.{PlaneConfig}
 use Rattle.av1_frame.specs.Areas.{VisibleArea}
 use Rattle.av1_frame.specs.Planes.{sample_at, painted_plane, IsWhole}
-use Rattle.av1_intra.specs.ChromaFromLuma.{chroma_block, columns_read, rows_read, first_column, first_row}
+use Rattle.av1_intra.specs.ChromaFromLuma.{ac_at, chroma_block, columns_read, rows_read, first_column, first_row}
+use Rattle.av1_intra.specs.Predicted.{alpha_of}
 use Rattle.av1_inter.specs.Reference.{reference_of}
 use Rattle.av1_intra.specs.declared.neighbours.IntraEdgeFilterParameters.{IntraEdgeFilterParameters}
 use Rattle.av1_order.specs.Neighbours.{last_cell, leaf_holds}
@@ -40,20 +41,24 @@ use Rattle.av1_plan.specs.declared.leaf.Triple.{Triple}
 use Rattle.av1_plan.specs.Geometry.{xdec, ydec, plane_width, plane_height, plane_area, carries_chroma, block_count}
 use Rattle.av1_plan.specs.Geometry.{blocks_across}
 use Rattle.av1_plan.specs.Plan.{LeafValue, PlanValue}
-use Rattle.av1_plan.specs.ReadPlans.{IsOtherFrame}
+use Rattle.av1_plan.specs.ReadPlans.{IsOtherFrame, IsReadFrame}
 use Rattle.av1_plan.specs.Validity.{has_reference}
+use Rattle.av1_references.specs.References.{ServesPlan}
 use Rattle.av1_tile.specs.declared.block.BlockPlace.{BlockPlace}
+use Rattle.av1_tile.specs.declared.block.EdgePrediction.{EdgePrediction}
 use Rattle.av1_tile.specs.declared.cells.CodedCells.{CodedCells}
 use Rattle.av1_tile.specs.declared.extent.PlaneExtent.{PlaneExtent}
+use Rattle.av1_tile.specs.declared.frame.WalkedFrame.{WalkedFrame}
 use Rattle.av1_tile.specs.declared.plane_block.LumaBlock.{LumaBlock}
 use Rattle.av1_tile.specs.declared.plane_block.PlaneBlock.{PlaneBlock}
 use Rattle.av1_tile.specs.declared.plane_block.Prediction.{Prediction}
 use Rattle.av1_tile.specs.declared.plane_block.Prediction.TheVariants as predictions
 use Rattle.av1_tile.specs.declared.planes.Planes.{Planes}
 use Rattle.av1_tile.specs.Canvas.{Component, Y, U, V}
-use Rattle.av1_tile.specs.PlaneBlocks.{number, extent_of, block_told, coded_info, filter_parameters, is_from_luma}
+use Rattle.av1_tile.specs.PlaneBlocks.{number, component, extent_of, block_told, coded_info, filter_parameters}
+use Rattle.av1_tile.specs.PlaneBlocks.{is_from_luma}
 use Rattle.av1_tile.specs.PlaneBlocks.{triples_in}
-use Rattle.av1_tile.specs.Reference.{by_prediction, luma_for, luma_of, added, block_residue}
+use Rattle.av1_tile.specs.Reference.{by_mode, by_prediction, luma_for, luma_of, added, block_residue}
 use Rattle.av1_tile.specs.Steps.{Step, predict, add, PlaneStep, steps_of}
 
 -- ---- edges by place
@@ -251,6 +256,21 @@ abbrev pub edge_for : {T : Type 0} → Header → PlaneBlock → BlockPlace → 
 edge_for h block at mode param num plane =
     placed_edge h block.plane block at.number (area_at block at) num plane (effective mode at.x at.y) (step_of param)
 
+-- the sample at row r and column c that is predicted from it; `luma` is how far luma is from its mean, row by row
+abbrev pub predicted_at : {T : Type 0} → Header → PlaneBlock → BlockPlace → EdgePrediction → (luma : List ℤ) →
+    (num : T → ℕ) → Plane T → (r c : ℕ) → ℕ
+predicted_at h block at how luma num plane r c =
+    by_mode (extent_of h block.plane) how.filter how.mode how.param (area_at block at)
+    (placed_edge h block.plane block at.number (area_at block at) num plane)
+    (ac_at (tx_width block.area.tx_size) luma) r c
+
+-- an intra mode that turns by few steps, or a small weight of luma, of which there is as much as the block has samples
+pub record EdgePredictionFits (block : PlaneBlock) (luma : List ℤ) (how : EdgePrediction) : Type 0 where
+  pub intra : IsTrue (is_intra how.mode)
+  pub few_steps : unsigned_abs (step_of how.param) ≤ 3
+  pub small_weight : unsigned_abs (alpha_of how.param) ≤ 16
+  pub luma_long : IsTrue (is_cfl how.mode) → tx_width block.area.tx_size * tx_height block.area.tx_size ≤ length luma
+
 -- an intra mode that turns by few steps
 pub record ModeFits (mode : PredictionMode) (step : ℤ) : Type 0 where
   pub intra : IsTrue (is_intra mode)
@@ -409,3 +429,49 @@ leaf_with l y u v = record {
   uv_type = l.uv_type;
   triples = y ∷ u ∷ v ∷ [];
 }
+
+-- ---- the frame that is walked
+
+-- its header is one that can be read, of a depth that samples of so many bits have; the record is one of its cells, and
+-- its settings serve a plan with that header
+pub record IsWalked {T : Type 0} (num : T → ℕ) (bits : ℕ) (frame : WalkedFrame T) : Type 0 where
+  pub header : IsReadFrame frame.header.now
+  pub depth : frame.header.now.depth ≤ bits
+  pub cells : HasCells frame.header.now frame.cells.now
+  pub references : (value : PlanValue) × ServesPlan num (with_header frame.header.now value) frame.fi.now
+
+-- plane p of a frame that can be read, of a depth that samples of so many bits have
+pub record HoldsPlane {T : Type 0} (num : T → ℕ) (bits : ℕ) (h : Header) (p : ℕ) (plane : Plane T) : Type 0 where
+  pub frame : IsReadFrame h
+  pub depth : h.depth ≤ bits
+  pub stores : Stores num h p plane
+
+-- and so each plane of it
+pub record HoldsPlanes {T : Type 0} (num : T → ℕ) (bits : ℕ) (h : Header) (planes : Planes T) : Type 0 where
+  pub frame : IsReadFrame h
+  pub depth : h.depth ≤ bits
+  pub stores : StoresAll num h planes
+
+-- the plane after steps: it goes on storing its part of the frame, laid out as before
+pub record KeepsPlane {T : Type 0} (num : T → ℕ) (h : Header) (p : ℕ) (before after : Plane T) : Type 0 where
+  pub stores : Stores num h p after
+  pub config : after.plane_cfg ≡ before.plane_cfg
+
+-- and so each of the three
+pub record KeepsPlanes {T : Type 0} (num : T → ℕ) (h : Header) (before after : Planes T) : Type 0 where
+  pub stores : StoresAll num h after
+  pub layout : SameLayout before after
+
+-- what steps of a block make of its plane, in any plan with this header; `luma` is how far luma is from its mean, row
+-- by row
+abbrev pub Walks : {T : Type 0} → (T → ℕ) → (ℕ → T) → Header → PlaneBlock → (luma : List ℤ) → List Step →
+    (before after : Plane T) → Type 0
+Walks num pixel h block luma steps before after =
+    (value : PlanValue) →
+    after ≡
+    fold (fast_in num pixel (with_header h value) block.plane (λ _. ac_at (tx_width block.area.tx_size) luma))
+    before steps
+
+-- a leaf's block in plane p of it
+abbrev pub block_in : {T : Type 0} → WalkedFrame T → (p : ℕ) → Leaf → PlaneBlock
+block_in frame p leaf = block_by frame.header.now (cell_at frame.cells.now) (component p) (leaf_with leaf [] [] [])

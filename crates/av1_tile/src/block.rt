@@ -1,22 +1,17 @@
 //! One transform block: its prediction from the samples round it, and its residue.
 
-ghost use Rattle.std.specs.Prelude.{◌≡◌, ℕ, ◌+◌, ◌-◌, ◌*◌, ◌^◌, ◌<◌, ◌≤◌, length, All, IsTrue, pos, map, reverse, [], ◌∷◌, unsigned_abs};
+ghost use Rattle.std.specs.Prelude.{◌≡◌, ℕ, ◌+◌, ◌-◌, ◌*◌, ◌^◌, ◌<◌, ◌≤◌, length, All, IsTrue, pos, map, reverse, [], ◌∷◌};
 ghost use Rattle.av1_blocks.specs.Depths.{IsDepth};
-ghost use Rattle.av1_blocks.specs.Modes.{is_intra, is_cfl};
 ghost use Rattle.av1_blocks.specs.Transforms.{tx_width, tx_height, valid_av1_transform};
 ghost use Rattle.av1_blocks.specs.declared.transform.TxSize.TheVariants.{TX_4X4};
 ghost use Rattle.av1_blocks.specs.declared.transform.TxType.TheVariants.{WHT_WHT};
 ghost use Rattle.av1_lists.specs.Counts.{counted};
-ghost use Rattle.av1_edges.specs.Parts.{step_of};
 ghost use Rattle.av1_frame.specs.Areas.{stored_area};
 ghost use Rattle.av1_frame.specs.Planes.{InPlane, painted_plane};
 ghost use Rattle.av1_frame.specs.Regions.{InStorage, painted};
-ghost use Rattle.av1_intra.specs.ChromaFromLuma.{ac_at};
-ghost use Rattle.av1_intra.specs.Predicted.{alpha_of};
 ghost use Rattle.av1_plan.specs.Geometry.{plane_width, plane_height};
-ghost use Rattle.av1_tile.specs.PlaneBlocks.{extent_of};
-ghost use Rattle.av1_tile.specs.Reference.{added, block_residue, by_mode};
-ghost use Rattle.av1_tile.specs.Walk.{placed_edge, edge_for, area_at, IsPlaceIn, Stores, TripleFits};
+ghost use Rattle.av1_tile.specs.Reference.{added, block_residue};
+ghost use Rattle.av1_tile.specs.Walk.{area_at, edge_for, predicted_at, EdgePredictionFits, IsPlaceIn, Stores, TripleFits};
 
 use crate::coefficients::load_coefficients;
 use crate::plane_block::PlaneBlock;
@@ -42,6 +37,17 @@ pub struct BlockPlace {
     pub x: usize,
     /// The row of its first sample.
     pub y: usize,
+}
+
+/// How a transform block is predicted from its edge.
+#[derive(Clone, Copy)]
+pub struct EdgePrediction {
+    /// The intra mode.
+    pub mode: PredictionMode,
+    /// The steps that it turns, or its weight of luma.
+    pub param: IntraParam,
+    /// What the edge filter is told of the neighbours, where it is on.
+    pub filter: Option<IntraEdgeFilterParameters>,
 }
 
 /// The place at column `x` of row `y`.
@@ -70,8 +76,7 @@ fn whole_plane(header: &Header, p: usize) -> TileRect
 }
 
 /// Predicts a transform block by an intra mode, from its edge, in the region that is its rectangle. `luma` holds how
-/// far luma is from its mean, row by row, where the mode asks for it, and `filter` is what the edge filter is told,
-/// where it is on.
+/// far luma is from its mean, row by row, where the mode asks for it.
 fn predict_region<T: Pixel>(
     region: &mut PlaneRegionMut<'_, T>,
     edge: &IntraEdge<'_, T>,
@@ -79,9 +84,7 @@ fn predict_region<T: Pixel>(
     header: &Header,
     block: &PlaneBlock,
     at: BlockPlace,
-    mode: PredictionMode,
-    param: IntraParam,
-    filter: Option<IntraEdgeFilterParameters>,
+    how: EdgePrediction,
 )
     requires fits { InStorage region.old }
     requires area { region.old.area ≡ stored_area region.old.plane_cfg (area_at block.now at) }
@@ -89,30 +92,25 @@ fn predict_region<T: Pixel>(
     requires height { region.old.plane_cfg.height ≡ plane_height header.now block.now.plane }
     requires low { 8 ≤ header.now.depth }
     requires depth { header.now.depth ≤ T.BITS }
-    requires intra { IsTrue (is_intra mode) }
-    requires few_steps { unsigned_abs (step_of param) ≤ 3 }
-    requires small_weight { unsigned_abs (alpha_of param) ≤ 16 }
-    requires luma_long { IsTrue (is_cfl mode) → tx_width block.now.area.tx_size * tx_height block.now.area.tx_size ≤ length luma.now }
-    requires left { map T.num edge.now.left.now ≡ reverse (edge_for header.now block.now at mode param T.num region.old.plane.now).left }
-    requires corner { map T.num edge.now.top_left.now ≡ (edge_for header.now block.now at mode param T.num region.old.plane.now).corner ∷ [] }
-    requires above { map T.num edge.now.above.now ≡ (edge_for header.now block.now at mode param T.num region.old.plane.now).above }
+    requires how { EdgePredictionFits block.now luma.now how }
+    requires left { map T.num edge.now.left.now ≡ reverse (edge_for header.now block.now at how.mode how.param T.num region.old.plane.now).left }
+    requires corner { map T.num edge.now.top_left.now ≡ (edge_for header.now block.now at how.mode how.param T.num region.old.plane.now).corner ∷ [] }
+    requires above { map T.num edge.now.above.now ≡ (edge_for header.now block.now at how.mode how.param T.num region.old.plane.now).above }
     ensures painted { region.new ≡ painted region.old (tx_width block.now.area.tx_size) (tx_height block.now.area.tx_size)
-        (λ r c _. T.pixel (by_mode (extent_of header.now block.now.plane) filter mode param (area_at block.now at)
-        (placed_edge header.now block.now.plane block.now at.number (area_at block.now at) T.num region.old.plane.now)
-        (ac_at (tx_width block.now.area.tx_size) luma.now) r c)) }
+        (λ r c _. T.pixel (predicted_at header.now block.now at how luma.now T.num region.old.plane.now r c)) }
     ensures fits { InStorage region.new }
 {
     let tile = whole_plane(header, block.plane);
     let bit_depth = usize::from(header.depth);
     predict_intra(
-        mode,
+        how.mode,
         tile,
         region,
         block.area.tx_size,
         bit_depth,
         luma,
-        param,
-        filter,
+        how.param,
+        how.filter,
         edge,
     );
 }
@@ -125,30 +123,21 @@ pub fn predict_from_edge<T: Pixel>(
     header: &Header,
     block: &PlaneBlock,
     at: BlockPlace,
-    mode: PredictionMode,
-    param: IntraParam,
-    filter: Option<IntraEdgeFilterParameters>,
+    how: EdgePrediction,
 )
     requires stores { Stores T.num header.now block.now.plane plane.old }
     requires low { 8 ≤ header.now.depth }
     requires depth { header.now.depth ≤ T.BITS }
     requires place { IsPlaceIn header.now block.now at }
     requires fits { InPlane (area_at block.now at) plane.old }
-    requires intra { IsTrue (is_intra mode) }
-    requires few_steps { unsigned_abs (step_of param) ≤ 3 }
-    requires small_weight { unsigned_abs (alpha_of param) ≤ 16 }
-    requires luma_long { IsTrue (is_cfl mode) → tx_width block.now.area.tx_size * tx_height block.now.area.tx_size ≤ length luma.now }
+    requires how { EdgePredictionFits block.now luma.now how }
     ensures painted { plane.new ≡ painted_plane plane.old (area_at block.now at)
-        (λ r c _. T.pixel (by_mode (extent_of header.now block.now.plane) filter mode param (area_at block.now at)
-        (placed_edge header.now block.now.plane block.now at.number (area_at block.now at) T.num plane.old)
-        (ac_at (tx_width block.now.area.tx_size) luma.now) r c)) }
+        (λ r c _. T.pixel (predicted_at header.now block.now at how luma.now T.num plane.old r c)) }
     ensures counted { edges.new.prepared ≡ counted edges.old.prepared }
 {
     let tx_size = block.area.tx_size;
-    let cell = TileBlockOffset(BlockOffset {
-        x: block.leaf.x / 4,
-        y: block.leaf.y / 4,
-    });
+    let (x, y) = (block.leaf.x / 4, block.leaf.y / 4);
+    let cell = TileBlockOffset(BlockOffset { x, y });
     let edge = get_intra_edges(
         edges,
         &plane.as_region(),
@@ -159,23 +148,13 @@ pub fn predict_from_edge<T: Pixel>(
         offset_at(at.x, at.y),
         tx_size,
         usize::from(header.depth),
-        Some(mode),
+        Some(how.mode),
         header.edge_filter,
-        param,
+        how.param,
     );
     let area = visible_area(at.x, at.y, tx_size.width(), tx_size.height());
     let mut region = plane.region_mut(area);
-    predict_region(
-        &mut region,
-        &edge,
-        luma,
-        header,
-        block,
-        at,
-        mode,
-        param,
-        filter,
-    );
+    predict_region(&mut region, &edge, luma, header, block, at, how);
 }
 
 /// Adds a transform block's residue to the first rows and columns of the region; `coefficients` is room for its

@@ -5,18 +5,17 @@ ghost use Rattle.std.specs.List.{fold};
 ghost use Rattle.av1_frame.specs.Planes.{sample_at};
 ghost use Rattle.av1_intra.specs.ChromaFromLuma.{ac_at, chroma_block, leaf_difference};
 ghost use Rattle.av1_plan.specs.Plan.{PlanValue};
-ghost use Rattle.av1_plan.specs.ReadPlans.{IsReadFrame};
 ghost use Rattle.av1_references.specs.References.{ServesPlan};
 ghost use Rattle.av1_tile.specs.PlaneBlocks.{is_from_luma};
 ghost use Rattle.av1_tile.specs.Reference.{luma_of};
-ghost use Rattle.av1_tile.specs.Walk.{cell_at, edges_after, leaf_steps_by, fast_step, leaf_with, luma_block, HasCells, LeafFits, LumaFits, SameLayout, Stores};
-ghost use Rattle.av1_tile.specs.Walk.{StoresAll, with_header};
+ghost use Rattle.av1_tile.specs.Walk.{cell_at, edges_after, leaf_steps_by, fast_step, leaf_with, luma_block, LeafFits, LumaFits, Stores};
+ghost use Rattle.av1_tile.specs.Walk.{IsWalked, KeepsPlanes, StoresAll, with_header};
 
 use crate::buffers::WalkBuffers;
-use crate::cells::CodedCells;
+use crate::frame::WalkedFrame;
 use crate::planes::Planes;
 use crate::walk::reconstruct_leaf_in;
-use av1_frame::{Area, FrameInvariants, Pixel, Plane};
+use av1_frame::{Area, Pixel, Plane};
 use av1_intra::{LumaLeaf, leaf_luma_ac};
 use av1_plan::{ChromaMode, Header, Leaf, LeafKind, Triple};
 
@@ -70,34 +69,29 @@ fn prepare_luma<T: Pixel>(luma: &mut [i16], plane: &Plane<T>, header: &Header, l
 pub fn reconstruct_leaf<T: Pixel>(
     planes: &mut Planes<T>,
     buffers: &mut WalkBuffers<T>,
-    fi: &FrameInvariants<T>,
-    header: &Header,
-    cells: &CodedCells,
+    frame: &WalkedFrame<'_, T>,
     leaf: &Leaf,
     y: &[Triple],
     u: &[Triple],
     v: &[Triple],
 )
-    requires frame { IsReadFrame header.now }
-    requires stores { StoresAll T.num header.now planes.old }
-    requires depth { header.now.depth ≤ T.BITS }
-    requires cells { HasCells header.now cells.now }
-    requires fits { LeafFits header.now planes.old (leaf_with leaf.now y.now u.now v.now) }
-    requires references { (value : PlanValue) × ServesPlan T.num (with_header header.now value) fi.now }
-    ensures walked { let l = leaf_with leaf.now y.now u.now v.now in
-        (value : PlanValue) → ServesPlan T.num (with_header header.now value) fi.now
-        → planes.new ≡ fold (fast_step T.num T.pixel (with_header header.now value)) planes.old (leaf_steps_by header.now (cell_at cells.now) l) }
-    ensures counted { let l = leaf_with leaf.now y.now u.now v.now in
-        buffers.new.edges.prepared ≡ fold edges_after buffers.old.edges.prepared (leaf_steps_by header.now (cell_at cells.now) l) }
-    ensures stores { StoresAll T.num header.now planes.new }
-    ensures layout { SameLayout planes.old planes.new }
+    requires frame { IsWalked T.num T.BITS frame.now }
+    requires stores { StoresAll T.num frame.now.header.now planes.old }
+    requires fits { LeafFits frame.now.header.now planes.old (leaf_with leaf.now y.now u.now v.now) }
+    ensures walked { let h = frame.now.header.now in let l = leaf_with leaf.now y.now u.now v.now in
+        (value : PlanValue) → ServesPlan T.num (with_header h value) frame.now.fi.now
+        → planes.new ≡ fold (fast_step T.num T.pixel (with_header h value)) planes.old (leaf_steps_by h (cell_at frame.now.cells.now) l) }
+    ensures counted { let l = leaf_with leaf.now y.now u.now v.now in buffers.new.edges.prepared ≡
+        fold edges_after buffers.old.edges.prepared (leaf_steps_by frame.now.header.now (cell_at frame.now.cells.now) l) }
+    ensures kept { KeepsPlanes T.num frame.now.header.now planes.old planes.new }
 {
-    reconstruct_leaf_in(&mut planes.y, buffers, fi, header, cells, leaf, 0, y);
+    let header = frame.header;
+    reconstruct_leaf_in(&mut planes.y, buffers, frame, leaf, 0, y);
     if leaf.carries_chroma(header) {
         if is_from_luma(leaf.kind) {
             prepare_luma(buffers.luma.as_mut_slice(), &planes.y, header, leaf);
         }
-        reconstruct_leaf_in(&mut planes.u, buffers, fi, header, cells, leaf, 1, u);
-        reconstruct_leaf_in(&mut planes.v, buffers, fi, header, cells, leaf, 2, v);
+        reconstruct_leaf_in(&mut planes.u, buffers, frame, leaf, 1, u);
+        reconstruct_leaf_in(&mut planes.v, buffers, frame, leaf, 2, v);
     }
 }

@@ -24,6 +24,7 @@ mod cells;
 mod coefficients;
 mod extent;
 mod fill;
+mod frame;
 mod laws;
 mod leaf;
 mod memory;

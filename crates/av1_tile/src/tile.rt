@@ -1,15 +1,15 @@
 //! The walk over the leaves of a plan.
 
-ghost use Rattle.std.specs.Prelude.{◌≡◌, ℕ, ◌<◌, ◌≤◌, All, length};
+ghost use Rattle.std.specs.Prelude.{◌≡◌, ℕ, ◌<◌, All, length};
 ghost use Rattle.std.specs.List.{fold};
 ghost use Rattle.av1_plan.specs.Answer.{leaves_value};
 ghost use Rattle.av1_plan.specs.Plan.{PlanValue};
-ghost use Rattle.av1_plan.specs.ReadPlans.{IsReadFrame};
 ghost use Rattle.av1_references.specs.References.{ServesPlan};
-ghost use Rattle.av1_tile.specs.Walk.{cell_at, edges_after, fast_step, steps_by, HasCells, LeafFits, SameLayout, StoresAll, with_header};
+ghost use Rattle.av1_tile.specs.Walk.{cell_at, edges_after, fast_step, steps_by, HasCells, HoldsPlanes, KeepsPlanes, LeafFits, with_header};
 
 use crate::buffers::WalkBuffers;
 use crate::cells::CodedCells;
+use crate::frame::WalkedFrame;
 use crate::leaf::reconstruct_leaf;
 use crate::planes::Planes;
 use av1_frame::{FrameInvariants, Pixel};
@@ -25,9 +25,7 @@ pub fn reconstruct_leaves<T: Pixel>(
     header: &Header,
     leaves: &Leaves,
 )
-    requires frame { IsReadFrame header.now }
-    requires stores { StoresAll T.num header.now planes.old }
-    requires depth { header.now.depth ≤ T.BITS }
+    requires held { HoldsPlanes T.num T.BITS header.now planes.old }
     requires cells { HasCells header.now cells.old }
     requires fits { All (LeafFits header.now planes.old) (leaves_value leaves.now) }
     requires references { (value : PlanValue) × ServesPlan T.num (with_header header.now value) fi.now }
@@ -36,19 +34,21 @@ pub fn reconstruct_leaves<T: Pixel>(
         fold (fast_step T.num T.pixel (with_header header.now value)) planes.old (steps_by header.now (cell_at cells.old) (leaves_value leaves.now)) }
     ensures counted { buffers.new.edges.prepared ≡
         fold edges_after buffers.old.edges.prepared (steps_by header.now (cell_at cells.old) (leaves_value leaves.now)) }
-    ensures stores { StoresAll T.num header.now planes.new }
-    ensures layout { SameLayout planes.old planes.new }
+    ensures kept { KeepsPlanes T.num header.now planes.old planes.new }
     ensures cells { HasCells header.now cells.new }
     ensures count { length cells.new.cells.items ≡ length cells.old.cells.items }
 {
     for index in 0..leaves.leaves().len() {
         let leaf = &leaves.leaves()[index];
+        let frame = WalkedFrame {
+            header,
+            fi,
+            cells: &*cells,
+        };
         reconstruct_leaf(
             planes,
             buffers,
-            fi,
-            header,
-            cells,
+            &frame,
             leaf,
             leaves.triples(index, 0),
             leaves.triples(index, 1),

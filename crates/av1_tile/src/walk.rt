@@ -16,11 +16,12 @@ ghost use Rattle.av1_tile.specs.PlaneBlocks.{block_told, component, is_whole, pr
 ghost use Rattle.av1_tile.specs.Reference.{no_luma};
 ghost use Rattle.av1_tile.specs.Steps.{own_prediction, whole_area, whole_steps, plane_steps, steps_at, steps_of, joined};
 ghost use Rattle.av1_tile.specs.Walk.{area_at, block_by, cell_at, Begins, edges_in, edges_after, fast_in, fast_step, leaf_with, BlockFits, HasCells, IsPlaceIn};
-ghost use Rattle.av1_tile.specs.Walk.{LeafFits, PredictionFits, SameLayout, Stores, StoresAll, with_header};
+ghost use Rattle.av1_tile.specs.Walk.{block_in, HoldsPlane, IsWalked, KeepsPlane, PredictionFits, Stores, Walks, with_header};
 
-use crate::block::{BlockPlace, add_block, predict_from_edge};
+use crate::block::{BlockPlace, EdgePrediction, add_block, predict_from_edge};
 use crate::buffers::WalkBuffers;
 use crate::cells::CodedCells;
+use crate::frame::WalkedFrame;
 use crate::plane_block::{PlaneBlock, Prediction};
 use crate::planes::Planes;
 use av1_blocks::{IntraParam, PredictionMode};
@@ -80,31 +81,34 @@ fn predict_block<T: Pixel>(
     block: &PlaneBlock,
     at: BlockPlace,
 )
-    requires frame { IsReadFrame header.now }
-    requires stores { Stores T.num header.now block.now.plane plane.old }
-    requires depth { header.now.depth ≤ T.BITS }
+    requires held { HoldsPlane T.num T.BITS header.now block.now.plane plane.old }
     requires place { IsPlaceIn header.now block.now at }
     requires fits { InPlane (area_at block.now at) plane.old }
     requires prediction { PredictionFits header.now block.now.plane block.now.area block.now.prediction }
-    ensures walked { (value : PlanValue) →
-        plane.new ≡
-        fold (fast_in T.num T.pixel (with_header header.now value) block.now.plane (λ _. ac_at (tx_width block.now.area.tx_size) buffers.old.luma.items))
-        plane.old (own_prediction block.now at.number (area_at block.now at)) }
+    ensures walked { Walks T.num T.pixel header.now block.now buffers.old.luma.items (own_prediction block.now at.number (area_at block.now at)) plane.old
+        plane.new }
     ensures counted { buffers.new.edges.prepared ≡ fold edges_in buffers.old.edges.prepared (own_prediction block.now at.number (area_at block.now at)) }
     ensures luma { buffers.new.luma.items ≡ buffers.old.luma.items }
 {
     match block.prediction {
         Prediction::Intra { mode, step, filter } => {
             let edges = &mut buffers.edges;
-            let param = IntraParam::AngleDelta(step);
-            predict_from_edge(plane, edges, &[], header, block, at, mode, param, filter);
+            let how = EdgePrediction {
+                mode,
+                param: IntraParam::AngleDelta(step),
+                filter,
+            };
+            predict_from_edge(plane, edges, &[], header, block, at, how);
         }
         Prediction::FromLuma { alpha } => {
             let edges = &mut buffers.edges;
             let luma = buffers.luma.as_slice();
-            let mode = PredictionMode::UV_CFL_PRED;
-            let param = IntraParam::Alpha(i16::from(alpha));
-            predict_from_edge(plane, edges, luma, header, block, at, mode, param, None);
+            let how = EdgePrediction {
+                mode: PredictionMode::UV_CFL_PRED,
+                param: IntraParam::Alpha(i16::from(alpha)),
+                filter: None,
+            };
+            predict_from_edge(plane, edges, luma, header, block, at, how);
         }
         Prediction::Single { .. } | Prediction::Compound { .. } => {}
     }
@@ -120,20 +124,14 @@ fn reconstruct_block<T: Pixel>(
     at: BlockPlace,
     triples: &[Triple],
 )
-    requires frame { IsReadFrame header.now }
-    requires stores { Stores T.num header.now block.now.plane plane.old }
-    requires depth { header.now.depth ≤ T.BITS }
+    requires held { HoldsPlane T.num T.BITS header.now block.now.plane plane.old }
     requires place { IsPlaceIn header.now block.now at }
     requires fits { BlockFits plane.old.plane_cfg header.now block.now triples.now }
     requires found { transform_block header.now block.now.plane block.now.area at.number ≡ Some (record { x = at.x; y = at.y }) }
-    ensures walked { (value : PlanValue) →
-        plane.new ≡
-        fold (fast_in T.num T.pixel (with_header header.now value) block.now.plane (λ _. ac_at (tx_width block.now.area.tx_size) buffers.old.luma.items))
-        plane.old (steps_at header.now block.now triples.now at.number) }
+    ensures walked { Walks T.num T.pixel header.now block.now buffers.old.luma.items (steps_at header.now block.now triples.now at.number) plane.old plane.new }
     ensures counted { buffers.new.edges.prepared ≡ fold edges_in buffers.old.edges.prepared (steps_at header.now block.now triples.now at.number) }
     ensures luma { buffers.new.luma.items ≡ buffers.old.luma.items }
-    ensures stores { Stores T.num header.now block.now.plane plane.new }
-    ensures config { plane.new.plane_cfg ≡ plane.old.plane_cfg }
+    ensures kept { KeepsPlane T.num header.now block.now.plane plane.old plane.new }
 {
     predict_block(plane, buffers, header, block, at);
     add_block(
@@ -185,19 +183,14 @@ fn reconstruct_blocks<T: Pixel>(
     block: &PlaneBlock,
     triples: &[Triple],
 )
-    requires frame { IsReadFrame header.now }
-    requires stores { Stores T.num header.now block.now.plane plane.old }
-    requires depth { header.now.depth ≤ T.BITS }
+    requires held { HoldsPlane T.num T.BITS header.now block.now.plane plane.old }
     requires fits { BlockFits plane.old.plane_cfg header.now block.now triples.now }
-    ensures walked { (value : PlanValue) →
-        plane.new ≡
-        fold (fast_in T.num T.pixel (with_header header.now value) block.now.plane (λ _. ac_at (tx_width block.now.area.tx_size) buffers.old.luma.items))
-        plane.old (joined (block_count block.now.area) (steps_at header.now block.now triples.now)) }
+    ensures walked { Walks T.num T.pixel header.now block.now buffers.old.luma.items
+        (joined (block_count block.now.area) (steps_at header.now block.now triples.now)) plane.old plane.new }
     ensures counted { buffers.new.edges.prepared ≡
         fold edges_in buffers.old.edges.prepared (joined (block_count block.now.area) (steps_at header.now block.now triples.now)) }
     ensures luma { buffers.new.luma.items ≡ buffers.old.luma.items }
-    ensures stores { Stores T.num header.now block.now.plane plane.new }
-    ensures config { plane.new.plane_cfg ≡ plane.old.plane_cfg }
+    ensures kept { KeepsPlane T.num header.now block.now.plane plane.old plane.new }
 {
     let across = block.area.blocks_across();
     let mut place = (0, 0);
@@ -268,31 +261,28 @@ fn predict_whole<T: Pixel>(
 fn reconstruct_plane_block<T: Pixel>(
     plane: &mut Plane<T>,
     buffers: &mut WalkBuffers<T>,
-    fi: &FrameInvariants<T>,
-    header: &Header,
+    frame: &WalkedFrame<'_, T>,
     block: &PlaneBlock,
     triples: &[Triple],
 )
-    requires frame { IsReadFrame header.now }
+    requires frame { IsWalked T.num T.BITS frame.now }
     requires plane { block.now.plane < 3 }
-    requires stores { Stores T.num header.now block.now.plane plane.old }
-    requires depth { header.now.depth ≤ T.BITS }
-    requires references { (value : PlanValue) × ServesPlan T.num (with_header header.now value) fi.now }
-    requires fits { BlockFits plane.old.plane_cfg header.now block.now triples.now }
-    ensures walked { (value : PlanValue) → ServesPlan T.num (with_header header.now value) fi.now
+    requires stores { Stores T.num frame.now.header.now block.now.plane plane.old }
+    requires fits { BlockFits plane.old.plane_cfg frame.now.header.now block.now triples.now }
+    ensures walked { let h = frame.now.header.now in
+        (value : PlanValue) → ServesPlan T.num (with_header h value) frame.now.fi.now
         → plane.new ≡
-        fold (fast_in T.num T.pixel (with_header header.now value) block.now.plane (λ _. ac_at (tx_width block.now.area.tx_size) buffers.old.luma.items))
-        plane.old (plane_steps header.now block.now triples.now) }
-    ensures counted { buffers.new.edges.prepared ≡ fold edges_in buffers.old.edges.prepared (plane_steps header.now block.now triples.now) }
+        fold (fast_in T.num T.pixel (with_header h value) block.now.plane (λ _. ac_at (tx_width block.now.area.tx_size) buffers.old.luma.items))
+        plane.old (plane_steps h block.now triples.now) }
+    ensures counted { buffers.new.edges.prepared ≡ fold edges_in buffers.old.edges.prepared (plane_steps frame.now.header.now block.now triples.now) }
     ensures luma { buffers.new.luma.items ≡ buffers.old.luma.items }
-    ensures stores { Stores T.num header.now block.now.plane plane.new }
-    ensures config { plane.new.plane_cfg ≡ plane.old.plane_cfg }
+    ensures kept { KeepsPlane T.num frame.now.header.now block.now.plane plane.old plane.new }
 {
-    predict_whole(plane, &mut buffers.compound, fi, block);
+    predict_whole(plane, &mut buffers.compound, frame.fi, block);
     if is_only_predicted(block.prediction, triples) {
         return;
     }
-    reconstruct_blocks(plane, buffers, header, block, triples);
+    reconstruct_blocks(plane, buffers, frame.header, block, triples);
 }
 
 /// Whether a leaf is predicted from references.
@@ -330,32 +320,27 @@ fn filter_at(
 pub fn reconstruct_leaf_in<T: Pixel>(
     plane: &mut Plane<T>,
     buffers: &mut WalkBuffers<T>,
-    fi: &FrameInvariants<T>,
-    header: &Header,
-    cells: &CodedCells,
+    frame: &WalkedFrame<'_, T>,
     leaf: &Leaf,
     p: usize,
     triples: &[Triple],
 )
-    requires frame { IsReadFrame header.now }
+    requires frame { IsWalked T.num T.BITS frame.now }
     requires plane { p < 3 }
-    requires stores { Stores T.num header.now p plane.old }
-    requires depth { header.now.depth ≤ T.BITS }
-    requires cells { HasCells header.now cells.now }
-    requires begins { Begins header.now (component p) (leaf_with leaf.now [] [] []) }
-    requires fits { BlockFits plane.old.plane_cfg header.now (block_by header.now (cell_at cells.now) (component p) (leaf_with leaf.now [] [] [])) triples.now }
-    requires references { (value : PlanValue) × ServesPlan T.num (with_header header.now value) fi.now }
-    ensures walked { let block = block_by header.now (cell_at cells.now) (component p) (leaf_with leaf.now [] [] []) in
-        (value : PlanValue) → ServesPlan T.num (with_header header.now value) fi.now
-        → plane.new ≡ fold (fast_in T.num T.pixel (with_header header.now value) p (λ _. ac_at (tx_width block.area.tx_size) buffers.old.luma.items)) plane.old
-        (plane_steps header.now block triples.now) }
-    ensures counted { let block = block_by header.now (cell_at cells.now) (component p) (leaf_with leaf.now [] [] []) in
-        buffers.new.edges.prepared ≡ fold edges_in buffers.old.edges.prepared (plane_steps header.now block triples.now) }
+    requires stores { Stores T.num frame.now.header.now p plane.old }
+    requires begins { Begins frame.now.header.now (component p) (leaf_with leaf.now [] [] []) }
+    requires fits { BlockFits plane.old.plane_cfg frame.now.header.now (block_in frame.now p leaf.now) triples.now }
+    ensures walked { let h = frame.now.header.now in let block = block_in frame.now p leaf.now in
+        (value : PlanValue) → ServesPlan T.num (with_header h value) frame.now.fi.now
+        → plane.new ≡ fold (fast_in T.num T.pixel (with_header h value) p (λ _. ac_at (tx_width block.area.tx_size) buffers.old.luma.items)) plane.old
+        (plane_steps h block triples.now) }
+    ensures counted { buffers.new.edges.prepared ≡
+        fold edges_in buffers.old.edges.prepared (plane_steps frame.now.header.now (block_in frame.now p leaf.now) triples.now) }
     ensures luma { buffers.new.luma.items ≡ buffers.old.luma.items }
-    ensures stores { Stores T.num header.now p plane.new }
-    ensures config { plane.new.plane_cfg ≡ plane.old.plane_cfg }
+    ensures kept { KeepsPlane T.num frame.now.header.now p plane.old plane.new }
 {
-    let filter = filter_at(header, cells, leaf, p);
+    let header = frame.header;
+    let filter = filter_at(header, frame.cells, leaf, p);
     let block = PlaneBlock::of_leaf(header, leaf, p, filter);
-    reconstruct_plane_block(plane, buffers, fi, header, &block, triples);
+    reconstruct_plane_block(plane, buffers, frame, &block, triples);
 }

@@ -18,14 +18,14 @@ use Rattle.av1_tile.proofs.block.predict_from_edge.Goals as goal
 edge_is : (g : given.Over) (c : goal.After-edge-1 g)
     → prepared_edge g.T.Pixel.num c.as_region.result
     (position_of (record { 0 = record { x = c.args.block.now.leaf.x / 4; y = c.args.block.now.leaf.y / 4 } }) c.args.at.column c.args.at.row
-    c.args.block.now.leaf.size c.offset_at.result c.args.block.now.area.tx_size) c.from.result (Some c.args.mode) c.args.header.now.edge_filter
-    c.args.param
-    ≡ edge_for c.args.header.now c.args.block.now c.args.at c.args.mode c.args.param g.T.Pixel.num c.region_mut-region.result.plane.now
+    c.args.block.now.leaf.size c.offset_at.result c.args.block.now.area.tx_size) c.from.result (Some c.args.how.mode) c.args.header.now.edge_filter
+    c.args.how.param
+    ≡ edge_for c.args.header.now c.args.block.now c.args.at c.args.how.mode c.args.how.param g.T.Pixel.num c.region_mut-region.result.plane.now
 edge_is g c =
     let a = c.args in
     let r = c.as_region in
     edge_placed g.T.Pixel.num a.header.now a.block.now a.at c.requires.place a.plane.now c.requires.stores.place r.result r.ensures.samples r.ensures.cfg
-    r.ensures.area a.mode a.param
+    r.ensures.area a.how.mode a.how.param
     c.offset_at.result c.from.result c.region_mut-region.result.plane.now c.offset_at.ensures c.from.ensures c.region_mut-region.ensures.plane
 
 pub predict_region-requires-clause-left : goal.predict_region-requires-clause-left
@@ -46,7 +46,7 @@ returns-clause-painted g c =
     let edge = placed_edge a.header.now block.plane block a.at.number area g.T.Pixel.num in
     let luma = ac_at (tx_width block.area.tx_size) a.luma.now in
     let f = λ (q : Plane g.row.T.Denot) (r k : ℕ)
-    (v : g.row.T.Denot). g.T.Pixel.pixel (by_mode (extent_of a.header.now block.plane) a.filter a.mode a.param area (edge q) luma r k) in
+    (v : g.row.T.Denot). g.T.Pixel.pixel (by_mode (extent_of a.header.now block.plane) a.how.filter a.how.mode a.how.param area (edge q) luma r k) in
     let place : region.result.area ≡ stored_area a.plane.now.plane_cfg area = search rules in
     let done = region_painted a.plane.now area (f a.plane.now) region.result c.predict_region.new.region region.ensures.plane region.ensures.cfg place
     (c.predict_region.ensures.painted ∙ ap (λ (q : Plane g.row.T.Denot). painted region.result area.width area.height (f q)) region.ensures.plane) in

@@ -20,23 +20,23 @@ use Rattle.av1_tile.proofs.leaf.reconstruct_leaf.Goals as goal
 pub prepare_luma-requires-clause-fits : goal.prepare_luma-requires-clause-fits
 prepare_luma-requires-clause-fits g c =
     let a = c.args in
-    let h = a.header.now in
+    let h = a.frame.now.header.now in
     let l = leaf_with a.leaf.now a.y.now a.u.now a.v.now in
     let carried : carries_chroma h l.x l.y l.size ≡ true = sym c.carries_chroma.ensures ∙ c.if-carries_chroma.true in
     let from : is_from_luma l.kind ≡ true = sym c.is_from_luma.ensures ∙ c.if-is_from_luma.true in
     let own : LumaFits h a.planes.now.y.plane_cfg (leaf_with a.leaf.now [] [] []) =
     (let f = c.requires.fits.luma carried from
     in record { narrow = f.narrow; low = f.low; width = f.width; height = f.height; few = f.few; columns = f.columns; rows = f.rows; depth = f.depth }) in
-    subst (λ (k : PlaneConfig). LumaFits h k (leaf_with a.leaf.now [] [] [])) (sym c.reconstruct_leaf_in.ensures.config) own
+    subst (λ (k : PlaneConfig). LumaFits h k (leaf_with a.leaf.now [] [] [])) (sym c.reconstruct_leaf_in.ensures.kept.config) own
 
 pub returns-after-is_from_luma-clause-walked : goal.returns-after-is_from_luma-clause-walked
 returns-after-is_from_luma-clause-walked g c = λ value serves.
     let a = c.args in
     let num = g.T.Pixel.num in
-    let h = a.header.now in
+    let h = a.frame.now.header.now in
     let plan = with_header h value in
     let l = leaf_with a.leaf.now a.y.now a.u.now a.v.now in
-    let told = cell_at a.cells.now in
+    let told = cell_at a.frame.now.cells.now in
     let luma = c.if-is_from_luma.buffers.luma.items in
     let y = c.reconstruct_leaf_in.new.plane in
     let samples = sample_at num y in
@@ -80,7 +80,7 @@ returns-after-is_from_luma-clause-walked g c = λ value serves.
 pub returns-after-is_from_luma-clause-counted : goal.returns-after-is_from_luma-clause-counted
 returns-after-is_from_luma-clause-counted g c =
     let a = c.args in
-    let h = a.header.now in
+    let h = a.frame.now.header.now in
     let l = leaf_with a.leaf.now a.y.now a.u.now a.v.now in
     let carried : carries_chroma h l.x l.y l.size ≡ true = sym c.carries_chroma.ensures ∙ c.if-carries_chroma.true in
     let kept : c.if-is_from_luma.buffers.edges.prepared ≡ c.reconstruct_leaf_in.new.buffers.edges.prepared =
@@ -88,20 +88,20 @@ returns-after-is_from_luma-clause-counted g c =
       | then-is_from_luma w ↦ ap (λ (b : _). b.edges.prepared) w.buffers-is
       | else-is_from_luma w ↦ ap (λ (b : _). b.edges.prepared) w.buffers-is
     ] in
-    leaf_counted h (λ k. block_by h (cell_at a.cells.now) k l) l a.buffers.now.edges.prepared c.reconstruct_leaf_in.new.buffers.edges.prepared
+    leaf_counted h (λ k. block_by h (cell_at a.frame.now.cells.now) k l) l a.buffers.now.edges.prepared c.reconstruct_leaf_in.new.buffers.edges.prepared
     c.reconstruct_leaf_in-then-carries_chroma.new.buffers.edges.prepared c.reconstruct_leaf_in-then-carries_chroma-2.new.buffers.edges.prepared carried
     c.reconstruct_leaf_in.ensures.counted (c.reconstruct_leaf_in-then-carries_chroma.ensures.counted
-    ∙ ap (λ (n : ℕ). fold edges_in n (plane_steps h (block_by h (cell_at a.cells.now) U l) a.u.now)) kept)
+    ∙ ap (λ (n : ℕ). fold edges_in n (plane_steps h (block_by h (cell_at a.frame.now.cells.now) U l) a.u.now)) kept)
     c.reconstruct_leaf_in-then-carries_chroma-2.ensures.counted
 
 pub returns-else-carries_chroma-clause-walked : goal.returns-else-carries_chroma-clause-walked
 returns-else-carries_chroma-clause-walked g c = λ value serves.
     let a = c.args in
     let num = g.T.Pixel.num in
-    let h = a.header.now in
+    let h = a.frame.now.header.now in
     let plan = with_header h value in
     let l = leaf_with a.leaf.now a.y.now a.u.now a.v.now in
-    let told = cell_at a.cells.now in
+    let told = cell_at a.frame.now.cells.now in
     let carried : carries_chroma h l.x l.y l.size ≡ false = sym c.carries_chroma.ensures ∙ c.if-carries_chroma.false in
     let block = block_by h told Y l in
     let before = sample_at num a.planes.now.y in
@@ -115,8 +115,8 @@ returns-else-carries_chroma-clause-walked g c = λ value serves.
 pub returns-else-carries_chroma-clause-counted : goal.returns-else-carries_chroma-clause-counted
 returns-else-carries_chroma-clause-counted g c =
     let a = c.args in
-    let h = a.header.now in
+    let h = a.frame.now.header.now in
     let l = leaf_with a.leaf.now a.y.now a.u.now a.v.now in
     let carried : carries_chroma h l.x l.y l.size ≡ false = sym c.carries_chroma.ensures ∙ c.if-carries_chroma.false in
-    luma_counted h (λ k. block_by h (cell_at a.cells.now) k l) l a.buffers.now.edges.prepared c.reconstruct_leaf_in.new.buffers.edges.prepared carried
+    luma_counted h (λ k. block_by h (cell_at a.frame.now.cells.now) k l) l a.buffers.now.edges.prepared c.reconstruct_leaf_in.new.buffers.edges.prepared carried
     c.reconstruct_leaf_in.ensures.counted

@@ -33,7 +33,7 @@ pub loop-index-init : goal.loop-index-init
 loop-index-init g c = record {
   walked = λ value serves. refl;
   counted = refl;
-  stores = c.requires.stores;
+  stores = c.requires.held.stores;
   layout = record { y = refl; u = refl; v = refl };
   cells = c.requires.cells;
   count = refl;
@@ -62,7 +62,7 @@ loop-index-preserved g c =
     c.triples-in-loop-index-2.ensures in
     let start = cell_at c.args.cells.now in
     let told = cell_at c.loop-index.cells in
-    let own = leaf_read leaves h i _ _ _ _ told (with_leaves start (take i (leaves_value leaves))) a (whole_frame h c.requires.frame)
+    let own = leaf_read leaves h i _ _ _ _ told (with_leaves start (take i (leaves_value leaves))) a (whole_frame h c.requires.held.frame)
     (turn_begins leaves h i _ _ _ _ c.args.planes.now a c.requires.fits) held.told in
     record {
       walked = λ value serves.
@@ -73,8 +73,8 @@ loop-index-preserved g c =
           leaf_more edges_after leaves h i _ start c.args.buffers.now.edges.prepared c.loop-index.buffers.edges.prepared
           c.reconstruct_leaf.new.buffers.edges.prepared a.inside a.is held.counted (turn.counted
           ∙ ap (fold edges_after c.loop-index.buffers.edges.prepared) own);
-      stores = turn.stores;
-      layout = layout_kept c.args.planes.now c.loop-index.planes c.reconstruct_leaf.new.planes held.layout turn.layout;
+      stores = turn.kept.stores;
+      layout = layout_kept c.args.planes.now c.loop-index.planes c.reconstruct_leaf.new.planes held.layout turn.kept.layout;
       cells = c.note.ensures.cells;
       count = c.note.ensures.count ∙ held.count;
       told = told_more leaves h i _ start told (cell_at c.note.new.self) a.inside a.is held.told

@@ -5,22 +5,22 @@ use Rattle.av1_tile.proofs.walk.reconstruct_block.Goals as goal
 pub predict_block-requires-clause-fits : goal.predict_block-requires-clause-fits
 predict_block-requires-clause-fits g c =
     let a = c.args in
-    block_inside a.header.now a.block.now a.at a.triples.now a.plane.now c.requires.stores.place c.requires.fits c.requires.found
+    block_inside a.header.now a.block.now a.at a.triples.now a.plane.now c.requires.held.stores.place c.requires.fits c.requires.found
 
 pub add_block-requires-clause-stores : goal.add_block-requires-clause-stores
 add_block-requires-clause-stores g c =
     let a = c.args in
     between_stores g.T.Pixel.num g.T.Pixel.pixel g.met.T.Pixel.num_of_pixel g.met.T.Pixel.pixel_of_num a.header.now a.block.now a.at c.requires.place
     a.buffers.now.luma.items a.plane.now c.predict_block.new.plane c.predict_block.ensures.walked
-    c.requires.stores (deep _ c.requires.frame.depth)
+    c.requires.held.stores (deep _ c.requires.held.frame.depth)
 
 pub add_block-requires-clause-fits : goal.add_block-requires-clause-fits
 add_block-requires-clause-fits g c =
     let a = c.args in
-    let inside = block_inside a.header.now a.block.now a.at a.triples.now a.plane.now c.requires.stores.place c.requires.fits c.requires.found in
+    let inside = block_inside a.header.now a.block.now a.at a.triples.now a.plane.now c.requires.held.stores.place c.requires.fits c.requires.found in
     between_inside g.T.Pixel.num g.T.Pixel.pixel g.met.T.Pixel.num_of_pixel g.met.T.Pixel.pixel_of_num a.header.now a.block.now a.at c.requires.place
     a.buffers.now.luma.items a.plane.now c.predict_block.new.plane c.predict_block.ensures.walked
-    c.requires.stores (deep _ c.requires.frame.depth) inside
+    c.requires.held.stores (deep _ c.requires.held.frame.depth) inside
 
 pub returns-clause-walked : goal.returns-clause-walked
 returns-clause-walked g c =
@@ -35,16 +35,14 @@ returns-clause-counted g c =
     block_counted a.header.now a.block.now a.at a.buffers.now.edges.prepared c.predict_block.new.buffers.edges.prepared a.triples.now c.requires.found
     c.predict_block.ensures.counted
 
-pub returns-clause-stores : goal.returns-clause-stores
-returns-clause-stores g c =
+pub returns-clause-kept : goal.returns-clause-kept
+returns-clause-kept g c =
     let a = c.args in
-    after_stores g.T.Pixel.num g.T.Pixel.pixel g.met.T.Pixel.num_of_pixel g.met.T.Pixel.pixel_of_num a.header.now a.block.now a.at c.requires.place
-    a.buffers.now.luma.items a.plane.now c.predict_block.new.plane c.predict_block.ensures.walked
-    a.triples.now c.add_block.new.plane c.add_block.ensures c.requires.stores (deep _ c.requires.frame.depth)
-
-pub returns-clause-config : goal.returns-clause-config
-returns-clause-config g c =
-    let a = c.args in
-    after_layout g.T.Pixel.num g.T.Pixel.pixel g.met.T.Pixel.num_of_pixel g.met.T.Pixel.pixel_of_num a.header.now a.block.now a.at c.requires.place
-    a.buffers.now.luma.items a.plane.now c.predict_block.new.plane c.predict_block.ensures.walked
-    a.triples.now c.add_block.new.plane c.add_block.ensures
+    record {
+      stores = after_stores g.T.Pixel.num g.T.Pixel.pixel g.met.T.Pixel.num_of_pixel g.met.T.Pixel.pixel_of_num a.header.now a.block.now a.at c.requires.place
+          a.buffers.now.luma.items a.plane.now c.predict_block.new.plane c.predict_block.ensures.walked
+          a.triples.now c.add_block.new.plane c.add_block.ensures c.requires.held.stores (deep _ c.requires.held.frame.depth);
+      config = after_layout g.T.Pixel.num g.T.Pixel.pixel g.met.T.Pixel.num_of_pixel g.met.T.Pixel.pixel_of_num a.header.now a.block.now a.at c.requires.place
+          a.buffers.now.luma.items a.plane.now c.predict_block.new.plane c.predict_block.ensures.walked
+          a.triples.now c.add_block.new.plane c.add_block.ensures;
+    }

@@ -24,7 +24,7 @@ loop-n-init g c =
     record {
       walked = λ value. fold_joined_none (fast_in g.T.Pixel.num g.T.Pixel.pixel (with_header h value) block.plane luma) a.plane.now steps;
       counted = fold_joined_none edges_in a.buffers.now.edges.prepared steps;
-      stores = c.requires.stores;
+      stores = c.requires.held.stores;
       config = refl;
       luma = refl;
       within = omega arith;
@@ -82,8 +82,8 @@ loop-n-preserved g c =
                 (run_is_own n all at count run),
             ap (λ (b : _). b.edges.prepared) w.buffers-is ∙ one.counted ∙ ap (λ (m : ℕ). fold edges_in edges (steps_at h block own m)) number
                 ∙ own_edges h block own all n edges,
-            subst (Stores g.T.Pixel.num h block.plane) (sym w.plane-is) one.stores,
-            ap (λ (p : Plane _). p.plane_cfg) w.plane-is ∙ one.config,
+            subst (Stores g.T.Pixel.num h block.plane) (sym w.plane-is) one.kept.stores,
+            ap (λ (p : Plane _). p.plane_cfg) w.plane-is ∙ one.kept.config,
             ap (λ (b : _). b.luma.items) w.buffers-is ∙ one.luma,
           )
       | in_default w ↦

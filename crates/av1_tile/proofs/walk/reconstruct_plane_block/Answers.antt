@@ -10,44 +10,51 @@ use Rattle.av1_tile.proofs.Lifts.{whole_steps_same}
 use Rattle.av1_tile.proofs.walk.reconstruct_plane_block.Goals as goal
 
 pub predict_whole-requires-clause-depth : goal.predict_whole-requires-clause-depth
-predict_whole-requires-clause-depth g c = omega (arith, c.requires.references.1.settings.depth, c.requires.depth)
+predict_whole-requires-clause-depth g c = omega (arith, c.requires.frame.references.1.settings.depth, c.requires.frame.depth)
 
 pub predict_whole-requires-clause-fits : goal.predict_whole-requires-clause-fits
 predict_whole-requires-clause-fits g c =
     let a = c.args in
-    whole_inside a.header.now a.block.now a.triples.now a.plane.now c.requires.stores.place c.requires.fits
+    whole_inside a.frame.now.header.now a.block.now a.triples.now a.plane.now c.requires.stores.place c.requires.fits
 
 pub predict_whole-requires-clause-references : goal.predict_whole-requires-clause-references
-predict_whole-requires-clause-references g c = (with_header c.args.header.now c.requires.references.0, (c.requires.references.1, c.requires.fits.prediction))
+predict_whole-requires-clause-references g c =
+    let own = c.requires.frame.references in (with_header c.args.frame.now.header.now own.0, (own.1, c.requires.fits.prediction))
 
-pub reconstruct_blocks-requires-clause-stores : goal.reconstruct_blocks-requires-clause-stores
-reconstruct_blocks-requires-clause-stores g c =
+pub reconstruct_blocks-requires-clause-held : goal.reconstruct_blocks-requires-clause-held
+reconstruct_blocks-requires-clause-held g c =
     let a = c.args in
-    let plan = with_header a.header.now c.requires.references.0 in
-    whole_between g.T.Pixel.num g.T.Pixel.pixel g.met.T.Pixel.num_of_pixel g.met.T.Pixel.pixel_of_num plan a.fi.now c.requires.references.1 a.block.now
-    c.requires.plane c.requires.fits.prediction
-    a.plane.now c.predict_whole.new.plane (c.predict_whole.ensures plan c.requires.references.1 c.requires.fits.prediction) c.requires.stores
+    let own = c.requires.frame.references in
+    let plan = with_header a.frame.now.header.now own.0 in
+    record {
+      frame = c.requires.frame.header;
+      depth = c.requires.frame.depth;
+      stores = whole_between g.T.Pixel.num g.T.Pixel.pixel g.met.T.Pixel.num_of_pixel g.met.T.Pixel.pixel_of_num plan a.frame.now.fi.now own.1 a.block.now
+          c.requires.plane c.requires.fits.prediction a.plane.now c.predict_whole.new.plane
+          (c.predict_whole.ensures plan own.1 c.requires.fits.prediction) c.requires.stores;
+    }
 
 pub reconstruct_blocks-requires-clause-fits : goal.reconstruct_blocks-requires-clause-fits
 reconstruct_blocks-requires-clause-fits g c =
     let a = c.args in
-    let plan = with_header a.header.now c.requires.references.0 in
+    let own = c.requires.frame.references in
+    let plan = with_header a.frame.now.header.now own.0 in
     let laid =
-    whole_layout g.T.Pixel.num g.T.Pixel.pixel g.met.T.Pixel.num_of_pixel g.met.T.Pixel.pixel_of_num plan a.fi.now c.requires.references.1 a.block.now
+    whole_layout g.T.Pixel.num g.T.Pixel.pixel g.met.T.Pixel.num_of_pixel g.met.T.Pixel.pixel_of_num plan a.frame.now.fi.now own.1 a.block.now
     c.requires.plane c.requires.fits.prediction
-    a.plane.now c.predict_whole.new.plane (c.predict_whole.ensures plan c.requires.references.1 c.requires.fits.prediction) in
+    a.plane.now c.predict_whole.new.plane (c.predict_whole.ensures plan own.1 c.requires.fits.prediction) in
     fits_laid plan.header a.block.now a.triples.now a.plane.now.plane_cfg c.predict_whole.new.plane.plane_cfg laid c.requires.fits
 
 pub returns-then-is_only_predicted-clause-walked : goal.returns-then-is_only_predicted-clause-walked
 returns-then-is_only_predicted-clause-walked g c = λ value serves.
     let a = c.args in
-    let plan = with_header a.header.now value in
+    let plan = with_header a.frame.now.header.now value in
     let block = a.block.now in
     let luma : PlaneBlock → ℕ → ℕ → ℤ = λ _. ac_at (tx_width block.area.tx_size) a.buffers.now.luma.items in
     let step = fast_in g.T.Pixel.num g.T.Pixel.pixel plan block.plane luma in
     let between = c.predict_whole.new.plane in
     let stores =
-    whole_between g.T.Pixel.num g.T.Pixel.pixel g.met.T.Pixel.num_of_pixel g.met.T.Pixel.pixel_of_num plan a.fi.now serves block
+    whole_between g.T.Pixel.num g.T.Pixel.pixel g.met.T.Pixel.num_of_pixel g.met.T.Pixel.pixel_of_num plan a.frame.now.fi.now serves block
     c.requires.plane c.requires.fits.prediction a.plane.now between (c.predict_whole.ensures plan serves c.requires.fits.prediction) c.requires.stores in
     all_steps step plan.header block a.triples.now a.plane.now between between
     (c.predict_whole.ensures plan serves c.requires.fits.prediction
@@ -59,29 +66,26 @@ pub returns-then-is_only_predicted-clause-counted : goal.returns-then-is_only_pr
 returns-then-is_only_predicted-clause-counted g c =
     let a = c.args in
     let count = a.buffers.now.edges.prepared in
-    all_steps edges_in a.header.now a.block.now a.triples.now count count count (whole_counted a.block.now count)
-    (none_counted a.block.now a.triples.now (c.is_only_predicted.ensures.whole c.if-is_only_predicted.true) a.header.now count)
+    all_steps edges_in a.frame.now.header.now a.block.now a.triples.now count count count (whole_counted a.block.now count)
+    (none_counted a.block.now a.triples.now (c.is_only_predicted.ensures.whole c.if-is_only_predicted.true) a.frame.now.header.now count)
 
-pub returns-then-is_only_predicted-clause-stores : goal.returns-then-is_only_predicted-clause-stores
-returns-then-is_only_predicted-clause-stores g c =
+pub returns-then-is_only_predicted-clause-kept : goal.returns-then-is_only_predicted-clause-kept
+returns-then-is_only_predicted-clause-kept g c =
     let a = c.args in
-    let plan = with_header a.header.now c.requires.references.0 in
-    whole_between g.T.Pixel.num g.T.Pixel.pixel g.met.T.Pixel.num_of_pixel g.met.T.Pixel.pixel_of_num plan a.fi.now c.requires.references.1 a.block.now
-    c.requires.plane c.requires.fits.prediction
-    a.plane.now c.predict_whole.new.plane (c.predict_whole.ensures plan c.requires.references.1 c.requires.fits.prediction) c.requires.stores
-
-pub returns-then-is_only_predicted-clause-config : goal.returns-then-is_only_predicted-clause-config
-returns-then-is_only_predicted-clause-config g c =
-    let a = c.args in
-    let plan = with_header a.header.now c.requires.references.0 in
-    whole_layout g.T.Pixel.num g.T.Pixel.pixel g.met.T.Pixel.num_of_pixel g.met.T.Pixel.pixel_of_num plan a.fi.now c.requires.references.1 a.block.now
-    c.requires.plane c.requires.fits.prediction
-    a.plane.now c.predict_whole.new.plane (c.predict_whole.ensures plan c.requires.references.1 c.requires.fits.prediction)
+    let own = c.requires.frame.references in
+    let plan = with_header a.frame.now.header.now own.0 in
+    let whole = c.predict_whole.ensures plan own.1 c.requires.fits.prediction in
+    record {
+      stores = whole_between g.T.Pixel.num g.T.Pixel.pixel g.met.T.Pixel.num_of_pixel g.met.T.Pixel.pixel_of_num plan a.frame.now.fi.now own.1 a.block.now
+          c.requires.plane c.requires.fits.prediction a.plane.now c.predict_whole.new.plane whole c.requires.stores;
+      config = whole_layout g.T.Pixel.num g.T.Pixel.pixel g.met.T.Pixel.num_of_pixel g.met.T.Pixel.pixel_of_num plan a.frame.now.fi.now own.1 a.block.now
+          c.requires.plane c.requires.fits.prediction a.plane.now c.predict_whole.new.plane whole;
+    }
 
 pub returns-clause-walked : goal.returns-clause-walked
 returns-clause-walked g c = λ value serves.
     let a = c.args in
-    let plan = with_header a.header.now value in
+    let plan = with_header a.frame.now.header.now value in
     let block = a.block.now in
     let luma : PlaneBlock → ℕ → ℕ → ℤ = λ _. ac_at (tx_width block.area.tx_size) a.buffers.now.luma.items in
     let step = fast_in g.T.Pixel.num g.T.Pixel.pixel plan block.plane luma in
@@ -94,14 +98,19 @@ pub returns-clause-counted : goal.returns-clause-counted
 returns-clause-counted g c =
     let a = c.args in
     let count = a.buffers.now.edges.prepared in
-    all_steps edges_in a.header.now a.block.now a.triples.now count count c.reconstruct_blocks.new.buffers.edges.prepared (whole_counted a.block.now count)
+    all_steps edges_in a.frame.now.header.now a.block.now a.triples.now count count c.reconstruct_blocks.new.buffers.edges.prepared
+    (whole_counted a.block.now count)
     c.reconstruct_blocks.ensures.counted
 
-pub returns-clause-config : goal.returns-clause-config
-returns-clause-config g c =
+pub returns-clause-kept : goal.returns-clause-kept
+returns-clause-kept g c =
     let a = c.args in
-    let plan = with_header a.header.now c.requires.references.0 in
-    c.reconstruct_blocks.ensures.config
-    ∙ whole_layout g.T.Pixel.num g.T.Pixel.pixel g.met.T.Pixel.num_of_pixel g.met.T.Pixel.pixel_of_num plan a.fi.now c.requires.references.1 a.block.now
-    c.requires.plane c.requires.fits.prediction
-    a.plane.now c.predict_whole.new.plane (c.predict_whole.ensures plan c.requires.references.1 c.requires.fits.prediction)
+    let own = c.requires.frame.references in
+    let plan = with_header a.frame.now.header.now own.0 in
+    record {
+      stores = c.reconstruct_blocks.ensures.kept.stores;
+      config = c.reconstruct_blocks.ensures.kept.config
+          ∙ whole_layout g.T.Pixel.num g.T.Pixel.pixel g.met.T.Pixel.num_of_pixel g.met.T.Pixel.pixel_of_num plan a.frame.now.fi.now own.1 a.block.now
+          c.requires.plane c.requires.fits.prediction a.plane.now c.predict_whole.new.plane
+          (c.predict_whole.ensures plan own.1 c.requires.fits.prediction);
+    }

@@ -6,10 +6,14 @@ use Rattle.av1_tile.specs.Walk.{cell_at}
 use Rattle.av1_tile.proofs.PlansOver.{over_counts, over_fits, over_frame, over_serves, over_shows}
 use Rattle.av1_tile.proofs.memory.WalkMemory.reconstruct.Goals as goal
 
-pub reconstruct_leaves-requires-clause-frame : goal.reconstruct_leaves-requires-clause-frame
-reconstruct_leaves-requires-clause-frame g c =
+pub reconstruct_leaves-requires-clause-held : goal.reconstruct_leaves-requires-clause-held
+reconstruct_leaves-requires-clause-held g c =
     let a = c.args in
-    over_frame g.T.Pixel.num a.header.now (leaves_value a.leaves.now) a.fi.now c.requires.plan.0 c.requires.plan.1
+    record {
+      frame = over_frame g.T.Pixel.num a.header.now (leaves_value a.leaves.now) a.fi.now c.requires.plan.0 c.requires.plan.1;
+      depth = c.requires.depth;
+      stores = c.requires.stores;
+    }
 
 pub reconstruct_leaves-requires-clause-fits : goal.reconstruct_leaves-requires-clause-fits
 reconstruct_leaves-requires-clause-fits g c =
@@ -28,7 +32,7 @@ returns-clause-shown g c = λ plan is.
     let leaves = leaves_value a.leaves.now in
     let walk = c.reconstruct_leaves in
     over_shows g.T.Pixel.num h leaves a.fi.now plan is g.T.Pixel.pixel g.met.T.Pixel.num_of_pixel g.met.T.Pixel.pixel_of_num a.planes.now walk.new.planes
-    (cell_at c.lay_out.new.self) c.requires.stores c.requires.superblocks walk.ensures.stores
+    (cell_at c.lay_out.new.self) c.requires.stores c.requires.superblocks walk.ensures.kept.stores
     (walk.ensures.walked plan (over_serves g.T.Pixel.num h leaves a.fi.now plan is))
 
 pub returns-clause-edges : goal.returns-clause-edges
