@@ -1,10 +1,11 @@
 -- What the exit status says, by what the call did.
-use Rattle.std.proofs.Common.{◌≡◌, inl, inr, ℕ, List, Option, Result, Ok, Err, refl, sym, subst}
+use Rattle.std.proofs.Common.{◌≡◌, inl, inr, ℕ, List, Option, Result, Ok, Err, ◌∙◌, refl, sym, subst}
 use Rattle.std.proofs.lemmas.Option.{IfSome_then}
 use Rattle.av1_streams.specs.Tasks.{Cause, read_failed, too_long, refused, write_failed, no_memory, Task, IsRefusal, ErrorTells, Performs, AnswersBytes}
 use Rattle.av1_streams.proofs.Performing.{IsSound}
 use Rattle.av1_streams.proofs.Told.{answers_bytes, any}
-use Rattle.av1_recon.specs.Ends.{answer_status, error_status, EndsWith}
+use Rattle.av1_streams.specs.Tasks.{WritesBytes}
+use Rattle.av1_recon.specs.Ends.{answer_status, error_status, EndsMade, EndsWith, IsDone}
 
 -- statuses of success are none of a failure
 pub record AreApart (IsSuccess : ℕ → Type 0) : Type 0 where
@@ -12,6 +13,10 @@ pub record AreApart (IsSuccess : ℕ → Type 0) : Type 0 where
   pub not_3 : ¬ IsSuccess 3
   pub not_4 : ¬ IsSuccess 4
   pub not_5 : ¬ IsSuccess 5
+
+-- 0 is none
+pub done_apart : AreApart IsDone
+done_apart = record { not_2 = λ h. absurd cc; not_3 = λ h. absurd cc; not_4 = λ h. absurd cc; not_5 = λ h. absurd cc }
 
 -- a write fails only where there is something to write
 no_refusal : {E : Type 0} (O : Type 0) (cause : Cause) (e d : E) → cause ≡ write_failed → ErrorTells {O = O} cause e (Err d) → ⊥
@@ -111,3 +116,39 @@ module _ {O A E S K : Type 0} (IsSuccess : ℕ → Type 0) (apart : AreApart IsS
       subst (EndsWith IsSuccess task left source_faults taken sink_faults source source' sink sink') (sym is) (ok_ends a (done a) (h a) p)
   ends done status (Err e) h is p =
       subst (EndsWith IsSuccess task left source_faults taken sink_faults source source' sink sink') (sym is) (error_ends e (task.cause e) refl p)
+
+-- ---- of a call that reads nothing
+
+module _ {A E K : Type 0} (IsMade : List ℕ → Type 0) (task_cause : E → Cause) (taken : K → Option (List ℕ)) (faults : K → ℕ)
+    (sink sink' : K) (bytes : List ℕ) (made : IsMade bytes) where
+  -- it failed, for this cause
+  error_made : (e : E) (cause : Cause) → task_cause e ≡ cause → WritesBytes {A = A} task_cause taken faults sink sink' bytes (Err e) →
+      EndsMade IsMade taken faults sink sink' (error_status cause)
+  error_made e no_memory is w = record {
+    done = λ h. absurd cc;
+    memory = λ h. (w.unwritten (λ write. absurd cc)).1;
+    write_fault = λ h. absurd cc;
+    no_other = inr (inl refl);
+    complete = λ no_write. inr refl;
+  }
+  error_made e write_failed is w = record {
+    done = λ h. absurd cc;
+    memory = λ h. absurd cc;
+    write_fault = λ h. (w.write_fault is, (bytes, made, w.prefix is));
+    no_other = inr (inr refl);
+    complete = λ no_write. absurd (no_write (w.write_fault is));
+  }
+  error_made e read_failed is w = let memory = (w.unwritten (λ write. absurd cc)).0 in absurd cc
+  error_made e too_long is w = let memory = (w.unwritten (λ write. absurd cc)).0 in absurd cc
+  error_made e refused is w = let memory = (w.unwritten (λ write. absurd cc)).0 in absurd cc
+
+  pub ends_made : (done : A → ℕ) (status : ℕ) (answer : Result A E) → ((a : A) → done a ≡ 0) → status ≡ answer_status task_cause done answer
+      → WritesBytes task_cause taken faults sink sink' bytes answer → EndsMade IsMade taken faults sink sink' status
+  ends_made done status (Ok a) h is w = subst (EndsMade IsMade taken faults sink sink') (sym (is ∙ h a)) (record {
+    done = λ zero. (bytes, made, w.ok);
+    memory = λ no. absurd cc;
+    write_fault = λ no. absurd cc;
+    no_other = inl refl;
+    complete = λ no_write. inl refl;
+  })
+  ends_made done status (Err e) h is w = subst (EndsMade IsMade taken faults sink sink') (sym is) (error_made e (task_cause e) refl w)

@@ -7,6 +7,5 @@ pub mod RowSums
 pub mod Rows
 pub mod SampleBytes
 pub mod SamplesByBytes
-pub mod Statuses
 pub mod Summing
 pub mod WordNumbers

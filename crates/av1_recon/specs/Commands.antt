@@ -1,12 +1,11 @@
 -- The words after the program's name.
-use Rattle.std.specs.Prelude.{ℕ, List, [], ◌∷◌, Option, Some, None, option_and_then, bytes_eq, codes, if◌then◌else◌, ⊤}
+use Rattle.std.specs.Prelude.{◌≡◌, ℕ, List, [], ◌∷◌, Option, Some, None, option_and_then, bytes_eq, codes}
+use Rattle.std.specs.Prelude.{if◌then◌else◌, ⊤}
 use Rattle.av1_generate.specs.Generator.{plan_bytes}
-use Rattle.av1_tile.specs.Output.{planes_of}
 use Rattle.av1_recon.specs.declared.command.Command.{Command}
 use Rattle.av1_recon.specs.declared.command.Command.TheVariants.{Reconstruct, Make, Sum}
 use Rattle.av1_recon.specs.Made.{AreMadeSums}
 use Rattle.av1_recon.specs.Numbers.{number_of}
-use Rattle.av1_recon.specs.Outcomes.{Outputs}
 
 -- the command of this name that has a number
 unfoldable pub named : List ℕ → ℕ → Option Command
@@ -27,10 +26,9 @@ ReadsNothing (Some (Make number)) = ⊤
 ReadsNothing (Some (Sum number)) = ⊤
 ReadsNothing None = ⊥
 
--- P holds of what the command writes where all goes well: the planes of the plan that the source told, the plan of its
--- number, or the four lines on that plan
-abbrev pub Written : Option Command → Option (List ℕ) → (List ℕ → Type 0) → Type 0
-Written (Some Reconstruct) left P = Outputs planes_of left P
-Written (Some (Make number)) left P = P (plan_bytes number)
-Written (Some (Sum number)) left P = (lines : List ℕ) × AreMadeSums number lines × P lines
-Written None left P = ⊥
+-- what a command that reads nothing writes where all goes well: the plan of its number, or the four lines on that plan
+abbrev pub IsMade : Option Command → List ℕ → Type 0
+IsMade (Some Reconstruct) bytes = ⊥
+IsMade (Some (Make number)) bytes = bytes ≡ plan_bytes number
+IsMade (Some (Sum number)) bytes = AreMadeSums number bytes
+IsMade None bytes = ⊥

@@ -24,6 +24,10 @@ answer_status cause done (Err e) = error_status (cause e)
 abbrev pub written : Unit {0} → ℕ
 written done = 0
 
+-- the status of success, where there is one
+abbrev pub IsDone : ℕ → Type 0
+IsDone status = status ≡ 0
+
 -- the line for an answer, none for Ok
 abbrev pub answer_line : {A E : Type 0} → (E → List ℕ) → Result A E → List ℕ
 answer_line line (Ok a) = []
@@ -57,3 +61,17 @@ pub record EndsWith {O A E S K : Type 0} (IsSuccess : ℕ → Type 0) (task : Ta
       IsSuccess status ⊎ (status ≡ 3))
   pub refuses : IfSome (left source) (λ bytes. (e : E) → task.HasOutcome bytes (Err e) →
       (status ≡ 2) ⊎ ((status ≡ 3) ⊎ (status ≡ 4)))
+
+-- What the exit status says of a call that reads nothing and writes bytes of which `IsMade` holds.
+pub record EndsMade {K : Type 0} (IsMade : List ℕ → Type 0) (taken : K → Option (List ℕ)) (faults : K → ℕ)
+    (sink sink' : K) (status : ℕ) : Type 0 where
+  -- 0: they were appended.
+  pub done : status ≡ 0 → (bytes : List ℕ) × IsMade bytes × Appends (taken sink) (taken sink') bytes
+  -- 3: memory ran out, and nothing was written.
+  pub memory : status ≡ 3 → sink' ≡ sink
+  -- 5: a write failed, and a prefix of them stands.
+  pub write_fault : status ≡ 5 → FaultCounted (faults sink) (faults sink')
+      × ((bytes : List ℕ) × IsMade bytes × AppendsPrefix (taken sink) (taken sink') bytes)
+  pub no_other : (status ≡ 0) ⊎ ((status ≡ 3) ⊎ (status ≡ 5))
+  -- Without a fault they are written, or memory ran out.
+  pub complete : ¬ FaultCounted (faults sink) (faults sink') → (status ≡ 0) ⊎ (status ≡ 3)

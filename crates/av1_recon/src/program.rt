@@ -1,16 +1,12 @@
 //! All that the program does.
-ghost use Rattle.std.specs.Prelude.{◌≡◌, ◌≢◌, ◌↔◌, ◌⊎◌, ◌≤◌, IsErrOf, IsSome, IfSome, Some, None, Ok, Err, List, ℕ, map, string_bytes};
-ghost use Rattle.std.specs.Io.KnownBytes.{Appends};
-ghost use Rattle.av1_generate.specs.Generator.{plan_bytes};
-ghost use Rattle.av1_streams.specs.Faults.{FaultCounted};
-ghost use Rattle.av1_streams.specs.Streams.{AppendsPrefix};
+ghost use Rattle.std.specs.Prelude.{◌≡◌, ◌↔◌, Some, None, List, ℕ, map, string_bytes};
 ghost use Rattle.av1_recon.specs.Answers.{Says, status_of, line_of, usage};
-ghost use Rattle.av1_recon.specs.Commands.{command_of, ReadsNothing, Written};
-ghost use Rattle.av1_recon.specs.Made.{AreMadeSums};
-ghost use Rattle.av1_recon.specs.Outcomes.{Answer, HasOutcome, Reconstructs};
+ghost use Rattle.av1_recon.specs.Commands.{command_of, IsMade, ReadsNothing};
+ghost use Rattle.av1_recon.specs.Ends.{EndsMade, EndsWith, IsDone};
+ghost use Rattle.av1_recon.specs.Outcomes.{Answer, Reconstructs, plan_task};
 ghost use Rattle.av1_recon.specs.Writing.{Writes};
-ghost use Rattle.av1_recon.specs.declared.command.Command.TheVariants.{Reconstruct, Make, Sum};
-ghost use Rattle.av1_recon.specs.declared.error.ReconError.{ReconError};
+ghost use Rattle.av1_recon.specs.declared.command.Command.TheVariants.{Reconstruct};
+ghost use Rattle.av1_tile.specs.Output.{planes_of};
 
 use crate::answer::{report, say};
 use crate::{Command, Sink, Source, reconstruct_plan, write_made, write_made_sums};
@@ -44,38 +40,17 @@ pub fn run<R: Source, W: Sink, E: Sink>(
     ensures reconstruct { command_of (map string_bytes words.now) ≡ Some Reconstruct → (answer : Answer)
         × Reconstructs R.left R.faults W.taken W.faults source.old source.new out.old out.new answer
         × (result ≡ status_of answer) × Says E.taken E.faults err.old err.new (line_of answer) }
-    ensures make { (number : ℕ) → command_of (map string_bytes words.now) ≡ Some (Make number) → (answer : Answer)
-        × Writes W.taken W.faults out.old out.new (plan_bytes number) answer
-        × (result ≡ status_of answer) × Says E.taken E.faults err.old err.new (line_of answer) }
-    ensures sum { (number : ℕ) → command_of (map string_bytes words.now) ≡ Some (Sum number) → (answer : Answer)
-        × ((lines : List ℕ) × AreMadeSums number lines × Writes W.taken W.faults out.old out.new lines answer)
-        × (result ≡ status_of answer) × Says E.taken E.faults err.old err.new (line_of answer) }
-    // Only the command without words reads.
-    ensures unread { command_of (map string_bytes words.now) ≢ Some Reconstruct → source.new ≡ source.old }
+    ensures made { ReadsNothing (command_of (map string_bytes words.now)) → (source.new ≡ source.old) × ((answer : Answer)
+        × ((bytes : List ℕ) × IsMade (command_of (map string_bytes words.now)) bytes
+        × Writes W.taken W.faults out.old out.new bytes answer)
+        × (result ≡ status_of answer) × Says E.taken E.faults err.old err.new (line_of answer)) }
 
     // What each status says.
-    ensures status_0 { result ≡ 0 → Written (command_of (map string_bytes words.now)) (R.left source.old)
-        (λ written. Appends (W.taken out.old) (W.taken out.new) written) }
     ensures status_1 { (result ≡ 1) ↔ (command_of (map string_bytes words.now) ≡ None) }
-    ensures status_2 { result ≡ 2 → (command_of (map string_bytes words.now) ≡ Some Reconstruct)
-        × IfSome (R.left source.old) (λ bytes. (e : ReconError) × HasOutcome bytes (Err e)) × (out.new ≡ out.old) }
-    ensures status_3 { result ≡ 3 → IsSome (command_of (map string_bytes words.now)) × (out.new ≡ out.old) }
-    ensures status_4 { result ≡ 4 → (command_of (map string_bytes words.now) ≡ Some Reconstruct)
-        × FaultCounted (R.faults source.old) (R.faults source.new) × (out.new ≡ out.old) }
-    ensures status_5 { result ≡ 5 → FaultCounted (W.faults out.old) (W.faults out.new)
-        × Written (command_of (map string_bytes words.now)) (R.left source.old)
-        (λ written. AppendsPrefix (W.taken out.old) (W.taken out.new) written) }
-    ensures no_other { result ≤ 5 }
-
-    // Without a fault a valid plan gives status 0, or memory ran out, and so does every number; and bytes that are
-    // refused never give status 0.
-    ensures complete { command_of (map string_bytes words.now) ≡ Some Reconstruct → ¬ FaultCounted (R.faults source.old) (R.faults source.new)
-        → ¬ FaultCounted (W.faults out.old) (W.faults out.new)
-        → IfSome (R.left source.old) (λ bytes. (planes : List ℕ) → HasOutcome bytes (Ok planes) → (result ≡ 0) ⊎ (result ≡ 3)) }
-    ensures complete_made { ReadsNothing (command_of (map string_bytes words.now)) → ¬ FaultCounted (W.faults out.old) (W.faults out.new)
-        → (result ≡ 0) ⊎ (result ≡ 3) }
-    ensures refused { command_of (map string_bytes words.now) ≡ Some Reconstruct
-        → IfSome (R.left source.old) (λ bytes. (e : ReconError) → HasOutcome bytes (Err e) → (result ≡ 2) ⊎ ((result ≡ 3) ⊎ (result ≡ 4))) }
+    ensures plan_ends { command_of (map string_bytes words.now) ≡ Some Reconstruct →
+        EndsWith IsDone (plan_task planes_of) R.left R.faults W.taken W.faults source.old source.new out.old out.new result }
+    ensures made_ends { ReadsNothing (command_of (map string_bytes words.now)) →
+        EndsMade (IsMade (command_of (map string_bytes words.now))) W.taken W.faults out.old out.new result }
 {
     match Command::from_words(words) {
         Some(Command::Reconstruct) => report(reconstruct_plan(alloc, source, out), err),

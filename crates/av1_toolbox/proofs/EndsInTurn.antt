@@ -7,7 +7,7 @@ use Rattle.av1_sequence.specs.declared.error.SequenceError.TheVariants as errors
 use Rattle.av1_sequence.specs.Files.{Answer, HasOutcome}
 use Rattle.av1_sequence.specs.Tasks.{ErrorAnswers, IsBeforeFrames, PerformsInTurn, cause_of}
 use Rattle.av1_streams.specs.Tasks.{Cause, read_failed, too_long, refused, write_failed, no_memory}
-use Rattle.av1_streams.proofs.Performing.{any}
+use Rattle.av1_streams.proofs.Told.{any}
 use Rattle.av1_recon.specs.Ends.{error_status, answer_status, written}
 use Rattle.av1_toolbox.specs.EndsInTurn.{EndsInTurn}
 

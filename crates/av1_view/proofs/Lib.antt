@@ -3,4 +3,3 @@ pub mod Shorter
 pub mod Bared
 pub mod Pages
 pub mod TraceOutcomes
-pub mod Ends

@@ -5,4 +5,3 @@ pub mod Shown
 pub mod TracePages
 pub mod Commands
 pub mod Answers
-pub mod Ends

@@ -1,12 +1,11 @@
 //! All that the program does.
 ghost use Rattle.std.specs.Prelude.{◌≡◌, ◌↔◌, Some, None, map, string_bytes};
 ghost use Rattle.av1_recon.specs.Answers.{Says, line_of, status_of};
-ghost use Rattle.av1_recon.specs.Ends.{EndsWith};
+ghost use Rattle.av1_recon.specs.Ends.{EndsWith, IsDone};
 ghost use Rattle.av1_recon.specs.Outcomes.{Answer, Converts, plan_task};
 ghost use Rattle.av1_streams.specs.Tasks.{Performs};
 ghost use Rattle.av1_view.specs.Answers.{TraceAnswer, trace_line, trace_status, usage};
 ghost use Rattle.av1_view.specs.Commands.{command_of};
-ghost use Rattle.av1_view.specs.Ends.{IsSuccess};
 ghost use Rattle.av1_view.specs.Shown.{plan_page};
 ghost use Rattle.av1_view.specs.TracePages.{trace_page_task};
 ghost use Rattle.av1_view.specs.declared.command.Command.TheVariants.{Plan, Trace};
@@ -54,9 +53,9 @@ pub fn run_view<R: Source, W: Sink, E: Sink>(
     // What each status says.
     ensures status_1 { (result ≡ 1) ↔ (command_of (map string_bytes words.now) ≡ None) }
     ensures plan_ends { command_of (map string_bytes words.now) ≡ Some Plan →
-        EndsWith IsSuccess (plan_task plan_page) R.left R.faults W.taken W.faults source.old source.new out.old out.new result }
+        EndsWith IsDone (plan_task plan_page) R.left R.faults W.taken W.faults source.old source.new out.old out.new result }
     ensures trace_ends { command_of (map string_bytes words.now) ≡ Some Trace →
-        EndsWith IsSuccess trace_page_task R.left R.faults W.taken W.faults source.old source.new out.old out.new result }
+        EndsWith IsDone trace_page_task R.left R.faults W.taken W.faults source.old source.new out.old out.new result }
 {
     match Command::from_words(words) {
         Some(Command::Plan) => report(view_plan(alloc, source, out), err),
