@@ -25,13 +25,9 @@ pub refused_part : (k : Kept) (head : FrameHead) (part : List ℕ) (e : FrameErr
 refused_part k head part errors.TooLarge short why = absurd why
 refused_part k head part (errors.Malformed at) short why =
     (short, behind_refused (frame_header k.frames k.slots head) (frame_references k.slots head) part at why)
-refused_part k head part (errors.Invalid leaf kind) short (leaves, text, fault) = (short, (plan_over k head leaves, (part_text k head part leaves text, fault)))
+refused_part k head part (errors.Invalid leaf kind) short (leaves, (text, fault)) =
+    (short, (plan_over k head leaves, (part_text k head part leaves text, fault)))
 refused_part k head part errors.Memory short why = short
-
--- running out of memory
-pub refused_memory : (k : Kept) (head : FrameHead) (part : List ℕ) (e : FrameError) → plan_bytes k.frames k.slots head part ≤ most_bytes → e ≡ errors.Memory →
-    Refuses k head part e
-refused_memory k head part e short is = rw is short
 
 -- a part that spells a valid plan
 pub accepts : (k k' : Kept) (head : FrameHead) (part : List ℕ) (plan : PlanValue) → plan_bytes k.frames k.slots head part ≤ most_bytes →

@@ -12,7 +12,8 @@ use Rattle.av1_streams.specs.Streams.{Takes, TakesAtMost, max_plan_bytes}
 use Rattle.av1_streams.specs.Tasks.{Cause, too_long, refused, read_failed, write_failed, no_memory, ErrorLeaves}
 use Rattle.av1_streams.specs.declared.read.ReadError.{ReadError}
 use Rattle.av1_streams.specs.declared.read.ReadError.TheVariants as read_errors
-use Rattle.av1_streams.proofs.Performing.{any, is_err}
+use Rattle.av1_streams.proofs.Performing.{is_err}
+use Rattle.av1_streams.proofs.Told.{any}
 use Rattle.av1_streams.proofs.Prefixes.{AppendsPrefix-first}
 use Rattle.av1_streams.proofs.Reading.{AreReadWhole, read_err}
 use Rattle.av1_sequence.specs.declared.error.SequenceError.{SequenceError}

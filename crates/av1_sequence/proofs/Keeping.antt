@@ -1,7 +1,6 @@
 -- A frame that is kept at a free place, and the slots that show it.
 use Rattle.std.proofs.Common.{ℕ, zero, suc, ◌<◌, ◌≡◌, ◌≢◌, ◌∙◌, true, false, Bool, List, length, Option, Some, None, refl, ap, sym, subst, arith, inl, inr}
-use Rattle.std.proofs.Common.{◌×◌, IfSome}
-use Rattle.std.proofs.Common.{slice_index_or, is_some, if◌then◌else◌}
+use Rattle.std.proofs.Common.{IfSome, slice_index_or, is_some, if◌then◌else◌}
 use Rattle.std.specs.Prelude.{slice_set}
 use Rattle.std.specs.Option.{option_map}
 use Rattle.std.proofs.lemmas.List.{get_or-set_other, get_or-set_same, length-set}

@@ -14,7 +14,7 @@ use Rattle.av1_frame.specs.declared.plane.Plane.{Plane}
 use Rattle.av1_frame.specs.declared.slots.Slot.{Slot}
 use Rattle.av1_frame.specs.Frames.{plane_of, slot_plane}
 use Rattle.av1_inter.specs.Reference.{slot_of as place_named}
-use Rattle.av1_lists.proofs.Lists.{by_index-same, get_or-by_index}
+use Rattle.av1_lists.proofs.Lists.{get_or-by_index}
 use Rattle.av1_plan.specs.declared.header.Header.{Header}
 use Rattle.av1_plan.specs.Geometry.{has_slot}
 use Rattle.av1_plan.specs.Plan.{LeafValue, PlanValue, reference_of}
@@ -175,30 +175,23 @@ keeps_settings h fi new places kept depth keeps = record {
 }
 
 -- nothing stands at a place of a list of none
-nothing_there : {X : Type 0} (n i : ℕ) → slice_index_or (replicate n (None {A = X})) i None ≡ None
-nothing_there n i = elim (cases_lt i n) [
-  | inl b ↦ get_or-replicate n i None None b
-  | inr b ↦ get_or_past (replicate n None) i None (omega (arith, length-replicate n (None {A = X}), b))
+nothing_there : {X : Type 0} (n i : ℕ) (xs : List (Option X)) → xs ≡ replicate n None → slice_index_or xs i None ≡ None
+nothing_there {X} n i xs empty = elim (cases_lt i n) [
+  | inl b ↦ ap (λ (ys : List (Option X)). slice_index_or ys i None) empty ∙ get_or-replicate n i None None b
+  | inr b ↦ (let count : length xs ≡ n = ap length empty ∙ length-replicate n None in get_or_past xs i None (omega (arith, count, b)))
 ]
 
 -- no frames
-pub keeps_none : (h : Header) (fi : FrameInvariants ℕ) (places : List (Option ℕ)) → AreFrames h → fi.bit_depth ≡ h.depth → length fi.slots ≡ 8 →
-    fi.slots ≡ replicate 8 None → places ≡ replicate 8 None → KeepsFrames h fi places
-keeps_none h fi places is depth count empty none = record {
+pub keeps_none : (h : Header) (fi : FrameInvariants ℕ) (places : List (Option ℕ)) → AreFrames h → fi.bit_depth ≡ h.depth → fi.slots ≡ replicate 8 None →
+    places ≡ replicate 8 None → KeepsFrames h fi places
+keeps_none h fi places is depth empty none = record {
   frame = is;
   depth = depth;
-  count = count;
+  count = ap length empty;
   eight = ap length none;
-  kept = λ s place lt e.
-      absurd (none-some place (sym (get_or-replicate 8 s None None lt) ∙ sym (ap (λ (ps : List (Option ℕ)). slice_index_or ps s None) none) ∙ e));
-  again = λ place t e.
-      absurd (none-some t (sym (nothing_there 8 place) ∙ sym (ap (λ (ts : List (Option (Slot ℕ))). slice_index_or ts place None) empty) ∙ e));
+  kept = λ s place lt e. absurd (none-some place (sym (nothing_there 8 s places none) ∙ e));
+  again = λ place t e. absurd (none-some t (sym (nothing_there 8 place fi.slots empty) ∙ e));
 }
-
-pub none_shown : (h : Header) (fi : FrameInvariants ℕ) (places : List (Option ℕ)) → places ≡ replicate 8 None → slots_shown h fi places ≡ replicate 8 None
-none_shown h fi places none =
-    by_index-same 8 (λ s. shown_in h fi (slice_index_or places s None)) (λ s. None)
-    (λ s lt. ap (shown_in h fi) (ap (λ (ps : List (Option ℕ)). slice_index_or ps s None) none ∙ get_or-replicate 8 s None None lt))
 
 -- the settings serve a plan with this header and these references
 pub serves_plan : (h : Header) (fi new : FrameInvariants ℕ) (places : List (Option ℕ)) (head : FrameHead) → KeepsFrames h fi places → IsHead head →

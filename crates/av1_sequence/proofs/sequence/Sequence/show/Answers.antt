@@ -40,19 +40,19 @@ invariant_of-self-inside-then-head-eq0 c = (
 
 pub invariant_of-self-inside-else-head-eq0 : goal.invariant_of-self-inside-else-head-eq0
 invariant_of-self-inside-else-head-eq0 c = (
-  room_still c.self.inside.pictures.header c.keep.new.self.header c.self.inside.memory c.reconstruct.new.self
-      (c.keep.ensures.header ∙ c.set_head.ensures.header) c.reconstruct.ensures.cells c.self.inside.room,
+  room_still c.self.inside.pictures.header c.keep-place.new.self.header c.self.inside.memory c.reconstruct.new.self
+      (c.keep-place.ensures.header ∙ c.set_head.ensures.header) c.reconstruct.ensures.cells c.self.inside.room,
   (
-    ready_again c.set_head.new.self.header c.keep.new.self.header c.keep.result.1 c.keep.ensures.header c.keep.ensures.free,
+    ready_again c.set_head.new.self.header c.keep-place.new.self.header c.keep-place.result.1 c.keep-place.ensures.header c.keep-place.ensures.free,
     (
-      (λ e. not_apart c.keep.result.0 e),
-      ((λ place e. placed_there c.keep.new.self.header c.keep.new.self.fi c.keep.result.0 place c.keep.ensures.kept e), tt),
+      (λ e. not_apart c.keep-place.result.0 e),
+      ((λ place e. placed_there c.keep-place.new.self.header c.keep-place.new.self.fi c.keep-place.result.0 place c.keep-place.ensures.kept e), tt),
     ),
   ),
 )
 
-pub keep-requires-clause-ready : goal.keep-requires-clause-ready
-keep-requires-clause-ready c =
+pub keep-place-requires-clause-ready : goal.keep-place-requires-clause-ready
+keep-place-requires-clause-ready c =
     subst (λ (g : Header). AreReady g c.reconstruct.new.planes) (sym c.set_head.ensures.header)
     (ready_still c.args.self.now c.self.inside c.self.view_is c.args.head.now c.args.header.now c.in_ok-planes.planes c.reconstruct.new.planes c.requires.header
     c.in_ok-planes.ensures.ready c.reconstruct.ensures.stores c.reconstruct.ensures.layout)
@@ -75,7 +75,8 @@ returns-else-head-eq0-clause-accepted c =
     let walked =
     plan_is_over c.args.self.now c.self.inside c.self.view_is c.args.head.now c.args.header.now leaves set.fi c.requires.header c.requires.spelled
     c.requires.valid c.set_head.ensures.serves in
-    kept_accepted c.args.self.now c.self.inside c.self.view_is c.args.head.now leaves set.header c.keep.new.self.header set.fi c.keep.new.self.fi set.places
-    c.keep.new.self.places c.keep.result.0 c.reconstruct.new.planes
-    c.set_head.ensures.header c.keep.ensures.header c.set_head.ensures.slots c.keep.ensures.slots c.keep.ensures.shown
+    kept_accepted c.args.self.now c.self.inside c.self.view_is c.args.head.now leaves set.header c.keep-place.new.self.header set.fi
+    c.keep-place.new.self.fi set.places
+    c.keep-place.new.self.places c.keep-place.result.0 c.reconstruct.new.planes
+    c.set_head.ensures.header c.keep-place.ensures.header c.set_head.ensures.slots c.keep-place.ensures.slots c.keep-place.ensures.shown
     (c.reconstruct.ensures.shown (plan_over c.args.self.now c.args.head.now leaves) walked)
