@@ -246,7 +246,7 @@ typedef struct {
  * Answers AV1_DONE, AV1_BAD_SIZE (a side of the block) or AV1_BAD_AREA (the plane has no samples, or it or the block's place is past 65,536). */
 uint32_t av1_motion_place(av1_moved_place *place, const av1_motion_plane *plane, const av1_moved_block *block);
 
-/* Predicts a block from one reference of samples of 8 bits that has no margins: the AV1 specification's "Block inter prediction process". Each
+/* Predicts a block from one reference of samples of 8 bits that has no pads: the AV1 specification's "Block inter prediction process". Each
  * sample of the block's rectangle becomes that of the block, moved by the vector. Only visible samples of the plane are read; past a side each
  * is the nearest of these. It takes no memory.
  *   dst .. dst_y         as in av1_put_8tap_8

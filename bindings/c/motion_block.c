@@ -70,8 +70,8 @@ static void places(void) {
     CHECK(place.x == 64 + 3 && place.y == -8 - 4);
 }
 
-/* A block that a vector moves past the sides of a plane without margins, beside one that is read from pads. */
-static void blocks_without_margins(void) {
+/* A block that a vector moves past the sides of a plane without pads, beside one that is read from pads. */
+static void blocks_without_pads(void) {
     enum { WIDE = 6, HIGH = 5, PAD = 11, ROW = WIDE + 2 * PAD };
     uint8_t bare[WIDE * HIGH], padded[ROW * (HIGH + 2 * PAD)], one[8], other[8], window[11 * 9];
     int16_t values[8], others[8];
@@ -173,7 +173,7 @@ int main(void) {
     moved_blocks();
     sharp_blocks();
     places();
-    blocks_without_margins();
+    blocks_without_pads();
     averaged_blocks();
     refused_blocks();
     blocks_of_16_bits();

@@ -21,10 +21,10 @@ statement first, chapter 9.
 > and `+ℤ`, `-ℤ`, `*ℤ` compute. `x ∷ xs` is a `List` that begins with x, `[]` the empty one, `xs ++ ys` one behind the
 > other. `Some x` or `None` is an `Option`, `Ok x` or `Err e` a `Result`, `p.0` and `p.1` are the parts of a pair, `a.x`
 > is a field. A test (`==`, `nat_lt`, `&&`) gives a `Bool`, `true` or `false`. A statement (`Type 0`) holds or not:
-> `x ≡ y` says that both are the same, `A × B` is A and B, `A ⊎ B` A or B, `A → B` A implies B, `¬ A` not A,
-> `(x : A) → B` B for every x, `(x : A) × B` B for some x; `⊤` always holds, `⊥` never. In a format or a `do`, `x ← f`
-> reads what f asks for and calls it x. A struct or enum of Rust counts as its fields, with integers as `ℕ`, or `ℤ`
-> where signed. `elim b [ true ↦ x | false ↦ y ]` chooses by cases.
+> `x ≡ y` says that both are the same, `x ≢ y` that they aren't, `A × B` is A and B, `A ⊎ B` A or B, `A → B` A
+> implies B, `¬ A` not A, `(x : A) → B` B for every x, `(x : A) × B` B for some x; `⊤` always holds, `⊥` never. In a
+> format or a `do`, `x ← f` reads what f asks for and calls it x. A struct or enum of Rust counts as its fields,
+> with integers as `ℕ`, or `ℤ` where signed. `elim b [ true ↦ x | false ↦ y ]` chooses by cases.
 
 What is not defined here is the toolchain's standard library, of which these words occur:
 

@@ -3,13 +3,11 @@
 //!
 //! [`inverse_transform_add_8`] and [`inverse_transform_add_16`] add the residue of a block to samples of the caller. [`put_8tap_8`] and
 //! [`put_8tap_16`] predict a block from one reference; [`prep_8tap_8`], [`prep_8tap_16`], [`mc_avg_8`] and [`mc_avg_16`] prepare blocks of two, and
-//! average them. [`motion_place`] tells where a vector leads, and [`put_moved_8`], [`prep_moved_8`] and
-//! their like for 16 bits follow it in a plane without margins. A reference of 16 bits that is [`Tested`] once is not looked at again by
-//! [`put_tested_16`] and [`prep_tested_16`].
-//! [`predict_intra_8`], [`predict_cfl_8`] and their like for samples of 16 bits predict a block in samples of the caller, and
-//! [`intra_edge_8`] and [`intra_edge_16`] prepare the sides from which they do.
-//! [`cfl_ac_8`] and [`cfl_ac_16`] give the differences of luma from its mean, by which chroma is predicted.
-//! A [`PlanBuilder`] writes a plan field by field to a buffer of the caller.
+//! average them. [`motion_place`] tells where a vector leads, and [`put_moved_8`], [`prep_moved_8`] and their like for 16 bits follow it in a plane
+//! without pads. A reference of 16 bits that is [`Tested`] once is not looked at again by [`put_tested_16`] and [`prep_tested_16`].
+//! [`predict_intra_8`], [`predict_cfl_8`] and their like for samples of 16 bits predict a block in samples of the caller, and [`intra_edge_8`] and
+//! [`intra_edge_16`] prepare the sides from which they do. [`cfl_ac_8`] and [`cfl_ac_16`] give the differences of luma from its mean, by which chroma
+//! is predicted. A [`PlanBuilder`] writes a plan field by field to a buffer of the caller.
 //! [`planes_len`] tells how many bytes the planes of a plan have, and [`reconstruct_plan`] writes them to a buffer of the caller:
 //!
 //! ```

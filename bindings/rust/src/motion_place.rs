@@ -1,4 +1,4 @@
-//! Where a block that a vector moves is read in its reference, and the block from a plane without margins.
+//! Where a block that a vector moves is read in its reference, and the block from a plane without pads.
 
 use crate::{Error, Place, Tested, sys, told};
 
@@ -88,7 +88,7 @@ impl<T: Copy + Default> Default for MotionWindow<T> {
     }
 }
 
-/// Predicts the samples of a block's rectangle, whose first is at `to` of `dst`, from a plane of 8 bits without margins: each becomes that of the
+/// Predicts the samples of a block's rectangle, whose first is at `to` of `dst`, from a plane of 8 bits without pads: each becomes that of the
 /// block, moved by its vector. Only visible samples of the plane are read; past a side each is the nearest of these.
 ///
 /// # Errors
@@ -152,7 +152,7 @@ pub fn put_moved_16(
     })
 }
 
-/// Prepares a block that its vector moves for the average with another, from a plane of 8 bits without margins. The first `height * width` of
+/// Prepares a block that its vector moves for the average with another, from a plane of 8 bits without pads. The first `height * width` of
 /// `values` become those of the block, row by row, as [`prep_8tap_8`](crate::prep_8tap_8) leaves them.
 ///
 /// # Errors

@@ -133,7 +133,7 @@ fn past_the_pads_all_is_the_same() -> Result<(), Error> {
 }
 
 #[test]
-fn deep_planes_need_no_margins() -> Result<(), Error> {
+fn deep_planes_need_no_pads() -> Result<(), Error> {
     let reference = vec![1000; PLANE.stride * (PLANE.y + PLANE.height)];
     let tested = Tested::new(&reference, 10)?;
     let to = Place {
