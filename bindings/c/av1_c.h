@@ -38,9 +38,10 @@ uint32_t av1_c_version(void);
  *           av1_mc_avg_16, av1_motion_place, av1_planes_len, av1_test_samples_16
  *    2,048  av1_builder_leaf, av1_builder_mark, av1_builder_reference
  *    4,096  av1_predict_cfl_8, av1_predict_cfl_16, av1_predict_intra_8, av1_predict_intra_16, av1_prep_8tap_8, av1_prep_8tap_16,
- *           av1_prep_tested_16, av1_put_8tap_8, av1_put_8tap_16, av1_put_tested_16
- *    8,192  av1_inverse_transform_add_8, av1_inverse_transform_add_16, av1_prep_moved_8, av1_prep_moved_16, av1_put_moved_8, av1_put_moved_16
- *   16,384  av1_reconstruct_plan */
+ *           av1_prep_moved_8, av1_prep_moved_16, av1_prep_tested_16, av1_put_8tap_8, av1_put_8tap_16, av1_put_moved_8, av1_put_moved_16,
+ *           av1_put_tested_16
+ *    8,192  av1_inverse_transform_add_8, av1_inverse_transform_add_16
+ *   20,480  av1_reconstruct_plan */
 
 /* Statuses. */
 enum {
