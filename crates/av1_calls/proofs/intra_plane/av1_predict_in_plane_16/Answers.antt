@@ -1,4 +1,4 @@
-use Rattle.std.proofs.Common.{ℕ, ℤ, ◌≡◌, List, inl, inr, refl, length, subst, arith, w16}
+use Rattle.std.proofs.Common.{ℕ, ℤ, ◌≡◌, inl, inr, refl, length, subst, arith, w16}
 use Rattle.std.proofs.lemmas.Int.{to_z-of_z}
 use Rattle.av1_calls.specs.IntraEdges.{PreparesEdge}
 use Rattle.av1_calls.specs.IntraPlanes.{PredictsFromRoom}
