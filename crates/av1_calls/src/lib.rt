@@ -21,9 +21,9 @@
 //! none of the samples that they read may be past the depth. The answer is one of the statuses of `src/status.rt`.
 //! [`DONE`] says that the arguments are good, and what each sample has become (`specs/Transforms.antt`,
 //! `specs/Motions.antt`, `specs/MovedBlocks.antt`, `specs/IntraBlocks.antt`, `specs/IntraEdges.antt`,
-//! `specs/IntraPlanes.antt`), or the place
-//! (`specs/MotionPlaces.antt`), or each difference of luma (`specs/LumaBlocks.antt`). Good arguments give [`DONE`].
-//! Each other status names the first argument that is at fault, and leaves everything as it was.
+//! `specs/IntraPlanes.antt`), or the place (`specs/MotionPlaces.antt`), or each difference of luma
+//! (`specs/LumaBlocks.antt`). Good arguments give [`DONE`]. Each other status names the first argument that is at
+//! fault, and leaves everything as it was.
 #![tactic(auto)]
 
 mod argument;

@@ -1,7 +1,8 @@
 use Rattle.std.proofs.Common.{ℕ, ℤ, ◌≡◌, inl, inr, refl, length, subst, arith, w16}
 use Rattle.std.proofs.lemmas.Int.{to_z-of_z}
 use Rattle.av1_calls.specs.IntraEdges.{PreparesEdge}
-use Rattle.av1_calls.specs.IntraPlanes.{PredictsFromRoom}
+use Rattle.av1_calls.specs.IntraPlanes.{IsEdgeFor, PredictsFromRoom}
+use Rattle.av1_calls.specs.declared.status.TheConstants.{DONE}
 use Rattle.av1_calls.proofs.intra_plane.av1_predict_in_plane_8.Goals as goal
 
 pub predict_prepared-requires : goal.predict_prepared-requires
@@ -27,7 +28,7 @@ returns c =
     let whole : length edge ≡ 257 = omega arith in
     let after = c.predict_prepared.new.samples in
     let answer = c.predict_prepared.result in
-    let ready = (
+    let ready : IsEdgeFor 8 a.plane.now a.block.now a.samples.now edge DONE = (
       _,
       (
         whole,
