@@ -41,7 +41,7 @@ NUMBERS = {"u8": ("uint8_t", 1), "i8": ("int8_t", 1), "u16": ("uint16_t", 2), "i
            "i32": ("int32_t", 4), "usize": ("size_t", 8), "isize": ("ptrdiff_t", 8)}
 # Constants whose name in C isn't AV1_ and their own, and those that aren't in `sys`.
 CONSTANTS_OF_C = {"VERSION": "AV1_C_VERSION"}
-CONSTANTS_OF_CRATE = {"VERSION", "EDGE_SAMPLES", "ANY_MODE", "SHARP", "RAV1E_SHARP"}
+CONSTANTS_OF_CRATE = {"VERSION", "EDGE_SAMPLES", "ANY_MODE", "SHARP", "RAV1E_SHARP", "FROM_LUMA"}
 
 STRUCT = re.compile(r"#\[repr\(C\)\]\n(?:#\[derive[^\n]*\n)?pub struct (\w+) \{\n(.*?)\n\}", re.S)
 FIELD = re.compile(r"^    pub (\w+): ([^\n]+),$", re.M)

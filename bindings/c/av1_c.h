@@ -37,7 +37,8 @@ uint32_t av1_c_version(void);
  *    1,024  av1_builder_begin, av1_builder_finish, av1_c_version, av1_cfl_ac_8, av1_cfl_ac_16, av1_intra_edge_8, av1_intra_edge_16, av1_mc_avg_8,
  *           av1_mc_avg_16, av1_motion_place, av1_planes_len, av1_test_samples_16
  *    2,048  av1_builder_leaf, av1_builder_mark, av1_builder_reference
- *    4,096  av1_predict_cfl_8, av1_predict_cfl_16, av1_predict_intra_8, av1_predict_intra_16, av1_prep_8tap_8, av1_prep_8tap_16,
+ *    4,096  av1_predict_cfl_8, av1_predict_cfl_16, av1_predict_in_plane_8, av1_predict_in_plane_16, av1_predict_intra_8,
+ *           av1_predict_intra_16, av1_prep_8tap_8, av1_prep_8tap_16,
  *           av1_prep_moved_8, av1_prep_moved_16, av1_prep_tested_16, av1_put_8tap_8, av1_put_8tap_16, av1_put_moved_8, av1_put_moved_16,
  *           av1_put_tested_16
  *    8,192  av1_inverse_transform_add_8, av1_inverse_transform_add_16
@@ -368,6 +369,23 @@ uint32_t av1_intra_edge_8(uint8_t *edge, size_t edge_len, const uint8_t *samples
                           const av1_edge_block *block);
 uint32_t av1_intra_edge_16(uint16_t *edge, size_t edge_len, const uint16_t *samples, size_t samples_len, const av1_edge_plane *plane,
                            const av1_edge_block *block);
+
+/* The number of chroma from luma among the modes of an av1_edge_block. */
+#define AV1_FROM_LUMA 13
+
+/* Predicts a transform by its mode in the samples of its plane: prepares its edge as av1_intra_edge_8 does, and predicts it from this as
+ * av1_predict_intra_8 does, or by AV1_FROM_LUMA as av1_predict_cfl_8. All other samples stay. That a side lies in the tile, and how much of the
+ * plane is visible beside the transform, follows from `plane` and from its place. It takes no memory.
+ *   samples, samples_len  the plane's, of which those before the transform in coding order have to be there
+ *   plane, block          as above, but that AV1_ANY_MODE is none
+ *   smooth_neighbour      0: no neighbour has a smooth mode (IsSmooth); not read where the filter is off
+ *   ac, ac_len, alpha     AV1_FROM_LUMA: as in av1_predict_cfl_8; not read in other modes
+ * Answers as av1_intra_edge_8, but never AV1_ROOM_TOO_SMALL. AV1_BAD_AREA comes where the transform does not lie in the samples, too, and
+ * AV1_TOO_SHORT where `ac` has fewer entries than it has samples. */
+uint32_t av1_predict_in_plane_8(uint8_t *samples, size_t samples_len, const av1_edge_plane *plane, const av1_edge_block *block,
+                                uint8_t smooth_neighbour, const int16_t *ac, size_t ac_len, int16_t alpha);
+uint32_t av1_predict_in_plane_16(uint16_t *samples, size_t samples_len, const av1_edge_plane *plane, const av1_edge_block *block,
+                                 uint8_t smooth_neighbour, const int16_t *ac, size_t ac_len, int16_t alpha);
 
 /* A block of chroma that is predicted from luma. */
 typedef struct {

@@ -13,6 +13,7 @@ extern "C" {
 
 HOLDS(AV1_EDGE_SAMPLES == 257);
 HOLDS(AV1_ANY_MODE == 255);
+HOLDS(AV1_FROM_LUMA == 13);
 HOLDS(AV1_SHARP == 2);
 HOLDS(AV1_RAV1E_SHARP == 5);
 HOLDS(AV1_DONE == 0);
@@ -198,6 +199,10 @@ uint32_t av1_predict_cfl_16(uint16_t *, size_t, size_t, size_t, size_t, const av
 uint32_t av1_intra_edge_8(uint8_t *, size_t, const uint8_t *, size_t, const av1_edge_plane *, const av1_edge_block *);
 uint32_t av1_intra_edge_16(uint16_t *, size_t, const uint16_t *, size_t, const av1_edge_plane *, const av1_edge_block
     *);
+uint32_t av1_predict_in_plane_8(uint8_t *, size_t, const av1_edge_plane *, const av1_edge_block *, uint8_t, const
+    int16_t *, size_t, int16_t);
+uint32_t av1_predict_in_plane_16(uint16_t *, size_t, const av1_edge_plane *, const av1_edge_block *, uint8_t, const
+    int16_t *, size_t, int16_t);
 uint32_t av1_cfl_ac_8(int16_t *, size_t, const uint8_t *, size_t, size_t, size_t, size_t, const av1_cfl_block *);
 uint32_t av1_cfl_ac_16(int16_t *, size_t, const uint16_t *, size_t, size_t, size_t, size_t, const av1_cfl_block *,
     size_t);

@@ -139,13 +139,13 @@ static void refusals(av1_intra_block b) {
     CHECK(av1_predict_intra_8(samples, 16, 4, 0, 0, &b, NULL, 0, 0, NULL, 0) == AV1_TOO_SHORT);
 }
 
-/* A block of 4x4 in the middle of a plane of 12x12, predicted straight down from the edge that is prepared there. */
+/* A block of 4x4 in the middle of a plane of 12x12, predicted straight down from the edge that is prepared there: by two calls, and by one. */
 static void from_its_plane(void) {
-    uint8_t samples[144], edge[AV1_EDGE_SAMPLES];
+    uint8_t samples[144], other[144], edge[AV1_EDGE_SAMPLES];
     av1_edge_plane plane = {.stride = 12, .width = 12, .height = 12, .tile_width = 12, .tile_height = 12};
     av1_edge_block at = {.x = 4, .y = 4, .cell_x = 1, .cell_y = 1, .mode = 1, .bit_depth = 8};
     av1_intra_block b = {.mode = 1, .bit_depth = 8, .has_left = 1, .has_above = 1};
-    for (size_t i = 0; i < 144; i++) samples[i] = (uint8_t)i;
+    for (size_t i = 0; i < 144; i++) samples[i] = other[i] = (uint8_t)i;
     CHECK(av1_intra_edge_8(edge, sizeof edge - 1, samples, 144, &plane, &at) == AV1_ROOM_TOO_SMALL);
     CHECK(av1_intra_edge_8(edge, sizeof edge, samples, 143, &plane, &at) == AV1_BAD_AREA);
     CHECK(av1_intra_edge_8(edge, sizeof edge, samples, 144, &plane, &at) == AV1_DONE);
@@ -154,6 +154,29 @@ static void from_its_plane(void) {
         size_t y = i / 12, x = i % 12;
         CHECK(samples[i] == (x >= 4 && x < 8 && y >= 4 && y < 8 ? 36 + x : i));
     }
+    CHECK(av1_predict_in_plane_8(other, 143, &plane, &at, 0, NULL, 0, 0) == AV1_BAD_AREA);
+    CHECK(av1_predict_in_plane_8(other, 144, &plane, &at, 0, NULL, 0, 0) == AV1_DONE);
+    for (size_t i = 0; i < 144; i++) CHECK(other[i] == samples[i]);
+}
+
+/* Chroma of 4x4 from luma in the middle of a plane of one value: without a weight all stays as it is. */
+static void from_luma_in_its_plane(void) {
+    uint16_t samples[144];
+    int16_t ac[16];
+    av1_edge_plane plane = {.stride = 12, .width = 12, .height = 12, .tile_width = 12, .tile_height = 12};
+    av1_edge_block at = {.x = 4, .y = 4, .cell_x = 1, .cell_y = 1, .mode = AV1_FROM_LUMA, .bit_depth = 10};
+    for (size_t i = 0; i < 144; i++) samples[i] = 500;
+    for (size_t i = 0; i < 16; i++) ac[i] = 64;
+    CHECK(av1_predict_in_plane_16(samples, 144, &plane, &at, 0, ac, 15, 8) == AV1_TOO_SHORT);
+    CHECK(av1_predict_in_plane_16(samples, 144, &plane, &at, 0, ac, 16, 0) == AV1_DONE);
+    for (size_t i = 0; i < 144; i++) CHECK(samples[i] == 500);
+    CHECK(av1_predict_in_plane_16(samples, 144, &plane, &at, 0, ac, 16, 8) == AV1_DONE);
+    for (size_t i = 0; i < 144; i++) {
+        size_t y = i / 12, x = i % 12;
+        CHECK(samples[i] == (x >= 4 && x < 8 && y >= 4 && y < 8 ? 508 : 500));
+    }
+    at.mode = AV1_ANY_MODE;
+    CHECK(av1_predict_in_plane_16(samples, 144, &plane, &at, 0, ac, 16, 8) == AV1_BAD_MODE);
 }
 
 int main(void) {
@@ -174,6 +197,7 @@ int main(void) {
                 for (int alpha = -16; alpha <= 16; alpha += 4) from_luma(b, (int16_t)alpha), count++;
             }
     from_its_plane();
+    from_luma_in_its_plane();
     refusals((av1_intra_block){0, 0, 0, 8, 1, 1, 0, 0, 4, 4});
     printf("each of %lu blocks\n", count);
     return 0;

@@ -137,7 +137,7 @@ static void averages(int is_deep) {
     tell(is_deep ? "av1_mc_avg_16" : "av1_mc_avg_8", deepest);
 }
 
-enum intra { INTRA, CFL, EDGE };
+enum intra { INTRA, CFL, EDGE, PLANE };
 
 static uint32_t predict(enum intra kind, int is_deep, const av1_intra_block *block) {
     static const av1_edge_plane plane = {.stride = SIDE, .width = SIDE, .height = SIDE, .tile_width = SIDE, .tile_height = SIDE};
@@ -152,6 +152,10 @@ static uint32_t predict(enum intra kind, int is_deep, const av1_intra_block *blo
         DEEP(av1_predict_cfl_16(plane_16, all, SIDE, at, at, block, other_16, 128, other_16 + 128, 128, first, 64 * 64, 3));
     else if (kind == CFL)
         DEEP(av1_predict_cfl_8(plane_8, all, SIDE, at, at, block, other_8, 128, other_8 + 128, 128, first, 64 * 64, 3));
+    else if (kind == PLANE && is_deep)
+        DEEP(av1_predict_in_plane_16(plane_16, all, &plane, &edge, 1, NULL, 0, 0));
+    else if (kind == PLANE)
+        DEEP(av1_predict_in_plane_8(plane_8, all, &plane, &edge, 1, NULL, 0, 0));
     else if (is_deep)
         DEEP(av1_intra_edge_16(other_16, AV1_EDGE_SAMPLES, plane_16, all, &plane, &edge));
     else
@@ -244,6 +248,7 @@ int main(int count, char **words) {
         intra(INTRA, is_deep, is_deep ? "av1_predict_intra_16" : "av1_predict_intra_8");
         intra(CFL, is_deep, is_deep ? "av1_predict_cfl_16" : "av1_predict_cfl_8");
         intra(EDGE, is_deep, is_deep ? "av1_intra_edge_16" : "av1_intra_edge_8");
+        intra(PLANE, is_deep, is_deep ? "av1_predict_in_plane_16" : "av1_predict_in_plane_8");
     }
     place();
     tests();

@@ -18,6 +18,7 @@ macro_rules! field {
 
 holds!(crate::EDGE_SAMPLES == 257);
 holds!(crate::ANY_MODE == 255);
+holds!(crate::FROM_LUMA == 13);
 holds!(crate::SHARP == 2);
 holds!(crate::RAV1E_SHARP == 5);
 holds!(sys::DONE == 0);
@@ -204,6 +205,10 @@ const _: unsafe extern "C" fn(*mut u8, usize, *const u8, usize, &crate::EdgePlan
     sys::av1_intra_edge_8;
 const _: unsafe extern "C" fn(*mut u16, usize, *const u16, usize, &crate::EdgePlane, &crate::EdgeBlock) -> u32 =
     sys::av1_intra_edge_16;
+const _: unsafe extern "C" fn(*mut u8, usize, &crate::EdgePlane, &crate::EdgeBlock, u8, *const i16, usize, i16) -> u32 =
+    sys::av1_predict_in_plane_8;
+const _: unsafe extern "C" fn(*mut u16, usize, &crate::EdgePlane, &crate::EdgeBlock, u8, *const i16, usize, i16) -> u32
+    = sys::av1_predict_in_plane_16;
 const _: unsafe extern "C" fn(*mut i16, usize, *const u8, usize, usize, usize, usize, &crate::CflBlock) -> u32 =
     sys::av1_cfl_ac_8;
 const _: unsafe extern "C" fn(*mut i16, usize, *const u16, usize, usize, usize, usize, &crate::CflBlock, usize) -> u32 =

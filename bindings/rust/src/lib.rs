@@ -6,8 +6,8 @@
 //! average them. [`motion_place`] tells where a vector leads, and [`put_moved_8`], [`prep_moved_8`] and their like for 16 bits follow it in a plane
 //! without pads. A reference of 16 bits that is [`Tested`] once is not looked at again by [`put_tested_16`] and [`prep_tested_16`].
 //! [`predict_intra_8`], [`predict_cfl_8`] and their like for samples of 16 bits predict a block in samples of the caller, and [`intra_edge_8`] and
-//! [`intra_edge_16`] prepare the sides from which they do. [`cfl_ac_8`] and [`cfl_ac_16`] give the differences of luma from its mean, by which chroma
-//! is predicted. A [`PlanBuilder`] writes a plan field by field to a buffer of the caller.
+//! [`intra_edge_16`] prepare the sides from which they do; [`predict_in_plane_8`] and [`predict_in_plane_16`] do both. [`cfl_ac_8`] and [`cfl_ac_16`]
+//! give the differences of luma from its mean, by which chroma is predicted. A [`PlanBuilder`] writes a plan field by field to a buffer of the caller.
 //! [`planes_len`] tells how many bytes the planes of a plan have, and [`reconstruct_plan`] writes them to a buffer of the caller:
 //!
 //! ```
@@ -38,6 +38,7 @@ mod builder;
 mod declared;
 mod intra;
 mod intra_edge;
+mod intra_plane;
 mod luma;
 mod motion;
 mod motion_place;
@@ -50,6 +51,7 @@ mod version;
 pub use builder::{BuildError, Coefficient, Header, Leaf, Motion, PlanBuilder};
 pub use intra::{IntraBlock, predict_cfl_8, predict_cfl_16, predict_intra_8, predict_intra_16};
 pub use intra_edge::{ANY_MODE, EDGE_SAMPLES, EdgeBlock, EdgePlane, intra_edge_8, intra_edge_16};
+pub use intra_plane::{FROM_LUMA, predict_in_plane_8, predict_in_plane_16};
 pub use luma::{CflBlock, cfl_ac_8, cfl_ac_16};
 pub use motion::{
     MotionBlock, RAV1E_SHARP, SHARP, mc_avg_8, mc_avg_16, prep_8tap_8, prep_8tap_16, put_8tap_8,

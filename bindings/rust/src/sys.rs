@@ -369,6 +369,28 @@ extern "C" {
         block: &EdgeBlock,
     ) -> u32;
 
+    pub fn av1_predict_in_plane_8(
+        samples: *mut u8,
+        samples_len: usize,
+        plane: &EdgePlane,
+        block: &EdgeBlock,
+        smooth_neighbour: u8,
+        ac: *const i16,
+        ac_len: usize,
+        alpha: i16,
+    ) -> u32;
+
+    pub fn av1_predict_in_plane_16(
+        samples: *mut u16,
+        samples_len: usize,
+        plane: &EdgePlane,
+        block: &EdgeBlock,
+        smooth_neighbour: u8,
+        ac: *const i16,
+        ac_len: usize,
+        alpha: i16,
+    ) -> u32;
+
     pub fn av1_cfl_ac_8(
         ac: *mut i16,
         ac_len: usize,

@@ -1,9 +1,10 @@
-//! Blocks that intra modes predict, their edges and luma for their chroma, for C. Each call is that of `av1_calls` of
-//! the same name, which says what it does.
+//! Blocks that intra modes predict, alone and in their plane, their edges and luma for their chroma, for C. Each call
+//! is that of `av1_calls` of the same name, which says what it does.
 ghost use Rattle.std.specs.Prelude.{false, true};
 ghost use Rattle.av1_blocks.specs.declared.predict.PredictionMode.TheVariants as modes;
 ghost use Rattle.av1_calls.specs.IntraBlocks.{Predicts, PredictsBy};
 ghost use Rattle.av1_calls.specs.IntraEdges.{PreparesEdge};
+ghost use Rattle.av1_calls.specs.IntraPlanes.{PredictsInPlane};
 ghost use Rattle.av1_calls.specs.LumaBlocks.{GivesDifferences};
 
 use av1_calls::{CflBlock, EdgeBlock, EdgePlane, IntraBlock};
@@ -102,6 +103,36 @@ pub extern "C" fn av1_intra_edge_16(
     ensures { PreparesEdge 16 (λ n. n) plane.now block.now samples.now edge.old edge.new result }
 {
     av1_calls::av1_intra_edge_16(edge, samples, plane, block)
+}
+
+/// Prepares the edge of a transform and predicts it from this in the samples of its plane, at a depth of 8.
+#[unsafe(no_mangle)]
+pub extern "C" fn av1_predict_in_plane_8(
+    samples: &mut [u8],
+    plane: &EdgePlane,
+    block: &EdgeBlock,
+    smooth_neighbour: u8,
+    ac: &[i16],
+    alpha: i16,
+) -> u32
+    ensures { PredictsInPlane 8 plane.now block.now smooth_neighbour ac.now alpha samples.old samples.new result }
+{
+    av1_calls::av1_predict_in_plane_8(samples, plane, block, smooth_neighbour, ac, alpha)
+}
+
+/// The same for samples of 16 bits.
+#[unsafe(no_mangle)]
+pub extern "C" fn av1_predict_in_plane_16(
+    samples: &mut [u16],
+    plane: &EdgePlane,
+    block: &EdgeBlock,
+    smooth_neighbour: u8,
+    ac: &[i16],
+    alpha: i16,
+) -> u32
+    ensures { PredictsInPlane 16 plane.now block.now smooth_neighbour ac.now alpha samples.old samples.new result }
+{
+    av1_calls::av1_predict_in_plane_16(samples, plane, block, smooth_neighbour, ac, alpha)
 }
 
 /// Gives the differences of luma from its mean over a block of chroma, at a depth of 8.

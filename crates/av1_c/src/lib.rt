@@ -46,7 +46,8 @@ pub use builder::{Builder, BuilderPart};
 pub use fault::Refusal;
 pub use intra_calls::{
     av1_cfl_ac_8, av1_cfl_ac_16, av1_intra_edge_8, av1_intra_edge_16, av1_predict_cfl_8,
-    av1_predict_cfl_16, av1_predict_intra_8, av1_predict_intra_16,
+    av1_predict_cfl_16, av1_predict_in_plane_8, av1_predict_in_plane_16, av1_predict_intra_8,
+    av1_predict_intra_16,
 };
 pub use leaf_numbers::{Coefficient, LeafNumbers, Motion};
 pub use motion_calls::{

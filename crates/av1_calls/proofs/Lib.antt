@@ -6,4 +6,5 @@ pub mod Lanes
 pub mod Motions
 pub mod LumaCalls
 pub mod MotionPlaces
+pub mod PlaneCalls
 pub mod MovedBlocks

@@ -3,6 +3,7 @@ pub mod Motions
 pub mod Transforms
 pub mod IntraBlocks
 pub mod IntraEdges
+pub mod IntraPlanes
 pub mod MotionPlaces
 pub mod MovedBlocks
 pub mod Samples

@@ -247,7 +247,7 @@ fn prediction_of(
 
 /// Predicts a block by an intra mode, where all that the call asks for can be had.
 #[inline(always)]
-fn predict_by<T: Pixel>(
+pub(crate) fn predict_by<T: Pixel>(
     block: IntraBlock,
     mode: PredictionMode,
     samples: &mut [T],
@@ -297,7 +297,7 @@ fn predict_by<T: Pixel>(
 
 /// Predicts a block by the intra mode of its number, where all that the call asks for can be had.
 #[inline(always)]
-fn predict_by_number<T: Pixel>(
+pub(crate) fn predict_by_number<T: Pixel>(
     samples: &mut [T],
     stride: usize,
     x: usize,

@@ -225,9 +225,9 @@ pub(crate) fn halvings(halved: u8) -> usize
     if halved == 0 { 0 } else { 1 }
 }
 
-// How many rows lie in the samples up to the end of the plane.
+/// How many rows lie in the samples up to the end of the plane.
 #[inline(always)]
-fn rows_of(plane: EdgePlane, samples: usize) -> usize
+pub(crate) fn rows_of(plane: EdgePlane, samples: usize) -> usize
     requires { LiesIn plane samples }
     ensures value { result ≡ plane.y + plane.height }
     ensures few { result < 2 ^ 63 }

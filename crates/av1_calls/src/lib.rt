@@ -6,8 +6,9 @@
 //! prepare; [`av1_motion_place`] tells where a vector leads, and [`av1_put_moved_8`], [`av1_prep_moved_8`] and
 //! their like for samples of 16 bits follow it in a plane without margins. [`av1_predict_intra_8`],
 //! [`av1_predict_cfl_8`] and their like for samples of 16 bits predict a block from the sides that they are handed,
-//! [`av1_intra_edge_8`] and [`av1_intra_edge_16`] prepare these sides from a plane, and [`av1_cfl_ac_8`] and
-//! [`av1_cfl_ac_16`] give the differences of luma from its mean, by which chroma is predicted.
+//! [`av1_intra_edge_8`] and [`av1_intra_edge_16`] prepare these sides from a plane, [`av1_predict_in_plane_8`] and
+//! [`av1_predict_in_plane_16`] do both, and [`av1_cfl_ac_8`] and [`av1_cfl_ac_16`] give the differences of luma from
+//! its mean, by which chroma is predicted.
 //!
 //! Above a depth of 8 [`av1_put_tested_16`] and [`av1_prep_tested_16`] do the same as the calls on one reference,
 //! without a look at its samples before they read them, and so do [`av1_put_moved_16`] and [`av1_prep_moved_16`];
@@ -19,14 +20,16 @@
 //! Promised: no call takes memory, and each returns. None asks anything of its arguments, but for those without a look:
 //! none of the samples that they read may be past the depth. The answer is one of the statuses of `src/status.rt`.
 //! [`DONE`] says that the arguments are good, and what each sample has become (`specs/Transforms.antt`,
-//! `specs/Motions.antt`, `specs/MovedBlocks.antt`, `specs/IntraBlocks.antt`, `specs/IntraEdges.antt`),
-//! or the place (`specs/MotionPlaces.antt`), or each difference of luma (`specs/LumaBlocks.antt`). Good arguments give
-//! [`DONE`]. Each other status names the first argument that is at fault, and leaves everything as it was.
+//! `specs/Motions.antt`, `specs/MovedBlocks.antt`, `specs/IntraBlocks.antt`, `specs/IntraEdges.antt`,
+//! `specs/IntraPlanes.antt`), or the place (`specs/MotionPlaces.antt`), or each difference of luma
+//! (`specs/LumaBlocks.antt`). Good arguments give [`DONE`]. Each other status names the first argument that is at
+//! fault, and leaves everything as it was.
 #![tactic(auto)]
 
 mod argument;
 mod intra;
 mod intra_edge;
+mod intra_plane;
 mod luma;
 mod mc_avg;
 mod motion;
@@ -50,6 +53,7 @@ pub use intra::{
 pub use intra_edge::{
     ANY_MODE, EDGE_SAMPLES, EdgeBlock, EdgePlane, av1_intra_edge_8, av1_intra_edge_16,
 };
+pub use intra_plane::{FROM_LUMA, av1_predict_in_plane_8, av1_predict_in_plane_16};
 pub use luma::{CflBlock, av1_cfl_ac_8, av1_cfl_ac_16};
 pub use mc_avg::{av1_mc_avg_8, av1_mc_avg_16};
 pub use motion::{MotionBlock, RAV1E_SHARP, SHARP};
