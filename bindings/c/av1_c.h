@@ -37,10 +37,9 @@ uint32_t av1_c_version(void);
  *    1,024  av1_builder_begin, av1_builder_finish, av1_c_version, av1_cfl_ac_8, av1_cfl_ac_16, av1_intra_edge_8, av1_intra_edge_16, av1_mc_avg_8,
  *           av1_mc_avg_16, av1_motion_place, av1_planes_len, av1_test_samples_16
  *    2,048  av1_builder_leaf, av1_builder_mark, av1_builder_reference
- *    4,096  av1_predict_cfl_8, av1_predict_cfl_16, av1_predict_in_plane_8, av1_predict_in_plane_16, av1_predict_intra_8,
- *           av1_predict_intra_16, av1_prep_8tap_8, av1_prep_8tap_16,
- *           av1_prep_moved_8, av1_prep_moved_16, av1_prep_tested_16, av1_put_8tap_8, av1_put_8tap_16, av1_put_moved_8, av1_put_moved_16,
- *           av1_put_tested_16
+ *    4,096  av1_predict_cfl_8, av1_predict_cfl_16, av1_predict_in_plane_8, av1_predict_in_plane_16, av1_predict_intra_8, av1_predict_intra_16,
+ *           av1_prep_8tap_8, av1_prep_8tap_16, av1_prep_moved_8, av1_prep_moved_16, av1_prep_tested_16, av1_put_8tap_8, av1_put_8tap_16,
+ *           av1_put_moved_8, av1_put_moved_16, av1_put_tested_16
  *    8,192  av1_inverse_transform_add_8, av1_inverse_transform_add_16
  *   20,480  av1_reconstruct_plan */
 
