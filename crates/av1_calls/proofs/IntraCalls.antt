@@ -32,12 +32,6 @@ long_for block other variant v mode m left above ac e f h long =
     (subst (λ (k : PredictionVariant). AreLong other k mode left above ac) (sym f)
     (subst (λ (k : PredictionMode). AreLong other v k left above ac) (sym h) long))
 
--- no depth is below 8
-pub least_depth : (depth : ℕ) → IsDepth depth → 8 ≤ depth
-least_depth depth (inl e) = omega (arith, e)
-least_depth depth (inr (inl e)) = omega (arith, e)
-least_depth depth (inr (inr e)) = omega (arith, e)
-
 -- so few steps give an angle that directional prediction takes
 pub turned_angle : (mode : PredictionMode) (step : ℤ) → unsigned_abs step ≤ 3 → is_directional mode ≡ true
     → unsigned_abs (angle_or_alpha mode (AngleDelta step)) ≢ 90 → unsigned_abs (angle_or_alpha mode (AngleDelta step)) ≢ 180 →

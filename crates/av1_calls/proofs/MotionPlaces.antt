@@ -3,14 +3,8 @@ use Rattle.std.proofs.Common.{ℕ, ◌+◌, ◌<◌, ◌≡◌, ◌∙◌, sym, 
 use Rattle.std.specs.Int.{int_min, int_max}
 use Rattle.std.proofs.lemmas.Int.{ints, clamps}
 use Rattle.av1_frame.specs.Slices.{nearest_visible}
+use Rattle.av1_frame.proofs.Slices.{nearest_same}
 use Rattle.av1_calls.specs.MotionPlaces.{IsPlaceFor, first_read}
-
-nearest_is : (n : ℕ) (z : ℤ) → 0 < n → pos (nearest_visible n z) ≡ int_min (int_max z (pos 0)) (pos n -ℤ pos 1)
-nearest_is n (pos i) h = omega (arith, ints, clamps)
-nearest_is n (negsuc i) h = omega (arith, ints, clamps)
-
-same_number : (a b : ℕ) → pos a ≡ pos b → a ≡ b
-same_number a b e = omega (arith, ints, e)
 
 -- the first column or row that is read, where it is kept within the pads
 abbrev pub kept : (first : ℤ) (side visible : ℕ) → ℤ
@@ -19,11 +13,7 @@ kept first side visible = int_min (int_max first (pos 0 -ℤ pos (side + 7))) (p
 kept_same : (first : ℤ) (side visible c : ℕ) → 0 < visible → c < side + 7 →
     nearest_visible visible (kept first side visible +ℤ pos 3 -ℤ pos 3 +ℤ pos c) ≡ nearest_visible visible (first +ℤ pos c)
 kept_same first side visible c some h =
-    let a = nearest_is visible (kept first side visible +ℤ pos 3 -ℤ pos 3 +ℤ pos c) some in
-    let b = nearest_is visible (first +ℤ pos c) some in
-    let e : int_min (int_max (kept first side visible +ℤ pos 3 -ℤ pos 3 +ℤ pos c) (pos 0)) (pos visible -ℤ pos 1)
-    ≡ int_min (int_max (first +ℤ pos c) (pos 0)) (pos visible -ℤ pos 1) = omega (arith, ints, clamps) in
-    same_number _ _ (a ∙ e ∙ sym b)
+    nearest_same visible (kept first side visible +ℤ pos 3 -ℤ pos 3 +ℤ pos c) (first +ℤ pos c) some (omega (arith, ints, clamps))
 
 pub kept_least : (first : ℤ) (side visible : ℕ) → (pos 0 -ℤ pos (side + 4)) ≤ℤ (kept first side visible +ℤ pos 3)
 kept_least first side visible = omega (arith, ints, clamps)

@@ -80,6 +80,14 @@ corner_rows r w h s p q =
       few = (let short : length (own_rows r) ≤ length (stored r) = grind (arith, places) in omega (arith, short, f.storage.few));
     }
 
+-- so a block at the corner of a region is rows of what it lends
+pub lent_rows : {T : Type 0} (r : PlaneRegionMut T) (w h : ℕ) (a : StoredArea) (rows : List T) → InStorage r → w ≤ r.area.width → h ≤ r.area.height →
+    a ≡ in_rows r.area w h → rows ≡ own_rows r
+    → AreRows r.plane_cfg.stride a (length rows)
+lent_rows {T} r w h a rows s p q b l =
+    subst (λ (c : StoredArea). AreRows r.plane_cfg.stride c (length rows)) (sym b)
+    (subst (λ (xs : List T). AreRows r.plane_cfg.stride (in_rows r.area w h) (length xs)) (sym l) (corner_rows r w h s p q))
+
 -- a region whose rows were lent and painted
 pub rows_painted : {T : Type 0} (r : PlaneRegionMut T) (w h : ℕ) (f : ℕ → ℕ → T → T) → InStorage r → h ≤ r.area.height
     → with_samples r (with_part (r.area.y * r.plane_cfg.stride) (stored r) (paint r.plane_cfg.stride (in_rows r.area w h) f (own_rows r))) ≡ painted r w h f

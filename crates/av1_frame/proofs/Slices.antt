@@ -1,8 +1,9 @@
 -- Samples that are read by signed places.
 use Rattle.std.proofs.Common.{ℕ, List, refl, subst, ◌≤ℤ◌, ◌<ℤ◌, ◌+◌, ◌-◌, ◌*◌, ◌/◌, ◌%◌, ◌<◌, ◌≡◌, length, get_or, drop, map, slice_index, ap, arith, ◌∙◌, sym}
-use Rattle.std.proofs.Common.{ℤ, pos, negsuc, ◌+ℤ◌, unsigned_abs}
+use Rattle.std.proofs.Common.{ℤ, pos, negsuc, ◌+ℤ◌, ◌-ℤ◌, unsigned_abs}
+use Rattle.std.specs.Int.{int_min, int_max}
 use Rattle.std.proofs.lemmas.List.{get_or-map, get_or-drop, places}
-use Rattle.std.proofs.lemmas.Int.{ints}
+use Rattle.std.proofs.lemmas.Int.{ints, clamps}
 use Rattle.std.proofs.lemmas.Nat.{div-mul-add, mod-mul-add}
 use Rattle.av1_frame.specs.declared.plane.PlaneConfig.{PlaneConfig}
 use Rattle.av1_frame.specs.declared.plane.Plane.{Plane}
@@ -34,6 +35,16 @@ nearest_is origin n (negsuc i) h l =
 pub visible_below : (n : ℕ) (z : ℤ) → 0 < n → nearest_visible n z < n
 visible_below n (pos i) h = omega arith
 visible_below n (negsuc i) h = h
+
+-- the nearest visible place, as the machine clamps it
+pub nearest_clamps : (n : ℕ) (z : ℤ) → 0 < n → pos (nearest_visible n z) ≡ int_min (int_max z (pos 0)) (pos n -ℤ pos 1)
+nearest_clamps n (pos i) h = omega (arith, ints, clamps)
+nearest_clamps n (negsuc i) h = omega (arith, ints, clamps)
+
+-- two places that are clamped alike are next to one visible place
+pub nearest_same : (n : ℕ) (y z : ℤ) → 0 < n
+    → int_min (int_max y (pos 0)) (pos n -ℤ pos 1) ≡ int_min (int_max z (pos 0)) (pos n -ℤ pos 1) → nearest_visible n y ≡ nearest_visible n z
+nearest_same n y z h e = let a = nearest_clamps n y h ∙ e ∙ sym (nearest_clamps n z h) in omega (arith, ints, a)
 
 -- column x moved right by c
 moved_right : (origin : ℕ) (x : ℤ) (c : ℕ) → pos 0 ≤ℤ (pos origin +ℤ x) → unsigned_abs (pos origin +ℤ (x +ℤ pos c)) ≡ unsigned_abs (pos origin +ℤ x) + c

@@ -22,4 +22,3 @@ pub mod Settled
 pub mod References
 pub mod EightSums
 pub mod Widened
-pub mod Lending

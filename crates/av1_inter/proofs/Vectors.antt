@@ -5,7 +5,7 @@ use Rattle.std.specs.Int.{int_min, int_max, saturate_signed}
 use Rattle.std.proofs.lemmas.Int.{ints, clamps, to_z-of_z}
 use Rattle.av1_frame.specs.declared.plane.Plane.{Plane}
 use Rattle.av1_frame.specs.Planes.{IsWhole, padded, sample_at}
-use Rattle.av1_frame.proofs.Slices.{padded_sample, padded_whole, visible_below}
+use Rattle.av1_frame.proofs.Slices.{nearest_same, padded_sample, padded_whole, visible_below}
 use Rattle.av1_frame.specs.declared.plane_slice.PlaneSlice.{PlaneSlice}
 use Rattle.av1_frame.specs.Slices.{IsStoredPlace, nearest_visible, within_pads, slice_plane}
 use Rattle.av1_inter.specs.Motion.{prepared, single}
@@ -20,21 +20,10 @@ saturated_pads : (z : ℤ) (pad side : ℕ) → pad < 2 ^ 63 → side < 2 ^ 63 �
 saturated_pads (pos n) pad side h k = omega (arith, ints, clamps)
 saturated_pads (negsuc n) pad side h k = omega (arith, ints, clamps)
 
-nearest_is : (n : ℕ) (z : ℤ) → 0 < n → pos (nearest_visible n z) ≡ int_min (int_max z (pos 0)) (pos n -ℤ pos 1)
-nearest_is n (pos i) h = omega (arith, ints, clamps)
-nearest_is n (negsuc i) h = omega (arith, ints, clamps)
-
-same_number : (a b : ℕ) → pos a ≡ pos b → a ≡ b
-same_number a b e = omega (arith, ints, e)
-
 -- within the pads of a place that stays within them, all is as round the place itself
 clamped_nearest : (z : ℤ) (pad side c : ℕ) → c < pad → 0 < side → nearest_visible side (within_pads z pad side +ℤ pos c) ≡ nearest_visible side (z +ℤ pos c)
 clamped_nearest z pad side c h k =
-    let a = nearest_is side (within_pads z pad side +ℤ pos c) k in
-    let b = nearest_is side (z +ℤ pos c) k in
-    let e : int_min (int_max (within_pads z pad side +ℤ pos c) (pos 0)) (pos side -ℤ pos 1) ≡ int_min (int_max (z +ℤ pos c) (pos 0)) (pos side -ℤ pos 1) =
-    omega (arith, ints, clamps) in
-    same_number _ _ (a ∙ e ∙ sym b)
+    nearest_same side (within_pads z pad side +ℤ pos c) (z +ℤ pos c) k (omega (arith, ints, clamps))
 
 pads_low : (z : ℤ) (pad side : ℕ) → neg_ℤ (pos pad) ≤ℤ within_pads z pad side
 pads_low z pad side = omega (arith, ints, clamps)

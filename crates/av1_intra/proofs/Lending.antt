@@ -5,13 +5,11 @@ use Rattle.av1_frame.specs.declared.plane_region.StoredArea.{StoredArea}
 use Rattle.av1_frame.specs.Areas.{AreRows}
 use Rattle.av1_frame.specs.Samples.{in_rows}
 use Rattle.av1_frame.specs.Regions.{own_rows}
-use Rattle.av1_frame.proofs.Regions.{corner_rows}
+use Rattle.av1_frame.proofs.Regions.{lent_rows}
 use Rattle.av1_intra.specs.Blocks.{HoldsBlock}
 
 -- the block is a rectangle of the rows that are lent
 pub block_rows : {T : Type 0} {r : PlaneRegionMut T} {w h : ℕ} {a : StoredArea} {rows : List T} → HoldsBlock r w h → a ≡ in_rows r.area w h →
     rows ≡ own_rows r →
     AreRows r.plane_cfg.stride a (length rows)
-block_rows {T} {r} {w} {h} {a} {rows} b e l =
-    subst (λ (a : StoredArea). AreRows r.plane_cfg.stride a (length rows)) (sym e)
-    (subst (λ (s : List T). AreRows r.plane_cfg.stride (in_rows r.area w h) (length s)) (sym l) (corner_rows r w h b.fits b.columns b.rows))
+block_rows {T} {r} {w} {h} {a} {rows} b e l = lent_rows r w h a rows b.fits b.columns b.rows e l

@@ -36,12 +36,6 @@ use Rattle.av1_lists.proofs.Lists.{by_index-all}
 use Rattle.av1_edges.specs.Within.{EdgeIsWithin}
 use Rattle.av1_intra.proofs.Within.{predicted_within}
 
--- the depths of a frame
-pub deep : (depth : ℕ) → IsDepth depth → 8 ≤ depth
-deep depth (inl e) = omega (arith, e)
-deep depth (inr (inl e)) = omega (arith, e)
-deep depth (inr (inr e)) = omega (arith, e)
-
 -- a painted plane is one of the same plane of the frame
 pub painted_place : {T : Type 0} (h : Header) (p : ℕ) (plane : Plane T) (a : VisibleArea) (f : ℕ → ℕ → T → T) → IsPlaneOf h p plane →
     IsPlaneOf h p (painted_plane plane a f)

@@ -12,7 +12,8 @@ use Rattle.av1_calls.specs.Arguments.{argument_status}
 use Rattle.av1_calls.specs.declared.argument.BadArgument.{BadArgument}
 use Rattle.av1_calls.specs.declared.argument.BadArgument.TheVariants as bad
 use Rattle.av1_calls.proofs.Blocks.{one_argument}
-use Rattle.av1_calls.proofs.IntraCalls.{least_depth, long_for, predicted_so, turned_angle}
+use Rattle.av1_blocks.proofs.Depths.{least_depth}
+use Rattle.av1_calls.proofs.IntraCalls.{long_for, predicted_so, turned_angle}
 use Rattle.av1_calls.proofs.intra.predict_by.Goals as goal
 
 pub dispatch_predict_intra_to-requires : goal.dispatch_predict_intra_to-requires

@@ -1,8 +1,7 @@
 use Rattle.std.proofs.Common.{ap, subst, sym, length, ◌+◌, ◌*◌, ◌≤◌}
 use Rattle.av1_frame.specs.declared.plane_region.StoredArea.{StoredArea}
-use Rattle.av1_frame.proofs.Regions.{lent_painted, written_in_storage}
+use Rattle.av1_frame.proofs.Regions.{lent_painted, lent_rows, written_in_storage}
 use Rattle.av1_inter.specs.Motion.{averaged, entry}
-use Rattle.av1_inter.proofs.Lending.{lent_rows}
 use Rattle.av1_inter.proofs.average.mc_avg.Goals as goal
 
 pub mc_avg_to-requires-clause-rows : goal.mc_avg_to-requires-clause-rows

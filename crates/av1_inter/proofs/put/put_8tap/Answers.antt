@@ -2,11 +2,10 @@ use Rattle.std.proofs.lemmas.Int.{to_z-of_z}
 use Rattle.std.proofs.Common.{ℕ, ◌+◌, ◌≡◌, ◌∙◌, ap, subst, sym, unsigned_abs, w32}
 use Rattle.av1_blocks.specs.declared.mc.FilterMode.{FilterMode}
 use Rattle.av1_frame.specs.declared.plane_region.StoredArea.{StoredArea}
-use Rattle.av1_frame.proofs.Regions.{lent_painted, written_in_storage}
+use Rattle.av1_frame.proofs.Regions.{lent_painted, lent_rows, written_in_storage}
 use Rattle.av1_inter.specs.Filters.{filter_of}
 use Rattle.av1_inter.specs.Motion.{single}
 use Rattle.av1_inter.specs.Places.{AreWithinDepth, corner_of, IsStoredFrom, samples_from}
-use Rattle.av1_inter.proofs.Lending.{lent_rows}
 use Rattle.av1_inter.proofs.put.put_8tap.Goals as goal
 
 pub put_8tap_to-requires-clause-rows : goal.put_8tap_to-requires-clause-rows

@@ -3,16 +3,12 @@ use Rattle.av1_blocks.specs.Transforms.{tx_height, tx_width}
 use Rattle.av1_frame.specs.Areas.{AreRows}
 use Rattle.av1_frame.specs.Samples.{in_rows}
 use Rattle.av1_frame.specs.declared.plane_region.StoredArea.{StoredArea}
-use Rattle.av1_frame.proofs.Regions.{corner_rows, lent_painted, written_in_storage}
+use Rattle.av1_frame.proofs.Regions.{lent_painted, lent_rows, written_in_storage}
 use Rattle.av1_itx.proofs.inverse.inverse_transform_add_with.Goals as goal
 
 pub inverse_transform_add_to-requires-clause-rows : goal.inverse_transform_add_to-requires-clause-rows
 inverse_transform_add_to-requires-clause-rows g c =
-    let r = c.args.output.now in
-    let corner : c.corner-area.result ≡ in_rows r.area (tx_width c.args.tx_size) (tx_height c.args.tx_size) = search rules in
-    subst (λ (a : StoredArea). AreRows r.plane_cfg.stride a (length c.rows_mut.result.now)) (sym corner)
-    (subst (λ n. AreRows r.plane_cfg.stride (in_rows r.area (tx_width c.args.tx_size) (tx_height c.args.tx_size)) n) (sym (ap length c.rows_mut.ensures.value))
-    (corner_rows r _ _ c.requires.fits c.requires.columns c.requires.rows))
+    lent_rows c.args.output.now _ _ c.corner-area.result _ c.requires.fits c.requires.columns c.requires.rows (search rules) c.rows_mut.ensures.value
 
 pub returns-clause-painted : goal.returns-clause-painted
 returns-clause-painted g c =

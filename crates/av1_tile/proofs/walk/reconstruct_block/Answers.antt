@@ -1,5 +1,5 @@
+use Rattle.av1_blocks.proofs.Depths.{least_depth}
 use Rattle.av1_tile.proofs.BlockSteps.{after_layout, after_stores, between_inside, between_stores, block_counted, block_inside, block_walked}
-use Rattle.av1_tile.proofs.WithinDepth.{deep}
 use Rattle.av1_tile.proofs.walk.reconstruct_block.Goals as goal
 
 pub predict_block-requires-clause-fits : goal.predict_block-requires-clause-fits
@@ -12,7 +12,7 @@ add_block-requires-clause-stores g c =
     let a = c.args in
     between_stores g.T.Pixel.num g.T.Pixel.pixel g.met.T.Pixel.num_of_pixel g.met.T.Pixel.pixel_of_num a.header.now a.block.now a.at c.requires.place
     a.buffers.now.luma.items a.plane.now c.predict_block.new.plane c.predict_block.ensures.walked
-    c.requires.held.stores (deep _ c.requires.held.frame.depth)
+    c.requires.held.stores (least_depth _ c.requires.held.frame.depth)
 
 pub add_block-requires-clause-fits : goal.add_block-requires-clause-fits
 add_block-requires-clause-fits g c =
@@ -20,7 +20,7 @@ add_block-requires-clause-fits g c =
     let inside = block_inside a.header.now a.block.now a.at a.triples.now a.plane.now c.requires.held.stores.place c.requires.fits c.requires.found in
     between_inside g.T.Pixel.num g.T.Pixel.pixel g.met.T.Pixel.num_of_pixel g.met.T.Pixel.pixel_of_num a.header.now a.block.now a.at c.requires.place
     a.buffers.now.luma.items a.plane.now c.predict_block.new.plane c.predict_block.ensures.walked
-    c.requires.held.stores (deep _ c.requires.held.frame.depth) inside
+    c.requires.held.stores (least_depth _ c.requires.held.frame.depth) inside
 
 pub returns-clause-walked : goal.returns-clause-walked
 returns-clause-walked g c =
@@ -41,7 +41,7 @@ returns-clause-kept g c =
     record {
       stores = after_stores g.T.Pixel.num g.T.Pixel.pixel g.met.T.Pixel.num_of_pixel g.met.T.Pixel.pixel_of_num a.header.now a.block.now a.at c.requires.place
           a.buffers.now.luma.items a.plane.now c.predict_block.new.plane c.predict_block.ensures.walked
-          a.triples.now c.add_block.new.plane c.add_block.ensures c.requires.held.stores (deep _ c.requires.held.frame.depth);
+          a.triples.now c.add_block.new.plane c.add_block.ensures c.requires.held.stores (least_depth _ c.requires.held.frame.depth);
       config = after_layout g.T.Pixel.num g.T.Pixel.pixel g.met.T.Pixel.num_of_pixel g.met.T.Pixel.pixel_of_num a.header.now a.block.now a.at c.requires.place
           a.buffers.now.luma.items a.plane.now c.predict_block.new.plane c.predict_block.ensures.walked
           a.triples.now c.add_block.new.plane c.add_block.ensures;
