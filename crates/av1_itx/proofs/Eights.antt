@@ -15,7 +15,6 @@ use Rattle.av1_dct.proofs.Places.{at-by_index}
 use Rattle.av1_dct.proofs.Single.{IsSingle, single}
 use Rattle.av1_lists.specs.Lists.{by_index}
 use Rattle.av1_dct.specs.Word.{column}
-use Rattle.av1_dct.proofs.Powers.{power_only}
 use Rattle.av1_itx.specs.declared.kinds.TxType1D.{TxType1D}
 use Rattle.av1_itx.specs.declared.kinds.TxType1D.TheVariants.{DCT}
 use Rattle.av1_blocks.specs.declared.transform.TxSize.{TxSize}
@@ -23,7 +22,10 @@ use Rattle.av1_blocks.specs.declared.transform.TxType.{TxType}
 use Rattle.av1_blocks.specs.Transforms.{tx_width}
 use Rattle.av1_itx.specs.Kinds.{column_kind}
 use Rattle.av1_itx.specs.LaneGroups.{is_cosine, lane_groups}
+use Rattle.av1_itx.specs.declared.lane_columns.Columns.{Columns}
 use Rattle.av1_itx.specs.Networks.{HasNetwork, network, network_with}
+use Rattle.av1_itx.specs.Scaffolding.{AreColumns}
+use Rattle.av1_itx.proofs.Lines.{column_written}
 use Rattle.av1_lists.proofs.Lists.{by_index-all, by_index-same, length-by_index}
 
 -- one more group of m columns
@@ -112,15 +114,41 @@ group_in {l} {m} {g} {w} is whole lt = let whole_m : m * (w / m) ≡ w = subst (
 pub all_groups : (m g w : ℕ) → m * (w / m) ≡ w → w / m ≤ g → w ≤ m * g
 all_groups m g w whole le = let n = mul-le-mul_left m le in omega arith
 
--- columns of n values, once n is known as a number
-pub known_has : (kind : TxType1D) (n m j k : ℕ) → n ≡ m → m ≡ 2 * 2 ^ j → n ≡ 2 * 2 ^ k → HasNetwork kind k → HasNetwork kind j
-known_has kind n m j k e ej ek has = subst (λ p. HasNetwork kind p) (power_only k j (sym ek ∙ e ∙ ej)) has
+-- so many words of so many bytes have room in memory
+pub room_for : (count bytes : ℕ) → count ≤ 64 → bytes ≤ 64 → count * bytes < 2 ^ 63
+room_for count bytes few small = let all = mul-le-mul_right bytes few in omega (arith, all)
 
-pub columns_known : (kind : TxType1D) (range n m w q r j k : ℕ) (old : List ℤ) {z : ℤ} → n ≡ m → m ≡ 2 * 2 ^ j → n ≡ 2 * 2 ^ k →
-    z ≡ at (network kind range j (column_of m w q old)) r → z ≡ at (network kind range k (column_of n w q old)) r
-columns_known kind range n m w q r j k old e ej ek is =
-    is ∙ ap (λ p. at (network kind range p (column_of m w q old)) r) (power_only j k (sym ej ∙ sym e ∙ ek))
-    ∙ ap (λ x. at (network kind range k (column_of x w q old)) r) (sym e)
+-- columns with their height and its power as other numbers
+abbrev pub with_height : Columns → (height power : ℕ) → Columns
+with_height columns height power = record {
+  kind = columns.kind;
+  count = columns.count;
+  width = columns.width;
+  height = height;
+  power = power;
+  range = columns.range;
+}
+
+-- are the same where these are
+pub known_is : (columns : Columns) (h k : ℕ) → columns.height ≡ h → columns.power ≡ k → columns ≡ with_height columns h k
+known_is columns h k eh ek =
+    subst (λ (n : ℕ). columns ≡ with_height columns n k) eh (subst (λ (n : ℕ). columns ≡ with_height columns columns.height n) ek refl)
+
+-- a group of columns that are transformed is among those of the buffer
+pub group_within : {l m g : ℕ} {columns : Columns} {buffer : List ℤ} → m ≡ l → l * (columns.count / l) ≡ columns.count → AreColumns columns buffer →
+    g < columns.count / m → m * g + l ≤ columns.width
+group_within {l} {m} {g} {columns} is whole are lt = let room = group_in is whole lt in omega (arith, room, are.within)
+
+-- the columns of a buffer of which all groups were written
+pub groups_written : (m l g : ℕ) (columns : Columns) (buffer old : List ℤ) (F : ℕ → ℕ → ℤ) → m ≡ l → l * (columns.count / l) ≡ columns.count →
+    columns.count ≤ columns.width → columns.count / m ≤ g
+    → ((r q : ℕ) → r < columns.height → q < columns.width
+    → at buffer (r * columns.width + q) ≡ cond (ltb q (m * g)) (F r q) (at old (r * columns.width + q)))
+    → (r q : ℕ) → r < columns.height → q < columns.count → at buffer (r * columns.width + q) ≡ F r q
+groups_written m l g columns buffer old F is whole within end before =
+    let n = columns.count in
+    let whole_m : m * (n / m) ≡ n = subst (λ (k : ℕ). k * (n / k) ≡ n) (sym is) whole in
+    column_written n columns.width (m * g) columns.height buffer old F before (all_groups m g n whole_m end) within
 
 -- one more group of m columns, where what was done to it is told of the buffer as it was before
 pub groups_next : (w c d m h : ℕ) (F G X : ℕ → ℕ → ℤ) (old new : List ℤ) → d ≡ c + m

@@ -16,6 +16,7 @@ pub mod Tiles
 pub mod Eights
 pub mod Copies
 pub mod Sizes
+pub mod Handed
 pub mod Shifts
 pub mod NoWrap
 pub mod Lossless

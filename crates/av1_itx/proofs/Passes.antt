@@ -1,26 +1,27 @@
 -- The rows and the columns of a block.
 use Rattle.std.proofs.Common.{ℕ, Bool, true, false, cond, ltb, ◌≡◌, ◌≤◌, ◌<◌, ◌+◌, ◌*◌, ◌/◌, ◌^◌, ℤ, pos, ◌*ℤ◌, List, All, arith, ap, sym, subst, ◌∙◌, refl}
-use Rattle.std.proofs.Common.{inl, inr}
+use Rattle.std.proofs.Common.{inl, inr, length, min}
 use Rattle.std.specs.Int.{int_shr}
 use Rattle.std.proofs.lemmas.Bool.{cases_lt}
 use Rattle.std.proofs.lemmas.Bool.Decides.{nat_tests}
 use Rattle.std.proofs.lemmas.Nat.{pow_pos}
-use Rattle.std.proofs.Math.Nat.{div-eq_of_lt}
+use Rattle.std.proofs.Math.Nat.{div-eq_of_lt, mul-le-mul_right}
+use Rattle.std.proofs.lemmas.List.{get_or_past}
 use Rattle.av1_blocks.specs.declared.transform.TxSize.{TxSize}
 use Rattle.av1_blocks.specs.declared.transform.TxType.{TxType}
-use Rattle.av1_blocks.specs.Transforms.{tx_width, tx_height, coded}
+use Rattle.av1_blocks.specs.Transforms.{tx_width, tx_height, coded, coded_area}
 use Rattle.av1_dct.specs.Arithmetic.{at, FitsBits, clamp_value}
 use Rattle.av1_dct.specs.Columns.{column_of}
 use Rattle.av1_lists.specs.Lists.{by_index}
 use Rattle.av1_dct.proofs.Zero.{IsZero, clamp-zero, cond-zero, by_index-zero}
 use Rattle.av1_frame.specs.Arithmetic.{round_shift}
-use Rattle.av1_itx.specs.declared.kinds.TxType1D.{TxType1D}
 use Rattle.av1_itx.specs.Kinds.{row_kind, column_kind}
 use Rattle.av1_itx.specs.Networks.{network}
 use Rattle.av1_itx.specs.Residue.{row_value, row_input, row_power, row_range, row_shift, is_two_to_one, is_lossless, transformed_row}
 use Rattle.av1_itx.specs.Residue.{column_network, column_power, column_range, column_shift, transformed_column, residue}
 use Rattle.av1_lists.proofs.Lists.{by_index-all, by_index-same}
 use Rattle.av1_dct.proofs.Fits.{zero_fits, clamp_value-fits, all-fit}
+use Rattle.av1_itx.proofs.Lines.{place_in}
 use Rattle.av1_itx.proofs.Outputs.{network-fits}
 use Rattle.av1_itx.proofs.Zeros.{network-zero, zero_line}
 
@@ -29,15 +30,31 @@ input_in : (size : TxSize) (type : TxType) (depth : ℕ) (cs : List ℤ) (r c : 
 unfolding row_input
 input_in size type depth cs r c h = grind (arith, nat_tests)
 
--- an input of a row, in the coded part and past it
-pub input_is : (size : TxSize) (type : TxType) (depth : ℕ) (cs : List ℤ) (r c rows : ℕ) (v z : ℤ) → rows ≡ coded (tx_height size) → c < coded (tx_width size) →
-    v ≡ at cs (c * rows + r) → z ≡ row_value size type depth v → z ≡ row_input size type depth cs r c
-input_is size type depth cs r c rows v z e h is made =
-    made ∙ ap (row_value size type depth) (is ∙ ap (λ n. at cs (c * n + r)) e) ∙ input_in size type depth cs r c h
-
 pub input_past : (size : TxSize) (type : TxType) (depth : ℕ) (cs : List ℤ) (r c : ℕ) → coded (tx_width size) ≤ c → pos 0 ≡ row_input size type depth cs r c
 unfolding row_input
 input_past size type depth cs r c h = grind (arith, nat_tests)
+
+row_value-zero : (size : TxSize) (type : TxType) (depth : ℕ) → row_value size type depth (pos 0) ≡ pos 0
+unfolding row_value
+row_value-zero size type depth = clamp-zero _ (row_range depth) (cond-zero (is_two_to_one size) _ _ refl (cond-zero (is_lossless type) _ _ refl refl))
+
+-- An input of a row, where z is the scaled coefficient at a place that is given, and 0 elsewhere.
+pub input_given : (size : TxSize) (type : TxType) (depth : ℕ) (cs : List ℤ) (given r c : ℕ) (z : ℤ) → given ≡ min (length cs) (coded_area size)
+    → r < coded (tx_height size)
+    → (c * coded (tx_height size) + r < given → z ≡ row_value size type depth (at cs (c * coded (tx_height size) + r)))
+    → (given ≤ c * coded (tx_height size) + r → z ≡ pos 0)
+    → z ≡ row_input size type depth cs r c
+input_given size type depth cs given r c z is hr below past =
+    let h = coded (tx_height size) in
+    let p = c * h + r in
+    elim (cases_lt c (coded (tx_width size))) [
+      | inl hc ↦ (let inside = place_in c r h (coded (tx_width size)) hc hr in elim (cases_lt p given) [
+        | inl lo ↦ below lo ∙ input_in size type depth cs r c hc
+        | inr hi ↦ (let none : at cs p ≡ pos 0 = get_or_past cs p (pos 0) (omega arith) in
+            past hi ∙ sym (row_value-zero size type depth) ∙ ap (row_value size type depth) (sym none) ∙ input_in size type depth cs r c hc)
+      ])
+      | inr hc ↦ (let room = mul-le-mul_right h hc in past (omega arith) ∙ input_past size type depth cs r c hc)
+    ]
 
 pub input-fits : (size : TxSize) (type : TxType) (depth : ℕ) (cs : List ℤ) (r c : ℕ) → FitsBits (row_range depth) (row_input size type depth cs r c)
 unfolding row_input row_value
@@ -71,20 +88,6 @@ row-fits size type depth cs r c h =
       | inr b ↦ subst P (sym (row_past size type depth cs r c b)) (zero_fits 24)
     ]
 
--- a column by its block
-pub block_column : (size : TxSize) (type : TxType) (depth w h k range r q : ℕ) (kind : TxType1D) (buf : List ℤ) (z : ℤ) → kind ≡ column_kind type →
-    w ≡ tx_width size → h ≡ tx_height size → k ≡ column_power size → range ≡ column_range depth
-    → z ≡ at (network kind range k (column_of h w q buf)) r
-    → z ≡ at (network (column_kind type) (column_range depth) (column_power size) (column_of (tx_height size) (tx_width size) q buf)) r
-block_column size type depth w h k range r q kind buf z ek ew eh ep er is =
-    let column = λ (t : TxType1D) (g p n m : ℕ). at (network t g p (column_of n m q buf)) r in
-    is
-    ∙ ap (λ n. column kind range k n w) eh
-    ∙ ap (λ m. column kind range k (tx_height size) m) ew
-    ∙ ap (λ p. column kind range p (tx_height size) (tx_width size)) ep
-    ∙ ap (λ g. column kind g (column_power size) (tx_height size) (tx_width size)) er
-    ∙ ap (λ t. column t (column_range depth) (column_power size) (tx_height size) (tx_width size)) ek
-
 -- the columns of a block whose rows were clamped fit
 pub column-fits : (size : TxSize) (type : TxType) (depth : ℕ) (buf : List ℤ) (r c : ℕ) → depth ≤ 12
     → ((y : ℕ) → y < tx_height size → FitsBits (column_range depth) (at buf (y * tx_width size + c)))
@@ -111,10 +114,6 @@ unfolding row_value
 row_value-is size type depth t l v z et el is =
     is ∙ ap (λ b. clamp_value (cond b (round_shift (pos 2896 *ℤ v) 12) (cond l (int_shr v 2) v)) (row_range depth)) et
     ∙ ap (λ b. clamp_value (cond (is_two_to_one size) (round_shift (pos 2896 *ℤ v) 12) (cond b (int_shr v 2) v)) (row_range depth)) el
-
-row_value-zero : (size : TxSize) (type : TxType) (depth : ℕ) → row_value size type depth (pos 0) ≡ pos 0
-unfolding row_value
-row_value-zero size type depth = clamp-zero _ (row_range depth) (cond-zero (is_two_to_one size) _ _ refl (cond-zero (is_lossless type) _ _ refl refl))
 
 half_below : (n : ℕ) → 0 < n → 0 + n / 2 < n
 half_below n h = omega arith
@@ -147,3 +146,28 @@ residue-zero size type depth cs r c h =
     (column_power size) _
     (by_index-zero (tx_height size) _ (λ y. clamp-zero _ (column_range depth) (shifted-zero _ (row_shift size) (row-zero size type depth cs y c z)))) in
     shifted-zero _ (column_shift type) (n.at r)
+
+-- the residue is that of any coefficients that are the same at all places
+input-same : (size : TxSize) (type : TxType) (depth : ℕ) (xs ys : List ℤ) → ((i : ℕ) → at xs i ≡ at ys i) → (r c : ℕ) →
+    row_input size type depth xs r c ≡ row_input size type depth ys r c
+unfolding row_input
+input-same size type depth xs ys same r c =
+    ap (λ z. cond (ltb c (coded (tx_width size))) (row_value size type depth z) (pos 0)) (same (c * coded (tx_height size) + r))
+
+row-same : (size : TxSize) (type : TxType) (depth : ℕ) (xs ys : List ℤ) → ((i : ℕ) → at xs i ≡ at ys i) → (r c : ℕ) →
+    at (transformed_row size type depth xs r) c ≡ at (transformed_row size type depth ys r) c
+row-same size type depth xs ys same r c =
+    elim (cases_lt r (coded (tx_height size))) [
+      | inl b ↦ sym (row_is size type depth xs r c b)
+          ∙ ap (λ zs. at (network (row_kind type) (row_range depth) (row_power size) zs) c)
+          (by_index-same (tx_width size) _ _ (λ x hx. input-same size type depth xs ys same r x)) ∙ row_is size type depth ys r c b
+      | inr b ↦ row_past size type depth xs r c b ∙ sym (row_past size type depth ys r c b)
+    ]
+
+pub residue-same : (size : TxSize) (type : TxType) (depth : ℕ) (xs ys : List ℤ) → ((i : ℕ) → at xs i ≡ at ys i) → (r c : ℕ) →
+    residue size type depth xs r c ≡ residue size type depth ys r c
+unfolding residue transformed_column column_network
+residue-same size type depth xs ys same r c =
+    ap (λ zs. round_shift (at (network (column_kind type) (column_range depth) (column_power size) zs) r) (column_shift type))
+    (by_index-same (tx_height size) _ _
+    (λ y hy. ap (λ z. clamp_value (round_shift z (row_shift size)) (column_range depth)) (row-same size type depth xs ys same y c)))

@@ -15,7 +15,7 @@ no_truth : false ≡ true → ⊥
 no_truth h = cc
 
 -- rows and columns have 4 to 64 values
-sides : (size : TxSize) → (1 ≤ row_power size) × (row_power size ≤ 5) × (1 ≤ column_power size) × (column_power size ≤ 5)
+pub sides : (size : TxSize) → (1 ≤ row_power size) × (row_power size ≤ 5) × (1 ≤ column_power size) × (column_power size ≤ 5)
 sides size =
     elim size as (λ t. (1 ≤ row_power t) × (row_power t ≤ 5) × (1 ≤ column_power t) × (column_power t ≤ 5))
     [ TX_4X4 ↦ (omega arith, omega arith, omega arith, omega arith) | _ ↦ (omega arith, omega arith, omega arith, omega arith) ]

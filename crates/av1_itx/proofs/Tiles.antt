@@ -10,7 +10,7 @@ use Rattle.av1_dct.proofs.Zero.{clamp-zero}
 use Rattle.av1_frame.specs.Arithmetic.{round_shift}
 use Rattle.av1_lists.specs.Lists.{by_index}
 use Rattle.av1_lists.proofs.Lists.{by_index-same, length-by_index}
-use Rattle.av1_itx.specs.declared.kinds.TxType1D.{TxType1D}
+use Rattle.av1_itx.specs.declared.block.Block.{Block}
 use Rattle.av1_itx.specs.Kinds.{row_kind}
 use Rattle.av1_itx.specs.Networks.{network}
 use Rattle.av1_itx.specs.Residue.{column_range, row_input, row_power, row_range, row_shift, transformed_row}
@@ -40,20 +40,16 @@ taken-none size type depth cs r c lt none =
     let n = network-zero (row_kind type) (row_range depth) (row_power size) (by_index w f) zeros in
     taken-zero size depth _ (sym (row_is size type depth cs r c lt) ∙ n.at c)
 
--- column i of a list that has row r in it, transformed
-pub tile_row : (size : TxSize) (type : TxType) (depth : ℕ) (cs tile : List ℤ) (kind : TxType1D) (range k m w r i x : ℕ) → kind ≡ row_kind type →
-    range ≡ row_range depth → k ≡ row_power size → w ≡ tx_width size
-    → r < coded (tx_height size)
-    → ((c : ℕ) → c < tx_width size → at tile (c * m + i) ≡ row_input size type depth cs r c)
-    → at (network kind range k (column_of w m i tile)) x ≡ at (transformed_row size type depth cs r) x
-tile_row size type depth cs tile kind range k m w r i x ek er ep ew lt filled =
-    let run = λ (t : TxType1D) (g p n : ℕ). at (network t g p (column_of n m i tile)) x in
-    ap (λ n. run kind range k n) ew
-    ∙ ap (λ p. run kind range p (tx_width size)) ep
-    ∙ ap (λ g. run kind g (row_power size) (tx_width size)) er
-    ∙ ap (λ t. run t (row_range depth) (row_power size) (tx_width size)) ek
-    ∙ ap (λ zs. at (network (row_kind type) (row_range depth) (row_power size) zs) x) (by_index-same (tx_width size) _ _ filled)
-    ∙ row_is size type depth cs r x lt
+-- column r of a list whose columns are rows of coefficients, transformed
+pub tile_row : (block : Block) (cs tile : List ℤ) (r x : ℕ) → r < coded (tx_height block.tx_size)
+    → ((c : ℕ) → c < tx_width block.tx_size
+    → at tile (c * coded (tx_height block.tx_size) + r) ≡ row_input block.tx_size block.tx_type block.bd cs r c)
+    → at (network (row_kind block.tx_type) (row_range block.bd) (row_power block.tx_size)
+    (column_of (tx_width block.tx_size) (coded (tx_height block.tx_size)) r tile)) x
+    ≡ at (transformed_row block.tx_size block.tx_type block.bd cs r) x
+tile_row block cs tile r x lt filled =
+    ap (λ zs. at (network (row_kind block.tx_type) (row_range block.bd) (row_power block.tx_size) zs) x) (by_index-same (tx_width block.tx_size) _ _ filled)
+    ∙ row_is block.tx_size block.tx_type block.bd cs r x lt
 
 -- groups of four or eight lanes
 pub fours : (m l g : ℕ) → m ≡ l → (l ≡ 4) ⊎ (l ≡ 8) → 4 * (m * g / 4) ≡ m * g

@@ -6,3 +6,4 @@ pub mod Networks
 pub mod Residue
 pub mod Shift
 pub mod LaneGroups
+pub mod Scaffolding

@@ -11,11 +11,11 @@ ghost use Rattle.av1_frame.specs.Arithmetic.{clip, round_shift};
 ghost use Rattle.av1_frame.specs.Areas.{AreRows};
 ghost use Rattle.av1_frame.specs.Samples.{paint, paint_row};
 ghost use Rattle.av1_frame.specs.Regions.{InStorage, painted};
-ghost use Rattle.av1_itx.specs.Kinds.{column_kind, row_kind};
 ghost use Rattle.av1_itx.specs.LaneGroups.{lane_groups};
-ghost use Rattle.av1_itx.specs.Networks.{HasNetwork};
-ghost use Rattle.av1_itx.specs.Residue.{column_power, column_shift, residue, row_power};
+ghost use Rattle.av1_itx.specs.Residue.{column_shift, residue};
+ghost use Rattle.av1_itx.specs.Scaffolding.{AreCoefficients, IsPlaceFor};
 
+use crate::block::Block;
 use crate::columns::column_pass;
 use crate::lanes::{CosineColumns, Lanes, Uncounted};
 use crate::rows::row_pass;
@@ -142,6 +142,13 @@ fn column_shift_of(tx_type: TxType) -> usize
     }
 }
 
+// A rectangle of a slice whose rows stand `stride` apart.
+#[derive(Clone, Copy)]
+struct Place {
+    stride: usize,
+    area: StoredArea,
+}
+
 // The inverse transform over a buffer of just the block's size.
 fn add_block<T: Pixel, R: CosineColumns>(
     buffer: &mut [i32],
@@ -149,31 +156,22 @@ fn add_block<T: Pixel, R: CosineColumns>(
     lanes: &mut R,
     input: &[T::Coeff],
     samples: &mut [T],
-    stride: usize,
-    area: StoredArea,
-    tx_size: TxSize,
-    tx_type: TxType,
-    bd: usize,
+    place: Place,
+    block: Block,
 )
-    requires depth_in { (8 ≤ bd) × (bd ≤ 12) }
-    requires depth { bd ≤ T.BITS }
-    requires rows_run { HasNetwork (row_kind tx_type) (row_power tx_size) }
-    requires columns_run { HasNetwork (column_kind tx_type) (column_power tx_size) }
-    requires buffer_len { length buffer.old ≡ tx_height tx_size * tx_width tx_size }
-    requires scaled_len { length scaled.old ≡ tx_width tx_size * coded (tx_height tx_size) }
-    requires input_len { coded_area tx_size ≤ length input.now }
-    requires input_fits { (i : ℕ) → i < coded_area tx_size → FitsBits (bd + 8) (at (map T.Coeff.val input.now) i) }
-    requires rows { AreRows stride area (length samples.old) }
-    requires width { area.width ≡ tx_width tx_size }
-    requires height { area.height ≡ tx_height tx_size }
-    ensures painted { samples.new ≡ paint stride area (λ r c v. T.pixel (clip bd (pos (T.num v) +ℤ residue tx_size tx_type bd (map T.Coeff.val input.now) r c)))
-        samples.old }
-    ensures counts { R.tally lanes.new ≡ R.raised_by (R.tally lanes.old) (lane_groups tx_size tx_type) }
+    requires depth { block.bd ≤ T.BITS }
+    requires block { AreCoefficients T.Coeff.val block input.now }
+    requires place { IsPlaceFor block place (length samples.old) }
+    requires buffer_len { length buffer.old ≡ tx_height block.tx_size * tx_width block.tx_size }
+    requires scaled_len { length scaled.old ≡ tx_width block.tx_size * coded (tx_height block.tx_size) }
+    ensures painted { samples.new ≡ paint place.stride place.area
+        (λ r c v. T.pixel (clip block.bd (pos (T.num v) +ℤ residue block.tx_size block.tx_type block.bd (map T.Coeff.val input.now) r c))) samples.old }
+    ensures counts { R.tally lanes.new ≡ R.raised_by (R.tally lanes.old) (lane_groups block.tx_size block.tx_type) }
 {
-    row_pass(input, scaled, buffer, tx_size, tx_type, bd);
-    column_pass(buffer, lanes, tx_size, tx_type, bd);
-    let shift = column_shift_of(tx_type);
-    add_rows(samples, stride, area, buffer, shift, bd);
+    row_pass(input, scaled, buffer, block);
+    column_pass(buffer, lanes, block);
+    let shift = column_shift_of(block.tx_type);
+    add_rows(samples, place.stride, place.area, buffer, shift, block.bd);
 }
 
 // The same over a whole buffer.
@@ -183,40 +181,28 @@ fn add_over<T: Pixel, R: CosineColumns>(
     lanes: &mut R,
     input: &[T::Coeff],
     samples: &mut [T],
-    stride: usize,
-    area: StoredArea,
-    tx_size: TxSize,
-    tx_type: TxType,
-    bd: usize,
+    place: Place,
+    block: Block,
 )
-    requires depth_in { (8 ≤ bd) × (bd ≤ 12) }
-    requires depth { bd ≤ T.BITS }
-    requires valid { IsTrue (valid_av1_transform tx_size tx_type) }
-    requires lossless { tx_type ≡ WHT_WHT → tx_size ≡ TX_4X4 }
+    requires depth { block.bd ≤ T.BITS }
+    requires block { AreCoefficients T.Coeff.val block input.now }
+    requires place { IsPlaceFor block place (length samples.old) }
     requires buffer_len { 4096 ≤ length buffer.old }
     requires scaled_len { 2048 ≤ length scaled.old }
-    requires input_len { coded_area tx_size ≤ length input.now }
-    requires input_fits { (i : ℕ) → i < coded_area tx_size → FitsBits (bd + 8) (at (map T.Coeff.val input.now) i) }
-    requires rows { AreRows stride area (length samples.old) }
-    requires width { area.width ≡ tx_width tx_size }
-    requires height { area.height ≡ tx_height tx_size }
-    ensures painted { samples.new ≡ paint stride area (λ r c v. T.pixel (clip bd (pos (T.num v) +ℤ residue tx_size tx_type bd (map T.Coeff.val input.now) r c)))
-        samples.old }
-    ensures counts { R.tally lanes.new ≡ R.raised_by (R.tally lanes.old) (lane_groups tx_size tx_type) }
+    ensures painted { samples.new ≡ paint place.stride place.area
+        (λ r c v. T.pixel (clip block.bd (pos (T.num v) +ℤ residue block.tx_size block.tx_type block.bd (map T.Coeff.val input.now) r c))) samples.old }
+    ensures counts { R.tally lanes.new ≡ R.raised_by (R.tally lanes.old) (lane_groups block.tx_size block.tx_type) }
 {
-    let places = tx_size.height() * tx_size.width();
-    let inputs = tx_size.width() * tx_size.height().min(32);
+    let places = block.tx_size.height() * block.tx_size.width();
+    let inputs = block.tx_size.width() * block.tx_size.height().min(32);
     add_block(
         &mut buffer[..places],
         &mut scaled[..inputs],
         lanes,
         input,
         samples,
-        stride,
-        area,
-        tx_size,
-        tx_type,
-        bd,
+        place,
+        block,
     );
 }
 
@@ -225,7 +211,8 @@ fn add_over<T: Pixel, R: CosineColumns>(
 /// `stride` apart.
 ///
 /// The coefficient of row r and column c stands at `c * min(height, 32) + r` of `input`; the rows and columns from 32
-/// on have none. All samples outside the rectangle stay.
+/// on have none. Those that `input` is too short for are 0, and cost nothing: a codec that knows the last column with a
+/// coefficient hands over the columns up to it. All samples outside the rectangle stay.
 pub fn inverse_transform_add_to<T: Pixel>(
     scratch: &mut TxScratch,
     input: &[T::Coeff],
@@ -240,7 +227,6 @@ pub fn inverse_transform_add_to<T: Pixel>(
     requires depth { bd ≤ T.BITS }
     requires valid { IsTrue (valid_av1_transform tx_size tx_type) }
     requires lossless { tx_type ≡ WHT_WHT → tx_size ≡ TX_4X4 }
-    requires input_len { coded_area tx_size ≤ length input.now }
     requires input_fits { (i : ℕ) → i < coded_area tx_size → FitsBits (bd + 8) (at (map T.Coeff.val input.now) i) }
     requires rows { AreRows stride area (length samples.old) }
     requires width { area.width ≡ tx_width tx_size }
@@ -255,11 +241,12 @@ pub fn inverse_transform_add_to<T: Pixel>(
         &mut scratch.lanes,
         input,
         samples,
-        stride,
-        area,
-        tx_size,
-        tx_type,
-        bd,
+        Place { stride, area },
+        Block {
+            tx_size,
+            tx_type,
+            bd,
+        },
     );
 }
 
@@ -278,7 +265,6 @@ pub fn inverse_transform_add_in<T: Pixel>(
     requires depth { bd ≤ T.BITS }
     requires valid { IsTrue (valid_av1_transform tx_size tx_type) }
     requires lossless { tx_type ≡ WHT_WHT → tx_size ≡ TX_4X4 }
-    requires input_len { coded_area tx_size ≤ length input.now }
     requires input_fits { (i : ℕ) → i < coded_area tx_size → FitsBits (bd + 8) (at (map T.Coeff.val input.now) i) }
     requires rows { AreRows stride area (length samples.old) }
     requires width { area.width ≡ tx_width tx_size }
@@ -292,11 +278,12 @@ pub fn inverse_transform_add_in<T: Pixel>(
         &mut Uncounted,
         input,
         samples,
-        stride,
-        area,
-        tx_size,
-        tx_type,
-        bd,
+        Place { stride, area },
+        Block {
+            tx_size,
+            tx_type,
+            bd,
+        },
     );
 }
 
@@ -314,7 +301,6 @@ pub fn inverse_transform_add_with<T: Pixel>(
     requires depth { bd ≤ T.BITS }
     requires valid { IsTrue (valid_av1_transform tx_size tx_type) }
     requires lossless { tx_type ≡ WHT_WHT → tx_size ≡ TX_4X4 }
-    requires input_len { coded_area tx_size ≤ length input.now }
     requires input_fits { (i : ℕ) → i < coded_area tx_size → FitsBits (bd + 8) (at (map T.Coeff.val input.now) i) }
     requires fits { InStorage output.old }
     requires columns { tx_width tx_size ≤ output.old.area.width }
@@ -351,7 +337,6 @@ pub fn inverse_transform_add<T: Pixel>(
     requires depth { bd ≤ T.BITS }
     requires valid { IsTrue (valid_av1_transform tx_size tx_type) }
     requires lossless { tx_type ≡ WHT_WHT → tx_size ≡ TX_4X4 }
-    requires input_len { coded_area tx_size ≤ length input.now }
     requires input_fits { (i : ℕ) → i < coded_area tx_size → FitsBits (bd + 8) (at (map T.Coeff.val input.now) i) }
     requires fits { InStorage output.old }
     requires columns { tx_width tx_size ≤ output.old.area.width }

@@ -1,14 +1,13 @@
 //! Groups of columns, one in each lane.
 
-ghost use Rattle.std.specs.Prelude.{◌≡◌, ℕ, ◌+◌, ◌-◌, ◌*◌, ◌/◌, ◌^◌, ◌<◌, ◌≤◌, nat_le, nat_lt, ◌&&◌, if◌then◌else◌, pos, length};
+ghost use Rattle.std.specs.Prelude.{◌≡◌, true, ℕ, ◌+◌, ◌-◌, ◌*◌, ◌/◌, ◌<◌, ◌≤◌, nat_le, nat_lt, ◌&&◌, if◌then◌else◌, pos, length};
 ghost use Rattle.av1_dct.specs.Arithmetic.{at, clamp_value, FitsBits};
 ghost use Rattle.av1_lists.specs.Counts.{raised};
-ghost use Rattle.av1_lists.specs.Sides.{IsTransformSide};
-ghost use Rattle.av1_dct.specs.Cosine.{cosine};
 ghost use Rattle.av1_dct.specs.Operations.{half_btf};
 ghost use Rattle.av1_lists.specs.Lists.{by_index};
 ghost use Rattle.av1_dct.specs.Word.{column};
-ghost use Rattle.av1_itx.specs.Networks.{HasNetwork, network};
+ghost use Rattle.av1_itx.specs.LaneGroups.{is_cosine};
+ghost use Rattle.av1_itx.specs.Scaffolding.{AreColumns, AreLevel, AreTransformed};
 
 use crate::kinds::TxType1D;
 use crate::networks::inverse_1d;
@@ -16,6 +15,20 @@ use crate::words::BlockWord;
 use av1_blocks::INV_SQRT2;
 use av1_dct::{LaneCount, cosine_lanes};
 use std::simd::prelude::*;
+
+/// Columns of a buffer that are transformed in place: the first `count` of `width`, of `height` rows. The buffer stands
+/// row by row, and the height is 2^(power + 1).
+#[derive(Clone, Copy)]
+pub(crate) struct Columns {
+    /// Which transform they take.
+    pub(crate) kind: TxType1D,
+    pub(crate) count: usize,
+    pub(crate) width: usize,
+    pub(crate) height: usize,
+    pub(crate) power: usize,
+    /// How many bits values within them are clamped to.
+    pub(crate) range: usize,
+}
 
 // The inputs of the columns from c on, one in each lane, of a buffer of w columns.
 #[inline(always)]
@@ -47,72 +60,67 @@ fn scatter_words<W: BlockWord>(buffer: &mut [i32], line: &[W], c: usize, w: usiz
     }
 }
 
-/// Each group of eight columns, transformed in place by the cosine transform: `buffer` has w columns and h rows, row by
-/// row. Here h is 2^(k+1).
+/// Each group of eight columns, transformed in place by the cosine transform, and counted.
 pub(crate) fn run_groups(
     buffer: &mut [i32],
     line: &mut [i32x8],
     transformed: &mut [i32x8],
     count: &mut LaneCount,
-    w: usize,
-    h: usize,
-    k: usize,
-    range: usize,
+    columns: Columns,
 )
-    requires width { 8 * (w / 8) ≡ w }
-    requires few { w ≤ 64 }
-    requires height { IsTransformSide h }
-    requires power { h ≡ 2 * 2 ^ k }
-    requires buffer_len { length buffer.old ≡ h * w }
-    requires line_len { h ≤ length line.old }
-    requires transformed_len { h ≤ length transformed.old }
-    requires range_in { (8 ≤ range) × (range ≤ 20) }
-    requires fit { (r c : ℕ) → r < h → c < w → FitsBits range (at buffer.old (r * w + c)) }
-    ensures value { (r c : ℕ) → r < h → c < w → at buffer.new (r * w + c) ≡ at (cosine range k (by_index h (λ y. at buffer.old (y * w + c)))) r }
-    ensures counts { count.new.groups ≡ raised count.old.groups (w / 8) }
+    requires columns { AreColumns columns buffer.old }
+    requires many { 8 ≤ columns.width }
+    requires cosine { is_cosine columns.kind ≡ true }
+    requires line_len { columns.height ≤ length line.old }
+    requires transformed_len { columns.height ≤ length transformed.old }
+    ensures value { AreTransformed columns buffer.old buffer.new }
+    ensures counts { count.new.groups ≡ raised count.old.groups (columns.count / 8) }
 {
     // This tells the proof that the count is a u64.
     let _count = count.groups();
-    for g in 0..w / 8 {
+    let (w, h) = (columns.width, columns.height);
+    for g in 0..columns.count / 8 {
         gather_words(buffer, &mut line[..h], 8 * g, w);
-        cosine_lanes(count, h, &line[..h], &mut [], &mut transformed[..h], range);
+        cosine_lanes(
+            count,
+            h,
+            &line[..h],
+            &mut [],
+            &mut transformed[..h],
+            columns.range,
+        );
         scatter_words(buffer, &transformed[..h], 8 * g, w);
     }
 }
 
-/// The first columns of a buffer of w columns and h rows, one in each lane, transformed in place by any kind. Here h is
-/// 2^(k+1).
+/// Columns, one in each lane, transformed in place by any kind.
 #[inline(always)]
+#[tactic(auto, using(crate::proofs::Eights::group_within))]
 pub(crate) fn run_words<W: BlockWord>(
     buffer: &mut [i32],
     line: &mut [W],
     transformed: &mut [W],
-    kind: TxType1D,
-    columns: usize,
-    w: usize,
-    h: usize,
-    k: usize,
-    range: usize,
+    columns: Columns,
 )
     requires some { 0 < W.LANES }
-    requires whole { W.LANES * (columns / W.LANES) ≡ columns }
-    requires width { columns ≤ w }
-    requires few { w ≤ 64 }
-    requires height { h ≤ 64 }
-    requires power { h ≡ 2 * 2 ^ k }
-    requires has { HasNetwork kind k }
-    requires buffer_len { length buffer.old ≡ h * w }
-    requires line_len { h ≤ length line.old }
-    requires transformed_len { h ≤ length transformed.old }
-    requires range_in { (8 ≤ range) × (range ≤ 20) }
-    requires fit { (r c : ℕ) → r < h → c < columns → FitsBits range (at buffer.old (r * w + c)) }
-    ensures { (r c : ℕ) → r < h → c < columns → at buffer.new (r * w + c) ≡ at (network kind range k (by_index h (λ y. at buffer.old (y * w + c)))) r }
+    requires whole { W.LANES * (columns.count / W.LANES) ≡ columns.count }
+    requires columns { AreColumns columns buffer.old }
+    requires line_len { columns.height ≤ length line.old }
+    requires transformed_len { columns.height ≤ length transformed.old }
+    ensures { AreTransformed columns buffer.old buffer.new }
 {
     let m = W::LANES;
-    for g in 0..columns / m {
+    let (w, h) = (columns.width, columns.height);
+    for g in 0..columns.count / m {
         let c = m * g;
         gather_words(buffer, &mut line[..h], c, w);
-        inverse_1d(kind, k, &line[..h], &mut transformed[..h], range);
+        inverse_1d(
+            columns.kind,
+            columns.power,
+            &line[..h],
+            &mut transformed[..h],
+            columns.range,
+        );
         scatter_words(buffer, &transformed[..h], c, w);
     }
 }
@@ -137,27 +145,17 @@ fn level_words<W: BlockWord>(buffer: &mut [i32], c: usize, w: usize, h: usize, r
     }
 }
 
-/// The first columns of a buffer of w columns and h rows, transformed in place by the cosine transform where only the
-/// first row has values, as many at a time as a word has lanes.
-pub(crate) fn level_columns<W: BlockWord>(
-    buffer: &mut [i32],
-    columns: usize,
-    w: usize,
-    h: usize,
-    range: usize,
-)
+/// Columns, transformed in place by the cosine transform where only the first row has values, as many at a time as a word
+/// has lanes.
+#[tactic(auto, using(crate::proofs::Eights::group_within))]
+pub(crate) fn level_columns<W: BlockWord>(buffer: &mut [i32], columns: Columns)
     requires some { 0 < W.LANES }
-    requires whole { W.LANES * (columns / W.LANES) ≡ columns }
-    requires width { columns ≤ w }
-    requires few { w ≤ 64 }
-    requires height { (1 ≤ h) × (h ≤ 64) }
-    requires range_in { (8 ≤ range) × (range ≤ 20) }
-    requires buffer_len { length buffer.old ≡ h * w }
-    ensures { (r c : ℕ) → r < h → c < columns →
-        at buffer.new (r * w + c) ≡ clamp_value (half_btf (pos 2896) (at buffer.old c) (pos 0) (at buffer.old c)) range }
+    requires whole { W.LANES * (columns.count / W.LANES) ≡ columns.count }
+    requires columns { AreColumns columns buffer.old }
+    ensures { AreLevel columns buffer.old buffer.new }
 {
     let m = W::LANES;
-    for g in 0..columns / m {
-        level_words::<W>(buffer, m * g, w, h, range);
+    for g in 0..columns.count / m {
+        level_words::<W>(buffer, m * g, columns.width, columns.height, columns.range);
     }
 }

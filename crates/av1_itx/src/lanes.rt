@@ -2,19 +2,15 @@
 //!
 //! Rows of coefficients go the same way, since they are the columns of the list that coefficients stand in.
 
-ghost use Rattle.std.specs.Prelude.{◌≡◌, true, ℕ, pos, ◌+◌, ◌-◌, ◌*◌, ◌/◌, ◌^◌, ◌<◌, ◌≤◌, IfOk, length, vec_len};
-ghost use Rattle.av1_lists.specs.Sides.{IsTransformSide};
-ghost use Rattle.av1_dct.specs.Arithmetic.{at, clamp_value, FitsBits};
-ghost use Rattle.av1_dct.specs.Columns.{column_of};
-ghost use Rattle.av1_dct.specs.Cosine.{cosine};
-ghost use Rattle.av1_dct.specs.Operations.{half_btf};
+ghost use Rattle.std.specs.Prelude.{◌≡◌, true, ℕ, pos, ◌*◌, ◌/◌, ◌<◌, ◌≤◌, IfOk, length, vec_len};
+ghost use Rattle.av1_dct.specs.Arithmetic.{at};
 ghost use Rattle.av1_lists.specs.Counts.{raised};
 ghost use Rattle.av1_itx.specs.LaneGroups.{is_cosine};
-ghost use Rattle.av1_itx.specs.Networks.{HasNetwork, network};
+ghost use Rattle.av1_itx.specs.Scaffolding.{AreColumns, AreLevel, AreTransformed, IsSmallWord};
 
 use crate::kinds::TxType1D;
-use crate::lane_columns::{level_columns, run_groups, run_words};
-use crate::words::Held;
+use crate::lane_columns::{Columns, level_columns, run_groups, run_words};
+use crate::words::{BlockWord, Held};
 use av1_blocks::OutOfMemory;
 use av1_dct::{LaneCount, cosine_columns};
 use std::alloc::{AllocError, Global};
@@ -33,152 +29,54 @@ pub(crate) fn is_cosine(kind: TxType1D) -> bool
     matches!(kind, TxType1D::DCT)
 }
 
-// The first columns of a buffer of w columns and N = 2^(K+1) rows, four at a time, over lines of its own. Both are
-// constants of each instance, so that the compiler knows all places of a transform as numbers.
-fn four_of<const K: usize, const N: usize>(
-    buffer: &mut [i32],
-    kind: TxType1D,
-    columns: usize,
-    w: usize,
-    range: usize,
-)
-    requires whole { 4 * (columns / 4) ≡ columns }
-    requires width { columns ≤ w }
-    requires few { w ≤ 64 }
-    requires height { N ≤ 64 }
-    requires power { N ≡ 2 * 2 ^ K }
-    requires has { HasNetwork kind K }
-    requires buffer_len { length buffer.old ≡ N * w }
-    requires range_in { (8 ≤ range) × (range ≤ 20) }
-    requires fit { (r c : ℕ) → r < N → c < columns → FitsBits range (at buffer.old (r * w + c)) }
-    ensures { (r c : ℕ) → r < N → c < columns → at buffer.new (r * w + c) ≡ at (network kind range K (column_of N w c buffer.old)) r }
+// Columns of N = 2^(K+1) rows, one in each lane, over lines of its own. Both numbers are constants of each instance, so
+// that the compiler knows all places of a transform as numbers.
+fn words_of<W: BlockWord, const K: usize, const N: usize>(buffer: &mut [i32], columns: Columns)
+    requires some { 0 < W.LANES }
+    requires small { IsSmallWord W.row }
+    requires whole { W.LANES * (columns.count / W.LANES) ≡ columns.count }
+    requires columns { AreColumns columns buffer.old }
+    requires height { columns.height ≡ N }
+    requires power { columns.power ≡ K }
+    ensures { AreTransformed columns buffer.old buffer.new }
 {
-    let zero = Held {
-        word: i32x4::splat(0),
-    };
+    let zero = Held { word: W::splat(0) };
     let (mut line, mut transformed) = ([zero; N], [zero; N]);
-    run_words(
-        buffer,
-        &mut line,
-        &mut transformed,
-        kind,
-        columns,
-        w,
-        N,
-        K,
-        range,
-    );
+    let known = Columns {
+        height: N,
+        power: K,
+        ..columns
+    };
+    run_words(buffer, &mut line, &mut transformed, known);
 }
 
-// The same, eight at a time.
-fn eight_of<const K: usize, const N: usize>(
-    buffer: &mut [i32],
-    kind: TxType1D,
-    columns: usize,
-    w: usize,
-    range: usize,
-)
-    requires whole { 8 * (columns / 8) ≡ columns }
-    requires width { columns ≤ w }
-    requires few { w ≤ 64 }
-    requires height { N ≤ 64 }
-    requires power { N ≡ 2 * 2 ^ K }
-    requires has { HasNetwork kind K }
-    requires buffer_len { length buffer.old ≡ N * w }
-    requires range_in { (8 ≤ range) × (range ≤ 20) }
-    requires fit { (r c : ℕ) → r < N → c < columns → FitsBits range (at buffer.old (r * w + c)) }
-    ensures { (r c : ℕ) → r < N → c < columns → at buffer.new (r * w + c) ≡ at (network kind range K (column_of N w c buffer.old)) r }
+// Columns, as many at a time as a word has lanes, each height by a function of its own.
+fn word_columns<W: BlockWord>(buffer: &mut [i32], columns: Columns)
+    requires some { 0 < W.LANES }
+    requires small { IsSmallWord W.row }
+    requires whole { W.LANES * (columns.count / W.LANES) ≡ columns.count }
+    requires columns { AreColumns columns buffer.old }
+    ensures { AreTransformed columns buffer.old buffer.new }
 {
-    let zero = Held {
-        word: i32x8::splat(0),
-    };
-    let (mut line, mut transformed) = ([zero; N], [zero; N]);
-    run_words(
-        buffer,
-        &mut line,
-        &mut transformed,
-        kind,
-        columns,
-        w,
-        N,
-        K,
-        range,
-    );
-}
-
-// The first columns of h rows, four at a time, each height by a function of its own.
-fn four_columns(
-    buffer: &mut [i32],
-    kind: TxType1D,
-    columns: usize,
-    w: usize,
-    h: usize,
-    k: usize,
-    range: usize,
-)
-    requires whole { 4 * (columns / 4) ≡ columns }
-    requires width { columns ≤ w }
-    requires few { w ≤ 64 }
-    requires height { IsTransformSide h }
-    requires power { h ≡ 2 * 2 ^ k }
-    requires has { HasNetwork kind k }
-    requires buffer_len { length buffer.old ≡ h * w }
-    requires range_in { (8 ≤ range) × (range ≤ 20) }
-    requires fit { (r c : ℕ) → r < h → c < columns → FitsBits range (at buffer.old (r * w + c)) }
-    ensures { (r c : ℕ) → r < h → c < columns → at buffer.new (r * w + c) ≡ at (network kind range k (column_of h w c buffer.old)) r }
-{
-    match h {
-        4 => four_of::<1, 4>(buffer, kind, columns, w, range),
-        8 => four_of::<2, 8>(buffer, kind, columns, w, range),
-        16 => four_of::<3, 16>(buffer, kind, columns, w, range),
-        32 => four_of::<4, 32>(buffer, kind, columns, w, range),
-        _ => four_of::<5, 64>(buffer, kind, columns, w, range),
+    match columns.height {
+        4 => words_of::<W, 1, 4>(buffer, columns),
+        8 => words_of::<W, 2, 8>(buffer, columns),
+        16 => words_of::<W, 3, 16>(buffer, columns),
+        32 => words_of::<W, 4, 32>(buffer, columns),
+        _ => words_of::<W, 5, 64>(buffer, columns),
     }
 }
 
-// The same, eight at a time.
-fn eight_columns(
-    buffer: &mut [i32],
-    kind: TxType1D,
-    columns: usize,
-    w: usize,
-    h: usize,
-    k: usize,
-    range: usize,
-)
-    requires whole { 8 * (columns / 8) ≡ columns }
-    requires width { columns ≤ w }
-    requires few { w ≤ 64 }
-    requires height { IsTransformSide h }
-    requires power { h ≡ 2 * 2 ^ k }
-    requires has { HasNetwork kind k }
-    requires buffer_len { length buffer.old ≡ h * w }
-    requires range_in { (8 ≤ range) × (range ≤ 20) }
-    requires fit { (r c : ℕ) → r < h → c < columns → FitsBits range (at buffer.old (r * w + c)) }
-    ensures { (r c : ℕ) → r < h → c < columns → at buffer.new (r * w + c) ≡ at (network kind range k (column_of h w c buffer.old)) r }
+// Columns whose values have 16 bits, transformed in place by the cosine transform, eight at a time.
+fn short_columns(buffer: &mut [i32], columns: Columns)
+    requires columns { AreColumns columns buffer.old }
+    requires many { 8 ≤ columns.width }
+    requires short { columns.range ≡ 16 }
+    requires cosine { is_cosine columns.kind ≡ true }
+    ensures { AreTransformed columns buffer.old buffer.new }
 {
-    match h {
-        4 => eight_of::<1, 4>(buffer, kind, columns, w, range),
-        8 => eight_of::<2, 8>(buffer, kind, columns, w, range),
-        16 => eight_of::<3, 16>(buffer, kind, columns, w, range),
-        32 => eight_of::<4, 32>(buffer, kind, columns, w, range),
-        _ => eight_of::<5, 64>(buffer, kind, columns, w, range),
-    }
-}
-
-// The first columns, of 16 bits, transformed in place by the cosine transform, eight at a time.
-fn short_columns(buffer: &mut [i32], columns: usize, w: usize, h: usize, k: usize)
-    requires whole { 8 * (columns / 8) ≡ columns }
-    requires width { columns ≤ w }
-    requires few { w ≤ 64 }
-    requires height { IsTransformSide h }
-    requires power { h ≡ 2 * 2 ^ k }
-    requires buffer_len { length buffer.old ≡ h * w }
-    requires fit { (r c : ℕ) → r < h → c < columns → FitsBits 16 (at buffer.old (r * w + c)) }
-    ensures { (r c : ℕ) → r < h → c < columns → at buffer.new (r * w + c) ≡ at (cosine 16 k (column_of h w c buffer.old)) r }
-{
-    for g in 0..columns / 8 {
-        cosine_columns(h, buffer, 8 * g, w);
+    for g in 0..columns.count / 8 {
+        cosine_columns(columns.height, buffer, 8 * g, columns.width);
     }
 }
 
@@ -198,83 +96,41 @@ fn is_level(buffer: &[i32], w: usize) -> bool
     level
 }
 
-// The first columns, transformed in place by the cosine transform where only the first row has values.
-fn run_level_columns(buffer: &mut [i32], columns: usize, w: usize, h: usize, range: usize)
-    requires whole { 4 * (columns / 4) ≡ columns }
-    requires eights { 8 ≤ w → 8 * (columns / 8) ≡ columns }
-    requires width { columns ≤ w }
-    requires few { w ≤ 64 }
-    requires height { (1 ≤ h) × (h ≤ 64) }
-    requires range_in { (8 ≤ range) × (range ≤ 20) }
-    requires buffer_len { length buffer.old ≡ h * w }
-    ensures { (r c : ℕ) → r < h → c < columns →
-        at buffer.new (r * w + c) ≡ clamp_value (half_btf (pos 2896) (at buffer.old c) (pos 0) (at buffer.old c)) range }
+// Columns, transformed in place by the cosine transform where only the first row has values.
+fn run_level_columns(buffer: &mut [i32], columns: Columns)
+    requires columns { AreColumns columns buffer.old }
+    ensures { AreLevel columns buffer.old buffer.new }
 {
-    if w < LANES {
-        level_columns::<i32x4>(buffer, columns, w, h, range);
+    if columns.width < LANES {
+        level_columns::<i32x4>(buffer, columns);
     } else {
-        level_columns::<i32x8>(buffer, columns, w, h, range);
+        level_columns::<i32x8>(buffer, columns);
     }
 }
 
-// The first columns, transformed in place by the transform of a kind, whichever rows have values.
-fn run_full_columns(
-    buffer: &mut [i32],
-    kind: TxType1D,
-    columns: usize,
-    w: usize,
-    h: usize,
-    k: usize,
-    range: usize,
-)
-    requires whole { 4 * (columns / 4) ≡ columns }
-    requires eights { 8 ≤ w → 8 * (columns / 8) ≡ columns }
-    requires width { columns ≤ w }
-    requires few { w ≤ 64 }
-    requires height { IsTransformSide h }
-    requires power { h ≡ 2 * 2 ^ k }
-    requires has { HasNetwork kind k }
-    requires buffer_len { length buffer.old ≡ h * w }
-    requires range_in { (8 ≤ range) × (range ≤ 20) }
-    requires fit { (r c : ℕ) → r < h → c < columns → FitsBits range (at buffer.old (r * w + c)) }
-    ensures { (r c : ℕ) → r < h → c < columns → at buffer.new (r * w + c) ≡ at (network kind range k (column_of h w c buffer.old)) r }
+// Columns, transformed in place, whichever rows have values.
+fn run_full_columns(buffer: &mut [i32], columns: Columns)
+    requires columns { AreColumns columns buffer.old }
+    ensures { AreTransformed columns buffer.old buffer.new }
 {
-    if w < LANES {
-        four_columns(buffer, kind, columns, w, h, k, range);
-    } else if range == SHORT_BITS && is_cosine(kind) {
-        short_columns(buffer, columns, w, h, k);
+    if columns.width < LANES {
+        word_columns::<i32x4>(buffer, columns);
+    } else if columns.range == SHORT_BITS && is_cosine(columns.kind) {
+        short_columns(buffer, columns);
     } else {
-        eight_columns(buffer, kind, columns, w, h, k, range);
+        word_columns::<i32x8>(buffer, columns);
     }
 }
 
-/// The first columns of a buffer of w columns and h rows, transformed in place by the transform of a kind: eight at a
-/// time, or four where w is 4. Here h is 2^(k+1). Nothing is counted.
-pub(crate) fn run_columns(
-    buffer: &mut [i32],
-    kind: TxType1D,
-    columns: usize,
-    w: usize,
-    h: usize,
-    k: usize,
-    range: usize,
-)
-    requires whole { 4 * (columns / 4) ≡ columns }
-    requires eights { 8 ≤ w → 8 * (columns / 8) ≡ columns }
-    requires width { columns ≤ w }
-    requires few { w ≤ 64 }
-    requires height { IsTransformSide h }
-    requires power { h ≡ 2 * 2 ^ k }
-    requires has { HasNetwork kind k }
-    requires buffer_len { length buffer.old ≡ h * w }
-    requires range_in { (8 ≤ range) × (range ≤ 20) }
-    requires fit { (r c : ℕ) → r < h → c < columns → FitsBits range (at buffer.old (r * w + c)) }
-    ensures { (r c : ℕ) → r < h → c < columns → at buffer.new (r * w + c) ≡ at (network kind range k (column_of h w c buffer.old)) r }
+/// Columns, transformed in place: eight at a time, or four where the buffer has no more. Nothing is counted.
+pub(crate) fn run_columns(buffer: &mut [i32], columns: Columns)
+    requires columns { AreColumns columns buffer.old }
+    ensures { AreTransformed columns buffer.old buffer.new }
 {
-    if is_cosine(kind) && is_level(buffer, w) {
-        run_level_columns(buffer, columns, w, h, range);
+    if is_cosine(columns.kind) && is_level(buffer, columns.width) {
+        run_level_columns(buffer, columns);
     } else {
-        run_full_columns(buffer, kind, columns, w, h, k, range);
+        run_full_columns(buffer, columns);
     }
 }
 
@@ -285,20 +141,13 @@ pub(crate) trait CosineColumns {
 
     ghost raised_by: { ℕ → ℕ → ℕ };
 
-    /// Each column of a buffer of w columns and h rows, transformed in place by the cosine transform. Here h is
-    /// 2^(k+1).
-    fn run_cosine(&mut self, buffer: &mut [i32], w: usize, h: usize, k: usize, range: usize)
-        requires width { 8 * (w / 8) ≡ w }
-        requires some { 8 ≤ w }
-        requires few { w ≤ 64 }
-        requires height { IsTransformSide h }
-        requires power { h ≡ 2 * 2 ^ k }
-        requires rounds { (1 ≤ k) × (k ≤ 5) }
-        requires buffer_len { length buffer.old ≡ h * w }
-        requires range_in { (8 ≤ range) × (range ≤ 20) }
-        requires fit { (r c : ℕ) → r < h → c < w → FitsBits range (at buffer.old (r * w + c)) }
-        ensures value { (r c : ℕ) → r < h → c < w → at buffer.new (r * w + c) ≡ at (cosine range k (column_of h w c buffer.old)) r }
-        ensures counts { tally self.new ≡ raised_by (tally self.old) (w / 8) };
+    /// Columns, transformed in place by the cosine transform.
+    fn run_cosine(&mut self, buffer: &mut [i32], columns: Columns)
+        requires columns { AreColumns columns buffer.old }
+        requires many { 8 ≤ columns.width }
+        requires cosine { is_cosine columns.kind ≡ true }
+        ensures value { AreTransformed columns buffer.old buffer.new }
+        ensures counts { tally self.new ≡ raised_by (tally self.old) (columns.count / 8) };
 
     /// That no group more leaves the count as it is.
     fn none_more(&self)
@@ -350,16 +199,13 @@ impl CosineColumns for Lanes {
 
     ghost raised_by = { raised };
 
-    fn run_cosine(&mut self, buffer: &mut [i32], w: usize, h: usize, k: usize, range: usize) {
+    fn run_cosine(&mut self, buffer: &mut [i32], columns: Columns) {
         run_groups(
             buffer,
             self.line.as_mut_slice(),
             self.transformed.as_mut_slice(),
             &mut self.count,
-            w,
-            h,
-            k,
-            range,
+            columns,
         );
     }
 
@@ -378,8 +224,8 @@ impl CosineColumns for Uncounted {
 
     ghost raised_by = { λ _ _. 0 };
 
-    fn run_cosine(&mut self, buffer: &mut [i32], w: usize, h: usize, k: usize, range: usize) {
-        run_columns(buffer, TxType1D::DCT, w, w, h, k, range);
+    fn run_cosine(&mut self, buffer: &mut [i32], columns: Columns) {
+        run_columns(buffer, columns);
     }
 
     fn none_more(&self) {}

@@ -5,15 +5,16 @@
 
 ghost use Rattle.std.specs.Prelude.{◌≡◌, true, ℕ, ◌+◌, ◌*◌, ◌/◌, ◌^◌, ◌<◌, ◌≤◌, ◌==◌, if◌then◌else◌, min, pos, ◌*ℤ◌, length, map, ◌⊎◌};
 ghost use Rattle.std.specs.Int.{int_shr};
-ghost use Rattle.av1_blocks.specs.Transforms.{tx_width, tx_height, coded, coded_area};
+ghost use Rattle.av1_blocks.specs.Transforms.{tx_width, tx_height, coded};
 ghost use Rattle.av1_dct.specs.Arithmetic.{at, clamp_value, FitsBits};
 ghost use Rattle.av1_frame.specs.Arithmetic.{round_shift};
-ghost use Rattle.av1_itx.specs.Kinds.{row_kind};
-ghost use Rattle.av1_itx.specs.Networks.{HasNetwork};
-ghost use Rattle.av1_itx.specs.Residue.{column_range, is_lossless, is_two_to_one, row_input, row_power, row_range, row_shift, row_value, transformed_row};
+ghost use Rattle.av1_itx.specs.Residue.{is_lossless, is_two_to_one, row_input, row_range, row_value};
+ghost use Rattle.av1_itx.specs.Scaffolding.{AreCoefficients, AreRowsDone, block_rows};
 
+use crate::block::Block;
 use crate::columns::{column_range_of, row_shift_of};
 use crate::kinds::get_1d_tx_types;
+use crate::lane_columns::Columns;
 use crate::lanes::{LANES, run_columns};
 use crate::words::BlockWord;
 use av1_blocks::{INV_SQRT2, SQRT2_BITS, TxSize, TxType};
@@ -65,21 +66,15 @@ fn row_value_of(v: i32, scaling: Scaling, bd: usize) -> i32
 }
 
 // Each coefficient as the rows take it. One pass over neighbours is cheaper than one along each row.
-fn scale_all<C: Coefficient>(
-    input: &[C],
-    scaled: &mut [i32],
-    tx_size: TxSize,
-    tx_type: TxType,
-    bd: usize,
-)
-    requires depth_in { (8 ≤ bd) × (bd ≤ 12) }
+fn scale_all<C: Coefficient>(input: &[C], scaled: &mut [i32], block: Block)
+    requires depth_in { (8 ≤ block.bd) × (block.bd ≤ 12) }
     requires input_len { length scaled.old ≤ length input.now }
-    requires input_fits { (i : ℕ) → i < length scaled.old → FitsBits (bd + 8) (at (map C.val input.now) i) }
-    ensures { (i : ℕ) → i < length scaled.old → at scaled.new i ≡ row_value tx_size tx_type bd (at (map C.val input.now) i) }
+    requires input_fits { (i : ℕ) → i < length scaled.old → FitsBits (block.bd + 8) (at (map C.val input.now) i) }
+    ensures { (i : ℕ) → i < length scaled.old → at scaled.new i ≡ row_value block.tx_size block.tx_type block.bd (at (map C.val input.now) i) }
 {
-    let scaling = scaling_of(tx_size, tx_type);
+    let scaling = scaling_of(block.tx_size, block.tx_type);
     for i in 0..scaled.len() {
-        scaled[i] = row_value_of(input[i].to_i32(), scaling, bd);
+        scaled[i] = row_value_of(input[i].to_i32(), scaling, block.bd);
     }
 }
 
@@ -92,26 +87,17 @@ fn clear(line: &mut [i32])
     }
 }
 
-// The inputs of all rows that have coefficients, row r in column r: scaled coefficients, and zeros from column 32 of
-// the block on.
-fn fill_rows<C: Coefficient>(
-    input: &[C],
-    scaled: &mut [i32],
-    tx_size: TxSize,
-    tx_type: TxType,
-    bd: usize,
-)
-    requires depth_in { (8 ≤ bd) × (bd ≤ 12) }
-    requires input_len { coded_area tx_size ≤ length input.now }
-    requires input_fits { (i : ℕ) → i < coded_area tx_size → FitsBits (bd + 8) (at (map C.val input.now) i) }
-    requires scaled_len { length scaled.old ≡ tx_width tx_size * coded (tx_height tx_size) }
-    ensures { (c r : ℕ) → c < tx_width tx_size → r < coded (tx_height tx_size) →
-        at scaled.new (c * coded (tx_height tx_size) + r) ≡ row_input tx_size tx_type bd (map C.val input.now) r c }
+// The inputs of all rows that have coefficients, row r in column r: scaled coefficients as far as they are given, and
+// zeros behind them.
+fn fill_rows<C: Coefficient>(input: &[C], scaled: &mut [i32], block: Block)
+    requires block { AreCoefficients C.val block input.now }
+    requires scaled_len { length scaled.old ≡ tx_width block.tx_size * coded (tx_height block.tx_size) }
+    ensures { (c r : ℕ) → c < tx_width block.tx_size → r < coded (tx_height block.tx_size) →
+        at scaled.new (c * coded (tx_height block.tx_size) + r) ≡ row_input block.tx_size block.tx_type block.bd (map C.val input.now) r c }
 {
-    let rows = tx_size.height().min(32);
-    let columns = tx_size.width().min(32);
-    scale_all(input, &mut scaled[..columns * rows], tx_size, tx_type, bd);
-    clear(&mut scaled[columns * rows..]);
+    let given = input.len().min(block.tx_size.coded_area());
+    scale_all(input, &mut scaled[..given], block);
+    clear(&mut scaled[given..]);
 }
 
 // Whether the rows from r on are zeros, as many as a word has lanes.
@@ -240,44 +226,44 @@ fn write_groups<W: BlockWord>(
     }
 }
 
+// The first rows of a block, so many, as the columns of the list of coefficients.
+fn rows_in(block: Block, count: usize) -> Columns
+    requires { (8 ≤ block.bd) × (block.bd ≤ 12) }
+    ensures { result ≡ block_rows block count }
+{
+    let (_, kind) = get_1d_tx_types(block.tx_type);
+    Columns {
+        kind,
+        count,
+        width: block.tx_size.height().min(32),
+        height: block.tx_size.width(),
+        power: block.tx_size.width_log2() - 1,
+        range: block.bd + 8,
+    }
+}
+
 // All rows, as many at a time as a word has lanes. Those past the last coefficient are zeros, and are not run.
 fn rows_of<C: Coefficient, W: BlockWord>(
     input: &[C],
     scaled: &mut [i32],
     buffer: &mut [i32],
-    tx_size: TxSize,
-    tx_type: TxType,
-    bd: usize,
+    block: Block,
 )
-    requires depth_in { (8 ≤ bd) × (bd ≤ 12) }
     requires lanes { (W.LANES ≡ 4) ⊎ (W.LANES ≡ 8) }
-    requires eights { 8 ≤ tx_height tx_size → W.LANES ≡ 8 }
-    requires whole { W.LANES * (coded (tx_height tx_size) / W.LANES) ≡ coded (tx_height tx_size) }
-    requires has { HasNetwork (row_kind tx_type) (row_power tx_size) }
-    requires scaled_len { length scaled.old ≡ tx_width tx_size * coded (tx_height tx_size) }
-    requires buffer_len { length buffer.old ≡ tx_height tx_size * tx_width tx_size }
-    requires input_len { coded_area tx_size ≤ length input.now }
-    requires input_fits { (i : ℕ) → i < coded_area tx_size → FitsBits (bd + 8) (at (map C.val input.now) i) }
-    ensures { (r c : ℕ) → r < tx_height tx_size → c < tx_width tx_size →
-        at buffer.new (r * tx_width tx_size + c) ≡
-        clamp_value (round_shift (at (transformed_row tx_size tx_type bd (map C.val input.now) r) c) (row_shift tx_size)) (column_range bd) }
+    requires eights { 8 ≤ tx_height block.tx_size → W.LANES ≡ 8 }
+    requires whole { W.LANES * (coded (tx_height block.tx_size) / W.LANES) ≡ coded (tx_height block.tx_size) }
+    requires block { AreCoefficients C.val block input.now }
+    requires scaled_len { length scaled.old ≡ tx_width block.tx_size * coded (tx_height block.tx_size) }
+    requires buffer_len { length buffer.old ≡ tx_height block.tx_size * tx_width block.tx_size }
+    ensures { AreRowsDone block (map C.val input.now) buffer.new }
 {
-    let (m, w) = (W::LANES, tx_size.width());
-    let rows = tx_size.height().min(32);
-    let (_, kind) = get_1d_tx_types(tx_type);
-    let (shift, range) = (row_shift_of(tx_size), column_range_of(bd));
-    fill_rows(input, scaled, tx_size, tx_type, bd);
+    let (m, w) = (W::LANES, block.tx_size.width());
+    let rows = block.tx_size.height().min(32);
+    let (shift, range) = (row_shift_of(block.tx_size), column_range_of(block.bd));
+    fill_rows(input, scaled, block);
     let groups = live_groups::<W>(scaled, rows, w);
     let live = m * groups;
-    run_columns(
-        scaled,
-        kind,
-        live,
-        rows,
-        w,
-        tx_size.width_log2() - 1,
-        bd + 8,
-    );
+    run_columns(scaled, rows_in(block, live));
     write_groups::<W>(
         scaled,
         &mut buffer[..live * w],
@@ -296,23 +282,16 @@ pub(crate) fn row_pass<C: Coefficient>(
     input: &[C],
     scaled: &mut [i32],
     buffer: &mut [i32],
-    tx_size: TxSize,
-    tx_type: TxType,
-    bd: usize,
+    block: Block,
 )
-    requires depth_in { (8 ≤ bd) × (bd ≤ 12) }
-    requires has { HasNetwork (row_kind tx_type) (row_power tx_size) }
-    requires scaled_len { length scaled.old ≡ tx_width tx_size * coded (tx_height tx_size) }
-    requires buffer_len { length buffer.old ≡ tx_height tx_size * tx_width tx_size }
-    requires input_len { coded_area tx_size ≤ length input.now }
-    requires input_fits { (i : ℕ) → i < coded_area tx_size → FitsBits (bd + 8) (at (map C.val input.now) i) }
-    ensures { (r c : ℕ) → r < tx_height tx_size → c < tx_width tx_size →
-        at buffer.new (r * tx_width tx_size + c) ≡
-        clamp_value (round_shift (at (transformed_row tx_size tx_type bd (map C.val input.now) r) c) (row_shift tx_size)) (column_range bd) }
+    requires block { AreCoefficients C.val block input.now }
+    requires scaled_len { length scaled.old ≡ tx_width block.tx_size * coded (tx_height block.tx_size) }
+    requires buffer_len { length buffer.old ≡ tx_height block.tx_size * tx_width block.tx_size }
+    ensures { AreRowsDone block (map C.val input.now) buffer.new }
 {
-    if tx_size.height() < LANES {
-        rows_of::<C, i32x4>(input, scaled, buffer, tx_size, tx_type, bd);
+    if block.tx_size.height() < LANES {
+        rows_of::<C, i32x4>(input, scaled, buffer, block);
     } else {
-        rows_of::<C, i32x8>(input, scaled, buffer, tx_size, tx_type, bd);
+        rows_of::<C, i32x8>(input, scaled, buffer, block);
     }
 }

@@ -6,39 +6,41 @@ use Rattle.av1_frame.specs.Samples.{paint}
 use Rattle.av1_frame.proofs.Paint.{paint_same}
 use Rattle.av1_dct.proofs.Fits.{clamp_value-fits}
 use Rattle.av1_itx.specs.Residue.{column_range}
+use Rattle.av1_itx.proofs.Handed.{columns_are}
 use Rattle.av1_itx.proofs.Passes.{column-fits, residue_is}
 use Rattle.av1_itx.proofs.inverse.add_block.Goals as goal
 
-pub column_pass-requires-clause-fit : goal.column_pass-requires-clause-fit
-column_pass-requires-clause-fit g c = λ r q hr hq.
-    let P : ℤ → Type 0 = λ z. FitsBits (column_range c.args.bd) z in
-    subst P (sym (c.row_pass.ensures r q hr hq)) (clamp_value-fits _ (column_range c.args.bd) (omega arith))
+pub column_pass-requires-clause-columns : goal.column_pass-requires-clause-columns
+column_pass-requires-clause-columns g c =
+    let P : ℤ → Type 0 = λ z. FitsBits (column_range c.args.block.bd) z in
+    columns_are c.args.block c.row_pass.new.buffer c.requires.block.depth c.requires.block.columns (c.row_pass.auto.buffer ∙ c.requires.buffer_len)
+    (λ r q hr hq. subst P (sym (c.row_pass.ensures r q hr hq)) (clamp_value-fits _ (column_range c.args.block.bd) (omega arith)))
 
 pub add_rows-requires-clause-fit : goal.add_rows-requires-clause-fit
 add_rows-requires-clause-fit g c = λ r q hr hq.
-    let size = c.args.tx_size in
+    let size = c.args.block.tx_size in
     let P : ℤ → Type 0 = λ z. FitsBits 24 z in
     let Q : ℕ → Type 0 = λ n. FitsBits 24 (at c.column_pass.new.buffer (r * n + q)) in
-    let R : ℤ → Type 0 = λ z. FitsBits (column_range c.args.bd) z in
-    let k : q < tx_width size = omega (arith, c.requires.width) in
-    subst Q (sym c.requires.width)
-    (subst P (sym (c.column_pass.ensures.value r q (omega arith) k)) (column-fits size c.args.tx_type c.args.bd c.row_pass.new.buffer r q (omega arith)
-    (λ y hy. subst R (sym (c.row_pass.ensures y q hy k)) (clamp_value-fits _ (column_range c.args.bd) (omega arith)))))
+    let R : ℤ → Type 0 = λ z. FitsBits (column_range c.args.block.bd) z in
+    let k : q < tx_width size = omega (arith, c.requires.place.width) in
+    subst Q (sym c.requires.place.width)
+    (subst P (sym (c.column_pass.ensures.value r q (omega arith) k)) (column-fits size c.args.block.tx_type c.args.block.bd c.row_pass.new.buffer r q (omega arith)
+    (λ y hy. subst R (sym (c.row_pass.ensures y q hy k)) (clamp_value-fits _ (column_range c.args.block.bd) (omega arith)))))
 
 pub returns-clause-painted : goal.returns-clause-painted
 returns-clause-painted g c =
-    let a = c.args.area in
-    let size = c.args.tx_size in
-    let type = c.args.tx_type in
+    let a = c.args.place.area in
+    let size = c.args.block.tx_size in
+    let type = c.args.block.tx_type in
     let cs = map g.T.Coeff.Coefficient.val c.args.input.now in
     let buf = c.column_pass.new.buffer in
-    let put_on = λ (z : ℤ) (v : _). g.T.Pixel.pixel (clip c.args.bd (pos (g.T.Pixel.num v) +ℤ z)) in
+    let put_on = λ (z : ℤ) (v : _). g.T.Pixel.pixel (clip c.args.block.bd (pos (g.T.Pixel.num v) +ℤ z)) in
     c.add_rows.ensures
-    ∙ ap (λ n. paint c.args.stride a (λ r q v. put_on (round_shift (at buf (r * n + q)) c.column_shift_of-shift.result) v) c.args.samples.now) c.requires.width
-    ∙ ap (λ n. paint c.args.stride a (λ r q v. put_on (round_shift (at buf (r * tx_width size + q)) n) v) c.args.samples.now)
+    ∙ ap (λ n. paint c.args.place.stride a (λ r q v. put_on (round_shift (at buf (r * n + q)) c.column_shift_of-shift.result) v) c.args.samples.now) c.requires.place.width
+    ∙ ap (λ n. paint c.args.place.stride a (λ r q v. put_on (round_shift (at buf (r * tx_width size + q)) n) v) c.args.samples.now)
     c.column_shift_of-shift.ensures.value
-    ∙ paint_same c.args.stride a _ _ c.args.samples.now (λ r q v hr hq.
-    let h : r < tx_height size = omega (arith, c.requires.height) in
-    let k : q < tx_width size = omega (arith, c.requires.width) in
+    ∙ paint_same c.args.place.stride a _ _ c.args.samples.now (λ r q v hr hq.
+    let h : r < tx_height size = omega (arith, c.requires.place.height) in
+    let k : q < tx_width size = omega (arith, c.requires.place.width) in
     ap (λ z. put_on z v)
-    (residue_is size type c.args.bd cs c.row_pass.new.buffer r q _ (c.column_pass.ensures.value r q h k) (λ y hy. c.row_pass.ensures y q hy k)))
+    (residue_is size type c.args.block.bd cs c.row_pass.new.buffer r q _ (c.column_pass.ensures.value r q h k) (λ y hy. c.row_pass.ensures y q hy k)))

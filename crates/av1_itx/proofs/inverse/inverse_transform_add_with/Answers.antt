@@ -1,8 +1,4 @@
-use Rattle.std.proofs.Common.{rules, refl, ◌≡◌, ap, length, subst, sym}
-use Rattle.av1_blocks.specs.Transforms.{tx_height, tx_width}
-use Rattle.av1_frame.specs.Areas.{AreRows}
-use Rattle.av1_frame.specs.Samples.{in_rows}
-use Rattle.av1_frame.specs.declared.plane_region.StoredArea.{StoredArea}
+use Rattle.std.proofs.Common.{rules, refl}
 use Rattle.av1_frame.proofs.Regions.{lent_painted, lent_rows, written_in_storage}
 use Rattle.av1_itx.proofs.inverse.inverse_transform_add_with.Goals as goal
 

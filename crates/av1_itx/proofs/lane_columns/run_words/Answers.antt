@@ -1,56 +1,34 @@
-use Rattle.std.proofs.Common.{arith, ℕ, ℤ, ◌≡◌, ◌+◌, ◌*◌, ◌/◌, ◌++◌, ◌∙◌, ap, sym, subst, take, drop, length}
+use Rattle.std.proofs.Common.{arith, ℕ, ℤ, ◌≡◌, ◌+◌, ◌*◌, ◌≤◌, ◌++◌, ◌∙◌, ap, sym, subst, take, drop, length}
 use Rattle.std.proofs.lemmas.List.{length-take-le, take_at}
 use Rattle.av1_dct.specs.Arithmetic.{at, FitsBits}
 use Rattle.av1_lists.specs.Lists.{by_index}
 use Rattle.av1_dct.specs.Word.{column}
 use Rattle.av1_itx.specs.Networks.{network}
-use Rattle.av1_itx.proofs.Lines.{column_written}
-use Rattle.av1_itx.proofs.Eights.{groups_more, lanes-fit, lanes_kept, lane_run, group_room, all_groups}
+use Rattle.av1_itx.proofs.Eights.{group_in, groups_more, groups_written, lanes-fit, lanes_kept, lane_run}
 use Rattle.av1_itx.proofs.lane_columns.run_words.Goals as goal
-
-pub gather_words-requires-clause-columns_in : goal.gather_words-requires-clause-columns_in
-gather_words-requires-clause-columns_in g c =
-    let n = c.args.columns in
-    let m = c.LANES-m.result in
-    let whole : m * (n / m) ≡ n = subst (λ (k : ℕ). k * (n / k) ≡ n) (sym c.LANES-m.ensures) c.requires.whole in
-    let room = group_room m c.loop-g.g n whole (omega arith) in
-    omega (arith, room, c.LANES-m.ensures, c.requires.width)
-
-pub scatter_words-requires-clause-columns_in : goal.scatter_words-requires-clause-columns_in
-scatter_words-requires-clause-columns_in g c =
-    let n = c.args.columns in
-    let m = c.LANES-m.result in
-    let whole : m * (n / m) ≡ n = subst (λ (k : ℕ). k * (n / k) ≡ n) (sym c.LANES-m.ensures) c.requires.whole in
-    let room = group_room m c.loop-g.g n whole (omega arith) in
-    omega (arith, room, c.LANES-m.ensures, c.requires.width)
 
 pub inverse_1d-requires-clause-fit : goal.inverse_1d-requires-clause-fit
 inverse_1d-requires-clause-fit g c = λ i h.
-    let P : ℤ → Type 0 = λ z. FitsBits c.args.range z in
-    let line_len = length-take-le c.args.h c.loop-g.line (omega arith) in
+    let P : ℤ → Type 0 = λ z. FitsBits c.args.columns.range z in
+    let line_len = length-take-le c.args.columns.height c.loop-g.line (omega arith) in
     let at_column = c.LANES-m.result * c.loop-g.g in
-    let room =
-    (let n = c.args.columns in let m = c.LANES-m.result
-    in let whole : m * (n / m) ≡ n = subst (λ (k : ℕ). k * (n / k) ≡ n) (sym c.LANES-m.ensures) c.requires.whole
-    in group_room m c.loop-g.g n whole (omega arith)) in
-    lanes-fit g.W.Word.lane_of c.args.h c.args.range i _ _ c.gather_words.new.line _ line_len (c.gather_words.auto.line ∙ line_len) (c.gather_words.ensures i h)
+    let room : at_column + g.W.Word.LANES ≤ c.args.columns.count = group_in c.LANES-m.ensures c.requires.whole (omega arith) in
+    lanes-fit g.W.Word.lane_of c.args.columns.height c.args.columns.range i _ _ c.gather_words.new.line _ line_len
+    (c.gather_words.auto.line ∙ line_len) (c.gather_words.ensures i h)
     (λ r hr.
-    subst P (sym (lanes_kept c.args.w at_column (at_column + i) c.args.h _ c.loop-g.buffer c.args.buffer.now c.loop-g.invariant (omega arith)
-    (omega arith) r hr)) (c.requires.fit r (at_column + i) hr (omega arith)))
+    subst P (sym (lanes_kept c.args.columns.width at_column (at_column + i) c.args.columns.height _ c.loop-g.buffer c.args.buffer.now c.loop-g.invariant (omega arith)
+    (omega arith) r hr)) (c.requires.columns.fit r (at_column + i) hr (omega arith)))
 
 pub loop-g-preserved : goal.loop-g-preserved
 loop-g-preserved g c =
     let lane = g.W.Word.lane_of in
     let m = g.W.Word.LANES in
-    let w = c.args.w in
-    let h = c.args.h in
+    let w = c.args.columns.width in
+    let h = c.args.columns.height in
     let at_column = c.LANES-m.result * c.loop-g.g in
-    let room =
-    (let n = c.args.columns in let m = c.LANES-m.result
-    in let whole : m * (n / m) ≡ n = subst (λ (k : ℕ). k * (n / k) ≡ n) (sym c.LANES-m.ensures) c.requires.whole
-    in group_room m c.loop-g.g n whole (omega arith)) in
+    let room : at_column + g.W.Word.LANES ≤ c.args.columns.count = group_in c.LANES-m.ensures c.requires.whole (omega arith) in
     let old = c.args.buffer.now in
-    let F = λ (r q : ℕ). at (network c.args.kind c.args.range c.args.k (by_index h (λ y. at old (y * w + q)))) r in
+    let F = λ (r q : ℕ). at (network c.args.columns.kind c.args.columns.range c.args.columns.power (by_index h (λ y. at old (y * w + q)))) r in
     let line_len = length-take-le h c.loop-g.line (omega arith) in
     let out = c.inverse_1d.new.output in
     let lo : length out ≡ h = c.inverse_1d.auto.output ∙ length-take-le h c.loop-g.transformed (omega arith) in
@@ -60,14 +38,10 @@ loop-g-preserved g c =
     c.loop-g.invariant
     (λ r q hr hq. c.scatter_words.ensures r q (omega arith) hq)
     (λ i r hi hr. ap (λ zs. at zs r)
-    (lane_run lane h i _ (network c.args.kind c.args.range c.args.k) _ (λ y. at old (y * w + (at_column + i))) c.gather_words.new.line _ out _ line_len
+    (lane_run lane h i _ (network c.args.columns.kind c.args.columns.range c.args.columns.power) _ (λ y. at old (y * w + (at_column + i))) c.gather_words.new.line _ out _ line_len
     (c.gather_words.auto.line ∙ line_len) lo (c.gather_words.ensures i hi) (c.inverse_1d.ensures i hi)
     (λ y hy. lanes_kept w at_column (at_column + i) h F c.loop-g.buffer old c.loop-g.invariant (omega arith) (omega arith) y hy)))
 
 pub returns : goal.returns
-returns g c = λ r q hr hq.
-    let n = c.args.columns in
-    let m = c.LANES-m.result in
-    let whole : m * (n / m) ≡ n = subst (λ (k : ℕ). k * (n / k) ≡ n) (sym c.LANES-m.ensures) c.requires.whole in
-    column_written n c.args.w (m * c.loop-g.g) c.args.h c.loop-g.buffer c.args.buffer.now _ c.loop-g.invariant
-    (all_groups m c.loop-g.g n whole (omega arith)) c.requires.width r q hr hq
+returns g c = groups_written c.LANES-m.result g.W.Word.LANES c.loop-g.g c.args.columns c.loop-g.buffer c.args.buffer.now _ c.LANES-m.ensures c.requires.whole
+    c.requires.columns.within (omega arith) c.loop-g.invariant

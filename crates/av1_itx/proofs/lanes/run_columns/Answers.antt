@@ -4,8 +4,9 @@ use Rattle.av1_itx.proofs.lanes.run_columns.Goals as goal
 
 pub returns-then-is_level : goal.returns-then-is_level
 returns-then-is_level c = λ r q hr hq.
-    let a = c.args in
+    let a = c.args.columns in
     let told = sym c.is_cosine.ensures ∙ (let t : c.is_cosine.result ≡ true = grind (arith, tests, c.if-is_cosine.true) in t) in
     let flat : c.is_level.result ≡ true = grind (arith, tests, c.if-is_level.true) in
-    level_is a.kind a.range a.k a.h a.w q r a.buffer.now _ told (c.is_level.ensures flat) c.requires.power (cosine_rounds a.kind a.k told c.requires.has).0 hr
+    level_is a.kind a.range a.power a.height a.width q r c.args.buffer.now _ told (c.is_level.ensures flat) c.requires.columns.power
+    (cosine_rounds a.kind a.power told c.requires.columns.has).0 hr
     (c.run_level_columns.ensures r q hr hq)

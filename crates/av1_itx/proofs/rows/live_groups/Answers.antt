@@ -1,4 +1,4 @@
-use Rattle.std.proofs.Common.{arith, tests, true, ℕ, ◌≡◌, ◌≤◌, ◌<◌, ◌+◌, ◌-◌, ◌*◌, ◌/◌, ◌∙◌, ap, sym, subst, inl, inr, pos}
+use Rattle.std.proofs.Common.{arith, tests, true, ℕ, ◌≡◌, ◌≤◌, ◌+◌, ◌-◌, ◌*◌, ◌/◌, ap, sym, subst, inl, inr, pos}
 use Rattle.std.proofs.lemmas.Bool.{cases_lt}
 use Rattle.av1_dct.specs.Arithmetic.{at}
 use Rattle.av1_itx.proofs.Eights.{group_room, all_groups}

@@ -4,4 +4,4 @@ use Rattle.av1_itx.specs.Residue.{row_value}
 use Rattle.av1_itx.proofs.rows.scale_all.Given as goal
 
 abbrev pub invariant-loop-i : goal.invariant-loop-i
-invariant-loop-i g l = (k : ℕ) → k < l.i → at l.scaled k ≡ row_value l.fn.tx_size l.fn.tx_type l.bd (at (map g.C.Coefficient.val l.input) k)
+invariant-loop-i g l = (k : ℕ) → k < l.i → at l.scaled k ≡ row_value l.block.tx_size l.block.tx_type l.block.bd (at (map g.C.Coefficient.val l.input) k)

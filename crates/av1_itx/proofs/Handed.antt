@@ -1,0 +1,87 @@
+-- What the passes are handed: coefficients of a block, their rows and its columns.
+use Rattle.std.proofs.Common.{ℕ, ◌≡◌, ◌≤◌, ◌<◌, ◌+◌, ◌*◌, ◌/◌, ◌^◌, ℤ, List, IsTrue, map, length, true, arith, ap, subst, sym, refl, cond}
+use Rattle.av1_blocks.specs.declared.transform.TxSize.{TxSize}
+use Rattle.av1_blocks.specs.declared.transform.TxSize.TheVariants.{TX_4X4}
+use Rattle.av1_blocks.specs.declared.transform.TxType.TheVariants.{WHT_WHT}
+use Rattle.av1_blocks.specs.Depths.{IsDepth}
+use Rattle.av1_blocks.specs.Transforms.{tx_width, tx_height, coded, coded_area, valid_av1_transform}
+use Rattle.av1_dct.specs.Arithmetic.{at, FitsBits}
+use Rattle.av1_itx.specs.declared.block.Block.{Block}
+use Rattle.av1_itx.specs.Kinds.{column_kind, row_kind}
+use Rattle.av1_itx.specs.LaneGroups.{is_cosine, lane_groups}
+use Rattle.av1_itx.specs.Networks.{HasNetwork}
+use Rattle.av1_itx.specs.Residue.{column_power, column_range, row_input, row_power, row_range}
+use Rattle.av1_itx.specs.Scaffolding.{AreCoefficients, AreColumns, block_columns, block_rows}
+use Rattle.av1_itx.proofs.Passes.{input-fits}
+use Rattle.av1_itx.proofs.Sizes.{both_run, sides}
+use Rattle.av1_itx.proofs.Widths.{is_length}
+
+-- sides are twice a power of two
+powers : (size : TxSize) → (tx_width size ≡ 2 * 2 ^ row_power size) × (tx_height size ≡ 2 * 2 ^ column_power size)
+powers size = elim size as (λ t. (tx_width t ≡ 2 * 2 ^ row_power t) × (tx_height t ≡ 2 * 2 ^ column_power t)) [ TX_4X4 ↦ (refl, refl) | _ ↦ (refl, refl) ]
+
+-- widths are multiples of four, and of eight where they are so great
+groups : (size : TxSize) → (4 * (tx_width size / 4) ≡ tx_width size) × (8 ≤ tx_width size → 8 * (tx_width size / 8) ≡ tx_width size) × (tx_width size ≤ 64)
+groups size =
+    elim size as (λ t. (4 * (tx_width t / 4) ≡ tx_width t) × (8 ≤ tx_width t → 8 * (tx_width t / 8) ≡ tx_width t) × (tx_width t ≤ 64))
+    [ TX_4X4 ↦ (refl, (λ h. omega arith), omega arith) | _ ↦ (refl, (λ h. omega arith), omega arith) ]
+
+pub coefficients_are : {C : Type 0} (val : C → ℤ) (block : Block) (input : List C) → IsDepth block.bd
+    → IsTrue (valid_av1_transform block.tx_size block.tx_type) → (block.tx_type ≡ WHT_WHT → block.tx_size ≡ TX_4X4)
+    → ((i : ℕ) → i < coded_area block.tx_size → FitsBits (block.bd + 8) (at (map val input) i)) → AreCoefficients val block input
+coefficients_are val block input depth valid lossless fit =
+    let both = both_run block.tx_size block.tx_type valid lossless in
+    record { depth = (omega arith, omega arith); rows = both.0; columns = both.1; fit = fit }
+
+-- rows that were filled
+pub rows_are : (block : Block) (count : ℕ) (cs scaled : List ℤ) → (8 ≤ block.bd) × (block.bd ≤ 12)
+    → HasNetwork (row_kind block.tx_type) (row_power block.tx_size) → 4 * (count / 4) ≡ count
+    → (8 ≤ coded (tx_height block.tx_size) → 8 * (count / 8) ≡ count) → count ≤ coded (tx_height block.tx_size)
+    → length scaled ≡ tx_width block.tx_size * coded (tx_height block.tx_size)
+    → ((c r : ℕ) → c < tx_width block.tx_size → r < coded (tx_height block.tx_size)
+    → at scaled (c * coded (tx_height block.tx_size) + r) ≡ row_input block.tx_size block.tx_type block.bd cs r c)
+    → AreColumns (block_rows block count) scaled
+rows_are block count cs scaled depth has fours eights within long filled =
+    let size = block.tx_size in
+    let P : ℤ → Type 0 = λ z. FitsBits (row_range block.bd) z in
+    let s = sides size in
+    let few : coded (tx_height size) ≤ 64 = omega arith in
+    record {
+      fours = fours;
+      eights = eights;
+      within = within;
+      few = few;
+      height = is_length (row_power size) (tx_width size) s.0 s.1 (powers size).0;
+      power = (powers size).0;
+      has = has;
+      long = long;
+      range = (omega arith, omega arith);
+      fit = λ c r hc hr. subst P (sym (filled c r hc (omega (arith, hr, within)))) (input-fits size block.tx_type block.bd cs r c);
+    }
+
+-- columns that rows have left
+pub columns_are : (block : Block) (buffer : List ℤ) → (8 ≤ block.bd) × (block.bd ≤ 12)
+    → HasNetwork (column_kind block.tx_type) (column_power block.tx_size) → length buffer ≡ tx_height block.tx_size * tx_width block.tx_size
+    → ((r c : ℕ) → r < tx_height block.tx_size → c < tx_width block.tx_size
+    → FitsBits (column_range block.bd) (at buffer (r * tx_width block.tx_size + c)))
+    → AreColumns (block_columns block) buffer
+columns_are block buffer depth has long fit =
+    let size = block.tx_size in
+    let s = sides size in
+    let g = groups size in
+    record {
+      fours = g.0;
+      eights = g.1;
+      within = omega arith;
+      few = g.2;
+      height = is_length (column_power size) (tx_height size) s.2 s.3 (powers size).1;
+      power = (powers size).1;
+      has = has;
+      long = long;
+      range = (omega arith, omega arith);
+      fit = fit;
+    }
+
+-- all groups of eight columns are counted where they take the cosine transform
+pub counted : (block : Block) → is_cosine (column_kind block.tx_type) ≡ true → tx_width block.tx_size / 8 ≡ lane_groups block.tx_size block.tx_type
+counted block told = sym (ap (λ b. cond b (tx_width block.tx_size / 8) 0) told)

@@ -1,0 +1,92 @@
+-- What the crate's own functions promise one another on the way. No public contract cites this file.
+use Rattle.std.specs.Prelude.{◌≡◌, ℕ, ◌+◌, ◌*◌, ◌/◌, ◌^◌, ◌≤◌, ◌<◌, List, length, ℤ, pos}
+use Rattle.av1_blocks.specs.Transforms.{tx_width, tx_height, coded, coded_area}
+use Rattle.av1_lists.specs.Sides.{IsTransformSide}
+use Rattle.av1_dct.specs.Arithmetic.{at, clamp_value, FitsBits}
+use Rattle.av1_dct.specs.Columns.{column_of}
+use Rattle.av1_dct.specs.Operations.{half_btf}
+use Rattle.av1_frame.specs.Areas.{AreRows}
+use Rattle.av1_frame.specs.Arithmetic.{round_shift}
+use Rattle.av1_itx.specs.declared.block.Block.{Block}
+use Rattle.av1_itx.specs.declared.inverse.Place.{Place}
+use Rattle.av1_itx.specs.declared.lane_columns.Columns.{Columns}
+use Rattle.av1_itx.specs.Kinds.{column_kind, row_kind}
+use Rattle.av1_itx.specs.Networks.{HasNetwork, network}
+use Rattle.av1_itx.specs.Residue.{column_power, column_range, row_power, row_range, row_shift, transformed_row}
+use Rattle.std.specs.Prelude.{map}
+use Rattle.std.specs.Borrow.{RattleType}
+use Rattle.std.specs.Mem.{type_size}
+use Rattle.av1_itx.specs.contracts.words.Held.{the_row}
+
+-- Columns of a buffer that can be transformed four at a time, or eight where the buffer has so many.
+pub record AreColumns (columns : Columns) (buffer : List ℤ) : Type 0 where
+  pub fours : 4 * (columns.count / 4) ≡ columns.count
+  pub eights : 8 ≤ columns.width → 8 * (columns.count / 8) ≡ columns.count
+  pub within : columns.count ≤ columns.width
+  pub few : columns.width ≤ 64
+  pub height : IsTransformSide columns.height
+  pub power : columns.height ≡ 2 * 2 ^ columns.power
+  pub has : HasNetwork columns.kind columns.power
+  pub long : length buffer ≡ columns.height * columns.width
+  pub range : (8 ≤ columns.range) × (columns.range ≤ 20)
+  pub fit : (r c : ℕ) → r < columns.height → c < columns.count →
+      FitsBits columns.range (at buffer (r * columns.width + c))
+
+-- those columns after their transform
+abbrev pub AreTransformed : Columns → (old new : List ℤ) → Type 0
+AreTransformed columns old new = (r c : ℕ) → r < columns.height → c < columns.count →
+    at new (r * columns.width + c) ≡
+    at (network columns.kind columns.range columns.power (column_of columns.height columns.width c old)) r
+
+-- after the cosine transform, where only the first row had values
+abbrev pub AreLevel : Columns → (old new : List ℤ) → Type 0
+AreLevel columns old new = (r c : ℕ) → r < columns.height → c < columns.count →
+    at new (r * columns.width + c) ≡
+    clamp_value (half_btf (pos 2896) (at old c) (pos 0) (at old c)) columns.range
+
+-- A block whose type has both of its transforms, with its first coefficients; all others are 0.
+pub record AreCoefficients {C : Type 0} (val : C → ℤ) (block : Block) (input : List C) : Type 0 where
+  pub depth : (8 ≤ block.bd) × (block.bd ≤ 12)
+  pub rows : HasNetwork (row_kind block.tx_type) (row_power block.tx_size)
+  pub columns : HasNetwork (column_kind block.tx_type) (column_power block.tx_size)
+  pub fit : (i : ℕ) → i < coded_area block.tx_size → FitsBits (block.bd + 8) (at (map val input) i)
+
+-- The first rows of coefficients of a block, so many, as columns of the list that they stand in.
+abbrev pub block_rows : Block → (count : ℕ) → Columns
+block_rows block count = record {
+  kind = row_kind block.tx_type;
+  count = count;
+  width = coded (tx_height block.tx_size);
+  height = tx_width block.tx_size;
+  power = row_power block.tx_size;
+  range = row_range block.bd;
+}
+
+-- All columns of a block.
+abbrev pub block_columns : Block → Columns
+block_columns block = record {
+  kind = column_kind block.tx_type;
+  count = tx_width block.tx_size;
+  width = tx_width block.tx_size;
+  height = tx_height block.tx_size;
+  power = column_power block.tx_size;
+  range = column_range block.bd;
+}
+
+-- what the columns of a block take of its coefficients, row by row
+abbrev pub AreRowsDone : Block → (coefficients buffer : List ℤ) → Type 0
+AreRowsDone block coefficients buffer = (r c : ℕ) → r < tx_height block.tx_size → c < tx_width block.tx_size →
+    at buffer (r * tx_width block.tx_size + c) ≡
+    clamp_value
+    (round_shift (at (transformed_row block.tx_size block.tx_type block.bd coefficients r) c) (row_shift block.tx_size))
+    (column_range block.bd)
+
+-- A rectangle among so many samples that has the sides of a block.
+pub record IsPlaceFor (block : Block) (place : Place) (count : ℕ) : Type 0 where
+  pub rows : AreRows place.stride place.area count
+  pub width : place.area.width ≡ tx_width block.tx_size
+  pub height : place.area.height ≡ tx_height block.tx_size
+
+-- a word takes no more room in an array than 16 lanes of 32 bits
+abbrev pub IsSmallWord : RattleType → Type 0
+IsSmallWord W = type_size (the_row W) ≤ 64
