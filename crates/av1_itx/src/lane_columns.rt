@@ -145,8 +145,8 @@ fn level_words<W: BlockWord>(buffer: &mut [i32], c: usize, w: usize, h: usize, r
     }
 }
 
-/// Columns, transformed in place by the cosine transform where only the first row has values, as many at a time as a word
-/// has lanes.
+/// Columns, transformed in place by the cosine transform where only the first row has values, as many at a time as a
+/// word has lanes.
 #[tactic(auto, using(crate::proofs::Eights::group_within))]
 pub(crate) fn level_columns<W: BlockWord>(buffer: &mut [i32], columns: Columns)
     requires some { 0 < W.LANES }

@@ -154,6 +154,22 @@ pub(crate) trait CosineColumns {
         ensures { raised_by (tally self.now) 0 ≡ tally self.now };
 }
 
+/// Columns that nothing counts, as those of the library.
+#[derive(Drop)]
+pub(crate) struct Uncounted;
+
+impl CosineColumns for Uncounted {
+    ghost tally = { λ _. 0 };
+
+    ghost raised_by = { λ _ _. 0 };
+
+    fn run_cosine(&mut self, buffer: &mut [i32], columns: Columns) {
+        run_columns(buffer, columns);
+    }
+
+    fn none_more(&self) {}
+}
+
 /// Lines of eight columns, for `cosine_lanes`, and its count.
 #[derive(Drop)]
 pub struct Lanes {
@@ -213,20 +229,4 @@ impl CosineColumns for Lanes {
     fn none_more(&self) {
         let _groups = self.groups();
     }
-}
-
-/// Columns that nothing counts, as those of the library.
-#[derive(Drop)]
-pub(crate) struct Uncounted;
-
-impl CosineColumns for Uncounted {
-    ghost tally = { λ _. 0 };
-
-    ghost raised_by = { λ _ _. 0 };
-
-    fn run_cosine(&mut self, buffer: &mut [i32], columns: Columns) {
-        run_columns(buffer, columns);
-    }
-
-    fn none_more(&self) {}
 }

@@ -24,7 +24,8 @@ add_rows-requires-clause-fit g c = λ r q hr hq.
     let R : ℤ → Type 0 = λ z. FitsBits (column_range c.args.block.bd) z in
     let k : q < tx_width size = omega (arith, c.requires.place.width) in
     subst Q (sym c.requires.place.width)
-    (subst P (sym (c.column_pass.ensures.value r q (omega arith) k)) (column-fits size c.args.block.tx_type c.args.block.bd c.row_pass.new.buffer r q (omega arith)
+    (subst P (sym (c.column_pass.ensures.value r q (omega arith) k))
+    (column-fits size c.args.block.tx_type c.args.block.bd c.row_pass.new.buffer r q (omega arith)
     (λ y hy. subst R (sym (c.row_pass.ensures y q hy k)) (clamp_value-fits _ (column_range c.args.block.bd) (omega arith)))))
 
 pub returns-clause-painted : goal.returns-clause-painted
@@ -36,7 +37,8 @@ returns-clause-painted g c =
     let buf = c.column_pass.new.buffer in
     let put_on = λ (z : ℤ) (v : _). g.T.Pixel.pixel (clip c.args.block.bd (pos (g.T.Pixel.num v) +ℤ z)) in
     c.add_rows.ensures
-    ∙ ap (λ n. paint c.args.place.stride a (λ r q v. put_on (round_shift (at buf (r * n + q)) c.column_shift_of-shift.result) v) c.args.samples.now) c.requires.place.width
+    ∙ ap (λ n. paint c.args.place.stride a (λ r q v. put_on (round_shift (at buf (r * n + q)) c.column_shift_of-shift.result) v) c.args.samples.now)
+    c.requires.place.width
     ∙ ap (λ n. paint c.args.place.stride a (λ r q v. put_on (round_shift (at buf (r * tx_width size + q)) n) v) c.args.samples.now)
     c.column_shift_of-shift.ensures.value
     ∙ paint_same c.args.place.stride a _ _ c.args.samples.now (λ r q v hr hq.

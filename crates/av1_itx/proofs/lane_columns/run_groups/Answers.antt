@@ -19,7 +19,9 @@ cosine_lanes-requires-clause-fit c = λ i h.
     subst Q (sym (whole_lane lane_of_vector i c.args.columns.height c.gather_words.new.line _ len))
     (lanes-fit lane_of_vector c.args.columns.height c.args.columns.range i _ _ c.gather_words.new.line _ line_len len (c.gather_words.ensures i h)
     (λ r hr.
-    subst P (sym (lanes_kept c.args.columns.width at_column (at_column + i) c.args.columns.height _ c.loop-g.buffer c.args.buffer.now c.loop-g.invariant.1 (omega arith)
+    subst P (sym
+    (lanes_kept c.args.columns.width at_column (at_column + i) c.args.columns.height _ c.loop-g.buffer c.args.buffer.now c.loop-g.invariant.1
+    (omega arith)
     (omega arith) r hr)) (c.requires.columns.fit r (at_column + i) hr (omega arith))))
 
 pub loop-g-preserved : goal.loop-g-preserved
@@ -41,7 +43,8 @@ loop-g-preserved c =
           c.loop-g.invariant.1
           (λ r q hr hq. c.scatter_words.ensures r q (omega arith) hq)
           (λ i r hi hr. ap (λ zs. at zs r)
-          (lane_run lane h i _ (cosine c.args.columns.range c.args.columns.power) _ (λ y. at old (y * w + (at_column + i))) c.gather_words.new.line _ out _ line_len
+          (lane_run lane h i _ (cosine c.args.columns.range c.args.columns.power) _ (λ y. at old (y * w + (at_column + i))) c.gather_words.new.line _ out _
+          line_len
           len lo (c.gather_words.ensures i hi)
           (sym (take_all h (column lane i out) (omega (arith, length-map out (λ x. lane x i))))
           ∙ c.cosine_lanes.ensures.value c.args.columns.power i hi c.requires.columns.power

@@ -9,5 +9,6 @@ abbrev pub invariant-loop-g : goal.invariant-loop-g
 invariant-loop-g l =
     (l.count.groups ≡ raised l.initial.count.groups l.g)
     × ((r q : ℕ) → r < l.columns.height → q < l.columns.width →
-    at l.buffer (r * l.columns.width + q) ≡ cond (ltb q (8 * l.g)) (at (cosine l.columns.range l.columns.power (by_index l.columns.height (λ y. at l.initial.buffer (y * l.columns.width + q)))) r)
+    at l.buffer (r * l.columns.width + q) ≡ cond (ltb q (8 * l.g))
+    (at (cosine l.columns.range l.columns.power (by_index l.columns.height (λ y. at l.initial.buffer (y * l.columns.width + q)))) r)
     (at l.initial.buffer (r * l.columns.width + q)))

@@ -16,7 +16,9 @@ inverse_1d-requires-clause-fit g c = λ i h.
     lanes-fit g.W.Word.lane_of c.args.columns.height c.args.columns.range i _ _ c.gather_words.new.line _ line_len
     (c.gather_words.auto.line ∙ line_len) (c.gather_words.ensures i h)
     (λ r hr.
-    subst P (sym (lanes_kept c.args.columns.width at_column (at_column + i) c.args.columns.height _ c.loop-g.buffer c.args.buffer.now c.loop-g.invariant (omega arith)
+    subst P (sym
+    (lanes_kept c.args.columns.width at_column (at_column + i) c.args.columns.height _ c.loop-g.buffer c.args.buffer.now c.loop-g.invariant
+    (omega arith)
     (omega arith) r hr)) (c.requires.columns.fit r (at_column + i) hr (omega arith)))
 
 pub loop-g-preserved : goal.loop-g-preserved
@@ -38,7 +40,8 @@ loop-g-preserved g c =
     c.loop-g.invariant
     (λ r q hr hq. c.scatter_words.ensures r q (omega arith) hq)
     (λ i r hi hr. ap (λ zs. at zs r)
-    (lane_run lane h i _ (network c.args.columns.kind c.args.columns.range c.args.columns.power) _ (λ y. at old (y * w + (at_column + i))) c.gather_words.new.line _ out _ line_len
+    (lane_run lane h i _ (network c.args.columns.kind c.args.columns.range c.args.columns.power) _ (λ y. at old (y * w + (at_column + i)))
+    c.gather_words.new.line _ out _ line_len
     (c.gather_words.auto.line ∙ line_len) lo (c.gather_words.ensures i hi) (c.inverse_1d.ensures i hi)
     (λ y hy. lanes_kept w at_column (at_column + i) h F c.loop-g.buffer old c.loop-g.invariant (omega arith) (omega arith) y hy)))
 

@@ -6,5 +6,6 @@ use Rattle.av1_itx.proofs.lane_columns.run_words.Given as goal
 
 abbrev pub invariant-loop-g : goal.invariant-loop-g
 invariant-loop-g g l = (r q : ℕ) → r < l.columns.height → q < l.columns.width →
-    at l.buffer (r * l.columns.width + q) ≡ cond (ltb q (l.m * l.g)) (at (network l.columns.kind l.columns.range l.columns.power (by_index l.columns.height (λ y. at l.initial.buffer (y * l.columns.width + q)))) r)
+    at l.buffer (r * l.columns.width + q) ≡ cond (ltb q (l.m * l.g))
+    (at (network l.columns.kind l.columns.range l.columns.power (by_index l.columns.height (λ y. at l.initial.buffer (y * l.columns.width + q)))) r)
     (at l.initial.buffer (r * l.columns.width + q))

@@ -11,7 +11,9 @@ pub cosine_columns-requires-clause-fit : goal.cosine_columns-requires-clause-fit
 cosine_columns-requires-clause-fit c = λ r i hr hi.
     let P : ℤ → Type 0 = λ z. FitsBits 16 z in
     let at_column = 8 * c.loop-g.g in
-    subst P (sym (lanes_kept c.args.columns.width at_column (at_column + i) c.args.columns.height _ c.loop-g.buffer c.args.buffer.now c.loop-g.invariant (omega arith)
+    subst P (sym
+    (lanes_kept c.args.columns.width at_column (at_column + i) c.args.columns.height _ c.loop-g.buffer c.args.buffer.now c.loop-g.invariant
+    (omega arith)
     (omega arith) r hr)) (subst (λ (n : ℕ). FitsBits n (at c.args.buffer.now (r * c.args.columns.width + (at_column + i)))) c.requires.short
     (c.requires.columns.fit r (at_column + i) hr (omega arith)))
 

@@ -26,7 +26,8 @@ loop-i-preserved g c =
     ∙ read_at g.C.Coefficient.val c.args.input.now c.loop-i.i c.index-input-i.result (omega arith) c.index-input-i.is in
     let d = simp to_z-of_z at c.row_value_of.ensures in
     let made =
-    row_value-is c.args.block.tx_size c.args.block.tx_type c.args.block.bd c.scaling_of-scaling.result.two_to_one c.scaling_of-scaling.result.lossless c.to_i32.result
+    row_value-is c.args.block.tx_size c.args.block.tx_type c.args.block.bd c.scaling_of-scaling.result.two_to_one c.scaling_of-scaling.result.lossless
+    c.to_i32.result
     c.row_value_of.result c.scaling_of-scaling.ensures.two_to_one c.scaling_of-scaling.ensures.lossless d in
     fill_more _ c.loop-i.scaled c.loop-i.i _ (omega arith) c.loop-i.invariant (to_z-of_z w32 _ e ∙ made
     ∙ ap (row_value c.args.block.tx_size c.args.block.tx_type c.args.block.bd) z)
