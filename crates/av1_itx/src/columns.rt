@@ -47,6 +47,7 @@ pub(crate) fn column_range_of(bd: usize) -> usize
 }
 
 // All columns of a block.
+#[inline(always)]
 fn columns_of(block: Block) -> Columns
     requires { (8 ≤ block.bd) × (block.bd ≤ 12) }
     ensures { result ≡ block_columns block }
@@ -74,8 +75,8 @@ pub(crate) fn column_pass<R: CosineColumns>(buffer: &mut [i32], lanes: &mut R, b
     let columns = columns_of(block);
     if columns.width < LANES || !is_cosine(columns.kind) {
         lanes.none_more();
-        run_columns(buffer, columns);
+        run_columns(buffer, &columns);
         return;
     }
-    lanes.run_cosine(buffer, columns);
+    lanes.run_cosine(buffer, &columns);
 }

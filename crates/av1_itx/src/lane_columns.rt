@@ -66,15 +66,15 @@ pub(crate) fn run_groups(
     line: &mut [i32x8],
     transformed: &mut [i32x8],
     count: &mut LaneCount,
-    columns: Columns,
+    columns: &Columns,
 )
-    requires columns { AreColumns columns buffer.old }
-    requires many { 8 ≤ columns.width }
-    requires cosine { is_cosine columns.kind ≡ true }
-    requires line_len { columns.height ≤ length line.old }
-    requires transformed_len { columns.height ≤ length transformed.old }
-    ensures value { AreTransformed columns buffer.old buffer.new }
-    ensures counts { count.new.groups ≡ raised count.old.groups (columns.count / 8) }
+    requires columns { AreColumns columns.now buffer.old }
+    requires many { 8 ≤ columns.now.width }
+    requires cosine { is_cosine columns.now.kind ≡ true }
+    requires line_len { columns.now.height ≤ length line.old }
+    requires transformed_len { columns.now.height ≤ length transformed.old }
+    ensures value { AreTransformed columns.now buffer.old buffer.new }
+    ensures counts { count.new.groups ≡ raised count.old.groups (columns.now.count / 8) }
 {
     // This tells the proof that the count is a u64.
     let _count = count.groups();
@@ -148,11 +148,11 @@ fn level_words<W: BlockWord>(buffer: &mut [i32], c: usize, w: usize, h: usize, r
 /// Columns, transformed in place by the cosine transform where only the first row has values, as many at a time as a
 /// word has lanes.
 #[tactic(auto, using(crate::proofs::Eights::group_within))]
-pub(crate) fn level_columns<W: BlockWord>(buffer: &mut [i32], columns: Columns)
+pub(crate) fn level_columns<W: BlockWord>(buffer: &mut [i32], columns: &Columns)
     requires some { 0 < W.LANES }
-    requires whole { W.LANES * (columns.count / W.LANES) ≡ columns.count }
-    requires columns { AreColumns columns buffer.old }
-    ensures { AreLevel columns buffer.old buffer.new }
+    requires whole { W.LANES * (columns.now.count / W.LANES) ≡ columns.now.count }
+    requires columns { AreColumns columns.now buffer.old }
+    ensures { AreLevel columns.now buffer.old buffer.new }
 {
     let m = W::LANES;
     for g in 0..columns.count / m {

@@ -31,32 +31,32 @@ pub(crate) fn is_cosine(kind: TxType1D) -> bool
 
 // Columns of N = 2^(K+1) rows, one in each lane, over lines of its own. Both numbers are constants of each instance, so
 // that the compiler knows all places of a transform as numbers.
-fn words_of<W: BlockWord, const K: usize, const N: usize>(buffer: &mut [i32], columns: Columns)
+fn words_of<W: BlockWord, const K: usize, const N: usize>(buffer: &mut [i32], columns: &Columns)
     requires some { 0 < W.LANES }
     requires small { IsSmallWord W.row }
-    requires whole { W.LANES * (columns.count / W.LANES) ≡ columns.count }
-    requires columns { AreColumns columns buffer.old }
-    requires height { columns.height ≡ N }
-    requires power { columns.power ≡ K }
-    ensures { AreTransformed columns buffer.old buffer.new }
+    requires whole { W.LANES * (columns.now.count / W.LANES) ≡ columns.now.count }
+    requires columns { AreColumns columns.now buffer.old }
+    requires height { columns.now.height ≡ N }
+    requires power { columns.now.power ≡ K }
+    ensures { AreTransformed columns.now buffer.old buffer.new }
 {
     let zero = Held { word: W::splat(0) };
     let (mut line, mut transformed) = ([zero; N], [zero; N]);
     let known = Columns {
         height: N,
         power: K,
-        ..columns
+        ..*columns
     };
     run_words(buffer, &mut line, &mut transformed, known);
 }
 
 // Columns, as many at a time as a word has lanes, each height by a function of its own.
-fn word_columns<W: BlockWord>(buffer: &mut [i32], columns: Columns)
+fn word_columns<W: BlockWord>(buffer: &mut [i32], columns: &Columns)
     requires some { 0 < W.LANES }
     requires small { IsSmallWord W.row }
-    requires whole { W.LANES * (columns.count / W.LANES) ≡ columns.count }
-    requires columns { AreColumns columns buffer.old }
-    ensures { AreTransformed columns buffer.old buffer.new }
+    requires whole { W.LANES * (columns.now.count / W.LANES) ≡ columns.now.count }
+    requires columns { AreColumns columns.now buffer.old }
+    ensures { AreTransformed columns.now buffer.old buffer.new }
 {
     match columns.height {
         4 => words_of::<W, 1, 4>(buffer, columns),
@@ -68,12 +68,12 @@ fn word_columns<W: BlockWord>(buffer: &mut [i32], columns: Columns)
 }
 
 // Columns whose values have 16 bits, transformed in place by the cosine transform, eight at a time.
-fn short_columns(buffer: &mut [i32], columns: Columns)
-    requires columns { AreColumns columns buffer.old }
-    requires many { 8 ≤ columns.width }
-    requires short { columns.range ≡ 16 }
-    requires cosine { is_cosine columns.kind ≡ true }
-    ensures { AreTransformed columns buffer.old buffer.new }
+fn short_columns(buffer: &mut [i32], columns: &Columns)
+    requires columns { AreColumns columns.now buffer.old }
+    requires many { 8 ≤ columns.now.width }
+    requires short { columns.now.range ≡ 16 }
+    requires cosine { is_cosine columns.now.kind ≡ true }
+    ensures { AreTransformed columns.now buffer.old buffer.new }
 {
     for g in 0..columns.count / 8 {
         cosine_columns(columns.height, buffer, 8 * g, columns.width);
@@ -97,9 +97,9 @@ fn is_level(buffer: &[i32], w: usize) -> bool
 }
 
 // Columns, transformed in place by the cosine transform where only the first row has values.
-fn run_level_columns(buffer: &mut [i32], columns: Columns)
-    requires columns { AreColumns columns buffer.old }
-    ensures { AreLevel columns buffer.old buffer.new }
+fn run_level_columns(buffer: &mut [i32], columns: &Columns)
+    requires columns { AreColumns columns.now buffer.old }
+    ensures { AreLevel columns.now buffer.old buffer.new }
 {
     if columns.width < LANES {
         level_columns::<i32x4>(buffer, columns);
@@ -109,9 +109,9 @@ fn run_level_columns(buffer: &mut [i32], columns: Columns)
 }
 
 // Columns, transformed in place, whichever rows have values.
-fn run_full_columns(buffer: &mut [i32], columns: Columns)
-    requires columns { AreColumns columns buffer.old }
-    ensures { AreTransformed columns buffer.old buffer.new }
+fn run_full_columns(buffer: &mut [i32], columns: &Columns)
+    requires columns { AreColumns columns.now buffer.old }
+    ensures { AreTransformed columns.now buffer.old buffer.new }
 {
     if columns.width < LANES {
         word_columns::<i32x4>(buffer, columns);
@@ -123,9 +123,9 @@ fn run_full_columns(buffer: &mut [i32], columns: Columns)
 }
 
 /// Columns, transformed in place: eight at a time, or four where the buffer has no more. Nothing is counted.
-pub(crate) fn run_columns(buffer: &mut [i32], columns: Columns)
-    requires columns { AreColumns columns buffer.old }
-    ensures { AreTransformed columns buffer.old buffer.new }
+pub(crate) fn run_columns(buffer: &mut [i32], columns: &Columns)
+    requires columns { AreColumns columns.now buffer.old }
+    ensures { AreTransformed columns.now buffer.old buffer.new }
 {
     if is_cosine(columns.kind) && is_level(buffer, columns.width) {
         run_level_columns(buffer, columns);
@@ -142,12 +142,12 @@ pub(crate) trait CosineColumns {
     ghost raised_by: { ℕ → ℕ → ℕ };
 
     /// Columns, transformed in place by the cosine transform.
-    fn run_cosine(&mut self, buffer: &mut [i32], columns: Columns)
-        requires columns { AreColumns columns buffer.old }
-        requires many { 8 ≤ columns.width }
-        requires cosine { is_cosine columns.kind ≡ true }
-        ensures value { AreTransformed columns buffer.old buffer.new }
-        ensures counts { tally self.new ≡ raised_by (tally self.old) (columns.count / 8) };
+    fn run_cosine(&mut self, buffer: &mut [i32], columns: &Columns)
+        requires columns { AreColumns columns.now buffer.old }
+        requires many { 8 ≤ columns.now.width }
+        requires cosine { is_cosine columns.now.kind ≡ true }
+        ensures value { AreTransformed columns.now buffer.old buffer.new }
+        ensures counts { tally self.new ≡ raised_by (tally self.old) (columns.now.count / 8) };
 
     /// That no group more leaves the count as it is.
     fn none_more(&self)
@@ -163,7 +163,7 @@ impl CosineColumns for Uncounted {
 
     ghost raised_by = { λ _ _. 0 };
 
-    fn run_cosine(&mut self, buffer: &mut [i32], columns: Columns) {
+    fn run_cosine(&mut self, buffer: &mut [i32], columns: &Columns) {
         run_columns(buffer, columns);
     }
 
@@ -215,7 +215,7 @@ impl CosineColumns for Lanes {
 
     ghost raised_by = { raised };
 
-    fn run_cosine(&mut self, buffer: &mut [i32], columns: Columns) {
+    fn run_cosine(&mut self, buffer: &mut [i32], columns: &Columns) {
         run_groups(
             buffer,
             self.line.as_mut_slice(),

@@ -227,6 +227,7 @@ fn write_groups<W: BlockWord>(
 }
 
 // The first rows of a block, so many, as the columns of the list of coefficients.
+#[inline(always)]
 fn rows_in(block: Block, count: usize) -> Columns
     requires { (8 ≤ block.bd) × (block.bd ≤ 12) }
     ensures { result ≡ block_rows block count }
@@ -263,7 +264,7 @@ fn rows_of<C: Coefficient, W: BlockWord>(
     fill_rows(input, scaled, block);
     let groups = live_groups::<W>(scaled, rows, w);
     let live = m * groups;
-    run_columns(scaled, rows_in(block, live));
+    run_columns(scaled, &rows_in(block, live));
     write_groups::<W>(
         scaled,
         &mut buffer[..live * w],

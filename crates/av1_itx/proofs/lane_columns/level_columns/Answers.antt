@@ -6,7 +6,7 @@ use Rattle.av1_itx.proofs.lane_columns.level_columns.Goals as goal
 
 pub loop-g-preserved : goal.loop-g-preserved
 loop-g-preserved g c =
-    let a = c.args.columns in
+    let a = c.args.columns.now in
     let old = c.args.buffer.now in
     let at_column = c.LANES-m.result * c.loop-g.g in
     let room : at_column + g.W.Word.LANES ≤ a.width = group_within c.LANES-m.ensures c.requires.whole c.requires.columns (omega arith) in
@@ -20,5 +20,6 @@ loop-g-preserved g c =
     ∙ lanes_kept a.width at_column q a.height F c.loop-g.buffer old c.loop-g.invariant lo (omega (arith, hi, room)) 0 (omega arith) ∙ ap (at old) top))
 
 pub returns : goal.returns
-returns g c = groups_written c.LANES-m.result g.W.Word.LANES c.loop-g.g c.args.columns c.loop-g.buffer c.args.buffer.now _ c.LANES-m.ensures c.requires.whole
+returns g c =
+    groups_written c.LANES-m.result g.W.Word.LANES c.loop-g.g c.args.columns.now c.loop-g.buffer c.args.buffer.now _ c.LANES-m.ensures c.requires.whole
     c.requires.columns.within (omega arith) c.loop-g.invariant

@@ -11,27 +11,27 @@ use Rattle.av1_itx.proofs.lane_columns.run_groups.Goals as goal
 
 pub cosine_lanes-requires-clause-fit : goal.cosine_lanes-requires-clause-fit
 cosine_lanes-requires-clause-fit c = λ i h.
-    let P : ℤ → Type 0 = λ z. FitsBits c.args.columns.range z in
-    let Q : List ℤ → Type 0 = λ zs. All (FitsBits c.args.columns.range) zs in
-    let line_len = length-take-le c.args.columns.height c.loop-g.line (omega arith) in
+    let P : ℤ → Type 0 = λ z. FitsBits c.args.columns.now.range z in
+    let Q : List ℤ → Type 0 = λ zs. All (FitsBits c.args.columns.now.range) zs in
+    let line_len = length-take-le c.args.columns.now.height c.loop-g.line (omega arith) in
     let len = c.gather_words.auto.line ∙ line_len in
     let at_column = 8 * c.loop-g.g in
-    subst Q (sym (whole_lane lane_of_vector i c.args.columns.height c.gather_words.new.line _ len))
-    (lanes-fit lane_of_vector c.args.columns.height c.args.columns.range i _ _ c.gather_words.new.line _ line_len len (c.gather_words.ensures i h)
+    subst Q (sym (whole_lane lane_of_vector i c.args.columns.now.height c.gather_words.new.line _ len))
+    (lanes-fit lane_of_vector c.args.columns.now.height c.args.columns.now.range i _ _ c.gather_words.new.line _ line_len len (c.gather_words.ensures i h)
     (λ r hr.
     subst P (sym
-    (lanes_kept c.args.columns.width at_column (at_column + i) c.args.columns.height _ c.loop-g.buffer c.args.buffer.now c.loop-g.invariant.1
+    (lanes_kept c.args.columns.now.width at_column (at_column + i) c.args.columns.now.height _ c.loop-g.buffer c.args.buffer.now c.loop-g.invariant.1
     (omega arith)
     (omega arith) r hr)) (c.requires.columns.fit r (at_column + i) hr (omega arith))))
 
 pub loop-g-preserved : goal.loop-g-preserved
 loop-g-preserved c =
     let lane = lane_of_vector in
-    let w = c.args.columns.width in
-    let h = c.args.columns.height in
+    let w = c.args.columns.now.width in
+    let h = c.args.columns.now.height in
     let at_column = 8 * c.loop-g.g in
     let old = c.args.buffer.now in
-    let F = λ (r q : ℕ). at (cosine c.args.columns.range c.args.columns.power (by_index h (λ y. at old (y * w + q)))) r in
+    let F = λ (r q : ℕ). at (cosine c.args.columns.now.range c.args.columns.now.power (by_index h (λ y. at old (y * w + q)))) r in
     let line_len = length-take-le h c.loop-g.line (omega arith) in
     let len = c.gather_words.auto.line ∙ line_len in
     let out = c.cosine_lanes.new.output in
@@ -43,18 +43,19 @@ loop-g-preserved c =
           c.loop-g.invariant.1
           (λ r q hr hq. c.scatter_words.ensures r q (omega arith) hq)
           (λ i r hi hr. ap (λ zs. at zs r)
-          (lane_run lane h i _ (cosine c.args.columns.range c.args.columns.power) _ (λ y. at old (y * w + (at_column + i))) c.gather_words.new.line _ out _
+          (lane_run lane h i _ (cosine c.args.columns.now.range c.args.columns.now.power) _ (λ y. at old (y * w + (at_column + i))) c.gather_words.new.line
+          _ out _
           line_len
           len lo (c.gather_words.ensures i hi)
           (sym (take_all h (column lane i out) (omega (arith, length-map out (λ x. lane x i))))
-          ∙ c.cosine_lanes.ensures.value c.args.columns.power i hi c.requires.columns.power
-          ∙ ap (cosine c.args.columns.range c.args.columns.power) (whole_lane lane i h c.gather_words.new.line _ len))
+          ∙ c.cosine_lanes.ensures.value c.args.columns.now.power i hi c.requires.columns.power
+          ∙ ap (cosine c.args.columns.now.range c.args.columns.now.power) (whole_lane lane i h c.gather_words.new.line _ len))
           (λ y hy. lanes_kept w at_column (at_column + i) h F c.loop-g.buffer old c.loop-g.invariant.1 (omega arith) (omega arith) y hy))),
     )
 
 pub returns-clause-value : goal.returns-clause-value
 returns-clause-value c = λ r q hr hq.
-    let a = c.args.columns in
+    let a = c.args.columns.now in
     let whole = c.requires.columns.eights c.requires.many in
     cosine_value a.kind a.range a.power r _ _ c.requires.cosine
     (column_written a.count a.width (8 * c.loop-g.g) a.height c.loop-g.buffer c.args.buffer.now _ c.loop-g.invariant.1 (omega (arith, whole))

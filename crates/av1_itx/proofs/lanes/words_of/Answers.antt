@@ -5,12 +5,12 @@ use Rattle.av1_itx.proofs.lanes.words_of.Goals as goal
 
 pub run_words-requires-clause-columns : goal.run_words-requires-clause-columns
 run_words-requires-clause-columns g c =
-    subst (λ (columns : _). AreColumns columns c.args.buffer.now) (known_is c.args.columns _ _ c.requires.height c.requires.power) c.requires.columns
+    subst (λ (columns : _). AreColumns columns c.args.buffer.now) (known_is c.args.columns.now _ _ c.requires.height c.requires.power) c.requires.columns
 
 pub returns : goal.returns
 returns g c =
     subst (λ (columns : _). AreTransformed columns c.args.buffer.now c.run_words.new.buffer)
-    (sym (known_is c.args.columns _ _ c.requires.height c.requires.power)) c.run_words.ensures
+    (sym (known_is c.args.columns.now _ _ c.requires.height c.requires.power)) c.run_words.ensures
 
 pub whole_as_slice-run_words : goal.whole_as_slice-run_words
 whole_as_slice-run_words g c = room_for g.row.N _ (omega arith) c.requires.small
