@@ -1,5 +1,6 @@
 -- Numbers that are sets of slots.
-use Rattle.std.proofs.Common.{◌⊎◌, inl, inr, subst, ℕ, zero, suc, ◌+◌, ◌*◌, ◌/◌, ◌<◌, ◌≤◌, ◌≡◌, ◌≢◌, ◌^◌, Bool, true, false, refl, arith, if◌then◌else◌}
+use Rattle.std.proofs.Common.{◌⊎◌, inl, inr, subst, ℕ, zero, suc, ◌+◌, ◌*◌, ◌/◌, ◌<◌, ◌≤◌, ◌≡◌, ◌≢◌, ◌^◌, Bool, true, false, refl, ap, ◌∙◌, arith}
+use Rattle.std.proofs.Common.{if◌then◌else◌}
 use Rattle.std.specs.Prelude.{◌==◌, ◌%◌}
 use Rattle.std.proofs.Math.Nat.{two-pow-succ}
 use Rattle.av1_sequence.specs.Slots.{bits_of, count_of, has_bit}
@@ -164,6 +165,27 @@ module _ (test : ℕ → Bool) where
         digit_small (test 7),
       ))
   bit_is (suc (suc (suc (suc (suc (suc (suc (suc s)))))))) lt = absurd (omega (arith, lt))
+
+  -- what one more adds
+  pub bits_set : (n : ℕ) {bits next : ℕ} → bits ≡ bits_of test n → true ≡ test n → next ≡ bits + 2 ^ n → next ≡ bits_of test (n + 1)
+  bits_set n before is next_is =
+      let next_place : suc n ≡ n + 1 = omega arith in
+      next_is ∙ ap (λ (k : ℕ). k + 2 ^ n) before ∙ ap (λ (b : Bool). bits_of test n + (if b then 2 ^ n else 0)) is ∙ ap (bits_of test) next_place
+
+  pub bits_same : (n : ℕ) {bits next : ℕ} → bits ≡ bits_of test n → false ≡ test n → next ≡ bits → next ≡ bits_of test (n + 1)
+  bits_same n before is next_is =
+      let next_place : suc n ≡ n + 1 = omega arith in
+      omega (arith, next_is, before) ∙ ap (λ (b : Bool). bits_of test n + (if b then 2 ^ n else 0)) is ∙ ap (bits_of test) next_place
+
+  pub count_one : (n : ℕ) {count next : ℕ} → count ≡ count_of test n → true ≡ test n → next ≡ count + 1 → next ≡ count_of test (n + 1)
+  count_one n before is next_is =
+      let next_place : suc n ≡ n + 1 = omega arith in
+      next_is ∙ ap (λ (k : ℕ). k + 1) before ∙ ap (λ (b : Bool). count_of test n + (if b then 1 else 0)) is ∙ ap (count_of test) next_place
+
+  pub count_same : (n : ℕ) {count next : ℕ} → count ≡ count_of test n → false ≡ test n → next ≡ count → next ≡ count_of test (n + 1)
+  count_same n before is next_is =
+      let next_place : suc n ≡ n + 1 = omega arith in
+      omega (arith, next_is, before) ∙ ap (λ (b : Bool). count_of test n + (if b then 1 else 0)) is ∙ ap (count_of test) next_place
 
   -- bits of the first n lie below 2 ^ n, so that one more fits a byte
   pub bits_below : (n : ℕ) → bits_of test n < 2 ^ n

@@ -1,7 +1,8 @@
 -- What the call says that reads a sequence of frames and writes them in turn, from what reading and showing say.
-use Rattle.std.proofs.Common.{◌≡◌, ◌≢◌, ◌⊎◌, inl, inr, ℕ, ◌+◌, ◌<◌, ◌≤◌, List, [], ◌++◌, length, Option, Ok, Err, refl, sym, subst, arith}
-use Rattle.std.specs.Prelude.{IfErr, IfSome, IsErrAnd, IsOk, ⊤}
-use Rattle.std.specs.Io.KnownBytes.{IsAtEnd}
+use Rattle.std.proofs.Common.{◌≡◌, ◌≢◌, ◌⊎◌, inl, inr, ℕ, ◌+◌, ◌<◌, ◌≤◌, List, [], ◌++◌, length, length-append, Option, Some, None, Ok, Err, refl, sym, ap}
+use Rattle.std.proofs.Common.{subst, ◌∙◌, arith}
+use Rattle.std.specs.Prelude.{IfErr, IfSome, IsErrAnd, IsOk}
+use Rattle.std.specs.Io.KnownBytes.{Appends, Consumes, IsAtEnd}
 use Rattle.std.proofs.KnownBytes.{Appends-nil, Consumes-whole}
 use Rattle.std.proofs.lemmas.Option.{IfSome_then}
 use Rattle.av1_plan.specs.declared.error.PlanError.{PlanError}
@@ -21,7 +22,7 @@ use Rattle.av1_sequence.specs.declared.error.SequenceError.TheVariants as errors
 use Rattle.av1_sequence.specs.Errors.{file_error, read_error}
 use Rattle.av1_sequence.specs.Files.{Answer, AreFile, HasOutcome, beginning}
 use Rattle.av1_sequence.specs.Grammar.{FileValue, read_file}
-use Rattle.av1_sequence.specs.Tasks.{Answers, ErrorAnswers, ErrorTells, IsBeforeFrames, LeavesSource, PerformsInTurn, Shows, Tells, cause_of}
+use Rattle.av1_sequence.specs.Tasks.{Answers, AnswersInTurn, ErrorAnswers, ErrorTells, IsBeforeFrames, LeavesSource, PerformsInTurn, Shows, Tells, cause_of}
 use Rattle.av1_sequence.proofs.FileOutcomes.{answer_of, of_run, one_outcome}
 use Rattle.av1_sequence.proofs.Parts.{parts_fit}
 use Rattle.av1_sequence.proofs.Running.{some_after}
@@ -51,11 +52,12 @@ error_without_fault e done read_failed t no_read no_write = absurd (no_read refl
 error_without_fault e done write_failed t no_read no_write = absurd (no_write refl)
 error_without_fault e done no_memory t no_read no_write = refl
 
-without_fault : {W : Type 0} (answer : Answer) (done : Unit {0}) → Tells answer (Ok done) →
-    IfErr answer (λ e. (cause_of e ≢ read_failed) × (cause_of e ≢ too_long)) → (IsErrAnd answer (λ e. cause_of e ≡ write_failed) → W) → (W → ⊥)
+without_fault : {R W : Type 0} (answer : Answer) (done : Unit {0}) → Tells answer (Ok done) → (IsErrAnd answer (λ e. cause_of e ≡ read_failed) → R) →
+    (IsErrAnd answer (λ e. cause_of e ≡ write_failed) → W) → (R → ⊥) → (W → ⊥)
     → IsOk answer ⊎ IsErrAnd answer (λ e. cause_of e ≡ no_memory)
-without_fault (Ok d) done t read write no_write = inl refl
-without_fault (Err e) done t read write no_write = inr (error_without_fault e done (cause_of e) t read.0 (λ h. no_write (write h)))
+without_fault (Ok d) done t read write no_read no_write = inl refl
+without_fault (Err e) done t read write no_read no_write =
+    inr (error_without_fault e done (cause_of e) t (λ h. no_read (read h)) (λ h. no_write (write h)))
 
 no_read_fault : {X : Type 0} (answer : Answer) → IfErr answer (λ e. (cause_of e ≢ read_failed) × (cause_of e ≢ too_long)) →
     IsErrAnd answer (λ e. cause_of e ≡ read_failed) → X
@@ -86,13 +88,16 @@ answers_of bytes f is (Err errors.ReadFault) a b shows = absurd shows
 answers_of bytes f is (Err errors.TooLong) a b shows = absurd shows
 answers_of bytes f is (Err (errors.Malformed at)) a b shows = absurd shows
 
+-- bytes past the limit make the whole too long
+past_limit : (left left' : Option (List ℕ)) (bytes : List ℕ) (P : List ℕ → Type 0) → Consumes left left' bytes → max_plan_bytes < length bytes
+    → ((told : List ℕ) → max_plan_bytes < length told → P told) → IfSome left P
+past_limit None left' bytes P consumed over f = tt
+past_limit (Some told) None bytes P consumed over f = absurd consumed
+past_limit (Some told) (Some rest) bytes P consumed over f =
+    let more : length told ≡ length bytes + length rest = ap length consumed ∙ length-append bytes rest in
+    f told (omega (arith, over, more))
+
 -- ---- the call
-
-abbrev error_answer : SequenceError → Answer
-error_answer e = Err e
-
-not_both : {X : Type 0} (done : Unit {0}) (e : SequenceError) (r : Answer) → r ≡ Ok done → r ≡ Err e → X
-not_both done e r p q = absurd cc
 
 module _ {S K : Type 0} (left : S → Option (List ℕ)) (source_faults : S → ℕ) (taken : K → Option (List ℕ)) (sink_faults : K → ℕ) where
   -- the bytes were read to their end, and answered
@@ -103,28 +108,18 @@ module _ {S K : Type 0} (left : S → Option (List ℕ)) (source_faults : S → 
       → (¬ IsErrAnd answer (λ e. cause_of e ≡ write_failed) → sink_faults sink' ≡ sink_faults sink)
       → (IsErrAnd answer IsBeforeFrames → sink' ≡ sink) → sink_faults sink ≤ sink_faults sink' →
       PerformsInTurn left source_faults taken sink_faults source source' sink sink' answer
-  answered source source' sink sink' bytes answer whole given read counted uncounted unwritten later =
-      let all : (P : List ℕ → Type 0) → P bytes → IfSome (left source) P =
-      λ P p. Consumes-whole (left source) (left source') bytes P whole.consumed whole.end p in
-      let told = tells answer bytes (taken sink) (taken sink') given in
-      record {
-        answers = all (λ b. Answers answer b (taken sink) (taken sink')) given;
-        exactly = all (λ b. (written : List ℕ) (outcome : Answer) → HasOutcome b written outcome → Tells answer outcome) told;
-        read_fault = no_read_fault answer read;
-        write_fault = counted;
-        source_uncounted = λ other. whole.uncounted;
-        sink_uncounted = uncounted;
-        unwritten = unwritten;
-        taken_at_most = (bytes, whole.fits, omega (arith, whole.short), whole.consumed);
-        leaves = leaves_end answer (left source) (left source') read whole.end;
-        read = (bytes, whole.fits, omega (arith, whole.short), whole.consumed, given);
-        source_later = omega (arith, whole.uncounted);
-        sink_later = later;
-        complete =
-            λ no_read no_write. all (λ b. (written : List ℕ) (done : Unit {0}) → HasOutcome b written (Ok done) →
-            IsOk answer ⊎ IsErrAnd answer (λ e. cause_of e ≡ no_memory))
-            (λ written done q. without_fault answer done (told written (Ok done) q) read counted no_write);
-      }
+  answered source source' sink sink' bytes answer whole given read counted uncounted unwritten later = record {
+    read = (bytes, whole.fits, omega (arith, whole.short), whole.consumed, given);
+    leaves = leaves_end answer (left source) (left source') read whole.end;
+    unwritten = unwritten;
+    memory = λ h. inl whole.end;
+    read_fault = no_read_fault answer read;
+    source_uncounted = λ other. whole.uncounted;
+    write_fault = counted;
+    sink_uncounted = uncounted;
+    source_later = omega (arith, whole.uncounted);
+    sink_later = later;
+  }
 
   -- the frames were shown, up to one that was not
   pub shows : (source source' : S) (sink sink' : K) (bytes : List ℕ) (f : FileValue) (answer : Answer) →
@@ -161,60 +156,45 @@ module _ {S K : Type 0} (left : S → Option (List ℕ)) (source_faults : S → 
       → (e ≡ read_errors.ReadFault → FaultCounted (source_faults source) (source_faults source'))
       → (¬ (read_err e ≡ read_err read_errors.ReadFault) → source_faults source' ≡ source_faults source) →
       (e ≡ read_errors.TooLong → Takes (max_plan_bytes + 1) (left source) (left source'))
-      → (e ≡ read_errors.TooLong → IfSome (left source) (λ told. max_plan_bytes < length told)) →
-      PerformsInTurn left source_faults taken sink_faults source source' sink sink (Err (read_error e))
-  unread_as source source' sink read_errors.ReadFault (bytes, fits, short, consumed) later counted uncounted takes longer = record {
-    answers = any (left source) (λ b. ⊤) (λ b. tt);
-    exactly = any (left source) (λ b. (written : List ℕ) (outcome : Answer) → HasOutcome b written outcome → ⊤) (λ b written outcome q. tt);
-    read_fault = λ h. counted refl;
-    write_fault = λ h. absurd cc;
-    source_uncounted = λ other. absurd (other refl);
-    sink_uncounted = λ other. refl;
-    unwritten = λ h. refl;
-    taken_at_most = (bytes, fits, short, consumed);
-    leaves = tt;
+      → PerformsInTurn left source_faults taken sink_faults source source' sink sink (Err (read_error e))
+  unread_as source source' sink read_errors.ReadFault (bytes, fits, short, consumed) later counted uncounted takes = record {
     read = (bytes, fits, short, consumed, tt);
-    source_later = later;
-    sink_later = omega arith;
-    complete = λ no_read no_write. absurd (no_read (counted refl));
-  }
-  unread_as source source' sink read_errors.Memory (bytes, fits, short, consumed) later counted uncounted takes longer = record {
-    answers = any (left source) (λ b. Answers (Err errors.Memory) b (taken sink) (taken sink)) (λ b. ([], inl refl, Appends-nil (taken sink)));
-    exactly = any (left source) (λ b. (written : List ℕ) (outcome : Answer) → HasOutcome b written outcome → ⊤) (λ b written outcome q. tt);
-    read_fault = λ h. absurd cc;
-    write_fault = λ h. absurd cc;
-    source_uncounted = λ other. uncounted (λ h. absurd cc);
-    sink_uncounted = λ other. refl;
-    unwritten = λ h. refl;
-    taken_at_most = (bytes, fits, short, consumed);
     leaves = tt;
-    read = (bytes, fits, short, consumed, ([], inl refl, Appends-nil (taken sink)));
+    unwritten = λ h. refl;
+    memory = λ h. inr refl;
+    read_fault = λ h. counted refl;
+    source_uncounted = λ other. absurd (other refl);
+    write_fault = λ h. absurd cc;
+    sink_uncounted = λ other. refl;
     source_later = later;
     sink_later = omega arith;
-    complete =
-        λ no_read no_write. any (left source) (λ b. (written : List ℕ) (done : Unit {0}) → HasOutcome b written (Ok done) →
-        IsOk (error_answer errors.Memory) ⊎ IsErrAnd (error_answer errors.Memory) (λ e. cause_of e ≡ no_memory)) (λ b written done q. inr refl);
   }
-  unread_as source source' sink read_errors.TooLong most later counted uncounted takes longer =
+  unread_as source source' sink read_errors.Memory (bytes, fits, short, consumed) later counted uncounted takes = record {
+    read = (bytes, fits, short, consumed, ([], inl refl, Appends-nil (taken sink)));
+    leaves = tt;
+    unwritten = λ h. refl;
+    memory = λ h. inr refl;
+    read_fault = λ h. absurd cc;
+    source_uncounted = λ other. uncounted (λ h. absurd cc);
+    write_fault = λ h. absurd cc;
+    sink_uncounted = λ other. refl;
+    source_later = later;
+    sink_later = omega arith;
+  }
+  unread_as source source' sink read_errors.TooLong most later counted uncounted takes =
       let (bytes, fits, long, consumed) = takes refl in
       let over : max_plan_bytes < length bytes = omega (arith, long) in
-      let exact : IfSome (left source) (λ b. (written : List ℕ) (outcome : Answer) → HasOutcome b written outcome → outcome ≡ Err errors.TooLong) =
-      IfSome_then (left source) (longer refl) (λ b past written outcome q. (one_outcome b written [] outcome (Err errors.TooLong) q (past, refl)).0) in
       record {
-        answers = IfSome_then (left source) (longer refl) (λ b past. ([], (past, refl), Appends-nil (taken sink)));
-        exactly = exact;
-        read_fault = λ h. absurd cc;
-        write_fault = λ h. absurd cc;
-        source_uncounted = λ other. uncounted (λ h. absurd cc);
-        sink_uncounted = λ other. refl;
-        unwritten = λ h. refl;
-        taken_at_most = (bytes, fits, omega (arith, long), consumed);
-        leaves = takes refl;
         read = (bytes, fits, omega (arith, long), consumed, ([], (over, refl), Appends-nil (taken sink)));
+        leaves = takes refl;
+        unwritten = λ h. refl;
+        memory = λ h. absurd cc;
+        read_fault = λ h. absurd cc;
+        source_uncounted = λ other. uncounted (λ h. absurd cc);
+        write_fault = λ h. absurd cc;
+        sink_uncounted = λ other. refl;
         source_later = later;
         sink_later = omega arith;
-        complete =
-            λ no_read no_write. IfSome_then (left source) exact (λ b f written done q. not_both done errors.TooLong (Ok done) refl (f written (Ok done) q));
       }
 
   pub unread : (source source' : S) (sink : K) (answer : Answer) (e : ReadError) → IsErrAnd answer (λ d. d ≡ read_error e) →
@@ -222,8 +202,50 @@ module _ {S K : Type 0} (left : S → Option (List ℕ)) (source_faults : S → 
       → (e ≡ read_errors.ReadFault → FaultCounted (source_faults source) (source_faults source'))
       → (¬ (read_err e ≡ read_err read_errors.ReadFault) → source_faults source' ≡ source_faults source) →
       (e ≡ read_errors.TooLong → Takes (max_plan_bytes + 1) (left source) (left source'))
-      → (e ≡ read_errors.TooLong → IfSome (left source) (λ told. max_plan_bytes < length told)) →
-      PerformsInTurn left source_faults taken sink_faults source source' sink sink answer
-  unread source source' sink answer e is most later counted uncounted takes longer =
+      → PerformsInTurn left source_faults taken sink_faults source source' sink sink answer
+  unread source source' sink answer e is most later counted uncounted takes =
       subst (PerformsInTurn left source_faults taken sink_faults source source' sink sink) (sym (is_err answer (read_error e) is))
-      (unread_as source source' sink e most later counted uncounted takes longer)
+      (unread_as source source' sink e most later counted uncounted takes)
+
+  -- ---- bytes that the source tells
+
+  module _ (source source' : S) (sink sink' : K) where
+    abbrev Does : Answer → Type 0
+    Does answer = PerformsInTurn left source_faults taken sink_faults source source' sink sink' answer
+
+    abbrev Told : Answer → Type 0
+    Told answer = IfSome (left source) (λ bytes. Answers answer bytes (taken sink) (taken sink'))
+
+    -- they are those that were read, where nothing is left
+    told_at_end : (answer : Answer) → Does answer → IsAtEnd (left source') → Told answer
+    told_at_end answer p end =
+        let (bytes, fits, short, consumed, given) = p.read in
+        Consumes-whole (left source) (left source') bytes (λ b. Answers answer b (taken sink) (taken sink')) consumed end given
+
+    told : (answer : Answer) → Does answer → Told answer
+    told (Ok done) p = told_at_end (Ok done) p p.leaves
+    told (Err errors.ReadFault) p = any (left source) (λ b. Answers (Err errors.ReadFault) b (taken sink) (taken sink')) (λ b. tt)
+    told (Err errors.TooLong) p =
+        let (bytes, fits, short, consumed, (written, (over, none), appended)) = p.read in
+        past_limit (left source) (left source') bytes (λ b. Answers (Err errors.TooLong) b (taken sink) (taken sink')) consumed over
+        (λ b more. (written, (more, none), appended))
+    told (Err (errors.Malformed at)) p = told_at_end (Err (errors.Malformed at)) p p.leaves
+    told (Err (errors.Frame i fault)) p = told_at_end (Err (errors.Frame i fault)) p p.leaves
+    told (Err errors.WriteFault) p = told_at_end (Err errors.WriteFault) p p.leaves
+    told (Err errors.Memory) p = elim (p.memory refl) [
+      | inl end ↦ told_at_end (Err errors.Memory) p end
+      | inr same ↦ any (left source) (λ b. Answers (Err errors.Memory) b (taken sink) (taken sink'))
+          (λ b. ([], inl refl, subst (λ (k : K). Appends (taken sink) (taken k) []) (sym same) (Appends-nil (taken sink))))
+    ]
+
+    -- what the call answers of all the bytes that the source tells
+    pub answers_in_turn : (answer : Answer) → Does answer → AnswersInTurn left source_faults taken sink_faults source source' sink sink' answer
+    answers_in_turn answer p =
+        let exact : IfSome (left source) (λ bytes. (written : List ℕ) (outcome : Answer) → HasOutcome bytes written outcome → Tells answer outcome) =
+        IfSome_then (left source) (told answer p) (λ bytes given. tells answer bytes (taken sink) (taken sink') given) in
+        record {
+          answers = told answer p;
+          exactly = exact;
+          complete = λ no_read no_write. IfSome_then (left source) exact
+              (λ bytes f written done q. without_fault answer done (f written (Ok done) q) p.read_fault p.write_fault no_read no_write);
+        }

@@ -11,7 +11,6 @@ pub mod Sizes
 pub mod KeptRows
 pub mod Framed
 pub mod Calling
-mod TestRows
 pub mod ReadFrames
 pub mod Written
 pub mod Parts

@@ -16,38 +16,39 @@ use Rattle.av1_plan.proofs.Composed.{AreListedSlots, IsListedSlot, plan_listed}
 use Rattle.av1_sequence.specs.declared.head.FrameHead.{FrameHead}
 use Rattle.av1_sequence.specs.Frames.{IsHead, frame_header, frame_references}
 use Rattle.av1_references.specs.References.{HoldsPlane}
-use Rattle.av1_sequence.specs.Kept.{own, IsKeptAt, KeepsFrames, plane_shown, planes_shown, shown_in, slots_shown}
+use Rattle.av1_sequence.specs.Kept.{IsKeptAt, KeepsFrames, plane_shown, planes_shown, shown_in, slots_shown}
 use Rattle.av1_sequence.specs.Slots.{Slots, is_named, is_read, slot_of}
 use Rattle.av1_sequence.proofs.Serving.{mask_is, read_header, slot_shown}
 use Rattle.av1_sequence.proofs.Shown.{filled_planes, held_same, place_of, plane_held, shown_same}
 
-module _ (h : Header) (fi : FrameInvariants ℕ) (places : List (Option ℕ)) (head : FrameHead) (keeps : KeepsFrames h fi places) where
+module _ {T : Type 0} (num : T → ℕ) (h : Header) (fi : FrameInvariants T) (places : List (Option ℕ)) (head : FrameHead)
+    (keeps : KeepsFrames num h fi places) where
   abbrev slots : Slots
-  slots = slots_shown h fi places
+  slots = slots_shown num h fi places
 
   abbrev own_header : Header
   own_header = frame_header h slots head
 
-  plane_is : (place p : ℕ) (t : Slot ℕ) → p < 3 → IsKeptAt h fi place → slice_index_or fi.slots place None ≡ Some t →
-      ArePlane own_header p (plane_shown h p (plane_of t p))
+  plane_is : (place p : ℕ) (t : Slot T) → p < 3 → IsKeptAt num h fi place → slice_index_or fi.slots place None ≡ Some t →
+      ArePlane own_header p (plane_shown num h p (plane_of t p))
   plane_is place p t few stands e =
-      let held = held_same h slots head p _ (plane_of t p) (stands.planes p (plane_of t p) few (ap (option_map (λ (t : Slot ℕ). plane_of t p)) e)) in
-      let same = shown_same h slots head p (plane_of t p) in
+      let held = held_same num h slots head p _ (plane_of t p) (stands.planes p (plane_of t p) few (ap (option_map (λ (t : Slot T). plane_of t p)) e)) in
+      let same = shown_same num h slots head p (plane_of t p) in
       subst (ArePlane own_header p) same
-      (plane_held own_header p (plane_of t p) (subst (λ (xs : List ℕ). HoldsPlane own own_header p xs (plane_of t p)) (sym same) held))
+      (plane_held num own_header p (plane_of t p) (subst (λ (xs : List ℕ). HoldsPlane num own_header p xs (plane_of t p)) (sym same) held))
 
   -- what a slot that is read shows
   record IsShown (s : ℕ) : Type 0 where
     place : ℕ
-    slot : Slot ℕ
-    stands : IsKeptAt h fi place
+    slot : Slot T
+    stands : IsKeptAt num h fi place
     at : slice_index_or fi.slots place None ≡ Some slot
-    shows : slot_of slots s ≡ Some (planes_shown h slot.y slot.u slot.v)
+    shows : slot_of slots s ≡ Some (planes_shown num h slot.y slot.u slot.v)
 
   is_shown : (s : ℕ) → s < 8 → is_read head.slots slots s ≡ true → IsShown s
   is_shown s lt read =
       let (names, filled) = and_parts (is_named head.slots s) (is_some (slot_of slots s)) read in
-      let (place, at) = place_of h fi (slice_index_or places s None) (sym (ap is_some (slot_shown h fi places s lt)) ∙ filled) in
+      let (place, at) = place_of num h fi (slice_index_or places s None) (sym (ap is_some (slot_shown num h fi places s lt)) ∙ filled) in
       let stands = keeps.kept s place lt at in
       let (t, t_is) = filled_planes (slice_index_or fi.slots place None) stands.filled in
       record {
@@ -55,7 +56,7 @@ module _ (h : Header) (fi : FrameInvariants ℕ) (places : List (Option ℕ)) (h
         slot = t;
         stands = stands;
         at = t_is;
-        shows = slot_shown h fi places s lt ∙ ap (shown_in h fi) at ∙ ap (option_map (λ (t : Slot ℕ). planes_shown h t.y t.u t.v)) t_is;
+        shows = slot_shown num h fi places s lt ∙ ap (shown_in num h fi) at ∙ ap (option_map (λ (t : Slot T). planes_shown num h t.y t.u t.v)) t_is;
       }
 
   listed_read : (s : ℕ) → s < 8 → is_read head.slots slots s ≡ true → IsListedSlot own_header s (slot_of slots s)
@@ -65,9 +66,9 @@ module _ (h : Header) (fi : FrameInvariants ℕ) (places : List (Option ℕ)) (h
       subst (IsListedSlot own_header s) (sym a.shows) (
         mask_is h slots head s lt ∙ read,
         record {
-          y = plane_shown h 0 t.y;
-          u = plane_shown h 1 t.u;
-          v = plane_shown h 2 t.v;
+          y = plane_shown num h 0 t.y;
+          u = plane_shown num h 1 t.u;
+          v = plane_shown num h 2 t.v;
           are = refl;
           y_is = plane_is a.place 0 t (omega arith) a.stands a.at;
           u_is = plane_is a.place 1 t (omega arith) a.stands a.at;

@@ -14,15 +14,15 @@ use Rattle.av1_tile.specs.Walk.{HasPad, HasPads, HasRoom, SameLayout, StoresAll,
 use Rattle.av1_tile.proofs.Pictures.{room_kept}
 use Rattle.av1_sequence.specs.declared.head.FrameHead.{FrameHead}
 use Rattle.av1_sequence.specs.Frames.{frame_header, frame_of}
-use Rattle.av1_sequence.specs.Kept.{AreReady, own, plane_shown, planes_shown}
+use Rattle.av1_sequence.specs.Kept.{AreReady, plane_shown, planes_shown}
 use Rattle.av1_sequence.specs.Slots.{Slots}
 use Rattle.av1_sequence.proofs.Rows.{samples_same}
 
-module _ (h : Header) (slots : Slots) (head : FrameHead) where
+module _ {T : Type 0} (num : T → ℕ) (h : Header) (slots : Slots) (head : FrameHead) where
   abbrev own_header : Header
   own_header = frame_header h slots head
 
-  pub stores_in : (planes : Planes ℕ) → StoresAll own h planes → StoresAll own own_header planes
+  pub stores_in : (planes : Planes T) → StoresAll num h planes → StoresAll num own_header planes
   unfolding plane_width plane_height xdec ydec
   stores_in planes s = record {
     y = record {
@@ -39,7 +39,7 @@ module _ (h : Header) (slots : Slots) (head : FrameHead) where
     };
   }
 
-  pub stores_out : (planes : Planes ℕ) → StoresAll own own_header planes → StoresAll own h planes
+  pub stores_out : (planes : Planes T) → StoresAll num own_header planes → StoresAll num h planes
   unfolding plane_width plane_height xdec ydec
   stores_out planes s = record {
     y = record {
@@ -56,7 +56,7 @@ module _ (h : Header) (slots : Slots) (head : FrameHead) where
     };
   }
 
-  pub room_in : (planes : Planes ℕ) → HasRoom h planes → HasRoom own_header planes
+  pub room_in : (planes : Planes T) → HasRoom h planes → HasRoom own_header planes
   unfolding plane_width plane_height xdec ydec
   room_in planes r = record {
     y = record { columns = r.y.columns; rows = r.y.rows };
@@ -64,7 +64,7 @@ module _ (h : Header) (slots : Slots) (head : FrameHead) where
     v = record { columns = r.v.columns; rows = r.v.rows };
   }
 
-  pub room_out : (planes : Planes ℕ) → HasRoom own_header planes → HasRoom h planes
+  pub room_out : (planes : Planes T) → HasRoom own_header planes → HasRoom h planes
   unfolding plane_width plane_height xdec ydec
   room_out planes r = record {
     y = record { columns = r.y.columns; rows = r.y.rows };
@@ -72,7 +72,7 @@ module _ (h : Header) (slots : Slots) (head : FrameHead) where
     v = record { columns = r.v.columns; rows = r.v.rows };
   }
 
-  pads_in : (planes : Planes ℕ) → HasPads h 80 planes → HasPads own_header 80 planes
+  pads_in : (planes : Planes T) → HasPads h 80 planes → HasPads own_header 80 planes
   unfolding xdec ydec
   pads_in planes s = record {
     y = record { columns = s.y.columns; rows = s.y.rows };
@@ -80,7 +80,7 @@ module _ (h : Header) (slots : Slots) (head : FrameHead) where
     v = record { columns = s.v.columns; rows = s.v.rows };
   }
 
-  pads_out : (planes : Planes ℕ) → HasPads own_header 80 planes → HasPads h 80 planes
+  pads_out : (planes : Planes T) → HasPads own_header 80 planes → HasPads h 80 planes
   unfolding xdec ydec
   pads_out planes s = record {
     y = record { columns = s.y.columns; rows = s.y.rows };
@@ -88,13 +88,13 @@ module _ (h : Header) (slots : Slots) (head : FrameHead) where
     v = record { columns = s.v.columns; rows = s.v.rows };
   }
 
-  pub ready_in : (planes : Planes ℕ) → AreReady h planes → AreReady own_header planes
+  pub ready_in : (planes : Planes T) → AreReady num h planes → AreReady num own_header planes
   ready_in planes ready = record { stores = stores_in planes ready.stores; room = room_in planes ready.room; pads = pads_in planes ready.pads }
 
-  pub ready_out : (planes : Planes ℕ) → AreReady own_header planes → AreReady h planes
+  pub ready_out : (planes : Planes T) → AreReady num own_header planes → AreReady num h planes
   ready_out planes ready = record { stores = stores_out planes ready.stores; room = room_out planes ready.room; pads = pads_out planes ready.pads }
 
-  pub ready_after : (p q : Planes ℕ) → AreReady h p → StoresAll own own_header q → SameLayout p q → AreReady h q
+  pub ready_after : (p q : Planes T) → AreReady num h p → StoresAll num own_header q → SameLayout p q → AreReady num h q
   ready_after p q ready stores same = record {
     stores = stores_out q stores;
     room = room_kept h p q same ready.room;
@@ -105,18 +105,18 @@ module _ (h : Header) (slots : Slots) (head : FrameHead) where
     };
   }
 
-  shown_in_own : (q : Planes ℕ) → planes_shown h q.y q.u q.v ≡ planes_shown own_header q.y q.u q.v
+  shown_in_own : (q : Planes T) → planes_shown num h q.y q.u q.v ≡ planes_shown num own_header q.y q.u q.v
   unfolding plane_width plane_height xdec ydec
   shown_in_own q = refl
 
   -- planes with the samples that a plan comes to show its frame
-  pub frame_shown : (plan : PlanValue) (q : Planes ℕ) → own_header ≡ plan.header
+  pub frame_shown : (plan : PlanValue) (q : Planes T) → own_header ≡ plan.header
       → ((k : Component) (x y : ℕ) → x < plane_width plan.header (number k) → y < plane_height plan.header (number k) →
-      sample_at own (plane_of k q) x y ≡ sample_of (slow_walk plan k x y))
-      → planes_shown h q.y q.u q.v ≡ frame_of plan
+      sample_at num (plane_of k q) x y ≡ sample_of (slow_walk plan k x y))
+      → planes_shown num h q.y q.u q.v ≡ frame_of plan
   frame_shown plan q e shows =
-      shown_in_own q ∙ ap (λ (g : Header). planes_shown g q.y q.u q.v) e ∙ rw (same Y, same U, same V) refl
+      shown_in_own q ∙ ap (λ (g : Header). planes_shown num g q.y q.u q.v) e ∙ rw (same Y, same U, same V) refl
     where
       same : (k : Component) →
-          plane_shown plan.header (number k) (plane_of k q) ≡ by_rows (extent_of plan.header (number k)) (λ x y. sample_of (slow_walk plan k x y))
-      same k = samples_same (extent_of plan.header (number k)) (λ x y. sample_at own (plane_of k q) x y) (λ x y. sample_of (slow_walk plan k x y)) (shows k)
+          plane_shown num plan.header (number k) (plane_of k q) ≡ by_rows (extent_of plan.header (number k)) (λ x y. sample_of (slow_walk plan k x y))
+      same k = samples_same (extent_of plan.header (number k)) (λ x y. sample_at num (plane_of k q) x y) (λ x y. sample_of (slow_walk plan k x y)) (shows k)

@@ -25,15 +25,15 @@ use Rattle.av1_references.proofs.Served.{offered}
 use Rattle.av1_sequence.specs.declared.head.FrameHead.{FrameHead}
 use Rattle.av1_sequence.specs.Frames.{IsHead, frame_header, frame_references}
 use Rattle.av1_plan.proofs.ReadFrames.{depth_is}
-use Rattle.av1_sequence.specs.Kept.{AreFrames, IsKeptAt, KeepsFrames, own, plane_shown, planes_shown, shown_in, slots_shown}
+use Rattle.av1_sequence.specs.Kept.{AreFrames, IsKeptAt, KeepsFrames, plane_shown, planes_shown, shown_in, slots_shown}
 use Rattle.av1_sequence.specs.Slots.{Frame, Slots, is_named, is_read, slot_of}
 use Rattle.av1_sequence.proofs.Bits.{bit_is, bits_small}
 use Rattle.av1_sequence.proofs.Shown.{filled_planes, held_same, place_of, some_mapped}
 
 -- a slot of a list that is told by number
-pub slot_shown : (h : Header) (fi : FrameInvariants ℕ) (places : List (Option ℕ)) (s : ℕ) → s < 8 →
-    slot_of (slots_shown h fi places) s ≡ shown_in h fi (slice_index_or places s None)
-slot_shown h fi places s lt = get_or-by_index 8 (λ s. shown_in h fi (slice_index_or places s None)) s None lt
+pub slot_shown : {T : Type 0} (num : T → ℕ) (h : Header) (fi : FrameInvariants T) (places : List (Option ℕ)) (s : ℕ) → s < 8 →
+    slot_of (slots_shown num h fi places) s ≡ shown_in num h fi (slice_index_or places s None)
+slot_shown num h fi places s lt = get_or-by_index 8 (λ s. shown_in num h fi (slice_index_or places s None)) s None lt
 
 -- the slots of a frame's mask are those that it reads
 pub mask_is : (h : Header) (slots : Slots) (head : FrameHead) (s : ℕ) → s < 8 → has_slot (frame_header h slots head) s ≡ is_read head.slots slots s
@@ -64,21 +64,23 @@ reference_is : (v : PlanValue) (s p : ℕ) (planes : Frame) → slice_index_or v
     reference_of v s p ≡ Some (slice_index_or planes p [])
 reference_is v s p planes e = rw e refl
 
-pub plane_listed : (h : Header) (t : Slot ℕ) (p : ℕ) → p < 3 → slice_index_or (planes_shown h t.y t.u t.v) p [] ≡ plane_shown h p (plane_of t p)
-plane_listed h t zero few = refl
-plane_listed h t (suc zero) few = refl
-plane_listed h t (suc (suc zero)) few = refl
-plane_listed h t (suc (suc (suc p))) few = absurd (omega (arith, few))
+pub plane_listed : {T : Type 0} (num : T → ℕ) (h : Header) (t : Slot T) (p : ℕ) → p < 3 →
+    slice_index_or (planes_shown num h t.y t.u t.v) p [] ≡ plane_shown num h p (plane_of t p)
+plane_listed num h t zero few = refl
+plane_listed num h t (suc zero) few = refl
+plane_listed num h t (suc (suc zero)) few = refl
+plane_listed num h t (suc (suc (suc p))) few = absurd (omega (arith, few))
 
 chosen : (b : Bool) (o : Option Frame) → b ≡ true → (if b then o else None) ≡ o
 chosen b o e = rw e refl
 
-module _ (h : Header) (fi new : FrameInvariants ℕ) (places : List (Option ℕ)) (head : FrameHead) (keeps : KeepsFrames h fi places) (is : IsHead head)
+module _ {T : Type 0} (num : T → ℕ) (h : Header) (fi new : FrameInvariants T) (places : List (Option ℕ)) (head : FrameHead)
+    (keeps : KeepsFrames num h fi places) (is : IsHead head)
     (leaves : List LeafValue)
     (kept : new.slots ≡ fi.slots) (depth : new.bit_depth ≡ fi.bit_depth) (filter : new.default_filter ≡ head.filter)
     (named : (i place : ℕ) → i < 7 → slice_index_or places (slice_index head.slots i) None ≡ Some place → slice_index new.ref_frames i ≡ place) where
   abbrev slots : Slots
-  slots = slots_shown h fi places
+  slots = slots_shown num h fi places
 
   abbrev value : PlanValue
   value = record { header = frame_header h slots head; references = frame_references slots head; leaves = leaves }
@@ -90,7 +92,7 @@ module _ (h : Header) (fi new : FrameInvariants ℕ) (places : List (Option ℕ)
     at : slice_index_or places (slot_in value.header reference) None ≡ Some place
     names : place_named new reference ≡ place
     read : is_read head.slots slots (slot_in value.header reference) ≡ true
-    stands : IsKeptAt h fi place
+    stands : IsKeptAt num h fi place
 
   placed : (reference : RefType) → has_reference value.header reference ≡ true → IsPlaced reference
   unfolding has_reference
@@ -102,61 +104,63 @@ module _ (h : Header) (fi new : FrameInvariants ℕ) (places : List (Option ℕ)
       let within : i < 7 = named_within head.slots i is.slots.count (ltb-true _ _ below) in
       let read : is_read head.slots slots s ≡ true = sym (mask_is h slots head s o.slot) ∙ o.carried in
       let (names, filled) = and_parts (is_named head.slots s) (is_some (slot_of slots s)) read in
-      let (place, at) = place_of h fi (slice_index_or places s None) (sym (ap is_some (slot_shown h fi places s o.slot)) ∙ filled) in
+      let (place, at) = place_of num h fi (slice_index_or places s None) (sym (ap is_some (slot_shown num h fi places s o.slot)) ∙ filled) in
       record { place = place; below = o.slot; at = at; names = named i place within at; read = read; stands = keeps.kept s place o.slot at }
 
   -- the samples of its slot are those that its planes show
-  samples_are : (reference : RefType) (p : ℕ) (plane : Plane ℕ) (at : IsPlaced reference) → p < 3 → slot_plane fi at.place p ≡ Some plane →
-      slot_samples value (slot_in value.header reference) p ≡ plane_shown h p plane
+  samples_are : (reference : RefType) (p : ℕ) (plane : Plane T) (at : IsPlaced reference) → p < 3 → slot_plane fi at.place p ≡ Some plane →
+      slot_samples value (slot_in value.header reference) p ≡ plane_shown num h p plane
   samples_are reference p plane at few e =
       let s = slot_in value.header reference in
       let (t, t_is) = filled_planes (slice_index_or fi.slots at.place None) at.stands.filled in
-      let frame : slice_index_or (frame_references slots head) s None ≡ Some (planes_shown h t.y t.u t.v) =
+      let frame : slice_index_or (frame_references slots head) s None ≡ Some (planes_shown num h t.y t.u t.v) =
       get_or-by_index 8 (λ s. if is_read head.slots slots s then slot_of slots s else None) s None at.below
       ∙ chosen (is_read head.slots slots s) (slot_of slots s) at.read
-      ∙ slot_shown h fi places s at.below ∙ ap (shown_in h fi) at.at ∙ ap (option_map (λ (t : Slot ℕ). planes_shown h t.y t.u t.v)) t_is in
-      let own_plane : plane_of t p ≡ plane = same_Some _ _ (sym (ap (option_map (λ (t : Slot ℕ). plane_of t p)) t_is) ∙ e) in
-      ap (λ (o : Option (List ℕ)). unwrap_or o []) (reference_is value s p (planes_shown h t.y t.u t.v) frame) ∙ plane_listed h t p few
-      ∙ ap (plane_shown h p) own_plane
+      ∙ slot_shown num h fi places s at.below ∙ ap (shown_in num h fi) at.at ∙ ap (option_map (λ (t : Slot T). planes_shown num h t.y t.u t.v)) t_is in
+      let own_plane : plane_of t p ≡ plane = same_Some _ _ (sym (ap (option_map (λ (t : Slot T). plane_of t p)) t_is) ∙ e) in
+      ap (λ (o : Option (List ℕ)). unwrap_or o []) (reference_is value s p (planes_shown num h t.y t.u t.v) frame) ∙ plane_listed num h t p few
+      ∙ ap (plane_shown num h p) own_plane
 
-  pub serves : ServesPlan own value new
+  pub serves : ServesPlan num value new
   serves = record {
     settings = record { depth = depth ∙ keeps.depth; filter = filter };
     depth = subst IsDepth (sym (depth ∙ keeps.depth)) (depth_is h.depth keeps.frame.depth);
     named = λ reference has. let d = placed reference has in omega (arith, d.names, d.stands.below);
     filled = λ reference p has few.
         let d = placed reference has in
-        ap (λ (n : ℕ). is_some (slot_plane new n p)) d.names ∙ some_mapped (λ (t : Slot ℕ). plane_of t p) (slice_index_or new.slots d.place None)
-        ∙ ap (λ (ts : List (Option (Slot ℕ))). is_some (slice_index_or ts d.place None)) kept ∙ d.stands.filled;
+        ap (λ (n : ℕ). is_some (slot_plane new n p)) d.names ∙ some_mapped (λ (t : Slot T). plane_of t p) (slice_index_or new.slots d.place None)
+        ∙ ap (λ (ts : List (Option (Slot T))). is_some (slice_index_or ts d.place None)) kept ∙ d.stands.filled;
     planes = λ reference p plane has few e.
         let d = placed reference has in
         let there : slot_plane fi d.place p ≡ Some plane =
-        sym (ap (λ (ts : List (Option (Slot ℕ))). option_map (λ (t : Slot ℕ). plane_of t p) (slice_index_or ts d.place None)) kept)
+        sym (ap (λ (ts : List (Option (Slot T))). option_map (λ (t : Slot T). plane_of t p) (slice_index_or ts d.place None)) kept)
         ∙ sym (ap (λ (n : ℕ). slot_plane new n p) d.names) ∙ e in
-        subst (λ (samples : List ℕ). HoldsPlane own value.header p samples plane) (sym (samples_are reference p plane d few there))
-        (held_same h slots head p _ plane (d.stands.planes p plane few there));
+        subst (λ (samples : List ℕ). HoldsPlane num value.header p samples plane) (sym (samples_are reference p plane d few there))
+        (held_same num h slots head p _ plane (d.stands.planes p plane few there));
   }
 
 -- a slot shows a frame where it has a place
-pub filled_same : (h : Header) (fi : FrameInvariants ℕ) (places : List (Option ℕ)) → KeepsFrames h fi places → (s : ℕ) → s < 8 →
-    is_some (slot_of (slots_shown h fi places) s) ≡ is_some (slice_index_or places s None)
-filled_same h fi places keeps s lt = ap is_some (slot_shown h fi places s lt) ∙ go (slice_index_or places s None) refl
+pub filled_same : {T : Type 0} (num : T → ℕ) (h : Header) (fi : FrameInvariants T) (places : List (Option ℕ)) → KeepsFrames num h fi places → (s : ℕ) → s < 8 →
+    is_some (slot_of (slots_shown num h fi places) s) ≡ is_some (slice_index_or places s None)
+filled_same {T} num h fi places keeps s lt = ap is_some (slot_shown num h fi places s lt) ∙ go (slice_index_or places s None) refl
   where
-    go : (o : Option ℕ) → slice_index_or places s None ≡ o → is_some (shown_in h fi o) ≡ is_some o
+    go : (o : Option ℕ) → slice_index_or places s None ≡ o → is_some (shown_in num h fi o) ≡ is_some o
     go None e = refl
-    go (Some place) e = some_mapped (λ (t : Slot ℕ). planes_shown h t.y t.u t.v) (slice_index_or fi.slots place None) ∙ (keeps.kept s place lt e).filled
+    go (Some place) e = some_mapped (λ (t : Slot T). planes_shown num h t.y t.u t.v) (slice_index_or fi.slots place None) ∙ (keeps.kept s place lt e).filled
 
 -- so a named slot is read there
-pub read_there : (h : Header) (fi : FrameInvariants ℕ) (places : List (Option ℕ)) → KeepsFrames h fi places → (named : List ℕ) (s : ℕ) (b : Bool) → s < 8 →
+pub read_there : {T : Type 0} (num : T → ℕ) (h : Header) (fi : FrameInvariants T) (places : List (Option ℕ)) → KeepsFrames num h fi places →
+    (named : List ℕ) (s : ℕ) (b : Bool) → s < 8 →
     is_named named s ≡ true → b ≡ is_some (slice_index_or places s None)
-    → b ≡ is_read named (slots_shown h fi places) s
-read_there h fi places keeps named s b lt names is =
-    is ∙ sym (filled_same h fi places keeps s lt) ∙ sym (ap (λ (t : Bool). t && is_some (slot_of (slots_shown h fi places) s)) names)
+    → b ≡ is_read named (slots_shown num h fi places) s
+read_there num h fi places keeps named s b lt names is =
+    is ∙ sym (filled_same num h fi places keeps s lt) ∙ sym (ap (λ (t : Bool). t && is_some (slot_of (slots_shown num h fi places) s)) names)
 
 -- frames whose settings alone have changed are kept as before
-pub keeps_settings : (h : Header) (fi new : FrameInvariants ℕ) (places : List (Option ℕ)) → new.slots ≡ fi.slots → new.bit_depth ≡ fi.bit_depth →
-    KeepsFrames h fi places → KeepsFrames h new places
-keeps_settings h fi new places kept depth keeps = record {
+pub keeps_settings : {T : Type 0} (num : T → ℕ) (h : Header) (fi new : FrameInvariants T) (places : List (Option ℕ)) → new.slots ≡ fi.slots →
+    new.bit_depth ≡ fi.bit_depth →
+    KeepsFrames num h fi places → KeepsFrames num h new places
+keeps_settings {T} num h fi new places kept depth keeps = record {
   frame = keeps.frame;
   depth = depth ∙ keeps.depth;
   count = ap length kept ∙ keeps.count;
@@ -165,13 +169,13 @@ keeps_settings h fi new places kept depth keeps = record {
       let k = keeps.kept s place lt e in
       record {
         below = k.below;
-        filled = ap (λ (ts : List (Option (Slot ℕ))). is_some (slice_index_or ts place None)) kept ∙ k.filled;
+        filled = ap (λ (ts : List (Option (Slot T))). is_some (slice_index_or ts place None)) kept ∙ k.filled;
         planes =
             λ p plane few is.
-            k.planes p plane few (sym (ap (λ (ts : List (Option (Slot ℕ))). option_map (λ (t : Slot ℕ). plane_of t p) (slice_index_or ts place None)) kept)
+            k.planes p plane few (sym (ap (λ (ts : List (Option (Slot T))). option_map (λ (t : Slot T). plane_of t p) (slice_index_or ts place None)) kept)
             ∙ is);
       };
-  again = λ place t is. keeps.again place t (sym (ap (λ (ts : List (Option (Slot ℕ))). slice_index_or ts place None) kept) ∙ is);
+  again = λ place t is. keeps.again place t (sym (ap (λ (ts : List (Option (Slot T))). slice_index_or ts place None) kept) ∙ is);
 }
 
 -- nothing stands at a place of a list of none
@@ -182,9 +186,10 @@ nothing_there {X} n i xs empty = elim (cases_lt i n) [
 ]
 
 -- no frames
-pub keeps_none : (h : Header) (fi : FrameInvariants ℕ) (places : List (Option ℕ)) → AreFrames h → fi.bit_depth ≡ h.depth → fi.slots ≡ replicate 8 None →
-    places ≡ replicate 8 None → KeepsFrames h fi places
-keeps_none h fi places is depth empty none = record {
+pub keeps_none : {T : Type 0} (num : T → ℕ) (h : Header) (fi : FrameInvariants T) (places : List (Option ℕ)) → AreFrames h → fi.bit_depth ≡ h.depth →
+    fi.slots ≡ replicate 8 None →
+    places ≡ replicate 8 None → KeepsFrames num h fi places
+keeps_none num h fi places is depth empty none = record {
   frame = is;
   depth = depth;
   count = ap length empty;
@@ -194,15 +199,17 @@ keeps_none h fi places is depth empty none = record {
 }
 
 -- the settings serve a plan with this header and these references
-pub serves_plan : (h : Header) (fi new : FrameInvariants ℕ) (places : List (Option ℕ)) (head : FrameHead) → KeepsFrames h fi places → IsHead head →
+pub serves_plan : {T : Type 0} (num : T → ℕ) (h : Header) (fi new : FrameInvariants T) (places : List (Option ℕ)) (head : FrameHead) →
+    KeepsFrames num h fi places → IsHead head →
     new.slots ≡ fi.slots → new.bit_depth ≡ fi.bit_depth → new.default_filter ≡ head.filter
     → ((i place : ℕ) → i < 7 → slice_index_or places (slice_index head.slots i) None ≡ Some place → slice_index new.ref_frames i ≡ place)
-    → (plan : PlanValue) → plan.header ≡ frame_header h (slots_shown h fi places) head → plan.references ≡ frame_references (slots_shown h fi places) head →
-    ServesPlan own plan new
-serves_plan h fi new places head keeps is kept depth filter named plan eh er =
-    subst (λ (v : PlanValue). ServesPlan own v new)
-    (plan_is plan (frame_header h (slots_shown h fi places) head) (frame_references (slots_shown h fi places) head) eh er)
-    (serves h fi new places head keeps is plan.leaves kept depth filter named)
+    → (plan : PlanValue) → plan.header ≡ frame_header h (slots_shown num h fi places) head →
+    plan.references ≡ frame_references (slots_shown num h fi places) head →
+    ServesPlan num plan new
+serves_plan num h fi new places head keeps is kept depth filter named plan eh er =
+    subst (λ (v : PlanValue). ServesPlan num v new)
+    (plan_is plan (frame_header h (slots_shown num h fi places) head) (frame_references (slots_shown num h fi places) head) eh er)
+    (serves num h fi new places head keeps is plan.leaves kept depth filter named)
   where
     plan_is : (plan : PlanValue) (g : Header) (rs : List (Option Frame)) → plan.header ≡ g → plan.references ≡ rs →
         record { header = g; references = rs; leaves = plan.leaves } ≡ plan

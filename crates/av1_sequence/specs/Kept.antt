@@ -26,44 +26,40 @@ pub record Kept : Type 0 where
 
 -- ---- planes in memory
 
--- a sample is its own number
-abbrev pub own : ℕ → ℕ
-own v = v
-
--- the visible samples of plane p, row by row
-abbrev pub plane_shown : Header → ℕ → Plane ℕ → List ℕ
-plane_shown h p plane = by_rows (extent_of h p) (λ x y. sample_at own plane x y)
+-- the numbers of the visible samples of plane p, row by row
+abbrev pub plane_shown : {T : Type 0} → (T → ℕ) → Header → ℕ → Plane T → List ℕ
+plane_shown num h p plane = by_rows (extent_of h p) (λ x y. sample_at num plane x y)
 
 -- of three planes
-abbrev pub planes_shown : Header → (y u v : Plane ℕ) → Frame
-planes_shown h y u v = plane_shown h 0 y ∷ plane_shown h 1 u ∷ plane_shown h 2 v ∷ []
+abbrev pub planes_shown : {T : Type 0} → (T → ℕ) → Header → (y u v : Plane T) → Frame
+planes_shown num h y u v = plane_shown num h 0 y ∷ plane_shown num h 1 u ∷ plane_shown num h 2 v ∷ []
 
 -- planes that a frame can be reconstructed in, and then kept
-pub record AreReady (h : Header) (planes : Planes ℕ) : Type 0 where
-  pub stores : StoresAll own h planes
+pub record AreReady {T : Type 0} (num : T → ℕ) (h : Header) (planes : Planes T) : Type 0 where
+  pub stores : StoresAll num h planes
   pub room : HasRoom h planes
   pub pads : HasPads h 80 planes
 
 -- ---- frames at places
 
 -- the frame at a place
-abbrev pub shown_at : Header → FrameInvariants ℕ → ℕ → Option Frame
-shown_at h fi place = option_map (λ s. planes_shown h s.y s.u s.v) (slice_index_or fi.slots place None)
+abbrev pub shown_at : {T : Type 0} → (T → ℕ) → Header → FrameInvariants T → ℕ → Option Frame
+shown_at num h fi place = option_map (λ s. planes_shown num h s.y s.u s.v) (slice_index_or fi.slots place None)
 
-abbrev pub shown_in : Header → FrameInvariants ℕ → Option ℕ → Option Frame
-shown_in h fi None = None
-shown_in h fi (Some place) = shown_at h fi place
+abbrev pub shown_in : {T : Type 0} → (T → ℕ) → Header → FrameInvariants T → Option ℕ → Option Frame
+shown_in num h fi None = None
+shown_in num h fi (Some place) = shown_at num h fi place
 
 -- the slots, each with the frame at its place
-abbrev pub slots_shown : Header → FrameInvariants ℕ → (places : List (Option ℕ)) → Slots
-slots_shown h fi places = by_index 8 (λ s. shown_in h fi (slice_index_or places s None))
+abbrev pub slots_shown : {T : Type 0} → (T → ℕ) → Header → FrameInvariants T → (places : List (Option ℕ)) → Slots
+slots_shown num h fi places = by_index 8 (λ s. shown_in num h fi (slice_index_or places s None))
 
 -- a frame stands at this place, padded, so that others can be predicted from it
-pub record IsKeptAt (h : Header) (fi : FrameInvariants ℕ) (place : ℕ) : Type 0 where
+pub record IsKeptAt {T : Type 0} (num : T → ℕ) (h : Header) (fi : FrameInvariants T) (place : ℕ) : Type 0 where
   pub below : place < 8
   pub filled : is_some (slice_index_or fi.slots place None) ≡ true
-  pub planes : (p : ℕ) (plane : Plane ℕ) → p < 3 → slot_plane fi place p ≡ Some plane →
-      HoldsPlane own h p (plane_shown h p plane) plane
+  pub planes : (p : ℕ) (plane : Plane T) → p < 3 → slot_plane fi place p ≡ Some plane →
+      HoldsPlane num h p (plane_shown num h p plane) plane
 
 -- the sides, depth and sampling of the frames of a sequence
 pub record AreFrames (h : Header) : Type 0 where
@@ -73,11 +69,12 @@ pub record AreFrames (h : Header) : Type 0 where
   pub sampling : h.sampling ≤ 2
 
 -- the frames that slots show are kept at their places, and what stands at any place can take a later frame
-pub record KeepsFrames (h : Header) (fi : FrameInvariants ℕ) (places : List (Option ℕ)) : Type 0 where
+pub record KeepsFrames {T : Type 0} (num : T → ℕ) (h : Header) (fi : FrameInvariants T)
+    (places : List (Option ℕ)) : Type 0 where
   pub frame : AreFrames h
   pub depth : fi.bit_depth ≡ h.depth
   pub count : length fi.slots ≡ 8
   pub eight : length places ≡ 8
-  pub kept : (s place : ℕ) → s < 8 → slice_index_or places s None ≡ Some place → IsKeptAt h fi place
-  pub again : (place : ℕ) (t : Slot ℕ) → slice_index_or fi.slots place None ≡ Some t →
-      AreReady h (record { y = t.y; u = t.u; v = t.v })
+  pub kept : (s place : ℕ) → s < 8 → slice_index_or places s None ≡ Some place → IsKeptAt num h fi place
+  pub again : (place : ℕ) (t : Slot T) → slice_index_or fi.slots place None ≡ Some t →
+      AreReady num h (record { y = t.y; u = t.u; v = t.v })

@@ -8,7 +8,8 @@ use Rattle.av1_sequence.specs.declared.last.Last.TheVariants as lasts
 use Rattle.av1_sequence.specs.Kept.{planes_shown, shown_at}
 use Rattle.av1_sequence.specs.Slots.{Frame}
 
-abbrev pub last_shown : Header → FrameInvariants ℕ → (apart : Option (Planes ℕ)) → Last → Option Frame
-last_shown h fi apart lasts.Nowhere = None
-last_shown h fi apart lasts.Apart = option_map (λ planes. planes_shown h planes.y planes.u planes.v) apart
-last_shown h fi apart (lasts.At place) = shown_at h fi place
+abbrev pub last_shown : {T : Type 0} → (T → ℕ) → Header → FrameInvariants T → (apart : Option (Planes T)) → Last →
+    Option Frame
+last_shown num h fi apart lasts.Nowhere = None
+last_shown num h fi apart lasts.Apart = option_map (λ planes. planes_shown num h planes.y planes.u planes.v) apart
+last_shown num h fi apart (lasts.At place) = shown_at num h fi place

@@ -1,13 +1,11 @@
 -- The bytes of a frame of a sequence, and the plane that they are written from.
-use Rattle.std.specs.Prelude.{ℕ, ◌<◌, ◌≤◌, ◌^◌, ◌++◌, [], List, slice_index_or}
+use Rattle.std.specs.Prelude.{◌≡◌, ℕ, ◌==◌, ◌≤◌, ◌++◌, [], List, slice_index_or}
 use Rattle.std.specs.List.{flat_map}
 use Rattle.av1_frame.specs.declared.plane.Plane.{Plane}
-use Rattle.av1_frame.specs.Planes.{sample_at}
 use Rattle.av1_plan.specs.declared.header.Header.{Header}
-use Rattle.av1_plan.specs.Geometry.{plane_height, plane_width}
+use Rattle.av1_plan.specs.Geometry.{plane_width}
 use Rattle.av1_tile.specs.Output.{sample_bytes}
 use Rattle.av1_tile.specs.Walk.{IsPlaneOf}
-use Rattle.av1_sequence.specs.Kept.{own}
 use Rattle.av1_sequence.specs.Slots.{Frame}
 
 -- the samples of plane p, each as one byte at depth 8, else as two, the low one first
@@ -18,8 +16,11 @@ plane_text frames frame p = flat_map (sample_bytes frames.depth) (slice_index_or
 abbrev pub frame_text : (frames : Header) → Frame → List ℕ
 frame_text frames frame = plane_text frames frame 0 ++ plane_text frames frame 1 ++ plane_text frames frame 2
 
--- plane p of a frame that can be written: it is no wider than frames are, and its visible samples lie within the depth
-pub record IsWritable (h : Header) (p : ℕ) (plane : Plane ℕ) : Type 0 where
+-- plane p of a frame that can be written: it is no wider than frames are
+pub record IsWritable {T : Type 0} (h : Header) (p : ℕ) (plane : Plane T) : Type 0 where
   pub place : IsPlaneOf h p plane
   pub wide : plane_width h p ≤ 2048
-  pub within : (x y : ℕ) → x < plane_width h p → y < plane_height h p → sample_at own plane x y < 2 ^ h.depth
+
+-- samples of this depth are written as those of so many bits: as one byte each, or as two
+abbrev pub AreWrittenAs : (depth bits : ℕ) → Type 0
+AreWrittenAs depth bits = (depth == 8) ≡ (bits == 8)

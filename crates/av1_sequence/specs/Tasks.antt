@@ -3,7 +3,7 @@ use Rattle.std.specs.Prelude.{◌≡◌, ◌⊎◌, ℕ, ◌+◌, ◌≤◌, Lis
 use Rattle.std.specs.Io.KnownBytes.{Appends, Consumes, IsAtEnd}
 use Rattle.av1_plan.specs.Plan.{PlanValue}
 use Rattle.av1_streams.specs.Faults.{FaultCounted}
-use Rattle.av1_streams.specs.Streams.{AreBytes, AppendsPrefix, TakesAtMost, max_plan_bytes}
+use Rattle.av1_streams.specs.Streams.{AreBytes, AppendsPrefix, max_plan_bytes}
 use Rattle.av1_streams.specs.Tasks.{Cause, read_failed, too_long, refused, write_failed, no_memory, ErrorLeaves}
 use Rattle.av1_tile.specs.Output.{planes_of}
 use Rattle.av1_sequence.specs.declared.error.SequenceError.{SequenceError}
@@ -27,18 +27,6 @@ cause_of errors.Memory = no_memory
 abbrev pub LeavesSource : Answer → Option (List ℕ) → Option (List ℕ) → Type 0
 LeavesSource (Ok done) left left' = IsAtEnd left'
 LeavesSource (Err e) left left' = ErrorLeaves (cause_of e) max_plan_bytes left left'
-
--- The answer is that of the outcome, unless a read or a write failed, or memory ran out.
-abbrev pub ErrorTells : Cause → SequenceError → Answer → Type 0
-ErrorTells too_long e outcome = outcome ≡ Err e
-ErrorTells refused e outcome = outcome ≡ Err e
-ErrorTells read_failed e outcome = ⊤
-ErrorTells write_failed e outcome = ⊤
-ErrorTells no_memory e outcome = ⊤
-
-abbrev pub Tells : Answer → Answer → Type 0
-Tells (Ok done) outcome = IsOk outcome
-Tells (Err e) outcome = ErrorTells (cause_of e) e outcome
 
 -- What an answer says of bytes that were read and of the sink: after Ok and after a refusal what the outcome writes was
 -- appended, after a failed write a prefix of it, and after running out of memory the planes of some first frames, each
@@ -72,31 +60,50 @@ IsBeforeFrames errors.Memory = ⊥
 pub record PerformsInTurn {S K : Type 0} (left : S → Option (List ℕ)) (source_faults : S → ℕ)
     (taken : K → Option (List ℕ)) (sink_faults : K → ℕ) (source source' : S) (sink sink' : K)
     (answer : Answer) : Type 0 where
-  -- Ok, a refusal, a failed write and running out of memory each say what became of the source's bytes and of the sink.
+  -- Some bytes were read, at most one past the limit, and the answer says of these what it does. A source that tells
+  -- its bytes had these at its front.
+  pub read : (bytes : List ℕ) × AreBytes bytes × (length bytes ≤ max_plan_bytes + 1) ×
+      Consumes (left source) (left source') bytes × Answers answer bytes (taken sink) (taken sink')
+  -- Whether anything is left behind them.
+  pub leaves : LeavesSource answer (left source) (left source')
+  -- A failed read, too many bytes and a malformed sequence come before anything is written, and so does memory that
+  -- runs out before the bytes were read to their end.
+  pub unwritten : IsErrAnd answer IsBeforeFrames → sink' ≡ sink
+  pub memory : IsErrAnd answer (λ e. cause_of e ≡ no_memory) → IsAtEnd (left source') ⊎ (sink' ≡ sink)
+  -- A fault is answered exactly where the source or the sink counted one, and counts never fall.
+  pub read_fault : IsErrAnd answer (λ e. cause_of e ≡ read_failed) →
+      FaultCounted (source_faults source) (source_faults source')
+  pub source_uncounted : ¬ IsErrAnd answer (λ e. cause_of e ≡ read_failed) →
+      source_faults source' ≡ source_faults source
+  pub write_fault : IsErrAnd answer (λ e. cause_of e ≡ write_failed) →
+      FaultCounted (sink_faults sink) (sink_faults sink')
+  pub sink_uncounted : ¬ IsErrAnd answer (λ e. cause_of e ≡ write_failed) → sink_faults sink' ≡ sink_faults sink
+  pub source_later : source_faults source ≤ source_faults source'
+  pub sink_later : sink_faults sink ≤ sink_faults sink'
+
+-- ---- what follows of bytes that a source tells
+
+-- The answer is that of the outcome, unless a read or a write failed, or memory ran out.
+abbrev pub ErrorTells : Cause → SequenceError → Answer → Type 0
+ErrorTells too_long e outcome = outcome ≡ Err e
+ErrorTells refused e outcome = outcome ≡ Err e
+ErrorTells read_failed e outcome = ⊤
+ErrorTells write_failed e outcome = ⊤
+ErrorTells no_memory e outcome = ⊤
+
+abbrev pub Tells : Answer → Answer → Type 0
+Tells (Ok done) outcome = IsOk outcome
+Tells (Err e) outcome = ErrorTells (cause_of e) e outcome
+
+-- What an answer says of all the bytes that a source tells. It follows from what the call does.
+pub record AnswersInTurn {S K : Type 0} (left : S → Option (List ℕ)) (source_faults : S → ℕ)
+    (taken : K → Option (List ℕ)) (sink_faults : K → ℕ) (source source' : S) (sink sink' : K)
+    (answer : Answer) : Type 0 where
+  -- Ok, a refusal, a failed write and running out of memory each say what became of the bytes and of the sink.
   pub answers : IfSome (left source) (λ bytes. Answers answer bytes (taken sink) (taken sink'))
   -- A refusal exactly where it is the outcome, unless a read or a write failed or memory ran out.
   pub exactly : IfSome (left source) (λ bytes. (written : List ℕ) (outcome : Answer) →
       HasOutcome bytes written outcome → Tells answer outcome)
-  -- A fault only where the source or the sink counted one, and no other answer where one did.
-  pub read_fault : IsErrAnd answer (λ e. cause_of e ≡ read_failed) →
-      FaultCounted (source_faults source) (source_faults source')
-  pub write_fault : IsErrAnd answer (λ e. cause_of e ≡ write_failed) →
-      FaultCounted (sink_faults sink) (sink_faults sink')
-  pub source_uncounted : ¬ IsErrAnd answer (λ e. cause_of e ≡ read_failed) →
-      source_faults source' ≡ source_faults source
-  pub sink_uncounted : ¬ IsErrAnd answer (λ e. cause_of e ≡ write_failed) → sink_faults sink' ≡ sink_faults sink
-  -- A failed read, too many bytes and a malformed sequence come before anything is written.
-  pub unwritten : IsErrAnd answer IsBeforeFrames → sink' ≡ sink
-  -- At most a byte past the limit is taken, and what is left is a suffix of what there was.
-  pub taken_at_most : TakesAtMost (max_plan_bytes + 1) (left source) (left source')
-  pub leaves : LeavesSource answer (left source) (left source')
-  -- Whether the source tells its bytes or not, some were read, and the answer says of these what it does. A source that
-  -- tells its bytes had these at its front.
-  pub read : (bytes : List ℕ) × AreBytes bytes × (length bytes ≤ max_plan_bytes + 1) ×
-      Consumes (left source) (left source') bytes × Answers answer bytes (taken sink) (taken sink')
-  -- Counts never fall.
-  pub source_later : source_faults source ≤ source_faults source'
-  pub sink_later : sink_faults sink ≤ sink_faults sink'
   -- Without a fault bytes of which no frame is refused give Ok, or memory ran out.
   pub complete : ¬ FaultCounted (source_faults source) (source_faults source') →
       ¬ FaultCounted (sink_faults sink) (sink_faults sink')

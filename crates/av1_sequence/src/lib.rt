@@ -5,6 +5,8 @@
 //! `av1_plan`. Its plan is that of a frame of its own, with the planes of the slots that it reads as references
 //! (`specs/Frames.antt`), and `av1_tile` reconstructs it.
 //!
+//! A sequence is over samples of one type, `u8` for depth 8 and `u16` for any, and holds all of its frames in them.
+//!
 //! A frame is reconstructed where it is kept: it is padded once, and moved to a place among eight; slots name places,
 //! so that a frame that replaces several is kept once. A frame that replaces none stays where it is until the next one.
 //!

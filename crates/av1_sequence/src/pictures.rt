@@ -3,7 +3,8 @@
 //! A frame that replaces several slots is kept once: `places` says for each slot where its frame is kept, among eight
 //! places. A place that no slot shows is taken for the next frame.
 
-ghost use Rattle.std.specs.Prelude.{[], ◌≡◌, ◌≢◌, ℕ, ◌+◌, ◌*◌, ◌/◌, ◌%◌, ◌^◌, ◌<◌, ◌≤◌, true, false, None, Some, replicate, slice_index_or, is_some, length};
+ghost use Rattle.std.specs.Prelude.{[], ◌≡◌, ◌≢◌, ℕ, ◌+◌, ◌*◌, ◌/◌, ◌%◌, ◌^◌, ◌<◌, ◌≤◌, true, false, None, Some, replicate, slice_index_or, is_some};
+ghost use Rattle.std.specs.Prelude.{length, map};
 ghost use Rattle.std.specs.Prelude.{IfOk, IfSome};
 ghost use Rattle.std.specs.Option.{option_map};
 ghost use Rattle.av1_plan.specs.Geometry.{plane_len, plane_height, plane_width};
@@ -11,13 +12,13 @@ ghost use Rattle.av1_plan.specs.Plan.{PlanValue};
 ghost use Rattle.av1_references.specs.References.{ServesPlan};
 ghost use Rattle.av1_plan.specs.Lengths.{slot_bytes};
 ghost use Rattle.av1_sequence.specs.Frames.{IsHead, frame_header, frame_references};
-ghost use Rattle.av1_sequence.specs.Kept.{AreFrames, AreReady, IsKeptAt, KeepsFrames, own, plane_shown, planes_shown, shown_at, slots_shown};
+ghost use Rattle.av1_sequence.specs.Kept.{AreFrames, AreReady, IsKeptAt, KeepsFrames, plane_shown, planes_shown, shown_at, slots_shown};
 ghost use Rattle.av1_sequence.specs.Output.{IsWritable};
 ghost use Rattle.av1_sequence.specs.Slots.{Frame, bits_of, count_of, has_bit, is_named, is_read, refreshed, row_in};
 
 use crate::head::FrameHead;
 use av1_blocks::OutOfMemory;
-use av1_frame::{FrameInvariants, Plane};
+use av1_frame::{FrameInvariants, Pixel, Plane};
 use av1_plan::Header;
 use av1_tile::{Planes, visible_row};
 use std::alloc::Global;
@@ -27,14 +28,14 @@ const SLOTS: usize = 8;
 
 /// The frames that slots show.
 #[derive(Drop)]
-pub struct Pictures {
+pub struct Pictures<T: Pixel> {
     /// The sides, depth and sampling of the frames.
     pub(crate) header: Header,
     /// The frames, padded, each at its place.
-    pub(crate) fi: FrameInvariants<u16>,
+    pub(crate) fi: FrameInvariants<T>,
     /// For each slot the place of its frame, where it is filled.
     pub(crate) places: [Option<u8>; SLOTS],
-    pub(crate) ghost keeps: { KeepsFrames header fi places },
+    pub(crate) ghost keeps: { KeepsFrames T.num header fi places },
 }
 
 /// How many samples plane `p` of a frame has.
@@ -143,7 +144,7 @@ fn places_of(places: &[Option<u8>; SLOTS], slots: &[u8; 7]) -> [u8; 7]
 }
 
 /// The planes of a frame, where there are some.
-fn as_planes(planes: Option<(Plane<u16>, Plane<u16>, Plane<u16>)>) -> Option<Planes<u16>>
+fn as_planes<T: Pixel>(planes: Option<(Plane<T>, Plane<T>, Plane<T>)>) -> Option<Planes<T>>
     ensures { result ≡ option_map (λ p. record { y = p.0; u = p.1; v = p.2 }) planes }
 {
     match planes {
@@ -152,12 +153,12 @@ fn as_planes(planes: Option<(Plane<u16>, Plane<u16>, Plane<u16>)>) -> Option<Pla
     }
 }
 
-impl Pictures {
+impl<T: Pixel> Pictures<T> {
     /// No frames.
-    pub fn new(alloc: Global, header: Header) -> Result<Pictures, OutOfMemory>
+    pub fn new(alloc: Global, header: Header) -> Result<Pictures<T>, OutOfMemory>
         requires { AreFrames header }
         ensures header { IfOk result (λ p. p.header ≡ header) }
-        ensures slots { IfOk result (λ p. slots_shown p.header p.fi p.places ≡ replicate 8 None) }
+        ensures slots { IfOk result (λ p. slots_shown T.num p.header p.fi p.places ≡ replicate 8 None) }
     {
         let fi = FrameInvariants::new(
             alloc,
@@ -178,14 +179,14 @@ impl Pictures {
     /// Whether a frame with this head reads the slot.
     fn is_read(&self, head: &FrameHead, slot: usize) -> bool
         requires { slot < 8 }
-        ensures { result ≡ is_read head.now.slots (slots_shown self.now.header self.now.fi self.now.places) slot }
+        ensures { result ≡ is_read head.now.slots (slots_shown T.num self.now.header self.now.fi self.now.places) slot }
     {
         is_named(&head.slots, slot) && self.places[slot].is_some()
     }
 
     /// The slots that a frame with this head reads: bit s is slot s.
     fn mask(&self, head: &FrameHead) -> u8
-        ensures { result ≡ bits_of (is_read head.now.slots (slots_shown self.now.header self.now.fi self.now.places)) 8 }
+        ensures { result ≡ bits_of (is_read head.now.slots (slots_shown T.num self.now.header self.now.fi self.now.places)) 8 }
     {
         let mut mask = 0;
         for slot in 0..SLOTS {
@@ -198,7 +199,7 @@ impl Pictures {
 
     /// How many slots a frame with this head reads.
     fn count(&self, head: &FrameHead) -> usize
-        ensures value { result ≡ count_of (is_read head.now.slots (slots_shown self.now.header self.now.fi self.now.places)) 8 }
+        ensures value { result ≡ count_of (is_read head.now.slots (slots_shown T.num self.now.header self.now.fi self.now.places)) 8 }
         ensures few { result ≤ 8 }
     {
         let mut count = 0;
@@ -212,7 +213,7 @@ impl Pictures {
 
     /// The header of the plan of a frame with this head.
     pub fn frame_header(&self, head: &FrameHead) -> Header
-        ensures { result ≡ frame_header self.now.header (slots_shown self.now.header self.now.fi self.now.places) head.now }
+        ensures { result ≡ frame_header self.now.header (slots_shown T.num self.now.header self.now.fi self.now.places) head.now }
     {
         Header {
             version: 2,
@@ -230,7 +231,8 @@ impl Pictures {
     /// How many bytes the reference samples of a frame with this head are.
     #[tactic(auto, using(crate::proofs::Sizes::eight_times))]
     pub fn reference_bytes(&self, head: &FrameHead) -> usize
-        ensures value { result ≡ count_of (is_read head.now.slots (slots_shown self.now.header self.now.fi self.now.places)) 8 * slot_bytes self.now.header }
+        ensures value { result ≡ count_of (is_read head.now.slots (slots_shown T.num self.now.header self.now.fi self.now.places)) 8 * slot_bytes
+            self.now.header }
         ensures few { result ≤ 2 ^ 28 }
     {
         self.count(head) * frame_bytes(&self.header)
@@ -241,12 +243,12 @@ impl Pictures {
     pub fn set_head(&mut self, head: &FrameHead)
         requires { IsHead head.now }
         ensures header { self.new.header ≡ self.old.header }
-        ensures slots { slots_shown self.new.header self.new.fi self.new.places ≡ slots_shown self.old.header self.old.fi self.old.places }
+        ensures slots { slots_shown T.num self.new.header self.new.fi self.new.places ≡ slots_shown T.num self.old.header self.old.fi self.old.places }
         ensures places { self.new.places ≡ self.old.places }
         ensures kept { self.new.fi.slots ≡ self.old.fi.slots }
-        ensures serves { let slots = slots_shown self.old.header self.old.fi self.old.places in
+        ensures serves { let slots = slots_shown T.num self.old.header self.old.fi self.old.places in
             (plan : PlanValue) → plan.header ≡ frame_header self.old.header slots head.now → plan.references ≡ frame_references slots head.now →
-            ServesPlan own plan self.new.fi }
+            ServesPlan T.num plan self.new.fi }
     {
         self.fi.default_filter = head.filter;
         self.fi.enable_intra_edge_filter = head.edge_filter;
@@ -255,15 +257,15 @@ impl Pictures {
 
     /// Keeps a frame, padded, at a place that no other slot shows, and says where: slots that it replaces then show it.
     /// Gives the planes that stood at that place before, where there were some, for a later frame.
-    pub fn keep(&mut self, refresh: u8, planes: Planes<u16>) -> (u8, Option<Planes<u16>>)
+    pub fn keep(&mut self, refresh: u8, planes: Planes<T>) -> (u8, Option<Planes<T>>)
         requires some { refresh ≢ 0 }
-        requires ready { AreReady self.old.header planes }
+        requires ready { AreReady T.num self.old.header planes }
         ensures header { self.new.header ≡ self.old.header }
-        ensures slots { slots_shown self.new.header self.new.fi self.new.places ≡
-            refreshed (slots_shown self.old.header self.old.fi self.old.places) refresh (planes_shown self.old.header planes.y planes.u planes.v) }
-        ensures shown { shown_at self.new.header self.new.fi result.0 ≡ Some (planes_shown self.old.header planes.y planes.u planes.v) }
-        ensures kept { IsKeptAt self.new.header self.new.fi result.0 }
-        ensures free { IfSome result.1 (λ before. AreReady self.old.header before) }
+        ensures slots { slots_shown T.num self.new.header self.new.fi self.new.places ≡
+            refreshed (slots_shown T.num self.old.header self.old.fi self.old.places) refresh (planes_shown T.num self.old.header planes.y planes.u planes.v) }
+        ensures shown { shown_at T.num self.new.header self.new.fi result.0 ≡ Some (planes_shown T.num self.old.header planes.y planes.u planes.v) }
+        ensures kept { IsKeptAt T.num self.new.header self.new.fi result.0 }
+        ensures free { IfSome result.1 (λ before. AreReady T.num self.old.header before) }
     {
         let Planes {
             mut y,
@@ -280,23 +282,23 @@ impl Pictures {
     }
 
     /// Plane `p` of the frame at a place.
-    pub fn plane_at(&self, place: u8, p: usize) -> &Plane<u16>
-        requires kept { IsKeptAt self.now.header self.now.fi place }
+    pub fn plane_at(&self, place: u8, p: usize) -> &Plane<T>
+        requires kept { IsKeptAt T.num self.now.header self.now.fi place }
         requires plane { p < 3 }
-        ensures shown { (frame : Frame) → shown_at self.now.header self.now.fi place ≡ Some frame →
-            plane_shown self.now.header p result.now ≡ slice_index_or frame p [] }
+        ensures shown { (frame : Frame) → shown_at T.num self.now.header self.now.fi place ≡ Some frame →
+            plane_shown T.num self.now.header p result.now ≡ slice_index_or frame p [] }
         ensures writable { IsWritable self.now.header p result.now }
     {
         self.fi.slot(usize::from(place), p).unwrap()
     }
 
     /// Row `y` of plane `p` of the frame at a place.
-    pub fn row_at(&self, place: u8, p: usize, y: usize) -> &[u16]
-        requires kept { IsKeptAt self.now.header self.now.fi place }
+    pub fn row_at(&self, place: u8, p: usize, y: usize) -> &[T]
+        requires kept { IsKeptAt T.num self.now.header self.now.fi place }
         requires plane { p < 3 }
         requires in_plane { y < plane_height self.now.header p }
-        ensures { (frame : Frame) → shown_at self.now.header self.now.fi place ≡ Some frame →
-            result.now ≡ row_in (plane_width self.now.header p) (slice_index_or frame p []) y }
+        ensures { (frame : Frame) → shown_at T.num self.now.header self.now.fi place ≡ Some frame →
+            map T.num result.now ≡ row_in (plane_width self.now.header p) (slice_index_or frame p []) y }
     {
         visible_row(self.plane_at(place, p), &self.header, p, y)
     }

@@ -5,12 +5,13 @@ ghost use Rattle.av1_streams.specs.Faults.{FaultCounted};
 ghost use Rattle.av1_streams.specs.Tasks.{write_failed};
 ghost use Rattle.av1_sequence.specs.Errors.{frame_error};
 ghost use Rattle.av1_sequence.specs.File.{IsReadFile, IsReadText, file_value, frame_value};
-ghost use Rattle.av1_sequence.specs.Tasks.{PerformsInTurn, Shows, ShowsFrame, cause_of};
+ghost use Rattle.av1_sequence.specs.Output.{AreWrittenAs};
+ghost use Rattle.av1_sequence.specs.Tasks.{AnswersInTurn, PerformsInTurn, Shows, ShowsFrame, cause_of};
 
 use crate::container::read_sequence;
 use crate::error::{FrameError, FrameFault, SequenceError};
 use crate::file::{FrameText, SequenceFile};
-use crate::output::write_last;
+use crate::output::{MOST_BYTES, Written, write_last};
 use crate::sequence::Sequence;
 use av1_streams::{Sink, Source, read_plan_bytes};
 use std::alloc::Global;
@@ -30,41 +31,59 @@ pub fn reconstruct_sequence<R: Source, W: Sink>(
     source: &mut R,
     sink: &mut W,
 ) -> Result<(), SequenceError>
-    ensures { PerformsInTurn R.left R.faults W.taken W.faults source.old source.new sink.old sink.new result }
+    ensures does { PerformsInTurn R.left R.faults W.taken W.faults source.old source.new sink.old sink.new result }
+    // What follows for a source that tells its bytes.
+    ensures tells { AnswersInTurn R.left R.faults W.taken W.faults source.old source.new sink.old sink.new result }
 {
     let bytes = read_plan_bytes(alloc, source)?;
     let file = read_sequence(alloc, &bytes)?;
-    show_frames(alloc, &file, sink)
+    if file.depth == 8 {
+        show_frames::<u8, W>(alloc, &file, sink)
+    } else {
+        show_frames::<u16, W>(alloc, &file, sink)
+    }
 }
 
 /// Reconstructs the frames of a sequence, one after the other, and writes each as soon as it is accepted.
-fn show_frames<W: Sink>(
+fn show_frames<T: Written, W: Sink>(
     alloc: Global,
     file: &SequenceFile<'_>,
     sink: &mut W,
 ) -> Result<(), SequenceError>
     requires file { IsReadFile file.now }
+    requires fits { file.now.depth ≤ T.BITS }
+    requires written { AreWrittenAs file.now.depth T.BITS }
     ensures shows { Shows (file_value file.now) result (W.taken sink.old) (W.taken sink.new) }
     ensures write_fault { IsErrAnd result (λ e. cause_of e ≡ write_failed) → FaultCounted (W.faults sink.old) (W.faults sink.new) }
     ensures uncounted { ¬ IsErrAnd result (λ e. cause_of e ≡ write_failed) → W.faults sink.new ≡ W.faults sink.old }
     ensures later { W.faults sink.old ≤ W.faults sink.new }
 {
-    let mut sequence = Sequence::new(alloc, file.width, file.height, file.depth, file.sampling)?;
+    let mut sequence: Sequence<T> = Sequence::new(
+        alloc,
+        file.width,
+        file.height,
+        file.depth,
+        file.sampling,
+    )?;
+    let mut buffer = [0; MOST_BYTES];
     for index in 0..file.frames.len() {
-        show_frame(&mut sequence, index, &file.frames[index], sink)?;
+        show_frame(&mut sequence, index, &file.frames[index], &mut buffer, sink)?;
     }
     Ok(())
 }
 
-/// Gives a sequence frame number `index`, and writes it where it is accepted.
-fn show_frame<W: Sink>(
-    sequence: &mut Sequence,
+/// Gives a sequence frame number `index`, and writes it where it is accepted. The buffer is for the bytes of a row.
+fn show_frame<T: Written, W: Sink>(
+    sequence: &mut Sequence<T>,
     index: usize,
     frame: &FrameText<'_>,
+    buffer: &mut [u8; MOST_BYTES],
     sink: &mut W,
 ) -> Result<(), SequenceError>
     requires text { IsReadText frame.now }
     requires index { index < 65536 }
+    requires written { AreWrittenAs sequence.old.frames.depth T.BITS }
+    ensures frames { sequence.new.frames ≡ sequence.old.frames }
     ensures shows { ShowsFrame sequence.old index (frame_value frame.now) result sequence.new (W.taken sink.old) (W.taken sink.new) }
     ensures write_fault { IsErrAnd result (λ e. cause_of e ≡ write_failed) → FaultCounted (W.faults sink.old) (W.faults sink.new) }
     ensures uncounted { ¬ IsErrAnd result (λ e. cause_of e ≡ write_failed) → W.faults sink.new ≡ W.faults sink.old }
@@ -73,7 +92,7 @@ fn show_frame<W: Sink>(
     if let Err(error) = sequence.frame(&frame.head, frame.part) {
         return Err(frame_error(index, error));
     }
-    write_last(sequence, sink)?;
+    write_last(sequence, buffer, sink)?;
     Ok(())
 }
 

@@ -1,6 +1,6 @@
 //! A sequence of frames, and the slots that it keeps between them.
 
-ghost use Rattle.std.specs.Prelude.{◌≡◌, ℕ, ◌<◌, true, Some, None, is_some, IfOk, OnErr};
+ghost use Rattle.std.specs.Prelude.{◌≡◌, ℕ, ◌<◌, ◌≤◌, true, Some, None, is_some, IfOk, OnErr};
 ghost use Rattle.av1_plan.specs.ReadPlans.{IsReadFrame};
 ghost use Rattle.av1_tile.specs.declared.planes.Planes.{Planes};
 ghost use Rattle.av1_tile.specs.Memory.{HasRoomFor};
@@ -15,7 +15,7 @@ use crate::last::Last;
 use crate::leaves::read_leaves;
 use crate::pictures::Pictures;
 use av1_blocks::{FilterMode, OutOfMemory};
-use av1_frame::Plane;
+use av1_frame::{Pixel, Plane};
 use av1_plan::{Header, Leaves};
 use av1_tile::{Planes, WalkMemory, visible_row};
 use std::alloc::Global;
@@ -33,28 +33,29 @@ const PAD: usize = 80;
 
 /// A sequence of frames of one size, depth and sampling, and the eight slots that it keeps between them.
 #[derive(Drop)]
-pub struct Sequence {
+pub struct Sequence<T: Pixel> {
     alloc: Global,
-    pictures: Pictures,
-    memory: WalkMemory<u16>,
-    apart: Option<Planes<u16>>,
+    pictures: Pictures<T>,
+    memory: WalkMemory<T>,
+    apart: Option<Planes<T>>,
     last: Last,
     ghost room: { HasRoomFor pictures.header memory },
-    ghost ready: { (planes : _) → apart ≡ Some planes → AreReady pictures.header planes },
+    ghost ready: { (planes : _) → apart ≡ Some planes → AreReady T.num pictures.header planes },
     ghost apart_kept: { last ≡ lasts.Apart → is_some apart ≡ true },
-    ghost placed: { (place : ℕ) → last ≡ lasts.At place → IsKeptAt pictures.header pictures.fi place },
+    ghost placed: { (place : ℕ) → last ≡ lasts.At place → IsKeptAt T.num pictures.header pictures.fi place },
+    ghost fits: { pictures.header.depth ≤ T.BITS },
 }
 
 /// Planes that a frame with this header can be reconstructed in and then kept: those that stand apart, where there are
 /// some, else new ones.
-fn planes_for(
+fn planes_for<T: Pixel>(
     alloc: Global,
-    apart: Option<Planes<u16>>,
+    apart: Option<Planes<T>>,
     header: &Header,
-) -> Result<Planes<u16>, OutOfMemory>
+) -> Result<Planes<T>, OutOfMemory>
     requires frame { IsReadFrame header.now }
-    requires ready { (planes : Planes ℕ) → apart ≡ Some planes → AreReady header.now planes }
-    ensures ready { IfOk result (λ planes. AreReady header.now planes) }
+    requires ready { (planes : Planes T) → apart ≡ Some planes → AreReady T.num header.now planes }
+    ensures ready { IfOk result (λ planes. AreReady T.num header.now planes) }
     ensures none { OnErr result (apart ≡ None) }
 {
     match apart {
@@ -64,7 +65,7 @@ fn planes_for(
 }
 
 /// Plane `p` of three: 0 for Y, 1 for U and 2 for V.
-fn plane_in(planes: &Planes<u16>, p: usize) -> &Plane<u16>
+fn plane_in<T: Pixel>(planes: &Planes<T>, p: usize) -> &Plane<T>
     requires { p < 3 }
     ensures { result.now ≡ plane_of (component p) planes.now }
 {
@@ -75,7 +76,7 @@ fn plane_in(planes: &Planes<u16>, p: usize) -> &Plane<u16>
     }
 }
 
-impl Model for Sequence {
+impl<T: Pixel> Model for Sequence<T> {
     ghost use Rattle.av1_sequence.specs.Kept.{Kept, slots_shown};
     ghost use Rattle.av1_sequence.specs.Last.{last_shown};
 
@@ -83,13 +84,13 @@ impl Model for Sequence {
 
     ghost view = { λ s. record {
       frames = s.pictures.header;
-      slots = slots_shown s.pictures.header s.pictures.fi s.pictures.places;
-      last = last_shown s.pictures.header s.pictures.fi s.apart s.last;
+      slots = slots_shown T.num s.pictures.header s.pictures.fi s.pictures.places;
+      last = last_shown T.num s.pictures.header s.pictures.fi s.apart s.last;
     } };
 }
 
-impl Sequence {
-    ghost use Rattle.std.specs.Prelude.{◌≡◌, ℕ, ◌<◌, ◌≤◌, ◌^◌, [], None, Some, length, option_map, slice_index_or, IfOk, IfErr, IfNone, IfSome, OnOk};
+impl<T: Pixel> Sequence<T> {
+    ghost use Rattle.std.specs.Prelude.{◌≡◌, ℕ, ◌<◌, ◌≤◌, ◌^◌, [], None, Some, length, map, option_map, slice_index_or, IfOk, IfErr, IfNone, IfSome, OnOk};
     ghost use Rattle.av1_blocks.specs.Depths.{IsDepth};
     ghost use Rattle.av1_plan.specs.Answer.{leaves_value};
     ghost use Rattle.av1_plan.specs.Geometry.{plane_height, plane_width};
@@ -104,18 +105,20 @@ impl Sequence {
     ghost use Rattle.av1_sequence.specs.Slots.{row_in};
 
     /// A sequence of frames with these sides (in samples of luma, multiples of 8 from 8 to 2048), of this depth (8, 10
-    /// or 12) and sampling (0 for 4:2:0, 1 for 4:2:2, 2 for 4:4:4), to which no frame was given yet.
+    /// or 12, and one that the samples have) and sampling (0 for 4:2:0, 1 for 4:2:2, 2 for 4:4:4), to which no frame
+    /// was given yet.
     pub fn new(
         alloc: Global,
         width: u16,
         height: u16,
         depth: u8,
         sampling: u8,
-    ) -> Result<Sequence, OutOfMemory>
+    ) -> Result<Sequence<T>, OutOfMemory>
         requires width { IsSide width }
         requires height { IsSide height }
         requires depth { IsDepth depth }
         requires sampling { sampling ≤ 2 }
+        requires fits { depth ≤ T.BITS }
         ensures { IfOk result (λ s. s ≡ new_sequence width height depth sampling) }
     {
         let header = Header {
@@ -201,9 +204,10 @@ impl Sequence {
 
     /// Plane `p` (0 for Y, 1 for U and 2 for V) of the frame that was accepted last, wherever it is kept. None where no
     /// frame was accepted yet.
-    pub(crate) fn last_plane(&self, p: usize) -> Option<&Plane<u16>>
+    pub(crate) fn last_plane(&self, p: usize) -> Option<&Plane<T>>
         requires plane { p < 3 }
-        ensures shown { option_map (λ plane. plane_shown self.now.frames p plane.now) result ≡ option_map (λ frame. slice_index_or frame p []) self.now.last }
+        ensures shown { option_map (λ plane. plane_shown T.num self.now.frames p plane.now) result ≡
+            option_map (λ frame. slice_index_or frame p []) self.now.last }
         ensures writable { IfSome result (λ plane. IsWritable self.now.frames p plane.now) }
         ensures none { IfNone result (self.now.last ≡ None) }
     {
@@ -219,10 +223,10 @@ impl Sequence {
 
     /// The visible row `y` of plane `p` (0 for Y, 1 for U and 2 for V) of the frame that was accepted last. None where
     /// no frame was accepted yet.
-    pub fn last_row(&self, p: usize, y: usize) -> Option<&[u16]>
+    pub fn last_row(&self, p: usize, y: usize) -> Option<&[T]>
         requires plane { p < 3 }
         requires in_plane { y < plane_height self.now.frames p }
-        ensures { option_map (λ row. row.now) result ≡
+        ensures { option_map (λ row. map T.num row.now) result ≡
             option_map (λ frame. row_in (plane_width self.now.frames p) (slice_index_or frame p []) y) self.now.last }
     {
         match self.last_plane(p) {
@@ -232,11 +236,11 @@ impl Sequence {
     }
 
     /// The visible row `y` of plane `p` of the frame in a slot. None where the slot is empty.
-    pub fn slot_row(&self, slot: usize, p: usize, y: usize) -> Option<&[u16]>
+    pub fn slot_row(&self, slot: usize, p: usize, y: usize) -> Option<&[T]>
         requires slot { slot < 8 }
         requires plane { p < 3 }
         requires in_plane { y < plane_height self.now.frames p }
-        ensures { option_map (λ row. row.now) result ≡ option_map (λ frame. row_in (plane_width self.now.frames p) (slice_index_or frame p []) y)
+        ensures { option_map (λ row. map T.num row.now) result ≡ option_map (λ frame. row_in (plane_width self.now.frames p) (slice_index_or frame p []) y)
             (slice_index_or self.now.slots slot None) }
     {
         match self.pictures.places[slot] {

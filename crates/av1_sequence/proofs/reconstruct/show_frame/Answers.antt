@@ -1,7 +1,9 @@
-use Rattle.std.proofs.Common.{refl}
+use Rattle.std.proofs.Common.{refl, subst, sym}
 use Rattle.std.specs.Io.KnownBytes.{Appends}
+use Rattle.av1_plan.specs.declared.header.Header.{Header}
 use Rattle.av1_sequence.specs.declared.error.SequenceError.TheVariants as errors
 use Rattle.av1_sequence.specs.File.{frame_value}
+use Rattle.av1_sequence.specs.Output.{AreWrittenAs}
 use Rattle.av1_sequence.proofs.Showing.{blamed_by, last_text, no_write, refused_frame, unwritten_frame}
 use Rattle.av1_sequence.proofs.reconstruct.show_frame.Goals as goal
 
@@ -12,6 +14,11 @@ returns-in-Err-clause-shows g c =
 
 pub returns-in-Err-clause-write_fault : goal.returns-in-Err-clause-write_fault
 returns-in-Err-clause-write_fault g c = no_write c.args.index c.in-Err.error c.frame_error.result c.frame_error.ensures
+
+pub write_last-requires : goal.write_last-requires
+write_last-requires g c = record {
+  written = subst (λ (h : Header). AreWrittenAs h.depth g.T.Pixel.BITS) (sym c.in_default.ensures.frames) c.requires.written;
+}
 
 pub returns-in_err-write_last-clause-shows : goal.returns-in_err-write_last-clause-shows
 returns-in_err-write_last-clause-shows g c =

@@ -1,7 +1,10 @@
-use Rattle.std.proofs.Common.{[], arith, refl, ◌∙◌, ◌≤◌, length, map}
+use Rattle.std.proofs.Common.{[], ap, arith, refl, subst, sym, ◌∙◌, ◌≤◌, ℕ, length, map}
 use Rattle.std.proofs.KnownBytes.{Appends-nil}
 use Rattle.std.proofs.lemmas.List.{length-map}
+use Rattle.av1_plan.specs.declared.header.Header.{Header}
 use Rattle.av1_sequence.specs.File.{file_value, frame_value}
+use Rattle.av1_sequence.specs.Kept.{Kept}
+use Rattle.av1_sequence.specs.Output.{AreWrittenAs}
 use Rattle.av1_sequence.proofs.Showing.{all_shown, blamed_by, frame_at, goes_on, never_begun, stops, text_at}
 use Rattle.av1_sequence.proofs.reconstruct.show_frames.Goals as goal
 
@@ -10,12 +13,20 @@ returns-in_err-sequence-clause-shows g c =
     never_begun (file_value c.args.file.now) c.from_residual.result (g.W.Sink.taken c.args.sink.now) c.from_residual.ensures.1
 
 pub loop-index-init : goal.loop-index-init
-loop-index-init g c = record { shown = ([], (refl, c.in_ok-sequence.ensures), Appends-nil (g.W.Sink.taken c.args.sink.now)); uncounted = refl }
+loop-index-init g c = record {
+  shown = ([], (refl, c.in_ok-sequence.ensures), Appends-nil (g.W.Sink.taken c.args.sink.now));
+  depth = ap (λ (k : Kept). k.frames.depth) c.in_ok-sequence.ensures;
+  uncounted = refl;
+}
 
 pub show_frame-requires-clause-text : goal.show_frame-requires-clause-text
 show_frame-requires-clause-text g c =
     text_at c.args.file.now.frames.items c.loop-index.index c.index.result.now (omega (arith, c.loop-index-test.true, c.len-index-end.ensures)) c.index.ensures
     c.requires.file.texts
+
+pub show_frame-requires-clause-written : goal.show_frame-requires-clause-written
+show_frame-requires-clause-written g c =
+    subst (λ (d : ℕ). AreWrittenAs d g.T.Pixel.BITS) (sym c.loop-index.invariant.depth) c.requires.written
 
 pub returns-in_err-show_frame-clause-shows : goal.returns-in_err-show_frame-clause-shows
 returns-in_err-show_frame-clause-shows g c =
@@ -43,6 +54,7 @@ loop-index-preserved g c =
       shown = goes_on (file_value c.args.file.now) c.loop-index.index (frame_value c.index.result.now) here c.loop-index.sequence c.show_frame.new.sequence
           written
           _ _ _ lead appended c.in_ok-show_frame.ensures.shows;
+      depth = ap (λ (h : Header). h.depth) c.in_ok-show_frame.ensures.frames ∙ c.loop-index.invariant.depth;
       uncounted = c.in_ok-show_frame.ensures.uncounted (λ h. absurd h) ∙ c.loop-index.invariant.uncounted;
     }
 

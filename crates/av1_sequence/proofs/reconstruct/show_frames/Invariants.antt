@@ -8,5 +8,6 @@ abbrev pub invariant-loop-index : goal.invariant-loop-index
 invariant-loop-index g l = record {
   shown : (written : List ℕ) × Lead (beginning (file_value l.file)) (take l.index (file_value l.file).parts) written l.sequence ×
       Appends (g.W.Sink.taken l.initial.sink) (g.W.Sink.taken l.sink) written;
+  depth : l.sequence.frames.depth ≡ l.file.depth;
   uncounted : g.W.Sink.faults l.sink ≡ g.W.Sink.faults l.initial.sink;
 }

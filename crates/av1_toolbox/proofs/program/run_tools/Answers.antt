@@ -29,7 +29,7 @@ returns-in-Some-Trace-clause-trace_status g c = λ command.
 pub returns-in-Some-Sequence-clause-sequence_status : goal.returns-in-Some-Sequence-clause-sequence_status
 returns-in-Some-Sequence-clause-sequence_status g c = λ command.
     ends_in_turn g.R.Source.left g.R.Source.faults g.W.Sink.taken g.W.Sink.faults _ _ _ _ c.report_sequence.result c.reconstruct_sequence.result
-    c.report_sequence.ensures.status c.reconstruct_sequence.ensures
+    c.report_sequence.ensures.status c.reconstruct_sequence.ensures.does c.reconstruct_sequence.ensures.tells
 
 pub returns-in-Some-Bare-clause-bare_status : goal.returns-in-Some-Bare-clause-bare_status
 returns-in-Some-Bare-clause-bare_status g c = λ command.

@@ -4,10 +4,10 @@ use Rattle.av1_sequence.proofs.Keeping.{AreReplaced, put_in, put_keeps, put_show
 use Rattle.av1_sequence.proofs.pictures.Pictures.keep.Goals as goal
 
 pub free_place-place-requires : goal.free_place-place-requires
-free_place-place-requires c = record { some = some_bit c.args.refresh (omega (arith, c.ranges.refresh)) c.requires.some }
+free_place-place-requires g c = record { some = some_bit c.args.refresh (omega (arith, c.ranges.refresh)) c.requires.some }
 
 pub invariant_of-self : goal.invariant_of-self
-invariant_of-self c =
+invariant_of-self g c =
     let place = c.free_place-place in
     let next = c.replaced-self in
     let are : AreReplaced c.args.self.now.places next.result c.args.refresh place.result =
@@ -19,7 +19,7 @@ invariant_of-self c =
     record { keeps = put_keeps c.requires.ready c.args.self.now.keeps are put }
 
 pub returns-clause-slots : goal.returns-clause-slots
-returns-clause-slots c =
+returns-clause-slots g c =
     let place = c.free_place-place in
     let next = c.replaced-self in
     let are : AreReplaced c.args.self.now.places next.result c.args.refresh place.result =
@@ -31,7 +31,7 @@ returns-clause-slots c =
     put_slots c.requires.ready c.args.self.now.keeps are put
 
 pub returns-clause-shown : goal.returns-clause-shown
-returns-clause-shown c =
+returns-clause-shown g c =
     let place = c.free_place-place in
     let next = c.replaced-self in
     let are : AreReplaced c.args.self.now.places next.result c.args.refresh place.result =
@@ -43,7 +43,7 @@ returns-clause-shown c =
     put_shown c.requires.ready c.args.self.now.keeps are put
 
 pub returns-clause-kept : goal.returns-clause-kept
-returns-clause-kept c =
+returns-clause-kept g c =
     let place = c.free_place-place in
     let next = c.replaced-self in
     let are : AreReplaced c.args.self.now.places next.result c.args.refresh place.result =
@@ -55,6 +55,7 @@ returns-clause-kept c =
     put_stands c.requires.ready c.args.self.now.keeps are put
 
 pub returns-clause-free : goal.returns-clause-free
-returns-clause-free c =
+returns-clause-free g c =
     let keeps = c.args.self.now.keeps in
-    stood_ready c.args.self.now.header c.args.self.now.fi c.args.self.now.places keeps _ _ _ c.replace_slot-before.ensures.value c.as_planes.ensures
+    stood_ready g.T.Pixel.num c.args.self.now.header c.args.self.now.fi c.args.self.now.places keeps _ _ _ c.replace_slot-before.ensures.value
+    c.as_planes.ensures

@@ -5,9 +5,9 @@ use Rattle.av1_sequence.proofs.KeptRows.{plane_row}
 use Rattle.av1_sequence.proofs.pictures.Pictures.row_at.Goals as goal
 
 pub visible_row-requires-clause-place : goal.visible_row-requires-clause-place
-visible_row-requires-clause-place c = c.plane_at.ensures.writable.place
+visible_row-requires-clause-place g c = c.plane_at.ensures.writable.place
 
 pub returns : goal.returns
-returns c = λ frame shows.
-    plane_row c.args.self.now.header c.args.p c.plane_at.result.now c.args.y c.visible_row.result.now c.requires.in_plane c.visible_row.ensures
+returns g c = λ frame shows.
+    plane_row g.T.Pixel.num c.args.self.now.header c.args.p c.plane_at.result.now c.args.y c.visible_row.result.now c.requires.in_plane c.visible_row.ensures
     ∙ ap (λ (xs : List ℕ). row_in (plane_width c.args.self.now.header c.args.p) xs c.args.y) (c.plane_at.ensures.shown frame shows)

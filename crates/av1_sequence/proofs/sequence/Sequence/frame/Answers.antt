@@ -4,7 +4,7 @@ use Rattle.av1_sequence.proofs.Framed.{accepts_over, refused_over, short_seen, s
 use Rattle.av1_sequence.proofs.sequence.Sequence.frame.Goals as goal
 
 pub returns-in-Err-clause-refused : goal.returns-in-Err-clause-refused
-returns-in-Err-clause-refused c =
+returns-in-Err-clause-refused g c =
     let short =
     short_seen c.args.self.now c.self.inside c.self.view_is c.args.head.now c.args.part.now c.reference_bytes.result (length c.args.part.now)
     c.reference_bytes.ensures.value refl c.if-reference_bytes-part-gt-MOST_BYTES.false in
@@ -12,17 +12,17 @@ returns-in-Err-clause-refused c =
     c.in-Err.error short c.in-Err.ensures.refused
 
 pub show-requires-clause-spelled : goal.show-requires-clause-spelled
-show-requires-clause-spelled c =
+show-requires-clause-spelled g c =
     spelled_over c.args.self.now c.self.inside c.self.view_is c.args.head.now c.frame_header-header.result c.args.part.now (leaves_value c.in-Ok.leaves)
     c.frame_header-header.ensures c.requires.head c.in-Ok.ensures.found
 
 pub show-requires-clause-valid : goal.show-requires-clause-valid
-show-requires-clause-valid c =
+show-requires-clause-valid g c =
     valid_over c.args.self.now c.self.inside c.self.view_is c.args.head.now c.frame_header-header.result c.args.part.now (leaves_value c.in-Ok.leaves)
     c.frame_header-header.ensures c.in-Ok.ensures.valid
 
 pub returns-clause-accepted : goal.returns-clause-accepted
-returns-clause-accepted c =
+returns-clause-accepted g c =
     let short =
     short_seen c.args.self.now c.self.inside c.self.view_is c.args.head.now c.args.part.now c.reference_bytes.result (length c.args.part.now)
     c.reference_bytes.ensures.value refl c.if-reference_bytes-part-gt-MOST_BYTES.false in

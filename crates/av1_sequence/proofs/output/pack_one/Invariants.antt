@@ -1,8 +1,0 @@
-use Rattle.std.proofs.Common.{◌≡◌, take}
-use Rattle.std.specs.List.{flat_map}
-use Rattle.av1_tile.specs.Output.{sample_bytes}
-use Rattle.av1_sequence.specs.Kept.{own}
-use Rattle.av1_sequence.proofs.output.pack_one.Given as goal
-
-abbrev pub invariant-loop-i : goal.invariant-loop-i
-invariant-loop-i l = take l.i l.bytes ≡ flat_map (λ s. sample_bytes 8 (own s)) (take l.i l.samples)
