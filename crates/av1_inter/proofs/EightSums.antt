@@ -1,12 +1,12 @@
 -- Sums of eight products that are formed two at a time, from eight places on.
-use Rattle.std.proofs.Common.{ℕ, suc, ◌+◌, ◌*◌, ◌^◌, ◌<◌, ◌≤◌, ◌≡◌, ◌∙◌, ap, arith, subst, sym, ℤ, pos, ◌+ℤ◌, ◌*ℤ◌, List, replicate, slice_index, w32}
+use Rattle.std.proofs.Common.{ℕ, suc, ◌+◌, ◌*◌, ◌^◌, ◌<◌, ◌≤◌, ◌≡◌, ◌∙◌, ap, refl, arith, subst, sym, ℤ, pos, ◌+ℤ◌, ◌*ℤ◌, List, replicate, slice_index, w32}
 use Rattle.std.proofs.Common.{to_z, of_z, FitsSigned}
 use Rattle.std.proofs.lemmas.Int.{ints, to_z-of_z}
 use Rattle.std.proofs.lemmas.List.{get_or-replicate}
-use Rattle.av1_inter.specs.Motion.{entry, sum_to}
+use Rattle.av1_inter.specs.Motion.{entry, sum_to, weighted}
 use Rattle.av1_inter.specs.Scaffolding.{AreZero, Between, IsWithin}
 use Rattle.av1_inter.proofs.PairSums.{small_product}
-use Rattle.av1_inter.proofs.Sums.{fits_of, sum_begins}
+use Rattle.av1_inter.proofs.Sums.{fits_of, sum_begins, sum_ends}
 
 -- two samples of 15 bits, each times half a weight
 pub pair_within : (v w x y z : ℤ) → Between 28 92 v → Between 28 92 w → Between 0 32767 x → Between 0 32767 y → z ≡ v *ℤ x +ℤ w *ℤ y → IsWithin (2 ^ 23) z
@@ -46,6 +46,22 @@ next_within k m s p z f g e ez = record {
   low = omega (arith, ints, f.low, g.low, e, ez);
   high = omega (arith, ints, f.high, g.high, e, ez);
 }
+
+-- the sum of the four products that are left where the outer two weights are 0
+pub four_products : (zeros : ℕ) (halves : List ℤ) (value : ℕ → ℤ) (x y v w z : ℤ) → zeros ≡ 2 → AreZero zeros halves → x ≡ value 2 → y ≡ value 3 →
+    v ≡ value 4 → w ≡ value 5 →
+    z ≡ (entry halves 2 *ℤ x +ℤ entry halves 3 *ℤ y) +ℤ (entry halves 4 *ℤ v +ℤ entry halves 5 *ℤ w) → z ≡ weighted halves value
+four_products outer halves value x y v w z two none ex ey ev ew e =
+    let zero : AreZero 2 halves = subst (λ (n : ℕ). AreZero n halves) two none in
+    let term = λ (t : ℕ). entry halves t *ℤ value t in
+    let first : entry halves 2 *ℤ x +ℤ entry halves 3 *ℤ y ≡ term 2 +ℤ term 3 = ap (λ u. entry halves 2 *ℤ u +ℤ entry halves 3 *ℤ y) ex
+    ∙ ap (λ u. term 2 +ℤ entry halves 3 *ℤ u) ey in
+    let second : entry halves 4 *ℤ v +ℤ entry halves 5 *ℤ w ≡ term 4 +ℤ term 5 = ap (λ u. entry halves 4 *ℤ u +ℤ entry halves 5 *ℤ w) ev
+    ∙ ap (λ u. term 4 +ℤ entry halves 5 *ℤ u) ew in
+    let p = entry halves 2 *ℤ x +ℤ entry halves 3 *ℤ y in
+    let none_yet : p ≡ pos 0 +ℤ p = omega (arith, ints) in
+    sum_ends 2 halves value z (omega arith) zero
+    (pair_next term 4 6 p _ z (pair_next term 2 4 (pos 0) p p (sum_begins 2 halves value (omega arith) zero) first refl none_yet) second refl e)
 
 pub few_within : (k : ℕ) (z : ℤ) → k ≤ 4 → IsWithin (k * 2 ^ 23) z → IsWithin (2 ^ 25) z
 few_within k z h f = record { low = omega (arith, ints, f.low, h); high = omega (arith, ints, f.high, h) }

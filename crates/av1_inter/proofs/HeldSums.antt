@@ -118,6 +118,23 @@ pub painted_twice : {X : Type 0} (n : ℕ) (f : ℕ → X) (row blank line new :
 painted_twice n f row blank line new b e g =
     g ∙ paint_row_same n _ _ row (λ q v l. ap (λ s. get_or s q v) e ∙ painted_sample n q (λ c _. f c) blank v l (omega arith) (λ u. refl))
 
+-- a number that is cut to 16 bits
+pub cut_is : (z x m r : ℤ) → m ≡ int_max x (negsuc 32767) → r ≡ int_min m (pos 32767) → x ≡ z → r ≡ saturate_signed w16 z
+cut_is (pos n) x m r e f k =
+    let a = int_max_is x (negsuc 32767) in
+    let b = int_min_is m (pos 32767) in
+    let c : r ≡ pos (min n 32767) = omega (arith, ints, a, b, e, f, k) in
+    c ∙ omega (arith, ints)
+cut_is (negsuc n) x m r e f k =
+    let a = int_max_is x (negsuc 32767) in
+    let b = int_min_is m (pos 32767) in
+    let c : r ≡ negsuc (min n 32767) = omega (arith, ints, a, b, e, f, k) in
+    c ∙ omega (arith, ints)
+
+pub cut_fits : (z : ℤ) → FitsSigned w16 (saturate_signed w16 z)
+cut_fits (pos n) = record { sfits = omega arith }
+cut_fits (negsuc n) = record { sfits = omega arith }
+
 -- a sum as the machine holds it
 nearest_held : (z m r : ℤ) → m ≡ int_max z (negsuc 32767) → r ≡ int_min m (pos 32767) → to_z w16 (of_z w16 (to_z w32 (of_z w32 r))) ≡ saturate_signed w16 z
 nearest_held (pos n) m r e f =

@@ -102,29 +102,49 @@ pub pairs_are : (w v : ℤ) (xs ys : List ℤ) → length xs ≡ 8 → Between 2
     → (i : ℕ) → i < 8 → entry (by_index 8 (pair_lane w v xs ys)) i ≡ w *ℤ entry xs i +ℤ v *ℤ entry ys i
 pairs_are w v xs ys n bw bv bx by i h = get_or-by_index 8 (pair_lane w v xs ys) i (pos 0) h ∙ pair_lane_is w v xs ys i n h bw bv (bx i h) (by i h)
 
--- a sample of 12 bits as a number
-sample_fits : (n : ℕ) → n < 32768 → FitsSigned w16 (pos n)
+-- a sample as a number
+pub sample_fits : (n : ℕ) → n < 32768 → FitsSigned w16 (pos n)
 sample_fits n h = record { sfits = omega (arith, ints, h) }
 
--- eight samples in lanes of 32 bits
-module _ (xs : List ℤ) (value : ℕ → ℕ) (count : length xs ≡ 8) (are : (i : ℕ) → i < 8 → entry xs i ≡ pos (value i))
-    (small : (i : ℕ) → i < 8 → value i < 32768) where
-  wide_lane : (i : ℕ) → i < 8 → to_z w32 (get_or (map (of_z w32) xs) i 0) ≡ pos (value i)
+-- a number of 16 bits fits 32
+wider_fits : (z : ℤ) → FitsSigned w16 z → FitsSigned w32 z
+wider_fits (pos n) f = record { sfits = omega (arith, f.sfits) }
+wider_fits (negsuc n) f = record { sfits = omega (arith, f.sfits) }
+
+-- eight numbers of 16 bits in lanes of 32
+module _ (xs : List ℤ) (value : ℕ → ℤ) (count : length xs ≡ 8) (are : (i : ℕ) → i < 8 → entry xs i ≡ value i)
+    (small : (i : ℕ) → i < 8 → FitsSigned w16 (value i)) where
+  wide_lane : (i : ℕ) → i < 8 → to_z w32 (get_or (map (of_z w32) xs) i 0) ≡ value i
   wide_lane i h =
       ap (to_z w32) (get_or-map (of_z w32) xs i (pos 0)) ∙ ap (λ z. to_z w32 (of_z w32 z)) (are i h)
-      ∙ to_z-of_z w32 (pos (value i)) (let k = small i h in fits_of (pos (value i)) (omega (arith, ints, k)) (omega (arith, ints, k)))
+      ∙ to_z-of_z w32 (value i) (wider_fits (value i) (small i h))
 
   -- each fits 16 bits
   pub lanes_fit : Each1 (λ n. FitsSigned w16 (to_z w32 n)) (map (of_z w32) xs)
   lanes_fit =
       let P : ℕ → Type 0 = λ n. FitsSigned w16 (to_z w32 n) in
       let Q : ℤ → Type 0 = λ z. FitsSigned w16 z in
-      Each1-from_get_or P (map (of_z w32) xs) 0 (λ i l. let h : i < 8 = omega (arith, count, length-map xs (of_z w32))
-      in subst Q (sym (wide_lane i h)) (sample_fits (value i) (small i h)))
+      Each1-from_get_or P (map (of_z w32) xs) 0 (λ i l. let h : i < 8 = omega (arith, count, length-map xs (of_z w32)) in subst Q (sym (wide_lane i h)) (small i h))
 
   -- and is the same number there
-  pub lanes_are : (i : ℕ) → i < 8 → entry (map (to_z w16) (map (λ n. of_z w16 (to_z w32 n)) (map (of_z w32) xs))) i ≡ pos (value i)
+  pub lanes_are : (i : ℕ) → i < 8 → entry (map (to_z w16) (map (λ n. of_z w16 (to_z w32 n)) (map (of_z w32) xs))) i ≡ value i
   lanes_are i h =
       get_or-map (to_z w16) (map (λ n. of_z w16 (to_z w32 n)) (map (of_z w32) xs)) i 0
       ∙ ap (to_z w16) (get_or-map (λ n. of_z w16 (to_z w32 n)) (map (of_z w32) xs) i 0)
-      ∙ ap (λ z. to_z w16 (of_z w16 z)) (wide_lane i h) ∙ to_z-of_z w16 (pos (value i)) (sample_fits (value i) (small i h))
+      ∙ ap (λ z. to_z w16 (of_z w16 z)) (wide_lane i h) ∙ to_z-of_z w16 (value i) (small i h)
+
+-- eight words, from word k on, and the first k behind them
+abbrev pub turned : ℕ → List ℤ → List ℤ
+turned k xs = by_index 8 (λ i. to_z w16 (word_of xs xs ((i + k) % 8)))
+
+pub turned_is : (k : ℕ) (xs : List ℤ) (i : ℕ) → length xs ≡ 8 → i < 8 → ((j : ℕ) → j < 8 → Between 0 32767 (entry xs j)) → entry (turned k xs) i ≡ entry xs ((i + k) % 8)
+turned_is k xs i n h b =
+    let m : (i + k) % 8 < 8 = omega arith in
+    get_or-by_index 8 (λ j. to_z w16 (word_of xs xs ((j + k) % 8))) i (pos 0) h ∙ ap (to_z w16) (first_word xs xs ((i + k) % 8) n m)
+    ∙ short_read 32767 (entry xs ((i + k) % 8)) (omega arith) (b ((i + k) % 8) m)
+
+pub turned_between : (k : ℕ) (xs : List ℤ) → length xs ≡ 8 → ((j : ℕ) → j < 8 → Between 0 32767 (entry xs j)) →
+    (i : ℕ) → i < 8 → Between 0 32767 (entry (turned k xs) i)
+turned_between k xs n b i h =
+    let m : (i + k) % 8 < 8 = omega arith in
+    subst (λ (z : ℤ). Between 0 32767 z) (sym (turned_is k xs i n h b)) (b ((i + k) % 8) m)

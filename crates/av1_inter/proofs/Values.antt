@@ -21,6 +21,7 @@ use Rattle.av1_inter.proofs.Constants.{weighted_constant}
 use Rattle.av1_inter.proofs.Halves.{depth_numbers, doubled_sum, halves_are, rounded_twice}
 use Rattle.av1_inter.proofs.Fitting.{prepared_fits}
 use Rattle.av1_inter.proofs.Reach.{intermediate_between}
+use Rattle.av1_inter.proofs.Settled.{held_fits}
 use Rattle.av1_inter.proofs.Sums.{weighted_same}
 
 -- a filter's sum is twice that by halved weights
@@ -97,11 +98,7 @@ twice_12 (negsuc m) v e = elim (cases_lt m 32) [
       )
 ]
 
--- a number of 16 bits is held as it is, and the clip to a depth forgets that it was held
-saturated : (z : ℤ) → FitsSigned w16 z → saturate_signed w16 z ≡ z
-saturated (pos n) f = ap pos (omega (arith, f.sfits))
-saturated (negsuc n) f = ap negsuc (omega (arith, f.sfits))
-
+-- the clip to a depth forgets that a number was held in 16 bits
 clip_saturated : (depth : ℕ) → IsDepth depth → (z : ℤ) → clip depth (saturate_signed w16 z) ≡ clip depth z
 clip_saturated depth d (pos n) = omega (arith, depth_numbers depth d)
 clip_saturated depth d (negsuc n) = refl
@@ -235,15 +232,15 @@ module _ (depth : ℕ) (d : IsDepth depth) (across down : List ℤ) (fa : IsFilt
   prepared_value zero zero (inr h) = absurd (h refl)
   prepared_value zero (suc k) h =
       ap (λ z. saturate_signed w16 (z -ℤ bias depth)) (once (weighted (halved down) (λ t. pos (samples (c + 3) (r + t)))) _ (whole_sum down _ fd) depth d)
-      ∙ saturated _ (prepared_fits depth d 0 (suc k) across down samples r c fa fd within)
+      ∙ held_fits _ (prepared_fits depth d 0 (suc k) across down samples r c fa fd within)
   prepared_value (suc j) zero h =
       ap (λ z. saturate_signed w16 (z -ℤ bias depth)) (once (weighted (halved across) (λ t. pos (samples (c + t) (r + 3)))) _ (whole_sum across _ fa) depth d)
-      ∙ saturated _ (prepared_fits depth d (suc j) 0 across down samples r c fa fd within)
+      ∙ held_fits _ (prepared_fits depth d (suc j) 0 across down samples r c fa fd within)
   prepared_value (suc j) (suc k) h =
       ap (saturate_signed w16)
       (moved_prepared (weighted (halved down) (λ t. intermediate depth (suc j) across samples (r + t) c)) _ (whole_sum down _ fd)
       (bias depth) _ (rows_kept j))
-      ∙ saturated _ (prepared_fits depth d (suc j) (suc k) across down samples r c fa fd within)
+      ∙ held_fits _ (prepared_fits depth d (suc j) (suc k) across down samples r c fa fd within)
 
 -- the samples of a block that is not filtered, and what is prepared of them
 module _ (depth : ℕ) (across down : List ℤ) (samples : ℕ → ℕ → ℕ) (r c : ℕ) where

@@ -67,6 +67,7 @@ pub use buffers::InterCompoundBuffers;
 pub use laws::{
     constant_references_stay, motion_lies_within, padded_planes_serve, prepared_values_fit,
 };
+pub use moved::sixteenths;
 pub use predict::{predict_inter, predict_inter_compound, predict_inter_single};
 pub use prepare::prep_8tap;
 pub use put::{put_8tap, put_8tap_to};

@@ -15,8 +15,19 @@ use crate::put::put_8tap;
 use av1_blocks::{FilterMode, MotionVector};
 use av1_frame::{Pixel, Plane, PlaneOffset, PlaneRegionMut, PlaneSlice};
 
-/// The sixteenths of a sample of a vector's component, in eighths of a luma sample.
-fn sixteenths(component: i16, decimation: usize) -> i32
+/// A rectangle of a plane that is predicted: where it begins, counted from the first visible sample, and its sides.
+#[derive(Clone, Copy)]
+pub(crate) struct PlaneBlock {
+    pub(crate) at: PlaneOffset,
+    pub(crate) width: usize,
+    pub(crate) height: usize,
+}
+
+/// The part of a sample, in sixteenths, by which a vector's component moves a block: the component is in eighths of a
+/// luma sample, and `decimation` is 1 where the plane has half as many samples along it, and else 0.
+///
+/// AV1 specification: motion vector scaling process.
+pub fn sixteenths(component: i16, decimation: usize) -> i32
     requires { decimation ≤ 1 }
     ensures value { result ≡ pos (sixteenths component decimation) }
     ensures small { sixteenths component decimation < 16 }
@@ -51,62 +62,58 @@ fn moved_slice<T: Pixel>(plane: &Plane<T>, at: PlaneOffset, mv: MotionVector) ->
     plane.slice(corner).clamp().subslice(3, 3)
 }
 
-/// Predicts a block at `at` from one reference.
+/// Predicts a block from one reference.
 #[tactic(auto, using(av1_frame::proofs::Slices::visible_below))]
 pub(crate) fn put_moved<T: Pixel>(
     dst: &mut PlaneRegionMut<'_, T>,
     plane: &Plane<T>,
-    at: PlaneOffset,
+    block: PlaneBlock,
     mv: MotionVector,
-    width: usize,
-    height: usize,
     mode: FilterMode,
     bit_depth: usize,
 )
     requires fits { InStorage dst.old }
-    requires columns { width ≤ dst.old.area.width }
-    requires rows { height ≤ dst.old.area.height }
-    requires wide { width ≤ 128 }
-    requires high { height ≤ 128 }
+    requires columns { block.width ≤ dst.old.area.width }
+    requires rows { block.height ≤ dst.old.area.height }
+    requires wide { block.width ≤ 128 }
+    requires high { block.height ≤ 128 }
     requires depths { IsDepth bit_depth }
     requires depth { bit_depth ≤ T.BITS }
-    requires reference { IsReference T.num plane.now bit_depth width height }
-    ensures painted { dst.new ≡ painted dst.old width height (λ r c _. T.pixel (moved_single T.num bit_depth mode plane.now at.x at.y mv width height r c)) }
+    requires reference { IsReference T.num plane.now bit_depth block.width block.height }
+    ensures painted { dst.new ≡ painted dst.old block.width block.height (λ r c _. T.pixel (moved_single T.num bit_depth mode plane.now block.at.x block.at.y mv block.width block.height r c)) }
     ensures fits { InStorage dst.new }
 {
     let cfg = plane.config();
     let col_frac = sixteenths(mv.col, cfg.xdec);
     let row_frac = sixteenths(mv.row, cfg.ydec);
-    let src = moved_slice(plane, at, mv);
+    let src = moved_slice(plane, block.at, mv);
     put_8tap(
-        dst, src, width, height, col_frac, row_frac, mode, mode, bit_depth,
+        dst, src, block.width, block.height, col_frac, row_frac, mode, mode, bit_depth,
     );
 }
 
-/// Prepares a block at `at` from one of two references.
+/// Prepares a block from one of two references.
 #[tactic(auto, using(av1_frame::proofs::Slices::visible_below))]
 pub(crate) fn prepare_moved<T: Pixel>(
     tmp: &mut [i16],
     plane: &Plane<T>,
-    at: PlaneOffset,
+    block: PlaneBlock,
     mv: MotionVector,
-    width: usize,
-    height: usize,
     mode: FilterMode,
     bit_depth: usize,
 )
-    requires tmp_long { height * width ≤ length tmp.old }
-    requires wide { width ≤ 128 }
-    requires high { height ≤ 128 }
+    requires tmp_long { block.height * block.width ≤ length tmp.old }
+    requires wide { block.width ≤ 128 }
+    requires high { block.height ≤ 128 }
     requires depths { IsDepth bit_depth }
-    requires reference { IsReference T.num plane.now bit_depth width height }
-    ensures { (r c : ℕ) → r < height → c < width → entry tmp.new (r * width + c) ≡ moved_prepared T.num bit_depth mode plane.now at.x at.y mv width height r c }
+    requires reference { IsReference T.num plane.now bit_depth block.width block.height }
+    ensures { (r c : ℕ) → r < block.height → c < block.width → entry tmp.new (r * block.width + c) ≡ moved_prepared T.num bit_depth mode plane.now block.at.x block.at.y mv block.width block.height r c }
 {
     let cfg = plane.config();
     let col_frac = sixteenths(mv.col, cfg.xdec);
     let row_frac = sixteenths(mv.row, cfg.ydec);
-    let src = moved_slice(plane, at, mv);
+    let src = moved_slice(plane, block.at, mv);
     prep_8tap(
-        tmp, src, width, height, col_frac, row_frac, mode, mode, bit_depth,
+        tmp, src, block.width, block.height, col_frac, row_frac, mode, mode, bit_depth,
     );
 }

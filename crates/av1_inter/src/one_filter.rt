@@ -35,7 +35,7 @@ fn filter_line<T: Pixel, const N: usize, const ZEROS: usize>(
     ensures { (c : ℕ) → c < N →
         entry result c ≡ settled taps.now.rounding (sum_from taps.now.halves (λ i. pos (slice_index (map T.num source.now) i)) (start + c) taps.now.step) }
 {
-    if T::BITS == 8 {
+    if T::BITS == 8 && N >= 8 {
         filter_bytes::<T, N, ZEROS>(source, start, taps.step, &taps.halves, taps.rounding)
     } else {
         filter_words::<T, N, ZEROS>(source, start, taps.step, &taps.halves, taps.rounding)
@@ -198,30 +198,6 @@ fn filter_four_rows<T: Pixel, E: Copy, W: Writer<E>>(
     filter_row::<T, E, W, 4, 2>(target, stride, block, taps, 3);
 }
 
-/// The same, along either direction.
-#[inline(always)]
-fn filter_square<T: Pixel, E: Copy, W: Writer<E>>(
-    target: &mut [E],
-    stride: usize,
-    block: &Strip<'_, T>,
-    taps: &Taps,
-)
-    requires rows { AreRows stride block.now.area (length target.old) }
-    requires width { block.now.area.width ≡ 4 }
-    requires height { block.now.area.height ≡ 4 }
-    requires zeros { AreZero 2 taps.now.halves }
-    requires laid { IsLaid T.num block.now taps.now }
-    requires depths { IsDepth block.now.bit_depth }
-    requires serves { W.serves block.now.bit_depth }
-    ensures { target.new ≡ paint stride block.now.area (λ r c _. W.written block.now.bit_depth (filtered T.num block.now taps.now r c)) target.old }
-{
-    if taps.step == 1 {
-        filter_by::<T, E, W, 4, 2>(target, stride, block, taps);
-    } else {
-        filter_four_rows::<T, E, W>(target, stride, block, taps);
-    }
-}
-
 /// The same of a block, strip by strip.
 #[inline(always)]
 pub(crate) fn filter_once<T: Pixel, E: Copy, W: Writer<E>>(
@@ -241,7 +217,7 @@ pub(crate) fn filter_once<T: Pixel, E: Copy, W: Writer<E>>(
         && block.area.height == 4
         && outer_zeros(&taps.halves) == 2
     {
-        filter_square::<T, E, W>(target, stride, block, taps);
+        filter_four_rows::<T, E, W>(target, stride, block, taps);
         return;
     }
     let mut start = 0;

@@ -14,9 +14,16 @@ ghost use Rattle.av1_inter.specs.Reference.{is_reference, IsServed, moved_prepar
 
 use crate::average::mc_avg;
 use crate::buffers::InterCompoundBuffers;
-use crate::moved::{prepare_moved, put_moved};
+use crate::moved::{PlaneBlock, prepare_moved, put_moved};
 use av1_blocks::{MotionVector, PredictionMode, RefType};
 use av1_frame::{FrameInvariants, Pixel, PlaneOffset, PlaneRegionMut, TileRect};
+
+/// Two references, each with the vector by which the block is moved in it.
+#[derive(Clone, Copy)]
+struct TwoReferences {
+    frames: [RefType; 2],
+    mvs: [MotionVector; 2],
+}
 
 /// The slot of a reference.
 fn slot_of<T: Pixel>(fi: &FrameInvariants<T>, reference: RefType) -> usize
@@ -71,9 +78,9 @@ pub fn predict_inter_single<T: Pixel>(
 {
     prove!(!mode.is_intra());
     let at = tile_rect.to_frame_plane_offset(po);
+    let block = PlaneBlock { at, width, height };
     if let Some(plane) = fi.slot(slot_of(fi, ref_frame), p) {
-        let filter = fi.default_filter;
-        put_moved(dst, plane, at, mv, width, height, filter, fi.bit_depth);
+        put_moved(dst, plane, block, mv, fi.default_filter, fi.bit_depth);
     }
 }
 
@@ -82,24 +89,21 @@ fn prepare_from<T: Pixel>(
     tmp: &mut [i16],
     fi: &FrameInvariants<T>,
     p: usize,
-    at: PlaneOffset,
-    width: usize,
-    height: usize,
+    block: PlaneBlock,
     reference: RefType,
     mv: MotionVector,
 )
-    requires tmp_long { height * width ≤ length tmp.old }
+    requires tmp_long { block.height * block.width ≤ length tmp.old }
     requires plane { p < 3 }
-    requires wide { width ≤ 128 }
-    requires high { height ≤ 128 }
+    requires wide { block.width ≤ 128 }
+    requires high { block.height ≤ 128 }
     requires depths { IsDepth fi.now.bit_depth }
-    requires reference { IsServed T.num fi.now reference p width height }
-    ensures { (plane : _) → slot_plane fi.now (slot_of fi.now reference) p ≡ Some plane → (r c : ℕ) → r < height → c < width →
-        entry tmp.new (r * width + c) ≡ moved_prepared T.num fi.now.bit_depth fi.now.default_filter plane at.x at.y mv width height r c }
+    requires reference { IsServed T.num fi.now reference p block.width block.height }
+    ensures { (plane : _) → slot_plane fi.now (slot_of fi.now reference) p ≡ Some plane → (r c : ℕ) → r < block.height → c < block.width →
+        entry tmp.new (r * block.width + c) ≡ moved_prepared T.num fi.now.bit_depth fi.now.default_filter plane block.at.x block.at.y mv block.width block.height r c }
 {
     if let Some(plane) = fi.slot(slot_of(fi, reference), p) {
-        let filter = fi.default_filter;
-        prepare_moved(tmp, plane, at, mv, width, height, filter, fi.bit_depth);
+        prepare_moved(tmp, plane, block, mv, fi.default_filter, fi.bit_depth);
     }
 }
 
@@ -109,34 +113,30 @@ fn predict_over<T: Pixel>(
     tmp2: &mut [i16],
     fi: &FrameInvariants<T>,
     p: usize,
-    at: PlaneOffset,
     dst: &mut PlaneRegionMut<'_, T>,
-    width: usize,
-    height: usize,
-    ref_frames: [RefType; 2],
-    mvs: [MotionVector; 2],
+    block: PlaneBlock,
+    references: TwoReferences,
 )
-    requires first_long { height * width ≤ length tmp1.old }
-    requires second_long { height * width ≤ length tmp2.old }
+    requires first_long { block.height * block.width ≤ length tmp1.old }
+    requires second_long { block.height * block.width ≤ length tmp2.old }
     requires plane { p < 3 }
     requires fits { InStorage dst.old }
-    requires columns { width ≤ dst.old.area.width }
-    requires rows { height ≤ dst.old.area.height }
-    requires wide { width ≤ 128 }
-    requires high { height ≤ 128 }
+    requires columns { block.width ≤ dst.old.area.width }
+    requires rows { block.height ≤ dst.old.area.height }
+    requires wide { block.width ≤ 128 }
+    requires high { block.height ≤ 128 }
     requires depths { IsDepth fi.now.bit_depth }
     requires depth { fi.now.bit_depth ≤ T.BITS }
-    requires first { IsServed T.num fi.now (reference_of ref_frames 0) p width height }
-    requires second { IsServed T.num fi.now (reference_of ref_frames 1) p width height }
-    ensures painted { PredictsCompound T.num T.pixel fi.now p ref_frames at.x at.y mvs width height dst.old dst.new }
+    requires first { IsServed T.num fi.now (reference_of references.frames 0) p block.width block.height }
+    requires second { IsServed T.num fi.now (reference_of references.frames 1) p block.width block.height }
+    ensures painted { PredictsCompound T.num T.pixel fi.now p references.frames block.at.x block.at.y references.mvs block.width block.height dst.old dst.new }
     ensures fits { InStorage dst.new }
 {
-    let [first, second] = ref_frames;
-    let [first_mv, second_mv] = mvs;
-    prepare_from(tmp1, fi, p, at, width, height, first, first_mv);
-    prepare_from(tmp2, fi, p, at, width, height, second, second_mv);
-    let bit_depth = fi.bit_depth;
-    mc_avg(dst, tmp1, tmp2, width, height, bit_depth);
+    let [first, second] = references.frames;
+    let [first_mv, second_mv] = references.mvs;
+    prepare_from(tmp1, fi, p, block, first, first_mv);
+    prepare_from(tmp2, fi, p, block, second, second_mv);
+    mc_avg(dst, tmp1, tmp2, block.width, block.height, fi.bit_depth);
 }
 
 /// Predicts a block from two references: each sample of the first `height` rows and `width` columns of `dst` becomes
@@ -174,17 +174,18 @@ pub fn predict_inter_compound<T: Pixel>(
 {
     prove!(!mode.is_intra());
     let at = tile_rect.to_frame_plane_offset(po);
+    let references = TwoReferences {
+        frames: ref_frames,
+        mvs,
+    };
     predict_over(
         buffer.first.as_mut_slice(),
         buffer.second.as_mut_slice(),
         fi,
         p,
-        at,
         dst,
-        width,
-        height,
-        ref_frames,
-        mvs,
+        PlaneBlock { at, width, height },
+        references,
     );
 }
 

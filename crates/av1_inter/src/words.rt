@@ -106,7 +106,7 @@ fn add_products(sums: &mut [i32; 8], products: &[i32; 8])
 /// The sums of eight samples that stand `step` apart, each times its halved weight, from each of `N` places on. The
 /// outer `ZEROS` weights on either side are 0, so that these products are left out.
 #[inline(always)]
-fn eight_sums<T: Pixel, const N: usize, const ZEROS: usize>(
+fn sums_by_pairs<T: Pixel, const N: usize, const ZEROS: usize>(
     source: &[T],
     start: usize,
     step: usize,
@@ -128,15 +128,75 @@ fn eight_sums<T: Pixel, const N: usize, const ZEROS: usize>(
     sums
 }
 
+/// The sums of samples side by side, each times its halved weight, from each of the first four places of `values` on:
+/// these are the samples that the third weight belongs to, and those behind them. The outer two weights on either side
+/// are 0.
+#[inline(always)]
+fn sums_along(values: [i16; 8], halves: &[i16; SUBPEL_FILTER_SIZE]) -> [i32; 8]
+    requires filter { IsFilter (doubled halves.now) }
+    requires values { (c : ℕ) → c < 8 → Between 0 32767 (entry values c) }
+    ensures value { (c : ℕ) → c < 4 →
+        entry result c ≡ (entry halves.now 2 *ℤ entry values c +ℤ entry halves.now 3 *ℤ entry values (c + 1)) +ℤ
+        (entry halves.now 4 *ℤ entry values (c + 2) +ℤ entry halves.now 5 *ℤ entry values (c + 3)) }
+    ensures within { (c : ℕ) → c < 8 → IsWithin (2 ^ 25) (entry result c) }
+{
+    let lanes = i16x8::from_array(values);
+    let second = lanes.rotate_elements_left::<1>().to_array();
+    let third = lanes.rotate_elements_left::<2>().to_array();
+    let fourth = lanes.rotate_elements_left::<3>().to_array();
+    let mut sums = pair_sums(values, second, halves[2], halves[3]);
+    let others = pair_sums(third, fourth, halves[4], halves[5]);
+    add_products(&mut sums, &others);
+    sums
+}
+
+/// The same. Of four bytes side by side each is read once: a compiler doesn't read them at once where the next four
+/// overlap them.
+#[inline(always)]
+fn eight_sums<T: Pixel, const N: usize, const ZEROS: usize>(
+    source: &[T],
+    start: usize,
+    step: usize,
+    halves: &[i16; SUBPEL_FILTER_SIZE],
+) -> [i32; 8]
+    requires filter { IsFilter (doubled halves.now) }
+    requires few { ZEROS ≤ 2 }
+    requires zeros { AreZero ZEROS halves.now }
+    requires reach { start + N + 7 * step ≤ length source.now }
+    requires small { (c t : ℕ) → c < N → t < 8 → slice_index (map T.num source.now) (start + c + t * step) < 32768 }
+    ensures value { (c : ℕ) → c < 8 → c < N → entry result c ≡ sum_from halves.now (λ i. pos (slice_index (map T.num source.now) i)) (start + c) step }
+    ensures within { (c : ℕ) → c < 8 → IsWithin (2 ^ 25) (entry result c) }
+{
+    if T::BITS == 8 && N == 4 && ZEROS == 2 && step == 1 {
+        sums_along(eight_from::<T, 8>(source, start + 2), halves)
+    } else {
+        sums_by_pairs::<T, N, ZEROS>(source, start, step, halves)
+    }
+}
+
 /// What such a sum becomes. All that is added to it and taken off behind it is added at once.
 #[inline(always)]
-fn settle(sum: i32, rounding: Rounding) -> i16
+fn settle(sum: i32, rounding: Rounding) -> i32
     requires rounding { IsRounding rounding }
     requires within { IsWithin (2 ^ 25) sum }
     ensures { result ≡ settled rounding sum }
 {
     let add = i32::from(rounding.add) - (i32::from(rounding.bias) << rounding.shift);
-    ((sum + add) >> rounding.shift).max(-32768).min(32767) as i16
+    ((sum + add) >> rounding.shift).max(-32768).min(32767)
+}
+
+/// What eight such sums become. They are cut to 16 bits at once, also where fewer of them are wanted.
+#[inline(always)]
+fn settle_eight(sums: &[i32; 8], rounding: Rounding) -> [i16; 8]
+    requires rounding { IsRounding rounding }
+    requires within { (c : ℕ) → c < 8 → IsWithin (2 ^ 25) (entry sums.now c) }
+    ensures { (c : ℕ) → c < 8 → entry result c ≡ settled rounding (entry sums.now c) }
+{
+    let mut values = [0; 8];
+    for c in 0..8 {
+        values[c] = settle(sums[c], rounding);
+    }
+    i32x8::from_array(values).cast::<i16>().to_array()
 }
 
 /// What the sums from each of at most eight places on become.
@@ -158,9 +218,10 @@ fn filter_group<T: Pixel, const N: usize, const ZEROS: usize>(
     ensures { (c : ℕ) → c < N → entry result c ≡ settled rounding (sum_from halves.now (λ i. pos (slice_index (map T.num source.now) i)) (start + c) step) }
 {
     let sums = eight_sums::<T, N, ZEROS>(source, start, step, halves);
+    let eight = settle_eight(&sums, rounding);
     let mut values = [0; N];
     for c in 0..N {
-        values[c] = settle(sums[c], rounding);
+        values[c] = eight[c];
     }
     values
 }

@@ -16,14 +16,14 @@ returns-clause-painted g c =
     let fr : FitsSigned w16 c.args.mv.row = search rules in
     let rx : FitsSigned w32 c.sixteenths-col_frac.result = search rules in
     let ry : FitsSigned w32 c.sixteenths-row_frac.result = search rules in
-    painted_same c.args.dst.now _ c.args.width c.args.height _
+    painted_same c.args.dst.now _ c.args.block.width c.args.block.height _
     (λ r q _.
-    g.T.Pixel.pixel (moved_single num c.args.bit_depth c.args.mode c.args.plane.now c.args.at.x c.args.at.y c.args.mv c.args.width c.args.height r q))
+    g.T.Pixel.pixel (moved_single num c.args.bit_depth c.args.mode c.args.plane.now c.args.block.at.x c.args.block.at.y c.args.mv c.args.block.width c.args.block.height r q))
     c.put_8tap.ensures.painted
     (λ r q v l h.
     ap g.T.Pixel.pixel
-    (single_is c.args.bit_depth c.args.mode c.args.width c.args.height _ _ _ _ (samples_from num (corner_of c.moved_slice-src.result))
-    (moved num c.args.plane.now c.args.at.x c.args.at.y c.args.mv)
+    (single_is c.args.bit_depth c.args.mode c.args.block.width c.args.block.height _ _ _ _ (samples_from num (corner_of c.moved_slice-src.result))
+    (moved num c.args.plane.now c.args.block.at.x c.args.block.at.y c.args.mv)
     (fraction_is _ c.args.mv.col _ cfg.xdec rx fc ex c.sixteenths-col_frac.ensures.value)
     (fraction_is _ c.args.mv.row _ cfg.ydec ry fr ey c.sixteenths-row_frac.ensures.value)
     (λ x y a b. c.moved_slice-src.ensures.samples x y (omega (arith, c.requires.reference.xpad)) (omega (arith, c.requires.reference.ypad))) r q l h))

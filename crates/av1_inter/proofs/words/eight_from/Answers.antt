@@ -4,7 +4,7 @@ use Rattle.std.proofs.lemmas.Bool.Decides.{nat_tests}
 use Rattle.std.proofs.lemmas.Int.{to_z-of_z}
 use Rattle.av1_inter.proofs.EightSums.{sample_between}
 use Rattle.av1_inter.proofs.Fill.{line_more, line_none}
-use Rattle.av1_inter.proofs.PairSums.{lanes_are, lanes_fit}
+use Rattle.av1_inter.proofs.PairSums.{lanes_are, lanes_fit, sample_fits}
 use Rattle.av1_inter.proofs.words.eight_from.Goals as goal
 
 inside_is : (q n x : ℕ) → q < n → cond (ltb q n) x 0 ≡ x
@@ -28,18 +28,18 @@ loop-c-preserved g c =
 
 pub overflow_cast-result : goal.overflow_cast-result
 overflow_cast-result g c =
-    lanes_fit c.loop-c.values (λ q. cond (ltb q g.row.N) (slice_index (map g.T.Pixel.num c.args.source.now) (c.args.start + q)) 0)
-    c.loop-c.invariant.long (λ q h. c.loop-c.invariant.value q (omega arith)) (λ q h. some_small q g.row.N _ (c.requires.small q))
+    lanes_fit c.loop-c.values (λ q. pos (cond (ltb q g.row.N) (slice_index (map g.T.Pixel.num c.args.source.now) (c.args.start + q)) 0))
+    c.loop-c.invariant.long (λ q h. c.loop-c.invariant.value q (omega arith)) (λ q h. sample_fits _ (some_small q g.row.N _ (c.requires.small q)))
 
 pub returns-clause-value : goal.returns-clause-value
 returns-clause-value g c = λ q h b.
-    lanes_are c.loop-c.values (λ q. cond (ltb q g.row.N) (slice_index (map g.T.Pixel.num c.args.source.now) (c.args.start + q)) 0)
-    c.loop-c.invariant.long (λ q h. c.loop-c.invariant.value q (omega arith)) (λ q h. some_small q g.row.N _ (c.requires.small q)) q h
+    lanes_are c.loop-c.values (λ q. pos (cond (ltb q g.row.N) (slice_index (map g.T.Pixel.num c.args.source.now) (c.args.start + q)) 0))
+    c.loop-c.invariant.long (λ q h. c.loop-c.invariant.value q (omega arith)) (λ q h. sample_fits _ (some_small q g.row.N _ (c.requires.small q))) q h
     ∙ ap pos (inside_is q g.row.N _ b)
 
 pub returns-clause-within : goal.returns-clause-within
 returns-clause-within g c = λ q h.
     sample_between _ _
-    (lanes_are c.loop-c.values (λ q. cond (ltb q g.row.N) (slice_index (map g.T.Pixel.num c.args.source.now) (c.args.start + q)) 0)
-    c.loop-c.invariant.long (λ q h. c.loop-c.invariant.value q (omega arith)) (λ q h. some_small q g.row.N _ (c.requires.small q)) q h)
+    (lanes_are c.loop-c.values (λ q. pos (cond (ltb q g.row.N) (slice_index (map g.T.Pixel.num c.args.source.now) (c.args.start + q)) 0))
+    c.loop-c.invariant.long (λ q h. c.loop-c.invariant.value q (omega arith)) (λ q h. sample_fits _ (some_small q g.row.N _ (c.requires.small q))) q h)
     (some_small q g.row.N _ (c.requires.small q))
