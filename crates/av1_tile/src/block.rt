@@ -13,7 +13,7 @@ ghost use Rattle.av1_plan.specs.Geometry.{plane_width, plane_height};
 ghost use Rattle.av1_tile.specs.Reference.{added, block_residue};
 ghost use Rattle.av1_tile.specs.Walk.{area_at, edge_for, predicted_at, EdgePredictionFits, IsPlaceIn, Stores, TripleFits};
 
-use crate::coefficients::load_coefficients;
+use crate::coefficients::{coefficients_up_to, load_coefficients};
 use crate::plane_block::PlaneBlock;
 use av1_blocks::{IntraParam, PredictionMode};
 use av1_edges::{IntraEdge, IntraEdgeBuffer, get_intra_edges};
@@ -181,14 +181,13 @@ fn add_residue<T: Pixel>(
         (λ r c v. T.pixel (added bit_depth (T.num v) (block_residue bit_depth block.now triples.now number r c))) }
     ensures fits { InStorage output.new }
 {
-    let tx_size = block.area.tx_size;
-    let count = tx_size.coded_area();
+    let count = coefficients_up_to(triples);
     load_coefficients(&mut coefficients[..count], number, triples);
     inverse_transform_add_with(
         scratch,
         &coefficients[..count],
         output,
-        tx_size,
+        block.area.tx_size,
         block.tx_type,
         bit_depth,
     );

@@ -45,3 +45,24 @@ pub fn load_coefficients<C: Coefficient>(coefficients: &mut [C], block: usize, t
         put_value(coefficients, is_here, usize::from(place), value);
     }
 }
+
+/// How many coefficients there are up to the last place of the triples.
+pub fn coefficients_up_to(triples: &[Triple]) -> usize
+    ensures reach { All (λ (t : Triple). t.place < result) triples.now }
+    ensures least { (n : ℕ) → All (λ (t : Triple). t.place < n) triples.now → result ≤ n }
+{
+    let mut count = 0;
+    for triple in triples {
+        count = greater(count, usize::from(triple.place) + 1);
+    }
+    count
+}
+
+#[inline(always)]
+fn greater(a: usize, b: usize) -> usize
+    ensures first { a ≤ result }
+    ensures second { b ≤ result }
+    ensures least { (n : ℕ) → a ≤ n → b ≤ n → result ≤ n }
+{
+    if a < b { b } else { a }
+}
