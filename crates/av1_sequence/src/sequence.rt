@@ -91,7 +91,7 @@ impl Model for Sequence {
 impl Sequence {
     ghost use Rattle.std.specs.Prelude.{◌≡◌, ℕ, ◌<◌, ◌≤◌, ◌^◌, [], None, Some, length, option_map, slice_index_or, IfOk, IfErr, IfNone, IfSome, OnOk};
     ghost use Rattle.av1_blocks.specs.Depths.{IsDepth};
-    ghost use Rattle.av1_plan.specs.Answer.{leaves_value};
+    ghost use Rattle.av1_plan.specs.Values.{leaves_value};
     ghost use Rattle.av1_plan.specs.Geometry.{plane_height, plane_width};
     ghost use Rattle.av1_plan.specs.Grammar.{plan as grammar};
     ghost use Rattle.av1_plan.specs.ReadPlans.{IsSide};
