@@ -1,6 +1,6 @@
 //! All that the program does.
 ghost use Rattle.std.specs.Prelude.{◌≡◌, ℕ, map, string_bytes};
-ghost use Rattle.av1_recon.specs.Answers.{Says, status_of, line_of};
+ghost use Rattle.av1_recon.specs.Answers.{HasLine, status_of, line_of};
 ghost use Rattle.av1_recon.specs.Lines.{sum_lines};
 ghost use Rattle.av1_recon.specs.Outcomes.{Answer, Converts};
 ghost use Rattle.av1_bench.specs.Count.{IsCount, usage};
@@ -21,10 +21,10 @@ pub fn run<R: Source, W: Sink, E: Sink>(
     err: &mut E,
 ) -> u8
     ensures no_number { ((count : ℕ) → ¬ IsCount (map string_bytes words.now) count) →
-        (result ≡ 1) × (source.new ≡ source.old) × (out.new ≡ out.old) × Says E.taken E.faults err.old err.new usage }
+        (result ≡ 1) × (source.new ≡ source.old) × (out.new ≡ out.old) × HasLine E.taken E.faults err.old err.new usage }
     ensures bench { (count : ℕ) → IsCount (map string_bytes words.now) count → (answer : Answer)
         × Converts sum_lines R.left R.faults W.taken W.faults source.old source.new out.old out.new answer
-        × (result ≡ status_of answer) × Says E.taken E.faults err.old err.new (line_of answer) }
+        × (result ≡ status_of answer) × HasLine E.taken E.faults err.old err.new (line_of answer) }
 {
     let Some(count) = count_of(words) else {
         say(b"usage: bench N < plan\n", err);

@@ -3,7 +3,7 @@ use Rattle.std.proofs.Common.{◌≡◌, ℕ, ◌+◌, ◌≤◌, List, [], ◌�
 use Rattle.std.specs.Prelude.{IfErr, IsErrAnd}
 use Rattle.std.specs.Int.{to_le_bytes}
 use Rattle.av1_plan.specs.Format.{Format, Input, Reading, asks, done, ended, on_ok, read, start, width, ◌>>=◌}
-use Rattle.av1_plan.specs.Grammar.{header, plan, references, superblocks}
+use Rattle.av1_plan.specs.Grammar.{header, plan, plan_behind, references, superblocks}
 use Rattle.av1_plan.specs.Plan.{PlanValue}
 use Rattle.av1_plan.specs.ReadPlans.{IsReadFrame}
 use Rattle.av1_plan.specs.Reading.{Fails, IsAtByte}
@@ -58,7 +58,7 @@ behind h = references h >>= λ planes. superblocks h >>= λ leaves. done (record
 
 -- where no header is read no plan is
 no_plan : (bytes : List ℕ) (at : ℕ) → AreBytes bytes → read header (start bytes) ≡ Err at → AreRefused plan bytes at
-unfolding plan
+unfolding plan plan_behind
 no_plan bytes at fits e =
     let stops : read plan (start bytes) ≡ Err at = read_bind header behind (start bytes)
     ∙ ap (λ (r : Reading (Header × Input)). on_ok r (λ p. read (behind p.0) p.1)) e in
@@ -102,7 +102,7 @@ header_of h value s =
 
 -- the text of a plan begins with its header
 begins : (bytes : List ℕ) (value : PlanValue) → AreText plan bytes value → BeginWith bytes value.header
-unfolding plan
+unfolding plan plan_behind
 begins bytes value (vs, spells, is) =
     let (h, front, rest) = front_of header behind value vs spells in
     subst (BeginWith bytes) (header_of h value rest) (subst (λ (l : List ℕ). BeginWith l h) (sym is) front)

@@ -7,7 +7,7 @@ ghost use Rattle.av1_c.specs.Builders.{AreAppended, room_fault};
 ghost use Rattle.av1_c.specs.declared.build_fault.BuildFault.TheVariants as faults;
 
 use crate::build_fault::BuildFault;
-use av1_planwrite::{BuildError, planes_len, put_planes};
+use av1_planwrite::{BuildError, put_planes, slot_len};
 use av1_streams::MAX_PLAN_BYTES;
 
 /// Where so many bytes end that are appended to those at the front of the buffer.
@@ -76,7 +76,7 @@ pub fn append_planes(
         length room.old < written + length (plane_text depth y.now ++ plane_text depth u.now ++ plane_text depth v.now)) }
     ensures kept { OnErr result (room.new ≡ room.old) }
 {
-    let len = planes_len(depth, y, u, v);
+    let len = slot_len(depth, y, u, v);
     let end = end_of(room, written, len)?;
     let (_, free) = room.split_at_mut(written);
     let (next, _) = free.split_at_mut(len);

@@ -1,6 +1,6 @@
 //! Planes written to memory of the caller.
 ghost use Rattle.std.specs.Prelude.{◌≡◌, ◌≢◌, ◌⊎◌, ◌↔◌, ℕ, ◌<◌, ◌≤◌, None, length, Err, IfOk, IfErr, OnErr};
-ghost use Rattle.av1_plan.specs.Answer.{plan_value};
+ghost use Rattle.av1_plan.specs.Values.{plan_value};
 ghost use Rattle.av1_plan.specs.Validity.{first_fault};
 ghost use Rattle.av1_plan.specs.declared.error.InvalidKind.{InvalidKind};
 ghost use Rattle.av1_recon.specs.Outcomes.{ArePlan, HasOutcome, Outcome};

@@ -6,9 +6,9 @@ use Rattle.av1_plan.specs.declared.header.Header.{Header}
 use Rattle.av1_plan.specs.Format.{one}
 use Rattle.av1_plan.specs.Grammar.{half_side, whole_size, part_size}
 use Rattle.av1_generate.specs.Draft.{Draft, writes, draws, ◌>>◌}
-use Rattle.av1_generate.specs.Generator.{part, parts, block}
+use Rattle.av1_generate.specs.Generator.{leaf_part, parts, block}
 
-pub block_leaf : (h : Header) (x y : ℕ) → block h 0 x y ≡ part h BLOCK_4X4 x y
+pub block_leaf : (h : Header) (x y : ℕ) → block h 0 x y ≡ leaf_part h BLOCK_4X4 x y
 unfolding block
 block_leaf h x y = refl
 
@@ -22,17 +22,20 @@ block_node h (suc level) x y lt =
 
 pub ruleset levels = (block_leaf, block_node)
 
-pub none_parts : (h : Header) (level : ℕ) (quarter : ℕ → ℕ → Draft) (x y mark : ℕ) → mark ≡ 0 → parts h level quarter x y mark ≡ part h (whole_size level) x y
+pub none_parts : (h : Header) (level : ℕ) (quarter : ℕ → ℕ → Draft) (x y mark : ℕ) → mark ≡ 0 →
+    parts h level quarter x y mark ≡ leaf_part h (whole_size level) x y
 unfolding parts
 none_parts h level quarter x y mark e = rw e refl
 
 pub horz_parts : (h : Header) (level : ℕ) (quarter : ℕ → ℕ → Draft) (x y mark : ℕ) → mark ≡ 1
-    → parts h level quarter x y mark ≡ (part h (part_size level PARTITION_HORZ) x y >> part h (part_size level PARTITION_HORZ) x (y + half_side level))
+    → parts h level quarter x y mark ≡
+    (leaf_part h (part_size level PARTITION_HORZ) x y >> leaf_part h (part_size level PARTITION_HORZ) x (y + half_side level))
 unfolding parts
 horz_parts h level quarter x y mark e = rw e refl
 
 pub vert_parts : (h : Header) (level : ℕ) (quarter : ℕ → ℕ → Draft) (x y mark : ℕ) → mark ≡ 2
-    → parts h level quarter x y mark ≡ (part h (part_size level PARTITION_VERT) x y >> part h (part_size level PARTITION_VERT) (x + half_side level) y)
+    → parts h level quarter x y mark ≡
+    (leaf_part h (part_size level PARTITION_VERT) x y >> leaf_part h (part_size level PARTITION_VERT) (x + half_side level) y)
 unfolding parts
 vert_parts h level quarter x y mark e = rw e refl
 

@@ -8,7 +8,7 @@ use Rattle.av1_plan.specs.Validity.{is_inter_size}
 use Rattle.av1_generate.specs.Draft.{Draft, written, each}
 use Rattle.av1_generate.specs.Generator.{less, frame, slots, header, step, weight, chroma_step, chroma_modes, chroma_mode, intra, component, motion, single}
 use Rattle.av1_generate.specs.Generator.{compound, kind_of, kind, type_within, tx_type, luma_tx_size, luma_transforms, triple, triples, chroma_triples, leaf}
-use Rattle.av1_generate.specs.Generator.{part, parts, block}
+use Rattle.av1_generate.specs.Generator.{leaf_part, parts, block}
 use Rattle.av1_generate.specs.Numbers.{state_after, number_of, state, drawn}
 
 second_state : state 0 2 ≡ 1876011003808476466
@@ -34,7 +34,7 @@ superblock_of_5 : made 5 (block (frame 5) 4 0 0) ≡ (
   16,
 )
 unfolding each state drawn state_after number_of frame less step weight chroma_step chroma_modes chroma_mode intra component motion single compound
-    kind_of is_inter_size kind type_within tx_type luma_tx_size luma_transforms triple triples chroma_triples leaf part parts block whole_size part_size
+    kind_of is_inter_size kind type_within tx_type luma_tx_size luma_transforms triple triples chroma_triples leaf leaf_part parts block whole_size part_size
     cfl_allowed carries_chroma xdec ydec
 superblock_of_5 = refl
 
@@ -45,7 +45,7 @@ superblock_of_1068 : made 1068 (block (frame 1068) 4 0 0) ≡ (
   26,
 )
 unfolding each state drawn state_after number_of frame less step weight chroma_step chroma_modes chroma_mode intra component motion single compound
-    kind_of is_inter_size kind type_within tx_type luma_tx_size luma_transforms triple triples chroma_triples leaf part parts block whole_size part_size
+    kind_of is_inter_size kind type_within tx_type luma_tx_size luma_transforms triple triples chroma_triples leaf leaf_part parts block whole_size part_size
     cfl_allowed carries_chroma xdec ydec
 superblock_of_1068 = refl
 
@@ -60,6 +60,6 @@ superblock_of_2177 : made 2177 (block (frame 2177) 4 0 0) ≡ (
   76,
 )
 unfolding each state drawn state_after number_of frame less step weight chroma_step chroma_modes chroma_mode intra component motion single compound
-    kind_of is_inter_size kind type_within tx_type luma_tx_size luma_transforms triple triples chroma_triples leaf part parts block whole_size part_size
+    kind_of is_inter_size kind type_within tx_type luma_tx_size luma_transforms triple triples chroma_triples leaf leaf_part parts block whole_size part_size
     cfl_allowed carries_chroma xdec ydec
 superblock_of_2177 = refl

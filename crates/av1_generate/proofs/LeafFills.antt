@@ -17,7 +17,7 @@ use Rattle.av1_plan.specs.Grammar as grammar
 use Rattle.av1_plan.specs.Plan.{LeafValue}
 use Rattle.av1_plan.specs.Validity.{are_coefficients, has_plane_coefficients, has_coefficients, has_block_size, has_transforms, has_modes, has_vectors}
 use Rattle.av1_plan.specs.Validity.{has_references, fault_of}
-use Rattle.av1_generate.specs.Generator.{frame, luma_tx_size, chroma_triples, leaf, part}
+use Rattle.av1_generate.specs.Generator.{frame, luma_tx_size, chroma_triples, leaf, leaf_part}
 use Rattle.av1_generate.proofs.Fills.{Fills, follows, ends, fills_done, weaker}
 use Rattle.av1_generate.proofs.LeafKinds.{kind_fills}
 use Rattle.av1_generate.proofs.LeafTransforms.{luma, luma_fills, chroma_type_fills, transforms_are}
@@ -130,6 +130,6 @@ leaf_by number x y size c carried lt_x lt_y =
     (coefficients_are number c leaf ts lists carried refl t l)))))))
 
 pub leaf_fills : (number x y : ℕ) (size : BlockSize) → x < 512 → y < 512
-    → Fills (part (frame number) size x y) (grammar.leaf (frame number) size x y) 83 (λ l. fault_of (frame number) l ≡ None)
-unfolding part grammar.leaf grammar.tx_size grammar.tx_type
+    → Fills (leaf_part (frame number) size x y) (grammar.leaf (frame number) size x y) 83 (λ l. fault_of (frame number) l ≡ None)
+unfolding leaf_part grammar.leaf grammar.tx_size grammar.tx_type
 leaf_fills number x y size lt_x lt_y = leaf_by number x y size (carries_chroma (frame number) x y size) refl lt_x lt_y

@@ -14,7 +14,7 @@ use Rattle.av1_plan.specs.Grammar as grammar
 use Rattle.av1_plan.specs.Plan.{LeafValue}
 use Rattle.av1_plan.specs.Validity.{fault_of, fault_from}
 use Rattle.av1_generate.specs.Draft.{writes, ◌>>◌}
-use Rattle.av1_generate.specs.Generator.{frame, part, parts, block, superblock_row, superblocks}
+use Rattle.av1_generate.specs.Generator.{frame, leaf_part, parts, block, superblock_row, superblocks}
 use Rattle.av1_generate.proofs.FieldKinds.{mark_is}
 use Rattle.av1_generate.proofs.Fills.{Fills, fills_lone, asked, weaker, drawing, Grows, fills_both, four_fill, fills_each}
 use Rattle.av1_generate.proofs.LeafFills.{leaf_fills}
@@ -40,8 +40,8 @@ no_first_fault h n (l ∷ leaves) p = rw p.0 (no_first_fault h (n + 1) leaves p.
 -- ---- parts
 
 part_fills : (number x y : ℕ) (size : BlockSize) → x < 512 → y < 512
-    → Fills (part (frame number) size x y) (grammar.part (frame number) size x y) 83 (AreValid (frame number))
-unfolding grammar.part is_inside frame
+    → Fills (leaf_part (frame number) size x y) (grammar.leaf_part (frame number) size x y) 83 (AreValid (frame number))
+unfolding grammar.leaf_part is_inside frame
 part_fills number x y size lt_x lt_y =
     rw (lt-ltb x 512 lt_x, lt-ltb y 512 lt_y) (fills_lone (leaf_fills number x y size lt_x lt_y) (λ l p. (p, tt)))
 

@@ -64,7 +64,7 @@ behind_fills number =
     fills_done (record { header = frame number; references = references; leaves = leaves }) (no_first_fault (frame number) 0 leaves valid)))
 
 plan_fills : (number : ℕ) → Fills (plan number) grammar.plan 2151764 (λ p. first_fault p ≡ None)
-unfolding plan grammar.plan
+unfolding plan grammar.plan grammar.plan_behind
 plan_fills number =
     follows {n = 2151744} behind (header_fills number) (λ h is.
     subst (λ (u : Header). Fills (reference (frame number) number >> superblocks (frame number)) (behind u) 2151744 (λ p. first_fault p ≡ None)) (sym is)

@@ -164,24 +164,26 @@ leaf size carried =
     >> triples >> chroma_triples carried
 
 -- a leaf of this size at this place
-unfoldable pub part : Header → BlockSize → ℕ → ℕ → Draft
-part h size x y = leaf size (carries_chroma h x y size)
+unfoldable pub leaf_part : Header → BlockSize → ℕ → ℕ → Draft
+leaf_part h size x y = leaf size (carries_chroma h x y size)
 
 -- the parts of a node of this level by its mark (none, horizontal, vertical, split), where quarter gives the part of
 -- half the side at a place
 unfoldable pub parts : Header → ℕ → (ℕ → ℕ → Draft) → ℕ → ℕ → ℕ → Draft
-parts h level quarter x y zero = part h (whole_size level) x y
+parts h level quarter x y zero = leaf_part h (whole_size level) x y
 parts h level quarter x y (suc zero) =
-    part h (part_size level PARTITION_HORZ) x y >> part h (part_size level PARTITION_HORZ) x (y + half_side level)
+    leaf_part h (part_size level PARTITION_HORZ) x y >> leaf_part h (part_size level PARTITION_HORZ) x
+    (y + half_side level)
 parts h level quarter x y (suc (suc zero)) =
-    part h (part_size level PARTITION_VERT) x y >> part h (part_size level PARTITION_VERT) (x + half_side level) y
+    leaf_part h (part_size level PARTITION_VERT) x y >> leaf_part h (part_size level PARTITION_VERT)
+    (x + half_side level) y
 parts h level quarter x y (suc (suc (suc mark))) =
     quarter x y >> quarter (x + half_side level) y >> quarter x (y + half_side level) >> quarter (x + half_side level)
     (y + half_side level)
 
 -- a part of side 4 * 2 ^ level: a 4x4 leaf at level 0, else a node, whose mark is drawn
 unfoldable pub block : Header → ℕ → ℕ → ℕ → Draft
-block h zero x y = part h BLOCK_4X4 x y
+block h zero x y = leaf_part h BLOCK_4X4 x y
 block h (suc level) x y = draws 4 (λ mark. writes one mark >> parts h (suc level) (block h level) x y mark)
 
 -- the superblocks of a row

@@ -6,13 +6,19 @@ use av1_plan::{Header, carries_chroma, half_side, part_size, whole_size};
 
 impl Maker {
     ghost use Rattle.std.specs.Prelude.{◌≡◌, ◌+◌, ◌-◌, ◌*◌, ◌<◌, ◌≤◌, OnOk};
-    ghost use Rattle.av1_generate.specs.Generator.{part, parts, block, superblock_row, superblocks};
+    ghost use Rattle.av1_generate.specs.Generator.{leaf_part, parts, block, superblock_row, superblocks};
     ghost use Rattle.av1_generate.specs.Making.{work, run};
 
     /// Writes the leaf at this place.
-    #[tactic(auto, unfolding(crate::specs::Generator::part))]
-    fn part(&mut self, frame: &Header, size: BlockSize, x: u16, y: u16) -> Result<(), OutOfMemory>
-        ensures { OnOk result (work self.new ≡ run (part frame.now size x y) (work self.old)) }
+    #[tactic(auto, unfolding(crate::specs::Generator::leaf_part))]
+    fn leaf_part(
+        &mut self,
+        frame: &Header,
+        size: BlockSize,
+        x: u16,
+        y: u16,
+    ) -> Result<(), OutOfMemory>
+        ensures { OnOk result (work self.new ≡ run (leaf_part frame.now size x y) (work self.old)) }
     {
         let carried = carries_chroma(frame, x, y, size);
         self.leaf(size, carried)
@@ -28,7 +34,7 @@ impl Maker {
         ensures { OnOk result (work self.new ≡ run (block frame.now level x y) (work self.old)) }
     {
         if level == 0 {
-            return self.part(frame, BlockSize::BLOCK_4X4, x, y);
+            return self.leaf_part(frame, BlockSize::BLOCK_4X4, x, y);
         }
         let mark = self.draw(4) as u8;
         self.byte(mark)?;
@@ -56,16 +62,16 @@ impl Maker {
         let right = x + half;
         let below = y + half;
         match mark {
-            0 => self.part(frame, whole_size(level), x, y),
+            0 => self.leaf_part(frame, whole_size(level), x, y),
             1 => {
                 let wide = part_size(level, PartitionType::PARTITION_HORZ);
-                self.part(frame, wide, x, y)?;
-                self.part(frame, wide, x, below)
+                self.leaf_part(frame, wide, x, y)?;
+                self.leaf_part(frame, wide, x, below)
             }
             2 => {
                 let tall = part_size(level, PartitionType::PARTITION_VERT);
-                self.part(frame, tall, x, y)?;
-                self.part(frame, tall, right, y)
+                self.leaf_part(frame, tall, x, y)?;
+                self.leaf_part(frame, tall, right, y)
             }
             _ => {
                 self.block(frame, level - 1, x, y)?;

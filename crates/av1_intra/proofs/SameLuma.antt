@@ -12,7 +12,8 @@ use Rattle.av1_intra.specs.declared.variant.PredictionVariant.{PredictionVariant
 use Rattle.av1_intra.specs.declared.luma.ChromaBlock.{ChromaBlock}
 use Rattle.av1_intra.specs.declared.luma.LumaLeaf.{LumaLeaf}
 use Rattle.av1_intra.specs.Dc.{mean}
-use Rattle.av1_intra.specs.ChromaFromLuma.{luma_at, lumas, luma_difference, columns_read, rows_read, chroma_block, first_column, first_row, leaf_difference}
+use Rattle.av1_intra.specs.ChromaFromLuma.{luma_at, lumas, luma_difference, columns_read, rows_read, chroma_block, first_luma_column, first_luma_row}
+use Rattle.av1_intra.specs.ChromaFromLuma.{leaf_difference}
 use Rattle.av1_intra.specs.ChromaFromLuma.{from_luma, ac_at}
 use Rattle.av1_intra.specs.Predicted.{dc, predicted}
 use Rattle.av1_intra.proofs.LumaBlocks.{by_decimation, covered_same}
@@ -45,10 +46,10 @@ module _ (f g : ℕ → ℕ → ℕ) (b : ChromaBlock) (x : b.xdec ≤ 1) (y : b
 pub leaf_difference_same : (f g : ℕ → ℕ → ℕ) (leaf : LumaLeaf) (r c : ℕ) → leaf.xdec ≤ 1 → leaf.ydec ≤ leaf.xdec
     → r < (chroma_block leaf).height → c < (chroma_block leaf).width
     → ((x y : ℕ) → x < columns_read (chroma_block leaf) → y < rows_read (chroma_block leaf) →
-    f (first_column leaf + x) (first_row leaf + y) ≡ g (first_column leaf + x) (first_row leaf + y))
+    f (first_luma_column leaf + x) (first_luma_row leaf + y) ≡ g (first_luma_column leaf + x) (first_luma_row leaf + y))
     → leaf_difference f leaf r c ≡ leaf_difference g leaf r c
 leaf_difference_same f g leaf r c x y h l agree =
-    luma_difference_same (λ p q. f (first_column leaf + p) (first_row leaf + q)) (λ p q. g (first_column leaf + p) (first_row leaf + q))
+    luma_difference_same (λ p q. f (first_luma_column leaf + p) (first_luma_row leaf + q)) (λ p q. g (first_luma_column leaf + p) (first_luma_row leaf + q))
     (chroma_block leaf) x y agree r c h l
 
 -- ---- prediction

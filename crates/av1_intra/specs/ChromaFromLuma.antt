@@ -102,16 +102,16 @@ chroma_block leaf = record {
 }
 
 -- the column and the row of luma that it begins at
-abbrev pub first_column : LumaLeaf → ℕ
-first_column leaf = luma_start leaf.x (block_width leaf.bsize) leaf.xdec
+abbrev pub first_luma_column : LumaLeaf → ℕ
+first_luma_column leaf = luma_start leaf.x (block_width leaf.bsize) leaf.xdec
 
-abbrev pub first_row : LumaLeaf → ℕ
-first_row leaf = luma_start leaf.y (block_height leaf.bsize) leaf.ydec
+abbrev pub first_luma_row : LumaLeaf → ℕ
+first_luma_row leaf = luma_start leaf.y (block_height leaf.bsize) leaf.ydec
 
 -- how far the luma at row r and column c of the leaf's block of chroma is from its mean
 abbrev pub leaf_difference : (ℕ → ℕ → ℕ) → LumaLeaf → ℕ → ℕ → ℤ
 leaf_difference luma leaf r c =
-    luma_difference (λ x y. luma (first_column leaf + x) (first_row leaf + y)) (chroma_block leaf) r c
+    luma_difference (λ x y. luma (first_luma_column leaf + x) (first_luma_row leaf + y)) (chroma_block leaf) r c
 
 -- ---- prediction
 

@@ -14,13 +14,6 @@ use Rattle.av1_intra.specs.Upsampling.{is_upsampled, upsampled}
 use Rattle.av1_intra.specs.declared.neighbours.IntraEdgeFilterParameters.{IntraEdgeFilterParameters}
 use Rattle.av1_intra.specs.declared.directional.DirectionalBlock.{DirectionalBlock}
 
--- how many visible columns and rows the plane has from the region's first sample on
-abbrev pub visible_columns : {T : Type 0} → PlaneRegionMut T → ℕ
-visible_columns r = r.plane_cfg.xorigin + r.plane_cfg.width - r.area.x
-
-abbrev pub visible_rows : {T : Type 0} → PlaneRegionMut T → ℕ
-visible_rows r = r.plane_cfg.yorigin + r.plane_cfg.height - r.area.y
-
 -- the block of w columns and h rows at the first sample of the region r, along the angle p; its sides are filtered
 -- where there are parameters
 abbrev pub block_at : {T : Type 0} → PlaneRegionMut T → ℕ → ℕ → ℕ → ℕ → Option IntraEdgeFilterParameters →
@@ -31,8 +24,8 @@ block_at r p w h depth parameters = record {
   height = h;
   bit_depth = depth;
   smooth_filter = option_map uses_smooth_filter parameters;
-  visible_columns = visible_columns r;
-  visible_rows = visible_rows r;
+  visible_columns = r.plane_cfg.xorigin + r.plane_cfg.width - r.area.x;
+  visible_rows = r.plane_cfg.yorigin + r.plane_cfg.height - r.area.y;
 }
 
 -- the corner and the places after it

@@ -14,7 +14,7 @@ ghost use Rattle.av1_edges.specs.Within.{EdgeIsWithin};
 ghost use Rattle.av1_intra.specs.declared.directional.DirectionalBlock.{DirectionalBlock};
 ghost use Rattle.av1_intra.specs.declared.variant.PredictionVariant.{PredictionVariant};
 ghost use Rattle.av1_intra.specs.declared.luma.LumaLeaf.{LumaLeaf};
-ghost use Rattle.av1_intra.specs.ChromaFromLuma.{chroma_block, columns_read, rows_read, first_column, first_row, leaf_difference};
+ghost use Rattle.av1_intra.specs.ChromaFromLuma.{chroma_block, columns_read, rows_read, first_luma_column, first_luma_row, leaf_difference};
 ghost use Rattle.av1_intra.specs.Predicted.{predicted, variant_at, angle_or_alpha, places_above, places_left};
 
 /// Every entry that a line reads lies on its side, of the corner and as many places as the angle asks for, upsampled or
@@ -47,7 +47,8 @@ pub fn modes_have_angles()
 pub fn luma_differences_fit()
     ensures { (luma : ℕ → ℕ → ℕ) (leaf : LumaLeaf) (r c : ℕ) → leaf.xdec ≤ 1 → leaf.ydec ≤ leaf.xdec → r < (chroma_block leaf).height →
         c < (chroma_block leaf).width
-        → ((x y : ℕ) → x < columns_read (chroma_block leaf) → y < rows_read (chroma_block leaf) → luma (first_column leaf + x) (first_row leaf + y) < 4096)
+        → ((x y : ℕ) → x < columns_read (chroma_block leaf) → y < rows_read (chroma_block leaf) →
+        luma (first_luma_column leaf + x) (first_luma_row leaf + y) < 4096)
         → FitsSigned w16 (leaf_difference luma leaf r c) }
 {}
 

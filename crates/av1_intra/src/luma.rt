@@ -13,7 +13,7 @@ ghost use Rattle.av1_intra.specs.Dc.{mean};
 ghost use Rattle.av1_intra.specs.Sides.{numbers};
 ghost use Rattle.av1_intra.specs.Blocks.{HasLuma, IsChroma};
 ghost use Rattle.av1_intra.specs.ChromaFromLuma.{covered, two_rows, luma_at, luma_difference, leaf_difference, with_rows, columns_read, rows_read, last_begun};
-ghost use Rattle.av1_intra.specs.ChromaFromLuma.{padded_block, chroma_block, first_column, first_row, luma_start, coded_side, averaged_side};
+ghost use Rattle.av1_intra.specs.ChromaFromLuma.{padded_block, chroma_block, first_luma_column, first_luma_row, luma_start, coded_side, averaged_side};
 
 use crate::samples::number_at;
 use av1_blocks::{BlockSize, TxSize};
@@ -304,17 +304,17 @@ fn plane_side(side: usize, decimation: usize) -> usize
 
 impl LumaLeaf {
     /// The first column of luma that its chroma takes.
-    fn first_column(self) -> usize
+    fn first_luma_column(self) -> usize
         requires { IsTrue (is_narrow self.bsize self.xdec) → 4 ≤ self.x }
-        ensures { result ≡ first_column self }
+        ensures { result ≡ first_luma_column self }
     {
         luma_start(self.x, self.bsize.width(), self.xdec)
     }
 
     /// The first row of luma that its chroma takes.
-    fn first_row(self) -> usize
+    fn first_luma_row(self) -> usize
         requires { IsTrue (is_low self.bsize self.ydec) → 4 ≤ self.y }
-        ensures { result ≡ first_row self }
+        ensures { result ≡ first_luma_row self }
     {
         luma_start(self.y, self.bsize.height(), self.ydec)
     }
@@ -333,8 +333,8 @@ impl LumaLeaf {
     fn chroma_block(self, x: usize, y: usize) -> ChromaBlock
         requires xdec { self.xdec ≤ 1 }
         requires ydec { self.ydec ≤ 1 }
-        requires column { x ≡ first_column self }
-        requires row { y ≡ first_row self }
+        requires column { x ≡ first_luma_column self }
+        requires row { y ≡ first_luma_row self }
         ensures value { result ≡ chroma_block self }
         ensures chroma { IsChroma result }
     {
@@ -378,13 +378,13 @@ pub fn leaf_luma_ac<T: Pixel>(ac: &mut [i16], luma: &PlaneRegion<'_, T>, leaf: L
     requires left { IsTrue (is_narrow leaf.bsize leaf.xdec) → 4 ≤ leaf.x }
     requires top { IsTrue (is_low leaf.bsize leaf.ydec) → 4 ≤ leaf.y }
     requires ac_long { (chroma_block leaf).width * (chroma_block leaf).height ≤ length ac.old }
-    requires columns { first_column leaf + columns_read (chroma_block leaf) ≤ luma.now.area.width }
-    requires rows { first_row leaf + rows_read (chroma_block leaf) ≤ luma.now.area.height }
+    requires columns { first_luma_column leaf + columns_read (chroma_block leaf) ≤ luma.now.area.width }
+    requires rows { first_luma_row leaf + rows_read (chroma_block leaf) ≤ luma.now.area.height }
     requires low { (x y : ℕ) → x < columns_read (chroma_block leaf) → y < rows_read (chroma_block leaf)
-        → region_sample T.num luma.now (first_column leaf + x) (first_row leaf + y) < 4096 }
+        → region_sample T.num luma.now (first_luma_column leaf + x) (first_luma_row leaf + y) < 4096 }
     ensures { ac.new ≡ with_rows (chroma_block leaf).width (chroma_block leaf).height (leaf_difference (region_sample T.num luma.now) leaf) ac.old }
 {
-    let (x, y) = (leaf.first_column(), leaf.first_row());
+    let (x, y) = (leaf.first_luma_column(), leaf.first_luma_row());
     let rect = *luma.rect();
     let rest = luma.subregion(Area::Rect {
         x: x as isize,

@@ -1,9 +1,9 @@
 //! The luma that chroma of a leaf takes in a tile.
 
-ghost use Rattle.std.specs.Prelude.{◌≡◌, ℕ, ◌+◌, ◌*◌, ◌^◌, ◌<◌, ◌≤◌, length, take, IsTrue};
+ghost use Rattle.std.specs.Prelude.{◌≡◌, ℕ, ◌+◌, ◌*◌, ◌^◌, ◌<◌, ◌≤◌, length, IsTrue};
 ghost use Rattle.av1_blocks.specs.Chroma.{is_narrow, is_low};
 ghost use Rattle.av1_frame.specs.Regions.{InStorage};
-ghost use Rattle.av1_intra.specs.ChromaFromLuma.{chroma_block, first_column, first_row, columns_read, rows_read, with_rows, leaf_difference};
+ghost use Rattle.av1_intra.specs.ChromaFromLuma.{chroma_block, first_luma_column, first_luma_row, columns_read, rows_read, with_rows, leaf_difference};
 ghost use Rattle.av1_intra.specs.TileLuma.{leaf_in_tile, tile_luma};
 
 use crate::luma::{LumaLeaf, leaf_luma_ac};
@@ -37,16 +37,16 @@ fn leaf_in_tile<T: Pixel>(
 }
 
 /// Puts into `ac`, row by row, how far the luma over each sample of chroma of the leaf at the cell `tile_bo` is from
-/// its mean, in eighths, and gives these entries. The other entries of `ac` stay. See `leaf_luma_ac`, which asks for no
-/// tile.
-pub fn luma_ac<'ac, T: Pixel>(
-    ac: &'ac mut [i16],
+/// its mean, in eighths, and says how many entries these are. The other entries of `ac` stay. See `leaf_luma_ac`, which
+/// asks for no tile.
+pub fn luma_ac<T: Pixel>(
+    ac: &mut [i16],
     ts: &mut TileStateMut<'_, T>,
     tile_bo: TileBlockOffset,
     bsize: BlockSize,
     tx_size: TxSize,
     fi: &FrameInvariants<T>,
-) -> &'ac mut [i16]
+) -> usize
     requires few_columns { fi.now.w_in_b < 2 ^ 32 }
     requires few_rows { fi.now.h_in_b < 2 ^ 32 }
     requires column { tile_bo.0.x < 2 ^ 32 }
@@ -58,16 +58,17 @@ pub fn luma_ac<'ac, T: Pixel>(
     requires top { IsTrue (is_low bsize ts.old.u.plane_cfg.ydec) → 1 ≤ tile_bo.0.y }
     requires ac_long { let b = chroma_block (leaf_in_tile ts.old tile_bo bsize tx_size fi.now) in b.width * b.height ≤ length ac.old }
     requires columns { let leaf = leaf_in_tile ts.old tile_bo bsize tx_size fi.now
-        in first_column leaf + columns_read (chroma_block leaf) ≤ ts.old.y.area.width }
-    requires rows { let leaf = leaf_in_tile ts.old tile_bo bsize tx_size fi.now in first_row leaf + rows_read (chroma_block leaf) ≤ ts.old.y.area.height }
+        in first_luma_column leaf + columns_read (chroma_block leaf) ≤ ts.old.y.area.width }
+    requires rows { let leaf = leaf_in_tile ts.old tile_bo bsize tx_size fi.now in first_luma_row leaf + rows_read (chroma_block leaf) ≤ ts.old.y.area.height }
     requires low { let leaf = leaf_in_tile ts.old tile_bo bsize tx_size fi.now in (x y : ℕ) → x < columns_read (chroma_block leaf) →
         y < rows_read (chroma_block leaf)
-        → tile_luma T.num ts.old.y (first_column leaf + x) (first_row leaf + y) < 4096 }
-    ensures value { let leaf = leaf_in_tile ts.old tile_bo bsize tx_size fi.now in let b = chroma_block leaf in
-        result.now ≡ take (b.width * b.height) (with_rows b.width b.height (leaf_difference (tile_luma T.num ts.old.y) leaf) ac.old) }
+        → tile_luma T.num ts.old.y (first_luma_column leaf + x) (first_luma_row leaf + y) < 4096 }
+    ensures entries { let leaf = leaf_in_tile ts.old tile_bo bsize tx_size fi.now in let b = chroma_block leaf in
+        ac.new ≡ with_rows b.width b.height (leaf_difference (tile_luma T.num ts.old.y) leaf) ac.old }
+    ensures count { let b = chroma_block (leaf_in_tile ts.old tile_bo bsize tx_size fi.now) in result ≡ b.width * b.height }
     ensures stays { ts.new ≡ ts.old }
 {
     let leaf = leaf_in_tile(ts, tile_bo, bsize, tx_size, fi);
     leaf_luma_ac(ac, &ts.y.as_const(), leaf);
-    &mut ac[..leaf.area()]
+    leaf.area()
 }

@@ -6,7 +6,7 @@ use Rattle.av1_plan.specs.declared.error.PlanError.TheVariants as errors
 use Rattle.av1_plan.specs.Format.{Format, start, Reading, read_all}
 use Rattle.av1_plan.specs.Spelling.{AreText, AreRefused, IsSpelled}
 use Rattle.av1_plan.specs.Reading.{Gives}
-use Rattle.av1_plan.specs.Answer.{IfMalformed}
+use Rattle.av1_plan.specs.Values.{IfMalformed}
 use Rattle.av1_plan.proofs.Fields.{AreBytes}
 use Rattle.av1_plan.proofs.Spelled.{all_again, all_found, all_refused, ok, ok_is}
 

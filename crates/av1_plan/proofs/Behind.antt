@@ -7,7 +7,7 @@ use Rattle.av1_plan.specs.declared.error.PlanError.TheVariants as errors
 use Rattle.av1_plan.specs.declared.header.Header.{Header}
 use Rattle.av1_plan.specs.declared.leaves.Leaves.{Leaves}
 use Rattle.av1_plan.specs.declared.plan.Plan.{Plan}
-use Rattle.av1_plan.specs.Answer.{IfMalformed, plan_value}
+use Rattle.av1_plan.specs.Values.{IfMalformed, plan_value}
 use Rattle.av1_plan.specs.Format.{Format, done, asks, ◌>>=◌, width}
 use Rattle.av1_plan.specs.Grammar.{superblocks, plan_behind}
 use Rattle.av1_plan.specs.Plan.{LeafValue, PlanValue}

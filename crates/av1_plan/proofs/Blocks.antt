@@ -5,10 +5,10 @@ use Rattle.av1_plan.specs.declared.header.Header.{Header}
 use Rattle.av1_plan.specs.Format.{Input, read, add, on_ok}
 use Rattle.av1_plan.specs.Geometry.{is_inside}
 use Rattle.av1_plan.specs.Plan.{LeafValue}
-use Rattle.av1_plan.specs.Grammar.{mark, part, parts, block}
+use Rattle.av1_plan.specs.Grammar.{mark, leaf_part, parts, block}
 use Rattle.av1_plan.proofs.Formats.{add_nothing, add_bind}
 
-pub block_leaf : (h : Header) (level x y : ℕ) → level ≡ 0 → block h level x y ≡ part h BLOCK_4X4 x y
+pub block_leaf : (h : Header) (level x y : ℕ) → level ≡ 0 → block h level x y ≡ leaf_part h BLOCK_4X4 x y
 unfolding block
 block_leaf h zero x y e = refl
 block_leaf h (suc level) x y e = absurd (omega arith)

@@ -16,11 +16,12 @@ use Rattle.av1_blocks.specs.Blocks.{block_width, block_height}
 use Rattle.av1_plan.specs.declared.header.Header.{Header}
 use Rattle.av1_plan.specs.declared.leaf.LeafKind.TheVariants.{Intra}
 use Rattle.av1_plan.specs.declared.plan.Plan.{Plan}
-use Rattle.av1_plan.specs.Answer.{plan_value}
+use Rattle.av1_plan.specs.Values.{plan_value}
 use Rattle.av1_plan.specs.CodingOrder.{cells_of, placed, AreInCodingOrder}
 use Rattle.av1_plan.specs.Format.{Format, ◌++>◌, lone, in_turn}
 use Rattle.av1_plan.specs.Geometry.{is_inside}
-use Rattle.av1_plan.specs.Grammar.{leaf, half_side, quarter_side, whole_size, part_size, part, mark, wide_stripes, tall_stripes, parts, block, superblock_row}
+use Rattle.av1_plan.specs.Grammar.{leaf, half_side, quarter_side, whole_size, part_size, leaf_part, mark, wide_stripes, tall_stripes, parts, block}
+use Rattle.av1_plan.specs.Grammar.{superblock_row}
 use Rattle.av1_plan.specs.Grammar.{superblocks, plan}
 use Rattle.av1_plan.specs.Plan.{LeafValue, PlanValue}
 use Rattle.av1_plan.specs.Spelling.{IsSpelled}
@@ -77,9 +78,9 @@ module _ {A : Type 0} (filler : A) (code : LeafValue → A) (h : Header) (column
   join xs ys zs ps qs e f is = rw (e, f) (sym (map-append (placed code) xs ys) ∙ ap places is)
 
   -- a leaf of its part, if there is one
-  part_tree : (size : BlockSize) (w d x y : ℕ) (ls : List LeafValue) → HasCells size w d → IsSpelled (part h size (4 * x) (4 * y)) ls →
+  part_tree : (size : BlockSize) (w d x y : ℕ) (ls : List LeafValue) → HasCells size w d → IsSpelled (leaf_part h size (4 * x) (4 * y)) ls →
       (a : A) × (part_leaves columns rows x y w d a ≡ places ls)
-  unfolding part
+  unfolding leaf_part
   part_tree size w d x y ls cells s = elim (spelled_where (is_inside h (4 * x) (4 * y)) (lone (leaf h size (4 * x) (4 * y))) ls s) [
     | inl (within, t) ↦
         let (l, l_spelled, is) = spelled_lone (leaf h size (4 * x) (4 * y)) ls t in
@@ -118,8 +119,8 @@ module _ {A : Type 0} (filler : A) (code : LeafValue → A) (h : Header) (column
       let size = part_size (suc (suc k)) PARTITION_HORZ_4 in
       let cells = wide_stripe_cells k le in
       let t = rw (behind_quarter k y, behind_quarters 2 k y, behind_quarters 3 k y) at s in
-      let four = spelled_four (part h size (4 * x) (4 * y)) (part h size (4 * x) (4 * (y + n))) (part h size (4 * x) (4 * (y + 2 * n)))
-      (part h size (4 * x) (4 * (y + 3 * n))) ls t in
+      let four = spelled_four (leaf_part h size (4 * x) (4 * y)) (leaf_part h size (4 * x) (4 * (y + n))) (leaf_part h size (4 * x) (4 * (y + 2 * n)))
+      (leaf_part h size (4 * x) (4 * (y + 3 * n))) ls t in
       let (a, a_is) = part_tree size (4 * n) n x y four.first cells four.first_spelled in
       let (b, b_is) = part_tree size (4 * n) n x (y + n) four.second cells four.second_spelled in
       let (c, c_is) = part_tree size (4 * n) n x (y + 2 * n) four.third cells four.third_spelled in
@@ -139,8 +140,8 @@ module _ {A : Type 0} (filler : A) (code : LeafValue → A) (h : Header) (column
       let size = part_size (suc (suc k)) PARTITION_VERT_4 in
       let cells = tall_stripe_cells k le in
       let t = rw (behind_quarter k x, behind_quarters 2 k x, behind_quarters 3 k x) at s in
-      let four = spelled_four (part h size (4 * x) (4 * y)) (part h size (4 * (x + n)) (4 * y)) (part h size (4 * (x + 2 * n)) (4 * y))
-      (part h size (4 * (x + 3 * n)) (4 * y)) ls t in
+      let four = spelled_four (leaf_part h size (4 * x) (4 * y)) (leaf_part h size (4 * (x + n)) (4 * y)) (leaf_part h size (4 * (x + 2 * n)) (4 * y))
+      (leaf_part h size (4 * (x + 3 * n)) (4 * y)) ls t in
       let (a, a_is) = part_tree size n (4 * n) x y four.first cells four.first_spelled in
       let (b, b_is) = part_tree size n (4 * n) (x + n) y four.second cells four.second_spelled in
       let (c, c_is) = part_tree size n (4 * n) (x + 2 * n) y four.third cells four.third_spelled in
@@ -181,14 +182,14 @@ module _ {A : Type 0} (filler : A) (code : LeafValue → A) (h : Header) (column
   parts_tree k x y PARTITION_HORZ ls le cut_in part_of s =
       let size = part_size (suc k) PARTITION_HORZ in
       let t = rw (behind_half k y) at s in
-      let (xs, ys, xs_spelled, ys_spelled, is) = spelled_both (part h size (4 * x) (4 * y)) (part h size (4 * x) (4 * (y + 2 ^ k))) ls t in
+      let (xs, ys, xs_spelled, ys_spelled, is) = spelled_both (leaf_part h size (4 * x) (4 * y)) (leaf_part h size (4 * x) (4 * (y + 2 ^ k))) ls t in
       let (a, a_is) = part_tree size (2 * 2 ^ k) (2 ^ k) x y xs (wide_cells k le) xs_spelled in
       let (b, b_is) = part_tree size (2 * 2 ^ k) (2 ^ k) x (y + 2 ^ k) ys (wide_cells k le) ys_spelled in
       (horz a b, join xs ys ls _ _ a_is b_is is)
   parts_tree k x y PARTITION_VERT ls le cut_in part_of s =
       let size = part_size (suc k) PARTITION_VERT in
       let t = rw (behind_half k x) at s in
-      let (xs, ys, xs_spelled, ys_spelled, is) = spelled_both (part h size (4 * x) (4 * y)) (part h size (4 * (x + 2 ^ k)) (4 * y)) ls t in
+      let (xs, ys, xs_spelled, ys_spelled, is) = spelled_both (leaf_part h size (4 * x) (4 * y)) (leaf_part h size (4 * (x + 2 ^ k)) (4 * y)) ls t in
       let (a, a_is) = part_tree size (2 ^ k) (2 * 2 ^ k) x y xs (tall_cells k le) xs_spelled in
       let (b, b_is) = part_tree size (2 ^ k) (2 * 2 ^ k) (x + 2 ^ k) y ys (tall_cells k le) ys_spelled in
       (vert a b, join xs ys ls _ _ a_is b_is is)

@@ -8,7 +8,7 @@ use Rattle.av1_blocks.specs.declared.mc.FilterMode.{FilterMode}
 use Rattle.av1_blocks.specs.declared.mc.FilterMode.TheVariants.{REGULAR}
 use Rattle.av1_blocks.specs.Filters.{filter_number}
 use Rattle.av1_plan.specs.declared.header.Header.{Header}
-use Rattle.av1_plan.specs.declared.planes.Planes.{Planes}
+use Rattle.av1_plan.specs.declared.planes.SlotPlanes.{SlotPlanes}
 use Rattle.av1_plan.specs.Format.{one, two, any, Kind, Format, done, asks, ◌>>=◌, IsAdmitted, field, lone, ◌++>◌, in_turn}
 use Rattle.av1_plan.specs.Geometry.{plane_len, has_slot}
 use Rattle.av1_plan.specs.Grammar.{where_, byte_from, is_side, is_depth, version, slots, frame, header, sample, plane, reference, slot_planes, references, plan}
@@ -305,20 +305,20 @@ slots_spelled h listed depth eight are =
         (subst (IsSpelled (slot_planes h k)) (get_or_default listed k None d lt) s)
 
 -- slots in memory
-listed_slot : (h : Header) (slot : ℕ) (o : Option Planes) → IsStoredSlot h slot o → IsListedSlot h slot (slot_value o)
+listed_slot : (h : Header) (slot : ℕ) (o : Option SlotPlanes) → IsStoredSlot h slot o → IsListedSlot h slot (slot_value o)
 listed_slot h slot (Some planes) is =
     (is.0, record { y = planes.y.items; u = planes.u.items; v = planes.v.items; are = refl; y_is = is.1; u_is = is.2; v_is = is.3 })
 listed_slot h slot None is = is
 
-listed_slots : (h : Header) (stored : List (Option Planes)) → length stored ≡ 8 → AreStoredSlots h stored 8 → AreListedSlots h (slot_values stored)
+listed_slots : (h : Header) (stored : List (Option SlotPlanes)) → length stored ≡ 8 → AreStoredSlots h stored 8 → AreListedSlots h (slot_values stored)
 listed_slots h stored eight are s lt =
     subst (IsListedSlot h s) (sym (get_or-map slot_value stored s None None (omega (arith, lt, eight))))
     (listed_slot h s (slice_index_or stored s None) (are s lt))
 
-pub stored_present : (h : Header) (stored : List (Option Planes)) (n : ℕ) → AreStoredSlots h stored n → ArePresent h stored n
+pub stored_present : (h : Header) (stored : List (Option SlotPlanes)) (n : ℕ) → AreStoredSlots h stored n → ArePresent h stored n
 stored_present h stored n are s lt = present (slice_index_or stored s None) (are s lt)
   where
-    present : (o : Option Planes) → IsStoredSlot h s o → is_some o ≡ has_slot h s
+    present : (o : Option SlotPlanes) → IsStoredSlot h s o → is_some o ≡ has_slot h s
     present (Some planes) is = sym is.0
     present None is = sym is
 
@@ -331,7 +331,7 @@ plan_listed h listed p is eight are behind =
     bind_spelled header _ h p (header_spelled h is)
     (bind_spelled (references h) _ listed p (slots_spelled h listed is.depth eight are) behind)
 
-pub plan_spelled : (h : Header) (stored : List (Option Planes)) (p : PlanValue) → IsReadFrame h → length stored ≡ 8 → AreStoredSlots h stored 8 →
+pub plan_spelled : (h : Header) (stored : List (Option SlotPlanes)) (p : PlanValue) → IsReadFrame h → length stored ≡ 8 → AreStoredSlots h stored 8 →
     IsSpelled (plan_behind h (slot_values stored)) p → IsSpelled plan p
 plan_spelled h stored p is eight are behind =
     plan_listed h (slot_values stored) p is (length-map stored slot_value ∙ eight) (listed_slots h stored eight are) behind

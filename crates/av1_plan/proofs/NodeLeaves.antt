@@ -11,7 +11,8 @@ use Rattle.av1_blocks.specs.Blocks.{block_width, block_height}
 use Rattle.av1_plan.specs.declared.header.Header.{Header}
 use Rattle.av1_plan.specs.Format.{Format, ◌++>◌, lone, in_turn}
 use Rattle.av1_plan.specs.Geometry.{is_inside}
-use Rattle.av1_plan.specs.Grammar.{leaf, half_side, quarter_side, whole_size, part_size, part, mark, wide_stripes, tall_stripes, parts, block, superblock_row}
+use Rattle.av1_plan.specs.Grammar.{leaf, half_side, quarter_side, whole_size, part_size, leaf_part, mark, wide_stripes, tall_stripes, parts, block}
+use Rattle.av1_plan.specs.Grammar.{superblock_row}
 use Rattle.av1_plan.specs.Grammar.{superblocks}
 use Rattle.av1_plan.specs.Plan.{LeafValue}
 use Rattle.av1_plan.specs.Spelling.{IsSpelled}
@@ -214,8 +215,8 @@ module _ (h : Header) (P : LeafValue → Type 0) (each : (size : BlockSize) (x y
       subst (All P) is (All-append P xs ys (front xs xs_spelled) (behind ys ys_spelled))
 
   all_part : (size : BlockSize) (columns rows x y : ℕ) (ls : List LeafValue) → HasCells size columns rows → IsShaped h columns rows x y → IsOn columns x →
-      IsOn rows y → IsSpelled (part h size (4 * x) (4 * y)) ls → All P ls
-  unfolding part
+      IsOn rows y → IsSpelled (leaf_part h size (4 * x) (4 * y)) ls → All P ls
+  unfolding leaf_part
   all_part size columns rows x y ls cells shaped at_x at_y s = elim (spelled_where (is_inside h (4 * x) (4 * y)) (lone (leaf h size (4 * x) (4 * y))) ls s) [
     | inl (within, t) ↦
         let (l, l_spelled, is) = spelled_lone (leaf h size (4 * x) (4 * y)) ls t in
@@ -272,8 +273,8 @@ module _ (h : Header) (P : LeafValue → Type 0) (each : (size : BlockSize) (x y
       let wide = quarter_on k x at_x in
       let (first, second, third, fourth) = quarters (2 ^ k) y (quarter_on k y at_y) in
       let t = rw (behind_quarter k y, behind_quarters 2 k y, behind_quarters 3 k y) at s in
-      all_four (part h size (4 * x) (4 * y)) (part h size (4 * x) (4 * (y + n))) (part h size (4 * x) (4 * (y + 2 * n)))
-      (part h size (4 * x) (4 * (y + 3 * n))) ls
+      all_four (leaf_part h size (4 * x) (4 * y)) (leaf_part h size (4 * x) (4 * (y + n))) (leaf_part h size (4 * x) (4 * (y + 2 * n)))
+      (leaf_part h size (4 * x) (4 * (y + 3 * n))) ls
       (λ zs. all_part size (4 * n) n x y zs cells (inr (record { version = is.version; right = omega (arith, right); below = omega (arith, below) })) wide
       first)
       (λ zs. all_part size (4 * n) n x (y + n) zs cells (inr (record { version = is.version; right = omega (arith, right); below = omega (arith, below) })) wide
@@ -296,8 +297,8 @@ module _ (h : Header) (P : LeafValue → Type 0) (each : (size : BlockSize) (x y
       let tall = quarter_on k y at_y in
       let (first, second, third, fourth) = quarters (2 ^ k) x (quarter_on k x at_x) in
       let t = rw (behind_quarter k x, behind_quarters 2 k x, behind_quarters 3 k x) at s in
-      all_four (part h size (4 * x) (4 * y)) (part h size (4 * (x + n)) (4 * y)) (part h size (4 * (x + 2 * n)) (4 * y))
-      (part h size (4 * (x + 3 * n)) (4 * y)) ls
+      all_four (leaf_part h size (4 * x) (4 * y)) (leaf_part h size (4 * (x + n)) (4 * y)) (leaf_part h size (4 * (x + 2 * n)) (4 * y))
+      (leaf_part h size (4 * (x + 3 * n)) (4 * y)) ls
       (λ zs. all_part size n (4 * n) x y zs cells (inr (record { version = is.version; right = omega (arith, right); below = omega (arith, below) })) first
       tall)
       (λ zs. all_part size n (4 * n) (x + n) y zs cells (inr (record { version = is.version; right = omega (arith, right); below = omega (arith, below) }))
@@ -318,7 +319,7 @@ module _ (h : Header) (P : LeafValue → Type 0) (each : (size : BlockSize) (x y
       let cells = wide_cells k le in
       let (upper, lower) = both_halves k y at_y in
       let t = rw (behind_half k y) at s in
-      all_both (part h (part_size (suc k) PARTITION_HORZ) (4 * x) (4 * y)) (part h (part_size (suc k) PARTITION_HORZ) (4 * x) (4 * (y + 2 ^ k))) ls
+      all_both (leaf_part h (part_size (suc k) PARTITION_HORZ) (4 * x) (4 * y)) (leaf_part h (part_size (suc k) PARTITION_HORZ) (4 * x) (4 * (y + 2 ^ k))) ls
       (λ xs a. all_part (part_size (suc k) PARTITION_HORZ) (2 * 2 ^ k) (2 ^ k) x y xs cells (inl (near_wide k)) wide upper a)
       (λ ys b. all_part (part_size (suc k) PARTITION_HORZ) (2 * 2 ^ k) (2 ^ k) x (y + 2 ^ k) ys cells (inl (near_wide k)) wide lower b) t
   all_parts k x y PARTITION_VERT ls le at_x at_y is node s =
@@ -326,7 +327,7 @@ module _ (h : Header) (P : LeafValue → Type 0) (each : (size : BlockSize) (x y
       let cells = tall_cells k le in
       let (left, right) = both_halves k x at_x in
       let t = rw (behind_half k x) at s in
-      all_both (part h (part_size (suc k) PARTITION_VERT) (4 * x) (4 * y)) (part h (part_size (suc k) PARTITION_VERT) (4 * (x + 2 ^ k)) (4 * y)) ls
+      all_both (leaf_part h (part_size (suc k) PARTITION_VERT) (4 * x) (4 * y)) (leaf_part h (part_size (suc k) PARTITION_VERT) (4 * (x + 2 ^ k)) (4 * y)) ls
       (λ xs a. all_part (part_size (suc k) PARTITION_VERT) (2 ^ k) (2 * 2 ^ k) x y xs cells (inl (near_tall k)) left tall a)
       (λ ys b. all_part (part_size (suc k) PARTITION_VERT) (2 ^ k) (2 * 2 ^ k) (x + 2 ^ k) y ys cells (inl (near_tall k)) right tall b) t
   all_parts k x y PARTITION_HORZ_4 ls le at_x at_y is node s = all_wide_stripes k x y ls le at_x at_y (striped_is h (suc k) (4 * x) (4 * y) (is refl)) s

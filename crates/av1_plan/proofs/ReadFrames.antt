@@ -6,7 +6,7 @@ use Rattle.std.proofs.lemmas.Bool.{eqb-true, leb-true, and_parts, or_cases}
 use Rattle.std.proofs.lemmas.List.Elements.{All-nil, All-cons}
 use Rattle.av1_plan.specs.declared.header.Header.{Header}
 use Rattle.av1_plan.specs.Format.{IsAdmitted}
-use Rattle.av1_plan.specs.Grammar.{byte_from, version_of, version, is_side, is_depth, slots, frame, header, references, superblocks, plan}
+use Rattle.av1_plan.specs.Grammar.{byte_from, version_of, version, is_side, is_depth, slots, frame, header, references, superblocks, plan, plan_behind}
 use Rattle.av1_plan.specs.Plan.{PlanValue}
 use Rattle.av1_plan.specs.ReadPlans.{IsSide, AreSlots, IsReadFrame}
 use Rattle.av1_plan.specs.Spelling.{IsSpelled}
@@ -107,7 +107,7 @@ pub record HasPieces (p : PlanValue) : Type 0 where
   pub leaves : IsSpelled (superblocks p.header) p.leaves
 
 pub plan_pieces : (p : PlanValue) → IsSpelled plan p → HasPieces p
-unfolding plan
+unfolding plan plan_behind
 plan_pieces p s =
     let (h, h_spelled, s1) = spelled_bind header _ p s in
     let (slots, slots_spelled, s2) = spelled_bind (references h) _ p s1 in

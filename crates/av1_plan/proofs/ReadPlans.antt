@@ -16,11 +16,11 @@ use Rattle.av1_plan.specs.declared.leaf.ChromaMode.TheVariants.{Plain, Cfl}
 use Rattle.av1_plan.specs.declared.leaf.LeafKind.{LeafKind}
 use Rattle.av1_plan.specs.declared.leaf.LeafKind.TheVariants.{Intra, Single, Compound}
 use Rattle.av1_plan.specs.declared.plan.Plan.{Plan}
-use Rattle.av1_plan.specs.declared.planes.Planes.{Planes as StoredPlanes}
-use Rattle.av1_plan.specs.Answer.{plan_value}
+use Rattle.av1_plan.specs.declared.planes.SlotPlanes.{SlotPlanes as StoredPlanes}
+use Rattle.av1_plan.specs.Values.{plan_value}
 use Rattle.av1_plan.specs.CodingOrder.{IsOnGrid, IsQuarterInside, IsTwoToOne}
 use Rattle.av1_plan.specs.Grammar.{is_depth, plan}
-use Rattle.av1_plan.specs.Plan.{LeafValue, PlanValue, slot_value, slot_values, planes_value, reference_of}
+use Rattle.av1_plan.specs.Plan.{LeafValue, PlanValue, slot_value, slot_values, planes_value, carried_plane}
 use Rattle.av1_plan.specs.ReadPlans.{IsSide, AreSlots, IsReadFrame, ArePlane, IsReadReference, IsReadChroma, IsReadKind, AreThree, IsReadLeaf}
 use Rattle.av1_plan.specs.Spelling.{IsSpelled}
 use Rattle.av1_plan.proofs.NodeLeaves.{all_leaves}
@@ -153,7 +153,7 @@ read_frame p = kept_frame (plan_value p) p.spelled
 pub read_leaves : (p : Plan) → All (IsReadLeaf p.header) (plan_value p).leaves
 read_leaves p = kept_leaves (plan_value p) p.spelled
 
-pub read_references : (p : Plan) (slot c : ℕ) → slot < 8 → c < 3 → IsReadReference p.header slot c (reference_of (plan_value p) slot c)
+pub read_references : (p : Plan) (slot c : ℕ) → slot < 8 → c < 3 → IsReadReference p.header slot c (carried_plane (plan_value p) slot c)
 read_references p slot c slot_in lt =
     ∥∥₁_elim p.spelled (planes p.header slot c _) (λ s. references_are (plan_value p) slot c (plan_pieces (plan_value p) s).references slot_in lt)
 
@@ -167,6 +167,6 @@ pub stored_planes : (slots : List (Option StoredPlanes)) (slot : ℕ) (o : Optio
 stored_planes slots slot o planes lt at is = get_or-map slot_value slots slot o None lt ∙ ap slot_value (sym at ∙ is)
 
 -- the samples of a slot, where it has some
-pub read_samples : (p : Plan) (slot c : ℕ) (samples : List ℕ) → slot < 8 → c < 3 → reference_of (plan_value p) slot c ≡ Some samples →
+pub read_samples : (p : Plan) (slot c : ℕ) (samples : List ℕ) → slot < 8 → c < 3 → carried_plane (plan_value p) slot c ≡ Some samples →
     ArePlane p.header c samples
 read_samples p slot c samples slot_in lt e = samples_of p.header slot c _ samples e (read_references p slot c slot_in lt)

@@ -8,8 +8,8 @@ use Rattle.av1_plan.specs.declared.header.Header.{Header}
 use Rattle.av1_plan.specs.Format.{one, two, any, Format, done, ◌>>=◌, IsAdmitted, field, lone, in_turn}
 use Rattle.av1_plan.specs.Geometry.{plane_len, has_slot}
 use Rattle.av1_plan.specs.Grammar.{where_, sample, plane, reference, slot_planes, references}
-use Rattle.av1_plan.specs.declared.planes.Planes.{Planes}
-use Rattle.av1_plan.specs.Plan.{PlanValue, reference_of, slot_value, slot_values}
+use Rattle.av1_plan.specs.declared.planes.SlotPlanes.{SlotPlanes}
+use Rattle.av1_plan.specs.Plan.{PlanValue, carried_plane, slot_value, slot_values}
 use Rattle.av1_plan.specs.ReadPlans.{ArePlane, IsReadReference, IsStoredSlot, AreStoredSlots}
 use Rattle.av1_plan.specs.Spelling.{IsSpelled}
 use Rattle.av1_plan.proofs.Pieces.{spelled_done, spelled_asks, spelled_bind, spelled_lone, spelled_no_turn, spelled_turn}
@@ -89,7 +89,7 @@ three_planes h slot (suc (suc zero)) planes lt are = are.v
 three_planes h slot (suc (suc (suc p))) planes lt are = absurd (omega arith)
 
 plane_read : (p : PlanValue) (slot c : ℕ) (o : Option (List (List ℕ))) → c < 3 → slice_index_or p.references slot None ≡ o → IsReadSlot p.header slot o →
-    IsReadReference p.header slot c (reference_of p slot c)
+    IsReadReference p.header slot c (carried_plane p slot c)
 plane_read p slot c (Some planes) lt e (carried, are) = rw e (carried, three_planes p.header slot c planes lt are)
 plane_read p slot c None lt e is = rw e is
 
@@ -98,7 +98,7 @@ zero-add n = omega arith
 
 -- the planes of the eight slots
 pub references_are : (p : PlanValue) (slot c : ℕ) → IsSpelled (references p.header) p.references → slot < 8 → c < 3 →
-    IsReadReference p.header slot c (reference_of p slot c)
+    IsReadReference p.header slot c (carried_plane p slot c)
 unfolding references
 references_are p slot c s slot_in lt =
     let are = are_in_turn (slot_planes p.header) 0 8 p.references s in
@@ -107,12 +107,13 @@ references_are p slot c s slot_in lt =
     (subst (λ (n : ℕ). IsSpelled (slot_planes p.header n) (slice_index_or p.references slot None)) (zero-add slot) (are.each slot None slot_in)) in
     plane_read p slot c _ lt refl read
 
-stored_by : (h : Header) (slot : ℕ) (o : Option Planes) → IsReadSlot h slot (slot_value o) → IsStoredSlot h slot o
+stored_by : (h : Header) (slot : ℕ) (o : Option SlotPlanes) → IsReadSlot h slot (slot_value o) → IsStoredSlot h slot o
 stored_by h slot (Some planes) is = (is.0, is.1.y, is.1.u, is.1.v)
 stored_by h slot None is = is
 
 -- the eight slots in memory
-pub stored_are : (h : Header) (stored : List (Option Planes)) → length stored ≡ 8 → IsSpelled (references h) (slot_values stored) → AreStoredSlots h stored 8
+pub stored_are : (h : Header) (stored : List (Option SlotPlanes)) → length stored ≡ 8 → IsSpelled (references h) (slot_values stored) →
+    AreStoredSlots h stored 8
 unfolding references
 stored_are h stored eight s slot lt =
     let are = are_in_turn (slot_planes h) 0 8 (slot_values stored) s in

@@ -15,8 +15,10 @@ use Rattle.av1_plan.specs.declared.header.Header.{Header}
 use Rattle.av1_plan.specs.CodingOrder.{IsTwoToOne}
 use Rattle.av1_plan.specs.Format.{Format, done, asks, ◌>>=◌, one, width, lone, ◌++>◌}
 use Rattle.av1_plan.specs.Geometry.{xdec, ydec, plane_width, plane_height, has_slot, is_inside, carries_chroma}
-use Rattle.av1_plan.specs.Grammar.{is_magic, version_of, version, slots, frame, header, reference, slot_planes, references, leaf, quarter_side, part_size, part}
+use Rattle.av1_plan.specs.Grammar.{is_magic, version_of, version, slots, frame, header, reference, slot_planes, references, leaf, quarter_side, part_size}
+use Rattle.av1_plan.specs.Grammar.{leaf_part}
 use Rattle.av1_plan.specs.Grammar.{cut_by, admits_stripes, is_mark, mark, wide_stripes, tall_stripes, parts, block, superblock_row, superblocks, plan}
+use Rattle.av1_plan.specs.Grammar.{plan_behind}
 use Rattle.av1_plan.specs.Plan.{LeafValue, PlanValue}
 use Rattle.av1_plan.specs.Spelling.{Spells, IsSpelled, text, AreText}
 use Rattle.av1_plan.specs.Versions.{header_in, plan_in, SecondKeepsFirst, FirstHasRest}
@@ -36,8 +38,8 @@ inside_same : (n : ℕ) (h : Header) (x y : ℕ) → is_inside h x y ≡ is_insi
 unfolding is_inside
 inside_same n h x y = refl
 
-part_same : (n : ℕ) (h : Header) (size : BlockSize) (x y : ℕ) → part h size x y ≡ part (header_in n h) size x y
-unfolding part leaf is_inside carries_chroma xdec ydec
+part_same : (n : ℕ) (h : Header) (size : BlockSize) (x y : ℕ) → leaf_part h size x y ≡ leaf_part (header_in n h) size x y
+unfolding leaf_part leaf is_inside carries_chroma xdec ydec
 part_same n h size x y = refl
 
 -- ---- what stands behind the header
@@ -54,7 +56,7 @@ Permits P n h =
     → Spells (parts h (suc k) (block h k) x y (cut_by v)) ws ls → P ls → is_mark (header_in n h) (suc k) x y v ≡ true
 
 module _ (P : List LeafValue → Type 0) (split : (xs ys : List LeafValue) → P (xs ++ ys) → P xs × P ys) (n : ℕ) (h : Header) (permits : Permits P n h) where
-  part_taken : (size : BlockSize) (x y : ℕ) → TakesOverList P split (part h size x y) (part (header_in n h) size x y)
+  part_taken : (size : BlockSize) (x y : ℕ) → TakesOverList P split (leaf_part h size x y) (leaf_part (header_in n h) size x y)
   part_taken size x y = takes_over_same P _ _ (part_same n h size x y)
 
   four_taken : (f g k m f_2 g_2 k_2 m_2 : Format (List LeafValue)) → TakesOverList P split f f_2 → TakesOverList P split g g_2 → TakesOverList P split k k_2 →
@@ -231,7 +233,7 @@ module _ (P : List LeafValue → Type 0) (split : (xs ys : List LeafValue) → P
     (new_is : AreLetters n new)
     (permits : (h : Header) → h.version ≡ m → Permits P n h) where
   text_in : (rest : List ℕ) (p : PlanValue) → AreText plan (old ++ rest) p → P p.leaves → (p.header.version ≡ m) × AreText plan (new ++ rest) (plan_in n p)
-  unfolding plan header
+  unfolding plan plan_behind header
   text_in rest p (vs, s, e) holds =
       let top = apart header Rest p vs s in
       let h = top.between in
@@ -287,9 +289,9 @@ second_keeps_first rest p t =
 -- ---- no stripes where no side is more than twice the other
 
 -- a part in the frame is one leaf of its size
-one_leaf : (h : Header) (size : BlockSize) (x y : ℕ) (ls : List LeafValue) → is_inside h x y ≡ true → IsSpelled (part h size x y) ls →
+one_leaf : (h : Header) (size : BlockSize) (x y : ℕ) (ls : List LeafValue) → is_inside h x y ≡ true → IsSpelled (leaf_part h size x y) ls →
     (l : LeafValue) × (l.size ≡ size) × (l ∷ [] ≡ ls)
-unfolding part
+unfolding leaf_part
 one_leaf h size x y ls within s = elim (spelled_where (is_inside h x y) (lone (leaf h size x y)) ls s) [
   | inl (_, t) ↦
       let (l, l_spelled, is) = spelled_lone (leaf h size x y) ls t in
@@ -303,10 +305,10 @@ one_leaf h size x y ls within s = elim (spelled_where (is_inside h x y) (lone (l
 
 -- the first of four parts has such a leaf
 first_is_two_to_one : (h : Header) (size : BlockSize) (x y : ℕ) (f g k : Format (List LeafValue)) (ls : List LeafValue) → is_inside h x y ≡ true →
-    IsSpelled (part h size x y ++> f ++> g ++> k) ls → All IsTwoToOne ls
+    IsSpelled (leaf_part h size x y ++> f ++> g ++> k) ls → All IsTwoToOne ls
     → (block_width size ≤ 2 * block_height size) × (block_height size ≤ 2 * block_width size)
 first_is_two_to_one h size x y f g k ls within s all =
-    let four = spelled_four (part h size x y) f g k ls s in
+    let four = spelled_four (leaf_part h size x y) f g k ls s in
     let whole : All IsTwoToOne (four.first ++ four.second ++ four.third ++ four.fourth) = subst (All IsTwoToOne) (sym four.are) all in
     let three = (all_apart IsTwoToOne (four.first ++ four.second ++ four.third) four.fourth whole).0 in
     let two = (all_apart IsTwoToOne (four.first ++ four.second) four.third three).0 in

@@ -279,8 +279,8 @@ abbrev pub inside : Header → ℕ → ℕ → Format (List LeafValue) → Forma
 inside h x y f = if is_inside h x y then f else nothing
 
 -- a part that is a leaf
-unfoldable pub part : Header → BlockSize → ℕ → ℕ → Format (List LeafValue)
-part h size x y = inside h x y (lone (leaf h size x y))
+unfoldable pub leaf_part : Header → BlockSize → ℕ → ℕ → Format (List LeafValue)
+leaf_part h size x y = inside h x y (lone (leaf h size x y))
 
 -- how a node is cut, by its mark
 unfoldable pub cut_by : ℕ → PartitionType
@@ -309,20 +309,24 @@ mark h level x y = do
 -- four leaves of this size, each `side` samples below the one before
 unfoldable pub wide_stripes : Header → BlockSize → (side x y : ℕ) → Format (List LeafValue)
 wide_stripes h size side x y =
-    part h size x y ++> part h size x (y + side) ++> part h size x (y + 2 * side) ++> part h size x (y + 3 * side)
+    leaf_part h size x y ++> leaf_part h size x (y + side) ++> leaf_part h size x (y + 2 * side) ++> leaf_part h
+    size x (y + 3 * side)
 
 -- four leaves of this size, each `side` samples to the right of the one before
 unfoldable pub tall_stripes : Header → BlockSize → (side x y : ℕ) → Format (List LeafValue)
 tall_stripes h size side x y =
-    part h size x y ++> part h size (x + side) y ++> part h size (x + 2 * side) y ++> part h size (x + 3 * side) y
+    leaf_part h size x y ++> leaf_part h size (x + side) y ++> leaf_part h size (x + 2 * side) y ++> leaf_part h
+    size (x + 3 * side) y
 
 -- the parts of a node of this level that is cut so, where node gives the part of half the side at a place
 unfoldable pub parts : Header → ℕ → (ℕ → ℕ → Format (List LeafValue)) → ℕ → ℕ → PartitionType → Format (List LeafValue)
-parts h level node x y PARTITION_NONE = part h (whole_size level) x y
+parts h level node x y PARTITION_NONE = leaf_part h (whole_size level) x y
 parts h level node x y PARTITION_HORZ =
-    part h (part_size level PARTITION_HORZ) x y ++> part h (part_size level PARTITION_HORZ) x (y + half_side level)
+    leaf_part h (part_size level PARTITION_HORZ) x y ++> leaf_part h (part_size level PARTITION_HORZ) x
+    (y + half_side level)
 parts h level node x y PARTITION_VERT =
-    part h (part_size level PARTITION_VERT) x y ++> part h (part_size level PARTITION_VERT) (x + half_side level) y
+    leaf_part h (part_size level PARTITION_VERT) x y ++> leaf_part h (part_size level PARTITION_VERT)
+    (x + half_side level) y
 parts h level node x y PARTITION_HORZ_4 = wide_stripes h (part_size level PARTITION_HORZ_4) (quarter_side level) x y
 parts h level node x y PARTITION_VERT_4 = tall_stripes h (part_size level PARTITION_VERT_4) (quarter_side level) x y
 parts h level node x y _ =
@@ -331,7 +335,7 @@ parts h level node x y _ =
 
 -- a part of side 4 * 2 ^ level: a 4x4 leaf at level 0, else a node
 unfoldable pub block : Header → ℕ → ℕ → ℕ → Format (List LeafValue)
-block h zero x y = part h BLOCK_4X4 x y
+block h zero x y = leaf_part h BLOCK_4X4 x y
 block h (suc level) x y = inside h x y (do
   partition ← mark h (suc level) x y
   parts h (suc level) (block h level) x y partition)
@@ -357,5 +361,4 @@ unfoldable pub plan : Format PlanValue
 plan = do
   header ← header
   references ← references header
-  leaves ← superblocks header
-  done (record { header = header; references = references; leaves = leaves })
+  plan_behind header references

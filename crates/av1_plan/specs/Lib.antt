@@ -10,7 +10,7 @@ pub mod Validity
 pub mod Grammar
 pub mod Reading
 pub mod Parsing
-pub mod Answer
+pub mod Values
 pub mod Versions
 pub mod Pieces
 pub mod Lengths

@@ -8,7 +8,7 @@ use Rattle.av1_plan.specs.declared.header.Header.{Header}
 use Rattle.av1_plan.specs.declared.leaf.Triple.{Triple}
 use Rattle.av1_plan.specs.declared.leaf.LeafKind.{LeafKind}
 use Rattle.av1_plan.specs.declared.leaf.Leaf.{Leaf}
-use Rattle.av1_plan.specs.declared.planes.Planes.{Planes}
+use Rattle.av1_plan.specs.declared.planes.SlotPlanes.{SlotPlanes}
 use Rattle.av1_plan.specs.Geometry.{has_slot}
 
 -- a leaf: its place in luma samples, its size, how it is predicted and transformed, and for each of Y, U and V its
@@ -40,8 +40,8 @@ abbrev pub triples_of : PlanValue → ℕ → ℕ → List Triple
 triples_of p leaf plane = leaf_triples p.leaves leaf plane
 
 -- the samples of a plane of a slot, where the slot carries planes
-abbrev pub reference_of : PlanValue → ℕ → ℕ → Option (List ℕ)
-reference_of p slot plane = plane_of plane (slice_index_or p.references slot None)
+abbrev pub carried_plane : PlanValue → ℕ → ℕ → Option (List ℕ)
+carried_plane p slot plane = plane_of plane (slice_index_or p.references slot None)
   where
     plane_of : ℕ → Option (List (List ℕ)) → Option (List ℕ)
     plane_of plane (Some planes) = Some (slice_index_or planes plane [])
@@ -78,23 +78,23 @@ Follow a [] b = a ≡ b
 Follow a (l ∷ leaves) b = (l.first ≡ a) × Follow (a + sum l.counts) leaves b
 
 -- the three planes of a slot
-abbrev pub planes_value : Planes → List (List ℕ)
+abbrev pub planes_value : SlotPlanes → List (List ℕ)
 planes_value p = p.y.items ∷ p.u.items ∷ p.v.items ∷ []
 
 -- a slot
-abbrev pub slot_value : Option Planes → Option (List (List ℕ))
+abbrev pub slot_value : Option SlotPlanes → Option (List (List ℕ))
 slot_value (Some p) = Some (planes_value p)
 slot_value None = None
 
 -- all slots
-abbrev pub slot_values : List (Option Planes) → List (Option (List (List ℕ)))
+abbrev pub slot_values : List (Option SlotPlanes) → List (Option (List (List ℕ)))
 slot_values slots = map slot_value slots
 
 -- of the first n slots those have planes that carry some
-abbrev pub ArePresent : Header → List (Option Planes) → ℕ → Type 0
+abbrev pub ArePresent : Header → List (Option SlotPlanes) → ℕ → Type 0
 ArePresent h slots n = (s : ℕ) → s < n → is_some (slice_index_or slots s None) ≡ has_slot h s
 
 -- the plan with these parts
-abbrev pub value_of : Header → List (Option Planes) → List Leaf → List Triple → PlanValue
+abbrev pub value_of : Header → List (Option SlotPlanes) → List Leaf → List Triple → PlanValue
 value_of header references leaves triples =
     record { header = header; references = slot_values references; leaves = leaf_values triples leaves }

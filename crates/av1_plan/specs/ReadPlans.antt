@@ -12,7 +12,7 @@ use Rattle.av1_blocks.specs.References.{reference_number}
 use Rattle.av1_blocks.specs.Vectors.{FitsVector}
 use Rattle.av1_plan.specs.declared.header.Header.{Header}
 use Rattle.av1_plan.specs.declared.leaf.Triple.{Triple}
-use Rattle.av1_plan.specs.declared.planes.Planes.{Planes}
+use Rattle.av1_plan.specs.declared.planes.SlotPlanes.{SlotPlanes}
 use Rattle.av1_plan.specs.declared.leaf.ChromaMode.{ChromaMode}
 use Rattle.av1_plan.specs.declared.leaf.ChromaMode.TheVariants.{Plain, Cfl}
 use Rattle.av1_plan.specs.declared.leaf.LeafKind.{LeafKind}
@@ -60,13 +60,13 @@ IsReadReference h slot plane (Some samples) = (has_slot h slot ≡ true) × AreP
 IsReadReference h slot plane None = has_slot h slot ≡ false
 
 -- a slot in memory: its planes exactly where the mask has it
-abbrev pub IsStoredSlot : Header → ℕ → Option Planes → Type 0
+abbrev pub IsStoredSlot : Header → ℕ → Option SlotPlanes → Type 0
 IsStoredSlot h slot (Some planes) = (has_slot h slot ≡ true) × ArePlane h 0 planes.y.items ×
     ArePlane h 1 planes.u.items × ArePlane h 2 planes.v.items
 IsStoredSlot h slot None = has_slot h slot ≡ false
 
 -- the first n slots in memory
-abbrev pub AreStoredSlots : Header → List (Option Planes) → ℕ → Type 0
+abbrev pub AreStoredSlots : Header → List (Option SlotPlanes) → ℕ → Type 0
 AreStoredSlots h slots n = (s : ℕ) → s < n → IsStoredSlot h s (slice_index_or slots s None)
 
 -- ---- the kind of a leaf

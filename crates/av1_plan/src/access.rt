@@ -7,11 +7,11 @@ use crate::plan::Plan;
 
 impl Plan {
     ghost use Rattle.std.specs.Prelude.{◌≡◌, ◌<◌, ◌↔◌, length, IfSome, IfNone, IsSome, IsTrue, Some, None};
-    ghost use Rattle.av1_plan.specs.Answer.{leaves_value, plan_value, stored_leaves};
+    ghost use Rattle.av1_plan.specs.Values.{leaves_value, plan_value, stored_leaves};
     ghost use Rattle.std.specs.List.{All};
     ghost use Rattle.av1_plan.specs.CodingOrder.{AreInCodingOrder};
     ghost use Rattle.av1_plan.specs.Geometry.{has_slot};
-    ghost use Rattle.av1_plan.specs.Plan.{reference_of, triples_of};
+    ghost use Rattle.av1_plan.specs.Plan.{carried_plane, triples_of};
     ghost use Rattle.av1_plan.specs.ReadPlans.{IsReadFrame, IsReadLeaf, ArePlane};
 
     /// The frame, and what holds for all leaves.
@@ -45,8 +45,8 @@ impl Plan {
         requires slot { slot < 8 }
         requires plane { p < 3 }
         ensures present { IsSome result ↔ IsTrue (has_slot (plan_value self.now).header slot) }
-        ensures some { IfSome result (λ s. reference_of (plan_value self.now) slot p ≡ Some s.now) }
-        ensures none { IfNone result (reference_of (plan_value self.now) slot p ≡ None) }
+        ensures some { IfSome result (λ s. carried_plane (plan_value self.now) slot p ≡ Some s.now) }
+        ensures none { IfNone result (carried_plane (plan_value self.now) slot p ≡ None) }
         // As many as the plane has, each below `1 << depth`.
         ensures read { IfSome result (λ s. ArePlane (plan_value self.now).header p s.now) }
     {

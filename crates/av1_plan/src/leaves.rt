@@ -18,7 +18,7 @@ pub struct Leaves {
 
 impl Leaves {
     ghost use Rattle.std.specs.Prelude.{◌≡◌, ◌<◌, length};
-    ghost use Rattle.av1_plan.specs.Answer.{leaf_list, leaves_value};
+    ghost use Rattle.av1_plan.specs.Values.{leaf_list, leaves_value};
     ghost use Rattle.av1_plan.specs.Plan.{leaf_triples};
 
     /// The leaves, in coding order.

@@ -53,5 +53,5 @@ pub use leaves::Leaves;
 pub use nodes::{cut_by, half_side, part_size, whole_size};
 pub use parse::{parse_leaves, parse_plan, parse_plan_behind};
 pub use plan::Plan;
-pub use planes::Planes;
+pub use planes::SlotPlanes;
 pub use reader::Reader;

@@ -23,17 +23,23 @@ pub struct Parser<'a> {
 impl<'a> Parser<'a> {
     ghost use Rattle.std.specs.Prelude.{◌≡◌, ◌+◌, ◌*◌, ◌<◌, ◌≤◌, ◌^◌, ◌-◌, length, IfOk, OnOk, []};
     ghost use Rattle.av1_blocks.specs.declared.partition.PartitionType.TheVariants.{PARTITION_SPLIT};
-    ghost use Rattle.av1_plan.specs.Answer.{leaves_value};
+    ghost use Rattle.av1_plan.specs.Values.{leaves_value};
     ghost use Rattle.av1_plan.specs.Format.{add, ended, lone, read};
-    ghost use Rattle.av1_plan.specs.Grammar.{part, wide_stripes, tall_stripes, block, parts, superblock_row, superblocks};
+    ghost use Rattle.av1_plan.specs.Grammar.{leaf_part, wide_stripes, tall_stripes, block, parts, superblock_row, superblocks};
     ghost use Rattle.av1_plan.specs.Reading.{Gives, Fits, input};
     ghost use Rattle.av1_plan.specs.Parsing.{state, IsSound};
 
     /// The leaf at this place, if that lies in the frame.
-    #[tactic(auto, using(crate::proofs::Formats::adding), unfolding(crate::specs::Grammar::part))]
-    fn part(&mut self, header: &Header, size: BlockSize, x: u16, y: u16) -> Result<(), PlanError>
+    #[tactic(auto, using(crate::proofs::Formats::adding), unfolding(crate::specs::Grammar::leaf_part))]
+    fn leaf_part(
+        &mut self,
+        header: &Header,
+        size: BlockSize,
+        x: u16,
+        y: u16,
+    ) -> Result<(), PlanError>
         requires { IsSound self.old }
-        ensures read { Gives (λ _. state self.new) result (add (part header.now size x y) (state self.old)) }
+        ensures read { Gives (λ _. state self.new) result (add (leaf_part header.now size x y) (state self.old)) }
         ensures sound { OnOk result (IsSound self.new) }
     {
         if !header.holds(x, y) {
@@ -56,7 +62,7 @@ impl<'a> Parser<'a> {
         ensures sound { OnOk result (IsSound self.new) }
     {
         if level == 0 {
-            return self.part(header, BlockSize::BLOCK_4X4, x, y);
+            return self.leaf_part(header, BlockSize::BLOCK_4X4, x, y);
         }
         if !header.holds(x, y) {
             return Ok(());
@@ -81,10 +87,10 @@ impl<'a> Parser<'a> {
         ensures read { Gives (λ _. state self.new) result (add (wide_stripes header.now size side x y) (state self.old)) }
         ensures sound { OnOk result (IsSound self.new) }
     {
-        self.part(header, size, x, y)?;
-        self.part(header, size, x, y + side)?;
-        self.part(header, size, x, y + 2 * side)?;
-        self.part(header, size, x, y + 3 * side)
+        self.leaf_part(header, size, x, y)?;
+        self.leaf_part(header, size, x, y + side)?;
+        self.leaf_part(header, size, x, y + 2 * side)?;
+        self.leaf_part(header, size, x, y + 3 * side)
     }
 
     /// Four leaves of this size, each so far to the right of the one before.
@@ -103,10 +109,10 @@ impl<'a> Parser<'a> {
         ensures read { Gives (λ _. state self.new) result (add (tall_stripes header.now size side x y) (state self.old)) }
         ensures sound { OnOk result (IsSound self.new) }
     {
-        self.part(header, size, x, y)?;
-        self.part(header, size, x + side, y)?;
-        self.part(header, size, x + 2 * side, y)?;
-        self.part(header, size, x + 3 * side, y)
+        self.leaf_part(header, size, x, y)?;
+        self.leaf_part(header, size, x + side, y)?;
+        self.leaf_part(header, size, x + 2 * side, y)?;
+        self.leaf_part(header, size, x + 3 * side, y)
     }
 
     /// The parts of a node of side `4 << level` that is cut so.
@@ -128,16 +134,16 @@ impl<'a> Parser<'a> {
         ensures sound { OnOk result (IsSound self.new) }
     {
         match partition {
-            PARTITION_NONE => self.part(header, whole_size(level), x, y),
+            PARTITION_NONE => self.leaf_part(header, whole_size(level), x, y),
             PARTITION_HORZ => {
                 let wide = part_size(level, PARTITION_HORZ);
-                self.part(header, wide, x, y)?;
-                self.part(header, wide, x, y + half_side(level))
+                self.leaf_part(header, wide, x, y)?;
+                self.leaf_part(header, wide, x, y + half_side(level))
             }
             PARTITION_VERT => {
                 let tall = part_size(level, PARTITION_VERT);
-                self.part(header, tall, x, y)?;
-                self.part(header, tall, x + half_side(level), y)
+                self.leaf_part(header, tall, x, y)?;
+                self.leaf_part(header, tall, x + half_side(level), y)
             }
             PARTITION_HORZ_4 => {
                 let wide = part_size(level, PARTITION_HORZ_4);

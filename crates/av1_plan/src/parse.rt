@@ -2,7 +2,7 @@
 
 ghost use Rattle.std.specs.Prelude.{◌≡◌, ◌≤◌, ◌^◌, List, length, IfOk, MatchResult, vec_len};
 ghost use Rattle.av1_plan.specs.declared.error.PlanError.TheVariants.{Memory};
-ghost use Rattle.av1_plan.specs.Answer.{leaves_value, plan_value, IfMalformed};
+ghost use Rattle.av1_plan.specs.Values.{leaves_value, plan_value, IfMalformed};
 ghost use Rattle.av1_plan.specs.Format.{start, read_all};
 ghost use Rattle.av1_plan.specs.Grammar.{plan, plan_behind, superblocks};
 ghost use Rattle.av1_plan.specs.Plan.{LeafValue, PlanValue, slot_values};
@@ -15,12 +15,12 @@ use crate::header::Header;
 use crate::leaves::Leaves;
 use crate::nodes::Parser;
 use crate::plan::Plan;
-use crate::planes::Planes;
+use crate::planes::SlotPlanes;
 use crate::reader::Reader;
 use std::alloc::Global;
 
 /// The plan that these bytes are, read from left to right.
-#[tactic(auto, using(crate::proofs::Lists::collects), unfolding(crate::specs::Grammar::plan))]
+#[tactic(auto, using(crate::proofs::Lists::collects), unfolding(crate::specs::Grammar::plan, crate::specs::Grammar::plan_behind))]
 fn read_plan(alloc: Global, bytes: &[u8]) -> Result<Plan, PlanError>
     requires { length bytes.now ≤ 2 ^ 26 }
     ensures { Gives (λ p. plan_value p) result (read_all plan (start bytes.now)) }
@@ -95,7 +95,7 @@ pub fn parse_leaves(alloc: Global, header: &Header, bytes: &[u8]) -> Result<Leav
 pub fn parse_plan_behind(
     alloc: Global,
     header: Header,
-    references: Vec<Option<Planes>>,
+    references: Vec<Option<SlotPlanes>>,
     bytes: &[u8],
 ) -> Result<Plan, PlanError>
     requires short { length bytes.now ≤ 2 ^ 26 }

@@ -7,13 +7,13 @@ ghost use Rattle.av1_plan.specs.Spelling.{IsSpelled};
 
 use crate::header::Header;
 use crate::leaves::Leaves;
-use crate::planes::Planes;
+use crate::planes::SlotPlanes;
 
 /// A plan that was read from bytes: its header, its reference samples and its leaves with their triples.
 #[derive(Drop)]
 pub struct Plan {
     pub(crate) header: Header,
-    pub(crate) references: Vec<Option<Planes>>,
+    pub(crate) references: Vec<Option<SlotPlanes>>,
     pub(crate) leaves: Leaves,
     // A complete proper list of fields spells the plan.
     ghost spelled: { ∥ IsSpelled plan (value_of header references.items leaves.leaves.items leaves.triples.items) ∥₁ },

@@ -2,7 +2,7 @@
 
 /// The planes of a slot, each row by row without padding.
 #[derive(Debug, Drop)]
-pub struct Planes {
+pub struct SlotPlanes {
     pub y: Vec<u16>,
     pub u: Vec<u16>,
     pub v: Vec<u16>,

@@ -209,7 +209,7 @@ module _ (h : Header) where
 -- behind the fields of a header, what a plan with this header asks for
 pub header_asked : (h : Header) (vs : List ℕ) → Spells grammar.header vs h → After grammar.plan vs (asked_for h 0 (rows_of h 0 (down h)) [] []) ×
     (text grammar.plan vs ≡ text grammar.header vs)
-unfolding grammar.plan
+unfolding grammar.plan grammar.plan_behind
 header_asked h vs s =
     let (a, b) = after_spelled grammar.header (λ g. grammar.references g >>= λ stored. superblocks g >>= λ leaves. done (plan_is g stored leaves)) h vs s in
     (subst (After grammar.plan vs) (plan_asked h) a, b)

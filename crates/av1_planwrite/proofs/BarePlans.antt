@@ -12,7 +12,8 @@ use Rattle.av1_plan.specs.declared.header.Header.{Header}
 use Rattle.av1_plan.specs.declared.leaf.Triple.{Triple}
 use Rattle.av1_plan.specs.Format.{two, any, Format, done, ◌>>=◌, lone, nothing, ◌++>◌, in_turn}
 use Rattle.av1_plan.specs.Geometry.{is_inside, carries_chroma}
-use Rattle.av1_plan.specs.Grammar.{leaf_kind, tx_size, tx_type, uv_type, triple, triples, chroma_triples, leaf, part, mark, wide_stripes, tall_stripes, parts}
+use Rattle.av1_plan.specs.Grammar.{leaf_kind, tx_size, tx_type, uv_type, triple, triples, chroma_triples, leaf, leaf_part, mark, wide_stripes, tall_stripes}
+use Rattle.av1_plan.specs.Grammar.{parts}
 use Rattle.av1_plan.specs.Grammar.{block, superblock_row, superblocks, header, references, plan}
 use Rattle.av1_plan.specs.Plan.{LeafValue, PlanValue}
 use Rattle.av1_plan.specs.Spelling.{IsSpelled, AreText, text}
@@ -88,8 +89,8 @@ bares_in_turn f i zero each = bares_nothing
 bares_in_turn f i (suc n) each = bares_both (f i) (in_turn f (i + 1) n) (each i) (bares_in_turn f (i + 1) n each)
 
 module _ (h : Header) where
-  bares_part : (size : BlockSize) (x y : ℕ) → Bares (part h size x y)
-  unfolding part
+  bares_part : (size : BlockSize) (x y : ℕ) → Bares (leaf_part h size x y)
+  unfolding leaf_part
   bares_part size x y = bares_where (is_inside h x y) (lone (leaf h size x y)) (λ ls s.
       let (l, l_spelled, is) = spelled_lone (leaf h size x y) ls s in
       subst (λ (ls : List LeafValue). IsSpelled (lone (leaf h size x y)) (map bare_leaf ls)) is
@@ -123,7 +124,7 @@ abbrev plan_is : Header → List (Option (List (List ℕ))) → List LeafValue �
 plan_is h stored leaves = record { header = h; references = stored; leaves = leaves }
 
 bare_spelled : (p : PlanValue) → IsSpelled plan p → IsSpelled plan (bare p)
-unfolding plan
+unfolding plan plan_behind
 bare_spelled p s =
     let (h, h_spelled, s1) = spelled_bind header (λ h. references h >>= λ stored. superblocks h >>= λ leaves. done (plan_is h stored leaves)) p s in
     let (stored, stored_spelled, s2) = spelled_bind (references h) (λ stored. superblocks h >>= λ leaves. done (plan_is h stored leaves)) p s1 in

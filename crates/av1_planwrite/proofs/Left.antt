@@ -12,7 +12,7 @@ use Rattle.av1_plan.specs.Geometry.{is_inside}
 use Rattle.av1_plan.specs.declared.leaf.Leaf.{Leaf}
 use Rattle.av1_plan.specs.declared.leaf.Triple.{Triple}
 use Rattle.av1_plan.specs.declared.plan.Plan.{Plan}
-use Rattle.av1_plan.specs.Answer.{plan_value, stored_leaves, stored_triples}
+use Rattle.av1_plan.specs.Values.{plan_value, stored_leaves, stored_triples}
 use Rattle.av1_plan.specs.Plan.{LeafValue, leaf_value, leaf_values, triples_of, cut}
 use Rattle.av1_plan.proofs.Spans.{stored_leaf, triples_of_leaf, length-leaf_values, stored_triples_at}
 use Rattle.av1_planwrite.specs.Bare.{none_of, bare_leaf}

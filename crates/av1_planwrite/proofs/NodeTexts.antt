@@ -17,7 +17,7 @@ use Rattle.av1_plan.specs.declared.header.Header.{Header}
 use Rattle.av1_plan.specs.Format.{one, Format, done, ◌>>=◌, lone, nothing, ◌++>◌, width}
 use Rattle.av1_plan.specs.Format as format
 use Rattle.av1_plan.specs.Geometry.{is_inside}
-use Rattle.av1_plan.specs.Grammar.{where_, leaf, half_side, quarter_side, whole_size, part_size, part, cut_by, admits_stripes, is_mark, mark, wide_stripes}
+use Rattle.av1_plan.specs.Grammar.{where_, leaf, half_side, quarter_side, whole_size, part_size, leaf_part, cut_by, admits_stripes, is_mark, mark, wide_stripes}
 use Rattle.av1_plan.specs.Grammar.{tall_stripes, parts, block, superblock_row, superblocks}
 use Rattle.av1_plan.specs.Plan.{LeafValue}
 use Rattle.av1_plan.specs.Spelling.{Spells, IsSpelled, text}
@@ -93,8 +93,8 @@ turns_leaf h size x y = record {
       ap (λ (xs : List LeafValue). leaf_written (xs ++ more) bytes) (sym end.value) ∙ ap (λ (bs : List ℕ). (more, bytes ++ bs)) texts;
 }
 
-turns_part : (h : Header) (size : BlockSize) (x y : ℕ) → Turns (part_written h x y) (part h size x y)
-unfolding part_written part
+turns_part : (h : Header) (size : BlockSize) (x y : ℕ) → Turns (part_written h x y) (leaf_part h size x y)
+unfolding part_written leaf_part
 turns_part h size x y = turns_where (is_inside h x y) (λ d. leaf_written d.0 d.1) (lone (leaf h size x y)) (λ e. turns_leaf h size x y)
 
 -- ---- the parts of a node
@@ -145,8 +145,8 @@ clash : {A : Type 0} (b : Bool) → b ≡ true → b ≡ false → A
 clash true e f = absurd cc
 clash false e f = absurd cc
 
-begins_part : (P : BlockSize → Type 0) (h : Header) (size : BlockSize) (x y : ℕ) → is_inside h x y ≡ true → P size → Begins P (part h size x y)
-unfolding part
+begins_part : (P : BlockSize → Type 0) (h : Header) (size : BlockSize) (x y : ℕ) → is_inside h x y ≡ true → P size → Begins P (leaf_part h size x y)
+unfolding leaf_part
 begins_part P h size x y within holds ls s = elim (spelled_where (is_inside h x y) (lone (leaf h size x y)) ls s) [
   | inl (_, t) ↦
       let (l, l_spelled, is) = spelled_lone (leaf h size x y) ls t in

@@ -178,7 +178,7 @@ three_parts : {a b a_2 b_2 bytes behind rest end : List ℕ} (c : List ℕ) → 
 three_parts {a_2 = a} {b_2 = b} c e f g h k m = rw (e, f, g, h, k, m, append-nil) (sym (append_assoc a b c))
 
 pub plan_told : (bytes : List ℕ) (p : PlanValue) → AreText grammar.plan bytes p → bytes ≡ plan_text p
-unfolding grammar.plan plan_text front_text
+unfolding grammar.plan grammar.plan_behind plan_text front_text
 plan_told bytes p (vs, s, e) =
     let a = apart grammar.header (λ h. grammar.references h >>= λ references. grammar.superblocks h >>= λ leaves. done (plan_is h references leaves)) p vs s in
     let h = a.between in

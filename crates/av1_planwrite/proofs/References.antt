@@ -4,10 +4,10 @@ use Rattle.std.proofs.Common.{append_assoc, arith}
 use Rattle.std.specs.List.{flat_map}
 use Rattle.std.proofs.lemmas.List.{get_or-map, append-nil, length-map}
 use Rattle.std.proofs.Math.Seq.{take-length}
-use Rattle.av1_plan.specs.declared.planes.Planes.{Planes}
+use Rattle.av1_plan.specs.declared.planes.SlotPlanes.{SlotPlanes}
 use Rattle.av1_plan.specs.declared.plan.Plan.{Plan}
-use Rattle.av1_plan.specs.Answer.{plan_value}
-use Rattle.av1_plan.specs.Plan.{PlanValue, reference_of, slot_value}
+use Rattle.av1_plan.specs.Values.{plan_value}
+use Rattle.av1_plan.specs.Plan.{PlanValue, carried_plane, slot_value}
 use Rattle.av1_planwrite.specs.Text.{slot_text, plane_text, header_text, references_text, superblocks_written, front_text, plan_text}
 use Rattle.av1_planwrite.specs.Writing.{told, samples_text}
 use Rattle.av1_planwrite.specs.declared.nodes.Coefficients.{Coefficients}
@@ -18,7 +18,7 @@ abbrev plane_at : ℕ → Option (List (List ℕ)) → Option (List ℕ)
 plane_at plane (Some planes) = Some (slice_index_or planes plane [])
 plane_at plane None = None
 
-three_planes : (depth : ℕ) (o : Option Planes) → slot_text depth (slot_value o) ≡ samples_text depth (plane_at 0 (slot_value o))
+three_planes : (depth : ℕ) (o : Option SlotPlanes) → slot_text depth (slot_value o) ≡ samples_text depth (plane_at 0 (slot_value o))
     ++ samples_text depth (plane_at 1 (slot_value o)) ++ samples_text depth (plane_at 2 (slot_value o))
 unfolding slot_text
 three_planes depth None = refl
@@ -30,9 +30,9 @@ three_planes depth (Some p) =
 
 -- the planes of a slot are its three planes
 pub slot_parts : (p : Plan) (slot : ℕ) → slot < 8 → slot_text (plan_value p).header.depth (slice_index_or (plan_value p).references slot None)
-    ≡ samples_text (plan_value p).header.depth (reference_of (plan_value p) slot 0)
-    ++ samples_text (plan_value p).header.depth (reference_of (plan_value p) slot 1)
-    ++ samples_text (plan_value p).header.depth (reference_of (plan_value p) slot 2)
+    ≡ samples_text (plan_value p).header.depth (carried_plane (plan_value p) slot 0)
+    ++ samples_text (plan_value p).header.depth (carried_plane (plan_value p) slot 1)
+    ++ samples_text (plan_value p).header.depth (carried_plane (plan_value p) slot 2)
 slot_parts p slot lt =
     let e : slice_index_or (plan_value p).references slot None ≡ slot_value (slice_index_or p.references.items slot None) =
     get_or-map slot_value p.references.items slot None None (omega (arith, lt, p.slots, p.references.ok)) in
@@ -61,14 +61,14 @@ told_text LeftOut p = refl
 
 -- the three planes, one behind the other
 pub slot_bytes : (p : Plan) (slot : ℕ) (old first second : List ℕ) → slot < 8 →
-    first ≡ old ++ samples_text (plan_value p).header.depth (reference_of (plan_value p) slot 0)
-    → second ≡ first ++ samples_text (plan_value p).header.depth (reference_of (plan_value p) slot 1)
-    → second ++ samples_text (plan_value p).header.depth (reference_of (plan_value p) slot 2) ≡ old
+    first ≡ old ++ samples_text (plan_value p).header.depth (carried_plane (plan_value p) slot 0)
+    → second ≡ first ++ samples_text (plan_value p).header.depth (carried_plane (plan_value p) slot 1)
+    → second ++ samples_text (plan_value p).header.depth (carried_plane (plan_value p) slot 2) ≡ old
     ++ slot_text (plan_value p).header.depth (slice_index_or (plan_value p).references slot None)
 slot_bytes p slot old first second lt e f =
-    let y = samples_text (plan_value p).header.depth (reference_of (plan_value p) slot 0) in
-    let u = samples_text (plan_value p).header.depth (reference_of (plan_value p) slot 1) in
-    let v = samples_text (plan_value p).header.depth (reference_of (plan_value p) slot 2) in
+    let y = samples_text (plan_value p).header.depth (carried_plane (plan_value p) slot 0) in
+    let u = samples_text (plan_value p).header.depth (carried_plane (plan_value p) slot 1) in
+    let v = samples_text (plan_value p).header.depth (carried_plane (plan_value p) slot 2) in
     let start : second ++ v ≡ old ++ y ++ u ++ v = rw (f, e) refl in
     start ∙ ap (λ (xs : List ℕ). xs ++ v) (append_assoc old y u) ∙ append_assoc old (y ++ u) v ∙ ap (λ (xs : List ℕ). old ++ xs) (sym (slot_parts p slot lt))
 

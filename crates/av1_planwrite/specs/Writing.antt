@@ -1,6 +1,6 @@
 -- What is written of a plan so far: words of private contracts.
 use Rattle.std.specs.Prelude.{ℕ, List, [], drop, Option, Some, None}
-use Rattle.av1_plan.specs.Answer.{plan_value}
+use Rattle.av1_plan.specs.Values.{plan_value}
 use Rattle.av1_plan.specs.Plan.{PlanValue, triples_of}
 use Rattle.av1_plan.specs.declared.leaf.Triple.{Triple}
 use Rattle.av1_planwrite.specs.Bare.{bare}

@@ -1,6 +1,6 @@
 //! From the bytes of a plan to the bytes of its predictions alone.
 
-ghost use Rattle.av1_plan.specs.Answer.{plan_value};
+ghost use Rattle.av1_plan.specs.Values.{plan_value};
 ghost use Rattle.av1_planwrite.specs.Bare.{bare_text};
 ghost use Rattle.av1_recon.specs.Outcomes.{Converts};
 ghost use Rattle.av1_recon.specs.Writing.{Writes};

@@ -50,7 +50,7 @@ pub use leaf::{MOST_LEADING, put_leading, triple_fields};
 pub use parts::{Part, Stacked};
 pub use pieces::{put, put_byte, put_pair};
 pub use progress::Progress;
-pub use samples::{planes_len, put_planes};
+pub use samples::{put_planes, slot_len};
 pub use state::State;
 pub use superblocks::Superblocks;
 pub use write::{write_bare, write_plan};

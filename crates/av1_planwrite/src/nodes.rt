@@ -1,7 +1,7 @@
 //! The nodes of superblocks, down to their leaves.
 
 ghost use Rattle.std.specs.Prelude.{◌≡◌, ◌<◌, ◌≤◌, ◌^◌, length};
-ghost use Rattle.av1_plan.specs.Answer.{plan_value, stored_leaves};
+ghost use Rattle.av1_plan.specs.Values.{plan_value, stored_leaves};
 ghost use Rattle.av1_plan.specs.Grammar.{quarter_side};
 ghost use Rattle.av1_plan.specs.Plan.{triples_of};
 ghost use Rattle.av1_planwrite.specs.Text.{cut_of, mark_of};
@@ -102,7 +102,7 @@ fn told_triples<'a>(
 
 impl<'a> Writer<'a> {
     ghost use Rattle.std.specs.Prelude.{◌≡◌, ◌+◌, ◌-◌, ◌*◌, ◌<◌, ◌≤◌, length, OnOk, Some, slice_get};
-    ghost use Rattle.av1_plan.specs.Answer.{stored_leaves};
+    ghost use Rattle.av1_plan.specs.Values.{stored_leaves};
     ghost use Rattle.av1_planwrite.specs.Text.{leaf_written, part_written, next_cut, parts_written, block_written, row_written, superblocks_written};
     ghost use Rattle.av1_planwrite.specs.Writing.{draft};
 
@@ -129,7 +129,7 @@ impl<'a> Writer<'a> {
 
     /// Writes a part that is a leaf, where it lies in the frame and a leaf is left.
     #[tactic(auto, using(crate::proofs::Left::leaves_left))]
-    fn part(&mut self, header: &Header, x: u16, y: u16) -> Result<(), OutOfMemory>
+    fn leaf_part(&mut self, header: &Header, x: u16, y: u16) -> Result<(), OutOfMemory>
         ensures { OnOk result (draft self.new ≡ part_written header.now x y (draft self.old)) }
     {
         if !header.holds(x, y) {
@@ -163,7 +163,7 @@ impl<'a> Writer<'a> {
         ensures { OnOk result (draft self.new ≡ block_written header.now level x y (draft self.old)) }
     {
         if level == 0 {
-            return self.part(header, x, y);
+            return self.leaf_part(header, x, y);
         }
         if !header.holds(x, y) {
             return Ok(());
@@ -192,26 +192,26 @@ impl<'a> Writer<'a> {
         let half = half_side(level);
         let quarter = quarter_side(level);
         match cut {
-            PARTITION_NONE => self.part(header, x, y),
+            PARTITION_NONE => self.leaf_part(header, x, y),
             PARTITION_HORZ => {
-                self.part(header, x, y)?;
-                self.part(header, x, y + half)
+                self.leaf_part(header, x, y)?;
+                self.leaf_part(header, x, y + half)
             }
             PARTITION_VERT => {
-                self.part(header, x, y)?;
-                self.part(header, x + half, y)
+                self.leaf_part(header, x, y)?;
+                self.leaf_part(header, x + half, y)
             }
             PARTITION_HORZ_4 => {
-                self.part(header, x, y)?;
-                self.part(header, x, y + quarter)?;
-                self.part(header, x, y + 2 * quarter)?;
-                self.part(header, x, y + 3 * quarter)
+                self.leaf_part(header, x, y)?;
+                self.leaf_part(header, x, y + quarter)?;
+                self.leaf_part(header, x, y + 2 * quarter)?;
+                self.leaf_part(header, x, y + 3 * quarter)
             }
             PARTITION_VERT_4 => {
-                self.part(header, x, y)?;
-                self.part(header, x + quarter, y)?;
-                self.part(header, x + 2 * quarter, y)?;
-                self.part(header, x + 3 * quarter, y)
+                self.leaf_part(header, x, y)?;
+                self.leaf_part(header, x + quarter, y)?;
+                self.leaf_part(header, x + 2 * quarter, y)?;
+                self.leaf_part(header, x + 3 * quarter, y)
             }
             _ => {
                 self.block(header, level - 1, x, y)?;

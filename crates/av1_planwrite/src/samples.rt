@@ -51,7 +51,7 @@ fn text_len(depth: u8, samples: &[u16]) -> usize
 }
 
 /// How many bytes the planes of a slot have.
-pub fn planes_len(depth: u8, y: &[u16], u: &[u16], v: &[u16]) -> usize
+pub fn slot_len(depth: u8, y: &[u16], u: &[u16], v: &[u16]) -> usize
     requires y { length y.now ≤ 2 ^ 22 }
     requires u { length u.now ≤ 2 ^ 22 }
     requires v { length v.now ≤ 2 ^ 22 }

@@ -1,7 +1,7 @@
 //! Plans written whole.
 
 ghost use Rattle.std.specs.Prelude.{◌≡◌, ◌<◌, ◌≤◌, IfOk};
-ghost use Rattle.av1_plan.specs.Answer.{plan_value};
+ghost use Rattle.av1_plan.specs.Values.{plan_value};
 ghost use Rattle.av1_planwrite.specs.Bare.{bare, bare_text, IsTextOf};
 ghost use Rattle.av1_planwrite.specs.Text.{plan_text};
 ghost use Rattle.av1_planwrite.specs.Writing.{told};
@@ -14,9 +14,9 @@ use std::alloc::Global;
 
 impl Text {
     ghost use Rattle.std.specs.Prelude.{◌≡◌, ◌≤◌, ◌<◌, ◌++◌, OnOk, slice_index_or, None};
-    ghost use Rattle.av1_plan.specs.Answer.{plan_value};
+    ghost use Rattle.av1_plan.specs.Values.{plan_value};
     ghost use Rattle.av1_planwrite.specs.Text.{sample_text, plane_text, slot_text, references_text};
-    ghost use Rattle.av1_plan.specs.Plan.{reference_of};
+    ghost use Rattle.av1_plan.specs.Plan.{carried_plane};
     ghost use Rattle.av1_planwrite.specs.Writing.{samples_text};
 
     /// Writes plane `p` of a slot, where it carries planes.
@@ -24,7 +24,7 @@ impl Text {
         requires slot { slot < 8 }
         requires plane { p < 3 }
         ensures { OnOk result (self.new.bytes.items ≡ self.old.bytes.items
-            ++ samples_text (plan_value plan.now).header.depth (reference_of (plan_value plan.now) slot p)) }
+            ++ samples_text (plan_value plan.now).header.depth (carried_plane (plan_value plan.now) slot p)) }
     {
         match plan.reference(slot, p) {
             Some(samples) => self.plane(plan.header().depth, samples),

@@ -1,7 +1,7 @@
 -- What a call does that reads a plan and writes of it, from what reading and writing do.
 use Rattle.std.proofs.Common.{ℕ, List, Option, Ok, Err, refl, sym, subst, ◌≡◌}
 use Rattle.std.specs.Prelude.{IfOk, IsErrAnd}
-use Rattle.av1_plan.specs.Answer.{plan_value}
+use Rattle.av1_plan.specs.Values.{plan_value}
 use Rattle.av1_plan.specs.Plan.{PlanValue}
 use Rattle.av1_plan.specs.declared.plan.Plan.{Plan}
 use Rattle.av1_streams.specs.Tasks.{AnswersBytes}

@@ -1,6 +1,6 @@
 -- The lines of a state that was reconstructed.
 use Rattle.std.proofs.Common.{◌≡◌, ℕ, List, length, sum, sym, ap, subst, ◌∙◌}
-use Rattle.av1_plan.specs.Answer.{plan_value, stored_leaves, stored_triples}
+use Rattle.av1_plan.specs.Values.{plan_value, stored_leaves, stored_triples}
 use Rattle.av1_plan.specs.declared.header.Header.{Header}
 use Rattle.av1_plan.specs.declared.plan.Plan.{Plan}
 use Rattle.av1_plan.specs.Plan.{PlanValue}

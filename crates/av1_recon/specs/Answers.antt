@@ -5,6 +5,8 @@ use Rattle.av1_plan.specs.declared.error.InvalidKind.{InvalidKind}
 use Rattle.av1_plan.specs.declared.error.InvalidKind.TheVariants as kinds
 use Rattle.av1_streams.specs.Faults.{FaultCounted}
 use Rattle.av1_streams.specs.Streams.{AppendsPrefix}
+use Rattle.av1_recon.specs.declared.error.PlanRefusal.{PlanRefusal}
+use Rattle.av1_recon.specs.declared.error.PlanRefusal.TheVariants as refusals
 use Rattle.av1_recon.specs.declared.error.ReconError.{ReconError}
 use Rattle.av1_recon.specs.declared.error.ReconError.TheVariants.{ReadFault, TooLong, Malformed, Invalid, WriteFault}
 use Rattle.av1_recon.specs.declared.error.ReconError.TheVariants.{Memory}
@@ -31,6 +33,11 @@ malformed_text at = codes "malformed at " ++ decimal at ++ codes "\n"
 abbrev pub invalid_text : ℕ → InvalidKind → List ℕ
 invalid_text leaf kind = codes "invalid leaf " ++ decimal leaf ++ codes ": " ++ kind_text kind ++ codes "\n"
 
+-- what is said of a plan that is refused
+abbrev pub refusal_text : PlanRefusal → List ℕ
+refusal_text (refusals.Malformed at) = malformed_text at
+refusal_text (refusals.Invalid leaf kind) = invalid_text leaf kind
+
 -- the line for an error
 abbrev pub error_line : ReconError → List ℕ
 error_line ReadFault = codes "read fault\n"
@@ -49,7 +56,7 @@ abbrev pub usage : List ℕ
 usage = codes "usage: recon [make N | sum N]\n"
 
 -- The line stands on the sink, or a prefix of it where a write failed.
-pub record Says {E : Type 0} (taken : E → Option (List ℕ)) (faults : E → ℕ) (sink sink' : E)
+pub record HasLine {E : Type 0} (taken : E → Option (List ℕ)) (faults : E → ℕ) (sink sink' : E)
     (line : List ℕ) : Type 0 where
   pub prefix : AppendsPrefix (taken sink) (taken sink') line
   pub whole : ¬ FaultCounted (faults sink) (faults sink') → Appends (taken sink) (taken sink') line

@@ -1,6 +1,6 @@
 -- What a call does that reads a plan from a source to its end and checks it.
 use Rattle.std.specs.Prelude.{◌≡◌, ℕ, List, Option, None, Result, Ok, Err}
-use Rattle.av1_plan.specs.Answer.{plan_value}
+use Rattle.av1_plan.specs.Values.{plan_value}
 use Rattle.av1_plan.specs.Validity.{first_fault}
 use Rattle.av1_plan.specs.declared.plan.Plan.{Plan}
 use Rattle.av1_streams.specs.Streams.{max_plan_bytes}

@@ -1,8 +1,8 @@
 //! The exit status and the line of each answer.
 ghost use Rattle.std.specs.Prelude.{◌≡◌, ◌≤◌, ◌++◌, length, codes};
-ghost use Rattle.av1_recon.specs.Answers.{status_of, line_of, error_line, kind_text, malformed_text, invalid_text, Says};
+ghost use Rattle.av1_recon.specs.Answers.{status_of, line_of, error_line, kind_text, malformed_text, invalid_text, refusal_text, HasLine};
 
-use crate::{InvalidKind, ReconError, Sink};
+use crate::{InvalidKind, PlanRefusal, ReconError, Sink};
 use av1_streams::{Line, write_bytes};
 
 fn kind_text(kind: InvalidKind) -> &'static [u8]
@@ -54,6 +54,17 @@ pub fn push_invalid(line: &mut Line, leaf: u32, kind: InvalidKind)
     line.push(b"\n");
 }
 
+/// Appends what is said of a plan that is refused, and the end of the line.
+pub fn push_refusal(line: &mut Line, refusal: PlanRefusal)
+    requires { length line.old ≤ 64 }
+    ensures { line.new ≡ line.old ++ refusal_text refusal }
+{
+    match refusal {
+        PlanRefusal::Malformed { at } => push_malformed(line, at),
+        PlanRefusal::Invalid { leaf, kind } => push_invalid(line, leaf, kind),
+    }
+}
+
 /// The line for the field that begins at byte `at`.
 pub fn malformed_line(at: u32) -> Line
     ensures { result ≡ malformed_text at }
@@ -88,7 +99,7 @@ fn error_line(error: ReconError) -> Line
 /// Writes the line of the answer, if it has one, and gives its exit status.
 pub fn report<E: Sink>(answer: Result<(), ReconError>, err: &mut E) -> u8
     ensures status { result ≡ status_of answer }
-    ensures line { Says E.taken E.faults err.old err.new (line_of answer) }
+    ensures line { HasLine E.taken E.faults err.old err.new (line_of answer) }
 {
     let Err(error) = answer else {
         return 0;
@@ -104,7 +115,7 @@ pub fn report<E: Sink>(answer: Result<(), ReconError>, err: &mut E) -> u8
 
 /// Writes a line, or a prefix of it where a write fails.
 pub fn say<E: Sink>(line: &[u8], err: &mut E)
-    ensures { Says E.taken E.faults err.old err.new line.now }
+    ensures { HasLine E.taken E.faults err.old err.new line.now }
 {
     // A line that can't be written changes no answer.
     let _ = write_bytes(err, line);

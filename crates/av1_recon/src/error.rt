@@ -7,6 +7,16 @@ use av1_blocks::OutOfMemory;
 use av1_plan::{Invalid, InvalidKind, PlanError};
 use av1_streams::{ReadError, WriteFault};
 
+/// Why a plan is refused.
+#[derive(Clone, Copy, Debug, PartialEq, Eq)]
+pub enum PlanRefusal {
+    /// The field that begins at byte `at` of the plan is cut, has a value that is not admitted, or is left over after
+    /// the end.
+    Malformed { at: u32 },
+    /// Leaf number `leaf`, counted from 0 in coding order, is the first that is refused, and why.
+    Invalid { leaf: u32, kind: InvalidKind },
+}
+
 /// Why a plan was not reconstructed and written.
 #[derive(Clone, Copy, Debug, PartialEq, Eq)]
 pub enum ReconError {

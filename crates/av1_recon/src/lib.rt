@@ -12,10 +12,10 @@
 //!
 //! Promised: these calls return, over every source and sink. The outcome of bytes is one definition, `HasOutcome`
 //! (`specs/Outcomes.antt`), and each answer is read off it: Ok only where the bytes are a valid plan, and then exactly
-//! the planes of the slow definition were appended; a refusal exactly where it is the outcome of the bytes; a fault
-//! exactly where the source or the sink counted one, up to the last value of a `u64`. Running out of memory is the one
-//! free answer, and comes before the first written byte. All calls that read a plan and write of it promise the same,
-//! `Converts`, whatever they write.
+//! the planes of the slow definition were appended; a refusal only where it is the outcome of the bytes, and always
+//! there unless a read failed or memory ran out; a fault exactly where the source or the sink counted one, up to the
+//! last value of a `u64`. Running out of memory is the one free answer, and comes before the first written byte. All
+//! calls that read a plan and write of it promise the same, `Converts`, whatever they write.
 #![tactic(auto)]
 
 mod answer;
@@ -33,7 +33,9 @@ mod reconstruct;
 mod samples;
 mod sums;
 
-pub use answer::{malformed_line, plain_line, push_invalid, push_malformed, report, say};
+pub use answer::{
+    malformed_line, plain_line, push_invalid, push_malformed, push_refusal, report, say,
+};
 pub use av1_plan::InvalidKind;
 pub use av1_streams::{
     Failed, MAX_PLAN_BYTES, MemSink, ReadError, ReadSource, Sink, SliceSource, Source, WriteFault,
@@ -41,7 +43,7 @@ pub use av1_streams::{
 };
 pub use av1_tile::{TileState, reconstruct_tile};
 pub use command::Command;
-pub use error::ReconError;
+pub use error::{PlanRefusal, ReconError};
 pub use host::run_on_words;
 pub use laws::outcome_laws;
 pub use lines::write_sums;

@@ -1,6 +1,6 @@
 //! Four lines on a plan: how many leaves it has, and the sums of its planes.
 ghost use Rattle.std.specs.Prelude.{◌≡◌, ◌≤◌, None, IfOk};
-ghost use Rattle.av1_plan.specs.Answer.{plan_value};
+ghost use Rattle.av1_plan.specs.Values.{plan_value};
 ghost use Rattle.av1_plan.specs.Validity.{first_fault};
 ghost use Rattle.av1_tile.specs.State.{IsSound, MadeFor, shown, state_header};
 ghost use Rattle.av1_tile.specs.Output.{planes_of, visible};

@@ -1,6 +1,6 @@
 //! All that the program does.
 ghost use Rattle.std.specs.Prelude.{◌≡◌, ◌↔◌, Some, None, List, ℕ, map, string_bytes};
-ghost use Rattle.av1_recon.specs.Answers.{Says, status_of, line_of, usage};
+ghost use Rattle.av1_recon.specs.Answers.{HasLine, status_of, line_of, usage};
 ghost use Rattle.av1_recon.specs.Commands.{command_of, IsMade, ReadsNothing};
 ghost use Rattle.av1_recon.specs.Ends.{EndsMade, EndsWith, IsDone};
 ghost use Rattle.av1_recon.specs.Outcomes.{Answer, Reconstructs, plan_task};
@@ -36,14 +36,14 @@ pub fn run<R: Source, W: Sink, E: Sink>(
     err: &mut E,
 ) -> u8
     ensures no_command { command_of (map string_bytes words.now) ≡ None →
-        (result ≡ 1) × (source.new ≡ source.old) × (out.new ≡ out.old) × Says E.taken E.faults err.old err.new usage }
+        (result ≡ 1) × (source.new ≡ source.old) × (out.new ≡ out.old) × HasLine E.taken E.faults err.old err.new usage }
     ensures reconstruct { command_of (map string_bytes words.now) ≡ Some Reconstruct → (answer : Answer)
         × Reconstructs R.left R.faults W.taken W.faults source.old source.new out.old out.new answer
-        × (result ≡ status_of answer) × Says E.taken E.faults err.old err.new (line_of answer) }
+        × (result ≡ status_of answer) × HasLine E.taken E.faults err.old err.new (line_of answer) }
     ensures made { ReadsNothing (command_of (map string_bytes words.now)) → (source.new ≡ source.old) × ((answer : Answer)
         × ((bytes : List ℕ) × IsMade (command_of (map string_bytes words.now)) bytes
         × Writes W.taken W.faults out.old out.new bytes answer)
-        × (result ≡ status_of answer) × Says E.taken E.faults err.old err.new (line_of answer)) }
+        × (result ≡ status_of answer) × HasLine E.taken E.faults err.old err.new (line_of answer)) }
 
     // What each status says.
     ensures status_1 { (result ≡ 1) ↔ (command_of (map string_bytes words.now) ≡ None) }

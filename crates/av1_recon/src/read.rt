@@ -1,6 +1,6 @@
 //! From the bytes of a source to a valid plan.
 ghost use Rattle.std.specs.Prelude.{◌≡◌, ◌≢◌, ◌≤◌, None, IfOk, IfErr, length};
-ghost use Rattle.av1_plan.specs.Answer.{plan_value};
+ghost use Rattle.av1_plan.specs.Values.{plan_value};
 ghost use Rattle.av1_plan.specs.Validity.{first_fault};
 ghost use Rattle.av1_streams.specs.Streams.{max_plan_bytes};
 ghost use Rattle.av1_recon.specs.Outcomes.{ArePlan, AreRefusedFor};

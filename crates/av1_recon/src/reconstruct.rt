@@ -1,6 +1,6 @@
 //! From the bytes of a plan to the bytes of its planes.
 ghost use Rattle.std.specs.Prelude.{◌≡◌, ◌≤◌, None};
-ghost use Rattle.av1_plan.specs.Answer.{plan_value};
+ghost use Rattle.av1_plan.specs.Values.{plan_value};
 ghost use Rattle.av1_plan.specs.Validity.{first_fault};
 ghost use Rattle.av1_streams.specs.Tasks.{AnswersBytes};
 ghost use Rattle.av1_tile.specs.Output.{planes_of};

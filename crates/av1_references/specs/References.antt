@@ -17,14 +17,14 @@ use Rattle.av1_inter.specs.Reference.{IsPadded, ReferencePlane, slot_of, vector_
 use Rattle.av1_plan.specs.declared.geometry.PlaneArea.{PlaneArea}
 use Rattle.av1_plan.specs.declared.header.Header.{Header}
 use Rattle.av1_plan.specs.Geometry.{has_slot, plane_height, plane_width, xdec, ydec}
-use Rattle.av1_plan.specs.Plan.{PlanValue, reference_of}
+use Rattle.av1_plan.specs.Plan.{PlanValue, carried_plane}
 use Rattle.av1_plan.specs.Validity.{has_reference}
 
 -- ---- the references of a plan
 
 -- the samples of plane p of a slot, row by row: none where the slot carries no planes
 abbrev pub slot_samples : PlanValue → (slot p : ℕ) → List ℕ
-slot_samples value slot p = unwrap_or (reference_of value slot p) []
+slot_samples value slot p = unwrap_or (carried_plane value slot p) []
 
 -- plane p of a slot, as motion compensation reads it
 abbrev pub reference_plane : PlanValue → (slot p : ℕ) → ReferencePlane

@@ -1,7 +1,7 @@
 //! The settings of a plan's frame, and the planes of its slots.
 
 ghost use Rattle.std.specs.Prelude.{◌≡◌, ◌/◌, ◌^◌, ◌<◌, ◌≤◌, IfOk, IsTrue};
-ghost use Rattle.av1_plan.specs.Answer.{plan_value};
+ghost use Rattle.av1_plan.specs.Values.{plan_value};
 ghost use Rattle.av1_plan.specs.Geometry.{has_slot};
 ghost use Rattle.av1_plan.specs.ReadPlans.{ArePlane, IsReadFrame};
 ghost use Rattle.av1_references.specs.References.{HoldsPlane, HoldsReferences, slot_samples};

@@ -2,7 +2,7 @@
 
 ghost use Rattle.std.specs.Prelude.{◌≡◌, ◌≢◌, ◌↔◌, ◌⊎◌, ◌≤◌, ℕ, List, Bool, IsTrue, IsErrOf, IsNone, IfSome, IfOk, IfErr, OnOk};
 ghost use Rattle.std.specs.Io.KnownBytes.{Appends};
-ghost use Rattle.av1_recon.specs.Answers.{Says};
+ghost use Rattle.av1_recon.specs.Answers.{HasLine};
 ghost use Rattle.av1_streams.specs.Faults.{FaultCounted};
 ghost use Rattle.av1_streams.specs.Streams.{AppendsPrefix};
 ghost use Rattle.av1_replay.specs.Fields.{unread};
@@ -45,7 +45,7 @@ pub fn replay_rows<R: Source, W: Sink, E: Sink>(
     err: &mut E,
 ) -> u8
     // The answer is told by the status and a line.
-    ensures answer { (answer : Answer) × (result ≡ status_of answer) × Says E.taken E.faults err.old err.new (line_of answer)
+    ensures answer { (answer : Answer) × (result ≡ status_of answer) × HasLine E.taken E.faults err.old err.new (line_of answer)
         × IfErr answer (λ e. IfSome (R.left source.old) (Refuses e)) }
     // What each status says.
     ensures agreed { result ≡ 0 → Rows (R.left source.old) (λ rows. AllAgree rows × Appends (W.taken out.old) (W.taken out.new) (report rows)) }

@@ -1,7 +1,7 @@
 //! What is written of rows, and of errors.
 
 ghost use Rattle.std.specs.Prelude.{◌≡◌, ◌≤◌, ◌++◌, Some, codes, decimal, length, IfOk, OnOk};
-ghost use Rattle.av1_recon.specs.Answers.{Says};
+ghost use Rattle.av1_recon.specs.Answers.{HasLine};
 ghost use Rattle.av1_recon.specs.Ends.{error_status};
 ghost use Rattle.av1_rows.specs.Replays.{cause, error_line};
 ghost use Rattle.av1_rows.specs.declared.error.RowsError.TheVariants.{Malformed};
@@ -144,7 +144,7 @@ fn error_line(error: RowsError) -> Line
 /// Writes the line of an error, and gives its exit status.
 pub fn report_error<E: Sink>(error: RowsError, err: &mut E) -> u8
     ensures status { result ≡ error_status (cause error) }
-    ensures line { Says E.taken E.faults err.old err.new (error_line error) }
+    ensures line { HasLine E.taken E.faults err.old err.new (error_line error) }
 {
     say(error_line(error).as_bytes(), err);
     match error {

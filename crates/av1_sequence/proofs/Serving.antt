@@ -17,7 +17,7 @@ use Rattle.av1_inter.specs.Reference.{slot_of as place_named}
 use Rattle.av1_lists.proofs.Lists.{get_or-by_index}
 use Rattle.av1_plan.specs.declared.header.Header.{Header}
 use Rattle.av1_plan.specs.Geometry.{has_slot}
-use Rattle.av1_plan.specs.Plan.{LeafValue, PlanValue, reference_of}
+use Rattle.av1_plan.specs.Plan.{LeafValue, PlanValue, carried_plane}
 use Rattle.av1_plan.specs.ReadPlans.{IsReadFrame}
 use Rattle.av1_plan.specs.Validity.{has_reference}
 use Rattle.av1_references.specs.References.{HoldsPlane, ServesPlan, slot_in, slot_samples}
@@ -61,7 +61,7 @@ named_within slots i seven below =
 
 -- the samples of a slot, where it has planes
 reference_is : (v : PlanValue) (s p : ℕ) (planes : Frame) → slice_index_or v.references s None ≡ Some planes →
-    reference_of v s p ≡ Some (slice_index_or planes p [])
+    carried_plane v s p ≡ Some (slice_index_or planes p [])
 reference_is v s p planes e = rw e refl
 
 pub plane_listed : {T : Type 0} (num : T → ℕ) (h : Header) (t : Slot T) (p : ℕ) → p < 3 →

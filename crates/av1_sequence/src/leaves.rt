@@ -1,7 +1,7 @@
 //! The leaves that the part of a frame spells.
 
 ghost use Rattle.std.specs.Prelude.{◌≡◌, ◌≤◌, ◌^◌, None, length, IfOk, IfErr};
-ghost use Rattle.av1_plan.specs.Answer.{leaves_value};
+ghost use Rattle.av1_plan.specs.Values.{leaves_value};
 ghost use Rattle.av1_plan.specs.Grammar.{superblocks};
 ghost use Rattle.av1_plan.specs.ReadPlans.{IsReadFrame};
 ghost use Rattle.av1_plan.specs.Spelling.{AreText};

@@ -92,7 +92,7 @@ impl<T: Pixel> Model for Sequence<T> {
 impl<T: Pixel> Sequence<T> {
     ghost use Rattle.std.specs.Prelude.{◌≡◌, ℕ, ◌<◌, ◌≤◌, ◌^◌, [], None, Some, length, map, option_map, slice_index_or, IfOk, IfErr, IfNone, IfSome, OnOk};
     ghost use Rattle.av1_blocks.specs.Depths.{IsDepth};
-    ghost use Rattle.av1_plan.specs.Answer.{leaves_value};
+    ghost use Rattle.av1_plan.specs.Values.{leaves_value};
     ghost use Rattle.av1_plan.specs.Geometry.{plane_height, plane_width};
     ghost use Rattle.av1_plan.specs.Grammar.{plan as grammar};
     ghost use Rattle.av1_plan.specs.ReadPlans.{IsSide};

@@ -18,14 +18,14 @@ use Rattle.av1_plan.specs.declared.header.Header.{Header}
 use Rattle.av1_plan.specs.declared.leaf.Triple.{Triple}
 use Rattle.av1_plan.specs.Geometry.{block_count, blocks_across, transform_block}
 use Rattle.av1_plan.specs.Plan.{PlanValue}
-use Rattle.av1_references.specs.References.{ServesPlan}
+use Rattle.av1_references.specs.References.{ServesPlan, leaf_area}
 use Rattle.av1_tile.specs.declared.block.BlockPlace.{BlockPlace}
 use Rattle.av1_tile.specs.declared.plane_block.PlaneBlock.{PlaneBlock}
 use Rattle.av1_tile.specs.declared.plane_block.Prediction.{Prediction}
 use Rattle.av1_tile.specs.declared.plane_block.Prediction.TheVariants as predictions
 use Rattle.av1_tile.specs.PlaneBlocks.{is_whole}
 use Rattle.av1_tile.specs.Reference.{added, block_residue, no_luma}
-use Rattle.av1_tile.specs.Steps.{Step, predict, add, block_steps, joined, own_prediction, plane_steps, steps_at, whole_area, whole_steps}
+use Rattle.av1_tile.specs.Steps.{Step, predict, add, block_steps, joined, own_prediction, plane_steps, steps_at, whole_steps}
 use Rattle.av1_tile.specs.Walk.{BlockFits, IsPlaceIn, IsPlaneOf, PredictionFits, Stores, area_at, edges_in, fast_in, has_edge, with_header}
 use Rattle.av1_tile.proofs.TransformBlocks.{block_is}
 use Rattle.av1_tile.proofs.WithinDepth.{BeginsIn, added_stores, own_stores, whole_stores}
@@ -174,7 +174,7 @@ no_edge (predictions.Compound mode references mvs) e = refl
 pub whole_counted : (block : PlaneBlock) (count : ℕ) → count ≡ fold edges_in count (whole_steps block)
 whole_counted block count = go (is_whole block.prediction) refl
   where
-    go : (t : Bool) → is_whole block.prediction ≡ t → count ≡ fold edges_in count (if t then predict block 0 (whole_area block) ∷ [] else [])
+    go : (t : Bool) → is_whole block.prediction ≡ t → count ≡ fold edges_in count (if t then predict block 0 (leaf_area block.area) ∷ [] else [])
     go true e = sym (ap (λ (b : Bool). if b then counted count else count) (no_edge block.prediction e))
     go false e = refl
 
@@ -185,7 +185,7 @@ fits_laid h block triples p q same fits = subst (λ (cfg : PlaneConfig). BlockFi
 
 -- it lies in storage, as the block of its leaf does
 pub whole_inside : {T : Type 0} (h : Header) (block : PlaneBlock) (triples : List Triple) (plane : Plane T) → IsPlaneOf h block.plane plane →
-    BlockFits plane.plane_cfg h block triples → InPlane (whole_area block) plane
+    BlockFits plane.plane_cfg h block triples → InPlane (leaf_area block.area) plane
 whole_inside h block triples plane is fits = record { storage = is.whole; columns = omega (arith, fits.columns); rows = omega (arith, fits.rows) }
 
 module _ {T : Type 0} (num : T → ℕ) (pixel : ℕ → T) (law : (v : ℕ) → num (pixel v) ≡ v) (back : (x : T) → pixel (num x) ≡ x) (plan : PlanValue)
@@ -204,7 +204,7 @@ module _ {T : Type 0} (num : T → ℕ) (pixel : ℕ → T) (law : (v : ℕ) →
   whole_layout = ap (λ (p : Plane T). p.plane_cfg) predicted ∙ go (is_whole block.prediction)
     where
       go : (t : Bool) →
-          (fold (fast_in num pixel plan block.plane (λ _. no_luma)) before (if t then predict block 0 (whole_area block) ∷ [] else [])).plane_cfg ≡
+          (fold (fast_in num pixel plan block.plane (λ _. no_luma)) before (if t then predict block 0 (leaf_area block.area) ∷ [] else [])).plane_cfg ≡
           before.plane_cfg
       go true = refl
       go false = refl

@@ -15,6 +15,7 @@ use Rattle.av1_plan.specs.declared.header.Header.{Header}
 use Rattle.av1_plan.specs.declared.leaf.Triple.{Triple}
 use Rattle.av1_plan.specs.Geometry.{carries_chroma, block_count, transform_block}
 use Rattle.av1_plan.specs.Plan.{LeafValue, PlanValue}
+use Rattle.av1_references.specs.References.{leaf_area}
 use Rattle.av1_tile.specs.declared.plane_block.PlaneBlock.{PlaneBlock}
 use Rattle.av1_tile.specs.declared.plane_block.Prediction.{Prediction}
 use Rattle.av1_tile.specs.declared.plane_block.Prediction.TheVariants as predictions
@@ -22,7 +23,7 @@ use Rattle.av1_tile.specs.declared.planes.Planes.{Planes}
 use Rattle.av1_tile.specs.Canvas.{Component, Y, U, V}
 use Rattle.av1_tile.specs.PlaneBlocks.{number, component, components_of, is_whole, triples_in}
 use Rattle.av1_tile.specs.Reference.{by_prediction, luma_for}
-use Rattle.av1_tile.specs.Steps.{Step, predict, add, joined, block_area, whole_area, block_steps, steps_at, whole_steps, plane_steps, in_component}
+use Rattle.av1_tile.specs.Steps.{Step, predict, add, joined, block_area, block_steps, steps_at, whole_steps, plane_steps, in_component}
 use Rattle.av1_tile.specs.Steps.{component_steps, steps_of}
 use Rattle.av1_tile.specs.Walk.{edges_in, edges_after, fast_in, fast_step, placed_edge, plane_of, with_plane, SameLayout}
 
@@ -54,9 +55,9 @@ module _ {T : Type 0} (num : T → ℕ) (pixel : ℕ → T) (plan : PlanValue) (
   whole_steps_same q = go (is_whole block.prediction) refl
     where
       go : (t : Bool) → is_whole block.prediction ≡ t →
-          fold (fast_in num pixel plan p f) q (if t then predict block 0 (whole_area block) ∷ [] else []) ≡
-          fold (fast_in num pixel plan p g) q (if t then predict block 0 (whole_area block) ∷ [] else [])
-      go true e = painted_plane_same q (whole_area block) _ _ (λ r c v hr hc. ap pixel (whole_same block.prediction e (whole_area block) q r c))
+          fold (fast_in num pixel plan p f) q (if t then predict block 0 (leaf_area block.area) ∷ [] else []) ≡
+          fold (fast_in num pixel plan p g) q (if t then predict block 0 (leaf_area block.area) ∷ [] else [])
+      go true e = painted_plane_same q (leaf_area block.area) _ _ (λ r c v hr hc. ap pixel (whole_same block.prediction e (leaf_area block.area) q r c))
       go false e = refl
 
 module _ {T : Type 0} (num : T → ℕ) (pixel : ℕ → T) (plan : PlanValue) (p : ℕ) (f g : PlaneBlock → ℕ → ℕ → ℤ) (block : PlaneBlock)

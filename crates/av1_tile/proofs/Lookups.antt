@@ -17,6 +17,7 @@ use Rattle.av1_plan.specs.Plan.{LeafValue, PlanValue}
 use Rattle.av1_plan.specs.Spelling.{IsSpelled}
 use Rattle.av1_plan.specs.Validity.{first_fault}
 use Rattle.av1_plan.proofs.ReadPlans.{spelled_frame, spelled_leaves}
+use Rattle.av1_references.specs.References.{leaf_area}
 use Rattle.av1_tile.specs.declared.extent.PlaneExtent.{PlaneExtent}
 use Rattle.av1_tile.specs.declared.plane_block.PlaneBlock.{PlaneBlock}
 use Rattle.av1_tile.specs.declared.plane_block.Prediction.{Prediction}
@@ -28,7 +29,7 @@ use Rattle.av1_tile.specs.Lookups.{StepsFindSamples}
 use Rattle.av1_tile.specs.PlaneBlocks.{number, components_of, extent_of, is_whole, plane_block, triples_in}
 use Rattle.av1_tile.specs.Reference.{slow_walk}
 use Rattle.av1_tile.specs.Steps.{Step, predict, add, PlaneStep, block_area, block_steps, component_steps, in_component, joined, leaf_steps, plane_steps, steps}
-use Rattle.av1_tile.specs.Steps.{steps_after, steps_at, steps_of, whole_area}
+use Rattle.av1_tile.specs.Steps.{steps_after, steps_at, steps_of}
 use Rattle.av1_tile.specs.Walk.{answer_low, answer_right, has_edge}
 use Rattle.av1_tile.proofs.LeafTurns.{each_append, plan_ready}
 use Rattle.av1_tile.proofs.Loops.{joined_more}
@@ -79,14 +80,14 @@ predicted_here before k block n a x y e =
 
 -- a transform block lies in its leaf's area
 in_area : (h : Header) (block : PlaneBlock) (n : ℕ) (b : TransformBlock) → transform_block h block.plane block.area n ≡ Some b → (x y : ℕ) →
-    in_visible (block_area block b) x y ≡ true → in_visible (whole_area block) x y ≡ true
+    in_visible (block_area block b) x y ≡ true → in_visible (leaf_area block.area) x y ≡ true
 unfolding block_at
 in_area h block n b at x y e =
     let is = block_is h block.plane block.area n b at in
     let found = block_found h block.plane block.area n b at in
     let from_x : block.area.x ≤ b.x = omega (arith, ap (λ (c : TransformBlock). c.x) found) in
     let from_y : block.area.y ≤ b.y = omega (arith, ap (λ (c : TransformBlock). c.y) found) in
-    inside (block_area block b) (whole_area block) x y from_x from_y is.columns is.rows e
+    inside (block_area block b) (leaf_area block.area) x y from_x from_y is.columns is.rows e
   where
     inside : (a c : VisibleArea) (x y : ℕ) → c.x ≤ a.x → c.y ≤ a.y → a.x + a.width ≤ c.x + c.width → a.y + a.height ≤ c.y + c.height →
         in_visible a x y ≡ true → in_visible c x y ≡ true
@@ -104,7 +105,7 @@ in_area h block n b at x y e =
 module _ (h : Header) (k : Component) (block : PlaneBlock) (triples : List Triple) where
   -- all of the leaf's area is written
   abbrev AreaIsWritten : List PlaneStep → Type 0
-  AreaIsWritten before = (x y : ℕ) → in_visible (whole_area block) x y ≡ true → IsWritten before k x y
+  AreaIsWritten before = (x y : ℕ) → in_visible (leaf_area block.area) x y ≡ true → IsWritten before k x y
 
   module _ (whole : Bool) (is : is_whole block.prediction ≡ whole) where
     block_adds : (before : List PlaneStep) (n : ℕ) (b : TransformBlock) → transform_block h block.plane block.area n ≡ Some b →
@@ -153,13 +154,13 @@ module _ (h : Header) (k : Component) (block : PlaneBlock) (triples : List Tripl
 
       by : (t : Bool) → is_whole block.prediction ≡ t → Each StepAddsTo before (in_component k (plane_steps h block triples))
       by true is =
-          subst (λ (b : Bool). Each StepAddsTo before (in_component k ((if b then predict block 0 (whole_area block) ∷ [] else []) ++ own))) (sym is) (
+          subst (λ (b : Bool). Each StepAddsTo before (in_component k ((if b then predict block 0 (leaf_area block.area) ∷ [] else []) ++ own))) (sym is) (
             tt,
-            blocks_add true is (before ++ record { component = k; step = predict block 0 (whole_area block) } ∷ [])
-                (λ t x y e. predicted_here before k block 0 (whole_area block) x y e) (block_count block.area),
+            blocks_add true is (before ++ record { component = k; step = predict block 0 (leaf_area block.area) } ∷ [])
+                (λ t x y e. predicted_here before k block 0 (leaf_area block.area) x y e) (block_count block.area),
           )
       by false is =
-          subst (λ (b : Bool). Each StepAddsTo before (in_component k ((if b then predict block 0 (whole_area block) ∷ [] else []) ++ own))) (sym is)
+          subst (λ (b : Bool). Each StepAddsTo before (in_component k ((if b then predict block 0 (leaf_area block.area) ∷ [] else []) ++ own))) (sym is)
           (blocks_add false is before (λ t. absurd cc) (block_count block.area))
 
 leaf_adds : (h : Header) (earlier : List LeafValue) (leaf : LeafValue) (before : List PlaneStep) → Each StepAddsTo before (leaf_steps h earlier leaf)

@@ -10,7 +10,7 @@ use Rattle.av1_blocks.specs.declared.partition.BlockSize.{BlockSize}
 use Rattle.av1_blocks.specs.declared.partition.BlockSize.TheVariants.{BLOCK_4X4}
 use Rattle.av1_blocks.specs.declared.transform.TxSize.{TxSize}
 use Rattle.av1_blocks.specs.declared.transform.TxSize.TheVariants.{TX_4X4}
-use Rattle.av1_intra.specs.ChromaFromLuma.{luma_start, last_of_leaf, chroma_block, columns_read, rows_read, first_column, first_row}
+use Rattle.av1_intra.specs.ChromaFromLuma.{luma_start, last_of_leaf, chroma_block, columns_read, rows_read, first_luma_column, first_luma_row}
 use Rattle.av1_order.specs.ChromaFromLuma as order
 use Rattle.av1_plan.specs.CodingOrder.{IsQuarterInside}
 use Rattle.av1_order.specs.Steps.{Step}
@@ -127,8 +127,8 @@ module _ (h : Header) (earlier : List LeafValue) (leaf : LeafValue) (later : Lis
   low = omega (arith, halved_x h 1, halved_y h 1)
 
   written : (x y : ℕ) → x < columns_read (chroma_block (luma_of h (luma_block leaf))) → y < rows_read (chroma_block (luma_of h (luma_block leaf)))
-      → is_written h 0 (leaves_steps h 0 (earlier ++ leaf ∷ [])) (first_column (luma_of h (luma_block leaf)) + x)
-      (first_row (luma_of h (luma_block leaf)) + y) ≡ true
+      → is_written h 0 (leaves_steps h 0 (earlier ++ leaf ∷ [])) (first_luma_column (luma_of h (luma_block leaf)) + x)
+      (first_luma_row (luma_of h (luma_block leaf)) + y) ≡ true
   unfolding plane_size
   written x y hx hy =
       let all = leaves_steps h 0 (earlier ++ leaf ∷ []) in
@@ -150,6 +150,6 @@ module _ (h : Header) (earlier : List LeafValue) (leaf : LeafValue) (later : Lis
   pub luma_ready : (before : List PlaneStep) → AllByRecursion (StepFits h) before →
       units (xdec h 0) (ydec h 0) Y before ≡ leaves_steps h 0 (earlier ++ leaf ∷ []) → LumaReady h before (luma_block leaf)
   luma_ready before fits are x y hx hy =
-      covered h Y before fits (first_column (luma_of h (luma_block leaf)) + x) (first_row (luma_of h (luma_block leaf)) + y)
-      ∙ ap (λ (ss : List Step). is_written h 0 ss (first_column (luma_of h (luma_block leaf)) + x) (first_row (luma_of h (luma_block leaf)) + y)) are
+      covered h Y before fits (first_luma_column (luma_of h (luma_block leaf)) + x) (first_luma_row (luma_of h (luma_block leaf)) + y)
+      ∙ ap (λ (ss : List Step). is_written h 0 ss (first_luma_column (luma_of h (luma_block leaf)) + x) (first_luma_row (luma_of h (luma_block leaf)) + y)) are
       ∙ written x y hx hy

@@ -22,7 +22,7 @@ use Rattle.av1_plan.specs.declared.header.Header.{Header}
 use Rattle.av1_plan.specs.declared.leaf.Leaf.{Leaf}
 use Rattle.av1_plan.specs.declared.leaf.Triple.{Triple}
 use Rattle.av1_plan.specs.declared.leaves.Leaves.{Leaves}
-use Rattle.av1_plan.specs.Answer.{leaf_list, leaves_value, triple_list}
+use Rattle.av1_plan.specs.Values.{leaf_list, leaves_value, triple_list}
 use Rattle.av1_plan.specs.Geometry.{carries_chroma, covers_plane, plane_area, plane_width, plane_height, xdec, ydec}
 use Rattle.av1_plan.specs.Plan.{LeafValue, leaf_triples, leaf_value, leaf_values}
 use Rattle.av1_tile.specs.declared.plane_block.PlaneBlock.{PlaneBlock}

@@ -15,13 +15,13 @@ use Rattle.av1_intra.specs.declared.neighbours.IntraEdgeFilterParameters.{IntraE
 use Rattle.av1_intra.proofs.SameLuma.{ac_at_nil}
 use Rattle.av1_plan.specs.declared.header.Header.{Header}
 use Rattle.av1_plan.specs.Plan.{PlanValue}
-use Rattle.av1_references.specs.References.{compound_motion, single_motion}
+use Rattle.av1_references.specs.References.{compound_motion, single_motion, leaf_area}
 use Rattle.av1_tile.specs.declared.plane_block.PlaneBlock.{PlaneBlock}
 use Rattle.av1_tile.specs.declared.plane_block.Prediction.{Prediction}
 use Rattle.av1_tile.specs.declared.plane_block.Prediction.TheVariants as predictions
 use Rattle.av1_tile.specs.PlaneBlocks.{extent_of, is_whole}
 use Rattle.av1_tile.specs.Reference.{by_mode, by_prediction, no_luma}
-use Rattle.av1_tile.specs.Steps.{predict, own_prediction, whole_area, whole_steps}
+use Rattle.av1_tile.specs.Steps.{predict, own_prediction, whole_steps}
 use Rattle.av1_tile.specs.Walk.{fast_in, placed_edge}
 
 -- without luma nothing is added to the mean
@@ -83,28 +83,28 @@ module _ {T : Type 0} (num : T → ℕ) (pixel : ℕ → T) (plan : PlanValue) (
 -- a whole area that is predicted from one reference, or from two
 module _ {T : Type 0} (num : T → ℕ) (pixel : ℕ → T) (value : PlanValue) (luma : PlaneBlock → ℕ → ℕ → ℤ) (block : PlaneBlock) (plane after : Plane T) where
   pub walked_single : (mode : PredictionMode) (reference : RefType) (mv : MotionVector) → block.prediction ≡ predictions.Single mode reference mv
-      → after ≡ painted_plane plane (whole_area block) (λ r c _. pixel (single_motion value block.plane reference mv (whole_area block) r c))
+      → after ≡ painted_plane plane (leaf_area block.area) (λ r c _. pixel (single_motion value block.plane reference mv (leaf_area block.area) r c))
       → after ≡ fold (fast_in num pixel value block.plane luma) plane (whole_steps block)
   unfolding fast_in by_prediction
   walked_single mode reference mv e painted =
       painted
-      ∙ ap (λ (of : Prediction). painted_plane plane (whole_area block)
+      ∙ ap (λ (of : Prediction). painted_plane plane (leaf_area block.area)
       (λ r c _.
-      pixel (by_prediction value block.plane of (whole_area block) (placed_edge value.header block.plane block 0 (whole_area block) num plane)
+      pixel (by_prediction value block.plane of (leaf_area block.area) (placed_edge value.header block.plane block 0 (leaf_area block.area) num plane)
       (luma block) r c))) (sym e)
-      ∙ ap (λ (b : Bool). fold (fast_in num pixel value block.plane luma) plane (if b then predict block 0 (whole_area block) ∷ [] else []))
+      ∙ ap (λ (b : Bool). fold (fast_in num pixel value block.plane luma) plane (if b then predict block 0 (leaf_area block.area) ∷ [] else []))
       (sym (ap is_whole e))
 
   pub walked_compound : (mode : PredictionMode) (references : List RefType) (mvs : List MotionVector) →
       block.prediction ≡ predictions.Compound mode references mvs
-      → after ≡ painted_plane plane (whole_area block) (λ r c _. pixel (compound_motion value block.plane references mvs (whole_area block) r c))
+      → after ≡ painted_plane plane (leaf_area block.area) (λ r c _. pixel (compound_motion value block.plane references mvs (leaf_area block.area) r c))
       → after ≡ fold (fast_in num pixel value block.plane luma) plane (whole_steps block)
   unfolding fast_in by_prediction
   walked_compound mode references mvs e painted =
       painted
-      ∙ ap (λ (of : Prediction). painted_plane plane (whole_area block)
+      ∙ ap (λ (of : Prediction). painted_plane plane (leaf_area block.area)
       (λ r c _.
-      pixel (by_prediction value block.plane of (whole_area block) (placed_edge value.header block.plane block 0 (whole_area block) num plane)
+      pixel (by_prediction value block.plane of (leaf_area block.area) (placed_edge value.header block.plane block 0 (leaf_area block.area) num plane)
       (luma block) r c))) (sym e)
-      ∙ ap (λ (b : Bool). fold (fast_in num pixel value block.plane luma) plane (if b then predict block 0 (whole_area block) ∷ [] else []))
+      ∙ ap (λ (b : Bool). fold (fast_in num pixel value block.plane luma) plane (if b then predict block 0 (leaf_area block.area) ∷ [] else []))
       (sym (ap is_whole e))

@@ -5,7 +5,7 @@ use Rattle.std.specs.List.{list_any}
 use Rattle.std.specs.Prelude.{⊤}
 use Rattle.av1_frame.specs.Areas.{VisibleArea, in_visible}
 use Rattle.av1_frame.specs.declared.plane.PlaneConfig.{PlaneConfig}
-use Rattle.av1_intra.specs.ChromaFromLuma.{chroma_block, columns_read, rows_read, first_column, first_row}
+use Rattle.av1_intra.specs.ChromaFromLuma.{chroma_block, columns_read, rows_read, first_luma_column, first_luma_row}
 use Rattle.av1_plan.specs.declared.header.Header.{Header}
 use Rattle.av1_plan.specs.Plan.{LeafValue}
 use Rattle.av1_plan.specs.Geometry.{plane_width, plane_height}
@@ -42,12 +42,12 @@ EdgeReady h k before block n a =
 abbrev pub LumaReady : Header → List PlaneStep → LumaBlock → Type 0
 LumaReady h before leaf =
     (x y : ℕ) → x < columns_read (chroma_block (luma_of h leaf)) → y < rows_read (chroma_block (luma_of h leaf))
-    → IsWritten before Y (first_column (luma_of h leaf) + x) (first_row (luma_of h leaf) + y)
+    → IsWritten before Y (first_luma_column (luma_of h leaf) + x) (first_luma_row (luma_of h leaf) + y)
 
 -- it lies in the storage of a plane of these settings
 pub record LumaStored (h : Header) (leaf : LumaBlock) (cfg : PlaneConfig) : Type 0 where
-  pub columns : cfg.xorigin + (first_column (luma_of h leaf) + columns_read (chroma_block (luma_of h leaf))) ≤ cfg.stride
-  pub rows : cfg.yorigin + (first_row (luma_of h leaf) + rows_read (chroma_block (luma_of h leaf))) ≤ cfg.alloc_height
+  pub columns : cfg.xorigin + (first_luma_column (luma_of h leaf) + columns_read (chroma_block (luma_of h leaf))) ≤ cfg.stride
+  pub rows : cfg.yorigin + (first_luma_row (luma_of h leaf) + rows_read (chroma_block (luma_of h leaf))) ≤ cfg.alloc_height
 
 -- a prediction from luma is of one block of chroma, and what it reads is written and lies in any storage that has room for whole superblocks
 pub record FromLumaReady (h : Header) (k : Component) (before : List PlaneStep) (block : PlaneBlock) (n : ℕ) (a : VisibleArea) : Type 0 where

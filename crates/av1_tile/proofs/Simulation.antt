@@ -20,7 +20,7 @@ use Rattle.av1_frame.specs.Areas.{VisibleArea, in_visible}
 use Rattle.av1_frame.specs.declared.plane.Plane.{Plane}
 use Rattle.av1_frame.specs.Planes.{sample_at, painted_plane, IsWhole}
 use Rattle.av1_frame.proofs.Planes.{sample_at_painted}
-use Rattle.av1_intra.specs.ChromaFromLuma.{chroma_block, columns_read, rows_read, first_column, first_row}
+use Rattle.av1_intra.specs.ChromaFromLuma.{chroma_block, columns_read, rows_read, first_luma_column, first_luma_row}
 use Rattle.av1_intra.specs.declared.neighbours.IntraEdgeFilterParameters.{IntraEdgeFilterParameters}
 use Rattle.av1_intra.proofs.SameLuma.{leaf_difference_same, predicted_luma}
 use Rattle.av1_order.proofs.Plans.{halved_x, halved_y}
@@ -249,20 +249,20 @@ module _ {T : Type 0} (num : T → ℕ) (pixel : ℕ → T) (law : (v : ℕ) →
   luma_same : (h : Header) (leaf : LumaBlock) (before : List PlaneStep) (p : Plane T) (written : Written) →
       ((x y : ℕ) → is_some (written x y) ≡ list_any (draws Y x y) before) → LumaReady h before leaf → LumaStored h leaf p.plane_cfg
       → Agrees num p written → (x y : ℕ) → x < columns_read (chroma_block (luma_of h leaf)) → y < rows_read (chroma_block (luma_of h leaf))
-      → sample_at num p (first_column (luma_of h leaf) + x) (first_row (luma_of h leaf) + y) ≡
-      sample_of (written (first_column (luma_of h leaf) + x) (first_row (luma_of h leaf) + y))
+      → sample_at num p (first_luma_column (luma_of h leaf) + x) (first_luma_row (luma_of h leaf) + y) ≡
+      sample_of (written (first_luma_column (luma_of h leaf) + x) (first_luma_row (luma_of h leaf) + y))
   luma_same h leaf before p written is ready stored agrees x y hx hy =
-      let c = first_column (luma_of h leaf) + x in
-      let r = first_row (luma_of h leaf) + y in
-      sym (ap sample_of (stored_is num p written agrees c r (stored_at _ (first_column (luma_of h leaf)) _ x _ stored.columns hx)
-      (stored_at _ (first_row (luma_of h leaf)) _ y _ stored.rows hy) (is c r ∙ ready x y hx hy)))
+      let c = first_luma_column (luma_of h leaf) + x in
+      let r = first_luma_row (luma_of h leaf) + y in
+      sym (ap sample_of (stored_is num p written agrees c r (stored_at _ (first_luma_column (luma_of h leaf)) _ x _ stored.columns hx)
+      (stored_at _ (first_luma_row (luma_of h leaf)) _ y _ stored.rows hy) (is c r ∙ ready x y hx hy)))
 
   -- and so is how far it is from its mean
   differences_same : (h : Header) (block : PlaneBlock) (k : Component) (f g : ℕ → ℕ → ℕ) (r c : ℕ) → r < (chroma_block (luma_of h block.leaf)).height →
       c < (chroma_block (luma_of h block.leaf)).width
       → ((x y : ℕ) → x < columns_read (chroma_block (luma_of h block.leaf)) → y < rows_read (chroma_block (luma_of h block.leaf))
-      → f (first_column (luma_of h block.leaf) + x) (first_row (luma_of h block.leaf) + y) ≡ g (first_column (luma_of h block.leaf) + x)
-      (first_row (luma_of h block.leaf) + y))
+      → f (first_luma_column (luma_of h block.leaf) + x) (first_luma_row (luma_of h block.leaf) + y) ≡ g (first_luma_column (luma_of h block.leaf) + x)
+      (first_luma_row (luma_of h block.leaf) + y))
       → luma_for h f k block r c ≡ luma_for h g k block r c
   differences_same h block Y f g r c hr hc same = refl
   differences_same h block U f g r c hr hc same = leaf_difference_same f g (luma_of h block.leaf) r c (halved_x h 1) (halved_y h 1) hr hc same

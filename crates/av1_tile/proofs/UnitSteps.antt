@@ -26,6 +26,7 @@ use Rattle.av1_plan.specs.Tree.{Block}
 use Rattle.av1_plan.specs.declared.geometry.TransformBlock.{TransformBlock}
 use Rattle.av1_plan.specs.declared.header.Header.{Header}
 use Rattle.av1_plan.specs.declared.leaf.Triple.{Triple}
+use Rattle.av1_references.specs.References.{leaf_area}
 use Rattle.av1_tile.specs.declared.plane_block.PlaneBlock.{PlaneBlock}
 use Rattle.av1_intra.specs.declared.neighbours.IntraEdgeFilterParameters.{IntraEdgeFilterParameters}
 use Rattle.av1_plan.specs.declared.leaf.ChromaMode.TheVariants.{Plain, Cfl}
@@ -33,7 +34,7 @@ use Rattle.av1_plan.specs.declared.leaf.LeafKind.{LeafKind}
 use Rattle.av1_plan.specs.declared.leaf.LeafKind.TheVariants.{Intra, Single, Compound}
 use Rattle.av1_tile.specs.Canvas.{Component, Y, U, V, is_same}
 use Rattle.av1_tile.specs.PlaneBlocks.{number, block_told, plane_block, prediction_in, told_at, is_whole, triples_in}
-use Rattle.av1_tile.specs.Steps.{Step, predict, add, PlaneStep, joined, block_area, whole_area, block_steps, steps_at, whole_steps, plane_steps, in_component}
+use Rattle.av1_tile.specs.Steps.{Step, predict, add, PlaneStep, joined, block_area, block_steps, steps_at, whole_steps, plane_steps, in_component}
 use Rattle.av1_tile.specs.Steps.{component_steps, steps_of, leaf_steps, steps_after, steps}
 
 -- the prediction of the rectangle a of a leaf's block, in units; sx and sy are 1 where the plane is halved
@@ -233,7 +234,7 @@ module _ (h : Header) (filter : Option IntraEdgeFilterParameters) (k : Component
       (from_place _ _ i block_x) (from_place _ _ j block_y) (ap (λ t. tx_width t / 4) block_tx_size) (ap (λ t. tx_height t / 4) block_tx_size)
 
   -- all of its area at once
-  pub whole_unit : unit_step sx sy block (whole_area block) ≡ whole_step h (number k) leaf
+  pub whole_unit : unit_step sx sy block (leaf_area block.area) ≡ whole_step h (number k) leaf
   whole_unit =
       let b = widened sx sy (cells_of leaf) in
       let u = units_in h (number k) leaf frame grid valid in
@@ -277,11 +278,11 @@ module _ (h : Header) (filter : Option IntraEdgeFilterParameters) (k : Component
 
   -- no prediction of the whole area comes before the blocks
   pub nothing_whole : is_inter leaf.kind ≡ false → whole_steps block ≡ []
-  nothing_whole intra = ap (λ (b : Bool). if b then predict block 0 (whole_area block) ∷ [] else []) (whole_is_inter filter k leaf.kind ∙ intra)
+  nothing_whole intra = ap (λ (b : Bool). if b then predict block 0 (leaf_area block.area) ∷ [] else []) (whole_is_inter filter k leaf.kind ∙ intra)
 
   -- or it does
-  pub whole_first : is_inter leaf.kind ≡ true → whole_steps block ≡ predict block 0 (whole_area block) ∷ []
-  whole_first inter = ap (λ (b : Bool). if b then predict block 0 (whole_area block) ∷ [] else []) (whole_is_inter filter k leaf.kind ∙ inter)
+  pub whole_first : is_inter leaf.kind ≡ true → whole_steps block ≡ predict block 0 (leaf_area block.area) ∷ []
+  whole_first inter = ap (λ (b : Bool). if b then predict block 0 (leaf_area block.area) ∷ [] else []) (whole_is_inter filter k leaf.kind ∙ inter)
 
   intra_units : (triples : List Triple) → is_inter leaf.kind ≡ false → covers_plane h leaf.x leaf.y leaf.size (number k) ≡ true →
       units sx sy k (in_component k (plane_steps h block triples)) ≡ steps_in h (number k) leaf
@@ -296,10 +297,10 @@ module _ (h : Header) (filter : Option IntraEdgeFilterParameters) (k : Component
   inter_units : (triples : List Triple) → fault_of h leaf ≡ None → is_inter leaf.kind ≡ true →
       units sx sy k (in_component k (plane_steps h block triples)) ≡ steps_in h (number k) leaf
   inter_units triples faultless inter =
-      let own : units sx sy k (in_component k (predict block 0 (whole_area block) ∷ [])) ≡ whole_step h (number k) leaf ∷ [] =
+      let own : units sx sy k (in_component k (predict block 0 (leaf_area block.area) ∷ [])) ≡ whole_step h (number k) leaf ∷ [] =
       rw (same_component k) (ap (λ (s : order.Step). s ∷ []) whole_unit) in
       ap (λ (w : List Step). units sx sy k (in_component k (w ++ joined (block_count block.area) (steps_at h block triples)))) (whole_first inter)
-      ∙ flat_map-append (unit_of sx sy k) (in_component k (predict block 0 (whole_area block) ∷ []))
+      ∙ flat_map-append (unit_of sx sy k) (in_component k (predict block 0 (leaf_area block.area) ∷ []))
       (in_component k (joined (block_count block.area) (steps_at h block triples)))
       ∙ ap (λ l. l ++ units sx sy k (in_component k (joined (block_count block.area) (steps_at h block triples)))) own
       ∙ ap (λ l. whole_step h (number k) leaf ∷ l) (blocks_added triples inter (block_count block.area))

@@ -22,10 +22,11 @@ use Rattle.av1_plan.specs.Plan.{LeafValue}
 use Rattle.av1_plan.specs.declared.geometry.TransformBlock.{TransformBlock}
 use Rattle.av1_plan.specs.declared.header.Header.{Header}
 use Rattle.av1_plan.specs.declared.leaf.Triple.{Triple}
+use Rattle.av1_references.specs.References.{leaf_area}
 use Rattle.av1_tile.specs.declared.plane_block.PlaneBlock.{PlaneBlock}
 use Rattle.av1_tile.specs.Canvas.{Component, Y, U, V, is_same}
 use Rattle.av1_tile.specs.PlaneBlocks.{number, block_told, is_whole, plane_block, told_at, triples_in}
-use Rattle.av1_tile.specs.Steps.{Step, predict, add, PlaneStep, joined, block_area, whole_area, block_steps, steps_at, whole_steps, plane_steps, in_component}
+use Rattle.av1_tile.specs.Steps.{Step, predict, add, PlaneStep, joined, block_area, block_steps, steps_at, whole_steps, plane_steps, in_component}
 use Rattle.av1_tile.specs.Steps.{component_steps, steps_of, leaf_steps, steps_after, steps}
 use Rattle.av1_tile.proofs.Readiness.{predicts, draws}
 use Rattle.av1_tile.proofs.TransformBlocks.{block_found}
@@ -140,7 +141,7 @@ module _ (h : Header) (filter : Option IntraEdgeFilterParameters) (k : Component
         rows = sym high;
       }
 
-  pub whole_on_units : is_inter leaf.kind ≡ true → IsOnUnits (xdec h (number k)) (ydec h (number k)) block (whole_area block)
+  pub whole_on_units : is_inter leaf.kind ≡ true → IsOnUnits (xdec h (number k)) (ydec h (number k)) block (leaf_area block.area)
   whole_on_units inter =
       let w = inter_is_whole h (number k) leaf is.grid is.faultless inter in
       let same = whole_unit h filter k leaf is.frame is.grid valid in

@@ -21,14 +21,14 @@ use Rattle.av1_plan.specs.declared.leaf.Triple.{Triple}
 use Rattle.av1_plan.specs.declared.geometry.PlaneArea.{PlaneArea}
 use Rattle.av1_plan.specs.Geometry.{plane_width, plane_height}
 use Rattle.av1_plan.specs.Plan.{PlanValue}
-use Rattle.av1_references.specs.References.{ServesPlan}
+use Rattle.av1_references.specs.References.{ServesPlan, leaf_area}
 use Rattle.av1_references.proofs.Motion.{compound_motion_within, held_motion_within}
 use Rattle.av1_tile.specs.declared.plane_block.PlaneBlock.{PlaneBlock}
 use Rattle.av1_tile.specs.declared.plane_block.Prediction.{Prediction}
 use Rattle.av1_tile.specs.declared.plane_block.Prediction.TheVariants as predictions
 use Rattle.av1_tile.specs.PlaneBlocks.{extent_of, is_whole}
 use Rattle.av1_tile.specs.Reference.{by_mode, by_prediction, no_luma}
-use Rattle.av1_tile.specs.Steps.{predict, add, own_prediction, whole_area, whole_steps}
+use Rattle.av1_tile.specs.Steps.{predict, add, own_prediction, whole_steps}
 use Rattle.av1_tile.specs.Walk.{IsPlaneOf, Stores, PredictionFits, edge_by_place, answer_right, answer_low, placed_edge, fast_in}
 use Rattle.av1_frame.proofs.Within.{chosen_below, clip_within, painted_numbers_below, sample_below, some_numbers}
 use Rattle.av1_edges.proofs.Within.{above_within, base_within, corner_within, left_within, smoothed_within, some_available, available_inside}
@@ -137,12 +137,12 @@ module _ {T : Type 0} (num : T → ℕ) (pixel : ℕ → T) (law : (v : ℕ) →
     whole_stores block fits = go (is_whole block.prediction) refl
       where
         go : (t : Bool) → is_whole block.prediction ≡ t →
-            Stores num plan.header p (fold (fast_in num pixel plan p luma) plane (if t then predict block 0 (whole_area block) ∷ [] else []))
+            Stores num plan.header p (fold (fast_in num pixel plan p luma) plane (if t then predict block 0 (leaf_area block.area) ∷ [] else []))
         go true e = record {
-          place = painted_place plan.header p plane (whole_area block) _ stores.place;
+          place = painted_place plan.header p plane (leaf_area block.area) _ stores.place;
           within =
-              painted_numbers_below num pixel law (2 ^ plan.header.depth) plane (whole_area block) _ stores.within
-              (λ r c v hr hc l. whole_within block.area block.prediction fits e (whole_area block) _ (luma block) r c);
+              painted_numbers_below num pixel law (2 ^ plan.header.depth) plane (leaf_area block.area) _ stores.within
+              (λ r c v hr hc l. whole_within block.area block.prediction fits e (leaf_area block.area) _ (luma block) r c);
         }
         go false e = stores
 

@@ -4,7 +4,7 @@ use Rattle.std.specs.Prelude.{◌≡◌, ℕ, suc, ◌+◌, ◌-◌, ◌<◌, �
 use Rattle.std.specs.Prelude.{◌++◌, is_some}
 use Rattle.std.specs.List.{fold}
 use Rattle.av1_frame.specs.Areas.{VisibleArea, in_visible}
-use Rattle.av1_intra.specs.ChromaFromLuma.{chroma_block, columns_read, rows_read, first_column, first_row}
+use Rattle.av1_intra.specs.ChromaFromLuma.{chroma_block, columns_read, rows_read, first_luma_column, first_luma_row}
 use Rattle.av1_plan.specs.declared.header.Header.{Header}
 use Rattle.av1_plan.specs.Geometry.{plane_height, plane_width}
 use Rattle.av1_plan.specs.Grammar.{plan as grammar}
@@ -40,7 +40,7 @@ pub record EdgeIsThere (written : Written) (a : VisibleArea) : Type 0 where
 abbrev pub LumaIsThere : Header → Written → LumaBlock → Type 0
 LumaIsThere h written leaf =
     (x y : ℕ) → x < columns_read (chroma_block (luma_of h leaf)) → y < rows_read (chroma_block (luma_of h leaf)) →
-    IsThere written (first_column (luma_of h leaf) + x) (first_row (luma_of h leaf) + y)
+    IsThere written (first_luma_column (luma_of h leaf) + x) (first_luma_row (luma_of h leaf) + y)
 
 -- what a prediction looks up
 abbrev pub PredictionFinds : Header → Canvas → Component → PlaneBlock → VisibleArea → Prediction → Type 0

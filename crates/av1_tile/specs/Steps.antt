@@ -3,7 +3,6 @@
 -- processes.
 use Rattle.std.specs.Prelude.{ℕ, List, [], ◌∷◌, ◌++◌, map, if◌then◌else◌, Option, Some, None}
 use Rattle.std.specs.List.{range_with_len, flat_map}
-use Rattle.av1_blocks.specs.Blocks.{block_width, block_height}
 use Rattle.av1_blocks.specs.Transforms.{tx_width, tx_height}
 use Rattle.av1_frame.specs.Areas.{VisibleArea}
 use Rattle.av1_plan.specs.declared.header.Header.{Header}
@@ -11,6 +10,7 @@ use Rattle.av1_plan.specs.declared.geometry.TransformBlock.{TransformBlock}
 use Rattle.av1_plan.specs.declared.leaf.Triple.{Triple}
 use Rattle.av1_plan.specs.Geometry.{block_count, transform_block}
 use Rattle.av1_plan.specs.Plan.{LeafValue}
+use Rattle.av1_references.specs.References.{leaf_area}
 use Rattle.av1_tile.specs.declared.plane_block.PlaneBlock.{PlaneBlock}
 use Rattle.av1_tile.specs.Canvas.{Component}
 use Rattle.av1_tile.specs.PlaneBlocks.{plane_block, triples_in, components_of, is_whole}
@@ -25,18 +25,10 @@ pub data Step : Type 0 where
 unfoldable pub joined : {A : Type 0} → ℕ → (ℕ → List A) → List A
 joined n f = flat_map f (range_with_len 0 n)
 
--- the rectangle of a transform block, and of a leaf's whole block
+-- the rectangle of a transform block
 abbrev pub block_area : PlaneBlock → TransformBlock → VisibleArea
 block_area block b =
     record { x = b.x; y = b.y; width = tx_width block.area.tx_size; height = tx_height block.area.tx_size }
-
-abbrev pub whole_area : PlaneBlock → VisibleArea
-whole_area block = record {
-  x = block.area.x;
-  y = block.area.y;
-  width = block_width block.area.size;
-  height = block_height block.area.size;
-}
 
 -- the prediction of transform block n from the samples round it: none where its leaf is predicted from references
 abbrev pub own_prediction : PlaneBlock → (n : ℕ) → VisibleArea → List Step
@@ -55,7 +47,7 @@ steps_at h block triples n = block_steps block triples n (transform_block h bloc
 
 -- the prediction of the whole area, from references
 abbrev pub whole_steps : PlaneBlock → List Step
-whole_steps block = if is_whole block.prediction then predict block 0 (whole_area block) ∷ [] else []
+whole_steps block = if is_whole block.prediction then predict block 0 (leaf_area block.area) ∷ [] else []
 
 -- the steps of a leaf's block: its whole area where it is from references, then its transform blocks in raster order
 abbrev pub plane_steps : Header → PlaneBlock → List Triple → List Step

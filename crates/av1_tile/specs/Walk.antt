@@ -28,7 +28,8 @@ use Rattle.av1_frame.specs.declared.tile_state.CodedBlockInfo.{CodedBlockInfo}
 use Rattle.av1_frame.specs.declared.plane.PlaneConfig.{PlaneConfig}
 use Rattle.av1_frame.specs.Areas.{VisibleArea}
 use Rattle.av1_frame.specs.Planes.{sample_at, painted_plane, IsWhole}
-use Rattle.av1_intra.specs.ChromaFromLuma.{ac_at, chroma_block, columns_read, rows_read, first_column, first_row}
+use Rattle.av1_intra.specs.ChromaFromLuma.{ac_at, chroma_block, columns_read, rows_read, first_luma_column}
+use Rattle.av1_intra.specs.ChromaFromLuma.{first_luma_row}
 use Rattle.av1_intra.specs.Predicted.{alpha_of}
 use Rattle.av1_inter.specs.Reference.{reference_of}
 use Rattle.av1_intra.specs.declared.neighbours.IntraEdgeFilterParameters.{IntraEdgeFilterParameters}
@@ -339,10 +340,10 @@ pub record LumaFits (h : Header) (cfg : PlaneConfig) (leaf : LeafValue) : Type 0
   pub few : (chroma_block (luma_of h (luma_block leaf))).width * (chroma_block (luma_of h (luma_block leaf))).height ≤
       1024
   pub columns : cfg.xorigin +
-      (first_column (luma_of h (luma_block leaf)) + columns_read (chroma_block (luma_of h (luma_block leaf)))) ≤
+      (first_luma_column (luma_of h (luma_block leaf)) + columns_read (chroma_block (luma_of h (luma_block leaf)))) ≤
       cfg.stride
   pub rows : cfg.yorigin +
-      (first_row (luma_of h (luma_block leaf)) + rows_read (chroma_block (luma_of h (luma_block leaf)))) ≤
+      (first_luma_row (luma_of h (luma_block leaf)) + rows_read (chroma_block (luma_of h (luma_block leaf)))) ≤
       cfg.alloc_height
   pub depth : h.depth ≤ 12
 

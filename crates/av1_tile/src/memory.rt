@@ -31,7 +31,7 @@ impl<T: Pixel> Model for WalkMemory<T> {
 
 impl<T: Pixel> WalkMemory<T> {
     ghost use Rattle.std.specs.Prelude.{◌≡◌, ◌≤◌, ◌*◌, ◌/◌, IfOk, nat_le};
-    ghost use Rattle.av1_plan.specs.Answer.{leaves_value};
+    ghost use Rattle.av1_plan.specs.Values.{leaves_value};
     ghost use Rattle.av1_plan.specs.Plan.{PlanValue};
     ghost use Rattle.av1_tile.specs.Memory.{HasRoomFor, IsPlanOver, ShowsPlan};
     ghost use Rattle.av1_tile.specs.State.{edges_of};

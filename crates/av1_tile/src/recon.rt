@@ -1,7 +1,7 @@
 //! The walk as callers see it.
 
 ghost use Rattle.std.specs.Prelude.{◌≡◌, ◌≤◌, None};
-ghost use Rattle.av1_plan.specs.Answer.{plan_value};
+ghost use Rattle.av1_plan.specs.Values.{plan_value};
 ghost use Rattle.av1_plan.specs.Validity.{first_fault};
 ghost use Rattle.av1_tile.specs.Output.{planes_of, visible};
 ghost use Rattle.av1_tile.specs.State.{edges_of, IsSound, MadeFor, shown, ShowsRows, state_edges, state_header, state_references, with_settings};

@@ -36,7 +36,7 @@ impl<T: Pixel> Model for TileState<T> {
 
 impl<T: Pixel> TileState<T> {
     ghost use Rattle.std.specs.Prelude.{◌≡◌, ◌<◌, ◌≤◌, ◌^◌, IfOk, map, None};
-    ghost use Rattle.av1_plan.specs.Answer.{plan_value};
+    ghost use Rattle.av1_plan.specs.Values.{plan_value};
     ghost use Rattle.av1_plan.specs.Validity.{first_fault};
     ghost use Rattle.av1_references.specs.References.{HoldsReferences};
     ghost use Rattle.av1_tile.specs.PlaneBlocks.{extent_of};

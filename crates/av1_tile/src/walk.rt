@@ -7,14 +7,14 @@ ghost use Rattle.av1_blocks.specs.Transforms.{tx_width, tx_height};
 ghost use Rattle.av1_frame.specs.Planes.{InPlane};
 ghost use Rattle.av1_intra.specs.ChromaFromLuma.{ac_at};
 ghost use Rattle.av1_plan.specs.Plan.{PlanValue};
-ghost use Rattle.av1_references.specs.References.{ServesPlan};
+ghost use Rattle.av1_references.specs.References.{ServesPlan, leaf_area};
 ghost use Rattle.av1_plan.specs.Geometry.{blocks_across, block_count, transform_block};
 ghost use Rattle.av1_plan.specs.ReadPlans.{IsReadFrame};
 ghost use Rattle.av1_plan.specs.declared.leaf.Triple.{Triple};
 ghost use Rattle.av1_tile.specs.Canvas.Component.{Y};
 ghost use Rattle.av1_tile.specs.PlaneBlocks.{block_told, component, is_whole, prediction_in};
 ghost use Rattle.av1_tile.specs.Reference.{no_luma};
-ghost use Rattle.av1_tile.specs.Steps.{own_prediction, whole_area, whole_steps, plane_steps, steps_at, steps_of, joined};
+ghost use Rattle.av1_tile.specs.Steps.{own_prediction, whole_steps, plane_steps, steps_at, steps_of, joined};
 ghost use Rattle.av1_tile.specs.Walk.{area_at, block_by, cell_at, Begins, edges_in, edges_after, fast_in, fast_step, leaf_with, BlockFits, HasCells, IsPlaceIn};
 ghost use Rattle.av1_tile.specs.Walk.{block_in, HoldsPlane, IsWalked, KeepsPlane, PredictionFits, Stores, Walks, with_header};
 
@@ -229,7 +229,7 @@ fn predict_whole<T: Pixel>(
 )
     requires plane { block.now.plane < 3 }
     requires depth { fi.now.bit_depth ≤ T.BITS }
-    requires fits { InPlane (whole_area block.now) plane.old }
+    requires fits { InPlane (leaf_area block.now.area) plane.old }
     requires references { (value : PlanValue) ×
         (ServesPlan T.num value fi.now × PredictionFits value.header block.now.plane block.now.area block.now.prediction) }
     ensures { (value : PlanValue) → ServesPlan T.num value fi.now → PredictionFits value.header block.now.plane block.now.area block.now.prediction

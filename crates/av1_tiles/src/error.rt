@@ -6,24 +6,15 @@ ghost use Rattle.av1_tiles.specs.declared.error.TileError.TheVariants.{Memory};
 ghost use Rattle.av1_tiles.specs.declared.error.TilesError.TheVariants as errors;
 
 use av1_blocks::OutOfMemory;
-use av1_plan::{InvalidKind, PlanError};
+use av1_plan::PlanError;
+use av1_recon::PlanRefusal;
 use av1_streams::{ReadError, WriteFault};
-
-/// Why the part of a tile is refused.
-#[derive(Copy, Clone, Debug, PartialEq, Eq)]
-pub enum TileFault {
-    /// The field that begins at byte `at` of the part is cut, has a value that is not admitted, or is left over after
-    /// the end.
-    Malformed { at: u32 },
-    /// Leaf number `leaf` of the tile, counted from 0 in coding order, is the first that is refused, and why.
-    Invalid { leaf: u32, kind: InvalidKind },
-}
 
 /// Why a tile has no valid plan.
 #[derive(Copy, Clone, Debug, PartialEq, Eq)]
 pub enum TileError {
     /// Its part is refused.
-    Refused { fault: TileFault },
+    Refused { fault: PlanRefusal },
     /// Memory ran out.
     Memory,
 }
@@ -47,7 +38,7 @@ pub enum TilesError {
     /// tile's part is one field.
     Malformed { at: u32 },
     /// Tile number `tile`, counted from 0 in raster order, is the first that is refused, and why.
-    Tile { tile: u16, fault: TileFault },
+    Tile { tile: u16, fault: PlanRefusal },
     /// A write failed. A prefix of the planes was written.
     WriteFault,
     /// Memory ran out, before the first written byte.

@@ -1,6 +1,6 @@
 //! A grid of tiles in memory.
 
-use av1_plan::{Header, Planes};
+use av1_plan::{Header, SlotPlanes};
 
 /// What stands before the parts of the tiles.
 #[derive(Drop)]
@@ -8,7 +8,7 @@ pub struct Front {
     /// The whole frame.
     pub header: Header,
     /// For each slot its planes, of the whole frame.
-    pub references: Vec<Option<Planes>>,
+    pub references: Vec<Option<SlotPlanes>>,
     /// The columns of luma at which tiles begin, rising, the first 0, and behind them the frame's width.
     pub columns: Vec<u16>,
     /// The same of rows.

@@ -5,7 +5,7 @@ ghost use Rattle.av1_frame.specs.Planes.{InPlane, painted_plane};
 ghost use Rattle.av1_frame.specs.Regions.{InStorage, painted};
 ghost use Rattle.av1_frame.specs.Samples.{paint_row};
 ghost use Rattle.av1_plan.specs.Geometry.{plane_width, plane_height};
-ghost use Rattle.av1_plan.specs.Answer.{plan_value};
+ghost use Rattle.av1_plan.specs.Values.{plan_value};
 ghost use Rattle.av1_plan.specs.Validity.{first_fault};
 ghost use Rattle.av1_tile.specs.Memory.{HasRoomFor, ShowsPlan};
 ghost use Rattle.av1_plan.specs.ReadPlans.{IsReadFrame};

@@ -31,7 +31,7 @@ mod tile;
 
 pub use area::TileArea;
 pub use container::read_tiles;
-pub use error::{TileError, TileFault, TilesError};
+pub use error::{TileError, TilesError};
 pub use file::{Front, TileFile};
 pub use frame::{TilePicture, place_tile, reconstruct_alone, reconstruct_in};
 pub use joined::{Frame, Samples, join_frame, join_tiles};

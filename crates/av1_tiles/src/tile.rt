@@ -2,7 +2,7 @@
 
 ghost use Rattle.std.specs.Prelude.{◌≡◌, ◌+◌, ◌*◌, ◌<◌, ◌≤◌, length, IfOk, IfErr, MatchResult, option_map, vec_len};
 ghost use Rattle.av1_plan.specs.declared.error.PlanError.TheVariants.{Memory};
-ghost use Rattle.av1_plan.specs.Answer.{plan_value, IfMalformed};
+ghost use Rattle.av1_plan.specs.Values.{plan_value, IfMalformed};
 ghost use Rattle.av1_plan.specs.Plan.{PlanValue, planes_value, slot_value, slot_values};
 ghost use Rattle.av1_plan.specs.ReadPlans.{ArePlane, IsReadFrame, IsStoredSlot, AreStoredSlots};
 ghost use Rattle.av1_plan.specs.Spelling.{AreText, AreRefused};
@@ -14,9 +14,10 @@ ghost use Rattle.av1_tiles.specs.Tiles.{area_between, tile_area, IsTileArea, til
 ghost use Rattle.av1_tiles.specs.Tiles.{part_of};
 
 use crate::area::TileArea;
-use crate::error::{TileError, TileFault};
+use crate::error::TileError;
 use crate::file::{Front, TileFile};
-use av1_plan::{Header, Plan, PlanError, Planes, check_plan, parse_plan_behind};
+use av1_plan::{Header, Plan, PlanError, SlotPlanes, check_plan, parse_plan_behind};
+use av1_recon::PlanRefusal;
 use std::alloc::{AllocError, Global};
 
 /// The rectangle between the bounds from a column and a row of tiles on.
@@ -136,8 +137,8 @@ fn tile_slot(
     header: &Header,
     area: TileArea,
     slot: usize,
-    planes: &Option<Planes>,
-) -> Result<Option<Planes>, AllocError>
+    planes: &Option<SlotPlanes>,
+) -> Result<Option<SlotPlanes>, AllocError>
     requires frame { IsReadFrame header.now }
     requires area { IsTileArea header.now area }
     requires slot { IsStoredSlot header.now slot planes.now }
@@ -150,7 +151,7 @@ fn tile_slot(
     let y = tile_plane(alloc, header, area, 0, &planes.y)?;
     let u = tile_plane(alloc, header, area, 1, &planes.u)?;
     let v = tile_plane(alloc, header, area, 2, &planes.v)?;
-    Ok(Some(Planes { y, u, v }))
+    Ok(Some(SlotPlanes { y, u, v }))
 }
 
 /// A tile's rectangle of each plane of the eight slots.
@@ -158,8 +159,8 @@ fn tile_references(
     alloc: Global,
     header: &Header,
     area: TileArea,
-    references: &[Option<Planes>],
-) -> Result<Vec<Option<Planes>>, PlanError>
+    references: &[Option<SlotPlanes>],
+) -> Result<Vec<Option<SlotPlanes>>, PlanError>
     requires frame { IsReadFrame header.now }
     requires area { IsTileArea header.now area }
     requires eight { length references.now ≡ 8 }
@@ -215,7 +216,7 @@ pub fn read_tile(alloc: Global, file: &TileFile<'_>, index: usize) -> Result<Pla
         Ok(plan) => plan,
         Err(PlanError::Malformed { at }) => {
             return Err(TileError::Refused {
-                fault: TileFault::Malformed { at },
+                fault: PlanRefusal::Malformed { at },
             });
         }
         Err(PlanError::Memory) => return Err(TileError::Memory),
@@ -223,7 +224,7 @@ pub fn read_tile(alloc: Global, file: &TileFile<'_>, index: usize) -> Result<Pla
     match check_plan(&plan) {
         Ok(()) => Ok(plan),
         Err(invalid) => Err(TileError::Refused {
-            fault: TileFault::Invalid {
+            fault: PlanRefusal::Invalid {
                 leaf: invalid.leaf,
                 kind: invalid.kind,
             },

@@ -1,12 +1,10 @@
 -- The exit status and the line of each answer.
 use Rattle.std.specs.Prelude.{ℕ, zero, suc, List, ◌++◌, codes, decimal}
-use Rattle.av1_recon.specs.Answers.{malformed_text, invalid_text}
+use Rattle.av1_recon.specs.Answers.{malformed_text, invalid_text, refusal_text}
 use Rattle.av1_sequence.specs.declared.error.FrameFault.{FrameFault}
 use Rattle.av1_sequence.specs.declared.error.FrameFault.TheVariants as frame_faults
 use Rattle.av1_sequence.specs.declared.error.SequenceError.{SequenceError}
 use Rattle.av1_sequence.specs.declared.error.SequenceError.TheVariants as sequence_errors
-use Rattle.av1_tiles.specs.declared.error.TileFault.{TileFault}
-use Rattle.av1_tiles.specs.declared.error.TileFault.TheVariants as tile_faults
 use Rattle.av1_tiles.specs.declared.error.TilesError.{TilesError}
 use Rattle.av1_tiles.specs.declared.error.TilesError.TheVariants as tiles_errors
 
@@ -16,15 +14,11 @@ usage = codes "usage: tools tiles | trace | sequence | bare\n"
 
 -- ---- tiles
 
-abbrev pub tile_fault_text : TileFault → List ℕ
-tile_fault_text (tile_faults.Malformed at) = malformed_text at
-tile_fault_text (tile_faults.Invalid leaf kind) = invalid_text leaf kind
-
 abbrev pub tiles_line : TilesError → List ℕ
 tiles_line tiles_errors.ReadFault = codes "read fault\n"
 tiles_line tiles_errors.TooLong = codes "too long\n"
 tiles_line (tiles_errors.Malformed at) = malformed_text at
-tiles_line (tiles_errors.Tile tile fault) = codes "tile " ++ decimal tile ++ codes " " ++ tile_fault_text fault
+tiles_line (tiles_errors.Tile tile fault) = codes "tile " ++ decimal tile ++ codes " " ++ refusal_text fault
 tiles_line tiles_errors.WriteFault = codes "write fault\n"
 tiles_line tiles_errors.Memory = codes "out of memory\n"
 

@@ -1,31 +1,30 @@
 //! The exit status and the line of each answer.
 ghost use Rattle.std.specs.Prelude.{◌≡◌, ◌≤◌, ◌++◌, length};
-ghost use Rattle.av1_recon.specs.Answers.{Says};
+ghost use Rattle.av1_recon.specs.Answers.{HasLine};
 ghost use Rattle.av1_recon.specs.Ends.{answer_line as line_of, answer_status as status_of, written};
 ghost use Rattle.av1_sequence.specs.Tasks.{cause_of as sequence_cause};
 ghost use Rattle.av1_tiles.specs.Tasks.{cause_of as tiles_cause};
 ghost use Rattle.av1_trace.specs.Answers.{error_line as trace_line};
 ghost use Rattle.av1_trace.specs.Checking.{cause as trace_cause};
-ghost use Rattle.av1_toolbox.specs.Answers.{frame_fault_text, sequence_line, tile_fault_text, tiles_line, trace_done};
+ghost use Rattle.av1_toolbox.specs.Answers.{frame_fault_text, sequence_line, tiles_line, trace_done};
 
-use av1_recon::{Sink, malformed_line, plain_line, push_invalid, push_malformed, say};
+use av1_recon::{
+    PlanRefusal, Sink, malformed_line, plain_line, push_invalid, push_malformed, push_refusal, say,
+};
 use av1_sequence::{FrameFault, SequenceError};
 use av1_streams::Line;
-use av1_tiles::{TileFault, TilesError};
+use av1_tiles::TilesError;
 use av1_trace::{TraceError, report_error};
 
 // The line for the part of a tile.
-fn tile_line(tile: u16, fault: TileFault) -> Line
+fn tile_line(tile: u16, fault: PlanRefusal) -> Line
     ensures { result ≡ tiles_line (TilesError.Tile tile fault) }
 {
     let mut line = Line::new();
     line.push(b"tile ");
     line.push_number(u64::from(tile));
     line.push(b" ");
-    match fault {
-        TileFault::Malformed { at } => push_malformed(&mut line, at),
-        TileFault::Invalid { leaf, kind } => push_invalid(&mut line, leaf, kind),
-    }
+    push_refusal(&mut line, fault);
     line
 }
 
@@ -45,7 +44,7 @@ fn tiles_line(error: TilesError) -> Line
 /// Writes the line of an answer of `reconstruct_tiles`, if it has one, and gives its exit status.
 pub fn report_tiles<E: Sink>(answer: Result<(), TilesError>, err: &mut E) -> u8
     ensures status { result ≡ status_of tiles_cause written answer }
-    ensures line { Says E.taken E.faults err.old err.new (line_of tiles_line answer) }
+    ensures line { HasLine E.taken E.faults err.old err.new (line_of tiles_line answer) }
 {
     let Err(error) = answer else {
         return 0;
@@ -62,7 +61,7 @@ pub fn report_tiles<E: Sink>(answer: Result<(), TilesError>, err: &mut E) -> u8
 /// Writes the line of an answer of `check_trace`, if it has one, and gives its exit status.
 pub fn report_trace<E: Sink>(answer: Result<u32, TraceError>, err: &mut E) -> u8
     ensures status { result ≡ status_of trace_cause trace_done answer }
-    ensures line { Says E.taken E.faults err.old err.new (line_of trace_line answer) }
+    ensures line { HasLine E.taken E.faults err.old err.new (line_of trace_line answer) }
 {
     match answer {
         Ok(0) => 0,
@@ -103,7 +102,7 @@ fn sequence_line(error: SequenceError) -> Line
 /// Writes the line of an answer of `reconstruct_sequence`, if it has one, and gives its exit status.
 pub fn report_sequence<E: Sink>(answer: Result<(), SequenceError>, err: &mut E) -> u8
     ensures status { result ≡ status_of sequence_cause written answer }
-    ensures line { Says E.taken E.faults err.old err.new (line_of sequence_line answer) }
+    ensures line { HasLine E.taken E.faults err.old err.new (line_of sequence_line answer) }
 {
     let Err(error) = answer else {
         return 0;

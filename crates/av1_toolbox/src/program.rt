@@ -1,7 +1,7 @@
 //! All that the tools do.
 ghost use Rattle.std.specs.Prelude.{◌≡◌, ◌↔◌, ℕ, Result, Some, None, map, string_bytes};
 ghost use Rattle.av1_planwrite.specs.Bare.{bare_text};
-ghost use Rattle.av1_recon.specs.Answers.{Says, line_of as plan_line_of, status_of as plan_status_of};
+ghost use Rattle.av1_recon.specs.Answers.{HasLine, line_of as plan_line_of, status_of as plan_status_of};
 ghost use Rattle.av1_recon.specs.Ends.{EndsWith, answer_line as line_of, answer_status as status_of, written};
 ghost use Rattle.av1_recon.specs.Outcomes.{Answer, Converts, plan_task};
 ghost use Rattle.av1_sequence.specs.Files.{Answer as SequenceAnswer};
@@ -59,19 +59,19 @@ pub fn run_tools<R: Source, W: Sink, E: Sink>(
     err: &mut E,
 ) -> u8
     ensures no_tool { tool_of (map string_bytes words.now) ≡ None →
-        (result ≡ 1) × (source.new ≡ source.old) × (out.new ≡ out.old) × Says E.taken E.faults err.old err.new usage }
+        (result ≡ 1) × (source.new ≡ source.old) × (out.new ≡ out.old) × HasLine E.taken E.faults err.old err.new usage }
     ensures tiles { tool_of (map string_bytes words.now) ≡ Some Tiles → (answer : Result (Unit {0}) TilesError)
         × Performs tiles_task R.left R.faults W.taken W.faults source.old source.new out.old out.new answer
-        × (result ≡ status_of tiles_cause written answer) × Says E.taken E.faults err.old err.new (line_of tiles_line answer) }
+        × (result ≡ status_of tiles_cause written answer) × HasLine E.taken E.faults err.old err.new (line_of tiles_line answer) }
     ensures trace { tool_of (map string_bytes words.now) ≡ Some Trace → (answer : Result ℕ TraceError)
         × Performs trace_task R.left R.faults W.taken W.faults source.old source.new out.old out.new answer
-        × (result ≡ status_of trace_cause trace_done answer) × Says E.taken E.faults err.old err.new (line_of trace_line answer) }
+        × (result ≡ status_of trace_cause trace_done answer) × HasLine E.taken E.faults err.old err.new (line_of trace_line answer) }
     ensures sequence { tool_of (map string_bytes words.now) ≡ Some Sequence → (answer : SequenceAnswer)
         × PerformsInTurn R.left R.faults W.taken W.faults source.old source.new out.old out.new answer
-        × (result ≡ status_of sequence_cause written answer) × Says E.taken E.faults err.old err.new (line_of sequence_line answer) }
+        × (result ≡ status_of sequence_cause written answer) × HasLine E.taken E.faults err.old err.new (line_of sequence_line answer) }
     ensures bare { tool_of (map string_bytes words.now) ≡ Some Bare → (answer : Answer)
         × Converts bare_text R.left R.faults W.taken W.faults source.old source.new out.old out.new answer
-        × (result ≡ plan_status_of answer) × Says E.taken E.faults err.old err.new (plan_line_of answer) }
+        × (result ≡ plan_status_of answer) × HasLine E.taken E.faults err.old err.new (plan_line_of answer) }
 
     // What each status says.
     ensures status_1 { (result ≡ 1) ↔ (tool_of (map string_bytes words.now) ≡ None) }

@@ -14,7 +14,7 @@ use Rattle.av1_plan.specs.ReadPlans.{IsReadFrame}
 use Rattle.av1_tile.specs.State.{plan_row}
 use Rattle.av1_plan.specs.declared.leaf.Leaf.{Leaf}
 use Rattle.av1_plan.specs.declared.plan.Plan.{Plan}
-use Rattle.av1_plan.specs.Answer.{plan_value, stored_leaves, stored_triples}
+use Rattle.av1_plan.specs.Values.{plan_value, stored_leaves, stored_triples}
 use Rattle.av1_plan.specs.Plan.{LeafValue, PlanValue, leaf_value, leaf_values}
 use Rattle.av1_trace.specs.declared.comparison.Other.{Other}
 use Rattle.av1_trace.specs.declared.entry.Difference.{Difference}

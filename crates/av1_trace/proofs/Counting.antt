@@ -2,7 +2,7 @@
 use Rattle.std.proofs.Common.{◌≡◌, ℕ, ◌+◌, ◌*◌, ◌<◌, ◌≤◌, ◌^◌, true, false, Bool, List, [], ◌∷◌, ◌++◌, length, Option, Some, None, ap, arith, length-append}
 use Rattle.std.proofs.lemmas.List.{length-map}
 use Rattle.std.specs.Prelude.{if◌then◌else◌}
-use Rattle.av1_plan.specs.Answer.{plan_value, stored_leaves, stored_triples}
+use Rattle.av1_plan.specs.Values.{plan_value, stored_leaves, stored_triples}
 use Rattle.av1_plan.specs.Geometry.{covers_plane, plane_area}
 use Rattle.av1_plan.specs.Plan.{LeafValue, PlanValue, leaf_value, leaf_values}
 use Rattle.av1_plan.specs.declared.plan.Plan.{Plan}

@@ -1,25 +1,22 @@
 //! The exit status and the line of each error.
 ghost use Rattle.std.specs.Prelude.{◌≡◌};
-ghost use Rattle.av1_recon.specs.Answers.{Says};
+ghost use Rattle.av1_recon.specs.Answers.{HasLine};
 ghost use Rattle.av1_recon.specs.Ends.{error_status};
 ghost use Rattle.av1_trace.specs.Answers.{error_line};
 ghost use Rattle.av1_trace.specs.Checking.{cause};
 ghost use Rattle.av1_trace.specs.declared.error.TraceError.TheVariants.{Plan as InPlan};
 
-use crate::{PlanFault, TraceError};
-use av1_recon::{malformed_line, plain_line, push_invalid, push_malformed, say};
+use crate::TraceError;
+use av1_recon::{PlanRefusal, malformed_line, plain_line, push_refusal, say};
 use av1_streams::{Line, Sink};
 
 // The line for the plan of a trace.
-fn plan_line(fault: PlanFault) -> Line
+fn plan_line(fault: PlanRefusal) -> Line
     ensures { result ≡ error_line (InPlan fault) }
 {
     let mut line = Line::new();
     line.push(b"plan ");
-    match fault {
-        PlanFault::Malformed { at } => push_malformed(&mut line, at),
-        PlanFault::Invalid { leaf, kind } => push_invalid(&mut line, leaf, kind),
-    }
+    push_refusal(&mut line, fault);
     line
 }
 
@@ -42,7 +39,7 @@ fn error_line(error: TraceError) -> Line
 /// stays.
 pub fn report_error<E: Sink>(error: TraceError, err: &mut E) -> u8
     ensures status { result ≡ error_status (cause error) }
-    ensures line { Says E.taken E.faults err.old err.new (error_line error) }
+    ensures line { HasLine E.taken E.faults err.old err.new (error_line error) }
 {
     say(error_line(error).as_bytes(), err);
     match error {

@@ -4,18 +4,9 @@ ghost use Rattle.av1_trace.specs.TraceErrors.{read_error, plan_error, invalid_er
 ghost use Rattle.av1_trace.specs.declared.error.TraceError.TheVariants as variants;
 
 use av1_blocks::OutOfMemory;
-use av1_plan::{Invalid, InvalidKind, PlanError};
+use av1_plan::{Invalid, PlanError};
+use av1_recon::PlanRefusal;
 use av1_streams::{ReadError, WriteFault};
-
-/// Why the plan of a trace is refused.
-#[derive(Clone, Copy, Debug, PartialEq, Eq)]
-pub enum PlanFault {
-    /// The field that begins at byte `at` of the plan is cut, has a value that is not admitted, or is left over after
-    /// the end.
-    Malformed { at: u32 },
-    /// Leaf number `leaf`, counted from 0 in coding order, is the first that is refused, and why.
-    Invalid { leaf: u32, kind: InvalidKind },
-}
 
 /// Why a trace was not compared, or its differences were not written.
 #[derive(Clone, Copy, Debug, PartialEq, Eq)]
@@ -28,7 +19,7 @@ pub enum TraceError {
     /// the end.
     Malformed { at: u32 },
     /// The plan is refused.
-    Plan { fault: PlanFault },
+    Plan { fault: PlanRefusal },
     /// A write failed. A prefix of the lines was written.
     WriteFault,
     /// An allocation was refused, before the first written byte.
@@ -53,7 +44,7 @@ impl From<PlanError> for TraceError {
     fn from(error: PlanError) -> Self {
         match error {
             PlanError::Malformed { at } => TraceError::Plan {
-                fault: PlanFault::Malformed { at },
+                fault: PlanRefusal::Malformed { at },
             },
             PlanError::Memory => TraceError::Memory,
         }
@@ -65,7 +56,7 @@ impl From<Invalid> for TraceError {
 
     fn from(fault: Invalid) -> Self {
         TraceError::Plan {
-            fault: PlanFault::Invalid {
+            fault: PlanRefusal::Invalid {
                 leaf: fault.leaf,
                 kind: fault.kind,
             },

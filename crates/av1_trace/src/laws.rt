@@ -2,7 +2,7 @@
 
 ghost use Rattle.std.specs.Prelude.{◌≡◌, ℕ, ◌<◌, ◌^◌, All, List, None, count_by};
 ghost use Rattle.av1_order.specs.Neighbours.{in_area};
-ghost use Rattle.av1_plan.specs.Answer.{plan_value};
+ghost use Rattle.av1_plan.specs.Values.{plan_value};
 ghost use Rattle.av1_plan.specs.Geometry.{plane_height, plane_width};
 ghost use Rattle.av1_plan.specs.Plan.{LeafValue};
 ghost use Rattle.av1_plan.specs.Validity.{first_fault};

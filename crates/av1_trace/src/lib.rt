@@ -30,7 +30,7 @@ mod trace;
 pub use answer::report_error;
 pub use comparison::compare;
 pub use entry::Difference;
-pub use error::{PlanFault, TraceError};
+pub use error::TraceError;
 pub use laws::{every_place_has_its_leaf, trace_outcome_laws};
 pub use lines::write_differences;
 pub use samples::planes_len;

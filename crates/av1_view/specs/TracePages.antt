@@ -1,6 +1,6 @@
 -- What a call does that reads a trace from a source to its end and writes its page to a sink.
 use Rattle.std.specs.Prelude.{◌≡◌, ℕ, ◌≤◌, List, length, Option, Result, Ok, Err, ⊤}
-use Rattle.av1_plan.specs.Answer.{plan_value}
+use Rattle.av1_plan.specs.Values.{plan_value}
 use Rattle.av1_plan.specs.Plan.{PlanValue}
 use Rattle.av1_streams.specs.Tasks.{Task, Reads}
 use Rattle.av1_trace.specs.Checking.{cause}

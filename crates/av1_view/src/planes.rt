@@ -1,6 +1,6 @@
 //! The planes of a plan in memory, and those of the frame without coefficients.
 ghost use Rattle.std.specs.Prelude.{◌≡◌, ℕ, List, None, IfOk};
-ghost use Rattle.av1_plan.specs.Answer.{plan_value};
+ghost use Rattle.av1_plan.specs.Values.{plan_value};
 ghost use Rattle.av1_plan.specs.Validity.{first_fault};
 ghost use Rattle.av1_planwrite.specs.Bare.{bare, bare_text};
 ghost use Rattle.av1_tile.specs.Output.{planes_of};

@@ -1,6 +1,6 @@
 //! All that the program does.
 ghost use Rattle.std.specs.Prelude.{◌≡◌, ◌↔◌, Some, None, map, string_bytes};
-ghost use Rattle.av1_recon.specs.Answers.{Says, line_of, status_of};
+ghost use Rattle.av1_recon.specs.Answers.{HasLine, line_of, status_of};
 ghost use Rattle.av1_recon.specs.Ends.{EndsWith, IsDone};
 ghost use Rattle.av1_recon.specs.Outcomes.{Answer, Converts, plan_task};
 ghost use Rattle.av1_streams.specs.Tasks.{Performs};
@@ -42,13 +42,13 @@ pub fn run_view<R: Source, W: Sink, E: Sink>(
     err: &mut E,
 ) -> u8
     ensures no_command { command_of (map string_bytes words.now) ≡ None →
-        (result ≡ 1) × (source.new ≡ source.old) × (out.new ≡ out.old) × Says E.taken E.faults err.old err.new usage }
+        (result ≡ 1) × (source.new ≡ source.old) × (out.new ≡ out.old) × HasLine E.taken E.faults err.old err.new usage }
     ensures plan { command_of (map string_bytes words.now) ≡ Some Plan → (answer : Answer)
         × Converts plan_page R.left R.faults W.taken W.faults source.old source.new out.old out.new answer
-        × (result ≡ status_of answer) × Says E.taken E.faults err.old err.new (line_of answer) }
+        × (result ≡ status_of answer) × HasLine E.taken E.faults err.old err.new (line_of answer) }
     ensures trace { command_of (map string_bytes words.now) ≡ Some Trace → (answer : TraceAnswer)
         × Performs trace_page_task R.left R.faults W.taken W.faults source.old source.new out.old out.new answer
-        × (result ≡ trace_status answer) × Says E.taken E.faults err.old err.new (trace_line answer) }
+        × (result ≡ trace_status answer) × HasLine E.taken E.faults err.old err.new (trace_line answer) }
 
     // What each status says.
     ensures status_1 { (result ≡ 1) ↔ (command_of (map string_bytes words.now) ≡ None) }

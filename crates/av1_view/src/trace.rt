@@ -1,6 +1,6 @@
 //! From the bytes of a trace to a page that shows its plan, and where given samples differ.
 ghost use Rattle.std.specs.Prelude.{◌≡◌, ◌≢◌, ◌≤◌, None, IfOk, IfErr, length};
-ghost use Rattle.av1_plan.specs.Answer.{plan_value};
+ghost use Rattle.av1_plan.specs.Values.{plan_value};
 ghost use Rattle.av1_plan.specs.Validity.{first_fault};
 ghost use Rattle.av1_streams.specs.Tasks.{Performs, WritesBytes};
 ghost use Rattle.av1_trace.specs.Checking.{cause};

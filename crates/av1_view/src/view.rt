@@ -1,6 +1,6 @@
 //! From the bytes of a plan to a page that shows it.
 ghost use Rattle.std.specs.Prelude.{◌≡◌, None, IfOk};
-ghost use Rattle.av1_plan.specs.Answer.{plan_value};
+ghost use Rattle.av1_plan.specs.Values.{plan_value};
 ghost use Rattle.av1_plan.specs.Validity.{first_fault};
 ghost use Rattle.av1_planwrite.specs.Bare.{bare};
 ghost use Rattle.av1_planwrite.specs.Text.{plan_text};

@@ -4,7 +4,7 @@ ghost use Rattle.std.specs.Prelude.{◌≡◌, ◌≤◌, length, take, IfOk};
 
 use crate::error::PlanError;
 use crate::header::Header;
-use crate::planes::Planes;
+use crate::planes::SlotPlanes;
 use crate::reader::Reader;
 use std::alloc::{AllocError, Global};
 
@@ -119,7 +119,7 @@ impl<'a> Reader<'a> {
 
     /// The three planes of a slot.
     #[tactic(auto, using(crate::proofs::Formats::read_bind), unfolding(crate::specs::Grammar::reference))]
-    fn reference(&mut self, alloc: Global, header: &Header) -> Result<Planes, PlanError>
+    fn reference(&mut self, alloc: Global, header: &Header) -> Result<SlotPlanes, PlanError>
         requires fits { Fits self.old }
         requires depth { header.now.depth ≤ 12 }
         requires width { header.now.width ≤ 2048 }
@@ -130,7 +130,7 @@ impl<'a> Reader<'a> {
         let y = self.plane(alloc, header.depth, header.plane_len(0))?;
         let u = self.plane(alloc, header.depth, header.plane_len(1))?;
         let v = self.plane(alloc, header.depth, header.plane_len(2))?;
-        Ok(Planes { y, u, v })
+        Ok(SlotPlanes { y, u, v })
     }
 
     /// The planes of a slot, where the mask has it.
@@ -140,7 +140,7 @@ impl<'a> Reader<'a> {
         alloc: Global,
         header: &Header,
         slot: usize,
-    ) -> Result<Option<Planes>, PlanError>
+    ) -> Result<Option<SlotPlanes>, PlanError>
         requires fits { Fits self.old }
         requires slot { slot < 8 }
         requires depth { header.now.depth ≤ 12 }
@@ -163,7 +163,7 @@ impl<'a> Reader<'a> {
         &mut self,
         alloc: Global,
         header: &Header,
-    ) -> Result<Vec<Option<Planes>>, PlanError>
+    ) -> Result<Vec<Option<SlotPlanes>>, PlanError>
         requires fits { Fits self.old }
         requires depth { header.now.depth ≤ 12 }
         requires width { header.now.width ≤ 2048 }

@@ -1,5 +1,5 @@
 use Rattle.std.proofs.Common.{arith, ◌∙◌}
-use Rattle.av1_plan.specs.Answer.{plan_value}
+use Rattle.av1_plan.specs.Values.{plan_value}
 use Rattle.av1_c.proofs.Lengths.{same_length, wanted_is}
 use Rattle.av1_c.proofs.reconstruct.write_planes.Goals as goal
 

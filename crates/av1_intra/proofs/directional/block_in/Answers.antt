@@ -1,7 +1,6 @@
-use Rattle.std.proofs.Common.{ℕ, arith, ap, ◌∙◌, Bool, Option, to_z, of_z, w64}
+use Rattle.std.proofs.Common.{ℕ, ◌+◌, ◌-◌, arith, ap, ◌∙◌, Bool, Option, to_z, of_z, w64}
 use Rattle.std.specs.Option.{option_map}
 use Rattle.av1_intra.specs.Neighbours.{uses_smooth_filter}
-use Rattle.av1_intra.specs.Directional.{visible_columns}
 use Rattle.av1_intra.specs.declared.directional.DirectionalBlock.{DirectionalBlock}
 use Rattle.av1_intra.proofs.Places.{place_fits}
 use Rattle.av1_intra.proofs.directional.block_in.Goals as goal
@@ -31,4 +30,4 @@ returns g c =
     ∙ place_fits out.area.y out.plane_cfg.yorigin (omega (arith, F.rows, S.few_rows)) (omega (arith, S.visible_rows, S.few_rows))) in
     ap (λ f. B f c.visible_from.result c.visible_from-2.result) c.smooth_choice.ensures
     ∙ ap (λ x. B (option_map uses_smooth_filter c.args.ief_params) x c.visible_from-2.result) X
-    ∙ ap (λ y. B (option_map uses_smooth_filter c.args.ief_params) (visible_columns out) y) Y
+    ∙ ap (λ y. B (option_map uses_smooth_filter c.args.ief_params) (out.plane_cfg.xorigin + out.plane_cfg.width - out.area.x) y) Y

@@ -1,4 +1,4 @@
-use Rattle.std.proofs.Common.{ℕ, ◌≡◌, ◌+◌, ◌*◌, take, map, get_or, ap, ◌∙◌}
+use Rattle.std.proofs.Common.{ℕ, ◌≡◌, ◌+◌, ◌*◌, map, get_or, ap, ◌∙◌}
 use mathlib.Core.Path.{fun_ext}
 use Rattle.av1_frame.specs.Samples.{row_start}
 use Rattle.av1_edges.specs.Edges.{region_sample}
@@ -7,18 +7,19 @@ use Rattle.av1_intra.specs.TileLuma.{tile_luma, leaf_in_tile}
 use Rattle.av1_intra.specs.declared.luma.LumaLeaf.{LumaLeaf}
 use Rattle.av1_intra.proofs.tile_luma.luma_ac.Goals as goal
 
-pub returns-clause-value : goal.returns-clause-value
-returns-clause-value g c =
+pub returns-clause-entries : goal.returns-clause-entries
+returns-clause-entries g c =
     let a = c.args in
     let num = g.T.Pixel.num in
     let y = a.ts.now.y in
     let r = c.as_const.result in
     let leaf = leaf_in_tile a.ts.now a.tile_bo a.bsize a.tx_size a.fi.now in
-    let area = λ (l : LumaLeaf). (chroma_block l).width * (chroma_block l).height in
     let rows = λ (f : ℕ → ℕ → ℕ) (l : LumaLeaf). with_rows (chroma_block l).width (chroma_block l).height (leaf_difference f l) a.ac.now in
     let same : region_sample num r ≡ tile_luma num y = fun_ext (λ p. fun_ext (λ q.
     ap (λ s. get_or (map num s) (row_start r.plane_cfg.stride r.area q + p) 0) c.as_const.ensures.samples
     ∙ ap (λ s. get_or (map num y.plane.now.samples) (row_start s.stride r.area q + p) 0) c.as_const.ensures.cfg
     ∙ ap (λ s. get_or (map num y.plane.now.samples) (row_start y.plane_cfg.stride s q + p) 0) c.as_const.ensures.area)) in
-    ap (λ n. take n c.leaf_luma_ac.new.ac) (c.area.ensures ∙ ap area c.leaf_in_tile-leaf.ensures)
-    ∙ ap (take (area leaf)) (c.leaf_luma_ac.ensures ∙ ap (rows (region_sample num r)) c.leaf_in_tile-leaf.ensures ∙ ap (λ f. rows f leaf) same)
+    c.leaf_luma_ac.ensures ∙ ap (rows (region_sample num r)) c.leaf_in_tile-leaf.ensures ∙ ap (λ f. rows f leaf) same
+
+pub returns-clause-count : goal.returns-clause-count
+returns-clause-count g c = c.area.ensures ∙ ap (λ (l : LumaLeaf). (chroma_block l).width * (chroma_block l).height) c.leaf_in_tile-leaf.ensures

@@ -1,5 +1,5 @@
 use Rattle.std.proofs.Common.{◌≡◌, drop}
-use Rattle.av1_plan.specs.Answer.{leaves_value}
+use Rattle.av1_plan.specs.Values.{leaves_value}
 use Rattle.av1_plan.specs.Validity.{fault_from}
 use Rattle.av1_plan.proofs.check.check_leaves.Given as goal
 

@@ -1,6 +1,6 @@
 use Rattle.std.proofs.Common.{arith}
 use Rattle.av1_plan.specs.declared.leaves.Leaves.{Leaves}
-use Rattle.av1_plan.specs.Answer.{leaves_value}
+use Rattle.av1_plan.specs.Values.{leaves_value}
 use Rattle.av1_plan.specs.Grammar.{superblocks}
 use Rattle.av1_plan.proofs.Answers.{is_found, is_refused, is_only}
 use Rattle.av1_plan.proofs.parse.parse_leaves.Goals as goal

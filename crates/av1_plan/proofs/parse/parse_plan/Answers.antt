@@ -1,6 +1,6 @@
 use Rattle.std.proofs.Common.{arith}
 use Rattle.av1_plan.specs.declared.plan.Plan.{Plan}
-use Rattle.av1_plan.specs.Answer.{plan_value}
+use Rattle.av1_plan.specs.Values.{plan_value}
 use Rattle.av1_plan.specs.Grammar.{plan}
 use Rattle.av1_plan.proofs.Answers.{is_found, is_refused, is_only}
 use Rattle.av1_plan.proofs.parse.parse_plan.Goals as goal

@@ -1,5 +1,5 @@
 use Rattle.std.proofs.Common.{arith}
-use Rattle.av1_plan.specs.Answer.{leaves_value}
+use Rattle.av1_plan.specs.Values.{leaves_value}
 use Rattle.av1_plan.specs.Plan.{slot_values}
 use Rattle.av1_plan.proofs.Behind.{behind_spelled, behind_text, only_plan, passed_only, passed_refusal}
 use Rattle.av1_plan.proofs.Composed.{plan_spelled, stored_present}

@@ -1,5 +1,5 @@
 use Rattle.std.proofs.Common.{◌≡◌, ◌<◌}
-use Rattle.av1_plan.specs.Answer.{plan_value}
+use Rattle.av1_plan.specs.Values.{plan_value}
 use Rattle.av1_tile.specs.State.{IsSound, MadeFor, shown, state_header}
 use Rattle.av1_tile.specs.Output.{planes_of, visible}
 use Rattle.av1_recon.proofs.lines.reconstruct_often.Given as goal

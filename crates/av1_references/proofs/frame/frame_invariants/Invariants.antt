@@ -1,4 +1,4 @@
-use Rattle.av1_plan.specs.Answer.{plan_value}
+use Rattle.av1_plan.specs.Values.{plan_value}
 use Rattle.av1_references.proofs.Slots.{HoldsFirst}
 use Rattle.av1_references.proofs.frame.frame_invariants.Given as goal
 

@@ -1,4 +1,4 @@
-use Rattle.av1_plan.specs.Answer.{leaves_value}
+use Rattle.av1_plan.specs.Values.{leaves_value}
 use Rattle.av1_sequence.proofs.Answered.{refused_leaf}
 use Rattle.av1_sequence.proofs.leaves.read_leaves.Goals as goal
 

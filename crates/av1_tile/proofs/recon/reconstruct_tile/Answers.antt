@@ -1,5 +1,5 @@
 use Rattle.std.proofs.Common.{◌∙◌, subst, sym}
-use Rattle.av1_plan.specs.Answer.{plan_value}
+use Rattle.av1_plan.specs.Values.{plan_value}
 use Rattle.av1_references.specs.References.{HoldsReferences}
 use Rattle.av1_tile.proofs.Layouts.{alike_to}
 use Rattle.av1_tile.proofs.PlansOver.{followed_holds, made_with}

@@ -7,7 +7,7 @@ use Rattle.av1_blocks.specs.declared.transform.TxSize.TheVariants.{TX_4X4}
 use Rattle.av1_blocks.specs.declared.transform.TxType.TheVariants.{DCT_DCT}
 use Rattle.av1_plan.specs.declared.leaf.Leaf.{Leaf}
 use Rattle.av1_plan.specs.declared.leaf.LeafKind.TheVariants.{Intra}
-use Rattle.av1_plan.specs.Answer.{leaf_list, leaves_value, triple_list}
+use Rattle.av1_plan.specs.Values.{leaf_list, leaves_value, triple_list}
 use Rattle.av1_plan.specs.Plan.{LeafValue}
 use Rattle.av1_tile.specs.Walk.{cell_at, edges_after, fast_step, steps_by, with_header, with_leaves}
 use Rattle.av1_tile.proofs.Lifts.{layout_kept}

@@ -1,6 +1,6 @@
 use Rattle.std.proofs.Common.{◌≡◌, length, take}
 use Rattle.std.specs.List.{fold}
-use Rattle.av1_plan.specs.Answer.{leaves_value}
+use Rattle.av1_plan.specs.Values.{leaves_value}
 use Rattle.av1_plan.specs.Plan.{PlanValue}
 use Rattle.av1_references.specs.References.{ServesPlan}
 use Rattle.av1_tile.specs.Walk.{HasCells, SameLayout, StoresAll, cell_at, edges_after, fast_step, steps_by, with_header, with_leaves}

@@ -1,4 +1,4 @@
-use Rattle.av1_plan.specs.Answer.{leaves_value, plan_value}
+use Rattle.av1_plan.specs.Values.{leaves_value, plan_value}
 use Rattle.av1_tile.proofs.PlansOver.{read_over}
 use Rattle.av1_tiles.proofs.frame.reconstruct_alone.Goals as goal
 

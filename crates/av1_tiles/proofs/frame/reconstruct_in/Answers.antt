@@ -1,6 +1,6 @@
 use Rattle.std.proofs.Common.{ap, subst, sym, ◌∙◌, ◌≤◌, arith}
 use Rattle.av1_plan.specs.declared.header.Header.{Header}
-use Rattle.av1_plan.specs.Answer.{plan_value}
+use Rattle.av1_plan.specs.Values.{plan_value}
 use Rattle.av1_tile.specs.Memory.{HasRoomFor}
 use Rattle.av1_tile.proofs.PlansOver.{room_within}
 use Rattle.av1_tiles.specs.File.{front_value, file_value}

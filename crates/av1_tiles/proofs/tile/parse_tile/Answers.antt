@@ -1,6 +1,6 @@
 use Rattle.std.proofs.Common.{◌≡◌, IfOk, MatchResult, List, ℕ, subst, arith}
 use Rattle.av1_plan.specs.declared.error.PlanError.TheVariants.{Memory}
-use Rattle.av1_plan.specs.Answer.{plan_value, IfMalformed}
+use Rattle.av1_plan.specs.Values.{plan_value, IfMalformed}
 use Rattle.av1_plan.specs.Format.{Format}
 use Rattle.av1_plan.specs.Grammar.{plan_behind}
 use Rattle.av1_plan.specs.Plan.{PlanValue, slot_values}

@@ -1,5 +1,5 @@
 use Rattle.std.proofs.Common.{◌≡◌, true, false, Some, None, sym, ◌∙◌, append-nil, rules}
-use Rattle.av1_plan.specs.Answer.{plan_value, stored_triples}
+use Rattle.av1_plan.specs.Values.{plan_value, stored_triples}
 use Rattle.av1_plan.specs.Plan.{leaf_value}
 use Rattle.av1_trace.proofs.Comparing.{none_uncovered, some_covered}
 use Rattle.av1_trace.proofs.comparison.add_in_plane.Goals as goal

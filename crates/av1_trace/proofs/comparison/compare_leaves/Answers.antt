@@ -1,5 +1,5 @@
 use Rattle.std.proofs.Common.{◌≤◌, length, ap, arith}
-use Rattle.av1_plan.specs.Answer.{stored_leaves}
+use Rattle.av1_plan.specs.Values.{stored_leaves}
 use Rattle.av1_trace.proofs.Comparing.{last_leaf, next_leaf}
 use Rattle.av1_trace.proofs.comparison.compare_leaves.Goals as goal
 

@@ -1,5 +1,5 @@
 use Rattle.std.proofs.Common.{◌≡◌, take}
-use Rattle.av1_plan.specs.Answer.{plan_value}
+use Rattle.av1_plan.specs.Values.{plan_value}
 use Rattle.av1_trace.specs.Differences.{leaves_differences}
 use Rattle.av1_trace.proofs.comparison.compare_leaves.Given as goal
 

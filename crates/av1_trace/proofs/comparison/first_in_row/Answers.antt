@@ -1,5 +1,5 @@
 use Rattle.std.proofs.Common.{◌∙◌, map}
-use Rattle.av1_plan.specs.Answer.{plan_value}
+use Rattle.av1_plan.specs.Values.{plan_value}
 use Rattle.av1_trace.proofs.Comparing.{few_columns, is_row, none_in_row, row_is_long, some_in_row}
 use Rattle.av1_trace.proofs.comparison.first_in_row.Goals as goal
 

@@ -1,5 +1,5 @@
 use Rattle.std.proofs.Common.{arith}
-use Rattle.av1_plan.specs.Answer.{plan_value}
+use Rattle.av1_plan.specs.Values.{plan_value}
 use Rattle.av1_trace.proofs.Comparing.{IsRectangle, all_agree, first_is, one_row_more}
 use Rattle.av1_trace.proofs.comparison.first_other.Goals as goal
 

@@ -1,4 +1,4 @@
-use Rattle.av1_plan.specs.Answer.{plan_value}
+use Rattle.av1_plan.specs.Values.{plan_value}
 use Rattle.av1_trace.proofs.Comparing.{AgreeAbove}
 use Rattle.av1_trace.proofs.comparison.first_other.Given as goal
 

@@ -1,4 +1,4 @@
-use Rattle.av1_plan.specs.Answer.{plan_value}
+use Rattle.av1_plan.specs.Values.{plan_value}
 use Rattle.av1_trace.proofs.Refusals.{no_parts, planes_cut, planes_left_over}
 use Rattle.av1_trace.proofs.trace.parse_trace.Goals as goal
 

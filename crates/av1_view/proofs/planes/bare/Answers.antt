@@ -1,5 +1,5 @@
 use Rattle.std.proofs.Common.{Result, Err, ap, ◌∙◌}
-use Rattle.av1_plan.specs.Answer.{plan_value}
+use Rattle.av1_plan.specs.Values.{plan_value}
 use Rattle.av1_plan.specs.declared.error.PlanError.{PlanError}
 use Rattle.av1_plan.specs.declared.plan.Plan.{Plan}
 use Rattle.av1_view.proofs.Bared.{fits, found_is, found_is_valid, not_malformed}

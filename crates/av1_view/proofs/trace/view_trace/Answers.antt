@@ -1,5 +1,5 @@
 use Rattle.std.proofs.Common.{ap, sym, subst}
-use Rattle.av1_plan.specs.Answer.{plan_value}
+use Rattle.av1_plan.specs.Values.{plan_value}
 use Rattle.av1_streams.specs.Tasks.{Performs}
 use Rattle.av1_streams.proofs.Performing.{carries_on, is_err, stops}
 use Rattle.av1_view.specs.Shown.{trace_page}

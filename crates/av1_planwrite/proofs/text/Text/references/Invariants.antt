@@ -1,6 +1,6 @@
 use Rattle.std.proofs.Common.{◌≡◌, ◌++◌, take}
 use Rattle.std.specs.List.{flat_map}
-use Rattle.av1_plan.specs.Answer.{plan_value}
+use Rattle.av1_plan.specs.Values.{plan_value}
 use Rattle.av1_planwrite.specs.Text.{slot_text}
 use Rattle.av1_planwrite.proofs.text.Text.references.Given as goal
 

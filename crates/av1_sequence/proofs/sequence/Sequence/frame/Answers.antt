@@ -1,5 +1,5 @@
 use Rattle.std.proofs.Common.{length, refl}
-use Rattle.av1_plan.specs.Answer.{leaves_value}
+use Rattle.av1_plan.specs.Values.{leaves_value}
 use Rattle.av1_sequence.proofs.Framed.{accepts_over, refused_over, short_seen, spelled_over, valid_over}
 use Rattle.av1_sequence.proofs.sequence.Sequence.frame.Goals as goal
 

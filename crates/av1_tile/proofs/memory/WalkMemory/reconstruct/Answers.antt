@@ -1,5 +1,5 @@
 use Rattle.std.proofs.Common.{ap, ◌∙◌}
-use Rattle.av1_plan.specs.Answer.{leaves_value}
+use Rattle.av1_plan.specs.Values.{leaves_value}
 use Rattle.av1_tile.specs.Memory.{WalkRoom}
 use Rattle.av1_tile.specs.State.{edges_of}
 use Rattle.av1_tile.specs.Walk.{cell_at}

@@ -1,4 +1,4 @@
-use Rattle.av1_plan.specs.Answer.{plan_value}
+use Rattle.av1_plan.specs.Values.{plan_value}
 use Rattle.av1_tile.specs.State.{Picture}
 use Rattle.av1_tile.proofs.PlansOver.{made_with}
 use Rattle.av1_tile.proofs.state.TileState.new.Goals as goal

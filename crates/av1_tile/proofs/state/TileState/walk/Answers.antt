@@ -1,5 +1,5 @@
 use Rattle.std.proofs.Common.{ap, ◌∙◌, sym}
-use Rattle.av1_plan.specs.Answer.{leaves_value, plan_value}
+use Rattle.av1_plan.specs.Values.{leaves_value, plan_value}
 use Rattle.av1_tile.specs.State.{Picture, edges_of, state_edges}
 use Rattle.av1_tile.proofs.Pictures.{state_rows, state_visible}
 use Rattle.av1_tile.proofs.PlansOver.{state_over}

@@ -1,11 +1,11 @@
 use Rattle.std.proofs.Common.{arith, length}
 use Rattle.av1_plan.proofs.Formats.{adding}
 use Rattle.av1_plan.proofs.Triples.{leaf_values_push, Follow-push, few_push}
-use Rattle.av1_plan.specs.Grammar.{part}
-use Rattle.av1_plan.proofs.nodes.Parser.part.Goals as goal
+use Rattle.av1_plan.specs.Grammar.{leaf_part}
+use Rattle.av1_plan.proofs.nodes.Parser.leaf_part.Goals as goal
 
 pub returns-clause-read : goal.returns-clause-read
-unfolding part
+unfolding leaf_part
 returns-clause-read c =
     let e = leaf_values_push c.args.self.now.triples.items c.leaf.new.into.items c.args.self.now.leaves.items _ c.in_ok-leaf.leaf c.requires.follow
     c.in_ok-leaf.ensures.extends in
