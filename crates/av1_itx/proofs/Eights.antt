@@ -1,5 +1,5 @@
 -- Columns n at a time.
-use Rattle.std.proofs.Common.{ℕ, true, false, ◌⊎◌, refl, cond, ltb, leb, ◌&&◌, ◌≡◌, ◌+◌, ◌-◌, ◌*◌, ◌/◌, ◌<◌, ◌≤◌, ℤ, List, ◌++◌, take, length, arith, ap}
+use Rattle.std.proofs.Common.{ℕ, true, refl, cond, ltb, leb, ◌&&◌, ◌≡◌, ◌+◌, ◌-◌, ◌*◌, ◌/◌, ◌<◌, ◌≤◌, ℤ, List, ◌++◌, take, length, arith, ap}
 use Rattle.std.proofs.Common.{sym, ◌∙◌, inl}
 use Rattle.std.proofs.Common.{inr, subst, pos, ◌^◌}
 use Rattle.std.specs.List.{All}
@@ -17,11 +17,7 @@ use Rattle.av1_lists.specs.Lists.{by_index}
 use Rattle.av1_dct.specs.Word.{column}
 use Rattle.av1_itx.specs.declared.kinds.TxType1D.{TxType1D}
 use Rattle.av1_itx.specs.declared.kinds.TxType1D.TheVariants.{DCT}
-use Rattle.av1_blocks.specs.declared.transform.TxSize.{TxSize}
-use Rattle.av1_blocks.specs.declared.transform.TxType.{TxType}
-use Rattle.av1_blocks.specs.Transforms.{tx_width}
-use Rattle.av1_itx.specs.Kinds.{column_kind}
-use Rattle.av1_itx.specs.LaneGroups.{is_cosine, lane_groups}
+use Rattle.av1_itx.specs.LaneGroups.{is_cosine}
 use Rattle.av1_itx.specs.declared.lane_columns.Columns.{Columns}
 use Rattle.av1_itx.specs.Networks.{HasNetwork, network, network_with}
 use Rattle.av1_itx.specs.Scaffolding.{AreColumns}
@@ -93,15 +89,6 @@ cosine_value kind range k r xs z hk is = is ∙ ap (λ zs. at zs r) (dct_is rang
 -- a cosine transform that there is has one of five lengths
 pub cosine_rounds : (kind : TxType1D) (k : ℕ) → is_cosine kind ≡ true → HasNetwork kind k → (1 ≤ k) × (k ≤ 5)
 cosine_rounds kind k told has = subst (λ t. HasNetwork t k) (cosine_kind kind told) has
-
--- there are no groups of eight where there are fewer columns, nor by another transform
-pub no_groups : (size : TxSize) (type : TxType) → (tx_width size < 8) ⊎ (is_cosine (column_kind type) ≡ false) → lane_groups size type ≡ 0
-no_groups size type few =
-    let none = λ (lt : tx_width size < 8). (let e : tx_width size / 8 ≡ 0 = omega (arith, lt) in e) in
-    elim few [
-      | inl lt ↦ elim (is_cosine (column_kind type)) as (λ b. cond b (tx_width size / 8) 0 ≡ 0) [ true ↦ none lt | false ↦ refl ]
-      | inr e ↦ ap (λ b. cond b (tx_width size / 8) 0) e
-    ]
 
 -- a group that is one of the w / m has its columns, and all of them have all
 pub group_room : (m g w : ℕ) → m * (w / m) ≡ w → g < w / m → m * g + m ≤ w

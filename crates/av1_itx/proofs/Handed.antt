@@ -1,5 +1,5 @@
 -- What the passes are handed: coefficients of a block, their rows and its columns.
-use Rattle.std.proofs.Common.{ℕ, ◌≡◌, ◌≤◌, ◌<◌, ◌+◌, ◌*◌, ◌/◌, ◌^◌, ℤ, List, IsTrue, map, length, true, arith, ap, subst, sym, refl, cond}
+use Rattle.std.proofs.Common.{ℕ, ◌≡◌, ◌≤◌, ◌<◌, ◌+◌, ◌*◌, ◌/◌, ◌^◌, ℤ, List, IsTrue, map, length, arith, subst, sym, refl}
 use Rattle.av1_blocks.specs.declared.transform.TxSize.{TxSize}
 use Rattle.av1_blocks.specs.declared.transform.TxSize.TheVariants.{TX_4X4}
 use Rattle.av1_blocks.specs.declared.transform.TxType.TheVariants.{WHT_WHT}
@@ -8,7 +8,6 @@ use Rattle.av1_blocks.specs.Transforms.{tx_width, tx_height, coded, coded_area, 
 use Rattle.av1_dct.specs.Arithmetic.{at, FitsBits}
 use Rattle.av1_itx.specs.declared.block.Block.{Block}
 use Rattle.av1_itx.specs.Kinds.{column_kind, row_kind}
-use Rattle.av1_itx.specs.LaneGroups.{is_cosine, lane_groups}
 use Rattle.av1_itx.specs.Networks.{HasNetwork}
 use Rattle.av1_itx.specs.Residue.{column_power, column_range, row_input, row_power, row_range}
 use Rattle.av1_itx.specs.Scaffolding.{AreCoefficients, AreColumns, block_columns, block_rows}
@@ -81,7 +80,3 @@ columns_are block buffer depth has long fit =
       range = (omega arith, omega arith);
       fit = fit;
     }
-
--- all groups of eight columns are counted where they take the cosine transform
-pub counted : (block : Block) → is_cosine (column_kind block.tx_type) ≡ true → tx_width block.tx_size / 8 ≡ lane_groups block.tx_size block.tx_type
-counted block told = sym (ap (λ b. cond b (tx_width block.tx_size / 8) 0) told)
