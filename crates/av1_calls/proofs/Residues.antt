@@ -20,7 +20,6 @@ use Rattle.av1_itx.specs.Networks.{network}
 use Rattle.av1_itx.specs.Residue.{column_network, column_power, column_range, column_shift, residue, row_input, row_power, row_range, row_shift, row_value}
 use Rattle.av1_itx.specs.Residue.{transformed_column, transformed_row}
 use Rattle.av1_itx.proofs.Passes.{input_past, row_is, row_past}
-use Rattle.av1_lists.specs.Lists.{by_index}
 use Rattle.av1_lists.proofs.Lists.{by_index-same}
 use Rattle.av1_calls.specs.Transforms.{cut_to}
 

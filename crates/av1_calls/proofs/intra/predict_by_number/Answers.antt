@@ -1,4 +1,4 @@
-use Rattle.std.proofs.Common.{ℕ, ◌≡◌, ◌⊎◌, inl, inr, arith, length, subst}
+use Rattle.std.proofs.Common.{ℕ, ◌≡◌, inl, inr, arith, length, subst}
 use Rattle.av1_blocks.specs.declared.predict.PredictionMode.{PredictionMode}
 use Rattle.av1_calls.specs.IntraBlocks.{IsIntraBlock, IsIntraMode}
 use Rattle.av1_calls.proofs.intra.predict_by_number.Goals as goal
