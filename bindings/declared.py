@@ -29,6 +29,8 @@ NAMES = {
     "EdgePlane": ("av1_edge_plane", "crate::EdgePlane"),
     "EdgeBlock": ("av1_edge_block", "crate::EdgeBlock"),
     "CflBlock": ("av1_cfl_block", "crate::CflBlock"),
+    "LumaBlock": ("av1_luma_block", "crate::LumaBlock"),
+    "Neighbours": ("av1_neighbours", "crate::Neighbours"),
     "PlanHeader": ("av1_plan_header", "crate::Header"),
     "BuilderPart": ("av1_builder_part", "sys::BuilderPart"),
     "Builder": ("av1_builder", "sys::Builder"),

@@ -26,7 +26,7 @@ extern "C" {
 /* The version of this header. As long as major is 0, archives of one minor version go with its headers, and no others. */
 #define AV1_C_VERSION_MAJOR 0
 #define AV1_C_VERSION_MINOR 2
-#define AV1_C_VERSION_PATCH 0
+#define AV1_C_VERSION_PATCH 1
 #define AV1_C_VERSION (AV1_C_VERSION_MAJOR * 65536u + AV1_C_VERSION_MINOR * 256u + AV1_C_VERSION_PATCH)
 
 /* The version of the archive that is linked, made up in the same way. */
@@ -34,13 +34,14 @@ uint32_t av1_c_version(void);
 
 /* Stack: a call takes at most so many bytes of it, its arguments and its return address among them; bindings/stack.py works it out from the code of
  * the archive. Beside them come what `malloc` and its like take, where a call takes memory, and `memcpy`, `memmove` and `memset`.
- *    1,024  av1_builder_begin, av1_builder_finish, av1_c_version, av1_cfl_ac_8, av1_cfl_ac_16, av1_intra_edge_8, av1_intra_edge_16, av1_mc_avg_8,
- *           av1_mc_avg_16, av1_motion_place, av1_planes_len, av1_test_samples_16
+ *    1,024  av1_angle_step, av1_builder_begin, av1_builder_finish, av1_c_version, av1_cfl_ac_8, av1_cfl_ac_16, av1_cfl_block_of, av1_intra_edge_8,
+ *           av1_intra_edge_16, av1_mc_avg_8, av1_mc_avg_16, av1_motion_place, av1_planes_len, av1_smooth_neighbour, av1_test_samples_16
  *    2,048  av1_builder_leaf, av1_builder_mark, av1_builder_reference
  *    4,096  av1_predict_cfl_8, av1_predict_cfl_16, av1_predict_in_plane_8, av1_predict_in_plane_16, av1_predict_intra_8, av1_predict_intra_16,
  *           av1_prep_8tap_8, av1_prep_8tap_16, av1_prep_moved_8, av1_prep_moved_16, av1_prep_tested_16, av1_put_8tap_8, av1_put_8tap_16,
  *           av1_put_moved_8, av1_put_moved_16, av1_put_tested_16
  *    8,192  av1_inverse_transform_add_8, av1_inverse_transform_add_16
+ *   12,288  av1_inverse_transform_add_clamped_16
  *   20,480  av1_reconstruct_plan */
 
 /* Statuses. */
@@ -132,6 +133,13 @@ uint32_t av1_inverse_transform_add_8(av1_transform_scratch *scratch, const int16
 uint32_t av1_inverse_transform_add_16(av1_transform_scratch *scratch, const int32_t *coefficients, size_t coefficients_len, uint16_t *samples,
                                       size_t samples_len, size_t stride, size_t x, size_t y, uint8_t tx_size, uint8_t tx_type,
                                       size_t bit_depth);
+
+/* The same, but that a coefficient of more bits is cut to the nearest number of bit_depth + 8 bits, as the AV1 specification's "Reconstruction"
+ * cuts what it dequantizes. At a depth of 8 such a coefficient does not fit int16_t, so that there is no such call for samples of 8 bits.
+ * Answers as av1_inverse_transform_add_16, but never AV1_BAD_COEFFICIENT. */
+uint32_t av1_inverse_transform_add_clamped_16(av1_transform_scratch *scratch, const int32_t *coefficients, size_t coefficients_len,
+                                              uint16_t *samples, size_t samples_len, size_t stride, size_t x, size_t y, uint8_t tx_size,
+                                              uint8_t tx_type, size_t bit_depth);
 
 /* The sharp filter. Along sides up to 4 it is the regular one for such sides, as in AV1. */
 #define AV1_SHARP 2
@@ -322,6 +330,29 @@ uint32_t av1_predict_cfl_16(uint16_t *samples, size_t samples_len, size_t stride
 /* The number that names no mode. */
 #define AV1_ANY_MODE 255
 
+/* Finds how many steps of 3 degrees a mode turns to an angle.
+ *   step    AV1_DONE: `angle_step` of an av1_intra_block or an av1_edge_block
+ *   mode    as in av1_intra_block
+ *   angle   in degrees: 90 is from above, 180 from the left, less than 90 from above on the right. A mode without a direction has 0 alone
+ * Answers AV1_DONE, AV1_BAD_MODE or AV1_BAD_ANGLE (the mode does not turn to it). */
+uint32_t av1_angle_step(int8_t *step, uint8_t mode, size_t angle);
+
+/* The blocks above and to the left of one that an intra mode predicts. */
+typedef struct {
+    uint8_t chroma;      /* 0: the plane is luma's, else one of chroma */
+    uint8_t above_mode;  /* the number of the mode that the block above has in this plane, as in plans: 0 to 13, or from 14 on where it is predicted
+                            from another frame; AV1_ANY_MODE where none lies there in the tile */
+    uint8_t above_inter; /* 0: the block above is predicted from its own frame; read for chroma alone */
+    uint8_t left_mode;   /* the same of the block to the left */
+    uint8_t left_inter;
+} av1_neighbours;
+
+/* Tells whether a neighbour of a block has a smooth mode, as the edge filter asks: the AV1 specification's "intra filter type process". In a plane
+ * of chroma only a neighbour counts that is predicted from its own frame.
+ *   smooth   AV1_DONE: 1 where one has, else 0: `smooth_neighbour` of an av1_intra_block or of av1_predict_in_plane_8
+ * Answers AV1_DONE or AV1_BAD_MODE (no mode has a neighbour's number). */
+uint32_t av1_smooth_neighbour(uint8_t *smooth, const av1_neighbours *neighbours);
+
 /* A plane in memory of the caller, and a tile of it. */
 typedef struct {
     size_t stride;          /* how far the rows of its samples stand apart */
@@ -412,6 +443,25 @@ uint32_t av1_cfl_ac_8(int16_t *ac, size_t ac_len, const uint8_t *luma, size_t lu
  * Answers AV1_BAD_DEPTH, or AV1_BAD_SAMPLE where one of the samples that are read is past the depth, too. */
 uint32_t av1_cfl_ac_16(int16_t *ac, size_t ac_len, const uint16_t *luma, size_t luma_len, size_t stride, size_t x, size_t y,
                        const av1_cfl_block *block, size_t bit_depth);
+
+/* A block whose chroma is predicted from its luma. */
+typedef struct {
+    uint8_t block_size;     /* its size in luma, as in av1_edge_block */
+    uint8_t tx_size;        /* the size of its luma transforms, as in av1_intra_block */
+    uint8_t xdec;           /* as in av1_cfl_block */
+    uint8_t ydec;
+    size_t visible_columns; /* how many visible columns of luma there are from its first on */
+    size_t visible_rows;    /* how many visible rows */
+} av1_luma_block;
+
+/* Finds the block of chroma that is predicted from a block's luma, as the calls above take it: its size, and how many units of 4 columns and rows
+ * have no luma of their own, since no transform that begins in the visible plane codes it (MaxLumaW and MaxLumaH of the AV1 specification).
+ *   block   AV1_DONE: that block
+ * A block with a side of 4 that is halved shares its chroma with the one before it, and all 8 samples of luma of both are read: `x` and `y` of the
+ * calls above are then those of the first.
+ * Answers AV1_DONE, AV1_BAD_SAMPLING, AV1_BAD_SIZE (of the block or the transforms, or its chroma has none up to 32) or AV1_BAD_PAD (nothing of its
+ * luma is visible). */
+uint32_t av1_cfl_block_of(av1_cfl_block *block, const av1_luma_block *luma);
 
 /* ---- plans built field by field
  *

@@ -43,9 +43,17 @@ HOLDS(AV1_INVALID_MODE == 3);
 HOLDS(AV1_INVALID_VECTOR == 4);
 HOLDS(AV1_MISSING_REFERENCE == 5);
 HOLDS(AV1_INVALID_COEFFICIENT == 6);
-HOLDS(AV1_C_VERSION == 512);
+HOLDS(AV1_C_VERSION == 513);
 
 HOLDS(sizeof(av1_transform_scratch) == 24576);
+
+HOLDS(sizeof(av1_luma_block) == 24);
+FIELD(av1_luma_block, block_size, uint8_t *, 0);
+FIELD(av1_luma_block, tx_size, uint8_t *, 1);
+FIELD(av1_luma_block, xdec, uint8_t *, 2);
+FIELD(av1_luma_block, ydec, uint8_t *, 3);
+FIELD(av1_luma_block, visible_columns, size_t *, 8);
+FIELD(av1_luma_block, visible_rows, size_t *, 16);
 
 HOLDS(sizeof(av1_intra_block) == 24);
 FIELD(av1_intra_block, mode, uint8_t *, 0);
@@ -125,6 +133,13 @@ FIELD(av1_moved_place, x, ptrdiff_t *, 0);
 FIELD(av1_moved_place, y, ptrdiff_t *, 8);
 FIELD(av1_moved_place, col_frac, uint8_t *, 16);
 FIELD(av1_moved_place, row_frac, uint8_t *, 17);
+
+HOLDS(sizeof(av1_neighbours) == 5);
+FIELD(av1_neighbours, chroma, uint8_t *, 0);
+FIELD(av1_neighbours, above_mode, uint8_t *, 1);
+FIELD(av1_neighbours, above_inter, uint8_t *, 2);
+FIELD(av1_neighbours, left_mode, uint8_t *, 3);
+FIELD(av1_neighbours, left_inter, uint8_t *, 4);
 
 HOLDS(sizeof(av1_builder_part) == 6);
 FIELD(av1_builder_part, kind, uint8_t *, 0);
@@ -206,6 +221,9 @@ uint32_t av1_predict_in_plane_16(uint16_t *, size_t, const av1_edge_plane *, con
 uint32_t av1_cfl_ac_8(int16_t *, size_t, const uint8_t *, size_t, size_t, size_t, size_t, const av1_cfl_block *);
 uint32_t av1_cfl_ac_16(int16_t *, size_t, const uint16_t *, size_t, size_t, size_t, size_t, const av1_cfl_block *,
     size_t);
+uint32_t av1_cfl_block_of(av1_cfl_block *, const av1_luma_block *);
+uint32_t av1_angle_step(int8_t *, uint8_t, size_t);
+uint32_t av1_smooth_neighbour(uint8_t *, const av1_neighbours *);
 uint32_t av1_motion_place(av1_moved_place *, const av1_motion_plane *, const av1_moved_block *);
 uint32_t av1_put_8tap_8(uint8_t *, size_t, size_t, size_t, size_t, const uint8_t *, size_t, size_t, size_t, size_t,
     const av1_motion_block *);
@@ -237,6 +255,8 @@ uint32_t av1_inverse_transform_add_8(av1_transform_scratch *, const int16_t *, s
     size_t, size_t, uint8_t, uint8_t);
 uint32_t av1_inverse_transform_add_16(av1_transform_scratch *, const int32_t *, size_t, uint16_t *, size_t, size_t,
     size_t, size_t, uint8_t, uint8_t, size_t);
+uint32_t av1_inverse_transform_add_clamped_16(av1_transform_scratch *, const int32_t *, size_t, uint16_t *, size_t,
+    size_t, size_t, size_t, uint8_t, uint8_t, size_t);
 uint32_t av1_c_version(void);
 
 #ifdef __cplusplus

@@ -179,6 +179,37 @@ static void from_luma_in_its_plane(void) {
     CHECK(av1_predict_in_plane_16(samples, 144, &plane, &at, 0, ac, 16, 8) == AV1_BAD_MODE);
 }
 
+/* Each mode turns to seven angles, 3 degrees apart, or to none but 0. */
+static void angle_steps(void) {
+    for (unsigned mode = 0; mode < 256; mode++)
+        for (size_t angle = 0; angle < 300; angle++) {
+            int8_t step = 77;
+            uint32_t status = av1_angle_step(&step, (uint8_t)mode, angle);
+            int turned = mode < MODES ? (int)angle - angles[mode] : 0, most = mode >= 1 && mode <= 8 ? 9 : 0;
+            int found = mode < MODES && turned % 3 == 0 && turned >= -most && turned <= most;
+            CHECK(status == (mode >= MODES ? AV1_BAD_MODE : found ? AV1_DONE : AV1_BAD_ANGLE));
+            CHECK(step == (found ? turned / 3 : 77));
+        }
+    int8_t step = 77;
+    CHECK(av1_angle_step(&step, 1, SIZE_MAX) == AV1_BAD_ANGLE && step == 77);
+}
+
+/* Whether a neighbour is smooth, as the specification's get_filter_type has it. */
+static int is_smooth(unsigned mode, int chroma, int inter) { return mode >= 9 && mode <= 11 && !(chroma && inter); }
+
+static void smooth_neighbours(void) {
+    for (unsigned above = 0; above < 256; above++)
+        for (unsigned left = 0; left < 256; left++)
+            for (unsigned flags = 0; flags < 8; flags++) {
+                int chroma = flags & 1, above_inter = flags >> 1 & 1, left_inter = flags >> 2;
+                av1_neighbours of = {(uint8_t)(2 * chroma), (uint8_t)above, (uint8_t)(3 * above_inter), (uint8_t)left, (uint8_t)left_inter};
+                uint8_t smooth = 77;
+                int known = (above < 34 || above == AV1_ANY_MODE) && (left < 34 || left == AV1_ANY_MODE);
+                CHECK(av1_smooth_neighbour(&smooth, &of) == (known ? AV1_DONE : AV1_BAD_MODE));
+                CHECK(smooth == (known ? is_smooth(above, chroma, above_inter) || is_smooth(left, chroma, left_inter) : 77));
+            }
+}
+
 int main(void) {
     unsigned long count = 0;
     for (unsigned depth = 8; depth <= 12; depth += 2)
@@ -198,6 +229,8 @@ int main(void) {
             }
     from_its_plane();
     from_luma_in_its_plane();
+    angle_steps();
+    smooth_neighbours();
     refusals((av1_intra_block){0, 0, 0, 8, 1, 1, 0, 0, 4, 4});
     printf("each of %lu blocks\n", count);
     return 0;

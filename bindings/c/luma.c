@@ -105,6 +105,53 @@ static void refuse(uint32_t status, av1_cfl_block block, size_t stride, size_t x
     for (size_t i = 0; i < 64; i++) CHECK(ac[i] == UNTOUCHED);
 }
 
+/* The pad of a side: what stands behind the transforms that begin in the visible luma, in units of 4 samples of chroma. */
+static size_t pad_of(size_t side, size_t tx, size_t visible, unsigned dec) {
+    size_t coded = 0;
+    while (coded < side && (side <= 8 || coded < visible)) coded += tx;
+    return coded < side ? ((side - coded) >> dec) / 4 : 0;
+}
+
+/* The number of a size. */
+static uint8_t size_of(size_t w, size_t h) {
+    uint8_t size = 0;
+    while (widths[size] != w || heights[size] != h) CHECK(++size < SIZES);
+    return size;
+}
+
+/* The chroma of blocks of every size, with transforms of every size, of which so much is visible. */
+static unsigned chroma(void) {
+    static const size_t tx_widths[] = {4, 8, 16, 32, 64, 4, 8, 8, 16, 16, 32, 32, 64, 4, 16, 8, 32, 16, 64};
+    static const size_t tx_heights[] = {4, 8, 16, 32, 64, 8, 4, 16, 8, 32, 16, 64, 32, 16, 4, 32, 8, 64, 16};
+    unsigned count = 0;
+    for (uint8_t size = 0; size < SIZES; size++)
+        for (uint8_t tx = 0; tx < 19; tx++)
+            for (uint8_t sampling = 0; sampling < 3; sampling++)
+                for (size_t seen = 0; seen <= 68; seen += 4) {
+                    uint8_t xdec = sampling > 0, ydec = sampling > 1;
+                    av1_luma_block of = {size, tx, xdec, ydec, seen, 72 - seen};
+                    size_t w = greatest(widths[size] >> xdec, 4), h = greatest(heights[size] >> ydec, 4);
+                    av1_cfl_block block = {99, 98, 97, 96, 95};
+                    uint32_t status = av1_cfl_block_of(&block, &of);
+                    int has_none = greatest(w, h) > 32 || (xdec && !ydec && heights[size] > widths[size]);
+                    if (has_none || seen == 0) {
+                        CHECK(status == (has_none ? AV1_BAD_SIZE : AV1_BAD_PAD));
+                        CHECK(block.block_size == 99 && block.xdec == 98 && block.ydec == 97 && block.w_pad == 96 && block.h_pad == 95);
+                        continue;
+                    }
+                    CHECK(status == AV1_DONE && block.block_size == size_of(w, h) && block.xdec == xdec && block.ydec == ydec);
+                    CHECK(block.w_pad == pad_of(widths[size], tx_widths[tx], seen, xdec));
+                    CHECK(block.h_pad == pad_of(heights[size], tx_heights[tx], 72 - seen, ydec));
+                    count++;
+                }
+    av1_cfl_block block;
+    CHECK(av1_cfl_block_of(&block, &(av1_luma_block){SIZES, 0, 1, 1, 8, 8}) == AV1_BAD_SIZE);
+    CHECK(av1_cfl_block_of(&block, &(av1_luma_block){3, 19, 1, 1, 8, 8}) == AV1_BAD_SIZE);
+    CHECK(av1_cfl_block_of(&block, &(av1_luma_block){SIZES, 0, 0, 1, 8, 8}) == AV1_BAD_SAMPLING);
+    CHECK(av1_cfl_block_of(&block, &(av1_luma_block){9, 0, 1, 1, SIZE_MAX, SIZE_MAX}) == AV1_DONE && block.w_pad == 0 && block.h_pad == 0);
+    return count;
+}
+
 int main(void) {
     av1_cfl_block plain = {3, 1, 1, 0, 0};
     for (unsigned size = 0; size < 256; size++) {
@@ -126,6 +173,7 @@ int main(void) {
     refuse(AV1_TOO_SHORT, (av1_cfl_block){6, 0, 0, 0, 0}, 16, 0, 0, 8);
     for (size_t depth = 0; depth < 20; depth++)
         if (depth != 8 && depth != 10 && depth != 12) refuse(AV1_BAD_DEPTH, plain, 16, 0, 0, depth);
+    printf("of %u blocks each has its chroma, ", chroma());
     printf("of %u blocks each has its differences\n", blocks());
     return 0;
 }

@@ -69,6 +69,16 @@ static void transforms(int is_deep) {
     tell(is_deep ? "av1_inverse_transform_add_16" : "av1_inverse_transform_add_8", deepest);
 }
 
+static void clamped(void) {
+    size_t deepest = 0;
+    many[0] = INT32_MAX;
+    for (uint8_t size = 0; size < 19; size++)
+        for (uint8_t type = 0; type < 17; type++)
+            if (is_transform(size, type))
+                DEEP(av1_inverse_transform_add_clamped_16(&scratch, many, 1024, plane_16, SIDE * SIDE, SIDE, 4, 4, size, type, 10));
+    tell("av1_inverse_transform_add_clamped_16", deepest);
+}
+
 enum motion { PUT_8, PUT_16, PREP_8, PREP_16, PUT_TESTED, PREP_TESTED };
 
 static void motion(enum motion kind, const char *name) {
@@ -192,6 +202,23 @@ static void luma(int is_deep) {
     tell(is_deep ? "av1_cfl_ac_16" : "av1_cfl_ac_8", deepest);
 }
 
+static void numbers(void) {
+    static const av1_luma_block luma_block = {.block_size = 9, .tx_size = 1, .xdec = 1, .ydec = 1, .visible_columns = 12, .visible_rows = 8};
+    static const av1_neighbours neighbours = {.above_mode = 9, .left_mode = AV1_ANY_MODE};
+    av1_cfl_block block;
+    int8_t step;
+    uint8_t smooth;
+    size_t deepest = 0;
+    DEEP(av1_cfl_block_of(&block, &luma_block));
+    tell("av1_cfl_block_of", deepest);
+    deepest = 0;
+    DEEP(av1_angle_step(&step, 3, 54));
+    tell("av1_angle_step", deepest);
+    deepest = 0;
+    DEEP(av1_smooth_neighbour(&smooth, &neighbours));
+    tell("av1_smooth_neighbour", deepest);
+}
+
 static void whole(const uint8_t *plan, size_t len) {
     static uint8_t room[MOST];
     size_t wanted, written, deepest = 0;
@@ -250,6 +277,8 @@ int main(int count, char **words) {
         intra(EDGE, is_deep, is_deep ? "av1_intra_edge_16" : "av1_intra_edge_8");
         intra(PLANE, is_deep, is_deep ? "av1_predict_in_plane_16" : "av1_predict_in_plane_8");
     }
+    clamped();
+    numbers();
     place();
     tests();
     motion(PUT_8, "av1_put_8tap_8");

@@ -67,12 +67,40 @@ static void blocks_of_10_bits(void) {
     for (int i = 0; i < 16; i++) CHECK(samples[i] == before[i] + 3);
 }
 
+/* Coefficients of more than 18 bits: cut to those they are next to, in every size. */
+static void clamped_blocks(void) {
+    static const unsigned numbers[] = {16, 64, 256, 1024, 1024, 32, 32, 128, 128, 512, 512, 1024, 1024, 64, 64, 256, 256, 512, 512};
+    static uint16_t samples[ALL], other[ALL];
+    static int32_t many[1024], cut[1024];
+    uint64_t state = 1;
+    for (uint8_t size = 0; size < 19; size++) {
+        for (size_t i = 0; i < ALL; i++) samples[i] = other[i] = (uint16_t)(i % 1024);
+        for (unsigned i = 0; i < numbers[size]; i++) {
+            state = state * 6364136223846793005u + 1442695040888963407u;
+            many[i] = (int32_t)(uint32_t)(state >> 32) >> state % 32;
+            cut[i] = many[i] < -131072 ? -131072 : many[i] > 131071 ? 131071 : many[i];
+        }
+        many[numbers[size] - 1] = INT32_MAX, cut[numbers[size] - 1] = 131071;
+        CHECK(av1_inverse_transform_add_16(scratch, many, numbers[size], other, ALL, STRIDE, 5, 3, size, DCT_DCT, 10) == AV1_BAD_COEFFICIENT);
+        CHECK(av1_inverse_transform_add_16(scratch, cut, numbers[size], other, ALL, STRIDE, 5, 3, size, DCT_DCT, 10) == AV1_DONE);
+        CHECK(av1_inverse_transform_add_clamped_16(scratch, many, numbers[size], samples, ALL, STRIDE, 5, 3, size, DCT_DCT, 10) == AV1_DONE);
+        CHECK(!memcmp(samples, other, sizeof samples));
+        CHECK(av1_inverse_transform_add_clamped_16(scratch, cut, numbers[size], samples, ALL, STRIDE, 5, 3, size, DCT_DCT, 10) == AV1_DONE);
+        CHECK(av1_inverse_transform_add_16(scratch, cut, numbers[size], other, ALL, STRIDE, 5, 3, size, DCT_DCT, 10) == AV1_DONE);
+        CHECK(!memcmp(samples, other, sizeof samples));
+        CHECK(av1_inverse_transform_add_clamped_16(scratch, many, numbers[size] - 1, samples, ALL, STRIDE, 5, 3, size, DCT_DCT, 10) == AV1_TOO_SHORT);
+        CHECK(av1_inverse_transform_add_clamped_16(scratch, many, numbers[size], samples, ALL, STRIDE, 5, 3, size, DCT_DCT, 9) == AV1_BAD_DEPTH);
+        CHECK(!memcmp(samples, other, sizeof samples));
+    }
+}
+
 int main(void) {
     scratch = malloc(sizeof *scratch);
     CHECK(scratch);
     blocks_of_8_bits();
     refused_blocks();
     blocks_of_10_bits();
+    clamped_blocks();
     free(scratch);
     return 0;
 }

@@ -48,9 +48,17 @@ holds!(sys::INVALID_MODE == 3);
 holds!(sys::INVALID_VECTOR == 4);
 holds!(sys::MISSING_REFERENCE == 5);
 holds!(sys::INVALID_COEFFICIENT == 6);
-holds!(crate::VERSION == 512);
+holds!(crate::VERSION == 513);
 
 holds!(size_of::<sys::TransformScratch>() == 24576);
+
+holds!(size_of::<crate::LumaBlock>() == 24);
+field!(crate::LumaBlock, block_size, u8, 0);
+field!(crate::LumaBlock, tx_size, u8, 1);
+field!(crate::LumaBlock, xdec, u8, 2);
+field!(crate::LumaBlock, ydec, u8, 3);
+field!(crate::LumaBlock, visible_columns, usize, 8);
+field!(crate::LumaBlock, visible_rows, usize, 16);
 
 holds!(size_of::<crate::IntraBlock>() == 24);
 field!(crate::IntraBlock, mode, u8, 0);
@@ -130,6 +138,13 @@ field!(crate::MovedPlace, x, isize, 0);
 field!(crate::MovedPlace, y, isize, 8);
 field!(crate::MovedPlace, col_frac, u8, 16);
 field!(crate::MovedPlace, row_frac, u8, 17);
+
+holds!(size_of::<crate::Neighbours>() == 5);
+field!(crate::Neighbours, chroma, u8, 0);
+field!(crate::Neighbours, above_mode, u8, 1);
+field!(crate::Neighbours, above_inter, u8, 2);
+field!(crate::Neighbours, left_mode, u8, 3);
+field!(crate::Neighbours, left_inter, u8, 4);
 
 holds!(size_of::<sys::BuilderPart>() == 6);
 field!(sys::BuilderPart, kind, u8, 0);
@@ -213,6 +228,9 @@ const _: unsafe extern "C" fn(*mut i16, usize, *const u8, usize, usize, usize, u
     sys::av1_cfl_ac_8;
 const _: unsafe extern "C" fn(*mut i16, usize, *const u16, usize, usize, usize, usize, &crate::CflBlock, usize) -> u32 =
     sys::av1_cfl_ac_16;
+const _: unsafe extern "C" fn(&mut crate::CflBlock, &crate::LumaBlock) -> u32 = sys::av1_cfl_block_of;
+const _: unsafe extern "C" fn(&mut i8, u8, usize) -> u32 = sys::av1_angle_step;
+const _: unsafe extern "C" fn(&mut u8, &crate::Neighbours) -> u32 = sys::av1_smooth_neighbour;
 const _: unsafe extern "C" fn(&mut crate::MovedPlace, &crate::MotionPlane, &crate::MovedBlock) -> u32 =
     sys::av1_motion_place;
 const _: unsafe extern "C" fn(*mut u8, usize, usize, usize, usize, *const u8, usize, usize, usize, usize,
@@ -248,4 +266,6 @@ const _: unsafe extern "C" fn(&mut sys::TransformScratch, *const i16, usize, *mu
     u8) -> u32 = sys::av1_inverse_transform_add_8;
 const _: unsafe extern "C" fn(&mut sys::TransformScratch, *const i32, usize, *mut u16, usize, usize, usize, usize, u8,
     u8, usize) -> u32 = sys::av1_inverse_transform_add_16;
+const _: unsafe extern "C" fn(&mut sys::TransformScratch, *const i32, usize, *mut u16, usize, usize, usize, usize, u8,
+    u8, usize) -> u32 = sys::av1_inverse_transform_add_clamped_16;
 const _: unsafe extern "C" fn() -> u32 = sys::av1_c_version;

@@ -1,13 +1,15 @@
 //! AV1 block reconstruction by the library `libav1_c.a`, whose calls are proved. `docs/LIBRARY.md` of the repository says what is proved of
 //! them, and how the archive is built.
 //!
-//! [`inverse_transform_add_8`] and [`inverse_transform_add_16`] add the residue of a block to samples of the caller. [`put_8tap_8`] and
+//! [`inverse_transform_add_8`] and [`inverse_transform_add_16`] add the residue of a block to samples of the caller, and so does
+//! [`inverse_transform_add_clamped_16`], which cuts coefficients that are too large. [`put_8tap_8`] and
 //! [`put_8tap_16`] predict a block from one reference; [`prep_8tap_8`], [`prep_8tap_16`], [`mc_avg_8`] and [`mc_avg_16`] prepare blocks of two, and
 //! average them. [`motion_place`] tells where a vector leads, and [`put_moved_8`], [`prep_moved_8`] and their like for 16 bits follow it in a plane
 //! without pads. A reference of 16 bits that is [`Tested`] once is not looked at again by [`put_tested_16`] and [`prep_tested_16`].
 //! [`predict_intra_8`], [`predict_cfl_8`] and their like for samples of 16 bits predict a block in samples of the caller, and [`intra_edge_8`] and
 //! [`intra_edge_16`] prepare the sides from which they do; [`predict_in_plane_8`] and [`predict_in_plane_16`] do both. [`cfl_ac_8`] and [`cfl_ac_16`]
-//! give the differences of luma from its mean, by which chroma is predicted. A [`PlanBuilder`] writes a plan field by field to a buffer of the caller.
+//! give the differences of luma from its mean, by which chroma is predicted. [`angle_step`], [`smooth_neighbour`] and [`cfl_block_of`] work out
+//! numbers that these ask for. A [`PlanBuilder`] writes a plan field by field to a buffer of the caller.
 //! [`planes_len`] tells how many bytes the planes of a plan have, and [`reconstruct_plan`] writes them to a buffer of the caller:
 //!
 //! ```
@@ -42,6 +44,7 @@ mod intra_plane;
 mod luma;
 mod motion;
 mod motion_place;
+mod neighbours;
 mod place;
 mod sys;
 mod tested;
@@ -52,7 +55,7 @@ pub use builder::{BuildError, Coefficient, Header, Leaf, Motion, PlanBuilder};
 pub use intra::{IntraBlock, predict_cfl_8, predict_cfl_16, predict_intra_8, predict_intra_16};
 pub use intra_edge::{ANY_MODE, EDGE_SAMPLES, EdgeBlock, EdgePlane, intra_edge_8, intra_edge_16};
 pub use intra_plane::{FROM_LUMA, predict_in_plane_8, predict_in_plane_16};
-pub use luma::{CflBlock, cfl_ac_8, cfl_ac_16};
+pub use luma::{CflBlock, LumaBlock, cfl_ac_8, cfl_ac_16, cfl_block_of};
 pub use motion::{
     MotionBlock, RAV1E_SHARP, SHARP, mc_avg_8, mc_avg_16, prep_8tap_8, prep_8tap_16, put_8tap_8,
     put_8tap_16,
@@ -61,10 +64,12 @@ pub use motion_place::{
     MotionPlane, MotionWindow, MovedBlock, MovedPlace, motion_place, prep_moved_8, prep_moved_16,
     put_moved_8, put_moved_16,
 };
+pub use neighbours::{Neighbours, angle_step, smooth_neighbour};
 pub use place::Place;
 pub use tested::{Tested, prep_tested_16, put_tested_16};
 pub use transform::{
     TransformBlock, TransformScratch, inverse_transform_add_8, inverse_transform_add_16,
+    inverse_transform_add_clamped_16,
 };
 pub use version::{VERSION, version};
 

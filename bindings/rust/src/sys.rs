@@ -2,7 +2,10 @@
 
 use crate::builder::{Coefficient, Header, Leaf};
 use crate::motion::MotionBlock;
-use crate::{CflBlock, EdgeBlock, EdgePlane, IntraBlock, MotionPlane, MovedBlock, MovedPlace};
+use crate::{
+    CflBlock, EdgeBlock, EdgePlane, IntraBlock, LumaBlock, MotionPlane, MovedBlock, MovedPlace,
+    Neighbours,
+};
 
 pub const DONE: u32 = 0;
 pub const OUT_OF_MEMORY: u32 = 1;
@@ -104,6 +107,20 @@ extern "C" {
     ) -> u32;
 
     pub fn av1_inverse_transform_add_16(
+        scratch: &mut TransformScratch,
+        coefficients: *const i32,
+        coefficients_len: usize,
+        samples: *mut u16,
+        samples_len: usize,
+        stride: usize,
+        x: usize,
+        y: usize,
+        tx_size: u8,
+        tx_type: u8,
+        bit_depth: usize,
+    ) -> u32;
+
+    pub fn av1_inverse_transform_add_clamped_16(
         scratch: &mut TransformScratch,
         coefficients: *const i32,
         coefficients_len: usize,
@@ -390,6 +407,12 @@ extern "C" {
         ac_len: usize,
         alpha: i16,
     ) -> u32;
+
+    pub fn av1_angle_step(step: &mut i8, mode: u8, angle: usize) -> u32;
+
+    pub fn av1_smooth_neighbour(smooth: &mut u8, neighbours: &Neighbours) -> u32;
+
+    pub fn av1_cfl_block_of(block: &mut CflBlock, luma: &LumaBlock) -> u32;
 
     pub fn av1_cfl_ac_8(
         ac: *mut i16,

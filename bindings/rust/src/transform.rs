@@ -92,3 +92,35 @@ pub fn inverse_transform_add_16(
         )
     })
 }
+
+/// The same, but that a coefficient of more bits is cut to the nearest number of `bit_depth + 8` bits, as AV1 cuts what it dequantizes. At a depth
+/// of 8 such a coefficient does not fit `i16`, so that there is no such call for samples of 8 bits.
+///
+/// # Errors
+///
+/// `BadSize`, then `BadType`, then `BadArea`, then `TooShort`, then `BadDepth`. The samples are then as they were.
+pub fn inverse_transform_add_clamped_16(
+    scratch: &mut TransformScratch,
+    coefficients: &[i32],
+    samples: &mut [u16],
+    stride: usize,
+    block: TransformBlock,
+    bit_depth: usize,
+) -> Result<(), Error> {
+    // SAFETY: as above.
+    told(unsafe {
+        sys::av1_inverse_transform_add_clamped_16(
+            &mut scratch.0,
+            coefficients.as_ptr(),
+            coefficients.len(),
+            samples.as_mut_ptr(),
+            samples.len(),
+            stride,
+            block.x,
+            block.y,
+            block.tx_size,
+            block.tx_type,
+            bit_depth,
+        )
+    })
+}

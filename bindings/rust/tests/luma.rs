@@ -1,6 +1,6 @@
 //! The differences of luma, given and refused.
 
-use av1_c::{CflBlock, Error, Place, cfl_ac_8, cfl_ac_16};
+use av1_c::{CflBlock, Error, LumaBlock, Place, cfl_ac_8, cfl_ac_16, cfl_block_of};
 
 // A block of 8x8 in 4:2:0, of which the last 4 columns and rows have no luma of their own.
 const BLOCK: CflBlock = CflBlock {
@@ -74,4 +74,37 @@ fn depths_and_samples_are_tested() {
     assert_eq!(call(11), Err(Error::BadDepth));
     assert_eq!(call(10), Err(Error::BadSample));
     assert_eq!(call(12), Ok(()));
+}
+
+#[test]
+fn pads_follow_from_what_is_visible() {
+    // A block of 16x16 in 4:2:0 with transforms of 8x8, of which 8 columns and 8 rows are visible: that of the other tests.
+    let luma = LumaBlock {
+        block_size: 6,
+        tx_size: 1,
+        xdec: 1,
+        ydec: 1,
+        visible_columns: 8,
+        visible_rows: 8,
+    };
+    assert_eq!(cfl_block_of(&luma), Ok(BLOCK));
+    let seen = LumaBlock {
+        visible_columns: 9,
+        ..luma
+    };
+    assert_eq!(cfl_block_of(&seen), Ok(CflBlock { w_pad: 0, ..BLOCK }));
+    let hidden = LumaBlock {
+        visible_rows: 0,
+        ..luma
+    };
+    assert_eq!(cfl_block_of(&hidden), Err(Error::BadPad));
+    assert_eq!(
+        cfl_block_of(&LumaBlock { xdec: 2, ..luma }),
+        Err(Error::BadSampling)
+    );
+    let large = LumaBlock {
+        block_size: 13,
+        ..luma
+    };
+    assert_eq!(cfl_block_of(&large), Err(Error::BadSize));
 }

@@ -2,6 +2,7 @@
 
 use av1_c::{
     Error, TransformBlock, TransformScratch, inverse_transform_add_8, inverse_transform_add_16,
+    inverse_transform_add_clamped_16,
 };
 
 // A block of 4x4 by the cosine transform both ways.
@@ -95,4 +96,42 @@ fn depths_and_coefficients_are_tested() {
     coefficients[15] = 0;
     assert_eq!(add(&coefficients, 10), Ok(()));
     assert_eq!(samples, [515; 16]);
+}
+
+#[test]
+fn large_coefficients_are_cut() {
+    let mut scratch = TransformScratch::new();
+    let (mut samples, mut expected) = ([512; 16], [512; 16]);
+    let mut coefficients: [i32; 16] = lifted_by_3();
+    coefficients[15] = i32::MIN;
+    let clamped = inverse_transform_add_clamped_16(
+        &mut scratch,
+        &coefficients,
+        &mut samples,
+        4,
+        block_at(0, 0),
+        10,
+    );
+    assert_eq!(clamped, Ok(()));
+    coefficients[15] = -(1 << 17);
+    let added = inverse_transform_add_16(
+        &mut scratch,
+        &coefficients,
+        &mut expected,
+        4,
+        block_at(0, 0),
+        10,
+    );
+    assert_eq!(added, Ok(()));
+    assert_eq!(samples, expected);
+    let refused = inverse_transform_add_clamped_16(
+        &mut scratch,
+        &coefficients,
+        &mut samples,
+        4,
+        block_at(0, 0),
+        11,
+    );
+    assert_eq!(refused, Err(Error::BadDepth));
+    assert_eq!(samples, expected);
 }

@@ -1,13 +1,16 @@
-//! Blocks that intra modes predict, alone and in their plane, their edges and luma for their chroma, for C. Each call
-//! is that of `av1_calls` of the same name, which says what it does.
+//! Blocks that intra modes predict, alone and in their plane, their edges, luma for their chroma, and the numbers that
+//! these ask for, for C. Each call is that of `av1_calls` of the same name, which says what it does.
 ghost use Rattle.std.specs.Prelude.{false, true};
 ghost use Rattle.av1_blocks.specs.declared.predict.PredictionMode.TheVariants as modes;
+ghost use Rattle.av1_calls.specs.AngleSteps.{FindsStep};
+ghost use Rattle.av1_calls.specs.CflPads.{FindsChroma};
 ghost use Rattle.av1_calls.specs.IntraBlocks.{Predicts, PredictsBy};
 ghost use Rattle.av1_calls.specs.IntraEdges.{PreparesEdge};
 ghost use Rattle.av1_calls.specs.IntraPlanes.{PredictsInPlane};
 ghost use Rattle.av1_calls.specs.LumaBlocks.{GivesDifferences};
+ghost use Rattle.av1_calls.specs.SmoothNeighbours.{TellsSmooth};
 
-use av1_calls::{CflBlock, EdgeBlock, EdgePlane, IntraBlock};
+use av1_calls::{CflBlock, EdgeBlock, EdgePlane, IntraBlock, LumaBlock, Neighbours};
 
 /// Predicts a block by its intra mode from the sides round it, at a depth of 8.
 #[unsafe(no_mangle)]
@@ -164,4 +167,28 @@ pub extern "C" fn av1_cfl_ac_16(
     ensures { GivesDifferences true bit_depth block.now stride x y luma.now ac.old ac.new result }
 {
     av1_calls::av1_cfl_ac_16(ac, luma, stride, x, y, block, bit_depth)
+}
+
+/// Finds the block of chroma that is predicted from a block's luma.
+#[unsafe(no_mangle)]
+pub extern "C" fn av1_cfl_block_of(block: &mut CflBlock, luma: &LumaBlock) -> u32
+    ensures { FindsChroma luma.now block.old block.new result }
+{
+    av1_calls::av1_cfl_block_of(block, luma)
+}
+
+/// Finds how many steps a mode turns to an angle.
+#[unsafe(no_mangle)]
+pub extern "C" fn av1_angle_step(step: &mut i8, mode: u8, angle: usize) -> u32
+    ensures { FindsStep mode angle step.old step.new result }
+{
+    av1_calls::av1_angle_step(step, mode, angle)
+}
+
+/// Tells whether a neighbour of a block has a smooth mode.
+#[unsafe(no_mangle)]
+pub extern "C" fn av1_smooth_neighbour(smooth: &mut u8, neighbours: &Neighbours) -> u32
+    ensures { TellsSmooth neighbours.now smooth.old smooth.new result }
+{
+    av1_calls::av1_smooth_neighbour(smooth, neighbours)
 }

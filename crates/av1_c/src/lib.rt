@@ -45,9 +45,9 @@ pub use build_leaf::av1_builder_leaf;
 pub use builder::{Builder, BuilderPart};
 pub use fault::Refusal;
 pub use intra_calls::{
-    av1_cfl_ac_8, av1_cfl_ac_16, av1_intra_edge_8, av1_intra_edge_16, av1_predict_cfl_8,
-    av1_predict_cfl_16, av1_predict_in_plane_8, av1_predict_in_plane_16, av1_predict_intra_8,
-    av1_predict_intra_16,
+    av1_angle_step, av1_cfl_ac_8, av1_cfl_ac_16, av1_cfl_block_of, av1_intra_edge_8,
+    av1_intra_edge_16, av1_predict_cfl_8, av1_predict_cfl_16, av1_predict_in_plane_8,
+    av1_predict_in_plane_16, av1_predict_intra_8, av1_predict_intra_16, av1_smooth_neighbour,
 };
 pub use leaf_numbers::{Coefficient, LeafNumbers, Motion};
 pub use motion_calls::{
@@ -62,5 +62,7 @@ pub use status::{
     BAD_STATE, INVALID, INVALID_BLOCK_SIZE, INVALID_COEFFICIENT, INVALID_MODE, INVALID_TRANSFORM,
     INVALID_VECTOR, MALFORMED, MISSING_REFERENCE, NOT_ADMITTED, NOT_NOW, OUT_OF_MEMORY, TOO_LONG,
 };
-pub use transform_calls::{av1_inverse_transform_add_8, av1_inverse_transform_add_16};
+pub use transform_calls::{
+    av1_inverse_transform_add_8, av1_inverse_transform_add_16, av1_inverse_transform_add_clamped_16,
+};
 pub use version::av1_c_version;

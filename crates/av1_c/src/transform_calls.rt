@@ -1,6 +1,6 @@
 //! Residues of blocks, for C. Each call is that of `av1_calls` of the same name, which says what it does.
 ghost use Rattle.std.specs.Prelude.{false, true};
-ghost use Rattle.av1_calls.specs.Transforms.{AddsResidue};
+ghost use Rattle.av1_calls.specs.Transforms.{AddsClamped, AddsResidue};
 
 use av1_calls::TxRoom;
 use std::mem::size_of;
@@ -50,6 +50,34 @@ pub extern "C" fn av1_inverse_transform_add_16(
     ensures { AddsResidue true bit_depth tx_size tx_type stride x y coefficients.now samples.old samples.new result }
 {
     av1_calls::av1_inverse_transform_add_16(
+        scratch,
+        coefficients,
+        samples,
+        stride,
+        x,
+        y,
+        tx_size,
+        tx_type,
+        bit_depth,
+    )
+}
+
+/// The same where coefficients that are too large for the depth are cut to it.
+#[unsafe(no_mangle)]
+pub extern "C" fn av1_inverse_transform_add_clamped_16(
+    scratch: &mut TxRoom,
+    coefficients: &[i32],
+    samples: &mut [u16],
+    stride: usize,
+    x: usize,
+    y: usize,
+    tx_size: u8,
+    tx_type: u8,
+    bit_depth: usize,
+) -> u32
+    ensures { AddsClamped bit_depth tx_size tx_type stride x y coefficients.now samples.old samples.new result }
+{
+    av1_calls::av1_inverse_transform_add_clamped_16(
         scratch,
         coefficients,
         samples,

@@ -1,6 +1,5 @@
 -- What a call asks of a block of an intra mode is what predicting it asks, and what is painted is what the call says.
-use Rattle.std.proofs.Common.{ℕ, ℤ, ◌≡◌, ◌≢◌, ◌≤◌, List, true, inl, inr, arith, ap, ◌∙◌, sym, subst, unsigned_abs}
-use Rattle.av1_blocks.specs.Depths.{IsDepth}
+use Rattle.std.proofs.Common.{ℕ, ℤ, ◌≡◌, ◌≢◌, ◌≤◌, List, true, arith, ap, ◌∙◌, sym, subst, unsigned_abs}
 use Rattle.av1_blocks.specs.Modes.{is_directional}
 use Rattle.av1_blocks.specs.declared.predict.IntraParam.TheVariants.{AngleDelta}
 use Rattle.av1_blocks.specs.declared.predict.PredictionMode.{PredictionMode}

@@ -2,9 +2,11 @@ pub mod IntraCalls
 pub mod EdgeCalls
 pub mod Blocks
 pub mod Limits
+pub mod Residues
 pub mod Lanes
 pub mod Motions
 pub mod LumaCalls
+pub mod CflPads
 pub mod MotionPlaces
 pub mod PlaneCalls
 pub mod MovedBlocks

@@ -2,7 +2,8 @@
 use Rattle.std.proofs.Common.{refl, ℕ, ℤ, ◌≡◌, ◌∙◌, ◌+◌, ◌-◌, ◌*◌, ◌<◌, ◌≤◌, List, length, take, map, get_or, slice_index, pos, ◌+ℤ◌, ◌-ℤ◌, unsigned_abs}
 use Rattle.std.proofs.Common.{FitsSigned, w32, to_z, of_z, arith, ap, sym, subst}
 use Rattle.std.proofs.lemmas.Int.{ints, to_z-of_z}
-use Rattle.std.proofs.lemmas.List.{get_or-map, places}
+use Rattle.std.proofs.lemmas.List.{get_or-map, map-id, places}
+use Rattle.av1_blocks.specs.Depths.{IsDepth}
 use Rattle.av1_blocks.specs.declared.mc.FilterMode.{FilterMode}
 use Rattle.av1_frame.specs.Areas.{IsStorage}
 use Rattle.av1_frame.specs.Planes.{IsWhole}
@@ -18,9 +19,9 @@ use Rattle.av1_frame.proofs.Planes.{some_item}
 use Rattle.av1_frame.proofs.Slices.{slice_plane_is}
 use Rattle.av1_inter.specs.Filters.{filter_of}
 use Rattle.av1_inter.specs.Motion.{entry, prepared, single}
-use Rattle.av1_inter.specs.Places.{corner_of, IsStoredFrom, samples_from}
+use Rattle.av1_inter.specs.Places.{AreWithinDepth, corner_of, IsStoredFrom, samples_from}
 use Rattle.av1_inter.proofs.Strips.{prepared_moved, single_moved}
-use Rattle.av1_calls.specs.Motions.{HoldBlock, IsMotion, config_of, filter_along, moved_sample, rectangle_at, rows_for, source_at}
+use Rattle.av1_calls.specs.Motions.{AreOfDepth, HoldBlock, IsMotion, config_of, filter_along, moved_sample, rectangle_at, rows_for, source_at}
 use Rattle.av1_calls.specs.declared.motion.MotionBlock.{MotionBlock}
 use Rattle.av1_calls.specs.declared.motion.Place.{Place}
 
@@ -164,3 +165,9 @@ prep_is depth block before after fx fy mx my s t ex ey mx_is my_is same values o
           ∙ prepared_moved depth _ _ s t r c c (λ x y i j. same (c + x) (r + y) (omega arith) (omega arith)) block.col_frac block.row_frac;
       others = others;
     }
+
+-- samples that were tested before, as they are read
+pub tested_deep : (depth : ℕ) (from : Place) (src : List ℕ) (block : MotionBlock) → IsDepth depth →
+    AreWithinDepth depth (source_at from src) (block.width + 7) (block.height + 7) → AreOfDepth depth from (map (λ n. n) src) block
+tested_deep depth from src block is_depth within =
+    subst (λ xs. AreOfDepth depth from xs block) (sym (map-id src)) (record { is_depth = is_depth; within = within })

@@ -5,7 +5,7 @@ use Rattle.std.proofs.Common.{to_z, of_z, w64, ℤ, pos, negsuc, ◌+ℤ◌, ◌
 use Rattle.std.proofs.lemmas.Bool.{cases_lt}
 use Rattle.std.specs.Int.Signed.{lt_z}
 use Rattle.std.proofs.lemmas.Int.{ints}
-use Rattle.std.proofs.lemmas.List.{get_or-map, get_or_default, get_or_past}
+use Rattle.std.proofs.lemmas.List.{get_or-map, get_or_default, get_or_past, map-id}
 use Rattle.av1_blocks.specs.Depths.{IsDepth}
 use Rattle.av1_frame.specs.Areas.{AreRows}
 use Rattle.av1_frame.specs.Samples.{paint}
@@ -140,6 +140,14 @@ put_deep depth from xs b i j m source is is_depth same deep =
       within = λ c r h k. subst (λ (n : ℕ). n < 2 ^ depth) (sym (same c r h k)) (deep c r h k);
     })
 
+-- the same where all that is read is visible
+pub within_deep : (depth : ℕ) (from : Place) (xs : List ℕ) (p : MotionPlane) (b : MovedBlock) (at : MovedPlace) (m : MotionBlock) → IsPlaceOf p b at →
+    LiesWithin p b at → from ≡ stored_at p at → m ≡ motion_at b at.col_frac at.row_frac → IsDepth depth → AreMovedWithin depth p b xs →
+    AreOfDepth depth from xs m
+within_deep depth from xs p b at m found within from_is is is_depth deep =
+    subst (λ (k : Place). AreOfDepth depth k xs m) (sym from_is)
+    (put_deep depth (stored_at p at) xs b at.col_frac at.row_frac m (moved_source p b xs) is is_depth (within_source p b at found within xs) deep)
+
 -- and what it becomes is what its source gives
 pub moved_put : {T : Type 0} (pixel : ℕ → T) (depth : ℕ) (to : Place) (b : MovedBlock) (i j u v : ℕ) (m : MotionBlock) (old new : List T) (s t : ℕ → ℕ → ℕ)
     → m ≡ motion_at b i j → i ≡ u → j ≡ v → ((c r : ℕ) → c < b.width + 7 → r < b.height + 7 → s c r ≡ t c r)
@@ -241,6 +249,11 @@ below_each xs n i some all = elim (cases_lt i (length xs)) [
   | inl lt ↦ all i lt
   | inr past ↦ subst (λ (k : ℕ). k < n) (sym (get_or_past xs i 0 past)) some
 ]
+
+-- samples that are numbers already
+pub moved_numbers : (depth : ℕ) (p : MotionPlane) (b : MovedBlock) (src : List ℕ) → AreMovedWithin depth p b src →
+    AreMovedWithin depth p b (map (λ n. n) src)
+moved_numbers depth p b src deep = subst (λ xs. AreMovedWithin depth p b xs) (sym (map-id src)) deep
 
 pub moved_low : (p : MotionPlane) (b : MovedBlock) (src : List ℕ) → ((i : ℕ) → i < length src → slice_index src i < 256) → AreMovedWithin 8 p b src
 moved_low p b src all = λ c r h k. below_each src 256 _ (omega arith) all

@@ -20,7 +20,10 @@ use Rattle.av1_intra.specs.declared.variant.PredictionVariant.{PredictionVariant
 use Rattle.av1_calls.specs.Arguments.{HasNoSize, IsSize, rectangle}
 use Rattle.av1_calls.specs.declared.argument.BadArgument.{BadArgument}
 use Rattle.av1_calls.specs.declared.argument.BadArgument.TheVariants as bad
+use Rattle.av1_calls.specs.declared.intra.Counts.{Counts}
 use Rattle.av1_calls.specs.declared.intra.IntraBlock.{IntraBlock}
+use Rattle.av1_calls.specs.declared.intra.Prediction.{Prediction}
+use Rattle.av1_calls.specs.declared.motion.Place.{Place}
 use Rattle.av1_calls.specs.declared.status.TheConstants.{BAD_ANGLE, BAD_AREA, BAD_DEPTH, BAD_MODE, BAD_SIZE, DONE}
 use Rattle.av1_calls.specs.declared.status.TheConstants.{TOO_SHORT}
 
@@ -181,15 +184,14 @@ pub record Predicts {T : Type 0} (bits : ℕ) (num : T → ℕ) (pixel : ℕ →
 
 -- ---- why nothing is written: words of private contracts
 
-abbrev pub IsIntraFault : (bits : ℕ) → IntraBlock → PredictionMode → (stride x y left above ac samples : ℕ) →
-    BadArgument → Type 0
-IsIntraFault bits b mode stride x y left above ac samples bad.Size = HasNoSize b.tx_size
-IsIntraFault bits b mode stride x y left above ac samples bad.Angle = HasNoAngle b mode
-IsIntraFault bits b mode stride x y left above ac samples bad.Depth = HasNoDepth bits b mode
-IsIntraFault bits b mode stride x y left above ac samples bad.Area = LiesOutside bits b mode stride x y samples
-IsIntraFault bits b mode stride x y left above ac samples bad.Short =
-    HasShortSides bits b mode stride x y left above ac samples
-IsIntraFault bits b mode stride x y left above ac samples fault = ⊥
+abbrev pub IsIntraFault : (bits : ℕ) → IntraBlock → PredictionMode → Place → Counts → BadArgument → Type 0
+IsIntraFault bits b mode at has bad.Size = HasNoSize b.tx_size
+IsIntraFault bits b mode at has bad.Angle = HasNoAngle b mode
+IsIntraFault bits b mode at has bad.Depth = HasNoDepth bits b mode
+IsIntraFault bits b mode at has bad.Area = LiesOutside bits b mode at.stride at.x at.y has.samples
+IsIntraFault bits b mode at has bad.Short =
+    HasShortSides bits b mode at.stride at.x at.y has.left has.above has.ac has.samples
+IsIntraFault bits b mode at has fault = ⊥
 
 -- ---- words of private contracts
 
@@ -198,3 +200,12 @@ pub record AreSidesLong (b : DirectionalBlock) (variant : PredictionVariant) (mo
     (left above : ℕ) : Type 0 where
   pub left_long : places_left mode variant b.p_angle b.width b.height ≤ left
   pub above_long : places_above mode variant b.p_angle b.width b.height ≤ above
+
+-- This is what the numbers ask for, at a place and with so many samples.
+pub record IsPredictionOf (bits : ℕ) (b : IntraBlock) (mode : PredictionMode) (at : Place) (has : Counts)
+    (p : Prediction) : Type 0 where
+  pub asked : IsIntraBlock bits b mode at.stride at.x at.y has.left has.above has.ac has.samples p.size
+  pub mode_is : p.mode ≡ mode_in b mode
+  pub variant_is : p.variant ≡ variant_in b
+  pub block_is : p.block ≡ block_of b (mode_in b mode) p.size
+  pub area_is : p.area ≡ rectangle at.x at.y p.size

@@ -2,7 +2,7 @@
 -- stands (column x of row y), of rows that stand `stride` apart, of how many samples there are, and of the
 -- coefficients.
 use Rattle.std.specs.Prelude.{◌≡◌, ◌≢◌, ◌⊎◌, Bool, ℕ, ◌+◌, ◌<◌, ◌≤◌, IsTrue, Some, ℤ, pos, ◌+ℤ◌, List, length}
-use Rattle.std.specs.Prelude.{slice_get}
+use Rattle.std.specs.Prelude.{map, slice_get}
 use Rattle.av1_blocks.specs.Depths.{IsDepth}
 use Rattle.av1_blocks.specs.Transforms.{coded_area, valid_av1_transform}
 use Rattle.av1_blocks.specs.declared.transform.TheConstants.TxType as tx_types
@@ -10,7 +10,7 @@ use Rattle.av1_blocks.specs.declared.transform.TxSize.{TxSize}
 use Rattle.av1_blocks.specs.declared.transform.TxSize.TheVariants.{TX_4X4}
 use Rattle.av1_blocks.specs.declared.transform.TxType.{TxType}
 use Rattle.av1_blocks.specs.declared.transform.TxType.TheVariants.{WHT_WHT}
-use Rattle.av1_dct.specs.Arithmetic.{at, FitsBits}
+use Rattle.av1_dct.specs.Arithmetic.{at, clamp_value, FitsBits}
 use Rattle.av1_frame.specs.Areas.{AreRows}
 use Rattle.av1_frame.specs.Arithmetic.{clip}
 use Rattle.av1_frame.specs.Samples.{paint}
@@ -60,6 +60,10 @@ AreOfDepth depth size coefficients = IsDepth depth × AllFitDepth depth size coe
 abbrev pub with_residue : (depth stride x y : ℕ) → TxSize → TxType → List ℤ → List ℕ → List ℕ
 with_residue depth stride x y size type coefficients samples =
     paint stride (rectangle x y size) (λ r c v. clip depth (pos v +ℤ residue size type depth coefficients r c)) samples
+
+-- each coefficient as the nearest number of so many bits, its sign among them
+abbrev pub cut_to : ℕ → List ℤ → List ℤ
+cut_to bits coefficients = map (λ z. clamp_value z bits) coefficients
 
 -- ---- what is refused: each reason with what is asked before it, so that the first one that holds is told
 
@@ -127,6 +131,30 @@ pub record AddsResidue (wide : Bool) (bit_depth size_number type_number stride x
       ((answer ≡ BAD_SIZE) ⊎ ((answer ≡ BAD_TYPE) ⊎ ((answer ≡ BAD_AREA) ⊎ ((answer ≡ TOO_SHORT)
       ⊎ OnlyWide wide ((answer ≡ BAD_DEPTH) ⊎ (answer ≡ BAD_COEFFICIENT))))))
 
+-- Of the same where coefficients that are too large for the depth are cut to it.
+pub record AddsClamped (bit_depth size_number type_number stride x y : ℕ) (coefficients : List ℤ)
+    (before after : List ℕ) (answer : ℕ) : Type 0 where
+  -- The arguments name a transform, and the residue of what the coefficients are cut to is added.
+  pub done : answer ≡ DONE → (size : TxSize) × ((type : TxType)
+      × (IsBlock size_number type_number stride x y (length coefficients) (length before) size type
+      × (IsDepth bit_depth
+      × (after ≡ with_residue bit_depth stride x y size type (cut_to (bit_depth + 8) coefficients) before))))
+  -- Nothing else is asked of them.
+  pub asked : (size : TxSize) → (type : TxType)
+      → IsBlock size_number type_number stride x y (length coefficients) (length before) size type
+      → IsDepth bit_depth → answer ≡ DONE
+  -- An argument is refused, the first one that has to be, and this is why.
+  pub size : answer ≡ BAD_SIZE → HasNoSize size_number
+  pub kind : answer ≡ BAD_TYPE → HasNoType size_number type_number
+  pub area : answer ≡ BAD_AREA → HasNoRectangle size_number type_number stride x y (length before)
+  pub short : answer ≡ TOO_SHORT → HasTooFew size_number type_number stride x y (length coefficients) (length before)
+  pub depth : answer ≡ BAD_DEPTH
+      → HasNoDepth bit_depth size_number type_number stride x y (length coefficients) (length before)
+  -- What is refused leaves the samples as they were.
+  pub kept : answer ≢ DONE → after ≡ before
+  pub known : (answer ≡ DONE) ⊎ ((answer ≡ BAD_SIZE) ⊎ ((answer ≡ BAD_TYPE) ⊎ ((answer ≡ BAD_AREA)
+      ⊎ ((answer ≡ TOO_SHORT) ⊎ (answer ≡ BAD_DEPTH)))))
+
 -- ---- why nothing is written: words of private contracts
 
 abbrev pub IsBlockFault : (size_number type_number stride x y coefficients samples : ℕ) → BadArgument → Type 0
@@ -138,10 +166,14 @@ IsBlockFault size_number type_number stride x y coefficients samples bad.Short =
     HasTooFew size_number type_number stride x y coefficients samples
 IsBlockFault size_number type_number stride x y coefficients samples fault = ⊥
 
+abbrev pub IsDepthFault : (depth size_number type_number stride x y coefficients samples : ℕ) → BadArgument → Type 0
+IsDepthFault depth size_number type_number stride x y coefficients samples bad.Depth =
+    HasNoDepth depth size_number type_number stride x y coefficients samples
+IsDepthFault depth size_number type_number stride x y coefficients samples fault =
+    IsBlockFault size_number type_number stride x y coefficients samples fault
+
 abbrev pub IsDeepFault : (depth size_number type_number stride x y : ℕ) → List ℤ → ℕ → BadArgument → Type 0
-IsDeepFault depth size_number type_number stride x y coefficients samples bad.Depth =
-    HasNoDepth depth size_number type_number stride x y (length coefficients) samples
 IsDeepFault depth size_number type_number stride x y coefficients samples bad.Coefficient =
     HasTooLarge depth size_number type_number stride x y coefficients samples
 IsDeepFault depth size_number type_number stride x y coefficients samples fault =
-    IsBlockFault size_number type_number stride x y (length coefficients) samples fault
+    IsDepthFault depth size_number type_number stride x y (length coefficients) samples fault

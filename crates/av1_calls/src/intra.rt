@@ -6,10 +6,11 @@ ghost use Rattle.av1_blocks.specs.Modes.{is_intra};
 ghost use Rattle.av1_blocks.specs.declared.predict.PredictionMode.TheVariants as modes;
 ghost use Rattle.av1_intra.specs.Predicted.{angle_or_alpha};
 ghost use Rattle.av1_calls.specs.Arguments.{rectangle};
-ghost use Rattle.av1_calls.specs.IntraBlocks.{Predicts, PredictsBy, AreLong, AreSidesLong, HasNoMode, IsDepthWithin, IsIntraBlock, IsIntraFault, IsIntraMode};
-ghost use Rattle.av1_calls.specs.IntraBlocks.{IsTurn, block_of, filter_of, mode_in, variant_in};
+ghost use Rattle.av1_calls.specs.IntraBlocks.{Predicts, PredictsBy, AreLong, AreSidesLong, HasNoMode, IsDepthWithin, IsIntraFault, IsIntraMode};
+ghost use Rattle.av1_calls.specs.IntraBlocks.{IsPredictionOf, IsTurn, block_of, filter_of, mode_in, variant_in};
 
 use crate::argument::{BadArgument, are_rows};
+use crate::motion::Place;
 use crate::status::{BAD_MODE, DONE};
 use av1_blocks::{IntraParam, PredictionMode, TxSize};
 use av1_edges::effective;
@@ -46,6 +47,23 @@ pub struct IntraBlock {
     pub visible_rows: usize,
 }
 
+/// The samples round a block: the left side from the bottom up, the corner, and the side above from the left.
+#[derive(Clone, Copy)]
+pub(crate) struct Sides<'a, T> {
+    pub(crate) left: &'a [T],
+    pub(crate) corner: T,
+    pub(crate) above: &'a [T],
+}
+
+/// How many samples there are on each side and in all, and how many differences of luma.
+#[derive(Clone, Copy)]
+struct Counts {
+    left: usize,
+    above: usize,
+    ac: usize,
+    samples: usize,
+}
+
 /// A block as it is predicted, and the rectangle that it is.
 #[derive(Clone, Copy)]
 struct Prediction {
@@ -58,7 +76,7 @@ struct Prediction {
 
 // The intra mode of this number, but for chroma from luma.
 #[inline(always)]
-fn mode_of(number: u8) -> Option<PredictionMode>
+pub(crate) fn mode_of(number: u8) -> Option<PredictionMode>
     ensures found { IfSome result (IsIntraMode number) }
     ensures none { result ≡ None → HasNoMode number }
 {
@@ -175,23 +193,17 @@ fn are_sides_long(
 // Whether the sides and luma's differences are as long as a block reads them. No mode reads more of a side than both
 // sides of the block.
 #[inline(always)]
-fn are_long(
-    block: DirectionalBlock,
-    variant: PredictionVariant,
-    mode: PredictionMode,
-    left: usize,
-    above: usize,
-    ac: usize,
-) -> bool
-    requires width { block.width ≤ 64 }
-    requires height { block.height ≤ 64 }
-    ensures true_is { result ≡ true → AreLong block variant mode left above ac }
-    ensures is_true { AreLong block variant mode left above ac → result ≡ true }
+fn are_long(prediction: Prediction, counts: Counts) -> bool
+    requires width { prediction.block.width ≤ 64 }
+    requires height { prediction.block.height ≤ 64 }
+    ensures true_is { result ≡ true → AreLong prediction.block prediction.variant prediction.mode counts.left counts.above counts.ac }
+    ensures is_true { AreLong prediction.block prediction.variant prediction.mode counts.left counts.above counts.ac → result ≡ true }
 {
-    let (width, height) = (block.width, block.height);
-    (width + height <= left && width + height <= above
-        || are_sides_long(block, variant, mode, left, above))
-        && (!mode.is_cfl() || width * height <= ac)
+    let (block, mode) = (prediction.block, prediction.mode);
+    let sides = block.width + block.height;
+    (sides <= counts.left && sides <= counts.above
+        || are_sides_long(block, prediction.variant, mode, counts.left, counts.above))
+        && (!mode.is_cfl() || block.width * block.height <= counts.ac)
 }
 
 /// What the numbers ask for, where samples have so many bits.
@@ -204,20 +216,11 @@ fn prediction_of(
     bits: usize,
     block: IntraBlock,
     mode: PredictionMode,
-    stride: usize,
-    x: usize,
-    y: usize,
-    left: usize,
-    above: usize,
-    ac: usize,
-    samples: usize,
+    at: Place,
+    counts: Counts,
 ) -> Result<Prediction, BadArgument>
-    ensures found { IfOk result (λ p. IsIntraBlock bits block mode stride x y left above ac samples p.size) }
-    ensures mode { IfOk result (λ p. p.mode ≡ mode_in block mode) }
-    ensures variant { IfOk result (λ p. p.variant ≡ variant_in block) }
-    ensures block { IfOk result (λ p. p.block ≡ block_of block (mode_in block mode) p.size) }
-    ensures area { IfOk result (λ p. p.area ≡ rectangle x y p.size) }
-    ensures fault { IfErr result (IsIntraFault bits block mode stride x y left above ac samples) }
+    ensures found { IfOk result (IsPredictionOf bits block mode at counts) }
+    ensures fault { IfErr result (IsIntraFault bits block mode at counts) }
 {
     let Some(size) = TxSize::from_number(block.tx_size) else {
         return Err(BadArgument::Size);
@@ -228,18 +231,11 @@ fn prediction_of(
     if !is_depth_within(bits, block.bit_depth) {
         return Err(BadArgument::Depth);
     }
-    let prediction = prediction_in(block, mode, size, x, y);
-    if !are_rows(stride, prediction.area, samples) {
+    let prediction = prediction_in(block, mode, size, at.x, at.y);
+    if !are_rows(at.stride, prediction.area, counts.samples) {
         return Err(BadArgument::Area);
     }
-    if !are_long(
-        prediction.block,
-        prediction.variant,
-        prediction.mode,
-        left,
-        above,
-        ac,
-    ) {
+    if !are_long(prediction, counts) {
         return Err(BadArgument::Short);
     }
     Ok(prediction)
@@ -251,41 +247,33 @@ pub(crate) fn predict_by<T: Pixel>(
     block: IntraBlock,
     mode: PredictionMode,
     samples: &mut [T],
-    stride: usize,
-    x: usize,
-    y: usize,
-    left: &[T],
-    corner: T,
-    above: &[T],
+    at: Place,
+    sides: Sides<T>,
     ac: &[i16],
     alpha: i16,
 ) -> u32
     requires intra { IsTrue (is_intra mode) }
-    ensures { PredictsBy T.BITS T.num T.pixel block mode stride x y left.now corner above.now ac.now alpha samples.old samples.new result }
+    ensures { PredictsBy T.BITS T.num T.pixel block mode at.stride at.x at.y sides.entry.left.now sides.entry.corner sides.entry.above.now ac.now alpha
+        samples.old samples.new result }
 {
-    match prediction_of(
-        T::BITS,
-        block,
-        mode,
-        stride,
-        x,
-        y,
-        left.len(),
-        above.len(),
-        ac.len(),
-        samples.len(),
-    ) {
+    let counts = Counts {
+        left: sides.left.len(),
+        above: sides.above.len(),
+        ac: ac.len(),
+        samples: samples.len(),
+    };
+    match prediction_of(T::BITS, block, mode, at, counts) {
         Ok(found) => {
             dispatch_predict_intra_to(
                 found.mode,
                 found.variant,
                 samples,
-                stride,
+                at.stride,
                 found.area,
                 found.block,
-                left,
-                corner,
-                above,
+                sides.left,
+                sides.corner,
+                sides.above,
                 ac,
                 alpha,
             );
@@ -299,32 +287,17 @@ pub(crate) fn predict_by<T: Pixel>(
 #[inline(always)]
 pub(crate) fn predict_by_number<T: Pixel>(
     samples: &mut [T],
-    stride: usize,
-    x: usize,
-    y: usize,
-    block: &IntraBlock,
-    left: &[T],
-    corner: T,
-    above: &[T],
+    at: Place,
+    block: IntraBlock,
+    sides: Sides<T>,
 ) -> u32
-    ensures { Predicts T.BITS T.num T.pixel block.now stride x y left.now corner above.now samples.old samples.new result }
+    ensures { Predicts T.BITS T.num T.pixel block at.stride at.x at.y sides.entry.left.now sides.entry.corner sides.entry.above.now samples.old samples.new
+        result }
 {
     let Some(mode) = mode_of(block.mode) else {
         return BAD_MODE;
     };
-    predict_by(
-        *block,
-        mode,
-        samples,
-        stride,
-        x,
-        y,
-        left,
-        corner,
-        above,
-        &[],
-        0,
-    )
+    predict_by(block, mode, samples, at, sides, &[], 0)
 }
 
 /// Predicts the samples of a block by its intra mode, from the sides round it, at a depth of 8: the specification's
@@ -351,7 +324,12 @@ pub fn av1_predict_intra_8(
 ) -> u32
     ensures { Predicts 8 (λ n. n) (λ n. n) block.now stride x y left.now corner above.now samples.old samples.new result }
 {
-    predict_by_number(samples, stride, x, y, block, left, corner, above)
+    let sides = Sides {
+        left,
+        corner,
+        above,
+    };
+    predict_by_number(samples, Place { stride, x, y }, *block, sides)
 }
 
 /// The same for samples of 16 bits at a depth of 8, 10 or 12. Samples of the sides that are past the depth are taken as
@@ -368,7 +346,12 @@ pub fn av1_predict_intra_16(
 ) -> u32
     ensures { Predicts 16 (λ n. n) (λ n. n) block.now stride x y left.now corner above.now samples.old samples.new result }
 {
-    predict_by_number(samples, stride, x, y, block, left, corner, above)
+    let sides = Sides {
+        left,
+        corner,
+        above,
+    };
+    predict_by_number(samples, Place { stride, x, y }, *block, sides)
 }
 
 /// Predicts the samples of a block of chroma from luma, at a depth of 8: each becomes the DC prediction by the sides
@@ -394,8 +377,19 @@ pub fn av1_predict_cfl_8(
     ensures { PredictsBy 8 (λ n. n) (λ n. n) block.now modes.UV_CFL_PRED stride x y left.now 0 above.now ac.now alpha samples.old samples.new result }
 {
     let mode = PredictionMode::UV_CFL_PRED;
+    let sides = Sides {
+        left,
+        corner: 0,
+        above,
+    };
     predict_by(
-        *block, mode, samples, stride, x, y, left, 0, above, ac, alpha,
+        *block,
+        mode,
+        samples,
+        Place { stride, x, y },
+        sides,
+        ac,
+        alpha,
     )
 }
 
@@ -415,7 +409,18 @@ pub fn av1_predict_cfl_16(
     ensures { PredictsBy 16 (λ n. n) (λ n. n) block.now modes.UV_CFL_PRED stride x y left.now 0 above.now ac.now alpha samples.old samples.new result }
 {
     let mode = PredictionMode::UV_CFL_PRED;
+    let sides = Sides {
+        left,
+        corner: 0,
+        above,
+    };
     predict_by(
-        *block, mode, samples, stride, x, y, left, 0, above, ac, alpha,
+        *block,
+        mode,
+        samples,
+        Place { stride, x, y },
+        sides,
+        ac,
+        alpha,
     )
 }

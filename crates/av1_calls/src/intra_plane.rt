@@ -5,10 +5,11 @@ ghost use Rattle.std.specs.Prelude.{◌≡◌, ◌<◌, length, take, drop};
 ghost use Rattle.av1_calls.specs.IntraEdges.{LiesIn};
 ghost use Rattle.av1_calls.specs.IntraPlanes.{PredictsFrom, PredictsInPlane, block_in, column_in, has_before, row_in};
 
-use crate::intra::{IntraBlock, predict_by, predict_by_number};
+use crate::intra::{IntraBlock, Sides, predict_by, predict_by_number};
 use crate::intra_edge::{
     EDGE_SAMPLES, EdgeBlock, EdgePlane, av1_intra_edge_8, av1_intra_edge_16, rows_of,
 };
+use crate::motion::Place;
 use crate::status::DONE;
 use av1_blocks::PredictionMode;
 use av1_frame::Pixel;
@@ -102,18 +103,23 @@ fn predict_prepared<T: Pixel>(
 {
     let (left, _) = edge.split_at(LEFT_SAMPLES);
     let (_, above) = edge.split_at(LEFT_SAMPLES + 1);
+    let sides = Sides {
+        left,
+        corner,
+        above,
+    };
     let block = block_in(at);
-    let stride = at.plane.stride;
-    let x = column_in(at.plane, at.block, samples.len());
-    let y = row_in(at.plane, at.block, samples.len());
+    let place = Place {
+        stride: at.plane.stride,
+        x: column_in(at.plane, at.block, samples.len()),
+        y: row_in(at.plane, at.block, samples.len()),
+    };
     let mode = at.block.mode;
     if mode == FROM_LUMA {
         let by = PredictionMode::UV_CFL_PRED;
-        predict_by(
-            block, by, samples, stride, x, y, left, corner, above, ac, alpha,
-        )
+        predict_by(block, by, samples, place, sides, ac, alpha)
     } else {
-        predict_by_number(samples, stride, x, y, &block, left, corner, above)
+        predict_by_number(samples, place, block, sides)
     }
 }
 

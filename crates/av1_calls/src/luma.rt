@@ -58,7 +58,7 @@ fn chroma_size(number: u8) -> Option<BlockSize>
 
 // Whether planes of chroma have these decimations.
 #[inline(always)]
-fn is_sampling(xdec: u8, ydec: u8) -> bool
+pub(crate) fn is_sampling(xdec: u8, ydec: u8) -> bool
     ensures true_is { result ≡ true → IsSampling xdec ydec }
     ensures is_true { IsSampling xdec ydec → result ≡ true }
 {

@@ -3,9 +3,10 @@ ghost use Rattle.std.specs.Prelude.{true, false, ◌≡◌, ◌⊎◌, ℕ, ◌+
 ghost use Rattle.av1_blocks.specs.Depths.{IsDepth};
 ghost use Rattle.av1_dct.specs.Arithmetic.{at, FitsBits};
 ghost use Rattle.av1_calls.specs.Arguments.{rectangle};
-ghost use Rattle.av1_calls.specs.Transforms.{AddsResidue, AllFitDepth, IsBlock, IsBlockFault, IsDeepFault, IsRunnable};
+ghost use Rattle.av1_calls.specs.Transforms.{AddsResidue, AllFitDepth, IsBlock, IsBlockFault, IsDeepFault, IsDepthFault, IsRunnable};
 
 use crate::argument::{BadArgument, are_rows, area_of, is_depth};
+use crate::motion::Place;
 use crate::status::DONE;
 use av1_blocks::{TxSize, TxType, valid_av1_transform};
 use av1_frame::StoredArea;
@@ -13,10 +14,10 @@ use av1_itx::{TxRoom, inverse_transform_add_in};
 
 /// A transform, and the rectangle to which its residue is added.
 #[derive(Clone, Copy)]
-struct Block {
-    size: TxSize,
-    kind: TxType,
-    area: StoredArea,
+pub(crate) struct Block {
+    pub(crate) size: TxSize,
+    pub(crate) kind: TxType,
+    pub(crate) area: StoredArea,
 }
 
 // Whether the size has an inverse transform of this type.
@@ -37,15 +38,13 @@ fn is_runnable(size: TxSize, kind: TxType) -> bool
 fn block_of(
     tx_size: u8,
     tx_type: u8,
-    stride: usize,
-    x: usize,
-    y: usize,
+    at: Place,
     coefficients: usize,
     samples: usize,
 ) -> Result<Block, BadArgument>
-    ensures found { IfOk result (λ block. IsBlock tx_size tx_type stride x y coefficients samples block.size block.kind) }
-    ensures area { IfOk result (λ block. block.area ≡ rectangle x y block.size) }
-    ensures fault { IfErr result (IsBlockFault tx_size tx_type stride x y coefficients samples) }
+    ensures found { IfOk result (λ block. IsBlock tx_size tx_type at.stride at.x at.y coefficients samples block.size block.kind) }
+    ensures area { IfOk result (λ block. block.area ≡ rectangle at.x at.y block.size) }
+    ensures fault { IfErr result (IsBlockFault tx_size tx_type at.stride at.x at.y coefficients samples) }
 {
     let Some(size) = TxSize::from_number(tx_size) else {
         return Err(BadArgument::Size);
@@ -56,8 +55,8 @@ fn block_of(
     if !is_runnable(size, kind) {
         return Err(BadArgument::Kind);
     }
-    let area = area_of(x, y, size);
-    if !are_rows(stride, area, samples) {
+    let area = area_of(at.x, at.y, size);
+    if !are_rows(at.stride, area, samples) {
         return Err(BadArgument::Area);
     }
     if coefficients < size.coded_area() {
@@ -91,7 +90,7 @@ fn greater(a: i32, b: i32) -> i32
     if a < b { b } else { a }
 }
 
-fn number_at(numbers: &[i32], i: usize) -> i32
+pub(crate) fn number_at(numbers: &[i32], i: usize) -> i32
     requires { i < length numbers.now }
     ensures { result ≡ at numbers.now i }
 {
@@ -119,7 +118,7 @@ fn both_fit(least: i32, greatest: i32, bits: usize) -> bool
 
 // Whether each of the first numbers has so many bits. One pass finds the least and the greatest, several numbers at a
 // time.
-fn all_fit(numbers: &[i32], count: usize, bits: usize) -> bool
+pub(crate) fn all_fit(numbers: &[i32], count: usize, bits: usize) -> bool
     requires some_bits { (1 ≤ bits) × (bits ≤ 32) }
     requires long { count ≤ length numbers.now }
     ensures true_is { result ≡ true → (i : ℕ) → i < count → FitsBits bits (at numbers.now i) }
@@ -134,7 +133,34 @@ fn all_fit(numbers: &[i32], count: usize, bits: usize) -> bool
     both_fit(least, greatest, bits)
 }
 
-/// The same where samples have more than 8 bits.
+/// The same at a depth.
+///
+/// # Errors
+///
+/// `Size`, then `Kind`, then `Area`, then `Short`, then `Depth`.
+#[inline(always)]
+pub(crate) fn block_at_depth(
+    tx_size: u8,
+    tx_type: u8,
+    at: Place,
+    coefficients: usize,
+    samples: usize,
+    bit_depth: usize,
+) -> Result<Block, BadArgument>
+    ensures found { IfOk result (λ block. IsBlock tx_size tx_type at.stride at.x at.y coefficients samples block.size block.kind) }
+    ensures area { IfOk result (λ block. block.area ≡ rectangle at.x at.y block.size) }
+    ensures depth { IfOk result (λ _. IsDepth bit_depth) }
+    ensures fault { IfErr result (IsDepthFault bit_depth tx_size tx_type at.stride at.x at.y coefficients samples) }
+{
+    let block = block_of(tx_size, tx_type, at, coefficients, samples)?;
+    if is_depth(bit_depth) {
+        Ok(block)
+    } else {
+        Err(BadArgument::Depth)
+    }
+}
+
+/// The same of coefficients that fit the depth.
 ///
 /// # Errors
 ///
@@ -143,27 +169,23 @@ fn all_fit(numbers: &[i32], count: usize, bits: usize) -> bool
 fn deep_block_of(
     tx_size: u8,
     tx_type: u8,
-    stride: usize,
-    x: usize,
-    y: usize,
+    at: Place,
     coefficients: &[i32],
     samples: usize,
     bit_depth: usize,
 ) -> Result<Block, BadArgument>
-    ensures found { IfOk result (λ block. IsBlock tx_size tx_type stride x y (length coefficients.now) samples block.size block.kind) }
-    ensures area { IfOk result (λ block. block.area ≡ rectangle x y block.size) }
+    ensures found { IfOk result (λ block. IsBlock tx_size tx_type at.stride at.x at.y (length coefficients.now) samples block.size block.kind) }
+    ensures area { IfOk result (λ block. block.area ≡ rectangle at.x at.y block.size) }
     ensures depth { IfOk result (λ _. IsDepth bit_depth) }
     ensures fit { IfOk result (λ block. AllFitDepth bit_depth block.size coefficients.now) }
-    ensures fault { IfErr result (IsDeepFault bit_depth tx_size tx_type stride x y coefficients.now samples) }
+    ensures fault { IfErr result (IsDeepFault bit_depth tx_size tx_type at.stride at.x at.y coefficients.now samples) }
 {
-    let block = block_of(tx_size, tx_type, stride, x, y, coefficients.len(), samples)?;
-    if !is_depth(bit_depth) {
-        return Err(BadArgument::Depth);
+    let block = block_at_depth(tx_size, tx_type, at, coefficients.len(), samples, bit_depth)?;
+    if all_fit(coefficients, block.size.coded_area(), bit_depth + 8) {
+        Ok(block)
+    } else {
+        Err(BadArgument::Coefficient)
     }
-    if !all_fit(coefficients, block.size.coded_area(), bit_depth + 8) {
-        return Err(BadArgument::Coefficient);
-    }
-    Ok(block)
 }
 
 /// Adds the residue of coefficients to the samples of a rectangle, which has the transform's sides, and clips, at a
@@ -188,15 +210,8 @@ pub fn av1_inverse_transform_add_8(
 ) -> u32
     ensures { AddsResidue false 8 tx_size tx_type stride x y coefficients.now samples.old samples.new result }
 {
-    match block_of(
-        tx_size,
-        tx_type,
-        stride,
-        x,
-        y,
-        coefficients.len(),
-        samples.len(),
-    ) {
+    let at = Place { stride, x, y };
+    match block_of(tx_size, tx_type, at, coefficients.len(), samples.len()) {
         Ok(block) => {
             have_16_bits(coefficients);
             inverse_transform_add_in(
@@ -233,16 +248,8 @@ pub fn av1_inverse_transform_add_16(
 ) -> u32
     ensures { AddsResidue true bit_depth tx_size tx_type stride x y coefficients.now samples.old samples.new result }
 {
-    match deep_block_of(
-        tx_size,
-        tx_type,
-        stride,
-        x,
-        y,
-        coefficients,
-        samples.len(),
-        bit_depth,
-    ) {
+    let at = Place { stride, x, y };
+    match deep_block_of(tx_size, tx_type, at, coefficients, samples.len(), bit_depth) {
         Ok(block) => {
             inverse_transform_add_in(
                 scratch,

@@ -18,6 +18,8 @@ use Rattle.av1_replay.specs.declared.luma.Luma.{Luma}
 use Rattle.av1_replay.specs.declared.motion.Average.{Average}
 use Rattle.av1_replay.specs.declared.motion.Reference.{Reference}
 use Rattle.av1_replay.specs.declared.network.Network.{Network}
+use Rattle.av1_replay.specs.declared.samples.Format.{Format}
+use Rattle.av1_replay.specs.declared.samples.Format.TheVariants.{Short}
 use Rattle.av1_replay.specs.declared.transform.Transform.{Transform}
 
 -- a one-dimensional transform
@@ -105,6 +107,19 @@ kind_of (kinds.FromLuma _) = 8
 kind_of (kinds.Edge _) = 9
 kind_of (kinds.Luma _) = 10
 kind_of (kinds.Availability _) = 11
+
+-- the format of its samples; one without samples has none, and that of 8 bits stands for it
+abbrev pub format_of : BlockCall → Format
+format_of (kinds.Network _) = Short
+format_of (kinds.Transform transform) = transform.format
+format_of (kinds.Put reference _) = reference.format
+format_of (kinds.Prepare reference) = reference.format
+format_of (kinds.Average average) = average.format
+format_of (kinds.Intra intra) = intra.format
+format_of (kinds.FromLuma from_luma) = from_luma.intra.format
+format_of (kinds.Edge edge) = edge.format
+format_of (kinds.Luma luma) = luma.format
+format_of (kinds.Availability _) = Short
 
 -- a call
 abbrev pub call_before : BlockCall → List ℕ → List ℕ

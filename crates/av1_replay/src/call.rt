@@ -1,11 +1,13 @@
 //! Calls on one block, by the kinds of rows.
 
 ghost use Rattle.std.specs.Prelude.{◌≡◌, ◌≤◌, length, IfErr, IfSome};
-ghost use Rattle.av1_replay.specs.Calls.{call_before, kind_of};
+ghost use Rattle.av1_replay.specs.Calls.{call_before, format_of, kind_of};
 ghost use Rattle.av1_replay.specs.Fields.{unread};
+ghost use Rattle.av1_replay.specs.Rows.{depth_of};
 
 use crate::answer::Answer;
 use crate::availability::Availability;
+use crate::called::Called;
 use crate::edge::Edge;
 use crate::error::CallFault;
 use crate::fields::Fields;
@@ -13,7 +15,7 @@ use crate::intra::{FromLuma, Intra};
 use crate::luma::Luma;
 use crate::motion::{Average, Reference};
 use crate::network::Network;
-use crate::samples::Margins;
+use crate::samples::{Format, Margins};
 use crate::transform::Transform;
 use std::alloc::Global;
 
@@ -68,6 +70,23 @@ impl BlockCall {
         }
     }
 
+    /// The format of its samples. A call without samples has none, and that of 8 bits stands for it.
+    fn format(&self) -> Format
+        ensures { result ≡ format_of self.now }
+    {
+        match self {
+            BlockCall::Network(_) | BlockCall::Availability(_) => Format::Short,
+            BlockCall::Transform(transform) => transform.format,
+            BlockCall::Put(reference, _) => reference.format,
+            BlockCall::Prepare(reference) => reference.format,
+            BlockCall::Average(average) => average.format,
+            BlockCall::Intra(intra) => intra.format,
+            BlockCall::FromLuma(from_luma) => from_luma.intra.format,
+            BlockCall::Edge(edge) => edge.format,
+            BlockCall::Luma(luma) => luma.format,
+        }
+    }
+
     /// Its answer. What was written is all that the call was given to write to, two bytes for each sample or 16-bit
     /// value, four for each value of a one-dimensional transform; of an edge it is the part that the row asks for.
     ///
@@ -77,16 +96,27 @@ impl BlockCall {
     pub fn replay(&self, alloc: Global) -> Result<Answer, CallFault>
         ensures { IfErr result (λ fault. fault ≡ CallFault.Memory) }
     {
+        match self.format() {
+            Format::Short => self.replay_as::<u8>(alloc),
+            _ => self.replay_as::<u16>(alloc),
+        }
+    }
+
+    // The same with samples of a type.
+    fn replay_as<T: Called>(&self, alloc: Global) -> Result<Answer, CallFault>
+        requires deep { depth_of (format_of self.now) ≤ T.Pixel.BITS }
+        ensures { IfErr result (λ fault. fault ≡ CallFault.Memory) }
+    {
         match self {
             BlockCall::Network(network) => network.replay(alloc),
-            BlockCall::Transform(transform) => transform.replay(alloc),
-            BlockCall::Put(reference, margins) => reference.put(alloc, *margins),
-            BlockCall::Prepare(reference) => reference.prepare(alloc),
-            BlockCall::Average(average) => average.replay(alloc),
-            BlockCall::Intra(intra) => intra.replay(alloc),
-            BlockCall::FromLuma(from_luma) => from_luma.replay(alloc),
-            BlockCall::Edge(edge) => edge.replay(alloc),
-            BlockCall::Luma(luma) => luma.replay(alloc),
+            BlockCall::Transform(transform) => transform.replay_as::<T>(alloc),
+            BlockCall::Put(reference, margins) => reference.put_as::<T>(alloc, *margins),
+            BlockCall::Prepare(reference) => reference.prepare_as::<T>(alloc),
+            BlockCall::Average(average) => average.replay_as::<T>(alloc),
+            BlockCall::Intra(intra) => intra.replay_as::<T>(alloc),
+            BlockCall::FromLuma(from_luma) => from_luma.replay_as::<T>(alloc),
+            BlockCall::Edge(edge) => edge.replay_as::<T>(alloc),
+            BlockCall::Luma(luma) => luma.replay_as::<T>(alloc),
             BlockCall::Availability(availability) => Ok(availability.replay(alloc)),
         }
     }

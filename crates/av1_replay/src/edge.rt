@@ -103,7 +103,7 @@ impl Place {
 /// A transform of a drawn plane, whose edge is prepared, and how many samples of the edge are compared.
 #[derive(Clone, Copy)]
 pub struct Edge {
-    format: Format,
+    pub(crate) format: Format,
     block_size: u8,
     tx_size: u8,
     mode: u8,
@@ -209,16 +209,7 @@ impl Edge {
     }
 
     /// Its answer: of 257 samples that were 1 before, those of the edge's left side, its corner, and those above.
-    pub fn replay(&self, alloc: Global) -> Result<Answer, CallFault>
-        ensures { IfErr result (λ fault. fault ≡ CallFault.Memory) }
-    {
-        match self.format {
-            Format::Short => self.replay_as::<u8>(alloc),
-            _ => self.replay_as::<u16>(alloc),
-        }
-    }
-
-    fn replay_as<T: Called>(&self, alloc: Global) -> Result<Answer, CallFault>
+    pub fn replay_as<T: Called>(&self, alloc: Global) -> Result<Answer, CallFault>
         requires deep { depth_of self.now.format ≤ T.Pixel.BITS }
         ensures { IfErr result (λ fault. fault ≡ CallFault.Memory) }
     {

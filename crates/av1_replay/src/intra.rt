@@ -18,7 +18,7 @@ use std::alloc::Global;
 /// A block that is predicted from drawn sides, and where it stands in drawn samples.
 #[derive(Clone, Copy)]
 pub struct Intra {
-    format: Format,
+    pub(crate) format: Format,
     mode: u8,
     size: TxSize,
     angle_step: i8,
@@ -109,16 +109,7 @@ impl Intra {
     }
 
     /// Its answer: all samples.
-    pub fn replay(&self, alloc: Global) -> Result<Answer, CallFault>
-        ensures { IfErr result (λ fault. fault ≡ CallFault.Memory) }
-    {
-        match self.format {
-            Format::Short => self.replay_as::<u8>(alloc),
-            _ => self.replay_as::<u16>(alloc),
-        }
-    }
-
-    fn replay_as<T: Called>(&self, alloc: Global) -> Result<Answer, CallFault>
+    pub fn replay_as<T: Called>(&self, alloc: Global) -> Result<Answer, CallFault>
         requires deep { depth_of self.now.format ≤ T.Pixel.BITS }
         ensures { IfErr result (λ fault. fault ≡ CallFault.Memory) }
     {
@@ -137,7 +128,7 @@ impl Intra {
 /// Chroma from luma: such a block, and drawn differences of luma.
 #[derive(Clone, Copy)]
 pub struct FromLuma {
-    intra: Intra,
+    pub(crate) intra: Intra,
     alpha: i8,
     drawn: Signed,
     ghost short: { drawn.bits ≤ 16 },
@@ -165,16 +156,7 @@ impl FromLuma {
     }
 
     /// Its answer: all samples.
-    pub fn replay(&self, alloc: Global) -> Result<Answer, CallFault>
-        ensures { IfErr result (λ fault. fault ≡ CallFault.Memory) }
-    {
-        match self.intra.format {
-            Format::Short => self.replay_as::<u8>(alloc),
-            _ => self.replay_as::<u16>(alloc),
-        }
-    }
-
-    fn replay_as<T: Called>(&self, alloc: Global) -> Result<Answer, CallFault>
+    pub fn replay_as<T: Called>(&self, alloc: Global) -> Result<Answer, CallFault>
         requires deep { depth_of self.now.intra.format ≤ T.Pixel.BITS }
         ensures { IfErr result (λ fault. fault ≡ CallFault.Memory) }
     {

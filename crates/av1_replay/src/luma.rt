@@ -22,7 +22,7 @@ const BEHIND: usize = 4;
 /// A block of chroma, and drawn luma over it.
 #[derive(Clone, Copy)]
 pub struct Luma {
-    format: Format,
+    pub(crate) format: Format,
     block_size: u8,
     xdec: u8,
     ydec: u8,
@@ -81,19 +81,10 @@ impl Luma {
         }
     }
 
-    /// Its answer: all values, of which 4 stand behind the block's, and that were 77 before.
-    pub fn replay(&self, alloc: Global) -> Result<Answer, CallFault>
-        ensures { IfErr result (λ fault. fault ≡ CallFault.Memory) }
-    {
-        match self.format {
-            Format::Short => self.replay_as::<u8>(alloc),
-            _ => self.replay_as::<u16>(alloc),
-        }
-    }
-
-    // A decimation that is none is refused, and luma is then drawn as for a decimation of 1.
+    /// Its answer: all values, of which 4 stand behind the block's, and that were 77 before. A decimation that is none
+    /// is refused, and luma is then drawn as for a decimation of 1.
     #[tactic(auto, using(crate::proofs::Rectangles::bytes_few))]
-    fn replay_as<T: Called>(&self, alloc: Global) -> Result<Answer, CallFault>
+    pub fn replay_as<T: Called>(&self, alloc: Global) -> Result<Answer, CallFault>
         requires deep { depth_of self.now.format ≤ T.Pixel.BITS }
         ensures { IfErr result (λ fault. fault ≡ CallFault.Memory) }
     {

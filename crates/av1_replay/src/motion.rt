@@ -33,7 +33,7 @@ fn filter_of(number: u8) -> u8 {
 /// A block of drawn samples of a reference.
 #[derive(Clone, Copy)]
 pub struct Reference {
-    format: Format,
+    pub(crate) format: Format,
     width: u8,
     height: u8,
     col_frac: u8,
@@ -106,17 +106,8 @@ impl Reference {
     }
 
     /// The answer of its preparing: all values, of which 4 stand behind the block's.
-    pub fn prepare(&self, alloc: Global) -> Result<Answer, CallFault>
-        ensures { IfErr result (λ fault. fault ≡ CallFault.Memory) }
-    {
-        match self.format {
-            Format::Short => self.prepare_as::<u8>(alloc),
-            _ => self.prepare_as::<u16>(alloc),
-        }
-    }
-
     #[tactic(auto, using(crate::proofs::Rectangles::bytes_few))]
-    fn prepare_as<T: Called>(&self, alloc: Global) -> Result<Answer, CallFault>
+    pub fn prepare_as<T: Called>(&self, alloc: Global) -> Result<Answer, CallFault>
         requires deep { depth_of self.now.format ≤ T.Pixel.BITS }
         ensures { IfErr result (λ fault. fault ≡ CallFault.Memory) }
     {
@@ -132,16 +123,7 @@ impl Reference {
     }
 
     /// The answer of its prediction into drawn samples with these margins: all of them.
-    pub fn put(&self, alloc: Global, margins: Margins) -> Result<Answer, CallFault>
-        ensures { IfErr result (λ fault. fault ≡ CallFault.Memory) }
-    {
-        match self.format {
-            Format::Short => self.put_as::<u8>(alloc, margins),
-            _ => self.put_as::<u16>(alloc, margins),
-        }
-    }
-
-    fn put_as<T: Called>(&self, alloc: Global, margins: Margins) -> Result<Answer, CallFault>
+    pub fn put_as<T: Called>(&self, alloc: Global, margins: Margins) -> Result<Answer, CallFault>
         requires deep { depth_of self.now.format ≤ T.Pixel.BITS }
         ensures { IfErr result (λ fault. fault ≡ CallFault.Memory) }
     {
@@ -162,7 +144,7 @@ impl Reference {
 /// Two blocks of drawn values, whose average goes into drawn samples.
 #[derive(Clone, Copy)]
 pub struct Average {
-    format: Format,
+    pub(crate) format: Format,
     width: u8,
     height: u8,
     margins: Margins,
@@ -199,17 +181,8 @@ impl Average {
     }
 
     /// Its answer: all samples.
-    pub fn replay(&self, alloc: Global) -> Result<Answer, CallFault>
-        ensures { IfErr result (λ fault. fault ≡ CallFault.Memory) }
-    {
-        match self.format {
-            Format::Short => self.replay_as::<u8>(alloc),
-            _ => self.replay_as::<u16>(alloc),
-        }
-    }
-
     #[tactic(auto, using(crate::proofs::Rectangles::bytes_few))]
-    fn replay_as<T: Called>(&self, alloc: Global) -> Result<Answer, CallFault>
+    pub fn replay_as<T: Called>(&self, alloc: Global) -> Result<Answer, CallFault>
         requires deep { depth_of self.now.format ≤ T.Pixel.BITS }
         ensures { IfErr result (λ fault. fault ≡ CallFault.Memory) }
     {

@@ -23,7 +23,7 @@ use std::alloc::Global;
 pub struct Transform {
     size: TxSize,
     kind: TxType,
-    format: Format,
+    pub(crate) format: Format,
     drawn: Signed,
     margins: Margins,
     seed: u32,
@@ -61,16 +61,7 @@ impl Transform {
     }
 
     /// Its answer: all samples.
-    pub fn replay(&self, alloc: Global) -> Result<Answer, CallFault>
-        ensures { IfErr result (λ fault. fault ≡ CallFault.Memory) }
-    {
-        match self.format {
-            Format::Short => self.replay_as::<u8>(alloc),
-            _ => self.replay_as::<u16>(alloc),
-        }
-    }
-
-    fn replay_as<T: Pixel>(&self, alloc: Global) -> Result<Answer, CallFault>
+    pub fn replay_as<T: Pixel>(&self, alloc: Global) -> Result<Answer, CallFault>
         requires deep { depth_of self.now.format ≤ T.BITS }
         ensures { IfErr result (λ fault. fault ≡ CallFault.Memory) }
     {

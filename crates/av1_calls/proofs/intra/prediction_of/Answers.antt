@@ -63,7 +63,7 @@ returns-then-not-are_rows-clause-fault c =
           subst (IsTurn a.mode) (to_z-of_z w8 a.block.angle_step fits) (c.is_turn.ensures.true_is turn),
           (
             c.is_depth_within.ensures.true_is depth,
-            outside_of a.stride a.x a.y a.samples size c.prediction_in-prediction.result.area c.prediction_in-prediction.ensures.area
+            outside_of a.at.stride a.at.x a.at.y a.counts.samples size c.prediction_in-prediction.result.area c.prediction_in-prediction.ensures.area
                 (denied c.are_rows.result c.are_rows.ensures.is_true untrue),
           ),
         ),
@@ -73,6 +73,7 @@ returns-then-not-are_rows-clause-fault c =
 pub returns-then-not-are_long-clause-fault : goal.returns-then-not-are_long-clause-fault
 returns-then-not-are_long-clause-fault c =
     let a = c.args in
+    let has = a.counts in
     let e = c.prediction_in-prediction.ensures in
     let p = c.prediction_in-prediction.result in
     let size = c.in-Some.size in
@@ -90,10 +91,10 @@ returns-then-not-are_long-clause-fault c =
           (
             c.is_depth_within.ensures.true_is depth,
             (
-              subst (λ (r : StoredArea). AreRows a.stride r a.samples) e.area (c.are_rows.ensures.true_is rows),
+              subst (λ (r : StoredArea). AreRows a.at.stride r has.samples) e.area (c.are_rows.ensures.true_is rows),
               λ sides.
                   denied c.are_long.result c.are_long.ensures.is_true untrue
-                  (long_for p.block (block_of a.block m size) p.variant (variant_in a.block) p.mode m a.left a.above a.ac e.block e.variant e.mode sides),
+                  (long_for p.block (block_of a.block m size) p.variant (variant_in a.block) p.mode m has.left has.above has.ac e.block e.variant e.mode sides),
             ),
           ),
         ),
@@ -103,6 +104,7 @@ returns-then-not-are_long-clause-fault c =
 pub returns-clause-found : goal.returns-clause-found
 returns-clause-found c =
     let a = c.args in
+    let has = a.counts in
     let e = c.prediction_in-prediction.ensures in
     let p = c.prediction_in-prediction.result in
     let size = c.in-Some.size in
@@ -112,23 +114,20 @@ returns-clause-found c =
     let depth : c.is_depth_within.result ≡ true = grind (arith, tests, c.if-not-is_depth_within.false) in
     let rows : c.are_rows.result ≡ true = grind (arith, tests, c.if-not-are_rows.false) in
     let long : c.are_long.result ≡ true = grind (arith, tests, c.if-not-are_long.false) in
-    subst (IsIntraBlock a.bits a.block a.mode a.stride a.x a.y a.left a.above a.ac a.samples) (sym e.size) (record {
+    let asked =
+    subst (IsIntraBlock a.bits a.block a.mode a.at.stride a.at.x a.at.y has.left has.above has.ac has.samples) (sym e.size) (record {
       sized = sym c.from_number.ensures ∙ c.in-Some.is;
       turn = subst (IsTurn a.mode) (to_z-of_z w8 a.block.angle_step fits) (c.is_turn.ensures.true_is turn);
       depth = c.is_depth_within.ensures.true_is depth;
-      rows = subst (λ (r : StoredArea). AreRows a.stride r a.samples) e.area (c.are_rows.ensures.true_is rows);
-      sides = long_for (block_of a.block m size) p.block (variant_in a.block) p.variant m p.mode a.left a.above a.ac (sym e.block) (sym e.variant) (sym e.mode)
+      rows = subst (λ (r : StoredArea). AreRows a.at.stride r has.samples) e.area (c.are_rows.ensures.true_is rows);
+      sides = long_for (block_of a.block m size) p.block (variant_in a.block) p.variant m p.mode has.left has.above has.ac (sym e.block) (sym e.variant)
+          (sym e.mode)
           (c.are_long.ensures.true_is long);
-    })
-
-pub returns-clause-block : goal.returns-clause-block
-returns-clause-block c =
-    let a = c.args in
-    let e = c.prediction_in-prediction.ensures in
-    e.block ∙ ap (block_of a.block (mode_in a.block a.mode)) (sym e.size)
-
-pub returns-clause-area : goal.returns-clause-area
-returns-clause-area c =
-    let a = c.args in
-    let e = c.prediction_in-prediction.ensures in
-    e.area ∙ ap (rectangle a.x a.y) (sym e.size)
+    }) in
+    record {
+      asked = asked;
+      mode_is = e.mode;
+      variant_is = e.variant;
+      block_is = e.block ∙ ap (block_of a.block m) (sym e.size);
+      area_is = e.area ∙ ap (rectangle a.at.x a.at.y) (sym e.size);
+    }

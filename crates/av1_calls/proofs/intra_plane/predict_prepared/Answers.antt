@@ -13,7 +13,7 @@ returns-then-mode-eq-FROM_LUMA g c =
       c.if-mode-eq-FROM_LUMA.true,
       predicted_there g.T.Pixel.BITS g.T.Pixel.num g.T.Pixel.pixel t.plane.stride _ (block_in t.plane t.block t.smooth_neighbour) _
           (column_in t.plane t.block) _
-          (row_in t.plane t.block) _ _ a.corner _ _ a.samples.now _ _ c.block_in-block.ensures c.column_in-x.ensures c.row_in-y.ensures
+          (row_in t.plane t.block) _ _ a.corner _ _ a.samples.now _ _ c.block_in-block.ensures c.column_in.ensures c.row_in.ensures
           c.split_at.ensures.front
           c.split_at-2.ensures.back modes.UV_CFL_PRED a.ac.now _ a.alpha (to_z-of_z w16 a.alpha c.ranges.alpha) c.predict_by.ensures,
     )
@@ -25,7 +25,7 @@ returns-else-mode-eq-FROM_LUMA g c =
     inr (
       c.if-mode-eq-FROM_LUMA.false,
       numbered_there g.T.Pixel.BITS g.T.Pixel.num g.T.Pixel.pixel t.plane.stride _ (block_in t.plane t.block t.smooth_neighbour) _ (column_in t.plane t.block) _
-          (row_in t.plane t.block) _ _ a.corner _ _ a.samples.now _ _ c.block_in-block.ensures c.column_in-x.ensures c.row_in-y.ensures
+          (row_in t.plane t.block) _ _ a.corner _ _ a.samples.now _ _ c.block_in-block.ensures c.column_in.ensures c.row_in.ensures
           c.split_at.ensures.front
           c.split_at-2.ensures.back c.predict_by_number.ensures,
     )

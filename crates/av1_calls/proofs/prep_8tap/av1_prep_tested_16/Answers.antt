@@ -1,13 +1,13 @@
-use Rattle.std.proofs.Common.{rules, subst, sym}
+use Rattle.std.proofs.Common.{rules, subst}
 use Rattle.std.proofs.lemmas.List.{map-id}
 use Rattle.av1_calls.specs.Motions.{AreOfDepth, HoldBlock, place, source_at}
+use Rattle.av1_calls.proofs.Motions.{tested_deep}
 use Rattle.av1_calls.proofs.prep_8tap.av1_prep_tested_16.Goals as goal
 
 pub prep-requires-clause-deep : goal.prep-requires-clause-deep
 prep-requires-clause-deep c =
     let a = c.args in
-    subst (λ xs. AreOfDepth a.bit_depth (place a.src_stride a.src_x a.src_y) xs a.block.now) (sym (map-id a.src.now))
-    (record { is_depth = c.in-Ok.ensures.depth; within = c.requires })
+    tested_deep a.bit_depth (place a.src_stride a.src_x a.src_y) a.src.now a.block.now c.in-Ok.ensures.depth c.requires
 
 pub returns-in-Ok : goal.returns-in-Ok
 returns-in-Ok c =

@@ -1,13 +1,12 @@
-use Rattle.std.proofs.Common.{rules, subst, sym}
+use Rattle.std.proofs.Common.{rules, subst}
 use Rattle.std.proofs.lemmas.List.{map-id}
 use Rattle.av1_calls.specs.Motions.{HoldBlock}
-use Rattle.av1_calls.specs.MovedBlocks.{AreMovedWithin, motion_of, moved_source}
+use Rattle.av1_calls.specs.MovedBlocks.{motion_of, moved_source}
+use Rattle.av1_calls.proofs.MovedBlocks.{moved_numbers}
 use Rattle.av1_calls.proofs.prep_moved.av1_prep_moved_16.Goals as goal
 
 pub prep_moved-requires-clause-deep : goal.prep_moved-requires-clause-deep
-prep_moved-requires-clause-deep c =
-    let a = c.args in
-    subst (λ xs. AreMovedWithin a.bit_depth a.plane.now a.block.now xs) (sym (map-id a.src.now)) c.requires
+prep_moved-requires-clause-deep c = moved_numbers c.args.bit_depth c.args.plane.now c.args.block.now c.args.src.now c.requires
 
 pub returns-in-Ok : goal.returns-in-Ok
 returns-in-Ok c =

@@ -1,14 +1,14 @@
-use Rattle.std.proofs.Common.{rules, subst, sym}
+use Rattle.std.proofs.Common.{rules, subst}
 use Rattle.std.proofs.lemmas.List.{map-id}
 use Rattle.av1_calls.specs.Motions.{HoldBlock}
-use Rattle.av1_calls.specs.MovedBlocks.{AreMovedWithin, motion_of, moved_source}
-use Rattle.av1_calls.proofs.MovedBlocks.{moved_low}
+use Rattle.av1_calls.specs.MovedBlocks.{motion_of, moved_source}
+use Rattle.av1_calls.proofs.MovedBlocks.{moved_low, moved_numbers}
 use Rattle.av1_calls.proofs.prep_moved.av1_prep_moved_8.Goals as goal
 
 pub prep_moved-requires-clause-deep : goal.prep_moved-requires-clause-deep
 prep_moved-requires-clause-deep c =
     let a = c.args in
-    subst (λ xs. AreMovedWithin 8 a.plane.now a.block.now xs) (sym (map-id a.src.now)) (moved_low a.plane.now a.block.now a.src.now c.have_8_bits.ensures)
+    moved_numbers 8 a.plane.now a.block.now a.src.now (moved_low a.plane.now a.block.now a.src.now c.have_8_bits.ensures)
 
 pub returns-in-Ok : goal.returns-in-Ok
 returns-in-Ok c =

@@ -1,13 +1,13 @@
-use Rattle.std.proofs.Common.{◌≡◌, ◌∙◌, ap, rules, subst, sym}
+use Rattle.std.proofs.Common.{◌≡◌, ◌∙◌, ap, rules}
 use Rattle.std.proofs.lemmas.List.{map-id}
 use Rattle.av1_calls.specs.Motions.{AreOfDepth, place, source_at, with_block}
+use Rattle.av1_calls.proofs.Motions.{tested_deep}
 use Rattle.av1_calls.proofs.put_8tap.av1_put_tested_16.Goals as goal
 
 pub put-requires-clause-deep : goal.put-requires-clause-deep
 put-requires-clause-deep c =
     let a = c.args in
-    subst (λ xs. AreOfDepth a.bit_depth (place a.src_stride a.src_x a.src_y) xs a.block.now) (sym (map-id a.src.now))
-    (record { is_depth = c.in-Ok.ensures.depth; within = c.requires })
+    tested_deep a.bit_depth (place a.src_stride a.src_x a.src_y) a.src.now a.block.now c.in-Ok.ensures.depth c.requires
 
 pub returns-in-Ok : goal.returns-in-Ok
 returns-in-Ok c =

@@ -1,13 +1,12 @@
-use Rattle.std.proofs.Common.{◌≡◌, ◌∙◌, ap, rules, subst, sym}
+use Rattle.std.proofs.Common.{◌≡◌, ◌∙◌, ap, rules}
 use Rattle.std.proofs.lemmas.List.{map-id}
 use Rattle.av1_calls.specs.Motions.{place, with_block}
-use Rattle.av1_calls.specs.MovedBlocks.{AreMovedWithin, motion_of, moved_source}
+use Rattle.av1_calls.specs.MovedBlocks.{motion_of, moved_source}
+use Rattle.av1_calls.proofs.MovedBlocks.{moved_numbers}
 use Rattle.av1_calls.proofs.put_moved.av1_put_moved_16.Goals as goal
 
 pub put_moved-requires-clause-deep : goal.put_moved-requires-clause-deep
-put_moved-requires-clause-deep c =
-    let a = c.args in
-    subst (λ xs. AreMovedWithin a.bit_depth a.plane.now a.block.now xs) (sym (map-id a.src.now)) c.requires
+put_moved-requires-clause-deep c = moved_numbers c.args.bit_depth c.args.plane.now c.args.block.now c.args.src.now c.requires
 
 pub returns-in-Ok : goal.returns-in-Ok
 returns-in-Ok c =

@@ -1,14 +1,14 @@
-use Rattle.std.proofs.Common.{◌≡◌, ◌∙◌, ap, rules, subst, sym}
+use Rattle.std.proofs.Common.{◌≡◌, ◌∙◌, ap, rules}
 use Rattle.std.proofs.lemmas.List.{map-id}
 use Rattle.av1_calls.specs.Motions.{place, with_block}
-use Rattle.av1_calls.specs.MovedBlocks.{AreMovedWithin, motion_of, moved_source}
-use Rattle.av1_calls.proofs.MovedBlocks.{moved_low}
+use Rattle.av1_calls.specs.MovedBlocks.{motion_of, moved_source}
+use Rattle.av1_calls.proofs.MovedBlocks.{moved_low, moved_numbers}
 use Rattle.av1_calls.proofs.put_moved.av1_put_moved_8.Goals as goal
 
 pub put_moved-requires-clause-deep : goal.put_moved-requires-clause-deep
 put_moved-requires-clause-deep c =
     let a = c.args in
-    subst (λ xs. AreMovedWithin 8 a.plane.now a.block.now xs) (sym (map-id a.src.now)) (moved_low a.plane.now a.block.now a.src.now c.have_8_bits.ensures)
+    moved_numbers 8 a.plane.now a.block.now a.src.now (moved_low a.plane.now a.block.now a.src.now c.have_8_bits.ensures)
 
 pub returns-in-Ok : goal.returns-in-Ok
 returns-in-Ok c =

@@ -1,8 +1,8 @@
 use Rattle.std.proofs.Common.{◌∙◌, ap, length, map, subst, sym}
-use Rattle.av1_calls.specs.Motions.{AreOfDepth, IsPut, source_at}
+use Rattle.av1_calls.specs.Motions.{IsPut, source_at}
 use Rattle.av1_calls.specs.MovedBlocks.{moved_source, stored_at}
 use Rattle.av1_calls.specs.declared.motion.Place.{Place}
-use Rattle.av1_calls.proofs.MovedBlocks.{moved_put, put_asked, put_deep, within_rows, within_source}
+use Rattle.av1_calls.proofs.MovedBlocks.{moved_put, put_asked, within_deep, within_rows, within_source}
 use Rattle.av1_calls.proofs.put_moved.put_within.Goals as goal
 
 pub put-requires-clause-asked : goal.put-requires-clause-asked
@@ -17,13 +17,9 @@ put-requires-clause-asked g c =
 
 pub put-requires-clause-deep : goal.put-requires-clause-deep
 put-requires-clause-deep g c =
-    let a = c.args in
-    let m = a.moved in
     let r = c.requires in
-    let xs = map g.T.Pixel.num a.src.now in
-    subst (λ (p : Place). AreOfDepth a.bit_depth p xs c.motion_at-block.result) (sym c.stored_at-from.ensures)
-    (put_deep a.bit_depth (stored_at m.plane m.place) xs m.block m.place.col_frac m.place.row_frac _ (moved_source m.plane m.block xs) c.motion_at-block.ensures
-    r.is_depth (within_source m.plane m.block m.place r.found r.within xs) r.deep)
+    within_deep c.args.bit_depth c.stored_at-from.result (map g.T.Pixel.num c.args.src.now) c.args.moved.plane c.args.moved.block c.args.moved.place _ r.found
+    r.within c.stored_at-from.ensures c.motion_at-block.ensures r.is_depth r.deep
 
 pub returns : goal.returns
 returns g c =

@@ -1,0 +1,89 @@
+-- A residue is that of the coefficients that its transform has, whatever stands behind them; and one of cut coefficients.
+use Rattle.std.proofs.Common.{ℕ, ℤ, pos, ◌≡◌, ◌∙◌, ◌+◌, ◌*◌, ◌<◌, ◌≤◌, List, length, inl, inr, refl, arith, sym, subst, ap, ◌+ℤ◌}
+use Rattle.std.specs.Prelude.{if◌then◌else◌, nat_lt}
+use Rattle.std.proofs.lemmas.Bool.{cases_lt}
+use Rattle.std.proofs.lemmas.List.{get_or-map}
+use Rattle.std.proofs.lemmas.Nat.{mul-add-lt}
+use Rattle.std.proofs.Math.Nat.{mul_comm}
+use Rattle.av1_blocks.specs.Transforms.{coded, coded_area, tx_height, tx_width}
+use Rattle.av1_blocks.specs.declared.transform.TxSize.{TxSize}
+use Rattle.av1_blocks.specs.declared.transform.TxType.{TxType}
+use Rattle.av1_dct.specs.Arithmetic.{at, clamp_value, FitsBits}
+use Rattle.av1_dct.proofs.Fits.{clamp_value-fits, clamped_same}
+use Rattle.av1_frame.specs.Arithmetic.{clip, round_shift}
+use Rattle.av1_frame.specs.Samples.{paint, paint_row}
+use Rattle.av1_frame.specs.declared.plane_region.StoredArea.{StoredArea}
+use Rattle.av1_frame.proofs.Paint.{paint_same}
+use Rattle.av1_inter.proofs.Rows.{painted_sample}
+use Rattle.av1_itx.specs.Kinds.{column_kind, row_kind}
+use Rattle.av1_itx.specs.Networks.{network}
+use Rattle.av1_itx.specs.Residue.{column_network, column_power, column_range, column_shift, residue, row_input, row_power, row_range, row_shift, row_value}
+use Rattle.av1_itx.specs.Residue.{transformed_column, transformed_row}
+use Rattle.av1_itx.proofs.Passes.{input_past, row_is, row_past}
+use Rattle.av1_lists.proofs.Lists.{by_index-same}
+use Rattle.av1_calls.specs.Transforms.{cut_to}
+
+-- two lists have the same coefficients of a transform
+abbrev pub AreSameFor : TxSize → (xs ys : List ℤ) → Type 0
+AreSameFor size xs ys = (i : ℕ) → i < coded_area size → at xs i ≡ at ys i
+
+module _ (size : TxSize) (type : TxType) (depth : ℕ) (xs ys : List ℤ) (same : AreSameFor size xs ys) where
+  input_same : (r c : ℕ) → r < coded (tx_height size) → row_input size type depth xs r c ≡ row_input size type depth ys r c
+  unfolding row_input
+  input_same r c low =
+      let rows = coded (tx_height size) in
+      elim (cases_lt c (coded (tx_width size))) [
+        | inl b ↦ (let within : c * rows + r < coded_area size = subst (λ n. c * rows + r < n) (mul_comm rows (coded (tx_width size)))
+            (mul-add-lt c rows r (coded (tx_width size)) b low) in
+            ap (λ z. if nat_lt c (coded (tx_width size)) then row_value size type depth z else pos 0) (same (c * rows + r) within))
+        | inr b ↦ sym (input_past size type depth xs r c b) ∙ input_past size type depth ys r c b
+      ]
+
+  row_same : (r c : ℕ) → at (transformed_row size type depth xs r) c ≡ at (transformed_row size type depth ys r) c
+  row_same r c =
+      elim (cases_lt r (coded (tx_height size))) [
+        | inl b ↦ sym (row_is size type depth xs r c b)
+            ∙ ap (λ zs. at (network (row_kind type) (row_range depth) (row_power size) zs) c)
+            (by_index-same (tx_width size) (row_input size type depth xs r) (row_input size type depth ys r) (λ k _. input_same r k b))
+            ∙ row_is size type depth ys r c b
+        | inr b ↦ row_past size type depth xs r c b ∙ sym (row_past size type depth ys r c b)
+      ]
+
+  -- their residues are the same
+  pub residue_same : (r c : ℕ) → residue size type depth xs r c ≡ residue size type depth ys r c
+  unfolding residue transformed_column column_network
+  residue_same r c =
+      ap (λ zs. round_shift (at (network (column_kind type) (column_range depth) (column_power size) zs) r) (column_shift type))
+      (by_index-same (tx_height size) _ _ (λ y _. ap (λ z. clamp_value (round_shift z (row_shift size)) (column_range depth)) (row_same y c)))
+
+-- coefficients that were cut one by one are those of the cut list
+pub cut_each : (size : TxSize) (bits : ℕ) (room coefficients : List ℤ) → coded_area size ≤ length coefficients
+    → ((i : ℕ) → i < coded_area size → at room i ≡ clamp_value (at coefficients i) bits) → AreSameFor size room (cut_to bits coefficients)
+cut_each size bits room coefficients long each =
+    λ i h. each i h ∙ sym (get_or-map (λ z. clamp_value z bits) coefficients i (pos 0) (pos 0) (omega (arith, long, h)))
+
+-- in a row that is painted with them, too
+pub cut_painted : (size : TxSize) (bits count : ℕ) (coefficients old room : List ℤ) → count ≡ coded_area size → coded_area size ≤ length coefficients →
+    coded_area size ≤ length old → room ≡ paint_row count (λ k _. clamp_value (at coefficients k) bits) old → AreSameFor size room (cut_to bits coefficients)
+cut_painted size bits count coefficients old room is long roomy painted =
+    cut_each size bits room coefficients long (λ i h. ap (λ zs. at zs i) painted
+    ∙ painted_sample count i (λ k _. clamp_value (at coefficients k) bits) old (pos 0) (omega (arith, is, h)) (omega (arith, is, roomy)) (λ v. refl))
+
+-- they have so many bits
+pub cut_fits : (size : TxSize) (bits : ℕ) (coefficients room : List ℤ) → coded_area size ≤ length coefficients →
+    AreSameFor size room (cut_to bits coefficients) → (i : ℕ) → i < coded_area size → FitsBits bits (at room i)
+cut_fits size bits coefficients room long same i h =
+    subst (FitsBits bits) (sym (same i h ∙ get_or-map (λ z. clamp_value z bits) coefficients i (pos 0) (pos 0) (omega (arith, long, h))))
+    (clamp_value-fits (at coefficients i) bits (omega arith))
+
+-- and so are those that need no cut
+pub uncut : (size : TxSize) (bits : ℕ) (coefficients : List ℤ) → coded_area size ≤ length coefficients
+    → ((i : ℕ) → i < coded_area size → FitsBits bits (at coefficients i)) → AreSameFor size coefficients (cut_to bits coefficients)
+uncut size bits coefficients long fit = cut_each size bits coefficients coefficients long (λ i h. sym (clamped_same bits (at coefficients i) (fit i h)))
+
+-- what is painted by coefficients that are the same for the transform
+pub painted_cut : (stride depth : ℕ) (size : TxSize) (type : TxType) (area : StoredArea) (xs ys : List ℤ) (before after : List ℕ) → AreSameFor size xs ys
+    → after ≡ paint stride area (λ r c v. clip depth (pos v +ℤ residue size type depth xs r c)) before
+    → after ≡ paint stride area (λ r c v. clip depth (pos v +ℤ residue size type depth ys r c)) before
+painted_cut stride depth size type area xs ys before after same painted =
+    painted ∙ paint_same stride area _ _ before (λ r c v _ _. ap (λ z. clip depth (pos v +ℤ z)) (residue_same size type depth xs ys same r c))

@@ -1,0 +1,161 @@
+//! The block of chroma that is predicted from a block's luma, and how much of it has no luma of its own.
+//!
+//! AV1 specification: predict chroma from luma process.
+ghost use Rattle.std.specs.Prelude.{◌≡◌, true, ◌*◌, ◌<◌, ◌≤◌, None, IfOk, IfErr, IfSome};
+ghost use Rattle.av1_blocks.specs.Chroma.{IsSubsampled};
+ghost use Rattle.av1_calls.specs.CflPads.{AreSizes, FindsChroma, HasNoChromaSizeOf, HasNoSizes, IsChromaOf, IsChromaSizeOf, IsLumaFault, IsVisible};
+ghost use Rattle.av1_calls.specs.CflPads.{pad_along};
+ghost use Rattle.av1_calls.specs.LumaBlocks.{IsSampling};
+
+use crate::argument::BadArgument;
+use crate::luma::{CflBlock, is_sampling};
+use crate::status::DONE;
+use av1_blocks::{BlockSize, TxSize};
+
+/// A block whose chroma is predicted from its luma, in numbers.
+#[repr(C)]
+#[derive(Clone, Copy, Debug, PartialEq, Eq)]
+pub struct LumaBlock {
+    /// The number of its size in luma, from 0 (`BLOCK_4X4`) to 21 (`BLOCK_64X16`).
+    pub block_size: u8,
+    /// The number of the size of its luma transforms, from 0 (`TX_4X4`) to 18 (`TX_64X16`).
+    pub tx_size: u8,
+    /// 1 where chroma has half of luma's columns, else 0.
+    pub xdec: u8,
+    /// 1 where chroma has half of luma's rows, too, else 0.
+    pub ydec: u8,
+    /// How many visible columns of luma there are from its first on.
+    pub visible_columns: usize,
+    /// How many visible rows of luma there are from its first on.
+    pub visible_rows: usize,
+}
+
+/// The sizes that the numbers of a block name.
+#[derive(Clone, Copy)]
+struct Sizes {
+    luma: BlockSize,
+    transform: TxSize,
+    chroma: BlockSize,
+}
+
+// The size of a block's chroma, where it has one and no side of it is longer than 32.
+fn chroma_of(luma: BlockSize, xdec: u8, ydec: u8) -> Option<BlockSize>
+    ensures found { IfSome result (IsChromaSizeOf luma xdec ydec) }
+    ensures sides { IfSome result (IsSubsampled luma xdec ydec) }
+    ensures none { result ≡ None → HasNoChromaSizeOf luma xdec ydec }
+{
+    match luma.subsampled_size(usize::from(xdec), usize::from(ydec)) {
+        Ok(size) if size.width() <= 32 && size.height() <= 32 => Some(size),
+        _ => None,
+    }
+}
+
+// The sizes that the numbers of a block name.
+fn sizes_of(luma: LumaBlock) -> Option<Sizes>
+    ensures found { IfSome result (λ sizes. AreSizes luma sizes.luma sizes.transform sizes.chroma) }
+    ensures sides { IfSome result (λ sizes. IsSubsampled sizes.luma luma.xdec luma.ydec sizes.chroma) }
+    ensures none { result ≡ None → HasNoSizes luma }
+{
+    let size = BlockSize::from_number(luma.block_size)?;
+    let transform = TxSize::from_number(luma.tx_size)?;
+    let chroma = chroma_of(size, luma.xdec, luma.ydec)?;
+    Some(Sizes {
+        luma: size,
+        transform,
+        chroma,
+    })
+}
+
+// Whether some of the luma is visible.
+fn is_visible(luma: LumaBlock) -> bool
+    ensures true_is { result ≡ true → IsVisible luma }
+    ensures is_true { IsVisible luma → result ≡ true }
+{
+    0 < luma.visible_columns && 0 < luma.visible_rows
+}
+
+// How many units of 4 samples of chroma have no luma of their own, along a side of so many samples of luma.
+fn pad_along(side: usize, tx_side: usize, visible: usize, decimation: usize) -> usize
+    requires short { side ≤ 128 }
+    requires some { 0 < tx_side }
+    requires tx_short { tx_side ≤ 64 }
+    requires decimation { decimation ≤ 1 }
+    ensures { result ≡ pad_along side tx_side visible decimation }
+{
+    let coded = if side <= 8 {
+        side
+    } else {
+        (side.min(visible) + tx_side - 1) / tx_side * tx_side
+    };
+    side.saturating_sub(coded) / (4 << decimation)
+}
+
+// The block of chroma of these sizes.
+fn padded(luma: LumaBlock, sizes: Sizes) -> CflBlock
+    requires sampled { IsSampling luma.xdec luma.ydec }
+    requires sized { AreSizes luma sizes.luma sizes.transform sizes.chroma }
+    requires sides { IsSubsampled sizes.luma luma.xdec luma.ydec sizes.chroma }
+    requires visible { IsVisible luma }
+    ensures { IsChromaOf luma result }
+{
+    let (size, transform) = (sizes.luma, sizes.transform);
+    CflBlock {
+        block_size: sizes.chroma.number(),
+        xdec: luma.xdec,
+        ydec: luma.ydec,
+        w_pad: pad_along(
+            size.width(),
+            transform.width(),
+            luma.visible_columns,
+            usize::from(luma.xdec),
+        ),
+        h_pad: pad_along(
+            size.height(),
+            transform.height(),
+            luma.visible_rows,
+            usize::from(luma.ydec),
+        ),
+    }
+}
+
+/// The block of chroma that the numbers ask for.
+///
+/// # Errors
+///
+/// `Sampling`, then `Size`, then `Pad`.
+fn block_of(luma: LumaBlock) -> Result<CflBlock, BadArgument>
+    ensures found { IfOk result (IsChromaOf luma) }
+    ensures fault { IfErr result (IsLumaFault luma) }
+{
+    if !is_sampling(luma.xdec, luma.ydec) {
+        return Err(BadArgument::Sampling);
+    }
+    let Some(sizes) = sizes_of(luma) else {
+        return Err(BadArgument::Size);
+    };
+    if !is_visible(luma) {
+        return Err(BadArgument::Pad);
+    }
+    Ok(padded(luma, sizes))
+}
+
+/// Finds the block of chroma that is predicted from a block's luma, as `av1_cfl_ac_8` takes it: its size, and how many
+/// units of 4 columns and rows have no luma of their own, since no transform that begins in the visible plane codes it
+/// (`MaxLumaW` and `MaxLumaH` of the AV1 specification).
+///
+/// A block with a side of 4 that is halved shares its chroma with the one before it, and all 8 samples of luma of both
+/// are read.
+///
+/// `DONE`: that was done. `BAD_SAMPLING`: chroma has no such decimations. `BAD_SIZE`: a number names no size, the
+/// block's chroma has none, or a side of it is longer than 32. `BAD_PAD`: no column, or no row, of its luma is visible.
+pub fn av1_cfl_block_of(block: &mut CflBlock, luma: &LumaBlock) -> u32
+    ensures { FindsChroma luma.now block.old block.new result }
+{
+    match block_of(*luma) {
+        Ok(found) => {
+            *block = found;
+            DONE
+        }
+        Err(fault) => fault.status(),
+    }
+}

@@ -1,0 +1,134 @@
+//! The residue of coefficients that are cut to the depth, added to samples of the caller.
+ghost use Rattle.std.specs.Prelude.{◌≡◌, ◌+◌, ◌≤◌, length, pos, ◌+ℤ◌};
+ghost use Rattle.av1_blocks.specs.Depths.{IsDepth};
+ghost use Rattle.av1_blocks.specs.Transforms.{coded_area};
+ghost use Rattle.av1_dct.specs.Arithmetic.{at, clamp_value};
+ghost use Rattle.av1_frame.specs.Areas.{AreRows};
+ghost use Rattle.av1_frame.specs.Arithmetic.{clip};
+ghost use Rattle.av1_frame.specs.Samples.{paint, paint_row};
+ghost use Rattle.av1_itx.specs.Residue.{residue};
+ghost use Rattle.av1_calls.specs.Arguments.{rectangle};
+ghost use Rattle.av1_calls.specs.Transforms.{AddsClamped, IsRunnable, cut_to};
+
+use crate::motion::Place;
+use crate::status::DONE;
+use crate::transform_add::{Block, all_fit, block_at_depth, number_at};
+use av1_dct::clamp_value;
+use av1_itx::{TxRoom, inverse_transform_add_in};
+
+/// How many coefficients a transform has at most.
+const MOST_COEFFICIENTS: usize = 1024;
+
+// The first numbers of the room become so many of the coefficients, each cut to so many bits.
+#[tactic(auto, using(av1_frame::proofs::Paint::row_painting))]
+fn cut(room: &mut [i32], coefficients: &[i32], count: usize, bits: usize)
+    requires some_bits { (1 ≤ bits) × (bits ≤ 32) }
+    requires has_room { count ≤ length room.old }
+    requires long { count ≤ length coefficients.now }
+    ensures { room.new ≡ paint_row count (λ i _. clamp_value (at coefficients.now i) bits) room.old }
+{
+    for i in 0..count {
+        room[i] = clamp_value(number_at(coefficients, i), bits);
+    }
+}
+
+/// Adds the residue of coefficients of which some are too large for the depth.
+#[inline(never)]
+fn add_cut(
+    scratch: &mut TxRoom,
+    coefficients: &[i32],
+    samples: &mut [u16],
+    stride: usize,
+    block: Block,
+    bit_depth: usize,
+)
+    requires is_depth { IsDepth bit_depth }
+    requires runs { IsRunnable block.size block.kind }
+    requires long { coded_area block.size ≤ length coefficients.now }
+    requires rows { AreRows stride block.area (length samples.old) }
+    requires placed { block.area ≡ rectangle block.area.x block.area.y block.size }
+    ensures { samples.new ≡ paint stride block.area
+        (λ r c v. clip bit_depth (pos v +ℤ residue block.size block.kind bit_depth (cut_to (bit_depth + 8) coefficients.now) r c)) samples.old }
+{
+    let mut room = [0; MOST_COEFFICIENTS];
+    cut(
+        &mut room,
+        coefficients,
+        block.size.coded_area(),
+        bit_depth + 8,
+    );
+    inverse_transform_add_in(
+        scratch, &room, samples, stride, block.area, block.size, block.kind, bit_depth,
+    );
+}
+
+/// Adds the residue of coefficients, each cut to the depth.
+#[inline(always)]
+fn add_clamped(
+    scratch: &mut TxRoom,
+    coefficients: &[i32],
+    samples: &mut [u16],
+    stride: usize,
+    block: Block,
+    bit_depth: usize,
+)
+    requires is_depth { IsDepth bit_depth }
+    requires runs { IsRunnable block.size block.kind }
+    requires long { coded_area block.size ≤ length coefficients.now }
+    requires rows { AreRows stride block.area (length samples.old) }
+    requires placed { block.area ≡ rectangle block.area.x block.area.y block.size }
+    ensures { samples.new ≡ paint stride block.area
+        (λ r c v. clip bit_depth (pos v +ℤ residue block.size block.kind bit_depth (cut_to (bit_depth + 8) coefficients.now) r c)) samples.old }
+{
+    if all_fit(coefficients, block.size.coded_area(), bit_depth + 8) {
+        inverse_transform_add_in(
+            scratch,
+            coefficients,
+            samples,
+            stride,
+            block.area,
+            block.size,
+            block.kind,
+            bit_depth,
+        );
+    } else {
+        add_cut(scratch, coefficients, samples, stride, block, bit_depth);
+    }
+}
+
+/// The same as `av1_inverse_transform_add_16`, but that a coefficient of more than `bit_depth + 8` bits, its sign among
+/// them, is cut to the nearest number of so many, as AV1 cuts what it dequantizes: the specification's "Reconstruction
+/// process". Coefficients for samples of 8 bits have no more, so that there is no such call for those.
+///
+/// `DONE`: that was done. `BAD_SIZE`, `BAD_TYPE`: a number names none, or the size has no such type. `BAD_AREA`: the
+/// rectangle does not lie in the samples. `TOO_SHORT`: there are fewer coefficients than the transform has.
+/// `BAD_DEPTH`: samples have no such depth.
+pub fn av1_inverse_transform_add_clamped_16(
+    scratch: &mut TxRoom,
+    coefficients: &[i32],
+    samples: &mut [u16],
+    stride: usize,
+    x: usize,
+    y: usize,
+    tx_size: u8,
+    tx_type: u8,
+    bit_depth: usize,
+) -> u32
+    ensures { AddsClamped bit_depth tx_size tx_type stride x y coefficients.now samples.old samples.new result }
+{
+    let at = Place { stride, x, y };
+    match block_at_depth(
+        tx_size,
+        tx_type,
+        at,
+        coefficients.len(),
+        samples.len(),
+        bit_depth,
+    ) {
+        Ok(block) => {
+            add_clamped(scratch, coefficients, samples, stride, block, bit_depth);
+            DONE
+        }
+        Err(fault) => fault.status(),
+    }
+}
