@@ -124,7 +124,8 @@ module _ (xs : List ℤ) (value : ℕ → ℤ) (count : length xs ≡ 8) (are : 
   lanes_fit =
       let P : ℕ → Type 0 = λ n. FitsSigned w16 (to_z w32 n) in
       let Q : ℤ → Type 0 = λ z. FitsSigned w16 z in
-      Each1-from_get_or P (map (of_z w32) xs) 0 (λ i l. let h : i < 8 = omega (arith, count, length-map xs (of_z w32)) in subst Q (sym (wide_lane i h)) (small i h))
+      Each1-from_get_or P (map (of_z w32) xs) 0 (λ i l. let h : i < 8 = omega (arith, count, length-map xs (of_z w32))
+      in subst Q (sym (wide_lane i h)) (small i h))
 
   -- and is the same number there
   pub lanes_are : (i : ℕ) → i < 8 → entry (map (to_z w16) (map (λ n. of_z w16 (to_z w32 n)) (map (of_z w32) xs))) i ≡ value i
@@ -137,7 +138,8 @@ module _ (xs : List ℤ) (value : ℕ → ℤ) (count : length xs ≡ 8) (are : 
 abbrev pub turned : ℕ → List ℤ → List ℤ
 turned k xs = by_index 8 (λ i. to_z w16 (word_of xs xs ((i + k) % 8)))
 
-pub turned_is : (k : ℕ) (xs : List ℤ) (i : ℕ) → length xs ≡ 8 → i < 8 → ((j : ℕ) → j < 8 → Between 0 32767 (entry xs j)) → entry (turned k xs) i ≡ entry xs ((i + k) % 8)
+pub turned_is : (k : ℕ) (xs : List ℤ) (i : ℕ) → length xs ≡ 8 → i < 8 → ((j : ℕ) → j < 8 → Between 0 32767 (entry xs j)) →
+    entry (turned k xs) i ≡ entry xs ((i + k) % 8)
 turned_is k xs i n h b =
     let m : (i + k) % 8 < 8 = omega arith in
     get_or-by_index 8 (λ j. to_z w16 (word_of xs xs ((j + k) % 8))) i (pos 0) h ∙ ap (to_z w16) (first_word xs xs ((i + k) % 8) n m)

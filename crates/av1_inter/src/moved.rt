@@ -80,7 +80,9 @@ pub(crate) fn put_moved<T: Pixel>(
     requires depths { IsDepth bit_depth }
     requires depth { bit_depth ≤ T.BITS }
     requires reference { IsReference T.num plane.now bit_depth block.width block.height }
-    ensures painted { dst.new ≡ painted dst.old block.width block.height (λ r c _. T.pixel (moved_single T.num bit_depth mode plane.now block.at.x block.at.y mv block.width block.height r c)) }
+    ensures painted { dst.new ≡
+        painted dst.old block.width block.height
+        (λ r c _. T.pixel (moved_single T.num bit_depth mode plane.now block.at.x block.at.y mv block.width block.height r c)) }
     ensures fits { InStorage dst.new }
 {
     let cfg = plane.config();
@@ -88,7 +90,15 @@ pub(crate) fn put_moved<T: Pixel>(
     let row_frac = sixteenths(mv.row, cfg.ydec);
     let src = moved_slice(plane, block.at, mv);
     put_8tap(
-        dst, src, block.width, block.height, col_frac, row_frac, mode, mode, bit_depth,
+        dst,
+        src,
+        block.width,
+        block.height,
+        col_frac,
+        row_frac,
+        mode,
+        mode,
+        bit_depth,
     );
 }
 
@@ -107,13 +117,22 @@ pub(crate) fn prepare_moved<T: Pixel>(
     requires high { block.height ≤ 128 }
     requires depths { IsDepth bit_depth }
     requires reference { IsReference T.num plane.now bit_depth block.width block.height }
-    ensures { (r c : ℕ) → r < block.height → c < block.width → entry tmp.new (r * block.width + c) ≡ moved_prepared T.num bit_depth mode plane.now block.at.x block.at.y mv block.width block.height r c }
+    ensures { (r c : ℕ) → r < block.height → c < block.width →
+        entry tmp.new (r * block.width + c) ≡ moved_prepared T.num bit_depth mode plane.now block.at.x block.at.y mv block.width block.height r c }
 {
     let cfg = plane.config();
     let col_frac = sixteenths(mv.col, cfg.xdec);
     let row_frac = sixteenths(mv.row, cfg.ydec);
     let src = moved_slice(plane, block.at, mv);
     prep_8tap(
-        tmp, src, block.width, block.height, col_frac, row_frac, mode, mode, bit_depth,
+        tmp,
+        src,
+        block.width,
+        block.height,
+        col_frac,
+        row_frac,
+        mode,
+        mode,
+        bit_depth,
     );
 }

@@ -100,7 +100,8 @@ fn prepare_from<T: Pixel>(
     requires depths { IsDepth fi.now.bit_depth }
     requires reference { IsServed T.num fi.now reference p block.width block.height }
     ensures { (plane : _) → slot_plane fi.now (slot_of fi.now reference) p ≡ Some plane → (r c : ℕ) → r < block.height → c < block.width →
-        entry tmp.new (r * block.width + c) ≡ moved_prepared T.num fi.now.bit_depth fi.now.default_filter plane block.at.x block.at.y mv block.width block.height r c }
+        entry tmp.new (r * block.width + c) ≡
+        moved_prepared T.num fi.now.bit_depth fi.now.default_filter plane block.at.x block.at.y mv block.width block.height r c }
 {
     if let Some(plane) = fi.slot(slot_of(fi, reference), p) {
         prepare_moved(tmp, plane, block, mv, fi.default_filter, fi.bit_depth);

@@ -18,7 +18,9 @@ returns-clause-painted g c =
     let ry : FitsSigned w32 c.sixteenths-row_frac.result = search rules in
     painted_same c.args.dst.now _ c.args.block.width c.args.block.height _
     (λ r q _.
-    g.T.Pixel.pixel (moved_single num c.args.bit_depth c.args.mode c.args.plane.now c.args.block.at.x c.args.block.at.y c.args.mv c.args.block.width c.args.block.height r q))
+    g.T.Pixel.pixel
+    (moved_single num c.args.bit_depth c.args.mode c.args.plane.now c.args.block.at.x c.args.block.at.y c.args.mv c.args.block.width c.args.block.height
+    r q))
     c.put_8tap.ensures.painted
     (λ r q v l h.
     ap g.T.Pixel.pixel
