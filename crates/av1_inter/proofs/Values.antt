@@ -1,6 +1,6 @@
 -- What the filters of a block give is what the specification says, at each depth.
 use Rattle.std.proofs.Common.{ℕ, zero, suc, ◌+◌, ◌-◌, ◌*◌, ◌/◌, ◌^◌, ◌<◌, ◌≡◌, ◌≢◌, ◌⊎◌, ◌∙◌, ap, arith, refl, sym, List, ℤ, pos, negsuc, ◌+ℤ◌, ◌-ℤ◌}
-use Rattle.std.proofs.Common.{◌*ℤ◌, inl, inr, subst, unsigned_abs, w16, FitsSigned}
+use Rattle.std.proofs.Common.{◌*ℤ◌, inl, inr, subst, unsigned_abs, w16}
 use Rattle.std.specs.Int.{int_shr, saturate_signed}
 use Rattle.std.specs.Int.Signed.{shr_z}
 use Rattle.std.proofs.lemmas.Bool.{cases_lt}
@@ -9,8 +9,8 @@ use Rattle.std.proofs.lemmas.List.{get_or-map, length-map}
 use Rattle.av1_blocks.specs.Depths.{IsDepth}
 use Rattle.av1_frame.specs.Arithmetic.{clip, round_shift}
 use Rattle.av1_inter.specs.Motion.{bias, entry, intermediate, intermediate_bits, prepared, single, sum_to, weighted}
-use Rattle.av1_inter.specs.Scaffolding.{along, Between, between_filters, both_prepared, both_put, column_put, doubled, halved, IsFilter, one_prepared}
-use Rattle.av1_inter.specs.Scaffolding.{prepared_roundings, put_roundings, row_put, sample_of, value_of}
+use Rattle.av1_inter.specs.Scaffolding.{along, Between, between_filters, doubled, halved, IsFilter}
+use Rattle.av1_inter.specs.Scaffolding.{prepared_roundings, put_roundings, sample_of, value_of}
 use Rattle.av1_inter.specs.Filters.{filter_of}
 use Rattle.av1_inter.specs.declared.strip.Strip.{Strip}
 use Rattle.av1_frame.specs.declared.plane_region.StoredArea.{StoredArea}
