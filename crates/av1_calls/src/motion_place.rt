@@ -10,6 +10,7 @@ use crate::argument::BadArgument;
 use crate::intra_edge::{halvings, signed};
 use crate::motion::are_sides;
 use crate::status::DONE;
+use av1_inter::sixteenths;
 
 /// The greatest number of columns, or rows, that a frame has.
 const MOST: usize = 65_536;
@@ -101,17 +102,7 @@ fn test_moved(plane: MotionPlane, block: MovedBlock) -> Result<(), BadArgument>
     Ok(())
 }
 
-// The sixteenths of a sample of a vector's component, in eighths of a luma sample.
-fn sixteenths(component: i16, decimation: usize) -> i32
-    requires { decimation ≤ 1 }
-    ensures value { result ≡ pos (sixteenths component decimation) }
-    ensures small { sixteenths component decimation < 16 }
-{
-    let scale = if decimation == 0 { 2 } else { 1 };
-    (i32::from(component) * scale).rem_euclid(16)
-}
-
-// The same as a fraction of a block.
+// The part of a sample by which a component moves a block, in sixteenths.
 fn fraction(component: i16, decimation: usize) -> u8
     requires { decimation ≤ 1 }
     ensures value { result ≡ sixteenths component decimation }

@@ -4,6 +4,7 @@ use Rattle.std.proofs.Common.{to_z, of_z, w32, FitsSigned}
 use Rattle.std.proofs.lemmas.Int.{ints, to_z-of_z}
 use Rattle.av1_blocks.specs.declared.mc.FilterMode.{FilterMode}
 use Rattle.av1_inter.specs.declared.rounding.Rounding.{Rounding}
+use Rattle.av1_inter.specs.declared.rounding.Roundings.{Roundings}
 use Rattle.av1_inter.specs.declared.strip.Strip.{Strip}
 use Rattle.av1_inter.specs.declared.strip.Taps.{Taps}
 use Rattle.av1_inter.specs.Filters.{filter_of}
@@ -54,17 +55,18 @@ module _ {T : Type 0} (num : T → ℕ) (block : Strip T) (halves : List ℤ) (r
   columns_are r c = ap (settled rounding) (weighted_same halves _ _ (λ t l. ap pos (column_there r c t)))
 
 -- which of them a block takes
-module _ (row column both : Rounding) (depth : ℕ) (across down : List ℤ) (samples : ℕ → ℕ → ℕ) (r c : ℕ) where
-  pub value_along : (fx fy : ℕ) → fy ≡ 0 → along row across samples (r + 3) c ≡ value_of row column both depth fx fy across down samples r c
+module _ (roundings : Roundings) (depth : ℕ) (across down : List ℤ) (samples : ℕ → ℕ → ℕ) (r c : ℕ) where
+  pub value_along : (fx fy : ℕ) → fy ≡ 0 → along roundings.rows across samples (r + 3) c ≡ value_of roundings depth fx fy across down samples r c
   value_along fx zero e = refl
   value_along fx (suc k) e = absurd (omega (arith, e))
 
-  pub value_down : (fx fy : ℕ) → fx ≡ 0 → fy ≢ 0 → down_alone column down samples r c ≡ value_of row column both depth fx fy across down samples r c
+  pub value_down : (fx fy : ℕ) → fx ≡ 0 → fy ≢ 0 → down_alone roundings.columns down samples r c ≡ value_of roundings depth fx fy across down samples r c
   value_down fx zero e h = absurd (h refl)
   value_down zero (suc k) e h = refl
   value_down (suc j) (suc k) e h = absurd (omega (arith, e))
 
-  pub value_both : (fx fy : ℕ) → fx ≢ 0 → fy ≢ 0 → both_ways both depth across down samples r c ≡ value_of row column both depth fx fy across down samples r c
+  pub value_both : (fx fy : ℕ) → fx ≢ 0 → fy ≢ 0 →
+      both_ways roundings.both depth across down samples r c ≡ value_of roundings depth fx fy across down samples r c
   value_both fx zero e h = absurd (h refl)
   value_both zero (suc k) e h = absurd (e refl)
   value_both (suc j) (suc k) e h = refl

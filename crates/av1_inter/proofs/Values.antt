@@ -1,6 +1,6 @@
 -- What the filters of a block give is what the specification says, at each depth.
 use Rattle.std.proofs.Common.{ℕ, zero, suc, ◌+◌, ◌-◌, ◌*◌, ◌/◌, ◌^◌, ◌<◌, ◌≡◌, ◌≢◌, ◌⊎◌, ◌∙◌, ap, arith, refl, sym, List, ℤ, pos, negsuc, ◌+ℤ◌, ◌-ℤ◌}
-use Rattle.std.proofs.Common.{◌*ℤ◌, inl, inr, subst, unsigned_abs, w16, FitsSigned}
+use Rattle.std.proofs.Common.{◌*ℤ◌, inl, inr, subst, unsigned_abs, w16}
 use Rattle.std.specs.Int.{int_shr, saturate_signed}
 use Rattle.std.specs.Int.Signed.{shr_z}
 use Rattle.std.proofs.lemmas.Bool.{cases_lt}
@@ -9,8 +9,8 @@ use Rattle.std.proofs.lemmas.List.{get_or-map, length-map}
 use Rattle.av1_blocks.specs.Depths.{IsDepth}
 use Rattle.av1_frame.specs.Arithmetic.{clip, round_shift}
 use Rattle.av1_inter.specs.Motion.{bias, entry, intermediate, intermediate_bits, prepared, single, sum_to, weighted}
-use Rattle.av1_inter.specs.Scaffolding.{along, Between, between_filters, both_prepared, both_put, column_put, doubled, halved, IsFilter, one_prepared}
-use Rattle.av1_inter.specs.Scaffolding.{row_put, sample_of, value_of}
+use Rattle.av1_inter.specs.Scaffolding.{along, Between, between_filters, doubled, halved, IsFilter}
+use Rattle.av1_inter.specs.Scaffolding.{prepared_roundings, put_roundings, sample_of, value_of}
 use Rattle.av1_inter.specs.Filters.{filter_of}
 use Rattle.av1_inter.specs.declared.strip.Strip.{Strip}
 use Rattle.av1_frame.specs.declared.plane_region.StoredArea.{StoredArea}
@@ -207,7 +207,7 @@ module _ (depth : ℕ) (d : IsDepth depth) (across down : List ℤ) (fa : IsFilt
   rows_kept j = moved_sum down (λ t. intermediate depth (suc j) across samples (r + t) c) _ fd (λ t k. row_kept j (r + t) (omega (arith, k)))
 
   pub put_value : (fx fy : ℕ) → (fx ≢ 0) ⊎ (fy ≢ 0) →
-      clip depth (value_of (row_put depth) column_put (both_put depth) depth fx fy (halved across) (halved down) samples r c) ≡
+      clip depth (value_of (put_roundings depth) depth fx fy (halved across) (halved down) samples r c) ≡
       single depth fx fy across down samples r c
   put_value zero zero (inl h) = absurd (h refl)
   put_value zero zero (inr h) = absurd (h refl)
@@ -226,7 +226,7 @@ module _ (depth : ℕ) (d : IsDepth depth) (across down : List ℤ) (fa : IsFilt
       (moved_back (weighted (halved down) (λ t. intermediate depth (suc j) across samples (r + t) c)) _ (whole_sum down _ fd) depth d _ (rows_kept j))
 
   pub prepared_value : (fx fy : ℕ) → (fx ≢ 0) ⊎ (fy ≢ 0) →
-      value_of (one_prepared depth) (one_prepared depth) (both_prepared depth) depth fx fy (halved across) (halved down) samples r c ≡
+      value_of (prepared_roundings depth) depth fx fy (halved across) (halved down) samples r c ≡
       prepared depth fx fy across down samples r c
   prepared_value zero zero (inl h) = absurd (h refl)
   prepared_value zero zero (inr h) = absurd (h refl)
@@ -258,13 +258,13 @@ module _ (depth : ℕ) (across down : List ℤ) (samples : ℕ → ℕ → ℕ) 
 -- the sample that a block's filters give
 abbrev pub put_of : (depth : ℕ) → StoredArea → (x y : ℤ) → (mode_x mode_y : FilterMode) → (ℕ → ℕ → ℕ) → (r c : ℕ) → ℕ
 put_of depth a x y mode_x mode_y samples r c =
-    clip depth (value_of (row_put depth) column_put (both_put depth) depth (unsigned_abs x) (unsigned_abs y)
+    clip depth (value_of (put_roundings depth) depth (unsigned_abs x) (unsigned_abs y)
     (halved (filter_of mode_x (unsigned_abs x) a.width)) (halved (filter_of mode_y (unsigned_abs y) a.height)) samples r c)
 
 -- and the value that is prepared of it
 abbrev pub prepared_of : (depth : ℕ) → StoredArea → (x y : ℤ) → (mode_x mode_y : FilterMode) → (ℕ → ℕ → ℕ) → (r c : ℕ) → ℤ
 prepared_of depth a x y mode_x mode_y samples r c =
-    value_of (one_prepared depth) (one_prepared depth) (both_prepared depth) depth (unsigned_abs x) (unsigned_abs y)
+    value_of (prepared_roundings depth) depth (unsigned_abs x) (unsigned_abs y)
     (halved (filter_of mode_x (unsigned_abs x) a.width)) (halved (filter_of mode_y (unsigned_abs y) a.height)) samples r c
 
 -- The values of a block as it was made: its rectangle, its depth and its samples are those that a contract names.
@@ -280,25 +280,25 @@ module _ {T : Type 0} (num : T → ℕ) (block : Strip T) (area : StoredArea) (d
   same_here x y k i = same (c + x) (r + y) (omega (arith, k, l)) (omega (arith, i, h))
 
   pub put_here : clip block.bit_depth
-      (value_of (row_put block.bit_depth) column_put (both_put block.bit_depth) block.bit_depth fx fy (halved (filter_of mode_x fx block.area.width))
+      (value_of (put_roundings block.bit_depth) block.bit_depth fx fy (halved (filter_of mode_x fx block.area.width))
       (halved (filter_of mode_y fy block.area.height)) (sample_of num block) r c)
       ≡ single depth fx fy (filter_of mode_x fx area.width) (filter_of mode_y fy area.height) samples r c
   put_here =
       let value =
       λ (b : ℕ)
-      (a : StoredArea). clip b (value_of (row_put b) column_put (both_put b) b fx fy (halved (filter_of mode_x fx a.width))
+      (a : StoredArea). clip b (value_of (put_roundings b) b fx fy (halved (filter_of mode_x fx a.width))
       (halved (filter_of mode_y fy a.height)) (sample_of num block) r c) in
       ap (λ b. value b block.area) ed ∙ ap (value depth) ea
       ∙ put_value depth d (filter_of mode_x fx area.width) (filter_of mode_y fy area.height) (filter_of_is_filter mode_x fx area.width lx)
       (filter_of_is_filter mode_y fy area.height ly) (sample_of num block) r c within_here fx fy some
       ∙ single_moved depth (filter_of mode_x fx area.width) (filter_of mode_y fy area.height) (sample_of num block) samples r c c same_here fx fy
 
-  pub prepared_here : value_of (one_prepared block.bit_depth) (one_prepared block.bit_depth)
-      (both_prepared block.bit_depth) block.bit_depth fx fy (halved (filter_of mode_x fx block.area.width)) (halved (filter_of mode_y fy block.area.height))
+  pub prepared_here : value_of (prepared_roundings block.bit_depth) block.bit_depth fx fy (halved (filter_of mode_x fx block.area.width))
+      (halved (filter_of mode_y fy block.area.height))
       (sample_of num block) r c
       ≡ prepared depth fx fy (filter_of mode_x fx area.width) (filter_of mode_y fy area.height) samples r c
   prepared_here =
-      let value = λ (b : ℕ) (a : StoredArea). value_of (one_prepared b) (one_prepared b) (both_prepared b) b fx fy (halved (filter_of mode_x fx a.width))
+      let value = λ (b : ℕ) (a : StoredArea). value_of (prepared_roundings b) b fx fy (halved (filter_of mode_x fx a.width))
       (halved (filter_of mode_y fy a.height)) (sample_of num block) r c in
       ap (λ b. value b block.area) ed ∙ ap (value depth) ea
       ∙ prepared_value depth d (filter_of mode_x fx area.width) (filter_of mode_y fy area.height) (filter_of_is_filter mode_x fx area.width lx)

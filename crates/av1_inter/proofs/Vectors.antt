@@ -1,7 +1,7 @@
 -- Where a vector leads, and what stands there.
 use Rattle.std.proofs.Common.{ℕ, ◌+◌, ◌^◌, ◌<◌, ◌≡◌, ◌∙◌, ap, sym, subst, arith, ℤ, pos, negsuc, ◌+ℤ◌, ◌-ℤ◌, ◌≤ℤ◌, ◌<ℤ◌, neg_ℤ, FitsSigned, w16, w32}
 use Rattle.std.proofs.Common.{w64, to_z, of_z, unsigned_abs}
-use Rattle.std.specs.Int.{int_min, int_max, saturate_signed}
+use Rattle.std.specs.Int.{saturate_signed}
 use Rattle.std.proofs.lemmas.Int.{ints, clamps, to_z-of_z}
 use Rattle.av1_frame.specs.declared.plane.Plane.{Plane}
 use Rattle.av1_frame.specs.Planes.{IsWhole, padded, sample_at}

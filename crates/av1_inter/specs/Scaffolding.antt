@@ -5,8 +5,10 @@ use Rattle.std.specs.Int.{int_shr, saturate_signed, w16}
 use Rattle.av1_blocks.specs.Depths.{IsDepth}
 use Rattle.av1_frame.specs.declared.plane_region.StoredArea.{StoredArea}
 use Rattle.av1_inter.specs.declared.rounding.Rounding.{Rounding}
+use Rattle.av1_inter.specs.declared.rounding.Roundings.{Roundings}
 use Rattle.av1_inter.specs.declared.strip.Strip.{Strip}
 use Rattle.av1_inter.specs.declared.strip.Taps.{Taps}
+use Rattle.av1_inter.specs.declared.two_filters.Halves.{Halves}
 use Rattle.av1_frame.specs.Arithmetic.{clip}
 use Rattle.av1_inter.specs.Motion.{bias, entry, intermediate_bits, weighted}
 use Rattle.av1_inter.specs.Places.{AreWithinDepth}
@@ -96,6 +98,25 @@ one_prepared depth = record {
 abbrev pub both_prepared : ℕ → Rounding
 both_prepared depth = record { add = pos 32; shift = 6; bias = pos 8192 +ℤ bias depth }
 
+-- those of a block that gives samples, of one whose values go to the filter down the columns, and of one that is
+-- prepared
+abbrev pub put_roundings : ℕ → Roundings
+put_roundings depth = record { rows = row_put depth; columns = column_put; both = both_put depth }
+
+abbrev pub kept_roundings : ℕ → Roundings
+kept_roundings depth =
+    record { rows = between_filters depth; columns = between_filters depth; both = between_filters depth }
+
+abbrev pub prepared_roundings : ℕ → Roundings
+prepared_roundings depth =
+    record { rows = one_prepared depth; columns = one_prepared depth; both = both_prepared depth }
+
+-- how each of a block's roundings may be
+pub record AreRoundings (roundings : Roundings) : Type 0 where
+  pub rows : IsRounding roundings.rows
+  pub columns : IsRounding roundings.columns
+  pub both : IsRounding roundings.both
+
 -- number i of a strip's source
 abbrev pub number_at : {T : Type 0} → (T → ℕ) → Strip T → ℕ → ℤ
 number_at num strip i = pos (slice_index (map num strip.source.now) i)
@@ -144,11 +165,21 @@ abbrev pub both_ways : Rounding → (depth : ℕ) → (across down : List ℤ) �
 both_ways rounding depth across down samples r c =
     settled rounding (weighted down (λ t. pos (clip 15 (along (between_filters depth) across samples (r + t) c))))
 
-abbrev pub value_of : (row column both : Rounding) → (depth fx fy : ℕ) → (across down : List ℤ) → (ℕ → ℕ → ℕ) →
-    (r c : ℕ) → ℤ
-value_of row column both depth fx zero across down samples r c = along row across samples (r + 3) c
-value_of row column both depth zero (suc _) across down samples r c = down_alone column down samples r c
-value_of row column both depth (suc _) (suc _) across down samples r c = both_ways both depth across down samples r c
+abbrev pub value_of : Roundings → (depth fx fy : ℕ) → (across down : List ℤ) → (ℕ → ℕ → ℕ) → (r c : ℕ) → ℤ
+value_of roundings depth fx zero across down samples r c = along roundings.rows across samples (r + 3) c
+value_of roundings depth zero (suc _) across down samples r c = down_alone roundings.columns down samples r c
+value_of roundings depth (suc _) (suc _) across down samples r c =
+    both_ways roundings.both depth across down samples r c
+
+-- halved weights along rows and down columns, of filters
+pub record AreFilters (halves : Halves) : Type 0 where
+  pub across : IsFilter (doubled halves.across)
+  pub down : IsFilter (doubled halves.down)
+
+-- what they give for row r and column c of a block, one after the other
+abbrev pub twice_filtered : {T : Type 0} → (T → ℕ) → Roundings → Strip T → Halves → (r c : ℕ) → ℤ
+twice_filtered num roundings block halves r c =
+    both_ways roundings.both block.bit_depth halves.across halves.down (sample_of num block) r c
 
 -- how many columns a strip may have, and a part that is filtered twice
 abbrev pub IsStripWidth : ℕ → Type 0

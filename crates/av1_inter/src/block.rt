@@ -40,7 +40,7 @@ pub(crate) fn filter_block<T: Pixel, E: Copy, W: Writer<E>>(
     requires row_frac { (pos 0 ≤ℤ moved.row_frac) × (moved.row_frac <ℤ pos 16) }
     requires some { (moved.col_frac ≢ pos 0) ⊎ (moved.row_frac ≢ pos 0) }
     ensures { let depth = block.now.bit_depth in let a = block.now.area in let fx = unsigned_abs moved.col_frac in let fy = unsigned_abs moved.row_frac in
-        target.new ≡ paint stride a (λ r c _. W.written depth (value_of (W.rows depth) (W.columns depth) (W.both depth) depth fx fy
+        target.new ≡ paint stride a (λ r c _. W.written depth (value_of (W.roundings depth) depth fx fy
         (halved (filter_of moved.mode_x fx a.width)) (halved (filter_of moved.mode_y fy a.height)) (sample_of T.num block.now) r c)) target.old }
 {
     let depth = block.bit_depth;
@@ -49,7 +49,7 @@ pub(crate) fn filter_block<T: Pixel, E: Copy, W: Writer<E>>(
             start: 3 * block.source_stride,
             step: 1,
             halves: get_filter(moved.mode_x, moved.col_frac, block.area.width),
-            rounding: W::of_rows(depth),
+            rounding: W::roundings(depth).rows,
         };
         filter_once::<T, E, W>(target, stride, block, &taps);
     } else if moved.col_frac == 0 {
@@ -57,7 +57,7 @@ pub(crate) fn filter_block<T: Pixel, E: Copy, W: Writer<E>>(
             start: 3,
             step: block.source_stride,
             halves: get_filter(moved.mode_y, moved.row_frac, block.area.height),
-            rounding: W::of_columns(depth),
+            rounding: W::roundings(depth).columns,
         };
         filter_once::<T, E, W>(target, stride, block, &taps);
     } else {

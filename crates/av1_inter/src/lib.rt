@@ -16,6 +16,8 @@
 //!   slots, moved by vectors: `PredictsSingle` and `PredictsCompound` of `specs/Prediction.antt`. The planes are
 //!   padded, and whatever the vector, a place outside reads the nearest visible sample. Where the slot of a single
 //!   reference is empty nothing is written; what an empty slot gives to a compound prediction is not said.
+//! - `sixteenths` is the part of a sample by which a component of a vector moves a block: `sixteenths` of
+//!   `specs/Reference.antt`.
 //! - `constant_references_stay`, `prepared_values_fit`, `padded_planes_serve` and `motion_lies_within` are laws of
 //!   these definitions.
 //!
@@ -35,12 +37,15 @@
 //! | none, put | a width of 4, 8, 16, 32, 64 or 128 | `put_copy`: `copy_rows` | the same |
 //! | none, put | any other width | `put_copy`: `copy_any_rows` | the same |
 //! | none, prepared | any: strips of 16, 8, 4 or 1 columns | `prepare_copy`: `widen_rows` | the same |
-//! | one alone | 4x4, by four weights | `filter_square`: `filter_bytes` | as other sides |
-//! | across alone | any other: strips of 16, 8, 4 or 1 columns | `filter_once`: `filter_bytes` | `filter_once`: `filter_words` |
+//! | one alone | 4x4, by four weights | `filter_four_rows`: `filter_words` | as other sides |
+//! | across alone | any other: strips of 16 or 8 columns | `filter_once`: `filter_bytes` | `filter_once`: `filter_words` |
+//! | across alone | what is left of those: strips of 4 columns or 1 | `filter_once`: `filter_words` | the same |
 //! | down alone | the same strips | the same, in steps of a row | the same, in steps of a row |
-//! | both | any: parts of 8, 4 or 1 columns and up to 32 rows | `filter_twice`: `filter_bytes`, then `filter_words` | `filter_twice`: `filter_words`, twice |
+//! | both | any: parts of 8 columns and up to 32 rows | `filter_twice`: `filter_bytes`, then `filter_words` | `filter_twice`: `filter_words`, twice |
+//! | both | what is left of those: parts of 4 columns or 1 | `filter_twice`: `filter_words`, twice | the same |
 //!
-//! Within a sum the outer weights that are 0 are left out, up to two on either side: `outer_zeros` counts them.
+//! Within a sum the outer weights that are 0 are left out, up to two on either side: `outer_zeros` counts them. Of four
+//! bytes side by side that take four weights, `filter_words` reads each once (`sums_along`).
 #![tactic(auto)]
 
 mod average;

@@ -18,7 +18,7 @@ use crate::words::filter_words;
 use crate::writer::Writer;
 use av1_frame::Pixel;
 
-/// What the filter gives for `N` columns from a place on.
+/// What the filter gives for `N` columns from a place on. Bytes are filtered in 16 bits where they fill a vector.
 #[inline(always)]
 fn filter_line<T: Pixel, const N: usize, const ZEROS: usize>(
     source: &[T],

@@ -12,7 +12,8 @@
 ghost use Rattle.std.specs.Prelude.{◌≡◌, ◌-◌, ◌^◌, ◌≤◌, pos};
 ghost use Rattle.av1_blocks.specs.Depths.{IsDepth};
 ghost use Rattle.av1_inter.specs.Motion.{bias, intermediate_bits};
-ghost use Rattle.av1_inter.specs.Scaffolding.{IsRounding, between_filters, both_prepared, both_put, column_put, one_prepared, row_put};
+ghost use Rattle.av1_inter.specs.Scaffolding.{AreRoundings, IsRounding, between_filters, both_prepared, both_put, column_put, kept_roundings, one_prepared};
+ghost use Rattle.av1_inter.specs.Scaffolding.{prepared_roundings, put_roundings, row_put};
 
 /// What a sum by halved weights becomes: `add` is added, the sum is shifted down by `shift` bits, and `bias` is taken
 /// off.
@@ -21,6 +22,15 @@ pub(crate) struct Rounding {
     pub(crate) add: i16,
     pub(crate) shift: usize,
     pub(crate) bias: i16,
+}
+
+/// How the sums of a block become values: those along its rows where it is filtered so alone, those down its columns
+/// alone, and those down the columns of filtered rows.
+#[derive(Clone, Copy)]
+pub(crate) struct Roundings {
+    pub(crate) rows: Rounding,
+    pub(crate) columns: Rounding,
+    pub(crate) both: Rounding,
 }
 
 /// How many bits more than samples the values between the two filters have.
@@ -79,7 +89,7 @@ pub(crate) fn between_filters(bit_depth: usize) -> Rounding
 
 /// Of a row that gives samples.
 #[inline(always)]
-pub(crate) fn row_put(bit_depth: usize) -> Rounding
+fn row_put(bit_depth: usize) -> Rounding
     requires { IsDepth bit_depth }
     ensures value { result ≡ row_put bit_depth }
     ensures small { IsRounding result }
@@ -93,7 +103,7 @@ pub(crate) fn row_put(bit_depth: usize) -> Rounding
 
 /// Of a column that gives samples.
 #[inline(always)]
-pub(crate) fn column_put() -> Rounding
+fn column_put() -> Rounding
     ensures value { result ≡ column_put }
     ensures small { IsRounding result }
 {
@@ -106,7 +116,7 @@ pub(crate) fn column_put() -> Rounding
 
 /// Of a column of filtered rows that gives samples.
 #[inline(always)]
-pub(crate) fn both_put(bit_depth: usize) -> Rounding
+fn both_put(bit_depth: usize) -> Rounding
     requires { IsDepth bit_depth }
     ensures value { result ≡ both_put bit_depth }
     ensures small { IsRounding result }
@@ -128,7 +138,7 @@ pub(crate) fn both_put(bit_depth: usize) -> Rounding
 
 /// Of a row or a column that is prepared.
 #[inline(always)]
-pub(crate) fn one_prepared(bit_depth: usize) -> Rounding
+fn one_prepared(bit_depth: usize) -> Rounding
     requires { IsDepth bit_depth }
     ensures value { result ≡ one_prepared bit_depth }
     ensures small { IsRounding result }
@@ -143,7 +153,7 @@ pub(crate) fn one_prepared(bit_depth: usize) -> Rounding
 
 /// Of a column of filtered rows that is prepared.
 #[inline(always)]
-pub(crate) fn both_prepared(bit_depth: usize) -> Rounding
+fn both_prepared(bit_depth: usize) -> Rounding
     requires { IsDepth bit_depth }
     ensures value { result ≡ both_prepared bit_depth }
     ensures small { IsRounding result }
@@ -152,5 +162,49 @@ pub(crate) fn both_prepared(bit_depth: usize) -> Rounding
         add: 32,
         shift: 6,
         bias: prep_bias(bit_depth) + 8192,
+    }
+}
+
+/// Of a block that gives samples.
+#[inline(always)]
+pub(crate) fn put_roundings(bit_depth: usize) -> Roundings
+    requires { IsDepth bit_depth }
+    ensures value { result ≡ put_roundings bit_depth }
+    ensures small { AreRoundings result }
+{
+    Roundings {
+        rows: row_put(bit_depth),
+        columns: column_put(),
+        both: both_put(bit_depth),
+    }
+}
+
+/// Of a block whose values go to the filter down the columns, whichever way they were filtered.
+#[inline(always)]
+pub(crate) fn kept_roundings(bit_depth: usize) -> Roundings
+    requires { IsDepth bit_depth }
+    ensures value { result ≡ kept_roundings bit_depth }
+    ensures small { AreRoundings result }
+{
+    let between = between_filters(bit_depth);
+    Roundings {
+        rows: between,
+        columns: between,
+        both: between,
+    }
+}
+
+/// Of a block that is prepared.
+#[inline(always)]
+pub(crate) fn prepared_roundings(bit_depth: usize) -> Roundings
+    requires { IsDepth bit_depth }
+    ensures value { result ≡ prepared_roundings bit_depth }
+    ensures small { AreRoundings result }
+{
+    let one = one_prepared(bit_depth);
+    Roundings {
+        rows: one,
+        columns: one,
+        both: both_prepared(bit_depth),
     }
 }

@@ -10,7 +10,7 @@ ghost use Rattle.std.specs.Prelude.{◌≡◌, ◌+◌, ◌≤◌, ◌<◌, leng
 ghost use Rattle.av1_blocks.specs.Depths.{IsDepth};
 ghost use Rattle.av1_frame.specs.Areas.{AreRows};
 ghost use Rattle.av1_frame.specs.Samples.{paint};
-ghost use Rattle.av1_inter.specs.Scaffolding.{IsBlock, IsFilter, IsPartWidth, both_ways, doubled, sample_of, strip_of};
+ghost use Rattle.av1_inter.specs.Scaffolding.{AreFilters, IsBlock, IsPartWidth, strip_of, twice_filtered};
 
 use crate::one_filter::filter_strip;
 use crate::rounding::between_filters;
@@ -47,14 +47,10 @@ fn filter_part<T: Pixel, E: Copy, W: Writer<E>, const N: usize>(
     requires narrow { N ≤ 8 }
     requires low { part.now.area.height ≤ 32 }
     requires part { IsBlock T.num part.now }
-    requires across { IsFilter (doubled halves.now.across) }
-    requires down { IsFilter (doubled halves.now.down) }
+    requires filters { AreFilters halves.now }
     requires serves { W.serves part.now.bit_depth }
-    ensures { target.new ≡
-        paint stride part.now.area
-        (λ r c _.
-        W.written part.now.bit_depth
-        (both_ways (W.both part.now.bit_depth) part.now.bit_depth halves.now.across halves.now.down (sample_of T.num part.now) r c)) target.old }
+    ensures { let b = part.now
+        in target.new ≡ paint stride b.area (λ r c _. W.written b.bit_depth (twice_filtered T.num (W.roundings b.bit_depth) b halves.now r c)) target.old }
 {
     let mut kept = [0; KEPT];
     let rows = Strip {
@@ -85,7 +81,7 @@ fn filter_part<T: Pixel, E: Copy, W: Writer<E>, const N: usize>(
         start: 0,
         step: COLUMNS,
         halves: halves.down,
-        rounding: W::of_both(part.bit_depth),
+        rounding: W::roundings(part.bit_depth).both,
     };
     filter_strip::<u16, E, W, N>(target, stride, &columns, &down);
 }
@@ -101,14 +97,10 @@ fn filter_part_of<T: Pixel, E: Copy, W: Writer<E>>(
     requires kind { IsPartWidth part.now.area.width }
     requires low { part.now.area.height ≤ 32 }
     requires part { IsBlock T.num part.now }
-    requires across { IsFilter (doubled halves.now.across) }
-    requires down { IsFilter (doubled halves.now.down) }
+    requires filters { AreFilters halves.now }
     requires serves { W.serves part.now.bit_depth }
-    ensures { target.new ≡
-        paint stride part.now.area
-        (λ r c _.
-        W.written part.now.bit_depth
-        (both_ways (W.both part.now.bit_depth) part.now.bit_depth halves.now.across halves.now.down (sample_of T.num part.now) r c)) target.old }
+    ensures { let b = part.now
+        in target.new ≡ paint stride b.area (λ r c _. W.written b.bit_depth (twice_filtered T.num (W.roundings b.bit_depth) b halves.now r c)) target.old }
 {
     if part.area.width == 8 {
         filter_part::<T, E, W, 8>(target, stride, part, halves);
@@ -129,14 +121,10 @@ fn filter_parts<T: Pixel, E: Copy, W: Writer<E>>(
     requires rows { AreRows stride strip.now.area (length target.old) }
     requires kind { IsPartWidth strip.now.area.width }
     requires strip { IsBlock T.num strip.now }
-    requires across { IsFilter (doubled halves.now.across) }
-    requires down { IsFilter (doubled halves.now.down) }
+    requires filters { AreFilters halves.now }
     requires serves { W.serves strip.now.bit_depth }
-    ensures { target.new ≡
-        paint stride strip.now.area
-        (λ r c _.
-        W.written strip.now.bit_depth
-        (both_ways (W.both strip.now.bit_depth) strip.now.bit_depth halves.now.across halves.now.down (sample_of T.num strip.now) r c)) target.old }
+    ensures { let b = strip.now
+        in target.new ≡ paint stride b.area (λ r c _. W.written b.bit_depth (twice_filtered T.num (W.roundings b.bit_depth) b halves.now r c)) target.old }
 {
     let mut first = 0;
     while first < strip.area.height {
@@ -156,14 +144,10 @@ pub(crate) fn filter_twice<T: Pixel, E: Copy, W: Writer<E>>(
 )
     requires rows { AreRows stride block.now.area (length target.old) }
     requires block { IsBlock T.num block.now }
-    requires across { IsFilter (doubled halves.now.across) }
-    requires down { IsFilter (doubled halves.now.down) }
+    requires filters { AreFilters halves.now }
     requires serves { W.serves block.now.bit_depth }
-    ensures { target.new ≡
-        paint stride block.now.area
-        (λ r c _.
-        W.written block.now.bit_depth
-        (both_ways (W.both block.now.bit_depth) block.now.bit_depth halves.now.across halves.now.down (sample_of T.num block.now) r c)) target.old }
+    ensures { let b = block.now
+        in target.new ≡ paint stride b.area (λ r c _. W.written b.bit_depth (twice_filtered T.num (W.roundings b.bit_depth) b halves.now r c)) target.old }
 {
     let mut start = 0;
     while start < block.area.width {

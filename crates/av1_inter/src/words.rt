@@ -1,4 +1,5 @@
-//! Samples of two bytes that are filtered in 32 bits, two products at a time.
+//! Samples that are filtered in 32 bits, two products at a time: those of two bytes, and those of one byte where fewer
+//! than 8 columns are filtered at once.
 //!
 //! A machine multiplies eight numbers of 16 bits by eight others and adds each two neighbouring products in one step.
 //! So the samples that two of the weights belong to are put side by side, for eight columns at once.

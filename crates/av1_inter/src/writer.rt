@@ -3,12 +3,10 @@
 ghost use Rattle.std.specs.Prelude.{◌≡◌, ℕ, ℤ, ◌≤◌};
 ghost use Rattle.av1_blocks.specs.Depths.{IsDepth};
 ghost use Rattle.av1_frame.specs.Arithmetic.{clip};
-ghost use Rattle.av1_inter.specs.Scaffolding.{IsRounding, between_filters, both_prepared, both_put, column_put, one_prepared, row_put};
-ghost use Rattle.av1_inter.specs.declared.rounding.Rounding.{Rounding as RoundingRecord};
+ghost use Rattle.av1_inter.specs.Scaffolding.{AreRoundings, kept_roundings, prepared_roundings, put_roundings};
+ghost use Rattle.av1_inter.specs.declared.rounding.Roundings.{Roundings as RoundingsRecord};
 
-use crate::rounding::{
-    Rounding, between_filters, both_prepared, both_put, column_put, greatest, one_prepared, row_put,
-};
+use crate::rounding::{Roundings, greatest, kept_roundings, prepared_roundings, put_roundings};
 use av1_frame::Pixel;
 
 /// Writes values of 16 bits as entries of type `E`, and says how the sums that they come from are rounded.
@@ -16,33 +14,17 @@ pub(crate) trait Writer<E: Copy> {
     // the depths that it serves
     ghost serves: { ℕ → Type 0 };
 
-    // the roundings of rows, of columns, and of columns of filtered rows, at a depth
-    ghost rows: { ℕ → RoundingRecord };
-
-    ghost columns: { ℕ → RoundingRecord };
-
-    ghost both: { ℕ → RoundingRecord };
+    // the roundings at a depth
+    ghost roundings: { ℕ → RoundingsRecord };
 
     // the entry of a value, at a depth
     ghost written: { ℕ → ℤ → E };
 
-    /// The rounding of sums along rows.
-    fn of_rows(bit_depth: usize) -> Rounding
+    /// How sums are rounded.
+    fn roundings(bit_depth: usize) -> Roundings
         requires { IsDepth bit_depth }
-        ensures value { result ≡ rows bit_depth }
-        ensures small { IsRounding result };
-
-    /// The rounding of sums down columns.
-    fn of_columns(bit_depth: usize) -> Rounding
-        requires { IsDepth bit_depth }
-        ensures value { result ≡ columns bit_depth }
-        ensures small { IsRounding result };
-
-    /// The rounding of sums down columns of filtered rows.
-    fn of_both(bit_depth: usize) -> Rounding
-        requires { IsDepth bit_depth }
-        ensures value { result ≡ both bit_depth }
-        ensures small { IsRounding result };
+        ensures value { result ≡ roundings bit_depth }
+        ensures small { AreRoundings result };
 
     /// The entry of a value.
     fn entry(value: i16, bit_depth: usize) -> E
@@ -67,27 +49,13 @@ pub(crate) struct Samples {}
 impl<T: Pixel> Writer<T> for Samples {
     ghost serves = { λ depth. depth ≤ T.BITS };
 
-    ghost rows = { row_put };
-
-    ghost columns = { λ _. column_put };
-
-    ghost both = { both_put };
+    ghost roundings = { put_roundings };
 
     ghost written = { λ depth value. T.pixel (clip depth value) };
 
     #[inline(always)]
-    fn of_rows(bit_depth: usize) -> Rounding {
-        row_put(bit_depth)
-    }
-
-    #[inline(always)]
-    fn of_columns(bit_depth: usize) -> Rounding {
-        column_put()
-    }
-
-    #[inline(always)]
-    fn of_both(bit_depth: usize) -> Rounding {
-        both_put(bit_depth)
+    fn roundings(bit_depth: usize) -> Roundings {
+        put_roundings(bit_depth)
     }
 
     #[inline(always)]
@@ -103,27 +71,13 @@ pub(crate) struct Between {}
 impl Writer<u16> for Between {
     ghost serves = { λ _. Unit };
 
-    ghost rows = { between_filters };
-
-    ghost columns = { between_filters };
-
-    ghost both = { between_filters };
+    ghost roundings = { kept_roundings };
 
     ghost written = { λ _ value. clip 15 value };
 
     #[inline(always)]
-    fn of_rows(bit_depth: usize) -> Rounding {
-        between_filters(bit_depth)
-    }
-
-    #[inline(always)]
-    fn of_columns(bit_depth: usize) -> Rounding {
-        between_filters(bit_depth)
-    }
-
-    #[inline(always)]
-    fn of_both(bit_depth: usize) -> Rounding {
-        between_filters(bit_depth)
+    fn roundings(bit_depth: usize) -> Roundings {
+        kept_roundings(bit_depth)
     }
 
     #[inline(always)]
@@ -138,27 +92,13 @@ pub(crate) struct Prepared {}
 impl Writer<i16> for Prepared {
     ghost serves = { λ _. Unit };
 
-    ghost rows = { one_prepared };
-
-    ghost columns = { one_prepared };
-
-    ghost both = { both_prepared };
+    ghost roundings = { prepared_roundings };
 
     ghost written = { λ _ value. value };
 
     #[inline(always)]
-    fn of_rows(bit_depth: usize) -> Rounding {
-        one_prepared(bit_depth)
-    }
-
-    #[inline(always)]
-    fn of_columns(bit_depth: usize) -> Rounding {
-        one_prepared(bit_depth)
-    }
-
-    #[inline(always)]
-    fn of_both(bit_depth: usize) -> Rounding {
-        both_prepared(bit_depth)
+    fn roundings(bit_depth: usize) -> Roundings {
+        prepared_roundings(bit_depth)
     }
 
     #[inline(always)]

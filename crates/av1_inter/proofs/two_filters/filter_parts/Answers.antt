@@ -27,7 +27,7 @@ loop-first-preserved g c =
       painted =
           paint_below c.args.stride strip.area c.part_at-part.result.area first c.min-rows.result _ _ c.args.target.now c.loop-first.target _ part.area
           c.loop-first.invariant.painted c.filter_part_of.ensures
-          (λ r q v k l. ap (λ n. g.W.Writer.written n (both_ways (g.W.Writer.both n) n halves.across halves.down from r q)) part.depth
-          ∙ ap (g.W.Writer.written d) (both_moved (g.W.Writer.both d) d halves.across halves.down from whole 0 first part.samples r q
-          ∙ ap (λ n. both_ways (g.W.Writer.both d) d halves.across halves.down whole (first + r) n) (let z : 0 + q ≡ q = omega arith in z)));
+          (λ r q v k l. ap (λ n. g.W.Writer.written n (both_ways (g.W.Writer.roundings n).both n halves.across halves.down from r q)) part.depth
+          ∙ ap (g.W.Writer.written d) (both_moved (g.W.Writer.roundings d).both d halves.across halves.down from whole 0 first part.samples r q
+          ∙ ap (λ n. both_ways (g.W.Writer.roundings d).both d halves.across halves.down whole (first + r) n) (let z : 0 + q ≡ q = omega arith in z)));
     }

@@ -9,7 +9,7 @@ invariant-loop-first g l = record {
   painted : l.target ≡ paint l.stride (corner l.strip.area l.strip.area.width l.first)
       (λ r c _.
       g.W.Writer.written l.strip.bit_depth
-      (both_ways (g.W.Writer.both l.strip.bit_depth) l.strip.bit_depth l.halves.across l.halves.down (sample_of g.T.Pixel.num l.strip) r c))
+      (both_ways (g.W.Writer.roundings l.strip.bit_depth).both l.strip.bit_depth l.halves.across l.halves.down (sample_of g.T.Pixel.num l.strip) r c))
       l.initial.target;
 }
 

@@ -27,7 +27,7 @@ loop-start-preserved g c =
       painted =
           paint_next c.args.stride block.area c.part_at-strip.result.area start c.strip_width-columns.result _ _ c.args.target.now c.loop-start.target _
           part.area c.loop-start.invariant.painted c.filter_parts.ensures
-          (λ r q v k l. ap (λ n. g.W.Writer.written n (both_ways (g.W.Writer.both n) n halves.across halves.down from r q)) part.depth
-          ∙ ap (g.W.Writer.written d) (both_moved (g.W.Writer.both d) d halves.across halves.down from whole start 0 part.samples r q
-          ∙ ap (λ n. both_ways (g.W.Writer.both d) d halves.across halves.down whole n (start + q)) (let z : 0 + r ≡ r = omega arith in z)));
+          (λ r q v k l. ap (λ n. g.W.Writer.written n (both_ways (g.W.Writer.roundings n).both n halves.across halves.down from r q)) part.depth
+          ∙ ap (g.W.Writer.written d) (both_moved (g.W.Writer.roundings d).both d halves.across halves.down from whole start 0 part.samples r q
+          ∙ ap (λ n. both_ways (g.W.Writer.roundings d).both d halves.across halves.down whole n (start + q)) (let z : 0 + r ≡ r = omega arith in z)));
     }

@@ -9,7 +9,7 @@ invariant-loop-start g l = record {
   painted : l.target ≡ paint l.stride (corner l.block.area l.start l.block.area.height)
       (λ r c _.
       g.W.Writer.written l.block.bit_depth
-      (both_ways (g.W.Writer.both l.block.bit_depth) l.block.bit_depth l.halves.across l.halves.down (sample_of g.T.Pixel.num l.block) r c))
+      (both_ways (g.W.Writer.roundings l.block.bit_depth).both l.block.bit_depth l.halves.across l.halves.down (sample_of g.T.Pixel.num l.block) r c))
       l.initial.target;
 }
 

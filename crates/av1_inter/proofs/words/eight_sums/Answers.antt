@@ -1,5 +1,4 @@
 use Rattle.std.proofs.Common.{arith, ◌≡◌, ◌∙◌, ◌+◌, ◌*◌, ◌<◌, ℕ, ap, pos, map, slice_index}
-use Rattle.av1_inter.specs.Motion.{entry}
 use Rattle.av1_inter.proofs.EightSums.{four_products}
 use Rattle.av1_inter.proofs.words.eight_sums.Goals as goal
 

@@ -1,4 +1,4 @@
-use Rattle.std.proofs.Common.{arith, rules, ap, ◌≡◌, ◌∙◌, ◌+◌, ◌%◌, ◌<◌, ◌*ℤ◌, ◌+ℤ◌, ℕ, ℤ, length}
+use Rattle.std.proofs.Common.{arith, rules, ap, ◌≡◌, ◌∙◌, ◌+◌, ◌%◌, ◌<◌, ◌*ℤ◌, ◌+ℤ◌, ℕ, length}
 use Rattle.av1_inter.specs.Motion.{entry}
 use Rattle.av1_inter.proofs.EightSums.{few_within, next_within, pair_wide, pair_within}
 use Rattle.av1_inter.proofs.Halves.{half_read_between, half_weight_between}
