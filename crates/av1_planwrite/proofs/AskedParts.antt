@@ -7,7 +7,7 @@ use Rattle.av1_blocks.specs.declared.partition.BlockSize.TheVariants.{BLOCK_4X4}
 use Rattle.av1_plan.specs.declared.header.Header.{Header}
 use Rattle.av1_plan.specs.Format.{Format, ◌>>=◌, lone, nothing, ◌++>◌, in_turn}
 use Rattle.av1_plan.specs.Geometry.{is_inside}
-use Rattle.av1_plan.specs.Grammar.{half_side, quarter_side, whole_size, part_size, part, mark, wide_stripes, tall_stripes, parts, block, superblock_row}
+use Rattle.av1_plan.specs.Grammar.{half_side, quarter_side, whole_size, part_size, leaf_part, mark, wide_stripes, tall_stripes, parts, block, superblock_row}
 use Rattle.av1_plan.specs.Grammar.{superblocks}
 use Rattle.av1_plan.specs.Grammar as grammar
 use Rattle.av1_plan.specs.Plan.{LeafValue}
@@ -27,8 +27,9 @@ module _ (h : Header) where
   where_inside true f p others e = ap (λ (g : Leaves). g ++> parts_format h others) e
   where_inside false f p others e = sym (nothing_before (parts_format h others))
 
-  leaf_asked : (size : BlockSize) (x y : ℕ) (others : List Part) → parts_format h (leaf_before h size x y others) ≡ part h size x y ++> parts_format h others
-  unfolding part part_format
+  leaf_asked : (size : BlockSize) (x y : ℕ) (others : List Part) →
+      parts_format h (leaf_before h size x y others) ≡ leaf_part h size x y ++> parts_format h others
+  unfolding leaf_part part_format
   leaf_asked size x y others = where_inside (is_inside h x y) (lone (grammar.leaf h size x y)) (Leaf size x y) others refl
 
   pub node_asked : (k x y : ℕ) → part_format h (Node (suc k) x y) ≡ (mark h (suc k) x y >>= parts h (suc k) (block h k) x y)

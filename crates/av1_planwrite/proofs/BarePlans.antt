@@ -14,7 +14,7 @@ use Rattle.av1_plan.specs.Format.{two, any, Format, done, ◌>>=◌, lone, nothi
 use Rattle.av1_plan.specs.Geometry.{is_inside, carries_chroma}
 use Rattle.av1_plan.specs.Grammar.{leaf_kind, tx_size, tx_type, uv_type, triple, triples, chroma_triples, leaf, leaf_part, mark, wide_stripes, tall_stripes}
 use Rattle.av1_plan.specs.Grammar.{parts}
-use Rattle.av1_plan.specs.Grammar.{block, superblock_row, superblocks, header, references, plan}
+use Rattle.av1_plan.specs.Grammar.{block, superblock_row, superblocks, header, references, plan, plan_behind}
 use Rattle.av1_plan.specs.Plan.{LeafValue, PlanValue}
 use Rattle.av1_plan.specs.Spelling.{IsSpelled, AreText, text}
 use Rattle.av1_plan.specs.Validity.{has_block_size, has_transforms, has_modes, has_vectors, has_references, has_coefficients, has_plane_coefficients}
