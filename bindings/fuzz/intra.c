@@ -124,9 +124,9 @@ static uint32_t prepare(numbers edge, const asked *q) {
                 : av1_intra_edge_8(edge.at, edge.count, q->samples.at, q->samples.count, &q->plane, &q->block);
 }
 
-/* The status of the numbers that are no places. */
-static uint32_t of_names(const av1_edge_block *b, bool any) {
-    if (b->mode > 13 && !(any && b->mode == AV1_ANY_MODE)) return AV1_BAD_MODE;
+/* The status of the numbers that are no places, as an edge is prepared. */
+static uint32_t of_names(const av1_edge_block *b) {
+    if (b->mode > 13 && b->mode != AV1_ANY_MODE) return AV1_BAD_MODE;
     if (b->tx_size >= 19 || b->block_size >= 22) return AV1_BAD_SIZE;
     if (b->mode != AV1_ANY_MODE && !is_turn(b->mode, b->angle_step)) return AV1_BAD_ANGLE;
     return is_depth_here(b->bit_depth) ? AV1_DONE : AV1_BAD_DEPTH;
@@ -140,7 +140,7 @@ static void edge_alone(void) {
     asked q = ask(), told;
     memcpy(&told, &q, sizeof q);
     numbers edge = lay_filled(one_in(16) ? below(300) : AV1_EDGE_SAMPLES + (one_in(4) ? below(40) : 0), wide ? 2 : 1, wide ? 65535 : 255);
-    uint32_t status = prepare(edge, &q), names = of_names(&q.block, true);
+    uint32_t status = prepare(edge, &q), names = of_names(&q.block);
     came_up(2 + wide, q.block.mode * 7 + (q.block.angle_step + 3), q.block.tx_size + 19 * (q.block.block_size % 8), status);
     answered(status, 0 OR(DONE) OR(ROOM_TOO_SMALL) OR(BAD_MODE) OR(BAD_SIZE) OR(BAD_ANGLE) OR(BAD_DEPTH) OR(BAD_AREA));
     CHECK((status == AV1_ROOM_TOO_SMALL) == (edge.count < AV1_EDGE_SAMPLES));
@@ -183,10 +183,12 @@ static void in_plane(void) {
     int16_t alpha = one_in(4) ? (int16_t)bytes(2) : (int16_t)below(33) - 16;
     uint32_t status = wide ? av1_predict_in_plane_16(q.samples.at, q.samples.count, &q.plane, &q.block, smooth, ac.at, ac.count, alpha)
                            : av1_predict_in_plane_8(q.samples.at, q.samples.count, &q.plane, &q.block, smooth, ac.at, ac.count, alpha);
-    uint32_t names = of_names(&q.block, false);
+    uint32_t names = of_names(&q.block);
     came_up(4 + wide, q.block.mode * 7 + (q.block.angle_step + 3), q.block.tx_size + 19 * (q.block.block_size % 8), status);
     answered(status, 0 OR(DONE) OR(BAD_MODE) OR(BAD_SIZE) OR(BAD_ANGLE) OR(BAD_DEPTH) OR(BAD_AREA) OR(TOO_SHORT));
-    CHECK(names ? status == names : status == AV1_DONE || status == AV1_BAD_AREA || status == AV1_TOO_SHORT);
+    /* The edge is prepared first, for which AV1_ANY_MODE is a mode. */
+    uint32_t last = q.block.mode == AV1_ANY_MODE ? AV1_BAD_MODE : AV1_DONE;
+    CHECK(names ? status == names : status == last || status == AV1_BAD_AREA || status == AV1_TOO_SHORT);
     if (status == AV1_TOO_SHORT) CHECK(q.block.mode == AV1_FROM_LUMA && ac.count < needed);
     all_kept(ac), unchanged(&q, &told);
     if (status != AV1_DONE) {

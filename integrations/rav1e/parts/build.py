@@ -82,6 +82,12 @@ def encoder_on_library(archive, crate, source=SOURCE, assembly=False):
     return built(os.path.join(OUT, "library"), source, assembly, made, apply, {"AV1_C_FOLDER": os.path.dirname(os.path.abspath(archive))})
 
 
+def stamp_of(program):
+    """What a built encoder was made of."""
+    with open(os.path.join(os.path.dirname(program), "../../stamp"), encoding="utf-8") as file:
+        return file.read()
+
+
 def built(out, source, assembly, made, apply, variables):
     """The path of an encoder, built in the folder `out` where it isn't there yet or what it is made of has changed."""
     if assembly:
