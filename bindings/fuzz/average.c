@@ -41,7 +41,8 @@ int LLVMFuzzerTestOneInput(const uint8_t *data, size_t length) {
         return 0;
     }
     only_inside(samples, to, (1u << bits) - 1);
-    if (wide) return 0;
+    if (wide || samples.count > SLOT / 4) return 0;
+    /* Samples of 16 bits become the same at a depth of 8. */
     numbers other = lay(samples.count, 2);
     bits = 8;
     CHECK(average(other, first, second) == AV1_DONE);

@@ -38,8 +38,9 @@ static size_t below(size_t count) {
     return count <= 1 ? 0 : bytes(count <= 256 ? 1 : count <= 65536 ? 2 : 4) % count;
 }
 
+/* Not where the bytes have run out, so that what comes then is plain. */
 static bool one_in(size_t count) {
-    return below(256) < 256 / count;
+    return below(256) >= 256 - 256 / count;
 }
 
 /* Any number, mostly one at which sums and products wrap. */
