@@ -50,7 +50,7 @@ static uint32_t leaf(void) {
     uint32_t status = AV1_NOT_ADMITTED;
     /* A leaf carries chroma or not: one of both is admitted. */
     for (int turn = 0; turn < 2 && status == AV1_NOT_ADMITTED; turn++) {
-        if (turn == 1) given.chroma = 0, given.chroma_mode = given.uv_type = 0, given.chroma_step = given.alpha_u = given.alpha_v = 0, counts[1] = counts[2] = 0;
+        if (turn == 1) given = without_chroma(given), counts[1] = counts[2] = 0;
         memcpy(&told, &given, sizeof told);
         status = av1_builder_leaf(&builder, room.at, told_room(), &given, values[0], counts[0], values[1], counts[1], values[2], counts[2]);
         appended(3, status, 0 OR(DONE) OR(NOT_NOW) OR(NOT_ADMITTED) OR(TOO_LONG) OR(ROOM_TOO_SMALL) OR(BAD_STATE));
@@ -86,9 +86,8 @@ static void reconstruct(size_t len) {
     all_kept(room);
 }
 
-int LLVMFuzzerTestOneInput(const uint8_t *data, size_t length) {
-    begin(data, length);
-    spoiled = false;
+/* The header, behind planes and a room that go with it. */
+static uint32_t begun(void) {
     av1_plan_header header = drawn_header(), told;
     memcpy(&told, &header, sizeof told);
     size_t samples[3], held = __builtin_popcount(header.mask), all = 0;
@@ -102,30 +101,33 @@ int LLVMFuzzerTestOneInput(const uint8_t *data, size_t length) {
     before = builder;
     uint32_t status = av1_builder_begin(&header, &builder, room.at, room.count);
     CHECK(!memcmp(&header, &told, sizeof told));
-    before.written = 0;
-    if (status == AV1_DONE) {
-        CHECK(builder.written == 20);
-        appended(0, status, 0 OR(DONE));
-    } else {
-        answered(status, 0 OR(NOT_ADMITTED) OR(ROOM_TOO_SMALL));
-        all_kept(room);
-        return 0;
-    }
+    before.written = status == AV1_DONE ? 0 : before.written;
+    appended(0, status, 0 OR(DONE) OR(NOT_ADMITTED) OR(ROOM_TOO_SMALL));
+    CHECK(status != AV1_DONE || builder.written == 20);
+    return status;
+}
+
+/* Whether the plan has all its fields: it is reconstructed then. */
+static bool is_finished(void) {
+    size_t len = 77;
+    before = builder;
+    uint32_t status = av1_builder_finish(&builder, room.at, room.count, &len);
+    came_up(4, 0, 0, status);
+    answered(status, 0 OR(DONE) OR(NOT_NOW) OR(BAD_STATE));
+    CHECK(!memcmp(&builder, &before, sizeof builder));
+    CHECK(spoiled || status != AV1_BAD_STATE);
+    CHECK(status == AV1_DONE ? len == builder.written && len <= room.count : len == 77);
+    if (status == AV1_DONE) reconstruct(len);
+    return status == AV1_DONE;
+}
+
+int LLVMFuzzerTestOneInput(const uint8_t *data, size_t length) {
+    begin(data, length);
+    spoiled = false;
+    if (begun() != AV1_DONE) return 0;
     for (int i = 0; i < MOST_FIELDS; i++) {
-        size_t len = 77;
         if (one_in(200)) spoil();
-        before = builder;
-        status = av1_builder_finish(&builder, room.at, room.count, &len);
-        came_up(4, 0, 0, status);
-        answered(status, 0 OR(DONE) OR(NOT_NOW) OR(BAD_STATE));
-        CHECK(!memcmp(&builder, &before, sizeof builder));
-        CHECK(spoiled || status != AV1_BAD_STATE);
-        CHECK(status == AV1_DONE ? len == builder.written && len <= room.count : len == 77);
-        if (status == AV1_DONE) {
-            reconstruct(len);
-            return 0;
-        }
-        if (field() == AV1_ROOM_TOO_SMALL && one_in(2)) return 0;
+        if (is_finished() || (field() == AV1_ROOM_TOO_SMALL && one_in(2))) break;
     }
     return 0;
 }

@@ -69,8 +69,7 @@ static size_t build(uint8_t *room, size_t room_len) {
     for (int i = 0; i < 700 && av1_builder_finish(&builder, room, room_len, &len) != AV1_DONE; i++) {
         av1_coefficient values[3][6];
         size_t counts[3] = {drawn_coefficients(values[0], 6), drawn_coefficients(values[1], 6), drawn_coefficients(values[2], 6)};
-        av1_leaf leaf = drawn_leaf(&builder, asked_size(&builder)), bare = leaf;
-        bare.chroma = 0, bare.chroma_mode = bare.uv_type = 0, bare.chroma_step = bare.alpha_u = bare.alpha_v = 0;
+        av1_leaf leaf = drawn_leaf(&builder, asked_size(&builder)), bare = without_chroma(leaf);
         uint8_t mark = below(4);
         if (builder.count && builder.parts[builder.count - 1].kind == 0) {
             if (av1_builder_leaf(&builder, room, room_len, &leaf, values[0], counts[0], values[1], counts[1], values[2], counts[2]) != AV1_DONE)
@@ -98,42 +97,51 @@ static numbers drawn_plan(void) {
     return keep(plan), plan;
 }
 
-int LLVMFuzzerTestOneInput(const uint8_t *data, size_t length) {
-    begin(data, length);
-    guarded = one_in(4);
-    long give = one_in(4) ? (long)below(60) : -1;
-    numbers plan = drawn_plan();
-    size_t wanted = 77, written = 77;
+/* How many bytes a plan's planes have, or SIZE_MAX where its header is refused. */
+static size_t planes_of(numbers plan) {
+    size_t wanted = SIZE_MAX;
     av1_refusal refusal = {7, 8, 9};
     left_to_give = -1, kept = 0;
     uint32_t status = av1_planes_len(plan.at, plan.count, &wanted, &refusal);
     came_up(0, 0, 0, status);
     answered(status, 0 OR(DONE) OR(TOO_LONG) OR(MALFORMED));
     CHECK(kept == 0);
-    CHECK(status == AV1_DONE ? refusal.at == 7 : wanted == 77 && refusal.at < 20 && refusal.leaf == 0 && refusal.kind == 0);
-    if (status == AV1_DONE && wanted > SLOT / 2) return 0; /* a large frame takes too long to be tried often */
-    bool is_header = status == AV1_DONE;
-    size_t enough = is_header ? wanted : 100;
+    CHECK(status == AV1_DONE ? refusal.at == 7 : wanted == SIZE_MAX && refusal.at < 20 && refusal.leaf == 0 && refusal.kind == 0);
+    all_kept(plan);
+    return wanted;
+}
+
+/* What a refused plan is told of. */
+static void told(uint32_t status, av1_refusal refusal, size_t len) {
+    if (status == AV1_MALFORMED) CHECK(refusal.at <= len && refusal.leaf == 0 && refusal.kind == 0);
+    else if (status == AV1_INVALID) CHECK(refusal.at == 0 && 1 <= refusal.kind && refusal.kind <= 6);
+    else CHECK(refusal.at == 7 && refusal.leaf == 8 && refusal.kind == 9);
+}
+
+int LLVMFuzzerTestOneInput(const uint8_t *data, size_t length) {
+    begin(data, length);
+    guarded = one_in(4);
+    long give = one_in(4) ? (long)below(60) : -1;
+    numbers plan = drawn_plan();
+    size_t wanted = planes_of(plan), written = 77, enough = wanted == SIZE_MAX ? 100 : wanted;
+    if (enough > SLOT / 2) return 0; /* a large frame takes too long to be tried often */
     numbers room = lay_filled(one_in(8) ? below(enough + 1) : enough + (one_in(4) ? below(40) : 0), 1, 255);
-    refusal = (av1_refusal){7, 8, 9};
+    av1_refusal refusal = {7, 8, 9};
     left_to_give = give;
-    status = av1_reconstruct_plan(plan.at, plan.count, room.at, room.count, &written, &refusal);
+    uint32_t status = av1_reconstruct_plan(plan.at, plan.count, room.at, room.count, &written, &refusal);
     came_up(1, refusal.kind, refusal.leaf, status);
     answered(status, 0 OR(DONE) OR(OUT_OF_MEMORY) OR(ROOM_TOO_SMALL) OR(TOO_LONG) OR(MALFORMED) OR(INVALID));
     CHECK(kept == 0);
-    all_kept(plan);
-    if (!is_header) CHECK(status == AV1_MALFORMED || status == AV1_OUT_OF_MEMORY);
+    all_kept(plan), told(status, refusal, plan.count);
+    if (wanted == SIZE_MAX) CHECK(status == AV1_MALFORMED || status == AV1_OUT_OF_MEMORY);
     if (status == AV1_OUT_OF_MEMORY) CHECK(give >= 0);
     if (status == AV1_ROOM_TOO_SMALL) CHECK(room.count < wanted);
-    if (status != AV1_MALFORMED && status != AV1_INVALID) CHECK(refusal.at == 7 && refusal.leaf == 8 && refusal.kind == 9);
-    if (status == AV1_MALFORMED) CHECK(refusal.at <= plan.count && refusal.leaf == 0 && refusal.kind == 0);
-    if (status == AV1_INVALID) CHECK(refusal.at == 0 && 1 <= refusal.kind && refusal.kind <= 6);
-    if (status != AV1_DONE) {
+    if (status == AV1_DONE) {
+        CHECK(written == wanted);
+        kept_behind(room, written);
+    } else {
         CHECK(written == 77);
         all_kept(room);
-        return 0;
     }
-    CHECK(written == wanted && written <= room.count);
-    kept_behind(room, written);
     return 0;
 }

@@ -41,6 +41,11 @@ static av1_leaf drawn_leaf(const av1_builder *builder, uint8_t size) {
     return leaf;
 }
 
+static av1_leaf without_chroma(av1_leaf leaf) {
+    leaf.chroma = leaf.chroma_mode = leaf.uv_type = 0, leaf.chroma_step = leaf.alpha_u = leaf.alpha_v = 0;
+    return leaf;
+}
+
 /* Few coefficients, mostly in order. */
 static size_t drawn_coefficients(av1_coefficient *to, size_t most) {
     size_t count = one_in(2) ? 0 : below(most + 1), place = 0;
