@@ -1,11 +1,11 @@
-"""Builds the recorder: rav1e 0.5.1 as Debian 12 packages it, edited, in integrations/rav1e/out."""
+"""Builds the recorder: rav1e 0.5.1 as Debian 12 packages it, edited, in integrations/rav1e/out; with the library, in out/library."""
 import hashlib
 import os
 import shutil
 import subprocess
 import sys
 
-from . import edits
+from . import edits, library
 
 HOME = os.path.dirname(edits.HERE)
 OUT = os.path.join(HOME, "out")
@@ -48,38 +48,71 @@ def need(programs, source=None):
         sys.exit(3)
 
 
-def digest(source):
-    """What the build is made of: the edits, the modules, and where the source is."""
-    total = hashlib.sha256(os.path.abspath(source).encode())
-    for name in ("edits.py", *(module + ".rs" for module in edits.MODULES)):
-        with open(os.path.join(edits.HERE, name), "rb") as file:
+def digest(source, features, made):
+    """What a build is made of: where its source is, its features, and the files that change it."""
+    total = hashlib.sha256(f"{os.path.abspath(source)} {features}".encode())
+    for path in made:
+        with open(path, "rb") as file:
             total.update(file.read())
     return total.hexdigest()
 
 
-def encoder(source=SOURCE):
-    """The path of the recorder, built where it isn't there yet or what it is made of has changed."""
-    program = os.path.join(OUT, "target/release/rav1e")
-    stamp = os.path.join(OUT, "stamp")
-    made = digest(source)
+def parts_of(names):
+    return [os.path.join(edits.HERE, name) for name in names]
+
+
+def recorder_parts():
+    return parts_of(("edits.py", *(module + ".rs" for module in edits.MODULES)))
+
+
+def encoder(source=SOURCE, assembly=False):
+    """The path of the recorder; with `assembly` that has rav1e's assembler in it."""
+    return built(OUT, source, assembly, recorder_parts(), edits.apply, {})
+
+
+def encoder_on_library(archive, crate, source=SOURCE, assembly=False):
+    """The path of the recorder whose block operations are those of the archive `libav1_c.a`, called by the crate."""
+    names = sorted(os.listdir(os.path.join(crate, "src")))
+    made = [*recorder_parts(), *parts_of(("library.py", library.MODULE)), *(os.path.join(crate, "src", name) for name in names), archive]
+
+    def apply(copy):
+        edits.apply(copy)
+        library.apply(copy, crate)
+
+    return built(os.path.join(OUT, "library"), source, assembly, made, apply, {"AV1_C_FOLDER": os.path.dirname(os.path.abspath(archive))})
+
+
+def stamp_of(program):
+    """What a built encoder was made of."""
+    with open(os.path.join(os.path.dirname(program), "../../stamp"), encoding="utf-8") as file:
+        return file.read()
+
+
+def built(out, source, assembly, made, apply, variables):
+    """The path of an encoder, built in the folder `out` where it isn't there yet or what it is made of has changed."""
+    if assembly:
+        out = os.path.join(out, "assembly")
+    features = "binaries,asm" if assembly else "binaries"
+    program, stamp = os.path.join(out, "target/release/rav1e"), os.path.join(out, "stamp")
+    told = digest(source, features, made)
     if os.path.isfile(program) and os.path.isfile(stamp):
         with open(stamp, encoding="utf-8") as file:
-            if file.read() == made:
+            if file.read() == told:
                 return program
     need([], source)
-    crate = os.path.join(OUT, "rav1e")
+    crate = os.path.join(out, "rav1e")
     shutil.rmtree(crate, ignore_errors=True)
     shutil.copytree(source, crate)
-    edits.apply(crate)
+    apply(crate)
     os.makedirs(os.path.join(crate, ".cargo"), exist_ok=True)
     with open(os.path.join(crate, ".cargo/config.toml"), "w", encoding="utf-8") as file:
         file.write(CONFIG)
-    environment = {**os.environ, "RUSTFLAGS": "--cap-lints allow", "CARGO_TARGET_DIR": os.path.join(OUT, "target")}
+    environment = {**os.environ, **variables, "RUSTFLAGS": "--cap-lints allow", "CARGO_TARGET_DIR": os.path.join(out, "target")}
     words = ["cargo", "build", "--release", "--offline", "--quiet", "-j", os.environ.get("RECORD_JOBS", "2"),
-             "--no-default-features", "--features", "binaries"]
-    print("building the recorder (some minutes, once)", file=sys.stderr)
+             "--no-default-features", "--features", features]
+    print("building an encoder (some minutes, once)", file=sys.stderr)
     if subprocess.run(words, cwd=crate, env=environment).returncode:
-        sys.exit("the recorder didn't build")
+        sys.exit("the encoder didn't build")
     with open(stamp, "w", encoding="utf-8") as file:
-        file.write(made)
+        file.write(told)
     return program

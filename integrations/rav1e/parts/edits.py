@@ -40,17 +40,28 @@ class Edit:
             sys.exit(f"this isn't rav1e 0.5.1: {self.what}: {self.file} has {old!r} {found} times, not {wanted}")
 
 
+class Pattern(Edit):
+    """An edit of what a pattern matches."""
+
+    def apply(self, text):
+        text, found = re.subn(self.old, self.new, text)
+        self.expect(found, self.count, self.old)
+        return text
+
+
 # A present compiler has a method `ilog` of its own: the crate's is named in full.
-ILOG = [
-    ("src/deblock.rs", r"([\w.\[\]]+)\.ilog\(\)", 2),
-    ("src/transform/mod.rs", r"(col|row)\.ilog\(\)", 2),
-    ("src/transform/inverse.rs", r"(width|height)\.ilog\(\)", 2),
-    ("src/me.rs", r"(d\.abs\(\))\.ilog\(\)", 1),
-    (ENCODER, r"(max_len)\.ilog\(\)", 1),
-    ("src/ec.rs", r"(\br)\.ilog\(\)", 4),
-    ("src/lrf.rs", r"(\w+)\.ilog\(\)", 2),
-    ("src/rate.rs", r"(\bw)\.ilog\(\)", 1),
-]
+ILOG = [Pattern("ilog", file, pattern + r"\.ilog\(\)", r"crate::util::ILog::ilog(\1)", count) for file, pattern, count in (
+    ("src/deblock.rs", r"([\w.\[\]]+)", 2),
+    ("src/transform/mod.rs", r"(col|row)", 2),
+    ("src/transform/inverse.rs", r"(width|height)", 2),
+    ("src/me.rs", r"(d\.abs\(\))", 1),
+    (ENCODER, r"(max_len)", 1),
+    ("src/ec.rs", r"(\br)", 4),
+    ("src/lrf.rs", r"(\w+)", 2),
+    ("src/rate.rs", r"(\bw)", 1),
+)]
+
+TESTS = Pattern("what only the tests need", "Cargo.toml", r"(?m)^\[dev-dependencies[^\n]*\n(?:(?!\[)[^\n]*\n)*", "", 6)
 
 BUILD = [
     Edit("a profile that builds soon", "Cargo.toml", 'lto = "thin"\ndebug = true\nincremental = true',
@@ -169,33 +180,21 @@ RECORDING = [
 EDITS = [*BUILD, *SETTINGS, *SEARCH, *BITS, *DRAWING, *RECORDING]
 
 
-def without_tests(text):
-    """Cargo.toml without what only the tests need."""
-    text, count = re.subn(r"(?m)^\[dev-dependencies[^\n]*\n(?:(?!\[)[^\n]*\n)*", "", text)
-    if count != 6:
-        sys.exit(f"this isn't rav1e 0.5.1: Cargo.toml has {count} dependencies of tests, not 6")
-    return text
-
-
 def apply(crate):
-    """Edits the copy in the folder `crate`; ends the program where an edit doesn't apply as often as it must."""
+    """Makes a copy in the folder `crate` the recorder; ends the program where an edit doesn't apply as often as it must."""
+    apply_all(crate, [TESTS, *ILOG, *EDITS])
+    for module in MODULES:
+        shutil.copy(os.path.join(HERE, module + ".rs"), os.path.join(crate, "src", module + ".rs"))
+
+
+def apply_all(crate, edits):
+    """Applies edits in turn to the source in the folder `crate`."""
     texts = {}
-
-    def text(name):
-        if name not in texts:
-            with open(os.path.join(crate, name), encoding="utf-8") as file:
-                texts[name] = file.read()
-        return texts[name]
-
-    texts["Cargo.toml"] = without_tests(text("Cargo.toml"))
-    for name, pattern, wanted in ILOG:
-        texts[name], count = re.subn(pattern, r"crate::util::ILog::ilog(\1)", text(name))
-        if count != wanted:
-            sys.exit(f"this isn't rav1e 0.5.1: {name} has ilog {count} times, not {wanted}")
-    for edit in EDITS:
-        texts[edit.file] = edit.apply(text(edit.file))
+    for edit in edits:
+        if edit.file not in texts:
+            with open(os.path.join(crate, edit.file), encoding="utf-8") as file:
+                texts[edit.file] = file.read()
+        texts[edit.file] = edit.apply(texts[edit.file])
     for name, changed in texts.items():
         with open(os.path.join(crate, name), "w", encoding="utf-8") as file:
             file.write(changed)
-    for module in MODULES:
-        shutil.copy(os.path.join(HERE, module + ".rs"), os.path.join(crate, "src", module + ".rs"))

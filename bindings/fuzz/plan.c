@@ -1,0 +1,147 @@
+/* Whole plans: av1_planes_len and av1_reconstruct_plan, on the fuzzer's bytes, and on plans that a builder made and some of whose bytes were changed.
+ * The library takes memory by the functions here: now and then an allocation fails, and now and then each lies flush with a page that no one may touch. */
+#include "plans.h"
+
+struct tried { bool ok; void *p; };
+
+static char nothing;
+static bool guarded;
+static long left_to_give, kept;
+
+/* The allocations between guards, of which few are kept at a time. */
+static struct { uint8_t *map, *at; size_t size, pages; } given[256];
+
+static void *guard(size_t size, size_t align) {
+    size_t pages = (size + PAGE - 1) / PAGE + 2;
+    for (size_t i = 0; i < 256; i++) {
+        if (given[i].map) continue;
+        given[i].map = mmap(NULL, pages * PAGE, PROT_READ | PROT_WRITE, MAP_PRIVATE | MAP_ANONYMOUS, -1, 0);
+        CHECK(given[i].map != MAP_FAILED);
+        CHECK(mprotect(given[i].map, PAGE, PROT_NONE) == 0 && mprotect(given[i].map + (pages - 1) * PAGE, PAGE, PROT_NONE) == 0);
+        given[i].size = size, given[i].pages = pages;
+        return given[i].at = given[i].map + (pages - 1) * PAGE - (size + align - 1) / align * align;
+    }
+    return malloc(size);
+}
+
+struct tried rattle_alloc(size_t n, size_t align) {
+    void *p = left_to_give-- == 0 ? NULL : guarded ? guard(n ? n : align, align) : malloc(n ? n : align);
+    kept += p != NULL;
+    return (struct tried){p != NULL, p ? p : &nothing};
+}
+
+void rattle_dealloc(void *p) {
+    kept--;
+    for (size_t i = 0; i < 256; i++)
+        if (given[i].map && given[i].at == p) {
+            CHECK(munmap(given[i].map, given[i].pages * PAGE) == 0);
+            given[i].map = NULL;
+            return;
+        }
+    free(p);
+}
+
+struct tried rattle_realloc(void *old, size_t used, size_t n, size_t align) {
+    if (!guarded) {
+        void *p = left_to_give-- == 0 ? NULL : realloc(old, n ? n : align);
+        return (struct tried){p != NULL, p ? p : &nothing};
+    }
+    struct tried made = rattle_alloc(n, align);
+    if (made.ok) {
+        memcpy(made.p, old, used < n ? used : n);
+        rattle_dealloc(old);
+    }
+    return made;
+}
+
+/* A plan by a builder, whose calls are looked at by another target. */
+static size_t build(uint8_t *room, size_t room_len) {
+    static uint16_t flat[72 * 72];
+    av1_plan_header header = drawn_header();
+    av1_builder builder;
+    size_t samples[3], len;
+    plane_samples(&header, samples);
+    for (size_t i = 0, start = byte(); i < 72 * 72; i++) flat[i] = (start + i * 7) & 255;
+    if (av1_builder_begin(&header, &builder, room, room_len) != AV1_DONE) return 0;
+    if (samples[0] > 72 * 72) return builder.written;
+    while (builder.slot < 8)
+        if (av1_builder_reference(&builder, room, room_len, flat, samples[0], flat, samples[1], flat, samples[2]) != AV1_DONE) return builder.written;
+    for (int i = 0; i < 700 && av1_builder_finish(&builder, room, room_len, &len) != AV1_DONE; i++) {
+        av1_coefficient values[3][6];
+        size_t counts[3] = {drawn_coefficients(values[0], 6), drawn_coefficients(values[1], 6), drawn_coefficients(values[2], 6)};
+        av1_leaf leaf = drawn_leaf(&builder, asked_size(&builder)), bare = without_chroma(leaf);
+        uint8_t mark = below(4);
+        if (builder.count && builder.parts[builder.count - 1].kind == 0) {
+            if (av1_builder_leaf(&builder, room, room_len, &leaf, values[0], counts[0], values[1], counts[1], values[2], counts[2]) != AV1_DONE)
+                av1_builder_leaf(&builder, room, room_len, &bare, values[0], counts[0], NULL, 0, NULL, 0);
+        } else if (av1_builder_mark(&builder, room, room_len, mark) != AV1_DONE) {
+            av1_builder_mark(&builder, room, room_len, 3);
+        }
+    }
+    return builder.written;
+}
+
+static numbers drawn_plan(void) {
+    static uint8_t room[SLOT / 2];
+    if (one_in(8)) {
+        numbers raw = lay(input_end - input, 1);
+        for (size_t i = 0; i < raw.count; i++) set(raw, i, byte());
+        return keep(raw), raw;
+    }
+    size_t len = build(room, sizeof room), changed = one_in(2) ? 0 : 1 + below(3);
+    while (changed-- && len) room[below(one_in(2) && len > 40 ? 40 : len)] = byte();
+    if (one_in(16)) len -= below(len < 30 ? len + 1 : 30);
+    if (one_in(16) && len < sizeof room) room[len++] = byte();
+    numbers plan = lay(len, 1);
+    if (plan.count) memcpy(plan.at, room, plan.count);
+    return keep(plan), plan;
+}
+
+/* How many bytes a plan's planes have, or SIZE_MAX where its header is refused. */
+static size_t planes_of(numbers plan) {
+    size_t wanted = SIZE_MAX;
+    av1_refusal refusal = {7, 8, 9};
+    left_to_give = -1, kept = 0;
+    uint32_t status = av1_planes_len(plan.at, plan.count, &wanted, &refusal);
+    came_up(0, 0, 0, status);
+    answered(status, 0 OR(DONE) OR(TOO_LONG) OR(MALFORMED));
+    CHECK(kept == 0);
+    CHECK(status == AV1_DONE ? refusal.at == 7 : wanted == SIZE_MAX && refusal.at < 20 && refusal.leaf == 0 && refusal.kind == 0);
+    all_kept(plan);
+    return wanted;
+}
+
+/* What a refused plan is told of. */
+static void told(uint32_t status, av1_refusal refusal, size_t len) {
+    if (status == AV1_MALFORMED) CHECK(refusal.at <= len && refusal.leaf == 0 && refusal.kind == 0);
+    else if (status == AV1_INVALID) CHECK(refusal.at == 0 && 1 <= refusal.kind && refusal.kind <= 6);
+    else CHECK(refusal.at == 7 && refusal.leaf == 8 && refusal.kind == 9);
+}
+
+int LLVMFuzzerTestOneInput(const uint8_t *data, size_t length) {
+    begin(data, length);
+    guarded = one_in(4);
+    long give = one_in(4) ? (long)below(60) : -1;
+    numbers plan = drawn_plan();
+    size_t wanted = planes_of(plan), written = 77, enough = wanted == SIZE_MAX ? 100 : wanted;
+    if (enough > SLOT / 2) return 0; /* a large frame takes too long to be tried often */
+    numbers room = lay_filled(one_in(8) ? below(enough + 1) : enough + (one_in(4) ? below(40) : 0), 1, 255);
+    av1_refusal refusal = {7, 8, 9};
+    left_to_give = give;
+    uint32_t status = av1_reconstruct_plan(plan.at, plan.count, room.at, room.count, &written, &refusal);
+    came_up(1, refusal.kind, refusal.leaf, status);
+    answered(status, 0 OR(DONE) OR(OUT_OF_MEMORY) OR(ROOM_TOO_SMALL) OR(TOO_LONG) OR(MALFORMED) OR(INVALID));
+    CHECK(kept == 0);
+    all_kept(plan), told(status, refusal, plan.count);
+    if (wanted == SIZE_MAX) CHECK(status == AV1_MALFORMED || status == AV1_OUT_OF_MEMORY);
+    if (status == AV1_OUT_OF_MEMORY) CHECK(give >= 0);
+    if (status == AV1_ROOM_TOO_SMALL) CHECK(room.count < wanted);
+    if (status == AV1_DONE) {
+        CHECK(written == wanted);
+        kept_behind(room, written);
+    } else {
+        CHECK(written == 77);
+        all_kept(room);
+    }
+    return 0;
+}

@@ -1,0 +1,82 @@
+/* av1_inverse_transform_add_8 and _16. */
+#include "fuzz.h"
+
+static area to;
+static uint8_t size, type;
+static size_t bits;
+
+static uint32_t add(numbers scratch, numbers coefficients, numbers samples) {
+    return samples.width == 1
+        ? av1_inverse_transform_add_8(scratch.at, coefficients.at, coefficients.count, samples.at, samples.count, to.stride, to.x, to.y, size, type)
+        : av1_inverse_transform_add_16(scratch.at, coefficients.at, coefficients.count, samples.at, samples.count, to.stride, to.x, to.y, size, type,
+                                       bits);
+}
+
+/* Coefficients of at most so many bits, most of them 0 or none; now and then one is past that. */
+static void fill_coefficients(numbers made, int most) {
+    uint32_t kept = below(5), range = 1u << (one_in(2) ? most : 1 + below(most));
+    state = bytes(2) + 0x9E3779B97F4A7C15;
+    for (size_t i = 0; i < made.count; i++) {
+        int32_t value = kept == 0 ? (noise() & 1 ? range / 2 - 1 : -(range / 2)) : (int32_t)(noise() % range) - (int32_t)(range / 2);
+        set(made, i, kept == 2 && noise() % 16 ? 0 : kept == 3 && i ? 0 : kept == 4 ? 0 : value);
+    }
+    if (made.count && one_in(16)) set(made, below(made.count), made.width == 2 ? bytes(2) : bytes(4));
+    keep(made);
+}
+
+/* Whether each of the first `count` has at most so many bits, its sign among them. */
+static bool has_bits(numbers made, size_t count, size_t most) {
+    for (size_t i = 0; i < count; i++) {
+        int32_t value = get(made, i);
+        if (value >> (most - 1) != 0 && value >> (most - 1) != -1) return false;
+    }
+    return true;
+}
+
+/* Whether the size has this type: where the longer side is 64 DCT_DCT alone, where it is 32 IDTX, too, and WHT_WHT where both are 4. */
+static bool is_type(const uint8_t *sides) {
+    uint8_t longer = sides[0] > sides[1] ? sides[0] : sides[1];
+    return longer == 64 ? type == 0 : longer == 32 ? type == 0 || type == 9 : type < 16 || (type == 16 && longer == 4);
+}
+
+static uint32_t expected(numbers coefficients, numbers samples, size_t needed) {
+    if (size >= 19) return AV1_BAD_SIZE;
+    if (!is_type(transform_sides[size])) return AV1_BAD_TYPE;
+    if (!is_inside(samples, to)) return AV1_BAD_AREA;
+    if (coefficients.count < needed) return AV1_TOO_SHORT;
+    if (samples.width == 1) return AV1_DONE;
+    if (!is_depth(bits)) return AV1_BAD_DEPTH;
+    return has_bits(coefficients, needed, bits + 8) ? AV1_DONE : AV1_BAD_COEFFICIENT;
+}
+
+int LLVMFuzzerTestOneInput(const uint8_t *data, size_t length) {
+    begin(data, length);
+    bool wide = one_in(2);
+    size = number(19), type = one_in(2) ? 0 : number(17);
+    bits = wide ? one_in(40) ? wild() : depth() : 8;
+    const uint8_t *sides = transform_sides[size % 19];
+    size_t needed = (sides[0] < 32 ? sides[0] : 32) * (sides[1] < 32 ? sides[1] : 32);
+    numbers samples = lay_area(&to, sides[0], sides[1], wide ? 2 : 1);
+    fill(samples, wide ? one_in(8) ? 65535 : (1u << (is_depth(bits) ? bits : 8)) - 1 : 255);
+    numbers coefficients = lay(one_in(8) ? needed + below(64) : one_in(24) ? needed - below(needed + 1) : needed, wide ? 4 : 2);
+    fill_coefficients(coefficients, is_depth(bits) ? bits + 8 : 16);
+    numbers scratch = lay(6144, 4);
+    memset(scratch.at, byte(), 6144 * 4);
+    uint32_t status = add(scratch, coefficients, samples);
+    came_up(wide, size, type * 4 + bits, status);
+    answered(status, 0 OR(DONE) OR(BAD_SIZE) OR(BAD_TYPE) OR(BAD_AREA) OR(TOO_SHORT) | (wide ? 0 OR(BAD_DEPTH) OR(BAD_COEFFICIENT) : 0));
+    CHECK(status == expected(coefficients, samples, needed));
+    all_kept(coefficients);
+    if (status != AV1_DONE) {
+        all_kept(samples);
+        return 0;
+    }
+    only_inside(samples, to, (1u << bits) - 1);
+    /* What the scratch held plays no part. */
+    numbers again = lay(samples.count, samples.width);
+    memcpy(again.at, samples.copy, samples.count * samples.width);
+    memset(scratch.at, byte() + 77, 6144 * 4);
+    CHECK(add(scratch, coefficients, again) == AV1_DONE);
+    CHECK(!memcmp(again.at, samples.at, samples.count * samples.width));
+    return 0;
+}

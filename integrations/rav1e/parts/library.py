@@ -1,0 +1,83 @@
+"""The edits that take the block operations of a copy of rav1e 0.5.1 from the library, once `edits.py` has made it the recorder."""
+import os
+import shutil
+
+from .edits import ENCODER, HERE, Edit, apply_all
+
+MODULE = "library.rs"
+PREDICT = "src/predict.rs"
+INTERNAL = "src/api/internal.rs"
+
+
+class Cut(Edit):
+    """An edit that puts `new` in the place of all text from the anchor `old` up to the anchor `last`, which stays."""
+
+    def __init__(self, what, file, old, last, new):
+        super().__init__(what, file, old, new)
+        self.last = last
+
+    def apply(self, text):
+        self.expect(text.count(self.old), 1, self.old)
+        first = text.index(self.old)
+        last = text.find(self.last, first)
+        self.expect(int(last >= 0), 1, self.last)
+        return text[:first] + self.new + text[last:]
+
+
+def moved(at, vector):
+    """The block that rav1e's two functions of motion read."""
+    return f"crate::library::Moved {{ at: {at}, width, height, vector: {vector}, filter: mode }}"
+
+
+def of_library(what, module, name):
+    """The edits by which the function of this name is neither rav1e's in Rust nor that of its assembler, but the library's."""
+    new = f"    pub use crate::library::{name};\n" if name else ""
+    owns = "self::rust", "crate::asm::x86::" + module.replace("/", "::")
+    return [Edit(what, f"src/{module}.rs", f"    pub use {own}::*;\n", new) for own in owns]
+
+
+def edits(crate):
+    """The edits; `crate` is the folder of the library's crate for Rust."""
+    return [
+        Edit("the library's crate", "Cargo.toml", "[dependencies.aom-sys]",
+             f'[dependencies.av1_c]\npath = "{crate}"\n\n[dependencies.aom-sys]'),
+        Edit("the module", "src/lib.rs", "mod predict;\n", "mod predict;\nmod library;\n"),
+        *of_library("inverse transforms", "transform/inverse", "inverse_transform_add"),
+        *of_library("the average", "mc", "mc_avg"),
+        *of_library("predictors", "predict", ""),
+        Cut("a block from one reference", PREDICT,
+            "      let (row_frac, col_frac, src) =\n        PredictionMode::get_mv_params(&rec.frame.planes[p]", "    }\n  }\n",
+            f"      crate::library::put(rec, p, dst, {moved('frame_po', 'mv')});\n"),
+        Cut("a block from two", PREDICT, "        let (row_frac, col_frac, src) = PredictionMode::get_mv_params(", "      }\n    }\n    mc_avg(",
+            "        let values = buffer.get_buffer_mut(i);\n"
+            f"        crate::library::prepare(rec, p, values, {moved('frame_po', 'mvs[i]')});\n"),
+        Edit("references keep their planes tested", ENCODER, "  pub frame: Arc<Frame<T>>,\n",
+             "  pub frame: Arc<Frame<T>>,\n  pub tested: crate::library::TestedFrame<T>,\n"),
+        Edit("a coded frame is a reference", ENCODER, "    frame: fs.rec.clone(),\n",
+             "    frame: fs.rec.clone(),\n"
+             "    tested: crate::library::TestedFrame::new(&fs.rec, fi.sequence.bit_depth),\n"),
+        Edit("a frame that is looked ahead at is a reference", INTERNAL, "frame: fs.input.clone(),\n",
+             "frame: fs.input.clone(),\n"
+             "tested: crate::library::TestedFrame::new(&fs.input, fi.sequence.bit_depth),\n", 2),
+        Cut("prediction from prepared sides", PREDICT, "    assert!(self.is_intra());\n    let &Rect { x: frame_x",
+            "  }\n\n  #[inline]\n  pub fn is_intra(self)",
+            "    crate::library::predict_from_edge(\n"
+            "      self, tile_rect, dst, tx_size, bit_depth, ac, intra_param, ief_params, edge_buf,\n    );\n"),
+        Cut("intra edges", "src/partition.rs", "pub fn get_intra_edges<", "pub fn has_tr(",
+            "pub use crate::library::get_intra_edges;\n\n"),
+        Cut("edge and prediction in one", ENCODER, "    let bit_depth = fi.sequence.bit_depth;\n    let edge_buf = get_intra_edges(",
+            "  }\n\n  if skip {\n",
+            "    let transform = crate::library::Transform {\n      cell: tile_partition_bo,\n      unit: (bx, by),\n"
+            "      block: bsize,\n      at: po,\n      size: tx_size,\n      depth: fi.sequence.bit_depth,\n"
+            "      edge_filter: fi.sequence.enable_intra_edge_filter,\n    };\n"
+            "    crate::library::predict(rec, transform, mode, pred_intra_param, ief_params, ac);\n"),
+        Cut("luma for chroma", ENCODER, "  let max_luma_x: usize = max_luma_w", "}\n\npub fn write_tx_blocks<",
+            "  crate::library::luma_differences(\n    ac, luma, plane_bsize, xdec, ydec, max_luma_w, max_luma_h,\n"
+            "    fi.sequence.bit_depth,\n  );\n"),
+    ]
+
+
+def apply(copy, crate):
+    """Edits the recorder's source in the folder `copy`; ends the program where an edit doesn't apply as often as it must."""
+    apply_all(copy, edits(os.path.abspath(crate)))
+    shutil.copy(os.path.join(HERE, MODULE), os.path.join(copy, "src", MODULE))
