@@ -370,10 +370,12 @@ pub struct Moved {
 }
 
 impl Moved {
-  /// The number of the filter: rav1e's own sharp one, or AV1's where the recorder was asked for it.
+  /// The number of the filter.  rav1e's sharp one is its own along short sides in Rust, and AV1's in its assembler, or where
+  /// the recorder was asked for that.
   fn filter(&self) -> u8 {
+    let as_av1 = cfg!(nasm_x86_64) || short_filter(FilterMode::SHARP as usize) == 0;
     match self.filter {
-      FilterMode::SHARP if short_filter(FilterMode::SHARP as usize) == 0 => av1_c::SHARP,
+      FilterMode::SHARP if as_av1 => av1_c::SHARP,
       FilterMode::SHARP => av1_c::RAV1E_SHARP,
       other => other as u8,
     }
