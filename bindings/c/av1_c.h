@@ -407,7 +407,7 @@ uint32_t av1_intra_edge_16(uint16_t *edge, size_t edge_len, const uint16_t *samp
  * av1_predict_intra_8 does, or by AV1_FROM_LUMA as av1_predict_cfl_8. All other samples stay. That a side lies in the tile, and how much of the
  * plane is visible beside the transform, follows from `plane` and from its place. It takes no memory.
  *   samples, samples_len  the plane's, of which those before the transform in coding order have to be there
- *   plane, block          as above, but that AV1_ANY_MODE is none
+ *   plane, block          as above, but that AV1_ANY_MODE is none (AV1_BAD_MODE, behind all that av1_intra_edge_8 refuses)
  *   smooth_neighbour      0: no neighbour has a smooth mode (IsSmooth); not read where the filter is off
  *   ac, ac_len, alpha     AV1_FROM_LUMA: as in av1_predict_cfl_8; not read in other modes
  * Answers as av1_intra_edge_8, but never AV1_ROOM_TOO_SMALL. AV1_BAD_AREA comes where the transform does not lie in the samples, too, and
