@@ -175,8 +175,8 @@ fn filter_columns<T: Pixel, E: Copy, W: Writer<E>>(
     }
 }
 
-/// The same of a block, strip by strip. One of 4x4 bytes that takes four weights is filtered in place: a compiler writes
-/// its four rows out.
+/// The same of a block, strip by strip. One of 4x4 bytes that takes four weights is filtered in place: a compiler
+/// writes its four rows out.
 #[inline(always)]
 pub(crate) fn filter_once<T: Pixel, E: Copy, W: Writer<E>>(
     target: &mut [E],
