@@ -37,15 +37,15 @@
 //! | none, put | a width of 4, 8, 16, 32, 64 or 128 | `put_copy`: `copy_rows` | the same |
 //! | none, put | any other width | `put_copy`: `copy_any_rows` | the same |
 //! | none, prepared | any: strips of 16, 8, 4 or 1 columns | `prepare_copy`: `widen_rows` | the same |
-//! | one alone | 4x4, by four weights | `filter_four_rows`: `filter_words` | as other sides |
+//! | one alone | 4x4, by four weights | `filter_by`: `filter_four` or `filter_words` | as other sides |
 //! | across alone | any other: strips of 16 or 8 columns | `filter_once`: `filter_bytes` | `filter_once`: `filter_words` |
-//! | across alone | what is left of those: strips of 4 columns or 1 | `filter_once`: `filter_words` | the same |
+//! | across alone | what is left of those: strips of 4 columns or 1 | `filter_once`: `filter_four` or `filter_words` | `filter_once`: `filter_words` |
 //! | down alone | the same strips | the same, in steps of a row | the same, in steps of a row |
 //! | both | any: parts of 8 columns and up to 32 rows | `filter_twice`: `filter_bytes`, then `filter_words` | `filter_twice`: `filter_words`, twice |
-//! | both | what is left of those: parts of 4 columns or 1 | `filter_twice`: `filter_words`, twice | the same |
+//! | both | what is left of those: parts of 4 columns or 1 | `filter_twice`: `filter_four` or `filter_words`, then `filter_words` | `filter_twice`: `filter_words`, twice |
 //!
-//! Within a sum the outer weights that are 0 are left out, up to two on either side: `outer_zeros` counts them. Of four
-//! bytes side by side that take four weights, `filter_words` reads each once (`sums_along`).
+//! Within a sum the outer weights that are 0 are left out, up to two on either side: `outer_zeros` counts them.
+//! `filter_four` takes four bytes side by side that have four weights left.
 #![tactic(auto)]
 
 mod average;

@@ -14,7 +14,7 @@ ghost use Rattle.av1_inter.specs.Scaffolding.{AreZero, doubled, filtered, IsBloc
 use crate::bytes::filter_bytes;
 use crate::filter::outer_zeros;
 use crate::strip::{Strip, Taps, part_at, strip_width};
-use crate::words::filter_words;
+use crate::words::{filter_four, filter_words};
 use crate::writer::Writer;
 use av1_frame::Pixel;
 
@@ -37,6 +37,8 @@ fn filter_line<T: Pixel, const N: usize, const ZEROS: usize>(
 {
     if T::BITS == 8 && N >= 8 {
         filter_bytes::<T, N, ZEROS>(source, start, taps.step, &taps.halves, taps.rounding)
+    } else if T::BITS == 8 && N == 4 && ZEROS == 2 && taps.step == 1 {
+        filter_four::<T, N, ZEROS>(source, start, taps.step, &taps.halves, taps.rounding)
     } else {
         filter_words::<T, N, ZEROS>(source, start, taps.step, &taps.halves, taps.rounding)
     }
@@ -173,32 +175,8 @@ fn filter_columns<T: Pixel, E: Copy, W: Writer<E>>(
     }
 }
 
-/// The same of a block of 4x4 entries by a filter whose outer two weights on either side are 0. Its rows are written
-/// out: down columns most samples serve several rows, and are read once.
-#[inline(always)]
-#[tactic(auto, using(av1_frame::proofs::Paint::rectangle_painting))]
-fn filter_four_rows<T: Pixel, E: Copy, W: Writer<E>>(
-    target: &mut [E],
-    stride: usize,
-    block: &Strip<'_, T>,
-    taps: &Taps,
-)
-    requires rows { AreRows stride block.now.area (length target.old) }
-    requires width { block.now.area.width ≡ 4 }
-    requires height { block.now.area.height ≡ 4 }
-    requires zeros { AreZero 2 taps.now.halves }
-    requires laid { IsLaid T.num block.now taps.now }
-    requires depths { IsDepth block.now.bit_depth }
-    requires serves { W.serves block.now.bit_depth }
-    ensures { target.new ≡ paint stride block.now.area (λ r c _. W.written block.now.bit_depth (filtered T.num block.now taps.now r c)) target.old }
-{
-    filter_row::<T, E, W, 4, 2>(target, stride, block, taps, 0);
-    filter_row::<T, E, W, 4, 2>(target, stride, block, taps, 1);
-    filter_row::<T, E, W, 4, 2>(target, stride, block, taps, 2);
-    filter_row::<T, E, W, 4, 2>(target, stride, block, taps, 3);
-}
-
-/// The same of a block, strip by strip.
+/// The same of a block, strip by strip. One of 4x4 bytes that takes four weights is filtered in place: a compiler
+/// writes its four rows out.
 #[inline(always)]
 pub(crate) fn filter_once<T: Pixel, E: Copy, W: Writer<E>>(
     target: &mut [E],
@@ -217,7 +195,7 @@ pub(crate) fn filter_once<T: Pixel, E: Copy, W: Writer<E>>(
         && block.area.height == 4
         && outer_zeros(&taps.halves) == 2
     {
-        filter_four_rows::<T, E, W>(target, stride, block, taps);
+        filter_by::<T, E, W, 4, 2>(target, stride, block, taps);
         return;
     }
     let mut start = 0;

@@ -107,7 +107,7 @@ fn add_products(sums: &mut [i32; 8], products: &[i32; 8])
 /// The sums of eight samples that stand `step` apart, each times its halved weight, from each of `N` places on. The
 /// outer `ZEROS` weights on either side are 0, so that these products are left out.
 #[inline(always)]
-fn sums_by_pairs<T: Pixel, const N: usize, const ZEROS: usize>(
+fn eight_sums<T: Pixel, const N: usize, const ZEROS: usize>(
     source: &[T],
     start: usize,
     step: usize,
@@ -151,30 +151,6 @@ fn sums_along(values: [i16; 8], halves: &[i16; SUBPEL_FILTER_SIZE]) -> [i32; 8]
     sums
 }
 
-/// The same. Of four bytes side by side each is read once: a compiler doesn't read them at once where the next four
-/// overlap them.
-#[inline(always)]
-fn eight_sums<T: Pixel, const N: usize, const ZEROS: usize>(
-    source: &[T],
-    start: usize,
-    step: usize,
-    halves: &[i16; SUBPEL_FILTER_SIZE],
-) -> [i32; 8]
-    requires filter { IsFilter (doubled halves.now) }
-    requires few { ZEROS ≤ 2 }
-    requires zeros { AreZero ZEROS halves.now }
-    requires reach { start + N + 7 * step ≤ length source.now }
-    requires small { (c t : ℕ) → c < N → t < 8 → slice_index (map T.num source.now) (start + c + t * step) < 32768 }
-    ensures value { (c : ℕ) → c < 8 → c < N → entry result c ≡ sum_from halves.now (λ i. pos (slice_index (map T.num source.now) i)) (start + c) step }
-    ensures within { (c : ℕ) → c < 8 → IsWithin (2 ^ 25) (entry result c) }
-{
-    if T::BITS == 8 && N == 4 && ZEROS == 2 && step == 1 {
-        sums_along(eight_from::<T, 8>(source, start + 2), halves)
-    } else {
-        sums_by_pairs::<T, N, ZEROS>(source, start, step, halves)
-    }
-}
-
 /// What such a sum becomes. All that is added to it and taken off behind it is added at once.
 #[inline(always)]
 fn settle(sum: i32, rounding: Rounding) -> i32
@@ -200,6 +176,22 @@ fn settle_eight(sums: &[i32; 8], rounding: Rounding) -> [i16; 8]
     i32x8::from_array(values).cast::<i16>().to_array()
 }
 
+/// The first `N` of what eight such sums become.
+#[inline(always)]
+fn settle_first<const N: usize>(sums: &[i32; 8], rounding: Rounding) -> [i16; N]
+    requires narrow { N ≤ 8 }
+    requires rounding { IsRounding rounding }
+    requires within { (c : ℕ) → c < 8 → IsWithin (2 ^ 25) (entry sums.now c) }
+    ensures { (c : ℕ) → c < N → entry result c ≡ settled rounding (entry sums.now c) }
+{
+    let eight = settle_eight(sums, rounding);
+    let mut values = [0; N];
+    for c in 0..N {
+        values[c] = eight[c];
+    }
+    values
+}
+
 /// What the sums from each of at most eight places on become.
 #[inline(always)]
 fn filter_group<T: Pixel, const N: usize, const ZEROS: usize>(
@@ -219,16 +211,35 @@ fn filter_group<T: Pixel, const N: usize, const ZEROS: usize>(
     ensures { (c : ℕ) → c < N → entry result c ≡ settled rounding (sum_from halves.now (λ i. pos (slice_index (map T.num source.now) i)) (start + c) step) }
 {
     let sums = eight_sums::<T, N, ZEROS>(source, start, step, halves);
-    let eight = settle_eight(&sums, rounding);
-    let mut values = [0; N];
-    for c in 0..N {
-        values[c] = eight[c];
-    }
-    values
+    settle_first::<N>(&sums, rounding)
 }
 
-/// The same from each of any number of places on, one by one.
+/// The same of four bytes side by side, by four weights. Each byte is read once: a compiler doesn't read four at once
+/// where the next four overlap them.
 #[inline(always)]
+pub(crate) fn filter_four<T: Pixel, const N: usize, const ZEROS: usize>(
+    source: &[T],
+    start: usize,
+    step: usize,
+    halves: &[i16; SUBPEL_FILTER_SIZE],
+    rounding: Rounding,
+) -> [i16; N]
+    requires filter { IsFilter (doubled halves.now) }
+    requires zeros { AreZero ZEROS halves.now }
+    requires rounding { IsRounding rounding }
+    requires four { N ≡ 4 }
+    requires two { ZEROS ≡ 2 }
+    requires one { step ≡ 1 }
+    requires reach { start + N + 7 * step ≤ length source.now }
+    requires small { (c t : ℕ) → c < N → t < 8 → slice_index (map T.num source.now) (start + c + t * step) < 32768 }
+    ensures { (c : ℕ) → c < N → entry result c ≡ settled rounding (sum_from halves.now (λ i. pos (slice_index (map T.num source.now) i)) (start + c) step) }
+{
+    let sums = sums_along(eight_from::<T, 8>(source, start + 2), halves);
+    settle_first::<N>(&sums, rounding)
+}
+
+/// The same from each of any number of places on, one by one. No strip is so wide.
+#[inline(never)]
 fn filter_each<T: Pixel, const N: usize, const ZEROS: usize>(
     source: &[T],
     start: usize,

@@ -1,21 +1,39 @@
-use Rattle.std.proofs.Common.{arith, ◌≡◌, ◌∙◌, ◌+◌, ◌*◌, ◌<◌, ℕ, ap, pos, map, slice_index}
-use Rattle.av1_inter.proofs.EightSums.{four_products}
+use Rattle.std.proofs.Common.{arith, ◌≡◌, ◌+◌, ◌-◌, ◌*◌, ◌∙◌, ℕ, ap, pos, map, slice_index, ◌*ℤ◌}
+use Rattle.av1_inter.specs.Motion.{entry, sum_to}
+use Rattle.av1_inter.proofs.Sums.{sum_ends}
+use Rattle.av1_inter.proofs.EightSums.{few_within, next_within, no_pairs, pair_next, pair_wide}
 use Rattle.av1_inter.proofs.words.eight_sums.Goals as goal
 
-pub returns-then-step-eq1-clause-value : goal.returns-then-step-eq1-clause-value
-returns-then-step-eq1-clause-value g c = λ k h b.
-    let s = map g.T.Pixel.num c.args.source.now in
-    let i = c.args.start in
-    let d = c.args.step in
-    let one = c.if-step-eq1.true in
-    let four : k < 4 = omega (arith, b, c.if-this-eq4.true) in
-    let at = λ (n : ℕ). pos (slice_index s n) in
-    let second : i + 2 + k ≡ i + k + 2 * d = omega (arith, one) in
-    let third : i + 2 + (k + 1) ≡ i + k + 3 * d = omega (arith, one) in
-    let fourth : i + 2 + (k + 2) ≡ i + k + 4 * d = omega (arith, one) in
-    let fifth : i + 2 + (k + 3) ≡ i + k + 5 * d = omega (arith, one) in
-    let read = c.eight_from.ensures.value in
-    four_products g.row.ZEROS c.args.halves.now (λ t. at (i + k + t * d)) _ _ _ _ _ c.if-this-eq2.true c.requires.zeros
-    (read k (omega arith) (omega arith) ∙ ap at second) (read (k + 1) (omega arith) (omega arith) ∙ ap at third)
-    (read (k + 2) (omega arith) (omega arith) ∙ ap at fourth)
-    (read (k + 3) (omega arith) (omega arith) ∙ ap at fifth) (c.sums_along.ensures.value k four)
+pub loop-pair-init : goal.loop-pair-init
+loop-pair-init g c =
+    no_pairs g.row.N g.row.ZEROS c.args.halves.now (λ k t. pos (slice_index (map g.T.Pixel.num c.args.source.now) (c.args.start + k + t * c.args.step)))
+    c.requires.few c.requires.zeros
+
+pub add_products-requires-clause-sums : goal.add_products-requires-clause-sums
+add_products-requires-clause-sums g c = λ k h. few_within c.loop-pair.pair _ (omega (arith, c.loop-pair-test.true)) (c.loop-pair.invariant.within k h)
+
+pub add_products-requires-clause-products : goal.add_products-requires-clause-products
+add_products-requires-clause-products g c = λ k h. pair_wide _ (c.pair_from-products.ensures.within k h)
+
+pub loop-pair-preserved : goal.loop-pair-preserved
+loop-pair-preserved g c =
+    let n = g.row.ZEROS + 2 * c.loop-pair.pair in
+    let e : g.row.ZEROS + 2 * (c.loop-pair.pair + 1) ≡ n + 2 = omega arith in
+    record {
+      known = λ k h b.
+          pair_next (λ t. entry c.args.halves.now t *ℤ pos (slice_index (map g.T.Pixel.num c.args.source.now) (c.args.start + k + t * c.args.step))) n _ _ _ _
+          (c.loop-pair.invariant.known k h b) (c.pair_from-products.ensures.value k h b) e (c.add_products.ensures k h);
+      within = λ k h.
+          next_within c.loop-pair.pair _ _ _ _ (c.loop-pair.invariant.within k h) (c.pair_from-products.ensures.within k h) (omega arith)
+          (c.add_products.ensures k h);
+    }
+
+pub returns-clause-value : goal.returns-clause-value
+returns-clause-value g c = λ k h b.
+    let value = λ (t : ℕ). pos (slice_index (map g.T.Pixel.num c.args.source.now) (c.args.start + k + t * c.args.step)) in
+    let e : g.row.ZEROS + 2 * c.loop-pair.pair ≡ 8 - g.row.ZEROS = omega (arith, c.requires.few, c.loop-pair-test.false, c.loop-pair.auto.pair-end) in
+    sum_ends g.row.ZEROS c.args.halves.now value _ c.requires.few c.requires.zeros
+    (c.loop-pair.invariant.known k h b ∙ ap (λ (n : ℕ). sum_to n (λ t. entry c.args.halves.now t *ℤ value t)) e)
+
+pub returns-clause-within : goal.returns-clause-within
+returns-clause-within g c = λ k h. few_within c.loop-pair.pair _ (omega (arith, c.loop-pair.auto.pair-end)) (c.loop-pair.invariant.within k h)

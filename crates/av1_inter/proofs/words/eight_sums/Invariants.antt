@@ -1,6 +1,6 @@
 use Rattle.std.proofs.Common.{◌+◌, ◌*◌, pos, map, slice_index}
 use Rattle.av1_inter.proofs.EightSums.{ArePairs}
-use Rattle.av1_inter.proofs.words.sums_by_pairs.Given as goal
+use Rattle.av1_inter.proofs.words.eight_sums.Given as goal
 
 abbrev pub invariant-loop-pair : goal.invariant-loop-pair
 invariant-loop-pair g l =
