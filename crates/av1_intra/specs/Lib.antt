@@ -11,3 +11,4 @@ pub mod Directional
 pub mod Predicted
 pub mod Blocks
 pub mod TileLuma
+pub mod Lending

@@ -5,7 +5,7 @@ use Rattle.av1_edges.specs.Edges.{region_sample}
 use Rattle.av1_intra.specs.ChromaFromLuma.{chroma_block, leaf_difference, with_rows}
 use Rattle.av1_intra.specs.TileLuma.{tile_luma, leaf_in_tile}
 use Rattle.av1_intra.specs.declared.luma.LumaLeaf.{LumaLeaf}
-use Rattle.av1_intra.proofs.tile_luma.luma_ac.Goals as goal
+use Rattle.av1_intra.proofs.tile_luma.filled.Goals as goal
 
 pub returns-clause-entries : goal.returns-clause-entries
 returns-clause-entries g c =
