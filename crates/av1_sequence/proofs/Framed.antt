@@ -26,7 +26,7 @@ use Rattle.av1_sequence.specs.declared.error.FrameError.{FrameError}
 use Rattle.av1_sequence.specs.declared.head.FrameHead.{FrameHead}
 use Rattle.av1_sequence.specs.declared.last.Last.{Last}
 use Rattle.av1_sequence.specs.declared.last.Last.TheVariants as lasts
-use Rattle.av1_sequence.specs.declared.sequence.Sequence.TheInside.{Inside}
+use Rattle.av1_sequence.specs.declared.sequence.SequenceOf.TheInside.{Inside}
 use Rattle.av1_sequence.specs.Frames.{IsFramePlan, IsHead, frame_header, frame_of, frame_references, most_bytes, plan_bytes}
 use Rattle.av1_sequence.specs.Kept.{AreReady, IsKeptAt, Kept, plane_shown, planes_shown, shown_at, shown_in, slots_shown}
 use Rattle.av1_sequence.specs.Last.{last_shown}

@@ -5,7 +5,8 @@
 //! `av1_plan`. Its plan is that of a frame of its own, with the planes of the slots that it reads as references
 //! (`specs/Frames.antt`), and `av1_tile` reconstructs it.
 //!
-//! A sequence is over samples of one type, `u8` for depth 8 and `u16` for any, and holds all of its frames in them.
+//! A sequence holds all of its frames in samples of one type: a [`Sequence`] in `u16`, a [`SequenceOf`] `u8` in bytes,
+//! for depth 8.
 //!
 //! A frame is reconstructed where it is kept: it is padded once, and moved to a place among eight; slots name places,
 //! so that a frame that replaces several is kept once. A frame that replaces none stays where it is until the next one.
@@ -38,4 +39,4 @@ pub use laws::{
     accepted_alone_count, plans_have_their_length, sequence_outcome_laws, sequences_are_texts,
 };
 pub use reconstruct::reconstruct_sequence;
-pub use sequence::Sequence;
+pub use sequence::{Sequence, SequenceOf};

@@ -14,7 +14,7 @@ ghost use Rattle.av1_tile.specs.PlaneBlocks.{extent_of};
 ghost use Rattle.av1_sequence.specs.Output.{AreWrittenAs, IsWritable, frame_text, plane_text};
 ghost use Rattle.av1_sequence.specs.Slots.{Frame};
 
-use crate::sequence::Sequence;
+use crate::sequence::SequenceOf;
 use av1_frame::{Pixel, Plane};
 use av1_plan::Header;
 use av1_streams::{Sink, WriteFault, write_bytes};
@@ -74,7 +74,7 @@ fn pack(samples: &[u16], bytes: &mut [u8])
 /// depth 8, else two, the low one first. The first write that fails ends the call, and a prefix of the planes stands.
 /// The buffer is for the bytes of a row.
 pub fn write_last<T: Written, W: Sink>(
-    sequence: &Sequence<T>,
+    sequence: &SequenceOf<T>,
     buffer: &mut [u8; MOST_BYTES],
     sink: &mut W,
 ) -> Result<(), WriteFault>
@@ -92,7 +92,7 @@ pub fn write_last<T: Written, W: Sink>(
 
 // Appends the visible rows of plane `p` of the frame that was accepted last, or a prefix of their bytes.
 fn write_plane<T: Written, W: Sink>(
-    sequence: &Sequence<T>,
+    sequence: &SequenceOf<T>,
     p: usize,
     buffer: &mut [u8; MOST_BYTES],
     sink: &mut W,

@@ -12,7 +12,7 @@ use crate::container::read_sequence;
 use crate::error::{FrameError, FrameFault, SequenceError};
 use crate::file::{FrameText, SequenceFile};
 use crate::output::{MOST_BYTES, Written, write_last};
-use crate::sequence::Sequence;
+use crate::sequence::SequenceOf;
 use av1_streams::{Sink, Source, read_plan_bytes};
 use std::alloc::Global;
 
@@ -58,7 +58,7 @@ fn show_frames<T: Written, W: Sink>(
     ensures uncounted { ¬ IsErrAnd result (λ e. cause_of e ≡ write_failed) → W.faults sink.new ≡ W.faults sink.old }
     ensures later { W.faults sink.old ≤ W.faults sink.new }
 {
-    let mut sequence: Sequence<T> = Sequence::new(
+    let mut sequence: SequenceOf<T> = SequenceOf::new(
         alloc,
         file.width,
         file.height,
@@ -74,7 +74,7 @@ fn show_frames<T: Written, W: Sink>(
 
 /// Gives a sequence frame number `index`, and writes it where it is accepted. The buffer is for the bytes of a row.
 fn show_frame<T: Written, W: Sink>(
-    sequence: &mut Sequence<T>,
+    sequence: &mut SequenceOf<T>,
     index: usize,
     frame: &FrameText<'_>,
     buffer: &mut [u8; MOST_BYTES],

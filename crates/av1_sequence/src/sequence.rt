@@ -31,9 +31,13 @@ const HEADER_BYTES: usize = 20;
 /// 64 reads so far.
 const PAD: usize = 80;
 
-/// A sequence of frames of one size, depth and sampling, and the eight slots that it keeps between them.
+/// A sequence of frames of any depth, with two bytes for each sample.
+pub type Sequence = SequenceOf<u16>;
+
+/// A sequence of frames of one size, depth and sampling, and the eight slots that it keeps between them, all in samples
+/// of type `T`: `u8` serves depth 8, `u16` any.
 #[derive(Drop)]
-pub struct Sequence<T: Pixel> {
+pub struct SequenceOf<T: Pixel> {
     alloc: Global,
     pictures: Pictures<T>,
     memory: WalkMemory<T>,
@@ -76,7 +80,7 @@ fn plane_in<T: Pixel>(planes: &Planes<T>, p: usize) -> &Plane<T>
     }
 }
 
-impl<T: Pixel> Model for Sequence<T> {
+impl<T: Pixel> Model for SequenceOf<T> {
     ghost use Rattle.av1_sequence.specs.Kept.{Kept, slots_shown};
     ghost use Rattle.av1_sequence.specs.Last.{last_shown};
 
@@ -89,7 +93,7 @@ impl<T: Pixel> Model for Sequence<T> {
     } };
 }
 
-impl<T: Pixel> Sequence<T> {
+impl<T: Pixel> SequenceOf<T> {
     ghost use Rattle.std.specs.Prelude.{◌≡◌, ℕ, ◌<◌, ◌≤◌, ◌^◌, [], None, Some, length, map, option_map, slice_index_or, IfOk, IfErr, IfNone, IfSome, OnOk};
     ghost use Rattle.av1_blocks.specs.Depths.{IsDepth};
     ghost use Rattle.av1_plan.specs.Values.{leaves_value};
@@ -113,7 +117,7 @@ impl<T: Pixel> Sequence<T> {
         height: u16,
         depth: u8,
         sampling: u8,
-    ) -> Result<Sequence<T>, OutOfMemory>
+    ) -> Result<SequenceOf<T>, OutOfMemory>
         requires width { IsSide width }
         requires height { IsSide height }
         requires depth { IsDepth depth }
@@ -134,7 +138,7 @@ impl<T: Pixel> Sequence<T> {
         };
         let pictures = Pictures::new(alloc, header)?;
         let memory = WalkMemory::new(alloc, &header)?;
-        Ok(Sequence {
+        Ok(SequenceOf {
             alloc,
             pictures,
             memory,

@@ -1,6 +1,6 @@
 use Rattle.std.proofs.Common.{map}
 use Rattle.av1_sequence.proofs.Framed.{slot_seen}
-use Rattle.av1_sequence.proofs.sequence.Sequence.slot_row.Goals as goal
+use Rattle.av1_sequence.proofs.sequence.SequenceOf.slot_row.Goals as goal
 
 pub row_at-requires-clause-kept : goal.row_at-requires-clause-kept
 row_at-requires-clause-kept g c = c.self.inside.pictures.keeps.kept c.args.slot c.in-Some.place c.requires.slot c.in-Some.is

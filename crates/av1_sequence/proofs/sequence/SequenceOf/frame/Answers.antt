@@ -1,7 +1,7 @@
 use Rattle.std.proofs.Common.{length, refl}
 use Rattle.av1_plan.specs.Values.{leaves_value}
 use Rattle.av1_sequence.proofs.Framed.{accepts_over, refused_over, short_seen, spelled_over, valid_over}
-use Rattle.av1_sequence.proofs.sequence.Sequence.frame.Goals as goal
+use Rattle.av1_sequence.proofs.sequence.SequenceOf.frame.Goals as goal
 
 pub returns-in-Err-clause-refused : goal.returns-in-Err-clause-refused
 returns-in-Err-clause-refused g c =

@@ -6,7 +6,7 @@ use Rattle.av1_sequence.specs.Outcomes.{plan_over}
 use Rattle.av1_sequence.proofs.Framed.{apart_accepted, kept_accepted, not_placed, own_read, own_ready, placed_there, plan_is_over, ready_again, ready_held}
 use Rattle.av1_sequence.proofs.Framed.{ready_still, room_over}
 use Rattle.av1_sequence.proofs.Framed.{depth_over, depth_still, not_apart, room_still}
-use Rattle.av1_sequence.proofs.sequence.Sequence.show.Goals as goal
+use Rattle.av1_sequence.proofs.sequence.SequenceOf.show.Goals as goal
 
 pub planes_for-requires-clause-frame : goal.planes_for-requires-clause-frame
 planes_for-requires-clause-frame g c = own_read c.args.self.now c.self.inside c.self.view_is c.args.head.now c.requires.head c.args.header.now c.requires.header

@@ -1,5 +1,5 @@
 use Rattle.av1_sequence.proofs.KeptRows.{shown_row, writable_below, writable_place}
-use Rattle.av1_sequence.proofs.sequence.Sequence.last_row.Goals as goal
+use Rattle.av1_sequence.proofs.sequence.SequenceOf.last_row.Goals as goal
 
 pub visible_row-requires-clause-place : goal.visible_row-requires-clause-place
 visible_row-requires-clause-place g c =

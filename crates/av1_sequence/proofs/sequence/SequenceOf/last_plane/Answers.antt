@@ -3,7 +3,7 @@ use Rattle.av1_sequence.specs.Kept.{plane_shown, planes_shown}
 use Rattle.av1_sequence.specs.Output.{IsWritable}
 use Rattle.av1_sequence.proofs.Framed.{last_apart, placed_seen, plane_seen, writable_seen}
 use Rattle.av1_sequence.proofs.KeptRows.{apart_plane, apart_writable}
-use Rattle.av1_sequence.proofs.sequence.Sequence.last_plane.Goals as goal
+use Rattle.av1_sequence.proofs.sequence.SequenceOf.last_plane.Goals as goal
 
 pub returns-in-Some-clause-shown : goal.returns-in-Some-clause-shown
 returns-in-Some-clause-shown g c =
