@@ -111,11 +111,18 @@ abbrev pub prepared_roundings : ℕ → Roundings
 prepared_roundings depth =
     record { rows = one_prepared depth; columns = one_prepared depth; both = both_prepared depth }
 
+-- a rounding of sums that become values by one filter alone, among the roundings of a block: but for what is added
+-- they are alike
+pub record IsAlone (roundings : Roundings) (rounding : Rounding) : Type 0 where
+  pub shift : rounding.shift ≡ roundings.rows.shift
+  pub bias : rounding.bias ≡ roundings.rows.bias
+
 -- how each of a block's roundings may be
 pub record AreRoundings (roundings : Roundings) : Type 0 where
   pub rows : IsRounding roundings.rows
   pub columns : IsRounding roundings.columns
   pub both : IsRounding roundings.both
+  pub alone : IsAlone roundings roundings.columns
 
 -- number i of a strip's source
 abbrev pub number_at : {T : Type 0} → (T → ℕ) → Strip T → ℕ → ℤ

@@ -39,10 +39,10 @@
 //! | none, prepared | any: strips of 16, 8, 4 or 1 columns | `prepare_copy`: `widen_rows` | the same |
 //! | one alone | 4x4, by four weights | `filter_by`: `filter_four` or `filter_words` | as other sides |
 //! | across alone | any other: strips of 16 or 8 columns | `filter_once`: `filter_bytes` | `filter_once`: `filter_words` |
-//! | across alone | what is left of those: strips of 4 columns or 1 | `filter_once`: `filter_four` or `filter_words` | `filter_once`: `filter_words` |
+//! | across alone | the rest: strips of 4 columns or 1 | `filter_once`: `filter_four` or `filter_words` | `filter_once`: `filter_words` |
 //! | down alone | the same strips | the same, in steps of a row | the same, in steps of a row |
 //! | both | any: parts of 8 columns and up to 32 rows | `filter_twice`: `filter_bytes`, then `filter_words` | `filter_twice`: `filter_words`, twice |
-//! | both | what is left of those: parts of 4 columns or 1 | `filter_twice`: `filter_four` or `filter_words`, then `filter_words` | `filter_twice`: `filter_words`, twice |
+//! | both | the rest: parts of 4 columns or 1 | `filter_twice`: `filter_four` or `filter_words`, then `filter_words` | `filter_twice`: `filter_words`, twice |
 //!
 //! Within a sum the outer weights that are 0 are left out, up to two on either side: `outer_zeros` counts them.
 //! `filter_four` takes four bytes side by side that have four weights left.

@@ -4,12 +4,12 @@
 //!
 //! AV1 specification: block inter prediction process.
 
-ghost use Rattle.std.specs.Prelude.{◌≡◌, ℕ, ◌+◌, ◌*◌, ◌≤◌, ◌<◌, pos, length, map, slice_index, List};
+ghost use Rattle.std.specs.Prelude.{◌≡◌, true, ℕ, ◌+◌, ◌*◌, ◌≤◌, ◌<◌, pos, length, map, slice_index, List};
 ghost use Rattle.av1_blocks.specs.Depths.{IsDepth};
 ghost use Rattle.av1_frame.specs.Areas.{AreRows};
 ghost use Rattle.av1_frame.specs.Samples.{corner, paint, paint_row};
 ghost use Rattle.av1_inter.specs.Motion.{entry};
-ghost use Rattle.av1_inter.specs.Scaffolding.{AreZero, doubled, filtered, IsBlock, IsFilter, IsLaid, IsRounding, IsStripWidth, settled, sum_from};
+ghost use Rattle.av1_inter.specs.Scaffolding.{AreZero, doubled, filtered, IsAlone, IsBlock, IsFilter, IsLaid, IsRounding, IsStripWidth, settled, sum_from};
 
 use crate::bytes::filter_bytes;
 use crate::filter::outer_zeros;
@@ -95,15 +95,35 @@ fn filter_row<T: Pixel, E: Copy, W: Writer<E>, const N: usize, const ZEROS: usiz
     write_row::<E, W, N>(row, &values, strip.bit_depth);
 }
 
+/// The same taps. Where `ALONE` is true no other filter is laid, and a compiler knows how far its sums are shifted and
+/// what is taken off.
+#[inline(always)]
+fn known_taps<E: Copy, W: Writer<E>, const ALONE: bool>(taps: &Taps, bit_depth: usize) -> Taps
+    requires depths { IsDepth bit_depth }
+    requires alone { ALONE ≡ true → IsAlone (W.roundings bit_depth) taps.now.rounding }
+    ensures { result ≡ taps.now }
+{
+    let mut known = *taps;
+    if ALONE {
+        let rows = W::roundings(bit_depth).rows;
+        known.rounding.shift = rows.shift;
+        known.rounding.bias = rows.bias;
+    }
+    known
+}
+
 /// The entries of a strip of `N` columns become what a filter gives, whose outer `ZEROS` weights on either side are 0.
+/// `ALONE` says that the block is filtered by no other.
 #[inline(always)]
 #[tactic(auto, using(av1_frame::proofs::Paint::rectangle_painting))]
-fn filter_by<T: Pixel, E: Copy, W: Writer<E>, const N: usize, const ZEROS: usize>(
-    target: &mut [E],
-    stride: usize,
-    strip: &Strip<'_, T>,
-    taps: &Taps,
-)
+fn filter_by<
+    T: Pixel,
+    E: Copy,
+    W: Writer<E>,
+    const N: usize,
+    const ZEROS: usize,
+    const ALONE: bool,
+>(target: &mut [E], stride: usize, strip: &Strip<'_, T>, taps: &Taps)
     requires rows { AreRows stride strip.now.area (length target.old) }
     requires width { strip.now.area.width ≡ N }
     requires short { N ≤ 128 }
@@ -112,10 +132,11 @@ fn filter_by<T: Pixel, E: Copy, W: Writer<E>, const N: usize, const ZEROS: usize
     requires laid { IsLaid T.num strip.now taps.now }
     requires depths { IsDepth strip.now.bit_depth }
     requires serves { W.serves strip.now.bit_depth }
+    requires alone { ALONE ≡ true → IsAlone (W.roundings strip.now.bit_depth) taps.now.rounding }
     ensures { target.new ≡ paint stride strip.now.area (λ r c _. W.written strip.now.bit_depth (filtered T.num strip.now taps.now r c)) target.old }
 {
     // Copies of their own can't be what is written, so they stay in registers.
-    let taps = *taps;
+    let taps = known_taps::<E, W, ALONE>(taps, strip.bit_depth);
     let strip = *strip;
     for r in 0..strip.area.height {
         filter_row::<T, E, W, N, ZEROS>(target, stride, &strip, &taps, r);
@@ -125,7 +146,7 @@ fn filter_by<T: Pixel, E: Copy, W: Writer<E>, const N: usize, const ZEROS: usize
 /// The same by any filter. It is a function of its own, to which the step between samples is a number like any other:
 /// eight samples side by side are then read at once, also where the next eight overlap them.
 #[inline(never)]
-pub(crate) fn filter_strip<T: Pixel, E: Copy, W: Writer<E>, const N: usize>(
+pub(crate) fn filter_strip<T: Pixel, E: Copy, W: Writer<E>, const N: usize, const ALONE: bool>(
     target: &mut [E],
     stride: usize,
     strip: &Strip<'_, T>,
@@ -137,15 +158,16 @@ pub(crate) fn filter_strip<T: Pixel, E: Copy, W: Writer<E>, const N: usize>(
     requires laid { IsLaid T.num strip.now taps.now }
     requires depths { IsDepth strip.now.bit_depth }
     requires serves { W.serves strip.now.bit_depth }
+    requires alone { ALONE ≡ true → IsAlone (W.roundings strip.now.bit_depth) taps.now.rounding }
     ensures { target.new ≡ paint stride strip.now.area (λ r c _. W.written strip.now.bit_depth (filtered T.num strip.now taps.now r c)) target.old }
 {
     let zeros = outer_zeros(&taps.halves);
     if zeros == 2 {
-        filter_by::<T, E, W, N, 2>(target, stride, strip, taps);
+        filter_by::<T, E, W, N, 2, ALONE>(target, stride, strip, taps);
     } else if zeros == 1 {
-        filter_by::<T, E, W, N, 1>(target, stride, strip, taps);
+        filter_by::<T, E, W, N, 1, ALONE>(target, stride, strip, taps);
     } else {
-        filter_by::<T, E, W, N, 0>(target, stride, strip, taps);
+        filter_by::<T, E, W, N, 0, ALONE>(target, stride, strip, taps);
     }
 }
 
@@ -162,16 +184,17 @@ fn filter_columns<T: Pixel, E: Copy, W: Writer<E>>(
     requires laid { IsLaid T.num strip.now taps.now }
     requires depths { IsDepth strip.now.bit_depth }
     requires serves { W.serves strip.now.bit_depth }
+    requires alone { IsAlone (W.roundings strip.now.bit_depth) taps.now.rounding }
     ensures { target.new ≡ paint stride strip.now.area (λ r c _. W.written strip.now.bit_depth (filtered T.num strip.now taps.now r c)) target.old }
 {
     if strip.area.width == 16 {
-        filter_strip::<T, E, W, 16>(target, stride, strip, taps);
+        filter_strip::<T, E, W, 16, true>(target, stride, strip, taps);
     } else if strip.area.width == 8 {
-        filter_strip::<T, E, W, 8>(target, stride, strip, taps);
+        filter_strip::<T, E, W, 8, true>(target, stride, strip, taps);
     } else if strip.area.width == 4 {
-        filter_strip::<T, E, W, 4>(target, stride, strip, taps);
+        filter_strip::<T, E, W, 4, true>(target, stride, strip, taps);
     } else {
-        filter_strip::<T, E, W, 1>(target, stride, strip, taps);
+        filter_strip::<T, E, W, 1, true>(target, stride, strip, taps);
     }
 }
 
@@ -188,6 +211,7 @@ pub(crate) fn filter_once<T: Pixel, E: Copy, W: Writer<E>>(
     requires block { IsBlock T.num block.now }
     requires laid { IsLaid T.num block.now taps.now }
     requires serves { W.serves block.now.bit_depth }
+    requires alone { IsAlone (W.roundings block.now.bit_depth) taps.now.rounding }
     ensures { target.new ≡ paint stride block.now.area (λ r c _. W.written block.now.bit_depth (filtered T.num block.now taps.now r c)) target.old }
 {
     if T::BITS == 8
@@ -195,7 +219,7 @@ pub(crate) fn filter_once<T: Pixel, E: Copy, W: Writer<E>>(
         && block.area.height == 4
         && outer_zeros(&taps.halves) == 2
     {
-        filter_by::<T, E, W, 4, 2>(target, stride, block, taps);
+        filter_by::<T, E, W, 4, 2, true>(target, stride, block, taps);
         return;
     }
     let mut start = 0;

@@ -70,7 +70,7 @@ fn filter_part<T: Pixel, E: Copy, W: Writer<E>, const N: usize>(
         halves: halves.across,
         rounding: between_filters(part.bit_depth),
     };
-    filter_strip::<T, u16, Between, N>(&mut kept, COLUMNS, &rows, &across);
+    filter_strip::<T, u16, Between, N, false>(&mut kept, COLUMNS, &rows, &across);
     let columns = Strip {
         area: part.area,
         source: &kept,
@@ -83,7 +83,7 @@ fn filter_part<T: Pixel, E: Copy, W: Writer<E>, const N: usize>(
         halves: halves.down,
         rounding: W::roundings(part.bit_depth).both,
     };
-    filter_strip::<u16, E, W, N>(target, stride, &columns, &down);
+    filter_strip::<u16, E, W, N, false>(target, stride, &columns, &down);
 }
 
 /// The same of a part of 8, 4 or 1 columns.
