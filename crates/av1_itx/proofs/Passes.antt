@@ -129,6 +129,14 @@ unfolding row_input
 input-zero size type depth cs r c z =
     cond-zero (ltb c (coded (tx_width size))) _ _ (ap (row_value size type depth) (z.at _) ∙ row_value-zero size type depth) refl
 
+-- an input past the coefficients that are given
+pub input_none : (size : TxSize) (type : TxType) (depth : ℕ) (cs : List ℤ) (r c : ℕ) → length cs ≤ c * coded (tx_height size) + r →
+    row_input size type depth cs r c ≡ pos 0
+unfolding row_input
+input_none size type depth cs r c past =
+    cond-zero (ltb c (coded (tx_width size))) _ _
+    (ap (row_value size type depth) (get_or_past cs (c * coded (tx_height size) + r) (pos 0) past) ∙ row_value-zero size type depth) refl
+
 row-zero : (size : TxSize) (type : TxType) (depth : ℕ) (cs : List ℤ) (r c : ℕ) → IsZero cs → at (transformed_row size type depth cs r) c ≡ pos 0
 row-zero size type depth cs r c z =
     elim (cases_lt r (coded (tx_height size))) [
