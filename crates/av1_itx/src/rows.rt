@@ -27,14 +27,14 @@ const PIECE: usize = 256;
 
 /// How the coefficients of a block are scaled before its rows are transformed.
 #[derive(Copy, Clone)]
-struct Scaling {
+pub(crate) struct Scaling {
     /// by the square root of one half, where one side is twice the other
     two_to_one: bool,
     /// by one quarter, where nothing is to be lost
     lossless: bool,
 }
 
-fn scaling_of(tx_size: TxSize, tx_type: TxType) -> Scaling
+pub(crate) fn scaling_of(tx_size: TxSize, tx_type: TxType) -> Scaling
     ensures two_to_one { result.two_to_one ≡ is_two_to_one tx_size }
     ensures lossless { result.lossless ≡ is_lossless tx_type }
 {
@@ -60,7 +60,7 @@ fn scaled(v: i32, scaling: Scaling) -> i32
 }
 
 // What the rows take for a coefficient.
-fn row_value_of(v: i32, scaling: Scaling, bd: usize) -> i32
+pub(crate) fn row_value_of(v: i32, scaling: Scaling, bd: usize) -> i32
     requires depth_in { (8 ≤ bd) × (bd ≤ 12) }
     requires fits { FitsBits (bd + 8) v }
     ensures { result ≡ clamp_value (if scaling.two_to_one then round_shift (pos 2896 *ℤ v) 12 else if scaling.lossless then int_shr v 2 else v) (row_range bd) }

@@ -90,7 +90,8 @@ returns g c = λ r x hr hx.
         | inl given ↦ sym (c.fill_rows.ensures y a hy la)
             ∙ subst (λ (n : ℕ). at c.fill_rows.new.scaled (y * n + a) ≡ pos 0) rows
             (c.live_groups-groups.ensures.zeros y a given (omega (arith, ha, lanes)) (omega (arith, la, rows)))
-        | inr none_given ↦ input_none size type bd cs a y (let past = past_given y (omega (arith, hy, none_given, c.min-columns.ensures, c.width-w.ensures.value)) in omega (arith, past))
+        | inr none_given ↦ input_none size type bd cs a y
+            (let past = past_given y (omega (arith, hy, none_given, c.min-columns.ensures, c.width-w.ensures.value)) in omega (arith, past))
       ]))
       | inr past ↦ sym (taken-past size type bd cs a b past)
     ] in
