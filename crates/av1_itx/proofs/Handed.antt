@@ -16,7 +16,7 @@ use Rattle.av1_itx.proofs.Sizes.{both_run, sides}
 use Rattle.av1_itx.proofs.Widths.{is_length}
 
 -- sides are twice a power of two
-powers : (size : TxSize) → (tx_width size ≡ 2 * 2 ^ row_power size) × (tx_height size ≡ 2 * 2 ^ column_power size)
+pub powers : (size : TxSize) → (tx_width size ≡ 2 * 2 ^ row_power size) × (tx_height size ≡ 2 * 2 ^ column_power size)
 powers size = elim size as (λ t. (tx_width t ≡ 2 * 2 ^ row_power t) × (tx_height t ≡ 2 * 2 ^ column_power t)) [ TX_4X4 ↦ (refl, refl) | _ ↦ (refl, refl) ]
 
 -- widths are multiples of four, and of eight where they are so great

@@ -17,6 +17,7 @@ pub mod Eights
 pub mod Copies
 pub mod Sizes
 pub mod Handed
+pub mod Singles
 pub mod Shifts
 pub mod NoWrap
 pub mod Lossless

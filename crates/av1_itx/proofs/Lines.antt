@@ -1,10 +1,11 @@
 -- Rows and columns of a list that stands row by row.
-use Rattle.std.proofs.Common.{ℕ, cond, ltb, ◌≡◌, ◌==◌, ◌+◌, ◌-◌, ◌*◌, ◌<◌, ◌≤◌, ℤ, pos, List, map, length, set, get_or, arith, ap, sym, refl, ◌∙◌, inl}
+use Rattle.std.proofs.Common.{ℕ, cond, ltb, ◌≡◌, ◌==◌, ◌+◌, ◌-◌, ◌*◌, ◌/◌, ◌<◌, ◌≤◌, ℤ, pos, List, map, length, set, get_or, arith, ap, sym, refl, ◌∙◌, inl}
 use Rattle.std.proofs.Common.{inr, get_or-set_other, get_or-set_same}
 use Rattle.std.proofs.lemmas.Bool.{cases_lt, cases_eq, cases_order}
 use Rattle.std.proofs.lemmas.Bool.Decides.{nat_tests}
 use Rattle.std.proofs.lemmas.List.{get_or-map}
-use Rattle.std.proofs.Math.Nat.{add-mul, mul-le-mul_right, mul_assoc, mul_comm}
+use Rattle.std.proofs.Math.Nat.{add-mul, mod-lt, mul-le-mul_right, mul_assoc, mul_comm}
+use Rattle.std.proofs.lemmas.Nat.{div-add-mod'}
 use Rattle.av1_frame.proofs.Fits.{row_end_le}
 use Rattle.av1_dct.specs.Arithmetic.{at}
 use Rattle.av1_dct.proofs.Groups.{put, put-low, put-mid}
@@ -96,3 +97,11 @@ group_place m g w h le =
     let room = mul-le-mul_right w le in
     let split = add-mul (m * g) m w in
     (e, omega (arith, e, room, split))
+
+-- one column more than whole ones has room for a list
+pub columns_hold : (n rows : ℕ) → 0 < rows → n ≤ (n / rows + 1) * rows
+columns_hold n rows some =
+    let all = div-add-mod' n rows in
+    let less = mod-lt n some in
+    let split = add-mul (n / rows) 1 rows in
+    omega (arith, all, less, split)

@@ -25,7 +25,7 @@ use Rattle.av1_itx.proofs.Lines.{place_in}
 use Rattle.av1_itx.proofs.Outputs.{network-fits}
 use Rattle.av1_itx.proofs.Zeros.{network-zero, zero_line}
 
-input_in : (size : TxSize) (type : TxType) (depth : ℕ) (cs : List ℤ) (r c : ℕ) → c < coded (tx_width size) →
+pub input_in : (size : TxSize) (type : TxType) (depth : ℕ) (cs : List ℤ) (r c : ℕ) → c < coded (tx_width size) →
     row_value size type depth (at cs (c * coded (tx_height size) + r)) ≡ row_input size type depth cs r c
 unfolding row_input
 input_in size type depth cs r c h = grind (arith, nat_tests)
@@ -128,6 +128,21 @@ input-zero : (size : TxSize) (type : TxType) (depth : ℕ) (cs : List ℤ) (r c 
 unfolding row_input
 input-zero size type depth cs r c z =
     cond-zero (ltb c (coded (tx_width size))) _ _ (ap (row_value size type depth) (z.at _) ∙ row_value-zero size type depth) refl
+
+-- an input past the coefficients that are given
+pub input_none : (size : TxSize) (type : TxType) (depth : ℕ) (cs : List ℤ) (r c : ℕ) → length cs ≤ c * coded (tx_height size) + r →
+    row_input size type depth cs r c ≡ pos 0
+unfolding row_input
+input_none size type depth cs r c past =
+    cond-zero (ltb c (coded (tx_width size))) _ _
+    (ap (row_value size type depth) (get_or_past cs (c * coded (tx_height size) + r) (pos 0) past) ∙ row_value-zero size type depth) refl
+
+-- an input of a block that has no coefficient but its first
+pub input_alone : (size : TxSize) (type : TxType) (depth : ℕ) (cs : List ℤ) (r c : ℕ) → ((i : ℕ) → 0 < i → at cs i ≡ pos 0) →
+    0 < c * coded (tx_height size) + r → row_input size type depth cs r c ≡ pos 0
+unfolding row_input
+input_alone size type depth cs r c none some =
+    cond-zero (ltb c (coded (tx_width size))) _ _ (ap (row_value size type depth) (none _ some) ∙ row_value-zero size type depth) refl
 
 row-zero : (size : TxSize) (type : TxType) (depth : ℕ) (cs : List ℤ) (r c : ℕ) → IsZero cs → at (transformed_row size type depth cs r) c ≡ pos 0
 row-zero size type depth cs r c z =

@@ -1,5 +1,6 @@
 -- What the crate's own functions promise one another on the way. No public contract cites this file.
-use Rattle.std.specs.Prelude.{◌≡◌, ℕ, ◌+◌, ◌*◌, ◌/◌, ◌^◌, ◌≤◌, ◌<◌, List, length, ℤ, pos}
+use Rattle.std.specs.Prelude.{◌≡◌, true, ℕ, ◌+◌, ◌*◌, ◌/◌, ◌^◌, ◌≤◌, ◌<◌, List, length, ℤ, pos}
+use Rattle.av1_blocks.specs.declared.transform.TxType.{TxType}
 use Rattle.av1_blocks.specs.Transforms.{tx_width, tx_height, coded, coded_area}
 use Rattle.av1_lists.specs.Sides.{IsTransformSide}
 use Rattle.av1_dct.specs.Arithmetic.{at, clamp_value, FitsBits}
@@ -12,7 +13,9 @@ use Rattle.av1_itx.specs.declared.inverse.Place.{Place}
 use Rattle.av1_itx.specs.declared.lane_columns.Columns.{Columns}
 use Rattle.av1_itx.specs.Kinds.{column_kind, row_kind}
 use Rattle.av1_itx.specs.Networks.{HasNetwork, network}
-use Rattle.av1_itx.specs.Residue.{column_power, column_range, row_power, row_range, row_shift, transformed_row}
+use Rattle.av1_itx.specs.LaneGroups.{is_cosine}
+use Rattle.av1_itx.specs.Residue.{column_power, column_range, row_power, row_range, row_shift, row_value}
+use Rattle.av1_itx.specs.Residue.{transformed_row}
 use Rattle.std.specs.Prelude.{map}
 use Rattle.std.specs.Borrow.{RattleType}
 use Rattle.std.specs.Mem.{type_size}
@@ -90,3 +93,17 @@ pub record IsPlaceFor (block : Block) (place : Place) (count : ℕ) : Type 0 whe
 -- a word takes no more room in an array than 16 lanes of 32 bits
 abbrev pub IsSmallWord : RattleType → Type 0
 IsSmallWord W = type_size (the_row W) ≤ 64
+
+-- A block that takes the cosine transform both ways and has no coefficient but its first.
+pub record IsSingleBlock {C : Type 0} (val : C → ℤ) (type : TxType) (input : List C) : Type 0 where
+  pub rows : is_cosine (row_kind type) ≡ true
+  pub columns : is_cosine (column_kind type) ≡ true
+  pub none : (i : ℕ) → 0 < i → at (map val input) i ≡ pos 0
+
+-- what the columns of such a block take as their first value
+abbrev pub top_of : Block → (first : ℤ) → ℤ
+top_of block first =
+    let z = row_value block.tx_size block.tx_type block.bd first in
+    clamp_value
+    (round_shift (clamp_value (half_btf (pos 2896) z (pos 0) z) (row_range block.bd)) (row_shift block.tx_size))
+    (column_range block.bd)

@@ -13,12 +13,13 @@ ghost use Rattle.av1_frame.specs.Samples.{paint, paint_row};
 ghost use Rattle.av1_frame.specs.Regions.{InStorage, painted};
 ghost use Rattle.av1_itx.specs.LaneGroups.{lane_groups};
 ghost use Rattle.av1_itx.specs.Residue.{column_shift, residue};
-ghost use Rattle.av1_itx.specs.Scaffolding.{AreCoefficients, IsPlaceFor};
+ghost use Rattle.av1_itx.specs.Scaffolding.{AreCoefficients, IsPlaceFor, IsSingleBlock};
 
 use crate::block::Block;
-use crate::columns::column_pass;
-use crate::lanes::{CosineColumns, Lanes, Uncounted};
+use crate::columns::{column_pass, column_range_of};
+use crate::lanes::{CosineColumns, LANES, Lanes, Uncounted};
 use crate::rows::row_pass;
+use crate::single::{first_of, is_single, top_value};
 use av1_blocks::{OutOfMemory, TxSize, TxType};
 use av1_frame::{Pixel, PlaneRegionMut, StoredArea, clip, round_shift};
 use std::alloc::Global;
@@ -131,6 +132,42 @@ fn add_rows<T: Pixel>(
     }
 }
 
+// Adds one value to the row's first w samples.
+#[tactic(auto, using(av1_frame::proofs::Paint::row_repainting))]
+fn raise_row<T: Pixel>(samples: &mut [T], z: i32, w: usize, shift: usize, bd: usize)
+    requires row_long { w ≤ length samples.old }
+    requires depth { bd ≤ T.BITS }
+    requires shift_in { shift ≤ 4 }
+    requires fits { FitsBits 24 z }
+    ensures { samples.new ≡ paint_row w (λ _ v. T.pixel (clip bd (pos (T.num v) +ℤ round_shift z shift))) samples.old }
+{
+    for c in 0..w {
+        samples[c] = add_one(samples[c], z, shift, bd);
+    }
+}
+
+// Adds one value to the samples of the rectangle.
+#[tactic(auto, using(av1_frame::proofs::Paint::rectangle_painting))]
+fn raise_rows<T: Pixel>(
+    samples: &mut [T],
+    stride: usize,
+    area: StoredArea,
+    z: i32,
+    shift: usize,
+    bd: usize,
+)
+    requires rows { AreRows stride area (length samples.old) }
+    requires depth { bd ≤ T.BITS }
+    requires shift_in { shift ≤ 4 }
+    requires fits { FitsBits 24 z }
+    ensures { samples.new ≡ paint stride area (λ _ _ v. T.pixel (clip bd (pos (T.num v) +ℤ round_shift z shift))) samples.old }
+{
+    for r in 0..area.height {
+        let (_, row) = samples.split_at_mut((area.y + r) * stride + area.x);
+        raise_row(row, z, area.width, shift, bd);
+    }
+}
+
 fn column_shift_of(tx_type: TxType) -> usize
     ensures value { result ≡ column_shift tx_type }
     ensures small { result ≤ 4 }
@@ -147,6 +184,30 @@ fn column_shift_of(tx_type: TxType) -> usize
 struct Place {
     stride: usize,
     area: StoredArea,
+}
+
+// The inverse transform of a block by the cosine transforms whose only coefficient is its first: each sample takes the
+// same.
+fn add_single<T: Pixel, R: CosineColumns>(
+    lanes: &mut R,
+    input: &[T::Coeff],
+    samples: &mut [T],
+    place: Place,
+    block: Block,
+)
+    requires depth { block.bd ≤ T.BITS }
+    requires block { AreCoefficients T.Coeff.val block input.now }
+    requires place { IsPlaceFor block place (length samples.old) }
+    requires single { IsSingleBlock T.Coeff.val block.tx_type input.now }
+    ensures painted { samples.new ≡ paint place.stride place.area
+        (λ r c v. T.pixel (clip block.bd (pos (T.num v) +ℤ residue block.tx_size block.tx_type block.bd (map T.Coeff.val input.now) r c))) samples.old }
+    ensures counts { R.tally lanes.new ≡ R.raised_by (R.tally lanes.old) (lane_groups block.tx_size block.tx_type) }
+{
+    let top = top_value(first_of(input), block);
+    let groups = block.tx_size.width() / LANES;
+    let value = lanes.run_single(top, groups, column_range_of(block.bd));
+    let shift = column_shift_of(block.tx_type);
+    raise_rows(samples, place.stride, place.area, value, shift, block.bd);
 }
 
 // The inverse transform over a buffer of just the block's size.
@@ -174,7 +235,7 @@ fn add_block<T: Pixel, R: CosineColumns>(
     add_rows(samples, place.stride, place.area, buffer, shift, block.bd);
 }
 
-// The same over a whole buffer.
+// The same over a whole buffer, which a block with no coefficient but its first doesn't need.
 fn add_over<T: Pixel, R: CosineColumns>(
     buffer: &mut [i32],
     scaled: &mut [i32],
@@ -193,6 +254,10 @@ fn add_over<T: Pixel, R: CosineColumns>(
         (λ r c v. T.pixel (clip block.bd (pos (T.num v) +ℤ residue block.tx_size block.tx_type block.bd (map T.Coeff.val input.now) r c))) samples.old }
     ensures counts { R.tally lanes.new ≡ R.raised_by (R.tally lanes.old) (lane_groups block.tx_size block.tx_type) }
 {
+    if is_single(input, block.tx_type) {
+        add_single(lanes, input, samples, place, block);
+        return;
+    }
     let places = block.tx_size.height() * block.tx_size.width();
     let inputs = block.tx_size.width() * block.tx_size.height().min(32);
     add_block(

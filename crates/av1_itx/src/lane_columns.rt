@@ -1,6 +1,6 @@
 //! Groups of columns, one in each lane.
 
-ghost use Rattle.std.specs.Prelude.{◌≡◌, true, ℕ, ◌+◌, ◌-◌, ◌*◌, ◌/◌, ◌<◌, ◌≤◌, nat_le, nat_lt, ◌&&◌, if◌then◌else◌, pos, length};
+ghost use Rattle.std.specs.Prelude.{◌≡◌, true, ℕ, ◌+◌, ◌-◌, ◌*◌, ◌/◌, ◌<◌, ◌≤◌, nat_le, nat_lt, ◌&&◌, if◌then◌else◌, pos, length, ◌==◌};
 ghost use Rattle.av1_dct.specs.Arithmetic.{at, clamp_value, FitsBits};
 ghost use Rattle.av1_lists.specs.Counts.{raised};
 ghost use Rattle.av1_dct.specs.Operations.{half_btf};
@@ -13,7 +13,7 @@ use crate::kinds::TxType1D;
 use crate::networks::inverse_1d;
 use crate::words::BlockWord;
 use av1_blocks::INV_SQRT2;
-use av1_dct::{LaneCount, cosine_lanes};
+use av1_dct::{LaneCount, clamp_value, cosine_lanes, half_btf};
 use std::simd::prelude::*;
 
 /// Columns of a buffer that are transformed in place: the first `count` of `width`, of `height` rows. The buffer stands
@@ -158,4 +158,94 @@ pub(crate) fn level_columns<W: BlockWord>(buffer: &mut [i32], columns: &Columns)
     for g in 0..columns.count / m {
         level_words::<W>(buffer, m * g, columns.width, columns.height, columns.range);
     }
+}
+
+/// What a column becomes by the cosine transform whose only value is its first.
+pub(crate) fn single_value(top: i32, range: usize) -> i32
+    requires range_in { (8 ≤ range) × (range ≤ 20) }
+    ensures { result ≡ clamp_value (half_btf (pos 2896) top (pos 0) top) range }
+{
+    clamp_value(half_btf(INV_SQRT2, top, 0, top, 12), range)
+}
+
+// The same for groups of eight such columns, which are transformed, and counted. The transform of a value that stands
+// alone is the same at every length, so that four values serve.
+fn run_single_groups(
+    line: &mut [i32x8],
+    transformed: &mut [i32x8],
+    count: &mut LaneCount,
+    top: i32,
+    groups: usize,
+    range: usize,
+) -> i32
+    requires line_len { length line.old ≡ 4 }
+    requires transformed_len { length transformed.old ≡ 4 }
+    requires range_in { (8 ≤ range) × (range ≤ 20) }
+    requires fits { FitsBits range top }
+    ensures value { result ≡ clamp_value (half_btf (pos 2896) top (pos 0) top) range }
+    ensures counts { count.new.groups ≡ raised count.old.groups groups }
+{
+    // This tells the proof that the count is a u64.
+    let _count = count.groups();
+    fill_single::<i32x8>(line, top);
+    let mut value = single_value(top, range);
+    for _g in 0..groups {
+        cosine_lanes(count, 4, line, &mut [], transformed, range);
+        value = first_number::<i32x8>(transformed);
+    }
+    value
+}
+
+/// The same over the first words of lines that have more.
+pub(crate) fn run_single_in(
+    line: &mut [i32x8],
+    transformed: &mut [i32x8],
+    count: &mut LaneCount,
+    top: i32,
+    groups: usize,
+    range: usize,
+) -> i32
+    requires line_len { 4 ≤ length line.old }
+    requires transformed_len { 4 ≤ length transformed.old }
+    requires range_in { (8 ≤ range) × (range ≤ 20) }
+    requires fits { FitsBits range top }
+    ensures value { result ≡ clamp_value (half_btf (pos 2896) top (pos 0) top) range }
+    ensures counts { count.new.groups ≡ raised count.old.groups groups }
+{
+    run_single_groups(
+        &mut line[..4],
+        &mut transformed[..4],
+        count,
+        top,
+        groups,
+        range,
+    )
+}
+
+// The value at place r of a line whose first is `top` and whose others are 0.
+#[inline(always)]
+fn single_at(top: i32, r: usize) -> i32
+    ensures { result ≡ (if r == 0 then top else pos 0) }
+{
+    if r == 0 { top } else { 0 }
+}
+
+// Words of which the first alone has values, the same in each lane.
+#[inline(always)]
+fn fill_single<W: BlockWord>(line: &mut [W], top: i32)
+    ensures { (i : ℕ) → i < W.LANES → column W.lane_of i line.new ≡ by_index (length line.old) (λ r. if r == 0 then top else pos 0) }
+{
+    for r in 0..line.len() {
+        line[r] = W::splat(single_at(top, r));
+    }
+}
+
+// The number in the first lane of the first word.
+#[inline(always)]
+fn first_number<W: BlockWord>(line: &[W]) -> i32
+    requires some { 0 < length line.now }
+    requires lanes { 0 < W.LANES }
+    ensures { result ≡ at (column W.lane_of 0 line.now) 0 }
+{
+    line[0].lane(0)
 }

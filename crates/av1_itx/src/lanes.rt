@@ -3,13 +3,16 @@
 //! Rows of coefficients go the same way, since they are the columns of the list that coefficients stand in.
 
 ghost use Rattle.std.specs.Prelude.{◌≡◌, true, ℕ, pos, ◌*◌, ◌/◌, ◌<◌, ◌≤◌, IfOk, length, vec_len};
-ghost use Rattle.av1_dct.specs.Arithmetic.{at};
+ghost use Rattle.av1_dct.specs.Arithmetic.{at, clamp_value, FitsBits};
+ghost use Rattle.av1_dct.specs.Operations.{half_btf};
 ghost use Rattle.av1_lists.specs.Counts.{raised};
 ghost use Rattle.av1_itx.specs.LaneGroups.{is_cosine};
 ghost use Rattle.av1_itx.specs.Scaffolding.{AreColumns, AreLevel, AreTransformed, IsSmallWord};
 
 use crate::kinds::TxType1D;
-use crate::lane_columns::{Columns, level_columns, run_groups, run_words};
+use crate::lane_columns::{
+    Columns, level_columns, run_groups, run_single_in, run_words, single_value,
+};
 use crate::words::{BlockWord, Held};
 use av1_blocks::OutOfMemory;
 use av1_dct::{LaneCount, cosine_columns};
@@ -149,6 +152,14 @@ pub(crate) trait CosineColumns {
         ensures value { AreTransformed columns.now buffer.old buffer.new }
         ensures counts { tally self.new ≡ raised_by (tally self.old) (columns.now.count / 8) };
 
+    /// What the columns of so many groups of eight become, transformed by the cosine transform, of which each has `top`
+    /// as its first value and zeros below it.
+    fn run_single(&mut self, top: i32, groups: usize, range: usize) -> i32
+        requires range_in { (8 ≤ range) × (range ≤ 20) }
+        requires fits { FitsBits range top }
+        ensures value { result ≡ clamp_value (half_btf (pos 2896) top (pos 0) top) range }
+        ensures counts { tally self.new ≡ raised_by (tally self.old) groups };
+
     /// That no group more leaves the count as it is.
     fn none_more(&self)
         ensures { raised_by (tally self.now) 0 ≡ tally self.now };
@@ -165,6 +176,10 @@ impl CosineColumns for Uncounted {
 
     fn run_cosine(&mut self, buffer: &mut [i32], columns: &Columns) {
         run_columns(buffer, columns);
+    }
+
+    fn run_single(&mut self, top: i32, groups: usize, range: usize) -> i32 {
+        single_value(top, range)
     }
 
     fn none_more(&self) {}
@@ -223,6 +238,17 @@ impl CosineColumns for Lanes {
             &mut self.count,
             columns,
         );
+    }
+
+    fn run_single(&mut self, top: i32, groups: usize, range: usize) -> i32 {
+        run_single_in(
+            self.line.as_mut_slice(),
+            self.transformed.as_mut_slice(),
+            &mut self.count,
+            top,
+            groups,
+            range,
+        )
     }
 
     // This tells the proof that the count is a u64.

@@ -14,8 +14,9 @@
 //!   `cosine_lanes`, and the scratch counts these groups (`TxScratch::lane_groups`, which each call raises by
 //!   `lane_groups` of `specs/LaneGroups.antt`); over a `TxRoom` by `cosine_columns`, in place, or in lanes of 32 bits
 //!   where samples have 12. All others, and all rows, go eight or four at a time. Where a cosine transform has but one
-//!   value each, its first, it is one product; so are the rows of a block whose only coefficient is the first, and over
-//!   a `TxRoom` its columns.
+//!   value each, its first, it is one product: in rows, and over a `TxRoom` in columns. A block that takes the cosine
+//!   transform both ways and has no coefficient but its first adds one value to each of its samples; over a scratch its
+//!   groups of eight go through `cosine_lanes` as four values, which serve for a value that stands alone at any length.
 //! - `av1_iadst4`, `av1_iflipadst16`, `av1_iidentity32`, `av1_iwht4` and their like give the definitions of
 //!   `specs/Adst.antt`, `specs/Identity.antt` and `specs/Walsh.antt` on the first values of a slice, and leave the rest
 //!   of `output`.
@@ -42,6 +43,7 @@ mod laws;
 mod networks;
 mod rows;
 mod shift;
+mod single;
 mod walsh;
 mod words;
 

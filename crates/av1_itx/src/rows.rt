@@ -22,16 +22,19 @@ use av1_dct::clamp_value;
 use av1_frame::{Coefficient, round_shift};
 use std::simd::prelude::*;
 
+/// How many values are cleared at once.
+const PIECE: usize = 256;
+
 /// How the coefficients of a block are scaled before its rows are transformed.
 #[derive(Copy, Clone)]
-struct Scaling {
+pub(crate) struct Scaling {
     /// by the square root of one half, where one side is twice the other
     two_to_one: bool,
     /// by one quarter, where nothing is to be lost
     lossless: bool,
 }
 
-fn scaling_of(tx_size: TxSize, tx_type: TxType) -> Scaling
+pub(crate) fn scaling_of(tx_size: TxSize, tx_type: TxType) -> Scaling
     ensures two_to_one { result.two_to_one ≡ is_two_to_one tx_size }
     ensures lossless { result.lossless ≡ is_lossless tx_type }
 {
@@ -57,7 +60,7 @@ fn scaled(v: i32, scaling: Scaling) -> i32
 }
 
 // What the rows take for a coefficient.
-fn row_value_of(v: i32, scaling: Scaling, bd: usize) -> i32
+pub(crate) fn row_value_of(v: i32, scaling: Scaling, bd: usize) -> i32
     requires depth_in { (8 ≤ bd) × (bd ≤ 12) }
     requires fits { FitsBits (bd + 8) v }
     ensures { result ≡ clamp_value (if scaling.two_to_one then round_shift (pos 2896 *ℤ v) 12 else if scaling.lossless then int_shr v 2 else v) (row_range bd) }
@@ -78,13 +81,25 @@ fn scale_all<C: Coefficient>(input: &[C], scaled: &mut [i32], block: Block)
     }
 }
 
-// Makes each value 0.
-fn clear(line: &mut [i32])
+// Makes each value of a piece 0.
+#[inline(never)]
+fn clear_piece(line: &mut [i32])
     ensures { (i : ℕ) → at line.new i ≡ pos 0 }
 {
     for v in line.iter_mut() {
         *v = 0;
     }
+}
+
+// Makes each value 0, a piece at a time: what is cleared at once past 2,048 bytes takes longer to begin.
+fn clear(line: &mut [i32])
+    ensures { (i : ℕ) → at line.new i ≡ pos 0 }
+{
+    let pieces = line.len() / PIECE;
+    for g in 0..pieces {
+        clear_piece(&mut line[g * PIECE..g * PIECE + PIECE]);
+    }
+    clear_piece(&mut line[pieces * PIECE..]);
 }
 
 // The inputs of all rows that have coefficients, row r in column r: scaled coefficients as far as they are given, and
@@ -100,16 +115,17 @@ fn fill_rows<C: Coefficient>(input: &[C], scaled: &mut [i32], block: Block)
     clear(&mut scaled[given..]);
 }
 
-// Whether the rows from r on are zeros, as many as a word has lanes.
+// Whether the rows from r on are zeros in their first columns, as many rows as a word has lanes.
 #[inline(always)]
-fn are_zero<W: BlockWord>(scaled: &[i32], r: usize, rows: usize, w: usize) -> bool
+fn are_zero<W: BlockWord>(scaled: &[i32], r: usize, rows: usize, w: usize, columns: usize) -> bool
+    requires columns { columns ≤ w }
     requires rows_in { r + W.LANES ≤ rows }
     requires few_rows { rows ≤ 32 }
     requires few { w ≤ 64 }
     requires scaled_len { length scaled.now ≡ w * rows }
-    ensures { result ≡ true → (c i : ℕ) → c < w → i < W.LANES → at scaled.now (c * rows + (r + i)) ≡ pos 0 }
+    ensures { result ≡ true → (c i : ℕ) → c < columns → i < W.LANES → at scaled.now (c * rows + (r + i)) ≡ pos 0 }
 {
-    for c in 0..w {
+    for c in 0..columns {
         let word = W::read(scaled, c * rows + r);
         if !word.is_zero() {
             return false;
@@ -121,19 +137,20 @@ fn are_zero<W: BlockWord>(scaled: &[i32], r: usize, rows: usize, w: usize) -> bo
 // How many groups of rows there are up to the last one with a coefficient. A group has as many as a word has lanes.
 #[inline(always)]
 #[tactic(auto, using(crate::proofs::Eights::group_in))]
-fn live_groups<W: BlockWord>(scaled: &[i32], rows: usize, w: usize) -> usize
+fn live_groups<W: BlockWord>(scaled: &[i32], rows: usize, w: usize, columns: usize) -> usize
     requires some { 0 < W.LANES }
+    requires columns { columns ≤ w }
     requires whole { W.LANES * (rows / W.LANES) ≡ rows }
     requires few_rows { rows ≤ 32 }
     requires few { w ≤ 64 }
     requires scaled_len { length scaled.now ≡ w * rows }
     ensures within { W.LANES * result ≤ rows }
-    ensures zeros { (c r : ℕ) → c < w → W.LANES * result ≤ r → r < rows → at scaled.now (c * rows + r) ≡ pos 0 }
+    ensures zeros { (c r : ℕ) → c < columns → W.LANES * result ≤ r → r < rows → at scaled.now (c * rows + r) ≡ pos 0 }
 {
     let m = W::LANES;
     let mut groups = 0;
     for g in 0..rows / m {
-        if !are_zero::<W>(scaled, m * g, rows, w) {
+        if !are_zero::<W>(scaled, m * g, rows, w, columns) {
             groups = g + 1;
         }
     }
@@ -262,7 +279,8 @@ fn rows_of<C: Coefficient, W: BlockWord>(
     let rows = block.tx_size.height().min(32);
     let (shift, range) = (row_shift_of(block.tx_size), column_range_of(block.bd));
     fill_rows(input, scaled, block);
-    let groups = live_groups::<W>(scaled, rows, w);
+    let columns = (input.len() / rows + 1).min(w);
+    let groups = live_groups::<W>(scaled, rows, w, columns);
     let live = m * groups;
     run_columns(scaled, &rows_in(block, live));
     write_groups::<W>(

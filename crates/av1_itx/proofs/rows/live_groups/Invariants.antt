@@ -4,4 +4,4 @@ use Rattle.av1_itx.proofs.rows.live_groups.Given as goal
 
 abbrev pub invariant-loop-g : goal.invariant-loop-g
 invariant-loop-g g l =
-    (l.m * l.groups ≤ l.rows) × ((x y : ℕ) → x < l.w → l.m * l.groups ≤ y → y < l.m * l.g → at l.scaled (x * l.rows + y) ≡ pos 0)
+    (l.m * l.groups ≤ l.rows) × ((x y : ℕ) → x < l.columns → l.m * l.groups ≤ y → y < l.m * l.g → at l.scaled (x * l.rows + y) ≡ pos 0)

@@ -1,7 +1,7 @@
-use Rattle.std.proofs.Common.{arith, ℕ, ℤ, ◌≡◌, ◌≤◌, ◌<◌, ◌+◌, ◌-◌, ◌*◌, ◌++◌, ◌∙◌, ap, sym, subst, refl, map, length, drop, pos, inl, inr}
+use Rattle.std.proofs.Common.{arith, ℕ, ℤ, ◌≡◌, ◌≤◌, ◌<◌, ◌+◌, ◌-◌, ◌*◌, ◌/◌, ◌++◌, ◌∙◌, ap, sym, subst, refl, map, length, drop, pos, inl, inr}
 use Rattle.std.proofs.Math.Nat.{mul-le-mul_right}
 use Rattle.std.proofs.lemmas.Bool.{cases_lt}
-use Rattle.std.proofs.lemmas.List.{get_or_append_left, length-append, length-drop, length-take-le}
+use Rattle.std.proofs.lemmas.List.{get_or_append_left, length-append, length-drop, length-map, length-take-le}
 use Rattle.av1_blocks.specs.Transforms.{tx_height, coded}
 use Rattle.av1_dct.specs.Arithmetic.{at, FitsBits, clamp_value}
 use Rattle.av1_dct.proofs.Groups.{put}
@@ -10,8 +10,8 @@ use Rattle.av1_itx.specs.Residue.{row_shift, transformed_row}
 use Rattle.av1_itx.specs.Scaffolding.{AreColumns, AreTransformed}
 use Rattle.av1_itx.proofs.Fills.{part_len}
 use Rattle.av1_itx.proofs.Handed.{rows_are}
-use Rattle.av1_itx.proofs.Lines.{place_in, rows_end}
-use Rattle.av1_itx.proofs.Passes.{row-fits}
+use Rattle.av1_itx.proofs.Lines.{columns_hold, place_in, rows_end}
+use Rattle.av1_itx.proofs.Passes.{input_none, row-fits}
 use Rattle.av1_itx.proofs.Tiles.{eights, fours, taken-none, taken-past, taken_by_columns, tile_row}
 use Rattle.av1_itx.proofs.rows.rows_of.Goals as goal
 
@@ -79,10 +79,20 @@ returns g c = λ r x hr hx.
     ∙ ap (λ v. clamp_value (round_shift v c.row_shift_of-shift.result) c.column_range_of-range.result) (run a b ha hb)
     ∙ ap (λ n. clamp_value (round_shift z n) c.column_range_of-range.result) c.row_shift_of-shift.ensures.value
     ∙ ap (λ n. clamp_value (round_shift z (row_shift size)) n) c.column_range_of-range.ensures.value) in
+    let n_given = length c.args.input.now in
+    let given_in = columns_hold n_given c.min-rows.result (omega arith) in
+    let past_given : (y : ℕ) → n_given / c.min-rows.result + 1 ≤ y → length cs ≤ y * coded h + 0 = λ y hy.
+    (let room = mul-le-mul_right c.min-rows.result hy in
+    let same = ap (λ n. y * n) rows in
+    omega (arith, given_in, room, same, length-map c.args.input.now g.C.Coefficient.val)) in
     let none : (a b : ℕ) → q ≤ a → f a b ≡ pos 0 = λ a b ha. elim (cases_lt a (coded h)) [
-      | inl la ↦ sym (taken-none size type bd cs a b la (λ y hy. sym (c.fill_rows.ensures y a hy la)
-          ∙ subst (λ (n : ℕ). at c.fill_rows.new.scaled (y * n + a) ≡ pos 0) rows
-          (c.live_groups-groups.ensures.zeros y a (omega (arith, hy, c.width-w.ensures.value)) (omega (arith, ha, lanes)) (omega (arith, la, rows)))))
+      | inl la ↦ sym (taken-none size type bd cs a b la (λ y hy. elim (cases_lt y c.min-columns.result) [
+        | inl given ↦ sym (c.fill_rows.ensures y a hy la)
+            ∙ subst (λ (n : ℕ). at c.fill_rows.new.scaled (y * n + a) ≡ pos 0) rows
+            (c.live_groups-groups.ensures.zeros y a given (omega (arith, ha, lanes)) (omega (arith, la, rows)))
+        | inr none_given ↦ input_none size type bd cs a y
+            (let past = past_given y (omega (arith, hy, none_given, c.min-columns.ensures, c.width-w.ensures.value)) in omega (arith, past))
+      ]))
       | inr past ↦ sym (taken-past size type bd cs a b past)
     ] in
     let P : ℕ → Type 0 = λ n. at (put (q * w) (length buf - q * w) buf c.clear.new.line) (r * n + x) ≡ f r x in

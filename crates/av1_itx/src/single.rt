@@ -1,0 +1,69 @@
+//! Blocks that take the cosine transform both ways and have no coefficient but their first.
+
+ghost use Rattle.std.specs.Prelude.{◌≡◌, true, ℕ, ◌+◌, ◌<◌, ◌≤◌, pos, map};
+ghost use Rattle.av1_dct.specs.Arithmetic.{at, clamp_value, FitsBits};
+ghost use Rattle.av1_frame.specs.Arithmetic.{round_shift};
+ghost use Rattle.av1_itx.specs.Scaffolding.{IsSingleBlock, top_of};
+
+use crate::block::Block;
+use crate::columns::{column_range_of, row_shift_of};
+use crate::kinds::get_1d_tx_types;
+use crate::lane_columns::single_value;
+use crate::lanes::is_cosine;
+use crate::rows::{row_value_of, scaling_of};
+use av1_blocks::TxType;
+use av1_dct::clamp_value;
+use av1_frame::{Coefficient, round_shift};
+
+// Whether no coefficient but the first has a value. Most tell by one of the next.
+fn ends_at_first<C: Coefficient>(input: &[C]) -> bool
+    ensures { result ≡ true → (i : ℕ) → 0 < i → at (map C.val input.now) i ≡ pos 0 }
+{
+    for i in 1..input.len() {
+        let value = input[i].to_i32();
+        if value != 0 {
+            return false;
+        }
+    }
+    true
+}
+
+/// Whether a block of this type is one.
+pub(crate) fn is_single<C: Coefficient>(input: &[C], tx_type: TxType) -> bool
+    ensures { result ≡ true → IsSingleBlock C.val tx_type input.now }
+{
+    let (column, row) = get_1d_tx_types(tx_type);
+    is_cosine(column) && is_cosine(row) && ends_at_first(input)
+}
+
+/// The first coefficient, 0 where there is none.
+pub(crate) fn first_of<C: Coefficient>(input: &[C]) -> i32
+    ensures { result ≡ at (map C.val input.now) 0 }
+{
+    if input.is_empty() {
+        return 0;
+    }
+    input[0].to_i32()
+}
+
+// What the columns take of a row's value.
+fn taken_by_columns(z: i32, shift: usize, range: usize) -> i32
+    requires shift_in { shift ≤ 2 }
+    requires range_in { (8 ≤ range) × (range ≤ 20) }
+    requires fits { FitsBits 24 z }
+    ensures { result ≡ clamp_value (round_shift z shift) range }
+{
+    clamp_value(round_shift(z, shift), range)
+}
+
+/// What each column of such a block takes as its first value; all others are 0.
+pub(crate) fn top_value(first: i32, block: Block) -> i32
+    requires depth { (8 ≤ block.bd) × (block.bd ≤ 12) }
+    requires fits { FitsBits (block.bd + 8) first }
+    ensures { result ≡ top_of block first }
+{
+    let scaling = scaling_of(block.tx_size, block.tx_type);
+    let z = row_value_of(first, scaling, block.bd);
+    let row = single_value(z, block.bd + 8);
+    taken_by_columns(row, row_shift_of(block.tx_size), column_range_of(block.bd))
+}
