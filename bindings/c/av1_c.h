@@ -118,12 +118,13 @@ typedef struct {
 /* Adds the residue of a block's coefficients to samples of 8 bits, and clips, at a depth of 8: the AV1 specification's "2D inverse transform
  * process" and the addition of "Reconstruction". It takes no memory.
  *   scratch                            room for the call
- *   coefficients, coefficients_len     that of row r and column c at c * min(height, 32) + r; rows and columns from 32 on have none, and
- *                                      what stands behind those of the transform is not read
+ *   coefficients, coefficients_len     that of row r and column c at c * min(height, 32) + r; rows and columns from 32 on have none. Those that
+ *                                      the list is too short for are 0, and cost nothing, so that it may end behind the last that isn't 0; what
+ *                                      stands behind those of the transform is not read
  *   samples, samples_len, stride       the samples, in rows that stand `stride` samples apart
  *   x, y                               the column and the row of the block's first sample
  *   tx_size, tx_type                   the transform's numbers, as in plans (docs/PLAN_FORMAT.md)
- * Answers AV1_DONE, AV1_BAD_SIZE, AV1_BAD_TYPE, AV1_BAD_AREA or AV1_TOO_SHORT. */
+ * Answers AV1_DONE, AV1_BAD_SIZE, AV1_BAD_TYPE or AV1_BAD_AREA. */
 uint32_t av1_inverse_transform_add_8(av1_transform_scratch *scratch, const int16_t *coefficients, size_t coefficients_len, uint8_t *samples,
                                      size_t samples_len, size_t stride, size_t x, size_t y, uint8_t tx_size, uint8_t tx_type);
 
