@@ -9,7 +9,8 @@
 //! [`predict_intra_8`], [`predict_cfl_8`] and their like for samples of 16 bits predict a block in samples of the caller, and [`intra_edge_8`] and
 //! [`intra_edge_16`] prepare the sides from which they do; [`predict_in_plane_8`] and [`predict_in_plane_16`] do both. [`cfl_ac_8`] and [`cfl_ac_16`]
 //! give the differences of luma from its mean, by which chroma is predicted. [`angle_step`], [`smooth_neighbour`] and [`cfl_block_of`] work out
-//! numbers that these ask for. A [`PlanBuilder`] writes a plan field by field to a buffer of the caller.
+//! numbers that these ask for. A [`RegionMut`] is a rectangle of a plane that is split into disjoint ones, so that threads call on tiles of one plane.
+//! A [`PlanBuilder`] writes a plan field by field to a buffer of the caller.
 //! [`planes_len`] tells how many bytes the planes of a plan have, and [`reconstruct_plan`] writes them to a buffer of the caller:
 //!
 //! ```
@@ -46,6 +47,7 @@ mod motion;
 mod motion_place;
 mod neighbours;
 mod place;
+mod region;
 mod sys;
 mod tested;
 mod transform;
@@ -66,6 +68,7 @@ pub use motion_place::{
 };
 pub use neighbours::{Neighbours, angle_step, smooth_neighbour};
 pub use place::Place;
+pub use region::RegionMut;
 pub use tested::{Tested, prep_tested_16, put_tested_16};
 pub use transform::{
     TransformBlock, TransformScratch, inverse_transform_add_8, inverse_transform_add_16,
