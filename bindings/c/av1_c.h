@@ -65,6 +65,10 @@ enum {
     AV1_BAD_FRACTION = 15,    /* no filter has this fraction of a sample */
     AV1_BAD_SAMPLING = 16,    /* no planes have such decimations */
     AV1_BAD_PAD = 17,         /* so many columns or rows without luma of their own leave none with it */
+    /* of calls on bytes that hold plans as parts: */
+    AV1_TOO_LONG_PART = 30,   /* a part comes to a plan of more than 2^26 bytes */
+    AV1_MALFORMED_PART = 31,  /* a part is no plan, or no leaves of one */
+    AV1_INVALID_PART = 32,    /* a leaf of a part is refused */
     /* of calls of a builder: */
     AV1_NOT_NOW = 40,         /* a plan in the making asks for another kind of field next */
     AV1_NOT_ADMITTED = 41,    /* an argument has a value that is not admitted here */
@@ -105,6 +109,49 @@ uint32_t av1_planes_len(const uint8_t *bytes, size_t bytes_len, size_t *len, av1
  * Answers AV1_DONE, AV1_OUT_OF_MEMORY, AV1_ROOM_TOO_SMALL, AV1_TOO_LONG, AV1_MALFORMED or AV1_INVALID. It takes memory from the heap while it
  * runs, and gives all of it back. */
 uint32_t av1_reconstruct_plan(const uint8_t *bytes, size_t bytes_len, uint8_t *room, size_t room_len, size_t *written, av1_refusal *refusal);
+
+/* What bytes that hold plans as parts are refused for. It is written by a call that answers AV1_MALFORMED or a status of a part, and by no other. */
+typedef struct {
+    uint32_t part; /* the status of a part: the first tile or frame that is refused, counted from 0; 0 for the plan of a trace; else 0 */
+    uint32_t at;   /* AV1_MALFORMED, AV1_MALFORMED_PART: the byte, in the latter case of the part, at which the field at fault begins; else 0 */
+    uint32_t leaf; /* AV1_INVALID_PART: the first leaf of the part that is refused, counted from 0 in coding order; else 0 */
+    uint32_t kind; /* AV1_INVALID_PART: why; else 0 */
+} av1_part_refusal;
+
+/* Reconstructs a grid of tiles (docs/PLAN_FORMAT.md), and writes the visible planes of its frame as av1_reconstruct_plan does those of a plan.
+ *   bytes, bytes_len   the grid, and nothing behind it
+ *   room .. written    as above
+ *   refusal            AV1_MALFORMED: the field at fault; AV1_MALFORMED_PART, AV1_INVALID_PART: the tile, and the field or the leaf at fault
+ * Answers AV1_DONE, AV1_OUT_OF_MEMORY, AV1_ROOM_TOO_SMALL, AV1_TOO_LONG, AV1_MALFORMED, AV1_MALFORMED_PART or AV1_INVALID_PART. It takes memory
+ * from the heap while it runs, and gives all of it back. */
+uint32_t av1_reconstruct_tiles(const uint8_t *bytes, size_t bytes_len, uint8_t *room, size_t room_len, size_t *written, av1_part_refusal *refusal);
+
+/* Reconstructs a sequence of frames, each predicted from those before it, and writes the visible planes of all, one frame behind the other. Its
+ * parts are its frames. Where one is refused, nothing is written of those before it, either.
+ * Answers as av1_reconstruct_tiles, or AV1_TOO_LONG_PART: the plan of a frame with its references would have more than 2^26 bytes. */
+uint32_t av1_reconstruct_sequence(const uint8_t *bytes, size_t bytes_len, uint8_t *room, size_t room_len, size_t *written,
+                                  av1_part_refusal *refusal);
+
+/* The first visible sample of a leaf in a plane that is not the one that the plan comes to. */
+typedef struct {
+    uint32_t leaf;    /* the leaf, counted from 0 in coding order */
+    uint16_t row;     /* the row of the sample in its plane */
+    uint16_t column;  /* its column */
+    uint16_t given;   /* the sample that was given, of up to 16 bits whatever the depth */
+    uint16_t defined; /* the sample that the plan comes to */
+    uint8_t plane;    /* 0 for Y, 1 for U and 2 for V */
+} av1_difference;
+
+/* Compares the planes of a trace (docs/PLAN_FORMAT.md), as another encoder left them, with those that its plan comes to. For each leaf in coding
+ * order, and for each of Y, U and V of it, there is a difference where a visible sample of its rectangle is another: the first in raster order.
+ *   bytes, bytes_len   the trace, and nothing behind it: up to 2^27 bytes
+ *   room, room_len     the first differences, as many as there is room for; the rest stays. NULL and 0 will do
+ *   found              how many there are: 0 where the planes are those of the plan
+ *   refusal            AV1_MALFORMED: the field at fault; AV1_MALFORMED_PART, AV1_INVALID_PART: the field or the leaf of the plan at fault
+ * Answers AV1_DONE, AV1_OUT_OF_MEMORY, AV1_TOO_LONG, AV1_MALFORMED, AV1_MALFORMED_PART or AV1_INVALID_PART. It takes memory from the heap while
+ * it runs, and gives all of it back. */
+uint32_t av1_trace_differences(const uint8_t *bytes, size_t bytes_len, av1_difference *room, size_t room_len, size_t *found,
+                               av1_part_refusal *refusal);
 
 /* ---- calls on blocks: where several arguments are bad, the status is the one that the call's comment names first ---- */
 

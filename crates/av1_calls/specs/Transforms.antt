@@ -1,7 +1,7 @@
 -- What the calls that add a residue say of their arguments: of numbers of a size and a type, of where the first sample
 -- stands (column x of row y), of rows that stand `stride` apart, of how many samples there are, and of the
 -- coefficients, of which those past the end of their list are 0 (`at`).
-use Rattle.std.specs.Prelude.{◌≡◌, ◌≢◌, ◌⊎◌, Bool, ℕ, ◌+◌, ◌<◌, ◌≤◌, IsTrue, Some, ℤ, pos, ◌+ℤ◌, List, length}
+use Rattle.std.specs.Prelude.{◌≡◌, ◌≢◌, ◌⊎◌, Bool, ℕ, ◌+◌, ◌<◌, IsTrue, Some, ℤ, pos, ◌+ℤ◌, List, length}
 use Rattle.std.specs.Prelude.{map, slice_get}
 use Rattle.av1_blocks.specs.Depths.{IsDepth}
 use Rattle.av1_blocks.specs.Transforms.{coded_area, valid_av1_transform}
