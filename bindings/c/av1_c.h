@@ -42,7 +42,8 @@ uint32_t av1_c_version(void);
  *           av1_put_moved_8, av1_put_moved_16, av1_put_tested_16
  *    8,192  av1_inverse_transform_add_8, av1_inverse_transform_add_16
  *   12,288  av1_inverse_transform_add_clamped_16
- *   20,480  av1_reconstruct_plan */
+ *   16,384  av1_trace_differences
+ *   20,480  av1_reconstruct_plan, av1_reconstruct_sequence, av1_reconstruct_tiles */
 
 /* Statuses. */
 enum {
