@@ -84,7 +84,7 @@ as_the_program() {
         "$work/example" "$work/made" >"$work/planes" && cmp "$work/planes" "$work/expected"
 }
 
-programs="calls starved transform_block motion_block luma intra build_plan"
+programs="calls parts starved transform_block motion_block luma intra build_plan"
 memcheck="valgrind -q --error-exitcode=1 --leak-check=full --show-leak-kinds=all"
 
 try "the library, by LLVM" ./archive.sh out

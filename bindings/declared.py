@@ -20,6 +20,8 @@ SOURCES = [path for crate in ("av1_calls", "av1_c") for path in sorted((HERE.par
 # The structs that cross to C: in Rattle, in C, in the Rust crate.
 NAMES = {
     "Refusal": ("av1_refusal", "sys::Refusal"),
+    "PartRefusal": ("av1_part_refusal", "sys::PartRefusal"),
+    "TraceDifference": ("av1_difference", "crate::Difference"),
     "TxRoom": ("av1_transform_scratch", "sys::TransformScratch"),
     "MotionBlock": ("av1_motion_block", "crate::MotionBlock"),
     "MotionPlane": ("av1_motion_plane", "crate::MotionPlane"),

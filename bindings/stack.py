@@ -21,9 +21,9 @@ import tempfile
 
 HERE = pathlib.Path(__file__).resolve().parent
 RED_ZONE = 128
-# How many calls of a function that calls itself there are at once, at most. This one is given a level from 4 on and calls
-# itself at the level below, as its contract says, down to 0.
-NESTED = {"av1_plan::nodes::Parser::block": 5}
+# How many calls of a function that calls itself there are at once, at most. The first is given a level from 4 on and calls
+# itself at the level below, as its contract says, down to 0; the second one so a count from 31 on.
+NESTED = {"av1_plan::nodes::Parser::block": 5, "av1_tiles::bounds::starts": 32}
 WORD = 8
 HEAD = re.compile(r"^([0-9a-f]+) <(.+)>:$")
 LINE = re.compile(r"^ *([0-9a-f]+):\t(.*)$")

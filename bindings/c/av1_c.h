@@ -42,7 +42,8 @@ uint32_t av1_c_version(void);
  *           av1_put_moved_8, av1_put_moved_16, av1_put_tested_16
  *    8,192  av1_inverse_transform_add_8, av1_inverse_transform_add_16
  *   12,288  av1_inverse_transform_add_clamped_16
- *   20,480  av1_reconstruct_plan */
+ *   16,384  av1_trace_differences
+ *   20,480  av1_reconstruct_plan, av1_reconstruct_sequence, av1_reconstruct_tiles */
 
 /* Statuses. */
 enum {
@@ -65,6 +66,10 @@ enum {
     AV1_BAD_FRACTION = 15,    /* no filter has this fraction of a sample */
     AV1_BAD_SAMPLING = 16,    /* no planes have such decimations */
     AV1_BAD_PAD = 17,         /* so many columns or rows without luma of their own leave none with it */
+    /* of calls on bytes that hold plans as parts: */
+    AV1_TOO_LONG_PART = 30,   /* a part comes to a plan of more than 2^26 bytes */
+    AV1_MALFORMED_PART = 31,  /* a part is no plan, or no leaves of one */
+    AV1_INVALID_PART = 32,    /* a leaf of a part is refused */
     /* of calls of a builder: */
     AV1_NOT_NOW = 40,         /* a plan in the making asks for another kind of field next */
     AV1_NOT_ADMITTED = 41,    /* an argument has a value that is not admitted here */
@@ -106,6 +111,49 @@ uint32_t av1_planes_len(const uint8_t *bytes, size_t bytes_len, size_t *len, av1
  * runs, and gives all of it back. */
 uint32_t av1_reconstruct_plan(const uint8_t *bytes, size_t bytes_len, uint8_t *room, size_t room_len, size_t *written, av1_refusal *refusal);
 
+/* What bytes that hold plans as parts are refused for. It is written by a call that answers AV1_MALFORMED or a status of a part, and by no other. */
+typedef struct {
+    uint32_t part; /* the status of a part: the first tile or frame that is refused, counted from 0; 0 for the plan of a trace; else 0 */
+    uint32_t at;   /* AV1_MALFORMED, AV1_MALFORMED_PART: the byte, in the latter case of the part, at which the field at fault begins; else 0 */
+    uint32_t leaf; /* AV1_INVALID_PART: the first leaf of the part that is refused, counted from 0 in coding order; else 0 */
+    uint32_t kind; /* AV1_INVALID_PART: why; else 0 */
+} av1_part_refusal;
+
+/* Reconstructs a grid of tiles (docs/PLAN_FORMAT.md), and writes the visible planes of its frame as av1_reconstruct_plan does those of a plan.
+ *   bytes, bytes_len   the grid, and nothing behind it
+ *   room .. written    as above
+ *   refusal            AV1_MALFORMED: the field at fault; AV1_MALFORMED_PART, AV1_INVALID_PART: the tile, and the field or the leaf at fault
+ * Answers AV1_DONE, AV1_OUT_OF_MEMORY, AV1_ROOM_TOO_SMALL, AV1_TOO_LONG, AV1_MALFORMED, AV1_MALFORMED_PART or AV1_INVALID_PART. It takes memory
+ * from the heap while it runs, and gives all of it back. */
+uint32_t av1_reconstruct_tiles(const uint8_t *bytes, size_t bytes_len, uint8_t *room, size_t room_len, size_t *written, av1_part_refusal *refusal);
+
+/* Reconstructs a sequence of frames, each predicted from those before it, and writes the visible planes of all, one frame behind the other. Its
+ * parts are its frames. Where one is refused, nothing is written of those before it, either.
+ * Answers as av1_reconstruct_tiles, or AV1_TOO_LONG_PART: the plan of a frame with its references would have more than 2^26 bytes. */
+uint32_t av1_reconstruct_sequence(const uint8_t *bytes, size_t bytes_len, uint8_t *room, size_t room_len, size_t *written,
+                                  av1_part_refusal *refusal);
+
+/* The first visible sample of a leaf in a plane that is not the one that the plan comes to. */
+typedef struct {
+    uint32_t leaf;    /* the leaf, counted from 0 in coding order */
+    uint16_t row;     /* the row of the sample in its plane */
+    uint16_t column;  /* its column */
+    uint16_t given;   /* the sample that was given, of up to 16 bits whatever the depth */
+    uint16_t defined; /* the sample that the plan comes to */
+    uint8_t plane;    /* 0 for Y, 1 for U and 2 for V */
+} av1_difference;
+
+/* Compares the planes of a trace (docs/PLAN_FORMAT.md), as another encoder left them, with those that its plan comes to. For each leaf in coding
+ * order, and for each of Y, U and V of it, there is a difference where a visible sample of its rectangle is another: the first in raster order.
+ *   bytes, bytes_len   the trace, and nothing behind it: up to 2^27 bytes
+ *   room, room_len     the first differences, as many as there is room for; the rest stays. NULL and 0 will do
+ *   found              how many there are: 0 where the planes are those of the plan
+ *   refusal            AV1_MALFORMED: the field at fault; AV1_MALFORMED_PART, AV1_INVALID_PART: the field or the leaf of the plan at fault
+ * Answers AV1_DONE, AV1_OUT_OF_MEMORY, AV1_TOO_LONG, AV1_MALFORMED, AV1_MALFORMED_PART or AV1_INVALID_PART. It takes memory from the heap while
+ * it runs, and gives all of it back. */
+uint32_t av1_trace_differences(const uint8_t *bytes, size_t bytes_len, av1_difference *room, size_t room_len, size_t *found,
+                               av1_part_refusal *refusal);
+
 /* ---- calls on blocks: where several arguments are bad, the status is the one that the call's comment names first ---- */
 
 /* Room for one block between the passes of its transform, and for its scaled coefficients. What it holds before a call doesn't matter, so that
@@ -118,12 +166,13 @@ typedef struct {
 /* Adds the residue of a block's coefficients to samples of 8 bits, and clips, at a depth of 8: the AV1 specification's "2D inverse transform
  * process" and the addition of "Reconstruction". It takes no memory.
  *   scratch                            room for the call
- *   coefficients, coefficients_len     that of row r and column c at c * min(height, 32) + r; rows and columns from 32 on have none, and
- *                                      what stands behind those of the transform is not read
+ *   coefficients, coefficients_len     that of row r and column c at c * min(height, 32) + r; rows and columns from 32 on have none. Those that
+ *                                      the list is too short for are 0, and cost nothing, so that it may end behind the last that isn't 0; what
+ *                                      stands behind those of the transform is not read
  *   samples, samples_len, stride       the samples, in rows that stand `stride` samples apart
  *   x, y                               the column and the row of the block's first sample
  *   tx_size, tx_type                   the transform's numbers, as in plans (docs/PLAN_FORMAT.md)
- * Answers AV1_DONE, AV1_BAD_SIZE, AV1_BAD_TYPE, AV1_BAD_AREA or AV1_TOO_SHORT. */
+ * Answers AV1_DONE, AV1_BAD_SIZE, AV1_BAD_TYPE or AV1_BAD_AREA. */
 uint32_t av1_inverse_transform_add_8(av1_transform_scratch *scratch, const int16_t *coefficients, size_t coefficients_len, uint8_t *samples,
                                      size_t samples_len, size_t stride, size_t x, size_t y, uint8_t tx_size, uint8_t tx_type);
 

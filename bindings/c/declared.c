@@ -34,6 +34,9 @@ HOLDS(AV1_OUT_OF_MEMORY == 1);
 HOLDS(AV1_TOO_LONG == 3);
 HOLDS(AV1_MALFORMED == 4);
 HOLDS(AV1_INVALID == 5);
+HOLDS(AV1_TOO_LONG_PART == 30);
+HOLDS(AV1_MALFORMED_PART == 31);
+HOLDS(AV1_INVALID_PART == 32);
 HOLDS(AV1_NOT_NOW == 40);
 HOLDS(AV1_NOT_ADMITTED == 41);
 HOLDS(AV1_BAD_STATE == 42);
@@ -156,6 +159,14 @@ FIELD(av1_builder, col, uint16_t *, 26);
 FIELD(av1_builder, header, av1_plan_header *, 28);
 FIELD(av1_builder, parts, av1_builder_part (*)[13], 46);
 
+HOLDS(sizeof(av1_difference) == 16);
+FIELD(av1_difference, leaf, uint32_t *, 0);
+FIELD(av1_difference, row, uint16_t *, 4);
+FIELD(av1_difference, column, uint16_t *, 6);
+FIELD(av1_difference, given, uint16_t *, 8);
+FIELD(av1_difference, defined, uint16_t *, 10);
+FIELD(av1_difference, plane, uint8_t *, 12);
+
 HOLDS(sizeof(av1_refusal) == 12);
 FIELD(av1_refusal, at, uint32_t *, 0);
 FIELD(av1_refusal, leaf, uint32_t *, 4);
@@ -185,6 +196,12 @@ FIELD(av1_leaf, tx_size, uint8_t *, 19);
 FIELD(av1_leaf, tx_type, uint8_t *, 20);
 FIELD(av1_leaf, uv_type, uint8_t *, 21);
 
+HOLDS(sizeof(av1_part_refusal) == 16);
+FIELD(av1_part_refusal, part, uint32_t *, 0);
+FIELD(av1_part_refusal, at, uint32_t *, 4);
+FIELD(av1_part_refusal, leaf, uint32_t *, 8);
+FIELD(av1_part_refusal, kind, uint32_t *, 12);
+
 HOLDS(sizeof(av1_plan_header) == 18);
 FIELD(av1_plan_header, width, uint16_t *, 0);
 FIELD(av1_plan_header, height, uint16_t *, 2);
@@ -203,6 +220,7 @@ uint32_t av1_builder_mark(av1_builder *, uint8_t *, size_t, uint8_t);
 uint32_t av1_builder_finish(const av1_builder *, const uint8_t *, size_t, size_t *);
 uint32_t av1_builder_leaf(av1_builder *, uint8_t *, size_t, const av1_leaf *, const av1_coefficient *, size_t, const
     av1_coefficient *, size_t, const av1_coefficient *, size_t);
+uint32_t av1_trace_differences(const uint8_t *, size_t, av1_difference *, size_t, size_t *, av1_part_refusal *);
 uint32_t av1_predict_intra_8(uint8_t *, size_t, size_t, size_t, size_t, const av1_intra_block *, const uint8_t *,
     size_t, uint8_t, const uint8_t *, size_t);
 uint32_t av1_predict_intra_16(uint16_t *, size_t, size_t, size_t, size_t, const av1_intra_block *, const uint16_t *,
@@ -251,6 +269,8 @@ uint32_t av1_prep_tested_16(int16_t *, size_t, const uint16_t *, size_t, size_t,
     *, size_t);
 uint32_t av1_planes_len(const uint8_t *, size_t, size_t *, av1_refusal *);
 uint32_t av1_reconstruct_plan(const uint8_t *, size_t, uint8_t *, size_t, size_t *, av1_refusal *);
+uint32_t av1_reconstruct_sequence(const uint8_t *, size_t, uint8_t *, size_t, size_t *, av1_part_refusal *);
+uint32_t av1_reconstruct_tiles(const uint8_t *, size_t, uint8_t *, size_t, size_t *, av1_part_refusal *);
 uint32_t av1_inverse_transform_add_8(av1_transform_scratch *, const int16_t *, size_t, uint8_t *, size_t, size_t,
     size_t, size_t, uint8_t, uint8_t);
 uint32_t av1_inverse_transform_add_16(av1_transform_scratch *, const int32_t *, size_t, uint16_t *, size_t, size_t,

@@ -233,6 +233,31 @@ static void whole(const uint8_t *plan, size_t len) {
     tell("av1_c_version", taken());
 }
 
+/* A plan without references as a grid of one tile, as a sequence of one frame, and as a trace, whose planes are all 0. */
+static void parts(const uint8_t *plan, size_t len) {
+    static uint8_t room[MOST], text[2 * MOST];
+    enum { HEADER = 20 };
+    uint8_t leaves[4] = {(uint8_t)(len - HEADER), (uint8_t)((len - HEADER) >> 8), 0, 0}, whole[4] = {(uint8_t)len, (uint8_t)(len >> 8), 0, 0};
+    size_t wanted, written, found, deepest = 0;
+    av1_difference list[4];
+    av1_part_refusal told;
+    av1_refusal refusal;
+    memcpy(text, "RTL1", 4), memcpy(text + 4, plan + 4, HEADER - 4), memcpy(text + HEADER, "\1\1", 2);
+    memcpy(text + HEADER + 2, leaves, 4), memcpy(text + HEADER + 6, plan + HEADER, len - HEADER);
+    DEEP(av1_reconstruct_tiles(text, len + 6, room, sizeof room, &written, &told));
+    tell("av1_reconstruct_tiles", deepest);
+    deepest = 0;
+    memcpy(text, "RSQ1", 4), memcpy(text + 4, plan + 4, 6), memcpy(text + 10, "\1\0\0\0\0\0\0\0\0\0\0\0", 12);
+    memcpy(text + 22, leaves, 4), memcpy(text + 26, plan + HEADER, len - HEADER);
+    DEEP(av1_reconstruct_sequence(text, len + 6, room, sizeof room, &written, &told));
+    tell("av1_reconstruct_sequence", deepest);
+    deepest = 0;
+    CHECK(av1_planes_len(plan, len, &wanted, &refusal) == AV1_DONE && 8 + len + wanted <= sizeof text);
+    memcpy(text, "RTR1", 4), memcpy(text + 4, whole, 4), memcpy(text + 8, plan, len), memset(text + 8 + len, 0, wanted);
+    DEEP(av1_trace_differences(text, 8 + len + wanted, list, 4, &found, &told));
+    tell("av1_trace_differences", deepest);
+}
+
 static void builder(void) {
     static uint8_t room[MOST];
     static const av1_plan_header header = {.width = 8, .height = 8, .version = 1, .depth = 8, .sampling = 2, .mask = 1};
@@ -265,6 +290,7 @@ int main(int count, char **words) {
     fclose(file);
     fill();
     whole(plan, len);
+    parts(plan, len);
     builder();
     for (int is_deep = 0; is_deep < 2; is_deep++) {
         transforms(is_deep);

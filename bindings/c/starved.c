@@ -37,16 +37,59 @@ void rattle_dealloc(void *p) {
     free(p);
 }
 
-static uint32_t starve(const uint8_t *plan, size_t len, const uint8_t *planes, size_t wanted, long from, long to) {
-    static uint8_t room[4096];
-    size_t written = 77;
+enum { PLAN, TILES, SEQUENCE, TRACE, KINDS, HEADER = 20, MOST = 4096 };
+
+/* What a call is given: the plan, or a grid of one tile, a sequence of one frame or a trace of it. */
+typedef struct {
+    int kind;
+    uint8_t bytes[2 * MOST];
+    size_t len;
+} given;
+
+static void put(given *to, const void *bytes, size_t len) {
+    CHECK(to->len + len <= sizeof to->bytes);
+    memcpy(to->bytes + to->len, bytes, len);
+    to->len += len;
+}
+
+static void put_part(given *to, const uint8_t *bytes, size_t len) {
+    uint8_t length[4] = {(uint8_t)len, (uint8_t)(len >> 8), 0, 0};
+    put(to, length, 4);
+    put(to, bytes, len);
+}
+
+static void give(given *to, int kind, const uint8_t *plan, size_t len, const uint8_t *planes, size_t wanted) {
+    to->kind = kind, to->len = 0;
+    if (kind == PLAN) put(to, plan, len);
+    if (kind == TILES) put(to, "RTL1", 4), put(to, plan + 4, HEADER - 4), put(to, "\1\1", 2);
+    if (kind == SEQUENCE) put(to, "RSQ1", 4), put(to, plan + 4, 6), put(to, "\1\0\0\0\0\0\0\0\0\0\0", 12);
+    if (kind == TILES || kind == SEQUENCE) put_part(to, plan + HEADER, len - HEADER);
+    if (kind == TRACE) put(to, "RTR1", 4), put_part(to, plan, len), put(to, planes, wanted);
+}
+
+static uint32_t call(const given *it, uint8_t *room, size_t *written) {
     av1_refusal refusal = {7, 8, 9};
+    av1_part_refusal told = {7, 8, 9, 10};
+    av1_difference list[1];
+    uint32_t status = it->kind == PLAN ? av1_reconstruct_plan(it->bytes, it->len, room, MOST, written, &refusal)
+        : it->kind == TILES ? av1_reconstruct_tiles(it->bytes, it->len, room, MOST, written, &told)
+        : it->kind == SEQUENCE ? av1_reconstruct_sequence(it->bytes, it->len, room, MOST, written, &told)
+        : av1_trace_differences(it->bytes, it->len, list, 1, written, &told);
+    CHECK(refusal.at == 7 && refusal.leaf == 8 && refusal.kind == 9);
+    CHECK(told.part == 7 && told.at == 8 && told.leaf == 9 && told.kind == 10);
+    return status;
+}
+
+static uint32_t starve(const given *it, const uint8_t *planes, size_t wanted, long from, long to) {
+    static uint8_t room[MOST];
+    size_t written = 77;
     memset(room, 0xA5, sizeof room);
     asked = 0, first = from, last = to;
-    uint32_t status = av1_reconstruct_plan(plan, len, room, sizeof room, &written, &refusal);
+    uint32_t status = call(it, room, &written);
     CHECK(kept == 0);
-    CHECK(refusal.at == 7 && refusal.leaf == 8 && refusal.kind == 9);
-    if (status == AV1_DONE) {
+    if (status == AV1_DONE && it->kind == TRACE) {
+        CHECK(written == 0 && room[0] == 0xA5);
+    } else if (status == AV1_DONE) {
         CHECK(written == wanted && !memcmp(room, planes, wanted));
     } else {
         CHECK(status == AV1_OUT_OF_MEMORY && written == 77);
@@ -63,17 +106,25 @@ static size_t read_file(const char *name, uint8_t *bytes, size_t most) {
     return len;
 }
 
-int main(int count, char **words) {
-    static uint8_t plan[4096], planes[4096];
-    CHECK(count == 3);
-    size_t len = read_file(words[1], plan, sizeof plan), wanted = read_file(words[2], planes, sizeof planes);
-    CHECK(starve(plan, len, planes, wanted, 1, 0) == AV1_DONE);
+static void starve_each(const given *it, const uint8_t *planes, size_t wanted) {
+    CHECK(starve(it, planes, wanted, 1, 0) == AV1_DONE);
     long all = asked, refused = 0;
     for (long i = 1; i <= all; i++) {
-        CHECK(starve(plan, len, planes, wanted, i, 1000000) == AV1_OUT_OF_MEMORY);
-        refused += starve(plan, len, planes, wanted, i, i) == AV1_OUT_OF_MEMORY;
+        CHECK(starve(it, planes, wanted, i, 1000000) == AV1_OUT_OF_MEMORY);
+        refused += starve(it, planes, wanted, i, i) == AV1_OUT_OF_MEMORY;
     }
     CHECK(refused > 0);
     printf("each of %ld allocations refused: %ld alone ended the call\n", all, refused);
+}
+
+int main(int count, char **words) {
+    static uint8_t plan[MOST], planes[MOST];
+    static given it;
+    CHECK(count == 3);
+    size_t len = read_file(words[1], plan, sizeof plan), wanted = read_file(words[2], planes, sizeof planes);
+    for (int kind = 0; kind < KINDS; kind++) {
+        give(&it, kind, plan, len, planes, wanted);
+        starve_each(&it, planes, wanted);
+    }
     return 0;
 }

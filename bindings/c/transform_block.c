@@ -39,7 +39,7 @@ static void blocks_of_8_bits(void) {
 static const struct { size_t coefficients, samples, stride, x, y; uint8_t size, type; uint32_t status; } refused[] = {
     {16, ALL, STRIDE, 77, 0, TX_4X4, DCT_DCT, AV1_BAD_AREA},       {16, ALL, STRIDE, 0, 67, TX_4X4, DCT_DCT, AV1_BAD_AREA},
     {16, ALL, STRIDE, SIZE_MAX, 0, TX_4X4, DCT_DCT, AV1_BAD_AREA}, {16, ALL, SIZE_MAX, 0, 0, TX_4X4, DCT_DCT, AV1_BAD_AREA},
-    {16, 0, 0, 0, 0, TX_4X4, DCT_DCT, AV1_BAD_AREA},               {15, ALL, STRIDE, 0, 0, TX_4X4, DCT_DCT, AV1_TOO_SHORT},
+    {16, 0, 0, 0, 0, TX_4X4, DCT_DCT, AV1_BAD_AREA},               {0, ALL, STRIDE, 77, 0, TX_4X4, DCT_DCT, AV1_BAD_AREA},
     {16, ALL, STRIDE, 0, 0, 19, DCT_DCT, AV1_BAD_SIZE},            {16, ALL, STRIDE, 0, 0, TX_4X4, 17, AV1_BAD_TYPE},
     {1024, ALL, STRIDE, 0, 0, TX_64X64, ADST_DCT, AV1_BAD_TYPE},   {1024, ALL, STRIDE, 0, 0, TX_64X64, WHT_WHT, AV1_BAD_TYPE},
 };
@@ -67,9 +67,28 @@ static void blocks_of_10_bits(void) {
     for (int i = 0; i < 16; i++) CHECK(samples[i] == before[i] + 3);
 }
 
+/* How many coefficients the transform of each size has. */
+static const unsigned numbers[] = {16, 64, 256, 1024, 1024, 32, 32, 128, 128, 512, 512, 1024, 1024, 64, 64, 256, 256, 512, 512};
+
+/* Lists that end early: the same as with zeros behind them, in every size and at every length. */
+static void short_lists(void) {
+    static uint8_t samples[ALL], other[ALL];
+    static int16_t given[1024], filled[1024];
+    for (uint8_t size = 0; size < 19; size++)
+        for (unsigned count = 0; count <= numbers[size]; count += 1 + count / 5) {
+            for (size_t i = 0; i < ALL; i++) samples[i] = other[i] = (uint8_t)i;
+            for (unsigned i = 0; i < 1024; i++) {
+                given[i] = (int16_t)(i * 7919 % 4001 - 2000);
+                filled[i] = i < count ? given[i] : 0;
+            }
+            CHECK(av1_inverse_transform_add_8(scratch, count ? given : NULL, count, samples, ALL, STRIDE, 5, 3, size, DCT_DCT) == AV1_DONE);
+            CHECK(av1_inverse_transform_add_8(scratch, filled, 1024, other, ALL, STRIDE, 5, 3, size, DCT_DCT) == AV1_DONE);
+            CHECK(!memcmp(samples, other, sizeof samples));
+        }
+}
+
 /* Coefficients of more than 18 bits: cut to those they are next to, in every size. */
 static void clamped_blocks(void) {
-    static const unsigned numbers[] = {16, 64, 256, 1024, 1024, 32, 32, 128, 128, 512, 512, 1024, 1024, 64, 64, 256, 256, 512, 512};
     static uint16_t samples[ALL], other[ALL];
     static int32_t many[1024], cut[1024];
     uint64_t state = 1;
@@ -88,8 +107,11 @@ static void clamped_blocks(void) {
         CHECK(av1_inverse_transform_add_clamped_16(scratch, cut, numbers[size], samples, ALL, STRIDE, 5, 3, size, DCT_DCT, 10) == AV1_DONE);
         CHECK(av1_inverse_transform_add_16(scratch, cut, numbers[size], other, ALL, STRIDE, 5, 3, size, DCT_DCT, 10) == AV1_DONE);
         CHECK(!memcmp(samples, other, sizeof samples));
-        CHECK(av1_inverse_transform_add_clamped_16(scratch, many, numbers[size] - 1, samples, ALL, STRIDE, 5, 3, size, DCT_DCT, 10) == AV1_TOO_SHORT);
         CHECK(av1_inverse_transform_add_clamped_16(scratch, many, numbers[size], samples, ALL, STRIDE, 5, 3, size, DCT_DCT, 9) == AV1_BAD_DEPTH);
+        CHECK(!memcmp(samples, other, sizeof samples));
+        cut[numbers[size] - 1] = 0;
+        CHECK(av1_inverse_transform_add_clamped_16(scratch, many, numbers[size] - 1, samples, ALL, STRIDE, 5, 3, size, DCT_DCT, 10) == AV1_DONE);
+        CHECK(av1_inverse_transform_add_16(scratch, cut, numbers[size], other, ALL, STRIDE, 5, 3, size, DCT_DCT, 10) == AV1_DONE);
         CHECK(!memcmp(samples, other, sizeof samples));
     }
 }
@@ -99,6 +121,7 @@ int main(void) {
     CHECK(scratch);
     blocks_of_8_bits();
     refused_blocks();
+    short_lists();
     blocks_of_10_bits();
     clamped_blocks();
     free(scratch);

@@ -1,4 +1,5 @@
 /* Whole plans: av1_planes_len and av1_reconstruct_plan, on the fuzzer's bytes, and on plans that a builder made and some of whose bytes were changed.
+ * The same plans as grids of one tile, as sequences of one frame and as traces: av1_reconstruct_tiles, av1_reconstruct_sequence, av1_trace_differences.
  * The library takes memory by the functions here: now and then an allocation fails, and now and then each lies flush with a page that no one may touch. */
 #include "plans.h"
 
@@ -118,6 +119,84 @@ static void told(uint32_t status, av1_refusal refusal, size_t len) {
     else CHECK(refusal.at == 7 && refusal.leaf == 8 && refusal.kind == 9);
 }
 
+/* ---- a plan as the part of something else ---- */
+
+static uint8_t text[SLOT];
+static size_t text_len;
+
+static void put(const void *bytes, size_t len) {
+    memcpy(text + text_len, bytes, len);
+    text_len += len;
+}
+
+static void put_part(const uint8_t *bytes, size_t len) {
+    uint8_t length[4] = {(uint8_t)len, (uint8_t)(len >> 8), (uint8_t)(len >> 16), 0};
+    put(length, 4);
+    put(bytes, len);
+}
+
+/* What a part is refused for is what the plan is refused for, but that marks 8 and 9 are admitted in every part. `front` bytes are not in it. */
+static void told_alike(uint32_t status, av1_part_refusal told, uint32_t plan_status, av1_refusal plan_told, size_t front) {
+    if (status == AV1_MALFORMED_PART && plan_status == AV1_MALFORMED) CHECK(told.at + front == plan_told.at);
+    if (status == AV1_INVALID_PART && plan_status == AV1_INVALID) CHECK(told.leaf == plan_told.leaf && told.kind == plan_told.kind);
+    if (plan_status == AV1_DONE) CHECK(status == AV1_DONE || status == AV1_OUT_OF_MEMORY);
+    if (status == AV1_MALFORMED_PART || status == AV1_INVALID_PART) CHECK(plan_status == AV1_MALFORMED || plan_status == AV1_INVALID);
+}
+
+/* The text comes to the planes that the plan came to. */
+static void comes_to(bool sequence, numbers planes, size_t wanted, uint32_t plan_status, av1_refusal plan_told, size_t front) {
+    numbers bytes = lay(text_len, 1), room = lay_filled(planes.count, 1, 255);
+    memcpy(bytes.at, text, text_len), keep(bytes);
+    av1_part_refusal refusal = {7, 8, 9, 10};
+    size_t written = 77;
+    kept = 0;
+    uint32_t status = (sequence ? av1_reconstruct_sequence : av1_reconstruct_tiles)(bytes.at, bytes.count, room.at, room.count, &written, &refusal);
+    came_up(2 + sequence, refusal.kind, refusal.leaf, status);
+    answered(status, 0 OR(DONE) OR(OUT_OF_MEMORY) OR(MALFORMED) OR(MALFORMED_PART) OR(INVALID_PART));
+    CHECK(kept == 0);
+    told_alike(status, refusal, plan_status, plan_told, front);
+    all_kept(bytes);
+    if (status != AV1_DONE) {
+        CHECK(written == 77);
+        all_kept(room);
+        return;
+    }
+    CHECK(written == wanted);
+    kept_behind(room, written);
+    if (plan_status == AV1_DONE) CHECK(!memcmp(room.at, planes.at, written));
+}
+
+/* The plan and the planes that it came to, of which a sample may be changed, as a trace. */
+static void as_trace(numbers plan, numbers planes, size_t wanted) {
+    av1_part_refusal refusal = {7, 8, 9, 10};
+    av1_difference list[4];
+    size_t found = 77, changed = one_in(2) ? below(wanted) : wanted;
+    text_len = 0;
+    put("RTR1", 4), put_part(plan.at, plan.count), put(planes.at, wanted);
+    if (changed < wanted) text[text_len - wanted + changed] ^= 1;
+    kept = 0;
+    uint32_t status = av1_trace_differences(text, text_len, list, 4, &found, &refusal);
+    CHECK(status == AV1_DONE || status == AV1_OUT_OF_MEMORY);
+    CHECK(kept == 0 && refusal.at == 8);
+    CHECK(found == (status != AV1_DONE ? 77 : changed < wanted ? 1 : 0));
+}
+
+/* All three, where all of the references are there. */
+static void as_parts(numbers plan, numbers planes, size_t wanted, uint32_t status, av1_refusal refusal) {
+    const uint8_t *bytes = plan.at;
+    size_t front = 20 + (size_t)__builtin_popcount(bytes[19]) * wanted;
+    if (plan.count < front || plan.count + wanted > SLOT / 4) return;
+    text_len = 0;
+    put("RTL1", 4), put(bytes + 4, front - 4), put("\1\1", 2), put_part(bytes + front, plan.count - front);
+    comes_to(false, planes, wanted, status, refusal, front);
+    if (bytes[19] == 0) {
+        text_len = 0;
+        put("RSQ1", 4), put(bytes + 4, 6), put("\1", 2), put(bytes + 10, 9), put("", 1), put_part(bytes + front, plan.count - front);
+        comes_to(true, planes, wanted, status, refusal, front);
+    }
+    if (status == AV1_DONE) as_trace(plan, planes, wanted);
+}
+
 int LLVMFuzzerTestOneInput(const uint8_t *data, size_t length) {
     begin(data, length);
     guarded = one_in(4);
@@ -142,6 +221,10 @@ int LLVMFuzzerTestOneInput(const uint8_t *data, size_t length) {
     } else {
         CHECK(written == 77);
         all_kept(room);
+    }
+    if (wanted != SIZE_MAX && room.count >= wanted && (status == AV1_DONE || status == AV1_MALFORMED || status == AV1_INVALID)) {
+        left_to_give = give;
+        as_parts(plan, room, wanted, status, refusal);
     }
     return 0;
 }

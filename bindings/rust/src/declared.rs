@@ -39,6 +39,9 @@ holds!(sys::OUT_OF_MEMORY == 1);
 holds!(sys::TOO_LONG == 3);
 holds!(sys::MALFORMED == 4);
 holds!(sys::INVALID == 5);
+holds!(sys::TOO_LONG_PART == 30);
+holds!(sys::MALFORMED_PART == 31);
+holds!(sys::INVALID_PART == 32);
 holds!(sys::NOT_NOW == 40);
 holds!(sys::NOT_ADMITTED == 41);
 holds!(sys::BAD_STATE == 42);
@@ -161,6 +164,14 @@ field!(sys::Builder, col, u16, 26);
 field!(sys::Builder, header, crate::Header, 28);
 field!(sys::Builder, parts, [sys::BuilderPart; 13], 46);
 
+holds!(size_of::<crate::Difference>() == 16);
+field!(crate::Difference, leaf, u32, 0);
+field!(crate::Difference, row, u16, 4);
+field!(crate::Difference, column, u16, 6);
+field!(crate::Difference, given, u16, 8);
+field!(crate::Difference, defined, u16, 10);
+field!(crate::Difference, plane, u8, 12);
+
 holds!(size_of::<sys::Refusal>() == 12);
 field!(sys::Refusal, at, u32, 0);
 field!(sys::Refusal, leaf, u32, 4);
@@ -190,6 +201,12 @@ field!(crate::Leaf, tx_size, u8, 19);
 field!(crate::Leaf, tx_type, u8, 20);
 field!(crate::Leaf, uv_type, u8, 21);
 
+holds!(size_of::<sys::PartRefusal>() == 16);
+field!(sys::PartRefusal, part, u32, 0);
+field!(sys::PartRefusal, at, u32, 4);
+field!(sys::PartRefusal, leaf, u32, 8);
+field!(sys::PartRefusal, kind, u32, 12);
+
 holds!(size_of::<crate::Header>() == 18);
 field!(crate::Header, width, u16, 0);
 field!(crate::Header, height, u16, 2);
@@ -208,6 +225,8 @@ const _: unsafe extern "C" fn(&mut sys::Builder, *mut u8, usize, u8) -> u32 = sy
 const _: unsafe extern "C" fn(&sys::Builder, *const u8, usize, &mut usize) -> u32 = sys::av1_builder_finish;
 const _: unsafe extern "C" fn(&mut sys::Builder, *mut u8, usize, &crate::Leaf, *const crate::Coefficient, usize, *const
     crate::Coefficient, usize, *const crate::Coefficient, usize) -> u32 = sys::av1_builder_leaf;
+const _: unsafe extern "C" fn(*const u8, usize, *mut crate::Difference, usize, &mut usize, &mut sys::PartRefusal) -> u32
+    = sys::av1_trace_differences;
 const _: unsafe extern "C" fn(*mut u8, usize, usize, usize, usize, &crate::IntraBlock, *const u8, usize, u8, *const u8,
     usize) -> u32 = sys::av1_predict_intra_8;
 const _: unsafe extern "C" fn(*mut u16, usize, usize, usize, usize, &crate::IntraBlock, *const u16, usize, u16, *const
@@ -262,6 +281,10 @@ const _: unsafe extern "C" fn(*mut i16, usize, *const u16, usize, usize, usize, 
 const _: unsafe extern "C" fn(*const u8, usize, &mut usize, &mut sys::Refusal) -> u32 = sys::av1_planes_len;
 const _: unsafe extern "C" fn(*const u8, usize, *mut u8, usize, &mut usize, &mut sys::Refusal) -> u32 =
     sys::av1_reconstruct_plan;
+const _: unsafe extern "C" fn(*const u8, usize, *mut u8, usize, &mut usize, &mut sys::PartRefusal) -> u32 =
+    sys::av1_reconstruct_sequence;
+const _: unsafe extern "C" fn(*const u8, usize, *mut u8, usize, &mut usize, &mut sys::PartRefusal) -> u32 =
+    sys::av1_reconstruct_tiles;
 const _: unsafe extern "C" fn(&mut sys::TransformScratch, *const i16, usize, *mut u8, usize, usize, usize, usize, u8,
     u8) -> u32 = sys::av1_inverse_transform_add_8;
 const _: unsafe extern "C" fn(&mut sys::TransformScratch, *const i32, usize, *mut u16, usize, usize, usize, usize, u8,

@@ -9,8 +9,11 @@
 //! [`predict_intra_8`], [`predict_cfl_8`] and their like for samples of 16 bits predict a block in samples of the caller, and [`intra_edge_8`] and
 //! [`intra_edge_16`] prepare the sides from which they do; [`predict_in_plane_8`] and [`predict_in_plane_16`] do both. [`cfl_ac_8`] and [`cfl_ac_16`]
 //! give the differences of luma from its mean, by which chroma is predicted. [`angle_step`], [`smooth_neighbour`] and [`cfl_block_of`] work out
-//! numbers that these ask for. A [`PlanBuilder`] writes a plan field by field to a buffer of the caller.
-//! [`planes_len`] tells how many bytes the planes of a plan have, and [`reconstruct_plan`] writes them to a buffer of the caller:
+//! numbers that these ask for. A [`RegionMut`] is a rectangle of a plane that is split into disjoint ones, so that threads call on tiles of one plane.
+//! A [`PlanBuilder`] writes a plan field by field to a buffer of the caller.
+//! [`reconstruct_tiles`] and [`reconstruct_sequence`] write the planes of a grid of tiles and of a sequence of frames to a buffer of the caller, and
+//! [`trace_differences`] lists where planes of another encoder are not those of their plan.
+//! [`planes_len`] tells how many bytes the planes of a plan have, and [`reconstruct_plan`] writes them likewise:
 //!
 //! ```
 //! // A frame of 8x8 in 4:4:4 at depth 8, of which one block covers all: samples of the middle.
@@ -45,7 +48,9 @@ mod luma;
 mod motion;
 mod motion_place;
 mod neighbours;
+mod parts;
 mod place;
+mod region;
 mod sys;
 mod tested;
 mod transform;
@@ -65,7 +70,9 @@ pub use motion_place::{
     put_moved_8, put_moved_16,
 };
 pub use neighbours::{Neighbours, angle_step, smooth_neighbour};
+pub use parts::{Difference, reconstruct_sequence, reconstruct_tiles, trace_differences};
 pub use place::Place;
+pub use region::RegionMut;
 pub use tested::{Tested, prep_tested_16, put_tested_16};
 pub use transform::{
     TransformBlock, TransformScratch, inverse_transform_add_8, inverse_transform_add_16,
@@ -91,6 +98,27 @@ pub enum Error {
     /// A leaf is refused.
     Invalid {
         /// The first that is, counted from 0 in coding order.
+        leaf: u32,
+        /// Why.
+        kind: InvalidKind,
+    },
+    /// Part number `part`, counted from 0, comes to a plan of more than 2^26 bytes.
+    TooLongPart {
+        /// The first part that is refused.
+        part: u32,
+    },
+    /// The field of a part that begins at its byte `at` is cut, has a value that is not admitted, or is left over after its end.
+    MalformedPart {
+        /// The first part that is refused, counted from 0.
+        part: u32,
+        /// The byte at which the field begins.
+        at: u32,
+    },
+    /// A leaf of a part is refused.
+    InvalidPart {
+        /// The first part that is refused, counted from 0.
+        part: u32,
+        /// Its first leaf that is, counted from 0 in coding order.
         leaf: u32,
         /// Why.
         kind: InvalidKind,
@@ -160,6 +188,11 @@ impl fmt::Display for Error {
             Error::TooLong => f.write_str("too long"),
             Error::Malformed { at } => write!(f, "malformed at {at}"),
             Error::Invalid { leaf, kind } => write!(f, "invalid leaf {leaf}: {kind}"),
+            Error::TooLongPart { part } => write!(f, "part {part}: too long"),
+            Error::MalformedPart { part, at } => write!(f, "part {part}: malformed at {at}"),
+            Error::InvalidPart { part, leaf, kind } => {
+                write!(f, "part {part}: invalid leaf {leaf}: {kind}")
+            }
             Error::BadSize => f.write_str("bad size"),
             Error::BadType => f.write_str("bad type"),
             Error::BadDepth => f.write_str("bad depth"),

@@ -3,8 +3,8 @@
 use crate::builder::{Coefficient, Header, Leaf};
 use crate::motion::MotionBlock;
 use crate::{
-    CflBlock, EdgeBlock, EdgePlane, IntraBlock, LumaBlock, MotionPlane, MovedBlock, MovedPlace,
-    Neighbours,
+    CflBlock, Difference, EdgeBlock, EdgePlane, IntraBlock, LumaBlock, MotionPlane, MovedBlock,
+    MovedPlace, Neighbours,
 };
 
 pub const DONE: u32 = 0;
@@ -25,6 +25,9 @@ pub const BAD_ANGLE: u32 = 14;
 pub const BAD_FRACTION: u32 = 15;
 pub const BAD_SAMPLING: u32 = 16;
 pub const BAD_PAD: u32 = 17;
+pub const TOO_LONG_PART: u32 = 30;
+pub const MALFORMED_PART: u32 = 31;
+pub const INVALID_PART: u32 = 32;
 pub const NOT_NOW: u32 = 40;
 pub const NOT_ADMITTED: u32 = 41;
 pub const BAD_STATE: u32 = 42;
@@ -40,6 +43,16 @@ pub const INVALID_COEFFICIENT: u32 = 6;
 #[repr(C)]
 #[derive(Default)]
 pub struct Refusal {
+    pub at: u32,
+    pub leaf: u32,
+    pub kind: u32,
+}
+
+/// `av1_part_refusal`.
+#[repr(C)]
+#[derive(Default)]
+pub struct PartRefusal {
+    pub part: u32,
     pub at: u32,
     pub leaf: u32,
     pub kind: u32,
@@ -91,6 +104,33 @@ extern "C" {
         room_len: usize,
         written: &mut usize,
         refusal: &mut Refusal,
+    ) -> u32;
+
+    pub fn av1_reconstruct_tiles(
+        bytes: *const u8,
+        bytes_len: usize,
+        room: *mut u8,
+        room_len: usize,
+        written: &mut usize,
+        refusal: &mut PartRefusal,
+    ) -> u32;
+
+    pub fn av1_reconstruct_sequence(
+        bytes: *const u8,
+        bytes_len: usize,
+        room: *mut u8,
+        room_len: usize,
+        written: &mut usize,
+        refusal: &mut PartRefusal,
+    ) -> u32;
+
+    pub fn av1_trace_differences(
+        bytes: *const u8,
+        bytes_len: usize,
+        room: *mut Difference,
+        room_len: usize,
+        found: &mut usize,
+        refusal: &mut PartRefusal,
     ) -> u32;
 
     pub fn av1_inverse_transform_add_8(

@@ -32,11 +32,12 @@ pub struct TransformBlock {
 }
 
 /// Adds the residue of a block's coefficients to samples of 8 bits, whose rows stand `stride` apart, and clips, at a depth of 8. The
-/// coefficient of row r and column c stands at `c * min(height, 32) + r`; the rows and columns from 32 on have none.
+/// coefficient of row r and column c stands at `c * min(height, 32) + r`; the rows and columns from 32 on have none. Those that `coefficients`
+/// is too short for are 0, and cost nothing, so that it may end behind the last that isn't 0.
 ///
 /// # Errors
 ///
-/// `BadSize`, then `BadType`, then `BadArea`, then `TooShort`. The samples are then as they were.
+/// `BadSize`, then `BadType`, then `BadArea`. The samples are then as they were.
 pub fn inverse_transform_add_8(
     scratch: &mut TransformScratch,
     coefficients: &[i16],
@@ -65,7 +66,7 @@ pub fn inverse_transform_add_8(
 ///
 /// # Errors
 ///
-/// `BadSize`, then `BadType`, then `BadArea`, then `TooShort`, then `BadDepth`, then `BadCoefficient`: one of the transform's coefficients
+/// `BadSize`, then `BadType`, then `BadArea`, then `BadDepth`, then `BadCoefficient`: one of the transform's coefficients
 /// has more than `bit_depth + 8` bits, its sign among them. The samples are then as they were.
 pub fn inverse_transform_add_16(
     scratch: &mut TransformScratch,
@@ -98,7 +99,7 @@ pub fn inverse_transform_add_16(
 ///
 /// # Errors
 ///
-/// `BadSize`, then `BadType`, then `BadArea`, then `TooShort`, then `BadDepth`. The samples are then as they were.
+/// `BadSize`, then `BadType`, then `BadArea`, then `BadDepth`. The samples are then as they were.
 pub fn inverse_transform_add_clamped_16(
     scratch: &mut TransformScratch,
     coefficients: &[i32],

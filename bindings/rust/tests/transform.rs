@@ -56,10 +56,6 @@ fn refused_blocks_leave_the_samples_alone() {
         tx_type: 17,
         ..block_at(0, 0)
     };
-    let long = TransformBlock {
-        tx_size: 1,
-        ..block_at(0, 0)
-    };
     let sine = TransformBlock {
         tx_size: 3,
         tx_type: 1,
@@ -68,11 +64,30 @@ fn refused_blocks_leave_the_samples_alone() {
     assert_eq!(refusal(8, size), Err(Error::BadSize));
     assert_eq!(refusal(8, kind), Err(Error::BadType));
     assert_eq!(refusal(8, sine), Err(Error::BadType));
-    assert_eq!(refusal(8, long), Err(Error::TooShort));
     assert_eq!(refusal(8, block_at(5, 0)), Err(Error::BadArea));
     assert_eq!(refusal(8, block_at(0, usize::MAX)), Err(Error::BadArea));
     assert_eq!(refusal(0, block_at(0, 0)), Err(Error::BadArea));
     assert_eq!(samples, [128; 64]);
+}
+
+#[test]
+fn a_list_may_end_behind_the_last_coefficient_that_is_not_0() {
+    let mut scratch = TransformScratch::new();
+    for count in 0..=64 {
+        let given: Vec<i16> = (0..count).map(|i| 400 - 31 * i).collect();
+        let mut filled = given.clone();
+        filled.resize(64, 0);
+        let block = TransformBlock {
+            tx_size: 1,
+            ..block_at(0, 0)
+        };
+        let (mut samples, mut expected) = ([128; 64], [128; 64]);
+        for (coefficients, samples) in [(&given, &mut samples), (&filled, &mut expected)] {
+            let added = inverse_transform_add_8(&mut scratch, coefficients, samples, 8, block);
+            assert_eq!(added, Ok(()));
+        }
+        assert_eq!(samples, expected);
+    }
 }
 
 #[test]

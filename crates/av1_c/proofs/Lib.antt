@@ -5,3 +5,7 @@ pub mod Appended
 pub mod Arrays
 pub mod Builds
 pub mod LeafBytes
+pub mod Parts
+pub mod TileGrids
+pub mod Sequences
+pub mod TraceCalls

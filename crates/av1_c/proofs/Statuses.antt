@@ -21,7 +21,7 @@ pub passed_on : (bytes : List ℕ) (room : ℕ) (result : Result ℕ PlanFault) 
 passed_on bytes room (Ok count) e is cause = absurd is
 passed_on bytes room (Err fault) e is cause = subst (IsCause bytes room) (sym is) (cause room)
 
-abbrev by_length : Bool → ℕ
+abbrev pub by_length : Bool → ℕ
 by_length fits = if fits then DONE else ROOM_TOO_SMALL
 
 -- 0 is asked for where planes fit

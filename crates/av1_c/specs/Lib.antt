@@ -3,3 +3,9 @@ pub mod Plans
 pub mod Builders
 pub mod BuildFaults
 pub mod Leaves
+pub mod Gathered
+pub mod PartFaults
+pub mod Parts
+pub mod Tiles
+pub mod Sequences
+pub mod TraceCalls

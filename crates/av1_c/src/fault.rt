@@ -68,8 +68,8 @@ impl From<OutOfMemory> for PlanFault {
     }
 }
 
-// The number of a reason for which a leaf is refused.
-fn kind_number(kind: InvalidKind) -> u32
+/// The number of a reason for which a leaf is refused.
+pub(crate) fn kind_number(kind: InvalidKind) -> u32
     ensures { result ≡ kind_number kind }
 {
     match kind {

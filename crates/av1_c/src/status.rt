@@ -13,6 +13,15 @@ pub const MALFORMED: u32 = 4;
 /// A leaf of the plan is refused.
 pub const INVALID: u32 = 5;
 
+/// A part of several comes to a plan that is longer than the longest.
+pub const TOO_LONG_PART: u32 = 30;
+
+/// A part is no plan, or no leaves of one.
+pub const MALFORMED_PART: u32 = 31;
+
+/// A leaf of a part is refused.
+pub const INVALID_PART: u32 = 32;
+
 /// A plan in the making asks for another kind of field next.
 pub const NOT_NOW: u32 = 40;
 

@@ -28,7 +28,7 @@ one_argument fault other is = sym (argument_back fault) ∙ ap argument_of is �
 
 -- some coefficient is too large, as a test tells
 pub too_large : (depth size_number type_number stride x y : ℕ) (coefficients : List ℤ) (samples : ℕ) (size : TxSize) (type : TxType) (told : Bool) →
-    IsBlock size_number type_number stride x y (length coefficients) samples size type
+    IsBlock size_number type_number stride x y samples size type
     → IsDepth depth → (AllFitDepth depth size coefficients → told ≡ true) → told ≡ false →
     HasTooLarge depth size_number type_number stride x y coefficients samples
 too_large depth size_number type_number stride x y coefficients samples size type told block is tells failed =
@@ -36,7 +36,7 @@ too_large depth size_number type_number stride x y coefficients samples size typ
 
 -- a call that added a residue
 pub adds_residue : (wide : Bool) (depth size_number type_number stride x y : ℕ) (coefficients : List ℤ) (before after : List ℕ) (size : TxSize)
-    (type : TxType) → IsBlock size_number type_number stride x y (length coefficients) (length before) size type
+    (type : TxType) → IsBlock size_number type_number stride x y (length before) size type
     → IfWide wide (AreOfDepth depth size coefficients) → after ≡ with_residue depth stride x y size type coefficients before →
     AddsResidue wide depth size_number type_number stride x y coefficients before after 0
 adds_residue wide depth size_number type_number stride x y coefficients before after size type block fit added = record {
@@ -45,7 +45,6 @@ adds_residue wide depth size_number type_number stride x y coefficients before a
   size = λ e. cc;
   kind = λ e. cc;
   area = λ e. cc;
-  short = λ e. cc;
   depth = λ e. cc;
   coefficient = λ e. cc;
   kept = λ other. absurd (other refl);

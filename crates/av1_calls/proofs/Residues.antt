@@ -1,15 +1,16 @@
 -- A residue is that of the coefficients that its transform has, whatever stands behind them; and one of cut coefficients.
-use Rattle.std.proofs.Common.{ℕ, ℤ, pos, ◌≡◌, ◌∙◌, ◌+◌, ◌*◌, ◌<◌, ◌≤◌, List, length, inl, inr, refl, arith, sym, subst, ap, ◌+ℤ◌}
+use Rattle.std.proofs.Common.{ℕ, ℤ, pos, ◌≡◌, ◌∙◌, ◌+◌, ◌*◌, ◌<◌, ◌≤◌, List, length, take, inl, inr, refl, arith, sym, subst, ap, ◌+ℤ◌}
 use Rattle.std.specs.Prelude.{if◌then◌else◌, nat_lt}
 use Rattle.std.proofs.lemmas.Bool.{cases_lt}
-use Rattle.std.proofs.lemmas.List.{get_or-map}
+use Rattle.std.proofs.lemmas.List.{get_or-map, get_or-take, get_or_past, length-map, length-take}
 use Rattle.std.proofs.lemmas.Nat.{mul-add-lt}
 use Rattle.std.proofs.Math.Nat.{mul_comm}
 use Rattle.av1_blocks.specs.Transforms.{coded, coded_area, tx_height, tx_width}
 use Rattle.av1_blocks.specs.declared.transform.TxSize.{TxSize}
 use Rattle.av1_blocks.specs.declared.transform.TxType.{TxType}
 use Rattle.av1_dct.specs.Arithmetic.{at, clamp_value, FitsBits}
-use Rattle.av1_dct.proofs.Fits.{clamp_value-fits, clamped_same}
+use Rattle.av1_dct.proofs.Fits.{clamp_value-fits, clamped_same, zero_fits}
+use Rattle.av1_dct.proofs.Zero.{clamp-zero}
 use Rattle.av1_frame.specs.Arithmetic.{clip, round_shift}
 use Rattle.av1_frame.specs.Samples.{paint, paint_row}
 use Rattle.av1_frame.specs.declared.plane_region.StoredArea.{StoredArea}
@@ -56,30 +57,47 @@ module _ (size : TxSize) (type : TxType) (depth : ℕ) (xs ys : List ℤ) (same 
       ap (λ zs. round_shift (at (network (column_kind type) (column_range depth) (column_power size) zs) r) (column_shift type))
       (by_index-same (tx_height size) _ _ (λ y _. ap (λ z. clamp_value (round_shift z (row_shift size)) (column_range depth)) (row_same y c)))
 
--- coefficients that were cut one by one are those of the cut list
-pub cut_each : (size : TxSize) (bits : ℕ) (room coefficients : List ℤ) → coded_area size ≤ length coefficients
-    → ((i : ℕ) → i < coded_area size → at room i ≡ clamp_value (at coefficients i) bits) → AreSameFor size room (cut_to bits coefficients)
-cut_each size bits room coefficients long each =
-    λ i h. each i h ∙ sym (get_or-map (λ z. clamp_value z bits) coefficients i (pos 0) (pos 0) (omega (arith, long, h)))
+-- a coefficient of the cut list is the one that is cut, and 0 behind the end
+cut_at : (bits : ℕ) (coefficients : List ℤ) (i : ℕ) → at (cut_to bits coefficients) i ≡ clamp_value (at coefficients i) bits
+cut_at bits coefficients i =
+    elim (cases_lt i (length coefficients)) [
+      | inl b ↦ get_or-map (λ z. clamp_value z bits) coefficients i (pos 0) (pos 0) b
+      | inr b ↦ get_or_past (cut_to bits coefficients) i (pos 0) (omega (arith, b, length-map coefficients (λ z. clamp_value z bits)))
+          ∙ sym (clamp-zero (at coefficients i) bits (get_or_past coefficients i (pos 0) b))
+    ]
 
--- in a row that is painted with them, too
-pub cut_painted : (size : TxSize) (bits count : ℕ) (coefficients old room : List ℤ) → count ≡ coded_area size → coded_area size ≤ length coefficients →
-    coded_area size ≤ length old → room ≡ paint_row count (λ k _. clamp_value (at coefficients k) bits) old → AreSameFor size room (cut_to bits coefficients)
-cut_painted size bits count coefficients old room is long roomy painted =
-    cut_each size bits room coefficients long (λ i h. ap (λ zs. at zs i) painted
-    ∙ painted_sample count i (λ k _. clamp_value (at coefficients k) bits) old (pos 0) (omega (arith, is, h)) (omega (arith, is, roomy)) (λ v. refl))
+-- the coefficients that are given, cut in a row that is painted with them, are those of the cut list; the others are 0
+pub cut_painted : (size : TxSize) (bits given : ℕ) (coefficients old room front : List ℤ) → given ≤ length coefficients → given ≤ length old
+    → ((i : ℕ) → i < coded_area size → given ≤ i → length coefficients ≤ i)
+    → room ≡ paint_row given (λ k _. clamp_value (at coefficients k) bits) old → front ≡ take given room → AreSameFor size front (cut_to bits coefficients)
+cut_painted size bits given coefficients old room front long roomy rest painted is i h =
+    ap (λ zs. at zs i) is ∙ elim (cases_lt i given) [
+      | inl b ↦ get_or-take given room i (pos 0) b ∙ ap (λ zs. at zs i) painted
+          ∙ painted_sample given i (λ k _. clamp_value (at coefficients k) bits) old (pos 0) b (omega (arith, b, roomy)) (λ v. refl)
+          ∙ sym (cut_at bits coefficients i)
+      | inr b ↦ get_or_past (take given room) i (pos 0) (omega (arith, b, length-take given room))
+          ∙ sym (clamp-zero (at coefficients i) bits (get_or_past coefficients i (pos 0) (rest i h b))) ∙ sym (cut_at bits coefficients i)
+    ]
 
 -- they have so many bits
-pub cut_fits : (size : TxSize) (bits : ℕ) (coefficients room : List ℤ) → coded_area size ≤ length coefficients →
-    AreSameFor size room (cut_to bits coefficients) → (i : ℕ) → i < coded_area size → FitsBits bits (at room i)
-cut_fits size bits coefficients room long same i h =
-    subst (FitsBits bits) (sym (same i h ∙ get_or-map (λ z. clamp_value z bits) coefficients i (pos 0) (pos 0) (omega (arith, long, h))))
-    (clamp_value-fits (at coefficients i) bits (omega arith))
+pub cut_fits : (size : TxSize) (bits : ℕ) (coefficients front : List ℤ) → AreSameFor size front (cut_to bits coefficients)
+    → (i : ℕ) → i < coded_area size → FitsBits bits (at front i)
+cut_fits size bits coefficients front same i h =
+    subst (FitsBits bits) (sym (same i h ∙ cut_at bits coefficients i)) (clamp_value-fits (at coefficients i) bits (omega arith))
 
 -- and so are those that need no cut
-pub uncut : (size : TxSize) (bits : ℕ) (coefficients : List ℤ) → coded_area size ≤ length coefficients
-    → ((i : ℕ) → i < coded_area size → FitsBits bits (at coefficients i)) → AreSameFor size coefficients (cut_to bits coefficients)
-uncut size bits coefficients long fit = cut_each size bits coefficients coefficients long (λ i h. sym (clamped_same bits (at coefficients i) (fit i h)))
+pub uncut : (size : TxSize) (bits : ℕ) (coefficients : List ℤ) → ((i : ℕ) → i < coded_area size → FitsBits bits (at coefficients i))
+    → AreSameFor size coefficients (cut_to bits coefficients)
+uncut size bits coefficients fit i h = sym (clamped_same bits (at coefficients i) (fit i h)) ∙ sym (cut_at bits coefficients i)
+
+-- those that a list is too short for have so many bits, too
+pub given_fit : (bits count given : ℕ) (coefficients : List ℤ) → ((i : ℕ) → i < count → given ≤ i → length coefficients ≤ i)
+    → ((i : ℕ) → i < given → FitsBits bits (at coefficients i)) → (i : ℕ) → i < count → FitsBits bits (at coefficients i)
+given_fit bits count given coefficients rest fit i h =
+    elim (cases_lt i given) [
+      | inl b ↦ fit i b
+      | inr b ↦ subst (FitsBits bits) (sym (get_or_past coefficients i (pos 0) (rest i h b))) (zero_fits bits)
+    ]
 
 -- what is painted by coefficients that are the same for the transform
 pub painted_cut : (stride depth : ℕ) (size : TxSize) (type : TxType) (area : StoredArea) (xs ys : List ℤ) (before after : List ℕ) → AreSameFor size xs ys

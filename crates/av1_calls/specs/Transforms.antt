@@ -1,7 +1,7 @@
 -- What the calls that add a residue say of their arguments: of numbers of a size and a type, of where the first sample
 -- stands (column x of row y), of rows that stand `stride` apart, of how many samples there are, and of the
--- coefficients.
-use Rattle.std.specs.Prelude.{◌≡◌, ◌≢◌, ◌⊎◌, Bool, ℕ, ◌+◌, ◌<◌, ◌≤◌, IsTrue, Some, ℤ, pos, ◌+ℤ◌, List, length}
+-- coefficients, of which those past the end of their list are 0 (`at`).
+use Rattle.std.specs.Prelude.{◌≡◌, ◌≢◌, ◌⊎◌, Bool, ℕ, ◌+◌, ◌<◌, IsTrue, Some, ℤ, pos, ◌+ℤ◌, List, length}
 use Rattle.std.specs.Prelude.{map, slice_get}
 use Rattle.av1_blocks.specs.Depths.{IsDepth}
 use Rattle.av1_blocks.specs.Transforms.{coded_area, valid_av1_transform}
@@ -19,7 +19,6 @@ use Rattle.av1_calls.specs.Arguments.{HasNoSize, IfWide, IsSize, OnlyWide, recta
 use Rattle.av1_calls.specs.declared.argument.BadArgument.{BadArgument}
 use Rattle.av1_calls.specs.declared.argument.BadArgument.TheVariants as bad
 use Rattle.av1_calls.specs.declared.status.TheConstants.{BAD_AREA, BAD_COEFFICIENT, BAD_DEPTH, BAD_SIZE, BAD_TYPE, DONE}
-use Rattle.av1_calls.specs.declared.status.TheConstants.{TOO_SHORT}
 
 -- ---- what is asked for
 
@@ -38,15 +37,12 @@ pub record IsTransform (size_number type_number : ℕ) (size : TxSize) (type : T
   pub typed : IsType type_number type
   pub runs : IsRunnable size type
 
--- The numbers name a transform, its rectangle lies in so many samples, and there are so many coefficients or more as it
--- has.
-pub record IsBlock (size_number type_number stride x y coefficients samples : ℕ) (size : TxSize)
-    (type : TxType) : Type 0 where
+-- The numbers name a transform, and its rectangle lies in so many samples.
+pub record IsBlock (size_number type_number stride x y samples : ℕ) (size : TxSize) (type : TxType) : Type 0 where
   pub sized : IsSize size_number size
   pub typed : IsType type_number type
   pub runs : IsRunnable size type
   pub rows : AreRows stride (rectangle x y size) samples
-  pub long : coded_area size ≤ coefficients
 
 -- each coefficient of the transform fits this depth
 abbrev pub AllFitDepth : ℕ → TxSize → List ℤ → Type 0
@@ -79,27 +75,19 @@ HasNoRectangle size_number type_number stride x y samples =
     ((type : TxType) ×
     (IsTransform size_number type_number size type × (¬ AreRows stride (rectangle x y size) samples)))
 
--- there are fewer coefficients than it has
-abbrev pub HasTooFew : (size_number type_number stride x y coefficients samples : ℕ) → Type 0
-HasTooFew size_number type_number stride x y coefficients samples =
-    (size : TxSize) ×
-    ((type : TxType) ×
-    (IsTransform size_number type_number size type ×
-    (AreRows stride (rectangle x y size) samples × (coefficients < coded_area size))))
-
 -- samples have no such depth
-abbrev pub HasNoDepth : (depth size_number type_number stride x y coefficients samples : ℕ) → Type 0
-HasNoDepth depth size_number type_number stride x y coefficients samples =
+abbrev pub HasNoDepth : (depth size_number type_number stride x y samples : ℕ) → Type 0
+HasNoDepth depth size_number type_number stride x y samples =
     (size : TxSize) ×
     ((type : TxType) ×
-    (IsBlock size_number type_number stride x y coefficients samples size type × (¬ IsDepth depth)))
+    (IsBlock size_number type_number stride x y samples size type × (¬ IsDepth depth)))
 
 -- some coefficient of the transform has too many bits
 abbrev pub HasTooLarge : (depth size_number type_number stride x y : ℕ) → List ℤ → (samples : ℕ) → Type 0
 HasTooLarge depth size_number type_number stride x y coefficients samples =
     (size : TxSize) ×
     ((type : TxType) ×
-    (IsBlock size_number type_number stride x y (length coefficients) samples size type ×
+    (IsBlock size_number type_number stride x y samples size type ×
     (IsDepth depth × (¬ AllFitDepth depth size coefficients))))
 
 -- ---- what the calls say
@@ -107,73 +95,68 @@ HasTooLarge depth size_number type_number stride x y coefficients samples =
 -- Of a residue that is added to samples at this depth: they were `before` and are `after`, and `answer` is the status.
 pub record AddsResidue (wide : Bool) (bit_depth size_number type_number stride x y : ℕ) (coefficients : List ℤ)
     (before after : List ℕ) (answer : ℕ) : Type 0 where
-  -- The arguments name a transform, and its residue is added.
+  -- The arguments name a transform, and the residue of the coefficients is added; of those that the list is too short
+  -- for each is 0.
   pub done : answer ≡ DONE → (size : TxSize) × ((type : TxType)
-      × (IsBlock size_number type_number stride x y (length coefficients) (length before) size type
+      × (IsBlock size_number type_number stride x y (length before) size type
       × (IfWide wide (AreOfDepth bit_depth size coefficients)
       × (after ≡ with_residue bit_depth stride x y size type coefficients before))))
   -- Nothing else is asked of them.
   pub asked : (size : TxSize) → (type : TxType)
-      → IsBlock size_number type_number stride x y (length coefficients) (length before) size type
+      → IsBlock size_number type_number stride x y (length before) size type
       → IfWide wide (AreOfDepth bit_depth size coefficients) → answer ≡ DONE
   -- An argument is refused, the first one that has to be, and this is why.
   pub size : answer ≡ BAD_SIZE → HasNoSize size_number
   pub kind : answer ≡ BAD_TYPE → HasNoType size_number type_number
   pub area : answer ≡ BAD_AREA → HasNoRectangle size_number type_number stride x y (length before)
-  pub short : answer ≡ TOO_SHORT → HasTooFew size_number type_number stride x y (length coefficients) (length before)
   pub depth : answer ≡ BAD_DEPTH
-      → OnlyWide wide (HasNoDepth bit_depth size_number type_number stride x y (length coefficients) (length before))
+      → OnlyWide wide (HasNoDepth bit_depth size_number type_number stride x y (length before))
   pub coefficient : answer ≡ BAD_COEFFICIENT
       → OnlyWide wide (HasTooLarge bit_depth size_number type_number stride x y coefficients (length before))
   -- What is refused leaves the samples as they were.
   pub kept : answer ≢ DONE → after ≡ before
-  pub known : (answer ≡ DONE) ⊎
-      ((answer ≡ BAD_SIZE) ⊎ ((answer ≡ BAD_TYPE) ⊎ ((answer ≡ BAD_AREA) ⊎ ((answer ≡ TOO_SHORT)
-      ⊎ OnlyWide wide ((answer ≡ BAD_DEPTH) ⊎ (answer ≡ BAD_COEFFICIENT))))))
+  pub known : (answer ≡ DONE) ⊎ ((answer ≡ BAD_SIZE) ⊎ ((answer ≡ BAD_TYPE) ⊎ ((answer ≡ BAD_AREA)
+      ⊎ OnlyWide wide ((answer ≡ BAD_DEPTH) ⊎ (answer ≡ BAD_COEFFICIENT)))))
 
 -- Of the same where coefficients that are too large for the depth are cut to it.
 pub record AddsClamped (bit_depth size_number type_number stride x y : ℕ) (coefficients : List ℤ)
     (before after : List ℕ) (answer : ℕ) : Type 0 where
   -- The arguments name a transform, and the residue of what the coefficients are cut to is added.
   pub done : answer ≡ DONE → (size : TxSize) × ((type : TxType)
-      × (IsBlock size_number type_number stride x y (length coefficients) (length before) size type
+      × (IsBlock size_number type_number stride x y (length before) size type
       × (IsDepth bit_depth
       × (after ≡ with_residue bit_depth stride x y size type (cut_to (bit_depth + 8) coefficients) before))))
   -- Nothing else is asked of them.
   pub asked : (size : TxSize) → (type : TxType)
-      → IsBlock size_number type_number stride x y (length coefficients) (length before) size type
+      → IsBlock size_number type_number stride x y (length before) size type
       → IsDepth bit_depth → answer ≡ DONE
   -- An argument is refused, the first one that has to be, and this is why.
   pub size : answer ≡ BAD_SIZE → HasNoSize size_number
   pub kind : answer ≡ BAD_TYPE → HasNoType size_number type_number
   pub area : answer ≡ BAD_AREA → HasNoRectangle size_number type_number stride x y (length before)
-  pub short : answer ≡ TOO_SHORT → HasTooFew size_number type_number stride x y (length coefficients) (length before)
-  pub depth : answer ≡ BAD_DEPTH
-      → HasNoDepth bit_depth size_number type_number stride x y (length coefficients) (length before)
+  pub depth : answer ≡ BAD_DEPTH → HasNoDepth bit_depth size_number type_number stride x y (length before)
   -- What is refused leaves the samples as they were.
   pub kept : answer ≢ DONE → after ≡ before
   pub known : (answer ≡ DONE) ⊎ ((answer ≡ BAD_SIZE) ⊎ ((answer ≡ BAD_TYPE) ⊎ ((answer ≡ BAD_AREA)
-      ⊎ ((answer ≡ TOO_SHORT) ⊎ (answer ≡ BAD_DEPTH)))))
+      ⊎ (answer ≡ BAD_DEPTH))))
 
 -- ---- why nothing is written: words of private contracts
 
-abbrev pub IsBlockFault : (size_number type_number stride x y coefficients samples : ℕ) → BadArgument → Type 0
-IsBlockFault size_number type_number stride x y coefficients samples bad.Size = HasNoSize size_number
-IsBlockFault size_number type_number stride x y coefficients samples bad.Kind = HasNoType size_number type_number
-IsBlockFault size_number type_number stride x y coefficients samples bad.Area =
+abbrev pub IsBlockFault : (size_number type_number stride x y samples : ℕ) → BadArgument → Type 0
+IsBlockFault size_number type_number stride x y samples bad.Size = HasNoSize size_number
+IsBlockFault size_number type_number stride x y samples bad.Kind = HasNoType size_number type_number
+IsBlockFault size_number type_number stride x y samples bad.Area =
     HasNoRectangle size_number type_number stride x y samples
-IsBlockFault size_number type_number stride x y coefficients samples bad.Short =
-    HasTooFew size_number type_number stride x y coefficients samples
-IsBlockFault size_number type_number stride x y coefficients samples fault = ⊥
+IsBlockFault size_number type_number stride x y samples fault = ⊥
 
-abbrev pub IsDepthFault : (depth size_number type_number stride x y coefficients samples : ℕ) → BadArgument → Type 0
-IsDepthFault depth size_number type_number stride x y coefficients samples bad.Depth =
-    HasNoDepth depth size_number type_number stride x y coefficients samples
-IsDepthFault depth size_number type_number stride x y coefficients samples fault =
-    IsBlockFault size_number type_number stride x y coefficients samples fault
+abbrev pub IsDepthFault : (depth size_number type_number stride x y samples : ℕ) → BadArgument → Type 0
+IsDepthFault depth size_number type_number stride x y samples bad.Depth =
+    HasNoDepth depth size_number type_number stride x y samples
+IsDepthFault depth size_number type_number stride x y samples fault =
+    IsBlockFault size_number type_number stride x y samples fault
 
 abbrev pub IsDeepFault : (depth size_number type_number stride x y : ℕ) → List ℤ → ℕ → BadArgument → Type 0
 IsDeepFault depth size_number type_number stride x y coefficients samples bad.Coefficient =
     HasTooLarge depth size_number type_number stride x y coefficients samples
 IsDeepFault depth size_number type_number stride x y coefficients samples fault =
-    IsDepthFault depth size_number type_number stride x y (length coefficients) samples fault
+    IsDepthFault depth size_number type_number stride x y samples fault

@@ -29,22 +29,16 @@ fn is_runnable(size: TxSize, kind: TxType) -> bool
     valid_av1_transform(size, kind) && (kind != TxType::WHT_WHT || size == TxSize::TX_4X4)
 }
 
-/// The block that the numbers name. So many coefficients are there, and so many samples.
+/// The block that the numbers name, in so many samples.
 ///
 /// # Errors
 ///
-/// `Size`, then `Kind`, then `Area`, then `Short`.
+/// `Size`, then `Kind`, then `Area`.
 #[inline(always)]
-fn block_of(
-    tx_size: u8,
-    tx_type: u8,
-    at: Place,
-    coefficients: usize,
-    samples: usize,
-) -> Result<Block, BadArgument>
-    ensures found { IfOk result (λ block. IsBlock tx_size tx_type at.stride at.x at.y coefficients samples block.size block.kind) }
+fn block_of(tx_size: u8, tx_type: u8, at: Place, samples: usize) -> Result<Block, BadArgument>
+    ensures found { IfOk result (λ block. IsBlock tx_size tx_type at.stride at.x at.y samples block.size block.kind) }
     ensures area { IfOk result (λ block. block.area ≡ rectangle at.x at.y block.size) }
-    ensures fault { IfErr result (IsBlockFault tx_size tx_type at.stride at.x at.y coefficients samples) }
+    ensures fault { IfErr result (IsBlockFault tx_size tx_type at.stride at.x at.y samples) }
 {
     let Some(size) = TxSize::from_number(tx_size) else {
         return Err(BadArgument::Size);
@@ -58,9 +52,6 @@ fn block_of(
     let area = area_of(at.x, at.y, size);
     if !are_rows(at.stride, area, samples) {
         return Err(BadArgument::Area);
-    }
-    if coefficients < size.coded_area() {
-        return Err(BadArgument::Short);
     }
     Ok(Block { size, kind, area })
 }
@@ -118,7 +109,7 @@ fn both_fit(least: i32, greatest: i32, bits: usize) -> bool
 
 // Whether each of the first numbers has so many bits. One pass finds the least and the greatest, several numbers at a
 // time.
-pub(crate) fn all_fit(numbers: &[i32], count: usize, bits: usize) -> bool
+fn all_fit(numbers: &[i32], count: usize, bits: usize) -> bool
     requires some_bits { (1 ≤ bits) × (bits ≤ 32) }
     requires long { count ≤ length numbers.now }
     ensures true_is { result ≡ true → (i : ℕ) → i < count → FitsBits bits (at numbers.now i) }
@@ -133,26 +124,44 @@ pub(crate) fn all_fit(numbers: &[i32], count: usize, bits: usize) -> bool
     both_fit(least, greatest, bits)
 }
 
+/// How many coefficients of a transform of so many a list has. Those that it is too short for are 0.
+pub(crate) fn given_count(coefficients: &[i32], count: usize) -> usize
+    ensures most { result ≤ count }
+    ensures there { result ≤ length coefficients.now }
+    ensures all { (i : ℕ) → i < count → result ≤ i → length coefficients.now ≤ i }
+{
+    count.min(coefficients.len())
+}
+
+/// Whether each coefficient of a transform of so many has so many bits.
+pub(crate) fn all_given_fit(coefficients: &[i32], count: usize, bits: usize) -> bool
+    requires { (1 ≤ bits) × (bits ≤ 32) }
+    ensures true_is { result ≡ true → (i : ℕ) → i < count → FitsBits bits (at coefficients.now i) }
+    ensures is_true { ((i : ℕ) → i < count → FitsBits bits (at coefficients.now i)) → result ≡ true }
+{
+    let given = given_count(coefficients, count);
+    all_fit(coefficients, given, bits)
+}
+
 /// The same at a depth.
 ///
 /// # Errors
 ///
-/// `Size`, then `Kind`, then `Area`, then `Short`, then `Depth`.
+/// `Size`, then `Kind`, then `Area`, then `Depth`.
 #[inline(always)]
 pub(crate) fn block_at_depth(
     tx_size: u8,
     tx_type: u8,
     at: Place,
-    coefficients: usize,
     samples: usize,
     bit_depth: usize,
 ) -> Result<Block, BadArgument>
-    ensures found { IfOk result (λ block. IsBlock tx_size tx_type at.stride at.x at.y coefficients samples block.size block.kind) }
+    ensures found { IfOk result (λ block. IsBlock tx_size tx_type at.stride at.x at.y samples block.size block.kind) }
     ensures area { IfOk result (λ block. block.area ≡ rectangle at.x at.y block.size) }
     ensures depth { IfOk result (λ _. IsDepth bit_depth) }
-    ensures fault { IfErr result (IsDepthFault bit_depth tx_size tx_type at.stride at.x at.y coefficients samples) }
+    ensures fault { IfErr result (IsDepthFault bit_depth tx_size tx_type at.stride at.x at.y samples) }
 {
-    let block = block_of(tx_size, tx_type, at, coefficients, samples)?;
+    let block = block_of(tx_size, tx_type, at, samples)?;
     if is_depth(bit_depth) {
         Ok(block)
     } else {
@@ -164,7 +173,7 @@ pub(crate) fn block_at_depth(
 ///
 /// # Errors
 ///
-/// `Size`, then `Kind`, then `Area`, then `Short`, then `Depth`, then `Coefficient`.
+/// `Size`, then `Kind`, then `Area`, then `Depth`, then `Coefficient`.
 #[inline(always)]
 fn deep_block_of(
     tx_size: u8,
@@ -174,14 +183,14 @@ fn deep_block_of(
     samples: usize,
     bit_depth: usize,
 ) -> Result<Block, BadArgument>
-    ensures found { IfOk result (λ block. IsBlock tx_size tx_type at.stride at.x at.y (length coefficients.now) samples block.size block.kind) }
+    ensures found { IfOk result (λ block. IsBlock tx_size tx_type at.stride at.x at.y samples block.size block.kind) }
     ensures area { IfOk result (λ block. block.area ≡ rectangle at.x at.y block.size) }
     ensures depth { IfOk result (λ _. IsDepth bit_depth) }
     ensures fit { IfOk result (λ block. AllFitDepth bit_depth block.size coefficients.now) }
     ensures fault { IfErr result (IsDeepFault bit_depth tx_size tx_type at.stride at.x at.y coefficients.now samples) }
 {
-    let block = block_at_depth(tx_size, tx_type, at, coefficients.len(), samples, bit_depth)?;
-    if all_fit(coefficients, block.size.coded_area(), bit_depth + 8) {
+    let block = block_at_depth(tx_size, tx_type, at, samples, bit_depth)?;
+    if all_given_fit(coefficients, block.size.coded_area(), bit_depth + 8) {
         Ok(block)
     } else {
         Err(BadArgument::Coefficient)
@@ -194,10 +203,11 @@ fn deep_block_of(
 /// numbers in plans.
 ///
 /// The coefficient of row r and column c stands at `c * min(height, 32) + r`; the rows and columns from 32 on have
-/// none. What `scratch` holds before the call doesn't matter.
+/// none. Those that `coefficients` is too short for are 0, and cost nothing, so that a list need not go on behind the
+/// last one that is not 0. What `scratch` holds before the call doesn't matter.
 ///
 /// `DONE`: that was done. `BAD_SIZE`, `BAD_TYPE`: a number names none, or the size has no such type. `BAD_AREA`: the
-/// rectangle does not lie in the samples. `TOO_SHORT`: there are fewer coefficients than the transform has.
+/// rectangle does not lie in the samples.
 pub fn av1_inverse_transform_add_8(
     scratch: &mut TxRoom,
     coefficients: &[i16],
@@ -211,7 +221,7 @@ pub fn av1_inverse_transform_add_8(
     ensures { AddsResidue false 8 tx_size tx_type stride x y coefficients.now samples.old samples.new result }
 {
     let at = Place { stride, x, y };
-    match block_of(tx_size, tx_type, at, coefficients.len(), samples.len()) {
+    match block_of(tx_size, tx_type, at, samples.len()) {
         Ok(block) => {
             have_16_bits(coefficients);
             inverse_transform_add_in(

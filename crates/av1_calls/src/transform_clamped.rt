@@ -1,7 +1,6 @@
 //! The residue of coefficients that are cut to the depth, added to samples of the caller.
 ghost use Rattle.std.specs.Prelude.{◌≡◌, ◌+◌, ◌≤◌, length, pos, ◌+ℤ◌};
 ghost use Rattle.av1_blocks.specs.Depths.{IsDepth};
-ghost use Rattle.av1_blocks.specs.Transforms.{coded_area};
 ghost use Rattle.av1_dct.specs.Arithmetic.{at, clamp_value};
 ghost use Rattle.av1_frame.specs.Areas.{AreRows};
 ghost use Rattle.av1_frame.specs.Arithmetic.{clip};
@@ -12,7 +11,7 @@ ghost use Rattle.av1_calls.specs.Transforms.{AddsClamped, IsRunnable, cut_to};
 
 use crate::motion::Place;
 use crate::status::DONE;
-use crate::transform_add::{Block, all_fit, block_at_depth, number_at};
+use crate::transform_add::{Block, all_given_fit, block_at_depth, given_count, number_at};
 use av1_dct::clamp_value;
 use av1_itx::{TxRoom, inverse_transform_add_in};
 
@@ -44,21 +43,23 @@ fn add_cut(
 )
     requires is_depth { IsDepth bit_depth }
     requires runs { IsRunnable block.size block.kind }
-    requires long { coded_area block.size ≤ length coefficients.now }
     requires rows { AreRows stride block.area (length samples.old) }
     requires placed { block.area ≡ rectangle block.area.x block.area.y block.size }
     ensures { samples.new ≡ paint stride block.area
         (λ r c v. clip bit_depth (pos v +ℤ residue block.size block.kind bit_depth (cut_to (bit_depth + 8) coefficients.now) r c)) samples.old }
 {
     let mut room = [0; MOST_COEFFICIENTS];
-    cut(
-        &mut room,
-        coefficients,
-        block.size.coded_area(),
-        bit_depth + 8,
-    );
+    let given = given_count(coefficients, block.size.coded_area());
+    cut(&mut room, coefficients, given, bit_depth + 8);
     inverse_transform_add_in(
-        scratch, &room, samples, stride, block.area, block.size, block.kind, bit_depth,
+        scratch,
+        &room[..given],
+        samples,
+        stride,
+        block.area,
+        block.size,
+        block.kind,
+        bit_depth,
     );
 }
 
@@ -74,13 +75,12 @@ fn add_clamped(
 )
     requires is_depth { IsDepth bit_depth }
     requires runs { IsRunnable block.size block.kind }
-    requires long { coded_area block.size ≤ length coefficients.now }
     requires rows { AreRows stride block.area (length samples.old) }
     requires placed { block.area ≡ rectangle block.area.x block.area.y block.size }
     ensures { samples.new ≡ paint stride block.area
         (λ r c v. clip bit_depth (pos v +ℤ residue block.size block.kind bit_depth (cut_to (bit_depth + 8) coefficients.now) r c)) samples.old }
 {
-    if all_fit(coefficients, block.size.coded_area(), bit_depth + 8) {
+    if all_given_fit(coefficients, block.size.coded_area(), bit_depth + 8) {
         inverse_transform_add_in(
             scratch,
             coefficients,
@@ -101,8 +101,7 @@ fn add_clamped(
 /// process". Coefficients for samples of 8 bits have no more, so that there is no such call for those.
 ///
 /// `DONE`: that was done. `BAD_SIZE`, `BAD_TYPE`: a number names none, or the size has no such type. `BAD_AREA`: the
-/// rectangle does not lie in the samples. `TOO_SHORT`: there are fewer coefficients than the transform has.
-/// `BAD_DEPTH`: samples have no such depth.
+/// rectangle does not lie in the samples. `BAD_DEPTH`: samples have no such depth.
 pub fn av1_inverse_transform_add_clamped_16(
     scratch: &mut TxRoom,
     coefficients: &[i32],
@@ -117,14 +116,7 @@ pub fn av1_inverse_transform_add_clamped_16(
     ensures { AddsClamped bit_depth tx_size tx_type stride x y coefficients.now samples.old samples.new result }
 {
     let at = Place { stride, x, y };
-    match block_at_depth(
-        tx_size,
-        tx_type,
-        at,
-        coefficients.len(),
-        samples.len(),
-        bit_depth,
-    ) {
+    match block_at_depth(tx_size, tx_type, at, samples.len(), bit_depth) {
         Ok(block) => {
             add_clamped(scratch, coefficients, samples, stride, block, bit_depth);
             DONE

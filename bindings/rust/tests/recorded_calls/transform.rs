@@ -2,14 +2,21 @@
 
 use crate::calls::{self, Kind, Numbers, Transform};
 use crate::made::{compare, narrow, refuse, wide};
-use crate::spoiled::{cut, depth, past, place};
+use crate::spoiled::{depth, past, place};
 use av1_c::{
     Error, TransformBlock, TransformScratch, inverse_transform_add_8, inverse_transform_add_16,
 };
 
+// The coefficients up to the last that isn't 0.
+fn given(coefficients: &[i32]) -> &[i32] {
+    let count = coefficients.iter().rposition(|it| *it != 0);
+    &coefficients[..count.map_or(0, |last| last + 1)]
+}
+
 fn add(call: &mut Transform) -> Result<(), Error> {
     // What scratch holds before a call doesn't matter, so each call may have its own.
     let mut scratch = TransformScratch::new();
+    let coefficients = given(&call.coefficients);
     let target = &mut call.target;
     let block = TransformBlock {
         tx_size: call.size,
@@ -20,7 +27,7 @@ fn add(call: &mut Transform) -> Result<(), Error> {
     if call.format.wide {
         return inverse_transform_add_16(
             &mut scratch,
-            &call.coefficients,
+            coefficients,
             &mut target.samples,
             target.stride,
             block,
@@ -28,7 +35,7 @@ fn add(call: &mut Transform) -> Result<(), Error> {
         );
     }
     let mut samples = narrow(&target.samples);
-    let coefficients: Vec<i16> = call.coefficients.iter().map(|it| *it as i16).collect();
+    let coefficients: Vec<i16> = coefficients.iter().map(|it| *it as i16).collect();
     let answer = inverse_transform_add_8(
         &mut scratch,
         &coefficients,
@@ -72,7 +79,7 @@ fn type_of_other_sizes(numbers: &mut Numbers, call: &mut Transform) -> Option<Er
 
 /// Spoils a transform.
 fn spoil(call: &mut Transform, numbers: &mut Numbers) -> Error {
-    let spoilt = match numbers.below(8) {
+    let spoilt = match numbers.below(7) {
         0 => {
             call.size = past(numbers, 19);
             Some(Error::BadSize)
@@ -83,11 +90,7 @@ fn spoil(call: &mut Transform, numbers: &mut Numbers) -> Error {
         }
         2 => type_of_other_sizes(numbers, call),
         3 if call.format.wide => Some(depth(numbers, &mut call.format)),
-        4 => {
-            cut(numbers, &mut call.coefficients, calls::coded(call.size));
-            Some(Error::TooShort)
-        }
-        5 => deep_coefficient(numbers, call),
+        4 => deep_coefficient(numbers, call),
         _ => Some(place(numbers, &mut call.target)),
     };
     match spoilt {
@@ -109,7 +112,6 @@ fn bad_transforms_write_nothing() {
         Error::BadSize,
         Error::BadType,
         Error::BadArea,
-        Error::TooShort,
         Error::BadDepth,
         Error::BadCoefficient,
     ];

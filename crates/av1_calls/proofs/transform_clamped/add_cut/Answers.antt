@@ -1,4 +1,4 @@
-use Rattle.std.proofs.Common.{ℕ, ℤ, ◌+◌, ◌<◌, List, arith, map, subst, sym}
+use Rattle.std.proofs.Common.{ℕ, ℤ, ◌+◌, ◌<◌, List, arith, map, refl, subst, sym, take}
 use Rattle.std.proofs.lemmas.List.{map-id}
 use Rattle.av1_blocks.specs.Transforms.{coded_area}
 use Rattle.av1_dct.specs.Arithmetic.{at, FitsBits}
@@ -11,27 +11,25 @@ inverse_transform_add_in-requires-clause-input_fits c =
     let a = c.args in
     let size = a.block.size in
     let bits : ℕ = a.bit_depth + 8 in
-    let room = c.cut.new.room in
-    let same : AreSameFor size room (cut_to bits a.coefficients.now) =
-    cut_painted size bits c.coded_area.result a.coefficients.now _ room c.coded_area.ensures.value c.requires.long (omega (
-      arith,
-      c.coded_area.ensures.most,
-      c.coded_area.ensures.value,
-    )) c.cut.ensures in
-    subst (λ (xs : List ℤ). (i : ℕ) → i < coded_area size → FitsBits bits (at xs i)) (sym (map-id room))
-    (cut_fits size bits a.coefficients.now room c.requires.long same)
+    let given = c.given_count-given in
+    let front : List ℤ = take given.result c.cut.new.room in
+    let same : AreSameFor size front (cut_to bits a.coefficients.now) =
+    cut_painted size bits given.result a.coefficients.now _ c.cut.new.room front given.ensures.there
+    (omega (arith, given.ensures.most, c.coded_area.ensures.most))
+    (λ i h g. given.ensures.all i (subst (λ (n : ℕ). i < n) (sym c.coded_area.ensures.value) h) g) c.cut.ensures refl in
+    subst (λ (xs : List ℤ). (i : ℕ) → i < coded_area size → FitsBits bits (at xs i)) (sym (map-id front))
+    (cut_fits size bits a.coefficients.now front same)
 
 pub returns : goal.returns
 returns c =
     let a = c.args in
     let size = a.block.size in
     let bits : ℕ = a.bit_depth + 8 in
-    let room = c.cut.new.room in
-    let same : AreSameFor size room (cut_to bits a.coefficients.now) =
-    cut_painted size bits c.coded_area.result a.coefficients.now _ room c.coded_area.ensures.value c.requires.long (omega (
-      arith,
-      c.coded_area.ensures.most,
-      c.coded_area.ensures.value,
-    )) c.cut.ensures in
-    painted_cut a.stride a.bit_depth size a.block.kind a.block.area (map (λ z. z) room) (cut_to bits a.coefficients.now) a.samples.now _
-    (subst (λ (xs : List ℤ). AreSameFor size xs (cut_to bits a.coefficients.now)) (sym (map-id room)) same) c.inverse_transform_add_in.ensures.painted
+    let given = c.given_count-given in
+    let front : List ℤ = take given.result c.cut.new.room in
+    let same : AreSameFor size front (cut_to bits a.coefficients.now) =
+    cut_painted size bits given.result a.coefficients.now _ c.cut.new.room front given.ensures.there
+    (omega (arith, given.ensures.most, c.coded_area.ensures.most))
+    (λ i h g. given.ensures.all i (subst (λ (n : ℕ). i < n) (sym c.coded_area.ensures.value) h) g) c.cut.ensures refl in
+    painted_cut a.stride a.bit_depth size a.block.kind a.block.area (map (λ z. z) front) (cut_to bits a.coefficients.now) a.samples.now _
+    (subst (λ (xs : List ℤ). AreSameFor size xs (cut_to bits a.coefficients.now)) (sym (map-id front)) same) c.inverse_transform_add_in.ensures.painted

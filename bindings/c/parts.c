@@ -1,0 +1,200 @@
+/* Grids of tiles, sequences of frames and traces, made of a plan whose file and whose planes' file are named: whole, cut and spoilt. */
+#include "av1_c.h"
+
+#include <stdio.h>
+#include <stdlib.h>
+#include <string.h>
+
+#define CHECK(e) do { if (!(e)) { fprintf(stderr, "%s:%d: %s\n", __FILE__, __LINE__, #e); exit(1); } } while (0)
+
+enum { MOST = 4096, ROOM = 2 * MOST, FILLED = 0xA5, HEADER = 20 };
+
+static const av1_part_refusal untold = {7, 8, 9, 10};
+
+typedef uint32_t (*reconstruct)(const uint8_t *, size_t, uint8_t *, size_t, size_t *, av1_part_refusal *);
+
+/* Bytes that grow. */
+typedef struct {
+    uint8_t at[MOST];
+    size_t len;
+} text;
+
+static void put(text *to, const void *bytes, size_t len) {
+    CHECK(to->len + len <= MOST);
+    memcpy(to->at + to->len, bytes, len);
+    to->len += len;
+}
+
+/* A part: its length in four bytes, and what it is. */
+static void put_part(text *to, const uint8_t *bytes, size_t len) {
+    uint8_t length[4] = {(uint8_t)len, (uint8_t)(len >> 8), 0, 0};
+    put(to, length, 4);
+    put(to, bytes, len);
+}
+
+static text read_file(const char *name) {
+    text read = {{0}, 0};
+    FILE *file = fopen(name, "rb");
+    CHECK(file);
+    read.len = fread(read.at, 1, MOST, file);
+    CHECK(read.len < MOST && !ferror(file));
+    fclose(file);
+    return read;
+}
+
+/* The plan's frame as one tile. */
+static text grid_of(const text *plan) {
+    text grid = {{0}, 0};
+    put(&grid, "RTL1", 4);
+    put(&grid, plan->at + 4, HEADER - 4);
+    put(&grid, "\1\1", 2);
+    put_part(&grid, plan->at + HEADER, plan->len - HEADER);
+    return grid;
+}
+
+/* Two frames, each of the plan's leaves. The first is kept in slot 0. */
+static text sequence_of(const text *plan) {
+    text sequence = {{0}, 0};
+    put(&sequence, "RSQ1", 4);
+    put(&sequence, plan->at + 4, 6);
+    put(&sequence, "\2\0", 2);
+    for (int frame = 0; frame < 2; frame++) {
+        put(&sequence, "\0\0\0\0\0\0\0\0\0", 9);
+        put(&sequence, frame ? "\0" : "\1", 1);
+        put_part(&sequence, plan->at + HEADER, plan->len - HEADER);
+    }
+    return sequence;
+}
+
+/* The plan with planes. */
+static text trace_of(const text *plan, const text *planes) {
+    text trace = {{0}, 0};
+    put(&trace, "RTR1", 4);
+    put_part(&trace, plan->at, plan->len);
+    put(&trace, planes->at, planes->len);
+    return trace;
+}
+
+static int same_refusal(av1_part_refusal a, av1_part_refusal b) {
+    return a.part == b.part && a.at == b.at && a.leaf == b.leaf && a.kind == b.kind;
+}
+
+static int all_filled(const uint8_t *bytes, size_t len) {
+    for (size_t i = 0; i < len; i++)
+        if (bytes[i] != FILLED) return 0;
+    return 1;
+}
+
+/* What a call leaves. */
+struct left {
+    uint32_t status;
+    size_t written;
+    av1_part_refusal refusal;
+    uint8_t room[ROOM];
+};
+
+/* A call on a buffer of this length. What stands behind what is written stays, and after a refusal all of it. */
+static struct left call(reconstruct with, const uint8_t *bytes, size_t len, size_t room_len) {
+    struct left left = {0, 77, untold, {0}};
+    memset(left.room, FILLED, sizeof left.room);
+    CHECK(room_len <= ROOM);
+    left.status = with(bytes, len, left.room, room_len, &left.written, &left.refusal);
+    CHECK(left.status == AV1_DONE ? left.written <= room_len : left.written == 77);
+    size_t written = left.status == AV1_DONE ? left.written : 0;
+    CHECK(all_filled(left.room + written, ROOM - written));
+    int tells = left.status == AV1_MALFORMED || (AV1_TOO_LONG_PART <= left.status && left.status <= AV1_INVALID_PART);
+    CHECK(tells || same_refusal(left.refusal, untold));
+    return left;
+}
+
+/* The bytes whole, in short buffers, cut, and with a byte behind them; `count` times the planes are what they come to. */
+static void whole_and_cut(reconstruct with, const text *bytes, const text *planes, size_t count) {
+    size_t wanted = count * planes->len;
+    for (size_t more = 0; more < 9; more += 4) {
+        struct left done = call(with, bytes->at, bytes->len, wanted + more);
+        CHECK(done.status == AV1_DONE && done.written == wanted);
+        for (size_t i = 0; i < count; i++) CHECK(!memcmp(done.room + i * planes->len, planes->at, planes->len));
+    }
+    CHECK(call(with, bytes->at, bytes->len, wanted - 1).status == AV1_ROOM_TOO_SMALL);
+    CHECK(call(with, bytes->at, bytes->len, 0).status == AV1_ROOM_TOO_SMALL);
+    CHECK(call(with, NULL, 0, ROOM).status == AV1_MALFORMED);
+    for (size_t front = 0; front < bytes->len; front++) {
+        struct left cut = call(with, bytes->at, front, ROOM);
+        CHECK(cut.status == AV1_MALFORMED && cut.refusal.at <= front);
+        CHECK(cut.refusal.part == 0 && cut.refusal.leaf == 0 && cut.refusal.kind == 0);
+    }
+    struct left left_over = call(with, bytes->at, bytes->len + 1, ROOM);
+    CHECK(left_over.status == AV1_MALFORMED && left_over.refusal.at == bytes->len);
+}
+
+/* Bytes past the most that are read. */
+static void long_bytes(reconstruct with) {
+    size_t most = (size_t)1 << 26;
+    uint8_t *bytes = calloc(most + 1, 1);
+    CHECK(bytes);
+    CHECK(call(with, bytes, most + 1, ROOM).status == AV1_TOO_LONG);
+    CHECK(call(with, bytes, most, ROOM).status == AV1_MALFORMED);
+    free(bytes);
+}
+
+/* A part that begins at `start`, with a byte changed: the place of its first coefficient, and its first mark. */
+static void spoilt(reconstruct with, text bytes, size_t start, uint32_t part) {
+    bytes.at[start + 34 - HEADER] = 16;
+    struct left invalid = call(with, bytes.at, bytes.len, ROOM);
+    av1_part_refusal leaf = {part, 0, 0, AV1_INVALID_COEFFICIENT};
+    CHECK(invalid.status == AV1_INVALID_PART && same_refusal(invalid.refusal, leaf));
+    bytes.at[start] = 7;
+    struct left malformed = call(with, bytes.at, bytes.len, ROOM);
+    av1_part_refusal mark = {part, 0, 0, 0};
+    CHECK(malformed.status == AV1_MALFORMED_PART && same_refusal(malformed.refusal, mark));
+}
+
+/* A trace whose planes are those of the plan, and one whose first sample and whose last are not; cut, and with a byte behind it. */
+static void traces(const text *plan, const text *planes) {
+    text same = trace_of(plan, planes), other = same;
+    av1_difference room[3];
+    av1_part_refusal refusal = untold;
+    size_t found = 77, start = same.len - planes->len;
+    memset(room, FILLED, sizeof room);
+    CHECK(av1_trace_differences(same.at, same.len, room, 3, &found, &refusal) == AV1_DONE && found == 0);
+    CHECK(all_filled((const uint8_t *)room, sizeof room));
+    CHECK(av1_trace_differences(same.at, same.len, NULL, 0, &found, &refusal) == AV1_DONE && found == 0);
+    other.at[start] ^= 255, other.at[other.len - 1] ^= 255;
+    for (size_t len = 0; len <= 3; len++) {
+        memset(room, FILLED, sizeof room);
+        CHECK(av1_trace_differences(other.at, other.len, room, len, &found, &refusal) == AV1_DONE && found == 2);
+        if (len > 0) CHECK(room[0].leaf == 0 && room[0].plane == 0 && room[0].row == 0 && room[0].column == 0);
+        if (len > 0) CHECK(room[0].given == other.at[start] && room[0].defined == same.at[start]);
+        if (len > 1) CHECK(room[1].plane == 2 && room[1].defined == same.at[same.len - 1]);
+        size_t listed = len < 2 ? len : 2;
+        CHECK(all_filled((const uint8_t *)(room + listed), sizeof room - listed * sizeof *room));
+    }
+    CHECK(same_refusal(refusal, untold));
+    memset(room, FILLED, sizeof room), found = 77;
+    for (size_t front = 0; front < other.len; front++) {
+        CHECK(av1_trace_differences(other.at, front, room, 3, &found, &refusal) == AV1_MALFORMED);
+        CHECK(refusal.at <= front && refusal.part == 0 && refusal.leaf == 0 && refusal.kind == 0);
+    }
+    CHECK(av1_trace_differences(other.at, other.len + 1, room, 3, &found, &refusal) == AV1_MALFORMED && refusal.at == other.len);
+    other.at[8 + 34] = 16;
+    CHECK(av1_trace_differences(other.at, other.len, room, 3, &found, &refusal) == AV1_INVALID_PART);
+    CHECK(refusal.part == 0 && refusal.leaf == 0 && refusal.kind == AV1_INVALID_COEFFICIENT);
+    CHECK(found == 77 && all_filled((const uint8_t *)room, sizeof room));
+}
+
+int main(int count, char **words) {
+    CHECK(count == 3);
+    text plan = read_file(words[1]), planes = read_file(words[2]);
+    CHECK(planes.len > 0);
+    text grid = grid_of(&plan), sequence = sequence_of(&plan);
+    size_t part = plan.len - HEADER;
+    whole_and_cut(av1_reconstruct_tiles, &grid, &planes, 1);
+    whole_and_cut(av1_reconstruct_sequence, &sequence, &planes, 2);
+    traces(&plan, &planes);
+    long_bytes(av1_reconstruct_tiles);
+    long_bytes(av1_reconstruct_sequence);
+    spoilt(av1_reconstruct_tiles, grid, grid.len - part, 0);
+    spoilt(av1_reconstruct_sequence, sequence, 12 + 14, 0);
+    spoilt(av1_reconstruct_sequence, sequence, sequence.len - part, 1);
+    return 0;
+}

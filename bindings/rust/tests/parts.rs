@@ -1,0 +1,126 @@
+//! The worked plan of the repository as a grid of one tile, as a sequence of two frames, and as a trace.
+
+use av1_c::{
+    Difference, Error, InvalidKind, reconstruct_sequence, reconstruct_tiles, trace_differences,
+};
+use std::fs;
+use std::path::Path;
+
+// The bytes of a plan's header.
+const HEADER: usize = 20;
+
+// The worked plan, and its planes.
+fn worked_plan() -> (Vec<u8>, Vec<u8>) {
+    let folder = Path::new(env!("CARGO_MANIFEST_DIR")).join("../../crates/av1_vectors");
+    let read = |name| fs::read(folder.join(name)).expect("the file is there");
+    (read("stdin"), read("stdout"))
+}
+
+// A part: its length, and the plan's leaves.
+fn part(plan: &[u8]) -> Vec<u8> {
+    let leaves = &plan[HEADER..];
+    [&(leaves.len() as u32).to_le_bytes(), leaves].concat()
+}
+
+fn grid(plan: &[u8]) -> Vec<u8> {
+    [b"RTL1", &plan[4..HEADER], &[1, 1], &part(plan)].concat()
+}
+
+fn sequence(first: &[u8], second: &[u8]) -> Vec<u8> {
+    let head = [0; 10];
+    let frames = [&head[..], &part(first), &head, &part(second)].concat();
+    [b"RSQ1", &first[4..10], &[2, 0], &frames].concat()
+}
+
+#[test]
+fn planes_are_written_to_the_front() {
+    let (plan, planes) = worked_plan();
+    let mut room = vec![9; 2 * planes.len() + 5];
+    let written = reconstruct_tiles(&grid(&plan), &mut room);
+    assert_eq!(written, Ok(planes.len()));
+    assert_eq!(room[..planes.len()], planes);
+    assert!(room[planes.len()..].iter().all(|byte| *byte == 9));
+    let written = reconstruct_sequence(&sequence(&plan, &plan), &mut room);
+    assert_eq!(written, Ok(2 * planes.len()));
+    assert_eq!(room, [&planes[..], &planes, &[9; 5]].concat());
+}
+
+#[test]
+fn refused_bytes_leave_the_room_alone() {
+    let (plan, planes) = worked_plan();
+    let mut spoilt = plan.clone();
+    // The place of the first leaf's coefficient, in a block of 16.
+    spoilt[34] = 16;
+    let mut room = vec![9; 2 * planes.len()];
+    let (leaf, kind) = (0, InvalidKind::Coefficient);
+    for (bytes, part) in [(sequence(&plan, &spoilt), 1), (sequence(&spoilt, &plan), 0)] {
+        let fault = Error::InvalidPart { part, leaf, kind };
+        assert_eq!(reconstruct_sequence(&bytes, &mut room), Err(fault));
+    }
+    let fault = Error::InvalidPart {
+        part: 0,
+        leaf,
+        kind,
+    };
+    assert_eq!(reconstruct_tiles(&grid(&spoilt), &mut room), Err(fault));
+    assert_eq!(fault.to_string(), "part 0: invalid leaf 0: coefficient");
+    spoilt[HEADER] = 7;
+    let fault = Error::MalformedPart { part: 0, at: 0 };
+    assert_eq!(reconstruct_tiles(&grid(&spoilt), &mut room), Err(fault));
+    let fault = Err(Error::Malformed { at: 0 });
+    assert_eq!(reconstruct_tiles(&plan, &mut room), fault);
+    assert_eq!(reconstruct_sequence(&plan, &mut room), fault);
+    let short = &mut room[..planes.len() - 1];
+    let fault = Err(Error::RoomTooSmall);
+    assert_eq!(reconstruct_tiles(&grid(&plan), short), fault);
+    assert!(room.iter().all(|byte| *byte == 9));
+}
+
+#[test]
+fn a_trace_tells_where_its_planes_differ() {
+    let (plan, mut planes) = worked_plan();
+    let trace = |plan: &[u8], planes: &[u8]| {
+        [
+            b"RTR1",
+            &(plan.len() as u32).to_le_bytes()[..],
+            plan,
+            planes,
+        ]
+        .concat()
+    };
+    let mut room = [Difference::default(); 3];
+    assert_eq!(trace_differences(&trace(&plan, &planes), &mut room), Ok(0));
+    assert_eq!(room, [Difference::default(); 3]);
+    // Column 1 of row 2 of Y, in the first leaf, and column 7 of row 7 of V, in the last one.
+    planes[17] = 9;
+    planes[191] = 8;
+    assert_eq!(trace_differences(&trace(&plan, &planes), &mut room), Ok(2));
+    let first = Difference {
+        leaf: 0,
+        row: 2,
+        column: 1,
+        given: 9,
+        defined: 131,
+        plane: 0,
+    };
+    let last = Difference {
+        leaf: 3,
+        row: 7,
+        column: 7,
+        given: 8,
+        defined: 128,
+        plane: 2,
+    };
+    assert_eq!(room, [first, last, Difference::default()]);
+    room[1] = Difference::default();
+    let found = trace_differences(&trace(&plan, &planes), &mut room[..1]);
+    assert_eq!((found, room[0]), (Ok(2), first));
+    assert_eq!(room[1..], [Difference::default(); 2]);
+    let cut = trace(&plan, &planes[1..]);
+    let fault = Err(Error::Malformed { at: 91 });
+    assert_eq!(trace_differences(&cut, &mut room), fault);
+    let mut spoilt = plan.clone();
+    spoilt[HEADER] = 7;
+    let fault = Err(Error::MalformedPart { part: 0, at: 20 });
+    assert_eq!(trace_differences(&trace(&spoilt, &planes), &mut []), fault);
+}

@@ -1,0 +1,175 @@
+//! Regions: split, called on, and worked on by threads.
+
+use av1_c::{
+    Error, MotionBlock, Place, RegionMut, TransformBlock, TransformScratch,
+    inverse_transform_add_8, put_8tap_8,
+};
+
+const STRIDE: usize = 40;
+const COLUMNS: usize = 37;
+const ROWS: usize = 24;
+
+// A plane whose last row ends with its own samples.
+fn plane() -> Vec<u8> {
+    (0..STRIDE * (ROWS - 1) + COLUMNS)
+        .map(|i| (i * 7) as u8)
+        .collect()
+}
+
+fn whole(samples: &mut [u8]) -> RegionMut<'_, u8> {
+    RegionMut::new(samples, 0, STRIDE as isize, COLUMNS, ROWS).expect("it lies in the samples")
+}
+
+#[test]
+fn rows_and_columns_are_those_of_the_plane() {
+    let mut samples = plane();
+    let (left, right) = whole(&mut samples).split_columns(10);
+    let (above, mut below) = right.split_rows(20);
+    assert_eq!((left.width(), left.height()), (10, ROWS));
+    assert_eq!((above.width(), above.height()), (COLUMNS - 10, 20));
+    assert_eq!((below.width(), below.height()), (COLUMNS - 10, ROWS - 20));
+    assert_eq!(left.row(3), &plane()[3 * STRIDE..][..10]);
+    assert_eq!(above.row(19), &plane()[19 * STRIDE + 10..][..COLUMNS - 10]);
+    below.row_mut(3)[26] = 99;
+    below.reborrow().row_mut(0)[0] = 98;
+    drop((left, above, below));
+    let mut expected = plane();
+    expected[20 * STRIDE + 10] = 98;
+    *expected.last_mut().expect("there are samples") = 99;
+    assert_eq!(samples, expected);
+}
+
+#[test]
+fn parts_may_be_empty() {
+    let mut samples = plane();
+    let (left, right) = whole(&mut samples).split_columns(0);
+    assert_eq!((left.row(ROWS - 1), right.width()), (&[][..], COLUMNS));
+    let (above, below) = right.split_rows(ROWS);
+    assert_eq!((above.height(), below.height()), (ROWS, 0));
+    assert_eq!(RegionMut::<u8>::new(&mut [], 0, 0, 0, 0).err(), None);
+}
+
+#[test]
+fn a_plane_may_stand_upside_down() {
+    let mut samples = plane();
+    let last = STRIDE * (ROWS - 1);
+    let region = RegionMut::new(&mut samples, last, -(STRIDE as isize), COLUMNS, ROWS);
+    let mut region = region.expect("it lies in the samples");
+    assert_eq!(region.row(0), &plane()[last..]);
+    assert_eq!(region.row(ROWS - 1), &plane()[..COLUMNS]);
+    let called = region.call(1, ROWS - 1, 2, 1, |block, to| {
+        assert_eq!((block.len(), to.stride, to.x, to.y), (2, 2, 0, 0));
+        block.fill(5);
+        Ok(())
+    });
+    assert_eq!(called, Ok(()));
+    assert_eq!(samples[..4], [0, 5, 5, 21]);
+}
+
+#[test]
+fn regions_lie_in_their_samples() {
+    let fits = |len, first, stride, width, height| {
+        let mut samples = vec![0u8; len];
+        RegionMut::new(&mut samples, first, stride, width, height).map(|_| ())
+    };
+    assert_eq!(fits(13, 0, 5, 3, 3), Ok(()));
+    assert_eq!(fits(12, 0, 5, 3, 3), Err(Error::BadArea));
+    assert_eq!(fits(13, 1, 5, 3, 3), Err(Error::BadArea));
+    assert_eq!(fits(13, 10, -5, 3, 3), Ok(()));
+    assert_eq!(fits(13, 9, -5, 3, 3), Err(Error::BadArea));
+    assert_eq!(fits(13, 0, 2, 3, 3), Err(Error::BadArea));
+    assert_eq!(fits(3, 0, 0, 3, 1), Ok(()));
+    for stride in [isize::MAX, isize::MIN] {
+        assert_eq!(fits(13, 0, stride, 3, usize::MAX), Err(Error::BadArea));
+        assert_eq!(fits(13, usize::MAX, stride, 3, 3), Err(Error::BadArea));
+    }
+    assert_eq!(fits(13, 0, 5, usize::MAX, 1), Err(Error::BadArea));
+}
+
+#[test]
+fn refused_calls_leave_the_samples_alone() {
+    let mut samples = plane();
+    let mut region = whole(&mut samples);
+    let refused = region.call(0, 0, 4, 4, |block, _| {
+        block.fill(0);
+        Err::<(), Error>(Error::BadMode)
+    });
+    assert_eq!(refused, Err(Error::BadMode));
+    for (x, y, width, height) in [
+        (COLUMNS, 0, 1, 1),
+        (0, ROWS - 3, 4, 4),
+        (usize::MAX, 0, 4, 4),
+        (0, 4, 4, usize::MAX),
+    ] {
+        let refused = region.call(x, y, width, height, |_, _| Ok(()));
+        assert_eq!(refused, Err(Error::BadArea));
+    }
+    assert_eq!(samples, plane());
+}
+
+// Moves each block of 8x8 of a region, and adds a residue to it.
+fn work(region: &mut RegionMut<'_, u8>, seed: u8) -> Result<(), Error> {
+    let reference: Vec<u8> = (0..=255).map(|i: u8| i.wrapping_mul(seed)).collect();
+    let mut scratch = TransformScratch::new();
+    let block = MotionBlock {
+        width: 8,
+        height: 8,
+        col_frac: 3,
+        row_frac: 11,
+        filter_x: 0,
+        filter_y: 1,
+    };
+    let from = Place {
+        stride: 16,
+        x: 3,
+        y: 3,
+    };
+    for y in (0..region.height()).step_by(8) {
+        for x in (0..region.width()).step_by(8) {
+            region.call(x, y, 8, 8, |samples, to| {
+                put_8tap_8(samples, to, &reference, from, &block)?;
+                let transform = TransformBlock {
+                    tx_size: 1,
+                    tx_type: 0,
+                    x: to.x,
+                    y: to.y,
+                };
+                let coefficients = [300, -70, 9];
+                inverse_transform_add_8(&mut scratch, &coefficients, samples, to.stride, transform)
+            })?;
+        }
+    }
+    Ok(())
+}
+
+// Eight tiles side by side, each of 32 columns.
+fn tiles(samples: &mut [u8], stride: usize) -> Vec<RegionMut<'_, u8>> {
+    let mut rest = RegionMut::new(samples, 0, stride as isize, 256, 64).expect("it lies in them");
+    let mut tiles = Vec::new();
+    for _ in 0..8 {
+        let (tile, others) = rest.split_columns(32);
+        tiles.push(tile);
+        rest = others;
+    }
+    tiles
+}
+
+#[test]
+fn threads_work_on_tiles_of_one_plane() -> Result<(), Error> {
+    let stride = 263;
+    let (mut samples, mut expected) = (vec![1; 263 * 64], vec![1; 263 * 64]);
+    std::thread::scope(|threads| {
+        for (i, mut tile) in tiles(&mut samples, stride).into_iter().enumerate() {
+            threads.spawn(move || {
+                for turn in 0..20 {
+                    work(&mut tile, (turn + i) as u8).expect("good arguments");
+                }
+            });
+        }
+    });
+    for (i, mut tile) in tiles(&mut expected, stride).into_iter().enumerate() {
+        work(&mut tile, 19 + i as u8)?;
+    }
+    assert_eq!(samples, expected);
+    Ok(())
+}

@@ -1,0 +1,70 @@
+//! The planes of a grid of tiles, written to memory of the caller.
+ghost use Rattle.std.specs.Prelude.{ℕ, List, Ok, IfOk, IfErr, OnErr, ◌≡◌, length};
+ghost use Rattle.av1_c.specs.Parts.{IsPartCause, PutsPlanes};
+ghost use Rattle.av1_c.specs.Plans.{AreWritten};
+ghost use Rattle.av1_c.specs.Tiles.{TilesComeTo};
+
+use crate::gathered::GatheringSink;
+use crate::part_fault::{PartFault, PartRefusal};
+use crate::part_planes::put_front;
+use av1_calls::DONE;
+use av1_streams::SliceSource;
+use av1_tiles::reconstruct_tiles;
+use std::alloc::Global;
+
+/// The planes of the grid of tiles that these bytes are.
+///
+/// # Errors
+///
+/// `TooLong`, then `Malformed`, then `MalformedPart` or `InvalidPart`. `Memory` may stand in place of any of them.
+fn tiles_planes(alloc: Global, bytes: &[u8]) -> Result<Vec<u8>, PartFault>
+    ensures found { IfOk result (λ planes. TilesComeTo bytes.now (Ok planes.items)) }
+    ensures refused { IfErr result (λ fault. (room : ℕ) → IsPartCause (TilesComeTo bytes.now) room fault) }
+{
+    let mut source = SliceSource::new(bytes, usize::MAX, &[]);
+    let mut sink = GatheringSink::new(alloc);
+    reconstruct_tiles(alloc, &mut source, &mut sink)?;
+    Ok(sink.into_bytes())
+}
+
+/// Writes the planes of the grid of tiles that these bytes are to the front of the buffer, and says how many bytes they
+/// have.
+///
+/// # Errors
+///
+/// Those of `tiles_planes`, then `RoomTooSmall`, in whose place `Memory` may stand, too.
+fn tiles_into(alloc: Global, bytes: &[u8], room: &mut [u8]) -> Result<usize, PartFault>
+    ensures written { IfOk result (λ count. (planes : List ℕ) × TilesComeTo bytes.now (Ok planes) × AreWritten planes room.old room.new count) }
+    ensures fault { IfErr result (IsPartCause (TilesComeTo bytes.now) (length room.old)) }
+    ensures kept { OnErr result (room.new ≡ room.old) }
+{
+    let planes = tiles_planes(alloc, bytes)?;
+    put_front(&planes, room)
+}
+
+/// Reconstructs the grid of tiles that these bytes are, and writes the visible planes of its frame to the front of
+/// `room`: Y, U and V, each row by row, one byte a sample at depth 8, else two, the low one first. `written` then has
+/// the number of bytes.
+///
+/// `DONE`: that was done. `TOO_LONG`: the bytes are more than 2^26. `MALFORMED`: they are no grid of tiles, for the
+/// field that begins at `refusal.at`. `MALFORMED_PART`, `INVALID_PART`: tile `refusal.part` is refused, for the field
+/// that begins at byte `refusal.at` of its part, or for leaf `refusal.leaf` and by the reason `refusal.kind`.
+/// `ROOM_TOO_SMALL`: the planes are longer than `room`. `OUT_OF_MEMORY`: memory ran out.
+#[unsafe(no_mangle)]
+pub extern "C" fn av1_reconstruct_tiles(
+    alloc: Global,
+    bytes: &[u8],
+    room: &mut [u8],
+    written: &mut usize,
+    refusal: &mut PartRefusal,
+) -> u32
+    ensures { PutsPlanes (TilesComeTo bytes.now) room.old room.new written.old written.new refusal.old refusal.new result }
+{
+    match tiles_into(alloc, bytes, room) {
+        Ok(count) => {
+            *written = count;
+            DONE
+        }
+        Err(fault) => fault.tell(refusal),
+    }
+}
