@@ -35,7 +35,7 @@ function drawTiles(context) {
   const colour = colourOf('tiles');
   drawEdges(context, colour, 3, plan.tiles);
   const roomy = plan.tiles.filter((tile) => Math.min(tile.width, tile.height) * state.zoom >= 40);
-  for (const tile of roomy) textAt(context, 'tile ' + tile.tile, across(tile.x) + 34, down(tile.y) + 12, 13, colour);
+  for (const tile of roomy) barAt(context, 'tile ' + tile.tile, across(tile.x) + 36, down(tile.y) + 14, colour);
   return roomy.length === plan.tiles.length;
 }
 

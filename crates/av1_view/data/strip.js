@@ -48,8 +48,8 @@ function stripItem(number) {
   item.setAttribute('aria-selected', number === state.frame);
   item.id = 'frame-' + number;
   item.dataset.frame = number;
-  item.style.left = number * ITEM + 'px';
-  item.style.width = ITEM - 4 + 'px';
+  item.style.left = number * ITEM + 6 + 'px';
+  item.style.width = ITEM - 6 + 'px';
   const slots = replacedBy(number);
   const texts = [number + (slots.length > 0 ? ' to ' + (slots.length === 8 ? 'all' : slots.join(' ')) : ''), readFrom(number).join(' ')];
   item.title = 'frame ' + number + ', ' + keptText(number) + (texts[1] ? ', read as ' + readFrom(number).join(', ') : '');
@@ -104,7 +104,7 @@ const stepFrame = (by) => setFrame(Math.min(Math.max(state.frame + by, 0), file.
 function startStrip() {
   if (file.kind !== 'sequence') return;
   element('strip').hidden = false;
-  element('frames').style.width = file.count * ITEM + 'px';
+  element('frames').style.width = file.count * ITEM + 6 + 'px';
   showStrip();
   element('strip').addEventListener('scroll', showStrip);
   element('strip').addEventListener('click', (event) => {

@@ -53,5 +53,5 @@ module _ {E : Type 0} (ComesTo : Outcome E) (cause : E → Cause) where
         → Reads max_plan_bytes cause (IsKept ComesTo) left source_faults source source' (Err e) → DoesPerform source source' sink sink answer
     ends_so one long source source' sink answer e is reads =
         subst (DoesPerform source source' sink sink) (sym (is_err answer e is))
-        (stops (file_page_task ComesTo cause) (page_task_sound one long) (IsKept ComesTo) (λ bytes d r. r) left source_faults taken sink_faults source source' sink
-        e reads)
+        (stops (file_page_task ComesTo cause) (page_task_sound one long) (IsKept ComesTo) (λ bytes d r. r) left source_faults taken sink_faults source source'
+        sink e reads)

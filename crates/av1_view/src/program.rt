@@ -30,8 +30,8 @@ const NO_COMMAND: u8 = 1;
 
 /// Does what the words after the program's name ask for, and gives the exit status. Without words a plan is read from
 /// `source`, and the page that shows it is written to `out`; with the word `trace` a trace, and the page that shows its
-/// plan and where its samples differ; with the word `sequence` a sequence of frames, and with the word `tiles` a grid of
-/// tiles, and the page that shows it and its planes. All other words are no command.
+/// plan and where its samples differ; with the word `sequence` a sequence of frames, and with the word `tiles` a grid
+/// of tiles, and the page that shows it and its planes. All other words are no command.
 ///
 /// | status | where | line on `err` |
 /// |---|---|---|

@@ -1036,7 +1036,7 @@ function drawTiles(context) {
   const colour = colourOf('tiles');
   drawEdges(context, colour, 3, plan.tiles);
   const roomy = plan.tiles.filter((tile) => Math.min(tile.width, tile.height) * state.zoom >= 40);
-  for (const tile of roomy) textAt(context, 'tile ' + tile.tile, across(tile.x) + 34, down(tile.y) + 12, 13, colour);
+  for (const tile of roomy) barAt(context, 'tile ' + tile.tile, across(tile.x) + 36, down(tile.y) + 14, colour);
   return roomy.length === plan.tiles.length;
 }
 
@@ -1812,8 +1812,8 @@ function stripItem(number) {
   item.setAttribute('aria-selected', number === state.frame);
   item.id = 'frame-' + number;
   item.dataset.frame = number;
-  item.style.left = number * ITEM + 'px';
-  item.style.width = ITEM - 4 + 'px';
+  item.style.left = number * ITEM + 6 + 'px';
+  item.style.width = ITEM - 6 + 'px';
   const slots = replacedBy(number);
   const texts = [number + (slots.length > 0 ? ' to ' + (slots.length === 8 ? 'all' : slots.join(' ')) : ''), readFrom(number).join(' ')];
   item.title = 'frame ' + number + ', ' + keptText(number) + (texts[1] ? ', read as ' + readFrom(number).join(', ') : '');
@@ -1868,7 +1868,7 @@ const stepFrame = (by) => setFrame(Math.min(Math.max(state.frame + by, 0), file.
 function startStrip() {
   if (file.kind !== 'sequence') return;
   element('strip').hidden = false;
-  element('frames').style.width = file.count * ITEM + 'px';
+  element('frames').style.width = file.count * ITEM + 6 + 'px';
   showStrip();
   element('strip').addEventListener('scroll', showStrip);
   element('strip').addEventListener('click', (event) => {
