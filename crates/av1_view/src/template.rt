@@ -23,7 +23,7 @@ pub const BEFORE_PLAN: &str = "<!DOCTYPE html>
 html, body { height: 100%; margin: 0; }
 body { display: grid; grid-template: minmax(0, 1fr) auto / minmax(50%, 1fr) minmax(0, 390px); background: var(--ground); color: var(--ink); font: 14px/1.4 system-ui, sans-serif; }
 body:has(#strip:not([hidden])) { grid-template-columns: minmax(60%, 1fr) minmax(0, 390px); }
-main { position: relative; }
+main { position: relative; overflow: hidden; }
 #picture { position: absolute; width: 100%; height: 100%; cursor: crosshair; touch-action: none; }
 #status { position: absolute; left: 8px; right: 8px; bottom: 8px; display: flex; flex-wrap: wrap; gap: 4px; margin: 0; pointer-events: none; }
 #status span { padding: 1px 8px; background: var(--bar); font-size: 12px; }
@@ -37,7 +37,10 @@ figure canvas { display: block; }
 figcaption { font: 12px/1.35 ui-monospace, monospace; }
 aside { grid-area: 1 / 2 / 3 / 3; display: flex; flex-direction: column; gap: 6px; padding: 10px 12px; overflow: auto; background: var(--panel); }
 aside > * { flex: none; }
-#strip { grid-area: 2 / 1; position: relative; height: min(100px, 14vh); overflow: auto hidden; border-top: 1px solid var(--line); scrollbar-width: thin; }
+#strip {
+  grid-area: 2 / 1; position: relative; height: min(100px, 14vh); overflow: auto hidden; border-top: 1px solid var(--line); background: var(--panel);
+  scrollbar-width: thin;
+}
 #frames { position: relative; height: 100%; }
 #frames div {
   position: absolute; top: 2px; bottom: 2px; display: flex; flex-direction: column; align-items: center; padding: 2px; overflow: hidden; white-space: nowrap;
