@@ -24,14 +24,14 @@ abbrev pub Outcome : Type 0 → Type 1
 Outcome E = List ℕ → Result (List ℕ) E → Type 0
 
 -- a sequence comes to the planes of all of its frames; it is refused where it is none, or where one of its frames is
-abbrev pub SequenceComesTo : Outcome SequenceError
+abbrev pub SequenceComesTo : List ℕ → Result (List ℕ) SequenceError → Type 0
 SequenceComesTo bytes (Ok planes) = SequenceOutcome bytes planes (Ok tt)
 SequenceComesTo bytes (Err e) = (planes : List ℕ) × SequenceOutcome bytes planes (Err e)
 
 -- ---- pages of files
 
 -- the page of what the bytes come to, or why they are refused
-abbrev pub HasPage : {E : Type 0} → Outcome E → Outcome E
+abbrev pub HasPage : {E : Type 0} → Outcome E → List ℕ → Result (List ℕ) E → Type 0
 HasPage ComesTo bytes (Ok written) = (planes : List ℕ) × ComesTo bytes (Ok planes) × (written ≡ file_page bytes planes)
 HasPage ComesTo bytes (Err e) = ComesTo bytes (Err e)
 
