@@ -30,7 +30,7 @@ one_sequence bytes (Err e) (Ok v) (w, q) p = let same : told (Ok tt) ≡ told (E
 one_sequence bytes (Err d) (Err e) (v, p) (w, q) = ap told (one_outcome bytes v w (Err d) (Err e) p q).0
 
 pub long_sequence : RefuseLong SequenceComesTo cause_of
-long_sequence bytes TooLong is over = ([], over, refl)
+long_sequence bytes TooLong is over = ([], (over, refl))
 long_sequence bytes ReadFault is over = absurd cc
 long_sequence bytes (Malformed at) is over = absurd cc
 long_sequence bytes (Frame i fault) is over = absurd cc
@@ -42,7 +42,7 @@ sequence_page_task_sound = page_task_sound SequenceComesTo cause_of one_sequence
 
 -- bytes within the limit are refused for what they are
 pub short_sequence : (bytes : List ℕ) (e : SequenceError) → length bytes ≤ max_plan_bytes → SequenceComesTo bytes (Err e) → cause_of e ≡ refused
-short_sequence bytes TooLong short (planes, over, none) = absurd (omega (arith, short, over))
+short_sequence bytes TooLong short (planes, (over, none)) = absurd (omega (arith, short, over))
 short_sequence bytes (Malformed at) short r = refl
 short_sequence bytes (Frame i fault) short r = refl
 short_sequence bytes ReadFault short (planes, r) = absurd r
