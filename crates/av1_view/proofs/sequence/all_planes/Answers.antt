@@ -8,5 +8,6 @@ returns-in-Ok-clause-found c =
 
 pub returns-in-Err-clause-refused : goal.returns-in-Err-clause-refused
 returns-in-Err-clause-refused c =
-    sequence_refused c.args.bytes.now _ _ _ c.reconstruct_sequence.result c.in-Err.error c.in_memory.result c.new-source.ensures.bytes c.in-Err.is c.in_memory.ensures
+    sequence_refused c.args.bytes.now _ _ _ c.reconstruct_sequence.result c.in-Err.error c.in_memory.result c.new-source.ensures.bytes c.in-Err.is
+    c.in_memory.ensures
     c.reconstruct_sequence.ensures.tells.answers
