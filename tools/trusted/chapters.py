@@ -119,7 +119,7 @@ OTHERS = [
     ("av1_sequence", "frames one after the other, with the slots that they leave"),
     ("av1_planwrite", "the text of a plan, and plans that are built field by field"),
     ("av1_toolbox", "the four tools of `av1_tools`: words, statuses, lines"),
-    ("av1_view", "the page of a plan or of a trace"),
+    ("av1_view", "the page of a plan, of a trace, of a sequence or of a grid of tiles"),
     ("av1_replay", "recorded rows, replayed"),
     ("av1_bench", "the program that times a plan"),
     ("av1_tile", "the walk: its state, its memory, its steps by place"),

@@ -12,6 +12,14 @@ class Plan:
 
     def __init__(self, data):
         self.data, self.leaves, self.types = data, [], []
+        self.read_front()
+        for y in range(0, self.height, 64):
+            for x in range(0, self.width, 64):
+                self.node(x, y, 64)
+
+    def read_front(self):
+        """The frame's settings, and the planes of its slots."""
+        data = self.data
         self.width, self.height, self.depth, self.sampling = struct.unpack_from("<HHBB", data, 4)
         self.mask = data[19]
         halved = self.sampling < 2, self.sampling == 0
@@ -23,9 +31,6 @@ class Plan:
             if self.mask >> slot & 1:
                 self.slots[slot] = self.samples(data[self.at:self.at + length])
                 self.at += length
-        for y in range(0, self.height, 64):
-            for x in range(0, self.width, 64):
-                self.node(x, y, 64)
 
     def take(self, form):
         values = struct.unpack_from("<" + form, self.data, self.at)
@@ -101,8 +106,8 @@ def stripes():
     return header + bytes([3, 8]) + 4 * plain + bytes([9]) + 4 * slanted + bytes([0]) + smooth + bytes([1]) + 2 * slanted
 
 
-def great(side):
-    """A plan of leaves of 8x8 at depth 8 in 4:2:0 with modes of every kind."""
+def great(side, most=250):
+    """A plan of leaves of 8x8 at depth 8 in 4:2:0 with modes of every kind, and coefficients of less than `most`."""
     draw = random.Random(7)
     out = [b"RPL1" + struct.pack("<HHBBBB", side, side, 8, 0, 0, 0) + bytes(8)]
 
@@ -111,7 +116,7 @@ def great(side):
         step = draw.randrange(-3, 4) if 1 <= mode <= 8 else 0
         count = draw.randrange(3)
         return (bytes([0, mode, step % 256, draw.choice((0, 9, 12)), 0, 1, 0, 0]) + struct.pack("<H", count)
-                + b"".join(struct.pack("<BHi", 0, i, draw.randrange(-250, 250)) for i in range(count)) + bytes(4))
+                + b"".join(struct.pack("<BHi", 0, i, draw.randrange(-most, most)) for i in range(count)) + bytes(4))
 
     def node(size):
         out.append(b"\3")

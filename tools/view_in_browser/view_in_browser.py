@@ -24,10 +24,12 @@ import time
 
 HERE = os.path.dirname(os.path.abspath(__file__))
 sys.path.insert(0, HERE)
+import files  # noqa: E402
 import hands  # noqa: E402
 import held  # noqa: E402
 import plans  # noqa: E402
 import shown  # noqa: E402
+import strips  # noqa: E402
 from browser import Browser  # noqa: E402
 from checks import FRAMES, Checks  # noqa: E402
 from plans import Plan  # noqa: E402
@@ -69,6 +71,15 @@ class Pages:
             page = self.run(self.options.view, [] if trace is None else ["trace"], plan if trace is None else trace)
             self.checks.true(f"{name}: the page is the one that is wanted, byte by byte", page == wanted)
         return self.keep(name, page), planes, bare
+
+    def write_file(self, name, word, data):
+        """Writes the page of a sequence or of a grid, and tells its path and its planes."""
+        planes = self.run(self.options.tools, [word], data)
+        wanted = page = TEMPLATE.page(data, planes, b"")
+        if self.options.view != "none":
+            page = self.run(self.options.view, [word], data)
+            self.checks.true(f"{name}: the page is the one that is wanted, byte by byte", page == wanted)
+        return self.keep(name, page), planes
 
     def keep(self, name, page):
         path = os.path.join(self.folder, name + ".html")
@@ -218,6 +229,50 @@ def planes_of_steps(browser, pages, checks, options):
     checks.same("steps: faults of the page", browser.faults(), [])
 
 
+def sequence(browser, pages, checks, options):
+    """A sequence of five frames, four of which are predicted from those before them."""
+    data = files.moving(lambda number: pages.run(options.recon, ["make", str(number)], b""))
+    path, all_planes = pages.write_file("sequence", "sequence", data)
+    length = len(all_planes) // 5
+    planes = [all_planes[length * i:length * (i + 1)] for i in range(5)]
+    frames = list(files.frames_of(data, lambda number: planes[number]))
+    browser.open(path)
+    checks.same("sequence: its title", browser.value("document.title"), "A sequence seen")
+    strips.look_at_strip(browser, checks, frames, planes)
+    strips.look_at_steps(browser, checks, frames, planes)
+    strips.look_at_slots(browser, checks, frames, planes)
+    strips.look_at_windows(browser, checks)
+    screenshot(browser, options, "view_sequence", "view.setFrame(2), view.moveToLeaf(68), view.fitFrame()")
+    checks.same("sequence: faults of the page", browser.faults(), [])
+    path, _ = pages.write_file("empty", "sequence", files.sequence([]))
+    browser.open(path)
+    checks.same("a sequence without frames says so", browser.text("frame"), "This sequence has no frames.")
+    checks.same("empty: faults of the page", browser.faults(), [])
+    flat = files.frame(1, files.leaves_of(plans.great(64)))
+    path, _ = pages.write_file("long", "sequence", files.sequence(300 * [flat], 64, 64, 8))
+    browser.open(path)
+    strips.look_at_long_strip(browser, checks, 300)
+    checks.same("long: faults of the page", browser.faults(), [])
+
+
+def grid(browser, pages, checks, options):
+    """Grids of tiles: the stored one, and two large tiles that read a reference."""
+    with open(os.path.join(CRATES, "av1_tools", "stdin"), "rb") as file:
+        stored = file.read()
+    made = files.two_tiles(lambda number: pages.run(options.recon, ["make", str(number)], b""))
+    for name, data in (("stored grid", stored), ("two tiles", made)):
+        path, planes = pages.write_file(name.replace(" ", "_"), "tiles", data)
+        tiles = files.tiles_of(data)
+        browser.open(path)
+        checks.same(f"{name}: its title", browser.value("document.title"), "A grid of tiles seen")
+        strips.look_at_grid(browser, checks, name, tiles, planes)
+        checks.same(f"{name}: faults of the page", browser.faults(), [])
+    strips.look_at_borders(browser, checks, tiles)
+    strips.look_at_tile_sources(browser, checks, tiles)
+    screenshot(browser, options, "view_tiles", "view.moveTo(520, 100), view.fitFrame()")
+    checks.same("two tiles: faults of the page", browser.faults(), [])
+
+
 def great(browser, pages, checks, options):
     """A frame of 2048x2048 in leaves of 8x8, which has to open and to move without a stall."""
     data = plans.great(2048)
@@ -252,7 +307,7 @@ def greatest_trace(browser, pages, checks, options):
     checks.same("greatest trace: faults of the page", browser.faults(), [])
 
 
-SMALL = [worked, stripes, departures, planes_of_steps, five, trace, everywhere]
+SMALL = [worked, stripes, departures, planes_of_steps, five, trace, everywhere, sequence, grid]
 LARGE = [great, greatest_trace]
 
 

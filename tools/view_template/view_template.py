@@ -27,8 +27,8 @@ PARTS = [
 ]
 
 # The files of the script: what a plan says, what is shown of it, how that is drawn, and what one does with it.
-SCRIPT = ["names", "plan", "samples", "colour", "differences", "departures", "classes", "texts", "state", "marks", "layers", "difference_marks",
-          "source", "picture", "panel", "list", "moving", "controls", "pointer", "start"]
+SCRIPT = ["names", "plan", "samples", "files", "colour", "differences", "departures", "classes", "texts", "state", "marks", "layers",
+          "difference_marks", "source", "picture", "panel", "list", "moving", "strip", "controls", "pointer", "start"]
 
 
 def read(name):

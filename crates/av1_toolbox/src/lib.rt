@@ -3,7 +3,8 @@
 //! before them, and `bare` writes a plan without its coefficients.
 //!
 //! [`run_tools`] is all that the program `av1_tools` does with the words of its command line, so that other programs
-//! can run the tools over memory.
+//! can run the tools over memory. [`report_sequence`] and [`report_tiles`] give the statuses and the lines of two of
+//! them, for programs that do something else with such files.
 //!
 //! It stands on `av1_tiles`, `av1_trace`, `av1_sequence` and `av1_planwrite` for what the tools do, and on `av1_recon`
 //! for the lines and statuses of programs.
@@ -16,4 +17,5 @@ mod answer;
 mod program;
 mod tool;
 
+pub use answer::{report_sequence, report_tiles};
 pub use program::run_tools;

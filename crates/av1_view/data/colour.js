@@ -52,12 +52,12 @@ function colourPainter(frame, level, matrix, full) {
   };
 }
 
-// A picture of some columns and rows, one pixel a luma sample; past the frame the nearest sample stands, as a vector reads it.
-function paint(frame, painter, left, top, width, height) {
-  const image = new ImageData(width, height);
-  const within = (place, end) => Math.min(Math.max(place, 0), end - 1);
-  const columns = Int32Array.from({ length: width }, (none, column) => within(left + column, frame.width));
-  for (let row = 0; row < height; row++) painter(image.data, 4 * width * row, within(top + row, frame.height), columns);
+// A picture of a box of luma samples, one pixel each. Past the area that they are of the nearest sample stands, as a vector reads it.
+function paint(painter, area, box) {
+  const image = new ImageData(box.width, box.height);
+  const within = (place, from, length) => Math.min(Math.max(place, from), from + length - 1);
+  const columns = Int32Array.from({ length: box.width }, (none, column) => within(box.x + column, area.x, area.width));
+  for (let row = 0; row < box.height; row++) painter(image.data, 4 * box.width * row, within(box.y + row, area.y, area.height), columns);
   return image;
 }
 

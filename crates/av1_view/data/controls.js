@@ -25,6 +25,7 @@ function setMatrix(name) {
   state.matrix = MATRICES.find((m) => m.name === name);
   element('matrix').value = name;
   repaint();
+  showStrip();
 }
 
 function setGain(gain) {
@@ -63,8 +64,17 @@ function addChoices(id, names, act) {
   element(id).addEventListener('change', (event) => act(names[event.target.selectedIndex]));
 }
 
+// The samples that can be shown of the frame; of slots of a sequence the frame that each holds is told.
+function showSources() {
+  element('sources').querySelectorAll('label').forEach((label) => label.remove());
+  for (const s of sources) {
+    const text = s.slot < 0 ? s.name : slotText(s.slot);
+    addSwitch(element('sources'), 'radio', 'source', s.name, [text], s === state.source, () => setSource(s.name)).title = s.title;
+  }
+}
+
 function addSwitches() {
-  sources.forEach((s, i) => { addSwitch(element('sources'), 'radio', 'source', s.name, [s.name], i === 0, () => setSource(s.name)).title = s.title; });
+  showSources();
   ['RGB', ...PLANES].forEach((name, i) => addSwitch(element('components'), 'radio', 'component', name, [name], i === 0, () => setComponent(name)));
   LAYERS_HERE.forEach(addLayer);
   addChoices('matrix', MATRICES.map((m) => m.name), setMatrix);
@@ -87,14 +97,17 @@ const KEYS = {
   n: () => step(1), p: () => step(-1), d: () => stepDifference(1), e: () => stepDifference(-1),
   s: () => setSource(next(sources.map((s) => s.name), state.source.name)), c: () => setComponent(next(['RGB', ...PLANES], state.component)),
   g: () => setGain(next(GAINS, state.gain)), h: () => setProperty(next(PROPERTIES, state.property).id),
-  '/': () => element('search').focus(), Escape: freeCursor,
+  '/': () => element('search').focus(), Escape: freeCursor, ',': () => stepFrame(-1), '.': () => stepFrame(1),
 };
 const ARROWS = { ArrowLeft: [-1, 0], ArrowRight: [1, 0], ArrowUp: [0, -1], ArrowDown: [0, 1] };
 
-// Arrows move the cursor, and in the list go from leaf to leaf; on a switch or a list of choices they are that one's own.
+// Arrows move the cursor, in the list go from leaf to leaf, and on the strip from frame to frame; on a switch or a list of choices they are that
+// one's own.
 function onArrow(event, [right, below]) {
   if (event.target === element('list')) {
     step(right + below);
+  } else if (event.target === element('strip')) {
+    stepFrame(right + below);
   } else if (event.target === canvas || event.target === document.body) {
     const by = event.shiftKey ? 16 : 1;
     moveTo(state.x + by * right, state.y + by * below);

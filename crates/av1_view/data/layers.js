@@ -30,6 +30,15 @@ function transformsOf(seen) {
   return boxes;
 }
 
+// The borders of tiles, and their numbers in the corner where there is room.
+function drawTiles(context) {
+  const colour = colourOf('tiles');
+  drawEdges(context, colour, 3, plan.tiles);
+  const roomy = plan.tiles.filter((tile) => Math.min(tile.width, tile.height) * state.zoom >= 40);
+  for (const tile of roomy) barAt(context, 'tile ' + tile.tile, across(tile.x) + 36, down(tile.y) + 14, colour);
+  return roomy.length === plan.tiles.length;
+}
+
 // ---- Lines from far.
 
 const lines = document.createElement('canvas');
@@ -165,7 +174,7 @@ function drawSourceBoxes(context) {
   for (const m of motionsShown(leaf)) {
     const box = sourceBox(leaf, m);
     strokeTwice(context, colourOf('vectors'), 2, [6, 4], [boxPath(box)]);
-    barAt(context, REFERENCES[m.reference] + ', slot ' + m.slot, across(box.x + box.width / 2), down(box.y) - 10, colourOf('vectors'));
+    barAt(context, REFERENCES[m.reference] + ', ' + slotText(m.slot), across(box.x + box.width / 2), down(box.y) - 10, colourOf('vectors'));
   }
 }
 

@@ -10,16 +10,18 @@ function row(...texts) {
   return line;
 }
 
+const TITLES = { plan: 'A plan seen', tiles: 'A grid of tiles seen', sequence: 'A sequence seen' };
+
 // What is known of the whole frame.
 function showFrame() {
-  const parts = [frame.width + 'x' + frame.height, frame.depth + ' bits', SAMPLINGS[frame.sampling], leaves.length + ' leaves', 'version ' + frame.version,
+  const numbers = file.kind === 'sequence' ? ['frame ' + state.frame + ' of ' + file.count] : plan.tiles ? [plan.tiles.length + ' tiles'] : [];
+  const parts = [...numbers, frame.width + 'x' + frame.height, frame.depth + ' bits', SAMPLINGS[frame.sampling], leaves.length + ' leaves', 'version ' + frame.version,
     FILTERS[frame.filter] + ' filter', 'edge filter ' + (frame.edgeFilter ? 'on' : 'off'), 'slots ' + frame.slots.join(' ')];
+  if (file.kind === 'sequence') parts.push(keptText(state.frame));
   element('frame').textContent = parts.join(', ');
-  if (departures.size > 0) {
-    element('departing').hidden = false;
-    element('departing').textContent = departures.size + (departures.size === 1 ? ' leaf departs' : ' leaves depart')
-      + ' from AV1: a search for departs finds them.';
-  }
+  element('departing').hidden = departures.size === 0;
+  element('departing').textContent = departures.size + (departures.size === 1 ? ' leaf departs' : ' leaves depart')
+    + ' from AV1: a search for departs finds them.';
   if (!given) return;
   element('differences').hidden = false;
   element('differences').textContent = differences.count === 0 ? 'The given samples are those of the plan.'

@@ -4,7 +4,7 @@
 const MOST_LEAVES = 2500;
 
 const picture = document.createElement('canvas');
-const stamps = new Uint32Array(leaves.length);
+let stamps = new Uint32Array(0);
 let stamp = 0;
 let waiting = false;
 
@@ -13,7 +13,7 @@ function repaint() {
   picture.width = frame.width;
   picture.height = frame.height;
   const painter = painterOf(frame, state.source, state.component, state.matrix, gainHere());
-  picture.getContext('2d').putImageData(paint(frame, painter, 0, 0, frame.width, frame.height), 0, 0);
+  picture.getContext('2d').putImageData(paint(painter, wholeOf(frame), wholeOf(frame)), 0, 0);
   showGain();
   showSource();
   redraw();
@@ -36,6 +36,7 @@ function visiblePart() {
 // The leaves that are seen, each once.
 function visibleLeaves(part) {
   const list = [];
+  if (stamps.length < leaves.length) stamps = new Uint32Array(leaves.length);
   stamp++;
   for (let row = part.top >> 2; row << 2 < part.bottom; row++) {
     for (let column = part.left >> 2; column << 2 < part.right; column++) {
@@ -55,6 +56,7 @@ const DRAWN = {
   transforms: (context, seen, part, crowded) => drawBoxes(context, crowded, 1, () => dashesOf(context, colourOf('transforms')), () => transformsOf(seen)),
   leaves: (context, seen, part, crowded) => drawBoxes(context, crowded, 1, () => colourOf('leaves'), () => seen),
   superblocks: (context, seen, part, crowded) => drawBoxes(context, crowded, 2, () => colourOf('superblocks'), () => superblocksIn(part)),
+  tiles: drawTiles,
   coefficients: drawCoefficients,
   modes: (context, seen) => drawModes(context, seen, 'modes', lumaMode, 0.5),
   chroma: (context, seen) => drawModes(context, seen, 'chroma', chromaMode, 0.75),

@@ -23,28 +23,38 @@ function decoded(text) {
 
 // ---- A plan.
 
-// The frame that the first fields of a plan give, with the sides of its planes and where each begins among the samples.
-function readFrame(bytes, view) {
-  const sampling = bytes[9];
+// The sides of the planes of a frame, and where each plane begins among its samples.
+function shapeOf(width, height, depth, sampling) {
   const xdec = sampling < 2 ? 1 : 0;
   const ydec = sampling === 0 ? 1 : 0;
-  const width = view.getUint16(4, true);
-  const height = view.getUint16(6, true);
   const widths = [width, width >> xdec, width >> xdec];
   const heights = [height, height >> ydec, height >> ydec];
   const sizes = widths.map((side, p) => side * heights[p]);
   return {
-    version: bytes[3] - 48, width, height, depth: bytes[8], sampling, filter: bytes[10], edgeFilter: bytes[11] === 1,
-    slots: Array.from(bytes.subarray(12, 19)), mask: bytes[19], xdecs: [0, xdec, xdec], ydecs: [0, ydec, ydec], widths, heights,
-    starts: [0, sizes[0], sizes[0] + sizes[1]], samples: sizes[0] + 2 * sizes[1], sampleBytes: bytes[8] === 8 ? 1 : 2,
+    width, height, depth, sampling, xdecs: [0, xdec, xdec], ydecs: [0, ydec, ydec], widths, heights,
+    starts: [0, sizes[0], sizes[0] + sizes[1]], samples: sizes[0] + 2 * sizes[1], sampleBytes: depth === 8 ? 1 : 2,
   };
 }
 
-// The place of each slot's planes among the bytes of a plan, by the slot's number, and last the place behind them all.
-function slotStartsOf(frame) {
-  const starts = [20];
-  for (let slot = 0; slot < 8; slot++) starts.push(starts[slot] + (frame.mask >> slot & 1) * frame.samples * frame.sampleBytes);
-  return starts;
+// The frame that the first fields of a plan or of a grid of tiles give.
+function readFrame(bytes, view) {
+  return {
+    ...shapeOf(view.getUint16(4, true), view.getUint16(6, true), bytes[8], bytes[9]), version: bytes[3] - 48, filter: bytes[10],
+    edgeFilter: bytes[11] === 1, slots: Array.from(bytes.subarray(12, 19)),
+  };
+}
+
+// The planes of each slot of which a mask has the bit, null of the others, and the place behind them all.
+function readSlots(frame, bytes) {
+  const length = frame.samples * frame.sampleBytes;
+  const slots = [];
+  let at = 20;
+  for (let slot = 0; slot < 8; slot++) {
+    const isThere = (bytes[19] >> slot & 1) === 1;
+    slots.push(isThere ? samplesOf(frame, bytes.subarray(at, at + length)) : null);
+    if (isThere) at += length;
+  }
+  return { slots, at };
 }
 
 // A leaf carries chroma unless, where chroma is halved, its side is 4 and a later leaf carries it.
@@ -52,13 +62,13 @@ function carriesChroma(frame, x, y, width, height) {
   return !(frame.xdecs[1] && width === 4 && x % 8 === 0) && !(frame.ydecs[1] && height === 4 && y % 8 === 0);
 }
 
-// The plan that the bytes spell: its frame, and its leaves in coding order.
-function readPlan(bytes) {
-  const view = new DataView(bytes.buffer, bytes.byteOffset, bytes.byteLength);
-  const frame = readFrame(bytes, view);
-  const slotStarts = slotStartsOf(frame);
+// The leaves that a part of bytes spells for an area of a frame, in coding order, from a place on, and the place behind them. They are numbered
+// from a number on.
+function readLeaves(bytes, view, frame, area, from, first) {
+  const right = area.x + area.width;
+  const bottom = area.y + area.height;
   const leaves = [];
-  let at = slotStarts[8];
+  let at = from;
 
   const byte = () => bytes[at++];
   const signed = () => view.getInt8(at++);
@@ -68,9 +78,11 @@ function readPlan(bytes) {
   const triples = () => { const count = pair(); const from = at; at += 7 * count; return { count, from }; };
 
   function leaf(x, y, width, height) {
-    if (x >= frame.width || y >= frame.height) return;
+    if (x >= right || y >= bottom) return;
     const carried = carriesChroma(frame, x, y, width, height);
-    const l = { number: leaves.length, x, y, width, height, carried, mode: byte(), step: 0, chromaMode: -1, chromaStep: 0, weights: null, motions: null };
+    const l = {
+      number: first + leaves.length, area, x, y, width, height, carried, mode: byte(), step: 0, chromaMode: -1, chromaStep: 0, weights: null, motions: null,
+    };
     if (l.mode < FIRST_SINGLE) {
       l.step = signed();
       if (carried) {
@@ -89,7 +101,7 @@ function readPlan(bytes) {
   }
 
   function node(x, y, side) {
-    if (x >= frame.width || y >= frame.height) return;
+    if (x >= right || y >= bottom) return;
     const half = side / 2;
     const quarter = side / 4;
     const mark = byte();
@@ -102,8 +114,19 @@ function readPlan(bytes) {
     if (mark === 3) for (let i = 0; i < 4; i++) quarters(x + i % 2 * half, y + (i >> 1) * half);
   }
 
-  for (let y = 0; y < frame.height; y += 64) for (let x = 0; x < frame.width; x += 64) node(x, y, 64);
-  return { bytes, view, frame, slotStarts, leaves, end: at };
+  for (let y = area.y; y < bottom; y += 64) for (let x = area.x; x < right; x += 64) node(x, y, 64);
+  return { leaves, end: at };
+}
+
+const wholeOf = (frame) => ({ x: 0, y: 0, width: frame.width, height: frame.height });
+const viewOf = (bytes) => new DataView(bytes.buffer, bytes.byteOffset, bytes.byteLength);
+
+// The plan that the bytes spell: its frame, its slots, and its leaves in coding order.
+function readPlan(bytes) {
+  const view = viewOf(bytes);
+  const frame = readFrame(bytes, view);
+  const { slots, at } = readSlots(frame, bytes);
+  return { bytes, view, frame, slots, ...readLeaves(bytes, view, frame, wholeOf(frame), at, 0) };
 }
 
 // ---- What a leaf covers.

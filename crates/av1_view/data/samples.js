@@ -26,10 +26,11 @@ function heldPlanes(frame) {
   };
 }
 
-// The samples of a slot, whose planes stand in the plan.
-function slotSamples(plan, slot) {
-  return samplesOf(plan.frame, plan.bytes.subarray(plan.slotStarts[slot], plan.slotStarts[slot + 1]));
-}
+// A slot by its number, and in a sequence the frame that it holds.
+const slotText = (slot) => 'slot ' + slot + (plan.held ? ', frame ' + plan.held[slot] : '');
+
+// The references of a frame that name a slot.
+const namesOf = (frame, slot) => REFERENCES.filter((name, i) => i > 0 && frame.slots[i - 1] === slot);
 
 // What can be shown: samples, or numbers with a sign, which are drawn round grey. `less` is taken from `of`, where there is one.
 function sourcesOf(plan, held) {
@@ -37,17 +38,18 @@ function sourcesOf(plan, held) {
   const sources = [source('reconstruction', 'what the plan comes to', held.planes)];
   if (held.predictions) sources.push(source('prediction', 'what each block is predicted as', held.predictions));
   if (held.residue) sources.push(source('residue', 'what is added to the prediction', held.residue, null, true));
-  sources.push(source('frame without coefficients', 'what the plan comes to without any coefficient', held.bare));
-  sources.push(source('changed by coefficients', 'the reconstruction less the frame without coefficients', held.planes, held.bare));
+  if (held.bare) {
+    sources.push(source('frame without coefficients', 'what the plan comes to without any coefficient', held.bare));
+    sources.push(source('changed by coefficients', 'the reconstruction less the frame without coefficients', held.planes, held.bare));
+  }
   if (held.given) {
     sources.push(source('given', 'what another encoder left', held.given));
     sources.push(source('given - defined', 'the given samples less the reconstruction', held.given, held.planes));
   }
-  for (let slot = 0; slot < 8; slot++) {
-    if (!(plan.frame.mask >> slot & 1)) continue;
-    const names = REFERENCES.filter((name, i) => i > 0 && plan.frame.slots[i - 1] === slot);
-    sources.push({ ...source('slot ' + slot, 'reference planes, of ' + (names.join(', ') || 'no reference'), slotSamples(plan, slot)), slot });
-  }
+  plan.slots.forEach((samples, slot) => {
+    const names = namesOf(plan.frame, slot).join(', ') || 'no reference';
+    if (samples) sources.push({ ...source('slot ' + slot, 'reference planes, of ' + names, samples), slot });
+  });
   return sources;
 }
 

@@ -17,19 +17,18 @@ function showSource() {
 function sourceFigure(leaf, m) {
   const slot = frame.slots[m.reference - 1];
   const box = sourceBox(leaf, m);
-  const left = Math.floor(box.x) - BEFORE;
-  const top = Math.floor(box.y) - BEFORE;
-  const width = leaf.width + BEFORE + BEHIND;
-  const height = leaf.height + BEFORE + BEHIND;
+  const read = {
+    x: Math.floor(box.x) - BEFORE, y: Math.floor(box.y) - BEFORE, width: leaf.width + BEFORE + BEHIND, height: leaf.height + BEFORE + BEHIND,
+  };
   const painter = painterOf(frame, sources.find((s) => s.slot === slot), state.component, state.matrix, 1);
   const samples = document.createElement('canvas');
-  samples.width = width;
-  samples.height = height;
-  samples.getContext('2d').putImageData(paint(frame, painter, left, top, width, height), 0, 0);
+  samples.width = read.width;
+  samples.height = read.height;
+  samples.getContext('2d').putImageData(paint(painter, leaf.area, read), 0, 0);
   const figure = document.createElement('figure');
   const caption = document.createElement('figcaption');
-  caption.textContent = REFERENCES[m.reference] + ', slot ' + slot + ': from column ' + eighths(8 * leaf.x + m.column) + ', row ' + eighths(8 * leaf.y + m.row);
-  figure.append(enlarged(samples, { x: box.x - left, y: box.y - top, width: leaf.width, height: leaf.height }), caption);
+  caption.textContent = REFERENCES[m.reference] + ', ' + slotText(slot) + ': from column ' + eighths(8 * leaf.x + m.column) + ', row ' + eighths(8 * leaf.y + m.row);
+  figure.append(enlarged(samples, { ...box, x: box.x - read.x, y: box.y - read.y }), caption);
   return figure;
 }
 

@@ -29,6 +29,12 @@ function takeScheme() {
 }
 
 function start() {
+  document.title = element('title').textContent = TITLES[file.kind];
+  if (file.count === 0) {
+    element('frame').textContent = 'This sequence has no frames.';
+    return;
+  }
+  startStrip();
   addSwitches();
   showFrame();
   takeScheme();
@@ -40,13 +46,19 @@ function start() {
   followCursor();
   showList();
   listen();
-  canvas.focus();
+  element(file.kind === 'sequence' ? 'strip' : 'picture').focus();
 }
 
 // What tests read: the model of the page, and its switches.
 window.view = {
-  plan, frame, leaves, marks, differences, departures, layers, layersHere: LAYERS_HERE, state, sources, leafAt, draw, moveTo, moveToLeaf, fit, fitFrame,
-  fitLeaf, zoomAt, setLayer, setSource, setComponent, setGain, setProperty, chooseClass, setSearch, setLocked, summaryOf,
+  get plan() { return plan; },
+  get frame() { return frame; },
+  get leaves() { return leaves; },
+  get differences() { return differences; },
+  get departures() { return departures; },
+  get sources() { return sources; },
+  file, marks, layers, layersHere: LAYERS_HERE, state, leafAt, draw, moveTo, moveToLeaf, fit, fitFrame, fitLeaf, zoomAt, setLayer, setSource, setComponent,
+  setGain, setProperty, chooseClass, setSearch, setLocked, setFrame, summaryOf,
   sample: (name, p, x, y) => valueAt(frame, sources.find((s) => s.name === name), p, x, y),
   coefficients: (number, p) => coefficientsOf(plan, leaves[number], p),
   transformSides: (leaf) => TRANSFORM_SIZES[leaf.transformSize],

@@ -2,6 +2,7 @@
 
 // Layers in the order of their switches. `single` are drawn leaf by leaf, from so near that each has room.
 const LAYERS = [
+  { id: 'tiles', key: 't', name: 'tiles', colour: '#ff7adf', on: true },
   { id: 'superblocks', key: '1', name: 'superblocks', colour: '#f0e442', on: true },
   { id: 'leaves', key: '2', name: 'leaves', colour: '#ffffff', on: true },
   { id: 'transforms', key: '3', name: 'transforms', colour: '#56b4e9', on: false },
@@ -18,24 +19,45 @@ const LAYERS = [
 
 const element = (id) => document.getElementById(id);
 const canvas = element('picture');
-const plan = readPlan(bytesOf('plan-bytes'));
-const { frame, leaves } = plan;
-const cells = cellsOf(plan);
-const held = heldPlanes(frame);
-const { planes, given } = held;
-const sources = sourcesOf(plan, held);
-const differences = given ? differencesOf(plan, planes, given) : NO_DIFFERENCES;
-const departures = departuresOf(plan);
+const file = readFile(bytesOf('plan-bytes'));
 
-// Layers that have something to show in this page.
-const hasVectors = leaves.some((leaf) => leaf.motions);
-const HAS_LAYER = { vectors: hasVectors, source: hasVectors, differences: given !== null, departures: departures.size > 0 };
+// The frame that is shown, and what is made of it.
+let plan;
+let frame;
+let leaves;
+let cells;
+let planes;
+let given;
+let sources;
+let differences;
+let departures;
+
+// Takes a frame of the file by its number.
+function takeFrame(number) {
+  const held = file.heldAt(number);
+  plan = file.readAt(number);
+  ({ frame, leaves } = plan);
+  ({ planes, given = null } = held);
+  cells = cellsOf(plan);
+  sources = sourcesOf(plan, held);
+  differences = given ? differencesOf(plan, planes, given) : NO_DIFFERENCES;
+  departures = departuresOf(plan);
+}
+
+if (file.count > 0) takeFrame(0);
+
+// Layers that have something to show in this page. In a sequence any frame may have vectors, or depart.
+const hasVectors = file.kind === 'sequence' || leaves.some((leaf) => leaf.motions);
+const HAS_LAYER = {
+  tiles: file.kind === 'tiles', vectors: hasVectors, source: hasVectors, differences: Boolean(given),
+  departures: file.kind === 'sequence' || departures.size > 0,
+};
 const LAYERS_HERE = LAYERS.filter((layer) => HAS_LAYER[layer.id] !== false);
 const layers = Object.fromEntries(LAYERS.map((layer) => [layer.id, layer.on && HAS_LAYER[layer.id] !== false]));
 
 // Lengths are of CSS pixels, of which each has `scale` of the device's on a side. `left` and `top` are the luma place at the corner.
 const state = {
-  source: sources[0], component: 'RGB', matrix: MATRICES[0], gain: 'automatic', zoom: 1, left: 0, top: 0, width: 1, height: 1, scale: 1, ground: '',
+  frame: 0, source: sources && sources[0], component: 'RGB', matrix: MATRICES[0], gain: 'automatic', zoom: 1, left: 0, top: 0, width: 1, height: 1, scale: 1, ground: '',
   x: 0, y: 0, locked: false, property: PROPERTIES[0], chosen: null, words: '', found: null, difference: -1,
 };
 

@@ -17,13 +17,14 @@ function summaryOf(l) {
   const intra = () => withStep(l.mode, l.step) + (l.carried ? ' chroma ' + chromaText(l) : '');
   const mode = l.motions ? MODES[l.mode] + ' ' + l.motions.map(motionText).join(', ') : intra();
   const place = l.width + 'x' + l.height + ' at ' + l.x + ' ' + l.y;
-  return [l.number, place, mode, TRANSFORM_TYPES[l.transformType], coefficientCount(l)].join('  ');
+  const tile = l.area.tile === undefined ? [] : ['tile ' + l.area.tile];
+  return [l.number, place, mode, TRANSFORM_TYPES[l.transformType], coefficientCount(l), ...tile].join('  ');
 }
 
 function modeFields(frame, l) {
   if (l.motions) {
     return [['mode', l.mode + ' ' + MODES[l.mode]], ...l.motions.flatMap((m) => [
-      ['reference', m.reference + ' ' + REFERENCES[m.reference] + ', slot ' + frame.slots[m.reference - 1]],
+      ['reference', m.reference + ' ' + REFERENCES[m.reference] + ', ' + slotText(frame.slots[m.reference - 1])],
       ['vector', 'row ' + m.row + ', column ' + m.column + ' eighths'],
       ['its source', 'column ' + eighths(8 * l.x + m.column) + ', row ' + eighths(8 * l.y + m.row)],
     ])];
@@ -36,7 +37,8 @@ function modeFields(frame, l) {
 
 // The fields of a leaf, each with its name.
 function fieldsOf(frame, l) {
-  const fields = [['size and place', l.width + 'x' + l.height + ' at column ' + l.x + ', row ' + l.y], ...modeFields(frame, l)];
+  const tile = l.area.tile === undefined ? [] : [['tile', l.area.tile + ', its leaf ' + (l.number - l.area.first)]];
+  const fields = [...tile, ['size and place', l.width + 'x' + l.height + ' at column ' + l.x + ', row ' + l.y], ...modeFields(frame, l)];
   fields.push(['luma transforms', TRANSFORM_SIZES[l.transformSize].join('x') + ' ' + TRANSFORM_TYPES[l.transformType]]);
   if (l.carried) {
     const area = areaOf(frame, l, 1);

@@ -3,3 +3,6 @@ pub mod Shorter
 pub mod Bared
 pub mod Pages
 pub mod TraceOutcomes
+pub mod FileAnswers
+pub mod SequenceFiles
+pub mod TilesFiles

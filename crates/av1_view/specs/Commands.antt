@@ -1,11 +1,18 @@
 -- The words after the program's name.
 use Rattle.std.specs.Prelude.{ℕ, List, [], ◌∷◌, Option, Some, None, bytes_eq, codes, if◌then◌else◌}
 use Rattle.av1_view.specs.declared.command.Command.{Command}
-use Rattle.av1_view.specs.declared.command.Command.TheVariants.{Plan, Trace}
+use Rattle.av1_view.specs.declared.command.Command.TheVariants.{Plan, Trace, Sequence, Tiles}
 
 -- the command of this name
 unfoldable pub named : List ℕ → Option Command
-named name = if bytes_eq name (codes "trace") then Some Trace else None
+named name =
+    if bytes_eq name (codes "trace")
+    then Some Trace
+    else if bytes_eq name (codes "sequence")
+    then Some Sequence
+    else if bytes_eq name (codes "tiles")
+    then Some Tiles
+    else None
 
 -- what the words ask for, each word given by its bytes; None where they are no command
 abbrev pub command_of : List (List ℕ) → Option Command

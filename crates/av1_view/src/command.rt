@@ -9,6 +9,10 @@ pub enum Command {
     Plan,
     /// A trace: a plan, and the planes that another encoder left of it.
     Trace,
+    /// A sequence of frames, each predicted from those before it.
+    Sequence,
+    /// A grid of tiles.
+    Tiles,
 }
 
 impl Command {
@@ -30,6 +34,12 @@ impl Command {
     {
         if name == "trace" {
             return Some(Command::Trace);
+        }
+        if name == "sequence" {
+            return Some(Command::Sequence);
+        }
+        if name == "tiles" {
+            return Some(Command::Tiles);
         }
         None
     }

@@ -1,6 +1,6 @@
 //! Reads a plan from standard input, and writes to standard output a page that shows it: one file, to be opened in any
 //! browser. With the word `trace` it reads a plan and the planes that another encoder left of it, and the page marks
-//! where these differ.
+//! where these differ; with the word `sequence` a sequence of frames, and with the word `tiles` a grid of tiles.
 //!
 //! All that the program does is [`program::run_view`]; here are its real source and sinks. The words of its command
 //! line, the flush of its output and its exit status are `av1_recon::run_on_words`.
@@ -8,18 +8,22 @@
 //! Promised: the page is one definition, `page` (`specs/Page.antt`): constant parts, and between them in base64 the
 //! plan's bytes, its visible planes by the slow definition, and those of the frame without coefficients.
 //! [`view::view_plan`] keeps what all calls keep that read a plan and write of it (`Converts` of `av1_recon`),
-//! [`trace::view_trace`] what all keep that read bytes and write of them (`Performs` of `av1_streams`). What a browser
-//! makes of a page is tested, not proved.
+//! [`trace::view_trace`], [`sequence::view_sequence`] and [`tiles::view_tiles`] what all keep that read bytes and write
+//! of them (`Performs` of `av1_streams`). The page of a sequence or of a grid holds its own bytes and all of its planes
+//! (`file_page`, `specs/FilePages.antt`). What a browser makes of a page is tested, not proved.
 #![tactic(auto)]
 
 mod answer;
 mod base64_text;
 mod command;
+mod file;
 mod gathered;
 mod page;
 mod planes;
 mod program;
+mod sequence;
 mod template;
+mod tiles;
 mod trace;
 mod view;
 

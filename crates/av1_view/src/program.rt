@@ -1,20 +1,28 @@
 //! All that the program does.
 ghost use Rattle.std.specs.Prelude.{◌≡◌, ◌↔◌, Some, None, map, string_bytes};
 ghost use Rattle.av1_recon.specs.Answers.{HasLine, line_of, status_of};
-ghost use Rattle.av1_recon.specs.Ends.{EndsWith, IsDone};
+ghost use Rattle.av1_recon.specs.Ends.{EndsWith, IsDone, answer_line, answer_status, written};
 ghost use Rattle.av1_recon.specs.Outcomes.{Answer, Converts, plan_task};
+ghost use Rattle.av1_sequence.specs.Files.{Answer as SequenceAnswer};
+ghost use Rattle.av1_sequence.specs.Tasks.{cause_of as sequence_cause};
 ghost use Rattle.av1_streams.specs.Tasks.{Performs};
-ghost use Rattle.av1_view.specs.Answers.{TraceAnswer, trace_line, trace_status, usage};
+ghost use Rattle.av1_tiles.specs.Tasks.{cause_of as tiles_cause};
+ghost use Rattle.av1_toolbox.specs.Answers.{sequence_line, tiles_line};
+ghost use Rattle.av1_view.specs.Answers.{TilesAnswer, TraceAnswer, trace_line, trace_status, usage};
 ghost use Rattle.av1_view.specs.Commands.{command_of};
+ghost use Rattle.av1_view.specs.FilePages.{sequence_page_task, tiles_page_task};
 ghost use Rattle.av1_view.specs.Shown.{plan_page};
 ghost use Rattle.av1_view.specs.TracePages.{trace_page_task};
-ghost use Rattle.av1_view.specs.declared.command.Command.TheVariants.{Plan, Trace};
+ghost use Rattle.av1_view.specs.declared.command.Command.TheVariants.{Plan, Trace, Sequence, Tiles};
 
 use crate::answer::report_trace;
 use crate::command::Command;
+use crate::sequence::view_sequence;
+use crate::tiles::view_tiles;
 use crate::trace::view_trace;
 use crate::view::view_plan;
 use av1_recon::{Sink, Source, report, say};
+use av1_toolbox::{report_sequence, report_tiles};
 use std::alloc::Global;
 
 // The status where the words are no command.
@@ -22,13 +30,14 @@ const NO_COMMAND: u8 = 1;
 
 /// Does what the words after the program's name ask for, and gives the exit status. Without words a plan is read from
 /// `source`, and the page that shows it is written to `out`; with the word `trace` a trace, and the page that shows its
-/// plan and where its samples differ. All other words are no command.
+/// plan and where its samples differ; with the word `sequence` a sequence of frames, and with the word `tiles` a grid
+/// of tiles, and the page that shows it and its planes. All other words are no command.
 ///
 /// | status | where | line on `err` |
 /// |---|---|---|
 /// | 0 | the page was written | none |
-/// | 1 | the words are no command | `usage: view [trace]` |
-/// | 2 | the bytes are refused | `too long`, `malformed at N`; of a plan `invalid leaf N: K`; of a trace `plan malformed at N`, `plan invalid leaf N: K` |
+/// | 1 | the words are no command | `usage: view [trace \| sequence \| tiles]` |
+/// | 2 | the bytes are refused | `too long`, `malformed at N`; of a plan `invalid leaf N: K`; of a trace `plan malformed at N`, `plan invalid leaf N: K`; of a sequence or of a grid as `av1_toolbox::run_tools` says |
 /// | 3 | memory ran out | `out of memory` |
 /// | 4 | a read failed | `read fault` |
 /// | 5 | a write failed | `write fault` |
@@ -49,6 +58,12 @@ pub fn run_view<R: Source, W: Sink, E: Sink>(
     ensures trace { command_of (map string_bytes words.now) ≡ Some Trace → (answer : TraceAnswer)
         × Performs trace_page_task R.left R.faults W.taken W.faults source.old source.new out.old out.new answer
         × (result ≡ trace_status answer) × HasLine E.taken E.faults err.old err.new (trace_line answer) }
+    ensures sequence { command_of (map string_bytes words.now) ≡ Some Sequence → (answer : SequenceAnswer)
+        × Performs sequence_page_task R.left R.faults W.taken W.faults source.old source.new out.old out.new answer
+        × (result ≡ answer_status sequence_cause written answer) × HasLine E.taken E.faults err.old err.new (answer_line sequence_line answer) }
+    ensures tiles { command_of (map string_bytes words.now) ≡ Some Tiles → (answer : TilesAnswer)
+        × Performs tiles_page_task R.left R.faults W.taken W.faults source.old source.new out.old out.new answer
+        × (result ≡ answer_status tiles_cause written answer) × HasLine E.taken E.faults err.old err.new (answer_line tiles_line answer) }
 
     // What each status says.
     ensures status_1 { (result ≡ 1) ↔ (command_of (map string_bytes words.now) ≡ None) }
@@ -56,12 +71,18 @@ pub fn run_view<R: Source, W: Sink, E: Sink>(
         EndsWith IsDone (plan_task plan_page) R.left R.faults W.taken W.faults source.old source.new out.old out.new result }
     ensures trace_ends { command_of (map string_bytes words.now) ≡ Some Trace →
         EndsWith IsDone trace_page_task R.left R.faults W.taken W.faults source.old source.new out.old out.new result }
+    ensures sequence_ends { command_of (map string_bytes words.now) ≡ Some Sequence →
+        EndsWith IsDone sequence_page_task R.left R.faults W.taken W.faults source.old source.new out.old out.new result }
+    ensures tiles_ends { command_of (map string_bytes words.now) ≡ Some Tiles →
+        EndsWith IsDone tiles_page_task R.left R.faults W.taken W.faults source.old source.new out.old out.new result }
 {
     match Command::from_words(words) {
         Some(Command::Plan) => report(view_plan(alloc, source, out), err),
         Some(Command::Trace) => report_trace(view_trace(alloc, source, out), err),
+        Some(Command::Sequence) => report_sequence(view_sequence(alloc, source, out), err),
+        Some(Command::Tiles) => report_tiles(view_tiles(alloc, source, out), err),
         None => {
-            say(b"usage: view [trace]\n", err);
+            say(b"usage: view [trace | sequence | tiles]\n", err);
             NO_COMMAND
         }
     }

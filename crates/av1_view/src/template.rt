@@ -21,8 +21,9 @@ pub const BEFORE_PLAN: &str = "<!DOCTYPE html>
 * { box-sizing: border-box; }
 [hidden] { display: none !important; }
 html, body { height: 100%; margin: 0; }
-body { display: flex; background: var(--ground); color: var(--ink); font: 14px/1.4 system-ui, sans-serif; }
-main { position: relative; flex: 1; min-width: 50%; }
+body { display: grid; grid-template: minmax(0, 1fr) auto / minmax(50%, 1fr) minmax(0, 390px); background: var(--ground); color: var(--ink); font: 14px/1.4 system-ui, sans-serif; }
+body:has(#strip:not([hidden])) { grid-template-columns: minmax(60%, 1fr) minmax(0, 390px); }
+main { position: relative; overflow: hidden; }
 #picture { position: absolute; width: 100%; height: 100%; cursor: crosshair; touch-action: none; }
 #status { position: absolute; left: 8px; right: 8px; bottom: 8px; display: flex; flex-wrap: wrap; gap: 4px; margin: 0; pointer-events: none; }
 #status span { padding: 1px 8px; background: var(--bar); font-size: 12px; }
@@ -34,12 +35,25 @@ main { position: relative; flex: 1; min-width: 50%; }
 figure { width: 200px; margin: 0; }
 figure canvas { display: block; }
 figcaption { font: 12px/1.35 ui-monospace, monospace; }
-aside { display: flex; flex-direction: column; gap: 6px; width: 390px; height: 100%; padding: 10px 12px; overflow: auto; background: var(--panel); }
+aside { grid-area: 1 / 2 / 3 / 3; display: flex; flex-direction: column; gap: 6px; padding: 10px 12px; overflow: auto; background: var(--panel); }
 aside > * { flex: none; }
+#strip {
+  grid-area: 2 / 1; position: relative; height: min(100px, 14vh); overflow: auto hidden; border-top: 1px solid var(--line); background: var(--panel);
+  scrollbar-width: thin;
+}
+#frames { position: relative; height: 100%; }
+#frames div {
+  position: absolute; top: 2px; bottom: 2px; display: flex; flex-direction: column; align-items: center; padding: 2px; overflow: hidden; white-space: nowrap;
+  font: 11px/13px ui-monospace, monospace; cursor: pointer;
+}
+#frames div[aria-selected=true] { background: var(--chosen); }
+#frames canvas { flex: 1; min-height: 0; max-width: 100%; object-fit: contain; }
+#frames span { width: 100%; height: 13px; overflow: hidden; text-overflow: ellipsis; }
+#frames span:last-child { color: var(--mark); }
+#frames div[aria-selected=true] span { color: inherit; }
 @media (max-width: 780px) {
-  body { flex-direction: column; }
-  main { flex: none; height: 55%; }
-  aside { width: auto; height: 45%; }
+  body, body:has(#strip:not([hidden])) { grid-template: 55% auto minmax(0, 1fr) / minmax(0, 1fr); }
+  aside { grid-area: 3 / 1; }
 }
 h1, h2 { margin: 0; font-size: 16px; }
 h2 { font-size: 14px; }
@@ -82,8 +96,10 @@ th { color: var(--quiet); }
 <div id=\"source\" hidden></div>
 <p id=\"status\"><span id=\"scale\"></span><span id=\"dense\"></span></p>
 </main>
+<div id=\"strip\" role=\"listbox\" tabindex=\"0\" aria-label=\"Frames of the sequence. Arrows go from one to the next.\" aria-orientation=\"horizontal\" hidden>
+<div id=\"frames\"></div></div>
 <aside aria-label=\"What is shown\">
-<h1>A plan seen</h1>
+<h1 id=\"title\">A plan seen</h1>
 <p id=\"frame\"></p>
 <p id=\"departing\" hidden></p>
 <fieldset id=\"sources\"><legend>Samples <kbd>s</kbd></legend></fieldset>
@@ -115,8 +131,9 @@ th { color: var(--quiet); }
 <p>Arrows move the cursor by a sample, with shift by 16. A click locks it, <kbd>Esc</kbd> lets it go. <kbd>+</kbd> <kbd>-</kbd> zoom at the
 cursor, <kbd>0</kbd> fits the frame, <kbd>f</kbd> the leaf. <kbd>n</kbd> <kbd>p</kbd> go to the next and the previous leaf that is found,
 <kbd>d</kbd> <kbd>e</kbd> to the next and the previous difference. <kbd>s</kbd> <kbd>c</kbd> <kbd>g</kbd> change what is shown, <kbd>h</kbd> the
-classes. <kbd>1</kbd> to <kbd>9</kbd>, <kbd>m</kbd>, <kbd>x</kbd> and <kbd>b</kbd> switch layers, <kbd>/</kbd> searches. The mouse drags the
-picture, the wheel zooms, and sideways it moves.</p>
+classes. <kbd>1</kbd> to <kbd>9</kbd>, <kbd>m</kbd>, <kbd>x</kbd>, <kbd>b</kbd> and <kbd>t</kbd> switch layers, <kbd>/</kbd> searches.
+<kbd>,</kbd> <kbd>.</kbd> go to the previous and the next frame of a sequence, as arrows on the strip do. The mouse drags the picture, the wheel
+zooms, and sideways it moves.</p>
 </details>
 </aside>
 <script type=\"text/plain\" id=\"plan-bytes\">";
@@ -186,28 +203,38 @@ function decoded(text) {
 
 // ---- A plan.
 
-// The frame that the first fields of a plan give, with the sides of its planes and where each begins among the samples.
-function readFrame(bytes, view) {
-  const sampling = bytes[9];
+// The sides of the planes of a frame, and where each plane begins among its samples.
+function shapeOf(width, height, depth, sampling) {
   const xdec = sampling < 2 ? 1 : 0;
   const ydec = sampling === 0 ? 1 : 0;
-  const width = view.getUint16(4, true);
-  const height = view.getUint16(6, true);
   const widths = [width, width >> xdec, width >> xdec];
   const heights = [height, height >> ydec, height >> ydec];
   const sizes = widths.map((side, p) => side * heights[p]);
   return {
-    version: bytes[3] - 48, width, height, depth: bytes[8], sampling, filter: bytes[10], edgeFilter: bytes[11] === 1,
-    slots: Array.from(bytes.subarray(12, 19)), mask: bytes[19], xdecs: [0, xdec, xdec], ydecs: [0, ydec, ydec], widths, heights,
-    starts: [0, sizes[0], sizes[0] + sizes[1]], samples: sizes[0] + 2 * sizes[1], sampleBytes: bytes[8] === 8 ? 1 : 2,
+    width, height, depth, sampling, xdecs: [0, xdec, xdec], ydecs: [0, ydec, ydec], widths, heights,
+    starts: [0, sizes[0], sizes[0] + sizes[1]], samples: sizes[0] + 2 * sizes[1], sampleBytes: depth === 8 ? 1 : 2,
   };
 }
 
-// The place of each slot's planes among the bytes of a plan, by the slot's number, and last the place behind them all.
-function slotStartsOf(frame) {
-  const starts = [20];
-  for (let slot = 0; slot < 8; slot++) starts.push(starts[slot] + (frame.mask >> slot & 1) * frame.samples * frame.sampleBytes);
-  return starts;
+// The frame that the first fields of a plan or of a grid of tiles give.
+function readFrame(bytes, view) {
+  return {
+    ...shapeOf(view.getUint16(4, true), view.getUint16(6, true), bytes[8], bytes[9]), version: bytes[3] - 48, filter: bytes[10],
+    edgeFilter: bytes[11] === 1, slots: Array.from(bytes.subarray(12, 19)),
+  };
+}
+
+// The planes of each slot of which a mask has the bit, null of the others, and the place behind them all.
+function readSlots(frame, bytes) {
+  const length = frame.samples * frame.sampleBytes;
+  const slots = [];
+  let at = 20;
+  for (let slot = 0; slot < 8; slot++) {
+    const isThere = (bytes[19] >> slot & 1) === 1;
+    slots.push(isThere ? samplesOf(frame, bytes.subarray(at, at + length)) : null);
+    if (isThere) at += length;
+  }
+  return { slots, at };
 }
 
 // A leaf carries chroma unless, where chroma is halved, its side is 4 and a later leaf carries it.
@@ -215,13 +242,13 @@ function carriesChroma(frame, x, y, width, height) {
   return !(frame.xdecs[1] && width === 4 && x % 8 === 0) && !(frame.ydecs[1] && height === 4 && y % 8 === 0);
 }
 
-// The plan that the bytes spell: its frame, and its leaves in coding order.
-function readPlan(bytes) {
-  const view = new DataView(bytes.buffer, bytes.byteOffset, bytes.byteLength);
-  const frame = readFrame(bytes, view);
-  const slotStarts = slotStartsOf(frame);
+// The leaves that a part of bytes spells for an area of a frame, in coding order, from a place on, and the place behind them. They are numbered
+// from a number on.
+function readLeaves(bytes, view, frame, area, from, first) {
+  const right = area.x + area.width;
+  const bottom = area.y + area.height;
   const leaves = [];
-  let at = slotStarts[8];
+  let at = from;
 
   const byte = () => bytes[at++];
   const signed = () => view.getInt8(at++);
@@ -231,9 +258,11 @@ function readPlan(bytes) {
   const triples = () => { const count = pair(); const from = at; at += 7 * count; return { count, from }; };
 
   function leaf(x, y, width, height) {
-    if (x >= frame.width || y >= frame.height) return;
+    if (x >= right || y >= bottom) return;
     const carried = carriesChroma(frame, x, y, width, height);
-    const l = { number: leaves.length, x, y, width, height, carried, mode: byte(), step: 0, chromaMode: -1, chromaStep: 0, weights: null, motions: null };
+    const l = {
+      number: first + leaves.length, area, x, y, width, height, carried, mode: byte(), step: 0, chromaMode: -1, chromaStep: 0, weights: null, motions: null,
+    };
     if (l.mode < FIRST_SINGLE) {
       l.step = signed();
       if (carried) {
@@ -252,7 +281,7 @@ function readPlan(bytes) {
   }
 
   function node(x, y, side) {
-    if (x >= frame.width || y >= frame.height) return;
+    if (x >= right || y >= bottom) return;
     const half = side / 2;
     const quarter = side / 4;
     const mark = byte();
@@ -265,8 +294,19 @@ function readPlan(bytes) {
     if (mark === 3) for (let i = 0; i < 4; i++) quarters(x + i % 2 * half, y + (i >> 1) * half);
   }
 
-  for (let y = 0; y < frame.height; y += 64) for (let x = 0; x < frame.width; x += 64) node(x, y, 64);
-  return { bytes, view, frame, slotStarts, leaves, end: at };
+  for (let y = area.y; y < bottom; y += 64) for (let x = area.x; x < right; x += 64) node(x, y, 64);
+  return { leaves, end: at };
+}
+
+const wholeOf = (frame) => ({ x: 0, y: 0, width: frame.width, height: frame.height });
+const viewOf = (bytes) => new DataView(bytes.buffer, bytes.byteOffset, bytes.byteLength);
+
+// The plan that the bytes spell: its frame, its slots, and its leaves in coding order.
+function readPlan(bytes) {
+  const view = viewOf(bytes);
+  const frame = readFrame(bytes, view);
+  const { slots, at } = readSlots(frame, bytes);
+  return { bytes, view, frame, slots, ...readLeaves(bytes, view, frame, wholeOf(frame), at, 0) };
 }
 
 // ---- What a leaf covers.
@@ -347,10 +387,11 @@ function heldPlanes(frame) {
   };
 }
 
-// The samples of a slot, whose planes stand in the plan.
-function slotSamples(plan, slot) {
-  return samplesOf(plan.frame, plan.bytes.subarray(plan.slotStarts[slot], plan.slotStarts[slot + 1]));
-}
+// A slot by its number, and in a sequence the frame that it holds.
+const slotText = (slot) => 'slot ' + slot + (plan.held ? ', frame ' + plan.held[slot] : '');
+
+// The references of a frame that name a slot.
+const namesOf = (frame, slot) => REFERENCES.filter((name, i) => i > 0 && frame.slots[i - 1] === slot);
 
 // What can be shown: samples, or numbers with a sign, which are drawn round grey. `less` is taken from `of`, where there is one.
 function sourcesOf(plan, held) {
@@ -358,17 +399,18 @@ function sourcesOf(plan, held) {
   const sources = [source('reconstruction', 'what the plan comes to', held.planes)];
   if (held.predictions) sources.push(source('prediction', 'what each block is predicted as', held.predictions));
   if (held.residue) sources.push(source('residue', 'what is added to the prediction', held.residue, null, true));
-  sources.push(source('frame without coefficients', 'what the plan comes to without any coefficient', held.bare));
-  sources.push(source('changed by coefficients', 'the reconstruction less the frame without coefficients', held.planes, held.bare));
+  if (held.bare) {
+    sources.push(source('frame without coefficients', 'what the plan comes to without any coefficient', held.bare));
+    sources.push(source('changed by coefficients', 'the reconstruction less the frame without coefficients', held.planes, held.bare));
+  }
   if (held.given) {
     sources.push(source('given', 'what another encoder left', held.given));
     sources.push(source('given - defined', 'the given samples less the reconstruction', held.given, held.planes));
   }
-  for (let slot = 0; slot < 8; slot++) {
-    if (!(plan.frame.mask >> slot & 1)) continue;
-    const names = REFERENCES.filter((name, i) => i > 0 && plan.frame.slots[i - 1] === slot);
-    sources.push({ ...source('slot ' + slot, 'reference planes, of ' + (names.join(', ') || 'no reference'), slotSamples(plan, slot)), slot });
-  }
+  plan.slots.forEach((samples, slot) => {
+    const names = namesOf(plan.frame, slot).join(', ') || 'no reference';
+    if (samples) sources.push({ ...source('slot ' + slot, 'reference planes, of ' + names, samples), slot });
+  });
   return sources;
 }
 
@@ -403,6 +445,86 @@ function gainOf(frame, source, component, gain) {
 
 // The number that is drawn as white, whose opposite is drawn as black.
 const whiteOf = (frame, gain) => 127 * (1 << (frame.depth - 8)) / gain;
+
+// ---- Files of tiles and of frames.
+
+// A file has frames, one but in a sequence, by their numbers. Of each it gives what is read of it, as of a plan, and the planes that are held.
+
+function readFile(bytes) {
+  const letters = String.fromCharCode(...bytes.subarray(0, 4));
+  if (letters === 'RSQ1') return sequenceOf(bytes);
+  const isGrid = letters === 'RTL1';
+  const read = isGrid ? readGrid(bytes) : readPlan(bytes);
+  const held = heldPlanes(read.frame);
+  return { kind: isGrid ? 'tiles' : 'plan', count: 1, readAt: () => read, heldAt: () => held };
+}
+
+// ---- A grid of tiles.
+
+// The starts of columns or of rows, from a place on, and behind them the side of the frame.
+function readStarts(view, at, side) {
+  const count = view.getUint8(at);
+  const starts = [0];
+  for (let i = 1; i < count; i++) starts.push(view.getUint16(at + 2 * i - 1, true));
+  return { starts: [...starts, side], end: at + 2 * count - 1 };
+}
+
+// A grid as a plan of its frame: the leaves of all tiles, one tile behind the other, each with its tile as the area that it lies in.
+function readGrid(bytes) {
+  const view = viewOf(bytes);
+  const frame = { ...readFrame(bytes, view), version: 2 };
+  const { slots, at } = readSlots(frame, bytes);
+  const columns = readStarts(view, at, frame.width);
+  const rows = readStarts(view, columns.end, frame.height);
+  const tiles = [];
+  const leaves = [];
+  let end = rows.end;
+  for (let row = 0; row + 1 < rows.starts.length; row++) {
+    for (let column = 0; column + 1 < columns.starts.length; column++) {
+      const [x, y] = [columns.starts[column], rows.starts[row]];
+      const tile = { tile: tiles.length, first: leaves.length, x, y, width: columns.starts[column + 1] - x, height: rows.starts[row + 1] - y };
+      const part = readLeaves(bytes, view, frame, tile, end + 4, leaves.length);
+      tiles.push(tile);
+      for (const leaf of part.leaves) leaves.push(leaf);
+      end = part.end;
+    }
+  }
+  return { bytes, view, frame, slots, leaves, end, tiles };
+}
+
+// ---- A sequence of frames.
+
+// The frames of a sequence, each with what its head says, where its part begins, and which frame each slot holds before it, none as -1.
+function readHeads(bytes, view) {
+  const heads = [];
+  let held = new Array(8).fill(-1);
+  let at = 12;
+  for (let number = 0; number < view.getUint16(10, true); number++) {
+    const refresh = bytes[at + 9];
+    const replaced = held.map((other, slot) => refresh >> slot & 1 ? number : other);
+    heads.push({ filter: bytes[at], edgeFilter: bytes[at + 1] === 1, slots: Array.from(bytes.subarray(at + 2, at + 9)), refresh, part: at + 14, held });
+    held = replaced;
+    at += 14 + view.getUint32(at + 10, true);
+  }
+  return heads;
+}
+
+// Frames are read as they are asked for: of each the leaves, and as its slots the planes of frames before it.
+function sequenceOf(bytes) {
+  const view = viewOf(bytes);
+  const shape = shapeOf(view.getUint16(4, true), view.getUint16(6, true), bytes[8], bytes[9]);
+  const heads = readHeads(bytes, view);
+  const length = shape.samples * shape.sampleBytes;
+  const all = bytesOf('planes-bytes');
+  const planesAt = (number) => samplesOf(shape, all.subarray(length * number, length * (number + 1)));
+  const readAt = (number) => {
+    const { filter, edgeFilter, slots, refresh, part, held } = heads[number];
+    const frame = { ...shape, version: 2, filter, edgeFilter, slots };
+    const filled = held.map((other) => other < 0 ? null : planesAt(other));
+    return { bytes, view, frame, slots: filled, held, refresh, ...readLeaves(bytes, view, frame, wholeOf(frame), part, 0) };
+  };
+  return { kind: 'sequence', count: heads.length, shape, heads, readAt, planesAt, heldAt: (number) => ({ planes: planesAt(number) }) };
+}
 
 // ---- Colours of samples.
 
@@ -458,12 +580,12 @@ function colourPainter(frame, level, matrix, full) {
   };
 }
 
-// A picture of some columns and rows, one pixel a luma sample; past the frame the nearest sample stands, as a vector reads it.
-function paint(frame, painter, left, top, width, height) {
-  const image = new ImageData(width, height);
-  const within = (place, end) => Math.min(Math.max(place, 0), end - 1);
-  const columns = Int32Array.from({ length: width }, (none, column) => within(left + column, frame.width));
-  for (let row = 0; row < height; row++) painter(image.data, 4 * width * row, within(top + row, frame.height), columns);
+// A picture of a box of luma samples, one pixel each. Past the area that they are of the nearest sample stands, as a vector reads it.
+function paint(painter, area, box) {
+  const image = new ImageData(box.width, box.height);
+  const within = (place, from, length) => Math.min(Math.max(place, from), from + length - 1);
+  const columns = Int32Array.from({ length: box.width }, (none, column) => within(box.x + column, area.x, area.width));
+  for (let row = 0; row < box.height; row++) painter(image.data, 4 * box.width * row, within(box.y + row, area.y, area.height), columns);
   return image;
 }
 
@@ -644,13 +766,14 @@ function summaryOf(l) {
   const intra = () => withStep(l.mode, l.step) + (l.carried ? ' chroma ' + chromaText(l) : '');
   const mode = l.motions ? MODES[l.mode] + ' ' + l.motions.map(motionText).join(', ') : intra();
   const place = l.width + 'x' + l.height + ' at ' + l.x + ' ' + l.y;
-  return [l.number, place, mode, TRANSFORM_TYPES[l.transformType], coefficientCount(l)].join('  ');
+  const tile = l.area.tile === undefined ? [] : ['tile ' + l.area.tile];
+  return [l.number, place, mode, TRANSFORM_TYPES[l.transformType], coefficientCount(l), ...tile].join('  ');
 }
 
 function modeFields(frame, l) {
   if (l.motions) {
     return [['mode', l.mode + ' ' + MODES[l.mode]], ...l.motions.flatMap((m) => [
-      ['reference', m.reference + ' ' + REFERENCES[m.reference] + ', slot ' + frame.slots[m.reference - 1]],
+      ['reference', m.reference + ' ' + REFERENCES[m.reference] + ', ' + slotText(frame.slots[m.reference - 1])],
       ['vector', 'row ' + m.row + ', column ' + m.column + ' eighths'],
       ['its source', 'column ' + eighths(8 * l.x + m.column) + ', row ' + eighths(8 * l.y + m.row)],
     ])];
@@ -663,7 +786,8 @@ function modeFields(frame, l) {
 
 // The fields of a leaf, each with its name.
 function fieldsOf(frame, l) {
-  const fields = [['size and place', l.width + 'x' + l.height + ' at column ' + l.x + ', row ' + l.y], ...modeFields(frame, l)];
+  const tile = l.area.tile === undefined ? [] : [['tile', l.area.tile + ', its leaf ' + (l.number - l.area.first)]];
+  const fields = [...tile, ['size and place', l.width + 'x' + l.height + ' at column ' + l.x + ', row ' + l.y], ...modeFields(frame, l)];
   fields.push(['luma transforms', TRANSFORM_SIZES[l.transformSize].join('x') + ' ' + TRANSFORM_TYPES[l.transformType]]);
   if (l.carried) {
     const area = areaOf(frame, l, 1);
@@ -688,6 +812,7 @@ function triplesText(plan, l) {
 
 // Layers in the order of their switches. `single` are drawn leaf by leaf, from so near that each has room.
 const LAYERS = [
+  { id: 'tiles', key: 't', name: 'tiles', colour: '#ff7adf', on: true },
   { id: 'superblocks', key: '1', name: 'superblocks', colour: '#f0e442', on: true },
   { id: 'leaves', key: '2', name: 'leaves', colour: '#ffffff', on: true },
   { id: 'transforms', key: '3', name: 'transforms', colour: '#56b4e9', on: false },
@@ -704,24 +829,45 @@ const LAYERS = [
 
 const element = (id) => document.getElementById(id);
 const canvas = element('picture');
-const plan = readPlan(bytesOf('plan-bytes'));
-const { frame, leaves } = plan;
-const cells = cellsOf(plan);
-const held = heldPlanes(frame);
-const { planes, given } = held;
-const sources = sourcesOf(plan, held);
-const differences = given ? differencesOf(plan, planes, given) : NO_DIFFERENCES;
-const departures = departuresOf(plan);
+const file = readFile(bytesOf('plan-bytes'));
 
-// Layers that have something to show in this page.
-const hasVectors = leaves.some((leaf) => leaf.motions);
-const HAS_LAYER = { vectors: hasVectors, source: hasVectors, differences: given !== null, departures: departures.size > 0 };
+// The frame that is shown, and what is made of it.
+let plan;
+let frame;
+let leaves;
+let cells;
+let planes;
+let given;
+let sources;
+let differences;
+let departures;
+
+// Takes a frame of the file by its number.
+function takeFrame(number) {
+  const held = file.heldAt(number);
+  plan = file.readAt(number);
+  ({ frame, leaves } = plan);
+  ({ planes, given = null } = held);
+  cells = cellsOf(plan);
+  sources = sourcesOf(plan, held);
+  differences = given ? differencesOf(plan, planes, given) : NO_DIFFERENCES;
+  departures = departuresOf(plan);
+}
+
+if (file.count > 0) takeFrame(0);
+
+// Layers that have something to show in this page. In a sequence any frame may have vectors, or depart.
+const hasVectors = file.kind === 'sequence' || leaves.some((leaf) => leaf.motions);
+const HAS_LAYER = {
+  tiles: file.kind === 'tiles', vectors: hasVectors, source: hasVectors, differences: Boolean(given),
+  departures: file.kind === 'sequence' || departures.size > 0,
+};
 const LAYERS_HERE = LAYERS.filter((layer) => HAS_LAYER[layer.id] !== false);
 const layers = Object.fromEntries(LAYERS.map((layer) => [layer.id, layer.on && HAS_LAYER[layer.id] !== false]));
 
 // Lengths are of CSS pixels, of which each has `scale` of the device's on a side. `left` and `top` are the luma place at the corner.
 const state = {
-  source: sources[0], component: 'RGB', matrix: MATRICES[0], gain: 'automatic', zoom: 1, left: 0, top: 0, width: 1, height: 1, scale: 1, ground: '',
+  frame: 0, source: sources && sources[0], component: 'RGB', matrix: MATRICES[0], gain: 'automatic', zoom: 1, left: 0, top: 0, width: 1, height: 1, scale: 1, ground: '',
   x: 0, y: 0, locked: false, property: PROPERTIES[0], chosen: null, words: '', found: null, difference: -1,
 };
 
@@ -888,6 +1034,15 @@ function transformsOf(seen) {
   return boxes;
 }
 
+// The borders of tiles, and their numbers in the corner where there is room.
+function drawTiles(context) {
+  const colour = colourOf('tiles');
+  drawEdges(context, colour, 3, plan.tiles);
+  const roomy = plan.tiles.filter((tile) => Math.min(tile.width, tile.height) * state.zoom >= 40);
+  for (const tile of roomy) barAt(context, 'tile ' + tile.tile, across(tile.x) + 36, down(tile.y) + 14, colour);
+  return roomy.length === plan.tiles.length;
+}
+
 // ---- Lines from far.
 
 const lines = document.createElement('canvas');
@@ -1023,7 +1178,7 @@ function drawSourceBoxes(context) {
   for (const m of motionsShown(leaf)) {
     const box = sourceBox(leaf, m);
     strokeTwice(context, colourOf('vectors'), 2, [6, 4], [boxPath(box)]);
-    barAt(context, REFERENCES[m.reference] + ', slot ' + m.slot, across(box.x + box.width / 2), down(box.y) - 10, colourOf('vectors'));
+    barAt(context, REFERENCES[m.reference] + ', ' + slotText(m.slot), across(box.x + box.width / 2), down(box.y) - 10, colourOf('vectors'));
   }
 }
 
@@ -1193,19 +1348,18 @@ function showSource() {
 function sourceFigure(leaf, m) {
   const slot = frame.slots[m.reference - 1];
   const box = sourceBox(leaf, m);
-  const left = Math.floor(box.x) - BEFORE;
-  const top = Math.floor(box.y) - BEFORE;
-  const width = leaf.width + BEFORE + BEHIND;
-  const height = leaf.height + BEFORE + BEHIND;
+  const read = {
+    x: Math.floor(box.x) - BEFORE, y: Math.floor(box.y) - BEFORE, width: leaf.width + BEFORE + BEHIND, height: leaf.height + BEFORE + BEHIND,
+  };
   const painter = painterOf(frame, sources.find((s) => s.slot === slot), state.component, state.matrix, 1);
   const samples = document.createElement('canvas');
-  samples.width = width;
-  samples.height = height;
-  samples.getContext('2d').putImageData(paint(frame, painter, left, top, width, height), 0, 0);
+  samples.width = read.width;
+  samples.height = read.height;
+  samples.getContext('2d').putImageData(paint(painter, leaf.area, read), 0, 0);
   const figure = document.createElement('figure');
   const caption = document.createElement('figcaption');
-  caption.textContent = REFERENCES[m.reference] + ', slot ' + slot + ': from column ' + eighths(8 * leaf.x + m.column) + ', row ' + eighths(8 * leaf.y + m.row);
-  figure.append(enlarged(samples, { x: box.x - left, y: box.y - top, width: leaf.width, height: leaf.height }), caption);
+  caption.textContent = REFERENCES[m.reference] + ', ' + slotText(slot) + ': from column ' + eighths(8 * leaf.x + m.column) + ', row ' + eighths(8 * leaf.y + m.row);
+  figure.append(enlarged(samples, { ...box, x: box.x - read.x, y: box.y - read.y }), caption);
   return figure;
 }
 
@@ -1232,7 +1386,7 @@ function enlarged(samples, box) {
 const MOST_LEAVES = 2500;
 
 const picture = document.createElement('canvas');
-const stamps = new Uint32Array(leaves.length);
+let stamps = new Uint32Array(0);
 let stamp = 0;
 let waiting = false;
 
@@ -1241,7 +1395,7 @@ function repaint() {
   picture.width = frame.width;
   picture.height = frame.height;
   const painter = painterOf(frame, state.source, state.component, state.matrix, gainHere());
-  picture.getContext('2d').putImageData(paint(frame, painter, 0, 0, frame.width, frame.height), 0, 0);
+  picture.getContext('2d').putImageData(paint(painter, wholeOf(frame), wholeOf(frame)), 0, 0);
   showGain();
   showSource();
   redraw();
@@ -1264,6 +1418,7 @@ function visiblePart() {
 // The leaves that are seen, each once.
 function visibleLeaves(part) {
   const list = [];
+  if (stamps.length < leaves.length) stamps = new Uint32Array(leaves.length);
   stamp++;
   for (let row = part.top >> 2; row << 2 < part.bottom; row++) {
     for (let column = part.left >> 2; column << 2 < part.right; column++) {
@@ -1283,6 +1438,7 @@ const DRAWN = {
   transforms: (context, seen, part, crowded) => drawBoxes(context, crowded, 1, () => dashesOf(context, colourOf('transforms')), () => transformsOf(seen)),
   leaves: (context, seen, part, crowded) => drawBoxes(context, crowded, 1, () => colourOf('leaves'), () => seen),
   superblocks: (context, seen, part, crowded) => drawBoxes(context, crowded, 2, () => colourOf('superblocks'), () => superblocksIn(part)),
+  tiles: drawTiles,
   coefficients: drawCoefficients,
   modes: (context, seen) => drawModes(context, seen, 'modes', lumaMode, 0.5),
   chroma: (context, seen) => drawModes(context, seen, 'chroma', chromaMode, 0.75),
@@ -1350,16 +1506,18 @@ function row(...texts) {
   return line;
 }
 
+const TITLES = { plan: 'A plan seen', tiles: 'A grid of tiles seen', sequence: 'A sequence seen' };
+
 // What is known of the whole frame.
 function showFrame() {
-  const parts = [frame.width + 'x' + frame.height, frame.depth + ' bits', SAMPLINGS[frame.sampling], leaves.length + ' leaves', 'version ' + frame.version,
+  const numbers = file.kind === 'sequence' ? ['frame ' + state.frame + ' of ' + file.count] : plan.tiles ? [plan.tiles.length + ' tiles'] : [];
+  const parts = [...numbers, frame.width + 'x' + frame.height, frame.depth + ' bits', SAMPLINGS[frame.sampling], leaves.length + ' leaves', 'version ' + frame.version,
     FILTERS[frame.filter] + ' filter', 'edge filter ' + (frame.edgeFilter ? 'on' : 'off'), 'slots ' + frame.slots.join(' ')];
+  if (file.kind === 'sequence') parts.push(keptText(state.frame));
   element('frame').textContent = parts.join(', ');
-  if (departures.size > 0) {
-    element('departing').hidden = false;
-    element('departing').textContent = departures.size + (departures.size === 1 ? ' leaf departs' : ' leaves depart')
-      + ' from AV1: a search for departs finds them.';
-  }
+  element('departing').hidden = departures.size === 0;
+  element('departing').textContent = departures.size + (departures.size === 1 ? ' leaf departs' : ' leaves depart')
+    + ' from AV1: a search for departs finds them.';
   if (!given) return;
   element('differences').hidden = false;
   element('differences').textContent = differences.count === 0 ? 'The given samples are those of the plan.'
@@ -1607,6 +1765,122 @@ function fit(box, margin) {
 const fitFrame = () => fit({ x: 0, y: 0, width: frame.width, height: frame.height }, 1.04);
 const fitLeaf = () => fit(leafHere(), 2);
 
+// ---- The strip of a sequence's frames.
+
+const THUMB_HEIGHT = 64;
+const thumbWidth = () => Math.round(Math.min(Math.max(THUMB_HEIGHT * file.shape.width / file.shape.height, 64), 128));
+const ITEM = file.kind === 'sequence' ? thumbWidth() + 12 : 0;
+
+// Frames in small, by their numbers, as the matrix and the device's scale have them.
+const thumbs = new Map();
+let thumbsKey = '';
+const MOST_THUMBS = 500;
+
+// A frame in small: of each pixel the sample at its middle.
+function thumbOf(number) {
+  const key = state.matrix.name + state.scale;
+  if (thumbsKey !== key || thumbs.size > MOST_THUMBS) thumbs.clear();
+  thumbsKey = key;
+  if (thumbs.has(number)) return thumbs.get(number);
+  const { shape } = file;
+  const zoom = state.scale * Math.min(thumbWidth() / shape.width, THUMB_HEIGHT / shape.height);
+  const image = new ImageData(Math.max(Math.round(shape.width * zoom), 1), Math.max(Math.round(shape.height * zoom), 1));
+  const middle = (i, pixels, samples) => Math.floor((i + 0.5) * samples / pixels);
+  const columns = Int32Array.from({ length: image.width }, (none, i) => middle(i, image.width, shape.width));
+  const painter = painterOf(shape, { of: file.planesAt(number), less: null, signed: false }, 'RGB', state.matrix, 1);
+  for (let i = 0; i < image.height; i++) painter(image.data, 4 * image.width * i, middle(i, image.height, shape.height), columns);
+  const thumb = document.createElement('canvas');
+  thumb.width = image.width;
+  thumb.height = image.height;
+  thumb.getContext('2d').putImageData(image, 0, 0);
+  thumbs.set(number, thumb);
+  return thumb;
+}
+
+// The slots that a frame replaces, and these in words.
+const replacedBy = (number) => [0, 1, 2, 3, 4, 5, 6, 7].filter((slot) => file.heads[number].refresh >> slot & 1);
+
+function keptText(number) {
+  const slots = replacedBy(number);
+  if (slots.length === 0) return 'kept in no slot';
+  return 'kept in ' + (slots.length === 8 ? 'all slots' : (slots.length === 1 ? 'slot ' : 'slots ') + slots.join(', '));
+}
+
+// The references of the frame that is shown whose slots hold a frame.
+const readFrom = (number) => REFERENCES.filter((name, i) => i > 0 && plan.held[frame.slots[i - 1]] === number);
+
+function stripItem(number) {
+  const item = document.createElement('div');
+  item.setAttribute('role', 'option');
+  item.setAttribute('aria-selected', number === state.frame);
+  item.id = 'frame-' + number;
+  item.dataset.frame = number;
+  item.style.left = number * ITEM + 6 + 'px';
+  item.style.width = ITEM - 6 + 'px';
+  const slots = replacedBy(number);
+  const texts = [number + (slots.length > 0 ? ' to ' + (slots.length === 8 ? 'all' : slots.join(' ')) : ''), readFrom(number).join(' ')];
+  item.title = 'frame ' + number + ', ' + keptText(number) + (texts[1] ? ', read as ' + readFrom(number).join(', ') : '');
+  item.append(thumbOf(number), ...texts.map((text) => {
+    const line = document.createElement('span');
+    line.textContent = text;
+    return line;
+  }));
+  return item;
+}
+
+// The frames that there is room for, as far as the strip is scrolled.
+function showStrip() {
+  if (file.kind !== 'sequence') return;
+  const strip = element('strip');
+  const first = Math.floor(strip.scrollLeft / ITEM);
+  const shown = [];
+  for (let i = first; i < Math.min(file.count, first + Math.ceil(strip.clientWidth / ITEM) + 1); i++) shown.push(stripItem(i));
+  element('frames').replaceChildren(...shown);
+  strip.setAttribute('aria-activedescendant', 'frame-' + state.frame);
+}
+
+// Scrolls the strip to the frame that is shown.
+function followFrame() {
+  const strip = element('strip');
+  const isSeen = state.frame * ITEM >= strip.scrollLeft && (state.frame + 1) * ITEM <= strip.scrollLeft + strip.clientWidth;
+  if (!isSeen) strip.scrollLeft = (state.frame + 0.5) * ITEM - strip.clientWidth / 2;
+}
+
+// Shows another frame of the sequence: the same samples of it, if it has them, at the same place.
+function setFrame(number) {
+  if (number < 0 || number >= file.count || number === state.frame) return;
+  takeFrame(number);
+  state.frame = number;
+  state.source = sources.find((s) => s.name === state.source.name) || sources[0];
+  cellImages.clear();
+  classLists.clear();
+  linesKey = '';
+  if (!classesHere().some((c) => c.number === state.chosen)) state.chosen = null;
+  showSources();
+  showFrame();
+  repaint();
+  showPlace();
+  showClasses();
+  findLeaves();
+  followFrame();
+  showStrip();
+}
+
+const stepFrame = (by) => setFrame(Math.min(Math.max(state.frame + by, 0), file.count - 1));
+
+function startStrip() {
+  if (file.kind !== 'sequence') return;
+  element('strip').hidden = false;
+  element('frames').style.width = file.count * ITEM + 6 + 'px';
+  showStrip();
+  element('strip').addEventListener('scroll', showStrip);
+  element('strip').addEventListener('click', (event) => {
+    const item = event.target.closest('[data-frame]');
+    if (item) setFrame(Number(item.dataset.frame));
+  });
+  new ResizeObserver(showStrip).observe(element('strip'));
+}
+
 // ---- Switches.
 
 function setLayer(id, on) {
@@ -1634,6 +1908,7 @@ function setMatrix(name) {
   state.matrix = MATRICES.find((m) => m.name === name);
   element('matrix').value = name;
   repaint();
+  showStrip();
 }
 
 function setGain(gain) {
@@ -1672,8 +1947,17 @@ function addChoices(id, names, act) {
   element(id).addEventListener('change', (event) => act(names[event.target.selectedIndex]));
 }
 
+// The samples that can be shown of the frame; of slots of a sequence the frame that each holds is told.
+function showSources() {
+  element('sources').querySelectorAll('label').forEach((label) => label.remove());
+  for (const s of sources) {
+    const text = s.slot < 0 ? s.name : slotText(s.slot);
+    addSwitch(element('sources'), 'radio', 'source', s.name, [text], s === state.source, () => setSource(s.name)).title = s.title;
+  }
+}
+
 function addSwitches() {
-  sources.forEach((s, i) => { addSwitch(element('sources'), 'radio', 'source', s.name, [s.name], i === 0, () => setSource(s.name)).title = s.title; });
+  showSources();
   ['RGB', ...PLANES].forEach((name, i) => addSwitch(element('components'), 'radio', 'component', name, [name], i === 0, () => setComponent(name)));
   LAYERS_HERE.forEach(addLayer);
   addChoices('matrix', MATRICES.map((m) => m.name), setMatrix);
@@ -1696,14 +1980,17 @@ const KEYS = {
   n: () => step(1), p: () => step(-1), d: () => stepDifference(1), e: () => stepDifference(-1),
   s: () => setSource(next(sources.map((s) => s.name), state.source.name)), c: () => setComponent(next(['RGB', ...PLANES], state.component)),
   g: () => setGain(next(GAINS, state.gain)), h: () => setProperty(next(PROPERTIES, state.property).id),
-  '/': () => element('search').focus(), Escape: freeCursor,
+  '/': () => element('search').focus(), Escape: freeCursor, ',': () => stepFrame(-1), '.': () => stepFrame(1),
 };
 const ARROWS = { ArrowLeft: [-1, 0], ArrowRight: [1, 0], ArrowUp: [0, -1], ArrowDown: [0, 1] };
 
-// Arrows move the cursor, and in the list go from leaf to leaf; on a switch or a list of choices they are that one's own.
+// Arrows move the cursor, in the list go from leaf to leaf, and on the strip from frame to frame; on a switch or a list of choices they are that
+// one's own.
 function onArrow(event, [right, below]) {
   if (event.target === element('list')) {
     step(right + below);
+  } else if (event.target === element('strip')) {
+    stepFrame(right + below);
   } else if (event.target === canvas || event.target === document.body) {
     const by = event.shiftKey ? 16 : 1;
     moveTo(state.x + by * right, state.y + by * below);
@@ -1828,6 +2115,12 @@ function takeScheme() {
 }
 
 function start() {
+  document.title = element('title').textContent = TITLES[file.kind];
+  if (file.count === 0) {
+    element('frame').textContent = 'This sequence has no frames.';
+    return;
+  }
+  startStrip();
   addSwitches();
   showFrame();
   takeScheme();
@@ -1839,13 +2132,19 @@ function start() {
   followCursor();
   showList();
   listen();
-  canvas.focus();
+  element(file.kind === 'sequence' ? 'strip' : 'picture').focus();
 }
 
 // What tests read: the model of the page, and its switches.
 window.view = {
-  plan, frame, leaves, marks, differences, departures, layers, layersHere: LAYERS_HERE, state, sources, leafAt, draw, moveTo, moveToLeaf, fit, fitFrame,
-  fitLeaf, zoomAt, setLayer, setSource, setComponent, setGain, setProperty, chooseClass, setSearch, setLocked, summaryOf,
+  get plan() { return plan; },
+  get frame() { return frame; },
+  get leaves() { return leaves; },
+  get differences() { return differences; },
+  get departures() { return departures; },
+  get sources() { return sources; },
+  file, marks, layers, layersHere: LAYERS_HERE, state, leafAt, draw, moveTo, moveToLeaf, fit, fitFrame, fitLeaf, zoomAt, setLayer, setSource, setComponent,
+  setGain, setProperty, chooseClass, setSearch, setLocked, setFrame, summaryOf,
   sample: (name, p, x, y) => valueAt(frame, sources.find((s) => s.name === name), p, x, y),
   coefficients: (number, p) => coefficientsOf(plan, leaves[number], p),
   transformSides: (leaf) => TRANSFORM_SIZES[leaf.transformSize],

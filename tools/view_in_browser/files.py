@@ -1,0 +1,142 @@
+"""Sequences of frames and grids of tiles: the plan of each of their parts, and files to look at."""
+import random
+import struct
+
+from plans import Plan, great
+
+FRONT = 20
+
+
+def plane_sides(width, height, sampling):
+    halved = (width >> (sampling < 2), height >> (sampling == 0))
+    return [(width, height), halved, halved]
+
+
+def plane_bytes(width, height, depth, sampling):
+    """How many bytes the planes of a frame have."""
+    return (1 if depth == 8 else 2) * sum(w * h for w, h in plane_sides(width, height, sampling))
+
+
+# ---- sequences
+
+
+class Frame:
+    """A frame of a sequence: which frame each slot holds before it, none as -1, which slots it replaces, and its plan."""
+
+    def __init__(self, held, refresh, plan):
+        self.held, self.refresh, self.plan = held, refresh, plan
+
+
+def frames_of(data, planes_of):
+    """The frames of a sequence, in turn. `planes_of` gives the planes of a frame before by its number, or of the last one by its plan."""
+    width, height, depth, sampling, count = struct.unpack_from("<HHBBH", data, 4)
+    at, held = 12, [-1] * 8
+    for number in range(count):
+        settings, slots, refresh, (length,) = data[at:at + 2], data[at + 2:at + 9], data[at + 9], struct.unpack_from("<I", data, at + 10)
+        read = sorted({slot for slot in slots if held[slot] >= 0})
+        front = b"RPL2" + data[4:10] + settings + slots + bytes([sum(1 << slot for slot in read)])
+        plan = front + b"".join(planes_of(held[slot]) for slot in read) + data[at + 14:at + 14 + length]
+        yield Frame(list(held), refresh, plan)
+        held = [number if refresh >> slot & 1 else other for slot, other in enumerate(held)]
+        at += 14 + length
+
+
+def reconstructed(data, recon):
+    """The planes of all frames, each from its own plan."""
+    planes = []
+    for frame in frames_of(data, lambda number: planes[number]):
+        planes.append(recon(frame.plan))
+    return planes
+
+
+def frame(refresh, part, slots=range(7), settings=b"\0\0"):
+    return settings + bytes(slots) + bytes([refresh]) + struct.pack("<I", len(part)) + part
+
+
+def sequence(frames, width=512, height=512, depth=10, sampling=0):
+    return b"RSQ1" + struct.pack("<HHBBH", width, height, depth, sampling, len(frames)) + b"".join(frames)
+
+
+def leaves_of(plan):
+    """The bytes of a plan's leaves, behind its references."""
+    width, height, depth, sampling = struct.unpack_from("<HHBB", plan, 4)
+    return plan[FRONT + bin(plan[19]).count("1") * plane_bytes(width, height, depth, sampling):]
+
+
+def moving(make):
+    """A frame without references, which all slots hold then, and four that are made from numbers. They replace slot 1, slots 0 and 2, none, and 3."""
+    first = leaves_of(great(512, 2000))
+    return sequence([frame(255, first)] + [frame(refresh, leaves_of(make(number))) for number, refresh in ((1, 2), (2, 5), (3, 0), (4, 8))])
+
+
+# ---- grids of tiles
+
+
+class Tile:
+    """A tile of a grid: its place, and its plan."""
+
+    def __init__(self, x, y, plan):
+        self.x, self.y, self.plan = x, y, plan
+
+
+def starts_at(data, at):
+    """The starts of columns or of rows, and the place behind them."""
+    count = data[at]
+    return [0, *struct.unpack_from(f"<{count - 1}H", data, at + 1)], at + 2 * count - 1
+
+
+def tiles_of(data):
+    """The tiles of a grid, each with the rectangle of the references that it reads."""
+    whole = Plan.__new__(Plan)
+    whole.data, whole.leaves, whole.types = data, [], []
+    whole.read_front()
+    columns, at = starts_at(data, whole.at)
+    rows, at = starts_at(data, at)
+    tiles = []
+    for y, below in zip(rows, rows[1:] + [whole.height]):
+        for x, right in zip(columns, columns[1:] + [whole.width]):
+            (length,) = struct.unpack_from("<I", data, at)
+            front = b"RPL2" + struct.pack("<HH", right - x, below - y) + data[8:20]
+            slots = b"".join(rectangle(whole, samples, x, y, right, below) for _, samples in sorted(whole.slots.items()))
+            tiles.append(Tile(x, y, front + slots + data[at + 4:at + 4 + length]))
+            at += 4 + length
+    return tiles
+
+
+def rectangle(frame, planes, x, y, right, below):
+    """The bytes of a rectangle of each plane, whose sides are in luma samples."""
+    samples = []
+    for p, (width, _) in enumerate(frame.sides):
+        across, down = (0, 0) if p == 0 else frame.halved
+        samples += [planes[p][row * width + column] for row in range(y >> down, below >> down) for column in range(x >> across, right >> across)]
+    return bytes(samples) if frame.bytes == 1 else struct.pack(f"<{len(samples)}H", *samples)
+
+
+def joined(data, recon):
+    """The planes of a grid's frame, of each tile from its own plan."""
+    width, height, depth, sampling = struct.unpack_from("<HHBB", data, 4)
+    size = 1 if depth == 8 else 2
+    planes = [bytearray(size * w * h) for w, h in plane_sides(width, height, sampling)]
+    for tile in tiles_of(data):
+        at, found = 0, recon(tile.plan)
+        sides = plane_sides(*struct.unpack_from("<HH", tile.plan, 4), sampling)
+        for p, (wide, high) in enumerate(sides):
+            row_length = size * plane_sides(width, height, sampling)[p][0]
+            x, y = tile.x * sides[p][0] // sides[0][0], tile.y * sides[p][1] // sides[0][1]
+            for row in range(high):
+                start = (y + row) * row_length + size * x
+                planes[p][start:start + size * wide] = found[at:at + size * wide]
+                at += size * wide
+    return b"".join(planes)
+
+
+def two_tiles(make):
+    """Two tiles of 512x512, made from numbers, from one slot with other samples in each tile."""
+    draw, width, height = random.Random(11), 1024, 512
+    slot = []
+    for p, (w, h) in enumerate(plane_sides(width, height, 0)):
+        levels = (480, 530) if p else (300, 700)
+        slot += [levels[x * 2 >= w] + draw.randrange(64) for _ in range(h) for x in range(w)]
+    front = b"RTL1" + struct.pack("<HHBBBB", width, height, 10, 0, 0, 1) + bytes(7) + b"\1" + struct.pack(f"<{len(slot)}H", *slot)
+    parts = [leaves_of(make(number)) for number in (5, 6)]
+    return front + b"\2" + struct.pack("<H", 512) + b"\1" + b"".join(struct.pack("<I", len(part)) + part for part in parts)
