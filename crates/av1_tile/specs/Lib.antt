@@ -9,3 +9,5 @@ pub mod State
 pub mod Versions
 pub mod Memory
 pub mod Lookups
+pub mod SampleRows
+pub mod Predicted
