@@ -63,11 +63,11 @@ def source():
 
 
 def stored():
-    """The page of the worked plan of `av1_vectors`. Its first leaf, of 8x8 luma samples, is predicted as 128 and the three others as 131, what a
-    residue of 3 makes of it; chroma is predicted as 128."""
-    luma = (bytes([128]) * 8 + bytes([131]) * 8) * 8 + bytes([131]) * 128
+    """The page of the worked plan of `av1_vectors`. Of its four leaves of 4x4 samples the first is predicted as 128 in Y and the others as 131, what
+    the residue of the first has made of it; U and V, as large as Y, are predicted as 128."""
+    luma = (bytes([128]) * 4 + bytes([131]) * 4) * 4 + bytes([131]) * 32
     with open(os.path.join(CRATE, "stdin"), "rb") as plan, open(os.path.join(CRATE, "..", "av1_vectors", "stdout"), "rb") as planes:
-        return page(plan.read(), planes.read(), luma + bytes([128]) * (len(luma) // 2))
+        return page(plan.read(), planes.read(), luma + bytes([128]) * 128)
 
 
 def main():

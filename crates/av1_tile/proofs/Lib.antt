@@ -17,6 +17,7 @@ pub mod EdgeBlocks
 pub mod Predictions
 pub mod WithinDepth
 pub mod BlockSteps
+pub mod Keeping
 pub mod NotedCells
 pub mod Lifts
 pub mod LeafLuma

@@ -78,8 +78,8 @@ loop-n-preserved g c =
                 (fast_in g.T.Pixel.num g.T.Pixel.pixel (with_header h value) block.plane (λ _. ac_at (tx_width block.area.tx_size) ac)) before
                 (steps_at h block own w.in-Some.place.number)) held.luma
                 ∙ ap (λ (m : ℕ). fold (step value) before (steps_at h block own m)) number
-                ∙ own_steps g.T.Pixel.num g.T.Pixel.pixel (with_header h value) block.plane luma h block all n at end before
-                (run_is_own n all at count run),
+                ∙ own_steps g.T.Pixel.num g.T.Pixel.pixel (with_header h value) block.plane luma h block all n at end (run_is_own n all at count run)
+                before,
             ap (λ (b : _). b.edges.prepared) w.buffers-is ∙ one.counted ∙ ap (λ (m : ℕ). fold edges_in edges (steps_at h block own m)) number
                 ∙ own_edges h block own all n edges,
             subst (Stores g.T.Pixel.num h block.plane) (sym w.plane-is) one.kept.stores,
