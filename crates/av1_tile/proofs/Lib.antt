@@ -12,6 +12,7 @@ pub mod CflSizes
 pub mod LumaTurns
 pub mod LeafTurns
 pub mod Simulation
+pub mod PredictionsShown
 pub mod BlockTriples
 pub mod EdgeBlocks
 pub mod Predictions

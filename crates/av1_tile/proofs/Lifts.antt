@@ -24,7 +24,7 @@ use Rattle.av1_tile.specs.declared.predicted.PredictedPlanes.{PredictedPlanes}
 use Rattle.av1_tile.specs.PlaneBlocks.{number, component, components_of, is_whole, triples_in}
 use Rattle.av1_tile.specs.Predicted.{Keeping, keeping_in, keeping_step, kept_in}
 use Rattle.av1_tile.specs.Reference.{by_prediction, luma_for}
-use Rattle.av1_tile.specs.Steps.{Step, predict, add, joined, block_area, whole_area, block_steps, steps_at, whole_steps, plane_steps, in_component}
+use Rattle.av1_tile.specs.Steps.{Step, PlaneStep, predict, add, joined, block_area, whole_area, block_steps, steps_at, whole_steps, plane_steps, in_component}
 use Rattle.av1_tile.specs.Steps.{component_steps, steps_of}
 use Rattle.av1_tile.specs.Walk.{edges_in, edges_after, fast_in, fast_step, placed_edge, plane_of, with_plane, SameLayout}
 
@@ -129,13 +129,7 @@ module _ {T : Type 0} (num : T → ℕ) (pixel : ℕ → T) (plan : PlanValue) (
   unfolding fast_in
   added_alike triples n b q = refl
 
-  -- so a leaf's block is reconstructed alike
-  pub luma_same : (h : Header) (triples : List Triple) (q : Plane T) →
-      fold (fast_in num pixel plan p f) q (plane_steps h block triples) ≡ fold (fast_in num pixel plan p g) q (plane_steps h block triples)
-  luma_same h triples q =
-      steps_alike (fast_in num pixel plan p f) (fast_in num pixel plan p g) block (whole_one num pixel plan p f g block) one_same added_alike h triples q
-
-  -- and what is kept of it
+  -- so a leaf's block is reconstructed alike, and what is kept beside it
   pub kept_same : (h : Header) (triples : List Triple) (s : Keeping (Plane T) T) →
       fold (keeping_in num pixel plan p f) s (plane_steps h block triples) ≡ fold (keeping_in num pixel plan p g) s (plane_steps h block triples)
   unfolding keeping_in
@@ -155,67 +149,12 @@ number_component (suc (suc zero)) h = refl
 number_component (suc (suc (suc p))) h = absurd (omega arith)
 
 module _ {T : Type 0} (num : T → ℕ) (pixel : ℕ → T) (plan : PlanValue) where
-  fold_component : (k : Component) (planes : Planes T) (steps : List Step) →
-      fold (fast_step num pixel plan) planes (in_component k steps) ≡
-      with_plane k planes (fold (fast_in num pixel plan (number k) (luma_for plan.header (sample_at num planes.y) k)) (plane_of k planes) steps)
-  unfolding fast_step
-  fold_component Y planes [] = refl
-  fold_component U planes [] = refl
-  fold_component V planes [] = refl
-  fold_component Y planes (step ∷ rest) =
-      fold_component Y (with_plane Y planes (fast_in num pixel plan 0 (luma_for plan.header (sample_at num planes.y) Y) planes.y step)) rest
-  fold_component U planes (step ∷ rest) =
-      fold_component U (with_plane U planes (fast_in num pixel plan 1 (luma_for plan.header (sample_at num planes.y) U) planes.u step)) rest
-  fold_component V planes (step ∷ rest) =
-      fold_component V (with_plane V planes (fast_in num pixel plan 2 (luma_for plan.header (sample_at num planes.y) V) planes.v step)) rest
-
-  -- the steps of a block in plane k, from these samples on
-  abbrev pub after_block : Component → (luma : ℕ → ℕ → ℕ) → PlaneBlock → List Triple → Plane T → Plane T
-  after_block k luma block triples p = fold (fast_in num pixel plan (number k) (luma_for plan.header luma k)) p (plane_steps plan.header block triples)
-
-  -- a leaf's steps in each plane are its steps in all
-  pub leaf_walked : (p q : Planes T) (told : Component → PlaneBlock) (leaf : LeafValue) → carries_chroma plan.header leaf.x leaf.y leaf.size ≡ true
-      → q.y ≡ after_block Y (sample_at num p.y) (told Y) (triples_in Y leaf) p.y
-      → q.u ≡ after_block U (sample_at num q.y) (told U) (triples_in U leaf) p.u
-      → q.v ≡ after_block V (sample_at num q.y) (told V) (triples_in V leaf) p.v
-      → q ≡ fold (fast_step num pixel plan) p (steps_of plan.header told leaf)
-  unfolding steps_of
-  leaf_walked p q told leaf carried e i j =
-      let h = plan.header in
-      let s = fast_step num pixel plan in
-      let a = component_steps h told leaf Y in
-      let b = component_steps h told leaf U in
-      let c = component_steps h told leaf V in
-      let y = after_block Y (sample_at num p.y) (told Y) (triples_in Y leaf) p.y in
-      let u = after_block U (sample_at num y) (told U) (triples_in U leaf) p.u in
-      let v = after_block V (sample_at num y) (told V) (triples_in V leaf) p.v in
-      let list : flat_map (component_steps h told leaf) (components_of h leaf) ≡ a ++ (b ++ c) =
-      ap (λ (t : Bool). flat_map (component_steps h told leaf) (if t then Y ∷ U ∷ V ∷ [] else Y ∷ [])) carried ∙ ap (λ xs. a ++ (b ++ xs)) (append-nil c) in
-      let all : fold s p (a ++ (b ++ c)) ≡ with_plane V (with_plane U (with_plane Y p y) u) v =
-      fold-append s p a (b ++ c) ∙ fold-append s (fold s p a) b c
-      ∙ ap (λ (r : Planes T). fold s (fold s r b) c) (fold_component Y p (plane_steps h (told Y) (triples_in Y leaf)))
-      ∙ ap (λ (r : Planes T). fold s r c) (fold_component U (with_plane Y p y) (plane_steps h (told U) (triples_in U leaf)))
-      ∙ fold_component V (with_plane U (with_plane Y p y) u) (plane_steps h (told V) (triples_in V leaf)) in
-      let eu : q.u ≡ u = i ∙ ap (λ (z : Plane T). after_block U (sample_at num z) (told U) (triples_in U leaf) p.u) e in
-      let ev : q.v ≡ v = j ∙ ap (λ (z : Plane T). after_block V (sample_at num z) (told V) (triples_in V leaf) p.v) e in
-      ap (λ (z : Plane T). with_plane Y q z) e ∙ ap (λ (z : Plane T). with_plane U (with_plane Y q y) z) eu
-      ∙ ap (λ (z : Plane T). with_plane V (with_plane U (with_plane Y q y) u) z) ev ∙ sym all ∙ ap (fold s p) (sym list)
-
-  -- the same where it carries no chroma
-  pub luma_walked : (p q : Planes T) (told : Component → PlaneBlock) (leaf : LeafValue) → carries_chroma plan.header leaf.x leaf.y leaf.size ≡ false
-      → q.y ≡ after_block Y (sample_at num p.y) (told Y) (triples_in Y leaf) p.y → q.u ≡ p.u → q.v ≡ p.v
-      → q ≡ fold (fast_step num pixel plan) p (steps_of plan.header told leaf)
-  unfolding steps_of
-  luma_walked p q told leaf carried e i j =
-      let h = plan.header in
-      let s = fast_step num pixel plan in
-      let a = component_steps h told leaf Y in
-      let y = after_block Y (sample_at num p.y) (told Y) (triples_in Y leaf) p.y in
-      let list : flat_map (component_steps h told leaf) (components_of h leaf) ≡ a =
-      ap (λ (t : Bool). flat_map (component_steps h told leaf) (if t then Y ∷ U ∷ V ∷ [] else Y ∷ [])) carried ∙ append-nil a in
-      ap (λ (z : Plane T). with_plane Y q z) e ∙ ap (λ (z : Plane T). with_plane U (with_plane Y q y) z) i
-      ∙ ap (λ (z : Plane T). with_plane V (with_plane U (with_plane Y q y) p.u) z) j ∙ sym (fold_component Y p (plane_steps h (told Y) (triples_in Y leaf)))
-      ∙ ap (fold s p) (sym list)
+  -- the planes are those of the steps alone
+  pub kept_walked : (s : Keeping (Planes T) T) (steps : List PlaneStep) →
+      (fold (keeping_step num pixel plan) s steps).0 ≡ fold (fast_step num pixel plan) s.0 steps
+  unfolding keeping_step
+  kept_walked s [] = refl
+  kept_walked s (step ∷ rest) = kept_walked (keeping_step num pixel plan s step) rest
 
   -- what is kept beside steps in plane k
   fold_keeping : (k : Component) (planes : Planes T) (kept : PredictedPlanes T) (steps : List Step) →
