@@ -23,7 +23,7 @@ use Rattle.av1_tile.specs.declared.block.BlockPlace.{BlockPlace}
 use Rattle.av1_tile.specs.declared.plane_block.PlaneBlock.{PlaneBlock}
 use Rattle.av1_tile.specs.declared.predicted.PredictedPlanes.{PredictedPlanes}
 use Rattle.av1_tile.specs.PlaneBlocks.{is_whole}
-use Rattle.av1_tile.specs.Predicted.{Keeping, keeping_in, kept_in}
+use Rattle.av1_tile.specs.Predicted.{Keeping, keeping_in, kept_in, visible_in}
 use Rattle.av1_tile.specs.Reference.{added, block_residue}
 use Rattle.av1_tile.specs.Steps.{Step, predict, add, own_prediction, steps_at, whole_area, whole_steps}
 use Rattle.av1_tile.specs.Walk.{area_at, fast_in}
@@ -38,6 +38,11 @@ unfolding paint_row
 row_alike w f g s e =
     update_is _ s _ (length-update _ s)
     (λ k d l. get_or-update _ s k d l ∙ (let h = e k (get_or s k d) in grind (arith, nat_tests, h)))
+
+-- a row of a rectangle lies in the plane where the rectangle does
+pub row_inside : {T : Type 0} (plane : Plane T) (a : StoredArea) (r : ℕ) → InPlane (visible_in a) plane → r < a.height →
+    InPlane (record { x = a.x; y = a.y + r; width = a.width; height = 1 }) plane
+row_inside plane a r inside h = record { storage = inside.storage; columns = inside.columns; rows = omega (arith, inside.rows, h) }
 
 -- a run of a plane's samples, number by number
 pub run_sample : {T : Type 0} (num : T → ℕ) (pixel : ℕ → T) → ((x : T) → pixel (num x) ≡ x) → (plane : Plane T) (x y width c : ℕ) (d : T) →

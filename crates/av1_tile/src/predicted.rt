@@ -13,6 +13,7 @@ use std::alloc::Global;
 use std::marker::Model;
 
 /// Copies the rectangle `area` of a plane to the same places of `samples`, whose rows are `width` long.
+#[tactic(auto, using(av1_frame::proofs::Paint::rectangle_painting))]
 fn copy_area<T: Pixel>(samples: &mut [T], width: usize, plane: &Plane<T>, area: StoredArea)
     requires rows { AreRows width area (length samples.old) }
     requires stored { InPlane (visible_in area) plane.now }
@@ -33,14 +34,14 @@ pub struct PredictedPlane<T: Pixel> {
 }
 
 impl<T: Pixel> Model for PredictedPlane<T> {
-    ghost use Rattle.std.specs.Prelude.{◌≡◌, ◌*◌, length};
+    ghost use Rattle.std.specs.Prelude.{◌≡◌, ◌*◌, vec_len};
     ghost use Rattle.av1_tile.specs.SampleRows.{SampleRows};
 
     ghost Value = { SampleRows T };
 
     ghost view = { λ p. record { width = p.width; samples = p.samples.items } };
 
-    ghost invariant = { λ p. length p.samples.items ≡ p.height * p.width };
+    ghost invariant = { λ p. vec_len p.samples ≡ p.height * p.width };
 }
 
 impl<T: Pixel> PredictedPlane<T> {

@@ -1,0 +1,36 @@
+use Rattle.std.proofs.Common.{◌∙◌, subst, sym}
+use Rattle.av1_plan.specs.Answer.{leaves_value, plan_value}
+use Rattle.av1_plan.specs.declared.header.Header.{Header}
+use Rattle.av1_tile.specs.Predicted.{AreBlank}
+use Rattle.av1_tile.specs.Walk.{StoresAll, cell_at}
+use Rattle.av1_tile.proofs.PlansOver.{over_fits, over_frame, over_predicts, over_serves, over_shows, read_over}
+use Rattle.av1_tile.proofs.recon.reconstruct_with_predictions.Goals as goal
+
+pub reconstruct_leaves-requires-clause-held : goal.reconstruct_leaves-requires-clause-held
+reconstruct_leaves-requires-clause-held g c =
+    let h = c.header.result.now in
+    let plan = plan_value c.args.plan.now in
+    let leaves = leaves_value c.leaves_with_triples-leaves.result.now in
+    let fi = c.in_ok-fi.fi in
+    let is = read_over g.T.Pixel.num c.args.plan.now leaves h fi c.leaves_with_triples-leaves.ensures c.header.ensures.value c.requires.valid c.in_ok-fi.ensures in
+    record {
+      frame = over_frame g.T.Pixel.num h leaves fi plan is;
+      depth = subst (λ (k : Header). k.depth ≤ g.T.Pixel.BITS) (sym c.header.ensures.value) c.requires.depth;
+      stores = c.in_ok-planes.ensures.stores;
+    }
+
+pub reconstruct_leaves-requires-clause-fits : goal.reconstruct_leaves-requires-clause-fits
+reconstruct_leaves-requires-clause-fits g c =
+    let h = c.header.result.now in
+    let leaves = leaves_value c.leaves_with_triples-leaves.result.now in
+    let fi = c.in_ok-fi.fi in
+    let is = read_over g.T.Pixel.num c.args.plan.now leaves h fi c.leaves_with_triples-leaves.ensures c.header.ensures.value c.requires.valid c.in_ok-fi.ensures in
+    over_fits g.T.Pixel.num h leaves fi (plan_value c.args.plan.now) is c.in_ok-planes.planes c.in_ok-planes.ensures.room
+
+pub reconstruct_leaves-requires-clause-references : goal.reconstruct_leaves-requires-clause-references
+reconstruct_leaves-requires-clause-references g c =
+    let h = c.header.result.now in
+    let leaves = leaves_value c.leaves_with_triples-leaves.result.now in
+    let fi = c.in_ok-fi.fi in
+    let is = read_over g.T.Pixel.num c.args.plan.now leaves h fi c.leaves_with_triples-leaves.ensures c.header.ensures.value c.requires.valid c.in_ok-fi.ensures in
+    (plan_value c.args.plan.now, over_serves g.T.Pixel.num h leaves fi (plan_value c.args.plan.now) is)
