@@ -1,12 +1,11 @@
 //! The predictions of a plan, written row by row.
-ghost use Rattle.std.specs.Prelude.{◌≡◌, ◌++◌, ◌≤◌, map, None, OnOk};
-ghost use Rattle.std.specs.List.{flat_map};
+ghost use Rattle.std.specs.Prelude.{◌≡◌, ◌≤◌, None, OnOk};
 ghost use Rattle.std.specs.Io.KnownBytes.{Appends};
 ghost use Rattle.av1_plan.specs.Answer.{plan_value};
 ghost use Rattle.av1_plan.specs.Validity.{first_fault};
 ghost use Rattle.av1_streams.specs.Faults.{HasCause};
 ghost use Rattle.av1_streams.specs.Streams.{AppendsPrefix};
-ghost use Rattle.av1_tile.specs.Predicted.{predictions_of};
+ghost use Rattle.av1_tile.specs.Predicted.{ShowsPredictions, predictions_of};
 ghost use Rattle.av1_recon.specs.Predictions.{kept_bytes};
 ghost use Rattle.av1_recon.specs.Writing.{Writes};
 
@@ -49,8 +48,23 @@ fn predict_as<T: Pixel, W: Sink>(
     ensures { Writes W.taken W.faults sink.old sink.new (predictions_of (plan_value plan.now)) result }
 {
     let tile = reconstruct_with_predictions::<T>(alloc, plan)?;
-    write_kept(plan.header().depth, &tile.predictions, sink)?;
+    write_predicted(plan, &tile.predictions, sink)?;
     Ok(())
+}
+
+// Appends the predictions that are kept of a plan, or a prefix of their bytes.
+fn write_predicted<T: Pixel, W: Sink>(
+    plan: &Plan,
+    kept: &PredictedPlanes<T>,
+    sink: &mut W,
+) -> Result<(), WriteFault>
+    requires shows { ShowsPredictions T.num (plan_value plan.now) kept.now }
+    requires narrow { (plan_value plan.now).header.depth ≡ 8 → T.BITS ≤ 8 }
+    ensures whole { OnOk result (Appends (W.taken sink.old) (W.taken sink.new) (predictions_of (plan_value plan.now))) }
+    ensures prefix { AppendsPrefix (W.taken sink.old) (W.taken sink.new) (predictions_of (plan_value plan.now)) }
+    ensures cause { HasCause (W.faults sink.old) (W.faults sink.new) result }
+{
+    write_kept(plan.header().depth, kept, sink)
 }
 
 // Appends the samples that are kept of each plane, or a prefix of their bytes.
@@ -65,7 +79,8 @@ fn write_kept<T: Pixel, W: Sink>(
     ensures cause { HasCause (W.faults sink.old) (W.faults sink.new) result }
 {
     let mut buffer = [0; MOST_BYTES];
-    write_row(depth, kept.y.samples(), &mut buffer, sink)?;
-    write_row(depth, kept.u.samples(), &mut buffer, sink)?;
-    write_row(depth, kept.v.samples(), &mut buffer, sink)
+    let (y, u, v) = (kept.y.samples(), kept.u.samples(), kept.v.samples());
+    write_row(depth, y, &mut buffer, sink)?;
+    write_row(depth, u, &mut buffer, sink)?;
+    write_row(depth, v, &mut buffer, sink)
 }

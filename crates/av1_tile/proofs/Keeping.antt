@@ -74,9 +74,9 @@ in_rows : (k width height : ℕ) → k < height * width → 0 < width → (k % w
 in_rows k width height l some = (
   mod-lt k some,
   elim (cases_lt (k / width) height) [
-      | inl h ↦ h
-      | inr h ↦ absurd (let m = rows_le height (k / width) width _ refl h in omega (arith, l, m, div-mul-le_self k width))
-    ],
+    | inl h ↦ h
+    | inr h ↦ absurd (let m = rows_le height (k / width) width _ refl h in omega (arith, l, m, div-mul-le_self k width))
+  ],
 )
 
 -- the part of a rectangle that is visible

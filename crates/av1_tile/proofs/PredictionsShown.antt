@@ -155,7 +155,7 @@ module _ {T : Type 0} (num : T → ℕ) (pixel : ℕ → T) (law : (v : ℕ) →
       let h = plan.header in
       let f = predicted plan canvas j block a in
       let holds : (x y : ℕ) → x < plane_width h (number j) → y < plane_height h (number j) → in_visible a x y ≡ true →
-          sample_at num (plane_of j next) x y ≡ f (y - a.y) (x - a.x) =
+      sample_at num (plane_of j next) x y ≡ f (y - a.y) (x - a.x) =
       λ x y hx hy e.
       let (column, row) = stored_place h (number j) (plane_of j next) x y (s.plane j) hx hy in
       t j x y (f (y - a.y) (x - a.x)) column row (own_written j _ canvas x y ∙ drawn_at (in_visible a x y) _ (canvas j x y) e) in

@@ -27,13 +27,13 @@ fn copy_area<T: Pixel>(samples: &mut [T], width: usize, plane: &Plane<T>, area: 
 
 /// What was predicted of a plane's visible samples, row by row. It may have no rows: then nothing is kept in it.
 #[derive(Drop)]
-pub struct PredictedPlane<T: Pixel> {
+pub struct PredictedPlane<T> {
     width: usize,
     height: usize,
     samples: Vec<T>,
 }
 
-impl<T: Pixel> Model for PredictedPlane<T> {
+impl<T> Model for PredictedPlane<T> {
     ghost use Rattle.std.specs.Prelude.{◌≡◌, ◌*◌, vec_len};
     ghost use Rattle.av1_tile.specs.SampleRows.{SampleRows};
 
@@ -62,7 +62,11 @@ impl<T: Pixel> PredictedPlane<T> {
     }
 
     /// Zeros for each visible sample of plane `p` of a frame. An error is running out of memory.
-    pub(crate) fn new(alloc: Global, header: &Header, p: usize) -> Result<PredictedPlane<T>, OutOfMemory>
+    pub(crate) fn new(
+        alloc: Global,
+        header: &Header,
+        p: usize,
+    ) -> Result<PredictedPlane<T>, OutOfMemory>
         requires frame { IsReadFrame header.now }
         ensures { IfOk result (λ plane. plane ≡ no_rows T.pixel header.now p) }
     {
@@ -102,7 +106,7 @@ impl<T: Pixel> PredictedPlane<T> {
 
 /// What was predicted of the samples of the three planes.
 #[derive(Drop)]
-pub struct PredictedPlanes<T: Pixel> {
+pub struct PredictedPlanes<T> {
     /// Luma.
     pub y: PredictedPlane<T>,
     /// The first chroma plane.

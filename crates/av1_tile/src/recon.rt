@@ -46,7 +46,7 @@ pub fn reconstruct_tile<T: Pixel>(state: &mut TileState<T>, plan: &Plan)
 
 /// A plan's planes, and what was predicted of each of their visible samples.
 #[derive(Drop)]
-pub struct PredictedTile<T: Pixel> {
+pub struct PredictedTile<T> {
     /// The planes.
     pub planes: Planes<T>,
     /// What each block was predicted as, before its residue was added.
