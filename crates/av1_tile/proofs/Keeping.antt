@@ -2,9 +2,9 @@
 use Rattle.std.proofs.Common.{ℕ, ◌+◌, ◌-◌, ◌*◌, ◌/◌, ◌%◌, ◌<◌, ◌≤◌, ◌≡◌, Bool, true, false, ◌&&◌, if◌then◌else◌, List, [], ◌∷◌, length, get_or, refl, ap, arith, ◌∙◌}
 use Rattle.std.proofs.Common.{Option, Some, sym, ℤ, ◌⊎◌, inl, inr, min}
 use Rattle.std.specs.List.{fold}
-use Rattle.std.specs.Prelude.{nat_le, nat_lt}
+use Rattle.std.specs.Prelude.{nat_lt}
 use Rattle.std.proofs.Math.Nat.{div-mul-le_self, mod-lt}
-use Rattle.std.proofs.lemmas.Bool.{cases_lt}
+use Rattle.std.proofs.lemmas.Bool.{cases_lt, ltb-true}
 use Rattle.std.proofs.lemmas.Bool.Decides.{nat_tests}
 use Rattle.av1_frame.specs.declared.plane.Plane.{Plane}
 use Rattle.av1_frame.specs.declared.plane_region.StoredArea.{StoredArea}
@@ -31,13 +31,18 @@ use Rattle.av1_tile.proofs.BlockSteps.{some_factor, two_steps}
 
 -- ---- a rectangle that is copied
 
+-- a sample that changes where a test holds
+changed_alike : {X : Type 0} (b : Bool) (x y v : X) → (b ≡ true → x ≡ y) → (if b then x else v) ≡ (if b then y else v)
+changed_alike true x y v e = e refl
+changed_alike false x y v e = refl
+
 -- a row whose samples change alike
-pub row_alike : {X : Type 0} (w : ℕ) (f g : ℕ → X → X) (s : List X) → ((c : ℕ) (v : X) → c < w → c < length s → f c v ≡ g c v) →
-    paint_row w f s ≡ paint_row w g s
+pub row_alike : {X : Type 0} (w : ℕ) (f g : ℕ → X → X) (s : List X) → ((c : ℕ) (v : X) → c < w → f c v ≡ g c v) → paint_row w f s ≡ paint_row w g s
 unfolding paint_row
 row_alike w f g s e =
     update_is _ s _ (length-update _ s)
-    (λ k d l. get_or-update _ s k d l ∙ (let h = e k (get_or s k d) in grind (arith, nat_tests, h)))
+    (λ k d l. get_or-update _ s k d l
+    ∙ changed_alike (nat_lt k w) (f k (get_or s k d)) (g k (get_or s k d)) (get_or s k d) (λ t. e k (get_or s k d) (ltb-true k w t)))
 
 -- a row of a rectangle lies in the plane where the rectangle does
 pub row_inside : {T : Type 0} (plane : Plane T) (a : StoredArea) (r : ℕ) → InPlane (visible_in a) plane → r < a.height →
@@ -66,8 +71,8 @@ paint_alike stride a b f s x y e =
     update_is _ s _ (length-update _ s) (λ k d l. get_or-update _ s k d l ∙ painted_alike a b (k % stride) (k / stride) f (get_or s k d) x y (e k l))
 
 -- rows that hold something have a width
-columns : (height width k : ℕ) → k < height * width → 0 < width
-columns height width k l = some_factor width height (grind arith)
+has_width : (height width k : ℕ) → k < height * width → 0 < width
+has_width height width k l = some_factor width height (grind arith)
 
 -- the place of a sample in rows of this width
 in_rows : (k width height : ℕ) → k < height * width → 0 < width → (k % width < width) × (k / width < height)
@@ -80,43 +85,41 @@ in_rows k width height l some = (
 )
 
 -- the part of a rectangle that is visible
-pub seen : (width height : ℕ) → StoredArea → StoredArea
+abbrev pub seen : (width height : ℕ) → StoredArea → StoredArea
 seen width height a = record { x = a.x; y = a.y; width = min a.width (width - a.x); height = min a.height (height - a.y) }
 
 same_inside : (a : StoredArea) (width height p q : ℕ) → p < width → q < height → in_area (seen width height a) p q ≡ in_area a p q
-unfolding seen
 same_inside a width height p q hp hq = grind (arith, nat_tests)
 
 pub paint_seen : {X : Type 0} (width height : ℕ) (a : StoredArea) (f : ℕ → ℕ → X → X) (s : List X) → length s ≡ height * width → 0 < width →
     paint width (seen width height a) f s ≡ paint width a f s
-unfolding seen
 paint_seen width height a f s long some =
     paint_alike width a (seen width height a) f s refl refl
     (λ k l. let (hp, hq) = in_rows k width height (omega (arith, l, long)) some in same_inside a width height (k % width) (k / width) hp hq)
 
 -- nothing of a rectangle is seen that begins past the rows or below them
+nothing_seen : {X : Type 0} (a : StoredArea) (p q : ℕ) (f : ℕ → ℕ → X → X) (v : X) → (p < a.x) ⊎ (q < a.y) → painted_at a f p q v ≡ v
+nothing_seen a p q f v (inl h) = grind (arith, nat_tests)
+nothing_seen a p q f v (inr h) = grind (arith, nat_tests)
+
+past_all : (width height k : ℕ) (a : StoredArea) → k < height * width → (width ≤ a.x) ⊎ (height ≤ a.y) → (k % width < a.x) ⊎ (k / width < a.y)
+past_all width height k a l (inl h) = inl (let (hp, hq) = in_rows k width height l (has_width height width k l) in omega (arith, h, hp))
+past_all width height k a l (inr h) = inr (let (hp, hq) = in_rows k width height l (has_width height width k l) in omega (arith, h, hq))
+
 pub paint_unseen : {X : Type 0} (width height : ℕ) (a : StoredArea) (f : ℕ → ℕ → X → X) (s : List X) → length s ≡ height * width
     → (width ≤ a.x) ⊎ (height ≤ a.y) → s ≡ paint width a f s
 unfolding paint
 paint_unseen width height a f s long past =
-    update_is _ s s refl (λ k d l. sym (nowhere (k % width) (k / width) (get_or s k d) (beyond k l)))
-  where
-    beyond : (k : ℕ) → k < length s → (k % width < a.x) ⊎ (k / width < a.y)
-    beyond k l =
-        let (hp, hq) = in_rows k width height (omega (arith, l, long)) (columns height width k (omega (arith, l, long))) in
-        elim past [ inl h ↦ inl (omega (arith, h, hp)) | inr h ↦ inr (omega (arith, h, hq)) ]
-
-    nowhere : (p q : ℕ) (v : _) → (p < a.x) ⊎ (q < a.y) → painted_at a f p q v ≡ v
-    nowhere p q v (inl h) = grind (arith, nat_tests)
-    nowhere p q v (inr h) = grind (arith, nat_tests)
+    update_is _ s s refl
+    (λ k d l. sym (nothing_seen a (k % width) (k / width) f (get_or s k d) (past_all width height k a (omega (arith, l, long)) past)))
 
 -- ---- steps
 
 module _ {T : Type 0} (num : T → ℕ) (pixel : ℕ → T) (plan : PlanValue) (p : ℕ) (luma : PlaneBlock → ℕ → ℕ → ℤ) (plane after : Plane T)
     (kept next : PredictedPlanes T) where
   -- no step, and one
-  none_kept : after ≡ plane → next ≡ kept → (after, next) ≡ (plane, kept)
-  none_kept e h = ap (λ (z : Plane T). (z, next)) e ∙ ap (λ (k : PredictedPlanes T). (plane, k)) h
+  no_step_kept : after ≡ plane → next ≡ kept → (after, next) ≡ (plane, kept)
+  no_step_kept e h = ap (λ (z : Plane T). (z, next)) e ∙ ap (λ (k : PredictedPlanes T). (plane, k)) h
 
   one_kept : (step : Step) → after ≡ fast_in num pixel plan p luma plane step → next ≡ kept_in num pixel p after kept step →
       (after, next) ≡ keeping_in num pixel plan p luma (plane, kept) step
@@ -132,7 +135,7 @@ module _ {T : Type 0} (num : T → ℕ) (pixel : ℕ → T) (plan : PlanValue) (
       go : (t : Bool) → after ≡ fold (fast_in num pixel plan p luma) plane (if t then [] else predict block n a ∷ [])
           → next ≡ fold (kept_in num pixel p after) kept (if t then [] else predict block n a ∷ [])
           → (after, next) ≡ fold (keeping_in num pixel plan p luma) (plane, kept) (if t then [] else predict block n a ∷ [])
-      go true = none_kept
+      go true = no_step_kept
       go false = one_kept (predict block n a)
 
   pub whole_steps_kept : (block : PlaneBlock) → after ≡ fold (fast_in num pixel plan p luma) plane (whole_steps block)
@@ -144,7 +147,7 @@ module _ {T : Type 0} (num : T → ℕ) (pixel : ℕ → T) (plan : PlanValue) (
           → next ≡ fold (kept_in num pixel p after) kept (if t then predict block 0 (whole_area block) ∷ [] else [])
           → (after, next) ≡ fold (keeping_in num pixel plan p luma) (plane, kept) (if t then predict block 0 (whole_area block) ∷ [] else [])
       go true = one_kept (predict block 0 (whole_area block))
-      go false = none_kept
+      go false = no_step_kept
 
 -- the two steps of a transform block, of which an addition keeps nothing more
 pub block_kept : {T : Type 0} (num : T → ℕ) (pixel : ℕ → T) (plan : PlanValue) (luma : PlaneBlock → ℕ → ℕ → ℤ) (h : Header) (block : PlaneBlock)
@@ -159,7 +162,7 @@ unfolding keeping_in kept_in fast_in
 block_kept num pixel plan luma h block at triples plane between after kept next found predicted keeps painted =
     let step = keeping_in num pixel plan block.plane luma in
     let last = add block triples at.number (area_at block at) in
-    ap (λ (z : Plane T). (z, next)) painted
-    ∙ ap (λ (s : Keeping (Plane T) T). step s last)
+    ap (λ (z : Plane _). (z, next)) painted
+    ∙ ap (λ (s : Keeping (Plane _) _). step s last)
     (own_prediction_kept num pixel plan block.plane luma plane between kept next block at.number (area_at block at) predicted keeps)
     ∙ two_steps h block at step (plane, kept) triples found

@@ -33,3 +33,4 @@ pub mod FilledPlanes
 pub mod Examples
 pub mod Versions
 pub mod Lookups
+pub mod Residues

@@ -11,3 +11,4 @@ pub mod Memory
 pub mod Lookups
 pub mod SampleRows
 pub mod Predicted
+pub mod Residues
