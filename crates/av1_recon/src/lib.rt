@@ -5,7 +5,8 @@
 //! command line. For programs beside it the parts stand alone: [`read_plan`] reads and checks, [`write_predictions`]
 //! writes what each block is predicted as before its residue is added, [`write_sums`] reconstructs and writes four
 //! lines on a plan whose planes nobody reads, its leaves and the [`plane_sum`] of each plane, [`number_of`] is a number
-//! among the words, [`report`] the line and the exit status of an answer, and [`run_on_words`] what a `main` does beside.
+//! among the words, [`report`] the line and the exit status of an answer, and [`run_on_words`] what a `main` does
+//! beside.
 //!
 //! It stands on `av1_streams` for sources and sinks, on `av1_plan` for the grammar and the check of plans, and on
 //! `av1_tile` for the samples, and passes on what its callers need of them.

@@ -37,11 +37,7 @@ pub fn write_predictions<W: Sink>(
 }
 
 // Appends the predictions of a valid plan, in samples of this type.
-fn predict_as<T: Pixel, W: Sink>(
-    alloc: Global,
-    plan: &Plan,
-    sink: &mut W,
-) -> Result<(), ReconError>
+fn predict_as<T: Pixel, W: Sink>(alloc: Global, plan: &Plan, sink: &mut W) -> Result<(), ReconError>
     requires valid { first_fault (plan_value plan.now) ≡ None }
     requires depth { (plan_value plan.now).header.depth ≤ T.BITS }
     requires narrow { (plan_value plan.now).header.depth ≡ 8 → T.BITS ≤ 8 }

@@ -1,5 +1,6 @@
 -- What the walk has kept of its predictions is what the slow definition draws of them.
-use Rattle.std.proofs.Common.{ℕ, zero, suc, ◌+◌, ◌-◌, ◌*◌, ◌<◌, ◌≤◌, ◌≡◌, Bool, true, false, ◌&&◌, cond, List, [], ◌∷◌, ◌++◌, length, get_or, map, take, drop, refl, ap}
+use Rattle.std.proofs.Common.{ℕ, zero, suc, ◌+◌, ◌-◌, ◌*◌, ◌<◌, ◌≤◌, ◌≡◌, Bool, true, false, ◌&&◌, cond, List, [], ◌∷◌, ◌++◌, length, get_or, map, take}
+use Rattle.std.proofs.Common.{drop, refl, ap}
 use Rattle.std.proofs.Common.{arith, ◌∙◌, sym, subst, replicate, slice_index, Option, Some, None}
 use Rattle.std.specs.List.{flat_map, fold, range_with_len}
 use Rattle.std.specs.Prelude.{nat_le, nat_lt}
@@ -24,7 +25,8 @@ use Rattle.av1_tile.specs.Canvas.{Component, Y, U, V, Written, Canvas, blank, tu
 use Rattle.av1_tile.specs.Edge.{sample_of}
 use Rattle.av1_tile.specs.Output.{by_rows}
 use Rattle.av1_tile.specs.PlaneBlocks.{extent_of, number}
-use Rattle.av1_tile.specs.Predicted.{AreBlank, Keeping, Progress, ShowsPredictions, copied, keeping_step, kept_in, no_progress, predictions_in, rows_in, slow_predictions}
+use Rattle.av1_tile.specs.Predicted.{AreBlank, Keeping, Progress, ShowsPredictions, copied, keeping_step, kept_in, no_progress, predictions_in, rows_in}
+use Rattle.av1_tile.specs.Predicted.{slow_predictions}
 use Rattle.av1_tile.specs.Predicted.{slow_progress, stored_in, with_rows}
 use Rattle.av1_tile.specs.Reference.{predicted, slow_in, slow_step}
 use Rattle.av1_tile.specs.SampleRows.{SampleRows}
@@ -71,7 +73,8 @@ abbrev AllShow : {T : Type 0} → (T → ℕ) → Header → PredictedPlanes T �
 AllShow num h kept predictions = (k : Component) → RowsShow num h k (rows_in k kept) (predictions k)
 
 show_with : {T : Type 0} (num : T → ℕ) (h : Header) (kept : PredictedPlanes T) (predictions : Canvas) (rows : SampleRows T) (written : Written)
-    (j : Component) → RowsShow num h j rows written → AllShow num h kept predictions → AllShow num h (with_rows j kept rows) (with_written j written predictions)
+    (j : Component) → RowsShow num h j rows written → AllShow num h kept predictions →
+    AllShow num h (with_rows j kept rows) (with_written j written predictions)
 show_with num h kept predictions rows written Y a t Y = a
 show_with num h kept predictions rows written Y a t U = t U
 show_with num h kept predictions rows written Y a t V = t V
@@ -98,7 +101,8 @@ zeros_shown num z e (suc n) (suc i) = zeros_shown num z e n i
 
 module _ {T : Type 0} (num : T → ℕ) (pixel : ℕ → T) (law : (v : ℕ) → num (pixel v) ≡ v) (back : (x : T) → pixel (num x) ≡ x) where
   -- each sample of rows into which a rectangle was copied
-  copied_at : (plane : Plane T) (a : VisibleArea) (rows : SampleRows T) (height x y : ℕ) → length rows.samples ≡ height * rows.width → x < rows.width → y < height →
+  copied_at : (plane : Plane T) (a : VisibleArea) (rows : SampleRows T) (height x y : ℕ) → length rows.samples ≡ height * rows.width → x < rows.width →
+      y < height →
       slice_index (map num (copied num pixel plane (stored_in a) rows).samples) (y * rows.width + x) ≡
       cond (in_visible a x y) (sample_at num plane (a.x + (x - a.x)) (a.y + (y - a.y))) (slice_index (map num rows.samples) (y * rows.width + x))
   copied_at plane a rows height x y long hx hy =

@@ -326,7 +326,8 @@ module _ {T : Type 0} (num : T → ℕ) (pixel : ℕ → T) (law : (v : ℕ) →
       (fast_in num pixel plan (number k) (luma_for plan.header (sample_at num planes.y) k) (plane_of k planes) s.step)
       (slow_in plan (walked plan before) k s.step) k (plane_agrees plan before k s.step planes ready t a) a
 
-  pub step_whole : (plan : PlanValue) (planes : Planes T) (s : PlaneStep) → AllWhole plan.header planes → AllWhole plan.header (fast_step num pixel plan planes s)
+  pub step_whole : (plan : PlanValue) (planes : Planes T) (s : PlaneStep) → AllWhole plan.header planes →
+      AllWhole plan.header (fast_step num pixel plan planes s)
   unfolding fast_step
   step_whole plan planes s t =
       whole_with plan.header planes s.component _ t (step_place plan s.component _ (plane_of s.component planes) s.step (t.plane s.component))

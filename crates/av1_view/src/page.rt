@@ -8,7 +8,8 @@ ghost use Rattle.av1_view.specs.Page.{page, piece_text};
 
 use crate::base64_text::write_base64;
 use crate::template::{
-    AFTER_SCRIPT, BEFORE_GIVEN, BEFORE_PLAN, BEFORE_PLANES, BEFORE_PREDICTIONS, BEFORE_SCRIPT, SCRIPT,
+    AFTER_SCRIPT, BEFORE_GIVEN, BEFORE_PLAN, BEFORE_PLANES, BEFORE_PREDICTIONS, BEFORE_SCRIPT,
+    SCRIPT,
 };
 use av1_streams::{Sink, WriteFault, write_bytes};
 

@@ -12,7 +12,8 @@ reconstruct_leaves-requires-clause-held g c =
     let plan = plan_value c.args.plan.now in
     let leaves = leaves_value c.leaves_with_triples-leaves.result.now in
     let fi = c.in_ok-fi.fi in
-    let is = read_over g.T.Pixel.num c.args.plan.now leaves h fi c.leaves_with_triples-leaves.ensures c.header.ensures.value c.requires.valid c.in_ok-fi.ensures in
+    let same = c.header.ensures.value in
+    let is = read_over g.T.Pixel.num c.args.plan.now leaves h fi c.leaves_with_triples-leaves.ensures same c.requires.valid c.in_ok-fi.ensures in
     record {
       frame = over_frame g.T.Pixel.num h leaves fi plan is;
       depth = subst (λ (k : Header). k.depth ≤ g.T.Pixel.BITS) (sym c.header.ensures.value) c.requires.depth;
@@ -24,7 +25,8 @@ reconstruct_leaves-requires-clause-fits g c =
     let h = c.header.result.now in
     let leaves = leaves_value c.leaves_with_triples-leaves.result.now in
     let fi = c.in_ok-fi.fi in
-    let is = read_over g.T.Pixel.num c.args.plan.now leaves h fi c.leaves_with_triples-leaves.ensures c.header.ensures.value c.requires.valid c.in_ok-fi.ensures in
+    let same = c.header.ensures.value in
+    let is = read_over g.T.Pixel.num c.args.plan.now leaves h fi c.leaves_with_triples-leaves.ensures same c.requires.valid c.in_ok-fi.ensures in
     over_fits g.T.Pixel.num h leaves fi (plan_value c.args.plan.now) is c.in_ok-planes.planes c.in_ok-planes.ensures.room
 
 pub reconstruct_leaves-requires-clause-references : goal.reconstruct_leaves-requires-clause-references
@@ -32,7 +34,8 @@ reconstruct_leaves-requires-clause-references g c =
     let h = c.header.result.now in
     let leaves = leaves_value c.leaves_with_triples-leaves.result.now in
     let fi = c.in_ok-fi.fi in
-    let is = read_over g.T.Pixel.num c.args.plan.now leaves h fi c.leaves_with_triples-leaves.ensures c.header.ensures.value c.requires.valid c.in_ok-fi.ensures in
+    let same = c.header.ensures.value in
+    let is = read_over g.T.Pixel.num c.args.plan.now leaves h fi c.leaves_with_triples-leaves.ensures same c.requires.valid c.in_ok-fi.ensures in
     (plan_value c.args.plan.now, over_serves g.T.Pixel.num h leaves fi (plan_value c.args.plan.now) is)
 
 pub returns-clause-planes : goal.returns-clause-planes
@@ -41,7 +44,8 @@ returns-clause-planes g c =
     let plan = plan_value c.args.plan.now in
     let leaves = leaves_value c.leaves_with_triples-leaves.result.now in
     let fi = c.in_ok-fi.fi in
-    let is = read_over g.T.Pixel.num c.args.plan.now leaves h fi c.leaves_with_triples-leaves.ensures c.header.ensures.value c.requires.valid c.in_ok-fi.ensures in
+    let same = c.header.ensures.value in
+    let is = read_over g.T.Pixel.num c.args.plan.now leaves h fi c.leaves_with_triples-leaves.ensures same c.requires.valid c.in_ok-fi.ensures in
     let made = c.in_ok-planes.ensures in
     let walk = c.reconstruct_leaves in
     over_shows g.T.Pixel.num h leaves fi plan is g.T.Pixel.pixel g.met.T.Pixel.num_of_pixel g.met.T.Pixel.pixel_of_num c.in_ok-planes.planes walk.new.planes
@@ -57,7 +61,8 @@ returns-clause-predictions g c =
     let plan = plan_value c.args.plan.now in
     let leaves = leaves_value c.leaves_with_triples-leaves.result.now in
     let fi = c.in_ok-fi.fi in
-    let is = read_over g.T.Pixel.num c.args.plan.now leaves h fi c.leaves_with_triples-leaves.ensures c.header.ensures.value c.requires.valid c.in_ok-fi.ensures in
+    let same = c.header.ensures.value in
+    let is = read_over g.T.Pixel.num c.args.plan.now leaves h fi c.leaves_with_triples-leaves.ensures same c.requires.valid c.in_ok-fi.ensures in
     let made = c.in_ok-planes.ensures in
     let walk = c.reconstruct_leaves in
     let empty = subst (λ (k : Header). AreBlank g.T.Pixel.pixel k c.in_ok-buffers.buffers.kept) (sym c.header.ensures.value) c.in_ok-buffers.ensures in
