@@ -23,8 +23,8 @@ use Rattle.av1_plan.specs.Plan.{PlanValue}
 use Rattle.av1_tile.specs.declared.block.BlockPlace.{BlockPlace}
 use Rattle.av1_tile.specs.declared.plane_block.PlaneBlock.{PlaneBlock}
 use Rattle.av1_tile.specs.declared.predicted.PredictedPlanes.{PredictedPlanes}
-use Rattle.av1_tile.specs.PlaneBlocks.{is_whole}
-use Rattle.av1_tile.specs.Predicted.{Keeping, keeping_in, kept_in, visible_in}
+use Rattle.av1_tile.specs.PlaneBlocks.{component, is_whole}
+use Rattle.av1_tile.specs.Predicted.{Keeping, copied, keeping_in, kept_in, rows_in, stored_in, visible_in, with_rows}
 use Rattle.av1_tile.specs.Reference.{added, block_residue}
 use Rattle.av1_tile.specs.Steps.{Step, predict, add, own_prediction, steps_at, whole_area, whole_steps}
 use Rattle.av1_tile.specs.Walk.{area_at, fast_in}
@@ -149,6 +149,32 @@ module _ {T : Type 0} (num : T → ℕ) (pixel : ℕ → T) (plan : PlanValue) (
           → (after, next) ≡ fold (keeping_in num pixel plan p luma) (plane, kept) (if t then predict block 0 (whole_area block) ∷ [] else [])
       go true = one_kept (predict block 0 (whole_area block))
       go false = no_step_kept
+
+-- what is kept of a transform block's own prediction, and of that of a whole area; where there is none, nothing is
+module _ {T : Type 0} (num : T → ℕ) (pixel : ℕ → T) (p : ℕ) (plane : Plane T) (kept : PredictedPlanes T) (block : PlaneBlock) where
+  abbrev taken : List Step → PredictedPlanes T
+  taken steps = fold (kept_in num pixel p plane) kept steps
+
+  abbrev with_area : StoredArea → PredictedPlanes T
+  with_area area = with_rows (component p) kept (copied num pixel plane area (rows_in (component p) kept))
+
+  pub own_is_kept : (new : PredictedPlanes T) (n : ℕ) (a : VisibleArea) (area : StoredArea) → is_whole block.prediction ≡ false → area ≡ stored_in a →
+      new ≡ with_area area → new ≡ taken (own_prediction block n a)
+  unfolding kept_in
+  own_is_kept new n a area own same e =
+      e ∙ ap with_area same ∙ ap (λ (t : Bool). taken (if t then [] else predict block n a ∷ [])) (sym own)
+
+  pub no_own_kept : (n : ℕ) (a : VisibleArea) → is_whole block.prediction ≡ true → kept ≡ taken (own_prediction block n a)
+  no_own_kept n a whole = ap (λ (t : Bool). taken (if t then [] else predict block n a ∷ [])) (sym whole)
+
+  pub whole_is_kept : (new : PredictedPlanes T) (area : StoredArea) → is_whole block.prediction ≡ true → area ≡ stored_in (whole_area block) →
+      new ≡ with_area area → new ≡ taken (whole_steps block)
+  unfolding kept_in
+  whole_is_kept new area whole same e =
+      e ∙ ap with_area same ∙ ap (λ (t : Bool). taken (if t then predict block 0 (whole_area block) ∷ [] else [])) (sym whole)
+
+  pub no_whole_kept : is_whole block.prediction ≡ false → kept ≡ taken (whole_steps block)
+  no_whole_kept own = ap (λ (t : Bool). taken (if t then predict block 0 (whole_area block) ∷ [] else [])) (sym own)
 
 -- the two steps of a transform block, of which an addition keeps nothing more
 pub block_kept : {T : Type 0} (num : T → ℕ) (pixel : ℕ → T) (plan : PlanValue) (luma : PlaneBlock → ℕ → ℕ → ℤ) (h : Header) (block : PlaneBlock)

@@ -32,7 +32,12 @@ add_block-requires-clause-stores g c =
     c.requires.held.stores (least_depth _ c.requires.held.frame.depth)
 
 pub add_block-requires-clause-fits : goal.add_block-requires-clause-fits
-add_block-requires-clause-fits g c = c.keep_block.requires
+add_block-requires-clause-fits g c =
+    let a = c.args in
+    let inside = block_inside a.header.now a.block.now a.at a.triples.now a.plane.now c.requires.held.stores.place c.requires.fits c.requires.found in
+    between_inside g.T.Pixel.num g.T.Pixel.pixel g.met.T.Pixel.num_of_pixel g.met.T.Pixel.pixel_of_num a.header.now a.block.now a.at c.requires.place
+    a.buffers.now.luma.items a.plane.now c.predict_block.new.plane c.predict_block.ensures.walked
+    c.requires.held.stores (least_depth _ c.requires.held.frame.depth) inside
 
 pub returns-clause-walked : goal.returns-clause-walked
 returns-clause-walked g c =
