@@ -1,5 +1,3 @@
 pub mod Groups
-pub mod Shorter
-pub mod Bared
 pub mod Pages
 pub mod TraceOutcomes
