@@ -34,14 +34,14 @@ pub struct PredictedPlane<T> {
 }
 
 impl<T> Model for PredictedPlane<T> {
-    ghost use Rattle.std.specs.Prelude.{◌≡◌, ◌*◌, vec_len};
+    ghost use Rattle.std.specs.Prelude.{◌≡◌, ◌*◌, ◌<◌, ◌^◌, vec_len};
     ghost use Rattle.av1_tile.specs.SampleRows.{SampleRows};
 
     ghost Value = { SampleRows T };
 
     ghost view = { λ p. record { width = p.width; samples = p.samples.items } };
 
-    ghost invariant = { λ p. vec_len p.samples ≡ p.height * p.width };
+    ghost invariant = { λ p. (vec_len p.samples ≡ p.height * p.width) × (p.height * p.width < 2 ^ 63) };
 }
 
 impl<T: Pixel> PredictedPlane<T> {

@@ -1,13 +1,28 @@
-use Rattle.std.proofs.Common.{◌≡◌, ℕ, true, false, ap, sym, ◌∙◌}
+use Rattle.std.proofs.Common.{◌≡◌, ℕ, true, false, ap, arith, sym, ◌∙◌}
 use Rattle.av1_frame.specs.declared.plane_region.StoredArea.{StoredArea}
+use Rattle.av1_references.specs.References.{leaf_area}
 use Rattle.av1_tile.specs.PlaneBlocks.{is_whole}
 use Rattle.av1_tile.specs.Predicted.{stored_in}
-use Rattle.av1_references.specs.References.{leaf_area}
 use Rattle.av1_tile.proofs.Keeping.{no_whole_kept, whole_is_kept}
 use Rattle.av1_tile.proofs.walk.keep_whole.Goals as goal
+
+pub keep-requires : goal.keep-requires
+keep-requires g c =
+    let f = c.requires.fits in
+    record { storage = f.storage; columns = omega (arith, f.columns, c.width.ensures.value); rows = omega (arith, f.rows, c.height.ensures.value) }
 
 pub returns-then : goal.returns-then
 returns-then g c =
     let a = c.args in
     let block = a.block.now in
     no_whole_kept g.T.Pixel.num g.T.Pixel.pixel block.plane a.plane.now a.kept.now block (sym c.is_whole.ensures ∙ c.if-is_whole.false)
+
+pub returns : goal.returns
+returns g c =
+    let a = c.args in
+    let block = a.block.now in
+    let area : ℕ → ℕ → StoredArea = λ w h. record { x = block.area.x; y = block.area.y; width = w; height = h } in
+    let same : area c.width.result c.height.result ≡ stored_in (leaf_area block.area) = ap (λ (w : ℕ). area w c.height.result) c.width.ensures.value
+    ∙ ap (area _) c.height.ensures.value in
+    whole_is_kept g.T.Pixel.num g.T.Pixel.pixel block.plane a.plane.now a.kept.now block c.keep.new.self (area c.width.result c.height.result)
+    (sym c.is_whole.ensures ∙ c.if-is_whole.true) same c.keep.ensures
