@@ -120,7 +120,7 @@ paint_unseen width height a f s long past =
 module _ {T : Type 0} (num : T → ℕ) (pixel : ℕ → T) (plan : PlanValue) (p : ℕ) (luma : PlaneBlock → ℕ → ℕ → ℤ) (plane after : Plane T)
     (kept next : PredictedPlanes T) where
   -- no step, and one
-  no_step_kept : after ≡ plane → next ≡ kept → (after, next) ≡ (plane, kept)
+  no_step_kept : after ≡ plane → next ≡ kept → ◌≡◌ {A = Keeping (Plane T) T} (after, next) (plane, kept)
   no_step_kept e h = ap (λ (z : Plane T). (z, next)) e ∙ ap (λ (k : PredictedPlanes T). (plane, k)) h
 
   one_kept : (step : Step) → after ≡ fast_in num pixel plan p luma plane step → next ≡ kept_in num pixel p after kept step →

@@ -5,6 +5,7 @@ use Rattle.std.proofs.lemmas.List.Elements.{All-replicate}
 use Rattle.std.proofs.lemmas.Nat.{pow_pos}
 use Rattle.std.specs.List.{fold}
 use Rattle.std.proofs.Math.Logic.{∥∥₁_elim}
+use mathlib.Core.List.{is_set as List-set}
 use native.Mathlib.Nat.{ℕ_set}
 use Rattle.av1_lists.specs.Lists.{by_index}
 use Rattle.av1_lists.proofs.Lists.{numbers_are}

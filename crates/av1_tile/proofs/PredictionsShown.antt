@@ -5,8 +5,7 @@ use Rattle.std.proofs.Common.{arith, ◌∙◌, sym, subst, replicate, slice_ind
 use Rattle.std.specs.List.{flat_map, fold, range_with_len}
 use Rattle.std.specs.Prelude.{nat_le, nat_lt}
 use Rattle.std.proofs.lemmas.Bool.{and_parts, leb-true}
-use Rattle.std.proofs.lemmas.Grind.{length-map}
-use Rattle.std.proofs.lemmas.List.{get_or-drop, get_or-map, get_or-replicate, get_or-take, length-drop, length-replicate, length-take, map-id, take-append-drop}
+use Rattle.std.proofs.lemmas.List.{get_or-drop, get_or-map, get_or-replicate, get_or-take, length-drop, length-map, length-replicate, length-take, map-id, take-append-drop}
 use Rattle.std.proofs.lemmas.List.FromFn.{fill_by_all}
 use Rattle.std.proofs.lemmas.List.Sums.{fold_push}
 use Rattle.av1_frame.specs.Areas.{VisibleArea, in_visible}
@@ -233,7 +232,7 @@ module _ {T : Type 0} (num : T → ℕ) (pixel : ℕ → T) (law : (v : ℕ) →
       let w = plane_width h (number k) in
       let n = plane_height h (number k) in
       let f = λ (x y : ℕ). sample_of (written x y) in
-      rows_listed w n 0 f (map num rows.samples) (length-map num rows.samples ∙ t.long) (λ x y hx hy. t.shown x y hx hy ∙ ap (f x) (omega arith))
+      rows_listed w n 0 f (map num rows.samples) (length-map rows.samples num ∙ t.long) (λ x y hx hy. t.shown x y hx hy ∙ ap (f x) (omega arith))
       ∙ ap (flat_map (λ y. by_index w (λ x. f x y))) (sym (map-id (range_with_len 0 n)))
 
   -- what a walk through a plan's steps has kept

@@ -13,7 +13,7 @@ use Rattle.av1_tile.specs.Reference.{luma_for, luma_of}
 use Rattle.av1_tile.specs.declared.planes.Planes.{Planes}
 use Rattle.av1_tile.specs.declared.predicted.PredictedPlanes.{PredictedPlanes}
 use Rattle.av1_tile.specs.Predicted.{Keeping, keeping_in}
-use Rattle.av1_tile.specs.Steps.{plane_steps}
+use Rattle.av1_tile.specs.Steps.{plane_steps, steps_of}
 use Rattle.av1_tile.specs.Walk.{edges_in, LumaFits, block_by, cell_at, filter_by, leaf_with, luma_block, with_header}
 use Rattle.av1_tile.proofs.LeafLuma.{HoldsLuma, luma_in_u, luma_in_v, plain_in_y}
 use Rattle.av1_tile.proofs.Lifts.{kept_same, kept_walked, leaf_counted, leaf_kept, luma_counted, luma_kept}
@@ -91,8 +91,12 @@ returns-after-is_from_luma-clause-predictions g c = λ value serves.
 
 pub returns-after-is_from_luma-clause-walked : goal.returns-after-is_from_luma-clause-walked
 returns-after-is_from_luma-clause-walked g c = λ value serves.
+    let a = c.args in
+    let h = a.frame.now.header.now in
+    let l = leaf_with a.leaf.now a.y.now a.u.now a.v.now in
     ap (λ (s : Keeping (Planes _) _). s.0) (returns-after-is_from_luma-clause-predictions g c value serves)
-    ∙ kept_walked g.T.Pixel.num g.T.Pixel.pixel (with_header c.args.frame.now.header.now value) _ _
+    ∙ kept_walked g.T.Pixel.num g.T.Pixel.pixel (with_header h value) (a.planes.now, a.buffers.now.kept)
+    (steps_of h (λ k. block_by h (cell_at a.frame.now.cells.now) k l) l)
 
 pub returns-after-is_from_luma-clause-counted : goal.returns-after-is_from_luma-clause-counted
 returns-after-is_from_luma-clause-counted g c =
@@ -131,8 +135,12 @@ returns-else-carries_chroma-clause-predictions g c = λ value serves.
 
 pub returns-else-carries_chroma-clause-walked : goal.returns-else-carries_chroma-clause-walked
 returns-else-carries_chroma-clause-walked g c = λ value serves.
+    let a = c.args in
+    let h = a.frame.now.header.now in
+    let l = leaf_with a.leaf.now a.y.now a.u.now a.v.now in
     ap (λ (s : Keeping (Planes _) _). s.0) (returns-else-carries_chroma-clause-predictions g c value serves)
-    ∙ kept_walked g.T.Pixel.num g.T.Pixel.pixel (with_header c.args.frame.now.header.now value) _ _
+    ∙ kept_walked g.T.Pixel.num g.T.Pixel.pixel (with_header h value) (a.planes.now, a.buffers.now.kept)
+    (steps_of h (λ k. block_by h (cell_at a.frame.now.cells.now) k l) l)
 
 pub returns-else-carries_chroma-clause-counted : goal.returns-else-carries_chroma-clause-counted
 returns-else-carries_chroma-clause-counted g c =

@@ -9,7 +9,8 @@ use Rattle.av1_plan.specs.declared.leaf.Leaf.{Leaf}
 use Rattle.av1_plan.specs.declared.leaf.LeafKind.TheVariants.{Intra}
 use Rattle.av1_plan.specs.Values.{leaf_list, leaves_value, triple_list}
 use Rattle.av1_plan.specs.Plan.{LeafValue}
-use Rattle.av1_tile.specs.Predicted.{keeping_step}
+use Rattle.av1_tile.specs.declared.planes.Planes.{Planes}
+use Rattle.av1_tile.specs.Predicted.{Keeping, keeping_step}
 use Rattle.av1_tile.specs.Walk.{cell_at, edges_after, fast_step, steps_by, with_header, with_leaves}
 use Rattle.av1_tile.proofs.Lifts.{layout_kept}
 use Rattle.av1_tile.proofs.PlanFits.{whole_frame}
@@ -81,7 +82,7 @@ loop-index-preserved g c =
       count = c.note.ensures.count ∙ held.count;
       predictions = λ value serves.
           let keep = keeping_step g.T.Pixel.num g.T.Pixel.pixel (with_header h value) in
-          let now = (c.loop-index.planes, c.loop-index.buffers.kept) in
+          let now : Keeping (Planes _) _ = (c.loop-index.planes, c.loop-index.buffers.kept) in
           leaf_more keep leaves h i _ start (c.args.planes.now, c.args.buffers.now.kept) now
           (c.reconstruct_leaf.new.planes, c.reconstruct_leaf.new.buffers.kept) a.inside a.is (held.predictions value serves)
           (turn.predictions value serves ∙ ap (fold keep now) own);

@@ -16,13 +16,15 @@ predict_block-requires-clause-fits g c =
     let a = c.args in
     block_inside a.header.now a.block.now a.at a.triples.now a.plane.now c.requires.held.stores.place c.requires.fits c.requires.found
 
-pub keep_block-requires-clause-fits : goal.keep_block-requires-clause-fits
-keep_block-requires-clause-fits g c =
+pub keep_block-requires : goal.keep_block-requires
+keep_block-requires g c =
     let a = c.args in
     let inside = block_inside a.header.now a.block.now a.at a.triples.now a.plane.now c.requires.held.stores.place c.requires.fits c.requires.found in
-    between_inside g.T.Pixel.num g.T.Pixel.pixel g.met.T.Pixel.num_of_pixel g.met.T.Pixel.pixel_of_num a.header.now a.block.now a.at c.requires.place
-    a.buffers.now.luma.items a.plane.now c.predict_block.new.plane c.predict_block.ensures.walked
-    c.requires.held.stores (least_depth _ c.requires.held.frame.depth) inside
+    record {
+      fits = between_inside g.T.Pixel.num g.T.Pixel.pixel g.met.T.Pixel.num_of_pixel g.met.T.Pixel.pixel_of_num a.header.now a.block.now a.at
+          c.requires.place a.buffers.now.luma.items a.plane.now c.predict_block.new.plane c.predict_block.ensures.walked
+          c.requires.held.stores (least_depth _ c.requires.held.frame.depth) inside;
+    }
 
 pub add_block-requires-clause-stores : goal.add_block-requires-clause-stores
 add_block-requires-clause-stores g c =

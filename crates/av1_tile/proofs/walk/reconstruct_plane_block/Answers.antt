@@ -23,8 +23,8 @@ pub predict_whole-requires-clause-references : goal.predict_whole-requires-claus
 predict_whole-requires-clause-references g c =
     let own = c.requires.frame.references in (with_header c.args.frame.now.header.now own.0, (own.1, c.requires.fits.prediction))
 
-pub keep_whole-requires-clause-fits : goal.keep_whole-requires-clause-fits
-keep_whole-requires-clause-fits g c =
+pub keep_whole-requires : goal.keep_whole-requires
+keep_whole-requires g c =
     let a = c.args in
     let own = c.requires.frame.references in
     let plan = with_header a.frame.now.header.now own.0 in
@@ -35,8 +35,10 @@ keep_whole-requires-clause-fits g c =
     let laid =
     whole_layout g.T.Pixel.num g.T.Pixel.pixel g.met.T.Pixel.num_of_pixel g.met.T.Pixel.pixel_of_num plan a.frame.now.fi.now own.1 a.block.now
     c.requires.plane c.requires.fits.prediction a.plane.now c.predict_whole.new.plane whole in
-    whole_inside plan.header a.block.now a.triples.now c.predict_whole.new.plane stores.place
-    (fits_laid plan.header a.block.now a.triples.now a.plane.now.plane_cfg c.predict_whole.new.plane.plane_cfg laid c.requires.fits)
+    record {
+      fits = whole_inside plan.header a.block.now a.triples.now c.predict_whole.new.plane stores.place
+          (fits_laid plan.header a.block.now a.triples.now a.plane.now.plane_cfg c.predict_whole.new.plane.plane_cfg laid c.requires.fits);
+    }
 
 pub reconstruct_blocks-requires-clause-held : goal.reconstruct_blocks-requires-clause-held
 reconstruct_blocks-requires-clause-held g c =
