@@ -88,7 +88,7 @@ def starts_at(data, at):
 def tiles_of(data):
     """The tiles of a grid, each with the rectangle of the references that it reads."""
     whole = Plan.__new__(Plan)
-    whole.data, whole.leaves, whole.types = data, [], []
+    whole.data, whole.leaves, whole.types, whole.lists = data, [], [], []
     whole.read_front()
     columns, at = starts_at(data, whole.at)
     rows, at = starts_at(data, at)

@@ -11,11 +11,31 @@ LEAVES = """view.leaves.map((l) => [l.number, l.x, l.y, l.width, l.height, l.mod
   (l.motions || []).map((m) => [m.reference, m.row, m.column]), view.transformSides(l),
   l.triples.map((t, p) => view.coefficients(l.number, p).map((c) => [c.block, c.place, c.value]))])"""
 
-ALONE = "frame without coefficients"
-CHANGED = "changed by coefficients"
+# How many transform blocks with coefficients of a plan are looked at.
+MOST_BLOCKS = 60
 
 
-def look_at(browser, checks, name, path, plan, planes, bare):
+def look_at_predictions(checks, name, plan, planes, predictions, reconstructed):
+    """What each transform block is predicted as. Where it has no coefficients that is what it is reconstructed as; else what the plan comes to
+    there without the coefficients of the block and of all that follow, of which nothing has been decoded when it is predicted."""
+    planes, predictions = plan.samples(planes), plan.samples(predictions)
+    others, changed, number = 0, [], 0
+    for leaf in plan.leaves:
+        for p, triples in enumerate(leaf[11]):
+            have = {t[0] for t in triples}
+            for n, *block in plan.blocks(leaf, p):
+                if n in have:
+                    changed.append((number, n, p, block))
+                else:
+                    others += plan.inside(planes, p, *block) != plan.inside(predictions, p, *block)
+            number += 1
+    checks.same(f"{name}: blocks without coefficients whose prediction is another", others, 0)
+    for number, n, p, block in random.Random(5).sample(changed, min(len(changed), MOST_BLOCKS)):
+        wanted = plan.samples(reconstructed(plan.cut(number, n)))
+        checks.same(f"{name}: the prediction of block {n} of plane {p} at {block}", plan.inside(predictions, p, *block), plan.inside(wanted, p, *block))
+
+
+def look_at(browser, checks, name, path, plan, planes, predictions):
     """What each page has to hold: every leaf, samples of many places, and the sums of all. Gives how long it took to open."""
     begun = time.time()
     browser.open(path)
@@ -25,10 +45,10 @@ def look_at(browser, checks, name, path, plan, planes, bare):
     checks.same(f"{name}: what the leaves say", found, plan.leaves)
     checks.same(f"{name}: bytes that were read", browser.value("view.plan.end"), len(plan.data))
     checks.same(f"{name}: at the end of the plan", plan.at, len(plan.data))
-    held = {"reconstruction": plan.samples(planes), ALONE: plan.samples(bare), **{f"slot {slot}": samples for slot, samples in plan.slots.items()}}
+    held = {"reconstruction": plan.samples(planes), "prediction": plan.samples(predictions), **{f"slot {slot}": samples for slot, samples in plan.slots.items()}}
     draw = random.Random(3)
     places = [(p, draw.randrange(plan.sides[p][0]), draw.randrange(plan.sides[p][1])) for p in (0, 1, 2) for _ in range(60)]
-    names = list(held) + [CHANGED]
+    names = list(held) + ["residue"]
     wanted = []
     for p, x, y in places:
         i = y * plan.sides[p][0] + x

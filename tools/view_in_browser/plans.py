@@ -11,7 +11,7 @@ class Plan:
     weights, vectors, sides of luma transforms and triples."""
 
     def __init__(self, data):
-        self.data, self.leaves, self.types = data, [], []
+        self.data, self.leaves, self.types, self.lists = data, [], [], []
         self.read_front()
         for y in range(0, self.height, 64):
             for x in range(0, self.width, 64):
@@ -54,7 +54,10 @@ class Plan:
             self.leaf(x + dx, y + dy, w, h)
 
     def triples(self):
-        return [list(self.take("BHi")) for _ in range(self.take("H"))]
+        start = self.at
+        triples = [list(self.take("BHi")) for _ in range(self.take("H"))]
+        self.lists.append((start, triples))
+        return triples
 
     def leaf(self, x, y, w, h):
         if x >= self.width or y >= self.height:
@@ -89,6 +92,32 @@ class Plan:
         """How many luma samples of the frame lie in a leaf."""
         x, y, w, h = leaf[1:5]
         return (min(x + w, self.width) - x) * (min(y + h, self.height) - y)
+
+    def cut(self, number, block):
+        """The plan with none of the coefficients from a transform block on: those of this block and of the later ones in list `number` of
+        triples, and those of all lists behind."""
+        pieces, at = [], 0
+        for i, (start, triples) in enumerate(self.lists):
+            left = triples if i < number else [t for t in triples if i == number and t[0] < block]
+            pieces += [self.data[at:start], struct.pack("<H", len(left))] + [struct.pack("<BHi", *t) for t in left]
+            at = start + 2 + 7 * len(triples)
+        return b"".join(pieces) + self.data[at:]
+
+    def blocks(self, leaf, p):
+        """The transform blocks of a leaf in a plane that begin in it: number, column, row and sides."""
+        x, y, w, h = leaf[1:5]
+        (across, down), (tw, th) = (0, 0), leaf[10]
+        if p:
+            across, down = self.halved
+            x, y, w, h = x // 4 // (1 + across) * 4, y // 4 // (1 + down) * 4, max(w >> across, 4), max(h >> down, 4)
+            tw, th = min(w, 32), min(h, 32)
+        places = [(x + dx, y + dy) for dy in range(0, h, th) for dx in range(0, w, tw)]
+        return [(n, bx, by, tw, th) for n, (bx, by) in enumerate(places) if bx < self.sides[p][0] and by < self.sides[p][1]]
+
+    def inside(self, samples, p, x, y, w, h):
+        """The samples of a plane's rectangle, as far as it is visible."""
+        width, height = self.sides[p]
+        return [samples[p][row * width + column] for row in range(y, min(y + h, height)) for column in range(x, min(x + w, width))]
 
     def leaf_at(self, x, y):
         return next(leaf for leaf in self.leaves if leaf[1] <= x < leaf[1] + leaf[3] and leaf[2] <= y < leaf[2] + leaf[4])

@@ -2,7 +2,6 @@
 import time
 
 from checks import drawn, pixels, place_in_window
-from held import ALONE, CHANGED
 
 
 def look_at_layers(browser, checks):
@@ -25,7 +24,7 @@ def look_at_components(browser, checks, plan):
     for component in ("Y", "U", "V", "RGB"):
         browser.key("c", "c")
         checks.same("component by its key", browser.value("view.state.component"), component)
-    for source in (ALONE, CHANGED, "slot 0", "reconstruction"):
+    for source in ("prediction", "residue", "slot 0", "reconstruction"):
         browser.key("s", "s")
         checks.same("samples by their key", browser.value("view.state.source.name"), source)
     x, y = 300, 100
@@ -44,11 +43,11 @@ def look_at_components(browser, checks, plan):
     checks.same("the matrix that is named", browser.value("document.getElementById('matrix').value"), "BT.709, full range")
 
 
-def look_at_gains(browser, checks, plan, planes, bare):
+def look_at_gains(browser, checks, plan, planes, predictions):
     """Differences that are drawn stronger: by the greatest magnitude, and by a gain that is set."""
-    changes = [a - b for a, b in zip(plan.samples(planes)[0], plan.samples(bare)[0])]
+    changes = [a - b for a, b in zip(plan.samples(planes)[0], plan.samples(predictions)[0])]
     greatest, unit = max(map(abs, changes)), 1 << plan.depth - 8
-    browser.value(f"view.setSource('{CHANGED}'), view.setComponent('Y')")
+    browser.value("view.setSource('residue'), view.setComponent('Y')")
     checks.near("the automatic gain", browser.value("view.gain()"), 127 * unit / greatest, 1e-9)
     checks.same("the greatest magnitude is white", browser.text("lightest"), f"+{greatest}")
     checks.true("the greatest magnitude is told", browser.text("strength").endswith(f"greatest {greatest}"))

@@ -3,19 +3,21 @@
 
     tools/view_in_browser/view_in_browser.py [--view PROGRAM] [--recon PROGRAM] [--tools PROGRAM] [--screenshots FOLDER] [--only WORD] [--small]
 
-The programs are by default those that `rt run` leaves in the folders `out` of `av1_view`, `av1_vectors` and `av1_tools`. Each page is
-compared with the one that `view_template` puts together from the planes of `av1_vectors` and the bare plan of `av1_tools`, byte by byte, and
-opened. What it holds is compared with a second reader of plans, `plans.py`; what it shows is looked at by keys, by the mouse, in windows of
-all sizes, on light and dark, and with two of the device's pixels in one. With `--view none` the pages are put together here, and the program
-is not asked. `--only` takes the groups of steps whose name has the word, and `--small` leaves out the frames of 2048x2048.
+The programs are by default those that `rt run` leaves in the folders `out` of `av1_view`, `av1_vectors` and `av1_tools`. Each page is compared with the
+one that `view_template` puts together from the planes of `av1_vectors` and the page's own predictions, byte by byte, and opened; the
+predictions with what `av1_vectors` makes of plans without the coefficients that follow. What it holds is compared with a second reader of plans, `plans.py`; what it shows is looked at by keys, by the mouse, in windows of
+all sizes, on light and dark, and with two of the device's pixels in one. With `--view none` the pages are put together here, with the
+frame without coefficients as predictions, and the program is not asked. `--only` takes the groups of steps whose name has the word, and `--small` leaves out the frames of 2048x2048.
 
 Needs `chromium` (of Debian's packages) and no network. Ends with 'N passed, M failed'; the status is 1 where M is not 0. With
 `--screenshots` pictures of the pages are left in that folder.
 """
 import argparse
+import base64
 import importlib.util
 import json
 import os
+import re
 import shlex
 import subprocess
 import sys
@@ -58,19 +60,17 @@ class Pages:
             self.kept[plan] = self.run(self.options.recon, [], plan)
         return self.kept[plan]
 
-    def bare(self, plan):
-        return self.planes(self.run(self.options.tools, ["bare"], plan))
-
     def write(self, name, plan, trace=None):
-        """Writes the page of a plan or of a trace, and tells its path, the planes and those of the frame without coefficients."""
-        planes, bare = self.planes(plan), self.bare(plan)
-        given = b"" if trace is None else trace[8 + len(plan):]
-        wanted = TEMPLATE.page(plan, planes, bare, given)
-        page = wanted
-        if self.options.view != "none":
-            page = self.run(self.options.view, [] if trace is None else ["trace"], plan if trace is None else trace)
-            self.checks.true(f"{name}: the page is the one that is wanted, byte by byte", page == wanted)
-        return self.keep(name, page), planes, bare
+        """Writes the page of a plan or of a trace, and tells its path, the planes and the predictions."""
+        planes, given = self.planes(plan), b"" if trace is None else trace[8 + len(plan):]
+        if self.options.view == "none":
+            predictions = self.planes(Plan(plan).cut(0, 0))
+            return self.keep(name, TEMPLATE.page(plan, planes, predictions, given)), planes, predictions
+        page = self.run(self.options.view, [] if trace is None else ["trace"], plan if trace is None else trace)
+        predictions = base64.b64decode(re.search(b'id="predictions-bytes">([^<]*)<', page).group(1))
+        self.checks.true(f"{name}: the page is the one that is wanted, byte by byte", page == TEMPLATE.page(plan, planes, predictions, given))
+        held.look_at_predictions(self.checks, name, Plan(plan), planes, predictions, lambda cut: self.run(self.options.recon, [], cut))
+        return self.keep(name, page), planes, predictions
 
     def write_file(self, name, word, data):
         """Writes the page of a sequence or of a grid, and tells its path and its planes."""
@@ -102,10 +102,11 @@ def worked(browser, pages, checks, options):
     """The plan that is worked out by hand."""
     with open(os.path.join(CRATES, "av1_vectors", "stdin"), "rb") as file:
         data = file.read()
-    path, planes, bare = pages.write("worked", data)
-    held.look_at(browser, checks, "worked", path, Plan(data), planes, bare)
-    script = f"['reconstruction', '{held.ALONE}', '{held.CHANGED}'].map((s) => view.sample(s, 0, 3, 3))"
-    checks.same("worked: a sample, without coefficients, and what they change", browser.json(script), [131, 128, 3])
+    path, planes, predictions = pages.write("worked", data)
+    held.look_at(browser, checks, "worked", path, Plan(data), planes, predictions)
+    if options.view != "none":
+        script = "[[3, 3], [4, 0], [0, 4], [7, 7]].map(([x, y]) => ['reconstruction', 'prediction', 'residue'].map((s) => view.sample(s, 0, x, y)))"
+        checks.same("worked: a sample of each leaf, as it is predicted, and its residue", browser.json(script), [[131, 128, 3]] + 3 * [[131, 131, 0]])
     wanted = [{"block": 0, "place": 0, "value": 100, "column": 0, "row": 0}]
     checks.same("worked: a coefficient", browser.json("view.coefficients(0, 0)"), wanted)
     checks.same("worked: a pixel", browser.json("view.pixel(3, 3)"), [131, 131, 131, 255])
@@ -121,8 +122,8 @@ def worked(browser, pages, checks, options):
 def stripes(browser, pages, checks, options):
     """A plan of version 2, with stripes both ways."""
     data = plans.stripes()
-    path, planes, bare = pages.write("stripes", data)
-    held.look_at(browser, checks, "stripes", path, Plan(data), planes, bare)
+    path, planes, predictions = pages.write("stripes", data)
+    held.look_at(browser, checks, "stripes", path, Plan(data), planes, predictions)
     checks.true("stripes: weights are named", "CFL 5 -7" in browser.value("view.summaryOf(view.leaves[8])"))
     checks.same("stripes: faults of the page", browser.faults(), [])
 
@@ -142,12 +143,12 @@ def five(browser, pages, checks, options):
     """The plan of the number 5: references, all modes and samples of 10 bits."""
     data = pages.run(options.recon, ["make", "5"], b"")
     plan = Plan(data)
-    path, planes, bare = pages.write("five", data)
-    held.look_at(browser, checks, "make 5", path, plan, planes, bare)
+    path, planes, predictions = pages.write("five", data)
+    held.look_at(browser, checks, "make 5", path, plan, planes, predictions)
     screenshot(browser, options, "view_frame", "view.moveTo(330, 100), view.fitFrame()")
     shown.look_at_layers(browser, checks)
     shown.look_at_components(browser, checks, plan)
-    shown.look_at_gains(browser, checks, plan, planes, bare)
+    shown.look_at_gains(browser, checks, plan, planes, predictions)
     shown.look_at_references(browser, checks, plan)
     shown.look_at_maps(browser, checks, plan)
     shown.look_at_dense_layers(browser, checks)
@@ -170,8 +171,8 @@ def pictures_of_five(browser, options):
     screenshot(browser, options, "view_source", "view.setLayer('source', true), view.moveToLeaf(68), view.fit({ x: 304, y: 64, width: 128, height: 96 }, 1.05)")
     browser.value("view.setLayer('source', false), view.setLocked(false)")
     others = "['modes', 'vectors'].forEach((l) => view.setLayer(l, %s)), "
-    screenshot(browser, options, "view_changed",
-               others % "false" + f"view.setSource('{held.CHANGED}'), view.setComponent('Y'), view.setGain(64), view.moveTo(330, 100), view.fitFrame()")
+    screenshot(browser, options, "view_residue",
+               others % "false" + "view.setSource('residue'), view.setComponent('Y'), view.setGain(64), view.moveTo(330, 100), view.fitFrame()")
     browser.value(others % "true" + "view.setSource('reconstruction'), view.setComponent('RGB'), view.setGain('automatic')")
     screenshot(browser, options, "view_map", others % "false" + "view.setLayer('map', true), view.moveTo(330, 100), view.fitFrame(), "
                "document.getElementById('classes').scrollIntoView()")
@@ -191,8 +192,8 @@ def trace(browser, pages, checks, options):
     plan, planes = Plan(data), pages.planes(data)
     start = 2 * (100 * 512 + 200), 2 * (512 * 512 + 77 * 256 + 33)
     changed = plans.trace_of(data, planes, [(start[0], 1), (start[0] + 1, 1), (start[1], 2), (start[1] + 1, 1)])
-    path, planes, bare = pages.write("trace", data, changed)
-    held.look_at(browser, checks, "trace", path, plan, planes, bare)
+    path, planes, predictions = pages.write("trace", data, changed)
+    held.look_at(browser, checks, "trace", path, plan, planes, predictions)
     held.look_at_differences(browser, checks, plan, planes)
     screenshot(browser, options, "view_trace", "view.setComponent('Y'), view.moveTo(200, 100), view.fit({ x: 192, y: 94, width: 18, height: 14 }, 1)")
     checks.same("trace: faults of the page", browser.faults(), [])
@@ -203,30 +204,11 @@ def everywhere(browser, pages, checks, options):
     data = plans.great(512)
     plan, planes = Plan(data), pages.planes(data)
     differing = plans.differing_everywhere(data, planes)
-    path, planes, bare = pages.write("everywhere", data, differing)
-    held.look_at(browser, checks, "everywhere", path, plan, planes, bare)
+    path, planes, predictions = pages.write("everywhere", data, differing)
+    held.look_at(browser, checks, "everywhere", path, plan, planes, predictions)
     shown.look_at_many_differences(browser, checks, plan, planes, differing[8 + len(data):])
     shown.look_at_moves(browser, checks, "4,096 leaves that differ", MOST_FRAME)
     checks.same("everywhere: faults of the page", browser.faults(), [])
-
-
-def planes_of_steps(browser, pages, checks, options):
-    """A page that has planes of predictions and of residue shows them."""
-    data = plans.stripes()
-    plan, planes, bare = Plan(data), pages.planes(data), pages.bare(data)
-    predictions = bytes(reversed(planes))
-    residue = [7 * place % 511 - 255 for place in range(len(planes))]
-    page = TEMPLATE.page(data, planes, bare)
-    path = pages.keep("steps", TEMPLATE.with_planes_of_steps(page, predictions, residue))
-    browser.open(path)
-    checks.same("the names of what is shown", browser.json("view.sources.map((s) => s.name)"),
-                ["reconstruction", "prediction", "residue", held.ALONE, held.CHANGED])
-    places = [(p, x, y) for p in (0, 1, 2) for x in (0, 5, plan.sides[p][0] - 1) for y in (0, 9, plan.sides[p][1] - 1)]
-    found = browser.json(f"{json.dumps(places)}.map(([p, x, y]) => ['prediction', 'residue'].map((s) => view.sample(s, p, x, y)))")
-    ahead = [0, plan.sides[0][0] * plan.sides[0][1], sum(w * h for w, h in plan.sides[:2])]
-    at = [ahead[p] + y * plan.sides[p][0] + x for p, x, y in places]
-    checks.same("samples of predictions and of residue", found, [[predictions[i], residue[i]] for i in at])
-    checks.same("steps: faults of the page", browser.faults(), [])
 
 
 def sequence(browser, pages, checks, options):
@@ -276,8 +258,8 @@ def grid(browser, pages, checks, options):
 def great(browser, pages, checks, options):
     """A frame of 2048x2048 in leaves of 8x8, which has to open and to move without a stall."""
     data = plans.great(2048)
-    path, planes, bare = pages.write("great", data)
-    opening = held.look_at(browser, checks, "2048x2048", path, Plan(data), planes, bare)
+    path, planes, predictions = pages.write("great", data)
+    opening = held.look_at(browser, checks, "2048x2048", path, Plan(data), planes, predictions)
     print(f"2048x2048 opens in {opening:.1f} s", flush=True)
     checks.true("2048x2048 opens", opening < MOST_OPENING)
     shown.look_at_moves(browser, checks, "2048x2048", MOST_FRAME)
@@ -298,7 +280,7 @@ def greatest_trace(browser, pages, checks, options):
         pages.run(options.view, ["trace"], differing)
         seen = time.time() - begun
         print(f"2048x2048 that differs everywhere: {reconstructed:.2f} s to reconstruct, {seen:.2f} s to see", flush=True)
-    path, planes, bare = pages.write("greatest", data, differing)
+    path, planes, predictions = pages.write("greatest", data, differing)
     begun = time.time()
     browser.open(path)
     print(f"its page opens in {time.time() - begun:.1f} s", flush=True)
@@ -307,7 +289,7 @@ def greatest_trace(browser, pages, checks, options):
     checks.same("greatest trace: faults of the page", browser.faults(), [])
 
 
-SMALL = [worked, stripes, departures, planes_of_steps, five, trace, everywhere, sequence, grid]
+SMALL = [worked, stripes, departures, five, trace, everywhere, sequence, grid]
 LARGE = [great, greatest_trace]
 
 

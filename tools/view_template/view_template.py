@@ -5,7 +5,7 @@
     tools/view_template/view_template.py --check    says whether these are what the files come to
 
 The files are view.html, view.css and those of the script, by subject, in crates/av1_view/data. In view.html @STYLE@ stands for view.css,
-@SCRIPT@ for the files of the script, one behind the other, and @PLAN@, @PLANES@, @BARE@ and @GIVEN@ for bytes in base64. The parts are all
+@SCRIPT@ for the files of the script, one behind the other, and @PLAN@, @PLANES@, @PREDICTIONS@ and @GIVEN@ for bytes in base64. The parts are all
 that stands between those four, and the script by itself.
 """
 import base64
@@ -19,8 +19,8 @@ CRATE = os.path.join(os.path.dirname(os.path.abspath(__file__)), "..", "..", "cr
 PARTS = [
     ("BEFORE_PLAN", "What stands before the bytes of the plan: the page without its script."),
     ("BEFORE_PLANES", "Between the bytes of the plan and those of its planes."),
-    ("BEFORE_BARE", "Between the planes and those of the frame without coefficients."),
-    ("BEFORE_GIVEN", "Between the planes of the frame without coefficients and those that a trace gives."),
+    ("BEFORE_PREDICTIONS", "Between the planes and what was predicted of them."),
+    ("BEFORE_GIVEN", "Between the predictions and the planes that a trace gives."),
     ("BEFORE_SCRIPT", "Between the given planes and the script."),
     ("SCRIPT", "The script, which reads all of these."),
     ("AFTER_SCRIPT", "The end of the page."),
@@ -41,24 +41,16 @@ def parts():
     style, script = read("view.css"), "\n".join(read(name + ".js") for name in SCRIPT)
     if "</" in script or "<!--" in script:
         sys.exit("the script has a text that ends or hides a script element")
-    pieces = re.split("@PLAN@|@PLANES@|@BARE@|@GIVEN@|@SCRIPT@", read("view.html").replace("@STYLE@", style))
+    pieces = re.split("@PLAN@|@PLANES@|@PREDICTIONS@|@GIVEN@|@SCRIPT@", read("view.html").replace("@STYLE@", style))
     if len(pieces) != 6:
         sys.exit("view.html lacks one of its places")
     return pieces[:5] + [script, pieces[5]]
 
 
-def page(plan, planes, bare, given=b""):
+def page(plan, planes, predictions, given=b""):
     """The page of these bytes."""
     front, *rest = [part.encode() for part in parts()]
-    return front + b"".join(base64.b64encode(data) + part for data, part in zip([plan, planes, bare, given], rest)) + b"".join(rest[4:])
-
-
-def with_planes_of_steps(page, predictions, residue):
-    """A page to which planes of predictions and of residue are added, of which the program gives none: two bytes a number of the residue."""
-    elements = b"".join(b'<script type="text/plain" id="%s">%s</script>\n' % (name, base64.b64encode(data)) for name, data in (
-        (b"predictions-bytes", predictions), (b"residue-bytes", b"".join(value.to_bytes(2, "little", signed=True) for value in residue))))
-    before = parts()[4].encode().rsplit(b"<script>", 1)[0]
-    return page.replace(before, before + elements, 1)
+    return front + b"".join(base64.b64encode(data) + part for data, part in zip([plan, planes, predictions, given], rest)) + b"".join(rest[4:])
 
 
 def source():
@@ -71,9 +63,11 @@ def source():
 
 
 def stored():
-    """The page of the worked plan of `av1_vectors`, whose frame without coefficients is 128 throughout."""
+    """The page of the worked plan of `av1_vectors`. Of its four leaves of 4x4 samples the first is predicted as 128 in Y and the others as 131, what
+    the residue of the first has made of it; U and V, as large as Y, are predicted as 128."""
+    luma = (bytes([128]) * 4 + bytes([131]) * 4) * 4 + bytes([131]) * 32
     with open(os.path.join(CRATE, "stdin"), "rb") as plan, open(os.path.join(CRATE, "..", "av1_vectors", "stdout"), "rb") as planes:
-        return page(plan.read(), planes.read(), bytes([128]) * 192)
+        return page(plan.read(), planes.read(), luma + bytes([128]) * 128)
 
 
 def main():

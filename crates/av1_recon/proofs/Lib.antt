@@ -1,3 +1,4 @@
+pub mod KeptBytes
 pub mod Converting
 pub mod Ends
 pub mod MadePlans

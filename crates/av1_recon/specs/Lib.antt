@@ -8,3 +8,4 @@ pub mod Made
 pub mod Numbers
 pub mod Commands
 pub mod Ends
+pub mod Predictions

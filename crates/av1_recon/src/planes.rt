@@ -21,7 +21,7 @@ use av1_tile::{Planes, visible_row};
 const MOST_SAMPLES: usize = 2048;
 
 // The bytes of these.
-const MOST_BYTES: usize = 2 * MOST_SAMPLES;
+pub const MOST_BYTES: usize = 2 * MOST_SAMPLES;
 
 /// Appends the visible planes to the sink: Y, U and V, each row by row, one byte a sample at depth 8, else two, the low
 /// one first. The first write that fails ends the call, and a prefix of the planes stands.
@@ -73,8 +73,8 @@ fn write_plane<T: Pixel, W: Sink>(
     Ok(())
 }
 
-// Appends the samples of a row, or a prefix of their bytes.
-fn write_row<T: Pixel, W: Sink>(
+/// Appends samples that stand one after another, or a prefix of their bytes.
+pub fn write_row<T: Pixel, W: Sink>(
     depth: u8,
     row: &[T],
     buffer: &mut [u8; MOST_BYTES],

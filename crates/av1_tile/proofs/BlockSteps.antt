@@ -49,7 +49,7 @@ module _ (h : Header) (block : PlaneBlock) (at : BlockPlace) where
   }
 
   -- its steps are its own prediction, where it has one, and an addition
-  two_steps : {A : Type 0} (step : A → Step → A) (start : A) (triples : List Triple) →
+  pub two_steps : {A : Type 0} (step : A → Step → A) (start : A) (triples : List Triple) →
       transform_block h block.plane block.area at.number ≡ Some (record { x = at.x; y = at.y })
       → step (fold step start (own_prediction block at.number (area_at block at))) (add block triples at.number (area_at block at)) ≡
       fold step start (steps_at h block triples at.number)
@@ -140,7 +140,7 @@ module _ {T : Type 0} (num : T → ℕ) (pixel : ℕ → T) (law : (v : ℕ) →
 
 -- ---- the steps of a whole block of a leaf
 
-some_factor : (m n : ℕ) → 0 < m * n → 0 < m
+pub some_factor : (m n : ℕ) → 0 < m * n → 0 < m
 some_factor zero n l = absurd (omega (arith, l))
 some_factor (suc m) n l = omega arith
 

@@ -27,7 +27,9 @@ use Rattle.av1_plan.specs.Plan.{PlanValue}
 use Rattle.av1_tile.specs.declared.plane_block.PlaneBlock.{PlaneBlock}
 use Rattle.av1_tile.specs.PlaneBlocks.{is_whole}
 use Rattle.av1_tile.specs.Reference.{added, block_residue, coefficients, with_triple}
-use Rattle.av1_tile.specs.Steps.{predict, add, block_area, block_steps, joined, steps_at}
+use Rattle.av1_tile.specs.declared.predicted.PredictedPlanes.{PredictedPlanes}
+use Rattle.av1_tile.specs.Predicted.{Keeping, keeping_in, kept_in}
+use Rattle.av1_tile.specs.Steps.{Step, predict, add, block_area, block_steps, joined, steps_at}
 use Rattle.av1_tile.specs.Walk.{AreRising, BlockFits, TripleFits, edges_in, fast_in}
 use Rattle.av1_tile.proofs.Loops.{fold_joined_same}
 
@@ -81,27 +83,37 @@ module _ (block : PlaneBlock) (ts : List Triple) (whole : is_whole block.predict
       let area = block_area block b in
       ap (λ (t : Bool). if t then add block ts n area ∷ [] else predict block n area ∷ add block ts n area ∷ []) whole
 
-  -- prepare no edge
-  pub none_counted : (h : Header) (count : ℕ) → count ≡ fold edges_in count (joined (block_count block.area) (steps_at h block ts))
+  -- change nothing that additions leave as it is
+  pub none_taken : {A : Type 0} (step : A → Step → A) (h : Header) (start : A) → ((n : ℕ) (a : VisibleArea) → start ≡ step start (add block ts n a))
+      → start ≡ fold step start (joined (block_count block.area) (steps_at h block ts))
   unfolding steps_at
-  none_counted h count = fold_joined_same edges_in count (block_count block.area) (steps_at h block ts) (λ n. go n (transform_block h block.plane block.area n))
+  none_taken step h start same =
+      fold_joined_same step start (block_count block.area) (steps_at h block ts) (λ n. go n (transform_block h block.plane block.area n))
     where
-      go : (n : ℕ) (o : Option TransformBlock) → count ≡ fold edges_in count (block_steps block ts n o)
+      go : (n : ℕ) (o : Option TransformBlock) → start ≡ fold step start (block_steps block ts n o)
       go n None = refl
-      go n (Some b) = ap (fold edges_in count) (sym (alone n b))
+      go n (Some b) = same n (block_area block b) ∙ ap (fold step start) (sym (alone n b))
+
+  -- so they prepare no edge
+  pub none_counted : (h : Header) (count : ℕ) → count ≡ fold edges_in count (joined (block_count block.area) (steps_at h block ts))
+  none_counted h count = none_taken edges_in h count (λ n a. refl)
 
   -- and add nothing
   module _ {T : Type 0} (num : T → ℕ) (pixel : ℕ → T) (back : (x : T) → pixel (num x) ≡ x) (plan : PlanValue) (luma : PlaneBlock → ℕ → ℕ → ℤ)
       (plane : Plane T) (none : length ts ≡ 0) (within : All (λ v. num v < 2 ^ plan.header.depth) plane.samples) where
+    none_adds : (n : ℕ) (a : VisibleArea) → plane ≡ fast_in num pixel plan block.plane luma plane (add block ts n a)
+    unfolding fast_in
+    none_adds n a = none_painted num pixel back plan.header.depth block ts n plane a none within
+
     pub none_walked : plane ≡ fold (fast_in num pixel plan block.plane luma) plane (joined (block_count block.area) (steps_at plan.header block ts))
-    unfolding steps_at fast_in
-    none_walked = fold_joined_same (fast_in num pixel plan block.plane luma) plane (block_count block.area) (steps_at plan.header block ts)
-        (λ n. go n (transform_block plan.header block.plane block.area n))
-      where
-        go : (n : ℕ) (o : Option TransformBlock) → plane ≡ fold (fast_in num pixel plan block.plane luma) plane (block_steps block ts n o)
-        go n None = refl
-        go n (Some b) = none_painted num pixel back plan.header.depth block ts n plane (block_area block b) none within
-            ∙ ap (fold (fast_in num pixel plan block.plane luma) plane) (sym (alone n b))
+    none_walked = none_taken (fast_in num pixel plan block.plane luma) plan.header plane none_adds
+
+    -- nor is more kept
+    pub none_kept : (kept : PredictedPlanes T) → (plane, kept) ≡
+        fold (keeping_in num pixel plan block.plane luma) (plane, kept) (joined (block_count block.area) (steps_at plan.header block ts))
+    unfolding keeping_in kept_in
+    none_kept kept =
+        none_taken (keeping_in num pixel plan block.plane luma) plan.header (plane, kept) (λ n a. ap (λ (z : Plane T). (z, kept)) (none_adds n a))
 
 -- from place at on, up to place end, stand all triples of block n
 pub record AreOwn (n : ℕ) (all : List Triple) (at end : ℕ) : Type 0 where
@@ -161,53 +173,49 @@ own_coefficients size n all at end is =
     ∙ ap (λ cs. fold f cs (own ++ rest)) (sym (others n z front (before_others n all at end is))) ∙ sym (fold-append f z front (own ++ rest))
     ∙ ap (fold f z) parts
 
--- so the steps of the block are the same
-module _ {T : Type 0} (num : T → ℕ) (pixel : ℕ → T) (plan : PlanValue) (p : ℕ) (luma : PlaneBlock → ℕ → ℕ → ℤ) where
-  block_same : (block : PlaneBlock) (own all : List Triple) (n : ℕ) (plane : Plane T) (o : Option TransformBlock) →
-      coefficients block.area.tx_size n own ≡ coefficients block.area.tx_size n all
-      → fold (fast_in num pixel plan p luma) plane (block_steps block own n o) ≡ fold (fast_in num pixel plan p luma) plane (block_steps block all n o)
-  unfolding fast_in block_residue
-  block_same block own all n plane None e = refl
-  block_same block own all n plane (Some b) e = go (is_whole block.prediction)
-    where
-      a : VisibleArea
-      a = block_area block b
-
-      added_same : (q : Plane T) → fast_in num pixel plan p luma q (add block own n a) ≡ fast_in num pixel plan p luma q (add block all n a)
-      added_same q =
-          ap (λ cs. painted_plane q a (λ r c v. pixel (added plan.header.depth (num v) (residue block.area.tx_size block.tx_type plan.header.depth cs r c)))) e
-
-      go : (t : Bool) → fold (fast_in num pixel plan p luma) plane (if t then add block own n a ∷ [] else predict block n a ∷ add block own n a ∷ [])
-          ≡ fold (fast_in num pixel plan p luma) plane (if t then add block all n a ∷ [] else predict block n a ∷ add block all n a ∷ [])
-      go true = added_same plane
-      go false = added_same (fast_in num pixel plan p luma plane (predict block n a))
-
-  pub own_steps : (h : Header) (block : PlaneBlock) (all : List Triple) (n at end : ℕ) (plane : Plane T) → AreOwn n all at end
-      → fold (fast_in num pixel plan p luma) plane (steps_at h block (take (end - at) (drop at all)) n) ≡
-      fold (fast_in num pixel plan p luma) plane (steps_at h block all n)
-  unfolding steps_at
-  own_steps h block all n at end plane is =
-      block_same block _ all n plane (transform_block h block.plane block.area n) (own_coefficients block.area.tx_size n all at end is)
-
--- and so are the edges that they prepare
-edges_same : (block : PlaneBlock) (own all : List Triple) (n count : ℕ) (o : Option TransformBlock) →
-    fold edges_in count (block_steps block own n o) ≡ fold edges_in count (block_steps block all n o)
-edges_same block own all n count None = refl
-edges_same block own all n count (Some b) = go (is_whole block.prediction)
+-- the steps of a block are the same where its additions are
+alike_at : {A : Type 0} (step : A → Step → A) (block : PlaneBlock) (own all : List Triple) (n : ℕ) (start : A) (o : Option TransformBlock) →
+    ((q : A) (a : VisibleArea) → step q (add block own n a) ≡ step q (add block all n a))
+    → fold step start (block_steps block own n o) ≡ fold step start (block_steps block all n o)
+alike_at step block own all n start None e = refl
+alike_at step block own all n start (Some b) e = go (is_whole block.prediction)
   where
     a : VisibleArea
     a = block_area block b
 
-    go : (t : Bool) →
-        fold edges_in count (if t then add block own n a ∷ [] else predict block n a ∷ add block own n a ∷ []) ≡
-        fold edges_in count (if t then add block all n a ∷ [] else predict block n a ∷ add block all n a ∷ [])
-    go true = refl
-    go false = refl
+    go : (t : Bool) → fold step start (if t then add block own n a ∷ [] else predict block n a ∷ add block own n a ∷ []) ≡
+        fold step start (if t then add block all n a ∷ [] else predict block n a ∷ add block all n a ∷ [])
+    go true = e start a
+    go false = e (step start (predict block n a)) a
 
+module _ {T : Type 0} (num : T → ℕ) (pixel : ℕ → T) (plan : PlanValue) (p : ℕ) (luma : PlaneBlock → ℕ → ℕ → ℤ) (h : Header) (block : PlaneBlock)
+    (all : List Triple) (n at end : ℕ) (is : AreOwn n all at end) where
+  own_adds : (q : Plane T) (a : VisibleArea) → fast_in num pixel plan p luma q (add block (take (end - at) (drop at all)) n a) ≡
+      fast_in num pixel plan p luma q (add block all n a)
+  unfolding fast_in block_residue
+  own_adds q a =
+      ap (λ cs. painted_plane q a (λ r c v. pixel (added plan.header.depth (num v) (residue block.area.tx_size block.tx_type plan.header.depth cs r c))))
+      (own_coefficients block.area.tx_size n all at end is)
+
+  -- so its own triples do as well as all
+  pub own_steps : (plane : Plane T) → fold (fast_in num pixel plan p luma) plane (steps_at h block (take (end - at) (drop at all)) n) ≡
+      fold (fast_in num pixel plan p luma) plane (steps_at h block all n)
+  unfolding steps_at
+  own_steps plane = alike_at (fast_in num pixel plan p luma) block _ all n plane (transform_block h block.plane block.area n) own_adds
+
+  -- for what is kept too,
+  pub own_kept : (s : Keeping (Plane T) T) → fold (keeping_in num pixel plan p luma) s (steps_at h block (take (end - at) (drop at all)) n) ≡
+      fold (keeping_in num pixel plan p luma) s (steps_at h block all n)
+  unfolding steps_at keeping_in kept_in
+  own_kept s =
+      alike_at (keeping_in num pixel plan p luma) block _ all n s (transform_block h block.plane block.area n)
+      (λ q a. ap (λ (z : Plane T). (z, q.1)) (own_adds q.0 a))
+
+-- and for the edges that are prepared
 pub own_edges : (h : Header) (block : PlaneBlock) (own all : List Triple) (n count : ℕ) →
     fold edges_in count (steps_at h block own n) ≡ fold edges_in count (steps_at h block all n)
 unfolding steps_at
-own_edges h block own all n count = edges_same block own all n count (transform_block h block.plane block.area n)
+own_edges h block own all n count = alike_at edges_in block own all n count (transform_block h block.plane block.area n) (λ q a. refl)
 
 -- ---- the run of a block's triples
 

@@ -12,11 +12,13 @@ pub mod CflSizes
 pub mod LumaTurns
 pub mod LeafTurns
 pub mod Simulation
+pub mod PredictionsShown
 pub mod BlockTriples
 pub mod EdgeBlocks
 pub mod Predictions
 pub mod WithinDepth
 pub mod BlockSteps
+pub mod Keeping
 pub mod NotedCells
 pub mod Lifts
 pub mod LeafLuma
@@ -31,3 +33,4 @@ pub mod FilledPlanes
 pub mod Examples
 pub mod Versions
 pub mod Lookups
+pub mod Residues

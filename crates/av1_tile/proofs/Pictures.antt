@@ -5,6 +5,7 @@ use Rattle.std.proofs.lemmas.List.Elements.{All-replicate}
 use Rattle.std.proofs.lemmas.Nat.{pow_pos}
 use Rattle.std.specs.List.{fold}
 use Rattle.std.proofs.Math.Logic.{∥∥₁_elim}
+use mathlib.Core.List.{is_set as List-set}
 use native.Mathlib.Nat.{ℕ_set}
 use Rattle.av1_lists.specs.Lists.{by_index}
 use Rattle.av1_lists.proofs.Lists.{numbers_are}
@@ -34,6 +35,8 @@ use Rattle.av1_tile.specs.Canvas.{Component, Y, U, V}
 use Rattle.av1_tile.specs.Edge.{sample_of}
 use Rattle.av1_tile.specs.Output.{visible, planes_of}
 use Rattle.av1_tile.specs.PlaneBlocks.{component, extent_of, number}
+use Rattle.av1_tile.specs.declared.predicted.PredictedPlanes.{PredictedPlanes}
+use Rattle.av1_tile.specs.Predicted.{AreBlank, Keeping, ShowsPredictions, keeping_step}
 use Rattle.av1_tile.specs.Reference.{slow_walk}
 use Rattle.av1_tile.specs.Memory.{ShowsPlan}
 use Rattle.av1_tile.specs.State.{ShowsRows, edges_of, shown}
@@ -44,6 +47,7 @@ use Rattle.av1_tile.proofs.LeafTurns.{plan_ready}
 use Rattle.av1_tile.proofs.Lifts.{number_component}
 use Rattle.av1_tile.proofs.PlanFits.{begins, sound_leaves, whole_frame}
 use Rattle.av1_tile.proofs.PlanLeaves.{steps_told}
+use Rattle.av1_tile.proofs.PredictionsShown.{predictions_shown}
 use Rattle.av1_tile.proofs.Simulation.{samples_shown, visible_same}
 use Rattle.av1_tile.proofs.UnitSteps.{covers}
 
@@ -149,6 +153,17 @@ module _ (plan : PlanValue) (spelled : ∥ IsSpelled grammar plan ∥₁) (valid
       (λ i d within. (spelled_leaves plan s i d within).quarter))
       (record { plane = all_placed num plan.header p stores; room = room.y }) (all_placed num plan.header q after)
       (walked ∙ ap (fold (fast_step num pixel plan) p) (same_steps s told)) k x y hx hy)))
+
+  -- what they have kept beside is what its Predict steps say
+  pub plan_predicts : {T : Type 0} (num : T → ℕ) (pixel : ℕ → T) (law : (v : ℕ) → num (pixel v) ≡ v) (back : (x : T) → pixel (num x) ≡ x) (p q : Planes T)
+      (kept last : PredictedPlanes T) (told : Told) → StoresAll num plan.header p → HasRoom plan.header p → AreBlank pixel plan.header kept
+      → (q, last) ≡ fold (keeping_step num pixel plan) (p, kept) (steps_by plan.header told plan.leaves) → ShowsPredictions num plan last
+  plan_predicts num pixel law back p q kept last told stores room empty walked k =
+      ∥∥₁_elim spelled (hlevel (List-set ℕ_set))
+      (λ s. predictions_shown num pixel law back plan p kept last (plan_ready plan.header plan.leaves (λ k. coded plan valid s (number k))
+      (spelled_frame plan s) (λ i d within. (spelled_leaves plan s i d within).quarter))
+      (record { plane = all_placed num plan.header p stores; room = room.y }) empty
+      (ap (λ (r : Keeping (Planes _) _). r.1) (walked ∙ ap (fold (keeping_step num pixel plan) (p, kept)) (same_steps s told))) k)
 
   -- and the count of edges is that of its predictions
   pub plan_counts : (count after : ℕ) (told : Told) → after ≡ fold edges_after count (steps_by plan.header told plan.leaves) → after ≡ edges_of count plan

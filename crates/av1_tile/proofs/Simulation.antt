@@ -121,7 +121,7 @@ within a x y e =
     (omega (arith, t, b), omega (arith, l, r))
 
 -- each plane holds what its canvas does
-abbrev AllAgree : {T : Type 0} → (T → ℕ) → Planes T → Canvas → Type 0
+abbrev pub AllAgree : {T : Type 0} → (T → ℕ) → Planes T → Canvas → Type 0
 AllAgree num planes canvas = (k : Component) → Agrees num (plane_of k planes) (canvas k)
 
 -- a step of plane j changes plane j alone
@@ -316,7 +316,7 @@ module _ {T : Type 0} (num : T → ℕ) (pixel : ℕ → T) (law : (v : ℕ) →
       (λ r c m v o hr hc q w. law _ ∙ ap (λ (u : ℕ). added depth u (block_residue depth block triples n r c)) (law v)
       ∙ added_is (λ u. added depth u (block_residue depth block triples n r c)) o m v q w) (t k)
 
-  step_agrees : (plan : PlanValue) (before : List PlaneStep) (s : PlaneStep) (planes : Planes T) → StepReady plan.header before s →
+  pub step_agrees : (plan : PlanValue) (before : List PlaneStep) (s : PlaneStep) (planes : Planes T) → StepReady plan.header before s →
       AllWhole plan.header planes → AllAgree num planes (walked plan before) →
       AllAgree num (fast_step num pixel plan planes s) (slow_step plan (walked plan before) s)
   unfolding fast_step slow_step
@@ -326,7 +326,8 @@ module _ {T : Type 0} (num : T → ℕ) (pixel : ℕ → T) (law : (v : ℕ) →
       (fast_in num pixel plan (number k) (luma_for plan.header (sample_at num planes.y) k) (plane_of k planes) s.step)
       (slow_in plan (walked plan before) k s.step) k (plane_agrees plan before k s.step planes ready t a) a
 
-  step_whole : (plan : PlanValue) (planes : Planes T) (s : PlaneStep) → AllWhole plan.header planes → AllWhole plan.header (fast_step num pixel plan planes s)
+  pub step_whole : (plan : PlanValue) (planes : Planes T) (s : PlaneStep) → AllWhole plan.header planes →
+      AllWhole plan.header (fast_step num pixel plan planes s)
   unfolding fast_step
   step_whole plan planes s t =
       whole_with plan.header planes s.component _ t (step_place plan s.component _ (plane_of s.component planes) s.step (t.plane s.component))

@@ -9,3 +9,6 @@ pub mod State
 pub mod Versions
 pub mod Memory
 pub mod Lookups
+pub mod SampleRows
+pub mod Predicted
+pub mod Residues

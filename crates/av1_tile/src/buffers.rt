@@ -2,6 +2,7 @@
 
 ghost use Rattle.std.specs.Prelude.{◌≡◌, vec_len, IfOk};
 
+use crate::predicted::PredictedPlanes;
 use av1_blocks::OutOfMemory;
 use av1_edges::IntraEdgeBuffer;
 use av1_frame::{Coefficient, Pixel};
@@ -15,7 +16,8 @@ const MOST_COEFFICIENTS: usize = 1024;
 /// The most samples of a block of chroma that is predicted from luma.
 const MOST_FROM_LUMA: usize = 32 * 32;
 
-/// Room for one transform block, for the luma of a leaf and for one leaf's prediction from two references.
+/// Room for one transform block, for the luma of a leaf and for one leaf's prediction from two references; and the
+/// predictions that are kept.
 #[derive(Drop)]
 pub struct WalkBuffers<T: Pixel> {
     /// The samples round a transform block.
@@ -28,6 +30,8 @@ pub struct WalkBuffers<T: Pixel> {
     pub(crate) scratch: TxScratch,
     /// The prepared values of a leaf from each of two references.
     pub(crate) compound: InterCompoundBuffers,
+    /// What is kept of the predictions: nothing, unless a caller asks for them.
+    pub(crate) kept: PredictedPlanes<T>,
     pub(crate) ghost luma_long: { vec_len luma ≡ 1024 },
     pub(crate) ghost coefficients_len: { vec_len coefficients ≡ 1024 },
 }
@@ -55,12 +59,14 @@ impl<T: Pixel> WalkBuffers<T> {
         let coefficients = coefficients(alloc, MOST_COEFFICIENTS)?;
         let scratch = TxScratch::new(alloc)?;
         let compound = InterCompoundBuffers::new(alloc)?;
+        let kept = PredictedPlanes::none(alloc);
         Ok(WalkBuffers {
             edges,
             luma,
             coefficients,
             scratch,
             compound,
+            kept,
         })
     }
 }

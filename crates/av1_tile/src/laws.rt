@@ -1,6 +1,7 @@
 //! Laws of the slow definition.
 
 ghost use Rattle.av1_tile.specs.Lookups.{OutputIsThere, StepsAreAnswered, StepsFindSamples};
+ghost use Rattle.av1_tile.specs.Residues.{SamplesAreSums};
 ghost use Rattle.av1_tile.specs.Versions.{VersionsShowTheSame};
 
 /// A law: the planes of a plan are the same in each version of the plan format.
@@ -16,4 +17,10 @@ pub fn look_ups_find_samples()
     ensures at_steps { StepsFindSamples }
     ensures at_end { OutputIsThere }
     ensures answered { StepsAreAnswered }
+{}
+
+/// A law: each sample that a plan comes to is the sum of its prediction and its residue, which is what Add steps have
+/// changed of it since it was predicted.
+pub fn samples_are_sums()
+    ensures { SamplesAreSums }
 {}

@@ -15,7 +15,9 @@
 //! Promised: the visible planes are those of the slow definition, `planes_of` (`specs/Output.antt`), and so is each of
 //! their rows, `plan_row` (`specs/State.antt`), whatever they held before. Callers that keep planes and references from
 //! one frame to the next themselves have the same by a [`WalkMemory`], over [`Planes`] of their own (`ShowsPlan` of
-//! `specs/Memory.antt`). Only `TileState::new`, `Planes::new` and `WalkMemory::new` allocate.
+//! `specs/Memory.antt`). [`reconstruct_with_predictions`] keeps besides what each Predict step predicts of the visible
+//! samples (`slow_predictions`, `specs/Predicted.antt`). It, `TileState::new`, `Planes::new` and `WalkMemory::new`
+//! allocate; nothing else does.
 #![tactic(auto)]
 
 mod block;
@@ -30,15 +32,17 @@ mod leaf;
 mod memory;
 mod plane_block;
 mod planes;
+mod predicted;
 mod recon;
 mod state;
 mod tile;
 mod walk;
 
 pub use extent::PlaneExtent;
-pub use laws::{look_ups_find_samples, versions_show_the_same};
+pub use laws::{look_ups_find_samples, samples_are_sums, versions_show_the_same};
 pub use memory::WalkMemory;
 pub use plane_block::{LumaBlock, PlaneBlock, Prediction};
 pub use planes::{Planes, visible_row};
-pub use recon::reconstruct_tile;
+pub use predicted::{PredictedPlane, PredictedPlanes};
+pub use recon::{PredictedTile, reconstruct_tile, reconstruct_with_predictions};
 pub use state::TileState;

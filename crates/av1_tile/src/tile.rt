@@ -5,6 +5,7 @@ ghost use Rattle.std.specs.List.{fold};
 ghost use Rattle.av1_plan.specs.Values.{leaves_value};
 ghost use Rattle.av1_plan.specs.Plan.{PlanValue};
 ghost use Rattle.av1_references.specs.References.{ServesPlan};
+ghost use Rattle.av1_tile.specs.Predicted.{keeping_step};
 ghost use Rattle.av1_tile.specs.Walk.{cell_at, edges_after, fast_step, steps_by, HasCells, HoldsPlanes, KeepsPlanes, LeafFits, with_header};
 
 use crate::buffers::WalkBuffers;
@@ -37,6 +38,9 @@ pub fn reconstruct_leaves<T: Pixel>(
     ensures kept { KeepsPlanes T.num header.now planes.old planes.new }
     ensures cells { HasCells header.now cells.new }
     ensures count { length cells.new.cells.items ≡ length cells.old.cells.items }
+    ensures predictions { (value : PlanValue) → ServesPlan T.num (with_header header.now value) fi.now → (planes.new, buffers.new.kept) ≡
+        fold (keeping_step T.num T.pixel (with_header header.now value)) (planes.old, buffers.old.kept)
+        (steps_by header.now (cell_at cells.old) (leaves_value leaves.now)) }
 {
     for index in 0..leaves.leaves().len() {
         let leaf = &leaves.leaves()[index];

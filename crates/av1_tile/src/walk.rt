@@ -13,6 +13,7 @@ ghost use Rattle.av1_plan.specs.ReadPlans.{IsReadFrame};
 ghost use Rattle.av1_plan.specs.declared.leaf.Triple.{Triple};
 ghost use Rattle.av1_tile.specs.Canvas.Component.{Y};
 ghost use Rattle.av1_tile.specs.PlaneBlocks.{block_told, component, is_whole, prediction_in};
+ghost use Rattle.av1_tile.specs.Predicted.{WalksKeeping, keeping_in, kept_in};
 ghost use Rattle.av1_tile.specs.Reference.{no_luma};
 ghost use Rattle.av1_tile.specs.Steps.{own_prediction, whole_steps, plane_steps, steps_at, steps_of, joined};
 ghost use Rattle.av1_tile.specs.Walk.{area_at, block_by, cell_at, Begins, edges_in, edges_after, fast_in, fast_step, leaf_with, BlockFits, HasCells, IsPlaceIn};
@@ -23,9 +24,9 @@ use crate::buffers::WalkBuffers;
 use crate::cells::CodedCells;
 use crate::frame::WalkedFrame;
 use crate::plane_block::{PlaneBlock, Prediction};
-use crate::planes::Planes;
+use crate::predicted::PredictedPlanes;
 use av1_blocks::{IntraParam, PredictionMode};
-use av1_frame::{FrameInvariants, Pixel, Plane};
+use av1_frame::{FrameInvariants, Pixel, Plane, StoredArea};
 use av1_inter::InterCompoundBuffers;
 use av1_intra::IntraEdgeFilterParameters;
 use av1_plan::{Header, Leaf, LeafKind, Triple};
@@ -89,6 +90,7 @@ fn predict_block<T: Pixel>(
         plane.new }
     ensures counted { buffers.new.edges.prepared ≡ fold edges_in buffers.old.edges.prepared (own_prediction block.now at.number (area_at block.now at)) }
     ensures luma { buffers.new.luma.items ≡ buffers.old.luma.items }
+    ensures predictions { buffers.new.kept ≡ buffers.old.kept }
 {
     match block.prediction {
         Prediction::Intra { mode, step, filter } => {
@@ -114,6 +116,58 @@ fn predict_block<T: Pixel>(
     }
 }
 
+/// Whether a leaf's block is predicted as a whole, from references.
+fn is_whole(prediction: Prediction) -> bool
+    ensures { result ≡ is_whole prediction }
+{
+    match prediction {
+        Prediction::Single { .. } | Prediction::Compound { .. } => true,
+        Prediction::Intra { .. } | Prediction::FromLuma { .. } => false,
+    }
+}
+
+/// Keeps the prediction of a transform block. That of a leaf from references is kept with the leaf's whole area.
+fn keep_block<T: Pixel>(
+    kept: &mut PredictedPlanes<T>,
+    plane: &Plane<T>,
+    block: &PlaneBlock,
+    at: BlockPlace,
+)
+    requires fits { InPlane (area_at block.now at) plane.now }
+    ensures { kept.new ≡
+        fold (kept_in T.num T.pixel block.now.plane plane.now) kept.old (own_prediction block.now at.number (area_at block.now at)) }
+{
+    if is_whole(block.prediction) {
+        return;
+    }
+    let tx_size = block.area.tx_size;
+    let area = StoredArea {
+        x: at.x,
+        y: at.y,
+        width: tx_size.width(),
+        height: tx_size.height(),
+    };
+    kept.keep(block.plane, plane, area);
+}
+
+/// Keeps the prediction of a leaf's whole area in a plane, where it is predicted from references.
+fn keep_whole<T: Pixel>(kept: &mut PredictedPlanes<T>, plane: &Plane<T>, block: &PlaneBlock)
+    requires fits { InPlane (leaf_area block.now.area) plane.now }
+    ensures { kept.new ≡ fold (kept_in T.num T.pixel block.now.plane plane.now) kept.old (whole_steps block.now) }
+{
+    if !is_whole(block.prediction) {
+        return;
+    }
+    let size = block.area.size;
+    let area = StoredArea {
+        x: usize::from(block.area.x),
+        y: usize::from(block.area.y),
+        width: size.width(),
+        height: size.height(),
+    };
+    kept.keep(block.plane, plane, area);
+}
+
 /// A transform block that begins in the frame: it is predicted, unless its leaf is from references, and its residue is
 /// added.
 fn reconstruct_block<T: Pixel>(
@@ -132,8 +186,11 @@ fn reconstruct_block<T: Pixel>(
     ensures counted { buffers.new.edges.prepared ≡ fold edges_in buffers.old.edges.prepared (steps_at header.now block.now triples.now at.number) }
     ensures luma { buffers.new.luma.items ≡ buffers.old.luma.items }
     ensures kept { KeepsPlane T.num header.now block.now.plane plane.old plane.new }
+    ensures predictions { WalksKeeping T.num T.pixel header.now block.now buffers.old.luma.items (steps_at header.now block.now triples.now at.number)
+        (plane.old, buffers.old.kept) (plane.new, buffers.new.kept) }
 {
     predict_block(plane, buffers, header, block, at);
+    keep_block(&mut buffers.kept, plane, block, at);
     add_block(
         plane,
         buffers.coefficients.as_mut_slice(),
@@ -191,6 +248,8 @@ fn reconstruct_blocks<T: Pixel>(
         fold edges_in buffers.old.edges.prepared (joined (block_count block.now.area) (steps_at header.now block.now triples.now)) }
     ensures luma { buffers.new.luma.items ≡ buffers.old.luma.items }
     ensures kept { KeepsPlane T.num header.now block.now.plane plane.old plane.new }
+    ensures predictions { WalksKeeping T.num T.pixel header.now block.now buffers.old.luma.items
+        (joined (block_count block.now.area) (steps_at header.now block.now triples.now)) (plane.old, buffers.old.kept) (plane.new, buffers.new.kept) }
 {
     let across = block.area.blocks_across();
     let mut place = (0, 0);
@@ -213,10 +272,7 @@ fn is_only_predicted(prediction: Prediction, triples: &[Triple]) -> bool
     ensures whole { result ≡ true → is_whole prediction ≡ true }
     ensures none { result ≡ true → length triples.now ≡ 0 }
 {
-    match prediction {
-        Prediction::Single { .. } | Prediction::Compound { .. } => triples.is_empty(),
-        Prediction::Intra { .. } | Prediction::FromLuma { .. } => false,
-    }
+    is_whole(prediction) && triples.is_empty()
 }
 
 /// Predicts a leaf's whole area in a plane, where it is predicted from references. The frame settings hold the
@@ -277,8 +333,13 @@ fn reconstruct_plane_block<T: Pixel>(
     ensures counted { buffers.new.edges.prepared ≡ fold edges_in buffers.old.edges.prepared (plane_steps frame.now.header.now block.now triples.now) }
     ensures luma { buffers.new.luma.items ≡ buffers.old.luma.items }
     ensures kept { KeepsPlane T.num frame.now.header.now block.now.plane plane.old plane.new }
+    ensures predictions { let h = frame.now.header.now in
+        (value : PlanValue) → ServesPlan T.num (with_header h value) frame.now.fi.now → (plane.new, buffers.new.kept) ≡
+        fold (keeping_in T.num T.pixel (with_header h value) block.now.plane (λ _. ac_at (tx_width block.now.area.tx_size) buffers.old.luma.items))
+        (plane.old, buffers.old.kept) (plane_steps h block.now triples.now) }
 {
     predict_whole(plane, &mut buffers.compound, frame.fi, block);
+    keep_whole(&mut buffers.kept, plane, block);
     if is_only_predicted(block.prediction, triples) {
         return;
     }
@@ -338,6 +399,10 @@ pub fn reconstruct_leaf_in<T: Pixel>(
         fold edges_in buffers.old.edges.prepared (plane_steps frame.now.header.now (block_in frame.now p leaf.now) triples.now) }
     ensures luma { buffers.new.luma.items ≡ buffers.old.luma.items }
     ensures kept { KeepsPlane T.num frame.now.header.now p plane.old plane.new }
+    ensures predictions { let h = frame.now.header.now in let block = block_in frame.now p leaf.now in
+        (value : PlanValue) → ServesPlan T.num (with_header h value) frame.now.fi.now → (plane.new, buffers.new.kept) ≡
+        fold (keeping_in T.num T.pixel (with_header h value) p (λ _. ac_at (tx_width block.area.tx_size) buffers.old.luma.items))
+        (plane.old, buffers.old.kept) (plane_steps h block triples.now) }
 {
     let header = frame.header;
     let filter = filter_at(header, frame.cells, leaf, p);

@@ -11,19 +11,10 @@ function samplesOf(frame, bytes) {
   return samples;
 }
 
-// The residue of bytes of planes, two bytes a sample, with its sign.
-function residueOf(frame, bytes) {
-  const view = new DataView(bytes.buffer, bytes.byteOffset, bytes.byteLength);
-  return Int16Array.from({ length: frame.samples }, (none, i) => view.getInt16(2 * i, true));
-}
-
-// The planes that the page holds. It may lack those of the predictions, of the residue, and those that a trace gives.
+// The planes that the page holds. It lacks those that a trace gives where there is no trace.
 function heldPlanes(frame) {
-  const read = (id, reader) => { const bytes = bytesOf(id); return bytes.length ? reader(frame, bytes) : null; };
-  return {
-    planes: read('planes-bytes', samplesOf), bare: read('bare-bytes', samplesOf), given: read('given-bytes', samplesOf),
-    predictions: read('predictions-bytes', samplesOf), residue: read('residue-bytes', residueOf),
-  };
+  const read = (id) => { const bytes = bytesOf(id); return bytes.length ? samplesOf(frame, bytes) : null; };
+  return { planes: read('planes-bytes'), predictions: read('predictions-bytes'), given: read('given-bytes') };
 }
 
 // A slot by its number, and in a sequence the frame that it holds.
@@ -34,13 +25,11 @@ const namesOf = (frame, slot) => REFERENCES.filter((name, i) => i > 0 && frame.s
 
 // What can be shown: samples, or numbers with a sign, which are drawn round grey. `less` is taken from `of`, where there is one.
 function sourcesOf(plan, held) {
-  const source = (name, title, of, less = null, signed = less !== null) => ({ name, title, of, less, signed, slot: -1, greatest: new Map() });
+  const source = (name, title, of, less = null) => ({ name, title, of, less, signed: less !== null, slot: -1, greatest: new Map() });
   const sources = [source('reconstruction', 'what the plan comes to', held.planes)];
-  if (held.predictions) sources.push(source('prediction', 'what each block is predicted as', held.predictions));
-  if (held.residue) sources.push(source('residue', 'what is added to the prediction', held.residue, null, true));
-  if (held.bare) {
-    sources.push(source('frame without coefficients', 'what the plan comes to without any coefficient', held.bare));
-    sources.push(source('changed by coefficients', 'the reconstruction less the frame without coefficients', held.planes, held.bare));
+  if (held.predictions) {
+    sources.push(source('prediction', 'what each block is predicted as, before its residue is added', held.predictions));
+    sources.push(source('residue', 'what is added to the prediction: the reconstruction less the prediction', held.planes, held.predictions));
   }
   if (held.given) {
     sources.push(source('given', 'what another encoder left', held.given));

@@ -1,6 +1,4 @@
 pub mod Groups
-pub mod Shorter
-pub mod Bared
 pub mod Pages
 pub mod TraceOutcomes
 pub mod FileAnswers

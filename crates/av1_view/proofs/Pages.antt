@@ -1,15 +1,15 @@
 -- The page of what was gathered.
 use Rattle.std.proofs.Common.{◌≡◌, ℕ, List, ap, ◌∙◌}
 use Rattle.av1_plan.specs.Plan.{PlanValue}
-use Rattle.av1_planwrite.specs.Bare.{bare}
 use Rattle.av1_planwrite.specs.Text.{plan_text}
 use Rattle.av1_tile.specs.Output.{planes_of}
+use Rattle.av1_tile.specs.Predicted.{predictions_of}
 use Rattle.av1_view.specs.Page.{page}
 use Rattle.av1_view.specs.Shown.{trace_page}
 
-pub page_is : (plan : PlanValue) (text planes bare_planes given : List ℕ) → text ≡ plan_text plan → planes ≡ planes_of plan
-    → bare_planes ≡ planes_of (bare plan) → page text planes bare_planes given ≡ trace_page plan given
+pub page_is : (plan : PlanValue) (text planes predictions given : List ℕ) → text ≡ plan_text plan → planes ≡ planes_of plan
+    → predictions ≡ predictions_of plan → page text planes predictions given ≡ trace_page plan given
 unfolding trace_page
-page_is plan text planes bare_planes given a b c =
-    ap (λ l. page l planes bare_planes given) a ∙ ap (λ l. page (plan_text plan) l bare_planes given) b
+page_is plan text planes predictions given a b c =
+    ap (λ l. page l planes predictions given) a ∙ ap (λ l. page (plan_text plan) l predictions given) b
     ∙ ap (λ l. page (plan_text plan) (planes_of plan) l given) c

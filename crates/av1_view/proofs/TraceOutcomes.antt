@@ -12,7 +12,7 @@ use Rattle.av1_trace.specs.Traces.{AreRefusedFor, IsTrace, max_trace_bytes}
 use Rattle.av1_trace.specs.declared.error.TraceError.{TraceError}
 use Rattle.av1_trace.proofs.Shapes.{one_plan, same_planes}
 use Rattle.av1_trace.proofs.TraceOutcomes.{one_outcome, trace_task_sound}
-use Rattle.av1_view.specs.Shown.{trace_page, IsSpelledWithin}
+use Rattle.av1_view.specs.Shown.{trace_page}
 use Rattle.av1_view.specs.TracePages.{HasTraceOutcome, trace_page_task}
 
 -- bytes are one trace
@@ -51,12 +51,6 @@ trace_page_task_sound = record {
   one = one;
   long = trace_task_sound.long;
 }
-
--- ---- what is found
-
--- its plan is spelled by some bytes
-pub trace_is_spelled : (bytes : List ℕ) (plan : PlanValue) (given : List ℕ) → IsTrace bytes plan given → IsSpelledWithin plan
-trace_is_spelled bytes plan given trace = (trace.plan, (trace.parts.short, trace.spelled.text))
 
 -- an answer says nothing more of the bytes
 pub says_nothing : {E : Type 0} (answer : Result (Unit {0}) E) → IfOk answer (λ done. Unit {0})

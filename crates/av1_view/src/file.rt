@@ -30,7 +30,7 @@ pub fn write_file_page<W: Sink>(file: &KeptFile, sink: &mut W) -> Result<(), Wri
     let shown = Shown {
         plan: &file.bytes,
         planes: &file.planes,
-        bare_planes: &[],
+        predictions: &[],
         given: &[],
     };
     write_page(shown, sink)

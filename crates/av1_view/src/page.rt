@@ -8,7 +8,8 @@ ghost use Rattle.av1_view.specs.Page.{page, piece_text};
 
 use crate::base64_text::write_base64;
 use crate::template::{
-    AFTER_SCRIPT, BEFORE_BARE, BEFORE_GIVEN, BEFORE_PLAN, BEFORE_PLANES, BEFORE_SCRIPT, SCRIPT,
+    AFTER_SCRIPT, BEFORE_GIVEN, BEFORE_PLAN, BEFORE_PLANES, BEFORE_PREDICTIONS, BEFORE_SCRIPT,
+    SCRIPT,
 };
 use av1_streams::{Sink, WriteFault, write_bytes};
 
@@ -19,8 +20,8 @@ pub struct Shown<'a> {
     pub plan: &'a [u8],
     /// Its planes.
     pub planes: &'a [u8],
-    /// The planes of the frame without coefficients.
-    pub bare_planes: &'a [u8],
+    /// What was predicted of its planes.
+    pub predictions: &'a [u8],
     /// The planes that a trace gives; none where there is no trace.
     pub given: &'a [u8],
 }
@@ -39,9 +40,9 @@ pub enum Piece<'a> {
 #[tactic(auto, unfolding(crate::specs::Page::page))]
 pub fn write_page<W: Sink>(shown: Shown<'_>, sink: &mut W) -> Result<(), WriteFault>
     ensures whole { OnOk result (Appends (W.taken sink.old) (W.taken sink.new)
-        (page shown.entry.plan.now shown.entry.planes.now shown.entry.bare_planes.now shown.entry.given.now)) }
+        (page shown.entry.plan.now shown.entry.planes.now shown.entry.predictions.now shown.entry.given.now)) }
     ensures prefix { AppendsPrefix (W.taken sink.old) (W.taken sink.new)
-        (page shown.entry.plan.now shown.entry.planes.now shown.entry.bare_planes.now shown.entry.given.now) }
+        (page shown.entry.plan.now shown.entry.planes.now shown.entry.predictions.now shown.entry.given.now) }
     ensures cause { HasCause (W.faults sink.old) (W.faults sink.new) result }
 {
     let pieces = [
@@ -49,8 +50,8 @@ pub fn write_page<W: Sink>(shown: Shown<'_>, sink: &mut W) -> Result<(), WriteFa
         Piece::Bytes(shown.plan),
         Piece::Text(BEFORE_PLANES),
         Piece::Bytes(shown.planes),
-        Piece::Text(BEFORE_BARE),
-        Piece::Bytes(shown.bare_planes),
+        Piece::Text(BEFORE_PREDICTIONS),
+        Piece::Bytes(shown.predictions),
         Piece::Text(BEFORE_GIVEN),
         Piece::Bytes(shown.given),
         Piece::Text(BEFORE_SCRIPT),

@@ -1,16 +1,14 @@
-//! The planes of a plan in memory, and those of the frame without coefficients.
-ghost use Rattle.std.specs.Prelude.{◌≡◌, ℕ, List, None, IfOk};
+//! The planes of a plan in memory, and what was predicted of them.
+ghost use Rattle.std.specs.Prelude.{◌≡◌, None, IfOk};
 ghost use Rattle.av1_plan.specs.Values.{plan_value};
 ghost use Rattle.av1_plan.specs.Validity.{first_fault};
-ghost use Rattle.av1_planwrite.specs.Bare.{bare, bare_text};
 ghost use Rattle.av1_tile.specs.Output.{planes_of};
-ghost use Rattle.av1_view.specs.Shown.{IsSpelledWithin};
+ghost use Rattle.av1_tile.specs.Predicted.{predictions_of};
 
 use crate::gathered::Gathered;
 use av1_blocks::OutOfMemory;
-use av1_plan::{Plan, PlanError, parse_plan};
-use av1_planwrite::write_bare;
-use av1_recon::reconstruct_valid;
+use av1_plan::Plan;
+use av1_recon::{reconstruct_valid, write_predictions};
 use std::alloc::Global;
 
 /// The bytes of the visible planes of a valid plan.
@@ -30,32 +28,19 @@ pub fn planes(alloc: Global, plan: &Plan) -> Result<Vec<u8>, OutOfMemory>
     }
 }
 
-/// The bytes of the visible planes of the frame without coefficients: of a valid plan of which all coefficients are
-/// left out.
+/// The bytes of what is predicted of the visible planes of a valid plan, before residues are added.
 ///
 /// # Errors
 ///
 /// `OutOfMemory` where memory runs out.
-pub fn bare_planes(alloc: Global, plan: &Plan) -> Result<Vec<u8>, OutOfMemory>
+pub fn predictions(alloc: Global, plan: &Plan) -> Result<Vec<u8>, OutOfMemory>
     requires valid { first_fault (plan_value plan.now) ≡ None }
-    requires spelled { IsSpelledWithin (plan_value plan.now) }
-    ensures { IfOk result (λ bytes. bytes.items ≡ planes_of (bare (plan_value plan.now))) }
+    ensures { IfOk result (λ bytes. bytes.items ≡ predictions_of (plan_value plan.now)) }
 {
-    let bare = bare(alloc, plan)?;
-    planes(alloc, &bare)
-}
-
-// The plan without its coefficients.
-fn bare(alloc: Global, plan: &Plan) -> Result<Plan, OutOfMemory>
-    requires valid { first_fault (plan_value plan.now) ≡ None }
-    requires spelled { IsSpelledWithin (plan_value plan.now) }
-    ensures value { IfOk result (λ found. plan_value found ≡ bare (plan_value plan.now)) }
-    ensures valid { IfOk result (λ found. first_fault (plan_value found) ≡ None) }
-{
-    let text = write_bare(alloc, plan)?;
-    match parse_plan(alloc, &text) {
-        Ok(found) => Ok(found),
-        Err(PlanError::Memory) => Err(OutOfMemory),
-        Err(PlanError::Malformed { .. }) => unreachable!(),
+    let mut sink = Gathered::new(alloc);
+    // As above.
+    match write_predictions(alloc, plan, &mut sink) {
+        Ok(()) => Ok(sink.into_bytes()),
+        Err(_) => Err(OutOfMemory),
     }
 }

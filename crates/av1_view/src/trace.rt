@@ -6,7 +6,7 @@ ghost use Rattle.av1_streams.specs.Tasks.{Performs, WritesBytes};
 ghost use Rattle.av1_trace.specs.Checking.{cause};
 ghost use Rattle.av1_trace.specs.Traces.{AreRefusedFor, IsTrace, max_trace_bytes};
 ghost use Rattle.av1_trace.specs.declared.error.TraceError.TheVariants.{Memory};
-ghost use Rattle.av1_view.specs.Shown.{IsSpelledWithin, trace_page};
+ghost use Rattle.av1_view.specs.Shown.{trace_page};
 ghost use Rattle.av1_view.specs.TracePages.{ReadsTrace, trace_page_task};
 
 use crate::page::{Shown, write_page};
@@ -81,14 +81,13 @@ fn append_trace<W: Sink>(
     sink: &mut W,
 ) -> Result<(), TraceError>
     requires valid { first_fault (plan_value plan.now) ≡ None }
-    requires spelled { IsSpelledWithin (plan_value plan.now) }
     ensures { WritesBytes cause W.taken W.faults sink.old sink.new (trace_page (plan_value plan.now) given.now) result }
 {
     let parts = gather(alloc, plan)?;
     let shown = Shown {
         plan: &parts.plan,
         planes: &parts.planes,
-        bare_planes: &parts.bare_planes,
+        predictions: &parts.predictions,
         given,
     };
     write_page(shown, sink)?;

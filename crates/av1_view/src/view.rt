@@ -2,15 +2,15 @@
 ghost use Rattle.std.specs.Prelude.{◌≡◌, None, IfOk};
 ghost use Rattle.av1_plan.specs.Values.{plan_value};
 ghost use Rattle.av1_plan.specs.Validity.{first_fault};
-ghost use Rattle.av1_planwrite.specs.Bare.{bare};
 ghost use Rattle.av1_planwrite.specs.Text.{plan_text};
 ghost use Rattle.av1_recon.specs.Outcomes.{Converts};
 ghost use Rattle.av1_recon.specs.Writing.{Writes};
 ghost use Rattle.av1_tile.specs.Output.{planes_of};
-ghost use Rattle.av1_view.specs.Shown.{IsSpelledWithin, plan_page};
+ghost use Rattle.av1_tile.specs.Predicted.{predictions_of};
+ghost use Rattle.av1_view.specs.Shown.{plan_page};
 
 use crate::page::{Shown, write_page};
-use crate::planes::{bare_planes, planes};
+use crate::planes::{planes, predictions};
 use av1_blocks::OutOfMemory;
 use av1_plan::Plan;
 use av1_planwrite::write_plan;
@@ -18,7 +18,7 @@ use av1_recon::{ReconError, Sink, Source, read_plan};
 use std::alloc::Global;
 
 /// Reads a plan from the source to its end, and appends a page to the sink that shows it: the constant parts of the
-/// page, and between them in base64 the plan's bytes, its visible planes, and those of the frame without coefficients.
+/// page, and between them in base64 the plan's bytes, its visible planes, and what was predicted of them.
 ///
 /// # Errors
 ///
@@ -42,8 +42,8 @@ pub struct Parts {
     pub plan: Vec<u8>,
     /// Its planes.
     pub planes: Vec<u8>,
-    /// The planes of the frame without coefficients.
-    pub bare_planes: Vec<u8>,
+    /// What was predicted of its planes.
+    pub predictions: Vec<u8>,
 }
 
 /// What the page of a valid plan shows.
@@ -53,15 +53,14 @@ pub struct Parts {
 /// `OutOfMemory` where memory runs out.
 pub fn gather(alloc: Global, plan: &Plan) -> Result<Parts, OutOfMemory>
     requires valid { first_fault (plan_value plan.now) ≡ None }
-    requires spelled { IsSpelledWithin (plan_value plan.now) }
     ensures plan { IfOk result (λ parts. parts.plan.items ≡ plan_text (plan_value plan.now)) }
     ensures planes { IfOk result (λ parts. parts.planes.items ≡ planes_of (plan_value plan.now)) }
-    ensures bare_planes { IfOk result (λ parts. parts.bare_planes.items ≡ planes_of (bare (plan_value plan.now))) }
+    ensures predictions { IfOk result (λ parts. parts.predictions.items ≡ predictions_of (plan_value plan.now)) }
 {
     Ok(Parts {
         plan: write_plan(alloc, plan)?,
         planes: planes(alloc, plan)?,
-        bare_planes: bare_planes(alloc, plan)?,
+        predictions: predictions(alloc, plan)?,
     })
 }
 
@@ -69,14 +68,13 @@ pub fn gather(alloc: Global, plan: &Plan) -> Result<Parts, OutOfMemory>
 #[tactic(auto, using(crate::proofs::Pages::page_is))]
 fn append_page<W: Sink>(alloc: Global, plan: &Plan, sink: &mut W) -> Result<(), ReconError>
     requires valid { first_fault (plan_value plan.now) ≡ None }
-    requires spelled { IsSpelledWithin (plan_value plan.now) }
     ensures { Writes W.taken W.faults sink.old sink.new (plan_page (plan_value plan.now)) result }
 {
     let parts = gather(alloc, plan)?;
     let shown = Shown {
         plan: &parts.plan,
         planes: &parts.planes,
-        bare_planes: &parts.bare_planes,
+        predictions: &parts.predictions,
         given: &[],
     };
     write_page(shown, sink)?;

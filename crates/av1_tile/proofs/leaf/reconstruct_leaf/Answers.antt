@@ -10,10 +10,13 @@ use Rattle.av1_plan.specs.Geometry.{carries_chroma}
 use Rattle.av1_tile.specs.Canvas.{Y, U, V}
 use Rattle.av1_tile.specs.PlaneBlocks.{is_from_luma}
 use Rattle.av1_tile.specs.Reference.{luma_for, luma_of}
-use Rattle.av1_tile.specs.Steps.{plane_steps}
-use Rattle.av1_tile.specs.Walk.{edges_in, fast_in, LumaFits, block_by, cell_at, filter_by, leaf_with, luma_block, with_header}
+use Rattle.av1_tile.specs.declared.planes.Planes.{Planes}
+use Rattle.av1_tile.specs.declared.predicted.PredictedPlanes.{PredictedPlanes}
+use Rattle.av1_tile.specs.Predicted.{Keeping, keeping_in}
+use Rattle.av1_tile.specs.Steps.{plane_steps, steps_of}
+use Rattle.av1_tile.specs.Walk.{edges_in, LumaFits, block_by, cell_at, filter_by, leaf_with, luma_block, with_header}
 use Rattle.av1_tile.proofs.LeafLuma.{HoldsLuma, luma_in_u, luma_in_v, plain_in_y}
-use Rattle.av1_tile.proofs.Lifts.{leaf_counted, leaf_walked, luma_counted, luma_same, luma_walked}
+use Rattle.av1_tile.proofs.Lifts.{kept_same, kept_walked, leaf_counted, leaf_kept, luma_counted, luma_kept}
 use Rattle.av1_tile.proofs.leaf.reconstruct_leaf.Goals.{then-is_from_luma, else-is_from_luma}
 use Rattle.av1_tile.proofs.leaf.reconstruct_leaf.Goals as goal
 
@@ -29,8 +32,8 @@ prepare_luma-requires-clause-fits g c =
     in record { narrow = f.narrow; low = f.low; width = f.width; height = f.height; few = f.few; columns = f.columns; rows = f.rows; depth = f.depth }) in
     subst (λ (k : PlaneConfig). LumaFits h k (leaf_with a.leaf.now [] [] [])) (sym c.reconstruct_leaf_in.ensures.kept.config) own
 
-pub returns-after-is_from_luma-clause-walked : goal.returns-after-is_from_luma-clause-walked
-returns-after-is_from_luma-clause-walked g c = λ value serves.
+pub returns-after-is_from_luma-clause-predictions : goal.returns-after-is_from_luma-clause-predictions
+returns-after-is_from_luma-clause-predictions g c = λ value serves.
     let a = c.args in
     let num = g.T.Pixel.num in
     let h = a.frame.now.header.now in
@@ -63,19 +66,37 @@ returns-after-is_from_luma-clause-walked g c = λ value serves.
     ] in
     let block = block_by h told Y l in
     let before = sample_at num a.planes.now.y in
+    let first = c.reconstruct_leaf_in.new.buffers.kept in
+    let second = c.reconstruct_leaf_in-then-carries_chroma.new.buffers.kept in
+    let kept : c.if-is_from_luma.buffers.kept ≡ first = elim c.if-is_from_luma.branch [
+      | then-is_from_luma w ↦ ap (λ (b : _). b.kept) w.buffers-is
+      | else-is_from_luma w ↦ ap (λ (b : _). b.kept) w.buffers-is
+    ] in
     let same_y =
-    luma_same num g.T.Pixel.pixel plan 0 (λ _. ac_at (tx_width block.area.tx_size) a.buffers.now.luma.items)
+    kept_same num g.T.Pixel.pixel plan 0 (λ _. ac_at (tx_width block.area.tx_size) a.buffers.now.luma.items)
     (luma_for h before Y) block (plain_in_y h l (filter_by h told Y l) before (tx_width block.area.tx_size) a.buffers.now.luma.items) h a.y.now
-    a.planes.now.y in
-    let same_u = luma_same num g.T.Pixel.pixel plan 1 (λ _. ac_at (tx_width (block_by h told U l).area.tx_size) luma) (luma_for h samples U)
-    (block_by h told U l) (luma_in_u h samples l luma holds (filter_by h told U l)) h a.u.now a.planes.now.u in
-    let same_v = luma_same num g.T.Pixel.pixel plan 2 (λ _. ac_at (tx_width (block_by h told V l).area.tx_size) luma) (luma_for h samples V)
-    (block_by h told V l) (luma_in_v h samples l luma holds (filter_by h told V l)) h a.v.now a.planes.now.v in
-    leaf_walked num g.T.Pixel.pixel plan a.planes.now _ (λ k. block_by h told k l) l carried
-    (c.reconstruct_leaf_in.ensures.walked value serves ∙ same_y) (c.reconstruct_leaf_in-then-carries_chroma.ensures.walked value serves ∙ same_u)
-    (c.reconstruct_leaf_in-then-carries_chroma-2.ensures.walked value serves
-    ∙ ap (λ (ac : List ℤ). fold (fast_in num g.T.Pixel.pixel plan 2 (λ _. ac_at (tx_width (block_by h told V l).area.tx_size) ac)) a.planes.now.v
-    (plane_steps h (block_by h told V l) a.v.now)) c.reconstruct_leaf_in-then-carries_chroma.ensures.luma ∙ same_v)
+    (a.planes.now.y, a.buffers.now.kept) in
+    let same_u = kept_same num g.T.Pixel.pixel plan 1 (λ _. ac_at (tx_width (block_by h told U l).area.tx_size) luma) (luma_for h samples U)
+    (block_by h told U l) (luma_in_u h samples l luma holds (filter_by h told U l)) h a.u.now (a.planes.now.u, first) in
+    let same_v = kept_same num g.T.Pixel.pixel plan 2 (λ _. ac_at (tx_width (block_by h told V l).area.tx_size) luma) (luma_for h samples V)
+    (block_by h told V l) (luma_in_v h samples l luma holds (filter_by h told V l)) h a.v.now (a.planes.now.v, second) in
+    leaf_kept num g.T.Pixel.pixel plan a.planes.now _ a.buffers.now.kept first second c.reconstruct_leaf_in-then-carries_chroma-2.new.buffers.kept
+    (λ k. block_by h told k l) l carried (c.reconstruct_leaf_in.ensures.predictions value serves ∙ same_y)
+    (c.reconstruct_leaf_in-then-carries_chroma.ensures.predictions value serves
+    ∙ ap (λ (k : PredictedPlanes _). fold (keeping_in num g.T.Pixel.pixel plan 1 (λ _. ac_at (tx_width (block_by h told U l).area.tx_size) luma))
+    (a.planes.now.u, k) (plane_steps h (block_by h told U l) a.u.now)) kept ∙ same_u)
+    (c.reconstruct_leaf_in-then-carries_chroma-2.ensures.predictions value serves
+    ∙ ap (λ (ac : List ℤ). fold (keeping_in num g.T.Pixel.pixel plan 2 (λ _. ac_at (tx_width (block_by h told V l).area.tx_size) ac))
+    (a.planes.now.v, second) (plane_steps h (block_by h told V l) a.v.now)) c.reconstruct_leaf_in-then-carries_chroma.ensures.luma ∙ same_v)
+
+pub returns-after-is_from_luma-clause-walked : goal.returns-after-is_from_luma-clause-walked
+returns-after-is_from_luma-clause-walked g c = λ value serves.
+    let a = c.args in
+    let h = a.frame.now.header.now in
+    let l = leaf_with a.leaf.now a.y.now a.u.now a.v.now in
+    ap (λ (s : Keeping (Planes _) _). s.0) (returns-after-is_from_luma-clause-predictions g c value serves)
+    ∙ kept_walked g.T.Pixel.num g.T.Pixel.pixel (with_header h value) (a.planes.now, a.buffers.now.kept)
+    (steps_of h (λ k. block_by h (cell_at a.frame.now.cells.now) k l) l)
 
 pub returns-after-is_from_luma-clause-counted : goal.returns-after-is_from_luma-clause-counted
 returns-after-is_from_luma-clause-counted g c =
@@ -94,8 +115,8 @@ returns-after-is_from_luma-clause-counted g c =
     ∙ ap (λ (n : ℕ). fold edges_in n (plane_steps h (block_by h (cell_at a.frame.now.cells.now) U l) a.u.now)) kept)
     c.reconstruct_leaf_in-then-carries_chroma-2.ensures.counted
 
-pub returns-else-carries_chroma-clause-walked : goal.returns-else-carries_chroma-clause-walked
-returns-else-carries_chroma-clause-walked g c = λ value serves.
+pub returns-else-carries_chroma-clause-predictions : goal.returns-else-carries_chroma-clause-predictions
+returns-else-carries_chroma-clause-predictions g c = λ value serves.
     let a = c.args in
     let num = g.T.Pixel.num in
     let h = a.frame.now.header.now in
@@ -106,11 +127,20 @@ returns-else-carries_chroma-clause-walked g c = λ value serves.
     let block = block_by h told Y l in
     let before = sample_at num a.planes.now.y in
     let same_y =
-    luma_same num g.T.Pixel.pixel plan 0 (λ _. ac_at (tx_width block.area.tx_size) a.buffers.now.luma.items)
+    kept_same num g.T.Pixel.pixel plan 0 (λ _. ac_at (tx_width block.area.tx_size) a.buffers.now.luma.items)
     (luma_for h before Y) block (plain_in_y h l (filter_by h told Y l) before (tx_width block.area.tx_size) a.buffers.now.luma.items) h a.y.now
-    a.planes.now.y in
-    luma_walked num g.T.Pixel.pixel plan a.planes.now _ (λ k. block_by h told k l) l carried (c.reconstruct_leaf_in.ensures.walked value serves
-    ∙ same_y) refl refl
+    (a.planes.now.y, a.buffers.now.kept) in
+    luma_kept num g.T.Pixel.pixel plan a.planes.now _ a.buffers.now.kept c.reconstruct_leaf_in.new.buffers.kept (λ k. block_by h told k l) l carried
+    (c.reconstruct_leaf_in.ensures.predictions value serves ∙ same_y) refl refl
+
+pub returns-else-carries_chroma-clause-walked : goal.returns-else-carries_chroma-clause-walked
+returns-else-carries_chroma-clause-walked g c = λ value serves.
+    let a = c.args in
+    let h = a.frame.now.header.now in
+    let l = leaf_with a.leaf.now a.y.now a.u.now a.v.now in
+    ap (λ (s : Keeping (Planes _) _). s.0) (returns-else-carries_chroma-clause-predictions g c value serves)
+    ∙ kept_walked g.T.Pixel.num g.T.Pixel.pixel (with_header h value) (a.planes.now, a.buffers.now.kept)
+    (steps_of h (λ k. block_by h (cell_at a.frame.now.cells.now) k l) l)
 
 pub returns-else-carries_chroma-clause-counted : goal.returns-else-carries_chroma-clause-counted
 returns-else-carries_chroma-clause-counted g c =

@@ -9,6 +9,8 @@ use Rattle.av1_plan.specs.declared.leaf.Leaf.{Leaf}
 use Rattle.av1_plan.specs.declared.leaf.LeafKind.TheVariants.{Intra}
 use Rattle.av1_plan.specs.Values.{leaf_list, leaves_value, triple_list}
 use Rattle.av1_plan.specs.Plan.{LeafValue}
+use Rattle.av1_tile.specs.declared.planes.Planes.{Planes}
+use Rattle.av1_tile.specs.Predicted.{Keeping, keeping_step}
 use Rattle.av1_tile.specs.Walk.{cell_at, edges_after, fast_step, steps_by, with_header, with_leaves}
 use Rattle.av1_tile.proofs.Lifts.{layout_kept}
 use Rattle.av1_tile.proofs.PlanFits.{whole_frame}
@@ -37,6 +39,7 @@ loop-index-init g c = record {
   layout = record { y = refl; u = refl; v = refl };
   cells = c.requires.cells;
   count = refl;
+  predictions = λ value serves. refl;
   told = λ cx cy hx hy. refl;
 }
 
@@ -77,6 +80,12 @@ loop-index-preserved g c =
       layout = layout_kept c.args.planes.now c.loop-index.planes c.reconstruct_leaf.new.planes held.layout turn.kept.layout;
       cells = c.note.ensures.cells;
       count = c.note.ensures.count ∙ held.count;
+      predictions = λ value serves.
+          let keep = keeping_step g.T.Pixel.num g.T.Pixel.pixel (with_header h value) in
+          let now : Keeping (Planes _) _ = (c.loop-index.planes, c.loop-index.buffers.kept) in
+          leaf_more keep leaves h i _ start (c.args.planes.now, c.args.buffers.now.kept) now
+          (c.reconstruct_leaf.new.planes, c.reconstruct_leaf.new.buffers.kept) a.inside a.is (held.predictions value serves)
+          (turn.predictions value serves ∙ ap (fold keep now) own);
       told = told_more leaves h i _ start told (cell_at c.note.new.self) a.inside a.is held.told
           (λ cx cy hx hy. c.note.ensures.noted cx cy (omega (arith, hx, held.cells.columns)) (omega (arith, hy, held.cells.rows)));
     }
@@ -100,3 +109,12 @@ returns-clause-counted g c =
     c.loop-index.invariant.counted
     ∙ ap (λ (ls : List LeafValue). fold edges_after c.args.buffers.now.edges.prepared (steps_by c.args.header.now (cell_at c.args.cells.now) ls))
     (take_all c.loop-index.index all past)
+
+pub returns-clause-predictions : goal.returns-clause-predictions
+returns-clause-predictions g c = λ value serves.
+    let leaves = c.args.leaves.now in
+    let past : length (leaves_value leaves) ≤ c.loop-index.index =
+    omega (arith, length_leaves (triple_list leaves) (leaf_list leaves), ap length c.leaves-index-end.ensures.items) in
+    c.loop-index.invariant.predictions value serves
+    ∙ ap (λ (ls : List LeafValue). fold (keeping_step g.T.Pixel.num g.T.Pixel.pixel (with_header c.args.header.now value))
+    (c.args.planes.now, c.args.buffers.now.kept) (steps_by c.args.header.now (cell_at c.args.cells.now) ls)) (take_all c.loop-index.index _ past)

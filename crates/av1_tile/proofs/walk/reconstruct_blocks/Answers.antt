@@ -6,9 +6,11 @@ use Rattle.av1_intra.specs.ChromaFromLuma.{ac_at}
 use Rattle.av1_plan.specs.Plan.{PlanValue}
 use Rattle.av1_plan.specs.Geometry.{block_count, transform_block}
 use Rattle.av1_tile.specs.declared.plane_block.PlaneBlock.{PlaneBlock}
+use Rattle.av1_tile.specs.declared.predicted.PredictedPlanes.{PredictedPlanes}
+use Rattle.av1_tile.specs.Predicted.{Keeping, keeping_in}
 use Rattle.av1_tile.specs.Steps.{joined, steps_at}
 use Rattle.av1_tile.specs.Walk.{Stores, edges_in, fast_in, with_header}
-use Rattle.av1_tile.proofs.BlockTriples.{IsRun, run_within, run_before, run_behind, run_is_own, own_edges, own_fits, own_steps}
+use Rattle.av1_tile.proofs.BlockTriples.{IsRun, run_within, run_before, run_behind, run_is_own, own_edges, own_fits, own_kept, own_steps}
 use Rattle.av1_tile.proofs.BlockSteps.{no_steps, some_across}
 use Rattle.av1_tile.proofs.Loops.{fold_joined_more, fold_joined_none}
 use Rattle.av1_tile.proofs.walk.reconstruct_blocks.Goals.{in-Some, in_default}
@@ -32,6 +34,8 @@ loop-n-init g c =
       behind = λ k d le l. omega arith;
       column = λ l. omega (arith, some_across block.area (omega (arith, l, c.block_count-n-end.ensures.value)), c.blocks_across-across.ensures.value);
       number = omega arith;
+      predictions = λ value.
+          fold_joined_none (keeping_in g.T.Pixel.num g.T.Pixel.pixel (with_header h value) block.plane luma) (a.plane.now, a.buffers.now.kept) steps;
     }
 
 pub reconstruct_block-requires-clause-fits : goal.reconstruct_block-requires-clause-fits
@@ -48,6 +52,7 @@ loop-n-preserved g c =
     let all = a.triples.now in
     let luma : PlaneBlock → ℕ → ℕ → ℤ = λ _. ac_at (tx_width block.area.tx_size) a.buffers.now.luma.items in
     let step = λ (value : PlanValue). fast_in g.T.Pixel.num g.T.Pixel.pixel (with_header h value) block.plane luma in
+    let keep = λ (value : PlanValue). keeping_in g.T.Pixel.num g.T.Pixel.pixel (with_header h value) block.plane luma in
     let n = c.loop-n.n in
     let at = c.loop-n.at in
     let count = c.leading_count.result in
@@ -56,6 +61,8 @@ loop-n-preserved g c =
     let after = c.match-place_in.plane in
     let edges = c.loop-n.buffers.edges.prepared in
     let edges_after = c.match-place_in.buffers.edges.prepared in
+    let kept = c.loop-n.buffers.kept in
+    let kept_after = c.match-place_in.buffers.kept in
     let held = c.loop-n.invariant in
     let run : IsRun n all at count = record {
       within = held.within;
@@ -67,7 +74,8 @@ loop-n-preserved g c =
       end = c.leading_count.ensures.end;
     } in
     let turn : ((value : PlanValue) → after ≡ fold (step value) before (steps_at h block all n)) × (edges_after ≡ fold edges_in edges (steps_at h block all n))
-    × Stores g.T.Pixel.num h block.plane after × (after.plane_cfg ≡ before.plane_cfg) × (c.match-place_in.buffers.luma.items ≡ c.loop-n.buffers.luma.items) =
+    × Stores g.T.Pixel.num h block.plane after × (after.plane_cfg ≡ before.plane_cfg) × (c.match-place_in.buffers.luma.items ≡ c.loop-n.buffers.luma.items)
+    × ((value : PlanValue) → (after, kept_after) ≡ fold (keep value) (before, kept) (steps_at h block all n)) =
     elim c.match-place_in.branch [
       | in-Some w ↦
           let number : w.in-Some.place.number ≡ n = w.in-Some.ensures.some.1 in
@@ -78,13 +86,21 @@ loop-n-preserved g c =
                 (fast_in g.T.Pixel.num g.T.Pixel.pixel (with_header h value) block.plane (λ _. ac_at (tx_width block.area.tx_size) ac)) before
                 (steps_at h block own w.in-Some.place.number)) held.luma
                 ∙ ap (λ (m : ℕ). fold (step value) before (steps_at h block own m)) number
-                ∙ own_steps g.T.Pixel.num g.T.Pixel.pixel (with_header h value) block.plane luma h block all n at end before
-                (run_is_own n all at count run),
+                ∙ own_steps g.T.Pixel.num g.T.Pixel.pixel (with_header h value) block.plane luma h block all n at end (run_is_own n all at count run)
+                before,
             ap (λ (b : _). b.edges.prepared) w.buffers-is ∙ one.counted ∙ ap (λ (m : ℕ). fold edges_in edges (steps_at h block own m)) number
                 ∙ own_edges h block own all n edges,
             subst (Stores g.T.Pixel.num h block.plane) (sym w.plane-is) one.kept.stores,
             ap (λ (p : Plane _). p.plane_cfg) w.plane-is ∙ one.kept.config,
             ap (λ (b : _). b.luma.items) w.buffers-is ∙ one.luma,
+            λ value. ap (λ (z : Plane _). (z, kept_after)) w.plane-is ∙ ap (λ (b : _). (w.reconstruct_block.new.plane, b.kept)) w.buffers-is
+                ∙ one.predictions value
+                ∙ ap (λ (ac : List ℤ). fold
+                (keeping_in g.T.Pixel.num g.T.Pixel.pixel (with_header h value) block.plane (λ _. ac_at (tx_width block.area.tx_size) ac)) (before, kept)
+                (steps_at h block own w.in-Some.place.number)) held.luma
+                ∙ ap (λ (m : ℕ). fold (keep value) (before, kept) (steps_at h block own m)) number
+                ∙ own_kept g.T.Pixel.num g.T.Pixel.pixel (with_header h value) block.plane luma h block all n at end (run_is_own n all at count run)
+                (before, kept),
           )
       | in_default w ↦
           let none : transform_block h block.plane block.area n ≡ None = w.in_default.ensures.none in (
@@ -93,6 +109,8 @@ loop-n-preserved g c =
             subst (Stores g.T.Pixel.num h block.plane) (sym w.plane-is) held.stores,
             ap (λ (p : Plane _). p.plane_cfg) w.plane-is,
             ap (λ (b : _). b.luma.items) w.buffers-is,
+            λ value. ap (λ (z : Plane _). (z, kept_after)) w.plane-is ∙ ap (λ (b : _). (before, b.kept)) w.buffers-is
+                ∙ no_steps (keep value) h block all n (before, kept) none,
           )
     ] in
     record {
@@ -106,6 +124,9 @@ loop-n-preserved g c =
       behind = run_behind n all at count run;
       column = λ l. c.next_place-place.ensures.column;
       number = c.next_place-place.ensures.number ∙ ap (λ (m : ℕ). m + 1) held.number;
+      predictions = λ value.
+          fold_joined_more (keep value) (a.plane.now, a.buffers.now.kept) (before, kept) (after, kept_after) n (steps_at h block all) (held.predictions value)
+          (turn.5 value);
     }
 
 pub returns-clause-walked : goal.returns-clause-walked
@@ -116,4 +137,14 @@ returns-clause-walked g c = λ value.
     let luma : PlaneBlock → ℕ → ℕ → ℤ = λ _. ac_at (tx_width block.area.tx_size) a.buffers.now.luma.items in
     c.loop-n.invariant.walked value
     ∙ ap (λ (m : ℕ). fold (fast_in g.T.Pixel.num g.T.Pixel.pixel (with_header a.header.now value) block.plane luma) a.plane.now
+    (joined m (steps_at a.header.now block a.triples.now))) all
+
+pub returns-clause-predictions : goal.returns-clause-predictions
+returns-clause-predictions g c = λ value.
+    let a = c.args in
+    let block = a.block.now in
+    let all : c.loop-n.n ≡ block_count block.area = omega (arith, c.loop-n-test.false, c.loop-n.auto.n-end, c.block_count-n-end.ensures.value) in
+    let luma : PlaneBlock → ℕ → ℕ → ℤ = λ _. ac_at (tx_width block.area.tx_size) a.buffers.now.luma.items in
+    c.loop-n.invariant.predictions value
+    ∙ ap (λ (m : ℕ). fold (keeping_in g.T.Pixel.num g.T.Pixel.pixel (with_header a.header.now value) block.plane luma) (a.plane.now, a.buffers.now.kept)
     (joined m (steps_at a.header.now block a.triples.now))) all

@@ -3,9 +3,11 @@ use Rattle.av1_blocks.specs.Transforms.{tx_width}
 use Rattle.av1_intra.specs.ChromaFromLuma.{ac_at}
 use Rattle.av1_tile.specs.declared.plane_block.PlaneBlock.{PlaneBlock}
 use Rattle.av1_tile.specs.Reference.{no_luma}
+use Rattle.av1_tile.specs.Predicted.{keeping_in}
 use Rattle.av1_tile.specs.Walk.{edges_in, fast_in, with_header}
 use Rattle.av1_tile.proofs.BlockSteps.{all_steps, fits_laid, whole_between, whole_counted, whole_inside, whole_layout}
-use Rattle.av1_tile.proofs.BlockTriples.{none_counted, none_walked}
+use Rattle.av1_tile.proofs.BlockTriples.{none_counted, none_kept, none_walked}
+use Rattle.av1_tile.proofs.Keeping.{whole_steps_kept}
 use Rattle.av1_tile.proofs.Lifts.{whole_steps_same}
 use Rattle.av1_tile.proofs.walk.reconstruct_plane_block.Goals as goal
 
@@ -20,6 +22,23 @@ predict_whole-requires-clause-fits g c =
 pub predict_whole-requires-clause-references : goal.predict_whole-requires-clause-references
 predict_whole-requires-clause-references g c =
     let own = c.requires.frame.references in (with_header c.args.frame.now.header.now own.0, (own.1, c.requires.fits.prediction))
+
+pub keep_whole-requires : goal.keep_whole-requires
+keep_whole-requires g c =
+    let a = c.args in
+    let own = c.requires.frame.references in
+    let plan = with_header a.frame.now.header.now own.0 in
+    let whole = c.predict_whole.ensures plan own.1 c.requires.fits.prediction in
+    let stores =
+    whole_between g.T.Pixel.num g.T.Pixel.pixel g.met.T.Pixel.num_of_pixel g.met.T.Pixel.pixel_of_num plan a.frame.now.fi.now own.1 a.block.now
+    c.requires.plane c.requires.fits.prediction a.plane.now c.predict_whole.new.plane whole c.requires.stores in
+    let laid =
+    whole_layout g.T.Pixel.num g.T.Pixel.pixel g.met.T.Pixel.num_of_pixel g.met.T.Pixel.pixel_of_num plan a.frame.now.fi.now own.1 a.block.now
+    c.requires.plane c.requires.fits.prediction a.plane.now c.predict_whole.new.plane whole in
+    record {
+      fits = whole_inside plan.header a.block.now a.triples.now c.predict_whole.new.plane stores.place
+          (fits_laid plan.header a.block.now a.triples.now a.plane.now.plane_cfg c.predict_whole.new.plane.plane_cfg laid c.requires.fits);
+    }
 
 pub reconstruct_blocks-requires-clause-held : goal.reconstruct_blocks-requires-clause-held
 reconstruct_blocks-requires-clause-held g c =
@@ -114,3 +133,35 @@ returns-clause-kept g c =
           c.requires.plane c.requires.fits.prediction a.plane.now c.predict_whole.new.plane
           (c.predict_whole.ensures plan own.1 c.requires.fits.prediction);
     }
+
+pub returns-then-is_only_predicted-clause-predictions : goal.returns-then-is_only_predicted-clause-predictions
+returns-then-is_only_predicted-clause-predictions g c = λ value serves.
+    let a = c.args in
+    let plan = with_header a.frame.now.header.now value in
+    let block = a.block.now in
+    let luma : PlaneBlock → ℕ → ℕ → ℤ = λ _. ac_at (tx_width block.area.tx_size) a.buffers.now.luma.items in
+    let between = c.predict_whole.new.plane in
+    let kept = c.keep_whole.new.kept in
+    let whole = c.predict_whole.ensures plan serves c.requires.fits.prediction in
+    let stores =
+    whole_between g.T.Pixel.num g.T.Pixel.pixel g.met.T.Pixel.num_of_pixel g.met.T.Pixel.pixel_of_num plan a.frame.now.fi.now serves block
+    c.requires.plane c.requires.fits.prediction a.plane.now between whole c.requires.stores in
+    all_steps (keeping_in g.T.Pixel.num g.T.Pixel.pixel plan block.plane luma) plan.header block a.triples.now (a.plane.now, a.buffers.now.kept)
+    (between, kept) (between, kept)
+    (whole_steps_kept g.T.Pixel.num g.T.Pixel.pixel plan block.plane luma a.plane.now between a.buffers.now.kept kept block
+    (whole ∙ whole_steps_same g.T.Pixel.num g.T.Pixel.pixel plan block.plane (λ _. no_luma) luma block a.plane.now) c.keep_whole.ensures)
+    (none_kept block a.triples.now (c.is_only_predicted.ensures.whole c.if-is_only_predicted.true) g.T.Pixel.num g.T.Pixel.pixel
+    g.met.T.Pixel.pixel_of_num plan luma between (c.is_only_predicted.ensures.none c.if-is_only_predicted.true) stores.within kept)
+
+pub returns-clause-predictions : goal.returns-clause-predictions
+returns-clause-predictions g c = λ value serves.
+    let a = c.args in
+    let plan = with_header a.frame.now.header.now value in
+    let block = a.block.now in
+    let luma : PlaneBlock → ℕ → ℕ → ℤ = λ _. ac_at (tx_width block.area.tx_size) a.buffers.now.luma.items in
+    all_steps (keeping_in g.T.Pixel.num g.T.Pixel.pixel plan block.plane luma) plan.header block a.triples.now (a.plane.now, a.buffers.now.kept)
+    (c.predict_whole.new.plane, c.keep_whole.new.kept) (c.reconstruct_blocks.new.plane, c.reconstruct_blocks.new.buffers.kept)
+    (whole_steps_kept g.T.Pixel.num g.T.Pixel.pixel plan block.plane luma a.plane.now c.predict_whole.new.plane a.buffers.now.kept c.keep_whole.new.kept
+    block (c.predict_whole.ensures plan serves c.requires.fits.prediction
+    ∙ whole_steps_same g.T.Pixel.num g.T.Pixel.pixel plan block.plane (λ _. no_luma) luma block a.plane.now) c.keep_whole.ensures)
+    (c.reconstruct_blocks.ensures.predictions value)

@@ -1,0 +1,136 @@
+-- The predictions of a plan: the canvas of its Predict steps alone, beside the canvas of all its steps.
+-- AV1 specification: prediction processes, as the decode block syntax calls them.
+use Rattle.std.specs.Prelude.{ℕ, ◌+◌, ◌*◌, ◌≡◌, List, map, replicate, Some, ℤ}
+use Rattle.std.specs.List.{fold}
+use Rattle.av1_blocks.specs.Transforms.{tx_width}
+use Rattle.av1_frame.specs.declared.plane.Plane.{Plane}
+use Rattle.av1_frame.specs.declared.plane_region.StoredArea.{StoredArea}
+use Rattle.av1_frame.specs.Areas.{VisibleArea}
+use Rattle.av1_frame.specs.Planes.{sample_at}
+use Rattle.av1_frame.specs.Samples.{paint}
+use Rattle.av1_intra.specs.ChromaFromLuma.{ac_at}
+use Rattle.av1_plan.specs.declared.header.Header.{Header}
+use Rattle.av1_plan.specs.Geometry.{plane_height, plane_width}
+use Rattle.av1_plan.specs.Plan.{PlanValue}
+use Rattle.av1_tile.specs.declared.plane_block.PlaneBlock.{PlaneBlock}
+use Rattle.av1_tile.specs.declared.planes.Planes.{Planes}
+use Rattle.av1_tile.specs.declared.predicted.PredictedPlanes.{PredictedPlanes}
+use Rattle.av1_tile.specs.Canvas.{Component, Y, U, V, Written, Canvas, blank, drawn, with_written}
+use Rattle.av1_tile.specs.Edge.{sample_of}
+use Rattle.av1_tile.specs.Output.{by_rows, visible}
+use Rattle.av1_tile.specs.PlaneBlocks.{component, extent_of, number}
+use Rattle.av1_tile.specs.Reference.{predicted, slow_step}
+use Rattle.av1_tile.specs.SampleRows.{SampleRows}
+use Rattle.av1_tile.specs.Steps.{Step, predict, add, PlaneStep, steps}
+use Rattle.av1_tile.specs.Walk.{fast_in, fast_step, plane_of, with_header}
+
+-- ---- the definition
+
+-- what has been written so far, and what has been predicted
+pub record Progress : Type 0 where
+  pub canvas : Canvas
+  pub predictions : Canvas
+
+-- what a step leaves of the predictions of its plane: a Predict step draws what it predicts, an Add step nothing
+unfoldable pub predictions_in : PlanValue → Canvas → Component → Step → Written → Written
+predictions_in plan canvas component (predict block n a) before =
+    drawn a (λ r c _. Some (predicted plan canvas component block a r c)) before
+predictions_in plan canvas component (add block triples n a) before = before
+
+-- both canvases after a step of the plan
+unfoldable pub slow_progress : PlanValue → Progress → PlaneStep → Progress
+slow_progress plan p s = record {
+  canvas = slow_step plan p.canvas s;
+  predictions = with_written s.component (predictions_in plan p.canvas s.component s.step (p.predictions s.component))
+      p.predictions;
+}
+
+-- nothing is written, and nothing predicted
+abbrev pub no_progress : Progress
+no_progress = record { canvas = blank; predictions = blank }
+
+-- what every Predict step of the plan has left
+unfoldable pub slow_predictions : PlanValue → Canvas
+slow_predictions plan = (fold (slow_progress plan) no_progress (steps plan.header plan.leaves)).predictions
+
+-- the bytes of the predictions of the visible planes
+unfoldable pub predictions_of : PlanValue → List ℕ
+predictions_of plan = visible plan.header (λ component x y. sample_of (slow_predictions plan component x y))
+
+-- ---- what the walk keeps of them
+
+-- the predictions of a plane, and all of them with others in place of that plane's
+abbrev pub rows_in : {T : Type 0} → Component → PredictedPlanes T → SampleRows T
+rows_in Y kept = kept.y
+rows_in U kept = kept.u
+rows_in V kept = kept.v
+
+abbrev pub with_rows : {T : Type 0} → Component → PredictedPlanes T → SampleRows T → PredictedPlanes T
+with_rows Y kept rows = record kept { y = rows }
+with_rows U kept rows = record kept { u = rows }
+with_rows V kept rows = record kept { v = rows }
+
+-- a rectangle of visible samples, whose rows are all that is stored
+abbrev pub visible_in : StoredArea → VisibleArea
+visible_in a = record { x = a.x; y = a.y; width = a.width; height = a.height }
+
+abbrev pub stored_in : VisibleArea → StoredArea
+stored_in a = record { x = a.x; y = a.y; width = a.width; height = a.height }
+
+-- rows of visible samples with those of a plane's rectangle a in place of their own
+abbrev pub copied : {T : Type 0} → (T → ℕ) → (ℕ → T) → Plane T → StoredArea → SampleRows T → SampleRows T
+copied num pixel plane a rows = record {
+  width = rows.width;
+  samples = paint rows.width a (λ r c _. pixel (sample_at num plane (a.x + c) (a.y + r))) rows.samples;
+}
+
+-- what is kept after a step that has left plane p so: of a Predict step its rectangle, of an Add step nothing more
+unfoldable pub kept_in : {T : Type 0} → (T → ℕ) → (ℕ → T) → (p : ℕ) → Plane T → PredictedPlanes T → Step →
+    PredictedPlanes T
+kept_in num pixel p plane kept (predict block n a) =
+    with_rows (component p) kept (copied num pixel plane (stored_in a) (rows_in (component p) kept))
+kept_in num pixel p plane kept (add block triples n a) = kept
+
+-- a plane, or all three, and what is kept beside
+abbrev pub Keeping : (X T : Type 0) → Type 0
+Keeping X T = X × PredictedPlanes T
+
+-- both after a step in plane p of a plan
+unfoldable pub keeping_in : {T : Type 0} → (T → ℕ) → (ℕ → T) → PlanValue → (p : ℕ) →
+    (luma : PlaneBlock → ℕ → ℕ → ℤ) → Keeping (Plane T) T → Step → Keeping (Plane T) T
+keeping_in num pixel plan p luma s step =
+    let plane = fast_in num pixel plan p luma s.0 step in (plane, kept_in num pixel p plane s.1 step)
+
+-- what steps of a block make of both, in any plan with this header; `luma` is how far luma is from its mean, row by row
+abbrev pub WalksKeeping : {T : Type 0} → (T → ℕ) → (ℕ → T) → Header → PlaneBlock → (luma : List ℤ) → List Step →
+    (before after : Keeping (Plane T) T) → Type 0
+WalksKeeping num pixel h block luma steps before after =
+    (value : PlanValue) →
+    after ≡
+    fold (keeping_in num pixel (with_header h value) block.plane (λ _. ac_at (tx_width block.area.tx_size) luma))
+    before steps
+
+-- both after a step in any plane
+unfoldable pub keeping_step : {T : Type 0} → (T → ℕ) → (ℕ → T) → PlanValue → Keeping (Planes T) T → PlaneStep →
+    Keeping (Planes T) T
+keeping_step num pixel plan s step =
+    let planes = fast_step num pixel plan s.0 step in
+    (planes, kept_in num pixel (number step.component) (plane_of step.component planes) s.1 step.step)
+
+-- ---- what callers see of it
+
+-- zeros for each visible sample of a plane, and of all three
+abbrev pub no_rows : {T : Type 0} → (ℕ → T) → Header → (p : ℕ) → SampleRows T
+no_rows pixel h p =
+    record { width = plane_width h p; samples = replicate (plane_height h p * plane_width h p) (pixel 0) }
+
+pub record AreBlank {T : Type 0} (pixel : ℕ → T) (h : Header) (kept : PredictedPlanes T) : Type 0 where
+  pub y : kept.y ≡ no_rows pixel h 0
+  pub u : kept.u ≡ no_rows pixel h 1
+  pub v : kept.v ≡ no_rows pixel h 2
+
+-- the predictions of each plane are those of a plan, row by row
+abbrev pub ShowsPredictions : {T : Type 0} → (T → ℕ) → PlanValue → PredictedPlanes T → Type 0
+ShowsPredictions num plan kept =
+    (k : Component) → map num (rows_in k kept).samples ≡
+    by_rows (extent_of plan.header (number k)) (λ x y. sample_of (slow_predictions plan k x y))

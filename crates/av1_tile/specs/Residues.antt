@@ -1,0 +1,46 @@
+-- The residue of a plan: what its Add steps change of each sample, once it is predicted.
+-- AV1 specification: reconstruction process.
+use Rattle.std.specs.Prelude.{◌≡◌, ℕ, ℤ, pos, ◌+ℤ◌, ◌-ℤ◌, if◌then◌else◌}
+use Rattle.std.specs.List.{fold}
+use Rattle.av1_frame.specs.Areas.{in_visible}
+use Rattle.av1_plan.specs.Plan.{PlanValue}
+use Rattle.av1_tile.specs.Canvas.{Component, Written, Canvas, blank, is_same}
+use Rattle.av1_tile.specs.Edge.{sample_of}
+use Rattle.av1_tile.specs.Predicted.{slow_predictions}
+use Rattle.av1_tile.specs.Reference.{slow_step, slow_walk}
+use Rattle.av1_tile.specs.Steps.{Step, predict, add, PlaneStep, steps}
+
+-- what has been written so far, and what Add steps have changed of each sample since it was predicted
+pub record Adding : Type 0 where
+  pub canvas : Canvas
+  pub residue : Component → ℕ → ℕ → ℤ
+
+-- what a step that turns `before` into `after` leaves of the residue of its plane: where a Predict step draws there is
+-- none yet, and what an Add step changes adds up
+unfoldable pub residue_in : (before after : Written) → Step → (ℕ → ℕ → ℤ) → ℕ → ℕ → ℤ
+residue_in before after (predict block n a) z x y = if in_visible a x y then pos 0 else z x y
+residue_in before after (add block triples n a) z x y =
+    z x y +ℤ (pos (sample_of (after x y)) -ℤ pos (sample_of (before x y)))
+
+-- both after a step of the plan
+unfoldable pub slow_adding : PlanValue → Adding → PlaneStep → Adding
+slow_adding plan p s =
+    let after = slow_step plan p.canvas s in
+    record {
+      canvas = after;
+      residue = λ k x y. if is_same k s.component then residue_in (p.canvas k) (after k) s.step (p.residue k) x y
+          else p.residue k x y;
+    }
+
+-- nothing is written, and nothing added
+abbrev pub nothing_added : Adding
+nothing_added = record { canvas = blank; residue = λ k x y. pos 0 }
+
+-- what the Add steps of the plan change
+unfoldable pub slow_residue : PlanValue → Component → ℕ → ℕ → ℤ
+slow_residue plan = (fold (slow_adding plan) nothing_added (steps plan.header plan.leaves)).residue
+
+-- Each sample is what was predicted of it and its residue.
+abbrev pub SamplesAreSums : Type 0
+SamplesAreSums = (plan : PlanValue) (k : Component) (x y : ℕ) →
+    pos (sample_of (slow_walk plan k x y)) ≡ pos (sample_of (slow_predictions plan k x y)) +ℤ slow_residue plan k x y
