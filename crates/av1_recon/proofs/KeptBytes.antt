@@ -11,7 +11,8 @@ use Rattle.av1_tile.specs.PlaneBlocks.{extent_of, number}
 use Rattle.av1_tile.specs.Predicted.{ShowsPredictions, predictions_of, slow_predictions}
 
 -- the samples of each plane, where they are told by their lists
-pub kept_rows : {T : Type 0} (num : T → ℕ) (depth : ℕ) (kept : PredictedPlanes T) (y u v : List T) → y ≡ kept.y.samples → u ≡ kept.u.samples → v ≡ kept.v.samples
+pub kept_rows : {T : Type 0} (num : T → ℕ) (depth : ℕ) (kept : PredictedPlanes T) (y u v : List T) → y ≡ kept.y.samples → u ≡ kept.u.samples →
+    v ≡ kept.v.samples
     → flat_map (sample_bytes depth) (map num y) ++ flat_map (sample_bytes depth) (map num u) ++ flat_map (sample_bytes depth) (map num v) ≡
     kept_bytes depth num kept
 kept_rows num depth kept y u v e f h =
