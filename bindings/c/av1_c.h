@@ -50,7 +50,7 @@ enum {
     AV1_DONE = 0,           /* all was done */
     AV1_OUT_OF_MEMORY = 1,  /* memory ran out */
     AV1_ROOM_TOO_SMALL = 2, /* the buffer that was to be written is too short */
-    AV1_TOO_LONG = 3,       /* there are more bytes than the longest plan has: 2^26 */
+    AV1_TOO_LONG = 3,       /* there are more bytes than the longest plan has, 2^26, or trace, 2^27 */
     AV1_MALFORMED = 4,      /* the bytes are no plan */
     AV1_INVALID = 5,        /* a leaf of the plan is refused */
     /* of calls on a block: */

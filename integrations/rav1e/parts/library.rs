@@ -139,7 +139,7 @@ pub fn inverse_transform_add<T: Pixel>(
   input: &[T::Coeff], output: &mut PlaneRegionMut<'_, T>, _eob: usize, tx_size: TxSize, tx_type: TxType, bd: usize,
   _cpu: CpuFeatureLevel,
 ) {
-  // FITTED: the encoder knows how many coefficients there are up to the last that isn't 0; the call doesn't take it.
+  // FITTED: the encoder's count follows its scan, and the call takes the first in raster order: so all are handed over.
   SCRATCH.with(|scratch| unsafe {
     let scratch = &mut scratch.borrow_mut();
     let (samples, at) = samples_of_mut(output);
