@@ -108,6 +108,12 @@ pub blamed_by : (answer : Answer) (e : SequenceError) → IsErrAnd answer (λ d.
 blamed_by (Ok d) e is h = absurd is
 blamed_by (Err d) e is h = ap cause_of is ∙ h
 
+-- and its error what the answer does
+pub blames_too : (answer : Answer) (e : SequenceError) → IsErrAnd answer (λ d. d ≡ e) → IsErrAnd answer (λ d. cause_of d ≡ write_failed) →
+    cause_of e ≡ write_failed
+blames_too (Ok d) e is h = absurd is
+blames_too (Err d) e is h = sym (ap cause_of is) ∙ h
+
 -- it was accepted, and couldn't be written
 pub unwritten_frame : (k k' : Kept) (index : ℕ) (f : FrameValue) (plan : PlanValue) (answer : Answer) (a b : Option (List ℕ)) →
     IsErrAnd answer (λ e. e ≡ errors.WriteFault) → IsValidFrame k f.head f.part plan → k' ≡ accepted k f.head plan

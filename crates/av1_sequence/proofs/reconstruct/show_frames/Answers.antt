@@ -2,10 +2,11 @@ use Rattle.std.proofs.Common.{[], ap, arith, refl, subst, sym, ◌∙◌, ◌≤
 use Rattle.std.proofs.KnownBytes.{Appends-nil}
 use Rattle.std.proofs.lemmas.List.{length-map}
 use Rattle.av1_plan.specs.declared.header.Header.{Header}
+use Rattle.av1_streams.specs.Faults.{FaultCounted}
 use Rattle.av1_sequence.specs.File.{file_value, frame_value}
 use Rattle.av1_sequence.specs.Kept.{Kept}
 use Rattle.av1_sequence.specs.Output.{AreWrittenAs}
-use Rattle.av1_sequence.proofs.Showing.{all_shown, blamed_by, frame_at, goes_on, never_begun, stops, text_at}
+use Rattle.av1_sequence.proofs.Showing.{all_shown, blamed_by, blames_too, frame_at, goes_on, never_begun, stops, text_at}
 use Rattle.av1_sequence.proofs.reconstruct.show_frames.Goals as goal
 
 pub returns-in_err-sequence-clause-shows : goal.returns-in_err-sequence-clause-shows
@@ -37,6 +38,12 @@ returns-in_err-show_frame-clause-shows g c =
     stops (file_value c.args.file.now) c.loop-index.index (frame_value c.index.result.now) here c.loop-index.sequence c.show_frame.new.sequence written
     _ _ _ lead appended c.from_residual-in_err-show_frame.result c.in_err-show_frame.field-0.0 c.from_residual-in_err-show_frame.ensures.1
     c.in_err-show_frame.ensures.shows
+
+pub returns-in_err-show_frame-clause-write_fault : goal.returns-in_err-show_frame-clause-write_fault
+returns-in_err-show_frame-clause-write_fault g c = λ failed.
+    subst (λ (n : ℕ). FaultCounted n (g.W.Sink.faults c.show_frame.new.sink)) c.loop-index.invariant.uncounted
+    (c.in_err-show_frame.ensures.write_fault
+    (blames_too c.from_residual-in_err-show_frame.result c.in_err-show_frame.field-0.0 c.from_residual-in_err-show_frame.ensures.1 failed))
 
 pub returns-in_err-show_frame-clause-uncounted : goal.returns-in_err-show_frame-clause-uncounted
 returns-in_err-show_frame-clause-uncounted g c = λ other.
