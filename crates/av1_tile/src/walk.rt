@@ -1,9 +1,8 @@
 //! The walk: over the transform blocks of a leaf's block in a plane, and over the planes that a leaf covers.
 
-ghost use Rattle.std.specs.Prelude.{◌≡◌, ◌≢◌, ℕ, ◌+◌, ◌*◌, ◌/◌, ◌<◌, ◌≤◌, length, slice_index_or, [], All, IfSome, IfNone, Some, None, true};
+ghost use Rattle.std.specs.Prelude.{◌≡◌, ◌≢◌, ℕ, ◌+◌, ◌*◌, ◌<◌, ◌≤◌, length, slice_index_or, [], IfSome, IfNone, Some, None, true};
 ghost use Rattle.std.specs.List.{fold};
-ghost use Rattle.av1_blocks.specs.Blocks.{block_height};
-ghost use Rattle.av1_blocks.specs.Transforms.{tx_width, tx_height};
+ghost use Rattle.av1_blocks.specs.Transforms.{tx_width};
 ghost use Rattle.av1_frame.specs.Planes.{InPlane};
 ghost use Rattle.av1_intra.specs.ChromaFromLuma.{ac_at};
 ghost use Rattle.av1_plan.specs.Plan.{PlanValue};
@@ -15,8 +14,8 @@ ghost use Rattle.av1_tile.specs.Canvas.Component.{Y};
 ghost use Rattle.av1_tile.specs.PlaneBlocks.{block_told, component, is_whole, prediction_in};
 ghost use Rattle.av1_tile.specs.Predicted.{WalksKeeping, keeping_in, kept_in};
 ghost use Rattle.av1_tile.specs.Reference.{no_luma};
-ghost use Rattle.av1_tile.specs.Steps.{own_prediction, whole_steps, plane_steps, steps_at, steps_of, joined};
-ghost use Rattle.av1_tile.specs.Walk.{area_at, block_by, cell_at, Begins, edges_in, edges_after, fast_in, fast_step, leaf_with, BlockFits, HasCells, IsPlaceIn};
+ghost use Rattle.av1_tile.specs.Steps.{own_prediction, whole_steps, plane_steps, steps_at, joined};
+ghost use Rattle.av1_tile.specs.Walk.{area_at, block_by, cell_at, Begins, edges_in, fast_in, leaf_with, BlockFits, HasCells, IsPlaceIn};
 ghost use Rattle.av1_tile.specs.Walk.{block_in, HoldsPlane, IsWalked, KeepsPlane, PredictionFits, Stores, Walks, with_header};
 
 use crate::block::{BlockPlace, EdgePrediction, add_block, predict_from_edge};
