@@ -87,6 +87,7 @@ fn predict_block<T: Pixel>(
     requires prediction { PredictionFits header.now block.now.plane block.now.area block.now.prediction }
     ensures walked { Walks T.num T.pixel header.now block.now buffers.old.luma.items (own_prediction block.now at.number (area_at block.now at)) plane.old
         plane.new }
+    ensures fits { InPlane (area_at block.now at) plane.new }
     ensures counted { buffers.new.edges.prepared ≡ fold edges_in buffers.old.edges.prepared (own_prediction block.now at.number (area_at block.now at)) }
     ensures luma { buffers.new.luma.items ≡ buffers.old.luma.items }
     ensures predictions { buffers.new.kept ≡ buffers.old.kept }
@@ -190,15 +191,7 @@ fn reconstruct_block<T: Pixel>(
 {
     predict_block(plane, buffers, header, block, at);
     keep_block(&mut buffers.kept, plane, block, at);
-    add_block(
-        plane,
-        buffers.coefficients.as_mut_slice(),
-        &mut buffers.scratch,
-        header,
-        block,
-        at,
-        triples,
-    );
+    add_block(plane, &mut buffers.residue, header, block, at, triples);
 }
 
 /// How many triples at the front are of transform block `number`.
